@@ -1,0 +1,16 @@
+//! The types, numbers and buffers that every layer shares.
+#![tactic(auto)]
+
+mod descriptor;
+mod pbuf;
+mod rows;
+mod text;
+
+pub use descriptor::{Mode, Policy};
+pub use pbuf::Pbuf;
+pub use rows::Rows;
+pub use text::Text;
+
+/// Want of memory: a growth was refused.
+#[derive(Clone, Copy, Debug, PartialEq, Eq)]
+pub struct Memory;

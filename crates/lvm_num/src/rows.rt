@@ -1,0 +1,63 @@
+//! A list over a `Vec`.
+ghost use Rattle.std.specs.Prelude.{◌≡◌, length, [], ◌==◌};
+
+use std::alloc::Global;
+use std::marker::Model;
+
+/// A list of values, which contracts see as that list. It is made from a `Vec` and gives it back
+/// without taking memory.
+#[derive(Debug, Drop)]
+pub struct Rows<T> {
+    items: Vec<T>,
+}
+
+impl<T> Model for Rows<T> {
+    ghost use Rattle.std.specs.Prelude.{List};
+
+    ghost Value = { List T };
+
+    ghost view = { λ r. r.items.items };
+}
+
+impl<T> Rows<T> {
+    /// No rows.
+    pub fn empty(alloc: Global) -> Rows<T>
+        ensures { result ≡ [] }
+    {
+        Rows {
+            items: Vec::new(alloc),
+        }
+    }
+
+    /// The items of a `Vec`, in their order.
+    pub fn new(items: Vec<T>) -> Rows<T>
+        ensures { result ≡ items.items }
+    {
+        Rows { items }
+    }
+
+    /// The `Vec` again.
+    pub fn into_vec(self) -> Vec<T>
+        ensures { result.items ≡ self }
+    {
+        self.items
+    }
+
+    pub fn len(&self) -> usize
+        ensures { result ≡ length self.now }
+    {
+        self.items.len()
+    }
+
+    pub fn is_empty(&self) -> bool
+        ensures { result ≡ (length self.now == 0) }
+    {
+        self.items.is_empty()
+    }
+
+    pub fn as_slice(&self) -> &[T]
+        ensures { result.now ≡ self.now }
+    {
+        &self.items
+    }
+}
