@@ -1,0 +1,8 @@
+-- Blocks that one word fills.
+use Rattle.std.specs.Prelude.{ℕ, List, replicate}
+use Rattle.std.specs.List.{concat}
+use Rattle.std.specs.Int.{w64, to_be_bytes}
+
+-- the eight big-endian bytes of a word, 64 times
+unfoldable pub fill_of : ℕ → List ℕ
+fill_of word = concat (replicate 64 (to_be_bytes w64 word))
