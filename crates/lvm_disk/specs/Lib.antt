@@ -1,0 +1,5 @@
+pub mod Counts
+pub mod Device
+pub mod Steps
+pub mod Paths
+pub mod Images
