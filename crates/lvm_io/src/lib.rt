@@ -1,0 +1,11 @@
+//! Where a script comes from, where replies go, and what tells the time: traits, forms in memory, and
+//! adapters of what the system gives.
+#![tactic(auto)]
+
+mod memory;
+mod stream;
+mod system;
+
+pub use memory::{MemClock, MemSink, MemSource};
+pub use stream::{Clock, Got, Images, Put, Sink, Source};
+pub use system::{StdSink, StdSource, SystemClock};
