@@ -1,0 +1,115 @@
+-- Which histories are legal.
+use Rattle.std.specs.Prelude.{◌≡◌, ◌⊎◌, ℕ, ◌+◌, ◌<◌, ◌≤◌, Bool, true, false, ◌==◌, List, [], ◌∷◌, ◌++◌, length, count_by, IsTrue, IsFalse}
+use Rattle.std.specs.List.{list_any}
+use Rattle.lvm_vol.specs.declared.entry.Outcome.{Outcome}
+use Rattle.lvm_vol.specs.declared.entry.Outcome.TheVariants as outcome
+use Rattle.lvm_vol.specs.Facts.{Request, Fact, Making, Made, Split, Removing, Removed, Begun, Landed, Taken, Cut, On, same_request, block_of}
+use Rattle.lvm_vol.specs.May.{known, May}
+
+-- the entry begins a request of this run
+abbrev pub begins_in : ℕ → Fact → Bool
+begins_in run (Begun r) = r.run == run
+begins_in run (Making lv blocks m) = false
+begins_in run (Made lv) = false
+begins_in run (Split from lv) = false
+begins_in run (Removing vol) = false
+begins_in run (Removed vol) = false
+begins_in run (Landed r how started got) = false
+begins_in run (Taken r) = false
+begins_in run Cut = false
+begins_in run (On moment) = false
+
+-- the entry lands this request
+abbrev pub lands : Request → Fact → Bool
+lands r (Landed s how started got) = same_request r s
+lands r (Making lv blocks m) = false
+lands r (Made lv) = false
+lands r (Split from lv) = false
+lands r (Removing vol) = false
+lands r (Removed vol) = false
+lands r (Begun s) = false
+lands r (Taken s) = false
+lands r Cut = false
+lands r (On moment) = false
+
+-- the entry takes this request's answer
+abbrev pub takes : Request → Fact → Bool
+takes r (Taken s) = same_request r s
+takes r (Making lv blocks m) = false
+takes r (Made lv) = false
+takes r (Split from lv) = false
+takes r (Removing vol) = false
+takes r (Removed vol) = false
+takes r (Begun s) = false
+takes r (Landed s how started got) = false
+takes r Cut = false
+takes r (On moment) = false
+
+-- the entry stands in the history
+abbrev pub Stands : Fact → List Fact → Type 0
+Stands f [] = ⊥
+Stands f (g ∷ facts) = (g ≡ f) ⊎ Stands f facts
+
+-- how a request of this kind may end
+abbrev pub IsOutcomeOf : Outcome → Request → Bool → Type 0
+IsOutcomeOf outcome.Done r started = IsTrue r.write
+IsOutcomeOf outcome.Lost r started = IsTrue r.write
+IsOutcomeOf outcome.Got r started = IsFalse r.write
+IsOutcomeOf outcome.ReadFailed r started = IsFalse r.write
+IsOutcomeOf outcome.NoFresh r started = IsFalse started
+IsOutcomeOf outcome.Off r started = Unit {0}
+IsOutcomeOf outcome.Dark r started = Unit {0}
+
+-- a read has got as many blocks as it asked for, each a value that the block may have then
+pub record Gets (past : List Fact) (r : Request) (got : List (List ℕ)) : Type 0 where
+  pub whole : length got ≡ r.count
+  pub allowed : (b : ℕ) → r.at ≤ b → b < r.at + r.count → May (known past r.vol b) (block_of got r.at b)
+
+abbrev pub GotMay : List Fact → Request → Outcome → List (List ℕ) → Type 0
+GotMay past r outcome.Got got = Gets past r got
+GotMay past r outcome.Done got = Unit {0}
+GotMay past r outcome.Lost got = Unit {0}
+GotMay past r outcome.ReadFailed got = Unit {0}
+GotMay past r outcome.NoFresh got = Unit {0}
+GotMay past r outcome.Off got = Unit {0}
+GotMay past r outcome.Dark got = Unit {0}
+
+-- a request that began lands, for the first time, as one of its kind may
+pub record LandsOnce (past : List Fact) (r : Request) (how : Outcome) (started : Bool) (got : List (List ℕ)) : Type 0 where
+  pub began : Stands (Begun r) past
+  pub first : list_any (lands r) past ≡ false
+  pub kind : IsOutcomeOf how r started
+  pub reads : GotMay past r how got
+
+-- its client takes, for the first time, the answer of a request that has landed
+pub record TakenOnce (past : List Fact) (r : Request) : Type 0 where
+  pub began : Stands (Begun r) past
+  pub answered : list_any (lands r) past ≡ true
+  pub first : list_any (takes r) past ≡ false
+
+-- the moment is later than each at which a group was varied on
+abbrev pub IsLater : List Fact → ℕ → Type 0
+IsLater [] moment = Unit {0}
+IsLater (On earlier ∷ facts) moment = (earlier < moment) × IsLater facts moment
+IsLater (f ∷ facts) moment = IsLater facts moment
+
+-- the entry may follow those before it
+abbrev pub Fits : List Fact → Fact → Type 0
+Fits past (Begun r) = r.id ≡ count_by (begins_in r.run) past + 1
+Fits past (Landed r how started got) = LandsOnce past r how started got
+Fits past (Taken r) = TakenOnce past r
+Fits past (On moment) = IsLater past moment
+Fits past (Making lv blocks m) = Unit {0}
+Fits past (Made lv) = Unit {0}
+Fits past (Split from lv) = Unit {0}
+Fits past (Removing vol) = Unit {0}
+Fits past (Removed vol) = Unit {0}
+Fits past Cut = Unit {0}
+
+-- each of these entries may follow those before it
+abbrev pub LegalFrom : List Fact → List Fact → Type 0
+LegalFrom past [] = Unit {0}
+LegalFrom past (f ∷ facts) = Fits past f × LegalFrom (past ++ f ∷ []) facts
+
+abbrev pub Legal : List Fact → Type 0
+Legal facts = LegalFrom [] facts

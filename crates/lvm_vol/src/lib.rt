@@ -1,0 +1,8 @@
+//! The history of requests on disks and volumes: what was asked, how it ended, and which values a
+//! block may have after it.
+#![tactic(auto)]
+
+mod entry;
+mod row;
+
+pub use entry::{Entry, Outcome, Vol};
