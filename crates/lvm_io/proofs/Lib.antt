@@ -1,0 +1,4 @@
+pub mod Told
+pub mod Feeds
+mod Texts
+mod Coming

@@ -1,0 +1,58 @@
+-- What is read of a source and not yet given out as lines.
+use Rattle.std.specs.Prelude.{◌≡◌, ◌≤◌, ◌<◌, ◌+◌, ◌++◌, [], ◌∷◌, ℕ, List, Option, Some, None, Result, Ok, Err, false, length}
+use Rattle.lvm_num.specs.declared.Memory.{Memory}
+use Rattle.lvm_io.specs.Stream.{WhereTold}
+use Rattle.lvm_io.specs.Lines.{lines_of, has_feed}
+use Rattle.lvm_io.specs.declared.stream.Got.{Got}
+use Rattle.lvm_io.specs.declared.stream.Got.TheVariants as got
+use Rattle.lvm_io.specs.declared.lines.NextLine.{NextLine}
+use Rattle.lvm_io.specs.declared.lines.NextLine.TheVariants as next
+
+-- the front of the next line, the bytes of the last read that follow it, and how many bytes the source gave in all
+pub record Reading : Type 0 where
+  pub front : List ℕ
+  pub block : List ℕ
+  pub given : ℕ
+
+-- the bytes that are still to come: those that were read and not given out, and those that the source has left
+abbrev pub to_come : Reading → Option (List ℕ) → Option (List ℕ)
+to_come reading None = None
+to_come reading (Some left) = Some (reading.front ++ (reading.block ++ left))
+
+-- the first line of the bytes that are to come, or nothing is taken of them
+abbrev pub NextGives : Option (List ℕ) → Option (List ℕ) → NextLine → Type 0
+NextGives old new (next.Line line) = WhereTold old new (λ a b. lines_of a ≡ line ∷ lines_of b)
+NextGives old new next.End = WhereTold old new (λ a b. (a ≡ []) × (b ≡ []))
+NextGives old new next.Failed = WhereTold old new (λ a b. b ≡ a)
+NextGives old new next.TooLong = WhereTold old new (λ a b. b ≡ a)
+NextGives old new next.Memory = WhereTold old new (λ a b. b ≡ a)
+
+-- the count of the bytes that were given is right
+abbrev pub CountsGiven : Reading → Reading → Option (List ℕ) → Option (List ℕ) → Type 0
+CountsGiven old new before left = WhereTold before left (λ a b. length a + old.given ≡ length b + new.given)
+
+-- a text written to a sink, or a front of it
+pub record WritesFront (text before after : List ℕ) : Type 0 where
+  pub front : List ℕ
+  pub rest : List ℕ
+  pub split : text ≡ front ++ rest
+  pub written : after ≡ before ++ front
+  pub short : 0 < length rest
+
+-- the line that ends in the block is taken, or the block goes behind the front where none ends in it
+abbrev pub TakesLine : Reading → Reading → Result (Option (List ℕ)) Memory → Type 0
+TakesLine old new (Ok (Some line)) = (tail : List ℕ) × (old.block ≡ tail ++ 10 ∷ new.block) × (line ≡ old.front ++ tail) × (has_feed line ≡ false) × (new ≡ record { front = []; block = new.block; given = old.given })
+TakesLine old new (Ok None) = (has_feed new.front ≡ false) × (new ≡ record { front = old.front ++ old.block; block = []; given = old.given })
+TakesLine old new (Err want) = new ≡ old
+
+-- the next block is read
+abbrev pub Refills : Reading → Reading → Option (List ℕ) → Option (List ℕ) → Got → Type 0
+Refills old new before left (got.Bytes n) = (1 ≤ n) × (n ≡ length new.block) × (new ≡ record { front = old.front; block = new.block; given = old.given + n }) × WhereTold before left (λ a b. a ≡ new.block ++ b)
+Refills old new before left got.End = (new ≡ old) × WhereTold before left (λ a b. (a ≡ []) × (b ≡ []))
+Refills old new before left got.Failed = (new ≡ old) × WhereTold before left (λ a b. b ≡ a)
+
+-- the line that lacks its line feed is taken, if there is one
+abbrev pub TakesLast : Reading → Reading → NextLine → Type 0
+TakesLast old new (next.Line line) = (line ≡ old.front) × (0 < length line) × (new ≡ record { front = []; block = old.block; given = old.given })
+TakesLast old new next.End = (old.front ≡ []) × (new ≡ old)
+TakesLast old new answer = ⊥
