@@ -1,9 +1,8 @@
 //! Lines of a source, one at a time, and whole texts to a sink.
 ghost use Rattle.std.specs.Prelude.{◌≡◌, ◌<◌, ◌≤◌, ◌++◌, ◌↔◌, [], length, position, IfOk, OnOk, OnErr};
 ghost use Rattle.lvm_io.specs.Count.{Rose};
-ghost use Rattle.lvm_io.specs.Stream.{WhereTold};
+ghost use Rattle.lvm_io.specs.Stream.{WhereTold, WritesFront};
 ghost use Rattle.lvm_io.specs.Lines.{is_feed, LinesLaw};
-ghost use Rattle.lvm_io.specs.Reading.{WritesFront};
 
 use crate::stream::{Got, Put, Sink, Source};
 use lvm_num::{Memory, Rows};
