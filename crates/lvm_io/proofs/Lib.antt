@@ -2,3 +2,4 @@ pub mod Told
 pub mod Feeds
 mod Texts
 mod Coming
+mod Making

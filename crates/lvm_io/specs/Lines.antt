@@ -1,5 +1,5 @@
 -- The lines of a text.
-use Rattle.std.specs.Prelude.{◌==◌, ◌++◌, [], ◌∷◌, ℕ, List, Bool, if◌then◌else◌}
+use Rattle.std.specs.Prelude.{◌≡◌, ◌==◌, ◌<◌, ◌⊎◌, ◌++◌, [], ◌∷◌, ℕ, List, Bool, false, if◌then◌else◌, length, All}
 use Rattle.std.specs.List.{list_any}
 
 -- a line feed
@@ -21,3 +21,24 @@ lines_from front (byte ∷ bytes) = if is_feed byte then front ∷ lines_from []
 
 abbrev pub lines_of : List ℕ → List (List ℕ)
 lines_of bytes = lines_from [] bytes
+
+-- lines, each with its line feed
+abbrev pub joined : List (List ℕ) → List ℕ
+joined [] = []
+joined (line ∷ lines) = line ++ 10 ∷ joined lines
+
+-- the text is these lines, but that the last lacks its line feed, and then it has bytes
+pub record LacksLast (text : List ℕ) (lines : List (List ℕ)) : Type 0 where
+  pub ended : List (List ℕ)
+  pub last : List ℕ
+  pub are : lines ≡ ended ++ last ∷ []
+  pub is : text ≡ joined ended ++ last
+  pub some : 0 < length last
+
+-- these are the lines of the text: no line feed stands in them, and with a line feed after each but maybe the last they are the text
+pub record AreLinesOf (text : List ℕ) (lines : List (List ℕ)) : Type 0 where
+  pub clean : All (λ line. has_feed line ≡ false) lines
+  pub whole : (text ≡ joined lines) ⊎ LacksLast text lines
+
+abbrev pub LinesLaw : Type 0
+LinesLaw = (text : List ℕ) → AreLinesOf text (lines_of text)

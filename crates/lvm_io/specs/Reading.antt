@@ -31,14 +31,6 @@ NextGives old new next.Memory = WhereTold old new (λ a b. b ≡ a)
 abbrev pub CountsGiven : Reading → Reading → Option (List ℕ) → Option (List ℕ) → Type 0
 CountsGiven old new before left = WhereTold before left (λ a b. length a + old.given ≡ length b + new.given)
 
--- a text written to a sink, or a front of it
-pub record WritesFront (text before after : List ℕ) : Type 0 where
-  pub front : List ℕ
-  pub rest : List ℕ
-  pub split : text ≡ front ++ rest
-  pub written : after ≡ before ++ front
-  pub short : 0 < length rest
-
 -- the line that ends in the block is taken, or the block goes behind the front where none ends in it
 abbrev pub TakesLine : Reading → Reading → Result (Option (List ℕ)) Memory → Type 0
 TakesLine old new (Ok (Some line)) = (tail : List ℕ) × (old.block ≡ tail ++ 10 ∷ new.block) × (line ≡ old.front ++ tail) × (has_feed line ≡ false) × (new ≡ record { front = []; block = new.block; given = old.given })

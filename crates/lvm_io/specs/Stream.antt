@@ -1,5 +1,5 @@
 -- What is read and written, where it is told.
-use Rattle.std.specs.Prelude.{◌≡◌, ◌≤◌, ◌++◌, [], ℕ, List, Option, Some, None, length, take}
+use Rattle.std.specs.Prelude.{◌≡◌, ◌<◌, ◌≤◌, ◌++◌, [], ℕ, List, Option, Some, None, length, take}
 use Rattle.lvm_io.specs.declared.stream.Got.{Got}
 use Rattle.lvm_io.specs.declared.stream.Got.TheVariants as got
 use Rattle.lvm_io.specs.declared.stream.Put.{Put}
@@ -22,3 +22,11 @@ ReadGives old new into got.Failed = WhereTold old new (λ a b. b ≡ a)
 abbrev pub WriteGives : Option (List ℕ) → Option (List ℕ) → List ℕ → Put → Type 0
 WriteGives old new from (put.Took n) = (1 ≤ n) × (n ≤ length from) × WhereTold old new (λ a b. b ≡ a ++ take n from)
 WriteGives old new from put.Failed = WhereTold old new (λ a b. b ≡ a)
+
+-- a front of the text was written, and not all of it
+pub record WritesFront (text before after : List ℕ) : Type 0 where
+  pub front : List ℕ
+  pub rest : List ℕ
+  pub split : text ≡ front ++ rest
+  pub written : after ≡ before ++ front
+  pub short : 0 < length rest

@@ -7,7 +7,10 @@ mod memory;
 mod stream;
 mod system;
 
-pub use lines::{Lines, MOST_BYTES, NextLine, SinkFault, write_all};
+pub use lines::{Lines, MOST_BYTES, NextLine, SinkFault, lines_make_the_text, write_all};
 pub use memory::{MemClock, MemSink, MemSource};
 pub use stream::{Clock, Got, Images, Put, Sink, Source};
 pub use system::{StdSink, StdSource, SystemClock};
+
+#[cfg(test)]
+mod tests;

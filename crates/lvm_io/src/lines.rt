@@ -1,9 +1,8 @@
 //! Lines of a source, one at a time, and whole texts to a sink.
 ghost use Rattle.std.specs.Prelude.{◌≡◌, ◌<◌, ◌≤◌, ◌++◌, ◌↔◌, [], length, position, IfOk, OnOk, OnErr};
 ghost use Rattle.lvm_io.specs.Count.{Rose};
-ghost use Rattle.lvm_io.specs.Stream.{WhereTold};
-ghost use Rattle.lvm_io.specs.Lines.{is_feed};
-ghost use Rattle.lvm_io.specs.Reading.{WritesFront};
+ghost use Rattle.lvm_io.specs.Stream.{WhereTold, WritesFront};
+ghost use Rattle.lvm_io.specs.Lines.{is_feed, LinesLaw};
 
 use crate::stream::{Got, Put, Sink, Source};
 use lvm_num::{Memory, Rows};
@@ -179,3 +178,8 @@ pub fn write_all<O: Sink>(out: &mut O, text: &[u8]) -> Result<(), SinkFault>
     }
     Ok(())
 }
+
+/// The lines of a text make up the text.
+pub fn lines_make_the_text()
+    ensures { LinesLaw }
+{}
