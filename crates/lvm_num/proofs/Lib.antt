@@ -1,1 +1,3 @@
+pub mod DisksLemmas
+pub mod NameLemmas
 pub mod WordLemmas

@@ -1,5 +1,7 @@
 //! What a volume group is: its disks, its volumes and where they lie.
 
+use crate::{Name, Pp, Rows};
+
 /// How the copies of a volume are made equal after a crash (`mklv -w`).
 #[derive(Clone, Copy, Debug, PartialEq, Eq)]
 pub enum Mode {
@@ -22,4 +24,51 @@ pub enum Policy {
     ParallelWrite,
     /// Written at once, read from each copy in turn (`pr`).
     RoundRobin,
+}
+
+/// A member: a physical volume of the group.
+#[derive(Clone, Copy, Debug, PartialEq, Eq)]
+pub struct PvRow {
+    /// The number of its disk, 0 to 127.
+    pub disk: u16,
+    /// How many physical partitions it has, 1 to 1,016.
+    pub pps: u16,
+    /// Whether it is kept free for partitions of missing disks (`chpv -h`).
+    pub spare: bool,
+}
+
+/// A logical volume.
+#[derive(Debug, Drop, PartialEq, Eq)]
+pub struct LvRow {
+    /// From 1; at most 255, or 511 in a big group.
+    pub number: u16,
+    pub name: Name,
+    /// How many copies each logical partition has, 1 to 3.
+    pub copies: u8,
+    pub mode: Mode,
+    pub policy: Policy,
+    /// How many logical partitions it has.
+    pub lps: u32,
+    /// The copies of the first logical partition, in their order, then those of the next.
+    pub map: Rows<Pp>,
+}
+
+/// A volume group, as its descriptor area says it.
+#[derive(Debug, Drop, PartialEq, Eq)]
+pub struct Descriptor {
+    /// The moment of its `mkvg`.
+    pub id: u64,
+    pub name: Name,
+    /// The size of a partition in MiB.
+    pub mib: u16,
+    /// Whether more than half of the votes must be there (`chvg -Q y`).
+    pub quorum: bool,
+    /// Whether two members have a vote each, and not the first one two.
+    pub even: bool,
+    /// Whether it may have 128 members and 511 volumes, and not 32 and 255 (`chvg -B`).
+    pub big: bool,
+    /// Its members, in the order in which they came.
+    pub pvs: Rows<PvRow>,
+    /// Its volumes, by rising numbers.
+    pub lvs: Rows<LvRow>,
 }

@@ -2,14 +2,24 @@
 #![tactic(auto)]
 
 mod descriptor;
+mod disks;
+mod name;
 mod pbuf;
+mod place;
+mod record;
 mod rows;
+mod status;
 mod text;
 mod word;
 
-pub use descriptor::{Mode, Policy};
+pub use descriptor::{Descriptor, LvRow, Mode, Policy, PvRow};
+pub use disks::DiskSet;
+pub use name::Name;
 pub use pbuf::Pbuf;
+pub use place::{Place, Pp};
+pub use record::{Kind, NoteEntry, Stamp};
 pub use rows::Rows;
+pub use status::{Status, StatusRow};
 pub use text::Text;
 pub use word::{fill, word_of};
 

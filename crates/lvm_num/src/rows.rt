@@ -1,5 +1,9 @@
 //! A list over a `Vec`.
-ghost use Rattle.std.specs.Prelude.{◌≡◌, length, [], ◌==◌};
+ghost use Rattle.std.specs.Prelude.{◌≡◌, length, [], ◌==◌, slice_get};
+ghost use Rattle.std.specs.Option.{option_copied};
+ghost use Rattle.std.specs.Cmp.Lexicographic.{pointwise};
+ghost use Rattle.std.specs.Cmp.Rules.{comparing};
+ghost use Rattle.std.proofs.Common.{rules};
 
 use std::alloc::Global;
 use std::marker::Model;
@@ -17,6 +21,20 @@ impl<T> Model for Rows<T> {
     ghost Value = { List T };
 
     ghost view = { λ r. r.items.items };
+}
+
+impl<T: PartialEq> PartialEq for Rows<T> {
+    ghost eq = { pointwise T.eq };
+
+    ghost laws = { Prim.search (comparing, rules) };
+
+    fn eq(&self, other: &Rows<T>) -> bool {
+        self.items == other.items
+    }
+}
+
+impl<T: Eq> Eq for Rows<T> {
+    ghost laws = { Prim.search (comparing, rules) };
 }
 
 impl<T> Rows<T> {
@@ -53,6 +71,13 @@ impl<T> Rows<T> {
         ensures { result ≡ (length self.now == 0) }
     {
         self.items.is_empty()
+    }
+
+    /// The row at a place, from 0, if there is one.
+    pub fn get(&self, place: usize) -> Option<&T>
+        ensures { option_copied result ≡ slice_get self.now place }
+    {
+        self.items.get(place)
     }
 
     pub fn as_slice(&self) -> &[T]

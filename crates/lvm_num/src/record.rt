@@ -1,0 +1,27 @@
+//! The records that a disk has below its data.
+
+/// When a record was written: by the moment at which its session began, then by its number
+/// among the record writes of that session.
+#[derive(Clone, Copy, Debug, PartialEq, Eq, PartialOrd, Ord)]
+pub struct Stamp {
+    /// The moment of the session's `mkvg` or `varyonvg`.
+    pub epoch: u64,
+    /// Rises by one from 1 at each record write of a session.
+    pub seq: u32,
+}
+
+/// The two kinds of framed record, each with two slots on a disk.
+#[derive(Clone, Copy, Debug, PartialEq, Eq)]
+pub enum Kind {
+    /// The volume group descriptor area: the members, the volumes and their maps.
+    Descriptor,
+    /// The volume group status area: stale partitions, missing disks and dirty volumes.
+    Status,
+}
+
+/// An entry of a disk's consistency record: a track group of a volume, 256 blocks, from 0.
+#[derive(Clone, Copy, Debug, PartialEq, Eq)]
+pub struct NoteEntry {
+    pub lv: u16,
+    pub group: u32,
+}
