@@ -1,2 +1,5 @@
 pub mod Paths
 pub mod CrashImages
+mod Filling
+mod Laying
+mod Putting

@@ -3,3 +3,5 @@ pub mod Device
 pub mod Steps
 pub mod Paths
 pub mod Images
+pub mod Media
+pub mod Flights

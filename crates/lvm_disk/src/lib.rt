@@ -2,7 +2,10 @@
 //! call.
 #![tactic(auto)]
 
+mod disk;
+mod flying;
 pub mod laws;
+mod row;
 mod shelf;
 
 pub use shelf::{Arrange, Reaped, Shelf, Started};
