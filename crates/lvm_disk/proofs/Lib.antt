@@ -1,5 +1,6 @@
 pub mod Paths
 pub mod CrashImages
+mod GivingUp
 mod Filling
 mod Laying
 mod Putting

@@ -2,6 +2,7 @@
 //! call.
 #![tactic(auto)]
 
+mod cutting;
 mod disk;
 mod flying;
 pub mod laws;
