@@ -3,4 +3,5 @@ pub mod CrashImages
 mod GivingUp
 mod Filling
 mod Laying
+mod Queues
 mod Putting

@@ -5,3 +5,4 @@ pub mod Paths
 pub mod Images
 pub mod Media
 pub mod Flights
+pub mod Tickets

@@ -11,7 +11,12 @@ use lvm_num::Pbuf;
 
 /// Gives up all transfers, each with those of its sectors written that the word picks, and their
 /// buffers. The sectors are counted over the writes in order of their starts.
-pub fn cut_flights(disks: &mut Vec<Disk>, flights: &mut Vec<Flying>, freed: &mut Vec<Pbuf>, word: u64)
+pub fn cut_flights(
+    disks: &mut Vec<Disk>,
+    flights: &mut Vec<Flying>,
+    freed: &mut Vec<Pbuf>,
+    word: u64,
+)
     requires lie { AllLie (sizes_of disks.old.items) (flights_of flights.old.items) }
     requires few { length flights.old.items ≤ 1024 }
     requires room { length freed.old.items + length flights.old.items ≤ vec_capacity freed.old }

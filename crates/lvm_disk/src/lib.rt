@@ -6,6 +6,7 @@ mod cutting;
 mod disk;
 mod flying;
 pub mod laws;
+mod queue;
 mod row;
 mod shelf;
 
