@@ -1,5 +1,6 @@
 pub mod Paths
 pub mod CrashImages
+mod Acting
 mod GivingUp
 mod Filling
 mod Laying

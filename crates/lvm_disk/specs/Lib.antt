@@ -6,3 +6,6 @@ pub mod Images
 pub mod Media
 pub mod Flights
 pub mod Tickets
+pub mod Injection
+pub mod Tally
+pub mod Log

@@ -5,9 +5,12 @@
 mod cutting;
 mod disk;
 mod flying;
+mod injector;
 pub mod laws;
 mod queue;
 mod row;
 mod shelf;
+mod tally;
+mod write_log;
 
 pub use shelf::{Arrange, Reaped, Shelf, Started};
