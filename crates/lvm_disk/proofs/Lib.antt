@@ -1,2 +1,8 @@
 pub mod Paths
 pub mod CrashImages
+mod Acting
+mod GivingUp
+mod Filling
+mod Laying
+mod Queues
+mod Putting

@@ -3,3 +3,9 @@ pub mod Device
 pub mod Steps
 pub mod Paths
 pub mod Images
+pub mod Media
+pub mod Flights
+pub mod Tickets
+pub mod Injection
+pub mod Tally
+pub mod Log

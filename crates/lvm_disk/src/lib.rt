@@ -2,7 +2,15 @@
 //! call.
 #![tactic(auto)]
 
+mod cutting;
+mod disk;
+mod flying;
+mod injector;
 pub mod laws;
+mod queue;
+mod row;
 mod shelf;
+mod tally;
+mod write_log;
 
 pub use shelf::{Arrange, Reaped, Shelf, Started};

@@ -1,0 +1,7 @@
+use Rattle.std.proofs.Common.{◌≡◌}
+use Rattle.lvm_disk.specs.Flights.{flights_of, delays_of}
+use Rattle.lvm_disk.proofs.Queues.{PassedSoFar}
+use Rattle.lvm_disk.proofs.queue.pass_over.Given as goal
+
+abbrev pub invariant-loop-flying : goal.invariant-loop-flying
+invariant-loop-flying l = PassedSoFar l.initial.flights l.flights l.flying-index
