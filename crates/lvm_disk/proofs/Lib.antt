@@ -2,6 +2,8 @@ pub mod Paths
 pub mod CrashImages
 mod Acting
 mod GivingUp
+mod Darkening
+mod Departing
 mod Filling
 mod Laying
 mod Queues

@@ -8,4 +8,7 @@ pub mod Flights
 pub mod Tickets
 pub mod Injection
 pub mod Tally
+pub mod Bench
+pub mod Memory
+pub mod Sound
 pub mod Log

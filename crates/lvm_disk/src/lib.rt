@@ -8,6 +8,7 @@ mod flying;
 mod injector;
 pub mod laws;
 mod queue;
+mod memory;
 mod row;
 mod shelf;
 mod tally;

@@ -1,5 +1,5 @@
 //! Which ranges were written on a shelf in memory.
-ghost use Rattle.std.specs.Prelude.{◌≡◌, ◌≤◌, [], length, Some, IfOk, vec_capacity};
+ghost use Rattle.std.specs.Prelude.{◌≡◌, ◌≤◌, [], length, Some, IfOk, if◌then◌else◌};
 ghost use Rattle.lvm_disk.specs.Log.{logged};
 
 use lvm_num::Memory;
@@ -47,10 +47,14 @@ impl WriteLog {
         }
     }
 
-    /// A write of this range was started.
-    pub fn note(&mut self, disk: u16, first: u64, count: u32)
-        ensures { self.new ≡ record self.old { wrote = logged self.old.room self.old.wrote (record { disk = disk; first = first; count = count }) } }
+    /// A transfer of this range was started. The range is noted where the transfer writes.
+    pub fn note(&mut self, write: bool, disk: u16, first: u64, count: u32)
+        ensures wrote { self.new.wrote ≡ (if write then logged self.old.room self.old.wrote (record { disk = disk; first = first; count = count }) else self.old.wrote) }
+        ensures room { self.new.room ≡ self.old.room }
     {
+        if !write {
+            return;
+        }
         if self.ranges.len() < self.room as usize {
             match self.ranges.push(WriteRange { disk, first, count }) {
                 Ok(()) => {}
