@@ -19,9 +19,9 @@ pub torn_by_word : (word k : ℕ) (flights : List Flight) (m : Media) → IsTorn
 torn_by_word word k [] m d s = inl refl
 torn_by_word word k (f ∷ flights) m d s = ⊎_elim
     (λ same. ⊎_elim
-        (λ kept. inl (same ∙ kept))
-        (λ put. inr (inl (put ∙ ap Some (sym same))))
-        (written_in_part word k f m d s))
+    (λ kept. inl (same ∙ kept))
+    (λ put. inr (inl (put ∙ ap Some (sym same))))
+    (written_in_part word k f m d s))
     (λ flying. inr (inr flying))
     (torn_by_word word (k + writes f) flights (written_by word k f m) d s)
 

@@ -4,6 +4,8 @@ mod Acting
 mod GivingUp
 mod Darkening
 mod Departing
+mod Arriving
+mod Making
 mod Filling
 mod Laying
 mod Queues

@@ -1,8 +1,9 @@
 -- Which flight is next, and which ticket is free.
-use Rattle.std.proofs.Common.{◌≡◌, ◌+◌, ◌-◌, ◌≤◌, ◌<◌, ◌==◌, ◌||◌, [], ◌∷◌, ℕ, zero, suc, List, Bool, true, false, cond, not, Some, None, nat_le, nat_lt, slice_get, slice_set, get_or, length, map, count_by, refl, sym, ◌∙◌, ap, subst, arith, below_more}
-use Rattle.std.specs.List.{list_any, position, prefix_len}
+use Rattle.std.proofs.Common.{◌≡◌, ◌+◌, ◌-◌, ◌≤◌, ◌<◌, ◌==◌, ◌||◌, [], ◌∷◌, ℕ, zero, suc, List, Bool, true, false, cond, not, Some, None, nat_le, nat_lt, slice_get, slice_set, get_or, length, map, count_by, refl, sym, ◌∙◌, ap, subst, arith, below_more, take, drop, ◌++◌}
+use Rattle.std.specs.List.{list_any, position, prefix_len, remove}
 use Rattle.std.proofs.lemmas.Bool.Decides.{nat_tests}
 use Rattle.std.proofs.lemmas.List.{map-set}
+use Rattle.std.proofs.lemmas.Grind.{common_steps}
 use Rattle.std.proofs.Math.Seq.{map-set_same}
 use Rattle.lvm_disk.specs.Device.{Flight}
 use Rattle.lvm_disk.specs.Tickets.{has_ticket, IsLeastFree}
@@ -124,3 +125,15 @@ at_most (f ∷ l) t = one_at_most (nat_le t f.ticket) (from_on t l) (length l) (
 
 pub none_taken : (l : List Flying) → TakenBelow l 0
 none_taken l = record { below = λ t less. absurd (omega arith); apart = omega (arith, at_most l 0) }
+
+-- ---- taking out
+
+-- a list that was written over as a whole
+pub written_over : (n : ℕ) (new old : List Flying) → n ≡ length old → length new ≡ length old → take n (new ++ drop (length new) old) ≡ new
+written_over n new old is same = grind (arith, common_steps)
+
+pub remove-map : {A B : Type 0} (f : A → B) (l : List A) (n : ℕ) → map f (remove l n) ≡ remove (map f l) n
+remove-map f [] zero = refl
+remove-map f [] (suc n) = refl
+remove-map f (x ∷ l) zero = refl
+remove-map f (x ∷ l) (suc n) = ap (λ m. f x ∷ m) (remove-map f l n)

@@ -67,17 +67,21 @@ pub record Begins (old new : Bench) : Type 0 where
 
 -- A flight started with the least ticket, and is passed over by as many reaps as were planned.
 pub record Departs (old new : Bench) (range : Range) (write : Bool) (ticket : ℕ) : Type 0 where
-  pub uncut : cut_planned old.injection ≡ None
+  pub power : old.device.power ≡ true
   pub ticket_is : IsLeastFree ticket old.device.flights
-  pub injection : new.injection ≡ record (begun old.injection) { delay = 0 }
-  pub delays : new.delays ≡ old.delays ++ (begun old.injection).delay ∷ []
+  pub injection : new.injection ≡ record old.injection { delay = 0 }
+  pub delays : new.delays ≡ old.delays ++ old.injection.delay ∷ []
   pub wrote : new.device.wrote ≡ (if write then logged old.room old.device.wrote range else old.device.wrote)
   pub room : new.room ≡ old.room
 
--- what a start does by the plan
+-- what a start does once the call has begun
+abbrev pub StartsThen : Bench → Bench → Range → Bool → Started → Type 0
+StartsThen old new range write (started.Ticket ticket) = Departs old new range write ticket
+StartsThen old new range write (started.Dark back) = (old.device.power ≡ false) × (new ≡ old)
+
+-- what is planned before a start is done first
 abbrev pub StartsAsPlanned : Bench → Bench → Range → Bool → Started → Type 0
-StartsAsPlanned old new range write (started.Ticket ticket) = Departs old new range write ticket
-StartsAsPlanned old new range write (started.Dark back) = Begins old new
+StartsAsPlanned old new range write answer = (begun : Bench) × Begins old begun × StartsThen begun new range write answer
 
 -- ---- reaps
 
@@ -85,35 +89,39 @@ StartsAsPlanned old new range write (started.Dark back) = Begins old new
 abbrev pub passed : List ℕ → List ℕ
 passed delays = map (λ n. n - 1) delays
 
--- The oldest flight that isn't passed over has ended. It failed exactly where its disk fails.
+-- The oldest flight that isn't passed over has ended. It failed exactly where its disk fails, and of a failed write those sectors are written that the word picks.
 pub record Arrives (old new : Bench) (ticket : ℕ) (failed : Bool) : Type 0 where
   pub place : ℕ
   pub flight : Flight
-  pub uncut : cut_planned old.injection ≡ None
+  pub power : old.device.power ≡ true
   pub first : position (λ n. n == 0) old.delays ≡ Some place
   pub there : slice_get old.device.flights place ≡ Some flight
   pub its : flight.ticket ≡ ticket
-  pub failed_is : fails (begun old.injection) flight.disk ≡ failed
-  pub picked : failed ≡ true → BothTold old.device.media new.device.media (λ m n. (d s : ℕ) → n d s ≡ written_by (begun old.injection).pick 0 flight m d s)
+  pub failed_is : fails old.injection flight.disk ≡ failed
+  pub picked : failed ≡ true → BothTold old.device.media new.device.media (λ m n. (d s : ℕ) → n d s ≡ written_by old.injection.pick 0 flight m d s)
   pub flights : new.device.flights ≡ remove old.device.flights place
   pub delays : new.delays ≡ passed (remove old.delays place)
-  pub injection : new.injection ≡ begun old.injection
+  pub injection : new.injection ≡ old.injection
   pub room : new.room ≡ old.room
 
--- All flights were passed over.
+-- all flights were passed over
 pub record Passes (old new : Bench) : Type 0 where
-  pub uncut : cut_planned old.injection ≡ None
+  pub power : old.device.power ≡ true
   pub none : position (λ n. n == 0) old.delays ≡ None
   pub delays : new.delays ≡ passed old.delays
-  pub injection : new.injection ≡ begun old.injection
+  pub injection : new.injection ≡ old.injection
   pub room : new.room ≡ old.room
 
--- what a reap does by the plan
+-- what a reap does once the call has begun
+abbrev pub ReapsThen : Bench → Bench → Reaped → Type 0
+ReapsThen old new reaped.Empty = Passes old new
+ReapsThen old new (reaped.Done ticket buf) = Arrives old new ticket false
+ReapsThen old new (reaped.Failed ticket buf) = Arrives old new ticket true
+ReapsThen old new (reaped.Dark freed) = (old.device.power ≡ false) × (new ≡ old)
+
+-- what is planned before a reap is done first
 abbrev pub ReapsAsPlanned : Bench → Bench → Reaped → Type 0
-ReapsAsPlanned old new reaped.Empty = Passes old new
-ReapsAsPlanned old new (reaped.Done ticket buf) = Arrives old new ticket false
-ReapsAsPlanned old new (reaped.Failed ticket buf) = Arrives old new ticket true
-ReapsAsPlanned old new (reaped.Dark freed) = Begins old new
+ReapsAsPlanned old new answer = (begun : Bench) × Begins old begun × ReapsThen begun new answer
 
 -- ---- arrangements
 

@@ -1,5 +1,5 @@
 -- What a shelf of disks is to contracts.
-use Rattle.std.specs.Prelude.{◌≡◌, ◌⊎◌, ℕ, ◌+◌, ◌-◌, ◌<◌, ◌&&◌, ◌==◌, Bool, true, List, [], ◌∷◌, length, Option, Some, None, if◌then◌else◌, nat_le, nat_lt, slice_get, slice_index, slice_index_or, IsSomeAnd}
+use Rattle.std.specs.Prelude.{◌≡◌, ◌⊎◌, ℕ, ◌+◌, ◌-◌, ◌<◌, ◌&&◌, ◌==◌, Bool, true, List, [], ◌∷◌, length, Option, Some, None, if◌then◌else◌, nat_le, nat_lt, slice_get, slice_index, slice_index_or, IsSomeAnd, IfSome}
 use Rattle.lvm_num.specs.Buffer.{Buffer, Sector}
 use Rattle.lvm_disk.specs.declared.shelf.Arrange.{Arrange}
 use Rattle.lvm_disk.specs.Counts.{Counts}
@@ -91,3 +91,7 @@ pub record IsSector (sector : Sector) : Type 0 where
 -- the sectors of the disks are 512 bytes each
 abbrev pub AreSectors : List ℕ → Media → Type 0
 AreSectors sizes media = (d s : ℕ) → s < slice_index_or sizes d 0 → IsSector (media d s)
+
+-- where the media is told, it has such sectors
+abbrev pub HasSectors : Device → Type 0
+HasSectors device = IfSome device.media (λ media. AreSectors device.sizes media)

@@ -1,6 +1,7 @@
 -- Disks in memory, and which sectors a broken write leaves there.
-use Rattle.std.specs.Prelude.{◌≡◌, ℕ, ◌+◌, ◌-◌, ◌%◌, ◌<◌, ◌≤◌, ◌&&◌, ◌==◌, Bool, List, [], ◌∷◌, length, map, drop, Option, Some, None, if◌then◌else◌, nat_le, nat_lt, slice_get, slice_index_or, unwrap_or}
+use Rattle.std.specs.Prelude.{◌≡◌, ℕ, ◌+◌, ◌-◌, ◌/◌, ◌%◌, ◌<◌, ◌≤◌, ◌&&◌, ◌==◌, Bool, List, [], ◌∷◌, length, map, drop, Option, Some, None, if◌then◌else◌, nat_le, nat_lt, slice_get, slice_index_or, unwrap_or}
 use Rattle.std.specs.Int.{bit_at}
+use Rattle.std.specs.Simd.{first_chunks}
 use Rattle.lvm_num.specs.Buffer.{Buffer, Sector}
 use Rattle.lvm_disk.specs.Device.{Media, Flight, IsSector, written}
 
@@ -11,6 +12,10 @@ media_of disks d s = slice_index_or (slice_index_or disks d []) s []
 -- how many sectors each has
 abbrev pub sizes_of : List (List Sector) → List ℕ
 sizes_of disks = map length disks
+
+-- bytes as sectors, 512 by 512
+abbrev pub sectors_in : List ℕ → List Sector
+sectors_in bytes = first_chunks 512 (length bytes / 512) bytes
 
 -- each sector of the list is 512 bytes
 abbrev pub AllSectors : List Sector → Type 0

@@ -118,6 +118,10 @@ pub record IsFault (disk : ℕ) (old new : Counts) : Type 0 where
   pub faults : RoseAt disk old.faults new.faults
   pub new_is : new ≡ record old { faults = new.faults }
 
+-- the failure of a flight is counted
+abbrev pub CountsFailure : Flight → Counts → Counts → Type 0
+CountsFailure f old new = (IsRecordRead f × IsMiss f.disk old new) ⊎ ((IsRecordRead f → ⊥) × IsFault f.disk old new)
+
 -- A flight failed: any of a write's sectors stand on the media, and a read's buffer may have anything.
 pub record EndsFailed (old new : Device) (ticket : ℕ) (buf : Buffer) : Type 0 where
   pub flight : Flight
@@ -127,7 +131,7 @@ pub record EndsFailed (old new : Device) (ticket : ℕ) (buf : Buffer) : Type 0 
   pub media : BothTold old.media new.media (PutsSome flight)
   pub kept : flight.write ≡ true → buf ≡ flight.buf
   pub number : buf.number ≡ flight.buf.number
-  pub counts : (IsRecordRead flight × IsMiss flight.disk old.counts new.counts) ⊎ ((IsRecordRead flight → ⊥) × IsFault flight.disk old.counts new.counts)
+  pub counts : CountsFailure flight old.counts new.counts
   pub new_is : new ≡ record old { media = new.media; flights = new.flights; counts = new.counts }
 
 -- a flight is out, none ended, and the waits rose

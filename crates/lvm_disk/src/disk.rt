@@ -1,10 +1,9 @@
 //! A disk in memory.
-ghost use Rattle.std.specs.Prelude.{◌≡◌, ◌+◌, ◌-◌, ◌/◌, ◌%◌, ◌≤◌, ◌<◌, [], ◌∷◌, ◌++◌, ℕ, true, length, slice_index_or, slice_get, slice_set, IfOk, OnOk, replicate};
+ghost use Rattle.std.specs.Prelude.{◌≡◌, ◌+◌, ◌-◌, ◌%◌, ◌≤◌, ◌<◌, [], ◌∷◌, ◌++◌, ℕ, true, length, slice_index_or, slice_get, slice_set, IfOk, OnOk, replicate};
 ghost use Rattle.std.specs.List.{flat_map};
-ghost use Rattle.std.specs.Simd.{first_chunks};
 ghost use Rattle.lvm_num.specs.Buffer.{zero_sector};
 ghost use Rattle.lvm_disk.specs.Device.{IsSector};
-ghost use Rattle.lvm_disk.specs.Media.{AllSectors, put_by, picks, FilledFrom};
+ghost use Rattle.lvm_disk.specs.Media.{AllSectors, sectors_in, put_by, picks, FilledFrom};
 
 use lvm_num::{Memory, Pbuf};
 use std::alloc::Global;
@@ -69,7 +68,7 @@ impl Disk {
 
     /// A disk whose sectors are the bytes, 512 by 512. Bytes behind the last whole sector are left out.
     pub fn of_bytes(alloc: Global, bytes: &[u8]) -> Result<Disk, Memory>
-        ensures chunks { IfOk result (λ disk. disk ≡ first_chunks 512 (length bytes.now / 512) bytes.now) }
+        ensures chunks { IfOk result (λ disk. disk ≡ sectors_in bytes.now) }
         ensures sectors { IfOk result AllSectors }
     {
         let chunks = bytes.as_chunks::<512>().0;

@@ -7,11 +7,13 @@ mod disk;
 mod flying;
 mod injector;
 pub mod laws;
-mod queue;
 mod memory;
+mod queue;
 mod row;
 mod shelf;
 mod tally;
 mod write_log;
 
+pub use injector::{Act, Planned};
+pub use memory::MemShelf;
 pub use shelf::{Arrange, Reaped, Shelf, Started};

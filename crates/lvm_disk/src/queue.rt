@@ -1,8 +1,9 @@
 //! Which transfer in memory is next.
-ghost use Rattle.std.specs.Prelude.{◌≡◌, ◌-◌, ◌≤◌, ◌<◌, ◌==◌, length, map};
-ghost use Rattle.std.specs.List.{position, list_any};
+ghost use Rattle.std.specs.Prelude.{◌≡◌, ◌≤◌, ◌<◌, ◌==◌, length, Some, slice_get, vec_capacity};
+ghost use Rattle.std.specs.List.{position, list_any, remove};
+ghost use Rattle.lvm_disk.specs.Bench.{passed};
 ghost use Rattle.lvm_disk.specs.Tickets.{IsLeastFree};
-ghost use Rattle.lvm_disk.specs.Flights.{flights_of, delays_of};
+ghost use Rattle.lvm_disk.specs.Flights.{flight_of, flights_of, delays_of};
 
 use crate::flying::Flying;
 
@@ -35,9 +36,22 @@ pub fn first_due(flights: &[Flying]) -> Option<usize>
 /// Counts a reap that passed over those that are to be.
 pub fn pass_over(flights: &mut [Flying])
     ensures flights { flights_of flights.new ≡ flights_of flights.old }
-    ensures delays { delays_of flights.new ≡ map (λ delay. delay - 1) (delays_of flights.old) }
+    ensures delays { delays_of flights.new ≡ passed (delays_of flights.old) }
 {
     for flying in flights.iter_mut() {
         flying.delay = flying.delay.saturating_sub(1);
     }
+}
+
+/// Takes a transfer out, and counts the reap that does so as one that passed over the others.
+pub fn take_flight(flights: &mut Vec<Flying>, place: usize) -> Flying
+    requires { place < length flights.old.items }
+    ensures there { slice_get (flights_of flights.old.items) place ≡ Some (flight_of result) }
+    ensures flights { flights_of flights.new.items ≡ remove (flights_of flights.old.items) place }
+    ensures delays { delays_of flights.new.items ≡ passed (remove (delays_of flights.old.items) place) }
+    ensures capacity { vec_capacity flights.new ≡ vec_capacity flights.old }
+{
+    let flying = flights.remove(place);
+    pass_over(flights);
+    flying
 }

@@ -8,8 +8,8 @@ ghost use Rattle.lvm_disk.specs.Flights.{flight_of};
 use crate::disk::Disk;
 use crate::flying::Flying;
 
-/// Puts all sectors of a write on its disk.
-pub fn land_flight(disks: &mut Vec<Disk>, flying: &Flying)
+// Puts all sectors of a write on its disk.
+fn land_flight(disks: &mut Vec<Disk>, flying: &Flying)
     requires lies { Lies (sizes_of disks.old.items) (flight_of flying.now) }
     requires write { flying.now.write ≡ true }
     requires sectors { AreSectors (sizes_of disks.old.items) (media_of disks.old.items) }
@@ -35,12 +35,31 @@ pub fn tear_flight(disks: &mut Vec<Disk>, flying: &Flying, word: u64, from: u32)
     }
 }
 
-/// Fills the buffer of a read from its disk.
-pub fn fill_flight(disks: &Vec<Disk>, flying: &mut Flying)
+// Fills the buffer of a read from its disk.
+fn fill_flight(disks: &Vec<Disk>, flying: &mut Flying)
     requires lies { Lies (sizes_of disks.now.items) (flight_of flying.old) }
     ensures same { flying.new ≡ record flying.old { buf = flying.new.buf } }
     ensures rest { ChangedAtMost flying.old.count flying.old.buf flying.new.buf }
     ensures read { Reads (media_of disks.now.items) (flight_of flying.old) flying.new.buf }
 {
     disks[flying.disk as usize].fill(flying.first, flying.count, &mut flying.buf);
+}
+
+/// Ends a transfer well: puts a write on its disk, or fills a read's buffer from it.
+pub fn finish_flight(disks: &mut Vec<Disk>, flying: &mut Flying)
+    requires lies { Lies (sizes_of disks.old.items) (flight_of flying.old) }
+    requires sectors { AreSectors (sizes_of disks.old.items) (media_of disks.old.items) }
+    ensures sizes { sizes_of disks.new.items ≡ sizes_of disks.old.items }
+    ensures puts { Puts (flight_of flying.old) (media_of disks.old.items) (media_of disks.new.items) }
+    ensures sectors { AreSectors (sizes_of disks.new.items) (media_of disks.new.items) }
+    ensures same { flying.new ≡ record flying.old { buf = flying.new.buf } }
+    ensures kept { flying.old.write ≡ true → flying.new.buf ≡ flying.old.buf }
+    ensures read { flying.old.write ≡ false → Reads (media_of disks.old.items) (flight_of flying.old) flying.new.buf }
+    ensures rest { ChangedAtMost flying.old.count flying.old.buf flying.new.buf }
+{
+    if flying.write {
+        land_flight(disks, flying);
+    } else {
+        fill_flight(disks, flying);
+    }
 }

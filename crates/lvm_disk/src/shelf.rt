@@ -43,7 +43,7 @@ pub enum Arrange {
 /// or reap: then all transfers are given up, and of each sector that was under way the old or the new
 /// content stands.
 pub trait Shelf {
-    ghost use Rattle.lvm_disk.specs.Device.{Device};
+    ghost use Rattle.lvm_disk.specs.Device.{Device, HasSectors};
     ghost use Rattle.lvm_disk.specs.Steps.{IsRange, StartGives, ReapGives, FreedGives, Lights, MayArrange, ArrangeGives};
 
     /// What is known of it: sizes, transfers under way, buffers to free, power and counts, and where it
@@ -101,4 +101,7 @@ pub trait Shelf {
     fn arrange(&mut self, what: Arrange) -> bool
         requires { MayArrange (device self.old) what }
         ensures { ArrangeGives (device self.old) (device self.new) what result };
+
+    /// Where it is told what stands on the disks, each sector there has 512 bytes.
+    ghost sectors_are_whole: { (shelf : Self) → HasSectors (device shelf) };
 }

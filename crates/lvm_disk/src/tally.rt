@@ -3,6 +3,7 @@ ghost use Rattle.std.specs.Prelude.{◌≡◌, ◌<◌, length, replicate, slice
 ghost use Rattle.lvm_disk.specs.Counts.{Rose, RoseAt};
 ghost use Rattle.lvm_disk.specs.Tally.{by_disk};
 
+use crate::flying::Flying;
 use lvm_num::Memory;
 use std::alloc::Global;
 use std::marker::Model;
@@ -44,6 +45,10 @@ fn raise(counts: &mut [u64], disk: u16)
 }
 
 impl Tally {
+    ghost use Rattle.lvm_disk.specs.Steps.{CountsFailure};
+    ghost use Rattle.lvm_disk.specs.Flights.{flight_of};
+    ghost use Rattle.lvm_disk.specs.Tally.{counts_of};
+
     /// Nothing happened yet, for this many disks.
     pub fn new(alloc: Global, disks: usize) -> Result<Tally, Memory>
         ensures { IfOk result (λ tally. tally ≡ record { starts = replicate disks 0; misses = replicate disks 0; faults = replicate disks 0; cuts = 0; waits = 0 }) }
@@ -75,24 +80,20 @@ impl Tally {
         raise(&mut self.starts, disk);
     }
 
-    /// A read of records failed.
-    pub fn count_miss(&mut self, disk: u16)
-        requires { disk < length self.old.misses }
-        ensures rose { RoseAt disk (by_disk self.old.misses) (by_disk self.new.misses) }
-        ensures long { length self.new.misses ≡ length self.old.misses }
-        ensures same { self.new ≡ record self.old { misses = self.new.misses } }
+    /// A transfer failed: a miss, if it was a read that began in the record area, and else a fault.
+    pub fn count_failure(&mut self, flying: &Flying)
+        requires misses { flying.now.disk < length self.old.misses }
+        requires faults { flying.now.disk < length self.old.faults }
+        ensures counted { CountsFailure (flight_of flying.now) (counts_of self.old) (counts_of self.new) }
+        ensures starts { self.new.starts ≡ self.old.starts }
+        ensures misses { length self.new.misses ≡ length self.old.misses }
+        ensures faults { length self.new.faults ≡ length self.old.faults }
     {
-        raise(&mut self.misses, disk);
-    }
-
-    /// Another transfer failed.
-    pub fn count_fault(&mut self, disk: u16)
-        requires { disk < length self.old.faults }
-        ensures rose { RoseAt disk (by_disk self.old.faults) (by_disk self.new.faults) }
-        ensures long { length self.new.faults ≡ length self.old.faults }
-        ensures same { self.new ≡ record self.old { faults = self.new.faults } }
-    {
-        raise(&mut self.faults, disk);
+        if !flying.write && flying.first < 4096 {
+            raise(&mut self.misses, flying.disk);
+        } else {
+            raise(&mut self.faults, flying.disk);
+        }
     }
 
     /// The power was cut.

@@ -8,12 +8,12 @@ use Rattle.lvm_disk.proofs.memory.MemShelf.cut.Goals as goal
 
 pub returns-then-self-clause-dark : goal.returns-then-self-clause-dark
 returns-then-self-clause-dark c = inr (record {
-      cuts = record {
-        power = c.if-self.true;
-        media = torn_like c.args.word (flights_of c.args.self.now.flights.items) (media_of c.args.self.now.disks.items) (media_of c.cut_flights.new.disks.items) c.cut_flights.ensures.cut;
-        cuts = c.count_cut.ensures.rose;
-        new_is = darkened (device_of c.args.self.now) _ (media_of c.cut_flights.new.disks.items) _ _ _ _ c.cut_flights.ensures.sizes (ap flights_of c.cut_flights.ensures.flights) c.cut_flights.ensures.freed
-            (ap counts_of c.count_cut.ensures.same);
-      };
-      picked = c.cut_flights.ensures.cut;
-    })
+  cuts = record {
+    power = c.if-self.true;
+    media = torn_like c.args.word (flights_of c.args.self.now.flights.items) (media_of c.args.self.now.disks.items) (media_of c.cut_flights.new.disks.items) c.cut_flights.ensures.cut;
+    cuts = c.count_cut.ensures.rose;
+    new_is = darkened (device_of c.args.self.now) _ (media_of c.cut_flights.new.disks.items) _ _ _ _ c.cut_flights.ensures.sizes (ap flights_of c.cut_flights.ensures.flights) c.cut_flights.ensures.freed
+        (ap counts_of c.count_cut.ensures.same);
+  };
+  picked = c.cut_flights.ensures.cut;
+})
