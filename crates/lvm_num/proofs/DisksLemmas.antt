@@ -24,20 +24,20 @@ has-below set disk fits is = elim (cases_lt disk 128) [
   | inr more ↦ absurd (false≢true (ap (λ n. n == 1) (sym (bit_at_above set 128 disk fits more)) ∙ is))
 ]
 
-or-true : (a b : Bool) → b ≡ true → true ≡ a || b
+pub or-true : (a b : Bool) → b ≡ true → true ≡ a || b
 or-true true b e = refl
 or-true false b e = sym e
 
-or-false : (a b : Bool) → b ≡ false → a ≡ a || b
+pub or-false : (a b : Bool) → b ≡ false → a ≡ a || b
 or-false true b e = refl
 or-false false b e = sym e
 
-and-false : (a b : Bool) → b ≡ true → false ≡ a && not b
+pub and-false : (a b : Bool) → b ≡ true → false ≡ a && not b
 and-false true true e = refl
 and-false true false e = absurd (false≢true e)
 and-false false b e = refl
 
-and-true : (a b : Bool) → b ≡ false → a ≡ a && not b
+pub and-true : (a b : Bool) → b ≡ false → a ≡ a && not b
 and-true true true e = absurd (false≢true (sym e))
 and-true true false e = refl
 and-true false b e = refl

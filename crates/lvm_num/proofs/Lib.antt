@@ -1,3 +1,9 @@
+pub mod BitsLemmas
 pub mod DisksLemmas
+pub mod MapsLemmas
+pub mod MarksLemmas
+pub mod MembersLemmas
 pub mod NameLemmas
+pub mod Pairs
+pub mod VolumesLemmas
 pub mod WordLemmas

@@ -1,5 +1,8 @@
 //! What a volume group is: its disks, its volumes and where they lie.
 
+ghost use Rattle.std.specs.Prelude.{◌↔◌, IsTrue};
+
+use crate::valid::{are_maps, are_volumes, is_size, partition_counts};
 use crate::{Name, Pp, Rows};
 
 /// How the copies of a volume are made equal after a crash (`mklv -w`).
@@ -71,4 +74,34 @@ pub struct Descriptor {
     pub pvs: Rows<PvRow>,
     /// Its volumes, by rising numbers.
     pub lvs: Rows<LvRow>,
+}
+
+impl Descriptor {
+    ghost use Rattle.lvm_num.specs.Descriptor.{IsHead, IsValid};
+
+    /// Whether it is one that a record may state.
+    pub fn is_valid(&self) -> bool
+        ensures { IsTrue result ↔ IsValid self.now }
+    {
+        let Some(counts) = partition_counts(self.pvs.as_slice()) else {
+            return false;
+        };
+        let lvs = self.lvs.as_slice();
+        self.is_head() && are_volumes(self.big, lvs) && are_maps(&counts, lvs)
+    }
+
+    // Whether what stands before the rows is valid.
+    fn is_head(&self) -> bool
+        ensures { IsTrue result ↔ IsHead self.now }
+    {
+        let _field = self.name.as_field();
+        let (most_members, most_volumes) = if self.big { (128, 511) } else { (32, 255) };
+        let members = self.pvs.len();
+        self.id != 0
+            && is_size(self.mib)
+            && (!self.even || members == 2)
+            && 1 <= members
+            && members <= most_members
+            && self.lvs.len() <= most_volumes
+    }
 }

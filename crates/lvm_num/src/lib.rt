@@ -1,6 +1,7 @@
 //! The types, numbers and buffers that every layer shares.
 #![tactic(auto)]
 
+mod bits;
 mod descriptor;
 mod disks;
 mod name;
@@ -10,8 +11,10 @@ mod record;
 mod rows;
 mod status;
 mod text;
+mod valid;
 mod word;
 
+pub use bits::{clear_bit, has_bit, set_bit};
 pub use descriptor::{Descriptor, LvRow, Mode, Policy, PvRow};
 pub use disks::DiskSet;
 pub use name::Name;
