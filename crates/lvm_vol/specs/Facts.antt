@@ -1,5 +1,5 @@
 -- What a history tells: its entries, each with its data.
-use Rattle.std.specs.Prelude.{ℕ, ◌+◌, ◌-◌, Bool, true, false, ◌&&◌, ◌==◌, nat_le, nat_lt, List, [], ◌∷◌, ◌++◌, Option, Some, None, slice_index_or}
+use Rattle.std.specs.Prelude.{◌≡◌, ◌⊎◌, ℕ, ◌+◌, ◌-◌, Bool, false, ◌&&◌, ◌==◌, nat_le, nat_lt, List, [], ◌∷◌, ◌++◌, Option, Some, None, slice_index_or}
 use Rattle.std.specs.List.{filter_map}
 use Rattle.lvm_num.specs.Buffer.{Sector}
 use Rattle.lvm_num.specs.declared.descriptor.Mode.{Mode}
@@ -30,6 +30,11 @@ pub data Fact : Type 0 where
   Taken : (r : Request) → Fact
   Cut : Fact
   On : (moment : ℕ) → Fact
+
+-- x is one of the list
+abbrev pub Stands : {X : Type 0} → X → List X → Type 0
+Stands x [] = ⊥
+Stands x (y ∷ ys) = (y ≡ x) ⊎ Stands x ys
 
 abbrev pub same_vol : Vol → Vol → Bool
 same_vol (Disk a) (Disk b) = a == b

@@ -1,9 +1,9 @@
 -- Which histories are legal.
-use Rattle.std.specs.Prelude.{◌≡◌, ◌⊎◌, ℕ, ◌+◌, ◌<◌, ◌≤◌, Bool, true, false, ◌==◌, List, [], ◌∷◌, ◌++◌, length, count_by, IsTrue, IsFalse}
+use Rattle.std.specs.Prelude.{◌≡◌, ℕ, ◌+◌, ◌<◌, ◌≤◌, Bool, true, false, ◌==◌, List, [], ◌∷◌, ◌++◌, length, count_by, IsTrue, IsFalse}
 use Rattle.std.specs.List.{list_any}
 use Rattle.lvm_vol.specs.declared.entry.Outcome.{Outcome}
 use Rattle.lvm_vol.specs.declared.entry.Outcome.TheVariants as outcome
-use Rattle.lvm_vol.specs.Facts.{Request, Fact, Making, Made, Split, Removing, Removed, Begun, Landed, Taken, Cut, On, same_request, block_of}
+use Rattle.lvm_vol.specs.Facts.{Request, Fact, Making, Made, Split, Removing, Removed, Begun, Landed, Taken, Cut, On, Stands, same_request, block_of}
 use Rattle.lvm_vol.specs.May.{known, May}
 
 -- the entry begins a request of this run
@@ -44,11 +44,6 @@ takes r (Begun s) = false
 takes r (Landed s how started got) = false
 takes r Cut = false
 takes r (On moment) = false
-
--- the entry stands in the history
-abbrev pub Stands : Fact → List Fact → Type 0
-Stands f [] = ⊥
-Stands f (g ∷ facts) = (g ≡ f) ⊎ Stands f facts
 
 -- how a request of this kind may end
 abbrev pub IsOutcomeOf : Outcome → Request → Bool → Type 0

@@ -4,3 +4,4 @@ pub mod Legal
 pub mod Standing
 pub mod Log
 pub mod Rows
+pub mod Opened

@@ -1,8 +1,8 @@
 -- What a history keeps and how much room is left in it.
-use Rattle.std.specs.Prelude.{◌≡◌, ℕ, ◌+◌, ◌-◌, ◌*◌, Bool, true, false, ◌&&◌, ◌==◌, not, if◌then◌else◌, List, [], ◌∷◌, ◌++◌, length, map, count_by, Option, Some, None, is_some, unwrap_or, option_and_then, slice_index_or, replicate}
+use Rattle.std.specs.Prelude.{ℕ, ◌+◌, ◌-◌, ◌*◌, Bool, true, false, ◌&&◌, ◌==◌, not, if◌then◌else◌, List, [], ◌∷◌, ◌++◌, count_by, Option, Some, None, is_some, unwrap_or, slice_index_or, replicate}
 use Rattle.std.specs.List.{find, filter_map, flat_map, list_any, sum_by}
 use Rattle.std.specs.Simd.{first_chunks}
-use Rattle.lvm_num.specs.Buffer.{Sector, zero_sector}
+use Rattle.lvm_num.specs.Buffer.{zero_sector}
 use Rattle.lvm_vol.specs.declared.entry.Vol.{Vol}
 use Rattle.lvm_vol.specs.declared.entry.Vol.TheVariants.{Disk}
 use Rattle.lvm_vol.specs.declared.entry.Outcome.{Outcome}
@@ -23,14 +23,15 @@ pub record Log : Type 0 where
 abbrev pub next_id : Log → ℕ
 next_id log = count_by (begins_in log.run) log.facts + 1
 
--- the request that is next, of a client, with a write's data in blocks of 512 bytes
+-- a write's data, as so many blocks of 512 bytes
+abbrev pub blocks_given : ℕ → Option (List ℕ) → List (List ℕ)
+blocks_given count None = []
+blocks_given count (Some bytes) = first_chunks 512 count bytes
+
+-- the request that is next, a write where bytes are given
 abbrev pub next_request : Log → ℕ → Vol → ℕ → ℕ → Option (List ℕ) → Request
 next_request log client vol at count bytes =
     record { run = log.run; id = next_id log; client = client; vol = vol; at = at; count = count; write = is_some bytes; blocks = blocks_given count bytes }
-  where
-    blocks_given : ℕ → Option (List ℕ) → List (List ℕ)
-    blocks_given count None = []
-    blocks_given count (Some bytes) = first_chunks 512 count bytes
 
 abbrev pub has_id : ℕ → Request → Bool
 has_id id r = r.id == id
@@ -140,6 +141,20 @@ need (On moment) = 1
 abbrev pub needed : List Fact → ℕ
 needed facts = sum_by need facts
 
+abbrev pub is_waiting : List Fact → Request → Bool
+is_waiting facts r = not (list_any (lands_id r.id) facts)
+
+abbrev pub is_landed : List Fact → Request → Bool
+is_landed facts r = list_any (lands_id r.id) facts && not (list_any (takes_id r.id) facts)
+
+-- how many requests have begun and not landed
+abbrev pub open_count : List Fact → ℕ
+open_count facts = count_by (is_waiting facts) (begun facts)
+
+-- how many have landed and aren't taken
+abbrev pub landed_count : List Fact → ℕ
+landed_count facts = count_by (is_landed facts) (begun facts)
+
 -- how many entries are free; one is always kept for a Cut
 abbrev pub spare_entries : Log → ℕ
 spare_entries log = log.room - needed log.facts - 1
@@ -209,12 +224,22 @@ entry_at place (Taken r) = entry.Taken r.client r.id
 entry_at place Cut = entry.Cut
 entry_at place (On moment) = entry.On moment
 
-abbrev pub count_of : Fact → ℕ
-count_of f = sum_by (λ r. r.count) (begun (f ∷ []))
+-- where the next request's blocks begin
+abbrev pub place_after : ℕ → Fact → ℕ
+place_after place (Begun r) = place + r.count
+place_after place (Making lv blocks m) = place
+place_after place (Made lv) = place
+place_after place (Split from lv) = place
+place_after place (Removing vol) = place
+place_after place (Removed vol) = place
+place_after place (Landed r how started got) = place
+place_after place (Taken r) = place
+place_after place Cut = place
+place_after place (On moment) = place
 
 abbrev pub entries_from : ℕ → List Fact → List Entry
 entries_from place [] = []
-entries_from place (f ∷ facts) = entry_at place f ∷ entries_from (place + count_of f) facts
+entries_from place (f ∷ facts) = entry_at place f ∷ entries_from (place_after place f) facts
 
 -- the entries as they are listed, each request's place behind those of the requests before it
 abbrev pub entries_of : List Fact → List Entry

@@ -1,14 +1,14 @@
 -- Which values each block may have after a history.
-use Rattle.std.specs.Prelude.{◌≡◌, ◌⊎◌, ℕ, Bool, true, false, ◌&&◌, ◌||◌, not, nat_lt, if◌then◌else◌, List, [], ◌∷◌, ◌++◌, map, Option, Some, None, option_map, filter, IfSome, IsSomeAnd}
+use Rattle.std.specs.Prelude.{ℕ, Bool, true, false, ◌&&◌, ◌||◌, not, nat_lt, if◌then◌else◌, List, [], ◌∷◌, ◌++◌, map, Option, Some, None, option_map, filter, IfSome, IsSomeAnd}
 use Rattle.std.specs.List.{list_any}
 use Rattle.lvm_num.specs.Buffer.{Sector, zero_sector}
 use Rattle.lvm_num.specs.declared.descriptor.Mode.{Mode}
 use Rattle.lvm_num.specs.declared.descriptor.Mode.TheVariants as mode
 use Rattle.lvm_vol.specs.declared.entry.Vol.{Vol}
-use Rattle.lvm_vol.specs.declared.entry.Vol.TheVariants.{Disk, Lv}
+use Rattle.lvm_vol.specs.declared.entry.Vol.TheVariants.{Lv}
 use Rattle.lvm_vol.specs.declared.entry.Outcome.{Outcome}
 use Rattle.lvm_vol.specs.declared.entry.Outcome.TheVariants as outcome
-use Rattle.lvm_vol.specs.Facts.{Request, Fact, Making, Made, Split, Removing, Removed, Begun, Landed, Taken, Cut, On, same_vol, same_request, is_over, block_of}
+use Rattle.lvm_vol.specs.Facts.{Request, Fact, Making, Made, Split, Removing, Removed, Begun, Landed, Taken, Cut, On, Stands, same_vol, same_request, is_over, block_of}
 
 -- What is known of a block: the values that it may have, or nothing; the writes of it that are open;
 -- whether two reads of it may differ; its volume's mode.
@@ -121,15 +121,10 @@ after known (f ∷ facts) = after (after_fact f known) facts
 abbrev pub known : List Fact → Knowledge
 known facts = after nothing_known facts
 
--- the value is one of these
-abbrev pub IsOneOf : List (List ℕ) → Sector → Type 0
-IsOneOf [] x = ⊥
-IsOneOf (y ∷ ys) x = (x ≡ y) ⊎ IsOneOf ys x
-
 -- the block may have this value: one of those known, or any where they are unknown
 abbrev pub May : Known → Sector → Type 0
-May k x = IfSome k.values (λ values. IsOneOf values x)
+May k x = IfSome k.values (λ values. Stands x values)
 
 -- its values are known, and this is one of them
 abbrev pub IsValue : Known → Sector → Type 0
-IsValue k x = IsSomeAnd k.values (λ values. IsOneOf values x)
+IsValue k x = IsSomeAnd k.values (λ values. Stands x values)

@@ -3,6 +3,8 @@
 #![tactic(auto)]
 
 mod entry;
+mod history;
 mod row;
 
 pub use entry::{Entry, Outcome, Vol};
+pub use history::History;

@@ -1,0 +1,4 @@
+pub mod Order
+pub mod Keeping
+pub mod Counting
+pub mod Entering
