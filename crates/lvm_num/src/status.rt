@@ -1,6 +1,9 @@
 //! Which partitions are stale, which disks are missing, and which volumes are dirty.
 
+ghost use Rattle.std.specs.Prelude.{◌↔◌, IsTrue};
+
 use crate::Rows;
+use crate::valid::{are_dirty, are_status_rows};
 
 /// What a status says of one member.
 #[derive(Clone, Copy, Debug, PartialEq, Eq)]
@@ -23,4 +26,21 @@ pub struct Status {
     pub dirty: Rows<u16>,
     /// By rising disk numbers.
     pub rows: Rows<StatusRow>,
+}
+
+impl Status {
+    ghost use Rattle.lvm_num.specs.Status.{IsValidStatus};
+
+    /// Whether it is one that a record may state.
+    pub fn is_valid(&self) -> bool
+        ensures { IsTrue result ↔ IsValidStatus self.now }
+    {
+        let most = if self.big { 128 } else { 32 };
+        let rows = self.rows.as_slice();
+        self.id != 0
+            && !rows.is_empty()
+            && rows.len() <= most
+            && are_status_rows(rows)
+            && are_dirty(self.dirty.as_slice())
+    }
 }

@@ -1,18 +1,21 @@
-//! The rules that the rows of a descriptor keep.
+//! The rules that the rows of a descriptor and of a status keep.
 ghost use Rattle.std.specs.Prelude.{◌≡◌, ◌≢◌, ℕ, false, ◌≤◌, ◌<◌, ◌==◌, ◌||◌, ◌↔◌, length, slice_index, IsTrue, IsSome, IfSome, Any, All, AllPairs};
 ghost use Rattle.std.specs.List.{list_any};
 ghost use Rattle.lvm_num.specs.declared.place.Pp.{Pp};
 ghost use Rattle.lvm_num.specs.declared.descriptor.LvRow.{LvRow};
 ghost use Rattle.lvm_num.specs.Bits.{has_bit};
 ghost use Rattle.lvm_num.specs.Descriptor.{is_size, IsVolume, AreMembers, AreVolumes, IsLaidOut};
+ghost use Rattle.lvm_num.specs.Status.{IsStatusRow, AreStatusRows, AreDirty};
 ghost use Rattle.lvm_num.specs.Marks.{AreCounts, AreFree, AreCounted, spot};
 
 use crate::bits::{has_bit, set_bit};
-use crate::{LvRow, Name, Pp, PvRow};
+use crate::{LvRow, Name, Pp, PvRow, StatusRow};
 
 const DISKS: usize = 128;
 
 const MOST_PPS: u16 = 1016;
+
+const MOST_VOLUMES: u16 = 511;
 
 const MARKS: usize = 16256;
 
@@ -150,4 +153,40 @@ fn spot_of(pp: Pp) -> usize
     ensures { result ≡ spot pp }
 {
     usize::from(MOST_PPS) * usize::from(pp.disk) + usize::from(pp.pp)
+}
+
+/// Whether the rows of a status are valid.
+pub fn are_status_rows(rows: &[StatusRow]) -> bool
+    ensures { IsTrue result ↔ AreStatusRows rows.now }
+{
+    for (k, row) in rows.iter().enumerate() {
+        if !is_status_row(row) {
+            return false;
+        }
+        if k > 0 && rows[k - 1].disk >= row.disk {
+            return false;
+        }
+    }
+    true
+}
+
+fn is_status_row(row: &StatusRow) -> bool
+    ensures { IsTrue result ↔ IsStatusRow row.now }
+{
+    usize::from(row.disk) < DISKS
+}
+
+/// Whether the numbers are those of dirty volumes.
+pub fn are_dirty(numbers: &[u16]) -> bool
+    ensures { IsTrue result ↔ AreDirty numbers.now }
+{
+    for (k, number) in numbers.iter().enumerate() {
+        if *number == 0 || *number > MOST_VOLUMES {
+            return false;
+        }
+        if k > 0 && numbers[k - 1] >= *number {
+            return false;
+        }
+    }
+    true
 }
