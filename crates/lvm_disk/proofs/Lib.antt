@@ -9,4 +9,5 @@ mod Making
 mod Filling
 mod Laying
 mod Queues
+mod Prompt
 mod Putting

@@ -148,3 +148,10 @@ pub record IsPrompt (bench : Bench) : Type 0 where
   pub plan : AllByRecursion (λ p. IsPromptAct p.act) bench.injection.plan
   pub next : bench.injection.delay ≡ 0
   pub out : AllByRecursion (λ n. n ≡ 0) bench.delays
+
+-- the answer is not Empty
+abbrev pub IsNoWait : Reaped → Type 0
+IsNoWait reaped.Empty = ⊥
+IsNoWait (reaped.Done ticket buf) = Unit {0}
+IsNoWait (reaped.Failed ticket buf) = Unit {0}
+IsNoWait (reaped.Dark freed) = Unit {0}

@@ -248,10 +248,11 @@ impl MemShelf {
 }
 
 impl Shelf for MemShelf {
-    ghost use Rattle.std.specs.Prelude.{◌≡◌, ◌⊎◌, ◌<◌, true, false, length, None};
-    ghost use Rattle.lvm_disk.specs.Steps.{IsRange, StartGives, ReapGives, MayArrange, ArrangeGives};
+    ghost use Rattle.std.specs.Prelude.{◌≡◌, ◌⊎◌, ◌<◌, true, false, [], length, None};
+    ghost use Rattle.lvm_disk.specs.Steps.{IsRange, StartGives, ReapGives, FreedGives, Lights, MayArrange, ArrangeGives};
     ghost use Rattle.lvm_disk.specs.Memory.{device_of, bench_of};
-    ghost use Rattle.lvm_disk.specs.Bench.{StartsAsPlanned, ReapsAsPlanned, ArrangesAsTold};
+    ghost use Rattle.lvm_disk.specs.Injection.{cut_planned};
+    ghost use Rattle.lvm_disk.specs.Bench.{StartsAsPlanned, ReapsAsPlanned, ArrangesAsTold, IsPrompt, IsNoWait};
 
     ghost device = { device_of };
 
@@ -278,6 +279,8 @@ impl Shelf for MemShelf {
         requires room { length (device_of self.old).flights < 1024 }
         ensures gives { StartGives (device_of self.old) (device_of self.new) disk first count true buf result }
         ensures planned { StartsAsPlanned (bench_of self.old) (bench_of self.new) (record { disk = disk; first = first; count = count }) true result }
+        ensures uncut { cut_planned (bench_of self.old).injection ≡ None → (device_of self.new).counts.cuts ≡ (device_of self.old).counts.cuts }
+        ensures prompt { IsPrompt (bench_of self.old) → IsPrompt (bench_of self.new) }
     {
         self.start(disk, first, count, true, buf)
     }
@@ -287,6 +290,8 @@ impl Shelf for MemShelf {
         requires room { length (device_of self.old).flights < 1024 }
         ensures gives { StartGives (device_of self.old) (device_of self.new) disk first count false buf result }
         ensures planned { StartsAsPlanned (bench_of self.old) (bench_of self.new) (record { disk = disk; first = first; count = count }) false result }
+        ensures uncut { cut_planned (bench_of self.old).injection ≡ None → (device_of self.new).counts.cuts ≡ (device_of self.old).counts.cuts }
+        ensures prompt { IsPrompt (bench_of self.old) → IsPrompt (bench_of self.new) }
     {
         self.start(disk, first, count, false, buf)
     }
@@ -295,11 +300,17 @@ impl Shelf for MemShelf {
         requires { (0 < length (device_of self.old).flights) ⊎ ((device_of self.old).power ≡ false) }
         ensures gives { ReapGives (device_of self.old) (device_of self.new) result }
         ensures planned { ReapsAsPlanned (bench_of self.old) (bench_of self.new) result }
+        ensures uncut { cut_planned (bench_of self.old).injection ≡ None → (device_of self.new).counts.cuts ≡ (device_of self.old).counts.cuts }
+        ensures prompt { IsPrompt (bench_of self.old) → IsPrompt (bench_of self.new) }
+        ensures waits { IsPrompt (bench_of self.old) → IsNoWait result }
     {
         self.reap_now()
     }
 
-    fn next_freed(&mut self) -> Option<Pbuf> {
+    fn next_freed(&mut self) -> Option<Pbuf>
+        ensures gives { FreedGives (device_of self.old) (device_of self.new) result }
+        ensures rest { bench_of self.new ≡ record (bench_of self.old) { device = device_of self.new } }
+    {
         if self.freed.is_empty() {
             None
         } else {
@@ -307,7 +318,12 @@ impl Shelf for MemShelf {
         }
     }
 
-    fn light(&mut self) {
+    fn light(&mut self)
+        requires freed { (device_of self.old).freed ≡ [] }
+        requires flights { (device_of self.old).flights ≡ [] }
+        ensures gives { Lights (device_of self.old) (device_of self.new) }
+        ensures rest { bench_of self.new ≡ record (bench_of self.old) { device = device_of self.new } }
+    {
         self.power = true;
     }
 
