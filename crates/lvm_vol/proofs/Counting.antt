@@ -7,7 +7,7 @@ use Rattle.std.proofs.lemmas.Bool.Decides.{nat_tests}
 use Rattle.lvm_vol.specs.declared.entry.Outcome.{Outcome}
 use Rattle.lvm_vol.specs.Facts.{Request, Fact, Making, Made, Split, Removing, Removed, Begun, Landed, Taken, Cut, On, Stands, begun, begun_by}
 use Rattle.lvm_vol.specs.Log.{has_id, lands_id, takes_id, need, needed, is_waiting, is_landed, open_count, landed_count}
-use Rattle.lvm_vol.specs.Rows.{Follows, Ordered}
+use Rattle.lvm_vol.specs.Order.{Follows, Ordered}
 use Rattle.lvm_vol.proofs.Order.{IdsFrom, stands-at, stands_begun, IsNumbered, numbered_none, numbered-push, begun-push, any-push, grow}
 
 count-cons : (p : Request → Bool) (r : Request) (rs : List Request) → count_by p (r ∷ rs) ≡ cond (p r) 1 0 + count_by p rs

@@ -19,8 +19,9 @@ use Rattle.lvm_vol.specs.declared.row.Row.{Row}
 use Rattle.lvm_vol.specs.declared.row.Row.TheVariants as row
 use Rattle.lvm_vol.specs.Facts.{Request, Fact, Making, Made, Split, Removing, Removed, Begun, Landed, Taken, Cut, On, Stands, begun, begun_by}
 use Rattle.lvm_vol.specs.Legal.{begins_in}
-use Rattle.lvm_vol.specs.Log.{Log, plain_fact, cut_log, spare_entries, spare_bytes, awaited, blocks_begun, entries_of, entries_from, next_id, blocks_given, next_request, has_id, asked, no_request, request_of, lands_id, takes_id, is_open, is_answered, is_got, got_by, held, blocks_of, blocks_begun_with, got_without_bytes, need, is_uncut_after, is_uncut_from, is_uncut}
-use Rattle.lvm_vol.specs.Rows.{Follows, Ordered, IsWhole, IsGotOf, no_ask, ask_of, ask_at, ask_found, is_open_by, awaited_by, is_answered_by, is_landing, is_taking, entry_kept, IsOneOfAsks, asks_from, row_of, IsKept, HasRoom, if_uncut, blocks_first, Kept, log_of, IsSound}
+use Rattle.lvm_vol.specs.Log.{Log, open_count, landed_count, plain_fact, cut_log, spare_entries, spare_bytes, awaited, blocks_begun, entries_of, entries_from, next_id, blocks_given, next_request, has_id, asked, no_request, request_of, lands_id, takes_id, is_open, is_answered, is_got, got_by, held, blocks_of, blocks_begun_with, got_without_bytes, need, is_uncut_after, is_uncut_from, is_uncut}
+use Rattle.lvm_vol.specs.Order.{Follows, Ordered, IsWhole, IsGotOf}
+use Rattle.lvm_vol.specs.Rows.{no_ask, ask_of, ask_at, ask_found, is_open_by, awaited_by, is_answered_by, is_landing, is_taking, entry_kept, IsOneOfAsks, asks_from, row_of, IsKept, HasRoom, if_uncut, blocks_first, Kept, log_of, IsSound}
 use Rattle.lvm_vol.proofs.Order.{IdsFrom, stands_last, stands-at, stands_begun, numbered, begun-push, any-push, ordered-push}
 use Rattle.lvm_vol.proofs.Keeping.{counts, ask-back, length-asks, length-flat, length-held, asks-push, facts-back, blocks_aside, blocks-begun, blocks-landed, blocks-read, held_same, unlanded_id, place_of}
 use Rattle.lvm_vol.proofs.Counting.{stands_get, find_at, find_below, counted, three_needed, no_taking_yet, landing_same, taking_same, needed-push, length-push}
@@ -315,7 +316,7 @@ quiet_enters k new f sound follows quiet rows rest more needs uncut fits =
     (let e : new.asks_room ≡ k.asks_room = ap (λ (x : Kept). x.asks_room) rest in omega (arith, e))
     (let e : new.blocks_room ≡ k.blocks_room = ap (λ (x : Kept). x.blocks_room) rest in omega (arith, e))
 
-follows_taken : (facts : List Fact) (run client id : ℕ) → is_answered facts client id ≡ true → Follows run facts (Taken (request_of facts id)) × ((request_of facts id).client ≡ client) × ((request_of facts id).id ≡ id)
+pub follows_taken : (facts : List Fact) (run client id : ℕ) → is_answered facts client id ≡ true → Follows run facts (Taken (request_of facts id)) × ((request_of facts id).client ≡ client) × ((request_of facts id).id ≡ id)
 follows_taken facts run client id answered =
     let some = is_some (asked facts id) in
     let own = (request_of facts id).client == client in
@@ -917,3 +918,8 @@ chunks_count n count is = omega (arith, is)
 
 pub length-first_chunks_of : (n k : ℕ) (xs : List ℕ) → length (first_chunks n k xs) ≡ k
 length-first_chunks_of n k xs = length-first_chunks n k xs
+
+pub needed_counted : (k : Kept) (log : Log) → IsSound k → log_of k ≡ log → (k.room ≡ log.room) × (k.need_now ≡ length log.facts + 2 * open_count log.facts + landed_count log.facts)
+needed_counted k log sound shows =
+    let all = counted k.run (log_of k).facts sound.its_own.ordered in
+    (ap (λ (x : Log). x.room) shows, sound.roomy.counted ∙ all.total ∙ ap (λ (x : Log). length x.facts + 2 * open_count x.facts + landed_count x.facts) shows)

@@ -9,7 +9,7 @@ use Rattle.std.proofs.lemmas.Bool.{eqb-true}
 use Rattle.lvm_vol.specs.declared.entry.Outcome.{Outcome}
 use Rattle.lvm_vol.specs.Facts.{Request, Fact, Making, Made, Split, Removing, Removed, Begun, Landed, Taken, Cut, On, Stands, begun, begun_by}
 use Rattle.lvm_vol.specs.Log.{lands_id, takes_id, is_got, got_by}
-use Rattle.lvm_vol.specs.Rows.{Follows, Ordered, IsWhole, IsGotOf}
+use Rattle.lvm_vol.specs.Order.{Follows, Ordered, IsWhole, IsGotOf}
 
 module _ {X : Type 0} where
   pub stands-push : (xs : List X) (x y : X) → Stands y (xs ++ x ∷ []) → Stands y xs ⊎ (x ≡ y)

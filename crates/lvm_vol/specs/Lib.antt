@@ -2,6 +2,8 @@ pub mod Facts
 pub mod May
 pub mod Legal
 pub mod Standing
+pub mod Laws
 pub mod Log
+pub mod Order
 pub mod Rows
 pub mod Opened

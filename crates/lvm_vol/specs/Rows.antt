@@ -1,17 +1,16 @@
 -- What the rows of a history stand for, and what holds of them.
-use Rattle.std.specs.Prelude.{◌≡◌, ◌==◌, ℕ, ◌+◌, ◌-◌, ◌*◌, ◌/◌, ◌^◌, ◌<◌, ◌≤◌, Bool, true, false, if◌then◌else◌, List, [], ◌∷◌, ◌++◌, length, map, take, drop, slice_index_or, MatchBool, slice_get, not, ◌&&◌, Option, Some, None, replicate}
+use Rattle.std.specs.Prelude.{◌≡◌, ◌==◌, ℕ, ◌+◌, ◌-◌, ◌*◌, ◌/◌, ◌^◌, ◌<◌, ◌≤◌, Bool, true, false, if◌then◌else◌, List, [], ◌∷◌, length, map, take, drop, slice_index_or, slice_get, not, ◌&&◌, Option, Some, None, replicate}
 use Rattle.std.specs.Simd.{first_chunks}
 use Rattle.lvm_num.specs.Buffer.{zero_sector}
-use Rattle.std.specs.List.{list_any}
 use Rattle.lvm_vol.specs.declared.entry.Vol.TheVariants.{Disk}
-use Rattle.lvm_vol.specs.declared.entry.Outcome.{Outcome}
 use Rattle.lvm_vol.specs.declared.entry.Entry.{Entry}
 use Rattle.lvm_vol.specs.declared.entry.Entry.TheVariants as entry
 use Rattle.lvm_vol.specs.declared.row.Ask.{Ask}
 use Rattle.lvm_vol.specs.declared.row.Row.{Row}
 use Rattle.lvm_vol.specs.declared.row.Row.TheVariants as row
-use Rattle.lvm_vol.specs.Facts.{Request, Fact, Making, Made, Split, Removing, Removed, Begun, Landed, Taken, Cut, On, Stands, begun}
-use Rattle.lvm_vol.specs.Log.{Log, lands_id, takes_id, is_got, needed, is_uncut, blocks_of}
+use Rattle.lvm_vol.specs.Facts.{Request, Fact, Making, Made, Split, Removing, Removed, Begun, Landed, Taken, Cut, On, begun}
+use Rattle.lvm_vol.specs.Order.{Ordered}
+use Rattle.lvm_vol.specs.Log.{Log, is_got, needed, is_uncut, blocks_of}
 
 abbrev pub no_ask : Ask
 no_ask = record { client = 0; vol = Disk 0; at = 0; count = 0; write = false; place = 0 }
@@ -68,31 +67,6 @@ ask_at place r = record { client = r.client; vol = r.vol; at = r.at; count = r.c
 abbrev pub asks_from : ℕ → List Request → List Ask
 asks_from place [] = []
 asks_from place (r ∷ rs) = ask_at place r ∷ asks_from (place + r.count) rs
-
--- a write has a block of data for each that it asks, a read has none
-abbrev pub IsWhole : Request → Type 0
-IsWhole r = MatchBool r.write (length r.blocks ≡ r.count) (r.blocks ≡ [])
-
--- what a request got that landed so
-abbrev pub IsGotOf : Request → Outcome → List (List ℕ) → Type 0
-IsGotOf r how got = MatchBool (is_got how) ((length got ≡ r.count) × (r.write ≡ true → got ≡ r.blocks)) (got ≡ [])
-
--- the entry of this run is about a request that is at this step: it is the next, open, or answered
-abbrev pub Follows : ℕ → List Fact → Fact → Type 0
-Follows run past (Begun r) = (r.run ≡ run) × (r.id ≡ length (begun past) + 1) × IsWhole r
-Follows run past (Landed r how started got) = Stands (Begun r) past × (list_any (lands_id r.id) past ≡ false) × IsGotOf r how got
-Follows run past (Taken r) = Stands (Begun r) past × (list_any (lands_id r.id) past ≡ true) × (list_any (takes_id r.id) past ≡ false)
-Follows run past (Making lv size mode) = Unit {0}
-Follows run past (Made lv) = Unit {0}
-Follows run past (Split from lv) = Unit {0}
-Follows run past (Removing vol) = Unit {0}
-Follows run past (Removed vol) = Unit {0}
-Follows run past Cut = Unit {0}
-Follows run past (On moment) = Unit {0}
-
-abbrev pub Ordered : ℕ → List Fact → List Fact → Type 0
-Ordered run past [] = Unit {0}
-Ordered run past (f ∷ facts) = Follows run past f × Ordered run (past ++ f ∷ []) facts
 
 abbrev pub if_uncut : Bool → ℕ
 if_uncut true = 1

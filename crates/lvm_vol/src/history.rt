@@ -1,13 +1,14 @@
 //! The list of what was asked and answered, in room that is made with it.
-ghost use Rattle.std.specs.Prelude.{◌≡◌, ◌+◌, ◌*◌, ◌%◌, ◌^◌, ◌<◌, ◌≤◌, ◌++◌, [], ◌∷◌, length, IfOk, IsTrue, IsSome, IfSome, Some, option_copied, slice_get, true, false, vec_len, vec_capacity, replicate, take, drop};
+ghost use Rattle.std.specs.Prelude.{◌≡◌, ◌+◌, ◌-◌, ◌*◌, ◌%◌, ◌^◌, ◌<◌, ◌≤◌, ◌++◌, [], ◌∷◌, length, IfOk, IsTrue, IsSome, IfSome, Some, option_copied, slice_get, true, false, vec_len, vec_capacity, replicate, take, drop};
 ghost use Rattle.std.specs.Simd.{first_chunks};
 ghost use Rattle.std.specs.List.{list_any};
 ghost use Rattle.std.specs.Option.{ForSome};
 ghost use Rattle.lvm_num.specs.Buffer.{zero_sector};
+ghost use Rattle.lvm_vol.specs.Order.{Ordered};
 ghost use Rattle.lvm_vol.specs.Rows.{row_of, blocks_first, ask_found, is_open_by, awaited_by, is_answered_by, is_landing, is_taking, entry_kept, IsOneOfAsks};
 ghost use Rattle.lvm_vol.specs.declared.entry.Outcome.TheVariants.{Got};
 ghost use Rattle.lvm_vol.specs.Facts.{Begun, Landed, Taken};
-ghost use Rattle.lvm_vol.specs.Log.{next_id, next_request, asked, request_of, is_open, awaited, is_answered, got_without_bytes, is_plain, plain_fact, spare_entries, spare_bytes, cut_log, is_uncut_after, blocks_begun, blocks_of, entries_of};
+ghost use Rattle.lvm_vol.specs.Log.{next_id, next_request, asked, request_of, is_open, awaited, is_answered, got_without_bytes, is_plain, plain_fact, spare_entries, open_count, landed_count, spare_bytes, cut_log, is_uncut_after, blocks_begun, blocks_of, entries_of};
 
 use crate::entry::{Entry, Outcome, Vol};
 use crate::row::{Ask, Row};
@@ -75,7 +76,9 @@ impl History {
 
     /// The run that it was made for.
     pub fn run(&self) -> u64
-        ensures { result ≡ self.now.run }
+        ensures run { result ≡ self.now.run }
+        // All that it tells is of this run, with each request's entries in their order.
+        ensures ordered { Ordered self.now.run [] self.now.facts }
     {
         self.run
     }
@@ -91,7 +94,8 @@ impl History {
     /// has begun and not landed, one for each that has landed and isn't taken, and one that is kept for
     /// a cut.
     pub fn spare_entries(&self) -> u32
-        ensures { result ≡ spare_entries self.now }
+        ensures spare { result ≡ spare_entries self.now }
+        ensures counted { result ≡ self.now.room - length self.now.facts - 2 * open_count self.now.facts - landed_count self.now.facts - 1 }
     {
         self.room.saturating_sub(self.needed).saturating_sub(1)
     }

@@ -4,6 +4,7 @@
 
 mod entry;
 mod history;
+pub mod laws;
 mod row;
 
 pub use entry::{Entry, Outcome, Vol};
