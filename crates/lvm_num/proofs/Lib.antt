@@ -6,4 +6,5 @@ pub mod MembersLemmas
 pub mod NameLemmas
 pub mod Pairs
 pub mod VolumesLemmas
+pub mod VotesLemmas
 pub mod WordLemmas

@@ -4,6 +4,7 @@
 mod bits;
 mod descriptor;
 mod disks;
+pub mod laws;
 mod name;
 mod pbuf;
 mod place;
