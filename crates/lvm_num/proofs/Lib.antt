@@ -1,9 +1,15 @@
 pub mod BitsLemmas
 pub mod DisksLemmas
+pub mod Fresh
 pub mod MapsLemmas
 pub mod MarksLemmas
 pub mod MembersLemmas
 pub mod NameLemmas
+pub mod Needed
+pub mod Newest
 pub mod Pairs
+pub mod Records
+pub mod Torn
 pub mod VolumesLemmas
+pub mod VotesLemmas
 pub mod WordLemmas

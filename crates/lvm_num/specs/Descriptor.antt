@@ -13,6 +13,10 @@ use Rattle.lvm_num.specs.Name.{is_name}
 abbrev pub member_of : Descriptor → ℕ → Option PvRow
 member_of d disk = find (λ row. row.disk == disk) d.pvs
 
+-- whether the disk is a member's
+abbrev pub is_member : Descriptor → ℕ → Bool
+is_member d disk = list_any (λ row. row.disk == disk) d.pvs
+
 -- the volume of a number, if there is one
 abbrev pub volume_of : Descriptor → ℕ → Option LvRow
 volume_of d number = find (λ row. row.number == number) d.lvs

@@ -1,9 +1,11 @@
 //! What a volume group is: its disks, its volumes and where they lie.
 
-ghost use Rattle.std.specs.Prelude.{◌↔◌, IsTrue};
+ghost use Rattle.std.specs.Prelude.{◌↔◌, ◌≡◌, ◌==◌, IsTrue};
+ghost use Rattle.std.specs.List.{list_any};
+ghost use Rattle.lvm_num.specs.declared.descriptor.PvRow.{PvRow};
 
 use crate::valid::{are_maps, are_volumes, is_size, partition_counts};
-use crate::{Name, Pp, Rows};
+use crate::{DiskSet, Name, Pp, Rows};
 
 /// How the copies of a volume are made equal after a crash (`mklv -w`).
 #[derive(Clone, Copy, Debug, PartialEq, Eq)]
@@ -78,6 +80,8 @@ pub struct Descriptor {
 
 impl Descriptor {
     ghost use Rattle.lvm_num.specs.Descriptor.{IsHead, IsValid};
+    ghost use Rattle.lvm_num.specs.Disks.{has};
+    ghost use Rattle.lvm_num.specs.Votes.{votes_of, votes_in, total_votes, is_enough_to_read, is_enough_to_write};
 
     /// Whether it is one that a record may state.
     pub fn is_valid(&self) -> bool
@@ -104,4 +108,81 @@ impl Descriptor {
             && members <= most_members
             && self.lvs.len() <= most_volumes
     }
+
+    /// The votes of a disk, which has none where it is no member.
+    pub fn votes(&self, disk: u16) -> u32
+        requires { IsValid self.now }
+        ensures { result ≡ votes_of self.now disk }
+    {
+        let pvs = self.pvs.as_slice();
+        if !is_among(pvs, disk) {
+            return 0;
+        }
+        let first = pvs[0].disk == disk;
+        if first && pvs.len() < 3 && !self.even {
+            2
+        } else {
+            1
+        }
+    }
+
+    /// The votes of the members in a set.
+    pub fn votes_in(&self, disks: DiskSet) -> u32
+        requires { IsValid self.now }
+        ensures { result ≡ votes_in self.now (has disks) }
+    {
+        let mut votes = 0;
+        for row in self.pvs.as_slice() {
+            if disks.has(row.disk) {
+                votes += self.votes(row.disk);
+            }
+        }
+        votes
+    }
+
+    /// The votes of all members.
+    pub fn total_votes(&self) -> u32
+        requires { IsValid self.now }
+        ensures { result ≡ total_votes self.now }
+    {
+        let members = self.pvs.len() as u32;
+        if members < 3 && !self.even {
+            members + 1
+        } else {
+            members
+        }
+    }
+
+    /// Whether a group varies on with these votes: more than half of all, or all of them where
+    /// quorum checking is off.
+    pub fn enough_to_read(&self, have: u32) -> bool
+        requires { IsValid self.now }
+        ensures { result ≡ is_enough_to_read self.now have }
+    {
+        let total = self.total_votes();
+        if self.quorum {
+            u64::from(total) < 2 * u64::from(have)
+        } else {
+            total <= have
+        }
+    }
+
+    /// Whether a record that these votes have counts as written, and a session stays on with them:
+    /// more than half of all, or any where quorum checking is off.
+    pub fn enough_to_write(&self, have: u32) -> bool
+        requires { IsValid self.now }
+        ensures { result ≡ is_enough_to_write self.now have }
+    {
+        if self.quorum {
+            u64::from(self.total_votes()) < 2 * u64::from(have)
+        } else {
+            0 < have
+        }
+    }
+}
+
+fn is_among(pvs: &[PvRow], disk: u16) -> bool
+    ensures { result ≡ list_any (λ (row : PvRow). row.disk == disk) pvs.now }
+{
+    pvs.iter().any(|row| row.disk == disk)
 }

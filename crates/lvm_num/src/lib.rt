@@ -4,6 +4,7 @@
 mod bits;
 mod descriptor;
 mod disks;
+pub mod laws;
 mod name;
 mod pbuf;
 mod place;
@@ -20,7 +21,7 @@ pub use disks::DiskSet;
 pub use name::Name;
 pub use pbuf::Pbuf;
 pub use place::{Place, Pp};
-pub use record::{Kind, NoteEntry, Stamp};
+pub use record::{Framed, Kind, NoteEntry, Stamp};
 pub use rows::Rows;
 pub use status::{Status, StatusRow};
 pub use text::Text;

@@ -1,5 +1,7 @@
 //! The records that a disk has below its data.
 
+use crate::Rows;
+
 /// When a record was written: by the moment at which its session began, then by its number
 /// among the record writes of that session.
 #[derive(Clone, Copy, Debug, PartialEq, Eq, PartialOrd, Ord)]
@@ -17,6 +19,14 @@ pub enum Kind {
     Descriptor,
     /// The volume group status area: stale partitions, missing disks and dirty volumes.
     Status,
+}
+
+/// A framed record: a content under its stamp.
+#[derive(Debug, Drop, PartialEq, Eq)]
+pub struct Framed {
+    pub stamp: Stamp,
+    /// At most 571,388 bytes of a descriptor, 31,740 of a status.
+    pub content: Rows<u8>,
 }
 
 /// An entry of a disk's consistency record: a track group of a volume, 256 blocks, from 0.
