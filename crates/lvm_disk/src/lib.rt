@@ -12,6 +12,8 @@ mod queue;
 mod row;
 mod shelf;
 mod tally;
+#[cfg(test)]
+mod tests;
 mod write_log;
 
 pub use injector::{Act, Planned};
