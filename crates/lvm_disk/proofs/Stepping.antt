@@ -53,48 +53,48 @@ same_counts a b same = subst (NoneFalls a) (sym same) (none_falls_at_once a)
 
 start_counts : (old new : Device) (f : Flight) → Starts old new f → NoneFalls old.counts new.counts
 start_counts old new f starts = subst (λ (d : Device). NoneFalls old.counts d.counts) (sym starts.new_is) (record {
-      starts = at_one f.disk old.counts.starts new.counts.starts starts.starts;
-      misses = λ d. omega arith;
-      faults = λ d. omega arith;
-      cuts = omega arith;
-      waits = omega arith;
-    })
+  starts = at_one f.disk old.counts.starts new.counts.starts starts.starts;
+  misses = λ d. omega arith;
+  faults = λ d. omega arith;
+  cuts = omega arith;
+  waits = omega arith;
+})
 
 cut_counts : (old new : Device) → Cuts old new → NoneFalls old.counts new.counts
 cut_counts old new cuts = subst (λ (d : Device). NoneFalls old.counts d.counts) (sym cuts.new_is) (record {
-      starts = λ d. omega arith;
-      misses = λ d. omega arith;
-      faults = λ d. omega arith;
-      cuts = cuts.cuts.later;
-      waits = omega arith;
-    })
+  starts = λ d. omega arith;
+  misses = λ d. omega arith;
+  faults = λ d. omega arith;
+  cuts = cuts.cuts.later;
+  waits = omega arith;
+})
 
 failed_counts : (f : Flight) (old new : Counts) → CountsFailure f old new → NoneFalls old new
 failed_counts f old new counts = ⊎_elim
     (λ miss. subst (NoneFalls old) (sym miss.1.new_is) (record {
-          starts = λ d. omega arith;
-          misses = at_one f.disk old.misses new.misses miss.1.misses;
-          faults = λ d. omega arith;
-          cuts = omega arith;
-          waits = omega arith;
-        }))
+      starts = λ d. omega arith;
+      misses = at_one f.disk old.misses new.misses miss.1.misses;
+      faults = λ d. omega arith;
+      cuts = omega arith;
+      waits = omega arith;
+    }))
     (λ fault. subst (NoneFalls old) (sym fault.1.new_is) (record {
-          starts = λ d. omega arith;
-          misses = λ d. omega arith;
-          faults = at_one f.disk old.faults new.faults fault.1.faults;
-          cuts = omega arith;
-          waits = omega arith;
-        }))
+      starts = λ d. omega arith;
+      misses = λ d. omega arith;
+      faults = at_one f.disk old.faults new.faults fault.1.faults;
+      cuts = omega arith;
+      waits = omega arith;
+    }))
     counts
 
 wait_counts : (old new : Device) → Waits old new → NoneFalls old.counts new.counts
 wait_counts old new waits = subst (λ (d : Device). NoneFalls old.counts d.counts) (sym waits.new_is) (record {
-      starts = λ d. omega arith;
-      misses = λ d. omega arith;
-      faults = λ d. omega arith;
-      cuts = omega arith;
-      waits = waits.waits.later;
-    })
+  starts = λ d. omega arith;
+  misses = λ d. omega arith;
+  faults = λ d. omega arith;
+  cuts = omega arith;
+  waits = waits.waits.later;
+})
 
 dark_counts : (old new : Device) → GoesDark old new → NoneFalls old.counts new.counts
 dark_counts old new dark = ⊎_elim (λ off. same_counts old.counts new.counts (ap (λ (d : Device). d.counts) off.1)) (λ cuts. cut_counts old new cuts) dark

@@ -16,6 +16,6 @@ mod tally;
 mod tests;
 mod write_log;
 
-pub use injector::{Act, Planned};
+pub use injector::{Act, Planned, names_disks};
 pub use memory::MemShelf;
 pub use shelf::{Arrange, Reaped, Shelf, Started};
