@@ -1,5 +1,8 @@
 pub mod Paths
 pub mod CrashImages
+pub mod Rising
+pub mod Stepping
+mod WholeImages
 mod Acting
 mod GivingUp
 mod Darkening

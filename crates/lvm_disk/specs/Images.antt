@@ -1,8 +1,10 @@
 -- The law of sectors: only a start of a write adds crash images.
-use Rattle.std.specs.Prelude.{◌≡◌, ◌⊎◌, ℕ, Some}
-use Rattle.lvm_num.specs.Buffer.{Buffer}
-use Rattle.lvm_disk.specs.Device.{Image, Flight, Device, SameDisks, written, MayLeave}
-use Rattle.lvm_disk.specs.Steps.{Cuts, Starts, EndsDone, EndsFailed}
+use Rattle.std.specs.Prelude.{◌≡◌, ◌⊎◌, ℕ, true, Some, slice_get}
+use Rattle.std.specs.List.{AllByRecursion}
+use Rattle.lvm_num.specs.Buffer.{Buffer, Sector}
+use Rattle.lvm_disk.specs.Device.{Image, Flight, Device, SameDisks, written, MayLeave, IsSector, AreSectors, HasSectors}
+use Rattle.lvm_disk.specs.Steps.{Cuts, Starts, EndsDone, EndsFailed, Arranges}
+use Rattle.lvm_disk.specs.declared.shelf.Arrange.{Arrange}
 
 -- whatever a crash may leave of the new device, it might have left of the old one
 abbrev pub LeavesNoMore : Device → Device → Type 0
@@ -28,3 +30,19 @@ FailedLaw = (old new : Device) (ticket : ℕ) (buf : Buffer) → EndsFailed old 
 -- a start adds only images that differ from an earlier one by its own sectors
 abbrev pub StartLaw : Type 0
 StartLaw = (old new : Device) (f : Flight) → Starts old new f → (image : Image) → MayLeave new image → (before : Image) × MayLeave old before × DiffersBy f before image
+
+-- nor does an arrangement, also one that cuts the power, add any
+abbrev pub ArrangeLaw : Type 0
+ArrangeLaw = (old new : Device) (what : Arrange) → Arranges old new what → LeavesNoMore old new
+
+-- ---- whole sectors
+
+-- each sector of the buffer has 512 bytes
+abbrev pub IsWholeBuffer : Buffer → Type 0
+IsWholeBuffer buf = (i : ℕ) (sector : Sector) → slice_get buf.sectors i ≡ Some sector → IsSector sector
+
+-- where the media has whole sectors, and the writes that are out bring such, so has each crash image
+abbrev pub WholeLaw : Type 0
+WholeLaw =
+    (device : Device) (image : Image) → HasSectors device → AllByRecursion (λ f. f.write ≡ true → IsWholeBuffer f.buf) device.flights → MayLeave device image
+    → AreSectors device.sizes image.sector

@@ -1,6 +1,6 @@
 //! Faults that are injected into a shelf in memory.
-ghost use Rattle.std.specs.Prelude.{◌≡◌, ◌<◌, true, false, length, replicate, IfOk, None, slice_set};
-ghost use Rattle.lvm_disk.specs.Injection.{cut_or};
+ghost use Rattle.std.specs.Prelude.{◌≡◌, ◌<◌, ◌↔◌, IsTrue, true, false, length, replicate, IfOk, None, slice_set};
+ghost use Rattle.lvm_disk.specs.Injection.{cut_or, NamesDisks};
 
 use lvm_num::{Memory, Rows};
 use std::alloc::Global;
@@ -28,6 +28,33 @@ pub enum Act {
 pub struct Planned {
     pub call: u64,
     pub act: Act,
+}
+
+impl Planned {
+    ghost use Rattle.lvm_disk.specs.Injection.{IsOnDisk};
+
+    /// Whether the act's disk, where it has one, is one of so many.
+    pub fn is_on(&self, disks: u16) -> bool
+        ensures { IsTrue result ↔ IsOnDisk disks self.now.act }
+    {
+        match self.act {
+            Act::Fail(disk) => disk < disks,
+            Act::Heal(disk) => disk < disks,
+            _ => true,
+        }
+    }
+}
+
+/// Whether each disk that the plan names is one of so many.
+pub fn names_disks(plan: &[Planned], disks: u16) -> bool
+    ensures { IsTrue result ↔ NamesDisks disks plan.now }
+{
+    for planned in plan {
+        if !planned.is_on(disks) {
+            return false;
+        }
+    }
+    true
 }
 
 /// A plan, and what its acts have made so far.

@@ -12,8 +12,10 @@ mod queue;
 mod row;
 mod shelf;
 mod tally;
+#[cfg(test)]
+mod tests;
 mod write_log;
 
-pub use injector::{Act, Planned};
+pub use injector::{Act, Planned, names_disks};
 pub use memory::MemShelf;
 pub use shelf::{Arrange, Reaped, Shelf, Started};
