@@ -7,6 +7,7 @@ pub mod MembersLemmas
 pub mod NameLemmas
 pub mod Needed
 pub mod Newest
+pub mod Notes
 pub mod Pairs
 pub mod Records
 pub mod Torn

@@ -6,7 +6,7 @@ ghost use Rattle.lvm_num.specs.Votes.{total_votes, ReadMeetsWrite, ReadMeetsRead
 ghost use Rattle.lvm_num.specs.DescriptorBytes.{descriptor_bytes, descriptor_of};
 ghost use Rattle.lvm_num.specs.StatusBytes.{status_bytes, status_of};
 ghost use Rattle.lvm_num.specs.Record.{record_bytes, record_in, NewestIsOne, NewestIsLast, HeldIsRead, ReadIsHeld};
-ghost use Rattle.lvm_num.specs.Note.{note_bytes, note_in};
+ghost use Rattle.lvm_num.specs.Note.{note_bytes, note_in, WrittenIsRead};
 ghost use Rattle.lvm_num.specs.Torn.{FreshIsNeeded, TornIsOldOrNoneOrNew, WholeIsRead, BeforeIsFresh, BeforeIsOlder, BeforeIsKept};
 ghost use Rattle.lvm_num.specs.Worked.{worked, worked_bytes, with_bad_flag, worked_framed, worked_frame, worked_note, worked_note_bytes, with_partitions, with_members, with_volume, not_strict, used_twice, worked_status};
 
@@ -35,6 +35,11 @@ pub fn newest<X>()
 pub fn records_are_exact()
     ensures read { HeldIsRead }
     ensures held { ReadIsHeld }
+{}
+
+/// A note that was written is read.
+pub fn notes_are_exact()
+    ensures { WrittenIsRead }
 {}
 
 /// A write of a record of which any part has landed leaves its slot's old record, none, or the new one,
