@@ -2,8 +2,8 @@
 use Rattle.std.specs.Prelude.{◌≡◌, ℕ, ◌+◌, ◌-◌, ◌/◌, ◌%◌, ◌<◌, ◌≤◌, ◌&&◌, ◌==◌, Bool, List, [], ◌∷◌, length, map, replicate, drop, Option, Some, None, if◌then◌else◌, nat_le, nat_lt, slice_get, slice_index_or, unwrap_or}
 use Rattle.std.specs.Int.{bit_at}
 use Rattle.std.specs.Simd.{first_chunks}
-use Rattle.lvm_num.specs.Buffer.{Buffer, Sector, zero_sector}
-use Rattle.lvm_disk.specs.Device.{Media, Flight, IsSector, written}
+use Rattle.lvm_num.specs.Buffer.{Buffer, Sector, zero_sector, IsSector}
+use Rattle.lvm_disk.specs.Device.{Media, Flight, written}
 
 -- what stands at each sector of disks that are lists of sectors
 abbrev pub media_of : List (List Sector) → Media

