@@ -1,7 +1,6 @@
 -- Acts that are done one after another.
-use Rattle.std.proofs.Common.{◌≡◌, ◌+◌, ◌-◌, ◌<◌, ◌≤◌, ◌==◌, ℕ, zero, suc, List, [], ◌∷◌, Bool, true, false, cond, map, length, drop, Option, Some, None, is_some, refl, sym, ◌∙◌, ap, subst, arith, length-set}
-use Rattle.std.specs.List.{filter, AllByRecursion}
-use Rattle.lvm_disk.specs.Injection.{Injection, NamesDisks, IsOnDisk, due, after_act, after_acts, cut_or, first_cut, next_call, begun}
+use Rattle.std.proofs.Common.{◌≡◌, ℕ, List, [], ◌∷◌, Bool, true, false, length, drop, Option, Some, None, refl, ◌∙◌, ap, length-set}
+use Rattle.lvm_disk.specs.Injection.{Injection, due, after_act, after_acts, first_cut, next_call, begun}
 use Rattle.lvm_disk.specs.declared.injector.Act.{Act}
 use Rattle.lvm_disk.specs.declared.injector.Act.TheVariants.{Fail, Heal, Cut, Pick, Delay}
 use Rattle.lvm_num.specs.Buffer.{Sector}

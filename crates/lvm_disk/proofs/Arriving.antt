@@ -1,11 +1,11 @@
 -- A flight ends in memory.
-use Rattle.std.proofs.Common.{◌≡◌, ◌⊎◌, inl, inr, ◌+◌, ◌<◌, ◌≤◌, [], ◌∷◌, ◌++◌, ℕ, zero, suc, List, Bool, true, false, Option, Some, None, slice_get, IfSome, length, refl, sym, ◌∙◌, ap, subst, arith}
+use Rattle.std.proofs.Common.{◌≡◌, ◌⊎◌, ◌≤◌, [], ◌∷◌, ℕ, zero, suc, List, Bool, true, false, Option, Some, slice_get, IfSome, length, refl, sym, ◌∙◌, ap, subst, arith}
 use Rattle.std.specs.List.{remove}
 use Rattle.lvm_num.specs.Buffer.{Buffer, Sector}
 use Rattle.lvm_disk.specs.Device.{Media, Flight, Device, AreSectors, written}
 use Rattle.lvm_disk.specs.Counts.{Counts}
 use Rattle.lvm_disk.specs.Steps.{BothTold, Removes, Puts, PutsSome, Reads, ChangedAtMost, EndsDone, EndsFailed, CountsFailure}
-use Rattle.lvm_disk.specs.Media.{media_of, sizes_of, Lies, AllLie, written_by}
+use Rattle.lvm_disk.specs.Media.{media_of, sizes_of, AllLie, written_by}
 use Rattle.lvm_disk.specs.Tally.{Tallied}
 use Rattle.lvm_disk.specs.Injection.{Injection}
 use Rattle.lvm_disk.specs.Sound.{IsSound}

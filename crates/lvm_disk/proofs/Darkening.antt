@@ -1,7 +1,7 @@
 -- What a cut by a word leaves is some crash image.
-use Rattle.std.proofs.Common.{◌≡◌, ◌⊎◌, inl, inr, ⊎_elim, ◌+◌, ◌-◌, [], ◌∷◌, ◌++◌, ℕ, zero, suc, List, Bool, true, false, cond, Option, Some, None, unwrap_or, map, length, refl, sym, ◌∙◌, ap, subst}
+use Rattle.std.proofs.Common.{◌≡◌, ◌⊎◌, inl, inr, ⊎_elim, ◌+◌, ◌-◌, [], ◌∷◌, ℕ, List, Bool, true, false, cond, Option, Some, None, unwrap_or, refl, sym, ◌∙◌, ap, subst}
 use Rattle.lvm_num.specs.Buffer.{Buffer, Sector}
-use Rattle.lvm_disk.specs.Device.{Media, Flight, Device, Orders, Range, written, IsInFlight, IsTorn}
+use Rattle.lvm_disk.specs.Device.{Media, Flight, Device, written, IsInFlight, IsTorn}
 use Rattle.lvm_disk.specs.Counts.{Counts}
 use Rattle.lvm_disk.specs.Steps.{PutsSome}
 use Rattle.lvm_disk.specs.Media.{picks, written_by, writes, cut_by}

@@ -1,15 +1,15 @@
 -- A flight starts in memory.
-use Rattle.std.proofs.Common.{◌≡◌, inl, inr, ◌+◌, ◌<◌, ◌≤◌, ◌||◌, ◌==◌, [], ◌∷◌, ◌++◌, ℕ, zero, suc, List, Bool, true, false, cond, Option, Some, None, nat_lt, slice_get, slice_index_or, map, length, refl, sym, ◌∙◌, ap, subst, arith, length-append}
+use Rattle.std.proofs.Common.{◌≡◌, ◌<◌, ◌≤◌, ◌||◌, ◌==◌, [], ◌∷◌, ◌++◌, ℕ, zero, suc, List, Bool, true, false, cond, Option, Some, None, nat_lt, slice_get, slice_index_or, length, refl, sym, ◌∙◌, ap, subst, arith, length-append}
 use Rattle.std.specs.Bool.{MatchBool}
 use Rattle.std.proofs.lemmas.Bool.Decides.{nat_tests}
-use Rattle.lvm_num.specs.Buffer.{Buffer, Sector}
-use Rattle.lvm_disk.specs.Device.{Flight, Range, Device, AreSectors}
+use Rattle.lvm_num.specs.Buffer.{Sector}
+use Rattle.lvm_disk.specs.Device.{Flight, Range, Device}
 use Rattle.lvm_disk.specs.Counts.{Counts, RoseAt}
 use Rattle.lvm_disk.specs.Steps.{IsRange, IsFresh, Logs, Starts}
-use Rattle.lvm_disk.specs.Media.{media_of, sizes_of, Lies, AllLie}
+use Rattle.lvm_disk.specs.Media.{sizes_of, Lies, AllLie}
 use Rattle.lvm_disk.specs.Tally.{Tallied}
 use Rattle.lvm_disk.specs.Injection.{Injection}
-use Rattle.lvm_disk.specs.Tickets.{has_ticket, IsLeastFree}
+use Rattle.lvm_disk.specs.Tickets.{has_ticket}
 use Rattle.lvm_disk.specs.Log.{logged}
 use Rattle.lvm_disk.specs.Sound.{IsSound}
 use Rattle.lvm_disk.specs.Flights.{flight_of, flights_of}

@@ -1,5 +1,5 @@
 -- Flights that are given up, one after another.
-use Rattle.std.proofs.Common.{◌≡◌, ◌+◌, ◌*◌, ◌≤◌, ◌<◌, [], ◌∷◌, ◌++◌, ℕ, zero, suc, List, Bool, true, false, cond, Some, slice_get, slice_index_or, length, map, refl, sym, ◌∙◌, ap, subst, arith, append_assoc, length-append}
+use Rattle.std.proofs.Common.{◌≡◌, ◌+◌, ◌*◌, ◌≤◌, ◌<◌, [], ◌∷◌, ◌++◌, ℕ, suc, List, Bool, true, false, cond, slice_get, slice_index_or, length, map, refl, sym, ◌∙◌, ap, subst, arith, append_assoc, length-append}
 use Rattle.std.specs.List.{remove}
 use Rattle.lvm_num.specs.Buffer.{Buffer, Sector}
 use Rattle.lvm_disk.specs.Device.{Media, Flight, AreSectors}

@@ -1,10 +1,10 @@
 -- Shelves in memory that delay nothing.
-use Rattle.std.proofs.Common.{◌≡◌, ◌⊎◌, inl, inr, ◌+◌, ◌-◌, ◌<◌, ◌≤◌, ◌==◌, [], ◌∷◌, ◌++◌, ℕ, zero, suc, List, Bool, true, false, cond, map, length, Option, Some, None, MatchOption, nat_lt, refl, sym, ◌∙◌, ap, subst, arith}
+use Rattle.std.proofs.Common.{◌≡◌, ◌<◌, ◌==◌, [], ◌∷◌, ◌++◌, ℕ, zero, suc, List, Bool, true, false, cond, map, length, Option, Some, None, MatchOption, nat_lt, refl, sym, ◌∙◌, ap, subst, arith}
 use Rattle.std.proofs.lemmas.Bool.Decides.{nat_tests}
 use Rattle.std.specs.List.{filter, position, remove, AllByRecursion}
-use Rattle.lvm_disk.specs.Device.{Range, Device}
-use Rattle.lvm_disk.specs.Injection.{Injection, due, after_act, after_acts, begun, next_call, cut_planned}
-use Rattle.lvm_disk.specs.Bench.{Bench, Begins, DarkensBy, Departs, StartsThen, StartsAsPlanned, passed, Passes, ReapsThen, ReapsAsPlanned, IsPromptAct, IsPrompt, IsNoWait}
+use Rattle.lvm_disk.specs.Device.{Range}
+use Rattle.lvm_disk.specs.Injection.{Injection, due, after_act, after_acts, next_call, cut_planned}
+use Rattle.lvm_disk.specs.Bench.{Bench, Begins, DarkensBy, StartsAsPlanned, passed, ReapsAsPlanned, IsPromptAct, IsPrompt, IsNoWait}
 use Rattle.lvm_disk.specs.Flights.{flights_of, delays_of}
 use Rattle.lvm_disk.specs.declared.flying.Flying.{Flying}
 use Rattle.lvm_disk.specs.declared.injector.Act.{Act}

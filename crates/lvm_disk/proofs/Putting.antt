@@ -1,8 +1,7 @@
 -- One sector more is put on a disk.
 use Rattle.std.proofs.Common.{◌≡◌, ◌<◌, [], ℕ, zero, suc, List, Bool, slice_index, slice_index_or, length, take, replicate, arith}
 use Rattle.std.proofs.lemmas.List.{length-replicate}
-use Rattle.lvm_num.specs.Buffer.{Sector, zero_sector}
-use Rattle.lvm_disk.specs.Device.{IsSector}
+use Rattle.lvm_num.specs.Buffer.{Sector, zero_sector, IsSector}
 use Rattle.lvm_disk.specs.Media.{put_by, AllSectors}
 
 -- those of the first i sectors of a buffer are put that p picks

@@ -1,11 +1,10 @@
 -- Which flight is next, and which ticket is free.
-use Rattle.std.proofs.Common.{◌≡◌, ◌+◌, ◌-◌, ◌≤◌, ◌<◌, ◌==◌, ◌||◌, [], ◌∷◌, ℕ, zero, suc, List, Bool, true, false, cond, not, Some, None, nat_le, nat_lt, slice_get, slice_set, get_or, length, map, count_by, refl, sym, ◌∙◌, ap, subst, arith, below_more, take, drop, ◌++◌}
+use Rattle.std.proofs.Common.{◌≡◌, ◌+◌, ◌-◌, ◌≤◌, ◌<◌, ◌==◌, ◌||◌, [], ◌∷◌, ℕ, zero, suc, List, Bool, true, false, cond, not, Some, None, nat_le, nat_lt, slice_set, get_or, length, map, refl, sym, ◌∙◌, ap, arith, below_more, take, drop, ◌++◌}
 use Rattle.std.specs.List.{list_any, position, prefix_len, remove}
 use Rattle.std.proofs.lemmas.Bool.Decides.{nat_tests}
 use Rattle.std.proofs.lemmas.List.{map-set}
 use Rattle.std.proofs.lemmas.Grind.{common_steps}
 use Rattle.std.proofs.Math.Seq.{map-set_same}
-use Rattle.lvm_disk.specs.Device.{Flight}
 use Rattle.lvm_disk.specs.Tickets.{has_ticket, IsLeastFree}
 use Rattle.lvm_disk.specs.Flights.{flight_of, flights_of, delays_of}
 use Rattle.lvm_disk.specs.declared.flying.Flying.{Flying}

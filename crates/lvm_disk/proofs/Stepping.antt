@@ -1,19 +1,19 @@
 -- What the calls of a shelf make of it, step by step.
-use Rattle.std.proofs.Common.{◌≡◌, ◌⊎◌, inl, inr, ⊎_elim, ◌+◌, ◌≤◌, [], ◌∷◌, ◌++◌, ℕ, zero, List, Bool, true, false, Option, Some, None, is_some, length, refl, sym, ◌∙◌, ap, subst, arith}
+use Rattle.std.proofs.Common.{◌≡◌, ◌⊎◌, inl, inr, ⊎_elim, ◌≤◌, [], ◌∷◌, ◌++◌, ℕ, List, Bool, true, false, Option, Some, None, is_some, refl, sym, ◌∙◌, ap, subst, arith}
 use Rattle.std.proofs.lemmas.Bool.{cases_eq}
 use Rattle.lvm_num.specs.Buffer.{Buffer}
-use Rattle.lvm_disk.specs.Counts.{Rose, RoseAt, Counts, NoneFalls}
-use Rattle.lvm_disk.specs.Device.{Media, Image, Flight, Device, MayLeave}
-use Rattle.lvm_disk.specs.Steps.{BothTold, StartGives, Starts, Cuts, GoesDark, EndsDone, EndsFailed, Waits, ReapGives, FreedGives, Lights, with_order, Arranges, ArrangeGives, IsMiss, IsFault, CountsFailure}
+use Rattle.lvm_disk.specs.Counts.{RoseAt, Counts, NoneFalls}
+use Rattle.lvm_disk.specs.Device.{Media, Flight, Device, MayLeave}
+use Rattle.lvm_disk.specs.Steps.{BothTold, StartGives, Starts, Cuts, GoesDark, Waits, ReapGives, FreedGives, with_order, Arranges, ArrangeGives, CountsFailure}
 use Rattle.lvm_disk.specs.Paths.{DeviceStep, Started, WasCut, Ended, Broke, Waited, Freed, Lit, Arranged}
-use Rattle.lvm_disk.specs.Images.{LeavesNoMore, DiffersBy}
+use Rattle.lvm_disk.specs.Images.{LeavesNoMore}
 use Rattle.lvm_disk.specs.declared.shelf.Arrange.{Arrange}
 use Rattle.lvm_disk.specs.declared.shelf.Arrange.TheVariants as arrange
 use Rattle.lvm_disk.specs.declared.shelf.Started.{Started as StartAnswer}
 use Rattle.lvm_disk.specs.declared.shelf.Started.TheVariants as started
 use Rattle.lvm_disk.specs.declared.shelf.Reaped.{Reaped}
 use Rattle.lvm_disk.specs.declared.shelf.Reaped.TheVariants as reaped
-use Rattle.lvm_disk.proofs.CrashImages.{cut_leaves, done_leaves, failed_leaves, start_leaves}
+use Rattle.lvm_disk.proofs.CrashImages.{cut_leaves, done_leaves, failed_leaves}
 use Rattle.lvm_disk.proofs.Rising.{none_falls_at_once}
 
 -- ---- each call is one step at most

@@ -1,8 +1,8 @@
 -- Crash images have whole sectors.
-use Rattle.std.proofs.Common.{◌≡◌, ◌⊎◌, ⊎_elim, ◌+◌, ◌-◌, ◌<◌, ◌&&◌, ◌==◌, [], ◌∷◌, ℕ, List, Bool, true, false, cond, Option, Some, None, nat_le, nat_lt, slice_get, slice_index_or, IsSomeAnd, IfSome, refl, sym, subst}
+use Rattle.std.proofs.Common.{◌≡◌, ⊎_elim, ◌+◌, ◌-◌, ◌&&◌, ◌==◌, [], ◌∷◌, ℕ, List, Bool, true, false, cond, Option, Some, None, nat_le, nat_lt, slice_get, IsSomeAnd, IfSome, refl, sym, subst}
 use Rattle.std.specs.List.{AllByRecursion}
-use Rattle.lvm_num.specs.Buffer.{Buffer, Sector}
-use Rattle.lvm_disk.specs.Device.{Media, Image, Flight, Device, image_of, written, IsInFlight, IsCrashImage, IsSector, AreSectors}
+use Rattle.lvm_num.specs.Buffer.{Sector, IsSector}
+use Rattle.lvm_disk.specs.Device.{Media, Image, Flight, image_of, written, IsInFlight, IsCrashImage, AreSectors}
 use Rattle.lvm_disk.specs.Images.{IsWholeBuffer, WholeLaw}
 
 from_buffer : (write a b c : Bool) (o : Option Sector) (x : Sector) → cond (((write && a) && b) && c) o None ≡ Some x → (write ≡ true) × (o ≡ Some x)

@@ -1,8 +1,8 @@
 -- What a shelf in memory does beyond what every shelf does.
-use Rattle.std.specs.Prelude.{◌≡◌, ◌⊎◌, ℕ, ◌+◌, ◌-◌, ◌<◌, ◌==◌, ◌++◌, Bool, true, false, List, [], ◌∷◌, map, length, replicate, Option, Some, None, MatchOption, if◌then◌else◌, slice_get, slice_set}
+use Rattle.std.specs.Prelude.{◌≡◌, ◌⊎◌, ℕ, ◌-◌, ◌==◌, ◌++◌, Bool, true, false, List, [], ◌∷◌, map, length, replicate, Some, None, MatchOption, if◌then◌else◌, slice_get, slice_set}
 use Rattle.std.specs.List.{position, remove, AllByRecursion}
 use Rattle.lvm_num.specs.Buffer.{Sector}
-use Rattle.lvm_disk.specs.Device.{Media, Flight, Range, Device}
+use Rattle.lvm_disk.specs.Device.{Flight, Range, Device}
 use Rattle.lvm_disk.specs.Steps.{BothTold, Cuts}
 use Rattle.lvm_disk.specs.Media.{media_of, sizes_of, cut_by, written_by}
 use Rattle.lvm_disk.specs.Tally.{counts_of}
@@ -45,6 +45,10 @@ fresh_bench disks plan room = record {
   room = room;
 }
 
+-- another plan for the calls to come
+abbrev pub with_plan : Bench → List Planned → Bench
+with_plan bench plan = record bench { injection = record bench.injection { plan = plan } }
+
 -- ---- power cuts
 
 -- The power was cut, and of the sectors that were under way those became new that the word picks.
@@ -62,6 +66,10 @@ pub record Begins (old new : Bench) : Type 0 where
   pub device : MatchOption (cut_planned old.injection) (new.device ≡ old.device) (λ word. (new.device.power ≡ false) × DarkensBy word old.device new.device)
   pub delays : MatchOption (cut_planned old.injection) (new.delays ≡ old.delays) (λ _. new.delays ≡ [])
   pub room : new.room ≡ old.room
+
+-- where the plan doesn't cut the power before the call, no cut is counted
+abbrev pub CutsAsPlanned : Bench → Bench → Type 0
+CutsAsPlanned old new = cut_planned old.injection ≡ None → new.device.counts.cuts ≡ old.device.counts.cuts
 
 -- ---- starts
 

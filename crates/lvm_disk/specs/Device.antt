@@ -1,6 +1,6 @@
 -- What a shelf of disks is to contracts.
-use Rattle.std.specs.Prelude.{◌≡◌, ◌⊎◌, ℕ, ◌+◌, ◌-◌, ◌<◌, ◌&&◌, ◌==◌, Bool, true, List, [], ◌∷◌, length, Option, Some, None, if◌then◌else◌, nat_le, nat_lt, slice_get, slice_index, slice_index_or, IsSomeAnd, IfSome}
-use Rattle.lvm_num.specs.Buffer.{Buffer, Sector}
+use Rattle.std.specs.Prelude.{◌≡◌, ◌⊎◌, ℕ, ◌+◌, ◌-◌, ◌<◌, ◌&&◌, ◌==◌, Bool, true, List, [], ◌∷◌, length, Option, Some, None, if◌then◌else◌, nat_le, nat_lt, slice_get, slice_index_or, IsSomeAnd, IfSome}
+use Rattle.lvm_num.specs.Buffer.{Buffer, Sector, IsSector}
 use Rattle.lvm_disk.specs.declared.shelf.Arrange.{Arrange}
 use Rattle.lvm_disk.specs.Counts.{Counts}
 
@@ -82,11 +82,6 @@ pub record IsCrashImage (media : Image) (flights : List Flight) (image : Image) 
 -- what a loss of power at this moment may leave; where the media is not told, nothing is known to be left
 abbrev pub MayLeave : Device → Image → Type 0
 MayLeave device image = IsSomeAnd device.media (λ media. IsCrashImage (image_of device.sizes media) device.flights image)
-
--- 512 bytes
-pub record IsSector (sector : Sector) : Type 0 where
-  pub long : length sector ≡ 512
-  pub bytes : (i : ℕ) → slice_index sector i < 256
 
 -- the sectors of the disks are 512 bytes each
 abbrev pub AreSectors : List ℕ → Media → Type 0

@@ -3,6 +3,7 @@ use Rattle.std.specs.Prelude.{ℕ, List, map}
 use Rattle.lvm_disk.specs.Device.{Flight}
 use Rattle.lvm_disk.specs.declared.flying.Flying.{Flying}
 
+-- a transfer as contracts see it
 abbrev pub flight_of : Flying → Flight
 flight_of f = record { ticket = f.ticket; disk = f.disk; first = f.first; count = f.count; write = f.write; buf = f.buf }
 

@@ -1,8 +1,8 @@
 -- The law of sectors: only a start of a write adds crash images.
 use Rattle.std.specs.Prelude.{◌≡◌, ◌⊎◌, ℕ, true, Some, slice_get}
 use Rattle.std.specs.List.{AllByRecursion}
-use Rattle.lvm_num.specs.Buffer.{Buffer, Sector}
-use Rattle.lvm_disk.specs.Device.{Image, Flight, Device, SameDisks, written, MayLeave, IsSector, AreSectors, HasSectors}
+use Rattle.lvm_num.specs.Buffer.{Buffer, Sector, IsSector}
+use Rattle.lvm_disk.specs.Device.{Image, Flight, Device, SameDisks, written, MayLeave, AreSectors, HasSectors}
 use Rattle.lvm_disk.specs.Steps.{Cuts, Starts, EndsDone, EndsFailed, Arranges}
 use Rattle.lvm_disk.specs.declared.shelf.Arrange.{Arrange}
 

@@ -1,5 +1,5 @@
 -- Faults that are planned for calls, and what they have made of a shelf in memory.
-use Rattle.std.specs.Prelude.{◌≡◌, ℕ, ◌+◌, ◌-◌, ◌^◌, ◌<◌, ◌==◌, Bool, true, false, List, [], ◌∷◌, map, Option, Some, None, min, slice_set, slice_index_or}
+use Rattle.std.specs.Prelude.{ℕ, ◌+◌, ◌-◌, ◌^◌, ◌<◌, ◌==◌, Bool, true, false, List, [], ◌∷◌, map, Option, Some, None, min, slice_set, slice_index_or}
 use Rattle.std.specs.List.{filter, AllByRecursion}
 use Rattle.lvm_disk.specs.declared.injector.Act.{Act}
 use Rattle.lvm_disk.specs.declared.injector.Act.TheVariants.{Fail, Heal, Cut, Pick, Delay}
@@ -41,6 +41,7 @@ after_act (Cut word) i = i
 after_act (Pick word) i = record i { pick = word }
 after_act (Delay reaps) i = record i { delay = reaps }
 
+-- what some acts change, one after the other
 abbrev pub after_acts : List Act → Injection → Injection
 after_acts [] i = i
 after_acts (act ∷ acts) i = after_acts acts (after_act act i)

@@ -1,5 +1,5 @@
 -- A log of write ranges that may run full.
-use Rattle.std.specs.Prelude.{ℕ, ◌++◌, [], ◌∷◌, List, length, map, Option, Some, None, if◌then◌else◌, nat_lt}
+use Rattle.std.specs.Prelude.{ℕ, ◌++◌, [], ◌∷◌, List, length, Option, Some, None, if◌then◌else◌, nat_lt}
 use Rattle.lvm_disk.specs.Device.{Range}
 use Rattle.lvm_disk.specs.declared.write_log.WriteRange.{WriteRange}
 
@@ -13,5 +13,6 @@ abbrev pub logged : ℕ → Option (List Range) → Range → Option (List Range
 logged room None range = None
 logged room (Some ranges) range = if nat_lt (length ranges) room then Some (ranges ++ range ∷ []) else None
 
+-- a range as contracts see it
 abbrev pub range_of : WriteRange → Range
 range_of r = record { disk = r.disk; first = r.first; count = r.count }

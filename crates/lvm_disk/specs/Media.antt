@@ -1,9 +1,9 @@
 -- Disks in memory, and which sectors a broken write leaves there.
-use Rattle.std.specs.Prelude.{◌≡◌, ℕ, ◌+◌, ◌-◌, ◌/◌, ◌%◌, ◌<◌, ◌≤◌, ◌&&◌, ◌==◌, Bool, List, [], ◌∷◌, length, map, drop, Option, Some, None, if◌then◌else◌, nat_le, nat_lt, slice_get, slice_index_or, unwrap_or}
+use Rattle.std.specs.Prelude.{◌≡◌, ℕ, ◌+◌, ◌-◌, ◌/◌, ◌%◌, ◌<◌, ◌≤◌, ◌&&◌, ◌==◌, Bool, List, [], ◌∷◌, length, map, replicate, drop, Option, Some, None, if◌then◌else◌, nat_le, nat_lt, slice_get, slice_index_or, unwrap_or}
 use Rattle.std.specs.Int.{bit_at}
 use Rattle.std.specs.Simd.{first_chunks}
-use Rattle.lvm_num.specs.Buffer.{Buffer, Sector}
-use Rattle.lvm_disk.specs.Device.{Media, Flight, IsSector, written}
+use Rattle.lvm_num.specs.Buffer.{Buffer, Sector, zero_sector, IsSector}
+use Rattle.lvm_disk.specs.Device.{Media, Flight, written}
 
 -- what stands at each sector of disks that are lists of sectors
 abbrev pub media_of : List (List Sector) → Media
@@ -12,6 +12,10 @@ media_of disks d s = slice_index_or (slice_index_or disks d []) s []
 -- how many sectors each has
 abbrev pub sizes_of : List (List Sector) → List ℕ
 sizes_of disks = map length disks
+
+-- disks of zeros, of these numbers of sectors
+abbrev pub blank_disks_of : List ℕ → List (List Sector)
+blank_disks_of sizes = map (λ count. replicate count zero_sector) sizes
 
 -- bytes as sectors, 512 by 512
 abbrev pub sectors_in : List ℕ → List Sector

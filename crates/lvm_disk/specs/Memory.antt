@@ -1,5 +1,5 @@
 -- What a shelf in memory stands for.
-use Rattle.std.specs.Prelude.{ℕ, List, Some, true, map}
+use Rattle.std.specs.Prelude.{List, Some, true}
 use Rattle.lvm_num.specs.Buffer.{Sector}
 use Rattle.lvm_disk.specs.Device.{Device}
 use Rattle.lvm_disk.specs.Media.{media_of, sizes_of}
@@ -12,6 +12,7 @@ use Rattle.lvm_disk.specs.declared.memory.MemShelf.{MemShelf}
 abbrev pub disks_of : MemShelf → List (List Sector)
 disks_of s = s.disks.items
 
+-- what every shelf is
 abbrev pub device_of : MemShelf → Device
 device_of s = record {
   sizes = sizes_of s.disks.items;
@@ -25,5 +26,6 @@ device_of s = record {
   wrote = s.log.wrote;
 }
 
+-- and with it what is injected
 abbrev pub bench_of : MemShelf → Bench
 bench_of s = record { device = device_of s; injection = s.injector; delays = delays_of s.flights.items; room = s.log.room }

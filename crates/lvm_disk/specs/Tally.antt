@@ -14,5 +14,6 @@ pub record Tallied : Type 0 where
 abbrev pub by_disk : List ℕ → ℕ → ℕ
 by_disk counts disk = slice_index_or counts disk 0
 
+-- the counts by disk
 abbrev pub counts_of : Tallied → Counts
 counts_of t = record { starts = by_disk t.starts; misses = by_disk t.misses; faults = by_disk t.faults; cuts = t.cuts; waits = t.waits }

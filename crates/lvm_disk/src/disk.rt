@@ -1,8 +1,7 @@
 //! A disk in memory.
 ghost use Rattle.std.specs.Prelude.{◌≡◌, ◌+◌, ◌-◌, ◌%◌, ◌≤◌, ◌<◌, [], ◌∷◌, ◌++◌, ℕ, true, length, slice_index_or, slice_get, slice_set, IfOk, OnOk, replicate};
 ghost use Rattle.std.specs.List.{flat_map};
-ghost use Rattle.lvm_num.specs.Buffer.{zero_sector};
-ghost use Rattle.lvm_disk.specs.Device.{IsSector};
+ghost use Rattle.lvm_num.specs.Buffer.{zero_sector, IsSector};
 ghost use Rattle.lvm_disk.specs.Media.{AllSectors, sectors_in, put_by, picks, FilledFrom};
 
 use lvm_num::{Memory, Pbuf};

@@ -1,8 +1,7 @@
 //! A shelf of disks in memory, with faults by plan.
 ghost use Rattle.std.specs.Prelude.{◌≡◌, ◌≤◌, ◌++◌, [], ◌∷◌, length, map, replicate, vec_capacity, IfOk, OnOk};
-ghost use Rattle.lvm_num.specs.Buffer.{zero_sector};
 ghost use Rattle.lvm_disk.specs.Device.{AreSectors};
-ghost use Rattle.lvm_disk.specs.Media.{AllSectors, media_of, sizes_of, sectors_in};
+ghost use Rattle.lvm_disk.specs.Media.{AllSectors, media_of, sizes_of, blank_disks_of, sectors_in};
 ghost use Rattle.lvm_disk.specs.Flights.{flights_of};
 ghost use Rattle.lvm_disk.specs.Sound.{IsSound};
 
@@ -40,13 +39,12 @@ pub struct MemShelf {
 impl MemShelf {
     ghost use Rattle.std.specs.Prelude.{◌≡◌, ◌⊎◌, ◌<◌, ◌≤◌, ◌%◌, ◌==◌, true, false, [], length, map, replicate, slice_index_or, Some, None, IfOk};
     ghost use Rattle.std.specs.List.{All, flat_map, position};
-    ghost use Rattle.lvm_num.specs.Buffer.{zero_sector};
     ghost use Rattle.lvm_disk.specs.Device.{AreSectors};
-    ghost use Rattle.lvm_disk.specs.Media.{media_of, sizes_of, sectors_in};
+    ghost use Rattle.lvm_disk.specs.Media.{media_of, sizes_of, blank_disks_of, sectors_in};
     ghost use Rattle.lvm_disk.specs.Injection.{NamesDisks};
     ghost use Rattle.lvm_disk.specs.Memory.{disks_of, device_of, bench_of};
     ghost use Rattle.lvm_disk.specs.Steps.{IsRange, Starts, StartGives, Waits, ReapGives};
-    ghost use Rattle.lvm_disk.specs.Bench.{fresh_bench, DarkensBy, Begins, Departs, StartsAsPlanned, Passes, ReapsThen, ReapsAsPlanned};
+    ghost use Rattle.lvm_disk.specs.Bench.{fresh_bench, with_plan, DarkensBy, Begins, Departs, StartsAsPlanned, Passes, ReapsThen, ReapsAsPlanned};
 
     /// Disks of zeros, of these numbers of sectors. `log` is the number of writes that are told by their
     /// ranges; once one more was started, none is told.
@@ -58,10 +56,10 @@ impl MemShelf {
     ) -> Result<MemShelf, Memory>
         requires disks { (1 ≤ length sizes.now) × (length sizes.now ≤ 128) }
         requires plan { NamesDisks (length sizes.now) plan }
-        ensures bench { IfOk result (λ shelf. bench_of shelf ≡ fresh_bench (map (λ count. replicate count zero_sector) sizes.now) plan log) }
-        ensures disks { IfOk result (λ shelf. disks_of shelf ≡ map (λ count. replicate count zero_sector) sizes.now) }
+        ensures bench { IfOk result (λ shelf. bench_of shelf ≡ fresh_bench (blank_disks_of sizes.now) plan log) }
+        ensures disks { IfOk result (λ shelf. disks_of shelf ≡ blank_disks_of sizes.now) }
     {
-        MemShelf::over(alloc, blank_disks(alloc, sizes)?, plan, log)
+        MemShelf::from_disks(alloc, blank_disks(alloc, sizes)?, plan, log)
     }
 
     /// Disks with these contents, each of whole sectors.
@@ -77,10 +75,10 @@ impl MemShelf {
         ensures bench { IfOk result (λ shelf. bench_of shelf ≡ fresh_bench (map sectors_in images) plan log) }
         ensures disks { IfOk result (λ shelf. disks_of shelf ≡ map sectors_in images) }
     {
-        MemShelf::over(alloc, image_disks(alloc, images.as_slice())?, plan, log)
+        MemShelf::from_disks(alloc, image_disks(alloc, images.as_slice())?, plan, log)
     }
 
-    fn over(
+    fn from_disks(
         alloc: Global,
         disks: Vec<Disk>,
         plan: Rows<Planned>,
@@ -124,7 +122,7 @@ impl MemShelf {
     /// Replaces the plan. Calls are counted on, and what was done stays done.
     pub fn set_plan(&mut self, plan: Rows<Planned>)
         requires { NamesDisks (length (disks_of self.old)) plan }
-        ensures { bench_of self.new ≡ record (bench_of self.old) { injection = record (bench_of self.old).injection { plan = plan } } }
+        ensures { bench_of self.new ≡ with_plan (bench_of self.old) plan }
     {
         self.injector.set_plan(plan);
     }
@@ -251,8 +249,7 @@ impl Shelf for MemShelf {
     ghost use Rattle.std.specs.Prelude.{◌≡◌, ◌⊎◌, ◌<◌, true, false, [], length, None};
     ghost use Rattle.lvm_disk.specs.Steps.{IsRange, StartGives, ReapGives, FreedGives, Lights, MayArrange, ArrangeGives};
     ghost use Rattle.lvm_disk.specs.Memory.{device_of, bench_of};
-    ghost use Rattle.lvm_disk.specs.Injection.{cut_planned};
-    ghost use Rattle.lvm_disk.specs.Bench.{StartsAsPlanned, ReapsAsPlanned, ArrangesAsTold, IsPrompt, IsNoWait};
+    ghost use Rattle.lvm_disk.specs.Bench.{CutsAsPlanned, StartsAsPlanned, ReapsAsPlanned, ArrangesAsTold, IsPrompt, IsNoWait};
 
     ghost device = { device_of };
 
@@ -279,7 +276,7 @@ impl Shelf for MemShelf {
         requires room { length (device_of self.old).flights < 1024 }
         ensures gives { StartGives (device_of self.old) (device_of self.new) disk first count true buf result }
         ensures planned { StartsAsPlanned (bench_of self.old) (bench_of self.new) (record { disk = disk; first = first; count = count }) true result }
-        ensures uncut { cut_planned (bench_of self.old).injection ≡ None → (device_of self.new).counts.cuts ≡ (device_of self.old).counts.cuts }
+        ensures uncut { CutsAsPlanned (bench_of self.old) (bench_of self.new) }
         ensures prompt { IsPrompt (bench_of self.old) → IsPrompt (bench_of self.new) }
     {
         self.start(disk, first, count, true, buf)
@@ -290,7 +287,7 @@ impl Shelf for MemShelf {
         requires room { length (device_of self.old).flights < 1024 }
         ensures gives { StartGives (device_of self.old) (device_of self.new) disk first count false buf result }
         ensures planned { StartsAsPlanned (bench_of self.old) (bench_of self.new) (record { disk = disk; first = first; count = count }) false result }
-        ensures uncut { cut_planned (bench_of self.old).injection ≡ None → (device_of self.new).counts.cuts ≡ (device_of self.old).counts.cuts }
+        ensures uncut { CutsAsPlanned (bench_of self.old) (bench_of self.new) }
         ensures prompt { IsPrompt (bench_of self.old) → IsPrompt (bench_of self.new) }
     {
         self.start(disk, first, count, false, buf)
@@ -300,7 +297,7 @@ impl Shelf for MemShelf {
         requires { (0 < length (device_of self.old).flights) ⊎ ((device_of self.old).power ≡ false) }
         ensures gives { ReapGives (device_of self.old) (device_of self.new) result }
         ensures planned { ReapsAsPlanned (bench_of self.old) (bench_of self.new) result }
-        ensures uncut { cut_planned (bench_of self.old).injection ≡ None → (device_of self.new).counts.cuts ≡ (device_of self.old).counts.cuts }
+        ensures uncut { CutsAsPlanned (bench_of self.old) (bench_of self.new) }
         ensures prompt { IsPrompt (bench_of self.old) → IsPrompt (bench_of self.new) }
         ensures waits { IsPrompt (bench_of self.old) → IsNoWait result }
     {
@@ -355,7 +352,7 @@ fn room<T>(alloc: Global) -> Result<Vec<T>, Memory>
 }
 
 fn blank_disks(alloc: Global, sizes: &[u64]) -> Result<Vec<Disk>, Memory>
-    ensures disks { IfOk result (λ disks. disks.items ≡ map (λ count. replicate count zero_sector) sizes.now) }
+    ensures disks { IfOk result (λ disks. disks.items ≡ blank_disks_of sizes.now) }
     ensures sectors { IfOk result (λ disks. AreSectors (sizes_of disks.items) (media_of disks.items)) }
 {
     let mut disks = Vec::new(alloc);

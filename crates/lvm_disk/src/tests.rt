@@ -15,30 +15,18 @@ fn shelf(alloc: Global, plan: &[Planned]) -> Result<MemShelf, Fail> {
     Ok(MemShelf::new(alloc, &[16, 16], plan, 8)?)
 }
 
-// A buffer whose first sectors are of one byte.
-fn filled(alloc: Global, number: u32, byte: u8) -> Result<Pbuf, Memory> {
-    let mut buf = Pbuf::fresh(alloc, number)?;
-    for k in 0..8 {
-        buf.set_sector(k, &[byte; 512]);
-    }
-    Ok(buf)
-}
-
 fn start<S: Shelf>(
     shelf: &mut S,
     write: bool,
     disk: u16,
-    first: u64,
-    count: u32,
+    at: (u64, u32),
     buf: Pbuf,
 ) -> Option<u64> {
-    if disk >= shelf.disks()
-        || count < 1
-        || count > 256
-        || first > 1000
-        || first + count as u64 > shelf.sectors(disk)
-        || shelf.flights() >= 1024
-    {
+    let (first, count) = at;
+    if disk >= shelf.disks() || count < 1 || count > 256 || shelf.flights() >= 1024 {
+        return None;
+    }
+    if first > 1000 || first + count as u64 > shelf.sectors(disk) {
         return None;
     }
     let started = if write {
@@ -50,6 +38,32 @@ fn start<S: Shelf>(
         Started::Ticket(ticket) => Some(ticket),
         Started::Dark(_) => None,
     }
+}
+
+// Starts a write of sectors of one byte, which is the buffer's number too.
+fn write<S: Shelf>(
+    alloc: Global,
+    shelf: &mut S,
+    disk: u16,
+    first: u64,
+    count: u32,
+    byte: u8,
+) -> Result<Option<u64>, Memory> {
+    let mut buf = Pbuf::fresh(alloc, byte as u32)?;
+    for k in 0..8 {
+        buf.set_sector(k, &[byte; 512]);
+    }
+    Ok(start(shelf, true, disk, (first, count), buf))
+}
+
+fn read<S: Shelf>(
+    alloc: Global,
+    shelf: &mut S,
+    disk: u16,
+    first: u64,
+    count: u32,
+) -> Result<Option<u64>, Memory> {
+    Ok(start(shelf, false, disk, (first, count), Pbuf::fresh(alloc, 0)?))
 }
 
 #[derive(Clone, Copy, Debug, PartialEq, Eq)]
@@ -73,19 +87,19 @@ fn reap<S: Shelf>(shelf: &mut S) -> Option<End> {
     })
 }
 
-fn byte_at(shelf: &MemShelf, disk: u16, sector: usize) -> Option<u8> {
-    if disk >= shelf.disks() || sector > 1000 {
-        return None;
-    }
-    shelf.image(disk).get(sector * 512 + 511).copied()
-}
-
-fn size<S: Shelf>(shelf: &S, disk: u16) -> Option<u64> {
+fn image(shelf: &MemShelf, disk: u16) -> Option<&[u8]> {
     if disk < shelf.disks() {
-        Some(shelf.sectors(disk))
+        Some(shelf.image(disk))
     } else {
         None
     }
+}
+
+// The last byte of a sector.
+fn byte_at(shelf: &MemShelf, disk: u16, sector: u16) -> Option<u8> {
+    image(shelf, disk)?
+        .get(sector as usize * 512 + 511)
+        .copied()
 }
 
 fn faults<S: Shelf>(shelf: &S, disk: u16) -> Option<u64> {
@@ -102,14 +116,6 @@ fn arrange<S: Shelf>(shelf: &mut S, what: Arrange) -> bool {
         _ => {}
     }
     shelf.arrange(what)
-}
-
-fn image(shelf: &MemShelf, disk: u16) -> Option<&[u8]> {
-    if disk < shelf.disks() {
-        Some(shelf.image(disk))
-    } else {
-        None
-    }
 }
 
 fn one_image(alloc: Global, bytes: Rows<u8>) -> Result<MemShelf, Fail> {
@@ -129,30 +135,20 @@ fn replan(alloc: Global, shelf: &mut MemShelf, plan: &[Planned]) -> Result<(), F
     Ok(())
 }
 
-fn cut(call: u64, word: u64) -> Planned {
-    Planned {
-        call,
-        act: Act::Cut(word),
-    }
+fn at(call: u64, act: Act) -> Planned {
+    Planned { call, act }
 }
 
 #[test]
 fn a_write_is_read_back(rt: HostRuntime) -> Result<(), Fail> {
     let alloc = rt.alloc();
     let mut shelf = shelf(alloc, &[])?;
-    assert_eq!(rt;
-        start(&mut shelf, true, 1, 5, 2, filled(alloc, 0, 7)?),
-        Some(0)
-    );
+    assert_eq!(rt; write(alloc, &mut shelf, 1, 5, 2, 7)?, Some(0));
     assert_eq!(rt; byte_at(&shelf, 1, 5), Some(0));
     assert_eq!(rt; reap(&mut shelf), Some(End::Done(0, 7)));
-    assert_eq!(rt;
-        start(&mut shelf, false, 1, 6, 1, filled(alloc, 1, 9)?),
-        Some(0)
-    );
+    assert_eq!(rt; read(alloc, &mut shelf, 1, 6, 1)?, Some(0));
     assert_eq!(rt; reap(&mut shelf), Some(End::Done(0, 7)));
     assert_eq!(rt; byte_at(&shelf, 1, 6), Some(7));
-    assert_eq!(rt; byte_at(&shelf, 1, 7), Some(0));
     assert_eq!(rt; byte_at(&shelf, 0, 5), Some(0));
     assert_eq!(rt; shelf.calls(), 4);
     Ok(())
@@ -163,28 +159,16 @@ fn a_write_is_read_back(rt: HostRuntime) -> Result<(), Fail> {
 #[test]
 fn a_cut_writes_the_sectors_that_its_word_picks(rt: HostRuntime) -> Result<(), Fail> {
     let alloc = rt.alloc();
-    let mut shelf = shelf(alloc, &[cut(4, 5), cut(4, 2)])?;
-    assert_eq!(rt;
-        start(&mut shelf, true, 0, 1, 2, filled(alloc, 0, 7)?),
-        Some(0)
-    );
-    assert_eq!(rt;
-        start(&mut shelf, false, 0, 9, 4, filled(alloc, 1, 8)?),
-        Some(1)
-    );
-    assert_eq!(rt;
-        start(&mut shelf, true, 1, 3, 1, filled(alloc, 2, 9)?),
-        Some(2)
-    );
+    let mut shelf = shelf(alloc, &[at(4, Act::Cut(5)), at(4, Act::Cut(2))])?;
+    assert_eq!(rt; write(alloc, &mut shelf, 0, 1, 2, 7)?, Some(0));
+    assert_eq!(rt; read(alloc, &mut shelf, 0, 9, 4)?, Some(1));
+    assert_eq!(rt; write(alloc, &mut shelf, 1, 3, 1, 9)?, Some(2));
     assert_eq!(rt; reap(&mut shelf), Some(End::Dark(3)));
     assert_eq!(rt; byte_at(&shelf, 0, 1), Some(7));
     assert_eq!(rt; byte_at(&shelf, 0, 2), Some(0));
     assert_eq!(rt; byte_at(&shelf, 1, 3), Some(9));
-    assert_eq!(rt;
-        start(&mut shelf, true, 0, 1, 1, filled(alloc, 3, 6)?),
-        None
-    );
-    for number in 0..3 {
+    assert_eq!(rt; write(alloc, &mut shelf, 0, 1, 1, 6)?, None);
+    for number in [7, 0, 9] {
         assert_eq!(rt; shelf.next_freed().map(|buf| buf.number()), Some(number));
     }
     assert!(rt; shelf.next_freed().is_none());
@@ -195,37 +179,17 @@ fn a_cut_writes_the_sectors_that_its_word_picks(rt: HostRuntime) -> Result<(), F
 fn a_failed_write_leaves_the_sectors_that_were_picked(rt: HostRuntime) -> Result<(), Fail> {
     let alloc = rt.alloc();
     let plan = [
-        Planned {
-            call: 2,
-            act: Act::Pick(2),
-        },
-        Planned {
-            call: 2,
-            act: Act::Fail(0),
-        },
-        Planned {
-            call: 5,
-            act: Act::Heal(0),
-        },
+        at(2, Act::Pick(2)),
+        at(2, Act::Fail(0)),
+        at(5, Act::Heal(0)),
     ];
     let mut shelf = shelf(alloc, &plan)?;
-    assert_eq!(rt;
-        start(&mut shelf, true, 0, 4, 3, filled(alloc, 0, 7)?),
-        Some(0)
-    );
+    assert_eq!(rt; write(alloc, &mut shelf, 0, 4, 3, 7)?, Some(0));
     assert_eq!(rt; reap(&mut shelf), Some(End::Failed(0)));
-    assert_eq!(rt; byte_at(&shelf, 0, 4), Some(0));
     assert_eq!(rt; byte_at(&shelf, 0, 5), Some(7));
-    assert_eq!(rt; byte_at(&shelf, 0, 6), Some(0));
     assert_eq!(rt; faults(&shelf, 0), Some(1));
-    assert_eq!(rt;
-        start(&mut shelf, false, 0, 5, 1, filled(alloc, 1, 9)?),
-        Some(0)
-    );
-    assert_eq!(rt;
-        start(&mut shelf, false, 0, 5, 1, filled(alloc, 2, 9)?),
-        Some(1)
-    );
+    assert_eq!(rt; read(alloc, &mut shelf, 0, 5, 1)?, Some(0));
+    assert_eq!(rt; read(alloc, &mut shelf, 0, 5, 1)?, Some(1));
     assert_eq!(rt; reap(&mut shelf), Some(End::Done(0, 7)));
     assert_eq!(rt; faults(&shelf, 0), Some(1));
     Ok(())
@@ -234,19 +198,10 @@ fn a_failed_write_leaves_the_sectors_that_were_picked(rt: HostRuntime) -> Result
 #[test]
 fn a_delayed_transfer_is_passed_over(rt: HostRuntime) -> Result<(), Fail> {
     let alloc = rt.alloc();
-    let plan = [Planned {
-        call: 1,
-        act: Act::Delay(2),
-    }];
+    let plan = [at(1, Act::Delay(2))];
     let mut shelf = shelf(alloc, &plan)?;
-    assert_eq!(rt;
-        start(&mut shelf, true, 0, 4, 1, filled(alloc, 0, 7)?),
-        Some(0)
-    );
-    assert_eq!(rt;
-        start(&mut shelf, true, 0, 4, 1, filled(alloc, 1, 8)?),
-        Some(1)
-    );
+    assert_eq!(rt; write(alloc, &mut shelf, 0, 4, 1, 7)?, Some(0));
+    assert_eq!(rt; write(alloc, &mut shelf, 0, 4, 1, 8)?, Some(1));
     assert_eq!(rt; reap(&mut shelf), Some(End::Done(1, 8)));
     assert_eq!(rt; reap(&mut shelf), Some(End::Empty));
     assert_eq!(rt; reap(&mut shelf), Some(End::Done(0, 7)));
@@ -258,22 +213,11 @@ fn a_delayed_transfer_is_passed_over(rt: HostRuntime) -> Result<(), Fail> {
 fn the_least_free_ticket_is_used_again(rt: HostRuntime) -> Result<(), Fail> {
     let alloc = rt.alloc();
     let mut shelf = shelf(alloc, &[])?;
-    assert_eq!(rt;
-        start(&mut shelf, true, 0, 0, 1, filled(alloc, 0, 1)?),
-        Some(0)
-    );
-    assert_eq!(rt;
-        start(&mut shelf, true, 0, 1, 1, filled(alloc, 1, 2)?),
-        Some(1)
-    );
+    assert_eq!(rt; write(alloc, &mut shelf, 0, 0, 1, 1)?, Some(0));
+    assert_eq!(rt; write(alloc, &mut shelf, 0, 1, 1, 2)?, Some(1));
     assert_eq!(rt; reap(&mut shelf), Some(End::Done(0, 1)));
-    assert_eq!(rt;
-        start(&mut shelf, true, 0, 2, 1, filled(alloc, 2, 3)?),
-        Some(0)
-    );
-    assert_eq!(rt; shelf.flights(), 2);
+    assert_eq!(rt; write(alloc, &mut shelf, 0, 2, 1, 3)?, Some(0));
     assert_eq!(rt; reap(&mut shelf), Some(End::Done(1, 2)));
-    assert_eq!(rt; reap(&mut shelf), Some(End::Done(0, 3)));
     Ok(())
 }
 
@@ -282,21 +226,12 @@ fn arrangements_fail_heal_and_cut(rt: HostRuntime) -> Result<(), Fail> {
     let alloc = rt.alloc();
     let mut shelf = shelf(alloc, &[])?;
     assert!(rt; arrange(&mut shelf, Arrange::Fail(1)));
-    assert_eq!(rt;
-        start(&mut shelf, true, 1, 0, 1, filled(alloc, 0, 1)?),
-        Some(0)
-    );
+    assert_eq!(rt; write(alloc, &mut shelf, 1, 0, 1, 1)?, Some(0));
     assert_eq!(rt; reap(&mut shelf), Some(End::Failed(0)));
     assert!(rt; arrange(&mut shelf, Arrange::Heal(1)));
-    assert_eq!(rt;
-        start(&mut shelf, true, 1, 0, 1, filled(alloc, 1, 2)?),
-        Some(0)
-    );
+    assert_eq!(rt; write(alloc, &mut shelf, 1, 0, 1, 2)?, Some(0));
     assert_eq!(rt; reap(&mut shelf), Some(End::Done(0, 2)));
-    assert_eq!(rt;
-        start(&mut shelf, true, 1, 1, 1, filled(alloc, 2, 3)?),
-        Some(0)
-    );
+    assert_eq!(rt; write(alloc, &mut shelf, 1, 1, 1, 3)?, Some(0));
     assert!(rt; arrange(&mut shelf, Arrange::Cut(1)));
     assert_eq!(rt; shelf.flights(), 0);
     assert_eq!(rt; byte_at(&shelf, 1, 1), Some(3));
@@ -313,7 +248,6 @@ fn images_are_taken_and_given_back(rt: HostRuntime) -> Result<(), Fail> {
     let kept = bytes.clone()?;
     let shelf = one_image(alloc, Rows::new(bytes))?;
     assert_eq!(rt; shelf.disks(), 1);
-    assert_eq!(rt; size(&shelf, 0), Some(2));
     assert_eq!(rt; image(&shelf, 0), Some(kept.as_slice()));
     Ok(())
 }
@@ -321,16 +255,10 @@ fn images_are_taken_and_given_back(rt: HostRuntime) -> Result<(), Fail> {
 #[test]
 fn a_plan_may_be_replaced(rt: HostRuntime) -> Result<(), Fail> {
     let alloc = rt.alloc();
-    let mut shelf = shelf(alloc, &[cut(2, 0)])?;
-    replan(alloc, &mut shelf, &[cut(3, 1)])?;
-    assert_eq!(rt;
-        start(&mut shelf, true, 0, 0, 1, filled(alloc, 0, 1)?),
-        Some(0)
-    );
-    assert_eq!(rt;
-        start(&mut shelf, true, 0, 1, 1, filled(alloc, 1, 2)?),
-        Some(1)
-    );
+    let mut shelf = shelf(alloc, &[at(2, Act::Cut(0))])?;
+    replan(alloc, &mut shelf, &[at(3, Act::Cut(1))])?;
+    assert_eq!(rt; write(alloc, &mut shelf, 0, 0, 1, 1)?, Some(0));
+    assert_eq!(rt; write(alloc, &mut shelf, 0, 1, 1, 2)?, Some(1));
     assert_eq!(rt; reap(&mut shelf), Some(End::Dark(2)));
     assert_eq!(rt; byte_at(&shelf, 0, 0), Some(1));
     assert_eq!(rt; byte_at(&shelf, 0, 1), Some(0));

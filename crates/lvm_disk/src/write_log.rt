@@ -6,6 +6,7 @@ use lvm_num::Memory;
 use std::alloc::Global;
 use std::marker::Model;
 
+/// A run of sectors of a disk that was written.
 #[derive(Clone, Copy, Debug, PartialEq, Eq)]
 pub struct WriteRange {
     pub disk: u16,

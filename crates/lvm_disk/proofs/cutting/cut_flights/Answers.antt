@@ -1,4 +1,4 @@
-use Rattle.std.proofs.Common.{◌≡◌, ◌+◌, ◌<◌, ◌∷◌, length, vec_capacity, refl, arith}
+use Rattle.std.proofs.Common.{◌+◌, ◌<◌, vec_capacity, arith}
 use Rattle.lvm_disk.specs.Media.{writes}
 use Rattle.lvm_disk.specs.Flights.{flight_of, flights_of}
 use Rattle.lvm_disk.proofs.GivingUp.{headed, lies_next, few_more, one_cut}

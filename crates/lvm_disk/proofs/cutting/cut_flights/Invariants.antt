@@ -1,5 +1,4 @@
 use Rattle.std.proofs.Common.{length, vec_capacity}
-use Rattle.lvm_disk.specs.Media.{media_of, sizes_of}
 use Rattle.lvm_disk.specs.Flights.{flights_of}
 use Rattle.lvm_disk.proofs.GivingUp.{CutSoFar}
 use Rattle.lvm_disk.proofs.cutting.cut_flights.Given as goal

@@ -1,4 +1,4 @@
-use Rattle.std.proofs.Common.{◌≡◌, ◌∙◌, sym}
+use Rattle.std.proofs.Common.{◌∙◌, sym}
 use Rattle.lvm_disk.proofs.Queues.{none_taken, fewer, taken_more, least_free}
 use Rattle.lvm_disk.proofs.queue.free_ticket.Goals as goal
 

@@ -1,4 +1,4 @@
-use Rattle.std.proofs.Common.{◌≡◌, ◌∙◌, ◌+◌, ◌≤◌, length, sym, ap, arith, refl, ℕ}
+use Rattle.std.proofs.Common.{◌≡◌, ◌∙◌, length, ap, arith, refl, ℕ}
 use Rattle.lvm_disk.specs.Flights.{delays_of}
 use Rattle.lvm_disk.proofs.Queues.{one_passed, all_lowered, lowered, length-delays}
 use Rattle.lvm_disk.proofs.queue.pass_over.Goals as goal

@@ -1,5 +1,3 @@
-use Rattle.std.proofs.Common.{◌≡◌}
-use Rattle.lvm_disk.specs.Flights.{flights_of, delays_of}
 use Rattle.lvm_disk.proofs.Queues.{PassedSoFar}
 use Rattle.lvm_disk.proofs.queue.pass_over.Given as goal
 

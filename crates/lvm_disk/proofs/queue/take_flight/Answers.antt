@@ -1,4 +1,4 @@
-use Rattle.std.proofs.Common.{◌≡◌, ◌++◌, ◌∙◌, ◌-◌, ℕ, List, length, take, drop, map, ap, arith}
+use Rattle.std.proofs.Common.{◌∙◌, List, length, ap, arith}
 use Rattle.lvm_disk.specs.Bench.{passed}
 use Rattle.lvm_disk.specs.Flights.{flight_of, flights_of, delays_of}
 use Rattle.lvm_disk.specs.declared.flying.Flying.{Flying}

@@ -1,6 +1,5 @@
-use Rattle.std.proofs.Common.{◌≡◌, ℕ, length, refl, sym, ap}
-use Rattle.lvm_disk.specs.Device.{Media}
-use Rattle.lvm_disk.specs.Media.{media_of, sizes_of, written_by}
+use Rattle.std.proofs.Common.{ℕ, length, refl, sym, ap}
+use Rattle.lvm_disk.specs.Media.{media_of, sizes_of}
 use Rattle.lvm_disk.specs.Tally.{counts_of}
 use Rattle.lvm_disk.specs.Flights.{flight_of, flights_of}
 use Rattle.lvm_disk.specs.Memory.{device_of}

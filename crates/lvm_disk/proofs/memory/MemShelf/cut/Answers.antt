@@ -1,4 +1,4 @@
-use Rattle.std.proofs.Common.{◌≡◌, inr, refl, ap}
+use Rattle.std.proofs.Common.{inr, ap}
 use Rattle.lvm_disk.specs.Flights.{flights_of}
 use Rattle.lvm_disk.specs.Media.{media_of}
 use Rattle.lvm_disk.specs.Tally.{counts_of}

@@ -1,11 +1,9 @@
-use Rattle.std.proofs.Common.{◌≡◌, ◌++◌, ◌∷◌, [], ◌∙◌, ◌<◌, List, length, false, subst, ap, arith}
-use Rattle.lvm_disk.specs.Device.{Flight}
+use Rattle.std.proofs.Common.{◌≡◌, ◌++◌, ◌∷◌, [], ◌∙◌, List, false, subst, ap}
 use Rattle.lvm_disk.specs.Flights.{flight_of, flights_of}
 use Rattle.lvm_disk.specs.Tally.{counts_of}
 use Rattle.lvm_disk.specs.Tickets.{has_ticket}
 use Rattle.lvm_disk.specs.Memory.{device_of}
 use Rattle.lvm_disk.specs.declared.flying.Flying.{Flying}
-use Rattle.lvm_disk.proofs.GivingUp.{length-flights}
 use Rattle.lvm_disk.proofs.Departing.{started, flights_more, range_lies, sound_departed}
 use Rattle.lvm_disk.proofs.memory.MemShelf.depart.Goals as goal
 

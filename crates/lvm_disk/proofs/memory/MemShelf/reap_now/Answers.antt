@@ -1,4 +1,4 @@
-use Rattle.std.proofs.Common.{◌≡◌, ◌==◌, ◌∙◌, ℕ, List, sym, ap}
+use Rattle.std.proofs.Common.{◌==◌, ◌∙◌, List, sym, ap}
 use Rattle.std.specs.List.{position}
 use Rattle.lvm_disk.specs.Flights.{delays_of}
 use Rattle.lvm_disk.specs.declared.flying.Flying.{Flying}

@@ -1,4 +1,4 @@
-use Rattle.std.proofs.Common.{◌≡◌, ◌<◌, ℕ, length, arith, subst}
+use Rattle.std.proofs.Common.{◌≡◌, ◌<◌, length, arith, subst}
 use Rattle.lvm_disk.specs.Steps.{ReapGives}
 use Rattle.lvm_disk.specs.Memory.{device_of, bench_of}
 use Rattle.lvm_disk.specs.declared.shelf.Reaped.{Reaped}
