@@ -1,9 +1,10 @@
 //! The list of what was asked and answered, in room that is made with it.
-ghost use Rattle.std.specs.Prelude.{◌≡◌, ◌+◌, ◌-◌, ◌*◌, ◌%◌, ◌^◌, ◌<◌, ◌≤◌, ◌++◌, [], ◌∷◌, length, IfOk, IsTrue, IsSome, IfSome, Some, option_copied, slice_get, true, false, vec_len, vec_capacity, replicate, take, drop};
+ghost use Rattle.std.specs.Prelude.{◌≡◌, ◌↔◌, ◌+◌, ◌-◌, ◌*◌, ◌%◌, ◌^◌, ◌<◌, ◌≤◌, ◌++◌, [], ◌∷◌, length, IfOk, IsTrue, IsSome, IfSome, Some, option_copied, slice_get, true, false, vec_len, vec_capacity, replicate, take, drop};
 ghost use Rattle.std.specs.Simd.{first_chunks};
 ghost use Rattle.std.specs.List.{list_any};
 ghost use Rattle.std.specs.Option.{ForSome};
 ghost use Rattle.lvm_num.specs.Buffer.{zero_sector};
+ghost use Rattle.lvm_vol.specs.May.{known, May};
 ghost use Rattle.lvm_vol.specs.Order.{Ordered};
 ghost use Rattle.lvm_vol.specs.Rows.{row_of, blocks_first, ask_found, is_open_by, awaited_by, is_answered_by, is_landing, is_taking, entry_kept, IsOneOfAsks};
 ghost use Rattle.lvm_vol.specs.declared.entry.Outcome.TheVariants.{Got};
@@ -11,7 +12,9 @@ ghost use Rattle.lvm_vol.specs.Facts.{Begun, Landed, Taken};
 ghost use Rattle.lvm_vol.specs.Log.{next_id, next_request, asked, request_of, is_open, awaited, is_answered, got_without_bytes, is_plain, plain_fact, spare_entries, open_count, landed_count, spare_bytes, cut_log, is_uncut_after, blocks_begun, blocks_of, entries_of};
 
 use crate::entry::{Entry, Outcome, Vol};
+use crate::fits::{has_landed, is_taken};
 use crate::row::{Ask, Row};
+use crate::values::is_allowed;
 use lvm_num::Memory;
 use std::alloc::Global;
 use std::marker::Model;
@@ -230,6 +233,14 @@ impl History {
         }
     }
 
+    /// Whether the block of the volume may have this value now: its values are unknown, or this is one
+    /// of them. Looks through all entries.
+    pub fn may_of(&self, vol: Vol, block: u64, value: &[u8; 512]) -> bool
+        ensures { IsTrue result ↔ May (known self.now.facts vol block) value.now }
+    {
+        is_allowed(&self.rows, &self.asks, &self.blocks, vol, block, value)
+    }
+
     /// The entry at this index, from 0.
     pub fn entry(&self, k: u32) -> Entry
         requires { k < length self.now.facts }
@@ -315,20 +326,6 @@ fn ask_of(asks: &[Ask], id: u64) -> Option<Ask>
     } else {
         asks.get((id - 1) as usize).copied()
     }
-}
-
-// Whether the request of this number has landed.
-fn has_landed(rows: &[Row], id: u64) -> bool
-    ensures { result ≡ list_any (is_landing id) rows.now }
-{
-    rows.iter().any(|row| matches!(row, Row::Landed { id: landed, .. } if *landed == id))
-}
-
-// Whether the answer of the request of this number is taken.
-fn is_taken(rows: &[Row], id: u64) -> bool
-    ensures { result ≡ list_any (is_taking id) rows.now }
-{
-    rows.iter().any(|row| matches!(row, Row::Taken { id: taken, .. } if *taken == id))
 }
 
 // Whether the request of this number has begun and not landed.
