@@ -5,3 +5,4 @@ pub mod Entering
 pub mod Knowing
 pub mod Legality
 pub mod Looking
+pub mod Tests

@@ -56,15 +56,15 @@ any_map : {X Y : Type 0} (p : Y → Bool) (f : X → Y) (xs : List X) → list_a
 any_map p f [] = refl
 any_map p f (x ∷ xs) = ap (λ (t : Bool). p (f x) || t) (any_map p f xs)
 
-and_true : (a : Bool) → (a && true) ≡ a
+pub and_true : (a : Bool) → (a && true) ≡ a
 and_true true = refl
 and_true false = refl
 
-and_false : (a : Bool) → (a && false) ≡ false
+pub and_false : (a : Bool) → (a && false) ≡ false
 and_false true = refl
 and_false false = refl
 
-or_false : (a : Bool) → (a || false) ≡ a
+pub or_false : (a : Bool) → (a || false) ≡ a
 or_false true = refl
 or_false false = refl
 
@@ -86,7 +86,7 @@ not_or : (a b : Bool) → not (a || b) ≡ (not a && not b)
 not_or true b = refl
 not_or false b = refl
 
-equal : (n : ℕ) → (n == n) ≡ true
+pub equal : (n : ℕ) → (n == n) ≡ true
 equal n = grind (arith, nat_tests)
 
 -- which writes are open, told from the front
@@ -213,7 +213,7 @@ open_known p facts vol b = open_after p facts vol b nothing_known
 
 -- and of rows
 
-eq_comm : (a b : ℕ) → (a == b) ≡ (b == a)
+pub eq_comm : (a b : ℕ) → (a == b) ≡ (b == a)
 eq_comm a b = by_test (a == b) refl
   where
     by_test : (t : Bool) → (a == b) ≡ t → t ≡ (b == a)

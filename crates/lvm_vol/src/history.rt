@@ -4,6 +4,7 @@ ghost use Rattle.std.specs.Simd.{first_chunks};
 ghost use Rattle.std.specs.List.{list_any};
 ghost use Rattle.std.specs.Option.{ForSome};
 ghost use Rattle.lvm_num.specs.Buffer.{zero_sector};
+ghost use Rattle.lvm_vol.specs.Legal.{Legal};
 ghost use Rattle.lvm_vol.specs.May.{known, May};
 ghost use Rattle.lvm_vol.specs.Order.{Ordered};
 ghost use Rattle.lvm_vol.specs.Rows.{row_of, blocks_first, ask_found, is_open_by, awaited_by, is_answered_by, is_landing, is_taking, entry_kept, IsOneOfAsks};
@@ -12,7 +13,7 @@ ghost use Rattle.lvm_vol.specs.Facts.{Begun, Landed, Taken};
 ghost use Rattle.lvm_vol.specs.Log.{next_id, next_request, asked, request_of, is_open, awaited, is_answered, got_without_bytes, is_plain, plain_fact, spare_entries, open_count, landed_count, spare_bytes, cut_log, is_uncut_after, blocks_begun, blocks_of, entries_of};
 
 use crate::entry::{Entry, Outcome, Vol};
-use crate::fits::{has_landed, is_taken};
+use crate::fits::{has_landed, is_legal, is_taken};
 use crate::row::{Ask, Row};
 use crate::values::is_allowed;
 use lvm_num::Memory;
@@ -239,6 +240,15 @@ impl History {
         ensures { IsTrue result ↔ May (known self.now.facts vol block) value.now }
     {
         is_allowed(&self.rows, &self.asks, &self.blocks, vol, block, value)
+    }
+
+    /// Whether the history is legal: requests are numbered, landed and taken in their order, each lands
+    /// as one of its kind may, moments rise, and each read got values that its blocks might have then.
+    /// Looks through all entries for each of them.
+    pub fn is_legal(&self) -> bool
+        ensures { IsTrue result ↔ Legal self.now.facts }
+    {
+        is_legal(&self.rows, &self.asks, &self.blocks)
     }
 
     /// The entry at this index, from 0.
