@@ -5,4 +5,4 @@ pub mod Entering
 pub mod Knowing
 pub mod Legality
 pub mod Looking
-pub mod Tests
+pub mod Judging

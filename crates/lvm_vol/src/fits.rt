@@ -9,7 +9,7 @@ ghost use Rattle.lvm_vol.specs.Fitting.{is_beginning, is_begin, is_earlier_on, i
 
 use crate::entry::Outcome;
 use crate::row::{Ask, Row};
-use crate::values::{ask_or_none, is_allowed};
+use crate::values::{Block, ask_or_none, is_allowed};
 
 /// Whether the request of this number has landed.
 pub fn has_landed(rows: &[Row], id: u64) -> bool
@@ -78,14 +78,11 @@ fn may_get(before: &[Row], id: u64, asks: &[Ask], blocks: &[[u8; 512]]) -> bool
     }
     for k in 0..ask.count {
         let place = (ask.place + u64::from(k)) as usize;
-        if !is_allowed(
-            before,
-            asks,
-            blocks,
-            ask.vol,
-            ask.at + u64::from(k),
-            &blocks[place],
-        ) {
+        let block = Block {
+            vol: ask.vol,
+            number: ask.at + u64::from(k),
+        };
+        if !is_allowed(before, asks, blocks, block, &blocks[place]) {
             return false;
         }
     }

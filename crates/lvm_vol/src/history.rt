@@ -15,7 +15,7 @@ ghost use Rattle.lvm_vol.specs.Log.{next_id, next_request, asked, request_of, is
 use crate::entry::{Entry, Outcome, Vol};
 use crate::fits::{has_landed, is_legal, is_taken};
 use crate::row::{Ask, Row};
-use crate::values::is_allowed;
+use crate::values::{Block, is_allowed};
 use lvm_num::Memory;
 use std::alloc::Global;
 use std::marker::Model;
@@ -239,7 +239,8 @@ impl History {
     pub fn may_of(&self, vol: Vol, block: u64, value: &[u8; 512]) -> bool
         ensures { IsTrue result ↔ May (known self.now.facts vol block) value.now }
     {
-        is_allowed(&self.rows, &self.asks, &self.blocks, vol, block, value)
+        let block = Block { vol, number: block };
+        is_allowed(&self.rows, &self.asks, &self.blocks, block, value)
     }
 
     /// Whether the history is legal: requests are numbered, landed and taken in their order, each lands
@@ -257,6 +258,13 @@ impl History {
         ensures { slice_get (entries_of self.now.facts) k ≡ Some result }
     {
         entry_of(&self.rows[k as usize], &self.asks)
+    }
+
+    /// How many blocks it has, at places from 0 on.
+    pub fn block_count(&self) -> u64
+        ensures { result ≡ blocks_begun self.now.facts }
+    {
+        self.blocks.len() as u64
     }
 
     /// The block at a place: a write's data, what a read got, or zeros.

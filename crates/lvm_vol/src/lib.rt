@@ -11,3 +11,6 @@ mod values;
 
 pub use entry::{Entry, Outcome, Vol};
 pub use history::History;
+
+#[cfg(test)]
+mod tests;

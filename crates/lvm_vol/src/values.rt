@@ -28,6 +28,13 @@ pub struct Seen {
     pub off: bool,
 }
 
+/// A block of a disk or of a volume.
+#[derive(Clone, Copy)]
+pub struct Block {
+    pub vol: Vol,
+    pub number: u64,
+}
+
 /// Which of the open writes of a block are looked for.
 #[derive(Clone, Copy)]
 pub enum Sought {
@@ -58,18 +65,18 @@ pub fn ask_or_none(asks: &[Ask], id: u64) -> Ask
 }
 
 /// Whether the request is over the block of the volume.
-fn is_over(ask: &Ask, vol: Vol, block: u64) -> bool
-    ensures { result ≡ is_over_ask ask.now vol block }
+fn is_over(ask: &Ask, block: Block) -> bool
+    ensures { result ≡ is_over_ask ask.now block.vol block.number }
 {
-    ask.vol == vol && ask.at <= block && block - ask.at < u64::from(ask.count)
+    ask.vol == block.vol && ask.at <= block.number && block.number - ask.at < u64::from(ask.count)
 }
 
 /// Whether the request brings this value to the block, or has got it there.
-fn brings(ask: &Ask, blocks: &[[u8; 512]], block: u64, value: &[u8; 512]) -> bool
-    requires { is_over_ask ask.now ask.now.vol block ≡ true }
-    ensures { result ≡ bytes_eq (block_of (blocks_at blocks.now ask.now) ask.now.at block) value.now }
+fn brings(ask: &Ask, blocks: &[[u8; 512]], block: Block, value: &[u8; 512]) -> bool
+    requires { is_over_ask ask.now block.vol block.number ≡ true }
+    ensures { result ≡ bytes_eq (block_of (blocks_at blocks.now ask.now) ask.now.at block.number) value.now }
 {
-    let k = ask.place.saturating_add(block - ask.at);
+    let k = ask.place.saturating_add(block.number - ask.at);
     match blocks.get(k as usize) {
         Some(data) => data.as_slice() == value.as_slice(),
         None => false,
@@ -77,24 +84,24 @@ fn brings(ask: &Ask, blocks: &[[u8; 512]], block: u64, value: &[u8; 512]) -> boo
 }
 
 /// Whether the row ends the write of this number, if it is open at the block.
-fn ends(row: &Row, id: u64, vol: Vol, block: u64) -> bool
-    ensures { result ≡ is_ending id vol block row.now }
+fn ends(row: &Row, id: u64, block: Block) -> bool
+    ensures { result ≡ is_ending id block.vol block.number row.now }
 {
     match *row {
         Row::Landed { id: landed, .. } => landed == id,
         Row::Cut => true,
-        Row::Making { lv, blocks, .. } => Vol::Lv(lv) == vol && block < blocks,
-        Row::Split { lv, .. } => Vol::Lv(lv) == vol,
-        Row::Removed { vol: gone } => gone == vol,
+        Row::Making { lv, blocks, .. } => Vol::Lv(lv) == block.vol && block.number < blocks,
+        Row::Split { lv, .. } => Vol::Lv(lv) == block.vol,
+        Row::Removed { vol: gone } => gone == block.vol,
         _ => false,
     }
 }
 
 /// Whether one of the rows ends the write of this number.
-fn is_ended(rows: &[Row], id: u64, vol: Vol, block: u64) -> bool
-    ensures { result ≡ list_any (is_ending id vol block) rows.now }
+fn is_ended(rows: &[Row], id: u64, block: Block) -> bool
+    ensures { result ≡ list_any (is_ending id block.vol block.number) rows.now }
 {
-    rows.iter().any(|row| ends(row, id, vol, block))
+    rows.iter().any(|row| ends(row, id, block))
 }
 
 /// Whether the row begins a write of the block, one of those that are looked for.
@@ -102,18 +109,17 @@ fn opens(
     row: &Row,
     asks: &[Ask],
     blocks: &[[u8; 512]],
-    vol: Vol,
-    block: u64,
+    block: Block,
     value: &[u8; 512],
     sought: Sought,
 ) -> bool
-    ensures { result ≡ is_opening sought asks.now blocks.now vol block value.now row.now }
+    ensures { result ≡ is_opening sought asks.now blocks.now block.vol block.number value.now row.now }
 {
     match *row {
         Row::Begun { id } => {
             let ask = ask_or_none(asks, id);
             ask.write
-                && is_over(&ask, vol, block)
+                && is_over(&ask, block)
                 && match sought {
                     Sought::Request(sought) => id == sought,
                     Sought::Any => true,
@@ -138,16 +144,15 @@ fn is_open_after(
     rows: &[Row],
     asks: &[Ask],
     blocks: &[[u8; 512]],
-    vol: Vol,
-    block: u64,
+    block: Block,
     value: &[u8; 512],
     sought: Sought,
 ) -> bool
-    ensures { result ≡ is_any_open sought asks.now blocks.now vol block value.now rows.now }
+    ensures { result ≡ is_any_open sought asks.now blocks.now block.vol block.number value.now rows.now }
 {
     for (k, row) in rows.iter().enumerate() {
-        if opens(row, asks, blocks, vol, block, value, sought)
-            && !is_ended(&rows[k + 1..], id_of(row), vol, block)
+        if opens(row, asks, blocks, block, value, sought)
+            && !is_ended(&rows[k + 1..], id_of(row), block)
         {
             return true;
         }
@@ -172,16 +177,25 @@ fn origin(rows: &[Row], vol: Vol) -> Vol
     rows.iter().rev().fold(vol, |vol, row| source_of(row, vol))
 }
 
+/// The block has this value alone, or another one alone.
+fn only(seen: Seen, same: bool) -> Seen
+    ensures { result ≡ record seen { known = true; allowed = same } }
+{
+    Seen {
+        known: true,
+        allowed: same,
+        ..seen
+    }
+}
+
 /// An open write has ended, which brings the value or another.
 fn after_end(seen: Seen, outcome: Outcome, started: bool, same: bool) -> Seen
     ensures { result ≡ seen_ended seen outcome started same }
 {
     match outcome {
         Outcome::Done => Seen {
-            known: true,
-            allowed: same,
             loose: false,
-            off: seen.off,
+            ..only(seen, same)
         },
         Outcome::Lost => Seen {
             allowed: seen.allowed || (seen.known && same),
@@ -201,11 +215,7 @@ fn after_read(seen: Seen, outcome: Outcome, same: bool) -> Seen
     ensures { result ≡ seen_read seen outcome same }
 {
     match outcome {
-        Outcome::Got if !seen.loose => Seen {
-            known: true,
-            allowed: same,
-            ..seen
-        },
+        Outcome::Got if !seen.loose => only(seen, same),
         _ => seen,
     }
 }
@@ -229,20 +239,20 @@ fn after_row(
     row: &Row,
     asks: &[Ask],
     blocks: &[[u8; 512]],
-    vol: Vol,
-    block: u64,
+    block: Block,
     value: &[u8; 512],
 ) -> Seen
-    ensures { result ≡ seen_step seen before.now asks.now blocks.now vol block value.now row.now }
+    ensures { result ≡ seen_step seen before.now asks.now blocks.now block.vol block.number value.now row.now }
 {
     match *row {
-        Row::Making { lv, blocks, mode } if Vol::Lv(lv) == vol && block < blocks => Seen {
-            known: true,
-            allowed: is_zeros(value),
-            loose: false,
-            off: is_off(mode),
-        },
-        Row::Removed { vol: gone } if gone == vol => Seen {
+        Row::Making { lv, blocks, mode } if Vol::Lv(lv) == block.vol && block.number < blocks =>
+            Seen {
+                known: true,
+                allowed: is_zeros(value),
+                loose: false,
+                off: is_off(mode),
+            },
+        Row::Removed { vol: gone } if gone == block.vol => Seen {
             known: false,
             allowed: false,
             loose: false,
@@ -254,11 +264,11 @@ fn after_row(
             started,
         } => {
             let ask = ask_or_none(asks, id);
-            if !is_over(&ask, vol, block) {
+            if !is_over(&ask, block) {
                 seen
             } else if !ask.write {
                 after_read(seen, outcome, brings(&ask, blocks, block, value))
-            } else if is_open_after(before, asks, blocks, vol, block, value, Sought::Request(id)) {
+            } else if is_open_after(before, asks, blocks, block, value, Sought::Request(id)) {
                 after_end(seen, outcome, started, brings(&ask, blocks, block, value))
             } else {
                 seen
@@ -266,11 +276,9 @@ fn after_row(
         }
         Row::Cut => Seen {
             allowed: seen.allowed
-                || (seen.known
-                    && is_open_after(before, asks, blocks, vol, block, value, Sought::Value)),
+                || (seen.known && is_open_after(before, asks, blocks, block, value, Sought::Value)),
             loose: seen.loose
-                || (seen.off
-                    && is_open_after(before, asks, blocks, vol, block, value, Sought::Any)),
+                || (seen.off && is_open_after(before, asks, blocks, block, value, Sought::Any)),
             ..seen
         },
         _ => seen,
@@ -295,13 +303,12 @@ pub fn is_allowed(
     rows: &[Row],
     asks: &[Ask],
     blocks: &[[u8; 512]],
-    vol: Vol,
-    block: u64,
+    block: Block,
     value: &[u8; 512],
 ) -> bool
-    ensures { (run : ℕ) → IsTrue result ↔ May (known (facts_of run asks.now blocks.now rows.now) vol block) value.now }
+    ensures { (run : ℕ) → IsTrue result ↔ May (known (facts_of run asks.now blocks.now rows.now) block.vol block.number) value.now }
 {
-    let mut here = origin(rows, vol);
+    let mut here = origin(rows, block.vol);
     let mut seen = Seen {
         known: false,
         allowed: false,
@@ -309,8 +316,12 @@ pub fn is_allowed(
         off: false,
     };
     for (k, row) in rows.iter().enumerate() {
-        here = followed(here, row, &rows[k + 1..], vol);
-        seen = after_row(seen, &rows[..k], row, asks, blocks, here, block, value);
+        here = followed(here, row, &rows[k + 1..], block.vol);
+        let there = Block {
+            vol: here,
+            number: block.number,
+        };
+        seen = after_row(seen, &rows[..k], row, asks, blocks, there, value);
     }
     allows(seen)
 }

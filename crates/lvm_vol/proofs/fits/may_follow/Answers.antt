@@ -3,7 +3,7 @@ use Rattle.lvm_vol.specs.declared.row.Row.{Row}
 use Rattle.lvm_vol.specs.declared.row.Row.TheVariants.{Taken, On}
 use Rattle.lvm_vol.specs.Legal.{Fits}
 use Rattle.lvm_vol.specs.Rows.{facts_of, fact_of}
-use Rattle.lvm_vol.proofs.Tests.{begun_fits, on_fits, taken_fits}
+use Rattle.lvm_vol.proofs.Judging.{begun_fits, on_fits, taken_fits}
 use Rattle.lvm_vol.proofs.fits.may_follow.Goals as goal
 
 pub returns-in-Begun : goal.returns-in-Begun

@@ -11,17 +11,17 @@ use Rattle.lvm_vol.proofs.values.is_allowed.Goals as goal
 
 pub loop-k-preserved : goal.loop-k-preserved
 loop-k-preserved c =
-    let there : c.followed-here.result ≡ origin_of (drop (c.loop-k.k + 1) c.args.rows.now) c.args.vol =
-    c.followed-here.ensures ∙ ap (λ (l : List Row). origin_of l c.args.vol) (take_rest c.args.rows.now (c.loop-k.k + 1)) in
+    let there : c.followed-here.result ≡ origin_of (drop (c.loop-k.k + 1) c.args.rows.now) c.args.block.vol =
+    c.followed-here.ensures ∙ ap (λ (l : List Row). origin_of l c.args.block.vol) (take_rest c.args.rows.now (c.loop-k.k + 1)) in
     record {
       followed = there;
       seen = λ run. c.after_row-seen.ensures
-          ∙ seen_more run c.args.asks.now c.args.blocks.now c.args.rows.now c.loop-k.k (Making 0 0 Active) c.loop-k.here c.followed-here.result c.args.block c.args.value.now c.loop-k.seen c.loop-k-test.true
-          (followed_from c.args.rows.now c.loop-k.k (Making 0 0 Active) c.loop-k.here c.followed-here.result c.args.vol c.loop-k-test.true c.loop-k.invariant.followed there)
+          ∙ seen_more run c.args.asks.now c.args.blocks.now c.args.rows.now c.loop-k.k (Making 0 0 Active) c.loop-k.here c.followed-here.result c.args.block.number c.args.value.now c.loop-k.seen c.loop-k-test.true
+          (followed_from c.args.rows.now c.loop-k.k (Making 0 0 Active) c.loop-k.here c.followed-here.result c.args.block.vol c.loop-k-test.true c.loop-k.invariant.followed there)
           (c.loop-k.invariant.seen run);
     }
 
 pub returns : goal.returns
-returns c = λ run. tells (known (facts_of run c.args.asks.now c.args.blocks.now c.args.rows.now) c.args.vol c.args.block) c.args.value.now c.loop-k.seen c.allows.result
-    (looked_through run c.args.asks.now c.args.blocks.now c.args.rows.now c.loop-k.k c.loop-k.here c.args.vol c.args.block c.args.value.now c.loop-k.seen c.loop-k-test.false c.loop-k.invariant.followed (c.loop-k.invariant.seen run))
+returns c = λ run. tells (known (facts_of run c.args.asks.now c.args.blocks.now c.args.rows.now) c.args.block.vol c.args.block.number) c.args.value.now c.loop-k.seen c.allows.result
+    (looked_through run c.args.asks.now c.args.blocks.now c.args.rows.now c.loop-k.k c.loop-k.here c.args.block.vol c.args.block.number c.args.value.now c.loop-k.seen c.loop-k-test.false c.loop-k.invariant.followed (c.loop-k.invariant.seen run))
     c.allows.ensures

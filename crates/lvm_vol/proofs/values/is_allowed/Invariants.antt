@@ -6,6 +6,6 @@ use Rattle.lvm_vol.proofs.values.is_allowed.Given as goal
 
 abbrev pub invariant-loop-k : goal.invariant-loop-k
 invariant-loop-k l = record {
-  followed : l.here ≡ origin_of (drop l.k l.rows) l.vol;
-  seen : (run : ℕ) → l.seen ≡ seen_of (known (facts_of run l.asks l.blocks (take l.k l.rows)) l.here l.block) l.value;
+  followed : l.here ≡ origin_of (drop l.k l.rows) l.block.vol;
+  seen : (run : ℕ) → l.seen ≡ seen_of (known (facts_of run l.asks l.blocks (take l.k l.rows)) l.here l.block.number) l.value;
 }
