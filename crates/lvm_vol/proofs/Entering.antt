@@ -148,11 +148,11 @@ found_of facts id is = by_option (asked facts id) refl
           found = some ∙ ap (λ (x : Request). Some x) (sym e);
         }
 
-and_left : (a b : Bool) → (a && b) ≡ true → a ≡ true
+pub and_left : (a b : Bool) → (a && b) ≡ true → a ≡ true
 and_left true b is = refl
 and_left false b is = is
 
-and_right : (a b : Bool) → (a && b) ≡ true → b ≡ true
+pub and_right : (a b : Bool) → (a && b) ≡ true → b ≡ true
 and_right true b is = is
 and_right false b is = absurd (let e : ◌≡◌ {A = Bool} false true = is in cc)
 

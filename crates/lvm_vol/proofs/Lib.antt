@@ -6,3 +6,4 @@ pub mod Knowing
 pub mod Legality
 pub mod Looking
 pub mod Judging
+pub mod Staying
