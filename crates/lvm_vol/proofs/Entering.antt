@@ -1,6 +1,6 @@
 -- What is kept after one entry more.
-use Rattle.std.proofs.Common.{◌≡◌, inl, inr, ℕ, zero, suc, ◌+◌, ◌-◌, ◌*◌, ◌/◌, ◌^◌, ◌≤◌, ◌<◌, ◌&&◌, ◌||◌, ◌==◌, not, Bool, true, false, cond, List, [], ◌∷◌, ◌++◌, length, take, drop, get_or, map, replicate, count_by, Option, Some, None, is_some, IsSome, option_map, slice_get, unwrap_or, refl, sym, ◌∙◌, ap, subst, arith, zero-add, length-append}
-use Rattle.std.specs.List.{list_any, find, cons_option}
+use Rattle.std.proofs.Common.{◌≡◌, inl, inr, ℕ, zero, suc, ◌+◌, ◌-◌, ◌*◌, ◌/◌, ◌^◌, ◌≤◌, ◌<◌, ◌&&◌, ◌||◌, ◌==◌, not, Bool, true, false, cond, List, [], ◌∷◌, ◌++◌, length, take, drop, get_or, map, replicate, count_by, Option, Some, None, is_some, IsSome, option_map, slice_get, unwrap_or, refl, sym, ◌∙◌, ap, subst, arith, zero-add, length-append, nat_lt}
+use Rattle.std.specs.List.{list_all, list_any, find, cons_option}
 use Rattle.std.specs.Bool.{MatchBool}
 use Rattle.std.specs.Simd.{first_chunks}
 use Rattle.std.proofs.lemmas.List.{append-nil, length-replicate, map-append, length-map, length-take, length-drop, get_or-map}
@@ -20,6 +20,7 @@ use Rattle.lvm_vol.specs.declared.row.Row.TheVariants as row
 use Rattle.lvm_vol.specs.Facts.{Request, Fact, Making, Made, Split, Removing, Removed, Begun, Landed, Taken, Cut, On, Stands, begun, begun_by}
 use Rattle.lvm_vol.specs.Legal.{begins_in}
 use Rattle.lvm_vol.specs.Log.{Log, open_count, landed_count, plain_fact, cut_log, spare_entries, spare_bytes, awaited, blocks_begun, entries_of, entries_from, next_id, blocks_given, next_request, has_id, asked, no_request, request_of, lands_id, takes_id, is_open, is_answered, is_got, got_by, held, blocks_of, blocks_begun_with, got_without_bytes, need, is_uncut_after, is_uncut_from, is_uncut}
+use Rattle.lvm_vol.specs.Fitting.{is_bounded}
 use Rattle.lvm_vol.specs.Order.{Follows, Ordered, IsWhole, IsGotOf}
 use Rattle.lvm_vol.specs.Rows.{no_ask, ask_of, ask_at, ask_found, is_open_by, awaited_by, is_answered_by, is_landing, is_taking, entry_kept, IsOneOfAsks, asks_from, row_of, IsKept, HasRoom, if_uncut, blocks_first, Kept, log_of, IsSound}
 use Rattle.lvm_vol.proofs.Order.{IdsFrom, stands_last, stands-at, stands_begun, numbered, begun-push, any-push, ordered-push}
@@ -147,11 +148,11 @@ found_of facts id is = by_option (asked facts id) refl
           found = some ∙ ap (λ (x : Request). Some x) (sym e);
         }
 
-and_left : (a b : Bool) → (a && b) ≡ true → a ≡ true
+pub and_left : (a b : Bool) → (a && b) ≡ true → a ≡ true
 and_left true b is = refl
 and_left false b is = is
 
-and_right : (a b : Bool) → (a && b) ≡ true → b ≡ true
+pub and_right : (a b : Bool) → (a && b) ≡ true → b ≡ true
 and_right true b is = is
 and_right false b is = absurd (let e : ◌≡◌ {A = Bool} false true = is in cc)
 
@@ -174,7 +175,7 @@ got_without : (r : Request) (how : Outcome) → IsWhole r → IsGotOf r how (got
 got_without r how whole = by_how (is_got how) refl
   where
     size : (w : Bool) → r.write ≡ w → length (blocks_begun_with r) ≡ r.count
-    size true is = ap (λ (t : Bool). length (cond t r.blocks (replicate r.count zero_sector))) is ∙ subst (λ (t : Bool). MatchBool t (length r.blocks ≡ r.count) (r.blocks ≡ [])) is whole
+    size true is = ap (λ (t : Bool). length (cond t r.blocks (replicate r.count zero_sector))) is ∙ subst (λ (t : Bool). MatchBool t (length r.blocks ≡ r.count) (r.blocks ≡ [])) is whole.0
     size false is = ap (λ (t : Bool). length (cond t r.blocks (replicate r.count zero_sector))) is ∙ length-replicate r.count zero_sector
 
     by_how : (t : Bool) → is_got how ≡ t → IsGotOf r how (got_without_bytes r how)
@@ -493,8 +494,8 @@ module _ (k : Kept) (sound : IsSound k) (client : ℕ) (vol : Vol) (at count : �
   the_next : Request
   the_next = next_request (log_of k) client vol at count given
 
-  follows_begun : Follows k.run (log_of k).facts (Begun (next_request (log_of k) client vol at count given))
-  follows_begun = (refl, next_is k sound, whole given)
+  follows_begun : at + count < 2 ^ 64 → Follows k.run (log_of k).facts (Begun (next_request (log_of k) client vol at count given))
+  follows_begun last = (refl, next_is k sound, (whole given, last))
     where
       whole : (o : Option (List ℕ)) → MatchBool (is_some o) (length (blocks_given count o) ≡ count) (blocks_given count o ≡ [])
       whole None = refl
@@ -521,14 +522,14 @@ pub record BeginsRow (k new : Kept) (a : Ask) (first : List (List ℕ)) : Type 0
   pub more_asks : k.asks_room ≤ new.asks_room
   pub more_blocks : k.blocks_room ≤ new.blocks_room
 
-begun_enters : (k new : Kept) (client : ℕ) (vol : Vol) (at count : ℕ) (given : Option (List ℕ)) → IsSound k → 3 ≤ spare_entries (log_of k) → 512 * count ≤ spare_bytes (log_of k) → 1 ≤ count
+begun_enters : (k new : Kept) (client : ℕ) (vol : Vol) (at count : ℕ) (given : Option (List ℕ)) → IsSound k → 3 ≤ spare_entries (log_of k) → 512 * count ≤ spare_bytes (log_of k) → 1 ≤ count → at + count < 2 ^ 64
     → BeginsRow k new (record { client = client; vol = vol; at = at; count = count; write = is_some given; place = length k.blocks }) (blocks_first count given)
     → Enters k new (Begun (next_request (log_of k) client vol at count given))
-begun_enters k new client vol at count given sound spare bytes some begins =
+begun_enters k new client vol at count given sound spare bytes some last begins =
     let facts : List Fact = (log_of k).facts in
     let r : Request = next_request (log_of k) client vol at count given in
     let q = numbered k.run facts sound.its_own.ordered in
-    let follows = follows_begun k sound client vol at count given in
+    let follows = follows_begun k sound client vol at count given last in
     let is = sound.roomy.counted in
     let room_is : new.room ≡ k.room = ap (λ (x : Kept). x.room) begins.rest in
     let bytes_is : new.bytes ≡ k.bytes = ap (λ (x : Kept). x.bytes) begins.rest in
@@ -551,12 +552,12 @@ begun_enters k new client vol at count given sound spare bytes some begins =
     (omega (arith, size, bytes_is, bytes, begun_size, some))
     begins.more_rows begins.more_asks begins.more_blocks
 
-pub begun_adds : (k new : Kept) (log : Log) (client : ℕ) (vol : Vol) (at count : ℕ) (given : Option (List ℕ)) → IsSound k → log_of k ≡ log → 3 ≤ spare_entries log → 512 * count ≤ spare_bytes log → 1 ≤ count
+pub begun_adds : (k new : Kept) (log : Log) (client : ℕ) (vol : Vol) (at count : ℕ) (given : Option (List ℕ)) → IsSound k → log_of k ≡ log → 3 ≤ spare_entries log → 512 * count ≤ spare_bytes log → 1 ≤ count → at + count < 2 ^ 64
     → BeginsRow k new (record { client = client; vol = vol; at = at; count = count; write = is_some given; place = length k.blocks }) (blocks_first count given)
     → Adds log new (Begun (next_request log client vol at count given))
-begun_adds k new log client vol at count given sound shows spare bytes some begins =
+begun_adds k new log client vol at count given sound shows spare bytes some last begins =
     subst (λ (x : Log). 3 ≤ spare_entries x → 512 * count ≤ spare_bytes x → Adds x new (Begun (next_request x client vol at count given))) shows
-    (λ s b. adds_of k new (log_of k) _ refl (begun_enters k new client vol at count given sound s b some begins)) spare bytes
+    (λ s b. adds_of k new (log_of k) _ refl (begun_enters k new client vol at count given sound s b some last begins)) spare bytes
 
 -- there is room for a request that fits
 pub record HasRoomToBegin (k : Kept) (count : ℕ) : Type 0 where
@@ -574,17 +575,17 @@ room_to_begin k log count sound shows spare bytes some =
     let asks = length_asks k sound in let blocks = length_blocks k sound in
     let asks_fit = sound.asks_fit in let blocks_fit = sound.blocks_fit in
     record {
-      for_row = row_room k (Begun (next_request (log_of k) 0 (Disk 0) 0 0 None)) sound (follows_begun k sound 0 (Disk 0) 0 0 None) (omega (arith, here, is));
+      for_row = row_room k (Begun (next_request (log_of k) 0 (Disk 0) 0 0 None)) sound (follows_begun k sound 0 (Disk 0) 0 0 None (omega arith)) (omega (arith, here, is));
       for_ask = omega (arith, here, is, three, asks, asks_fit);
       for_blocks = omega (arith, there, blocks, blocks_fit, some);
       small = omega (arith, here, is, few);
     }
 
 -- the request that began is open, by its number
-pub begun_found : (k new : Kept) (log : Log) (client : ℕ) (vol : Vol) (at count : ℕ) (given : Option (List ℕ)) → IsSound k → log_of k ≡ log
+pub begun_found : (k new : Kept) (log : Log) (client : ℕ) (vol : Vol) (at count : ℕ) (given : Option (List ℕ)) → IsSound k → log_of k ≡ log → at + count < 2 ^ 64
     → Adds log new (Begun (next_request log client vol at count given))
     → (is_open (log_of new).facts (next_id log) ≡ true) × (asked (log_of new).facts (next_id log) ≡ Some (next_request log client vol at count given))
-begun_found k new log client vol at count given sound shows adds =
+begun_found k new log client vol at count given sound shows last adds =
     subst (λ (x : Log). Adds x new (Begun (next_request x client vol at count given)) → (is_open (log_of new).facts (next_id x) ≡ true) × (asked (log_of new).facts (next_id x) ≡ Some (next_request x client vol at count given))) shows
     by_kept adds
   where
@@ -593,7 +594,7 @@ begun_found k new log client vol at count given sound shows adds =
         let facts : List Fact = (log_of k).facts in
         let r : Request = next_request (log_of k) client vol at count given in
         let q = numbered k.run facts sound.its_own.ordered in
-        let follows = follows_begun k sound client vol at count given in
+        let follows = follows_begun k sound client vol at count given last in
         let all = numbered k.run (facts ++ Begun r ∷ []) (ordered-push k.run [] facts (Begun r) sound.its_own.ordered follows) in
         let next = next_is k sound in
         let found : asked (facts ++ Begun r ∷ []) (next_id (log_of k)) ≡ Some r = find_at 1 (begun (facts ++ Begun r ∷ [])) r all.ids (stands_begun (facts ++ Begun r ∷ []) r (stands_last facts (Begun r))) in
@@ -923,3 +924,19 @@ pub needed_counted : (k : Kept) (log : Log) → IsSound k → log_of k ≡ log �
 needed_counted k log sound shows =
     let all = counted k.run (log_of k).facts sound.its_own.ordered in
     (ap (λ (x : Log). x.room) shows, sound.roomy.counted ∙ all.total ∙ ap (λ (x : Log). length x.facts + 2 * open_count x.facts + landed_count x.facts) shows)
+
+-- the requests kept have blocks with numbers of 64 bits
+asks_bounded : (p : ℕ) (rs : List Request) → ((r : Request) → Stands r rs → r.at + r.count < 2 ^ 64) → list_all is_bounded (asks_from p rs) ≡ true
+asks_bounded p [] each = refl
+asks_bounded p (r ∷ rs) each =
+    let first = each r (inl refl) in
+    let test : nat_lt (r.at + r.count) (2 ^ 64) ≡ true = passes (r.at + r.count) first in
+    ap (λ (t : Bool). t && list_all is_bounded (asks_from (p + r.count) rs)) test ∙ asks_bounded (p + r.count) rs (λ s there. each s (inr there))
+  where
+    passes : (n : ℕ) → n < 2 ^ 64 → nat_lt n (2 ^ 64) ≡ true
+    passes n less = grind (arith, nat_tests)
+
+pub all_bounded : (k : Kept) → IsSound k → list_all is_bounded k.asks ≡ true
+all_bounded k sound =
+    let q = numbered k.run (log_of k).facts sound.its_own.ordered in
+    ap (λ (l : List Ask). list_all is_bounded l) sound.its_own.its_asks ∙ asks_bounded 0 (begun (log_of k).facts) (λ r there. (q.whole r there).1)

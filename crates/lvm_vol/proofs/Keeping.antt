@@ -117,14 +117,14 @@ module _ (run : ℕ) where
   held_write : (facts : List Fact) (r : Request) → r.write ≡ true → held facts r ≡ r.blocks
   held_write facts r is = ap (λ (t : Bool). cond t r.blocks (get_or (filter_map (got_by r.id) facts) 0 (replicate r.count zero_sector))) is
 
-  held_read : (facts : List Fact) (r : Request) (l : List (List (List ℕ))) → r.write ≡ false → filter_map (got_by r.id) facts ≡ l → held facts r ≡ get_or l 0 (replicate r.count zero_sector)
+  pub held_read : (facts : List Fact) (r : Request) (l : List (List (List ℕ))) → r.write ≡ false → filter_map (got_by r.id) facts ≡ l → held facts r ≡ get_or l 0 (replicate r.count zero_sector)
   held_read facts r l is are = ap (λ (t : Bool). cond t r.blocks (get_or (filter_map (got_by r.id) facts) 0 (replicate r.count zero_sector))) is ∙ ap (λ (m : List (List (List ℕ))). get_or m 0 (replicate r.count zero_sector)) are
 
   data_whole : (r : Request) → IsWhole r → r.write ≡ true → length r.blocks ≡ r.count
-  data_whole r whole is = subst (λ (t : Bool). MatchBool t (length r.blocks ≡ r.count) (r.blocks ≡ [])) is whole
+  data_whole r whole is = subst (λ (t : Bool). MatchBool t (length r.blocks ≡ r.count) (r.blocks ≡ [])) is whole.0
 
   no_data : (r : Request) → IsWhole r → r.write ≡ false → r.blocks ≡ []
-  no_data r whole is = subst (λ (t : Bool). MatchBool t (length r.blocks ≡ r.count) (r.blocks ≡ [])) is whole
+  no_data r whole is = subst (λ (t : Bool). MatchBool t (length r.blocks ≡ r.count) (r.blocks ≡ [])) is whole.0
 
   got_whole : (r : Request) (how : Outcome) (got : List (List ℕ)) → IsGotOf r how got → is_got how ≡ true → (length got ≡ r.count) × (r.write ≡ true → got ≡ r.blocks)
   got_whole r how got own is = subst (λ (t : Bool). MatchBool t ((length got ≡ r.count) × (r.write ≡ true → got ≡ r.blocks)) (got ≡ [])) is own

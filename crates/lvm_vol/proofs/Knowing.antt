@@ -171,7 +171,7 @@ got_fixes facts r started got vol b over is_read tight =
     ∙ ap (λ (t : Bool). (cond t (known facts vol b) (record (known facts vol b) { values = Some (block_of got r.at b ∷ []) })).values) tight
 
 -- an ended write is no longer among the open ones
-ended_open : (r : Request) (how : Outcome) (started : Bool) (x : Sector) (k : Known) → (ended r how started x k).open_writes ≡ without r k.open_writes
+pub ended_open : (r : Request) (how : Outcome) (started : Bool) (x : Sector) (k : Known) → (ended r how started x k).open_writes ≡ without r k.open_writes
 ended_open r outcome.Done started x k = refl
 ended_open r outcome.Lost started x k = refl
 ended_open r outcome.Off true x k = refl
@@ -182,7 +182,7 @@ ended_open r outcome.Got started x k = refl
 ended_open r outcome.ReadFailed started x k = refl
 ended_open r outcome.NoFresh started x k = refl
 
-read_open : (how : Outcome) (x : Sector) (k : Known) → (read how x k).open_writes ≡ k.open_writes
+pub read_open : (how : Outcome) (x : Sector) (k : Known) → (read how x k).open_writes ≡ k.open_writes
 read_open outcome.Got x k = by_loose k.loose
   where
     by_loose : (t : Bool) → (cond t k (record k { values = Some (x ∷ []) })).open_writes ≡ k.open_writes

@@ -4,3 +4,6 @@ pub mod Counting
 pub mod Entering
 pub mod Knowing
 pub mod Legality
+pub mod Looking
+pub mod Judging
+pub mod Staying

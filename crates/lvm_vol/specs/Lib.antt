@@ -6,4 +6,6 @@ pub mod Laws
 pub mod Log
 pub mod Order
 pub mod Rows
+pub mod Seen
+pub mod Fitting
 pub mod Opened

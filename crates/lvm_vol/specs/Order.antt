@@ -1,13 +1,13 @@
 -- Facts of one run, each of which follows those before it.
-use Rattle.std.specs.Prelude.{◌≡◌, ℕ, ◌+◌, true, false, List, [], ◌∷◌, ◌++◌, length, MatchBool}
+use Rattle.std.specs.Prelude.{◌≡◌, ℕ, ◌+◌, ◌^◌, ◌<◌, true, false, List, [], ◌∷◌, ◌++◌, length, MatchBool}
 use Rattle.std.specs.List.{list_any}
 use Rattle.lvm_vol.specs.declared.entry.Outcome.{Outcome}
 use Rattle.lvm_vol.specs.Facts.{Request, Fact, Making, Made, Split, Removing, Removed, Begun, Landed, Taken, Cut, On, Stands, begun}
 use Rattle.lvm_vol.specs.Log.{lands_id, takes_id, is_got}
 
--- a write has a block of data for each that it asks, a read has none
+-- a write has a block of data for each that it asks, a read has none; blocks have numbers of 64 bits
 abbrev pub IsWhole : Request → Type 0
-IsWhole r = MatchBool r.write (length r.blocks ≡ r.count) (r.blocks ≡ [])
+IsWhole r = MatchBool r.write (length r.blocks ≡ r.count) (r.blocks ≡ []) × (r.at + r.count < 2 ^ 64)
 
 -- what a request got that landed so
 abbrev pub IsGotOf : Request → Outcome → List (List ℕ) → Type 0

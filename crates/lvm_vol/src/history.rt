@@ -1,9 +1,11 @@
 //! The list of what was asked and answered, in room that is made with it.
-ghost use Rattle.std.specs.Prelude.{◌≡◌, ◌+◌, ◌-◌, ◌*◌, ◌%◌, ◌^◌, ◌<◌, ◌≤◌, ◌++◌, [], ◌∷◌, length, IfOk, IsTrue, IsSome, IfSome, Some, option_copied, slice_get, true, false, vec_len, vec_capacity, replicate, take, drop};
+ghost use Rattle.std.specs.Prelude.{◌≡◌, ◌↔◌, ◌+◌, ◌-◌, ◌*◌, ◌%◌, ◌^◌, ◌<◌, ◌≤◌, ◌++◌, [], ◌∷◌, length, IfOk, IsTrue, IsSome, IfSome, Some, option_copied, slice_get, true, false, vec_len, vec_capacity, replicate, take, drop};
 ghost use Rattle.std.specs.Simd.{first_chunks};
 ghost use Rattle.std.specs.List.{list_any};
 ghost use Rattle.std.specs.Option.{ForSome};
 ghost use Rattle.lvm_num.specs.Buffer.{zero_sector};
+ghost use Rattle.lvm_vol.specs.Legal.{Legal};
+ghost use Rattle.lvm_vol.specs.May.{known, May};
 ghost use Rattle.lvm_vol.specs.Order.{Ordered};
 ghost use Rattle.lvm_vol.specs.Rows.{row_of, blocks_first, ask_found, is_open_by, awaited_by, is_answered_by, is_landing, is_taking, entry_kept, IsOneOfAsks};
 ghost use Rattle.lvm_vol.specs.declared.entry.Outcome.TheVariants.{Got};
@@ -11,7 +13,9 @@ ghost use Rattle.lvm_vol.specs.Facts.{Begun, Landed, Taken};
 ghost use Rattle.lvm_vol.specs.Log.{next_id, next_request, asked, request_of, is_open, awaited, is_answered, got_without_bytes, is_plain, plain_fact, spare_entries, open_count, landed_count, spare_bytes, cut_log, is_uncut_after, blocks_begun, blocks_of, entries_of};
 
 use crate::entry::{Entry, Outcome, Vol};
+use crate::fits::{has_landed, is_legal, is_taken};
 use crate::row::{Ask, Row};
+use crate::values::{Block, is_allowed};
 use lvm_num::Memory;
 use std::alloc::Global;
 use std::marker::Model;
@@ -230,12 +234,37 @@ impl History {
         }
     }
 
+    /// Whether the block of the volume may have this value now: its values are unknown, or this is one
+    /// of them. Looks through all entries.
+    pub fn may_of(&self, vol: Vol, block: u64, value: &[u8; 512]) -> bool
+        ensures { IsTrue result ↔ May (known self.now.facts vol block) value.now }
+    {
+        let block = Block { vol, number: block };
+        is_allowed(&self.rows, &self.asks, &self.blocks, block, value)
+    }
+
+    /// Whether the history is legal: requests are numbered, landed and taken in their order, each lands
+    /// as one of its kind may, moments rise, and each read got values that its blocks might have then.
+    /// Looks through all entries for each of them.
+    pub fn is_legal(&self) -> bool
+        ensures { IsTrue result ↔ Legal self.now.facts }
+    {
+        is_legal(&self.rows, &self.asks, &self.blocks)
+    }
+
     /// The entry at this index, from 0.
     pub fn entry(&self, k: u32) -> Entry
         requires { k < length self.now.facts }
         ensures { slice_get (entries_of self.now.facts) k ≡ Some result }
     {
         entry_of(&self.rows[k as usize], &self.asks)
+    }
+
+    /// How many blocks it has, at places from 0 on.
+    pub fn block_count(&self) -> u64
+        ensures { result ≡ blocks_begun self.now.facts }
+    {
+        self.blocks.len() as u64
     }
 
     /// The block at a place: a write's data, what a read got, or zeros.
@@ -315,20 +344,6 @@ fn ask_of(asks: &[Ask], id: u64) -> Option<Ask>
     } else {
         asks.get((id - 1) as usize).copied()
     }
-}
-
-// Whether the request of this number has landed.
-fn has_landed(rows: &[Row], id: u64) -> bool
-    ensures { result ≡ list_any (is_landing id) rows.now }
-{
-    rows.iter().any(|row| matches!(row, Row::Landed { id: landed, .. } if *landed == id))
-}
-
-// Whether the answer of the request of this number is taken.
-fn is_taken(rows: &[Row], id: u64) -> bool
-    ensures { result ≡ list_any (is_taking id) rows.now }
-{
-    rows.iter().any(|row| matches!(row, Row::Taken { id: taken, .. } if *taken == id))
 }
 
 // Whether the request of this number has begun and not landed.

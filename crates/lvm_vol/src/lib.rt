@@ -3,9 +3,14 @@
 #![tactic(auto)]
 
 mod entry;
+mod fits;
 mod history;
 pub mod laws;
 mod row;
+mod values;
 
 pub use entry::{Entry, Outcome, Vol};
 pub use history::History;
+
+#[cfg(test)]
+mod tests;

@@ -15,7 +15,7 @@ is_given None = refl
 is_given (Some bytes) = refl
 
 adds : (c : goal.After-self-2-1) → Adds c.args.self.now (new c) (Begun (next_request c.args.self.now c.args.client c.args.vol c.args.at c.args.count (option_copied c.args.bytes)))
-adds c = begun_adds (kept_of c.self.inside) (new c) c.args.self.now c.args.client c.args.vol c.args.at c.args.count (option_copied c.args.bytes) c.self.invariant c.self.view_is c.requires.entries c.requires.bytes c.requires.some
+adds c = begun_adds (kept_of c.self.inside) (new c) c.args.self.now c.args.client c.args.vol c.args.at c.args.count (option_copied c.args.bytes) c.self.invariant c.self.view_is c.requires.entries c.requires.bytes c.requires.some c.requires.last
     (record {
       its_rows = c.append-2.ensures.items ∙ ap (λ (n : ℕ). c.self.inside.rows.items ++ row.Begun n ∷ []) (omega (arith, c.append.ensures.len, c.len-id.ensures, c.self.inside.asks.ok.0));
       its_asks = c.append.ensures.items
@@ -50,12 +50,12 @@ pub returns-clause-opened : goal.returns-clause-opened
 returns-clause-opened c =
     let next = next_number (kept_of c.self.inside) c.args.self.now c.self.invariant c.self.view_is in
     let is : c.len-id.result ≡ next_id c.args.self.now = omega (arith, next, c.append.ensures.len, c.len-id.ensures, c.self.inside.asks.ok.0) in
-    let found = begun_found (kept_of c.self.inside) (new c) c.args.self.now c.args.client c.args.vol c.args.at c.args.count (option_copied c.args.bytes) c.self.invariant c.self.view_is (adds c) in
+    let found = begun_found (kept_of c.self.inside) (new c) c.args.self.now c.args.client c.args.vol c.args.at c.args.count (option_copied c.args.bytes) c.self.invariant c.self.view_is c.requires.last (adds c) in
     subst (λ (n : ℕ). is_open (log_of (new c)).facts n ≡ true) (sym is) found.0
 
 pub returns-clause-named : goal.returns-clause-named
 returns-clause-named c =
     let next = next_number (kept_of c.self.inside) c.args.self.now c.self.invariant c.self.view_is in
     let is : c.len-id.result ≡ next_id c.args.self.now = omega (arith, next, c.append.ensures.len, c.len-id.ensures, c.self.inside.asks.ok.0) in
-    let found = begun_found (kept_of c.self.inside) (new c) c.args.self.now c.args.client c.args.vol c.args.at c.args.count (option_copied c.args.bytes) c.self.invariant c.self.view_is (adds c) in
+    let found = begun_found (kept_of c.self.inside) (new c) c.args.self.now c.args.client c.args.vol c.args.at c.args.count (option_copied c.args.bytes) c.self.invariant c.self.view_is c.requires.last (adds c) in
     subst (λ (n : ℕ). asked (log_of (new c)).facts n ≡ Some (next_request c.args.self.now c.args.client c.args.vol c.args.at c.args.count (option_copied c.args.bytes))) (sym is) found.1
