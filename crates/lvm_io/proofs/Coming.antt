@@ -3,7 +3,7 @@ use Rattle.std.proofs.Common.{◌≡◌, ◌≤◌, ◌++◌, ◌∷◌, [], ℕ
 use Rattle.std.proofs.lemmas.List.{append-nil}
 use Rattle.lvm_io.specs.Stream.{WhereTold}
 use Rattle.lvm_io.specs.Lines.{lines_of, has_feed}
-use Rattle.lvm_io.specs.Reading.{Reading, to_come, CountsGiven, TakesLine, TakesLast, NextGives}
+use Rattle.lvm_io.specs.Reading.{Reading, to_come, lines_left, CountsGiven, TakesLine, TakesLast, NextGives}
 use Rattle.lvm_io.specs.declared.lines.NextLine.{NextLine}
 use Rattle.lvm_io.specs.declared.lines.NextLine.TheVariants as next
 use Rattle.lvm_io.proofs.Feeds.{lines-feed, lines-last}
@@ -13,6 +13,7 @@ pub record LinesSoFar (old now : Reading) (before left : Option (List ℕ)) (fau
   pub same : WhereTold (to_come old before) (to_come now left) (λ a b. b ≡ a)
   pub given : CountsGiven old now before left
   pub faults_rise : faults ≤ later
+  pub fewer : lines_left now ≤ lines_left old
 
 pub same_reading : (front block front' block' : List ℕ) (given given' : ℕ) → front ≡ front' → block ≡ block' → given ≡ given' → let made : List ℕ → List ℕ → ℕ → Reading = λ f b g. record { front = f; block = b; given = g } in made front block given ≡ made front' block' given'
 same_reading front block front' block' given given' f b g = cc

@@ -1,5 +1,5 @@
 -- What is read of a source and not yet given out as lines.
-use Rattle.std.specs.Prelude.{◌≡◌, ◌≤◌, ◌<◌, ◌+◌, ◌++◌, [], ◌∷◌, ℕ, List, Option, Some, None, Result, Ok, Err, false, length}
+use Rattle.std.specs.Prelude.{◌≡◌, ◌≤◌, ◌<◌, ◌+◌, ◌-◌, ◌++◌, [], ◌∷◌, ℕ, List, Option, Some, None, Result, Ok, Err, false, length}
 use Rattle.lvm_num.specs.declared.Memory.{Memory}
 use Rattle.lvm_io.specs.Stream.{WhereTold}
 use Rattle.lvm_io.specs.Lines.{lines_of, has_feed}
@@ -27,6 +27,23 @@ NextGives old new next.Failed = WhereTold old new (λ a b. b ≡ a)
 NextGives old new next.TooLong = WhereTold old new (λ a b. b ≡ a)
 NextGives old new next.Memory = WhereTold old new (λ a b. b ≡ a)
 
+-- a line that has begun counts once
+abbrev pub begun : List ℕ → ℕ
+begun [] = 0
+begun (byte ∷ front) = 1
+
+-- how many lines may still be given out at most: the limit, which a last read may pass by its length, ends them
+abbrev pub lines_left : Reading → ℕ
+lines_left reading = (16842752 - reading.given) + length reading.block + begun reading.front
+
+-- each line leaves fewer to be given out
+abbrev pub LeavesFewer : Reading → Reading → NextLine → Type 0
+LeavesFewer old new (next.Line line) = lines_left new < lines_left old
+LeavesFewer old new next.End = lines_left new ≤ lines_left old
+LeavesFewer old new next.Failed = lines_left new ≤ lines_left old
+LeavesFewer old new next.TooLong = lines_left new ≤ lines_left old
+LeavesFewer old new next.Memory = lines_left new ≤ lines_left old
+
 -- the count of the bytes that were given is right
 abbrev pub CountsGiven : Reading → Reading → Option (List ℕ) → Option (List ℕ) → Type 0
 CountsGiven old new before left = WhereTold before left (λ a b. length a + old.given ≡ length b + new.given)
@@ -39,7 +56,7 @@ TakesLine old new (Err want) = new ≡ old
 
 -- the next block is read
 abbrev pub Refills : Reading → Reading → Option (List ℕ) → Option (List ℕ) → Got → Type 0
-Refills old new before left (got.Bytes n) = (1 ≤ n) × (n ≡ length new.block) × (new ≡ record { front = old.front; block = new.block; given = old.given + n }) × WhereTold before left (λ a b. a ≡ new.block ++ b)
+Refills old new before left (got.Bytes n) = (1 ≤ n) × (n ≤ 65536) × (n ≡ length new.block) × (new ≡ record { front = old.front; block = new.block; given = old.given + n }) × WhereTold before left (λ a b. a ≡ new.block ++ b)
 Refills old new before left got.End = (new ≡ old) × WhereTold before left (λ a b. (a ≡ []) × (b ≡ []))
 Refills old new before left got.Failed = (new ≡ old) × WhereTold before left (λ a b. b ≡ a)
 

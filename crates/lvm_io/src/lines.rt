@@ -56,7 +56,7 @@ impl Model for Lines {
 }
 
 impl Lines {
-    ghost use Rattle.lvm_io.specs.Reading.{to_come, NextGives, CountsGiven, TakesLine, Refills, TakesLast};
+    ghost use Rattle.lvm_io.specs.Reading.{to_come, NextGives, CountsGiven, LeavesFewer, TakesLine, Refills, TakesLast};
 
     /// The lines of a source of which nothing was read.
     pub fn new(alloc: Global) -> Result<Lines, Memory>
@@ -77,6 +77,8 @@ impl Lines {
     /// The next line. The limit is judged at each read of the source, before the lines of that read.
     pub fn next_line<I: Source>(&mut self, alloc: Global, input: &mut I) -> NextLine
         ensures line { NextGives (to_come self.old (I.left input.old)) (to_come self.new (I.left input.new)) result }
+        // Of any source only so many lines come.
+        ensures fewer { LeavesFewer self.old self.new result }
         ensures given { CountsGiven self.old self.new (I.left input.old) (I.left input.new) }
         ensures too_long { (result ≡ NextLine.TooLong) ↔ (MOST_BYTES < self.new.given) }
         ensures later { I.faults input.old ≤ I.faults input.new }
