@@ -1,0 +1,9 @@
+pub mod Values
+pub mod Carrying
+pub mod Keeping
+pub mod Getting
+pub mod Landing
+pub mod Spans
+pub mod Chaining
+pub mod WriteMoments
+pub mod ReadMoments

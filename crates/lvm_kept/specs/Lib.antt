@@ -1,0 +1,4 @@
+pub mod Kept
+pub mod Moments
+pub mod Raw
+pub mod Laws

@@ -1,0 +1,25 @@
+-- Requests on a disk that is in no group.
+use Rattle.std.specs.Prelude.{◌≡◌, ℕ, Bool, true, false, List, [], Some, None}
+use Rattle.lvm_disk.specs.Device.{Image, Flight, Device, written, MayLeave}
+use Rattle.lvm_disk.specs.Images.{DiffersBy}
+use Rattle.lvm_vol.specs.declared.entry.Vol.TheVariants.{Disk}
+use Rattle.lvm_vol.specs.Facts.{Request, is_over, block_of}
+
+-- a request of client 1 on a raw disk
+abbrev pub raw_request : ℕ → ℕ → ℕ → ℕ → ℕ → Bool → List (List ℕ) → Request
+raw_request run id disk at count write blocks = record { run = run; id = id; client = 1; vol = Disk disk; at = at; count = count; write = write; blocks = blocks }
+
+-- the flight writes the request's blocks at their sectors, and nothing else
+pub record Carries (r : Request) (f : Flight) : Type 0 where
+  pub write : r.write ≡ true
+  pub there : (d s : ℕ) → is_over r (Disk d) s ≡ true → written f d s ≡ Some (block_of r.blocks r.at s)
+  pub elsewhere : (d s : ℕ) → is_over r (Disk d) s ≡ false → written f d s ≡ None
+
+-- each crash image is one that the first device may leave, but for sectors that the flight writes
+abbrev pub OnlyAdds : Flight → Device → Device → Type 0
+OnlyAdds f first device = (image : Image) → MayLeave device image → (before : Image) × MayLeave first before × DiffersBy f before image
+
+-- nothing is out, and the disks are as large as before
+pub record IsStill (old new : Device) : Type 0 where
+  pub flights : new.flights ≡ []
+  pub sizes : new.sizes ≡ old.sizes
