@@ -1,0 +1,206 @@
+-- Runs of lines.
+use Rattle.std.proofs.Common.{◌≡◌, ◌+◌, ◌≤◌, ◌<◌, ℕ, List, [], ◌∷◌, ◌++◌, Option, Some, None, Bool, true, false, cond, length, refl, sym, ◌∙◌, ap, subst, arith, zero-add, append_assoc}
+use Rattle.std.proofs.lemmas.List.{append-nil}
+use Rattle.std.proofs.lemmas.List.Sums.{sum_by-append}
+use Rattle.lvm_disk.specs.Device.{Device}
+use Rattle.lvm_disk.proofs.Paths.{last-path}
+use Rattle.lvm_io.specs.Stream.{WhereTold}
+use Rattle.lvm_io.specs.Lines.{lines_of}
+use Rattle.lvm_io.specs.Reading.{Reading, to_come, lines_left, CountsGiven}
+use Rattle.lvm_vol.specs.Facts.{Fact, Cut, joined}
+use Rattle.lvm_vol.specs.Legal.{Legal}
+use Rattle.lvm_vol.specs.Log.{Log}
+use Rattle.lvm_kept.specs.Kept.{Kept, ImagesKept}
+use Rattle.lvm_kept.specs.Moments.{Holds, Keeps, StaysCalm, IsEarlier, IsUpheld}
+use Rattle.lvm_kept.proofs.Chaining.{begins_run, keeps_on}
+use Rattle.lvm_kept.proofs.Spans.{keeps_still}
+use Rattle.lvm_top.specs.Replies.{reply_text}
+use Rattle.lvm_top.specs.Script.{State, state_of, IsLine, IsStuck, Says, Script, NoLine, NextLine, Ends, AtLine, InLine, IsWhole, IsPart, texts_of, is_refused, refusals_in, entry_state}
+use Rattle.lvm_top.specs.declared.reply.Reply.{Reply}
+
+-- nothing was read yet
+abbrev pub unread : Reading
+unread = record { front = []; block = []; given = 0 }
+
+-- what a run has done so far
+pub record RunSoFar (log : Log) (first now : State) (reading : Reading) (input left before after : Option (List ℕ)) (refused lines_done : ℕ) : Type 0 where
+  pub lines : List (List ℕ)
+  pub replies : List Reply
+  pub script : Script log first lines replies now
+  pub read : WhereTold (to_come unread input) (to_come reading left) (λ a b. lines_of a ≡ lines ++ lines_of b)
+  pub given : CountsGiven unread reading input left
+  pub written : WhereTold before after (λ a b. b ≡ a ++ texts_of replies)
+  pub counted : refused ≡ refusals_in replies
+  pub few : refused ≤ lines_done
+  pub bounded : lines_left reading + lines_done ≤ 16842752
+
+told_same : (o : Option (List ℕ)) (R : List ℕ → List ℕ → Type 0) → ((a : List ℕ) → R a a) → WhereTold o o R
+told_same None R same = tt
+told_same (Some a) R same = same a
+
+told_on : (x y z : Option (List ℕ)) (R S T : List ℕ → List ℕ → Type 0) → ((a b c : List ℕ) → R a b → S b c → T a c) → WhereTold x y R → WhereTold y z S → WhereTold x z T
+told_on None None None R S T f one two = tt
+told_on (Some a) (Some b) (Some c) R S T f one two = f a b c one two
+told_on None None (Some c) R S T f one two = absurd two
+told_on None (Some b) z R S T f one two = absurd one
+told_on (Some a) None z R S T f one two = absurd one
+told_on (Some a) (Some b) None R S T f one two = absurd two
+
+pub at_start : (log : Log) (first : State) (input before : Option (List ℕ)) → RunSoFar log first first unread input input before before 0 0
+at_start log first input before = record {
+  lines = [];
+  replies = [];
+  script = NoLine;
+  read = told_same (to_come unread input) (λ a b. lines_of a ≡ lines_of b) (λ a. refl);
+  given = told_same input (λ a b. length a + 0 ≡ length b + 0) (λ a. refl);
+  written = told_same before (λ a b. b ≡ a ++ []) (λ a. sym (append-nil a));
+  counted = refl;
+  few = omega arith;
+  bounded = omega arith;
+}
+
+texts_more : (replies : List Reply) (said : Reply) → texts_of (replies ++ said ∷ []) ≡ texts_of replies ++ reply_text said
+texts_more [] said = append-nil (reply_text said)
+texts_more (r ∷ replies) said = ap (λ (t : List ℕ). reply_text r ++ t) (texts_more replies said) ∙ sym (append_assoc (reply_text r) (texts_of replies) (reply_text said))
+
+refusals_more : (replies : List Reply) (said : Reply) → refusals_in (replies ++ said ∷ []) ≡ refusals_in replies + cond (is_refused said) 1 0
+refusals_more replies said = sum_by-append (λ r. cond (is_refused r) 1 0) replies (said ∷ []) ∙ ap (λ (n : ℕ). refusals_in replies + n) (zero-add (cond (is_refused said) 1 0))
+
+-- one line more refuses at most one line more
+pub one_more : (refused refused' lines_done : ℕ) (said : Reply) → refused' ≡ refused + cond (is_refused said) 1 0 → refused ≤ lines_done → refused' ≤ lines_done + 1
+one_more refused refused' lines_done said is few = bounded (is_refused said) is
+  where
+    bounded : (b : Bool) → refused' ≡ refused + cond b 1 0 → refused' ≤ lines_done + 1
+    bounded true is = omega (arith, is, few)
+    bounded false is = omega (arith, is, few)
+
+module _ (log : Log) (first now : State) (reading : Reading) (input left before after : Option (List ℕ)) (refused lines_done : ℕ) (so_far : RunSoFar log first now reading input left before after refused lines_done) where
+  -- one line more was read, done and answered
+  pub line_answered :
+      (new : State) (reading' : Reading) (left' after' : Option (List ℕ)) (refused' : ℕ) (line : List ℕ) (answer said : Reply) → (IsStuck answer → ⊥) → Says answer said → IsLine log line answer now new
+      → WhereTold (to_come reading left) (to_come reading' left') (λ a b. lines_of a ≡ line ∷ lines_of b) → CountsGiven reading reading' left left' → lines_left reading' < lines_left reading
+      → WhereTold after after' (λ a b. b ≡ a ++ reply_text said) → refused' ≡ refused + cond (is_refused said) 1 0 → refused' ≤ lines_done + 1
+      → RunSoFar log first new reading' input left' before after' refused' (lines_done + 1)
+  line_answered new reading' left' after' refused' line answer said goes says does read given fewer written counts few = record {
+    lines = so_far.lines ++ line ∷ [];
+    replies = so_far.replies ++ said ∷ [];
+    script = NextLine line answer said goes says so_far.script does;
+    read = told_on (to_come unread input) (to_come reading left) (to_come reading' left') _ _ (λ a b. lines_of a ≡ (so_far.lines ++ line ∷ []) ++ lines_of b)
+        (λ a b c one two. one ∙ ap (λ (l : List (List ℕ)). so_far.lines ++ l) two ∙ sym (append_assoc so_far.lines (line ∷ []) (lines_of c))) so_far.read read;
+    given = told_on input left left' _ _ (λ a b. length a + 0 ≡ length b + reading'.given) (λ a b c one two. omega (arith, one, two)) so_far.given given;
+    written = told_on before after after' _ _ (λ a b. b ≡ a ++ texts_of (so_far.replies ++ said ∷ [])) (λ a b c one two. two ∙ ap (λ (t : List ℕ). t ++ reply_text said) one ∙ append_assoc a (texts_of so_far.replies) (reply_text said) ∙ ap (λ (t : List ℕ). a ++ t) (sym (texts_more so_far.replies said))) so_far.written written;
+    counted = counts ∙ ap (λ (n : ℕ). n + cond (is_refused said) 1 0) so_far.counted ∙ sym (refusals_more so_far.replies said);
+    few = few;
+    bounded = let b = so_far.bounded in omega (arith, b, fewer);
+  }
+
+  -- the source has come to its end
+  pub all_read : (reading' : Reading) (left' : Option (List ℕ)) → WhereTold (to_come reading left) (to_come reading' left') (λ a b. (a ≡ []) × (b ≡ [])) → CountsGiven reading reading' left left' → reading'.given ≤ 16777216
+      → IsWhole log first now input left' before after refused
+  all_read reading' left' ends given within = record {
+    lines = so_far.lines;
+    replies = so_far.replies;
+    script = so_far.script;
+    read = go input left left' so_far.read ends (told_on input left left' _ _ (λ a b. length a + 0 ≡ length b + reading'.given) (λ a b c one two. omega (arith, one, two)) so_far.given given);
+    written = so_far.written;
+    counted = so_far.counted;
+  }
+    where
+      nothing_left : (front block rest : List ℕ) → front ++ (block ++ rest) ≡ [] → rest ≡ []
+      nothing_left [] [] rest is = is
+      nothing_left [] (b ∷ block) rest is = absurd (cc (is))
+      nothing_left (f ∷ front) block rest is = absurd (cc (is))
+
+      go : (x y z : Option (List ℕ)) → WhereTold (to_come unread x) (to_come reading y) (λ a b. lines_of a ≡ so_far.lines ++ lines_of b) → WhereTold (to_come reading y) (to_come reading' z) (λ a b. (a ≡ []) × (b ≡ [])) → WhereTold x z (λ a b. length a + 0 ≡ length b + reading'.given)
+          → WhereTold x z (λ a b. (lines_of a ≡ so_far.lines) × (b ≡ []) × (length a ≤ 16777216))
+      go None y None read ends count = tt
+      go (Some a) (Some b) (Some c) read ends count =
+          let none : c ≡ [] = nothing_left reading'.front reading'.block c ends.1 in
+          (read ∙ ap (λ (l : List ℕ). so_far.lines ++ lines_of l) ends.0 ∙ append-nil so_far.lines, none, let e = ap length none in omega (arith, count, e, within))
+      go None y (Some c) read ends count = absurd count
+      go (Some a) y None read ends count = absurd count
+      go (Some a) None (Some c) read ends count = absurd read
+
+  -- the lines so far, and no other
+  pub part_so_far : IsPart log first now input before after refused
+  part_so_far = record {
+    lines = so_far.lines;
+    replies = so_far.replies;
+    mid = now;
+    script = so_far.script;
+    done = [];
+    said = [];
+    front = [];
+    ends = AtLine refl;
+    read = λ bytes is. begins_with bytes (to_come reading left) (subst (λ (o : Option (List ℕ)). WhereTold (to_come unread o) (to_come reading left) (λ a b. lines_of a ≡ so_far.lines ++ lines_of b)) is so_far.read);
+    written = told_on before after after _ (λ a b. b ≡ a) (λ a b. b ≡ (a ++ texts_of so_far.replies) ++ []) (λ a b c one two. two ∙ one ∙ sym (append-nil (a ++ texts_of so_far.replies))) so_far.written (told_same after (λ a b. b ≡ a) (λ a. refl));
+    counted = so_far.counted ∙ ap refusals_in (sym (append-nil so_far.replies));
+  }
+    where
+      begins_with : (bytes : List ℕ) (now : Option (List ℕ)) → WhereTold (Some bytes) now (λ a b. lines_of a ≡ so_far.lines ++ lines_of b) → (rest : List (List ℕ)) × (lines_of bytes ≡ (so_far.lines ++ []) ++ rest)
+      begins_with bytes (Some b) read = (lines_of b, read ∙ ap (λ (l : List (List ℕ)). l ++ lines_of b) (sym (append-nil so_far.lines)))
+      begins_with bytes None read = absurd read
+
+  -- and one line more, of whose reply a front was written
+  pub part_in_line :
+      (last : State) (reading' : Reading) (left' after' : Option (List ℕ)) (refused' : ℕ) (line : List ℕ) (answer said : Reply) (front rest : List ℕ) → Says answer said → IsLine log line answer now last
+      → WhereTold (to_come reading left) (to_come reading' left') (λ a b. lines_of a ≡ line ∷ lines_of b) → reply_text said ≡ front ++ rest → WhereTold after after' (λ a b. b ≡ a ++ front) → refused' ≡ refused + cond (is_refused said) 1 0
+      → IsPart log first last input before after' refused'
+  part_in_line last reading' left' after' refused' line answer said front rest says does read split written counts = record {
+    lines = so_far.lines;
+    replies = so_far.replies;
+    mid = now;
+    script = so_far.script;
+    done = line ∷ [];
+    said = said ∷ [];
+    front = front;
+    ends = InLine line answer said front rest says split does;
+    read = λ bytes is. begins_with bytes (to_come reading left) (to_come reading' left') (subst (λ (o : Option (List ℕ)). WhereTold (to_come unread o) (to_come reading left) (λ a b. lines_of a ≡ so_far.lines ++ lines_of b)) is so_far.read) read;
+    written = told_on before after after' _ _ (λ a b. b ≡ (a ++ texts_of so_far.replies) ++ front) (λ a b c one two. two ∙ ap (λ (t : List ℕ). t ++ front) one) so_far.written written;
+    counted = counts ∙ ap (λ (n : ℕ). n + cond (is_refused said) 1 0) so_far.counted ∙ sym (refusals_more so_far.replies said);
+  }
+    where
+      begins_with : (bytes : List ℕ) (y z : Option (List ℕ)) → WhereTold (Some bytes) y (λ a b. lines_of a ≡ so_far.lines ++ lines_of b) → WhereTold y z (λ a b. lines_of a ≡ line ∷ lines_of b) → (rest : List (List ℕ)) × (lines_of bytes ≡ (so_far.lines ++ line ∷ []) ++ rest)
+      begins_with bytes (Some b) (Some c) one two = (lines_of c, one ∙ ap (λ (l : List (List ℕ)). so_far.lines ++ l) two ∙ sym (append_assoc so_far.lines (line ∷ []) (lines_of c)))
+      begins_with bytes None z one two = absurd one
+      begins_with bytes (Some b) None one two = absurd two
+
+-- ---- what a run upholds
+
+-- a whole run of lines leaves no write open, and is one span
+pub script_calm : (log : Log) (first : State) {lines : List (List ℕ)} {replies : List Reply} {last : State} → Script log first lines replies last → StaysCalm first.moment last.moment
+script_calm log first NoLine past calm = calm
+script_calm log first (NextLine line answer said goes says script it) past calm = it.calm goes past (script_calm log first script past calm)
+
+pub script_keeps : (log : Log) (first : State) {lines : List (List ℕ)} {replies : List Reply} {last : State} → Script log first lines replies last → Keeps log.run first.moment last.moment
+script_keeps log first NoLine = keeps_still log.run first.moment
+script_keeps log first (NextLine {mid = mid} {new = new} line answer said goes says script it) = keeps_on log.run first.moment mid.moment new.moment (script_keeps log first script) (script_calm log first script) it.keeps
+
+ends_keep : (log : Log) (first mid last : State) {done : List (List ℕ)} {said : List Reply} {front : List ℕ} → Keeps log.run first.moment mid.moment → StaysCalm first.moment mid.moment → Ends log mid last done said front → Keeps log.run first.moment last.moment
+ends_keep log first mid last keeps calm (AtLine is) = subst (λ (s : State). Keeps log.run first.moment s.moment) (sym is) keeps
+ends_keep log first mid last keeps calm (InLine line answer said front rest says split it) = keeps_on log.run first.moment mid.moment last.moment keeps calm it.keeps
+
+pub part_keeps : (log : Log) (first last : State) (input before after : Option (List ℕ)) (refused : ℕ) → IsPart log first last input before after refused → Keeps log.run first.moment last.moment
+part_keeps log first last input before after refused part = ends_keep log first part.mid last (script_keeps log first part.script) (script_calm log first part.script) part.ends
+
+-- from a run's entry to its exit, whatever was told before
+module _ (log : Log) (old new : Device) (facts : List Fact) (keeps : Keeps log.run (record { device = old; facts = [] }) (record { device = new; facts = facts })) (past : List Fact) (earlier : IsEarlier log.run old past) where
+  holds_at_exit : Holds (past ++ Cut ∷ []) (record { device = new; facts = facts })
+  holds_at_exit = last-path keeps (past ++ Cut ∷ []) (begins_run log.run old past earlier.told earlier.legal earlier.own earlier.kept)
+
+  pub legal_at_exit : Legal (joined past facts)
+  legal_at_exit = subst Legal (append_assoc past (Cut ∷ []) facts) holds_at_exit.legal
+
+  pub kept_at_exit : ImagesKept new (joined past facts)
+  kept_at_exit image may = subst (Kept image) (append_assoc past (Cut ∷ []) facts) (holds_at_exit.kept image may)
+
+-- a run that has done no line
+pub nothing_done : (log : Log) (first : State) (input before : Option (List ℕ)) → IsPart log first first input before before 0
+nothing_done log first input before = part_so_far log first first unread input input before before 0 0 (at_start log first input before)
+
+-- the lines of a run uphold what was told before it
+pub run_upheld : (log : Log) (run : ℕ) (old new : Device) (facts : List Fact) (input before after : Option (List ℕ)) (refused : ℕ) → log.run ≡ run
+    → IsPart log (entry_state old) (state_of (record { device = new; facts = facts })) input before after refused → IsUpheld run old new facts
+run_upheld log run old new facts input before after refused named part =
+    let keeps = part_keeps log (entry_state old) (state_of (record { device = new; facts = facts })) input before after refused part in
+    subst (λ (n : ℕ). IsUpheld n old new facts) named (record { legal = legal_at_exit log old new facts keeps; kept = kept_at_exit log old new facts keeps })

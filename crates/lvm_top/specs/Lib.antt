@@ -1,0 +1,11 @@
+pub mod Refusals
+pub mod Replies
+pub mod Language
+pub mod Words
+pub mod Transfer
+pub mod Requests
+pub mod RawLines
+pub mod Script
+pub mod Statuses
+pub mod Run
+pub mod Sim

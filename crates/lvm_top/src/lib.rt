@@ -1,0 +1,20 @@
+//! The top calls: a script read line by line, done on a shelf of disks, and answered.
+#![tactic(auto)]
+
+mod command;
+mod language;
+mod moves;
+mod raw;
+mod raw_line;
+mod reply;
+mod room;
+mod run;
+mod script;
+mod words;
+
+pub use command::run_words;
+pub use language::{Command, parse};
+pub use reply::{Refusal, Reply};
+pub use room::Room;
+pub use run::{Ended, run_script};
+pub use words::{Job, WordsFault, read_words};
