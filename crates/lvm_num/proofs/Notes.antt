@@ -69,20 +69,24 @@ from_entry (x ∷ xs) (suc k) e tail lt =
           ∙ there.1,
     )
 
-length-entries : (es : List NoteEntry) → length (flat_map entry_bytes es) ≡ 8 * length es
+pub length-entries : (es : List NoteEntry) → length (flat_map entry_bytes es) ≡ 8 * length es
 length-entries [] = refl
 length-entries (x ∷ xs) = length-append (entry_bytes x) (flat_map entry_bytes xs) ∙ (let rest = length-entries xs in omega (arith, rest))
 
+-- zeros from a place on, of which eight are its own
+some_zeros : (m n : ℕ) (tail : List ℕ) → m + 8 ≤ n → drop m (replicate n 0 ++ tail) ≡ replicate 8 0 ++ (replicate (n - m - 8) 0 ++ tail)
+some_zeros m n tail le =
+    let size : length (replicate {A = ℕ} n 0) ≡ n = length-replicate {A = ℕ} n 0 in
+    let left : n - m ≡ 8 + (n - m - 8) = omega arith in
+    drop-append-le m (replicate n 0) tail (omega (arith, size))
+    ∙ ap (λ (l : List ℕ). l ++ tail) (drop-replicate m n 0)
+    ∙ ap (λ k. replicate k 0 ++ tail) left
+    ∙ ap (λ (l : List ℕ). l ++ tail) (sym (replicate-append-replicate 8 (n - m - 8) 0))
+    ∙ append_assoc (replicate 8 0) (replicate (n - m - 8) 0) tail
+
 -- behind the entries stand zeros
 from_zeros : (n k : ℕ) (tail : List ℕ) → n ≤ k → k < 62 → (rest : List ℕ) × (drop (8 * (k - n)) (replicate (496 - 8 * n) 0 ++ tail) ≡ replicate 8 0 ++ rest)
-from_zeros n k tail le lt =
-    let size : length (replicate {A = ℕ} (496 - 8 * n) 0) ≡ 496 - 8 * n = length-replicate {A = ℕ} (496 - 8 * n) 0 in
-    let left : 496 - 8 * n - 8 * (k - n) ≡ 8 + (488 - 8 * k) = omega arith in (
-      replicate (488 - 8 * k) 0 ++ tail,
-      drop-append-le (8 * (k - n)) (replicate (496 - 8 * n) 0) tail (omega (arith, size))
-          ∙ ap (λ (l : List ℕ). l ++ tail) (drop-replicate (8 * (k - n)) (496 - 8 * n) 0 ∙ ap (λ m. replicate m 0) left ∙ sym (replicate-append-replicate 8 (488 - 8 * k) 0))
-          ∙ append_assoc (replicate 8 0) (replicate (488 - 8 * k) 0) tail,
-    )
+from_zeros n k tail le lt = (replicate (496 - 8 * n - 8 * (k - n) - 8) 0 ++ tail, some_zeros (8 * (k - n)) (496 - 8 * n) tail (omega arith))
 
 module _ (note : Noted) (is : IsNote note) where
   parts : note_bytes note ≡ to_be_bytes w64 note.stamp ++ (flat_map entry_bytes note.entries ++ (replicate (496 - 8 * length note.entries) 0 ++ to_be_bytes w64 note.stamp))
@@ -177,3 +181,14 @@ written_is_read note is =
     ap (λ b. then_some b (read (from_be_bytes w64 (take 8 (note_bytes note))) (entries_below (note_bytes note) 62))) same
     ∙ ap (λ n. Some (read n (entries_below (note_bytes note) 62))) first
     ∙ ap (λ (es : List NoteEntry). Some (read note.stamp es)) entries
+
+-- one more place
+pub entries_below-more : (sector : List ℕ) (k : ℕ) → entries_below sector (k + 1) ≡ entries_below sector k ++ entry_at sector k
+unfolding entries_below
+entries_below-more sector k =
+    let next : k + 1 ≡ suc k = omega arith in
+    ap (entries_below sector) next
+
+pub entries_below-none : (sector : List ℕ) → entries_below sector 0 ≡ []
+unfolding entries_below
+entries_below-none sector = refl

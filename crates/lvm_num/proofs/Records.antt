@@ -18,7 +18,7 @@ use Rattle.lvm_num.specs.Record.{record_sectors, longest_content, payload, frame
 
 -- ---- pieces of equal size
 
-joined-same : (f g : ℕ → List ℕ) (i n : ℕ) → ((k : ℕ) → i ≤ k → k < i + n → f k ≡ g k) → joined f i n ≡ joined g i n
+pub joined-same : (f g : ℕ → List ℕ) (i n : ℕ) → ((k : ℕ) → i ≤ k → k < i + n → f k ≡ g k) → joined f i n ≡ joined g i n
 unfolding joined
 joined-same f g i zero same = refl
 joined-same f g i (suc n) same =
@@ -121,13 +121,13 @@ module _ (kind : Kind) (slot : List ℕ) (r : Framed) (is : IsRecord kind slot r
   begins : slot ≡ frame kind r.stamp r.content 0 ++ (joined (frame kind r.stamp r.content) 1 (record_sectors (length r.content) - 1) ++ drop (512 * record_sectors (length r.content)) slot)
   begins = whole ∙ starts (frame kind r.stamp r.content) (record_sectors (length r.content)) (drop (512 * record_sectors (length r.content)) slot) (omega (arith, enough (length r.content)))
 
-  epoch-is : from_be_bytes w64 (take 8 (drop 8 slot)) ≡ r.stamp.epoch
+  pub epoch-is : from_be_bytes w64 (take 8 (drop 8 slot)) ≡ r.stamp.epoch
   epoch-is = ap (λ (x : List ℕ). from_be_bytes w64 (take 8 (drop 8 x))) begins ∙ ap (from_be_bytes w64) (first_epoch kind r.stamp r.content _) ∙ from_be_bytes-to_be_bytes_8 r.stamp.epoch is.frames.epoch
 
-  seq-is : from_be_bytes w32 (take 4 (drop 4 slot)) ≡ r.stamp.seq
+  pub seq-is : from_be_bytes w32 (take 4 (drop 4 slot)) ≡ r.stamp.seq
   seq-is = ap (λ (x : List ℕ). from_be_bytes w32 (take 4 (drop 4 x))) begins ∙ ap (from_be_bytes w32) (first_seq kind r.stamp r.content _) ∙ from_be_bytes-to_be_bytes_4 r.stamp.seq is.frames.seq
 
-  len-is : from_be_bytes w32 (take 4 (drop 16 slot)) ≡ length r.content
+  pub len-is : from_be_bytes w32 (take 4 (drop 16 slot)) ≡ length r.content
   len-is = ap (λ (x : List ℕ). from_be_bytes w32 (take 4 (drop 16 x))) begins ∙ ap (from_be_bytes w32) (first_len kind r.stamp r.content _) ∙ from_be_bytes-to_be_bytes_4 (length r.content) fits
 
   part-is : (k : ℕ) → k < record_sectors (length r.content) → take 496 (drop (512 * k + 16) slot) ≡ take 496 (drop (496 * k) (payload r.content))
@@ -148,7 +148,7 @@ module _ (kind : Kind) (slot : List ℕ) (r : Framed) (is : IsRecord kind slot r
   content-is : take (length r.content) (drop 4 (payload r.content)) ≡ r.content
   content-is = take_at r.content (replicate (496 * record_sectors (length r.content) - 4 - length r.content) 0) (length r.content) refl
 
-  announced-is : announced slot ≡ r
+  pub announced-is : announced slot ≡ r
   announced-is =
       let content : take (from_be_bytes w32 (take 4 (drop 16 slot))) (drop 4 (payload_of slot (record_sectors (from_be_bytes w32 (take 4 (drop 16 slot)))))) ≡ r.content =
       ap (λ len. take len (drop 4 (payload_of slot (record_sectors len)))) len-is ∙ ap (λ (p : List ℕ). take (length r.content) (drop 4 p)) payload-is ∙ content-is in

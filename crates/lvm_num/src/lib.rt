@@ -1,6 +1,8 @@
 //! The types, numbers and buffers that every layer shares.
 #![tactic(auto)]
 
+use std::alloc::{AllocError, AllocFailed};
+
 mod bits;
 mod descriptor;
 mod disks;
@@ -30,6 +32,18 @@ pub use word::{fill, word_of};
 /// Want of memory: a growth was refused.
 #[derive(Clone, Copy, Debug, PartialEq, Eq)]
 pub struct Memory;
+
+impl From<AllocError> for Memory {
+    fn from(_refused: AllocError) -> Memory {
+        Memory
+    }
+}
+
+impl<T: Drop> From<AllocFailed<T>> for Memory {
+    fn from(_refused: AllocFailed<T>) -> Memory {
+        Memory
+    }
+}
 
 #[cfg(test)]
 mod tests;

@@ -30,7 +30,7 @@ pub struct Framed {
 }
 
 /// An entry of a disk's consistency record: a track group of a volume, 256 blocks, from 0.
-#[derive(Clone, Copy, Debug, PartialEq, Eq)]
+#[derive(Clone, Copy, Debug, Default, PartialEq, Eq)]
 pub struct NoteEntry {
     pub lv: u16,
     pub group: u32,
