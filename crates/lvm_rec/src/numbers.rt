@@ -1,0 +1,36 @@
+//! Big-endian numbers at a place of some bytes.
+ghost use Rattle.std.specs.Prelude.{◌≡◌, ◌+◌, ◌≤◌, length, take, drop};
+ghost use Rattle.std.specs.Int.{w16, w32, w64, from_be_bytes};
+
+/// The number in the two bytes at a place.
+pub fn u16_at(bytes: &[u8], at: usize) -> u16
+    requires { at + 2 ≤ length bytes.now }
+    ensures { result ≡ from_be_bytes w16 (take 2 (drop at bytes.now)) }
+{
+    u16::from_be_bytes([bytes[at], bytes[at + 1]])
+}
+
+/// The number in the four bytes at a place.
+pub fn u32_at(bytes: &[u8], at: usize) -> u32
+    requires { at + 4 ≤ length bytes.now }
+    ensures { result ≡ from_be_bytes w32 (take 4 (drop at bytes.now)) }
+{
+    u32::from_be_bytes([bytes[at], bytes[at + 1], bytes[at + 2], bytes[at + 3]])
+}
+
+/// The number in the eight bytes at a place.
+pub fn u64_at(bytes: &[u8], at: usize) -> u64
+    requires { at + 8 ≤ length bytes.now }
+    ensures { result ≡ from_be_bytes w64 (take 8 (drop at bytes.now)) }
+{
+    u64::from_be_bytes([
+        bytes[at],
+        bytes[at + 1],
+        bytes[at + 2],
+        bytes[at + 3],
+        bytes[at + 4],
+        bytes[at + 5],
+        bytes[at + 6],
+        bytes[at + 7],
+    ])
+}
