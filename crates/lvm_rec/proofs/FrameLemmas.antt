@@ -38,7 +38,7 @@ pub first_is : (content word front : List ℕ) (m k : ℕ) → word ≡ to_be_by
 first_is content word front m k is size front-is same =
     let n = record_sectors (length content) in
     let z = 496 * record_sectors (length content) - 4 - length content in
-    let zeros = drop 4 (replicate 496 0) in
+    let zeros : List ℕ = drop 4 (replicate 496 0) in
     let enough : 492 - length content ≤ z = omega arith in
     ap (λ (j : ℕ). take 4 (word ++ zeros) ++ (front ++ drop j (drop 4 (word ++ zeros)))) same
     ∙ ap (λ (w : List ℕ). take 4 (w ++ zeros) ++ (front ++ drop m (drop 4 (w ++ zeros)))) is

@@ -1,3 +1,4 @@
 pub mod FrameLemmas
 pub mod NoteLemmas
 pub mod SlotLemmas
+pub mod SlotLaws

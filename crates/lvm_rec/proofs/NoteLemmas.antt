@@ -22,7 +22,7 @@ pub one_more : (stamp : ℕ) (entries : List NoteEntry) (k : ℕ) (e : NoteEntry
     ≡ to_be_bytes w64 stamp ++ flat_map entry_bytes (take (k + 1) entries) ++ replicate (504 - 8 * (k + 1)) 0
 one_more stamp entries k e sector lt count is =
     let front = to_be_bytes w64 stamp ++ flat_map entry_bytes (take k entries) in
-    let zeros = replicate (504 - 8 * k) 0 in
+    let zeros : List ℕ = replicate (504 - 8 * k) 0 in
     let own = entry_bytes (get_or entries k e) in
     let size : length (to_be_bytes w64 stamp ++ flat_map entry_bytes (take k entries)) ≡ 8 + 8 * k = long stamp entries k (omega arith) count in
     let left : 504 - 8 * k - 8 ≡ 504 - 8 * (k + 1) = omega arith in
