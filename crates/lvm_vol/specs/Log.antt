@@ -19,6 +19,14 @@ pub record Log : Type 0 where
   pub room : ℕ
   pub bytes : ℕ
 
+-- a history of a run, with this room and no entries
+abbrev pub empty_log : ℕ → ℕ → ℕ → Log
+empty_log run room bytes = record { run = run; facts = []; room = room; bytes = bytes }
+
+-- the history with one entry more
+abbrev pub with_fact : Log → Fact → Log
+with_fact log f = record log { facts = log.facts ++ f ∷ [] }
+
 -- the number of the run's next request
 abbrev pub next_id : Log → ℕ
 next_id log = count_by (begins_in log.run) log.facts + 1
@@ -98,6 +106,18 @@ blocks_begun_with r = if r.write then r.blocks else replicate r.count zero_secto
 -- what a request gets that lands so without bytes: nothing, or for a Got what stands at its place
 abbrev pub got_without_bytes : Request → Outcome → List (List ℕ)
 got_without_bytes r how = if is_got how then blocks_begun_with r else []
+
+-- the entry by which the request of this number lands so, without bytes
+abbrev pub landed_fact : List Fact → ℕ → Outcome → Bool → Fact
+landed_fact facts id how started = Landed (request_of facts id) how started (got_without_bytes (request_of facts id) how)
+
+-- the entry by which the read of this number lands with these bytes
+abbrev pub got_fact : List Fact → ℕ → List ℕ → Fact
+got_fact facts id bytes = Landed (request_of facts id) outcome.Got true (first_chunks 512 (request_of facts id).count bytes)
+
+-- the entry by which the answer of the request of this number is taken
+abbrev pub taken_fact : List Fact → ℕ → Fact
+taken_fact facts id = Taken (request_of facts id)
 
 -- the entries that are pushed as they are
 abbrev pub is_plain : Entry → Bool
@@ -188,7 +208,7 @@ is_uncut facts = is_uncut_from false facts
 
 -- the history with a Cut, if there is something to end
 abbrev pub cut_log : Log → Log
-cut_log log = if is_uncut log.facts then record log { facts = log.facts ++ Cut ∷ [] } else log
+cut_log log = if is_uncut log.facts then with_fact log Cut else log
 
 -- what the read of this number got
 abbrev pub got_by : ℕ → Fact → Option (List (List ℕ))

@@ -70,7 +70,8 @@ fn is_got(outcome: Outcome) -> bool
 /// it asked for, each with a value that its block may have.
 fn may_get(before: &[Row], id: u64, asks: &[Ask], blocks: &[[u8; 512]]) -> bool
     requires { is_bounded (ask_of asks.now id) ≡ true }
-    ensures { (run : ℕ) → IsTrue result ↔ Gets (facts_of run asks.now blocks.now before.now) (request_in run asks.now blocks.now id) (blocks_at blocks.now (ask_of asks.now id)) }
+    ensures { (run : ℕ) → let past = facts_of run asks.now blocks.now before.now in
+        IsTrue result ↔ Gets past (request_in run asks.now blocks.now id) (blocks_at blocks.now (ask_of asks.now id)) }
 {
     let ask = ask_or_none(asks, id);
     if (blocks.len() as u64).saturating_sub(ask.place) < u64::from(ask.count) {
@@ -91,7 +92,9 @@ fn may_get(before: &[Row], id: u64, asks: &[Ask], blocks: &[[u8; 512]]) -> bool
 
 /// Whether the request of this number is open after the rows and of a kind that may end so.
 fn may_end_after(before: &[Row], id: u64, outcome: Outcome, started: bool, asks: &[Ask]) -> bool
-    ensures { result ≡ (list_any (is_beginning id) before.now && not (list_any (is_landing id) before.now) && is_kind outcome (ask_of asks.now id).write started) }
+    ensures { let begun = list_any (is_beginning id) before.now in
+        let landed = list_any (is_landing id) before.now in
+        result ≡ (begun && not landed && is_kind outcome (ask_of asks.now id).write started) }
 {
     has_begun(before, id)
         && !has_landed(before, id)
@@ -108,7 +111,8 @@ fn may_land(
     blocks: &[[u8; 512]],
 ) -> bool
     requires { is_bounded (ask_of asks.now id) ≡ true }
-    ensures { (run : ℕ) → IsTrue result ↔ Fits (facts_of run asks.now blocks.now before.now) (fact_of run asks.now blocks.now (Landed id outcome started)) }
+    ensures { (run : ℕ) → let past = facts_of run asks.now blocks.now before.now in
+        IsTrue result ↔ Fits past (fact_of run asks.now blocks.now (Landed id outcome started)) }
 {
     if !may_end_after(before, id, outcome, started, asks) {
         return false;
@@ -122,7 +126,10 @@ fn may_land(
 
 /// Whether the client may take the answer of the request of this number after the rows.
 fn may_take(before: &[Row], client: u32, id: u64, asks: &[Ask]) -> bool
-    ensures { result ≡ (list_any (is_beginning id) before.now && (ask_of asks.now id).client == client && list_any (is_landing id) before.now && not (list_any (is_taking id) before.now)) }
+    ensures { let begun = list_any (is_beginning id) before.now in
+        let landed = list_any (is_landing id) before.now in
+        let taken = list_any (is_taking id) before.now in
+        result ≡ (begun && (ask_of asks.now id).client == client && landed && not taken) }
 {
     has_begun(before, id)
         && ask_or_none(asks, id).client == client
@@ -133,7 +140,8 @@ fn may_take(before: &[Row], client: u32, id: u64, asks: &[Ask]) -> bool
 /// Whether the row may follow those before it.
 fn may_follow(before: &[Row], row: &Row, asks: &[Ask], blocks: &[[u8; 512]]) -> bool
     requires { list_all is_bounded asks.now ≡ true }
-    ensures { (run : ℕ) → IsTrue result ↔ Fits (facts_of run asks.now blocks.now before.now) (fact_of run asks.now blocks.now row.now) }
+    ensures { (run : ℕ) → let past = facts_of run asks.now blocks.now before.now in
+        IsTrue result ↔ Fits past (fact_of run asks.now blocks.now row.now) }
 {
     match *row {
         Row::Begun { id } => id == begun_count(before) as u64 + 1,

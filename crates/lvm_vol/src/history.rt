@@ -1,6 +1,5 @@
 //! The list of what was asked and answered, in room that is made with it.
-ghost use Rattle.std.specs.Prelude.{◌≡◌, ◌↔◌, ◌+◌, ◌-◌, ◌*◌, ◌%◌, ◌^◌, ◌<◌, ◌≤◌, ◌++◌, [], ◌∷◌, length, IfOk, IsTrue, IsSome, IfSome, Some, option_copied, slice_get, true, false, vec_len, vec_capacity, replicate, take, drop};
-ghost use Rattle.std.specs.Simd.{first_chunks};
+ghost use Rattle.std.specs.Prelude.{◌≡◌, ◌==◌, ◌↔◌, ◌+◌, ◌-◌, ◌*◌, ◌%◌, ◌^◌, ◌<◌, ◌≤◌, ◌++◌, [], ◌∷◌, length, IfOk, IsTrue, IsSome, IfSome, Some, option_copied, slice_get, true, false, vec_len, vec_capacity, replicate, take, drop};
 ghost use Rattle.std.specs.List.{list_any};
 ghost use Rattle.std.specs.Option.{ForSome};
 ghost use Rattle.lvm_num.specs.Buffer.{zero_sector};
@@ -8,9 +7,8 @@ ghost use Rattle.lvm_vol.specs.Legal.{Legal};
 ghost use Rattle.lvm_vol.specs.May.{known, May};
 ghost use Rattle.lvm_vol.specs.Order.{Ordered};
 ghost use Rattle.lvm_vol.specs.Rows.{row_of, blocks_first, ask_found, is_open_by, awaited_by, is_answered_by, is_landing, is_taking, entry_kept, IsOneOfAsks};
-ghost use Rattle.lvm_vol.specs.declared.entry.Outcome.TheVariants.{Got};
-ghost use Rattle.lvm_vol.specs.Facts.{Begun, Landed, Taken};
-ghost use Rattle.lvm_vol.specs.Log.{next_id, next_request, asked, request_of, is_open, awaited, is_answered, got_without_bytes, is_plain, plain_fact, spare_entries, open_count, landed_count, spare_bytes, cut_log, is_uncut_after, blocks_begun, blocks_of, entries_of};
+ghost use Rattle.lvm_vol.specs.Facts.{Begun};
+ghost use Rattle.lvm_vol.specs.Log.{empty_log, with_fact, next_id, next_request, asked, request_of, is_open, awaited, is_answered, landed_fact, got_fact, taken_fact, is_plain, plain_fact, spare_entries, open_count, landed_count, spare_bytes, cut_log, is_uncut_after, blocks_begun, blocks_of, entries_of};
 
 use crate::entry::{Entry, Outcome, Vol};
 use crate::fits::{has_landed, is_legal, is_taken};
@@ -57,7 +55,7 @@ impl History {
     /// written and read.
     pub fn new(alloc: Global, run: u64, entries: u32, bytes: u64) -> Result<History, Memory>
         requires { 4 ≤ entries }
-        ensures { IfOk result (λ history. history ≡ record { run = run; facts = []; room = entries; bytes = bytes }) }
+        ensures { IfOk result (λ history. history ≡ empty_log run entries bytes) }
     {
         let (Ok(rows), Ok(asks), Ok(blocks)) = (
             Vec::with_capacity(alloc, entries as usize),
@@ -94,12 +92,20 @@ impl History {
         self.rows.len() as u32
     }
 
+    /// Whether it has none.
+    pub fn is_empty(&self) -> bool
+        ensures { result ≡ (length self.now.facts == 0) }
+    {
+        self.len() == 0
+    }
+
     /// How many entries can still be entered: the room less the entries, less two for each request that
     /// has begun and not landed, one for each that has landed and isn't taken, and one that is kept for
     /// a cut.
     pub fn spare_entries(&self) -> u32
         ensures spare { result ≡ spare_entries self.now }
-        ensures counted { result ≡ self.now.room - length self.now.facts - 2 * open_count self.now.facts - landed_count self.now.facts - 1 }
+        ensures counted { let log = self.now in
+            result ≡ log.room - length log.facts - 2 * open_count log.facts - landed_count log.facts - 1 }
     {
         self.room.saturating_sub(self.needed).saturating_sub(1)
     }
@@ -142,10 +148,13 @@ impl History {
         requires group { at % 256 + count ≤ 256 }
         requires length { ForSome (option_copied bytes) (λ given. length given ≡ 512 * count) }
         ensures id { result ≡ next_id self.old }
-        ensures entered { self.new ≡ record self.old { facts = self.old.facts ++ Begun (next_request self.old client vol at count (option_copied bytes.entry)) ∷ [] } }
+        ensures entered { let r = next_request self.old client vol at count (option_copied bytes.entry) in
+            self.new ≡ with_fact self.old (Begun r) }
+
         // From now on it can land.
         ensures opened { is_open self.new.facts result ≡ true }
-        ensures named { asked self.new.facts result ≡ Some (next_request self.old client vol at count (option_copied bytes.entry)) }
+        ensures named { let r = next_request self.old client vol at count (option_copied bytes.entry) in
+            asked self.new.facts result ≡ Some r }
     {
         let place = self.blocks.len() as u64;
         append_given(&mut self.blocks, count, bytes);
@@ -171,7 +180,7 @@ impl History {
     /// stand at its place: zeros, or a write's own.
     pub fn land(&mut self, id: u64, outcome: Outcome, started: bool)
         requires { is_open self.old.facts id ≡ true }
-        ensures entered { self.new ≡ record self.old { facts = self.old.facts ++ Landed (request_of self.old.facts id) outcome started (got_without_bytes (request_of self.old.facts id) outcome) ∷ [] } }
+        ensures entered { self.new ≡ with_fact self.old (landed_fact self.old.facts id outcome started) }
         ensures answered { is_answered self.new.facts (request_of self.old.facts id).client id ≡ true }
     {
         append(
@@ -188,7 +197,7 @@ impl History {
     pub fn land_read(&mut self, id: u64, bytes: &[u8])
         requires read { IsSome (awaited self.old.facts id) }
         requires length { ForSome (awaited self.old.facts id) (λ count. length bytes.now ≡ 512 * count) }
-        ensures entered { self.new ≡ record self.old { facts = self.old.facts ++ Landed (request_of self.old.facts id) Got true (first_chunks 512 (request_of self.old.facts id).count bytes.now) ∷ [] } }
+        ensures entered { self.new ≡ with_fact self.old (got_fact self.old.facts id bytes.now) }
         ensures answered { is_answered self.new.facts (request_of self.old.facts id).client id ≡ true }
     {
         let place = self.asks[(id - 1) as usize].place as usize;
@@ -206,7 +215,7 @@ impl History {
     /// Enters that a client has taken the answer of its request.
     pub fn taken(&mut self, client: u32, id: u64)
         requires { is_answered self.old.facts client id ≡ true }
-        ensures { self.new ≡ record self.old { facts = self.old.facts ++ Taken (request_of self.old.facts id) ∷ [] } }
+        ensures { self.new ≡ with_fact self.old (taken_fact self.old.facts id) }
     {
         append(&mut self.rows, Row::Taken { client, id });
     }
@@ -215,7 +224,7 @@ impl History {
     pub fn push(&mut self, entry: Entry)
         requires spare { 1 ≤ spare_entries self.old }
         requires plain { is_plain entry ≡ true }
-        ensures { self.new ≡ record self.old { facts = self.old.facts ++ plain_fact entry ∷ [] } }
+        ensures { self.new ≡ with_fact self.old (plain_fact entry) }
     {
         append(&mut self.rows, plain_row(entry));
         self.needed += 1;
@@ -329,7 +338,8 @@ fn append_given(blocks: &mut Vec<[u8; 512]>, count: u32, bytes: Option<&[u8]>)
 // Writes over blocks from a place on.
 fn overwrite(blocks: &mut Vec<[u8; 512]>, place: usize, more: &[[u8; 512]])
     requires { place + length more.now ≤ vec_len blocks.old }
-    ensures items { blocks.new.items ≡ take place blocks.old.items ++ more.now ++ drop (place + length more.now) blocks.old.items }
+    ensures items { let old = blocks.old.items in
+        blocks.new.items ≡ take place old ++ more.now ++ drop (place + length more.now) old }
     ensures capacity { vec_capacity blocks.new ≡ vec_capacity blocks.old }
 {
     blocks[place..place + more.len()].copy_from_slice(more);
@@ -374,7 +384,8 @@ fn awaited_in(asks: &[Ask], rows: &[Row], id: u64) -> Option<u32>
 
 // Whether the request of this number is this client's, has landed and isn't taken.
 fn is_answered_in(asks: &[Ask], rows: &[Row], client: u32, id: u64) -> bool
-    ensures { result ≡ is_answered_by (ask_found asks.now id) client (list_any (is_landing id) rows.now) (list_any (is_taking id) rows.now) }
+    ensures { let landed = list_any (is_landing id) rows.now in
+        result ≡ is_answered_by (ask_found asks.now id) client landed (list_any (is_taking id) rows.now) }
 {
     match ask_of(asks, id) {
         Some(ask) => ask.client == client && has_landed(rows, id) && !is_taken(rows, id),

@@ -242,7 +242,8 @@ fn after_row(
     block: Block,
     value: &[u8; 512],
 ) -> Seen
-    ensures { result ≡ seen_step seen before.now asks.now blocks.now block.vol block.number value.now row.now }
+    ensures { let step = seen_step seen before.now asks.now blocks.now in
+        result ≡ step block.vol block.number value.now row.now }
 {
     match *row {
         Row::Making { lv, blocks, mode } if Vol::Lv(lv) == block.vol && block.number < blocks =>
@@ -306,7 +307,8 @@ pub fn is_allowed(
     block: Block,
     value: &[u8; 512],
 ) -> bool
-    ensures { (run : ℕ) → IsTrue result ↔ May (known (facts_of run asks.now blocks.now rows.now) block.vol block.number) value.now }
+    ensures { (run : ℕ) → let facts = facts_of run asks.now blocks.now rows.now in
+        IsTrue result ↔ May (known facts block.vol block.number) value.now }
 {
     let mut here = origin(rows, block.vol);
     let mut seen = Seen {
