@@ -4,3 +4,4 @@ pub mod Counting
 pub mod Entering
 pub mod Knowing
 pub mod Legality
+pub mod Growing

@@ -7,3 +7,4 @@ pub mod Log
 pub mod Order
 pub mod Rows
 pub mod Opened
+pub mod Fronts

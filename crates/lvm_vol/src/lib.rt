@@ -6,6 +6,8 @@ mod entry;
 mod history;
 pub mod laws;
 mod row;
+mod shown;
 
 pub use entry::{Entry, Outcome, Vol};
 pub use history::History;
+pub use shown::{Past, Shown};
