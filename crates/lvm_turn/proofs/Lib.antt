@@ -1,0 +1,5 @@
+mod Growing
+pub mod Keeping
+pub mod Parting
+pub mod Nested
+pub mod Ends
