@@ -3,3 +3,6 @@ pub mod Keeping
 pub mod Parting
 pub mod Nested
 pub mod Ends
+pub mod Clients
+pub mod Leaving
+pub mod Idle

@@ -1,10 +1,17 @@
 -- What the calls of a turn ask and promise.
 use Rattle.std.specs.Prelude.{◌≡◌, ℕ, ◌-◌, ◌%◌, ◌^◌, ◌<◌, ◌≤◌, ◌⊎◌, false, Option, List, []}
+use Rattle.atomic_table.specs.Seated.{TableId}
 use Rattle.lvm_num.specs.Buffer.{Sector}
 use Rattle.lvm_vol.specs.Facts.{Fact}
 use Rattle.lvm_vol.specs.Fronts.{Told, own, Begins, NoneFell}
-use Rattle.lvm_turn.specs.Views.{View, Owns, Holds, up_to, renewed, reads, enters}
+use Rattle.lvm_turn.specs.Views.{Standing, numbers, View, Owns, Holds, up_to, renewed, reads, enters}
 use Rattle.lvm_turn.specs.Rules.{fixed_of}
+
+-- a pass at this turn that is outside and holds the clients of these numbers
+pub record IsIdle (table : TableId) (clients : List ℕ) (p : Standing) : Type 0 where
+  pub at : p.table ≡ table
+  pub outside : p.knows.inside ≡ false
+  pub holds : numbers p.knows.clients ≡ clients
 
 -- The pass v was lent a value that tells this, and is w since. The turn was free and went over to it.
 pub record HasEntered (v : View) (told : Told) (w : View) : Type 0 where

@@ -53,6 +53,14 @@ HoldsSome xs = (c : ℕ) × Holds xs c
 abbrev pub HoldsAll : ℕ → List Client → Type 0
 HoldsAll n xs = (c : ℕ) → 0 < c → c ≤ n → Holds xs c
 
+abbrev pub numbers : List Client → List ℕ
+numbers xs = map (λ x. x.number) xs
+
+-- the numbers 1 to n
+abbrev pub counted : ℕ → List ℕ
+counted zero = []
+counted (suc n) = counted n ++ suc n ∷ []
+
 -- the clients 1 to n, the highest first, without any entries
 abbrev pub up_to : ℕ → List Client
 up_to zero = []

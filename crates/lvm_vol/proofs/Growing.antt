@@ -1,7 +1,9 @@
--- How histories and counts grow.
+-- How histories and counts grow, and whose the entries are that were added.
 use Rattle.std.proofs.Common.{◌≡◌, ℕ, ◌≤◌, List, [], ◌∷◌, ◌++◌, sym, ap, ◌∙◌, arith}
 use mathlib.Core.List.{append_assoc, append-nil}
-use Rattle.lvm_vol.specs.Fronts.{Begins, NoneFell}
+use Rattle.std.proofs.lemmas.List.Elements.{filter-append}
+use Rattle.lvm_vol.specs.Facts.{Fact}
+use Rattle.lvm_vol.specs.Fronts.{is_own, own, Begins, NoneFell}
 
 module _ {X : Type 0} where
   pub begins_itself : (xs : List X) → Begins xs xs
@@ -19,3 +21,6 @@ none_fell_further [] ys zs a b = tt
 none_fell_further (x ∷ xs) [] zs a b = absurd a
 none_fell_further (x ∷ xs) (y ∷ ys) [] a b = absurd b
 none_fell_further (x ∷ xs) (y ∷ ys) (z ∷ zs) a b = let p = a.0 in let q = b.0 in (omega arith, none_fell_further xs ys zs a.1 b.1)
+
+pub own-append : (client : ℕ) (xs ys : List Fact) → own client (xs ++ ys) ≡ own client xs ++ own client ys
+own-append client xs ys = filter-append (is_own client) xs ys
