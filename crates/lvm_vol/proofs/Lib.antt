@@ -7,3 +7,4 @@ pub mod Legality
 pub mod Looking
 pub mod Judging
 pub mod Staying
+pub mod Growing

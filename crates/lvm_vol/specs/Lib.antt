@@ -9,3 +9,4 @@ pub mod Rows
 pub mod Seen
 pub mod Fitting
 pub mod Opened
+pub mod Fronts

@@ -7,10 +7,12 @@ mod fits;
 mod history;
 pub mod laws;
 mod row;
+mod shown;
 mod values;
 
 pub use entry::{Entry, Outcome, Vol};
 pub use history::History;
+pub use shown::{Past, Shown};
 
 #[cfg(test)]
 mod tests;
