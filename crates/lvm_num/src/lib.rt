@@ -30,3 +30,6 @@ pub use word::{fill, word_of};
 /// Want of memory: a growth was refused.
 #[derive(Clone, Copy, Debug, PartialEq, Eq)]
 pub struct Memory;
+
+#[cfg(test)]
+mod tests;
