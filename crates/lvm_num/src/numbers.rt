@@ -107,4 +107,16 @@ impl VolumeNumbers {
     {
         self.items.clear();
     }
+
+    /// Becomes these numbers, without memory.
+    pub fn copy_from(&mut self, numbers: &[u16])
+        requires { length numbers.now ≤ 511 }
+        ensures { self.new ≡ numbers.now }
+    {
+        self.items.clear();
+        match self.items.extend_from_slice(numbers) {
+            Ok(()) => {}
+            Err(_) => unreachable!(),
+        }
+    }
 }

@@ -95,4 +95,14 @@ impl<T> Rows<T> {
     {
         self.items[place] = row;
     }
+
+    /// Becomes these rows, of which there are as many, without memory.
+    pub fn copy_from(&mut self, rows: &[T])
+    where
+        T: Copy,
+        requires { length rows.now ≡ length self.old }
+        ensures { self.new ≡ rows.now }
+    {
+        self.items.copy_from_slice(rows);
+    }
 }
