@@ -1,5 +1,5 @@
 //! A list over a `Vec`.
-ghost use Rattle.std.specs.Prelude.{◌≡◌, length, [], ◌==◌, slice_get};
+ghost use Rattle.std.specs.Prelude.{◌≡◌, length, [], ◌==◌, ◌<◌, slice_get, slice_set};
 ghost use Rattle.std.specs.Option.{option_copied};
 ghost use Rattle.std.specs.Cmp.Lexicographic.{pointwise};
 ghost use Rattle.std.specs.Cmp.Rules.{comparing};
@@ -84,5 +84,25 @@ impl<T> Rows<T> {
         ensures { result.now ≡ self.now }
     {
         &self.items
+    }
+
+    /// Puts a row at a place, from 0, over the one there.
+    pub fn set(&mut self, place: usize, row: T)
+    where
+        T: Drop,
+        requires { place < length self.old }
+        ensures { self.new ≡ slice_set self.old place row }
+    {
+        self.items[place] = row;
+    }
+
+    /// Becomes these rows, of which there are as many, without memory.
+    pub fn copy_from(&mut self, rows: &[T])
+    where
+        T: Copy,
+        requires { length rows.now ≡ length self.old }
+        ensures { self.new ≡ rows.now }
+    {
+        self.items.copy_from_slice(rows);
     }
 }

@@ -2,8 +2,8 @@
 
 ghost use Rattle.std.specs.Prelude.{◌↔◌, IsTrue};
 
-use crate::Rows;
 use crate::valid::{are_dirty, are_status_rows};
+use crate::{Rows, VolumeNumbers};
 
 /// What a status says of one member.
 #[derive(Clone, Copy, Debug, PartialEq, Eq)]
@@ -23,7 +23,7 @@ pub struct Status {
     /// Whether the group is big.
     pub big: bool,
     /// The numbers of the volumes with passive consistency that may differ after a crash, rising.
-    pub dirty: Rows<u16>,
+    pub dirty: VolumeNumbers,
     /// By rising disk numbers.
     pub rows: Rows<StatusRow>,
 }

@@ -1,4 +1,7 @@
-use crate::{Descriptor, DiskSet, LvRow, Mode, Name, Policy, Pp, PvRow, Rows, Status, StatusRow};
+use crate::{
+    Descriptor, DiskSet, LvRow, Mode, Name, Policy, Pp, PvRow, Rows, Status, StatusRow,
+    VolumeNumbers,
+};
 use std::alloc::Global;
 use std::test::Fail;
 
@@ -256,6 +259,10 @@ fn status_rows(alloc: Global, disks: &[u16]) -> Result<Rows<StatusRow>, Fail> {
     Ok(Rows::new(rows))
 }
 
+fn numbers_of(alloc: Global, numbers: &[u16]) -> Result<VolumeNumbers, Fail> {
+    Ok(VolumeNumbers::new(alloc, numbers).map_err(|_| "memory")?)
+}
+
 #[test]
 fn statuses_are_refused_at_each_rule(rt: HostRuntime) -> Result<(), Fail> {
     let alloc = rt.alloc();
@@ -263,7 +270,7 @@ fn statuses_are_refused_at_each_rule(rt: HostRuntime) -> Result<(), Fail> {
         let status = Status {
             id: 50,
             big: *big,
-            dirty: Rows::new(Vec::from_slice(alloc, dirty)?),
+            dirty: numbers_of(alloc, dirty)?,
             rows: status_rows(alloc, disks)?,
         };
         assert_eq!(rt; status.is_valid(), *valid, "{what}");
@@ -280,7 +287,7 @@ fn statuses_are_refused_at_each_rule(rt: HostRuntime) -> Result<(), Fail> {
     ] {
         disks.truncate(count);
         let rows = status_rows(alloc, &disks)?;
-        let dirty = Rows::empty(alloc);
+        let dirty = numbers_of(alloc, &[])?;
         let status = Status {
             id,
             big,
