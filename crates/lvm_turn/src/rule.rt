@@ -80,6 +80,7 @@ impl Chosen for Brand {
     ghost client = { 0 };
 }
 
+// Cuts a pass in two: the chosen client goes over to the new one.
 pub(crate) struct Part<C> {
     chosen: PhantomData<C>,
 }
@@ -90,6 +91,7 @@ impl<C: Chosen> Split<View> for Part<C> {
     ghost right = { with_client_alone C.client };
 }
 
+// Takes another pass in, which is spent from then on.
 pub(crate) struct Merge;
 
 impl Join<View> for Merge {

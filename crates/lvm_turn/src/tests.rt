@@ -68,6 +68,37 @@ impl Desk {
     }
 }
 
+// Enters and leaves the value as it was.
+fn visit<V: Shown, R: Wait>(rt: &R, turn: &Turn<V>, mut pass: Pass, client: u32) -> Pass
+    requires { IsIdle turn.now.table (client ∷ []) pass }
+    ensures { IsIdle turn.now.table (client ∷ []) result }
+{
+    let value = turn.enter(rt, &mut pass);
+    turn.leave(&mut pass, value);
+    pass
+}
+
+// Two passes at once, over any value that may go from thread to thread.
+fn visit_both<V: Shown + Send, R: Threads + Wait + Sync>(
+    rt: &R,
+    turn: &Turn<V>,
+    one: Pass,
+    client: u32,
+    two: Pass,
+    other: u32,
+) -> (Pass, Pass)
+    requires one { IsIdle turn.now.table (client ∷ []) one }
+    requires two { IsIdle turn.now.table (other ∷ []) two }
+    ensures one { IsIdle turn.now.table (client ∷ []) result.0 }
+    ensures two { IsIdle turn.now.table (other ∷ []) result.1 }
+{
+    thread::join(
+        rt,
+        move || visit(rt, turn, one, client),
+        move || visit(rt, turn, two, other),
+    )
+}
+
 // Enters a hundred times, each time to begin a request of its client.
 fn work<R: Wait>(rt: &R, turn: &Turn<Desk>, mut pass: Pass, client: u32) -> Pass
     requires { IsIdle turn.now.table (client ∷ []) pass }
@@ -168,7 +199,8 @@ fn a_pass_that_met_a_holder_gets_the_turn_once_it_is_free(rt: HostRuntime) {
 fn two_threads_enter_a_hundred_times_each(rt: HostRuntime) {
     let (turn, mut one) = opened(&rt, rt.alloc(), 2);
     let two = turn.split(&mut one, 2);
-    let (mut all, two) = work_both(&rt, &turn, one, 1, two, 2);
+    let (one, two) = work_both(&rt, &turn, one, 1, two, 2);
+    let (mut all, two) = visit_both(&rt, &turn, one, 1, two, 2);
     turn.join(&mut all, two);
     let desk = turn.close(all);
     assert_eq!(rt; (desk.shown(), desk.lent), (200, 200));
