@@ -1,0 +1,10 @@
+//! The bytes of a status.
+#![tactic(auto)]
+
+mod putting;
+mod writing;
+
+pub use writing::{encode, encode_into};
+
+#[cfg(test)]
+mod tests;
