@@ -10,6 +10,8 @@ mod reply;
 mod room;
 mod run;
 mod script;
+#[cfg(test)]
+mod tests;
 mod words;
 
 pub use command::run_words;

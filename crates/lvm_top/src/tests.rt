@@ -1,0 +1,263 @@
+// Scripts over disks in memory, with faults and power cuts at each call.
+
+use crate::{Ended, Room, run_script, run_words};
+use lvm_disk::{Act, MemShelf, Planned, Shelf, names_disks};
+use lvm_io::{MemClock, MemSink, MemSource};
+use lvm_num::{Rows, Text};
+use lvm_vol::Vol;
+use std::alloc::Global;
+use std::test::Fail;
+
+const AMPLE: Room = Room {
+    table: 4,
+    pool: 4,
+    entries: 64,
+    bytes: 8_192,
+};
+
+const WRITE_AND_READ: &[u8] = b"wr hdisk0 4096 1 0000000000000001\nrd hdisk0 4096 1\n";
+
+const WRITE_TWICE_AND_READ: &[u8] =
+    b"wr hdisk0 4096 1 0000000000000001\nwr hdisk0 4096 1 0000000000000002\nrd hdisk0 4096 1\n";
+
+// A run over one disk of 4,100 sectors, from a source whose reads of these numbers fail, to a sink with
+// this room.
+#[derive(Clone, Copy, Drop)]
+struct Setting<'a> {
+    script: &'a [u8],
+    plan: &'a [Planned],
+    room: Room,
+    fails: &'a [u64],
+    sink: usize,
+}
+
+fn given<'a>(script: &'a [u8], plan: &'a [Planned]) -> Setting<'a> {
+    Setting {
+        script,
+        plan,
+        room: AMPLE,
+        fails: &[],
+        sink: 4_096,
+    }
+}
+
+fn run(alloc: Global, setting: &Setting) -> Result<(Ended<MemShelf>, MemSink), Fail> {
+    if !names_disks(setting.plan, 1) || setting.room.entries < 4 {
+        return Err(Fail::from("no such setting"));
+    }
+    let plan = Rows::new(Vec::from_slice(alloc, setting.plan)?);
+    let shelf = MemShelf::new(alloc, &[4_100], plan, 8)?;
+    let script = Rows::new(Vec::from_slice(alloc, setting.script)?);
+    let fails = Rows::new(Vec::from_slice(alloc, setting.fails)?);
+    let mut input = MemSource::new(script, fails);
+    let mut out = MemSink::new(alloc, setting.sink, Rows::empty(alloc))?;
+    let mut clock = MemClock::new(7);
+    let room = Room {
+        entries: setting.room.entries,
+        ..AMPLE
+    };
+    let ended = run_script(alloc, &mut input, &mut out, shelf, &mut clock, room);
+    Ok((ended, out))
+}
+
+// Whether the run's history is legal, and what stands at sector 4,096 is a value that it allows.
+fn agrees(ended: &Ended<MemShelf>) -> bool {
+    let Some(history) = &ended.history else {
+        return false;
+    };
+    if ended.shelf.disks() == 0 {
+        return false;
+    }
+    let image = ended.shelf.image(0);
+    let Some(sector) = image.get(4_096 * 512..4_097 * 512) else {
+        return false;
+    };
+    let Ok(value) = <&[u8; 512]>::try_from(sector) else {
+        return false;
+    };
+    history.is_legal() && history.may_of(Vol::Disk(0), 4_096, value)
+}
+
+#[test]
+fn an_empty_script_writes_nothing(rt: HostRuntime) -> Result<(), Fail> {
+    let (ended, out) = run(rt.alloc(), &given(b"", &[]))?;
+    assert_eq!(rt; ended.status, 0);
+    assert_eq!(rt; out.bytes(), b"".as_slice());
+    Ok(())
+}
+
+#[test]
+fn a_block_is_written_and_read_back(rt: HostRuntime) -> Result<(), Fail> {
+    let (ended, out) = run(rt.alloc(), &given(WRITE_AND_READ, &[]))?;
+    assert_eq!(rt; ended.status, 0);
+    assert_eq!(rt; ended.refused, 0);
+    assert_eq!(rt; out.bytes(), b"ok\n4096 0000000000000001\n".as_slice());
+    assert!(rt; agrees(&ended));
+    Ok(())
+}
+
+#[test]
+fn lines_are_skipped_or_refused(rt: HostRuntime) -> Result<(), Fail> {
+    let script = b"  \n# a remark\nrd hdisk0 4095 1\nrd hdisk0 4100 1\n rd  hdisk0 4099 1 \nrd hdisk1 4096 1\nrd hdisk0 4096 2\nwr hdisk0 4096 1 1";
+    let (ended, out) = run(rt.alloc(), &given(script, &[]))?;
+    assert_eq!(rt; ended.status, 1);
+    assert_eq!(rt; ended.refused, 5);
+    let wanted = b"refused 18 OutOfRange 4100\nrefused 18 OutOfRange 4100\n4099 0000000000000000\nrefused 1 BadLine 1\nrefused 1 BadLine 1\nrefused 1 BadLine 1\n";
+    assert_eq!(rt; out.bytes(), wanted.as_slice());
+    Ok(())
+}
+
+#[test]
+fn a_full_history_refuses(rt: HostRuntime) -> Result<(), Fail> {
+    let full = Setting {
+        room: Room {
+            entries: 4,
+            ..AMPLE
+        },
+        ..given(WRITE_AND_READ, &[])
+    };
+    let (ended, out) = run(rt.alloc(), &full)?;
+    assert_eq!(rt; ended.status, 1);
+    assert_eq!(rt; out.bytes(), b"ok\nrefused 25 HistoryFull\n".as_slice());
+    Ok(())
+}
+
+#[test]
+fn a_source_or_a_sink_that_fails_ends_the_run(rt: HostRuntime) -> Result<(), Fail> {
+    let failing_source = Setting {
+        fails: &[2],
+        ..given(WRITE_AND_READ, &[])
+    };
+    let (ended, _) = run(rt.alloc(), &failing_source)?;
+    assert_eq!(rt; ended.status, 3);
+    let small_sink = Setting {
+        sink: 2,
+        ..given(WRITE_AND_READ, &[])
+    };
+    let (ended, out) = run(rt.alloc(), &small_sink)?;
+    assert_eq!(rt; ended.status, 4);
+    assert_eq!(rt; out.bytes(), b"ok".as_slice());
+    Ok(())
+}
+
+#[test]
+fn a_cut_at_each_call_leaves_a_value_that_is_allowed(rt: HostRuntime) -> Result<(), Fail> {
+    for call in 1..=7 {
+        for word in [0, 0x5555_5555_5555_5555, u64::MAX] {
+            let plan = [Planned {
+                call,
+                act: Act::Cut(word),
+            }];
+            let (ended, _) = run(rt.alloc(), &given(WRITE_TWICE_AND_READ, &plan))?;
+            assert_eq!(rt; ended.refused, if call == 7 { 0 } else { 1 });
+            assert!(rt; agrees(&ended));
+        }
+    }
+    Ok(())
+}
+
+#[test]
+fn a_disk_that_fails_at_each_call_leaves_a_value_that_is_allowed(
+    rt: HostRuntime,
+) -> Result<(), Fail> {
+    for call in 1..=6 {
+        for word in [0, u64::MAX] {
+            let plan = [
+                Planned {
+                    call: 1,
+                    act: Act::Pick(word),
+                },
+                Planned {
+                    call,
+                    act: Act::Fail(0),
+                },
+            ];
+            let (ended, _) = run(rt.alloc(), &given(WRITE_TWICE_AND_READ, &plan))?;
+            assert!(rt; ended.refused > 0);
+            assert!(rt; agrees(&ended));
+        }
+    }
+    Ok(())
+}
+
+#[test]
+fn a_failed_write_is_lost_and_a_failed_read_says_so(rt: HostRuntime) -> Result<(), Fail> {
+    let plan = [Planned {
+        call: 2,
+        act: Act::Fail(0),
+    }];
+    let (ended, out) = run(rt.alloc(), &given(WRITE_AND_READ, &plan))?;
+    assert_eq!(rt; ended.status, 1);
+    assert_eq!(rt; out.bytes(), b"refused 19 Lost\nrefused 20 ReadFailed\n".as_slice());
+    Ok(())
+}
+
+#[test]
+fn a_transfer_that_never_ends_is_stuck(rt: HostRuntime) -> Result<(), Fail> {
+    let plan = [Planned {
+        call: 1,
+        act: Act::Delay(u32::MAX),
+    }];
+    let (ended, out) = run(rt.alloc(), &given(WRITE_AND_READ, &plan))?;
+    assert_eq!(rt; ended.status, 6);
+    assert_eq!(rt; out.bytes(), b"refused 24 Stuck\n".as_slice());
+    Ok(())
+}
+
+#[test]
+fn a_delayed_transfer_ends_later(rt: HostRuntime) -> Result<(), Fail> {
+    let plan = [Planned {
+        call: 1,
+        act: Act::Delay(9),
+    }];
+    let (ended, out) = run(rt.alloc(), &given(WRITE_AND_READ, &plan))?;
+    assert_eq!(rt; ended.status, 0);
+    assert_eq!(rt; out.bytes(), b"ok\n4096 0000000000000001\n".as_slice());
+    Ok(())
+}
+
+// The status of the words, and what was written to the first and to the second sink.
+fn said(
+    alloc: Global,
+    words: &[&str],
+    script: &[u8],
+) -> Result<(u8, MemSink, MemSink), Fail> {
+    let mut texts = Vec::new(alloc);
+    for word in words {
+        texts.push(Text::new(String::from_str(alloc, word)?))?;
+    }
+    let mut input = MemSource::new(Rows::new(Vec::from_slice(alloc, script)?), Rows::empty(alloc));
+    let mut out = MemSink::new(alloc, 4_096, Rows::empty(alloc))?;
+    let mut err = MemSink::new(alloc, 4_096, Rows::empty(alloc))?;
+    let mut clock = MemClock::new(7);
+    let ended = run_words(alloc, texts.as_slice(), &mut input, &mut out, &mut err, &mut clock);
+    Ok((ended.status, out, err))
+}
+
+#[test]
+fn words_outside_the_language_are_answered_by_usage(rt: HostRuntime) -> Result<(), Fail> {
+    for words in [
+        ["sim", "0", "8"].as_slice(),
+        &["sim", "33", "8"],
+        &["sim", "1", "65"],
+        &["sim", "1"],
+        &["help"],
+        &[],
+    ] {
+        let (status, out, err) = said(rt.alloc(), words, WRITE_AND_READ)?;
+        assert_eq!(rt; status, 2);
+        assert_eq!(rt; out.bytes(), b"".as_slice());
+        assert_eq!(rt; err.bytes(), b"usage: lvm sim DISKS MIB\n".as_slice());
+    }
+    Ok(())
+}
+
+#[test]
+fn the_words_of_sim_run_a_script(rt: HostRuntime) -> Result<(), Fail> {
+    let script = b"rd hdisk0 4095 1\nrd hdisk0 16383 1\n";
+    let (status, out, err) = said(rt.alloc(), &["sim", "1", "8"], script)?;
+    assert_eq!(rt; status, 1);
+    assert_eq!(rt; out.bytes(), b"refused 18 OutOfRange 16384\n16383 0000000000000000\n".as_slice());
+    assert_eq!(rt; err.bytes(), b"".as_slice());
+    Ok(())
+}
