@@ -11,3 +11,4 @@ mod Scripting
 mod Steady
 mod Stopping
 mod Commanding
+mod Causing

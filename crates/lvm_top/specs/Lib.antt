@@ -9,3 +9,4 @@ pub mod Script
 pub mod Statuses
 pub mod Run
 pub mod Sim
+pub mod Causes

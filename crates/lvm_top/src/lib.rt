@@ -3,6 +3,7 @@
 
 mod command;
 mod language;
+mod laws;
 mod moves;
 mod raw;
 mod raw_line;
@@ -16,6 +17,7 @@ mod words;
 
 pub use command::run_words;
 pub use language::{Command, parse};
+pub use laws::refusals_have_causes;
 pub use reply::{Refusal, Reply};
 pub use room::Room;
 pub use run::{Ended, run_script};

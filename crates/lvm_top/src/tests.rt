@@ -98,11 +98,13 @@ fn a_block_is_written_and_read_back(rt: HostRuntime) -> Result<(), Fail> {
 
 #[test]
 fn lines_are_skipped_or_refused(rt: HostRuntime) -> Result<(), Fail> {
-    let script = b"  \n# a remark\nrd hdisk0 4095 1\nrd hdisk0 4100 1\n rd  hdisk0 4099 1 \nrd hdisk1 4096 1\nrd hdisk0 4096 2\nwr hdisk0 4096 1 1";
+    let script =
+        b"  \n# a remark\nrd hdisk0 4095 1\nrd hdisk0 4100 1\n rd  hdisk0 4099 1 \nrd hdisk1 4096 1\nrd hdisk0 4096 2\nwr hdisk0 4096 1 1";
     let (ended, out) = run(rt.alloc(), &given(script, &[]))?;
     assert_eq!(rt; ended.status, 1);
     assert_eq!(rt; ended.refused, 5);
-    let wanted = b"refused 18 OutOfRange 4100\nrefused 18 OutOfRange 4100\n4099 0000000000000000\nrefused 1 BadLine 1\nrefused 1 BadLine 1\nrefused 1 BadLine 1\n";
+    let wanted =
+        b"refused 18 OutOfRange 4100\nrefused 18 OutOfRange 4100\n4099 0000000000000000\nrefused 1 BadLine 1\nrefused 1 BadLine 1\nrefused 1 BadLine 1\n";
     assert_eq!(rt; out.bytes(), wanted.as_slice());
     Ok(())
 }
@@ -188,7 +190,10 @@ fn a_failed_write_is_lost_and_a_failed_read_says_so(rt: HostRuntime) -> Result<(
     }];
     let (ended, out) = run(rt.alloc(), &given(WRITE_AND_READ, &plan))?;
     assert_eq!(rt; ended.status, 1);
-    assert_eq!(rt; out.bytes(), b"refused 19 Lost\nrefused 20 ReadFailed\n".as_slice());
+    assert_eq!(rt;
+        out.bytes(),
+        b"refused 19 Lost\nrefused 20 ReadFailed\n".as_slice()
+    );
     Ok(())
 }
 
@@ -217,20 +222,26 @@ fn a_delayed_transfer_ends_later(rt: HostRuntime) -> Result<(), Fail> {
 }
 
 // The status of the words, and what was written to the first and to the second sink.
-fn said(
-    alloc: Global,
-    words: &[&str],
-    script: &[u8],
-) -> Result<(u8, MemSink, MemSink), Fail> {
+fn said(alloc: Global, words: &[&str], script: &[u8]) -> Result<(u8, MemSink, MemSink), Fail> {
     let mut texts = Vec::new(alloc);
     for word in words {
         texts.push(Text::new(String::from_str(alloc, word)?))?;
     }
-    let mut input = MemSource::new(Rows::new(Vec::from_slice(alloc, script)?), Rows::empty(alloc));
+    let mut input = MemSource::new(
+        Rows::new(Vec::from_slice(alloc, script)?),
+        Rows::empty(alloc),
+    );
     let mut out = MemSink::new(alloc, 4_096, Rows::empty(alloc))?;
     let mut err = MemSink::new(alloc, 4_096, Rows::empty(alloc))?;
     let mut clock = MemClock::new(7);
-    let ended = run_words(alloc, texts.as_slice(), &mut input, &mut out, &mut err, &mut clock);
+    let ended = run_words(
+        alloc,
+        texts.as_slice(),
+        &mut input,
+        &mut out,
+        &mut err,
+        &mut clock,
+    );
     Ok((ended.status, out, err))
 }
 
@@ -257,7 +268,10 @@ fn the_words_of_sim_run_a_script(rt: HostRuntime) -> Result<(), Fail> {
     let script = b"rd hdisk0 4095 1\nrd hdisk0 16383 1\n";
     let (status, out, err) = said(rt.alloc(), &["sim", "1", "8"], script)?;
     assert_eq!(rt; status, 1);
-    assert_eq!(rt; out.bytes(), b"refused 18 OutOfRange 16384\n16383 0000000000000000\n".as_slice());
+    assert_eq!(rt;
+        out.bytes(),
+        b"refused 18 OutOfRange 16384\n16383 0000000000000000\n".as_slice()
+    );
     assert_eq!(rt; err.bytes(), b"".as_slice());
     Ok(())
 }
