@@ -20,12 +20,13 @@ const WRITE_AND_READ: &[u8] = b"wr hdisk0 4096 1 0000000000000001\nrd hdisk0 409
 const WRITE_TWICE_AND_READ: &[u8] =
     b"wr hdisk0 4096 1 0000000000000001\nwr hdisk0 4096 1 0000000000000002\nrd hdisk0 4096 1\n";
 
-// A run over one disk of 4,100 sectors, from a source whose reads of these numbers fail, to a sink with
+// A run over one disk of so many sectors, from a source whose reads of these numbers fail, to a sink with
 // this room.
 #[derive(Clone, Copy, Drop)]
 struct Setting<'a> {
     script: &'a [u8],
     plan: &'a [Planned],
+    sectors: u64,
     room: Room,
     fails: &'a [u64],
     sink: usize,
@@ -35,6 +36,7 @@ fn given<'a>(script: &'a [u8], plan: &'a [Planned]) -> Setting<'a> {
     Setting {
         script,
         plan,
+        sectors: 4_100,
         room: AMPLE,
         fails: &[],
         sink: 4_096,
@@ -46,7 +48,7 @@ fn run(alloc: Global, setting: &Setting) -> Result<(Ended<MemShelf>, MemSink), F
         return Err(Fail::from("no such setting"));
     }
     let plan = Rows::new(Vec::from_slice(alloc, setting.plan)?);
-    let shelf = MemShelf::new(alloc, &[4_100], plan, 8)?;
+    let shelf = MemShelf::new(alloc, &[setting.sectors], plan, 8)?;
     let script = Rows::new(Vec::from_slice(alloc, setting.script)?);
     let fails = Rows::new(Vec::from_slice(alloc, setting.fails)?);
     let mut input = MemSource::new(script, fails);
