@@ -8,7 +8,7 @@ use Rattle.lvm_disk.proofs.Stepping.{step_same, step_counts}
 use Rattle.lvm_disk.proofs.Paths.{last-path, append-path, map-path}
 use Rattle.lvm_vol.specs.Facts.{Fact, Cut}
 use Rattle.lvm_vol.specs.Legal.{Legal, begins_in}
-use Rattle.lvm_kept.specs.Kept.{Kept, ImagesKept}
+use Rattle.lvm_kept.specs.Raw.{RawKept, RawImagesKept}
 use Rattle.lvm_kept.specs.Moments.{Moment, Step, Moves, Enters, Calm, Begins, Upholds, Keeps, StaysCalm}
 use Rattle.lvm_kept.proofs.Landing.{legal_more}
 use Rattle.lvm_kept.proofs.Keeping.{kept_cut, cut_calm}
@@ -59,7 +59,7 @@ keeps_on run first mid last one calm two = append-path one (map-path (Upholds ru
 -- ---- where a run begins
 
 -- the earlier history, as a run finds it
-pub begins_run : (run : ℕ) (device : Device) (past : List Fact) → IsTold device → Legal past → count_by (begins_in run) past ≡ 0 → ImagesKept device past → Begins run (past ++ Cut ∷ []) (record { device = device; facts = [] })
+pub begins_run : (run : ℕ) (device : Device) (past : List Fact) → IsTold device → Legal past → count_by (begins_in run) past ≡ 0 → RawImagesKept device past → Begins run (past ++ Cut ∷ []) (record { device = device; facts = [] })
 begins_run run device past told legal own kept =
     let all : (past ++ Cut ∷ []) ++ [] ≡ past ++ Cut ∷ [] = append_none (past ++ Cut ∷ []) in
     record {
@@ -67,7 +67,7 @@ begins_run run device past told legal own kept =
       legal = subst Legal (sym all) (legal_more [] past Cut legal tt);
       own = sum_by-append (λ g. cond (begins_in run g) 1 0) past (Cut ∷ []) ∙ (let e = own in more e);
       calm = subst Calm (sym all) (cut_calm past);
-      kept = λ image may. subst (Kept image) (sym all) (kept_cut image past (kept image may));
+      kept = λ image may. subst (RawKept image) (sym all) (kept_cut image past (kept image may));
     }
   where
     append_none : (l : List Fact) → l ++ [] ≡ l

@@ -7,7 +7,8 @@ use Rattle.lvm_vol.specs.declared.entry.Outcome.TheVariants as outcome
 use Rattle.lvm_vol.specs.Facts.{Request, Fact, Begun, Landed, is_over, block_of}
 use Rattle.lvm_vol.specs.May.{Known, known, change, May, read, cut}
 use Rattle.lvm_vol.specs.Legal.{Gets}
-use Rattle.lvm_kept.specs.Kept.{Kept, data_start}
+use Rattle.lvm_kept.specs.Raw.{RawKept}
+use Rattle.lvm_num.specs.Geometry.{data_start}
 use Rattle.lvm_kept.specs.Moments.{Calm}
 use Rattle.lvm_kept.specs.Raw.{raw_request}
 use Rattle.lvm_kept.proofs.Values.{Among, after_cut, cut_adds_none, known_more}
@@ -15,11 +16,11 @@ use Rattle.lvm_kept.proofs.Carrying.{over_here}
 use Rattle.lvm_kept.proofs.Keeping.{of_kept, kept_more}
 
 -- while no write is open, what a crash may leave is what the block may have now
-now_may : (facts : List Fact) (image : Image) → Calm facts → Kept image facts → (d b : ℕ) → d < image.disks → data_start ≤ b → b < image.size d → May (known facts (Disk d) b) (image.sector d b)
+now_may : (facts : List Fact) (image : Image) → Calm facts → RawKept image facts → (d b : ℕ) → d < image.disks → data_start ≤ b → b < image.size d → May (known facts (Disk d) b) (image.sector d b)
 now_may facts image calm kept d b there low high =
     cut_adds_none (known facts (Disk d) b).values b (image.sector d b) (subst (λ (l : List Request). Among (after_cut l b (known facts (Disk d) b).values) (image.sector d b)) (calm d b) (of_kept image facts kept d b there low high))
 
-module _ (run id disk at count : ℕ) (facts : List Fact) (image : Image) (calm : Calm facts) (kept : Kept image facts) (there : disk < image.disks) (low : data_start ≤ at) (high : at + count ≤ image.size disk) where
+module _ (run id disk at count : ℕ) (facts : List Fact) (image : Image) (calm : Calm facts) (kept : RawKept image facts) (there : disk < image.disks) (low : data_start ≤ at) (high : at + count ≤ image.size disk) where
   abbrev it : Request
   it = raw_request run id disk at count false []
 
@@ -39,7 +40,7 @@ module _ (run id disk at count : ℕ) (facts : List Fact) (image : Image) (calm 
       loose_or false = inl (sym (is refl))
   got_at b x v k false may is = may
 
-  pub got_kept : (got : List Sector) → ((b : ℕ) → at ≤ b → b < at + count → block_of got at b ≡ image.sector disk b) → Kept image ((facts ++ Begun it ∷ []) ++ Landed it outcome.Got true got ∷ [])
+  pub got_kept : (got : List Sector) → ((b : ℕ) → at ≤ b → b < at + count → block_of got at b ≡ image.sector disk b) → RawKept image ((facts ++ Begun it ∷ []) ++ Landed it outcome.Got true got ∷ [])
   got_kept got is = kept_more image (facts ++ Begun it ∷ []) (Landed it outcome.Got true got) (λ d b d_there b_low b_high.
       subst (λ (k : Known). May (cut b (change (Landed it outcome.Got true got) (Disk d) b k)) (image.sector d b)) (sym (known_more facts (Begun it) (Disk d) b))
       (got_at b (image.sector d b) (block_of got at b) (known facts (Disk d) b) (is_over it (Disk d) b) (of_kept image facts kept d b d_there b_low b_high)

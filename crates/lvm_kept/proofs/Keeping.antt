@@ -9,7 +9,8 @@ use Rattle.lvm_vol.specs.declared.entry.Outcome.{Outcome}
 use Rattle.lvm_vol.specs.declared.entry.Outcome.TheVariants as outcome
 use Rattle.lvm_vol.specs.Facts.{Request, Fact, Begun, Landed, Taken, Cut, is_over, block_of}
 use Rattle.lvm_vol.specs.May.{Known, known, change, source, May, ended, landed, is_open_in, without, cut}
-use Rattle.lvm_kept.specs.Kept.{Kept, data_start}
+use Rattle.lvm_kept.specs.Raw.{RawKept}
+use Rattle.lvm_num.specs.Geometry.{data_start}
 use Rattle.lvm_kept.specs.Moments.{Calm}
 use Rattle.lvm_kept.specs.Raw.{raw_request, Carries}
 use Rattle.lvm_kept.proofs.Values.{Among, after_cut, cut_adds_none, cut_adds_more, cut_adds_it, also_adds, also_is, known_more, open_now, closes}
@@ -19,28 +20,28 @@ either true = inl refl
 either false = inr refl
 
 -- what a history makes of each block after a cut, seen as one more entry
-pub of_kept : (image : Image) (facts : List Fact) → Kept image facts → (d b : ℕ) → d < image.disks → data_start ≤ b → b < image.size d → May (cut b (known facts (Disk d) b)) (image.sector d b)
+pub of_kept : (image : Image) (facts : List Fact) → RawKept image facts → (d b : ℕ) → d < image.disks → data_start ≤ b → b < image.size d → May (cut b (known facts (Disk d) b)) (image.sector d b)
 of_kept image facts kept d b there low high = subst (λ (k : Known). May k (image.sector d b)) (known_more facts Cut (Disk d) b) (kept.raw d b there low high)
 
-pub to_kept : (image : Image) (facts : List Fact) → ((d b : ℕ) → d < image.disks → data_start ≤ b → b < image.size d → May (cut b (known facts (Disk d) b)) (image.sector d b)) → Kept image facts
+pub to_kept : (image : Image) (facts : List Fact) → ((d b : ℕ) → d < image.disks → data_start ≤ b → b < image.size d → May (cut b (known facts (Disk d) b)) (image.sector d b)) → RawKept image facts
 to_kept image facts may = record { raw = λ d b there low high. subst (λ (k : Known). May k (image.sector d b)) (sym (known_more facts Cut (Disk d) b)) (may d b there low high) }
 
 -- one entry more, seen block by block
 pub kept_more :
     (image : Image) (facts : List Fact) (f : Fact)
     → ((d b : ℕ) → d < image.disks → data_start ≤ b → b < image.size d → May (cut b (change f (Disk d) b (known facts (source f (Disk d)) b))) (image.sector d b))
-    → Kept image (facts ++ f ∷ [])
+    → RawKept image (facts ++ f ∷ [])
 kept_more image facts f may = to_kept image (facts ++ f ∷ []) (λ d b there low high.
     subst (λ (k : Known). May (cut b k) (image.sector d b)) (sym (known_more facts f (Disk d) b)) (may d b there low high))
 
-pub kept_taken : (image : Image) (facts : List Fact) (r : Request) → Kept image facts → Kept image (facts ++ Taken r ∷ [])
+pub kept_taken : (image : Image) (facts : List Fact) (r : Request) → RawKept image facts → RawKept image (facts ++ Taken r ∷ [])
 kept_taken image facts r kept = kept_more image facts (Taken r) (of_kept image facts kept)
 
 -- after a cut another one adds nothing
 cut_again : (k : Known) (b : ℕ) (x : Sector) → May (cut b k) x → May (cut b (cut b k)) x
 cut_again k b x may = also_adds [] (after_cut k.open_writes b k.values) x may
 
-pub kept_cut : (image : Image) (facts : List Fact) → Kept image facts → Kept image (facts ++ Cut ∷ [])
+pub kept_cut : (image : Image) (facts : List Fact) → RawKept image facts → RawKept image (facts ++ Cut ∷ [])
 kept_cut image facts kept = kept_more image facts Cut (λ d b there low high. cut_again (known facts (Disk d) b) b (image.sector d b) (of_kept image facts kept d b there low high))
 
 -- a write that isn't open lands, and nothing changes
@@ -57,7 +58,7 @@ landed_closed r how started got d b k write none =
     open_first w o p q x y = cc
 
 -- a write that a cut has closed lands
-pub kept_closed : (image : Image) (facts : List Fact) (r : Request) (how : Outcome) (started : Bool) → r.write ≡ true → Calm facts → Kept image facts → Kept image (facts ++ Landed r how started [] ∷ [])
+pub kept_closed : (image : Image) (facts : List Fact) (r : Request) (how : Outcome) (started : Bool) → r.write ≡ true → Calm facts → RawKept image facts → RawKept image (facts ++ Landed r how started [] ∷ [])
 kept_closed image facts r how started write calm kept = kept_more image facts (Landed r how started []) (λ d b there low high.
     subst (λ (k : Known). May (cut b k) (image.sector d b)) (sym (landed_closed r how started [] d b (known facts (Disk d) b) write (calm d b))) (of_kept image facts kept d b there low high))
 
@@ -80,7 +81,7 @@ module _ (run id disk at count : ℕ) (blocks : List Sector) (f : Flight) (carri
   begun_at b false x before k may (inr put) = absurd (cc (put.0))
 
   -- the write has begun, and may be on its way
-  pub begun_kept : (facts : List Fact) (before image : Image) → Kept before facts → DiffersBy f before image → Kept image (facts ++ Begun it ∷ [])
+  pub begun_kept : (facts : List Fact) (before image : Image) → RawKept before facts → DiffersBy f before image → RawKept image (facts ++ Begun it ∷ [])
   begun_kept facts before image kept differs = kept_more image facts (Begun it) (λ d b there low high.
       let was : May (cut b (known facts (Disk d) b)) (before.sector d b) = of_kept before facts kept d b (subst (λ (n : ℕ). d < n) differs.same.disks there) low (subst (λ (n : ℕ). b < n) (differs.same.size d) high) in
       begun_at b (is_over it (Disk d) b) (image.sector d b) (before.sector d b) (known facts (Disk d) b) was (from_flight d b (image.sector d b) (before.sector d b) (differs.each d b)))
@@ -98,13 +99,13 @@ module _ (run id disk at count : ℕ) (blocks : List Sector) (f : Flight) (carri
   landed_kept : (how : Outcome) (started : Bool) (facts : List Fact) (image : Image)
       → ((d b : ℕ) → d < image.disks → data_start ≤ b → b < image.size d → is_over it (Disk d) b ≡ true → May (cut b (ended it how started (block_of blocks at b) (record (known facts (Disk d) b) { open_writes = it ∷ (known facts (Disk d) b).open_writes }))) (image.sector d b))
       → ((d b : ℕ) → d < image.disks → data_start ≤ b → b < image.size d → is_over it (Disk d) b ≡ false → May (cut b (known facts (Disk d) b)) (image.sector d b))
-      → Kept image ((facts ++ Begun it ∷ []) ++ Landed it how started [] ∷ [])
+      → RawKept image ((facts ++ Begun it ∷ []) ++ Landed it how started [] ∷ [])
   landed_kept how started facts image here elsewhere = kept_more image (facts ++ Begun it ∷ []) (Landed it how started []) (λ d b there low high.
       subst (λ (k : Known). May (cut b (change (Landed it how started []) (Disk d) b k)) (image.sector d b)) (sym (known_more facts (Begun it) (Disk d) b))
       (landed_at how started b (known facts (Disk d) b) (image.sector d b) (is_over it (Disk d) b) (here d b there low high) (elsewhere d b there low high)))
 
   -- All of the write stands on the media.
-  pub done_kept : (facts : List Fact) (before image : Image) → Kept before facts → SameDisks before image → Puts f before.sector image.sector → Kept image ((facts ++ Begun it ∷ []) ++ Landed it outcome.Done true [] ∷ [])
+  pub done_kept : (facts : List Fact) (before image : Image) → RawKept before facts → SameDisks before image → Puts f before.sector image.sector → RawKept image ((facts ++ Begun it ∷ []) ++ Landed it outcome.Done true [] ∷ [])
   done_kept facts before image kept same puts = landed_kept outcome.Done true facts image
       (λ d b there low high over. inl (sym (puts d b ∙ ap (λ (o : Option Sector). unwrap_or o (before.sector d b)) (carries.there d b over))))
       (λ d b there low high other. let e : image.sector d b ≡ before.sector d b = puts d b ∙ ap (λ (o : Option Sector). unwrap_or o (before.sector d b)) (carries.elsewhere d b other) in
@@ -112,7 +113,7 @@ module _ (run id disk at count : ℕ) (blocks : List Sector) (f : Flight) (carri
       (of_kept before facts kept d b (subst (λ (n : ℕ). d < n) same.disks there) low (subst (λ (n : ℕ). b < n) (same.size d) high)))
 
   -- Any of it does.
-  pub lost_kept : (facts : List Fact) (before image : Image) → Calm facts → Kept before facts → SameDisks before image → PutsSome f before.sector image.sector → Kept image ((facts ++ Begun it ∷ []) ++ Landed it outcome.Lost true [] ∷ [])
+  pub lost_kept : (facts : List Fact) (before image : Image) → Calm facts → RawKept before facts → SameDisks before image → PutsSome f before.sector image.sector → RawKept image ((facts ++ Begun it ∷ []) ++ Landed it outcome.Lost true [] ∷ [])
   lost_kept facts before image calm kept same puts = landed_kept outcome.Lost true facts image
       (λ d b there low high over.
       let values = (known facts (Disk d) b).values in

@@ -7,3 +7,11 @@ pub mod Spans
 pub mod Chaining
 pub mod WriteMoments
 pub mod ReadMoments
+pub mod Contained
+pub mod Planned
+pub mod Records
+pub mod Standing
+pub mod Finding
+pub mod Blank
+pub mod Changing
+pub mod Entries

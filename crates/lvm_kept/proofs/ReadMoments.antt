@@ -13,7 +13,8 @@ use Rattle.lvm_vol.specs.declared.entry.Outcome.TheVariants as outcome
 use Rattle.lvm_vol.specs.Facts.{Fact, Request, Begun, Landed, Taken, Cut, is_over, block_of}
 use Rattle.lvm_vol.specs.May.{Known, known, change, cut, read, May}
 use Rattle.lvm_vol.specs.Legal.{begins_in, Gets}
-use Rattle.lvm_kept.specs.Kept.{Kept, data_start}
+use Rattle.lvm_kept.specs.Raw.{RawKept}
+use Rattle.lvm_num.specs.Geometry.{data_start}
 use Rattle.lvm_kept.specs.Moments.{Moment, Step, Moves, Calm, Begins, Upholds, Keeps, StaysCalm}
 use Rattle.lvm_kept.specs.Raw.{raw_request, OnlyAdds, IsStill}
 use Rattle.lvm_kept.proofs.Values.{known_more}
@@ -23,7 +24,7 @@ use Rattle.lvm_kept.proofs.Spans.{at_moment, regroup, keeps_steps, from_before}
 use Rattle.lvm_kept.proofs.WriteMoments.{IsUnderWay, begins_moment, cut_moment, lands_moment, takes_moment}
 
 -- images with the same sectors are kept alike
-same_kept : (before image : Image) (facts : List Fact) → SameDisks before image → ((d s : ℕ) → image.sector d s ≡ before.sector d s) → Kept before facts → Kept image facts
+same_kept : (before image : Image) (facts : List Fact) → SameDisks before image → ((d s : ℕ) → image.sector d s ≡ before.sector d s) → RawKept before facts → RawKept image facts
 same_kept before image facts same sectors kept = record {
   raw = λ d b there low high. subst (λ (x : Sector). May (known (facts ++ Cut ∷ []) (Disk d) b) x) (sym (sectors d b))
       (kept.raw d b (subst (λ (n : ℕ). d < n) same.disks there) low (subst (λ (n : ℕ). b < n) (same.size d) high));
@@ -59,10 +60,10 @@ module _ (run id disk at count ticket : ℕ) (sent : Buffer) (old : Device) (fac
   brings_none before image differs d s = ⊎_elim (λ same. same) (λ put. absurd (cc (put))) (differs.each d s)
 
   -- its beginning changes nothing that is known
-  begun_still : (facts : List Fact) (image : Image) → Kept image facts → Kept image (facts ++ Begun it ∷ [])
+  begun_still : (facts : List Fact) (image : Image) → RawKept image facts → RawKept image (facts ++ Begun it ∷ [])
   begun_still facts image kept = kept_more image facts (Begun it) (of_kept image facts kept)
 
-  begun_images : (past : List Fact) → Begins run past first → (device : Device) → OnlyAdds f old device → (image : Image) → MayLeave device image → Kept image ((past ++ facts) ++ Begun it ∷ [])
+  begun_images : (past : List Fact) → Begins run past first → (device : Device) → OnlyAdds f old device → (image : Image) → MayLeave device image → RawKept image ((past ++ facts) ++ Begun it ∷ [])
   begun_images past begins device adds image may = let from = adds image may in
       begun_still (past ++ facts) image (same_kept from.0 image (past ++ facts) from.2.same (brings_none from.0 image from.2) (begins.kept from.0 from.1))
 
@@ -73,7 +74,7 @@ module _ (run id disk at count ticket : ℕ) (sent : Buffer) (old : Device) (fac
         span = append-path begun.span (lift-path Step (Upholds run first) (λ d. at_moment d (facts ++ Begun it ∷ [])) (λ x y step. Moves step refl)
             (λ d adds past begins. record {
               legal = (last-path begun.span past begins).legal;
-              kept = λ image may. regroup (Kept image) past facts (Begun it) (begun_images past begins d adds image may);
+              kept = λ image may. regroup (RawKept image) past facts (Begun it) (begun_images past begins d adds image may);
             }) path);
         began = begun.began;
         unlanded = begun.unlanded;
@@ -81,7 +82,7 @@ module _ (run id disk at count ticket : ℕ) (sent : Buffer) (old : Device) (fac
       }
 
   -- a read that lands without blocks changes nothing that is known
-  landed_still : (facts : List Fact) (image : Image) (how : Outcome) (started : Bool) → ((k : Known) (d b : ℕ) → change (Landed it how started []) (Disk d) b k ≡ k) → Kept image facts → Kept image (facts ++ Landed it how started [] ∷ [])
+  landed_still : (facts : List Fact) (image : Image) (how : Outcome) (started : Bool) → ((k : Known) (d b : ℕ) → change (Landed it how started []) (Disk d) b k ≡ k) → RawKept image facts → RawKept image (facts ++ Landed it how started [] ∷ [])
   landed_still facts image how started same kept = kept_more image facts (Landed it how started []) (λ d b there low high.
       subst (λ (k : Known). May (cut b k) (image.sector d b)) (sym (same (known facts (Disk d) b) d b)) (of_kept image facts kept d b there low high))
 
@@ -198,7 +199,7 @@ module _ (run id disk at count ticket : ℕ) (sent : Buffer) (old : Device) (fac
         go (Some m) (Some n) is some puts = (image_of new.sizes n, subst (λ (o : Option Media). MayLeave (record new { media = o }) (image_of new.sizes n)) (sym is) (record { same = record { disks = refl; size = λ d. refl }; each = λ d s. inl refl }))
 
     -- before it landed every image that may be left now was kept
-    kept_before : (past : List Fact) → Begins run past first → (image : Image) → MayLeave new image → Kept image (past ++ facts)
+    kept_before : (past : List Fact) → Begins run past first → (image : Image) → MayLeave new image → RawKept image (past ++ facts)
     kept_before past begins image may =
         let old_image = from_before old new Same told still.flights still.sizes image may in
         same_kept old_image.before image (past ++ facts) old_image.same (λ d s. (old_image.sectors d s).0) (begins.kept old_image.before old_image.may)
@@ -210,5 +211,5 @@ module _ (run id disk at count ticket : ℕ) (sent : Buffer) (old : Device) (fac
         subst (λ (l : List Fact). Gets l it got) (append_assoc past facts (Begun it ∷ []))
         (got_fits run id disk at count (past ++ facts) image.0 begins.calm (kept_before past begins image.0 image.1) w.0 low w.1 got (let e = length-take count buf.sectors in omega (arith, e, long)) (got_is image.0 image.1)))
         (λ past begins holds image may. let w = within image may in
-        subst (λ (l : List Fact). Kept image (l ++ Landed it outcome.Got true got ∷ [])) (append_assoc past facts (Begun it ∷ []))
+        subst (λ (l : List Fact). RawKept image (l ++ Landed it outcome.Got true got ∷ [])) (append_assoc past facts (Begun it ∷ []))
         (got_kept run id disk at count (past ++ facts) image begins.calm (kept_before past begins image may) w.0 low w.1 got (got_is image may))))

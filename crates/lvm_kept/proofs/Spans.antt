@@ -9,7 +9,7 @@ use Rattle.lvm_disk.specs.Paths.{DeviceStep, Path, Here, Then}
 use Rattle.lvm_disk.proofs.Paths.{append-path, lift-path, last-path}
 use Rattle.lvm_vol.specs.Facts.{Fact}
 use Rattle.lvm_vol.specs.Legal.{begins_in, Legal, Fits}
-use Rattle.lvm_kept.specs.Kept.{Kept}
+use Rattle.lvm_kept.specs.Raw.{RawKept}
 use Rattle.lvm_kept.specs.Moments.{Moment, Step, Moves, Enters, Begins, Holds, Upholds, Keeps}
 use Rattle.lvm_kept.proofs.Landing.{legal_more}
 
@@ -31,13 +31,13 @@ keeps_still run m = Here (λ past begins. record { legal = begins.legal; kept = 
 pub keeps_entry :
     (run : ℕ) (first : Moment) (device : Device) (facts : List Fact) (f : Fact) → Keeps run first (at_moment device facts)
     → ((past : List Fact) → Begins run past first → Holds past (at_moment device facts) → Fits (past ++ facts) f)
-    → ((past : List Fact) → Begins run past first → Holds past (at_moment device facts) → (image : Image) → MayLeave device image → Kept image ((past ++ facts) ++ f ∷ []))
+    → ((past : List Fact) → Begins run past first → Holds past (at_moment device facts) → (image : Image) → MayLeave device image → RawKept image ((past ++ facts) ++ f ∷ []))
     → Keeps run first (at_moment device (facts ++ f ∷ []))
 keeps_entry run first device facts f span fits kept = Then span (Enters f refl refl) (λ past begins.
     let before = last-path span past begins in
     record {
       legal = regroup Legal past facts f (legal_more [] (past ++ facts) f before.legal (fits past begins before));
-      kept = λ image may. regroup (Kept image) past facts f (kept past begins before image may);
+      kept = λ image may. regroup (RawKept image) past facts f (kept past begins before image may);
     })
 
 -- steps of the shelf that add no crash images

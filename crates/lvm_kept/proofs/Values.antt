@@ -40,7 +40,7 @@ pub cut_adds_none : (values : Option (List Sector)) (b : ℕ) (x : Sector) → A
 cut_adds_none None b x may = may
 cut_adds_none (Some vs) b x may = one_of_all x vs may
 
-one_more : (x : Sector) (vs ys : List Sector) (y : Sector) → Stands x (vs ++ ys) → Stands x (vs ++ y ∷ ys)
+pub one_more : (x : Sector) (vs ys : List Sector) (y : Sector) → Stands x (vs ++ ys) → Stands x (vs ++ y ∷ ys)
 one_more x [] ys y is = inr is
 one_more x (v ∷ vs) ys y (inl here) = inl here
 one_more x (v ∷ vs) ys y (inr there) = inr (one_more x vs ys y there)

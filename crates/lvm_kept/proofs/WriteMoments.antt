@@ -11,7 +11,7 @@ use Rattle.lvm_vol.specs.declared.entry.Outcome.{Outcome}
 use Rattle.lvm_vol.specs.declared.entry.Outcome.TheVariants as outcome
 use Rattle.lvm_vol.specs.Facts.{Fact, Request, Begun, Landed, Taken, Cut, Stands}
 use Rattle.lvm_vol.specs.Legal.{begins_in, Legal, lands, takes, IsOutcomeOf, GotMay}
-use Rattle.lvm_kept.specs.Kept.{Kept}
+use Rattle.lvm_kept.specs.Raw.{RawKept}
 use Rattle.lvm_kept.specs.Moments.{Moment, Step, Moves, Calm, Begins, Holds, Upholds, Keeps, StaysCalm}
 use Rattle.lvm_kept.specs.Raw.{raw_request, Carries, OnlyAdds, IsStill}
 use Rattle.lvm_kept.proofs.Landing.{unlanded, untaken, stands_last, stands_first, any_more, any_last, lands_itself, low_none}
@@ -43,7 +43,7 @@ pub record HasLanded (run : ℕ) (first : Moment) (r : Request) (device : Device
 
 pub begins_moment :
     (run : ℕ) (device : Device) (facts : List Fact) (r : Request) → r.run ≡ run → r.id ≡ count_by (begins_in run) facts + 1
-    → ((past : List Fact) → Begins run past (at_moment device facts) → (image : Image) → MayLeave device image → Kept image ((past ++ facts) ++ Begun r ∷ []))
+    → ((past : List Fact) → Begins run past (at_moment device facts) → (image : Image) → MayLeave device image → RawKept image ((past ++ facts) ++ Begun r ∷ []))
     → IsUnderWay run (at_moment device facts) r device (facts ++ Begun r ∷ [])
 begins_moment run device facts r its next kept = record {
   span = keeps_entry run (at_moment device facts) device facts (Begun r) (keeps_still run (at_moment device facts)) (λ past begins holds. joined past begins) (λ past begins holds. kept past begins);
@@ -67,7 +67,7 @@ cut_moment run first r device facts way = record {
 pub lands_moment :
     (run : ℕ) (first : Moment) (r : Request) (device : Device) (facts : List Fact) (how : Outcome) (started : Bool) (got : List (List ℕ)) → IsUnderWay run first r device facts → IsOutcomeOf how r started
     → ((past : List Fact) → Begins run past first → Holds past (at_moment device facts) → GotMay (past ++ facts) r how got)
-    → ((past : List Fact) → Begins run past first → Holds past (at_moment device facts) → (image : Image) → MayLeave device image → Kept image ((past ++ facts) ++ Landed r how started got ∷ []))
+    → ((past : List Fact) → Begins run past first → Holds past (at_moment device facts) → (image : Image) → MayLeave device image → RawKept image ((past ++ facts) ++ Landed r how started got ∷ []))
     → HasLanded run first r device (facts ++ Landed r how started got ∷ [])
 lands_moment run first r device facts how started got way kind reads kept = record {
   span = keeps_entry run first device facts (Landed r how started got) way.span (λ past begins holds. record { began = way.began past; first = way.unlanded past begins; kind = kind; reads = reads past begins holds }) kept;
@@ -93,7 +93,7 @@ module _ (run id disk at count : ℕ) (blocks : List Sector) (f : Flight) (carri
   stays : (image : Image) → DiffersBy f image image
   stays image = record { same = record { disks = refl; size = λ d. refl }; each = λ d s. inl refl }
 
-  begun_images : (past : List Fact) → Begins run past first → (device : Device) → OnlyAdds f old device → (image : Image) → MayLeave device image → Kept image ((past ++ facts) ++ Begun it ∷ [])
+  begun_images : (past : List Fact) → Begins run past first → (device : Device) → OnlyAdds f old device → (image : Image) → MayLeave device image → RawKept image ((past ++ facts) ++ Begun it ∷ [])
   begun_images past begins device adds image may = let from = adds image may in
       begun_kept run id disk at count blocks f carries (past ++ facts) from.0 image (begins.kept from.0 from.1) from.2
 
@@ -105,7 +105,7 @@ module _ (run id disk at count : ℕ) (blocks : List Sector) (f : Flight) (carri
         span = append-path begun.span (lift-path Step (Upholds run first) (λ d. at_moment d (facts ++ Begun it ∷ [])) (λ x y step. Moves step refl)
             (λ d adds past begins. record {
               legal = (last-path begun.span past begins).legal;
-              kept = λ image may. regroup (Kept image) past facts (Begun it) (begun_images past begins d adds image may);
+              kept = λ image may. regroup (RawKept image) past facts (Begun it) (begun_images past begins d adds image may);
             }) path);
         began = begun.began;
         unlanded = begun.unlanded;
@@ -117,7 +117,7 @@ module _ (run id disk at count : ℕ) (blocks : List Sector) (f : Flight) (carri
   write_done new path still puts = takes_moment run first it new ((facts ++ Begun it ∷ []) ++ Landed it outcome.Done true [] ∷ [])
       (lands_moment run first it new (facts ++ Begun it ∷ []) outcome.Done true [] (write_goes new path) refl (λ past begins holds. tt)
       (λ past begins holds image may. let from = from_before old new (λ d s x y. y ≡ unwrap_or (written f d s) x) puts still.flights still.sizes image may in
-      subst (λ (l : List Fact). Kept image (l ++ Landed it outcome.Done true [] ∷ [])) (append_assoc past facts (Begun it ∷ []))
+      subst (λ (l : List Fact). RawKept image (l ++ Landed it outcome.Done true [] ∷ [])) (append_assoc past facts (Begun it ∷ []))
       (done_kept run id disk at count blocks f carries (past ++ facts) from.before image (begins.kept from.before from.may) from.same from.sectors)))
 
   -- it failed
@@ -125,7 +125,7 @@ module _ (run id disk at count : ℕ) (blocks : List Sector) (f : Flight) (carri
   write_lost new path still puts = takes_moment run first it new ((facts ++ Begun it ∷ []) ++ Landed it outcome.Lost true [] ∷ [])
       (lands_moment run first it new (facts ++ Begun it ∷ []) outcome.Lost true [] (write_goes new path) refl (λ past begins holds. tt)
       (λ past begins holds image may. let from = from_before old new (λ d s x y. (y ≡ x) ⊎ (written f d s ≡ Some y)) puts still.flights still.sizes image may in
-      subst (λ (l : List Fact). Kept image (l ++ Landed it outcome.Lost true [] ∷ [])) (append_assoc past facts (Begun it ∷ []))
+      subst (λ (l : List Fact). RawKept image (l ++ Landed it outcome.Lost true [] ∷ [])) (append_assoc past facts (Begun it ∷ []))
       (lost_kept run id disk at count blocks f carries (past ++ facts) from.before image begins.calm (begins.kept from.before from.may) from.same from.sectors)))
 
   -- the power was cut, and is put on again

@@ -1,4 +1,12 @@
+pub mod Contents
+pub mod Group
 pub mod Kept
-pub mod Moments
+pub mod Changes
+pub mod Places
+pub mod Plans
+pub mod Torn
+pub mod Committed
+pub mod Recovered
 pub mod Raw
+pub mod Moments
 pub mod Laws

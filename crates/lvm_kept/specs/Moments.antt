@@ -6,7 +6,7 @@ use Rattle.lvm_vol.specs.declared.entry.Vol.TheVariants.{Disk}
 use Rattle.lvm_vol.specs.Facts.{Fact, joined}
 use Rattle.lvm_vol.specs.May.{known}
 use Rattle.lvm_vol.specs.Legal.{Legal, begins_in}
-use Rattle.lvm_kept.specs.Kept.{ImagesKept}
+use Rattle.lvm_kept.specs.Raw.{RawImagesKept}
 
 pub record Moment : Type 0 where
   pub device : Device
@@ -27,12 +27,12 @@ pub record Begins (run : ℕ) (past : List Fact) (m : Moment) : Type 0 where
   pub legal : Legal (past ++ m.facts)
   pub own : count_by (begins_in run) past ≡ 0
   pub calm : Calm (past ++ m.facts)
-  pub kept : ImagesKept m.device (past ++ m.facts)
+  pub kept : RawImagesKept m.device (past ++ m.facts)
 
 -- the joined history is legal, and each crash image is kept with it
 pub record Holds (past : List Fact) (m : Moment) : Type 0 where
   pub legal : Legal (past ++ m.facts)
-  pub kept : ImagesKept m.device (past ++ m.facts)
+  pub kept : RawImagesKept m.device (past ++ m.facts)
 
 -- Whatever was told before: where it fits the first moment, this one is as it should be.
 abbrev pub Upholds : ℕ → Moment → Moment → Type 0
@@ -52,9 +52,9 @@ pub record IsEarlier (run : ℕ) (device : Device) (past : List Fact) : Type 0 w
   pub told : IsSome device.media
   pub legal : Legal past
   pub own : count_by (begins_in run) past ≡ 0
-  pub kept : ImagesKept device past
+  pub kept : RawImagesKept device past
 
 -- A run from this entry to this exit: whatever was told before, the joined history is legal, and each crash image at the exit is kept with it.
 pub record IsUpheld (run : ℕ) (entry exit : Device) (facts : List Fact) : Type 0 where
   pub legal : (past : List Fact) → IsEarlier run entry past → Legal (joined past facts)
-  pub kept : (past : List Fact) → IsEarlier run entry past → ImagesKept exit (joined past facts)
+  pub kept : (past : List Fact) → IsEarlier run entry past → RawImagesKept exit (joined past facts)

@@ -1,9 +1,19 @@
--- Requests on a disk that is in no group.
-use Rattle.std.specs.Prelude.{◌≡◌, ℕ, Bool, true, false, List, [], Some, None}
+-- Disks that are in no group, and requests on them.
+use Rattle.std.specs.Prelude.{◌≡◌, ◌<◌, ◌≤◌, ◌++◌, ◌∷◌, ℕ, Bool, true, false, List, [], Some, None}
+use Rattle.lvm_num.specs.Geometry.{data_start}
 use Rattle.lvm_disk.specs.Device.{Image, Flight, Device, written, MayLeave}
 use Rattle.lvm_disk.specs.Images.{DiffersBy}
 use Rattle.lvm_vol.specs.declared.entry.Vol.TheVariants.{Disk}
-use Rattle.lvm_vol.specs.Facts.{Request, is_over, block_of}
+use Rattle.lvm_vol.specs.Facts.{Request, Fact, Cut, is_over, block_of}
+use Rattle.lvm_vol.specs.May.{known, May}
+
+-- Each block of each disk has a value that it may have once the power has gone off, whatever group the disk may be in.
+pub record RawKept (image : Image) (facts : List Fact) : Type 0 where
+  pub raw : (d b : ℕ) → d < image.disks → data_start ≤ b → b < image.size d → May (known (facts ++ Cut ∷ []) (Disk d) b) (image.sector d b)
+
+-- each crash image of the shelf is so
+abbrev pub RawImagesKept : Device → List Fact → Type 0
+RawImagesKept device facts = (image : Image) → MayLeave device image → RawKept image facts
 
 -- a request of client 1 on a raw disk
 abbrev pub raw_request : ℕ → ℕ → ℕ → ℕ → ℕ → Bool → List (List ℕ) → Request

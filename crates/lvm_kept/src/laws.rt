@@ -1,5 +1,87 @@
-//! Laws of requests on raw disks, and of runs.
+//! Laws of what disks show, of the changes that keep a history, of requests on raw disks, and of runs.
 ghost use Rattle.lvm_kept.specs.Laws.{WriteDoneLaw, WriteLostLaw, RunsLaw};
+ghost use Rattle.lvm_kept.specs.Places.{DataWritesKeepRecords, RecordWritesKeepBlocks, BlocksAreSectors};
+ghost use Rattle.lvm_kept.specs.Torn.{WritingBegins, StepKeepsWriting, AloneIsAmongOthers, NewestIsOldOrNew, WholeIsNew, DescriptorWriteShows, StatusWriteShows, EndedPartStands, StandingPartStays, NoteWriteShows, EarlierStaysBefore, ZerosAreBefore};
+ghost use Rattle.lvm_kept.specs.Committed.{ImagesAreWithin, QuorumFindsStatus, QuorumFindsDescriptor, QuorumsShareVoter, NextIsWritten, NextIsCommitted};
+ghost use Rattle.lvm_kept.specs.Changes.{BlankIsKept, DataChangeKeeps, NoteChangeKeeps, EntryKeeps, BeginningAllowsMore};
+
+/// A change of data sectors changes no record of a disk and so nothing that a group shows; a change
+/// of record sectors changes no block of a copy; and a block changes only where its own sector does.
+pub fn places()
+    ensures records { DataWritesKeepRecords }
+    ensures blocks { RecordWritesKeepBlocks }
+    ensures sectors { BlocksAreSectors }
+{}
+
+/// While a record or a note is being written, whatever becomes of each transfer, every crash image is the old
+/// one but for what is being written: from the beginning on, at each step of the shelf.
+pub fn writing()
+    ensures begins { WritingBegins }
+    ensures step { StepKeepsWriting }
+    ensures among { AloneIsAmongOthers }
+{}
+
+/// A write of a record into the slot that doesn't hold the newest leaves each disk its newest record, or makes
+/// the new one newest, which it is exactly where all of it stands.
+pub fn record_writes<X>()
+    ensures newest { NewestIsOldOrNew X }
+    ensures whole { WholeIsNew X }
+{}
+
+/// What the disks show while a descriptor, a status or a note is being written: the old one or the new one
+/// on each target, and all else as it was.
+pub fn writes_show()
+    ensures descriptors { DescriptorWriteShows }
+    ensures statuses { StatusWriteShows }
+    ensures notes { NoteWriteShows }
+{}
+
+/// A part of a record that was brought well stands in each crash image, and goes on standing.
+pub fn parts_stand()
+    ensures ended { EndedPartStands }
+    ensures stays { StandingPartStays }
+{}
+
+/// Stamps rise: a write under an earlier stamp leaves all stamps of the slots before a later one, and on zeros
+/// any stamp is later.
+pub fn stamps_rise()
+    ensures earlier { EarlierStaysBefore }
+    ensures zeros { ZerosAreBefore }
+{}
+
+/// Each quorum meets the members that hold the committed record: it finds the committed status or descriptor,
+/// or the one that is being written; and two quorums share a voter.
+pub fn quorums_find()
+    ensures within { ImagesAreWithin }
+    ensures status { QuorumFindsStatus }
+    ensures descriptor { QuorumFindsDescriptor }
+    ensures voter { QuorumsShareVoter }
+{}
+
+/// A later record that is being written stands beside the committed one, and is the committed one once disks
+/// with votes enough to write have it.
+pub fn records_are_committed<X>()
+    ensures written { NextIsWritten X }
+    ensures committed { NextIsCommitted X }
+{}
+
+/// Disks of zeros keep the empty history.
+pub fn blank_is_kept()
+    ensures { BlankIsKept }
+{}
+
+/// Which changes of what the disks show keep the history: of data, and of notes.
+pub fn changes_keep()
+    ensures blocks { DataChangeKeeps }
+    ensures notes { NoteChangeKeeps }
+{}
+
+/// An entry after which no block may have less keeps the history, and the beginning of a request on a disk or
+/// on a settled volume is such an entry.
+pub fn entries_keep()
+    ensures entry { EntryKeeps }
+    ensures beginning { BeginningAllowsMore }
+{}
 
 /// A write of a disk that is in no group keeps the history legal and each crash image with it, at each
 /// moment from its beginning until its answer is taken, whether it is done or lost.

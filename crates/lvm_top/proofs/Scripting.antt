@@ -10,7 +10,7 @@ use Rattle.lvm_io.specs.Reading.{Reading, to_come, lines_left, CountsGiven}
 use Rattle.lvm_vol.specs.Facts.{Fact, Cut, joined}
 use Rattle.lvm_vol.specs.Legal.{Legal}
 use Rattle.lvm_vol.specs.Log.{Log}
-use Rattle.lvm_kept.specs.Kept.{Kept, ImagesKept}
+use Rattle.lvm_kept.specs.Raw.{RawKept, RawImagesKept}
 use Rattle.lvm_kept.specs.Moments.{Holds, Keeps, StaysCalm, IsEarlier, IsUpheld}
 use Rattle.lvm_kept.proofs.Chaining.{begins_run, keeps_on}
 use Rattle.lvm_kept.proofs.Spans.{keeps_still}
@@ -191,8 +191,8 @@ module _ (log : Log) (old new : Device) (facts : List Fact) (keeps : Keeps log.r
   pub legal_at_exit : Legal (joined past facts)
   legal_at_exit = subst Legal (append_assoc past (Cut ∷ []) facts) holds_at_exit.legal
 
-  pub kept_at_exit : ImagesKept new (joined past facts)
-  kept_at_exit image may = subst (Kept image) (append_assoc past (Cut ∷ []) facts) (holds_at_exit.kept image may)
+  pub kept_at_exit : RawImagesKept new (joined past facts)
+  kept_at_exit image may = subst (RawKept image) (append_assoc past (Cut ∷ []) facts) (holds_at_exit.kept image may)
 
 -- a run that has done no line
 pub nothing_done : (log : Log) (first : State) (input before : Option (List ℕ)) → IsPart log first first input before before 0

@@ -8,7 +8,7 @@ use Rattle.lvm_disk.specs.Paths.{DeviceStep, Path}
 use Rattle.lvm_vol.specs.declared.entry.Outcome.TheVariants as outcome
 use Rattle.lvm_vol.specs.Facts.{Fact, Request, Begun}
 use Rattle.lvm_vol.specs.Legal.{begins_in}
-use Rattle.lvm_kept.specs.Kept.{data_start}
+use Rattle.lvm_num.specs.Geometry.{data_start}
 use Rattle.lvm_kept.specs.Moments.{Keeps, StaysCalm}
 use Rattle.lvm_kept.specs.Raw.{raw_request, Carries, OnlyAdds}
 use Rattle.lvm_kept.proofs.Carrying.{carries_front}

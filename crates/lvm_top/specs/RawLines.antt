@@ -5,7 +5,7 @@ use Rattle.lvm_num.specs.Word.{fill_of}
 use Rattle.lvm_disk.specs.Device.{Device}
 use Rattle.lvm_vol.specs.Facts.{Fact, Begun}
 use Rattle.lvm_vol.specs.Log.{Log, next_id, spare_entries, spare_bytes}
-use Rattle.lvm_kept.specs.Kept.{data_start}
+use Rattle.lvm_num.specs.Geometry.{data_start}
 use Rattle.lvm_kept.specs.Moments.{Moment}
 use Rattle.lvm_kept.specs.Raw.{raw_request}
 use Rattle.lvm_top.specs.Transfer.{flight_of}

@@ -4,7 +4,7 @@ ghost use Rattle.lvm_disk.specs.Memory.{device_of};
 ghost use Rattle.lvm_io.specs.Count.{Rose};
 ghost use Rattle.lvm_vol.specs.Facts.{joined};
 ghost use Rattle.lvm_vol.specs.Legal.{Legal};
-ghost use Rattle.lvm_kept.specs.Kept.{ImagesKept};
+ghost use Rattle.lvm_kept.specs.Raw.{RawImagesKept};
 ghost use Rattle.lvm_kept.specs.Moments.{IsUpheld};
 ghost use Rattle.lvm_top.specs.Run.{IsRun};
 ghost use Rattle.lvm_top.specs.Script.{facts_of};
@@ -63,7 +63,7 @@ pub fn run_words<I: Source, O: Sink, E: Sink, C: Clock>(
     ensures clock { IfSome result.shelf (λ _. Rose (C.last clock.old) (C.last clock.new)) }
     ensures run { IfOk (job_of words.now) (λ job. IfSome result.shelf (λ shelf. IsRun (C.last clock.new) full_room (sim_device job) (device_of shelf) (record { content = I.left input.old; faults = I.faults input.old }) (record { content = I.left input.new; faults = I.faults input.new }) (record { content = O.held out.old; faults = O.faults out.old }) (record { content = O.held out.new; faults = O.faults out.new }) result.history result.status result.refused)) }
     ensures upheld { IfOk (job_of words.now) (λ job. IfSome result.shelf (λ shelf. IsUpheld (C.last clock.new) (sim_device job) (device_of shelf) (facts_of result.history))) }
-    ensures alone { IfSome result.shelf (λ shelf. Legal (joined [] (facts_of result.history)) × ImagesKept (device_of shelf) (joined [] (facts_of result.history))) }
+    ensures alone { IfSome result.shelf (λ shelf. Legal (joined [] (facts_of result.history)) × RawImagesKept (device_of shelf) (joined [] (facts_of result.history))) }
 {
     let Ok(Job::Sim { disks, mib }) = read_words(words) else {
         let _ = write_all(err, USAGE);

@@ -6,7 +6,7 @@ ghost use Rattle.lvm_disk.specs.Images.{LeavesNoMore};
 ghost use Rattle.lvm_disk.specs.Paths.{DeviceStep, Path};
 ghost use Rattle.lvm_vol.specs.Facts.{Landed, Taken, Begun};
 ghost use Rattle.lvm_vol.specs.Log.{next_id, request_of, is_open, is_uncut, awaited, got_without_bytes, spare_entries, spare_bytes};
-ghost use Rattle.lvm_kept.specs.Kept.{data_start};
+ghost use Rattle.lvm_num.specs.Geometry.{data_start};
 ghost use Rattle.lvm_kept.specs.Moments.{Keeps, StaysCalm};
 ghost use Rattle.lvm_kept.specs.Raw.{raw_request};
 ghost use Rattle.lvm_top.specs.Transfer.{Rests, flight_of};

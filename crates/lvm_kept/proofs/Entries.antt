@@ -1,0 +1,131 @@
+-- What an entry changes of the agreement.
+use Rattle.std.proofs.Common.{◌≡◌, ◌⊎◌, inl, inr, ⊎_elim, ℕ, ◌<◌, Bool, true, false, ◌&&◌, ◌||◌, List, [], ◌∷◌, ◌++◌, map, Option, Some, None, refl, sym, ap, subst, ◌∙◌}
+use Rattle.std.specs.Prelude.{IsTrue, if◌then◌else◌, ◌==◌, IsSomeAnd}
+use Rattle.std.specs.List.{AllByRecursion}
+use Rattle.std.proofs.lemmas.Bool.{eqb-true}
+use Rattle.lvm_num.specs.declared.place.Pp.{Pp}
+use Rattle.lvm_num.specs.declared.descriptor.Mode.{Mode}
+use Rattle.lvm_num.specs.declared.descriptor.Mode.TheVariants.{Active, Passive, Off}
+use Rattle.lvm_num.specs.declared.descriptor.LvRow.{LvRow}
+use Rattle.lvm_num.specs.declared.descriptor.Descriptor.{Descriptor}
+use Rattle.lvm_num.specs.declared.status.Status.{Status}
+use Rattle.lvm_num.specs.Buffer.{Sector}
+use Rattle.lvm_num.specs.Disks.{Disks}
+use Rattle.lvm_num.specs.Descriptor.{volume_of}
+use Rattle.lvm_num.specs.Record.{Stamped}
+use Rattle.lvm_vol.specs.declared.entry.Vol.{Vol}
+use Rattle.lvm_vol.specs.declared.entry.Vol.TheVariants.{Disk, Lv}
+use Rattle.lvm_vol.specs.Facts.{Request, Fact, Begun, Cut, Stands, is_over, block_of}
+use Rattle.lvm_vol.specs.May.{Known, known, May, IsValue, also, cut, is_off, is_some_open}
+use Rattle.lvm_vol.specs.Standing.{Settled, Volume, no_volumes, volumes_after, volumes_after_fact, volumes_in, put}
+use Rattle.lvm_vol.proofs.Knowing.{known-push}
+use Rattle.lvm_kept.specs.Contents.{Contents}
+use Rattle.lvm_kept.specs.Group.{block_at, fresh_on, HoldOne}
+use Rattle.lvm_kept.specs.Kept.{StandsAs, MayDiffer, IsBlockKept, BlocksKept, IsSettledIn, IsAvailable, Kept}
+use Rattle.lvm_kept.specs.Changes.{OnlyAllowsMore, EntryKeeps, IsOnSettled, BeginningAllowsMore}
+use Rattle.lvm_kept.proofs.Values.{one_left_of, cut_adds_more, one_more}
+use Rattle.lvm_kept.proofs.Changing.{map_one}
+
+module _ (c : Contents) (facts : List Fact) (f : Fact) (more : OnlyAllowsMore facts f) where
+  abbrev before : ℕ → ℕ → Known
+  before lv b = known (facts ++ Cut ∷ []) (Lv lv) b
+
+  abbrev now : ℕ → ℕ → Known
+  now lv b = known ((facts ++ f ∷ []) ++ Cut ∷ []) (Lv lv) b
+
+  differ_more : (status : Option (Stamped Status)) (lv : ℕ) (mode : Mode) (copies : List Pp) (b : ℕ) → MayDiffer c status lv mode copies (before lv b) b → MayDiffer c status lv mode copies (now lv b) b
+  differ_more status lv Active copies b m = m
+  differ_more status lv Passive copies b m = m
+  differ_more status lv Off copies b m = more.loose (Lv lv) b m
+
+  block_more : (mib : ℕ) (status : Option (Stamped Status)) (row : LvRow) (copies : List Pp) (b : ℕ) → IsBlockKept c mib status row copies (before row.number b) b → IsBlockKept c mib status row copies (now row.number b) b
+  block_more mib status row copies b kept = record {
+    allowed = map_one (λ p. IsValue (before row.number b) (block_at c mib p b)) (λ p. IsValue (now row.number b) (block_at c mib p b)) (λ p v. more.may (Lv row.number) b (block_at c mib p b) v) copies kept.allowed;
+    equal = ⊎_elim (λ one. inl one) (λ (m : MayDiffer c status row.number row.mode copies (before row.number b) b). inr (differ_more status row.number row.mode copies b m)) kept.equal;
+  }
+
+  blocks_more : (group : Descriptor) (disks : Disks) (status : Option (Stamped Status)) → BlocksKept c facts group disks status → BlocksKept c (facts ++ f ∷ []) group disks status
+  blocks_more group disks status blocks row lp b is inside = block_more group.mib status row (fresh_on disks status row lp) b (blocks row lp b is inside)
+
+  settled_before : (lv : ℕ) → IsSettledIn (facts ++ f ∷ []) lv → IsSettledIn facts lv
+  settled_before lv settled = ap (λ (v : Volume). v.standing) (sym (more.volumes lv)) ∙ settled
+
+  pub kept_more : Kept c facts → Kept c (facts ++ f ∷ [])
+  kept_more kept = record {
+    agrees = record {
+        volumes = λ disks id group g lv. subst (λ (v : Volume). StandsAs group.mib v.standing v.shape (volume_of group lv)) (sym (more.volumes lv)) (kept.agrees.volumes disks id group g lv);
+        status = kept.agrees.status;
+        copies = λ disks id group g. blocks_more group _ _ (kept.agrees.copies disks id group g);
+        raw = λ d b there none low high. more.raw (Disk d) b (c.block d b) (kept.agrees.raw d b there none low high);
+        available = λ lv settled. let a : IsAvailable c facts = kept.agrees.available lv (settled_before lv settled) in
+            record { id = a.id; group = a.group; found = a.found; copies = λ l lp row is. a.copies l lp row (settled_before l is) };
+      };
+    lasting = record {
+        common = kept.lasting.common;
+        across = λ x y id g h k l. blocks_more g _ _ (kept.lasting.across x y id g h k l);
+        some = kept.lasting.some;
+        size = kept.lasting.size;
+        partitions = kept.lasting.partitions;
+        descriptors = kept.lasting.descriptors;
+        statuses = kept.lasting.statuses;
+      };
+  }
+
+pub entry_keeps : EntryKeeps
+entry_keeps c facts f more kept = kept_more c facts f more kept
+
+-- ---- a request begins
+
+abbrev begun : Request → Bool → Known → Known
+begun r t k = if t then record k { open_writes = r ∷ k.open_writes } else k
+
+may_more : (r : Request) (b : ℕ) (t : Bool) (k : Known) (x : Sector) → May (cut b k) x → May (cut b (begun r t k)) x
+may_more r b true k x may = cut_adds_more k.values r k.open_writes b x may
+may_more r b false k x may = may
+
+also_more : (values : Option (List Sector)) (ys : List Sector) (y x : Sector) → IsSomeAnd (also ys values) (λ vs. Stands x vs) → IsSomeAnd (also (y ∷ ys) values) (λ vs. Stands x vs)
+also_more None ys y x is = is
+also_more (Some vs) ys y x is = one_more x vs ys y is
+
+value_more : (r : Request) (b : ℕ) (t : Bool) (k : Known) (x : Sector) → IsValue (cut b k) x → IsValue (cut b (begun r t k)) x
+value_more r b true k x is = also_more k.values (map (λ (s : Request). block_of s.blocks s.at b) k.open_writes) (block_of r.blocks r.at b) x is
+value_more r b false k x is = is
+
+loose_more : (r : Request) (b : ℕ) (t : Bool) (k : Known) → IsTrue (cut b k).loose → IsTrue (cut b (begun r t k)).loose
+loose_more r b false k is = is
+loose_more r b true k is = by_cases k.loose (is_off k.mode) k.open_writes is
+  where
+    by_cases : (l o : Bool) (rs : List Request) → l || (o && is_some_open rs) ≡ true → l || (o && true) ≡ true
+    by_cases true o rs e = refl
+    by_cases false true rs e = refl
+    by_cases false false rs e = absurd cc
+
+volumes-append : (volumes : ℕ → Volume) (facts more : List Fact) → volumes_after volumes (facts ++ more) ≡ volumes_after (volumes_after volumes facts) more
+volumes-append volumes [] more = refl
+volumes-append volumes (g ∷ facts) more = volumes-append (volumes_after_fact g volumes) facts more
+
+put_settled : (vol : Vol) (volumes : ℕ → Volume) (lv : ℕ) → ((n : ℕ) → vol ≡ Lv n → (volumes n).standing ≡ Settled) → put vol Settled volumes lv ≡ volumes lv
+put_settled (Disk n) volumes lv settled = refl
+put_settled (Lv n) volumes lv settled = by_test (n == lv) refl
+  where
+    by_test : (t : Bool) → (n == lv) ≡ t → (if t then record (volumes lv) { standing = Settled } else volumes lv) ≡ volumes lv
+    by_test true is =
+        let same : n ≡ lv = eqb-true n lv is in
+        let stands : (volumes lv).standing ≡ Settled = subst (λ (m : ℕ). (volumes m).standing ≡ Settled) same (settled n refl) in
+        λ i. record (volumes lv) { standing = sym stands i }
+    by_test false is = refl
+
+pub beginning_more : BeginningAllowsMore
+beginning_more facts r settled = record {
+  may = λ vol b value is. subst (λ (k : Known). IsValue k value) (sym (after vol b)) (value_more r b _ (known facts vol b) value (subst (λ (k : Known). IsValue k value) (known-push facts Cut vol b) is));
+  raw = λ vol b value is. subst (λ (k : Known). May k value) (sym (after vol b)) (may_more r b _ (known facts vol b) value (subst (λ (k : Known). May k value) (known-push facts Cut vol b) is));
+  loose = λ vol b is. subst (λ (k : Known). IsTrue k.loose) (sym (after vol b)) (loose_more r b _ (known facts vol b) (subst (λ (k : Known). IsTrue k.loose) (known-push facts Cut vol b) is));
+  volumes = λ lv. ap (λ (v : ℕ → Volume). v lv) (volumes-append no_volumes facts (Begun r ∷ [])) ∙ put_settled r.vol (volumes_in facts) lv (on r.vol settled);
+}
+  where
+    after : (vol : Vol) (b : ℕ) → known ((facts ++ Begun r ∷ []) ++ Cut ∷ []) vol b ≡ cut b (begun r (r.write && is_over r vol b) (known facts vol b))
+    after vol b = known-push (facts ++ Begun r ∷ []) Cut vol b ∙ ap (cut b) (known-push facts (Begun r) vol b)
+
+    on : (vol : Vol) → IsOnSettled facts vol → (n : ℕ) → vol ≡ Lv n → (volumes_in facts n).standing ≡ Settled
+    on (Disk d) is n same = absurd cc
+    on (Lv m) is n same = let e : m ≡ n = cc in subst (λ (l : ℕ). (volumes_in facts l).standing ≡ Settled) e is

@@ -1,0 +1,5 @@
+use Rattle.lvm_kept.proofs.Changing.{data_keeps, notes_keep}
+use Rattle.lvm_kept.proofs.laws.changes_keep.Goals as goal
+
+pub returns : goal.returns
+returns c = record { blocks = data_keeps; notes = notes_keep }

@@ -1,0 +1,102 @@
+-- Which changes of what the disks show keep the history, and which entries do.
+use Rattle.std.specs.Prelude.{◌≡◌, ◌⊎◌, ℕ, ◌<◌, ◌≤◌, List, ◌∷◌, [], ◌++◌, Option, None, Some, IsTrue, replicate}
+use Rattle.std.specs.List.{AllByRecursion}
+use Rattle.lvm_num.specs.declared.place.Pp.{Pp}
+use Rattle.lvm_num.specs.declared.descriptor.Mode.{Mode}
+use Rattle.lvm_num.specs.declared.descriptor.LvRow.{LvRow}
+use Rattle.lvm_num.specs.declared.descriptor.Descriptor.{Descriptor}
+use Rattle.lvm_num.specs.declared.status.Status.{Status}
+use Rattle.lvm_num.specs.Buffer.{Sector, zero_sector}
+use Rattle.lvm_num.specs.Disks.{Disks}
+use Rattle.lvm_num.specs.Geometry.{data_start}
+use Rattle.lvm_num.specs.Note.{Noted}
+use Rattle.lvm_num.specs.Votes.{all_disks}
+use Rattle.lvm_num.specs.Record.{Stamped}
+use Rattle.lvm_vol.specs.declared.entry.Vol.{Vol}
+use Rattle.lvm_vol.specs.declared.entry.Vol.TheVariants.{Disk, Lv}
+use Rattle.lvm_vol.specs.Facts.{Request, Fact, Begun, Cut}
+use Rattle.lvm_vol.specs.Standing.{Open, volumes_in}
+use Rattle.lvm_vol.specs.May.{Known, known, IsValue, May}
+use Rattle.lvm_disk.specs.Device.{Image}
+use Rattle.lvm_kept.specs.Contents.{Contents, contents_of}
+use Rattle.lvm_kept.specs.Group.{is_voter, status_among, Finds, fresh_on, block_at, IsBlockOf, IsOneOf, HoldOne}
+use Rattle.lvm_kept.specs.Kept.{MayDiffer, IsSettledIn, Kept}
+
+-- ---- nothing yet
+
+-- disks of zeros
+abbrev pub IsBlank : Image → Type 0
+IsBlank image = (d s : ℕ) → d < image.disks → s < image.size d → image.sector d s ≡ zero_sector
+
+-- keep the empty history.
+abbrev pub BlankIsKept : Type 0
+BlankIsKept = (image : Image) → IsBlank image → Kept (contents_of image) []
+
+-- ---- data
+
+-- each of the copies holds at the block what it held
+abbrev pub Unchanged : Contents → Contents → ℕ → List Pp → ℕ → Type 0
+Unchanged old new mib copies b = AllByRecursion (λ p. block_at new mib p b ≡ block_at old mib p b) copies
+
+-- each of the copies holds an allowed value at the block, and they hold one or may differ there
+pub record Excused (old new : Contents) (mib : ℕ) (status : Option (Stamped Status)) (row : LvRow) (copies : List Pp) (k : Known) (b : ℕ) : Type 0 where
+  pub allowed : AllByRecursion (λ p. IsValue k (block_at new mib p b)) copies
+  pub differ : HoldOne new mib copies b ⊎ MayDiffer old status row.number row.mode copies k b
+
+abbrev pub BlocksChange : Contents → Contents → List Fact → Descriptor → Disks → Option (Stamped Status) → Type 0
+BlocksChange old new facts group disks status =
+    (row : LvRow) (lp b : ℕ) → IsOneOf group.lvs row → IsBlockOf group.mib row lp b
+    → Unchanged old new group.mib (fresh_on disks status row lp) b
+    ⊎ Excused old new group.mib status row (fresh_on disks status row lp) (known (facts ++ Cut ∷ []) (Lv row.number) b) b
+
+-- A change of data alone: of blocks that may have their new values, of stale copies, or of disks in no group.
+pub record DataChange (old new : Contents) (facts : List Fact) : Type 0 where
+  pub rest : new ≡ record old { block = new.block }
+  pub copies : (disks : Disks) (id : ℕ) (group : Descriptor) → Finds old disks id group → BlocksChange old new facts group (is_voter old disks id) (status_among old disks id)
+  pub across : (a b : Disks) (id : ℕ) (g h : Descriptor) → Finds old a id g → Finds old b id h → BlocksChange old new facts g (is_voter old all_disks id) (status_among old b id)
+  pub raw : (d b : ℕ) → d < old.disks → old.descriptor d ≡ None → data_start ≤ b → b < old.size d → May (known (facts ++ Cut ∷ []) (Disk d) b) (new.block d b)
+
+-- keeps the history.
+abbrev pub DataChangeKeeps : Type 0
+DataChangeKeeps = (old new : Contents) (facts : List Fact) → DataChange old new facts → Kept old facts → Kept new facts
+
+-- ---- notes
+
+-- where copies may differ by the old notes, they hold one value or may differ by the new ones
+abbrev pub StayExcused : Contents → Contents → List Fact → Descriptor → Disks → Option (Stamped Status) → Type 0
+StayExcused old new facts group disks status =
+    (row : LvRow) (lp b : ℕ) → IsOneOf group.lvs row → IsBlockOf group.mib row lp b
+    → HoldOne old group.mib (fresh_on disks status row lp) b
+    ⊎ MayDiffer new status row.number row.mode (fresh_on disks status row lp) (known (facts ++ Cut ∷ []) (Lv row.number) b) b
+
+-- A change of consistency records alone, none of which leaves out what it must name,
+pub record NoteChange (old new : Contents) (facts : List Fact) : Type 0 where
+  pub rest : new ≡ record old { note = new.note }
+  pub copies : (disks : Disks) (id : ℕ) (group : Descriptor) → Finds old disks id group → StayExcused old new facts group (is_voter old disks id) (status_among old disks id)
+  pub across : (a b : Disks) (id : ℕ) (g h : Descriptor) → Finds old a id g → Finds old b id h → StayExcused old new facts g (is_voter old all_disks id) (status_among old b id)
+
+-- keeps the history.
+abbrev pub NoteChangeKeeps : Type 0
+NoteChangeKeeps = (old new : Contents) (facts : List Fact) → NoteChange old new facts → Kept old facts → Kept new facts
+
+-- ---- entries
+
+-- after the entry, each block may have what it might have before, and differ where it might before; volumes stand as before
+pub record OnlyAllowsMore (facts : List Fact) (f : Fact) : Type 0 where
+  pub may : (vol : Vol) (b : ℕ) (value : Sector) → IsValue (known (facts ++ Cut ∷ []) vol b) value → IsValue (known ((facts ++ f ∷ []) ++ Cut ∷ []) vol b) value
+  pub raw : (vol : Vol) (b : ℕ) (value : Sector) → May (known (facts ++ Cut ∷ []) vol b) value → May (known ((facts ++ f ∷ []) ++ Cut ∷ []) vol b) value
+  pub loose : (vol : Vol) (b : ℕ) → IsTrue (known (facts ++ Cut ∷ []) vol b).loose → IsTrue (known ((facts ++ f ∷ []) ++ Cut ∷ []) vol b).loose
+  pub volumes : (lv : ℕ) → volumes_in (facts ++ f ∷ []) lv ≡ volumes_in facts lv
+
+-- An entry that only allows more keeps the history.
+abbrev pub EntryKeeps : Type 0
+EntryKeeps = (c : Contents) (facts : List Fact) (f : Fact) → OnlyAllowsMore facts f → Kept c facts → Kept c (facts ++ f ∷ [])
+
+-- a request on a settled volume, or on a disk
+abbrev pub IsOnSettled : List Fact → Vol → Type 0
+IsOnSettled facts (Lv lv) = IsSettledIn facts lv
+IsOnSettled facts (Disk d) = Unit {0}
+
+-- The beginning of a request on a settled volume, or on a disk, is one.
+abbrev pub BeginningAllowsMore : Type 0
+BeginningAllowsMore = (facts : List Fact) (r : Request) → IsOnSettled facts r.vol → OnlyAllowsMore facts (Begun r)

@@ -1,0 +1,114 @@
+-- What a set of disks says of a group: its descriptor, its voters, its status, and which copies are fresh.
+use Rattle.std.specs.Prelude.{◌≡◌, ◌⊎◌, ℕ, ◌<◌, Bool, false, ◌&&◌, not, nat_le, ◌==◌, if◌then◌else◌, List, [], ◌∷◌, Option, Some, None, IsTrue, filter}
+use Rattle.std.specs.List.{list_any, AllByRecursion}
+use Rattle.lvm_num.specs.declared.place.Pp.{Pp}
+use Rattle.lvm_num.specs.declared.descriptor.LvRow.{LvRow}
+use Rattle.lvm_num.specs.declared.descriptor.Descriptor.{Descriptor}
+use Rattle.lvm_num.specs.declared.status.Status.{Status}
+use Rattle.lvm_num.specs.Buffer.{Sector}
+use Rattle.lvm_num.specs.Disks.{Disks}
+use Rattle.lvm_num.specs.Geometry.{partition_of, sector_of, sectors_needed}
+use Rattle.lvm_num.specs.Descriptor.{copies_of}
+use Rattle.lvm_num.specs.Votes.{all_disks, votes_in, is_enough_to_read}
+use Rattle.lvm_num.specs.Record.{Stamped, newest_below}
+use Rattle.lvm_num.specs.Status.{calls_stale, calls_dirty}
+use Rattle.lvm_num.specs.Note.{Noted, names}
+use Rattle.lvm_kept.specs.Contents.{Contents}
+
+-- the record, if its value passes
+abbrev pub if_passes : {X : Type 0} → (X → Bool) → Option (Stamped X) → Option (Stamped X)
+if_passes test None = None
+if_passes test (Some r) = if test r.value then Some r else None
+
+-- there is a record, and its value passes
+abbrev pub passes : {X : Type 0} → (X → Bool) → Option (Stamped X) → Bool
+passes test None = false
+passes test (Some r) = test r.value
+
+abbrev pub is_of : ℕ → Descriptor → Bool
+is_of id g = g.id == id
+
+abbrev pub is_status_of : ℕ → Status → Bool
+is_status_of id s = s.id == id
+
+-- the newest descriptor of the group among the disks
+unfoldable pub descriptor_among : Contents → Disks → ℕ → Option (Stamped Descriptor)
+descriptor_among c disks id = newest_below (λ d. if disks d then if_passes (is_of id) (c.descriptor d) else None) c.disks
+
+-- the disk is a member, and has the sectors that its partitions need
+abbrev pub has_room : Contents → ℕ → Descriptor → Bool
+has_room c d g = list_any (λ row. row.disk == d && nat_le (sectors_needed g.mib row.pps) (c.size d)) g.pvs
+
+-- the voters: members among the disks whose own newest descriptor is of the group and which are large enough
+unfoldable pub is_voter : Contents → Disks → ℕ → Disks
+is_voter c disks id d = disks d && passes (is_of id) (c.descriptor d) && passes (has_room c d) (descriptor_among c disks id)
+
+-- the voters' votes are enough to read
+unfoldable pub has_quorum : Contents → Disks → ℕ → Bool
+has_quorum c disks id = passes (λ g. is_enough_to_read g (votes_in g (is_voter c disks id))) (descriptor_among c disks id)
+
+-- the newest status of the group among the voters
+unfoldable pub status_among : Contents → Disks → ℕ → Option (Stamped Status)
+status_among c disks id = newest_below (λ d. if is_voter c disks id d then if_passes (is_status_of id) (c.status d) else None) c.disks
+
+-- The disks hold a quorum of the group, whose descriptor this is.
+pub record Finds (c : Contents) (disks : Disks) (id : ℕ) (group : Descriptor) : Type 0 where
+  pub quorum : IsTrue (has_quorum c disks id)
+  pub newest : Stamped Descriptor
+  pub found : descriptor_among c disks id ≡ Some newest
+  pub is : newest.value ≡ group
+
+-- no disk's descriptor names a volume, or at most one group has a quorum
+abbrev pub IsLone : Contents → Type 0
+IsLone c =
+    ((d : ℕ) (r : Stamped Descriptor) → c.descriptor d ≡ Some r → r.value.lvs ≡ [])
+    ⊎ ((v w : ℕ) → IsTrue (has_quorum c all_disks v) → IsTrue (has_quorum c all_disks w) → v ≡ w)
+
+-- ---- copies
+
+-- nothing is stale or dirty without a status
+abbrev pub is_stale_by : Option (Stamped Status) → Pp → Bool
+is_stale_by status p = passes (λ s. calls_stale s p) status
+
+abbrev pub is_dirty_by : Option (Stamped Status) → ℕ → Bool
+is_dirty_by status lv = passes (λ s. calls_dirty s lv) status
+
+-- the copies of a logical partition that stand on these disks and that the status doesn't call stale, in copy order
+abbrev pub fresh_on : Disks → Option (Stamped Status) → LvRow → ℕ → List Pp
+fresh_on disks status row lp = filter (λ p. disks p.disk && not (is_stale_by status p)) (copies_of row lp)
+
+-- the fresh copies of a logical partition, as a set of disks tells them
+abbrev pub fresh : Contents → Disks → ℕ → LvRow → ℕ → List Pp
+fresh c disks id row lp = fresh_on (is_voter c disks id) (status_among c disks id) row lp
+
+-- a block of a volume, on a copy
+abbrev pub block_at : Contents → ℕ → Pp → ℕ → Sector
+block_at c mib p b = c.block p.disk (sector_of mib p.pp b)
+
+-- the block is one of this partition of the volume
+pub record IsBlockOf (mib : ℕ) (row : LvRow) (lp b : ℕ) : Type 0 where
+  pub inside : lp < row.lps
+  pub partition : partition_of mib b ≡ lp
+
+-- a consistency record, if there is one, names the track group of the volume
+abbrev pub names_if : Option Noted → ℕ → ℕ → Bool
+names_if None lv group = false
+names_if (Some note) lv group = names note lv group
+
+-- the disk's does
+abbrev pub is_named : Contents → ℕ → ℕ → ℕ → Bool
+is_named c d lv group = names_if (c.note d) lv group
+
+-- x is one of these
+abbrev pub IsOneOf : {X : Type 0} → List X → X → Type 0
+IsOneOf [] x = ⊥
+IsOneOf (y ∷ ys) x = (x ≡ y) ⊎ IsOneOf ys x
+
+-- there is one
+abbrev pub IsSome : {X : Type 0} → List X → Type 0
+IsSome [] = ⊥
+IsSome (x ∷ xs) = Unit {0}
+
+-- the copies hold one value at the block
+abbrev pub HoldOne : Contents → ℕ → List Pp → ℕ → Type 0
+HoldOne c mib copies b = (value : Sector) × AllByRecursion (λ p. block_at c mib p b ≡ value) copies
