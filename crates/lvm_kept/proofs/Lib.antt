@@ -15,3 +15,4 @@ pub mod Finding
 pub mod Blank
 pub mod Changing
 pub mod Entries
+pub mod Worked

@@ -7,6 +7,7 @@ pub mod Plans
 pub mod Torn
 pub mod Committed
 pub mod Recovered
+pub mod Examples
 pub mod Raw
 pub mod Moments
 pub mod Laws

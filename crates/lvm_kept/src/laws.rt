@@ -3,6 +3,7 @@ ghost use Rattle.lvm_kept.specs.Laws.{WriteDoneLaw, WriteLostLaw, RunsLaw};
 ghost use Rattle.lvm_kept.specs.Places.{DataWritesKeepRecords, RecordWritesKeepBlocks, BlocksAreSectors};
 ghost use Rattle.lvm_kept.specs.Torn.{WritingBegins, StepKeepsWriting, AloneIsAmongOthers, NewestIsOldOrNew, WholeIsNew, DescriptorWriteShows, StatusWriteShows, EndedPartStands, StandingPartStays, NoteWriteShows, EarlierStaysBefore, ZerosAreBefore};
 ghost use Rattle.lvm_kept.specs.Committed.{ImagesAreWithin, QuorumFindsStatus, QuorumFindsDescriptor, QuorumsShareVoter, NextIsWritten, NextIsCommitted};
+ghost use Rattle.lvm_kept.specs.Examples.{FreshThree, SecondAway, StaleCopy, NamedDifference, HalfMade};
 ghost use Rattle.lvm_kept.specs.Changes.{BlankIsKept, DataChangeKeeps, NoteChangeKeeps, EntryKeeps, BeginningAllowsMore};
 
 /// A change of data sectors changes no record of a disk and so nothing that a group shows; a change
@@ -63,6 +64,16 @@ pub fn quorums_find()
 pub fn records_are_committed<X>()
     ensures written { NextIsWritten X }
     ensures committed { NextIsCommitted X }
+{}
+
+/// What the definitions say of small groups, worked by hand: a fresh group of three, a group of two with a disk
+/// away, a stale copy, two copies that differ in a named track group, and a volume half made.
+pub fn worked_groups()
+    ensures three { FreshThree }
+    ensures away { SecondAway }
+    ensures stale { StaleCopy }
+    ensures named { NamedDifference }
+    ensures half_made { HalfMade }
 {}
 
 /// Disks of zeros keep the empty history.
