@@ -1,6 +1,6 @@
 -- What an entry changes of the agreement.
 use Rattle.std.proofs.Common.{◌≡◌, ◌⊎◌, inl, inr, ⊎_elim, ℕ, ◌<◌, Bool, true, false, ◌&&◌, ◌||◌, List, [], ◌∷◌, ◌++◌, map, Option, Some, None, refl, sym, ap, subst, ◌∙◌}
-use Rattle.std.specs.Prelude.{IsTrue, if◌then◌else◌, ◌==◌, IsSomeAnd}
+use Rattle.std.specs.Prelude.{IsTrue, if◌then◌else◌, ◌==◌, IsSomeAnd, is_some, find}
 use Rattle.std.specs.List.{AllByRecursion}
 use Rattle.std.proofs.lemmas.Bool.{eqb-true}
 use Rattle.lvm_num.specs.declared.place.Pp.{Pp}
@@ -17,48 +17,47 @@ use Rattle.lvm_vol.specs.declared.entry.Vol.{Vol}
 use Rattle.lvm_vol.specs.declared.entry.Vol.TheVariants.{Disk, Lv}
 use Rattle.lvm_vol.specs.Facts.{Request, Fact, Begun, Cut, Stands, is_over, block_of}
 use Rattle.lvm_vol.specs.May.{Known, known, May, IsValue, also, cut, is_off, is_some_open}
-use Rattle.lvm_vol.specs.Standing.{Settled, Volume, no_volumes, volumes_after, volumes_after_fact, volumes_in, put}
+use Rattle.lvm_vol.specs.Standing.{Standing, Open, Settled, Shape, Volume, no_volumes, volumes_after, volumes_after_fact, volumes_in, put}
 use Rattle.lvm_vol.proofs.Knowing.{known-push}
 use Rattle.lvm_kept.specs.Contents.{Contents}
-use Rattle.lvm_kept.specs.Group.{block_at, fresh_on, HoldOne}
-use Rattle.lvm_kept.specs.Kept.{StandsAs, MayDiffer, IsBlockKept, BlocksKept, IsSettledIn, IsAvailable, Kept}
-use Rattle.lvm_kept.specs.Changes.{OnlyAllowsMore, EntryKeeps, IsOnSettled, BeginningAllowsMore}
+use Rattle.lvm_kept.specs.Group.{Finds, block_at, fresh_on, IsOneOf, HoldOne}
+use Rattle.lvm_kept.specs.Kept.{StandsAs, MayDiffer, IsBlockKept, BlocksKept, VolumesAgree, IsSettledIn, IsAvailable, Kept}
+use Rattle.lvm_kept.specs.Changes.{OnlyAllowsMore, EntryKeeps, IsOnSettled, BeginningAllowsMore, BeginningLeavesVolumes, IsFoundByAll, BeginningSettles}
 use Rattle.lvm_kept.proofs.Values.{one_left_of, cut_adds_more, one_more}
 use Rattle.lvm_kept.proofs.Changing.{map_one}
+use Rattle.lvm_kept.proofs.Finding.{some_same}
+use Rattle.lvm_num.specs.Votes.{all_disks}
 
 module _ (c : Contents) (facts : List Fact) (f : Fact) (more : OnlyAllowsMore facts f) where
-  abbrev before : ℕ → ℕ → Known
-  before lv b = known (facts ++ Cut ∷ []) (Lv lv) b
+  abbrev earlier : ℕ → ℕ → Known
+  earlier lv b = known (facts ++ Cut ∷ []) (Lv lv) b
 
   abbrev now : ℕ → ℕ → Known
   now lv b = known ((facts ++ f ∷ []) ++ Cut ∷ []) (Lv lv) b
 
-  differ_more : (status : Option (Stamped Status)) (lv : ℕ) (mode : Mode) (copies : List Pp) (b : ℕ) → MayDiffer c status lv mode copies (before lv b) b → MayDiffer c status lv mode copies (now lv b) b
+  differ_more : (status : Option (Stamped Status)) (lv : ℕ) (mode : Mode) (copies : List Pp) (b : ℕ) → MayDiffer c status lv mode copies (earlier lv b) b → MayDiffer c status lv mode copies (now lv b) b
   differ_more status lv Active copies b m = m
   differ_more status lv Passive copies b m = m
-  differ_more status lv Off copies b m = more.loose (Lv lv) b m
+  differ_more status lv Off copies b m = more.loose lv b m
 
-  block_more : (mib : ℕ) (status : Option (Stamped Status)) (row : LvRow) (copies : List Pp) (b : ℕ) → IsBlockKept c mib status row copies (before row.number b) b → IsBlockKept c mib status row copies (now row.number b) b
+  block_more : (mib : ℕ) (status : Option (Stamped Status)) (row : LvRow) (copies : List Pp) (b : ℕ) → IsBlockKept c mib status row copies (earlier row.number b) b → IsBlockKept c mib status row copies (now row.number b) b
   block_more mib status row copies b kept = record {
-    allowed = map_one (λ p. IsValue (before row.number b) (block_at c mib p b)) (λ p. IsValue (now row.number b) (block_at c mib p b)) (λ p v. more.may (Lv row.number) b (block_at c mib p b) v) copies kept.allowed;
-    equal = ⊎_elim (λ one. inl one) (λ (m : MayDiffer c status row.number row.mode copies (before row.number b) b). inr (differ_more status row.number row.mode copies b m)) kept.equal;
+    allowed = map_one (λ p. IsValue (earlier row.number b) (block_at c mib p b)) (λ p. IsValue (now row.number b) (block_at c mib p b)) (λ p v. more.may row.number b (block_at c mib p b) v) copies kept.allowed;
+    equal = ⊎_elim (λ one. inl one) (λ (m : MayDiffer c status row.number row.mode copies (earlier row.number b) b). inr (differ_more status row.number row.mode copies b m)) kept.equal;
   }
 
   blocks_more : (group : Descriptor) (disks : Disks) (status : Option (Stamped Status)) → BlocksKept c facts group disks status → BlocksKept c (facts ++ f ∷ []) group disks status
   blocks_more group disks status blocks row lp b is inside = block_more group.mib status row (fresh_on disks status row lp) b (blocks row lp b is inside)
 
-  settled_before : (lv : ℕ) → IsSettledIn (facts ++ f ∷ []) lv → IsSettledIn facts lv
-  settled_before lv settled = ap (λ (v : Volume). v.standing) (sym (more.volumes lv)) ∙ settled
-
-  pub kept_more : Kept c facts → Kept c (facts ++ f ∷ [])
-  kept_more kept = record {
+  -- with the volumes as the entry leaves them
+  pub kept_by : VolumesAgree c (facts ++ f ∷ []) → ((lv : ℕ) → IsSettledIn (facts ++ f ∷ []) lv → IsAvailable c (facts ++ f ∷ [])) → Kept c facts → Kept c (facts ++ f ∷ [])
+  kept_by volumes available kept = record {
     agrees = record {
-        volumes = λ disks id group g lv. subst (λ (v : Volume). StandsAs group.mib v.standing v.shape (volume_of group lv)) (sym (more.volumes lv)) (kept.agrees.volumes disks id group g lv);
+        volumes = volumes;
         status = kept.agrees.status;
         copies = λ disks id group g. blocks_more group _ _ (kept.agrees.copies disks id group g);
-        raw = λ d b there none low high. more.raw (Disk d) b (c.block d b) (kept.agrees.raw d b there none low high);
-        available = λ lv settled. let a : IsAvailable c facts = kept.agrees.available lv (settled_before lv settled) in
-            record { id = a.id; group = a.group; found = a.found; copies = λ l lp row is. a.copies l lp row (settled_before l is) };
+        raw = λ d b there none low high. more.raw d b (c.block d b) (kept.agrees.raw d b there none low high);
+        available = available;
       };
     lasting = record {
         common = kept.lasting.common;
@@ -72,7 +71,14 @@ module _ (c : Contents) (facts : List Fact) (f : Fact) (more : OnlyAllowsMore fa
   }
 
 pub entry_keeps : EntryKeeps
-entry_keeps c facts f more kept = kept_more c facts f more kept
+entry_keeps c facts f more leaves kept = kept_by c facts f more
+    (λ disks id group g lv. subst (λ (v : Volume). StandsAs group.mib v.standing v.shape (volume_of group lv)) (sym (leaves lv)) (kept.agrees.volumes disks id group g lv))
+    (λ lv settled. let a : IsAvailable c facts = kept.agrees.available lv (before lv settled) in
+    record { id = a.id; group = a.group; found = a.found; copies = λ l lp row is. a.copies l lp row (before l is) })
+    kept
+  where
+    before : (lv : ℕ) → IsSettledIn (facts ++ f ∷ []) lv → IsSettledIn facts lv
+    before lv settled = ap (λ (v : Volume). v.standing) (sym (leaves lv)) ∙ settled
 
 -- ---- a request begins
 
@@ -115,17 +121,61 @@ put_settled (Lv n) volumes lv settled = by_test (n == lv) refl
         λ i. record (volumes lv) { standing = sym stands i }
     by_test false is = refl
 
-pub beginning_more : BeginningAllowsMore
-beginning_more facts r settled = record {
-  may = λ vol b value is. subst (λ (k : Known). IsValue k value) (sym (after vol b)) (value_more r b _ (known facts vol b) value (subst (λ (k : Known). IsValue k value) (known-push facts Cut vol b) is));
-  raw = λ vol b value is. subst (λ (k : Known). May k value) (sym (after vol b)) (may_more r b _ (known facts vol b) value (subst (λ (k : Known). May k value) (known-push facts Cut vol b) is));
-  loose = λ vol b is. subst (λ (k : Known). IsTrue k.loose) (sym (after vol b)) (loose_more r b _ (known facts vol b) (subst (λ (k : Known). IsTrue k.loose) (known-push facts Cut vol b) is));
-  volumes = λ lv. ap (λ (v : ℕ → Volume). v lv) (volumes-append no_volumes facts (Begun r ∷ [])) ∙ put_settled r.vol (volumes_in facts) lv (on r.vol settled);
-}
-  where
-    after : (vol : Vol) (b : ℕ) → known ((facts ++ Begun r ∷ []) ++ Cut ∷ []) vol b ≡ cut b (begun r (r.write && is_over r vol b) (known facts vol b))
-    after vol b = known-push (facts ++ Begun r ∷ []) Cut vol b ∙ ap (cut b) (known-push facts (Begun r) vol b)
+after : (facts : List Fact) (r : Request) (vol : Vol) (b : ℕ) → known ((facts ++ Begun r ∷ []) ++ Cut ∷ []) vol b ≡ cut b (begun r (r.write && is_over r vol b) (known facts vol b))
+after facts r vol b = known-push (facts ++ Begun r ∷ []) Cut vol b ∙ ap (cut b) (known-push facts (Begun r) vol b)
 
+pub beginning_more : BeginningAllowsMore
+beginning_more facts r = record {
+  may = λ lv b value is. subst (λ (k : Known). IsValue k value) (sym (after facts r (Lv lv) b)) (value_more r b _ (known facts (Lv lv) b) value (subst (λ (k : Known). IsValue k value) (known-push facts Cut (Lv lv) b) is));
+  raw = λ d b value is. subst (λ (k : Known). May k value) (sym (after facts r (Disk d) b)) (may_more r b _ (known facts (Disk d) b) value (subst (λ (k : Known). May k value) (known-push facts Cut (Disk d) b) is));
+  loose = λ lv b is. subst (λ (k : Known). IsTrue k.loose) (sym (after facts r (Lv lv) b)) (loose_more r b _ (known facts (Lv lv) b) (subst (λ (k : Known). IsTrue k.loose) (known-push facts Cut (Lv lv) b) is));
+}
+
+volumes_now : (facts : List Fact) (r : Request) (lv : ℕ) → volumes_in (facts ++ Begun r ∷ []) lv ≡ put r.vol Settled (volumes_in facts) lv
+volumes_now facts r lv = ap (λ (v : ℕ → Volume). v lv) (volumes-append no_volumes facts (Begun r ∷ []))
+
+pub beginning_leaves : BeginningLeavesVolumes
+beginning_leaves facts r settled lv = volumes_now facts r lv ∙ put_settled r.vol (volumes_in facts) lv (on r.vol settled)
+  where
     on : (vol : Vol) → IsOnSettled facts vol → (n : ℕ) → vol ≡ Lv n → (volumes_in facts n).standing ≡ Settled
     on (Disk d) is n same = absurd cc
     on (Lv m) is n same = let e : m ≡ n = cc in subst (λ (l : ℕ). (volumes_in facts l).standing ≡ Settled) e is
+
+-- ---- on a volume that was left open
+
+-- a volume that is found is one of the rows
+found_is_row : (p : LvRow → Bool) (rows : List LvRow) (row : LvRow) → find p rows ≡ Some row → IsOneOf rows row
+found_is_row p [] row e = absurd cc
+found_is_row p (r ∷ rows) row e = by_test (p r) (found_is_row p rows row) e
+  where
+    by_test : (t : Bool) → (find p rows ≡ Some row → IsOneOf rows row) → (if t then Some r else find p rows) ≡ Some row → IsOneOf (r ∷ rows) row
+    by_test true rest is = inl (sym (some_same r row is))
+    by_test false rest is = inr (rest is)
+
+-- an open volume that is there is a settled one
+stands_settled : (mib : ℕ) (shape : Option Shape) (o : Option LvRow) → IsTrue (is_some o) → StandsAs mib Open shape o → StandsAs mib Settled shape o
+stands_settled mib shape None some stands = absurd cc
+stands_settled mib shape (Some row) some stands = stands
+
+module _ (c : Contents) (facts : List Fact) (lv : ℕ) (is_open : (volumes_in facts lv).standing ≡ Open) (found : IsFoundByAll c lv) (kept : Kept c facts) where
+  volume_settles : (disks : Disks) (id : ℕ) (group : Descriptor) → Finds c disks id group → (n : ℕ) (t : Bool) → (lv == n) ≡ t
+      → (v : Volume) → v ≡ (if t then record (volumes_in facts n) { standing = Settled } else volumes_in facts n) → StandsAs group.mib v.standing v.shape (volume_of group n)
+  volume_settles disks id group f n false other v is = subst (λ (w : Volume). StandsAs group.mib w.standing w.shape (volume_of group n)) (sym is) (kept.agrees.volumes disks id group f n)
+  volume_settles disks id group f n true here v is =
+      let same : lv ≡ n = eqb-true lv n here in
+      let some : IsTrue (is_some (volume_of group n)) = subst (λ (m : ℕ). IsTrue (is_some (volume_of group m))) same (found.there disks id group f) in
+      let was : (volumes_in facts n).standing ≡ Open = subst (λ (m : ℕ). (volumes_in facts m).standing ≡ Open) same is_open in
+      let stood : StandsAs group.mib Open (volumes_in facts n).shape (volume_of group n) =
+      subst (λ (s : Standing). StandsAs group.mib s (volumes_in facts n).shape (volume_of group n)) was (kept.agrees.volumes disks id group f n) in
+      subst (λ (w : Volume). StandsAs group.mib w.standing w.shape (volume_of group n)) (sym is) (stands_settled group.mib (volumes_in facts n).shape (volume_of group n) some stood)
+
+pub beginning_settles : BeginningSettles
+beginning_settles c facts r lv on is_open found kept = kept_by c facts (Begun r) (beginning_more facts r)
+    (λ disks id group f n. volume_settles c facts lv is_open found kept disks id group f n (lv == n) refl (volumes_in (facts ++ Begun r ∷ []) n) (volumes_now facts r n ∙ ap (λ (v : Vol). put v Settled (volumes_in facts) n) on))
+    (λ n settled. record {
+      id = found.id;
+      group = found.group;
+      found = found.found;
+      copies = λ l lp row is there inside. kept.lasting.some all_disks all_disks found.id found.group found.group found.found found.found row lp (found_is_row (λ (x : LvRow). x.number == l) found.group.lvs row there) inside;
+    })
+    kept

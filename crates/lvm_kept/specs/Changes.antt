@@ -1,15 +1,14 @@
 -- Which changes of what the disks show keep the history, and which entries do.
-use Rattle.std.specs.Prelude.{◌≡◌, ◌⊎◌, ℕ, ◌<◌, ◌≤◌, List, ◌∷◌, [], ◌++◌, Option, None, Some, IsTrue, replicate}
+use Rattle.std.specs.Prelude.{◌≡◌, ◌⊎◌, ℕ, ◌<◌, ◌≤◌, List, ◌∷◌, [], ◌++◌, Option, None, Some, IsTrue, is_some}
 use Rattle.std.specs.List.{AllByRecursion}
 use Rattle.lvm_num.specs.declared.place.Pp.{Pp}
-use Rattle.lvm_num.specs.declared.descriptor.Mode.{Mode}
 use Rattle.lvm_num.specs.declared.descriptor.LvRow.{LvRow}
 use Rattle.lvm_num.specs.declared.descriptor.Descriptor.{Descriptor}
 use Rattle.lvm_num.specs.declared.status.Status.{Status}
 use Rattle.lvm_num.specs.Buffer.{Sector, zero_sector}
 use Rattle.lvm_num.specs.Disks.{Disks}
 use Rattle.lvm_num.specs.Geometry.{data_start}
-use Rattle.lvm_num.specs.Note.{Noted}
+use Rattle.lvm_num.specs.Descriptor.{volume_of}
 use Rattle.lvm_num.specs.Votes.{all_disks}
 use Rattle.lvm_num.specs.Record.{Stamped}
 use Rattle.lvm_vol.specs.declared.entry.Vol.{Vol}
@@ -81,22 +80,40 @@ NoteChangeKeeps = (old new : Contents) (facts : List Fact) → NoteChange old ne
 
 -- ---- entries
 
--- after the entry, each block may have what it might have before, and differ where it might before; volumes stand as before
+-- after the entry, each block may have what it might have before, and differ where it might before
 pub record OnlyAllowsMore (facts : List Fact) (f : Fact) : Type 0 where
-  pub may : (vol : Vol) (b : ℕ) (value : Sector) → IsValue (known (facts ++ Cut ∷ []) vol b) value → IsValue (known ((facts ++ f ∷ []) ++ Cut ∷ []) vol b) value
-  pub raw : (vol : Vol) (b : ℕ) (value : Sector) → May (known (facts ++ Cut ∷ []) vol b) value → May (known ((facts ++ f ∷ []) ++ Cut ∷ []) vol b) value
-  pub loose : (vol : Vol) (b : ℕ) → IsTrue (known (facts ++ Cut ∷ []) vol b).loose → IsTrue (known ((facts ++ f ∷ []) ++ Cut ∷ []) vol b).loose
-  pub volumes : (lv : ℕ) → volumes_in (facts ++ f ∷ []) lv ≡ volumes_in facts lv
+  pub may : (lv b : ℕ) (value : Sector) → IsValue (known (facts ++ Cut ∷ []) (Lv lv) b) value → IsValue (known ((facts ++ f ∷ []) ++ Cut ∷ []) (Lv lv) b) value
+  pub raw : (d b : ℕ) (value : Sector) → May (known (facts ++ Cut ∷ []) (Disk d) b) value → May (known ((facts ++ f ∷ []) ++ Cut ∷ []) (Disk d) b) value
+  pub loose : (lv b : ℕ) → IsTrue (known (facts ++ Cut ∷ []) (Lv lv) b).loose → IsTrue (known ((facts ++ f ∷ []) ++ Cut ∷ []) (Lv lv) b).loose
 
--- An entry that only allows more keeps the history.
+-- the volumes stand as before
+abbrev pub LeavesVolumes : List Fact → Fact → Type 0
+LeavesVolumes facts f = (lv : ℕ) → volumes_in (facts ++ f ∷ []) lv ≡ volumes_in facts lv
+
+-- An entry that only allows more and leaves the volumes keeps the history.
 abbrev pub EntryKeeps : Type 0
-EntryKeeps = (c : Contents) (facts : List Fact) (f : Fact) → OnlyAllowsMore facts f → Kept c facts → Kept c (facts ++ f ∷ [])
+EntryKeeps = (c : Contents) (facts : List Fact) (f : Fact) → OnlyAllowsMore facts f → LeavesVolumes facts f → Kept c facts → Kept c (facts ++ f ∷ [])
+
+-- The beginning of a request only allows more.
+abbrev pub BeginningAllowsMore : Type 0
+BeginningAllowsMore = (facts : List Fact) (r : Request) → OnlyAllowsMore facts (Begun r)
 
 -- a request on a settled volume, or on a disk
 abbrev pub IsOnSettled : List Fact → Vol → Type 0
 IsOnSettled facts (Lv lv) = IsSettledIn facts lv
 IsOnSettled facts (Disk d) = Unit {0}
 
--- The beginning of a request on a settled volume, or on a disk, is one.
-abbrev pub BeginningAllowsMore : Type 0
-BeginningAllowsMore = (facts : List Fact) (r : Request) → IsOnSettled facts r.vol → OnlyAllowsMore facts (Begun r)
+-- There it leaves the volumes.
+abbrev pub BeginningLeavesVolumes : Type 0
+BeginningLeavesVolumes = (facts : List Fact) (r : Request) → IsOnSettled facts r.vol → LeavesVolumes facts (Begun r)
+
+-- each quorum's descriptor has the volume, and all disks hold a quorum
+pub record IsFoundByAll (c : Contents) (lv : ℕ) : Type 0 where
+  pub there : (disks : Disks) (id : ℕ) (group : Descriptor) → Finds c disks id group → IsTrue (is_some (volume_of group lv))
+  pub id : ℕ
+  pub group : Descriptor
+  pub found : Finds c all_disks id group
+
+-- On a volume that a power cut left open, which each quorum finds, it settles the volume and keeps the history.
+abbrev pub BeginningSettles : Type 0
+BeginningSettles = (c : Contents) (facts : List Fact) (r : Request) (lv : ℕ) → r.vol ≡ Lv lv → (volumes_in facts lv).standing ≡ Open → IsFoundByAll c lv → Kept c facts → Kept c (facts ++ Begun r ∷ [])

@@ -4,7 +4,7 @@ ghost use Rattle.lvm_kept.specs.Places.{DataWritesKeepRecords, RecordWritesKeepB
 ghost use Rattle.lvm_kept.specs.Torn.{WritingBegins, StepKeepsWriting, AloneIsAmongOthers, NewestIsOldOrNew, WholeIsNew, DescriptorWriteShows, StatusWriteShows, EndedPartStands, StandingPartStays, NoteWriteShows, EarlierStaysBefore, ZerosAreBefore};
 ghost use Rattle.lvm_kept.specs.Committed.{ImagesAreWithin, QuorumFindsStatus, QuorumFindsDescriptor, QuorumsShareVoter, NextIsWritten, NextIsCommitted};
 ghost use Rattle.lvm_kept.specs.Examples.{FreshThree, SecondAway, StaleCopy, NamedDifference, HalfMade};
-ghost use Rattle.lvm_kept.specs.Changes.{BlankIsKept, DataChangeKeeps, NoteChangeKeeps, EntryKeeps, BeginningAllowsMore};
+ghost use Rattle.lvm_kept.specs.Changes.{BlankIsKept, DataChangeKeeps, NoteChangeKeeps, EntryKeeps, BeginningAllowsMore, BeginningLeavesVolumes, BeginningSettles};
 
 /// A change of data sectors changes no record of a disk and so nothing that a group shows; a change
 /// of record sectors changes no block of a copy; and a block changes only where its own sector does.
@@ -87,11 +87,14 @@ pub fn changes_keep()
     ensures notes { NoteChangeKeeps }
 {}
 
-/// An entry after which no block may have less keeps the history, and the beginning of a request on a disk or
-/// on a settled volume is such an entry.
+/// An entry after which no block may have less and the volumes stand as before keeps the history. The beginning
+/// of a request on a disk or on a settled volume is such an entry; on a volume that a power cut left open, which
+/// each quorum finds, it settles the volume and keeps the history too.
 pub fn entries_keep()
     ensures entry { EntryKeeps }
     ensures beginning { BeginningAllowsMore }
+    ensures settled { BeginningLeavesVolumes }
+    ensures settles { BeginningSettles }
 {}
 
 /// A write of a disk that is in no group keeps the history legal and each crash image with it, at each
