@@ -1,5 +1,6 @@
 -- What the disks show depends on the sectors of the records alone, and blocks on the others.
-use Rattle.std.proofs.Common.{◌≡◌, ℕ, ◌+◌, ◌<◌, ◌≤◌, ◌&&◌, List, None, Option, Some, Result, refl, arith}
+use Rattle.std.proofs.Common.{◌≡◌, ℕ, ◌+◌, ◌<◌, ◌≤◌, ◌&&◌, Bool, true, false, List, [], None, Option, Some, Result, refl, ap, arith}
+use Rattle.std.proofs.lemmas.Bool.Decides.{nat_tests}
 use Rattle.std.specs.Prelude.{nat_le, nat_lt, if◌then◌else◌}
 use Rattle.lvm_num.specs.declared.record.Kind.{Kind}
 use Rattle.lvm_num.specs.declared.record.Kind.TheVariants as kind
@@ -12,8 +13,8 @@ use Rattle.lvm_num.specs.StatusBytes.{status_of}
 use Rattle.lvm_num.specs.Note.{note_in}
 use Rattle.lvm_num.proofs.Records.{joined-same}
 use Rattle.lvm_disk.specs.Device.{Image, SameDisks}
-use Rattle.lvm_kept.specs.Contents.{has_records, newest_at, descriptor_on, status_on, note_on, note_sector, Contents, contents_of}
-use Rattle.lvm_kept.specs.Places.{SameRecords, DataWritesKeepRecords, RecordWritesKeepBlocks, BlocksAreSectors}
+use Rattle.lvm_kept.specs.Contents.{has_records, newest_at, descriptor_on, status_on, note_on, note_sector, data_at, contents_of}
+use Rattle.lvm_kept.specs.Places.{SameRecords, DataWritesKeepRecords, RecordWritesKeepData, BlocksAreSectors}
 
 -- as many disks, as large, have room for records where they had
 pub room-same : (old new : Image) → SameDisks old new → (d : ℕ) → has_records new d ≡ has_records old d
@@ -56,6 +57,14 @@ module _ (old new : Image) (same : SameRecords old new) where
   unfolding status_on
   status-same d = newest status_of kind.Status d
 
+-- the data is the same where its sectors are
+pub data-same : (old new : Image) → ((d s : ℕ) → data_start ≤ s → new.sector d s ≡ old.sector d s) → (d s : ℕ) → data_at new d s ≡ data_at old d s
+data-same old new same d s = by_test (nat_lt s data_start) refl
+  where
+    by_test : (t : Bool) → nat_lt s data_start ≡ t → (if t then [] else new.sector d s) ≡ (if t then [] else old.sector d s)
+    by_test true is = refl
+    by_test false is = same d s (let above : nat_lt s data_start ≡ false = is in grind (arith, nat_tests))
+
 pub data_writes : DataWritesKeepRecords
 data_writes old new same =
     let disks : new.disks ≡ old.disks = same.same.disks in
@@ -63,10 +72,13 @@ data_writes old new same =
     let descriptor : (d : ℕ) → descriptor_on new d ≡ descriptor_on old d = descriptor-same old new same in
     let status : (d : ℕ) → status_on new d ≡ status_on old d = status-same old new same in
     let note : (d : ℕ) → note_on new d ≡ note_on old d = λ d. note-same old new d same.same (same.sectors d note_sector (omega arith)) in
-    λ t. record { disks = disks t; size = λ d. size d t; descriptor = λ d. descriptor d t; status = λ d. status d t; note = λ d. note d t; block = new.sector }
+    λ t. record { disks = disks t; size = λ d. size d t; descriptor = λ d. descriptor d t; status = λ d. status d t; note = λ d. note d t; block = data_at new }
 
-pub record_writes : RecordWritesKeepBlocks
-record_writes old new same mib b p = same p.disk (sector_of mib p.pp b) (omega arith)
+pub record_writes : RecordWritesKeepData
+record_writes old new same = let is : (d s : ℕ) → data_at new d s ≡ data_at old d s = data-same old new same in λ t d s. is d s t
 
 pub blocks_are_sectors : BlocksAreSectors
-blocks_are_sectors old new mib b p is = is
+blocks_are_sectors image mib b p = ap (λ t. if t then [] else image.sector p.disk (sector_of mib p.pp b)) (high (sector_of mib p.pp b) (omega arith))
+  where
+    high : (s : ℕ) → data_start ≤ s → nat_lt s data_start ≡ false
+    high s le = grind (arith, nat_tests)

@@ -152,6 +152,9 @@ found_is_row p (r ∷ rows) row e = by_test (p r) (found_is_row p rows row) e
     by_test true rest is = inl (sym (some_same r row is))
     by_test false rest is = inr (rest is)
 
+pub volume_is_row : (group : Descriptor) (lv : ℕ) (row : LvRow) → volume_of group lv ≡ Some row → IsOneOf group.lvs row
+volume_is_row group lv row e = found_is_row (λ (x : LvRow). x.number == lv) group.lvs row e
+
 -- an open volume that is there is a settled one
 stands_settled : (mib : ℕ) (shape : Option Shape) (o : Option LvRow) → IsTrue (is_some o) → StandsAs mib Open shape o → StandsAs mib Settled shape o
 stands_settled mib shape None some stands = absurd cc
@@ -176,6 +179,6 @@ beginning_settles c facts r lv on is_open found kept = kept_by c facts (Begun r)
       id = found.id;
       group = found.group;
       found = found.found;
-      copies = λ l lp row is there inside. kept.lasting.some all_disks all_disks found.id found.group found.group found.found found.found row lp (found_is_row (λ (x : LvRow). x.number == l) found.group.lvs row there) inside;
+      copies = λ l lp row is there inside. kept.lasting.some all_disks all_disks found.id found.group found.group found.found found.found row lp (volume_is_row found.group l row there) inside;
     })
     kept

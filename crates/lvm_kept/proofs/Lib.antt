@@ -16,3 +16,4 @@ pub mod Blank
 pub mod Changing
 pub mod Entries
 pub mod Worked
+pub mod Restating

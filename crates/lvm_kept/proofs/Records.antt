@@ -17,10 +17,10 @@ use Rattle.lvm_num.proofs.Torn.{sectors-fit}
 use Rattle.lvm_rec.specs.Slots.{newest_on, IsOfRecord as IsOfSlot, IsTornWrite, StandsOn as StandsIn}
 use Rattle.lvm_rec.proofs.SlotLaws.{slots-apart, newest_stays_or_is_new, whole_is_newest, keeps_before}
 use Rattle.lvm_disk.specs.Device.{Image}
-use Rattle.lvm_kept.specs.Contents.{has_records, newest_at, descriptor_on, status_on, note_on, note_sector, contents_of}
+use Rattle.lvm_kept.specs.Contents.{has_records, newest_at, descriptor_on, status_on, note_on, note_sector, data_at}
 use Rattle.lvm_kept.specs.Plans.{ChangesBy}
 use Rattle.lvm_kept.specs.Torn.{RecordWrite, on_disk, IsOfRecord, IsOtherOrRecord, StandsOn, MayWriteAll, written, NewestIsOldOrNew, WholeIsNew, DescriptorWriteShows, StatusWriteShows, EarlierStaysBefore}
-use Rattle.lvm_kept.proofs.Contained.{room-same, newest-same, at-same, note-same}
+use Rattle.lvm_kept.proofs.Contained.{room-same, newest-same, at-same, note-same, data-same}
 
 -- ---- places
 
@@ -166,7 +166,9 @@ module _ (w : RecordWrite) (old new : Image) (frames : Frames w.kind w.framed) (
 pub descriptor_shows : DescriptorWriteShows
 unfolding descriptor_on status_on
 descriptor_shows w group old new is_kind may by =
+    let disks : new.disks ≡ old.disks = by.same.disks in
     let size : (d : ℕ) → new.size d ≡ old.size d = by.same.size in
+    let data_same : (d s : ℕ) → data_at new d s ≡ data_at old d s = data-same old new (blocks w old new may.frames may.slots by) in
     let statuses : (d : ℕ) → status_on new d ≡ status_on old d = other_kind w old new may.frames may.slots by status_of kind.Status (λ e. apart (e ∙ is_kind)) in
     let notes_same : (d : ℕ) → note_on new d ≡ note_on old d = notes w old new may.frames may.slots by in
     record {
@@ -174,11 +176,7 @@ descriptor_shows w group old new is_kind may by =
           (λ same. inl (subst (λ k. newest_at descriptor_of k new d ≡ newest_at descriptor_of k old d) is_kind same))
           (λ is. inr (is.0, subst (λ k. newest_at descriptor_of k new d ≡ Some (written w group)) is_kind is.1))
           (newest_is Descriptor descriptor_of w group old new d may (wider w old new may.frames may.slots by));
-      size = λ t d. size d t;
-      disks = by.same.disks;
-      status = λ t d. statuses d t;
-      note = λ t d. notes_same d t;
-      blocks = blocks w old new may.frames may.slots by;
+      rest = λ t. record { disks = disks t; size = λ d. size d t; descriptor = descriptor_on new; status = λ d. statuses d t; note = λ d. notes_same d t; block = λ d s. data_same d s t };
     }
   where
     apart : kind.Status ≡ kind.Descriptor → ⊥
@@ -187,7 +185,9 @@ descriptor_shows w group old new is_kind may by =
 pub status_shows : StatusWriteShows
 unfolding descriptor_on status_on
 status_shows w status old new is_kind may by =
+    let disks : new.disks ≡ old.disks = by.same.disks in
     let size : (d : ℕ) → new.size d ≡ old.size d = by.same.size in
+    let data_same : (d s : ℕ) → data_at new d s ≡ data_at old d s = data-same old new (blocks w old new may.frames may.slots by) in
     let descriptors : (d : ℕ) → descriptor_on new d ≡ descriptor_on old d = other_kind w old new may.frames may.slots by descriptor_of kind.Descriptor (λ e. apart (e ∙ is_kind)) in
     let notes_same : (d : ℕ) → note_on new d ≡ note_on old d = notes w old new may.frames may.slots by in
     record {
@@ -195,11 +195,7 @@ status_shows w status old new is_kind may by =
           (λ same. inl (subst (λ k. newest_at status_of k new d ≡ newest_at status_of k old d) is_kind same))
           (λ is. inr (is.0, subst (λ k. newest_at status_of k new d ≡ Some (written w status)) is_kind is.1))
           (newest_is Status status_of w status old new d may (wider w old new may.frames may.slots by));
-      size = λ t d. size d t;
-      disks = by.same.disks;
-      descriptor = λ t d. descriptors d t;
-      note = λ t d. notes_same d t;
-      blocks = blocks w old new may.frames may.slots by;
+      rest = λ t. record { disks = disks t; size = λ d. size d t; descriptor = λ d. descriptors d t; status = status_on new; note = λ d. notes_same d t; block = λ d s. data_same d s t };
     }
   where
     apart : kind.Descriptor ≡ kind.Status → ⊥

@@ -14,10 +14,10 @@ use Rattle.lvm_num.specs.StatusBytes.{status_of}
 use Rattle.lvm_num.specs.Record.{Frames, frame, record_sectors, slot_start, kind_magic}
 use Rattle.lvm_disk.specs.Device.{Media, Image, Flight, Device, written as flown, IsInFlight, IsCrashImage, image_of, MayLeave}
 use Rattle.lvm_disk.specs.Steps.{BothTold, Puts, EndsDone, Removes}
-use Rattle.lvm_kept.specs.Contents.{has_records, newest_at, descriptor_on, status_on, note_on, note_sector}
+use Rattle.lvm_kept.specs.Contents.{has_records, newest_at, descriptor_on, status_on, note_on, note_sector, data_at}
 use Rattle.lvm_kept.specs.Plans.{ChangesBy, IsUnderWay}
 use Rattle.lvm_kept.specs.Torn.{RecordWrite, IsOtherOrRecord, EndedPartStands, StandingPartStays, IsOfNote, NoteWriteShows, ZerosAreBefore}
-use Rattle.lvm_kept.proofs.Contained.{room-same, newest-same, at-same, note-same}
+use Rattle.lvm_kept.proofs.Contained.{room-same, newest-same, at-same, note-same, data-same}
 use Rattle.lvm_kept.proofs.Planned.{of_removed, step_from}
 use Rattle.lvm_kept.proofs.Records.{slot-above, part_is}
 
@@ -83,16 +83,14 @@ module _ (targets : Disks) (sector : Sector) (old new : Image) (by : ChangesBy (
 pub note_shows : NoteWriteShows
 unfolding descriptor_on status_on
 note_shows targets sector old new by =
+    let disks : new.disks ≡ old.disks = by.same.disks in
     let size : (d : ℕ) → new.size d ≡ old.size d = by.same.size in
+    let data_same : (d s : ℕ) → data_at new d s ≡ data_at old d s = data-same old new (λ d s le. other_sector targets sector old new by d s (omega (arith, le))) in
     let descriptors : (d : ℕ) → descriptor_on new d ≡ descriptor_on old d = newest targets sector old new by descriptor_of kind.Descriptor in
     let statuses : (d : ℕ) → status_on new d ≡ status_on old d = newest targets sector old new by status_of kind.Status in
     record {
       own = own_note targets sector old new by;
-      size = λ t d. size d t;
-      disks = by.same.disks;
-      descriptor = λ t d. descriptors d t;
-      status = λ t d. statuses d t;
-      blocks = λ d s le. other_sector targets sector old new by d s (omega (arith, le));
+      rest = λ t. record { disks = disks t; size = λ d. size d t; descriptor = λ d. descriptors d t; status = λ d. statuses d t; note = note_on new; block = λ d s. data_same d s t };
     }
 
 -- ---- zeros

@@ -18,8 +18,8 @@ use Rattle.lvm_vol.specs.Standing.{Open, volumes_in}
 use Rattle.lvm_vol.specs.May.{Known, known, IsValue, May}
 use Rattle.lvm_disk.specs.Device.{Image}
 use Rattle.lvm_kept.specs.Contents.{Contents, contents_of}
-use Rattle.lvm_kept.specs.Group.{is_voter, status_among, Finds, fresh_on, block_at, IsBlockOf, IsOneOf, HoldOne}
-use Rattle.lvm_kept.specs.Kept.{MayDiffer, IsSettledIn, Kept}
+use Rattle.lvm_kept.specs.Group.{is_voter, status_among, Finds, fresh_on, block_at, IsBlockOf, IsOneOf, IsSome, HoldOne}
+use Rattle.lvm_kept.specs.Kept.{MayDiffer, BlocksKept, IsSettledIn, Kept}
 
 -- ---- nothing yet
 
@@ -77,6 +77,27 @@ pub record NoteChange (old new : Contents) (facts : List Fact) : Type 0 where
 -- keeps the history.
 abbrev pub NoteChangeKeeps : Type 0
 NoteChangeKeeps = (old new : Contents) (facts : List Fact) → NoteChange old new facts → Kept old facts → Kept new facts
+
+-- ---- statuses
+
+-- The status would do for the group: by it the fresh copies that quorums find hold what the history allows, and each logical partition has one.
+pub record Serves (c : Contents) (facts : List Fact) (id : ℕ) (status : Stamped Status) : Type 0 where
+  pub copies : (disks : Disks) (group : Descriptor) → Finds c disks id group → BlocksKept c facts group (is_voter c disks id) (Some status)
+  pub across : (disks : Disks) (group : Descriptor) → Finds c disks id group → BlocksKept c facts group (is_voter c all_disks id) (Some status)
+  pub some : (disks : Disks) (group : Descriptor) → Finds c disks id group → (row : LvRow) (lp : ℕ) → IsOneOf group.lvs row → lp < row.lps
+      → IsSome (fresh_on (is_voter c all_disks id) (Some status) row lp)
+
+-- A change of statuses alone, in which each disk has its old one or the next, and each quorum finds its old one, or the next where that would do,
+pub record StatusChange (old new : Contents) (facts : List Fact) (next : Stamped Status) : Type 0 where
+  pub rest : new ≡ record old { status = new.status }
+  pub own : (d : ℕ) → (new.status d ≡ old.status d) ⊎ (new.status d ≡ Some next)
+  pub stamp : (d : ℕ) (r : Stamped Status) → old.status d ≡ Some r → r.value.id ≡ next.value.id → r.stamp ≡ next.stamp → r ≡ next
+  pub found : (disks : Disks) (id : ℕ) (group : Descriptor) → Finds old disks id group
+      → (status_among new disks id ≡ status_among old disks id) ⊎ ((status_among new disks id ≡ Some next) × Serves old facts id next)
+
+-- keeps the history.
+abbrev pub StatusChangeKeeps : Type 0
+StatusChangeKeeps = (old new : Contents) (facts : List Fact) (next : Stamped Status) → StatusChange old new facts next → Kept old facts → Kept new facts
 
 -- ---- entries
 

@@ -1,5 +1,5 @@
 -- What the disks of an image show: the records of each, and its data.
-use Rattle.std.specs.Prelude.{ℕ, Bool, ◌&&◌, nat_le, nat_lt, if◌then◌else◌, List, Option, None, Result}
+use Rattle.std.specs.Prelude.{ℕ, Bool, ◌&&◌, nat_le, nat_lt, if◌then◌else◌, List, [], Option, None, Result}
 use Rattle.lvm_num.specs.declared.descriptor.Descriptor.{Descriptor}
 use Rattle.lvm_num.specs.declared.status.Status.{Status}
 use Rattle.lvm_num.specs.declared.record.Kind.{Kind}
@@ -14,7 +14,7 @@ use Rattle.lvm_rec.specs.Slots.{newest_on}
 use Rattle.lvm_disk.specs.Device.{Image}
 
 -- What the disks show: how many there are and how large, the newest descriptor and status of each with their stamps,
--- its consistency record, and what stands at each sector of its data.
+-- its consistency record, and what stands at each sector from the beginning of its data on.
 pub record Contents : Type 0 where
   pub disks : ℕ
   pub size : ℕ → ℕ
@@ -47,6 +47,10 @@ status_on image d = newest_at status_of kind.Status image d
 unfoldable pub note_on : Image → ℕ → Option Noted
 note_on image d = if has_records image d then note_in (image.sector d note_sector) else None
 
+-- what stands at a sector of the data; sectors below are no data
+abbrev pub data_at : Image → ℕ → ℕ → Sector
+data_at image d s = if nat_lt s data_start then [] else image.sector d s
+
 -- what an image shows
 abbrev pub contents_of : Image → Contents
-contents_of image = record { disks = image.disks; size = image.size; descriptor = descriptor_on image; status = status_on image; note = note_on image; block = image.sector }
+contents_of image = record { disks = image.disks; size = image.size; descriptor = descriptor_on image; status = status_on image; note = note_on image; block = data_at image }

@@ -9,7 +9,6 @@ use Rattle.lvm_num.specs.declared.record.Kind.TheVariants as kind
 use Rattle.lvm_num.specs.Buffer.{Buffer, Sector, zero_sector}
 use Rattle.lvm_num.specs.Disks.{Disks}
 use Rattle.lvm_num.specs.DescriptorBytes.{descriptor_of}
-use Rattle.lvm_num.specs.Geometry.{data_start}
 use Rattle.lvm_num.specs.StatusBytes.{status_of}
 use Rattle.lvm_num.specs.Note.{Noted, note_in}
 use Rattle.lvm_num.specs.Record.{Frames, Stamped, frame, record_sectors, slot_start, slot_size, stamp_lt}
@@ -80,20 +79,12 @@ WholeIsNew X =
 -- Each target has its old descriptor or the new one, and all else is what it was.
 pub record DescriptorsChange (targets : Disks) (next : Stamped Descriptor) (old new : Contents) : Type 0 where
   pub own : (d : ℕ) → (new.descriptor d ≡ old.descriptor d) ⊎ (IsTrue (targets d) × (new.descriptor d ≡ Some next))
-  pub size : new.size ≡ old.size
-  pub disks : new.disks ≡ old.disks
-  pub status : new.status ≡ old.status
-  pub note : new.note ≡ old.note
-  pub blocks : (d s : ℕ) → data_start ≤ s → new.block d s ≡ old.block d s
+  pub rest : new ≡ record old { descriptor = new.descriptor }
 
 -- Each target has its old status or the new one, and all else is what it was.
 pub record StatusesChange (targets : Disks) (next : Stamped Status) (old new : Contents) : Type 0 where
   pub own : (d : ℕ) → (new.status d ≡ old.status d) ⊎ (IsTrue (targets d) × (new.status d ≡ Some next))
-  pub size : new.size ≡ old.size
-  pub disks : new.disks ≡ old.disks
-  pub descriptor : new.descriptor ≡ old.descriptor
-  pub note : new.note ≡ old.note
-  pub blocks : (d s : ℕ) → data_start ≤ s → new.block d s ≡ old.block d s
+  pub rest : new ≡ record old { status = new.status }
 
 -- So it is of a write of a descriptor while nothing else is being written,
 abbrev pub DescriptorWriteShows : Type 0
@@ -142,11 +133,7 @@ note_by image d sector = if has_records image d then note_in sector else None
 -- each target has its old note or the new one, and all else is what it was
 pub record NotesChange (image : Image) (targets : Disks) (sector : Sector) (old new : Contents) : Type 0 where
   pub own : (d : ℕ) → (new.note d ≡ old.note d) ⊎ (IsTrue (targets d) × (new.note d ≡ note_by image d sector))
-  pub size : new.size ≡ old.size
-  pub disks : new.disks ≡ old.disks
-  pub descriptor : new.descriptor ≡ old.descriptor
-  pub status : new.status ≡ old.status
-  pub blocks : (d s : ℕ) → data_start ≤ s → new.block d s ≡ old.block d s
+  pub rest : new ≡ record old { note = new.note }
 
 -- A note is one sector: it is the old one or the new one.
 abbrev pub NoteWriteShows : Type 0

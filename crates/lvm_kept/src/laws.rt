@@ -1,16 +1,16 @@
 //! Laws of what disks show, of the changes that keep a history, of requests on raw disks, and of runs.
 ghost use Rattle.lvm_kept.specs.Laws.{WriteDoneLaw, WriteLostLaw, RunsLaw};
-ghost use Rattle.lvm_kept.specs.Places.{DataWritesKeepRecords, RecordWritesKeepBlocks, BlocksAreSectors};
+ghost use Rattle.lvm_kept.specs.Places.{DataWritesKeepRecords, RecordWritesKeepData, BlocksAreSectors};
 ghost use Rattle.lvm_kept.specs.Torn.{WritingBegins, StepKeepsWriting, AloneIsAmongOthers, NewestIsOldOrNew, WholeIsNew, DescriptorWriteShows, StatusWriteShows, EndedPartStands, StandingPartStays, NoteWriteShows, EarlierStaysBefore, ZerosAreBefore};
 ghost use Rattle.lvm_kept.specs.Committed.{ImagesAreWithin, QuorumFindsStatus, QuorumFindsDescriptor, QuorumsShareVoter, NextIsWritten, NextIsCommitted};
 ghost use Rattle.lvm_kept.specs.Examples.{FreshThree, SecondAway, StaleCopy, NamedDifference, HalfMade};
-ghost use Rattle.lvm_kept.specs.Changes.{BlankIsKept, DataChangeKeeps, NoteChangeKeeps, EntryKeeps, BeginningAllowsMore, BeginningLeavesVolumes, BeginningSettles};
+ghost use Rattle.lvm_kept.specs.Changes.{BlankIsKept, DataChangeKeeps, NoteChangeKeeps, StatusChangeKeeps, EntryKeeps, BeginningAllowsMore, BeginningLeavesVolumes, BeginningSettles};
 
 /// A change of data sectors changes no record of a disk and so nothing that a group shows; a change
-/// of record sectors changes no block of a copy; and a block changes only where its own sector does.
+/// of record sectors changes no data; and a block of a volume on a copy is one sector of the data.
 pub fn places()
     ensures records { DataWritesKeepRecords }
-    ensures blocks { RecordWritesKeepBlocks }
+    ensures rest { RecordWritesKeepData }
     ensures sectors { BlocksAreSectors }
 {}
 
@@ -81,10 +81,11 @@ pub fn blank_is_kept()
     ensures { BlankIsKept }
 {}
 
-/// Which changes of what the disks show keep the history: of data, and of notes.
+/// Which changes of what the disks show keep the history: of data, of notes, and of statuses.
 pub fn changes_keep()
     ensures blocks { DataChangeKeeps }
     ensures notes { NoteChangeKeeps }
+    ensures statuses { StatusChangeKeeps }
 {}
 
 /// An entry after which no block may have less and the volumes stand as before keeps the history. The beginning
