@@ -11,7 +11,7 @@ use Rattle.lvm_num.specs.Geometry.{data_start}
 use Rattle.lvm_num.specs.DescriptorBytes.{descriptor_of}
 use Rattle.lvm_num.specs.StatusBytes.{status_of}
 use Rattle.lvm_num.specs.Record.{Stamped, joined, record_in, newer, newest_below}
-use Rattle.lvm_rec.specs.Slots.{read_under, held, newest_on}
+use Rattle.lvm_rec.specs.Slots.{read_under, newest_on}
 use Rattle.lvm_disk.specs.Device.{Image}
 use Rattle.lvm_kept.specs.Contents.{has_records, newest_at, descriptor_on, status_on, contents_of}
 use Rattle.lvm_kept.specs.Group.{if_passes, is_of, descriptor_among, Finds}
@@ -86,19 +86,19 @@ finds_nothing image blank disks id group f = not_some (descriptor_among (content
 pub blank_is_kept : BlankIsKept
 blank_is_kept image blank = record {
   agrees = record {
-      volumes = λ disks id group f lv. absurd (finds_nothing image blank disks id group f);
-      status = λ disks id group f. absurd (finds_nothing image blank disks id group f);
-      copies = λ disks id group f. absurd (finds_nothing image blank disks id group f);
-      raw = λ d b inside none low high. tt;
-      available = λ lv settled. absurd cc;
-    };
+    volumes = λ disks id group f lv. absurd (finds_nothing image blank disks id group f);
+    status = λ disks id group f. absurd (finds_nothing image blank disks id group f);
+    copies = λ disks id group f. absurd (finds_nothing image blank disks id group f);
+    raw = λ d b inside none low high. tt;
+    available = λ lv settled. absurd cc;
+  };
   lasting = record {
-      common = λ a b id g h f. absurd (finds_nothing image blank a id g f);
-      across = λ a b id g h f. absurd (finds_nothing image blank a id g f);
-      some = λ a b id g h f. absurd (finds_nothing image blank a id g f);
-      size = λ a b id g h f. absurd (finds_nothing image blank a id g f);
-      partitions = λ a b id g h f. absurd (finds_nothing image blank a id g f);
-      descriptors = λ d e r s is. absurd (not_some (descriptor_on image d) r (no_descriptor image blank d) is);
-      statuses = λ d e r s is. absurd (not_some (status_on image d) r (no_status image blank d) is);
-    };
+    common = λ a b id g h f. absurd (finds_nothing image blank a id g f);
+    across = λ a b id g h f. absurd (finds_nothing image blank a id g f);
+    some = λ a b id g h f. absurd (finds_nothing image blank a id g f);
+    size = λ a b id g h f. absurd (finds_nothing image blank a id g f);
+    partitions = λ a b id g h f. absurd (finds_nothing image blank a id g f);
+    descriptors = λ d e r s is. absurd (not_some (descriptor_on image d) r (no_descriptor image blank d) is);
+    statuses = λ d e r s is. absurd (not_some (status_on image d) r (no_status image blank d) is);
+  };
 }

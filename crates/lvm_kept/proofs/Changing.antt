@@ -1,5 +1,5 @@
 -- Changes of data and of notes, under the same descriptors and statuses.
-use Rattle.std.proofs.Common.{◌≡◌, ◌⊎◌, inl, inr, ⊎_elim, ℕ, ◌<◌, ◌≤◌, List, [], ◌∷◌, ◌++◌, Option, refl, sym, ap, subst, ◌∙◌}
+use Rattle.std.proofs.Common.{◌≡◌, ◌⊎◌, inl, inr, ⊎_elim, ℕ, List, [], ◌∷◌, ◌++◌, Option, refl, sym, subst, ◌∙◌}
 use Rattle.std.specs.Prelude.{IsTrue}
 use Rattle.std.specs.List.{AllByRecursion}
 use Rattle.lvm_num.specs.declared.place.Pp.{Pp}
@@ -85,23 +85,23 @@ module _ (old : Contents) (note : ℕ → Option Noted) (block : ℕ → ℕ →
     pub still_kept : Kept (with old note block) facts
     still_kept = record {
       agrees = record {
-          volumes = λ disks id group f. kept.agrees.volumes disks id group (found_before disks id group f);
-          status = λ disks id group f. subst (HasStatus group.lvs) (sym (status_same disks id)) (kept.agrees.status disks id group (found_before disks id group f));
-          copies = λ disks id group f. by_same group disks disks id (copies disks id group (found_before disks id group f));
-          raw = raw;
-          available = λ lv settled. still_available (kept.agrees.available lv settled);
-        };
+        volumes = λ disks id group f. kept.agrees.volumes disks id group (found_before disks id group f);
+        status = λ disks id group f. subst (HasStatus group.lvs) (sym (status_same disks id)) (kept.agrees.status disks id group (found_before disks id group f));
+        copies = λ disks id group f. by_same group disks disks id (copies disks id group (found_before disks id group f));
+        raw = raw;
+        available = λ lv settled. still_available (kept.agrees.available lv settled);
+      };
       lasting = record {
-          common = λ a b id g h f k.
-              let both = kept.lasting.common a b id g h (found_before a id g f) (found_before b id h k) in
-              (both.0, subst (λ (v : Disks). IsTrue (v both.0)) (sym (voter_same a id)) both.1, subst (λ (v : Disks). IsTrue (v both.0)) (sym (voter_same b id)) both.2);
-          across = λ a b id g h f k. by_same g all_disks b id (across a b id g h (found_before a id g f) (found_before b id h k));
-          some = λ a b id g h f k row lp is inside. some_same row lp all_disks b id (kept.lasting.some a b id g h (found_before a id g f) (found_before b id h k) row lp is inside);
-          size = λ a b id g h f k. kept.lasting.size a b id g h (found_before a id g f) (found_before b id h k);
-          partitions = λ a b id g h f k. kept.lasting.partitions a b id g h (found_before a id g f) (found_before b id h k);
-          descriptors = kept.lasting.descriptors;
-          statuses = kept.lasting.statuses;
-        };
+        common = λ a b id g h f k.
+            let both = kept.lasting.common a b id g h (found_before a id g f) (found_before b id h k) in
+            (both.0, subst (λ (v : Disks). IsTrue (v both.0)) (sym (voter_same a id)) both.1, subst (λ (v : Disks). IsTrue (v both.0)) (sym (voter_same b id)) both.2);
+        across = λ a b id g h f k. by_same g all_disks b id (across a b id g h (found_before a id g f) (found_before b id h k));
+        some = λ a b id g h f k row lp is inside. some_same row lp all_disks b id (kept.lasting.some a b id g h (found_before a id g f) (found_before b id h k) row lp is inside);
+        size = λ a b id g h f k. kept.lasting.size a b id g h (found_before a id g f) (found_before b id h k);
+        partitions = λ a b id g h f k. kept.lasting.partitions a b id g h (found_before a id g f) (found_before b id h k);
+        descriptors = kept.lasting.descriptors;
+        statuses = kept.lasting.statuses;
+      };
     }
 
 -- ---- data

@@ -1,5 +1,5 @@
 -- What the disks show depends on the sectors of the records alone, and blocks on the others.
-use Rattle.std.proofs.Common.{◌≡◌, ℕ, ◌+◌, ◌<◌, ◌≤◌, ◌&&◌, Bool, true, false, List, [], None, Option, Some, Result, refl, ap, arith}
+use Rattle.std.proofs.Common.{◌≡◌, ℕ, ◌+◌, ◌<◌, ◌≤◌, ◌&&◌, Bool, true, false, List, [], None, Result, refl, ap, arith}
 use Rattle.std.proofs.lemmas.Bool.Decides.{nat_tests}
 use Rattle.std.specs.Prelude.{nat_le, nat_lt, if◌then◌else◌}
 use Rattle.lvm_num.specs.declared.record.Kind.{Kind}
@@ -13,7 +13,7 @@ use Rattle.lvm_num.specs.StatusBytes.{status_of}
 use Rattle.lvm_num.specs.Note.{note_in}
 use Rattle.lvm_num.proofs.Records.{joined-same}
 use Rattle.lvm_disk.specs.Device.{Image, SameDisks}
-use Rattle.lvm_kept.specs.Contents.{has_records, newest_at, descriptor_on, status_on, note_on, note_sector, data_at, contents_of}
+use Rattle.lvm_kept.specs.Contents.{has_records, newest_at, descriptor_on, status_on, note_on, note_sector, data_at}
 use Rattle.lvm_kept.specs.Places.{SameRecords, DataWritesKeepRecords, RecordWritesKeepData, BlocksAreSectors}
 
 -- as many disks, as large, have room for records where they had

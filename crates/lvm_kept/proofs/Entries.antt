@@ -1,7 +1,6 @@
 -- What an entry changes of the agreement.
-use Rattle.std.proofs.Common.{◌≡◌, ◌⊎◌, inl, inr, ⊎_elim, ℕ, ◌<◌, Bool, true, false, ◌&&◌, ◌||◌, List, [], ◌∷◌, ◌++◌, map, Option, Some, None, refl, sym, ap, subst, ◌∙◌}
+use Rattle.std.proofs.Common.{◌≡◌, inl, inr, ⊎_elim, ℕ, Bool, true, false, ◌&&◌, ◌||◌, List, [], ◌∷◌, ◌++◌, map, Option, Some, None, refl, sym, ap, subst, ◌∙◌}
 use Rattle.std.specs.Prelude.{IsTrue, if◌then◌else◌, ◌==◌, IsSomeAnd, is_some, find}
-use Rattle.std.specs.List.{AllByRecursion}
 use Rattle.std.proofs.lemmas.Bool.{eqb-true}
 use Rattle.lvm_num.specs.declared.place.Pp.{Pp}
 use Rattle.lvm_num.specs.declared.descriptor.Mode.{Mode}
@@ -20,10 +19,10 @@ use Rattle.lvm_vol.specs.May.{Known, known, May, IsValue, also, cut, is_off, is_
 use Rattle.lvm_vol.specs.Standing.{Standing, Open, Settled, Shape, Volume, no_volumes, volumes_after, volumes_after_fact, volumes_in, put}
 use Rattle.lvm_vol.proofs.Knowing.{known-push}
 use Rattle.lvm_kept.specs.Contents.{Contents}
-use Rattle.lvm_kept.specs.Group.{Finds, block_at, fresh_on, IsOneOf, HoldOne}
+use Rattle.lvm_kept.specs.Group.{Finds, block_at, fresh_on, IsOneOf}
 use Rattle.lvm_kept.specs.Kept.{StandsAs, MayDiffer, IsBlockKept, BlocksKept, VolumesAgree, IsSettledIn, IsAvailable, Kept}
 use Rattle.lvm_kept.specs.Changes.{OnlyAllowsMore, EntryKeeps, IsOnSettled, BeginningAllowsMore, BeginningLeavesVolumes, IsFoundByAll, BeginningSettles}
-use Rattle.lvm_kept.proofs.Values.{one_left_of, cut_adds_more, one_more}
+use Rattle.lvm_kept.proofs.Values.{cut_adds_more, one_more}
 use Rattle.lvm_kept.proofs.Changing.{map_one}
 use Rattle.lvm_kept.proofs.Finding.{some_same}
 use Rattle.lvm_num.specs.Votes.{all_disks}
@@ -53,21 +52,21 @@ module _ (c : Contents) (facts : List Fact) (f : Fact) (more : OnlyAllowsMore fa
   pub kept_by : VolumesAgree c (facts ++ f ∷ []) → ((lv : ℕ) → IsSettledIn (facts ++ f ∷ []) lv → IsAvailable c (facts ++ f ∷ [])) → Kept c facts → Kept c (facts ++ f ∷ [])
   kept_by volumes available kept = record {
     agrees = record {
-        volumes = volumes;
-        status = kept.agrees.status;
-        copies = λ disks id group g. blocks_more group _ _ (kept.agrees.copies disks id group g);
-        raw = λ d b there none low high. more.raw d b (c.block d b) (kept.agrees.raw d b there none low high);
-        available = available;
-      };
+      volumes = volumes;
+      status = kept.agrees.status;
+      copies = λ disks id group g. blocks_more group _ _ (kept.agrees.copies disks id group g);
+      raw = λ d b there none low high. more.raw d b (c.block d b) (kept.agrees.raw d b there none low high);
+      available = available;
+    };
     lasting = record {
-        common = kept.lasting.common;
-        across = λ x y id g h k l. blocks_more g _ _ (kept.lasting.across x y id g h k l);
-        some = kept.lasting.some;
-        size = kept.lasting.size;
-        partitions = kept.lasting.partitions;
-        descriptors = kept.lasting.descriptors;
-        statuses = kept.lasting.statuses;
-      };
+      common = kept.lasting.common;
+      across = λ x y id g h k l. blocks_more g _ _ (kept.lasting.across x y id g h k l);
+      some = kept.lasting.some;
+      size = kept.lasting.size;
+      partitions = kept.lasting.partitions;
+      descriptors = kept.lasting.descriptors;
+      statuses = kept.lasting.statuses;
+    };
   }
 
 pub entry_keeps : EntryKeeps

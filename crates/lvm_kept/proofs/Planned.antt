@@ -1,16 +1,15 @@
 -- Writes that are under way, step by step.
-use Rattle.std.proofs.Common.{◌≡◌, ◌⊎◌, inl, inr, ⊎_elim, ℕ, List, [], ◌∷◌, ◌++◌, Option, Some, None, refl, sym, ◌∙◌, ap, subst}
+use Rattle.std.proofs.Common.{◌≡◌, ◌⊎◌, inl, inr, ⊎_elim, ℕ, List, [], ◌∷◌, ◌++◌, Option, Some, refl, sym, ◌∙◌, ap, subst}
 use Rattle.std.specs.Prelude.{IsSomeAnd}
-use Rattle.lvm_num.specs.Buffer.{Sector, Buffer}
-use Rattle.lvm_disk.specs.Device.{Media, Image, Flight, Device, SameDisks, written, IsInFlight, IsCrashImage, image_of, MayLeave}
-use Rattle.lvm_disk.specs.Steps.{Removes, Starts, Cuts, GoesDark, FreedGives, with_order, Arranges}
-use Rattle.lvm_disk.specs.Images.{DiffersBy, LeavesNoMore}
+use Rattle.lvm_num.specs.Buffer.{Sector}
+use Rattle.lvm_disk.specs.Device.{Media, Image, Flight, Device, SameDisks, IsInFlight, IsCrashImage, image_of, MayLeave}
+use Rattle.lvm_disk.specs.Steps.{Removes, Cuts, with_order, Arranges}
 use Rattle.lvm_disk.specs.Paths.{DeviceStep, Started, WasCut, Ended, Broke, Waited, Freed, Lit, Arranged}
 use Rattle.lvm_disk.specs.declared.shelf.Arrange.{Arrange}
 use Rattle.lvm_disk.specs.declared.shelf.Arrange.TheVariants as arrange
 use Rattle.lvm_disk.proofs.CrashImages.{in_old_or_new, done_leaves, failed_leaves, cut_leaves, start_leaves}
 use Rattle.lvm_disk.proofs.Stepping.{arrange_leaves}
-use Rattle.lvm_kept.specs.Plans.{Plan, ChangesBy, IsUnderWay, IsPlanned, StepIsPlanned}
+use Rattle.lvm_kept.specs.Plans.{Plan, ChangesBy, IsUnderWay, StepIsPlanned}
 
 pub then_disks : (a b c : Image) → SameDisks a b → SameDisks b c → SameDisks a c
 then_disks a b c p q = record { disks = q.disks ∙ p.disks; size = λ d. q.size d ∙ p.size d }

@@ -1,5 +1,5 @@
 -- Changes of statuses, under the same descriptors.
-use Rattle.std.proofs.Common.{◌≡◌, ◌⊎◌, inl, inr, ⊎_elim, ℕ, ◌<◌, List, [], ◌∷◌, ◌++◌, Option, Some, None, refl, sym, ap, subst, ◌∙◌}
+use Rattle.std.proofs.Common.{◌≡◌, ◌⊎◌, inl, inr, ⊎_elim, ℕ, ◌<◌, List, [], ◌∷◌, ◌++◌, Option, Some, refl, sym, ap, subst, ◌∙◌}
 use Rattle.std.specs.Prelude.{IsTrue}
 use Rattle.lvm_num.specs.declared.place.Pp.{Pp}
 use Rattle.lvm_num.specs.declared.descriptor.Mode.{Mode}
@@ -16,7 +16,7 @@ use Rattle.lvm_vol.specs.May.{Known, known}
 use Rattle.lvm_kept.specs.Contents.{Contents}
 use Rattle.lvm_kept.specs.Group.{descriptor_among, is_voter, has_quorum, status_among, Finds, fresh_on, IsOneOf, IsSome}
 use Rattle.lvm_kept.specs.Kept.{HasStatus, MayDiffer, BlocksKept, IsAvailable, Kept}
-use Rattle.lvm_kept.specs.Changes.{Serves, StatusChange, StatusChangeKeeps}
+use Rattle.lvm_kept.specs.Changes.{Serves, StatusChangeKeeps}
 use Rattle.lvm_kept.proofs.Finding.{some_same}
 use Rattle.lvm_kept.proofs.Entries.{volume_is_row}
 
@@ -119,28 +119,28 @@ module _ (old : Contents) (status : ℕ → Option (Stamped Status)) where
     pub restated : Kept new facts
     restated = record {
       agrees = record {
-          volumes = λ disks id group f. kept.agrees.volumes disks id group (found_before disks id group f);
-          status = λ disks id group f. there disks id group (found_before disks id group f);
-          copies = λ disks id group f. copies disks id group (found_before disks id group f);
-          raw = kept.agrees.raw;
-          available = λ lv settled. let a : IsAvailable old facts = kept.agrees.available lv settled in record {
-            id = a.id;
-            group = a.group;
-            found = found_after all_disks a.id a.group a.found;
-            copies = λ l lp row is_settled is inside. some all_disks all_disks a.id a.group a.group a.found a.found row lp (volume_is_row a.group l row is) inside;
-          };
+        volumes = λ disks id group f. kept.agrees.volumes disks id group (found_before disks id group f);
+        status = λ disks id group f. there disks id group (found_before disks id group f);
+        copies = λ disks id group f. copies disks id group (found_before disks id group f);
+        raw = kept.agrees.raw;
+        available = λ lv settled. let a : IsAvailable old facts = kept.agrees.available lv settled in record {
+          id = a.id;
+          group = a.group;
+          found = found_after all_disks a.id a.group a.found;
+          copies = λ l lp row is_settled is inside. some all_disks all_disks a.id a.group a.group a.found a.found row lp (volume_is_row a.group l row is) inside;
         };
+      };
       lasting = record {
-          common = λ a b id g h f k.
-              let both = kept.lasting.common a b id g h (found_before a id g f) (found_before b id h k) in
-              (both.0, subst (λ (v : Disks). IsTrue (v both.0)) (sym (voter_same a id)) both.1, subst (λ (v : Disks). IsTrue (v both.0)) (sym (voter_same b id)) both.2);
-          across = λ a b id g h f k. across a b id g h (found_before a id g f) (found_before b id h k);
-          some = λ a b id g h f k. some a b id g h (found_before a id g f) (found_before b id h k);
-          size = λ a b id g h f k. kept.lasting.size a b id g h (found_before a id g f) (found_before b id h k);
-          partitions = λ a b id g h f k. kept.lasting.partitions a b id g h (found_before a id g f) (found_before b id h k);
-          descriptors = kept.lasting.descriptors;
-          statuses = one_of;
-        };
+        common = λ a b id g h f k.
+            let both = kept.lasting.common a b id g h (found_before a id g f) (found_before b id h k) in
+            (both.0, subst (λ (v : Disks). IsTrue (v both.0)) (sym (voter_same a id)) both.1, subst (λ (v : Disks). IsTrue (v both.0)) (sym (voter_same b id)) both.2);
+        across = λ a b id g h f k. across a b id g h (found_before a id g f) (found_before b id h k);
+        some = λ a b id g h f k. some a b id g h (found_before a id g f) (found_before b id h k);
+        size = λ a b id g h f k. kept.lasting.size a b id g h (found_before a id g f) (found_before b id h k);
+        partitions = λ a b id g h f k. kept.lasting.partitions a b id g h (found_before a id g f) (found_before b id h k);
+        descriptors = kept.lasting.descriptors;
+        statuses = one_of;
+      };
     }
 
 pub statuses_keep : StatusChangeKeeps

@@ -1,22 +1,21 @@
 -- Parts of a record that stand, the note, and disks of zeros.
-use Rattle.std.proofs.Common.{◌≡◌, ◌⊎◌, inl, inr, ⊎_elim, ℕ, ◌+◌, ◌<◌, ◌≤◌, Bool, List, [], ◌∷◌, ◌++◌, take, length, get_or, replicate, Option, Some, None, refl, sym, ap, subst, ◌∙◌, arith}
+use Rattle.std.proofs.Common.{◌≡◌, ◌⊎◌, inl, inr, ⊎_elim, ℕ, ◌+◌, ◌<◌, List, [], ◌∷◌, ◌++◌, take, get_or, Option, Some, None, sym, ap, subst, ◌∙◌, arith}
 use Rattle.std.specs.Prelude.{IsTrue, if◌then◌else◌, unwrap_or, IsSomeAnd}
 use Rattle.std.proofs.lemmas.Bool.{cases_lt}
 use Rattle.std.proofs.lemmas.List.{length-replicate, get_or-replicate, get_or_past}
 use Rattle.lvm_num.specs.declared.record.Kind.{Kind}
 use Rattle.lvm_num.specs.declared.record.Kind.TheVariants as kind
-use Rattle.lvm_num.specs.Buffer.{Buffer, Sector, zero_sector, IsSector}
+use Rattle.lvm_num.specs.Buffer.{Sector, zero_sector, IsSector}
 use Rattle.lvm_num.specs.Disks.{Disks}
-use Rattle.lvm_num.specs.Geometry.{data_start}
 use Rattle.lvm_num.specs.Note.{note_in}
 use Rattle.lvm_num.specs.DescriptorBytes.{descriptor_of}
 use Rattle.lvm_num.specs.StatusBytes.{status_of}
-use Rattle.lvm_num.specs.Record.{Frames, frame, record_sectors, slot_start, kind_magic}
-use Rattle.lvm_disk.specs.Device.{Media, Image, Flight, Device, written as flown, IsInFlight, IsCrashImage, image_of, MayLeave}
-use Rattle.lvm_disk.specs.Steps.{BothTold, Puts, EndsDone, Removes}
+use Rattle.lvm_num.specs.Record.{slot_start, kind_magic}
+use Rattle.lvm_disk.specs.Device.{Media, Image, Flight, written as flown, IsInFlight, IsCrashImage, image_of}
+use Rattle.lvm_disk.specs.Steps.{BothTold, Puts}
 use Rattle.lvm_kept.specs.Contents.{has_records, newest_at, descriptor_on, status_on, note_on, note_sector, data_at}
-use Rattle.lvm_kept.specs.Plans.{ChangesBy, IsUnderWay}
-use Rattle.lvm_kept.specs.Torn.{RecordWrite, IsOtherOrRecord, EndedPartStands, StandingPartStays, IsOfNote, NoteWriteShows, ZerosAreBefore}
+use Rattle.lvm_kept.specs.Plans.{ChangesBy}
+use Rattle.lvm_kept.specs.Torn.{IsOtherOrRecord, EndedPartStands, StandingPartStays, IsOfNote, NoteWriteShows, ZerosAreBefore}
 use Rattle.lvm_kept.proofs.Contained.{room-same, newest-same, at-same, note-same, data-same}
 use Rattle.lvm_kept.proofs.Planned.{of_removed, step_from}
 use Rattle.lvm_kept.proofs.Records.{slot-above, part_is}

@@ -1,7 +1,5 @@
 -- Small groups, worked by hand: what the definitions say of them.
-use Rattle.std.specs.Prelude.{◌≡◌, ◌⊎◌, ℕ, ◌<◌, Bool, true, false, not, ◌==◌, if◌then◌else◌, List, [], ◌∷◌, replicate, Option, Some, None, IsTrue, IsFalse}
-use Rattle.lvm_num.specs.declared.place.Pp.{Pp}
-use Rattle.lvm_num.specs.declared.record.NoteEntry.{NoteEntry}
+use Rattle.std.specs.Prelude.{◌≡◌, ℕ, Bool, true, false, not, ◌==◌, if◌then◌else◌, List, [], ◌∷◌, replicate, Option, Some, None}
 use Rattle.lvm_num.specs.declared.descriptor.Mode.{Mode}
 use Rattle.lvm_num.specs.declared.descriptor.Mode.TheVariants as mode
 use Rattle.lvm_num.specs.declared.descriptor.Policy.TheVariants as policy
@@ -15,11 +13,11 @@ use Rattle.lvm_num.specs.Disks.{Disks}
 use Rattle.lvm_num.specs.Votes.{all_disks}
 use Rattle.lvm_num.specs.Record.{Stamped}
 use Rattle.lvm_num.specs.Note.{Noted}
-use Rattle.lvm_vol.specs.Standing.{Standing, Absent, Open, Settled}
+use Rattle.lvm_vol.specs.Standing.{Absent, Open, Settled}
 use Rattle.lvm_vol.specs.May.{Known}
 use Rattle.lvm_kept.specs.Contents.{Contents}
-use Rattle.lvm_kept.specs.Group.{descriptor_among, is_voter, has_quorum, status_among, fresh_on, fresh, block_at, is_named, HoldOne}
-use Rattle.lvm_kept.specs.Kept.{HasShape, StandsAs, MayDiffer, IsBlockKept}
+use Rattle.lvm_kept.specs.Group.{descriptor_among, is_voter, has_quorum, fresh, is_named}
+use Rattle.lvm_kept.specs.Kept.{StandsAs, MayDiffer, IsBlockKept}
 
 -- ---- the disks
 

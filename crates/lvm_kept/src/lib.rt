@@ -3,4 +3,8 @@
 
 mod laws;
 
-pub use laws::{blank_is_kept, changes_keep, entries_keep, parts_stand, places, quorums_find, raw_writes_keep, record_writes, records_are_committed, runs_follow, stamps_rise, worked_groups, writes_show, writing};
+pub use laws::{
+    blank_is_kept, changes_keep, entries_keep, parts_stand, places, quorums_find, raw_writes_keep,
+    record_writes, records_are_committed, runs_follow, stamps_rise, worked_groups, writes_show,
+    writing,
+};
