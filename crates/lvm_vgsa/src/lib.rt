@@ -1,9 +1,12 @@
 //! The bytes of a status.
 #![tactic(auto)]
 
+mod fault;
 mod putting;
+mod unread;
 mod writing;
 
+pub use fault::VgsaFault;
 pub use writing::{encode, encode_into};
 
 #[cfg(test)]
