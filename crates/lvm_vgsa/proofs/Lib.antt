@@ -1,2 +1,5 @@
+pub mod Fields
+pub mod Many
+pub mod Orders
 pub mod Pieces
 pub mod Sizes

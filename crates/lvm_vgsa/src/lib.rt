@@ -3,6 +3,7 @@
 
 mod fault;
 mod putting;
+mod reading;
 mod unread;
 mod writing;
 
