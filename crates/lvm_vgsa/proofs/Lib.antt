@@ -2,4 +2,5 @@ pub mod Fields
 pub mod Many
 pub mod Orders
 pub mod Pieces
+pub mod Rows
 pub mod Sizes
