@@ -2,5 +2,6 @@ pub mod Fields
 pub mod Many
 pub mod Orders
 pub mod Pieces
+pub mod RoundTrip
 pub mod Rows
 pub mod Sizes
