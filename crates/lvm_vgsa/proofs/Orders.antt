@@ -34,8 +34,8 @@ order_front X P R xs ys good =
     record {
       each = λ k d lt. subst P (get_or_append_left xs ys d k lt) (good.each k d (omega arith));
       ordered = λ i j d less lt.
-      subst (λ (a : X). R a (get_or xs j d)) (get_or_append_left xs ys d i (omega arith))
-      (subst (λ (b : X). R (get_or (xs ++ ys) i d) b) (get_or_append_left xs ys d j lt) (good.ordered i j d less (omega arith)));
+          subst (λ (a : X). R a (get_or xs j d)) (get_or_append_left xs ys d i (omega arith))
+          (subst (λ (b : X). R (get_or (xs ++ ys) i d) b) (get_or_append_left xs ys d j lt) (good.ordered i j d less (omega arith)));
     }
 
 pub order_last : (X : Type 0) (P : X → Type 0) (R : X → X → Type 0) (xs : List X) (x : X) → InOrder X P R (xs ++ x ∷ []) → P x
@@ -48,6 +48,6 @@ pub order_behind : (X : Type 0) (P : X → Type 0) (R : X → X → Type 0) (bef
 order_behind X P R before means xs x good =
     let size = length-append xs (x ∷ []) in
     passed_all (λ y. before y x) xs (λ k d lt.
-      means (get_or xs k d) x
-      (subst (λ (a : X). R a x) (get_or_append_left xs (x ∷ []) d k lt)
-      (subst (λ (b : X). R (get_or (xs ++ x ∷ []) k d) b) (get_or_at xs x [] d (length xs) refl) (good.ordered k (length xs) d lt (omega arith)))))
+    means (get_or xs k d) x
+    (subst (λ (a : X). R a x) (get_or_append_left xs (x ∷ []) d k lt)
+    (subst (λ (b : X). R (get_or (xs ++ x ∷ []) k d) b) (get_or_at xs x [] d (length xs) refl) (good.ordered k (length xs) d lt (omega arith)))))

@@ -12,7 +12,8 @@ use Rattle.lvm_num.specs.Status.{AreStatusRows, AreDirty, IsValidStatus}
 use Rattle.lvm_num.specs.DescriptorBytes.{flag}
 use Rattle.lvm_num.specs.Reading.{◌>>=◌, Rest, bytes_at, number_at, end_at}
 use Rattle.lvm_num.specs.StatusBytes.{version_of, status_magic, status_row_bytes, dirty_bytes, status_bytes, IsStatus, status_version_at, rows_and_size_at, status_rows_at, numbers_at, dirty_at, status_of}
-use Rattle.lvm_vgsa.specs.Laws.{WrittenIsRead, ReadIsWritten}
+use Rattle.lvm_vgsa.specs.declared.fault.VgsaFault.{VgsaFault}
+use Rattle.lvm_vgsa.specs.Reading.{Gives}
 use Rattle.lvm_vgsa.proofs.Fields.{AreBytes, bind_ok, ok_is, Takes, Takes-then, bytes_take, bytes_again, wide16, wide64, number_takes, number_again, end_takes}
 use Rattle.lvm_vgsa.proofs.Rows.{rows_take, rows_again, numbers_take, numbers_again}
 use Rattle.lvm_vgsa.proofs.Sizes.{dirty_some, few_dirty, few_rows}
@@ -196,14 +197,14 @@ agree : (v count number : ℕ) (big : Bool) (dirty : List ℕ) → IsVersion v �
 agree v count number big dirty is =
     elim is [
       | inl one ↦ subst (Agreeing count number big dirty) (sym one) (λ c s b m.
-            let none : number ≡ 0 = eqb-true number 0 s in
-            at_one count number big dirty (le_from count 32 (and_parts (nat_le 1 count) (nat_le count 32) c).1) none (b ∙ ap (λ k. 1 == 2 || k == 1) none) (m.none refl))
+          let none : number ≡ 0 = eqb-true number 0 s in
+          at_one count number big dirty (le_from count 32 (and_parts (nat_le 1 count) (nat_le count 32) c).1) none (b ∙ ap (λ k. 1 == 2 || k == 1) none) (m.none refl))
       | inr more ↦
           elim more [
             | inl two ↦ subst (Agreeing count number big dirty) (sym two) (λ c s b m.
-                  at_two count number big dirty (le_from count 128 (and_parts (nat_le 1 count) (nat_le count 128) c).1) (eqb-true number 0 s) b (m.none refl))
+                at_two count number big dirty (le_from count 128 (and_parts (nat_le 1 count) (nat_le count 128) c).1) (eqb-true number 0 s) b (m.none refl))
             | inr three ↦ subst (Agreeing count number big dirty) (sym three) (λ c s b m.
-                  three_is count number big dirty (le_from count 128 (and_parts (nat_le 1 count) (nat_le count 128) c).1) (m.some refl) s b)
+                three_is count number big dirty (le_from count 128 (and_parts (nat_le 1 count) (nat_le count 128) c).1) (m.some refl) s b)
           ]
     ]
 
@@ -337,3 +338,9 @@ is_read_again s valid =
   where
     some : (n : ℕ) → (n ≡ 0 → ⊥) → id_test n ≡ true
     some n not-zero = grind (arith, nat_tests)
+
+-- ---- what a call answers
+
+pub is_found : (bytes : List ℕ) (r : Result Status VgsaFault) → AreBytes bytes → Gives (λ x. x) r (status_of bytes) → IfOk r (IsStatus bytes)
+is_found bytes (Ok s) fits given = is_read bytes s fits given
+is_found bytes (Err e) fits given = tt

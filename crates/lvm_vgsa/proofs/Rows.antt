@@ -59,11 +59,10 @@ many_again X one spell Good again front (x ∷ more) earlier p bytes good =
     let good-all : Good ((earlier ++ x ∷ []) ++ more) = subst Good (sym regroup) good in
     let a = again earlier x p (flat_map spell more ++ bytes) (front (earlier ++ x ∷ []) more good-all) in
     let b = many_again X one spell Good again front more (earlier ++ x ∷ []) a.0 bytes good-all in
-    let here : many one (suc (length more)) earlier (p, spell x ++ (flat_map spell more ++ bytes)) ≡ Ok ((earlier ++ x ∷ []) ++ more, (b.0, bytes)) = rw a.1 b.1 in
-    (
+    let here : many one (suc (length more)) earlier (p, spell x ++ (flat_map spell more ++ bytes)) ≡ Ok ((earlier ++ x ∷ []) ++ more, (b.0, bytes)) = rw a.1 b.1 in (
       b.0,
       ap (λ (l : List ℕ). many one (suc (length more)) earlier (p, l)) (append_assoc (spell x) (flat_map spell more) bytes) ∙ here
-      ∙ ap (λ (l : List X). let r : Result (List X × Rest) ℕ = Ok (l, (b.0, bytes)) in r) regroup,
+          ∙ ap (λ (l : List X). let r : Result (List X × Rest) ℕ = Ok (l, (b.0, bytes)) in r) regroup,
     )
 
 -- ---- rows
@@ -147,11 +146,10 @@ rows_again_one earlier row p bytes good =
     let end-read = zero_again (p + 2 + 1 + 1 + 127) bytes in
     let made : row_made row.disk (flag row.missing) row.stale ≡ row = λ t. record { disk = row.disk; missing = missing.2 t; stale = row.stale } in
     let regroup : status_row_bytes row ++ bytes ≡ to_be_bytes w16 row.disk ++ (flag row.missing ∷ 0 ∷ (row.stale ++ 0 ∷ bytes)) =
-    ap (λ (l : List ℕ). to_be_bytes w16 row.disk ++ (flag row.missing ∷ 0 ∷ l)) (append_assoc row.stale (0 ∷ []) bytes) in
-    (
+    ap (λ (l : List ℕ). to_be_bytes w16 row.disk ++ (flag row.missing ∷ 0 ∷ l)) (append_assoc row.stale (0 ∷ []) bytes) in (
       p + 2 + 1 + 1 + 127 + 1,
       ap (λ (l : List ℕ). status_row_at earlier (p, l)) regroup
-      ∙ rw (disk-read, flag-read, gap-read, marks-read, end-read) (ap (λ (r : StatusRow). let x : Result (StatusRow × Rest) ℕ = Ok (r, (p + 2 + 1 + 1 + 127 + 1, bytes)) in x) made),
+          ∙ rw (disk-read, flag-read, gap-read, marks-read, end-read) (ap (λ (r : StatusRow). let x : Result (StatusRow × Rest) ℕ = Ok (r, (p + 2 + 1 + 1 + 127 + 1, bytes)) in x) made),
     )
 
 pub rows_take : (n : ℕ) (rest : Rest) (x : List StatusRow × Rest) → AreBytes rest.1 → status_rows_at n [] rest ≡ Ok x → Takes rest (flat_map status_row_bytes x.0) x.1 × (length x.0 ≡ n) × AreStatusRows x.0

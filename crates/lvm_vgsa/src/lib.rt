@@ -9,6 +9,8 @@ mod unread;
 mod writing;
 
 pub use fault::VgsaFault;
+pub use laws::written_is_read;
+pub use reading::decode;
 pub use writing::{encode, encode_into};
 
 #[cfg(test)]

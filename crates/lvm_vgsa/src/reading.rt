@@ -3,10 +3,11 @@ ghost use Rattle.std.specs.Prelude.{◌≡◌, ℕ, true, ◌+◌, ◌*◌, ◌<
 ghost use Rattle.std.specs.List.{list_all};
 ghost use Rattle.std.specs.Int.{w8, w16, w64};
 ghost use Rattle.lvm_num.specs.declared.status.StatusRow.{StatusRow as status_row};
+ghost use Rattle.lvm_num.specs.declared.status.Status.{Status as status};
 ghost use Rattle.lvm_num.specs.Descriptor.{most_members};
 ghost use Rattle.lvm_num.specs.DescriptorBytes.{is_flag};
 ghost use Rattle.lvm_num.specs.Reading.{bytes_at, number_at};
-ghost use Rattle.lvm_num.specs.StatusBytes.{status_version_at, rows_and_size_at, status_row_at, status_rows_at, numbers_at, dirty_at, status_of};
+ghost use Rattle.lvm_num.specs.StatusBytes.{IsStatus, status_version_at, rows_and_size_at, status_row_at, status_rows_at, numbers_at, dirty_at, status_of};
 ghost use Rattle.lvm_vgsa.specs.Reading.{Gives, rest_of};
 
 use crate::VgsaFault;
@@ -18,10 +19,19 @@ const DISKS: u16 = 128;
 
 const MOST_VOLUMES: u16 = 511;
 
-/// The status that the bytes spell, or the first fault in them.
+/// The status that the bytes spell, all of them. `BadStatus` has the place of the first fault where
+/// they spell none, and `Memory` comes where there is none for the rows and the dirty volumes.
+pub fn decode(alloc: Global, bytes: &[u8]) -> Result<Status, VgsaFault>
+    ensures spelled { IfOk result (IsStatus bytes.now) }
+    ensures only { (s : status) → IsStatus bytes.now s → Gives (λ x. x) result (Ok s) }
+    ensures place { Gives (λ x. x) result (status_of bytes.now) }
+{
+    status_at(alloc, bytes)
+}
+
 #[tactic(auto, unfolding(lvm_num::specs::StatusBytes::status_of))]
-pub fn status_at(alloc: Global, bytes: &[u8]) -> Result<Status, VgsaFault>
-    ensures { Gives (λ s. s) result (status_of bytes.now) }
+fn status_at(alloc: Global, bytes: &[u8]) -> Result<Status, VgsaFault>
+    ensures { Gives (λ x. x) result (status_of bytes.now) }
 {
     let (version, unread) = version_at(Unread { place: 0, bytes })?;
     let (id, unread) = id_at(unread)?;
@@ -167,7 +177,10 @@ fn marks_at(unread: Unread) -> Result<([u8; 127], Unread), VgsaFault>
 }
 
 #[tactic(auto, unfolding(lvm_num::specs::StatusBytes::status_row_at))]
-fn row_at<'a>(earlier: &[StatusRow], unread: Unread<'a>) -> Result<(StatusRow, Unread<'a>), VgsaFault>
+fn row_at<'a>(
+    earlier: &[StatusRow],
+    unread: Unread<'a>,
+) -> Result<(StatusRow, Unread<'a>), VgsaFault>
     requires { unread.place < 2 ^ 15 }
     ensures read { Gives (λ x. (x.0, rest_of x.1)) result (status_row_at earlier.now (rest_of unread.entry)) }
     ensures end { IfOk result (λ x. x.1.place ≡ unread.entry.place + 132) }
@@ -178,7 +191,14 @@ fn row_at<'a>(earlier: &[StatusRow], unread: Unread<'a>) -> Result<(StatusRow, U
     let (stale, unread) = marks_at(unread)?;
     let unread = zero_at(unread)?;
     let missing = missing == 1;
-    Ok((StatusRow { disk, missing, stale }, unread))
+    Ok((
+        StatusRow {
+            disk,
+            missing,
+            stale,
+        },
+        unread,
+    ))
 }
 
 fn rows_at(alloc: Global, count: u16, unread: Unread) -> Result<(Vec<StatusRow>, Unread), VgsaFault>
@@ -230,7 +250,11 @@ fn dirty_count_at(unread: Unread) -> Result<(u16, Unread), VgsaFault>
     Ok((count, after))
 }
 
-fn numbers_at(alloc: Global, count: u16, unread: Unread) -> Result<(VolumeNumbers, Unread), VgsaFault>
+fn numbers_at(
+    alloc: Global,
+    count: u16,
+    unread: Unread,
+) -> Result<(VolumeNumbers, Unread), VgsaFault>
     requires few { count ≤ 511 }
     requires begin { unread.place ≤ 16914 }
     ensures read { Gives (λ x. (x.0, rest_of x.1)) result (numbers_at count [] (rest_of unread.entry)) }
@@ -247,7 +271,11 @@ fn numbers_at(alloc: Global, count: u16, unread: Unread) -> Result<(VolumeNumber
 
 // The dirty volumes, which only version 3 has.
 #[tactic(auto, unfolding(lvm_num::specs::StatusBytes::dirty_at))]
-fn dirty_at(alloc: Global, version: u8, unread: Unread) -> Result<(VolumeNumbers, Unread), VgsaFault>
+fn dirty_at(
+    alloc: Global,
+    version: u8,
+    unread: Unread,
+) -> Result<(VolumeNumbers, Unread), VgsaFault>
     requires { unread.place ≤ 16912 }
     ensures read { Gives (λ x. (x.0, rest_of x.1)) result (dirty_at version (rest_of unread.entry)) }
 {
