@@ -1,5 +1,5 @@
 -- What reading gives, as a call returns it.
-use Rattle.std.specs.Prelude.{◌≡◌, ℕ, List, Result, Ok, Err}
+use Rattle.std.specs.Prelude.{◌≡◌, ℕ, Result, Ok, Err}
 use Rattle.lvm_num.specs.Reading.{Rest}
 use Rattle.lvm_vgsa.specs.declared.fault.VgsaFault.{VgsaFault}
 use Rattle.lvm_vgsa.specs.declared.fault.VgsaFault.TheVariants as faults

@@ -1,5 +1,5 @@
 //! Reading a status, field by field.
-ghost use Rattle.std.specs.Prelude.{◌≡◌, ℕ, true, ◌+◌, ◌*◌, ◌<◌, ◌≤◌, ◌^◌, ◌==◌, ◌&&◌, ◌||◌, not, nat_le, nat_lt, if◌then◌else◌, [], length, IfOk};
+ghost use Rattle.std.specs.Prelude.{AllPairs, IsTrue, ◌≡◌, ℕ, true, ◌+◌, ◌*◌, ◌<◌, ◌≤◌, ◌^◌, ◌==◌, ◌&&◌, ◌||◌, not, nat_le, nat_lt, if◌then◌else◌, [], length, IfOk};
 ghost use Rattle.std.specs.List.{list_all};
 ghost use Rattle.std.specs.Int.{w8, w16, w64};
 ghost use Rattle.lvm_num.specs.declared.status.StatusRow.{StatusRow as status_row};
@@ -136,8 +136,10 @@ fn rows_and_size_at(version: u8, unread: Unread) -> Result<((u16, bool), Unread)
 
 // The disk of a row that follows the earlier ones.
 fn disk_at<'a>(earlier: &[StatusRow], unread: Unread<'a>) -> Result<(u16, Unread<'a>), VgsaFault>
-    requires { unread.place < 2 ^ 16 }
+    requires begin { unread.place < 2 ^ 16 }
+    requires rising { AllPairs (λ (a b : status_row). a.disk < b.disk) earlier.now }
     ensures read { Gives (λ x. (x.0, rest_of x.1)) result (number_at w16 (λ n. nat_lt n 128 && list_all (λ (row : status_row). nat_lt row.disk n) earlier.now) (rest_of unread.entry)) }
+    ensures behind { IfOk result (λ x. IsTrue (list_all (λ (row : status_row). nat_lt row.disk x.0) earlier.now)) }
     ensures end { IfOk result (λ x. x.1.place ≡ unread.entry.place + 2) }
 {
     let (disk, after) = u16_at(unread)?;
@@ -147,10 +149,15 @@ fn disk_at<'a>(earlier: &[StatusRow], unread: Unread<'a>) -> Result<(u16, Unread
     Ok((disk, after))
 }
 
+// Whether a disk comes after those of rows that rise.
 fn is_behind(disk: u16, earlier: &[StatusRow]) -> bool
+    requires { AllPairs (λ (a b : status_row). a.disk < b.disk) earlier.now }
     ensures { result ≡ list_all (λ (row : status_row). nat_lt row.disk disk) earlier.now }
 {
-    earlier.iter().all(|row| row.disk < disk)
+    match earlier.last() {
+        None => true,
+        Some(row) => row.disk < disk,
+    }
 }
 
 fn flag_at(unread: Unread) -> Result<(u8, Unread), VgsaFault>
@@ -181,8 +188,10 @@ fn row_at<'a>(
     earlier: &[StatusRow],
     unread: Unread<'a>,
 ) -> Result<(StatusRow, Unread<'a>), VgsaFault>
-    requires { unread.place < 2 ^ 15 }
+    requires begin { unread.place < 2 ^ 15 }
+    requires rising { AllPairs (λ (a b : status_row). a.disk < b.disk) earlier.now }
     ensures read { Gives (λ x. (x.0, rest_of x.1)) result (status_row_at earlier.now (rest_of unread.entry)) }
+    ensures behind { IfOk result (λ x. IsTrue (list_all (λ (row : status_row). nat_lt row.disk x.0.disk) earlier.now)) }
     ensures end { IfOk result (λ x. x.1.place ≡ unread.entry.place + 132) }
 {
     let (disk, unread) = disk_at(earlier, unread)?;
@@ -219,8 +228,10 @@ fn rows_at(alloc: Global, count: u16, unread: Unread) -> Result<(Vec<StatusRow>,
 
 // The number of a dirty volume that follows the earlier ones.
 fn number_at<'a>(earlier: &[u16], unread: Unread<'a>) -> Result<(u16, Unread<'a>), VgsaFault>
-    requires { unread.place < 2 ^ 16 }
+    requires begin { unread.place < 2 ^ 16 }
+    requires rising { AllPairs (λ a b. a < b) earlier.now }
     ensures read { Gives (λ x. (x.0, rest_of x.1)) result (number_at w16 (λ n. nat_le 1 n && nat_le n 511 && list_all (λ m. nat_lt m n) earlier.now) (rest_of unread.entry)) }
+    ensures behind { IfOk result (λ x. IsTrue (list_all (λ m. nat_lt m x.0) earlier.now)) }
     ensures end { IfOk result (λ x. x.1.place ≡ unread.entry.place + 2) }
 {
     let (number, after) = u16_at(unread)?;
@@ -230,10 +241,15 @@ fn number_at<'a>(earlier: &[u16], unread: Unread<'a>) -> Result<(u16, Unread<'a>
     Ok((number, after))
 }
 
+// Whether a number comes after others that rise.
 fn is_above(number: u16, earlier: &[u16]) -> bool
+    requires { AllPairs (λ a b. a < b) earlier.now }
     ensures { result ≡ list_all (λ m. nat_lt m number) earlier.now }
 {
-    earlier.iter().all(|m| *m < number)
+    match earlier.last() {
+        None => true,
+        Some(last) => *last < number,
+    }
 }
 
 // How many volumes are dirty.
