@@ -1,7 +1,7 @@
-use Rattle.std.proofs.Common.{◌≡◌, ◌≤◌, ◌+◌, ◌*◌, ◌++◌, ℕ, List, length, drop, sym, ap, subst, ◌∙◌, arith}
+use Rattle.std.proofs.Common.{◌≡◌, ◌≤◌, ◌+◌, ◌*◌, ◌++◌, ℕ, List, length, drop, ap, subst, arith}
 use Rattle.std.specs.Prelude.{flat_map}
 use Rattle.lvm_num.specs.declared.status.StatusRow.{StatusRow}
-use Rattle.lvm_num.specs.StatusBytes.{status_row_bytes, dirty_bytes, status_bytes}
+use Rattle.lvm_num.specs.StatusBytes.{status_row_bytes, dirty_bytes}
 use Rattle.lvm_vgsa.specs.Putting.{Puts}
 use Rattle.lvm_vgsa.proofs.Pieces.{puts_three}
 use Rattle.lvm_vgsa.proofs.Sizes.{few_dirty, length-status, length-rows}

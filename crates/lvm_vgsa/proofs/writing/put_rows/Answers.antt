@@ -1,4 +1,4 @@
-use Rattle.std.proofs.Common.{◌≡◌, ◌+◌, ◌*◌, ◌≤◌, false, [], length, take, get_or, arith}
+use Rattle.std.proofs.Common.{◌≡◌, ◌*◌, false, [], length, take, arith}
 use Rattle.std.specs.Prelude.{flat_map}
 use Rattle.lvm_num.specs.declared.status.StatusRow.{StatusRow}
 use Rattle.lvm_num.specs.StatusBytes.{status_row_bytes}

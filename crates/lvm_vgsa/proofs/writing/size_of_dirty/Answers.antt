@@ -1,4 +1,4 @@
-use Rattle.std.proofs.Common.{◌≡◌, length, sym}
+use Rattle.std.proofs.Common.{length, sym}
 use Rattle.lvm_vgsa.proofs.Sizes.{length-dirty, not_empty}
 use Rattle.lvm_vgsa.proofs.writing.size_of_dirty.Goals as goal
 

@@ -1,4 +1,4 @@
-use Rattle.std.proofs.Common.{◌≡◌, ℕ, List, length, ap, arith}
+use Rattle.std.proofs.Common.{ℕ, List, length, ap, arith}
 use Rattle.lvm_num.specs.StatusBytes.{dirty_bytes}
 use Rattle.lvm_vgsa.proofs.Sizes.{few_dirty, few_rows, dirty_small, length-status}
 use Rattle.lvm_vgsa.proofs.writing.size_of_status.Goals as goal
