@@ -1,0 +1,6 @@
+//! The bytes of a descriptor.
+#![tactic(auto)]
+
+mod writing;
+
+pub use writing::encode;
