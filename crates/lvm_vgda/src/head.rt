@@ -1,6 +1,6 @@
 //! What stands before the rows, field by field.
-ghost use Rattle.std.specs.Prelude.{◌≡◌, ℕ, ◌≤◌, ◌==◌, not, length, take, bytes_eq, IsTrue, OnOk};
-ghost use Rattle.std.specs.List.{list_any, position_or_len};
+ghost use Rattle.std.specs.Prelude.{◌≡◌, ℕ, ◌≤◌, ◌==◌, not, length, position, bytes_eq, IsTrue, OnOk};
+ghost use Rattle.std.specs.List.{list_any};
 ghost use Rattle.std.specs.Option.{SomeIff};
 ghost use Rattle.std.specs.Int.{w16, w64};
 ghost use Rattle.lvm_num.specs.declared.descriptor.LvRow.{LvRow};
@@ -112,8 +112,7 @@ fn name_in(field: &[u8]) -> Option<Name>
     requires { length field.now ≡ 16 }
     ensures { SomeIff result (IsTrue (is_name_field field.now)) (unpadded field.now) }
 {
-    let end = text_len(field);
-    let name = Name::read(&field[..end])?;
+    let name = Name::read(text_in(field))?;
     if name.as_field().as_slice() == field {
         Some(name)
     } else {
@@ -121,9 +120,15 @@ fn name_in(field: &[u8]) -> Option<Name>
     }
 }
 
-// How many bytes stand before the first zero.
-fn text_len(field: &[u8]) -> usize
-    ensures { result ≡ position_or_len (λ b. b == 0) field.now }
+// What stands before the first zero.
+fn text_in(field: &[u8]) -> &[u8]
+    ensures { result.now ≡ unpadded field.now }
 {
-    field.iter().position(|b| *b == 0).unwrap_or(field.len())
+    &field[..first_zero(field).unwrap_or(field.len())]
+}
+
+fn first_zero(field: &[u8]) -> Option<usize>
+    ensures { result ≡ position (λ b. b == 0) field.now }
+{
+    field.iter().position(|b| *b == 0)
 }

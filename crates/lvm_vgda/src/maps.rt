@@ -1,5 +1,5 @@
 //! The partitions of volumes.
-ghost use Rattle.std.specs.Prelude.{◌≡◌, ℕ, List, true, ◌==◌, ◌&&◌, ◌++◌, ◌∷◌, [], ◌≤◌, ◌<◌, ◌*◌, not, nat_lt, All, IfOk, length};
+ghost use Rattle.std.specs.Prelude.{◌≡◌, ℕ, List, true, ◌==◌, ◌&&◌, ◌++◌, ◌∷◌, [], ◌≤◌, ◌<◌, ◌*◌, not, nat_lt, All, IfOk, IsTrue};
 ghost use Rattle.std.specs.List.{list_any};
 ghost use Rattle.std.specs.Int.{w16};
 ghost use Rattle.lvm_num.specs.declared.place.Pp.{Pp};
@@ -9,7 +9,7 @@ ghost use Rattle.lvm_num.specs.Descriptor.{IsMember};
 ghost use Rattle.lvm_num.specs.DescriptorBytes.{unfinished, is_at, partition_at, partitions_at, maps_at};
 ghost use Rattle.lvm_num.specs.Reading.{number_at};
 ghost use Rattle.lvm_vgda.specs.Reading.{Gives, rest_of};
-ghost use Rattle.lvm_vgda.specs.Used.{Uses};
+ghost use Rattle.lvm_vgda.specs.Used.{Uses, is_free, free_at};
 
 use crate::fault::Fault;
 use crate::rows::has_member;
@@ -64,13 +64,32 @@ fn partition_at<'a>(members: &[PvRow], used: &UsedPps, copies: usize, own: &[Pp]
     ensures disk { IfOk result (λ x. x.0.disk < 128) }
     ensures partition { IfOk result (λ x. x.0.pp < 1016) }
 {
-    let (disk, behind) = copy_disk_at(members, unfinished(copies, own), unread)?;
-    let (pp, after) = u16_at(behind)?;
+    let (disk, unread) = copy_disk_at(members, unfinished(copies, own), unread)?;
+    free_at(members, used, disk, unread)
+}
+
+// A partition that the member on the disk has, and that isn't used yet.
+fn free_at<'a>(members: &[PvRow], used: &UsedPps, disk: u16, unread: Unread<'a>) -> Result<(Pp, Unread<'a>), Fault>
+    requires { All IsMember members.now }
+    ensures read { (pps : List Pp) → Uses used.now pps → Gives (λ x. (x.0, rest_of x.1)) result (free_at members.now pps disk (rest_of unread.entry)) }
+    ensures disk { IfOk result (λ x. x.0.disk < 128) }
+    ensures partition { IfOk result (λ x. x.0.pp < 1016) }
+{
+    let (pp, after) = u16_at(unread)?;
     let pp = Pp { disk, pp };
-    if !has_partition(members, pp) || used.has(pp) {
-        return Err(Fault::At(behind.place));
+    if !is_free(members, used, pp) {
+        return Err(Fault::At(unread.place));
     }
     Ok((pp, after))
+}
+
+fn is_free(members: &[PvRow], used: &UsedPps, pp: Pp) -> bool
+    requires { All IsMember members.now }
+    ensures free { (pps : List Pp) → Uses used.now pps → result ≡ is_free members.now pps pp.disk pp.pp }
+    ensures disk { IsTrue result → pp.disk < 128 }
+    ensures partition { IsTrue result → pp.pp < 1016 }
+{
+    has_partition(members, pp) && !used.has(pp)
 }
 
 // The copies of the last logical partition that isn't whole yet.

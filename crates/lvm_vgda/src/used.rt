@@ -1,5 +1,6 @@
 //! Which partitions volumes have.
 ghost use Rattle.std.specs.Prelude.{◌≡◌, ℕ, ◌+◌, ◌*◌, ◌<◌, ◌||◌, false};
+ghost use Rattle.lvm_num.specs.Bits.{has_bit};
 ghost use Rattle.lvm_num.specs.DescriptorBytes.{is_at};
 ghost use Rattle.lvm_vgda.specs.Used.{has};
 
@@ -20,7 +21,7 @@ impl UsedPps {
     pub fn none() -> UsedPps
         ensures { (disk pp : ℕ) → has result disk pp ≡ false }
     {
-        UsedPps { marks: [0; MARKS] }
+        UsedPps { marks: no_marks() }
     }
 
     pub fn has(&self, pp: Pp) -> bool
@@ -39,6 +40,12 @@ impl UsedPps {
     {
         set_bit(&mut self.marks, spot(pp));
     }
+}
+
+fn no_marks() -> [u8; 16256]
+    ensures { (k : ℕ) → has_bit result k ≡ false }
+{
+    [0; MARKS]
 }
 
 fn spot(pp: Pp) -> usize
