@@ -87,14 +87,6 @@ pub record IsWide (w : Width) (limit : ℕ) : Type 0 where
   pub back : (bytes : List ℕ) → length bytes ≡ byte_len w → IsBytes bytes → to_be_bytes w (from_be_bytes w bytes) ≡ bytes
   pub again : (n : ℕ) → n < limit → from_be_bytes w (to_be_bytes w n) ≡ n
 
-byte_back : (bytes : List ℕ) → length bytes ≡ 1 → IsBytes bytes → to_be_bytes w8 (from_be_bytes w8 bytes) ≡ bytes
-byte_back [] len fits = absurd (omega (arith, len))
-byte_back (b ∷ []) len fits = ap (λ n. n ∷ []) (omega (arith, fits 0))
-byte_back (b ∷ c ∷ bs) len fits = absurd (omega (arith, len))
-
-pub wide8 : IsWide w8 256
-wide8 = record { len = λ n. refl; back = byte_back; again = λ n lt. omega arith }
-
 pub wide16 : IsWide w16 (2 ^ 16)
 wide16 = record { len = λ n. refl; back = λ bytes len fits. be_bytes_2 bytes _ len fits refl; again = λ n lt. from_be_bytes-to_be_bytes_2 n lt }
 
@@ -122,6 +114,29 @@ number_again w limit wide test place n rest lt passes =
     bytes_again (byte_len w) (λ bytes. test (from_be_bytes w bytes)) place (to_be_bytes w n) rest (wide.len n) (ap test back ∙ passes) in
     ap (λ (read : Result (List ℕ × Rest) ℕ). read >>= λ got. Ok (from_be_bytes w got.0, got.1)) field
     ∙ ap (λ m. Ok (m, (place + byte_len w, rest))) back
+
+-- a byte stands for itself
+one_byte : (bytes : List ℕ) → length bytes ≡ 1 → bytes ≡ from_be_bytes w8 bytes ∷ []
+one_byte [] len = absurd (omega (arith, len))
+one_byte (b ∷ []) len = ap (λ n. n ∷ []) (omega arith)
+one_byte (b ∷ c ∷ bs) len = absurd (omega (arith, len))
+
+pub byte_takes : (test : ℕ → Bool) (r : Rest) (x : ℕ × Rest) → IsBytes r.1 → number_at w8 test r ≡ Ok x → Takes r (x.0 ∷ []) x.1 × (test x.0 ≡ true)
+byte_takes test r x fits e =
+    let b = bind_ok (bytes_at 1 (λ bytes. test (from_be_bytes w8 bytes)) r) (λ field. Ok (from_be_bytes w8 field.0, field.1)) x e in
+    let t = bytes_takes 1 (λ bytes. test (from_be_bytes w8 bytes)) r b.0 fits b.1 in
+    let back : b.0.0 ≡ from_be_bytes w8 b.0.0 ∷ [] = one_byte b.0.0 t.1 in
+    let made : ℕ × Rest = (from_be_bytes w8 b.0.0, b.0.1) in
+    subst (λ (y : ℕ × Rest). Takes r (y.0 ∷ []) y.1 × (test y.0 ≡ true)) (ok_is made x b.2)
+    (subst (λ (field : List ℕ). Takes r field b.0.1) back t.0, t.2)
+
+pub byte_again : (test : ℕ → Bool) (place n : ℕ) (rest : List ℕ) → test n ≡ true → number_at w8 test (place, n ∷ rest) ≡ Ok (n, (place + 1, rest))
+byte_again test place n rest passes =
+    let back : from_be_bytes w8 (n ∷ []) ≡ n = omega arith in
+    let field : bytes_at 1 (λ bytes. test (from_be_bytes w8 bytes)) (place, n ∷ rest) ≡ Ok (n ∷ [], (place + 1, rest)) =
+    bytes_again 1 (λ bytes. test (from_be_bytes w8 bytes)) place (n ∷ []) rest refl (ap test back ∙ passes) in
+    ap (λ (read : Result (List ℕ × Rest) ℕ). read >>= λ got. Ok (from_be_bytes w8 got.0, got.1)) field
+    ∙ ap (λ m. Ok (m, (place + 1, rest))) back
 
 -- ---- zeros
 

@@ -13,7 +13,7 @@ use Rattle.lvm_num.specs.Descriptor.{IsMember, AreMembers}
 use Rattle.lvm_num.specs.DescriptorBytes.{flag, is_flag, member_bytes, member_at, members_at}
 use Rattle.lvm_num.specs.Reading.{◌>>=◌, Rest, number_at, zeros_at}
 use Rattle.lvm_num.proofs.Pairs.{All-left, All-right, AllPairs-left, AllPairs-append, AllPairs-across}
-use Rattle.lvm_vgda.proofs.FieldLaws.{IsBytes, bind_ok, ok_is, both, from_both, Takes, Takes-then, wide8, wide16, number_takes, number_again, zeros_take, zeros_again}
+use Rattle.lvm_vgda.proofs.FieldLaws.{IsBytes, bind_ok, ok_is, both, from_both, Takes, Takes-then, byte_takes, byte_again, wide16, number_takes, number_again, zeros_take, zeros_again}
 
 -- ---- lists that grow at their end
 
@@ -101,11 +101,11 @@ member_takes earlier r x fits e =
     let d = bind_ok (zeros_at 3 c.0.1) _ x c.2 in
     let t0 = number_takes w16 _ wide16 (λ n. nat_lt n 128 && not (list_any (λ (row : PvRow). row.disk == n) earlier)) r a.0 fits a.1 in
     let t1 = number_takes w16 _ wide16 (λ n. nat_le 1 n && nat_le n 1016) a.0.1 b.0 t0.0.fits b.1 in
-    let t2 = number_takes w8 _ wide8 is_flag b.0.1 c.0 t1.0.fits c.1 in
+    let t2 = byte_takes is_flag b.0.1 c.0 t1.0.fits c.1 in
     let t3 = zeros_take 3 c.0.1 d.0 t2.0.fits d.1 in
     let spare = c.0.0 == 1 in
     let is : c.0.0 ≡ flag (c.0.0 == 1) = flag_is c.0.0 t2.1 in
-    let t2-flag : Takes b.0.1 (flag (c.0.0 == 1) ∷ []) c.0.1 = subst (λ n. Takes b.0.1 (to_be_bytes w8 n) c.0.1) is t2.0 in
+    let t2-flag : Takes b.0.1 (flag (c.0.0 == 1) ∷ []) c.0.1 = subst (λ n. Takes b.0.1 (n ∷ []) c.0.1) is t2.0 in
     let e23 = Takes-then b.0.1 (flag (c.0.0 == 1) ∷ []) c.0.1 (replicate 3 0) d.0 t2-flag t3 in
     let e13 = Takes-then a.0.1 (to_be_bytes w16 b.0.0) b.0.1 (flag (c.0.0 == 1) ∷ replicate 3 0) d.0 t1.0 e23 in
     let e03 = Takes-then r (to_be_bytes w16 a.0.0) a.0.1 (to_be_bytes w16 b.0.0 ++ flag (c.0.0 == 1) ∷ replicate 3 0) d.0 t0.0 e13 in
@@ -122,12 +122,11 @@ pub member_again : (earlier : List PvRow) (place : ℕ) (row : PvRow) (rest : Li
     → member_at earlier (place, member_bytes row ++ rest) ≡ Ok (row, (place + 8, rest))
 unfolding member_at
 member_again earlier place row rest is new =
-    let regrouped : member_bytes row ++ rest ≡ to_be_bytes w16 row.disk ++ (to_be_bytes w16 row.pps ++ (to_be_bytes w8 (flag row.spare) ++ (replicate 3 0 ++ rest))) = refl in
-    let disk = number_again w16 _ wide16 (λ n. nat_lt n 128 && not (list_any (λ (other : PvRow). other.disk == n) earlier)) place row.disk (to_be_bytes w16 row.pps ++ (to_be_bytes w8 (flag row.spare) ++ (replicate 3 0 ++ rest)))
+    let disk = number_again w16 _ wide16 (λ n. nat_lt n 128 && not (list_any (λ (other : PvRow). other.disk == n) earlier)) place row.disk (to_be_bytes w16 row.pps ++ (flag row.spare ∷ (replicate 3 0 ++ rest)))
     (omega (arith, is.disk)) (from_both (nat_lt row.disk 128) (not (list_any (λ (other : PvRow). other.disk == row.disk) earlier)) (lt_test row.disk 128 is.disk) (not_false _ new)) in
-    let pps = number_again w16 _ wide16 (λ n. nat_le 1 n && nat_le n 1016) (place + 2) row.pps (to_be_bytes w8 (flag row.spare) ++ (replicate 3 0 ++ rest))
+    let pps = number_again w16 _ wide16 (λ n. nat_le 1 n && nat_le n 1016) (place + 2) row.pps (flag row.spare ∷ (replicate 3 0 ++ rest))
     (omega (arith, is.partitions)) (from_both (nat_le 1 row.pps) (nat_le row.pps 1016) (le_test 1 row.pps is.a_partition) (le_test row.pps 1016 is.partitions)) in
-    let spare = number_again w8 _ wide8 is_flag (place + 2 + 2) (flag row.spare) (replicate 3 0 ++ rest) (flag_below row.spare) (is_flag_flag row.spare) in
+    let spare = byte_again is_flag (place + 2 + 2) (flag row.spare) (replicate 3 0 ++ rest) (is_flag_flag row.spare) in
     let gap = zeros_again 3 (place + 2 + 2 + 1) rest in
     let same : place + 2 + 2 + 1 + 3 ≡ place + 8 = omega arith in
     ap (λ (read : Result (ℕ × Rest) ℕ). read >>= λ disk. number_at w16 (λ n. nat_le 1 n && nat_le n 1016) disk.1 >>= λ pps. number_at w8 is_flag pps.1 >>= λ spare. zeros_at 3 spare.1 >>= λ after. Ok (record { disk = disk.0; pps = pps.0; spare = spare.0 == 1 }, after)) disk

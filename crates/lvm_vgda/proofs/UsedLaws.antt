@@ -42,3 +42,6 @@ its_member members disk pp all some =
   where
     lt_of : (m n : ℕ) → nat_lt m n ≡ true → m < n
     lt_of m n e = grind (arith, nat_tests)
+
+pub free_is : (has x y : Bool) → has ≡ true → x ≡ y → not x ≡ has && not y
+free_is has x y p q = rw (p, q) refl
