@@ -3,9 +3,13 @@ use Rattle.std.proofs.Common.{◌≡◌, ℕ, ◌+◌, ◌*◌, ◌<◌, ◌≤�
 use Rattle.std.specs.Prelude.{◌==◌, not}
 use Rattle.std.specs.List.{list_any}
 use Rattle.std.specs.Int.{w16}
+use Rattle.std.proofs.lemmas.List.{take_more_set, drop_more, get_or_default}
+use Rattle.std.proofs.lemmas.Grind.{drop_more_same}
+use Rattle.std.proofs.lemmas.List.Concat.{flat_map-append}
 use Rattle.lvm_num.specs.declared.place.Pp.{Pp}
 use Rattle.lvm_num.specs.declared.descriptor.PvRow.{PvRow}
 use Rattle.lvm_num.specs.declared.descriptor.LvRow.{LvRow}
+use Rattle.lvm_num.specs.Descriptor.{partitions_in}
 use Rattle.lvm_num.specs.DescriptorBytes.{unfinished, partition_at, partitions_at, maps_at}
 use Rattle.lvm_num.specs.Reading.{◌>>=◌, Rest, number_at}
 use Rattle.lvm_vgda.specs.declared.fault.Fault.{Fault}
@@ -75,3 +79,30 @@ pub maps_done : (members : List PvRow) (used : List Pp) (left : List LvRow) (res
     → left ≡ [] → with_front front (maps_at members used left rest) ≡ total → total ≡ Ok (front, rest)
 maps_done members used left rest front total none so_far =
     sym so_far ∙ ap (λ (l : List LvRow). with_front front (maps_at members used l rest)) none ∙ ap (with_front front) (no_map members used rest) ∙ ap (λ (l : List LvRow). Ok (l, rest)) (append-nil front)
+
+-- ---- a row that gets its map
+
+module _ (old : List LvRow) (k : ℕ) (row seen : LvRow) (own map : List Pp) (lt : k < length old) (is : row ≡ get_or old k row) (also : seen ≡ get_or old k seen) (same : map ≡ own) where
+  pub same_set : set old k (mapped seen map) ≡ set old k (mapped row own)
+  same_set =
+      let one : seen ≡ row = also ∙ get_or_default old k seen row lt ∙ sym is in
+      ap (λ (r : LvRow). set old k (mapped r map)) one ∙ ap (λ (m : List Pp). set old k (mapped row m)) same
+
+  pub taken : take (k + 1) (set old k (mapped seen map)) ≡ take k old ++ mapped row own ∷ []
+  taken = ap (take (k + 1)) same_set ∙ take_more_set old k (mapped row own) lt
+
+  pub taken_partitions : partitions_in (take (k + 1) (set old k (mapped seen map))) ≡ partitions_in (take k old) ++ own
+  taken_partitions =
+      ap partitions_in taken
+      ∙ flat_map-append (λ (r : LvRow). r.map) (take k old) (mapped row own ∷ [])
+      ∙ ap (λ (l : List Pp). partitions_in (take k old) ++ l) (append-nil own)
+
+  pub left_over : (all : List LvRow) → drop k old ≡ drop k all → drop (k + 1) (set old k (mapped seen map)) ≡ drop (k + 1) all
+  left_over all left = drop_set old k (mapped seen map) ∙ drop_more_same old all k left
+    where
+      drop_set : (xs : List LvRow) (i : ℕ) (y : LvRow) → drop (i + 1) (set xs i y) ≡ drop (i + 1) xs
+      drop_set xs i y = ?
+
+  pub next_row : (all : List LvRow) → drop k old ≡ drop k all → drop k all ≡ row ∷ drop (k + 1) all
+  next_row all left =
+      sym left ∙ drop_more old k row lt ∙ ap (λ (r : LvRow). r ∷ drop (k + 1) old) (sym is) ∙ ap (λ (l : List LvRow). row ∷ l) (drop_more_same old all k left)

@@ -29,8 +29,9 @@ pub fn maps_at<'a>(alloc: Global, members: &[PvRow], rows: Vec<LvRow>, unread: U
     let mut rest = unread;
     let mut used = UsedPps::none();
     for k in 0..rows.len() {
-        let count = u64::from(rows[k].lps) * u64::from(rows[k].copies);
-        let copies = usize::from(rows[k].copies);
+        let row = &rows[k];
+        let copies = usize::from(row.copies);
+        let count = u64::from(row.lps) * u64::from(row.copies);
         let (map, after) = partitions_at(alloc, members, &mut used, copies, count, rest)?;
         rows[k].map = Rows::new(map);
         rest = after;

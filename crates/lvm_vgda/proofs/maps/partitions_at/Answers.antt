@@ -1,4 +1,4 @@
-use Rattle.std.proofs.Common.{◌≡◌, ◌++◌, ◌∷◌, [], List, append-nil, Result, Ok, Err, refl, sym, ap, subst, ◌∙◌}
+use Rattle.std.proofs.Common.{◌≡◌, ◌-◌, ◌++◌, ◌∷◌, [], List, append-nil, Result, Ok, Err, refl, sym, ap, subst, ◌∙◌, arith}
 use Rattle.std.proofs.lemmas.Result.{err_from_is_err_and}
 use Rattle.lvm_num.specs.declared.place.Pp.{Pp}
 use Rattle.lvm_num.specs.DescriptorBytes.{partition_at, partitions_at}
@@ -10,9 +10,11 @@ use Rattle.lvm_vgda.proofs.maps.partitions_at.Goals as goal
 
 pub loop-init : goal.loop-init
 loop-init c = λ pps uses.
-    let none : pps ++ c.new-own.result.items ≡ pps = ap (λ (own : List Pp). pps ++ own) c.new-own.ensures.items ∙ append-nil pps in (
+    let none : pps ++ c.new-own.result.items ≡ pps = ap (λ (own : List Pp). pps ++ own) c.new-own.ensures.items ∙ append-nil pps in
+    let left : c.args.count - 0 ≡ c.args.count = omega arith in (
       subst (Uses c.args.used.now) (sym none) uses,
-      ap (λ (own : List Pp). partitions_at c.args.members.now pps c.args.copies c.args.count own (rest_of c.args.unread)) c.new-own.ensures.items,
+      ap (λ n. partitions_at c.args.members.now pps c.args.copies n c.new-own.result.items (rest_of c.args.unread)) left
+      ∙ ap (λ (own : List Pp). partitions_at c.args.members.now pps c.args.copies c.args.count own (rest_of c.args.unread)) c.new-own.ensures.items,
     )
 
 pub returns-clause-used : goal.returns-clause-used
