@@ -1,9 +1,9 @@
 -- Reading the partitions of one volume, and of the next.
 use Rattle.std.proofs.Common.{◌≡◌, ℕ, ◌+◌, ◌*◌, ◌<◌, ◌≤◌, Bool, ◌&&◌, List, [], ◌∷◌, ◌++◌, append-nil, append_assoc, length, get_or, set, take, drop, Result, Ok, Err, refl, sym, ap, subst, ◌∙◌, add-one, drop-cons, arith}
-use Rattle.std.specs.Prelude.{◌==◌, not}
+use Rattle.std.specs.Prelude.{◌==◌, not, All}
 use Rattle.std.specs.List.{list_any}
 use Rattle.std.specs.Int.{w16}
-use Rattle.std.proofs.lemmas.List.{take_more_set, drop_more, get_or_default}
+use Rattle.std.proofs.lemmas.List.{take_more_set, drop_more, drop-set-lt, get_or_default, get_or-drop}
 use Rattle.std.proofs.lemmas.Grind.{drop_more_same}
 use Rattle.std.proofs.lemmas.List.Concat.{flat_map-append}
 use Rattle.lvm_num.specs.declared.place.Pp.{Pp}
@@ -98,11 +98,17 @@ module _ (old : List LvRow) (k : ℕ) (row seen : LvRow) (own map : List Pp) (lt
       ∙ ap (λ (l : List Pp). partitions_in (take k old) ++ l) (append-nil own)
 
   pub left_over : (all : List LvRow) → drop k old ≡ drop k all → drop (k + 1) (set old k (mapped seen map)) ≡ drop (k + 1) all
-  left_over all left = drop_set old k (mapped seen map) ∙ drop_more_same old all k left
-    where
-      drop_set : (xs : List LvRow) (i : ℕ) (y : LvRow) → drop (i + 1) (set xs i y) ≡ drop (i + 1) xs
-      drop_set xs i y = ?
+  left_over all left = drop-set-lt (k + 1) old k (mapped seen map) (omega arith) ∙ drop_more_same old all k left
 
   pub next_row : (all : List LvRow) → drop k old ≡ drop k all → drop k all ≡ row ∷ drop (k + 1) all
   next_row all left =
       sym left ∙ drop_more old k row lt ∙ ap (λ (r : LvRow). r ∷ drop (k + 1) old) (sym is) ∙ ap (λ (l : List LvRow). row ∷ l) (drop_more_same old all k left)
+
+-- a row that is left has its copies still
+pub own_copies : (all old : List LvRow) (k : ℕ) (row : LvRow) → k < length all → All (λ (r : LvRow). 1 ≤ r.copies) all → row ≡ get_or old k row → drop k old ≡ drop k all → 1 ≤ row.copies
+own_copies all old k row lt some is left =
+    let same : get_or old k row ≡ get_or all k row = sym (first old) ∙ ap (λ (l : List LvRow). get_or l 0 row) left ∙ first all in
+    subst (λ (r : LvRow). 1 ≤ r.copies) (sym (is ∙ same)) (some k row lt)
+  where
+    first : (xs : List LvRow) → get_or (drop k xs) 0 row ≡ get_or xs k row
+    first xs = get_or-drop k xs 0 row ∙ ap (λ n. get_or xs n row) (let e : k + 0 ≡ k = omega arith in e)

@@ -18,9 +18,10 @@ pub fn decode(alloc: Global, bytes: &[u8]) -> Result<Descriptor, VgdaFault>
 {
     match descriptor_of(alloc, bytes) {
         Ok(d) => Ok(d),
-        Err(Fault::At(place)) => Err(VgdaFault::BadDescriptor {
-            place: place as u32,
-        }),
+        Err(Fault::At(place)) => match u32::try_from(place) {
+            Ok(place) => Err(VgdaFault::BadDescriptor { place }),
+            Err(_) => Err(VgdaFault::Memory),
+        },
         Err(Fault::Memory) => Err(VgdaFault::Memory),
     }
 }
