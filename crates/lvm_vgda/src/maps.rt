@@ -12,15 +12,20 @@ ghost use Rattle.lvm_vgda.specs.Reading.{Gives, rest_of};
 ghost use Rattle.lvm_vgda.specs.Used.{Uses, is_free, free_at};
 
 use crate::fault::Fault;
+use crate::fields::u16_at;
 use crate::rows::has_member;
-use crate::fields::{u16_at};
 use crate::unread::Unread;
 use crate::used::UsedPps;
 use lvm_num::{LvRow, Pp, PvRow, Rows};
 use std::alloc::Global;
 
 /// The rows with the partitions of each.
-pub fn maps_at<'a>(alloc: Global, members: &[PvRow], rows: Vec<LvRow>, unread: Unread<'a>) -> Result<(Vec<LvRow>, Unread<'a>), Fault>
+pub fn maps_at<'a>(
+    alloc: Global,
+    members: &[PvRow],
+    rows: Vec<LvRow>,
+    unread: Unread<'a>,
+) -> Result<(Vec<LvRow>, Unread<'a>), Fault>
     requires members { All IsMember members.now }
     requires copies { All (λ (row : LvRow). 1 ≤ row.copies) rows.items }
     ensures { Gives (λ x. (x.0.items, rest_of x.1)) result (maps_at members.now [] rows.items (rest_of unread.entry)) }
@@ -40,7 +45,14 @@ pub fn maps_at<'a>(alloc: Global, members: &[PvRow], rows: Vec<LvRow>, unread: U
 }
 
 // So many partitions of a volume, which are used then.
-fn partitions_at<'a>(alloc: Global, members: &[PvRow], used: &mut UsedPps, copies: usize, count: u64, unread: Unread<'a>) -> Result<(Vec<Pp>, Unread<'a>), Fault>
+fn partitions_at<'a>(
+    alloc: Global,
+    members: &[PvRow],
+    used: &mut UsedPps,
+    copies: usize,
+    count: u64,
+    unread: Unread<'a>,
+) -> Result<(Vec<Pp>, Unread<'a>), Fault>
     requires members { All IsMember members.now }
     requires copies { 1 ≤ copies }
     ensures read { (pps : List Pp) → Uses used.old pps → Gives (λ x. (x.0.items, rest_of x.1)) result (partitions_at members.now pps copies count [] (rest_of unread.entry)) }
@@ -58,7 +70,13 @@ fn partitions_at<'a>(alloc: Global, members: &[PvRow], used: &mut UsedPps, copie
 }
 
 // A partition of a member that isn't used yet, on another disk than the copies before it.
-fn partition_at<'a>(members: &[PvRow], used: &UsedPps, copies: usize, own: &[Pp], unread: Unread<'a>) -> Result<(Pp, Unread<'a>), Fault>
+fn partition_at<'a>(
+    members: &[PvRow],
+    used: &UsedPps,
+    copies: usize,
+    own: &[Pp],
+    unread: Unread<'a>,
+) -> Result<(Pp, Unread<'a>), Fault>
     requires members { All IsMember members.now }
     requires copies { 1 ≤ copies }
     ensures read { (pps : List Pp) → Uses used.now (pps ++ own.now) → Gives (λ x. (x.0, rest_of x.1)) result (partition_at members.now pps copies own.now (rest_of unread.entry)) }
@@ -70,7 +88,12 @@ fn partition_at<'a>(members: &[PvRow], used: &UsedPps, copies: usize, own: &[Pp]
 }
 
 // A partition that the member on the disk has, and that isn't used yet.
-fn free_at<'a>(members: &[PvRow], used: &UsedPps, disk: u16, unread: Unread<'a>) -> Result<(Pp, Unread<'a>), Fault>
+fn free_at<'a>(
+    members: &[PvRow],
+    used: &UsedPps,
+    disk: u16,
+    unread: Unread<'a>,
+) -> Result<(Pp, Unread<'a>), Fault>
     requires { All IsMember members.now }
     ensures read { (pps : List Pp) → Uses used.now pps → Gives (λ x. (x.0, rest_of x.1)) result (free_at members.now pps disk (rest_of unread.entry)) }
     ensures disk { IfOk result (λ x. x.0.disk < 128) }
@@ -102,7 +125,11 @@ fn unfinished(copies: usize, own: &[Pp]) -> &[Pp]
 }
 
 // A member's disk that none of these copies is on.
-fn copy_disk_at<'a>(members: &[PvRow], begun: &[Pp], unread: Unread<'a>) -> Result<(u16, Unread<'a>), Fault>
+fn copy_disk_at<'a>(
+    members: &[PvRow],
+    begun: &[Pp],
+    unread: Unread<'a>,
+) -> Result<(u16, Unread<'a>), Fault>
     ensures { Gives (λ x. (x.0, rest_of x.1)) result (number_at w16 (λ n. list_any (λ (row : PvRow). row.disk == n) members.now && not (list_any (λ (p : Pp). p.disk == n) begun.now)) (rest_of unread.entry)) }
 {
     let (disk, after) = u16_at(unread)?;
@@ -121,5 +148,7 @@ fn is_on(copies: &[Pp], disk: u16) -> bool
 fn has_partition(members: &[PvRow], pp: Pp) -> bool
     ensures { result ≡ list_any (λ (row : PvRow). row.disk == pp.disk && nat_lt pp.pp row.pps) members.now }
 {
-    members.iter().any(|row| row.disk == pp.disk && pp.pp < row.pps)
+    members
+        .iter()
+        .any(|row| row.disk == pp.disk && pp.pp < row.pps)
 }

@@ -4,10 +4,10 @@ ghost use Rattle.lvm_num.specs.DescriptorBytes.{descriptor_of};
 ghost use Rattle.lvm_vgda.specs.Reading.{Gives, Answers};
 
 use crate::fault::{Fault, VgdaFault};
+use crate::fields::{all, behind, u8_up_to, u16_up_to, zeros_at};
 use crate::head::{id_at, member_count_at, most_volumes, name_at, size_at, version_at};
 use crate::maps::maps_at;
 use crate::rows::{members_at, volumes_at};
-use crate::fields::{all, behind, u8_up_to, u16_up_to, zeros_at};
 use lvm_num::{Descriptor, Rows};
 use std::alloc::Global;
 

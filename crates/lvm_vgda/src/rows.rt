@@ -10,8 +10,8 @@ ghost use Rattle.lvm_num.specs.Reading.{number_at};
 ghost use Rattle.lvm_vgda.specs.Reading.{Gives, rest_of};
 
 use crate::fault::Fault;
-use crate::head::{most_volumes, name_at};
 use crate::fields::{behind, u8_from_1, u8_up_to, u16_at, u16_from_1, u32_at, zeros_at};
+use crate::head::{most_volumes, name_at};
 use crate::unread::Unread;
 use lvm_num::{LvRow, Mode, Policy, PvRow, Rows};
 use std::alloc::Global;
@@ -61,7 +61,12 @@ pub fn has_member(members: &[PvRow], disk: u16) -> bool
 }
 
 /// So many rows of volumes, with no partitions yet.
-pub fn volumes_at(alloc: Global, big: bool, count: u16, unread: Unread) -> Result<(Vec<LvRow>, Unread), Fault>
+pub fn volumes_at(
+    alloc: Global,
+    big: bool,
+    count: u16,
+    unread: Unread,
+) -> Result<(Vec<LvRow>, Unread), Fault>
     ensures { Gives (λ x. (x.0.items, rest_of x.1)) result (volumes_at big count [] (rest_of unread.entry)) }
 {
     let mut rows = Vec::new(alloc);
@@ -75,7 +80,12 @@ pub fn volumes_at(alloc: Global, big: bool, count: u16, unread: Unread) -> Resul
 }
 
 #[tactic(auto, unfolding(lvm_num::specs::DescriptorBytes::volume_at))]
-fn volume_at<'a>(alloc: Global, big: bool, earlier: &[LvRow], unread: Unread<'a>) -> Result<(LvRow, Unread<'a>), Fault>
+fn volume_at<'a>(
+    alloc: Global,
+    big: bool,
+    earlier: &[LvRow],
+    unread: Unread<'a>,
+) -> Result<(LvRow, Unread<'a>), Fault>
     ensures { Gives (λ x. (x.0, rest_of x.1)) result (volume_at big earlier.now (rest_of unread.entry)) }
 {
     let (number, unread) = volume_number_at(big, earlier, unread)?;
@@ -100,7 +110,11 @@ fn volume_at<'a>(alloc: Global, big: bool, earlier: &[LvRow], unread: Unread<'a>
 }
 
 // A number above those of all earlier volumes.
-fn volume_number_at<'a>(big: bool, earlier: &[LvRow], unread: Unread<'a>) -> Result<(u16, Unread<'a>), Fault>
+fn volume_number_at<'a>(
+    big: bool,
+    earlier: &[LvRow],
+    unread: Unread<'a>,
+) -> Result<(u16, Unread<'a>), Fault>
     ensures { Gives (λ x. (x.0, rest_of x.1)) result (number_at w16 (λ n. nat_le 1 n && nat_le n (most_volumes big) && list_all (λ (row : LvRow). nat_lt row.number n) earlier.now) (rest_of unread.entry)) }
 {
     let (number, after) = u16_at(unread)?;

@@ -14,7 +14,7 @@ loop-init c = λ pps uses.
     let left : c.args.count - 0 ≡ c.args.count = omega arith in (
       subst (Uses c.args.used.now) (sym none) uses,
       ap (λ n. partitions_at c.args.members.now pps c.args.copies n c.new-own.result.items (rest_of c.args.unread)) left
-      ∙ ap (λ (own : List Pp). partitions_at c.args.members.now pps c.args.copies c.args.count own (rest_of c.args.unread)) c.new-own.ensures.items,
+          ∙ ap (λ (own : List Pp). partitions_at c.args.members.now pps c.args.copies c.args.count own (rest_of c.args.unread)) c.new-own.ensures.items,
     )
 
 pub returns-clause-used : goal.returns-clause-used
