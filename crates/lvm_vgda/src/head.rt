@@ -1,0 +1,134 @@
+//! What stands before the rows, field by field.
+ghost use Rattle.std.specs.Prelude.{◌≡◌, ℕ, ◌≤◌, ◌==◌, not, length, position, bytes_eq, IsTrue, OnOk};
+ghost use Rattle.std.specs.List.{list_any};
+ghost use Rattle.std.specs.Option.{SomeIff};
+ghost use Rattle.std.specs.Int.{w16, w64};
+ghost use Rattle.lvm_num.specs.declared.descriptor.LvRow.{LvRow};
+ghost use Rattle.lvm_num.specs.Name.{unpadded};
+ghost use Rattle.lvm_num.specs.Descriptor.{is_size, most_members, most_volumes};
+ghost use Rattle.lvm_num.specs.DescriptorBytes.{is_name_field, name_at, version_at, member_count_at};
+ghost use Rattle.lvm_num.specs.Reading.{number_at};
+ghost use Rattle.lvm_vgda.specs.Reading.{Gives, rest_of, skipped};
+
+use crate::fault::Fault;
+use crate::fields::{bytes_at, u16_at, u16_from_1, u64_at};
+use crate::unread::Unread;
+use lvm_num::{LvRow, Name};
+
+const SIZES: [u16; 11] = [1, 2, 4, 8, 16, 32, 64, 128, 256, 512, 1024];
+
+/// Whether the group is big, which the version says.
+#[tactic(auto, unfolding(lvm_num::specs::DescriptorBytes::version_at))]
+pub fn version_at(unread: Unread) -> Result<(bool, Unread), Fault>
+    ensures { Gives (λ x. (x.0, rest_of x.1)) result (version_at (rest_of unread.entry)) }
+{
+    let (magic, after) = bytes_at(4, unread)?;
+    if magic == b"VGD1".as_slice() {
+        Ok((false, after))
+    } else if magic == b"VGD2".as_slice() {
+        Ok((true, after))
+    } else {
+        Err(Fault::At(unread.place))
+    }
+}
+
+/// The id, which isn't 0.
+pub fn id_at(unread: Unread) -> Result<(u64, Unread), Fault>
+    ensures { Gives (λ x. (x.0, rest_of x.1)) result (number_at w64 (λ n. not (n == 0)) (rest_of unread.entry)) }
+{
+    let (id, after) = u64_at(unread)?;
+    if id == 0 {
+        return Err(Fault::At(unread.place));
+    }
+    Ok((id, after))
+}
+
+/// The size of a partition.
+pub fn size_at(unread: Unread) -> Result<(u16, Unread), Fault>
+    ensures { Gives (λ x. (x.0, rest_of x.1)) result (number_at w16 is_size (rest_of unread.entry)) }
+{
+    let (mib, after) = u16_at(unread)?;
+    if !is_size(mib) {
+        return Err(Fault::At(unread.place));
+    }
+    Ok((mib, after))
+}
+
+fn is_size(mib: u16) -> bool
+    ensures { result ≡ is_size mib }
+{
+    SIZES.contains(&mib)
+}
+
+/// The number of members. Where votes are even and it isn't 2, the flag before it is the fault.
+#[tactic(auto, unfolding(lvm_num::specs::DescriptorBytes::member_count_at))]
+pub fn member_count_at(big: bool, even: bool, unread: Unread) -> Result<(u16, Unread), Fault>
+    ensures { Gives (λ x. (x.0, rest_of x.1)) result (member_count_at big even (rest_of unread.entry)) }
+{
+    let (count, _) = u16_at(unread)?;
+    if even && count != 2 {
+        return Err(Fault::At(unread.place.saturating_sub(1)));
+    }
+    u16_from_1(most_members(big), unread)
+}
+
+fn most_members(big: bool) -> u16
+    ensures { result ≡ most_members big }
+{
+    if big { 128 } else { 32 }
+}
+
+/// The most volumes of a group, and their greatest number.
+pub fn most_volumes(big: bool) -> u16
+    ensures { result ≡ most_volumes big }
+{
+    if big { 511 } else { 255 }
+}
+
+/// A name that none of these volumes has, in sixteen bytes.
+#[tactic(auto, unfolding(lvm_num::specs::DescriptorBytes::name_at))]
+pub fn name_at(earlier: &[LvRow], unread: Unread) -> Result<Name, Fault>
+    ensures read { Gives (λ name. (name, skipped 16 (rest_of unread.entry))) result (name_at (λ bytes. not (list_any (λ (row : LvRow). bytes_eq row.name bytes) earlier.now)) (rest_of unread.entry)) }
+    ensures long { OnOk result (16 ≤ length unread.entry.bytes.now) }
+{
+    let (field, _) = bytes_at(16, unread)?;
+    let Some(name) = name_in(field) else {
+        return Err(Fault::At(unread.place));
+    };
+    if has_name(earlier, &name) {
+        return Err(Fault::At(unread.place));
+    }
+    Ok(name)
+}
+
+fn has_name(rows: &[LvRow], name: &Name) -> bool
+    ensures { result ≡ list_any (λ (row : LvRow). bytes_eq row.name name.now) rows.now }
+{
+    rows.iter().any(|row| row.name == *name)
+}
+
+// The name that sixteen bytes are, with its zeros.
+fn name_in(field: &[u8]) -> Option<Name>
+    requires { length field.now ≡ 16 }
+    ensures { SomeIff result (IsTrue (is_name_field field.now)) (unpadded field.now) }
+{
+    let name = Name::read(text_in(field))?;
+    if name.as_field().as_slice() == field {
+        Some(name)
+    } else {
+        None
+    }
+}
+
+// What stands before the first zero.
+fn text_in(field: &[u8]) -> &[u8]
+    ensures { result.now ≡ unpadded field.now }
+{
+    &field[..first_zero(field).unwrap_or(field.len())]
+}
+
+fn first_zero(field: &[u8]) -> Option<usize>
+    ensures { result ≡ position (λ b. b == 0) field.now }
+{
+    field.iter().position(|b| *b == 0)
+}
