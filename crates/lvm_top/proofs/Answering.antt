@@ -8,8 +8,8 @@ use Rattle.lvm_kept.proofs.Spans.{at_moment}
 use Rattle.lvm_top.specs.Requests.{IsHeard}
 use Rattle.lvm_top.specs.RawLines.{without_facts, IsInData, RefusalOf, write_reply, read_reply, WriteDoes, WriteOutside, WriteFull, ReadDoes, ReadOutside, ReadFull}
 use Rattle.lvm_top.specs.Script.{IsStuck}
-use Rattle.lvm_top.specs.declared.moves.Moved.{Moved}
-use Rattle.lvm_top.specs.declared.moves.Moved.TheVariants as moved
+use Rattle.lvm_move.specs.declared.moves.Moved.{Moved}
+use Rattle.lvm_move.specs.declared.moves.Moved.TheVariants as moved
 use Rattle.lvm_top.specs.declared.reply.Refusal.{Refusal}
 use Rattle.lvm_top.specs.declared.reply.Refusal.TheVariants as refusal
 use Rattle.lvm_top.specs.declared.reply.Reply.{Reply}

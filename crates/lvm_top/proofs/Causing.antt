@@ -10,12 +10,12 @@ use Rattle.lvm_top.specs.Script.{State, LineDoes}
 use Rattle.lvm_top.specs.Causes.{HasCause}
 use Rattle.lvm_top.specs.declared.language.Command.{Command}
 use Rattle.lvm_top.specs.declared.language.Command.TheVariants as command
-use Rattle.lvm_top.specs.declared.moves.Moved.{Moved}
-use Rattle.lvm_top.specs.declared.moves.Moved.TheVariants as moved
+use Rattle.lvm_move.specs.declared.moves.Moved.{Moved}
+use Rattle.lvm_move.specs.declared.moves.Moved.TheVariants as moved
 use Rattle.lvm_top.specs.declared.reply.Refusal.{Refusal}
 use Rattle.lvm_top.specs.declared.reply.Refusal.TheVariants as refusal
 use Rattle.lvm_top.specs.declared.reply.Reply.TheVariants as reply
-use Rattle.lvm_top.proofs.Ending.{one_left}
+use Rattle.lvm_move.proofs.Ending.{one_left}
 
 abbrev faults_of : Device → ℕ → ℕ
 faults_of device = device.counts.faults

@@ -1,8 +1,5 @@
 mod Scanning
 mod Filled
-pub mod Waiting
-pub mod Ending
-pub mod Effects
 pub mod Spanning
 mod Logs
 mod Answering

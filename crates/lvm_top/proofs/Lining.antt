@@ -13,8 +13,8 @@ use Rattle.lvm_top.specs.RawLines.{without_facts, WriteOutside, WriteFull, Write
 use Rattle.lvm_top.specs.Script.{State, state_of, IsLine, IsStuck, LineDoes}
 use Rattle.lvm_top.specs.declared.language.Command.{Command}
 use Rattle.lvm_top.specs.declared.language.Command.TheVariants as command
-use Rattle.lvm_top.specs.declared.moves.Moved.{Moved}
-use Rattle.lvm_top.specs.declared.moves.Moved.TheVariants as moved
+use Rattle.lvm_move.specs.declared.moves.Moved.{Moved}
+use Rattle.lvm_move.specs.declared.moves.Moved.TheVariants as moved
 use Rattle.lvm_top.specs.declared.reply.Reply.{Reply}
 
 -- a line that changes nothing

@@ -15,11 +15,11 @@ use Rattle.lvm_kept.proofs.Carrying.{carries_front}
 use Rattle.lvm_kept.proofs.Spans.{at_moment}
 use Rattle.lvm_kept.proofs.WriteMoments.{write_done, write_lost, write_dark, write_stuck, write_calm, write_dark_calm}
 use Rattle.lvm_kept.proofs.ReadMoments.{read_got, read_failed, read_dark, read_stuck, read_calm, read_dark_calm}
-use Rattle.lvm_top.specs.Transfer.{TransferGives, Rests, flight_of}
+use Rattle.lvm_move.specs.Transfer.{TransferGives, Rests, flight_of}
 use Rattle.lvm_top.specs.Requests.{write_ends, read_ends, RelightsAfter, IsHeard}
-use Rattle.lvm_top.specs.declared.moves.Moved.{Moved}
-use Rattle.lvm_top.specs.declared.moves.Moved.TheVariants as moved
-use Rattle.lvm_top.proofs.Effects.{done_effect, failed_effect}
+use Rattle.lvm_move.specs.declared.moves.Moved.{Moved}
+use Rattle.lvm_move.specs.declared.moves.Moved.TheVariants as moved
+use Rattle.lvm_move.proofs.Effects.{done_effect, failed_effect}
 
 -- the one block at the front of a buffer
 pub front_one : (xs : List Sector) (x : Sector) → slice_get xs 0 ≡ Some x → (take 1 xs ≡ x ∷ []) × (1 ≤ length xs)
@@ -49,7 +49,7 @@ module _ (run disk at : ℕ) (buf : Buffer) (old mid new : Device) (facts : List
     carries = let one = front_one buf.sectors block holds in
         subst (λ (l : List Sector). Carries (raw_request run id disk at 1 true l) (flight_of 0 true disk at 1 buf)) one.0 (carries_front run id disk at 1 0 buf one.1)
 
-    pub write_keeps : (ticket : ℕ) (how : Moved) → TransferGives old mid (flight_of ticket true disk at 1 buf) how → RelightsAfter mid new how → Keeps run (at_moment old facts) (at_moment new (write_ends (facts ++ Begun write ∷ []) write how))
+    pub write_keeps : (ticket : ℕ) (how : Moved) → TransferGives 1000000 old mid (flight_of ticket true disk at 1 buf) how → RelightsAfter mid new how → Keeps run (at_moment old facts) (at_moment new (write_ends (facts ++ Begun write ∷ []) write how))
     write_keeps ticket (moved.Done back) gives same =
         let effect = done_effect old mid (flight_of ticket true disk at 1 buf) back still gives in
         subst (λ (d : Device). Keeps run (at_moment old facts) (at_moment d (write_ends (facts ++ Begun write ∷ []) write (moved.Done back)))) (sym same)
@@ -74,7 +74,7 @@ module _ (run disk at : ℕ) (buf : Buffer) (old mid new : Device) (facts : List
     reading = raw_request run id disk at 1 false []
 
     pub read_keeps :
-        (ticket : ℕ) (how : Moved) → TransferGives old mid (flight_of ticket false disk at 1 buf) how → RelightsAfter mid new how → length buf.sectors ≡ 256 → IsRange old disk at 1 → data_start ≤ at
+        (ticket : ℕ) (how : Moved) → TransferGives 1000000 old mid (flight_of ticket false disk at 1 buf) how → RelightsAfter mid new how → length buf.sectors ≡ 256 → IsRange old disk at 1 → data_start ≤ at
         → Keeps run (at_moment old facts) (at_moment new (read_ends (facts ++ Begun reading ∷ []) reading how))
     read_keeps ticket (moved.Done back) gives same whole range low =
         let effect = done_effect old mid (flight_of ticket false disk at 1 buf) back still gives in

@@ -8,8 +8,8 @@ use Rattle.lvm_top.specs.RawLines.{WriteOutside, WriteFull, WriteUnmade, WriteMa
 use Rattle.lvm_top.specs.Script.{State, LineDoes, Script, NoLine, NextLine, Ends, AtLine, InLine, IsPart}
 use Rattle.lvm_top.specs.declared.language.Command.{Command}
 use Rattle.lvm_top.specs.declared.language.Command.TheVariants as command
-use Rattle.lvm_top.specs.declared.moves.Moved.{Moved}
-use Rattle.lvm_top.specs.declared.moves.Moved.TheVariants as moved
+use Rattle.lvm_move.specs.declared.moves.Moved.{Moved}
+use Rattle.lvm_move.specs.declared.moves.Moved.TheVariants as moved
 use Rattle.lvm_top.specs.declared.reply.Reply.{Reply}
 
 abbrev power_of : Device → Bool

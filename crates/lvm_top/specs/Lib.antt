@@ -2,7 +2,6 @@ pub mod Refusals
 pub mod Replies
 pub mod Language
 pub mod Words
-pub mod Transfer
 pub mod Requests
 pub mod RawLines
 pub mod Script

@@ -8,10 +8,10 @@ use Rattle.lvm_vol.specs.Log.{Log, next_id, spare_entries, spare_bytes}
 use Rattle.lvm_num.specs.Geometry.{data_start}
 use Rattle.lvm_kept.specs.Moments.{Moment}
 use Rattle.lvm_kept.specs.Raw.{raw_request}
-use Rattle.lvm_top.specs.Transfer.{flight_of}
+use Rattle.lvm_move.specs.Transfer.{flight_of}
 use Rattle.lvm_top.specs.Requests.{write_ends, read_ends, ShelfAfter}
-use Rattle.lvm_top.specs.declared.moves.Moved.{Moved}
-use Rattle.lvm_top.specs.declared.moves.Moved.TheVariants as moved
+use Rattle.lvm_move.specs.declared.moves.Moved.{Moved}
+use Rattle.lvm_move.specs.declared.moves.Moved.TheVariants as moved
 use Rattle.lvm_top.specs.declared.reply.Refusal.{Refusal}
 use Rattle.lvm_top.specs.declared.reply.Refusal.TheVariants as refusal
 use Rattle.lvm_top.specs.declared.reply.Reply.{Reply}

@@ -3,9 +3,9 @@ use Rattle.std.specs.Prelude.{◌≡◌, ◌++◌, [], ◌∷◌, List, Bool, tr
 use Rattle.lvm_disk.specs.Device.{Flight, Device}
 use Rattle.lvm_vol.specs.declared.entry.Outcome.TheVariants as outcome
 use Rattle.lvm_vol.specs.Facts.{Request, Fact, Landed, Taken, Cut}
-use Rattle.lvm_top.specs.Transfer.{TransferGives, Relights}
-use Rattle.lvm_top.specs.declared.moves.Moved.{Moved}
-use Rattle.lvm_top.specs.declared.moves.Moved.TheVariants as moved
+use Rattle.lvm_move.specs.Transfer.{TransferGives, Relights}
+use Rattle.lvm_move.specs.declared.moves.Moved.{Moved}
+use Rattle.lvm_move.specs.declared.moves.Moved.TheVariants as moved
 
 -- the request lands, and its answer is taken
 abbrev pub landing_ends : List Fact → Request → Fact → List Fact
@@ -39,7 +39,7 @@ RelightsAfter old new moved.Stuck = new ≡ old
 -- the shelf after a transfer that ended so; after a cut the power is on again
 pub record ShelfAfter (old new : Device) (f : Flight) (how : Moved) : Type 0 where
   pub moved : Device
-  pub gives : TransferGives old moved f how
+  pub gives : TransferGives 1000000 old moved f how
   pub lit : RelightsAfter moved new how
 
 -- something was heard of the transfer

@@ -4,7 +4,6 @@
 mod command;
 mod language;
 mod laws;
-mod moves;
 mod raw;
 mod raw_line;
 mod reply;

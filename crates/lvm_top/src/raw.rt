@@ -9,10 +9,10 @@ ghost use Rattle.lvm_vol.specs.Log.{next_id, request_of, is_open, is_uncut, awai
 ghost use Rattle.lvm_num.specs.Geometry.{data_start};
 ghost use Rattle.lvm_kept.specs.Moments.{Keeps, StaysCalm};
 ghost use Rattle.lvm_kept.specs.Raw.{raw_request};
-ghost use Rattle.lvm_top.specs.Transfer.{Rests, flight_of};
+ghost use Rattle.lvm_move.specs.Transfer.{Rests, flight_of};
 ghost use Rattle.lvm_top.specs.Requests.{cut_ends, write_ends, read_ends, RelightsAfter, ShelfAfter, IsHeard};
 
-use crate::moves::{Moved, relight, transfer};
+use lvm_move::{Moved, Patience, relight, transfer};
 use lvm_disk::Shelf;
 use lvm_num::Pbuf;
 use lvm_vol::{History, Outcome, Vol};

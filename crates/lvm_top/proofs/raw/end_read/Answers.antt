@@ -3,7 +3,7 @@ use Rattle.lvm_vol.specs.Facts.{Landed}
 use Rattle.lvm_vol.specs.Log.{request_of}
 use Rattle.lvm_vol.specs.declared.entry.Outcome.TheVariants as outcome
 use Rattle.lvm_top.specs.Requests.{read_ends, landing_ends}
-use Rattle.lvm_top.specs.declared.moves.Moved.{Moved}
+use Rattle.lvm_move.specs.declared.moves.Moved.{Moved}
 use Rattle.lvm_top.proofs.Spanning.{front_one}
 use Rattle.lvm_top.proofs.raw.end_read.Goals as goal
 

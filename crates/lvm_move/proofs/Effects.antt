@@ -1,12 +1,12 @@
 -- What a transfer on a shelf at rest does to the media.
-use Rattle.std.proofs.Common.{◌≡◌, ◌∷◌, ◌++◌, [], List, Option, IfSome, false, ◌∙◌, ap, subst}
+use Rattle.std.proofs.Common.{◌≡◌, ℕ, ◌∷◌, ◌++◌, [], List, Option, IfSome, false, ◌∙◌, ap, subst}
 use Rattle.lvm_num.specs.Buffer.{Buffer}
 use Rattle.lvm_disk.specs.Device.{Media, Flight, Device}
 use Rattle.lvm_disk.specs.Steps.{BothTold, Puts, PutsSome, Reads, ChangedAtMost}
 use Rattle.lvm_kept.specs.Raw.{IsStill}
-use Rattle.lvm_top.specs.Transfer.{IsOut, TransferGives}
-use Rattle.lvm_top.specs.declared.moves.Moved.TheVariants as moved
-use Rattle.lvm_top.proofs.Ending.{one_left}
+use Rattle.lvm_move.specs.Transfer.{IsOut, TransferGives}
+use Rattle.lvm_move.specs.declared.moves.Moved.TheVariants as moved
+use Rattle.lvm_move.proofs.Ending.{one_left}
 
 -- what it did to a shelf on which nothing else was out
 pub record DoneEffect (old new : Device) (f : Flight) (back : Buffer) : Type 0 where
@@ -29,8 +29,8 @@ module _ (old now : Device) (f : Flight) (out : IsOut old now f) (none : old.fli
   pub out_sizes : now.sizes ≡ old.sizes
   out_sizes = ap (λ (d : Device). d.sizes) out.waits.now_is ∙ ap (λ (d : Device). d.sizes) out.starts.new_is
 
-pub done_effect : (old new : Device) (f : Flight) (back : Buffer) → old.flights ≡ [] → TransferGives old new f (moved.Done back) → DoneEffect old new f back
-done_effect old new f back none (now, out, ends) =
+pub done_effect : (patience : ℕ) → (old new : Device) (f : Flight) (back : Buffer) → old.flights ≡ [] → TransferGives patience old new f (moved.Done back) → DoneEffect old new f back
+done_effect patience old new f back none (now, out, ends) =
     let one = one_left f now.flights new.flights ends.flight (out_flights old now f out none) ends.flights in
     let media = out_media old now f out none in
     record {
@@ -40,8 +40,8 @@ done_effect old new f back none (now, out, ends) =
       rest = subst (λ (g : Flight). ChangedAtMost g.count g.buf back) one.0 ends.rest;
     }
 
-pub failed_effect : (old new : Device) (f : Flight) (back : Buffer) → old.flights ≡ [] → TransferGives old new f (moved.Failed back) → FailedEffect old new f
-failed_effect old new f back none (now, out, ends) =
+pub failed_effect : (patience : ℕ) → (old new : Device) (f : Flight) (back : Buffer) → old.flights ≡ [] → TransferGives patience old new f (moved.Failed back) → FailedEffect old new f
+failed_effect patience old new f back none (now, out, ends) =
     let one = one_left f now.flights new.flights ends.flight (out_flights old now f out none) ends.flights in
     record {
       still = record { flights = one.1; sizes = ap (λ (d : Device). d.sizes) ends.new_is ∙ out_sizes old now f out none };

@@ -4,8 +4,8 @@ use Rattle.lvm_num.specs.Buffer.{Buffer}
 use Rattle.lvm_disk.specs.Counts.{RoseBy}
 use Rattle.lvm_disk.specs.Device.{Flight, Device, IsReady}
 use Rattle.lvm_disk.specs.Steps.{Starts, Cuts, EndsDone, EndsFailed}
-use Rattle.lvm_top.specs.declared.moves.Moved.{Moved}
-use Rattle.lvm_top.specs.declared.moves.Moved.TheVariants as moved
+use Rattle.lvm_move.specs.declared.moves.Moved.{Moved}
+use Rattle.lvm_move.specs.declared.moves.Moved.TheVariants as moved
 
 -- the flight of a transfer
 abbrev pub flight_of : ℕ → Bool → ℕ → ℕ → ℕ → Buffer → Flight
@@ -22,20 +22,20 @@ pub record IsOut (old now : Device) (f : Flight) : Type 0 where
   pub starts : Starts old begun f
   pub waits : WaitsOnly begun now
 
--- how the one flight that is out ended; after Dark the power is off
-abbrev pub FinishGives : Device → Device → Flight → Moved → Type 0
-FinishGives old new f (moved.Done back) = (now : Device) × WaitsOnly old now × EndsDone now new f.ticket back
-FinishGives old new f (moved.Failed back) = (now : Device) × WaitsOnly old now × EndsFailed now new f.ticket back
-FinishGives old new f (moved.Dark started) = (started ≡ true) × ((now : Device) × WaitsOnly old now × Cuts now new)
-FinishGives old new f moved.Stuck = WaitsOnly old new × RoseBy 1000000 old.counts.waits new.counts.waits
+-- How the one flight that is out ended, where so many answers were borne that nothing has; after Dark the power is off.
+abbrev pub FinishGives : ℕ → Device → Device → Flight → Moved → Type 0
+FinishGives patience old new f (moved.Done back) = (now : Device) × WaitsOnly old now × EndsDone now new f.ticket back
+FinishGives patience old new f (moved.Failed back) = (now : Device) × WaitsOnly old now × EndsFailed now new f.ticket back
+FinishGives patience old new f (moved.Dark started) = (started ≡ true) × ((now : Device) × WaitsOnly old now × Cuts now new)
+FinishGives patience old new f moved.Stuck = WaitsOnly old new × RoseBy patience old.counts.waits new.counts.waits
 
--- how a transfer ended; after Dark the power is off, and the mark says whether it was started
-abbrev pub TransferGives : Device → Device → Flight → Moved → Type 0
-TransferGives old new f (moved.Done back) = (now : Device) × IsOut old now f × EndsDone now new f.ticket back
-TransferGives old new f (moved.Failed back) = (now : Device) × IsOut old now f × EndsFailed now new f.ticket back
-TransferGives old new f (moved.Dark true) = (now : Device) × IsOut old now f × Cuts now new
-TransferGives old new f (moved.Dark false) = Cuts old new
-TransferGives old new f moved.Stuck = IsOut old new f × RoseBy 1000000 old.counts.waits new.counts.waits
+-- How a transfer ended; after Dark the power is off, and the mark says whether it was started
+abbrev pub TransferGives : ℕ → Device → Device → Flight → Moved → Type 0
+TransferGives patience old new f (moved.Done back) = (now : Device) × IsOut old now f × EndsDone now new f.ticket back
+TransferGives patience old new f (moved.Failed back) = (now : Device) × IsOut old now f × EndsFailed now new f.ticket back
+TransferGives patience old new f (moved.Dark true) = (now : Device) × IsOut old now f × Cuts now new
+TransferGives patience old new f (moved.Dark false) = Cuts old new
+TransferGives patience old new f moved.Stuck = IsOut old new f × RoseBy patience old.counts.waits new.counts.waits
 
 -- nothing is out afterwards, but where nothing was heard of the transfer
 abbrev pub Rests : Device → Moved → Type 0

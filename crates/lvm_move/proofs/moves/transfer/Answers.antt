@@ -2,10 +2,10 @@ use Rattle.std.proofs.Common.{sym, ap, subst}
 use Rattle.lvm_disk.specs.Device.{Device}
 use Rattle.lvm_disk.specs.Paths.{DeviceStep, Path}
 use Rattle.lvm_kept.specs.Raw.{OnlyAdds}
-use Rattle.lvm_top.specs.Transfer.{flight_of}
-use Rattle.lvm_top.proofs.Ending.{started_moments, dark_moments, any_ticket, was_cut}
-use Rattle.lvm_top.proofs.moves.transfer.Goals as goal
-use Rattle.lvm_top.proofs.moves.transfer.Goals.{in-Ticket, in-Dark}
+use Rattle.lvm_move.specs.Transfer.{flight_of}
+use Rattle.lvm_move.proofs.Ending.{started_moments, dark_moments, any_ticket, was_cut}
+use Rattle.lvm_move.proofs.moves.transfer.Goals as goal
+use Rattle.lvm_move.proofs.moves.transfer.Goals.{in-Ticket, in-Dark}
 
 pub returns-clause-moments : goal.returns-clause-moments
 returns-clause-moments g c =

@@ -8,10 +8,10 @@ use Rattle.lvm_disk.specs.Paths.{DeviceStep, Started, Ended, Broke, WasCut, Path
 use Rattle.lvm_disk.proofs.Paths.{append-path, map-path}
 use Rattle.lvm_disk.proofs.CrashImages.{start_leaves, done_leaves, failed_leaves, cut_leaves}
 use Rattle.lvm_kept.specs.Raw.{OnlyAdds}
-use Rattle.lvm_top.specs.Transfer.{FinishGives, TransferGives, flight_of}
-use Rattle.lvm_top.specs.declared.moves.Moved.{Moved}
-use Rattle.lvm_top.specs.declared.moves.Moved.TheVariants as moved
-use Rattle.lvm_top.proofs.Waiting.{WaitsSoFar}
+use Rattle.lvm_move.specs.Transfer.{FinishGives, TransferGives, flight_of}
+use Rattle.lvm_move.specs.declared.moves.Moved.{Moved}
+use Rattle.lvm_move.specs.declared.moves.Moved.TheVariants as moved
+use Rattle.lvm_move.proofs.Waiting.{WaitsSoFar}
 
 never : (before after : List Flight) (g : Flight) → [] ≡ before ++ g ∷ after → ⊥
 never [] after g e = cc
@@ -51,18 +51,18 @@ module _ (old now new : Device) (n : ℕ) (so_far : WaitsSoFar old now n) where
   flights_same : now.flights ≡ old.flights
   flights_same = ap (λ (d : Device). d.flights) so_far.only.now_is
 
-  pub done_gives : (f : Flight) → old.flights ≡ f ∷ [] → (ticket : ℕ) (buf : Buffer) → EndsDone now new ticket buf → FinishGives old new f (moved.Done buf)
-  done_gives f one ticket buf ends =
+  pub done_gives : (patience : ℕ) → (f : Flight) → old.flights ≡ f ∷ [] → (ticket : ℕ) (buf : Buffer) → EndsDone now new ticket buf → FinishGives patience old new f (moved.Done buf)
+  done_gives patience f one ticket buf ends =
       let it = one_left f now.flights new.flights ends.flight (flights_same ∙ one) ends.flights in
       (now, so_far.only, subst (λ (t : ℕ). EndsDone now new t buf) (sym ends.its ∙ ap (λ (g : Flight). g.ticket) it.0) ends)
 
-  pub failed_gives : (f : Flight) → old.flights ≡ f ∷ [] → (ticket : ℕ) (buf : Buffer) → EndsFailed now new ticket buf → FinishGives old new f (moved.Failed buf)
-  failed_gives f one ticket buf ends =
+  pub failed_gives : (patience : ℕ) → (f : Flight) → old.flights ≡ f ∷ [] → (ticket : ℕ) (buf : Buffer) → EndsFailed now new ticket buf → FinishGives patience old new f (moved.Failed buf)
+  failed_gives patience f one ticket buf ends =
       let it = one_left f now.flights new.flights ends.flight (flights_same ∙ one) ends.flights in
       (now, so_far.only, subst (λ (t : ℕ). EndsFailed now new t buf) (sym ends.its ∙ ap (λ (g : Flight). g.ticket) it.0) ends)
 
-  pub cut_gives : (f : Flight) → Cuts now new → FinishGives old new f (moved.Dark true)
-  cut_gives f cuts = (refl, (now, so_far.only, cuts))
+  pub cut_gives : (patience : ℕ) → (f : Flight) → Cuts now new → FinishGives patience old new f (moved.Dark true)
+  cut_gives patience f cuts = (refl, (now, so_far.only, cuts))
 
   module _ (freed : old.freed ≡ []) (power : old.power ≡ true) (f : Flight) (one : old.flights ≡ f ∷ []) where
     pub done_rests : (ticket : ℕ) (buf : Buffer) → EndsDone now new ticket buf → IsReady new
@@ -102,12 +102,12 @@ pub any_ticket : (ticket : ℕ) (write : Bool) (disk first count : ℕ) (buf : B
 any_ticket ticket write disk first count buf old new path = map-path (OnlyAdds (flight_of 0 write disk first count buf) old) (λ d adds image may. let from = adds image may in (from.0, from.1, record { same = from.2.same; each = from.2.each })) path
 
 -- a start that was waited for
-pub from_finish : (f : Flight) (old mid new : Device) (how : Moved) → Starts old mid f → FinishGives mid new f how → TransferGives old new f how
-from_finish f old mid new (moved.Done back) starts ends = (ends.0, record { begun = mid; starts = starts; waits = ends.1 }, ends.2)
-from_finish f old mid new (moved.Failed back) starts ends = (ends.0, record { begun = mid; starts = starts; waits = ends.1 }, ends.2)
-from_finish f old mid new (moved.Dark true) starts ends = (ends.1.0, record { begun = mid; starts = starts; waits = ends.1.1 }, ends.1.2)
-from_finish f old mid new (moved.Dark false) starts ends = absurd (let e = ends.0 in cc)
-from_finish f old mid new moved.Stuck starts ends = (
+pub from_finish : (patience : ℕ) (f : Flight) (old mid new : Device) (how : Moved) → Starts old mid f → FinishGives patience mid new f how → TransferGives patience old new f how
+from_finish patience f old mid new (moved.Done back) starts ends = (ends.0, record { begun = mid; starts = starts; waits = ends.1 }, ends.2)
+from_finish patience f old mid new (moved.Failed back) starts ends = (ends.0, record { begun = mid; starts = starts; waits = ends.1 }, ends.2)
+from_finish patience f old mid new (moved.Dark true) starts ends = (ends.1.0, record { begun = mid; starts = starts; waits = ends.1.1 }, ends.1.2)
+from_finish patience f old mid new (moved.Dark false) starts ends = absurd (let e = ends.0 in cc)
+from_finish patience f old mid new moved.Stuck starts ends = (
   record { begun = mid; starts = starts; waits = ends.0 },
-  subst (λ (d : Device). Rattle.lvm_disk.specs.Counts.RoseBy 1000000 d.counts.waits new.counts.waits) (starts.new_is) ends.1,
+  subst (λ (d : Device). Rattle.lvm_disk.specs.Counts.RoseBy patience d.counts.waits new.counts.waits) (starts.new_is) ends.1,
 )

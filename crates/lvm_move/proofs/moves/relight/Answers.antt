@@ -1,5 +1,5 @@
-use Rattle.lvm_top.proofs.Waiting.{none_freed, one_freed, lit_moments}
-use Rattle.lvm_top.proofs.moves.relight.Goals as goal
+use Rattle.lvm_move.proofs.Waiting.{none_freed, one_freed, lit_moments}
+use Rattle.lvm_move.proofs.moves.relight.Goals as goal
 
 pub loop-init : goal.loop-init
 loop-init g c = none_freed (g.S.Shelf.device c.args.shelf.now)

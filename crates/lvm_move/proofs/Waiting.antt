@@ -6,7 +6,7 @@ use Rattle.lvm_disk.specs.Device.{Device, MayLeave}
 use Rattle.lvm_disk.specs.Steps.{Waits, FreedGives, Lights}
 use Rattle.lvm_disk.specs.Images.{LeavesNoMore}
 use Rattle.lvm_disk.specs.Paths.{DeviceStep, Waited, Freed, Lit, Path, Here, Then}
-use Rattle.lvm_top.specs.Transfer.{WaitsOnly, Relights}
+use Rattle.lvm_move.specs.Transfer.{WaitsOnly, Relights}
 
 -- so many answers that nothing has ended
 pub record WaitsSoFar (old now : Device) (n : ℕ) : Type 0 where
@@ -26,6 +26,11 @@ one_wait old now new n so_far waits =
       rose = record { later = later; risen = omega (arith, so_far.rose.risen, waits.waits.risen, so_far.rose.later) };
       moments = Then so_far.moments (Waited waits) (λ image may. subst (λ (d : Device). MayLeave d image) is may);
     }
+
+-- and so many that are still borne
+pub record Borne (old now : Device) (first left n : ℕ) : Type 0 where
+  pub so_far : WaitsSoFar old now n
+  pub count : left + n ≡ first
 
 -- buffers that are given back so far
 pub record FreesOnly (old now : Device) : Type 0 where

@@ -1,11 +1,12 @@
-//! One transfer on a shelf at which nothing else is out.
-ghost use Rattle.std.specs.Prelude.{◌≡◌, ◌<◌, ◌≤◌, [], ◌∷◌, ℕ, length, true};
+//! A transfer is started, and reaped until it has ended.
+ghost use Rattle.std.specs.Prelude.{◌≡◌, ◌-◌, ◌<◌, ◌≤◌, [], ◌∷◌, ℕ, length, true};
+ghost use Rattle.lvm_disk.specs.Counts.{RoseBy};
 ghost use Rattle.lvm_disk.specs.Device.{Flight, IsReady};
 ghost use Rattle.lvm_disk.specs.Steps.{IsRange, StartGives};
 ghost use Rattle.lvm_disk.specs.Images.{LeavesNoMore};
 ghost use Rattle.lvm_disk.specs.Paths.{DeviceStep, Path};
 ghost use Rattle.lvm_kept.specs.Raw.{OnlyAdds};
-ghost use Rattle.lvm_top.specs.Transfer.{FinishGives, TransferGives, Rests, Relights, flight_of};
+ghost use Rattle.lvm_move.specs.Transfer.{FinishGives, TransferGives, Rests, Relights, flight_of};
 
 use lvm_disk::{Reaped, Shelf, Started};
 use lvm_num::Pbuf;
@@ -19,12 +20,23 @@ pub enum Moved {
     Failed(Pbuf),
     /// The power was cut, and is off.
     Dark { started: bool },
-    /// The shelf answered a million times that nothing has ended.
+    /// Nothing was heard of it until the patience had run out.
     Stuck,
 }
 
-// After so many answers that nothing has ended a transfer is given up.
-const MOST_WAITS: u32 = 1_000_000;
+/// How many answers that nothing has ended are still borne, over all transfers of a command.
+pub struct Patience {
+    pub left: u32,
+}
+
+impl Patience {
+    /// That of a command at its beginning: a million answers. The number is this project's own.
+    pub fn whole() -> Patience
+        ensures { result.left ≡ 1000000 }
+    {
+        Patience { left: 1_000_000 }
+    }
+}
 
 fn start<S: Shelf>(
     shelf: &mut S,
@@ -46,17 +58,19 @@ fn start<S: Shelf>(
 }
 
 // Ends the one flight that is out.
-fn finish<S: Shelf>(shelf: &mut S) -> Moved
+fn finish<S: Shelf>(shelf: &mut S, patience: &mut Patience) -> Moved
     requires flight { (f : Flight) × ((S.device shelf.old).flights ≡ f ∷ []) }
     requires power { (S.device shelf.old).power ≡ true }
     requires freed { (S.device shelf.old).freed ≡ [] }
-    ensures gives { (f : Flight) → (S.device shelf.old).flights ≡ f ∷ [] → FinishGives (S.device shelf.old) (S.device shelf.new) f result }
+    ensures gives { (f : Flight) → (S.device shelf.old).flights ≡ f ∷ [] → FinishGives patience.old.left (S.device shelf.old) (S.device shelf.new) f result }
+    ensures patience { patience.new.left ≤ patience.old.left }
+    ensures waited { RoseBy (patience.old.left - patience.new.left) (S.device shelf.old).counts.waits (S.device shelf.new).counts.waits }
     ensures rests { Rests (S.device shelf.new) result }
     ensures moments { Path DeviceStep (LeavesNoMore (S.device shelf.old)) (S.device shelf.old) (S.device shelf.new) }
 {
-    for _ in 0..MOST_WAITS {
+    for _ in 0..patience.left {
         match shelf.reap() {
-            Reaped::Empty => {}
+            Reaped::Empty => patience.left -= 1,
             Reaped::Done { ticket: _, buf } => return Moved::Done(buf),
             Reaped::Failed { ticket: _, buf } => return Moved::Failed(buf),
             Reaped::Dark { freed: _ } => return Moved::Dark { started: true },
@@ -83,15 +97,18 @@ pub fn transfer<S: Shelf>(
     first: u64,
     count: u32,
     buf: Pbuf,
+    patience: &mut Patience,
 ) -> Moved
     requires ready { IsReady (S.device shelf.old) }
     requires range { IsRange (S.device shelf.old) disk first count }
-    ensures gives { (ticket : ℕ) × TransferGives (S.device shelf.old) (S.device shelf.new) (flight_of ticket write disk first count buf) result }
+    ensures gives { (ticket : ℕ) × TransferGives patience.old.left (S.device shelf.old) (S.device shelf.new) (flight_of ticket write disk first count buf) result }
     ensures rests { Rests (S.device shelf.new) result }
+    ensures patience { patience.new.left ≤ patience.old.left }
+    ensures waited { RoseBy (patience.old.left - patience.new.left) (S.device shelf.old).counts.waits (S.device shelf.new).counts.waits }
     ensures moments { Path DeviceStep (OnlyAdds (flight_of 0 write disk first count buf) (S.device shelf.old)) (S.device shelf.old) (S.device shelf.new) }
 {
     match start(shelf, write, disk, first, count, buf) {
-        Started::Ticket(_) => finish(shelf),
+        Started::Ticket(_) => finish(shelf, patience),
         Started::Dark(_) => Moved::Dark { started: false },
     }
 }
