@@ -93,11 +93,12 @@ blank_is_kept image blank = record {
     available = λ lv settled. absurd cc;
   };
   lasting = record {
-    common = λ a b id g h f. absurd (finds_nothing image blank a id g f);
-    across = λ a b id g h f. absurd (finds_nothing image blank a id g f);
-    some = λ a b id g h f. absurd (finds_nothing image blank a id g f);
-    size = λ a b id g h f. absurd (finds_nothing image blank a id g f);
-    partitions = λ a b id g h f. absurd (finds_nothing image blank a id g f);
+    common = λ a b id g h r. absurd (finds_nothing image blank r.found.0 id g r.found.1);
+    status = λ b id h k r. absurd (finds_nothing image blank r.found.0 id h r.found.1);
+    across = λ b id h k r. absurd (finds_nothing image blank r.found.0 id h r.found.1);
+    some = λ b id h k r. absurd (finds_nothing image blank r.found.0 id h r.found.1);
+    size = λ id g h is. absurd (finds_nothing image blank is.0 id g is.1);
+    partitions = λ id g h is. absurd (finds_nothing image blank is.0 id g is.1);
     descriptors = λ d e r s is. absurd (not_some (descriptor_on image d) r (no_descriptor image blank d) is);
     statuses = λ d e r s is. absurd (not_some (status_on image d) r (no_status image blank d) is);
   };

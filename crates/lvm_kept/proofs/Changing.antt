@@ -13,11 +13,11 @@ use Rattle.lvm_num.specs.Disks.{Disks}
 use Rattle.lvm_num.specs.Votes.{all_disks}
 use Rattle.lvm_num.specs.Record.{Stamped}
 use Rattle.lvm_num.specs.Note.{Noted}
-use Rattle.lvm_vol.specs.declared.entry.Vol.TheVariants.{Lv}
+use Rattle.lvm_vol.specs.declared.entry.Vol.TheVariants.{Disk, Lv}
 use Rattle.lvm_vol.specs.Facts.{Fact, Cut}
-use Rattle.lvm_vol.specs.May.{Known, known, IsValue}
+use Rattle.lvm_vol.specs.May.{Known, known, May, IsValue}
 use Rattle.lvm_kept.specs.Contents.{Contents}
-use Rattle.lvm_kept.specs.Group.{descriptor_among, is_voter, has_quorum, status_among, Finds, fresh_on, block_at, IsSome, HoldOne}
+use Rattle.lvm_kept.specs.Group.{descriptor_among, is_voter, has_quorum, status_among, Finds, IsFound, members_in, status_by, Reads, fresh_on, block_at, IsSome, HoldOne}
 use Rattle.lvm_kept.specs.Kept.{HasStatus, MayDiffer, IsBlockKept, BlocksKept, RawAgrees, IsAvailable, Kept}
 use Rattle.lvm_kept.specs.Changes.{Unchanged, Excused, BlocksChange, DataChangeKeeps, StayExcused, NoteChangeKeeps}
 
@@ -57,51 +57,56 @@ module _ (old : Contents) (note : ℕ → Option Noted) (block : ℕ → ℕ →
   found_after : (disks : Disks) (id : ℕ) (group : Descriptor) → Finds old disks id group → Finds (with old note block) disks id group
   found_after disks id group f = record { quorum = quorum_same disks id ∙ f.quorum; newest = f.newest; found = group_same disks id ∙ f.found; is = f.is }
 
+  is_found_before : (id : ℕ) (group : Descriptor) → IsFound (with old note block) id group → IsFound old id group
+  is_found_before id group is = (is.0, found_before is.0 id group is.1)
+
+  reads_before : (disks : Disks) (id : ℕ) (group : Descriptor) → Reads (with old note block) disks id group → Reads old disks id group
+  reads_before disks id group reads = record { found = is_found_before id group reads.found; enough = reads.enough }
+
   module _ (facts : List Fact) (kept : Kept old facts)
       (copies : (disks : Disks) (id : ℕ) (group : Descriptor) → Finds old disks id group → BlocksKept (with old note block) facts group (is_voter old disks id) (status_among old disks id))
-      (across : (a b : Disks) (id : ℕ) (g h : Descriptor) → Finds old a id g → Finds old b id h → BlocksKept (with old note block) facts g (is_voter old all_disks id) (status_among old b id))
+      (across : (b : Disks) (id : ℕ) (h k : Descriptor) → Reads old b id h → IsFound old id k → BlocksKept (with old note block) facts k (members_in old all_disks id k) (status_by old b id h))
       (raw : RawAgrees (with old note block) facts) where
     -- by the same voters and the same status
-    by_same : (group : Descriptor) (a b : Disks) (id : ℕ) → BlocksKept (with old note block) facts group (is_voter old a id) (status_among old b id)
-        → BlocksKept (with old note block) facts group (is_voter (with old note block) a id) (status_among (with old note block) b id)
-    by_same group a b id blocks =
-        subst (λ (s : Option (Stamped Status)). BlocksKept (with old note block) facts group (is_voter (with old note block) a id) s) (sym (status_same b id))
-        (subst (λ (v : Disks). BlocksKept (with old note block) facts group v (status_among old b id)) (sym (voter_same a id)) blocks)
+    by_same : (group : Descriptor) (disks : Disks) (id : ℕ) → BlocksKept (with old note block) facts group (is_voter old disks id) (status_among old disks id)
+        → BlocksKept (with old note block) facts group (is_voter (with old note block) disks id) (status_among (with old note block) disks id)
+    by_same group disks id blocks =
+        subst (λ (s : Option (Stamped Status)). BlocksKept (with old note block) facts group (is_voter (with old note block) disks id) s) (sym (status_same disks id))
+        (subst (λ (v : Disks). BlocksKept (with old note block) facts group v (status_among old disks id)) (sym (voter_same disks id)) blocks)
 
-    some_same : (row : LvRow) (lp : ℕ) (a b : Disks) (id : ℕ) → IsSome (fresh_on (is_voter old a id) (status_among old b id) row lp)
-        → IsSome (fresh_on (is_voter (with old note block) a id) (status_among (with old note block) b id) row lp)
-    some_same row lp a b id some =
-        subst (λ (s : Option (Stamped Status)). IsSome (fresh_on (is_voter (with old note block) a id) s row lp)) (sym (status_same b id))
-        (subst (λ (v : Disks). IsSome (fresh_on v (status_among old b id) row lp)) (sym (voter_same a id)) some)
+    some_same : (row : LvRow) (lp : ℕ) (disks : Disks) (id : ℕ) → IsSome (fresh_on (is_voter old disks id) (status_among old disks id) row lp)
+        → IsSome (fresh_on (is_voter (with old note block) disks id) (status_among (with old note block) disks id) row lp)
+    some_same row lp disks id some =
+        subst (λ (s : Option (Stamped Status)). IsSome (fresh_on (is_voter (with old note block) disks id) s row lp)) (sym (status_same disks id))
+        (subst (λ (v : Disks). IsSome (fresh_on v (status_among old disks id) row lp)) (sym (voter_same disks id)) some)
 
     still_available : IsAvailable old facts → IsAvailable (with old note block) facts
     still_available a = record {
       id = a.id;
       group = a.group;
       found = found_after all_disks a.id a.group a.found;
-      copies = λ lv lp row settled is inside. some_same row lp all_disks all_disks a.id (a.copies lv lp row settled is inside);
+      copies = λ lv lp row settled is inside. some_same row lp all_disks a.id (a.copies lv lp row settled is inside);
     }
 
     pub still_kept : Kept (with old note block) facts
     still_kept = record {
       agrees = record {
-        volumes = λ disks id group f. kept.agrees.volumes disks id group (found_before disks id group f);
-        status = λ disks id group f. subst (HasStatus group.lvs) (sym (status_same disks id)) (kept.agrees.status disks id group (found_before disks id group f));
-        copies = λ disks id group f. by_same group disks disks id (copies disks id group (found_before disks id group f));
-        raw = raw;
-        available = λ lv settled. still_available (kept.agrees.available lv settled);
-      };
+          volumes = λ disks id group f. kept.agrees.volumes disks id group (found_before disks id group f);
+          status = λ disks id group f. subst (HasStatus group.lvs) (sym (status_same disks id)) (kept.agrees.status disks id group (found_before disks id group f));
+          copies = λ disks id group f. by_same group disks id (copies disks id group (found_before disks id group f));
+          raw = raw;
+          available = λ lv settled. still_available (kept.agrees.available lv settled);
+        };
       lasting = record {
-        common = λ a b id g h f k.
-            let both = kept.lasting.common a b id g h (found_before a id g f) (found_before b id h k) in
-            (both.0, subst (λ (v : Disks). IsTrue (v both.0)) (sym (voter_same a id)) both.1, subst (λ (v : Disks). IsTrue (v both.0)) (sym (voter_same b id)) both.2);
-        across = λ a b id g h f k. by_same g all_disks b id (across a b id g h (found_before a id g f) (found_before b id h k));
-        some = λ a b id g h f k row lp is inside. some_same row lp all_disks b id (kept.lasting.some a b id g h (found_before a id g f) (found_before b id h k) row lp is inside);
-        size = λ a b id g h f k. kept.lasting.size a b id g h (found_before a id g f) (found_before b id h k);
-        partitions = λ a b id g h f k. kept.lasting.partitions a b id g h (found_before a id g f) (found_before b id h k);
-        descriptors = kept.lasting.descriptors;
-        statuses = kept.lasting.statuses;
-      };
+          common = λ a b id g h r s. kept.lasting.common a b id g h (reads_before a id g r) (reads_before b id h s);
+          status = λ b id h k r is. kept.lasting.status b id h k (reads_before b id h r) (is_found_before id k is);
+          across = λ b id h k r is. across b id h k (reads_before b id h r) (is_found_before id k is);
+          some = λ b id h k r is. kept.lasting.some b id h k (reads_before b id h r) (is_found_before id k is);
+          size = λ id g h is also. kept.lasting.size id g h (is_found_before id g is) (is_found_before id h also);
+          partitions = λ id g h is also. kept.lasting.partitions id g h (is_found_before id g is) (is_found_before id h also);
+          descriptors = kept.lasting.descriptors;
+          statuses = kept.lasting.statuses;
+        };
     }
 
 -- ---- data
@@ -138,10 +143,13 @@ data_keeps old new facts change kept =
     (λ disks id group f row lp b is inside.
     block_kept old new.block group.mib (status_among old disks id) row (fresh_on (is_voter old disks id) (status_among old disks id) row lp) (known (facts ++ Cut ∷ []) (Lv row.number) b) b
     (changed group (is_voter old disks id) (status_among old disks id) (change.copies disks id group f) row lp b is inside) (kept.agrees.copies disks id group f row lp b is inside))
-    (λ a b id g h f k row lp n is inside.
-    block_kept old new.block g.mib (status_among old b id) row (fresh_on (is_voter old all_disks id) (status_among old b id) row lp) (known (facts ++ Cut ∷ []) (Lv row.number) n) n
-    (changed g (is_voter old all_disks id) (status_among old b id) (change.across a b id g h f k) row lp n is inside) (kept.lasting.across a b id g h f k row lp n is inside))
-    change.raw)
+    (λ b id h k r found row lp n is inside.
+    block_kept old new.block k.mib (status_by old b id h) row (fresh_on (members_in old all_disks id k) (status_by old b id h) row lp) (known (facts ++ Cut ∷ []) (Lv row.number) n) n
+    (changed k (members_in old all_disks id k) (status_by old b id h) (change.across b id h k r found) row lp n is inside) (kept.lasting.across b id h k r found row lp n is inside))
+    (λ d b there none low high. ⊎_elim
+    (λ same. subst (λ (x : Sector). May (known (facts ++ Cut ∷ []) (Disk d) b) x) (sym same) (kept.agrees.raw d b there none low high))
+    (λ may. may)
+    (change.raw d b there none low high)))
 
 -- ---- notes
 
@@ -161,7 +169,7 @@ notes_keep old new facts change kept =
     (λ disks id group f row lp b is inside.
     still_excused old new.note group.mib (status_among old disks id) row (fresh_on (is_voter old disks id) (status_among old disks id) row lp) (known (facts ++ Cut ∷ []) (Lv row.number) b) b
     (excused group (is_voter old disks id) (status_among old disks id) (change.copies disks id group f) row lp b is inside) (kept.agrees.copies disks id group f row lp b is inside))
-    (λ a b id g h f k row lp n is inside.
-    still_excused old new.note g.mib (status_among old b id) row (fresh_on (is_voter old all_disks id) (status_among old b id) row lp) (known (facts ++ Cut ∷ []) (Lv row.number) n) n
-    (excused g (is_voter old all_disks id) (status_among old b id) (change.across a b id g h f k) row lp n is inside) (kept.lasting.across a b id g h f k row lp n is inside))
+    (λ b id h k r found row lp n is inside.
+    still_excused old new.note k.mib (status_by old b id h) row (fresh_on (members_in old all_disks id k) (status_by old b id h) row lp) (known (facts ++ Cut ∷ []) (Lv row.number) n) n
+    (excused k (members_in old all_disks id k) (status_by old b id h) (change.across b id h k r found) row lp n is inside) (kept.lasting.across b id h k r found row lp n is inside))
     kept.agrees.raw)

@@ -19,8 +19,8 @@ use Rattle.lvm_num.proofs.Newest.{is_one, is_last}
 use Rattle.lvm_rec.specs.Slots.{newest_on}
 use Rattle.lvm_disk.specs.Device.{Image}
 use Rattle.lvm_kept.specs.Contents.{has_records, newest_at, descriptor_on, status_on, Contents}
-use Rattle.lvm_kept.specs.Group.{if_passes, passes, is_of, is_status_of, has_room, descriptor_among, is_voter, has_quorum, status_among, Finds}
-use Rattle.lvm_kept.specs.Committed.{SameVotes, Stands, ImagesAreWithin, QuorumFindsStatus, QuorumFindsDescriptor, QuorumsShareVoter, NextIsWritten, NextIsCommitted}
+use Rattle.lvm_kept.specs.Group.{if_passes, passes, is_of, is_status_of, has_room, descriptor_among, is_voter, has_quorum, status_among, Finds, members_in, FindingReads}
+use Rattle.lvm_kept.specs.Committed.{SameVotes, Stands, ImagesAreWithin, QuorumMeetsWriters, QuorumsMeet, QuorumFindsStatus, QuorumFindsDescriptor, NextIsWritten, NextIsCommitted}
 
 -- ---- records behind tests
 
@@ -72,20 +72,18 @@ no-later a b h k = absurd cc
 
 -- ---- a record that stands
 
--- The newest among disks of which some can read is one of the two.
+-- The newest among disks of which one is in the set is one of the two.
 pub newest_among :
-    (X : Type 0) (of : X → Bool) (on : ℕ → Option (Stamped X)) (group : Descriptor) (voters looked set : Disks) (n : ℕ) (now next : Stamped X)
-    → Stands of on group set now next → ((d : ℕ) → IsTrue (voters d) → IsTrue (looked d)) → CanRead group voters → ((d : ℕ) (r : Stamped X) → on d ≡ Some r → d < n)
+    (X : Type 0) (of : X → Bool) (on : ℕ → Option (Stamped X)) (looked set : Disks) (n : ℕ) (now next : Stamped X)
+    → Stands of on set now next → (d : ℕ) → IsTrue (looked d) → IsTrue (set d) → ((d : ℕ) (r : Stamped X) → on d ≡ Some r → d < n)
     → (newest_below (offered of on looked) n ≡ Some now) ⊎ (newest_below (offered of on looked) n ≡ Some next)
-newest_among X of on group voters looked set n now next stands more read within =
-    let both = read_meets_write group voters set read stands.votes in
-    ⊎_elim
-    (λ (is : on both.0 ≡ Some now). by_one now both.0 (more both.0 both.2) is stands.own (λ r low. low))
-    (λ (is : on both.0 ≡ Some next). by_one next both.0 (more both.0 both.2) is stands.next_own (λ r low. ⊎_elim
+newest_among X of on looked set n now next stands d looks in_set within = ⊎_elim
+    (λ (is : on d ≡ Some now). by_one now d looks is stands.own (λ r low. low))
+    (λ (is : on d ≡ Some next). by_one next d looks is stands.next_own (λ r low. ⊎_elim
     (λ (e : next ≡ now). ap (λ (x : Stamped X). stamp_lt r x.stamp) e ∙ low)
     (λ (e : stamp_lt now.stamp next.stamp ≡ true). earlier-still r now.stamp next.stamp low e)
     stands.later))
-    (stands.have both.0 both.3)
+    (stands.have d in_set)
   where
     one_of : (one : Stamped X) → ((r : Stamp) → stamp_lt r now.stamp ≡ true → stamp_lt r one.stamp ≡ true) → (r : Stamped X) → newest_below (offered of on looked) n ≡ Some r → stamp_lt r.stamp one.stamp ≡ false
         → (stamp_lt r.stamp now.stamp ≡ true) ⊎ (r ≡ now) ⊎ (r ≡ next) → (newest_below (offered of on looked) n ≡ Some now) ⊎ (newest_below (offered of on looked) n ≡ Some next)
@@ -103,12 +101,11 @@ newest_among X of on group voters looked set n now next stands more read within 
         one_of one before last.0 last.1 last.2 (stands.newest first.0 last.0 from.0 from.1)
 
 pub next_is_written : (X : Type 0) → NextIsWritten X
-next_is_written X of old new group set targets now next stands change own later = record {
+next_is_written X of old new set targets now next stands change own later = record {
   own = stands.own;
   next_own = own;
   later = inr later;
   have = λ d i. ⊎_elim (λ same. inl (same ∙ ⊎_elim (λ h. h) (λ h. h) (stands.have d i))) (λ is. inr is.1) (change d);
-  votes = stands.votes;
   newest = λ d r is its. ⊎_elim
       (λ same. ⊎_elim (λ low. inl low) (λ h. inr (inl (⊎_elim (λ e. e) (λ e. e) h))) (stands.newest d r (sym same ∙ is) its))
       (λ (e : IsTrue (targets d) × (new d ≡ Some next)). inr (inr (some_same r next (sym is ∙ e.1))))
@@ -116,12 +113,11 @@ next_is_written X of old new group set targets now next stands change own later 
 }
 
 pub next_is_committed : (X : Type 0) → NextIsCommitted X
-next_is_committed X of on group set reached now next stands later all votes = record {
+next_is_committed X of on set reached now next stands later all = record {
   own = stands.next_own;
   next_own = stands.next_own;
   later = inl refl;
   have = λ d i. inl (all d i);
-  votes = votes;
   newest = λ d r is its. ⊎_elim
       (λ low. inl (earlier-still r.stamp now.stamp next.stamp low later))
       (⊎_elim (λ (e : r ≡ now). inl (ap (λ (x : Stamped X). stamp_lt x.stamp next.stamp) e ∙ later)) (λ e. inr (inl e)))
@@ -158,25 +154,44 @@ voter_in c disks id d v = first_passed (disks d) (passes (is_of id) (c.descripto
 
 pub finds_status : QuorumFindsStatus
 unfolding status_among
-finds_status c group set now next within stands disks g f same =
-    newest_among Status (is_status_of group.id) c.status group (is_voter c disks group.id) (is_voter c disks group.id) set c.disks now next stands (λ d v. v) (can_read_by c disks group.id g group f same) within.statuses
+finds_status c id set now next within stands disks g f meets =
+    newest_among Status (is_status_of id) c.status (is_voter c disks id) set c.disks now next stands meets.0 meets.1 meets.2 within.statuses
 
 pub finds_descriptor : QuorumFindsDescriptor
 unfolding descriptor_among
-finds_descriptor c id set now next within stands all disks g f =
-    let one = is_one Descriptor (offered (is_of id) c.descriptor disks) c.disks f.newest f.found in
-    let from = is_offered (is_of id) c.descriptor disks one.0 f.newest one.2 in
-    let same : SameVotes g now.value = subst (λ (h : Descriptor). SameVotes h now.value) f.is (all one.0 f.newest from.0 from.1) in
-    ⊎_elim
+finds_descriptor c id set now next within stands disks g f meets = ⊎_elim
     (λ e. inl (sym f.is ∙ ap (λ (r : Stamped Descriptor). r.value) (some_same f.newest now (sym f.found ∙ e))))
     (λ e. inr (sym f.is ∙ ap (λ (r : Stamped Descriptor). r.value) (some_same f.newest next (sym f.found ∙ e))))
-    (newest_among Descriptor (is_of id) c.descriptor now.value (is_voter c disks id) disks set c.disks now next stands (voter_in c disks id) (can_read_by c disks id g now.value f same) within.descriptors)
+    (newest_among Descriptor (is_of id) c.descriptor disks set c.disks now next stands meets.0 (voter_in c disks id meets.0 meets.1) meets.2 within.descriptors)
 
-pub share_voter : QuorumsShareVoter
-share_voter c a b id g h f k same some =
+pub meets_writers : QuorumMeetsWriters
+meets_writers c disks id g group set f same votes =
+    let both = read_meets_write group (is_voter c disks id) set (can_read_by c disks id g group f same) votes in
+    (both.0, both.2, both.3)
+
+pub quorums_meet : QuorumsMeet
+quorums_meet c a b id g h f k same some =
     let back : SameVotes h g = record { members = sym same.members; even = sym same.even; quorum = sym same.quorum } in
     let both = read_meets_read g (is_voter c a id) (is_voter c b id) some (can_read c a id g f) (can_read_by c b id h g k back) in
     (both.0, both.2, both.3)
+
+-- by the descriptor that a quorum finds its voters are the members
+voters_are : (c : Contents) (disks : Disks) (id : ℕ) (g : Descriptor) → Finds c disks id g → (d : ℕ) → is_voter c disks id d ≡ members_in c disks id g d
+unfolding is_voter
+voters_are c disks id g f d =
+    ap (λ (o : Option (Stamped Descriptor)). disks d && passes (is_of id) (c.descriptor d) && passes (has_room c d) o) f.found
+    ∙ ap (λ (h : Descriptor). disks d && passes (is_of id) (c.descriptor d) && has_room c d h) f.is
+
+pub finding_reads : FindingReads
+unfolding status_among
+finding_reads c disks id g f =
+    let each : (d : ℕ) → is_voter c disks id d ≡ members_in c disks id g d = voters_are c disks id g f in
+    let voters : is_voter c disks id ≡ members_in c disks id g = λ t d. each d t in
+    record {
+      reads = record { found = (disks, f); enough = subst (λ (v : Disks). CanRead g v) voters (can_read c disks id g f) };
+      voters = voters;
+      status = λ t. newest_below (λ d. if each d t then if_passes (is_status_of id) (c.status d) else None) c.disks;
+    }
 
 -- ---- images
 

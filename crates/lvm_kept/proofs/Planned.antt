@@ -31,13 +31,13 @@ further P old mid new by same each = record {
 no_flight : (flights : List Flight) → flights ≡ [] → (d s : ℕ) (value : Sector) → IsInFlight flights d s value → ⊥
 no_flight flights none d s value is = subst (λ (l : List Flight). IsInFlight l d s value) none is
 
--- where no flight is out, a plan begins from what stands on the media
-pub plan_begins : (P : Plan) (device : Device) (media : Media) → device.media ≡ Some media → device.flights ≡ [] → IsUnderWay P (image_of device.sizes media) device
-plan_begins P device media told none = record {
+-- a plan begins from what stands on the media, where what is in flight is of it
+pub plan_begins : (P : Plan) (device : Device) (media : Media) → device.media ≡ Some media → ((d s : ℕ) (value : Sector) → IsInFlight device.flights d s value → P d s value) → IsUnderWay P (image_of device.sizes media) device
+plan_begins P device media told planned = record {
   images = λ image may.
       let crash : IsCrashImage (image_of device.sizes media) device.flights image = subst (λ (o : Option Media). IsSomeAnd o (λ m. IsCrashImage (image_of device.sizes m) device.flights image)) told may in
-      record { same = crash.same; each = λ d s. ⊎_elim (λ same. inl same) (λ is. absurd (no_flight device.flights none d s (image.sector d s) is)) (crash.each d s) };
-  flights = λ d s value is. absurd (no_flight device.flights none d s value is);
+      record { same = crash.same; each = λ d s. ⊎_elim (λ same. inl same) (λ is. inr (planned d s (image.sector d s) is)) (crash.each d s) };
+  flights = planned;
 }
 
 -- a flight of those that stay out was out

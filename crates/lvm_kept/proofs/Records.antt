@@ -19,7 +19,7 @@ use Rattle.lvm_rec.proofs.SlotLaws.{slots-apart, newest_stays_or_is_new, whole_i
 use Rattle.lvm_disk.specs.Device.{Image}
 use Rattle.lvm_kept.specs.Contents.{newest_at, descriptor_on, status_on, note_on, note_sector, data_at}
 use Rattle.lvm_kept.specs.Plans.{ChangesBy}
-use Rattle.lvm_kept.specs.Torn.{RecordWrite, on_disk, IsOfRecord, IsOtherOrRecord, StandsOn, MayWriteAll, written, NewestIsOldOrNew, WholeIsNew, DescriptorWriteShows, StatusWriteShows, EarlierStaysBefore}
+use Rattle.lvm_kept.specs.Torn.{NewestStays, RecordWrite, on_disk, IsOfRecord, IsOtherOrRecord, StandsOn, MayWriteAll, written, NewestIsOldOrNew, WholeIsNew, DescriptorWriteShows, StatusWriteShows, EarlierStaysBefore}
 use Rattle.lvm_kept.proofs.Contained.{room-same, newest-same, at-same, note-same, data-same}
 
 -- ---- places
@@ -140,6 +140,12 @@ whole_is_new X content_of w x old new d may by t stands = whole w old new by d X
 
 pub earlier_stays : EarlierStaysBefore
 earlier_stays w stamp old new frames slots by lt d before slot two = stays_before w old new by d stamp frames lt slot two (before slot two)
+
+pub newest_stays : (X : Type 0) → NewestStays X
+newest_stays X content_of kind old new d by = at-same content_of kind old new d by.same (newest-same content_of kind (old.sector d) (new.sector d) (λ slot s two low high. ⊎_elim
+    (λ same. same)
+    (λ (out : (s < slot_start kind 0) ⊎ (slot_start kind 1 + slot_size kind ≤ s)). absurd (not-below (slot_start kind 0) (slot_start kind 1 + slot_size kind) s (inside-slot kind slot s two low high) out))
+    (by.each d s)))
 
 -- ---- a write of a record alone
 

@@ -14,11 +14,19 @@ use Rattle.lvm_vol.specs.declared.entry.Vol.TheVariants.{Lv}
 use Rattle.lvm_vol.specs.Facts.{Fact, Cut}
 use Rattle.lvm_vol.specs.May.{Known, known}
 use Rattle.lvm_kept.specs.Contents.{Contents}
-use Rattle.lvm_kept.specs.Group.{descriptor_among, is_voter, has_quorum, status_among, Finds, fresh_on, IsOneOf, IsSome}
-use Rattle.lvm_kept.specs.Kept.{HasStatus, MayDiffer, BlocksKept, IsAvailable, Kept}
-use Rattle.lvm_kept.specs.Changes.{Serves, StatusChangeKeeps}
-use Rattle.lvm_kept.proofs.Finding.{some_same}
+use Rattle.lvm_kept.specs.Group.{descriptor_among, is_voter, has_quorum, status_among, Finds, IsFound, members_in, status_by, Reads, ReadsBy, fresh_on, IsOneOf, IsSome}
+use Rattle.lvm_kept.specs.Kept.{HasStatus, MayDiffer, BlocksKept, IsSettledIn, IsAvailable, Kept}
+use Rattle.lvm_kept.specs.Changes.{Serves, HasNoVolume, StatusChangeKeeps}
+use Rattle.lvm_kept.proofs.Finding.{some_same, finding_reads}
 use Rattle.lvm_kept.proofs.Entries.{volume_is_row}
+
+no_row : (rows : List LvRow) (row : LvRow) → rows ≡ [] → IsOneOf rows row → ⊥
+no_row [] row empty is = is
+no_row (r ∷ rows) row empty is = cc
+
+no_need : (rows : List LvRow) (s : Option (Stamped Status)) → rows ≡ [] → HasStatus rows s
+no_need [] s empty = tt
+no_need (r ∷ rows) s empty = absurd cc
 
 module _ (old : Contents) (status : ℕ → Option (Stamped Status)) where
   abbrev new : Contents
@@ -56,52 +64,79 @@ module _ (old : Contents) (status : ℕ → Option (Stamped Status)) where
         equal = ⊎_elim (λ one. inl one) (λ m. inr (differ s row.number row.mode (fresh_on disks s row lp) (known (facts ++ Cut ∷ []) (Lv row.number) b) b m)) kept.equal;
       }
 
+  is_found_before : (id : ℕ) (group : Descriptor) → IsFound new id group → IsFound old id group
+  is_found_before id group is = (is.0, found_before is.0 id group is.1)
+
+  reads_before : (disks : Disks) (id : ℕ) (group : Descriptor) → Reads new disks id group → Reads old disks id group
+  reads_before disks id group reads = record { found = is_found_before id group reads.found; enough = reads.enough }
+
   module _ (facts : List Fact) (next : Stamped Status) (kept : Kept old facts)
       (own : (d : ℕ) → (status d ≡ old.status d) ⊎ (status d ≡ Some next))
       (stamp : (d : ℕ) (r : Stamped Status) → old.status d ≡ Some r → r.value.id ≡ next.value.id → r.stamp ≡ next.stamp → r ≡ next)
-      (found : (disks : Disks) (id : ℕ) (group : Descriptor) → Finds old disks id group
-      → (status_among new disks id ≡ status_among old disks id) ⊎ ((status_among new disks id ≡ Some next) × Serves old facts id next)) where
-    -- by the status that is found now, and the same voters
-    blocks_by : (group : Descriptor) (disks a : Disks) (id : ℕ) (s : Option (Stamped Status)) → status_among new a id ≡ s → BlocksKept old facts group (is_voter old disks id) s
-        → BlocksKept new facts group (is_voter new disks id) (status_among new a id)
-    blocks_by group disks a id s is blocks =
-        subst (λ (x : Option (Stamped Status)). BlocksKept new facts group (is_voter new disks id) x) (sym is)
-        (subst (λ (v : Disks). BlocksKept new facts group v s) (sym (voter_same disks id)) (same_blocks facts group (is_voter old disks id) s blocks))
-
-    some_by : (row : LvRow) (lp : ℕ) (a : Disks) (id : ℕ) (s : Option (Stamped Status)) → status_among new a id ≡ s → IsSome (fresh_on (is_voter old all_disks id) s row lp)
-        → IsSome (fresh_on (is_voter new all_disks id) (status_among new a id) row lp)
-    some_by row lp a id s is some =
-        subst (λ (x : Option (Stamped Status)). IsSome (fresh_on (is_voter new all_disks id) x row lp)) (sym is)
-        (subst (λ (v : Disks). IsSome (fresh_on v s row lp)) (sym (voter_same all_disks id)) some)
-
-    copies : (disks : Disks) (id : ℕ) (group : Descriptor) → Finds old disks id group → BlocksKept new facts group (is_voter new disks id) (status_among new disks id)
-    copies disks id group f = ⊎_elim
-        (λ same. blocks_by group disks disks id (status_among old disks id) same (kept.agrees.copies disks id group f))
-        (λ is. blocks_by group disks disks id (Some next) is.0 (is.1.copies disks group f))
-        (found disks id group f)
-
-    across : (a b : Disks) (id : ℕ) (g h : Descriptor) → Finds old a id g → Finds old b id h → BlocksKept new facts g (is_voter new all_disks id) (status_among new b id)
-    across a b id g h f k = ⊎_elim
-        (λ same. blocks_by g all_disks b id (status_among old b id) same (kept.lasting.across a b id g h f k))
-        (λ is. blocks_by g all_disks b id (Some next) is.0 (is.1.across a g f))
-        (found b id h k)
-
-    some : (a b : Disks) (id : ℕ) (g h : Descriptor) → Finds old a id g → Finds old b id h → (row : LvRow) (lp : ℕ) → IsOneOf g.lvs row → lp < row.lps
-        → IsSome (fresh_on (is_voter new all_disks id) (status_among new b id) row lp)
-    some a b id g h f k row lp is_row inside = ⊎_elim
-        (λ same. some_by row lp b id (status_among old b id) same (kept.lasting.some a b id g h f k row lp is_row inside))
-        (λ is. some_by row lp b id (Some next) is.0 (is.1.some a g f row lp is_row inside))
-        (found b id h k)
+      (found : (b : Disks) (id : ℕ) (h : Descriptor) → Reads old b id h
+      → (status_by new b id h ≡ status_by old b id h) ⊎ ((status_by new b id h ≡ Some next) × Serves old facts id next) ⊎ HasNoVolume old id) where
+    -- what holds by the old status and by the next, and of a group without a volume, holds by the one that is found now
+    by_status : (P : Option (Stamped Status) → Type 0) (b : Disks) (id : ℕ) (h : Descriptor) → Reads old b id h
+        → P (status_by old b id h) → (Serves old facts id next → P (Some next)) → (HasNoVolume old id → (s : Option (Stamped Status)) → P s) → P (status_by new b id h)
+    by_status P b id h reads was serves none = ⊎_elim
+        (λ same. subst P (sym same) was)
+        (⊎_elim (λ is. subst P (sym is.0) (serves is.1)) (λ empty. none empty (status_by new b id h)))
+        (found b id h reads)
 
     has_status : (rows : List LvRow) → HasStatus rows (Some next)
     has_status [] = tt
     has_status (row ∷ rows) = refl
 
-    there : (disks : Disks) (id : ℕ) (group : Descriptor) → Finds old disks id group → HasStatus group.lvs (status_among new disks id)
-    there disks id group f = ⊎_elim
-        (λ same. subst (HasStatus group.lvs) (sym same) (kept.agrees.status disks id group f))
-        (λ is. subst (HasStatus group.lvs) (sym is.0) (has_status group.lvs))
-        (found disks id group f)
+    status_there : (b : Disks) (id : ℕ) (h k : Descriptor) → Reads old b id h → IsFound old id k → HasStatus k.lvs (status_by new b id h)
+    status_there b id h k reads is = by_status (HasStatus k.lvs) b id h reads (kept.lasting.status b id h k reads is) (λ serves. has_status k.lvs) (λ empty s. no_need k.lvs s (empty k is))
+
+    across : (b : Disks) (id : ℕ) (h k : Descriptor) → Reads old b id h → IsFound old id k → BlocksKept new facts k (members_in new all_disks id k) (status_by new b id h)
+    across b id h k reads is = same_blocks facts k (members_in old all_disks id k) (status_by new b id h) (by_status (λ s. BlocksKept old facts k (members_in old all_disks id k) s) b id h reads
+        (kept.lasting.across b id h k reads is) (λ serves. serves.across k is) (λ empty s row lp n one. absurd (no_row k.lvs row (empty k is) one)))
+
+    some : (b : Disks) (id : ℕ) (h k : Descriptor) → Reads old b id h → IsFound old id k → (row : LvRow) (lp : ℕ) → IsOneOf k.lvs row → lp < row.lps
+        → IsSome (fresh_on (members_in new all_disks id k) (status_by new b id h) row lp)
+    some b id h k reads is row lp one inside = by_status (λ s. IsSome (fresh_on (members_in old all_disks id k) s row lp)) b id h reads
+        (kept.lasting.some b id h k reads is row lp one inside) (λ serves. serves.some k is row lp one inside) (λ empty s. absurd (no_row k.lvs row (empty k is) one))
+
+    -- a finding set, by its own voters and its own status
+    module _ (disks : Disks) (id : ℕ) (group : Descriptor) (f : Finds new disks id group) where
+      was : Finds old disks id group
+      was = found_before disks id group f
+
+      reads : ReadsBy new disks id group
+      reads = finding_reads new disks id group f
+
+      reads_was : ReadsBy old disks id group
+      reads_was = finding_reads old disks id group was
+
+      -- P holds of the status that the set finds
+      finding : (P : Option (Stamped Status) → Type 0) → P (status_among old disks id) → (Serves old facts id next → P (Some next)) → (HasNoVolume old id → (s : Option (Stamped Status)) → P s) → P (status_among new disks id)
+      finding P old_is serves none = subst P (sym reads.status) (by_status P disks id group reads_was.reads (subst P reads_was.status old_is) serves none)
+
+      copies : BlocksKept new facts group (is_voter new disks id) (status_among new disks id)
+      copies = subst (λ (v : Disks). BlocksKept new facts group v (status_among new disks id)) (sym (voter_same disks id))
+          (same_blocks facts group (is_voter old disks id) (status_among new disks id) (finding (λ s. BlocksKept old facts group (is_voter old disks id) s)
+          (kept.agrees.copies disks id group was) (λ serves. serves.copies disks group was) (λ empty s row lp n one. absurd (no_row group.lvs row (empty group (disks, was)) one))))
+
+      there : HasStatus group.lvs (status_among new disks id)
+      there = finding (HasStatus group.lvs) (kept.agrees.status disks id group was) (λ serves. has_status group.lvs) (λ empty s. no_need group.lvs s (empty group (disks, was)))
+
+    available : (lv : ℕ) → IsSettledIn facts lv → IsAvailable new facts
+    available lv settled =
+        let a : IsAvailable old facts = kept.agrees.available lv settled in
+        let f : Finds new all_disks a.id a.group = found_after all_disks a.id a.group a.found in
+        let reads_new : ReadsBy new all_disks a.id a.group = finding_reads new all_disks a.id a.group f in
+        let reads_old : ReadsBy old all_disks a.id a.group = finding_reads old all_disks a.id a.group a.found in
+        record {
+          id = a.id;
+          group = a.group;
+          found = f;
+          copies = λ l lp row is_settled is inside.
+              subst (λ (v : Disks). IsSome (fresh_on v (status_among new all_disks a.id) row lp)) (sym reads_new.voters)
+              (subst (λ (s : Option (Stamped Status)). IsSome (fresh_on (members_in new all_disks a.id a.group) s row lp)) (sym reads_new.status)
+              (some all_disks a.id a.group a.group reads_old.reads (all_disks, a.found) row lp (volume_is_row a.group l row is) inside));
+        }
 
     one_of : (d e : ℕ) (r s : Stamped Status) → status d ≡ Some r → status e ≡ Some s → r.value.id ≡ s.value.id → r.stamp ≡ s.stamp → r ≡ s
     one_of d e r s is also ids stamps = ⊎_elim
@@ -120,24 +155,18 @@ module _ (old : Contents) (status : ℕ → Option (Stamped Status)) where
     restated = record {
       agrees = record {
         volumes = λ disks id group f. kept.agrees.volumes disks id group (found_before disks id group f);
-        status = λ disks id group f. there disks id group (found_before disks id group f);
-        copies = λ disks id group f. copies disks id group (found_before disks id group f);
+        status = λ disks id group f. there disks id group f;
+        copies = λ disks id group f. copies disks id group f;
         raw = kept.agrees.raw;
-        available = λ lv settled. let a : IsAvailable old facts = kept.agrees.available lv settled in record {
-          id = a.id;
-          group = a.group;
-          found = found_after all_disks a.id a.group a.found;
-          copies = λ l lp row is_settled is inside. some all_disks all_disks a.id a.group a.group a.found a.found row lp (volume_is_row a.group l row is) inside;
-        };
+        available = available;
       };
       lasting = record {
-        common = λ a b id g h f k.
-            let both = kept.lasting.common a b id g h (found_before a id g f) (found_before b id h k) in
-            (both.0, subst (λ (v : Disks). IsTrue (v both.0)) (sym (voter_same a id)) both.1, subst (λ (v : Disks). IsTrue (v both.0)) (sym (voter_same b id)) both.2);
-        across = λ a b id g h f k. across a b id g h (found_before a id g f) (found_before b id h k);
-        some = λ a b id g h f k. some a b id g h (found_before a id g f) (found_before b id h k);
-        size = λ a b id g h f k. kept.lasting.size a b id g h (found_before a id g f) (found_before b id h k);
-        partitions = λ a b id g h f k. kept.lasting.partitions a b id g h (found_before a id g f) (found_before b id h k);
+        common = λ a b id g h r s. kept.lasting.common a b id g h (reads_before a id g r) (reads_before b id h s);
+        status = λ b id h k r is. status_there b id h k (reads_before b id h r) (is_found_before id k is);
+        across = λ b id h k r is. across b id h k (reads_before b id h r) (is_found_before id k is);
+        some = λ b id h k r is. some b id h k (reads_before b id h r) (is_found_before id k is);
+        size = λ id g h is also. kept.lasting.size id g h (is_found_before id g is) (is_found_before id h also);
+        partitions = λ id g h is also. kept.lasting.partitions id g h (is_found_before id g is) (is_found_before id h also);
         descriptors = kept.lasting.descriptors;
         statuses = one_of;
       };
@@ -145,5 +174,5 @@ module _ (old : Contents) (status : ℕ → Option (Stamped Status)) where
 
 pub statuses_keep : StatusChangeKeeps
 statuses_keep old new facts next change kept =
-    subst (λ (c : Contents). Kept c facts) (sym change.rest) (restated old new.status facts next kept change.own change.stamp (λ disks id group f.
-    subst (λ (c : Contents). (status_among c disks id ≡ status_among old disks id) ⊎ ((status_among c disks id ≡ Some next) × Serves old facts id next)) change.rest (change.found disks id group f)))
+    subst (λ (c : Contents). Kept c facts) (sym change.rest) (restated old new.status facts next kept change.own change.stamp (λ b id h reads.
+    subst (λ (c : Contents). (status_by c b id h ≡ status_by old b id h) ⊎ ((status_by c b id h ≡ Some next) × Serves old facts id next) ⊎ HasNoVolume old id) change.rest (change.found b id h reads)))

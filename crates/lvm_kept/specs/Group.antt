@@ -9,7 +9,7 @@ use Rattle.lvm_num.specs.Buffer.{Sector}
 use Rattle.lvm_num.specs.Disks.{Disks}
 use Rattle.lvm_num.specs.Geometry.{partition_of, sector_of, sectors_needed}
 use Rattle.lvm_num.specs.Descriptor.{copies_of}
-use Rattle.lvm_num.specs.Votes.{all_disks, votes_in, is_enough_to_read}
+use Rattle.lvm_num.specs.Votes.{all_disks, votes_in, is_enough_to_read, CanRead}
 use Rattle.lvm_num.specs.Record.{Stamped, newest_below}
 use Rattle.lvm_num.specs.Status.{calls_stale, calls_dirty}
 use Rattle.lvm_num.specs.Note.{Noted, names}
@@ -57,6 +57,33 @@ pub record Finds (c : Contents) (disks : Disks) (id : ℕ) (group : Descriptor) 
   pub newest : Stamped Descriptor
   pub found : descriptor_among c disks id ≡ Some newest
   pub is : newest.value ≡ group
+
+-- some set of disks holds a quorum of the group and finds this descriptor
+abbrev pub IsFound : Contents → ℕ → Descriptor → Type 0
+IsFound c id group = (disks : Disks) × Finds c disks id group
+
+-- the members by a descriptor, among these disks: those whose own newest descriptor is of the group and which are large enough
+abbrev pub members_in : Contents → Disks → ℕ → Descriptor → Disks
+members_in c disks id g d = disks d && passes (is_of id) (c.descriptor d) && has_room c d g
+
+-- the newest status of the group among them
+abbrev pub status_by : Contents → Disks → ℕ → Descriptor → Option (Stamped Status)
+status_by c disks id g = newest_below (λ d. if members_in c disks id g d then if_passes (is_status_of id) (c.status d) else None) c.disks
+
+-- By a descriptor that is found the members among the disks have votes enough to read. That descriptor need not be the newest among them:
+-- they hold a quorum as soon as it is.
+pub record Reads (c : Contents) (disks : Disks) (id : ℕ) (group : Descriptor) : Type 0 where
+  pub found : IsFound c id group
+  pub enough : CanRead group (members_in c disks id group)
+
+-- A set of disks that holds a quorum is one, by the descriptor that it finds; its voters are the members, and its status is theirs.
+pub record ReadsBy (c : Contents) (disks : Disks) (id : ℕ) (group : Descriptor) : Type 0 where
+  pub reads : Reads c disks id group
+  pub voters : is_voter c disks id ≡ members_in c disks id group
+  pub status : status_among c disks id ≡ status_by c disks id group
+
+abbrev pub FindingReads : Type 0
+FindingReads = (c : Contents) (disks : Disks) (id : ℕ) (group : Descriptor) → Finds c disks id group → ReadsBy c disks id group
 
 -- no disk's descriptor names a volume, or at most one group has a quorum
 abbrev pub IsLone : Contents → Type 0

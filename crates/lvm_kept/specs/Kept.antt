@@ -18,7 +18,7 @@ use Rattle.lvm_vol.specs.Facts.{Fact, Cut}
 use Rattle.lvm_vol.specs.May.{Known, known, May, IsValue}
 use Rattle.lvm_vol.specs.Standing.{Standing, Absent, Open, Settled, Shape, volumes_in}
 use Rattle.lvm_kept.specs.Contents.{Contents}
-use Rattle.lvm_kept.specs.Group.{is_voter, status_among, Finds, is_dirty_by, fresh_on, fresh, block_at, IsBlockOf, is_named, IsOneOf, IsSome, HoldOne}
+use Rattle.lvm_kept.specs.Group.{is_voter, status_among, Finds, IsFound, members_in, status_by, Reads, is_dirty_by, fresh_on, fresh, block_at, IsBlockOf, is_named, IsOneOf, IsSome, HoldOne}
 
 -- ---- volumes
 
@@ -106,17 +106,18 @@ pub record Agrees (c : Contents) (facts : List Fact) : Type 0 where
   -- where a volume is settled, all disks together find the group, and a fresh copy of each logical partition
   pub available : (lv : ℕ) → IsSettledIn facts lv → IsAvailable c facts
 
--- What makes that lasting: what two quorums of a group find goes together.
+-- What any quorums of a group find agrees, and what they would find after a descriptor that is found has been written again.
 pub record Lasting (c : Contents) (facts : List Fact) : Type 0 where
-  -- they have a common voter
-  pub common : (a b : Disks) (id : ℕ) (g h : Descriptor) → Finds c a id g → Finds c b id h → (d : ℕ) × IsTrue (is_voter c a id d) × IsTrue (is_voter c b id d)
-  -- the descriptor of the one with the status of the other is as good, on the voters of all disks
-  pub across : (a b : Disks) (id : ℕ) (g h : Descriptor) → Finds c a id g → Finds c b id h → BlocksKept c facts g (is_voter c all_disks id) (status_among c b id)
-  pub some : (a b : Disks) (id : ℕ) (g h : Descriptor) → Finds c a id g → Finds c b id h → (row : LvRow) (lp : ℕ) → IsOneOf g.lvs row → lp < row.lps
-      → IsSome (fresh_on (is_voter c all_disks id) (status_among c b id) row lp)
+  -- two of them have a common voter
+  pub common : (a b : Disks) (id : ℕ) (g h : Descriptor) → Reads c a id g → Reads c b id h → (d : ℕ) × IsTrue (members_in c a id g d) × IsTrue (members_in c b id h d)
+  -- the descriptor of one with the status of another is as good, on the members among all disks
+  pub status : (b : Disks) (id : ℕ) (h k : Descriptor) → Reads c b id h → IsFound c id k → HasStatus k.lvs (status_by c b id h)
+  pub across : (b : Disks) (id : ℕ) (h k : Descriptor) → Reads c b id h → IsFound c id k → BlocksKept c facts k (members_in c all_disks id k) (status_by c b id h)
+  pub some : (b : Disks) (id : ℕ) (h k : Descriptor) → Reads c b id h → IsFound c id k → (row : LvRow) (lp : ℕ) → IsOneOf k.lvs row → lp < row.lps
+      → IsSome (fresh_on (members_in c all_disks id k) (status_by c b id h) row lp)
   -- their partitions are of one size, and the members that they share have as many of them
-  pub size : (a b : Disks) (id : ℕ) (g h : Descriptor) → Finds c a id g → Finds c b id h → g.mib ≡ h.mib
-  pub partitions : (a b : Disks) (id : ℕ) (g h : Descriptor) → Finds c a id g → Finds c b id h → (d : ℕ) (p q : PvRow) → member_of g d ≡ Some p → member_of h d ≡ Some q → p.pps ≡ q.pps
+  pub size : (id : ℕ) (g h : Descriptor) → IsFound c id g → IsFound c id h → g.mib ≡ h.mib
+  pub partitions : (id : ℕ) (g h : Descriptor) → IsFound c id g → IsFound c id h → (d : ℕ) (p q : PvRow) → member_of g d ≡ Some p → member_of h d ≡ Some q → p.pps ≡ q.pps
   -- records of a group under one stamp are one
   pub descriptors : (d e : ℕ) (r s : Stamped Descriptor) → c.descriptor d ≡ Some r → c.descriptor e ≡ Some s → r.value.id ≡ s.value.id → r.stamp ≡ s.stamp → r ≡ s
   pub statuses : (d e : ℕ) (r s : Stamped Status) → c.status d ≡ Some r → c.status e ≡ Some s → r.value.id ≡ s.value.id → r.stamp ≡ s.stamp → r ≡ s

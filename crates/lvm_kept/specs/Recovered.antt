@@ -111,7 +111,7 @@ pub record Recovered (old : Contents) (wrote : List Range) (new : Contents) (dis
       → MadeEqual old disks id group new (fresh old disks id row lp) b
   -- all other data is as before
   pub others : (d s : ℕ) → data_start ≤ s → (new.block d s ≡ old.block d s) ⊎ IsCopied old disks id group d s
-  -- the descriptor is the same, under another stamp
+  -- the descriptor is the same but for its stamp
   pub descriptor : option_map (λ r. r.value) (descriptor_among new disks id) ≡ Some group
   -- there is a status
   pub status : Stamped Status
@@ -119,7 +119,7 @@ pub record Recovered (old : Contents) (wrote : List Range) (new : Contents) (dis
   -- missing are exactly the members that aren't voters
   pub missing : (d : ℕ) → IsTrue (calls_missing status.value d) ↔ (IsTrue (is_some (member_of group d)) × IsFalse (is_voter old disks id d))
   -- stale are exactly the members' partitions that were, and each copy on a member that isn't a voter whose logical partition has a fresh copy
-  pub stale : (p : Pp) (row : PvRow) → member_of group p.disk ≡ Some row → p.pp < row.pps
+  pub stale : (p : Pp) (row : PvRow) → member_of group p.disk ≡ Some row
       → IsTrue (calls_stale status.value p) ↔ (IsTrue (is_stale_by (status_among old disks id) p) ⊎ IsLeftBehind old disks id group p)
   pub strangers : (p : Pp) → member_of group p.disk ≡ None → IsFalse (calls_stale status.value p)
   -- dirty stay exactly the passive volumes that were and have a logical partition without a fresh copy

@@ -14,7 +14,7 @@ use Rattle.lvm_num.specs.Note.{Noted, note_in}
 use Rattle.lvm_num.specs.Record.{Frames, Stamped, frame, record_sectors, slot_start, slot_size, stamp_lt}
 use Rattle.lvm_num.specs.Torn.{Sectors, AllBefore}
 use Rattle.lvm_rec.specs.Slots.{RecordWrite as SlotWrite, IsOfRecord as IsOfSlot, StandsOn as StandsIn, MayWrite, BothBefore}
-use Rattle.lvm_disk.specs.Device.{Media, Image, Device, image_of, written as flown, MayLeave}
+use Rattle.lvm_disk.specs.Device.{Media, Image, Device, image_of, written as flown, IsInFlight, MayLeave}
 use Rattle.lvm_disk.specs.Steps.{EndsDone}
 use Rattle.lvm_disk.specs.Paths.{DeviceStep}
 use Rattle.lvm_kept.specs.Contents.{has_records, newest_at, note_sector, Contents, contents_of}
@@ -86,13 +86,13 @@ pub record StatusesChange (targets : Disks) (next : Stamped Status) (old new : C
   pub own : (d : ℕ) → (new.status d ≡ old.status d) ⊎ (IsTrue (targets d) × (new.status d ≡ Some next))
   pub rest : new ≡ record old { status = new.status }
 
--- So it is of a write of a descriptor while nothing else is being written,
+-- So it is of a write of a descriptor while nothing else is being written.
 abbrev pub DescriptorWriteShows : Type 0
 DescriptorWriteShows =
     (w : RecordWrite) (group : Descriptor) (old new : Image) → w.kind ≡ kind.Descriptor → MayWriteAll Descriptor descriptor_of w group old → ChangesBy (IsOfRecord w) old new
     → DescriptorsChange w.targets (written w group) (contents_of old) (contents_of new)
 
--- and of a status.
+-- So it is of a write of a status.
 abbrev pub StatusWriteShows : Type 0
 StatusWriteShows =
     (w : RecordWrite) (status : Status) (old new : Image) → w.kind ≡ kind.Status → MayWriteAll Status status_of w status old → ChangesBy (IsOfRecord w) old new
@@ -141,20 +141,33 @@ NoteWriteShows = (targets : Disks) (sector : Sector) (old new : Image) → Chang
 
 -- ---- step by step
 
--- What is being written: one record and nothing else; one record, and anything outside the slots of its kind; or a note.
+-- the sector is outside the slots of the kind
+abbrev pub IsOutside : Kind → Plan
+IsOutside kind d s value = (s < slot_start kind 0) ⊎ (slot_start kind 1 + slot_size kind ≤ s)
+
+-- Then the newest records of the kind are what they were.
+abbrev pub NewestStays : Type 0 → Type 0
+NewestStays X = (content_of : List ℕ → Result X ℕ) (kind : Kind) (old new : Image) (d : ℕ) → ChangesBy (IsOutside kind) old new → newest_at content_of kind new d ≡ newest_at content_of kind old d
+
+-- What is being written: one record and nothing else; one record, and anything outside the slots of its kind; anything outside the slots of
+-- a kind; or a note.
 pub data Writing : Type 0 where
   Alone : RecordWrite → Writing
   AmongOthers : RecordWrite → Writing
+  Outside : Kind → Writing
   Note : Disks → Sector → Writing
 
 abbrev pub brings : Writing → Plan
 brings (Alone w) = IsOfRecord w
 brings (AmongOthers w) = IsOtherOrRecord w
+brings (Outside kind) = IsOutside kind
 brings (Note targets sector) = IsOfNote targets sector
 
--- Where no flight is out it begins, from what stands on the media;
+-- It begins from what stands on the media, where what is in flight is of it already, as where nothing is;
 abbrev pub WritingBegins : Type 0
-WritingBegins = (x : Writing) (device : Device) (media : Media) → device.media ≡ Some media → device.flights ≡ [] → IsUnderWay (brings x) (image_of device.sizes media) device
+WritingBegins =
+    (x : Writing) (device : Device) (media : Media) → device.media ≡ Some media → ((d s : ℕ) (value : Sector) → IsInFlight device.flights d s value → brings x d s value)
+    → IsUnderWay (brings x) (image_of device.sizes media) device
 
 -- each step of the shelf that starts no other flight keeps it;
 abbrev pub StepKeepsWriting : Type 0

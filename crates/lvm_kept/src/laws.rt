@@ -1,10 +1,11 @@
 //! Laws of what disks show, of the changes that keep a history, of requests on raw disks, and of runs.
 ghost use Rattle.lvm_kept.specs.Laws.{WriteDoneLaw, WriteLostLaw, RunsLaw};
 ghost use Rattle.lvm_kept.specs.Places.{DataWritesKeepRecords, RecordWritesKeepData, BlocksAreSectors};
-ghost use Rattle.lvm_kept.specs.Torn.{WritingBegins, StepKeepsWriting, AloneIsAmongOthers, NewestIsOldOrNew, WholeIsNew, DescriptorWriteShows, StatusWriteShows, EndedPartStands, StandingPartStays, NoteWriteShows, EarlierStaysBefore, ZerosAreBefore};
-ghost use Rattle.lvm_kept.specs.Committed.{ImagesAreWithin, QuorumFindsStatus, QuorumFindsDescriptor, QuorumsShareVoter, NextIsWritten, NextIsCommitted};
+ghost use Rattle.lvm_kept.specs.Torn.{NewestStays, WritingBegins, StepKeepsWriting, AloneIsAmongOthers, NewestIsOldOrNew, WholeIsNew, DescriptorWriteShows, StatusWriteShows, EndedPartStands, StandingPartStays, NoteWriteShows, EarlierStaysBefore, ZerosAreBefore};
+ghost use Rattle.lvm_kept.specs.Group.{FindingReads};
+ghost use Rattle.lvm_kept.specs.Committed.{ImagesAreWithin, QuorumMeetsWriters, QuorumsMeet, QuorumFindsStatus, QuorumFindsDescriptor, NextIsWritten, NextIsCommitted};
 ghost use Rattle.lvm_kept.specs.Examples.{FreshThree, SecondAway, StaleCopy, NamedDifference, HalfMade};
-ghost use Rattle.lvm_kept.specs.Changes.{BlankIsKept, DataChangeKeeps, NoteChangeKeeps, StatusChangeKeeps, EntryKeeps, BeginningAllowsMore, BeginningLeavesVolumes, BeginningSettles};
+ghost use Rattle.lvm_kept.specs.Changes.{BlankIsKept, DataChangeKeeps, NoteChangeKeeps, StatusChangeKeeps, EntryKeeps, MoreIsKept, BeginningAllowsMore, BeginningStands};
 
 /// A change of data sectors changes no record of a disk and so nothing that a group shows; a change
 /// of record sectors changes no data; and a block of a volume on a copy is one sector of the data.
@@ -26,6 +27,7 @@ pub fn writing()
 /// the new one newest, which it is exactly where all of it stands.
 pub fn record_writes<X>()
     ensures newest { NewestIsOldOrNew X }
+    ensures stays { NewestStays X }
     ensures whole { WholeIsNew X }
 {}
 
@@ -53,14 +55,15 @@ pub fn stamps_rise()
 /// Each quorum meets the members that hold the committed record: it finds the committed status or descriptor,
 /// or the one that is being written; and two quorums share a voter.
 pub fn quorums_find()
+    ensures reads { FindingReads }
     ensures within { ImagesAreWithin }
+    ensures writers { QuorumMeetsWriters }
+    ensures voters { QuorumsMeet }
     ensures status { QuorumFindsStatus }
     ensures descriptor { QuorumFindsDescriptor }
-    ensures voter { QuorumsShareVoter }
 {}
 
-/// A later record that is being written stands beside the committed one, and is the committed one once disks
-/// with votes enough to write have it.
+/// A later record that is being written stands beside the committed one, and alone on the disks that have it.
 pub fn records_are_committed<X>()
     ensures written { NextIsWritten X }
     ensures committed { NextIsCommitted X }
@@ -88,14 +91,14 @@ pub fn changes_keep()
     ensures statuses { StatusChangeKeeps }
 {}
 
-/// An entry after which no block may have less and the volumes stand as before keeps the history. The beginning
-/// of a request on a disk or on a settled volume is such an entry; on a volume that a power cut left open, which
-/// each quorum finds, it settles the volume and keeps the history too.
+/// An entry keeps the history where the blocks stay kept, as with one after which no block may have less, and each
+/// volume stands as it may. The beginning of a request is such an entry, on a disk, on a settled volume, and on one
+/// that a power cut left open and each quorum finds.
 pub fn entries_keep()
     ensures entry { EntryKeeps }
+    ensures more { MoreIsKept }
     ensures beginning { BeginningAllowsMore }
-    ensures settled { BeginningLeavesVolumes }
-    ensures settles { BeginningSettles }
+    ensures stands { BeginningStands }
 {}
 
 /// A write of a disk that is in no group keeps the history legal and each crash image with it, at each
