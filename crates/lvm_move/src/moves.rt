@@ -25,6 +25,7 @@ pub enum Moved {
 }
 
 /// How many answers that nothing has ended are still borne, over all transfers of a command.
+#[derive(Drop)]
 pub struct Patience {
     pub left: u32,
 }

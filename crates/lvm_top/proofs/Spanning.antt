@@ -51,11 +51,11 @@ module _ (run disk at : ℕ) (buf : Buffer) (old mid new : Device) (facts : List
 
     pub write_keeps : (ticket : ℕ) (how : Moved) → TransferGives 1000000 old mid (flight_of ticket true disk at 1 buf) how → RelightsAfter mid new how → Keeps run (at_moment old facts) (at_moment new (write_ends (facts ++ Begun write ∷ []) write how))
     write_keeps ticket (moved.Done back) gives same =
-        let effect = done_effect old mid (flight_of ticket true disk at 1 buf) back still gives in
+        let effect = done_effect 1000000 old mid (flight_of ticket true disk at 1 buf) back still gives in
         subst (λ (d : Device). Keeps run (at_moment old facts) (at_moment d (write_ends (facts ++ Begun write ∷ []) write (moved.Done back)))) (sym same)
         (write_done run id disk at 1 (block ∷ []) (flight_of 0 true disk at 1 buf) carries old facts refl mid path effect.still effect.puts)
     write_keeps ticket (moved.Failed back) gives same =
-        let effect = failed_effect old mid (flight_of ticket true disk at 1 buf) back still gives in
+        let effect = failed_effect 1000000 old mid (flight_of ticket true disk at 1 buf) back still gives in
         subst (λ (d : Device). Keeps run (at_moment old facts) (at_moment d (write_ends (facts ++ Begun write ∷ []) write (moved.Failed back)))) (sym same)
         (write_lost run id disk at 1 (block ∷ []) (flight_of 0 true disk at 1 buf) carries old facts refl mid path effect.still effect.puts)
     write_keeps ticket (moved.Dark started) gives on = write_dark run id disk at 1 (block ∷ []) (flight_of 0 true disk at 1 buf) carries old facts refl mid new started path lit
@@ -77,7 +77,7 @@ module _ (run disk at : ℕ) (buf : Buffer) (old mid new : Device) (facts : List
         (ticket : ℕ) (how : Moved) → TransferGives 1000000 old mid (flight_of ticket false disk at 1 buf) how → RelightsAfter mid new how → length buf.sectors ≡ 256 → IsRange old disk at 1 → data_start ≤ at
         → Keeps run (at_moment old facts) (at_moment new (read_ends (facts ++ Begun reading ∷ []) reading how))
     read_keeps ticket (moved.Done back) gives same whole range low =
-        let effect = done_effect old mid (flight_of ticket false disk at 1 buf) back still gives in
+        let effect = done_effect 1000000 old mid (flight_of ticket false disk at 1 buf) back still gives in
         let long : 1 ≤ length back.sectors = (let e = effect.rest.long in omega (arith, e, whole)) in
         subst (λ (d : Device). Keeps run (at_moment old facts) (at_moment d (read_ends (facts ++ Begun reading ∷ []) reading (moved.Done back)))) (sym same)
         (read_got run id disk at 1 0 buf old facts refl mid path effect.still effect.puts back (effect.reads refl) long range low)

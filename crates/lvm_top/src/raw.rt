@@ -8,11 +8,11 @@ ghost use Rattle.lvm_vol.specs.Facts.{Landed, Taken, Begun};
 ghost use Rattle.lvm_vol.specs.Log.{next_id, request_of, is_open, is_uncut, awaited, got_without_bytes, spare_entries, spare_bytes};
 ghost use Rattle.lvm_num.specs.Geometry.{data_start};
 ghost use Rattle.lvm_kept.specs.Moments.{Keeps, StaysCalm};
-ghost use Rattle.lvm_kept.specs.Raw.{raw_request};
-ghost use Rattle.lvm_move.specs.Transfer.{Rests, flight_of};
+ghost use Rattle.lvm_kept.specs.Raw.{raw_request, OnlyAdds};
+ghost use Rattle.lvm_move.specs.Transfer.{Rests, TransferGives, flight_of};
 ghost use Rattle.lvm_top.specs.Requests.{cut_ends, write_ends, read_ends, RelightsAfter, ShelfAfter, IsHeard};
 
-use lvm_move::{Moved, Patience, relight, transfer};
+use lvm_move::{Moved, Patience, relight};
 use lvm_disk::Shelf;
 use lvm_num::Pbuf;
 use lvm_vol::{History, Outcome, Vol};
@@ -83,6 +83,25 @@ fn end_read(history: &mut History, id: u64, how: &Moved)
         Moved::Dark { started } => cut_and_take(history, id, *started),
         Moved::Stuck => {}
     }
+}
+
+// The one transfer of a command, which has all its patience.
+fn transfer<S: Shelf>(
+    shelf: &mut S,
+    write: bool,
+    disk: u16,
+    first: u64,
+    count: u32,
+    buf: Pbuf,
+) -> Moved
+    requires ready { IsReady (S.device shelf.old) }
+    requires range { IsRange (S.device shelf.old) disk first count }
+    ensures gives { (ticket : ℕ) × TransferGives 1000000 (S.device shelf.old) (S.device shelf.new) (flight_of ticket write disk first count buf) result }
+    ensures rests { Rests (S.device shelf.new) result }
+    ensures moments { Path DeviceStep (OnlyAdds (flight_of 0 write disk first count buf) (S.device shelf.old)) (S.device shelf.old) (S.device shelf.new) }
+{
+    let mut patience = Patience::whole();
+    lvm_move::transfer(shelf, write, disk, first, count, buf, &mut patience)
 }
 
 // Puts the power on again, where a transfer found it off.
