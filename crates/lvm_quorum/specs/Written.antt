@@ -6,8 +6,8 @@ use Rattle.lvm_num.specs.declared.record.Framed.{Framed}
 use Rattle.lvm_num.specs.Disks.{Disks, has}
 use Rattle.lvm_num.specs.Geometry.{data_start}
 use Rattle.lvm_disk.specs.Counts.{Rose}
-use Rattle.lvm_disk.specs.Device.{Media, Device, image_of}
-use Rattle.lvm_kept.specs.Plans.{IsUnderWay}
+use Rattle.lvm_disk.specs.Device.{Image, Device, image_of, MayLeave}
+use Rattle.lvm_kept.specs.Plans.{ChangesBy}
 use Rattle.lvm_kept.specs.Torn.{RecordWrite, IsOfRecord, StandsOn}
 use Rattle.lvm_quorum.specs.declared.homes.Homes.{Homes}
 
@@ -24,9 +24,9 @@ write_of kind framed targets homes = record { kind = kind; framed = framed; targ
 abbrev pub AreThere : Device → Disks → Type 0
 AreThere device targets = (d : ℕ) → IsTrue (targets d) → (size : ℕ) × (slice_get device.sizes d ≡ Some size) × (data_start ≤ size)
 
--- each crash image is one of the shelf at first, but for sectors of the record in the targets' slots; so it is at each moment of the write
+-- each crash image is the media at first, but for sectors of the record in the targets' slots; so it is at each moment of the write
 abbrev pub IsWriting : RecordWrite → Device → Device → Type 0
-IsWriting w old now = IfSome old.media (λ media. IsUnderWay (IsOfRecord w) (image_of old.sizes media) now)
+IsWriting w old now = IfSome old.media (λ media. (image : Image) → MayLeave now image → ChangesBy (IsOfRecord w) (image_of old.sizes media) image)
 
 -- how the write of each disk ended: on a target that isn't among the failed all of it stands and its faults are as before,
 -- on a failed one the faults rose; another disk is no failed one, and its faults are as before
