@@ -14,7 +14,7 @@ const HEAD: usize = 16;
 
 const ROW: usize = 132;
 
-/// The bytes of a status that is valid.
+/// The bytes of a status that is valid. `Memory` comes where there is none for them.
 pub fn encode(alloc: Global, s: &Status) -> Result<Rows<u8>, Memory>
     requires { IsValidStatus s.now }
     ensures { IfOk result (λ bytes. bytes ≡ status_bytes s.now) }
