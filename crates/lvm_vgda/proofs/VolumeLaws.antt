@@ -1,12 +1,12 @@
 -- The rows of volumes, but for their maps: what is read is spelled so and valid, and what is spelled so is read.
-use Rattle.std.proofs.Common.{◌≡◌, ◌≢◌, ℕ, zero, suc, ◌+◌, ◌*◌, ◌^◌, ◌<◌, ◌≤◌, Bool, true, false, ◌&&◌, List, [], ◌∷◌, ◌++◌, append-nil, append_assoc, length, get_or, replicate, Result, Ok, Err, refl, sym, ap, subst, ◌∙◌, length-append, arith}
-use Rattle.std.specs.Prelude.{◌==◌, not, nat_le, nat_lt, bytes_eq, flat_map, All, AllPairs}
+use Rattle.std.proofs.Common.{◌≡◌, ◌≢◌, inl, inr, ℕ, zero, suc, ◌+◌, ◌*◌, ◌^◌, ◌<◌, ◌≤◌, Bool, true, false, ◌&&◌, List, [], ◌∷◌, ◌++◌, append-nil, append_assoc, length, get_or, replicate, Result, Ok, Err, refl, sym, ap, subst, ◌∙◌, length-append, arith}
+use Rattle.std.specs.Prelude.{◌==◌, not, nat_le, nat_lt, bytes_eq, flat_map, map, All, AllPairs}
 use Rattle.std.specs.List.{list_any, list_all}
 use Rattle.std.specs.Int.{w8, w16, w32, to_be_bytes}
-use Rattle.std.proofs.lemmas.Bool.{false≢true}
+use Rattle.std.proofs.lemmas.Bool.{cases_Bool, false≢true}
 use Rattle.std.proofs.lemmas.Bool.Decides.{nat_tests}
 use Rattle.std.proofs.lemmas.List.Concat.{flat_map-cons}
-use Rattle.std.proofs.lemmas.List.Elements.{All-nil, All-cons, All-weaker}
+use Rattle.std.proofs.lemmas.List.Elements.{All-nil, All-cons, All-tail}
 use Rattle.std.proofs.lemmas.List.Folds.{list_any_none}
 use Rattle.lvm_num.specs.declared.descriptor.LvRow.{LvRow}
 use Rattle.lvm_num.specs.declared.descriptor.Mode.{Mode}
@@ -207,3 +207,102 @@ volumes_take big (suc n) earlier r x fits all e =
       valid = others.valid;
       empty = All-cons (λ (row : LvRow). row ≡ bare row) a.0.0 others.own first.empty others.empty;
     }
+
+front_left : (big : Bool) (earlier : List LvRow) (row : LvRow) (own : List LvRow) → AreVolumes big (earlier ++ row ∷ own) → AreVolumes big (earlier ++ row ∷ [])
+front_left big earlier row own all =
+    let parts : (earlier ++ row ∷ []) ++ own ≡ earlier ++ row ∷ own = append_assoc earlier (row ∷ []) own in
+    let whole : AreVolumes big ((earlier ++ row ∷ []) ++ own) = subst (AreVolumes big) (sym parts) all in
+    record {
+      each = All-left (IsVolume big) (earlier ++ row ∷ []) own whole.each;
+      numbers_rise = AllPairs-left (λ (a b : LvRow). a.number < b.number) (earlier ++ row ∷ []) own whole.numbers_rise;
+      names_differ = AllPairs-left (λ (a b : LvRow). a.name ≢ b.name) (earlier ++ row ∷ []) own whole.names_differ;
+    }
+
+last_is_next : (big : Bool) (earlier : List LvRow) (row : LvRow) → AreVolumes big (earlier ++ row ∷ []) → IsNext earlier row
+last_is_next big earlier row all = record {
+  above = all_from (λ (other : LvRow). nat_lt other.number row.number) earlier
+      (λ k d lt. lt_test (get_or earlier k d).number row.number (AllPairs-last (λ (a b : LvRow). a.number < b.number) earlier row all.numbers_rise k d lt));
+  unnamed = list_any_none (λ (other : LvRow). bytes_eq other.name row.name) earlier
+      (λ k d lt. apart (get_or earlier k d).name row.name (AllPairs-last (λ (a b : LvRow). a.name ≢ b.name) earlier row all.names_differ k d lt));
+}
+  where
+    apart : (xs ys : List ℕ) → xs ≢ ys → bytes_eq xs ys ≡ false
+    apart xs ys differ = elim (cases_Bool (bytes_eq xs ys)) [
+      | inl same ↦ absurd (differ (bytes_same xs ys same))
+      | inr isnt ↦ isnt
+    ]
+
+pub volumes_again : (big : Bool) (lvs earlier : List LvRow) (place : ℕ) (rest : List ℕ) → AreVolumes big (earlier ++ map bare lvs)
+    → volumes_at big (length lvs) earlier (place, flat_map volume_bytes lvs ++ rest) ≡ Ok (earlier ++ map bare lvs, (place + 32 * length lvs, rest))
+unfolding volumes_at
+volumes_again big [] earlier place rest all =
+    let none : place ≡ place + 32 * 0 = omega arith in
+    ap (λ (rows : List LvRow). Ok (rows, (place, rest))) (sym (append-nil earlier)) ∙ ap (λ n. Ok (earlier ++ [], (n, rest))) none
+volumes_again big (row ∷ lvs) earlier place rest all =
+    let front = front_left big earlier (bare row) (map bare lvs) all in
+    let is : IsVolume big (bare row) = (All-right (IsVolume big) earlier (bare row ∷ []) front.each) 0 (bare row) (omega arith) in
+    let next = last_is_next big earlier (bare row) front in
+    let regrouped : flat_map volume_bytes (row ∷ lvs) ++ rest ≡ volume_bytes row ++ (flat_map volume_bytes lvs ++ rest) =
+    ap (λ (bytes : List ℕ). bytes ++ rest) (flat_map-cons volume_bytes row lvs) ∙ append_assoc (volume_bytes row) (flat_map volume_bytes lvs) rest in
+    let parts : (earlier ++ bare row ∷ []) ++ map bare lvs ≡ earlier ++ bare row ∷ map bare lvs = append_assoc earlier (bare row ∷ []) (map bare lvs) in
+    let others = volumes_again big lvs (earlier ++ bare row ∷ []) (place + 32) rest (subst (AreVolumes big) (sym parts) all) in
+    let end : place + 32 + 32 * length lvs ≡ place + 32 * suc (length lvs) = omega arith in
+    ap (λ (bytes : List ℕ). volumes_at big (suc (length lvs)) earlier (place, bytes)) regrouped
+    ∙ ap (λ (read : Result (LvRow × Rest) ℕ). read >>= λ first. volumes_at big (length lvs) (earlier ++ first.0 ∷ []) first.1) (volume_again big earlier place (bare row) (flat_map volume_bytes lvs ++ rest) is next)
+    ∙ others
+    ∙ ap (λ (rows : List LvRow). Ok (rows, (place + 32 + 32 * length lvs, rest))) parts
+    ∙ ap (λ n. Ok (earlier ++ bare row ∷ map bare lvs, (n, rest))) end
+
+-- ---- volumes without their maps
+
+map_at : {X Y : Type 0} (f : X → Y) (xs : List X) (k : ℕ) (d : Y) (e : X) → k < length xs → get_or (map f xs) k d ≡ f (get_or xs k e)
+map_at f [] k d e lt = absurd (omega (arith, lt))
+map_at f (x ∷ xs) zero d e lt = refl
+map_at f (x ∷ xs) (suc k) d e lt = map_at f xs k d e (omega (arith, lt))
+
+map_length : {X Y : Type 0} (f : X → Y) (xs : List X) → length (map f xs) ≡ length xs
+map_length f [] = refl
+map_length f (x ∷ xs) = ap suc (map_length f xs)
+
+pub bare_length : (lvs : List LvRow) → length (map bare lvs) ≡ length lvs
+bare_length lvs = map_length bare lvs
+
+pub bare_bytes : (lvs : List LvRow) → flat_map volume_bytes (map bare lvs) ≡ flat_map volume_bytes lvs
+bare_bytes [] = refl
+bare_bytes (row ∷ lvs) =
+    flat_map-cons volume_bytes (bare row) (map bare lvs) ∙ ap (λ (l : List ℕ). volume_bytes row ++ l) (bare_bytes lvs) ∙ sym (flat_map-cons volume_bytes row lvs)
+
+pub bare_volumes : (big : Bool) (lvs : List LvRow) → AreVolumes big lvs → AreVolumes big (map bare lvs)
+bare_volumes big lvs all =
+    let same : (k : ℕ) (d : LvRow) → k < length (map bare lvs) → get_or (map bare lvs) k d ≡ bare (get_or lvs k d) = λ k d lt. map_at bare lvs k d d (omega (arith, lt, map_length bare lvs)) in
+    record {
+      each = λ k d lt.
+          let is = all.each k d (omega (arith, lt, map_length bare lvs)) in
+          subst (IsVolume big) (sym (same k d lt)) (record { a_number = is.a_number; number = is.number; a_copy = is.a_copy; copies = is.copies; a_partition = is.a_partition; partitions = is.partitions; name = is.name });
+      numbers_rise = λ i j d less lt.
+          subst (λ (a : LvRow). a.number < (get_or (map bare lvs) j d).number) (sym (same i d (omega (arith, less, lt))))
+          (subst (λ (b : LvRow). (get_or lvs i d).number < b.number) (sym (same j d lt)) (all.numbers_rise i j d less (omega (arith, lt, map_length bare lvs))));
+      names_differ = λ i j d less lt.
+          subst (λ (a : LvRow). a.name ≢ (get_or (map bare lvs) j d).name) (sym (same i d (omega (arith, less, lt))))
+          (subst (λ (b : LvRow). (get_or lvs i d).name ≢ b.name) (sym (same j d lt)) (all.names_differ i j d less (omega (arith, lt, map_length bare lvs))));
+    }
+
+pub whole_volumes : (big : Bool) (lvs : List LvRow) → AreVolumes big (map bare lvs) → AreVolumes big lvs
+whole_volumes big lvs all =
+    let same : (k : ℕ) (d : LvRow) → k < length lvs → get_or (map bare lvs) k d ≡ bare (get_or lvs k d) = λ k d lt. map_at bare lvs k d d lt in
+    record {
+      each = λ k d lt.
+          let is = subst (IsVolume big) (same k d lt) (all.each k d (omega (arith, lt, map_length bare lvs))) in
+          record { a_number = is.a_number; number = is.number; a_copy = is.a_copy; copies = is.copies; a_partition = is.a_partition; partitions = is.partitions; name = is.name };
+      numbers_rise = λ i j d less lt.
+          subst (λ (a : LvRow). a.number < (get_or lvs j d).number) (same i d (omega (arith, less, lt)))
+          (subst (λ (b : LvRow). (get_or (map bare lvs) i d).number < b.number) (same j d lt) (all.numbers_rise i j d less (omega (arith, lt, map_length bare lvs))));
+      names_differ = λ i j d less lt.
+          subst (λ (a : LvRow). a.name ≢ (get_or lvs j d).name) (same i d (omega (arith, less, lt)))
+          (subst (λ (b : LvRow). (get_or (map bare lvs) i d).name ≢ b.name) (same j d lt) (all.names_differ i j d less (omega (arith, lt, map_length bare lvs))));
+    }
+
+pub bare_is : (lvs : List LvRow) → All (λ row. row ≡ bare row) lvs → map bare lvs ≡ lvs
+bare_is [] all = refl
+bare_is (row ∷ lvs) all =
+    ap (λ (r : LvRow). r ∷ map bare lvs) (sym (all 0 row (omega arith))) ∙ ap (λ (l : List LvRow). row ∷ l) (bare_is lvs (All-tail (λ (r : LvRow). r ≡ bare r) row lvs all))
