@@ -124,6 +124,14 @@ number_passes w test r x e =
     let made : ℕ × Rest = (from_be_bytes w b.0.0, b.0.1) in
     subst (λ (y : ℕ × Rest). test y.0 ≡ true) (ok_is made x b.2) (subst (λ (y : List ℕ × Rest). test (from_be_bytes w y.0) ≡ true) g.2 g.1)
 
+-- a number is that of its bytes, whatever its test is
+pub number_value : (w : Width) (test : ℕ → Bool) (r : Rest) (x : ℕ × Rest) → number_at w test r ≡ Ok x → from_be_bytes w (take (byte_len w) r.1) ≡ x.0
+number_value w test r x e =
+    let b = bind_ok (bytes_at (byte_len w) (λ bytes. test (from_be_bytes w bytes)) r) (λ field. Ok (from_be_bytes w field.0, field.1)) x e in
+    let g = tested (ltb (length r.1) (byte_len w)) (test (from_be_bytes w (take (byte_len w) r.1))) (r.0 + length r.1) r.0 (take (byte_len w) r.1, (r.0 + byte_len w, drop (byte_len w) r.1)) b.0 b.1 in
+    let made : ℕ × Rest = (from_be_bytes w b.0.0, b.0.1) in
+    subst (λ (y : ℕ × Rest). from_be_bytes w (take (byte_len w) r.1) ≡ y.0) (ok_is made x b.2) (ap (λ (y : List ℕ × Rest). from_be_bytes w y.0) g.2)
+
 -- a byte stands for itself
 one_byte : (bytes : List ℕ) → length bytes ≡ 1 → bytes ≡ from_be_bytes w8 bytes ∷ []
 one_byte [] len = absurd (omega (arith, len))
