@@ -1,22 +1,21 @@
 -- A descriptor's bytes are read as it, and what is read is valid and spelled so.
-use Rattle.std.proofs.Common.{◌≡◌, ◌≢◌, inl, inr, ℕ, zero, suc, ◌+◌, ◌*◌, ◌^◌, ◌<◌, ◌≤◌, Bool, true, false, cond, ◌&&◌, ◌||◌, List, [], ◌∷◌, ◌++◌, append-nil, append_assoc, length, get_or, replicate, Option, Some, None, Result, Ok, Err, refl, sym, ap, subst, ◌∙◌, length-append, arith}
+use Rattle.std.proofs.Common.{◌≡◌, ◌≢◌, inl, inr, ℕ, zero, suc, ◌+◌, ◌*◌, ◌^◌, ◌<◌, ◌≤◌, Bool, true, false, cond, ◌&&◌, ◌||◌, List, [], ◌∷◌, ◌++◌, append-nil, append_assoc, length, get_or, replicate, Some, Result, Ok, Err, refl, sym, ap, subst, ◌∙◌, arith}
 use Rattle.std.specs.Prelude.{◌==◌, ◌-◌, not, nat_le, nat_lt, bytes_eq, find, flat_map, map, All, AllPairs}
-use Rattle.std.specs.List.{list_any}
 use Rattle.std.specs.Int.{w8, w16, w64, to_be_bytes}
 use Rattle.std.proofs.lemmas.Bool.{cases_Bool, false≢true, eq-eqb, eqb-true}
 use Rattle.std.proofs.lemmas.Bool.Decides.{nat_tests}
-use Rattle.std.proofs.lemmas.List.Elements.{All-nil, All-cons, All-weaker}
+use Rattle.std.proofs.lemmas.List.Elements.{All-nil, All-weaker}
 use Rattle.std.proofs.lemmas.List.Folds.{Any-from_list_any, list_any_at}
 use Rattle.lvm_num.specs.declared.place.Pp.{Pp}
 use Rattle.lvm_num.specs.declared.descriptor.PvRow.{PvRow}
 use Rattle.lvm_num.specs.declared.descriptor.LvRow.{LvRow}
 use Rattle.lvm_num.specs.declared.descriptor.Descriptor.{Descriptor}
 use Rattle.lvm_num.specs.Name.{is_name, padded}
-use Rattle.lvm_num.specs.Descriptor.{is_size, most_members, most_volumes, member_of, partitions_in, partitions_used, IsMember, IsVolume, AreMembers, AreVolumes, IsPartitionOf, IsLaidOut, AreMaps, IsHead, IsValid}
+use Rattle.lvm_num.specs.Descriptor.{is_size, most_members, most_volumes, partitions_in, partitions_used, IsMember, IsVolume, AreMembers, AreVolumes, IsPartitionOf, IsLaidOut, IsValid}
 use Rattle.lvm_num.specs.DescriptorBytes.{flag, is_flag, descriptor_magic, member_bytes, volume_bytes, descriptor_bytes, IsDescriptor, version_at, name_at, member_count_at, members_at, volumes_at, maps_at, descriptor_of}
 use Rattle.lvm_num.specs.Reading.{◌>>=◌, Rest, bytes_at, number_at, zeros_at, end_at}
 use Rattle.lvm_num.proofs.MapsLemmas.{find-Some}
-use Rattle.lvm_vgda.proofs.FieldLaws.{IsBytes, bind_ok, ok_is, both, from_both, bytes_same, same_bytes, Takes, Takes-then, bytes_takes, bytes_again, wide16, wide64, number_takes, number_again, number_value, byte_takes, byte_again, zeros_take, zeros_again, name_takes, name_again}
+use Rattle.lvm_vgda.proofs.FieldLaws.{IsBytes, bind_ok, ok_is, both, from_both, bytes_same, Takes, bytes_takes, bytes_again, wide16, wide64, number_takes, number_again, number_value, byte_takes, byte_again, zeros_take, zeros_again, name_takes, name_again}
 use Rattle.lvm_vgda.proofs.MemberLaws.{all_at, then_is, not_true, not_false, at_least_1, at_most, le_test, flag_is, flag_again, is_flag_flag, MembersTaken, members_take, members_again}
 use Rattle.lvm_vgda.proofs.VolumeLaws.{bare, VolumesTaken, volumes_take, volumes_again, bare_length, bare_bytes, bare_volumes, whole_volumes, bare_is}
 use Rattle.lvm_vgda.proofs.MapLaws.{Has, HasCopies, map_bytes, MapsTaken, maps_take, maps_again}
@@ -54,6 +53,7 @@ version_again big place rest =
     passes : (b : Bool) → bytes_eq (descriptor_magic b) (descriptor_magic false) || bytes_eq (descriptor_magic b) (descriptor_magic true) ≡ true
     passes true = refl
     passes false = refl
+
     same : (b : Bool) → bytes_eq (descriptor_magic b) (descriptor_magic true) ≡ b
     same true = refl
     same false = refl
@@ -91,6 +91,7 @@ count_takes big even r x fits e =
     twice true true is e' = refl
     twice true false is e' = absurd cc
     twice false q is e' = absurd cc
+
     one_number : (s : Rest) (y z : ℕ × Rest) → number_at w16 (λ n. true) s ≡ Ok y → number_at w16 (λ n. nat_le 1 n && nat_le n (most_members big)) s ≡ Ok z → y.0 ≡ z.0
     one_number s y z p q = sym (number_value w16 (λ n. true) s y p) ∙ number_value w16 (λ n. nat_le 1 n && nat_le n (most_members big)) s z q
 
@@ -107,9 +108,11 @@ count_again big even place n rest two some most =
     few : (b : Bool) → most_members b ≤ 128
     few true = omega arith
     few false = omega arith
+
     skip : (b : Bool) (p : ℕ) (read : Result (ℕ × Rest) ℕ) → b ≡ false → cond b (Err p) read ≡ read
     skip true p read e = absurd cc
     skip false p read e = refl
+
     not_other : (b : Bool) → (b ≡ true → n ≡ 2) → b && not (n == 2) ≡ false
     not_other true is = ap not (eq-eqb n 2 (is refl))
     not_other false is = refl
@@ -135,9 +138,11 @@ first_of (r ∷ rows) disk differ (suc k) row lt there is =
       | inl same ↦ absurd (apart (eqb-true n disk same))
       | inr isno ↦ isno
     ]
+
     passed : (b : Bool) → b ≡ false → cond b (Some r) (find (λ (x : PvRow). x.disk == disk) rows) ≡ find (λ (x : PvRow). x.disk == disk) rows
     passed true e = absurd cc
     passed false e = refl
+
     AllPairs-tail : AllPairs (λ (a b : PvRow). a.disk ≢ b.disk) (r ∷ rows) → AllPairs (λ (a b : PvRow). a.disk ≢ b.disk) rows
     AllPairs-tail all i j d less inside = all (suc i) (suc j) d (omega (arith, less)) (omega (arith, inside))
 
@@ -390,6 +395,7 @@ spelled_is_read d valid =
       | inl same ↦ absurd (apart (eqb-true x 0 same))
       | inr isno ↦ isno
     ]
+
     few_volumes : (big : Bool) → length d.lvs ≤ most_volumes big → length d.lvs < 2 ^ 16
     few_volumes true le = omega (arith, le)
     few_volumes false le = omega (arith, le)
