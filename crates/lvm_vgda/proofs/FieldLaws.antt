@@ -36,6 +36,9 @@ done x = Ok x
 pub ok_is : {A : Type 0} (x y : A) → done x ≡ done y → x ≡ y
 ok_is x y e = cc
 
+pub ok_isnt : {A : Type 0} (x : A) (place : ℕ) → done x ≡ Err place → ⊥
+ok_isnt x place e = absurd cc
+
 pub both : (a b : Bool) → a && b ≡ true → (a ≡ true) × (b ≡ true)
 both true b e = (refl, e)
 both false b e = absurd cc
@@ -86,25 +89,26 @@ pub record IsWide (w : Width) (limit : ℕ) : Type 0 where
   pub len : (n : ℕ) → length (to_be_bytes w n) ≡ byte_len w
   pub back : (bytes : List ℕ) → length bytes ≡ byte_len w → IsBytes bytes → to_be_bytes w (from_be_bytes w bytes) ≡ bytes
   pub again : (n : ℕ) → n < limit → from_be_bytes w (to_be_bytes w n) ≡ n
+  pub below : (bytes : List ℕ) → IsBytes bytes → from_be_bytes w bytes < limit
 
 pub wide16 : IsWide w16 (2 ^ 16)
-wide16 = record { len = λ n. refl; back = λ bytes len fits. be_bytes_2 bytes _ len fits refl; again = λ n lt. from_be_bytes-to_be_bytes_2 n lt }
+wide16 = record { len = λ n. refl; back = λ bytes len fits. be_bytes_2 bytes _ len fits refl; again = λ n lt. from_be_bytes-to_be_bytes_2 n lt; below = λ bytes fits. omega (arith, fits 0, fits 1) }
 
 pub wide32 : IsWide w32 (2 ^ 32)
-wide32 = record { len = λ n. refl; back = λ bytes len fits. be_bytes_4 bytes _ len fits refl; again = λ n lt. from_be_bytes-to_be_bytes_4 n lt }
+wide32 = record { len = λ n. refl; back = λ bytes len fits. be_bytes_4 bytes _ len fits refl; again = λ n lt. from_be_bytes-to_be_bytes_4 n lt; below = λ bytes fits. omega (arith, fits 0, fits 1, fits 2, fits 3) }
 
 pub wide64 : IsWide w64 (2 ^ 64)
-wide64 = record { len = λ n. refl; back = λ bytes len fits. be_bytes_8 bytes _ len fits refl; again = λ n lt. from_be_bytes-to_be_bytes_8 n lt }
+wide64 = record { len = λ n. refl; back = λ bytes len fits. be_bytes_8 bytes _ len fits refl; again = λ n lt. from_be_bytes-to_be_bytes_8 n lt; below = λ bytes fits. omega (arith, fits 0, fits 1, fits 2, fits 3, fits 4, fits 5, fits 6, fits 7) }
 
 pub number_takes : (w : Width) (limit : ℕ) (wide : IsWide w limit) (test : ℕ → Bool) (r : Rest) (x : ℕ × Rest) → IsBytes r.1 → number_at w test r ≡ Ok x
-    → Takes r (to_be_bytes w x.0) x.1 × (test x.0 ≡ true)
+    → Takes r (to_be_bytes w x.0) x.1 × (test x.0 ≡ true) × (x.0 < limit)
 number_takes w limit wide test r x fits e =
     let b = bind_ok (bytes_at (byte_len w) (λ bytes. test (from_be_bytes w bytes)) r) (λ field. Ok (from_be_bytes w field.0, field.1)) x e in
     let t = bytes_takes (byte_len w) (λ bytes. test (from_be_bytes w bytes)) r b.0 fits b.1 in
     let back : b.0.0 ≡ to_be_bytes w (from_be_bytes w b.0.0) = sym (wide.back b.0.0 t.1 t.3) in
     let made : ℕ × Rest = (from_be_bytes w b.0.0, b.0.1) in
-    subst (λ (y : ℕ × Rest). Takes r (to_be_bytes w y.0) y.1 × (test y.0 ≡ true)) (ok_is made x b.2)
-    (subst (λ (field : List ℕ). Takes r field b.0.1) back t.0, t.2)
+    subst (λ (y : ℕ × Rest). Takes r (to_be_bytes w y.0) y.1 × (test y.0 ≡ true) × (y.0 < limit)) (ok_is made x b.2)
+    (subst (λ (field : List ℕ). Takes r field b.0.1) back t.0, t.2, wide.below b.0.0 t.3)
 
 pub number_again : (w : Width) (limit : ℕ) (wide : IsWide w limit) (test : ℕ → Bool) (place n : ℕ) (rest : List ℕ) → n < limit → test n ≡ true
     → number_at w test (place, to_be_bytes w n ++ rest) ≡ Ok (n, (place + byte_len w, rest))
@@ -122,6 +126,14 @@ number_passes w test r x e =
     let g = tested (ltb (length r.1) (byte_len w)) (test (from_be_bytes w (take (byte_len w) r.1))) (r.0 + length r.1) r.0 (take (byte_len w) r.1, (r.0 + byte_len w, drop (byte_len w) r.1)) b.0 b.1 in
     let made : ℕ × Rest = (from_be_bytes w b.0.0, b.0.1) in
     subst (λ (y : ℕ × Rest). test y.0 ≡ true) (ok_is made x b.2) (subst (λ (y : List ℕ × Rest). test (from_be_bytes w y.0) ≡ true) g.2 g.1)
+
+-- a number is that of its bytes, whatever its test is
+pub number_value : (w : Width) (test : ℕ → Bool) (r : Rest) (x : ℕ × Rest) → number_at w test r ≡ Ok x → from_be_bytes w (take (byte_len w) r.1) ≡ x.0
+number_value w test r x e =
+    let b = bind_ok (bytes_at (byte_len w) (λ bytes. test (from_be_bytes w bytes)) r) (λ field. Ok (from_be_bytes w field.0, field.1)) x e in
+    let g = tested (ltb (length r.1) (byte_len w)) (test (from_be_bytes w (take (byte_len w) r.1))) (r.0 + length r.1) r.0 (take (byte_len w) r.1, (r.0 + byte_len w, drop (byte_len w) r.1)) b.0 b.1 in
+    let made : ℕ × Rest = (from_be_bytes w b.0.0, b.0.1) in
+    subst (λ (y : ℕ × Rest). from_be_bytes w (take (byte_len w) r.1) ≡ y.0) (ok_is made x b.2) (ap (λ (y : List ℕ × Rest). from_be_bytes w y.0) g.2)
 
 -- a byte stands for itself
 one_byte : (bytes : List ℕ) → length bytes ≡ 1 → bytes ≡ from_be_bytes w8 bytes ∷ []
@@ -173,7 +185,7 @@ zeros_again n place rest =
 
 -- ---- names
 
-bytes_same : (xs ys : List ℕ) → bytes_eq xs ys ≡ true → xs ≡ ys
+pub bytes_same : (xs ys : List ℕ) → bytes_eq xs ys ≡ true → xs ≡ ys
 bytes_same xs ys e = (bytes_eq-Decides xs ys).0 e
 
 pub name_takes : (test : List ℕ → Bool) (r : Rest) (x : List ℕ × Rest) → IsBytes r.1 → name_at test r ≡ Ok x
@@ -189,7 +201,7 @@ name_takes test r x fits e =
     subst (λ (y : List ℕ × Rest). Takes r (padded y.0) y.1 × (is_name y.0 ≡ true) × (test y.0 ≡ true)) (ok_is made x b.2)
     (subst (λ (field : List ℕ). Takes r field b.0.1) same t.0, name.0, tests.1)
 
-same_bytes : (xs ys : List ℕ) → xs ≡ ys → bytes_eq xs ys ≡ true
+pub same_bytes : (xs ys : List ℕ) → xs ≡ ys → bytes_eq xs ys ≡ true
 same_bytes xs ys e = (bytes_eq-Decides xs ys).1 e
 
 pub name_again : (test : List ℕ → Bool) (place : ℕ) (name rest : List ℕ) → is_name name ≡ true → test name ≡ true

@@ -1,9 +1,9 @@
 -- The rows of members: what is read is spelled so and valid, and what is spelled so is read.
-use Rattle.std.proofs.Common.{◌≡◌, ◌≢◌, inl, inr, ℕ, zero, suc, ◌+◌, ◌*◌, ◌<◌, ◌≤◌, Bool, true, false, ◌&&◌, List, [], ◌∷◌, ◌++◌, append-nil, append_assoc, length, get_or, replicate, Result, Ok, Err, refl, sym, ap, subst, ◌∙◌, length-append, arith}
+use Rattle.std.proofs.Common.{◌≡◌, ◌≢◌, inl, inr, ℕ, zero, suc, ◌+◌, ◌*◌, ◌<◌, ◌≤◌, Bool, true, false, ◌&&◌, List, [], ◌∷◌, ◌++◌, append-nil, append_assoc, length, get_or, replicate, Result, Ok, refl, sym, ap, subst, ◌∙◌, arith}
 use Rattle.std.specs.Prelude.{◌==◌, not, nat_le, nat_lt, flat_map, All, AllPairs}
-use Rattle.std.specs.List.{list_any}
+use Rattle.std.specs.List.{list_all, list_any}
 use Rattle.std.specs.Int.{w8, w16, to_be_bytes}
-use Rattle.std.proofs.lemmas.Bool.{cases_Bool, false≢true, eq-eqb, eqb-true}
+use Rattle.std.proofs.lemmas.Bool.{cases_Bool, false≢true, eq-eqb}
 use Rattle.std.proofs.lemmas.Bool.Decides.{nat_tests}
 use Rattle.std.proofs.lemmas.List.Concat.{flat_map-cons}
 use Rattle.std.proofs.lemmas.List.Elements.{All-append, All-nil, All-cons}
@@ -39,6 +39,20 @@ AllPairs-snoc {X} R xs x pairs all =
 pub AllPairs-last : {X : Type 0} (R : X → X → Type 0) (xs : List X) (x : X) → AllPairs R (xs ++ x ∷ []) → All (λ a. R a x) xs
 AllPairs-last R xs x pairs k d lt = AllPairs-across R xs (x ∷ []) pairs k 0 d lt (omega arith)
 
+-- a test that all pass, at each of them
+pub all_at : {X : Type 0} (p : X → Bool) (xs : List X) → list_all p xs ≡ true → (k : ℕ) (d : X) → k < length xs → p (get_or xs k d) ≡ true
+all_at p [] e k d lt = absurd (omega (arith, lt))
+all_at p (x ∷ xs) e zero d lt = (both (p x) (list_all p xs) e).0
+all_at p (x ∷ xs) e (suc k) d lt = all_at p xs (both (p x) (list_all p xs) e).1 k d (omega (arith, lt))
+
+pub all_from : {X : Type 0} (p : X → Bool) (xs : List X) → ((k : ℕ) (d : X) → k < length xs → p (get_or xs k d) ≡ true) → list_all p xs ≡ true
+all_from p [] each = refl
+all_from p (x ∷ xs) each = from_both (p x) (list_all p xs) (each 0 x (omega arith)) (all_from p xs (λ k d lt. each (suc k) d (omega (arith, lt))))
+
+-- a step that is known, and what follows
+pub then_is : {A B : Type 0} (r : Result A ℕ) (f : A → Result B ℕ) (x : A) → r ≡ Ok x → (r >>= f) ≡ f x
+then_is {A} {B} r f x e = ap (λ (read : Result A ℕ). read >>= f) e
+
 pub not_true : (b : Bool) → not b ≡ true → b ≡ false
 not_true true e = absurd cc
 not_true false e = refl
@@ -67,25 +81,25 @@ flag_below false = omega arith
 
 -- ---- a member
 
-differs : (m n : ℕ) → m == n ≡ false → m ≢ n
+pub differs : (m n : ℕ) → m == n ≡ false → m ≢ n
 differs m n isnt same = false≢true (sym isnt ∙ eq-eqb m n same)
 
-unequal : (m n : ℕ) → m ≢ n → m == n ≡ false
+pub unequal : (m n : ℕ) → m ≢ n → m == n ≡ false
 unequal m n apart = grind (arith, nat_tests)
 
-disk_below : (n : ℕ) → nat_lt n 128 ≡ true → n < 128
+pub disk_below : (n : ℕ) → nat_lt n 128 ≡ true → n < 128
 disk_below n e = grind (arith, nat_tests)
 
-at_least_1 : (n : ℕ) → nat_le 1 n ≡ true → 1 ≤ n
+pub at_least_1 : (n : ℕ) → nat_le 1 n ≡ true → 1 ≤ n
 at_least_1 n e = grind (arith, nat_tests)
 
-at_most : (n m : ℕ) → nat_le n m ≡ true → n ≤ m
+pub at_most : (n m : ℕ) → nat_le n m ≡ true → n ≤ m
 at_most n m e = grind (arith, nat_tests)
 
-lt_test : (n m : ℕ) → n < m → nat_lt n m ≡ true
+pub lt_test : (n m : ℕ) → n < m → nat_lt n m ≡ true
 lt_test n m lt = grind (arith, nat_tests)
 
-le_test : (n m : ℕ) → n ≤ m → nat_le n m ≡ true
+pub le_test : (n m : ℕ) → n ≤ m → nat_le n m ≡ true
 le_test n m le = grind (arith, nat_tests)
 
 abbrev pub IsNew : List PvRow → PvRow → Type 0

@@ -1,15 +1,15 @@
 -- What the tests of rows say of the rows that are read.
-use Rattle.std.proofs.Common.{◌≡◌, ℕ, zero, suc, ◌+◌, ◌<◌, ◌≤◌, Bool, true, false, ◌&&◌, List, [], ◌∷◌, ◌++◌, Result, Ok, Err, refl, sym, ap, subst, ◌∙◌, arith}
+use Rattle.std.proofs.Common.{◌≡◌, ℕ, zero, suc, ◌<◌, ◌≤◌, Bool, true, ◌&&◌, List, [], ◌∷◌, ◌++◌, Ok, subst, arith}
 use Rattle.std.specs.Prelude.{◌==◌, not, nat_le, nat_lt, bytes_eq, All}
 use Rattle.std.specs.List.{list_any, list_all}
-use Rattle.std.specs.Int.{Width, w8, w16, w32, byte_len, from_be_bytes}
+use Rattle.std.specs.Int.{w8, w16, w32}
 use Rattle.std.proofs.lemmas.Bool.Decides.{nat_tests}
 use Rattle.std.proofs.lemmas.List.Elements.{All-nil}
 use Rattle.lvm_num.specs.declared.descriptor.PvRow.{PvRow}
 use Rattle.lvm_num.specs.declared.descriptor.LvRow.{LvRow}
 use Rattle.lvm_num.specs.Descriptor.{IsMember, most_volumes}
 use Rattle.lvm_num.specs.DescriptorBytes.{is_flag, member_at, members_at, name_at, volume_at, volumes_at}
-use Rattle.lvm_num.specs.Reading.{◌>>=◌, Rest, bytes_at, number_at, zeros_at}
+use Rattle.lvm_num.specs.Reading.{Rest, number_at, zeros_at}
 use Rattle.lvm_vgda.proofs.FieldLaws.{bind_ok, ok_is, both, number_passes}
 use Rattle.lvm_vgda.proofs.MemberLaws.{All-snoc}
 

@@ -1,5 +1,5 @@
 -- What reading gives, as a call returns it.
-use Rattle.std.specs.Prelude.{◌≡◌, ℕ, ◌+◌, List, drop, Result, Ok, Err}
+use Rattle.std.specs.Prelude.{◌≡◌, ℕ, ◌+◌, drop, Result, Ok, Err}
 use Rattle.lvm_num.specs.Reading.{Rest}
 use Rattle.lvm_vgda.specs.declared.fault.Fault.{Fault}
 use Rattle.lvm_vgda.specs.declared.fault.Fault.TheVariants as faults

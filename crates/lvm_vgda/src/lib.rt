@@ -4,6 +4,7 @@
 mod fault;
 mod fields;
 mod head;
+mod laws;
 mod maps;
 mod reading;
 mod rows;
@@ -12,6 +13,7 @@ mod used;
 mod writing;
 
 pub use fault::VgdaFault;
+pub use laws::descriptors_are_exact;
 pub use reading::decode;
 pub use writing::encode;
 

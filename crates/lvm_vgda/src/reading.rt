@@ -1,6 +1,7 @@
 //! Reading a descriptor from its bytes.
-ghost use Rattle.std.specs.Prelude.{◌≡◌};
-ghost use Rattle.lvm_num.specs.DescriptorBytes.{descriptor_of};
+ghost use Rattle.std.specs.Prelude.{IfOk, Ok};
+ghost use Rattle.lvm_num.specs.declared.descriptor.Descriptor.{Descriptor as descriptor};
+ghost use Rattle.lvm_num.specs.DescriptorBytes.{IsDescriptor, descriptor_of};
 ghost use Rattle.lvm_vgda.specs.Reading.{Gives, Answers};
 
 use crate::fault::{Fault, VgdaFault};
@@ -14,6 +15,8 @@ use std::alloc::Global;
 /// The descriptor that the bytes spell, all of them. Other bytes than those that `encode` writes of a
 /// valid descriptor are refused, with the place of the first fault.
 pub fn decode(alloc: Global, bytes: &[u8]) -> Result<Descriptor, VgdaFault>
+    ensures spelled { IfOk result (IsDescriptor bytes.now) }
+    ensures only { (d : descriptor) → IsDescriptor bytes.now d → Answers result (Ok d) }
     ensures exact { Answers result (descriptor_of bytes.now) }
 {
     match descriptor_of(alloc, bytes) {

@@ -178,11 +178,18 @@ fn numbered(number: u16) -> Result<Name, Fail> {
     ])
 }
 
-// Where each partition of a group with so many on each disk lies.
-fn place_at(k: u32) -> Pp {
-    Pp {
-        disk: (k / 1016) as u16,
-        pp: (k % 1016) as u16,
+// The partition after this one, of disks with 1,016 each.
+fn after(pp: Pp) -> Pp {
+    if pp.pp < 1015 {
+        Pp {
+            disk: pp.disk,
+            pp: pp.pp + 1,
+        }
+    } else {
+        Pp {
+            disk: pp.disk.saturating_add(1),
+            pp: 0,
+        }
     }
 }
 
@@ -200,14 +207,14 @@ fn full_group(alloc: Global, big: bool, members: u16, volumes: u16) -> Result<De
     }
     let mut lvs = Vec::new(alloc);
     let each = u32::from(members) * 1016 / (u32::from(volumes) + 1);
-    let mut used = 0;
+    let mut free = Pp { disk: 0, pp: 0 };
     for number in 1..=volumes {
         let lps = if number == volumes { each * 2 } else { each };
         let mut map = Vec::new(alloc);
-        for k in 0..lps {
-            map.push(place_at(used + k))?;
+        for _ in 0..lps {
+            map.push(free)?;
+            free = after(free);
         }
-        used += lps;
         lvs.push(LvRow {
             number,
             name: numbered(number)?,

@@ -1,5 +1,4 @@
-use Rattle.std.proofs.Common.{◌≡◌, ◌<◌, Bool, true, ◌&&◌, refl, sym, ap, ◌∙◌}
-use Rattle.std.specs.Prelude.{not}
+use Rattle.std.proofs.Common.{sym, ◌∙◌}
 use Rattle.lvm_vgda.proofs.UsedLaws.{its_member, free_is}
 use Rattle.lvm_vgda.proofs.maps.is_free.Goals as goal
 

@@ -1,4 +1,4 @@
-use Rattle.std.proofs.Common.{◌≡◌, ◌++◌, ◌∷◌, [], List, Result, Ok, Err, sym, subst, ◌∙◌}
+use Rattle.std.proofs.Common.{◌≡◌, [], List, Ok, subst}
 use Rattle.std.proofs.lemmas.Result.{err_from_is_err_and}
 use Rattle.lvm_num.specs.declared.descriptor.LvRow.{LvRow}
 use Rattle.lvm_num.specs.DescriptorBytes.{volume_at, volumes_at}
