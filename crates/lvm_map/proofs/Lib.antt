@@ -1,0 +1,6 @@
+pub mod Choices
+pub mod Fitting
+pub mod FreeLists
+pub mod Members
+pub mod PlaceLemmas
+pub mod UsedMarks

@@ -82,7 +82,8 @@ fn fit(
     };
     let free = room.free();
     let mut map = Vec::new(alloc);
-    for _k in 0..lps as usize * usize::from(copies) {
+    let size = lps as usize * usize::from(copies);
+    while map.len() < size {
         let Some(pp) = next(&mut room, copies, kept, old, &map) else {
             return Err(MapFault::NoRoom { free });
         };

@@ -1,6 +1,8 @@
 //! The free partitions of a group, as first fit takes them.
-ghost use Rattle.std.specs.Prelude.{◌≡◌, ℕ, ◌≤◌, ◌*◌, ◌<◌, ◌==◌, ◌||◌, not, [], length, filter, map, sum_by, All, IfOk, IsTrue};
+ghost use Rattle.std.specs.Prelude.{◌≡◌, ℕ, ◌≤◌, ◌*◌, ◌<◌, ◌==◌, ◌||◌, not, [], length, filter, map, sum_by, position, All, IfOk};
 ghost use Rattle.std.specs.List.{list_any};
+ghost use Rattle.std.specs.declared.alloc.Global.{Global};
+ghost use Rattle.std.specs.declared.collections.VecDeque.{VecDeque};
 ghost use Rattle.lvm_num.specs.declared.place.Pp.{Pp};
 ghost use Rattle.lvm_num.specs.Bits.{has_bit};
 ghost use Rattle.lvm_num.specs.Descriptor.{IsValid, IsMember, partitions_used};
@@ -27,7 +29,6 @@ pub struct Room {
 
 impl Model for Room {
     ghost use Rattle.std.specs.Prelude.{List, map};
-    ghost use Rattle.std.specs.declared.collections.VecDeque.{VecDeque};
     ghost use Rattle.lvm_num.specs.declared.place.Pp.{Pp};
 
     ghost Value = { List (List Pp) };
@@ -68,9 +69,15 @@ impl Room {
     pub fn take(&mut self, others: &[Pp]) -> Option<Pp>
         ensures { Takes others.now self.old self.new result }
     {
-        let member = self.members.iter().position(|free| is_open(others, free))?;
+        let member = first_open(&self.members, others)?;
         self.members[member].pop_front()
     }
+}
+
+fn first_open(members: &[VecDeque<Pp>], others: &[Pp]) -> Option<usize>
+    ensures { result ≡ position (λ (free : VecDeque Pp Global). is_open others.now free.items) members.now }
+{
+    members.iter().position(|free| is_open(others, free))
 }
 
 fn is_open(others: &[Pp], free: &VecDeque<Pp>) -> bool
