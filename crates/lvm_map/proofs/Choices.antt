@@ -55,7 +55,7 @@ first_choice usable used others (row ∷ rows) = by_tests (first_choice usable u
 
 -- ---- what is found has a position
 
-past : {X : Type 0} (xs : List X) (k : ℕ) → length xs ≤ k → slice_get xs k ≡ None
+pub past : {X : Type 0} (xs : List X) (k : ℕ) → length xs ≤ k → slice_get xs k ≡ None
 past [] k le = refl
 past (x ∷ xs) zero le = absurd (omega arith)
 past (x ∷ xs) (suc k) le = past xs k (omega arith)

@@ -15,12 +15,14 @@ blocks_of d lv = option_map (λ (row : LvRow). volume_blocks d.mib row.lps) (vol
 abbrev pub copy_at : LvRow → ℕ → ℕ → Option Pp
 copy_at row lp copy = if copy == 0 then None else slice_get (copies_of row lp) (copy - 1)
 
+-- the sector of a block of a volume on the copy that is this partition
+abbrev pub place_on : ℕ → Pp → ℕ → Place
+place_on mib pp block = record { disk = pp.disk; sector = sector_of mib pp.pp block }
+
 -- the sector at which a block of a volume stands on a copy, if that block and copy are there
 abbrev pub place_of : Descriptor → ℕ → ℕ → ℕ → Option Place
 place_of d lv copy block =
-    option_and_then
-    (λ (row : LvRow). option_map (λ (pp : Pp). record { disk = pp.disk; sector = sector_of d.mib pp.pp block }) (copy_at row (partition_of d.mib block) copy))
-    (volume_of d lv)
+    option_and_then (λ (row : LvRow). option_map (λ pp. place_on d.mib pp block) (copy_at row (partition_of d.mib block) copy)) (volume_of d lv)
 
 -- a block of a volume of the group and one of its copies
 pub record IsBlockOfCopy (d : Descriptor) (lv copy block : ℕ) : Type 0 where

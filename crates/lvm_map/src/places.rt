@@ -1,13 +1,13 @@
 //! Where the blocks of volumes stand.
-ghost use Rattle.std.specs.Prelude.{◌≡◌, ℕ, ◌==◌, ◌↔◌, IsSome};
+ghost use Rattle.std.specs.Prelude.{◌≡◌, ◌≤◌, ◌==◌, ◌↔◌, IsSome};
 ghost use Rattle.std.specs.List.{find};
 ghost use Rattle.std.specs.Option.{option_copied};
 ghost use Rattle.lvm_num.specs.declared.descriptor.LvRow.{LvRow};
-ghost use Rattle.lvm_num.specs.Descriptor.{IsValid};
-ghost use Rattle.lvm_map.specs.Places.{blocks_of, place_of, IsBlockOfCopy};
+ghost use Rattle.lvm_num.specs.Descriptor.{IsLaidOut, IsValid};
+ghost use Rattle.lvm_map.specs.Places.{blocks_of, copy_at, place_on, place_of, IsBlockOfCopy};
 ghost use Rattle.lvm_num.specs.Geometry.{partition_blocks};
 
-use lvm_num::{Descriptor, LvRow, Place};
+use lvm_num::{Descriptor, LvRow, Place, Pp};
 
 const DATA_START: u64 = 4096;
 
@@ -30,16 +30,32 @@ pub fn place(d: &Descriptor, lv: u16, copy: u8, block: u64) -> Option<Place>
     ensures there { IsSome result ↔ IsBlockOfCopy d.now lv copy block }
 {
     let row = volume_of(d.lvs.as_slice(), lv)?;
-    let size = partition_blocks(d.mib);
-    if copy == 0 || copy > row.copies || block >= size * u64::from(row.lps) {
+    let pp = copy_at(row, block / partition_blocks(d.mib), copy)?;
+    Some(place_on(d.mib, pp, block))
+}
+
+// The partition that a copy, from 1, of a logical partition is.
+fn copy_at(row: &LvRow, lp: u64, copy: u8) -> Option<Pp>
+    requires { IsLaidOut row.now }
+    ensures { result ≡ copy_at row.now lp copy }
+{
+    if copy == 0 || copy > row.copies || lp >= u64::from(row.lps) {
         return None;
     }
-    let lp = (block / size) as usize;
-    let pp = row.map.as_slice()[lp * usize::from(row.copies) + usize::from(copy - 1)];
-    Some(Place {
+    let first = lp as usize * usize::from(row.copies);
+    Some(row.map.as_slice()[first + usize::from(copy - 1)])
+}
+
+// The sector of a block whose copy is this partition.
+fn place_on(mib: u16, pp: Pp, block: u64) -> Place
+    requires { 1 ≤ mib }
+    ensures { result ≡ place_on mib pp block }
+{
+    let size = partition_blocks(mib);
+    Place {
         disk: pp.disk,
         sector: DATA_START + size * u64::from(pp.pp) + block % size,
-    })
+    }
 }
 
 // The volume of a number.

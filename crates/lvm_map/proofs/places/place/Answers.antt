@@ -1,32 +1,33 @@
-use Rattle.std.proofs.Common.{rules, ◌≡◌, ℕ, ◌==◌, ◌↔◌, IsSome, ◌+◌, ◌-◌, ◌*◌, ◌<◌, ◌≤◌, length, ◌/◌, ◌%◌, Bool, true, false, nat_eq, nat_lt, List, [], ◌∷◌, ◌++◌, slice_index_or, slice_set, bit_and, bit_or, Fits, w8, w32, w64, Bor, MutBor}
-use Rattle.std.specs.List.{find}
-use Rattle.std.specs.Option.{option_copied}
+use Rattle.std.proofs.Common.{◌≡◌, ℕ, ◌/◌, List, Some, None, refl, sym, ap, subst, ◌∙◌}
+use Rattle.std.specs.Prelude.{◌==◌, find}
+use Rattle.std.proofs.lemmas.Bool.{false≢true}
 use Rattle.lvm_num.specs.declared.descriptor.LvRow.{LvRow}
-use Rattle.lvm_num.specs.Descriptor.{IsValid}
-use Rattle.lvm_map.specs.Places.{blocks_of, place_of, IsBlockOfCopy}
-use Rattle.lvm_num.specs.Geometry.{partition_blocks}
+use Rattle.lvm_num.specs.declared.descriptor.Descriptor.{Descriptor}
+use Rattle.lvm_num.specs.Geometry.{partition_of}
+use Rattle.lvm_num.specs.Descriptor.{volume_of}
+use Rattle.lvm_map.specs.Places.{copy_at}
+use Rattle.lvm_map.proofs.PlaceLemmas.{volume_is, laid_out, block_is, no_block}
 use Rattle.lvm_map.proofs.places.place.Goals as goal
 
--- src/places.rt:35:9
-pub returns-then-copy-eq0-clause-place : goal.returns-then-copy-eq0-clause-place
-returns-then-copy-eq0-clause-place c = ?
+pub copy_at-requires : goal.copy_at-requires
+copy_at-requires c =
+    laid_out c.args.d.now c.args.lv c.in_ok-row.row.now c.requires
+    (volume_is c.args.d.now c.args.lv c.as_slice.result.now c.in_ok-row.row.now c.in_ok-row.ensures c.as_slice.ensures)
 
--- src/places.rt:38:14
-pub bounds-as_slice-lp : goal.bounds-as_slice-lp
-bounds-as_slice-lp c = ?
+pub returns-in_err-pp-clause-there : goal.returns-in_err-pp-clause-there
+returns-in_err-pp-clause-there c =
+    let row = c.in_ok-row.row.now in
+    let none : copy_at row (partition_of c.args.d.now.mib c.args.block) c.args.copy ≡ None =
+    ap (λ n. copy_at row (c.args.block / n) c.args.copy) (sym c.partition_blocks.ensures) ∙ sym c.in_err-pp.ensures in
+    let absent = no_block c.args.d.now c.args.lv c.args.copy c.args.block row c.requires
+    (volume_is c.args.d.now c.args.lv c.as_slice.result.now row c.in_ok-row.ensures c.as_slice.ensures) none in
+    rw c.from_residual-in_err-pp.ensures (λ is. absurd (false≢true is), λ there. absurd (absent there))
 
--- src/places.rt:41:30
-pub overflow_mul-result : goal.overflow_mul-result
-overflow_mul-result c = ?
-
--- src/places.rt:41:17
-pub overflow_add-result : goal.overflow_add-result
-overflow_add-result c = ?
-
--- src/places.rt:41:17
-pub overflow_add-result-2 : goal.overflow_add-result-2
-overflow_add-result-2 c = ?
-
--- src/places.rt:27:1
-pub returns-clause-place : goal.returns-clause-place
-returns-clause-place c = ?
+pub returns-clause-there : goal.returns-clause-there
+returns-clause-there c =
+    let row = c.in_ok-row.row.now in
+    let some : copy_at row (partition_of c.args.d.now.mib c.args.block) c.args.copy ≡ Some c.in_ok-pp.pp =
+    ap (λ n. copy_at row (c.args.block / n) c.args.copy) (sym c.partition_blocks.ensures) ∙ sym c.in_ok-pp.ensures in
+    let there = block_is c.args.d.now c.args.lv c.args.copy c.args.block row c.in_ok-pp.pp c.requires
+    (volume_is c.args.d.now c.args.lv c.as_slice.result.now row c.in_ok-row.ensures c.as_slice.ensures) some in
+    (λ is. there, λ there. refl)
