@@ -1,8 +1,8 @@
 -- The first choice of a place, by the free partitions of each member.
-use Rattle.std.proofs.Common.{◌≡◌, ◌≢◌, inl, inr, ℕ, zero, suc, ◌+◌, ◌<◌, ◌≤◌, Bool, true, false, cond, ltb, ◌&&◌, ◌||◌, not, List, [], ◌∷◌, ◌++◌, length, map, drop, get_or, set, Option, Some, None, refl, sym, ap, subst, ◌∙◌, arith}
+use Rattle.std.proofs.Common.{◌≡◌, ◌≢◌, inl, inr, ℕ, zero, suc, ◌+◌, ◌<◌, ◌≤◌, Bool, true, false, cond, ◌&&◌, not, List, [], ◌∷◌, ◌++◌, length, map, drop, get_or, set, Option, Some, None, refl, sym, ap, ◌∙◌, arith}
 use Rattle.std.specs.Prelude.{AllPairs, nat_lt, filter, flat_map, position, option_and_then, option_to_list, slice_get, find}
 use Rattle.std.specs.List.{position_or_len}
-use Rattle.std.proofs.lemmas.Bool.{cases_Bool, cases_lt, lt-ltb}
+use Rattle.std.proofs.lemmas.Bool.{cases_lt, lt-ltb}
 use Rattle.std.proofs.lemmas.List.{length-map, map-set}
 use Rattle.std.proofs.lemmas.List.Folds.{find_at}
 use Rattle.std.proofs.lemmas.List.Quantifiers.{position-Some}
@@ -41,6 +41,7 @@ first_choice usable used others (row ∷ rows) = by_tests (first_choice usable u
   where
     its : (b : Bool) → is_on others row.disk ≡ b → (pp : Pp) (rest : List Pp) → free_of used row ≡ pp ∷ rest → is_on others pp.disk ≡ b
     its b is pp rest same = ap (is_on others) (free-head_disk used row pp rest same) ∙ is
+
     by_tests : first (flat_map (free_of used) (filter (may_take usable others) rows))
         ≡ option_and_then first (find (is_open others) (map (free_of used) (filter (may_take usable []) rows)))
         → (u s o : Bool) → is_on others row.disk ≡ o

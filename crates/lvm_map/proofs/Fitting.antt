@@ -1,17 +1,16 @@
 -- First fit, one copy after the other.
-use Rattle.std.proofs.Common.{◌≡◌, ◌≢◌, inl, inr, ⊎_elim, ℕ, zero, suc, ◌+◌, ◌-◌, ◌*◌, ◌/◌, ◌%◌, ◌<◌, ◌≤◌, Bool, true, false, cond, ◌&&◌, ◌||◌, not, List, [], ◌∷◌, ◌++◌, append_assoc, append-nil, length, map, take, drop, get_or, Option, Some, None, refl, sym, ap, subst, ◌∙◌, arith}
+use Rattle.std.proofs.Common.{◌≡◌, ◌≢◌, inl, inr, ℕ, zero, suc, ◌%◌, ◌<◌, Bool, true, false, cond, ◌&&◌, ◌||◌, List, [], ◌∷◌, ◌++◌, append_assoc, length, get_or, Some, None, refl, sym, ap, subst, ◌∙◌, arith}
 use Rattle.std.specs.Prelude.{◌==◌, All, AllPairs, IsTrue, nat_lt, filter, slice_get, position}
 use Rattle.std.specs.Bool.{MatchBool}
-use Rattle.std.specs.List.{list_any}
-use Rattle.std.proofs.lemmas.Bool.{cases_Bool, cases_lt}
-use Rattle.std.proofs.lemmas.List.{length_push, take-append-le, take_all, length-append}
+use Rattle.std.proofs.lemmas.Bool.{cases_lt}
+use Rattle.std.proofs.lemmas.List.{length_push, take-append-le, take_all}
 use Rattle.std.proofs.lemmas.List.Folds.{list_any-append}
 use Rattle.lvm_num.specs.declared.place.Pp.{Pp}
 use Rattle.lvm_num.specs.declared.descriptor.PvRow.{PvRow}
 use Rattle.lvm_num.specs.declared.descriptor.Descriptor.{Descriptor}
 use Rattle.lvm_num.specs.Descriptor.{partitions_used}
 use Rattle.lvm_num.specs.Disks.{Disks}
-use Rattle.lvm_map.specs.FirstFit.{is_among, free_of, may_take, choices, Asked, kept_next, others_in, next_fit, IsFirstFit}
+use Rattle.lvm_map.specs.FirstFit.{is_among, may_take, choices, Asked, kept_next, others_in, next_fit, IsFirstFit}
 use Rattle.lvm_map.specs.Room.{is_open, room_of, IsTaken, Takes, TakesNext}
 use Rattle.lvm_map.proofs.FreeLists.{members-known}
 use Rattle.lvm_map.proofs.Choices.{nothing_taken, first_taken, taken_from}
@@ -71,15 +70,15 @@ module _ (d : Descriptor) (usable : Disks) (asked : Asked) (front : List Pp) (ol
       by_turn true kept = (
         sym kept.0,
         kept.1
-        ∙ room
-        ∙ sym (members-known (partitions_used d ++ front) pp (filter (may_take usable []) d.pvs) (known (partitions_used d) front asked.old _ pp all kept.0))
-        ∙ ap (room_of d usable) (append_assoc (partitions_used d) front (pp ∷ [])),
+            ∙ room
+            ∙ sym (members-known (partitions_used d ++ front) pp (filter (may_take usable []) d.pvs) (known (partitions_used d) front asked.old _ pp all kept.0))
+            ∙ ap (room_of d usable) (append_assoc (partitions_used d) front (pp ∷ [])),
       )
       by_turn false taken =
           let from = subst (λ (lists : List (List Pp)). IsTaken (others_in asked front) lists new pp) room taken in (
             first_taken usable (partitions_used d ++ front) (others_in asked front) d.pvs new pp from,
             taken_from usable (partitions_used d ++ front) (others_in asked front) d.pvs new pp apart from
-            ∙ ap (room_of d usable) (append_assoc (partitions_used d) front (pp ∷ [])),
+                ∙ ap (room_of d usable) (append_assoc (partitions_used d) front (pp ∷ [])),
           )
 
   pub next_is_none : old ≡ room_of d usable (partitions_used d ++ front) → TakesNext asked front old new None → next_fit d usable asked front ≡ None

@@ -1,9 +1,8 @@
 -- The free partitions of members, with one more used.
-use Rattle.std.proofs.Common.{◌≡◌, ◌≢◌, inl, inr, ℕ, zero, suc, ◌+◌, ◌<◌, Bool, true, false, cond, ◌&&◌, ◌||◌, not, List, [], ◌∷◌, ◌++◌, length, map, get_or, set, Some, None, refl, sym, ap, subst, ◌∙◌, arith}
+use Rattle.std.proofs.Common.{◌≡◌, ◌≢◌, inl, inr, ℕ, zero, suc, ◌<◌, Bool, true, false, cond, ◌&&◌, ◌||◌, not, List, [], ◌∷◌, ◌++◌, length, map, get_or, set, Some, refl, sym, ap, subst, ◌∙◌, arith}
 use Rattle.std.specs.Prelude.{◌==◌, All, AllPairs, filter, slice_get}
-use Rattle.std.specs.List.{list_any, range_with_len}
+use Rattle.std.specs.List.{range_with_len}
 use Rattle.std.proofs.lemmas.Bool.{cases_Bool, eqb-true, eq-eqb}
-use Rattle.std.proofs.lemmas.Bool.Decides.{nat_tests}
 use Rattle.std.proofs.lemmas.List.{length-map}
 use Rattle.std.proofs.lemmas.List.Elements.{All-map, All-head, All-tail, All-filter, All-weaker, filter_agree}
 use Rattle.std.proofs.lemmas.List.Folds.{list_any-append}
@@ -134,9 +133,11 @@ without_first p q pp rest (y ∷ ys) says apart is =
     and_true : (a : Bool) → a && true ≡ a
     and_true true = refl
     and_true false = refl
+
     and_false : (a : Bool) → a && false ≡ false
     and_false true = refl
     and_false false = refl
+
     by_test : (b : Bool) → p y ≡ b → cond b (y ∷ filter p ys) (filter p ys) ≡ pp ∷ rest → (filter p ys ≡ pp ∷ rest → filter q ys ≡ rest)
         → cond (q y) (y ∷ filter q ys) (filter q ys) ≡ rest
     by_test true test here later =

@@ -1,6 +1,6 @@
 -- The free partitions of each member, gathered and counted.
 use Rattle.std.proofs.Common.{◌≡◌, ℕ, zero, suc, ◌+◌, ◌<◌, ◌≤◌, Bool, true, false, cond, not, List, [], ◌∷◌, ◌++◌, length, map, take, get_or, refl, sym, ap, subst, ◌∙◌, arith}
-use Rattle.std.specs.Prelude.{All, filter, flat_map, sum_by}
+use Rattle.std.specs.Prelude.{All, filter, sum_by}
 use Rattle.std.proofs.lemmas.List.{map-append, length-map}
 use Rattle.std.proofs.lemmas.List.Concat.{length-flat_map}
 use Rattle.std.proofs.lemmas.List.Elements.{All-head, All-tail, All-map, All-filter, filter_more}
@@ -10,7 +10,7 @@ use Rattle.lvm_num.specs.declared.descriptor.PvRow.{PvRow}
 use Rattle.lvm_num.specs.declared.descriptor.Descriptor.{Descriptor}
 use Rattle.lvm_num.specs.Descriptor.{IsMember, IsValid}
 use Rattle.lvm_num.specs.Disks.{Disks}
-use Rattle.lvm_map.specs.FirstFit.{is_among, free_of, may_take, partitions_of, choices, free_count}
+use Rattle.lvm_map.specs.FirstFit.{is_among, free_of, may_take, partitions_of, choices}
 use Rattle.lvm_map.specs.Room.{room_of}
 use Rattle.lvm_map.proofs.FreeLists.{partitions-size}
 
@@ -67,6 +67,7 @@ module _ (d : Descriptor) (valid : IsValid d) (usable : Disks) (used : List Pp) 
       by_size : (big : Bool) → cond big 128 32 ≤ 128
       by_size true = omega arith
       by_size false = omega arith
+
       members : length d.pvs ≤ 128
       members = omega (arith, valid.head.members, by_size d.big)
 

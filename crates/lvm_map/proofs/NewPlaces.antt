@@ -1,8 +1,7 @@
 -- What first fit chooses is free.
-use Rattle.std.proofs.Common.{◌≡◌, ◌≢◌, inl, inr, ℕ, zero, suc, ◌+◌, ◌-◌, ◌*◌, ◌%◌, ◌<◌, ◌≤◌, Bool, true, false, cond, ◌&&◌, ◌||◌, not, List, [], ◌∷◌, ◌++◌, length, map, get_or, take, Option, Some, None, nat_lt, refl, sym, ap, subst, ◌∙◌, arith, rules}
-use Rattle.std.specs.Prelude.{◌==◌, All, AllPairs, IsTrue, find, filter, flat_map, slice_get}
-use Rattle.std.specs.List.{list_any, range_with_len}
-use Rattle.std.proofs.lemmas.Bool.{eq-eqb, false≢true}
+use Rattle.std.proofs.Common.{◌≡◌, ◌≢◌, ℕ, zero, suc, ◌%◌, ◌<◌, ◌≤◌, Bool, true, false, cond, ◌&&◌, ◌||◌, not, List, [], ◌∷◌, ◌++◌, length, get_or, take, Some, nat_lt, refl, sym, ap, subst, ◌∙◌, arith, rules}
+use Rattle.std.specs.Prelude.{◌==◌, All, AllPairs, find, filter, flat_map, slice_get}
+use Rattle.std.proofs.lemmas.Bool.{eq-eqb}
 use Rattle.std.proofs.lemmas.Bool.Decides.{nat_tests}
 use Rattle.std.proofs.lemmas.List.{length-take-le}
 use Rattle.std.proofs.lemmas.List.Elements.{All-head, All-filter, filter_passes}
@@ -13,7 +12,7 @@ use Rattle.lvm_num.specs.declared.descriptor.Descriptor.{Descriptor}
 use Rattle.lvm_num.specs.Descriptor.{IsValid, member_of, partitions_used}
 use Rattle.lvm_num.specs.Disks.{Disks}
 use Rattle.lvm_num.proofs.Pairs.{AllPairs-right}
-use Rattle.lvm_map.specs.FirstFit.{is_among, is_on, partitions_of, free_of, may_take, choices, Asked, others_in, kept_next, next_fit, IsFirstFit, IsAllocated}
+use Rattle.lvm_map.specs.FirstFit.{is_among, is_on, partitions_of, free_of, may_take, choices, Asked, others_in, kept_next, IsFirstFit}
 use Rattle.lvm_map.specs.Laws.{IsNewPlace}
 use Rattle.lvm_map.proofs.FreeLists.{free-head_disk, partitions-at, partitions-size, AllPairs-first}
 use Rattle.lvm_map.proofs.Fitting.{get-within}
@@ -59,6 +58,7 @@ choice_of p used (row ∷ rows) pp is = by_test (choice_of p used rows pp) (p ro
           rest = free;
           free = own ∙ ap (λ (x : Pp). x ∷ free) same;
         }
+
     by_test : (slice_get (flat_map (free_of used) (filter p rows)) 0 ≡ Some pp → IsChoice p used rows pp)
         → (b : Bool) → p row ≡ b → slice_get (flat_map (free_of used) (cond b (row ∷ filter p rows) (filter p rows))) 0 ≡ Some pp → IsChoice p used (row ∷ rows) pp
     by_test rest true test at = by_free (free_of used row) refl test rest at

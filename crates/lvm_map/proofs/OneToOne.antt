@@ -1,6 +1,6 @@
 -- No two blocks of copies stand at one place, and each stands in the data of a member.
-use Rattle.std.proofs.Common.{◌≡◌, ◌≢◌, inl, inr, ℕ, zero, suc, ◌+◌, ◌-◌, ◌*◌, ◌/◌, ◌%◌, ◌<◌, ◌≤◌, Bool, true, false, cond, List, [], ◌∷◌, ◌++◌, length, get_or, take, drop, Option, Some, None, refl, sym, ap, subst, ◌∙◌, arith}
-use Rattle.std.specs.Prelude.{◌==◌, All, AllPairs, find, flat_map, slice_get, option_map, option_and_then}
+use Rattle.std.proofs.Common.{◌≡◌, inl, inr, ℕ, suc, ◌+◌, ◌-◌, ◌*◌, ◌%◌, ◌<◌, ◌≤◌, List, length, get_or, take, Option, Some, None, refl, sym, ap, subst, ◌∙◌, arith}
+use Rattle.std.specs.Prelude.{◌==◌, find, option_map, option_and_then}
 use Rattle.std.proofs.lemmas.Bool.{cases_lt}
 use Rattle.std.proofs.lemmas.List.{get_or-take, take-take, length-take-le}
 use Rattle.std.proofs.lemmas.List.Concat.{get_or-flat_map}
@@ -13,7 +13,7 @@ use Rattle.lvm_num.specs.declared.descriptor.Descriptor.{Descriptor}
 use Rattle.lvm_num.specs.Geometry.{partition_blocks, partition_of}
 use Rattle.lvm_num.specs.Descriptor.{IsPartitionOf, IsValid, partitions_in, partitions_used, volume_of}
 use Rattle.lvm_map.specs.Places.{copy_at, place_on, place_of}
-use Rattle.lvm_map.specs.Laws.{AreSame, IsDataOf, PlacesDiffer, PlacesAreData}
+use Rattle.lvm_map.specs.Laws.{AreSame, IsDataOf}
 use Rattle.lvm_map.proofs.Parts.{same_parts, whole}
 use Rattle.lvm_map.proofs.PlaceLemmas.{mib_positive, IsVolumeAt, volume_at, laid_out, index_below, copy_there, IsCopy, copy_is}
 

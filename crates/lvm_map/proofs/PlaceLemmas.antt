@@ -1,19 +1,17 @@
 -- The places of a volume's blocks.
-use Rattle.std.proofs.Common.{◌≡◌, ◌≢◌, ◌⊎◌, inl, inr, ℕ, zero, suc, ◌+◌, ◌-◌, ◌*◌, ◌/◌, ◌%◌, ◌<◌, ◌≤◌, Bool, true, false, cond, ◌&&◌, ◌||◌, List, [], ◌∷◌, ◌++◌, length, get_or, take, drop, Option, Some, None, refl, sym, ap, subst, ◌∙◌, arith, rules, mul_comm}
+use Rattle.std.proofs.Common.{◌≡◌, inl, inr, ℕ, zero, suc, ◌+◌, ◌-◌, ◌*◌, ◌<◌, ◌≤◌, Bool, true, false, cond, ◌&&◌, ◌||◌, List, [], ◌∷◌, length, get_or, drop, Option, Some, None, refl, sym, ap, subst, ◌∙◌, arith, rules, mul_comm}
 use Rattle.std.specs.Prelude.{◌==◌, All, IsTrue, find, slice_get, option_map, option_and_then}
-use Rattle.std.specs.List.{list_any}
 use Rattle.std.proofs.lemmas.Bool.{eqb-true, cases_lt, cases_eq}
 use Rattle.std.proofs.lemmas.Bool.Decides.{nat_tests}
-use Rattle.std.proofs.lemmas.List.{get_or-take, get_or-drop, length-take-le, length-take, length-drop, drop_all}
+use Rattle.std.proofs.lemmas.List.{get_or-take, get_or-drop, length-take, length-drop, drop_all}
 use Rattle.std.proofs.lemmas.List.Folds.{list_any-append, list_any_at}
 use Rattle.std.proofs.lemmas.Nat.{mul-add-lt}
-use Rattle.std.proofs.Math.Nat.{mul-le-mul_left, mul-le-mul_right}
+use Rattle.std.proofs.Math.Nat.{mul-le-mul_right}
 use Rattle.lvm_num.specs.declared.place.Pp.{Pp}
-use Rattle.lvm_num.specs.declared.place.Place.{Place}
 use Rattle.lvm_num.specs.declared.descriptor.LvRow.{LvRow}
 use Rattle.lvm_num.specs.declared.descriptor.Descriptor.{Descriptor}
-use Rattle.lvm_num.specs.Geometry.{partition_blocks, partition_of, volume_blocks, sector_of}
-use Rattle.lvm_num.specs.Descriptor.{IsLaidOut, IsVolume, IsValid, copies_of, is_size, partitions_in, partitions_used, volume_of}
+use Rattle.lvm_num.specs.Geometry.{partition_of, volume_blocks}
+use Rattle.lvm_num.specs.Descriptor.{IsLaidOut, IsValid, copies_of, is_size, partitions_in, partitions_used, volume_of}
 use Rattle.lvm_num.proofs.MapsLemmas.{find-Some}
 use Rattle.lvm_map.specs.FirstFit.{is_among}
 use Rattle.lvm_map.specs.Places.{copy_at, place_on, place_of, IsBlockOfCopy}
@@ -88,6 +86,7 @@ no_partition row lp copy whole more = by_copy (copy == 0)
   where
     none : drop (lp * row.copies) row.map ≡ []
     none = drop_all (lp * row.copies) row.map (omega (arith, mul-le-mul_right row.copies more))
+
     by_copy : (b : Bool) → cond b None (slice_get (copies_of row lp) (copy - 1)) ≡ None
     by_copy true = refl
     by_copy false = past (copies_of row lp) (copy - 1) (omega (arith, length-take row.copies (drop (lp * row.copies) row.map), ap (λ (pps : List Pp). length pps) none))
@@ -151,9 +150,11 @@ its_used number (first ∷ rows) row is k e lt = by_test (its_used number rows r
   where
     split : is_among (partitions_in (first ∷ rows)) (get_or row.map k e) ≡ is_among first.map (get_or row.map k e) || is_among (partitions_in rows) (get_or row.map k e)
     split = list_any-append (λ (p : Pp). p.disk == (get_or row.map k e).disk && p.pp == (get_or row.map k e).pp) first.map (partitions_in rows)
+
     or_true : (a b : Bool) → b ≡ true → a || b ≡ true
     or_true true b its = refl
     or_true false b its = its
+
     by_test : (find (λ (r : LvRow). r.number == number) rows ≡ Some row → (k : ℕ) (e : Pp) → k < length row.map → is_among (partitions_in rows) (get_or row.map k e) ≡ true)
         → (b : Bool) → cond b (Some first) (find (λ (r : LvRow). r.number == number) rows) ≡ Some row → is_among (partitions_in (first ∷ rows)) (get_or row.map k e) ≡ true
     by_test rest true here =

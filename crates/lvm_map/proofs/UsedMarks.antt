@@ -1,5 +1,5 @@
 -- The marks of the partitions that volumes use.
-use Rattle.std.proofs.Common.{◌≡◌, ◌≢◌, inl, inr, ℕ, zero, suc, ◌*◌, ◌+◌, ◌<◌, ◌≤◌, Bool, true, false, cond, ◌&&◌, ◌||◌, not, List, [], ◌∷◌, ◌++◌, map, get_or, Some, refl, sym, ap, subst, ◌∙◌, arith}
+use Rattle.std.proofs.Common.{◌≡◌, ◌≢◌, inl, inr, ℕ, zero, suc, ◌*◌, ◌+◌, ◌<◌, ◌≤◌, Bool, true, false, cond, ◌||◌, not, List, [], ◌∷◌, ◌++◌, map, get_or, refl, sym, ap, subst, ◌∙◌, arith}
 use Rattle.std.specs.Prelude.{◌==◌, All, filter}
 use Rattle.std.specs.List.{list_any, range_with_len}
 use Rattle.std.proofs.lemmas.Bool.{cases_Bool, eqb-true}
@@ -15,7 +15,6 @@ use Rattle.lvm_num.specs.Descriptor.{IsMember, IsPartitionOf, IsValid, partition
 use Rattle.lvm_num.specs.Marks.{spot}
 use Rattle.lvm_num.proofs.MapsLemmas.{find-Some}
 use Rattle.lvm_num.proofs.Pairs.{All-left, All-right}
-use Rattle.lvm_num.proofs.MarksLemmas.{Marked}
 use Rattle.lvm_map.specs.FirstFit.{is_among, partitions_of, free_of}
 use Rattle.lvm_map.specs.Room.{IsBounded}
 use Rattle.lvm_map.proofs.FreeLists.{is_pp, is_pp-same, is_pp-apart, filter_same, partitions-at, partitions-size}

@@ -1,6 +1,6 @@
 -- The descriptor with what was allocated is valid.
-use Rattle.std.proofs.Common.{◌≡◌, ◌≢◌, ◌⊎◌, inl, inr, ℕ, zero, suc, ◌+◌, ◌-◌, ◌*◌, ◌/◌, ◌%◌, ◌<◌, ◌≤◌, Bool, true, false, cond, ◌&&◌, ◌||◌, List, [], ◌∷◌, ◌++◌, length, get_or, set, take, drop, Option, Some, None, nat_lt, refl, sym, ap, subst, ◌∙◌, arith, rules}
-use Rattle.std.specs.Prelude.{◌==◌, All, AllPairs, IsTrue, insert, slice_get}
+use Rattle.std.proofs.Common.{◌≡◌, ◌≢◌, ◌⊎◌, inl, inr, ℕ, suc, ◌+◌, ◌-◌, ◌*◌, ◌/◌, ◌%◌, ◌<◌, ◌≤◌, Bool, true, false, cond, ◌&&◌, ◌||◌, List, ◌∷◌, ◌++◌, length, get_or, set, take, drop, Some, nat_lt, refl, sym, ap, subst, ◌∙◌, arith}
+use Rattle.std.specs.Prelude.{◌==◌, All, AllPairs, insert, slice_get}
 use Rattle.std.proofs.lemmas.Bool.{cases_lt, cases_eq, eq-eqb, false≢true}
 use Rattle.std.proofs.lemmas.Bool.Decides.{nat_tests}
 use Rattle.std.proofs.lemmas.List.{get_or-take, get_or-drop, get_or_append_left, get_or-append_right, get_or-append-add, get_or-set_same, get_or-set_other, length-set, length-append, length-drop, length-take, length-take-le, set-get_or, set_split, take-append-drop, same_lists}
@@ -11,10 +11,10 @@ use Rattle.std.proofs.lemmas.List.Folds.{list_any-append, list_any_at}
 use Rattle.lvm_num.specs.declared.place.Pp.{Pp}
 use Rattle.lvm_num.specs.declared.descriptor.LvRow.{LvRow}
 use Rattle.lvm_num.specs.declared.descriptor.Descriptor.{Descriptor}
-use Rattle.lvm_num.specs.Descriptor.{IsHead, IsVolume, AreVolumes, IsPartitionOf, IsLaidOut, AreMaps, IsValid, copies_of, most_volumes, partitions_in, partitions_used}
+use Rattle.lvm_num.specs.Descriptor.{IsVolume, AreVolumes, IsPartitionOf, IsLaidOut, AreMaps, IsValid, copies_of, most_volumes, partitions_in, partitions_used}
 use Rattle.lvm_num.specs.Disks.{Disks}
 use Rattle.lvm_num.proofs.Pairs.{All-left, All-right, AllPairs-left, AllPairs-right, AllPairs-across, AllPairs-append}
-use Rattle.lvm_map.specs.FirstFit.{is_among, is_on, choices, Asked, kept_next, others_in, next_fit, IsFirstFit, IsAllocated, new_volume, more_copies}
+use Rattle.lvm_map.specs.FirstFit.{is_among, is_on, choices, Asked, kept_next, others_in, IsFirstFit, IsAllocated, new_volume, more_copies}
 use Rattle.lvm_map.specs.Laws.{IsNewPlace}
 use Rattle.lvm_map.proofs.FreeLists.{is_pp-same}
 use Rattle.lvm_map.proofs.Fitting.{get-within, get-get_or}
@@ -82,8 +82,8 @@ module _ (front old back pps : List Pp) (once : AllPairs (λ (a b : Pp). a ≢ b
         let rest = j - length pps in
         let is : get_or (pps ++ back) j e ≡ get_or back rest e = get_or-append_right pps back (length pps) j e refl past in
         λ same.
-            AllPairs-across (λ (a b : Pp). a ≢ b) front (old ++ back) once i (length old + rest) e i-lt (omega (arith, length-append old back, length-append pps back))
-            (same ∙ is ∙ sym (get_or-append-add old back rest e))
+        AllPairs-across (λ (a b : Pp). a ≢ b) front (old ++ back) once i (length old + rest) e i-lt (omega (arith, length-append old back, length-append pps back))
+        (same ∙ is ∙ sym (get_or-append-add old back rest e))
   ]
 
   joined : AllPairs (λ (a b : Pp). a ≢ b) (front ++ (pps ++ back))

@@ -8,7 +8,7 @@ use std::test::Fail;
 type Member = (u16, u16, bool);
 
 // A volume by its number, its copies and their partitions.
-type Volume<'a> = (u16, u8, &'a [(u16, u16)]);
+type Volume<'a> = (u8, u8, &'a [(u16, u16)]);
 
 fn row_of(alloc: Global, volume: &Volume<'_>) -> Result<LvRow, Fail> {
     let (number, copies, places) = *volume;
@@ -19,15 +19,18 @@ fn row_of(alloc: Global, volume: &Volume<'_>) -> Result<LvRow, Fail> {
             pp: *pp,
         })?;
     }
-    let letter = b'a'.wrapping_add(number as u8);
-    let lps = places.len().checked_div(usize::from(copies)).ok_or("copies")? as u32;
+    let letter = b'a'.wrapping_add(number);
+    let lps = places
+        .len()
+        .checked_div(usize::from(copies))
+        .ok_or("copies")?;
     Ok(LvRow {
-        number,
+        number: u16::from(number),
         name: Name::read(&[letter]).ok_or("a name")?,
         copies,
         mode: Mode::Active,
         policy: Policy::Parallel,
-        lps,
+        lps: u32::try_from(lps).map_err(|_| "too many")?,
         map: Rows::new(map),
     })
 }
@@ -119,15 +122,24 @@ const THREE: [Member; 3] = [(0, 6, false), (1, 6, false), (2, 6, false)];
 fn copies_go_to_the_members_in_turn(rt: HostRuntime) -> Result<(), Fail> {
     let group = group_of(rt.alloc(), &THREE, &[])?;
     let map = first_fit(&rt, &group, &[0, 1, 2], 2, 3);
-    assert_eq!(rt; is_at(&map, &[(0, 0), (1, 0), (2, 0), (0, 1), (1, 1), (2, 1)]), true);
+    assert_eq!(rt;
+        is_at(&map, &[(0, 0), (1, 0), (2, 0), (0, 1), (1, 1), (2, 1)]),
+        true
+    );
     Ok(())
 }
 
 #[test]
 fn a_volume_of_more_than_all_finds_no_room(rt: HostRuntime) -> Result<(), Fail> {
     let group = group_of(rt.alloc(), &THREE, &[])?;
-    assert_eq!(rt; lacks_room(&first_fit(&rt, &group, &[0, 1, 2], 7, 3), 18), true);
-    assert_eq!(rt; lacks_room(&first_fit(&rt, &group, &[0, 1, 2], 1, 4), 18), true);
+    assert_eq!(rt;
+        lacks_room(&first_fit(&rt, &group, &[0, 1, 2], 7, 3), 18),
+        true
+    );
+    assert_eq!(rt;
+        lacks_room(&first_fit(&rt, &group, &[0, 1, 2], 1, 4), 18),
+        true
+    );
     Ok(())
 }
 
@@ -159,7 +171,10 @@ fn holes_are_filled_from_the_lowest(rt: HostRuntime) -> Result<(), Fail> {
     assert_eq!(rt; is_at(&map, &[(3, 1), (7, 0), (3, 3), (7, 2)]), true);
     assert_eq!(rt; lacks_room(&first_fit(&rt, &group, &[3, 7], 3, 2), 4), true);
     let map = further(&rt, &group, &[3, 7], 2);
-    assert_eq!(rt; is_at(&map, &[(3, 0), (7, 0), (7, 1), (3, 1), (3, 2), (7, 2)]), true);
+    assert_eq!(rt;
+        is_at(&map, &[(3, 0), (7, 0), (7, 1), (3, 1), (3, 2), (7, 2)]),
+        true
+    );
     Ok(())
 }
 
@@ -189,7 +204,10 @@ fn a_spare_takes_nothing(rt: HostRuntime) -> Result<(), Fail> {
     let group = group_of(rt.alloc(), &members, &[(1, 1, &HOLES)])?;
     let map = first_fit(&rt, &group, &[3, 7, 9], 1, 2);
     assert_eq!(rt; is_at(&map, &[(7, 0), (9, 0)]), true);
-    assert_eq!(rt; lacks_room(&first_fit(&rt, &group, &[3, 7, 9], 2, 2), 3), true);
+    assert_eq!(rt;
+        lacks_room(&first_fit(&rt, &group, &[3, 7, 9], 2, 2), 3),
+        true
+    );
     Ok(())
 }
 
@@ -216,10 +234,34 @@ fn a_block_has_a_sector_on_each_copy(rt: HostRuntime) -> Result<(), Fail> {
     assert!(rt; valid);
     assert_eq!(rt; blocks(&group, 4), Some(4096));
     assert_eq!(rt; blocks(&group, 3), None);
-    assert_eq!(rt; sector(&rt, &group, 4, 1, 0), Some(Place { disk: 0, sector: 14336 }));
-    assert_eq!(rt; sector(&rt, &group, 4, 2, 2047), Some(Place { disk: 1, sector: 6143 }));
-    assert_eq!(rt; sector(&rt, &group, 4, 1, 2048), Some(Place { disk: 1, sector: 6144 }));
-    assert_eq!(rt; sector(&rt, &group, 4, 2, 4095), Some(Place { disk: 2, sector: 12287 }));
+    assert_eq!(rt;
+        sector(&rt, &group, 4, 1, 0),
+        Some(Place {
+            disk: 0,
+            sector: 14336
+        })
+    );
+    assert_eq!(rt;
+        sector(&rt, &group, 4, 2, 2047),
+        Some(Place {
+            disk: 1,
+            sector: 6143
+        })
+    );
+    assert_eq!(rt;
+        sector(&rt, &group, 4, 1, 2048),
+        Some(Place {
+            disk: 1,
+            sector: 6144
+        })
+    );
+    assert_eq!(rt;
+        sector(&rt, &group, 4, 2, 4095),
+        Some(Place {
+            disk: 2,
+            sector: 12287
+        })
+    );
     assert_eq!(rt; sector(&rt, &group, 4, 2, 4096), None);
     assert_eq!(rt; sector(&rt, &group, 4, 3, 0), None);
     assert_eq!(rt; sector(&rt, &group, 4, 0, 0), None);

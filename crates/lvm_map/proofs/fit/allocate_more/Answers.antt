@@ -1,4 +1,4 @@
-use Rattle.std.proofs.Common.{List, Some, sym, subst}
+use Rattle.std.proofs.Common.{List, sym, subst}
 use Rattle.std.specs.Prelude.{All, IsTrue, IfErr}
 use Rattle.lvm_num.specs.declared.place.Pp.{Pp}
 use Rattle.lvm_num.specs.Descriptor.{partitions_used}

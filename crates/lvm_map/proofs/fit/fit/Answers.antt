@@ -1,10 +1,10 @@
-use Rattle.std.proofs.Common.{◌≡◌, ◌≢◌, ◌+◌, ◌*◌, ◌<◌, ◌≤◌, Bool, true, false, cond, not, List, [], ◌∷◌, ◌++◌, append-nil, length, Option, Some, None, is_ok, sym, ap, subst, ◌∙◌, arith, rules}
-use Rattle.std.specs.Prelude.{All, sum_by, slice_get}
+use Rattle.std.proofs.Common.{◌≡◌, ◌*◌, ◌≤◌, true, cond, not, List, [], ◌∷◌, ◌++◌, length, Some, None, is_ok, sym, ap, subst, ◌∙◌, arith}
+use Rattle.std.specs.Prelude.{All, sum_by}
 use Rattle.std.proofs.lemmas.List.{length_push}
 use Rattle.lvm_num.specs.declared.place.Pp.{Pp}
 use Rattle.lvm_num.specs.Descriptor.{partitions_used}
 use Rattle.lvm_num.specs.Disks.{has}
-use Rattle.lvm_map.specs.FirstFit.{Asked, IsFirstFit, next_fit}
+use Rattle.lvm_map.specs.FirstFit.{Asked, IsFirstFit}
 use Rattle.lvm_map.specs.Room.{room_of, TakesNext}
 use Rattle.lvm_map.proofs.Fitting.{next_is_some, next_is_none, fits-more}
 use Rattle.lvm_map.proofs.Members.{few_members, few_each, free_is}
@@ -23,8 +23,7 @@ returns-in_default-next-clause-fault c =
     let d = c.args.d.now in
     let asked : Asked = record { lps = c.args.lps; copies = c.args.copies; kept = c.args.kept; old = c.args.old.now } in
     let usable = has c.args.usable in
-    let front = c.loop-room.map.items in
-    (
+    let front = c.loop-room.map.items in (
       record {
         front = front;
         short = omega (arith, c.loop-room-test.true, c.len.ensures, c.loop-room.map.ok, ap (λ n. c.args.lps * n) c.from.ensures);

@@ -1,7 +1,7 @@
-use Rattle.std.proofs.Common.{◌≡◌, ◌++◌, ◌-◌, ◌≤◌, length, vec_len}
+use Rattle.std.proofs.Common.{◌≡◌, ◌++◌, ◌-◌, ◌≤◌, length}
 use Rattle.lvm_num.specs.Descriptor.{partitions_used}
 use Rattle.lvm_num.specs.Disks.{has}
-use Rattle.lvm_map.specs.FirstFit.{Asked, IsFirstFit}
+use Rattle.lvm_map.specs.FirstFit.{IsFirstFit}
 use Rattle.lvm_map.specs.Room.{room_of}
 use Rattle.lvm_map.proofs.fit.fit.Given as goal
 

@@ -1,10 +1,8 @@
-use Rattle.std.proofs.Common.{◌≡◌, ℕ, ◌-◌, ◌%◌, ◌≤◌, Bool, true, false, List, length, take, drop, nat_lt, sym, ap, subst, ◌∙◌, arith}
-use Rattle.std.specs.Bool.{MatchBool}
+use Rattle.std.proofs.Common.{◌≡◌, ℕ, ◌-◌, ◌%◌, ◌≤◌, false, List, length, take, drop, nat_lt, subst, arith}
 use Rattle.std.proofs.lemmas.Bool.Decides.{nat_tests}
 use Rattle.std.proofs.lemmas.List.{take_rest}
 use Rattle.lvm_num.specs.declared.place.Pp.{Pp}
 use Rattle.lvm_map.specs.Room.{Takes}
-use Rattle.lvm_map.proofs.Fitting.{next_is_some, next_is_none, fits-more}
 use Rattle.lvm_map.proofs.fit.next.Goals as goal
 
 not_below : (m n : ℕ) → n ≤ m → nat_lt m n ≡ false

@@ -1,4 +1,4 @@
-use Rattle.std.proofs.Common.{◌≡◌, ◌+◌, ◌-◌, ◌*◌, ◌<◌, ◌≤◌, List, get_or, Some, None, sym, ap, ◌∙◌, arith}
+use Rattle.std.proofs.Common.{sym, ap, arith}
 use Rattle.lvm_num.specs.declared.place.Pp.{Pp}
 use Rattle.lvm_map.specs.Places.{copy_at}
 use Rattle.lvm_map.proofs.PlaceLemmas.{copy_there, no_copy, no_partition}

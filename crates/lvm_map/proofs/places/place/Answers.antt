@@ -1,10 +1,6 @@
-use Rattle.std.proofs.Common.{◌≡◌, ℕ, ◌/◌, List, Some, None, refl, sym, ap, subst, ◌∙◌}
-use Rattle.std.specs.Prelude.{◌==◌, find}
+use Rattle.std.proofs.Common.{◌≡◌, ◌/◌, Some, None, refl, sym, ap, ◌∙◌}
 use Rattle.std.proofs.lemmas.Bool.{false≢true}
-use Rattle.lvm_num.specs.declared.descriptor.LvRow.{LvRow}
-use Rattle.lvm_num.specs.declared.descriptor.Descriptor.{Descriptor}
 use Rattle.lvm_num.specs.Geometry.{partition_of}
-use Rattle.lvm_num.specs.Descriptor.{volume_of}
 use Rattle.lvm_map.specs.Places.{copy_at}
 use Rattle.lvm_map.proofs.PlaceLemmas.{volume_is, laid_out, block_is, no_block}
 use Rattle.lvm_map.proofs.places.place.Goals as goal

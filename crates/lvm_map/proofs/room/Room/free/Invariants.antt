@@ -1,4 +1,4 @@
-use Rattle.std.proofs.Common.{◌≡◌, ◌*◌, ◌≤◌, length, take, map, Global}
+use Rattle.std.proofs.Common.{◌≡◌, ◌*◌, ◌≤◌, length, take, Global}
 use Rattle.std.specs.Prelude.{sum_by}
 use Rattle.std.specs.declared.collections.VecDeque.{VecDeque}
 use Rattle.lvm_num.specs.declared.place.Pp.{Pp}

@@ -1,8 +1,8 @@
-use Rattle.std.proofs.Common.{◌≡◌, List, Option, Some, None, sym, ap, subst, ◌∙◌, Global}
+use Rattle.std.proofs.Common.{ap, ◌∙◌, Global}
 use Rattle.std.specs.Prelude.{position}
 use Rattle.std.specs.declared.collections.VecDeque.{VecDeque}
 use Rattle.lvm_num.specs.declared.place.Pp.{Pp}
-use Rattle.lvm_map.specs.Room.{is_open, Takes}
+use Rattle.lvm_map.specs.Room.{is_open}
 use Rattle.lvm_map.proofs.Choices.{takes_none, takes_first}
 use Rattle.lvm_map.proofs.room.Room.take.Goals as goal
 
