@@ -8,7 +8,7 @@ ghost use Rattle.lvm_num.specs.Bits.{has_bit};
 ghost use Rattle.lvm_num.specs.Descriptor.{IsValid, IsMember, partitions_used};
 ghost use Rattle.lvm_num.specs.Disks.{has};
 ghost use Rattle.lvm_num.specs.Marks.{spot};
-ghost use Rattle.lvm_map.specs.FirstFit.{is_on, partitions_of};
+ghost use Rattle.lvm_map.specs.FirstFit.{is_on, may_take, partitions_of};
 ghost use Rattle.lvm_map.specs.Room.{is_open, room_of, IsBounded, Takes};
 
 use lvm_num::{Descriptor, DiskSet, Memory, Pp, PvRow, has_bit, set_bit};
@@ -45,7 +45,7 @@ impl Room {
         let marks = used_marks(d);
         let mut members = Vec::new(alloc);
         for row in d.pvs.as_slice() {
-            if usable.has(row.disk) && !row.spare {
+            if may_take(usable, row) {
                 members.push(free_of(alloc, &marks, *row)?)?;
             }
         }
@@ -72,6 +72,14 @@ impl Room {
         let member = first_open(&self.members, others)?;
         self.members[member].pop_front()
     }
+}
+
+// Whether a member may take copies: it is usable, and no spare.
+fn may_take(usable: DiskSet, row: &PvRow) -> bool
+    requires { row.now.disk < 128 }
+    ensures { result ≡ may_take (has usable) [] row.now }
+{
+    usable.has(row.disk) && !row.spare
 }
 
 fn first_open(members: &[VecDeque<Pp>], others: &[Pp]) -> Option<usize>

@@ -10,23 +10,13 @@ use Rattle.lvm_map.specs.FirstFit.{free_of, may_take}
 use Rattle.lvm_map.proofs.UsedMarks.{used_bounded, marks_free}
 use Rattle.lvm_map.proofs.Members.{no_row, gathered, member_at}
 use Rattle.lvm_map.proofs.room.Room.of.Goals as goal
-use Rattle.lvm_map.proofs.room.Room.of.Goals.{then-has+then-not-row+in_ok-free_of+in_ok-push, else-has, else-has-via-then-has+else-not-row, else-has-via-else-has}
+use Rattle.lvm_map.proofs.room.Room.of.Goals.{then-may_take+in_ok-free_of+in_ok-push, else-may_take}
 
 abbrev items : VecDeque Pp Global → List Pp
 items free = free.items
 
-taken : (u s : Bool) → u ≡ true → s ≡ false → u && not s && true ≡ true
-taken u s usable spare = λ t. usable t && not (spare t) && true
-
-spare_left : (u s : Bool) → s ≡ true → u && not s && true ≡ false
-spare_left true s spare = ap (λ b. not b && true) spare
-spare_left false s spare = refl
-
-unusable_left : (u s : Bool) → u ≡ false → u && not s && true ≡ false
-unusable_left u s usable = ap (λ b. b && not s && true) usable
-
-pub has-requires : goal.has-requires
-has-requires c = (member_at c.args.d.now c.requires c.as_slice-row-items.result.now c.as_slice-row-items.ensures c.loop-row.row-index (omega arith)).disk
+pub may_take-requires : goal.may_take-requires
+may_take-requires c = (member_at c.args.d.now c.requires c.as_slice-row-items.result.now c.as_slice-row-items.ensures c.loop-row.row-index (omega arith)).disk
 
 pub free_of-requires : goal.free_of-requires
 free_of-requires c = member_at c.args.d.now c.requires c.as_slice-row-items.result.now c.as_slice-row-items.ensures c.loop-row.row-index (omega arith)
@@ -39,31 +29,22 @@ loop-row-preserved c =
     let row = get_or rows i no_row in
     let lt : i < length rows = omega arith in
     let member : IsMember row = member_at c.args.d.now c.requires rows c.as_slice-row-items.ensures i lt in
-    let usable : c.has.result ≡ has c.args.usable row.disk = c.has.ensures.member in
-    gathered (free_of used) (may_take (has c.args.usable) []) rows i no_row (map items c.loop-row.members.items) (map items c.if-has.members.items) lt c.loop-row.invariant
-    (elim c.if-has.branch [
-      | then-has+then-not-row+in_ok-free_of+in_ok-push w ↦
+    let test : c.may_take.result ≡ may_take (has c.args.usable) [] row = c.may_take.ensures in
+    gathered (free_of used) (may_take (has c.args.usable) []) rows i no_row (map items c.loop-row.members.items) (map items c.if-may_take.members.items) lt c.loop-row.invariant
+    (elim c.if-may_take.branch [
+      | then-may_take+in_ok-free_of+in_ok-push w ↦
           let own : items w.in_ok-free_of.field-0 ≡ free_of used row =
           w.in_ok-free_of.ensures
           ∙ marks_free c.used_marks-marks.result used row c.used_marks-marks.ensures (used_bounded c.args.d.now c.requires) member.partitions in
-          let takes : may_take (has c.args.usable) [] row ≡ true = taken (has c.args.usable row.disk) row.spare (sym usable ∙ w.if-has.true) w.if-not-row.true in
           ap (λ (v : Vec (VecDeque Pp Global) Global). map items v.items) w.members-is
           ∙ ap (λ (qs : List (VecDeque Pp Global)). map items qs) w.in_ok-push.ensures.items
           ∙ map-append items c.loop-row.members.items (w.in_ok-free_of.field-0 ∷ [])
           ∙ ap (λ (free : List Pp). map items c.loop-row.members.items ++ free ∷ []) own
-          ∙ ap (λ b. map items c.loop-row.members.items ++ cond b (free_of used row ∷ []) []) (sym takes)
-      | else-has w ↦ elim w.else-has.branch [
-        | else-has-via-then-has+else-not-row w2 ↦
-            let skips : may_take (has c.args.usable) [] row ≡ false = spare_left (has c.args.usable row.disk) row.spare w2.if-not-row.false in
-            ap (λ (v : Vec (VecDeque Pp Global) Global). map items v.items) w.members-is
-            ∙ sym (append-nil (map items c.loop-row.members.items))
-            ∙ ap (λ b. map items c.loop-row.members.items ++ cond b (free_of used row ∷ []) []) (sym skips)
-        | else-has-via-else-has w2 ↦
-            let skips : may_take (has c.args.usable) [] row ≡ false = unusable_left (has c.args.usable row.disk) row.spare (sym usable ∙ w2.if-has.false) in
-            ap (λ (v : Vec (VecDeque Pp Global) Global). map items v.items) w.members-is
-            ∙ sym (append-nil (map items c.loop-row.members.items))
-            ∙ ap (λ b. map items c.loop-row.members.items ++ cond b (free_of used row ∷ []) []) (sym skips)
-      ]
+          ∙ ap (λ b. map items c.loop-row.members.items ++ cond b (free_of used row ∷ []) []) (sym w.if-may_take.true ∙ test)
+      | else-may_take w ↦
+          ap (λ (v : Vec (VecDeque Pp Global) Global). map items v.items) w.members-is
+          ∙ sym (append-nil (map items c.loop-row.members.items))
+          ∙ ap (λ b. map items c.loop-row.members.items ++ cond b (free_of used row ∷ []) []) (sym w.if-may_take.false ∙ test)
     ])
 
 pub returns : goal.returns
