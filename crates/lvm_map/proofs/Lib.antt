@@ -1,0 +1,11 @@
+pub mod Choices
+pub mod Fitting
+pub mod FreeLists
+pub mod Members
+pub mod NewPlaces
+pub mod OneAnswer
+pub mod OneToOne
+pub mod Parts
+pub mod PlaceLemmas
+pub mod UsedMarks
+pub mod Validity

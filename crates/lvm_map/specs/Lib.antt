@@ -1,0 +1,4 @@
+pub mod FirstFit
+pub mod Laws
+pub mod Places
+pub mod Room
