@@ -1,0 +1,2 @@
+pub mod FirstsLemmas
+pub mod EntriesLemmas

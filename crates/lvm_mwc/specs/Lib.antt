@@ -1,0 +1,4 @@
+pub mod Firsts
+pub mod Entries
+pub mod Notes
+pub mod Cache

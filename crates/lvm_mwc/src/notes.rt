@@ -1,0 +1,55 @@
+//! The consistency records of the disks, as they are written.
+ghost use Rattle.std.specs.Prelude.{◌≡◌, ◌≤◌, length, position};
+ghost use Rattle.lvm_mwc.specs.Notes.{is_on, names_group, names_surely, common};
+
+use arrayvec::ArrayVec;
+use lvm_num::NoteEntry;
+
+/// The consistency record of one disk.
+#[derive(Drop)]
+pub struct DiskNotes {
+    pub disk: u16,
+    /// What each sector that may stand on the disk names while no note is in flight: the note that
+    /// was written last, or where writes of notes failed since, what that note and all of those have.
+    pub home: ArrayVec<NoteEntry, 62>,
+    /// The note that is being written.
+    pub flight: Option<ArrayVec<NoteEntry, 62>>,
+}
+
+// The place of a disk.
+pub fn place_of(notes: &[DiskNotes], disk: u16) -> Option<usize>
+    ensures { result ≡ position (is_on disk) notes.now }
+{
+    notes.iter().position(|row| row.disk == disk)
+}
+
+// Whether a note names a track group.
+fn names_group(note: &[NoteEntry], lv: u16, group: u32) -> bool
+    ensures { result ≡ names_group note.now lv group }
+{
+    note.iter()
+        .any(|entry| entry.lv == lv && entry.group == group)
+}
+
+// Whether the note at home and the one in flight name a track group.
+pub fn names_surely(notes: &DiskNotes, lv: u16, group: u32) -> bool
+    ensures { result ≡ names_surely lv group notes.now }
+{
+    match &notes.flight {
+        None => names_group(&notes.home, lv, group),
+        Some(flight) => names_group(&notes.home, lv, group) && names_group(flight, lv, group),
+    }
+}
+
+// What both notes have.
+pub fn common(home: &ArrayVec<NoteEntry, 62>, flight: &[NoteEntry]) -> ArrayVec<NoteEntry, 62>
+    ensures { result.items ≡ common home.now.items flight.now }
+{
+    let mut both = ArrayVec::new();
+    for entry in home.as_slice() {
+        if names_group(flight, entry.lv, entry.group) {
+            both.push(*entry);
+        }
+    }
+    both
+}
