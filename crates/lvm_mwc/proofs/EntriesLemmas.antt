@@ -31,8 +31,8 @@ is_entry-turn e f = rw (turn f.lv e.lv, turn f.group e.group) refl
 pins_at : (es : List CacheEntry) (lv group k : ℕ) (d : CacheEntry) → IsFirstAt (is_entry lv group) es d k → pins_of es lv group ≡ (get_or es k d).pins
 pins_at es lv group k d first = ap (λ (o : Option CacheEntry). option_map_or (λ (e : CacheEntry). e.pins) o 0) first.found
 
-shorter : (es : List CacheEntry) (k : ℕ) → k < length es → length (remove es k) + 1 ≡ length es
-shorter es k within = grind (arith, length-append {A = CacheEntry})
+pub few_left : (es now new : List CacheEntry) (k : ℕ) → now ≡ es → length now ≤ 62 → new ≡ remove es k → length new + 1 ≡ length es → length (remove es k) < 62
+few_left es now new k same most is less = rw (← is) (omega (arith, ap length same, most, less))
 
 pub room_own : (es : List CacheEntry) (lv group k : ℕ) (e : CacheEntry) → position (is_entry lv group) es ≡ Some k → e ≡ get_or es k e → length (remove es k) < 62 → MakesRoom es (remove es k) lv group (Some e.pins)
 room_own es lv group k e at is few =

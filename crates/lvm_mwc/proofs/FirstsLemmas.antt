@@ -3,7 +3,7 @@ use Rattle.std.proofs.Common.{◌≡◌, ◌<◌, ◌≤◌, ◌+◌, ◌||◌, 
 use Rattle.std.specs.List.{list_any, find, position, position_or_len, remove}
 use Rattle.std.proofs.lemmas.Bool.{ltb-false}
 use Rattle.std.proofs.lemmas.List.Quantifiers.{position-Some}
-use Rattle.std.proofs.lemmas.List.Sums.{fails_before_first, count_by-le-length}
+use Rattle.std.proofs.lemmas.List.Sums.{fails_before_first, count_by-le-length, sum_by-cons}
 use Rattle.lvm_mwc.specs.Firsts.{without_first, with_first}
 
 past_end : (test : Bool) (n : ℕ) → cond test (Some n) None ≡ None → test ≡ false
@@ -83,14 +83,14 @@ module _ {X : Type 0} where
 
   pub count_some : (p : X → Bool) (xs : List X) → list_any p xs ≡ true → count_by (λ x. not (p x)) xs < length xs
   count_some p [] any = cc
-  count_some p (x ∷ xs) any = fewer (p x) p xs (count_some p xs) any
+  count_some p (x ∷ xs) any = rw (sum_by-cons (λ (y : X). cond (not (p y)) 1 0) x xs) (fewer (p x) p xs (count_some p xs) any)
 
   pub count_none : (p : X → Bool) (xs : List X) → list_any p xs ≡ false → count_by (λ x. not (p x)) xs ≡ length xs
   count_none p [] none = refl
   count_none p (x ∷ xs) none =
       let both = or_false (p x) (list_any p xs) none in
       let other : p x ≡ false = both.0 in
-      rw other (omega (arith, count_none p xs both.1))
+      rw (sum_by-cons (λ (y : X). cond (not (p y)) 1 0) x xs, other) (omega (arith, count_none p xs both.1))
 
   any_without_test : (test : Bool) (q : X → Bool) (x : X) (xs ys : List X) → q x ≡ false → list_any q xs ≡ false → list_any q ys ≡ false → list_any q (cond test xs (x ∷ ys)) ≡ false
   any_without_test true q x xs ys other rest less = rest
@@ -144,3 +144,6 @@ module _ {X : Type 0} where
   pub length-with : (p : X → Bool) (f : X → X) (xs : List X) → length (with_first p f xs) ≡ length xs
   length-with p f [] = refl
   length-with p f (x ∷ xs) = length_with_test (p x) p f x xs (length-with p f xs)
+
+  pub looked_for : (p : X → Bool) (xs now : List X) (place : Option ℕ) → now ≡ xs → place ≡ position p now → position p xs ≡ place
+  looked_for p xs now place is answer = ap (position p) (sym is) ∙ sym answer

@@ -1,2 +1,3 @@
 pub mod FirstsLemmas
 pub mod EntriesLemmas
+pub mod NotesLemmas
