@@ -133,7 +133,8 @@ Differ-push (f ∷ es) e differ other =
     let both = or_parts (is_entry e.lv e.group f) (has_entry es e.lv e.group) other in
     (any-push (is_entry f.lv f.group) es e differ.0 (sym (is_entry-turn e f) ∙ both.0), Differ-push es e differ.1 both.1)
 
-abbrev less : CacheEntry → CacheEntry
+-- an entry with a pin less
+abbrev pub less : CacheEntry → CacheEntry
 less e = record e { pins = e.pins - 1 }
 
 with_test : (test : Bool) (p : CacheEntry → Bool) (e : CacheEntry) (es : List CacheEntry) → has_entry es e.lv e.group ≡ false → Differ es → Differ (with_first p less es) → Differ (cond test (less e ∷ es) (e ∷ with_first p less es))
@@ -185,3 +186,10 @@ some_pins es now lv group k d is at some = rw is (omega (arith, pins_at es lv gr
 
 pub not_there : (es : List CacheEntry) (lv group : ℕ) → position (is_entry lv group) es ≡ None → with_unpin es lv group ≡ es
 not_there es lv group at = (none_at (is_entry lv group) es at).changed less
+
+pub pinned_as : (es new : List CacheEntry) (lv group pins : ℕ) → Differ es → MakesRoom es new lv group (Some pins) → AreEntries (new ++ record { lv = lv; group = group; pins = pins + 1 } ∷ [])
+pinned_as es new lv group pins differ room =
+    let it = has_room es new lv group pins room in
+    let same : new ≡ room_for es lv group = it.2 in
+    let had : pins ≡ pins_of es lv group = it.1 in
+    rw (had, same) (pinned_entries es new lv group differ same it.3)

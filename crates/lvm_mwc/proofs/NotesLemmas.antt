@@ -1,8 +1,8 @@
 -- The notes of a disk among those of all.
-use Rattle.std.proofs.Common.{◌≡◌, ◌<◌, ◌≤◌, ◌+◌, ◌++◌, ◌||◌, ◌&&◌, ◌==◌, not, ℕ, zero, suc, List, [], ◌∷◌, Some, None, Option, Bool, true, false, cond, nat_lt, length, get_or, set, take, refl, sym, ◌∙◌, ap, arith, inl, inr, ◌⊎◌, filter}
+use Rattle.std.proofs.Common.{◌≡◌, ◌<◌, ◌≤◌, ◌+◌, ◌++◌, ◌||◌, ◌&&◌, ◌==◌, not, ℕ, zero, suc, List, [], ◌∷◌, Some, None, Option, Bool, true, false, cond, nat_lt, length, get_or, set, take, refl, sym, ◌∙◌, ap, arith, inl, inr, ◌⊎◌, filter, IsTrue}
 use Rattle.std.specs.List.{list_any, find, position}
 use Rattle.std.specs.Option.{option_map_or, option_or}
-use Rattle.std.proofs.lemmas.Bool.{cases_lt, cases_order, lt-ltb, le-ltb, eq-eqb, ne_eqb}
+use Rattle.std.proofs.lemmas.Bool.{cases_lt, cases_order, lt-ltb, le-ltb, eq-eqb, ne_eqb, and_right}
 use Rattle.std.proofs.lemmas.List.Folds.{find-append}
 use Rattle.lvm_num.specs.declared.record.NoteEntry.{NoteEntry}
 use Rattle.lvm_num.specs.Disks.{has}
@@ -11,8 +11,10 @@ use Rattle.lvm_mwc.specs.declared.entries.CacheEntry.{CacheEntry}
 use Rattle.lvm_mwc.specs.declared.notes.DiskNotes.{DiskNotes}
 use Rattle.lvm_mwc.specs.Firsts.{with_first}
 use Rattle.lvm_mwc.specs.Entries.{note_of}
-use Rattle.lvm_mwc.specs.Notes.{is_on, names_surely}
-use Rattle.lvm_mwc.specs.Cache.{Cached, is_named, after_start, after_end, started, ended, ended_as, no_notes}
+use Rattle.std.proofs.lemmas.List.{length-take}
+use Rattle.std.proofs.lemmas.List.Sums.{length-filter, count_by-le-length}
+use Rattle.lvm_mwc.specs.Notes.{is_on, names_surely, names_group, common}
+use Rattle.lvm_mwc.specs.Cache.{Cached, is_named, after_start, after_end, started, ended, ended_as, no_notes, IsNew}
 use Rattle.lvm_mwc.proofs.FirstsLemmas.{IsFirstAt, first_at, NonePasses, none_at}
 
 abbrev pub cached : List CacheEntry → List DiskNotes → Cached
@@ -34,12 +36,12 @@ named_at s disk lv group k d at = ap (λ (o : Option DiskNotes). option_map_or (
 changed_at : (s : Cached) (es : List CacheEntry) (ns : List DiskNotes) (disk k : ℕ) (f : DiskNotes → DiskNotes) (row d : DiskNotes) → cached es ns ≡ s → position (is_on disk) ns ≡ Some k → row ≡ f (get_or ns k d) → cached es (set ns k row) ≡ record s { notes = with_first (is_on disk) f s.notes }
 changed_at s es ns disk k f row d seen at is = rw (← seen) (rw is (ap (cached es) ((first_at (is_on disk) ns d k at).changed f)))
 
-pub started_at : (s : Cached) (es : List CacheEntry) (ns : List DiskNotes) (disk k : ℕ) (note : ArrayVec NoteEntry) (d : DiskNotes) → cached es ns ≡ s → position (is_on disk) ns ≡ Some k → note.items ≡ note_of es
-    → cached es (set ns k (notes_of (get_or ns k d).disk (get_or ns k d).home (Some note))) ≡ after_start s disk
-started_at s es ns disk k note d seen at is =
+pub started_at : (s : Cached) (es : List CacheEntry) (ns : List DiskNotes) (disk k : ℕ) (r : DiskNotes) (note : ArrayVec NoteEntry) → cached es ns ≡ s → position (is_on disk) ns ≡ Some k → r ≡ get_or ns k r → note.items ≡ note_of es
+    → cached es (set ns k (notes_of r.disk r.home (Some note))) ≡ after_start s disk
+started_at s es ns disk k r note seen at there is =
     let named : note ≡ record { items = note_of s.entries } = ap (λ (items : List NoteEntry). let v : ArrayVec NoteEntry = record { items = items } in v) (is ∙ ap (λ (c : Cached). note_of c.entries) seen) in
-    changed_at s es ns disk k (started s.entries) (notes_of (get_or ns k d).disk (get_or ns k d).home (Some note)) d seen at
-    (ap (λ (v : ArrayVec NoteEntry). notes_of (get_or ns k d).disk (get_or ns k d).home (Some v)) named)
+    changed_at s es ns disk k (started s.entries) (notes_of r.disk r.home (Some note)) r seen at
+    (ap (λ (v : ArrayVec NoteEntry). notes_of r.disk r.home (Some v)) named ∙ ap (started s.entries) there)
 
 pub not_started : (s : Cached) (disk : ℕ) → position (is_on disk) s.notes ≡ None → s ≡ after_start s disk
 not_started s disk at = ap (cached s.entries) (sym ((none_at (is_on disk) s.notes at).changed (started s.entries)))
@@ -117,3 +119,20 @@ none_more disks n notes there first d =
               rw (below, below_next) refl
         ]
     ]
+
+-- ---- what two notes share
+
+pub common_few : (home flight : List NoteEntry) (i : ℕ) → i < length home → length home ≤ 62 → length (common (take i home) flight) < 62
+common_few home flight i within most =
+    let p : NoteEntry → Bool = λ e. names_group flight e.lv e.group in
+    omega (arith, length-filter p (take i home), count_by-le-length p (take i home), length-take i home)
+
+in_set : (there : Bool) (d n : ℕ) → (IsTrue there → d < n) → (nat_lt d n && there) ≡ there
+in_set true d n below = rw (lt-ltb d n (below refl)) refl
+in_set false d n below = and_right (nat_lt d n) false refl
+
+pub new_disks : (disks n : ℕ) (es : List CacheEntry) (notes : List DiskNotes) → 128 ≤ n → ((d : ℕ) → IsTrue (has disks d) → d < 128) → es ≡ [] → AreFirst disks n notes → IsNew disks (cached es notes)
+new_disks disks n es notes all few none first = record {
+  entries = none;
+  notes = λ d. first d ∙ ap (λ (b : Bool). cond b (Some (no_notes d)) None) (in_set (has disks d) d n (λ there. omega (arith, few d there, all)));
+}

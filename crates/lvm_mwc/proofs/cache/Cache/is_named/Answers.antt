@@ -1,4 +1,4 @@
-use Rattle.std.proofs.Common.{◌≡◌, ◌∙◌, sym, ap, List, Some, None}
+use Rattle.std.proofs.Common.{◌≡◌, ◌∙◌, sym, ap, List, Some, None, get_or}
 use Rattle.std.specs.List.{position}
 use Rattle.lvm_mwc.specs.declared.notes.DiskNotes.{DiskNotes}
 use Rattle.lvm_mwc.specs.Notes.{is_on, names_surely}
@@ -16,4 +16,5 @@ pub returns-in-Some : goal.returns-in-Some
 returns-in-Some c =
     let seen : c.self.inside.notes.items ≡ c.args.self.now.notes = ap (λ (s : Cached). s.notes) c.self.view_is in
     let at : position (is_on c.args.disk) c.args.self.now.notes ≡ Some c.in-Some.place = looked_for (is_on c.args.disk) c.args.self.now.notes c.deref.result.now (Some c.in-Some.place) (c.deref.ensures.value ∙ seen) c.in-Some.ensures in
-    c.names_surely.ensures ∙ ap (names_surely c.args.lv c.args.group) (rw (← seen) c.index.ensures) ∙ sym (named_at c.args.self.now c.args.disk c.args.lv c.args.group c.in-Some.place c.index.result.now at)
+    let there : c.index.result.now ≡ get_or c.args.self.now.notes c.in-Some.place c.index.result.now = rw (← seen) c.index.ensures in
+    c.names_surely.ensures ∙ ap (names_surely c.args.lv c.args.group) there ∙ sym (named_at c.args.self.now c.args.disk c.args.lv c.args.group c.in-Some.place c.index.result.now at)
