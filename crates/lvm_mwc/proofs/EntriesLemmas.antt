@@ -1,5 +1,5 @@
 -- The entries of a cache after a pin and after an unpin.
-use Rattle.std.proofs.Common.{◌≡◌, ◌<◌, ◌≤◌, ◌+◌, ◌-◌, ◌++◌, ◌||◌, ◌&&◌, ◌==◌, not, ℕ, zero, suc, List, [], ◌∷◌, Some, None, Option, OnSome, Bool, true, false, cond, nat_lt, length, get_or, set, drop, take, refl, sym, ◌∙◌, ap, subst, arith, count_by, option_map, ◌⊎◌, inl, inr}
+use Rattle.std.proofs.Common.{◌≡◌, ◌≢◌, ◌^◌, ◌<◌, ◌≤◌, ◌+◌, ◌-◌, ◌++◌, ◌||◌, ◌&&◌, ◌==◌, not, ℕ, zero, suc, List, [], ◌∷◌, Some, None, Option, OnSome, Bool, true, false, cond, nat_lt, length, get_or, set, drop, take, refl, sym, ◌∙◌, ap, subst, arith, count_by, option_map, ◌⊎◌, inl, inr}
 use Rattle.std.specs.List.{list_any, find, position, remove, refill, slice_set}
 use Rattle.std.specs.Option.{option_map_or, option_or}
 use Rattle.std.proofs.lemmas.Bool.{and_parts, and_from, and_left, and_right, and_cases, or_parts, or_from, or_cases, cases_Bool, cases_lt, lt-ltb, le-ltb, eqb-true, eq-eqb, ne_eqb, eqb-false, both_ways}
@@ -8,10 +8,14 @@ use Rattle.std.proofs.lemmas.List.{append-nil, length-set, length-append, take_a
 use Rattle.std.proofs.lemmas.List.Sums.{count_by-le-length}
 use Rattle.std.proofs.lemmas.List.Folds.{find-append}
 use Rattle.std.proofs.Math.Seq.{drop-length}
+use Rattle.std.specs.List.{All}
+use Rattle.std.proofs.lemmas.List.Elements.{All-nil, All-cons, All-head, All-tail, All-push, All-map}
+use Rattle.lvm_num.specs.declared.record.NoteEntry.{NoteEntry}
+use Rattle.lvm_num.specs.Note.{IsEntry}
 use Rattle.lvm_mwc.specs.declared.entries.CacheEntry.{CacheEntry}
 use Rattle.lvm_mwc.specs.Firsts.{without_first, with_first}
-use Rattle.lvm_mwc.specs.Entries.{is_entry, is_unpinned, has_entry, pins_of, are_all_pinned, room_for, with_pin, with_unpin, Differ, AreEntries, MakesRoom}
-use Rattle.lvm_mwc.proofs.FirstsLemmas.{IsFirstAt, first_at, NonePasses, none_passes, none_at, count_some, count_none, any-without, find-without, find-with, find-with_other, any-with, length-with}
+use Rattle.lvm_mwc.specs.Entries.{is_entry, is_unpinned, has_entry, pins_of, are_all_pinned, room_for, with_pin, with_unpin, note_of, Differ, AreEntries, MakesRoom}
+use Rattle.lvm_mwc.proofs.FirstsLemmas.{IsFirstAt, first_at, NonePasses, none_passes, none_at, count_some, count_none, any-without, find-without, find-with, find-with_other, any-with, length-with, All-without, All-with}
 
 -- two tests for one track group
 pub is_entry-same : (lv group : ℕ) (e : CacheEntry) → is_entry lv group e ≡ true → (e.lv ≡ lv) × (e.group ≡ group)
@@ -155,14 +159,31 @@ room_own_none false false es lv group is differ = (any-without (is_entry lv grou
 pub room_differs : (es : List CacheEntry) (lv group : ℕ) → Differ es → (has_entry (room_for es lv group) lv group ≡ false) × Differ (room_for es lv group)
 room_differs es lv group differ = room_own_none (has_entry es lv group) (nat_lt (length es) 62) es lv group refl differ
 
-pub pinned_entries : (es new : List CacheEntry) (lv group : ℕ) → Differ es → new ≡ room_for es lv group → length new < 62 → AreEntries (with_pin es lv group)
-pinned_entries es new lv group differ is few =
-    let room = room_differs es lv group differ in
+-- an entry counts in a note
+abbrev pub Counts : CacheEntry → Type 0
+Counts e = IsEntry (record { lv = e.lv; group = e.group })
+
+counting-note : (es : List CacheEntry) → All Counts es → All IsEntry (note_of es)
+counting-note es all = All-map IsEntry (λ (e : CacheEntry). let named : NoteEntry = record { lv = e.lv; group = e.group } in named) es all
+
+note-counting : (es : List CacheEntry) → All IsEntry (note_of es) → All Counts es
+note-counting [] all = All-nil Counts
+note-counting (e ∷ es) all = All-cons Counts e es (All-head IsEntry (record { lv = e.lv; group = e.group }) (note_of es) all) (note-counting es (All-tail IsEntry (record { lv = e.lv; group = e.group }) (note_of es) all))
+
+room_counts : (own place : Bool) (es : List CacheEntry) (lv group : ℕ) → All Counts es → All Counts (cond own (without_first (is_entry lv group) es) (cond place es (without_first is_unpinned es)))
+room_counts true place es lv group all = All-without Counts (is_entry lv group) es all
+room_counts false true es lv group all = all
+room_counts false false es lv group all = All-without Counts is_unpinned es all
+
+pub pinned_entries : (es new : List CacheEntry) (lv group : ℕ) → AreEntries es → IsEntry (record { lv = lv; group = group }) → new ≡ room_for es lv group → length new < 62 → AreEntries (with_pin es lv group)
+pinned_entries es new lv group are its is few =
+    let room = room_differs es lv group are.differ in
     let e : CacheEntry = record { lv = lv; group = group; pins = pins_of es lv group + 1 } in
     let short : length (room_for es lv group) < 62 = rw (← is) few in
     record {
       most = omega (arith, length-append (room_for es lv group) (e ∷ []));
       differ = Differ-push (room_for es lv group) e room.1 room.0;
+      counting = counting-note (room_for es lv group ++ e ∷ []) (All-push Counts (room_for es lv group) e (room_counts (has_entry es lv group) (nat_lt (length es) 62) es lv group (note-counting es are.counting)) its);
     }
 
 -- ---- an unpin
@@ -171,6 +192,7 @@ pub unpinned_entries : (es : List CacheEntry) (lv group : ℕ) → AreEntries es
 unpinned_entries es lv group are = record {
   most = omega (arith, are.most, length-with (is_entry lv group) less es);
   differ = Differ-with (is_entry lv group) es are.differ;
+  counting = counting-note (with_unpin es lv group) (All-with Counts (is_entry lv group) less es (λ e counts. counts) (note-counting es are.counting));
 }
 
 refilled : (xs ys : List CacheEntry) → length ys ≡ length xs → refill (length xs) xs ys ≡ ys
@@ -187,9 +209,9 @@ some_pins es now lv group k d is at some = rw is (omega (arith, pins_at es lv gr
 pub not_there : (es : List CacheEntry) (lv group : ℕ) → position (is_entry lv group) es ≡ None → with_unpin es lv group ≡ es
 not_there es lv group at = (none_at (is_entry lv group) es at).changed less
 
-pub pinned_as : (es new : List CacheEntry) (lv group pins : ℕ) → Differ es → MakesRoom es new lv group (Some pins) → AreEntries (new ++ record { lv = lv; group = group; pins = pins + 1 } ∷ [])
-pinned_as es new lv group pins differ room =
+pub pinned_as : (es new : List CacheEntry) (lv group pins : ℕ) → AreEntries es → lv ≢ 0 → lv < 2 ^ 16 → group < 2 ^ 32 → MakesRoom es new lv group (Some pins) → AreEntries (new ++ record { lv = lv; group = group; pins = pins + 1 } ∷ [])
+pinned_as es new lv group pins are some low_lv low_group room =
     let it = has_room es new lv group pins room in
     let same : new ≡ room_for es lv group = it.2 in
     let had : pins ≡ pins_of es lv group = it.1 in
-    rw (had, same) (pinned_entries es new lv group differ same it.3)
+    rw (had, same) (pinned_entries es new lv group are (record { some_lv = some; lv = low_lv; group = low_group }) same it.3)

@@ -4,6 +4,8 @@ use Rattle.std.specs.List.{list_any, find, position, position_or_len, remove}
 use Rattle.std.proofs.lemmas.Bool.{ltb-false}
 use Rattle.std.proofs.lemmas.List.Quantifiers.{position-Some}
 use Rattle.std.proofs.lemmas.List.Sums.{fails_before_first, count_by-le-length, sum_by-cons}
+use Rattle.std.specs.List.{All}
+use Rattle.std.proofs.lemmas.List.Elements.{All-cons, All-head, All-tail}
 use Rattle.lvm_mwc.specs.Firsts.{without_first, with_first}
 
 past_end : (test : Bool) (n : ℕ) → cond test (Some n) None ≡ None → test ≡ false
@@ -147,3 +149,19 @@ module _ {X : Type 0} where
 
   pub looked_for : (p : X → Bool) (xs now : List X) (place : Option ℕ) → now ≡ xs → place ≡ position p now → position p xs ≡ place
   looked_for p xs now place is answer = ap (position p) (sym is) ∙ sym answer
+
+  all_test : (P : X → Type 0) (test : Bool) (x : X) (xs less : List X) → P x → All P xs → All P less → All P (cond test xs (x ∷ less))
+  all_test P true x xs less head rest rest_less = rest
+  all_test P false x xs less head rest rest_less = All-cons P x less head rest_less
+
+  pub All-without : (P : X → Type 0) (p : X → Bool) (xs : List X) → All P xs → All P (without_first p xs)
+  All-without P p [] all = all
+  All-without P p (x ∷ xs) all = all_test P (p x) x xs (without_first p xs) (All-head P x xs all) (All-tail P x xs all) (All-without P p xs (All-tail P x xs all))
+
+  all_with_test : (P : X → Type 0) (test : Bool) (f : X → X) (x : X) (xs less : List X) → P x → P (f x) → All P xs → All P less → All P (cond test (f x ∷ xs) (x ∷ less))
+  all_with_test P true f x xs less head changed rest rest_less = All-cons P (f x) xs changed rest
+  all_with_test P false f x xs less head changed rest rest_less = All-cons P x less head rest_less
+
+  pub All-with : (P : X → Type 0) (p : X → Bool) (f : X → X) (xs : List X) → ((x : X) → P x → P (f x)) → All P xs → All P (with_first p f xs)
+  All-with P p f [] stays all = all
+  All-with P p f (x ∷ xs) stays all = all_with_test P (p x) f x xs (with_first p f xs) (All-head P x xs all) (stays x (All-head P x xs all)) (All-tail P x xs all) (All-with P p f xs stays (All-tail P x xs all))

@@ -1,8 +1,9 @@
 -- The entries of a cache, in the order of their last pin, oldest first.
-use Rattle.std.specs.Prelude.{◌≡◌, ◌+◌, ◌-◌, ◌≤◌, ◌<◌, ◌==◌, ◌&&◌, ℕ, Option, Some, None, OnSome, Bool, false, not, List, [], ◌∷◌, ◌++◌, length, map, find, count_by, nat_lt, if◌then◌else◌}
+use Rattle.std.specs.Prelude.{◌≡◌, ◌+◌, ◌-◌, ◌≤◌, ◌<◌, ◌==◌, ◌&&◌, ℕ, Option, Some, None, OnSome, Bool, false, not, List, [], ◌∷◌, ◌++◌, length, map, find, count_by, All, nat_lt, if◌then◌else◌}
 use Rattle.std.specs.List.{list_any}
 use Rattle.std.specs.Option.{option_map_or}
 use Rattle.lvm_num.specs.declared.record.NoteEntry.{NoteEntry}
+use Rattle.lvm_num.specs.Note.{IsEntry}
 use Rattle.lvm_mwc.specs.declared.entries.CacheEntry.{CacheEntry}
 use Rattle.lvm_mwc.specs.Firsts.{without_first, with_first}
 
@@ -55,7 +56,8 @@ abbrev pub Differ : List CacheEntry → Type 0
 Differ [] = Unit {0}
 Differ (e ∷ es) = (has_entry es e.lv e.group ≡ false) × Differ es
 
--- at most 62, of different track groups
+-- at most 62, of different track groups, each of which counts in a note
 pub record AreEntries (entries : List CacheEntry) : Type 0 where
   pub most : length entries ≤ 62
   pub differ : Differ entries
+  pub counting : All IsEntry (note_of entries)

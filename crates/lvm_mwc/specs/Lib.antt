@@ -2,3 +2,5 @@ pub mod Firsts
 pub mod Entries
 pub mod Notes
 pub mod Cache
+pub mod Runs
+pub mod Laws

@@ -1,5 +1,6 @@
 //! The cache of track groups.
-ghost use Rattle.std.specs.Prelude.{◌≡◌, ◌≢◌, ◌+◌, ◌<◌, ◌^◌, if◌then◌else◌, position, IsTrue, IfOk, IsSome, IsNone};
+ghost use Rattle.std.specs.Prelude.{◌≡◌, ◌≢◌, ◌+◌, ◌<◌, ◌^◌, if◌then◌else◌, position, IsTrue, IfOk, IsSome, IsNone, All};
+ghost use Rattle.lvm_num.specs.Note.{IsEntry};
 
 use crate::entries::{CacheEntry, make_room, note_of, place_of};
 use crate::notes::{self, DiskNotes, common, names_surely};
@@ -108,6 +109,7 @@ impl Cache {
         requires disk { IsTrue (has_disk self.old disk) }
         requires idle { IsNone (flight_on self.old disk) }
         ensures note { result.items ≡ note_of self.old.entries }
+        ensures counting { All IsEntry result.items }
         ensures cache { self.new ≡ after_start self.old disk }
     {
         if let Some(place) = notes::place_of(&self.notes, disk) {

@@ -3,6 +3,7 @@
 
 mod cache;
 mod entries;
+pub mod laws;
 mod notes;
 
 pub use cache::{Cache, Pin};
