@@ -2,7 +2,7 @@
 use Rattle.std.proofs.Common.{◌≡◌, ◌≢◌, ◌^◌, ◌<◌, ◌≤◌, ◌+◌, ◌-◌, ◌++◌, ◌||◌, ◌&&◌, ◌==◌, not, ℕ, zero, suc, List, [], ◌∷◌, Some, None, Option, OnSome, Bool, true, false, cond, nat_lt, length, get_or, set, drop, take, refl, sym, ◌∙◌, ap, subst, arith, count_by, option_map, ◌⊎◌, inl, inr}
 use Rattle.std.specs.List.{list_any, find, position, remove, refill, slice_set}
 use Rattle.std.specs.Option.{option_map_or, option_or}
-use Rattle.std.proofs.lemmas.Bool.{and_parts, and_from, and_left, and_right, and_cases, or_parts, or_from, or_cases, cases_Bool, cases_lt, lt-ltb, le-ltb, eqb-true, eq-eqb, ne_eqb, eqb-false, both_ways}
+use Rattle.std.proofs.lemmas.Bool.{and_parts, and_from, and_left, and_right, and_cases, or_parts, or_from, or_cases, cases_Bool, cases_lt, lt-ltb, le-ltb, eqb-true, eq-eqb, ne_eqb, eqb-false, ltb-true, ltb-false}
 use Rattle.std.proofs.lemmas.Bool.Decides.{eqb_tells}
 use Rattle.std.proofs.lemmas.List.{append-nil, length-set, length-append, take_all}
 use Rattle.std.proofs.lemmas.List.Sums.{count_by-le-length}
@@ -215,3 +215,28 @@ pinned_as es new lv group pins are some low_lv low_group room =
     let same : new ≡ room_for es lv group = it.2 in
     let had : pins ≡ pins_of es lv group = it.1 in
     rw (had, same) (pinned_entries es new lv group are (record { some_lv = some; lv = low_lv; group = low_group }) same it.3)
+
+-- ---- a place for a pin
+
+less_by_without : (test : Bool) (p : CacheEntry → Bool) (e : CacheEntry) (es : List CacheEntry) → (list_any p es ≡ true → length (without_first p es) + 1 ≡ length es) → (test || list_any p es) ≡ true → length (cond test es (e ∷ without_first p es)) + 1 ≡ suc (length es)
+less_by_without true p e es rest any = omega arith
+less_by_without false p e es rest any = omega (arith, rest any)
+
+length-without : (p : CacheEntry → Bool) (es : List CacheEntry) → list_any p es ≡ true → length (without_first p es) + 1 ≡ length es
+length-without p [] any = cc
+length-without p (e ∷ es) any = less_by_without (p e) p e es (length-without p es) any
+
+some_unpinned : (found : Bool) (es : List CacheEntry) → list_any is_unpinned es ≡ found → length es ≡ 62 → (count_by (λ e. not (is_unpinned e)) es == 62) ≡ false → list_any is_unpinned es ≡ true
+some_unpinned true es is full few = is
+some_unpinned false es is full few = absurd (eqb-false (count_by (λ e. not (is_unpinned e)) es) 62 few (count_none is_unpinned es is ∙ full))
+
+place_test : (own place : Bool) (es : List CacheEntry) (lv group : ℕ) → has_entry es lv group ≡ own → nat_lt (length es) 62 ≡ place → length es ≤ 62 → (not own && count_by (λ e. not (is_unpinned e)) es == 62) ≡ false
+    → length (cond own (without_first (is_entry lv group) es) (cond place es (without_first is_unpinned es))) < 62
+place_test true place es lv group own at most free = omega (arith, length-without (is_entry lv group) es own)
+place_test false true es lv group own at most free = ltb-true (length es) 62 at
+place_test false false es lv group own at most free =
+    let full : 62 ≤ length es = ltb-false (length es) 62 at in
+    omega (arith, length-without is_unpinned es (some_unpinned (list_any is_unpinned es) es refl (omega arith) free))
+
+pub has_place : (es : List CacheEntry) (lv group : ℕ) → AreEntries es → are_all_pinned es lv group ≡ false → length (room_for es lv group) < 62
+has_place es lv group are free = place_test (has_entry es lv group) (nat_lt (length es) 62) es lv group refl refl are.most free
