@@ -1,9 +1,9 @@
 //! The cache of track groups.
-ghost use Rattle.std.specs.Prelude.{◌≡◌, ◌≢◌, ◌+◌, ◌<◌, ◌^◌, if◌then◌else◌, position, IsTrue, IfOk, IsSome, IsNone, All};
+ghost use Rattle.std.specs.Prelude.{◌≡◌, ◌≢◌, ◌+◌, ◌<◌, ◌^◌, if◌then◌else◌, position, IsTrue, IfOk, IsSome, IsNone, is_some, All};
 ghost use Rattle.lvm_num.specs.Note.{IsEntry};
 
-use crate::entries::{CacheEntry, make_room, note_of, place_of};
-use crate::notes::{self, DiskNotes, common, names_surely};
+use crate::entries::{CacheEntry, entry_of, make_room, note_of, place_of};
+use crate::notes::{self, DiskNotes, common, names_surely, row_of};
 use arrayvec::ArrayVec;
 use lvm_num::{DiskSet, Memory, NoteEntry};
 use std::alloc::Global;
@@ -70,6 +70,16 @@ impl Cache {
         Some(place as u8)
     }
 
+    /// How many pins a track group has, 0 where it isn't there.
+    pub fn pins(&self, lv: u16, group: u32) -> u32
+        ensures { result ≡ pins_of self.now.entries lv group }
+    {
+        match entry_of(&self.entries, lv, group) {
+            None => 0,
+            Some(entry) => entry.pins,
+        }
+    }
+
     /// Gives a track group a pin and the last place. One that isn't there takes a free place, else that
     /// of the first without pins.
     pub fn pin(&mut self, lv: u16, group: u32) -> Pin
@@ -100,6 +110,23 @@ impl Cache {
     {
         if let Some(place) = place_of(&self.entries, lv, group) {
             self.entries[place].pins -= 1;
+        }
+    }
+
+    /// Whether the cache was made for a disk.
+    pub fn has_disk(&self, disk: u16) -> bool
+        ensures { result ≡ has_disk self.now disk }
+    {
+        row_of(&self.notes, disk).is_some()
+    }
+
+    /// Whether a note is in flight on a disk.
+    pub fn has_note_in_flight(&self, disk: u16) -> bool
+        ensures { result ≡ is_some (flight_on self.now disk) }
+    {
+        match row_of(&self.notes, disk) {
+            None => false,
+            Some(row) => row.flight.is_some(),
         }
     }
 
@@ -141,9 +168,9 @@ impl Cache {
     pub fn is_named(&self, disk: u16, lv: u16, group: u32) -> bool
         ensures { result ≡ is_named self.now disk lv group }
     {
-        match notes::place_of(&self.notes, disk) {
+        match row_of(&self.notes, disk) {
             None => false,
-            Some(place) => names_surely(&self.notes[place], lv, group),
+            Some(row) => names_surely(row, lv, group),
         }
     }
 }

@@ -1,5 +1,6 @@
 //! The entries of a cache, in the order of their last pin.
-ghost use Rattle.std.specs.Prelude.{◌≡◌, position};
+ghost use Rattle.std.specs.Prelude.{◌≡◌, find, position};
+ghost use Rattle.std.specs.Option.{option_copied};
 ghost use Rattle.lvm_mwc.specs.Entries.{is_entry, is_unpinned, note_of, MakesRoom};
 
 use arrayvec::ArrayVec;
@@ -23,6 +24,15 @@ pub fn place_of(entries: &[CacheEntry], lv: u16, group: u32) -> Option<usize>
     entries
         .iter()
         .position(|entry| entry.lv == lv && entry.group == group)
+}
+
+// The entry of a track group.
+pub fn entry_of(entries: &[CacheEntry], lv: u16, group: u32) -> Option<&CacheEntry>
+    ensures { option_copied result ≡ find (is_entry lv group) entries.now }
+{
+    entries
+        .iter()
+        .find(|entry| entry.lv == lv && entry.group == group)
 }
 
 // The first place without pins.

@@ -9,3 +9,6 @@ mod notes;
 pub use cache::{Cache, Pin};
 pub use entries::CacheEntry;
 pub use notes::DiskNotes;
+
+#[cfg(test)]
+mod tests;

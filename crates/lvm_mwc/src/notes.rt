@@ -1,5 +1,6 @@
 //! The consistency records of the disks, as they are written.
-ghost use Rattle.std.specs.Prelude.{◌≡◌, ◌≤◌, length, position};
+ghost use Rattle.std.specs.Prelude.{◌≡◌, find, position};
+ghost use Rattle.std.specs.Option.{option_copied};
 ghost use Rattle.lvm_mwc.specs.Notes.{is_on, names_group, names_surely, common};
 
 use arrayvec::ArrayVec;
@@ -21,6 +22,13 @@ pub fn place_of(notes: &[DiskNotes], disk: u16) -> Option<usize>
     ensures { result ≡ position (is_on disk) notes.now }
 {
     notes.iter().position(|row| row.disk == disk)
+}
+
+// The notes of a disk.
+pub fn row_of(notes: &[DiskNotes], disk: u16) -> Option<&DiskNotes>
+    ensures { option_copied result ≡ find (is_on disk) notes.now }
+{
+    notes.iter().find(|row| row.disk == disk)
 }
 
 // Whether a note names a track group.
