@@ -1,12 +1,11 @@
 -- The entries of a cache after a pin and after an unpin.
-use Rattle.std.proofs.Common.{◌≡◌, ◌≢◌, ◌^◌, ◌<◌, ◌≤◌, ◌+◌, ◌-◌, ◌++◌, ◌||◌, ◌&&◌, ◌==◌, not, ℕ, zero, suc, List, [], ◌∷◌, Some, None, Option, OnSome, Bool, true, false, cond, nat_lt, length, get_or, set, drop, take, refl, sym, ◌∙◌, ap, subst, arith, count_by, option_map, ◌⊎◌, inl, inr}
-use Rattle.std.specs.List.{list_any, find, position, remove, refill, slice_set}
-use Rattle.std.specs.Option.{option_map_or, option_or}
-use Rattle.std.proofs.lemmas.Bool.{and_parts, and_from, and_left, and_right, and_cases, or_parts, or_from, or_cases, cases_Bool, cases_lt, lt-ltb, le-ltb, eqb-true, eq-eqb, ne_eqb, eqb-false, ltb-true, ltb-false}
+use Rattle.std.proofs.Common.{◌≡◌, ◌≢◌, ◌^◌, ◌<◌, ◌≤◌, ◌+◌, ◌-◌, ◌++◌, ◌||◌, ◌&&◌, ◌==◌, not, ℕ, suc, List, [], ◌∷◌, Some, None, Option, Bool, true, false, cond, nat_lt, length, get_or, set, refl, sym, ◌∙◌, ap, arith, count_by, inl, inr}
+use Rattle.std.specs.List.{list_any, position, remove, refill}
+use Rattle.std.specs.Option.{option_map_or}
+use Rattle.std.proofs.lemmas.Bool.{and_parts, and_right, or_parts, or_from, lt-ltb, le-ltb, eqb-true, eq-eqb, ne_eqb, eqb-false, ltb-true, ltb-false}
 use Rattle.std.proofs.lemmas.Bool.Decides.{eqb_tells}
 use Rattle.std.proofs.lemmas.List.{append-nil, length-set, length-append, take_all}
 use Rattle.std.proofs.lemmas.List.Sums.{count_by-le-length}
-use Rattle.std.proofs.lemmas.List.Folds.{find-append}
 use Rattle.std.proofs.Math.Seq.{drop-length}
 use Rattle.std.specs.List.{All}
 use Rattle.std.proofs.lemmas.List.Elements.{All-nil, All-cons, All-head, All-tail, All-push, All-map}
@@ -15,7 +14,7 @@ use Rattle.lvm_num.specs.Note.{IsEntry}
 use Rattle.lvm_mwc.specs.declared.entries.CacheEntry.{CacheEntry}
 use Rattle.lvm_mwc.specs.Firsts.{without_first, with_first}
 use Rattle.lvm_mwc.specs.Entries.{is_entry, is_unpinned, has_entry, pins_of, are_all_pinned, room_for, with_pin, with_unpin, note_of, Differ, AreEntries, MakesRoom}
-use Rattle.lvm_mwc.proofs.FirstsLemmas.{IsFirstAt, first_at, NonePasses, none_passes, none_at, count_some, count_none, any-without, find-without, find-with, find-with_other, any-with, length-with, All-without, All-with}
+use Rattle.lvm_mwc.proofs.FirstsLemmas.{IsFirstAt, first_at, NonePasses, none_at, count_some, count_none, any-without, any-with, length-with, All-without, All-with}
 
 -- two tests for one track group
 pub is_entry-same : (lv group : ℕ) (e : CacheEntry) → is_entry lv group e ≡ true → (e.lv ≡ lv) × (e.group ≡ group)

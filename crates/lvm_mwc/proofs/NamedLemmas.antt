@@ -1,9 +1,10 @@
 -- What is named on a disk through calls of a cache.
-use Rattle.std.proofs.Common.{◌≡◌, ◌<◌, ◌++◌, ◌&&◌, ◌||◌, ◌==◌, ℕ, List, [], ◌∷◌, Some, None, Option, Bool, true, false, cond, refl, sym, ◌∙◌, ap, option_map}
-use Rattle.std.specs.List.{list_any, list_all, find}
+use Rattle.std.proofs.Common.{◌≡◌, ◌<◌, ◌++◌, ◌&&◌, ◌==◌, ℕ, List, [], ◌∷◌, Some, None, Option, Bool, true, false, cond, refl, sym, ◌∙◌, ap, option_map}
+use Rattle.std.specs.List.{list_all, find}
 use Rattle.std.specs.Option.{option_map_or, option_to_list, option_and_then}
 use Rattle.std.proofs.lemmas.Bool.{and_parts, and_from, and_right, eqb-true}
 use Rattle.std.proofs.lemmas.List.{append-nil}
+use Rattle.std.proofs.lemmas.Option.{same_Some, none-some}
 use Rattle.lvm_num.specs.declared.record.NoteEntry.{NoteEntry}
 use Rattle.lvm_num.specs.Disks.{has}
 use Rattle.arrayvec.specs.ArrayVec.{ArrayVec}
@@ -11,9 +12,9 @@ use Rattle.lvm_mwc.specs.declared.entries.CacheEntry.{CacheEntry}
 use Rattle.lvm_mwc.specs.declared.notes.DiskNotes.{DiskNotes}
 use Rattle.lvm_mwc.specs.Firsts.{with_first}
 use Rattle.lvm_mwc.specs.Entries.{has_entry, pins_of, are_all_pinned, with_pin, note_of}
-use Rattle.lvm_mwc.specs.Notes.{is_on, names_group, names_surely, common}
+use Rattle.lvm_mwc.specs.Notes.{is_on, names_group, names_surely, common, MayStand}
 use Rattle.lvm_mwc.specs.Cache.{Cached, IsNew, notes_on, is_named, no_notes, after_start, after_end, started, ended}
-use Rattle.lvm_mwc.specs.Runs.{Call, Pins, Unpins, StartsNote, EndsNote, after, after_all, IsPinnedBefore, Sectors, possible, no_sectors, sectors_ended, sectors_in, sectors_after, Knows}
+use Rattle.lvm_mwc.specs.Runs.{Call, Pins, Unpins, StartsNote, EndsNote, after, after_all, IsPinnedBefore, Sectors, no_sectors, sectors_ended, sectors_in, sectors_after, Knows}
 use Rattle.lvm_mwc.proofs.FirstsLemmas.{find-with, find-with_other}
 use Rattle.lvm_mwc.proofs.NotesLemmas.{notes_of}
 use Rattle.lvm_mwc.proofs.PinsLemmas.{note-names, pinned_is_there}
@@ -39,7 +40,7 @@ common_test false true e es flight lv group kept own rest =
     rw (own, named) (rest ∙ none)
 common_test false false e es flight lv group kept own rest = rw own rest
 
-pub names-common : (home flight : List NoteEntry) (lv group : ℕ) → names_group (common home flight) lv group ≡ (names_group home lv group && names_group flight lv group)
+names-common : (written flight : List NoteEntry) (lv group : ℕ) → names_group (common written flight) lv group ≡ (names_group written lv group && names_group flight lv group)
 names-common [] flight lv group = refl
 names-common (e ∷ es) flight lv group = common_test (names_group flight e.lv e.group) (e.lv == lv && e.group == group) e es flight lv group refl refl (names-common es flight lv group)
 
@@ -54,12 +55,12 @@ on_other c d disk f stays other = find-with_other (is_on disk) (is_on d) f c.not
 on_same : (c : Cached) (d disk : ℕ) (f : DiskNotes → DiskNotes) → ((n : DiskNotes) → (f n).disk ≡ n.disk) → (d == disk) ≡ true → find (is_on disk) (with_first (is_on d) f c.notes) ≡ option_map f (notes_on c disk)
 on_same c d disk f stays same = rw (eqb-true d disk same) (find-with (is_on disk) f c.notes (λ n on. ap (λ (m : ℕ). m == disk) (stays n) ∙ on))
 
-ended_there : (ok : Bool) (flight : Option (ArrayVec NoteEntry)) (disk : ℕ) (home : ArrayVec NoteEntry) → (ended ok (notes_of disk home flight)).disk ≡ disk
-ended_there ok None disk home = refl
-ended_there ok (Some f) disk home = refl
+ended_there : (ok : Bool) (flight : Option (ArrayVec NoteEntry)) (disk : ℕ) (written : ArrayVec NoteEntry) → (ended ok (notes_of disk written flight)).disk ≡ disk
+ended_there ok None disk written = refl
+ended_there ok (Some f) disk written = refl
 
 ended_stays : (ok : Bool) (n : DiskNotes) → (ended ok n).disk ≡ n.disk
-ended_stays ok n = ended_there ok n.flight n.disk n.home
+ended_stays ok n = ended_there ok n.flight n.disk n.written
 
 -- ---- what is named stays named
 
@@ -69,17 +70,17 @@ named_in lv group o = option_map_or (names_surely lv group) o false
 named_started : (es : List CacheEntry) (lv group : ℕ) (o : Option DiskNotes) → has_entry es lv group ≡ true → named_in lv group o ≡ true → named_in lv group (option_map (started es) o) ≡ true
 named_started es lv group None there named = cc
 named_started es lv group (Some n) there named =
-    let home : names_group n.home.items lv group ≡ true = (and_parts (names_group n.home.items lv group) (option_map_or (λ (flight : ArrayVec NoteEntry). names_group flight.items lv group) n.flight true) named).0 in
-    and_from (names_group n.home.items lv group) (names_group (note_of es) lv group) home (note-names es lv group ∙ there)
+    let written : names_group n.written.items lv group ≡ true = (and_parts (names_group n.written.items lv group) (option_map_or (λ (flight : ArrayVec NoteEntry). names_group flight.items lv group) n.flight true) named).0 in
+    and_from (names_group n.written.items lv group) (names_group (note_of es) lv group) written (note-names es lv group ∙ there)
 
-named_ended_of : (ok : Bool) (flight : Option (ArrayVec NoteEntry)) (disk : ℕ) (home : ArrayVec NoteEntry) (lv group : ℕ) → names_surely lv group (notes_of disk home flight) ≡ true → names_surely lv group (ended ok (notes_of disk home flight)) ≡ true
-named_ended_of ok None disk home lv group named = named
-named_ended_of true (Some f) disk home lv group named = and_from (names_group f.items lv group) true (and_parts (names_group home.items lv group) (names_group f.items lv group) named).1 refl
-named_ended_of false (Some f) disk home lv group named = and_from (names_group (common home.items f.items) lv group) true (names-common home.items f.items lv group ∙ named) refl
+named_ended_of : (ok : Bool) (flight : Option (ArrayVec NoteEntry)) (disk : ℕ) (written : ArrayVec NoteEntry) (lv group : ℕ) → names_surely lv group (notes_of disk written flight) ≡ true → names_surely lv group (ended ok (notes_of disk written flight)) ≡ true
+named_ended_of ok None disk written lv group named = named
+named_ended_of true (Some f) disk written lv group named = and_from (names_group f.items lv group) true (and_parts (names_group written.items lv group) (names_group f.items lv group) named).1 refl
+named_ended_of false (Some f) disk written lv group named = and_from (names_group (common written.items f.items) lv group) true (names-common written.items f.items lv group ∙ named) refl
 
 named_ended : (ok : Bool) (lv group : ℕ) (o : Option DiskNotes) → named_in lv group o ≡ true → named_in lv group (option_map (ended ok) o) ≡ true
 named_ended ok lv group None named = cc
-named_ended ok lv group (Some n) named = named_ended_of ok n.flight n.disk n.home lv group named
+named_ended ok lv group (Some n) named = named_ended_of ok n.flight n.disk n.written lv group named
 
 named_after_pin : (all : Bool) (c : Cached) (l g disk lv group : ℕ) → is_named c disk lv group ≡ true → is_named (cond all c (record c { entries = with_pin c.entries l g })) disk lv group ≡ true
 named_after_pin true c l g disk lv group named = named
@@ -107,8 +108,8 @@ named_after_all c (call ∷ calls) disk lv group pinned named = named_after_all 
 
 -- the notes of a disk say what these sectors say
 record Tracks (n : DiskNotes) (s : Sectors) : Type 0 where
-  named : (lv group : ℕ) → names_group n.home.items lv group ≡ list_all (λ (sector : List NoteEntry). names_group sector lv group) (s.last ∷ s.failed)
-  home : s.failed ≡ [] → n.home.items ≡ s.last
+  named : (lv group : ℕ) → names_group n.written.items lv group ≡ list_all (λ (sector : List NoteEntry). names_group sector lv group) (s.last ∷ s.failed)
+  written : s.failed ≡ [] → n.written.items ≡ s.last
   flight : option_map (λ (note : ArrayVec NoteEntry). note.items) n.flight ≡ s.flight
 
 record TracksOn (c : Cached) (disk : ℕ) (s : Sectors) : Type 0 where
@@ -132,29 +133,29 @@ not_nil : {X : Type 0} (xs : List X) (x : X) → xs ++ x ∷ [] ≡ [] → ⊥
 not_nil [] x is = cc
 not_nil (y ∷ ys) x is = cc
 
-tracks_ended_of : (ok : Bool) (flight : Option (ArrayVec NoteEntry)) (disk : ℕ) (home : ArrayVec NoteEntry) (last : List NoteEntry) (failed : List (List NoteEntry))
-    → ((lv group : ℕ) → names_group home.items lv group ≡ list_all (λ (sector : List NoteEntry). names_group sector lv group) (last ∷ failed)) → (failed ≡ [] → home.items ≡ last)
-    → Tracks (ended ok (notes_of disk home flight)) (sectors_ended ok (record { last = last; failed = failed; flight = option_map (λ (note : ArrayVec NoteEntry). note.items) flight }))
-tracks_ended_of ok None disk home last failed named one = record { named = named; home = one; flight = refl }
-tracks_ended_of true (Some f) disk home last failed named one = record { named = λ lv group. and_true (names_group f.items lv group); home = λ _. refl; flight = refl }
-tracks_ended_of false (Some f) disk home last failed named one = record {
+tracks_ended_of : (ok : Bool) (flight : Option (ArrayVec NoteEntry)) (disk : ℕ) (written : ArrayVec NoteEntry) (last : List NoteEntry) (failed : List (List NoteEntry))
+    → ((lv group : ℕ) → names_group written.items lv group ≡ list_all (λ (sector : List NoteEntry). names_group sector lv group) (last ∷ failed)) → (failed ≡ [] → written.items ≡ last)
+    → Tracks (ended ok (notes_of disk written flight)) (sectors_ended ok (record { last = last; failed = failed; flight = option_map (λ (note : ArrayVec NoteEntry). note.items) flight }))
+tracks_ended_of ok None disk written last failed named one = record { named = named; written = one; flight = refl }
+tracks_ended_of true (Some f) disk written last failed named one = record { named = λ lv group. and_true (names_group f.items lv group); written = λ _. refl; flight = refl }
+tracks_ended_of false (Some f) disk written last failed named one = record {
   named = λ lv group.
-    names-common home.items f.items lv group ∙ ap (λ (b : Bool). b && names_group f.items lv group) (named lv group)
-    ∙ sym (all-push (λ (sector : List NoteEntry). names_group sector lv group) (last ∷ failed) f.items);
-  home = λ none. absurd (not_nil failed f.items none);
+      names-common written.items f.items lv group ∙ ap (λ (b : Bool). b && names_group f.items lv group) (named lv group)
+      ∙ sym (all-push (λ (sector : List NoteEntry). names_group sector lv group) (last ∷ failed) f.items);
+  written = λ none. absurd (not_nil failed f.items none);
   flight = refl;
 }
 
 tracks_ended : (ok : Bool) (n : DiskNotes) (s : Sectors) → Tracks n s → Tracks (ended ok n) (sectors_ended ok s)
 tracks_ended ok n s tracks =
     let same : s ≡ record { last = s.last; failed = s.failed; flight = option_map (λ (note : ArrayVec NoteEntry). note.items) n.flight } = ap (λ (flight : Option (List NoteEntry)). let t : Sectors = record { last = s.last; failed = s.failed; flight = flight } in t) (sym tracks.flight) in
-    rw same (tracks_ended_of ok n.flight n.disk n.home s.last s.failed tracks.named tracks.home)
+    rw same (tracks_ended_of ok n.flight n.disk n.written s.last s.failed tracks.named tracks.written)
 
 tracks_start : (own : Bool) (c : Cached) (d disk : ℕ) (s : Sectors) → (d == disk) ≡ own → TracksOn c disk s → TracksOn (after_start c d) disk (cond own (record s { flight = Some (note_of c.entries) }) s)
 tracks_start true c d disk s same on = record {
   notes = started c.entries on.notes;
   there = on_same c d disk (started c.entries) (λ n. refl) same ∙ ap (option_map (started c.entries)) on.there;
-  tracks = record { named = on.tracks.named; home = on.tracks.home; flight = refl };
+  tracks = record { named = on.tracks.named; written = on.tracks.written; flight = refl };
 }
 tracks_start false c d disk s other on = record {
   notes = on.notes;
@@ -196,12 +197,12 @@ all-possible p xs (Some f) = sym (all-push p xs f.items)
 knows : (c : Cached) (disk : ℕ) (s : Sectors) → TracksOn c disk s → Knows c disk s
 knows c disk s on = record {
   named = λ lv group.
-    let p : List NoteEntry → Bool = λ sector. names_group sector lv group in
-    ap (named_in lv group) on.there
-    ∙ ap (λ (b : Bool). b && option_map_or (λ (note : ArrayVec NoteEntry). names_group note.items lv group) on.notes.flight true) (on.tracks.named lv group)
-    ∙ all-possible p (s.last ∷ s.failed) on.notes.flight
-    ∙ ap (λ (flight : Option (List NoteEntry)). list_all p ((s.last ∷ s.failed) ++ option_to_list flight)) on.tracks.flight;
-  home = λ none. ap (option_map (λ (n : DiskNotes). n.home.items)) on.there ∙ ap (λ (items : List NoteEntry). Some items) (on.tracks.home none);
+      let p : List NoteEntry → Bool = λ sector. names_group sector lv group in
+      ap (named_in lv group) on.there
+      ∙ ap (λ (b : Bool). b && option_map_or (λ (note : ArrayVec NoteEntry). names_group note.items lv group) on.notes.flight true) (on.tracks.named lv group)
+      ∙ all-possible p (s.last ∷ s.failed) on.notes.flight
+      ∙ ap (λ (flight : Option (List NoteEntry)). list_all p ((s.last ∷ s.failed) ++ option_to_list flight)) on.tracks.flight;
+  written = λ none. ap (option_map (λ (n : DiskNotes). n.written.items)) on.there ∙ ap (λ (items : List NoteEntry). Some items) (on.tracks.written none);
   flight = ap (λ (o : Option DiskNotes). option_map (λ (note : ArrayVec NoteEntry). note.items) (option_and_then (λ (n : DiskNotes). n.flight) o)) on.there ∙ on.tracks.flight;
 }
 
@@ -209,8 +210,36 @@ new_tracks : (disks : ℕ) (c : Cached) (disk : ℕ) → IsNew disks c → has d
 new_tracks disks c disk new there = record {
   notes = no_notes disk;
   there = new.notes disk ∙ rw there refl;
-  tracks = record { named = λ lv group. refl; home = λ _. refl; flight = refl };
+  tracks = record { named = λ lv group. refl; written = λ _. refl; flight = refl };
 }
 
 pub known_after_all : (disks : ℕ) (c : Cached) (disk : ℕ) (calls : List Call) → IsNew disks c → has disks disk ≡ true → Knows (after_all c calls) disk (sectors_after c disk no_sectors calls)
 known_after_all disks c disk calls new there = knows (after_all c calls) disk (sectors_after c disk no_sectors calls) (tracks_after_all c calls disk no_sectors (new_tracks disks c disk new there))
+
+-- ---- a sector that may stand there
+
+pub named_stands : (n : DiskNotes) (sector : List NoteEntry) (lv group : ℕ) → MayStand n sector → names_surely lv group n ≡ true → names_group sector lv group ≡ true
+named_stands n sector lv group stands named = stands lv group (and_parts (names_group n.written.items lv group) (option_map_or (λ (note : ArrayVec NoteEntry). names_group note.items lv group) n.flight true) named).0
+
+pub named_flies : (n : DiskNotes) (note : ArrayVec NoteEntry) (lv group : ℕ) → n.flight ≡ Some note → names_surely lv group n ≡ true → names_group note.items lv group ≡ true
+named_flies n note lv group flies named =
+    sym (ap (λ (o : Option (ArrayVec NoteEntry)). option_map_or (λ (v : ArrayVec NoteEntry). names_group v.items lv group) o true) flies)
+    ∙ (and_parts (names_group n.written.items lv group) (option_map_or (λ (v : ArrayVec NoteEntry). names_group v.items lv group) n.flight true) named).1
+
+ended_stands_of : (ok : Bool) (flight : Option (ArrayVec NoteEntry)) (disk : ℕ) (written note : ArrayVec NoteEntry) → flight ≡ Some note → MayStand (ended ok (notes_of disk written flight)) note.items
+ended_stands_of ok None disk written note flies lv group named = absurd (none-some note flies)
+ended_stands_of true (Some f) disk written note flies lv group named = ap (λ (v : ArrayVec NoteEntry). names_group v.items lv group) (sym (same_Some f note flies)) ∙ named
+ended_stands_of false (Some f) disk written note flies lv group named =
+    ap (λ (v : ArrayVec NoteEntry). names_group v.items lv group) (sym (same_Some f note flies))
+    ∙ (and_parts (names_group written.items lv group) (names_group f.items lv group) (sym (names-common written.items f.items lv group) ∙ named)).1
+
+pub ended_stands : (n : DiskNotes) (note : ArrayVec NoteEntry) (ok : Bool) → n.flight ≡ Some note → MayStand (ended ok n) note.items
+ended_stands n note ok flies = ended_stands_of ok n.flight n.disk n.written note flies
+
+failed_leaves_of : (flight : Option (ArrayVec NoteEntry)) (disk : ℕ) (written : ArrayVec NoteEntry) (sector : List NoteEntry) → MayStand (notes_of disk written flight) sector → MayStand (ended false (notes_of disk written flight)) sector
+failed_leaves_of None disk written sector stands lv group named = stands lv group named
+failed_leaves_of (Some f) disk written sector stands lv group named =
+    stands lv group (and_parts (names_group written.items lv group) (names_group f.items lv group) (sym (names-common written.items f.items lv group) ∙ named)).0
+
+pub failed_leaves : (n : DiskNotes) (sector : List NoteEntry) → MayStand n sector → MayStand (ended false n) sector
+failed_leaves n sector stands = failed_leaves_of n.flight n.disk n.written sector stands

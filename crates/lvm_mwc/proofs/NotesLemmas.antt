@@ -1,8 +1,8 @@
 -- The notes of a disk among those of all.
-use Rattle.std.proofs.Common.{◌≡◌, ◌<◌, ◌≤◌, ◌+◌, ◌++◌, ◌||◌, ◌&&◌, ◌==◌, not, ℕ, zero, suc, List, [], ◌∷◌, Some, None, Option, Bool, true, false, cond, nat_lt, length, get_or, set, take, refl, sym, ◌∙◌, ap, arith, inl, inr, ◌⊎◌, filter, IsTrue}
-use Rattle.std.specs.List.{list_any, find, position}
+use Rattle.std.proofs.Common.{◌≡◌, ◌<◌, ◌≤◌, ◌+◌, ◌++◌, ◌&&◌, ◌==◌, ℕ, List, [], ◌∷◌, Some, None, Option, Bool, true, false, cond, nat_lt, length, get_or, set, take, refl, sym, ◌∙◌, ap, arith, inl, inr, IsTrue}
+use Rattle.std.specs.List.{find, position}
 use Rattle.std.specs.Option.{option_map_or, option_or}
-use Rattle.std.proofs.lemmas.Bool.{cases_lt, cases_order, lt-ltb, le-ltb, eq-eqb, ne_eqb, and_right}
+use Rattle.std.proofs.lemmas.Bool.{cases_order, lt-ltb, le-ltb, eq-eqb, ne_eqb, and_right}
 use Rattle.std.proofs.lemmas.List.Folds.{find-append}
 use Rattle.lvm_num.specs.declared.record.NoteEntry.{NoteEntry}
 use Rattle.lvm_num.specs.Disks.{has}
@@ -15,13 +15,13 @@ use Rattle.std.proofs.lemmas.List.{length-take}
 use Rattle.std.proofs.lemmas.List.Sums.{length-filter, count_by-le-length}
 use Rattle.lvm_mwc.specs.Notes.{is_on, names_surely, names_group, common}
 use Rattle.lvm_mwc.specs.Cache.{Cached, is_named, after_start, after_end, started, ended, ended_as, no_notes, IsNew}
-use Rattle.lvm_mwc.proofs.FirstsLemmas.{IsFirstAt, first_at, NonePasses, none_at}
+use Rattle.lvm_mwc.proofs.FirstsLemmas.{first_at, none_at}
 
 abbrev pub cached : List CacheEntry → List DiskNotes → Cached
 cached entries notes = record { entries = entries; notes = notes }
 
 abbrev pub notes_of : ℕ → ArrayVec NoteEntry → Option (ArrayVec NoteEntry) → DiskNotes
-notes_of disk home flight = record { disk = disk; home = home; flight = flight }
+notes_of disk written flight = record { disk = disk; written = written; flight = flight }
 
 -- ---- what is named
 
@@ -37,11 +37,11 @@ changed_at : (s : Cached) (es : List CacheEntry) (ns : List DiskNotes) (disk k :
 changed_at s es ns disk k f row d seen at is = rw (← seen) (rw is (ap (cached es) ((first_at (is_on disk) ns d k at).changed f)))
 
 pub started_at : (s : Cached) (es : List CacheEntry) (ns : List DiskNotes) (disk k : ℕ) (r : DiskNotes) (note : ArrayVec NoteEntry) → cached es ns ≡ s → position (is_on disk) ns ≡ Some k → r ≡ get_or ns k r → note.items ≡ note_of es
-    → cached es (set ns k (notes_of r.disk r.home (Some note))) ≡ after_start s disk
+    → cached es (set ns k (notes_of r.disk r.written (Some note))) ≡ after_start s disk
 started_at s es ns disk k r note seen at there is =
     let named : note ≡ record { items = note_of s.entries } = ap (λ (items : List NoteEntry). let v : ArrayVec NoteEntry = record { items = items } in v) (is ∙ ap (λ (c : Cached). note_of c.entries) seen) in
-    changed_at s es ns disk k (started s.entries) (notes_of r.disk r.home (Some note)) r seen at
-    (ap (λ (v : ArrayVec NoteEntry). notes_of r.disk r.home (Some v)) named ∙ ap (started s.entries) there)
+    changed_at s es ns disk k (started s.entries) (notes_of r.disk r.written (Some note)) r seen at
+    (ap (λ (v : ArrayVec NoteEntry). notes_of r.disk r.written (Some v)) named ∙ ap (started s.entries) there)
 
 pub not_started : (s : Cached) (disk : ℕ) → position (is_on disk) s.notes ≡ None → s ≡ after_start s disk
 not_started s disk at = ap (cached s.entries) (sym ((none_at (is_on disk) s.notes at).changed (started s.entries)))
@@ -49,22 +49,22 @@ not_started s disk at = ap (cached s.entries) (sym ((none_at (is_on disk) s.note
 pub not_ended : (s : Cached) (disk : ℕ) (ok : Bool) → position (is_on disk) s.notes ≡ None → s ≡ after_end s disk ok
 not_ended s disk ok at = ap (cached s.entries) (sym ((none_at (is_on disk) s.notes at).changed (ended ok)))
 
-none_flies : (ok : Bool) (disk : ℕ) (home : ArrayVec NoteEntry) (flight left : Option (ArrayVec NoteEntry)) → flight ≡ None → left ≡ None → notes_of disk home left ≡ ended ok (notes_of disk home flight)
-none_flies ok disk home flight left none none_left = rw (none, none_left) refl
+none_flies : (ok : Bool) (disk : ℕ) (written : ArrayVec NoteEntry) (flight left : Option (ArrayVec NoteEntry)) → flight ≡ None → left ≡ None → notes_of disk written left ≡ ended ok (notes_of disk written flight)
+none_flies ok disk written flight left none none_left = rw (none, none_left) refl
 
-one_flew : (ok : Bool) (disk : ℕ) (home new f : ArrayVec NoteEntry) (flight left : Option (ArrayVec NoteEntry)) → flight ≡ Some f → left ≡ None → new.items ≡ ended_as ok home.items f.items → notes_of disk new left ≡ ended ok (notes_of disk home flight)
-one_flew ok disk home new f flight left some none_left is =
+one_flew : (ok : Bool) (disk : ℕ) (written new f : ArrayVec NoteEntry) (flight left : Option (ArrayVec NoteEntry)) → flight ≡ Some f → left ≡ None → new.items ≡ ended_as ok written.items f.items → notes_of disk new left ≡ ended ok (notes_of disk written flight)
+one_flew ok disk written new f flight left some none_left is =
     rw (some, none_left) (ap (λ (items : List NoteEntry). notes_of disk (record { items = items }) None) is)
 
 pub ended_at : (s : Cached) (es : List CacheEntry) (ns : List DiskNotes) (disk k : ℕ) (ok : Bool) (r : DiskNotes) (new f : ArrayVec NoteEntry) (left : Option (ArrayVec NoteEntry)) → cached es ns ≡ s → position (is_on disk) ns ≡ Some k
-    → r ≡ get_or ns k r → r.flight ≡ Some f → left ≡ None → new.items ≡ ended_as ok r.home.items f.items → cached es (set ns k (notes_of r.disk new left)) ≡ after_end s disk ok
+    → r ≡ get_or ns k r → r.flight ≡ Some f → left ≡ None → new.items ≡ ended_as ok r.written.items f.items → cached es (set ns k (notes_of r.disk new left)) ≡ after_end s disk ok
 ended_at s es ns disk k ok r new f left seen at there some none_left is =
-    changed_at s es ns disk k (ended ok) (notes_of r.disk new left) r seen at (one_flew ok r.disk r.home new f r.flight left some none_left is ∙ ap (ended ok) there)
+    changed_at s es ns disk k (ended ok) (notes_of r.disk new left) r seen at (one_flew ok r.disk r.written new f r.flight left some none_left is ∙ ap (ended ok) there)
 
 pub none_ended_at : (s : Cached) (es : List CacheEntry) (ns : List DiskNotes) (disk k : ℕ) (ok : Bool) (r : DiskNotes) (left : Option (ArrayVec NoteEntry)) → cached es ns ≡ s → position (is_on disk) ns ≡ Some k
-    → r ≡ get_or ns k r → r.flight ≡ None → left ≡ None → cached es (set ns k (notes_of r.disk r.home left)) ≡ after_end s disk ok
+    → r ≡ get_or ns k r → r.flight ≡ None → left ≡ None → cached es (set ns k (notes_of r.disk r.written left)) ≡ after_end s disk ok
 none_ended_at s es ns disk k ok r left seen at there none none_left =
-    changed_at s es ns disk k (ended ok) (notes_of r.disk r.home left) r seen at (none_flies ok r.disk r.home r.flight left none none_left ∙ ap (ended ok) there)
+    changed_at s es ns disk k (ended ok) (notes_of r.disk r.written left) r seen at (none_flies ok r.disk r.written r.flight left none none_left ∙ ap (ended ok) there)
 
 -- ---- the disks of a new cache
 
@@ -87,17 +87,17 @@ one_more disks n notes there first d =
           let its : has disks d ≡ true = rw same there in
           rw (at, below, below_next, its) (ap (λ (x : ℕ). Some (no_notes x)) (sym same))
       | inr other ↦ elim other [
-          | inl less ↦
-              let at : (n == d) ≡ false = ne_eqb n d (λ same. absurd (omega arith)) in
-              let below : nat_lt d n ≡ true = lt-ltb d n less in
-              let below_next : nat_lt d (n + 1) ≡ true = lt-ltb d (n + 1) (omega arith) in
-              rw (at, below, below_next) (first_test (has disks d) d)
-          | inr more ↦
-              let at : (n == d) ≡ false = ne_eqb n d (λ same. absurd (omega arith)) in
-              let below : nat_lt d n ≡ false = le-ltb d n (omega arith) in
-              let below_next : nat_lt d (n + 1) ≡ false = le-ltb d (n + 1) (omega arith) in
-              rw (at, below, below_next) refl
-        ]
+        | inl less ↦
+            let at : (n == d) ≡ false = ne_eqb n d (λ same. absurd (omega arith)) in
+            let below : nat_lt d n ≡ true = lt-ltb d n less in
+            let below_next : nat_lt d (n + 1) ≡ true = lt-ltb d (n + 1) (omega arith) in
+            rw (at, below, below_next) (first_test (has disks d) d)
+        | inr more ↦
+            let at : (n == d) ≡ false = ne_eqb n d (λ same. absurd (omega arith)) in
+            let below : nat_lt d n ≡ false = le-ltb d n (omega arith) in
+            let below_next : nat_lt d (n + 1) ≡ false = le-ltb d (n + 1) (omega arith) in
+            rw (at, below, below_next) refl
+      ]
     ]
 
 pub none_more : (disks n : ℕ) (notes : List DiskNotes) → has disks n ≡ false → AreFirst disks n notes → AreFirst disks (n + 1) notes
@@ -109,23 +109,23 @@ none_more disks n notes there first d =
           let its : has disks d ≡ false = rw same there in
           rw (below, below_next, its) refl
       | inr other ↦ elim other [
-          | inl less ↦
-              let below : nat_lt d n ≡ true = lt-ltb d n less in
-              let below_next : nat_lt d (n + 1) ≡ true = lt-ltb d (n + 1) (omega arith) in
-              rw (below, below_next) refl
-          | inr more ↦
-              let below : nat_lt d n ≡ false = le-ltb d n (omega arith) in
-              let below_next : nat_lt d (n + 1) ≡ false = le-ltb d (n + 1) (omega arith) in
-              rw (below, below_next) refl
-        ]
+        | inl less ↦
+            let below : nat_lt d n ≡ true = lt-ltb d n less in
+            let below_next : nat_lt d (n + 1) ≡ true = lt-ltb d (n + 1) (omega arith) in
+            rw (below, below_next) refl
+        | inr more ↦
+            let below : nat_lt d n ≡ false = le-ltb d n (omega arith) in
+            let below_next : nat_lt d (n + 1) ≡ false = le-ltb d (n + 1) (omega arith) in
+            rw (below, below_next) refl
+      ]
     ]
 
 -- ---- what two notes share
 
-pub common_few : (home flight : List NoteEntry) (i : ℕ) → i < length home → length home ≤ 62 → length (common (take i home) flight) < 62
-common_few home flight i within most =
+pub common_few : (written flight : List NoteEntry) (i : ℕ) → i < length written → length written ≤ 62 → length (common (take i written) flight) < 62
+common_few written flight i within most =
     let p : NoteEntry → Bool = λ e. names_group flight e.lv e.group in
-    omega (arith, length-filter p (take i home), count_by-le-length p (take i home), length-take i home)
+    omega (arith, length-filter p (take i written), count_by-le-length p (take i written), length-take i written)
 
 in_set : (there : Bool) (d n : ℕ) → (IsTrue there → d < n) → (nat_lt d n && there) ≡ there
 in_set true d n below = rw (lt-ltb d n (below refl)) refl

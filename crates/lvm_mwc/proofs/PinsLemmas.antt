@@ -1,17 +1,16 @@
 -- The pins of a track group through calls of a cache.
-use Rattle.std.proofs.Common.{◌≡◌, ◌≢◌, ◌<◌, ◌≤◌, ◌+◌, ◌-◌, ◌++◌, ◌&&◌, ◌==◌, not, ℕ, zero, suc, List, [], ◌∷◌, Some, None, Option, Bool, true, false, cond, nat_lt, length, refl, sym, ◌∙◌, ap, arith, option_map}
-use Rattle.std.specs.List.{list_any, find}
+use Rattle.std.proofs.Common.{◌≡◌, ◌<◌, ◌+◌, ◌&&◌, ◌==◌, not, ℕ, List, [], ◌∷◌, Some, None, Option, Bool, true, false, cond, nat_lt, length, refl, sym, ◌∙◌, ap, arith, option_map}
+use Rattle.std.specs.List.{find}
 use Rattle.std.specs.Option.{option_map_or, option_or}
 use Rattle.std.proofs.Common.{inl, inr}
-use Rattle.std.proofs.lemmas.Bool.{and_parts, and_right, cases_Bool, eqb-true, eq-eqb}
+use Rattle.std.proofs.lemmas.Bool.{and_parts, cases_Bool, eqb-true, eq-eqb}
 use Rattle.std.proofs.lemmas.List.Folds.{find-append}
-use Rattle.lvm_num.specs.declared.record.NoteEntry.{NoteEntry}
 use Rattle.lvm_num.specs.Note.{IsEntry}
 use Rattle.lvm_mwc.specs.declared.entries.CacheEntry.{CacheEntry}
-use Rattle.lvm_mwc.specs.Firsts.{without_first, with_first}
+use Rattle.lvm_mwc.specs.Firsts.{without_first}
 use Rattle.lvm_mwc.specs.Entries.{is_entry, is_unpinned, has_entry, pins_of, are_all_pinned, room_for, with_pin, with_unpin, note_of, Differ, AreEntries}
 use Rattle.lvm_mwc.specs.Notes.{names_group}
-use Rattle.lvm_mwc.specs.Cache.{Cached, after_pin}
+use Rattle.lvm_mwc.specs.Cache.{Cached}
 use Rattle.lvm_mwc.specs.Runs.{Call, Pins, Unpins, StartsNote, EndsNote, IsAllowed, AreAllowed, after, after_all, pins_in, unpins_in, pins_given, pins_taken}
 use Rattle.lvm_mwc.proofs.FirstsLemmas.{none_passes, find-without, find-with, find-with_other}
 use Rattle.lvm_mwc.proofs.EntriesLemmas.{less, is_entry-same, room_differs, pinned_entries, unpinned_entries, has_place}

@@ -1,5 +1,5 @@
 -- What a cache has, and what each call makes of it.
-use Rattle.std.specs.Prelude.{◌≡◌, ℕ, Bool, true, false, List, [], find, Option, Some, None, option_map, option_and_then, is_some, if◌then◌else◌}
+use Rattle.std.specs.Prelude.{◌≡◌, ℕ, Bool, true, false, List, [], find, Option, Some, None, option_and_then, is_some, if◌then◌else◌}
 use Rattle.std.specs.Option.{option_map_or}
 use Rattle.lvm_num.specs.declared.record.NoteEntry.{NoteEntry}
 use Rattle.lvm_num.specs.Disks.{has}
@@ -35,7 +35,7 @@ is_named c disk lv group = option_map_or (names_surely lv group) (notes_on c dis
 
 -- a disk whose note names nothing
 abbrev pub no_notes : ℕ → DiskNotes
-no_notes disk = record { disk = disk; home = record { items = [] }; flight = None }
+no_notes disk = record { disk = disk; written = record { items = [] }; flight = None }
 
 -- an empty cache, for these disks
 pub record IsNew (disks : ℕ) (c : Cached) : Type 0 where
@@ -62,14 +62,14 @@ started entries n = record n { flight = Some (record { items = note_of entries }
 abbrev pub after_start : Cached → ℕ → Cached
 after_start c disk = record c { notes = with_first (is_on disk) (started c.entries) c.notes }
 
--- The note in flight is home where it ended well. Else the old one or the new one may stand there, and what
--- both have is home.
+-- The note in flight is written where it ended well. Else the old one or the new one may stand there, and only
+-- what both have is known to be written.
 abbrev pub ended_as : Bool → List NoteEntry → List NoteEntry → List NoteEntry
-ended_as true home flight = flight
-ended_as false home flight = common home flight
+ended_as true written flight = flight
+ended_as false written flight = common written flight
 
 abbrev pub ended : Bool → DiskNotes → DiskNotes
-ended ok n = option_map_or (λ (flight : ArrayVec NoteEntry). record n { home = record { items = ended_as ok n.home.items flight.items }; flight = None }) n.flight n
+ended ok n = option_map_or (λ (flight : ArrayVec NoteEntry). record n { written = record { items = ended_as ok n.written.items flight.items }; flight = None }) n.flight n
 
 -- after the end of one
 abbrev pub after_end : Cached → ℕ → Bool → Cached

@@ -1,10 +1,12 @@
 -- Laws of the cache, over calls one after the other.
-use Rattle.std.specs.Prelude.{◌≡◌, ◌+◌, ◌<◌, ◌&&◌, ℕ, true, List, IsTrue}
+use Rattle.std.specs.Prelude.{◌≡◌, ◌+◌, ◌<◌, ℕ, Bool, true, false, List, Some, IsTrue}
 use Rattle.lvm_num.specs.declared.record.NoteEntry.{NoteEntry}
 use Rattle.lvm_num.specs.Disks.{has}
 use Rattle.lvm_mwc.specs.Entries.{has_entry, pins_of, AreEntries}
-use Rattle.lvm_mwc.specs.Notes.{names_group, common}
-use Rattle.lvm_mwc.specs.Cache.{Cached, IsNew, is_named}
+use Rattle.arrayvec.specs.ArrayVec.{ArrayVec}
+use Rattle.lvm_mwc.specs.declared.notes.DiskNotes.{DiskNotes}
+use Rattle.lvm_mwc.specs.Notes.{names_group, names_surely, MayStand}
+use Rattle.lvm_mwc.specs.Cache.{Cached, IsNew, is_named, ended}
 use Rattle.lvm_mwc.specs.Runs.{Call, AreAllowed, after_all, pins_given, pins_taken, IsPinnedBefore, no_sectors, sectors_after, Knows}
 
 -- A new cache has no entries.
@@ -33,6 +35,18 @@ NamedStays = (c : Cached) (calls : List Call) (disk lv group : ℕ) → IsPinned
 abbrev pub SectorsAreKnown : Type 0
 SectorsAreKnown = (disks : ℕ) (c : Cached) (disk : ℕ) (calls : List Call) → IsNew disks c → IsTrue (has disks disk) → Knows (after_all c calls) disk (sectors_after c disk no_sectors calls)
 
--- What is home after a failed note is what the old one and the new one both name.
-abbrev pub FailedKeepsBoth : Type 0
-FailedKeepsBoth = (home flight : List NoteEntry) (lv group : ℕ) → names_group (common home flight) lv group ≡ (names_group home lv group && names_group flight lv group)
+-- A sector that may stand on a disk has what is named there.
+abbrev pub NamedStands : Type 0
+NamedStands = (n : DiskNotes) (sector : List NoteEntry) (lv group : ℕ) → MayStand n sector → names_surely lv group n ≡ true → names_group sector lv group ≡ true
+
+-- So has the note in flight.
+abbrev pub NamedFlies : Type 0
+NamedFlies = (n : DiskNotes) (note : ArrayVec NoteEntry) (lv group : ℕ) → n.flight ≡ Some note → names_surely lv group n ≡ true → names_group note.items lv group ≡ true
+
+-- The note in flight may stand there once it has ended, well or not.
+abbrev pub EndedStands : Type 0
+EndedStands = (n : DiskNotes) (note : ArrayVec NoteEntry) (ok : Bool) → n.flight ≡ Some note → MayStand (ended ok n) note.items
+
+-- A sector that may stand there may so after a note failed.
+abbrev pub FailedLeaves : Type 0
+FailedLeaves = (n : DiskNotes) (sector : List NoteEntry) → MayStand n sector → MayStand (ended false n) sector

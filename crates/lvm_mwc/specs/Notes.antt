@@ -1,5 +1,5 @@
 -- The consistency records of the disks.
-use Rattle.std.specs.Prelude.{◌==◌, ◌&&◌, ℕ, Bool, true, List, filter, Option}
+use Rattle.std.specs.Prelude.{◌≡◌, ◌==◌, ◌&&◌, ℕ, Bool, true, List, filter}
 use Rattle.std.specs.List.{list_any}
 use Rattle.std.specs.Option.{option_map_or}
 use Rattle.lvm_num.specs.declared.record.NoteEntry.{NoteEntry}
@@ -15,8 +15,12 @@ names_group note lv group = list_any (λ (e : NoteEntry). e.lv == lv && e.group 
 
 -- what both notes name
 abbrev pub common : List NoteEntry → List NoteEntry → List NoteEntry
-common home flight = filter (λ (e : NoteEntry). names_group flight e.lv e.group) home
+common written flight = filter (λ (e : NoteEntry). names_group flight e.lv e.group) written
 
--- whether the note at home and the one in flight, if any, name it
+-- whether the note that was written and the one in flight, if any, both name it
 abbrev pub names_surely : ℕ → ℕ → DiskNotes → Bool
-names_surely lv group n = names_group n.home.items lv group && option_map_or (λ (flight : ArrayVec NoteEntry). names_group flight.items lv group) n.flight true
+names_surely lv group n = names_group n.written.items lv group && option_map_or (λ (flight : ArrayVec NoteEntry). names_group flight.items lv group) n.flight true
+
+-- A sector that may stand on the disk while no note is in flight names all that is known to be written.
+abbrev pub MayStand : DiskNotes → List NoteEntry → Type 0
+MayStand n sector = (lv group : ℕ) → names_group n.written.items lv group ≡ true → names_group sector lv group ≡ true

@@ -103,8 +103,8 @@ sectors_after c disk s [] = s
 sectors_after c disk s (call ∷ calls) = sectors_after (after c call) disk (sectors_in c disk s call) calls
 
 -- What a cache says of a disk is what these sectors say: a track group is named there where each sector that may
--- stand there has it, and the note at home is the last one where none failed since.
+-- stand there has it, and what is known to be written is the last note where none failed since.
 pub record Knows (c : Cached) (disk : ℕ) (s : Sectors) : Type 0 where
   pub named : (lv group : ℕ) → is_named c disk lv group ≡ list_all (λ (sector : List NoteEntry). names_group sector lv group) (possible s)
-  pub home : s.failed ≡ [] → option_map (λ (n : DiskNotes). n.home.items) (notes_on c disk) ≡ Some s.last
+  pub written : s.failed ≡ [] → option_map (λ (n : DiskNotes). n.written.items) (notes_on c disk) ≡ Some s.last
   pub flight : option_map (λ (note : ArrayVec NoteEntry). note.items) (flight_on c disk) ≡ s.flight

@@ -51,7 +51,7 @@ impl Cache {
             if disks.has(disk) {
                 notes.push(DiskNotes {
                     disk,
-                    home: ArrayVec::new(),
+                    written: ArrayVec::new(),
                     flight: None,
                 })?;
             }
@@ -154,10 +154,10 @@ impl Cache {
         if let Some(place) = notes::place_of(&self.notes, disk) {
             let row = &mut self.notes[place];
             if let Some(flight) = row.flight.take() {
-                row.home = if ok {
+                row.written = if ok {
                     flight
                 } else {
-                    common(&row.home, &flight)
+                    common(&row.written, &flight)
                 };
             }
         }

@@ -10,9 +10,9 @@ use lvm_num::NoteEntry;
 #[derive(Drop)]
 pub struct DiskNotes {
     pub disk: u16,
-    /// What each sector that may stand on the disk names while no note is in flight: the note that
-    /// was written last, or where writes of notes failed since, what that note and all of those have.
-    pub home: ArrayVec<NoteEntry, 62>,
+    /// The note that was written last; where writes of notes failed since, what it and all of those
+    /// name, since any of them may stand on the disk.
+    pub written: ArrayVec<NoteEntry, 62>,
     /// The note that is being written.
     pub flight: Option<ArrayVec<NoteEntry, 62>>,
 }
@@ -39,22 +39,22 @@ fn names_group(note: &[NoteEntry], lv: u16, group: u32) -> bool
         .any(|entry| entry.lv == lv && entry.group == group)
 }
 
-// Whether the note at home and the one in flight name a track group.
+// Whether the note that was written and the one in flight name a track group.
 pub fn names_surely(notes: &DiskNotes, lv: u16, group: u32) -> bool
     ensures { result ≡ names_surely lv group notes.now }
 {
     match &notes.flight {
-        None => names_group(&notes.home, lv, group),
-        Some(flight) => names_group(&notes.home, lv, group) && names_group(flight, lv, group),
+        None => names_group(&notes.written, lv, group),
+        Some(flight) => names_group(&notes.written, lv, group) && names_group(flight, lv, group),
     }
 }
 
 // What both notes have.
-pub fn common(home: &ArrayVec<NoteEntry, 62>, flight: &[NoteEntry]) -> ArrayVec<NoteEntry, 62>
-    ensures { result.items ≡ common home.now.items flight.now }
+pub fn common(written: &ArrayVec<NoteEntry, 62>, flight: &[NoteEntry]) -> ArrayVec<NoteEntry, 62>
+    ensures { result.items ≡ common written.now.items flight.now }
 {
     let mut both = ArrayVec::new();
-    for entry in home.as_slice() {
+    for entry in written.as_slice() {
         if names_group(flight, entry.lv, entry.group) {
             both.push(*entry);
         }

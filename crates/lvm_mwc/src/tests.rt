@@ -83,7 +83,7 @@ fn entries_without_pins_are_put_out_in_the_order_of_their_last_pin(rt: HostRunti
 }
 
 #[test]
-fn a_group_is_named_where_the_note_at_home_and_the_one_in_flight_have_it(rt: HostRuntime) {
+fn a_group_is_named_where_the_last_note_and_the_one_in_flight_have_it(rt: HostRuntime) {
     let mut cache = cache(&rt);
     pin_first(&rt, &mut cache, 62);
     let note = start_note(&rt, &mut cache, 0);

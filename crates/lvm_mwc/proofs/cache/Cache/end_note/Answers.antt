@@ -1,8 +1,4 @@
-use Rattle.std.proofs.Common.{◌≡◌, ◌∙◌, sym, ap, List, Some, None, true, false, Option, refl}
-use Rattle.std.specs.List.{position}
-use Rattle.arrayvec.specs.ArrayVec.{ArrayVec}
-use Rattle.lvm_num.specs.declared.record.NoteEntry.{NoteEntry}
-use Rattle.lvm_mwc.specs.declared.notes.DiskNotes.{DiskNotes}
+use Rattle.std.proofs.Common.{◌≡◌, ◌∙◌, sym, ap, Some, None, refl}
 use Rattle.lvm_mwc.specs.Notes.{is_on, common}
 use Rattle.lvm_mwc.specs.Cache.{Cached, ended_as}
 use Rattle.lvm_mwc.proofs.FirstsLemmas.{looked_for}
@@ -23,11 +19,11 @@ returns-in_default-take c =
 
 pub returns-after-ok : goal.returns-after-ok
 returns-after-ok c =
-    let home : c.if-ok.row.items ≡ ended_as c.args.ok c.index_mut-row.result.now.home.items c.in-Some-take.flight.items =
-        elim c.if-ok.branch [
-          | then-ok w ↦ rw (w.row-is, w.if-ok.true) refl
-          | else-ok w ↦ rw (w.row-is, w.if-ok.false) (w.common-row.ensures ∙ ap (common c.index_mut-row.result.now.home.items) w.deref-else-ok.ensures.0)
-        ] in
+    let written : c.if-ok.row.items ≡ ended_as c.args.ok c.index_mut-row.result.now.written.items c.in-Some-take.flight.items =
+    elim c.if-ok.branch [
+      | then-ok w ↦ rw (w.row-is, w.if-ok.true) refl
+      | else-ok w ↦ rw (w.row-is, w.if-ok.false) (w.common-row.ensures ∙ ap (common c.index_mut-row.result.now.written.items) w.deref-else-ok.ensures.0)
+    ] in
     ended_at c.args.self.now c.self.inside.entries.items c.self.inside.notes.items c.args.disk c.in-Some.place c.args.ok c.index_mut-row.result.now c.if-ok.row c.in-Some-take.flight c.take.new.self c.self.view_is
     (looked_for (is_on c.args.disk) c.self.inside.notes.items c.deref.result.now (Some c.in-Some.place) c.deref.ensures.value c.in-Some.ensures)
-    c.index_mut-row.ensures.value (sym c.in-Some-take.ensures.value) c.take.ensures.after home
+    c.index_mut-row.ensures.value (sym c.in-Some-take.ensures.value) c.take.ensures.after written

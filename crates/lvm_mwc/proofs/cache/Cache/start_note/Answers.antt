@@ -1,4 +1,4 @@
-use Rattle.std.proofs.Common.{◌≡◌, ◌∙◌, ap, Some, None}
+use Rattle.std.proofs.Common.{◌∙◌, ap, Some, None}
 use Rattle.lvm_mwc.specs.Notes.{is_on}
 use Rattle.lvm_mwc.specs.Cache.{Cached}
 use Rattle.lvm_mwc.proofs.FirstsLemmas.{looked_for}

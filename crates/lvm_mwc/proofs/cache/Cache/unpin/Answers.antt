@@ -1,7 +1,7 @@
-use Rattle.std.proofs.Common.{◌≡◌, ◌<◌, ◌∙◌, sym, ap, List, Some, None, ℕ, length, get_or, set}
+use Rattle.std.proofs.Common.{◌≡◌, ◌<◌, ◌∙◌, sym, ap, List, Some, None, length, get_or, set}
 use Rattle.std.specs.List.{position, refill}
 use Rattle.lvm_mwc.specs.declared.entries.CacheEntry.{CacheEntry}
-use Rattle.lvm_mwc.specs.Entries.{is_entry, pins_of, AreEntries, with_unpin}
+use Rattle.lvm_mwc.specs.Entries.{is_entry, pins_of, with_unpin}
 use Rattle.lvm_mwc.specs.Cache.{Cached, after_unpin}
 use Rattle.lvm_mwc.proofs.FirstsLemmas.{looked_for}
 use Rattle.lvm_mwc.proofs.EntriesLemmas.{less, unpinned, some_pins, not_there, unpinned_entries}
