@@ -12,7 +12,7 @@ use Rattle.lvm_mwc.specs.declared.entries.CacheEntry.{CacheEntry}
 use Rattle.lvm_mwc.specs.declared.notes.DiskNotes.{DiskNotes}
 use Rattle.lvm_mwc.specs.Firsts.{with_first}
 use Rattle.lvm_mwc.specs.Entries.{has_entry, pins_of, are_all_pinned, with_pin, note_of}
-use Rattle.lvm_mwc.specs.Notes.{is_on, names_group, names_surely, common, MayStand}
+use Rattle.lvm_mwc.specs.Notes.{is_on, names_group, both_name, common, MayStand}
 use Rattle.lvm_mwc.specs.Cache.{Cached, IsNew, notes_on, is_named, no_notes, after_start, after_end, started, ended}
 use Rattle.lvm_mwc.specs.Runs.{Call, Pins, Unpins, StartsNote, EndsNote, after, after_all, IsPinnedBefore, Sectors, no_sectors, sectors_ended, sectors_in, sectors_after, Knows}
 use Rattle.lvm_mwc.proofs.FirstsLemmas.{find-with, find-with_other}
@@ -65,7 +65,7 @@ ended_stays ok n = ended_there ok n.flight n.disk n.written
 -- ---- what is named stays named
 
 abbrev named_in : ℕ → ℕ → Option DiskNotes → Bool
-named_in lv group o = option_map_or (names_surely lv group) o false
+named_in lv group o = option_map_or (both_name lv group) o false
 
 named_started : (es : List CacheEntry) (lv group : ℕ) (o : Option DiskNotes) → has_entry es lv group ≡ true → named_in lv group o ≡ true → named_in lv group (option_map (started es) o) ≡ true
 named_started es lv group None there named = cc
@@ -73,7 +73,7 @@ named_started es lv group (Some n) there named =
     let written : names_group n.written.items lv group ≡ true = (and_parts (names_group n.written.items lv group) (option_map_or (λ (flight : ArrayVec NoteEntry). names_group flight.items lv group) n.flight true) named).0 in
     and_from (names_group n.written.items lv group) (names_group (note_of es) lv group) written (note-names es lv group ∙ there)
 
-named_ended_of : (ok : Bool) (flight : Option (ArrayVec NoteEntry)) (disk : ℕ) (written : ArrayVec NoteEntry) (lv group : ℕ) → names_surely lv group (notes_of disk written flight) ≡ true → names_surely lv group (ended ok (notes_of disk written flight)) ≡ true
+named_ended_of : (ok : Bool) (flight : Option (ArrayVec NoteEntry)) (disk : ℕ) (written : ArrayVec NoteEntry) (lv group : ℕ) → both_name lv group (notes_of disk written flight) ≡ true → both_name lv group (ended ok (notes_of disk written flight)) ≡ true
 named_ended_of ok None disk written lv group named = named
 named_ended_of true (Some f) disk written lv group named = and_from (names_group f.items lv group) true (and_parts (names_group written.items lv group) (names_group f.items lv group) named).1 refl
 named_ended_of false (Some f) disk written lv group named = and_from (names_group (common written.items f.items) lv group) true (names-common written.items f.items lv group ∙ named) refl
@@ -218,10 +218,10 @@ known_after_all disks c disk calls new there = knows (after_all c calls) disk (s
 
 -- ---- a sector that may stand there
 
-pub named_stands : (n : DiskNotes) (sector : List NoteEntry) (lv group : ℕ) → MayStand n sector → names_surely lv group n ≡ true → names_group sector lv group ≡ true
+pub named_stands : (n : DiskNotes) (sector : List NoteEntry) (lv group : ℕ) → MayStand n sector → both_name lv group n ≡ true → names_group sector lv group ≡ true
 named_stands n sector lv group stands named = stands lv group (and_parts (names_group n.written.items lv group) (option_map_or (λ (note : ArrayVec NoteEntry). names_group note.items lv group) n.flight true) named).0
 
-pub named_flies : (n : DiskNotes) (note : ArrayVec NoteEntry) (lv group : ℕ) → n.flight ≡ Some note → names_surely lv group n ≡ true → names_group note.items lv group ≡ true
+pub named_flies : (n : DiskNotes) (note : ArrayVec NoteEntry) (lv group : ℕ) → n.flight ≡ Some note → both_name lv group n ≡ true → names_group note.items lv group ≡ true
 named_flies n note lv group flies named =
     sym (ap (λ (o : Option (ArrayVec NoteEntry)). option_map_or (λ (v : ArrayVec NoteEntry). names_group v.items lv group) o true) flies)
     ∙ (and_parts (names_group n.written.items lv group) (option_map_or (λ (v : ArrayVec NoteEntry). names_group v.items lv group) n.flight true) named).1

@@ -13,7 +13,7 @@ use Rattle.lvm_mwc.specs.Firsts.{with_first}
 use Rattle.lvm_mwc.specs.Entries.{note_of}
 use Rattle.std.proofs.lemmas.List.{length-take}
 use Rattle.std.proofs.lemmas.List.Sums.{length-filter, count_by-le-length}
-use Rattle.lvm_mwc.specs.Notes.{is_on, names_surely, names_group, common}
+use Rattle.lvm_mwc.specs.Notes.{is_on, both_name, names_group, common}
 use Rattle.lvm_mwc.specs.Cache.{Cached, is_named, after_start, after_end, started, ended, ended_as, no_notes, IsNew}
 use Rattle.lvm_mwc.proofs.FirstsLemmas.{first_at, none_at}
 
@@ -26,10 +26,10 @@ notes_of disk written flight = record { disk = disk; written = written; flight =
 -- ---- what is named
 
 pub not_named : (s : Cached) (disk lv group : ℕ) → position (is_on disk) s.notes ≡ None → is_named s disk lv group ≡ false
-not_named s disk lv group at = ap (λ (o : Option DiskNotes). option_map_or (names_surely lv group) o false) (none_at (is_on disk) s.notes at).found
+not_named s disk lv group at = ap (λ (o : Option DiskNotes). option_map_or (both_name lv group) o false) (none_at (is_on disk) s.notes at).found
 
-pub named_at : (s : Cached) (disk lv group k : ℕ) (d : DiskNotes) → position (is_on disk) s.notes ≡ Some k → is_named s disk lv group ≡ names_surely lv group (get_or s.notes k d)
-named_at s disk lv group k d at = ap (λ (o : Option DiskNotes). option_map_or (names_surely lv group) o false) (first_at (is_on disk) s.notes d k at).found
+pub named_at : (s : Cached) (disk lv group k : ℕ) (d : DiskNotes) → position (is_on disk) s.notes ≡ Some k → is_named s disk lv group ≡ both_name lv group (get_or s.notes k d)
+named_at s disk lv group k d at = ap (λ (o : Option DiskNotes). option_map_or (both_name lv group) o false) (first_at (is_on disk) s.notes d k at).found
 
 -- ---- one disk's notes change
 

@@ -10,7 +10,7 @@ use Rattle.lvm_mwc.specs.declared.cache.Pin.{Pin}
 use Rattle.lvm_mwc.specs.declared.cache.Pin.TheVariants.{Pinned, AllPinned}
 use Rattle.lvm_mwc.specs.Firsts.{with_first}
 use Rattle.lvm_mwc.specs.Entries.{are_all_pinned, with_pin, with_unpin, note_of}
-use Rattle.lvm_mwc.specs.Notes.{is_on, names_surely, common}
+use Rattle.lvm_mwc.specs.Notes.{is_on, both_name, common}
 
 -- the entries in the order of their last pin, oldest first, and the notes of each disk
 pub record Cached : Type 0 where
@@ -31,7 +31,7 @@ flight_on c disk = option_and_then (λ (n : DiskNotes). n.flight) (notes_on c di
 
 -- whether each sector that may stand on the disk names the track group
 abbrev pub is_named : Cached → ℕ → ℕ → ℕ → Bool
-is_named c disk lv group = option_map_or (names_surely lv group) (notes_on c disk) false
+is_named c disk lv group = option_map_or (both_name lv group) (notes_on c disk) false
 
 -- a disk whose note names nothing
 abbrev pub no_notes : ℕ → DiskNotes
@@ -54,11 +54,11 @@ after_pin c lv group = if are_all_pinned c.entries lv group then c else record c
 abbrev pub after_unpin : Cached → ℕ → ℕ → Cached
 after_unpin c lv group = record c { entries = with_unpin c.entries lv group }
 
--- the whole cache is in flight
+-- the notes of a disk after the start of one, which names the whole cache
 abbrev pub started : List CacheEntry → DiskNotes → DiskNotes
 started entries n = record n { flight = Some (record { items = note_of entries }) }
 
--- after the start of a note
+-- after the start of a note on a disk
 abbrev pub after_start : Cached → ℕ → Cached
 after_start c disk = record c { notes = with_first (is_on disk) (started c.entries) c.notes }
 
@@ -68,9 +68,10 @@ abbrev pub ended_as : Bool → List NoteEntry → List NoteEntry → List NoteEn
 ended_as true written flight = flight
 ended_as false written flight = common written flight
 
+-- the notes of a disk after the end of the one in flight
 abbrev pub ended : Bool → DiskNotes → DiskNotes
 ended ok n = option_map_or (λ (flight : ArrayVec NoteEntry). record n { written = record { items = ended_as ok n.written.items flight.items }; flight = None }) n.flight n
 
--- after the end of one
+-- after the end of one there
 abbrev pub after_end : Cached → ℕ → Bool → Cached
 after_end c disk ok = record c { notes = with_first (is_on disk) (ended ok) c.notes }

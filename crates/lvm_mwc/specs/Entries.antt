@@ -19,6 +19,7 @@ has_entry entries lv group = list_any (is_entry lv group) entries
 abbrev pub pins_of : List CacheEntry → ℕ → ℕ → ℕ
 pins_of entries lv group = option_map_or (λ (e : CacheEntry). e.pins) (find (is_entry lv group) entries) 0
 
+-- whether no write holds it
 abbrev pub is_unpinned : CacheEntry → Bool
 is_unpinned e = e.pins == 0
 

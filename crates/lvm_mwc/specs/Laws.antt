@@ -5,7 +5,7 @@ use Rattle.lvm_num.specs.Disks.{has}
 use Rattle.lvm_mwc.specs.Entries.{has_entry, pins_of, AreEntries}
 use Rattle.arrayvec.specs.ArrayVec.{ArrayVec}
 use Rattle.lvm_mwc.specs.declared.notes.DiskNotes.{DiskNotes}
-use Rattle.lvm_mwc.specs.Notes.{names_group, names_surely, MayStand}
+use Rattle.lvm_mwc.specs.Notes.{names_group, both_name, MayStand}
 use Rattle.lvm_mwc.specs.Cache.{Cached, IsNew, is_named, ended}
 use Rattle.lvm_mwc.specs.Runs.{Call, AreAllowed, after_all, pins_given, pins_taken, IsPinnedBefore, no_sectors, sectors_after, Knows}
 
@@ -37,11 +37,11 @@ SectorsAreKnown = (disks : ℕ) (c : Cached) (disk : ℕ) (calls : List Call) �
 
 -- A sector that may stand on a disk has what is named there.
 abbrev pub NamedStands : Type 0
-NamedStands = (n : DiskNotes) (sector : List NoteEntry) (lv group : ℕ) → MayStand n sector → names_surely lv group n ≡ true → names_group sector lv group ≡ true
+NamedStands = (n : DiskNotes) (sector : List NoteEntry) (lv group : ℕ) → MayStand n sector → both_name lv group n ≡ true → names_group sector lv group ≡ true
 
 -- So has the note in flight.
 abbrev pub NamedFlies : Type 0
-NamedFlies = (n : DiskNotes) (note : ArrayVec NoteEntry) (lv group : ℕ) → n.flight ≡ Some note → names_surely lv group n ≡ true → names_group note.items lv group ≡ true
+NamedFlies = (n : DiskNotes) (note : ArrayVec NoteEntry) (lv group : ℕ) → n.flight ≡ Some note → both_name lv group n ≡ true → names_group note.items lv group ≡ true
 
 -- The note in flight may stand there once it has ended, well or not.
 abbrev pub EndedStands : Type 0

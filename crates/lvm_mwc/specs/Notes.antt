@@ -6,6 +6,7 @@ use Rattle.lvm_num.specs.declared.record.NoteEntry.{NoteEntry}
 use Rattle.arrayvec.specs.ArrayVec.{ArrayVec}
 use Rattle.lvm_mwc.specs.declared.notes.DiskNotes.{DiskNotes}
 
+-- whether these are the notes of the disk
 abbrev pub is_on : ℕ → DiskNotes → Bool
 is_on disk n = n.disk == disk
 
@@ -18,8 +19,8 @@ abbrev pub common : List NoteEntry → List NoteEntry → List NoteEntry
 common written flight = filter (λ (e : NoteEntry). names_group flight e.lv e.group) written
 
 -- whether the note that was written and the one in flight, if any, both name it
-abbrev pub names_surely : ℕ → ℕ → DiskNotes → Bool
-names_surely lv group n = names_group n.written.items lv group && option_map_or (λ (flight : ArrayVec NoteEntry). names_group flight.items lv group) n.flight true
+abbrev pub both_name : ℕ → ℕ → DiskNotes → Bool
+both_name lv group n = names_group n.written.items lv group && option_map_or (λ (flight : ArrayVec NoteEntry). names_group flight.items lv group) n.flight true
 
 -- A sector that may stand on the disk while no note is in flight names all that is known to be written.
 abbrev pub MayStand : DiskNotes → List NoteEntry → Type 0

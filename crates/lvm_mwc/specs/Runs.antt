@@ -10,6 +10,7 @@ use Rattle.lvm_mwc.specs.Entries.{pins_of, are_all_pinned, note_of}
 use Rattle.lvm_mwc.specs.Notes.{names_group}
 use Rattle.lvm_mwc.specs.Cache.{Cached, notes_on, has_disk, flight_on, is_named, after_pin, after_unpin, after_start, after_end}
 
+-- a call of a cache
 pub data Call : Type 0 where
   Pins : (lv group : ℕ) → Call
   Unpins : (lv group : ℕ) → Call
@@ -56,10 +57,12 @@ unpins_in (Unpins l g) lv group = if l == lv && g == group then 1 else 0
 unpins_in (StartsNote disk) lv group = 0
 unpins_in (EndsNote disk ok) lv group = 0
 
+-- those that calls give it
 abbrev pub pins_given : Cached → List Call → ℕ → ℕ → ℕ
 pins_given c [] lv group = 0
 pins_given c (call ∷ calls) lv group = pins_in c call lv group + pins_given (after c call) calls lv group
 
+-- those that they take from it
 abbrev pub pins_taken : List Call → ℕ → ℕ → ℕ
 pins_taken [] lv group = 0
 pins_taken (call ∷ calls) lv group = unpins_in call lv group + pins_taken calls lv group
@@ -82,7 +85,7 @@ pub record Sectors : Type 0 where
 abbrev pub possible : Sectors → List (List NoteEntry)
 possible s = (s.last ∷ s.failed) ++ option_to_list s.flight
 
--- a note that names nothing
+-- those of a disk whose note names nothing
 abbrev pub no_sectors : Sectors
 no_sectors = record { last = []; failed = []; flight = None }
 
@@ -90,14 +93,14 @@ no_sectors = record { last = []; failed = []; flight = None }
 abbrev pub sectors_ended : Bool → Sectors → Sectors
 sectors_ended ok s = option_map_or (λ (f : List NoteEntry). if ok then record { last = f; failed = []; flight = None } else record { last = s.last; failed = s.failed ++ f ∷ []; flight = None }) s.flight s
 
--- a call
+-- what a call makes of the sectors of a disk
 abbrev pub sectors_in : Cached → ℕ → Sectors → Call → Sectors
 sectors_in c disk s (Pins l g) = s
 sectors_in c disk s (Unpins l g) = s
 sectors_in c disk s (StartsNote d) = if d == disk then record s { flight = Some (note_of c.entries) } else s
 sectors_in c disk s (EndsNote d ok) = if d == disk then sectors_ended ok s else s
 
--- a list of calls
+-- what a list of calls makes of them
 abbrev pub sectors_after : Cached → ℕ → Sectors → List Call → Sectors
 sectors_after c disk s [] = s
 sectors_after c disk s (call ∷ calls) = sectors_after (after c call) disk (sectors_in c disk s call) calls

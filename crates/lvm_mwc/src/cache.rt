@@ -3,7 +3,7 @@ ghost use Rattle.std.specs.Prelude.{◌≡◌, ◌≢◌, ◌+◌, ◌<◌, ◌^
 ghost use Rattle.lvm_num.specs.Note.{IsEntry};
 
 use crate::entries::{CacheEntry, entry_of, make_room, note_of, place_of};
-use crate::notes::{self, DiskNotes, common, names_surely, row_of};
+use crate::notes::{self, DiskNotes, both_name, common, row_of};
 use arrayvec::ArrayVec;
 use lvm_num::{DiskSet, Memory, NoteEntry};
 use std::alloc::Global;
@@ -170,7 +170,7 @@ impl Cache {
     {
         match row_of(&self.notes, disk) {
             None => false,
-            Some(row) => names_surely(row, lv, group),
+            Some(row) => both_name(row, lv, group),
         }
     }
 }

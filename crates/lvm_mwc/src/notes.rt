@@ -1,7 +1,7 @@
 //! The consistency records of the disks, as they are written.
 ghost use Rattle.std.specs.Prelude.{◌≡◌, find, position};
 ghost use Rattle.std.specs.Option.{option_copied};
-ghost use Rattle.lvm_mwc.specs.Notes.{is_on, names_group, names_surely, common};
+ghost use Rattle.lvm_mwc.specs.Notes.{is_on, names_group, both_name, common};
 
 use arrayvec::ArrayVec;
 use lvm_num::NoteEntry;
@@ -40,8 +40,8 @@ fn names_group(note: &[NoteEntry], lv: u16, group: u32) -> bool
 }
 
 // Whether the note that was written and the one in flight name a track group.
-pub fn names_surely(notes: &DiskNotes, lv: u16, group: u32) -> bool
-    ensures { result ≡ names_surely lv group notes.now }
+pub fn both_name(notes: &DiskNotes, lv: u16, group: u32) -> bool
+    ensures { result ≡ both_name lv group notes.now }
 {
     match &notes.flight {
         None => names_group(&notes.written, lv, group),
