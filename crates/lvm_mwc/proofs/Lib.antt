@@ -1,0 +1,5 @@
+pub mod FirstsLemmas
+pub mod EntriesLemmas
+pub mod NotesLemmas
+pub mod PinsLemmas
+pub mod NamedLemmas

@@ -1,0 +1,138 @@
+-- The notes of a disk among those of all.
+use Rattle.std.proofs.Common.{◌≡◌, ◌<◌, ◌≤◌, ◌+◌, ◌++◌, ◌&&◌, ◌==◌, ℕ, List, [], ◌∷◌, Some, None, Option, Bool, true, false, cond, nat_lt, length, get_or, set, take, refl, sym, ◌∙◌, ap, arith, inl, inr, IsTrue}
+use Rattle.std.specs.List.{find, position}
+use Rattle.std.specs.Option.{option_map_or, option_or}
+use Rattle.std.proofs.lemmas.Bool.{cases_order, lt-ltb, le-ltb, eq-eqb, ne_eqb, and_right}
+use Rattle.std.proofs.lemmas.List.Folds.{find-append}
+use Rattle.lvm_num.specs.declared.record.NoteEntry.{NoteEntry}
+use Rattle.lvm_num.specs.Disks.{has}
+use Rattle.arrayvec.specs.ArrayVec.{ArrayVec}
+use Rattle.lvm_mwc.specs.declared.entries.CacheEntry.{CacheEntry}
+use Rattle.lvm_mwc.specs.declared.notes.DiskNotes.{DiskNotes}
+use Rattle.lvm_mwc.specs.Firsts.{with_first}
+use Rattle.lvm_mwc.specs.Entries.{note_of}
+use Rattle.std.proofs.lemmas.List.{length-take}
+use Rattle.std.proofs.lemmas.List.Sums.{length-filter, count_by-le-length}
+use Rattle.lvm_mwc.specs.Notes.{is_on, both_name, names_group, common}
+use Rattle.lvm_mwc.specs.Cache.{Cached, is_named, after_start, after_end, started, ended, ended_as, no_notes, IsNew}
+use Rattle.lvm_mwc.proofs.FirstsLemmas.{first_at, none_at}
+
+abbrev pub cached : List CacheEntry → List DiskNotes → Cached
+cached entries notes = record { entries = entries; notes = notes }
+
+abbrev pub notes_of : ℕ → ArrayVec NoteEntry → Option (ArrayVec NoteEntry) → DiskNotes
+notes_of disk written flight = record { disk = disk; written = written; flight = flight }
+
+-- ---- what is named
+
+pub not_named : (s : Cached) (disk lv group : ℕ) → position (is_on disk) s.notes ≡ None → is_named s disk lv group ≡ false
+not_named s disk lv group at = ap (λ (o : Option DiskNotes). option_map_or (both_name lv group) o false) (none_at (is_on disk) s.notes at).found
+
+pub named_at : (s : Cached) (disk lv group k : ℕ) (d : DiskNotes) → position (is_on disk) s.notes ≡ Some k → is_named s disk lv group ≡ both_name lv group (get_or s.notes k d)
+named_at s disk lv group k d at = ap (λ (o : Option DiskNotes). option_map_or (both_name lv group) o false) (first_at (is_on disk) s.notes d k at).found
+
+-- ---- one disk's notes change
+
+changed_at : (s : Cached) (es : List CacheEntry) (ns : List DiskNotes) (disk k : ℕ) (f : DiskNotes → DiskNotes) (row d : DiskNotes) → cached es ns ≡ s → position (is_on disk) ns ≡ Some k → row ≡ f (get_or ns k d) → cached es (set ns k row) ≡ record s { notes = with_first (is_on disk) f s.notes }
+changed_at s es ns disk k f row d seen at is = rw (← seen) (rw is (ap (cached es) ((first_at (is_on disk) ns d k at).changed f)))
+
+pub started_at : (s : Cached) (es : List CacheEntry) (ns : List DiskNotes) (disk k : ℕ) (r : DiskNotes) (note : ArrayVec NoteEntry) → cached es ns ≡ s → position (is_on disk) ns ≡ Some k → r ≡ get_or ns k r → note.items ≡ note_of es
+    → cached es (set ns k (notes_of r.disk r.written (Some note))) ≡ after_start s disk
+started_at s es ns disk k r note seen at there is =
+    let named : note ≡ record { items = note_of s.entries } = ap (λ (items : List NoteEntry). let v : ArrayVec NoteEntry = record { items = items } in v) (is ∙ ap (λ (c : Cached). note_of c.entries) seen) in
+    changed_at s es ns disk k (started s.entries) (notes_of r.disk r.written (Some note)) r seen at
+    (ap (λ (v : ArrayVec NoteEntry). notes_of r.disk r.written (Some v)) named ∙ ap (started s.entries) there)
+
+pub not_started : (s : Cached) (disk : ℕ) → position (is_on disk) s.notes ≡ None → s ≡ after_start s disk
+not_started s disk at = ap (cached s.entries) (sym ((none_at (is_on disk) s.notes at).changed (started s.entries)))
+
+pub not_ended : (s : Cached) (disk : ℕ) (ok : Bool) → position (is_on disk) s.notes ≡ None → s ≡ after_end s disk ok
+not_ended s disk ok at = ap (cached s.entries) (sym ((none_at (is_on disk) s.notes at).changed (ended ok)))
+
+none_flies : (ok : Bool) (disk : ℕ) (written : ArrayVec NoteEntry) (flight left : Option (ArrayVec NoteEntry)) → flight ≡ None → left ≡ None → notes_of disk written left ≡ ended ok (notes_of disk written flight)
+none_flies ok disk written flight left none none_left = rw (none, none_left) refl
+
+one_flew : (ok : Bool) (disk : ℕ) (written new f : ArrayVec NoteEntry) (flight left : Option (ArrayVec NoteEntry)) → flight ≡ Some f → left ≡ None → new.items ≡ ended_as ok written.items f.items → notes_of disk new left ≡ ended ok (notes_of disk written flight)
+one_flew ok disk written new f flight left some none_left is =
+    rw (some, none_left) (ap (λ (items : List NoteEntry). notes_of disk (record { items = items }) None) is)
+
+pub ended_at : (s : Cached) (es : List CacheEntry) (ns : List DiskNotes) (disk k : ℕ) (ok : Bool) (r : DiskNotes) (new f : ArrayVec NoteEntry) (left : Option (ArrayVec NoteEntry)) → cached es ns ≡ s → position (is_on disk) ns ≡ Some k
+    → r ≡ get_or ns k r → r.flight ≡ Some f → left ≡ None → new.items ≡ ended_as ok r.written.items f.items → cached es (set ns k (notes_of r.disk new left)) ≡ after_end s disk ok
+ended_at s es ns disk k ok r new f left seen at there some none_left is =
+    changed_at s es ns disk k (ended ok) (notes_of r.disk new left) r seen at (one_flew ok r.disk r.written new f r.flight left some none_left is ∙ ap (ended ok) there)
+
+pub none_ended_at : (s : Cached) (es : List CacheEntry) (ns : List DiskNotes) (disk k : ℕ) (ok : Bool) (r : DiskNotes) (left : Option (ArrayVec NoteEntry)) → cached es ns ≡ s → position (is_on disk) ns ≡ Some k
+    → r ≡ get_or ns k r → r.flight ≡ None → left ≡ None → cached es (set ns k (notes_of r.disk r.written left)) ≡ after_end s disk ok
+none_ended_at s es ns disk k ok r left seen at there none none_left =
+    changed_at s es ns disk k (ended ok) (notes_of r.disk r.written left) r seen at (none_flies ok r.disk r.written r.flight left none none_left ∙ ap (ended ok) there)
+
+-- ---- the disks of a new cache
+
+-- the disks of a set that are below a number have notes, which name nothing
+abbrev pub AreFirst : ℕ → ℕ → List DiskNotes → Type 0
+AreFirst disks n notes = (d : ℕ) → find (is_on d) notes ≡ cond (nat_lt d n && has disks d) (Some (no_notes d)) None
+
+first_test : (has : Bool) (d : ℕ) → option_or (cond has (Some (no_notes d)) None) None ≡ cond has (Some (no_notes d)) None
+first_test true d = refl
+first_test false d = refl
+
+pub one_more : (disks n : ℕ) (notes : List DiskNotes) → has disks n ≡ true → AreFirst disks n notes → AreFirst disks (n + 1) (notes ++ no_notes n ∷ [])
+one_more disks n notes there first d =
+    find-append (is_on d) notes (no_notes n ∷ []) ∙ ap (λ (o : Option DiskNotes). option_or o (cond (n == d) (Some (no_notes n)) None)) (first d)
+    ∙ elim (cases_order d n) [
+      | inl same ↦
+          let at : (n == d) ≡ true = eq-eqb n d (sym same) in
+          let below : nat_lt d n ≡ false = le-ltb d n (omega arith) in
+          let below_next : nat_lt d (n + 1) ≡ true = lt-ltb d (n + 1) (omega arith) in
+          let its : has disks d ≡ true = rw same there in
+          rw (at, below, below_next, its) (ap (λ (x : ℕ). Some (no_notes x)) (sym same))
+      | inr other ↦ elim other [
+        | inl less ↦
+            let at : (n == d) ≡ false = ne_eqb n d (λ same. absurd (omega arith)) in
+            let below : nat_lt d n ≡ true = lt-ltb d n less in
+            let below_next : nat_lt d (n + 1) ≡ true = lt-ltb d (n + 1) (omega arith) in
+            rw (at, below, below_next) (first_test (has disks d) d)
+        | inr more ↦
+            let at : (n == d) ≡ false = ne_eqb n d (λ same. absurd (omega arith)) in
+            let below : nat_lt d n ≡ false = le-ltb d n (omega arith) in
+            let below_next : nat_lt d (n + 1) ≡ false = le-ltb d (n + 1) (omega arith) in
+            rw (at, below, below_next) refl
+      ]
+    ]
+
+pub none_more : (disks n : ℕ) (notes : List DiskNotes) → has disks n ≡ false → AreFirst disks n notes → AreFirst disks (n + 1) notes
+none_more disks n notes there first d =
+    first d ∙ elim (cases_order d n) [
+      | inl same ↦
+          let below : nat_lt d n ≡ false = le-ltb d n (omega arith) in
+          let below_next : nat_lt d (n + 1) ≡ true = lt-ltb d (n + 1) (omega arith) in
+          let its : has disks d ≡ false = rw same there in
+          rw (below, below_next, its) refl
+      | inr other ↦ elim other [
+        | inl less ↦
+            let below : nat_lt d n ≡ true = lt-ltb d n less in
+            let below_next : nat_lt d (n + 1) ≡ true = lt-ltb d (n + 1) (omega arith) in
+            rw (below, below_next) refl
+        | inr more ↦
+            let below : nat_lt d n ≡ false = le-ltb d n (omega arith) in
+            let below_next : nat_lt d (n + 1) ≡ false = le-ltb d (n + 1) (omega arith) in
+            rw (below, below_next) refl
+      ]
+    ]
+
+-- ---- what two notes share
+
+pub common_few : (written flight : List NoteEntry) (i : ℕ) → i < length written → length written ≤ 62 → length (common (take i written) flight) < 62
+common_few written flight i within most =
+    let p : NoteEntry → Bool = λ e. names_group flight e.lv e.group in
+    omega (arith, length-filter p (take i written), count_by-le-length p (take i written), length-take i written)
+
+in_set : (there : Bool) (d n : ℕ) → (IsTrue there → d < n) → (nat_lt d n && there) ≡ there
+in_set true d n below = rw (lt-ltb d n (below refl)) refl
+in_set false d n below = and_right (nat_lt d n) false refl
+
+pub new_disks : (disks n : ℕ) (es : List CacheEntry) (notes : List DiskNotes) → 128 ≤ n → ((d : ℕ) → IsTrue (has disks d) → d < 128) → es ≡ [] → AreFirst disks n notes → IsNew disks (cached es notes)
+new_disks disks n es notes all few none first = record {
+  entries = none;
+  notes = λ d. first d ∙ ap (λ (b : Bool). cond b (Some (no_notes d)) None) (in_set (has disks d) d n (λ there. omega (arith, few d there, all)));
+}

@@ -1,0 +1,6 @@
+pub mod Firsts
+pub mod Entries
+pub mod Notes
+pub mod Cache
+pub mod Runs
+pub mod Laws

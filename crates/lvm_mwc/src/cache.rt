@@ -1,0 +1,176 @@
+//! The cache of track groups.
+ghost use Rattle.std.specs.Prelude.{◌≡◌, ◌≢◌, ◌+◌, ◌<◌, ◌^◌, if◌then◌else◌, position, IsTrue, IfOk, IsSome, IsNone, is_some, All};
+ghost use Rattle.lvm_num.specs.Note.{IsEntry};
+
+use crate::entries::{CacheEntry, entry_of, make_room, note_of, place_of};
+use crate::notes::{self, DiskNotes, both_name, common, row_of};
+use arrayvec::ArrayVec;
+use lvm_num::{DiskSet, Memory, NoteEntry};
+use std::alloc::Global;
+use std::marker::Model;
+
+/// How a pin ended.
+#[derive(Clone, Copy, Debug, PartialEq, Eq)]
+pub enum Pin {
+    /// The track group stands in the cache, with a pin more.
+    Pinned,
+    /// It doesn't stand there, and 62 others have pins: nothing has changed.
+    AllPinned,
+}
+
+/// At most 62 track groups in the order of their last pin, oldest first, each with its pins; and for
+/// each disk of a set its consistency record, as it was written last and as it is being written.
+#[derive(Drop)]
+pub struct Cache {
+    entries: ArrayVec<CacheEntry, 62>,
+    notes: Vec<DiskNotes>,
+}
+
+impl Model for Cache {
+    ghost use Rattle.lvm_mwc.specs.Cache.{Cached};
+    ghost use Rattle.lvm_mwc.specs.Entries.{AreEntries};
+
+    ghost Value = { Cached };
+
+    ghost view = { λ c. record { entries = c.entries.items; notes = c.notes.items } };
+
+    ghost invariant = { λ c. AreEntries c.entries.items };
+}
+
+impl Cache {
+    ghost use Rattle.lvm_mwc.specs.Entries.{is_entry, pins_of, note_of, AreEntries};
+    ghost use Rattle.lvm_mwc.specs.Cache.{Cached, IsNew, has_disk, flight_on, is_named, pin_answer, after_pin, after_unpin, after_start, after_end};
+
+    /// An empty cache for a set of disks, whose notes name nothing. It takes all the memory that it
+    /// ever needs.
+    pub fn new(alloc: Global, disks: DiskSet) -> Result<Cache, Memory>
+        ensures { IfOk result (IsNew disks) }
+    {
+        let mut notes = Vec::new(alloc);
+        for disk in 0..128 {
+            if disks.has(disk) {
+                notes.push(DiskNotes {
+                    disk,
+                    written: ArrayVec::new(),
+                    flight: None,
+                })?;
+            }
+        }
+        Ok(Cache {
+            entries: ArrayVec::new(),
+            notes,
+        })
+    }
+
+    /// The place of a track group, from 0 for the one whose last pin is the oldest.
+    pub fn find(&self, lv: u16, group: u32) -> Option<u8>
+        ensures { result ≡ position (is_entry lv group) self.now.entries }
+    {
+        let place = place_of(&self.entries, lv, group)?;
+        Some(place as u8)
+    }
+
+    /// How many pins a track group has, 0 where it isn't there.
+    pub fn pins(&self, lv: u16, group: u32) -> u32
+        ensures { result ≡ pins_of self.now.entries lv group }
+    {
+        match entry_of(&self.entries, lv, group) {
+            None => 0,
+            Some(entry) => entry.pins,
+        }
+    }
+
+    /// Gives a track group a pin and the last place. One that isn't there takes a free place, else that
+    /// of the first without pins.
+    pub fn pin(&mut self, lv: u16, group: u32) -> Pin
+        requires volume { lv ≢ 0 }
+        requires room { pins_of self.old.entries lv group + 1 < 2 ^ 32 }
+        ensures answer { result ≡ pin_answer self.old lv group }
+        ensures cache { self.new ≡ after_pin self.old lv group }
+        ensures entries { AreEntries self.new.entries }
+    {
+        match make_room(&mut self.entries, lv, group) {
+            None => Pin::AllPinned,
+            Some(pins) => {
+                self.entries.push(CacheEntry {
+                    lv,
+                    group,
+                    pins: pins + 1,
+                });
+                Pin::Pinned
+            }
+        }
+    }
+
+    /// Takes a pin from a track group, which stays where it is.
+    pub fn unpin(&mut self, lv: u16, group: u32)
+        requires { 0 < pins_of self.old.entries lv group }
+        ensures cache { self.new ≡ after_unpin self.old lv group }
+        ensures entries { AreEntries self.new.entries }
+    {
+        if let Some(place) = place_of(&self.entries, lv, group) {
+            self.entries[place].pins -= 1;
+        }
+    }
+
+    /// Whether the cache was made for a disk.
+    pub fn has_disk(&self, disk: u16) -> bool
+        ensures { result ≡ has_disk self.now disk }
+    {
+        row_of(&self.notes, disk).is_some()
+    }
+
+    /// Whether a note is in flight on a disk.
+    pub fn has_note_in_flight(&self, disk: u16) -> bool
+        ensures { result ≡ is_some (flight_on self.now disk) }
+    {
+        match row_of(&self.notes, disk) {
+            None => false,
+            Some(row) => row.flight.is_some(),
+        }
+    }
+
+    /// The whole cache, which is the note in flight on a disk from now on. It is for
+    /// `lvm_rec::write_note`.
+    pub fn start_note(&mut self, disk: u16) -> ArrayVec<NoteEntry, 62>
+        requires disk { IsTrue (has_disk self.old disk) }
+        requires idle { IsNone (flight_on self.old disk) }
+        ensures note { result.items ≡ note_of self.old.entries }
+        ensures counting { All IsEntry result.items }
+        ensures cache { self.new ≡ after_start self.old disk }
+    {
+        if let Some(place) = notes::place_of(&self.notes, disk) {
+            self.notes[place].flight = Some(note_of(&self.entries));
+        }
+        note_of(&self.entries)
+    }
+
+    /// The write of the note in flight on a disk has ended, well or by a fault. After a fault the sector
+    /// may be the old one or the new one, until a later note ends well.
+    pub fn end_note(&mut self, disk: u16, ok: bool)
+        requires { IsSome (flight_on self.old disk) }
+        ensures { self.new ≡ after_end self.old disk ok }
+    {
+        if let Some(place) = notes::place_of(&self.notes, disk) {
+            let row = &mut self.notes[place];
+            if let Some(flight) = row.flight.take() {
+                row.written = if ok {
+                    flight
+                } else {
+                    common(&row.written, &flight)
+                };
+            }
+        }
+    }
+
+    /// Whether each sector that may stand on a disk names a track group, the note in flight among them;
+    /// false for a disk that isn't in the set.
+    pub fn is_named(&self, disk: u16, lv: u16, group: u32) -> bool
+        ensures { result ≡ is_named self.now disk lv group }
+    {
+        match row_of(&self.notes, disk) {
+            None => false,
+            Some(row) => both_name(row, lv, group),
+        }
+    }
+}

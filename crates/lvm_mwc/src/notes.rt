@@ -1,0 +1,63 @@
+//! The consistency records of the disks, as they are written.
+ghost use Rattle.std.specs.Prelude.{◌≡◌, find, position};
+ghost use Rattle.std.specs.Option.{option_copied};
+ghost use Rattle.lvm_mwc.specs.Notes.{is_on, names_group, both_name, common};
+
+use arrayvec::ArrayVec;
+use lvm_num::NoteEntry;
+
+/// The consistency record of one disk.
+#[derive(Drop)]
+pub struct DiskNotes {
+    pub disk: u16,
+    /// The note that was written last; where writes of notes failed since, what it and all of those
+    /// name, since any of them may stand on the disk.
+    pub written: ArrayVec<NoteEntry, 62>,
+    /// The note that is being written.
+    pub flight: Option<ArrayVec<NoteEntry, 62>>,
+}
+
+// The place of a disk.
+pub fn place_of(notes: &[DiskNotes], disk: u16) -> Option<usize>
+    ensures { result ≡ position (is_on disk) notes.now }
+{
+    notes.iter().position(|row| row.disk == disk)
+}
+
+// The notes of a disk.
+pub fn row_of(notes: &[DiskNotes], disk: u16) -> Option<&DiskNotes>
+    ensures { option_copied result ≡ find (is_on disk) notes.now }
+{
+    notes.iter().find(|row| row.disk == disk)
+}
+
+// Whether a note names a track group.
+fn names_group(note: &[NoteEntry], lv: u16, group: u32) -> bool
+    ensures { result ≡ names_group note.now lv group }
+{
+    note.iter()
+        .any(|entry| entry.lv == lv && entry.group == group)
+}
+
+// Whether the note that was written and the one in flight name a track group.
+pub fn both_name(notes: &DiskNotes, lv: u16, group: u32) -> bool
+    ensures { result ≡ both_name lv group notes.now }
+{
+    match &notes.flight {
+        None => names_group(&notes.written, lv, group),
+        Some(flight) => names_group(&notes.written, lv, group) && names_group(flight, lv, group),
+    }
+}
+
+// What both notes have.
+pub fn common(written: &ArrayVec<NoteEntry, 62>, flight: &[NoteEntry]) -> ArrayVec<NoteEntry, 62>
+    ensures { result.items ≡ common written.now.items flight.now }
+{
+    let mut both = ArrayVec::new();
+    for entry in written.as_slice() {
+        if names_group(flight, entry.lv, entry.group) {
+            both.push(*entry);
+        }
+    }
+    both
+}
