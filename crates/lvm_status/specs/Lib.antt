@@ -1,0 +1,4 @@
+pub mod Calls
+pub mod Members
+pub mod Progress
+pub mod Update

@@ -1,0 +1,12 @@
+//! The status of a session beside its requests: what is committed, the one update that may be in flight,
+//! and what is wanted.
+#![tactic(auto)]
+
+mod change;
+mod updater;
+mod writes;
+
+pub use change::{Change, Progress};
+pub use updater::Updater;
+pub use writes::Writes;
+
