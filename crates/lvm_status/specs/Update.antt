@@ -7,9 +7,10 @@ use Rattle.lvm_num.specs.declared.descriptor.PvRow.{PvRow}
 use Rattle.lvm_num.specs.declared.descriptor.Descriptor.{Descriptor}
 use Rattle.lvm_num.specs.declared.status.Status.{Status}
 use Rattle.lvm_num.specs.Descriptor.{is_member}
-use Rattle.lvm_num.specs.Disks.{Disks}
+use Rattle.lvm_num.specs.Disks.{Disks, has}
 use Rattle.lvm_num.specs.Status.{calls_stale, calls_missing}
 use Rattle.lvm_num.specs.Votes.{votes_in, is_enough_to_write}
+use Rattle.lvm_status.specs.declared.writes.Writes.{Writes}
 
 -- The group, of which the members and their votes matter; the committed status, the wanted one and the one in
 -- flight; the disks whose writes of the one in flight aren't started, are started, ended well and ended badly; and
@@ -24,6 +25,28 @@ pub record Updates : Type 0 where
   pub written : Disks
   pub failed : Disks
   pub stamp : Stamp
+
+-- the same with its sets of disks as numbers, as an updater keeps it
+pub record Stored : Type 0 where
+  pub group : Descriptor
+  pub committed : Status
+  pub wanted : Status
+  pub in_flight : Option Status
+  pub writes : Writes
+  pub stamp : Stamp
+
+abbrev pub seen : Stored → Updates
+seen s = record {
+  group = s.group;
+  committed = s.committed;
+  wanted = s.wanted;
+  in_flight = s.in_flight;
+  unstarted = has s.writes.unstarted;
+  started = has s.writes.started;
+  written = has s.writes.written;
+  failed = has s.writes.failed;
+  stamp = s.stamp;
+}
 
 -- ---- sets of disks
 

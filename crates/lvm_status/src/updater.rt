@@ -1,5 +1,5 @@
 //! The updater.
-ghost use Rattle.std.specs.Prelude.{◌≡◌, ◌↔◌, ◌<◌, ◌+◌, ◌^◌, true, [], ◌||◌, IsTrue, IfOk, if◌then◌else◌};
+ghost use Rattle.std.specs.Prelude.{◌≡◌, ◌↔◌, ◌<◌, ◌+◌, ◌^◌, None, [], ◌||◌, IsTrue, IfOk, IfSome, if◌then◌else◌};
 ghost use Rattle.std.specs.List.{list_any};
 ghost use Rattle.std.specs.Option.{option_copied};
 ghost use Rattle.lvm_num.specs.declared.descriptor.PvRow.{PvRow};
@@ -33,39 +33,25 @@ pub struct Updater {
 
 impl Model for Updater {
     ghost use Rattle.std.specs.Prelude.{Some, None, if◌then◌else◌};
-    ghost use Rattle.lvm_num.specs.Disks.{has};
-    ghost use Rattle.lvm_status.specs.Update.{Updates};
+    ghost use Rattle.lvm_status.specs.Update.{Stored};
     ghost use Rattle.lvm_status.specs.Members.{IsFit};
 
-    ghost Value = { Updates };
+    ghost Value = { Stored };
 
     ghost view = { λ u. record {
         group = u.group;
         committed = u.committed;
         wanted = u.wanted;
         in_flight = if u.is_flying then Some u.flying else None;
-        unstarted = has u.writes.unstarted;
-        started = has u.writes.started;
-        written = has u.writes.written;
-        failed = has u.writes.failed;
+        writes = u.writes;
         stamp = u.stamp;
     } };
 
-    ghost invariant = { λ u. IsFit (record {
-        group = u.group;
-        committed = u.committed;
-        wanted = u.wanted;
-        in_flight = if u.is_flying then Some u.flying else None;
-        unstarted = has u.writes.unstarted;
-        started = has u.writes.started;
-        written = has u.writes.written;
-        failed = has u.writes.failed;
-        stamp = u.stamp;
-    }) u.flying };
+    ghost invariant = { λ u. IsFit u.group u.committed u.wanted u.flying u.writes };
 }
 
 impl Updater {
-    ghost use Rattle.lvm_status.specs.Update.{is_held, is_owed, is_settled_stale, votes_there, MayStart};
+    ghost use Rattle.lvm_status.specs.Update.{seen, is_held, is_owed, is_settled_stale, votes_there, MayStart};
     ghost use Rattle.lvm_status.specs.Calls.{first_updates, Changes, MayChange, with_wanted, with_update, with_start, with_end, WantsAtEnd, with_commit, closed, comes_held, after_end, given_up};
     ghost use Rattle.lvm_status.specs.Progress.{progress_of};
 
@@ -73,7 +59,7 @@ impl Updater {
     pub fn new(alloc: Global, table: StaleTable, d: &Descriptor) -> Result<Updater, Memory>
         requires valid { IsValid d.now }
         requires rows { HasItsRows d.now table }
-        ensures { IfOk result (λ updater. updater ≡ first_updates table d.now) }
+        ensures { IfOk result (λ updater. seen updater ≡ first_updates table d.now) }
     {
         let group = without_volumes(alloc, d)?;
         let committed = StaleTable::from_status(alloc, table.as_status())?;
@@ -94,7 +80,7 @@ impl Updater {
     pub fn want(&mut self, change: Change)
         requires { MayChange change self.old.wanted }
         ensures wanted { Changes change self.old.wanted self.new.wanted }
-        ensures rest { self.new ≡ with_wanted self.old change self.new.wanted }
+        ensures rest { seen self.new ≡ with_wanted (seen self.old) change self.new.wanted }
     {
         self.set_wanted(change);
         self.close();
@@ -104,10 +90,10 @@ impl Updater {
     /// committed; else changes nothing.
     pub fn start(&mut self) -> bool
         requires { self.old.stamp.seq + 1 < 2 ^ 32 }
-        ensures starts { IsTrue result ↔ MayStart self.old }
-        ensures update { self.new ≡ (if result then with_update self.old else self.old) }
+        ensures starts { IsTrue result ↔ MayStart (seen self.old) }
+        ensures update { seen self.new ≡ (if result then with_update (seen self.old) else seen self.old) }
     {
-        if self.is_flying || self.wanted.as_status() == self.committed.as_status() {
+        if self.is_flying || says_the_same(&self.wanted, &self.committed) {
             return false;
         }
         self.flying.copy_from(&self.wanted);
@@ -120,8 +106,8 @@ impl Updater {
     /// The disk to which the update in flight is to be written next: the lowest member that isn't missing
     /// whose write isn't started. It counts as started from now on.
     pub fn next_write(&mut self) -> Option<u16>
-        ensures lowest { IsLowest self.old.unstarted result }
-        ensures starts { self.new ≡ with_start self.old result }
+        ensures lowest { IsLowest (has self.old.writes.unstarted) result }
+        ensures starts { seen self.new ≡ with_start (seen self.old) result }
     {
         let disk = lowest(self.writes.unstarted)?;
         self.writes.unstarted = self.writes.unstarted.without(disk);
@@ -134,10 +120,10 @@ impl Updater {
     /// writes are out; it is in flight until each of its writes has ended, and for good where it has ended
     /// without being committed, since a later session may find it.
     pub fn ended(&mut self, disk: u16, ok: bool) -> Progress
-        requires { self.old.started disk ≡ true }
+        requires { IsTrue (has self.old.writes.started disk) }
         ensures wanted { WantsAtEnd disk ok self.old.wanted self.new.wanted }
-        ensures rest { self.new ≡ after_end self.old disk ok self.new.wanted }
-        ensures progress { result ≡ progress_of self.new.group (votes_there self.new) (comes_held self.old (with_end self.old disk ok self.new.wanted)) }
+        ensures rest { seen self.new ≡ after_end (seen self.old) disk ok self.new.wanted }
+        ensures progress { result ≡ progress_of self.old.group (votes_there (seen self.new)) (comes_held (seen self.old) (with_end (seen self.old) disk ok self.new.wanted)) }
     {
         let was_held = self.is_held();
         self.end_write(disk, ok);
@@ -176,10 +162,7 @@ impl Updater {
 
     /// How far the writes of the update in flight are; without one there are none.
     pub fn writes(&self) -> Writes
-        ensures unstarted { has result.unstarted ≡ self.now.unstarted }
-        ensures started { has result.started ≡ self.now.started }
-        ensures written { has result.written ≡ self.now.written }
-        ensures failed { has result.failed ≡ self.now.failed }
+        ensures { result ≡ self.now.writes }
     {
         self.writes
     }
@@ -187,14 +170,14 @@ impl Updater {
     /// Whether the committed status and the one in flight, if any, both call a partition stale: only then
     /// does each later session find it stale.
     pub fn is_settled_stale(&self, pp: Pp) -> bool
-        ensures { result ≡ is_settled_stale self.now pp }
+        ensures { result ≡ is_settled_stale (seen self.now) pp }
     {
         self.committed.is_stale(pp) && (!self.is_flying || self.flying.is_stale(pp))
     }
 
     /// The votes of the members that aren't missing, and those of all.
     pub fn votes(&self) -> (u32, u32)
-        ensures have { result.0 ≡ votes_there self.now }
+        ensures have { result.0 ≡ votes_there (seen self.now) }
         ensures total { result.1 ≡ total_votes self.now.group }
     {
         let there = members_there(&self.group, &self.wanted);
@@ -220,7 +203,7 @@ impl Updater {
     fn set_wanted(&mut self, change: Change)
         requires { MayChange change self.old.wanted }
         ensures wanted { Changes change self.old.wanted self.new.wanted }
-        ensures rest { self.new ≡ record self.old { wanted = self.new.wanted; unstarted = given_up change self.old.unstarted } }
+        ensures rest { seen self.new ≡ record (seen self.old) { wanted = self.new.wanted; unstarted = given_up change (has self.old.writes.unstarted) } }
     {
         match change {
             Change::Stale(pp) => self.wanted.mark(pp),
@@ -236,9 +219,9 @@ impl Updater {
 
     // The write to a disk has ended.
     fn end_write(&mut self, disk: u16, ok: bool)
-        requires { self.old.started disk ≡ true }
+        requires { IsTrue (has self.old.writes.started disk) }
         ensures wanted { WantsAtEnd disk ok self.old.wanted self.new.wanted }
-        ensures rest { self.new ≡ with_end self.old disk ok self.new.wanted }
+        ensures rest { seen self.new ≡ with_end (seen self.old) disk ok self.new.wanted }
     {
         self.writes.started = self.writes.started.without(disk);
         if ok {
@@ -251,21 +234,21 @@ impl Updater {
 
     // Whether the disks that have the update have votes enough to write.
     fn is_held(&self) -> bool
-        ensures { result ≡ is_held self.now }
+        ensures { result ≡ is_held (seen self.now) }
     {
         self.group.enough_to_write(self.group.votes_in(self.writes.written))
     }
 
     // Whether a write is to be started or to end.
     fn is_owed(&self) -> bool
-        ensures { result ≡ is_owed self.now }
+        ensures { result ≡ is_owed (seen self.now) }
     {
         is_any_owed(&self.group, self.writes)
     }
 
     // What is in flight is committed.
     fn commit(&mut self)
-        ensures { self.new ≡ with_commit self.old }
+        ensures { seen self.new ≡ with_commit (seen self.old) }
     {
         if self.is_flying {
             self.committed.copy_from(&self.flying);
@@ -274,7 +257,7 @@ impl Updater {
 
     // The update ends where it is committed and no write is owed.
     fn close(&mut self)
-        ensures { self.new ≡ closed self.old }
+        ensures { seen self.new ≡ closed (seen self.old) }
     {
         if self.is_held() && !self.is_owed() {
             self.is_flying = false;
@@ -283,7 +266,7 @@ impl Updater {
     }
 
     fn progress(&self, commits: bool) -> Progress
-        ensures { result ≡ progress_of self.now.group (votes_there self.now) commits }
+        ensures { result ≡ progress_of self.now.group (votes_there (seen self.now)) commits }
     {
         let (have, total) = self.votes();
         if !self.group.enough_to_write(have) {
@@ -294,6 +277,12 @@ impl Updater {
             Progress::Waiting
         }
     }
+}
+
+fn says_the_same(a: &StaleTable, b: &StaleTable) -> bool
+    ensures { IsTrue result ↔ (a.now ≡ b.now) }
+{
+    a.as_status() == b.as_status()
 }
 
 // The group with its members alone.
@@ -331,7 +320,8 @@ fn members_there(d: &Descriptor, table: &StaleTable) -> DiskSet
 
 // The least disk of a set.
 fn lowest(disks: DiskSet) -> Option<u16>
-    ensures { IsLowest (has disks) result }
+    ensures lowest { IsLowest (has disks) result }
+    ensures within { IfSome result (λ disk. disk < 128) }
 {
     for disk in 0..128 {
         if disks.has(disk) {
