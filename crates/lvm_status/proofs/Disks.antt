@@ -1,8 +1,8 @@
 -- Sets of disks, and the disks of members.
-use Rattle.std.proofs.Common.{◌≡◌, inl, inr, ℕ, ◌+◌, ◌<◌, Bool, true, false, ◌&&◌, ◌||◌, not, List, length, get_or, take, refl, sym, ap, ◌∙◌, arith}
+use Rattle.std.proofs.Common.{◌≡◌, ◌⊎◌, inl, inr, ℕ, ◌+◌, ◌<◌, Bool, true, false, ◌&&◌, ◌||◌, not, List, length, get_or, take, refl, sym, ap, ◌∙◌, arith}
 use Rattle.std.specs.Prelude.{◌==◌}
 use Rattle.std.specs.List.{list_any}
-use Rattle.std.proofs.lemmas.Bool.{eqb-true}
+use Rattle.std.proofs.lemmas.Bool.{eq-eqb, eqb-true}
 use Rattle.std.proofs.lemmas.Bool.Decides.{eqb_tells}
 use Rattle.std.proofs.lemmas.List.Folds.{Any-from_list_any, list_any_more}
 use Rattle.lvm_num.specs.declared.descriptor.PvRow.{PvRow}
@@ -66,3 +66,17 @@ leaves is gone has_gone old now e = e ∙ sym (ap (λ b. old || (is && not b)) h
     without true false = refl
     without false true = refl
     without false false = refl
+
+pub bool_tells : (b : Bool) → (b ≡ true) ⊎ (b ≡ false)
+bool_tells true = inl refl
+bool_tells false = inr refl
+
+pub no_is_false : (b : Bool) → (b ≡ true → ⊥) → b ≡ false
+no_is_false b never = elim (bool_tells b) [ inl is ↦ absurd (never is) | inr isnt ↦ isnt ]
+
+-- a test for equal numbers, either way round
+pub swap : (m n : ℕ) → m == n ≡ n == m
+swap m n = elim (eqb_tells m n) [
+  | inl same ↦ same.0 ∙ sym (eq-eqb n m (sym same.1))
+  | inr apart ↦ apart.0 ∙ sym (no_is_false (n == m) (λ is. apart.1 (sym (eqb-true n m is))))
+]
