@@ -1,3 +1,5 @@
 pub mod Disks
 pub mod Fit
 pub mod Same
+pub mod Sound
+pub mod Sessions
