@@ -3,3 +3,4 @@ pub mod Fit
 pub mod Same
 pub mod Sound
 pub mod Sessions
+pub mod Rows

@@ -1,6 +1,9 @@
 -- Tables with a row for each member, and what is true of an updater's tables and sets.
-use Rattle.std.specs.Prelude.{◌≡◌, ℕ, true, length}
+use Rattle.std.specs.Prelude.{◌≡◌, ℕ, Bool, true, length}
+use Rattle.std.specs.List.{list_all}
+use Rattle.lvm_num.specs.declared.descriptor.PvRow.{PvRow}
 use Rattle.lvm_num.specs.declared.descriptor.Descriptor.{Descriptor}
+use Rattle.lvm_num.specs.declared.status.StatusRow.{StatusRow}
 use Rattle.lvm_num.specs.declared.status.Status.{Status}
 use Rattle.lvm_num.specs.Descriptor.{is_member, IsValid}
 use Rattle.lvm_num.specs.Disks.{has}
@@ -10,6 +13,13 @@ use Rattle.lvm_status.specs.declared.writes.Writes.{Writes}
 -- the status has a row for exactly the members
 abbrev pub HasItsRows : Descriptor → Status → Type 0
 HasItsRows d s = (disk : ℕ) → has_row s disk ≡ is_member d disk
+
+-- each member has a row, and each row is that of a member
+abbrev pub all_rows : Descriptor → Status → Bool
+all_rows d s = list_all (λ (member : PvRow). has_row s member.disk) d.pvs
+
+abbrev pub all_members : Descriptor → Status → Bool
+all_members d s = list_all (λ (row : StatusRow). is_member d row.disk) s.rows
 
 -- A valid group whose members have rows in the wanted status, as many as in the others; and only members are written.
 pub record IsFit (d : Descriptor) (committed wanted flying : Status) (writes : Writes) : Type 0 where

@@ -11,3 +11,6 @@ pub use change::{Change, Progress};
 pub use updater::Updater;
 pub use writes::Writes;
 
+
+#[cfg(test)]
+mod tests;

@@ -3,14 +3,14 @@ ghost use Rattle.std.specs.Prelude.{◌≡◌, ◌↔◌, ◌<◌, ◌+◌, ◌^
 ghost use Rattle.std.specs.List.{list_any};
 ghost use Rattle.std.specs.Option.{option_copied};
 ghost use Rattle.lvm_num.specs.declared.descriptor.PvRow.{PvRow};
-ghost use Rattle.lvm_num.specs.Descriptor.{IsValid};
+ghost use Rattle.lvm_num.specs.Descriptor.{IsValid, is_member};
 ghost use Rattle.lvm_num.specs.Votes.{total_votes};
 ghost use Rattle.lvm_num.specs.Disks.{has};
-ghost use Rattle.lvm_status.specs.Members.{HasItsRows};
+ghost use Rattle.lvm_status.specs.Members.{HasItsRows, all_rows, all_members};
 ghost use Rattle.lvm_status.specs.Update.{members_there, IsLowest};
 
 use crate::{Change, Progress, Writes};
-use lvm_num::{Descriptor, DiskSet, Memory, Pp, Rows, Stamp};
+use lvm_num::{Descriptor, DiskSet, Memory, Pp, Rows, Stamp, Status};
 use lvm_stale::StaleTable;
 use std::alloc::Global;
 use std::marker::Model;
@@ -73,6 +73,13 @@ impl Updater {
             writes: Writes::none(),
             stamp: Stamp { epoch: 0, seq: 0 },
         })
+    }
+
+    /// Whether a table has a row for exactly the members of a group.
+    pub fn has_its_rows(d: &Descriptor, table: &StaleTable) -> bool
+        ensures { IsTrue result ↔ HasItsRows d.now table.now }
+    {
+        all_have_rows(d, table) && all_are_members(table.as_status(), d)
     }
 
     /// Something is wanted from now on. A write of the update in flight that isn't started isn't made where
@@ -283,6 +290,29 @@ fn says_the_same(a: &StaleTable, b: &StaleTable) -> bool
     ensures { IsTrue result ↔ (a.now ≡ b.now) }
 {
     a.as_status() == b.as_status()
+}
+
+// Whether each member has a row.
+fn all_have_rows(d: &Descriptor, table: &StaleTable) -> bool
+    ensures { result ≡ all_rows d.now table.now }
+{
+    d.pvs
+        .as_slice()
+        .iter()
+        .all(|member| table.has_row(member.disk))
+}
+
+// Whether each row is that of a member.
+fn all_are_members(s: &Status, d: &Descriptor) -> bool
+    ensures { result ≡ all_members d.now s.now }
+{
+    s.rows.as_slice().iter().all(|row| is_member(d, row.disk))
+}
+
+fn is_member(d: &Descriptor, disk: u16) -> bool
+    ensures { result ≡ is_member d.now disk }
+{
+    d.pvs.as_slice().iter().any(|member| member.disk == disk)
 }
 
 // The group with its members alone.
