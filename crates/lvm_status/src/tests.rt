@@ -1,3 +1,8 @@
+use crate::Progress::{Committed, QuorumLost, Waiting};
+use crate::tests::Do::{
+    Clean, Clear, Dirty, Ends, Flies, HasStamp, IsDirty, Mark, Miss, Missing, SetStamp, Stale, Starts,
+    Votes, Writes, WritesNone,
+};
 use crate::{Change, Progress, Updater};
 use lvm_num::{
     Descriptor, Memory, Name, Pp, PvRow, Rows, Stamp, Status, StatusRow, VolumeNumbers,
@@ -83,35 +88,67 @@ fn two(rt: &(impl Abort + AllocGlobal), even: bool) -> Updater {
     updater_of(rt, &group, &[1, 4], 128)
 }
 
-fn mark(rt: &impl Abort, updater: &mut Updater, pp: Pp) {
-    let fits = updater.wanted().has_row(pp.disk) && pp.pp < 1016;
-    assert!(rt; fits);
-    updater.want(Change::Stale(pp));
+// The partition that the tests speak of.
+const SOME: Pp = Pp { disk: 5, pp: 3 };
+
+// What a test does, and what it is answered.
+#[derive(Clone, Copy)]
+enum Do {
+    Mark,
+    Clear,
+    Miss(u16),
+    Dirty,
+    Clean,
+    Starts(bool),
+    Writes(u16),
+    WritesNone,
+    Ends(u16, bool, Progress),
+    // Whether the committed status calls the partition stale, and whether that is settled.
+    Stale(bool, bool),
+    // Whether the committed status calls the volume dirty.
+    IsDirty(bool),
+    Missing(u16),
+    Flies(bool),
+    Votes(u32, u32),
+    SetStamp(u64, u32),
+    HasStamp(u64, u32),
 }
 
-fn clear(rt: &impl Abort, updater: &mut Updater, pp: Pp) {
-    let fits = updater.wanted().has_row(pp.disk) && pp.pp < 1016;
-    assert!(rt; fits);
-    updater.want(Change::Fresh(pp));
+fn want(rt: &impl Abort, updater: &mut Updater, change: Change) {
+    match change {
+        Change::Stale(pp) | Change::Fresh(pp) => {
+            let fits = updater.wanted().has_row(pp.disk) && pp.pp < 1016;
+            assert!(rt; fits);
+        }
+        Change::Missing(disk) => {
+            let fits = updater.wanted().has_row(disk);
+            assert!(rt; fits);
+        }
+        Change::Dirty(lv) | Change::Clean(lv) => assert!(rt; 1 <= lv && lv <= 511),
+    }
+    updater.want(change);
 }
 
-fn miss(rt: &impl Abort, updater: &mut Updater, disk: u16) {
-    let fits = updater.wanted().has_row(disk);
-    assert!(rt; fits);
-    updater.want(Change::Missing(disk));
-}
-
-fn start(rt: &impl Abort, updater: &mut Updater) -> bool {
+fn start(rt: &impl Abort, updater: &mut Updater, starts: bool) {
     let seq = updater.stamp().seq;
     assert!(rt; seq < u32::MAX);
-    updater.start()
+    assert_eq!(rt; updater.start(), starts);
 }
 
-fn ended(rt: &impl Abort, updater: &mut Updater, disk: u16, ok: bool) -> Progress {
+fn next_write(rt: &impl Abort, updater: &mut Updater, disk: Option<u16>) {
+    assert_eq!(rt; updater.next_write(), disk);
+}
+
+fn ended(rt: &impl Abort, updater: &mut Updater, disk: u16, ok: bool, progress: Progress) {
     assert!(rt; disk < 128);
     let out = updater.writes().started.has(disk);
     assert!(rt; out);
-    updater.ended(disk, ok)
+    assert_eq!(rt; updater.ended(disk, ok), progress);
+}
+
+fn is_stale(rt: &impl Abort, updater: &Updater, committed: bool, settled: bool) {
+    assert_eq!(rt; updater.committed().is_stale(SOME), committed);
+    assert_eq!(rt; updater.is_settled_stale(SOME), settled);
 }
 
 fn set_stamp(rt: &impl Abort, updater: &mut Updater, stamp: Stamp) {
@@ -120,197 +157,299 @@ fn set_stamp(rt: &impl Abort, updater: &mut Updater, stamp: Stamp) {
     updater.set_stamp(stamp);
 }
 
-// Starts an update and all its writes, which are to go to these disks.
-fn send(rt: &impl Abort, updater: &mut Updater, disks: &[u16]) {
-    let starts = start(rt, updater);
-    assert!(rt; starts);
-    for disk in disks {
-        assert_eq!(rt; updater.next_write(), Some(*disk));
+fn step(rt: &impl Abort, updater: &mut Updater, what: &Do) {
+    match what {
+        Do::Mark => want(rt, updater, Change::Stale(SOME)),
+        Do::Clear => want(rt, updater, Change::Fresh(SOME)),
+        Do::Miss(disk) => want(rt, updater, Change::Missing(*disk)),
+        Do::Dirty => want(rt, updater, Change::Dirty(511)),
+        Do::Clean => want(rt, updater, Change::Clean(511)),
+        Do::Starts(starts) => start(rt, updater, *starts),
+        Do::Writes(disk) => next_write(rt, updater, Some(*disk)),
+        Do::WritesNone => next_write(rt, updater, None),
+        Do::Ends(disk, ok, progress) => ended(rt, updater, *disk, *ok, *progress),
+        Do::SetStamp(epoch, seq) => set_stamp(
+            rt,
+            updater,
+            Stamp {
+                epoch: *epoch,
+                seq: *seq,
+            },
+        ),
+        _ => look(rt, updater, what),
     }
-    assert_eq!(rt; updater.next_write(), None);
 }
 
-const SOME: Pp = Pp { disk: 5, pp: 3 };
+fn look(rt: &impl Abort, updater: &Updater, what: &Do) {
+    match what {
+        Do::Stale(committed, settled) => is_stale(rt, updater, *committed, *settled),
+        Do::IsDirty(dirty) => assert_eq!(rt; updater.committed().is_dirty(511), *dirty),
+        Do::Missing(disk) => assert_eq!(rt; updater.wanted().is_missing(*disk), true),
+        Do::Flies(flies) => assert_eq!(rt; updater.in_flight().is_some(), *flies),
+        Do::Votes(have, total) => assert_eq!(rt; updater.votes(), (*have, *total)),
+        Do::HasStamp(epoch, seq) => {
+            assert_eq!(rt;
+                updater.stamp(),
+                Stamp {
+                    epoch: *epoch,
+                    seq: *seq
+                }
+            )
+        }
+        _ => {}
+    }
+}
+
+fn run(rt: &impl Abort, mut updater: Updater, all: &[Do]) {
+    for what in all {
+        step(rt, &mut updater, what);
+    }
+}
 
 #[test]
 fn an_update_goes_to_each_member_and_is_committed_by_more_than_half(rt: HostRuntime) {
-    let mut updater = three(&rt, true);
-    let starts = start(&rt, &mut updater);
-    assert!(rt; !starts);
-    mark(&rt, &mut updater, SOME);
-    send(&rt, &mut updater, &[2, 5, 9]);
-    assert_eq!(rt; updater.stamp().seq, 1);
-    assert_eq!(rt; updater.in_flight().is_some_and(|table| table.is_stale(SOME)), true);
-    assert_eq!(rt; ended(&rt, &mut updater, 5, true), Progress::Waiting);
-    assert_eq!(rt; updater.committed().is_stale(SOME), false);
-    assert_eq!(rt; ended(&rt, &mut updater, 2, true), Progress::Committed);
-    assert_eq!(rt; updater.committed().is_stale(SOME), true);
-    assert_eq!(rt; updater.in_flight().is_some(), true);
-    clear(&rt, &mut updater, SOME);
-    let starts = start(&rt, &mut updater);
-    assert!(rt; !starts);
-    assert_eq!(rt; ended(&rt, &mut updater, 9, true), Progress::Waiting);
-    assert_eq!(rt; updater.in_flight().is_none(), true);
-    assert_eq!(rt; updater.committed().is_stale(SOME), true);
-    assert_eq!(rt; updater.votes(), (3, 3));
-    send(&rt, &mut updater, &[2, 5, 9]);
-    assert_eq!(rt; updater.stamp().seq, 2);
+    let all = [
+        Starts(false),
+        Mark,
+        Starts(true),
+        Writes(2),
+        Writes(5),
+        Writes(9),
+        WritesNone,
+        Ends(5, true, Waiting),
+        Stale(false, false),
+        Ends(2, true, Committed),
+        Stale(true, true),
+        Clear,
+        Starts(false),
+        Flies(true),
+        Ends(9, true, Waiting),
+        Flies(false),
+        Stale(true, true),
+        Votes(3, 3),
+        Starts(true),
+    ];
+    run(&rt, three(&rt, true), &all);
+}
+
+// What three members do where the first of these fails, before the others or after them.
+fn fails_first(failing: u16, a: u16, b: u16) -> [Do; 16] {
+    [
+        Mark,
+        Starts(true),
+        Writes(2),
+        Writes(5),
+        Writes(9),
+        Ends(failing, false, Waiting),
+        Missing(failing),
+        Ends(a, true, Waiting),
+        Ends(b, true, Committed),
+        Flies(false),
+        Votes(2, 3),
+        Stale(true, true),
+        Starts(true),
+        Writes(a),
+        Writes(b),
+        WritesNone,
+    ]
+}
+
+fn fails_last(failing: u16, a: u16, b: u16) -> [Do; 16] {
+    [
+        Mark,
+        Starts(true),
+        Writes(2),
+        Writes(5),
+        Writes(9),
+        Ends(a, true, Waiting),
+        Ends(b, true, Committed),
+        Flies(true),
+        Ends(failing, false, Waiting),
+        Missing(failing),
+        Flies(false),
+        Votes(2, 3),
+        Starts(true),
+        Writes(a),
+        Writes(b),
+        WritesNone,
+    ]
 }
 
 #[test]
 fn a_member_that_fails_at_any_write_is_missing_and_written_no_more(rt: HostRuntime) {
-    for (failing, rest) in [(2, [5, 9]), (5, [2, 9]), (9, [2, 5])] {
-        for first in [true, false] {
-            let mut updater = three(&rt, true);
-            mark(&rt, &mut updater, SOME);
-            send(&rt, &mut updater, &[2, 5, 9]);
-            if first {
-                assert_eq!(rt; ended(&rt, &mut updater, failing, false), Progress::Waiting);
-            }
-            assert_eq!(rt; ended(&rt, &mut updater, rest[0], true), Progress::Waiting);
-            assert_eq!(rt; ended(&rt, &mut updater, rest[1], true), Progress::Committed);
-            if !first {
-                assert_eq!(rt; ended(&rt, &mut updater, failing, false), Progress::Waiting);
-            }
-            assert_eq!(rt; updater.in_flight().is_none(), true);
-            assert_eq!(rt; updater.wanted().is_missing(failing), true);
-            assert_eq!(rt; updater.committed().is_missing(failing), false);
-            assert_eq!(rt; updater.votes(), (2, 3));
-            send(&rt, &mut updater, &rest);
-        }
+    for (failing, a, b) in [(2, 5, 9), (5, 2, 9), (9, 2, 5)] {
+        run(&rt, three(&rt, true), &fails_first(failing, a, b));
+        run(&rt, three(&rt, true), &fails_last(failing, a, b));
     }
 }
 
 #[test]
 fn an_update_that_ends_without_its_votes_stays_in_flight(rt: HostRuntime) {
-    let mut updater = three(&rt, true);
-    mark(&rt, &mut updater, SOME);
-    send(&rt, &mut updater, &[2, 5, 9]);
-    assert_eq!(rt; ended(&rt, &mut updater, 5, true), Progress::Waiting);
-    assert_eq!(rt; ended(&rt, &mut updater, 9, false), Progress::Waiting);
-    let lost = Progress::QuorumLost { have: 1, total: 3 };
-    assert_eq!(rt; ended(&rt, &mut updater, 2, false), lost);
-    assert_eq!(rt; updater.in_flight().is_some(), true);
-    assert_eq!(rt; updater.committed().is_stale(SOME), false);
-    assert_eq!(rt; updater.is_settled_stale(SOME), false);
-    let starts = start(&rt, &mut updater);
-    assert!(rt; !starts);
-    assert_eq!(rt; updater.next_write(), None);
+    let all = [
+        Mark,
+        Starts(true),
+        Writes(2),
+        Writes(5),
+        Writes(9),
+        Ends(5, true, Waiting),
+        Ends(9, false, Waiting),
+        Ends(2, false, QuorumLost { have: 1, total: 3 }),
+        Flies(true),
+        Stale(false, false),
+        Starts(false),
+        WritesNone,
+    ];
+    run(&rt, three(&rt, true), &all);
 }
 
 #[test]
 fn the_first_of_two_members_decides(rt: HostRuntime) {
-    let mut updater = two(&rt, false);
-    miss(&rt, &mut updater, 1);
-    send(&rt, &mut updater, &[4]);
-    assert_eq!(rt; ended(&rt, &mut updater, 4, true), Progress::Committed);
-    assert_eq!(rt; updater.committed().is_missing(1), true);
-
-    let mut updater = two(&rt, false);
-    updater.want(Change::Dirty(7));
-    send(&rt, &mut updater, &[1, 4]);
-    assert_eq!(rt; ended(&rt, &mut updater, 1, true), Progress::Waiting);
-    let lost = Progress::QuorumLost { have: 1, total: 3 };
-    assert_eq!(rt; ended(&rt, &mut updater, 4, false), lost);
-    assert_eq!(rt; updater.in_flight().is_some_and(|table| table.is_dirty(7)), true);
-    assert_eq!(rt; updater.committed().is_dirty(7), false);
+    let enough = [
+        Miss(1),
+        Starts(true),
+        Writes(4),
+        WritesNone,
+        Ends(4, true, Committed),
+        Missing(1),
+        Votes(2, 3),
+    ];
+    run(&rt, two(&rt, false), &enough);
+    let few = [
+        Dirty,
+        Starts(true),
+        Writes(1),
+        Writes(4),
+        Ends(1, true, Waiting),
+        Ends(4, false, QuorumLost { have: 1, total: 3 }),
+        Flies(true),
+        IsDirty(false),
+    ];
+    run(&rt, two(&rt, false), &few);
 }
 
 #[test]
 fn half_of_the_votes_is_not_enough(rt: HostRuntime) {
-    let mut updater = two(&rt, true);
-    updater.want(Change::Dirty(7));
-    send(&rt, &mut updater, &[1, 4]);
-    assert_eq!(rt; ended(&rt, &mut updater, 4, true), Progress::Waiting);
-    assert_eq!(rt; ended(&rt, &mut updater, 1, true), Progress::Committed);
-    updater.want(Change::Clean(7));
-    send(&rt, &mut updater, &[1, 4]);
-    assert_eq!(rt; ended(&rt, &mut updater, 4, true), Progress::Waiting);
-    let lost = Progress::QuorumLost { have: 1, total: 2 };
-    assert_eq!(rt; ended(&rt, &mut updater, 1, false), lost);
-    assert_eq!(rt; updater.committed().is_dirty(7), true);
-    assert_eq!(rt; updater.wanted().is_dirty(7), false);
+    let all = [
+        Dirty,
+        Starts(true),
+        Writes(1),
+        Writes(4),
+        Ends(4, true, Waiting),
+        Ends(1, true, Committed),
+        IsDirty(true),
+        Clean,
+        Starts(true),
+        Writes(1),
+        Writes(4),
+        Ends(4, true, Waiting),
+        Ends(1, false, QuorumLost { have: 1, total: 2 }),
+        IsDirty(true),
+    ];
+    run(&rt, two(&rt, true), &all);
 }
 
 #[test]
 fn without_quorum_checking_one_member_is_enough(rt: HostRuntime) {
-    let mut updater = three(&rt, false);
-    mark(&rt, &mut updater, SOME);
-    send(&rt, &mut updater, &[2, 5, 9]);
-    assert_eq!(rt; ended(&rt, &mut updater, 2, false), Progress::Waiting);
-    assert_eq!(rt; ended(&rt, &mut updater, 9, false), Progress::Waiting);
-    assert_eq!(rt; ended(&rt, &mut updater, 5, true), Progress::Committed);
-    send(&rt, &mut updater, &[5]);
-    let lost = Progress::QuorumLost { have: 0, total: 3 };
-    assert_eq!(rt; ended(&rt, &mut updater, 5, false), lost);
+    let all = [
+        Mark,
+        Starts(true),
+        Writes(2),
+        Writes(5),
+        Writes(9),
+        Ends(2, false, Waiting),
+        Ends(9, false, Waiting),
+        Ends(5, true, Committed),
+        Starts(true),
+        Writes(5),
+        WritesNone,
+        Ends(5, false, QuorumLost { have: 0, total: 3 }),
+    ];
+    run(&rt, three(&rt, false), &all);
 }
 
 #[test]
 fn an_update_ends_where_its_last_write_is_given_up(rt: HostRuntime) {
-    let mut updater = three(&rt, true);
-    mark(&rt, &mut updater, SOME);
-    let starts = start(&rt, &mut updater);
-    assert!(rt; starts);
-    assert_eq!(rt; updater.next_write(), Some(2));
-    assert_eq!(rt; updater.next_write(), Some(5));
-    assert_eq!(rt; ended(&rt, &mut updater, 2, true), Progress::Waiting);
-    assert_eq!(rt; ended(&rt, &mut updater, 5, true), Progress::Committed);
-    assert_eq!(rt; updater.in_flight().is_some(), true);
-    miss(&rt, &mut updater, 9);
-    assert_eq!(rt; updater.in_flight().is_none(), true);
-    assert_eq!(rt; updater.next_write(), None);
-    send(&rt, &mut updater, &[2, 5]);
+    let all = [
+        Mark,
+        Starts(true),
+        Writes(2),
+        Writes(5),
+        Ends(2, true, Waiting),
+        Ends(5, true, Committed),
+        Flies(true),
+        Miss(9),
+        Flies(false),
+        WritesNone,
+        Starts(true),
+        Writes(2),
+        Writes(5),
+        WritesNone,
+    ];
+    run(&rt, three(&rt, true), &all);
 }
 
 #[test]
 fn members_that_were_missing_at_the_beginning_are_not_written(rt: HostRuntime) {
     let group = group_of(rt.alloc(), &[9, 2, 5], true, false).expect(&rt, "memory");
-    let mut updater = updater_of(&rt, &group, &[2, 5, 9], 2);
-    assert_eq!(rt; updater.votes(), (2, 3));
-    mark(&rt, &mut updater, SOME);
-    send(&rt, &mut updater, &[5, 9]);
+    let all = [
+        Votes(2, 3),
+        Mark,
+        Starts(true),
+        Writes(5),
+        Writes(9),
+        WritesNone,
+    ];
+    run(&rt, updater_of(&rt, &group, &[2, 5, 9], 2), &all);
 }
 
 #[test]
 fn staleness_is_settled_once_no_later_session_can_find_it_fresh(rt: HostRuntime) {
-    let mut updater = three(&rt, true);
-    mark(&rt, &mut updater, SOME);
-    send(&rt, &mut updater, &[2, 5, 9]);
-    assert_eq!(rt; updater.is_settled_stale(SOME), false);
-    for disk in [2, 5, 9] {
-        ended(&rt, &mut updater, disk, true);
-    }
-    assert_eq!(rt; updater.is_settled_stale(SOME), true);
-    clear(&rt, &mut updater, SOME);
-    assert_eq!(rt; updater.is_settled_stale(SOME), true);
-    send(&rt, &mut updater, &[2, 5, 9]);
-    assert_eq!(rt; updater.is_settled_stale(SOME), false);
-    assert_eq!(rt; updater.committed().is_stale(SOME), true);
+    let all = [
+        Mark,
+        Starts(true),
+        Writes(1),
+        Writes(5),
+        Ends(5, true, Committed),
+        Ends(1, true, Waiting),
+        Stale(true, true),
+        Clear,
+        Stale(true, true),
+        Starts(true),
+        Stale(true, false),
+        Mark,
+        Stale(true, false),
+    ];
+    let group = group_of(rt.alloc(), &[5, 1], true, false).expect(&rt, "memory");
+    run(&rt, updater_of(&rt, &group, &[1, 5], 128), &all);
 }
 
 #[test]
 fn stamps_go_on_from_the_one_that_was_set(rt: HostRuntime) {
-    let mut updater = two(&rt, false);
-    assert_eq!(rt; updater.stamp(), Stamp { epoch: 0, seq: 0 });
-    set_stamp(&rt, &mut updater, Stamp { epoch: 60, seq: 2 });
-    updater.want(Change::Dirty(511));
-    send(&rt, &mut updater, &[1, 4]);
-    assert_eq!(rt; updater.stamp(), Stamp { epoch: 60, seq: 3 });
+    let all = [
+        HasStamp(0, 0),
+        SetStamp(60, 2),
+        Starts(false),
+        HasStamp(60, 2),
+        Dirty,
+        Starts(true),
+        HasStamp(60, 3),
+    ];
+    run(&rt, two(&rt, false), &all);
+}
+
+fn fits(rt: &(impl Abort + AllocGlobal), group: &Descriptor, disks: &[u16]) -> bool {
+    let status = status_of(rt.alloc(), disks, 128).expect(rt, "memory");
+    let valid = status.is_valid();
+    assert!(rt; valid);
+    let table = StaleTable::from_status(rt.alloc(), &status).expect(rt, "memory");
+    Updater::has_its_rows(group, &table)
 }
 
 #[test]
 fn a_table_of_other_members_does_not_fit(rt: HostRuntime) {
     let group = group_of(rt.alloc(), &[9, 2, 5], true, false).expect(&rt, "memory");
-    for (disks, fits) in [([2, 5, 9], true), ([2, 5, 8], false), ([2, 8, 9], false)] {
-        let status = status_of(rt.alloc(), &disks, 128).expect(&rt, "memory");
-        let valid = status.is_valid();
-        assert!(rt; valid);
-        let table = StaleTable::from_status(rt.alloc(), &status).expect(&rt, "memory");
-        assert_eq!(rt; Updater::has_its_rows(&group, &table), fits);
-    }
-    let status = status_of(rt.alloc(), &[2, 9], 128).expect(&rt, "memory");
-    let valid = status.is_valid();
-    assert!(rt; valid);
-    let table = StaleTable::from_status(rt.alloc(), &status).expect(&rt, "memory");
-    assert_eq!(rt; Updater::has_its_rows(&group, &table), false);
+    assert_eq!(rt; fits(&rt, &group, &[2, 5, 9]), true);
+    assert_eq!(rt; fits(&rt, &group, &[2, 5, 8]), false);
+    assert_eq!(rt; fits(&rt, &group, &[2, 9]), false);
+    assert_eq!(rt; fits(&rt, &group, &[2, 5, 9, 10]), false);
 }
