@@ -9,7 +9,7 @@ use Rattle.lvm_num.specs.declared.status.Status.{Status}
 use Rattle.lvm_num.specs.Disks.{has}
 use Rattle.lvm_stale.specs.Table.{has_row, SameMembers}
 use Rattle.lvm_status.specs.declared.writes.Writes.{Writes}
-use Rattle.lvm_status.specs.Members.{HasItsRows, IsFit}
+use Rattle.lvm_status.specs.Members.{IsFit}
 
 any_disk : (rows : List StatusRow) (disk : ℕ) → list_any (λ (row : StatusRow). row.disk == disk) rows ≡ list_any (λ n. n == disk) (map (λ (row : StatusRow). row.disk) rows)
 any_disk [] disk = refl

@@ -13,10 +13,10 @@ use Rattle.lvm_num.specs.Status.{calls_stale, calls_missing}
 use Rattle.lvm_stale.specs.Table.{is_pp}
 use Rattle.lvm_status.specs.declared.change.Change.{Change}
 use Rattle.lvm_status.specs.declared.change.Change.TheVariants as change
-use Rattle.lvm_status.specs.Update.{Updates, no_disks, with_disk, is_held, is_owed, is_settled_stale, MayStart}
-use Rattle.lvm_status.specs.Calls.{Changes, WantsAtEnd, given_up, closed, comes_held, with_update, with_end, with_commit}
-use Rattle.lvm_status.specs.Runs.{Call, Want, Start, NextWrite, Ended, SetStamp, Step, Run, IsSound, SetsForward, RunsForward, ComesCommitted, StaysStale, wants_fresh, InFlightStays, CommitsAreHeld, WrittenHasEnded, StampsRise, SettledStays, MissingStays, MissingIsNotWritten}
-use Rattle.lvm_status.proofs.Disks.{bool_tells, no_is_false}
+use Rattle.lvm_status.specs.Update.{Updates, no_disks, is_held, is_owed, is_settled_stale}
+use Rattle.lvm_status.specs.Calls.{Changes, WantsAtEnd, given_up, closed, comes_held, with_end, with_commit}
+use Rattle.lvm_status.specs.Runs.{Call, Want, Start, NextWrite, Ended, SetStamp, Step, IsSound, SetsForward, RunsForward, StaysStale, wants_fresh, InFlightStays, CommitsAreHeld, WrittenHasEnded, StampsRise, SettledStays, MissingStays, MissingIsNotWritten}
+use Rattle.lvm_status.proofs.Disks.{no_is_false}
 use Rattle.lvm_status.proofs.Sound.{and_left, and_right, both, not_false, or_tells, or_left, flies, with_end_and_commit, end_nearly, gradual, runs_stay_sound, if_grows}
 
 -- ---- an update that ends

@@ -1,9 +1,9 @@
 -- A session is sound at each moment.
-use Rattle.std.proofs.Common.{◌≡◌, ◌⊎◌, inl, inr, ℕ, ◌*◌, ◌<◌, ◌≤◌, Bool, true, false, ◌&&◌, ◌||◌, not, List, [], ◌∷◌, Option, Some, None, refl, sym, ap, subst, ◌∙◌, arith, length, get_or}
+use Rattle.std.proofs.Common.{◌≡◌, ◌⊎◌, inl, inr, ℕ, ◌*◌, Bool, true, false, ◌&&◌, ◌||◌, not, List, [], ◌∷◌, Option, Some, None, refl, sym, ap, subst, ◌∙◌, arith, get_or}
 use Rattle.std.specs.Prelude.{◌==◌, if◌then◌else◌, nat_lt, sum_by, unwrap_or}
 use Rattle.std.specs.List.{list_any}
 use Rattle.std.proofs.lemmas.Bool.{eq-eqb, eqb-true, false≢true}
-use Rattle.std.proofs.lemmas.Bool.Decides.{nat_tests, eqb_tells}
+use Rattle.std.proofs.lemmas.Bool.Decides.{nat_tests}
 use Rattle.std.proofs.lemmas.List.Folds.{Any-from_list_any, list_any_at}
 use Rattle.std.proofs.lemmas.List.Sums.{sum_by-cons}
 use Rattle.lvm_num.specs.declared.record.Stamp.{Stamp}
@@ -16,10 +16,10 @@ use Rattle.lvm_num.specs.Status.{calls_missing}
 use Rattle.lvm_num.specs.Votes.{votes_in, total_votes, is_enough_to_write}
 use Rattle.lvm_status.specs.declared.change.Change.{Change}
 use Rattle.lvm_status.specs.declared.change.Change.TheVariants as change
-use Rattle.lvm_status.specs.Update.{Updates, no_disks, with_disk, without_disk, members_there, is_there, is_held, is_owed, MayStart, IsLowest}
-use Rattle.lvm_status.specs.Calls.{first_updates, Changes, WantsAtEnd, BecomesMissing, given_up, closed, comes_held, with_wanted, with_update, with_start, with_end, with_commit, after_end}
-use Rattle.lvm_status.specs.Runs.{Call, Want, Start, NextWrite, Ended, SetStamp, Step, Run, IsSound, FirstIsSound, StepsStaySound, RunsStaySound}
-use Rattle.lvm_status.proofs.Disks.{bool_tells, no_is_false}
+use Rattle.lvm_status.specs.Update.{Updates, no_disks, with_disk, without_disk, members_there, is_there, is_held, is_owed}
+use Rattle.lvm_status.specs.Calls.{Changes, WantsAtEnd, given_up, closed, comes_held, with_wanted, with_update, with_start, with_end, with_commit}
+use Rattle.lvm_status.specs.Runs.{Want, Start, NextWrite, Ended, SetStamp, IsSound, FirstIsSound, StepsStaySound, RunsStaySound}
+use Rattle.lvm_status.proofs.Disks.{no_is_false}
 
 -- ---- tests
 

@@ -11,6 +11,5 @@ pub use change::{Change, Progress};
 pub use updater::Updater;
 pub use writes::Writes;
 
-
 #[cfg(test)]
 mod tests;

@@ -1,23 +1,16 @@
 use crate::Progress::{Committed, QuorumLost, Waiting};
 use crate::tests::Do::{
-    Clean, Clear, Dirty, Ends, Flies, HasStamp, IsDirty, Mark, Miss, Missing, SetStamp, Stale, Starts,
-    Votes, Writes, WritesNone,
+    Clean, Clear, Dirty, Ends, Flies, HasStamp, IsDirty, Mark, Miss, Missing, SetStamp, Stale,
+    Starts, Votes, Writes, WritesNone,
 };
 use crate::{Change, Progress, Updater};
-use lvm_num::{
-    Descriptor, Memory, Name, Pp, PvRow, Rows, Stamp, Status, StatusRow, VolumeNumbers,
-};
+use lvm_num::{Descriptor, Memory, Name, Pp, PvRow, Rows, Stamp, Status, StatusRow, VolumeNumbers};
 use lvm_stale::StaleTable;
 use std::alloc::Global;
 use std::process::Abort;
 
 // A group whose members came in this order.
-fn group_of(
-    alloc: Global,
-    disks: &[u16],
-    quorum: bool,
-    even: bool,
-) -> Result<Descriptor, Memory> {
+fn group_of(alloc: Global, disks: &[u16], quorum: bool, even: bool) -> Result<Descriptor, Memory> {
     let mut pvs = Vec::new(alloc);
     for disk in disks {
         let row = PvRow {

@@ -39,12 +39,12 @@ impl Model for Updater {
     ghost Value = { Stored };
 
     ghost view = { λ u. record {
-        group = u.group;
-        committed = u.committed;
-        wanted = u.wanted;
-        in_flight = if u.is_flying then Some u.flying else None;
-        writes = u.writes;
-        stamp = u.stamp;
+      group = u.group;
+      committed = u.committed;
+      wanted = u.wanted;
+      in_flight = if u.is_flying then Some u.flying else None;
+      writes = u.writes;
+      stamp = u.stamp;
     } };
 
     ghost invariant = { λ u. IsFit u.group u.committed u.wanted u.flying u.writes };
@@ -243,7 +243,8 @@ impl Updater {
     fn is_held(&self) -> bool
         ensures { result ≡ is_held (seen self.now) }
     {
-        self.group.enough_to_write(self.group.votes_in(self.writes.written))
+        self.group
+            .enough_to_write(self.group.votes_in(self.writes.written))
     }
 
     // Whether a write is to be started or to end.
@@ -366,8 +367,6 @@ fn is_any_owed(d: &Descriptor, writes: Writes) -> bool
     requires { IsValid d.now }
     ensures { result ≡ list_any (λ (row : PvRow). has writes.unstarted row.disk || has writes.started row.disk) d.now.pvs }
 {
-    d.pvs
-        .as_slice()
-        .iter()
-        .any(|row| writes.unstarted.has(row.disk) || writes.started.has(row.disk))
+    d.pvs.as_slice().iter().any(|row| writes.unstarted.has(row.disk)
+        || writes.started.has(row.disk))
 }

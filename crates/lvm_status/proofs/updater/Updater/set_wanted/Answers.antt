@@ -1,4 +1,4 @@
-use Rattle.std.proofs.Common.{◌≡◌, sym, ap, subst, ◌∙◌}
+use Rattle.std.proofs.Common.{sym, ap, subst, ◌∙◌}
 use Rattle.lvm_status.specs.declared.change.Change.{Change}
 use Rattle.lvm_stale.specs.Table.{has_row}
 use Rattle.lvm_status.specs.Update.{Stored}
