@@ -40,7 +40,8 @@ Run (call ∷ calls) old new = (next : Updates) × Step call old next × Run cal
 
 -- ---- what is true at each moment
 
--- The disks of a session are told apart, and an update is in flight until it is committed and has ended.
+-- At each moment of a session the writes of the update are told apart, and it is in flight until it is committed and
+-- each of its writes has ended.
 pub record IsSound (u : Updates) : Type 0 where
   -- a write that isn't started is one to a member that isn't missing, and isn't anything else
   pub unstarted : (disk : ℕ) → u.unstarted disk ≡ true → (is_there u disk ≡ true) × (u.started disk ≡ false) × (u.written disk ≡ false) × (u.failed disk ≡ false)

@@ -243,8 +243,8 @@ impl Updater {
     fn is_held(&self) -> bool
         ensures { result ≡ is_held (seen self.now) }
     {
-        self.group
-            .enough_to_write(self.group.votes_in(self.writes.written))
+        let written = self.group.votes_in(self.writes.written);
+        self.group.enough_to_write(written)
     }
 
     // Whether a write is to be started or to end.

@@ -21,7 +21,7 @@ impl Writes {
     ghost use Rattle.lvm_status.specs.Update.{no_disks};
 
     /// An update whose writes to these disks are still to be started.
-    pub fn to(disks: DiskSet) -> Writes
+    pub(crate) fn to(disks: DiskSet) -> Writes
         ensures unstarted { result.unstarted ≡ disks }
         ensures started { has result.started ≡ no_disks }
         ensures written { has result.written ≡ no_disks }
@@ -37,7 +37,7 @@ impl Writes {
     }
 
     /// No writes at all.
-    pub fn none() -> Writes
+    pub(crate) fn none() -> Writes
         ensures unstarted { has result.unstarted ≡ no_disks }
         ensures started { has result.started ≡ no_disks }
         ensures written { has result.written ≡ no_disks }
