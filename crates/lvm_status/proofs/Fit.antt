@@ -1,0 +1,46 @@
+-- What is true of an updater's tables and sets stays so.
+use Rattle.std.proofs.Common.{◌≡◌, ℕ, Bool, true, false, ◌&&◌, ◌||◌, not, List, [], ◌∷◌, length, map, refl, sym, ap, ◌∙◌, arith}
+use Rattle.std.specs.Prelude.{◌==◌}
+use Rattle.std.specs.List.{list_any}
+use Rattle.std.proofs.lemmas.List.{length-map}
+use Rattle.lvm_num.specs.declared.descriptor.Descriptor.{Descriptor}
+use Rattle.lvm_num.specs.declared.status.StatusRow.{StatusRow}
+use Rattle.lvm_num.specs.declared.status.Status.{Status}
+use Rattle.lvm_num.specs.Disks.{has}
+use Rattle.lvm_stale.specs.Table.{has_row, SameMembers}
+use Rattle.lvm_status.specs.declared.writes.Writes.{Writes}
+use Rattle.lvm_status.specs.Members.{IsFit}
+
+any_disk : (rows : List StatusRow) (disk : ℕ) → list_any (λ (row : StatusRow). row.disk == disk) rows ≡ list_any (λ n. n == disk) (map (λ (row : StatusRow). row.disk) rows)
+any_disk [] disk = refl
+any_disk (row ∷ rows) disk = ap (λ b. row.disk == disk || b) (any_disk rows disk)
+
+pub has_row-same : (old new : Status) → SameMembers old new → (disk : ℕ) → has_row new disk ≡ has_row old disk
+has_row-same old new same disk =
+    any_disk new.rows disk ∙ ap (λ disks. list_any (λ n. n == disk) disks) same.disks ∙ sym (any_disk old.rows disk)
+
+pub as_many : (old new : Status) → SameMembers old new → length new.rows ≡ length old.rows
+as_many old new same =
+    omega (arith, ap (λ disks. length {A = ℕ} disks) same.disks, length-map new.rows (λ (row : StatusRow). row.disk), length-map old.rows (λ (row : StatusRow). row.disk))
+
+-- another wanted status of the same members, and no more to write
+pub fit_next : (d : Descriptor) (committed wanted flying new : Status) (writes next : Writes) → IsFit d committed wanted flying writes → SameMembers wanted new
+    → ((disk : ℕ) → has next.unstarted disk ≡ true → has writes.unstarted disk ≡ true)
+    → ((disk : ℕ) → has next.started disk ≡ true → has writes.started disk ≡ true)
+    → IsFit d committed new flying next
+fit_next d committed wanted flying new writes next fit same unstarted started = record {
+  valid = fit.valid;
+  rows = λ disk. has_row-same wanted new same disk ∙ fit.rows disk;
+  as_many = fit.as_many ∙ sym (as_many wanted new same);
+  as_many_flying = fit.as_many_flying ∙ sym (as_many wanted new same);
+  unstarted_members = λ disk is. fit.unstarted_members disk (unstarted disk is);
+  started_members = λ disk is. fit.started_members disk (started disk is);
+}
+
+-- a disk of what is left of a set is one of the set
+pub stays : (set left : ℕ) (gone : ℕ) → ((disk : ℕ) → has left disk ≡ has set disk && not (disk == gone)) → (disk : ℕ) → has left disk ≡ true → has set disk ≡ true
+stays set left gone is disk among = by_test (has set disk) (disk == gone) (sym (is disk) ∙ among)
+  where
+    by_test : (a b : Bool) → a && not b ≡ true → a ≡ true
+    by_test true b e = refl
+    by_test false b e = e

@@ -1,0 +1,6 @@
+pub mod Disks
+pub mod Fit
+pub mod Same
+pub mod Sound
+pub mod Sessions
+pub mod Rows

@@ -1,0 +1,5 @@
+pub mod Calls
+pub mod Members
+pub mod Progress
+pub mod Runs
+pub mod Update

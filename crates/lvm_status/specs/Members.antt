@@ -1,0 +1,31 @@
+-- Tables with a row for each member, and what is true of an updater's tables and sets.
+use Rattle.std.specs.Prelude.{◌≡◌, ℕ, Bool, true, length}
+use Rattle.std.specs.List.{list_all}
+use Rattle.lvm_num.specs.declared.descriptor.PvRow.{PvRow}
+use Rattle.lvm_num.specs.declared.descriptor.Descriptor.{Descriptor}
+use Rattle.lvm_num.specs.declared.status.StatusRow.{StatusRow}
+use Rattle.lvm_num.specs.declared.status.Status.{Status}
+use Rattle.lvm_num.specs.Descriptor.{is_member, IsValid}
+use Rattle.lvm_num.specs.Disks.{has}
+use Rattle.lvm_stale.specs.Table.{has_row}
+use Rattle.lvm_status.specs.declared.writes.Writes.{Writes}
+
+-- the status has a row for exactly the members
+abbrev pub HasItsRows : Descriptor → Status → Type 0
+HasItsRows d s = (disk : ℕ) → has_row s disk ≡ is_member d disk
+
+-- each member has a row, and each row is that of a member
+abbrev pub all_rows : Descriptor → Status → Bool
+all_rows d s = list_all (λ (member : PvRow). has_row s member.disk) d.pvs
+
+abbrev pub all_members : Descriptor → Status → Bool
+all_members d s = list_all (λ (row : StatusRow). is_member d row.disk) s.rows
+
+-- A valid group whose members have rows in the wanted status, as many as in the others; and only members are written.
+pub record IsFit (d : Descriptor) (committed wanted flying : Status) (writes : Writes) : Type 0 where
+  pub valid : IsValid d
+  pub rows : HasItsRows d wanted
+  pub as_many : length committed.rows ≡ length wanted.rows
+  pub as_many_flying : length flying.rows ≡ length wanted.rows
+  pub unstarted_members : (disk : ℕ) → has writes.unstarted disk ≡ true → is_member d disk ≡ true
+  pub started_members : (disk : ℕ) → has writes.started disk ≡ true → is_member d disk ≡ true

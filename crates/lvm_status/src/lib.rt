@@ -1,0 +1,15 @@
+//! The status of a session beside its requests: what is committed, the one update that may be in flight,
+//! and what is wanted.
+#![tactic(auto)]
+
+mod change;
+pub mod laws;
+mod updater;
+mod writes;
+
+pub use change::{Change, Progress};
+pub use updater::Updater;
+pub use writes::Writes;
+
+#[cfg(test)]
+mod tests;
