@@ -4,3 +4,6 @@
 mod moves;
 
 pub use moves::{Moved, Patience, relight, transfer};
+
+#[cfg(test)]
+mod tests;
