@@ -4,6 +4,3 @@
 mod moves;
 
 pub use moves::{Moved, Patience, relight, transfer};
-
-#[cfg(test)]
-mod tests;
