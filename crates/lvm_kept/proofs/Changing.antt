@@ -1,6 +1,5 @@
 -- Changes of data and of notes, under the same descriptors and statuses.
 use Rattle.std.proofs.Common.{◌≡◌, ◌⊎◌, inl, inr, ⊎_elim, ℕ, List, [], ◌∷◌, ◌++◌, Option, refl, sym, subst, ◌∙◌}
-use Rattle.std.specs.Prelude.{IsTrue}
 use Rattle.std.specs.List.{AllByRecursion}
 use Rattle.lvm_num.specs.declared.place.Pp.{Pp}
 use Rattle.lvm_num.specs.declared.descriptor.LvRow.{LvRow}
@@ -91,22 +90,22 @@ module _ (old : Contents) (note : ℕ → Option Noted) (block : ℕ → ℕ →
     pub still_kept : Kept (with old note block) facts
     still_kept = record {
       agrees = record {
-          volumes = λ disks id group f. kept.agrees.volumes disks id group (found_before disks id group f);
-          status = λ disks id group f. subst (HasStatus group.lvs) (sym (status_same disks id)) (kept.agrees.status disks id group (found_before disks id group f));
-          copies = λ disks id group f. by_same group disks id (copies disks id group (found_before disks id group f));
-          raw = raw;
-          available = λ lv settled. still_available (kept.agrees.available lv settled);
-        };
+        volumes = λ disks id group f. kept.agrees.volumes disks id group (found_before disks id group f);
+        status = λ disks id group f. subst (HasStatus group.lvs) (sym (status_same disks id)) (kept.agrees.status disks id group (found_before disks id group f));
+        copies = λ disks id group f. by_same group disks id (copies disks id group (found_before disks id group f));
+        raw = raw;
+        available = λ lv settled. still_available (kept.agrees.available lv settled);
+      };
       lasting = record {
-          common = λ a b id g h r s. kept.lasting.common a b id g h (reads_before a id g r) (reads_before b id h s);
-          status = λ b id h k r is. kept.lasting.status b id h k (reads_before b id h r) (is_found_before id k is);
-          across = λ b id h k r is. across b id h k (reads_before b id h r) (is_found_before id k is);
-          some = λ b id h k r is. kept.lasting.some b id h k (reads_before b id h r) (is_found_before id k is);
-          size = λ id g h is also. kept.lasting.size id g h (is_found_before id g is) (is_found_before id h also);
-          partitions = λ id g h is also. kept.lasting.partitions id g h (is_found_before id g is) (is_found_before id h also);
-          descriptors = kept.lasting.descriptors;
-          statuses = kept.lasting.statuses;
-        };
+        common = λ a b id g h r s. kept.lasting.common a b id g h (reads_before a id g r) (reads_before b id h s);
+        status = λ b id h k r is. kept.lasting.status b id h k (reads_before b id h r) (is_found_before id k is);
+        across = λ b id h k r is. across b id h k (reads_before b id h r) (is_found_before id k is);
+        some = λ b id h k r is. kept.lasting.some b id h k (reads_before b id h r) (is_found_before id k is);
+        size = λ id g h is also. kept.lasting.size id g h (is_found_before id g is) (is_found_before id h also);
+        partitions = λ id g h is also. kept.lasting.partitions id g h (is_found_before id g is) (is_found_before id h also);
+        descriptors = kept.lasting.descriptors;
+        statuses = kept.lasting.statuses;
+      };
     }
 
 -- ---- data

@@ -19,7 +19,7 @@ use Rattle.lvm_vol.specs.May.{Known, known, May, IsValue, also, cut, is_off, is_
 use Rattle.lvm_vol.specs.Standing.{Standing, Absent, Open, Settled, Shape, Volume, no_volumes, volumes_after, volumes_after_fact, volumes_in, put}
 use Rattle.lvm_vol.proofs.Knowing.{known-push}
 use Rattle.lvm_kept.specs.Contents.{Contents}
-use Rattle.lvm_kept.specs.Group.{status_among, Finds, members_in, ReadsBy, block_at, fresh_on, IsOneOf, IsSome, HoldOne}
+use Rattle.lvm_kept.specs.Group.{status_among, Finds, members_in, ReadsBy, block_at, fresh_on, IsOneOf, IsSome}
 use Rattle.lvm_kept.specs.Kept.{StandsAs, MayDiffer, IsBlockKept, BlocksKept, VolumesAgree, IsSettledIn, IsAvailable, Kept}
 use Rattle.lvm_kept.specs.Changes.{OnlyAllowsMore, BlocksStayKept, MoreIsKept, IsFoundByAll, MayStand, EntryKeeps, BeginningAllowsMore, MayBegin, BeginningStands}
 use Rattle.lvm_kept.proofs.Values.{cut_adds_more, one_more}
@@ -96,7 +96,7 @@ module _ (c : Contents) (facts : List Fact) (f : Fact) (stays : BlocksStayKept c
   volumes_agree disks id group g lv =
       let was : StandsAs group.mib (volumes_in facts lv).standing (volumes_in facts lv).shape (volume_of group lv) = kept.agrees.volumes disks id group g lv in
       let as_stands : (v : Volume) → volumes_in (facts ++ f ∷ []) lv ≡ v → StandsAs group.mib v.standing v.shape (volume_of group lv)
-          → StandsAs group.mib (volumes_in (facts ++ f ∷ []) lv).standing (volumes_in (facts ++ f ∷ []) lv).shape (volume_of group lv) =
+      → StandsAs group.mib (volumes_in (facts ++ f ∷ []) lv).standing (volumes_in (facts ++ f ∷ []) lv).shape (volume_of group lv) =
       λ v is stands. subst (λ (w : Volume). StandsAs group.mib w.standing w.shape (volume_of group lv)) (sym is) stands in
       ⊎_elim
       (λ same. as_stands (volumes_in facts lv) same was)

@@ -12,8 +12,8 @@ ghost use Rattle.lvm_kept.specs.Raw.{raw_request, OnlyAdds};
 ghost use Rattle.lvm_move.specs.Transfer.{Rests, TransferGives, flight_of};
 ghost use Rattle.lvm_top.specs.Requests.{cut_ends, write_ends, read_ends, RelightsAfter, ShelfAfter, IsHeard};
 
-use lvm_move::{Moved, Patience, relight};
 use lvm_disk::Shelf;
+use lvm_move::{Moved, Patience, relight};
 use lvm_num::Pbuf;
 use lvm_vol::{History, Outcome, Vol};
 

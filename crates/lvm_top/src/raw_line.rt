@@ -5,10 +5,10 @@ ghost use Rattle.lvm_kept.specs.Moments.{Keeps, StaysCalm};
 ghost use Rattle.lvm_top.specs.RawLines.{without_facts, RefusalOf, WriteDoes, ReadDoes, write_reply, read_reply};
 ghost use Rattle.lvm_top.specs.Script.{IsStuck};
 
-use lvm_move::Moved;
 use crate::raw::{read_block, write_block};
 use crate::reply::{Refusal, Reply};
 use lvm_disk::Shelf;
+use lvm_move::Moved;
 use lvm_num::{Pbuf, fill};
 use lvm_vol::History;
 use std::alloc::Global;
