@@ -56,18 +56,18 @@ some_same a b e = ap (unwrap_or_else a) e
 abbrev pub offered : {X : Type 0} → (X → Bool) → (ℕ → Option (Stamped X)) → Disks → ℕ → Option (Stamped X)
 offered of on set d = if set d then if_passes of (on d) else None
 
-offers : {X : Type 0} (of : X → Bool) (on : ℕ → Option (Stamped X)) (set : Disks) (d : ℕ) (r : Stamped X) → IsTrue (set d) → on d ≡ Some r → IsTrue (of r.value) → offered of on set d ≡ Some r
+pub offers : {X : Type 0} (of : X → Bool) (on : ℕ → Option (Stamped X)) (set : Disks) (d : ℕ) (r : Stamped X) → IsTrue (set d) → on d ≡ Some r → IsTrue (of r.value) → offered of on set d ≡ Some r
 offers of on set d r in_set is own = let_through (set d) (if_passes of (on d)) in_set ∙ ap (if_passes of) is ∙ let_through (of r.value) (Some r) own
 
-is_offered : {X : Type 0} (of : X → Bool) (on : ℕ → Option (Stamped X)) (set : Disks) (d : ℕ) (r : Stamped X) → offered of on set d ≡ Some r → (on d ≡ Some r) × IsTrue (of r.value)
+pub is_offered : {X : Type 0} (of : X → Bool) (on : ℕ → Option (Stamped X)) (set : Disks) (d : ℕ) (r : Stamped X) → offered of on set d ≡ Some r → (on d ≡ Some r) × IsTrue (of r.value)
 is_offered of on set d r e = kept_is of (on d) r (passed (set d) (if_passes of (on d)) r e).1
 
 -- ---- stamps
 
-earlier-still : (a b c : Stamp) → stamp_lt a b ≡ true → stamp_lt b c ≡ true → stamp_lt a c ≡ true
+pub earlier-still : (a b c : Stamp) → stamp_lt a b ≡ true → stamp_lt b c ≡ true → stamp_lt a c ≡ true
 earlier-still a b c h k = grind (arith, nat_tests)
 
-no-later : (a b : Stamp) → stamp_lt a b ≡ true → stamp_lt a b ≡ false → ⊥
+pub no-later : (a b : Stamp) → stamp_lt a b ≡ true → stamp_lt a b ≡ false → ⊥
 no-later a b h k = absurd cc
 
 -- ---- a record that stands
@@ -175,12 +175,27 @@ quorums_meet c a b id g h f k same some =
     let both = read_meets_read g (is_voter c a id) (is_voter c b id) some (can_read c a id g f) (can_read_by c b id h g k back) in
     (both.0, both.2, both.3)
 
--- by the descriptor that a quorum finds its voters are the members
-voters_are : (c : Contents) (disks : Disks) (id : ℕ) (g : Descriptor) → Finds c disks id g → (d : ℕ) → is_voter c disks id d ≡ members_in c disks id g d
+-- by the newest descriptor of a set its voters are the members
+voters_by : (c : Contents) (disks : Disks) (id : ℕ) (m : Stamped Descriptor) → descriptor_among c disks id ≡ Some m → (d : ℕ) → is_voter c disks id d ≡ members_in c disks id m.value d
 unfolding is_voter
-voters_are c disks id g f d =
-    ap (λ (o : Option (Stamped Descriptor)). disks d && passes (is_of id) (c.descriptor d) && passes (has_room c d) o) f.found
-    ∙ ap (λ (h : Descriptor). disks d && passes (is_of id) (c.descriptor d) && has_room c d h) f.is
+voters_by c disks id m found d = ap (λ (o : Option (Stamped Descriptor)). disks d && passes (is_of id) (c.descriptor d) && passes (has_room c d) o) found
+
+voters_are : (c : Contents) (disks : Disks) (id : ℕ) (g : Descriptor) → Finds c disks id g → (d : ℕ) → is_voter c disks id d ≡ members_in c disks id g d
+voters_are c disks id g f d = voters_by c disks id f.newest f.found d ∙ ap (λ (h : Descriptor). members_in c disks id h d) f.is
+
+-- a set whose members can read by its newest descriptor finds it
+pub finds_from : (c : Contents) (disks : Disks) (id : ℕ) (m : Stamped Descriptor) → descriptor_among c disks id ≡ Some m → CanRead m.value (members_in c disks id m.value) → Finds c disks id m.value
+unfolding has_quorum
+finds_from c disks id m found enough =
+    let each : (d : ℕ) → is_voter c disks id d ≡ members_in c disks id m.value d = voters_by c disks id m found in
+    let voters : is_voter c disks id ≡ members_in c disks id m.value = λ t d. each d t in
+    let by_voters : CanRead m.value (is_voter c disks id) = subst (λ (v : Disks). CanRead m.value v) (sym voters) enough in
+    record {
+      quorum = subst (λ (o : Option (Stamped Descriptor)). IsTrue (passes (λ (h : Descriptor). is_enough_to_read h (votes_in h (is_voter c disks id))) o)) (sym found) by_voters;
+      newest = m;
+      found = found;
+      is = refl;
+    }
 
 pub finding_reads : FindingReads
 unfolding status_among

@@ -17,3 +17,4 @@ pub mod Changing
 pub mod Entries
 pub mod Worked
 pub mod Restating
+pub mod Restamping

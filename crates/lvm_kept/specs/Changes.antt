@@ -1,5 +1,5 @@
 -- Which changes of what the disks show keep the history, and which entries do.
-use Rattle.std.specs.Prelude.{◌≡◌, ◌⊎◌, ℕ, ◌<◌, ◌≤◌, List, ◌∷◌, [], ◌++◌, Option, None, Some, IsTrue, is_some}
+use Rattle.std.specs.Prelude.{◌≡◌, ◌⊎◌, ℕ, ◌<◌, ◌≤◌, List, ◌∷◌, [], ◌++◌, Option, None, Some, IsTrue, is_some, true}
 use Rattle.std.specs.List.{AllByRecursion}
 use Rattle.lvm_num.specs.declared.place.Pp.{Pp}
 use Rattle.lvm_num.specs.declared.descriptor.LvRow.{LvRow}
@@ -10,7 +10,7 @@ use Rattle.lvm_num.specs.Disks.{Disks}
 use Rattle.lvm_num.specs.Geometry.{data_start}
 use Rattle.lvm_num.specs.Descriptor.{volume_of}
 use Rattle.lvm_num.specs.Votes.{all_disks}
-use Rattle.lvm_num.specs.Record.{Stamped}
+use Rattle.lvm_num.specs.Record.{Stamped, stamp_lt}
 use Rattle.lvm_vol.specs.declared.entry.Vol.{Vol}
 use Rattle.lvm_vol.specs.declared.entry.Vol.TheVariants.{Disk, Lv}
 use Rattle.lvm_vol.specs.Facts.{Request, Fact, Begun, Cut}
@@ -19,6 +19,7 @@ use Rattle.lvm_vol.specs.May.{Known, known, IsValue, May}
 use Rattle.lvm_disk.specs.Device.{Image}
 use Rattle.lvm_kept.specs.Contents.{Contents, contents_of}
 use Rattle.lvm_kept.specs.Group.{is_voter, status_among, Finds, IsFound, members_in, status_by, Reads, fresh_on, block_at, IsBlockOf, IsOneOf, IsSome, HoldOne}
+use Rattle.lvm_kept.specs.Committed.{IsWithinDisks}
 use Rattle.lvm_kept.specs.Kept.{MayDiffer, BlocksKept, CopiesAgree, RawAgrees, Kept}
 
 -- ---- nothing yet
@@ -102,6 +103,20 @@ pub record StatusChange (old new : Contents) (facts : List Fact) (next : Stamped
 -- Such a change of statuses keeps the history.
 abbrev pub StatusChangeKeeps : Type 0
 StatusChangeKeeps = (old new : Contents) (facts : List Fact) (next : Stamped Status) → StatusChange old new facts next → Kept old facts → Kept new facts
+
+-- ---- descriptors
+
+-- A change of descriptors alone, in which disks of the group that showed a descriptor of it show the next one, which is later than each and whose
+-- value a quorum finds already: as when a varyon gives the group's descriptor a new stamp.
+pub record Restamping (old new : Contents) (next : Stamped Descriptor) : Type 0 where
+  pub rest : new ≡ record old { descriptor = new.descriptor }
+  pub own : (d : ℕ) → (new.descriptor d ≡ old.descriptor d) ⊎ ((new.descriptor d ≡ Some next) × ((r : Stamped Descriptor) × (old.descriptor d ≡ Some r) × (r.value.id ≡ next.value.id)))
+  pub later : (d : ℕ) (r : Stamped Descriptor) → old.descriptor d ≡ Some r → r.value.id ≡ next.value.id → stamp_lt r.stamp next.stamp ≡ true
+  pub found : IsFound old next.value.id next.value
+
+-- Such a change of descriptors keeps the history.
+abbrev pub RestampingKeeps : Type 0
+RestampingKeeps = (old new : Contents) (facts : List Fact) (next : Stamped Descriptor) → IsWithinDisks old → Restamping old new next → Kept old facts → Kept new facts
 
 -- ---- entries
 

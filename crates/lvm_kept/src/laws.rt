@@ -5,7 +5,7 @@ ghost use Rattle.lvm_kept.specs.Torn.{NewestStays, WritingBegins, StepKeepsWriti
 ghost use Rattle.lvm_kept.specs.Group.{FindingReads};
 ghost use Rattle.lvm_kept.specs.Committed.{ImagesAreWithin, QuorumMeetsWriters, QuorumsMeet, QuorumFindsStatus, QuorumFindsDescriptor, NextIsWritten, NextIsCommitted};
 ghost use Rattle.lvm_kept.specs.Examples.{FreshThree, SecondAway, StaleCopy, NamedDifference, HalfMade};
-ghost use Rattle.lvm_kept.specs.Changes.{BlankIsKept, DataChangeKeeps, NoteChangeKeeps, StatusChangeKeeps, EntryKeeps, MoreIsKept, BeginningAllowsMore, BeginningStands};
+ghost use Rattle.lvm_kept.specs.Changes.{BlankIsKept, DataChangeKeeps, NoteChangeKeeps, StatusChangeKeeps, RestampingKeeps, EntryKeeps, MoreIsKept, BeginningAllowsMore, BeginningStands};
 
 /// A change of data sectors changes no record of a disk and so nothing that a group shows; a change
 /// of record sectors changes no data; and a block of a volume on a copy is one sector of the data.
@@ -84,11 +84,13 @@ pub fn blank_is_kept()
     ensures { BlankIsKept }
 {}
 
-/// Which changes of what the disks show keep the history: of data, of notes, and of statuses.
+/// Which changes of what the disks show keep the history: of data, of notes, of statuses,
+/// and of descriptors that get a new stamp.
 pub fn changes_keep()
     ensures blocks { DataChangeKeeps }
     ensures notes { NoteChangeKeeps }
     ensures statuses { StatusChangeKeeps }
+    ensures descriptors { RestampingKeeps }
 {}
 
 /// An entry keeps the history where the blocks stay kept, as with one after which no block may have less, and each
