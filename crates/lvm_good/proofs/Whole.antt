@@ -1,0 +1,159 @@
+-- Each event keeps what is true of a session.
+use Rattle.std.proofs.Common.{◌≡◌, inl, inr, ⊎_elim, ℕ, Bool, true, false, [], ◌∷◌, Option, Some, None, refl, sym, ap, subst, ◌∙◌, eqb-true}
+use Rattle.std.specs.Prelude.{IsTrue, IsFalse, ◌==◌, if◌then◌else◌}
+use Rattle.lvm_num.specs.declared.place.Pp.{Pp}
+use Rattle.lvm_num.specs.Geometry.{track_group_of}
+use Rattle.lvm_num.specs.Record.{Stamped}
+use Rattle.lvm_good.specs.State.{Marks, Req, State, has_landed, is_pinning, is_settled_stale, Caught, Live, Started}
+use Rattle.lvm_good.specs.Core.{Complete, Core}
+use Rattle.lvm_good.specs.Found.{with_status}
+use Rattle.lvm_good.specs.Claims.{Frame, Calmer, Quiet}
+use Rattle.lvm_good.specs.Crash.{EachKept}
+use Rattle.lvm_good.specs.Good.{Good, without, Submit, Admit, Change, StartFirst, Transfer, LandDone, LandLost, LandGot, Want, BeginUpdate, MoveStatus, CommitWant, EndUpdate, StartNote, EndNote, Open, CopyWrite, Clear, Take, Takes, EachEventKeepsGood, EachMomentIsKept}
+use Rattle.lvm_good.proofs.Small.{never}
+use Rattle.lvm_good.proofs.Requests.{decided}
+use Rattle.lvm_good.proofs.Calm.{calm_blocks}
+use Rattle.lvm_good.proofs.Framing.{frame_keeps}
+use Rattle.lvm_good.proofs.Quieting.{nearly, one_req, alike_same, quiet_nearly}
+use Rattle.lvm_good.proofs.CrashLemmas.{core_kept}
+use Rattle.lvm_good.proofs.Writes.{first_keeps, restaging_keeps, done_keeps, lost_keeps, same_statuses}
+use Rattle.lvm_good.proofs.Others.{plain_keeps, admit_keeps}
+use Rattle.lvm_good.proofs.Getting.{got_keeps, submit_keeps}
+use Rattle.lvm_good.proofs.Marking.{wants_keep, begin_keeps, commit_keeps, update_end_keeps}
+use Rattle.lvm_good.proofs.Noting.{start_note_keeps, end_note_keeps}
+use Rattle.lvm_good.proofs.Copying.{copy_write_keeps, open_keeps, clear_keeps}
+use Rattle.lvm_good.proofs.Finding.{status_end_keeps_found, begin_keeps_found, commit_keeps_found, update_end_keeps_found}
+
+-- ---- a status moves
+
+module _ (s : State) (status : ℕ → Option (Stamped Marks)) (flying : ℕ → Bool) (core : Core s) where
+  abbrev moved : State
+  moved = record s { media = with_status s.media status; status_flying = flying }
+
+  complete_moved : (c : Pp) → Complete s c → Complete moved c
+  complete_moved c k = record { copy = k.copy; is_open = k.is_open; target = k.target; passed = k.passed }
+
+  moved_core : Core moved
+  moved_core =
+      let quiet : Quiet s moved = record {
+        reqs = λ i. refl;
+        know = λ lv b. refl;
+        run = refl;
+        active = λ lv. refl;
+        copies = λ lv b. refl;
+        block = λ lv b e. refl;
+        live = λ lv b e live. record { copy = live.copy; counts = ⊎_elim (λ (f : IsFalse (is_settled_stale s e)). inl f) (λ (k : Caught moved lv (track_group_of b) e). inr (record { copy = k.copy; is_open = k.is_open; target = k.target; passed = k.passed })) live.counts };
+        cache = λ lv g. refl;
+        missing_still = λ d h. h;
+        named_missing = λ d lv g gone named. record { home = named.home; flying = named.flying };
+        named_pinned = λ d lv g cached named. record { home = named.home; flying = named.flying };
+      } in
+      let n = quiet_nearly s moved quiet (nearly s core) (record {
+        home = core.notes.home;
+        statuses = record {
+          stale_flies = λ e u f stale fresh. ⊎_elim (λ (w : IsTrue (s.wanted e)). inl w) (λ (k : Complete s e). inr (complete_moved e k)) (core.statuses.stale_flies e u f stale fresh);
+          stale_is_wanted = λ e stale m. complete_moved e (core.statuses.stale_is_wanted e stale m);
+          flying_is_wanted = λ e u f stale m. complete_moved e (core.statuses.flying_is_wanted e u f stale m);
+          kept = λ lv b e copy. let k = core.statuses.kept lv b e copy in (k.0, k.1, record { committed = k.2.committed; flying = k.2.flying; wanted = k.2.wanted });
+          open_there = core.statuses.open_there;
+          open_stale = core.statuses.open_stale;
+        };
+      }) in
+      record { blocks = n.blocks; tied = n.tied; statuses = n.statuses; behind = record { left_behind = core.behind.left_behind }; notes = n.notes; holds = n.holds }
+
+-- ---- a request is taken
+
+module _ (s : State) (i : ℕ) (r : Req) (step : Takes s i r) (core : Core s) where
+  abbrev taken : State
+  taken = record s { reqs = without s.reqs i }
+
+  before : (j : ℕ) (e : Req) → without s.reqs i j ≡ Some e → s.reqs j ≡ Some e
+  before j e h = by_test (j == i) h
+    where
+      by_test : (t : Bool) → (if t then None else s.reqs j) ≡ Some e → s.reqs j ≡ Some e
+      by_test true k = absurd cc
+      by_test false k = k
+
+  stays : (j : ℕ) (e : Req) → Started s j e → without s.reqs i j ≡ Some e
+  stays j e started = ⊎_elim
+      (λ (same : IsTrue (j == i)). never (has_landed r.phase) step.landed
+      (ap (λ (q : Req). has_landed q.phase) (one_req (sym step.there ∙ ap s.reqs (sym (eqb-true _ _ same)) ∙ started.there)) ∙ ap has_landed started.going))
+      (λ (other : IsFalse (j == i)). ap (λ (t : Bool). if t then None else s.reqs j) other ∙ started.there)
+      (decided (j == i))
+
+  live_taken : (lv b : ℕ) (e : Pp) → Live taken lv b e → Live s lv b e
+  live_taken lv b e live = record { copy = live.copy; counts = ⊎_elim (λ (f : IsFalse (is_settled_stale s e)). inl f) (λ (k : Caught taken lv (track_group_of b) e). inr (record { copy = k.copy; is_open = k.is_open; target = k.target; passed = k.passed })) live.counts }
+
+  taken_core : Core taken
+  taken_core =
+      let calmer : Calmer s taken = record {
+        started = λ j e started. record { there = before j e started.there; write = started.write; going = started.going };
+        started_still = λ j e started. record { there = stays j e started; write = started.write; going = started.going };
+        may = λ lv b. refl;
+        loose = λ lv b h. h;
+        block = λ lv b c. refl;
+        live = live_taken;
+        active = λ lv. refl;
+        missing_still = λ d h. h;
+        named_missing = λ d lv g gone named. record { home = named.home; flying = named.flying };
+        named_started = λ j lv b d e started over on several named. record { home = named.home; flying = named.flying };
+      } in
+      let frame : Frame s taken = record {
+        from = λ j n h. (n, before j n h, alike_same n);
+        writes = λ j n h unlanded lv b. refl;
+        run = refl;
+        modes = λ lv b. refl;
+        active = λ lv. refl;
+        copies = λ lv b. refl;
+        tight = core.tied.tight;
+        seen = λ j lv b e n v seen h past. (
+          seen.allowed,
+          ⊎_elim
+              (λ (loose : IsTrue (s.know lv b).loose). inl loose)
+              (λ (equal : (g : Pp) → Live s lv b g → s.media.block lv b g ≡ v). inr (λ g live. equal g (live_taken lv b g live)))
+              seen.equal,
+        );
+        still = λ j lv b e n c seen h past. refl;
+        got = λ j e n v was is got. inl (ap (λ (q : Req). q.got) (one_req (sym was ∙ before j n is)) ∙ got);
+        pinning = λ j e n was is write pins on several. inl (ap (λ (q : Req). is_pinning q.phase) (one_req (sym was ∙ before j n is)) ∙ pins);
+        cache = λ j e h write pinning on several cached. cached;
+      } in
+      let f = frame_keeps s taken frame (nearly s core) in
+      record {
+        blocks = calm_blocks s taken calmer core.blocks;
+        tied = f.0;
+        statuses = same_statuses s core s.media.block (without s.reqs i) s.know;
+        behind = record { left_behind = core.behind.left_behind };
+        notes = record { home = core.notes.home; pinned = f.2 };
+        holds = f.1;
+      }
+
+-- ---- all events
+
+pub each_keeps : EachEventKeepsGood
+each_keeps votes (Submit i r know) s new step good = subst (Good votes) (sym step.1) (record { core = submit_keeps s i r know step.0 good.core; found = let f = good.found in record { set = f.set; enough = f.enough; have = f.have; only = f.only; newer = f.newer } })
+each_keeps votes (Admit i r phase several targets) s new step good = subst (Good votes) (sym step.1) (record { core = admit_keeps s i r phase several targets step.0 good.core; found = let f = good.found in record { set = f.set; enough = f.enough; have = f.have; only = f.only; newer = f.newer } })
+each_keeps votes (Change i r n know cache) s new step good = subst (Good votes) (sym step.2) (record { core = plain_keeps s i r n know cache step.0 step.1 good.core; found = let f = good.found in record { set = f.set; enough = f.enough; have = f.have; only = f.only; newer = f.newer } })
+each_keeps votes (StartFirst i r c) s new step good = subst (Good votes) (sym step.1) (record { core = first_keeps s i r c step.0 good.core; found = let f = good.found in record { set = f.set; enough = f.enough; have = f.have; only = f.only; newer = f.newer } })
+each_keeps votes (Transfer i r c stage block) s new step good = subst (Good votes) (sym step.1) (record { core = restaging_keeps s i r c stage block step.0 good.core; found = let f = good.found in record { set = f.set; enough = f.enough; have = f.have; only = f.only; newer = f.newer } })
+each_keeps votes (LandDone i r know) s new step good = subst (Good votes) (sym step.1) (record { core = done_keeps s i r know step.0 good.core; found = let f = good.found in record { set = f.set; enough = f.enough; have = f.have; only = f.only; newer = f.newer } })
+each_keeps votes (LandLost i r know) s new step good = subst (Good votes) (sym step.1) (record { core = lost_keeps s i r know step.0 good.core; found = let f = good.found in record { set = f.set; enough = f.enough; have = f.have; only = f.only; newer = f.newer } })
+each_keeps votes (LandGot i r value know) s new step good = subst (Good votes) (sym step.1) (record { core = got_keeps s i r value know step.0 good.core; found = let f = good.found in record { set = f.set; enough = f.enough; have = f.have; only = f.only; newer = f.newer } })
+each_keeps votes (Want wanted missing open_copy) s new step good = subst (Good votes) (sym step.1) (record { core = wants_keep s wanted missing open_copy step.0 (nearly s good.core); found = let f = good.found in record { set = f.set; enough = f.enough; have = f.have; only = f.only; newer = f.newer } })
+each_keeps votes (BeginUpdate u) s new step good = subst (Good votes) (sym step.1) (record { core = begin_keeps s u step.0.none step.0.value good.core; found = begin_keeps_found votes s u step.0.none step.0.later good.found })
+each_keeps votes (MoveStatus u status flying) s new step good = subst (Good votes) (sym step.1) (record { core = moved_core s status flying good.core; found = status_end_keeps_found votes s u status flying step.0.flies step.0.each good.found })
+each_keeps votes (CommitWant u has_it done wanted open_copy) s new step good = subst (Good votes) (sym step.1) (record {
+  core = wants_keep (record s { committed = u; open_copy = done }) wanted s.missing open_copy step.0.marks (commit_keeps s u done step.0.commits good.core);
+  found = let f = commit_keeps_found votes s u has_it step.0.commits.flies step.0.enough step.0.have good.found in record { set = f.set; enough = f.enough; have = f.have; only = f.only; newer = f.newer };
+})
+each_keeps votes EndUpdate s new step good = subst (Good votes) (sym step.1) (record { core = update_end_keeps s step.0 good.core; found = update_end_keeps_found votes s step.0 good.found })
+each_keeps votes (StartNote flying) s new step good = subst (Good votes) (sym step.1) (record { core = start_note_keeps s flying step.0 good.core; found = let f = good.found in record { set = f.set; enough = f.enough; have = f.have; only = f.only; newer = f.newer } })
+each_keeps votes (EndNote d names home flying) s new step good = subst (Good votes) (sym step.1) (record { core = end_note_keeps s d names home flying step.0 good.core; found = let f = good.found in record { set = f.set; enough = f.enough; have = f.have; only = f.only; newer = f.newer } })
+each_keeps votes (Open o) s new step good = subst (Good votes) (sym step.1) (record { core = open_keeps s o step.0 good.core; found = let f = good.found in record { set = f.set; enough = f.enough; have = f.have; only = f.only; newer = f.newer } })
+each_keeps votes (CopyWrite i r value target open_copy step_write block) s new step good = subst (Good votes) (sym step.1) (record { core = copy_write_keeps s i r value target open_copy step_write block step.0 good.core; found = let f = good.found in record { set = f.set; enough = f.enough; have = f.have; only = f.only; newer = f.newer } })
+each_keeps votes (Clear wanted c) s new step good = subst (Good votes) (sym step.1) (record { core = clear_keeps s wanted c step.0 good.core; found = let f = good.found in record { set = f.set; enough = f.enough; have = f.have; only = f.only; newer = f.newer } })
+each_keeps votes (Take i r) s new step good = subst (Good votes) (sym step.1) (record { core = taken_core s i r step.0 good.core; found = let f = good.found in record { set = f.set; enough = f.enough; have = f.have; only = f.only; newer = f.newer } })
+
+pub each_moment : EachMomentIsKept
+each_moment votes [] old new good same = subst EachKept (sym same) (core_kept old good.core)
+each_moment votes (event ∷ events) old new good steps = each_moment votes events steps.0 new (each_keeps votes event old steps.0 steps.1 good) steps.2

@@ -1,0 +1,30 @@
+-- A session at its beginning: one mirrored volume with notes, all zero_sector. (That what is asked of a session can be met.)
+use Rattle.std.specs.Prelude.{true, false, ◌&&◌, ◌||◌, ◌==◌, [], ◌∷◌, Some, None}
+use Rattle.lvm_num.specs.declared.descriptor.Mode.TheVariants.{Active}
+use Rattle.lvm_num.specs.Buffer.{zero_sector}
+use Rattle.lvm_vol.specs.declared.entry.Vol.TheVariants.{Lv}
+use Rattle.lvm_good.specs.State.{State}
+use Rattle.lvm_good.specs.Core.{Core}
+
+abbrev pub at_first : State
+at_first = record {
+  media = record { block = λ lv b c. zero_sector; names = λ d lv g. false; status = λ d. None };
+  reqs = λ i. None;
+  know = λ lv b. record { values = Some (zero_sector ∷ []); open_writes = []; loose = false; mode = Active };
+  name = λ i. record { run = 1; id = i; client = 0; vol = Lv 1; at = 0; count = 0; write = false; blocks = [] };
+  is_copy = λ lv b c. lv == 1 && (c.pp == 0 && (c.disk == 0 || c.disk == 1));
+  is_active = λ lv. true;
+  committed = record { stamp = record { epoch = 1; seq = 1 }; value = λ c. false };
+  in_flight = None;
+  wanted = λ c. false;
+  status_flying = λ d. false;
+  missing = λ d. false;
+  cache = λ lv g. false;
+  home_note = λ d lv g. false;
+  flying_note = λ d. None;
+  open_copy = None;
+  step_write = None;
+}
+
+abbrev pub FirstIsCore : Type 0
+FirstIsCore = Core at_first
