@@ -7,10 +7,11 @@ use Rattle.lvm_good.proofs.Small.{IsIn}
 use Rattle.lvm_good.specs.State.{Req, State, covers, Started}
 use Rattle.lvm_good.specs.Core.{MayDiffer, Agree, Settled, Blocks}
 use Rattle.lvm_good.specs.Claims.{Calmer, CalmerKeepsBlocks}
+use Rattle.lvm_good.specs.State.{told}
 
 module _ (old new : State) (calmer : Calmer old new) (blocks : Blocks old) where
-  allowed_now : (lv b : ℕ) (c : Pp) → IsIn (old.know lv b).values (old.media.block lv b c) → IsIn (new.know lv b).values (new.media.block lv b c)
-  allowed_now lv b c h = subst (IsIn (new.know lv b).values) (sym (calmer.block lv b c)) (subst (λ (m : Option (List (List ℕ))). IsIn m (old.media.block lv b c)) (sym (calmer.may lv b)) h)
+  allowed_now : (lv b : ℕ) (c : Pp) → IsIn (told old lv b).values (old.media.block lv b c) → IsIn (told new lv b).values (new.media.block lv b c)
+  allowed_now lv b c h = subst (IsIn (told new lv b).values) (sym (calmer.block lv b c)) (subst (λ (m : Option (List (List ℕ))). IsIn m (old.media.block lv b c)) (sym (calmer.may lv b)) h)
 
   settled_now : (lv b : ℕ) → Settled old lv b → Settled new lv b
   settled_now lv b settled = record {
@@ -39,7 +40,7 @@ module _ (old new : State) (calmer : Calmer old new) (blocks : Blocks old) where
           known = (busy.known.0, calmer.may lv b ∙ busy.known.1);
           aimed = λ c live. busy.aimed c (calmer.live lv b c live);
           value = λ c live. ⊎_elim
-              (λ (h : IsIn (old.know lv b).values (old.media.block lv b c)). inl (allowed_now lv b c h))
+              (λ (h : IsIn (told old lv b).values (old.media.block lv b c)). inl (allowed_now lv b c h))
               (λ (h : old.media.block lv b c ≡ r.value b). inr (calmer.block lv b c ∙ h))
               (busy.value c (calmer.live lv b c live));
           well = λ c at. calmer.block lv b c ∙ busy.well c at;

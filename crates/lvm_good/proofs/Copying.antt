@@ -11,6 +11,7 @@ use Rattle.lvm_good.specs.Claims.{Quiet, CopyWriteKeeps, OpenKeeps, ClearKeeps}
 use Rattle.lvm_good.proofs.Small.{never, false_by, and_left_false}
 use Rattle.lvm_good.proofs.Requests.{decided, alone, past_of}
 use Rattle.lvm_good.proofs.Quieting.{nearly, one_req, quiet_nearly}
+use Rattle.lvm_good.specs.State.{told}
 
 the_copy : (a b : OpenCopy) → Some a ≡ Some b → a ≡ b
 the_copy a b e = cc
@@ -42,7 +43,7 @@ module _ (s : State) (i : ℕ) (r : Req) (value : ℕ → List ℕ) (target : Pp
       step.open_now)
       live.counts
 
-  seen : (lv b : ℕ) → IsTrue (covers r lv b) → IsIn (s.know lv b).values (value b) × (IsTrue (s.know lv b).loose ⊎ ((e : Pp) → Live s lv b e → s.media.block lv b e ≡ value b))
+  seen : (lv b : ℕ) → IsTrue (covers r lv b) → IsIn (told s lv b).values (value b) × (IsTrue (told s lv b).loose ⊎ ((e : Pp) → Live s lv b e → s.media.block lv b e ≡ value b))
   seen lv b over = core.holds.got i lv b r value step.there step.read step.past step.got over
 
   -- where the step doesn't go, nothing changes
@@ -71,23 +72,23 @@ module _ (s : State) (i : ℕ) (r : Req) (value : ℕ → List ℕ) (target : Pp
   named_now : (d lv g : ℕ) → Named s d lv g → Named new d lv g
   named_now d lv g named = record { home = named.home; flying = named.flying }
 
-  allowed_on : (lv b : ℕ) → Settled s lv b → IsTrue (covers r lv b) → (c : Pp) → Live new lv b c → IsIn (s.know lv b).values (block lv b c)
+  allowed_on : (lv b : ℕ) → Settled s lv b → IsTrue (covers r lv b) → (c : Pp) → Live new lv b c → IsIn (told s lv b).values (block lv b c)
   allowed_on lv b settled over c live = ⊎_elim
       (λ (l : Live s lv b c). ⊎_elim
-      (λ (same : block lv b c ≡ s.media.block lv b c). subst (IsIn (s.know lv b).values) (sym same) (settled.allowed c l))
-      (λ (h : IsTrue (covers r lv b) × (c ≡ target) × (block lv b c ≡ value b)). subst (IsIn (s.know lv b).values) (sym h.2) (seen lv b over).0)
+      (λ (same : block lv b c ≡ s.media.block lv b c). subst (IsIn (told s lv b).values) (sym same) (settled.allowed c l))
+      (λ (h : IsTrue (covers r lv b) × (c ≡ target) × (block lv b c ≡ value b)). subst (IsIn (told s lv b).values) (sym h.2) (seen lv b over).0)
       (step.media lv b c))
-      (λ (h : (c ≡ target) × IsTrue (covers r lv b) × (block lv b c ≡ value b)). subst (IsIn (s.know lv b).values) (sym h.2) (seen lv b over).0)
+      (λ (h : (c ≡ target) × IsTrue (covers r lv b) × (block lv b c ≡ value b)). subst (IsIn (told s lv b).values) (sym h.2) (seen lv b over).0)
       (live_was lv b c live)
 
   equal_on : (lv b : ℕ) → IsTrue (covers r lv b) → (active : Bool) → s.is_active lv ≡ active → Agree new lv b ⊎ MayDiffer new lv b active
   equal_on lv b over active on = ⊎_elim
-      (λ (loose : IsTrue (s.know lv b).loose). by_mode active on loose)
+      (λ (loose : IsTrue (told s lv b).loose). by_mode active on loose)
       (λ (equal : (e : Pp) → Live s lv b e → s.media.block lv b e ≡ value b). inl (value b, on_block lv b over equal))
       (seen lv b over).1
     where
-      by_mode : (x : Bool) → s.is_active lv ≡ x → IsTrue (s.know lv b).loose → Agree new lv b ⊎ MayDiffer new lv b x
-      by_mode true is loose = never (s.know lv b).loose loose (core.tied.tight lv b is)
+      by_mode : (x : Bool) → s.is_active lv ≡ x → IsTrue (told s lv b).loose → Agree new lv b ⊎ MayDiffer new lv b x
+      by_mode true is loose = never (told s lv b).loose loose (core.tied.tight lv b is)
       by_mode false is loose = inr loose
 
   settled_now : (lv b : ℕ) → Settled s lv b → Settled new lv b
@@ -95,7 +96,7 @@ module _ (s : State) (i : ℕ) (r : Req) (value : ℕ → List ℕ) (target : Pp
     calm = λ j e started over. settled.calm j e (record { there = started.there; write = started.write; going = started.going }) over;
     allowed = λ c live. ⊎_elim
         (λ (over : IsTrue (covers r lv b)). allowed_on lv b settled over c live)
-        (λ (off : IsFalse (covers r lv b)). subst (IsIn (s.know lv b).values) (sym (off_block lv b off c)) (settled.allowed c (off_live lv b off c live)))
+        (λ (off : IsFalse (covers r lv b)). subst (IsIn (told s lv b).values) (sym (off_block lv b off c)) (settled.allowed c (off_live lv b off c live)))
         (decided (covers r lv b));
     equal = ⊎_elim
         (λ (over : IsTrue (covers r lv b)). equal_on lv b over (s.is_active lv) refl)
@@ -127,7 +128,7 @@ module _ (s : State) (i : ℕ) (r : Req) (value : ℕ → List ℕ) (target : Pp
         record {
           known = busy.known;
           aimed = λ c live. busy.aimed c (off_live lv b off c live);
-          value = λ c live. subst (λ (v : List ℕ). IsIn (s.know lv b).values v ⊎ (v ≡ e.value b)) (sym (off_block lv b off c)) (busy.value c (off_live lv b off c live));
+          value = λ c live. subst (λ (v : List ℕ). IsIn (told s lv b).values v ⊎ (v ≡ e.value b)) (sym (off_block lv b off c)) (busy.value c (off_live lv b off c live));
           well = λ c at. off_block lv b off c ∙ busy.well c at;
         };
     recorded = λ j lv b e started over.
@@ -143,12 +144,12 @@ module _ (s : State) (i : ℕ) (r : Req) (value : ℕ → List ℕ) (target : Pp
       (kept.0, record { copy = kept.1; counts = inl (and_left_false (s.committed.value kept.0) (stale_in s.in_flight kept.0) kept.2.committed) })
 
   -- what a read knows of a value there stays true
-  equal_now : (j lv b : ℕ) (e : Req) (v : List ℕ) → s.reqs j ≡ Some e → IsTrue (covers e lv b) → IsTrue (s.know lv b).loose ⊎ ((c : Pp) → Live s lv b c → s.media.block lv b c ≡ v)
-      → IsTrue (s.know lv b).loose ⊎ ((c : Pp) → Live new lv b c → block lv b c ≡ v)
+  equal_now : (j lv b : ℕ) (e : Req) (v : List ℕ) → s.reqs j ≡ Some e → IsTrue (covers e lv b) → IsTrue (told s lv b).loose ⊎ ((c : Pp) → Live s lv b c → s.media.block lv b c ≡ v)
+      → IsTrue (told s lv b).loose ⊎ ((c : Pp) → Live new lv b c → block lv b c ≡ v)
   equal_now j lv b e v there over (inl loose) = inl loose
   equal_now j lv b e v there over (inr equal) = ⊎_elim
       (λ (on : IsTrue (covers r lv b)). ⊎_elim
-      (λ (loose : IsTrue (s.know lv b).loose). inl loose)
+      (λ (loose : IsTrue (told s lv b).loose). inl loose)
       (λ (same : (c : Pp) → Live s lv b c → s.media.block lv b c ≡ value b).
       let l = some_live j lv b e there over in
       inr (λ c live. on_block lv b on same c live ∙ sym (same l.0 l.1) ∙ equal l.0 l.1))
@@ -163,9 +164,9 @@ module _ (s : State) (i : ℕ) (r : Req) (value : ℕ → List ℕ) (target : Pp
         let h = core.holds.reads j lv b e there read past over c x at in
         ⊎_elim
         (λ (same : block lv b c ≡ s.media.block lv b c).
-        subst (λ (v : List ℕ). IsIn (s.know lv b).values v × (IsTrue (s.know lv b).loose ⊎ ((g : Pp) → Live new lv b g → block lv b g ≡ v))) (sym same) (h.0, equal_now j lv b e (s.media.block lv b c) there over h.1))
+        subst (λ (v : List ℕ). IsIn (told s lv b).values v × (IsTrue (told s lv b).loose ⊎ ((g : Pp) → Live new lv b g → block lv b g ≡ v))) (sym same) (h.0, equal_now j lv b e (s.media.block lv b c) there over h.1))
         (λ (k : IsTrue (covers r lv b) × (c ≡ target) × (block lv b c ≡ value b)).
-        subst (λ (v : List ℕ). IsIn (s.know lv b).values v × (IsTrue (s.know lv b).loose ⊎ ((g : Pp) → Live new lv b g → block lv b g ≡ v))) (sym k.2) ((seen lv b k.0).0, equal_now j lv b e (value b) there over (seen lv b k.0).1))
+        subst (λ (v : List ℕ). IsIn (told s lv b).values v × (IsTrue (told s lv b).loose ⊎ ((g : Pp) → Live new lv b g → block lv b g ≡ v))) (sym k.2) ((seen lv b k.0).0, equal_now j lv b e (value b) there over (seen lv b k.0).1))
         (step.media lv b c);
     got = λ j lv b e v there read past got over.
         let h = core.holds.got j lv b e v there read past got over in
@@ -230,7 +231,7 @@ module _ (s : State) (o : OpenCopy) (step : Opens s o) (core : Core s) where
   open_core =
       let quiet : Quiet s opened = record {
         reqs = λ i. refl;
-        know = λ lv b. refl;
+        known_same = λ lv b. refl;
         run = refl;
         active = λ lv. refl;
         copies = λ lv b. refl;
@@ -280,7 +281,7 @@ module _ (s : State) (wanted : Marks) (c : Pp) (step : Clears s wanted c) (core 
   clear_core =
       let quiet : Quiet s cleared = record {
         reqs = λ i. refl;
-        know = λ lv b. refl;
+        known_same = λ lv b. refl;
         run = refl;
         active = λ lv. refl;
         copies = λ lv b. refl;

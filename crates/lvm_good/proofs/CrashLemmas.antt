@@ -13,6 +13,7 @@ use Rattle.lvm_good.specs.Core.{MayDiffer, Agree, Settled, Busy, Recorded, Kept,
 use Rattle.lvm_good.specs.Crash.{CopyBrings, IsCrash, Fresh, MayDifferAfter, BlockKept, IsPossible, Widens, CoreIsKept}
 use Rattle.lvm_good.specs.Claims.{OffIsKept}
 use Rattle.lvm_good.proofs.Small.{never, and_right_false, and_left_false, or_left, or_right, in_more, in_added, brought_in, some_open}
+use Rattle.lvm_good.specs.State.{told}
 
 -- a started write is open in the history
 pub the_write_is : (write over : Bool) (w : List ℕ) → IsTrue write → IsTrue over → (if write && over then Some w else None) ≡ Some w
@@ -24,23 +25,23 @@ pub going_not_landed : (r : Req) → r.phase ≡ Going → IsFalse (has_landed r
 going_not_landed r e = ap has_landed e
 
 module _ (s : State) (core : Core s) where
-  pub is_open : (i : ℕ) (r : Req) (lv b : ℕ) → Started s i r → IsTrue (covers r lv b) → write_of b (s.know lv b) (request_of s i) ≡ Some (r.value b)
+  pub is_open : (i : ℕ) (r : Req) (lv b : ℕ) → Started s i r → IsTrue (covers r lv b) → write_of b (told s lv b) (request_of s i) ≡ Some (r.value b)
   is_open i r lv b started over = core.tied.open_writes i r started.there (going_not_landed r started.going) lv b ∙ the_write_is r.write (covers r lv b) (r.value b) started.write over
 
-  pub new_value_in : (i : ℕ) (r : Req) (lv b : ℕ) → Started s i r → IsTrue (covers r lv b) → IsIn (cut b (s.know lv b)).values (r.value b)
+  pub new_value_in : (i : ℕ) (r : Req) (lv b : ℕ) → Started s i r → IsTrue (covers r lv b) → IsIn (cut b (told s lv b)).values (r.value b)
   new_value_in i r lv b started over =
       let busy : Busy s r lv b = core.blocks.busy i lv b r started over in
-      in_added (s.know lv b).values (map (λ (w : Request). block_of w.blocks w.at b) (s.know lv b).open_writes) busy.known.0 (r.value b) busy.known.1
-      (brought_in b (s.know lv b).open_writes (request_of s i) (r.value b) (is_open i r lv b started over))
+      in_added (told s lv b).values (map (λ (w : Request). block_of w.blocks w.at b) (told s lv b).open_writes) busy.known.0 (r.value b) busy.known.1
+      (brought_in b (told s lv b).open_writes (request_of s i) (r.value b) (is_open i r lv b started over))
 
-  pub cut_widens : Widens s (λ lv b. cut b (s.know lv b))
+  pub cut_widens : Widens s (λ lv b. cut b (told s lv b))
   cut_widens = record {
-    old = λ lv b value h. in_more (s.know lv b).values _ value h;
+    old = λ lv b value h. in_more (told s lv b).values _ value h;
     new = λ i lv b r started over. new_value_in i r lv b started over;
-    loose = λ lv b h. or_left (s.know lv b).loose _ h;
-    started = λ i lv b r started over off. or_right (s.know lv b).loose (is_off (s.know lv b).mode) (is_some_open (s.know lv b).open_writes)
+    loose = λ lv b h. or_left (told s lv b).loose _ h;
+    started = λ i lv b r started over off. or_right (told s lv b).loose (is_off (told s lv b).mode) (is_some_open (told s lv b).open_writes)
         (core.tied.modes lv b off)
-        (some_open b (s.know lv b).open_writes (request_of s i) (r.value b) (is_open i r lv b started over));
+        (some_open b (told s lv b).open_writes (request_of s i) (r.value b) (is_open i r lv b started over));
   }
 
   pub cut_again : (after : ℕ → ℕ → Known) → Widens s after → Widens s (λ lv b. cut b (after lv b))
@@ -59,7 +60,7 @@ module _ (s : State) (core : Core s) where
     ]
 
     -- what a step brings is allowed, and the live copies hold it
-    brought_seen : (lv b : ℕ) (c : Pp) (k : CopyBrings s lv b c (v.block lv b c)) → IsIn (s.know lv b).values (k.values b) × (IsTrue (s.know lv b).loose ⊎ ((e : Pp) → Live s lv b e → s.media.block lv b e ≡ k.values b))
+    brought_seen : (lv b : ℕ) (c : Pp) (k : CopyBrings s lv b c (v.block lv b c)) → IsIn (told s lv b).values (k.values b) × (IsTrue (told s lv b).loose ⊎ ((e : Pp) → Live s lv b e → s.media.block lv b e ≡ k.values b))
     brought_seen lv b c k = core.holds.got k.id lv b k.req k.values k.there k.read k.past k.got k.over
 
     media_allowed : (lv b : ℕ) (c : Pp) → Live s lv b c → IsIn (after lv b).values (s.media.block lv b c)
@@ -68,7 +69,7 @@ module _ (s : State) (core : Core s) where
         (λ (by : (i : ℕ) × (r : Req) × Started s i r × IsTrue (covers r lv b)).
         let busy : Busy s by.1 lv b = core.blocks.busy by.0 lv b by.1 by.2 by.3 in
         ⊎_elim
-        (λ (old : IsIn (s.know lv b).values (s.media.block lv b c)). wide.old lv b (s.media.block lv b c) old)
+        (λ (old : IsIn (told s lv b).values (s.media.block lv b c)). wide.old lv b (s.media.block lv b c) old)
         (λ (new : s.media.block lv b c ≡ by.1.value b). subst (IsIn (after lv b).values) (sym new) (wide.new by.0 lv b by.1 by.2 by.3))
         (busy.value c live))
         (core.blocks.each lv b)
@@ -93,22 +94,22 @@ module _ (s : State) (core : Core s) where
       }
 
       -- without a write, live copies hold after the loss what they hold now, if the block isn't loose
-      same_if_calm : Settled s lv b → IsFalse (s.know lv b).loose → (c : Pp) → Live s lv b c → v.block lv b c ≡ s.media.block lv b c
+      same_if_calm : Settled s lv b → IsFalse (told s lv b).loose → (c : Pp) → Live s lv b c → v.block lv b c ≡ s.media.block lv b c
       same_if_calm settled tight c live = elim (crash.block lv b c live.copy) [
         | inl same ↦ same
         | inr rest ↦ elim rest [
           | inl brings ↦ absurd (settled.calm brings.id brings.req brings.started brings.over)
           | inr k ↦ k.is ∙ ⊎_elim
-              (λ (loose : IsTrue (s.know lv b).loose). never (s.know lv b).loose loose tight)
+              (λ (loose : IsTrue (told s lv b).loose). never (told s lv b).loose loose tight)
               (λ (equal : (e : Pp) → Live s lv b e → s.media.block lv b e ≡ k.values b). sym (equal c live))
               (brought_seen lv b c k).1
         ]
       ]
 
-      equal_if_settled : (active loose : Bool) → s.is_active lv ≡ active → (s.know lv b).loose ≡ loose → Settled s lv b → Agree s lv b ⊎ MayDiffer s lv b active
+      equal_if_settled : (active loose : Bool) → s.is_active lv ≡ active → (told s lv b).loose ≡ loose → Settled s lv b → Agree s lv b ⊎ MayDiffer s lv b active
           → ((value : List ℕ) × ((c : Pp) → Fresh s marks lv b c → v.block lv b c ≡ value)) ⊎ MayDifferAfter s v marks (after lv b) lv b active
       equal_if_settled active false on tight settled (inl agree) = inl (agree.0, λ c fresh. same_if_calm settled tight c (is_live c fresh) ∙ agree.1 c (is_live c fresh))
-      equal_if_settled true true on loose settled (inl agree) = never (s.know lv b).loose loose (core.tied.tight lv b on)
+      equal_if_settled true true on loose settled (inl agree) = never (told s lv b).loose loose (core.tied.tight lv b on)
       equal_if_settled false true on loose settled (inl agree) = inr (wide.loose lv b loose)
       equal_if_settled true loose on l settled (inr differ) = inr (λ c fresh. named_after c.disk lv (track_group_of b) (differ c (is_live c fresh)).1)
       equal_if_settled false loose on l settled (inr is) = inr (wide.loose lv b is)
@@ -139,14 +140,14 @@ module _ (s : State) (core : Core s) where
       block_kept = record {
         allowed = λ c fresh. allowed_live lv b c (is_live c fresh);
         equal = elim (core.blocks.each lv b) [
-          | inl settled ↦ equal_if_settled (s.is_active lv) (s.know lv b).loose refl refl settled settled.equal
+          | inl settled ↦ equal_if_settled (s.is_active lv) (told s lv b).loose refl refl settled settled.equal
           | inr by ↦ equal_if_busy (s.is_active lv) refl by.1.several by.0 by.1 refl by.2 by.3
         ];
         some = λ c copy. let k = core.statuses.kept lv b c copy in (k.0, record { copy = k.1; fresh = not_stale k.0 k.2 });
       }
 
 pub core_kept : CoreIsKept
-core_kept s core v marks lv b crash possible = block_kept s core v crash (λ lv b. cut b (s.know lv b)) (cut_widens s core) marks possible lv b
+core_kept s core v marks lv b crash possible = block_kept s core v crash (λ lv b. cut b (told s lv b)) (cut_widens s core) marks possible lv b
 
 pub off_is_kept : OffIsKept
 off_is_kept s v after marks lv b core crash wide possible = block_kept s core v crash (λ lv b. cut b (after lv b)) (cut_again s core after wide) marks possible lv b

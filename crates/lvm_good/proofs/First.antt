@@ -1,7 +1,9 @@
 -- What is asked of a session can be met.
-use Rattle.std.proofs.Common.{◌≡◌, inl, Bool, true, false, ◌&&◌, ◌||◌, Some, None, refl}
-use Rattle.std.specs.Prelude.{IsTrue, ◌==◌}
+use Rattle.std.proofs.Common.{◌≡◌, inl, Bool, true, false, ◌&&◌, ◌||◌, [], ◌∷◌, Some, None, refl}
+use Rattle.std.specs.Prelude.{IsTrue, IsFalse, ◌==◌, nat_lt, if◌then◌else◌}
 use Rattle.lvm_num.specs.Buffer.{zero_sector}
+use Rattle.lvm_num.specs.declared.descriptor.Mode.TheVariants.{Active}
+use Rattle.lvm_vol.specs.May.{Known, unknown, IsValue}
 use Rattle.lvm_good.specs.Fresh.{FirstIsCore}
 
 nothing : {X A : Type 0} (a : A) → None ≡ Some a → X
@@ -25,18 +27,30 @@ both : (a b : Bool) → IsTrue a → IsTrue b → IsTrue (a && b)
 both true b h k = k
 both false b h k = not_so h
 
+-- what is known of a block once the volume is made, if the block is one of it
+abbrev made : Bool → Known
+made inside = if inside then record { values = Some (zero_sector ∷ []); open_writes = []; loose = false; mode = Active } else unknown
+
+zeros_there : (inside : Bool) → IsTrue inside → IsValue (made inside) zero_sector
+zeros_there true h = inl refl
+zeros_there false h = not_so h
+
+not_loose : (inside : Bool) → IsFalse (made inside).loose
+not_loose true = refl
+not_loose false = refl
+
 pub first_is_core : FirstIsCore
 first_is_core = record {
   blocks = record {
-    each = λ lv b. inl (record { calm = λ i r started over. nothing r started.there; allowed = λ c live. inl refl; equal = inl (zero_sector, λ c live. refl) });
+    each = λ lv b. inl (record { calm = λ i r started over. nothing r started.there; allowed = λ c live. zeros_there (1 == lv && nat_lt b 2048) (left (1 == lv && nat_lt b 2048) (c.pp == 0 && (c.disk == 0 || c.disk == 1)) live.copy); equal = inl (zero_sector, λ c live. refl) });
     busy = λ i lv b r started over. nothing r started.there;
     recorded = λ i lv b r started over. nothing r started.there;
   };
   tied = record {
     open_writes = λ i r there un lv b. nothing r there;
     modes = λ lv b off. not_either off;
-    tight = λ lv b on. refl;
-    owner = λ lv b l d c e x y z. both (lv == 1) (e.pp == 0 && (e.disk == 0 || e.disk == 1)) (left (lv == 1) (c.pp == 0 && (c.disk == 0 || c.disk == 1)) x) (right (l == 1) (e.pp == 0 && (e.disk == 0 || e.disk == 1)) z);
+    tight = λ lv b on. not_loose (1 == lv && nat_lt b 2048);
+    owner = λ lv b l d c e x y z. both (1 == lv && nat_lt b 2048) (e.pp == 0 && (e.disk == 0 || e.disk == 1)) (left (1 == lv && nat_lt b 2048) (c.pp == 0 && (c.disk == 0 || c.disk == 1)) x) (right (1 == l && nat_lt d 2048) (e.pp == 0 && (e.disk == 0 || e.disk == 1)) z);
     inside = λ i r there lv b over. nothing r there;
     place = λ i r there lv b over. nothing r there;
   };

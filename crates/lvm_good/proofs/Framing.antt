@@ -8,6 +8,7 @@ use Rattle.lvm_good.proofs.Small.{IsIn}
 use Rattle.lvm_good.specs.State.{Stage, Req, State, covers, is_pinning, Live}
 use Rattle.lvm_good.specs.Core.{Conflict, Tied, Holds, Nearly}
 use Rattle.lvm_good.specs.Claims.{Alike, Seen, Frame, FrameKeeps}
+use Rattle.lvm_good.specs.State.{told}
 
 abbrev some_if : Bool → List ℕ → Option (List ℕ)
 some_if test w = if test then Some w else None
@@ -60,7 +61,7 @@ module _ (old new : State) (frame : Frame old new) (core : Nearly old) where
         let seen : Seen old i f.0 lv b (old.media.block lv b c) = record { there = f.1; read = r_read; past = r_past; over = r_over; allowed = h.0; equal = h.1 } in
         let now = frame.seen i lv b f.0 n (old.media.block lv b c) seen there past in
         let same = frame.still i lv b f.0 n c seen there past in
-        subst (λ (v : List ℕ). IsIn (new.know lv b).values v × (IsTrue (new.know lv b).loose ⊎ ((e : Pp) → Live new lv b e → new.media.block lv b e ≡ v))) (sym same) now;
+        subst (λ (v : List ℕ). IsIn (told new lv b).values v × (IsTrue (told new lv b).loose ⊎ ((e : Pp) → Live new lv b e → new.media.block lv b e ≡ v))) (sym same) now;
     got = λ i lv b n value there read past got over.
         let f = frame.from i n there in
         let r_read = sym f.2.write ∙ read in
@@ -78,8 +79,8 @@ module _ (old new : State) (frame : Frame old new) (core : Nearly old) where
           read = r_read;
           past = r_past;
           over = r_over;
-          allowed = subst (IsIn (old.know lv b).values) (sym g.3) h.0;
-          equal = ⊎_elim (λ (loose : IsTrue (old.know lv b).loose). inl loose) (λ (eq : (e : Pp) → Live old lv b e → old.media.block lv b e ≡ old.media.block lv b g.0). inr (λ e live. eq e live ∙ sym g.3)) h.1;
+          allowed = subst (IsIn (told old lv b).values) (sym g.3) h.0;
+          equal = ⊎_elim (λ (loose : IsTrue (told old lv b).loose). inl loose) (λ (eq : (e : Pp) → Live old lv b e → old.media.block lv b e ≡ old.media.block lv b g.0). inr (λ e live. eq e live ∙ sym g.3)) h.1;
         }) there past)
         (frame.got i f.0 n value f.1 there got);
   }

@@ -16,32 +16,36 @@ use Rattle.lvm_good.proofs.Calm.{calm_blocks}
 use Rattle.lvm_good.proofs.Framing.{frame_keeps}
 use Rattle.lvm_good.proofs.Quieting.{nearly, one_req}
 use Rattle.lvm_good.proofs.Writes.{same_statuses, from_put, got_put, pins_put, land_alike}
+use Rattle.lvm_vol.specs.Facts.{Fact}
+use Rattle.lvm_good.specs.State.{told}
+use Rattle.lvm_vol.specs.declared.entry.Vol.TheVariants.{Lv}
+use Rattle.lvm_vol.specs.May.{known}
 
-module _ (s : State) (i : ℕ) (r : Req) (value : ℕ → List ℕ) (know : ℕ → ℕ → Known) (step : LandsGot s i r value know) (core : Core s) where
+module _ (s : State) (i : ℕ) (r : Req) (value : ℕ → List ℕ) (facts : List Fact) (step : LandsGot s i r value facts) (core : Core s) where
   abbrev new : State
-  new = landed s i r know
+  new = landed s i r facts
 
   un : IsFalse (has_landed r.phase)
   un = ⊎_elim (λ (l : IsTrue (has_landed r.phase)). absurd (past_not_landed r.phase step.past l)) (λ (f : IsFalse (has_landed r.phase)). f) (decided (has_landed r.phase))
 
   -- the copy that holds what it got, and that this is allowed and what all live copies hold, unless the block is loose
-  seen_here : (lv b : ℕ) → IsTrue (covers r lv b) → IsIn (s.know lv b).values (value b) × (IsTrue (s.know lv b).loose ⊎ ((e : Pp) → Live s lv b e → s.media.block lv b e ≡ value b))
+  seen_here : (lv b : ℕ) → IsTrue (covers r lv b) → IsIn (told s lv b).values (value b) × (IsTrue (told s lv b).loose ⊎ ((e : Pp) → Live s lv b e → s.media.block lv b e ≡ value b))
   seen_here lv b over = core.holds.got i lv b r value step.there step.read step.past step.got over
 
   -- what is known of the block is as before, or it is the one value, which the live copies hold
-  known_now : (lv b : ℕ) → (know lv b ≡ s.know lv b) ⊎ (((know lv b).values ≡ Some (value b ∷ [])) × IsTrue (covers r lv b) × ((e : Pp) → Live s lv b e → s.media.block lv b e ≡ value b))
+  known_now : (lv b : ℕ) → (known facts (Lv lv) b ≡ told s lv b) ⊎ (((known facts (Lv lv) b).values ≡ Some (value b ∷ [])) × IsTrue (covers r lv b) × ((e : Pp) → Live s lv b e → s.media.block lv b e ≡ value b))
   known_now lv b = ⊎_elim
       (λ (over : IsTrue (covers r lv b)). ⊎_elim
-      (λ (loose : IsTrue (s.know lv b).loose). inl (step.loose lv b loose))
-      (λ (tight : IsFalse (s.know lv b).loose). inr (
+      (λ (loose : IsTrue (told s lv b).loose). inl (step.loose lv b loose))
+      (λ (tight : IsFalse (told s lv b).loose). inr (
         step.tight lv b over tight,
         over,
         ⊎_elim
-            (λ (loose : IsTrue (s.know lv b).loose). never (s.know lv b).loose loose tight)
+            (λ (loose : IsTrue (told s lv b).loose). never (told s lv b).loose loose tight)
             (λ (equal : (e : Pp) → Live s lv b e → s.media.block lv b e ≡ value b). equal)
             (seen_here lv b over).1,
       ))
-      (decided (s.know lv b).loose))
+      (decided (told s lv b).loose))
       (λ (off : IsFalse (covers r lv b)). inl (step.closes.outside lv b off))
       (decided (covers r lv b))
 
@@ -80,22 +84,22 @@ module _ (s : State) (i : ℕ) (r : Req) (value : ℕ → List ℕ) (know : ℕ 
   settled_now lv b settled = record {
     calm = λ j e started over. settled.calm j e (started_was j e started) over;
     allowed = λ c live. ⊎_elim
-        (λ (same : know lv b ≡ s.know lv b). subst (λ (k : Known). IsIn k.values (s.media.block lv b c)) (sym same) (settled.allowed c (live_was lv b c live)))
-        (λ (one : ((know lv b).values ≡ Some (value b ∷ [])) × IsTrue (covers r lv b) × ((e : Pp) → Live s lv b e → s.media.block lv b e ≡ value b)).
+        (λ (same : known facts (Lv lv) b ≡ told s lv b). subst (λ (k : Known). IsIn k.values (s.media.block lv b c)) (sym same) (settled.allowed c (live_was lv b c live)))
+        (λ (one : ((known facts (Lv lv) b).values ≡ Some (value b ∷ [])) × IsTrue (covers r lv b) × ((e : Pp) → Live s lv b e → s.media.block lv b e ≡ value b)).
         subst (λ (m : Option (List (List ℕ))). IsIn m (s.media.block lv b c)) (sym one.0) (inl (sym (one.2 c (live_was lv b c live)))))
         (known_now lv b);
     equal = ⊎_elim
-        (λ (same : know lv b ≡ s.know lv b). equal_now (ap (λ (k : Known). k.loose) same) (s.is_active lv) settled.equal)
-        (λ (one : ((know lv b).values ≡ Some (value b ∷ [])) × IsTrue (covers r lv b) × ((e : Pp) → Live s lv b e → s.media.block lv b e ≡ value b)). inl (value b, λ e live. one.2 e (live_was lv b e live)))
+        (λ (same : known facts (Lv lv) b ≡ told s lv b). equal_now (ap (λ (k : Known). k.loose) same) (s.is_active lv) settled.equal)
+        (λ (one : ((known facts (Lv lv) b).values ≡ Some (value b ∷ [])) × IsTrue (covers r lv b) × ((e : Pp) → Live s lv b e → s.media.block lv b e ≡ value b)). inl (value b, λ e live. one.2 e (live_was lv b e live)))
         (known_now lv b);
   }
     where
-      equal_now : (know lv b).loose ≡ (s.know lv b).loose → (active : Bool) → Agree s lv b ⊎ MayDiffer s lv b active → Agree new lv b ⊎ MayDiffer new lv b active
+      equal_now : (known facts (Lv lv) b).loose ≡ (told s lv b).loose → (active : Bool) → Agree s lv b ⊎ MayDiffer s lv b active → Agree new lv b ⊎ MayDiffer new lv b active
       equal_now same active (inl agree) = inl (agree.0, λ e live. agree.1 e (live_was lv b e live))
       equal_now same true (inr differ) = inr (λ e live. let d = differ e (live_was lv b e live) in (d.0, named_now e.disk lv (track_group_of b) d.1))
       equal_now same false (inr loose) = inr (same ∙ loose)
 
-  off_if_started : (j lv b : ℕ) (e : Req) → Started s j e → IsTrue (covers e lv b) → know lv b ≡ s.know lv b
+  off_if_started : (j lv b : ℕ) (e : Req) → Started s j e → IsTrue (covers e lv b) → known facts (Lv lv) b ≡ told s lv b
   off_if_started j lv b e started over = step.closes.outside lv b (⊎_elim (λ (h : IsTrue (covers r lv b)). absurd (elsewhere j lv b e started over h)) (λ (f : IsFalse (covers r lv b)). f) (decided (covers r lv b)))
 
   got_blocks : Blocks new
@@ -132,19 +136,19 @@ module _ (s : State) (i : ℕ) (r : Req) (value : ℕ → List ℕ) (know : ℕ 
     copies = λ lv b. refl;
     tight = step.closes.tight;
     seen = λ j lv b e m v seen h past. ⊎_elim
-        (λ (same : know lv b ≡ s.know lv b). (
+        (λ (same : known facts (Lv lv) b ≡ told s lv b). (
           subst (λ (k : Known). IsIn k.values v) (sym same) seen.allowed,
           ⊎_elim
-              (λ (loose : IsTrue (s.know lv b).loose). inl (ap (λ (k : Known). k.loose) same ∙ loose))
+              (λ (loose : IsTrue (told s lv b).loose). inl (ap (λ (k : Known). k.loose) same ∙ loose))
               (λ (equal : (g : Pp) → Live s lv b g → s.media.block lv b g ≡ v). inr (λ g live. equal g (live_was lv b g live)))
               seen.equal,
         ))
-        (λ (one : ((know lv b).values ≡ Some (value b ∷ [])) × IsTrue (covers r lv b) × ((e : Pp) → Live s lv b e → s.media.block lv b e ≡ value b)).
+        (λ (one : ((known facts (Lv lv) b).values ≡ Some (value b ∷ [])) × IsTrue (covers r lv b) × ((e : Pp) → Live s lv b e → s.media.block lv b e ≡ value b)).
         let inside = core.tied.inside i r step.there lv b one.1 in
         let kept = core.statuses.kept lv b inside.0 inside.1 in
         let live : Live s lv b kept.0 = record { copy = kept.1; counts = inl (and_left_false (s.committed.value kept.0) (stale_in s.in_flight kept.0) kept.2.committed) } in
         ⊎_elim
-        (λ (loose : IsTrue (s.know lv b).loose).
+        (λ (loose : IsTrue (told s lv b).loose).
         let same = step.loose lv b loose in
         (subst (λ (k : Known). IsIn k.values v) (sym same) seen.allowed, inl (ap (λ (k : Known). k.loose) same ∙ loose)))
         (λ (equal : (g : Pp) → Live s lv b g → s.media.block lv b g ≡ v).
@@ -163,23 +167,23 @@ module _ (s : State) (i : ℕ) (r : Req) (value : ℕ → List ℕ) (know : ℕ 
       record {
         blocks = got_blocks;
         tied = f.0;
-        statuses = same_statuses s core s.media.block (put s.reqs i (land r)) know;
+        statuses = same_statuses s core s.media.block (put s.reqs i (land r)) facts;
         behind = record { left_behind = core.behind.left_behind };
         notes = record { home = core.notes.home; pinned = f.2 };
         holds = f.1;
       }
 
 pub got_keeps : GotKeeps
-got_keeps s i r value know step core = got_core s i r value know step core
+got_keeps s i r value facts step core = got_core s i r value facts step core
 
 pub got_is_allowed : GotIsAllowed
-got_is_allowed s i r value know step core lv b over = (seen_here s i r value know step core lv b over).0
+got_is_allowed s i r value facts step core lv b over = (seen_here s i r value facts step core lv b over).0
 
 -- ---- a request begins
 
-module _ (s : State) (i : ℕ) (r : Req) (know : ℕ → ℕ → Known) (step : Submits s i r know) (core : Core s) where
+module _ (s : State) (i : ℕ) (r : Req) (facts : List Fact) (step : Submits s i r facts) (core : Core s) where
   abbrev next : State
-  next = record s { reqs = put s.reqs i r; know = know }
+  next = record s { reqs = put s.reqs i r; facts = facts }
 
   not_itself : {k : ℕ} → k < k → ⊥
   not_itself h = omega (arith, h)
@@ -216,8 +220,8 @@ module _ (s : State) (i : ℕ) (r : Req) (know : ℕ → ℕ → Known) (step : 
   submit_tied : Tied next
   submit_tied = record {
     open_writes = λ j m h unlanded lv b. ⊎_elim
-        (λ (is : (j ≡ i) × (r ≡ m)). subst (λ (q : Req). write_of b (know lv b) (request_of s j) ≡ the_write s j q lv b) is.1
-        (subst (λ (k : ℕ). write_of b (know lv b) (request_of s k) ≡ the_write s k r lv b) (sym is.0) (step.own lv b)))
+        (λ (is : (j ≡ i) × (r ≡ m)). subst (λ (q : Req). write_of b (known facts (Lv lv) b) (request_of s j) ≡ the_write s j q lv b) is.1
+        (subst (λ (k : ℕ). write_of b (known facts (Lv lv) b) (request_of s k) ≡ the_write s k r lv b) (sym is.0) (step.own lv b)))
         (λ (other : IsFalse (j == i) × (s.reqs j ≡ Some m)). step.others lv b j other.0 ∙ core.tied.open_writes j m other.1 unlanded lv b)
         (put_cases s.reqs i j r m h);
     modes = λ lv b off. ap is_off (step.modes lv b) ∙ core.tied.modes lv b off;
@@ -247,7 +251,7 @@ module _ (s : State) (i : ℕ) (r : Req) (know : ℕ → ℕ → Known) (step : 
         (λ (other : IsFalse (j == i) × (s.reqs j ≡ Some m)). let h = core.holds.reads j lv b m other.1 read past over c x at in (
           subst (λ (o : Option (List (List ℕ))). IsIn o (s.media.block lv b c)) (sym (step.may lv b)) h.0,
           ⊎_elim
-              (λ (loose : IsTrue (s.know lv b).loose). inl (step.loose lv b ∙ loose))
+              (λ (loose : IsTrue (told s lv b).loose). inl (step.loose lv b ∙ loose))
               (λ (equal : (g : Pp) → Live s lv b g → s.media.block lv b g ≡ s.media.block lv b c). inr (λ g live. equal g (live_next lv b g live)))
               h.1,
         ))
@@ -257,7 +261,7 @@ module _ (s : State) (i : ℕ) (r : Req) (know : ℕ → ℕ → Known) (step : 
         (λ (other : IsFalse (j == i) × (s.reqs j ≡ Some m)). let h = core.holds.got j lv b m value other.1 read past got over in (
           subst (λ (o : Option (List (List ℕ))). IsIn o (value b)) (sym (step.may lv b)) h.0,
           ⊎_elim
-              (λ (loose : IsTrue (s.know lv b).loose). inl (step.loose lv b ∙ loose))
+              (λ (loose : IsTrue (told s lv b).loose). inl (step.loose lv b ∙ loose))
               (λ (equal : (g : Pp) → Live s lv b g → s.media.block lv b g ≡ value b). inr (λ g live. equal g (live_next lv b g live)))
               h.1,
         ))
@@ -271,7 +275,7 @@ module _ (s : State) (i : ℕ) (r : Req) (know : ℕ → ℕ → Known) (step : 
   submit_core = record {
     blocks = calm_blocks s next calmer_next core.blocks;
     tied = submit_tied;
-    statuses = same_statuses s core s.media.block (put s.reqs i r) know;
+    statuses = same_statuses s core s.media.block (put s.reqs i r) facts;
     behind = record { left_behind = core.behind.left_behind };
     notes = record {
       home = core.notes.home;
@@ -284,4 +288,4 @@ module _ (s : State) (i : ℕ) (r : Req) (know : ℕ → ℕ → Known) (step : 
   }
 
 pub submit_keeps : SubmitKeeps
-submit_keeps s i r know step core = submit_core s i r know step core
+submit_keeps s i r facts step core = submit_core s i r facts step core

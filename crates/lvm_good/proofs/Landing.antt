@@ -10,13 +10,18 @@ use Rattle.lvm_good.specs.Core.{MayDiffer, Agree, Settled, Blocks, Core}
 use Rattle.lvm_good.specs.Events.{land, landed, ClosesOnly, IsDropped, LandsDone, LandsLost}
 use Rattle.lvm_good.proofs.Small.{never}
 use Rattle.lvm_good.proofs.Requests.{decided, put_cases, put_other, one_write}
+use Rattle.lvm_vol.specs.Legal.{lands}
+use Rattle.lvm_vol.specs.declared.entry.Vol.TheVariants.{Lv}
+use Rattle.lvm_vol.specs.May.{known}
+use Rattle.lvm_vol.specs.Facts.{Fact}
+use Rattle.lvm_good.specs.State.{told}
 
 not_going : {X : Type 0} (p : Phase) → Landed ≡ p → p ≡ Going → X
 not_going p a b = absurd cc
 
-module _ (s : State) (core : Core s) (i : ℕ) (r : Req) (know : ℕ → ℕ → Known) (started_r : Started s i r) (closes : ClosesOnly s i r know) where
+module _ (s : State) (core : Core s) (i : ℕ) (r : Req) (facts : List Fact) (started_r : Started s i r) (closes : ClosesOnly s i r facts) where
   abbrev new : State
-  new = landed s i r know
+  new = landed s i r facts
 
   started_before : (j : ℕ) (e : Req) → Started new j e → IsFalse (j == i) × Started s j e
   started_before j e started = elim (put_cases s.reqs i j (land r) e started.there) [
@@ -46,7 +51,7 @@ module _ (s : State) (core : Core s) (i : ℕ) (r : Req) (know : ℕ → ℕ →
       equal_now false (inr loose) = inr (subst (λ (k : Known). IsTrue k.loose) (sym (closes.outside lv b off)) loose)
 
   -- given that, where it went over, the live copies hold one allowed value now
-  pub landed_blocks : ((lv b : ℕ) → IsTrue (covers r lv b) → ((e : Pp) → Live s lv b e → IsIn (know lv b).values (s.media.block lv b e)) × Agree s lv b) → Blocks new
+  pub landed_blocks : ((lv b : ℕ) → IsTrue (covers r lv b) → ((e : Pp) → Live s lv b e → IsIn (known facts (Lv lv) b).values (s.media.block lv b e)) × Agree s lv b) → Blocks new
   landed_blocks lands = record {
     each = λ lv b. ⊎_elim
         (λ (over : IsTrue (covers r lv b)). let at = lands lv b over in inl (record {
@@ -90,8 +95,8 @@ dropped_not_live s core i r started lv b over e dropped live =
     (λ (k : Caught s lv (track_group_of b) e). dropped.uncaught (subst (λ (g : ℕ). Caught s r.lv g e) place.1 (subst (λ (v : ℕ). Caught s v (track_group_of b) e) place.0 k)))
     live.counts
 
-pub done_blocks : (s : State) (i : ℕ) (r : Req) (know : ℕ → ℕ → Known) → LandsDone s i r know → Core s → Blocks (landed s i r know)
-done_blocks s i r know step core = landed_blocks s core i r know step.started step.closes
+pub done_blocks : (s : State) (i : ℕ) (r : Req) (facts : List Fact) → LandsDone s i r facts → Core s → Blocks (landed s i r facts)
+done_blocks s i r facts step core = landed_blocks s core i r facts step.started step.closes
     (λ lv b over. (
       (λ e live. subst (λ (m : Option (List (List ℕ))). IsIn m (s.media.block lv b e)) (sym (step.may lv b over)) (inl (sym (holds lv b over e live)))),
       (r.value b, λ e live. holds lv b over e live),
@@ -106,12 +111,12 @@ done_blocks s i r know step core = landed_blocks s core i r know step.started st
         (λ (dropped : IsDropped s r e). absurd (dropped_not_live s core i r step.started lv b over e dropped live))
         (step.ended e at.0 at.1)
 
-pub lost_blocks : (s : State) (i : ℕ) (r : Req) (know : ℕ → ℕ → Known) → LandsLost s i r know → Core s → Blocks (landed s i r know)
-lost_blocks s i r know step core = landed_blocks s core i r know step.started step.closes
+pub lost_blocks : (s : State) (i : ℕ) (r : Req) (facts : List Fact) → LandsLost s i r facts → Core s → Blocks (landed s i r facts)
+lost_blocks s i r facts step core = landed_blocks s core i r facts step.started step.closes
     (λ lv b over. (
       (λ e live. let busy = core.blocks.busy i lv b r step.started over in step.may lv b over (s.media.block lv b e)
           (⊎_elim
-          (λ (h : IsIn (s.know lv b).values (s.media.block lv b e)). inl h)
+          (λ (h : IsIn (told s lv b).values (s.media.block lv b e)). inl h)
           (λ (h : s.media.block lv b e ≡ r.value b). inr (busy.known, h))
           (busy.value e live))),
       (s.media.block lv b step.kept, λ e live. ap (s.media.block lv b) (only lv b over e live)),

@@ -95,7 +95,7 @@ module _ (s : State) (wanted : Marks) (missing : ℕ → Bool) (open_copy : Opti
   quiet : Quiet s new
   quiet = record {
     reqs = λ i. refl;
-    know = λ lv b. refl;
+    known_same = λ lv b. refl;
     run = refl;
     active = λ lv. refl;
     copies = λ lv b. refl;
@@ -156,7 +156,7 @@ module _ (s : State) (u : Stamped Marks) (none : s.in_flight ≡ None) (is : u.v
   begun_core =
       let quiet : Quiet s begun = record {
         reqs = λ i. refl;
-        know = λ lv b. refl;
+        known_same = λ lv b. refl;
         run = refl;
         active = λ lv. refl;
         copies = λ lv b. refl;
@@ -220,7 +220,7 @@ module _ (s : State) (u : Stamped Marks) (open_copy : Option OpenCopy) (step : C
   committed_nearly =
       let quiet : Quiet s committed = record {
         reqs = λ i. refl;
-        know = λ lv b. refl;
+        known_same = λ lv b. refl;
         run = refl;
         active = λ lv. refl;
         copies = λ lv b. refl;
@@ -260,7 +260,7 @@ module _ (s : State) (done : s.in_flight ≡ Some s.committed) (core : Core s) w
   ended_core =
       let quiet : Quiet s ended = record {
         reqs = λ i. refl;
-        know = λ lv b. refl;
+        known_same = λ lv b. refl;
         run = refl;
         active = λ lv. refl;
         copies = λ lv b. refl;

@@ -42,7 +42,7 @@ module _ (s : State) (flying : ℕ → Option Groups) (step : StartsNote s flyin
   note_core =
       let quiet : Quiet s new = record {
         reqs = λ i. refl;
-        know = λ lv b. refl;
+        known_same = λ lv b. refl;
         run = refl;
         active = λ lv. refl;
         copies = λ lv b. refl;
@@ -89,7 +89,7 @@ module _ (s : State) (d : ℕ) (names home : ℕ → Groups) (flying : ℕ → O
   end_core =
       let quiet : Quiet s after = record {
         reqs = λ i. refl;
-        know = λ lv b. refl;
+        known_same = λ lv b. refl;
         run = refl;
         active = λ lv. refl;
         copies = λ lv b. refl;

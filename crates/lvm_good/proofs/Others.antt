@@ -17,14 +17,18 @@ use Rattle.lvm_good.proofs.Calm.{calm_blocks}
 use Rattle.lvm_good.proofs.Framing.{frame_keeps}
 use Rattle.lvm_good.proofs.Quieting.{nearly, one_req}
 use Rattle.lvm_good.proofs.Writes.{from_put}
+use Rattle.lvm_vol.specs.declared.entry.Vol.TheVariants.{Lv}
+use Rattle.lvm_vol.specs.May.{known}
+use Rattle.lvm_vol.specs.Facts.{Fact}
+use Rattle.lvm_good.specs.State.{told}
 
 -- ---- a request that isn't a write under way changes, and no block does
 
-module _ (s : State) (i : ℕ) (r n : Req) (know : ℕ → ℕ → Known) (cache : Groups) (there : s.reqs i ≡ Some r)
+module _ (s : State) (i : ℕ) (r n : Req) (facts : List Fact) (cache : Groups) (there : s.reqs i ≡ Some r)
     (calm : IsTrue r.write → r.phase ≡ Going → ⊥) (calm_now : IsTrue n.write → n.phase ≡ Going → ⊥)
-    (may : (lv b : ℕ) → (know lv b).values ≡ (s.know lv b).values) (loose : (lv b : ℕ) → (know lv b).loose ≡ (s.know lv b).loose) where
+    (may : (lv b : ℕ) → (known facts (Lv lv) b).values ≡ (told s lv b).values) (loose : (lv b : ℕ) → (known facts (Lv lv) b).loose ≡ (told s lv b).loose) where
   abbrev pub plain : State
-  plain = record s { reqs = put s.reqs i n; know = know; cache = cache }
+  plain = record s { reqs = put s.reqs i n; facts = facts; cache = cache }
 
   started_was : (j : ℕ) (e : Req) → Started plain j e → Started s j e
   started_was j e started = ⊎_elim
@@ -75,8 +79,8 @@ module _ (s : State) (i : ℕ) (r n : Req) (know : ℕ → ℕ → Known) (cache
   }
 
 pub plain_keeps : PlainKeeps
-plain_keeps s i r n know cache step alike core =
-    let frame : Frame s (record s { reqs = put s.reqs i n; know = know; cache = cache }) = record {
+plain_keeps s i r n facts cache step alike core =
+    let frame : Frame s (record s { reqs = put s.reqs i n; facts = facts; cache = cache }) = record {
       from = λ j m h. from_put s core i r n step.there alike j m h;
       writes = λ j m h unlanded lv b. step.writes lv b j (⊎_elim
           (λ (is : (j ≡ i) × (n ≡ m)). inr (ap (λ (q : Req). has_landed q.phase) is.1 ∙ unlanded))
@@ -90,8 +94,8 @@ plain_keeps s i r n know cache step alike core =
       seen = λ j lv b e m v seen h past. (
         subst (λ (o : Option (List (List ℕ))). IsIn o v) (sym (step.may lv b)) seen.allowed,
         ⊎_elim
-            (λ (loose : IsTrue (s.know lv b).loose). inl (step.loose lv b ∙ loose))
-            (λ (equal : (g : Pp) → Live s lv b g → s.media.block lv b g ≡ v). inr (λ g live. equal g (live_plain s i r n know cache step.there step.calm step.calm_now step.may step.loose lv b g live)))
+            (λ (loose : IsTrue (told s lv b).loose). inl (step.loose lv b ∙ loose))
+            (λ (equal : (g : Pp) → Live s lv b g → s.media.block lv b g ≡ v). inr (λ g live. equal g (live_plain s i r n facts cache step.there step.calm step.calm_now step.may step.loose lv b g live)))
             seen.equal,
       );
       still = λ j lv b e m f seen h past. refl;
@@ -116,11 +120,11 @@ plain_keeps s i r n know cache step alike core =
           (put_cases s.reqs i j n m is);
       cache = λ j e h write pinning on several cached. step.cache_keeps j e h write pinning on several cached;
     } in
-    let f = frame_keeps s (record s { reqs = put s.reqs i n; know = know; cache = cache }) frame (nearly s core) in
+    let f = frame_keeps s (record s { reqs = put s.reqs i n; facts = facts; cache = cache }) frame (nearly s core) in
     record {
-      blocks = calm_blocks s (record s { reqs = put s.reqs i n; know = know; cache = cache }) (calmer_plain s i r n know cache step.there step.calm step.calm_now step.may step.loose) core.blocks;
+      blocks = calm_blocks s (record s { reqs = put s.reqs i n; facts = facts; cache = cache }) (calmer_plain s i r n facts cache step.there step.calm step.calm_now step.may step.loose) core.blocks;
       tied = f.0;
-      statuses = plain_statuses s i r n know cache step.there step.calm step.calm_now step.may step.loose core.statuses;
+      statuses = plain_statuses s i r n facts cache step.there step.calm step.calm_now step.may step.loose core.statuses;
       behind = record { left_behind = core.behind.left_behind };
       notes = record { home = core.notes.home; pinned = f.2 };
       holds = f.1;
@@ -165,8 +169,8 @@ module _ (s : State) (i : ℕ) (r : Req) (phase : Phase) (several : Bool) (targe
   admit_tied : Tied new
   admit_tied = record {
     open_writes = λ j m h unlanded lv b. ⊎_elim
-        (λ (is : (j ≡ i) × (n ≡ m)). subst (λ (q : Req). write_of b (s.know lv b) (request_of s j) ≡ the_write s j q lv b) is.1
-        (subst (λ (k : ℕ). write_of b (s.know lv b) (request_of s k) ≡ the_write s k r lv b) (sym is.0) (core.tied.open_writes i r step.there un lv b)))
+        (λ (is : (j ≡ i) × (n ≡ m)). subst (λ (q : Req). write_of b (told s lv b) (request_of s j) ≡ the_write s j q lv b) is.1
+        (subst (λ (k : ℕ). write_of b (told s lv b) (request_of s k) ≡ the_write s k r lv b) (sym is.0) (core.tied.open_writes i r step.there un lv b)))
         (λ (other : IsFalse (j == i) × (s.reqs j ≡ Some m)). core.tied.open_writes j m other.1 unlanded lv b)
         (put_cases s.reqs i j n m h);
     modes = core.tied.modes;
@@ -201,7 +205,7 @@ module _ (s : State) (i : ℕ) (r : Req) (phase : Phase) (several : Bool) (targe
   live_new lv b c live = record { copy = live.copy; counts = ⊎_elim (λ (f : IsFalse (is_settled_stale s c)). inl f) (λ (k : Caught new lv (track_group_of b) c). inr (record { copy = k.copy; is_open = k.is_open; target = k.target; passed = k.passed })) live.counts }
 
   read_now : (lv b : ℕ) → IsTrue (covers r lv b) → IsFalse r.write → (c : Pp) (x : Stage) → targets c ≡ Some x
-      → IsIn (s.know lv b).values (s.media.block lv b c) × (IsTrue (s.know lv b).loose ⊎ ((e : Pp) → Live new lv b e → s.media.block lv b e ≡ s.media.block lv b c))
+      → IsIn (told s lv b).values (s.media.block lv b c) × (IsTrue (told s lv b).loose ⊎ ((e : Pp) → Live new lv b e → s.media.block lv b e ≡ s.media.block lv b c))
   read_now lv b over read c x at =
       let place = core.tied.place i r step.there lv b over in
       let u = step.usable read c x at in
@@ -216,7 +220,7 @@ module _ (s : State) (i : ℕ) (r : Req) (phase : Phase) (several : Bool) (targe
             settled.equal,
       )
     where
-      by_mode : (active : Bool) (lv b : ℕ) → MayDiffer s lv b active → (c : Pp) → Live s lv b c → IsFalse (s.missing c.disk) → IsTrue (s.know lv b).loose
+      by_mode : (active : Bool) (lv b : ℕ) → MayDiffer s lv b active → (c : Pp) → Live s lv b c → IsFalse (s.missing c.disk) → IsTrue (told s lv b).loose
       by_mode true lv b differ c live there = never (s.missing c.disk) (differ c live).0 there
       by_mode false lv b loose c live there = loose
 
@@ -237,7 +241,7 @@ module _ (s : State) (i : ℕ) (r : Req) (phase : Phase) (several : Bool) (targe
         (λ (other : IsFalse (j == i) × (s.reqs j ≡ Some m)). let h = core.holds.reads j lv b m other.1 read past over c x at in (
           h.0,
           ⊎_elim
-              (λ (loose : IsTrue (s.know lv b).loose). inl loose)
+              (λ (loose : IsTrue (told s lv b).loose). inl loose)
               (λ (equal : (g : Pp) → Live s lv b g → s.media.block lv b g ≡ s.media.block lv b c). inr (λ g live. equal g (live_new lv b g live)))
               h.1,
         ))
@@ -247,7 +251,7 @@ module _ (s : State) (i : ℕ) (r : Req) (phase : Phase) (several : Bool) (targe
         (λ (other : IsFalse (j == i) × (s.reqs j ≡ Some m)). let h = core.holds.got j lv b m value other.1 read past got over in (
           h.0,
           ⊎_elim
-              (λ (loose : IsTrue (s.know lv b).loose). inl loose)
+              (λ (loose : IsTrue (told s lv b).loose). inl loose)
               (λ (equal : (g : Pp) → Live s lv b g → s.media.block lv b g ≡ value b). inr (λ g live. equal g (live_new lv b g live)))
               h.1,
         ))
@@ -268,9 +272,9 @@ module _ (s : State) (i : ℕ) (r : Req) (phase : Phase) (several : Bool) (targe
 
   admit_core : Core new
   admit_core = record {
-    blocks = calm_blocks s (record s { reqs = put s.reqs i n; know = s.know; cache = s.cache }) (calmer_plain s i r n s.know s.cache step.there calm calm_now (λ lv b. refl) (λ lv b. refl)) core.blocks;
+    blocks = calm_blocks s (record s { reqs = put s.reqs i n; facts = s.facts; cache = s.cache }) (calmer_plain s i r n s.facts s.cache step.there calm calm_now (λ lv b. refl) (λ lv b. refl)) core.blocks;
     tied = admit_tied;
-    statuses = plain_statuses s i r n s.know s.cache step.there calm calm_now (λ lv b. refl) (λ lv b. refl) core.statuses;
+    statuses = plain_statuses s i r n s.facts s.cache step.there calm calm_now (λ lv b. refl) (λ lv b. refl) core.statuses;
     behind = record { left_behind = core.behind.left_behind };
     notes = record {
       home = core.notes.home;

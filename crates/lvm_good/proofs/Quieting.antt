@@ -11,6 +11,7 @@ use Rattle.lvm_good.specs.Core.{Core, Nearly}
 use Rattle.lvm_good.specs.Claims.{Alike, Frame, Calmer, Quiet, Rest, QuietKeeps}
 use Rattle.lvm_good.proofs.Calm.{calm_blocks}
 use Rattle.lvm_good.proofs.Framing.{frame_keeps}
+use Rattle.lvm_good.specs.State.{told}
 
 pub one_req : {a b : Req} → Some a ≡ Some b → a ≡ b
 one_req h = cc
@@ -32,8 +33,8 @@ module _ (old new : State) (quiet : Quiet old new) (was : Nearly old) where
   calmer = record {
     started = same_started;
     started_still = still_started;
-    may = λ lv b. ap (λ (k : Known). k.values) (quiet.know lv b);
-    loose = λ lv b h. ap (λ (k : Known). k.loose) (quiet.know lv b) ∙ h;
+    may = λ lv b. ap (λ (k : Known). k.values) (quiet.known_same lv b);
+    loose = λ lv b h. ap (λ (k : Known). k.loose) (quiet.known_same lv b) ∙ h;
     block = quiet.block;
     live = quiet.live;
     active = quiet.active;
@@ -48,16 +49,16 @@ module _ (old new : State) (quiet : Quiet old new) (was : Nearly old) where
   frame : Frame old new
   frame = record {
     from = λ i n there. (n, sym (quiet.reqs i) ∙ there, alike_same n);
-    writes = λ i n there unlanded lv b. λ t. write_of b (quiet.know lv b t) (quiet.run t i);
+    writes = λ i n there unlanded lv b. λ t. write_of b (quiet.known_same lv b t) (quiet.run t i);
     run = quiet.run;
-    modes = λ lv b. ap (λ (k : Known). k.mode) (quiet.know lv b);
+    modes = λ lv b. ap (λ (k : Known). k.mode) (quiet.known_same lv b);
     active = quiet.active;
     copies = quiet.copies;
-    tight = λ lv b on. ap (λ (k : Known). k.loose) (quiet.know lv b) ∙ was.tied.tight lv b (sym (quiet.active lv) ∙ on);
+    tight = λ lv b on. ap (λ (k : Known). k.loose) (quiet.known_same lv b) ∙ was.tied.tight lv b (sym (quiet.active lv) ∙ on);
     seen = λ i lv b r n v seen there past. (
-      subst (λ (k : Known). IsIn k.values v) (sym (quiet.know lv b)) seen.allowed,
+      subst (λ (k : Known). IsIn k.values v) (sym (quiet.known_same lv b)) seen.allowed,
       ⊎_elim
-          (λ (loose : IsTrue (old.know lv b).loose). inl (ap (λ (k : Known). k.loose) (quiet.know lv b) ∙ loose))
+          (λ (loose : IsTrue (told old lv b).loose). inl (ap (λ (k : Known). k.loose) (quiet.known_same lv b) ∙ loose))
           (λ (equal : (e : Pp) → Live old lv b e → old.media.block lv b e ≡ v). inr (λ e live. quiet.block lv b e ∙ equal e (quiet.live lv b e live)))
           seen.equal,
     );

@@ -9,6 +9,7 @@ use Rattle.lvm_good.specs.Core.{MayDiffer, Agree, Settled, Busy, Recorded, Block
 use Rattle.lvm_good.specs.Events.{staged, Restages, restaged}
 use Rattle.lvm_good.proofs.Small.{never}
 use Rattle.lvm_good.proofs.Requests.{decided, put_cases, put_same, put_other, staged_at, staged_was, staged_is, one_write}
+use Rattle.lvm_good.specs.State.{told}
 
 module _ (s : State) (core : Core s) (i : ℕ) (r : Req) (c : Pp) (stage : Stage) (block : ℕ → ℕ → Pp → List ℕ) (step : Restages s i r c stage block) where
   abbrev next : Req
@@ -44,7 +45,7 @@ module _ (s : State) (core : Core s) (i : ℕ) (r : Req) (c : Pp) (stage : Stage
         (λ (is : (j ≡ i) × (next ≡ e)). off (ap (λ (q : Req). covers q lv b) is.1 ∙ over))
         (λ (old : IsFalse (j == i) × Started s j e). settled.calm j e old.1 over)
         (started_cases j e started);
-    allowed = λ e live. subst (IsIn (s.know lv b).values) (sym (same_if_off lv b e off)) (settled.allowed e (live_before lv b e live));
+    allowed = λ e live. subst (IsIn (told s lv b).values) (sym (same_if_off lv b e off)) (settled.allowed e (live_before lv b e live));
     equal = equal_now off (s.is_active lv) settled.equal;
   }
     where
@@ -64,7 +65,7 @@ module _ (s : State) (core : Core s) (i : ℕ) (r : Req) (c : Pp) (stage : Stage
         aimed = λ e live. let at = busy.aimed e (live_before lv b e live) in staged_is r.targets c e stage at.0 at.1;
         value = λ e live. ⊎_elim
             (λ (same : block lv b e ≡ s.media.block lv b e). ⊎_elim
-            (λ (h : IsIn (s.know lv b).values (s.media.block lv b e)). inl (subst (IsIn (s.know lv b).values) (sym same) h))
+            (λ (h : IsIn (told s lv b).values (s.media.block lv b e)). inl (subst (IsIn (told s lv b).values) (sym same) h))
             (λ (h : s.media.block lv b e ≡ r.value b). inr (same ∙ h))
             (busy.value e (live_before lv b e live)))
             (λ (new : IsTrue (covers r lv b) × (e ≡ c) × (block lv b e ≡ r.value b)). inr new.2)
@@ -97,7 +98,7 @@ module _ (s : State) (core : Core s) (i : ℕ) (r : Req) (c : Pp) (stage : Stage
       record {
         known = busy.known;
         aimed = λ f live. busy.aimed f (live_before lv b f live);
-        value = λ f live. subst (λ (v : List ℕ). IsIn (s.know lv b).values v ⊎ (v ≡ e.value b)) (sym (same_if_off lv b f off)) (busy.value f (live_before lv b f live));
+        value = λ f live. subst (λ (v : List ℕ). IsIn (told s lv b).values v ⊎ (v ≡ e.value b)) (sym (same_if_off lv b f off)) (busy.value f (live_before lv b f live));
         well = λ f at. same_if_off lv b f off ∙ busy.well f at;
       }
 

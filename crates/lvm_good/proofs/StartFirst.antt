@@ -10,6 +10,7 @@ use Rattle.lvm_good.specs.Core.{Settled, Busy, Recorded, Blocks, Complete, Core,
 use Rattle.lvm_good.specs.Events.{MayStart, going, started_first}
 use Rattle.lvm_good.proofs.Small.{never}
 use Rattle.lvm_good.proofs.Requests.{decided, put_cases, put_same, put_other, staged_cases, staged_was, staged_is, alone, past_of}
+use Rattle.lvm_good.specs.State.{told}
 
 -- a phase isn't two
 pub not_both : {X : Type 0} (p : Phase) → p ≡ Ready → p ≡ Going → X
@@ -147,7 +148,7 @@ module _ (s : State) (core : Core s) (i : ℕ) (r : Req) (c : Pp) (may : MayStar
       let live_one : Live s lv b may.source = record { copy = back; counts = inl (fresh_settled (s.committed.value may.source) (s.missing may.source.disk) (stale_in s.in_flight may.source) may.source_usable) } in
       let at_first : (e : Pp) → IsFalse (is_settled_stale s e) ⊎ Caught s lv (track_group_of b) e → IsFalse (is_settled_stale s e) ⊎ Caught s r.lv (track_group_of r.first) e = λ e counts. ⊎_elim (λ (f : IsFalse (is_settled_stale s e)). inl f) (λ (k : Caught s lv (track_group_of b) e). inr (subst (λ (g : ℕ). Caught s r.lv g e) place.1 (subst (λ (v : ℕ). Caught s v (track_group_of b) e) place.0 k))) counts in
       record {
-        known = known_of (s.know lv b).values (s.media.block lv b may.source) (settled.allowed may.source live_one);
+        known = known_of (told s lv b).values (s.media.block lv b may.source) (settled.allowed may.source live_one);
         aimed = λ e live. staged_is r.targets c e Flying Todo (target_if_live e (copy_of e live.copy) (at_first e (live_before lv b e live).counts));
         value = λ e live. inl (settled.allowed e (live_before lv b e live));
         well = λ e is. ⊎_elim

@@ -23,6 +23,7 @@ use Rattle.lvm_good.proofs.Marking.{wants_keep, begin_keeps, commit_keeps, updat
 use Rattle.lvm_good.proofs.Noting.{start_note_keeps, end_note_keeps}
 use Rattle.lvm_good.proofs.Copying.{copy_write_keeps, open_keeps, clear_keeps}
 use Rattle.lvm_good.proofs.Finding.{status_end_keeps_found, begin_keeps_found, commit_keeps_found, update_end_keeps_found}
+use Rattle.lvm_good.specs.State.{told}
 
 -- ---- a status moves
 
@@ -37,7 +38,7 @@ module _ (s : State) (status : ℕ → Option (Stamped Marks)) (flying : ℕ →
   moved_core =
       let quiet : Quiet s moved = record {
         reqs = λ i. refl;
-        know = λ lv b. refl;
+        known_same = λ lv b. refl;
         run = refl;
         active = λ lv. refl;
         copies = λ lv b. refl;
@@ -109,7 +110,7 @@ module _ (s : State) (i : ℕ) (r : Req) (step : Takes s i r) (core : Core s) wh
         seen = λ j lv b e n v seen h past. (
           seen.allowed,
           ⊎_elim
-              (λ (loose : IsTrue (s.know lv b).loose). inl loose)
+              (λ (loose : IsTrue (told s lv b).loose). inl loose)
               (λ (equal : (g : Pp) → Live s lv b g → s.media.block lv b g ≡ v). inr (λ g live. equal g (live_taken lv b g live)))
               seen.equal,
         );
@@ -122,7 +123,7 @@ module _ (s : State) (i : ℕ) (r : Req) (step : Takes s i r) (core : Core s) wh
       record {
         blocks = calm_blocks s taken calmer core.blocks;
         tied = f.0;
-        statuses = same_statuses s core s.media.block (without s.reqs i) s.know;
+        statuses = same_statuses s core s.media.block (without s.reqs i) s.facts;
         behind = record { left_behind = core.behind.left_behind };
         notes = record { home = core.notes.home; pinned = f.2 };
         holds = f.1;
@@ -131,14 +132,14 @@ module _ (s : State) (i : ℕ) (r : Req) (step : Takes s i r) (core : Core s) wh
 -- ---- all events
 
 pub each_keeps : EachEventKeepsGood
-each_keeps votes (Submit i r know) s new step good = subst (Good votes) (sym step.1) (record { core = submit_keeps s i r know step.0 good.core; found = let f = good.found in record { set = f.set; enough = f.enough; have = f.have; only = f.only; newer = f.newer } })
+each_keeps votes (Submit i r facts) s new step good = subst (Good votes) (sym step.1) (record { core = submit_keeps s i r facts step.0 good.core; found = let f = good.found in record { set = f.set; enough = f.enough; have = f.have; only = f.only; newer = f.newer } })
 each_keeps votes (Admit i r phase several targets) s new step good = subst (Good votes) (sym step.1) (record { core = admit_keeps s i r phase several targets step.0 good.core; found = let f = good.found in record { set = f.set; enough = f.enough; have = f.have; only = f.only; newer = f.newer } })
-each_keeps votes (Change i r n know cache) s new step good = subst (Good votes) (sym step.2) (record { core = plain_keeps s i r n know cache step.0 step.1 good.core; found = let f = good.found in record { set = f.set; enough = f.enough; have = f.have; only = f.only; newer = f.newer } })
+each_keeps votes (Change i r n facts cache) s new step good = subst (Good votes) (sym step.2) (record { core = plain_keeps s i r n facts cache step.0 step.1 good.core; found = let f = good.found in record { set = f.set; enough = f.enough; have = f.have; only = f.only; newer = f.newer } })
 each_keeps votes (StartFirst i r c) s new step good = subst (Good votes) (sym step.1) (record { core = first_keeps s i r c step.0 good.core; found = let f = good.found in record { set = f.set; enough = f.enough; have = f.have; only = f.only; newer = f.newer } })
 each_keeps votes (Transfer i r c stage block) s new step good = subst (Good votes) (sym step.1) (record { core = restaging_keeps s i r c stage block step.0 good.core; found = let f = good.found in record { set = f.set; enough = f.enough; have = f.have; only = f.only; newer = f.newer } })
-each_keeps votes (LandDone i r know) s new step good = subst (Good votes) (sym step.1) (record { core = done_keeps s i r know step.0 good.core; found = let f = good.found in record { set = f.set; enough = f.enough; have = f.have; only = f.only; newer = f.newer } })
-each_keeps votes (LandLost i r know) s new step good = subst (Good votes) (sym step.1) (record { core = lost_keeps s i r know step.0 good.core; found = let f = good.found in record { set = f.set; enough = f.enough; have = f.have; only = f.only; newer = f.newer } })
-each_keeps votes (LandGot i r value know) s new step good = subst (Good votes) (sym step.1) (record { core = got_keeps s i r value know step.0 good.core; found = let f = good.found in record { set = f.set; enough = f.enough; have = f.have; only = f.only; newer = f.newer } })
+each_keeps votes (LandDone i r facts) s new step good = subst (Good votes) (sym step.1) (record { core = done_keeps s i r facts step.0 good.core; found = let f = good.found in record { set = f.set; enough = f.enough; have = f.have; only = f.only; newer = f.newer } })
+each_keeps votes (LandLost i r facts) s new step good = subst (Good votes) (sym step.1) (record { core = lost_keeps s i r facts step.0 good.core; found = let f = good.found in record { set = f.set; enough = f.enough; have = f.have; only = f.only; newer = f.newer } })
+each_keeps votes (LandGot i r value facts) s new step good = subst (Good votes) (sym step.1) (record { core = got_keeps s i r value facts step.0 good.core; found = let f = good.found in record { set = f.set; enough = f.enough; have = f.have; only = f.only; newer = f.newer } })
 each_keeps votes (Want wanted missing open_copy) s new step good = subst (Good votes) (sym step.1) (record { core = wants_keep s wanted missing open_copy step.0 (nearly s good.core); found = let f = good.found in record { set = f.set; enough = f.enough; have = f.have; only = f.only; newer = f.newer } })
 each_keeps votes (BeginUpdate u) s new step good = subst (Good votes) (sym step.1) (record { core = begin_keeps s u step.0.none step.0.value good.core; found = begin_keeps_found votes s u step.0.none step.0.later good.found })
 each_keeps votes (MoveStatus u status flying) s new step good = subst (Good votes) (sym step.1) (record { core = moved_core s status flying good.core; found = status_end_keeps_found votes s u status flying step.0.flies step.0.each good.found })

@@ -16,11 +16,13 @@ use Rattle.lvm_good.proofs.Restage.{restaged_blocks}
 use Rattle.lvm_good.proofs.Landing.{done_blocks, lost_blocks}
 use Rattle.lvm_good.proofs.Framing.{frame_keeps}
 use Rattle.lvm_good.proofs.Quieting.{nearly, alike_same}
+use Rattle.lvm_vol.specs.Facts.{Fact}
+use Rattle.lvm_good.specs.State.{told}
 
 -- only requests, blocks and the history change: the statuses and notes are as before
-module _ (s : State) (core : Core s) (block : ℕ → ℕ → Pp → List ℕ) (reqs : ℕ → Option Req) (know : ℕ → ℕ → Known) where
+module _ (s : State) (core : Core s) (block : ℕ → ℕ → Pp → List ℕ) (reqs : ℕ → Option Req) (facts : List Fact) where
   abbrev pub changed : State
-  changed = record s { media = record s.media { block = block }; reqs = reqs; know = know }
+  changed = record s { media = record s.media { block = block }; reqs = reqs; facts = facts }
 
   complete_same : (c : Pp) → Complete s c → Complete changed c
   complete_same c k = record { copy = k.copy; is_open = k.is_open; target = k.target; passed = k.passed }
@@ -109,8 +111,8 @@ restaging_keeps s i r c stage block step core =
           let same = same_block j lv b e v seen in (
             seen.allowed,
             ⊎_elim
-                (λ (loose : IsTrue (s.know lv b).loose). inl loose)
-                (λ (equal : (g : Pp) → Live s lv b g → s.media.block lv b g ≡ v). inr (λ g live. same g ∙ equal g (live_same s core block (put s.reqs i (record r { targets = staged r.targets c stage })) s.know lv b g live)))
+                (λ (loose : IsTrue (told s lv b).loose). inl loose)
+                (λ (equal : (g : Pp) → Live s lv b g → s.media.block lv b g ≡ v). inr (λ g live. same g ∙ equal g (live_same s core block (put s.reqs i (record r { targets = staged r.targets c stage })) s.facts lv b g live)))
                 seen.equal,
           );
       still = λ j lv b e m f seen h past. same_block j lv b e (s.media.block lv b f) seen f;
@@ -122,7 +124,7 @@ restaging_keeps s i r c stage block step core =
     record {
       blocks = restaged_blocks s core i r c stage block step;
       tied = f.0;
-      statuses = same_statuses s core block (put s.reqs i (record r { targets = staged r.targets c stage })) s.know;
+      statuses = same_statuses s core block (put s.reqs i (record r { targets = staged r.targets c stage })) s.facts;
       behind = record { left_behind = core.behind.left_behind };
       notes = record { home = core.notes.home; pinned = f.2 };
       holds = f.1;
@@ -156,8 +158,8 @@ first_keeps s i r c may core =
       seen = λ j lv b e m v seen h past. (
         seen.allowed,
         ⊎_elim
-            (λ (loose : IsTrue (s.know lv b).loose). inl loose)
-            (λ (equal : (g : Pp) → Live s lv b g → s.media.block lv b g ≡ v). inr (λ g live. equal g (live_same s core s.media.block (put s.reqs i (going r c)) s.know lv b g (record { copy = live.copy; counts = live_counts s i r c lv b g live }))))
+            (λ (loose : IsTrue (told s lv b).loose). inl loose)
+            (λ (equal : (g : Pp) → Live s lv b g → s.media.block lv b g ≡ v). inr (λ g live. equal g (live_same s core s.media.block (put s.reqs i (going r c)) s.facts lv b g (record { copy = live.copy; counts = live_counts s i r c lv b g live }))))
             seen.equal,
       );
       still = λ j lv b e m f seen h past. refl;
@@ -176,11 +178,11 @@ first_keeps s i r c may core =
     }
   where
     live_counts : (s : State) (i : ℕ) (r : Req) (c : Pp) (lv b : ℕ) (g : Pp) → Live (started_first s i r c) lv b g
-        → IsFalse (is_settled_stale s g) ⊎ Caught (record s { media = record s.media { block = s.media.block }; reqs = put s.reqs i (going r c); know = s.know }) lv (track_group_of b) g
+        → IsFalse (is_settled_stale s g) ⊎ Caught (record s { media = record s.media { block = s.media.block }; reqs = put s.reqs i (going r c); facts = s.facts }) lv (track_group_of b) g
     live_counts s i r c lv b g live = ⊎_elim (λ (f : IsFalse (is_settled_stale s g)). inl f) (λ (k : Caught (started_first s i r c) lv (track_group_of b) g). inr (record { copy = k.copy; is_open = k.is_open; target = k.target; passed = k.passed })) live.counts
 
     first_statuses : (s : State) (core : Core s) (i : ℕ) (r : Req) (c : Pp) → Statuses (started_first s i r c)
-    first_statuses s core i r c = let st = same_statuses s core s.media.block (put s.reqs i (going r c)) s.know in st
+    first_statuses s core i r c = let st = same_statuses s core s.media.block (put s.reqs i (going r c)) s.facts in st
 
 -- ---- landing
 
@@ -202,11 +204,11 @@ land_alike r un = record {
     off : {X : Type 0} → IsTrue (is_past Landed) → X
     off h = absurd cc
 
-module _ (s : State) (core : Core s) (i : ℕ) (r : Req) (know : ℕ → ℕ → Known) (started : Started s i r) (closes : ClosesOnly s i r know) where
+module _ (s : State) (core : Core s) (i : ℕ) (r : Req) (facts : List Fact) (started : Started s i r) (closes : ClosesOnly s i r facts) where
   un : IsFalse (has_landed r.phase)
   un = ap has_landed started.going
 
-  land_frame : Frame s (landed s i r know)
+  land_frame : Frame s (landed s i r facts)
   land_frame = record {
     from = λ j m h. from_put s core i r (land r) started.there (land_alike r un) j m h;
     writes = λ j m h unlanded lv b. ⊎_elim
@@ -226,7 +228,7 @@ module _ (s : State) (core : Core s) (i : ℕ) (r : Req) (know : ℕ → ℕ →
         let same = closes.outside lv b off in (
           subst (λ (k : Known). IsIn k.values v) (sym same) seen.allowed,
           ⊎_elim
-              (λ (loose : IsTrue (s.know lv b).loose). inl (ap (λ (k : Known). k.loose) same ∙ loose))
+              (λ (loose : IsTrue (told s lv b).loose). inl (ap (λ (k : Known). k.loose) same ∙ loose))
               (λ (equal : (g : Pp) → Live s lv b g → s.media.block lv b g ≡ v). inr (λ g live. equal g (live_land lv b g live)))
               seen.equal,
         );
@@ -236,28 +238,28 @@ module _ (s : State) (core : Core s) (i : ℕ) (r : Req) (know : ℕ → ℕ →
     cache = λ j e h write pinning on several cached. cached;
   }
     where
-      live_land : (lv b : ℕ) (g : Pp) → Live (landed s i r know) lv b g → Live s lv b g
-      live_land lv b g live = record { copy = live.copy; counts = ⊎_elim (λ (f : IsFalse (is_settled_stale s g)). inl f) (λ (k : Caught (landed s i r know) lv (track_group_of b) g). inr (record { copy = k.copy; is_open = k.is_open; target = k.target; passed = k.passed })) live.counts }
+      live_land : (lv b : ℕ) (g : Pp) → Live (landed s i r facts) lv b g → Live s lv b g
+      live_land lv b g live = record { copy = live.copy; counts = ⊎_elim (λ (f : IsFalse (is_settled_stale s g)). inl f) (λ (k : Caught (landed s i r facts) lv (track_group_of b) g). inr (record { copy = k.copy; is_open = k.is_open; target = k.target; passed = k.passed })) live.counts }
 
 pub done_keeps : DoneKeeps
-done_keeps s i r know step core =
-    let f = frame_keeps s (landed s i r know) (land_frame s core i r know step.started step.closes) (nearly s core) in
+done_keeps s i r facts step core =
+    let f = frame_keeps s (landed s i r facts) (land_frame s core i r facts step.started step.closes) (nearly s core) in
     record {
-      blocks = done_blocks s i r know step core;
+      blocks = done_blocks s i r facts step core;
       tied = f.0;
-      statuses = same_statuses s core s.media.block (put s.reqs i (land r)) know;
+      statuses = same_statuses s core s.media.block (put s.reqs i (land r)) facts;
       behind = record { left_behind = core.behind.left_behind };
       notes = record { home = core.notes.home; pinned = f.2 };
       holds = f.1;
     }
 
 pub lost_keeps : LostKeeps
-lost_keeps s i r know step core =
-    let f = frame_keeps s (landed s i r know) (land_frame s core i r know step.started step.closes) (nearly s core) in
+lost_keeps s i r facts step core =
+    let f = frame_keeps s (landed s i r facts) (land_frame s core i r facts step.started step.closes) (nearly s core) in
     record {
-      blocks = lost_blocks s i r know step core;
+      blocks = lost_blocks s i r facts step core;
       tied = f.0;
-      statuses = same_statuses s core s.media.block (put s.reqs i (land r)) know;
+      statuses = same_statuses s core s.media.block (put s.reqs i (land r)) facts;
       behind = record { left_behind = core.behind.left_behind };
       notes = record { home = core.notes.home; pinned = f.2 };
       holds = f.1;

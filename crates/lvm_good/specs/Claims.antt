@@ -9,6 +9,8 @@ use Rattle.lvm_good.specs.State.{Marks, Groups, View, OpenCopy, StepWrite, Phase
 use Rattle.lvm_good.specs.Core.{Kept, Blocks, Tied, Statuses, Holds, Core, Nearly}
 use Rattle.lvm_good.specs.Events.{MayStart, started_first, Restages, restaged, LandsDone, LandsLost, landed, Replaced, Wants, after_wants, Commits, StartsNote, EndsNote, with_names, put, with_req, Plain, Admits, admitted, LandsGot, Submits, CopyWrites, Opens, Clears, with_block}
 use Rattle.lvm_good.specs.Crash.{IsCrash, Widens, IsPossible, BlockKept}
+use Rattle.lvm_good.specs.State.{told}
+use Rattle.lvm_vol.specs.Facts.{Fact}
 
 abbrev pub FirstKeepsBlocks : Type 0
 FirstKeepsBlocks = (s : State) (i : ℕ) (r : Req) (c : Pp) → MayStart s i r c → Core s → Blocks (started_first s i r c)
@@ -17,17 +19,17 @@ abbrev pub RestagingKeepsBlocks : Type 0
 RestagingKeepsBlocks = (s : State) (i : ℕ) (r : Req) (c : Pp) (stage : Stage) (block : ℕ → ℕ → Pp → List ℕ) → Restages s i r c stage block → Core s → Blocks (restaged s i r c stage block)
 
 abbrev pub DoneKeepsBlocks : Type 0
-DoneKeepsBlocks = (s : State) (i : ℕ) (r : Req) (know : ℕ → ℕ → Known) → LandsDone s i r know → Core s → Blocks (landed s i r know)
+DoneKeepsBlocks = (s : State) (i : ℕ) (r : Req) (facts : List Fact) → LandsDone s i r facts → Core s → Blocks (landed s i r facts)
 
 abbrev pub LostKeepsBlocks : Type 0
-LostKeepsBlocks = (s : State) (i : ℕ) (r : Req) (know : ℕ → ℕ → Known) → LandsLost s i r know → Core s → Blocks (landed s i r know)
+LostKeepsBlocks = (s : State) (i : ℕ) (r : Req) (facts : List Fact) → LandsLost s i r facts → Core s → Blocks (landed s i r facts)
 
 -- Seen from the blocks, nothing gets worse: no write starts or ends its life, nothing on the copies changes, no copy becomes live.
 pub record Calmer (old new : State) : Type 0 where
   pub started : (i : ℕ) (r : Req) → Started new i r → Started old i r
   pub started_still : (i : ℕ) (r : Req) → Started old i r → Started new i r
-  pub may : (lv b : ℕ) → (new.know lv b).values ≡ (old.know lv b).values
-  pub loose : (lv b : ℕ) → IsTrue (old.know lv b).loose → IsTrue (new.know lv b).loose
+  pub may : (lv b : ℕ) → (told new lv b).values ≡ (told old lv b).values
+  pub loose : (lv b : ℕ) → IsTrue (told old lv b).loose → IsTrue (told new lv b).loose
   pub block : (lv b : ℕ) (c : Pp) → new.media.block lv b c ≡ old.media.block lv b c
   pub live : (lv b : ℕ) (c : Pp) → Live new lv b c → Live old lv b c
   pub active : (lv : ℕ) → new.is_active lv ≡ old.is_active lv
@@ -58,20 +60,20 @@ pub record Seen (s : State) (i : ℕ) (r : Req) (lv b : ℕ) (value : List ℕ) 
   pub read : IsFalse r.write
   pub past : IsTrue (is_past r.phase)
   pub over : IsTrue (covers r lv b)
-  pub allowed : IsValue (s.know lv b) value
-  pub equal : IsTrue (s.know lv b).loose ⊎ ((e : Pp) → Live s lv b e → s.media.block lv b e ≡ value)
+  pub allowed : IsValue (told s lv b) value
+  pub equal : IsTrue (told s lv b).loose ⊎ ((e : Pp) → Live s lv b e → s.media.block lv b e ≡ value)
 
 -- what an event leaves of the requests and of what reads see
 pub record Frame (old new : State) : Type 0 where
   pub from : (i : ℕ) (n : Req) → new.reqs i ≡ Some n → (r : Req) × (old.reqs i ≡ Some r) × Alike r n
-  pub writes : (i : ℕ) (n : Req) → new.reqs i ≡ Some n → IsFalse (has_landed n.phase) → (lv b : ℕ) → write_of b (new.know lv b) (request_of new i) ≡ write_of b (old.know lv b) (request_of old i)
+  pub writes : (i : ℕ) (n : Req) → new.reqs i ≡ Some n → IsFalse (has_landed n.phase) → (lv b : ℕ) → write_of b (told new lv b) (request_of new i) ≡ write_of b (told old lv b) (request_of old i)
   pub run : new.name ≡ old.name
-  pub modes : (lv b : ℕ) → (new.know lv b).mode ≡ (old.know lv b).mode
+  pub modes : (lv b : ℕ) → (told new lv b).mode ≡ (told old lv b).mode
   pub active : (lv : ℕ) → new.is_active lv ≡ old.is_active lv
   pub copies : (lv b : ℕ) → new.is_copy lv b ≡ old.is_copy lv b
-  pub tight : (lv b : ℕ) → IsTrue (new.is_active lv) → IsFalse (new.know lv b).loose
+  pub tight : (lv b : ℕ) → IsTrue (new.is_active lv) → IsFalse (told new lv b).loose
   pub seen : (i lv b : ℕ) (r n : Req) (v : List ℕ) → Seen old i r lv b v → new.reqs i ≡ Some n → IsTrue (is_past n.phase)
-      → IsValue (new.know lv b) v × (IsTrue (new.know lv b).loose ⊎ ((e : Pp) → Live new lv b e → new.media.block lv b e ≡ v))
+      → IsValue (told new lv b) v × (IsTrue (told new lv b).loose ⊎ ((e : Pp) → Live new lv b e → new.media.block lv b e ≡ v))
   pub still : (i lv b : ℕ) (r n : Req) (c : Pp) → Seen old i r lv b (old.media.block lv b c) → new.reqs i ≡ Some n → IsTrue (is_past n.phase) → new.media.block lv b c ≡ old.media.block lv b c
   pub got : (i : ℕ) (r n : Req) (value : ℕ → List ℕ) → old.reqs i ≡ Some r → new.reqs i ≡ Some n → n.got ≡ Some value
       → (r.got ≡ Some value) ⊎ ((lv b : ℕ) → IsTrue (covers n lv b) → (c : Pp) × (x : Stage) × (r.targets c ≡ Some x) × (value b ≡ old.media.block lv b c))
@@ -86,7 +88,7 @@ FrameKeeps = (old new : State) → Frame old new → Nearly old → Tied new × 
 -- Nothing changes of the requests, of the history and on the copies, and no copy becomes live.
 pub record Quiet (old new : State) : Type 0 where
   pub reqs : (i : ℕ) → new.reqs i ≡ old.reqs i
-  pub know : (lv b : ℕ) → new.know lv b ≡ old.know lv b
+  pub known_same : (lv b : ℕ) → told new lv b ≡ told old lv b
   pub run : new.name ≡ old.name
   pub active : (lv : ℕ) → new.is_active lv ≡ old.is_active lv
   pub copies : (lv b : ℕ) → new.is_copy lv b ≡ old.is_copy lv b
@@ -131,26 +133,26 @@ abbrev pub RestagingKeeps : Type 0
 RestagingKeeps = (s : State) (i : ℕ) (r : Req) (c : Pp) (stage : Stage) (block : ℕ → ℕ → Pp → List ℕ) → Restages s i r c stage block → Core s → Core (restaged s i r c stage block)
 
 abbrev pub DoneKeeps : Type 0
-DoneKeeps = (s : State) (i : ℕ) (r : Req) (know : ℕ → ℕ → Known) → LandsDone s i r know → Core s → Core (landed s i r know)
+DoneKeeps = (s : State) (i : ℕ) (r : Req) (facts : List Fact) → LandsDone s i r facts → Core s → Core (landed s i r facts)
 
 abbrev pub LostKeeps : Type 0
-LostKeeps = (s : State) (i : ℕ) (r : Req) (know : ℕ → ℕ → Known) → LandsLost s i r know → Core s → Core (landed s i r know)
+LostKeeps = (s : State) (i : ℕ) (r : Req) (facts : List Fact) → LandsLost s i r facts → Core s → Core (landed s i r facts)
 
 abbrev pub PlainKeeps : Type 0
-PlainKeeps = (s : State) (i : ℕ) (r n : Req) (know : ℕ → ℕ → Known) (cache : Groups) → Plain s i r n know cache → Alike r n → Core s → Core (record s { reqs = put s.reqs i n; know = know; cache = cache })
+PlainKeeps = (s : State) (i : ℕ) (r n : Req) (facts : List Fact) (cache : Groups) → Plain s i r n facts cache → Alike r n → Core s → Core (record s { reqs = put s.reqs i n; facts = facts; cache = cache })
 
 abbrev pub AdmitKeeps : Type 0
 AdmitKeeps = (s : State) (i : ℕ) (r : Req) (phase : Phase) (several : Bool) (targets : Pp → Option Stage) → Admits s i r phase several targets → Core s → Core (with_req s i (admitted r phase several targets))
 
 abbrev pub GotKeeps : Type 0
-GotKeeps = (s : State) (i : ℕ) (r : Req) (value : ℕ → List ℕ) (know : ℕ → ℕ → Known) → LandsGot s i r value know → Core s → Core (landed s i r know)
+GotKeeps = (s : State) (i : ℕ) (r : Req) (value : ℕ → List ℕ) (facts : List Fact) → LandsGot s i r value facts → Core s → Core (landed s i r facts)
 
 -- each value that a read lands with is one that the block may have
 abbrev pub GotIsAllowed : Type 0
-GotIsAllowed = (s : State) (i : ℕ) (r : Req) (value : ℕ → List ℕ) (know : ℕ → ℕ → Known) → LandsGot s i r value know → Core s → (lv b : ℕ) → IsTrue (covers r lv b) → IsValue (s.know lv b) (value b)
+GotIsAllowed = (s : State) (i : ℕ) (r : Req) (value : ℕ → List ℕ) (facts : List Fact) → LandsGot s i r value facts → Core s → (lv b : ℕ) → IsTrue (covers r lv b) → IsValue (told s lv b) (value b)
 
 abbrev pub SubmitKeeps : Type 0
-SubmitKeeps = (s : State) (i : ℕ) (r : Req) (know : ℕ → ℕ → Known) → Submits s i r know → Core s → Core (record s { reqs = put s.reqs i r; know = know })
+SubmitKeeps = (s : State) (i : ℕ) (r : Req) (facts : List Fact) → Submits s i r facts → Core s → Core (record s { reqs = put s.reqs i r; facts = facts })
 
 abbrev pub CopyWriteKeeps : Type 0
 CopyWriteKeeps = (s : State) (i : ℕ) (r : Req) (value : ℕ → List ℕ) (target : Pp) (open_copy : Option OpenCopy) (step_write : Option StepWrite) (block : ℕ → ℕ → Pp → List ℕ)

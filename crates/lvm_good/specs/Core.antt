@@ -6,11 +6,12 @@ use Rattle.lvm_num.specs.Record.{Stamped}
 use Rattle.lvm_vol.specs.May.{is_off, IsValue}
 use Rattle.lvm_good.specs.State.{write_of}
 use Rattle.lvm_good.specs.State.{Marks, Stage, Well, Req, OpenCopy, State, covers, request_of, has_landed, is_past, is_pinning, is_usable, Live, Named, Started}
+use Rattle.lvm_good.specs.State.{told}
 
 -- Why live copies may differ at a block where no write is under way: with notes, if the disk of each is missing and named; else if the block is loose.
 abbrev pub MayDiffer : State → ℕ → ℕ → Bool → Type 0
 MayDiffer s lv b true = (c : Pp) → Live s lv b c → IsTrue (s.missing c.disk) × Named s c.disk lv (track_group_of b)
-MayDiffer s lv b false = IsTrue (s.know lv b).loose
+MayDiffer s lv b false = IsTrue (told s lv b).loose
 
 -- the live copies hold one value
 abbrev pub Agree : State → ℕ → ℕ → Type 0
@@ -19,15 +20,15 @@ Agree s lv b = (value : List ℕ) × ((c : Pp) → Live s lv b c → s.media.blo
 -- no write that has started goes over the block
 pub record Settled (s : State) (lv b : ℕ) : Type 0 where
   pub calm : (i : ℕ) (r : Req) → Started s i r → IsTrue (covers r lv b) → ⊥
-  pub allowed : (c : Pp) → Live s lv b c → IsValue (s.know lv b) (s.media.block lv b c)
+  pub allowed : (c : Pp) → Live s lv b c → IsValue (told s lv b) (s.media.block lv b c)
   pub equal : Agree s lv b ⊎ MayDiffer s lv b (s.is_active lv)
 
 -- a write that has started goes over the block
 pub record Busy (s : State) (r : Req) (lv b : ℕ) : Type 0 where
-  pub known : (values : List (List ℕ)) × ((s.know lv b).values ≡ Some values)
+  pub known : (values : List (List ℕ)) × ((told s lv b).values ≡ Some values)
   -- it goes to each live copy, and each holds what it may hold or the new value
   pub aimed : (c : Pp) → Live s lv b c → (stage : Stage) × (r.targets c ≡ Some stage)
-  pub value : (c : Pp) → Live s lv b c → IsValue (s.know lv b) (s.media.block lv b c) ⊎ (s.media.block lv b c ≡ r.value b)
+  pub value : (c : Pp) → Live s lv b c → IsValue (told s lv b) (s.media.block lv b c) ⊎ (s.media.block lv b c ≡ r.value b)
   pub well : (c : Pp) → r.targets c ≡ Some Well → s.media.block lv b c ≡ r.value b
 
 -- a write that has started is recorded on the disk of each of its targets, or has only one
@@ -47,9 +48,9 @@ abbrev pub the_write : State → ℕ → Req → ℕ → ℕ → Option (List �
 the_write s i r lv b = if r.write && covers r lv b then Some (r.value b) else None
 
 pub record Tied (s : State) : Type 0 where
-  pub open_writes : (i : ℕ) (r : Req) → s.reqs i ≡ Some r → IsFalse (has_landed r.phase) → (lv b : ℕ) → write_of b (s.know lv b) (request_of s i) ≡ the_write s i r lv b
-  pub modes : (lv b : ℕ) → IsFalse (s.is_active lv) → IsTrue (is_off (s.know lv b).mode)
-  pub tight : (lv b : ℕ) → IsTrue (s.is_active lv) → IsFalse (s.know lv b).loose
+  pub open_writes : (i : ℕ) (r : Req) → s.reqs i ≡ Some r → IsFalse (has_landed r.phase) → (lv b : ℕ) → write_of b (told s lv b) (request_of s i) ≡ the_write s i r lv b
+  pub modes : (lv b : ℕ) → IsFalse (s.is_active lv) → IsTrue (is_off (told s lv b).mode)
+  pub tight : (lv b : ℕ) → IsTrue (s.is_active lv) → IsFalse (told s lv b).loose
   -- a partition is a copy of one logical partition
   pub owner : (lv b l d : ℕ) (c e : Pp) → IsTrue (s.is_copy lv b c) → IsTrue (s.is_copy l d c) → IsTrue (s.is_copy l d e) → IsTrue (s.is_copy lv b e)
   pub inside : (i : ℕ) (r : Req) → s.reqs i ≡ Some r → (lv b : ℕ) → IsTrue (covers r lv b) → (c : Pp) × IsTrue (s.is_copy lv b c)
@@ -103,10 +104,10 @@ pub record Holds (s : State) : Type 0 where
   pub order : (i j : ℕ) (r e : Req) → s.reqs i ≡ Some r → s.reqs j ≡ Some e → j < i → Conflict e r → IsTrue (is_past r.phase) → IsTrue (has_landed e.phase)
   -- a read that was admitted: the copies of its order hold what the live copies hold
   pub reads : (i lv b : ℕ) (r : Req) → s.reqs i ≡ Some r → IsFalse r.write → IsTrue (is_past r.phase) → IsTrue (covers r lv b) → (c : Pp) (stage : Stage) → r.targets c ≡ Some stage
-      → IsValue (s.know lv b) (s.media.block lv b c) × (IsTrue (s.know lv b).loose ⊎ ((e : Pp) → Live s lv b e → s.media.block lv b e ≡ s.media.block lv b c))
+      → IsValue (told s lv b) (s.media.block lv b c) × (IsTrue (told s lv b).loose ⊎ ((e : Pp) → Live s lv b e → s.media.block lv b e ≡ s.media.block lv b c))
   -- and what it got is allowed, and what the live copies hold
   pub got : (i lv b : ℕ) (r : Req) (value : ℕ → List ℕ) → s.reqs i ≡ Some r → IsFalse r.write → IsTrue (is_past r.phase) → r.got ≡ Some value → IsTrue (covers r lv b)
-      → IsValue (s.know lv b) (value b) × (IsTrue (s.know lv b).loose ⊎ ((e : Pp) → Live s lv b e → s.media.block lv b e ≡ value b))
+      → IsValue (told s lv b) (value b) × (IsTrue (told s lv b).loose ⊎ ((e : Pp) → Live s lv b e → s.media.block lv b e ≡ value b))
 
 pub record Core (s : State) : Type 0 where
   pub blocks : Blocks s

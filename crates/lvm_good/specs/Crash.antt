@@ -6,6 +6,7 @@ use Rattle.lvm_num.specs.Record.{Stamped}
 use Rattle.lvm_vol.specs.May.{Known, cut, IsValue}
 use Rattle.lvm_good.specs.State.{Marks, Groups, View, Flying, Req, StepWrite, State, covers, is_past, Started}
 use Rattle.lvm_good.specs.Core.{Core}
+use Rattle.lvm_good.specs.State.{told}
 
 -- a write flies to this copy and brings the value to the block
 pub record Brings (s : State) (lv b : ℕ) (c : Pp) (value : List ℕ) : Type 0 where
@@ -60,14 +61,14 @@ IsPossible s marks = (marks ≡ s.committed.value) ⊎ ((u : Stamped Marks) × (
 
 -- what is known afterwards allows at least what is known now, and what the writes bring that have started
 pub record Widens (s : State) (after : ℕ → ℕ → Known) : Type 0 where
-  pub old : (lv b : ℕ) (value : List ℕ) → IsValue (s.know lv b) value → IsValue (after lv b) value
+  pub old : (lv b : ℕ) (value : List ℕ) → IsValue (told s lv b) value → IsValue (after lv b) value
   pub new : (i lv b : ℕ) (r : Req) → Started s i r → IsTrue (covers r lv b) → IsValue (after lv b) (r.value b)
-  pub loose : (lv b : ℕ) → IsTrue (s.know lv b).loose → IsTrue (after lv b).loose
+  pub loose : (lv b : ℕ) → IsTrue (told s lv b).loose → IsTrue (after lv b).loose
   pub started : (i lv b : ℕ) (r : Req) → Started s i r → IsTrue (covers r lv b) → IsFalse (s.is_active lv) → IsTrue (after lv b).loose
 
 -- Each crash image agrees with the history, whichever status is found.
 abbrev pub EachKept : State → Type 0
-EachKept s = (v : View) (marks : Marks) (lv b : ℕ) → IsCrash s v → IsPossible s marks → BlockKept s v marks (cut b (s.know lv b)) lv b
+EachKept s = (v : View) (marks : Marks) (lv b : ℕ) → IsCrash s v → IsPossible s marks → BlockKept s v marks (cut b (told s lv b)) lv b
 
 abbrev pub CoreIsKept : Type 0
 CoreIsKept = (s : State) → Core s → EachKept s

@@ -7,6 +7,10 @@ use Rattle.lvm_vol.specs.May.{Known, IsValue}
 use Rattle.lvm_good.specs.State.{write_of}
 use Rattle.lvm_good.specs.State.{Marks, Groups, View, Stage, Todo, Flying, Well, Phase, Held, WantEntry, Ready, Going, Landed, Req, OpenCopy, Caught, State, covers, request_of, has_landed, is_past, is_pinning, is_settled_stale, is_usable, Started}
 use Rattle.lvm_good.specs.Core.{Conflict, Complete, the_write}
+use Rattle.lvm_good.specs.State.{told}
+use Rattle.lvm_vol.specs.declared.entry.Vol.TheVariants.{Lv}
+use Rattle.lvm_vol.specs.May.{known}
+use Rattle.lvm_vol.specs.Facts.{Fact}
 
 -- the request of this number is now this one
 abbrev pub put : (ℕ → Option Req) → ℕ → Req → ℕ → Option Req
@@ -67,18 +71,18 @@ restaged s i r c stage block = record s { media = with_block s.media block; reqs
 -- ---- landing
 
 -- what landing changes of what is known: nothing where the request doesn't go, and at the others no mode
-pub record ClosesOnly (s : State) (i : ℕ) (r : Req) (know : ℕ → ℕ → Known) : Type 0 where
-  pub outside : (lv b : ℕ) → IsFalse (covers r lv b) → know lv b ≡ s.know lv b
-  pub modes : (lv b : ℕ) → (know lv b).mode ≡ (s.know lv b).mode
-  pub tight : (lv b : ℕ) → IsTrue (s.is_active lv) → IsFalse (know lv b).loose
+pub record ClosesOnly (s : State) (i : ℕ) (r : Req) (facts : List Fact) : Type 0 where
+  pub outside : (lv b : ℕ) → IsFalse (covers r lv b) → known facts (Lv lv) b ≡ told s lv b
+  pub modes : (lv b : ℕ) → (known facts (Lv lv) b).mode ≡ (told s lv b).mode
+  pub tight : (lv b : ℕ) → IsTrue (s.is_active lv) → IsFalse (known facts (Lv lv) b).loose
   -- the other open writes stay
-  pub others : (lv b j : ℕ) → IsFalse (j == i) → write_of b (know lv b) (request_of s j) ≡ write_of b (s.know lv b) (request_of s j)
+  pub others : (lv b j : ℕ) → IsFalse (j == i) → write_of b (known facts (Lv lv) b) (request_of s j) ≡ write_of b (told s lv b) (request_of s j)
 
 abbrev pub land : Req → Req
 land r = record r { phase = Landed }
 
-abbrev pub landed : State → ℕ → Req → (ℕ → ℕ → Known) → State
-landed s i r know = record s { reqs = put s.reqs i (land r); know = know }
+abbrev pub landed : State → ℕ → Req → List Fact → State
+landed s i r facts = record s { reqs = put s.reqs i (land r); facts = facts }
 
 -- the copy is stale by what is committed and under way, and isn't being brought up, or not so far
 pub record IsDropped (s : State) (r : Req) (c : Pp) : Type 0 where
@@ -86,19 +90,19 @@ pub record IsDropped (s : State) (r : Req) (c : Pp) : Type 0 where
   pub uncaught : Caught s r.lv (track_group_of r.first) c → ⊥
 
 -- a write lands as Done once each of its targets has succeeded or is stale by what is committed and under way
-pub record LandsDone (s : State) (i : ℕ) (r : Req) (know : ℕ → ℕ → Known) : Type 0 where
+pub record LandsDone (s : State) (i : ℕ) (r : Req) (facts : List Fact) : Type 0 where
   pub started : Started s i r
   pub ended : (c : Pp) (stage : Stage) → r.targets c ≡ Some stage → (stage ≡ Well) ⊎ IsDropped s r c
-  pub closes : ClosesOnly s i r know
-  pub may : (lv b : ℕ) → IsTrue (covers r lv b) → (know lv b).values ≡ Some (r.value b ∷ [])
+  pub closes : ClosesOnly s i r facts
+  pub may : (lv b : ℕ) → IsTrue (covers r lv b) → (known facts (Lv lv) b).values ≡ Some (r.value b ∷ [])
 
 -- a write lands as Lost once each of its targets but one is stale by what is committed and under way
-pub record LandsLost (s : State) (i : ℕ) (r : Req) (know : ℕ → ℕ → Known) : Type 0 where
+pub record LandsLost (s : State) (i : ℕ) (r : Req) (facts : List Fact) : Type 0 where
   pub started : Started s i r
   pub kept : Pp
   pub ended : (c : Pp) (stage : Stage) → r.targets c ≡ Some stage → (c ≡ kept) ⊎ IsDropped s r c
-  pub closes : ClosesOnly s i r know
-  pub may : (lv b : ℕ) → IsTrue (covers r lv b) → (value : List ℕ) → IsValue (s.know lv b) value ⊎ (((values : List (List ℕ)) × ((s.know lv b).values ≡ Some values)) × (value ≡ r.value b)) → IsValue (know lv b) value
+  pub closes : ClosesOnly s i r facts
+  pub may : (lv b : ℕ) → IsTrue (covers r lv b) → (value : List ℕ) → IsValue (told s lv b) value ⊎ (((values : List (List ℕ)) × ((told s lv b).values ≡ Some values)) × (value ≡ r.value b)) → IsValue (known facts (Lv lv) b) value
 
 -- ---- statuses
 
@@ -155,14 +159,14 @@ pub record EndsNote (s : State) (d : ℕ) (names home : ℕ → Groups) (flying 
 -- ---- requests
 
 -- A request that isn't a write under way changes: it is pinned, a read starts or ends a transfer, or it lands without a value.
-pub record Plain (s : State) (i : ℕ) (r n : Req) (know : ℕ → ℕ → Known) (cache : Groups) : Type 0 where
+pub record Plain (s : State) (i : ℕ) (r n : Req) (facts : List Fact) (cache : Groups) : Type 0 where
   pub there : s.reqs i ≡ Some r
   pub calm : IsTrue r.write → r.phase ≡ Going → ⊥
   pub calm_now : IsTrue n.write → n.phase ≡ Going → ⊥
-  pub may : (lv b : ℕ) → (know lv b).values ≡ (s.know lv b).values
-  pub loose : (lv b : ℕ) → (know lv b).loose ≡ (s.know lv b).loose
-  pub modes : (lv b : ℕ) → (know lv b).mode ≡ (s.know lv b).mode
-  pub writes : (lv b j : ℕ) → IsFalse (j == i) ⊎ IsFalse (has_landed n.phase) → write_of b (know lv b) (request_of s j) ≡ write_of b (s.know lv b) (request_of s j)
+  pub may : (lv b : ℕ) → (known facts (Lv lv) b).values ≡ (told s lv b).values
+  pub loose : (lv b : ℕ) → (known facts (Lv lv) b).loose ≡ (told s lv b).loose
+  pub modes : (lv b : ℕ) → (known facts (Lv lv) b).mode ≡ (told s lv b).mode
+  pub writes : (lv b j : ℕ) → IsFalse (j == i) ⊎ IsFalse (has_landed n.phase) → write_of b (known facts (Lv lv) b) (request_of s j) ≡ write_of b (told s lv b) (request_of s j)
   -- what a read gets is what one of its copies holds
   pub got : (value : ℕ → List ℕ) → n.got ≡ Some value → (r.got ≡ Some value) ⊎ ((lv b : ℕ) → IsTrue (covers n lv b) → (c : Pp) × (x : Stage) × (r.targets c ≡ Some x) × (value b ≡ s.media.block lv b c))
   pub pinning : IsTrue n.write → IsTrue (is_pinning n.phase) → IsTrue (s.is_active n.lv) → IsTrue n.several → IsTrue (is_pinning r.phase) ⊎ IsTrue (cache n.lv (track_group_of n.first))
@@ -180,24 +184,24 @@ pub record Admits (s : State) (i : ℕ) (r : Req) (phase : Phase) (several : Boo
   pub usable : IsFalse r.write → (c : Pp) (x : Stage) → targets c ≡ Some x → IsTrue (s.is_copy r.lv r.first c) × IsTrue (is_usable s c)
 
 -- a read lands with what it got
-pub record LandsGot (s : State) (i : ℕ) (r : Req) (value : ℕ → List ℕ) (know : ℕ → ℕ → Known) : Type 0 where
+pub record LandsGot (s : State) (i : ℕ) (r : Req) (value : ℕ → List ℕ) (facts : List Fact) : Type 0 where
   pub there : s.reqs i ≡ Some r
   pub read : IsFalse r.write
   pub past : IsTrue (is_past r.phase)
   pub got : r.got ≡ Some value
-  pub closes : ClosesOnly s i r know
-  pub loose : (lv b : ℕ) → IsTrue (s.know lv b).loose → know lv b ≡ s.know lv b
-  pub tight : (lv b : ℕ) → IsTrue (covers r lv b) → IsFalse (s.know lv b).loose → (know lv b).values ≡ Some (value b ∷ [])
+  pub closes : ClosesOnly s i r facts
+  pub loose : (lv b : ℕ) → IsTrue (told s lv b).loose → known facts (Lv lv) b ≡ told s lv b
+  pub tight : (lv b : ℕ) → IsTrue (covers r lv b) → IsFalse (told s lv b).loose → (known facts (Lv lv) b).values ≡ Some (value b ∷ [])
 
 -- a request begins
-pub record Submits (s : State) (i : ℕ) (r : Req) (know : ℕ → ℕ → Known) : Type 0 where
+pub record Submits (s : State) (i : ℕ) (r : Req) (facts : List Fact) : Type 0 where
   pub held : r.phase ≡ Held
   pub newest : (j : ℕ) (e : Req) → s.reqs j ≡ Some e → j < i
-  pub may : (lv b : ℕ) → (know lv b).values ≡ (s.know lv b).values
-  pub loose : (lv b : ℕ) → (know lv b).loose ≡ (s.know lv b).loose
-  pub modes : (lv b : ℕ) → (know lv b).mode ≡ (s.know lv b).mode
-  pub own : (lv b : ℕ) → write_of b (know lv b) (request_of s i) ≡ the_write s i r lv b
-  pub others : (lv b j : ℕ) → IsFalse (j == i) → write_of b (know lv b) (request_of s j) ≡ write_of b (s.know lv b) (request_of s j)
+  pub may : (lv b : ℕ) → (known facts (Lv lv) b).values ≡ (told s lv b).values
+  pub loose : (lv b : ℕ) → (known facts (Lv lv) b).loose ≡ (told s lv b).loose
+  pub modes : (lv b : ℕ) → (known facts (Lv lv) b).mode ≡ (told s lv b).mode
+  pub own : (lv b : ℕ) → write_of b (known facts (Lv lv) b) (request_of s i) ≡ the_write s i r lv b
+  pub others : (lv b j : ℕ) → IsFalse (j == i) → write_of b (known facts (Lv lv) b) (request_of s j) ≡ write_of b (told s lv b) (request_of s j)
   pub place : (lv b : ℕ) → IsTrue (covers r lv b) → (lv ≡ r.lv) × (track_group_of b ≡ track_group_of r.first) × (s.is_copy r.lv b ≡ s.is_copy r.lv r.first)
   pub inside : (lv b : ℕ) → IsTrue (covers r lv b) → (c : Pp) × IsTrue (s.is_copy lv b c)
 

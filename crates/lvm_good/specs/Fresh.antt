@@ -3,16 +3,18 @@ use Rattle.std.specs.Prelude.{true, false, ◌&&◌, ◌||◌, ◌==◌, [], ◌
 use Rattle.lvm_num.specs.declared.descriptor.Mode.TheVariants.{Active}
 use Rattle.lvm_num.specs.Buffer.{zero_sector}
 use Rattle.lvm_vol.specs.declared.entry.Vol.TheVariants.{Lv}
+use Rattle.lvm_vol.specs.Facts.{Making, Made}
 use Rattle.lvm_good.specs.State.{State}
 use Rattle.lvm_good.specs.Core.{Core}
+use Rattle.std.specs.Prelude.{nat_lt}
 
 abbrev pub at_first : State
 at_first = record {
   media = record { block = λ lv b c. zero_sector; names = λ d lv g. false; status = λ d. None };
   reqs = λ i. None;
-  know = λ lv b. record { values = Some (zero_sector ∷ []); open_writes = []; loose = false; mode = Active };
+  facts = Making 1 2048 Active ∷ Made 1 ∷ [];
   name = λ i. record { run = 1; id = i; client = 0; vol = Lv 1; at = 0; count = 0; write = false; blocks = [] };
-  is_copy = λ lv b c. lv == 1 && (c.pp == 0 && (c.disk == 0 || c.disk == 1));
+  is_copy = λ lv b c. (1 == lv && nat_lt b 2048) && (c.pp == 0 && (c.disk == 0 || c.disk == 1));
   is_active = λ lv. true;
   committed = record { stamp = record { epoch = 1; seq = 1 }; value = λ c. false };
   in_flight = None;

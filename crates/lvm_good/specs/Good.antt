@@ -9,6 +9,7 @@ use Rattle.lvm_good.specs.Events.{put, with_req, MayStart, started_first, Restag
 use Rattle.lvm_good.specs.Found.{Votes, Found, with_status}
 use Rattle.lvm_good.specs.Crash.{EachKept}
 use Rattle.lvm_good.specs.Claims.{Alike}
+use Rattle.lvm_vol.specs.Facts.{Fact}
 
 pub record Good (votes : Votes) (s : State) : Type 0 where
   pub core : Core s
@@ -20,14 +21,14 @@ without reqs i j = if j == i then None else reqs j
 -- An event, with what it brings along. Each is one call, but that the marks which the end of a transfer or a commit entails
 -- are made in the same call, by a Want behind it.
 pub data Event : Type 0 where
-  Submit : (i : ℕ) (r : Req) (know : ℕ → ℕ → Known) → Event
+  Submit : (i : ℕ) (r : Req) (facts : List Fact) → Event
   Admit : (i : ℕ) (r : Req) (phase : Phase) (several : Bool) (targets : Pp → Option Stage) → Event
-  Change : (i : ℕ) (r n : Req) (know : ℕ → ℕ → Known) (cache : Groups) → Event
+  Change : (i : ℕ) (r n : Req) (facts : List Fact) (cache : Groups) → Event
   StartFirst : (i : ℕ) (r : Req) (c : Pp) → Event
   Transfer : (i : ℕ) (r : Req) (c : Pp) (stage : Stage) (block : ℕ → ℕ → Pp → List ℕ) → Event
-  LandDone : (i : ℕ) (r : Req) (know : ℕ → ℕ → Known) → Event
-  LandLost : (i : ℕ) (r : Req) (know : ℕ → ℕ → Known) → Event
-  LandGot : (i : ℕ) (r : Req) (value : ℕ → List ℕ) (know : ℕ → ℕ → Known) → Event
+  LandDone : (i : ℕ) (r : Req) (facts : List Fact) → Event
+  LandLost : (i : ℕ) (r : Req) (facts : List Fact) → Event
+  LandGot : (i : ℕ) (r : Req) (value : ℕ → List ℕ) (facts : List Fact) → Event
   Want : (wanted : Marks) (missing : ℕ → Bool) (open_copy : Option OpenCopy) → Event
   BeginUpdate : (u : Stamped Marks) → Event
   MoveStatus : (u : Stamped Marks) (status : ℕ → Option (Stamped Marks)) (flying : ℕ → Bool) → Event
@@ -60,14 +61,14 @@ pub record Takes (s : State) (i : ℕ) (r : Req) : Type 0 where
   pub landed : IsTrue (has_landed r.phase)
 
 abbrev pub Step : Votes → Event → State → State → Type 0
-Step votes (Submit i r know) s new = Submits s i r know × (new ≡ record s { reqs = put s.reqs i r; know = know })
+Step votes (Submit i r facts) s new = Submits s i r facts × (new ≡ record s { reqs = put s.reqs i r; facts = facts })
 Step votes (Admit i r phase several targets) s new = Admits s i r phase several targets × (new ≡ with_req s i (admitted r phase several targets))
-Step votes (Change i r n know cache) s new = Plain s i r n know cache × Alike r n × (new ≡ record s { reqs = put s.reqs i n; know = know; cache = cache })
+Step votes (Change i r n facts cache) s new = Plain s i r n facts cache × Alike r n × (new ≡ record s { reqs = put s.reqs i n; facts = facts; cache = cache })
 Step votes (StartFirst i r c) s new = MayStart s i r c × (new ≡ started_first s i r c)
 Step votes (Transfer i r c stage block) s new = Restages s i r c stage block × (new ≡ restaged s i r c stage block)
-Step votes (LandDone i r know) s new = LandsDone s i r know × (new ≡ landed s i r know)
-Step votes (LandLost i r know) s new = LandsLost s i r know × (new ≡ landed s i r know)
-Step votes (LandGot i r value know) s new = LandsGot s i r value know × (new ≡ landed s i r know)
+Step votes (LandDone i r facts) s new = LandsDone s i r facts × (new ≡ landed s i r facts)
+Step votes (LandLost i r facts) s new = LandsLost s i r facts × (new ≡ landed s i r facts)
+Step votes (LandGot i r value facts) s new = LandsGot s i r value facts × (new ≡ landed s i r facts)
 Step votes (Want wanted missing open_copy) s new = Wants s wanted missing open_copy × (new ≡ after_wants s wanted missing open_copy)
 Step votes (BeginUpdate u) s new = Begins s u × (new ≡ record s { in_flight = Some u })
 Step votes (MoveStatus u status flying) s new = Moves s u status × (new ≡ record s { media = with_status s.media status; status_flying = flying })

@@ -6,6 +6,9 @@ use Rattle.lvm_num.specs.Record.{Stamped}
 use Rattle.lvm_vol.specs.Facts.{Request, same_request, block_of}
 use Rattle.lvm_vol.specs.May.{Known}
 use Rattle.lvm_num.specs.Buffer.{Sector}
+use Rattle.lvm_vol.specs.declared.entry.Vol.TheVariants.{Lv}
+use Rattle.lvm_vol.specs.May.{known}
+use Rattle.lvm_vol.specs.Facts.{Fact}
 
 -- which partitions a status calls stale
 abbrev pub Marks : Type 0
@@ -62,7 +65,7 @@ pub record StepWrite : Type 0 where
 pub record State : Type 0 where
   pub media : View
   pub reqs : ℕ → Option Req
-  pub know : ℕ → ℕ → Known
+  pub facts : List Fact
   -- the names of the places of the queue in the history (a copy step's is none of the history's)
   pub name : ℕ → Request
   -- the copies of the logical partition of a block of a volume, and whether the volume keeps notes
@@ -88,6 +91,10 @@ write_in b writes request = option_map (λ (w : Request). block_of w.blocks w.at
 
 abbrev pub write_of : ℕ → Known → Request → Option Sector
 write_of b k request = write_in b k.open_writes request
+
+-- what is known of a block of a volume
+abbrev pub told : State → ℕ → ℕ → Known
+told s lv b = known s.facts (Lv lv) b
 
 -- the request of this number in the history
 abbrev pub request_of : State → ℕ → Request
