@@ -26,7 +26,7 @@ going_not_landed r e = ap has_landed e
 
 module _ (s : State) (core : Core s) where
   pub is_open : (i : ℕ) (r : Req) (lv b : ℕ) → Started s i r → IsTrue (covers r lv b) → write_of b (told s lv b) (request_of s i) ≡ Some (r.value b)
-  is_open i r lv b started over = core.tied.open_writes i r started.there (going_not_landed r started.going) lv b ∙ the_write_is r.write (covers r lv b) (r.value b) started.write over
+  is_open i r lv b started over = core.tied.open_writes i r started.there started.write (going_not_landed r started.going) lv b ∙ the_write_is r.write (covers r lv b) (r.value b) started.write over
 
   pub new_value_in : (i : ℕ) (r : Req) (lv b : ℕ) → Started s i r → IsTrue (covers r lv b) → IsIn (cut b (told s lv b)).values (r.value b)
   new_value_in i r lv b started over =

@@ -47,7 +47,7 @@ first_is_core = record {
     recorded = λ i lv b r started over. nothing r started.there;
   };
   tied = record {
-    open_writes = λ i r there un lv b. nothing r there;
+    open_writes = λ i r there write un lv b. nothing r there;
     modes = λ lv b off. not_either off;
     tight = λ lv b on. not_loose (1 == lv && nat_lt b 2048);
     owner = λ lv b l d c e x y z. both (1 == lv && nat_lt b 2048) (e.pp == 0 && (e.disk == 0 || e.disk == 1)) (left (1 == lv && nat_lt b 2048) (c.pp == 0 && (c.disk == 0 || c.disk == 1)) x) (right (1 == l && nat_lt d 2048) (e.pp == 0 && (e.disk == 0 || e.disk == 1)) z);

@@ -28,9 +28,9 @@ module _ (old new : State) (frame : Frame old new) (core : Nearly old) where
 
   pub tied : Tied new
   tied = record {
-    open_writes = λ i n there unlanded lv b.
+    open_writes = λ i n there write unlanded lv b.
         let f = frame.from i n there in
-        frame.writes i n there unlanded lv b ∙ core.tied.open_writes i f.0 f.1 (f.2.unlanded unlanded) lv b
+        frame.writes i n there write unlanded lv b ∙ core.tied.open_writes i f.0 f.1 (sym f.2.write ∙ write) (f.2.unlanded unlanded) lv b
         ∙ sym (same_write n.write f.0.write (covers n lv b) (covers f.0 lv b) (n.value b) (f.0.value b) f.2.write (f.2.over lv b) (f.2.value b));
     modes = λ lv b off. ap is_off (frame.modes lv b) ∙ core.tied.modes lv b (sym (frame.active lv) ∙ off);
     tight = frame.tight;

@@ -126,9 +126,9 @@ module _ (s : State) (i : ℕ) (r : Req) (value : ℕ → List ℕ) (facts : Lis
   got_frame : Frame s new
   got_frame = record {
     from = λ j m h. from_put s core i r (land r) step.there (land_alike r un) j m h;
-    writes = λ j m h unlanded lv b. ⊎_elim
+    writes = λ j m h write unlanded lv b. ⊎_elim
         (λ (is : (j ≡ i) × (land r ≡ m)). never (has_landed m.phase) (ap (λ (q : Req). has_landed q.phase) (sym is.1)) unlanded)
-        (λ (other : IsFalse (j == i) × (s.reqs j ≡ Some m)). step.closes.others lv b j other.0)
+        (λ (other : IsFalse (j == i) × (s.reqs j ≡ Some m)). step.closes.others lv b j m other.1 write other.0)
         (put_cases s.reqs i j (land r) m h);
     run = refl;
     modes = step.closes.modes;
@@ -219,10 +219,10 @@ module _ (s : State) (i : ℕ) (r : Req) (facts : List Fact) (step : Submits s i
 
   submit_tied : Tied next
   submit_tied = record {
-    open_writes = λ j m h unlanded lv b. ⊎_elim
+    open_writes = λ j m h write unlanded lv b. ⊎_elim
         (λ (is : (j ≡ i) × (r ≡ m)). subst (λ (q : Req). write_of b (known facts (Lv lv) b) (request_of s j) ≡ the_write s j q lv b) is.1
-        (subst (λ (k : ℕ). write_of b (known facts (Lv lv) b) (request_of s k) ≡ the_write s k r lv b) (sym is.0) (step.own lv b)))
-        (λ (other : IsFalse (j == i) × (s.reqs j ≡ Some m)). step.others lv b j other.0 ∙ core.tied.open_writes j m other.1 unlanded lv b)
+        (subst (λ (k : ℕ). write_of b (known facts (Lv lv) b) (request_of s k) ≡ the_write s k r lv b) (sym is.0) (step.own (ap (λ (q : Req). q.write) is.1 ∙ write) lv b)))
+        (λ (other : IsFalse (j == i) × (s.reqs j ≡ Some m)). step.others lv b j m other.1 write other.0 ∙ core.tied.open_writes j m other.1 write unlanded lv b)
         (put_cases s.reqs i j r m h);
     modes = λ lv b off. ap is_off (step.modes lv b) ∙ core.tied.modes lv b off;
     tight = λ lv b on. step.loose lv b ∙ core.tied.tight lv b on;

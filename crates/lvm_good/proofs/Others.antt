@@ -82,10 +82,10 @@ pub plain_keeps : PlainKeeps
 plain_keeps s i r n facts cache step alike core =
     let frame : Frame s (record s { reqs = put s.reqs i n; facts = facts; cache = cache }) = record {
       from = λ j m h. from_put s core i r n step.there alike j m h;
-      writes = λ j m h unlanded lv b. step.writes lv b j (⊎_elim
-          (λ (is : (j ≡ i) × (n ≡ m)). inr (ap (λ (q : Req). has_landed q.phase) is.1 ∙ unlanded))
-          (λ (other : IsFalse (j == i) × (s.reqs j ≡ Some m)). inl other.0)
-          (put_cases s.reqs i j n m h));
+      writes = λ j m h write unlanded lv b. ⊎_elim
+          (λ (is : (j ≡ i) × (n ≡ m)). step.writes lv b j r (ap s.reqs is.0 ∙ step.there) (sym alike.write ∙ ap (λ (q : Req). q.write) is.1 ∙ write) (inr (ap (λ (q : Req). has_landed q.phase) is.1 ∙ unlanded)))
+          (λ (other : IsFalse (j == i) × (s.reqs j ≡ Some m)). step.writes lv b j m other.1 write (inl other.0))
+          (put_cases s.reqs i j n m h);
       run = refl;
       modes = step.modes;
       active = λ lv. refl;
@@ -168,10 +168,10 @@ module _ (s : State) (i : ℕ) (r : Req) (phase : Phase) (several : Bool) (targe
 
   admit_tied : Tied new
   admit_tied = record {
-    open_writes = λ j m h unlanded lv b. ⊎_elim
+    open_writes = λ j m h write unlanded lv b. ⊎_elim
         (λ (is : (j ≡ i) × (n ≡ m)). subst (λ (q : Req). write_of b (told s lv b) (request_of s j) ≡ the_write s j q lv b) is.1
-        (subst (λ (k : ℕ). write_of b (told s lv b) (request_of s k) ≡ the_write s k r lv b) (sym is.0) (core.tied.open_writes i r step.there un lv b)))
-        (λ (other : IsFalse (j == i) × (s.reqs j ≡ Some m)). core.tied.open_writes j m other.1 unlanded lv b)
+        (subst (λ (k : ℕ). write_of b (told s lv b) (request_of s k) ≡ the_write s k r lv b) (sym is.0) (core.tied.open_writes i r step.there (ap (λ (q : Req). q.write) is.1 ∙ write) un lv b)))
+        (λ (other : IsFalse (j == i) × (s.reqs j ≡ Some m)). core.tied.open_writes j m other.1 write unlanded lv b)
         (put_cases s.reqs i j n m h);
     modes = core.tied.modes;
     tight = core.tied.tight;

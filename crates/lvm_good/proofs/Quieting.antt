@@ -49,7 +49,7 @@ module _ (old new : State) (quiet : Quiet old new) (was : Nearly old) where
   frame : Frame old new
   frame = record {
     from = λ i n there. (n, sym (quiet.reqs i) ∙ there, alike_same n);
-    writes = λ i n there unlanded lv b. λ t. write_of b (quiet.known_same lv b t) (quiet.run t i);
+    writes = λ i n there write unlanded lv b. λ t. write_of b (quiet.known_same lv b t) (quiet.run t i);
     run = quiet.run;
     modes = λ lv b. ap (λ (k : Known). k.mode) (quiet.known_same lv b);
     active = quiet.active;

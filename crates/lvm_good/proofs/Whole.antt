@@ -101,7 +101,7 @@ module _ (s : State) (i : ℕ) (r : Req) (step : Takes s i r) (core : Core s) wh
       } in
       let frame : Frame s taken = record {
         from = λ j n h. (n, before j n h, alike_same n);
-        writes = λ j n h unlanded lv b. refl;
+        writes = λ j n h write unlanded lv b. refl;
         run = refl;
         modes = λ lv b. refl;
         active = λ lv. refl;

@@ -101,7 +101,7 @@ restaging_keeps s i r c stage block step core =
     (step.media lv b g) in
     let frame : Frame s (restaged s i r c stage block) = record {
       from = λ j m h. from_put s core i r (record r { targets = staged r.targets c stage }) step.started.there alike j m h;
-      writes = λ j m h unlanded lv b. refl;
+      writes = λ j m h write unlanded lv b. refl;
       run = refl;
       modes = λ lv b. refl;
       active = λ lv. refl;
@@ -149,7 +149,7 @@ pub first_keeps : FirstKeeps
 first_keeps s i r c may core =
     let frame : Frame s (started_first s i r c) = record {
       from = λ j m h. from_put s core i r (going r c) may.there (going_alike s i r c may) j m h;
-      writes = λ j m h unlanded lv b. refl;
+      writes = λ j m h write unlanded lv b. refl;
       run = refl;
       modes = λ lv b. refl;
       active = λ lv. refl;
@@ -211,9 +211,9 @@ module _ (s : State) (core : Core s) (i : ℕ) (r : Req) (facts : List Fact) (st
   land_frame : Frame s (landed s i r facts)
   land_frame = record {
     from = λ j m h. from_put s core i r (land r) started.there (land_alike r un) j m h;
-    writes = λ j m h unlanded lv b. ⊎_elim
+    writes = λ j m h write unlanded lv b. ⊎_elim
         (λ (is : (j ≡ i) × (land r ≡ m)). never (has_landed m.phase) (ap (λ (q : Req). has_landed q.phase) (sym is.1)) unlanded)
-        (λ (other : IsFalse (j == i) × (s.reqs j ≡ Some m)). closes.others lv b j other.0)
+        (λ (other : IsFalse (j == i) × (s.reqs j ≡ Some m)). closes.others lv b j m other.1 write other.0)
         (put_cases s.reqs i j (land r) m h);
     run = refl;
     modes = closes.modes;

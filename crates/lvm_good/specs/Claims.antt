@@ -66,7 +66,7 @@ pub record Seen (s : State) (i : ℕ) (r : Req) (lv b : ℕ) (value : List ℕ) 
 -- what an event leaves of the requests and of what reads see
 pub record Frame (old new : State) : Type 0 where
   pub from : (i : ℕ) (n : Req) → new.reqs i ≡ Some n → (r : Req) × (old.reqs i ≡ Some r) × Alike r n
-  pub writes : (i : ℕ) (n : Req) → new.reqs i ≡ Some n → IsFalse (has_landed n.phase) → (lv b : ℕ) → write_of b (told new lv b) (request_of new i) ≡ write_of b (told old lv b) (request_of old i)
+  pub writes : (i : ℕ) (n : Req) → new.reqs i ≡ Some n → IsTrue n.write → IsFalse (has_landed n.phase) → (lv b : ℕ) → write_of b (told new lv b) (request_of new i) ≡ write_of b (told old lv b) (request_of old i)
   pub run : new.name ≡ old.name
   pub modes : (lv b : ℕ) → (told new lv b).mode ≡ (told old lv b).mode
   pub active : (lv : ℕ) → new.is_active lv ≡ old.is_active lv

@@ -48,7 +48,7 @@ abbrev pub the_write : State → ℕ → Req → ℕ → ℕ → Option (List �
 the_write s i r lv b = if r.write && covers r lv b then Some (r.value b) else None
 
 pub record Tied (s : State) : Type 0 where
-  pub open_writes : (i : ℕ) (r : Req) → s.reqs i ≡ Some r → IsFalse (has_landed r.phase) → (lv b : ℕ) → write_of b (told s lv b) (request_of s i) ≡ the_write s i r lv b
+  pub open_writes : (i : ℕ) (r : Req) → s.reqs i ≡ Some r → IsTrue r.write → IsFalse (has_landed r.phase) → (lv b : ℕ) → write_of b (told s lv b) (request_of s i) ≡ the_write s i r lv b
   pub modes : (lv b : ℕ) → IsFalse (s.is_active lv) → IsTrue (is_off (told s lv b).mode)
   pub tight : (lv b : ℕ) → IsTrue (s.is_active lv) → IsFalse (told s lv b).loose
   -- a partition is a copy of one logical partition

@@ -76,7 +76,7 @@ pub record ClosesOnly (s : State) (i : ℕ) (r : Req) (facts : List Fact) : Type
   pub modes : (lv b : ℕ) → (known facts (Lv lv) b).mode ≡ (told s lv b).mode
   pub tight : (lv b : ℕ) → IsTrue (s.is_active lv) → IsFalse (known facts (Lv lv) b).loose
   -- the other open writes stay
-  pub others : (lv b j : ℕ) → IsFalse (j == i) → write_of b (known facts (Lv lv) b) (request_of s j) ≡ write_of b (told s lv b) (request_of s j)
+  pub others : (lv b j : ℕ) (e : Req) → s.reqs j ≡ Some e → IsTrue e.write → IsFalse (j == i) → write_of b (known facts (Lv lv) b) (request_of s j) ≡ write_of b (told s lv b) (request_of s j)
 
 abbrev pub land : Req → Req
 land r = record r { phase = Landed }
@@ -166,7 +166,7 @@ pub record Plain (s : State) (i : ℕ) (r n : Req) (facts : List Fact) (cache : 
   pub may : (lv b : ℕ) → (known facts (Lv lv) b).values ≡ (told s lv b).values
   pub loose : (lv b : ℕ) → (known facts (Lv lv) b).loose ≡ (told s lv b).loose
   pub modes : (lv b : ℕ) → (known facts (Lv lv) b).mode ≡ (told s lv b).mode
-  pub writes : (lv b j : ℕ) → IsFalse (j == i) ⊎ IsFalse (has_landed n.phase) → write_of b (known facts (Lv lv) b) (request_of s j) ≡ write_of b (told s lv b) (request_of s j)
+  pub writes : (lv b j : ℕ) (e : Req) → s.reqs j ≡ Some e → IsTrue e.write → IsFalse (j == i) ⊎ IsFalse (has_landed n.phase) → write_of b (known facts (Lv lv) b) (request_of s j) ≡ write_of b (told s lv b) (request_of s j)
   -- what a read gets is what one of its copies holds
   pub got : (value : ℕ → List ℕ) → n.got ≡ Some value → (r.got ≡ Some value) ⊎ ((lv b : ℕ) → IsTrue (covers n lv b) → (c : Pp) × (x : Stage) × (r.targets c ≡ Some x) × (value b ≡ s.media.block lv b c))
   pub pinning : IsTrue n.write → IsTrue (is_pinning n.phase) → IsTrue (s.is_active n.lv) → IsTrue n.several → IsTrue (is_pinning r.phase) ⊎ IsTrue (cache n.lv (track_group_of n.first))
@@ -200,8 +200,8 @@ pub record Submits (s : State) (i : ℕ) (r : Req) (facts : List Fact) : Type 0 
   pub may : (lv b : ℕ) → (known facts (Lv lv) b).values ≡ (told s lv b).values
   pub loose : (lv b : ℕ) → (known facts (Lv lv) b).loose ≡ (told s lv b).loose
   pub modes : (lv b : ℕ) → (known facts (Lv lv) b).mode ≡ (told s lv b).mode
-  pub own : (lv b : ℕ) → write_of b (known facts (Lv lv) b) (request_of s i) ≡ the_write s i r lv b
-  pub others : (lv b j : ℕ) → IsFalse (j == i) → write_of b (known facts (Lv lv) b) (request_of s j) ≡ write_of b (told s lv b) (request_of s j)
+  pub own : IsTrue r.write → (lv b : ℕ) → write_of b (known facts (Lv lv) b) (request_of s i) ≡ the_write s i r lv b
+  pub others : (lv b j : ℕ) (e : Req) → s.reqs j ≡ Some e → IsTrue e.write → IsFalse (j == i) → write_of b (known facts (Lv lv) b) (request_of s j) ≡ write_of b (told s lv b) (request_of s j)
   pub place : (lv b : ℕ) → IsTrue (covers r lv b) → (lv ≡ r.lv) × (track_group_of b ≡ track_group_of r.first) × (s.is_copy r.lv b ≡ s.is_copy r.lv r.first)
   pub inside : (lv b : ℕ) → IsTrue (covers r lv b) → (c : Pp) × IsTrue (s.is_copy lv b c)
 
