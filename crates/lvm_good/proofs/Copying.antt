@@ -6,12 +6,20 @@ use Rattle.lvm_num.specs.Geometry.{track_group_of}
 use Rattle.lvm_good.proofs.Small.{IsIn}
 use Rattle.lvm_good.specs.State.{Marks, OpenCopy, StepWrite, Going, Req, State, covers, stale_in, is_settled_stale, Caught, Live, Named, Started}
 use Rattle.lvm_good.specs.Core.{Complete, Statuses, MayDiffer, Agree, Settled, Blocks, Holds, Core}
-use Rattle.lvm_good.specs.Events.{with_block, Passes, CopyWrites, Opens, Clears}
-use Rattle.lvm_good.specs.Claims.{Quiet, CopyWriteKeeps, OpenKeeps, ClearKeeps}
+use Rattle.lvm_good.proofs.Claims.{Quiet, CopyWriteKeepsCore, OpenKeepsCore, ClearKeepsCore}
 use Rattle.lvm_good.proofs.Small.{never, false_by, and_left_false}
 use Rattle.lvm_good.proofs.Requests.{decided, alone, past_of}
 use Rattle.lvm_good.proofs.Quieting.{nearly, one_req, quiet_nearly}
 use Rattle.lvm_good.specs.State.{told}
+use Rattle.lvm_vol.specs.May.{known}
+use Rattle.lvm_good.specs.CopyWrite.{Passes, CopyWrites}
+use Rattle.lvm_good.specs.StartWrite.{going}
+use Rattle.lvm_good.specs.Updates.{with_block}
+use Rattle.lvm_good.specs.Open.{Opens}
+use Rattle.lvm_good.specs.Pin.{pinned}
+use Rattle.lvm_good.specs.Clear.{Clears}
+use Rattle.lvm_good.proofs.Framing.{tied, holds}
+use Rattle.lvm_good.proofs.CrashLemmas.{is_open}
 
 the_copy : (a b : OpenCopy) → Some a ≡ Some b → a ≡ b
 the_copy a b e = cc
@@ -212,7 +220,7 @@ module _ (s : State) (i : ℕ) (r : Req) (value : ℕ → List ℕ) (target : Pp
     holds = copy_holds;
   }
 
-pub copy_write_keeps : CopyWriteKeeps
+pub copy_write_keeps : CopyWriteKeepsCore
 copy_write_keeps s i r value target open_copy step_write block step core = copy_core s i r value target open_copy step_write block step core
 
 -- ---- a copy is opened
@@ -259,7 +267,7 @@ module _ (s : State) (o : OpenCopy) (step : Opens s o) (core : Core s) where
       }) in
       record { blocks = n.blocks; tied = n.tied; statuses = n.statuses; behind = record { left_behind = core.behind.left_behind }; notes = n.notes; holds = n.holds }
 
-pub open_keeps : OpenKeeps
+pub open_keeps : OpenKeepsCore
 open_keeps s o step core = open_core s o step core
 
 -- ---- its staleness is no longer wanted
@@ -317,5 +325,5 @@ module _ (s : State) (wanted : Marks) (c : Pp) (step : Clears s wanted c) (core 
       }) in
       record { blocks = n.blocks; tied = n.tied; statuses = n.statuses; behind = record { left_behind = step.behind }; notes = n.notes; holds = n.holds }
 
-pub clear_keeps : ClearKeeps
+pub clear_keeps : ClearKeepsCore
 clear_keeps s wanted c step core = clear_core s wanted c step core

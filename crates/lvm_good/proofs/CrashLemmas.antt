@@ -11,7 +11,7 @@ use Rattle.lvm_good.proofs.Small.{IsIn}
 use Rattle.lvm_good.specs.State.{Marks, Groups, View, Going, Req, State, covers, request_of, has_landed, stale_in, Live, Named, Started}
 use Rattle.lvm_good.specs.Core.{MayDiffer, Agree, Settled, Busy, Recorded, Kept, Core}
 use Rattle.lvm_good.specs.Crash.{CopyBrings, IsCrash, Fresh, MayDifferAfter, BlockKept, IsPossible, Widens, CoreIsKept}
-use Rattle.lvm_good.specs.Claims.{OffIsKept}
+use Rattle.lvm_good.proofs.Claims.{OffIsKept}
 use Rattle.lvm_good.proofs.Small.{never, and_right_false, and_left_false, or_left, or_right, in_more, in_added, brought_in, some_open}
 use Rattle.lvm_good.specs.State.{told}
 

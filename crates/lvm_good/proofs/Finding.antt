@@ -6,8 +6,9 @@ use Rattle.lvm_num.specs.declared.record.Stamp.{Stamp}
 use Rattle.lvm_num.specs.Record.{Stamped, stamp_lt}
 use Rattle.lvm_good.specs.State.{Marks, View, State}
 use Rattle.lvm_good.specs.Crash.{IsCrash, IsPossible}
-use Rattle.lvm_good.specs.Found.{Votes, Found, IsNewest, QuorumFinds, StatusEndKeepsFound, BeginKeepsFound, CommitKeepsFound, UpdateEndKeepsFound}
 use Rattle.lvm_good.proofs.Small.{never}
+use Rattle.lvm_good.specs.Found.{Votes, Found, IsNewest, QuorumFinds}
+use Rattle.lvm_good.proofs.Claims.{StatusEndKeepsFound, BeginKeepsFound, CommitKeepsFound, UpdateEndKeepsFound}
 
 -- earlier than an earlier one
 earlier : (a b c : Stamp) → stamp_lt a b ≡ true → stamp_lt b c ≡ true → stamp_lt a c ≡ true

@@ -5,6 +5,8 @@ use Rattle.lvm_num.specs.Buffer.{zero_sector}
 use Rattle.lvm_num.specs.declared.descriptor.Mode.TheVariants.{Active}
 use Rattle.lvm_vol.specs.May.{Known, unknown, IsValue}
 use Rattle.lvm_good.specs.Fresh.{FirstIsCore}
+use Rattle.lvm_good.specs.Pin.{pinned}
+use Rattle.lvm_good.proofs.Framing.{tied, holds}
 
 nothing : {X A : Type 0} (a : A) → None ≡ Some a → X
 nothing a e = absurd cc

@@ -7,7 +7,7 @@ use Rattle.lvm_vol.specs.May.{is_off}
 use Rattle.lvm_good.proofs.Small.{IsIn}
 use Rattle.lvm_good.specs.State.{Stage, Req, State, covers, is_pinning, Live}
 use Rattle.lvm_good.specs.Core.{Conflict, Tied, Holds, Nearly}
-use Rattle.lvm_good.specs.Claims.{Alike, Seen, Frame, FrameKeeps}
+use Rattle.lvm_good.proofs.Claims.{Alike, Seen, Frame, FrameKeeps}
 use Rattle.lvm_good.specs.State.{told}
 
 abbrev some_if : Bool → List ℕ → Option (List ℕ)

@@ -1,4 +1,5 @@
 -- A read lands with what it got; a request begins.
+use Rattle.std.specs.Prelude.{if◌then◌else◌}
 use Rattle.std.proofs.Common.{◌≡◌, ◌⊎◌, inl, inr, ⊎_elim, ℕ, ◌<◌, Bool, true, false, List, [], ◌∷◌, Option, Some, refl, sym, ap, subst, ◌∙◌, eqb-true, arith}
 use Rattle.std.specs.Prelude.{IsTrue, IsFalse, ◌==◌}
 use Rattle.lvm_num.specs.declared.place.Pp.{Pp}
@@ -8,8 +9,8 @@ use Rattle.lvm_good.specs.State.{write_of}
 use Rattle.lvm_good.proofs.Small.{IsIn}
 use Rattle.lvm_good.specs.State.{Phase, Held, Going, Landed, Req, State, covers, request_of, is_past, has_landed, is_pinning, stale_in, is_settled_stale, Caught, Live, Named, Started}
 use Rattle.lvm_good.specs.Core.{Complete, MayDiffer, Agree, Settled, Blocks, Tied, Holds, Core, the_write}
-use Rattle.lvm_good.specs.Events.{put, LandsGot, Submits, land, landed}
-use Rattle.lvm_good.specs.Claims.{Frame, Calmer, GotKeeps, GotIsAllowed, SubmitKeeps}
+use Rattle.lvm_good.proofs.Effects.{GotEffect, JoinEffect}
+use Rattle.lvm_good.proofs.Claims.{Frame, Calmer, GotKeeps, GotIsAllowed, SubmitKeepsCore}
 use Rattle.lvm_good.proofs.Small.{never, and_left_false}
 use Rattle.lvm_good.proofs.Requests.{decided, put_cases, put_other, alone, past_of, past_not_landed}
 use Rattle.lvm_good.proofs.Calm.{calm_blocks}
@@ -20,8 +21,15 @@ use Rattle.lvm_vol.specs.Facts.{Fact}
 use Rattle.lvm_good.specs.State.{told}
 use Rattle.lvm_vol.specs.declared.entry.Vol.TheVariants.{Lv}
 use Rattle.lvm_vol.specs.May.{known}
+use Rattle.std.proofs.Common.{eq-eqb}
+use Rattle.lvm_vol.specs.Facts.{Request}
+use Rattle.lvm_good.specs.StartWrite.{going}
+use Rattle.lvm_good.specs.Updates.{put, with_name, land, landed}
+use Rattle.lvm_good.specs.Pin.{pinned}
+use Rattle.lvm_good.proofs.Framing.{tied, holds}
+use Rattle.lvm_good.proofs.CrashLemmas.{is_open}
 
-module _ (s : State) (i : ℕ) (r : Req) (value : ℕ → List ℕ) (facts : List Fact) (step : LandsGot s i r value facts) (core : Core s) where
+module _ (s : State) (i : ℕ) (r : Req) (value : ℕ → List ℕ) (facts : List Fact) (step : GotEffect s i r value facts) (core : Core s) where
   abbrev new : State
   new = landed s i r facts
 
@@ -181,9 +189,15 @@ got_is_allowed s i r value facts step core lv b over = (seen_here s i r value fa
 
 -- ---- a request begins
 
-module _ (s : State) (i : ℕ) (r : Req) (facts : List Fact) (step : Submits s i r facts) (core : Core s) where
+named_at : (name : ℕ → Request) (i j : ℕ) (given : Request) → j ≡ i → with_name name i given j ≡ given
+named_at name i j given same = ap (λ (t : Bool). if t then given else name j) (eq-eqb j i same)
+
+named_other : (name : ℕ → Request) (i j : ℕ) (given : Request) → IsFalse (j == i) → with_name name i given j ≡ name j
+named_other name i j given other = ap (λ (t : Bool). if t then given else name j) other
+
+module _ (s : State) (i : ℕ) (given : Request) (r : Req) (facts : List Fact) (step : JoinEffect s i given r facts) (core : Core s) where
   abbrev next : State
-  next = record s { reqs = put s.reqs i r; facts = facts }
+  next = record s { reqs = put s.reqs i r; facts = facts; name = with_name s.name i given }
 
   not_itself : {k : ℕ} → k < k → ⊥
   not_itself h = omega (arith, h)
@@ -220,9 +234,9 @@ module _ (s : State) (i : ℕ) (r : Req) (facts : List Fact) (step : Submits s i
   submit_tied : Tied next
   submit_tied = record {
     open_writes = λ j m h write unlanded lv b. ⊎_elim
-        (λ (is : (j ≡ i) × (r ≡ m)). subst (λ (q : Req). write_of b (known facts (Lv lv) b) (request_of s j) ≡ the_write s j q lv b) is.1
-        (subst (λ (k : ℕ). write_of b (known facts (Lv lv) b) (request_of s k) ≡ the_write s k r lv b) (sym is.0) (step.own (ap (λ (q : Req). q.write) is.1 ∙ write) lv b)))
-        (λ (other : IsFalse (j == i) × (s.reqs j ≡ Some m)). step.others lv b j m other.1 write other.0 ∙ core.tied.open_writes j m other.1 write unlanded lv b)
+        (λ (is : (j ≡ i) × (r ≡ m)). ap (write_of b (known facts (Lv lv) b)) (named_at s.name i j given is.0)
+        ∙ step.own (ap (λ (q : Req). q.write) is.1 ∙ write) lv b ∙ ap (λ (q : Req). the_write q lv b) is.1)
+        (λ (other : IsFalse (j == i) × (s.reqs j ≡ Some m)). ap (write_of b (known facts (Lv lv) b)) (named_other s.name i j given other.0) ∙ step.others lv b j m other.1 write other.0 ∙ core.tied.open_writes j m other.1 write unlanded lv b)
         (put_cases s.reqs i j r m h);
     modes = λ lv b off. ap is_off (step.modes lv b) ∙ core.tied.modes lv b off;
     tight = λ lv b on. step.loose lv b ∙ core.tied.tight lv b on;
@@ -275,7 +289,14 @@ module _ (s : State) (i : ℕ) (r : Req) (facts : List Fact) (step : Submits s i
   submit_core = record {
     blocks = calm_blocks s next calmer_next core.blocks;
     tied = submit_tied;
-    statuses = same_statuses s core s.media.block (put s.reqs i r) facts;
+    statuses = record {
+      stale_flies = λ c u f stale fresh. ⊎_elim (λ (w : IsTrue (s.wanted c)). inl w) (λ (k : Complete s c). inr (complete_next c k)) (core.statuses.stale_flies c u f stale fresh);
+      stale_is_wanted = λ c stale m. complete_next c (core.statuses.stale_is_wanted c stale m);
+      flying_is_wanted = λ c u f stale m. complete_next c (core.statuses.flying_is_wanted c u f stale m);
+      kept = λ lv b c copy. let k = core.statuses.kept lv b c copy in (k.0, k.1, record { committed = k.2.committed; flying = k.2.flying; wanted = k.2.wanted });
+      open_there = core.statuses.open_there;
+      open_stale = core.statuses.open_stale;
+    };
     behind = record { left_behind = core.behind.left_behind };
     notes = record {
       home = core.notes.home;
@@ -287,5 +308,5 @@ module _ (s : State) (i : ℕ) (r : Req) (facts : List Fact) (step : Submits s i
     holds = submit_holds;
   }
 
-pub submit_keeps : SubmitKeeps
-submit_keeps s i r facts step core = submit_core s i r facts step core
+pub submit_keeps : SubmitKeepsCore
+submit_keeps s i given r facts step core = submit_core s i given r facts step core

@@ -7,7 +7,7 @@ use Rattle.lvm_vol.specs.May.{Known}
 use Rattle.lvm_good.proofs.Small.{IsIn}
 use Rattle.lvm_good.specs.State.{Stage, Well, Going, Landed, Phase, Req, State, covers, is_settled_stale, Caught, Live, Named, Started}
 use Rattle.lvm_good.specs.Core.{MayDiffer, Agree, Settled, Blocks, Core}
-use Rattle.lvm_good.specs.Events.{land, landed, ClosesOnly, IsDropped, LandsDone, LandsLost}
+use Rattle.lvm_good.proofs.Effects.{ClosesOnly, DoneEffect, LostEffect}
 use Rattle.lvm_good.proofs.Small.{never}
 use Rattle.lvm_good.proofs.Requests.{decided, put_cases, put_other, one_write}
 use Rattle.lvm_vol.specs.Legal.{lands}
@@ -15,6 +15,10 @@ use Rattle.lvm_vol.specs.declared.entry.Vol.TheVariants.{Lv}
 use Rattle.lvm_vol.specs.May.{known}
 use Rattle.lvm_vol.specs.Facts.{Fact}
 use Rattle.lvm_good.specs.State.{told}
+use Rattle.lvm_good.specs.LandDone.{IsDropped}
+use Rattle.lvm_good.specs.StartWrite.{going}
+use Rattle.lvm_good.specs.Updates.{land, landed}
+use Rattle.lvm_good.proofs.CrashLemmas.{is_open}
 
 not_going : {X : Type 0} (p : Phase) → Landed ≡ p → p ≡ Going → X
 not_going p a b = absurd cc
@@ -95,7 +99,7 @@ dropped_not_live s core i r started lv b over e dropped live =
     (λ (k : Caught s lv (track_group_of b) e). dropped.uncaught (subst (λ (g : ℕ). Caught s r.lv g e) place.1 (subst (λ (v : ℕ). Caught s v (track_group_of b) e) place.0 k)))
     live.counts
 
-pub done_blocks : (s : State) (i : ℕ) (r : Req) (facts : List Fact) → LandsDone s i r facts → Core s → Blocks (landed s i r facts)
+pub done_blocks : (s : State) (i : ℕ) (r : Req) (facts : List Fact) → DoneEffect s i r facts → Core s → Blocks (landed s i r facts)
 done_blocks s i r facts step core = landed_blocks s core i r facts step.started step.closes
     (λ lv b over. (
       (λ e live. subst (λ (m : Option (List (List ℕ))). IsIn m (s.media.block lv b e)) (sym (step.may lv b over)) (inl (sym (holds lv b over e live)))),
@@ -111,7 +115,7 @@ done_blocks s i r facts step core = landed_blocks s core i r facts step.started 
         (λ (dropped : IsDropped s r e). absurd (dropped_not_live s core i r step.started lv b over e dropped live))
         (step.ended e at.0 at.1)
 
-pub lost_blocks : (s : State) (i : ℕ) (r : Req) (facts : List Fact) → LandsLost s i r facts → Core s → Blocks (landed s i r facts)
+pub lost_blocks : (s : State) (i : ℕ) (r : Req) (facts : List Fact) → LostEffect s i r facts → Core s → Blocks (landed s i r facts)
 lost_blocks s i r facts step core = landed_blocks s core i r facts step.started step.closes
     (λ lv b over. (
       (λ e live. let busy = core.blocks.busy i lv b r step.started over in step.may lv b over (s.media.block lv b e)

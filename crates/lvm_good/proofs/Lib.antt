@@ -1,4 +1,7 @@
 mod Small
+mod Effects
+mod Claims
+mod Telling
 mod CrashLemmas
 mod Requests
 mod StartFirst

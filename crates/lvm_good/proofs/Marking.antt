@@ -6,11 +6,15 @@ use Rattle.lvm_num.specs.Geometry.{track_group_of}
 use Rattle.lvm_num.specs.Record.{Stamped}
 use Rattle.lvm_good.specs.State.{Marks, OpenCopy, State, stale_in, is_settled_stale, Caught, Live}
 use Rattle.lvm_good.specs.Core.{Complete, Kept, Statuses, Core, Nearly}
-use Rattle.lvm_good.specs.Events.{Replaced, Wants, after_wants, Commits}
-use Rattle.lvm_good.specs.Claims.{Quiet, WantsKeep, BeginKeeps, CommitKeeps, UpdateEndKeeps}
+use Rattle.lvm_good.proofs.Claims.{Quiet, WantsKeep, BeginKeeps, CommitKeepsCore, UpdateEndKeeps}
 use Rattle.lvm_good.proofs.Small.{never, false_by, and_left_false, and_right_false}
 use Rattle.lvm_good.proofs.Requests.{decided}
 use Rattle.lvm_good.proofs.Quieting.{nearly, quiet_nearly}
+use Rattle.lvm_good.specs.LandDone.{done}
+use Rattle.lvm_good.specs.Commit.{Commits}
+use Rattle.lvm_good.specs.Want.{Replaced, Wants, after_wants}
+use Rattle.lvm_good.proofs.Framing.{tied, holds}
+use Rattle.lvm_good.proofs.CrashLemmas.{is_open}
 
 no_copy : {X : Type 0} (o : Option OpenCopy) (k : OpenCopy) → o ≡ None → o ≡ Some k → X
 no_copy o k a b = absurd cc
@@ -233,7 +237,7 @@ module _ (s : State) (u : Stamped Marks) (open_copy : Option OpenCopy) (step : C
       } in
       quiet_nearly s committed quiet (nearly s core) (record { statuses = committed_statuses; home = core.notes.home })
 
-pub commit_keeps : CommitKeeps
+pub commit_keeps : CommitKeepsCore
 commit_keeps s u open_copy step core = committed_nearly s u open_copy step core
 
 module _ (s : State) (done : s.in_flight ≡ Some s.committed) (core : Core s) where

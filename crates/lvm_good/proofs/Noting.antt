@@ -4,10 +4,14 @@ use Rattle.std.specs.Prelude.{IsTrue, IsFalse}
 use Rattle.lvm_num.specs.Geometry.{track_group_of}
 use Rattle.lvm_good.specs.State.{Groups, State, is_settled_stale, Caught, Named}
 use Rattle.lvm_good.specs.Core.{Complete, Statuses, Core}
-use Rattle.lvm_good.specs.Events.{StartsNote, EndsNote, with_names}
-use Rattle.lvm_good.specs.Claims.{Quiet, StartNoteKeeps, EndNoteKeeps}
+use Rattle.lvm_good.proofs.Claims.{Quiet, StartNoteKeepsCore, EndNoteKeepsCore}
 use Rattle.lvm_good.proofs.Small.{never}
 use Rattle.lvm_good.proofs.Quieting.{nearly, quiet_nearly}
+use Rattle.lvm_good.specs.EndNote.{EndsNote}
+use Rattle.lvm_good.specs.Updates.{with_names}
+use Rattle.lvm_good.specs.StartNote.{StartsNote}
+use Rattle.lvm_good.proofs.Framing.{tied, holds}
+use Rattle.lvm_good.proofs.CrashLemmas.{is_open}
 
 same_note : (a b : Groups) → Some a ≡ Some b → a ≡ b
 same_note a b e = cc
@@ -56,7 +60,7 @@ module _ (s : State) (flying : ℕ → Option Groups) (step : StartsNote s flyin
       let n = quiet_nearly s new quiet (nearly s core) (record { statuses = note_statuses; home = core.notes.home }) in
       record { blocks = n.blocks; tied = n.tied; statuses = n.statuses; behind = record { left_behind = core.behind.left_behind }; notes = n.notes; holds = n.holds }
 
-pub start_note_keeps : StartNoteKeeps
+pub start_note_keeps : StartNoteKeepsCore
 start_note_keeps s flying step core = note_core s flying step core
 
 module _ (s : State) (d : ℕ) (names home : ℕ → Groups) (flying : ℕ → Option Groups) (step : EndsNote s d names home flying) (core : Core s) where
@@ -109,5 +113,5 @@ module _ (s : State) (d : ℕ) (names home : ℕ → Groups) (flying : ℕ → O
       }) in
       record { blocks = n.blocks; tied = n.tied; statuses = n.statuses; behind = record { left_behind = core.behind.left_behind }; notes = n.notes; holds = n.holds }
 
-pub end_note_keeps : EndNoteKeeps
+pub end_note_keeps : EndNoteKeepsCore
 end_note_keeps s d names home flying step core = end_core s d names home flying step core

@@ -9,8 +9,7 @@ use Rattle.lvm_good.specs.State.{write_of}
 use Rattle.lvm_good.proofs.Small.{IsIn}
 use Rattle.lvm_good.specs.State.{Groups, Stage, Phase, Held, WantEntry, Ready, Going, Req, State, covers, request_of, is_past, has_landed, is_pinning, stale_in, is_settled_stale, Caught, Live, Started}
 use Rattle.lvm_good.specs.Core.{Complete, Statuses, Conflict, MayDiffer, Agree, Settled, Tied, Holds, Core, the_write}
-use Rattle.lvm_good.specs.Events.{put, with_req, Admits, admitted}
-use Rattle.lvm_good.specs.Claims.{Frame, Calmer, PlainKeeps, AdmitKeeps}
+use Rattle.lvm_good.proofs.Claims.{Frame, Calmer, PlainKeeps, AdmitKeepsCore}
 use Rattle.lvm_good.proofs.Small.{never, and_left_false}
 use Rattle.lvm_good.proofs.Requests.{decided, put_cases, put_other, past_of, past_not_landed}
 use Rattle.lvm_good.proofs.Calm.{calm_blocks}
@@ -21,6 +20,12 @@ use Rattle.lvm_vol.specs.declared.entry.Vol.TheVariants.{Lv}
 use Rattle.lvm_vol.specs.May.{known}
 use Rattle.lvm_vol.specs.Facts.{Fact}
 use Rattle.lvm_good.specs.State.{told}
+use Rattle.lvm_good.specs.StartWrite.{going}
+use Rattle.lvm_good.specs.Admit.{admitted, Admits}
+use Rattle.lvm_good.specs.Updates.{put, with_req}
+use Rattle.lvm_good.specs.Pin.{pinned}
+use Rattle.lvm_good.proofs.Framing.{tied, holds}
+use Rattle.lvm_good.proofs.CrashLemmas.{is_open}
 
 -- ---- a request that isn't a write under way changes, and no block does
 
@@ -169,8 +174,8 @@ module _ (s : State) (i : ℕ) (r : Req) (phase : Phase) (several : Bool) (targe
   admit_tied : Tied new
   admit_tied = record {
     open_writes = λ j m h write unlanded lv b. ⊎_elim
-        (λ (is : (j ≡ i) × (n ≡ m)). subst (λ (q : Req). write_of b (told s lv b) (request_of s j) ≡ the_write s j q lv b) is.1
-        (subst (λ (k : ℕ). write_of b (told s lv b) (request_of s k) ≡ the_write s k r lv b) (sym is.0) (core.tied.open_writes i r step.there (ap (λ (q : Req). q.write) is.1 ∙ write) un lv b)))
+        (λ (is : (j ≡ i) × (n ≡ m)). subst (λ (q : Req). write_of b (told s lv b) (request_of s j) ≡ the_write q lv b) is.1
+        (subst (λ (k : ℕ). write_of b (told s lv b) (request_of s k) ≡ the_write r lv b) (sym is.0) (core.tied.open_writes i r step.there (ap (λ (q : Req). q.write) is.1 ∙ write) un lv b)))
         (λ (other : IsFalse (j == i) × (s.reqs j ≡ Some m)). core.tied.open_writes j m other.1 write unlanded lv b)
         (put_cases s.reqs i j n m h);
     modes = core.tied.modes;
@@ -289,5 +294,5 @@ module _ (s : State) (i : ℕ) (r : Req) (phase : Phase) (several : Bool) (targe
     holds = admit_holds;
   }
 
-pub admit_keeps : AdmitKeeps
+pub admit_keeps : AdmitKeepsCore
 admit_keeps s i r phase several targets step core = admit_core s i r phase several targets step core

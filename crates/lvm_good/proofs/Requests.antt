@@ -5,7 +5,7 @@ use Rattle.std.proofs.lemmas.Bool.{cases_lt}
 use Rattle.lvm_num.specs.declared.place.Pp.{Pp}
 use Rattle.lvm_good.specs.State.{Stage, Phase, Held, WantEntry, Ready, Going, Landed, Req, State, covers, is_past, has_landed, Started}
 use Rattle.lvm_good.specs.Core.{Conflict, Core}
-use Rattle.lvm_good.specs.Events.{put, is_pp, staged}
+use Rattle.lvm_good.specs.Updates.{put, is_pp, staged}
 
 some_is : {X : Type 0} (a b : X) → Some a ≡ Some b → a ≡ b
 some_is a b e = cc

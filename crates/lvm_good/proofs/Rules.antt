@@ -2,7 +2,7 @@
 use Rattle.std.proofs.Common.{inl, inr, ⊎_elim}
 use Rattle.std.specs.Prelude.{IsTrue}
 use Rattle.lvm_good.specs.State.{stale_in, Live}
-use Rattle.lvm_good.specs.Claims.{EachHasKeptTarget, MarksAreReplaced}
+use Rattle.lvm_good.proofs.Claims.{EachHasKeptTarget, MarksAreReplaced}
 use Rattle.lvm_good.proofs.Small.{and_left_false}
 
 pub each_has : EachHasKeptTarget

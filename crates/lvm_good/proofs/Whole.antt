@@ -6,10 +6,8 @@ use Rattle.lvm_num.specs.Geometry.{track_group_of}
 use Rattle.lvm_num.specs.Record.{Stamped}
 use Rattle.lvm_good.specs.State.{Marks, Req, State, has_landed, is_pinning, is_settled_stale, Caught, Live, Started}
 use Rattle.lvm_good.specs.Core.{Complete, Core}
-use Rattle.lvm_good.specs.Found.{with_status}
-use Rattle.lvm_good.specs.Claims.{Frame, Calmer, Quiet}
+use Rattle.lvm_good.proofs.Claims.{Frame, Calmer, Quiet}
 use Rattle.lvm_good.specs.Crash.{EachKept}
-use Rattle.lvm_good.specs.Good.{Good, without, Submit, Admit, Change, StartFirst, Transfer, LandDone, LandLost, LandGot, Want, BeginUpdate, MoveStatus, CommitWant, EndUpdate, StartNote, EndNote, Open, CopyWrite, Clear, Take, Takes, EachEventKeepsGood, EachMomentIsKept}
 use Rattle.lvm_good.proofs.Small.{never}
 use Rattle.lvm_good.proofs.Requests.{decided}
 use Rattle.lvm_good.proofs.Calm.{calm_blocks}
@@ -24,6 +22,12 @@ use Rattle.lvm_good.proofs.Noting.{start_note_keeps, end_note_keeps}
 use Rattle.lvm_good.proofs.Copying.{copy_write_keeps, open_keeps, clear_keeps}
 use Rattle.lvm_good.proofs.Finding.{status_end_keeps_found, begin_keeps_found, commit_keeps_found, update_end_keeps_found}
 use Rattle.lvm_good.specs.State.{told}
+use Rattle.lvm_good.specs.StartWrite.{going}
+use Rattle.lvm_good.specs.Take.{Takes}
+use Rattle.lvm_good.specs.Updates.{without, with_status}
+use Rattle.lvm_good.specs.Pin.{pinned}
+use Rattle.lvm_good.proofs.Framing.{tied, holds}
+use Rattle.lvm_good.proofs.CrashLemmas.{is_open}
 
 -- ---- a status moves
 
@@ -129,32 +133,3 @@ module _ (s : State) (i : ℕ) (r : Req) (step : Takes s i r) (core : Core s) wh
         holds = f.1;
       }
 
--- ---- all events
-
-pub each_keeps : EachEventKeepsGood
-each_keeps votes (Submit i r facts) s new step good = subst (Good votes) (sym step.1) (record { core = submit_keeps s i r facts step.0 good.core; found = let f = good.found in record { set = f.set; enough = f.enough; have = f.have; only = f.only; newer = f.newer } })
-each_keeps votes (Admit i r phase several targets) s new step good = subst (Good votes) (sym step.1) (record { core = admit_keeps s i r phase several targets step.0 good.core; found = let f = good.found in record { set = f.set; enough = f.enough; have = f.have; only = f.only; newer = f.newer } })
-each_keeps votes (Change i r n facts cache) s new step good = subst (Good votes) (sym step.2) (record { core = plain_keeps s i r n facts cache step.0 step.1 good.core; found = let f = good.found in record { set = f.set; enough = f.enough; have = f.have; only = f.only; newer = f.newer } })
-each_keeps votes (StartFirst i r c) s new step good = subst (Good votes) (sym step.1) (record { core = first_keeps s i r c step.0 good.core; found = let f = good.found in record { set = f.set; enough = f.enough; have = f.have; only = f.only; newer = f.newer } })
-each_keeps votes (Transfer i r c stage block) s new step good = subst (Good votes) (sym step.1) (record { core = restaging_keeps s i r c stage block step.0 good.core; found = let f = good.found in record { set = f.set; enough = f.enough; have = f.have; only = f.only; newer = f.newer } })
-each_keeps votes (LandDone i r facts) s new step good = subst (Good votes) (sym step.1) (record { core = done_keeps s i r facts step.0 good.core; found = let f = good.found in record { set = f.set; enough = f.enough; have = f.have; only = f.only; newer = f.newer } })
-each_keeps votes (LandLost i r facts) s new step good = subst (Good votes) (sym step.1) (record { core = lost_keeps s i r facts step.0 good.core; found = let f = good.found in record { set = f.set; enough = f.enough; have = f.have; only = f.only; newer = f.newer } })
-each_keeps votes (LandGot i r value facts) s new step good = subst (Good votes) (sym step.1) (record { core = got_keeps s i r value facts step.0 good.core; found = let f = good.found in record { set = f.set; enough = f.enough; have = f.have; only = f.only; newer = f.newer } })
-each_keeps votes (Want wanted missing open_copy) s new step good = subst (Good votes) (sym step.1) (record { core = wants_keep s wanted missing open_copy step.0 (nearly s good.core); found = let f = good.found in record { set = f.set; enough = f.enough; have = f.have; only = f.only; newer = f.newer } })
-each_keeps votes (BeginUpdate u) s new step good = subst (Good votes) (sym step.1) (record { core = begin_keeps s u step.0.none step.0.value good.core; found = begin_keeps_found votes s u step.0.none step.0.later good.found })
-each_keeps votes (MoveStatus u status flying) s new step good = subst (Good votes) (sym step.1) (record { core = moved_core s status flying good.core; found = status_end_keeps_found votes s u status flying step.0.flies step.0.each good.found })
-each_keeps votes (CommitWant u has_it done wanted open_copy) s new step good = subst (Good votes) (sym step.1) (record {
-  core = wants_keep (record s { committed = u; open_copy = done }) wanted s.missing open_copy step.0.marks (commit_keeps s u done step.0.commits good.core);
-  found = let f = commit_keeps_found votes s u has_it step.0.commits.flies step.0.enough step.0.have good.found in record { set = f.set; enough = f.enough; have = f.have; only = f.only; newer = f.newer };
-})
-each_keeps votes EndUpdate s new step good = subst (Good votes) (sym step.1) (record { core = update_end_keeps s step.0 good.core; found = update_end_keeps_found votes s step.0 good.found })
-each_keeps votes (StartNote flying) s new step good = subst (Good votes) (sym step.1) (record { core = start_note_keeps s flying step.0 good.core; found = let f = good.found in record { set = f.set; enough = f.enough; have = f.have; only = f.only; newer = f.newer } })
-each_keeps votes (EndNote d names home flying) s new step good = subst (Good votes) (sym step.1) (record { core = end_note_keeps s d names home flying step.0 good.core; found = let f = good.found in record { set = f.set; enough = f.enough; have = f.have; only = f.only; newer = f.newer } })
-each_keeps votes (Open o) s new step good = subst (Good votes) (sym step.1) (record { core = open_keeps s o step.0 good.core; found = let f = good.found in record { set = f.set; enough = f.enough; have = f.have; only = f.only; newer = f.newer } })
-each_keeps votes (CopyWrite i r value target open_copy step_write block) s new step good = subst (Good votes) (sym step.1) (record { core = copy_write_keeps s i r value target open_copy step_write block step.0 good.core; found = let f = good.found in record { set = f.set; enough = f.enough; have = f.have; only = f.only; newer = f.newer } })
-each_keeps votes (Clear wanted c) s new step good = subst (Good votes) (sym step.1) (record { core = clear_keeps s wanted c step.0 good.core; found = let f = good.found in record { set = f.set; enough = f.enough; have = f.have; only = f.only; newer = f.newer } })
-each_keeps votes (Take i r) s new step good = subst (Good votes) (sym step.1) (record { core = taken_core s i r step.0 good.core; found = let f = good.found in record { set = f.set; enough = f.enough; have = f.have; only = f.only; newer = f.newer } })
-
-pub each_moment : EachMomentIsKept
-each_moment votes [] old new good same = subst EachKept (sym same) (core_kept old good.core)
-each_moment votes (event ∷ events) old new good steps = each_moment votes events steps.0 new (each_keeps votes event old steps.0 steps.1 good) steps.2

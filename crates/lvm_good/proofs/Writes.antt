@@ -7,8 +7,8 @@ use Rattle.lvm_vol.specs.May.{Known}
 use Rattle.lvm_good.proofs.Small.{IsIn}
 use Rattle.lvm_good.specs.State.{Stage, Todo, Flying, Ready, Going, Landed, Req, State, covers, is_past, has_landed, is_pinning, is_settled_stale, Caught, Live, Started}
 use Rattle.lvm_good.specs.Core.{Complete, Statuses, Core}
-use Rattle.lvm_good.specs.Events.{put, staged, MayStart, going, started_first, restaged, ClosesOnly, land, landed}
-use Rattle.lvm_good.specs.Claims.{Alike, Seen, Frame, FirstKeeps, RestagingKeeps, DoneKeeps, LostKeeps}
+use Rattle.lvm_good.proofs.Effects.{ClosesOnly}
+use Rattle.lvm_good.proofs.Claims.{Alike, Seen, Frame, FirstKeeps, RestagingKeeps, DoneKeeps, LostKeeps}
 use Rattle.lvm_good.proofs.Small.{never}
 use Rattle.lvm_good.proofs.Requests.{decided, put_cases, staged_was, staged_is, alone, past_of}
 use Rattle.lvm_good.proofs.StartFirst.{first_blocks}
@@ -18,6 +18,12 @@ use Rattle.lvm_good.proofs.Framing.{frame_keeps}
 use Rattle.lvm_good.proofs.Quieting.{nearly, alike_same}
 use Rattle.lvm_vol.specs.Facts.{Fact}
 use Rattle.lvm_good.specs.State.{told}
+use Rattle.lvm_good.specs.StartWrite.{MayStart, going, started_first}
+use Rattle.lvm_good.specs.Transfer.{restaged}
+use Rattle.lvm_good.specs.Updates.{put, staged, land, landed}
+use Rattle.lvm_good.specs.Pin.{pinned}
+use Rattle.lvm_good.proofs.Framing.{tied, holds}
+use Rattle.lvm_good.proofs.CrashLemmas.{is_open}
 
 -- only requests, blocks and the history change: the statuses and notes are as before
 module _ (s : State) (core : Core s) (block : ℕ → ℕ → Pp → List ℕ) (reqs : ℕ → Option Req) (facts : List Fact) where

@@ -44,11 +44,11 @@ pub record Blocks (s : State) : Type 0 where
   pub recorded : (i lv b : ℕ) (r : Req) → Started s i r → IsTrue (covers r lv b) → Recorded s r lv b
 
 -- what the history says of the requests: a request that hasn't landed is an open write at exactly the blocks that it goes over
-abbrev pub the_write : State → ℕ → Req → ℕ → ℕ → Option (List ℕ)
-the_write s i r lv b = if r.write && covers r lv b then Some (r.value b) else None
+abbrev pub the_write : Req → ℕ → ℕ → Option (List ℕ)
+the_write r lv b = if r.write && covers r lv b then Some (r.value b) else None
 
 pub record Tied (s : State) : Type 0 where
-  pub open_writes : (i : ℕ) (r : Req) → s.reqs i ≡ Some r → IsTrue r.write → IsFalse (has_landed r.phase) → (lv b : ℕ) → write_of b (told s lv b) (request_of s i) ≡ the_write s i r lv b
+  pub open_writes : (i : ℕ) (r : Req) → s.reqs i ≡ Some r → IsTrue r.write → IsFalse (has_landed r.phase) → (lv b : ℕ) → write_of b (told s lv b) (request_of s i) ≡ the_write r lv b
   pub modes : (lv b : ℕ) → IsFalse (s.is_active lv) → IsTrue (is_off (told s lv b).mode)
   pub tight : (lv b : ℕ) → IsTrue (s.is_active lv) → IsFalse (told s lv b).loose
   -- a partition is a copy of one logical partition

@@ -30,22 +30,3 @@ pub record IsNewest (v : View) (set : ℕ → Bool) (r : Stamped Marks) : Type 0
 
 abbrev pub QuorumFinds : Type 0
 QuorumFinds = (votes : Votes) (s : State) → Found votes s → (v : View) → IsCrash s v → (set : ℕ → Bool) → IsTrue (votes.reads set) → (r : Stamped Marks) → IsNewest v set r → IsPossible s r.value
-
-abbrev pub with_status : View → (ℕ → Option (Stamped Marks)) → View
-with_status v status = record v { status = status }
-
--- a write of the update in flight ends: the disk has it, or what it had
-abbrev pub StatusEndKeepsFound : Type 0
-StatusEndKeepsFound = (votes : Votes) (s : State) (u : Stamped Marks) (status : ℕ → Option (Stamped Marks)) (flying : ℕ → Bool) → s.in_flight ≡ Some u
-    → ((d : ℕ) → (status d ≡ s.media.status d) ⊎ (status d ≡ Some u)) → Found votes s → Found votes (record s { media = with_status s.media status; status_flying = flying })
-
-abbrev pub BeginKeepsFound : Type 0
-BeginKeepsFound = (votes : Votes) (s : State) (u : Stamped Marks) → s.in_flight ≡ None → stamp_lt s.committed.stamp u.stamp ≡ true → Found votes s → Found votes (record s { in_flight = Some u })
-
--- the disks that have the update have votes enough to write
-abbrev pub CommitKeepsFound : Type 0
-CommitKeepsFound = (votes : Votes) (s : State) (u : Stamped Marks) (has_it : ℕ → Bool) → s.in_flight ≡ Some u → IsTrue (votes.writes has_it) → ((d : ℕ) → IsTrue (has_it d) → s.media.status d ≡ Some u)
-    → Found votes s → Found votes (record s { committed = u })
-
-abbrev pub UpdateEndKeepsFound : Type 0
-UpdateEndKeepsFound = (votes : Votes) (s : State) → s.in_flight ≡ Some s.committed → Found votes s → Found votes (record s { in_flight = None })

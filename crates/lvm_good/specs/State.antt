@@ -44,6 +44,8 @@ pub record Req : Type 0 where
   pub first : ℕ
   pub count : ℕ
   pub write : Bool
+  -- it is a step of a copy, and no request of the history
+  pub step : Bool
   pub value : ℕ → List ℕ
   pub phase : Phase
   -- more than one target

@@ -1,0 +1,13 @@
+-- A step of a copy has ended.
+use Rattle.std.specs.Prelude.{◌≡◌, ℕ, Some, IsTrue}
+use Rattle.lvm_good.specs.Found.{Votes}
+use Rattle.lvm_good.specs.Updates.{with_req, land}
+use Rattle.lvm_good.specs.State.{Req, State}
+use Rattle.lvm_good.specs.Good.{Good}
+
+pub record StepEnds (s : State) (i : ℕ) (r : Req) : Type 0 where
+  pub there : s.reqs i ≡ Some r
+  pub step : IsTrue r.step
+
+abbrev pub EndStepKeeps : Type 0
+EndStepKeeps = (votes : Votes) (s : State) (i : ℕ) (r : Req) → StepEnds s i r → Good votes s → Good votes (with_req s i (land r))
