@@ -8,7 +8,6 @@ use Rattle.lvm_good.specs.State.{Req, State, covers, Started}
 use Rattle.lvm_good.specs.Core.{MayDiffer, Agree, Settled, Blocks}
 use Rattle.lvm_good.proofs.Claims.{Calmer, CalmerKeepsBlocks}
 use Rattle.lvm_good.specs.State.{told}
-use Rattle.lvm_vol.specs.May.{known}
 
 module _ (old new : State) (calmer : Calmer old new) (blocks : Blocks old) where
   allowed_now : (lv b : ℕ) (c : Pp) → IsIn (told old lv b).values (old.media.block lv b c) → IsIn (told new lv b).values (new.media.block lv b c)

@@ -11,15 +11,10 @@ use Rattle.lvm_good.proofs.Small.{never, false_by, and_left_false}
 use Rattle.lvm_good.proofs.Requests.{decided, alone, past_of}
 use Rattle.lvm_good.proofs.Quieting.{nearly, one_req, quiet_nearly}
 use Rattle.lvm_good.specs.State.{told}
-use Rattle.lvm_vol.specs.May.{known}
 use Rattle.lvm_good.specs.CopyWrite.{Passes, CopyWrites}
-use Rattle.lvm_good.specs.StartWrite.{going}
 use Rattle.lvm_good.specs.Updates.{with_block}
 use Rattle.lvm_good.specs.Open.{Opens}
-use Rattle.lvm_good.specs.Pin.{pinned}
 use Rattle.lvm_good.specs.Clear.{Clears}
-use Rattle.lvm_good.proofs.Framing.{tied, holds}
-use Rattle.lvm_good.proofs.CrashLemmas.{is_open}
 
 the_copy : (a b : OpenCopy) → Some a ≡ Some b → a ≡ b
 the_copy a b e = cc

@@ -1,12 +1,11 @@
 -- What an event makes of what is known of each block, as the lemmas use it.
-use Rattle.std.specs.Prelude.{◌≡◌, ◌⊎◌, ℕ, ◌<◌, Bool, ◌&&◌, not, ◌==◌, if◌then◌else◌, List, [], ◌∷◌, Option, Some, None, IsTrue, IsFalse}
+use Rattle.std.specs.Prelude.{◌≡◌, ◌⊎◌, ℕ, ◌<◌, ◌==◌, List, [], ◌∷◌, Some, IsTrue, IsFalse}
 use Rattle.lvm_num.specs.declared.place.Pp.{Pp}
 use Rattle.lvm_num.specs.Geometry.{track_group_of}
-use Rattle.lvm_num.specs.Record.{Stamped}
-use Rattle.lvm_vol.specs.May.{Known, IsValue}
+use Rattle.lvm_vol.specs.May.{IsValue}
 use Rattle.lvm_good.specs.State.{write_of}
-use Rattle.lvm_good.specs.State.{Marks, Groups, View, Stage, Todo, Flying, Well, Phase, Held, WantEntry, Ready, Going, Landed, Req, OpenCopy, Caught, State, covers, request_of, has_landed, is_past, is_pinning, is_settled_stale, is_usable, Started}
-use Rattle.lvm_good.specs.Core.{Conflict, Complete, the_write}
+use Rattle.lvm_good.specs.State.{Groups, Stage, Well, Held, Going, Req, State, covers, request_of, has_landed, is_past, is_pinning, Started}
+use Rattle.lvm_good.specs.Core.{the_write}
 use Rattle.lvm_good.specs.State.{told}
 use Rattle.lvm_vol.specs.declared.entry.Vol.TheVariants.{Lv}
 use Rattle.lvm_vol.specs.May.{known}

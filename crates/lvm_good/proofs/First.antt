@@ -1,12 +1,13 @@
 -- What is asked of a session can be met.
-use Rattle.std.proofs.Common.{◌≡◌, inl, Bool, true, false, ◌&&◌, ◌||◌, [], ◌∷◌, Some, None, refl}
+use Rattle.std.proofs.Common.{◌≡◌, inl, Bool, true, false, ◌&&◌, ◌||◌, [], ◌∷◌, Some, None, refl, sym, inr}
 use Rattle.std.specs.Prelude.{IsTrue, IsFalse, ◌==◌, nat_lt, if◌then◌else◌}
 use Rattle.lvm_num.specs.Buffer.{zero_sector}
 use Rattle.lvm_num.specs.declared.descriptor.Mode.TheVariants.{Active}
 use Rattle.lvm_vol.specs.May.{Known, unknown, IsValue}
-use Rattle.lvm_good.specs.Fresh.{FirstIsCore}
-use Rattle.lvm_good.specs.Pin.{pinned}
-use Rattle.lvm_good.proofs.Framing.{tied, holds}
+use Rattle.lvm_good.specs.Fresh.{at_first, FirstIsGood}
+use Rattle.lvm_good.specs.Core.{Core}
+use Rattle.lvm_num.specs.Record.{Stamped}
+use Rattle.lvm_good.specs.State.{Marks}
 
 nothing : {X A : Type 0} (a : A) → None ≡ Some a → X
 nothing a e = absurd cc
@@ -41,7 +42,7 @@ not_loose : (inside : Bool) → IsFalse (made inside).loose
 not_loose true = refl
 not_loose false = refl
 
-pub first_is_core : FirstIsCore
+first_is_core : Core at_first
 first_is_core = record {
   blocks = record {
     each = λ lv b. inl (record { calm = λ i r started over. nothing r started.there; allowed = λ c live. zeros_there (1 == lv && nat_lt b 2048) (left (1 == lv && nat_lt b 2048) (c.pp == 0 && (c.disk == 0 || c.disk == 1)) live.copy); equal = inl (zero_sector, λ c live. refl) });
@@ -72,3 +73,27 @@ first_is_core = record {
     got = λ i lv b r value there read past got over. nothing r there;
   };
 }
+
+pub first_is_good : FirstIsGood
+first_is_good votes enough = record {
+  core = first_is_core;
+  found = record {
+    set = λ d. true;
+    enough = enough;
+    have = λ d h. inl refl;
+    only = λ d r is. inr (inl (sym (one_status r is)));
+    newer = λ u flies. nothing u flies;
+  };
+  told = record {
+    legal = (tt, (tt, tt));
+    same = λ i r there asked. nothing r there;
+    began = λ i r there asked. nothing r there;
+    ended = λ i r there asked. nothing r there;
+    untaken = λ i r there asked. nothing r there;
+    apart = λ i j r e there at a b other. nothing r there;
+    steps_read = λ i r there step. nothing r there;
+  };
+}
+  where
+    one_status : (r : Stamped Marks) → Some at_first.committed ≡ Some r → at_first.committed ≡ r
+    one_status r is = cc

@@ -7,7 +7,7 @@ use Rattle.lvm_num.specs.Geometry.{track_group_of}
 use Rattle.lvm_vol.specs.May.{Known, is_off}
 use Rattle.lvm_good.specs.State.{write_of}
 use Rattle.lvm_good.proofs.Small.{IsIn}
-use Rattle.lvm_good.specs.State.{Phase, Held, Going, Landed, Req, State, covers, request_of, is_past, has_landed, is_pinning, stale_in, is_settled_stale, Caught, Live, Named, Started}
+use Rattle.lvm_good.specs.State.{Phase, Held, Going, Landed, Req, State, covers, is_past, has_landed, is_pinning, stale_in, is_settled_stale, Caught, Live, Named, Started}
 use Rattle.lvm_good.specs.Core.{Complete, MayDiffer, Agree, Settled, Blocks, Tied, Holds, Core, the_write}
 use Rattle.lvm_good.proofs.Effects.{GotEffect, JoinEffect}
 use Rattle.lvm_good.proofs.Claims.{Frame, Calmer, GotKeeps, GotIsAllowed, SubmitKeepsCore}
@@ -23,11 +23,7 @@ use Rattle.lvm_vol.specs.declared.entry.Vol.TheVariants.{Lv}
 use Rattle.lvm_vol.specs.May.{known}
 use Rattle.std.proofs.Common.{eq-eqb}
 use Rattle.lvm_vol.specs.Facts.{Request}
-use Rattle.lvm_good.specs.StartWrite.{going}
 use Rattle.lvm_good.specs.Updates.{put, with_name, land, landed}
-use Rattle.lvm_good.specs.Pin.{pinned}
-use Rattle.lvm_good.proofs.Framing.{tied, holds}
-use Rattle.lvm_good.proofs.CrashLemmas.{is_open}
 
 module _ (s : State) (i : ℕ) (r : Req) (value : ℕ → List ℕ) (facts : List Fact) (step : GotEffect s i r value facts) (core : Core s) where
   abbrev new : State
@@ -189,10 +185,10 @@ got_is_allowed s i r value facts step core lv b over = (seen_here s i r value fa
 
 -- ---- a request begins
 
-named_at : (name : ℕ → Request) (i j : ℕ) (given : Request) → j ≡ i → with_name name i given j ≡ given
+pub named_at : (name : ℕ → Request) (i j : ℕ) (given : Request) → j ≡ i → with_name name i given j ≡ given
 named_at name i j given same = ap (λ (t : Bool). if t then given else name j) (eq-eqb j i same)
 
-named_other : (name : ℕ → Request) (i j : ℕ) (given : Request) → IsFalse (j == i) → with_name name i given j ≡ name j
+pub named_other : (name : ℕ → Request) (i j : ℕ) (given : Request) → IsFalse (j == i) → with_name name i given j ≡ name j
 named_other name i j given other = ap (λ (t : Bool). if t then given else name j) other
 
 module _ (s : State) (i : ℕ) (given : Request) (r : Req) (facts : List Fact) (step : JoinEffect s i given r facts) (core : Core s) where

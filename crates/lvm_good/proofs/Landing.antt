@@ -16,9 +16,7 @@ use Rattle.lvm_vol.specs.May.{known}
 use Rattle.lvm_vol.specs.Facts.{Fact}
 use Rattle.lvm_good.specs.State.{told}
 use Rattle.lvm_good.specs.LandDone.{IsDropped}
-use Rattle.lvm_good.specs.StartWrite.{going}
 use Rattle.lvm_good.specs.Updates.{land, landed}
-use Rattle.lvm_good.proofs.CrashLemmas.{is_open}
 
 not_going : {X : Type 0} (p : Phase) → Landed ≡ p → p ≡ Going → X
 not_going p a b = absurd cc

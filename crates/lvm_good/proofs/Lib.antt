@@ -20,3 +20,6 @@ mod Finding
 mod Whole
 mod Rules
 mod First
+mod Asking
+mod Entered
+mod Each

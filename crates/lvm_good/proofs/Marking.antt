@@ -13,8 +13,6 @@ use Rattle.lvm_good.proofs.Quieting.{nearly, quiet_nearly}
 use Rattle.lvm_good.specs.LandDone.{done}
 use Rattle.lvm_good.specs.Commit.{Commits}
 use Rattle.lvm_good.specs.Want.{Replaced, Wants, after_wants}
-use Rattle.lvm_good.proofs.Framing.{tied, holds}
-use Rattle.lvm_good.proofs.CrashLemmas.{is_open}
 
 no_copy : {X : Type 0} (o : Option OpenCopy) (k : OpenCopy) → o ≡ None → o ≡ Some k → X
 no_copy o k a b = absurd cc

@@ -10,8 +10,6 @@ use Rattle.lvm_good.proofs.Quieting.{nearly, quiet_nearly}
 use Rattle.lvm_good.specs.EndNote.{EndsNote}
 use Rattle.lvm_good.specs.Updates.{with_names}
 use Rattle.lvm_good.specs.StartNote.{StartsNote}
-use Rattle.lvm_good.proofs.Framing.{tied, holds}
-use Rattle.lvm_good.proofs.CrashLemmas.{is_open}
 
 same_note : (a b : Groups) → Some a ≡ Some b → a ≡ b
 same_note a b e = cc

@@ -4,7 +4,6 @@ use Rattle.std.specs.Prelude.{IsTrue, IsFalse, ◌==◌}
 use Rattle.std.proofs.lemmas.Bool.{cases_lt}
 use Rattle.lvm_num.specs.declared.place.Pp.{Pp}
 use Rattle.lvm_num.specs.Geometry.{track_group_of}
-use Rattle.lvm_vol.specs.May.{Known}
 use Rattle.lvm_good.specs.State.{write_of}
 use Rattle.lvm_good.proofs.Small.{IsIn}
 use Rattle.lvm_good.specs.State.{Groups, Stage, Phase, Held, WantEntry, Ready, Going, Req, State, covers, request_of, is_past, has_landed, is_pinning, stale_in, is_settled_stale, Caught, Live, Started}
@@ -20,12 +19,8 @@ use Rattle.lvm_vol.specs.declared.entry.Vol.TheVariants.{Lv}
 use Rattle.lvm_vol.specs.May.{known}
 use Rattle.lvm_vol.specs.Facts.{Fact}
 use Rattle.lvm_good.specs.State.{told}
-use Rattle.lvm_good.specs.StartWrite.{going}
 use Rattle.lvm_good.specs.Admit.{admitted, Admits}
 use Rattle.lvm_good.specs.Updates.{put, with_req}
-use Rattle.lvm_good.specs.Pin.{pinned}
-use Rattle.lvm_good.proofs.Framing.{tied, holds}
-use Rattle.lvm_good.proofs.CrashLemmas.{is_open}
 
 -- ---- a request that isn't a write under way changes, and no block does
 

@@ -12,10 +12,6 @@ use Rattle.lvm_good.proofs.Claims.{Alike, Frame, Calmer, Quiet, Rest, QuietKeeps
 use Rattle.lvm_good.proofs.Calm.{calm_blocks}
 use Rattle.lvm_good.proofs.Framing.{frame_keeps}
 use Rattle.lvm_good.specs.State.{told}
-use Rattle.lvm_good.specs.StartWrite.{going}
-use Rattle.lvm_good.specs.Updates.{landed}
-use Rattle.lvm_good.specs.Pin.{pinned}
-use Rattle.lvm_good.proofs.Framing.{tied, holds}
 
 pub one_req : {a b : Req} → Some a ≡ Some b → a ≡ b
 one_req h = cc

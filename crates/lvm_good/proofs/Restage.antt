@@ -9,11 +9,8 @@ use Rattle.lvm_good.specs.Core.{MayDiffer, Agree, Settled, Busy, Recorded, Block
 use Rattle.lvm_good.proofs.Small.{never}
 use Rattle.lvm_good.proofs.Requests.{decided, put_cases, put_same, put_other, staged_at, staged_was, staged_is, one_write}
 use Rattle.lvm_good.specs.State.{told}
-use Rattle.lvm_vol.specs.May.{known}
-use Rattle.lvm_good.specs.StartWrite.{going}
 use Rattle.lvm_good.specs.Transfer.{Restages, restaged}
 use Rattle.lvm_good.specs.Updates.{staged}
-use Rattle.lvm_good.proofs.CrashLemmas.{is_open}
 
 module _ (s : State) (core : Core s) (i : ℕ) (r : Req) (c : Pp) (stage : Stage) (block : ℕ → ℕ → Pp → List ℕ) (step : Restages s i r c stage block) where
   abbrev next : Req

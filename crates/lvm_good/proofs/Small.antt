@@ -5,7 +5,6 @@ use Rattle.lvm_num.specs.Buffer.{Sector}
 use Rattle.lvm_vol.specs.Facts.{Request, Stands, same_request, block_of}
 use Rattle.lvm_good.specs.State.{write_in}
 use Rattle.lvm_vol.specs.May.{is_some_open}
-use Rattle.lvm_vol.specs.May.{known}
 
 -- the value is one of those known
 abbrev pub IsIn : Option (List (List ℕ)) → List ℕ → Type 0

@@ -10,10 +10,7 @@ use Rattle.lvm_good.specs.Core.{Settled, Busy, Recorded, Blocks, Complete, Core,
 use Rattle.lvm_good.proofs.Small.{never}
 use Rattle.lvm_good.proofs.Requests.{decided, put_cases, put_same, put_other, staged_cases, staged_was, staged_is, alone, past_of}
 use Rattle.lvm_good.specs.State.{told}
-use Rattle.lvm_vol.specs.May.{known}
 use Rattle.lvm_good.specs.StartWrite.{MayStart, going, started_first}
-use Rattle.lvm_good.specs.Fresh.{at_first}
-use Rattle.lvm_good.proofs.CrashLemmas.{is_open}
 
 -- a phase isn't two
 pub not_both : {X : Type 0} (p : Phase) → p ≡ Ready → p ≡ Going → X

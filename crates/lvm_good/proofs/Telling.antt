@@ -1,19 +1,18 @@
 -- What an entry changes of what is known of a block, seen by the requests that are open there.
-use Rattle.std.proofs.Common.{◌≡◌, ◌⊎◌, inl, inr, ⊎_elim, ℕ, ◌+◌, ◌≤◌, ◌<◌, Bool, true, false, ◌&&◌, ◌||◌, not, cond, List, [], ◌∷◌, ◌++◌, Option, Some, None, refl, sym, ap, subst, ◌∙◌, eqb-true, eq-eqb, arith, count_by}
+use Rattle.std.proofs.Common.{◌≡◌, ◌⊎◌, inl, inr, ⊎_elim, ℕ, ◌<◌, Bool, true, false, ◌&&◌, ◌||◌, not, List, [], ◌∷◌, ◌++◌, Some, None, refl, sym, ap, subst, ◌∙◌, eqb-true, eq-eqb, arith, count_by}
 use Rattle.std.specs.Prelude.{IsTrue, IsFalse, ◌==◌, if◌then◌else◌, option_map, filter}
-use Rattle.std.specs.List.{list_any, find}
+use Rattle.std.specs.List.{find}
 use Rattle.lvm_num.specs.Buffer.{Sector}
 use Rattle.lvm_vol.specs.declared.entry.Vol.{Vol}
 use Rattle.lvm_vol.specs.declared.entry.Vol.TheVariants.{Lv}
 use Rattle.lvm_vol.specs.declared.entry.Outcome.{Outcome}
 use Rattle.lvm_vol.specs.declared.entry.Outcome.TheVariants as outcome
 use Rattle.lvm_vol.specs.Facts.{Request, Fact, Making, Made, Split, Removing, Removed, Begun, Landed, Taken, Cut, On, Stands, same_vol, same_request, is_over, block_of}
-use Rattle.lvm_vol.specs.May.{Known, is_open_in, without, is_off, ended, read, landed, change, source, known, cut}
+use Rattle.lvm_vol.specs.May.{Known, is_open_in, without, ended, read, landed, change, source, known}
 use Rattle.lvm_vol.specs.Legal.{begins_in, Fits, Legal}
 use Rattle.lvm_vol.proofs.Knowing.{known-push, ended_open, read_open}
 use Rattle.lvm_vol.proofs.Legality.{grow_legal, counted_well, same_self}
 use Rattle.lvm_vol.proofs.Order.{stands_left, stands_last}
-use Rattle.lvm_num.specs.declared.descriptor.Mode.{Mode}
 use Rattle.std.specs.Prelude.{nat_lt}
 use Rattle.lvm_num.specs.Buffer.{zero_sector}
 use Rattle.lvm_good.specs.State.{write_in, write_of}
@@ -288,21 +287,21 @@ open_began facts legal = grow_legal OpenBegan grow [] facts (λ vol b s none. no
         (changed f vol b (known past (source f vol) b) s (subst (λ (k : Known). Stands s k.open_writes) (known-push past f vol b) h))
 
 -- so one with a further number isn't open
+pub later_apart : (facts : List Fact) (r s : Request) → Legal facts → count_by (begins_in r.run) facts < r.id → Stands (Begun s) facts → IsFalse (same_request r s)
+later_apart facts r s legal above stands = by_test (same_request r s) refl
+  where
+    by_test : (t : Bool) → same_request r s ≡ t → IsFalse t
+    by_test false is = refl
+    by_test true is =
+        let well = counted_well facts legal in
+        let high = (well.begun_low s stands).1 in
+        let one_run : count_by (begins_in s.run) facts ≡ count_by (begins_in r.run) facts = ap (λ (n : ℕ). count_by (begins_in n) facts) (sym (same_run r s is)) in
+        let one_id = same_id r s is in
+        absurd (omega (arith, high, above, one_run, one_id))
+
 pub not_open : (facts : List Fact) (r : Request) (vol : Vol) (b : ℕ) → Legal facts → count_by (begins_in r.run) facts < r.id → is_open_in r (known facts vol b).open_writes ≡ false
 not_open facts r vol b legal above = by_list (known facts vol b).open_writes (λ s h. open_began facts legal vol b s h)
   where
-    low : (s : Request) → Stands (Begun s) facts → IsFalse (same_request r s)
-    low s stands = by_test (same_request r s) refl
-      where
-        by_test : (t : Bool) → same_request r s ≡ t → IsFalse t
-        by_test false is = refl
-        by_test true is =
-            let well = counted_well facts legal in
-            let high = (well.begun_low s stands).1 in
-            let one_run : count_by (begins_in s.run) facts ≡ count_by (begins_in r.run) facts = ap (λ (n : ℕ). count_by (begins_in n) facts) (sym (same_run r s is)) in
-            let one_id = same_id r s is in
-            absurd (omega (arith, high, above, one_run, one_id))
-
     by_list : (ws : List Request) → ((s : Request) → Stands s ws → Stands (Begun s) facts) → is_open_in r ws ≡ false
     by_list [] all = refl
-    by_list (w ∷ ws) all = ap (λ (t : Bool). t || is_open_in r ws) (low w (all w (inl refl))) ∙ by_list ws (λ s h. all s (inr h))
+    by_list (w ∷ ws) all = ap (λ (t : Bool). t || is_open_in r ws) (later_apart facts r w legal above (all w (inl refl))) ∙ by_list ws (λ s h. all s (inr h))

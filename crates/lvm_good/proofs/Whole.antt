@@ -1,5 +1,5 @@
 -- Each event keeps what is true of a session.
-use Rattle.std.proofs.Common.{◌≡◌, inl, inr, ⊎_elim, ℕ, Bool, true, false, [], ◌∷◌, Option, Some, None, refl, sym, ap, subst, ◌∙◌, eqb-true}
+use Rattle.std.proofs.Common.{◌≡◌, inl, inr, ⊎_elim, ℕ, Bool, true, false, Option, Some, None, refl, sym, ap, subst, ◌∙◌, eqb-true}
 use Rattle.std.specs.Prelude.{IsTrue, IsFalse, ◌==◌, if◌then◌else◌}
 use Rattle.lvm_num.specs.declared.place.Pp.{Pp}
 use Rattle.lvm_num.specs.Geometry.{track_group_of}
@@ -7,27 +7,21 @@ use Rattle.lvm_num.specs.Record.{Stamped}
 use Rattle.lvm_good.specs.State.{Marks, Req, State, has_landed, is_pinning, is_settled_stale, Caught, Live, Started}
 use Rattle.lvm_good.specs.Core.{Complete, Core}
 use Rattle.lvm_good.proofs.Claims.{Frame, Calmer, Quiet}
-use Rattle.lvm_good.specs.Crash.{EachKept}
 use Rattle.lvm_good.proofs.Small.{never}
 use Rattle.lvm_good.proofs.Requests.{decided}
 use Rattle.lvm_good.proofs.Calm.{calm_blocks}
 use Rattle.lvm_good.proofs.Framing.{frame_keeps}
 use Rattle.lvm_good.proofs.Quieting.{nearly, one_req, alike_same, quiet_nearly}
-use Rattle.lvm_good.proofs.CrashLemmas.{core_kept}
-use Rattle.lvm_good.proofs.Writes.{first_keeps, restaging_keeps, done_keeps, lost_keeps, same_statuses}
-use Rattle.lvm_good.proofs.Others.{plain_keeps, admit_keeps}
-use Rattle.lvm_good.proofs.Getting.{got_keeps, submit_keeps}
-use Rattle.lvm_good.proofs.Marking.{wants_keep, begin_keeps, commit_keeps, update_end_keeps}
-use Rattle.lvm_good.proofs.Noting.{start_note_keeps, end_note_keeps}
-use Rattle.lvm_good.proofs.Copying.{copy_write_keeps, open_keeps, clear_keeps}
-use Rattle.lvm_good.proofs.Finding.{status_end_keeps_found, begin_keeps_found, commit_keeps_found, update_end_keeps_found}
+use Rattle.lvm_good.proofs.Writes.{same_statuses}
 use Rattle.lvm_good.specs.State.{told}
-use Rattle.lvm_good.specs.StartWrite.{going}
 use Rattle.lvm_good.specs.Take.{Takes}
 use Rattle.lvm_good.specs.Updates.{without, with_status}
-use Rattle.lvm_good.specs.Pin.{pinned}
-use Rattle.lvm_good.proofs.Framing.{tied, holds}
-use Rattle.lvm_good.proofs.CrashLemmas.{is_open}
+use Rattle.std.specs.Prelude.{List}
+use Rattle.lvm_vol.specs.declared.entry.Vol.TheVariants.{Lv}
+use Rattle.lvm_vol.specs.Facts.{Fact}
+use Rattle.lvm_vol.specs.May.{Known, known}
+use Rattle.lvm_good.specs.State.{write_of}
+use Rattle.lvm_good.proofs.Small.{IsIn}
 
 -- ---- a status moves
 
@@ -38,7 +32,7 @@ module _ (s : State) (status : ℕ → Option (Stamped Marks)) (flying : ℕ →
   complete_moved : (c : Pp) → Complete s c → Complete moved c
   complete_moved c k = record { copy = k.copy; is_open = k.is_open; target = k.target; passed = k.passed }
 
-  moved_core : Core moved
+  pub moved_core : Core moved
   moved_core =
       let quiet : Quiet s moved = record {
         reqs = λ i. refl;
@@ -68,9 +62,9 @@ module _ (s : State) (status : ℕ → Option (Stamped Marks)) (flying : ℕ →
 
 -- ---- a request is taken
 
-module _ (s : State) (i : ℕ) (r : Req) (step : Takes s i r) (core : Core s) where
+module _ (s : State) (i : ℕ) (r : Req) (step : Takes s i r) (core : Core s) (facts : List Fact) (same_known : (lv b : ℕ) → known facts (Lv lv) b ≡ told s lv b) where
   abbrev taken : State
-  taken = record s { reqs = without s.reqs i }
+  taken = record s { reqs = without s.reqs i; facts = facts }
 
   before : (j : ℕ) (e : Req) → without s.reqs i j ≡ Some e → s.reqs j ≡ Some e
   before j e h = by_test (j == i) h
@@ -89,13 +83,13 @@ module _ (s : State) (i : ℕ) (r : Req) (step : Takes s i r) (core : Core s) wh
   live_taken : (lv b : ℕ) (e : Pp) → Live taken lv b e → Live s lv b e
   live_taken lv b e live = record { copy = live.copy; counts = ⊎_elim (λ (f : IsFalse (is_settled_stale s e)). inl f) (λ (k : Caught taken lv (track_group_of b) e). inr (record { copy = k.copy; is_open = k.is_open; target = k.target; passed = k.passed })) live.counts }
 
-  taken_core : Core taken
+  pub taken_core : Core taken
   taken_core =
       let calmer : Calmer s taken = record {
         started = λ j e started. record { there = before j e started.there; write = started.write; going = started.going };
         started_still = λ j e started. record { there = stays j e started; write = started.write; going = started.going };
-        may = λ lv b. refl;
-        loose = λ lv b h. h;
+        may = λ lv b. ap (λ (k : Known). k.values) (same_known lv b);
+        loose = λ lv b h. ap (λ (k : Known). k.loose) (same_known lv b) ∙ h;
         block = λ lv b c. refl;
         live = live_taken;
         active = λ lv. refl;
@@ -105,16 +99,16 @@ module _ (s : State) (i : ℕ) (r : Req) (step : Takes s i r) (core : Core s) wh
       } in
       let frame : Frame s taken = record {
         from = λ j n h. (n, before j n h, alike_same n);
-        writes = λ j n h write unlanded lv b. refl;
+        writes = λ j n h write unlanded lv b. ap (λ (k : Known). write_of b k (s.name j)) (same_known lv b);
         run = refl;
-        modes = λ lv b. refl;
+        modes = λ lv b. ap (λ (k : Known). k.mode) (same_known lv b);
         active = λ lv. refl;
         copies = λ lv b. refl;
-        tight = core.tied.tight;
+        tight = λ lv b on. ap (λ (k : Known). k.loose) (same_known lv b) ∙ core.tied.tight lv b on;
         seen = λ j lv b e n v seen h past. (
-          seen.allowed,
+          subst (λ (k : Known). IsIn k.values v) (sym (same_known lv b)) seen.allowed,
           ⊎_elim
-              (λ (loose : IsTrue (told s lv b).loose). inl loose)
+              (λ (loose : IsTrue (told s lv b).loose). inl (ap (λ (k : Known). k.loose) (same_known lv b) ∙ loose))
               (λ (equal : (g : Pp) → Live s lv b g → s.media.block lv b g ≡ v). inr (λ g live. equal g (live_taken lv b g live)))
               seen.equal,
         );
@@ -127,9 +121,8 @@ module _ (s : State) (i : ℕ) (r : Req) (step : Takes s i r) (core : Core s) wh
       record {
         blocks = calm_blocks s taken calmer core.blocks;
         tied = f.0;
-        statuses = same_statuses s core s.media.block (without s.reqs i) s.facts;
+        statuses = same_statuses s core s.media.block (without s.reqs i) facts;
         behind = record { left_behind = core.behind.left_behind };
         notes = record { home = core.notes.home; pinned = f.2 };
         holds = f.1;
       }
-

@@ -21,9 +21,6 @@ use Rattle.lvm_good.specs.State.{told}
 use Rattle.lvm_good.specs.StartWrite.{MayStart, going, started_first}
 use Rattle.lvm_good.specs.Transfer.{restaged}
 use Rattle.lvm_good.specs.Updates.{put, staged, land, landed}
-use Rattle.lvm_good.specs.Pin.{pinned}
-use Rattle.lvm_good.proofs.Framing.{tied, holds}
-use Rattle.lvm_good.proofs.CrashLemmas.{is_open}
 
 -- only requests, blocks and the history change: the statuses and notes are as before
 module _ (s : State) (core : Core s) (block : ℕ → ℕ → Pp → List ℕ) (reqs : ℕ → Option Req) (facts : List Fact) where

@@ -1,7 +1,8 @@
 -- A step of a copy enters the queue.
 use Rattle.std.specs.Prelude.{◌≡◌, ℕ, ◌<◌, Some, IsTrue, IsFalse}
 use Rattle.lvm_good.specs.Found.{Votes}
-use Rattle.lvm_good.specs.Updates.{with_req}
+use Rattle.lvm_good.specs.Updates.{put, with_name}
+use Rattle.lvm_vol.specs.Facts.{Request}
 use Rattle.lvm_good.specs.Submit.{IsPlaced}
 use Rattle.lvm_good.specs.State.{Held, Req, State}
 use Rattle.lvm_good.specs.Good.{Good}
@@ -14,5 +15,9 @@ pub record StepEnters (s : State) (i : ℕ) (r : Req) : Type 0 where
   pub step : IsTrue r.step
   pub reads : IsFalse r.write
 
+-- its name is none of the history's
+abbrev pub entered : State → ℕ → Request → Req → State
+entered s i q r = record s { reqs = put s.reqs i r; name = with_name s.name i q }
+
 abbrev pub EnterStepKeeps : Type 0
-EnterStepKeeps = (votes : Votes) (s : State) (i : ℕ) (r : Req) → StepEnters s i r → Good votes s → Good votes (with_req s i r)
+EnterStepKeeps = (votes : Votes) (s : State) (i : ℕ) (q : Request) (r : Req) → StepEnters s i r → Good votes s → Good votes (entered s i q r)

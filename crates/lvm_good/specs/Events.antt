@@ -6,7 +6,7 @@ use Rattle.lvm_vol.specs.Facts.{Request}
 use Rattle.lvm_vol.specs.Legal.{Legal}
 use Rattle.lvm_good.specs.EndNote.{EndsNote, after_note}
 use Rattle.lvm_good.specs.CopyWrite.{CopyWrites, copied}
-use Rattle.lvm_good.specs.EnterStep.{StepEnters}
+use Rattle.lvm_good.specs.EnterStep.{StepEnters, entered}
 use Rattle.lvm_good.specs.LandDone.{LandsDone, done}
 use Rattle.lvm_good.specs.StartWrite.{MayStart, started_first}
 use Rattle.lvm_good.specs.Commit.{Commit, after_commit}
@@ -37,7 +37,7 @@ use Rattle.lvm_good.specs.Clear.{Clears}
 -- an event, with what it brings along
 pub data Event : Type 0 where
   Submit : (i : ℕ) (q : Request) (r : Req) → Event
-  EnterStep : (i : ℕ) (r : Req) → Event
+  EnterStep : (i : ℕ) (q : Request) (r : Req) → Event
   Admit : (i : ℕ) (r : Req) (phase : Phase) (several : Bool) (targets : Pp → Option Stage) → Event
   Pin : (i : ℕ) (r : Req) (cache : Groups) → Event
   Read : (i : ℕ) (r : Req) (c : Pp) (stage : Stage) (got : Option (ℕ → List ℕ)) → Event
@@ -64,7 +64,7 @@ pub data Event : Type 0 where
 -- it may be made in the state, and makes the new one of it
 abbrev pub Step : Votes → Event → State → State → Type 0
 Step votes (Submit i q r) s new = Submits s i q r × (new ≡ submitted s i q r)
-Step votes (EnterStep i r) s new = StepEnters s i r × (new ≡ with_req s i r)
+Step votes (EnterStep i q r) s new = StepEnters s i r × (new ≡ entered s i q r)
 Step votes (Admit i r phase several targets) s new = Admits s i r phase several targets × (new ≡ with_req s i (admitted r phase several targets))
 Step votes (Pin i r cache) s new = Pins s i r cache × (new ≡ pinned s i r cache)
 Step votes (Read i r c stage got) s new = Reads s i r c got × (new ≡ with_req s i (reading r c stage got))

@@ -1,5 +1,5 @@
 -- Which status each quorum finds.
-use Rattle.std.specs.Prelude.{◌≡◌, ◌⊎◌, ℕ, Bool, true, false, Option, Some, None, IsTrue}
+use Rattle.std.specs.Prelude.{◌≡◌, ◌⊎◌, ℕ, Bool, true, false, Some, IsTrue}
 use Rattle.lvm_num.specs.Record.{Stamped, stamp_lt}
 use Rattle.lvm_good.specs.State.{Marks, View, State}
 use Rattle.lvm_good.specs.Crash.{IsCrash, IsPossible}

@@ -5,12 +5,14 @@ use Rattle.lvm_num.specs.Buffer.{zero_sector}
 use Rattle.lvm_vol.specs.declared.entry.Vol.TheVariants.{Lv}
 use Rattle.lvm_vol.specs.Facts.{Making, Made}
 use Rattle.lvm_good.specs.State.{State}
-use Rattle.lvm_good.specs.Core.{Core}
+use Rattle.lvm_good.specs.Found.{Votes}
+use Rattle.lvm_good.specs.Good.{Good}
+use Rattle.std.specs.Prelude.{IsTrue}
 use Rattle.std.specs.Prelude.{nat_lt}
 
 abbrev pub at_first : State
 at_first = record {
-  media = record { block = λ lv b c. zero_sector; names = λ d lv g. false; status = λ d. None };
+  media = record { block = λ lv b c. zero_sector; names = λ d lv g. false; status = λ d. Some (record { stamp = record { epoch = 1; seq = 1 }; value = λ c. false }) };
   reqs = λ i. None;
   facts = Making 1 2048 Active ∷ Made 1 ∷ [];
   name = λ i. record { run = 1; id = i; client = 0; vol = Lv 1; at = 0; count = 0; write = false; blocks = [] };
@@ -28,5 +30,6 @@ at_first = record {
   step_write = None;
 }
 
-abbrev pub FirstIsCore : Type 0
-FirstIsCore = Core at_first
+-- one disk has all votes
+abbrev pub FirstIsGood : Type 0
+FirstIsGood = (votes : Votes) → IsTrue (votes.writes (λ d. true)) → Good votes at_first

@@ -1,5 +1,5 @@
 -- A write lands as Done.
-use Rattle.std.specs.Prelude.{◌≡◌, ◌⊎◌, ℕ, ◌+◌, true, [], ◌∷◌, ◌++◌, Some, IsTrue}
+use Rattle.std.specs.Prelude.{◌≡◌, ◌⊎◌, ℕ, true, [], ◌∷◌, ◌++◌, Some, IsTrue}
 use Rattle.lvm_num.specs.declared.place.Pp.{Pp}
 use Rattle.lvm_num.specs.Geometry.{track_group_of}
 use Rattle.lvm_good.specs.Found.{Votes}

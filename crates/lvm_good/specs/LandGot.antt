@@ -1,5 +1,5 @@
 -- A read lands with what it got.
-use Rattle.std.specs.Prelude.{◌≡◌, ℕ, ◌+◌, true, List, [], ◌∷◌, ◌++◌, Some, IsTrue, IsFalse, length}
+use Rattle.std.specs.Prelude.{◌≡◌, ℕ, true, List, [], ◌∷◌, ◌++◌, Some, IsTrue, IsFalse, length}
 use Rattle.lvm_vol.specs.Facts.{block_of, Landed}
 use Rattle.lvm_good.specs.Found.{Votes}
 use Rattle.lvm_good.specs.Updates.{landed}

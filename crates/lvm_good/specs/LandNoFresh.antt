@@ -1,5 +1,5 @@
 -- A request lands as NoFresh.
-use Rattle.std.specs.Prelude.{◌≡◌, ◌⊎◌, ℕ, ◌+◌, false, [], ◌∷◌, ◌++◌, Some, IsTrue, IsFalse}
+use Rattle.std.specs.Prelude.{◌≡◌, ◌⊎◌, ℕ, false, [], ◌∷◌, ◌++◌, Some, IsTrue, IsFalse}
 use Rattle.lvm_num.specs.declared.place.Pp.{Pp}
 use Rattle.lvm_good.specs.Found.{Votes}
 use Rattle.lvm_good.specs.Updates.{landed}

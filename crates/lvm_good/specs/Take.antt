@@ -1,8 +1,8 @@
 -- A client takes the answer of its request, or a step of a copy leaves the queue.
-use Rattle.std.specs.Prelude.{◌≡◌, ℕ, ◌+◌, if◌then◌else◌, [], ◌∷◌, ◌++◌, Some, IsTrue}
+use Rattle.std.specs.Prelude.{◌≡◌, ℕ, if◌then◌else◌, [], ◌∷◌, ◌++◌, Some, IsTrue}
 use Rattle.lvm_vol.specs.Facts.{Taken}
 use Rattle.lvm_good.specs.Found.{Votes}
-use Rattle.lvm_good.specs.Updates.{without, landed}
+use Rattle.lvm_good.specs.Updates.{without}
 use Rattle.lvm_good.specs.State.{Req, State, has_landed}
 use Rattle.lvm_good.specs.Good.{Good}
 
