@@ -23,3 +23,4 @@ mod First
 mod Asking
 mod Entered
 mod Each
+mod Ending

@@ -31,3 +31,6 @@ pub mod CopyWrite
 pub mod Clear
 pub mod Events
 pub mod Fresh
+pub mod Over
+pub mod Off
+pub mod Cut

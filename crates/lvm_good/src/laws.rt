@@ -25,7 +25,10 @@ ghost use Rattle.lvm_good.specs.Open.{OpenKeeps};
 ghost use Rattle.lvm_good.specs.CopyWrite.{CopyWriteKeeps};
 ghost use Rattle.lvm_good.specs.Clear.{ClearKeeps};
 ghost use Rattle.lvm_good.specs.Events.{EachEventKeepsGood, EachMomentIsKept};
+ghost use Rattle.lvm_good.specs.Cut.{CutKeeps};
 ghost use Rattle.lvm_good.specs.Found.{QuorumFinds};
+ghost use Rattle.lvm_good.specs.Off.{OffKeeps};
+ghost use Rattle.lvm_good.specs.Over.{OverStays};
 ghost use Rattle.lvm_good.specs.Fresh.{FirstIsGood};
 
 /// A request begins.
@@ -168,4 +171,21 @@ pub fn quorum_finds()
 /// A session on a new volume is in a good state.
 pub fn first_is_good()
     ensures { FirstIsGood }
+{}
+
+/// Where the votes are lost and no flight is out, each open request lands as Off, with its data
+/// started or not. The history is legal then, and what the disks may show agrees with it.
+pub fn group_goes_off()
+    ensures { OffKeeps }
+{}
+
+/// Where the power is cut, whatever is out, each open request lands as Dark. The history is legal then,
+/// and each image that the cut may leave agrees with it.
+pub fn power_is_cut()
+    ensures { CutKeeps }
+{}
+
+/// It stays so where answers are taken after that.
+pub fn answers_after_the_end()
+    ensures { OverStays }
 {}
