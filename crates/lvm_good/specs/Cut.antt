@@ -1,5 +1,5 @@
 -- The power is cut.
-use Rattle.std.specs.Prelude.{ℕ, ◌+◌, Bool, List, [], ◌∷◌, ◌++◌}
+use Rattle.std.specs.Prelude.{ℕ, Bool, List, [], ◌∷◌, ◌++◌}
 use Rattle.lvm_vol.specs.Facts.{Cut}
 use Rattle.lvm_good.specs.Found.{Votes}
 use Rattle.lvm_good.specs.State.{State}

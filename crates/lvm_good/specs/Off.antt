@@ -1,8 +1,7 @@
 -- The group goes off.
-use Rattle.std.specs.Prelude.{◌≡◌, ℕ, ◌+◌, Bool, not, List, ◌++◌, Some, None, IsFalse}
+use Rattle.std.specs.Prelude.{◌≡◌, ℕ, Bool, not, List, ◌++◌, Some, None, IsFalse}
 use Rattle.lvm_num.specs.declared.place.Pp.{Pp}
 use Rattle.lvm_good.specs.Found.{Votes}
-use Rattle.lvm_good.specs.LandLost.{lost}
 use Rattle.lvm_good.specs.State.{Flying, Req, State}
 use Rattle.lvm_good.specs.Good.{Good}
 use Rattle.lvm_good.specs.Over.{AreOpen, landings, IsOver}
