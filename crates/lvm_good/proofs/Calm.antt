@@ -4,8 +4,8 @@ use Rattle.std.specs.Prelude.{IsTrue}
 use Rattle.lvm_num.specs.declared.place.Pp.{Pp}
 use Rattle.lvm_num.specs.Geometry.{track_group_of}
 use Rattle.lvm_good.proofs.Small.{IsIn}
-use Rattle.lvm_good.specs.State.{Req, State, covers, Started}
-use Rattle.lvm_good.specs.Core.{MayDiffer, Agree, Settled, Blocks}
+use Rattle.lvm_good.specs.State.{Queued, State, covers, Started}
+use Rattle.lvm_good.specs.Sound.{MayDiffer, Agree, Settled, Blocks}
 use Rattle.lvm_good.proofs.Claims.{Calmer, CalmerKeepsBlocks}
 use Rattle.lvm_good.specs.State.{told}
 
@@ -32,7 +32,7 @@ module _ (old new : State) (calmer : Calmer old new) (blocks : Blocks old) where
   calm_blocks = record {
     each = λ lv b. ⊎_elim
         (λ (settled : Settled old lv b). inl (settled_now lv b settled))
-        (λ (by : (i : ℕ) × (r : Req) × Started old i r × IsTrue (covers r lv b)). inr (by.0, by.1, calmer.started_still by.0 by.1 by.2, by.3))
+        (λ (by : (i : ℕ) × (r : Queued) × Started old i r × IsTrue (covers r lv b)). inr (by.0, by.1, calmer.started_still by.0 by.1 by.2, by.3))
         (blocks.each lv b);
     busy = λ i lv b r started over.
         let busy = blocks.busy i lv b r (calmer.started i r started) over in

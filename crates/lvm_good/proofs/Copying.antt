@@ -4,8 +4,8 @@ use Rattle.std.specs.Prelude.{IsTrue, IsFalse}
 use Rattle.lvm_num.specs.declared.place.Pp.{Pp}
 use Rattle.lvm_num.specs.Geometry.{track_group_of}
 use Rattle.lvm_good.proofs.Small.{IsIn}
-use Rattle.lvm_good.specs.State.{Marks, OpenCopy, StepWrite, Going, Req, State, covers, stale_in, is_settled_stale, Caught, Live, Named, Started}
-use Rattle.lvm_good.specs.Core.{Complete, Statuses, MayDiffer, Agree, Settled, Blocks, Holds, Core}
+use Rattle.lvm_good.specs.State.{Marks, OpenCopy, StepWrite, Going, Queued, State, covers, stale_in, is_settled_stale, HasPassed, Live, Named, Started}
+use Rattle.lvm_good.specs.Sound.{Complete, Statuses, MayDiffer, Agree, Settled, Blocks, Holds, Sound}
 use Rattle.lvm_good.proofs.Claims.{Quiet, CopyWriteKeepsCore, OpenKeepsCore, ClearKeepsCore}
 use Rattle.lvm_good.proofs.Small.{never, false_by, and_left_false}
 use Rattle.lvm_good.proofs.Requests.{decided, alone, past_of}
@@ -19,20 +19,20 @@ use Rattle.lvm_good.specs.Clear.{Clears}
 the_copy : (a b : OpenCopy) → Some a ≡ Some b → a ≡ b
 the_copy a b e = cc
 
-module _ (s : State) (i : ℕ) (r : Req) (value : ℕ → List ℕ) (target : Pp) (open_copy : Option OpenCopy) (step_write : Option StepWrite) (block : ℕ → ℕ → Pp → List ℕ) (step : CopyWrites s i r value target open_copy block) (core : Core s) where
+module _ (s : State) (i : ℕ) (r : Queued) (value : ℕ → List ℕ) (target : Pp) (open_copy : Option OpenCopy) (step_write : Option StepWrite) (block : ℕ → ℕ → Pp → List ℕ) (step : CopyWrites s i r value target open_copy block) (sound : Sound s) where
   abbrev new : State
   new = record s { media = with_block s.media block; open_copy = open_copy; step_write = step_write }
 
-  elsewhere : (j lv b : ℕ) (e : Req) → Started s j e → IsTrue (covers e lv b) → IsTrue (covers r lv b) → ⊥
+  elsewhere : (j lv b : ℕ) (e : Queued) → Started s j e → IsTrue (covers e lv b) → IsTrue (covers r lv b) → ⊥
   elsewhere j lv b e started over_e over =
-      let same : i ≡ j = alone s core i j r e step.there started.there step.past (past_of e.phase Going started.going refl) (record { lv = lv; block = b; first = over; second = over_e; writes = inr started.write }) in
-      never r.write (ap (λ (q : Req). q.write) (one_req (sym step.there ∙ ap s.reqs same ∙ started.there)) ∙ started.write) step.read
+      let same : i ≡ j = alone s sound i j r e step.there started.there step.past (past_of e.phase Going started.going refl) (record { lv = lv; block = b; first = over; second = over_e; writes = inr started.write }) in
+      never r.write (ap (λ (q : Queued). q.write) (one_req (sym step.there ∙ ap s.queue same ∙ started.there)) ∙ started.write) step.read
 
   -- a copy that is live now was live, or it is the target and has the value there
   live_was : (lv b : ℕ) (c : Pp) → Live new lv b c → Live s lv b c ⊎ ((c ≡ target) × IsTrue (covers r lv b) × (block lv b c ≡ value b))
   live_was lv b c live = ⊎_elim
       (λ (f : IsFalse (is_settled_stale s c)). inl (record { copy = live.copy; counts = inl f }))
-      (λ (k : Caught new lv (track_group_of b) c). ⊎_elim
+      (λ (k : HasPassed new lv (track_group_of b) c). ⊎_elim
       (λ (same : open_copy ≡ s.open_copy). inl (record { copy = live.copy; counts = inr (record { copy = k.copy; is_open = sym same ∙ k.is_open; target = k.target; passed = k.passed }) }))
       (λ (p : Passes s r value target block open_copy).
       let is : p.new ≡ k.copy = the_copy p.new k.copy (sym p.is_now ∙ k.is_open) in
@@ -47,7 +47,7 @@ module _ (s : State) (i : ℕ) (r : Req) (value : ℕ → List ℕ) (target : Pp
       live.counts
 
   seen : (lv b : ℕ) → IsTrue (covers r lv b) → IsIn (told s lv b).values (value b) × (IsTrue (told s lv b).loose ⊎ ((e : Pp) → Live s lv b e → s.media.block lv b e ≡ value b))
-  seen lv b over = core.holds.got i lv b r value step.there step.read step.past step.got over
+  seen lv b over = sound.holds.got i lv b r value step.there step.read step.past step.got over
 
   -- where the step doesn't go, nothing changes
   off_block : (lv b : ℕ) → IsFalse (covers r lv b) → (c : Pp) → block lv b c ≡ s.media.block lv b c
@@ -91,7 +91,7 @@ module _ (s : State) (i : ℕ) (r : Req) (value : ℕ → List ℕ) (target : Pp
       (seen lv b over).1
     where
       by_mode : (x : Bool) → s.is_active lv ≡ x → IsTrue (told s lv b).loose → Agree new lv b ⊎ MayDiffer new lv b x
-      by_mode true is loose = never (told s lv b).loose loose (core.tied.tight lv b is)
+      by_mode true is loose = never (told s lv b).loose loose (sound.tied.tight lv b is)
       by_mode false is loose = inr loose
 
   settled_now : (lv b : ℕ) → Settled s lv b → Settled new lv b
@@ -112,21 +112,21 @@ module _ (s : State) (i : ℕ) (r : Req) (value : ℕ → List ℕ) (target : Pp
       equal_off off true (inr differ) = inr (λ c live. let d = differ c (off_live lv b off c live) in (d.0, named_now c.disk lv (track_group_of b) d.1))
       equal_off off false (inr loose) = inr loose
 
-  was_started : (j : ℕ) (e : Req) → Started new j e → Started s j e
+  was_started : (j : ℕ) (e : Queued) → Started new j e → Started s j e
   was_started j e started = record { there = started.there; write = started.write; going = started.going }
 
-  off_if_started : (j lv b : ℕ) (e : Req) → Started s j e → IsTrue (covers e lv b) → IsFalse (covers r lv b)
+  off_if_started : (j lv b : ℕ) (e : Queued) → Started s j e → IsTrue (covers e lv b) → IsFalse (covers r lv b)
   off_if_started j lv b e started over = ⊎_elim (λ (h : IsTrue (covers r lv b)). absurd (elsewhere j lv b e started over h)) (λ (f : IsFalse (covers r lv b)). f) (decided (covers r lv b))
 
   copy_blocks : Blocks new
   copy_blocks = record {
     each = λ lv b. ⊎_elim
         (λ (settled : Settled s lv b). inl (settled_now lv b settled))
-        (λ (by : (j : ℕ) × (e : Req) × Started s j e × IsTrue (covers e lv b)). inr (by.0, by.1, record { there = by.2.there; write = by.2.write; going = by.2.going }, by.3))
-        (core.blocks.each lv b);
+        (λ (by : (j : ℕ) × (e : Queued) × Started s j e × IsTrue (covers e lv b)). inr (by.0, by.1, record { there = by.2.there; write = by.2.write; going = by.2.going }, by.3))
+        (sound.blocks.each lv b);
     busy = λ j lv b e started over.
         let was = was_started j e started in
-        let busy = core.blocks.busy j lv b e was over in
+        let busy = sound.blocks.busy j lv b e was over in
         let off = off_if_started j lv b e was over in
         record {
           known = busy.known;
@@ -135,19 +135,19 @@ module _ (s : State) (i : ℕ) (r : Req) (value : ℕ → List ℕ) (target : Pp
           well = λ c at. off_block lv b off c ∙ busy.well c at;
         };
     recorded = λ j lv b e started over.
-        let recorded = core.blocks.recorded j lv b e (was_started j e started) over in
+        let recorded = sound.blocks.recorded j lv b e (was_started j e started) over in
         record { named = λ on several c x at. named_now c.disk lv (track_group_of b) (recorded.named on several c x at); one = recorded.one; single = recorded.single };
   }
 
   -- a live copy of the block of a request
-  some_live : (j lv b : ℕ) (e : Req) → s.reqs j ≡ Some e → IsTrue (covers e lv b) → (c : Pp) × Live s lv b c
+  some_live : (j lv b : ℕ) (e : Queued) → s.queue j ≡ Some e → IsTrue (covers e lv b) → (c : Pp) × Live s lv b c
   some_live j lv b e there over =
-      let inside = core.tied.inside j e there lv b over in
-      let kept = core.statuses.kept lv b inside.0 inside.1 in
+      let inside = sound.tied.inside j e there lv b over in
+      let kept = sound.statuses.kept lv b inside.0 inside.1 in
       (kept.0, record { copy = kept.1; counts = inl (and_left_false (s.committed.value kept.0) (stale_in s.in_flight kept.0) kept.2.committed) })
 
   -- what a read knows of a value there stays true
-  equal_now : (j lv b : ℕ) (e : Req) (v : List ℕ) → s.reqs j ≡ Some e → IsTrue (covers e lv b) → IsTrue (told s lv b).loose ⊎ ((c : Pp) → Live s lv b c → s.media.block lv b c ≡ v)
+  equal_now : (j lv b : ℕ) (e : Queued) (v : List ℕ) → s.queue j ≡ Some e → IsTrue (covers e lv b) → IsTrue (told s lv b).loose ⊎ ((c : Pp) → Live s lv b c → s.media.block lv b c ≡ v)
       → IsTrue (told s lv b).loose ⊎ ((c : Pp) → Live new lv b c → block lv b c ≡ v)
   equal_now j lv b e v there over (inl loose) = inl loose
   equal_now j lv b e v there over (inr equal) = ⊎_elim
@@ -162,9 +162,9 @@ module _ (s : State) (i : ℕ) (r : Req) (value : ℕ → List ℕ) (target : Pp
 
   copy_holds : Holds new
   copy_holds = record {
-    order = core.holds.order;
+    order = sound.holds.order;
     reads = λ j lv b e there read past over c x at.
-        let h = core.holds.reads j lv b e there read past over c x at in
+        let h = sound.holds.reads j lv b e there read past over c x at in
         ⊎_elim
         (λ (same : block lv b c ≡ s.media.block lv b c).
         subst (λ (v : List ℕ). IsIn (told s lv b).values v × (IsTrue (told s lv b).loose ⊎ ((g : Pp) → Live new lv b g → block lv b g ≡ v))) (sym same) (h.0, equal_now j lv b e (s.media.block lv b c) there over h.1))
@@ -172,7 +172,7 @@ module _ (s : State) (i : ℕ) (r : Req) (value : ℕ → List ℕ) (target : Pp
         subst (λ (v : List ℕ). IsIn (told s lv b).values v × (IsTrue (told s lv b).loose ⊎ ((g : Pp) → Live new lv b g → block lv b g ≡ v))) (sym k.2) ((seen lv b k.0).0, equal_now j lv b e (value b) there over (seen lv b k.0).1))
         (step.media lv b c);
     got = λ j lv b e v there read past got over.
-        let h = core.holds.got j lv b e v there read past got over in
+        let h = sound.holds.got j lv b e v there read past got over in
         (h.0, equal_now j lv b e (v b) there over h.1);
   }
 
@@ -191,36 +191,36 @@ module _ (s : State) (i : ℕ) (r : Req) (value : ℕ → List ℕ) (target : Pp
 
   copy_statuses : Statuses new
   copy_statuses = record {
-    stale_flies = λ c u f stale fresh. ⊎_elim (λ (w : IsTrue (s.wanted c)). inl w) (λ (k : Complete s c). inr (complete_now c k)) (core.statuses.stale_flies c u f stale fresh);
-    stale_is_wanted = λ c stale m. complete_now c (core.statuses.stale_is_wanted c stale m);
-    flying_is_wanted = λ c u f stale m. complete_now c (core.statuses.flying_is_wanted c u f stale m);
-    kept = λ lv b c copy. let k = core.statuses.kept lv b c copy in (k.0, k.1, record { committed = k.2.committed; flying = k.2.flying; wanted = k.2.wanted });
+    stale_flies = λ c u f stale fresh. ⊎_elim (λ (w : IsTrue (s.wanted c)). inl w) (λ (k : Complete s c). inr (complete_now c k)) (sound.statuses.stale_flies c u f stale fresh);
+    stale_is_wanted = λ c stale m. complete_now c (sound.statuses.stale_is_wanted c stale m);
+    flying_is_wanted = λ c u f stale m. complete_now c (sound.statuses.flying_is_wanted c u f stale m);
+    kept = λ lv b c copy. let k = sound.statuses.kept lv b c copy in (k.0, k.1, record { committed = k.2.committed; flying = k.2.flying; wanted = k.2.wanted });
     open_there = λ m is. ⊎_elim
-        (λ (same : open_copy ≡ s.open_copy). core.statuses.open_there m (sym same ∙ is))
-        (λ (p : Passes s r value target block open_copy). subst (λ (x : Pp). IsFalse (s.missing x.disk)) (sym p.same_target ∙ ap (λ (q : OpenCopy). q.target) (the_copy p.new m (sym p.is_now ∙ is))) (core.statuses.open_there p.old p.is_open))
+        (λ (same : open_copy ≡ s.open_copy). sound.statuses.open_there m (sym same ∙ is))
+        (λ (p : Passes s r value target block open_copy). subst (λ (x : Pp). IsFalse (s.missing x.disk)) (sym p.same_target ∙ ap (λ (q : OpenCopy). q.target) (the_copy p.new m (sym p.is_now ∙ is))) (sound.statuses.open_there p.old p.is_open))
         step.open_now;
     open_stale = λ m is. ⊎_elim
-        (λ (same : open_copy ≡ s.open_copy). core.statuses.open_stale m (sym same ∙ is))
-        (λ (p : Passes s r value target block open_copy). subst (λ (x : Pp). IsTrue (s.committed.value x) ⊎ IsTrue (s.wanted x)) (sym p.same_target ∙ ap (λ (q : OpenCopy). q.target) (the_copy p.new m (sym p.is_now ∙ is))) (core.statuses.open_stale p.old p.is_open))
+        (λ (same : open_copy ≡ s.open_copy). sound.statuses.open_stale m (sym same ∙ is))
+        (λ (p : Passes s r value target block open_copy). subst (λ (x : Pp). IsTrue (s.committed.value x) ⊎ IsTrue (s.wanted x)) (sym p.same_target ∙ ap (λ (q : OpenCopy). q.target) (the_copy p.new m (sym p.is_now ∙ is))) (sound.statuses.open_stale p.old p.is_open))
         step.open_now;
   }
 
-  copy_core : Core new
+  copy_core : Sound new
   copy_core = record {
     blocks = copy_blocks;
-    tied = record { open_writes = core.tied.open_writes; modes = core.tied.modes; tight = core.tied.tight; owner = core.tied.owner; inside = core.tied.inside; place = core.tied.place };
+    tied = record { open_writes = sound.tied.open_writes; modes = sound.tied.modes; tight = sound.tied.tight; owner = sound.tied.owner; inside = sound.tied.inside; place = sound.tied.place };
     statuses = copy_statuses;
-    behind = record { left_behind = core.behind.left_behind };
-    notes = record { home = core.notes.home; pinned = core.notes.pinned };
+    behind = record { left_behind = sound.behind.left_behind };
+    notes = record { home = sound.notes.home; pinned = sound.notes.pinned };
     holds = copy_holds;
   }
 
 pub copy_write_keeps : CopyWriteKeepsCore
-copy_write_keeps s i r value target open_copy step_write block step core = copy_core s i r value target open_copy step_write block step core
+copy_write_keeps s i r value target open_copy step_write block step sound = copy_core s i r value target open_copy step_write block step sound
 
 -- ---- a copy is opened
 
-module _ (s : State) (o : OpenCopy) (step : Opens s o) (core : Core s) where
+module _ (s : State) (o : OpenCopy) (step : Opens s o) (sound : Sound s) where
   abbrev opened : State
   opened = record s { open_copy = Some o }
 
@@ -230,10 +230,10 @@ module _ (s : State) (o : OpenCopy) (step : Opens s o) (core : Core s) where
       two : (x : Option OpenCopy) → x ≡ None → x ≡ Some k → ⊥
       two x a b = cc
 
-  open_core : Core opened
+  open_core : Sound opened
   open_core =
       let quiet : Quiet s opened = record {
-        reqs = λ i. refl;
+        queue = λ i. refl;
         known_same = λ lv b. refl;
         run = refl;
         active = λ lv. refl;
@@ -242,32 +242,32 @@ module _ (s : State) (o : OpenCopy) (step : Opens s o) (core : Core s) where
         live = λ lv b c live. record {
           copy = live.copy;
           counts = ⊎_elim (λ (f : IsFalse (is_settled_stale s c)). inl f)
-              (λ (k : Caught opened lv (track_group_of b) c). never (o.passed lv (track_group_of b)) (ap (λ (q : OpenCopy). q.passed lv (track_group_of b)) (the_copy o k.copy k.is_open) ∙ k.passed) (step.passed lv (track_group_of b))) live.counts;
+              (λ (k : HasPassed opened lv (track_group_of b) c). never (o.passed lv (track_group_of b)) (ap (λ (q : OpenCopy). q.passed lv (track_group_of b)) (the_copy o k.copy k.is_open) ∙ k.passed) (step.passed lv (track_group_of b))) live.counts;
         };
         cache = λ lv g. refl;
         missing_still = λ d h. h;
         named_missing = λ d lv g gone named. record { home = named.home; flying = named.flying };
         named_pinned = λ d lv g cached named. record { home = named.home; flying = named.flying };
       } in
-      let n = quiet_nearly s opened quiet (nearly s core) (record {
-        home = core.notes.home;
+      let n = quiet_nearly s opened quiet (nearly s sound) (record {
+        home = sound.notes.home;
         statuses = record {
-          stale_flies = λ c u f stale fresh. ⊎_elim (λ (w : IsTrue (s.wanted c)). inl w) (λ (k : Complete s c). none_open k.copy k.is_open) (core.statuses.stale_flies c u f stale fresh);
-          stale_is_wanted = λ c stale m. let k = core.statuses.stale_is_wanted c stale m in none_open k.copy k.is_open;
-          flying_is_wanted = λ c u f stale m. let k = core.statuses.flying_is_wanted c u f stale m in none_open k.copy k.is_open;
-          kept = λ lv b c copy. let k = core.statuses.kept lv b c copy in (k.0, k.1, record { committed = k.2.committed; flying = k.2.flying; wanted = k.2.wanted });
+          stale_flies = λ c u f stale fresh. ⊎_elim (λ (w : IsTrue (s.wanted c)). inl w) (λ (k : Complete s c). none_open k.copy k.is_open) (sound.statuses.stale_flies c u f stale fresh);
+          stale_is_wanted = λ c stale m. let k = sound.statuses.stale_is_wanted c stale m in none_open k.copy k.is_open;
+          flying_is_wanted = λ c u f stale m. let k = sound.statuses.flying_is_wanted c u f stale m in none_open k.copy k.is_open;
+          kept = λ lv b c copy. let k = sound.statuses.kept lv b c copy in (k.0, k.1, record { committed = k.2.committed; flying = k.2.flying; wanted = k.2.wanted });
           open_there = λ m is. subst (λ (q : OpenCopy). IsFalse (s.missing q.target.disk)) (the_copy o m is) step.there;
           open_stale = λ m is. inl (subst (λ (q : OpenCopy). IsTrue (s.committed.value q.target)) (the_copy o m is) step.stale);
         };
       }) in
-      record { blocks = n.blocks; tied = n.tied; statuses = n.statuses; behind = record { left_behind = core.behind.left_behind }; notes = n.notes; holds = n.holds }
+      record { blocks = n.blocks; tied = n.tied; statuses = n.statuses; behind = record { left_behind = sound.behind.left_behind }; notes = n.notes; holds = n.holds }
 
 pub open_keeps : OpenKeepsCore
-open_keeps s o step core = open_core s o step core
+open_keeps s o step sound = open_core s o step sound
 
 -- ---- its staleness is no longer wanted
 
-module _ (s : State) (wanted : Marks) (c : Pp) (step : Clears s wanted c) (core : Core s) where
+module _ (s : State) (wanted : Marks) (c : Pp) (step : Clears s wanted c) (sound : Sound s) where
   abbrev cleared : State
   cleared = record s { wanted = wanted }
 
@@ -280,45 +280,45 @@ module _ (s : State) (wanted : Marks) (c : Pp) (step : Clears s wanted c) (core 
       (λ (is : e ≡ c). complete_then e (subst (λ (p : Pp). Complete s p) (sym is) step.complete))
       (step.still e w)
 
-  clear_core : Core cleared
+  clear_core : Sound cleared
   clear_core =
       let quiet : Quiet s cleared = record {
-        reqs = λ i. refl;
+        queue = λ i. refl;
         known_same = λ lv b. refl;
         run = refl;
         active = λ lv. refl;
         copies = λ lv b. refl;
         block = λ lv b e. refl;
-        live = λ lv b e live. record { copy = live.copy; counts = ⊎_elim (λ (f : IsFalse (is_settled_stale s e)). inl f) (λ (k : Caught cleared lv (track_group_of b) e). inr (record { copy = k.copy; is_open = k.is_open; target = k.target; passed = k.passed })) live.counts };
+        live = λ lv b e live. record { copy = live.copy; counts = ⊎_elim (λ (f : IsFalse (is_settled_stale s e)). inl f) (λ (k : HasPassed cleared lv (track_group_of b) e). inr (record { copy = k.copy; is_open = k.is_open; target = k.target; passed = k.passed })) live.counts };
         cache = λ lv g. refl;
         missing_still = λ d h. h;
         named_missing = λ d lv g gone named. record { home = named.home; flying = named.flying };
         named_pinned = λ d lv g cached named. record { home = named.home; flying = named.flying };
       } in
-      let n = quiet_nearly s cleared quiet (nearly s core) (record {
-        home = core.notes.home;
+      let n = quiet_nearly s cleared quiet (nearly s sound) (record {
+        home = sound.notes.home;
         statuses = record {
           stale_flies = λ e u f stale fresh. ⊎_elim
               (λ (w : IsTrue (s.wanted e)). ⊎_elim (λ (h : IsTrue (wanted e)). inl h) (λ (is : e ≡ c). inr (complete_then e (subst (λ (p : Pp). Complete s p) (sym is) step.complete))) (step.still e w))
               (λ (k : Complete s e). inr (complete_then e k))
-              (core.statuses.stale_flies e u f stale fresh);
+              (sound.statuses.stale_flies e u f stale fresh);
           stale_is_wanted = λ e stale m. ⊎_elim
               (λ (w : IsTrue (s.wanted e)). complete_if e w m)
-              (λ (f : IsFalse (s.wanted e)). complete_then e (core.statuses.stale_is_wanted e stale f))
+              (λ (f : IsFalse (s.wanted e)). complete_then e (sound.statuses.stale_is_wanted e stale f))
               (decided (s.wanted e));
           flying_is_wanted = λ e u f stale m. ⊎_elim
               (λ (w : IsTrue (s.wanted e)). complete_if e w m)
-              (λ (h : IsFalse (s.wanted e)). complete_then e (core.statuses.flying_is_wanted e u f stale h))
+              (λ (h : IsFalse (s.wanted e)). complete_then e (sound.statuses.flying_is_wanted e u f stale h))
               (decided (s.wanted e));
-          kept = λ lv b e copy. let k = core.statuses.kept lv b e copy in (k.0, k.1, record { committed = k.2.committed; flying = k.2.flying; wanted = false_by (wanted k.0) (s.wanted k.0) (step.added k.0) k.2.wanted });
-          open_there = core.statuses.open_there;
+          kept = λ lv b e copy. let k = sound.statuses.kept lv b e copy in (k.0, k.1, record { committed = k.2.committed; flying = k.2.flying; wanted = false_by (wanted k.0) (s.wanted k.0) (step.added k.0) k.2.wanted });
+          open_there = sound.statuses.open_there;
           open_stale = λ o is. ⊎_elim
               (λ (h : IsTrue (s.committed.value o.target)). inl h)
               (λ (w : IsTrue (s.wanted o.target)). ⊎_elim (λ (h : IsTrue (wanted o.target)). inr h) (λ (e : o.target ≡ c). inl (subst (λ (p : Pp). IsTrue (s.committed.value p)) (sym e) step.stale)) (step.still o.target w))
-              (core.statuses.open_stale o is);
+              (sound.statuses.open_stale o is);
         };
       }) in
       record { blocks = n.blocks; tied = n.tied; statuses = n.statuses; behind = record { left_behind = step.behind }; notes = n.notes; holds = n.holds }
 
 pub clear_keeps : ClearKeepsCore
-clear_keeps s wanted c step core = clear_core s wanted c step core
+clear_keeps s wanted c step sound = clear_core s wanted c step sound

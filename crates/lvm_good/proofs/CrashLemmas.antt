@@ -8,8 +8,8 @@ use Rattle.lvm_vol.specs.Facts.{Request, block_of}
 use Rattle.lvm_vol.specs.May.{Known, cut, is_off, is_some_open}
 use Rattle.lvm_good.specs.State.{write_of}
 use Rattle.lvm_good.proofs.Small.{IsIn}
-use Rattle.lvm_good.specs.State.{Marks, Groups, View, Going, Req, State, covers, request_of, has_landed, stale_in, Live, Named, Started}
-use Rattle.lvm_good.specs.Core.{MayDiffer, Agree, Settled, Busy, Recorded, Kept, Core}
+use Rattle.lvm_good.specs.State.{Marks, Groups, View, Going, Queued, State, covers, request_of, has_landed, stale_in, Live, Named, Started}
+use Rattle.lvm_good.specs.Sound.{MayDiffer, Agree, Settled, Busy, Recorded, StaysFresh, Sound}
 use Rattle.lvm_good.specs.Crash.{CopyBrings, IsCrash, Fresh, MayDifferAfter, BlockKept, IsPossible, Widens, CoreIsKept}
 use Rattle.lvm_good.proofs.Claims.{OffIsKept}
 use Rattle.lvm_good.proofs.Small.{never, and_right_false, and_left_false, or_left, or_right, in_more, in_added, brought_in, some_open}
@@ -21,16 +21,16 @@ the_write_is true true w a b = refl
 the_write_is true false w a b = absurd cc
 the_write_is false over w a b = absurd cc
 
-pub going_not_landed : (r : Req) → r.phase ≡ Going → IsFalse (has_landed r.phase)
+pub going_not_landed : (r : Queued) → r.phase ≡ Going → IsFalse (has_landed r.phase)
 going_not_landed r e = ap has_landed e
 
-module _ (s : State) (core : Core s) where
-  pub is_open : (i : ℕ) (r : Req) (lv b : ℕ) → Started s i r → IsTrue (covers r lv b) → write_of b (told s lv b) (request_of s i) ≡ Some (r.value b)
-  is_open i r lv b started over = core.tied.open_writes i r started.there started.write (going_not_landed r started.going) lv b ∙ the_write_is r.write (covers r lv b) (r.value b) started.write over
+module _ (s : State) (sound : Sound s) where
+  pub is_open : (i : ℕ) (r : Queued) (lv b : ℕ) → Started s i r → IsTrue (covers r lv b) → write_of b (told s lv b) (request_of s i) ≡ Some (r.value b)
+  is_open i r lv b started over = sound.tied.open_writes i r started.there started.write (going_not_landed r started.going) lv b ∙ the_write_is r.write (covers r lv b) (r.value b) started.write over
 
-  pub new_value_in : (i : ℕ) (r : Req) (lv b : ℕ) → Started s i r → IsTrue (covers r lv b) → IsIn (cut b (told s lv b)).values (r.value b)
+  pub new_value_in : (i : ℕ) (r : Queued) (lv b : ℕ) → Started s i r → IsTrue (covers r lv b) → IsIn (cut b (told s lv b)).values (r.value b)
   new_value_in i r lv b started over =
-      let busy : Busy s r lv b = core.blocks.busy i lv b r started over in
+      let busy : Busy s r lv b = sound.blocks.busy i lv b r started over in
       in_added (told s lv b).values (map (λ (w : Request). block_of w.blocks w.at b) (told s lv b).open_writes) busy.known.0 (r.value b) busy.known.1
       (brought_in b (told s lv b).open_writes (request_of s i) (r.value b) (is_open i r lv b started over))
 
@@ -40,7 +40,7 @@ module _ (s : State) (core : Core s) where
     new = λ i lv b r started over. new_value_in i r lv b started over;
     loose = λ lv b h. or_left (told s lv b).loose _ h;
     started = λ i lv b r started over off. or_right (told s lv b).loose (is_off (told s lv b).mode) (is_some_open (told s lv b).open_writes)
-        (core.tied.modes lv b off)
+        (sound.tied.modes lv b off)
         (some_open b (told s lv b).open_writes (request_of s i) (r.value b) (is_open i r lv b started over));
   }
 
@@ -61,18 +61,18 @@ module _ (s : State) (core : Core s) where
 
     -- what a step brings is allowed, and the live copies hold it
     brought_seen : (lv b : ℕ) (c : Pp) (k : CopyBrings s lv b c (v.block lv b c)) → IsIn (told s lv b).values (k.values b) × (IsTrue (told s lv b).loose ⊎ ((e : Pp) → Live s lv b e → s.media.block lv b e ≡ k.values b))
-    brought_seen lv b c k = core.holds.got k.id lv b k.req k.values k.there k.read k.past k.got k.over
+    brought_seen lv b c k = sound.holds.got k.id lv b k.req k.values k.there k.read k.past k.got k.over
 
     media_allowed : (lv b : ℕ) (c : Pp) → Live s lv b c → IsIn (after lv b).values (s.media.block lv b c)
     media_allowed lv b c live = ⊎_elim
         (λ (settled : Settled s lv b). wide.old lv b (s.media.block lv b c) (settled.allowed c live))
-        (λ (by : (i : ℕ) × (r : Req) × Started s i r × IsTrue (covers r lv b)).
-        let busy : Busy s by.1 lv b = core.blocks.busy by.0 lv b by.1 by.2 by.3 in
+        (λ (by : (i : ℕ) × (r : Queued) × Started s i r × IsTrue (covers r lv b)).
+        let busy : Busy s by.1 lv b = sound.blocks.busy by.0 lv b by.1 by.2 by.3 in
         ⊎_elim
         (λ (old : IsIn (told s lv b).values (s.media.block lv b c)). wide.old lv b (s.media.block lv b c) old)
         (λ (new : s.media.block lv b c ≡ by.1.value b). subst (IsIn (after lv b).values) (sym new) (wide.new by.0 lv b by.1 by.2 by.3))
         (busy.value c live))
-        (core.blocks.each lv b)
+        (sound.blocks.each lv b)
 
     allowed_live : (lv b : ℕ) (c : Pp) → Live s lv b c → IsIn (after lv b).values (v.block lv b c)
     allowed_live lv b c live = elim (crash.block lv b c live.copy) [
@@ -109,28 +109,28 @@ module _ (s : State) (core : Core s) where
       equal_if_settled : (active loose : Bool) → s.is_active lv ≡ active → (told s lv b).loose ≡ loose → Settled s lv b → Agree s lv b ⊎ MayDiffer s lv b active
           → ((value : List ℕ) × ((c : Pp) → Fresh s marks lv b c → v.block lv b c ≡ value)) ⊎ MayDifferAfter s v marks (after lv b) lv b active
       equal_if_settled active false on tight settled (inl agree) = inl (agree.0, λ c fresh. same_if_calm settled tight c (is_live c fresh) ∙ agree.1 c (is_live c fresh))
-      equal_if_settled true true on loose settled (inl agree) = never (told s lv b).loose loose (core.tied.tight lv b on)
+      equal_if_settled true true on loose settled (inl agree) = never (told s lv b).loose loose (sound.tied.tight lv b on)
       equal_if_settled false true on loose settled (inl agree) = inr (wide.loose lv b loose)
       equal_if_settled true loose on l settled (inr differ) = inr (λ c fresh. named_after c.disk lv (track_group_of b) (differ c (is_live c fresh)).1)
       equal_if_settled false loose on l settled (inr is) = inr (wide.loose lv b is)
 
-      equal_if_busy : (active : Bool) → s.is_active lv ≡ active → (several : Bool) (i : ℕ) (r : Req) → r.several ≡ several → Started s i r → IsTrue (covers r lv b)
+      equal_if_busy : (active : Bool) → s.is_active lv ≡ active → (several : Bool) (i : ℕ) (r : Queued) → r.several ≡ several → Started s i r → IsTrue (covers r lv b)
           → ((value : List ℕ) × ((c : Pp) → Fresh s marks lv b c → v.block lv b c ≡ value)) ⊎ MayDifferAfter s v marks (after lv b) lv b active
       equal_if_busy false off several i r e started over = inr (wide.started i lv b r started over off)
       equal_if_busy true on true i r e started over =
-          let busy : Busy s r lv b = core.blocks.busy i lv b r started over in
-          let recorded : Recorded s r lv b = core.blocks.recorded i lv b r started over in
+          let busy : Busy s r lv b = sound.blocks.busy i lv b r started over in
+          let recorded : Recorded s r lv b = sound.blocks.recorded i lv b r started over in
           inr (λ c fresh. let aim = busy.aimed c (is_live c fresh) in named_after c.disk lv (track_group_of b) (recorded.named on e c aim.0 aim.1))
       equal_if_busy true on false i r e started over =
-          let busy : Busy s r lv b = core.blocks.busy i lv b r started over in
-          let recorded : Recorded s r lv b = core.blocks.recorded i lv b r started over in
+          let busy : Busy s r lv b = sound.blocks.busy i lv b r started over in
+          let recorded : Recorded s r lv b = sound.blocks.recorded i lv b r started over in
           inl (
             v.block lv b recorded.one.0,
             λ c fresh. let aim = busy.aimed c (is_live c fresh) in
                 ap (v.block lv b) (recorded.single e c recorded.one.0 aim.0 recorded.one.1 aim.1 recorded.one.2),
           )
 
-      not_stale : (e : Pp) → Kept s e → IsFalse (marks e)
+      not_stale : (e : Pp) → StaysFresh s e → IsFalse (marks e)
       not_stale e kept = elim possible [
         | inl is ↦ ap (λ (m : Marks). m e) is ∙ kept.committed
         | inr flies ↦ ap (λ (m : Marks). m e) flies.2 ∙ kept.flying flies.0 flies.1
@@ -139,15 +139,15 @@ module _ (s : State) (core : Core s) where
       block_kept : BlockKept s v marks (after lv b) lv b
       block_kept = record {
         allowed = λ c fresh. allowed_live lv b c (is_live c fresh);
-        equal = elim (core.blocks.each lv b) [
+        equal = elim (sound.blocks.each lv b) [
           | inl settled ↦ equal_if_settled (s.is_active lv) (told s lv b).loose refl refl settled settled.equal
           | inr by ↦ equal_if_busy (s.is_active lv) refl by.1.several by.0 by.1 refl by.2 by.3
         ];
-        some = λ c copy. let k = core.statuses.kept lv b c copy in (k.0, record { copy = k.1; fresh = not_stale k.0 k.2 });
+        some = λ c copy. let k = sound.statuses.kept lv b c copy in (k.0, record { copy = k.1; fresh = not_stale k.0 k.2 });
       }
 
 pub core_kept : CoreIsKept
-core_kept s core v marks lv b crash possible = block_kept s core v crash (λ lv b. cut b (told s lv b)) (cut_widens s core) marks possible lv b
+core_kept s sound v marks lv b crash possible = block_kept s sound v crash (λ lv b. cut b (told s lv b)) (cut_widens s sound) marks possible lv b
 
 pub off_is_kept : OffIsKept
-off_is_kept s v after marks lv b core crash wide possible = block_kept s core v crash (λ lv b. cut b (after lv b)) (cut_again s core after wide) marks possible lv b
+off_is_kept s v after marks lv b sound crash wide possible = block_kept s sound v crash (λ lv b. cut b (after lv b)) (cut_again s sound after wide) marks possible lv b

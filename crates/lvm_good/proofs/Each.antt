@@ -35,7 +35,7 @@ use Rattle.lvm_good.specs.Open.{OpenKeeps}
 use Rattle.lvm_good.specs.LandGot.{LandGotKeeps}
 use Rattle.lvm_good.specs.LandLost.{LandLostKeeps}
 use Rattle.lvm_good.specs.Submit.{SubmitKeeps}
-use Rattle.lvm_good.specs.State.{Phase, Held, WantEntry, Ready, Going, Landed, Req, State, covers, has_landed, is_pinning}
+use Rattle.lvm_good.specs.State.{Phase, Held, WantEntry, Ready, Going, Landed, Queued, State, covers, has_landed, is_pinning}
 use Rattle.lvm_good.specs.Pin.{PinKeeps}
 use Rattle.lvm_good.specs.Good.{Good}
 use Rattle.lvm_good.specs.MoveStatus.{MoveStatusKeeps}
@@ -51,7 +51,7 @@ use Rattle.lvm_good.proofs.Requests.{decided}
 use Rattle.lvm_good.proofs.Finding.{status_end_keeps_found, begin_keeps_found, commit_keeps_found, update_end_keeps_found}
 use Rattle.lvm_good.proofs.CrashLemmas.{core_kept}
 
-newest_place : (s : State) (i : ℕ) → ((j : ℕ) (e : Req) → s.reqs j ≡ Some e → j < i) → (j : ℕ) (e : Req) → s.reqs j ≡ Some e → IsFalse (j == i)
+newest_place : (s : State) (i : ℕ) → ((j : ℕ) (e : Queued) → s.queue j ≡ Some e → j < i) → (j : ℕ) (e : Queued) → s.queue j ≡ Some e → IsFalse (j == i)
 newest_place s i newest j e at = ⊎_elim (λ (same : IsTrue (j == i)). absurd (not_itself (subst (λ (k : ℕ). k < i) (eqb-true _ _ same) (newest j e at)))) (λ (f : IsFalse (j == i)). f) (decided (j == i))
   where
     not_itself : {k : ℕ} → k < k → ⊥
@@ -59,16 +59,16 @@ newest_place s i newest j e at = ⊎_elim (λ (same : IsTrue (j == i)). absurd (
 
 pub submit_keeps : SubmitKeeps
 submit_keeps votes s i q r step good = record {
-  core = submit_core s i q r (s.facts ++ Begun q ∷ []) (begun_effect s i q r good.core good.told step) good.core;
+  sound = submit_core s i q r (s.facts ++ Begun q ∷ []) (begun_effect s i q r good.sound good.told step) good.sound;
   found = let f = good.found in record { set = f.set; enough = f.enough; have = f.have; only = f.only; newer = f.newer };
-  told = told_begun s.reqs s.name s.facts good.told i q r (newest_place s i step.newest) step.request step.same step.next (ap has_landed step.held);
+  told = told_begun s.queue s.name s.facts good.told i q r (newest_place s i step.newest) step.request step.same step.next (ap has_landed step.held);
 }
 
 pub enter_step_keeps : EnterStepKeeps
 enter_step_keeps votes s i q r step good = record {
-  core = submit_core s i q r s.facts (entered_effect s i q r step) good.core;
+  sound = submit_core s i q r s.facts (entered_effect s i q r step) good.sound;
   found = let f = good.found in record { set = f.set; enough = f.enough; have = f.have; only = f.only; newer = f.newer };
-  told = told_entered s.reqs s.name s.facts good.told i q r (newest_place s i step.newest) step.step step.reads;
+  told = told_entered s.queue s.name s.facts good.told i q r (newest_place s i step.newest) step.step step.reads;
 }
 
 early_unlanded : (p : Phase) → (p ≡ Held) ⊎ (p ≡ WantEntry) ⊎ (p ≡ Ready) → IsFalse (has_landed p)
@@ -78,9 +78,9 @@ early_unlanded p (inr (inr e)) = ap has_landed e
 
 pub admit_keeps : AdmitKeeps
 admit_keeps votes s i r phase several targets step good = record {
-  core = admit_core s i r phase several targets step good.core;
+  sound = admit_core s i r phase several targets step good.sound;
   found = let f = good.found in record { set = f.set; enough = f.enough; have = f.have; only = f.only; newer = f.newer };
-  told = told_change s.reqs s.name s.facts good.told i r step.there (admitted r phase several targets) (record { lv = refl; over = λ lv b. refl; write = refl; value = λ b. refl; step = refl })
+  told = told_change s.queue s.name s.facts good.told i r step.there (admitted r phase several targets) (record { lv = refl; over = λ lv b. refl; write = refl; value = λ b. refl; step = refl })
       (λ asked. ⊎_elim (λ (e : phase ≡ WantEntry). ap has_landed e) (λ (e : (phase ≡ Ready) × (IsTrue r.write → IsTrue (s.is_active r.lv) → IsTrue several → ⊥)). ap has_landed e.0) step.phase_now ∙ sym (early_unlanded r.phase step.early));
 }
 
@@ -92,12 +92,12 @@ wait_not_going p a b = let e : ◌≡◌ {A = Bool} false true = ap is_pinning (
 
 pub pin_keeps : PinKeeps
 pin_keeps votes s i r cache step good = record {
-  core = plain_keeps s i r (record r { phase = Ready }) s.facts cache
+  sound = plain_keeps s i r (record r { phase = Ready }) s.facts cache
       (silent_effect s i r (record r { phase = Ready }) cache step.there (λ write e. wait_not_going r.phase step.waits e) (λ write e. ready_not_going Ready refl e) (λ value h. inl h)
       (λ write pins on several. inr step.has) step.keeps)
-      (pin_alike r step.waits) good.core;
+      (pin_alike r step.waits) good.sound;
   found = let f = good.found in record { set = f.set; enough = f.enough; have = f.have; only = f.only; newer = f.newer };
-  told = told_change s.reqs s.name s.facts good.told i r step.there (record r { phase = Ready }) (record { lv = refl; over = λ lv b. refl; write = refl; value = λ b. refl; step = refl }) (λ asked. sym (ap has_landed step.waits));
+  told = told_change s.queue s.name s.facts good.told i r step.there (record r { phase = Ready }) (record { lv = refl; over = λ lv b. refl; write = refl; value = λ b. refl; step = refl }) (λ asked. sym (ap has_landed step.waits));
 }
   where
     is_ready : Phase → Bool
@@ -112,30 +112,30 @@ pin_keeps votes s i r cache step good = record {
 
 pub read_keeps : ReadKeeps
 read_keeps votes s i r c stage got step good = record {
-  core = plain_keeps s i r (reading r c stage got) s.facts s.cache
+  sound = plain_keeps s i r (reading r c stage got) s.facts s.cache
       (silent_effect s i r (reading r c stage got) s.cache step.there (λ write e. never r.write write step.read) (λ write e. never r.write write step.read)
       (λ value h. ⊎_elim
       (λ (old : r.got ≡ Some value). inl old)
       (λ (new : (lv b : ℕ) → IsTrue (covers r lv b) → value b ≡ s.media.block lv b c). inr (λ lv b over. (c, step.was.0, step.was.1, new lv b over)))
       (step.gets value h))
       (λ write pins on several. never r.write write step.read) (λ j e at write pins on several cached. cached))
-      (read_alike r c stage got step.past step.was) good.core;
+      (read_alike r c stage got step.past step.was) good.sound;
   found = let f = good.found in record { set = f.set; enough = f.enough; have = f.have; only = f.only; newer = f.newer };
-  told = told_change s.reqs s.name s.facts good.told i r step.there (reading r c stage got) (record { lv = refl; over = λ lv b. refl; write = refl; value = λ b. refl; step = refl }) (λ asked. sym (past_unlanded r.phase step.past));
+  told = told_change s.queue s.name s.facts good.told i r step.there (reading r c stage got) (record { lv = refl; over = λ lv b. refl; write = refl; value = λ b. refl; step = refl }) (λ asked. sym (past_unlanded r.phase step.past));
 }
 
 pub start_write_keeps : StartWriteKeeps
 start_write_keeps votes s i r c step good = record {
-  core = first_core s i r c step good.core;
+  sound = first_core s i r c step good.sound;
   found = let f = good.found in record { set = f.set; enough = f.enough; have = f.have; only = f.only; newer = f.newer };
-  told = told_change s.reqs s.name s.facts good.told i r step.there (going r c) (record { lv = refl; over = λ lv b. refl; write = refl; value = λ b. refl; step = refl }) (λ asked. sym (ap has_landed step.ready));
+  told = told_change s.queue s.name s.facts good.told i r step.there (going r c) (record { lv = refl; over = λ lv b. refl; write = refl; value = λ b. refl; step = refl }) (λ asked. sym (ap has_landed step.ready));
 }
 
 pub transfer_keeps : TransferKeeps
 transfer_keeps votes s i r c stage block step good = record {
-  core = restaging_core s i r c stage block step good.core;
+  sound = restaging_core s i r c stage block step good.sound;
   found = let f = good.found in record { set = f.set; enough = f.enough; have = f.have; only = f.only; newer = f.newer };
-  told = told_change s.reqs s.name s.facts good.told i r step.started.there (record r { targets = staged r.targets c stage }) (record { lv = refl; over = λ lv b. refl; write = refl; value = λ b. refl; step = refl }) (λ asked. refl);
+  told = told_change s.queue s.name s.facts good.told i r step.started.there (record r { targets = staged r.targets c stage }) (record { lv = refl; over = λ lv b. refl; write = refl; value = λ b. refl; step = refl }) (λ asked. refl);
 }
 
 pub land_done_keeps : LandDoneKeeps
@@ -143,9 +143,9 @@ land_done_keeps votes s i r step good =
     let start = step.started in
     let asked = write_asks s good.told i r start.there start.write in
     record {
-      core = done_core s i r (s.facts ++ HasLanded (s.name i) outcome.Done true [] ∷ []) (done_effect s i r good.core good.told step) good.core;
+      sound = done_core s i r (s.facts ++ HasLanded (s.name i) outcome.Done true [] ∷ []) (done_effect s i r good.sound good.told step) good.sound;
       found = let f = good.found in record { set = f.set; enough = f.enough; have = f.have; only = f.only; newer = f.newer };
-      told = told_landed s.reqs s.name s.facts good.told i r start.there asked (ap has_landed start.going) outcome.Done true [] ((good.told.same i r start.there asked).write ∙ start.write) tt;
+      told = told_landed s.queue s.name s.facts good.told i r start.there asked (ap has_landed start.going) outcome.Done true [] ((good.told.same i r start.there asked).write ∙ start.write) tt;
     }
 
 pub land_lost_keeps : LandLostKeeps
@@ -153,34 +153,34 @@ land_lost_keeps votes s i r step good =
     let start = step.started in
     let asked = write_asks s good.told i r start.there start.write in
     record {
-      core = lost_core s i r (s.facts ++ HasLanded (s.name i) outcome.Lost true [] ∷ []) (lost_effect s i r good.core good.told step) good.core;
+      sound = lost_core s i r (s.facts ++ HasLanded (s.name i) outcome.Lost true [] ∷ []) (lost_effect s i r good.sound good.told step) good.sound;
       found = let f = good.found in record { set = f.set; enough = f.enough; have = f.have; only = f.only; newer = f.newer };
-      told = told_landed s.reqs s.name s.facts good.told i r start.there asked (ap has_landed start.going) outcome.Lost true [] ((good.told.same i r start.there asked).write ∙ start.write) tt;
+      told = told_landed s.queue s.name s.facts good.told i r start.there asked (ap has_landed start.going) outcome.Lost true [] ((good.told.same i r start.there asked).write ∙ start.write) tt;
     }
 
 pub land_got_keeps : LandGotKeeps
 land_got_keeps votes s i r got step good = record {
-  core = got_core s i r step.value (s.facts ++ HasLanded (s.name i) outcome.Got true got ∷ []) (got_effect s i r got good.core good.told step) good.core;
+  sound = got_core s i r step.value (s.facts ++ HasLanded (s.name i) outcome.Got true got ∷ []) (got_effect s i r got good.sound good.told step) good.sound;
   found = let f = good.found in record { set = f.set; enough = f.enough; have = f.have; only = f.only; newer = f.newer };
-  told = told_landed s.reqs s.name s.facts good.told i r step.there step.request (past_unlanded r.phase step.past) outcome.Got true got ((good.told.same i r step.there step.request).write ∙ step.read) (got_may s i r got good.core good.told step);
+  told = told_landed s.queue s.name s.facts good.told i r step.there step.request (past_unlanded r.phase step.past) outcome.Got true got ((good.told.same i r step.there step.request).write ∙ step.read) (got_may s i r got good.sound good.told step);
 }
 
 pub land_read_failed_keeps : LandReadFailedKeeps
 land_read_failed_keeps votes s i r step good = record {
-  core = plain_keeps s i r (land r) (s.facts ++ HasLanded (s.name i) outcome.ReadFailed true [] ∷ []) s.cache
-      (quiet_effect s i r outcome.ReadFailed true refl good.core good.told step.there step.request (λ write e. never r.write write step.read))
-      (land_alike r (past_unlanded r.phase step.past)) good.core;
+  sound = plain_keeps s i r (land r) (s.facts ++ HasLanded (s.name i) outcome.ReadFailed true [] ∷ []) s.cache
+      (quiet_effect s i r outcome.ReadFailed true refl good.sound good.told step.there step.request (λ write e. never r.write write step.read))
+      (land_alike r (past_unlanded r.phase step.past)) good.sound;
   found = let f = good.found in record { set = f.set; enough = f.enough; have = f.have; only = f.only; newer = f.newer };
-  told = told_landed s.reqs s.name s.facts good.told i r step.there step.request (past_unlanded r.phase step.past) outcome.ReadFailed true [] ((good.told.same i r step.there step.request).write ∙ step.read) tt;
+  told = told_landed s.queue s.name s.facts good.told i r step.there step.request (past_unlanded r.phase step.past) outcome.ReadFailed true [] ((good.told.same i r step.there step.request).write ∙ step.read) tt;
 }
 
 pub land_no_fresh_keeps : LandNoFreshKeeps
 land_no_fresh_keeps votes s i r step good = record {
-  core = plain_keeps s i r (land r) (s.facts ++ HasLanded (s.name i) outcome.NoFresh false [] ∷ []) s.cache
-      (quiet_effect s i r outcome.NoFresh false refl good.core good.told step.there step.request (λ write e. unstarted r.phase e step.early))
-      (land_alike r unlanded) good.core;
+  sound = plain_keeps s i r (land r) (s.facts ++ HasLanded (s.name i) outcome.NoFresh false [] ∷ []) s.cache
+      (quiet_effect s i r outcome.NoFresh false refl good.sound good.told step.there step.request (λ write e. unstarted r.phase e step.early))
+      (land_alike r unlanded) good.sound;
   found = let f = good.found in record { set = f.set; enough = f.enough; have = f.have; only = f.only; newer = f.newer };
-  told = told_landed s.reqs s.name s.facts good.told i r step.there step.request unlanded outcome.NoFresh false [] refl tt;
+  told = told_landed s.queue s.name s.facts good.told i r step.there step.request unlanded outcome.NoFresh false [] refl tt;
 }
   where
     is_going : Phase → Bool
@@ -202,12 +202,12 @@ land_no_fresh_keeps votes s i r step good = record {
 
 pub end_step_keeps : EndStepKeeps
 end_step_keeps votes s i r step good = record {
-  core = plain_keeps s i r (land r) s.facts s.cache
+  sound = plain_keeps s i r (land r) s.facts s.cache
       (silent_effect s i r (land r) s.cache step.there (λ write e. never r.write write reads) (λ write e. never r.write write reads) (λ value h. inl h)
       (λ write pins on several. never r.write write reads) (λ j e at write pins on several cached. cached))
-      (land_alike r step.unlanded) good.core;
+      (land_alike r step.unlanded) good.sound;
   found = let f = good.found in record { set = f.set; enough = f.enough; have = f.have; only = f.only; newer = f.newer };
-  told = told_change s.reqs s.name s.facts good.told i r step.there (land r) (record { lv = refl; over = λ lv b. refl; write = refl; value = λ b. refl; step = refl }) (λ asked. never r.step step.step asked);
+  told = told_change s.queue s.name s.facts good.told i r step.there (land r) (record { lv = refl; over = λ lv b. refl; write = refl; value = λ b. refl; step = refl }) (λ asked. never r.step step.step asked);
 }
   where
     reads : IsFalse r.write
@@ -215,69 +215,69 @@ end_step_keeps votes s i r step good = record {
 
 pub want_keeps : WantKeeps
 want_keeps votes s wanted missing open_copy step good = record {
-  core = wants_core s wanted missing open_copy step (nearly s good.core);
+  sound = wants_core s wanted missing open_copy step (nearly s good.sound);
   found = let f = good.found in record { set = f.set; enough = f.enough; have = f.have; only = f.only; newer = f.newer };
   told = good.told;
 }
 
 pub begin_update_keeps : BeginUpdateKeeps
-begin_update_keeps votes s u step good = record { core = begin_core s u step.none step.value good.core; found = begin_keeps_found votes s u step.none step.later good.found; told = good.told }
+begin_update_keeps votes s u step good = record { sound = begin_core s u step.none step.value good.sound; found = begin_keeps_found votes s u step.none step.later good.found; told = good.told }
 
 pub move_status_keeps : MoveStatusKeeps
-move_status_keeps votes s u status flying step good = record { core = moved_core s status flying good.core; found = status_end_keeps_found votes s u status flying step.flies step.each good.found; told = good.told }
+move_status_keeps votes s u status flying step good = record { sound = moved_core s status flying good.sound; found = status_end_keeps_found votes s u status flying step.flies step.each good.found; told = good.told }
 
 pub commit_keeps : CommitKeeps
 commit_keeps votes s u has_it done wanted open_copy step good = record {
-  core = wants_core (record s { committed = u; open_copy = done }) wanted s.missing open_copy step.marks (commit_core s u done step.commits good.core);
+  sound = wants_core (record s { committed = u; open_copy = done }) wanted s.missing open_copy step.marks (commit_core s u done step.commits good.sound);
   found = let f = commit_keeps_found votes s u has_it step.commits.flies step.enough step.have good.found in record { set = f.set; enough = f.enough; have = f.have; only = f.only; newer = f.newer };
   told = good.told;
 }
 
 pub end_update_keeps : EndUpdateKeeps
-end_update_keeps votes s step good = record { core = update_end_core s step.committed good.core; found = update_end_keeps_found votes s step.committed good.found; told = good.told }
+end_update_keeps votes s step good = record { sound = update_end_core s step.committed good.sound; found = update_end_keeps_found votes s step.committed good.found; told = good.told }
 
 pub start_note_keeps : StartNoteKeeps
 start_note_keeps votes s flying step good = record {
-  core = start_note_core s flying step good.core;
+  sound = start_note_core s flying step good.sound;
   found = let f = good.found in record { set = f.set; enough = f.enough; have = f.have; only = f.only; newer = f.newer };
   told = good.told;
 }
 
 pub end_note_keeps : EndNoteKeeps
 end_note_keeps votes s d names home flying step good = record {
-  core = end_note_core s d names home flying step good.core;
+  sound = end_note_core s d names home flying step good.sound;
   found = let f = good.found in record { set = f.set; enough = f.enough; have = f.have; only = f.only; newer = f.newer };
   told = good.told;
 }
 
 pub open_keeps : OpenKeeps
 open_keeps votes s o step good = record {
-  core = open_core s o step good.core;
+  sound = open_core s o step good.sound;
   found = let f = good.found in record { set = f.set; enough = f.enough; have = f.have; only = f.only; newer = f.newer };
   told = good.told;
 }
 
 pub copy_write_keeps : CopyWriteKeeps
 copy_write_keeps votes s i r value target open_copy step_write block step good = record {
-  core = copy_write_core s i r value target open_copy step_write block step good.core;
+  sound = copy_write_core s i r value target open_copy step_write block step good.sound;
   found = let f = good.found in record { set = f.set; enough = f.enough; have = f.have; only = f.only; newer = f.newer };
   told = good.told;
 }
 
 pub clear_keeps : ClearKeeps
 clear_keeps votes s wanted c step good = record {
-  core = clear_core s wanted c step good.core;
+  sound = clear_core s wanted c step good.sound;
   found = let f = good.found in record { set = f.set; enough = f.enough; have = f.have; only = f.only; newer = f.newer };
   told = good.told;
 }
 
 pub take_keeps : TakeKeeps
 take_keeps votes s i r step good = record {
-  core = taken_core s i r step good.core (if r.step then s.facts else s.facts ++ Taken (s.name i) ∷ []) (λ lv b. by_test lv b r.step);
+  sound = taken_core s i r step good.sound (if r.step then s.facts else s.facts ++ Taken (s.name i) ∷ []) (λ lv b. by_test lv b r.step);
   found = let f = good.found in record { set = f.set; enough = f.enough; have = f.have; only = f.only; newer = f.newer };
   told = ⊎_elim
-      (λ (is_step : IsTrue r.step). subst (λ (b : Bool). Told (without s.reqs i) s.name (if b then s.facts else s.facts ++ Taken (s.name i) ∷ [])) (sym is_step) (told_left s.reqs s.name s.facts good.told i r step.there))
-      (λ (asked : IsFalse r.step). subst (λ (b : Bool). Told (without s.reqs i) s.name (if b then s.facts else s.facts ++ Taken (s.name i) ∷ [])) (sym asked) (told_taken s.reqs s.name s.facts good.told i r step.there asked step.landed))
+      (λ (is_step : IsTrue r.step). subst (λ (b : Bool). Told (without s.queue i) s.name (if b then s.facts else s.facts ++ Taken (s.name i) ∷ [])) (sym is_step) (told_left s.queue s.name s.facts good.told i r step.there))
+      (λ (asked : IsFalse r.step). subst (λ (b : Bool). Told (without s.queue i) s.name (if b then s.facts else s.facts ++ Taken (s.name i) ∷ [])) (sym asked) (told_taken s.queue s.name s.facts good.told i r step.there asked step.landed))
       (decided r.step);
 }
   where
@@ -312,5 +312,5 @@ each_keeps votes (CopyWrite i r value target open_copy step_write block) s new s
 each_keeps votes (Clear wanted c) s new step good = subst (Good votes) (sym step.1) (clear_keeps votes s wanted c step.0 good)
 
 pub each_moment : EachMomentIsKept
-each_moment votes [] old new good same = subst (Reached votes) (sym same) (record { good = good; kept = core_kept old good.core; legal = good.told.legal })
+each_moment votes [] old new good same = subst (Reached votes) (sym same) (record { good = good; kept = core_kept old good.sound; legal = good.told.legal })
 each_moment votes (event ∷ events) old new good steps = each_moment votes events steps.0 new (each_keeps votes event old steps.0 steps.1 good) steps.2

@@ -17,9 +17,9 @@ use Rattle.lvm_vol.specs.May.{Known, is_off, known, cut}
 use Rattle.lvm_vol.specs.Legal.{lands, Legal, IsOutcomeOf, GotMay}
 use Rattle.lvm_good.specs.Off.{OffKeeps}
 use Rattle.lvm_good.specs.Told.{Told}
-use Rattle.lvm_good.specs.State.{Req, State, covers, write_of, told, has_landed, Started}
+use Rattle.lvm_good.specs.State.{Queued, State, covers, write_of, told, has_landed, Started}
 use Rattle.lvm_good.specs.Over.{IsDistinct, IsUnlanded, is_going, AreOpen, landings, IsOver, OverStays}
-use Rattle.lvm_good.specs.Core.{Core}
+use Rattle.lvm_good.specs.Sound.{Sound}
 use Rattle.lvm_good.specs.Cut.{CutKeeps}
 use Rattle.lvm_good.specs.Crash.{BlockKept, Widens}
 use Rattle.lvm_good.proofs.Small.{IsIn, or_left, in_more, in_added}
@@ -87,7 +87,7 @@ or_second true b h = refl
 or_second false b h = h
 
 -- what a write that has started brings is allowed
-abbrev IsCared : State → List Fact → ℕ → ℕ → Req → Type 0
+abbrev IsCared : State → List Fact → ℕ → ℕ → Queued → Type 0
 IsCared s facts lv b r = IsIn (known facts (Lv lv) b).values (r.value b) × (IsFalse (s.is_active lv) → IsTrue (known facts (Lv lv) b).loose)
 
 -- some of the open requests have landed, and these haven't
@@ -97,12 +97,12 @@ record Way (s : State) (places : List ℕ) (facts : List Fact) : Type 0 where
   some : (lv b : ℕ) → HasValues (told s lv b) → HasValues (known facts (Lv lv) b)
   loose : (lv b : ℕ) → IsTrue (told s lv b).loose → IsTrue (known facts (Lv lv) b).loose
   modes : (lv b : ℕ) → (known facts (Lv lv) b).mode ≡ (told s lv b).mode
-  writes : (i lv b : ℕ) (r : Req) → Started s i r → IsTrue (covers r lv b) → (Stands i places × (write_of b (known facts (Lv lv) b) (s.name i) ≡ Some (r.value b))) ⊎ IsCared s facts lv b r
+  writes : (i lv b : ℕ) (r : Queued) → Started s i r → IsTrue (covers r lv b) → (Stands i places × (write_of b (known facts (Lv lv) b) (s.name i) ≡ Some (r.value b))) ⊎ IsCared s facts lv b r
   waits : (i : ℕ) → Stands i places → Stands (Begun (s.name i)) facts × (list_any (lands (s.name i)) facts ≡ false)
 
-module _ (s : State) (core : Core s) (t : Told s.reqs s.name s.facts) (how : Outcome) (over : IsFalse (is_calm how)) where
+module _ (s : State) (sound : Sound s) (t : Told s.queue s.name s.facts) (how : Outcome) (over : IsFalse (is_calm how)) where
   module _ (i : ℕ) (places : List ℕ) (facts : List Fact) (started : Bool) (not_again : Stands i places → ⊥) (mine : IsUnlanded s i)
-      (open_there : (j : ℕ) → Stands j places → IsUnlanded s j) (begun_data : (r : Req) → s.reqs i ≡ Some r → IsTrue r.write → started ≡ is_going r.phase) (way : Way s (i ∷ places) facts) where
+      (open_there : (j : ℕ) → Stands j places → IsUnlanded s j) (begun_data : (r : Queued) → s.queue i ≡ Some r → IsTrue r.write → started ≡ is_going r.phase) (way : Way s (i ∷ places) facts) where
     abbrev q : Request
     q = s.name i
 
@@ -123,7 +123,7 @@ module _ (s : State) (core : Core s) (t : Told s.reqs s.name s.facts) (how : Out
     apart_from : (j : ℕ) → Stands j places → IsFalse (j == i)
     apart_from j there = ⊎_elim (λ (same : IsTrue (j == i)). absurd (not_again (subst (λ (k : ℕ). Stands k places) (eqb-true _ _ same) there))) (λ (f : IsFalse (j == i)). f) (decided (j == i))
 
-    now_cared : (lv b : ℕ) (r : Req) → Started s i r → IsTrue (covers r lv b) → write_of b (known facts (Lv lv) b) q ≡ Some (r.value b) → IsCared s next lv b r
+    now_cared : (lv b : ℕ) (r : Queued) → Started s i r → IsTrue (covers r lv b) → write_of b (known facts (Lv lv) b) q ≡ Some (r.value b) → IsCared s next lv b r
     now_cared lv b r start inside is_open =
         let asked = write_asks s t i r start.there start.write in
         let is_of = t.same i r start.there asked in
@@ -133,13 +133,13 @@ module _ (s : State) (core : Core s) (t : Told s.reqs s.name s.facts) (how : Out
         let is_now : known next (Lv lv) b ≡ ended q outcome.Off true x k =
         landing_ended facts q how started [] lv b (is_of.over lv b ∙ inside) (is_of.write ∙ start.write) (is_open_if b q (r.value b) k.open_writes is_open)
         ∙ ended_over how over q started x k ∙ ap (λ (b : Bool). ended q outcome.Off b x k) yes in
-        let busy = core.blocks.busy i lv b r start inside in
+        let busy = sound.blocks.busy i lv b r start inside in
         let known_values = way.some lv b busy.known in (
           subst (λ (m : Known). IsIn m.values (r.value b)) (sym is_now) (in_added k.values (x ∷ []) known_values.0 (r.value b) known_values.1 (inl (is_of.value lv b start.write inside))),
-          λ off. subst (λ (m : Known). IsTrue m.loose) (sym is_now) (or_second k.loose (is_off k.mode) (ap is_off (way.modes lv b) ∙ core.tied.modes lv b off)),
+          λ off. subst (λ (m : Known). IsTrue m.loose) (sym is_now) (or_second k.loose (is_off k.mode) (ap is_off (way.modes lv b) ∙ sound.tied.modes lv b off)),
         )
 
-    still_cared : (lv b : ℕ) (r : Req) → IsCared s facts lv b r → IsCared s next lv b r
+    still_cared : (lv b : ℕ) (r : Queued) → IsCared s facts lv b r → IsCared s next lv b r
     still_cared lv b r h = (old_next lv b (r.value b) h.0, λ off. loose_next lv b (h.1 off))
 
     way_step : Way s places next
@@ -167,7 +167,7 @@ module _ (s : State) (core : Core s) (t : Told s.reqs s.name s.facts) (how : Out
         other_name j there = let u = open_there j there in t.apart i j mine.req u.req mine.there u.there mine.request u.request (apart_from j there)
 
   all_land : (places : List ℕ) (facts : List Fact) (started : ℕ → Bool) → IsDistinct places → ((j : ℕ) → Stands j places → IsUnlanded s j)
-      → ((j : ℕ) (r : Req) → s.reqs j ≡ Some r → IsTrue r.write → started j ≡ is_going r.phase) → Way s places facts → Way s [] (facts ++ landings how s.name started places)
+      → ((j : ℕ) (r : Queued) → s.queue j ≡ Some r → IsTrue r.write → started j ≡ is_going r.phase) → Way s places facts → Way s [] (facts ++ landings how s.name started places)
   all_land [] facts started distinct each begun_data way = subst (Way s []) (sym (append-nil facts)) way
   all_land (i ∷ places) facts started distinct each begun_data way = subst (Way s []) (append_assoc facts (HasLanded (s.name i) how (started i) [] ∷ []) (landings how s.name started places))
       (all_land places (facts ++ HasLanded (s.name i) how (started i) [] ∷ []) started distinct.1 (λ j there. each j (inr there)) begun_data
@@ -183,13 +183,13 @@ module _ (s : State) (core : Core s) (t : Told s.reqs s.name s.facts) (how : Out
         loose = last.loose;
         started = λ i lv b r start inside off. (cared last i lv b r start inside).1 off;
       } in
-      record { legal = last.legal; kept = λ v marks lv b crash possible. off_is_kept s v (λ lv b. known all (Lv lv) b) marks lv b core crash wide possible }
+      record { legal = last.legal; kept = λ v marks lv b crash possible. off_is_kept s v (λ lv b. known all (Lv lv) b) marks lv b sound crash wide possible }
     where
-      cared : {all : List Fact} → Way s [] all → (i lv b : ℕ) (r : Req) → Started s i r → IsTrue (covers r lv b) → IsCared s all lv b r
+      cared : {all : List Fact} → Way s [] all → (i lv b : ℕ) (r : Queued) → Started s i r → IsTrue (covers r lv b) → IsCared s all lv b r
       cared {all = all} last i lv b r start inside = ⊎_elim (λ (waiting : ⊥ × (write_of b (known all (Lv lv) b) (s.name i) ≡ Some (r.value b))). absurd waiting.0) (λ (c : IsCared s all lv b r). c) (last.writes i lv b r start inside)
 
 pub off_keeps : OffKeeps
-off_keeps votes s places started step good = landed_over s good.core good.told outcome.Off refl places s.facts started step.requests (record {
+off_keeps votes s places started step good = landed_over s good.sound good.told outcome.Off refl places s.facts started step.requests (record {
   legal = good.told.legal;
   old = λ lv b value h. h;
   some = λ lv b h. h;
@@ -197,7 +197,7 @@ off_keeps votes s places started step good = landed_over s good.core good.told o
   modes = λ lv b. refl;
   writes = λ i lv b r start inside. inl (
     step.requests.all i r start.there (write_asks s good.told i r start.there start.write) (ap has_landed start.going),
-    is_open s good.core i r lv b start inside,
+    is_open s good.sound i r lv b start inside,
   );
   waits = λ i there. let u = step.requests.each i there in (good.told.began i u.req u.there u.request, good.told.ended i u.req u.there u.request ∙ u.unlanded);
 })
@@ -205,8 +205,8 @@ off_keeps votes s places started step good = landed_over s good.core good.told o
 pub cut_keeps : CutKeeps
 cut_keeps votes s places started step good =
     let is_now : (lv b : ℕ) → known (s.facts ++ Cut ∷ []) (Lv lv) b ≡ cut b (told s lv b) = λ lv b. known-push s.facts Cut (Lv lv) b in
-    let wide = cut_widens s good.core in
-    landed_over s good.core good.told outcome.Dark refl places (s.facts ++ Cut ∷ []) started step (record {
+    let wide = cut_widens s good.sound in
+    landed_over s good.sound good.told outcome.Dark refl places (s.facts ++ Cut ∷ []) started step (record {
       legal = (legal_push s.facts Cut).1 (good.told.legal, tt);
       old = λ lv b value h. subst (λ (k : Known). IsIn k.values value) (sym (is_now lv b)) (wide.old lv b value h);
       some = λ lv b h. subst HasValues (sym (is_now lv b)) (h.0 ++ map (λ (r : Request). block_of r.blocks r.at b) (told s lv b).open_writes, ap (λ (m : Option (List (List ℕ))). option_map (λ vs. vs ++ map (λ (r : Request). block_of r.blocks r.at b) (told s lv b).open_writes) m) h.1);

@@ -4,8 +4,8 @@ use Rattle.std.specs.Prelude.{IsTrue, IsFalse, ◌==◌, nat_lt, if◌then◌els
 use Rattle.lvm_num.specs.Buffer.{zero_sector}
 use Rattle.lvm_num.specs.declared.descriptor.Mode.TheVariants.{Active}
 use Rattle.lvm_vol.specs.May.{Known, unknown, IsValue}
-use Rattle.lvm_good.specs.Fresh.{at_first, FirstIsGood}
-use Rattle.lvm_good.specs.Core.{Core}
+use Rattle.lvm_good.specs.First.{at_first, FirstIsGood}
+use Rattle.lvm_good.specs.Sound.{Sound}
 use Rattle.lvm_num.specs.Record.{Stamped}
 use Rattle.lvm_good.specs.State.{Marks}
 
@@ -42,7 +42,7 @@ not_loose : (inside : Bool) → IsFalse (made inside).loose
 not_loose true = refl
 not_loose false = refl
 
-first_is_core : Core at_first
+first_is_core : Sound at_first
 first_is_core = record {
   blocks = record {
     each = λ lv b. inl (record { calm = λ i r started over. nothing r started.there; allowed = λ c live. zeros_there (1 == lv && nat_lt b 2048) (left (1 == lv && nat_lt b 2048) (c.pp == 0 && (c.disk == 0 || c.disk == 1)) live.copy); equal = inl (zero_sector, λ c live. refl) });
@@ -76,7 +76,7 @@ first_is_core = record {
 
 pub first_is_good : FirstIsGood
 first_is_good votes enough = record {
-  core = first_is_core;
+  sound = first_is_core;
   found = record {
     set = λ d. true;
     enough = enough;

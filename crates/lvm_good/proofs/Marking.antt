@@ -4,8 +4,8 @@ use Rattle.std.specs.Prelude.{IsTrue, IsFalse}
 use Rattle.lvm_num.specs.declared.place.Pp.{Pp}
 use Rattle.lvm_num.specs.Geometry.{track_group_of}
 use Rattle.lvm_num.specs.Record.{Stamped}
-use Rattle.lvm_good.specs.State.{Marks, OpenCopy, State, stale_in, is_settled_stale, Caught, Live}
-use Rattle.lvm_good.specs.Core.{Complete, Kept, Statuses, Core, Nearly}
+use Rattle.lvm_good.specs.State.{Marks, OpenCopy, State, stale_in, is_settled_stale, HasPassed, Live}
+use Rattle.lvm_good.specs.Sound.{Complete, StaysFresh, Statuses, Sound, Nearly}
 use Rattle.lvm_good.proofs.Claims.{Quiet, WantsKeep, BeginKeeps, CommitKeepsCore, UpdateEndKeeps}
 use Rattle.lvm_good.proofs.Small.{never, false_by, and_left_false, and_right_false}
 use Rattle.lvm_good.proofs.Requests.{decided}
@@ -24,7 +24,7 @@ same_update : (u w : Stamped Marks) → Some u ≡ Some w → u ≡ w
 same_update u w e = cc
 
 -- a fresh copy whose staleness isn't wanted is fresh by all three
-all_three : (s : State) → Statuses s → (e : Pp) → IsFalse (s.committed.value e) → IsFalse (s.wanted e) → Kept s e
+all_three : (s : State) → Statuses s → (e : Pp) → IsFalse (s.committed.value e) → IsFalse (s.wanted e) → StaysFresh s e
 all_three s st e fresh wanted = record {
   committed = fresh;
   flying = λ u flies. ⊎_elim
@@ -46,7 +46,7 @@ module _ (s : State) (wanted : Marks) (missing : ℕ → Bool) (open_copy : Opti
   not_before : (c : Pp) → IsFalse (wanted c) → IsFalse (s.wanted c)
   not_before c n = false_by (s.wanted c) (wanted c) (step.still c) n
 
-  caught_before : (lv g : ℕ) (c : Pp) → Caught new lv g c → Caught s lv g c
+  caught_before : (lv g : ℕ) (c : Pp) → HasPassed new lv g c → HasPassed s lv g c
   caught_before lv g c k = record {
     copy = k.copy;
     target = k.target;
@@ -67,7 +67,7 @@ module _ (s : State) (wanted : Marks) (missing : ℕ → Bool) (open_copy : Opti
   complete_unless : (c : Pp) → IsFalse (wanted c) → Complete s c → Complete new c
   complete_unless c n k = ⊎_elim (λ (w : IsTrue (wanted c)). never (wanted c) w n) (λ (h : Complete new c). h) (complete_now c k)
 
-  kept_now : (e : Pp) → IsFalse (wanted e) → Kept s e → Kept new e
+  kept_now : (e : Pp) → IsFalse (wanted e) → StaysFresh s e → StaysFresh new e
   kept_now e n k = record { committed = k.committed; flying = k.flying; wanted = n }
 
   statuses_now : Statuses new
@@ -96,13 +96,13 @@ module _ (s : State) (wanted : Marks) (missing : ℕ → Bool) (open_copy : Opti
 
   quiet : Quiet s new
   quiet = record {
-    reqs = λ i. refl;
+    queue = λ i. refl;
     known_same = λ lv b. refl;
     run = refl;
     active = λ lv. refl;
     copies = λ lv b. refl;
     block = λ lv b c. refl;
-    live = λ lv b c live. record { copy = live.copy; counts = ⊎_elim (λ (f : IsFalse (is_settled_stale s c)). inl f) (λ (k : Caught new lv (track_group_of b) c). inr (caught_before lv (track_group_of b) c k)) live.counts };
+    live = λ lv b c live. record { copy = live.copy; counts = ⊎_elim (λ (f : IsFalse (is_settled_stale s c)). inl f) (λ (k : HasPassed new lv (track_group_of b) c). inr (caught_before lv (track_group_of b) c k)) live.counts };
     cache = λ lv g. refl;
     missing_still = step.missing_still;
     named_missing = λ d lv g gone named. record { home = named.home; flying = named.flying };
@@ -112,7 +112,7 @@ module _ (s : State) (wanted : Marks) (missing : ℕ → Bool) (open_copy : Opti
   there_before : (d : ℕ) → IsFalse (missing d) → IsFalse (s.missing d)
   there_before d n = false_by (s.missing d) (missing d) (step.missing_still d) n
 
-  pub wants_core : Core new
+  pub wants_core : Sound new
   wants_core =
       let n = quiet_nearly s new quiet was (record { statuses = statuses_now; home = λ d lv g there. was.notes.home d lv g (there_before d there) }) in
       record { blocks = n.blocks; tied = n.tied; statuses = n.statuses; behind = record { left_behind = step.behind }; notes = n.notes; holds = n.holds }
@@ -120,7 +120,7 @@ module _ (s : State) (wanted : Marks) (missing : ℕ → Bool) (open_copy : Opti
 pub wants_keep : WantsKeep
 wants_keep s wanted missing open_copy step was = wants_core s wanted missing open_copy step was
 
-module _ (s : State) (u : Stamped Marks) (none : s.in_flight ≡ None) (is : u.value ≡ s.wanted) (core : Core s) where
+module _ (s : State) (u : Stamped Marks) (none : s.in_flight ≡ None) (is : u.value ≡ s.wanted) (sound : Sound s) where
   abbrev begun : State
   begun = record s { in_flight = Some u }
 
@@ -132,12 +132,12 @@ module _ (s : State) (u : Stamped Marks) (none : s.in_flight ≡ None) (is : u.v
 
   begun_statuses : Statuses begun
   begun_statuses = record {
-    stale_flies = λ c w flies stale fresh. inr (complete_then c (core.statuses.stale_is_wanted c stale (sym (is_wanted w flies c) ∙ fresh)));
-    stale_is_wanted = λ c stale n. complete_then c (core.statuses.stale_is_wanted c stale n);
+    stale_flies = λ c w flies stale fresh. inr (complete_then c (sound.statuses.stale_is_wanted c stale (sym (is_wanted w flies c) ∙ fresh)));
+    stale_is_wanted = λ c stale n. complete_then c (sound.statuses.stale_is_wanted c stale n);
     flying_is_wanted = λ c w flies stale n. never (s.wanted c) (sym (is_wanted w flies c) ∙ stale) n;
-    kept = λ lv b c copy. let k = core.statuses.kept lv b c copy in (k.0, k.1, record { committed = k.2.committed; flying = λ w flies. is_wanted w flies k.0 ∙ k.2.wanted; wanted = k.2.wanted });
-    open_there = core.statuses.open_there;
-    open_stale = core.statuses.open_stale;
+    kept = λ lv b c copy. let k = sound.statuses.kept lv b c copy in (k.0, k.1, record { committed = k.2.committed; flying = λ w flies. is_wanted w flies k.0 ∙ k.2.wanted; wanted = k.2.wanted });
+    open_there = sound.statuses.open_there;
+    open_stale = sound.statuses.open_stale;
   }
 
   live_then : (lv b : ℕ) (c : Pp) → Live begun lv b c → Live s lv b c
@@ -146,18 +146,18 @@ module _ (s : State) (u : Stamped Marks) (none : s.in_flight ≡ None) (is : u.v
     counts = ⊎_elim
         (λ (f : IsFalse (s.committed.value c && u.value c)). ⊎_elim
         (λ (stale : IsTrue (s.committed.value c)).
-        let k = core.statuses.stale_is_wanted c stale (ap (λ (m : Marks). m c) (sym is) ∙ (ap (λ (t : Bool). t && u.value c) (sym stale) ∙ f)) in
+        let k = sound.statuses.stale_is_wanted c stale (ap (λ (m : Marks). m c) (sym is) ∙ (ap (λ (t : Bool). t && u.value c) (sym stale) ∙ f)) in
         inr (record { copy = k.copy; is_open = k.is_open; target = k.target; passed = k.passed lv b live.copy }))
         (λ (fresh : IsFalse (s.committed.value c)). inl (and_left_false (s.committed.value c) (stale_in s.in_flight c) fresh))
         (decided (s.committed.value c)))
-        (λ (k : Caught begun lv (track_group_of b) c). inr (record { copy = k.copy; is_open = k.is_open; target = k.target; passed = k.passed }))
+        (λ (k : HasPassed begun lv (track_group_of b) c). inr (record { copy = k.copy; is_open = k.is_open; target = k.target; passed = k.passed }))
         live.counts;
   }
 
-  begun_core : Core begun
+  begun_core : Sound begun
   begun_core =
       let quiet : Quiet s begun = record {
-        reqs = λ i. refl;
+        queue = λ i. refl;
         known_same = λ lv b. refl;
         run = refl;
         active = λ lv. refl;
@@ -169,13 +169,13 @@ module _ (s : State) (u : Stamped Marks) (none : s.in_flight ≡ None) (is : u.v
         named_missing = λ d lv g gone named. record { home = named.home; flying = named.flying };
         named_pinned = λ d lv g cached named. record { home = named.home; flying = named.flying };
       } in
-      let n = quiet_nearly s begun quiet (nearly s core) (record { statuses = begun_statuses; home = core.notes.home }) in
-      record { blocks = n.blocks; tied = n.tied; statuses = n.statuses; behind = record { left_behind = core.behind.left_behind }; notes = n.notes; holds = n.holds }
+      let n = quiet_nearly s begun quiet (nearly s sound) (record { statuses = begun_statuses; home = sound.notes.home }) in
+      record { blocks = n.blocks; tied = n.tied; statuses = n.statuses; behind = record { left_behind = sound.behind.left_behind }; notes = n.notes; holds = n.holds }
 
 pub begin_keeps : BeginKeeps
-begin_keeps s u none is core = begun_core s u none is core
+begin_keeps s u none is sound = begun_core s u none is sound
 
-module _ (s : State) (u : Stamped Marks) (open_copy : Option OpenCopy) (step : Commits s u open_copy) (core : Core s) where
+module _ (s : State) (u : Stamped Marks) (open_copy : Option OpenCopy) (step : Commits s u open_copy) (sound : Sound s) where
   abbrev committed : State
   committed = record s { committed = u; open_copy = open_copy }
 
@@ -196,10 +196,10 @@ module _ (s : State) (u : Stamped Marks) (open_copy : Option OpenCopy) (step : C
   committed_statuses : Statuses committed
   committed_statuses = record {
     stale_flies = λ c w flies stale fresh. never (u.value c) stale (ap (λ (x : Stamped Marks). x.value c) (sym (is_u w flies)) ∙ fresh);
-    stale_is_wanted = λ c stale n. complete_after c stale (core.statuses.flying_is_wanted c u step.flies stale n);
-    flying_is_wanted = λ c w flies stale n. complete_after c (ap (λ (x : Stamped Marks). x.value c) (sym (is_u w flies)) ∙ stale) (core.statuses.flying_is_wanted c w flies stale n);
-    kept = λ lv b c copy. let k = core.statuses.kept lv b c copy in (k.0, k.1, record { committed = k.2.flying u step.flies; flying = k.2.flying; wanted = k.2.wanted });
-    open_there = λ o is. core.statuses.open_there o (step.open_same o is).0;
+    stale_is_wanted = λ c stale n. complete_after c stale (sound.statuses.flying_is_wanted c u step.flies stale n);
+    flying_is_wanted = λ c w flies stale n. complete_after c (ap (λ (x : Stamped Marks). x.value c) (sym (is_u w flies)) ∙ stale) (sound.statuses.flying_is_wanted c w flies stale n);
+    kept = λ lv b c copy. let k = sound.statuses.kept lv b c copy in (k.0, k.1, record { committed = k.2.flying u step.flies; flying = k.2.flying; wanted = k.2.wanted });
+    open_there = λ o is. sound.statuses.open_there o (step.open_same o is).0;
     open_stale = λ o is. (step.open_same o is).1;
   }
 
@@ -210,7 +210,7 @@ module _ (s : State) (u : Stamped Marks) (open_copy : Option OpenCopy) (step : C
         (λ (f : IsFalse (u.value c && stale_in s.in_flight c)).
         let fresh : IsFalse (u.value c) = twice (u.value c) (ap (λ (o : Option (Stamped Marks)). u.value c && stale_in o c) (sym step.flies) ∙ f) in
         inl (and_right_false (s.committed.value c) (stale_in s.in_flight c) (ap (λ (o : Option (Stamped Marks)). stale_in o c) step.flies ∙ fresh)))
-        (λ (k : Caught committed lv (track_group_of b) c). inr (record { copy = k.copy; is_open = (step.open_same k.copy k.is_open).0; target = k.target; passed = k.passed }))
+        (λ (k : HasPassed committed lv (track_group_of b) c). inr (record { copy = k.copy; is_open = (step.open_same k.copy k.is_open).0; target = k.target; passed = k.passed }))
         live.counts;
   }
     where
@@ -221,7 +221,7 @@ module _ (s : State) (u : Stamped Marks) (open_copy : Option OpenCopy) (step : C
   committed_nearly : Nearly committed
   committed_nearly =
       let quiet : Quiet s committed = record {
-        reqs = λ i. refl;
+        queue = λ i. refl;
         known_same = λ lv b. refl;
         run = refl;
         active = λ lv. refl;
@@ -233,12 +233,12 @@ module _ (s : State) (u : Stamped Marks) (open_copy : Option OpenCopy) (step : C
         named_missing = λ d lv g gone named. record { home = named.home; flying = named.flying };
         named_pinned = λ d lv g cached named. record { home = named.home; flying = named.flying };
       } in
-      quiet_nearly s committed quiet (nearly s core) (record { statuses = committed_statuses; home = core.notes.home })
+      quiet_nearly s committed quiet (nearly s sound) (record { statuses = committed_statuses; home = sound.notes.home })
 
 pub commit_keeps : CommitKeepsCore
-commit_keeps s u open_copy step core = committed_nearly s u open_copy step core
+commit_keeps s u open_copy step sound = committed_nearly s u open_copy step sound
 
-module _ (s : State) (done : s.in_flight ≡ Some s.committed) (core : Core s) where
+module _ (s : State) (done : s.in_flight ≡ Some s.committed) (sound : Sound s) where
   abbrev ended : State
   ended = record s { in_flight = None }
 
@@ -251,17 +251,17 @@ module _ (s : State) (done : s.in_flight ≡ Some s.committed) (core : Core s) w
   ended_statuses : Statuses ended
   ended_statuses = record {
     stale_flies = λ c w flies stale fresh. none_some w flies;
-    stale_is_wanted = λ c stale n. complete_end c (core.statuses.stale_is_wanted c stale n);
+    stale_is_wanted = λ c stale n. complete_end c (sound.statuses.stale_is_wanted c stale n);
     flying_is_wanted = λ c w flies stale n. none_some w flies;
-    kept = λ lv b c copy. let k = core.statuses.kept lv b c copy in (k.0, k.1, record { committed = k.2.committed; flying = λ w flies. none_some w flies; wanted = k.2.wanted });
-    open_there = core.statuses.open_there;
-    open_stale = core.statuses.open_stale;
+    kept = λ lv b c copy. let k = sound.statuses.kept lv b c copy in (k.0, k.1, record { committed = k.2.committed; flying = λ w flies. none_some w flies; wanted = k.2.wanted });
+    open_there = sound.statuses.open_there;
+    open_stale = sound.statuses.open_stale;
   }
 
-  ended_core : Core ended
+  ended_core : Sound ended
   ended_core =
       let quiet : Quiet s ended = record {
-        reqs = λ i. refl;
+        queue = λ i. refl;
         known_same = λ lv b. refl;
         run = refl;
         active = λ lv. refl;
@@ -271,7 +271,7 @@ module _ (s : State) (done : s.in_flight ≡ Some s.committed) (core : Core s) w
           copy = live.copy;
           counts = ⊎_elim
               (λ (f : IsFalse (s.committed.value c && true)). inl (and_left_false (s.committed.value c) (stale_in s.in_flight c) (once (s.committed.value c) f)))
-              (λ (k : Caught ended lv (track_group_of b) c). inr (record { copy = k.copy; is_open = k.is_open; target = k.target; passed = k.passed }))
+              (λ (k : HasPassed ended lv (track_group_of b) c). inr (record { copy = k.copy; is_open = k.is_open; target = k.target; passed = k.passed }))
               live.counts;
         };
         cache = λ lv g. refl;
@@ -279,12 +279,12 @@ module _ (s : State) (done : s.in_flight ≡ Some s.committed) (core : Core s) w
         named_missing = λ d lv g gone named. record { home = named.home; flying = named.flying };
         named_pinned = λ d lv g cached named. record { home = named.home; flying = named.flying };
       } in
-      let n = quiet_nearly s ended quiet (nearly s core) (record { statuses = ended_statuses; home = core.notes.home }) in
-      record { blocks = n.blocks; tied = n.tied; statuses = n.statuses; behind = record { left_behind = core.behind.left_behind }; notes = n.notes; holds = n.holds }
+      let n = quiet_nearly s ended quiet (nearly s sound) (record { statuses = ended_statuses; home = sound.notes.home }) in
+      record { blocks = n.blocks; tied = n.tied; statuses = n.statuses; behind = record { left_behind = sound.behind.left_behind }; notes = n.notes; holds = n.holds }
     where
       once : (a : Bool) → IsFalse (a && true) → IsFalse a
       once true h = h
       once false h = h
 
 pub update_end_keeps : UpdateEndKeeps
-update_end_keeps s done core = ended_core s done core
+update_end_keeps s done sound = ended_core s done sound

@@ -6,28 +6,28 @@ use Rattle.lvm_num.specs.Geometry.{track_group_of}
 use Rattle.lvm_vol.specs.May.{Known}
 use Rattle.lvm_good.specs.State.{write_of}
 use Rattle.lvm_good.proofs.Small.{IsIn}
-use Rattle.lvm_good.specs.State.{Req, State, is_pinning, Live, Started}
-use Rattle.lvm_good.specs.Core.{Core, Nearly}
+use Rattle.lvm_good.specs.State.{Queued, State, is_pinning, Live, Started}
+use Rattle.lvm_good.specs.Sound.{Sound, Nearly}
 use Rattle.lvm_good.proofs.Claims.{Alike, Frame, Calmer, Quiet, Rest, QuietKeeps}
 use Rattle.lvm_good.proofs.Calm.{calm_blocks}
 use Rattle.lvm_good.proofs.Framing.{frame_keeps}
 use Rattle.lvm_good.specs.State.{told}
 
-pub one_req : {a b : Req} → Some a ≡ Some b → a ≡ b
+pub one_req : {a b : Queued} → Some a ≡ Some b → a ≡ b
 one_req h = cc
 
-pub alike_same : (r : Req) → Alike r r
+pub alike_same : (r : Queued) → Alike r r
 alike_same r = record { lv = refl; first = refl; over = λ lv b. refl; write = refl; value = λ b. refl; past = λ h. h; unlanded = λ h. h; landed = λ h. h; several = λ h. h; aimed = λ c x h. (x, h); aimed_still = λ c x h. (x, h) }
 
-pub nearly : (s : State) → Core s → Nearly s
-nearly s core = record { blocks = core.blocks; tied = core.tied; statuses = core.statuses; notes = core.notes; holds = core.holds }
+pub nearly : (s : State) → Sound s → Nearly s
+nearly s sound = record { blocks = sound.blocks; tied = sound.tied; statuses = sound.statuses; notes = sound.notes; holds = sound.holds }
 
 module _ (old new : State) (quiet : Quiet old new) (was : Nearly old) where
-  same_started : (i : ℕ) (r : Req) → Started new i r → Started old i r
-  same_started i r started = record { there = sym (quiet.reqs i) ∙ started.there; write = started.write; going = started.going }
+  same_started : (i : ℕ) (r : Queued) → Started new i r → Started old i r
+  same_started i r started = record { there = sym (quiet.queue i) ∙ started.there; write = started.write; going = started.going }
 
-  still_started : (i : ℕ) (r : Req) → Started old i r → Started new i r
-  still_started i r started = record { there = quiet.reqs i ∙ started.there; write = started.write; going = started.going }
+  still_started : (i : ℕ) (r : Queued) → Started old i r → Started new i r
+  still_started i r started = record { there = quiet.queue i ∙ started.there; write = started.write; going = started.going }
 
   calmer : Calmer old new
   calmer = record {
@@ -48,7 +48,7 @@ module _ (old new : State) (quiet : Quiet old new) (was : Nearly old) where
 
   frame : Frame old new
   frame = record {
-    from = λ i n there. (n, sym (quiet.reqs i) ∙ there, alike_same n);
+    from = λ i n there. (n, sym (quiet.queue i) ∙ there, alike_same n);
     writes = λ i n there write unlanded lv b. λ t. write_of b (quiet.known_same lv b t) (quiet.run t i);
     run = quiet.run;
     modes = λ lv b. ap (λ (k : Known). k.mode) (quiet.known_same lv b);
@@ -63,8 +63,8 @@ module _ (old new : State) (quiet : Quiet old new) (was : Nearly old) where
           seen.equal,
     );
     still = λ i lv b r n c seen there past. quiet.block lv b c;
-    got = λ i r n value was_r is_n got. inl (ap (λ (q : Req). q.got) (one_req (sym was_r ∙ sym (quiet.reqs i) ∙ is_n)) ∙ got);
-    pinning = λ i r n was_r is_n write pins on several. inl (ap (λ (q : Req). is_pinning q.phase) (one_req (sym was_r ∙ sym (quiet.reqs i) ∙ is_n)) ∙ pins);
+    got = λ i r n value was_r is_n got. inl (ap (λ (q : Queued). q.got) (one_req (sym was_r ∙ sym (quiet.queue i) ∙ is_n)) ∙ got);
+    pinning = λ i r n was_r is_n write pins on several. inl (ap (λ (q : Queued). is_pinning q.phase) (one_req (sym was_r ∙ sym (quiet.queue i) ∙ is_n)) ∙ pins);
     cache = λ i r there write pinning on several h. quiet.cache r.lv (track_group_of r.first) ∙ h;
   }
 

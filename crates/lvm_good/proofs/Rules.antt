@@ -6,11 +6,11 @@ use Rattle.lvm_good.proofs.Claims.{EachHasKeptTarget, MarksAreReplaced}
 use Rattle.lvm_good.proofs.Small.{and_left_false}
 
 pub each_has : EachHasKeptTarget
-each_has s i r core started over =
-    let inside = core.tied.inside i r started.there r.lv r.first over in
-    let kept = core.statuses.kept r.lv r.first inside.0 inside.1 in
+each_has s i r sound started over =
+    let inside = sound.tied.inside i r started.there r.lv r.first over in
+    let kept = sound.statuses.kept r.lv r.first inside.0 inside.1 in
     let live : Live s r.lv r.first kept.0 = record { copy = kept.1; counts = inl (and_left_false (s.committed.value kept.0) (stale_in s.in_flight kept.0) kept.2.committed) } in
-    let aim = (core.blocks.busy i r.lv r.first r started over).aimed kept.0 live in
+    let aim = (sound.blocks.busy i r.lv r.first r started over).aimed kept.0 live in
     record { copy = kept.0; stage = aim.0; target = aim.1; is_copy = kept.1; kept = kept.2 }
 
 pub replaced : MarksAreReplaced

@@ -4,8 +4,8 @@ use Rattle.std.specs.Prelude.{IsTrue, IsFalse, ◌==◌, if◌then◌else◌}
 use Rattle.lvm_num.specs.declared.place.Pp.{Pp}
 use Rattle.lvm_num.specs.Geometry.{track_group_of}
 use Rattle.lvm_num.specs.Record.{Stamped}
-use Rattle.lvm_good.specs.State.{Marks, Req, State, has_landed, is_pinning, is_settled_stale, Caught, Live, Started}
-use Rattle.lvm_good.specs.Core.{Complete, Core}
+use Rattle.lvm_good.specs.State.{Marks, Queued, State, has_landed, is_pinning, is_settled_stale, HasPassed, Live, Started}
+use Rattle.lvm_good.specs.Sound.{Complete, Sound}
 use Rattle.lvm_good.proofs.Claims.{Frame, Calmer, Quiet}
 use Rattle.lvm_good.proofs.Small.{never}
 use Rattle.lvm_good.proofs.Requests.{decided}
@@ -25,65 +25,65 @@ use Rattle.lvm_good.proofs.Small.{IsIn}
 
 -- ---- a status moves
 
-module _ (s : State) (status : ℕ → Option (Stamped Marks)) (flying : ℕ → Bool) (core : Core s) where
+module _ (s : State) (status : ℕ → Option (Stamped Marks)) (flying : ℕ → Bool) (sound : Sound s) where
   abbrev moved : State
   moved = record s { media = with_status s.media status; status_flying = flying }
 
   complete_moved : (c : Pp) → Complete s c → Complete moved c
   complete_moved c k = record { copy = k.copy; is_open = k.is_open; target = k.target; passed = k.passed }
 
-  pub moved_core : Core moved
+  pub moved_core : Sound moved
   moved_core =
       let quiet : Quiet s moved = record {
-        reqs = λ i. refl;
+        queue = λ i. refl;
         known_same = λ lv b. refl;
         run = refl;
         active = λ lv. refl;
         copies = λ lv b. refl;
         block = λ lv b e. refl;
-        live = λ lv b e live. record { copy = live.copy; counts = ⊎_elim (λ (f : IsFalse (is_settled_stale s e)). inl f) (λ (k : Caught moved lv (track_group_of b) e). inr (record { copy = k.copy; is_open = k.is_open; target = k.target; passed = k.passed })) live.counts };
+        live = λ lv b e live. record { copy = live.copy; counts = ⊎_elim (λ (f : IsFalse (is_settled_stale s e)). inl f) (λ (k : HasPassed moved lv (track_group_of b) e). inr (record { copy = k.copy; is_open = k.is_open; target = k.target; passed = k.passed })) live.counts };
         cache = λ lv g. refl;
         missing_still = λ d h. h;
         named_missing = λ d lv g gone named. record { home = named.home; flying = named.flying };
         named_pinned = λ d lv g cached named. record { home = named.home; flying = named.flying };
       } in
-      let n = quiet_nearly s moved quiet (nearly s core) (record {
-        home = core.notes.home;
+      let n = quiet_nearly s moved quiet (nearly s sound) (record {
+        home = sound.notes.home;
         statuses = record {
-          stale_flies = λ e u f stale fresh. ⊎_elim (λ (w : IsTrue (s.wanted e)). inl w) (λ (k : Complete s e). inr (complete_moved e k)) (core.statuses.stale_flies e u f stale fresh);
-          stale_is_wanted = λ e stale m. complete_moved e (core.statuses.stale_is_wanted e stale m);
-          flying_is_wanted = λ e u f stale m. complete_moved e (core.statuses.flying_is_wanted e u f stale m);
-          kept = λ lv b e copy. let k = core.statuses.kept lv b e copy in (k.0, k.1, record { committed = k.2.committed; flying = k.2.flying; wanted = k.2.wanted });
-          open_there = core.statuses.open_there;
-          open_stale = core.statuses.open_stale;
+          stale_flies = λ e u f stale fresh. ⊎_elim (λ (w : IsTrue (s.wanted e)). inl w) (λ (k : Complete s e). inr (complete_moved e k)) (sound.statuses.stale_flies e u f stale fresh);
+          stale_is_wanted = λ e stale m. complete_moved e (sound.statuses.stale_is_wanted e stale m);
+          flying_is_wanted = λ e u f stale m. complete_moved e (sound.statuses.flying_is_wanted e u f stale m);
+          kept = λ lv b e copy. let k = sound.statuses.kept lv b e copy in (k.0, k.1, record { committed = k.2.committed; flying = k.2.flying; wanted = k.2.wanted });
+          open_there = sound.statuses.open_there;
+          open_stale = sound.statuses.open_stale;
         };
       }) in
-      record { blocks = n.blocks; tied = n.tied; statuses = n.statuses; behind = record { left_behind = core.behind.left_behind }; notes = n.notes; holds = n.holds }
+      record { blocks = n.blocks; tied = n.tied; statuses = n.statuses; behind = record { left_behind = sound.behind.left_behind }; notes = n.notes; holds = n.holds }
 
 -- ---- a request is taken
 
-module _ (s : State) (i : ℕ) (r : Req) (step : Takes s i r) (core : Core s) (facts : List Fact) (same_known : (lv b : ℕ) → known facts (Lv lv) b ≡ told s lv b) where
+module _ (s : State) (i : ℕ) (r : Queued) (step : Takes s i r) (sound : Sound s) (facts : List Fact) (same_known : (lv b : ℕ) → known facts (Lv lv) b ≡ told s lv b) where
   abbrev taken : State
-  taken = record s { reqs = without s.reqs i; facts = facts }
+  taken = record s { queue = without s.queue i; facts = facts }
 
-  before : (j : ℕ) (e : Req) → without s.reqs i j ≡ Some e → s.reqs j ≡ Some e
+  before : (j : ℕ) (e : Queued) → without s.queue i j ≡ Some e → s.queue j ≡ Some e
   before j e h = by_test (j == i) h
     where
-      by_test : (t : Bool) → (if t then None else s.reqs j) ≡ Some e → s.reqs j ≡ Some e
+      by_test : (t : Bool) → (if t then None else s.queue j) ≡ Some e → s.queue j ≡ Some e
       by_test true k = absurd cc
       by_test false k = k
 
-  stays : (j : ℕ) (e : Req) → Started s j e → without s.reqs i j ≡ Some e
+  stays : (j : ℕ) (e : Queued) → Started s j e → without s.queue i j ≡ Some e
   stays j e started = ⊎_elim
       (λ (same : IsTrue (j == i)). never (has_landed r.phase) step.landed
-      (ap (λ (q : Req). has_landed q.phase) (one_req (sym step.there ∙ ap s.reqs (sym (eqb-true _ _ same)) ∙ started.there)) ∙ ap has_landed started.going))
-      (λ (other : IsFalse (j == i)). ap (λ (t : Bool). if t then None else s.reqs j) other ∙ started.there)
+      (ap (λ (q : Queued). has_landed q.phase) (one_req (sym step.there ∙ ap s.queue (sym (eqb-true _ _ same)) ∙ started.there)) ∙ ap has_landed started.going))
+      (λ (other : IsFalse (j == i)). ap (λ (t : Bool). if t then None else s.queue j) other ∙ started.there)
       (decided (j == i))
 
   live_taken : (lv b : ℕ) (e : Pp) → Live taken lv b e → Live s lv b e
-  live_taken lv b e live = record { copy = live.copy; counts = ⊎_elim (λ (f : IsFalse (is_settled_stale s e)). inl f) (λ (k : Caught taken lv (track_group_of b) e). inr (record { copy = k.copy; is_open = k.is_open; target = k.target; passed = k.passed })) live.counts }
+  live_taken lv b e live = record { copy = live.copy; counts = ⊎_elim (λ (f : IsFalse (is_settled_stale s e)). inl f) (λ (k : HasPassed taken lv (track_group_of b) e). inr (record { copy = k.copy; is_open = k.is_open; target = k.target; passed = k.passed })) live.counts }
 
-  pub taken_core : Core taken
+  pub taken_core : Sound taken
   taken_core =
       let calmer : Calmer s taken = record {
         started = λ j e started. record { there = before j e started.there; write = started.write; going = started.going };
@@ -104,7 +104,7 @@ module _ (s : State) (i : ℕ) (r : Req) (step : Takes s i r) (core : Core s) (f
         modes = λ lv b. ap (λ (k : Known). k.mode) (same_known lv b);
         active = λ lv. refl;
         copies = λ lv b. refl;
-        tight = λ lv b on. ap (λ (k : Known). k.loose) (same_known lv b) ∙ core.tied.tight lv b on;
+        tight = λ lv b on. ap (λ (k : Known). k.loose) (same_known lv b) ∙ sound.tied.tight lv b on;
         seen = λ j lv b e n v seen h past. (
           subst (λ (k : Known). IsIn k.values v) (sym (same_known lv b)) seen.allowed,
           ⊎_elim
@@ -113,16 +113,16 @@ module _ (s : State) (i : ℕ) (r : Req) (step : Takes s i r) (core : Core s) (f
               seen.equal,
         );
         still = λ j lv b e n c seen h past. refl;
-        got = λ j e n v was is got. inl (ap (λ (q : Req). q.got) (one_req (sym was ∙ before j n is)) ∙ got);
-        pinning = λ j e n was is write pins on several. inl (ap (λ (q : Req). is_pinning q.phase) (one_req (sym was ∙ before j n is)) ∙ pins);
+        got = λ j e n v was is got. inl (ap (λ (q : Queued). q.got) (one_req (sym was ∙ before j n is)) ∙ got);
+        pinning = λ j e n was is write pins on several. inl (ap (λ (q : Queued). is_pinning q.phase) (one_req (sym was ∙ before j n is)) ∙ pins);
         cache = λ j e h write pinning on several cached. cached;
       } in
-      let f = frame_keeps s taken frame (nearly s core) in
+      let f = frame_keeps s taken frame (nearly s sound) in
       record {
-        blocks = calm_blocks s taken calmer core.blocks;
+        blocks = calm_blocks s taken calmer sound.blocks;
         tied = f.0;
-        statuses = same_statuses s core s.media.block (without s.reqs i) facts;
-        behind = record { left_behind = core.behind.left_behind };
-        notes = record { home = core.notes.home; pinned = f.2 };
+        statuses = same_statuses s sound s.media.block (without s.queue i) facts;
+        behind = record { left_behind = sound.behind.left_behind };
+        notes = record { home = sound.notes.home; pinned = f.2 };
         holds = f.1;
       }

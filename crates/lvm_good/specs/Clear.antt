@@ -4,7 +4,7 @@ use Rattle.lvm_num.specs.declared.place.Pp.{Pp}
 use Rattle.lvm_good.specs.Found.{Votes}
 use Rattle.lvm_good.specs.State.{Marks, State, is_usable}
 use Rattle.lvm_good.specs.Good.{Good}
-use Rattle.lvm_good.specs.Core.{Complete}
+use Rattle.lvm_good.specs.Sound.{Complete}
 
 -- the copy has passed all its track groups: it is no longer wanted stale
 pub record Clears (s : State) (wanted : Marks) (c : Pp) : Type 0 where

@@ -4,14 +4,14 @@ use Rattle.lvm_num.specs.declared.place.Pp.{Pp}
 use Rattle.lvm_num.specs.Geometry.{track_group_of}
 use Rattle.lvm_num.specs.Record.{Stamped}
 use Rattle.lvm_vol.specs.May.{Known, cut, IsValue}
-use Rattle.lvm_good.specs.State.{Marks, Groups, View, Flying, Req, StepWrite, State, covers, is_past, Started}
-use Rattle.lvm_good.specs.Core.{Core}
+use Rattle.lvm_good.specs.State.{Marks, Groups, View, Flying, Queued, StepWrite, State, covers, is_past, Started}
+use Rattle.lvm_good.specs.Sound.{Sound}
 use Rattle.lvm_good.specs.State.{told}
 
 -- a write flies to this copy and brings the value to the block
 pub record Brings (s : State) (lv b : ℕ) (c : Pp) (value : List ℕ) : Type 0 where
   pub id : ℕ
-  pub req : Req
+  pub req : Queued
   pub started : Started s id req
   pub over : IsTrue (covers req lv b)
   pub flies : req.targets c ≡ Some Flying
@@ -24,9 +24,9 @@ pub record CopyBrings (s : State) (lv b : ℕ) (c : Pp) (value : List ℕ) : Typ
   pub target : step.target ≡ c
   pub id : ℕ
   pub place : step.place ≡ id
-  pub req : Req
+  pub req : Queued
   pub values : ℕ → List ℕ
-  pub there : s.reqs id ≡ Some req
+  pub there : s.queue id ≡ Some req
   pub read : IsFalse req.write
   pub past : IsTrue (is_past req.phase)
   pub got : req.got ≡ Some values
@@ -62,13 +62,13 @@ IsPossible s marks = (marks ≡ s.committed.value) ⊎ ((u : Stamped Marks) × (
 -- what is known afterwards allows at least what is known now, and what the writes bring that have started
 pub record Widens (s : State) (after : ℕ → ℕ → Known) : Type 0 where
   pub old : (lv b : ℕ) (value : List ℕ) → IsValue (told s lv b) value → IsValue (after lv b) value
-  pub new : (i lv b : ℕ) (r : Req) → Started s i r → IsTrue (covers r lv b) → IsValue (after lv b) (r.value b)
+  pub new : (i lv b : ℕ) (r : Queued) → Started s i r → IsTrue (covers r lv b) → IsValue (after lv b) (r.value b)
   pub loose : (lv b : ℕ) → IsTrue (told s lv b).loose → IsTrue (after lv b).loose
-  pub started : (i lv b : ℕ) (r : Req) → Started s i r → IsTrue (covers r lv b) → IsFalse (s.is_active lv) → IsTrue (after lv b).loose
+  pub started : (i lv b : ℕ) (r : Queued) → Started s i r → IsTrue (covers r lv b) → IsFalse (s.is_active lv) → IsTrue (after lv b).loose
 
 -- Each crash image agrees with the history, whichever status is found.
 abbrev pub EachKept : State → Type 0
 EachKept s = (v : View) (marks : Marks) (lv b : ℕ) → IsCrash s v → IsPossible s marks → BlockKept s v marks (cut b (told s lv b)) lv b
 
 abbrev pub CoreIsKept : Type 0
-CoreIsKept = (s : State) → Core s → EachKept s
+CoreIsKept = (s : State) → Sound s → EachKept s

@@ -2,15 +2,15 @@
 use Rattle.std.specs.Prelude.{◌≡◌, ℕ, Some, IsTrue}
 use Rattle.lvm_good.specs.Found.{Votes}
 use Rattle.lvm_good.specs.Updates.{with_req, land}
-use Rattle.lvm_good.specs.State.{Req, State}
+use Rattle.lvm_good.specs.State.{Queued, State}
 use Rattle.lvm_good.specs.Good.{Good}
 use Rattle.std.specs.Prelude.{IsFalse}
 use Rattle.lvm_good.specs.State.{has_landed}
 
-pub record StepEnds (s : State) (i : ℕ) (r : Req) : Type 0 where
-  pub there : s.reqs i ≡ Some r
+pub record StepEnds (s : State) (i : ℕ) (r : Queued) : Type 0 where
+  pub there : s.queue i ≡ Some r
   pub step : IsTrue r.step
   pub unlanded : IsFalse (has_landed r.phase)
 
 abbrev pub EndStepKeeps : Type 0
-EndStepKeeps = (votes : Votes) (s : State) (i : ℕ) (r : Req) → StepEnds s i r → Good votes s → Good votes (with_req s i (land r))
+EndStepKeeps = (votes : Votes) (s : State) (i : ℕ) (r : Queued) → StepEnds s i r → Good votes s → Good votes (with_req s i (land r))

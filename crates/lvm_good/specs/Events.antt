@@ -23,7 +23,7 @@ use Rattle.lvm_good.specs.Open.{Opens}
 use Rattle.lvm_good.specs.LandGot.{LandsGot, with_got}
 use Rattle.lvm_good.specs.LandLost.{LandsLost, lost}
 use Rattle.lvm_good.specs.Submit.{Submits, submitted}
-use Rattle.lvm_good.specs.State.{Marks, Groups, Stage, Phase, Req, OpenCopy, StepWrite, State}
+use Rattle.lvm_good.specs.State.{Marks, Groups, Stage, Phase, Queued, OpenCopy, StepWrite, State}
 use Rattle.lvm_good.specs.Pin.{Pins, pinned}
 use Rattle.lvm_good.specs.Good.{Good}
 use Rattle.lvm_good.specs.MoveStatus.{Moves, moved}
@@ -36,20 +36,20 @@ use Rattle.lvm_good.specs.Clear.{Clears}
 
 -- an event, with what it brings along
 pub data Event : Type 0 where
-  Submit : (i : ℕ) (q : Request) (r : Req) → Event
-  EnterStep : (i : ℕ) (q : Request) (r : Req) → Event
-  Admit : (i : ℕ) (r : Req) (phase : Phase) (several : Bool) (targets : Pp → Option Stage) → Event
-  Pin : (i : ℕ) (r : Req) (cache : Groups) → Event
-  Read : (i : ℕ) (r : Req) (c : Pp) (stage : Stage) (got : Option (ℕ → List ℕ)) → Event
-  StartWrite : (i : ℕ) (r : Req) (c : Pp) → Event
-  Transfer : (i : ℕ) (r : Req) (c : Pp) (stage : Stage) (block : ℕ → ℕ → Pp → List ℕ) → Event
-  LandDone : (i : ℕ) (r : Req) → Event
-  LandLost : (i : ℕ) (r : Req) → Event
-  LandGot : (i : ℕ) (r : Req) (got : List (List ℕ)) → Event
-  LandReadFailed : (i : ℕ) (r : Req) → Event
-  LandNoFresh : (i : ℕ) (r : Req) → Event
-  EndStep : (i : ℕ) (r : Req) → Event
-  Take : (i : ℕ) (r : Req) → Event
+  Submit : (i : ℕ) (q : Request) (r : Queued) → Event
+  EnterStep : (i : ℕ) (q : Request) (r : Queued) → Event
+  Admit : (i : ℕ) (r : Queued) (phase : Phase) (several : Bool) (targets : Pp → Option Stage) → Event
+  Pin : (i : ℕ) (r : Queued) (cache : Groups) → Event
+  Read : (i : ℕ) (r : Queued) (c : Pp) (stage : Stage) (got : Option (ℕ → List ℕ)) → Event
+  StartWrite : (i : ℕ) (r : Queued) (c : Pp) → Event
+  Transfer : (i : ℕ) (r : Queued) (c : Pp) (stage : Stage) (block : ℕ → ℕ → Pp → List ℕ) → Event
+  LandDone : (i : ℕ) (r : Queued) → Event
+  LandLost : (i : ℕ) (r : Queued) → Event
+  LandGot : (i : ℕ) (r : Queued) (got : List (List ℕ)) → Event
+  LandReadFailed : (i : ℕ) (r : Queued) → Event
+  LandNoFresh : (i : ℕ) (r : Queued) → Event
+  EndStep : (i : ℕ) (r : Queued) → Event
+  Take : (i : ℕ) (r : Queued) → Event
   Want : (wanted : Marks) (missing : ℕ → Bool) (open_copy : Option OpenCopy) → Event
   BeginUpdate : (u : Stamped Marks) → Event
   MoveStatus : (u : Stamped Marks) (status : ℕ → Option (Stamped Marks)) (flying : ℕ → Bool) → Event
@@ -58,7 +58,7 @@ pub data Event : Type 0 where
   StartNote : (flying : ℕ → Option Groups) → Event
   EndNote : (d : ℕ) (names home : ℕ → Groups) (flying : ℕ → Option Groups) → Event
   Open : (o : OpenCopy) → Event
-  CopyWrite : (i : ℕ) (r : Req) (value : ℕ → List ℕ) (target : Pp) (open_copy : Option OpenCopy) (step_write : Option StepWrite) (block : ℕ → ℕ → Pp → List ℕ) → Event
+  CopyWrite : (i : ℕ) (r : Queued) (value : ℕ → List ℕ) (target : Pp) (open_copy : Option OpenCopy) (step_write : Option StepWrite) (block : ℕ → ℕ → Pp → List ℕ) → Event
   Clear : (wanted : Marks) (c : Pp) → Event
 
 -- it may be made in the state, and makes the new one of it

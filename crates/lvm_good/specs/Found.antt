@@ -4,7 +4,7 @@ use Rattle.lvm_num.specs.Record.{Stamped, stamp_lt}
 use Rattle.lvm_good.specs.State.{Marks, View, State}
 use Rattle.lvm_good.specs.Crash.{IsCrash, IsPossible}
 
--- Sets of members: those with votes enough to read, and those with votes enough to write. (Law 2: each of the ones meets each of the others.)
+-- Sets of members: those with votes enough to read, and those with votes enough to write. Each of the ones meets each of the others.
 pub record Votes : Type 0 where
   pub reads : (ℕ → Bool) → Bool
   pub writes : (ℕ → Bool) → Bool

@@ -2,9 +2,9 @@
 use Rattle.lvm_good.specs.Found.{Votes, Found}
 use Rattle.lvm_good.specs.Told.{Told}
 use Rattle.lvm_good.specs.State.{State}
-use Rattle.lvm_good.specs.Core.{Core}
+use Rattle.lvm_good.specs.Sound.{Sound}
 
 pub record Good (votes : Votes) (s : State) : Type 0 where
-  pub core : Core s
+  pub sound : Sound s
   pub found : Found votes s
-  pub told : Told s.reqs s.name s.facts
+  pub told : Told s.queue s.name s.facts

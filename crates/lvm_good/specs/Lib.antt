@@ -1,6 +1,6 @@
 pub mod State
 pub mod Updates
-pub mod Core
+pub mod Sound
 pub mod Crash
 pub mod Found
 pub mod Told
@@ -30,7 +30,7 @@ pub mod Open
 pub mod CopyWrite
 pub mod Clear
 pub mod Events
-pub mod Fresh
+pub mod First
 pub mod Over
 pub mod Off
 pub mod Cut

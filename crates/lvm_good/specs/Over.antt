@@ -6,7 +6,7 @@ use Rattle.lvm_vol.specs.declared.entry.Outcome.{Outcome}
 use Rattle.lvm_vol.specs.Facts.{Request, Fact, Taken, Stands}
 use Rattle.lvm_vol.specs.May.{known, cut}
 use Rattle.lvm_vol.specs.Legal.{Fits, Legal}
-use Rattle.lvm_good.specs.State.{Marks, View, Phase, Held, WantEntry, Ready, Going, Landed, Req, State, has_landed}
+use Rattle.lvm_good.specs.State.{Marks, View, Phase, Held, WantEntry, Ready, Going, Landed, Queued, State, has_landed}
 use Rattle.lvm_good.specs.Crash.{IsCrash, BlockKept, IsPossible}
 
 -- no place stands there twice
@@ -16,8 +16,8 @@ IsDistinct (i ∷ places) = (Stands i places → ⊥) × IsDistinct places
 
 -- a request of the history that hasn't landed
 pub record IsUnlanded (s : State) (i : ℕ) : Type 0 where
-  pub req : Req
-  pub there : s.reqs i ≡ Some req
+  pub req : Queued
+  pub there : s.queue i ≡ Some req
   pub request : IsFalse req.step
   pub unlanded : IsFalse (has_landed req.phase)
 
@@ -32,8 +32,8 @@ is_going Landed = false
 pub record AreOpen (s : State) (places : List ℕ) (started : ℕ → Bool) : Type 0 where
   pub once : IsDistinct places
   pub each : (i : ℕ) → Stands i places → IsUnlanded s i
-  pub all : (i : ℕ) (r : Req) → s.reqs i ≡ Some r → IsFalse r.step → IsFalse (has_landed r.phase) → Stands i places
-  pub begun_data : (i : ℕ) (r : Req) → s.reqs i ≡ Some r → IsTrue r.write → started i ≡ is_going r.phase
+  pub all : (i : ℕ) (r : Queued) → s.queue i ≡ Some r → IsFalse r.step → IsFalse (has_landed r.phase) → Stands i places
+  pub begun_data : (i : ℕ) (r : Queued) → s.queue i ≡ Some r → IsTrue r.write → started i ≡ is_going r.phase
 
 -- each of them lands so
 abbrev pub landings : Outcome → (ℕ → Request) → (ℕ → Bool) → List ℕ → List Fact

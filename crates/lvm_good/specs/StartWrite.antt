@@ -4,12 +4,12 @@ use Rattle.lvm_num.specs.declared.place.Pp.{Pp}
 use Rattle.lvm_num.specs.Geometry.{track_group_of}
 use Rattle.lvm_good.specs.Found.{Votes}
 use Rattle.lvm_good.specs.Updates.{staged, with_req}
-use Rattle.lvm_good.specs.State.{Groups, Stage, Todo, Flying, Ready, Going, Req, State, is_settled_stale, is_usable, Caught}
+use Rattle.lvm_good.specs.State.{Groups, Stage, Todo, Flying, Ready, Going, Queued, State, is_settled_stale, is_usable, HasPassed}
 use Rattle.lvm_good.specs.Good.{Good}
 
 -- what a write needs for its first transfer
-pub record MayStart (s : State) (i : ℕ) (r : Req) (c : Pp) : Type 0 where
-  pub there : s.reqs i ≡ Some r
+pub record MayStart (s : State) (i : ℕ) (r : Queued) (c : Pp) : Type 0 where
+  pub there : s.queue i ≡ Some r
   pub write : IsTrue r.write
   pub ready : r.phase ≡ Ready
   pub target : r.targets c ≡ Some Todo
@@ -18,8 +18,8 @@ pub record MayStart (s : State) (i : ℕ) (r : Req) (c : Pp) : Type 0 where
   pub source : Pp
   pub source_copy : IsTrue (s.is_copy r.lv r.first source)
   pub source_usable : IsTrue (is_usable s source)
-  pub usable : (e : Pp) (stage : Stage) → r.targets e ≡ Some stage → IsTrue (is_usable s e) ⊎ Caught s r.lv (track_group_of r.first) e
-  pub each : (e : Pp) → IsTrue (s.is_copy r.lv r.first e) → IsTrue (is_usable s e) ⊎ Caught s r.lv (track_group_of r.first) e → r.targets e ≡ Some Todo
+  pub usable : (e : Pp) (stage : Stage) → r.targets e ≡ Some stage → IsTrue (is_usable s e) ⊎ HasPassed s r.lv (track_group_of r.first) e
+  pub each : (e : Pp) → IsTrue (s.is_copy r.lv r.first e) → IsTrue (is_usable s e) ⊎ HasPassed s r.lv (track_group_of r.first) e → r.targets e ≡ Some Todo
   -- nothing is pending
   pub quiet : (e : Pp) → IsTrue (s.is_copy r.lv r.first e) → IsTrue (s.wanted e) → IsTrue (is_settled_stale s e)
   -- the notes on the disks of its targets name its track group
@@ -27,11 +27,11 @@ pub record MayStart (s : State) (i : ℕ) (r : Req) (c : Pp) : Type 0 where
       → IsTrue (s.home_note e.disk r.lv (track_group_of r.first)) × ((n : Groups) → s.flying_note e.disk ≡ Some n → IsTrue (n r.lv (track_group_of r.first)))
   pub single : IsFalse r.several → (e f : Pp) (x y : Stage) → r.targets e ≡ Some x → r.targets f ≡ Some y → e ≡ f
 
-abbrev pub going : Req → Pp → Req
+abbrev pub going : Queued → Pp → Queued
 going r c = record r { phase = Going; targets = staged r.targets c Flying }
 
-abbrev pub started_first : State → ℕ → Req → Pp → State
+abbrev pub started_first : State → ℕ → Queued → Pp → State
 started_first s i r c = with_req s i (going r c)
 
 abbrev pub StartWriteKeeps : Type 0
-StartWriteKeeps = (votes : Votes) (s : State) (i : ℕ) (r : Req) (c : Pp) → MayStart s i r c → Good votes s → Good votes (started_first s i r c)
+StartWriteKeeps = (votes : Votes) (s : State) (i : ℕ) (r : Queued) (c : Pp) → MayStart s i r c → Good votes s → Good votes (started_first s i r c)

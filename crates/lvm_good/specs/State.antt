@@ -39,7 +39,7 @@ pub data Phase : Type 0 where
   Going : Phase
   Landed : Phase
 
-pub record Req : Type 0 where
+pub record Queued : Type 0 where
   pub lv : ℕ
   pub first : ℕ
   pub count : ℕ
@@ -66,7 +66,7 @@ pub record StepWrite : Type 0 where
 
 pub record State : Type 0 where
   pub media : View
-  pub reqs : ℕ → Option Req
+  pub queue : ℕ → Option Queued
   pub facts : List Fact
   -- the names of the places of the queue in the history (a copy step's is none of the history's)
   pub name : ℕ → Request
@@ -84,7 +84,7 @@ pub record State : Type 0 where
   pub open_copy : Option OpenCopy
   pub step_write : Option StepWrite
 
-abbrev pub covers : Req → ℕ → ℕ → Bool
+abbrev pub covers : Queued → ℕ → ℕ → Bool
 covers r lv b = r.lv == lv && nat_le r.first b && nat_lt b (r.first + r.count)
 
 -- what the open write of this name brings to the block, if there is one
@@ -139,7 +139,7 @@ abbrev pub is_usable : State → Pp → Bool
 is_usable s c = not (s.committed.value c) && not (s.missing c.disk)
 
 -- the copy that is being brought up has passed the track group
-pub record Caught (s : State) (lv g : ℕ) (c : Pp) : Type 0 where
+pub record HasPassed (s : State) (lv g : ℕ) (c : Pp) : Type 0 where
   pub copy : OpenCopy
   pub is_open : s.open_copy ≡ Some copy
   pub target : copy.target ≡ c
@@ -148,7 +148,7 @@ pub record Caught (s : State) (lv g : ℕ) (c : Pp) : Type 0 where
 -- a copy of the block that the committed status, or the one in flight, calls fresh, or that is being brought up and has passed it
 pub record Live (s : State) (lv b : ℕ) (c : Pp) : Type 0 where
   pub copy : IsTrue (s.is_copy lv b c)
-  pub counts : IsFalse (is_settled_stale s c) ⊎ Caught s lv (track_group_of b) c
+  pub counts : IsFalse (is_settled_stale s c) ⊎ HasPassed s lv (track_group_of b) c
 
 -- each note that the disk may have names the track group
 pub record Named (s : State) (d lv g : ℕ) : Type 0 where
@@ -156,7 +156,7 @@ pub record Named (s : State) (d lv g : ℕ) : Type 0 where
   pub flying : (n : Groups) → s.flying_note d ≡ Some n → IsTrue (n lv g)
 
 -- an open write that has started
-pub record Started (s : State) (i : ℕ) (r : Req) : Type 0 where
-  pub there : s.reqs i ≡ Some r
+pub record Started (s : State) (i : ℕ) (r : Queued) : Type 0 where
+  pub there : s.queue i ≡ Some r
   pub write : IsTrue r.write
   pub going : r.phase ≡ Going

@@ -29,7 +29,7 @@ ghost use Rattle.lvm_good.specs.Cut.{CutKeeps};
 ghost use Rattle.lvm_good.specs.Found.{QuorumFinds};
 ghost use Rattle.lvm_good.specs.Off.{OffKeeps};
 ghost use Rattle.lvm_good.specs.Over.{OverStays};
-ghost use Rattle.lvm_good.specs.Fresh.{FirstIsGood};
+ghost use Rattle.lvm_good.specs.First.{FirstIsGood};
 
 /// A request begins.
 pub fn request_begins()

@@ -13,7 +13,7 @@ use Rattle.std.specs.Prelude.{nat_lt}
 abbrev pub at_first : State
 at_first = record {
   media = record { block = λ lv b c. zero_sector; names = λ d lv g. false; status = λ d. Some (record { stamp = record { epoch = 1; seq = 1 }; value = λ c. false }) };
-  reqs = λ i. None;
+  queue = λ i. None;
   facts = Making 1 2048 Active ∷ Made 1 ∷ [];
   name = λ i. record { run = 1; id = i; client = 0; vol = Lv 1; at = 0; count = 0; write = false; blocks = [] };
   is_copy = λ lv b c. (1 == lv && nat_lt b 2048) && (c.pp == 0 && (c.disk == 0 || c.disk == 1));
