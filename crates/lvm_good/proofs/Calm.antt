@@ -23,7 +23,8 @@ module _ (old new : State) (calmer : Calmer old new) (blocks : Blocks old) where
       same_mode : (x : Bool) → Agree old lv b ⊎ MayDiffer old lv b x → Agree new lv b ⊎ MayDiffer new lv b x
       same_mode x (inl agree) = inl (agree.0, λ c live. calmer.block lv b c ∙ agree.1 c (calmer.live lv b c live))
       same_mode true (inr differ) = inr (λ c live. let d = differ c (calmer.live lv b c live) in (calmer.missing_still c.disk d.0, calmer.named_missing c.disk lv (track_group_of b) d.0 d.1))
-      same_mode false (inr loose) = inr (calmer.loose lv b loose)
+      same_mode false (inr (inl loose)) = inr (inl (calmer.loose lv b loose))
+      same_mode false (inr (inr d)) = inr (inr (record { passive = calmer.passive lv ∙ d.passive; missing = λ c live. calmer.missing_still c.disk (d.missing c (calmer.live lv b c live)); dirty = calmer.dirty lv d.dirty }))
 
       by_mode : (x y : Bool) → y ≡ x → Agree old lv b ⊎ MayDiffer old lv b x → Agree new lv b ⊎ MayDiffer new lv b y
       by_mode x y same h = subst (λ (z : Bool). Agree new lv b ⊎ MayDiffer new lv b z) (sym same) (same_mode x h)
@@ -50,6 +51,7 @@ module _ (old new : State) (calmer : Calmer old new) (blocks : Blocks old) where
         record {
           named = λ on several c stage at. let was = sym (calmer.active lv) ∙ on in calmer.named_started i lv b c.disk r (calmer.started i r started) over was several (recorded.named was several c stage at);
           one = recorded.one;
+          dirty = λ soft several. calmer.dirty lv (recorded.dirty (sym (calmer.passive lv) ∙ soft) several);
           single = recorded.single;
         };
   }

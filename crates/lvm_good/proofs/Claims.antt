@@ -49,6 +49,8 @@ pub record Calmer (old new : State) : Type 0 where
   pub block : (lv b : ℕ) (c : Pp) → new.media.block lv b c ≡ old.media.block lv b c
   pub live : (lv b : ℕ) (c : Pp) → Live new lv b c → Live old lv b c
   pub active : (lv : ℕ) → new.is_active lv ≡ old.is_active lv
+  pub passive : (lv : ℕ) → new.is_passive lv ≡ old.is_passive lv
+  pub dirty : (lv : ℕ) → IsTrue (old.committed.value.dirty lv) → IsTrue (new.committed.value.dirty lv)
   pub missing_still : (d : ℕ) → IsTrue (old.missing d) → IsTrue (new.missing d)
   pub named_missing : (d lv g : ℕ) → IsTrue (old.missing d) → Named old d lv g → Named new d lv g
   pub named_started : (i lv b d : ℕ) (r : Queued) → Started old i r → IsTrue (covers r lv b) → IsTrue (old.is_active lv) → IsTrue r.several → Named old d lv (track_group_of b) → Named new d lv (track_group_of b)
@@ -86,8 +88,10 @@ pub record Frame (old new : State) : Type 0 where
   pub run : new.name ≡ old.name
   pub modes : (lv b : ℕ) → (told new lv b).mode ≡ (told old lv b).mode
   pub active : (lv : ℕ) → new.is_active lv ≡ old.is_active lv
+  pub passive : (lv : ℕ) → new.is_passive lv ≡ old.is_passive lv
+  pub dirty : (lv : ℕ) → IsTrue (old.committed.value.dirty lv) → IsTrue (new.committed.value.dirty lv)
   pub copies : (lv b : ℕ) → new.is_copy lv b ≡ old.is_copy lv b
-  pub tight : (lv b : ℕ) → IsTrue (new.is_active lv) → IsFalse (told new lv b).loose
+  pub tight : (lv b : ℕ) → IsTrue (new.is_active lv) ⊎ IsTrue (new.is_passive lv) → IsFalse (told new lv b).loose
   pub seen : (i lv b : ℕ) (r n : Queued) (v : List ℕ) → Seen old i r lv b v → new.queue i ≡ Some n → IsTrue (is_past n.phase)
       → IsValue (told new lv b) v × (IsTrue (told new lv b).loose ⊎ ((e : Pp) → Live new lv b e → new.media.block lv b e ≡ v))
   pub still : (i lv b : ℕ) (r n : Queued) (c : Pp) → Seen old i r lv b (old.media.block lv b c) → new.queue i ≡ Some n → IsTrue (is_past n.phase) → new.media.block lv b c ≡ old.media.block lv b c
@@ -107,6 +111,8 @@ pub record Quiet (old new : State) : Type 0 where
   pub known_same : (lv b : ℕ) → told new lv b ≡ told old lv b
   pub run : new.name ≡ old.name
   pub active : (lv : ℕ) → new.is_active lv ≡ old.is_active lv
+  pub passive : (lv : ℕ) → new.is_passive lv ≡ old.is_passive lv
+  pub dirty : (lv : ℕ) → IsTrue (old.committed.value.dirty lv) → IsTrue (new.committed.value.dirty lv)
   pub copies : (lv b : ℕ) → new.is_copy lv b ≡ old.is_copy lv b
   pub block : (lv b : ℕ) (c : Pp) → new.media.block lv b c ≡ old.media.block lv b c
   pub live : (lv b : ℕ) (c : Pp) → Live new lv b c → Live old lv b c
@@ -198,13 +204,13 @@ EachHasKeptTarget = (s : State) (i : ℕ) (r : Queued) → Sound s → Started s
 -- the marks of rule 6 or 7: targets become wanted stale, another target stays fresh
 pub record MarksOthers (s : State) (r : Queued) (kept : Pp) (wanted : Marks) : Type 0 where
   pub is_copy : IsTrue (s.is_copy r.lv r.first kept)
-  pub fresh : IsFalse (s.committed.value kept)
-  pub stays : IsFalse (wanted kept)
-  pub still : (c : Pp) → IsTrue (s.wanted c) → IsTrue (wanted c)
-  pub added : (c : Pp) → IsTrue (wanted c) → IsTrue (s.wanted c) ⊎ IsTrue (s.is_copy r.lv r.first c)
+  pub fresh : IsFalse (s.committed.value.stale kept)
+  pub stays : IsFalse (wanted.stale kept)
+  pub still : (c : Pp) → IsTrue (s.wanted.stale c) → IsTrue (wanted.stale c)
+  pub added : (c : Pp) → IsTrue (wanted.stale c) → IsTrue (s.wanted.stale c) ⊎ IsTrue (s.is_copy r.lv r.first c)
 
 abbrev pub MarksAreReplaced : Type 0
-MarksAreReplaced = (s : State) (r : Queued) (kept : Pp) (wanted : Marks) → MarksOthers s r kept wanted → (c : Pp) → IsTrue (wanted c) → IsTrue (s.wanted c) ⊎ Replaced s wanted c
+MarksAreReplaced = (s : State) (r : Queued) (kept : Pp) (wanted : Marks) → MarksOthers s r kept wanted → (c : Pp) → IsTrue (wanted.stale c) → IsTrue (s.wanted.stale c) ⊎ Replaced s wanted c
 
 -- a write of the update in flight ends: the disk has it, or what it had
 abbrev pub StatusEndKeepsFound : Type 0

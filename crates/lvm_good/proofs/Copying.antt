@@ -91,8 +91,8 @@ module _ (s : State) (i : ℕ) (r : Queued) (value : ℕ → List ℕ) (target :
       (seen lv b over).1
     where
       by_mode : (x : Bool) → s.is_active lv ≡ x → IsTrue (told s lv b).loose → Agree new lv b ⊎ MayDiffer new lv b x
-      by_mode true is loose = never (told s lv b).loose loose (sound.tied.tight lv b is)
-      by_mode false is loose = inr loose
+      by_mode true is loose = never (told s lv b).loose loose (sound.tied.tight lv b (inl is))
+      by_mode false is loose = inr (inl loose)
 
   settled_now : (lv b : ℕ) → Settled s lv b → Settled new lv b
   settled_now lv b settled = record {
@@ -110,7 +110,8 @@ module _ (s : State) (i : ℕ) (r : Queued) (value : ℕ → List ℕ) (target :
       equal_off : IsFalse (covers r lv b) → (active : Bool) → Agree s lv b ⊎ MayDiffer s lv b active → Agree new lv b ⊎ MayDiffer new lv b active
       equal_off off active (inl agree) = inl (agree.0, λ c live. off_block lv b off c ∙ agree.1 c (off_live lv b off c live))
       equal_off off true (inr differ) = inr (λ c live. let d = differ c (off_live lv b off c live) in (d.0, named_now c.disk lv (track_group_of b) d.1))
-      equal_off off false (inr loose) = inr loose
+      equal_off off false (inr (inl loose)) = inr (inl loose)
+      equal_off off false (inr (inr d)) = inr (inr (record { passive = d.passive; missing = λ e live. d.missing e (off_live lv b off e live); dirty = d.dirty }))
 
   was_started : (j : ℕ) (e : Queued) → Started new j e → Started s j e
   was_started j e started = record { there = started.there; write = started.write; going = started.going }
@@ -136,7 +137,7 @@ module _ (s : State) (i : ℕ) (r : Queued) (value : ℕ → List ℕ) (target :
         };
     recorded = λ j lv b e started over.
         let recorded = sound.blocks.recorded j lv b e (was_started j e started) over in
-        record { named = λ on several c x at. named_now c.disk lv (track_group_of b) (recorded.named on several c x at); one = recorded.one; single = recorded.single };
+        record { named = λ on several c x at. named_now c.disk lv (track_group_of b) (recorded.named on several c x at); dirty = recorded.dirty; one = recorded.one; single = recorded.single };
   }
 
   -- a live copy of the block of a request
@@ -144,7 +145,7 @@ module _ (s : State) (i : ℕ) (r : Queued) (value : ℕ → List ℕ) (target :
   some_live j lv b e there over =
       let inside = sound.tied.inside j e there lv b over in
       let kept = sound.statuses.kept lv b inside.0 inside.1 in
-      (kept.0, record { copy = kept.1; counts = inl (and_left_false (s.committed.value kept.0) (stale_in s.in_flight kept.0) kept.2.committed) })
+      (kept.0, record { copy = kept.1; counts = inl (and_left_false (s.committed.value.stale kept.0) (stale_in s.in_flight kept.0) kept.2.committed) })
 
   -- what a read knows of a value there stays true
   equal_now : (j lv b : ℕ) (e : Queued) (v : List ℕ) → s.queue j ≡ Some e → IsTrue (covers e lv b) → IsTrue (told s lv b).loose ⊎ ((c : Pp) → Live s lv b c → s.media.block lv b c ≡ v)
@@ -191,7 +192,7 @@ module _ (s : State) (i : ℕ) (r : Queued) (value : ℕ → List ℕ) (target :
 
   copy_statuses : Statuses new
   copy_statuses = record {
-    stale_flies = λ c u f stale fresh. ⊎_elim (λ (w : IsTrue (s.wanted c)). inl w) (λ (k : Complete s c). inr (complete_now c k)) (sound.statuses.stale_flies c u f stale fresh);
+    stale_flies = λ c u f stale fresh. ⊎_elim (λ (w : IsTrue (s.wanted.stale c)). inl w) (λ (k : Complete s c). inr (complete_now c k)) (sound.statuses.stale_flies c u f stale fresh);
     stale_is_wanted = λ c stale m. complete_now c (sound.statuses.stale_is_wanted c stale m);
     flying_is_wanted = λ c u f stale m. complete_now c (sound.statuses.flying_is_wanted c u f stale m);
     kept = λ lv b c copy. let k = sound.statuses.kept lv b c copy in (k.0, k.1, record { committed = k.2.committed; flying = k.2.flying; wanted = k.2.wanted });
@@ -201,8 +202,11 @@ module _ (s : State) (i : ℕ) (r : Queued) (value : ℕ → List ℕ) (target :
         step.open_now;
     open_stale = λ m is. ⊎_elim
         (λ (same : open_copy ≡ s.open_copy). sound.statuses.open_stale m (sym same ∙ is))
-        (λ (p : Passes s r value target block open_copy). subst (λ (x : Pp). IsTrue (s.committed.value x) ⊎ IsTrue (s.wanted x)) (sym p.same_target ∙ ap (λ (q : OpenCopy). q.target) (the_copy p.new m (sym p.is_now ∙ is))) (sound.statuses.open_stale p.old p.is_open))
+        (λ (p : Passes s r value target block open_copy). subst (λ (x : Pp). IsTrue (s.committed.value.stale x) ⊎ IsTrue (s.wanted.stale x)) (sym p.same_target ∙ ap (λ (q : OpenCopy). q.target) (the_copy p.new m (sym p.is_now ∙ is))) (sound.statuses.open_stale p.old p.is_open))
         step.open_now;
+    dirty_flies = sound.statuses.dirty_flies;
+    dirty_is_wanted = sound.statuses.dirty_is_wanted;
+    dirty_flying_is_wanted = sound.statuses.dirty_flying_is_wanted;
   }
 
   copy_core : Sound new
@@ -237,6 +241,8 @@ module _ (s : State) (o : OpenCopy) (step : Opens s o) (sound : Sound s) where
         known_same = λ lv b. refl;
         run = refl;
         active = λ lv. refl;
+        passive = λ lv. refl;
+        dirty = λ lv h. h;
         copies = λ lv b. refl;
         block = λ lv b c. refl;
         live = λ lv b c live. record {
@@ -252,12 +258,15 @@ module _ (s : State) (o : OpenCopy) (step : Opens s o) (sound : Sound s) where
       let n = quiet_nearly s opened quiet (nearly s sound) (record {
         home = sound.notes.home;
         statuses = record {
-          stale_flies = λ c u f stale fresh. ⊎_elim (λ (w : IsTrue (s.wanted c)). inl w) (λ (k : Complete s c). none_open k.copy k.is_open) (sound.statuses.stale_flies c u f stale fresh);
+          stale_flies = λ c u f stale fresh. ⊎_elim (λ (w : IsTrue (s.wanted.stale c)). inl w) (λ (k : Complete s c). none_open k.copy k.is_open) (sound.statuses.stale_flies c u f stale fresh);
           stale_is_wanted = λ c stale m. let k = sound.statuses.stale_is_wanted c stale m in none_open k.copy k.is_open;
           flying_is_wanted = λ c u f stale m. let k = sound.statuses.flying_is_wanted c u f stale m in none_open k.copy k.is_open;
           kept = λ lv b c copy. let k = sound.statuses.kept lv b c copy in (k.0, k.1, record { committed = k.2.committed; flying = k.2.flying; wanted = k.2.wanted });
           open_there = λ m is. subst (λ (q : OpenCopy). IsFalse (s.missing q.target.disk)) (the_copy o m is) step.there;
-          open_stale = λ m is. inl (subst (λ (q : OpenCopy). IsTrue (s.committed.value q.target)) (the_copy o m is) step.stale);
+          open_stale = λ m is. inl (subst (λ (q : OpenCopy). IsTrue (s.committed.value.stale q.target)) (the_copy o m is) step.stale);
+          dirty_flies = sound.statuses.dirty_flies;
+          dirty_is_wanted = sound.statuses.dirty_is_wanted;
+          dirty_flying_is_wanted = sound.statuses.dirty_flying_is_wanted;
         };
       }) in
       record { blocks = n.blocks; tied = n.tied; statuses = n.statuses; behind = record { left_behind = sound.behind.left_behind }; notes = n.notes; holds = n.holds }
@@ -274,9 +283,9 @@ module _ (s : State) (wanted : Marks) (c : Pp) (step : Clears s wanted c) (sound
   complete_then : (e : Pp) → Complete s e → Complete cleared e
   complete_then e k = record { copy = k.copy; is_open = k.is_open; target = k.target; passed = k.passed }
 
-  complete_if : (e : Pp) → IsTrue (s.wanted e) → IsFalse (wanted e) → Complete cleared e
+  complete_if : (e : Pp) → IsTrue (s.wanted.stale e) → IsFalse (wanted.stale e) → Complete cleared e
   complete_if e w m = ⊎_elim
-      (λ (h : IsTrue (wanted e)). never (wanted e) h m)
+      (λ (h : IsTrue (wanted.stale e)). never (wanted.stale e) h m)
       (λ (is : e ≡ c). complete_then e (subst (λ (p : Pp). Complete s p) (sym is) step.complete))
       (step.still e w)
 
@@ -287,6 +296,8 @@ module _ (s : State) (wanted : Marks) (c : Pp) (step : Clears s wanted c) (sound
         known_same = λ lv b. refl;
         run = refl;
         active = λ lv. refl;
+        passive = λ lv. refl;
+        dirty = λ lv h. h;
         copies = λ lv b. refl;
         block = λ lv b e. refl;
         live = λ lv b e live. record { copy = live.copy; counts = ⊎_elim (λ (f : IsFalse (is_settled_stale s e)). inl f) (λ (k : HasPassed cleared lv (track_group_of b) e). inr (record { copy = k.copy; is_open = k.is_open; target = k.target; passed = k.passed })) live.counts };
@@ -299,23 +310,26 @@ module _ (s : State) (wanted : Marks) (c : Pp) (step : Clears s wanted c) (sound
         home = sound.notes.home;
         statuses = record {
           stale_flies = λ e u f stale fresh. ⊎_elim
-              (λ (w : IsTrue (s.wanted e)). ⊎_elim (λ (h : IsTrue (wanted e)). inl h) (λ (is : e ≡ c). inr (complete_then e (subst (λ (p : Pp). Complete s p) (sym is) step.complete))) (step.still e w))
+              (λ (w : IsTrue (s.wanted.stale e)). ⊎_elim (λ (h : IsTrue (wanted.stale e)). inl h) (λ (is : e ≡ c). inr (complete_then e (subst (λ (p : Pp). Complete s p) (sym is) step.complete))) (step.still e w))
               (λ (k : Complete s e). inr (complete_then e k))
               (sound.statuses.stale_flies e u f stale fresh);
           stale_is_wanted = λ e stale m. ⊎_elim
-              (λ (w : IsTrue (s.wanted e)). complete_if e w m)
-              (λ (f : IsFalse (s.wanted e)). complete_then e (sound.statuses.stale_is_wanted e stale f))
-              (decided (s.wanted e));
+              (λ (w : IsTrue (s.wanted.stale e)). complete_if e w m)
+              (λ (f : IsFalse (s.wanted.stale e)). complete_then e (sound.statuses.stale_is_wanted e stale f))
+              (decided (s.wanted.stale e));
           flying_is_wanted = λ e u f stale m. ⊎_elim
-              (λ (w : IsTrue (s.wanted e)). complete_if e w m)
-              (λ (h : IsFalse (s.wanted e)). complete_then e (sound.statuses.flying_is_wanted e u f stale h))
-              (decided (s.wanted e));
-          kept = λ lv b e copy. let k = sound.statuses.kept lv b e copy in (k.0, k.1, record { committed = k.2.committed; flying = k.2.flying; wanted = false_by (wanted k.0) (s.wanted k.0) (step.added k.0) k.2.wanted });
+              (λ (w : IsTrue (s.wanted.stale e)). complete_if e w m)
+              (λ (h : IsFalse (s.wanted.stale e)). complete_then e (sound.statuses.flying_is_wanted e u f stale h))
+              (decided (s.wanted.stale e));
+          kept = λ lv b e copy. let k = sound.statuses.kept lv b e copy in (k.0, k.1, record { committed = k.2.committed; flying = k.2.flying; wanted = false_by (wanted.stale k.0) (s.wanted.stale k.0) (step.added k.0) k.2.wanted });
           open_there = sound.statuses.open_there;
           open_stale = λ o is. ⊎_elim
-              (λ (h : IsTrue (s.committed.value o.target)). inl h)
-              (λ (w : IsTrue (s.wanted o.target)). ⊎_elim (λ (h : IsTrue (wanted o.target)). inr h) (λ (e : o.target ≡ c). inl (subst (λ (p : Pp). IsTrue (s.committed.value p)) (sym e) step.stale)) (step.still o.target w))
+              (λ (h : IsTrue (s.committed.value.stale o.target)). inl h)
+              (λ (w : IsTrue (s.wanted.stale o.target)). ⊎_elim (λ (h : IsTrue (wanted.stale o.target)). inr h) (λ (e : o.target ≡ c). inl (subst (λ (p : Pp). IsTrue (s.committed.value.stale p)) (sym e) step.stale)) (step.still o.target w))
               (sound.statuses.open_stale o is);
+          dirty_flies = sound.statuses.dirty_flies;
+          dirty_is_wanted = λ lv h. step.still_dirty lv (sound.statuses.dirty_is_wanted lv h);
+          dirty_flying_is_wanted = λ lv u f h. step.still_dirty lv (sound.statuses.dirty_flying_is_wanted lv u f h);
         };
       }) in
       record { blocks = n.blocks; tied = n.tied; statuses = n.statuses; behind = record { left_behind = step.behind }; notes = n.notes; holds = n.holds }

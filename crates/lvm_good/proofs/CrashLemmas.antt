@@ -39,8 +39,8 @@ module _ (s : State) (sound : Sound s) where
     old = λ lv b value h. in_more (told s lv b).values _ value h;
     new = λ i lv b r started over. new_value_in i r lv b started over;
     loose = λ lv b h. or_left (told s lv b).loose _ h;
-    started = λ i lv b r started over off. or_right (told s lv b).loose (is_off (told s lv b).mode) (is_some_open (told s lv b).open_writes)
-        (sound.tied.modes lv b off)
+    started = λ i lv b r started over off soft. or_right (told s lv b).loose (is_off (told s lv b).mode) (is_some_open (told s lv b).open_writes)
+        (sound.tied.modes lv b off soft)
         (some_open b (told s lv b).open_writes (request_of s i) (r.value b) (is_open i r lv b started over));
   }
 
@@ -49,7 +49,7 @@ module _ (s : State) (sound : Sound s) where
     old = λ lv b value h. in_more (after lv b).values _ value (w.old lv b value h);
     new = λ i lv b r started over. in_more (after lv b).values _ (r.value b) (w.new i lv b r started over);
     loose = λ lv b h. or_left (after lv b).loose _ (w.loose lv b h);
-    started = λ i lv b r started over off. or_left (after lv b).loose _ (w.started i lv b r started over off);
+    started = λ i lv b r started over off soft. or_left (after lv b).loose _ (w.started i lv b r started over off soft);
   }
 
   module _ (v : View) (crash : IsCrash s v) (after : ℕ → ℕ → Known) (wide : Widens s after) where
@@ -88,8 +88,8 @@ module _ (s : State) (sound : Sound s) where
       is_live c fresh = record {
         copy = fresh.copy;
         counts = inl (elim possible [
-          | inl is ↦ and_left_false (s.committed.value c) (stale_in s.in_flight c) (ap (λ (m : Marks). m c) (sym is) ∙ fresh.fresh)
-          | inr flies ↦ and_right_false (s.committed.value c) (stale_in s.in_flight c) (ap (λ (o : Option (Stamped Marks)). stale_in o c) flies.1 ∙ ap (λ (m : Marks). m c) (sym flies.2) ∙ fresh.fresh)
+          | inl is ↦ and_left_false (s.committed.value.stale c) (stale_in s.in_flight c) (ap (λ (m : Marks). m.stale c) (sym is) ∙ fresh.fresh)
+          | inr flies ↦ and_right_false (s.committed.value.stale c) (stale_in s.in_flight c) (ap (λ (o : Option (Stamped Marks)). stale_in o c) flies.1 ∙ ap (λ (m : Marks). m.stale c) (sym flies.2) ∙ fresh.fresh)
         ]);
       }
 
@@ -106,22 +106,19 @@ module _ (s : State) (sound : Sound s) where
         ]
       ]
 
-      equal_if_settled : (active loose : Bool) → s.is_active lv ≡ active → (told s lv b).loose ≡ loose → Settled s lv b → Agree s lv b ⊎ MayDiffer s lv b active
-          → ((value : List ℕ) × ((c : Pp) → Fresh s marks lv b c → v.block lv b c ≡ value)) ⊎ MayDifferAfter s v marks (after lv b) lv b active
-      equal_if_settled active false on tight settled (inl agree) = inl (agree.0, λ c fresh. same_if_calm settled tight c (is_live c fresh) ∙ agree.1 c (is_live c fresh))
-      equal_if_settled true true on loose settled (inl agree) = never (told s lv b).loose loose (sound.tied.tight lv b on)
-      equal_if_settled false true on loose settled (inl agree) = inr (wide.loose lv b loose)
-      equal_if_settled true loose on l settled (inr differ) = inr (λ c fresh. named_after c.disk lv (track_group_of b) (differ c (is_live c fresh)).1)
-      equal_if_settled false loose on l settled (inr is) = inr (wide.loose lv b is)
+      marks_dirty : IsTrue (s.committed.value.dirty lv) → IsTrue (marks.dirty lv)
+      marks_dirty h = elim possible [
+        | inl is ↦ ap (λ (m : Marks). m.dirty lv) is ∙ h
+        | inr flies ↦ ap (λ (m : Marks). m.dirty lv) flies.2 ∙ sound.statuses.dirty_flies lv flies.0 flies.1 h
+      ]
 
-      equal_if_busy : (active : Bool) → s.is_active lv ≡ active → (several : Bool) (i : ℕ) (r : Queued) → r.several ≡ several → Started s i r → IsTrue (covers r lv b)
-          → ((value : List ℕ) × ((c : Pp) → Fresh s marks lv b c → v.block lv b c ≡ value)) ⊎ MayDifferAfter s v marks (after lv b) lv b active
-      equal_if_busy false off several i r e started over = inr (wide.started i lv b r started over off)
-      equal_if_busy true on true i r e started over =
-          let busy : Busy s r lv b = sound.blocks.busy i lv b r started over in
-          let recorded : Recorded s r lv b = sound.blocks.recorded i lv b r started over in
-          inr (λ c fresh. let aim = busy.aimed c (is_live c fresh) in named_after c.disk lv (track_group_of b) (recorded.named on e c aim.0 aim.1))
-      equal_if_busy true on false i r e started over =
+      tested : (t : Bool) → IsTrue t ⊎ IsFalse t
+      tested true = inl refl
+      tested false = inr refl
+
+      -- a write with one target goes to the only copy
+      one_copy : {X : Type 0} (i : ℕ) (r : Queued) → r.several ≡ false → Started s i r → IsTrue (covers r lv b) → ((value : List ℕ) × ((c : Pp) → Fresh s marks lv b c → v.block lv b c ≡ value)) ⊎ X
+      one_copy i r e started over =
           let busy : Busy s r lv b = sound.blocks.busy i lv b r started over in
           let recorded : Recorded s r lv b = sound.blocks.recorded i lv b r started over in
           inl (
@@ -130,10 +127,33 @@ module _ (s : State) (sound : Sound s) where
                 ap (v.block lv b) (recorded.single e c recorded.one.0 aim.0 recorded.one.1 aim.1 recorded.one.2),
           )
 
-      not_stale : (e : Pp) → StaysFresh s e → IsFalse (marks e)
+      equal_if_settled : (active loose : Bool) → s.is_active lv ≡ active → (told s lv b).loose ≡ loose → Settled s lv b → Agree s lv b ⊎ MayDiffer s lv b active
+          → ((value : List ℕ) × ((c : Pp) → Fresh s marks lv b c → v.block lv b c ≡ value)) ⊎ MayDifferAfter s v marks (after lv b) lv b active
+      equal_if_settled active false on tight settled (inl agree) = inl (agree.0, λ c fresh. same_if_calm settled tight c (is_live c fresh) ∙ agree.1 c (is_live c fresh))
+      equal_if_settled true true on loose settled (inl agree) = never (told s lv b).loose loose (sound.tied.tight lv b (inl on))
+      equal_if_settled false true on loose settled (inl agree) = inr (inl (wide.loose lv b loose))
+      equal_if_settled true loose on l settled (inr differ) = inr (λ c fresh. named_after c.disk lv (track_group_of b) (differ c (is_live c fresh)).1)
+      equal_if_settled false loose on l settled (inr (inl is)) = inr (inl (wide.loose lv b is))
+      equal_if_settled false loose on l settled (inr (inr d)) = inr (inr (d.passive, marks_dirty d.dirty))
+
+      equal_if_busy : (active : Bool) → s.is_active lv ≡ active → (several : Bool) (i : ℕ) (r : Queued) → r.several ≡ several → Started s i r → IsTrue (covers r lv b)
+          → ((value : List ℕ) × ((c : Pp) → Fresh s marks lv b c → v.block lv b c ≡ value)) ⊎ MayDifferAfter s v marks (after lv b) lv b active
+      equal_if_busy false off true i r e started over = ⊎_elim
+          (λ (soft : IsTrue (s.is_passive lv)). inr (inr (soft, marks_dirty ((sound.blocks.recorded i lv b r started over).dirty soft e))))
+          (λ (not_soft : IsFalse (s.is_passive lv)). inr (inl (wide.started i lv b r started over off not_soft)))
+          (tested (s.is_passive lv))
+      equal_if_busy false off false i r e started over = one_copy i r e started over
+      equal_if_busy true on true i r e started over =
+          let busy : Busy s r lv b = sound.blocks.busy i lv b r started over in
+          let recorded : Recorded s r lv b = sound.blocks.recorded i lv b r started over in
+          inr (λ c fresh. let aim = busy.aimed c (is_live c fresh) in named_after c.disk lv (track_group_of b) (recorded.named on e c aim.0 aim.1))
+      equal_if_busy true on false i r e started over =
+          one_copy i r e started over
+
+      not_stale : (e : Pp) → StaysFresh s e → IsFalse (marks.stale e)
       not_stale e kept = elim possible [
-        | inl is ↦ ap (λ (m : Marks). m e) is ∙ kept.committed
-        | inr flies ↦ ap (λ (m : Marks). m e) flies.2 ∙ kept.flying flies.0 flies.1
+        | inl is ↦ ap (λ (m : Marks). m.stale e) is ∙ kept.committed
+        | inr flies ↦ ap (λ (m : Marks). m.stale e) flies.2 ∙ kept.flying flies.0 flies.1
       ]
 
       block_kept : BlockKept s v marks (after lv b) lv b

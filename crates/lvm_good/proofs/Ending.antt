@@ -88,7 +88,7 @@ or_second false b h = h
 
 -- what a write that has started brings is allowed
 abbrev IsCared : State → List Fact → ℕ → ℕ → Queued → Type 0
-IsCared s facts lv b r = IsIn (known facts (Lv lv) b).values (r.value b) × (IsFalse (s.is_active lv) → IsTrue (known facts (Lv lv) b).loose)
+IsCared s facts lv b r = IsIn (known facts (Lv lv) b).values (r.value b) × (IsFalse (s.is_active lv) → IsFalse (s.is_passive lv) → IsTrue (known facts (Lv lv) b).loose)
 
 -- some of the open requests have landed, and these haven't
 record Way (s : State) (places : List ℕ) (facts : List Fact) : Type 0 where
@@ -136,11 +136,11 @@ module _ (s : State) (sound : Sound s) (t : Told s.queue s.name s.facts) (how : 
         let busy = sound.blocks.busy i lv b r start inside in
         let known_values = way.some lv b busy.known in (
           subst (λ (m : Known). IsIn m.values (r.value b)) (sym is_now) (in_added k.values (x ∷ []) known_values.0 (r.value b) known_values.1 (inl (is_of.value lv b start.write inside))),
-          λ off. subst (λ (m : Known). IsTrue m.loose) (sym is_now) (or_second k.loose (is_off k.mode) (ap is_off (way.modes lv b) ∙ sound.tied.modes lv b off)),
+          λ off soft. subst (λ (m : Known). IsTrue m.loose) (sym is_now) (or_second k.loose (is_off k.mode) (ap is_off (way.modes lv b) ∙ sound.tied.modes lv b off soft)),
         )
 
     still_cared : (lv b : ℕ) (r : Queued) → IsCared s facts lv b r → IsCared s next lv b r
-    still_cared lv b r h = (old_next lv b (r.value b) h.0, λ off. loose_next lv b (h.1 off))
+    still_cared lv b r h = (old_next lv b (r.value b) h.0, λ off soft. loose_next lv b (h.1 off soft))
 
     way_step : Way s places next
     way_step = record {
@@ -181,7 +181,7 @@ module _ (s : State) (sound : Sound s) (t : Told s.queue s.name s.facts) (how : 
         old = last.old;
         new = λ i lv b r start inside. (cared last i lv b r start inside).0;
         loose = last.loose;
-        started = λ i lv b r start inside off. (cared last i lv b r start inside).1 off;
+        started = λ i lv b r start inside off soft. (cared last i lv b r start inside).1 off soft;
       } in
       record { legal = last.legal; kept = λ v marks lv b crash possible. off_is_kept s v (λ lv b. known all (Lv lv) b) marks lv b sound crash wide possible }
     where
@@ -214,7 +214,7 @@ cut_keeps votes s places started step good =
       modes = λ lv b. ap (λ (k : Known). k.mode) (is_now lv b);
       writes = λ i lv b r start inside. inr (
         subst (λ (k : Known). IsIn k.values (r.value b)) (sym (is_now lv b)) (wide.new i lv b r start inside),
-        λ off. subst (λ (k : Known). IsTrue k.loose) (sym (is_now lv b)) (wide.started i lv b r start inside off),
+        λ off soft. subst (λ (k : Known). IsTrue k.loose) (sym (is_now lv b)) (wide.started i lv b r start inside off soft),
       );
       waits = λ i there. let u = step.each i there in (
         stands_left s.facts (Cut ∷ []) (Begun (s.name i)) (good.told.began i u.req u.there u.request),

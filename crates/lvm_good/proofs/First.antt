@@ -51,7 +51,7 @@ first_is_core = record {
   };
   tied = record {
     open_writes = λ i r there write un lv b. nothing r there;
-    modes = λ lv b off. not_either off;
+    modes = λ lv b off soft. not_either off;
     tight = λ lv b on. not_loose (1 == lv && nat_lt b 2048);
     owner = λ lv b l d c e x y z. both (1 == lv && nat_lt b 2048) (e.pp == 0 && (e.disk == 0 || e.disk == 1)) (left (1 == lv && nat_lt b 2048) (c.pp == 0 && (c.disk == 0 || c.disk == 1)) x) (right (1 == l && nat_lt d 2048) (e.pp == 0 && (e.disk == 0 || e.disk == 1)) z);
     inside = λ i r there lv b over. nothing r there;
@@ -64,6 +64,9 @@ first_is_core = record {
     kept = λ lv b c copy. (c, copy, record { committed = refl; flying = λ u flies. nothing u flies; wanted = refl });
     open_there = λ o is. nothing o is;
     open_stale = λ o is. nothing o is;
+    dirty_flies = λ lv u flies h. nothing u flies;
+    dirty_is_wanted = λ lv h. h;
+    dirty_flying_is_wanted = λ lv u flies h. nothing u flies;
   };
   behind = record { left_behind = λ lv b c e copy fresh gone other usable kept. not_so gone };
   notes = record { home = λ d lv g there. refl; pinned = λ i r there write pins on several. nothing r there };

@@ -101,7 +101,8 @@ module _ (s : State) (i : ℕ) (r : Queued) (value : ℕ → List ℕ) (facts : 
       equal_now : (known facts (Lv lv) b).loose ≡ (told s lv b).loose → (active : Bool) → Agree s lv b ⊎ MayDiffer s lv b active → Agree new lv b ⊎ MayDiffer new lv b active
       equal_now same active (inl agree) = inl (agree.0, λ e live. agree.1 e (live_was lv b e live))
       equal_now same true (inr differ) = inr (λ e live. let d = differ e (live_was lv b e live) in (d.0, named_now e.disk lv (track_group_of b) d.1))
-      equal_now same false (inr loose) = inr (same ∙ loose)
+      equal_now same false (inr (inl loose)) = inr (inl (same ∙ loose))
+      equal_now same false (inr (inr d)) = inr (inr (record { passive = d.passive; missing = λ e live. d.missing e (live_was lv b e live); dirty = d.dirty }))
 
   off_if_started : (j lv b : ℕ) (e : Queued) → Started s j e → IsTrue (covers e lv b) → known facts (Lv lv) b ≡ told s lv b
   off_if_started j lv b e started over = step.closes.outside lv b (⊎_elim (λ (h : IsTrue (covers r lv b)). absurd (elsewhere j lv b e started over h)) (λ (f : IsFalse (covers r lv b)). f) (decided (covers r lv b)))
@@ -124,7 +125,7 @@ module _ (s : State) (i : ℕ) (r : Queued) (value : ℕ → List ℕ) (facts : 
         };
     recorded = λ j lv b e started over.
         let recorded = sound.blocks.recorded j lv b e (started_was j e started) over in
-        record { named = λ on several c x at. named_now c.disk lv (track_group_of b) (recorded.named on several c x at); one = recorded.one; single = recorded.single };
+        record { named = λ on several c x at. named_now c.disk lv (track_group_of b) (recorded.named on several c x at); dirty = recorded.dirty; one = recorded.one; single = recorded.single };
   }
 
   got_frame : Frame s new
@@ -137,6 +138,8 @@ module _ (s : State) (i : ℕ) (r : Queued) (value : ℕ → List ℕ) (facts : 
     run = refl;
     modes = step.closes.modes;
     active = λ lv. refl;
+    passive = λ lv. refl;
+    dirty = λ lv h. h;
     copies = λ lv b. refl;
     tight = step.closes.tight;
     seen = λ j lv b e m v seen h past. ⊎_elim
@@ -150,7 +153,7 @@ module _ (s : State) (i : ℕ) (r : Queued) (value : ℕ → List ℕ) (facts : 
         (λ (one : ((known facts (Lv lv) b).values ≡ Some (value b ∷ [])) × IsTrue (covers r lv b) × ((e : Pp) → Live s lv b e → s.media.block lv b e ≡ value b)).
         let inside = sound.tied.inside i r step.there lv b one.1 in
         let kept = sound.statuses.kept lv b inside.0 inside.1 in
-        let live : Live s lv b kept.0 = record { copy = kept.1; counts = inl (and_left_false (s.committed.value kept.0) (stale_in s.in_flight kept.0) kept.2.committed) } in
+        let live : Live s lv b kept.0 = record { copy = kept.1; counts = inl (and_left_false (s.committed.value.stale kept.0) (stale_in s.in_flight kept.0) kept.2.committed) } in
         ⊎_elim
         (λ (loose : IsTrue (told s lv b).loose).
         let same = step.loose lv b loose in
@@ -222,6 +225,8 @@ module _ (s : State) (i : ℕ) (given : Request) (r : Queued) (facts : List Fact
     block = λ lv b c. refl;
     live = live_next;
     active = λ lv. refl;
+    passive = λ lv. refl;
+    dirty = λ lv h. h;
     missing_still = λ d h. h;
     named_missing = λ d lv g gone named. record { home = named.home; flying = named.flying };
     named_started = λ j lv b d e started over on several named. record { home = named.home; flying = named.flying };
@@ -234,7 +239,7 @@ module _ (s : State) (i : ℕ) (given : Request) (r : Queued) (facts : List Fact
         ∙ step.own (ap (λ (q : Queued). q.write) is.1 ∙ write) lv b ∙ ap (λ (q : Queued). the_write q lv b) is.1)
         (λ (other : IsFalse (j == i) × (s.queue j ≡ Some m)). ap (write_of b (known facts (Lv lv) b)) (named_other s.name i j given other.0) ∙ step.others lv b j m other.1 write other.0 ∙ sound.tied.open_writes j m other.1 write unlanded lv b)
         (put_cases s.queue i j r m h);
-    modes = λ lv b off. ap is_off (step.modes lv b) ∙ sound.tied.modes lv b off;
+    modes = λ lv b off soft. ap is_off (step.modes lv b) ∙ sound.tied.modes lv b off soft;
     tight = λ lv b on. step.loose lv b ∙ sound.tied.tight lv b on;
     owner = sound.tied.owner;
     inside = λ j m h lv b over. ⊎_elim
@@ -286,12 +291,15 @@ module _ (s : State) (i : ℕ) (given : Request) (r : Queued) (facts : List Fact
     blocks = calm_blocks s next calmer_next sound.blocks;
     tied = submit_tied;
     statuses = record {
-      stale_flies = λ c u f stale fresh. ⊎_elim (λ (w : IsTrue (s.wanted c)). inl w) (λ (k : Complete s c). inr (complete_next c k)) (sound.statuses.stale_flies c u f stale fresh);
+      stale_flies = λ c u f stale fresh. ⊎_elim (λ (w : IsTrue (s.wanted.stale c)). inl w) (λ (k : Complete s c). inr (complete_next c k)) (sound.statuses.stale_flies c u f stale fresh);
       stale_is_wanted = λ c stale m. complete_next c (sound.statuses.stale_is_wanted c stale m);
       flying_is_wanted = λ c u f stale m. complete_next c (sound.statuses.flying_is_wanted c u f stale m);
       kept = λ lv b c copy. let k = sound.statuses.kept lv b c copy in (k.0, k.1, record { committed = k.2.committed; flying = k.2.flying; wanted = k.2.wanted });
       open_there = sound.statuses.open_there;
       open_stale = sound.statuses.open_stale;
+      dirty_flies = sound.statuses.dirty_flies;
+      dirty_is_wanted = sound.statuses.dirty_is_wanted;
+      dirty_flying_is_wanted = sound.statuses.dirty_flying_is_wanted;
     };
     behind = record { left_behind = sound.behind.left_behind };
     notes = record {

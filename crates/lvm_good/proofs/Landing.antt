@@ -50,7 +50,8 @@ module _ (s : State) (sound : Sound s) (i : ℕ) (r : Queued) (facts : List Fact
       equal_now : (active : Bool) → Agree s lv b ⊎ MayDiffer s lv b active → Agree new lv b ⊎ MayDiffer new lv b active
       equal_now active (inl agree) = inl (agree.0, λ e live. agree.1 e (live_before lv b e live))
       equal_now true (inr differ) = inr (λ e live. let d = differ e (live_before lv b e live) in (d.0, named_now e.disk lv (track_group_of b) d.1))
-      equal_now false (inr loose) = inr (subst (λ (k : Known). IsTrue k.loose) (sym (closes.outside lv b off)) loose)
+      equal_now false (inr (inl loose)) = inr (inl (subst (λ (k : Known). IsTrue k.loose) (sym (closes.outside lv b off)) loose))
+      equal_now false (inr (inr d)) = inr (inr (record { passive = d.passive; missing = λ e live. d.missing e (live_before lv b e live); dirty = d.dirty }))
 
   -- given that, where it went over, the live copies hold one allowed value now
   pub landed_blocks : ((lv b : ℕ) → IsTrue (covers r lv b) → ((e : Pp) → Live s lv b e → IsIn (known facts (Lv lv) b).values (s.media.block lv b e)) × Agree s lv b) → Blocks new
@@ -82,7 +83,7 @@ module _ (s : State) (sound : Sound s) (i : ℕ) (r : Queued) (facts : List Fact
     recorded = λ j lv b e started over.
         let was = started_before j e started in
         let recorded = sound.blocks.recorded j lv b e was.1 over in
-        record { named = λ on several f x at. named_now f.disk lv (track_group_of b) (recorded.named on several f x at); one = recorded.one; single = recorded.single };
+        record { named = λ on several f x at. named_now f.disk lv (track_group_of b) (recorded.named on several f x at); dirty = recorded.dirty; one = recorded.one; single = recorded.single };
   }
     where
       same_req : {a b : Queued} → Some a ≡ Some b → a ≡ b

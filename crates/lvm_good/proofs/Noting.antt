@@ -32,12 +32,15 @@ module _ (s : State) (flying : ℕ → Option Groups) (step : StartsNote s flyin
 
   note_statuses : Statuses new
   note_statuses = record {
-    stale_flies = λ c u f stale fresh. ⊎_elim (λ (w : IsTrue (s.wanted c)). inl w) (λ (k : Complete s c). inr (record { copy = k.copy; is_open = k.is_open; target = k.target; passed = k.passed })) (sound.statuses.stale_flies c u f stale fresh);
+    stale_flies = λ c u f stale fresh. ⊎_elim (λ (w : IsTrue (s.wanted.stale c)). inl w) (λ (k : Complete s c). inr (record { copy = k.copy; is_open = k.is_open; target = k.target; passed = k.passed })) (sound.statuses.stale_flies c u f stale fresh);
     stale_is_wanted = λ c stale n. let k = sound.statuses.stale_is_wanted c stale n in record { copy = k.copy; is_open = k.is_open; target = k.target; passed = k.passed };
     flying_is_wanted = λ c u f stale n. let k = sound.statuses.flying_is_wanted c u f stale n in record { copy = k.copy; is_open = k.is_open; target = k.target; passed = k.passed };
     kept = λ lv b c copy. let k = sound.statuses.kept lv b c copy in (k.0, k.1, record { committed = k.2.committed; flying = k.2.flying; wanted = k.2.wanted });
     open_there = sound.statuses.open_there;
     open_stale = sound.statuses.open_stale;
+    dirty_flies = sound.statuses.dirty_flies;
+    dirty_is_wanted = sound.statuses.dirty_is_wanted;
+    dirty_flying_is_wanted = sound.statuses.dirty_flying_is_wanted;
   }
 
   note_core : Sound new
@@ -47,6 +50,8 @@ module _ (s : State) (flying : ℕ → Option Groups) (step : StartsNote s flyin
         known_same = λ lv b. refl;
         run = refl;
         active = λ lv. refl;
+        passive = λ lv. refl;
+        dirty = λ lv h. h;
         copies = λ lv b. refl;
         block = λ lv b c. refl;
         live = λ lv b c live. record { copy = live.copy; counts = ⊎_elim (λ (f : IsFalse (is_settled_stale s c)). inl f) (λ (k : HasPassed new lv (track_group_of b) c). inr (record { copy = k.copy; is_open = k.is_open; target = k.target; passed = k.passed })) live.counts };
@@ -79,12 +84,15 @@ module _ (s : State) (d : ℕ) (names home : ℕ → Groups) (flying : ℕ → O
 
   end_statuses : Statuses after
   end_statuses = record {
-    stale_flies = λ c u f stale fresh. ⊎_elim (λ (w : IsTrue (s.wanted c)). inl w) (λ (k : Complete s c). inr (record { copy = k.copy; is_open = k.is_open; target = k.target; passed = k.passed })) (sound.statuses.stale_flies c u f stale fresh);
+    stale_flies = λ c u f stale fresh. ⊎_elim (λ (w : IsTrue (s.wanted.stale c)). inl w) (λ (k : Complete s c). inr (record { copy = k.copy; is_open = k.is_open; target = k.target; passed = k.passed })) (sound.statuses.stale_flies c u f stale fresh);
     stale_is_wanted = λ c stale n. let k = sound.statuses.stale_is_wanted c stale n in record { copy = k.copy; is_open = k.is_open; target = k.target; passed = k.passed };
     flying_is_wanted = λ c u f stale n. let k = sound.statuses.flying_is_wanted c u f stale n in record { copy = k.copy; is_open = k.is_open; target = k.target; passed = k.passed };
     kept = λ lv b c copy. let k = sound.statuses.kept lv b c copy in (k.0, k.1, record { committed = k.2.committed; flying = k.2.flying; wanted = k.2.wanted });
     open_there = sound.statuses.open_there;
     open_stale = sound.statuses.open_stale;
+    dirty_flies = sound.statuses.dirty_flies;
+    dirty_is_wanted = sound.statuses.dirty_is_wanted;
+    dirty_flying_is_wanted = sound.statuses.dirty_flying_is_wanted;
   }
 
   end_core : Sound after
@@ -94,6 +102,8 @@ module _ (s : State) (d : ℕ) (names home : ℕ → Groups) (flying : ℕ → O
         known_same = λ lv b. refl;
         run = refl;
         active = λ lv. refl;
+        passive = λ lv. refl;
+        dirty = λ lv h. h;
         copies = λ lv b. refl;
         block = λ lv b c. refl;
         live = λ lv b c live. record { copy = live.copy; counts = ⊎_elim (λ (f : IsFalse (is_settled_stale s c)). inl f) (λ (k : HasPassed after lv (track_group_of b) c). inr (record { copy = k.copy; is_open = k.is_open; target = k.target; passed = k.passed })) live.counts };

@@ -60,6 +60,8 @@ module _ (s : State) (i : ℕ) (r n : Queued) (facts : List Fact) (cache : Group
     block = λ lv b c. refl;
     live = live_plain;
     active = λ lv. refl;
+    passive = λ lv. refl;
+    dirty = λ lv h. h;
     missing_still = λ d h. h;
     named_missing = λ d lv g gone named. record { home = named.home; flying = named.flying };
     named_started = λ j lv b d e started over on several named. record { home = named.home; flying = named.flying };
@@ -70,12 +72,15 @@ module _ (s : State) (i : ℕ) (r n : Queued) (facts : List Fact) (cache : Group
 
   pub plain_statuses : Statuses s → Statuses plain
   plain_statuses st = record {
-    stale_flies = λ c u f stale fresh. ⊎_elim (λ (w : IsTrue (s.wanted c)). inl w) (λ (k : Complete s c). inr (complete_plain c k)) (st.stale_flies c u f stale fresh);
+    stale_flies = λ c u f stale fresh. ⊎_elim (λ (w : IsTrue (s.wanted.stale c)). inl w) (λ (k : Complete s c). inr (complete_plain c k)) (st.stale_flies c u f stale fresh);
     stale_is_wanted = λ c stale m. complete_plain c (st.stale_is_wanted c stale m);
     flying_is_wanted = λ c u f stale m. complete_plain c (st.flying_is_wanted c u f stale m);
     kept = λ lv b c copy. let k = st.kept lv b c copy in (k.0, k.1, record { committed = k.2.committed; flying = k.2.flying; wanted = k.2.wanted });
     open_there = st.open_there;
     open_stale = st.open_stale;
+    dirty_flies = st.dirty_flies;
+    dirty_is_wanted = st.dirty_is_wanted;
+    dirty_flying_is_wanted = st.dirty_flying_is_wanted;
   }
 
 pub plain_keeps : PlainKeeps
@@ -89,6 +94,8 @@ plain_keeps s i r n facts cache step alike sound =
       run = refl;
       modes = step.modes;
       active = λ lv. refl;
+      passive = λ lv. refl;
+      dirty = λ lv h. h;
       copies = λ lv b. refl;
       tight = λ lv b on. step.loose lv b ∙ sound.tied.tight lv b on;
       seen = λ j lv b e m v seen h past. (
@@ -209,9 +216,9 @@ module _ (s : State) (i : ℕ) (r : Queued) (phase : Phase) (several : Bool) (ta
   read_now lv b over read c x at =
       let place = sound.tied.place i r step.there lv b over in
       let u = step.usable read c x at in
-      let parts = usable_parts (s.committed.value c) (s.missing c.disk) u.1 in
+      let parts = usable_parts (s.committed.value.stale c) (s.missing c.disk) u.1 in
       let copy : IsTrue (s.is_copy lv b c) = subst (λ (v : ℕ). IsTrue (s.is_copy v b c)) (sym place.0) (ap (λ (g : Pp → Bool). g c) place.2 ∙ u.0) in
-      let live : Live s lv b c = record { copy = copy; counts = inl (and_left_false (s.committed.value c) (stale_in s.in_flight c) parts.0) } in
+      let live : Live s lv b c = record { copy = copy; counts = inl (and_left_false (s.committed.value.stale c) (stale_in s.in_flight c) parts.0) } in
       let settled = quiet_there lv b over in (
         settled.allowed c live,
         ⊎_elim
@@ -222,7 +229,8 @@ module _ (s : State) (i : ℕ) (r : Queued) (phase : Phase) (several : Bool) (ta
     where
       by_mode : (active : Bool) (lv b : ℕ) → MayDiffer s lv b active → (c : Pp) → Live s lv b c → IsFalse (s.missing c.disk) → IsTrue (told s lv b).loose
       by_mode true lv b differ c live there = never (s.missing c.disk) (differ c live).0 there
-      by_mode false lv b loose c live there = loose
+      by_mode false lv b (inl loose) c live there = loose
+      by_mode false lv b (inr d) c live there = never (s.missing c.disk) (d.missing c live) there
 
   admit_holds : Holds new
   admit_holds = record {

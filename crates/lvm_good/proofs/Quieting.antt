@@ -38,6 +38,8 @@ module _ (old new : State) (quiet : Quiet old new) (was : Nearly old) where
     block = quiet.block;
     live = quiet.live;
     active = quiet.active;
+    passive = quiet.passive;
+    dirty = quiet.dirty;
     missing_still = quiet.missing_still;
     named_missing = quiet.named_missing;
     named_started = λ i lv b d r started over on several named.
@@ -53,8 +55,10 @@ module _ (old new : State) (quiet : Quiet old new) (was : Nearly old) where
     run = quiet.run;
     modes = λ lv b. ap (λ (k : Known). k.mode) (quiet.known_same lv b);
     active = quiet.active;
+    passive = quiet.passive;
+    dirty = quiet.dirty;
     copies = quiet.copies;
-    tight = λ lv b on. ap (λ (k : Known). k.loose) (quiet.known_same lv b) ∙ was.tied.tight lv b (sym (quiet.active lv) ∙ on);
+    tight = λ lv b on. ap (λ (k : Known). k.loose) (quiet.known_same lv b) ∙ was.tied.tight lv b (⊎_elim (λ (a : IsTrue (new.is_active lv)). inl (sym (quiet.active lv) ∙ a)) (λ (a : IsTrue (new.is_passive lv)). inr (sym (quiet.passive lv) ∙ a)) on);
     seen = λ i lv b r n v seen there past. (
       subst (λ (k : Known). IsIn k.values v) (sym (quiet.known_same lv b)) seen.allowed,
       ⊎_elim

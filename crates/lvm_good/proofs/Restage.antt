@@ -56,7 +56,8 @@ module _ (s : State) (sound : Sound s) (i : ℕ) (r : Queued) (c : Pp) (stage : 
       equal_now : (IsTrue (covers r lv b) → ⊥) → (active : Bool) → Agree s lv b ⊎ MayDiffer s lv b active → Agree new lv b ⊎ MayDiffer new lv b active
       equal_now away active (inl agree) = inl (agree.0, λ e live. same_if_off lv b e away ∙ agree.1 e (live_before lv b e live))
       equal_now away true (inr differ) = inr (λ e live. let d = differ e (live_before lv b e live) in (d.0, named_now e.disk lv (track_group_of b) d.1))
-      equal_now away false (inr loose) = inr loose
+      equal_now away false (inr (inl loose)) = inr (inl loose)
+      equal_now away false (inr (inr d)) = inr (inr (record { passive = d.passive; missing = λ e live. d.missing e (live_before lv b e live); dirty = d.dirty }))
 
   busy_now : (lv b : ℕ) → IsTrue (covers r lv b) → Busy new next lv b
   busy_now lv b over =
@@ -86,6 +87,7 @@ module _ (s : State) (sound : Sound s) (i : ℕ) (r : Queued) (c : Pp) (stage : 
       record {
         named = λ on several e x at. let was = staged_was r.targets c e stage x at step.was.0 step.was.1 in named_now e.disk lv (track_group_of b) (recorded.named on several e was.0 was.1);
         one = let z = staged_is r.targets c recorded.one.0 stage recorded.one.1 recorded.one.2 in (recorded.one.0, z.0, z.1);
+        dirty = recorded.dirty;
         single = λ alone_is e f x y at_e at_f.
             let a = staged_was r.targets c e stage x at_e step.was.0 step.was.1 in
             let d = staged_was r.targets c f stage y at_f step.was.0 step.was.1 in
@@ -106,7 +108,7 @@ module _ (s : State) (sound : Sound s) (i : ℕ) (r : Queued) (c : Pp) (stage : 
   recorded_kept : (j lv b : ℕ) (e : Queued) → Started s j e → IsTrue (covers e lv b) → Recorded new e lv b
   recorded_kept j lv b e started over =
       let recorded = sound.blocks.recorded j lv b e started over in
-      record { named = λ on several f x at. named_now f.disk lv (track_group_of b) (recorded.named on several f x at); one = recorded.one; single = recorded.single }
+      record { named = λ on several f x at. named_now f.disk lv (track_group_of b) (recorded.named on several f x at); dirty = recorded.dirty; one = recorded.one; single = recorded.single }
 
   pub restaged_blocks : Blocks new
   restaged_blocks = record {

@@ -43,40 +43,40 @@ module _ (s : State) (sound : Sound s) (i : ℕ) (r : Queued) (c : Pp) (may : Ma
   next = going r c
 
   -- where nothing is pending, each live copy of its partition is a target
-  settled_true : (e : Pp) → IsTrue (s.is_copy r.lv r.first e) → IsTrue (s.wanted e) → IsFalse (is_settled_stale s e) → ⊥
+  settled_true : (e : Pp) → IsTrue (s.is_copy r.lv r.first e) → IsTrue (s.wanted.stale e) → IsFalse (is_settled_stale s e) → ⊥
   settled_true e copy wanted live = never (is_settled_stale s e) (may.quiet e copy wanted) live
 
-  source_kept : IsFalse (s.wanted may.source)
+  source_kept : IsFalse (s.wanted.stale may.source)
   source_kept = ⊎_elim
-      (λ (w : IsTrue (s.wanted may.source)). never (s.committed.value may.source) (settled_committed (s.committed.value may.source) (stale_in s.in_flight may.source) (may.quiet may.source may.source_copy w)) (usable_fresh (s.committed.value may.source) (s.missing may.source.disk) may.source_usable).0)
-      (λ (n : IsFalse (s.wanted may.source)). n)
-      (decided (s.wanted may.source))
+      (λ (w : IsTrue (s.wanted.stale may.source)). never (s.committed.value.stale may.source) (settled_committed (s.committed.value.stale may.source) (stale_in s.in_flight may.source) (may.quiet may.source may.source_copy w)) (usable_fresh (s.committed.value.stale may.source) (s.missing may.source.disk) may.source_usable).0)
+      (λ (n : IsFalse (s.wanted.stale may.source)). n)
+      (decided (s.wanted.stale may.source))
 
-  target_if_fresh : (e : Pp) → IsTrue (s.is_copy r.lv r.first e) → IsFalse (is_settled_stale s e) → IsFalse (s.committed.value e) → r.targets e ≡ Some Todo
+  target_if_fresh : (e : Pp) → IsTrue (s.is_copy r.lv r.first e) → IsFalse (is_settled_stale s e) → IsFalse (s.committed.value.stale e) → r.targets e ≡ Some Todo
   target_if_fresh e copy live fresh = ⊎_elim
       (λ (gone : IsTrue (s.missing e.disk)). absurd (settled_true e copy (sound.behind.left_behind r.lv r.first e may.source copy fresh gone may.source_copy may.source_usable source_kept) live))
-      (λ (there : IsFalse (s.missing e.disk)). may.each e copy (inl (usable_of (s.committed.value e) (s.missing e.disk) fresh there)))
+      (λ (there : IsFalse (s.missing e.disk)). may.each e copy (inl (usable_of (s.committed.value.stale e) (s.missing e.disk) fresh there)))
       (decided (s.missing e.disk))
 
-  flying_fresh : (o : Option (Stamped Marks)) (e : Pp) → IsTrue (s.committed.value e) → IsFalse (s.committed.value e && stale_in o e) → (u : Stamped Marks) × (o ≡ Some u) × IsFalse (u.value e)
-  flying_fresh None e stale live = never (s.committed.value e && true) (ap (λ (t : Bool). t && true) stale) live
-  flying_fresh (Some u) e stale live = (u, refl, sym (ap (λ (t : Bool). t && u.value e) stale) ∙ live)
+  flying_fresh : (o : Option (Stamped Marks)) (e : Pp) → IsTrue (s.committed.value.stale e) → IsFalse (s.committed.value.stale e && stale_in o e) → (u : Stamped Marks) × (o ≡ Some u) × IsFalse (u.value.stale e)
+  flying_fresh None e stale live = never (s.committed.value.stale e && true) (ap (λ (t : Bool). t && true) stale) live
+  flying_fresh (Some u) e stale live = (u, refl, sym (ap (λ (t : Bool). t && u.value.stale e) stale) ∙ live)
 
-  target_if_cleared : (e : Pp) → IsTrue (s.is_copy r.lv r.first e) → IsFalse (is_settled_stale s e) → IsTrue (s.committed.value e) → r.targets e ≡ Some Todo
+  target_if_cleared : (e : Pp) → IsTrue (s.is_copy r.lv r.first e) → IsFalse (is_settled_stale s e) → IsTrue (s.committed.value.stale e) → r.targets e ≡ Some Todo
   target_if_cleared e copy live stale =
       let flies = flying_fresh s.in_flight e stale live in
       ⊎_elim
-      (λ (w : IsTrue (s.wanted e)). absurd (settled_true e copy w live))
+      (λ (w : IsTrue (s.wanted.stale e)). absurd (settled_true e copy w live))
       (λ (k : Complete s e). may.each e copy (inr (record { copy = k.copy; is_open = k.is_open; target = k.target; passed = k.passed r.lv r.first copy })))
       (sound.statuses.stale_flies e flies.0 flies.1 stale flies.2)
 
   target_if_live : (e : Pp) → IsTrue (s.is_copy r.lv r.first e) → IsFalse (is_settled_stale s e) ⊎ HasPassed s r.lv (track_group_of r.first) e → r.targets e ≡ Some Todo
-  target_if_live e copy (inl live) = ⊎_elim (target_if_cleared e copy live) (target_if_fresh e copy live) (decided (s.committed.value e))
+  target_if_live e copy (inl live) = ⊎_elim (target_if_cleared e copy live) (target_if_fresh e copy live) (decided (s.committed.value.stale e))
   target_if_live e copy (inr caught) = may.each e copy (inr caught)
 
   there_if_target : (e : Pp) (stage : Stage) → r.targets e ≡ Some stage → IsFalse (s.missing e.disk)
   there_if_target e stage at = ⊎_elim
-      (λ (u : IsTrue (is_usable s e)). (usable_fresh (s.committed.value e) (s.missing e.disk) u).1)
+      (λ (u : IsTrue (is_usable s e)). (usable_fresh (s.committed.value.stale e) (s.missing e.disk) u).1)
       (λ (k : HasPassed s r.lv (track_group_of r.first) e). subst (λ (f : Pp). IsFalse (s.missing f.disk)) k.target (sound.statuses.open_there k.copy k.is_open))
       (may.usable e stage at)
 
@@ -137,7 +137,8 @@ module _ (s : State) (sound : Sound s) (i : ℕ) (r : Queued) (c : Pp) (may : Ma
       equal_now : (active : Bool) → Agree s lv b ⊎ MayDiffer s lv b active → Agree new lv b ⊎ MayDiffer new lv b active
       equal_now active (inl agree) = inl (agree.0, λ e live. agree.1 e (live_before lv b e live))
       equal_now true (inr differ) = inr (λ e live. let d = differ e (live_before lv b e live) in (d.0, named_now e.disk lv (track_group_of b) d.1))
-      equal_now false (inr loose) = inr loose
+      equal_now false (inr (inl loose)) = inr (inl loose)
+      equal_now false (inr (inr d)) = inr (inr (record { passive = d.passive; missing = λ e live. d.missing e (live_before lv b e live); dirty = d.dirty }))
 
   busy_now : (lv b : ℕ) → IsTrue (covers r lv b) → Busy new next lv b
   busy_now lv b over =
@@ -145,7 +146,7 @@ module _ (s : State) (sound : Sound s) (i : ℕ) (r : Queued) (c : Pp) (may : Ma
       let place = sound.tied.place i r may.there lv b over in
       let copy_of : (e : Pp) → IsTrue (s.is_copy lv b e) → IsTrue (s.is_copy r.lv r.first e) = λ e copy. subst (λ (f : Pp → Bool). IsTrue (f e)) place.2 (subst (λ (v : ℕ). IsTrue (s.is_copy v b e)) place.0 copy) in
       let back : IsTrue (s.is_copy lv b may.source) = subst (λ (v : ℕ). IsTrue (s.is_copy v b may.source)) (sym place.0) (subst (λ (f : Pp → Bool). IsTrue (f may.source)) (sym place.2) may.source_copy) in
-      let live_one : Live s lv b may.source = record { copy = back; counts = inl (fresh_settled (s.committed.value may.source) (s.missing may.source.disk) (stale_in s.in_flight may.source) may.source_usable) } in
+      let live_one : Live s lv b may.source = record { copy = back; counts = inl (fresh_settled (s.committed.value.stale may.source) (s.missing may.source.disk) (stale_in s.in_flight may.source) may.source_usable) } in
       let at_first : (e : Pp) → IsFalse (is_settled_stale s e) ⊎ HasPassed s lv (track_group_of b) e → IsFalse (is_settled_stale s e) ⊎ HasPassed s r.lv (track_group_of r.first) e = λ e counts. ⊎_elim (λ (f : IsFalse (is_settled_stale s e)). inl f) (λ (k : HasPassed s lv (track_group_of b) e). inr (subst (λ (g : ℕ). HasPassed s r.lv g e) place.1 (subst (λ (v : ℕ). HasPassed s v (track_group_of b) e) place.0 k))) counts in
       record {
         known = known_of (told s lv b).values (s.media.block lv b may.source) (settled.allowed may.source live_one);
@@ -178,6 +179,7 @@ module _ (s : State) (sound : Sound s) (i : ℕ) (r : Queued) (c : Pp) (may : Ma
             let own : Named new e.disk r.lv (track_group_of r.first) = record { home = sound.notes.home e.disk r.lv (track_group_of r.first) there ∙ n.0; flying = n.1 } in
             subst (λ (v : ℕ). Named new e.disk v (track_group_of b)) (sym place.0) (subst (λ (g : ℕ). Named new e.disk r.lv g) (sym place.1) own);
         one = let z = staged_is r.targets c c Flying Todo may.target in (c, z.0, z.1);
+        dirty = λ soft several. subst (λ (v : ℕ). IsTrue (s.committed.value.dirty v)) (sym place.0) (may.dirty (subst (λ (v : ℕ). IsTrue (s.is_passive v)) place.0 soft) several);
         single = λ alone_is e f x y at_e at_f.
             let a = staged_was r.targets c e Flying x at_e Todo may.target in
             let b2 = staged_was r.targets c f Flying y at_f Todo may.target in
@@ -192,7 +194,7 @@ module _ (s : State) (sound : Sound s) (i : ℕ) (r : Queued) (c : Pp) (may : Ma
   recorded_kept : (j lv b : ℕ) (e : Queued) → Started s j e → IsTrue (covers e lv b) → Recorded new e lv b
   recorded_kept j lv b e started over =
       let recorded = sound.blocks.recorded j lv b e started over in
-      record { named = λ on several f stage at. named_now f.disk lv (track_group_of b) (recorded.named on several f stage at); one = recorded.one; single = recorded.single }
+      record { named = λ on several f stage at. named_now f.disk lv (track_group_of b) (recorded.named on several f stage at); dirty = recorded.dirty; one = recorded.one; single = recorded.single }
 
   pub first_blocks : Blocks new
   first_blocks = record {

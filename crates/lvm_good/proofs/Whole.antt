@@ -39,6 +39,8 @@ module _ (s : State) (status : ℕ → Option (Stamped Marks)) (flying : ℕ →
         known_same = λ lv b. refl;
         run = refl;
         active = λ lv. refl;
+        passive = λ lv. refl;
+        dirty = λ lv h. h;
         copies = λ lv b. refl;
         block = λ lv b e. refl;
         live = λ lv b e live. record { copy = live.copy; counts = ⊎_elim (λ (f : IsFalse (is_settled_stale s e)). inl f) (λ (k : HasPassed moved lv (track_group_of b) e). inr (record { copy = k.copy; is_open = k.is_open; target = k.target; passed = k.passed })) live.counts };
@@ -50,12 +52,15 @@ module _ (s : State) (status : ℕ → Option (Stamped Marks)) (flying : ℕ →
       let n = quiet_nearly s moved quiet (nearly s sound) (record {
         home = sound.notes.home;
         statuses = record {
-          stale_flies = λ e u f stale fresh. ⊎_elim (λ (w : IsTrue (s.wanted e)). inl w) (λ (k : Complete s e). inr (complete_moved e k)) (sound.statuses.stale_flies e u f stale fresh);
+          stale_flies = λ e u f stale fresh. ⊎_elim (λ (w : IsTrue (s.wanted.stale e)). inl w) (λ (k : Complete s e). inr (complete_moved e k)) (sound.statuses.stale_flies e u f stale fresh);
           stale_is_wanted = λ e stale m. complete_moved e (sound.statuses.stale_is_wanted e stale m);
           flying_is_wanted = λ e u f stale m. complete_moved e (sound.statuses.flying_is_wanted e u f stale m);
           kept = λ lv b e copy. let k = sound.statuses.kept lv b e copy in (k.0, k.1, record { committed = k.2.committed; flying = k.2.flying; wanted = k.2.wanted });
           open_there = sound.statuses.open_there;
           open_stale = sound.statuses.open_stale;
+          dirty_flies = sound.statuses.dirty_flies;
+          dirty_is_wanted = sound.statuses.dirty_is_wanted;
+          dirty_flying_is_wanted = sound.statuses.dirty_flying_is_wanted;
         };
       }) in
       record { blocks = n.blocks; tied = n.tied; statuses = n.statuses; behind = record { left_behind = sound.behind.left_behind }; notes = n.notes; holds = n.holds }
@@ -93,6 +98,8 @@ module _ (s : State) (i : ℕ) (r : Queued) (step : Takes s i r) (sound : Sound 
         block = λ lv b c. refl;
         live = live_taken;
         active = λ lv. refl;
+        passive = λ lv. refl;
+        dirty = λ lv h. h;
         missing_still = λ d h. h;
         named_missing = λ d lv g gone named. record { home = named.home; flying = named.flying };
         named_started = λ j lv b d e started over on several named. record { home = named.home; flying = named.flying };
@@ -103,6 +110,8 @@ module _ (s : State) (i : ℕ) (r : Queued) (step : Takes s i r) (sound : Sound 
         run = refl;
         modes = λ lv b. ap (λ (k : Known). k.mode) (same_known lv b);
         active = λ lv. refl;
+        passive = λ lv. refl;
+        dirty = λ lv h. h;
         copies = λ lv b. refl;
         tight = λ lv b on. ap (λ (k : Known). k.loose) (same_known lv b) ∙ sound.tied.tight lv b on;
         seen = λ j lv b e n v seen h past. (

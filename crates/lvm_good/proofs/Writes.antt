@@ -32,12 +32,15 @@ module _ (s : State) (sound : Sound s) (block : ℕ → ℕ → Pp → List ℕ)
 
   pub same_statuses : Statuses changed
   same_statuses = record {
-    stale_flies = λ c u f stale fresh. ⊎_elim (λ (w : IsTrue (s.wanted c)). inl w) (λ (k : Complete s c). inr (complete_same c k)) (sound.statuses.stale_flies c u f stale fresh);
+    stale_flies = λ c u f stale fresh. ⊎_elim (λ (w : IsTrue (s.wanted.stale c)). inl w) (λ (k : Complete s c). inr (complete_same c k)) (sound.statuses.stale_flies c u f stale fresh);
     stale_is_wanted = λ c stale n. complete_same c (sound.statuses.stale_is_wanted c stale n);
     flying_is_wanted = λ c u f stale n. complete_same c (sound.statuses.flying_is_wanted c u f stale n);
     kept = λ lv b c copy. let k = sound.statuses.kept lv b c copy in (k.0, k.1, record { committed = k.2.committed; flying = k.2.flying; wanted = k.2.wanted });
     open_there = sound.statuses.open_there;
     open_stale = sound.statuses.open_stale;
+    dirty_flies = sound.statuses.dirty_flies;
+    dirty_is_wanted = sound.statuses.dirty_is_wanted;
+    dirty_flying_is_wanted = sound.statuses.dirty_flying_is_wanted;
   }
 
   pub live_same : (lv b : ℕ) (c : Pp) → Live changed lv b c → Live s lv b c
@@ -108,6 +111,8 @@ restaging_keeps s i r c stage block step sound =
       run = refl;
       modes = λ lv b. refl;
       active = λ lv. refl;
+      passive = λ lv. refl;
+      dirty = λ lv h. h;
       copies = λ lv b. refl;
       tight = sound.tied.tight;
       seen = λ j lv b e m v seen h past.
@@ -156,6 +161,8 @@ first_keeps s i r c may sound =
       run = refl;
       modes = λ lv b. refl;
       active = λ lv. refl;
+      passive = λ lv. refl;
+      dirty = λ lv h. h;
       copies = λ lv b. refl;
       tight = sound.tied.tight;
       seen = λ j lv b e m v seen h past. (
@@ -221,6 +228,8 @@ module _ (s : State) (sound : Sound s) (i : ℕ) (r : Queued) (facts : List Fact
     run = refl;
     modes = closes.modes;
     active = λ lv. refl;
+    passive = λ lv. refl;
+    dirty = λ lv h. h;
     copies = λ lv b. refl;
     tight = closes.tight;
     seen = λ j lv b e m v seen h past.

@@ -10,8 +10,8 @@ use Rattle.lvm_good.specs.Want.{Wants, after_wants}
 -- the update in flight is committed; an open copy that it clears is done if its staleness isn't wanted again
 pub record Commits (s : State) (u : Stamped Marks) (open_copy : Option OpenCopy) : Type 0 where
   pub flies : s.in_flight ≡ Some u
-  pub open_same : (o : OpenCopy) → open_copy ≡ Some o → (s.open_copy ≡ Some o) × (IsTrue (u.value o.target) ⊎ IsTrue (s.wanted o.target))
-  pub open_done : (o : OpenCopy) → s.open_copy ≡ Some o → (open_copy ≡ Some o) ⊎ IsFalse (u.value o.target)
+  pub open_same : (o : OpenCopy) → open_copy ≡ Some o → (s.open_copy ≡ Some o) × (IsTrue (u.value.stale o.target) ⊎ IsTrue (s.wanted.stale o.target))
+  pub open_done : (o : OpenCopy) → s.open_copy ≡ Some o → (open_copy ≡ Some o) ⊎ IsFalse (u.value.stale o.target)
 
 -- the disks that have it have votes enough to write, and the marks that it entails are made
 pub record Commit (votes : Votes) (s : State) (u : Stamped Marks) (has_it : ℕ → Bool) (done : Option OpenCopy) (wanted : Marks) (open_copy : Option OpenCopy) : Type 0 where

@@ -42,12 +42,12 @@ pub record IsCrash (s : State) (v : View) : Type 0 where
 -- a copy of the block that the status calls fresh
 pub record Fresh (s : State) (marks : Marks) (lv b : ℕ) (c : Pp) : Type 0 where
   pub copy : IsTrue (s.is_copy lv b c)
-  pub fresh : IsFalse (marks c)
+  pub fresh : IsFalse (marks.stale c)
 
 -- why copies may differ after the loss, given what is known of the block then
 abbrev pub MayDifferAfter : State → View → Marks → Known → ℕ → ℕ → Bool → Type 0
 MayDifferAfter s v marks k lv b true = (c : Pp) → Fresh s marks lv b c → IsTrue (v.names c.disk lv (track_group_of b))
-MayDifferAfter s v marks k lv b false = IsTrue k.loose
+MayDifferAfter s v marks k lv b false = IsTrue k.loose ⊎ (IsTrue (s.is_passive lv) × IsTrue (marks.dirty lv))
 
 -- the block, on the copies that the status calls fresh
 pub record BlockKept (s : State) (v : View) (marks : Marks) (k : Known) (lv b : ℕ) : Type 0 where
@@ -64,7 +64,7 @@ pub record Widens (s : State) (after : ℕ → ℕ → Known) : Type 0 where
   pub old : (lv b : ℕ) (value : List ℕ) → IsValue (told s lv b) value → IsValue (after lv b) value
   pub new : (i lv b : ℕ) (r : Queued) → Started s i r → IsTrue (covers r lv b) → IsValue (after lv b) (r.value b)
   pub loose : (lv b : ℕ) → IsTrue (told s lv b).loose → IsTrue (after lv b).loose
-  pub started : (i lv b : ℕ) (r : Queued) → Started s i r → IsTrue (covers r lv b) → IsFalse (s.is_active lv) → IsTrue (after lv b).loose
+  pub started : (i lv b : ℕ) (r : Queued) → Started s i r → IsTrue (covers r lv b) → IsFalse (s.is_active lv) → IsFalse (s.is_passive lv) → IsTrue (after lv b).loose
 
 -- Each crash image agrees with the history, whichever status is found.
 abbrev pub EachKept : State → Type 0

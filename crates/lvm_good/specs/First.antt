@@ -12,15 +12,16 @@ use Rattle.std.specs.Prelude.{nat_lt}
 
 abbrev pub at_first : State
 at_first = record {
-  media = record { block = λ lv b c. zero_sector; names = λ d lv g. false; status = λ d. Some (record { stamp = record { epoch = 1; seq = 1 }; value = λ c. false }) };
+  media = record { block = λ lv b c. zero_sector; names = λ d lv g. false; status = λ d. Some (record { stamp = record { epoch = 1; seq = 1 }; value = record { stale = λ c. false; dirty = λ lv. false } }) };
   queue = λ i. None;
   facts = Making 1 2048 Active ∷ Made 1 ∷ [];
   name = λ i. record { run = 1; id = i; client = 0; vol = Lv 1; at = 0; count = 0; write = false; blocks = [] };
   is_copy = λ lv b c. (1 == lv && nat_lt b 2048) && (c.pp == 0 && (c.disk == 0 || c.disk == 1));
   is_active = λ lv. true;
-  committed = record { stamp = record { epoch = 1; seq = 1 }; value = λ c. false };
+  is_passive = λ lv. false;
+  committed = record { stamp = record { epoch = 1; seq = 1 }; value = record { stale = λ c. false; dirty = λ lv. false } };
   in_flight = None;
-  wanted = λ c. false;
+  wanted = record { stale = λ c. false; dirty = λ lv. false };
   status_flying = λ d. false;
   missing = λ d. false;
   cache = λ lv g. false;

@@ -8,7 +8,7 @@ use Rattle.lvm_good.specs.Good.{Good}
 pub record Opens (s : State) (o : OpenCopy) : Type 0 where
   pub none : s.open_copy ≡ None
   pub there : IsFalse (s.missing o.target.disk)
-  pub stale : IsTrue (s.committed.value o.target)
+  pub stale : IsTrue (s.committed.value.stale o.target)
   pub passed : (lv g : ℕ) → IsFalse (o.passed lv g)
 
 abbrev pub OpenKeeps : Type 0

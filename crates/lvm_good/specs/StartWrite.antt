@@ -21,10 +21,12 @@ pub record MayStart (s : State) (i : ℕ) (r : Queued) (c : Pp) : Type 0 where
   pub usable : (e : Pp) (stage : Stage) → r.targets e ≡ Some stage → IsTrue (is_usable s e) ⊎ HasPassed s r.lv (track_group_of r.first) e
   pub each : (e : Pp) → IsTrue (s.is_copy r.lv r.first e) → IsTrue (is_usable s e) ⊎ HasPassed s r.lv (track_group_of r.first) e → r.targets e ≡ Some Todo
   -- nothing is pending
-  pub quiet : (e : Pp) → IsTrue (s.is_copy r.lv r.first e) → IsTrue (s.wanted e) → IsTrue (is_settled_stale s e)
+  pub quiet : (e : Pp) → IsTrue (s.is_copy r.lv r.first e) → IsTrue (s.wanted.stale e) → IsTrue (is_settled_stale s e)
   -- the notes on the disks of its targets name its track group
   pub named : IsTrue (s.is_active r.lv) → IsTrue r.several → (e : Pp) (stage : Stage) → r.targets e ≡ Some stage
       → IsTrue (s.home_note e.disk r.lv (track_group_of r.first)) × ((n : Groups) → s.flying_note e.disk ≡ Some n → IsTrue (n r.lv (track_group_of r.first)))
+  -- a passive volume is dirty
+  pub dirty : IsTrue (s.is_passive r.lv) → IsTrue r.several → IsTrue (s.committed.value.dirty r.lv)
   pub single : IsFalse r.several → (e f : Pp) (x y : Stage) → r.targets e ≡ Some x → r.targets f ≡ Some y → e ≡ f
 
 abbrev pub going : Queued → Pp → Queued

@@ -10,9 +10,10 @@ use Rattle.lvm_vol.specs.declared.entry.Vol.TheVariants.{Lv}
 use Rattle.lvm_vol.specs.May.{known}
 use Rattle.lvm_vol.specs.Facts.{Fact}
 
--- which partitions a status calls stale
-abbrev pub Marks : Type 0
-Marks = Pp → Bool
+-- which partitions a status calls stale, and which volumes dirty
+pub record Marks : Type 0 where
+  pub stale : Pp → Bool
+  pub dirty : ℕ → Bool
 
 -- track groups of volumes
 abbrev pub Groups : Type 0
@@ -73,6 +74,8 @@ pub record State : Type 0 where
   -- the copies of the logical partition of a block of a volume, and whether the volume keeps notes
   pub is_copy : ℕ → ℕ → Pp → Bool
   pub is_active : ℕ → Bool
+  -- the volume is marked dirty in the status while its copies may differ
+  pub is_passive : ℕ → Bool
   pub committed : Stamped Marks
   pub in_flight : Option (Stamped Marks)
   pub wanted : Marks
@@ -130,13 +133,13 @@ is_pinning Landed = false
 -- stale by the committed status, and by the one in flight, if any
 abbrev pub stale_in : Option (Stamped Marks) → Pp → Bool
 stale_in None c = true
-stale_in (Some u) c = u.value c
+stale_in (Some u) c = u.value.stale c
 
 abbrev pub is_settled_stale : State → Pp → Bool
-is_settled_stale s c = s.committed.value c && stale_in s.in_flight c
+is_settled_stale s c = s.committed.value.stale c && stale_in s.in_flight c
 
 abbrev pub is_usable : State → Pp → Bool
-is_usable s c = not (s.committed.value c) && not (s.missing c.disk)
+is_usable s c = not (s.committed.value.stale c) && not (s.missing c.disk)
 
 -- the copy that is being brought up has passed the track group
 pub record HasPassed (s : State) (lv g : ℕ) (c : Pp) : Type 0 where
