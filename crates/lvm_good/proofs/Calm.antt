@@ -4,10 +4,9 @@ use Rattle.std.specs.Prelude.{IsTrue}
 use Rattle.lvm_num.specs.declared.place.Pp.{Pp}
 use Rattle.lvm_num.specs.Geometry.{track_group_of}
 use Rattle.lvm_good.proofs.Small.{IsIn}
-use Rattle.lvm_good.specs.State.{Queued, State, covers, Started}
+use Rattle.lvm_good.specs.State.{Queued, State, covers, Started, told}
 use Rattle.lvm_good.specs.Sound.{MayDiffer, Agree, Settled, Blocks}
 use Rattle.lvm_good.proofs.Claims.{Calmer, CalmerKeepsBlocks}
-use Rattle.lvm_good.specs.State.{told}
 
 module _ (old new : State) (calmer : Calmer old new) (blocks : Blocks old) where
   allowed_now : (lv b : ℕ) (c : Pp) → IsIn (told old lv b).values (old.media.block lv b c) → IsIn (told new lv b).values (new.media.block lv b c)

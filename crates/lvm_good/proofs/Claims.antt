@@ -1,20 +1,15 @@
 -- What each event keeps.
-use Rattle.lvm_good.specs.Updates.{landed}
-use Rattle.std.specs.Prelude.{◌≡◌, ◌⊎◌, ℕ, Bool, List, Option, Some, None, IsTrue, IsFalse}
+use Rattle.lvm_good.specs.Updates.{landed, put, with_name, with_req, with_block, with_names, with_status}
+use Rattle.std.specs.Prelude.{◌≡◌, ◌⊎◌, ℕ, Bool, List, Option, Some, None, IsTrue, IsFalse, true}
 use Rattle.lvm_num.specs.declared.place.Pp.{Pp}
 use Rattle.lvm_num.specs.Geometry.{track_group_of}
-use Rattle.lvm_num.specs.Record.{Stamped}
+use Rattle.lvm_num.specs.Record.{Stamped, stamp_lt}
 use Rattle.lvm_vol.specs.May.{Known, cut, IsValue}
-use Rattle.lvm_good.specs.State.{write_of}
-use Rattle.lvm_good.specs.State.{Marks, Groups, View, OpenCopy, StepWrite, Phase, Stage, Queued, State, covers, request_of, is_past, has_landed, is_pinning, Live, Named, Started}
+use Rattle.lvm_good.specs.State.{write_of, Marks, Groups, View, OpenCopy, StepWrite, Phase, Stage, Queued, State, covers, request_of, is_past, has_landed, is_pinning, Live, Named, Started, told}
 use Rattle.lvm_good.specs.Sound.{StaysFresh, Blocks, Tied, Statuses, Holds, Sound, Nearly}
 use Rattle.lvm_good.proofs.Effects.{DoneEffect, LostEffect, ChangeEffect, GotEffect, JoinEffect}
 use Rattle.lvm_good.specs.Crash.{IsCrash, Widens, IsPossible, BlockKept}
-use Rattle.lvm_good.specs.State.{told}
-use Rattle.lvm_vol.specs.Facts.{Fact}
-use Rattle.lvm_vol.specs.Facts.{Request}
-use Rattle.std.specs.Prelude.{true}
-use Rattle.lvm_num.specs.Record.{stamp_lt}
+use Rattle.lvm_vol.specs.Facts.{Fact, Request}
 use Rattle.lvm_good.specs.EndNote.{EndsNote}
 use Rattle.lvm_good.specs.CopyWrite.{CopyWrites}
 use Rattle.lvm_good.specs.StartWrite.{MayStart, started_first}
@@ -22,7 +17,6 @@ use Rattle.lvm_good.specs.Commit.{Commits}
 use Rattle.lvm_good.specs.Admit.{admitted, Admits}
 use Rattle.lvm_good.specs.Found.{Votes, Found}
 use Rattle.lvm_good.specs.Transfer.{Restages, restaged}
-use Rattle.lvm_good.specs.Updates.{put, with_name, with_req, with_block, with_names, with_status}
 use Rattle.lvm_good.specs.Open.{Opens}
 use Rattle.lvm_good.specs.Want.{Replaced, Wants, after_wants}
 use Rattle.lvm_good.specs.StartNote.{StartsNote}

@@ -3,14 +3,12 @@ use Rattle.std.proofs.Common.{◌≡◌, ◌⊎◌, inl, inr, ⊎_elim, ℕ, Boo
 use Rattle.std.specs.Prelude.{IsTrue, IsFalse}
 use Rattle.lvm_num.specs.declared.place.Pp.{Pp}
 use Rattle.lvm_num.specs.Geometry.{track_group_of}
-use Rattle.lvm_good.proofs.Small.{IsIn}
-use Rattle.lvm_good.specs.State.{Marks, OpenCopy, StepWrite, Going, Queued, State, covers, stale_in, is_settled_stale, HasPassed, Live, Named, Started}
+use Rattle.lvm_good.proofs.Small.{IsIn, never, false_by, and_left_false}
+use Rattle.lvm_good.specs.State.{Marks, OpenCopy, StepWrite, Going, Queued, State, covers, stale_in, is_settled_stale, HasPassed, Live, Named, Started, told}
 use Rattle.lvm_good.specs.Sound.{Complete, Statuses, MayDiffer, Agree, Settled, Blocks, Holds, Sound}
 use Rattle.lvm_good.proofs.Claims.{Quiet, CopyWriteKeepsCore, OpenKeepsCore, ClearKeepsCore}
-use Rattle.lvm_good.proofs.Small.{never, false_by, and_left_false}
 use Rattle.lvm_good.proofs.Requests.{decided, alone, past_of}
 use Rattle.lvm_good.proofs.Quieting.{nearly, one_req, quiet_nearly}
-use Rattle.lvm_good.specs.State.{told}
 use Rattle.lvm_good.specs.CopyWrite.{Passes, CopyWrites}
 use Rattle.lvm_good.specs.Updates.{with_block}
 use Rattle.lvm_good.specs.Open.{Opens}

@@ -6,14 +6,11 @@ use Rattle.lvm_num.specs.Geometry.{track_group_of}
 use Rattle.lvm_num.specs.Record.{Stamped}
 use Rattle.lvm_vol.specs.Facts.{Request, block_of}
 use Rattle.lvm_vol.specs.May.{Known, cut, is_off, is_some_open}
-use Rattle.lvm_good.specs.State.{write_of}
-use Rattle.lvm_good.proofs.Small.{IsIn}
-use Rattle.lvm_good.specs.State.{Marks, Groups, View, Going, Queued, State, covers, request_of, has_landed, stale_in, Live, Named, Started}
+use Rattle.lvm_good.specs.State.{write_of, Marks, Groups, View, Going, Queued, State, covers, request_of, has_landed, stale_in, Live, Named, Started, told}
+use Rattle.lvm_good.proofs.Small.{IsIn, never, and_right_false, and_left_false, or_left, or_right, in_more, in_added, brought_in, some_open}
 use Rattle.lvm_good.specs.Sound.{MayDiffer, Agree, Settled, Busy, Recorded, StaysFresh, Sound}
 use Rattle.lvm_good.specs.Crash.{CopyBrings, IsCrash, Fresh, MayDifferAfter, BlockKept, IsPossible, Widens, CoreIsKept}
 use Rattle.lvm_good.proofs.Claims.{OffIsKept}
-use Rattle.lvm_good.proofs.Small.{never, and_right_false, and_left_false, or_left, or_right, in_more, in_added, brought_in, some_open}
-use Rattle.lvm_good.specs.State.{told}
 
 -- a started write is open in the history
 pub the_write_is : (write over : Bool) (w : List ℕ) → IsTrue write → IsTrue over → (if write && over then Some w else None) ≡ Some w

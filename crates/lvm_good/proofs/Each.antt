@@ -2,7 +2,7 @@
 use Rattle.std.proofs.Common.{◌≡◌, ◌⊎◌, inl, inr, ⊎_elim, ℕ, Bool, true, false, [], ◌∷◌, ◌++◌, Some, refl, sym, ap, subst, ◌∙◌, eqb-true, arith, ◌<◌}
 use Rattle.std.specs.Prelude.{IsTrue, IsFalse, ◌==◌, if◌then◌else◌}
 use Rattle.lvm_vol.specs.declared.entry.Outcome.TheVariants as outcome
-use Rattle.lvm_vol.specs.Facts.{Landed as HasLanded}
+use Rattle.lvm_vol.specs.Facts.{Landed as HasLanded, Begun, Taken}
 use Rattle.lvm_good.proofs.Entered.{write_asks, past_unlanded, done_effect, lost_effect, got_effect, got_may, quiet_effect, silent_effect, pin_alike, read_alike, begun_effect, entered_effect}
 use Rattle.lvm_good.proofs.Asking.{told_change, told_landed, told_taken, told_left, told_begun, told_entered}
 use Rattle.lvm_good.proofs.Others.{plain_keeps, admit_keeps as admit_core}
@@ -15,7 +15,6 @@ use Rattle.lvm_good.proofs.Whole.{moved_core, taken_core}
 use Rattle.lvm_vol.proofs.Knowing.{known-push}
 use Rattle.lvm_vol.specs.May.{known}
 use Rattle.lvm_vol.specs.declared.entry.Vol.TheVariants.{Lv}
-use Rattle.lvm_vol.specs.Facts.{Begun, Taken}
 use Rattle.lvm_good.specs.EndNote.{EndNoteKeeps}
 use Rattle.lvm_good.specs.CopyWrite.{CopyWriteKeeps}
 use Rattle.lvm_good.specs.EnterStep.{EnterStepKeeps}

@@ -2,15 +2,11 @@
 use Rattle.std.specs.Prelude.{◌≡◌, ◌⊎◌, ℕ, ◌<◌, ◌==◌, List, [], ◌∷◌, Some, IsTrue, IsFalse}
 use Rattle.lvm_num.specs.declared.place.Pp.{Pp}
 use Rattle.lvm_num.specs.Geometry.{track_group_of}
-use Rattle.lvm_vol.specs.May.{IsValue}
-use Rattle.lvm_good.specs.State.{write_of}
-use Rattle.lvm_good.specs.State.{Groups, Stage, Well, Held, Going, Queued, State, covers, request_of, has_landed, is_past, is_pinning, Started}
+use Rattle.lvm_vol.specs.May.{IsValue, known}
+use Rattle.lvm_good.specs.State.{write_of, Groups, Stage, Well, Held, Going, Queued, State, covers, request_of, has_landed, is_past, is_pinning, Started, told}
 use Rattle.lvm_good.specs.Sound.{the_write}
-use Rattle.lvm_good.specs.State.{told}
 use Rattle.lvm_vol.specs.declared.entry.Vol.TheVariants.{Lv}
-use Rattle.lvm_vol.specs.May.{known}
-use Rattle.lvm_vol.specs.Facts.{Fact}
-use Rattle.lvm_vol.specs.Facts.{Request}
+use Rattle.lvm_vol.specs.Facts.{Fact, Request}
 use Rattle.lvm_good.specs.LandDone.{IsDropped}
 
 -- what landing changes of what is known: nothing where the request doesn't go, and at the others no mode

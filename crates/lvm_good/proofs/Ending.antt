@@ -5,15 +5,13 @@ use Rattle.std.specs.List.{list_any}
 use Rattle.std.proofs.lemmas.List.{append-nil}
 use Rattle.lvm_vol.specs.declared.entry.Outcome.{Outcome}
 use Rattle.lvm_vol.specs.declared.entry.Outcome.TheVariants as outcome
-use Rattle.lvm_vol.specs.Facts.{Landed as HasLanded}
-use Rattle.lvm_vol.specs.May.{ended, read}
+use Rattle.lvm_vol.specs.Facts.{Landed as HasLanded, Request, Fact, Begun, Taken, Cut, Stands, same_request, block_of}
+use Rattle.lvm_vol.specs.May.{ended, read, Known, is_off, known, cut}
 use Rattle.lvm_vol.proofs.Knowing.{known-push}
 use Rattle.lvm_vol.proofs.Legality.{legal_push}
 use Rattle.lvm_vol.proofs.Order.{any-push, stands_left}
 use Rattle.lvm_num.specs.Buffer.{Sector}
 use Rattle.lvm_vol.specs.declared.entry.Vol.TheVariants.{Lv}
-use Rattle.lvm_vol.specs.Facts.{Request, Fact, Begun, Taken, Cut, Stands, same_request, block_of}
-use Rattle.lvm_vol.specs.May.{Known, is_off, known, cut}
 use Rattle.lvm_vol.specs.Legal.{lands, Legal, IsOutcomeOf, GotMay}
 use Rattle.lvm_good.specs.Off.{OffKeeps}
 use Rattle.lvm_good.specs.Told.{Told}

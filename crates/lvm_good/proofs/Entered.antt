@@ -5,13 +5,11 @@ use Rattle.std.proofs.lemmas.Bool.Decides.{nat_tests}
 use Rattle.lvm_vol.specs.declared.entry.Vol.{Vol}
 use Rattle.lvm_vol.specs.declared.entry.Outcome.{Outcome}
 use Rattle.lvm_vol.specs.declared.entry.Outcome.TheVariants as outcome
-use Rattle.lvm_vol.specs.Facts.{Landed as HasLanded}
-use Rattle.lvm_vol.specs.May.{ended, read, May}
+use Rattle.lvm_vol.specs.Facts.{Landed as HasLanded, Request, Fact, Begun, Stands, same_vol, same_request, is_over, block_of}
+use Rattle.lvm_vol.specs.May.{ended, read, May, Known, known}
 use Rattle.lvm_num.specs.declared.place.Pp.{Pp}
 use Rattle.lvm_num.specs.Geometry.{track_group_of}
 use Rattle.lvm_vol.specs.declared.entry.Vol.TheVariants.{Lv}
-use Rattle.lvm_vol.specs.Facts.{Request, Fact, Begun, Stands, same_vol, same_request, is_over, block_of}
-use Rattle.lvm_vol.specs.May.{Known, known}
 use Rattle.lvm_vol.specs.Legal.{begins_in, Gets}
 use Rattle.lvm_good.specs.EnterStep.{StepEnters}
 use Rattle.lvm_good.specs.LandDone.{IsDropped, LandsDone}

@@ -5,10 +5,9 @@ use Rattle.lvm_num.specs.declared.place.Pp.{Pp}
 use Rattle.lvm_num.specs.Geometry.{track_group_of}
 use Rattle.lvm_vol.specs.May.{is_off}
 use Rattle.lvm_good.proofs.Small.{IsIn}
-use Rattle.lvm_good.specs.State.{Stage, Queued, State, covers, is_pinning, Live}
+use Rattle.lvm_good.specs.State.{Stage, Queued, State, covers, is_pinning, Live, told}
 use Rattle.lvm_good.specs.Sound.{Conflict, Tied, Holds, Nearly}
 use Rattle.lvm_good.proofs.Claims.{Alike, Seen, Frame, FrameKeeps}
-use Rattle.lvm_good.specs.State.{told}
 
 abbrev some_if : Bool → List ℕ → Option (List ℕ)
 some_if test w = if test then Some w else None

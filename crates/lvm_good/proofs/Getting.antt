@@ -1,28 +1,21 @@
 -- A read lands with what it got; a request begins.
-use Rattle.std.specs.Prelude.{if◌then◌else◌}
-use Rattle.std.proofs.Common.{◌≡◌, ◌⊎◌, inl, inr, ⊎_elim, ℕ, ◌<◌, Bool, true, false, List, [], ◌∷◌, Option, Some, refl, sym, ap, subst, ◌∙◌, eqb-true, arith}
-use Rattle.std.specs.Prelude.{IsTrue, IsFalse, ◌==◌}
+use Rattle.std.specs.Prelude.{if◌then◌else◌, IsTrue, IsFalse, ◌==◌}
+use Rattle.std.proofs.Common.{◌≡◌, ◌⊎◌, inl, inr, ⊎_elim, ℕ, ◌<◌, Bool, true, false, List, [], ◌∷◌, Option, Some, refl, sym, ap, subst, ◌∙◌, eqb-true, arith, eq-eqb}
 use Rattle.lvm_num.specs.declared.place.Pp.{Pp}
 use Rattle.lvm_num.specs.Geometry.{track_group_of}
-use Rattle.lvm_vol.specs.May.{Known, is_off}
-use Rattle.lvm_good.specs.State.{write_of}
-use Rattle.lvm_good.proofs.Small.{IsIn}
-use Rattle.lvm_good.specs.State.{Phase, Held, Going, Landed, Queued, State, covers, is_past, has_landed, is_pinning, stale_in, is_settled_stale, HasPassed, Live, Named, Started}
+use Rattle.lvm_vol.specs.May.{Known, is_off, known}
+use Rattle.lvm_good.specs.State.{write_of, Phase, Held, Going, Landed, Queued, State, covers, is_past, has_landed, is_pinning, stale_in, is_settled_stale, HasPassed, Live, Named, Started, told}
+use Rattle.lvm_good.proofs.Small.{IsIn, never, and_left_false}
 use Rattle.lvm_good.specs.Sound.{Complete, MayDiffer, Agree, Settled, Blocks, Tied, Holds, Sound, the_write}
 use Rattle.lvm_good.proofs.Effects.{GotEffect, JoinEffect}
 use Rattle.lvm_good.proofs.Claims.{Frame, Calmer, GotKeeps, GotIsAllowed, SubmitKeepsCore}
-use Rattle.lvm_good.proofs.Small.{never, and_left_false}
 use Rattle.lvm_good.proofs.Requests.{decided, put_cases, put_other, alone, past_of, past_not_landed}
 use Rattle.lvm_good.proofs.Calm.{calm_blocks}
 use Rattle.lvm_good.proofs.Framing.{frame_keeps}
 use Rattle.lvm_good.proofs.Quieting.{nearly, one_req}
 use Rattle.lvm_good.proofs.Writes.{same_statuses, from_put, got_put, pins_put, land_alike}
-use Rattle.lvm_vol.specs.Facts.{Fact}
-use Rattle.lvm_good.specs.State.{told}
+use Rattle.lvm_vol.specs.Facts.{Fact, Request}
 use Rattle.lvm_vol.specs.declared.entry.Vol.TheVariants.{Lv}
-use Rattle.lvm_vol.specs.May.{known}
-use Rattle.std.proofs.Common.{eq-eqb}
-use Rattle.lvm_vol.specs.Facts.{Request}
 use Rattle.lvm_good.specs.Updates.{put, with_name, land, landed}
 
 module _ (s : State) (i : ℕ) (r : Queued) (value : ℕ → List ℕ) (facts : List Fact) (step : GotEffect s i r value facts) (sound : Sound s) where

@@ -3,18 +3,15 @@ use Rattle.std.proofs.Common.{◌≡◌, ◌⊎◌, inl, inr, ⊎_elim, ℕ, Boo
 use Rattle.std.specs.Prelude.{IsTrue, IsFalse, ◌==◌}
 use Rattle.lvm_num.specs.declared.place.Pp.{Pp}
 use Rattle.lvm_num.specs.Geometry.{track_group_of}
-use Rattle.lvm_vol.specs.May.{Known}
-use Rattle.lvm_good.proofs.Small.{IsIn}
-use Rattle.lvm_good.specs.State.{Stage, Well, Going, Landed, Phase, Queued, State, covers, is_settled_stale, HasPassed, Live, Named, Started}
+use Rattle.lvm_vol.specs.May.{Known, known}
+use Rattle.lvm_good.proofs.Small.{IsIn, never}
+use Rattle.lvm_good.specs.State.{Stage, Well, Going, Landed, Phase, Queued, State, covers, is_settled_stale, HasPassed, Live, Named, Started, told}
 use Rattle.lvm_good.specs.Sound.{MayDiffer, Agree, Settled, Blocks, Sound}
 use Rattle.lvm_good.proofs.Effects.{ClosesOnly, DoneEffect, LostEffect}
-use Rattle.lvm_good.proofs.Small.{never}
 use Rattle.lvm_good.proofs.Requests.{decided, put_cases, put_other, one_write}
 use Rattle.lvm_vol.specs.Legal.{lands}
 use Rattle.lvm_vol.specs.declared.entry.Vol.TheVariants.{Lv}
-use Rattle.lvm_vol.specs.May.{known}
 use Rattle.lvm_vol.specs.Facts.{Fact}
-use Rattle.lvm_good.specs.State.{told}
 use Rattle.lvm_good.specs.LandDone.{IsDropped}
 use Rattle.lvm_good.specs.Updates.{land, landed}
 

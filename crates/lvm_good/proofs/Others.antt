@@ -4,12 +4,10 @@ use Rattle.std.specs.Prelude.{IsTrue, IsFalse, ◌==◌}
 use Rattle.std.proofs.lemmas.Bool.{cases_lt}
 use Rattle.lvm_num.specs.declared.place.Pp.{Pp}
 use Rattle.lvm_num.specs.Geometry.{track_group_of}
-use Rattle.lvm_good.specs.State.{write_of}
-use Rattle.lvm_good.proofs.Small.{IsIn}
-use Rattle.lvm_good.specs.State.{Groups, Stage, Phase, Held, WantEntry, Ready, Going, Queued, State, covers, request_of, is_past, has_landed, is_pinning, stale_in, is_settled_stale, HasPassed, Live, Started}
+use Rattle.lvm_good.specs.State.{write_of, Groups, Stage, Phase, Held, WantEntry, Ready, Going, Queued, State, covers, request_of, is_past, has_landed, is_pinning, stale_in, is_settled_stale, HasPassed, Live, Started, told}
+use Rattle.lvm_good.proofs.Small.{IsIn, never, and_left_false}
 use Rattle.lvm_good.specs.Sound.{Complete, Statuses, Conflict, MayDiffer, Agree, Settled, Tied, Holds, Sound, the_write}
 use Rattle.lvm_good.proofs.Claims.{Frame, Calmer, PlainKeeps, AdmitKeepsCore}
-use Rattle.lvm_good.proofs.Small.{never, and_left_false}
 use Rattle.lvm_good.proofs.Requests.{decided, put_cases, put_other, past_of, past_not_landed}
 use Rattle.lvm_good.proofs.Calm.{calm_blocks}
 use Rattle.lvm_good.proofs.Framing.{frame_keeps}
@@ -18,7 +16,6 @@ use Rattle.lvm_good.proofs.Writes.{from_put}
 use Rattle.lvm_vol.specs.declared.entry.Vol.TheVariants.{Lv}
 use Rattle.lvm_vol.specs.May.{known}
 use Rattle.lvm_vol.specs.Facts.{Fact}
-use Rattle.lvm_good.specs.State.{told}
 use Rattle.lvm_good.specs.Admit.{admitted, Admits}
 use Rattle.lvm_good.specs.Updates.{put, with_req}
 

@@ -4,14 +4,12 @@ use Rattle.std.specs.Prelude.{IsTrue}
 use Rattle.lvm_num.specs.declared.place.Pp.{Pp}
 use Rattle.lvm_num.specs.Geometry.{track_group_of}
 use Rattle.lvm_vol.specs.May.{Known}
-use Rattle.lvm_good.specs.State.{write_of}
+use Rattle.lvm_good.specs.State.{write_of, Queued, State, is_pinning, Live, Started, told}
 use Rattle.lvm_good.proofs.Small.{IsIn}
-use Rattle.lvm_good.specs.State.{Queued, State, is_pinning, Live, Started}
 use Rattle.lvm_good.specs.Sound.{Sound, Nearly}
 use Rattle.lvm_good.proofs.Claims.{Alike, Frame, Calmer, Quiet, Rest, QuietKeeps}
 use Rattle.lvm_good.proofs.Calm.{calm_blocks}
 use Rattle.lvm_good.proofs.Framing.{frame_keeps}
-use Rattle.lvm_good.specs.State.{told}
 
 pub one_req : {a b : Queued} → Some a ≡ Some b → a ≡ b
 one_req h = cc

@@ -3,12 +3,10 @@ use Rattle.std.proofs.Common.{◌≡◌, ◌⊎◌, inl, inr, ⊎_elim, ℕ, Boo
 use Rattle.std.specs.Prelude.{IsTrue, IsFalse, ◌==◌}
 use Rattle.lvm_num.specs.declared.place.Pp.{Pp}
 use Rattle.lvm_num.specs.Geometry.{track_group_of}
-use Rattle.lvm_good.proofs.Small.{IsIn}
-use Rattle.lvm_good.specs.State.{Stage, Well, Queued, State, covers, HasPassed, Live, Named, Started}
+use Rattle.lvm_good.proofs.Small.{IsIn, never}
+use Rattle.lvm_good.specs.State.{Stage, Well, Queued, State, covers, HasPassed, Live, Named, Started, told}
 use Rattle.lvm_good.specs.Sound.{MayDiffer, Agree, Settled, Busy, Recorded, Blocks, Sound}
-use Rattle.lvm_good.proofs.Small.{never}
 use Rattle.lvm_good.proofs.Requests.{decided, put_cases, put_same, put_other, staged_at, staged_was, staged_is, one_write}
-use Rattle.lvm_good.specs.State.{told}
 use Rattle.lvm_good.specs.Transfer.{Restages, restaged}
 use Rattle.lvm_good.specs.Updates.{staged}
 

@@ -4,12 +4,10 @@ use Rattle.std.specs.Prelude.{IsTrue, IsFalse, ◌==◌}
 use Rattle.lvm_num.specs.declared.place.Pp.{Pp}
 use Rattle.lvm_num.specs.Geometry.{track_group_of}
 use Rattle.lvm_num.specs.Record.{Stamped}
-use Rattle.lvm_good.proofs.Small.{IsIn}
-use Rattle.lvm_good.specs.State.{Marks, Stage, Todo, Flying, Well, Phase, Ready, Going, Queued, State, covers, stale_in, is_settled_stale, is_usable, HasPassed, Live, Named, Started}
+use Rattle.lvm_good.proofs.Small.{IsIn, never}
+use Rattle.lvm_good.specs.State.{Marks, Stage, Todo, Flying, Well, Phase, Ready, Going, Queued, State, covers, stale_in, is_settled_stale, is_usable, HasPassed, Live, Named, Started, told}
 use Rattle.lvm_good.specs.Sound.{Settled, Busy, Recorded, Blocks, Complete, Sound, Agree, MayDiffer}
-use Rattle.lvm_good.proofs.Small.{never}
 use Rattle.lvm_good.proofs.Requests.{decided, put_cases, put_same, put_other, staged_cases, staged_was, staged_is, alone, past_of}
-use Rattle.lvm_good.specs.State.{told}
 use Rattle.lvm_good.specs.StartWrite.{MayStart, going, started_first}
 
 -- a phase isn't two

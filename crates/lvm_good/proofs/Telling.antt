@@ -1,8 +1,8 @@
 -- What an entry changes of what is known of a block, seen by the requests that are open there.
 use Rattle.std.proofs.Common.{◌≡◌, ◌⊎◌, inl, inr, ⊎_elim, ℕ, ◌<◌, Bool, true, false, ◌&&◌, ◌||◌, not, List, [], ◌∷◌, ◌++◌, Some, None, refl, sym, ap, subst, ◌∙◌, eqb-true, eq-eqb, arith, count_by}
-use Rattle.std.specs.Prelude.{IsTrue, IsFalse, ◌==◌, if◌then◌else◌, option_map, filter}
+use Rattle.std.specs.Prelude.{IsTrue, IsFalse, ◌==◌, if◌then◌else◌, option_map, filter, nat_lt, nat_lt}
 use Rattle.std.specs.List.{find}
-use Rattle.lvm_num.specs.Buffer.{Sector}
+use Rattle.lvm_num.specs.Buffer.{Sector, zero_sector, zero_sector}
 use Rattle.lvm_vol.specs.declared.entry.Vol.{Vol}
 use Rattle.lvm_vol.specs.declared.entry.Vol.TheVariants.{Lv}
 use Rattle.lvm_vol.specs.declared.entry.Outcome.{Outcome}
@@ -13,12 +13,8 @@ use Rattle.lvm_vol.specs.Legal.{begins_in, Fits, Legal}
 use Rattle.lvm_vol.proofs.Knowing.{known-push, ended_open, read_open}
 use Rattle.lvm_vol.proofs.Legality.{grow_legal, counted_well, same_self}
 use Rattle.lvm_vol.proofs.Order.{stands_left, stands_last}
-use Rattle.std.specs.Prelude.{nat_lt}
-use Rattle.lvm_num.specs.Buffer.{zero_sector}
 use Rattle.lvm_good.specs.State.{write_in, write_of}
 use Rattle.lvm_good.proofs.Small.{never}
-use Rattle.lvm_num.specs.Buffer.{zero_sector}
-use Rattle.std.specs.Prelude.{nat_lt}
 
 -- ---- names
 

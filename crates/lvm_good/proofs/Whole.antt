@@ -1,27 +1,23 @@
 -- Each event keeps what is true of a session.
 use Rattle.std.proofs.Common.{◌≡◌, inl, inr, ⊎_elim, ℕ, Bool, true, false, Option, Some, None, refl, sym, ap, subst, ◌∙◌, eqb-true}
-use Rattle.std.specs.Prelude.{IsTrue, IsFalse, ◌==◌, if◌then◌else◌}
+use Rattle.std.specs.Prelude.{IsTrue, IsFalse, ◌==◌, if◌then◌else◌, List}
 use Rattle.lvm_num.specs.declared.place.Pp.{Pp}
 use Rattle.lvm_num.specs.Geometry.{track_group_of}
 use Rattle.lvm_num.specs.Record.{Stamped}
-use Rattle.lvm_good.specs.State.{Marks, Queued, State, has_landed, is_pinning, is_settled_stale, HasPassed, Live, Started}
+use Rattle.lvm_good.specs.State.{Marks, Queued, State, has_landed, is_pinning, is_settled_stale, HasPassed, Live, Started, told, write_of}
 use Rattle.lvm_good.specs.Sound.{Complete, Sound}
 use Rattle.lvm_good.proofs.Claims.{Frame, Calmer, Quiet}
-use Rattle.lvm_good.proofs.Small.{never}
+use Rattle.lvm_good.proofs.Small.{never, IsIn}
 use Rattle.lvm_good.proofs.Requests.{decided}
 use Rattle.lvm_good.proofs.Calm.{calm_blocks}
 use Rattle.lvm_good.proofs.Framing.{frame_keeps}
 use Rattle.lvm_good.proofs.Quieting.{nearly, one_req, alike_same, quiet_nearly}
 use Rattle.lvm_good.proofs.Writes.{same_statuses}
-use Rattle.lvm_good.specs.State.{told}
 use Rattle.lvm_good.specs.Take.{Takes}
 use Rattle.lvm_good.specs.Updates.{without, with_status}
-use Rattle.std.specs.Prelude.{List}
 use Rattle.lvm_vol.specs.declared.entry.Vol.TheVariants.{Lv}
 use Rattle.lvm_vol.specs.Facts.{Fact}
 use Rattle.lvm_vol.specs.May.{Known, known}
-use Rattle.lvm_good.specs.State.{write_of}
-use Rattle.lvm_good.proofs.Small.{IsIn}
 
 -- ---- a status moves
 

@@ -4,12 +4,11 @@ use Rattle.std.specs.Prelude.{IsTrue, IsFalse, ◌==◌}
 use Rattle.lvm_num.specs.declared.place.Pp.{Pp}
 use Rattle.lvm_num.specs.Geometry.{track_group_of}
 use Rattle.lvm_vol.specs.May.{Known}
-use Rattle.lvm_good.proofs.Small.{IsIn}
-use Rattle.lvm_good.specs.State.{Stage, Todo, Flying, Ready, Going, Landed, Queued, State, covers, is_past, has_landed, is_pinning, is_settled_stale, HasPassed, Live, Started}
+use Rattle.lvm_good.proofs.Small.{IsIn, never}
+use Rattle.lvm_good.specs.State.{Stage, Todo, Flying, Ready, Going, Landed, Queued, State, covers, is_past, has_landed, is_pinning, is_settled_stale, HasPassed, Live, Started, told}
 use Rattle.lvm_good.specs.Sound.{Complete, Statuses, Sound}
 use Rattle.lvm_good.proofs.Effects.{ClosesOnly}
 use Rattle.lvm_good.proofs.Claims.{Alike, Seen, Frame, FirstKeeps, RestagingKeeps, DoneKeeps, LostKeeps}
-use Rattle.lvm_good.proofs.Small.{never}
 use Rattle.lvm_good.proofs.Requests.{decided, put_cases, staged_was, staged_is, alone, past_of}
 use Rattle.lvm_good.proofs.StartFirst.{first_blocks}
 use Rattle.lvm_good.proofs.Restage.{restaged_blocks}
@@ -17,7 +16,6 @@ use Rattle.lvm_good.proofs.Landing.{done_blocks, lost_blocks}
 use Rattle.lvm_good.proofs.Framing.{frame_keeps}
 use Rattle.lvm_good.proofs.Quieting.{nearly, alike_same}
 use Rattle.lvm_vol.specs.Facts.{Fact}
-use Rattle.lvm_good.specs.State.{told}
 use Rattle.lvm_good.specs.StartWrite.{MayStart, going, started_first}
 use Rattle.lvm_good.specs.Transfer.{restaged}
 use Rattle.lvm_good.specs.Updates.{put, staged, land, landed}

@@ -4,9 +4,8 @@ use Rattle.lvm_num.specs.declared.place.Pp.{Pp}
 use Rattle.lvm_num.specs.Geometry.{track_group_of}
 use Rattle.lvm_num.specs.Record.{Stamped}
 use Rattle.lvm_vol.specs.May.{Known, cut, IsValue}
-use Rattle.lvm_good.specs.State.{Marks, Groups, View, Flying, Queued, StepWrite, State, covers, is_past, Started}
+use Rattle.lvm_good.specs.State.{Marks, Groups, View, Flying, Queued, StepWrite, State, covers, is_past, Started, told}
 use Rattle.lvm_good.specs.Sound.{Sound}
-use Rattle.lvm_good.specs.State.{told}
 
 -- a write flies to this copy and brings the value to the block
 pub record Brings (s : State) (lv b : ℕ) (c : Pp) (value : List ℕ) : Type 0 where

@@ -1,11 +1,9 @@
 -- A step of a copy has ended.
-use Rattle.std.specs.Prelude.{◌≡◌, ℕ, Some, IsTrue}
+use Rattle.std.specs.Prelude.{◌≡◌, ℕ, Some, IsTrue, IsFalse}
 use Rattle.lvm_good.specs.Found.{Votes}
 use Rattle.lvm_good.specs.Updates.{with_req, land}
-use Rattle.lvm_good.specs.State.{Queued, State}
+use Rattle.lvm_good.specs.State.{Queued, State, has_landed}
 use Rattle.lvm_good.specs.Good.{Good}
-use Rattle.std.specs.Prelude.{IsFalse}
-use Rattle.lvm_good.specs.State.{has_landed}
 
 pub record StepEnds (s : State) (i : ℕ) (r : Queued) : Type 0 where
   pub there : s.queue i ≡ Some r

@@ -1,5 +1,5 @@
 -- A session at its beginning: one mirrored volume with notes, all zero_sector. (That what is asked of a session can be met.)
-use Rattle.std.specs.Prelude.{true, false, ◌&&◌, ◌||◌, ◌==◌, [], ◌∷◌, Some, None}
+use Rattle.std.specs.Prelude.{true, false, ◌&&◌, ◌||◌, ◌==◌, [], ◌∷◌, Some, None, IsTrue, nat_lt}
 use Rattle.lvm_num.specs.declared.descriptor.Mode.TheVariants.{Active}
 use Rattle.lvm_num.specs.Buffer.{zero_sector}
 use Rattle.lvm_vol.specs.declared.entry.Vol.TheVariants.{Lv}
@@ -7,8 +7,6 @@ use Rattle.lvm_vol.specs.Facts.{Making, Made}
 use Rattle.lvm_good.specs.State.{State}
 use Rattle.lvm_good.specs.Found.{Votes}
 use Rattle.lvm_good.specs.Good.{Good}
-use Rattle.std.specs.Prelude.{IsTrue}
-use Rattle.std.specs.Prelude.{nat_lt}
 
 abbrev pub at_first : State
 at_first = record {

@@ -1,9 +1,8 @@
 -- A session is over: each request that is open lands, and what the disks may show then agrees with the history.
-use Rattle.lvm_vol.specs.Facts.{Landed as HasLanded}
+use Rattle.lvm_vol.specs.Facts.{Landed as HasLanded, Request, Fact, Taken, Stands}
 use Rattle.std.specs.Prelude.{◌≡◌, ℕ, Bool, true, false, List, [], ◌∷◌, ◌++◌, Some, IsTrue, IsFalse}
 use Rattle.lvm_vol.specs.declared.entry.Vol.TheVariants.{Lv}
 use Rattle.lvm_vol.specs.declared.entry.Outcome.{Outcome}
-use Rattle.lvm_vol.specs.Facts.{Request, Fact, Taken, Stands}
 use Rattle.lvm_vol.specs.May.{known, cut}
 use Rattle.lvm_vol.specs.Legal.{Fits, Legal}
 use Rattle.lvm_good.specs.State.{Marks, View, Phase, Held, WantEntry, Ready, Going, Landed, Queued, State, has_landed}

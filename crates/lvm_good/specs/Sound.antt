@@ -4,9 +4,7 @@ use Rattle.lvm_num.specs.declared.place.Pp.{Pp}
 use Rattle.lvm_num.specs.Geometry.{track_group_of}
 use Rattle.lvm_num.specs.Record.{Stamped}
 use Rattle.lvm_vol.specs.May.{is_off, IsValue}
-use Rattle.lvm_good.specs.State.{write_of}
-use Rattle.lvm_good.specs.State.{Marks, Stage, Well, Queued, OpenCopy, State, covers, request_of, has_landed, is_past, is_pinning, is_usable, Live, Named, Started}
-use Rattle.lvm_good.specs.State.{told}
+use Rattle.lvm_good.specs.State.{write_of, Marks, Stage, Well, Queued, OpenCopy, State, covers, request_of, has_landed, is_past, is_pinning, is_usable, Live, Named, Started, told}
 
 -- in mode passive: the disk of each is missing, and the committed status calls the volume dirty
 pub record DifferDirty (s : State) (lv b : ℕ) : Type 0 where

@@ -3,12 +3,10 @@ use Rattle.std.specs.Prelude.{◌≡◌, ◌⊎◌, ℕ, ◌+◌, Bool, true, fa
 use Rattle.lvm_num.specs.declared.place.Pp.{Pp}
 use Rattle.lvm_num.specs.Geometry.{track_group_of}
 use Rattle.lvm_num.specs.Record.{Stamped}
-use Rattle.lvm_vol.specs.Facts.{Request, same_request, block_of}
-use Rattle.lvm_vol.specs.May.{Known}
+use Rattle.lvm_vol.specs.Facts.{Request, same_request, block_of, Fact}
+use Rattle.lvm_vol.specs.May.{Known, known}
 use Rattle.lvm_num.specs.Buffer.{Sector}
 use Rattle.lvm_vol.specs.declared.entry.Vol.TheVariants.{Lv}
-use Rattle.lvm_vol.specs.May.{known}
-use Rattle.lvm_vol.specs.Facts.{Fact}
 
 -- which partitions a status calls stale, and which volumes dirty
 pub record Marks : Type 0 where
