@@ -1,0 +1,191 @@
+//! Laws over a session. Each call does nothing: its contract is the law. For an event it is that the
+//! event, made in a good state where its conditions hold, leads to a good state.
+ghost use Rattle.lvm_good.specs.Submit.{SubmitKeeps};
+ghost use Rattle.lvm_good.specs.EnterStep.{EnterStepKeeps};
+ghost use Rattle.lvm_good.specs.Admit.{AdmitKeeps};
+ghost use Rattle.lvm_good.specs.Pin.{PinKeeps};
+ghost use Rattle.lvm_good.specs.Read.{ReadKeeps};
+ghost use Rattle.lvm_good.specs.StartWrite.{StartWriteKeeps};
+ghost use Rattle.lvm_good.specs.Transfer.{TransferKeeps};
+ghost use Rattle.lvm_good.specs.LandDone.{LandDoneKeeps};
+ghost use Rattle.lvm_good.specs.LandLost.{LandLostKeeps};
+ghost use Rattle.lvm_good.specs.LandGot.{LandGotKeeps};
+ghost use Rattle.lvm_good.specs.LandReadFailed.{LandReadFailedKeeps};
+ghost use Rattle.lvm_good.specs.LandNoFresh.{LandNoFreshKeeps};
+ghost use Rattle.lvm_good.specs.EndStep.{EndStepKeeps};
+ghost use Rattle.lvm_good.specs.Take.{TakeKeeps};
+ghost use Rattle.lvm_good.specs.Want.{WantKeeps};
+ghost use Rattle.lvm_good.specs.BeginUpdate.{BeginUpdateKeeps};
+ghost use Rattle.lvm_good.specs.MoveStatus.{MoveStatusKeeps};
+ghost use Rattle.lvm_good.specs.Commit.{CommitKeeps};
+ghost use Rattle.lvm_good.specs.EndUpdate.{EndUpdateKeeps};
+ghost use Rattle.lvm_good.specs.StartNote.{StartNoteKeeps};
+ghost use Rattle.lvm_good.specs.EndNote.{EndNoteKeeps};
+ghost use Rattle.lvm_good.specs.Open.{OpenKeeps};
+ghost use Rattle.lvm_good.specs.CopyWrite.{CopyWriteKeeps};
+ghost use Rattle.lvm_good.specs.Clear.{ClearKeeps};
+ghost use Rattle.lvm_good.specs.Events.{EachEventKeepsGood, EachMomentIsKept};
+ghost use Rattle.lvm_good.specs.Cut.{CutKeeps};
+ghost use Rattle.lvm_good.specs.Found.{QuorumFinds};
+ghost use Rattle.lvm_good.specs.Off.{OffKeeps};
+ghost use Rattle.lvm_good.specs.Over.{OverStays};
+ghost use Rattle.lvm_good.specs.First.{FirstIsGood};
+
+/// A request begins.
+pub fn request_begins()
+    ensures { SubmitKeeps }
+{}
+
+/// A step of a copy enters the queue.
+pub fn step_enters()
+    ensures { EnterStepKeeps }
+{}
+
+/// A request is admitted, or a write chooses its targets again.
+pub fn request_is_admitted()
+    ensures { AdmitKeeps }
+{}
+
+/// A write pins the entry of its track group in the cache.
+pub fn entry_is_pinned()
+    ensures { PinKeeps }
+{}
+
+/// A transfer of a read starts or ends.
+pub fn read_goes_on()
+    ensures { ReadKeeps }
+{}
+
+/// The first transfer of a write starts.
+pub fn write_starts()
+    ensures { StartWriteKeeps }
+{}
+
+/// A further transfer of a write starts, or one ends, well or not.
+pub fn write_goes_on()
+    ensures { TransferKeeps }
+{}
+
+/// A write lands as Done.
+pub fn write_is_done()
+    ensures { LandDoneKeeps }
+{}
+
+/// A write lands as Lost.
+pub fn write_is_lost()
+    ensures { LandLostKeeps }
+{}
+
+/// A read lands as Got.
+pub fn read_has_got()
+    ensures { LandGotKeeps }
+{}
+
+/// A read lands as ReadFailed.
+pub fn read_failed()
+    ensures { LandReadFailedKeeps }
+{}
+
+/// A request that hasn't started lands as NoFresh.
+pub fn no_copy_is_fresh()
+    ensures { LandNoFreshKeeps }
+{}
+
+/// A step of a copy ends.
+pub fn step_ends()
+    ensures { EndStepKeeps }
+{}
+
+/// The answer of a request that has landed is taken, or a step that has ended leaves the queue.
+pub fn answer_is_taken()
+    ensures { TakeKeeps }
+{}
+
+/// More staleness is wanted, disks become missing, the copy that is brought up ends.
+pub fn staleness_is_wanted()
+    ensures { WantKeeps }
+{}
+
+/// An update of the status begins.
+pub fn update_begins()
+    ensures { BeginUpdateKeeps }
+{}
+
+/// A write of the update in flight starts or ends.
+pub fn status_moves()
+    ensures { MoveStatusKeeps }
+{}
+
+/// The update in flight is committed, and the marks that this entails are made.
+pub fn update_is_committed()
+    ensures { CommitKeeps }
+{}
+
+/// An update that is committed ends. One with too few votes stays in flight for the rest of the session.
+pub fn update_ends()
+    ensures { EndUpdateKeeps }
+{}
+
+/// A write of a consistency record starts. It carries the whole cache.
+pub fn note_starts()
+    ensures { StartNoteKeeps }
+{}
+
+/// A write of a consistency record ends, well or with its disk missing.
+pub fn note_ends()
+    ensures { EndNoteKeeps }
+{}
+
+/// A stale copy begins to be brought up.
+pub fn copy_opens()
+    ensures { OpenKeeps }
+{}
+
+/// A write of a step's blocks to a copy starts or ends, and the copy passes track groups.
+pub fn copy_is_written()
+    ensures { CopyWriteKeeps }
+{}
+
+/// The copy that is brought up is whole, and is no longer wanted stale.
+pub fn copy_is_cleared()
+    ensures { ClearKeeps }
+{}
+
+/// Each event leads from a good state to a good state.
+pub fn each_event_keeps_good()
+    ensures { EachEventKeepsGood }
+{}
+
+/// A list of events leads from a good state to a good one. In it the history is legal, and each image
+/// that a loss of power may leave agrees with the history, whichever of the statuses is found that a
+/// quorum may find.
+pub fn each_moment_is_kept()
+    ensures { EachMomentIsKept }
+{}
+
+/// Whatever a loss of power leaves, each quorum finds the committed status or the one in flight.
+pub fn quorum_finds()
+    ensures { QuorumFinds }
+{}
+
+/// A session on a new volume is in a good state.
+pub fn first_is_good()
+    ensures { FirstIsGood }
+{}
+
+/// Where the votes are lost and no flight is out, each open request lands as Off, with its data
+/// started or not. The history is legal then, and what the disks may show agrees with it.
+pub fn group_goes_off()
+    ensures { OffKeeps }
+{}
+
+/// Where the power is cut, whatever is out, each open request lands as Dark. The history is legal then,
+/// and each image that the cut may leave agrees with it.
+pub fn power_is_cut()
+    ensures { CutKeeps }
+{}
+
+/// It stays so where answers are taken after that.
+pub fn answers_after_the_end()
+    ensures { OverStays }
+{}
