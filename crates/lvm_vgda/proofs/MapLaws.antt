@@ -103,7 +103,7 @@ strict-more copies own pp old apart i j d less lt same = elim (cases_lt j (lengt
       (subst (λ (q : Pp). (get_or (drop (length own / copies * copies) own) (i - length own / copies * copies) d).disk ≢ q.disk) (sym here) (differs _ pp.disk isnt))
 ]
 
-is_same : (p q : Pp) → p ≡ q → is_at p q.disk q.pp ≡ true
+pub is_same : (p q : Pp) → p ≡ q → is_at p q.disk q.pp ≡ true
 is_same p q same = from_both (p.disk == q.disk) (p.pp == q.pp) (eq-eqb p.disk q.disk (ap (λ (x : Pp). x.disk) same)) (eq-eqb p.pp q.pp (ap (λ (x : Pp). x.pp) same))
 
 pub fit-more : (members : List PvRow) (used : List Pp) (copies : ℕ) (own : List Pp) (pp : Pp) → Fit members used copies own → IsFree members used copies own pp → Fit members used copies (own ++ pp ∷ [])

@@ -21,10 +21,11 @@ pub fn decode(alloc: Global, bytes: &[u8]) -> Result<Descriptor, VgdaFault>
 {
     match descriptor_of(alloc, bytes) {
         Ok(d) => Ok(d),
-        Err(Fault::At(place)) => match u32::try_from(place) {
-            Ok(place) => Err(VgdaFault::BadDescriptor { place }),
-            Err(_) => Err(VgdaFault::Memory),
-        },
+        Err(Fault::At(place)) => {
+            // No fault stands far behind the largest descriptor, since no partition stands twice.
+            let place = place as u32;
+            Err(VgdaFault::BadDescriptor { place })
+        }
         Err(Fault::Memory) => Err(VgdaFault::Memory),
     }
 }
