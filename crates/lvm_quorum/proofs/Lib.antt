@@ -1,0 +1,5 @@
+pub mod SurveyRows
+pub mod Folds
+pub mod Voting
+pub mod Epochs
+pub mod Chosen

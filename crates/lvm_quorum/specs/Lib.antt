@@ -1,3 +1,4 @@
 pub mod Surveyed
 pub mod Choosing
+pub mod Groups
 pub mod Written
