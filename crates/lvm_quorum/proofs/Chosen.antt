@@ -27,15 +27,15 @@ use Rattle.lvm_quorum.proofs.Epochs.{found_on}
 -- what is found is valid
 pub found_valid : (s : Survey) (id : ℕ) (r : Stamped Descriptor) → IsSurveyValid s → descriptor_among (surveyed s) all_disks id ≡ Some r → IsValid r.value
 found_valid s id r valid found =
-    let on = found_on (surveyed s) id r found in on_row (slice_get s.rows on.0) refl on.1
+    let on = found_on (surveyed s) id r found in on_row on.0 (slice_get s.rows on.0) refl on.1
   where
     shown_valid : (o : Option Descriptor) (stamp : _) → under o stamp ≡ Some r → IfSome o IsValid → IsValid r.value
     shown_valid None stamp e v = absurd cc
     shown_valid (Some g) stamp e v = let same : g ≡ r.value = cc in subst IsValid same v
 
-    on_row : {d : ℕ} (o : Option SurveyRow) → slice_get s.rows d ≡ o → option_and_then (λ (row : SurveyRow). under row.descriptor row.descriptor_stamp) o ≡ Some r → IsValid r.value
-    on_row None at e = absurd cc
-    on_row {d = d} (Some row) at e = shown_valid row.descriptor row.descriptor_stamp e (valid d row at).descriptor
+    on_row : (d : ℕ) (o : Option SurveyRow) → slice_get s.rows d ≡ o → option_and_then (λ (row : SurveyRow). under row.descriptor row.descriptor_stamp) o ≡ Some r → IsValid r.value
+    on_row d None at e = absurd cc
+    on_row d (Some row) at e = shown_valid row.descriptor row.descriptor_stamp e (valid d row at).descriptor
 
 -- without a descriptor there is no status
 pub no_status : (c : Contents) (id : ℕ) → descriptor_among c all_disks id ≡ None → status_among c all_disks id ≡ None
@@ -91,3 +91,8 @@ only_one c name id (Err (fault.NoQuorum have total)) named only has g = record {
   total_is = g.total_is;
 }
 only_one c name id (Err fault.Memory) named only has g = tt
+
+-- a test that says that there is none
+pub is_none : {X : Type 0} (o : Option X) → is_some o ≡ false → o ≡ None
+is_none None e = refl
+is_none (Some x) e = absurd cc

@@ -93,6 +93,12 @@ found_on c id r e =
         let same : x ≡ r = cc in
         (k.1, subst (λ (y : Stamped Descriptor). y.value.id ≡ id) same (same_number x.value.id id k.0))
 
+-- the epoch is that of a record of the group on a disk
+abbrev IsShown : Contents → ℕ → ℕ → Type 0
+IsShown c id seen =
+    ((d : ℕ) × (r : Stamped Descriptor) × (c.descriptor d ≡ Some r) × (r.value.id ≡ id) × (r.stamp.epoch ≡ seen))
+    ⊎ ((d : ℕ) × (r : Stamped Status) × (c.status d ≡ Some r) × (r.value.id ≡ id) × (r.stamp.epoch ≡ seen))
+
 pub seen_is_greatest : (c : Contents) (id seen : ℕ) (group : Stamped Descriptor) → descriptor_among c all_disks id ≡ Some group → IsLastEpoch c id seen → IsGreatestEpoch c id seen
 seen_is_greatest c id seen group found last = record {
   descriptors = λ d r on its. descriptor_most d r on its;
@@ -109,19 +115,13 @@ seen_is_greatest c id seen group found last = record {
         ap (λ (o : Option (Stamped Descriptor)). epoch_of (if_passes (is_of id) o)) on ∙ passing (r.value.id == id) r (eq-eqb r.value.id id its) in
         omega (arith, is, last.most d)
 
-    One : Type 0
-    One = ((d : ℕ) × (r : Stamped Descriptor) × (c.descriptor d ≡ Some r) × (r.value.id ≡ id) × (r.stamp.epoch ≡ seen))
-        ⊎ ((d : ℕ) × (r : Stamped Status) × (c.status d ≡ Some r) × (r.value.id ≡ id) × (r.stamp.epoch ≡ seen))
-
-    of_none : seen ≡ 0 → One
-    unfolding One
+    of_none : seen ≡ 0 → IsShown c id seen
     of_none e =
         let on = found_on c id group found in
         let le = descriptor_most on.0 group on.1 on.2 in
         inl (on.0, group, on.1, on.2, omega (arith, le, e))
 
-    on_disk : (d : ℕ) → epoch_on c id d ≡ seen → One
-    unfolding One
+    on_disk : (d : ℕ) → epoch_on c id d ≡ seen → IsShown c id seen
     on_disk d e = ⊎_elim
         (λ (a : epoch_of (if_passes (is_of id) (c.descriptor d)) ≡ seen). ⊎_elim of_none
         (λ (s : (r : Stamped Descriptor) × (c.descriptor d ≡ Some r) × (is_of id r.value ≡ true) × (r.stamp.epoch ≡ seen)). inl (d, s.0, s.1, same_number s.0.value.id id s.2, s.3))
