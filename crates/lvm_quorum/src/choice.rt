@@ -24,7 +24,7 @@ pub struct Choice {
 }
 
 /// Why no group is chosen.
-#[derive(Debug, Drop)]
+#[derive(Clone, Copy, Debug, PartialEq, Eq)]
 pub enum ChooseFault {
     /// No disk's newest descriptor has the name, or no voter of a group of that name has a status.
     NoRecord,

@@ -13,3 +13,6 @@ mod shown;
 pub use choice::{Choice, ChooseFault, choose};
 pub use homes::Homes;
 pub use row::{Survey, SurveyRow};
+
+#[cfg(test)]
+mod choice_tests;
