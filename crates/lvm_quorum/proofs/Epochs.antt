@@ -70,10 +70,10 @@ shows test None seen e = inl (sym e)
 shows test (Some r) seen e = by_test test r seen (test r.value) refl e
 
 same_number : (a b : ℕ) → a == b ≡ true → a ≡ b
-same_number a b e = elim (eqb_tells a b) [ | inl same ↦ same.1 | inr differ ↦ absurd (let no = differ.0 in cc) ]
+same_number a b e = elim (eqb_tells a b) [ inl same ↦ same.1 | inr differ ↦ absurd (let no = differ.0 in cc) ]
 
 which : (a b seen : ℕ) → max a b ≡ seen → (a ≡ seen) ⊎ (b ≡ seen)
-which a b seen e = elim (cases_lt a b) [ | inl less ↦ inr (omega arith) | inr more ↦ inl (omega arith) ]
+which a b seen e = elim (cases_lt a b) [ inl less ↦ inr (omega arith) | inr more ↦ inl (omega arith) ]
 
 kept : {X : Type 0} (test : Bool) (x r : Stamped X) → (if test then Some x else None) ≡ Some r → (test ≡ true) × (Some x ≡ Some r)
 kept true x r e = (refl, e)

@@ -12,6 +12,8 @@ use std::test::Fail;
 // Six partitions of 1 MiB end with this many sectors.
 const LARGE: u64 = 16_384;
 
+const NONE: Stamp = Stamp { epoch: 0, seq: 0 };
+
 const FIRST: Stamp = Stamp { epoch: 50, seq: 2 };
 
 const LATER: Stamp = Stamp { epoch: 60, seq: 1 };
@@ -84,33 +86,33 @@ fn status(alloc: Global, id: u64, stamp: Stamp) -> Result<Status, Fail> {
 
 fn survey_of(alloc: Global, members: u16, disks: &[Disk]) -> Result<Survey, Fail> {
     let mut rows = Vec::new(alloc);
-    let mut number = 0;
-    for disk in disks {
-        let none = Stamp { epoch: 0, seq: 0 };
-        let mut row = SurveyRow {
-            disk: number,
-            failed: false,
-            sectors: disk.sectors,
-            descriptor: None,
-            descriptor_stamp: none,
-            status: None,
-            status_stamp: none,
-            note: None,
-            homes: [2, 2],
-        };
-        if let Some((id, stamp)) = disk.descriptor {
-            row.descriptor = Some(group(alloc, members, id, stamp)?);
-            row.descriptor_stamp = stamp;
-        }
-        if let Some((id, stamp)) = disk.status {
-            row.status = Some(status(alloc, id, stamp)?);
-            row.status_stamp = stamp;
-        }
-        rows.push(row)?;
-        number = (number + 1) % 128;
+    for (disk, shown) in (0..128).zip(disks) {
+        rows.push(row_of(alloc, members, disk, *shown)?)?;
     }
     Ok(Survey {
         rows: Rows::new(rows),
+    })
+}
+
+fn row_of(alloc: Global, members: u16, disk: u16, shown: Disk) -> Result<SurveyRow, Fail> {
+    let (descriptor, descriptor_stamp) = match shown.descriptor {
+        Some((id, stamp)) => (Some(group(alloc, members, id, stamp)?), stamp),
+        None => (None, NONE),
+    };
+    let (status, status_stamp) = match shown.status {
+        Some((id, stamp)) => (Some(status(alloc, id, stamp)?), stamp),
+        None => (None, NONE),
+    };
+    Ok(SurveyRow {
+        disk,
+        failed: false,
+        sectors: shown.sectors,
+        descriptor,
+        descriptor_stamp,
+        status,
+        status_stamp,
+        note: None,
+        homes: [2, 2],
     })
 }
 
@@ -156,7 +158,11 @@ fn is_status(row: &SurveyRow) -> bool
 }
 
 // What `datavg` chooses of a group of so many members, on these disks.
-fn chosen(alloc: Global, members: u16, disks: &[Disk]) -> Result<Result<Choice, ChooseFault>, Fail> {
+fn chosen(
+    alloc: Global,
+    members: u16,
+    disks: &[Disk],
+) -> Result<Result<Choice, ChooseFault>, Fail> {
     let survey = survey_of(alloc, members, disks)?;
     if !is_survey(&survey) {
         return Err("no survey".into());
@@ -222,7 +228,10 @@ fn two_groups_of_one_name_are_ambiguous(rt: HostRuntime) -> Result<(), Fail> {
     let ambiguous = Some(ChooseFault::Ambiguous);
     assert_eq!(rt; refusal(alloc, 3, &[MEMBER, MEMBER, other])?, ambiguous);
     assert_eq!(rt; refusal(alloc, 3, &[other, MEMBER, MEMBER])?, ambiguous);
-    assert_eq!(rt; refusal(alloc, 3, &[other, other])?, Some(ChooseFault::NoRecord));
+    assert_eq!(rt;
+        refusal(alloc, 3, &[other, other])?,
+        Some(ChooseFault::NoRecord)
+    );
     Ok(())
 }
 
