@@ -57,41 +57,6 @@ quorum_is c id have r enough found votes is =
     is ∙ ap (is_enough_to_read r.value) votes
     ∙ sym (ap (passes (λ (g : Descriptor). is_enough_to_read g (votes_in g (is_voter c all_disks id)))) found)
 
--- ---- by a name
-
-some_is : {X : Type 0} (a b : Option X) (x : X) → a ≡ b → a ≡ None → b ≡ Some x → ⊥
-some_is a b x same none some = cc
-
--- what is answered of the one group of a name is what is answered by the name
-pub only_one :
-    (c : Contents) (name : List ℕ) (id : ℕ) (answer : Result Choice ChooseFault) → IsNamed c name id → ((other : ℕ) → IsNamed c name other → other ≡ id) → HasRecord c name
-    → GroupGives c id answer → ChooseGives c name answer
-only_one c name id (Ok choice) named only has g = record {
-  id = id;
-  group = g.group;
-  status = g.status;
-  only = record { named = named; only = only; newest = g.newest; found = g.found };
-  quorum = g.quorum;
-  descriptor = g.descriptor;
-  newest = g.newest_status;
-  answering = g.answering;
-  seen = g.seen;
-}
-only_one c name id (Err fault.NoRecord) named only has g =
-    let same : has.id ≡ id = only has.id has.named in
-    absurd (some_is (status_among c all_disks id) (status_among c all_disks has.id) has.status (ap (status_among c all_disks) (sym same)) g has.found)
-only_one c name id (Err fault.Ambiguous) named only has g = absurd g
-only_one c name id (Err (fault.NoQuorum have total)) named only has g = record {
-  id = id;
-  group = g.group;
-  status = g.status;
-  only = record { named = named; only = only; newest = g.newest; found = g.found };
-  quorum = g.quorum;
-  have_is = g.have_is;
-  total_is = g.total_is;
-}
-only_one c name id (Err fault.Memory) named only has g = tt
-
 -- a test that says that there is none
 pub is_none : {X : Type 0} (o : Option X) → is_some o ≡ false → o ≡ None
 is_none None e = refl

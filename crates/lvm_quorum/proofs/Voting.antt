@@ -14,7 +14,7 @@ use Rattle.lvm_kept.specs.Group.{passes, is_of, has_room, members_in, descriptor
 use Rattle.lvm_quorum.specs.declared.row.SurveyRow.{SurveyRow}
 use Rattle.lvm_quorum.specs.declared.row.Survey.{Survey}
 use Rattle.lvm_quorum.specs.Surveyed.{surveyed, under}
-use Rattle.lvm_quorum.specs.Groups.{AreRows}
+use Rattle.lvm_quorum.specs.Rows.{AreRows}
 use Rattle.lvm_quorum.proofs.SurveyRows.{descriptor_shown, size_shown, descriptor_past}
 
 or_right : (a b : Bool) → b ≡ true → a || b ≡ true

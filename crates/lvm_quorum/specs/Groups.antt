@@ -1,5 +1,5 @@
 -- A group among the rows of a survey, and what is chosen of it.
-use Rattle.std.specs.Prelude.{◌≡◌, ◌≢◌, ◌⊎◌, ℕ, ◌≤◌, max, List, length, Option, Some, None, Result, Ok, Err, IsTrue, IsFalse, slice_get}
+use Rattle.std.specs.Prelude.{◌≡◌, ◌≢◌, ◌⊎◌, ℕ, ◌≤◌, max, List, Option, Some, None, Result, Ok, Err, IsTrue, IsFalse}
 use Rattle.lvm_num.specs.declared.descriptor.Descriptor.{Descriptor}
 use Rattle.lvm_num.specs.declared.status.Status.{Status}
 use Rattle.lvm_num.specs.Disks.{has}
@@ -10,16 +10,9 @@ use Rattle.lvm_kept.specs.Group.{descriptor_among, is_voter, has_quorum, status_
 use Rattle.lvm_quorum.specs.declared.choice.Choice.{Choice}
 use Rattle.lvm_quorum.specs.declared.choice.ChooseFault.{ChooseFault}
 use Rattle.lvm_quorum.specs.declared.choice.ChooseFault.TheVariants as fault
-use Rattle.lvm_quorum.specs.declared.row.SurveyRow.{SurveyRow}
-use Rattle.lvm_quorum.specs.declared.row.Survey.{Survey}
 use Rattle.lvm_quorum.specs.declared.groups.Group.{Group}
 use Rattle.lvm_quorum.specs.declared.shown.Shown.{Shown}
 use Rattle.lvm_quorum.specs.Choosing.{IsNamed, IsGreatestEpoch}
-
--- at most 128 rows, each that of the disk whose number is its place
-pub record AreRows (s : Survey) : Type 0 where
-  pub few : length s.rows ≤ 128
-  pub own : (d : ℕ) (row : SurveyRow) → slice_get s.rows d ≡ Some row → row.disk ≡ d
 
 -- a record that is shown, under its stamp
 abbrev pub stamped : {X : Type 0} → Shown X → Stamped X

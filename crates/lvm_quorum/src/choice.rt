@@ -1,7 +1,8 @@
 //! Which group a name chooses.
 ghost use Rattle.lvm_quorum.specs.Surveyed.{surveyed, IsSurveyValid};
 ghost use Rattle.lvm_quorum.specs.Choosing.{ChooseGives};
-ghost use Rattle.lvm_quorum.specs.Groups.{AreRows, GroupGives};
+ghost use Rattle.lvm_quorum.specs.Groups.{GroupGives};
+ghost use Rattle.lvm_quorum.specs.Rows.{AreRows};
 
 use crate::copies::{copy_of_descriptor, copy_of_status};
 use crate::groups::{greatest_epoch, group_of};

@@ -1,7 +1,7 @@
 ghost use Rattle.std.specs.Prelude.{IsTrue, IfSome};
 ghost use Rattle.lvm_num.specs.Descriptor.{IsValid};
 ghost use Rattle.lvm_num.specs.Status.{IsValidStatus};
-ghost use Rattle.lvm_quorum.specs.Groups.{AreRows};
+ghost use Rattle.lvm_quorum.specs.Rows.{AreRows};
 ghost use Rattle.lvm_quorum.specs.Surveyed.{IsRowValid, IsSurveyValid};
 
 use crate::{Choice, ChooseFault, Survey, SurveyRow, choose};

@@ -8,7 +8,8 @@ ghost use Rattle.lvm_num.specs.Record.{newest_below};
 ghost use Rattle.lvm_num.specs.Votes.{all_disks};
 ghost use Rattle.lvm_kept.specs.Group.{descriptor_among, members_in, if_passes, passes, is_of, is_status_of};
 ghost use Rattle.lvm_quorum.specs.Surveyed.{surveyed, under};
-ghost use Rattle.lvm_quorum.specs.Groups.{AreRows, stamped_if, IsGroup, IsLastEpoch};
+ghost use Rattle.lvm_quorum.specs.Groups.{stamped_if, IsGroup, IsLastEpoch};
+ghost use Rattle.lvm_quorum.specs.Rows.{AreRows};
 
 use crate::row::{Survey, SurveyRow};
 use crate::shown::{Shown, descriptor_of, epoch_of, newer, status_of};

@@ -4,7 +4,8 @@ ghost use Rattle.lvm_num.specs.Votes.{all_disks};
 ghost use Rattle.lvm_kept.specs.Group.{status_among};
 ghost use Rattle.lvm_quorum.specs.Surveyed.{surveyed, under};
 ghost use Rattle.lvm_quorum.specs.Choosing.{IsNamed, HasRecord, HasNoRecord};
-ghost use Rattle.lvm_quorum.specs.Groups.{AreRows, IsNamedBy};
+ghost use Rattle.lvm_quorum.specs.Groups.{IsNamedBy};
+ghost use Rattle.lvm_quorum.specs.Rows.{AreRows};
 
 use crate::groups::group_of;
 use crate::row::{Survey, SurveyRow};
