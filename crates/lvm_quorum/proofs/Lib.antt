@@ -1,0 +1,6 @@
+pub mod SurveyRows
+pub mod Folds
+pub mod Voting
+pub mod Epochs
+pub mod Naming
+pub mod Chosen

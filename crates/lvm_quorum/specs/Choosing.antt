@@ -45,7 +45,7 @@ pub record IsOnly (c : Contents) (name : List ℕ) (id : ℕ) (group : Stamped D
   pub newest : descriptor_among c all_disks id ≡ Some group
   pub found : status_among c all_disks id ≡ Some status
 
--- the epoch is that of a newest record of the group on some disk, or 0, and none of them has a greater one
+-- the epoch is that of a newest record of the group on some disk, and none of them has a greater one
 pub record IsGreatestEpoch (c : Contents) (id seen : ℕ) : Type 0 where
   pub descriptors : (d : ℕ) (r : Stamped Descriptor) → c.descriptor d ≡ Some r → r.value.id ≡ id → r.stamp.epoch ≤ seen
   pub statuses : (d : ℕ) (r : Stamped Status) → c.status d ≡ Some r → r.value.id ≡ id → r.stamp.epoch ≤ seen

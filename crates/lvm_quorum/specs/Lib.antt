@@ -1,3 +1,5 @@
 pub mod Surveyed
 pub mod Choosing
+pub mod Groups
+pub mod Rows
 pub mod Written

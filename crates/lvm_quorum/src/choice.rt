@@ -1,9 +1,14 @@
 //! Which group a name chooses.
 ghost use Rattle.lvm_quorum.specs.Surveyed.{surveyed, IsSurveyValid};
 ghost use Rattle.lvm_quorum.specs.Choosing.{ChooseGives};
+ghost use Rattle.lvm_quorum.specs.Groups.{GroupGives};
+ghost use Rattle.lvm_quorum.specs.Rows.{AreRows};
 
+use crate::copies::{copy_of_descriptor, copy_of_status};
+use crate::groups::{greatest_epoch, group_of};
+use crate::names::{first_named, has_record, other_named};
 use crate::row::Survey;
-use lvm_num::{Descriptor, DiskSet, Memory, Name, Status};
+use lvm_num::{Descriptor, DiskSet, Name, Status};
 use std::alloc::Global;
 
 /// The group that a name chooses, by the disks that answered.
@@ -20,7 +25,7 @@ pub struct Choice {
 }
 
 /// Why no group is chosen.
-#[derive(Debug, Drop)]
+#[derive(Clone, Copy, Debug, PartialEq, Eq)]
 pub enum ChooseFault {
     /// No disk's newest descriptor has the name, or no voter of a group of that name has a status.
     NoRecord,
@@ -30,4 +35,56 @@ pub enum ChooseFault {
     NoQuorum { have: u32, total: u32 },
     /// Want of memory.
     Memory,
+}
+
+/// The group that a name chooses, as the disks of a survey show it: its newest descriptor and the newest
+/// status of its voters, where they have votes enough for it to vary on. Several refusals that hold are
+/// answered by the first of `NoRecord`, `Ambiguous` and `NoQuorum`. No disk is read or written.
+pub fn choose(alloc: Global, survey: &Survey, name: Name) -> Result<Choice, ChooseFault>
+    requires rows { AreRows survey.now }
+    requires valid { IsSurveyValid survey.now }
+    ensures { ChooseGives (surveyed survey.now) name result }
+{
+    let Some(id) = first_named(survey, &name) else {
+        return Err(ChooseFault::NoRecord);
+    };
+    if !has_record(survey, &name) {
+        return Err(ChooseFault::NoRecord);
+    }
+    if other_named(survey, &name, id).is_some() {
+        return Err(ChooseFault::Ambiguous);
+    }
+    choice_of(alloc, survey, id)
+}
+
+// The group of an id, where a voter has a status and the voters have votes enough.
+fn choice_of(alloc: Global, survey: &Survey, id: u64) -> Result<Choice, ChooseFault>
+    requires rows { AreRows survey.now }
+    requires valid { IsSurveyValid survey.now }
+    ensures { GroupGives (surveyed survey.now) id result }
+{
+    let Some(group) = group_of(survey, id) else {
+        return Err(ChooseFault::NoRecord);
+    };
+    let Some(status) = group.status else {
+        return Err(ChooseFault::NoRecord);
+    };
+    let descriptor = group.descriptor.value;
+    let have = descriptor.votes_in(group.voters);
+    if !descriptor.enough_to_read(have) {
+        let total = descriptor.total_votes();
+        return Err(ChooseFault::NoQuorum { have, total });
+    }
+    let Ok(descriptor) = copy_of_descriptor(alloc, descriptor) else {
+        return Err(ChooseFault::Memory);
+    };
+    let Ok(status) = copy_of_status(alloc, status.value) else {
+        return Err(ChooseFault::Memory);
+    };
+    Ok(Choice {
+        descriptor,
+        status,
+        answering: group.voters,
+        seen: greatest_epoch(survey, id),
+    })
 }

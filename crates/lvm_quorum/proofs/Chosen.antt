@@ -1,0 +1,63 @@
+-- What is chosen of a group, and by a name.
+use Rattle.std.proofs.Common.{◌≡◌, ◌≢◌, ℕ, ◌+◌, ◌<◌, ◌≤◌, Bool, true, false, List, length, Option, Some, None, Result, Ok, Err, refl, sym, ap, subst, ◌∙◌, arith}
+use Rattle.std.specs.Prelude.{IsTrue, IsFalse, IfSome, slice_get, option_and_then, is_some, if◌then◌else◌, sum_by}
+use Rattle.lvm_num.specs.declared.descriptor.PvRow.{PvRow}
+use Rattle.lvm_num.specs.declared.descriptor.Descriptor.{Descriptor}
+use Rattle.lvm_num.specs.declared.status.Status.{Status}
+use Rattle.lvm_num.specs.Descriptor.{IsValid}
+use Rattle.lvm_num.specs.Disks.{Disks, has}
+use Rattle.lvm_num.specs.Record.{Stamped, newest_below}
+use Rattle.lvm_num.specs.Votes.{all_disks, votes_in, is_enough_to_read}
+use Rattle.lvm_kept.specs.Contents.{Contents}
+use Rattle.lvm_kept.specs.Group.{if_passes, passes, is_of, is_status_of, descriptor_among, is_voter, has_quorum, status_among, members_in}
+use Rattle.lvm_quorum.specs.declared.choice.Choice.{Choice}
+use Rattle.lvm_quorum.specs.declared.choice.ChooseFault.{ChooseFault}
+use Rattle.lvm_quorum.specs.declared.choice.ChooseFault.TheVariants as fault
+use Rattle.lvm_quorum.specs.declared.row.SurveyRow.{SurveyRow}
+use Rattle.lvm_quorum.specs.declared.row.Survey.{Survey}
+use Rattle.lvm_quorum.specs.Surveyed.{surveyed, under, IsSurveyValid}
+use Rattle.lvm_quorum.specs.Choosing.{IsNamed, HasRecord, HasNoRecord, IsChosen, LacksQuorum, ChooseGives}
+use Rattle.lvm_quorum.specs.Groups.{IsChoiceOf, LacksVotes, GroupGives}
+use Rattle.lvm_quorum.proofs.Folds.{newest_none}
+use Rattle.lvm_quorum.proofs.Voting.{no_voters}
+use Rattle.lvm_quorum.proofs.Epochs.{found_on}
+
+-- ---- a group
+
+-- what is found is valid
+pub found_valid : (s : Survey) (id : ℕ) (r : Stamped Descriptor) → IsSurveyValid s → descriptor_among (surveyed s) all_disks id ≡ Some r → IsValid r.value
+found_valid s id r valid found =
+    let on = found_on (surveyed s) id r found in on_row on.0 (slice_get s.rows on.0) refl on.1
+  where
+    shown_valid : (o : Option Descriptor) (stamp : _) → under o stamp ≡ Some r → IfSome o IsValid → IsValid r.value
+    shown_valid None stamp e v = absurd cc
+    shown_valid (Some g) stamp e v = let same : g ≡ r.value = cc in subst IsValid same v
+
+    on_row : (d : ℕ) (o : Option SurveyRow) → slice_get s.rows d ≡ o → option_and_then (λ (row : SurveyRow). under row.descriptor row.descriptor_stamp) o ≡ Some r → IsValid r.value
+    on_row d None at e = absurd cc
+    on_row d (Some row) at e = shown_valid row.descriptor row.descriptor_stamp e (valid d row at).descriptor
+
+-- without a descriptor there is no status
+pub no_status : (c : Contents) (id : ℕ) → descriptor_among c all_disks id ≡ None → status_among c all_disks id ≡ None
+unfolding status_among
+no_status c id none = newest_none (λ d. if is_voter c all_disks id d then if_passes (is_status_of id) (c.status d) else None) c.disks
+    (λ d. ap (λ (b : Bool). if b then if_passes (is_status_of id) (c.status d) else None) (no_voters c id none d))
+
+-- the newest status of a set of the voters' disks
+pub status_is : (c : Contents) (id : ℕ) (set : Disks) → ((d : ℕ) → set d ≡ is_voter c all_disks id d) → newest_below (λ d. if set d then if_passes (is_status_of id) (c.status d) else None) c.disks ≡ status_among c all_disks id
+unfolding status_among
+status_is c id set same = λ t. newest_below (λ d. if same d t then if_passes (is_status_of id) (c.status d) else None) c.disks
+
+pub votes_are : (c : Contents) (id : ℕ) (g : Descriptor) (set : Disks) → ((d : ℕ) → set d ≡ is_voter c all_disks id d) → votes_in g set ≡ votes_in g (is_voter c all_disks id)
+votes_are c id g set same = let sets : set ≡ is_voter c all_disks id = λ t d. same d t in ap (votes_in g) sets
+
+pub quorum_is : (c : Contents) (id have : ℕ) (r : Stamped Descriptor) (enough : Bool) → descriptor_among c all_disks id ≡ Some r → have ≡ votes_in r.value (is_voter c all_disks id) → enough ≡ is_enough_to_read r.value have → enough ≡ has_quorum c all_disks id
+unfolding has_quorum
+quorum_is c id have r enough found votes is =
+    is ∙ ap (is_enough_to_read r.value) votes
+    ∙ sym (ap (passes (λ (g : Descriptor). is_enough_to_read g (votes_in g (is_voter c all_disks id)))) found)
+
+-- a test that says that there is none
+pub is_none : {X : Type 0} (o : Option X) → is_some o ≡ false → o ≡ None
+is_none None e = refl
+is_none (Some x) e = absurd cc
