@@ -1,0 +1,122 @@
+//! The lines of the language: each rule reads what follows the line's first word.
+ghost use Rattle.std.specs.Prelude.{◌≡◌};
+ghost use Rattle.lvm_parse.specs.Grammar.{rd, wr, fail, heal, lspv, cut, varyonvg, varyoffvg, lsvg, rmlv, lslv};
+ghost use Rattle.lvm_parse.specs.Rests.{left};
+
+use crate::command::{Command, ParseFault};
+use crate::operands::{
+    count, disk, ends, last_disk, last_name, last_pattern, misfit, next_column, number, option, pattern,
+};
+use crate::rest::Rest;
+use crate::scan::next_word;
+
+/// `rd DISK BLOCK COUNT`
+pub fn rd(rest: Rest<'_>) -> Result<Command, ParseFault>
+    ensures { result ≡ rd (left rest.entry) }
+{
+    let (disk, rest) = disk(rest)?;
+    let (at, rest) = number(rest)?;
+    let (count, rest) = count(rest)?;
+    ends(rest, Command::RawRd { disk, at, count })
+}
+
+/// `wr DISK BLOCK COUNT WORD`
+pub fn wr(rest: Rest<'_>) -> Result<Command, ParseFault>
+    ensures { result ≡ wr (left rest.entry) }
+{
+    let (disk, rest) = disk(rest)?;
+    let (at, rest) = number(rest)?;
+    let (count, rest) = count(rest)?;
+    let (word, rest) = pattern(rest)?;
+    ends(
+        rest,
+        Command::RawWr {
+            disk,
+            at,
+            count,
+            word,
+        },
+    )
+}
+
+/// `fail DISK`
+pub fn fail(rest: Rest<'_>) -> Result<Command, ParseFault>
+    ensures { result ≡ fail (left rest.entry) }
+{
+    let disk = last_disk(rest)?;
+    Ok(Command::Fail { disk })
+}
+
+/// `heal DISK`
+pub fn heal(rest: Rest<'_>) -> Result<Command, ParseFault>
+    ensures { result ≡ heal (left rest.entry) }
+{
+    let disk = last_disk(rest)?;
+    Ok(Command::Heal { disk })
+}
+
+/// `lspv DISK`
+pub fn lspv(rest: Rest<'_>) -> Result<Command, ParseFault>
+    ensures { result ≡ lspv (left rest.entry) }
+{
+    let disk = last_disk(rest)?;
+    Ok(Command::Lspv { disk })
+}
+
+/// `cut [WORD]`
+pub fn cut(rest: Rest<'_>) -> Result<Command, ParseFault>
+    ensures { result ≡ cut (left rest.entry) }
+{
+    if next_word(rest).is_none() {
+        return Ok(Command::Cut { word: 0 });
+    }
+    let word = last_pattern(rest)?;
+    Ok(Command::Cut { word })
+}
+
+/// `varyonvg [-n] NAME`
+pub fn varyonvg(rest: Rest<'_>) -> Result<Command, ParseFault>
+    ensures { result ≡ varyonvg (left rest.entry) }
+{
+    let (_, rest) = option(rest, b"-n");
+    let name = last_name(rest)?;
+    Ok(Command::Varyon { name })
+}
+
+/// `varyoffvg NAME`
+pub fn varyoffvg(rest: Rest<'_>) -> Result<Command, ParseFault>
+    ensures { result ≡ varyoffvg (left rest.entry) }
+{
+    let name = last_name(rest)?;
+    Ok(Command::Varyoff { name })
+}
+
+/// `lsvg [-l] NAME`
+pub fn lsvg(rest: Rest<'_>) -> Result<Command, ParseFault>
+    ensures { result ≡ lsvg (left rest.entry) }
+{
+    let (volumes, rest) = option(rest, b"-l");
+    let name = last_name(rest)?;
+    Ok(Command::Lsvg { volumes, name })
+}
+
+/// `rmlv [-f] NAME`
+pub fn rmlv(rest: Rest<'_>) -> Result<Command, ParseFault>
+    ensures { result ≡ rmlv (left rest.entry) }
+{
+    let (_, rest) = option(rest, b"-f");
+    let name = last_name(rest)?;
+    Ok(Command::Rmlv { name })
+}
+
+/// `lslv -m NAME`
+pub fn lslv(rest: Rest<'_>) -> Result<Command, ParseFault>
+    ensures { result ≡ lslv (left rest.entry) }
+{
+    let (map, rest) = option(rest, b"-m");
+    if !map {
+        return Err(misfit(next_column(rest)));
+    }
+    let name = last_name(rest)?;
+    Ok(Command::Lslv { name })
+}
