@@ -1,15 +1,15 @@
 -- The lines of the language: each rule says what follows the line's first word.
-use Rattle.std.specs.Prelude.{◌≡◌, ℕ, Bool, true, false, ◌&&◌, not, if◌then◌else◌, List, [], ◌∷◌, Option, Some, None, is_none, unwrap_or, Result, Ok, Err, codes, bytes_eq}
+use Rattle.std.specs.Prelude.{◌≡◌, ℕ, Bool, true, false, if◌then◌else◌, List, [], ◌∷◌, Option, Some, None, is_some, unwrap_or, Result, Ok, Err, codes, bytes_eq}
 use Rattle.std.specs.Option.{option_map}
 use Rattle.lvm_num.specs.declared.descriptor.Policy.TheVariants as policy
 use Rattle.lvm_parse.specs.declared.command.Command.{Command}
 use Rattle.lvm_parse.specs.declared.command.Command.TheVariants as command
 use Rattle.lvm_parse.specs.declared.command.ParseFault.{ParseFault}
-use Rattle.lvm_parse.specs.declared.options.MkvgOptions.{MkvgOptions}
-use Rattle.lvm_parse.specs.declared.options.MklvOptions.{MklvOptions}
+use Rattle.lvm_parse.specs.declared.chosen.MkvgOptions.{MkvgOptions}
+use Rattle.lvm_parse.specs.declared.chosen.MklvOptions.{MklvOptions}
 use Rattle.lvm_parse.specs.Line.{WordAt, Left, left_at, unreadable_at, is_remark}
 use Rattle.lvm_parse.specs.Words.{number_in, count_in, partitions_in, copies_in, size_in, word_in, name_in, disk_in, mode_in, policy_in}
-use Rattle.lvm_parse.specs.Reading.{misfit, then_, next_column, operand, option, ends, last, Choice, NoOption, Alone, Valued, options, required, disks}
+use Rattle.lvm_parse.specs.Reading.{misfit, then_, next_column, operand, option, ends, last, Choice, NoOption, Alone, Valued, is_new, options, required, disks}
 
 -- ---- disks
 
@@ -46,9 +46,9 @@ cut l = cut_of l.words l
 -- the options of `mkvg`, of which `-y NAME` must stand
 abbrev pub mkvg_choice : MkvgOptions → List ℕ → Choice MkvgOptions
 mkvg_choice o word =
-    if bytes_eq word (codes "-f") && not o.force then Alone (record o { force = true })
-    else (if bytes_eq word (codes "-y") && is_none o.name then Valued (λ value. option_map (λ name. record o { name = Some name }) (name_in value))
-    else (if bytes_eq word (codes "-s") && is_none o.mib then Valued (λ value. option_map (λ mib. record o { mib = Some mib }) (size_in value))
+    if is_new word (codes "-f") o.force then Alone (record o { force = true })
+    else (if is_new word (codes "-y") (is_some o.name) then Valued (λ value. option_map (λ name. record o { name = Some name }) (name_in value))
+    else (if is_new word (codes "-s") (is_some o.mib) then Valued (λ value. option_map (λ mib. record o { mib = Some mib }) (size_in value))
     else NoOption))
 
 abbrev pub no_mkvg_options : MkvgOptions
@@ -75,10 +75,10 @@ lsvg l = let volumes = option (codes "-l") l in then_ (last name_in volumes.1) (
 -- the options of `mklv`, of which `-y NAME` and `-w n` must stand
 abbrev pub mklv_choice : MklvOptions → List ℕ → Choice MklvOptions
 mklv_choice o word =
-    if bytes_eq word (codes "-y") && is_none o.name then Valued (λ value. option_map (λ name. record o { name = Some name }) (name_in value))
-    else (if bytes_eq word (codes "-c") && is_none o.copies then Valued (λ value. option_map (λ copies. record o { copies = Some copies }) (copies_in value))
-    else (if bytes_eq word (codes "-w") && is_none o.mode then Valued (λ value. option_map (λ mode. record o { mode = Some mode }) (mode_in value))
-    else (if bytes_eq word (codes "-d") && is_none o.policy then Valued (λ value. option_map (λ policy. record o { policy = Some policy }) (policy_in value))
+    if is_new word (codes "-y") (is_some o.name) then Valued (λ value. option_map (λ name. record o { name = Some name }) (name_in value))
+    else (if is_new word (codes "-c") (is_some o.copies) then Valued (λ value. option_map (λ copies. record o { copies = Some copies }) (copies_in value))
+    else (if is_new word (codes "-w") (is_some o.mode) then Valued (λ value. option_map (λ mode. record o { mode = Some mode }) (mode_in value))
+    else (if is_new word (codes "-d") (is_some o.policy) then Valued (λ value. option_map (λ policy. record o { policy = Some policy }) (policy_in value))
     else NoOption)))
 
 abbrev pub no_mklv_options : MklvOptions
@@ -86,7 +86,7 @@ no_mklv_options = record { name = None; copies = None; mode = None; policy = Non
 
 -- `mklv -y NAME [-c N] -w n [-d p, s, ps or pr] NAME LPS`; one copy and `p` where they aren't given
 abbrev pub mklv : Left → Result Command ParseFault
-mklv l = then_ (options mklv_choice no_mklv_options l) (λ o. then_ (required o.0.name o.1) (λ name. then_ (required o.0.mode o.1) (λ mode. then_ (operand name_in o.1) (λ group. then_ (operand partitions_in group.1) (λ lps. ends lps.1 (command.Mklv name (unwrap_or o.0.copies 1) mode (unwrap_or o.0.policy policy.Parallel) group.0 lps.0))))))
+mklv l = then_ (options mklv_choice no_mklv_options l) (λ o. then_ (required o.0.name o.1) (λ name. then_ (required o.0.mode o.1) (λ mode. then_ (operand name_in o.1) (λ group. then_ (last partitions_in group.1) (λ lps. Ok (command.Mklv name (unwrap_or o.0.copies 1) mode (unwrap_or o.0.policy policy.Parallel) group.0 lps))))))
 
 -- `rmlv [-f] NAME`
 abbrev pub rmlv : Left → Result Command ParseFault

@@ -67,6 +67,10 @@ pub data Choice (O : Type 0) : Type 0 where
   -- an option whose value is the next word
   Valued : (List ℕ → Option O) → Choice O
 
+-- the word is this option, which didn't stand before
+unfoldable pub is_new : List ℕ → List ℕ → Bool → Bool
+is_new word name stood = bytes_eq word name && not stood
+
 -- the options at the front, each at most once, and what is left behind them
 abbrev pub options_of : {O : Type 0} → (O → List ℕ → Choice O) → O → List WordAt → ℕ → Result (O × Left) ParseFault
 options_of choice o [] end = Ok (o, record { words = []; end = end })
@@ -96,12 +100,15 @@ is_further disks disk = not (list_any (λ other. other == disk) disks) && nat_lt
 abbrev pub further_disk : List ℕ → List ℕ → Option ℕ
 further_disk disks word = only (is_further disks) (disk_in word)
 
--- the disks that the words name behind these, all different, to the end of the line
-abbrev pub disks_of : List ℕ → List WordAt → ℕ → Result (List ℕ) ParseFault
-disks_of [] [] end = misfit end
-disks_of (d ∷ disks) [] end = Ok (d ∷ disks)
-disks_of disks (w ∷ words) end = then_ (or_misfit (further_disk disks w.bytes) w.column) (λ disk. disks_of (disks ++ disk ∷ []) words end)
+-- one disk or more
+abbrev pub one_or_more : List ℕ → ℕ → Result (List ℕ) ParseFault
+one_or_more [] end = misfit end
+one_or_more (d ∷ disks) end = Ok (d ∷ disks)
 
--- one disk or more, all different, and nothing behind them
+-- these disks and those that the words name, all different, to the end of the line
+abbrev pub disks_of : List ℕ → List WordAt → ℕ → Result (List ℕ) ParseFault
+disks_of before [] end = one_or_more before end
+disks_of before (w ∷ words) end = then_ (or_misfit (further_disk before w.bytes) w.column) (λ disk. disks_of (before ++ disk ∷ []) words end)
+
 unfoldable pub disks : List ℕ → Left → Result (List ℕ) ParseFault
 disks before l = disks_of before l.words l.end

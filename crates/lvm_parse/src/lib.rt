@@ -1,9 +1,12 @@
 //! The lines of a script: what each asks for, or the column at which it isn't in the language.
 #![tactic(auto)]
 
+mod chosen;
 mod command;
+mod disks;
 mod operands;
 mod options;
+mod parse;
 mod rest;
 mod rules;
 mod scan;

@@ -193,6 +193,14 @@ pub fn last_name(rest: Rest<'_>) -> Result<Name, ParseFault>
     }
 }
 
+/// LPS, and the line ends.
+pub fn last_partitions(rest: Rest<'_>) -> Result<u32, ParseFault>
+    ensures { result ≡ last partitions_in (left rest.entry) }
+{
+    let (partitions, rest) = partitions(rest)?;
+    ends(rest, partitions)
+}
+
 /// WORD, and the line ends.
 pub fn last_pattern(rest: Rest<'_>) -> Result<u64, ParseFault>
     ensures { result ≡ last word_in (left rest.entry) }

@@ -1,14 +1,19 @@
 //! The lines of the language: each rule reads what follows the line's first word.
 ghost use Rattle.std.specs.Prelude.{◌≡◌};
-ghost use Rattle.lvm_parse.specs.Grammar.{rd, wr, fail, heal, lspv, cut, varyonvg, varyoffvg, lsvg, rmlv, lslv};
-ghost use Rattle.lvm_parse.specs.Rests.{left};
+ghost use Rattle.lvm_parse.specs.Grammar.{rd, wr, fail, heal, lspv, cut, mkvg, varyonvg, varyoffvg, lsvg, mklv, rmlv, lslv};
+ghost use Rattle.lvm_parse.specs.Rests.{left, Answers};
 
+use crate::chosen::{MklvOptions, MkvgOptions};
 use crate::command::{Command, ParseFault};
+use crate::disks::disks;
 use crate::operands::{
-    count, disk, ends, last_disk, last_name, last_pattern, misfit, next_column, number, option, pattern,
+    count, disk, ends, last_disk, last_name, last_partitions, last_pattern, misfit, name, next_column, number, option, pattern,
 };
+use crate::options::{mklv_options, mkvg_options};
 use crate::rest::Rest;
 use crate::scan::next_word;
+use lvm_num::{Policy, Rows};
+use std::alloc::Global;
 
 /// `rd DISK BLOCK COUNT`
 pub fn rd(rest: Rest<'_>) -> Result<Command, ParseFault>
@@ -119,4 +124,59 @@ pub fn lslv(rest: Rest<'_>) -> Result<Command, ParseFault>
     }
     let name = last_name(rest)?;
     Ok(Command::Lslv { name })
+}
+
+/// `mkvg [-f] -y NAME [-s MIB] DISK ..`
+pub fn mkvg(alloc: Global, rest: Rest<'_>) -> Result<Command, ParseFault>
+    ensures { Answers (mkvg (left rest.entry)) result }
+{
+    let mut options = MkvgOptions {
+        force: false,
+        name: None,
+        mib: None,
+    };
+    let rest = mkvg_options(&mut options, rest)?;
+    let Some(name) = options.name else {
+        return Err(misfit(next_column(rest)));
+    };
+    let disks = disks(rest)?;
+    match Vec::from_slice(alloc, disks.as_slice()) {
+        Ok(disks) => Ok(Command::Mkvg {
+            force: options.force,
+            name,
+            mib: options.mib,
+            disks: Rows::new(disks),
+        }),
+        Err(_) => Err(ParseFault::Memory),
+    }
+}
+
+/// `mklv -y NAME [-c N] -w n [-d p, s, ps or pr] NAME LPS`
+pub fn mklv(rest: Rest<'_>) -> Result<Command, ParseFault>
+    ensures { result ≡ mklv (left rest.entry) }
+{
+    let mut options = MklvOptions {
+        name: None,
+        copies: None,
+        mode: None,
+        policy: None,
+    };
+    let rest = mklv_options(&mut options, rest)?;
+    let (Some(volume), Some(mode)) = (options.name, options.mode) else {
+        return Err(misfit(next_column(rest)));
+    };
+    match name(rest) {
+        Ok((group, rest)) => {
+            let lps = last_partitions(rest)?;
+            Ok(Command::Mklv {
+                name: volume,
+                copies: options.copies.unwrap_or(1),
+                mode,
+                policy: options.policy.unwrap_or(Policy::Parallel),
+                group,
+                lps,
+            })
+        }
+        Err(fault) => Err(fault),
+    }
 }
