@@ -1,7 +1,7 @@
 -- What options in any order and a row of disks are where the next word is known.
 use Rattle.std.proofs.Common.{◌≡◌, ℕ, ◌+◌, ◌<◌, Bool, true, false, cond, List, [], ◌∷◌, ◌++◌, length, Option, Some, None, Result, Ok, Err, refl, sym, ◌∙◌, ap, arith}
 use Rattle.std.specs.Option.{option_map}
-use Rattle.lvm_parse.specs.declared.command.ParseFault.{ParseFault}
+use Rattle.lvm_parse.specs.declared.rest.Misfit.{Misfit}
 use Rattle.lvm_parse.specs.Line.{WordAt, Left}
 use Rattle.lvm_parse.specs.Reading.{misfit, then_, or_misfit, operand_of, operand, Choice, NoOption, Alone, Valued, options_of, options, further_disk, one_or_more, disks_of, disks}
 use Rattle.lvm_parse.specs.Rests.{with_word}
@@ -64,13 +64,13 @@ operand_map {T} {O} f meaning l = at l.words
 pub value_fits : {T O : Type 0} (choice : O → List ℕ → Choice O) (o : O) (f : T → O) (meaning : List ℕ → Option T) (l : Left) (w : WordAt) (rest : Left) (value : T) (behind : Left) → l ≡ with_word w rest → choice o w.bytes ≡ Valued (λ word. option_map f (meaning word)) → operand meaning rest ≡ Ok (value, behind) → options choice o l ≡ options choice (f value) behind
 value_fits {T} {O} choice o f meaning l w rest value behind is valued fits =
     options_valued choice o (λ word. option_map f (meaning word)) l w rest is valued
-    ∙ ap (λ (r : Result (O × Left) ParseFault). then_ r (λ r. options choice r.0 r.1)) (operand_map f meaning rest ∙ ap (λ (r : Result (T × Left) ParseFault). then_ r (λ r. Ok (f r.0, r.1))) fits)
+    ∙ ap (λ (r : Result (O × Left) Misfit). then_ r (λ r. options choice r.0 r.1)) (operand_map f meaning rest ∙ ap (λ (r : Result (T × Left) Misfit). then_ r (λ r. Ok (f r.0, r.1))) fits)
 
 -- the value doesn't fit
-pub value_misfits : {T O : Type 0} (choice : O → List ℕ → Choice O) (o : O) (f : T → O) (meaning : List ℕ → Option T) (l : Left) (w : WordAt) (rest : Left) (fault : ParseFault) → l ≡ with_word w rest → choice o w.bytes ≡ Valued (λ word. option_map f (meaning word)) → operand meaning rest ≡ Err fault → options choice o l ≡ Err fault
+pub value_misfits : {T O : Type 0} (choice : O → List ℕ → Choice O) (o : O) (f : T → O) (meaning : List ℕ → Option T) (l : Left) (w : WordAt) (rest : Left) (fault : Misfit) → l ≡ with_word w rest → choice o w.bytes ≡ Valued (λ word. option_map f (meaning word)) → operand meaning rest ≡ Err fault → options choice o l ≡ Err fault
 value_misfits {T} {O} choice o f meaning l w rest fault is valued misfits =
     options_valued choice o (λ word. option_map f (meaning word)) l w rest is valued
-    ∙ ap (λ (r : Result (O × Left) ParseFault). then_ r (λ r. options choice r.0 r.1)) (operand_map f meaning rest ∙ ap (λ (r : Result (T × Left) ParseFault). then_ r (λ r. Ok (f r.0, r.1))) misfits)
+    ∙ ap (λ (r : Result (O × Left) Misfit). then_ r (λ r. options choice r.0 r.1)) (operand_map f meaning rest ∙ ap (λ (r : Result (T × Left) Misfit). then_ r (λ r. Ok (f r.0, r.1))) misfits)
 
 -- an operand takes its word
 pub operand_shortens : {T : Type 0} (meaning : List ℕ → Option T) (l : Left) (value : T) (rest : Left) → operand meaning l ≡ Ok (value, rest) → length rest.words < length l.words

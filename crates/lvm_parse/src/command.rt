@@ -1,5 +1,8 @@
 //! What a line asks for.
 
+ghost use Rattle.std.specs.Prelude.{◌≡◌};
+
+use crate::rest::Misfit;
 use lvm_num::{Mode, Name, Policy, Rows};
 
 /// What a line asks for. Blocks are of 512 bytes and counted from 0; a disk is its number, 0 to 127.
@@ -65,4 +68,14 @@ pub enum ParseFault {
     BadLine { column: u32 },
     /// Want of memory for the disks of a `mkvg`.
     Memory,
+}
+
+impl From<Misfit> for ParseFault {
+    ghost from_gives = { λ misfit fault. fault ≡ ParseFault.BadLine misfit.column };
+
+    fn from(misfit: Misfit) -> ParseFault {
+        ParseFault::BadLine {
+            column: misfit.column,
+        }
+    }
 }

@@ -3,9 +3,8 @@ ghost use Rattle.std.specs.Prelude.{◌≡◌, ◌<◌, [], length, IfSome, Matc
 ghost use Rattle.lvm_parse.specs.Reading.{further_disk, disks};
 ghost use Rattle.lvm_parse.specs.Rests.{left};
 
-use crate::command::ParseFault;
 use crate::operands::misfit;
-use crate::rest::Rest;
+use crate::rest::{Misfit, Rest};
 use crate::scan::next_word;
 use crate::words::disk_of;
 use arrayvec::ArrayVec;
@@ -26,8 +25,8 @@ fn further_disk(disks: &[u16], word: &[u8]) -> Option<u16>
 }
 
 /// DISK ..: one disk or more, all different, and the line ends.
-pub fn disks(rest: Rest<'_>) -> Result<ArrayVec<u16, 128>, ParseFault>
-    ensures { MatchResult result (λ found. disks [] (left rest.entry) ≡ Ok found.items) (λ fault. disks [] (left rest.entry) ≡ Err fault) }
+pub fn disks(rest: Rest<'_>) -> Result<ArrayVec<u16, 128>, Misfit>
+    ensures { MatchResult result (λ found. disks [] (left rest.entry) ≡ Ok found.items) (λ misfit. disks [] (left rest.entry) ≡ Err misfit) }
 {
     let mut found = ArrayVec::new();
     let mut rest = rest;

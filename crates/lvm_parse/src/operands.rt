@@ -4,22 +4,21 @@ ghost use Rattle.lvm_parse.specs.Words.{disk_in, number_in, count_in, word_in, n
 ghost use Rattle.lvm_parse.specs.Reading.{next_column, operand, option, ends, last};
 ghost use Rattle.lvm_parse.specs.Rests.{left, word_at, with_word, Reads};
 
-use crate::command::ParseFault;
-use crate::rest::{Rest, Word};
+use crate::rest::{Misfit, Rest, Word};
 use crate::scan::next_word;
 use crate::words::{copies_of, count_of, disk_of, hex_word, mode_of, name_of, number_of, partitions_of, policy_of, size_of};
 use lvm_num::{Mode, Name, Policy};
 
 /// The words from a column on don't fit.
-pub fn misfit(column: u32) -> ParseFault
-    ensures { result ≡ ParseFault.BadLine column }
+pub fn misfit(column: u32) -> Misfit
+    ensures { result ≡ record { column = column } }
 {
-    ParseFault::BadLine { column }
+    Misfit { column }
 }
 
 /// The next word and what follows it.
-pub fn word(rest: Rest<'_>) -> Result<(Word<'_>, Rest<'_>), ParseFault>
-    ensures { MatchResult result (λ r. left rest.entry ≡ with_word (word_at r.0) (left r.1)) (λ fault. ((left rest.entry).words ≡ []) × (fault ≡ ParseFault.BadLine (left rest.entry).end)) }
+pub fn word(rest: Rest<'_>) -> Result<(Word<'_>, Rest<'_>), Misfit>
+    ensures { MatchResult result (λ r. left rest.entry ≡ with_word (word_at r.0) (left r.1)) (λ misfit. ((left rest.entry).words ≡ []) × (misfit ≡ record { column = (left rest.entry).end })) }
 {
     match next_word(rest) {
         Some(split) => Ok(split),
@@ -29,7 +28,7 @@ pub fn word(rest: Rest<'_>) -> Result<(Word<'_>, Rest<'_>), ParseFault>
 
 /// DISK: the number of a disk.
 #[tactic(auto, using(crate::proofs::NextWord::operand_lacks))]
-pub fn disk(rest: Rest<'_>) -> Result<(u16, Rest<'_>), ParseFault>
+pub fn disk(rest: Rest<'_>) -> Result<(u16, Rest<'_>), Misfit>
     ensures { Reads (operand disk_in (left rest.entry)) result }
 {
     let (word, rest) = word(rest)?;
@@ -41,7 +40,7 @@ pub fn disk(rest: Rest<'_>) -> Result<(u16, Rest<'_>), ParseFault>
 
 /// BLOCK: a number.
 #[tactic(auto, using(crate::proofs::NextWord::operand_lacks))]
-pub fn number(rest: Rest<'_>) -> Result<(u64, Rest<'_>), ParseFault>
+pub fn number(rest: Rest<'_>) -> Result<(u64, Rest<'_>), Misfit>
     ensures { Reads (operand number_in (left rest.entry)) result }
 {
     let (word, rest) = word(rest)?;
@@ -53,7 +52,7 @@ pub fn number(rest: Rest<'_>) -> Result<(u64, Rest<'_>), ParseFault>
 
 /// COUNT: how many blocks.
 #[tactic(auto, using(crate::proofs::NextWord::operand_lacks))]
-pub fn count(rest: Rest<'_>) -> Result<(u32, Rest<'_>), ParseFault>
+pub fn count(rest: Rest<'_>) -> Result<(u32, Rest<'_>), Misfit>
     ensures { Reads (operand count_in (left rest.entry)) result }
 {
     let (word, rest) = word(rest)?;
@@ -65,7 +64,7 @@ pub fn count(rest: Rest<'_>) -> Result<(u32, Rest<'_>), ParseFault>
 
 /// WORD: what blocks are filled with, or which sectors a cut keeps.
 #[tactic(auto, using(crate::proofs::NextWord::operand_lacks))]
-pub fn pattern(rest: Rest<'_>) -> Result<(u64, Rest<'_>), ParseFault>
+pub fn pattern(rest: Rest<'_>) -> Result<(u64, Rest<'_>), Misfit>
     ensures { Reads (operand word_in (left rest.entry)) result }
 {
     let (word, rest) = word(rest)?;
@@ -77,7 +76,7 @@ pub fn pattern(rest: Rest<'_>) -> Result<(u64, Rest<'_>), ParseFault>
 
 /// NAME: the name of a group or of a volume.
 #[tactic(auto, using(crate::proofs::NextWord::operand_lacks))]
-pub fn name(rest: Rest<'_>) -> Result<(Name, Rest<'_>), ParseFault>
+pub fn name(rest: Rest<'_>) -> Result<(Name, Rest<'_>), Misfit>
     ensures { Reads (operand name_in (left rest.entry)) result }
 {
     let (word, rest) = word(rest)?;
@@ -89,7 +88,7 @@ pub fn name(rest: Rest<'_>) -> Result<(Name, Rest<'_>), ParseFault>
 
 /// LPS: how many logical partitions.
 #[tactic(auto, using(crate::proofs::NextWord::operand_lacks))]
-pub fn partitions(rest: Rest<'_>) -> Result<(u32, Rest<'_>), ParseFault>
+pub fn partitions(rest: Rest<'_>) -> Result<(u32, Rest<'_>), Misfit>
     ensures { Reads (operand partitions_in (left rest.entry)) result }
 {
     let (word, rest) = word(rest)?;
@@ -101,7 +100,7 @@ pub fn partitions(rest: Rest<'_>) -> Result<(u32, Rest<'_>), ParseFault>
 
 /// MIB: the size of a partition.
 #[tactic(auto, using(crate::proofs::NextWord::operand_lacks))]
-pub fn size(rest: Rest<'_>) -> Result<(u16, Rest<'_>), ParseFault>
+pub fn size(rest: Rest<'_>) -> Result<(u16, Rest<'_>), Misfit>
     ensures { Reads (operand size_in (left rest.entry)) result }
 {
     let (word, rest) = word(rest)?;
@@ -113,7 +112,7 @@ pub fn size(rest: Rest<'_>) -> Result<(u16, Rest<'_>), ParseFault>
 
 /// N: how many copies.
 #[tactic(auto, using(crate::proofs::NextWord::operand_lacks))]
-pub fn copies(rest: Rest<'_>) -> Result<(u8, Rest<'_>), ParseFault>
+pub fn copies(rest: Rest<'_>) -> Result<(u8, Rest<'_>), Misfit>
     ensures { Reads (operand copies_in (left rest.entry)) result }
 {
     let (word, rest) = word(rest)?;
@@ -125,7 +124,7 @@ pub fn copies(rest: Rest<'_>) -> Result<(u8, Rest<'_>), ParseFault>
 
 /// The mode of a volume.
 #[tactic(auto, using(crate::proofs::NextWord::operand_lacks))]
-pub fn mode(rest: Rest<'_>) -> Result<(Mode, Rest<'_>), ParseFault>
+pub fn mode(rest: Rest<'_>) -> Result<(Mode, Rest<'_>), Misfit>
     ensures { Reads (operand mode_in (left rest.entry)) result }
 {
     let (word, rest) = word(rest)?;
@@ -137,7 +136,7 @@ pub fn mode(rest: Rest<'_>) -> Result<(Mode, Rest<'_>), ParseFault>
 
 /// The policy of a volume.
 #[tactic(auto, using(crate::proofs::NextWord::operand_lacks))]
-pub fn policy(rest: Rest<'_>) -> Result<(Policy, Rest<'_>), ParseFault>
+pub fn policy(rest: Rest<'_>) -> Result<(Policy, Rest<'_>), Misfit>
     ensures { Reads (operand policy_in (left rest.entry)) result }
 {
     let (word, rest) = word(rest)?;
@@ -166,7 +165,7 @@ pub fn option<'a>(rest: Rest<'a>, name: &[u8]) -> (bool, Rest<'a>)
 
 /// The line ends here, so that it is this.
 #[tactic(auto, using(crate::proofs::NextWord::ends_here))]
-pub fn ends<T: Drop>(rest: Rest<'_>, value: T) -> Result<T, ParseFault>
+pub fn ends<T: Drop>(rest: Rest<'_>, value: T) -> Result<T, Misfit>
     ensures { result ≡ ends (left rest.entry) value }
 {
     match next_word(rest) {
@@ -176,7 +175,7 @@ pub fn ends<T: Drop>(rest: Rest<'_>, value: T) -> Result<T, ParseFault>
 }
 
 /// DISK, and the line ends.
-pub fn last_disk(rest: Rest<'_>) -> Result<u16, ParseFault>
+pub fn last_disk(rest: Rest<'_>) -> Result<u16, Misfit>
     ensures { result ≡ last disk_in (left rest.entry) }
 {
     let (disk, rest) = disk(rest)?;
@@ -184,17 +183,17 @@ pub fn last_disk(rest: Rest<'_>) -> Result<u16, ParseFault>
 }
 
 /// NAME, and the line ends.
-pub fn last_name(rest: Rest<'_>) -> Result<Name, ParseFault>
+pub fn last_name(rest: Rest<'_>) -> Result<Name, Misfit>
     ensures { result ≡ last name_in (left rest.entry) }
 {
     match name(rest) {
         Ok((name, rest)) => ends(rest, name),
-        Err(fault) => Err(fault),
+        Err(misfit) => Err(misfit),
     }
 }
 
 /// LPS, and the line ends.
-pub fn last_partitions(rest: Rest<'_>) -> Result<u32, ParseFault>
+pub fn last_partitions(rest: Rest<'_>) -> Result<u32, Misfit>
     ensures { result ≡ last partitions_in (left rest.entry) }
 {
     let (partitions, rest) = partitions(rest)?;
@@ -202,7 +201,7 @@ pub fn last_partitions(rest: Rest<'_>) -> Result<u32, ParseFault>
 }
 
 /// WORD, and the line ends.
-pub fn last_pattern(rest: Rest<'_>) -> Result<u64, ParseFault>
+pub fn last_pattern(rest: Rest<'_>) -> Result<u64, Misfit>
     ensures { result ≡ last word_in (left rest.entry) }
 {
     let (pattern, rest) = pattern(rest)?;

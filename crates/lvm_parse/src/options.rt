@@ -5,9 +5,8 @@ ghost use Rattle.lvm_parse.specs.Grammar.{mkvg_choice, no_mkvg_options, mklv_cho
 ghost use Rattle.lvm_parse.specs.Rests.{left, ReadsOption, ReadsOptions};
 
 use crate::chosen::{MklvOptions, MkvgOptions};
-use crate::command::ParseFault;
 use crate::operands::{copies, mode, name, policy, size};
-use crate::rest::Rest;
+use crate::rest::{Misfit, Rest};
 use crate::scan::next_word;
 
 // The word is this option, which didn't stand before.
@@ -19,7 +18,7 @@ fn is_new(word: &[u8], name: &[u8], stood: bool) -> bool
 }
 
 // Reads the next option of a `mkvg`, if one is next; what follows it.
-fn mkvg_option<'a>(options: &mut MkvgOptions, rest: Rest<'a>) -> Result<Option<Rest<'a>>, ParseFault>
+fn mkvg_option<'a>(options: &mut MkvgOptions, rest: Rest<'a>) -> Result<Option<Rest<'a>>, Misfit>
     ensures { ReadsOption mkvg_choice options.old options.new (left rest.entry) result }
 {
     let Some((word, behind)) = next_word(rest) else {
@@ -35,7 +34,7 @@ fn mkvg_option<'a>(options: &mut MkvgOptions, rest: Rest<'a>) -> Result<Option<R
                 options.name = Some(name);
                 Ok(Some(behind))
             }
-            Err(fault) => Err(fault),
+            Err(misfit) => Err(misfit),
         };
     }
     if is_new(word.bytes, b"-s", options.mib.is_some()) {
@@ -44,14 +43,14 @@ fn mkvg_option<'a>(options: &mut MkvgOptions, rest: Rest<'a>) -> Result<Option<R
                 options.mib = Some(mib);
                 Ok(Some(behind))
             }
-            Err(fault) => Err(fault),
+            Err(misfit) => Err(misfit),
         };
     }
     Ok(None)
 }
 
 /// Reads the options of a `mkvg`; what follows them.
-pub fn mkvg_options<'a>(options: &mut MkvgOptions, rest: Rest<'a>) -> Result<Rest<'a>, ParseFault>
+pub fn mkvg_options<'a>(options: &mut MkvgOptions, rest: Rest<'a>) -> Result<Rest<'a>, Misfit>
     ensures { ReadsOptions mkvg_choice options.old options.new (left rest.entry) result }
 {
     let mut rest = rest;
@@ -62,7 +61,7 @@ pub fn mkvg_options<'a>(options: &mut MkvgOptions, rest: Rest<'a>) -> Result<Res
 }
 
 // Reads the next option of a `mklv`, if one is next; what follows it.
-fn mklv_option<'a>(options: &mut MklvOptions, rest: Rest<'a>) -> Result<Option<Rest<'a>>, ParseFault>
+fn mklv_option<'a>(options: &mut MklvOptions, rest: Rest<'a>) -> Result<Option<Rest<'a>>, Misfit>
     ensures { ReadsOption mklv_choice options.old options.new (left rest.entry) result }
 {
     let Some((word, behind)) = next_word(rest) else {
@@ -74,7 +73,7 @@ fn mklv_option<'a>(options: &mut MklvOptions, rest: Rest<'a>) -> Result<Option<R
                 options.name = Some(name);
                 Ok(Some(behind))
             }
-            Err(fault) => Err(fault),
+            Err(misfit) => Err(misfit),
         };
     }
     if is_new(word.bytes, b"-c", options.copies.is_some()) {
@@ -83,7 +82,7 @@ fn mklv_option<'a>(options: &mut MklvOptions, rest: Rest<'a>) -> Result<Option<R
                 options.copies = Some(copies);
                 Ok(Some(behind))
             }
-            Err(fault) => Err(fault),
+            Err(misfit) => Err(misfit),
         };
     }
     if is_new(word.bytes, b"-w", options.mode.is_some()) {
@@ -92,7 +91,7 @@ fn mklv_option<'a>(options: &mut MklvOptions, rest: Rest<'a>) -> Result<Option<R
                 options.mode = Some(mode);
                 Ok(Some(behind))
             }
-            Err(fault) => Err(fault),
+            Err(misfit) => Err(misfit),
         };
     }
     if is_new(word.bytes, b"-d", options.policy.is_some()) {
@@ -101,14 +100,14 @@ fn mklv_option<'a>(options: &mut MklvOptions, rest: Rest<'a>) -> Result<Option<R
                 options.policy = Some(policy);
                 Ok(Some(behind))
             }
-            Err(fault) => Err(fault),
+            Err(misfit) => Err(misfit),
         };
     }
     Ok(None)
 }
 
 /// Reads the options of a `mklv`; what follows them.
-pub fn mklv_options<'a>(options: &mut MklvOptions, rest: Rest<'a>) -> Result<Rest<'a>, ParseFault>
+pub fn mklv_options<'a>(options: &mut MklvOptions, rest: Rest<'a>) -> Result<Rest<'a>, Misfit>
     ensures { ReadsOptions mklv_choice options.old options.new (left rest.entry) result }
 {
     let mut rest = rest;

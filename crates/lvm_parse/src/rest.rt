@@ -1,7 +1,11 @@
 //! A word of a line, and what is left of the line.
 ghost use Rattle.std.specs.Prelude.{◌≡◌, ◌+◌, ◌≤◌, length, drop};
 
-use crate::command::ParseFault;
+/// The words of a line don't fit from this column on.
+#[derive(Clone, Copy)]
+pub struct Misfit {
+    pub column: u32,
+}
 
 /// A word and the column at which it begins.
 #[derive(Clone, Copy)]

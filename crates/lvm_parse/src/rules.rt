@@ -10,13 +10,13 @@ use crate::operands::{
     count, disk, ends, last_disk, last_name, last_partitions, last_pattern, misfit, name, next_column, number, option, pattern,
 };
 use crate::options::{mklv_options, mkvg_options};
-use crate::rest::Rest;
+use crate::rest::{Misfit, Rest};
 use crate::scan::next_word;
 use lvm_num::{Policy, Rows};
 use std::alloc::Global;
 
 /// `rd DISK BLOCK COUNT`
-pub fn rd(rest: Rest<'_>) -> Result<Command, ParseFault>
+pub fn rd(rest: Rest<'_>) -> Result<Command, Misfit>
     ensures { result ≡ rd (left rest.entry) }
 {
     let (disk, rest) = disk(rest)?;
@@ -26,7 +26,7 @@ pub fn rd(rest: Rest<'_>) -> Result<Command, ParseFault>
 }
 
 /// `wr DISK BLOCK COUNT WORD`
-pub fn wr(rest: Rest<'_>) -> Result<Command, ParseFault>
+pub fn wr(rest: Rest<'_>) -> Result<Command, Misfit>
     ensures { result ≡ wr (left rest.entry) }
 {
     let (disk, rest) = disk(rest)?;
@@ -45,7 +45,7 @@ pub fn wr(rest: Rest<'_>) -> Result<Command, ParseFault>
 }
 
 /// `fail DISK`
-pub fn fail(rest: Rest<'_>) -> Result<Command, ParseFault>
+pub fn fail(rest: Rest<'_>) -> Result<Command, Misfit>
     ensures { result ≡ fail (left rest.entry) }
 {
     let disk = last_disk(rest)?;
@@ -53,7 +53,7 @@ pub fn fail(rest: Rest<'_>) -> Result<Command, ParseFault>
 }
 
 /// `heal DISK`
-pub fn heal(rest: Rest<'_>) -> Result<Command, ParseFault>
+pub fn heal(rest: Rest<'_>) -> Result<Command, Misfit>
     ensures { result ≡ heal (left rest.entry) }
 {
     let disk = last_disk(rest)?;
@@ -61,7 +61,7 @@ pub fn heal(rest: Rest<'_>) -> Result<Command, ParseFault>
 }
 
 /// `lspv DISK`
-pub fn lspv(rest: Rest<'_>) -> Result<Command, ParseFault>
+pub fn lspv(rest: Rest<'_>) -> Result<Command, Misfit>
     ensures { result ≡ lspv (left rest.entry) }
 {
     let disk = last_disk(rest)?;
@@ -69,7 +69,7 @@ pub fn lspv(rest: Rest<'_>) -> Result<Command, ParseFault>
 }
 
 /// `cut [WORD]`
-pub fn cut(rest: Rest<'_>) -> Result<Command, ParseFault>
+pub fn cut(rest: Rest<'_>) -> Result<Command, Misfit>
     ensures { result ≡ cut (left rest.entry) }
 {
     if next_word(rest).is_none() {
@@ -80,7 +80,7 @@ pub fn cut(rest: Rest<'_>) -> Result<Command, ParseFault>
 }
 
 /// `varyonvg [-n] NAME`
-pub fn varyonvg(rest: Rest<'_>) -> Result<Command, ParseFault>
+pub fn varyonvg(rest: Rest<'_>) -> Result<Command, Misfit>
     ensures { result ≡ varyonvg (left rest.entry) }
 {
     let (_, rest) = option(rest, b"-n");
@@ -89,7 +89,7 @@ pub fn varyonvg(rest: Rest<'_>) -> Result<Command, ParseFault>
 }
 
 /// `varyoffvg NAME`
-pub fn varyoffvg(rest: Rest<'_>) -> Result<Command, ParseFault>
+pub fn varyoffvg(rest: Rest<'_>) -> Result<Command, Misfit>
     ensures { result ≡ varyoffvg (left rest.entry) }
 {
     let name = last_name(rest)?;
@@ -97,7 +97,7 @@ pub fn varyoffvg(rest: Rest<'_>) -> Result<Command, ParseFault>
 }
 
 /// `lsvg [-l] NAME`
-pub fn lsvg(rest: Rest<'_>) -> Result<Command, ParseFault>
+pub fn lsvg(rest: Rest<'_>) -> Result<Command, Misfit>
     ensures { result ≡ lsvg (left rest.entry) }
 {
     let (volumes, rest) = option(rest, b"-l");
@@ -106,7 +106,7 @@ pub fn lsvg(rest: Rest<'_>) -> Result<Command, ParseFault>
 }
 
 /// `rmlv [-f] NAME`
-pub fn rmlv(rest: Rest<'_>) -> Result<Command, ParseFault>
+pub fn rmlv(rest: Rest<'_>) -> Result<Command, Misfit>
     ensures { result ≡ rmlv (left rest.entry) }
 {
     let (_, rest) = option(rest, b"-f");
@@ -115,7 +115,7 @@ pub fn rmlv(rest: Rest<'_>) -> Result<Command, ParseFault>
 }
 
 /// `lslv -m NAME`
-pub fn lslv(rest: Rest<'_>) -> Result<Command, ParseFault>
+pub fn lslv(rest: Rest<'_>) -> Result<Command, Misfit>
     ensures { result ≡ lslv (left rest.entry) }
 {
     let (map, rest) = option(rest, b"-m");
@@ -126,33 +126,8 @@ pub fn lslv(rest: Rest<'_>) -> Result<Command, ParseFault>
     Ok(Command::Lslv { name })
 }
 
-/// `mkvg [-f] -y NAME [-s MIB] DISK ..`
-pub fn mkvg(alloc: Global, rest: Rest<'_>) -> Result<Command, ParseFault>
-    ensures { Answers (mkvg (left rest.entry)) result }
-{
-    let mut options = MkvgOptions {
-        force: false,
-        name: None,
-        mib: None,
-    };
-    let rest = mkvg_options(&mut options, rest)?;
-    let Some(name) = options.name else {
-        return Err(misfit(next_column(rest)));
-    };
-    let disks = disks(rest)?;
-    match Vec::from_slice(alloc, disks.as_slice()) {
-        Ok(disks) => Ok(Command::Mkvg {
-            force: options.force,
-            name,
-            mib: options.mib,
-            disks: Rows::new(disks),
-        }),
-        Err(_) => Err(ParseFault::Memory),
-    }
-}
-
 /// `mklv -y NAME [-c N] -w n [-d p, s, ps or pr] NAME LPS`
-pub fn mklv(rest: Rest<'_>) -> Result<Command, ParseFault>
+pub fn mklv(rest: Rest<'_>) -> Result<Command, Misfit>
     ensures { result ≡ mklv (left rest.entry) }
 {
     let mut options = MklvOptions {
@@ -177,6 +152,31 @@ pub fn mklv(rest: Rest<'_>) -> Result<Command, ParseFault>
                 lps,
             })
         }
-        Err(fault) => Err(fault),
+        Err(misfit) => Err(misfit),
+    }
+}
+
+/// `mkvg [-f] -y NAME [-s MIB] DISK ..`
+pub fn mkvg(alloc: Global, rest: Rest<'_>) -> Result<Command, ParseFault>
+    ensures { Answers (mkvg (left rest.entry)) result }
+{
+    let mut options = MkvgOptions {
+        force: false,
+        name: None,
+        mib: None,
+    };
+    let rest = mkvg_options(&mut options, rest)?;
+    let Some(name) = options.name else {
+        return Err(ParseFault::from(misfit(next_column(rest))));
+    };
+    let disks = disks(rest)?;
+    match Vec::from_slice(alloc, disks.as_slice()) {
+        Ok(disks) => Ok(Command::Mkvg {
+            force: options.force,
+            name,
+            mib: options.mib,
+            disks: Rows::new(disks),
+        }),
+        Err(_) => Err(ParseFault::Memory),
     }
 }

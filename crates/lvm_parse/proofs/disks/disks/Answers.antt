@@ -1,6 +1,6 @@
 use Rattle.std.proofs.Common.{◌≡◌, ℕ, ◌<◌, List, [], length, Option, Some, None, Err, ap, sym, ◌∙◌, arith}
 use Rattle.std.proofs.lemmas.Bool.Decides.{nat_tests}
-use Rattle.lvm_parse.specs.declared.command.ParseFault.TheVariants as fault
+use Rattle.lvm_parse.specs.declared.rest.Misfit.{Misfit}
 use Rattle.lvm_parse.specs.Reading.{disks, further_disk}
 use Rattle.lvm_parse.specs.Rests.{left, word_at}
 use Rattle.lvm_parse.proofs.ManyWords.{disks_end, disks_misfit, disks_go_on, one_or_more_some, one_or_more_none}
@@ -22,7 +22,7 @@ returns-then-is_empty c =
     let none : length c.disks.found.items ≡ 0 = grind (arith, nat_tests) in
     sym c.disks.invariant ∙ disks_end c.disks.found.items (left c.disks.rest) c.in_default.ensures.word
     ∙ one_or_more_none c.disks.found.items (left c.disks.rest).end none
-    ∙ sym (ap Err (c.misfit-then-is_empty.ensures ∙ ap fault.BadLine c.end.ensures))
+    ∙ sym (ap Err (c.misfit-then-is_empty.ensures ∙ ap (λ (n : ℕ). record { column = n }) c.end.ensures))
 
 pub returns-else-is_empty : goal.returns-else-is_empty
 returns-else-is_empty c =

@@ -20,7 +20,7 @@ returns-in-Ok c =
 pub returns-in-Err : goal.returns-in-Err
 returns-in-Err c =
     let is_y : is_new c.in-Some.word.bytes.now (codes "-y") (is_some c.args.options.now.name) ≡ true = ap (is_new c.in-Some.word.bytes.now (codes "-y")) (sym c.is_some.ensures) ∙ sym c.if-is_new.ensures in
-    value_misfits mklv_choice c.args.options.now (λ value. record c.args.options.now { name = Some value }) name_in (left c.args.rest) (word_at c.in-Some.word) (left c.in-Some.behind) c.in-Err.fault c.in-Some.ensures.word (mklv_name c.args.options.now c.in-Some.word.bytes.now is_y) c.in-Err.ensures
+    value_misfits mklv_choice c.args.options.now (λ value. record c.args.options.now { name = Some value }) name_in (left c.args.rest) (word_at c.in-Some.word) (left c.in-Some.behind) c.in-Err.misfit c.in-Some.ensures.word (mklv_name c.args.options.now c.in-Some.word.bytes.now is_y) c.in-Err.ensures
 
 pub returns-in-Ok-copies : goal.returns-in-Ok-copies
 returns-in-Ok-copies c =
@@ -32,7 +32,7 @@ pub returns-in-Err-copies : goal.returns-in-Err-copies
 returns-in-Err-copies c =
     let is_y : is_new c.in-Some.word.bytes.now (codes "-y") (is_some c.args.options.now.name) ≡ false = ap (is_new c.in-Some.word.bytes.now (codes "-y")) (sym c.is_some.ensures) ∙ sym c.if-is_new.ensures in
     let is_c : is_new c.in-Some.word.bytes.now (codes "-c") (is_some c.args.options.now.copies) ≡ true = ap (is_new c.in-Some.word.bytes.now (codes "-c")) (sym c.is_some-2.ensures) ∙ sym c.if-is_new-2.ensures in
-    value_misfits mklv_choice c.args.options.now (λ value. record c.args.options.now { copies = Some value }) copies_in (left c.args.rest) (word_at c.in-Some.word) (left c.in-Some.behind) c.in-Err-copies.fault c.in-Some.ensures.word (mklv_copies c.args.options.now c.in-Some.word.bytes.now is_y is_c) c.in-Err-copies.ensures
+    value_misfits mklv_choice c.args.options.now (λ value. record c.args.options.now { copies = Some value }) copies_in (left c.args.rest) (word_at c.in-Some.word) (left c.in-Some.behind) c.in-Err-copies.misfit c.in-Some.ensures.word (mklv_copies c.args.options.now c.in-Some.word.bytes.now is_y is_c) c.in-Err-copies.ensures
 
 pub returns-in-Ok-mode : goal.returns-in-Ok-mode
 returns-in-Ok-mode c =
@@ -46,7 +46,7 @@ returns-in-Err-mode c =
     let is_y : is_new c.in-Some.word.bytes.now (codes "-y") (is_some c.args.options.now.name) ≡ false = ap (is_new c.in-Some.word.bytes.now (codes "-y")) (sym c.is_some.ensures) ∙ sym c.if-is_new.ensures in
     let is_c : is_new c.in-Some.word.bytes.now (codes "-c") (is_some c.args.options.now.copies) ≡ false = ap (is_new c.in-Some.word.bytes.now (codes "-c")) (sym c.is_some-2.ensures) ∙ sym c.if-is_new-2.ensures in
     let is_w : is_new c.in-Some.word.bytes.now (codes "-w") (is_some c.args.options.now.mode) ≡ true = ap (is_new c.in-Some.word.bytes.now (codes "-w")) (sym c.is_some-3.ensures) ∙ sym c.if-is_new-3.ensures in
-    value_misfits mklv_choice c.args.options.now (λ value. record c.args.options.now { mode = Some value }) mode_in (left c.args.rest) (word_at c.in-Some.word) (left c.in-Some.behind) c.in-Err-mode.fault c.in-Some.ensures.word (mklv_mode c.args.options.now c.in-Some.word.bytes.now is_y is_c is_w) c.in-Err-mode.ensures
+    value_misfits mklv_choice c.args.options.now (λ value. record c.args.options.now { mode = Some value }) mode_in (left c.args.rest) (word_at c.in-Some.word) (left c.in-Some.behind) c.in-Err-mode.misfit c.in-Some.ensures.word (mklv_mode c.args.options.now c.in-Some.word.bytes.now is_y is_c is_w) c.in-Err-mode.ensures
 
 pub returns-in-Ok-policy : goal.returns-in-Ok-policy
 returns-in-Ok-policy c =
@@ -62,7 +62,7 @@ returns-in-Err-policy c =
     let is_c : is_new c.in-Some.word.bytes.now (codes "-c") (is_some c.args.options.now.copies) ≡ false = ap (is_new c.in-Some.word.bytes.now (codes "-c")) (sym c.is_some-2.ensures) ∙ sym c.if-is_new-2.ensures in
     let is_w : is_new c.in-Some.word.bytes.now (codes "-w") (is_some c.args.options.now.mode) ≡ false = ap (is_new c.in-Some.word.bytes.now (codes "-w")) (sym c.is_some-3.ensures) ∙ sym c.if-is_new-3.ensures in
     let is_d : is_new c.in-Some.word.bytes.now (codes "-d") (is_some c.args.options.now.policy) ≡ true = ap (is_new c.in-Some.word.bytes.now (codes "-d")) (sym c.is_some-4.ensures) ∙ sym c.if-is_new-4.ensures in
-    value_misfits mklv_choice c.args.options.now (λ value. record c.args.options.now { policy = Some value }) policy_in (left c.args.rest) (word_at c.in-Some.word) (left c.in-Some.behind) c.in-Err-policy.fault c.in-Some.ensures.word (mklv_policy c.args.options.now c.in-Some.word.bytes.now is_y is_c is_w is_d) c.in-Err-policy.ensures
+    value_misfits mklv_choice c.args.options.now (λ value. record c.args.options.now { policy = Some value }) policy_in (left c.args.rest) (word_at c.in-Some.word) (left c.in-Some.behind) c.in-Err-policy.misfit c.in-Some.ensures.word (mklv_policy c.args.options.now c.in-Some.word.bytes.now is_y is_c is_w is_d) c.in-Err-policy.ensures
 
 pub returns : goal.returns
 returns c =

@@ -27,7 +27,7 @@ pub returns-in-Err : goal.returns-in-Err
 returns-in-Err c =
     let is_f : is_new c.in-Some.word.bytes.now (codes "-f") c.args.options.now.force ≡ false = sym c.if-is_new.ensures in
     let is_y : is_new c.in-Some.word.bytes.now (codes "-y") (is_some c.args.options.now.name) ≡ true = ap (is_new c.in-Some.word.bytes.now (codes "-y")) (sym c.is_some.ensures) ∙ sym c.if-is_new-2.ensures in
-    value_misfits mkvg_choice c.args.options.now (λ value. record c.args.options.now { name = Some value }) name_in (left c.args.rest) (word_at c.in-Some.word) (left c.in-Some.behind) c.in-Err.fault c.in-Some.ensures.word (mkvg_name c.args.options.now c.in-Some.word.bytes.now is_f is_y) c.in-Err.ensures
+    value_misfits mkvg_choice c.args.options.now (λ value. record c.args.options.now { name = Some value }) name_in (left c.args.rest) (word_at c.in-Some.word) (left c.in-Some.behind) c.in-Err.misfit c.in-Some.ensures.word (mkvg_name c.args.options.now c.in-Some.word.bytes.now is_f is_y) c.in-Err.ensures
 
 pub returns-in-Ok-size : goal.returns-in-Ok-size
 returns-in-Ok-size c =
@@ -41,7 +41,7 @@ returns-in-Err-size c =
     let is_f : is_new c.in-Some.word.bytes.now (codes "-f") c.args.options.now.force ≡ false = sym c.if-is_new.ensures in
     let is_y : is_new c.in-Some.word.bytes.now (codes "-y") (is_some c.args.options.now.name) ≡ false = ap (is_new c.in-Some.word.bytes.now (codes "-y")) (sym c.is_some.ensures) ∙ sym c.if-is_new-2.ensures in
     let is_s : is_new c.in-Some.word.bytes.now (codes "-s") (is_some c.args.options.now.mib) ≡ true = ap (is_new c.in-Some.word.bytes.now (codes "-s")) (sym c.is_some-2.ensures) ∙ sym c.if-is_new-3.ensures in
-    value_misfits mkvg_choice c.args.options.now (λ value. record c.args.options.now { mib = Some value }) size_in (left c.args.rest) (word_at c.in-Some.word) (left c.in-Some.behind) c.in-Err-size.fault c.in-Some.ensures.word (mkvg_size c.args.options.now c.in-Some.word.bytes.now is_f is_y is_s) c.in-Err-size.ensures
+    value_misfits mkvg_choice c.args.options.now (λ value. record c.args.options.now { mib = Some value }) size_in (left c.args.rest) (word_at c.in-Some.word) (left c.in-Some.behind) c.in-Err-size.misfit c.in-Some.ensures.word (mkvg_size c.args.options.now c.in-Some.word.bytes.now is_f is_y is_s) c.in-Err-size.ensures
 
 pub returns : goal.returns
 returns c =
