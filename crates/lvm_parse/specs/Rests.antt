@@ -1,5 +1,5 @@
 -- What the code's rest of a line stands for.
-use Rattle.std.specs.Prelude.{◌≡◌, ⊤, ℕ, ◌<◌, List, ◌∷◌, length, Option, Result, Ok, Err, MatchOption, MatchResult}
+use Rattle.std.specs.Prelude.{◌≡◌, ⊤, ℕ, ◌<◌, List, ◌∷◌, length, Option, Some, Result, Ok, Err, MatchOption, MatchResult}
 use Rattle.lvm_parse.specs.declared.command.Command.{Command}
 use Rattle.lvm_parse.specs.declared.command.Command.TheVariants as command
 use Rattle.lvm_parse.specs.declared.command.ParseFault.{ParseFault}
@@ -48,3 +48,12 @@ abbrev pub Answers : Result Command Misfit → Result Command ParseFault → Typ
 Answers read (Ok c) = read ≡ Ok c
 Answers read (Err (fault.BadLine column)) = read ≡ Err (record { column = column })
 Answers read (Err fault.Memory) = IsMkvg read
+
+abbrev pub IsMkvgLine : Result (Option Command) Misfit → Type 0
+IsMkvgLine (Ok (Some (command.Mkvg force name mib disks))) = ⊤
+IsMkvgLine read = ⊥
+
+abbrev pub AnswersLine : Result (Option Command) Misfit → Result (Option Command) ParseFault → Type 0
+AnswersLine read (Ok c) = read ≡ Ok c
+AnswersLine read (Err (fault.BadLine column)) = read ≡ Err (record { column = column })
+AnswersLine read (Err fault.Memory) = IsMkvgLine read

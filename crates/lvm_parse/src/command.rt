@@ -71,7 +71,9 @@ pub enum ParseFault {
 }
 
 impl From<Misfit> for ParseFault {
-    ghost from_gives = { λ misfit fault. fault ≡ ParseFault.BadLine misfit.column };
+    ghost use Rattle.lvm_parse.specs.declared.command.ParseFault.TheVariants.{BadLine};
+
+    ghost from_gives = { λ misfit fault. fault ≡ BadLine misfit.column };
 
     fn from(misfit: Misfit) -> ParseFault {
         ParseFault::BadLine {

@@ -6,11 +6,12 @@ mod command;
 mod disks;
 mod operands;
 mod options;
-mod parse;
+mod line;
 mod rest;
 mod rules;
 mod scan;
 mod words;
 
 pub use command::{Command, ParseFault};
+pub use line::parse;
 
