@@ -1,5 +1,6 @@
 //! A line as a whole.
-ghost use Rattle.std.specs.Prelude.{◌≡◌, ◌↔◌, ℕ, false, bytes_eq, codes, IfOk, OnErr, Ok, Err};
+ghost use Rattle.std.specs.Prelude.{◌≡◌, ◌↔◌, ℕ, false, bytes_eq, codes, IfOk, Ok, Err};
+ghost use Rattle.lvm_parse.specs.Reading.{misfit};
 ghost use Rattle.lvm_parse.specs.Grammar.{rule, line_of_words, line_of};
 ghost use Rattle.lvm_parse.specs.Rests.{left, Answers, AnswersLine, IsMkvgLine};
 
@@ -88,7 +89,7 @@ pub fn parse(alloc: Global, line: &[u8]) -> Result<Option<Command>, ParseFault>
     ensures read { IfOk result (λ command. line_of line.now ≡ Ok command) }
 
     // It isn't, from this column on.
-    ensures bad_line { (column : ℕ) → (result ≡ Err (ParseFault.BadLine column)) ↔ (line_of line.now ≡ Err (record { column = column })) }
+    ensures bad_line { (column : ℕ) → (result ≡ Err (ParseFault.BadLine column)) ↔ (line_of line.now ≡ misfit column) }
 
     // It is a `mkvg` of the language.
     ensures memory { result ≡ Err ParseFault.Memory → IsMkvgLine (line_of line.now) }
