@@ -74,13 +74,15 @@ is_new word name stood = bytes_eq word name && not stood
 abbrev pub options_of : {O : Type 0} → (O → List ℕ → Choice O) → O → List WordAt → ℕ → Result (O × Left) Misfit
 options_of choice o [] end = Ok (o, record { words = []; end = end })
 options_of choice o (w ∷ []) end = elim (choice o w.bytes) [
-    NoOption ↦ Ok (o, record { words = w ∷ []; end = end })
+  | NoOption ↦ Ok (o, record { words = w ∷ []; end = end })
   | Alone with ↦ Ok (with, record { words = []; end = end })
-  | Valued read ↦ misfit end ]
+  | Valued read ↦ misfit end
+]
 options_of choice o (w ∷ v ∷ words) end = elim (choice o w.bytes) [
-    NoOption ↦ Ok (o, record { words = w ∷ v ∷ words; end = end })
+  | NoOption ↦ Ok (o, record { words = w ∷ v ∷ words; end = end })
   | Alone with ↦ options_of choice with (v ∷ words) end
-  | Valued read ↦ then_ (or_misfit (read v.bytes) v.column) (λ with. options_of choice with words end) ]
+  | Valued read ↦ then_ (or_misfit (read v.bytes) v.column) (λ with. options_of choice with words end)
+]
 
 unfoldable pub options : {O : Type 0} → (O → List ℕ → Choice O) → O → Left → Result (O × Left) Misfit
 options choice o l = options_of choice o l.words l.end

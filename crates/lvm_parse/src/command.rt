@@ -19,11 +19,18 @@ pub enum Command {
         disks: Rows<u16>,
     },
     /// `varyonvg [-n] NAME`: vary a volume group on.
-    Varyon { name: Name },
+    Varyon {
+        name: Name,
+    },
     /// `varyoffvg NAME`: vary it off.
-    Varyoff { name: Name },
+    Varyoff {
+        name: Name,
+    },
     /// `lsvg [-l] NAME`: list the group, or with `-l` its volumes.
-    Lsvg { volumes: bool, name: Name },
+    Lsvg {
+        volumes: bool,
+        name: Name,
+    },
     /// `mklv -y NAME [-c N] -w n [-d p, s, ps or pr] NAME LPS`: make a logical volume in the group.
     Mklv {
         name: Name,
@@ -37,13 +44,23 @@ pub enum Command {
         lps: u32,
     },
     /// `rmlv [-f] NAME`: remove a volume.
-    Rmlv { name: Name },
+    Rmlv {
+        name: Name,
+    },
     /// `lslv -m NAME`: list where a volume's copies lie.
-    Lslv { name: Name },
+    Lslv {
+        name: Name,
+    },
     /// `lspv DISK`: list a member of the group.
-    Lspv { disk: u16 },
+    Lspv {
+        disk: u16,
+    },
     /// `rd DISK BLOCK COUNT`: read 1 to 4,096 blocks of a disk.
-    RawRd { disk: u16, at: u64, count: u32 },
+    RawRd {
+        disk: u16,
+        at: u64,
+        count: u32,
+    },
     /// `wr DISK BLOCK COUNT WORD`: write 1 to 4,096 blocks of a disk, the first filled with the word.
     RawWr {
         disk: u16,
@@ -52,12 +69,18 @@ pub enum Command {
         word: u64,
     },
     /// `fail DISK`: let a disk fail.
-    Fail { disk: u16 },
+    Fail {
+        disk: u16,
+    },
     /// `heal DISK`: let it work again.
-    Heal { disk: u16 },
+    Heal {
+        disk: u16,
+    },
     /// `cut [WORD]`: cut the power; the word, 0 where it isn't given, says which sectors of writes that
     /// were out are kept.
-    Cut { word: u64 },
+    Cut {
+        word: u64,
+    },
 }
 
 /// Why a line asks for nothing that can be done.

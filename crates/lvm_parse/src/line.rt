@@ -7,7 +7,9 @@ ghost use Rattle.lvm_parse.specs.Rests.{left, Answers, AnswersLine, IsMkvgLine};
 use crate::command::{Command, ParseFault};
 use crate::operands::misfit;
 use crate::rest::{Misfit, Rest, Word};
-use crate::rules::{cut, fail, heal, lslv, lspv, lsvg, mklv, mkvg, rd, rmlv, varyoffvg, varyonvg, wr};
+use crate::rules::{
+    cut, fail, heal, lslv, lspv, lsvg, mklv, mkvg, rd, rmlv, varyoffvg, varyonvg, wr,
+};
 use crate::scan::{is_remark, next_word, unreadable_at};
 use std::alloc::Global;
 

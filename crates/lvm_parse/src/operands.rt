@@ -6,7 +6,10 @@ ghost use Rattle.lvm_parse.specs.Rests.{left, word_at, with_word, Reads};
 
 use crate::rest::{Misfit, Rest, Word};
 use crate::scan::next_word;
-use crate::words::{copies_of, count_of, disk_of, hex_word, mode_of, name_of, number_of, partitions_of, policy_of, size_of};
+use crate::words::{
+    copies_of, count_of, disk_of, hex_word, mode_of, name_of, number_of, partitions_of, policy_of,
+    size_of,
+};
 use lvm_num::{Mode, Name, Policy};
 
 /// The words from a column on don't fit.

@@ -7,7 +7,8 @@ use crate::chosen::{MklvOptions, MkvgOptions};
 use crate::command::{Command, ParseFault};
 use crate::disks::disks;
 use crate::operands::{
-    count, disk, ends, last_disk, last_name, last_partitions, last_pattern, misfit, name, next_column, number, option, pattern,
+    count, disk, ends, last_disk, last_name, last_partitions, last_pattern, misfit, name,
+    next_column, number, option, pattern,
 };
 use crate::options::{mklv_options, mkvg_options};
 use crate::rest::{Misfit, Rest};

@@ -232,13 +232,39 @@ fn an_empty_line_and_a_remark_ask_for_nothing(rt: HostRuntime) {
 #[test]
 fn blocks_are_spelled(rt: HostRuntime) {
     let (disk, at, count) = (0, u64::MAX, 4096);
-    spells(&rt, b"rd hdisk0 18446744073709551615 4096", Command::RawRd { disk, at, count });
+    spells(
+        &rt,
+        b"rd hdisk0 18446744073709551615 4096",
+        Command::RawRd { disk, at, count },
+    );
     let (disk, at, count) = (127, 7, 1);
-    spells(&rt, b"rd hdisk127 00000000000000000007 0001", Command::RawRd { disk, at, count });
+    spells(
+        &rt,
+        b"rd hdisk127 00000000000000000007 0001",
+        Command::RawRd { disk, at, count },
+    );
     let (disk, at, count, word) = (9, 5, 1, 0xabff);
-    spells(&rt, b"  wr   hdisk9 5 1 000000000000aBFf  ", Command::RawWr { disk, at, count, word });
+    spells(
+        &rt,
+        b"  wr   hdisk9 5 1 000000000000aBFf  ",
+        Command::RawWr {
+            disk,
+            at,
+            count,
+            word,
+        },
+    );
     let word = u64::MAX;
-    spells(&rt, b"wr hdisk9 5 1 ffffffffffffffff", Command::RawWr { disk, at, count, word });
+    spells(
+        &rt,
+        b"wr hdisk9 5 1 ffffffffffffffff",
+        Command::RawWr {
+            disk,
+            at,
+            count,
+            word,
+        },
+    );
 }
 
 #[test]
@@ -247,7 +273,13 @@ fn disks_and_cuts_are_spelled(rt: HostRuntime) {
     spells(&rt, b"fail hdisk10", Command::Fail { disk: 10 });
     spells(&rt, b"heal hdisk99", Command::Heal { disk: 99 });
     spells(&rt, b"cut", Command::Cut { word: 0 });
-    spells(&rt, b"cut 5555555555555555 ", Command::Cut { word: 0x5555555555555555 });
+    spells(
+        &rt,
+        b"cut 5555555555555555 ",
+        Command::Cut {
+            word: 0x5555555555555555,
+        },
+    );
 }
 
 #[test]
@@ -256,8 +288,22 @@ fn groups_are_spelled(rt: HostRuntime) {
     spells(&rt, b"varyonvg -n datavg", Command::Varyon { name: datavg });
     spells(&rt, b"varyonvg datavg", Command::Varyon { name: datavg });
     spells(&rt, b"varyoffvg datavg", Command::Varyoff { name: datavg });
-    spells(&rt, b"lsvg datavg", Command::Lsvg { volumes: false, name: datavg });
-    spells(&rt, b"lsvg -l datavg", Command::Lsvg { volumes: true, name: datavg });
+    spells(
+        &rt,
+        b"lsvg datavg",
+        Command::Lsvg {
+            volumes: false,
+            name: datavg,
+        },
+    );
+    spells(
+        &rt,
+        b"lsvg -l datavg",
+        Command::Lsvg {
+            volumes: true,
+            name: datavg,
+        },
+    );
 }
 
 #[test]
@@ -316,7 +362,11 @@ fn volume(rt: &impl Abort, copies: u8, policy: Policy, lps: u32) -> Command {
 
 #[test]
 fn a_new_volume_is_spelled(rt: HostRuntime) {
-    spells(&rt, b"mklv -y lv00 -w n datavg 7", volume(&rt, 1, Policy::Parallel, 7));
+    spells(
+        &rt,
+        b"mklv -y lv00 -w n datavg 7",
+        volume(&rt, 1, Policy::Parallel, 7),
+    );
     spells(
         &rt,
         b"mklv -d pr -c 0 -w n -y lv00 datavg 65535",
@@ -332,5 +382,9 @@ fn a_new_volume_is_spelled(rt: HostRuntime) {
         b"mklv -y lv00 -d ps -w n -c 02 datavg 00001",
         volume(&rt, 2, Policy::ParallelWrite, 1),
     );
-    spells(&rt, b"mklv -y lv00 -d p -w n datavg 1", volume(&rt, 1, Policy::Parallel, 1));
+    spells(
+        &rt,
+        b"mklv -y lv00 -d p -w n datavg 1",
+        volume(&rt, 1, Policy::Parallel, 1),
+    );
 }
