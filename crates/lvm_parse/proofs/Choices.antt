@@ -1,11 +1,11 @@
 -- Which option a word is where one may stand.
-use Rattle.std.proofs.Common.{◌≡◌, ℕ, Bool, true, false, List, Option, Some, None, refl}
+use Rattle.std.proofs.Common.{◌≡◌, ℕ, true, false, List, Some, refl}
 use Rattle.std.specs.Prelude.{codes, is_some}
 use Rattle.std.specs.Option.{option_map}
 use Rattle.lvm_parse.specs.declared.chosen.MkvgOptions.{MkvgOptions}
 use Rattle.lvm_parse.specs.declared.chosen.MklvOptions.{MklvOptions}
 use Rattle.lvm_parse.specs.Words.{size_in, name_in, copies_in, mode_in, policy_in}
-use Rattle.lvm_parse.specs.Reading.{Choice, NoOption, Alone, Valued, is_new}
+use Rattle.lvm_parse.specs.Reading.{NoOption, Alone, Valued, is_new}
 use Rattle.lvm_parse.specs.Grammar.{mkvg_choice, mklv_choice}
 
 pub mkvg_force : (o : MkvgOptions) (word : List ℕ) → is_new word (codes "-f") o.force ≡ true → mkvg_choice o word ≡ Alone (record o { force = true })

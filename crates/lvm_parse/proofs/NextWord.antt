@@ -1,7 +1,6 @@
 -- What an operand, an option and the end of a line are where the next word is known.
-use Rattle.std.proofs.Common.{◌≡◌, ℕ, Bool, true, false, cond, List, [], ◌∷◌, Option, Some, None, Result, Ok, Err, refl, sym, ◌∙◌, ap}
+use Rattle.std.proofs.Common.{◌≡◌, ℕ, Bool, true, false, cond, List, [], Option, Some, None, Ok, sym, ◌∙◌, ap}
 use Rattle.std.specs.Prelude.{bytes_eq}
-use Rattle.lvm_parse.specs.declared.rest.Misfit.{Misfit}
 use Rattle.lvm_parse.specs.Line.{WordAt, Left}
 use Rattle.lvm_parse.specs.Reading.{misfit, then_, or_misfit, operand_of, operand, option_of, option, ends_of, ends}
 use Rattle.lvm_parse.specs.Rests.{with_word}

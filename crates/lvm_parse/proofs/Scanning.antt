@@ -1,8 +1,8 @@
 -- How the words of a line are found from the left.
-use Rattle.std.proofs.Common.{◌≡◌, ◌≢◌, ℕ, ◌+◌, ◌-◌, ◌≤◌, ◌<◌, ◌==◌, Bool, true, false, cond, List, [], ◌∷◌, ◌++◌, length, get_or, take, drop, refl, sym, ◌∙◌, ap, arith}
+use Rattle.std.proofs.Common.{◌≡◌, ◌≢◌, ℕ, ◌+◌, ◌-◌, ◌<◌, ◌==◌, Bool, false, cond, List, [], ◌∷◌, ◌++◌, length, get_or, take, drop, refl, sym, ◌∙◌, ap, arith}
 use Rattle.std.proofs.lemmas.List.{drop_more, take_more}
 use Rattle.std.proofs.lemmas.Bool.Decides.{nat_tests}
-use Rattle.lvm_parse.specs.Line.{WordAt, Left, finished, words_from, left_at}
+use Rattle.lvm_parse.specs.Line.{WordAt, finished, words_from, left_at}
 
 -- a blank at the front is no part of a word
 pub blank_first : (column b : ℕ) (rest : List ℕ) → b ≡ 32 → words_from column [] (b ∷ rest) ≡ words_from (column + 1) [] rest

@@ -1,6 +1,5 @@
 use Rattle.std.proofs.Common.{rules, ◌≡◌, true, false, Some, refl, ap, sym, ◌∙◌}
 use Rattle.std.specs.Prelude.{codes, is_some}
-use Rattle.lvm_parse.specs.declared.chosen.MklvOptions.{MklvOptions}
 use Rattle.lvm_parse.specs.Words.{name_in, copies_in, mode_in, policy_in}
 use Rattle.lvm_parse.specs.Reading.{is_new}
 use Rattle.lvm_parse.specs.Grammar.{mklv_choice}

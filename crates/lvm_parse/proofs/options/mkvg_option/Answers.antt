@@ -1,6 +1,5 @@
 use Rattle.std.proofs.Common.{rules, ◌≡◌, true, false, Some, refl, ap, sym, ◌∙◌}
 use Rattle.std.specs.Prelude.{codes, is_some}
-use Rattle.lvm_parse.specs.declared.chosen.MkvgOptions.{MkvgOptions}
 use Rattle.lvm_parse.specs.Words.{name_in, size_in}
 use Rattle.lvm_parse.specs.Reading.{is_new}
 use Rattle.lvm_parse.specs.Grammar.{mkvg_choice}
