@@ -1,0 +1,5 @@
+pub mod Numbers
+pub mod Choices
+pub mod ManyWords
+pub mod NextWord
+pub mod Scanning

@@ -1,0 +1,5 @@
+pub mod Grammar
+pub mod Line
+pub mod Reading
+pub mod Rests
+pub mod Words

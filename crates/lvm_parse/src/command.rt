@@ -1,0 +1,106 @@
+//! What a line asks for.
+
+ghost use Rattle.std.specs.Prelude.{◌≡◌};
+
+use crate::rest::Misfit;
+use lvm_num::{Mode, Name, Policy, Rows};
+
+/// What a line asks for. Blocks are of 512 bytes and counted from 0; a disk is its number, 0 to 127.
+#[derive(Debug, Drop, PartialEq, Eq)]
+pub enum Command {
+    /// `mkvg [-f] -y NAME [-s MIB] DISK ..`: make a volume group of these disks, all different, and
+    /// vary it on.
+    Mkvg {
+        force: bool,
+        name: Name,
+        /// The size of a partition in MiB, a power of two from 1 to 1,024.
+        mib: Option<u16>,
+        /// One disk to 128.
+        disks: Rows<u16>,
+    },
+    /// `varyonvg [-n] NAME`: vary a volume group on.
+    Varyon {
+        name: Name,
+    },
+    /// `varyoffvg NAME`: vary it off.
+    Varyoff {
+        name: Name,
+    },
+    /// `lsvg [-l] NAME`: list the group, or with `-l` its volumes.
+    Lsvg {
+        volumes: bool,
+        name: Name,
+    },
+    /// `mklv -y NAME [-c N] -w n [-d p, s, ps or pr] NAME LPS`: make a logical volume in the group.
+    Mklv {
+        name: Name,
+        /// 0 to 9; 1 where it isn't given.
+        copies: u8,
+        mode: Mode,
+        /// Parallel where it isn't given.
+        policy: Policy,
+        group: Name,
+        /// How many logical partitions, 1 to 65,535.
+        lps: u32,
+    },
+    /// `rmlv [-f] NAME`: remove a volume.
+    Rmlv {
+        name: Name,
+    },
+    /// `lslv -m NAME`: list where a volume's copies lie.
+    Lslv {
+        name: Name,
+    },
+    /// `lspv DISK`: list a member of the group.
+    Lspv {
+        disk: u16,
+    },
+    /// `rd DISK BLOCK COUNT`: read 1 to 4,096 blocks of a disk.
+    RawRd {
+        disk: u16,
+        at: u64,
+        count: u32,
+    },
+    /// `wr DISK BLOCK COUNT WORD`: write 1 to 4,096 blocks of a disk, the first filled with the word.
+    RawWr {
+        disk: u16,
+        at: u64,
+        count: u32,
+        word: u64,
+    },
+    /// `fail DISK`: let a disk fail.
+    Fail {
+        disk: u16,
+    },
+    /// `heal DISK`: let it work again.
+    Heal {
+        disk: u16,
+    },
+    /// `cut [WORD]`: cut the power; the word, 0 where it isn't given, says which sectors of writes that
+    /// were out are kept.
+    Cut {
+        word: u64,
+    },
+}
+
+/// Why a line asks for nothing that can be done.
+#[derive(Clone, Copy, Debug, PartialEq, Eq)]
+pub enum ParseFault {
+    /// The line isn't in the language. The column is that of its first word that doesn't fit, or the one
+    /// behind its last byte where a word is lacking; columns count bytes from 1.
+    BadLine { column: u32 },
+    /// Want of memory for the disks of a `mkvg`.
+    Memory,
+}
+
+impl From<Misfit> for ParseFault {
+    ghost use Rattle.lvm_parse.specs.declared.command.ParseFault.TheVariants.{BadLine};
+
+    ghost from_gives = { λ misfit fault. fault ≡ BadLine misfit.column };
+
+    fn from(misfit: Misfit) -> ParseFault {
+        ParseFault::BadLine {
+            column: misfit.column,
+        }
+    }
+}

@@ -1,0 +1,100 @@
+//! A line as a whole.
+ghost use Rattle.std.specs.Prelude.{◌≡◌, ◌↔◌, ℕ, false, bytes_eq, codes, IfOk, Ok, Err};
+ghost use Rattle.lvm_parse.specs.Reading.{misfit};
+ghost use Rattle.lvm_parse.specs.Grammar.{rule, line_of_words, line_of};
+ghost use Rattle.lvm_parse.specs.Rests.{left, Answers, AnswersLine, IsMkvgLine};
+
+use crate::command::{Command, ParseFault};
+use crate::operands::misfit;
+use crate::rest::{Misfit, Rest, Word};
+use crate::rules::{
+    cut, fail, heal, lslv, lspv, lsvg, mklv, mkvg, rd, rmlv, varyoffvg, varyonvg, wr,
+};
+use crate::scan::{is_remark, next_word, unreadable_at};
+use std::alloc::Global;
+
+// What a line asks for whose first word this is; it isn't `mkvg`.
+fn plain_command(word: Word<'_>, rest: Rest<'_>) -> Result<Command, Misfit>
+    requires { bytes_eq word.bytes.now (codes "mkvg") ≡ false }
+    ensures { result ≡ rule word.entry.bytes.now word.entry.column (left rest.entry) }
+{
+    let name = word.bytes;
+    if name == b"rd".as_slice() {
+        rd(rest)
+    } else if name == b"wr".as_slice() {
+        wr(rest)
+    } else if name == b"varyonvg".as_slice() {
+        varyonvg(rest)
+    } else if name == b"varyoffvg".as_slice() {
+        varyoffvg(rest)
+    } else if name == b"lsvg".as_slice() {
+        lsvg(rest)
+    } else if name == b"mklv".as_slice() {
+        mklv(rest)
+    } else if name == b"rmlv".as_slice() {
+        rmlv(rest)
+    } else if name == b"lslv".as_slice() {
+        lslv(rest)
+    } else if name == b"lspv".as_slice() {
+        lspv(rest)
+    } else if name == b"fail".as_slice() {
+        fail(rest)
+    } else if name == b"heal".as_slice() {
+        heal(rest)
+    } else if name == b"cut".as_slice() {
+        cut(rest)
+    } else {
+        Err(misfit(word.column))
+    }
+}
+
+// What a line asks for whose first word this is.
+fn command(alloc: Global, word: Word<'_>, rest: Rest<'_>) -> Result<Command, ParseFault>
+    ensures { Answers (rule word.entry.bytes.now word.entry.column (left rest.entry)) result }
+{
+    if word.bytes == b"mkvg".as_slice() {
+        mkvg(alloc, rest)
+    } else {
+        Ok(plain_command(word, rest)?)
+    }
+}
+
+// What a line asks for whose bytes are plain.
+fn words(alloc: Global, rest: Rest<'_>) -> Result<Option<Command>, ParseFault>
+    ensures { AnswersLine (line_of_words (left rest.entry).words (left rest.entry).end) result }
+{
+    let Some((word, rest)) = next_word(rest) else {
+        return Ok(None);
+    };
+    if is_remark(word.bytes) {
+        return Ok(None);
+    }
+    match command(alloc, word, rest) {
+        Ok(command) => Ok(Some(command)),
+        Err(fault) => Err(fault),
+    }
+}
+
+// What a line asks for, or why it asks for nothing.
+fn read_line(alloc: Global, line: &[u8]) -> Result<Option<Command>, ParseFault>
+    ensures { AnswersLine (line_of line.now) result }
+{
+    match unreadable_at(line) {
+        Some(column) => Err(ParseFault::BadLine { column }),
+        None => words(alloc, Rest::of_line(line)),
+    }
+}
+
+/// What a line, without its line feed, asks for; None for one without a word and for a remark.
+pub fn parse(alloc: Global, line: &[u8]) -> Result<Option<Command>, ParseFault>
+    // The line is in the language, and this is the command that it spells.
+    ensures read { IfOk result (λ command. line_of line.now ≡ Ok command) }
+
+    // It isn't, from this column on.
+    ensures bad_line { (column : ℕ) → (result ≡ Err (ParseFault.BadLine column)) ↔ (line_of line.now ≡ misfit column) }
+
+    // It is a `mkvg` of the language.
+    ensures memory { result ≡ Err ParseFault.Memory → IsMkvgLine (line_of line.now) }
+{
+    read_line(alloc, line)
+}

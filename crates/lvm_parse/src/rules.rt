@@ -1,0 +1,183 @@
+//! The lines of the language: each rule reads what follows the line's first word.
+ghost use Rattle.std.specs.Prelude.{◌≡◌};
+ghost use Rattle.lvm_parse.specs.Grammar.{rd, wr, fail, heal, lspv, cut, mkvg, varyonvg, varyoffvg, lsvg, mklv, rmlv, lslv};
+ghost use Rattle.lvm_parse.specs.Rests.{left, Answers};
+
+use crate::chosen::{MklvOptions, MkvgOptions};
+use crate::command::{Command, ParseFault};
+use crate::disks::disks;
+use crate::operands::{
+    count, disk, ends, last_disk, last_name, last_partitions, last_pattern, misfit, name,
+    next_column, number, option, pattern,
+};
+use crate::options::{mklv_options, mkvg_options};
+use crate::rest::{Misfit, Rest};
+use crate::scan::next_word;
+use lvm_num::{Policy, Rows};
+use std::alloc::Global;
+
+/// `rd DISK BLOCK COUNT`
+pub fn rd(rest: Rest<'_>) -> Result<Command, Misfit>
+    ensures { result ≡ rd (left rest.entry) }
+{
+    let (disk, rest) = disk(rest)?;
+    let (at, rest) = number(rest)?;
+    let (count, rest) = count(rest)?;
+    ends(rest, Command::RawRd { disk, at, count })
+}
+
+/// `wr DISK BLOCK COUNT WORD`
+pub fn wr(rest: Rest<'_>) -> Result<Command, Misfit>
+    ensures { result ≡ wr (left rest.entry) }
+{
+    let (disk, rest) = disk(rest)?;
+    let (at, rest) = number(rest)?;
+    let (count, rest) = count(rest)?;
+    let (word, rest) = pattern(rest)?;
+    ends(
+        rest,
+        Command::RawWr {
+            disk,
+            at,
+            count,
+            word,
+        },
+    )
+}
+
+/// `fail DISK`
+pub fn fail(rest: Rest<'_>) -> Result<Command, Misfit>
+    ensures { result ≡ fail (left rest.entry) }
+{
+    let disk = last_disk(rest)?;
+    Ok(Command::Fail { disk })
+}
+
+/// `heal DISK`
+pub fn heal(rest: Rest<'_>) -> Result<Command, Misfit>
+    ensures { result ≡ heal (left rest.entry) }
+{
+    let disk = last_disk(rest)?;
+    Ok(Command::Heal { disk })
+}
+
+/// `lspv DISK`
+pub fn lspv(rest: Rest<'_>) -> Result<Command, Misfit>
+    ensures { result ≡ lspv (left rest.entry) }
+{
+    let disk = last_disk(rest)?;
+    Ok(Command::Lspv { disk })
+}
+
+/// `cut [WORD]`
+pub fn cut(rest: Rest<'_>) -> Result<Command, Misfit>
+    ensures { result ≡ cut (left rest.entry) }
+{
+    if next_word(rest).is_none() {
+        return Ok(Command::Cut { word: 0 });
+    }
+    let word = last_pattern(rest)?;
+    Ok(Command::Cut { word })
+}
+
+/// `varyonvg [-n] NAME`
+pub fn varyonvg(rest: Rest<'_>) -> Result<Command, Misfit>
+    ensures { result ≡ varyonvg (left rest.entry) }
+{
+    let (_, rest) = option(rest, b"-n");
+    let name = last_name(rest)?;
+    Ok(Command::Varyon { name })
+}
+
+/// `varyoffvg NAME`
+pub fn varyoffvg(rest: Rest<'_>) -> Result<Command, Misfit>
+    ensures { result ≡ varyoffvg (left rest.entry) }
+{
+    let name = last_name(rest)?;
+    Ok(Command::Varyoff { name })
+}
+
+/// `lsvg [-l] NAME`
+pub fn lsvg(rest: Rest<'_>) -> Result<Command, Misfit>
+    ensures { result ≡ lsvg (left rest.entry) }
+{
+    let (volumes, rest) = option(rest, b"-l");
+    let name = last_name(rest)?;
+    Ok(Command::Lsvg { volumes, name })
+}
+
+/// `rmlv [-f] NAME`
+pub fn rmlv(rest: Rest<'_>) -> Result<Command, Misfit>
+    ensures { result ≡ rmlv (left rest.entry) }
+{
+    let (_, rest) = option(rest, b"-f");
+    let name = last_name(rest)?;
+    Ok(Command::Rmlv { name })
+}
+
+/// `lslv -m NAME`
+pub fn lslv(rest: Rest<'_>) -> Result<Command, Misfit>
+    ensures { result ≡ lslv (left rest.entry) }
+{
+    let (map, rest) = option(rest, b"-m");
+    if !map {
+        return Err(misfit(next_column(rest)));
+    }
+    let name = last_name(rest)?;
+    Ok(Command::Lslv { name })
+}
+
+/// `mklv -y NAME [-c N] -w n [-d p, s, ps or pr] NAME LPS`
+pub fn mklv(rest: Rest<'_>) -> Result<Command, Misfit>
+    ensures { result ≡ mklv (left rest.entry) }
+{
+    let mut options = MklvOptions {
+        name: None,
+        copies: None,
+        mode: None,
+        policy: None,
+    };
+    let rest = mklv_options(&mut options, rest)?;
+    let (Some(volume), Some(mode)) = (options.name, options.mode) else {
+        return Err(misfit(next_column(rest)));
+    };
+    match name(rest) {
+        Ok((group, rest)) => {
+            let lps = last_partitions(rest)?;
+            Ok(Command::Mklv {
+                name: volume,
+                copies: options.copies.unwrap_or(1),
+                mode,
+                policy: options.policy.unwrap_or(Policy::Parallel),
+                group,
+                lps,
+            })
+        }
+        Err(misfit) => Err(misfit),
+    }
+}
+
+/// `mkvg [-f] -y NAME [-s MIB] DISK ..`
+pub fn mkvg(alloc: Global, rest: Rest<'_>) -> Result<Command, ParseFault>
+    ensures { Answers (mkvg (left rest.entry)) result }
+{
+    let mut options = MkvgOptions {
+        force: false,
+        name: None,
+        mib: None,
+    };
+    let rest = mkvg_options(&mut options, rest)?;
+    let Some(name) = options.name else {
+        return Err(ParseFault::from(misfit(next_column(rest))));
+    };
+    let disks = disks(rest)?;
+    match Vec::from_slice(alloc, disks.as_slice()) {
+        Ok(disks) => Ok(Command::Mkvg {
+            force: options.force,
+            name,
+            mib: options.mib,
+            disks: Rows::new(disks),
+        }),
+        Err(_) => Err(ParseFault::Memory),
+    }
+}
