@@ -1,23 +1,16 @@
 -- What is chosen of a group, and by a name.
-use Rattle.std.proofs.Common.{◌≡◌, ◌≢◌, ℕ, ◌+◌, ◌<◌, ◌≤◌, Bool, true, false, List, length, Option, Some, None, Result, Ok, Err, refl, sym, ap, subst, ◌∙◌, arith}
-use Rattle.std.specs.Prelude.{IsTrue, IsFalse, IfSome, slice_get, option_and_then, is_some, if◌then◌else◌, sum_by}
-use Rattle.lvm_num.specs.declared.descriptor.PvRow.{PvRow}
+use Rattle.std.proofs.Common.{◌≡◌, ℕ, Bool, false, Option, Some, None, refl, sym, ap, subst, ◌∙◌}
+use Rattle.std.specs.Prelude.{IfSome, slice_get, option_and_then, is_some, if◌then◌else◌}
 use Rattle.lvm_num.specs.declared.descriptor.Descriptor.{Descriptor}
-use Rattle.lvm_num.specs.declared.status.Status.{Status}
 use Rattle.lvm_num.specs.Descriptor.{IsValid}
-use Rattle.lvm_num.specs.Disks.{Disks, has}
+use Rattle.lvm_num.specs.Disks.{Disks}
 use Rattle.lvm_num.specs.Record.{Stamped, newest_below}
 use Rattle.lvm_num.specs.Votes.{all_disks, votes_in, is_enough_to_read}
 use Rattle.lvm_kept.specs.Contents.{Contents}
-use Rattle.lvm_kept.specs.Group.{if_passes, passes, is_of, is_status_of, descriptor_among, is_voter, has_quorum, status_among, members_in}
-use Rattle.lvm_quorum.specs.declared.choice.Choice.{Choice}
-use Rattle.lvm_quorum.specs.declared.choice.ChooseFault.{ChooseFault}
-use Rattle.lvm_quorum.specs.declared.choice.ChooseFault.TheVariants as fault
+use Rattle.lvm_kept.specs.Group.{if_passes, passes, is_status_of, descriptor_among, is_voter, has_quorum, status_among}
 use Rattle.lvm_quorum.specs.declared.row.SurveyRow.{SurveyRow}
 use Rattle.lvm_quorum.specs.declared.row.Survey.{Survey}
 use Rattle.lvm_quorum.specs.Surveyed.{surveyed, under, IsSurveyValid}
-use Rattle.lvm_quorum.specs.Choosing.{IsNamed, HasRecord, HasNoRecord, IsChosen, LacksQuorum, ChooseGives}
-use Rattle.lvm_quorum.specs.Groups.{IsChoiceOf, LacksVotes, GroupGives}
 use Rattle.lvm_quorum.proofs.Folds.{newest_none}
 use Rattle.lvm_quorum.proofs.Voting.{no_voters}
 use Rattle.lvm_quorum.proofs.Epochs.{found_on}

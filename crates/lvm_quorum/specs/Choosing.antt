@@ -1,5 +1,5 @@
 -- Which group a name chooses, by what the disks show.
-use Rattle.std.specs.Prelude.{◌≡◌, ◌⊎◌, ℕ, ◌≤◌, List, Option, Some, None, Result, Ok, Err, IsTrue, IsFalse}
+use Rattle.std.specs.Prelude.{◌≡◌, ◌⊎◌, ℕ, ◌≤◌, List, Some, None, Result, Ok, Err, IsTrue, IsFalse}
 use Rattle.lvm_num.specs.declared.descriptor.Descriptor.{Descriptor}
 use Rattle.lvm_num.specs.declared.status.Status.{Status}
 use Rattle.lvm_num.specs.Disks.{has}

@@ -1,5 +1,5 @@
 -- A group among the rows of a survey, and what is chosen of it.
-use Rattle.std.specs.Prelude.{◌≡◌, ◌≢◌, ◌⊎◌, ℕ, ◌≤◌, max, List, Option, Some, None, Result, Ok, Err, IsTrue, IsFalse}
+use Rattle.std.specs.Prelude.{◌≡◌, ◌⊎◌, ℕ, ◌≤◌, max, List, Option, Some, None, Result, Ok, Err, IsTrue, IsFalse}
 use Rattle.lvm_num.specs.declared.descriptor.Descriptor.{Descriptor}
 use Rattle.lvm_num.specs.declared.status.Status.{Status}
 use Rattle.lvm_num.specs.Disks.{has}
@@ -12,7 +12,7 @@ use Rattle.lvm_quorum.specs.declared.choice.ChooseFault.{ChooseFault}
 use Rattle.lvm_quorum.specs.declared.choice.ChooseFault.TheVariants as fault
 use Rattle.lvm_quorum.specs.declared.groups.Group.{Group}
 use Rattle.lvm_quorum.specs.declared.shown.Shown.{Shown}
-use Rattle.lvm_quorum.specs.Choosing.{IsNamed, IsGreatestEpoch}
+use Rattle.lvm_quorum.specs.Choosing.{IsGreatestEpoch}
 
 -- a record that is shown, under its stamp
 abbrev pub stamped : {X : Type 0} → Shown X → Stamped X

@@ -1,4 +1,4 @@
-use Rattle.std.proofs.Common.{◌≡◌, List, length, refl, sym, ap, ◌∙◌, arith}
+use Rattle.std.proofs.Common.{◌≡◌, length, refl, sym, ap, ◌∙◌, arith}
 use Rattle.lvm_num.specs.Record.{newer, newest_below}
 use Rattle.lvm_kept.specs.Group.{descriptor_among, if_passes, is_of}
 use Rattle.lvm_quorum.specs.declared.row.SurveyRow.{SurveyRow}

@@ -1,6 +1,4 @@
-use Rattle.std.proofs.Common.{◌≡◌, ℕ, ◌<◌, None}
-use Rattle.lvm_num.specs.Votes.{all_disks}
-use Rattle.lvm_kept.specs.Group.{status_among}
+use Rattle.std.proofs.Common.{ℕ, ◌<◌}
 use Rattle.lvm_quorum.specs.Surveyed.{surveyed}
 use Rattle.lvm_quorum.specs.Groups.{IsNamedBy}
 use Rattle.lvm_quorum.proofs.names.first_named.Given as goal

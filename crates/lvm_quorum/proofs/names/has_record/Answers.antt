@@ -1,4 +1,4 @@
-use Rattle.std.proofs.Common.{◌≡◌, ℕ, ◌<◌, ◌≤◌, List, length, None, refl, sym, ap, subst, ◌∙◌, arith}
+use Rattle.std.proofs.Common.{◌≡◌, ℕ, length, None, sym, ap, subst, ◌∙◌, arith}
 use Rattle.lvm_num.specs.Votes.{all_disks}
 use Rattle.lvm_kept.specs.Group.{status_among}
 use Rattle.lvm_quorum.specs.declared.row.SurveyRow.{SurveyRow}
