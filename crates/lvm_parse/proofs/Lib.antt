@@ -1,4 +1,5 @@
 pub mod Numbers
+pub mod Bounds
 pub mod Choices
 pub mod ManyWords
 pub mod NextWord

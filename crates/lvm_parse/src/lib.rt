@@ -58,6 +58,7 @@
 mod chosen;
 mod command;
 mod disks;
+pub mod laws;
 mod line;
 mod operands;
 mod options;

@@ -1,0 +1,259 @@
+-- Every column that the grammar names is one of the line's, or the one behind it.
+use Rattle.std.specs.Prelude.{⊤, MatchOption, codes, bytes_eq, position, not, nat_lt, unwrap_or}
+use Rattle.std.proofs.lemmas.Bool.Decides.{nat_tests}
+use Rattle.std.proofs.lemmas.List.{length-take}
+use Rattle.std.proofs.lemmas.List.Quantifiers.{position-Some}
+use Rattle.std.proofs.Common.{◌≡◌, ℕ, ◌+◌, ◌≤◌, ◌<◌, ◌==◌, Bool, true, false, cond, List, [], ◌∷◌, ◌++◌, length, take, Option, Some, None, Result, Ok, Err, refl, subst, arith, length-append}
+use Rattle.lvm_num.specs.declared.descriptor.Policy.TheVariants as policy
+use Rattle.lvm_parse.specs.declared.command.Command.{Command}
+use Rattle.lvm_parse.specs.declared.command.Command.TheVariants as command
+use Rattle.lvm_parse.specs.declared.rest.Misfit.{Misfit}
+use Rattle.lvm_parse.specs.Line.{WordAt, Left, finished, words_from, left_at, is_plain, is_remark, too_long_or, unreadable_at}
+use Rattle.lvm_parse.specs.Words.{number_in, count_in, partitions_in, word_in, name_in, disk_in}
+use Rattle.lvm_parse.specs.Reading.{misfit, then_, or_misfit, column_of, next_column, operand_of, operand, option_of, option, ends_of, ends, last, Choice, NoOption, Alone, Valued, options_of, options, required, further_disk, one_or_more, disks_of, disks}
+use Rattle.lvm_parse.specs.Grammar.{rd, wr, fail, heal, lspv, cut_of, cut, mkvg_choice, no_mkvg_options, mkvg, varyonvg, varyoffvg, lsvg, mklv_choice, no_mklv_options, mklv, rmlv, lslv, rule, line_of_words, readable, line_of}
+
+-- a column from 1 to this one
+abbrev pub IsIn : ℕ → ℕ → Type 0
+IsIn high column = (1 ≤ column) × (column ≤ high)
+
+-- the columns of these words
+abbrev pub AreIn : ℕ → List WordAt → Type 0
+AreIn high [] = ⊤
+AreIn high (w ∷ ws) = IsIn high w.column × AreIn high ws
+
+-- the columns of what is left
+abbrev pub LeftIn : ℕ → Left → Type 0
+LeftIn high l = AreIn high l.words × IsIn high l.end
+
+-- the column at which the words don't fit, if they don't
+abbrev pub In : {T : Type 0} → ℕ → Result T Misfit → Type 0
+In high (Ok value) = ⊤
+In high (Err m) = IsIn high m.column
+
+-- ---- the words of a line
+
+words_are_in : (column : ℕ) (word line : List ℕ) → length word < column → AreIn (column + length line) (words_from column word line)
+words_are_in column [] [] begun = tt
+words_are_in column (c ∷ word) [] begun = ((omega arith, omega arith), tt)
+words_are_in column word (b ∷ line) begun =
+    at (b == 32) (subst (λ (n : ℕ). AreIn n (words_from (column + 1) [] line)) same (words_are_in (column + 1) [] line (omega arith)))
+    (subst (λ (n : ℕ). AreIn n (words_from (column + 1) (word ++ b ∷ []) line)) same (words_are_in (column + 1) (word ++ b ∷ []) line (omega (arith, length-append word (b ∷ [])))))
+  where
+    same : column + 1 + length line ≡ column + length (b ∷ line)
+    same = omega arith
+
+    ended : (w : List ℕ) → length w < column → AreIn (column + length (b ∷ line)) (words_from (column + 1) [] line) → AreIn (column + length (b ∷ line)) (finished column w (words_from (column + 1) [] line))
+    ended [] few behind = behind
+    ended (c ∷ w) few behind = ((omega arith, omega arith), behind)
+
+    at : (t : Bool) → AreIn (column + length (b ∷ line)) (words_from (column + 1) [] line) → AreIn (column + length (b ∷ line)) (words_from (column + 1) (word ++ b ∷ []) line) → AreIn (column + length (b ∷ line)) (cond t (finished column word (words_from (column + 1) [] line)) (words_from (column + 1) (word ++ b ∷ []) line))
+    at true behind further = ended word begun behind
+    at false behind further = further
+
+-- ---- what is read
+
+next_is_in : (high : ℕ) (ws : List WordAt) (end : ℕ) → AreIn high ws → IsIn high end → IsIn high (column_of ws end)
+next_is_in high [] end words ends = ends
+next_is_in high (w ∷ ws) end words ends = words.0
+
+operand_then : {T B : Type 0} (high : ℕ) (meaning : List ℕ → Option T) (l : Left) → LeftIn high l → (next : T × Left → Result B Misfit) → ((r : T × Left) → LeftIn high r.1 → In high (next r)) → In high (then_ (operand meaning l) next)
+unfolding operand
+operand_then {T} {B} high meaning l within next more = at l.words within.0
+  where
+    behind : (ws : List WordAt) (column : ℕ) (o : Option T) → AreIn high ws → IsIn high column → In high (then_ {A = T × Left} (then_ {A = T} (or_misfit o column) (λ value. Ok (value, record { words = ws; end = l.end }))) next)
+    behind ws column None words own = own
+    behind ws column (Some value) words own = more (value, record { words = ws; end = l.end }) (words, within.1)
+
+    at : (ws : List WordAt) → AreIn high ws → In high (then_ {A = T × Left} (operand_of meaning ws l.end) next)
+    at [] words = within.1
+    at (w ∷ ws) words = behind ws w.column (meaning w.bytes) words.1 words.0
+
+ends_in : {T : Type 0} (high : ℕ) (l : Left) (value : T) → LeftIn high l → In high (ends l value)
+unfolding ends
+ends_in {T} high l value within = at l.words within.0
+  where
+    at : (ws : List WordAt) → AreIn high ws → In high (ends_of ws value)
+    at [] words = tt
+    at (w ∷ ws) words = words.0
+
+ends_then : {T B : Type 0} (high : ℕ) (l : Left) (value : T) → LeftIn high l → (next : T → Result B Misfit) → ((v : T) → In high (next v)) → In high (then_ (ends l value) next)
+unfolding ends
+ends_then {T} {B} high l value within next more = at l.words within.0
+  where
+    at : (ws : List WordAt) → AreIn high ws → In high (then_ (ends_of ws value) next)
+    at [] words = more value
+    at (w ∷ ws) words = words.0
+
+-- the last operand, and what it makes
+last_then : {T B : Type 0} (high : ℕ) (meaning : List ℕ → Option T) (l : Left) → LeftIn high l → (make : T → B) → In high (then_ (last meaning l) (λ value. Ok (make value)))
+unfolding operand ends
+last_then {T} {B} high meaning l within make = at l.words within.0
+  where
+    made : Result T Misfit → Result B Misfit
+    made r = then_ r (λ value. Ok (make value))
+
+    ended : (ws : List WordAt) (value : T) → AreIn high ws → In high (then_ {B = B} (ends_of ws value) (λ value. Ok (make value)))
+    ended [] value words = tt
+    ended (w ∷ ws) value words = words.0
+
+    behind : (ws : List WordAt) (column : ℕ) (o : Option T) → AreIn high ws → IsIn high column → In high (then_ {A = T} {B = B} (then_ {A = T × Left} (then_ {A = T} (or_misfit o column) (λ value. Ok (value, record { words = ws; end = l.end }))) (λ value. ends_of value.1.words value.0)) (λ value. Ok (make value)))
+    behind ws column None words own = own
+    behind ws column (Some value) words own = ended ws value words
+
+    at : (ws : List WordAt) → AreIn high ws → In high (then_ {A = T} {B = B} (then_ {A = T × Left} (operand_of meaning ws l.end) (λ value. ends_of value.1.words value.0)) (λ value. Ok (make value)))
+    at [] words = within.1
+    at (w ∷ ws) words = behind ws w.column (meaning w.bytes) words.1 words.0
+
+option_is_in : (high : ℕ) (name : List ℕ) (l : Left) → LeftIn high l → LeftIn high (option name l).1
+unfolding option
+option_is_in high name l within = at l.words within.0
+  where
+    chosen : (t : Bool) (w : WordAt) (ws : List WordAt) → AreIn high (w ∷ ws) → LeftIn high (cond {A = Bool × Left} t (true, record { words = ws; end = l.end }) (false, record { words = w ∷ ws; end = l.end })).1
+    chosen true w ws words = (words.1, within.1)
+    chosen false w ws words = (words, within.1)
+
+    at : (ws : List WordAt) → AreIn high ws → LeftIn high (option_of name ws l.end).1
+    at [] words = (tt, within.1)
+    at (w ∷ ws) words = chosen (bytes_eq w.bytes name) w ws words
+
+options_then : {O B : Type 0} (high : ℕ) (choice : O → List ℕ → Choice O) (o : O) (l : Left) → LeftIn high l → (next : O × Left → Result B Misfit) → ((r : O × Left) → LeftIn high r.1 → In high (next r)) → In high (then_ (options choice o l) next)
+unfolding options
+options_then {O} {B} high choice o l within next more = at o l.words within.0
+  where
+    at : (p : O) (ws : List WordAt) → AreIn high ws → In high (then_ {A = O × Left} (options_of choice p ws l.end) next)
+    at p [] words = more (p, record { words = []; end = l.end }) (tt, within.1)
+    at p (w ∷ []) words = one (choice p w.bytes)
+      where
+        one : (k : Choice O) → In high (then_ {A = O × Left} (elim k as (λ _. Result (O × Left) Misfit) [ NoOption ↦ Ok (p, record { words = w ∷ []; end = l.end }) | Alone with ↦ Ok (with, record { words = []; end = l.end }) | Valued read ↦ misfit l.end ]) next)
+        one NoOption = more (p, record { words = w ∷ []; end = l.end }) (words, within.1)
+        one (Alone with) = more (with, record { words = []; end = l.end }) (tt, within.1)
+        one (Valued read) = within.1
+    at p (w ∷ v ∷ ws) words = two (choice p w.bytes) (λ q. at q (v ∷ ws) words.1) (λ q. at q ws words.1.1)
+      where
+        value : (r : Option O) → ((q : O) → In high (then_ {A = O × Left} (options_of choice q ws l.end) next)) → In high (then_ {A = O × Left} (then_ (or_misfit r v.column) (λ with. options_of choice with ws l.end)) next)
+        value None valued = words.1.0
+        value (Some with) valued = valued with
+
+        two : (k : Choice O) → ((q : O) → In high (then_ {A = O × Left} (options_of choice q (v ∷ ws) l.end) next)) → ((q : O) → In high (then_ {A = O × Left} (options_of choice q ws l.end) next)) → In high (then_ {A = O × Left} (elim k as (λ _. Result (O × Left) Misfit) [ NoOption ↦ Ok (p, record { words = w ∷ v ∷ ws; end = l.end }) | Alone with ↦ options_of choice with (v ∷ ws) l.end | Valued read ↦ then_ (or_misfit (read v.bytes) v.column) (λ with. options_of choice with ws l.end) ]) next)
+        two NoOption alone valued = more (p, record { words = w ∷ v ∷ ws; end = l.end }) (words, within.1)
+        two (Alone with) alone valued = alone with
+        two (Valued read) alone valued = value (read v.bytes) valued
+
+required_then : {T B : Type 0} (high : ℕ) (value : Option T) (l : Left) → LeftIn high l → (next : T → Result B Misfit) → ((v : T) → In high (next v)) → In high (then_ (required value l) next)
+required_then high None l within next more = next_is_in high l.words l.end within.0 within.1
+required_then high (Some value) l within next more = more value
+
+disks_then : {B : Type 0} (high : ℕ) (before : List ℕ) (l : Left) → LeftIn high l → (next : List ℕ → Result B Misfit) → ((ds : List ℕ) → In high (next ds)) → In high (then_ (disks before l) next)
+unfolding disks
+disks_then {B} high before l within next more = at before l.words within.0
+  where
+    some : (ds : List ℕ) → In high (then_ (one_or_more ds l.end) next)
+    some [] = within.1
+    some (d ∷ ds) = more (d ∷ ds)
+
+    at : (ds : List ℕ) (ws : List WordAt) → AreIn high ws → In high (then_ {A = List ℕ} (disks_of ds ws l.end) next)
+    at ds [] words = some ds
+    at ds (w ∷ ws) words = further (further_disk ds w.bytes) (λ disk. at (ds ++ disk ∷ []) ws words.1)
+      where
+        further : (o : Option ℕ) → ((disk : ℕ) → In high (then_ {A = List ℕ} (disks_of (ds ++ disk ∷ []) ws l.end) next)) → In high (then_ {A = List ℕ} (then_ (or_misfit o w.column) (λ disk. disks_of (ds ++ disk ∷ []) ws l.end)) next)
+        further None behind = words.0
+        further (Some disk) behind = behind disk
+
+-- ---- the rules
+
+rd_in : (high : ℕ) (l : Left) → LeftIn high l → In high (rd l)
+rd_in high l b = operand_then high disk_in l b _ (λ disk b. operand_then high number_in disk.1 b _ (λ at b. operand_then high count_in at.1 b _ (λ count b. ends_in high count.1 _ b)))
+
+wr_in : (high : ℕ) (l : Left) → LeftIn high l → In high (wr l)
+wr_in high l b = operand_then high disk_in l b _ (λ disk b. operand_then high number_in disk.1 b _ (λ at b. operand_then high count_in at.1 b _ (λ count b. operand_then high word_in count.1 b _ (λ word b. ends_in high word.1 _ b))))
+
+cut_in : (high : ℕ) (l : Left) → LeftIn high l → In high (cut l)
+cut_in high l b = at l.words
+  where
+    at : (ws : List WordAt) → In high (cut_of ws l)
+    at [] = tt
+    at (w ∷ ws) = last_then high word_in l b command.Cut
+
+mkvg_in : (high : ℕ) (l : Left) → LeftIn high l → In high (mkvg l)
+mkvg_in high l b = options_then high mkvg_choice no_mkvg_options l b _ (λ o b. required_then high o.0.name o.1 b _ (λ name. disks_then high [] o.1 b _ (λ disks. tt)))
+
+mklv_in : (high : ℕ) (l : Left) → LeftIn high l → In high (mklv l)
+mklv_in high l b = options_then high mklv_choice no_mklv_options l b _ (λ o b. required_then high o.0.name o.1 b _ (λ name. required_then high o.0.mode o.1 b _ (λ mode. operand_then high name_in o.1 b _ (λ group b. last_then high partitions_in group.1 b (command.Mklv name (unwrap_or o.0.copies 1) mode (unwrap_or o.0.policy policy.Parallel) group.0)))))
+
+lslv_in : (high : ℕ) (l : Left) → LeftIn high l → In high (lslv l)
+lslv_in high l b = at (option (codes "-m") l) (option_is_in high (codes "-m") l b)
+  where
+    at : (map : Bool × Left) → LeftIn high map.1 → In high (cond map.0 (then_ (last name_in map.1) (λ name. Ok (command.Lslv name))) (misfit (next_column map.1)))
+    at (true, k) b = last_then high name_in k b command.Lslv
+    at (false, k) b = next_is_in high k.words k.end b.0 b.1
+
+either_in : {T : Type 0} (high : ℕ) (t : Bool) (x y : Result T Misfit) → In high x → In high y → In high (cond t x y)
+either_in high true x y a b = a
+either_in high false x y a b = b
+
+rule_in : (high : ℕ) (word : List ℕ) (column : ℕ) (l : Left) → IsIn high column → LeftIn high l → In high (rule word column l)
+rule_in high word column l own b =
+    let or_cut : Result Command Misfit = cond (bytes_eq word (codes "cut")) (cut l) (misfit column) in
+    let cut_is_in : In high or_cut = either_in high (bytes_eq word (codes "cut")) (cut l) (misfit column) (cut_in high l b) own in
+    let or_heal : Result Command Misfit = cond (bytes_eq word (codes "heal")) (heal l) (or_cut) in
+    let heal_is_in : In high or_heal = either_in high (bytes_eq word (codes "heal")) (heal l) (or_cut) (last_then high disk_in l b command.Heal) cut_is_in in
+    let or_fail : Result Command Misfit = cond (bytes_eq word (codes "fail")) (fail l) (or_heal) in
+    let fail_is_in : In high or_fail = either_in high (bytes_eq word (codes "fail")) (fail l) (or_heal) (last_then high disk_in l b command.Fail) heal_is_in in
+    let or_lspv : Result Command Misfit = cond (bytes_eq word (codes "lspv")) (lspv l) (or_fail) in
+    let lspv_is_in : In high or_lspv = either_in high (bytes_eq word (codes "lspv")) (lspv l) (or_fail) (last_then high disk_in l b command.Lspv) fail_is_in in
+    let or_lslv : Result Command Misfit = cond (bytes_eq word (codes "lslv")) (lslv l) (or_lspv) in
+    let lslv_is_in : In high or_lslv = either_in high (bytes_eq word (codes "lslv")) (lslv l) (or_lspv) (lslv_in high l b) lspv_is_in in
+    let or_rmlv : Result Command Misfit = cond (bytes_eq word (codes "rmlv")) (rmlv l) (or_lslv) in
+    let rmlv_is_in : In high or_rmlv = either_in high (bytes_eq word (codes "rmlv")) (rmlv l) (or_lslv) (last_then high name_in (option (codes "-f") l).1 (option_is_in high (codes "-f") l b) command.Rmlv) lslv_is_in in
+    let or_mklv : Result Command Misfit = cond (bytes_eq word (codes "mklv")) (mklv l) (or_rmlv) in
+    let mklv_is_in : In high or_mklv = either_in high (bytes_eq word (codes "mklv")) (mklv l) (or_rmlv) (mklv_in high l b) rmlv_is_in in
+    let or_lsvg : Result Command Misfit = cond (bytes_eq word (codes "lsvg")) (lsvg l) (or_mklv) in
+    let lsvg_is_in : In high or_lsvg = either_in high (bytes_eq word (codes "lsvg")) (lsvg l) (or_mklv) (last_then high name_in (option (codes "-l") l).1 (option_is_in high (codes "-l") l b) (command.Lsvg (option (codes "-l") l).0)) mklv_is_in in
+    let or_varyoffvg : Result Command Misfit = cond (bytes_eq word (codes "varyoffvg")) (varyoffvg l) (or_lsvg) in
+    let varyoffvg_is_in : In high or_varyoffvg = either_in high (bytes_eq word (codes "varyoffvg")) (varyoffvg l) (or_lsvg) (last_then high name_in l b command.Varyoff) lsvg_is_in in
+    let or_varyonvg : Result Command Misfit = cond (bytes_eq word (codes "varyonvg")) (varyonvg l) (or_varyoffvg) in
+    let varyonvg_is_in : In high or_varyonvg = either_in high (bytes_eq word (codes "varyonvg")) (varyonvg l) (or_varyoffvg) (last_then high name_in (option (codes "-n") l).1 (option_is_in high (codes "-n") l b) command.Varyon) varyoffvg_is_in in
+    let or_wr : Result Command Misfit = cond (bytes_eq word (codes "wr")) (wr l) (or_varyonvg) in
+    let wr_is_in : In high or_wr = either_in high (bytes_eq word (codes "wr")) (wr l) (or_varyonvg) (wr_in high l b) varyonvg_is_in in
+    let or_rd : Result Command Misfit = cond (bytes_eq word (codes "rd")) (rd l) (or_wr) in
+    let rd_is_in : In high or_rd = either_in high (bytes_eq word (codes "rd")) (rd l) (or_wr) (rd_in high l b) wr_is_in in
+    let or_mkvg : Result Command Misfit = cond (bytes_eq word (codes "mkvg")) (mkvg l) (or_rd) in
+    let mkvg_is_in : In high or_mkvg = either_in high (bytes_eq word (codes "mkvg")) (mkvg l) (or_rd) (mkvg_in high l b) rd_is_in in
+    mkvg_is_in
+
+words_in : (high : ℕ) (ws : List WordAt) (end : ℕ) → AreIn high ws → IsIn high end → In high (line_of_words ws end)
+words_in high [] end words ends = tt
+words_in high (w ∷ ws) end words ends =
+    either_in high (is_remark w.bytes) _ _ tt (asked (rule w.bytes w.column (record { words = ws; end = end })) (rule_in high w.bytes w.column (record { words = ws; end = end }) words.0 (words.1, ends)))
+  where
+    asked : (r : Result Command Misfit) → In high r → In high (then_ {B = Option Command} r (λ c. Ok (Some c)))
+    asked (Ok c) b = tt
+    asked (Err m) b = b
+
+-- ---- a line
+
+too_long_in : (o : Option ℕ) (size : ℕ) → ((place : ℕ) → o ≡ Some place → place < size) → MatchOption (too_long_or o size) ⊤ (IsIn (1 + size))
+too_long_in (Some place) size below = let within : place < size = below place refl in (omega arith, omega arith)
+too_long_in None size below = at (nat_lt 4096 size) refl
+  where
+    at : (t : Bool) → t ≡ nat_lt 4096 size → MatchOption (cond t (Some 4097) None) ⊤ (IsIn (1 + size))
+    at true is = let long : 4096 < size = grind (arith, nat_tests) in (omega arith, omega arith)
+    at false is = tt
+
+unreadable_in : (line : List ℕ) → MatchOption (unreadable_at line) ⊤ (IsIn (1 + length line))
+unreadable_in line = too_long_in (position (λ b. not (is_plain b)) (take 4096 line)) (length line) (λ place is.
+    let found : place < length (take 4096 line) = (position-Some (λ b. not (is_plain b)) (take 4096 line) place 0 is).0 in
+    omega (arith, length-take 4096 line, found))
+
+line_in : (line : List ℕ) → In (1 + length line) (line_of line)
+line_in line = at (unreadable_at line) (unreadable_in line)
+  where
+    at : (o : Option ℕ) → MatchOption o ⊤ (IsIn (1 + length line)) → In (1 + length line) (readable o (left_at 1 line))
+    at (Some column) own = own
+    at None own = words_in (1 + length line) (words_from 1 [] line) (1 + length line) (words_are_in 1 [] line (omega arith)) (omega arith, omega arith)
+
+pub refused_within : (line : List ℕ) (column : ℕ) → line_of line ≡ misfit column → (1 ≤ column) × (column ≤ length line + 1)
+refused_within line column is =
+    let within : In (1 + length line) (misfit {T = Option Command} column) = subst (In (1 + length line)) is (line_in line) in
+    (within.0, omega (arith, within.1))
