@@ -2,4 +2,3 @@ pub mod Surveyed
 pub mod Choosing
 pub mod Groups
 pub mod Rows
-pub mod Written
