@@ -4,11 +4,13 @@
 mod choice;
 mod copies;
 mod groups;
+mod homes;
 mod names;
 mod row;
 mod shown;
 
 pub use choice::{Choice, ChooseFault, choose};
+pub use homes::Homes;
 pub use row::{Survey, SurveyRow};
 
 #[cfg(test)]

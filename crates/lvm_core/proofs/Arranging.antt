@@ -1,0 +1,112 @@
+-- A session stays sound when its shelf is told to fail, to heal or to cut the power.
+use Rattle.std.proofs.Common.{◌≡◌, ◌⊎◌, inl, inr, ℕ, ◌≤◌, ◌+◌, Bool, true, false, List, [], ◌∷◌, ◌++◌, length, map, refl, sym, ◌∙◌, ap, subst, arith}
+use Rattle.std.specs.Prelude.{cond, count_by, slice_index_or}
+use Rattle.std.proofs.lemmas.List.{length-map}
+use Rattle.std.proofs.lemmas.List.Sums.{sum_by-append}
+use Rattle.lvm_num.specs.Buffer.{Buffer}
+use Rattle.lvm_disk.specs.Device.{Device, Flight}
+use Rattle.lvm_disk.specs.Steps.{Cuts, GoesDark, with_order, ArrangeGives}
+use Rattle.lvm_disk.specs.declared.shelf.Arrange.{Arrange}
+use Rattle.lvm_disk.specs.declared.shelf.Arrange.TheVariants as arrange
+use Rattle.lvm_core.specs.State.{Core, State, state}
+use Rattle.lvm_core.specs.Dark.{darkened, all_dark, after_arrange, dark_log}
+use Rattle.lvm_core.specs.Starting.{ArePlaced}
+use Rattle.lvm_core.specs.Sound.{has_number, out_with, is_dark, IsFitting, IsTold, IsLit, IsDark, IsSound}
+use Rattle.lvm_core.proofs.Landing.{dark_told, dark_each}
+
+-- a shelf that has as large disks and as many buffers out, and whose power and flights allow it
+pub record IsLike (old new : Device) : Type 0 where
+  pub sizes : new.sizes ≡ old.sizes
+  pub out : (n : ℕ) → out_with new n ≡ out_with old n
+
+-- only the orders of a shelf have changed
+pub ordered_sound : (device : Device) (core : Core) (what : Arrange) → IsSound (state device core) → IsSound (state (with_order device what) core)
+ordered_sound device core what sound = record {
+  fitting = sound.fitting;
+  told = sound.told;
+  placed = sound.placed;
+  buffers = sound.buffers;
+  quiet = sound.quiet;
+  lit = λ is. let lit = sound.lit is in record { power = lit.power; freed = lit.freed };
+  dark = λ is. let dark = sound.dark is in record { power = dark.power; flights = dark.flights };
+}
+
+module _ (core : Core) where
+  dark_fits : IsFitting core → IsFitting (all_dark core)
+  dark_fits fits = record {
+    valid = fits.valid;
+    id = fits.id;
+    rows = fits.rows;
+    group = fits.group;
+    notes = fits.notes;
+    table = subst (λ n. n ≤ core.most) (sym (length-map core.requests darkened)) fits.table;
+    most = fits.most;
+    queue = fits.queue;
+    buffers = fits.buffers;
+  }
+
+  dark_is_told : IsTold core → IsTold (all_dark core)
+  dark_is_told told = record {
+    table = dark_told core.history.facts core.requests told.table (dark_log core.history core.requests).facts;
+    each = dark_each core.history core.requests told.table told.each;
+  }
+
+-- the session after a power cut, on a shelf without power on which nothing is under way
+dark_sound : (old new : Device) (core : Core) → IsSound (state old core) → IsLike old new → IsDark new → IsSound (state new (all_dark core))
+dark_sound old new core sound like dark = record {
+  fitting = dark_fits core sound.fitting;
+  told = dark_is_told core sound.told;
+  placed = subst (λ sizes. ArePlaced sizes core.descriptor core.status.wanted) (sym like.sizes) sound.placed;
+  buffers = λ n. like.out n ∙ sound.buffers n;
+  quiet = λ quiet. dark.flights;
+  lit = λ is. absurd (let e : ◌≡◌ {A = Bool} true false = is in cc);
+  dark = λ is. dark;
+}
+
+count_map : {X Y : Type 0} (p : Y → Bool) (f : X → Y) → (xs : List X) → count_by p (map f xs) ≡ count_by (λ x. p (f x)) xs
+count_map p f [] = refl
+count_map p f (x ∷ xs) =
+    sum_by-append (λ y. cond (p y) 1 0) (f x ∷ []) (map f xs)
+    ∙ ap (λ k. (0 + cond (p (f x)) 1 0) + k) (count_map p f xs)
+    ∙ sym (sum_by-append (λ y. cond (p (f y)) 1 0) (x ∷ []) xs)
+
+-- the buffers of the flights that a cut gave up are to be freed
+cut_is_like : (old new : Device) → Cuts old new → IsLike old new
+cut_is_like old new cuts = record {
+  sizes = ap (λ (d : Device). d.sizes) cuts.new_is;
+  out = λ n.
+      ap (λ (d : Device). out_with d n) cuts.new_is
+      ∙ ap (λ k. 0 + k) (sum_by-append (λ b. cond (has_number n b) 1 0) old.freed (map (λ (f : Flight). f.buf) old.flights) ∙ ap (λ k. count_by (has_number n) old.freed + k) (count_map (has_number n) (λ (f : Flight). f.buf) old.flights))
+      ∙ omega arith;
+}
+
+-- Without power nothing is under way, when it has just been cut and when it was off.
+cut_is_dark : (old new : Device) (core : Core) → IsSound (state old core) → new.power ≡ false → GoesDark old new → IsLike old new × IsDark new
+cut_is_dark old new core sound off (inl was) =
+    let same = was.1 in (
+      record { sizes = ap (λ (d : Device). d.sizes) same; out = λ n. ap (λ (d : Device). out_with d n) same },
+      record { power = off; flights = ap (λ (d : Device). d.flights) same ∙ by_power (is_dark core.power) refl },
+    )
+  where
+    by_power : (b : Bool) → is_dark core.power ≡ b → old.flights ≡ []
+    by_power true is = (sound.dark is).flights
+    by_power false is = absurd (let lit = (sound.lit is).power in let dark = was.0 in cc (lit, dark))
+cut_is_dark old new core sound off (inr cuts) =
+    (cut_is_like old new cuts, record { power = off; flights = ap (λ (d : Device). d.flights) cuts.new_is })
+
+pub arranged_sound : (old new : Device) (core : Core) (what : Arrange) (done : Bool) → ArrangeGives old new what done → IsSound (state old core) → IsSound (state new (after_arrange what done core))
+arranged_sound old new core what false gives sound = subst (λ (d : Device). IsSound (state d core)) (sym gives.1) sound
+arranged_sound old new core (arrange.Fail disk) true gives sound = subst (λ (d : Device). IsSound (state d core)) (sym gives.1) (ordered_sound old core (arrange.Fail disk) sound)
+arranged_sound old new core (arrange.Heal disk) true gives sound = subst (λ (d : Device). IsSound (state d core)) (sym gives.1) (ordered_sound old core (arrange.Heal disk) sound)
+arranged_sound old new core (arrange.Cut word) true gives sound =
+    let what = arrange.Cut word in
+    let ordered = ordered_sound old core what sound in
+    let its = cut_is_dark (with_order old what) new core ordered gives.1.0 gives.1.1 in
+    dark_sound (with_order old what) new core ordered its.0 its.1
+
+-- the room for requests stays
+pub same_most : (what : Arrange) (done : Bool) (core : Core) → (after_arrange what done core).most ≡ core.most
+same_most what false core = refl
+same_most (arrange.Fail disk) true core = refl
+same_most (arrange.Heal disk) true core = refl
+same_most (arrange.Cut word) true core = refl

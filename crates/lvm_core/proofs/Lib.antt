@@ -1,0 +1,4 @@
+pub mod Telling
+pub mod Landing
+pub mod Beginning
+pub mod Arranging

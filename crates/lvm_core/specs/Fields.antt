@@ -1,0 +1,31 @@
+-- The fields of a session, and of its parts, as contracts see them.
+use Rattle.lvm_core.specs.declared.parts.Parts.TheInside.{Inside}
+use Rattle.lvm_core.specs.declared.session.Session.{Session}
+use Rattle.lvm_core.specs.State.{Core}
+use Rattle.lvm_core.specs.Starting.{Reserved}
+
+abbrev pub core_of : Session → Core
+core_of s = record {
+  descriptor = s.descriptor;
+  history = s.history;
+  requests = s.requests.items;
+  most = s.most;
+  queue = s.queue;
+  copy = s.copy;
+  pool = s.pool;
+  status = s.updater;
+  cache = s.cache;
+  homes = s.homes;
+  power = s.power;
+}
+
+abbrev pub reserved_of : Inside → Reserved
+reserved_of p = record {
+  descriptor = p.descriptor;
+  requests = p.requests.items;
+  most = p.most;
+  queue = p.queue;
+  pool = p.pool;
+  status = p.updater;
+  cache = p.cache;
+}

@@ -1,0 +1,6 @@
+pub mod State
+pub mod Dark
+pub mod Sound
+pub mod Starting
+pub mod Looking
+pub mod Fields

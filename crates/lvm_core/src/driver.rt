@@ -1,0 +1,168 @@
+//! A session over its shelf.
+ghost use Rattle.std.specs.Prelude.{◌≡◌, ◌≤◌, ◌<◌, ◌+◌, ◌^◌, [], length, slice_get, Some, IfSome, IfNone};
+ghost use Rattle.lvm_num.specs.Descriptor.{IsValid};
+ghost use Rattle.lvm_num.specs.Votes.{total_votes};
+ghost use Rattle.lvm_vol.specs.Log.{spare_entries};
+ghost use Rattle.lvm_disk.specs.Device.{IsReady};
+ghost use Rattle.lvm_disk.specs.Steps.{MayArrange, ArrangeGives};
+ghost use Rattle.lvm_core.specs.State.{state, votes_there};
+ghost use Rattle.lvm_core.specs.Dark.{after_arrange};
+ghost use Rattle.lvm_core.specs.Looking.{IsNumberOf, HasNoVolume};
+ghost use Rattle.lvm_core.specs.Sound.{IsSound, HaveAllLanded};
+ghost use Rattle.lvm_core.specs.Starting.{ArePlaced, first_core};
+
+use crate::look::number_of;
+use crate::parts::Parts;
+use crate::session::Session;
+use lvm_disk::{Arrange, Shelf};
+use lvm_num::{Descriptor, Name, Stamp};
+use lvm_quorum::Homes;
+use lvm_stale::StaleTable;
+use lvm_vol::History;
+use std::marker::Model;
+
+/// A group that is varied on, over its shelf. Contracts see the shelf and what the session is about.
+/// No call of it takes memory.
+#[derive(Drop)]
+pub struct Driver<S: Shelf> {
+    shelf: S,
+    session: Session,
+}
+
+impl<S: Shelf> Model for Driver<S> {
+    ghost use Rattle.std.specs.Prelude.{◌≤◌, vec_capacity};
+    ghost use Rattle.lvm_core.specs.State.{Core, state};
+    ghost use Rattle.lvm_core.specs.Fields.{core_of};
+    ghost use Rattle.lvm_core.specs.Sound.{IsSound};
+
+    ghost Value = { S × Core };
+
+    ghost view = { λ d. (d.shelf, core_of d.session) };
+
+    ghost invariant = { λ d. (d.session.most ≤ vec_capacity d.session.requests) × IsSound (state (S.device d.shelf) (core_of d.session)) };
+}
+
+impl<S: Shelf> Driver<S> {
+    /// Varies the group on: enters On with the epoch of the stamp, which is that of the last record
+    /// that was written; `homes` are the slots to which the next ones go.
+    pub fn start(parts: Parts, shelf: S, history: History, stamp: Stamp, homes: Homes) -> Driver<S>
+        requires spare { 1 ≤ spare_entries history }
+        requires landed { HaveAllLanded history.facts }
+        requires ready { IsReady (S.device shelf) }
+        requires placed { ArePlaced (S.device shelf).sizes parts.descriptor parts.status.wanted }
+        ensures shelf { result.0 ≡ shelf }
+        ensures core { result.1 ≡ first_core parts history stamp homes }
+    {
+        Driver {
+            shelf,
+            session: parts.into_session(history, stamp, homes),
+        }
+    }
+
+    /// How many disks its shelf has.
+    pub fn disks(&self) -> u16
+        ensures number { result ≡ length (S.device self.now.0).sizes }
+        ensures some { (1 ≤ result) × (result ≤ 128) }
+    {
+        self.shelf.disks()
+    }
+
+    /// How many sectors a disk of its shelf has.
+    pub fn sectors(&self, disk: u16) -> u64
+        requires { disk < length (S.device self.now.0).sizes }
+        ensures { slice_get (S.device self.now.0).sizes disk ≡ Some result }
+    {
+        self.shelf.sectors(disk)
+    }
+
+    /// Arranges a fault or a power cut on its shelf, where that takes such orders. A power cut ends the
+    /// session: it is entered, all open requests that haven't landed land as Dark, and an open copy has
+    /// ended.
+    pub fn arrange(&mut self, what: Arrange) -> bool
+        requires { MayArrange (S.device self.old.0) what }
+        ensures shelf { ArrangeGives (S.device self.old.0) (S.device self.new.0) what result }
+        ensures core { self.new.1 ≡ after_arrange what result self.old.1 }
+    {
+        let done = self.shelf.arrange(what);
+        self.session.arranged(what, done);
+        done
+    }
+
+    /// How many sequence numbers are left for the stamps of this session's records.
+    pub fn numbers_left(&self) -> u32
+        ensures { result + self.now.1.status.stamp.seq + 1 ≡ 2 ^ 32 }
+    {
+        u32::MAX - self.session.updater.stamp().seq
+    }
+
+    /// The number of the volume of a name.
+    pub fn volume(&self, name: Name) -> Option<u16>
+        ensures some { IfSome result (IsNumberOf self.now.1.descriptor.lvs name) }
+        ensures none { IfNone result (HasNoVolume self.now.1.descriptor.lvs name) }
+    {
+        number_of(self.session.descriptor.lvs.as_slice(), &name)
+    }
+
+    /// The committed descriptor.
+    pub fn descriptor(&self) -> &Descriptor
+        ensures same { result.now ≡ self.now.1.descriptor }
+        ensures valid { IsValid result.now }
+    {
+        &self.session.descriptor
+    }
+
+    /// The committed status.
+    pub fn table(&self) -> &StaleTable
+        ensures { result.now ≡ self.now.1.status.committed }
+    {
+        self.session.updater.committed()
+    }
+
+    /// How many requests are open: submitted, and their answers not taken.
+    pub fn open(&self) -> u32
+        ensures number { result ≡ length self.now.1.requests }
+        // What holds of the session at every moment.
+        ensures sound { IsSound (state (S.device self.now.0) self.now.1) }
+    {
+        self.session.requests.len() as u32
+    }
+
+    /// The votes of the members that aren't missing, and those of all. A disk is missing from the moment
+    /// on at which a write of a record to it has failed.
+    pub fn votes(&self) -> (u32, u32)
+        ensures have { result.0 ≡ votes_there self.now.1 }
+        ensures total { result.1 ≡ total_votes self.now.1.descriptor }
+    {
+        self.session.updater.votes()
+    }
+
+    /// What was asked and answered so far.
+    pub fn history(&self) -> &History
+        ensures { result.now ≡ self.now.1.history }
+    {
+        &self.session.history
+    }
+
+    /// Ends the session without a write. After a power cut the buffers that it gave up are taken back; a
+    /// transfer that is still under way stays with the shelf, with its buffer.
+    pub fn close(self) -> Closed<S>
+        ensures shelf { S.device result.shelf ≡ record (S.device self.0) { freed = [] } }
+        ensures history { result.history ≡ self.1.history }
+        // Where no request was open, each that the history tells of has landed.
+        ensures landed { self.1.requests ≡ [] → HaveAllLanded result.history.facts }
+    {
+        let Driver { mut shelf, session } = self;
+        while let Some(_) = shelf.next_freed() {}
+        Closed {
+            shelf,
+            history: session.history,
+        }
+    }
+}
+
+/// What is left of a session.
+#[derive(Drop)]
+pub struct Closed<S> {
+    pub shelf: S,
+    pub history: History,
+}

@@ -1,0 +1,147 @@
+//! The memory of a session, which is taken before it starts.
+ghost use Rattle.std.specs.Prelude.{◌≡◌, ◌≤◌, ◌||◌, ◌==◌, ℕ, [], IfOk, vec_capacity};
+ghost use Rattle.std.specs.List.{list_any};
+ghost use Rattle.lvm_num.specs.declared.descriptor.PvRow.{PvRow};
+ghost use Rattle.lvm_num.specs.Descriptor.{IsValid, is_member};
+ghost use Rattle.lvm_num.specs.Disks.{has};
+ghost use Rattle.lvm_num.specs.Status.{IsValidStatus};
+ghost use Rattle.lvm_vol.specs.Log.{spare_entries};
+ghost use Rattle.lvm_status.specs.Members.{HasItsRows};
+
+use crate::request::{Open, Power};
+use crate::session::Session;
+use lvm_hold::Queue;
+use lvm_mwc::Cache;
+use lvm_num::{Descriptor, DiskSet, Memory, Stamp};
+use lvm_pbuf::Pool;
+use lvm_quorum::{Choice, Homes};
+use lvm_stale::StaleTable;
+use lvm_status::Updater;
+use lvm_vol::{Entry, History};
+use std::alloc::Global;
+use std::marker::Model;
+
+/// How much a session and its run have room for.
+#[derive(Clone, Copy, Debug, PartialEq, Eq)]
+pub struct Room {
+    /// Open requests, 1 to 1,024.
+    pub table: u32,
+    /// Transfer buffers, 1 to 1,024. As many transfers are under way at most.
+    pub pool: u32,
+    /// Entries of the history, at least 4.
+    pub entries: u32,
+    /// Bytes of the history's blocks.
+    pub bytes: u64,
+}
+
+/// All that a session needs memory for: its group, a table for its requests, the hold queue, the
+/// transfer buffers, the statuses and the cache with the notes of the members.
+#[derive(Drop)]
+pub struct Parts {
+    descriptor: Descriptor,
+    requests: Vec<Open>,
+    most: u32,
+    queue: Queue,
+    pool: Pool,
+    updater: Updater,
+    cache: Cache,
+}
+
+impl Model for Parts {
+    ghost use Rattle.std.specs.Prelude.{◌≤◌, vec_capacity};
+    ghost use Rattle.lvm_core.specs.Starting.{Reserved, AreReserved};
+
+    ghost Value = { Reserved };
+
+    ghost use Rattle.lvm_core.specs.Fields.{reserved_of};
+
+    ghost view = { reserved_of };
+
+    ghost invariant = { λ p. (p.most ≤ vec_capacity p.requests) × AreReserved (reserved_of p) };
+}
+
+impl Parts {
+    ghost use Rattle.lvm_core.specs.Starting.{IsRoom, IsOneGroup, IsReservedFor, AreReserved, first_core};
+    ghost use Rattle.lvm_core.specs.Fields.{core_of};
+
+    /// Takes all the memory of a session of the group that was chosen. It begins with the status of
+    /// the choice.
+    pub fn new(alloc: Global, choice: Choice, room: Room) -> Result<Parts, Memory>
+        requires room { IsRoom room }
+        requires descriptor { IsValid choice.descriptor }
+        requires status { IsValidStatus choice.status }
+        requires group { IsOneGroup choice.descriptor choice.status }
+        ensures { IfOk result (IsReservedFor choice.descriptor choice.status room) }
+    {
+        let Choice {
+            descriptor,
+            status,
+            ..
+        } = choice;
+        let table = StaleTable::from_status(alloc, &status)?;
+        let updater = Updater::new(alloc, table, &descriptor)?;
+        let cache = Cache::new(alloc, members(&descriptor))?;
+        let queue = Queue::new(alloc, room.table)?;
+        let pool = Pool::new(alloc, room.pool)?;
+        match Vec::with_capacity(alloc, room.table as usize) {
+            Ok(requests) => Ok(Parts {
+                descriptor,
+                requests,
+                most: room.table,
+                queue,
+                pool,
+                updater,
+                cache,
+            }),
+            Err(_) => Err(Memory),
+        }
+    }
+
+    // The session that begins with them, whose moment of varyon is the epoch of the stamp.
+    pub(crate) fn into_session(self, history: History, stamp: Stamp, homes: Homes) -> Session
+        requires { 1 ≤ spare_entries history }
+        ensures core { core_of result ≡ first_core self history stamp homes }
+        ensures table { result.most ≤ vec_capacity result.requests }
+        ensures reserved { AreReserved self }
+    {
+        let Parts {
+            descriptor,
+            requests,
+            most,
+            queue,
+            pool,
+            mut updater,
+            cache,
+        } = self;
+        let mut history = history;
+        history.push(Entry::On {
+            moment: stamp.epoch,
+        });
+        updater.set_stamp(stamp);
+        Session {
+            descriptor,
+            history,
+            requests,
+            most,
+            queue,
+            copy: None,
+            pool,
+            updater,
+            cache,
+            homes,
+            power: Power::On,
+        }
+    }
+}
+
+// The disks of a group's members.
+fn members(d: &Descriptor) -> DiskSet
+    requires { IsValid d.now }
+    ensures { (disk : ℕ) → has result disk ≡ is_member d.now disk }
+{
+    let mut members = DiskSet::empty();
+    for row in d.pvs.as_slice() {
+        members = members.with(row.disk);
+    }
+    members
+}
