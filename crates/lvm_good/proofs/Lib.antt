@@ -2,7 +2,7 @@ mod Small
 mod Effects
 mod Claims
 mod Telling
-mod CrashLemmas
+pub mod CrashLemmas
 mod Requests
 mod StartFirst
 mod Restage
@@ -16,7 +16,7 @@ mod Writes
 mod Others
 mod Getting
 mod Copying
-mod Finding
+pub mod Finding
 mod Whole
 mod Rules
 mod First

@@ -1,0 +1,4 @@
+mod Lists
+mod Blocks
+mod Finding
+mod Remaining
