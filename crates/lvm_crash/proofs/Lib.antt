@@ -2,3 +2,4 @@ mod Lists
 mod Blocks
 mod Finding
 mod Remaining
+mod Images

@@ -1,3 +1,4 @@
 pub mod Session
 pub mod Left
+pub mod Flights
 pub mod Laws

@@ -1,8 +1,19 @@
 //! Laws of what stands on the disks of a session. Each call does nothing: its contract is the law.
-ghost use Rattle.lvm_crash.specs.Laws.{WhatRemainsIsKept};
+ghost use Rattle.lvm_crash.specs.Laws.{WhatRemainsIsKept, CrashImagesRemain, CrashImagesAreKept};
 
 /// Where a good state of a session describes what stands on the disks, whatever a loss of power may leave of it
 /// keeps the history: it agrees with it, and goes on doing so whichever disks answer next.
 pub fn what_remains_is_kept()
     ensures { WhatRemainsIsKept }
+{}
+
+/// Where the state of a session matches a shelf, so that what is out is what the state has out, each crash image
+/// shows what a loss of power may leave of the state: each block old or new, each record old or new.
+pub fn crash_images_remain()
+    ensures { CrashImagesRemain }
+{}
+
+/// So where a good state matches a shelf, each crash image of the shelf keeps the history.
+pub fn crash_images_are_kept()
+    ensures { CrashImagesAreKept }
 {}

@@ -3,4 +3,4 @@
 
 mod laws;
 
-pub use laws::what_remains_is_kept;
+pub use laws::{crash_images_are_kept, crash_images_remain, what_remains_is_kept};
