@@ -1,5 +1,7 @@
-mod Lists
 mod Blocks
 mod Finding
-mod Remaining
+mod First
 mod Images
+mod Lists
+mod Remaining
+mod Standing

@@ -1,4 +1,6 @@
 //! Laws of what stands on the disks of a session. Each call does nothing: its contract is the law.
+ghost use Rattle.lvm_crash.specs.First.{GroupsHaveVotes, FirstIsDescribed};
+ghost use Rattle.lvm_crash.specs.Standing.{CommittedIsFound};
 ghost use Rattle.lvm_crash.specs.Laws.{WhatRemainsIsKept, CrashImagesRemain, CrashImagesAreKept};
 
 /// Where a good state of a session describes what stands on the disks, whatever a loss of power may leave of it
@@ -16,4 +18,16 @@ pub fn crash_images_remain()
 /// So where a good state matches a shelf, each crash image of the shelf keeps the history.
 pub fn crash_images_are_kept()
     ensures { CrashImagesAreKept }
+{}
+
+/// Where disks with votes enough to write show a descriptor of the group and no disk a later one, whichever
+/// disks find the group find it by that descriptor.
+pub fn committed_is_found()
+    ensures { CommittedIsFound }
+{}
+
+/// Each group has votes, and there is a session with disks that its good state describes.
+pub fn first_is_described()
+    ensures votes { GroupsHaveVotes }
+    ensures described { FirstIsDescribed }
 {}

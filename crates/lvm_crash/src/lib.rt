@@ -3,4 +3,7 @@
 
 mod laws;
 
-pub use laws::{crash_images_are_kept, crash_images_remain, what_remains_is_kept};
+pub use laws::{
+    committed_is_found, crash_images_are_kept, crash_images_remain, first_is_described,
+    what_remains_is_kept,
+};

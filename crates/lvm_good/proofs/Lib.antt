@@ -19,7 +19,7 @@ mod Copying
 pub mod Finding
 mod Whole
 mod Rules
-mod First
+pub mod First
 mod Asking
 mod Entered
 mod Each
