@@ -1,5 +1,5 @@
 -- What a session sees kept of a block is kept on the disks.
-use Rattle.std.proofs.Common.{◌≡◌, inl, inr, ⊎_elim, ℕ, ◌+◌, ◌*◌, ◌≤◌, ◌/◌, Bool, true, false, ◌&&◌, ◌||◌, not, List, Some, refl, ap, subst, ◌∙◌, arith}
+use Rattle.std.proofs.Common.{◌≡◌, inl, inr, ⊎_elim, ℕ, ◌+◌, ◌*◌, ◌≤◌, ◌/◌, Bool, true, false, ◌&&◌, not, List, Some, refl, ap, subst, ◌∙◌, arith}
 use Rattle.std.specs.Prelude.{IsTrue, IsFalse}
 use Rattle.std.proofs.lemmas.Nat.{div-mul-add}
 use Rattle.lvm_num.specs.declared.place.Pp.{Pp}
@@ -12,12 +12,14 @@ use Rattle.lvm_num.specs.Disks.{Disks}
 use Rattle.lvm_num.specs.Descriptor.{copies_of}
 use Rattle.lvm_num.specs.Geometry.{track_group_of, partition_blocks, partition_of}
 use Rattle.lvm_num.specs.Record.{Stamped}
-use Rattle.lvm_vol.specs.May.{IsValue, cut, is_off, is_some_open}
+use Rattle.lvm_vol.specs.declared.entry.Vol.TheVariants.{Lv}
+use Rattle.lvm_vol.specs.Facts.{Fact}
+use Rattle.lvm_crash.proofs.Loose.{off_by, loose_is_off}
+use Rattle.lvm_vol.specs.May.{known, IsValue, cut, is_off}
 use Rattle.lvm_kept.specs.Contents.{Contents}
 use Rattle.lvm_kept.specs.Group.{passes, is_of, has_room, members_in, is_stale_by, fresh_on, block_at, IsBlockOf, is_named, IsOneOf, IsSome}
 use Rattle.lvm_kept.specs.Kept.{MayDiffer, IsBlockKept}
-use Rattle.lvm_good.specs.State.{State, told}
-use Rattle.lvm_good.specs.Sound.{Sound}
+use Rattle.lvm_good.specs.State.{State}
 use Rattle.lvm_good.specs.Crash.{Fresh, MayDifferAfter, BlockKept}
 use Rattle.lvm_crash.specs.Session.{marks_of, view_of, members_there, has_notes, has_mark, HasVolumes}
 use Rattle.lvm_crash.proofs.Lists.{left_of, right_of, both_of, not_so, so_not, of_passing, one_passes}
@@ -29,18 +31,12 @@ member_there c disks group d h =
     (right_of (disks d) (passes (is_of group.id) (c.descriptor d)) (left_of (disks d && passes (is_of group.id) (c.descriptor d)) (has_room c d group) h))
     (right_of (disks d && passes (is_of group.id) (c.descriptor d)) (has_room c d group) h)
 
--- a block that isn't loose, of a volume that isn't off, isn't loose after a cut
-not_loosened : (loose off some : Bool) → IsFalse loose → IsFalse off → IsTrue (loose || (off && some)) → ⊥
-not_loosened false false some a b h = absurd cc
-not_loosened true off some a b h = absurd cc
-not_loosened false true some a b h = absurd cc
-
 both_so : (b : Bool) → IsTrue b → IsFalse b → ⊥
 both_so true h k = absurd cc
 both_so false h k = absurd cc
 
-module _ (s : State) (sound : Sound s) (group : Descriptor) (c : Contents) (volumes : HasVolumes s group (members_there c group)) (r : Stamped Status) (row : LvRow) (lp b : ℕ)
-    (one : IsOneOf group.lvs row) (inside : IsBlockOf group.mib row lp b) (kept : BlockKept s (view_of group c) (marks_of r.value) (cut b (told s row.number b)) row.number b) where
+module _ (s : State) (facts : List Fact) (group : Descriptor) (c : Contents) (volumes : HasVolumes s facts group (members_there c group)) (r : Stamped Status) (row : LvRow) (lp b : ℕ)
+    (one : IsOneOf group.lvs row) (inside : IsBlockOf group.mib row lp b) (kept : BlockKept s (view_of group c) (marks_of r.value) (cut b (known facts (Lv row.number) b)) row.number b) where
   module _ (disks : Disks) where
     abbrev test : Pp → Bool
     test p = members_in c disks group.id group p.disk && not (is_stale_by (Some r) p)
@@ -51,27 +47,25 @@ module _ (s : State) (sound : Sound s) (group : Descriptor) (c : Contents) (volu
       fresh = not_so (is_stale_by (Some r) p) (right_of (members_in c disks group.id group p.disk) (not (is_stale_by (Some r) p)) pass);
     }
 
-    never_loose : row.mode ≡ Passive → IsTrue (cut b (told s row.number b)).loose → ⊥
-    never_loose is loose = not_loosened (told s row.number b).loose (is_off (told s row.number b).mode) (is_some_open (told s row.number b).open_writes)
-        (sound.tied.tight row.number b (inr (volumes.mark row one ∙ ap has_mark is)))
-        (ap is_off (volumes.modes row lp b one inside ∙ is)) loose
+    never_loose : row.mode ≡ Passive → IsTrue (cut b (known facts (Lv row.number) b)).loose → ⊥
+    never_loose is loose = both_so (is_off (known facts (Lv row.number) b).mode) (off_by b (known facts (Lv row.number) b) (loose_is_off facts (Lv row.number) b) loose) (ap is_off (volumes.modes row lp b one inside ∙ is))
 
-    differ : (mode : Mode) → row.mode ≡ mode → MayDifferAfter s (view_of group c) (marks_of r.value) (cut b (told s row.number b)) row.number b (has_notes mode)
-        → MayDiffer c (Some r) row.number mode (fresh_on (members_in c disks group.id group) (Some r) row lp) (cut b (told s row.number b)) b
+    differ : (mode : Mode) → row.mode ≡ mode → MayDifferAfter s (view_of group c) (marks_of r.value) (cut b (known facts (Lv row.number) b)) row.number b (has_notes mode)
+        → MayDiffer c (Some r) row.number mode (fresh_on (members_in c disks group.id group) (Some r) row lp) (cut b (known facts (Lv row.number) b)) b
     differ Active is named = of_passing (λ p. IsTrue (is_named c p.disk row.number (track_group_of b))) test (copies_of row lp) (λ p copy pass. named p (fresh p copy pass))
     differ Passive is (inl loose) = absurd (never_loose is loose)
     differ Passive is (inr dirty) = dirty.1
     differ Off is (inl loose) = loose
     differ Off is (inr dirty) = absurd (both_so (s.is_passive row.number) dirty.0 (volumes.mark row one ∙ ap has_mark is))
 
-    pub block_kept : IsBlockKept c group.mib (Some r) row (fresh_on (members_in c disks group.id group) (Some r) row lp) (cut b (told s row.number b)) b
+    pub block_kept : IsBlockKept c group.mib (Some r) row (fresh_on (members_in c disks group.id group) (Some r) row lp) (cut b (known facts (Lv row.number) b)) b
     block_kept = record {
-      allowed = of_passing (λ p. IsValue (cut b (told s row.number b)) (block_at c group.mib p b)) test (copies_of row lp) (λ p copy pass. kept.allowed p (fresh p copy pass));
+      allowed = of_passing (λ p. IsValue (cut b (known facts (Lv row.number) b)) (block_at c group.mib p b)) test (copies_of row lp) (λ p copy pass. kept.allowed p (fresh p copy pass));
       equal = ⊎_elim
           (λ (same : (value : List ℕ) × ((p : Pp) → Fresh s (marks_of r.value) row.number b p → block_at c group.mib p b ≡ value)).
           inl (same.0, of_passing (λ p. block_at c group.mib p b ≡ same.0) test (copies_of row lp) (λ p copy pass. same.1 p (fresh p copy pass))))
-          (λ (d : MayDifferAfter s (view_of group c) (marks_of r.value) (cut b (told s row.number b)) row.number b (s.is_active row.number)).
-          inr (differ row.mode refl (subst (MayDifferAfter s (view_of group c) (marks_of r.value) (cut b (told s row.number b)) row.number b) (volumes.notes row one) d)))
+          (λ (d : MayDifferAfter s (view_of group c) (marks_of r.value) (cut b (known facts (Lv row.number) b)) row.number b (s.is_active row.number)).
+          inr (differ row.mode refl (subst (MayDifferAfter s (view_of group c) (marks_of r.value) (cut b (known facts (Lv row.number) b)) row.number b) (volumes.notes row one) d)))
           kept.equal;
     }
 

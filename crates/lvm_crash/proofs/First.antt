@@ -15,13 +15,14 @@ use Rattle.lvm_num.specs.Votes.{all_disks, votes_by, votes_in, is_enough_to_read
 use Rattle.lvm_num.proofs.BitsLemmas.{has-none}
 use Rattle.lvm_num.proofs.VotesLemmas.{read_meets_write}
 use Rattle.lvm_vol.specs.Standing.{Open, Settled, Volume, no_volumes}
-use Rattle.lvm_vol.specs.May.{unknown}
+use Rattle.lvm_vol.specs.declared.entry.Vol.TheVariants.{Lv}
+use Rattle.lvm_vol.specs.May.{known, unknown}
 use Rattle.lvm_num.specs.Buffer.{zero_sector}
 use Rattle.lvm_num.specs.Status.{calls_stale}
 use Rattle.lvm_kept.specs.Examples.{stamped, row_of, mirror, either_of}
 use Rattle.lvm_kept.specs.Group.{descriptor_among, is_voter, has_quorum, Finds, IsOneOf}
 use Rattle.lvm_kept.specs.Kept.{StandsAs}
-use Rattle.lvm_good.specs.State.{Marks, told}
+use Rattle.lvm_good.specs.State.{Marks}
 use Rattle.lvm_good.specs.First.{at_first}
 use Rattle.lvm_good.proofs.First.{first_is_good}
 use Rattle.lvm_crash.specs.Session.{as_marks, marks_shown, members_there, has_notes, has_mark, GroupStands, HasVolumes, HasStatuses}
@@ -124,7 +125,7 @@ stands_as : (t : Bool) (lv : ℕ) → StandsAs 1 (if t then record (made t lv) {
 stands_as true lv = refl
 stands_as false lv = tt
 
-volumes : HasVolumes at_first first_group (members_there first_contents first_group)
+volumes : HasVolumes at_first at_first.facts first_group (members_there first_contents first_group)
 volumes = record {
   copies = λ row lp b p one inside. copies_at row (the_row row one) lp b p (first_partition lp (subst (λ (r : LvRow). lp < r.lps) (the_row row one) inside.inside)) inside.partition;
   inside = λ lv b p copy.
@@ -142,7 +143,7 @@ volumes = record {
       (record { disk = 0; pp = 0 }, subst (λ (r : LvRow). IsOneOf (copies_of r lp) (record { disk = 0; pp = 0 })) (sym is) (subst (λ (n : ℕ). IsOneOf (copies_of (mirror Active) n) (record { disk = 0; pp = 0 })) (sym none) (inl refl)), refl);
   notes = λ row one. sym (ap (λ (r : LvRow). has_notes r.mode) (the_row row one));
   mark = λ row one. sym (ap (λ (r : LvRow). has_mark r.mode) (the_row row one));
-  modes = λ row lp b one inside. subst (λ (r : LvRow). (told at_first r.number b).mode ≡ r.mode) (sym (the_row row one)) (mode_of (nat_lt b 2048));
+  modes = λ row lp b one inside. subst (λ (r : LvRow). (known at_first.facts (Lv r.number) b).mode ≡ r.mode) (sym (the_row row one)) (mode_of (nat_lt b 2048));
   history = λ lv. stands_as (1 == lv) lv;
 }
 

@@ -1,5 +1,5 @@
 -- Crash images show what may remain.
-use Rattle.std.proofs.Common.{◌≡◌, ◌⊎◌, inl, inr, ⊎_elim, ℕ, ◌+◌, ◌<◌, ◌≤◌, Bool, true, false, [], Option, Some, None, refl, sym, ap, subst, ◌∙◌, arith}
+use Rattle.std.proofs.Common.{◌≡◌, ◌⊎◌, inl, inr, ⊎_elim, ℕ, ◌+◌, ◌<◌, ◌≤◌, Bool, true, false, List, [], Option, Some, None, refl, sym, ap, subst, ◌∙◌, arith}
 use Rattle.std.specs.Prelude.{IsTrue, IsFalse, nat_lt, if◌then◌else◌, IsSomeAnd}
 use Rattle.std.proofs.lemmas.Bool.Decides.{nat_tests}
 use Rattle.lvm_num.specs.declared.place.Pp.{Pp}
@@ -20,9 +20,14 @@ use Rattle.lvm_kept.proofs.Contained.{room-same, newest-same, at-same, note-same
 use Rattle.lvm_kept.proofs.Records.{never, part_is, newest_is, whole_is_new, newest_stays}
 use Rattle.lvm_good.specs.State.{Groups, State}
 use Rattle.lvm_good.specs.Crash.{Brings, CopyBrings}
+use Rattle.lvm_vol.specs.Facts.{Fact}
+use Rattle.lvm_kept.specs.Kept.{Kept}
+use Rattle.lvm_good.specs.Found.{Votes, Found}
+use Rattle.lvm_good.proofs.CrashLemmas.{core_kept}
+use Rattle.lvm_crash.specs.Session.{AreVotesOf}
 use Rattle.lvm_crash.specs.Left.{MayRemain}
-use Rattle.lvm_crash.specs.Flights.{UpdateIsOut, OnlyUpdateIsOut, HasOut}
-use Rattle.lvm_crash.specs.Laws.{CrashImagesRemain, CrashImagesAreKept}
+use Rattle.lvm_crash.specs.Flights.{UpdateIsOut, OnlyUpdateIsOut, HasOut, Matches}
+use Rattle.lvm_crash.specs.Laws.{EachViewAgrees, CrashImagesRemain, CrashImagesAreKept, LastImagesAreKept}
 use Rattle.lvm_kept.proofs.Finding.{images_within}
 use Rattle.lvm_crash.proofs.Remaining.{remains_kept}
 
@@ -168,8 +173,15 @@ module _ (device : Device) (media : Media) (told : device.media ≡ Some media) 
       }
 
 pub images_remain : CrashImagesRemain
-images_remain s group in_flight device media image matches may = remain device media matches.told image may s group in_flight matches.out
+images_remain s facts group in_flight device media image matches may = remain device media matches.told image may s group in_flight matches.out
+
+images_agree : (votes : Votes) (s : State) (facts : List Fact) (group : Descriptor) (in_flight : Option (Stamped Status)) (device : Device) (media : Media) (image : Image)
+    → AreVotesOf group votes → Found votes s → EachViewAgrees s facts → Matches s facts group in_flight device media → MayLeave device image → Kept (contents_of image) facts
+images_agree votes s facts group in_flight device media image are found agrees matches may = remains_kept votes s facts group in_flight (contents_of (image_of device.sizes media)) (contents_of image) are found agrees matches.describes
+    (images_remain s facts group in_flight device media image matches may) (images_within image)
 
 pub images_kept : CrashImagesAreKept
-images_kept votes s group in_flight device media image are good matches may =
-    remains_kept votes s group in_flight (contents_of (image_of device.sizes media)) (contents_of image) are good matches.describes (images_remain s group in_flight device media image matches may) (images_within image)
+images_kept votes s group in_flight device media image are good matches may = images_agree votes s s.facts group in_flight device media image are good.found (core_kept s good.sound) matches may
+
+pub last_images_kept : LastImagesAreKept
+last_images_kept votes s facts group in_flight device media image are good over matches may = images_agree votes s facts group in_flight device media image are good.found over.kept matches may

@@ -3,5 +3,6 @@ mod Finding
 mod First
 mod Images
 mod Lists
+mod Loose
 mod Remaining
 mod Standing

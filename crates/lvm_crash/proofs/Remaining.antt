@@ -15,7 +15,7 @@ use Rattle.lvm_num.specs.Votes.{all_disks, CanRead}
 use Rattle.lvm_num.specs.Note.{Noted}
 use Rattle.lvm_num.proofs.VotesLemmas.{read_meets_read}
 use Rattle.lvm_vol.specs.declared.entry.Vol.TheVariants.{Disk, Lv}
-use Rattle.lvm_vol.specs.Facts.{Cut}
+use Rattle.lvm_vol.specs.Facts.{Fact, Cut}
 use Rattle.lvm_vol.specs.May.{Known, known, cut, May}
 use Rattle.lvm_vol.specs.Standing.{volumes_in}
 use Rattle.lvm_vol.proofs.Knowing.{known-push}
@@ -25,14 +25,12 @@ use Rattle.lvm_kept.specs.Kept.{HasStatus, IsBlockKept, BlocksKept, RawAgrees, I
 use Rattle.lvm_kept.specs.Committed.{IsWithinDisks}
 use Rattle.lvm_kept.proofs.Finding.{some_same, finding_reads}
 use Rattle.lvm_kept.proofs.Entries.{volume_is_row}
-use Rattle.lvm_good.specs.State.{State, told}
-use Rattle.lvm_good.specs.Found.{Votes}
-use Rattle.lvm_good.specs.Good.{Good}
+use Rattle.lvm_good.specs.State.{State}
+use Rattle.lvm_good.specs.Found.{Votes, Found}
 use Rattle.lvm_good.specs.Crash.{IsCrash, BlockKept}
-use Rattle.lvm_good.proofs.CrashLemmas.{core_kept}
 use Rattle.lvm_crash.specs.Session.{marks_of, as_marks, marks_shown, view_of, AreVotesOf, members_there, Describes}
 use Rattle.lvm_crash.specs.Left.{MayRemain}
-use Rattle.lvm_crash.specs.Laws.{WhatRemainsIsKept}
+use Rattle.lvm_crash.specs.Laws.{EachViewAgrees, WhatRemainsIsKept}
 use Rattle.lvm_crash.proofs.Blocks.{block_kept, some_fresh, block_of}
 use Rattle.lvm_crash.proofs.Finding.{FindsStatus, finds_status}
 
@@ -61,7 +59,8 @@ module _ (old : Contents) (status : ℕ → Option (Stamped Status)) (note : ℕ
   after : (disks : Disks) (id : ℕ) (group : Descriptor) → Finds old disks id group → Finds new disks id group
   after disks id group f = record { quorum = quorum_same disks id ∙ f.quorum; newest = f.newest; found = group_same disks id ∙ f.found; is = f.is }
 
-  module _ (votes : Votes) (s : State) (group : Descriptor) (in_flight : Option (Stamped Status)) (are : AreVotesOf group votes) (good : Good votes s) (describes : Describes s group in_flight old)
+  module _ (votes : Votes) (s : State) (facts : List Fact) (group : Descriptor) (in_flight : Option (Stamped Status)) (are : AreVotesOf group votes) (stood : Found votes s)
+      (agrees : EachViewAgrees s facts) (describes : Describes s facts group in_flight old)
       (remain : MayRemain s group in_flight old new) (within : IsWithinDisks new) where
     -- the session's view of what remains is one that it may leave
     crash : IsCrash s (view_of group new)
@@ -93,27 +92,27 @@ module _ (old : Contents) (status : ℕ → Option (Stamped Status)) (note : ℕ
 
     -- a set that can read finds one of the two statuses
     reading : (disks : Disks) (id : ℕ) (g : Descriptor) → Reads new disks id g → FindsStatus s group new disks
-    reading disks id g reads = finds_status votes s group new are good.found crash within disks
+    reading disks id g reads = finds_status votes s group new are stood crash within disks
         (subst (λ i. CanRead group (members_in new disks i group)) (one_id id g reads.found) (subst (λ h. CanRead h (members_in new disks id h)) (one_group id g reads.found) reads.enough))
 
     found_by : (disks : Disks) (id : ℕ) (g : Descriptor) (reads : Reads new disks id g) → status_by new disks id g ≡ Some (reading disks id g reads).status
     found_by disks id g reads = ap (λ h. status_by new disks id h) (one_group id g reads.found) ∙ ap (λ i. status_by new disks i group) (one_id id g reads.found) ∙ (reading disks id g reads).found
 
-    after_cut : (lv b : ℕ) → known (s.facts ++ Cut ∷ []) (Lv lv) b ≡ cut b (told s lv b)
-    after_cut lv b = known-push s.facts Cut (Lv lv) b
+    after_cut : (lv b : ℕ) → known (facts ++ Cut ∷ []) (Lv lv) b ≡ cut b (known facts (Lv lv) b)
+    after_cut lv b = known-push facts Cut (Lv lv) b
 
     -- what a status that may be found says of the blocks
-    kept_by : (disks : Disks) (finds : FindsStatus s group new disks) (row : LvRow) (b : ℕ) → BlockKept s (view_of group new) (marks_of finds.status.value) (cut b (told s row.number b)) row.number b
-    kept_by disks finds row b = core_kept s good.sound (view_of group new) (marks_of finds.status.value) row.number b crash finds.possible
+    kept_by : (disks : Disks) (finds : FindsStatus s group new disks) (row : LvRow) (b : ℕ) → BlockKept s (view_of group new) (marks_of finds.status.value) (cut b (known facts (Lv row.number) b)) row.number b
+    kept_by disks finds row b = agrees (view_of group new) (marks_of finds.status.value) row.number b crash finds.possible
 
-    blocks_by : (disks members : Disks) (finds : FindsStatus s group new disks) → BlocksKept new s.facts group (members_in new members group.id group) (Some finds.status)
+    blocks_by : (disks members : Disks) (finds : FindsStatus s group new disks) → BlocksKept new facts group (members_in new members group.id group) (Some finds.status)
     blocks_by disks members finds row lp b one inside =
         subst (λ (k : Known). IsBlockKept new group.mib (Some finds.status) row (fresh_on (members_in new members group.id group) (Some finds.status) row lp) k b) (sym (after_cut row.number b))
-        (block_kept s good.sound group new describes.volumes finds.status row lp b one inside (kept_by disks finds row b) members)
+        (block_kept s facts group new describes.volumes finds.status row lp b one inside (kept_by disks finds row b) members)
 
     some_by : (disks : Disks) (finds : FindsStatus s group new disks) (row : LvRow) (lp : ℕ) → IsOneOf group.lvs row → lp < row.lps → IsSome (fresh_on (members_there new group) (Some finds.status) row lp)
     some_by disks finds row lp one low =
-        some_fresh s good.sound group new describes.volumes finds.status row lp (lp * partition_blocks group.mib) one
+        some_fresh s facts group new describes.volumes finds.status row lp (lp * partition_blocks group.mib) one
         (record { inside = low; partition = block_of group.mib lp describes.stands.size }) (kept_by disks finds row (lp * partition_blocks group.mib))
 
     -- ---- two sets, of which one finds the status and one the descriptor
@@ -121,9 +120,9 @@ module _ (old : Contents) (status : ℕ → Option (Stamped Status)) (note : ℕ
     status_there : (b : Disks) (id : ℕ) (h k : Descriptor) → Reads new b id h → IsFound new id k → HasStatus k.lvs (status_by new b id h)
     status_there b id h k reads is = subst (HasStatus k.lvs) (sym (found_by b id h reads)) (has_status k.lvs (reading b id h reads).status)
 
-    across : (b : Disks) (id : ℕ) (h k : Descriptor) → Reads new b id h → IsFound new id k → BlocksKept new s.facts k (members_in new all_disks id k) (status_by new b id h)
-    across b id h k reads is = subst (BlocksKept new s.facts k (members_in new all_disks id k)) (sym (found_by b id h reads))
-        (of_found (λ i g. BlocksKept new s.facts g (members_in new all_disks i g) (Some (reading b id h reads).status)) (blocks_by b all_disks (reading b id h reads)) id k is)
+    across : (b : Disks) (id : ℕ) (h k : Descriptor) → Reads new b id h → IsFound new id k → BlocksKept new facts k (members_in new all_disks id k) (status_by new b id h)
+    across b id h k reads is = subst (BlocksKept new facts k (members_in new all_disks id k)) (sym (found_by b id h reads))
+        (of_found (λ i g. BlocksKept new facts g (members_in new all_disks i g) (Some (reading b id h reads).status)) (blocks_by b all_disks (reading b id h reads)) id k is)
 
     some : (b : Disks) (id : ℕ) (h k : Descriptor) → Reads new b id h → IsFound new id k → (row : LvRow) (lp : ℕ) → IsOneOf k.lvs row → lp < row.lps
         → IsSome (fresh_on (members_in new all_disks id k) (status_by new b id h) row lp)
@@ -146,19 +145,19 @@ module _ (old : Contents) (status : ℕ → Option (Stamped Status)) (note : ℕ
 
     -- ---- one set, by its own descriptor and its own status
 
-    copies : (disks : Disks) (id : ℕ) (g : Descriptor) → Finds new disks id g → BlocksKept new s.facts g (is_voter new disks id) (status_among new disks id)
+    copies : (disks : Disks) (id : ℕ) (g : Descriptor) → Finds new disks id g → BlocksKept new facts g (is_voter new disks id) (status_among new disks id)
     copies disks id g f =
         let by : ReadsBy new disks id g = finding_reads new disks id g f in
         let finds = reading disks id g by.reads in
-        subst (λ (v : Disks). BlocksKept new s.facts g v (status_among new disks id)) (sym by.voters) (subst (BlocksKept new s.facts g (members_in new disks id g)) (sym (by.status ∙ found_by disks id g by.reads))
-        (of_found (λ i k. BlocksKept new s.facts k (members_in new disks i k) (Some finds.status)) (blocks_by disks disks finds) id g by.reads.found))
+        subst (λ (v : Disks). BlocksKept new facts g v (status_among new disks id)) (sym by.voters) (subst (BlocksKept new facts g (members_in new disks id g)) (sym (by.status ∙ found_by disks id g by.reads))
+        (of_found (λ i k. BlocksKept new facts k (members_in new disks i k) (Some finds.status)) (blocks_by disks disks finds) id g by.reads.found))
 
     there : (disks : Disks) (id : ℕ) (g : Descriptor) → Finds new disks id g → HasStatus g.lvs (status_among new disks id)
     there disks id g f =
         let by : ReadsBy new disks id g = finding_reads new disks id g f in
         subst (HasStatus g.lvs) (sym by.status) (status_there disks id g g by.reads by.reads.found)
 
-    available : IsAvailable new s.facts
+    available : IsAvailable new facts
     available =
         let by : ReadsBy new all_disks group.id group = finding_reads new all_disks group.id group found in
         record {
@@ -172,11 +171,11 @@ module _ (old : Contents) (status : ℕ → Option (Stamped Status)) (note : ℕ
         }
 
     volumes : (disks : Disks) (id : ℕ) (g : Descriptor) → Finds new disks id g → (lv : ℕ)
-        → StandsAs g.mib (volumes_in s.facts lv).standing (volumes_in s.facts lv).shape (volume_of g lv)
-    volumes disks id g f lv = of_found (λ i k. StandsAs k.mib (volumes_in s.facts lv).standing (volumes_in s.facts lv).shape (volume_of k lv)) (describes.volumes.history lv) id g (disks, f)
+        → StandsAs g.mib (volumes_in facts lv).standing (volumes_in facts lv).shape (volume_of g lv)
+    volumes disks id g f lv = of_found (λ i k. StandsAs k.mib (volumes_in facts lv).standing (volumes_in facts lv).shape (volume_of k lv)) (describes.volumes.history lv) id g (disks, f)
 
-    raw : RawAgrees new s.facts
-    raw d b low none from to = subst (May (known (s.facts ++ Cut ∷ []) (Disk d) b)) (sym (remain.raw d b none from)) (describes.raw d b low none from to)
+    raw : RawAgrees new facts
+    raw d b low none from to = subst (May (known (facts ++ Cut ∷ []) (Disk d) b)) (sym (remain.raw d b none from)) (describes.raw d b low none from to)
 
     statuses : (d e : ℕ) (r t : Stamped Status) → status d ≡ Some r → status e ≡ Some t → r.value.id ≡ t.value.id → r.stamp ≡ t.stamp → r ≡ t
     statuses d e r t is also ids stamps = ⊎_elim
@@ -192,7 +191,7 @@ module _ (old : Contents) (status : ℕ → Option (Stamped Status)) (note : ℕ
         (remain.statuses e))
         (remain.statuses d)
 
-    pub kept : Kept new s.facts
+    pub kept : Kept new facts
     kept = record {
       agrees = record { volumes = volumes; status = there; copies = copies; raw = raw; available = λ lv settled. available };
       lasting = record {
@@ -208,6 +207,6 @@ module _ (old : Contents) (status : ℕ → Option (Stamped Status)) (note : ℕ
     }
 
 pub remains_kept : WhatRemainsIsKept
-remains_kept votes s group in_flight old new are good describes remain within =
-    subst (λ c. Kept c s.facts) (sym remain.rest)
-    (kept old new.status new.note new.block votes s group in_flight are good describes (subst (MayRemain s group in_flight old) remain.rest remain) (subst IsWithinDisks remain.rest within))
+remains_kept votes s facts group in_flight old new are stood agrees describes remain within =
+    subst (λ c. Kept c facts) (sym remain.rest)
+    (kept old new.status new.note new.block votes s facts group in_flight are stood agrees describes (subst (MayRemain s group in_flight old) remain.rest remain) (subst IsWithinDisks remain.rest within))

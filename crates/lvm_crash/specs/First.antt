@@ -29,4 +29,4 @@ GroupsHaveVotes = (group : Descriptor) → (votes : Votes) × AreVotesOf group v
 
 -- by those of this one its state is good, and the state describes its disks.
 abbrev pub FirstIsDescribed : Type 0
-FirstIsDescribed = (votes : Votes) → AreVotesOf first_group votes → Good votes at_first × Describes at_first first_group None first_contents
+FirstIsDescribed = (votes : Votes) → AreVotesOf first_group votes → Good votes at_first × Describes at_first at_first.facts first_group None first_contents

@@ -1,5 +1,5 @@
 -- A session of a group and a shelf: what is out, and what stands on its media.
-use Rattle.std.specs.Prelude.{◌≡◌, ◌⊎◌, ℕ, ◌≤◌, Option, None, Some, IsTrue}
+use Rattle.std.specs.Prelude.{◌≡◌, ◌⊎◌, ℕ, ◌≤◌, List, Option, None, Some, IsTrue}
 use Rattle.lvm_num.specs.declared.place.Pp.{Pp}
 use Rattle.lvm_num.specs.declared.descriptor.Descriptor.{Descriptor}
 use Rattle.lvm_num.specs.declared.status.Status.{Status}
@@ -9,6 +9,7 @@ use Rattle.lvm_num.specs.Geometry.{data_start, sector_of}
 use Rattle.lvm_num.specs.Note.{note_in}
 use Rattle.lvm_num.specs.Record.{Stamped}
 use Rattle.lvm_num.specs.StatusBytes.{status_of}
+use Rattle.lvm_vol.specs.Facts.{Fact}
 use Rattle.lvm_disk.specs.Device.{Media, Image, Device, IsInFlight, image_of}
 use Rattle.lvm_kept.specs.Contents.{note_sector, contents_of}
 use Rattle.lvm_kept.specs.Group.{names_if}
@@ -45,7 +46,7 @@ pub record HasOut (s : State) (group : Descriptor) (in_flight : Option (Stamped 
   pub raw : (d at : ℕ) (value : Sector) → (contents_of (image_of device.sizes media)).descriptor d ≡ None → data_start ≤ at → IsInFlight device.flights d at value → ⊥
 
 -- The state describes what stands on the media, and has out what is out.
-pub record Matches (s : State) (group : Descriptor) (in_flight : Option (Stamped Status)) (device : Device) (media : Media) : Type 0 where
+pub record Matches (s : State) (facts : List Fact) (group : Descriptor) (in_flight : Option (Stamped Status)) (device : Device) (media : Media) : Type 0 where
   pub told : device.media ≡ Some media
-  pub describes : Describes s group in_flight (contents_of (image_of device.sizes media))
+  pub describes : Describes s facts group in_flight (contents_of (image_of device.sizes media))
   pub out : HasOut s group in_flight device media

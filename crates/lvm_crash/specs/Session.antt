@@ -1,5 +1,5 @@
 -- A session of a group, and what stands on the disks: when the one describes the other.
-use Rattle.std.specs.Prelude.{◌≡◌, ◌↔◌, ℕ, ◌<◌, ◌≤◌, Bool, true, false, length, Option, Some, IsTrue, option_map}
+use Rattle.std.specs.Prelude.{◌≡◌, ◌↔◌, ℕ, ◌<◌, ◌≤◌, Bool, true, false, List, length, Option, Some, IsTrue, option_map}
 use Rattle.lvm_num.specs.declared.place.Pp.{Pp}
 use Rattle.lvm_num.specs.declared.descriptor.Mode.{Mode}
 use Rattle.lvm_num.specs.declared.descriptor.Mode.TheVariants.{Active, Passive, Off}
@@ -11,11 +11,14 @@ use Rattle.lvm_num.specs.Descriptor.{copies_of, volume_of}
 use Rattle.lvm_num.specs.Status.{calls_stale, calls_dirty}
 use Rattle.lvm_num.specs.Votes.{all_disks, votes_in, is_enough_to_read, is_enough_to_write}
 use Rattle.lvm_num.specs.Record.{Stamped}
+use Rattle.lvm_vol.specs.declared.entry.Vol.TheVariants.{Lv}
+use Rattle.lvm_vol.specs.Facts.{Fact}
+use Rattle.lvm_vol.specs.May.{known}
 use Rattle.lvm_vol.specs.Standing.{volumes_in}
 use Rattle.lvm_kept.specs.Contents.{Contents}
 use Rattle.lvm_kept.specs.Group.{if_passes, is_status_of, Finds, members_in, block_at, IsBlockOf, is_named, IsOneOf}
 use Rattle.lvm_kept.specs.Kept.{StandsAs, RawAgrees}
-use Rattle.lvm_good.specs.State.{Marks, View, State, told}
+use Rattle.lvm_good.specs.State.{Marks, View, State}
 use Rattle.lvm_good.specs.Found.{Votes}
 
 -- ---- what a session sees of the disks
@@ -78,14 +81,14 @@ pub record IsBlockIn (group : Descriptor) (lv b : ℕ) : Type 0 where
 
 -- The session's copies are those of the group that stand on members which are there, of which each logical partition has one; its
 -- modes are the group's, and the history has the group's volumes.
-pub record HasVolumes (s : State) (group : Descriptor) (members : Disks) : Type 0 where
+pub record HasVolumes (s : State) (facts : List Fact) (group : Descriptor) (members : Disks) : Type 0 where
   pub copies : (row : LvRow) (lp b : ℕ) (p : Pp) → IsOneOf group.lvs row → IsBlockOf group.mib row lp b → IsTrue (s.is_copy row.number b p) ↔ (IsOneOf (copies_of row lp) p × IsTrue (members p.disk))
   pub inside : (lv b : ℕ) (p : Pp) → IsTrue (s.is_copy lv b p) → IsBlockIn group lv b
   pub some : (row : LvRow) (lp : ℕ) → IsOneOf group.lvs row → lp < row.lps → (p : Pp) × IsOneOf (copies_of row lp) p × IsTrue (members p.disk)
   pub notes : (row : LvRow) → IsOneOf group.lvs row → s.is_active row.number ≡ has_notes row.mode
   pub mark : (row : LvRow) → IsOneOf group.lvs row → s.is_passive row.number ≡ has_mark row.mode
-  pub modes : (row : LvRow) (lp b : ℕ) → IsOneOf group.lvs row → IsBlockOf group.mib row lp b → (told s row.number b).mode ≡ row.mode
-  pub history : (lv : ℕ) → StandsAs group.mib (volumes_in s.facts lv).standing (volumes_in s.facts lv).shape (volume_of group lv)
+  pub modes : (row : LvRow) (lp b : ℕ) → IsOneOf group.lvs row → IsBlockOf group.mib row lp b → (known facts (Lv row.number) b).mode ≡ row.mode
+  pub history : (lv : ℕ) → StandsAs group.mib (volumes_in facts lv).standing (volumes_in facts lv).shape (volume_of group lv)
 
 -- ---- its statuses
 
@@ -98,12 +101,13 @@ pub record HasStatuses (s : State) (group : Descriptor) (in_flight : Option (Sta
 
 -- ---- all of it
 
--- What stands on the disks is what the session's state says, and disks in no group hold what the history allows.
-pub record Describes (s : State) (group : Descriptor) (in_flight : Option (Stamped Status)) (c : Contents) : Type 0 where
+-- What stands on the disks is what the session's state says, and disks in no group hold what the history allows. (The history is the state's
+-- while the session is on; once it is over, that one with the landings of what was open.)
+pub record Describes (s : State) (facts : List Fact) (group : Descriptor) (in_flight : Option (Stamped Status)) (c : Contents) : Type 0 where
   pub stands : GroupStands c group
-  pub volumes : HasVolumes s group (members_there c group)
+  pub volumes : HasVolumes s facts group (members_there c group)
   pub blocks : (lv b : ℕ) (p : Pp) → IsTrue (s.is_copy lv b p) → s.media.block lv b p ≡ block_at c group.mib p b
   pub names : (d lv track_group : ℕ) → s.media.names d lv track_group ≡ is_named c d lv track_group
   pub status : (d : ℕ) → s.media.status d ≡ marks_shown group.id (c.status d)
   pub statuses : HasStatuses s group in_flight c
-  pub raw : RawAgrees c s.facts
+  pub raw : RawAgrees c facts

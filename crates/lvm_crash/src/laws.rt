@@ -1,9 +1,9 @@
 //! Laws of what stands on the disks of a session. Each call does nothing: its contract is the law.
 ghost use Rattle.lvm_crash.specs.First.{GroupsHaveVotes, FirstIsDescribed};
 ghost use Rattle.lvm_crash.specs.Standing.{CommittedIsFound};
-ghost use Rattle.lvm_crash.specs.Laws.{WhatRemainsIsKept, CrashImagesRemain, CrashImagesAreKept};
+ghost use Rattle.lvm_crash.specs.Laws.{WhatRemainsIsKept, CrashImagesRemain, CrashImagesAreKept, LastImagesAreKept};
 
-/// Where a good state of a session describes what stands on the disks, whatever a loss of power may leave of it
+/// Where the state of a session describes what stands on the disks, whatever a loss of power may leave of it
 /// keeps the history: it agrees with it, and goes on doing so whichever disks answer next.
 pub fn what_remains_is_kept()
     ensures { WhatRemainsIsKept }
@@ -15,9 +15,12 @@ pub fn crash_images_remain()
     ensures { CrashImagesRemain }
 {}
 
-/// So where a good state matches a shelf, each crash image of the shelf keeps the history.
+/// So where a good state matches a shelf, each crash image of the shelf keeps the history; and once the session
+/// is over, each that the shelf might have left at its last moment keeps the history with the landings as Off or
+/// as Dark of what was open.
 pub fn crash_images_are_kept()
-    ensures { CrashImagesAreKept }
+    ensures on { CrashImagesAreKept }
+    ensures over { LastImagesAreKept }
 {}
 
 /// Where disks with votes enough to write show a descriptor of the group and no disk a later one, whichever
