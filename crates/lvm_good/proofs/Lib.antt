@@ -22,5 +22,5 @@ mod Rules
 pub mod First
 mod Asking
 mod Entered
-mod Each
+pub mod Each
 mod Ending
