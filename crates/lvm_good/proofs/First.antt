@@ -1,5 +1,5 @@
 -- What is asked of a session can be met.
-use Rattle.std.proofs.Common.{◌≡◌, inl, Bool, true, false, ◌&&◌, ◌||◌, [], ◌∷◌, Some, None, refl, sym, inr}
+use Rattle.std.proofs.Common.{◌≡◌, inl, Bool, true, false, ◌&&◌, ◌||◌, [], ◌∷◌, Some, None, refl, inr}
 use Rattle.std.specs.Prelude.{IsTrue, IsFalse, ◌==◌, nat_lt, if◌then◌else◌}
 use Rattle.lvm_num.specs.Buffer.{zero_sector}
 use Rattle.lvm_num.specs.declared.descriptor.Mode.TheVariants.{Active}
@@ -81,10 +81,10 @@ pub first_is_good : FirstIsGood
 first_is_good votes enough = record {
   sound = first_is_core;
   found = record {
-    set = λ d. true;
+    set = λ d. d == 0 || d == 1;
     enough = enough;
-    have = λ d h. inl refl;
-    only = λ d r is. inr (inl (sym (one_status r is)));
+    have = λ d h. inl (shown (d == 0 || d == 1) h);
+    only = λ d r is. inr (inl (one_status (d == 0 || d == 1) r is));
     newer = λ u flies. nothing u flies;
   };
   told = record {
@@ -98,5 +98,10 @@ first_is_good votes enough = record {
   };
 }
   where
-    one_status : (r : Stamped Marks) → Some at_first.committed ≡ Some r → at_first.committed ≡ r
-    one_status r is = cc
+    shown : (t : Bool) → IsTrue t → (if t then Some at_first.committed else None) ≡ Some at_first.committed
+    shown true h = refl
+    shown false h = not_so h
+
+    one_status : (t : Bool) (r : Stamped Marks) → (if t then Some at_first.committed else None) ≡ Some r → r ≡ at_first.committed
+    one_status true r is = cc
+    one_status false r is = nothing r is

@@ -2,7 +2,7 @@ mod Small
 mod Effects
 mod Claims
 mod Telling
-mod CrashLemmas
+pub mod CrashLemmas
 mod Requests
 mod StartFirst
 mod Restage
@@ -16,11 +16,11 @@ mod Writes
 mod Others
 mod Getting
 mod Copying
-mod Finding
+pub mod Finding
 mod Whole
 mod Rules
-mod First
+pub mod First
 mod Asking
 mod Entered
-mod Each
+pub mod Each
 mod Ending

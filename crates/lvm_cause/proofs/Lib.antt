@@ -1,0 +1,4 @@
+mod Rising
+mod Changes
+mod Each
+mod Whole

@@ -1,0 +1,54 @@
+-- Each event keeps the causes, and what follows from them.
+use Rattle.std.specs.Prelude.{◌≡◌, ℕ, Bool, not, List, [], ◌∷◌, ◌++◌, None, IsTrue, IsFalse}
+use Rattle.lvm_vol.specs.declared.entry.Outcome.TheVariants as outcome
+use Rattle.lvm_good.specs.State.{State}
+use Rattle.lvm_good.specs.Found.{Votes}
+use Rattle.lvm_good.specs.Good.{Good}
+use Rattle.lvm_good.specs.Events.{Event}
+use Rattle.lvm_good.specs.Off.{GoesOff}
+use Rattle.lvm_cause.specs.Faults.{Faults, NoneFailed}
+use Rattle.lvm_good.specs.Over.{landings}
+use Rattle.lvm_good.specs.First.{at_first}
+use Rattle.lvm_cause.specs.Caused.{Since, Caused}
+use Rattle.lvm_cause.specs.Why.{CausedStep}
+
+-- Each event of a good state keeps the causes.
+abbrev pub EachEventKeepsCauses : Type 0
+EachEventKeepsCauses =
+    (votes : Votes) (event : Event) (old new : State) (before after : Faults) → CausedStep votes event old new before after → Good votes old → Caused before old → Caused after new
+
+-- these events, one after another, with their causes
+abbrev pub CausedSteps : Votes → List Event → State → State → Faults → Faults → Type 0
+CausedSteps votes [] old new before after = (new ≡ old) × (after ≡ before)
+CausedSteps votes (event ∷ events) old new before after = (s : State) × (w : Faults) × CausedStep votes event old s before w × CausedSteps votes events s new w after
+
+-- A session that begins with nothing asked and no update under way has its causes: what is missing and stale then was so when it began;
+abbrev pub at_beginning : State → (ℕ → ℕ) → Faults
+at_beginning s counts = record { now = counts; began = counts; asked = λ i. counts; missing = s.missing; stale = s.committed.value.stale; past = s.facts }
+
+pub record IsFresh (s : State) : Type 0 where
+  pub queue : (i : ℕ) → s.queue i ≡ None
+  pub in_flight : s.in_flight ≡ None
+  pub open_copy : s.open_copy ≡ None
+  pub wanted : s.wanted ≡ s.committed.value
+
+-- and so it has at each moment after that.
+abbrev pub EachMomentIsCaused : Type 0
+EachMomentIsCaused =
+    (votes : Votes) (events : List Event) (old new : State) (counts : ℕ → ℕ) (after : Faults)
+    → Good votes old → IsFresh old → CausedSteps votes events old new (at_beginning old counts) after → Caused after new
+
+-- Where the members that weren't missing when a session began had votes enough, they still have unless a disk has failed;
+abbrev pub VotesAreLostByFaults : Type 0
+VotesAreLostByFaults =
+    (votes : Votes) (s : State) (w : Faults) → Caused w s → IsTrue (votes.writes (λ d. not (w.missing d))) → IsFalse (votes.writes (λ d. not (s.missing d))) → NoneFailed w → ⊥
+
+-- so the landings of a group that goes off have their cause too.
+abbrev pub OffIsCaused : Type 0
+OffIsCaused =
+    (votes : Votes) (s : State) (w : Faults) (places : List ℕ) (started : ℕ → Bool)
+    → Caused w s → IsTrue (votes.writes (λ d. not (w.missing d))) → GoesOff votes s places started → Since w s (s.facts ++ landings outcome.Off s.name started places)
+
+-- A session that begins so: the first that is good.
+abbrev pub FirstIsFresh : Type 0
+FirstIsFresh = IsFresh at_first

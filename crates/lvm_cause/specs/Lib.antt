@@ -1,0 +1,4 @@
+pub mod Faults
+pub mod Caused
+pub mod Why
+pub mod Laws

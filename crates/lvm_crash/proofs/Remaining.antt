@@ -1,0 +1,212 @@
+-- What a loss of power leaves keeps the history.
+use Rattle.std.proofs.Common.{◌≡◌, inl, inr, ⊎_elim, ℕ, ◌*◌, ◌<◌, ◌≤◌, Bool, List, [], ◌∷◌, ◌++◌, length, Option, Some, None, refl, sym, ap, subst, ◌∙◌}
+use Rattle.std.specs.Prelude.{IsTrue, option_map, if◌then◌else◌}
+use Rattle.std.proofs.lemmas.Bool.{eq-eqb}
+use Rattle.lvm_num.specs.declared.descriptor.PvRow.{PvRow}
+use Rattle.lvm_num.specs.declared.descriptor.LvRow.{LvRow}
+use Rattle.lvm_num.specs.declared.descriptor.Descriptor.{Descriptor}
+use Rattle.lvm_num.specs.declared.status.Status.{Status}
+use Rattle.lvm_num.specs.Buffer.{Sector}
+use Rattle.lvm_num.specs.Disks.{Disks}
+use Rattle.lvm_num.specs.Descriptor.{member_of, volume_of}
+use Rattle.lvm_num.specs.Geometry.{partition_blocks}
+use Rattle.lvm_num.specs.Record.{Stamped}
+use Rattle.lvm_num.specs.Votes.{all_disks, CanRead}
+use Rattle.lvm_num.specs.Note.{Noted}
+use Rattle.lvm_num.proofs.VotesLemmas.{read_meets_read}
+use Rattle.lvm_vol.specs.declared.entry.Vol.TheVariants.{Disk, Lv}
+use Rattle.lvm_vol.specs.Facts.{Fact, Cut}
+use Rattle.lvm_vol.specs.May.{Known, known, cut, May}
+use Rattle.lvm_vol.specs.Standing.{volumes_in}
+use Rattle.lvm_vol.proofs.Knowing.{known-push}
+use Rattle.lvm_kept.specs.Contents.{Contents}
+use Rattle.lvm_kept.specs.Group.{descriptor_among, is_voter, has_quorum, status_among, Finds, IsFound, members_in, status_by, Reads, ReadsBy, fresh_on, names_if, IsOneOf, IsSome}
+use Rattle.lvm_kept.specs.Kept.{HasStatus, IsBlockKept, BlocksKept, RawAgrees, IsAvailable, StandsAs, Kept}
+use Rattle.lvm_kept.specs.Committed.{IsWithinDisks}
+use Rattle.lvm_kept.proofs.Finding.{some_same, finding_reads}
+use Rattle.lvm_kept.proofs.Entries.{volume_is_row}
+use Rattle.lvm_good.specs.State.{State}
+use Rattle.lvm_good.specs.Found.{Votes, Found}
+use Rattle.lvm_good.specs.Crash.{IsCrash, BlockKept}
+use Rattle.lvm_crash.specs.Session.{marks_of, as_marks, marks_shown, view_of, AreVotesOf, members_there, Describes}
+use Rattle.lvm_crash.specs.Left.{MayRemain}
+use Rattle.lvm_crash.specs.Laws.{EachViewAgrees, WhatRemainsIsKept}
+use Rattle.lvm_crash.proofs.Blocks.{block_kept, some_fresh, block_of}
+use Rattle.lvm_crash.proofs.Finding.{FindsStatus, finds_status}
+
+has_status : (rows : List LvRow) (r : Stamped Status) → HasStatus rows (Some r)
+has_status [] r = tt
+has_status (row ∷ rows) r = refl
+
+its_own : (id : ℕ) (u : Stamped Status) → u.value.id ≡ id → marks_shown id (Some u) ≡ Some (as_marks u)
+its_own id u own = ap (λ (t : Bool). option_map as_marks (if t then Some u else None)) (eq-eqb u.value.id id own)
+
+module _ (old : Contents) (status : ℕ → Option (Stamped Status)) (note : ℕ → Option Noted) (block : ℕ → ℕ → Sector) where
+  abbrev new : Contents
+  new = record old { status = status; note = note; block = block }
+
+  group_same : (disks : Disks) (id : ℕ) → descriptor_among new disks id ≡ descriptor_among old disks id
+  unfolding descriptor_among
+  group_same disks id = refl
+
+  quorum_same : (disks : Disks) (id : ℕ) → has_quorum new disks id ≡ has_quorum old disks id
+  unfolding has_quorum is_voter descriptor_among
+  quorum_same disks id = refl
+
+  before : (disks : Disks) (id : ℕ) (group : Descriptor) → Finds new disks id group → Finds old disks id group
+  before disks id group f = record { quorum = sym (quorum_same disks id) ∙ f.quorum; newest = f.newest; found = sym (group_same disks id) ∙ f.found; is = f.is }
+
+  after : (disks : Disks) (id : ℕ) (group : Descriptor) → Finds old disks id group → Finds new disks id group
+  after disks id group f = record { quorum = quorum_same disks id ∙ f.quorum; newest = f.newest; found = group_same disks id ∙ f.found; is = f.is }
+
+  module _ (votes : Votes) (s : State) (facts : List Fact) (group : Descriptor) (in_flight : Option (Stamped Status)) (are : AreVotesOf group votes) (stood : Found votes s)
+      (agrees : EachViewAgrees s facts) (describes : Describes s facts group in_flight old)
+      (remain : MayRemain s group in_flight old new) (within : IsWithinDisks new) where
+    -- the session's view of what remains is one that it may leave
+    crash : IsCrash s (view_of group new)
+    crash = record {
+      block = λ lv b p copy. ⊎_elim (λ same. inl (same ∙ sym (describes.blocks lv b p copy))) (λ brought. inr brought) (remain.blocks lv b p copy);
+      names = λ d. ⊎_elim
+          (λ same. inl (λ t lv g. (ap (λ (n : Option Noted). names_if n lv g) same ∙ sym (describes.names d lv g)) t))
+          (λ is. inr (is.0, is.1, λ t lv g. is.2 lv g t))
+          (remain.notes d);
+      status = λ d. ⊎_elim
+          (λ same. inl (ap (marks_shown group.id) same ∙ sym (describes.status d)))
+          (λ is. inr (as_marks is.0, describes.statuses.same ∙ ap (option_map as_marks) is.1, is.2, ap (marks_shown group.id) is.3 ∙ its_own group.id is.0 (describes.statuses.own is.0 is.1)))
+          (remain.statuses d);
+    }
+
+    -- any quorum finds this group
+    one_id : (id : ℕ) (g : Descriptor) → IsFound new id g → id ≡ group.id
+    one_id id g is = describes.stands.alone is.0 id g (before is.0 id g is.1)
+
+    one_group : (id : ℕ) (g : Descriptor) → IsFound new id g → g ≡ group
+    one_group id g is = describes.stands.only is.0 g (subst (λ i. Finds old is.0 i g) (one_id id g is) (before is.0 id g is.1))
+
+    -- what holds of the group holds of each that is found
+    of_found : (P : ℕ → Descriptor → Type 0) → P group.id group → (id : ℕ) (g : Descriptor) → IsFound new id g → P id g
+    of_found P here id g is = subst (λ i. P i g) (sym (one_id id g is)) (subst (λ h. P group.id h) (sym (one_group id g is)) here)
+
+    found : Finds new all_disks group.id group
+    found = after all_disks group.id group describes.stands.found
+
+    -- a set that can read finds one of the two statuses
+    reading : (disks : Disks) (id : ℕ) (g : Descriptor) → Reads new disks id g → FindsStatus s group new disks
+    reading disks id g reads = finds_status votes s group new are stood crash within disks
+        (subst (λ i. CanRead group (members_in new disks i group)) (one_id id g reads.found) (subst (λ h. CanRead h (members_in new disks id h)) (one_group id g reads.found) reads.enough))
+
+    found_by : (disks : Disks) (id : ℕ) (g : Descriptor) (reads : Reads new disks id g) → status_by new disks id g ≡ Some (reading disks id g reads).status
+    found_by disks id g reads = ap (λ h. status_by new disks id h) (one_group id g reads.found) ∙ ap (λ i. status_by new disks i group) (one_id id g reads.found) ∙ (reading disks id g reads).found
+
+    after_cut : (lv b : ℕ) → known (facts ++ Cut ∷ []) (Lv lv) b ≡ cut b (known facts (Lv lv) b)
+    after_cut lv b = known-push facts Cut (Lv lv) b
+
+    -- what a status that may be found says of the blocks
+    kept_by : (disks : Disks) (finds : FindsStatus s group new disks) (row : LvRow) (b : ℕ) → BlockKept s (view_of group new) (marks_of finds.status.value) (cut b (known facts (Lv row.number) b)) row.number b
+    kept_by disks finds row b = agrees (view_of group new) (marks_of finds.status.value) row.number b crash finds.possible
+
+    blocks_by : (disks members : Disks) (finds : FindsStatus s group new disks) → BlocksKept new facts group (members_in new members group.id group) (Some finds.status)
+    blocks_by disks members finds row lp b one inside =
+        subst (λ (k : Known). IsBlockKept new group.mib (Some finds.status) row (fresh_on (members_in new members group.id group) (Some finds.status) row lp) k b) (sym (after_cut row.number b))
+        (block_kept s facts group new describes.volumes finds.status row lp b one inside (kept_by disks finds row b) members)
+
+    some_by : (disks : Disks) (finds : FindsStatus s group new disks) (row : LvRow) (lp : ℕ) → IsOneOf group.lvs row → lp < row.lps → IsSome (fresh_on (members_there new group) (Some finds.status) row lp)
+    some_by disks finds row lp one low =
+        some_fresh s facts group new describes.volumes finds.status row lp (lp * partition_blocks group.mib) one
+        (record { inside = low; partition = block_of group.mib lp describes.stands.size }) (kept_by disks finds row (lp * partition_blocks group.mib))
+
+    -- ---- two sets, of which one finds the status and one the descriptor
+
+    status_there : (b : Disks) (id : ℕ) (h k : Descriptor) → Reads new b id h → IsFound new id k → HasStatus k.lvs (status_by new b id h)
+    status_there b id h k reads is = subst (HasStatus k.lvs) (sym (found_by b id h reads)) (has_status k.lvs (reading b id h reads).status)
+
+    across : (b : Disks) (id : ℕ) (h k : Descriptor) → Reads new b id h → IsFound new id k → BlocksKept new facts k (members_in new all_disks id k) (status_by new b id h)
+    across b id h k reads is = subst (BlocksKept new facts k (members_in new all_disks id k)) (sym (found_by b id h reads))
+        (of_found (λ i g. BlocksKept new facts g (members_in new all_disks i g) (Some (reading b id h reads).status)) (blocks_by b all_disks (reading b id h reads)) id k is)
+
+    some : (b : Disks) (id : ℕ) (h k : Descriptor) → Reads new b id h → IsFound new id k → (row : LvRow) (lp : ℕ) → IsOneOf k.lvs row → lp < row.lps
+        → IsSome (fresh_on (members_in new all_disks id k) (status_by new b id h) row lp)
+    some b id h k reads is row lp = subst (λ o. IsOneOf k.lvs row → lp < row.lps → IsSome (fresh_on (members_in new all_disks id k) o row lp)) (sym (found_by b id h reads))
+        (of_found (λ i g. IsOneOf g.lvs row → lp < row.lps → IsSome (fresh_on (members_in new all_disks i g) (Some (reading b id h reads).status) row lp)) (some_by b (reading b id h reads) row lp) id k is)
+
+    common : (a b : Disks) (id : ℕ) (g h : Descriptor) → Reads new a id g → Reads new b id h → (d : ℕ) × IsTrue (members_in new a id g d) × IsTrue (members_in new b id h d)
+    common a b id g h r t =
+        let as_one : h ≡ g = one_group id h t.found ∙ sym (one_group id g r.found) in
+        let both = read_meets_read g (members_in new a id g) (members_in new b id h) (of_found (λ i k. 1 ≤ length k.pvs) describes.stands.a_member id g r.found) r.enough
+        (subst (λ k. CanRead k (members_in new b id h)) as_one t.enough) in
+        (both.0, both.2, both.3)
+
+    one_group_of : (id : ℕ) (g h : Descriptor) → IsFound new id g → IsFound new id h → g ≡ h
+    one_group_of id g h is also = one_group id g is ∙ sym (one_group id h also)
+
+    partitions : (id : ℕ) (g h : Descriptor) → IsFound new id g → IsFound new id h → (d : ℕ) (p q : PvRow) → member_of g d ≡ Some p → member_of h d ≡ Some q → p.pps ≡ q.pps
+    partitions id g h is also d p q of_g of_h =
+        ap (λ (row : PvRow). row.pps) (some_same p q (sym of_g ∙ ap (λ (k : Descriptor). member_of k d) (one_group_of id g h is also) ∙ of_h))
+
+    -- ---- one set, by its own descriptor and its own status
+
+    copies : (disks : Disks) (id : ℕ) (g : Descriptor) → Finds new disks id g → BlocksKept new facts g (is_voter new disks id) (status_among new disks id)
+    copies disks id g f =
+        let by : ReadsBy new disks id g = finding_reads new disks id g f in
+        let finds = reading disks id g by.reads in
+        subst (λ (v : Disks). BlocksKept new facts g v (status_among new disks id)) (sym by.voters) (subst (BlocksKept new facts g (members_in new disks id g)) (sym (by.status ∙ found_by disks id g by.reads))
+        (of_found (λ i k. BlocksKept new facts k (members_in new disks i k) (Some finds.status)) (blocks_by disks disks finds) id g by.reads.found))
+
+    there : (disks : Disks) (id : ℕ) (g : Descriptor) → Finds new disks id g → HasStatus g.lvs (status_among new disks id)
+    there disks id g f =
+        let by : ReadsBy new disks id g = finding_reads new disks id g f in
+        subst (HasStatus g.lvs) (sym by.status) (status_there disks id g g by.reads by.reads.found)
+
+    available : IsAvailable new facts
+    available =
+        let by : ReadsBy new all_disks group.id group = finding_reads new all_disks group.id group found in
+        record {
+          id = group.id;
+          group = group;
+          found = found;
+          copies = λ lv lp row settled is inside.
+              subst (λ (v : Disks). IsSome (fresh_on v (status_among new all_disks group.id) row lp)) (sym by.voters)
+              (subst (λ o. IsSome (fresh_on (members_in new all_disks group.id group) o row lp)) (sym by.status)
+              (some all_disks group.id group group by.reads by.reads.found row lp (volume_is_row group lv row is) inside));
+        }
+
+    volumes : (disks : Disks) (id : ℕ) (g : Descriptor) → Finds new disks id g → (lv : ℕ)
+        → StandsAs g.mib (volumes_in facts lv).standing (volumes_in facts lv).shape (volume_of g lv)
+    volumes disks id g f lv = of_found (λ i k. StandsAs k.mib (volumes_in facts lv).standing (volumes_in facts lv).shape (volume_of k lv)) (describes.volumes.history lv) id g (disks, f)
+
+    raw : RawAgrees new facts
+    raw d b low none from to = subst (May (known (facts ++ Cut ∷ []) (Disk d) b)) (sym (remain.raw d b none from)) (describes.raw d b low none from to)
+
+    statuses : (d e : ℕ) (r t : Stamped Status) → status d ≡ Some r → status e ≡ Some t → r.value.id ≡ t.value.id → r.stamp ≡ t.stamp → r ≡ t
+    statuses d e r t is also ids stamps = ⊎_elim
+        (λ old_r. ⊎_elim
+        (λ old_t. describes.statuses.once d e r t (sym old_r ∙ is) (sym old_t ∙ also) ids stamps)
+        (λ new_t. let same : t ≡ new_t.0 = some_same t new_t.0 (sym also ∙ new_t.3) in
+        describes.statuses.new new_t.0 d r new_t.1 (sym old_r ∙ is) (ids ∙ ap (λ (x : Stamped Status). x.value.id) same) (stamps ∙ ap (λ (x : Stamped Status). x.stamp) same) ∙ sym same)
+        (remain.statuses e))
+        (λ new_r. let same : r ≡ new_r.0 = some_same r new_r.0 (sym is ∙ new_r.3) in ⊎_elim
+        (λ old_t. same
+        ∙ sym (describes.statuses.new new_r.0 e t new_r.1 (sym old_t ∙ also) (sym ids ∙ ap (λ (x : Stamped Status). x.value.id) same) (sym stamps ∙ ap (λ (x : Stamped Status). x.stamp) same)))
+        (λ new_t. same ∙ some_same new_r.0 new_t.0 (sym new_r.1 ∙ new_t.1) ∙ sym (some_same t new_t.0 (sym also ∙ new_t.3)))
+        (remain.statuses e))
+        (remain.statuses d)
+
+    pub kept : Kept new facts
+    kept = record {
+      agrees = record { volumes = volumes; status = there; copies = copies; raw = raw; available = λ lv settled. available };
+      lasting = record {
+        common = common;
+        status = status_there;
+        across = across;
+        some = some;
+        size = λ id g h is also. ap (λ (k : Descriptor). k.mib) (one_group_of id g h is also);
+        partitions = partitions;
+        descriptors = describes.stands.once;
+        statuses = statuses;
+      };
+    }
+
+pub remains_kept : WhatRemainsIsKept
+remains_kept votes s facts group in_flight old new are stood agrees describes remain within =
+    subst (λ c. Kept c facts) (sym remain.rest)
+    (kept old new.status new.note new.block votes s facts group in_flight are stood agrees describes (subst (MayRemain s group in_flight old) remain.rest remain) (subst IsWithinDisks remain.rest within))

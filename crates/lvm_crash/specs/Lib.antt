@@ -1,0 +1,6 @@
+pub mod Session
+pub mod Standing
+pub mod Left
+pub mod Flights
+pub mod Laws
+pub mod First

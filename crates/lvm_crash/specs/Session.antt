@@ -1,0 +1,113 @@
+-- A session of a group, and what stands on the disks: when the one describes the other.
+use Rattle.std.specs.Prelude.{◌≡◌, ◌↔◌, ℕ, ◌<◌, ◌≤◌, Bool, true, false, List, length, Option, Some, IsTrue, option_map}
+use Rattle.lvm_num.specs.declared.place.Pp.{Pp}
+use Rattle.lvm_num.specs.declared.descriptor.Mode.{Mode}
+use Rattle.lvm_num.specs.declared.descriptor.Mode.TheVariants.{Active, Passive, Off}
+use Rattle.lvm_num.specs.declared.descriptor.LvRow.{LvRow}
+use Rattle.lvm_num.specs.declared.descriptor.Descriptor.{Descriptor}
+use Rattle.lvm_num.specs.declared.status.Status.{Status}
+use Rattle.lvm_num.specs.Disks.{Disks}
+use Rattle.lvm_num.specs.Descriptor.{copies_of, volume_of}
+use Rattle.lvm_num.specs.Status.{calls_stale, calls_dirty}
+use Rattle.lvm_num.specs.Votes.{all_disks, votes_in, is_enough_to_read, is_enough_to_write}
+use Rattle.lvm_num.specs.Record.{Stamped}
+use Rattle.lvm_vol.specs.declared.entry.Vol.TheVariants.{Lv}
+use Rattle.lvm_vol.specs.Facts.{Fact}
+use Rattle.lvm_vol.specs.May.{known}
+use Rattle.lvm_vol.specs.Standing.{volumes_in}
+use Rattle.lvm_kept.specs.Contents.{Contents}
+use Rattle.lvm_kept.specs.Group.{if_passes, is_status_of, Finds, members_in, block_at, IsBlockOf, is_named, IsOneOf}
+use Rattle.lvm_kept.specs.Kept.{StandsAs, RawAgrees}
+use Rattle.lvm_good.specs.State.{Marks, View, State}
+use Rattle.lvm_good.specs.Found.{Votes}
+
+-- ---- what a session sees of the disks
+
+-- the marks of a status
+abbrev pub marks_of : Status → Marks
+marks_of status = record { stale = calls_stale status; dirty = calls_dirty status }
+
+abbrev pub as_marks : Stamped Status → Stamped Marks
+as_marks r = record { stamp = r.stamp; value = marks_of r.value }
+
+-- those of the newest status of a disk, if it is of the group
+abbrev pub marks_shown : ℕ → Option (Stamped Status) → Option (Stamped Marks)
+marks_shown id shown = option_map as_marks (if_passes (is_status_of id) shown)
+
+-- what the disks show to a session of the group
+abbrev pub view_of : Descriptor → Contents → View
+view_of group c = record { block = λ lv b p. block_at c group.mib p b; names = is_named c; status = λ d. marks_shown group.id (c.status d) }
+
+-- ---- the group
+
+-- the votes are those of the group
+pub record AreVotesOf (group : Descriptor) (votes : Votes) : Type 0 where
+  pub reads : (set : Disks) → votes.reads set ≡ is_enough_to_read group (votes_in group set)
+  pub writes : (set : Disks) → votes.writes set ≡ is_enough_to_write group (votes_in group set)
+
+-- the members by the descriptor that show a descriptor of the group and have the sectors that their partitions need
+abbrev pub members_there : Contents → Descriptor → Disks
+members_there c group = members_in c all_disks group.id group
+
+-- All disks together find the group by this descriptor, and whichever disks find a group find this one so.
+pub record GroupStands (c : Contents) (group : Descriptor) : Type 0 where
+  pub a_member : 1 ≤ length group.pvs
+  pub size : 1 ≤ group.mib
+  pub found : Finds c all_disks group.id group
+  pub alone : (disks : Disks) (id : ℕ) (g : Descriptor) → Finds c disks id g → id ≡ group.id
+  pub only : (disks : Disks) (g : Descriptor) → Finds c disks group.id g → g ≡ group
+  -- descriptors of a group under one stamp are one
+  pub once : (d e : ℕ) (r t : Stamped Descriptor) → c.descriptor d ≡ Some r → c.descriptor e ≡ Some t → r.value.id ≡ t.value.id → r.stamp ≡ t.stamp → r ≡ t
+
+-- ---- its volumes
+
+abbrev pub has_notes : Mode → Bool
+has_notes Active = true
+has_notes Passive = false
+has_notes Off = false
+
+abbrev pub has_mark : Mode → Bool
+has_mark Active = false
+has_mark Passive = true
+has_mark Off = false
+
+-- a block of a volume of the group
+pub record IsBlockIn (group : Descriptor) (lv b : ℕ) : Type 0 where
+  pub row : LvRow
+  pub lp : ℕ
+  pub volume : IsOneOf group.lvs row
+  pub number : row.number ≡ lv
+  pub inside : IsBlockOf group.mib row lp b
+
+-- The session's copies are those of the group that stand on members which are there, of which each logical partition has one; its
+-- modes are the group's, and the history has the group's volumes.
+pub record HasVolumes (s : State) (facts : List Fact) (group : Descriptor) (members : Disks) : Type 0 where
+  pub copies : (row : LvRow) (lp b : ℕ) (p : Pp) → IsOneOf group.lvs row → IsBlockOf group.mib row lp b → IsTrue (s.is_copy row.number b p) ↔ (IsOneOf (copies_of row lp) p × IsTrue (members p.disk))
+  pub inside : (lv b : ℕ) (p : Pp) → IsTrue (s.is_copy lv b p) → IsBlockIn group lv b
+  pub some : (row : LvRow) (lp : ℕ) → IsOneOf group.lvs row → lp < row.lps → (p : Pp) × IsOneOf (copies_of row lp) p × IsTrue (members p.disk)
+  pub notes : (row : LvRow) → IsOneOf group.lvs row → s.is_active row.number ≡ has_notes row.mode
+  pub mark : (row : LvRow) → IsOneOf group.lvs row → s.is_passive row.number ≡ has_mark row.mode
+  pub modes : (row : LvRow) (lp b : ℕ) → IsOneOf group.lvs row → IsBlockOf group.mib row lp b → (known facts (Lv row.number) b).mode ≡ row.mode
+  pub history : (lv : ℕ) → StandsAs group.mib (volumes_in facts lv).standing (volumes_in facts lv).shape (volume_of group lv)
+
+-- ---- its statuses
+
+-- The status in flight is this one, of the group, and statuses of a group under one stamp are one.
+pub record HasStatuses (s : State) (group : Descriptor) (in_flight : Option (Stamped Status)) (c : Contents) : Type 0 where
+  pub same : s.in_flight ≡ option_map as_marks in_flight
+  pub own : (u : Stamped Status) → in_flight ≡ Some u → u.value.id ≡ group.id
+  pub once : (d e : ℕ) (r t : Stamped Status) → c.status d ≡ Some r → c.status e ≡ Some t → r.value.id ≡ t.value.id → r.stamp ≡ t.stamp → r ≡ t
+  pub new : (u : Stamped Status) (d : ℕ) (r : Stamped Status) → in_flight ≡ Some u → c.status d ≡ Some r → r.value.id ≡ u.value.id → r.stamp ≡ u.stamp → r ≡ u
+
+-- ---- all of it
+
+-- What stands on the disks is what the session's state says, and disks in no group hold what the history allows. (The history is the state's
+-- while the session is on; once it is over, that one with the landings of what was open.)
+pub record Describes (s : State) (facts : List Fact) (group : Descriptor) (in_flight : Option (Stamped Status)) (c : Contents) : Type 0 where
+  pub stands : GroupStands c group
+  pub volumes : HasVolumes s facts group (members_there c group)
+  pub blocks : (lv b : ℕ) (p : Pp) → IsTrue (s.is_copy lv b p) → s.media.block lv b p ≡ block_at c group.mib p b
+  pub names : (d lv track_group : ℕ) → s.media.names d lv track_group ≡ is_named c d lv track_group
+  pub status : (d : ℕ) → s.media.status d ≡ marks_shown group.id (c.status d)
+  pub statuses : HasStatuses s group in_flight c
+  pub raw : RawAgrees c facts

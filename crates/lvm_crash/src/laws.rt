@@ -1,0 +1,36 @@
+//! Laws of what stands on the disks of a session. Each call does nothing: its contract is the law.
+ghost use Rattle.lvm_crash.specs.First.{GroupsHaveVotes, FirstIsDescribed};
+ghost use Rattle.lvm_crash.specs.Standing.{CommittedIsFound};
+ghost use Rattle.lvm_crash.specs.Laws.{WhatRemainsIsKept, CrashImagesRemain, CrashImagesAreKept, LastImagesAreKept};
+
+/// Where the state of a session describes what stands on the disks, whatever a loss of power may leave of it
+/// keeps the history: it agrees with it, and goes on doing so whichever disks answer next.
+pub fn what_remains_is_kept()
+    ensures { WhatRemainsIsKept }
+{}
+
+/// Where the state of a session matches a shelf, so that what is out is what the state has out, each crash image
+/// shows what a loss of power may leave of the state: each block old or new, each record old or new.
+pub fn crash_images_remain()
+    ensures { CrashImagesRemain }
+{}
+
+/// So where a good state matches a shelf, each crash image of the shelf keeps the history; and once the session
+/// is over, each that the shelf might have left at its last moment keeps the history with the landings as Off or
+/// as Dark of what was open.
+pub fn crash_images_are_kept()
+    ensures on { CrashImagesAreKept }
+    ensures over { LastImagesAreKept }
+{}
+
+/// Where disks with votes enough to write show a descriptor of the group and no disk a later one, whichever
+/// disks find the group find it by that descriptor.
+pub fn committed_is_found()
+    ensures { CommittedIsFound }
+{}
+
+/// Each group has votes, and there is a session with disks that its good state describes.
+pub fn first_is_described()
+    ensures votes { GroupsHaveVotes }
+    ensures described { FirstIsDescribed }
+{}
