@@ -1,0 +1,6 @@
+pub mod Entries
+pub mod Spans
+pub mod Masks
+pub mod Writing
+pub mod Reading
+pub mod Zeros
