@@ -4,3 +4,7 @@ pub mod Masks
 pub mod Writing
 pub mod Reading
 pub mod Zeros
+pub mod NoVolumes
+pub mod Making
+pub mod WorkedMaking
+pub mod Writable

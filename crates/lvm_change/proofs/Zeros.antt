@@ -19,6 +19,7 @@ blank_is_earlier run device media told still blank = record {
   told = subst (λ (o : Option Media). IsSome o) (sym told) refl;
   legal = tt;
   own = refl;
+  moments = tt;
   kept = λ image may. blank_is_kept image (left_blank device media told still blank image may);
 }
 

@@ -1,3 +1,6 @@
 pub mod Moments
 pub mod Entries
 pub mod Requests
+pub mod Making
+pub mod WorkedMaking
+pub mod Writable

@@ -1,6 +1,9 @@
 //! Laws of the steps of commands. Each call does nothing: its contract is the law.
-ghost use Rattle.lvm_change.specs.Moments.{StepsGoOn, FewerStayKept, EntryGoesOn, SpansJoin, SpanUpholds, RunsFollow, BlankIsEarlier};
+ghost use Rattle.lvm_change.specs.Moments.{StepsGoOn, FewerStayKept, EntryGoesOn, GroupGoesOn, DisksGoOut, SpansJoin, SpanUpholds, RunsFollow, BlankIsEarlier};
 ghost use Rattle.lvm_change.specs.Entries.{DiskEntryKeeps, QuietEntryKeeps};
+ghost use Rattle.lvm_change.specs.Making.{NotesMayChange, StatusesMayChange, DescriptorsMayChange, StillMayMake, NotesGoOn, StatusGoesOn, DescriptorGoesOn, GroupIsMade};
+ghost use Rattle.lvm_change.specs.WorkedMaking.{WorkedMaking};
+ghost use Rattle.lvm_change.specs.Writable.{WritableStays, NotesAreOutside, RecordsAreOutside};
 ghost use Rattle.lvm_change.specs.Requests.{StillShowsNone, BlankIsInNoGroup, StaysInNoGroup, WriteDoneKeeps, WriteLostKeeps, WriteDarkKeeps, WriteStuckKeeps, ReadGotKeeps, ReadFailedKeeps, ReadDarkKeeps, ReadStuckKeeps};
 
 /// An entry that speaks of no volume keeps the history where the disks in no group hold what they then may; one that takes nothing
@@ -15,6 +18,8 @@ pub fn spans_grow()
     ensures steps { StepsGoOn }
     ensures fewer { FewerStayKept }
     ensures entry { EntryGoesOn }
+    ensures on { GroupGoesOn }
+    ensures out { DisksGoOut }
     ensures joined { SpansJoin }
     ensures upheld { SpanUpholds }
 {}
@@ -47,4 +52,34 @@ pub fn raw_reads_keep()
     ensures failed { ReadFailedKeeps }
     ensures dark { ReadDarkKeeps }
     ensures stuck { ReadStuckKeeps }
+{}
+
+/// Where no disk shows a volume and none the new group, notes, a status and the group's descriptor may be written to any disks, and
+/// whatever of them has landed keeps the history.
+pub fn groups_may_be_made()
+    ensures notes { NotesMayChange }
+    ensures statuses { StatusesMayChange }
+    ensures descriptors { DescriptorsMayChange }
+    ensures still { StillMayMake }
+{}
+
+/// While `mkvg` writes notes, a status and a descriptor from a still shelf, what was kept is kept at each moment; and so it is of the
+/// whole of it with its entries.
+pub fn group_is_made()
+    ensures notes { NotesGoOn }
+    ensures status { StatusGoesOn }
+    ensures descriptor { DescriptorGoesOn }
+    ensures whole { GroupIsMade }
+{}
+
+/// Two groups in the making, worked by hand: on blank disks, and by force over one without volumes.
+pub fn worked_making()
+    ensures { WorkedMaking }
+{}
+
+/// A record that might be written to its targets still may after other sectors were, as those of notes or of the other kind's records.
+pub fn records_stay_writable<X>()
+    ensures stays { WritableStays X }
+    ensures notes { NotesAreOutside }
+    ensures records { RecordsAreOutside }
 {}

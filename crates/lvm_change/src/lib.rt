@@ -4,6 +4,6 @@
 mod laws;
 
 pub use laws::{
-    disk_entries_keep, disks_stay_in_no_group, raw_reads_keep, raw_writes_keep, runs_follow,
-    spans_grow,
+    disk_entries_keep, disks_stay_in_no_group, group_is_made, groups_may_be_made, raw_reads_keep,
+    raw_writes_keep, records_stay_writable, runs_follow, spans_grow, worked_making,
 };
