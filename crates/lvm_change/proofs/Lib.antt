@@ -8,3 +8,5 @@ pub mod NoVolumes
 pub mod Making
 pub mod WorkedMaking
 pub mod Writable
+pub mod VaryingOn
+pub mod Following

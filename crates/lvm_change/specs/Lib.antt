@@ -4,3 +4,4 @@ pub mod Requests
 pub mod Making
 pub mod WorkedMaking
 pub mod Writable
+pub mod VaryingOn

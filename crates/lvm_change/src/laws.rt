@@ -4,6 +4,7 @@ ghost use Rattle.lvm_change.specs.Entries.{DiskEntryKeeps, QuietEntryKeeps};
 ghost use Rattle.lvm_change.specs.Making.{NotesMayChange, StatusesMayChange, DescriptorsMayChange, StillMayMake, NotesGoOn, StatusGoesOn, DescriptorGoesOn, GroupIsMade};
 ghost use Rattle.lvm_change.specs.WorkedMaking.{WorkedMaking};
 ghost use Rattle.lvm_change.specs.Writable.{WritableStays, NotesAreOutside, RecordsAreOutside};
+ghost use Rattle.lvm_change.specs.VaryingOn.{RestampKeeps, OnlyNewestIsFound, RestateKeeps, ForgettingKeeps, RestampIsNewest, NewestStaysNewest, DescriptorVariesOn, StatusVariesOn, NotesVaryOn, GroupIsVariedOn};
 ghost use Rattle.lvm_change.specs.Requests.{StillShowsNone, BlankIsInNoGroup, StaysInNoGroup, WriteDoneKeeps, WriteLostKeeps, WriteDarkKeeps, WriteStuckKeeps, ReadGotKeeps, ReadFailedKeeps, ReadDarkKeeps, ReadStuckKeeps};
 
 /// An entry that speaks of no volume keeps the history where the disks in no group hold what they then may; one that takes nothing
@@ -82,4 +83,24 @@ pub fn records_stay_writable<X>()
     ensures stays { WritableStays X }
     ensures notes { NotesAreOutside }
     ensures records { RecordsAreOutside }
+{}
+
+/// While a group is varied on its descriptor may have a new stamp; once each member that answered has it, each quorum finds it, and
+/// then its status may call more copies stale, and without active volumes its notes may be emptied.
+pub fn groups_may_vary_on()
+    ensures restamped { RestampKeeps }
+    ensures only { OnlyNewestIsFound }
+    ensures restated { RestateKeeps }
+    ensures forgotten { ForgettingKeeps }
+{}
+
+/// What each write of a varyon finds after the one before, and that at each moment of the writes, and of the whole of it with its
+/// entry, what was kept is kept.
+pub fn group_is_varied_on()
+    ensures restamped { RestampIsNewest }
+    ensures stays { NewestStaysNewest }
+    ensures descriptor { DescriptorVariesOn }
+    ensures status { StatusVariesOn }
+    ensures notes { NotesVaryOn }
+    ensures whole { GroupIsVariedOn }
 {}
