@@ -56,7 +56,7 @@ module _ (image : Image) (blank : IsBlank image) where
           let large : data_start ≤ image.size d = leb-true data_start (image.size d) both.1 in
           none_newest content_of kind (image.sector d) (λ s lt. blank d s there (omega (arith, lt, large)))
 
-  no_descriptor : (d : ℕ) → descriptor_on image d ≡ None
+  pub no_descriptor : (d : ℕ) → descriptor_on image d ≡ None
   unfolding descriptor_on
   no_descriptor d = none_at descriptor_of kind.Descriptor d
 

@@ -170,13 +170,13 @@ module _ (run id disk at count ticket : ℕ) (sent : Buffer) (old : Device) (fac
         go (Some m) (Some n) puts reads = λ d s. (puts d s, λ i within here there. reads i within ∙ ap (λ (e : ℕ). Some (m e (at + i))) (sym here) ∙ ap (λ (k : ℕ). Some (m d k)) (sym there))
 
     -- each image has what the buffer has
-    got_is : (image : Image) → MayLeave new image → (b : ℕ) → at ≤ b → b < at + count → block_of got at b ≡ image.sector disk b
+    pub got_is : (image : Image) → MayLeave new image → (b : ℕ) → at ≤ b → b < at + count → block_of got at b ≡ image.sector disk b
     got_is image may b from to =
         let old_image = from_before old new Same told still.flights still.sizes image may in
         let is = old_image.sectors disk b in
         got_here count (b - at) buf.sectors (old_image.before.sector disk b) (omega (arith, from, to)) (is.1 (b - at) (omega (arith, from, to)) refl (omega (arith, from))) ∙ sym is.0
 
-    within : (image : Image) → MayLeave new image → (disk < image.disks) × (at + count ≤ image.size disk)
+    pub within : (image : Image) → MayLeave new image → (disk < image.disks) × (at + count ≤ image.size disk)
     within image may =
         let sizes = may_disks new image may in
         let there : disk < length old.sizes = range.there in

@@ -46,7 +46,7 @@ among_all true own room e = e
 among_all false own room e = absurd cc
 
 -- what holds of all that pass one test holds of all that pass a narrower one
-narrower : {X : Type 0} (P : X → Type 0) (p q : X → Bool) → ((x : X) → q x ≡ true → p x ≡ true) → (xs : List X) → AllByRecursion P (filter p xs) → AllByRecursion P (filter q xs)
+pub narrower : {X : Type 0} (P : X → Type 0) (p q : X → Bool) → ((x : X) → q x ≡ true → p x ≡ true) → (xs : List X) → AllByRecursion P (filter p xs) → AllByRecursion P (filter q xs)
 narrower P p q more [] all = tt
 narrower P p q more (x ∷ xs) all = by_tests (p x) (q x) (more x) (narrower P p q more xs) all
   where

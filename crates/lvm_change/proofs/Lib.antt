@@ -1,0 +1,12 @@
+pub mod Entries
+pub mod Spans
+pub mod Masks
+pub mod Writing
+pub mod Reading
+pub mod Zeros
+pub mod NoVolumes
+pub mod Making
+pub mod WorkedMaking
+pub mod Writable
+pub mod VaryingOn
+pub mod Following

@@ -1,0 +1,7 @@
+pub mod Moments
+pub mod Entries
+pub mod Requests
+pub mod Making
+pub mod WorkedMaking
+pub mod Writable
+pub mod VaryingOn

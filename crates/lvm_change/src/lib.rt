@@ -1,0 +1,10 @@
+//! What the steps of commands keep: requests on disks, the making of a group, its varying on, and changes of its descriptor.
+#![tactic(auto)]
+
+mod laws;
+
+pub use laws::{
+    disk_entries_keep, disks_stay_in_no_group, group_is_made, group_is_varied_on,
+    groups_may_be_made, groups_may_vary_on, raw_reads_keep, raw_writes_keep, records_stay_writable,
+    runs_follow, spans_grow, worked_making,
+};
