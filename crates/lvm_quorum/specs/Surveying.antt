@@ -155,6 +155,7 @@ DiskGives disk number patience old new (Err how) = StopGives number patience old
 -- a row for each disk
 pub record AreSurveyed (old new : Device) (rows : List SurveyRow) : Type 0 where
   pub all : length rows ≡ length old.sizes
+  pub few : length rows ≤ 128
   pub each : (d : ℕ) (row : SurveyRow) → slice_get rows d ≡ Some row → IsSurveyed old new d row
 
 -- how the rows of all disks were found

@@ -102,9 +102,9 @@ fn survey_rows<S: Shelf>(
     for disk in 0..shelf.disks() {
         let (row, free) = survey_disk(alloc, shelf, disk, back, patience)?;
         back = free;
-        if rows.push(row).is_err() {
+        let Ok(()) = rows.push(row) else {
             return Err(Stop::Memory(back));
-        }
+        };
     }
     Ok((rows, back))
 }
