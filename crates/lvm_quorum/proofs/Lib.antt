@@ -4,3 +4,10 @@ pub mod Voting
 pub mod Epochs
 pub mod Naming
 pub mod Chosen
+pub mod Joining
+pub mod Transferring
+pub mod Following
+pub mod Areas
+pub mod DiskRows
+pub mod DiskByDisk
+pub mod ShownValid
