@@ -4,12 +4,18 @@
 mod choice;
 mod copies;
 mod groups;
+mod homes;
 mod names;
 mod row;
 mod shown;
+mod write;
 
 pub use choice::{Choice, ChooseFault, choose};
+pub use homes::Homes;
 pub use row::{Survey, SurveyRow};
+pub use write::{Wrote, write_record};
 
 #[cfg(test)]
 mod choice_tests;
+#[cfg(test)]
+mod write_tests;
