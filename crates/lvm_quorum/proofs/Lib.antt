@@ -11,3 +11,8 @@ pub mod Areas
 pub mod DiskRows
 pub mod DiskByDisk
 pub mod ShownValid
+pub mod Writing
+pub mod Pieces
+pub mod Transfers
+pub mod Disks
+pub mod HomeSlots

@@ -4,3 +4,6 @@ pub mod Groups
 pub mod Rows
 pub mod Surveying
 pub mod Laws
+pub mod Homes
+pub mod Written
+pub mod Parts

@@ -12,12 +12,16 @@ mod names;
 mod row;
 mod shown;
 mod survey;
+mod write;
 
 pub use choice::{Choice, ChooseFault, choose};
 pub use homes::Homes;
 pub use laws::shown_records_are_valid;
 pub use row::{Survey, SurveyRow};
 pub use survey::{Surveyed, survey_disks};
+pub use write::{Wrote, write_record};
 
 #[cfg(test)]
 mod choice_tests;
+#[cfg(test)]
+mod write_tests;
