@@ -11,6 +11,7 @@ use Rattle.lvm_num.specs.Record.{Stamped, stamp_lt}
 use Rattle.lvm_num.proofs.Newest.{is_one, is_last}
 use Rattle.lvm_num.proofs.VotesLemmas.{read_meets_read}
 use Rattle.lvm_disk.specs.Device.{Image, image_of}
+use Rattle.lvm_disk.proofs.Paths.{map-path}
 use Rattle.lvm_kept.specs.Contents.{Contents, contents_of}
 use Rattle.lvm_kept.specs.Group.{passes, is_of, has_room, descriptor_among, is_voter, has_quorum, Finds, members_in, ReadsBy}
 use Rattle.lvm_kept.specs.Committed.{IsWithinDisks}
@@ -18,9 +19,12 @@ use Rattle.lvm_kept.specs.Torn.{written as as_read, DescriptorsChange, Alone, No
 use Rattle.lvm_kept.proofs.Finding.{some_same, offered, is_offered, offers, finding_reads, finds_from, images_within}
 use Rattle.lvm_kept.proofs.Records.{descriptor_shows, status_shows}
 use Rattle.lvm_kept.proofs.Standing.{note_shows}
+use Rattle.lvm_change.specs.Moments.{ImagesKept}
 use Rattle.lvm_change.specs.VaryingOn.{MayRestamp, HasNewest, RestampIsNewest, NewestStaysNewest, DescriptorVariesOn, StatusVariesOn, NotesVaryOn, GroupIsVariedOn}
+use Rattle.lvm_change.specs.Committing.{CommitGoesOn}
+use Rattle.lvm_change.proofs.Committing.{commit_keeps}
 use Rattle.lvm_change.proofs.VaryingOn.{restamp_keeps, restate_keeps, forgetting_keeps}
-use Rattle.lvm_change.proofs.Making.{stays_by}
+use Rattle.lvm_change.proofs.Making.{stays_by, media_may}
 use Rattle.lvm_change.proofs.Spans.{steps_go_on, group_goes_on}
 
 clash : (b : Bool) → b ≡ true → b ≡ false → ⊥
@@ -152,3 +156,9 @@ group_is_varied_on run start facts moment group disks was old new span v le late
     (status_varies_on group disks (as_read v.group_write group) was v.status_write v.status v.described v.stated v.states v.its_kind v.may_state v.restate))
     (notes_vary_on group disks (as_read v.group_write group) v.targets v.sector v.stated new v.forgets v.newest v.quiet v.showing))
     le later
+
+pub commit_goes_on : CommitGoesOn
+commit_goes_on group lv w next old new facts written is_kind may_write may kept =
+    let start : Image = image_of old.sizes written.media in
+    map-path (λ d. ImagesKept d facts) (λ d way image left. commit_keeps group lv w.targets (as_read w next) (contents_of start) (contents_of image) facts (images_within start) may (descriptor_shows w next start image is_kind may_write (way.images image left))
+    (kept start (media_may old written.media written.told))) written.path

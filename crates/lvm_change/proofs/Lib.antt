@@ -9,4 +9,6 @@ pub mod Making
 pub mod WorkedMaking
 pub mod Writable
 pub mod VaryingOn
+pub mod Revaluing
+pub mod Committing
 pub mod Following

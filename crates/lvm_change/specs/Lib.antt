@@ -5,3 +5,4 @@ pub mod Making
 pub mod WorkedMaking
 pub mod Writable
 pub mod VaryingOn
+pub mod Committing

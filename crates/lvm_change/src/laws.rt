@@ -5,6 +5,7 @@ ghost use Rattle.lvm_change.specs.Making.{NotesMayChange, StatusesMayChange, Des
 ghost use Rattle.lvm_change.specs.WorkedMaking.{WorkedMaking};
 ghost use Rattle.lvm_change.specs.Writable.{WritableStays, NotesAreOutside, RecordsAreOutside};
 ghost use Rattle.lvm_change.specs.VaryingOn.{RestampKeeps, OnlyNewestIsFound, RestateKeeps, ForgettingKeeps, RestampIsNewest, NewestStaysNewest, DescriptorVariesOn, StatusVariesOn, NotesVaryOn, GroupIsVariedOn};
+ghost use Rattle.lvm_change.specs.Committing.{CommitKeeps, CommitGoesOn};
 ghost use Rattle.lvm_change.specs.Requests.{StillShowsNone, BlankIsInNoGroup, StaysInNoGroup, WriteDoneKeeps, WriteLostKeeps, WriteDarkKeeps, WriteStuckKeeps, ReadGotKeeps, ReadFailedKeeps, ReadDarkKeeps, ReadStuckKeeps};
 
 /// An entry that speaks of no volume keeps the history where the disks in no group hold what they then may; one that takes nothing
@@ -103,4 +104,11 @@ pub fn group_is_varied_on()
     ensures status { StatusVariesOn }
     ensures notes { NotesVaryOn }
     ensures whole { GroupIsVariedOn }
+{}
+
+/// A descriptor in which one volume more or less is named, which the history says is being made or removed, keeps the history,
+/// whatever of it has landed.
+pub fn descriptor_is_committed()
+    ensures shown { CommitKeeps }
+    ensures moments { CommitGoesOn }
 {}

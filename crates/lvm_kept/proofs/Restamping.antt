@@ -101,10 +101,10 @@ module _ (old : Contents) (descriptor : ℕ → Option (Stamped Descriptor)) (ne
       (λ is. ap (passes (is_of id)) is.0 ∙ ap (λ (n : ℕ). n == id) (sym is.1.2) ∙ sym (ap (passes (is_of id)) is.1.1))
       (own d)
 
-  members_same : (disks : Disks) (id : ℕ) (g : Descriptor) → members_in new disks id g ≡ members_in old disks id g
+  pub members_same : (disks : Disks) (id : ℕ) (g : Descriptor) → members_in new disks id g ≡ members_in old disks id g
   members_same disks id g = λ t d. disks d && group_same id d t && has_room old d g
 
-  status_same : (disks : Disks) (id : ℕ) (g : Descriptor) → status_by new disks id g ≡ status_by old disks id g
+  pub status_same : (disks : Disks) (id : ℕ) (g : Descriptor) → status_by new disks id g ≡ status_by old disks id g
   status_same disks id g =
       let same : members_in new disks id g ≡ members_in old disks id g = members_same disks id g in
       λ t. newest_below (λ d. if same t d then if_passes (is_status_of id) (old.status d) else None) old.disks
@@ -172,7 +172,7 @@ module _ (old : Contents) (descriptor : ℕ → Option (Stamped Descriptor)) (ne
   is_found_before : (id : ℕ) (k : Descriptor) → IsFound new id k → IsFound old id k
   is_found_before id k is = found_before is.0 id k is.1
 
-  reads_before : (disks : Disks) (id : ℕ) (h : Descriptor) → Reads new disks id h → Reads old disks id h
+  pub reads_before : (disks : Disks) (id : ℕ) (h : Descriptor) → Reads new disks id h → Reads old disks id h
   reads_before disks id h reads = record { found = is_found_before id h reads.found; enough = subst (λ (v : Disks). CanRead h v) (members_same disks id h) reads.enough }
 
   -- all disks find a group still, by a descriptor that was found and by which they could read
