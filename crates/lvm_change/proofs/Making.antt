@@ -38,7 +38,7 @@ same_make c new group same may = record {
 pub stays_by : (x : Writing) (old new : Device) (w : IsWritten x old new)
     → ((image : Image) → ChangesBy (brings x) (image_of old.sizes w.media) image → (facts : List Fact) → Kept (contents_of (image_of old.sizes w.media)) facts → Kept (contents_of image) facts)
     → Path DeviceStep (StaysKept old) old new
-stays_by x old new w each = map-path (StaysKept old) (λ d way facts kept image may. each image (way.images image may) facts (kept (image_of old.sizes w.media) (media_may old w.media w.told))) w.path
+stays_by x old new w each = map-path (StaysKept old) (λ d way facts kept image may. each image (way image may) facts (kept (image_of old.sizes w.media) (media_may old w.media w.told))) w.path
 
 pub notes_go_on : NotesGoOn
 notes_go_on group targets sector old new w may =
@@ -46,7 +46,7 @@ notes_go_on group targets sector old new w may =
     let was : MayMake (contents_of start) group = may start (media_may old w.media w.told) in
     record {
       path = stays_by (Note targets sector) old new w (λ image by facts kept. notes_may_change group (contents_of start) (contents_of image) facts was (note_shows targets sector start image by).rest kept);
-      may = λ image left. same_make (contents_of start) (contents_of image) group (ap (λ (c : Contents). c.descriptor) (note_shows targets sector start image ((last-path w.path).images image left)).rest) was;
+      may = λ image left. same_make (contents_of start) (contents_of image) group (ap (λ (c : Contents). c.descriptor) (note_shows targets sector start image ((last-path w.path) image left)).rest) was;
     }
 
 pub status_goes_on : StatusGoesOn
@@ -56,7 +56,7 @@ status_goes_on group w status old new written is_kind may_write unused may =
     record {
       path = stays_by (Alone w) old new written (λ image by facts kept.
           statuses_may_change group w.targets (as_read w status) (contents_of start) (contents_of image) facts was (unused start (media_may old written.media written.told)) (status_shows w status start image is_kind may_write by) kept);
-      may = λ image left. same_make (contents_of start) (contents_of image) group (ap (λ (c : Contents). c.descriptor) (status_shows w status start image is_kind may_write ((last-path written.path).images image left)).rest) was;
+      may = λ image left. same_make (contents_of start) (contents_of image) group (ap (λ (c : Contents). c.descriptor) (status_shows w status start image is_kind may_write ((last-path written.path) image left)).rest) was;
     }
 
 pub descriptor_goes_on : DescriptorGoesOn

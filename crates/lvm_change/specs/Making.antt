@@ -16,7 +16,7 @@ use Rattle.lvm_disk.specs.Device.{Media, Image, Device, image_of, MayLeave}
 use Rattle.lvm_disk.specs.Paths.{DeviceStep, Path}
 use Rattle.lvm_kept.specs.Contents.{Contents, contents_of}
 use Rattle.lvm_kept.specs.Kept.{Kept}
-use Rattle.lvm_kept.specs.Plans.{IsUnderWay}
+use Rattle.lvm_kept.specs.Plans.{ChangesBy}
 use Rattle.lvm_kept.specs.Torn.{RecordWrite, MayWriteAll, StatusesChange, DescriptorsChange, Writing, Alone, Note, brings}
 use Rattle.lvm_kept.specs.Moments.{Moment}
 use Rattle.lvm_change.specs.Moments.{StaysKept, Keeps}
@@ -63,12 +63,16 @@ DescriptorsMayChange = (group : Descriptor) (targets : Disks) (next : Stamped De
 abbrev pub MayMakeOn : Device → Descriptor → Type 0
 MayMakeOn device group = (image : Image) → MayLeave device image → MayMake (contents_of image) group
 
+-- each crash image is this one, but for what is being written
+abbrev pub OnlyBrings : Writing → Image → Device → Type 0
+OnlyBrings x old device = (image : Image) → MayLeave device image → ChangesBy (brings x) old image
+
 -- From a still shelf to another one step by step, and nothing but this was being written.
 pub record IsWritten (x : Writing) (old new : Device) : Type 0 where
   pub media : Media
   pub told : old.media ≡ Some media
   pub still : old.flights ≡ []
-  pub path : Path DeviceStep (IsUnderWay (brings x) (image_of old.sizes media)) old new
+  pub path : Path DeviceStep (OnlyBrings x (image_of old.sizes media)) old new
 
 -- From the one shelf to the other step by step, at each moment what was kept is kept, and at the end the group may still be made.
 pub record GoesOn (group : Descriptor) (old new : Device) : Type 0 where
