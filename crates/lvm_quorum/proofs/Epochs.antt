@@ -10,8 +10,8 @@ use Rattle.lvm_num.specs.Votes.{all_disks}
 use Rattle.lvm_num.proofs.Newest.{is_one}
 use Rattle.lvm_kept.specs.Contents.{Contents}
 use Rattle.lvm_kept.specs.Group.{if_passes, is_of, is_status_of, descriptor_among}
-use Rattle.lvm_quorum.specs.declared.row.Survey.{Survey}
-use Rattle.lvm_quorum.specs.Surveyed.{surveyed}
+use Rattle.lvm_survey.specs.declared.row.Survey.{Survey}
+use Rattle.lvm_survey.specs.Surveyed.{surveyed}
 use Rattle.lvm_quorum.specs.Choosing.{IsGreatestEpoch}
 use Rattle.lvm_quorum.specs.Groups.{epoch_of, epoch_on, IsLastEpoch}
 use Rattle.lvm_quorum.proofs.SurveyRows.{descriptor_past, status_past}

@@ -4,13 +4,6 @@ pub mod Voting
 pub mod Epochs
 pub mod Naming
 pub mod Chosen
-pub mod Joining
-pub mod Transferring
-pub mod Following
-pub mod Areas
-pub mod DiskRows
-pub mod DiskByDisk
-pub mod ShownValid
 pub mod Writing
 pub mod Pieces
 pub mod Transfers

@@ -2,9 +2,9 @@
 use Rattle.std.proofs.Common.{◌≡◌, ℕ, ◌<◌, ◌≤◌, List, length, get_or, Option, Some, None, refl, ap, subst}
 use Rattle.std.specs.Prelude.{slice_get, option_and_then, option_map, unwrap_or}
 use Rattle.std.proofs.lemmas.Option.{slice_get_read, slice_get_past}
-use Rattle.lvm_quorum.specs.declared.row.SurveyRow.{SurveyRow}
-use Rattle.lvm_quorum.specs.declared.row.Survey.{Survey}
-use Rattle.lvm_quorum.specs.Surveyed.{surveyed, under}
+use Rattle.lvm_survey.specs.declared.row.SurveyRow.{SurveyRow}
+use Rattle.lvm_survey.specs.declared.row.Survey.{Survey}
+use Rattle.lvm_survey.specs.Surveyed.{surveyed, under}
 
 -- the row that a loop reads
 pub row_read : (s : Survey) (items : List SurveyRow) (i : ℕ) (row : SurveyRow) → items ≡ s.rows → i < length items → row ≡ get_or items i row → slice_get s.rows i ≡ Some row

@@ -11,10 +11,10 @@ use Rattle.lvm_num.specs.Record.{Stamped}
 use Rattle.lvm_num.specs.Votes.{all_disks}
 use Rattle.lvm_kept.specs.Contents.{Contents}
 use Rattle.lvm_kept.specs.Group.{passes, is_of, has_room, members_in, descriptor_among, is_voter}
-use Rattle.lvm_quorum.specs.declared.row.SurveyRow.{SurveyRow}
-use Rattle.lvm_quorum.specs.declared.row.Survey.{Survey}
-use Rattle.lvm_quorum.specs.Surveyed.{surveyed, under}
-use Rattle.lvm_quorum.specs.Rows.{AreRows}
+use Rattle.lvm_survey.specs.declared.row.SurveyRow.{SurveyRow}
+use Rattle.lvm_survey.specs.declared.row.Survey.{Survey}
+use Rattle.lvm_survey.specs.Surveyed.{surveyed, under}
+use Rattle.lvm_survey.specs.Rows.{AreRows}
 use Rattle.lvm_quorum.proofs.SurveyRows.{descriptor_shown, size_shown, descriptor_past}
 
 or_right : (a b : Bool) → b ≡ true → a || b ≡ true

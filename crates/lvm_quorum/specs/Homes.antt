@@ -10,9 +10,9 @@ use Rattle.lvm_rec.specs.Slots.{slot_for}
 use Rattle.lvm_disk.specs.Device.{Image}
 use Rattle.lvm_kept.specs.Contents.{has_records}
 use Rattle.lvm_quorum.specs.declared.homes.Homes.{Homes}
-use Rattle.lvm_quorum.specs.declared.row.SurveyRow.{SurveyRow}
-use Rattle.lvm_quorum.specs.declared.row.Survey.{Survey}
-use Rattle.lvm_quorum.specs.Surveyed.{IsRead}
+use Rattle.lvm_survey.specs.declared.row.SurveyRow.{SurveyRow}
+use Rattle.lvm_survey.specs.declared.row.Survey.{Survey}
+use Rattle.lvm_survey.specs.Surveyed.{IsRead}
 
 -- the disks whose next write of the kind goes to slot 1
 abbrev pub second_slots : Kind → Homes → Disks

@@ -1,9 +1,5 @@
-pub mod Surveyed
 pub mod Choosing
 pub mod Groups
-pub mod Rows
-pub mod Surveying
-pub mod Laws
 pub mod Homes
 pub mod Written
 pub mod Parts

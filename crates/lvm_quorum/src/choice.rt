@@ -1,13 +1,13 @@
 //! Which group a name chooses.
-ghost use Rattle.lvm_quorum.specs.Surveyed.{surveyed, IsSurveyValid};
+ghost use Rattle.lvm_survey.specs.Surveyed.{surveyed, IsSurveyValid};
 ghost use Rattle.lvm_quorum.specs.Choosing.{ChooseGives};
 ghost use Rattle.lvm_quorum.specs.Groups.{GroupGives};
-ghost use Rattle.lvm_quorum.specs.Rows.{AreRows};
+ghost use Rattle.lvm_survey.specs.Rows.{AreRows};
 
 use crate::copies::{copy_of_descriptor, copy_of_status};
 use crate::groups::{greatest_epoch, group_of};
 use crate::names::{first_named, has_record, other_named};
-use crate::row::Survey;
+use lvm_survey::Survey;
 use lvm_num::{Descriptor, DiskSet, Name, Status};
 use std::alloc::Global;
 

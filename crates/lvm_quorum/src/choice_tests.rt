@@ -1,10 +1,11 @@
 ghost use Rattle.std.specs.Prelude.{IsTrue, IfSome};
 ghost use Rattle.lvm_num.specs.Descriptor.{IsValid};
 ghost use Rattle.lvm_num.specs.Status.{IsValidStatus};
-ghost use Rattle.lvm_quorum.specs.Rows.{AreRows};
-ghost use Rattle.lvm_quorum.specs.Surveyed.{IsRowValid, IsSurveyValid};
+ghost use Rattle.lvm_survey.specs.Rows.{AreRows};
+ghost use Rattle.lvm_survey.specs.Surveyed.{IsRowValid, IsSurveyValid};
 
-use crate::{Choice, ChooseFault, Survey, SurveyRow, choose};
+use crate::{Choice, ChooseFault, choose};
+use lvm_survey::{Survey, SurveyRow};
 use lvm_num::{Descriptor, Name, PvRow, Rows, Stamp, Status, StatusRow, VolumeNumbers};
 use std::alloc::Global;
 use std::test::Fail;

@@ -7,11 +7,11 @@ ghost use Rattle.lvm_num.specs.Geometry.{sectors_needed};
 ghost use Rattle.lvm_num.specs.Record.{newest_below};
 ghost use Rattle.lvm_num.specs.Votes.{all_disks};
 ghost use Rattle.lvm_kept.specs.Group.{descriptor_among, members_in, if_passes, passes, is_of, is_status_of};
-ghost use Rattle.lvm_quorum.specs.Surveyed.{surveyed, under};
+ghost use Rattle.lvm_survey.specs.Surveyed.{surveyed, under};
 ghost use Rattle.lvm_quorum.specs.Groups.{stamped_if, IsGroup, IsLastEpoch};
-ghost use Rattle.lvm_quorum.specs.Rows.{AreRows};
+ghost use Rattle.lvm_survey.specs.Rows.{AreRows};
 
-use crate::row::{Survey, SurveyRow};
+use lvm_survey::{Survey, SurveyRow};
 use crate::shown::{Shown, descriptor_of, epoch_of, newer, status_of};
 use lvm_num::{Descriptor, DiskSet, Status};
 

@@ -3,9 +3,9 @@ ghost use Rattle.std.specs.Prelude.{◌≡◌, ◌==◌, ◌<◌, ℕ, not, if�
 ghost use Rattle.lvm_num.specs.declared.record.Kind.{Kind};
 ghost use Rattle.lvm_num.specs.Disks.{has};
 ghost use Rattle.lvm_quorum.specs.Homes.{second_slots, home_by, in_first_slot, SpareNewest, Flips};
-ghost use Rattle.lvm_quorum.specs.Rows.{AreRows};
+ghost use Rattle.lvm_survey.specs.Rows.{AreRows};
 
-use crate::row::{Survey, SurveyRow};
+use lvm_survey::{Survey, SurveyRow};
 use lvm_num::{DiskSet, Kind};
 
 /// For each kind of record the disks whose next write goes to slot 1, and not to slot 0.

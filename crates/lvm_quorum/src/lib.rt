@@ -1,24 +1,17 @@
-//! What the disks of a shelf say of a group, and which group a name chooses.
+//! Which group a name chooses by what stands on the disks, and how its records are written.
 #![tactic(auto)]
 
-mod area;
 mod choice;
 mod copies;
-mod found;
 mod groups;
 mod homes;
-mod laws;
 mod names;
-mod row;
 mod shown;
-mod survey;
 mod write;
 
 pub use choice::{Choice, ChooseFault, choose};
 pub use homes::Homes;
-pub use laws::shown_records_are_valid;
-pub use row::{Survey, SurveyRow};
-pub use survey::{Surveyed, survey_disks};
+pub use lvm_survey::{Survey, SurveyRow, Surveyed, survey_disks};
 pub use write::{Wrote, write_record};
 
 #[cfg(test)]

@@ -2,13 +2,13 @@
 ghost use Rattle.std.specs.Prelude.{◌≡◌, ◌≢◌, ℕ, IfSome, IfNone, IsTrue, IsFalse, is_some};
 ghost use Rattle.lvm_num.specs.Votes.{all_disks};
 ghost use Rattle.lvm_kept.specs.Group.{status_among};
-ghost use Rattle.lvm_quorum.specs.Surveyed.{surveyed, under};
+ghost use Rattle.lvm_survey.specs.Surveyed.{surveyed, under};
 ghost use Rattle.lvm_quorum.specs.Choosing.{IsNamed, HasRecord, HasNoRecord};
 ghost use Rattle.lvm_quorum.specs.Groups.{IsNamedBy};
-ghost use Rattle.lvm_quorum.specs.Rows.{AreRows};
+ghost use Rattle.lvm_survey.specs.Rows.{AreRows};
 
 use crate::groups::group_of;
-use crate::row::{Survey, SurveyRow};
+use lvm_survey::{Survey, SurveyRow};
 use lvm_num::Name;
 
 /// The first group that has the name.

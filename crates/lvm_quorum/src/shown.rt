@@ -2,10 +2,10 @@
 ghost use Rattle.std.specs.Prelude.{◌≡◌};
 ghost use Rattle.lvm_num.specs.Record.{stamp_lt, newer};
 ghost use Rattle.lvm_kept.specs.Group.{if_passes, is_of, is_status_of};
-ghost use Rattle.lvm_quorum.specs.Surveyed.{under};
+ghost use Rattle.lvm_survey.specs.Surveyed.{under};
 ghost use Rattle.lvm_quorum.specs.Groups.{stamped_if, epoch_of};
 
-use crate::row::SurveyRow;
+use lvm_survey::SurveyRow;
 use lvm_num::{Descriptor, Stamp, Status};
 
 /// A record that a disk shows, under its stamp.

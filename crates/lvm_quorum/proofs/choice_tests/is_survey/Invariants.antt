@@ -1,7 +1,7 @@
 use Rattle.std.proofs.Common.{◌≡◌, ℕ, ◌<◌, Some}
 use Rattle.std.specs.Prelude.{slice_get}
-use Rattle.lvm_quorum.specs.declared.row.SurveyRow.{SurveyRow}
-use Rattle.lvm_quorum.specs.Surveyed.{IsRowValid}
+use Rattle.lvm_survey.specs.declared.row.SurveyRow.{SurveyRow}
+use Rattle.lvm_survey.specs.Surveyed.{IsRowValid}
 use Rattle.lvm_quorum.proofs.choice_tests.is_survey.Given as goal
 
 abbrev pub invariant-loop-place : goal.invariant-loop-place

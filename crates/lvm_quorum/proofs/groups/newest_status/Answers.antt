@@ -3,8 +3,8 @@ use Rattle.std.specs.Prelude.{if◌then◌else◌}
 use Rattle.lvm_num.specs.Disks.{has}
 use Rattle.lvm_num.specs.Record.{newer, newest_below}
 use Rattle.lvm_kept.specs.Group.{if_passes, is_status_of}
-use Rattle.lvm_quorum.specs.declared.row.SurveyRow.{SurveyRow}
-use Rattle.lvm_quorum.specs.Surveyed.{surveyed}
+use Rattle.lvm_survey.specs.declared.row.SurveyRow.{SurveyRow}
+use Rattle.lvm_survey.specs.Surveyed.{surveyed}
 use Rattle.lvm_quorum.specs.Groups.{stamped_if}
 use Rattle.lvm_quorum.proofs.Folds.{newest_more, newer_none, picked, left_out}
 use Rattle.lvm_quorum.proofs.SurveyRows.{row_read, status_shown}

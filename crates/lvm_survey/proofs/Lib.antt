@@ -1,0 +1,7 @@
+pub mod Joining
+pub mod Transferring
+pub mod Following
+pub mod Areas
+pub mod DiskRows
+pub mod DiskByDisk
+pub mod ShownValid

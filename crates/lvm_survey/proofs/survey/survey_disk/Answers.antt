@@ -1,0 +1,70 @@
+use Rattle.std.proofs.Common.{◌≡◌, ◌≤◌, ℕ, true, false, Some, IfSome, slice_index_or, refl, sym, ◌∙◌, ap, subst, arith}
+use Rattle.lvm_disk.specs.Device.{Media, image_of}
+use Rattle.lvm_survey.specs.Surveyed.{IsRead}
+use Rattle.lvm_survey.specs.Surveying.{IsArea}
+use Rattle.lvm_survey.proofs.Joining.{or_got, told-always, told-more}
+use Rattle.lvm_survey.proofs.Following.{only_none, untouched_none, rested_none}
+use Rattle.lvm_survey.proofs.DiskRows.{empty_is_read, small_has_none, area_is_read, large_has, not_small}
+use Rattle.lvm_survey.proofs.survey.survey_disk.Goals as goal
+
+pub returns-then-sectors-lt-DATA-clause-only : goal.returns-then-sectors-lt-DATA-clause-only
+returns-then-sectors-lt-DATA-clause-only g c = only_none c.args.patience.now.left (g.S.Shelf.device c.args.shelf.now)
+
+pub returns-then-sectors-lt-DATA-clause-gives : goal.returns-then-sectors-lt-DATA-clause-gives
+returns-then-sectors-lt-DATA-clause-gives g c =
+    let old = (g.S.Shelf.device c.args.shelf.now) in
+    let row = c.empty_row.result in
+    (
+      rested_none old c.requires.ready,
+      record {
+        disk_is = c.empty_row.ensures.is.0;
+        sectors = c.sectors-sectors.ensures ∙ ap Some (sym c.empty_row.ensures.is.1);
+        valid = c.empty_row.ensures.valid;
+        homes = c.empty_row.ensures.homes;
+        failed = λ is. absurd (let e = c.empty_row.ensures.is.2 in cc);
+        answered = λ is. refl;
+        read = λ is. told-always (λ (m : Media). IsRead (image_of old.sizes m) c.args.disk row) old.media (λ m. empty_is_read (image_of old.sizes m) c.args.disk row (small_has_none old.sizes m c.args.disk c.sectors-sectors.result c.sectors-sectors.ensures c.if-sectors-lt-DATA.true) c.empty_row.ensures.empty);
+        empty = λ is. c.empty_row.ensures.empty;
+      },
+      refl,
+    )
+
+pub read_area-requires-clause-large : goal.read_area-requires-clause-large
+read_area-requires-clause-large g c =
+    let same : slice_index_or (g.S.Shelf.device c.args.shelf.now).sizes c.args.disk 0 ≡ c.sectors-sectors.result = or_got (g.S.Shelf.device c.args.shelf.now).sizes c.args.disk 0 c.sectors-sectors.result c.sectors-sectors.ensures in omega arith
+
+pub returns-in-Ok-row_of-clause-elsewhere : goal.returns-in-Ok-row_of-clause-elsewhere
+returns-in-Ok-row_of-clause-elsewhere g c d small = c.in-Ok.ensures.elsewhere d (not_small (g.S.Shelf.device c.args.shelf.now) c.args.disk c.sectors-sectors.result d c.sectors-sectors.ensures c.if-sectors-lt-DATA.false small)
+
+pub returns-in-Ok-row_of-clause-gives : goal.returns-in-Ok-row_of-clause-gives
+returns-in-Ok-row_of-clause-gives g c =
+    let old = (g.S.Shelf.device c.args.shelf.now) in
+    let disk = c.args.disk in
+    let row = c.in-Ok-row_of.row in
+    let says = c.in-Ok-row_of.ensures in
+    let sectors = c.sectors-sectors.ensures in
+    (
+      c.in-Ok.ensures.gives.rested,
+      record {
+        disk_is = says.is.0;
+        sectors = sectors ∙ ap Some (sym says.is.1);
+        valid = says.valid;
+        homes = says.homes;
+        failed = λ is. absurd (let e = says.is.2 in cc);
+        answered = λ is. c.in-Ok.ensures.gives.misses;
+        read = λ is. told-more (λ (m : Media). IsArea (m disk) c.in-Ok.area) (λ (m : Media). IsRead (image_of old.sizes m) disk row) old.media
+            (λ m is. area_is_read (image_of old.sizes m) disk c.in-Ok.area row (large_has old.sizes m disk c.sectors-sectors.result sectors c.requires.there c.if-sectors-lt-DATA.false) is says.found)
+            c.in-Ok.ensures.area;
+        empty = λ is. absurd (let e = says.is.2 in cc);
+      },
+      c.in-Ok.ensures.back,
+    )
+
+pub returns-in-Ok-clause-elsewhere : goal.returns-in-Ok-clause-elsewhere
+returns-in-Ok-clause-elsewhere g c d small = c.in-Ok.ensures.elsewhere d (not_small (g.S.Shelf.device c.args.shelf.now) c.args.disk c.sectors-sectors.result d c.sectors-sectors.ensures c.if-sectors-lt-DATA.false small)
+
+pub returns-in-Err-Failed-clause-elsewhere : goal.returns-in-Err-Failed-clause-elsewhere
+returns-in-Err-Failed-clause-elsewhere g c d small = c.in-Err-Failed.ensures.elsewhere d (not_small (g.S.Shelf.device c.args.shelf.now) c.args.disk c.sectors-sectors.result d c.sectors-sectors.ensures c.if-sectors-lt-DATA.false small)
+
+pub returns-clause-elsewhere : goal.returns-clause-elsewhere
+returns-clause-elsewhere g c d small = c.in-Err-Stopped.ensures.elsewhere d (not_small (g.S.Shelf.device c.args.shelf.now) c.args.disk c.sectors-sectors.result d c.sectors-sectors.ensures c.if-sectors-lt-DATA.false small)

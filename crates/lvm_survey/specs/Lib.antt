@@ -1,0 +1,4 @@
+pub mod Surveyed
+pub mod Rows
+pub mod Surveying
+pub mod Laws

@@ -1,0 +1,204 @@
+//! Reading the records of a disk: two slots of each kind, and the note.
+ghost use Rattle.std.specs.Prelude.{◌≡◌, ℕ, ◌+◌, ◌*◌, ◌++◌, ◌<◌, ◌≤◌, length, slice_index_or, [], IfSome, IfOk, OnOk};
+ghost use Rattle.lvm_num.specs.Record.{joined};
+ghost use Rattle.lvm_disk.specs.Device.{IsReady};
+ghost use Rattle.lvm_disk.specs.Steps.{IsRange};
+ghost use Rattle.lvm_survey.specs.Surveying.{OnlyReads, IsUntouched, ReadGives, IsArea};
+
+use lvm_disk::Shelf;
+use lvm_move::{Moved, Patience, transfer};
+use lvm_num::Pbuf;
+use std::alloc::{AllocError, Global};
+
+const SECTOR: usize = 512;
+
+// As many sectors as one transfer may have.
+const PIECE: u32 = 256;
+
+const NOTE: u64 = 8;
+
+const STATUSES: u64 = 64;
+
+const STATUS_SECTORS: u32 = 64;
+
+const DESCRIPTORS: u64 = 512;
+
+const DESCRIPTOR_SECTORS: u32 = 1152;
+
+/// The bytes of the two slots of a kind.
+#[derive(Drop)]
+pub struct Slots {
+    pub first: Vec<u8>,
+    pub second: Vec<u8>,
+}
+
+/// The bytes of all records of a disk.
+#[derive(Drop)]
+pub struct RecordArea {
+    pub descriptors: Slots,
+    pub statuses: Slots,
+    pub note: [u8; 512],
+}
+
+/// Why reads were ended before their end.
+#[derive(Drop)]
+pub enum Stop {
+    /// Want of memory.
+    Memory(Pbuf),
+    /// The power was cut, and is off.
+    Dark,
+    /// Nothing was heard of a read until the patience had run out.
+    Stuck,
+}
+
+/// Why a disk's records weren't read.
+#[derive(Drop)]
+pub enum Unread {
+    /// A read failed.
+    Failed(Pbuf),
+    Stopped(Stop),
+}
+
+/// Reads both slots of descriptors, both of statuses and the note of a disk, in pieces of 256 sectors.
+/// After a read that failed the rest is left out.
+pub fn read_area<S: Shelf>(
+    alloc: Global,
+    shelf: &mut S,
+    disk: u16,
+    buf: Pbuf,
+    patience: &mut Patience,
+) -> Result<(RecordArea, Pbuf), Unread>
+    requires ready { IsReady (S.device shelf.old) }
+    requires there { disk < length (S.device shelf.old).sizes }
+    requires large { 4096 ≤ slice_index_or (S.device shelf.old).sizes disk 0 }
+    ensures only { OnlyReads patience.old.left patience.new.left (S.device shelf.old) (S.device shelf.new) }
+    ensures elsewhere { (d : ℕ) → (d ≡ disk → ⊥) → IsUntouched d (S.device shelf.old) (S.device shelf.new) }
+    ensures gives { ReadGives disk buf.number patience.old.left (S.device shelf.old) (S.device shelf.new) result }
+    ensures back { IfOk result (λ got. got.1.number ≡ buf.number) }
+    ensures area { IfOk result (λ got. IfSome (S.device shelf.old).media (λ media. IsArea (media disk) got.0)) }
+{
+    let (descriptors, buf) = read_slots(
+        alloc,
+        shelf,
+        disk,
+        DESCRIPTORS,
+        DESCRIPTOR_SECTORS,
+        buf,
+        patience,
+    )?;
+    let (statuses, buf) = read_slots(alloc, shelf, disk, STATUSES, STATUS_SECTORS, buf, patience)?;
+    let (bytes, buf) = read_sectors(alloc, shelf, disk, NOTE, 1, buf, patience)?;
+    let mut note = [0; SECTOR];
+    note.copy_from_slice(&bytes);
+    let area = RecordArea {
+        descriptors,
+        statuses,
+        note,
+    };
+    Ok((area, buf))
+}
+
+// Reads two slots of so many sectors, the second of which follows the first.
+fn read_slots<S: Shelf>(
+    alloc: Global,
+    shelf: &mut S,
+    disk: u16,
+    first: u64,
+    count: u32,
+    buf: Pbuf,
+    patience: &mut Patience,
+) -> Result<(Slots, Pbuf), Unread>
+    requires ready { IsReady (S.device shelf.old) }
+    requires there { disk < length (S.device shelf.old).sizes }
+    requires within { first + 2 * count ≤ slice_index_or (S.device shelf.old).sizes disk 0 }
+    requires records { first + 2 * count ≤ 4096 }
+    ensures only { OnlyReads patience.old.left patience.new.left (S.device shelf.old) (S.device shelf.new) }
+    ensures elsewhere { (d : ℕ) → (d ≡ disk → ⊥) → IsUntouched d (S.device shelf.old) (S.device shelf.new) }
+    ensures gives { ReadGives disk buf.number patience.old.left (S.device shelf.old) (S.device shelf.new) result }
+    ensures back { IfOk result (λ got. got.1.number ≡ buf.number) }
+    ensures first { IfOk result (λ got. IfSome (S.device shelf.old).media (λ media. got.0.first.items ≡ joined (media disk) first count)) }
+    ensures second { IfOk result (λ got. IfSome (S.device shelf.old).media (λ media. got.0.second.items ≡ joined (media disk) (first + count) count)) }
+{
+    let next = first + u64::from(count);
+    let (first, buf) = read_sectors(alloc, shelf, disk, first, count, buf, patience)?;
+    let (second, buf) = read_sectors(alloc, shelf, disk, next, count, buf, patience)?;
+    Ok((Slots { first, second }, buf))
+}
+
+// The bytes of sectors of a disk's record area.
+fn read_sectors<S: Shelf>(
+    alloc: Global,
+    shelf: &mut S,
+    disk: u16,
+    first: u64,
+    count: u32,
+    buf: Pbuf,
+    patience: &mut Patience,
+) -> Result<(Vec<u8>, Pbuf), Unread>
+    requires ready { IsReady (S.device shelf.old) }
+    requires there { disk < length (S.device shelf.old).sizes }
+    requires within { first + count ≤ slice_index_or (S.device shelf.old).sizes disk 0 }
+    requires records { first + count ≤ 4096 }
+    ensures only { OnlyReads patience.old.left patience.new.left (S.device shelf.old) (S.device shelf.new) }
+    ensures elsewhere { (d : ℕ) → (d ≡ disk → ⊥) → IsUntouched d (S.device shelf.old) (S.device shelf.new) }
+    ensures gives { ReadGives disk buf.number patience.old.left (S.device shelf.old) (S.device shelf.new) result }
+    ensures back { IfOk result (λ got. got.1.number ≡ buf.number) }
+    ensures size { IfOk result (λ got. length got.0.items ≡ 512 * count) }
+    ensures bytes { IfOk result (λ got. IfSome (S.device shelf.old).media (λ media. got.0.items ≡ joined (media disk) first count)) }
+{
+    let Ok(mut bytes) = Vec::with_capacity(alloc, SECTOR * count as usize) else {
+        return Err(Unread::Stopped(Stop::Memory(buf)));
+    };
+    let mut back = buf;
+    let mut done = 0;
+    while done < count {
+        let piece = PIECE.min(count - done);
+        let from = first + u64::from(done);
+        back = read_piece(shelf, disk, from, piece, &mut bytes, back, patience)?;
+        done += piece;
+    }
+    Ok((bytes, back))
+}
+
+// Reads sectors of a disk by one transfer, and appends them.
+fn read_piece<S: Shelf>(
+    shelf: &mut S,
+    disk: u16,
+    first: u64,
+    count: u32,
+    bytes: &mut Vec<u8>,
+    buf: Pbuf,
+    patience: &mut Patience,
+) -> Result<Pbuf, Unread>
+    requires ready { IsReady (S.device shelf.old) }
+    requires range { IsRange (S.device shelf.old) disk first count }
+    requires records { first < 4096 }
+    ensures only { OnlyReads patience.old.left patience.new.left (S.device shelf.old) (S.device shelf.new) }
+    ensures elsewhere { (d : ℕ) → (d ≡ disk → ⊥) → IsUntouched d (S.device shelf.old) (S.device shelf.new) }
+    ensures gives { ReadGives disk buf.number patience.old.left (S.device shelf.old) (S.device shelf.new) result }
+    ensures back { IfOk result (λ back. back.number ≡ buf.number) }
+    ensures size { OnOk result (length bytes.new.items ≡ length bytes.old.items + 512 * count) }
+    ensures bytes { OnOk result (IfSome (S.device shelf.old).media (λ media. bytes.new.items ≡ bytes.old.items ++ joined (media disk) first count)) }
+{
+    match transfer(shelf, false, disk, first, count, buf, patience) {
+        Moved::Done(back) => match append(bytes, &back, count) {
+            Ok(()) => Ok(back),
+            Err(_) => Err(Unread::Stopped(Stop::Memory(back))),
+        },
+        Moved::Failed(back) => Err(Unread::Failed(back)),
+        Moved::Dark { started: _ } => Err(Unread::Stopped(Stop::Dark)),
+        Moved::Stuck => Err(Unread::Stopped(Stop::Stuck)),
+    }
+}
+
+// Appends the buffer's first sectors.
+fn append(bytes: &mut Vec<u8>, buf: &Pbuf, count: u32) -> Result<(), AllocError>
+    requires { count ≤ 256 }
+    ensures size { OnOk result (length bytes.new.items ≡ length bytes.old.items + 512 * count) }
+    ensures bytes { OnOk result (bytes.new.items ≡ bytes.old.items ++ joined (λ i. slice_index_or buf.now.sectors i []) 0 count) }
+{
+    for k in 0..count {
+        bytes.extend_from_slice(buf.sector(k))?;
+    }
+    Ok(())
+}

@@ -1,0 +1,207 @@
+//! Reading the records of all disks of a shelf.
+ghost use Rattle.std.specs.Prelude.{◌≡◌, ℕ, ◌-◌, ◌<◌, ◌≤◌, length, slice_get, slice_index_or, Some, true, false, IfOk, IfSome};
+ghost use Rattle.lvm_disk.specs.Counts.{Rose, RoseBy};
+ghost use Rattle.lvm_disk.specs.Device.{IsReady, image_of};
+ghost use Rattle.lvm_disk.specs.Images.{LeavesNoMore};
+ghost use Rattle.lvm_disk.specs.Paths.{DeviceStep, Path};
+ghost use Rattle.lvm_num.specs.declared.record.Kind.TheVariants as kind_is;
+ghost use Rattle.lvm_num.specs.Descriptor.{IsValid};
+ghost use Rattle.lvm_num.specs.DescriptorBytes.{descriptor_of};
+ghost use Rattle.lvm_num.specs.Record.{newer};
+ghost use Rattle.lvm_num.specs.Status.{IsValidStatus};
+ghost use Rattle.lvm_num.specs.StatusBytes.{status_of};
+ghost use Rattle.lvm_rec.specs.Slots.{held};
+ghost use Rattle.lvm_survey.specs.Rows.{AreRows};
+ghost use Rattle.lvm_survey.specs.Surveyed.{home_of, under, IsEmpty, IsRead, IsRowValid, IsSurveyValid};
+ghost use Rattle.lvm_survey.specs.Surveying.{AreHomes, DiskGives, EachRow, IfEnded, IsHome, IsRowOf, IsSmall, IsUntouched, IsUnwritten, OnlyReads, RowsGive, SurveyEnds};
+
+use crate::area::{RecordArea, Slots, Stop, Unread, read_area};
+use crate::found::{Latest, descriptor_in, newest, status_in};
+use crate::row::{Survey, SurveyRow};
+use lvm_disk::Shelf;
+use lvm_move::Patience;
+use lvm_num::{Descriptor, Memory, Pbuf, Rows, Stamp, Status};
+use lvm_rec::read_note;
+use std::alloc::Global;
+
+// Where the data of a disk begins. The records stand below.
+const DATA: u64 = 4096;
+
+const NO_STAMP: Stamp = Stamp { epoch: 0, seq: 0 };
+
+/// How a survey ended. The buffer comes back where nothing is out and the power is on.
+#[derive(Drop)]
+pub enum Surveyed {
+    /// All disks have their rows.
+    Ended { survey: Survey, buf: Pbuf },
+    /// The power was cut, and is off.
+    Dark,
+    /// Nothing was heard of a read until the patience had run out.
+    Stuck,
+    /// Want of memory.
+    Memory { buf: Pbuf },
+}
+
+/// Reads the records of each disk, in the order of their numbers: the two slots of descriptors, those of
+/// statuses, and the note, by 13 reads of at most 256 sectors. After a failed read the rest of that disk
+/// is left out. No write is started. The buffer is used for each read.
+pub fn survey_disks<S: Shelf>(
+    alloc: Global,
+    shelf: &mut S,
+    buf: Pbuf,
+    patience: &mut Patience,
+) -> Surveyed
+    requires ready { IsReady (S.device shelf.old) }
+    ensures rows { IfEnded result AreRows }
+    ensures all { IfEnded result (λ survey. length survey.rows ≡ length (S.device shelf.old).sizes) }
+    ensures valid { IfEnded result IsSurveyValid }
+    ensures sectors { EachRow result (λ d row. slice_get (S.device shelf.old).sizes d ≡ Some row.sectors) }
+    ensures homes { EachRow result (λ d row. AreHomes row) }
+
+    // A row is marked as failed exactly where a read of the disk's records failed, and else has what stands there.
+    ensures failed { EachRow result (λ d row. row.failed ≡ true → Rose ((S.device shelf.old).counts.misses d) ((S.device shelf.new).counts.misses d)) }
+    ensures answered { EachRow result (λ d row. row.failed ≡ false → (S.device shelf.new).counts.misses d ≡ (S.device shelf.old).counts.misses d) }
+    ensures empty { EachRow result (λ d row. row.failed ≡ true → IsEmpty row) }
+    ensures read { EachRow result (λ d row. row.failed ≡ false → IfSome (S.device shelf.old).media (λ media. IsRead (image_of (S.device shelf.old).sizes media) d row)) }
+
+    // Disks without records aren't read.
+    ensures small { (d : ℕ) → IsSmall (S.device shelf.old) d → IsUntouched d (S.device shelf.old) (S.device shelf.new) }
+    ensures unwritten { IsUnwritten (S.device shelf.old) (S.device shelf.new) }
+    ensures ends { SurveyEnds buf.number patience.old.left (S.device shelf.old) (S.device shelf.new) result }
+    ensures patience { patience.new.left ≤ patience.old.left }
+    ensures waited { RoseBy (patience.old.left - patience.new.left) (S.device shelf.old).counts.waits (S.device shelf.new).counts.waits }
+    ensures moments { Path DeviceStep (LeavesNoMore (S.device shelf.old)) (S.device shelf.old) (S.device shelf.new) }
+{
+    match survey_rows(alloc, shelf, buf, patience) {
+        Ok((rows, buf)) => Surveyed::Ended {
+            survey: Survey {
+                rows: Rows::new(rows),
+            },
+            buf,
+        },
+        Err(Stop::Memory(buf)) => Surveyed::Memory { buf },
+        Err(Stop::Dark) => Surveyed::Dark,
+        Err(Stop::Stuck) => Surveyed::Stuck,
+    }
+}
+
+// The rows of all disks.
+fn survey_rows<S: Shelf>(
+    alloc: Global,
+    shelf: &mut S,
+    buf: Pbuf,
+    patience: &mut Patience,
+) -> Result<(Vec<SurveyRow>, Pbuf), Stop>
+    requires ready { IsReady (S.device shelf.old) }
+    ensures only { OnlyReads patience.old.left patience.new.left (S.device shelf.old) (S.device shelf.new) }
+    ensures small { (d : ℕ) → IsSmall (S.device shelf.old) d → IsUntouched d (S.device shelf.old) (S.device shelf.new) }
+    ensures gives { RowsGive buf.number patience.old.left (S.device shelf.old) (S.device shelf.new) result }
+{
+    let mut rows = Vec::new(alloc);
+    let mut back = buf;
+    for disk in 0..shelf.disks() {
+        let (row, free) = survey_disk(alloc, shelf, disk, back, patience)?;
+        back = free;
+        let Ok(()) = rows.push(row) else {
+            return Err(Stop::Memory(back));
+        };
+    }
+    Ok((rows, back))
+}
+
+// The row of a disk.
+fn survey_disk<S: Shelf>(
+    alloc: Global,
+    shelf: &mut S,
+    disk: u16,
+    buf: Pbuf,
+    patience: &mut Patience,
+) -> Result<(SurveyRow, Pbuf), Stop>
+    requires ready { IsReady (S.device shelf.old) }
+    requires there { disk < length (S.device shelf.old).sizes }
+    ensures only { OnlyReads patience.old.left patience.new.left (S.device shelf.old) (S.device shelf.new) }
+    ensures elsewhere { (d : ℕ) → (d ≡ disk → IsSmall (S.device shelf.old) d) → IsUntouched d (S.device shelf.old) (S.device shelf.new) }
+    ensures gives { DiskGives disk buf.number patience.old.left (S.device shelf.old) (S.device shelf.new) result }
+{
+    let sectors = shelf.sectors(disk);
+    if sectors < DATA {
+        return Ok((empty_row(disk, sectors, false), buf));
+    }
+    match read_area(alloc, shelf, disk, buf, patience) {
+        Ok((area, back)) => match row_of(alloc, disk, sectors, &area) {
+            Ok(row) => Ok((row, back)),
+            Err(Memory) => Err(Stop::Memory(back)),
+        },
+        Err(Unread::Failed(back)) => Ok((empty_row(disk, sectors, true), back)),
+        Err(Unread::Stopped(why)) => Err(why),
+    }
+}
+
+// The row of a disk on which nothing was found.
+fn empty_row(disk: u16, sectors: u64, failed: bool) -> SurveyRow
+    ensures is { (result.disk ≡ disk) × (result.sectors ≡ sectors) × (result.failed ≡ failed) }
+    ensures empty { IsEmpty result }
+    ensures valid { IsRowValid result }
+    ensures homes { AreHomes result }
+{
+    SurveyRow {
+        disk,
+        failed,
+        sectors,
+        descriptor: None,
+        descriptor_stamp: NO_STAMP,
+        status: None,
+        status_stamp: NO_STAMP,
+        note: None,
+        homes: [2, 2],
+    }
+}
+
+// The row of a disk on which these bytes stand.
+fn row_of(
+    alloc: Global,
+    disk: u16,
+    sectors: u64,
+    area: &RecordArea,
+) -> Result<SurveyRow, Memory>
+    ensures is { IfOk result (λ row. (row.disk ≡ disk) × (row.sectors ≡ sectors) × (row.failed ≡ false)) }
+    ensures found { IfOk result (IsRowOf area.now) }
+    ensures valid { IfOk result IsRowValid }
+    ensures homes { IfOk result AreHomes }
+{
+    let descriptor = newest_descriptor(alloc, &area.descriptors)?;
+    let status = newest_status(alloc, &area.statuses)?;
+    Ok(SurveyRow {
+        disk,
+        failed: false,
+        sectors,
+        descriptor: descriptor.value,
+        descriptor_stamp: descriptor.stamp,
+        status: status.value,
+        status_stamp: status.stamp,
+        note: read_note(&area.note),
+        homes: [descriptor.home, status.home],
+    })
+}
+
+fn newest_descriptor(alloc: Global, slots: &Slots) -> Result<Latest<Descriptor>, Memory>
+    ensures newest { IfOk result (λ found. under found.value found.stamp ≡ newer (held descriptor_of kind_is.Descriptor slots.now.first.items) (held descriptor_of kind_is.Descriptor slots.now.second.items)) }
+    ensures home { IfOk result (λ found. found.home ≡ home_of (held descriptor_of kind_is.Descriptor slots.now.first.items) (held descriptor_of kind_is.Descriptor slots.now.second.items)) }
+    ensures found { IfOk result (λ found. IsHome found.value found.stamp found.home) }
+    ensures valid { IfOk result (λ found. IfSome found.value IsValid) }
+{
+    let first = descriptor_in(alloc, &slots.first)?;
+    let second = descriptor_in(alloc, &slots.second)?;
+    Ok(newest(first, second))
+}
+
+fn newest_status(alloc: Global, slots: &Slots) -> Result<Latest<Status>, Memory>
+    ensures newest { IfOk result (λ found. under found.value found.stamp ≡ newer (held status_of kind_is.Status slots.now.first.items) (held status_of kind_is.Status slots.now.second.items)) }
+    ensures home { IfOk result (λ found. found.home ≡ home_of (held status_of kind_is.Status slots.now.first.items) (held status_of kind_is.Status slots.now.second.items)) }
+    ensures found { IfOk result (λ found. IsHome found.value found.stamp found.home) }
+    ensures valid { IfOk result (λ found. IfSome found.value IsValidStatus) }
+{
+    let first = status_in(alloc, &slots.first)?;
+    let second = status_in(alloc, &slots.second)?;
+    Ok(newest(first, second))
+}
