@@ -12,3 +12,5 @@ pub mod VaryingOn
 pub mod Revaluing
 pub mod Committing
 pub mod Following
+pub mod VolumeEntries
+pub mod WorkedSession

@@ -179,7 +179,7 @@ kept_in q (y ∷ ys) x is = by_test (q y) refl (kept_in q ys x) is
     by_test true passed rest (inr there) = let r = rest there in (inr r.0, r.1)
     by_test false passed rest is = let r = rest is in (inr r.0, r.1)
 
-goes_in : {X : Type 0} (q : X → Bool) (xs : List X) (x : X) → IsOneOf xs x → q x ≡ true → IsSome (filter q xs)
+pub goes_in : {X : Type 0} (q : X → Bool) (xs : List X) (x : X) → IsOneOf xs x → q x ≡ true → IsSome (filter q xs)
 goes_in q [] x is passed = is
 goes_in q (y ∷ ys) x is passed = by_test (q y) refl (goes_in q ys x) is
   where

@@ -25,7 +25,7 @@ finds_nothing disks id g f =
     let one = is_one Descriptor (offered (is_of id) four_blank.descriptor disks) four_blank.disks f.newest f.found in
     no_some f.newest (is_offered (is_of id) four_blank.descriptor disks one.0 f.newest one.2).0
 
-blank : Kept four_blank []
+pub blank : Kept four_blank []
 blank = empty_kept four_blank [] (λ d r shows. absurd (no_some r shows)) (record {
   unsettled = λ lv settled. absurd cc;
   raw = λ d b there none low high. tt;
@@ -63,7 +63,7 @@ described = descriptors_may_change three all_disks (stamped 2 three) half_stated
 -- ---- by force
 
 -- what the third disk shows is group 50 without a volume
-shows_three : (t : Bool) (r : Stamped Descriptor) → (if t then Some (stamped 2 three) else None) ≡ Some r → r ≡ stamped 2 three
+pub shows_three : (t : Bool) (r : Stamped Descriptor) → (if t then Some (stamped 2 three) else None) ≡ Some r → r ≡ stamped 2 three
 shows_three true r shows = sym (some_same (stamped 2 three) r shows)
 shows_three false r shows = absurd (no_some r shows)
 

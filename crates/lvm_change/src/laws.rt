@@ -6,6 +6,8 @@ ghost use Rattle.lvm_change.specs.WorkedMaking.{WorkedMaking};
 ghost use Rattle.lvm_change.specs.Writable.{WritableStays, NotesAreOutside, RecordsAreOutside};
 ghost use Rattle.lvm_change.specs.VaryingOn.{RestampKeeps, OnlyNewestIsFound, RestateKeeps, ForgettingKeeps, RestampIsNewest, NewestStaysNewest, DescriptorVariesOn, StatusVariesOn, NotesVaryOn, GroupIsVariedOn};
 ghost use Rattle.lvm_change.specs.Committing.{CommitKeeps, CommitGoesOn};
+ghost use Rattle.lvm_change.specs.VolumeEntries.{VolumeBegins, VolumeIsMade, VolumeGoes, VolumeIsGone, ZerosServe};
+ghost use Rattle.lvm_change.specs.WorkedSession.{WorkedSession};
 ghost use Rattle.lvm_change.specs.Requests.{StillShowsNone, BlankIsInNoGroup, StaysInNoGroup, WriteDoneKeeps, WriteLostKeeps, WriteDarkKeeps, WriteStuckKeeps, ReadGotKeeps, ReadFailedKeeps, ReadDarkKeeps, ReadStuckKeeps};
 
 /// An entry that speaks of no volume keeps the history where the disks in no group hold what they then may; one that takes nothing
@@ -111,4 +113,19 @@ pub fn group_is_varied_on()
 pub fn descriptor_is_committed()
     ensures shown { CommitKeeps }
     ensures moments { CommitGoesOn }
+{}
+
+/// The entries of a volume keep the history: one may be in the making that no quorum finds, is made once each finds it, may be removed
+/// at any time, and is gone once none finds it; and a new volume is served where its blocks are zeros.
+pub fn volume_entries_keep()
+    ensures begins { VolumeBegins }
+    ensures made { VolumeIsMade }
+    ensures goes { VolumeGoes }
+    ensures gone { VolumeIsGone }
+    ensures zeros { ZerosServe }
+{}
+
+/// A group of three in the midst of a varyon with a disk away, and of the making of its first volume, worked by hand.
+pub fn worked_session()
+    ensures { WorkedSession }
 {}
