@@ -1,3 +1,4 @@
+pub mod Booleans
 pub mod Entries
 pub mod Spans
 pub mod Masks
@@ -14,3 +15,4 @@ pub mod Committing
 pub mod Following
 pub mod VolumeEntries
 pub mod WorkedSession
+pub mod Entering

@@ -28,10 +28,7 @@ use Rattle.lvm_kept.proofs.Entries.{entry_keeps, more_is_kept, put_settled}
 use Rattle.lvm_change.specs.VolumeEntries.{VolumeBegins, VolumeIsMade, VolumeGoes, VolumeIsGone, ZerosServe}
 use Rattle.lvm_change.proofs.Entries.{volumes-append}
 use Rattle.lvm_change.proofs.VaryingOn.{goes_in}
-
-clash : (b : Bool) → b ≡ true → b ≡ false → ⊥
-clash true p q = absurd cc
-clash false p q = absurd cc
+use Rattle.lvm_change.proofs.Booleans.{clash}
 
 -- how volumes stand after one entry more
 stands_after : (facts : List Fact) (f : Fact) (lv : ℕ) → volumes_in (facts ++ f ∷ []) lv ≡ volumes_after_fact f (volumes_in facts) lv

@@ -13,9 +13,7 @@ use Rattle.lvm_kept.proofs.Finding.{some_same, offered, is_offered}
 use Rattle.lvm_change.specs.Making.{MayMake}
 use Rattle.lvm_change.specs.WorkedMaking.{four_blank, status_of_three, half_stated, half_described, other_two, overwritten, WorkedMaking}
 use Rattle.lvm_change.proofs.NoVolumes.{empty_kept, statuses_may_change, descriptors_may_change}
-
-no_some : {X : Type 0} (x : X) → None ≡ Some x → ⊥
-no_some x e = absurd cc
+use Rattle.lvm_change.proofs.Booleans.{no_some}
 
 -- ---- nothing is shown
 

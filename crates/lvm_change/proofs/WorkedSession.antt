@@ -36,9 +36,7 @@ use Rattle.lvm_change.proofs.Following.{restamp_is_newest}
 use Rattle.lvm_change.proofs.Committing.{commit_keeps}
 use Rattle.lvm_change.proofs.VolumeEntries.{volume_begins, zeros_serve}
 use Rattle.lvm_change.proofs.WorkedMaking.{blank}
-
-no_some : {X : Type 0} (x : X) → None ≡ Some x → ⊥
-no_some x e = absurd cc
+use Rattle.lvm_change.proofs.Booleans.{no_some, first, second}
 
 -- written to the disks of a test, or to none
 put : {X : Type 0} (x o : Option X) (t : Bool) → ((if t then x else o) ≡ o) ⊎ (IsTrue t × ((if t then x else o) ≡ x))
@@ -115,10 +113,6 @@ stamped_anew = restamp_keeps three (either_of 0 2) (at_60 1 three) of_three rest
     (record { value = refl; found = (either_of 0 2, two_find); showing = λ d is. group_shows d (either_shows d is); later = earlier })
     (record { own = λ d. put (Some (at_60 1 three)) (of_three.descriptor d) (either_of 0 2 d); rest = refl }) settled
 
-first : (a b : Bool) → a && b ≡ true → a ≡ true
-first true b e = refl
-first false b e = absurd cc
-
 voter_is : (d : ℕ) → IsTrue (is_voter of_three (either_of 0 2) 50 d) → IsTrue (either_of 0 2 d)
 unfolding is_voter
 voter_is d is = first (either_of 0 2 d) (passes (is_of 50) (of_three.descriptor d)) (first (either_of 0 2 d && passes (is_of 50) (of_three.descriptor d)) (passes (has_room of_three d) (descriptor_among of_three (either_of 0 2) 50)) is)
@@ -194,10 +188,6 @@ status_is b k reads =
     let from = is_offered (is_status_of 50) of_three.status (members_in of_three b 50 k) its.0 last.0 its.2 in
     last.1 ∙ ap (λ (r : Stamped Status). Some r) (written status_of_three (first_three its.0) last.0 from.0).1
   where
-    second : (a b : Bool) → a && b ≡ true → b ≡ true
-    second true b e = e
-    second false b e = absurd cc
-
     shown : (d : ℕ) (o : Option (Stamped Descriptor)) → of_three.descriptor d ≡ o → passes (is_of 50) o ≡ true → first_three d ≡ true
     shown d None is passed = absurd cc
     shown d (Some r) is passed = (written (stamped 2 three) (first_three d) r is).0

@@ -8,3 +8,4 @@ pub mod VaryingOn
 pub mod Committing
 pub mod VolumeEntries
 pub mod WorkedSession
+pub mod Entering
