@@ -77,7 +77,8 @@ pub fn group_is_made()
     ensures whole { GroupIsMade }
 {}
 
-/// Two groups in the making, worked by hand: on blank disks, and by force over one without volumes.
+/// Two groups in the making, worked by hand: on blank disks, and by force over one without volumes; and that a new group under an id
+/// that is shown would not keep the history.
 pub fn worked_making()
     ensures { WorkedMaking }
 {}
