@@ -7,12 +7,12 @@ use Rattle.lvm_vol.specs.May.{Known, known}
 use Rattle.lvm_disk.specs.Device.{Image, image_of}
 use Rattle.lvm_kept.specs.Contents.{contents_of}
 use Rattle.lvm_kept.specs.Moments.{Calm}
-use Rattle.lvm_kept.specs.Torn.{written as as_read, brings, Alone}
-use Rattle.lvm_kept.specs.Plans.{IsUnderWay}
+use Rattle.lvm_kept.specs.Torn.{written as as_read, Alone}
 use Rattle.lvm_kept.proofs.Finding.{images_within}
 use Rattle.lvm_kept.proofs.Records.{descriptor_shows}
 use Rattle.lvm_kept.proofs.Spans.{regroup}
 use Rattle.lvm_kept.proofs.Values.{known_more}
+use Rattle.lvm_change.specs.Making.{LeavesOnly}
 use Rattle.lvm_change.specs.Entering.{QuietGoesOn, OpensNone, CalmGoesOn, BeginsInSpan, MadeInSpan, GoesInSpan, GoneInSpan, CommitsInSpan}
 use Rattle.lvm_change.proofs.Entries.{quiet_entry_keeps}
 use Rattle.lvm_change.proofs.Spans.{entry_goes_on, keeps_path}
@@ -62,7 +62,7 @@ gone_in_span run first device facts lv span none =
 pub commits_in_span : CommitsInSpan
 commits_in_span run first group lv w next old new facts written span is_kind may_write may =
     let start : Image = image_of old.sizes written.media in
-    keeps_path (IsUnderWay (brings (Alone w)) start) run first old new facts span
+    keeps_path (LeavesOnly (Alone w) start) run first old new facts span
     (λ past begins holds d way image left. commit_keeps group lv w.targets (as_read w next) (contents_of start) (contents_of image) (past ++ facts) (images_within start) (may past begins holds)
-    (descriptor_shows w next start image is_kind may_write (way.images image left)) (holds.kept start (media_may old written.media written.told)))
+    (descriptor_shows w next start image is_kind may_write (way image left)) (holds.kept start (media_may old written.media written.told)))
     written.path

@@ -153,5 +153,5 @@ group_is_varied_on run start facts moment group disks was old new span v le late
 pub commit_goes_on : CommitGoesOn
 commit_goes_on group lv w next old new facts written is_kind may_write may kept =
     let start : Image = image_of old.sizes written.media in
-    map-path (λ d. ImagesKept d facts) (λ d way image left. commit_keeps group lv w.targets (as_read w next) (contents_of start) (contents_of image) facts (images_within start) may (descriptor_shows w next start image is_kind may_write (way.images image left))
+    map-path (λ d. ImagesKept d facts) (λ d way image left. commit_keeps group lv w.targets (as_read w next) (contents_of start) (contents_of image) facts (images_within start) may (descriptor_shows w next start image is_kind may_write (way image left))
     (kept start (media_may old written.media written.told))) written.path

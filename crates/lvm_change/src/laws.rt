@@ -1,7 +1,7 @@
 //! Laws of the steps of commands. Each call does nothing: its contract is the law.
 ghost use Rattle.lvm_change.specs.Moments.{StepsGoOn, FewerStayKept, EntryGoesOn, GroupGoesOn, DisksGoOut, SpansJoin, SpanUpholds, RunsFollow, BlankIsEarlier};
 ghost use Rattle.lvm_change.specs.Entries.{DiskEntryKeeps, QuietEntryKeeps};
-ghost use Rattle.lvm_change.specs.Making.{NotesMayChange, StatusesMayChange, DescriptorsMayChange, StillMayMake, NotesGoOn, StatusGoesOn, DescriptorGoesOn, GroupIsMade};
+ghost use Rattle.lvm_change.specs.Making.{NotesMayChange, StatusesMayChange, DescriptorsMayChange, StillMayMake, StillLeavesOnly, UnderWayLeavesOnly, TransferLeavesOnly, NotesGoOn, StatusGoesOn, DescriptorGoesOn, GroupIsMade};
 ghost use Rattle.lvm_change.specs.WorkedMaking.{WorkedMaking};
 ghost use Rattle.lvm_change.specs.Writable.{WritableStays, NotesAreOutside, RecordsAreOutside};
 ghost use Rattle.lvm_change.specs.VaryingOn.{RestampKeeps, OnlyNewestIsFound, RestateKeeps, ForgettingKeeps, RestampIsNewest, NewestStaysNewest, DescriptorVariesOn, StatusVariesOn, NotesVaryOn, GroupIsVariedOn};
@@ -142,4 +142,12 @@ pub fn entries_go_on()
     ensures goes { GoesInSpan }
     ensures gone { GoneInSpan }
     ensures commits { CommitsInSpan }
+{}
+
+/// When nothing but one record, or notes, may have landed: on a still shelf, while only that is under way, and after a further transfer
+/// of it.
+pub fn writes_leave_only()
+    ensures still { StillLeavesOnly }
+    ensures under_way { UnderWayLeavesOnly }
+    ensures transfer { TransferLeavesOnly }
 {}
