@@ -1,8 +1,7 @@
 -- A descriptor that differs in one volume keeps the history.
-use Rattle.std.proofs.Common.{◌≡◌, ◌⊎◌, inl, inr, ⊎_elim, ℕ, ◌<◌, Bool, true, false, ◌&&◌, List, [], ◌∷◌, ◌++◌, Option, Some, None, refl, sym, ap, subst, ◌∙◌, eq-eqb, arith}
+use Rattle.std.proofs.Common.{◌≡◌, ◌⊎◌, inl, inr, ⊎_elim, ℕ, ◌<◌, true, false, ◌&&◌, List, [], ◌∷◌, ◌++◌, Option, Some, None, refl, sym, ap, subst, ◌∙◌, eq-eqb}
 use Rattle.std.specs.Prelude.{IsTrue, ◌==◌, is_some}
 use Rattle.std.proofs.lemmas.Bool.{eqb-true}
-use Rattle.std.proofs.lemmas.Bool.Decides.{nat_tests}
 use Rattle.lvm_num.specs.declared.place.Pp.{Pp}
 use Rattle.lvm_num.specs.declared.record.Stamp.{Stamp}
 use Rattle.lvm_num.specs.declared.descriptor.Mode.{Mode}
@@ -28,22 +27,7 @@ use Rattle.lvm_kept.proofs.Restamping.{fewer_blocks}
 use Rattle.lvm_kept.proofs.Entries.{volume_is_row}
 use Rattle.lvm_change.specs.Committing.{IsServed, CommitKeeps}
 use Rattle.lvm_change.proofs.Revaluing.{new, h, mid, mid_kept, mid_reads, mid_status, mid_members, Behind, behind, members_same, status_same, reads_behind, still_found}
-
-either : (b : Bool) → (b ≡ true) ⊎ (b ≡ false)
-either true = inl refl
-either false = inr refl
-
-clash : (b : Bool) → b ≡ true → b ≡ false → ⊥
-clash true p q = absurd cc
-clash false p q = absurd cc
-
-split : (a b : Bool) → a && b ≡ true → (a ≡ true) × (b ≡ true)
-split true b e = (refl, e)
-split false b e = absurd cc
-
-join : (a b : Bool) → a ≡ true → b ≡ true → a && b ≡ true
-join true b p q = q
-join false b p q = absurd cc
+use Rattle.lvm_change.proofs.Booleans.{either, clash, split, join, not-itself}
 
 -- where one row needs a status, there is one
 one_needs : (rows : List LvRow) (s : Option (Stamped Status)) (row : LvRow) → IsOneOf rows row → HasStatus rows s → IsTrue (is_some s)
@@ -252,9 +236,6 @@ module _ (old : Contents) (shown : ℕ → Option (Stamped Descriptor)) (g : Des
       let x_was = was_found id x is in
       let y_was = was_found id y also in
       kept_between.lasting.partitions id x_was.was y_was.was (is.0, x_was.finds) (also.0, y_was.finds) d p q (sym (ap (λ (z : Descriptor). member_of z d) x_was.alike) ∙ is_p) (sym (ap (λ (z : Descriptor). member_of z d) y_was.alike) ∙ is_q)
-
-  not-itself : (a : Stamp) → stamp_lt a a ≡ true → ⊥
-  not-itself a e = grind (arith, nat_tests)
 
   -- no record that stood has the new stamp
   other_stamp : (d : ℕ) (r : Stamped Descriptor) → old.descriptor d ≡ Some r → r.value.id ≡ g.id → r.stamp ≡ n → ⊥

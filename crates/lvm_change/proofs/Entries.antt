@@ -24,7 +24,7 @@ use Rattle.lvm_change.specs.Entries.{IsDisk, IsOfDisks, DiskEntryKeeps, QuietEnt
 
 -- ---- volumes stand as they did
 
-volumes-append : (volumes : ℕ → Volume) (facts more : List Fact) → volumes_after volumes (facts ++ more) ≡ volumes_after (volumes_after volumes facts) more
+pub volumes-append : (volumes : ℕ → Volume) (facts more : List Fact) → volumes_after volumes (facts ++ more) ≡ volumes_after (volumes_after volumes facts) more
 volumes-append volumes [] more = refl
 volumes-append volumes (g ∷ facts) more = volumes-append (volumes_after_fact g volumes) facts more
 

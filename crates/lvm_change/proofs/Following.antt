@@ -1,5 +1,5 @@
 -- The moments of a varyon, and what each of its writes finds.
-use Rattle.std.proofs.Common.{◌≡◌, ◌⊎◌, inl, inr, ⊎_elim, ℕ, ◌<◌, ◌≤◌, Bool, true, false, ◌&&◌, length, Option, Some, None, refl, sym, ap, subst, ◌∙◌, eq-eqb}
+use Rattle.std.proofs.Common.{◌≡◌, ◌⊎◌, inl, inr, ⊎_elim, ℕ, ◌<◌, ◌≤◌, true, ◌&&◌, length, Option, Some, None, refl, sym, ap, subst, ◌∙◌, eq-eqb}
 use Rattle.std.specs.Prelude.{IsTrue}
 use Rattle.std.proofs.lemmas.Bool.{eqb-true}
 use Rattle.lvm_num.specs.declared.descriptor.Descriptor.{Descriptor}
@@ -26,14 +26,7 @@ use Rattle.lvm_change.proofs.Committing.{commit_keeps}
 use Rattle.lvm_change.proofs.VaryingOn.{restamp_keeps, restate_keeps, forgetting_keeps}
 use Rattle.lvm_change.proofs.Making.{stays_by, media_may}
 use Rattle.lvm_change.proofs.Spans.{steps_go_on, group_goes_on}
-
-clash : (b : Bool) → b ≡ true → b ≡ false → ⊥
-clash true p q = absurd cc
-clash false p q = absurd cc
-
-first : (a b : Bool) → a && b ≡ true → a ≡ true
-first true b e = refl
-first false b e = absurd cc
+use Rattle.lvm_change.proofs.Booleans.{clash, first}
 
 -- ---- the newest
 
@@ -108,16 +101,16 @@ module _ (c : Contents) (status : ℕ → Option (Stamped Status)) (note : ℕ �
   abbrev with : Contents
   with = record c { status = status; note = note }
 
-  group_same : (disks : Disks) (id : ℕ) → descriptor_among with disks id ≡ descriptor_among c disks id
+  group_same : (set : Disks) (v : ℕ) → descriptor_among with set v ≡ descriptor_among c set v
   unfolding descriptor_among
-  group_same disks id = refl
+  group_same set v = refl
 
-  quorum_same : (disks : Disks) (id : ℕ) → has_quorum with disks id ≡ has_quorum c disks id
+  quorum_same : (set : Disks) (v : ℕ) → has_quorum with set v ≡ has_quorum c set v
   unfolding has_quorum is_voter descriptor_among
-  quorum_same disks id = refl
+  quorum_same set v = refl
 
   stays_newest : (group : Descriptor) (disks : Disks) (newest : Stamped Descriptor) → HasNewest c group disks newest → HasNewest with group disks newest
-  stays_newest group disks newest has = record {
+  stays_newest group disks last_one has = record {
     found = record { quorum = quorum_same disks group.id ∙ has.found.quorum; newest = has.found.newest; found = group_same disks group.id ∙ has.found.found; is = has.found.is };
     value = has.value;
     have = has.have;

@@ -1,3 +1,4 @@
+pub mod Booleans
 pub mod Entries
 pub mod Spans
 pub mod Masks
@@ -12,3 +13,6 @@ pub mod VaryingOn
 pub mod Revaluing
 pub mod Committing
 pub mod Following
+pub mod VolumeEntries
+pub mod WorkedSession
+pub mod Entering

@@ -1,11 +1,11 @@
 -- The moments of the making of a group.
-use Rattle.std.proofs.Common.{◌≡◌, inl, ⊎_elim, ◌++◌, ◌∷◌, [], ℕ, List, Option, Some, map, sym, refl, ap, subst, ◌∙◌}
+use Rattle.std.proofs.Common.{◌≡◌, inl, inr, ⊎_elim, ◌++◌, ◌∷◌, [], ℕ, List, Option, Some, map, sym, refl, ap, subst, ◌∙◌}
 use Rattle.lvm_num.specs.declared.descriptor.Descriptor.{Descriptor}
 use Rattle.lvm_num.specs.Record.{Stamped}
 use Rattle.lvm_vol.specs.declared.entry.Vol.TheVariants.{Disk}
 use Rattle.lvm_vol.specs.Facts.{Fact, Removed}
 use Rattle.lvm_vol.specs.Legal.{IsLater}
-use Rattle.lvm_disk.specs.Device.{Media, Image, Flight, Device, image_of, IsCrashImage, MayLeave}
+use Rattle.lvm_disk.specs.Device.{Media, Image, Flight, Device, image_of, IsInFlight, IsCrashImage, MayLeave}
 use Rattle.lvm_disk.specs.Paths.{DeviceStep, Path}
 use Rattle.lvm_disk.proofs.Paths.{map-path, last-path}
 use Rattle.lvm_kept.specs.Contents.{Contents, descriptor_on, contents_of}
@@ -13,11 +13,12 @@ use Rattle.lvm_kept.specs.Places.{SameRecords}
 use Rattle.lvm_kept.specs.Kept.{Kept}
 use Rattle.lvm_kept.specs.Plans.{ChangesBy}
 use Rattle.lvm_kept.specs.Torn.{written as as_read, Writing, Alone, Note, brings}
+use Rattle.lvm_kept.proofs.Planned.{plan_begins, then_disks}
 use Rattle.lvm_kept.proofs.Contained.{descriptor-same}
 use Rattle.lvm_kept.proofs.Records.{descriptor_shows, status_shows}
 use Rattle.lvm_kept.proofs.Standing.{note_shows}
 use Rattle.lvm_change.specs.Moments.{StaysKept}
-use Rattle.lvm_change.specs.Making.{MayMake, IsWritten, NotesGoOn, StatusGoesOn, DescriptorGoesOn, GroupIsMade, StillMayMake}
+use Rattle.lvm_change.specs.Making.{MayMake, IsWritten, NotesGoOn, StatusGoesOn, DescriptorGoesOn, GroupIsMade, StillMayMake, UnderWayLeavesOnly, StillLeavesOnly, TransferLeavesOnly}
 use Rattle.lvm_change.proofs.NoVolumes.{notes_may_change, statuses_may_change, descriptors_may_change}
 use Rattle.lvm_change.proofs.Spans.{later_append, steps_go_on, group_goes_on, disks_go_out}
 
@@ -46,7 +47,7 @@ notes_go_on group targets sector old new w may =
     let was : MayMake (contents_of start) group = may start (media_may old w.media w.told) in
     record {
       path = stays_by (Note targets sector) old new w (λ image by facts kept. notes_may_change group (contents_of start) (contents_of image) facts was (note_shows targets sector start image by).rest kept);
-      may = λ image left. same_make (contents_of start) (contents_of image) group (ap (λ (c : Contents). c.descriptor) (note_shows targets sector start image ((last-path w.path) image left)).rest) was;
+      may = λ image left. same_make (contents_of start) (contents_of image) group (ap (λ (c : Contents). c.descriptor) (note_shows targets sector start image (last-path w.path image left)).rest) was;
     }
 
 pub status_goes_on : StatusGoesOn
@@ -56,7 +57,7 @@ status_goes_on group w status old new written is_kind may_write unused may =
     record {
       path = stays_by (Alone w) old new written (λ image by facts kept.
           statuses_may_change group w.targets (as_read w status) (contents_of start) (contents_of image) facts was (unused start (media_may old written.media written.told)) (status_shows w status start image is_kind may_write by) kept);
-      may = λ image left. same_make (contents_of start) (contents_of image) group (ap (λ (c : Contents). c.descriptor) (status_shows w status start image is_kind may_write ((last-path written.path) image left)).rest) was;
+      may = λ image left. same_make (contents_of start) (contents_of image) group (ap (λ (c : Contents). c.descriptor) (status_shows w status start image is_kind may_write (last-path written.path image left)).rest) was;
     }
 
 pub descriptor_goes_on : DescriptorGoesOn
@@ -89,3 +90,26 @@ still_may_make device media group told still may image left =
     let same : SameRecords (image_of device.sizes media) image = record { same = crash.same; sectors = λ e s lt. ⊎_elim (λ is. is) (λ is. absurd is) (crash.each e s) } in
     let shown : (d : ℕ) → descriptor_on image d ≡ descriptor_on (image_of device.sizes media) d = descriptor-same (image_of device.sizes media) image same in
     same_make (contents_of (image_of device.sizes media)) (contents_of image) group (λ t d. shown d t) may
+
+-- ---- what leaves only this
+
+pub under_way_leaves_only : UnderWayLeavesOnly
+under_way_leaves_only x start device way = way.images
+
+pub still_leaves_only : StillLeavesOnly
+still_leaves_only x device media told still = (plan_begins (brings x) device media told (λ d s value is. absurd (subst (λ (l : List Flight). IsInFlight l d s value) still is))).images
+
+pub transfer_leaves_only : TransferLeavesOnly
+transfer_leaves_only x start f old new planned adds leaves image may =
+    let from = adds image may in
+    let by : ChangesBy (brings x) start from.0 = leaves from.0 from.1 in
+    record {
+      same = then_disks start from.0 image by.same from.2.same;
+      each = λ d s. ⊎_elim
+          (λ (same : image.sector d s ≡ from.0.sector d s). ⊎_elim
+          (λ (was : from.0.sector d s ≡ start.sector d s). inl (same ∙ was))
+          (λ (p : brings x d s (from.0.sector d s)). inr (subst (brings x d s) (sym same) p))
+          (by.each d s))
+          (λ put. inr (planned d s (image.sector d s) put))
+          (from.2.each d s);
+    }

@@ -26,6 +26,7 @@ use Rattle.lvm_kept.specs.Raw.{RawKept}
 use Rattle.lvm_kept.proofs.Contained.{descriptor-same, data_writes}
 use Rattle.lvm_kept.proofs.Changing.{data_keeps}
 use Rattle.lvm_change.specs.Requests.{IsOfData}
+use Rattle.lvm_change.proofs.Booleans.{first, second}
 
 -- a sector of the data is what stands there
 pub data_is : (image : Image) (d s : ℕ) → data_start ≤ s → data_at image d s ≡ image.sector d s
@@ -60,14 +61,6 @@ filtered P q each (x ∷ xs) = by_test (q x) refl (filtered P q each xs)
     by_test : (t : Bool) → q x ≡ t → AllByRecursion P (filter q xs) → AllByRecursion P (if t then x ∷ filter q xs else filter q xs)
     by_test true is rest = (each x is, rest)
     by_test false is rest = rest
-
-first : (a b : Bool) → a && b ≡ true → a ≡ true
-first true b e = refl
-first false b e = absurd cc
-
-second : (a b : Bool) → a && b ≡ true → b ≡ true
-second true b e = e
-second false b e = absurd cc
 
 shows_some : (id : ℕ) (o : Option (Stamped Descriptor)) → o ≡ None → passes (is_of id) o ≡ true → ⊥
 shows_some id None none passed = absurd cc

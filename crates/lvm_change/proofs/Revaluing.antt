@@ -1,8 +1,7 @@
 -- Descriptors under one stamp, with one list of volumes and with another.
-use Rattle.std.proofs.Common.{◌≡◌, ◌⊎◌, inl, inr, ⊎_elim, ℕ, zero, suc, Bool, true, false, ◌&&◌, List, Option, Some, None, refl, sym, ap, subst, ◌∙◌, eq-eqb, arith}
+use Rattle.std.proofs.Common.{◌≡◌, ◌⊎◌, inl, inr, ⊎_elim, ℕ, zero, suc, Bool, true, false, ◌&&◌, List, Option, Some, None, refl, sym, ap, subst, ◌∙◌, eq-eqb}
 use Rattle.std.specs.Prelude.{IsTrue, ◌==◌, if◌then◌else◌, option_map}
 use Rattle.std.proofs.lemmas.Bool.{eqb-true}
-use Rattle.std.proofs.lemmas.Bool.Decides.{nat_tests}
 use Rattle.lvm_num.specs.declared.record.Stamp.{Stamp}
 use Rattle.lvm_num.specs.declared.descriptor.LvRow.{LvRow}
 use Rattle.lvm_num.specs.declared.descriptor.Descriptor.{Descriptor}
@@ -17,21 +16,7 @@ use Rattle.lvm_kept.specs.Committed.{IsWithinDisks}
 use Rattle.lvm_kept.specs.Kept.{Kept}
 use Rattle.lvm_kept.proofs.Finding.{some_same, offered, is_offered}
 use Rattle.lvm_kept.proofs.Restamping.{restamping_keeps, members_same as restamped_members, status_same as restamped_status, reads_before as restamped_reads}
-
-clash : (b : Bool) → b ≡ true → b ≡ false → ⊥
-clash true p q = absurd cc
-clash false p q = absurd cc
-
-split : (a b : Bool) → a && b ≡ true → (a ≡ true) × (b ≡ true)
-split true b e = (refl, e)
-split false b e = absurd cc
-
-join : (a b : Bool) → a ≡ true → b ≡ true → a && b ≡ true
-join true b p q = q
-join false b p q = absurd cc
-
-not-itself : (a : Stamp) → stamp_lt a a ≡ true → ⊥
-not-itself a e = grind (arith, nat_tests)
+use Rattle.lvm_change.proofs.Booleans.{split, join, not-itself}
 
 -- ---- a record with other volumes
 

@@ -3,7 +3,6 @@ use Rattle.std.proofs.Common.{◌≡◌, ◌⊎◌, inl, inr, ⊎_elim, ℕ, zer
 use Rattle.std.specs.Prelude.{IsTrue, IsFalse, ◌==◌, not, if◌then◌else◌, filter}
 use Rattle.std.specs.List.{AllByRecursion}
 use Rattle.std.proofs.lemmas.Bool.{eqb-true, cases_lt}
-use Rattle.std.proofs.lemmas.Bool.Decides.{nat_tests}
 use Rattle.lvm_num.specs.declared.place.Pp.{Pp}
 use Rattle.lvm_num.specs.declared.record.Stamp.{Stamp}
 use Rattle.lvm_num.specs.declared.descriptor.Mode.{Mode}
@@ -33,24 +32,9 @@ use Rattle.lvm_kept.proofs.Restamping.{narrower, fewer_blocks, restamping_keeps}
 use Rattle.lvm_kept.proofs.Restating.{statuses_keep}
 use Rattle.lvm_kept.proofs.Changing.{notes_keep}
 use Rattle.lvm_change.specs.VaryingOn.{AreShowing, RestampKeeps, HasNewest, OnlyNewestIsFound, MayRestate, RestateKeeps, HasNoActive, NotesOf, ForgettingKeeps}
+use Rattle.lvm_change.proofs.Booleans.{split, join, either, clash, not-itself}
 
 -- ---- tests
-
-split : (a b : Bool) → a && b ≡ true → (a ≡ true) × (b ≡ true)
-split true b e = (refl, e)
-split false b e = absurd cc
-
-join : (a b : Bool) → a ≡ true → b ≡ true → a && b ≡ true
-join true b p q = q
-join false b p q = absurd cc
-
-either : (b : Bool) → (b ≡ true) ⊎ (b ≡ false)
-either true = inl refl
-either false = inr refl
-
-clash : (b : Bool) → b ≡ true → b ≡ false → ⊥
-clash true p q = absurd cc
-clash false p q = absurd cc
 
 -- a record that is shown passes where the test does
 shows_of : {X : Type 0} (of : X → Bool) (o : Option (Stamped X)) → passes of o ≡ true → (r : Stamped X) × (o ≡ Some r) × (of r.value ≡ true)
@@ -179,7 +163,7 @@ kept_in q (y ∷ ys) x is = by_test (q y) refl (kept_in q ys x) is
     by_test true passed rest (inr there) = let r = rest there in (inr r.0, r.1)
     by_test false passed rest is = let r = rest is in (inr r.0, r.1)
 
-goes_in : {X : Type 0} (q : X → Bool) (xs : List X) (x : X) → IsOneOf xs x → q x ≡ true → IsSome (filter q xs)
+pub goes_in : {X : Type 0} (q : X → Bool) (xs : List X) (x : X) → IsOneOf xs x → q x ≡ true → IsSome (filter q xs)
 goes_in q [] x is passed = is
 goes_in q (y ∷ ys) x is passed = by_test (q y) refl (goes_in q ys x) is
   where
@@ -305,9 +289,6 @@ module _ (c : Contents) (group : Descriptor) (disks targets : Disks) (newest : S
         subst (λ (g : Descriptor). IsSome (fresh_on (members_in c all_disks id g) (Some next) row lp)) (sym same) (some_of_group row lp (subst (λ (g : Descriptor). IsOneOf g.lvs row) same volume) inside);
   }
 
-  not-itself : (a : Stamp) → stamp_lt a a ≡ true → ⊥
-  not-itself a e = grind (arith, nat_tests)
-
   module _ (new : Contents) (change : StatusesChange targets next c new) where
     abbrev now : Contents
     now = record c { status = new.status }
@@ -331,8 +312,8 @@ module _ (c : Contents) (group : Descriptor) (disks targets : Disks) (newest : S
         at : (d : ℕ) → (if members_in c b other h d then if_passes (is_status_of other) (new.status d) else None) ≡ (if members_in c b other h d then if_passes (is_status_of other) (c.status d) else None)
         at d = at_test d (members_in c b other h d) refl
 
-    found : (b : Disks) (other : ℕ) (h : Descriptor) → Reads c b other h → (status_by now b other h ≡ status_by c b other h) ⊎ ((status_by now b other h ≡ Some next) × Serves c facts other next)
-    found b other h reads = ⊎_elim
+    found_by : (b : Disks) (other : ℕ) (h : Descriptor) → Reads c b other h → (status_by now b other h ≡ status_by c b other h) ⊎ ((status_by now b other h ≡ Some next) × Serves c facts other next)
+    found_by b other h reading = ⊎_elim
         (λ (test : (other == id) ≡ true). let same : other ≡ id = eqb-true other id test in
         subst (λ (n : ℕ). (status_by now b n h ≡ status_by c b n h) ⊎ ((status_by now b n h ≡ Some next) × Serves c facts n next)) (sym same) (⊎_elim
         (λ (old_is : status_by now b id h ≡ status_by c b id h). inl old_is)
@@ -346,8 +327,8 @@ module _ (c : Contents) (group : Descriptor) (disks targets : Disks) (newest : S
       rest = change.rest;
       own = either_own;
       stamp = λ d r shows ids stamps. absurd (not-itself next.stamp (ap (λ (x : Stamp). stamp_lt x next.stamp) (sym stamps) ∙ may.later d r shows (ids ∙ may.own)));
-      found = λ b other h reads. subst (λ (x : Contents). (status_by x b other h ≡ status_by c b other h) ⊎ ((status_by x b other h ≡ Some next) × Serves c facts other next) ⊎ HasNoVolume c other) (sym change.rest)
-          (⊎_elim (λ same. inl same) (λ is. inr (inl is)) (found b other h reads));
+      found = λ b other h reading. subst (λ (x : Contents). (status_by x b other h ≡ status_by c b other h) ⊎ ((status_by x b other h ≡ Some next) × Serves c facts other next) ⊎ HasNoVolume c other) (sym change.rest)
+          (⊎_elim (λ same. inl same) (λ is. inr (inl is)) (found_by b other h reading));
     }) kept
 
 pub restate_keeps : RestateKeeps

@@ -6,3 +6,6 @@ pub mod WorkedMaking
 pub mod Writable
 pub mod VaryingOn
 pub mod Committing
+pub mod VolumeEntries
+pub mod WorkedSession
+pub mod Entering

@@ -12,11 +12,12 @@ use Rattle.lvm_num.specs.Record.{Stamped}
 use Rattle.lvm_vol.specs.declared.entry.Vol.TheVariants.{Disk}
 use Rattle.lvm_vol.specs.Facts.{Fact, Removed, On}
 use Rattle.lvm_vol.specs.Legal.{IsLater}
-use Rattle.lvm_disk.specs.Device.{Media, Image, Device, image_of, MayLeave}
+use Rattle.lvm_disk.specs.Device.{Media, Image, Flight, Device, image_of, MayLeave}
 use Rattle.lvm_disk.specs.Paths.{DeviceStep, Path}
 use Rattle.lvm_kept.specs.Contents.{Contents, contents_of}
 use Rattle.lvm_kept.specs.Kept.{Kept}
-use Rattle.lvm_kept.specs.Plans.{ChangesBy}
+use Rattle.lvm_kept.specs.Plans.{ChangesBy, IsUnderWay, IsPlanned}
+use Rattle.lvm_kept.specs.Raw.{OnlyAdds}
 use Rattle.lvm_kept.specs.Torn.{RecordWrite, MayWriteAll, StatusesChange, DescriptorsChange, Writing, Alone, Note, brings}
 use Rattle.lvm_kept.specs.Moments.{Moment}
 use Rattle.lvm_change.specs.Moments.{StaysKept, Keeps}
@@ -63,16 +64,26 @@ DescriptorsMayChange = (group : Descriptor) (targets : Disks) (next : Stamped De
 abbrev pub MayMakeOn : Device → Descriptor → Type 0
 MayMakeOn device group = (image : Image) → MayLeave device image → MayMake (contents_of image) group
 
--- each crash image is this one, but for what is being written
-abbrev pub OnlyBrings : Writing → Image → Device → Type 0
-OnlyBrings x old device = (image : Image) → MayLeave device image → ChangesBy (brings x) old image
+-- each crash image of the shelf is this one but for what is being written
+abbrev pub LeavesOnly : Writing → Image → Device → Type 0
+LeavesOnly x start device = (image : Image) → MayLeave device image → ChangesBy (brings x) start image
 
 -- From a still shelf to another one step by step, and nothing but this was being written.
 pub record IsWritten (x : Writing) (old new : Device) : Type 0 where
   pub media : Media
   pub told : old.media ≡ Some media
   pub still : old.flights ≡ []
-  pub path : Path DeviceStep (OnlyBrings x (image_of old.sizes media)) old new
+  pub path : Path DeviceStep (LeavesOnly x (image_of old.sizes media)) old new
+
+-- So it is of a still shelf, of one on which only this is under way, and after a further transfer of it.
+abbrev pub StillLeavesOnly : Type 0
+StillLeavesOnly = (x : Writing) (device : Device) (media : Media) → device.media ≡ Some media → device.flights ≡ [] → LeavesOnly x (image_of device.sizes media) device
+
+abbrev pub UnderWayLeavesOnly : Type 0
+UnderWayLeavesOnly = (x : Writing) (start : Image) (device : Device) → IsUnderWay (brings x) start device → LeavesOnly x start device
+
+abbrev pub TransferLeavesOnly : Type 0
+TransferLeavesOnly = (x : Writing) (start : Image) (f : Flight) (old new : Device) → IsPlanned (brings x) f → OnlyAdds f old new → LeavesOnly x start old → LeavesOnly x start new
 
 -- From the one shelf to the other step by step, at each moment what was kept is kept, and at the end the group may still be made.
 pub record GoesOn (group : Descriptor) (old new : Device) : Type 0 where

@@ -30,9 +30,25 @@ other_two = record three { id = 51; pvs = member 0 ∷ member 2 ∷ [] }
 abbrev pub overwritten : Contents
 overwritten = record half_described { descriptor = λ d. if d == 2 then Some (stamped 4 other_two) else None }
 
--- All of these keep the empty history, each by the law of the write that leads to it.
+-- the fourth disk shows a group of one that is named by a later moment than its stamp is of, as no `mkvg` leaves it
+abbrev pub left_over : Descriptor
+left_over = record three { id = 60; pvs = member 3 ∷ [] }
+
+abbrev pub with_left_over : Contents
+with_left_over = record four_blank { descriptor = λ d. if d == 3 then Some (stamped 2 left_over) else None }
+
+-- at that moment a group of the first disk is made by force, and has the same id
+abbrev pub newcomer : Descriptor
+newcomer = record three { id = 60; pvs = member 0 ∷ [] }
+
+abbrev pub of_one_id : Contents
+of_one_id = record with_left_over { descriptor = λ d. if d == 0 then Some (record { stamp = record { epoch = 60; seq = 2 }; value = newcomer }) else with_left_over.descriptor d }
+
+-- All of these keep the empty history, each by the law of the write that leads to it; but not a new group under an id that is shown.
 pub record WorkedMaking : Type 0 where
   pub blank : Kept four_blank []
   pub stated : Kept half_stated []
   pub described : Kept half_described []
   pub forced : Kept overwritten []
+  pub alone : Kept with_left_over []
+  pub same_id : Kept of_one_id [] → ⊥

@@ -1,11 +1,14 @@
 //! Laws of the steps of commands. Each call does nothing: its contract is the law.
 ghost use Rattle.lvm_change.specs.Moments.{StepsGoOn, FewerStayKept, EntryGoesOn, GroupGoesOn, DisksGoOut, SpansJoin, SpanUpholds, RunsFollow, BlankIsEarlier};
 ghost use Rattle.lvm_change.specs.Entries.{DiskEntryKeeps, QuietEntryKeeps};
-ghost use Rattle.lvm_change.specs.Making.{NotesMayChange, StatusesMayChange, DescriptorsMayChange, StillMayMake, NotesGoOn, StatusGoesOn, DescriptorGoesOn, GroupIsMade};
+ghost use Rattle.lvm_change.specs.Making.{NotesMayChange, StatusesMayChange, DescriptorsMayChange, StillMayMake, StillLeavesOnly, UnderWayLeavesOnly, TransferLeavesOnly, NotesGoOn, StatusGoesOn, DescriptorGoesOn, GroupIsMade};
 ghost use Rattle.lvm_change.specs.WorkedMaking.{WorkedMaking};
 ghost use Rattle.lvm_change.specs.Writable.{WritableStays, NotesAreOutside, RecordsAreOutside};
 ghost use Rattle.lvm_change.specs.VaryingOn.{RestampKeeps, OnlyNewestIsFound, RestateKeeps, ForgettingKeeps, RestampIsNewest, NewestStaysNewest, DescriptorVariesOn, StatusVariesOn, NotesVaryOn, GroupIsVariedOn};
 ghost use Rattle.lvm_change.specs.Committing.{CommitKeeps, CommitGoesOn};
+ghost use Rattle.lvm_change.specs.VolumeEntries.{VolumeBegins, VolumeIsMade, VolumeGoes, VolumeIsGone, ZerosServe};
+ghost use Rattle.lvm_change.specs.WorkedSession.{WorkedSession};
+ghost use Rattle.lvm_change.specs.Entering.{QuietGoesOn, CalmGoesOn, BeginsInSpan, MadeInSpan, GoesInSpan, GoneInSpan, CommitsInSpan};
 ghost use Rattle.lvm_change.specs.Requests.{StillShowsNone, BlankIsInNoGroup, StaysInNoGroup, WriteDoneKeeps, WriteLostKeeps, WriteDarkKeeps, WriteStuckKeeps, ReadGotKeeps, ReadFailedKeeps, ReadDarkKeeps, ReadStuckKeeps};
 
 /// An entry that speaks of no volume keeps the history where the disks in no group hold what they then may; one that takes nothing
@@ -74,7 +77,8 @@ pub fn group_is_made()
     ensures whole { GroupIsMade }
 {}
 
-/// Two groups in the making, worked by hand: on blank disks, and by force over one without volumes.
+/// Two groups in the making, worked by hand: on blank disks, and by force over one without volumes; and that a new group under an id
+/// that is shown would not keep the history.
 pub fn worked_making()
     ensures { WorkedMaking }
 {}
@@ -111,4 +115,39 @@ pub fn group_is_varied_on()
 pub fn descriptor_is_committed()
     ensures shown { CommitKeeps }
     ensures moments { CommitGoesOn }
+{}
+
+/// The entries of a volume keep the history: one may be in the making that no quorum finds, is made once each finds it, may be removed
+/// at any time, and is gone once none finds it; and a new volume is served where its blocks are zeros.
+pub fn volume_entries_keep()
+    ensures begins { VolumeBegins }
+    ensures made { VolumeIsMade }
+    ensures goes { VolumeGoes }
+    ensures gone { VolumeIsGone }
+    ensures zeros { ZerosServe }
+{}
+
+/// A group of three in the midst of a varyon with a disk away, and of the making of its first volume, worked by hand.
+pub fn worked_session()
+    ensures { WorkedSession }
+{}
+
+/// The same as parts of spans: quiet entries, those of volumes, and the commit between them; and after which entries no write of a
+/// disk is open that wasn't.
+pub fn entries_go_on()
+    ensures quiet { QuietGoesOn }
+    ensures calm { CalmGoesOn }
+    ensures begins { BeginsInSpan }
+    ensures made { MadeInSpan }
+    ensures goes { GoesInSpan }
+    ensures gone { GoneInSpan }
+    ensures commits { CommitsInSpan }
+{}
+
+/// When nothing but one record, or notes, may have landed: on a still shelf, while only that is under way, and after a further transfer
+/// of it.
+pub fn writes_leave_only()
+    ensures still { StillLeavesOnly }
+    ensures under_way { UnderWayLeavesOnly }
+    ensures transfer { TransferLeavesOnly }
 {}

@@ -202,7 +202,7 @@ beginning_more facts r = record {
 volumes_now : (facts : List Fact) (r : Request) (lv : ℕ) → volumes_in (facts ++ Begun r ∷ []) lv ≡ put r.vol Settled (volumes_in facts) lv
 volumes_now facts r lv = ap (λ (v : ℕ → Volume). v lv) (volumes-append no_volumes facts (Begun r ∷ []))
 
-put_settled : (c : Contents) (vol : Vol) (volumes : ℕ → Volume) (lv : ℕ) → ((n : ℕ) → vol ≡ Lv n → ((volumes n).standing ≡ Settled) ⊎ (((volumes n).standing ≡ Open) × IsFoundByAll c n)) → MayStand c lv (volumes lv) (put vol Settled volumes lv)
+pub put_settled : (c : Contents) (vol : Vol) (volumes : ℕ → Volume) (lv : ℕ) → ((n : ℕ) → vol ≡ Lv n → ((volumes n).standing ≡ Settled) ⊎ (((volumes n).standing ≡ Open) × IsFoundByAll c n)) → MayStand c lv (volumes lv) (put vol Settled volumes lv)
 put_settled c (Disk n) volumes lv may = inl refl
 put_settled c (Lv n) volumes lv may = by_test (n == lv) refl
   where
