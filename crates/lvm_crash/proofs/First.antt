@@ -186,10 +186,7 @@ first_described votes are = (
   record {
     stands = stands;
     volumes = volumes;
-    blocks = λ lv b p copy. refl;
-    names = λ d lv g. refl;
-    status = λ d. shown_status (d == 0) (d == 1);
-    statuses = statuses;
+    shown = record { blocks = λ lv b p copy. refl; names = λ d lv g. refl; status = λ d. shown_status (d == 0) (d == 1); statuses = statuses };
     raw = λ d b low none from to. tt;
   },
 )

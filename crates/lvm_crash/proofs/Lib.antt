@@ -2,6 +2,7 @@ mod Blocks
 mod Finding
 mod First
 mod Images
+mod Lasting
 mod Lists
 mod Loose
 mod Remaining

@@ -1,6 +1,7 @@
 //! Laws of what stands on the disks of a session. Each call does nothing: its contract is the law.
 ghost use Rattle.lvm_crash.specs.First.{GroupsHaveVotes, FirstIsDescribed};
 ghost use Rattle.lvm_crash.specs.Standing.{CommittedIsFound};
+ghost use Rattle.lvm_crash.specs.Lasting.{DescriptionLasts};
 ghost use Rattle.lvm_crash.specs.Laws.{WhatRemainsIsKept, CrashImagesRemain, CrashImagesAreKept, LastImagesAreKept};
 
 /// Where the state of a session describes what stands on the disks, whatever a loss of power may leave of it
@@ -33,4 +34,9 @@ pub fn committed_is_found()
 pub fn first_is_described()
     ensures votes { GroupsHaveVotes }
     ensures described { FirstIsDescribed }
+{}
+
+/// Each event leaves a state that describes the disks, where they show what it says of blocks, notes and statuses.
+pub fn description_lasts()
+    ensures { DescriptionLasts }
 {}
