@@ -237,7 +237,7 @@ module _ (old : Contents) (status : ℕ → Option (Stamped Status)) (note : ℕ
   abbrev now : Contents
   now = record old { status = status; note = note; block = block }
 
-  group_stands : (group : Descriptor) → GroupStands old group → GroupStands now group
+  pub group_stands : (group : Descriptor) → GroupStands old group → GroupStands now group
   group_stands group stands = record {
     a_member = stands.a_member;
     size = stands.size;

@@ -1,6 +1,7 @@
 mod Blocks
 mod Finding
 mod First
+mod FirstMedia
 mod Images
 mod Lasting
 mod Lists

@@ -1,5 +1,5 @@
 //! Laws of what stands on the disks of a session. Each call does nothing: its contract is the law.
-ghost use Rattle.lvm_crash.specs.First.{GroupsHaveVotes, FirstIsDescribed};
+ghost use Rattle.lvm_crash.specs.First.{GroupsHaveVotes, FirstIsDescribed, FirstMatches};
 ghost use Rattle.lvm_crash.specs.Standing.{CommittedIsFound};
 ghost use Rattle.lvm_crash.specs.Lasting.{DescriptionLasts};
 ghost use Rattle.lvm_crash.specs.Laws.{WhatRemainsIsKept, CrashImagesRemain, CrashImagesAreKept, LastImagesAreKept};
@@ -30,10 +30,11 @@ pub fn committed_is_found()
     ensures { CommittedIsFound }
 {}
 
-/// Each group has votes, and there is a session with disks that its good state describes.
+/// Each group has votes, and there is a session whose good state describes disks, and matches a shelf, byte by byte.
 pub fn first_is_described()
     ensures votes { GroupsHaveVotes }
     ensures described { FirstIsDescribed }
+    ensures matches { FirstMatches }
 {}
 
 /// Each event leaves a state that describes the disks, where they show what it says of blocks, notes and statuses.
