@@ -8,3 +8,4 @@ mod Lists
 mod Loose
 mod Remaining
 mod Standing
+mod Statuses

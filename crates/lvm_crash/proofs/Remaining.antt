@@ -28,10 +28,11 @@ use Rattle.lvm_kept.proofs.Entries.{volume_is_row}
 use Rattle.lvm_good.specs.State.{State}
 use Rattle.lvm_good.specs.Found.{Votes, Found}
 use Rattle.lvm_good.specs.Crash.{IsCrash, BlockKept}
-use Rattle.lvm_crash.specs.Session.{marks_of, as_marks, marks_shown, view_of, AreVotesOf, members_there, Describes}
+use Rattle.lvm_crash.specs.Session.{marks_of, as_marks, marks_shown, view_of, AreVotesOf, members_there, HasStatuses, Describes}
 use Rattle.lvm_crash.specs.Left.{MayRemain}
 use Rattle.lvm_crash.specs.Laws.{EachViewAgrees, WhatRemainsIsKept}
 use Rattle.lvm_crash.proofs.Blocks.{block_kept, some_fresh, block_of}
+use Rattle.lvm_crash.proofs.Statuses.{statuses_last}
 use Rattle.lvm_crash.proofs.Finding.{FindsStatus, finds_status}
 
 has_status : (rows : List LvRow) (r : Stamped Status) → HasStatus rows (Some r)
@@ -177,19 +178,8 @@ module _ (old : Contents) (status : ℕ → Option (Stamped Status)) (note : ℕ
     raw : RawAgrees new facts
     raw d b low none from to = subst (May (known (facts ++ Cut ∷ []) (Disk d) b)) (sym (remain.kept.raw d b none from)) (describes.raw d b low none from to)
 
-    statuses : (d e : ℕ) (r t : Stamped Status) → status d ≡ Some r → status e ≡ Some t → r.value.id ≡ t.value.id → r.stamp ≡ t.stamp → r ≡ t
-    statuses d e r t is also ids stamps = ⊎_elim
-        (λ old_r. ⊎_elim
-        (λ old_t. describes.shown.statuses.once d e r t (sym old_r ∙ is) (sym old_t ∙ also) ids stamps)
-        (λ new_t. let same : t ≡ new_t.0 = some_same t new_t.0 (sym also ∙ new_t.3) in
-        describes.shown.statuses.new new_t.0 d r new_t.1 (sym old_r ∙ is) (ids ∙ ap (λ (x : Stamped Status). x.value.id) same) (stamps ∙ ap (λ (x : Stamped Status). x.stamp) same) ∙ sym same)
-        (remain.statuses e))
-        (λ new_r. let same : r ≡ new_r.0 = some_same r new_r.0 (sym is ∙ new_r.3) in ⊎_elim
-        (λ old_t. same
-        ∙ sym (describes.shown.statuses.new new_r.0 e t new_r.1 (sym old_t ∙ also) (sym ids ∙ ap (λ (x : Stamped Status). x.value.id) same) (sym stamps ∙ ap (λ (x : Stamped Status). x.stamp) same)))
-        (λ new_t. same ∙ some_same new_r.0 new_t.0 (sym new_r.1 ∙ new_t.1) ∙ sym (some_same t new_t.0 (sym also ∙ new_t.3)))
-        (remain.statuses e))
-        (remain.statuses d)
+    statuses : HasStatuses s group in_flight new
+    statuses = statuses_last.moves s s group in_flight old new describes.shown.statuses refl (λ d. ⊎_elim (λ same. inl same) (λ is. inr (is.0, is.1, is.3)) (remain.statuses d))
 
     pub kept : Kept new facts
     kept = record {
@@ -202,7 +192,7 @@ module _ (old : Contents) (status : ℕ → Option (Stamped Status)) (note : ℕ
         size = λ id g h is also. ap (λ (k : Descriptor). k.mib) (one_group_of id g h is also);
         partitions = partitions;
         descriptors = describes.stands.once;
-        statuses = statuses;
+        statuses = statuses.once;
       };
     }
 

@@ -1,7 +1,7 @@
 //! Laws of what stands on the disks of a session. Each call does nothing: its contract is the law.
 ghost use Rattle.lvm_crash.specs.First.{GroupsHaveVotes, FirstIsDescribed, FirstMatches};
 ghost use Rattle.lvm_crash.specs.Standing.{CommittedIsFound};
-ghost use Rattle.lvm_crash.specs.Lasting.{DescriptionLasts};
+ghost use Rattle.lvm_crash.specs.Lasting.{DescriptionLasts, StatusesLast};
 ghost use Rattle.lvm_crash.specs.Laws.{WhatRemainsIsKept, CrashImagesRemain, CrashImagesAreKept, LastImagesAreKept};
 
 /// Where the state of a session describes what stands on the disks, whatever a loss of power may leave of it
@@ -37,7 +37,9 @@ pub fn first_is_described()
     ensures matches { FirstMatches }
 {}
 
-/// Each event leaves a state that describes the disks, where they show what it says of blocks, notes and statuses.
+/// Each event leaves a state that describes the disks, where they show what it says of blocks, notes and statuses;
+/// and what is asked of the statuses is kept where an update begins under a later stamp, moves and ends.
 pub fn description_lasts()
-    ensures { DescriptionLasts }
+    ensures events { DescriptionLasts }
+    ensures statuses { StatusesLast }
 {}
