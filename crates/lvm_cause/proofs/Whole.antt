@@ -13,7 +13,7 @@ use Rattle.lvm_good.proofs.Each.{each_keeps}
 use Rattle.lvm_cause.specs.Faults.{Faults, HasFailed, NoneFailed}
 use Rattle.lvm_cause.specs.Caused.{FactIsCaused, Caused}
 use Rattle.lvm_cause.specs.Why.{enters}
-use Rattle.lvm_cause.specs.Laws.{EachEventKeepsCauses, CausedSteps, at_beginning, IsFresh, EachMomentIsCaused, VotesAreLostByFaults, OffIsCaused, FirstIsFresh}
+use Rattle.lvm_cause.specs.Laws.{EachEventKeepsCauses, CausedSteps, at_beginning, IsUnasked, EachMomentIsCaused, VotesAreLostByFaults, OffIsCaused, FirstIsUnasked}
 use Rattle.lvm_cause.proofs.Changes.{append_all, change_keeps}
 use Rattle.lvm_cause.proofs.Each.{changes}
 
@@ -28,7 +28,7 @@ steps_keep votes [] old new before after steps good caused = subst (λ (w : Faul
 steps_keep votes (event ∷ events) old new before after steps good caused =
     steps_keep votes events steps.0 new steps.1 after steps.3 (each_keeps votes event old steps.0 steps.2.step good) (each_keeps_causes votes event old steps.0 before steps.1 steps.2 good caused)
 
-first_caused : (s : State) (counts : ℕ → ℕ) → IsFresh s → Caused (at_beginning s counts) s
+first_caused : (s : State) (counts : ℕ → ℕ) → IsUnasked s → Caused (at_beginning s counts) s
 first_caused s counts fresh = record {
   asked_since = λ i d. omega arith;
   asked_before = λ i d. omega arith;
@@ -83,5 +83,5 @@ off_caused votes s w places started caused enough off = record {
   caused = append_all (FactIsCaused w s) caused.landed.since (landings outcome.Off s.name started places) caused.landed.caused (all_landings s w started (votes_lost votes s w caused enough off.lost) places);
 }
 
-pub first_is_fresh : FirstIsFresh
-first_is_fresh = record { queue = λ i. refl; in_flight = refl; open_copy = refl; wanted = refl }
+pub first_is_unasked : FirstIsUnasked
+first_is_unasked = record { queue = λ i. refl; in_flight = refl; open_copy = refl; wanted = refl }

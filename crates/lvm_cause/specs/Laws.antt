@@ -22,21 +22,22 @@ abbrev pub CausedSteps : Votes → List Event → State → State → Faults →
 CausedSteps votes [] old new before after = (new ≡ old) × (after ≡ before)
 CausedSteps votes (event ∷ events) old new before after = (s : State) × (w : Faults) × CausedStep votes event old s before w × CausedSteps votes events s new w after
 
--- A session that begins with nothing asked and no update under way has its causes: what is missing and stale then was so when it began;
+-- what causes are judged by when a session begins, at these counts
 abbrev pub at_beginning : State → (ℕ → ℕ) → Faults
 at_beginning s counts = record { now = counts; began = counts; asked = λ i. counts; missing = s.missing; stale = s.committed.value.stale; past = s.facts }
 
-pub record IsFresh (s : State) : Type 0 where
+-- nothing is asked and nothing under way
+pub record IsUnasked (s : State) : Type 0 where
   pub queue : (i : ℕ) → s.queue i ≡ None
   pub in_flight : s.in_flight ≡ None
   pub open_copy : s.open_copy ≡ None
   pub wanted : s.wanted ≡ s.committed.value
 
--- and so it has at each moment after that.
+-- A session that begins so has its causes at each moment.
 abbrev pub EachMomentIsCaused : Type 0
 EachMomentIsCaused =
     (votes : Votes) (events : List Event) (old new : State) (counts : ℕ → ℕ) (after : Faults)
-    → Good votes old → IsFresh old → CausedSteps votes events old new (at_beginning old counts) after → Caused after new
+    → Good votes old → IsUnasked old → CausedSteps votes events old new (at_beginning old counts) after → Caused after new
 
 -- Where the members that weren't missing when a session began had votes enough, they still have unless a disk has failed;
 abbrev pub VotesAreLostByFaults : Type 0
@@ -49,6 +50,6 @@ OffIsCaused =
     (votes : Votes) (s : State) (w : Faults) (places : List ℕ) (started : ℕ → Bool)
     → Caused w s → IsTrue (votes.writes (λ d. not (w.missing d))) → GoesOff votes s places started → Since w s (s.facts ++ landings outcome.Off s.name started places)
 
--- A session that begins so: the first that is good.
-abbrev pub FirstIsFresh : Type 0
-FirstIsFresh = IsFresh at_first
+-- The first good session begins so.
+abbrev pub FirstIsUnasked : Type 0
+FirstIsUnasked = IsUnasked at_first

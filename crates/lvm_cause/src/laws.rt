@@ -1,5 +1,5 @@
 //! Laws of causes. Each call does nothing: its contract is the law.
-ghost use Rattle.lvm_cause.specs.Laws.{EachEventKeepsCauses, EachMomentIsCaused, FirstIsFresh, VotesAreLostByFaults, OffIsCaused};
+ghost use Rattle.lvm_cause.specs.Laws.{EachEventKeepsCauses, EachMomentIsCaused, FirstIsUnasked, VotesAreLostByFaults, OffIsCaused};
 
 /// Each event of a session, where whatever fails in it is a fault of that disk, keeps this: nothing is missing,
 /// stale or failed but from the beginning, or by a fault since.
@@ -10,7 +10,7 @@ pub fn each_event_keeps_causes()
 /// So it is at each moment of a session that begins with nothing asked, as one does.
 pub fn each_moment_is_caused()
     ensures moments { EachMomentIsCaused }
-    ensures first { FirstIsFresh }
+    ensures first { FirstIsUnasked }
 {}
 
 /// Members with votes enough lose them, and a group goes off, only where a disk has failed since.

@@ -49,14 +49,14 @@ enough : IsTrue (is_enough_to_write first_group (votes_in first_group (λ d. d =
 unfolding votes_by
 enough = refl
 
-the_descriptor : (d : ℕ) (r : Stamped Descriptor) → first_contents.descriptor d ≡ Some r → r ≡ stamped 2 first_group
+pub the_descriptor : (d : ℕ) (r : Stamped Descriptor) → first_contents.descriptor d ≡ Some r → r ≡ stamped 2 first_group
 the_descriptor d r e = behind (either_of 0 1 d) (stamped 2 first_group) r e
 
-found : Finds first_contents all_disks 50 first_group
+pub found : Finds first_contents all_disks 50 first_group
 unfolding has_quorum is_voter descriptor_among newest_below votes_by
 found = record { quorum = refl; newest = stamped 2 first_group; found = refl; is = refl }
 
-stands : GroupStands first_contents first_group
+pub stands : GroupStands first_contents first_group
 stands = record {
   a_member = omega arith;
   size = omega arith;
@@ -125,7 +125,7 @@ stands_as : (t : Bool) (lv : ℕ) → StandsAs 1 (if t then record (made t lv) {
 stands_as true lv = refl
 stands_as false lv = tt
 
-volumes : HasVolumes at_first at_first.facts first_group (members_there first_contents first_group)
+pub volumes : HasVolumes at_first at_first.facts first_group (members_there first_contents first_group)
 volumes = record {
   copies = λ row lp b p one inside. copies_at row (the_row row one) lp b p (first_partition lp (subst (λ (r : LvRow). lp < r.lps) (the_row row one) inside.inside)) inside.partition;
   inside = λ lv b p copy.
@@ -164,10 +164,10 @@ not_stale p = neither (0 == p.disk) (1 == p.disk) (has_bit (clean 0) p.pp) (has_
 clear : as_marks first_status ≡ at_first.committed
 clear = λ t. record { stamp = first_status.stamp; value = record { stale = λ p. not_stale p t; dirty = λ lv. false } }
 
-the_status : (d : ℕ) (r : Stamped Status) → first_contents.status d ≡ Some r → r ≡ first_status
+pub the_status : (d : ℕ) (r : Stamped Status) → first_contents.status d ≡ Some r → r ≡ first_status
 the_status d r e = behind (either_of 0 1 d) first_status r e
 
-shown_status : (first second : Bool) → (if first || second then Some at_first.committed else None) ≡ marks_shown 50 (if (if first then true else second) then Some first_status else None)
+pub shown_status : (first second : Bool) → (if first || second then Some at_first.committed else None) ≡ marks_shown 50 (if (if first then true else second) then Some first_status else None)
 shown_status true second = sym (ap (λ (m : Stamped Marks). Some m) clear)
 shown_status false true = sym (ap (λ (m : Stamped Marks). Some m) clear)
 shown_status false false = refl
@@ -186,10 +186,7 @@ first_described votes are = (
   record {
     stands = stands;
     volumes = volumes;
-    blocks = λ lv b p copy. refl;
-    names = λ d lv g. refl;
-    status = λ d. shown_status (d == 0) (d == 1);
-    statuses = statuses;
+    shown = record { blocks = λ lv b p copy. refl; names = λ d lv g. refl; status = λ d. shown_status (d == 0) (d == 1); statuses = statuses };
     raw = λ d b low none from to. tt;
   },
 )

@@ -165,9 +165,11 @@ module _ (device : Device) (media : Media) (told : device.media ≡ Some media) 
 
       pub remain : MayRemain s group in_flight (contents_of base) (contents_of image)
       remain = record {
-        rest = rest;
+        kept = record {
+          rest = rest;
+          raw = λ d b none from. data_is image d b from ∙ ⊎_elim (λ same. same) (λ is. absurd (out.raw d b (image.sector d b) none from is)) (crash.each d b) ∙ sym (data_is base d b from);
+        };
         blocks = blocks;
-        raw = λ d b none from. data_is image d b from ∙ ⊎_elim (λ same. same) (λ is. absurd (out.raw d b (image.sector d b) none from is)) (crash.each d b) ∙ sym (data_is base d b from);
         notes = notes;
         statuses = statuses in_flight out.statuses;
       }

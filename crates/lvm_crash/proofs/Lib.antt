@@ -1,8 +1,11 @@
 mod Blocks
 mod Finding
 mod First
+mod FirstMedia
 mod Images
+mod Lasting
 mod Lists
 mod Loose
 mod Remaining
 mod Standing
+mod Statuses

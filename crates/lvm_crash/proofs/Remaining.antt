@@ -28,10 +28,11 @@ use Rattle.lvm_kept.proofs.Entries.{volume_is_row}
 use Rattle.lvm_good.specs.State.{State}
 use Rattle.lvm_good.specs.Found.{Votes, Found}
 use Rattle.lvm_good.specs.Crash.{IsCrash, BlockKept}
-use Rattle.lvm_crash.specs.Session.{marks_of, as_marks, marks_shown, view_of, AreVotesOf, members_there, Describes}
+use Rattle.lvm_crash.specs.Session.{marks_of, as_marks, marks_shown, view_of, AreVotesOf, members_there, HasStatuses, Describes}
 use Rattle.lvm_crash.specs.Left.{MayRemain}
 use Rattle.lvm_crash.specs.Laws.{EachViewAgrees, WhatRemainsIsKept}
 use Rattle.lvm_crash.proofs.Blocks.{block_kept, some_fresh, block_of}
+use Rattle.lvm_crash.proofs.Statuses.{statuses_last}
 use Rattle.lvm_crash.proofs.Finding.{FindsStatus, finds_status}
 
 has_status : (rows : List LvRow) (r : Stamped Status) → HasStatus rows (Some r)
@@ -53,10 +54,10 @@ module _ (old : Contents) (status : ℕ → Option (Stamped Status)) (note : ℕ
   unfolding has_quorum is_voter descriptor_among
   quorum_same disks id = refl
 
-  before : (disks : Disks) (id : ℕ) (group : Descriptor) → Finds new disks id group → Finds old disks id group
+  pub before : (disks : Disks) (id : ℕ) (group : Descriptor) → Finds new disks id group → Finds old disks id group
   before disks id group f = record { quorum = sym (quorum_same disks id) ∙ f.quorum; newest = f.newest; found = sym (group_same disks id) ∙ f.found; is = f.is }
 
-  after : (disks : Disks) (id : ℕ) (group : Descriptor) → Finds old disks id group → Finds new disks id group
+  pub after : (disks : Disks) (id : ℕ) (group : Descriptor) → Finds old disks id group → Finds new disks id group
   after disks id group f = record { quorum = quorum_same disks id ∙ f.quorum; newest = f.newest; found = group_same disks id ∙ f.found; is = f.is }
 
   module _ (votes : Votes) (s : State) (facts : List Fact) (group : Descriptor) (in_flight : Option (Stamped Status)) (are : AreVotesOf group votes) (stood : Found votes s)
@@ -65,14 +66,14 @@ module _ (old : Contents) (status : ℕ → Option (Stamped Status)) (note : ℕ
     -- the session's view of what remains is one that it may leave
     crash : IsCrash s (view_of group new)
     crash = record {
-      block = λ lv b p copy. ⊎_elim (λ same. inl (same ∙ sym (describes.blocks lv b p copy))) (λ brought. inr brought) (remain.blocks lv b p copy);
+      block = λ lv b p copy. ⊎_elim (λ same. inl (same ∙ sym (describes.shown.blocks lv b p copy))) (λ brought. inr brought) (remain.blocks lv b p copy);
       names = λ d. ⊎_elim
-          (λ same. inl (λ t lv g. (ap (λ (n : Option Noted). names_if n lv g) same ∙ sym (describes.names d lv g)) t))
+          (λ same. inl (λ t lv g. (ap (λ (n : Option Noted). names_if n lv g) same ∙ sym (describes.shown.names d lv g)) t))
           (λ is. inr (is.0, is.1, λ t lv g. is.2 lv g t))
           (remain.notes d);
       status = λ d. ⊎_elim
-          (λ same. inl (ap (marks_shown group.id) same ∙ sym (describes.status d)))
-          (λ is. inr (as_marks is.0, describes.statuses.same ∙ ap (option_map as_marks) is.1, is.2, ap (marks_shown group.id) is.3 ∙ its_own group.id is.0 (describes.statuses.own is.0 is.1)))
+          (λ same. inl (ap (marks_shown group.id) same ∙ sym (describes.shown.status d)))
+          (λ is. inr (as_marks is.0, describes.shown.statuses.same ∙ ap (option_map as_marks) is.1, is.2, ap (marks_shown group.id) is.3 ∙ its_own group.id is.0 (describes.shown.statuses.own is.0 is.1)))
           (remain.statuses d);
     }
 
@@ -175,21 +176,10 @@ module _ (old : Contents) (status : ℕ → Option (Stamped Status)) (note : ℕ
     volumes disks id g f lv = of_found (λ i k. StandsAs k.mib (volumes_in facts lv).standing (volumes_in facts lv).shape (volume_of k lv)) (describes.volumes.history lv) id g (disks, f)
 
     raw : RawAgrees new facts
-    raw d b low none from to = subst (May (known (facts ++ Cut ∷ []) (Disk d) b)) (sym (remain.raw d b none from)) (describes.raw d b low none from to)
+    raw d b low none from to = subst (May (known (facts ++ Cut ∷ []) (Disk d) b)) (sym (remain.kept.raw d b none from)) (describes.raw d b low none from to)
 
-    statuses : (d e : ℕ) (r t : Stamped Status) → status d ≡ Some r → status e ≡ Some t → r.value.id ≡ t.value.id → r.stamp ≡ t.stamp → r ≡ t
-    statuses d e r t is also ids stamps = ⊎_elim
-        (λ old_r. ⊎_elim
-        (λ old_t. describes.statuses.once d e r t (sym old_r ∙ is) (sym old_t ∙ also) ids stamps)
-        (λ new_t. let same : t ≡ new_t.0 = some_same t new_t.0 (sym also ∙ new_t.3) in
-        describes.statuses.new new_t.0 d r new_t.1 (sym old_r ∙ is) (ids ∙ ap (λ (x : Stamped Status). x.value.id) same) (stamps ∙ ap (λ (x : Stamped Status). x.stamp) same) ∙ sym same)
-        (remain.statuses e))
-        (λ new_r. let same : r ≡ new_r.0 = some_same r new_r.0 (sym is ∙ new_r.3) in ⊎_elim
-        (λ old_t. same
-        ∙ sym (describes.statuses.new new_r.0 e t new_r.1 (sym old_t ∙ also) (sym ids ∙ ap (λ (x : Stamped Status). x.value.id) same) (sym stamps ∙ ap (λ (x : Stamped Status). x.stamp) same)))
-        (λ new_t. same ∙ some_same new_r.0 new_t.0 (sym new_r.1 ∙ new_t.1) ∙ sym (some_same t new_t.0 (sym also ∙ new_t.3)))
-        (remain.statuses e))
-        (remain.statuses d)
+    statuses : HasStatuses s group in_flight new
+    statuses = statuses_last.moves s s group in_flight old new describes.shown.statuses refl (λ d. ⊎_elim (λ same. inl same) (λ is. inr (is.0, is.1, is.3)) (remain.statuses d))
 
     pub kept : Kept new facts
     kept = record {
@@ -202,11 +192,11 @@ module _ (old : Contents) (status : ℕ → Option (Stamped Status)) (note : ℕ
         size = λ id g h is also. ap (λ (k : Descriptor). k.mib) (one_group_of id g h is also);
         partitions = partitions;
         descriptors = describes.stands.once;
-        statuses = statuses;
+        statuses = statuses.once;
       };
     }
 
 pub remains_kept : WhatRemainsIsKept
 remains_kept votes s facts group in_flight old new are stood agrees describes remain within =
-    subst (λ c. Kept c facts) (sym remain.rest)
-    (kept old new.status new.note new.block votes s facts group in_flight are stood agrees describes (subst (MayRemain s group in_flight old) remain.rest remain) (subst IsWithinDisks remain.rest within))
+    subst (λ c. Kept c facts) (sym remain.kept.rest)
+    (kept old new.status new.note new.block votes s facts group in_flight are stood agrees describes (subst (MayRemain s group in_flight old) remain.kept.rest remain) (subst IsWithinDisks remain.kept.rest within))

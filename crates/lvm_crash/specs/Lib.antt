@@ -3,4 +3,5 @@ pub mod Standing
 pub mod Left
 pub mod Flights
 pub mod Laws
+pub mod Lasting
 pub mod First

@@ -101,13 +101,17 @@ pub record HasStatuses (s : State) (group : Descriptor) (in_flight : Option (Sta
 
 -- ---- all of it
 
--- What stands on the disks is what the session's state says, and disks in no group hold what the history allows. (The history is the state's
--- while the session is on; once it is over, that one with the landings of what was open.)
-pub record Describes (s : State) (facts : List Fact) (group : Descriptor) (in_flight : Option (Stamped Status)) (c : Contents) : Type 0 where
-  pub stands : GroupStands c group
-  pub volumes : HasVolumes s facts group (members_there c group)
+-- The blocks of copies, the notes and the statuses that stand on the disks are what the state says.
+pub record Shows (s : State) (group : Descriptor) (in_flight : Option (Stamped Status)) (c : Contents) : Type 0 where
   pub blocks : (lv b : ℕ) (p : Pp) → IsTrue (s.is_copy lv b p) → s.media.block lv b p ≡ block_at c group.mib p b
   pub names : (d lv track_group : ℕ) → s.media.names d lv track_group ≡ is_named c d lv track_group
   pub status : (d : ℕ) → s.media.status d ≡ marks_shown group.id (c.status d)
   pub statuses : HasStatuses s group in_flight c
+
+-- So is all that stands on the disks, and disks in no group hold what the history allows. (The history is the state's while the session is on;
+-- once it is over, that one with the landings of what was open.)
+pub record Describes (s : State) (facts : List Fact) (group : Descriptor) (in_flight : Option (Stamped Status)) (c : Contents) : Type 0 where
+  pub stands : GroupStands c group
+  pub volumes : HasVolumes s facts group (members_there c group)
+  pub shown : Shows s group in_flight c
   pub raw : RawAgrees c facts

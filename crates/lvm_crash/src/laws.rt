@@ -1,6 +1,7 @@
 //! Laws of what stands on the disks of a session. Each call does nothing: its contract is the law.
-ghost use Rattle.lvm_crash.specs.First.{GroupsHaveVotes, FirstIsDescribed};
+ghost use Rattle.lvm_crash.specs.First.{GroupsHaveVotes, FirstIsDescribed, FirstMatches};
 ghost use Rattle.lvm_crash.specs.Standing.{CommittedIsFound};
+ghost use Rattle.lvm_crash.specs.Lasting.{DescriptionLasts, StatusesLast};
 ghost use Rattle.lvm_crash.specs.Laws.{WhatRemainsIsKept, CrashImagesRemain, CrashImagesAreKept, LastImagesAreKept};
 
 /// Where the state of a session describes what stands on the disks, whatever a loss of power may leave of it
@@ -29,8 +30,16 @@ pub fn committed_is_found()
     ensures { CommittedIsFound }
 {}
 
-/// Each group has votes, and there is a session with disks that its good state describes.
+/// Each group has votes, and there is a session whose good state describes disks, and matches a shelf, byte by byte.
 pub fn first_is_described()
     ensures votes { GroupsHaveVotes }
     ensures described { FirstIsDescribed }
+    ensures matches { FirstMatches }
+{}
+
+/// Each event leaves a state that describes the disks, where they show what it says of blocks, notes and statuses;
+/// and what is asked of the statuses is kept where an update begins under a later stamp, moves and ends.
+pub fn description_lasts()
+    ensures events { DescriptionLasts }
+    ensures statuses { StatusesLast }
 {}
