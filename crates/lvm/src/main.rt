@@ -1,7 +1,11 @@
-//! `lvm`: a logical volume manager over disks that are handed in.
+//! `lvm`: a logical volume manager over image files, or over disks in memory.
 #![tactic(auto)]
 
+#[cfg(test)]
+mod tests;
+
 use lvm_io::{StdSink, StdSource, SystemClock};
+use lvm_lane::{FileShelf, ImageSink};
 use lvm_num::Text;
 use lvm_top::run_words;
 use std::alloc::Global;
@@ -26,6 +30,10 @@ fn main(rt: HostRuntime) -> ExitCode {
     let Some(words) = words_of(&rt, alloc) else {
         return ExitCode::from(MEMORY);
     };
+    let Ok(files) = FileShelf::open(&rt, alloc) else {
+        return ExitCode::from(MEMORY);
+    };
+    let mut images = ImageSink::new(&rt);
     let mut input = StdSource::new(rt.reader());
     let mut out = StdSink::new(io::writer(&rt));
     let mut err = StdSink::new(rt.stderr());
@@ -37,6 +45,8 @@ fn main(rt: HostRuntime) -> ExitCode {
         &mut out,
         &mut err,
         &mut clock,
+        files,
+        &mut images,
     );
     ExitCode::from(ended.status)
 }

@@ -20,14 +20,14 @@ removed (g ∷ l) (suc i) f is =
     let less = removed l i f is in
     record { before = g ∷ less.before; after = less.after; was = ap (λ (m : List Flight). g ∷ m) less.was; is = ap (λ (m : List Flight). g ∷ m) less.is }
 
-lie_less : (sizes : List ℕ) (l : List Flight) (i : ℕ) → AllLie sizes l → AllLie sizes (remove l i)
+pub lie_less : (sizes : List ℕ) (l : List Flight) (i : ℕ) → AllLie sizes l → AllLie sizes (remove l i)
 lie_less sizes [] zero each j f is = each j f is
 lie_less sizes [] (suc i) each j f is = each j f is
 lie_less sizes (g ∷ l) zero each j f is = each (suc j) f is
 lie_less sizes (g ∷ l) (suc i) each zero f is = each zero f is
 lie_less sizes (g ∷ l) (suc i) each (suc j) f is = lie_less sizes l i (λ k. each (suc k)) j f is
 
-length-less : (l : List Flight) (i : ℕ) → length (remove l i) ≤ length l
+pub length-less : (l : List Flight) (i : ℕ) → length (remove l i) ≤ length l
 length-less [] zero = omega arith
 length-less [] (suc i) = omega arith
 length-less (g ∷ l) zero = omega arith

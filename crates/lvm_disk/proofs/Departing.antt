@@ -60,7 +60,7 @@ started old f room flights counts wrote on free more rose same writes = record {
   new_is = λ i. record old { flights = more i; counts = same i; wrote = wrote };
 }
 
-lie_more : (sizes : List ℕ) (flights : List Flight) (f : Flight) → AllLie sizes flights → Lies sizes f → AllLie sizes (flights ++ f ∷ [])
+pub lie_more : (sizes : List ℕ) (flights : List Flight) (f : Flight) → AllLie sizes flights → Lies sizes f → AllLie sizes (flights ++ f ∷ [])
 lie_more sizes [] f each last zero g is = let e : f ≡ g = cc in subst (Lies sizes) e last
 lie_more sizes [] f each last (suc i) g is = absurd (cc)
 lie_more sizes (h ∷ flights) f each last zero g is = each zero g is

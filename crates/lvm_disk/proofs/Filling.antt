@@ -22,7 +22,7 @@ set_get_other (y ∷ l) zero (suc j) x other = refl
 set_get_other (y ∷ l) (suc i) zero x other = refl
 set_get_other (y ∷ l) (suc i) (suc j) x other = set_get_other l i j x (λ e. other (ap suc e))
 
-set_drop : (l : List Sector) (i n : ℕ) (x : Sector) → i < n → drop n (slice_set l i x) ≡ drop n l
+pub set_drop : (l : List Sector) (i n : ℕ) (x : Sector) → i < n → drop n (slice_set l i x) ≡ drop n l
 set_drop [] i n x below = refl
 set_drop (y ∷ l) i zero x below = absurd (omega arith)
 set_drop (y ∷ l) zero (suc n) x below = refl

@@ -6,10 +6,10 @@ mod WholeImages
 mod Acting
 mod GivingUp
 mod Darkening
-mod Departing
-mod Arriving
+pub mod Departing
+pub mod Arriving
 mod Making
-mod Filling
+pub mod Filling
 mod Laying
 mod Queues
 mod Prompt

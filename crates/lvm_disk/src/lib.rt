@@ -16,6 +16,9 @@ mod tally;
 mod tests;
 mod write_log;
 
+pub use flying::Flying;
 pub use injector::{Act, Planned, names_disks};
 pub use memory::MemShelf;
+pub use queue::{free_ticket, take_flight};
 pub use shelf::{Arrange, Reaped, Shelf, Started};
+pub use tally::Tally;

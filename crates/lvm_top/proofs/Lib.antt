@@ -8,4 +8,5 @@ mod Scripting
 mod Steady
 mod Stopping
 mod Commanding
+mod Blanks
 mod Causing

@@ -2,6 +2,8 @@ pub mod Refusals
 pub mod Replies
 pub mod Language
 pub mod Words
+pub mod Blank
+pub mod Program
 pub mod Requests
 pub mod RawLines
 pub mod Script

@@ -1,9 +1,10 @@
 //! The top calls: a script read line by line, done on a shelf of disks, and answered.
 #![tactic(auto)]
 
-mod command;
+mod image;
 mod language;
 mod laws;
+mod program;
 mod raw;
 mod raw_line;
 mod reply;
@@ -14,9 +15,10 @@ mod script;
 mod tests;
 mod words;
 
-pub use command::run_words;
+pub use image::run_image;
 pub use language::{Command, parse};
 pub use laws::refusals_have_causes;
+pub use program::run_words;
 pub use reply::{Refusal, Reply};
 pub use room::Room;
 pub use run::{Ended, run_script};

@@ -1,5 +1,5 @@
 //! A run of a script.
-ghost use Rattle.std.specs.Prelude.{◌≡◌, ◌<◌, length};
+ghost use Rattle.std.specs.Prelude.{◌≡◌, ◌<◌, length, None};
 ghost use Rattle.lvm_disk.specs.Device.{IsReady};
 ghost use Rattle.lvm_io.specs.Count.{Rose};
 ghost use Rattle.lvm_kept.specs.Moments.{IsUpheld};
@@ -9,7 +9,7 @@ ghost use Rattle.lvm_top.specs.Statuses.{status_of};
 
 use crate::room::Room;
 use crate::script::{Done, Stop, do_lines};
-use lvm_disk::Shelf;
+use lvm_disk::{MemShelf, Shelf};
 use lvm_io::{Clock, Lines, Sink, Source};
 use lvm_vol::History;
 use std::alloc::Global;
@@ -28,6 +28,8 @@ pub struct Ended<S> {
     pub history: Option<History>,
     /// The disks as the run leaves them.
     pub shelf: S,
+    /// Disks in memory that the run made for itself, as it leaves them; None where it made none.
+    pub sim: Option<MemShelf>,
 }
 
 // The status of a run whose lines were done so.
@@ -61,6 +63,7 @@ pub fn run_script<S: Shelf, I: Source, O: Sink, C: Clock>(
     ensures clock { Rose (C.last clock.old) (C.last clock.new) }
     ensures run { IsRun (C.last clock.new) room (S.device shelf) (S.device result.shelf) (record { content = I.left input.old; faults = I.faults input.old }) (record { content = I.left input.new; faults = I.faults input.new }) (record { content = O.held out.old; faults = O.faults out.old }) (record { content = O.held out.new; faults = O.faults out.new }) result.history result.status result.refused }
     ensures upheld { IsUpheld (C.last clock.new) (S.device shelf) (S.device result.shelf) (facts_of result.history) }
+    ensures sim { result.sim ≡ None }
 {
     let mut shelf = shelf;
     let run = clock.now();
@@ -70,6 +73,7 @@ pub fn run_script<S: Shelf, I: Source, O: Sink, C: Clock>(
             refused: 0,
             history: None,
             shelf,
+            sim: None,
         };
     };
     let Ok(mut lines) = Lines::new(alloc) else {
@@ -78,6 +82,7 @@ pub fn run_script<S: Shelf, I: Source, O: Sink, C: Clock>(
             refused: 0,
             history: Some(history),
             shelf,
+            sim: None,
         };
     };
     let done = do_lines(alloc, &mut lines, input, out, &mut shelf, &mut history);
@@ -86,5 +91,6 @@ pub fn run_script<S: Shelf, I: Source, O: Sink, C: Clock>(
         refused: done.refused,
         history: Some(history),
         shelf,
+        sim: None,
     }
 }

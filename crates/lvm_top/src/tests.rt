@@ -223,8 +223,18 @@ fn a_delayed_transfer_ends_later(rt: HostRuntime) -> Result<(), Fail> {
     Ok(())
 }
 
-// The status of the words, and what was written to the first and to the second sink.
-fn said(alloc: Global, words: &[&str], script: &[u8]) -> Result<(u8, MemSink, MemSink), Fail> {
+// How a run by words ended: its status, what was written to the first and to the second sink, and the
+// sink for images.
+#[derive(Drop)]
+struct Said {
+    status: u8,
+    out: MemSink,
+    err: MemSink,
+    images: MemSink,
+}
+
+// A run by words over files that are one disk of 4,100 sectors, with so much room for images.
+fn said(alloc: Global, words: &[&str], script: &[u8], room: usize) -> Result<Said, Fail> {
     let mut texts = Vec::new(alloc);
     for word in words {
         texts.push(Text::new(String::from_str(alloc, word)?))?;
@@ -235,7 +245,9 @@ fn said(alloc: Global, words: &[&str], script: &[u8]) -> Result<(u8, MemSink, Me
     );
     let mut out = MemSink::new(alloc, 4_096, Rows::empty(alloc))?;
     let mut err = MemSink::new(alloc, 4_096, Rows::empty(alloc))?;
+    let mut images = MemSink::new(alloc, room, Rows::empty(alloc))?;
     let mut clock = MemClock::new(7);
+    let files = MemShelf::new(alloc, &[4_100], Rows::empty(alloc), 8)?;
     let ended = run_words(
         alloc,
         texts.as_slice(),
@@ -243,9 +255,18 @@ fn said(alloc: Global, words: &[&str], script: &[u8]) -> Result<(u8, MemSink, Me
         &mut out,
         &mut err,
         &mut clock,
+        files,
+        &mut images,
     );
-    Ok((ended.status, out, err))
+    Ok(Said {
+        status: ended.status,
+        out,
+        err,
+        images,
+    })
 }
+
+const USAGE: &[u8] = b"usage: lvm script | lvm sim DISKS MIB | lvm image N MIB\n";
 
 #[test]
 fn words_outside_the_language_are_answered_by_usage(rt: HostRuntime) -> Result<(), Fail> {
@@ -253,14 +274,32 @@ fn words_outside_the_language_are_answered_by_usage(rt: HostRuntime) -> Result<(
         ["sim", "0", "8"].as_slice(),
         &["sim", "33", "8"],
         &["sim", "1", "65"],
+        &["sim", "1", "0"],
         &["sim", "1"],
+        &["sim", "1", "8", "8"],
+        &["sim", "+1", "8"],
+        &["sim", "-1", "8"],
+        &["sim", "1", "8 "],
+        &["sim", "1", "0x8"],
+        &["sim", "1", ""],
+        &["sim", "000000000000000000001", "8"],
+        &["Sim", "1", "8"],
+        &["script", "1"],
+        &["--", "script"],
+        &["image", "128", "8"],
+        &["image", "0", "0"],
+        &["image", "0", "4097"],
+        &["image", "0", "18446744073709551617"],
+        &["image", "0"],
         &["help"],
+        &["-h"],
+        &[""],
         &[],
     ] {
-        let (status, out, err) = said(rt.alloc(), words, WRITE_AND_READ)?;
-        assert_eq!(rt; status, 2);
-        assert_eq!(rt; out.bytes(), b"".as_slice());
-        assert_eq!(rt; err.bytes(), b"usage: lvm sim DISKS MIB\n".as_slice());
+        let said = said(rt.alloc(), words, WRITE_AND_READ, 8)?;
+        assert_eq!(rt; said.status, 2);
+        assert_eq!(rt; said.out.bytes(), b"".as_slice());
+        assert_eq!(rt; said.err.bytes(), USAGE);
     }
     Ok(())
 }
@@ -268,12 +307,38 @@ fn words_outside_the_language_are_answered_by_usage(rt: HostRuntime) -> Result<(
 #[test]
 fn the_words_of_sim_run_a_script(rt: HostRuntime) -> Result<(), Fail> {
     let script = b"rd hdisk0 4095 1\nrd hdisk0 16383 1\n";
-    let (status, out, err) = said(rt.alloc(), &["sim", "1", "8"], script)?;
-    assert_eq!(rt; status, 1);
+    let said = said(rt.alloc(), &["sim", "01", "8"], script, 8)?;
+    assert_eq!(rt; said.status, 1);
     assert_eq!(rt;
-        out.bytes(),
+        said.out.bytes(),
         b"refused 18 OutOfRange 16384\n16383 0000000000000000\n".as_slice()
     );
-    assert_eq!(rt; err.bytes(), b"".as_slice());
+    assert_eq!(rt; said.err.bytes(), b"".as_slice());
+    Ok(())
+}
+
+#[test]
+fn the_word_script_runs_one_over_the_files(rt: HostRuntime) -> Result<(), Fail> {
+    let script = b"rd hdisk0 4100 1\nrd hdisk0 4099 1\n";
+    let said = said(rt.alloc(), &["script"], script, 8)?;
+    assert_eq!(rt; said.status, 1);
+    assert_eq!(rt;
+        said.out.bytes(),
+        b"refused 18 OutOfRange 4100\n4099 0000000000000000\n".as_slice()
+    );
+    Ok(())
+}
+
+#[test]
+fn the_words_of_image_write_zeros(rt: HostRuntime) -> Result<(), Fail> {
+    let made = said(rt.alloc(), &["image", "127", "2"], b"rd", 2_097_152)?;
+    assert_eq!(rt; made.status, 0);
+    assert_eq!(rt; made.images.bytes().len(), 2_097_152);
+    assert!(rt; made.images.bytes().iter().all(|byte| *byte == 0));
+    assert_eq!(rt; made.out.bytes(), b"".as_slice());
+    assert_eq!(rt; made.err.bytes(), b"".as_slice());
+    let full = said(rt.alloc(), &["image", "0", "2"], b"rd", 2_097_151)?;
+    assert_eq!(rt; full.status, 4);
+    assert_eq!(rt; full.images.bytes().len(), 2_097_151);
     Ok(())
 }

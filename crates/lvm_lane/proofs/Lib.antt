@@ -1,0 +1,3 @@
+mod Queueing
+mod Reading
+mod Ending

@@ -1,0 +1,4 @@
+pub mod Names
+pub mod Sound
+pub mod Files
+pub mod Sink

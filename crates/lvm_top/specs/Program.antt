@@ -1,0 +1,55 @@
+-- What the program does by the words of its command line.
+use Rattle.std.specs.Prelude.{◌≡◌, ◌⊎◌, ◌++◌, ℕ, List, [], Option, Some, None, Result, Ok, Err, codes}
+use Rattle.lvm_io.specs.Count.{Rose}
+use Rattle.lvm_io.specs.Stream.{WhereTold, WritesFront}
+use Rattle.lvm_disk.specs.declared.memory.MemShelf.{MemShelf}
+use Rattle.lvm_vol.specs.Log.{Log}
+use Rattle.lvm_top.specs.Blank.{blank_image}
+use Rattle.lvm_top.specs.Run.{Stream}
+use Rattle.lvm_top.specs.declared.words.Job.{Job}
+use Rattle.lvm_top.specs.declared.words.Job.TheVariants.{Script, Sim, Image}
+use Rattle.lvm_top.specs.declared.words.WordsFault.{WordsFault}
+
+-- what holds where the words ask for a script over the files
+abbrev pub OnScript : Result Job WordsFault → Type 0 → Type 0
+OnScript (Ok Script) P = P
+OnScript (Ok (Sim disks mib)) P = Unit {0}
+OnScript (Ok (Image disk mib)) P = Unit {0}
+OnScript (Err why) P = Unit {0}
+
+-- what holds where they ask for a script over so many disks in memory, each of so many MiB
+abbrev pub OnSim : Result Job WordsFault → (ℕ → ℕ → Type 0) → Type 0
+OnSim (Ok Script) P = Unit {0}
+OnSim (Ok (Sim disks mib)) P = P disks mib
+OnSim (Ok (Image disk mib)) P = Unit {0}
+OnSim (Err why) P = Unit {0}
+
+-- what holds where they ask for a new image of a disk, of so many MiB
+abbrev pub OnImage : Result Job WordsFault → (ℕ → ℕ → Type 0) → Type 0
+OnImage (Ok Script) P = Unit {0}
+OnImage (Ok (Sim disks mib)) P = Unit {0}
+OnImage (Ok (Image disk mib)) P = P disk mib
+OnImage (Err why) P = Unit {0}
+
+-- the line for words that are not in the language
+abbrev pub usage_line : List ℕ
+usage_line = codes "usage: lvm script | lvm sim DISKS MIB | lvm image N MIB\n"
+
+-- the text was written whole, or the sink failed and a front of it was
+abbrev pub IsSaid : List ℕ → Stream → Stream → Type 0
+IsSaid text before after = WhereTold before.content after.content (λ a b. b ≡ a ++ text) ⊎ (Rose before.faults after.faults × WhereTold before.content after.content (λ a b. WritesFront text a b))
+
+-- nothing was run: no history, no line refused, and no disks made in memory
+pub record IsUnrun (status refused : ℕ) (history : Option Log) (sim : Option MemShelf) (why : ℕ) : Type 0 where
+  pub status_is : status ≡ why
+  pub refused_is : refused ≡ 0
+  pub history_is : history ≡ None
+  pub sim_is : sim ≡ None
+
+-- A new image of the disk has so many MiB of zeros, or the sink failed and it has a front of them.
+pub record IsImaged (disk mib status : ℕ) (chosen : Option ℕ) (before after : Stream) : Type 0 where
+  pub status_is : (status ≡ 0) ⊎ (status ≡ 4)
+  pub chosen_is : chosen ≡ Some disk
+  pub whole : status ≡ 0 → WhereTold before.content after.content (λ a b. b ≡ blank_image mib)
+  pub front : status ≡ 4 → WhereTold before.content after.content (λ a b. WritesFront (blank_image mib) [] b)
+  pub cause : status ≡ 4 → Rose before.faults after.faults

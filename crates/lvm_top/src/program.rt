@@ -1,0 +1,140 @@
+//! The program by the words of its command line.
+ghost use Rattle.std.specs.Prelude.{◌≡◌, ◌≤◌, ◌<◌, length, [], None, IfOk, IfErr, IfSome, IfNone, IsSome};
+ghost use Rattle.lvm_disk.specs.Device.{IsReady};
+ghost use Rattle.lvm_disk.specs.Memory.{device_of};
+ghost use Rattle.lvm_io.specs.Count.{Rose};
+ghost use Rattle.lvm_vol.specs.Facts.{joined};
+ghost use Rattle.lvm_vol.specs.Legal.{Legal};
+ghost use Rattle.lvm_kept.specs.Raw.{RawImagesKept};
+ghost use Rattle.lvm_kept.specs.Moments.{IsUpheld};
+ghost use Rattle.lvm_top.specs.Program.{OnScript, OnSim, OnImage, usage_line, IsSaid, IsUnrun, IsImaged};
+ghost use Rattle.lvm_top.specs.Run.{IsRun};
+ghost use Rattle.lvm_top.specs.Script.{facts_of};
+ghost use Rattle.lvm_top.specs.Sim.{full_room, sim_device};
+ghost use Rattle.lvm_top.specs.Words.{job_of};
+
+use crate::image::run_image;
+use crate::room::Room;
+use crate::run::{Ended, run_script};
+use crate::words::{Job, WordsFault, read_words};
+use lvm_disk::{MemShelf, Shelf};
+use lvm_io::{Clock, Images, Sink, Source, write_all};
+use lvm_num::{Memory, Rows, Text};
+use std::alloc::Global;
+
+// What is written where the words are not in the language.
+const USAGE: &[u8] = b"usage: lvm script | lvm sim DISKS MIB | lvm image N MIB\n";
+
+// The room of a run.
+fn full_room() -> Room
+    ensures { result ≡ full_room }
+{
+    Room {
+        table: 1_024,
+        pool: 64,
+        entries: 1_048_576,
+        bytes: 268_435_456,
+    }
+}
+
+// Disks of zeros, each of so many MiB.
+fn blank_shelf(alloc: Global, disks: u16, mib: u32) -> Result<MemShelf, Memory>
+    requires { (1 ≤ disks) × (disks ≤ 32) × (mib ≤ 64) }
+    ensures { IfOk result (λ shelf. device_of shelf ≡ sim_device disks mib) }
+{
+    let Ok(sizes) = vec![in alloc; 2_048 * mib as u64; disks as usize] else {
+        return Err(Memory);
+    };
+    MemShelf::new(alloc, sizes.as_slice(), Rows::empty(alloc), 65_536)
+}
+
+// Says how the words go, as far as the sink takes it.
+fn say_usage<E: Sink>(err: &mut E)
+    ensures { IsSaid usage_line (record { content = E.held err.old; faults = E.faults err.old }) (record { content = E.held err.new; faults = E.faults err.new }) }
+{
+    let _ = write_all(err, USAGE);
+}
+
+// Makes a new image of a disk.
+fn make_image<P: Images>(disk: u16, mib: u32, images: &mut P) -> u8
+    ensures { IsImaged disk mib result (P.chosen images.new) (record { content = P.held images.old; faults = P.faults images.old }) (record { content = P.held images.new; faults = P.faults images.new }) }
+{
+    images.choose(disk);
+    run_image(mib, images)
+}
+
+// The end where no script was run.
+fn unrun<S>(status: u8, files: S) -> Ended<S>
+    ensures files { result.shelf ≡ files }
+    ensures unrun { IsUnrun result.status result.refused result.history result.sim status }
+{
+    Ended {
+        status,
+        refused: 0,
+        history: None,
+        shelf: files,
+        sim: None,
+    }
+}
+
+/// Does what the words of the command line, without the program's name, ask for. `script` runs a script
+/// over the files. `sim DISKS MIB` runs one over so many disks of zeros in memory, which are given back
+/// as the run left them. `image N MIB` writes so many MiB of zeros to a new image of disk N, and ends with
+/// status 0, or with 4 where the sink for images failed. Words that are not in the language are answered
+/// by a line of usage to `err`. Where no script is run over the files they come back untouched.
+pub fn run_words<I: Source, O: Sink, E: Sink, C: Clock, S: Shelf, P: Images>(
+    alloc: Global,
+    words: &[Text],
+    input: &mut I,
+    out: &mut O,
+    err: &mut E,
+    clock: &mut C,
+    files: S,
+    images: &mut P,
+) -> Ended<S>
+    requires ready { IsReady (S.device files) }
+    requires there { 0 < length (S.device files).sizes }
+
+    ensures usage { IfErr (job_of words.now) (λ _. IsUnrun result.status result.refused result.history result.sim 2) }
+    ensures usage_line { IfErr (job_of words.now) (λ _. IsSaid usage_line (record { content = E.held err.old; faults = E.faults err.old }) (record { content = E.held err.new; faults = E.faults err.new })) }
+    ensures usage_alone { IfErr (job_of words.now) (λ _. (result.shelf ≡ files) × (input.new ≡ input.old) × (out.new ≡ out.old) × (clock.new ≡ clock.old) × (images.new ≡ images.old)) }
+
+    ensures script_clock { OnScript (job_of words.now) (Rose (C.last clock.old) (C.last clock.new)) }
+    ensures script_run { OnScript (job_of words.now) (IsRun (C.last clock.new) full_room (S.device files) (S.device result.shelf) (record { content = I.left input.old; faults = I.faults input.old }) (record { content = I.left input.new; faults = I.faults input.new }) (record { content = O.held out.old; faults = O.faults out.old }) (record { content = O.held out.new; faults = O.faults out.new }) result.history result.status result.refused) }
+    ensures script_upheld { OnScript (job_of words.now) (IsUpheld (C.last clock.new) (S.device files) (S.device result.shelf) (facts_of result.history)) }
+    ensures script_first { OnScript (job_of words.now) (IsSome (S.device files).media → Legal (joined [] (facts_of result.history)) × RawImagesKept (S.device result.shelf) (joined [] (facts_of result.history))) }
+    ensures script_alone { OnScript (job_of words.now) ((result.sim ≡ None) × (err.new ≡ err.old) × (images.new ≡ images.old)) }
+
+    ensures sim_unmade { OnSim (job_of words.now) (λ _ _. IfNone result.sim (IsUnrun result.status result.refused result.history result.sim 5)) }
+    ensures sim_clock { OnSim (job_of words.now) (λ _ _. IfSome result.sim (λ _. Rose (C.last clock.old) (C.last clock.new))) }
+    ensures sim_run { OnSim (job_of words.now) (λ disks mib. IfSome result.sim (λ shelf. IsRun (C.last clock.new) full_room (sim_device disks mib) (device_of shelf) (record { content = I.left input.old; faults = I.faults input.old }) (record { content = I.left input.new; faults = I.faults input.new }) (record { content = O.held out.old; faults = O.faults out.old }) (record { content = O.held out.new; faults = O.faults out.new }) result.history result.status result.refused)) }
+    ensures sim_upheld { OnSim (job_of words.now) (λ disks mib. IfSome result.sim (λ shelf. IsUpheld (C.last clock.new) (sim_device disks mib) (device_of shelf) (facts_of result.history))) }
+    ensures sim_first { OnSim (job_of words.now) (λ _ _. IfSome result.sim (λ shelf. Legal (joined [] (facts_of result.history)) × RawImagesKept (device_of shelf) (joined [] (facts_of result.history)))) }
+    ensures sim_alone { OnSim (job_of words.now) (λ _ _. (result.shelf ≡ files) × (err.new ≡ err.old) × (images.new ≡ images.old)) }
+
+    ensures image { OnImage (job_of words.now) (λ disk mib. IsImaged disk mib result.status (P.chosen images.new) (record { content = P.held images.old; faults = P.faults images.old }) (record { content = P.held images.new; faults = P.faults images.new })) }
+    ensures image_unrun { OnImage (job_of words.now) (λ _ _. IsUnrun result.status result.refused result.history result.sim result.status) }
+    ensures image_alone { OnImage (job_of words.now) (λ _ _. (result.shelf ≡ files) × (input.new ≡ input.old) × (out.new ≡ out.old) × (err.new ≡ err.old) × (clock.new ≡ clock.old)) }
+{
+    match read_words(words) {
+        Ok(Job::Script) => run_script(alloc, input, out, files, clock, full_room()),
+        Ok(Job::Sim { disks, mib }) => match blank_shelf(alloc, disks, mib) {
+            Ok(shelf) => {
+                let ended = run_script(alloc, input, out, shelf, clock, full_room());
+                Ended {
+                    status: ended.status,
+                    refused: ended.refused,
+                    history: ended.history,
+                    shelf: files,
+                    sim: Some(ended.shelf),
+                }
+            }
+            Err(Memory) => unrun(5, files),
+        },
+        Ok(Job::Image { disk, mib }) => unrun(make_image(disk, mib, images), files),
+        Err(WordsFault::Usage) => {
+            say_usage(err);
+            unrun(2, files)
+        }
+    }
+}

@@ -1,0 +1,110 @@
+#!/usr/bin/env bash
+# Tries the built program as a user would, in a folder of its own: images are made, a block is written by
+# one run and read by the next; files that can't be used; and a loop in which the program is killed while
+# it writes, after which each block whose write was answered `ok` has to be there.
+# Not part of the gate. First build the program: (cd crates/lvm && rt run -- sim 1 8 < /dev/null)
+# usage: scripts/session.sh [ROUNDS]        LVM names another program
+set -u
+lvm=$(realpath "${LVM:-$(dirname "$0")/../crates/lvm/out/lvm}")
+rounds=${1:-20}
+folder=$(mktemp -d)
+trap 'rm -rf "$folder"' EXIT
+cd "$folder" || exit 1
+
+fail() {
+    echo "FAILED: $*" >&2
+    exit 1
+}
+
+# run STATUS WANTED INPUT WORD..: the program's status and what it prints
+run() {
+    local status=$1 wanted=$2 input=$3
+    shift 3
+    local got
+    got=$(printf "$input" | "$lvm" "$@" 2> said)
+    local ended=$?
+    [ "$ended" = "$status" ] || fail "lvm $*: status $ended, not $status"
+    [ "$got" = "$(printf "$wanted")" ] || fail "lvm $*: printed '$got'"
+}
+
+usage='usage: lvm script | lvm sim DISKS MIB | lvm image N MIB'
+write='wr hdisk0 4096 1 0000000000000001\n'
+read='rd hdisk0 4096 1\n'
+
+# Words outside the language: one line on standard error, none on standard output.
+for words in '' 'help' 'sim 0 8' 'sim +1 8' 'image 128 1' 'image 0 -1' 'script script' '--help'; do
+    # shellcheck disable=SC2086
+    run 2 '' '' $words
+    [ "$(cat said)" = "$usage" ] || fail "lvm $words: said '$(cat said)'"
+done
+
+# No file yet.
+run 1 'refused 18 OutOfRange 0\n' "$read" script
+
+# A first session.
+run 0 '' '' image 0 8
+[ "$(stat -c %s hdisk0.img)" = 8388608 ] || fail 'the size of the image'
+run 0 'ok\n' "$write" script
+run 0 '4096 0000000000000001\n' "$read" script
+[ "$(tail -c +2097153 hdisk0.img | head -c 8 | od -An -tx1 | tr -d ' ')" = 0000000000000001 ] || fail 'the bytes'
+
+# An image isn't made again.
+run 4 '' '' image 0 8
+run 0 '4096 0000000000000001\n' "$read" script
+
+# Part of a sector at the end is left alone.
+printf 'tail' >> hdisk0.img
+run 1 '16383 0000000000000000\nrefused 18 OutOfRange 16384\n' 'rd hdisk0 16383 1\nrd hdisk0 16384 1\n' script
+[ "$(tail -c 4 hdisk0.img)" = tail ] || fail 'the tail'
+
+# A file that may only be read: this shows only where the user isn't root.
+if [ "$(id -u)" != 0 ]; then
+    chmod a-w hdisk0.img
+    run 1 'refused 19 Lost\n4096 0000000000000001\n' "$write$read" script
+    chmod u+w hdisk0.img
+fi
+
+# A file that becomes shorter, and one that goes away, while the program runs.
+mkfifo lines
+for change in 'truncate -s 2097152 hdisk0.img' 'rm hdisk0.img'; do
+    "$lvm" script < lines > replies &
+    exec 3> lines
+    printf "$read" >&3
+    sleep 0.5
+    $change
+    printf "$write$read" >&3
+    exec 3>&-
+    wait $!
+    [ "$(cat replies)" = "$(printf '4096 0000000000000001\nrefused 19 Lost\nrefused 20 ReadFailed\n')" ] || fail "$change: $(cat replies)"
+    rm -f hdisk0.img
+    run 0 '' '' image 0 8
+    run 0 'ok\n' "$write" script
+done
+
+# The program is killed between replies. Block 4096 + k gets the word of the round and k; each block whose
+# write was answered has to be there.
+rm hdisk0.img
+run 0 '' '' image 0 8
+answered=0
+for round in $(seq 1 "$rounds"); do
+    for k in $(seq 0 1999); do
+        printf 'wr hdisk0 %d 1 %016x\n' $((4096 + k)) $((round * 65536 + k))
+    done > lines.txt
+    "$lvm" script < lines.txt > replies &
+    program=$!
+    sleep "0.0$((RANDOM % 9 + 1))"
+    kill -9 $program 2> /dev/null
+    wait $program 2> /dev/null
+    # A reply that was written in part isn't one.
+    ok=$(grep -c '^ok$' replies)
+    [ "$ok" = 0 ] || [ "$(tail -c 1 replies | od -An -tx1 | tr -d ' ')" = 0a ] || ok=$((ok - 1))
+    answered=$((answered + ok))
+    for k in $(seq 0 $((ok - 1))); do
+        printf '%d %016x\n' $((4096 + k)) $((round * 65536 + k))
+    done > wanted
+    for k in $(seq 0 $((ok - 1))); do
+        printf 'rd hdisk0 %d 1\n' $((4096 + k))
+    done | "$lvm" script > found
+    cmp -s wanted found || fail "round $round: of $ok writes that were answered not all are there"
+done
+echo "sessions went as they should; $answered writes were answered before $rounds kills, and each was there"
