@@ -69,6 +69,7 @@ mod words;
 
 pub use command::{Command, ParseFault};
 pub use line::parse;
+pub use words::number_of;
 
 #[cfg(test)]
 mod tests;

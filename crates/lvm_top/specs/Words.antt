@@ -1,6 +1,6 @@
 -- The language of the command line.
 use Rattle.std.specs.Prelude.{ℕ, nat_le, ◌&&◌, if◌then◌else◌, List, [], ◌∷◌, Option, Some, Result, Ok, Err, codes, bytes_eq}
-use Rattle.lvm_top.specs.Language.{number_in}
+use Rattle.lvm_parse.specs.Words.{number_in}
 use Rattle.lvm_top.specs.declared.words.Job.{Job}
 use Rattle.lvm_top.specs.declared.words.Job.TheVariants.{Sim}
 use Rattle.lvm_top.specs.declared.words.WordsFault.{WordsFault}

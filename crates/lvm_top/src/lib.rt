@@ -15,7 +15,6 @@ mod tests;
 mod words;
 
 pub use command::run_words;
-pub use language::{Command, parse};
 pub use laws::refusals_have_causes;
 pub use reply::{Refusal, Reply};
 pub use room::Room;

@@ -2,8 +2,8 @@
 ghost use Rattle.std.specs.Prelude.{◌≡◌};
 ghost use Rattle.lvm_top.specs.Words.{job_of};
 
-use crate::language::number_of;
 use lvm_num::Text;
+use lvm_parse::number_of;
 
 /// What the words of the command line ask for.
 #[derive(Clone, Copy, Debug, PartialEq, Eq)]
