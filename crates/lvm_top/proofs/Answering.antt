@@ -38,6 +38,7 @@ pub write_refused : (log : Log) (at word : ℕ) (device : Device) (why : Refusal
 write_refused log at word device (refusal.OutOfRange size) why = WriteOutside size refl why refl
 write_refused log at word device refusal.HistoryFull why = WriteFull refl why.0 why.1 refl
 write_refused log at word device (refusal.BadLine column) why = absurd why
+write_refused log at word device refusal.NoGroup why = absurd why
 write_refused log at word device refusal.Lost why = absurd why
 write_refused log at word device refusal.ReadFailed why = absurd why
 write_refused log at word device refusal.Dark why = absurd why
@@ -48,6 +49,7 @@ pub read_refused : (log : Log) (at : ℕ) (device : Device) (why : Refusal) → 
 read_refused log at device (refusal.OutOfRange size) why = ReadOutside size refl why refl
 read_refused log at device refusal.HistoryFull why = ReadFull refl why.0 why.1 refl
 read_refused log at device (refusal.BadLine column) why = absurd why
+read_refused log at device refusal.NoGroup why = absurd why
 read_refused log at device refusal.Lost why = absurd why
 read_refused log at device refusal.ReadFailed why = absurd why
 read_refused log at device refusal.Dark why = absurd why

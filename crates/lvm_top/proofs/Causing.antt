@@ -8,8 +8,8 @@ use Rattle.lvm_top.specs.Requests.{ShelfAfter}
 use Rattle.lvm_top.specs.RawLines.{WriteOutside, WriteFull, WriteUnmade, WriteMade, ReadOutside, ReadFull, ReadUnmade, ReadMade, write_reply, read_reply}
 use Rattle.lvm_top.specs.Script.{State, LineDoes}
 use Rattle.lvm_top.specs.Causes.{HasCause}
-use Rattle.lvm_top.specs.declared.language.Command.{Command}
-use Rattle.lvm_top.specs.declared.language.Command.TheVariants as command
+use Rattle.lvm_top.specs.declared.language.Asked.{Asked}
+use Rattle.lvm_top.specs.declared.language.Asked.TheVariants as asked
 use Rattle.lvm_move.specs.declared.moves.Moved.{Moved}
 use Rattle.lvm_move.specs.declared.moves.Moved.TheVariants as moved
 use Rattle.lvm_top.specs.declared.reply.Refusal.{Refusal}
@@ -67,14 +67,15 @@ read_cause at old new f moved.Stuck why ready disk blocks is after = by_reply wh
 no_cause : (why other : Refusal) (old new : Counts) → HasCause other old new → reply.Refused why ≡ reply.Refused other → HasCause why old new
 no_cause why other old new cause is = by_reply why other old new is cause
 
-pub line_cause : (log : Log) (asked : Command) (why : Refusal) (old new : State) → IsReady old.moment.device → LineDoes log asked old new (reply.Refused why) → HasCause why old.moment.device.counts new.moment.device.counts
-line_cause log command.Skip why old new ready does = absurd (let e = does.0 in cc (e))
-line_cause log command.Bad why old new ready does = no_cause why (refusal.BadLine 1) _ _ tt does.0
-line_cause log (command.RawWr at word) why old new ready (WriteOutside size is outside same) = no_cause why (refusal.OutOfRange size) _ _ tt is
-line_cause log (command.RawWr at word) why old new ready (WriteFull is inside full same) = no_cause why refusal.HistoryFull _ _ tt is
-line_cause log (command.RawWr at word) why old new ready (WriteUnmade is same) = no_cause why refusal.Memory _ _ tt is
-line_cause log (command.RawWr at word) why old new ready (WriteMade how is writes) = write_cause old.moment.device new.moment.device _ how why ready refl refl is writes.shelf.1
-line_cause log (command.RawRd at) why old new ready (ReadOutside size is outside same) = no_cause why (refusal.OutOfRange size) _ _ tt is
-line_cause log (command.RawRd at) why old new ready (ReadFull is inside full same) = no_cause why refusal.HistoryFull _ _ tt is
-line_cause log (command.RawRd at) why old new ready (ReadUnmade is same) = no_cause why refusal.Memory _ _ tt is
-line_cause log (command.RawRd at) why old new ready (ReadMade how is reads) = read_cause at old.moment.device new.moment.device _ how why ready refl reads.inside.2 is reads.shelf.1
+pub line_cause : (log : Log) (what : Asked) (why : Refusal) (old new : State) → IsReady old.moment.device → LineDoes log what old new (reply.Refused why) → HasCause why old.moment.device.counts new.moment.device.counts
+line_cause log asked.Skip why old new ready does = absurd (let e = does.0 in cc (e))
+line_cause log (asked.Bad column) why old new ready does = no_cause why (refusal.BadLine column) _ _ tt does.0
+line_cause log asked.Group why old new ready does = no_cause why refusal.NoGroup _ _ tt does.0
+line_cause log (asked.RawWr at word) why old new ready (WriteOutside size is outside same) = no_cause why (refusal.OutOfRange size) _ _ tt is
+line_cause log (asked.RawWr at word) why old new ready (WriteFull is inside full same) = no_cause why refusal.HistoryFull _ _ tt is
+line_cause log (asked.RawWr at word) why old new ready (WriteUnmade is same) = no_cause why refusal.Memory _ _ tt is
+line_cause log (asked.RawWr at word) why old new ready (WriteMade how is writes) = write_cause old.moment.device new.moment.device _ how why ready refl refl is writes.shelf.1
+line_cause log (asked.RawRd at) why old new ready (ReadOutside size is outside same) = no_cause why (refusal.OutOfRange size) _ _ tt is
+line_cause log (asked.RawRd at) why old new ready (ReadFull is inside full same) = no_cause why refusal.HistoryFull _ _ tt is
+line_cause log (asked.RawRd at) why old new ready (ReadUnmade is same) = no_cause why refusal.Memory _ _ tt is
+line_cause log (asked.RawRd at) why old new ready (ReadMade how is reads) = read_cause at old.moment.device new.moment.device _ how why ready refl reads.inside.2 is reads.shelf.1

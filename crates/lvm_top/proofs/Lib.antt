@@ -1,5 +1,5 @@
-mod Scanning
-mod Filled
+mod Texts
+mod Asking
 pub mod Spanning
 mod Logs
 mod Answering

@@ -7,30 +7,30 @@ use Rattle.lvm_io.specs.Stream.{WhereTold, WritesFront}
 use Rattle.lvm_vol.specs.Log.{Log}
 use Rattle.lvm_kept.specs.Moments.{Moment, Keeps, StaysCalm}
 use Rattle.lvm_kept.proofs.Spans.{keeps_still}
-use Rattle.lvm_top.specs.Language.{command_of}
+use Rattle.lvm_top.specs.Language.{asked_of}
 use Rattle.lvm_top.specs.Requests.{ShelfAfter}
 use Rattle.lvm_top.specs.RawLines.{without_facts, WriteOutside, WriteFull, WriteUnmade, WriteMade, ReadOutside, ReadFull, ReadUnmade, ReadMade, write_reply, read_reply}
 use Rattle.lvm_top.specs.Script.{State, state_of, IsLine, IsStuck, LineDoes}
-use Rattle.lvm_top.specs.declared.language.Command.{Command}
-use Rattle.lvm_top.specs.declared.language.Command.TheVariants as command
+use Rattle.lvm_top.specs.declared.language.Asked.{Asked}
+use Rattle.lvm_top.specs.declared.language.Asked.TheVariants as asked
 use Rattle.lvm_move.specs.declared.moves.Moved.{Moved}
 use Rattle.lvm_move.specs.declared.moves.Moved.TheVariants as moved
 use Rattle.lvm_top.specs.declared.reply.Reply.{Reply}
 
 -- a line that changes nothing
-pub line_still : (log : Log) (line : List ℕ) (asked : Command) (answer : Reply) (m : Moment) → asked ≡ command_of line → LineDoes log asked (state_of m) (state_of m) answer → IsReady m.device → IsLine log line answer (state_of m) (state_of m)
-line_still log line asked answer m asks does ready = record {
-  does = subst (λ (a : Command). LineDoes log a (state_of m) (state_of m) answer) asks does;
+pub line_still : (log : Log) (line : List ℕ) (what : Asked) (answer : Reply) (m : Moment) → what ≡ asked_of line → LineDoes log what (state_of m) (state_of m) answer → IsReady m.device → IsLine log line answer (state_of m) (state_of m)
+line_still log line what answer m asks does ready = record {
+  does = subst (λ (a : Asked). LineDoes log a (state_of m) (state_of m) answer) asks does;
   keeps = keeps_still log.run m;
   calm = λ goes past calm. calm;
   ready = λ goes. ready;
 }
 
 -- a line that was done
-pub line_done : (log : Log) (line : List ℕ) (asked : Command) (answer : Reply) (old new : Moment) → asked ≡ command_of line → LineDoes log asked (state_of old) (state_of new) answer → Keeps log.run old new
+pub line_done : (log : Log) (line : List ℕ) (what : Asked) (answer : Reply) (old new : Moment) → what ≡ asked_of line → LineDoes log what (state_of old) (state_of new) answer → Keeps log.run old new
     → ((IsStuck answer → ⊥) → StaysCalm old new) → ((IsStuck answer → ⊥) → IsReady new.device) → IsLine log line answer (state_of old) (state_of new)
-line_done log line asked answer old new asks does keeps calm ready = record {
-  does = subst (λ (a : Command). LineDoes log a (state_of old) (state_of new) answer) asks does;
+line_done log line what answer old new asks does keeps calm ready = record {
+  does = subst (λ (a : Asked). LineDoes log a (state_of old) (state_of new) answer) asks does;
   keeps = keeps;
   calm = calm;
   ready = ready;
@@ -56,17 +56,18 @@ shelf_waited old new f how after is =
     subst (λ (d : Device). RoseBy 1000000 old.counts.waits d.counts.waits) (sym stuck.lit) stuck.gives.1
 
 -- where a line answers that nothing was heard, the waits rose by a million in it
-pub stuck_waited : (log : Log) (asked : Command) (old new : State) (answer : Reply) → LineDoes log asked old new answer → IsStuck answer → RoseBy 1000000 old.moment.device.counts.waits new.moment.device.counts.waits
-stuck_waited log command.Skip old new answer does stuck = absurd (let e = does.0 in cc (e, stuck))
-stuck_waited log command.Bad old new answer does stuck = absurd (let e = does.0 in cc (e, stuck))
-stuck_waited log (command.RawWr at word) old new answer (WriteOutside size is why same) stuck = absurd (cc (is, stuck))
-stuck_waited log (command.RawWr at word) old new answer (WriteFull is inside why same) stuck = absurd (cc (is, stuck))
-stuck_waited log (command.RawWr at word) old new answer (WriteUnmade is same) stuck = absurd (cc (is, stuck))
-stuck_waited log (command.RawWr at word) old new answer (WriteMade how is writes) stuck = shelf_waited old.moment.device new.moment.device _ how writes.shelf.1 (write_stuck how answer is stuck)
-stuck_waited log (command.RawRd at) old new answer (ReadOutside size is why same) stuck = absurd (cc (is, stuck))
-stuck_waited log (command.RawRd at) old new answer (ReadFull is inside why same) stuck = absurd (cc (is, stuck))
-stuck_waited log (command.RawRd at) old new answer (ReadUnmade is same) stuck = absurd (cc (is, stuck))
-stuck_waited log (command.RawRd at) old new answer (ReadMade how is reads) stuck = shelf_waited old.moment.device new.moment.device _ how reads.shelf.1 (read_stuck at how answer is stuck)
+pub stuck_waited : (log : Log) (what : Asked) (old new : State) (answer : Reply) → LineDoes log what old new answer → IsStuck answer → RoseBy 1000000 old.moment.device.counts.waits new.moment.device.counts.waits
+stuck_waited log asked.Skip old new answer does stuck = absurd (let e = does.0 in cc (e, stuck))
+stuck_waited log (asked.Bad column) old new answer does stuck = absurd (let e = does.0 in cc (e, stuck))
+stuck_waited log asked.Group old new answer does stuck = absurd (let e = does.0 in cc (e, stuck))
+stuck_waited log (asked.RawWr at word) old new answer (WriteOutside size is why same) stuck = absurd (cc (is, stuck))
+stuck_waited log (asked.RawWr at word) old new answer (WriteFull is inside why same) stuck = absurd (cc (is, stuck))
+stuck_waited log (asked.RawWr at word) old new answer (WriteUnmade is same) stuck = absurd (cc (is, stuck))
+stuck_waited log (asked.RawWr at word) old new answer (WriteMade how is writes) stuck = shelf_waited old.moment.device new.moment.device _ how writes.shelf.1 (write_stuck how answer is stuck)
+stuck_waited log (asked.RawRd at) old new answer (ReadOutside size is why same) stuck = absurd (cc (is, stuck))
+stuck_waited log (asked.RawRd at) old new answer (ReadFull is inside why same) stuck = absurd (cc (is, stuck))
+stuck_waited log (asked.RawRd at) old new answer (ReadUnmade is same) stuck = absurd (cc (is, stuck))
+stuck_waited log (asked.RawRd at) old new answer (ReadMade how is reads) stuck = shelf_waited old.moment.device new.moment.device _ how reads.shelf.1 (read_stuck at how answer is stuck)
 
 -- counts from the run's beginning on
 pub waited_since : (first old new : Device) → NoneFalls first.counts old.counts → RoseBy 1000000 old.counts.waits new.counts.waits → RoseBy 1000000 first.counts.waits new.counts.waits

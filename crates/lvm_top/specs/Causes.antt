@@ -15,6 +15,7 @@ HasCause refusal.ReadFailed old new = RoseAt 0 old.faults new.faults
 HasCause refusal.Dark old new = Rose old.cuts new.cuts
 HasCause refusal.Stuck old new = RoseBy 1000000 old.waits new.waits
 HasCause (refusal.BadLine column) old new = Unit {0}
+HasCause refusal.NoGroup old new = Unit {0}
 HasCause (refusal.OutOfRange size) old new = Unit {0}
 HasCause refusal.HistoryFull old new = Unit {0}
 HasCause refusal.Memory old new = Unit {0}

@@ -1,16 +1,16 @@
--- The texts of refusals.
-use Rattle.std.specs.Prelude.{ℕ, List, ◌++◌, codes}
-use Rattle.std.specs.Fmt.{decimal}
+-- The refusals of a script's lines, by their numbers and what they carry.
+use Rattle.lvm_show.specs.declared.refusal.Carried.TheVariants as carried
+use Rattle.lvm_show.specs.declared.refusal.Refusal.{Refusal as Shown}
 use Rattle.lvm_top.specs.declared.reply.Refusal.{Refusal}
 use Rattle.lvm_top.specs.declared.reply.Refusal.TheVariants as refusal
 
--- the number, the name and what is carried
-abbrev pub refusal_text : Refusal → List ℕ
-refusal_text (refusal.BadLine column) = codes "1 BadLine " ++ decimal column
-refusal_text (refusal.OutOfRange blocks) = codes "18 OutOfRange " ++ decimal blocks
-refusal_text refusal.Lost = codes "19 Lost"
-refusal_text refusal.ReadFailed = codes "20 ReadFailed"
-refusal_text refusal.Dark = codes "23 Dark"
-refusal_text refusal.Stuck = codes "24 Stuck"
-refusal_text refusal.HistoryFull = codes "25 HistoryFull"
-refusal_text refusal.Memory = codes "29 Memory"
+abbrev pub shown : Refusal → Shown
+shown (refusal.BadLine column) = record { number = 1; carried = carried.Number column }
+shown refusal.NoGroup = record { number = 2; carried = carried.Nothing }
+shown (refusal.OutOfRange blocks) = record { number = 18; carried = carried.Number blocks }
+shown refusal.Lost = record { number = 19; carried = carried.Nothing }
+shown refusal.ReadFailed = record { number = 20; carried = carried.Nothing }
+shown refusal.Dark = record { number = 23; carried = carried.Nothing }
+shown refusal.Stuck = record { number = 24; carried = carried.Nothing }
+shown refusal.HistoryFull = record { number = 25; carried = carried.Nothing }
+shown refusal.Memory = record { number = 29; carried = carried.Nothing }

@@ -8,11 +8,11 @@ use Rattle.lvm_vol.specs.Facts.{Fact}
 use Rattle.lvm_vol.specs.Log.{Log}
 use Rattle.lvm_top.specs.declared.room.Room.{Room}
 use Rattle.lvm_kept.specs.Moments.{Moment, Keeps, StaysCalm}
-use Rattle.lvm_top.specs.Language.{command_of}
+use Rattle.lvm_top.specs.Language.{asked_of}
 use Rattle.lvm_top.specs.Replies.{reply_text}
 use Rattle.lvm_top.specs.RawLines.{WriteDoes, ReadDoes}
-use Rattle.lvm_top.specs.declared.language.Command.{Command}
-use Rattle.lvm_top.specs.declared.language.Command.TheVariants as command
+use Rattle.lvm_top.specs.declared.language.Asked.{Asked}
+use Rattle.lvm_top.specs.declared.language.Asked.TheVariants as asked
 use Rattle.lvm_top.specs.declared.reply.Refusal.TheVariants as refusal
 use Rattle.lvm_top.specs.declared.reply.Reply.{Reply}
 use Rattle.lvm_top.specs.declared.reply.Reply.TheVariants as reply
@@ -29,15 +29,16 @@ abbrev pub IsStuck : Reply → Type 0
 IsStuck answer = answer ≡ reply.Refused refusal.Stuck
 
 -- what a line does, by what it asks for
-abbrev pub LineDoes : Log → Command → State → State → Reply → Type 0
-LineDoes log command.Skip old new answer = (answer ≡ reply.Silent) × (new ≡ old)
-LineDoes log command.Bad old new answer = (answer ≡ reply.Refused (refusal.BadLine 1)) × (new ≡ old)
-LineDoes log (command.RawRd at) old new answer = ReadDoes log 0 at old.moment new.moment answer
-LineDoes log (command.RawWr at word) old new answer = WriteDoes log 0 at word old.moment new.moment answer
+abbrev pub LineDoes : Log → Asked → State → State → Reply → Type 0
+LineDoes log asked.Skip old new answer = (answer ≡ reply.Silent) × (new ≡ old)
+LineDoes log (asked.Bad column) old new answer = (answer ≡ reply.Refused (refusal.BadLine column)) × (new ≡ old)
+LineDoes log asked.Group old new answer = (answer ≡ reply.Refused refusal.NoGroup) × (new ≡ old)
+LineDoes log (asked.RawRd at) old new answer = ReadDoes log 0 at old.moment new.moment answer
+LineDoes log (asked.RawWr at word) old new answer = WriteDoes log 0 at word old.moment new.moment answer
 
 -- A line joins two states. At each moment between the history is legal and the crash images are kept with it.
 pub record IsLine (log : Log) (line : List ℕ) (answer : Reply) (old new : State) : Type 0 where
-  pub does : LineDoes log (command_of line) old new answer
+  pub does : LineDoes log (asked_of line) old new answer
   pub keeps : Keeps log.run old.moment new.moment
   pub calm : (IsStuck answer → ⊥) → StaysCalm old.moment new.moment
   pub ready : (IsStuck answer → ⊥) → IsReady new.moment.device

@@ -16,7 +16,6 @@ mod tests;
 mod words;
 
 pub use image::run_image;
-pub use language::{Command, parse};
 pub use laws::refusals_have_causes;
 pub use program::run_words;
 pub use reply::{Refusal, Reply};

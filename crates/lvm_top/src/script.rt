@@ -8,9 +8,9 @@ ghost use Rattle.lvm_top.specs.Replies.{reply_text};
 ghost use Rattle.lvm_top.specs.RawLines.{without_facts};
 ghost use Rattle.lvm_top.specs.Script.{state_of, IsStuck, IsLine, Says, IsWhole, IsPart, IsRoom, entry_state, facts_of, is_refused};
 
-use crate::language::{Command, parse};
+use crate::language::{Asked, asked_of};
 use crate::raw_line::{do_read, do_write};
-use crate::reply::{Refusal, Reply, text_of};
+use crate::reply::{Refusal, Reply, memory_text, text_of};
 use lvm_disk::Shelf;
 use lvm_io::{Lines, NextLine, Sink, SinkFault, Source, write_all};
 use lvm_num::Memory;
@@ -34,11 +34,12 @@ fn do_line<S: Shelf>(alloc: Global, shelf: &mut S, history: &mut History, line: 
     ensures line { IsLine (without_facts history.old) line.now result (state_of (record { device = S.device shelf.old; facts = history.old.facts })) (state_of (record { device = S.device shelf.new; facts = history.new.facts })) }
     ensures rooms { history.new ≡ record history.old { facts = history.new.facts } }
 {
-    match parse(line) {
-        Command::Skip => Reply::Silent,
-        Command::Bad => Reply::Refused(Refusal::BadLine { column: 1 }),
-        Command::RawRd { at } => do_read(alloc, shelf, history, at),
-        Command::RawWr { at, word } => do_write(alloc, shelf, history, at, word),
+    match asked_of(alloc, line) {
+        Asked::Skip => Reply::Silent,
+        Asked::Bad { column } => Reply::Refused(Refusal::BadLine { column }),
+        Asked::Group => Reply::Refused(Refusal::NoGroup),
+        Asked::RawRd { at } => do_read(alloc, shelf, history, at),
+        Asked::RawWr { at, word } => do_write(alloc, shelf, history, at, word),
     }
 }
 
@@ -55,7 +56,7 @@ fn say<O: Sink>(alloc: Global, out: &mut O, answer: &Reply) -> (Reply, Result<()
         Ok(text) => (*answer, write_all(out, text.as_bytes())),
         Err(Memory) => (
             Reply::Refused(Refusal::Memory),
-            write_all(out, b"refused 29 Memory\n"),
+            write_all(out, memory_text()),
         ),
     }
 }

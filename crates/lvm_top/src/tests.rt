@@ -106,7 +106,33 @@ fn lines_are_skipped_or_refused(rt: HostRuntime) -> Result<(), Fail> {
     assert_eq!(rt; ended.status, 1);
     assert_eq!(rt; ended.refused, 5);
     let wanted =
-        b"refused 18 OutOfRange 4100\nrefused 18 OutOfRange 4100\n4099 0000000000000000\nrefused 1 BadLine 1\nrefused 1 BadLine 1\nrefused 1 BadLine 1\n";
+        b"refused 18 OutOfRange 4100\nrefused 18 OutOfRange 4100\n4099 0000000000000000\nrefused 1 BadLine 1\nrefused 1 BadLine 1\nrefused 1 BadLine 18\n";
+    assert_eq!(rt; out.bytes(), wanted.as_slice());
+    Ok(())
+}
+
+#[test]
+fn lines_are_refused_at_their_columns(rt: HostRuntime) -> Result<(), Fail> {
+    let script =
+        b"mkvg -y datavg -s 3 hdisk0\nrd hdisk0 5\nrd  hdisk01 4096 1\nwr hdisk0 4096 1 000000000000000g \nwait now\n\x07";
+    let (ended, out) = run(rt.alloc(), &given(script, &[]))?;
+    assert_eq!(rt; ended.status, 1);
+    assert_eq!(rt; ended.refused, 6);
+    let wanted =
+        b"refused 1 BadLine 19\nrefused 1 BadLine 12\nrefused 1 BadLine 5\nrefused 1 BadLine 18\nrefused 1 BadLine 1\nrefused 1 BadLine 1\n";
+    assert_eq!(rt; out.bytes(), wanted.as_slice());
+    Ok(())
+}
+
+#[test]
+fn no_group_is_on(rt: HostRuntime) -> Result<(), Fail> {
+    let script =
+        b"lsvg -l datavg\nlslv -m lv00\nlspv hdisk0\nmklv -y lv00 -w n datavg 1\nrmlv lv00\nvaryoffvg datavg\nvaryonvg datavg\ncut\n";
+    let (ended, out) = run(rt.alloc(), &given(script, &[]))?;
+    assert_eq!(rt; ended.status, 1);
+    assert_eq!(rt; ended.refused, 8);
+    let wanted =
+        b"refused 2 NoGroup\nrefused 2 NoGroup\nrefused 2 NoGroup\nrefused 2 NoGroup\nrefused 2 NoGroup\nrefused 2 NoGroup\nrefused 1 BadLine 1\nrefused 1 BadLine 1\n";
     assert_eq!(rt; out.bytes(), wanted.as_slice());
     Ok(())
 }

@@ -3,7 +3,7 @@ use Rattle.lvm_vol.specs.Facts.{Fact}
 use Rattle.lvm_vol.specs.Log.{Log}
 use Rattle.lvm_io.specs.Reading.{Reading}
 use Rattle.lvm_top.specs.RawLines.{without_facts}
-use Rattle.lvm_top.specs.Language.{command_of}
+use Rattle.lvm_top.specs.Language.{asked_of}
 use Rattle.lvm_top.specs.Script.{IsStuck, entry_state, state_of}
 use Rattle.lvm_top.specs.Replies.{reply_text}
 use Rattle.lvm_kept.proofs.Spans.{at_moment}
@@ -49,7 +49,7 @@ pub returns-then-is_stuck-clause-stuck : goal.returns-then-is_stuck-clause-stuck
 returns-then-is_stuck-clause-stuck g c is =
     let line = (renamed c.loop.history c.args.history.now c.as_slice.result.now c.in-Line.line c.do_line-answer.result (state_of (at_moment (g.S.Shelf.device c.loop.shelf) c.loop.history.facts)) (state_of (at_moment (g.S.Shelf.device c.do_line-answer.new.shelf) c.do_line-answer.new.history.facts)) c.loop.invariant.rooms c.as_slice.ensures c.do_line-answer.ensures.line) in
     waited_since (g.S.Shelf.device c.args.shelf.now) (g.S.Shelf.device c.loop.shelf) (g.S.Shelf.device c.do_line-answer.new.shelf) (span_counts (script_keeps (without_facts c.args.history.now) (entry_state (g.S.Shelf.device c.args.shelf.now)) c.loop.invariant.done.script))
-    (stuck_waited (without_facts c.args.history.now) (command_of c.in-Line.line) (state_of (at_moment (g.S.Shelf.device c.loop.shelf) c.loop.history.facts)) (state_of (at_moment (g.S.Shelf.device c.do_line-answer.new.shelf) c.do_line-answer.new.history.facts)) c.do_line-answer.result line.does (c.is_stuck.ensures.0 c.if-is_stuck.true))
+    (stuck_waited (without_facts c.args.history.now) (asked_of c.in-Line.line) (state_of (at_moment (g.S.Shelf.device c.loop.shelf) c.loop.history.facts)) (state_of (at_moment (g.S.Shelf.device c.do_line-answer.new.shelf) c.do_line-answer.new.history.facts)) c.do_line-answer.result line.does (c.is_stuck.ensures.0 c.if-is_stuck.true))
 
 pub returns-then-is_err-clause-part : goal.returns-then-is_err-clause-part
 returns-then-is_err-clause-part g c =

@@ -1,0 +1,8 @@
+pub mod Filled
+pub mod Names
+pub mod Digits
+pub mod Appending
+pub mod Found
+pub mod FreeCount
+pub mod Rows
+pub mod Counting

@@ -1,0 +1,5 @@
+pub mod Counts
+pub mod Texts
+pub mod Listings
+pub mod Blocks
+pub mod Refusals
