@@ -4,3 +4,9 @@ pub mod Voting
 pub mod Epochs
 pub mod Naming
 pub mod Chosen
+pub mod Writing
+pub mod Pieces
+pub mod Transfers
+pub mod Disks
+pub mod HomeSlots
+pub mod Shows

@@ -37,10 +37,10 @@ neither false b e = refl
 abbrev pub PassBelow : (ℕ → Bool) → ℕ → (ℕ → Bool) → Type 0
 PassBelow test i set = (d : ℕ) → set d ≡ nat_lt d i && test d
 
-lt_same : (d i : ℕ) → d ≡ i → nat_lt d (i + 1) ≡ true
+pub lt_same : (d i : ℕ) → d ≡ i → nat_lt d (i + 1) ≡ true
 lt_same d i e = grind (arith, nat_tests)
 
-lt_other : (d i : ℕ) → (d ≡ i → ⊥) → nat_lt d (i + 1) ≡ nat_lt d i
+pub lt_other : (d i : ℕ) → (d ≡ i → ⊥) → nat_lt d (i + 1) ≡ nat_lt d i
 lt_other d i e = grind (arith, nat_tests)
 
 lt_all : (d n : ℕ) → d < n → nat_lt d n ≡ true

@@ -117,7 +117,7 @@ fn row_of(alloc: Global, members: u16, disk: u16, shown: Disk) -> Result<SurveyR
 }
 
 // Whether it is a survey as `choose` is given one.
-fn is_survey(survey: &Survey) -> bool
+pub fn is_survey(survey: &Survey) -> bool
     ensures rows { IsTrue result → AreRows survey.now }
     ensures valid { IsTrue result → IsSurveyValid survey.now }
 {

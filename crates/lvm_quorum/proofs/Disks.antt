@@ -1,0 +1,344 @@
+-- A record written to one disk after another.
+use Rattle.std.proofs.Common.{◌≡◌, inl, inr, ⊎_elim, ℕ, ◌+◌, ◌<◌, ◌≤◌, Bool, true, false, IfSome, IsTrue, IsFalse, length, refl, sym, ◌∙◌, ap, subst, arith}
+use Rattle.std.specs.Prelude.{◌==◌, ◌&&◌, ◌||◌, not, nat_lt, if◌then◌else◌}
+use Rattle.std.proofs.lemmas.Bool.{cases_lt, eqb-true}
+use Rattle.std.proofs.lemmas.Bool.Decides.{nat_tests, eqb_tells}
+use Rattle.std.proofs.lemmas.Option.{slice_get_past}
+use Rattle.lvm_num.specs.declared.record.Kind.{Kind}
+use Rattle.lvm_num.specs.Buffer.{Buffer, Sector}
+use Rattle.lvm_num.specs.Disks.{Disks, has}
+use Rattle.lvm_num.specs.Record.{frame, record_sectors, slot_start}
+use Rattle.lvm_disk.specs.Counts.{Rose}
+use Rattle.lvm_disk.specs.Device.{Media, Device, IsReady, image_of}
+use Rattle.lvm_disk.specs.Paths.{DeviceStep, Path, Here}
+use Rattle.lvm_kept.specs.Plans.{ChangesBy}
+use Rattle.lvm_kept.specs.Torn.{RecordWrite, IsOfRecord, StandsOn}
+use Rattle.lvm_kept.proofs.Records.{never}
+use Rattle.lvm_move.specs.declared.moves.Moved.{Moved}
+use Rattle.lvm_move.specs.declared.moves.Moved.TheVariants as moved
+use Rattle.lvm_quorum.specs.declared.homes.Homes.{Homes}
+use Rattle.lvm_quorum.specs.declared.write.SlotWrite.{SlotWrite}
+use Rattle.lvm_quorum.specs.Homes.{second_slots, next_slot, Flips}
+use Rattle.lvm_quorum.specs.Written.{write_of, HasRoom, HaveRoom, KeepsShelf, EndsOn, StandsTold, IsWriting, IsBrokenOff, written_well}
+use Rattle.lvm_quorum.specs.Parts.{write_to, PartsStand, Spends, WritesPart}
+use Rattle.lvm_quorum.proofs.Voting.{lt_same, lt_other}
+use Rattle.lvm_quorum.proofs.Writing.{if_told, told_at, both_map, changes_more, moments_wider, moments_on, parts_stay, writing_here}
+use Rattle.lvm_quorum.proofs.Transfers.{keeps_here, keeps_then, spends_none, spends_then}
+
+-- ---- what stands of the record
+
+part_told : (w : RecordWrite) (d : ℕ) → Media → Type 0
+part_told w d media = (k : ℕ) → 0 ≤ k → k < record_sectors (length w.framed.content) → media d (slot_start w.kind (w.slots d) + k) ≡ frame w.kind w.framed.stamp w.framed.content k
+
+pub all_stands : (w : RecordWrite) (device : Device) (d : ℕ) → PartsStand w device d 0 (record_sectors (length w.framed.content)) → StandsTold w device d
+unfolding part_told
+all_stands w device d parts = if_told device.media (λ media. StandsOn w (image_of device.sizes media) d) (λ m told k inside. told_at device.media (part_told w d) m told parts k (omega arith) inside)
+
+parts_of : (w : RecordWrite) (device : Device) (d : ℕ) → StandsTold w device d → PartsStand w device d 0 (record_sectors (length w.framed.content))
+unfolding part_told
+parts_of w device d stands = if_told device.media (part_told w d) (λ m told k low inside. told_at device.media (λ media. StandsOn w (image_of device.sizes media) d) m told stands k inside)
+
+still_stands : (w : RecordWrite) (now new : Device) (d : ℕ) → KeepsShelf w now new → StandsTold w now d → StandsTold w new d
+still_stands w now new d keeps stands = all_stands w new d (parts_stay w now new keeps.media d 0 (record_sectors (length w.framed.content)) (parts_of w now d stands))
+
+-- ---- the write to one disk is a part of all
+
+module _ (one : SlotWrite) (targets : Disks) (homes : Homes) (target : IsTrue (targets one.disk)) (second : one.second ≡ second_slots one.kind homes one.disk) where
+  all_of : RecordWrite
+  all_of = write_of one.kind (record { stamp = one.stamp; content = one.content.now }) targets homes
+
+  slot_same : (if one.second then 1 else 0) ≡ next_slot one.kind homes one.disk
+  slot_same = ap (λ (b : Bool). if b then 1 else 0) second
+
+  of_all : (d s : ℕ) (value : Sector) → IsOfRecord (write_to one) d s value → IsOfRecord (write_of one.kind (record { stamp = one.stamp; content = one.content.now }) targets homes) d s value
+  of_all d s value is =
+      let here : d ≡ one.disk = eqb-true d one.disk is.target in
+      record {
+        target = subst (λ (x : ℕ). IsTrue (targets x)) (sym here) target;
+        its = record {
+          part = is.its.part;
+          inside = is.its.inside;
+          place = is.its.place ∙ ap (λ (slot : ℕ). slot_start one.kind slot + is.its.part) (slot_same ∙ ap (next_slot one.kind homes) (sym here));
+          is = is.its.is;
+        };
+      }
+
+  off_disk : (d : ℕ) → IsFalse (targets d) → IsFalse (d == one.disk)
+  off_disk d off = elim (eqb_tells d one.disk) [
+    | inl same ↦ absurd (never (targets one.disk) target (subst (λ (x : ℕ). IsFalse (targets x)) same.1 off))
+    | inr differ ↦ differ.0
+  ]
+
+  -- nothing starts on another disk
+  pub starts_alone : (number p q : ℕ) (old new : Device) (how : Moved) → WritesPart (write_to one) one.disk number p q old new how → (d : ℕ) → (d ≡ one.disk → ⊥) → new.counts.starts d ≡ old.counts.starts d
+  starts_alone number p q old new how part d differ = part.keeps.starts d (unlike d one.disk differ)
+    where
+      unlike : (d n : ℕ) → (d ≡ n → ⊥) → IsFalse (d == n)
+      unlike d n differ = grind (arith, nat_tests)
+
+  pub part_of_all :
+      (number p q : ℕ) (old new : Device) (how : Moved) → WritesPart (write_to one) one.disk number p q old new how
+      → WritesPart (write_of one.kind (record { stamp = one.stamp; content = one.content.now }) targets homes) one.disk number p q old new how
+  unfolding all_of
+  part_of_all number p q old new how part = record {
+    keeps = record {
+      sizes = part.keeps.sizes;
+      arranges = part.keeps.arranges;
+      orders = part.keeps.orders;
+      misses = part.keeps.misses;
+      starts = λ d off. part.keeps.starts d (off_disk d off);
+      faults = λ d off. part.keeps.faults d (off_disk d off);
+      media = both_map old.media new.media
+          (λ was is. ChangesBy (IsOfRecord (write_to one)) (image_of old.sizes was) (image_of new.sizes is))
+          (λ was is. ChangesBy (IsOfRecord all_of) (image_of old.sizes was) (image_of new.sizes is)) part.keeps.media
+          (λ m k a b by. changes_more (IsOfRecord (write_to one)) (IsOfRecord all_of) (image_of old.sizes m) (image_of new.sizes k) of_all by);
+    };
+    counts = part.counts;
+    rests = part.rests;
+    spends = part.spends;
+    stuck = part.stuck;
+    buffer = part.buffer;
+    moments = moments_wider (write_to one) all_of of_all old new part.moments;
+  }
+
+  pub stands_of_all :
+      (device : Device) → PartsStand (write_to one) device one.disk 0 (record_sectors (length one.content.now))
+      → StandsTold (write_of one.kind (record { stamp = one.stamp; content = one.content.now }) targets homes) device one.disk
+  unfolding all_of
+  stands_of_all device parts = all_stands all_of device one.disk
+      (subst (λ (slot : ℕ). IfSome device.media (λ media. (k : ℕ) → 0 ≤ k → k < record_sectors (length one.content.now) → media one.disk (slot_start one.kind slot + k) ≡ frame one.kind one.stamp one.content.now k)) slot_same parts)
+
+-- ---- which slots come next
+
+pub flips_same : (kind : Kind) (p q : Disks) (old new : Homes) → ((d : ℕ) → p d ≡ q d) → Flips kind p old new → Flips kind q old new
+flips_same kind p q old new same flips = record {
+  own = λ d. flips.own d ∙ ap (λ (b : Bool). if b then not (second_slots kind old d) else second_slots kind old d) (same d);
+  other = flips.other;
+}
+
+flips_none : (kind : Kind) (p : Disks) (homes : Homes) → ((d : ℕ) → IsFalse (p d)) → Flips kind p homes homes
+flips_none kind p homes none = record {
+  own = λ d. sym (ap (λ (b : Bool). if b then not (second_slots kind homes d) else second_slots kind homes d) (none d));
+  other = λ k differ d. refl;
+}
+
+-- ---- disk after disk
+
+-- the targets below a disk that didn't fail
+abbrev pub well_below : Disks → ℕ → ℕ → Disks
+well_below targets failed n d = nat_lt d n && written_well targets (has failed) d
+
+-- the targets below a disk were written, or tried; the others were left alone so far
+pub record WroteDisks (w : RecordWrite) (number before after : ℕ) (old now : Device) (first homes : Homes) (failed : ℕ) (buf : Buffer) (n : ℕ) : Type 0 where
+  pub keeps : KeepsShelf w old now
+  pub ready : IsReady now
+  pub cuts : now.counts.cuts ≡ old.counts.cuts
+  pub spends : Spends before after old now
+  pub buffer : buf.number ≡ number
+  pub moments : Path DeviceStep (IsWriting w old) old now
+  pub tried : (d : ℕ) → d < n → EndsOn w (has failed) old now d
+  pub none : (d : ℕ) → n ≤ d → IsFalse (has failed d)
+  pub same : (d : ℕ) → n ≤ d → now.counts.faults d ≡ old.counts.faults d
+  pub idle : (d : ℕ) → n ≤ d → now.counts.starts d ≡ old.counts.starts d
+  pub flips : Flips w.kind (well_below w.targets failed n) first homes
+
+nothing_below : (d : ℕ) → nat_lt d 0 ≡ false
+nothing_below d = grind (arith, nat_tests)
+
+pub none_tried : (w : RecordWrite) (patience : ℕ) (old : Device) (homes : Homes) (failed : ℕ) (buf : Buffer) → IsReady old → ((d : ℕ) → IsFalse (has failed d)) → WroteDisks w buf.number patience patience old old homes homes failed buf 0
+none_tried w patience old homes failed buf ready empty = record {
+  keeps = keeps_here w old;
+  ready = ready;
+  cuts = refl;
+  spends = spends_none patience old;
+  buffer = refl;
+  moments = Here (writing_here w old ready.flights);
+  tried = λ d less. absurd (omega (arith, less));
+  none = λ d more. empty d;
+  same = λ d more. refl;
+  idle = λ d more. refl;
+  flips = flips_none w.kind (well_below w.targets failed 0) homes (λ d. ap (λ (b : Bool). b && written_well w.targets (has failed) d) (nothing_below d));
+}
+
+ends_stay :
+    (w : RecordWrite) (old now new : Device) (failed more : ℕ) (d : ℕ) → KeepsShelf w now new → new.counts.faults d ≡ now.counts.faults d → has more d ≡ has failed d → EndsOn w (has failed) old now d
+    → EndsOn w (has more) old new d
+ends_stay w old now new failed more d keeps same as_was ends = record {
+  stands = λ target well. still_stands w now new d keeps (ends.stands target (sym as_was ∙ well));
+  well = λ well. same ∙ ends.well (sym as_was ∙ well);
+  badly = λ bad. subst (λ (n : ℕ). Rose (old.counts.faults d) n) (sym same) (ends.badly (sym as_was ∙ bad));
+  target = λ bad. ends.target (sym as_was ∙ bad);
+}
+
+-- the write to the next disk has ended
+module _ (w : RecordWrite) (number p q : ℕ) (old now : Device) (first homes : Homes) (failed : ℕ) (buf : Buffer) (n : ℕ) (so_far : WroteDisks w number p q old now first homes failed buf n) where
+  disk_ended :
+      (r : ℕ) (new : Device) (next : Homes) (more : ℕ) (back : Buffer) → KeepsShelf w now new → IsReady new → new.counts.cuts ≡ now.counts.cuts → Spends q r now new → back.number ≡ buf.number
+      → Path DeviceStep (IsWriting w now) now new → ((d : ℕ) → (d ≡ n → ⊥) → has more d ≡ has failed d) → ((d : ℕ) → (d ≡ n → ⊥) → new.counts.faults d ≡ now.counts.faults d) → ((d : ℕ) → (d ≡ n → ⊥) → new.counts.starts d ≡ now.counts.starts d)
+      → EndsOn w (has more) old new n → Flips w.kind (λ d. d == n && written_well w.targets (has more) d) homes next → WroteDisks w number p r old new first next more back (n + 1)
+  disk_ended r new next more back keeps ready cuts spends buffer moments others elsewhere alone own flips = record {
+    keeps = keeps_then w old now new so_far.keeps keeps;
+    ready = ready;
+    cuts = cuts ∙ so_far.cuts;
+    spends = spends_then p q r old now new so_far.spends spends;
+    buffer = buffer ∙ so_far.buffer;
+    moments = moments_on w old now so_far.keeps.media new so_far.moments moments;
+    tried = λ d less. ⊎_elim
+        (λ (below : d < n). ends_stay w old now new failed more d keeps (elsewhere d (λ e. omega (arith, e, below))) (others d (λ e. omega (arith, e, below))) (so_far.tried d below))
+        (λ (above : n ≤ d). let here : n ≡ d = omega (arith, above, less) in subst (EndsOn w (has more) old new) here own)
+        (cases_lt d n);
+    none = λ d above. others d (λ e. omega (arith, e, above)) ∙ so_far.none d (omega (arith, above));
+    same = λ d above. elsewhere d (λ e. omega (arith, e, above)) ∙ so_far.same d (omega (arith, above));
+    idle = λ d above. alone d (λ e. omega (arith, e, above)) ∙ so_far.idle d (omega (arith, above));
+    flips = record {
+      own = λ d.
+          let V : Bool = second_slots w.kind first d in
+          let H : Bool = second_slots w.kind homes d in
+          elim (eqb_tells d n) [
+            | inl same ↦
+                flips.own d ∙ ap (λ (b : Bool). if b && written_well w.targets (has more) d then not H else H) same.0
+                ∙ ap (λ (v : Bool). if written_well w.targets (has more) d then not v else v) (so_far.flips.own d ∙ ap (λ (b : Bool). if b && written_well w.targets (has failed) d then not V else V) (lt_not d n same.1))
+                ∙ ap (λ (b : Bool). if b && written_well w.targets (has more) d then not V else V) (sym (lt_same d n same.1))
+            | inr differ ↦
+                flips.own d ∙ ap (λ (b : Bool). if b && written_well w.targets (has more) d then not H else H) differ.0 ∙ so_far.flips.own d
+                ∙ ap (λ (b : Bool). if nat_lt d n && (w.targets d && not b) then not V else V) (sym (others d differ.1))
+                ∙ ap (λ (b : Bool). if b && written_well w.targets (has more) d then not V else V) (sym (lt_other d n differ.1))
+          ];
+      other = λ k differ d. flips.other k differ d ∙ so_far.flips.other k differ d;
+    };
+  }
+    where
+      lt_not : (d n : ℕ) → d ≡ n → nat_lt d n ≡ false
+      lt_not d n e = grind (arith, nat_tests)
+
+  -- the slot of a disk that wasn't tried yet is the first one
+  pub slot_still : second_slots w.kind homes n ≡ second_slots w.kind first n
+  slot_still = so_far.flips.own n ∙ ap (λ (b : Bool). if b && written_well w.targets (has failed) n then not (second_slots w.kind first n) else second_slots w.kind first n) (lt_self n)
+    where
+      lt_self : (n : ℕ) → nat_lt n n ≡ false
+      lt_self n = grind (arith, nat_tests)
+
+  -- it is no target
+  pub disk_skipped : IsFalse (w.targets n) → WroteDisks w number p q old now first homes failed buf (n + 1)
+  disk_skipped off = disk_ended q now homes failed buf (keeps_here w now) so_far.ready refl (spends_none q now) refl (Here (writing_here w now so_far.ready.flights)) (λ d differ. refl) (λ d differ. refl) (λ d differ. refl)
+      (record {
+        stands = λ target well. absurd (never (w.targets n) target off);
+        well = λ well. so_far.same n (omega arith);
+        badly = λ bad. absurd (never (has failed n) bad (so_far.none n (omega arith)));
+        target = λ bad. absurd (never (has failed n) bad (so_far.none n (omega arith)));
+      })
+      (flips_none w.kind (λ d. d == n && written_well w.targets (has failed) d) homes (λ d. no_target w.targets failed n d off))
+    where
+      no_target : (targets : Disks) (failed n d : ℕ) → IsFalse (targets n) → IsFalse (d == n && written_well targets (has failed) d)
+      no_target targets failed n d off = elim (eqb_tells d n) [
+        | inl same ↦ ap (λ (b : Bool). b && written_well targets (has failed) d) same.0 ∙ ap (λ (x : ℕ). targets x && not (has failed d)) same.1 ∙ ap (λ (b : Bool). b && not (has failed d)) off
+        | inr differ ↦ ap (λ (b : Bool). b && written_well targets (has failed) d) differ.0
+      ]
+
+  module _ (r : ℕ) (new : Device) (back : Buffer) (target : IsTrue (w.targets n)) (alone : (d : ℕ) → (d ≡ n → ⊥) → new.counts.starts d ≡ now.counts.starts d) where
+    -- all of the record stands there
+    pub disk_written : (next : Homes) → WritesPart w n buf.number q r now new (moved.Done back) → StandsTold w new n → Flips w.kind (λ d. d == n) homes next → WroteDisks w number p r old new first next failed back (n + 1)
+    disk_written next part stands flips = disk_ended r new next failed back part.keeps part.rests part.counts.1 part.spends part.buffer part.moments (λ d differ. refl) (λ d differ. ap (λ (h : ℕ → ℕ). h d) part.counts.0) alone
+        (record {
+          stands = λ t well. stands;
+          well = λ well. ap (λ (h : ℕ → ℕ). h n) part.counts.0 ∙ so_far.same n (omega arith);
+          badly = λ bad. absurd (never (has failed n) bad (so_far.none n (omega arith)));
+          target = λ bad. target;
+        })
+        (flips_same w.kind (λ d. d == n) (λ d. d == n && written_well w.targets (has failed) d) homes next (λ d. is_well w.targets failed n d target (so_far.none n (omega arith))) flips)
+      where
+        is_well : (targets : Disks) (failed n d : ℕ) → IsTrue (targets n) → IsFalse (has failed n) → (d == n) ≡ (d == n && written_well targets (has failed) d)
+        is_well targets failed n d on fine = elim (eqb_tells d n) [
+          | inl same ↦ same.0 ∙ sym (ap (λ (b : Bool). b && written_well targets (has failed) d) same.0 ∙ ap (λ (x : ℕ). targets x && not (has failed x)) same.1 ∙ ap (λ (b : Bool). b && not (has failed n)) on ∙ ap not fine)
+          | inr differ ↦ differ.0 ∙ sym (ap (λ (b : Bool). b && written_well targets (has failed) d) differ.0)
+        ]
+
+    -- it failed
+    pub disk_failed : (more : ℕ) → WritesPart w n buf.number q r now new (moved.Failed back) → ((d : ℕ) → has more d ≡ (has failed d || d == n)) → WroteDisks w number p r old new first homes more back (n + 1)
+    disk_failed more part with_it =
+        let failed_here : IsTrue (has more n) = with_it n ∙ or_here (has failed n) n in
+        disk_ended r new homes more back part.keeps part.rests part.counts.1 part.spends part.buffer part.moments (λ d differ. with_it d ∙ or_elsewhere (has failed d) d n differ) part.counts.0.elsewhere alone
+        (record {
+          stands = λ t well. absurd (never (has more n) failed_here well);
+          well = λ well. absurd (never (has more n) failed_here well);
+          badly = λ bad. subst (λ (x : ℕ). Rose x (new.counts.faults n)) (so_far.same n (omega arith)) part.counts.0.here;
+          target = λ bad. target;
+        })
+        (flips_none w.kind (λ d. d == n && written_well w.targets (has more) d) homes (λ d. not_well w.targets more n d failed_here))
+      where
+        or_here : (b : Bool) (n : ℕ) → (b || n == n) ≡ true
+        or_here true n = refl
+        or_here false n = grind (arith, nat_tests)
+
+        or_elsewhere : (b : Bool) (d n : ℕ) → (d ≡ n → ⊥) → (b || d == n) ≡ b
+        or_elsewhere true d n differ = refl
+        or_elsewhere false d n differ = grind (arith, nat_tests)
+
+        and_not : (b : Bool) → (b && false) ≡ false
+        and_not true = refl
+        and_not false = refl
+
+        not_well : (targets : Disks) (more n d : ℕ) → IsTrue (has more n) → IsFalse (d == n && written_well targets (has more) d)
+        not_well targets more n d bad = elim (eqb_tells d n) [
+          | inl same ↦ ap (λ (b : Bool). b && written_well targets (has more) d) same.0 ∙ ap (λ (x : ℕ). targets d && not (has more x)) same.1 ∙ ap (λ (b : Bool). targets d && not b) bad ∙ and_not (targets d)
+          | inr differ ↦ ap (λ (b : Bool). b && written_well targets (has more) d) differ.0
+        ]
+
+  -- it was broken off
+  pub broken_off : (new : Device) → IsTrue (w.targets n) → KeepsShelf w now new → new.counts.faults ≡ now.counts.faults → ((d : ℕ) → (d ≡ n → ⊥) → new.counts.starts d ≡ now.counts.starts d) → IsBrokenOff w old new first homes
+  broken_off new target keeps faults alone = record {
+    disk = n;
+    failed = has failed;
+    target = target;
+    before = λ d below. ends_stay w old now new failed failed d keeps (ap (λ (h : ℕ → ℕ). h d) faults) refl (so_far.tried d below);
+    behind = λ d above. alone d (λ e. omega (arith, e, above)) ∙ so_far.idle d (omega (arith, above));
+    homes_are = so_far.flips;
+  }
+
+  -- all disks were tried
+  module _ (room : HaveRoom old w.targets) (all : length old.sizes ≤ n) where
+    no_more : (d : ℕ) → n ≤ d → IsFalse (w.targets d)
+    no_more d past = off_or (w.targets d) (λ on. none_there (room d on))
+      where
+        none_there : HasRoom old d → ⊥
+        none_there there = let gone = slice_get_past old.sizes d (omega (arith, past)) in let is = there.1 in cc
+
+        off_or : (b : Bool) → (IsTrue b → ⊥) → IsFalse b
+        off_or true none = absurd (none refl)
+        off_or false none = refl
+
+    pub each_tried : (d : ℕ) → EndsOn w (has failed) old now d
+    each_tried d = ⊎_elim
+        (λ (below : d < n). so_far.tried d below)
+        (λ (past : n ≤ d). record {
+          stands = λ target well. absurd (never (w.targets d) target (no_more d past));
+          well = λ well. so_far.same d past;
+          badly = λ bad. absurd (never (has failed d) bad (so_far.none d past));
+          target = λ bad. absurd (never (has failed d) bad (so_far.none d past));
+        })
+        (cases_lt d n)
+
+    pub all_flipped : Flips w.kind (written_well w.targets (has failed)) first homes
+    all_flipped = flips_same w.kind (well_below w.targets failed n) (written_well w.targets (has failed)) first homes
+        (λ d. ⊎_elim
+        (λ (below : d < n). ap (λ (b : Bool). b && written_well w.targets (has failed) d) (lt_yes d n below))
+        (λ (past : n ≤ d).
+        let off = no_more d past in
+        ap (λ (b : Bool). nat_lt d n && (b && not (has failed d))) off ∙ and_no (nat_lt d n) ∙ sym (ap (λ (b : Bool). b && not (has failed d)) off))
+        (cases_lt d n))
+        so_far.flips
+      where
+        lt_yes : (d n : ℕ) → d < n → nat_lt d n ≡ true
+        lt_yes d n e = grind (arith, nat_tests)
+
+        and_no : (b : Bool) → (b && false) ≡ false
+        and_no true = refl
+        and_no false = refl
+
+-- the same, by equal homes, disks and buffer
+pub as_joined :
+    (w : RecordWrite) (number p q : ℕ) (old now : Device) (first homes joined : Homes) (failed more : ℕ) (buf back : Buffer) (n : ℕ) → joined ≡ homes → more ≡ failed → back ≡ buf
+    → WroteDisks w number p q old now first homes failed buf n → WroteDisks w number p q old now first joined more back n
+as_joined w number p q old now first homes joined failed more buf back n h f b wrote =
+    subst (λ (x : Homes). WroteDisks w number p q old now first x more back n) (sym h)
+    (subst (λ (x : ℕ). WroteDisks w number p q old now first homes x back n) (sym f) (subst (λ (x : Buffer). WroteDisks w number p q old now first homes failed x n) (sym b) wrote))

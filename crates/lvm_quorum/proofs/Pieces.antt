@@ -1,0 +1,209 @@
+-- One transfer of sectors of a record, and one after another.
+use Rattle.std.proofs.Common.{◌≡◌, inl, inr, ℕ, ◌+◌, ◌-◌, ◌<◌, ◌≤◌, Bool, true, false, [], Option, Some, None, length, slice_get, IsTrue, IsFalse, refl, sym, ◌∙◌, ap, subst, arith, eq-eqb}
+use Rattle.std.specs.Prelude.{◌==◌, ◌&&◌, nat_le, nat_lt, if◌then◌else◌}
+use Rattle.std.proofs.lemmas.Bool.{eqb-true, ltb-true, leb-true}
+use Rattle.lvm_num.specs.Buffer.{Buffer}
+use Rattle.lvm_num.specs.Record.{frame, slot_start, record_sectors}
+use Rattle.lvm_disk.specs.Counts.{Counts, Rose, RoseAt, RoseBy}
+use Rattle.lvm_disk.specs.Device.{Media, Flight, Device, IsReady, IsTorn}
+use Rattle.lvm_disk.specs.Steps.{BothTold, CountsFailure, IsFault, Puts, PutsSome}
+use Rattle.lvm_disk.specs.Paths.{DeviceStep, Path}
+use Rattle.lvm_disk.proofs.Paths.{map-path, last-path}
+use Rattle.lvm_kept.specs.Raw.{OnlyAdds}
+use Rattle.lvm_kept.specs.Plans.{IsPlanned}
+use Rattle.lvm_kept.specs.Torn.{RecordWrite, IsOfRecord}
+use Rattle.lvm_kept.proofs.Records.{never}
+use Rattle.lvm_move.specs.Transfer.{IsOut, TransferGives, Rests, flight_of}
+use Rattle.lvm_move.specs.declared.moves.Moved.{Moved}
+use Rattle.lvm_move.specs.declared.moves.Moved.TheVariants as moved
+use Rattle.lvm_move.proofs.Ending.{one_left}
+use Rattle.lvm_move.proofs.Effects.{out_flights}
+use Rattle.lvm_quorum.specs.declared.write.SlotWrite.{SlotWrite}
+use Rattle.lvm_quorum.specs.Written.{IsWriting}
+use Rattle.lvm_quorum.specs.Parts.{write_to, CountsEnd, IfStuck, IfBack, WritesPart}
+use Rattle.lvm_quorum.proofs.Writing.{both_map, adds_writing, media_written}
+
+-- ---- the flight
+
+module _ (one : SlotWrite) (from count first : ℕ) (buf : Buffer) (place : first ≡ slot_start one.kind (if one.second then 1 else 0) + from)
+    (frames : (k : ℕ) → k < count → slice_get buf.sectors k ≡ Some (frame one.kind one.stamp one.content.now (from + k))) where
+  -- it writes nothing but sectors of the record
+  pub frames_planned : from + count ≤ record_sectors (length one.content.now) → IsPlanned (IsOfRecord (write_to one)) (flight_of 0 true one.disk first count buf)
+  frames_planned room d s value is = go (one.disk == d) (nat_le first s) (nat_lt s (first + count)) refl refl refl is
+    where
+      go : (p q r : Bool) → (one.disk == d) ≡ p → nat_le first s ≡ q → nat_lt s (first + count) ≡ r → (if p && q && r then slice_get buf.sectors (s - first) else None) ≡ Some value → IsOfRecord (write_to one) d s value
+      go true true true p q r is =
+          let low = leb-true first s q in
+          let high = ltb-true s (first + count) r in
+          let read = frames (s - first) (omega (arith, low, high)) in
+          record {
+            target = eq-eqb d one.disk (sym (eqb-true one.disk d p));
+            its = record { part = from + (s - first); inside = omega (arith, low, high, room); place = omega (arith, low, place); is = cc };
+          }
+      go true true false p q r is = absurd (cc)
+      go true false u p q r is = absurd (cc)
+      go false t u p q r is = absurd (cc)
+
+-- ---- what a start changes
+
+record OutFacts (old now : Device) (disk : ℕ) : Type 0 where
+  sizes : now.sizes ≡ old.sizes
+  media : now.media ≡ old.media
+  arranges : now.arranges ≡ old.arranges
+  orders : now.orders ≡ old.orders
+  misses : now.counts.misses ≡ old.counts.misses
+  faults : now.counts.faults ≡ old.counts.faults
+  cuts : now.counts.cuts ≡ old.counts.cuts
+  starts : (d : ℕ) → (d ≡ disk → ⊥) → now.counts.starts d ≡ old.counts.starts d
+  power : now.power ≡ true
+
+out_facts : (old now : Device) (f : Flight) → IsOut old now f → OutFacts old now f.disk
+out_facts old now f out =
+    let begun = out.starts.new_is in
+    let waited = out.waits.now_is in
+    record {
+      sizes = ap (λ (d : Device). d.sizes) waited ∙ ap (λ (d : Device). d.sizes) begun;
+      media = ap (λ (d : Device). d.media) waited ∙ ap (λ (d : Device). d.media) begun;
+      arranges = ap (λ (d : Device). d.arranges) waited ∙ ap (λ (d : Device). d.arranges) begun;
+      orders = ap (λ (d : Device). d.orders) waited ∙ ap (λ (d : Device). d.orders) begun;
+      misses = ap (λ (d : Device). d.counts.misses) waited ∙ ap (λ (d : Device). d.counts.misses) begun;
+      faults = ap (λ (d : Device). d.counts.faults) waited ∙ ap (λ (d : Device). d.counts.faults) begun;
+      cuts = ap (λ (d : Device). d.counts.cuts) waited ∙ ap (λ (d : Device). d.counts.cuts) begun;
+      starts = λ d differ. ap (λ (x : Device). x.counts.starts d) waited ∙ out.starts.starts.elsewhere d differ;
+      power = ap (λ (d : Device). d.power) waited ∙ ap (λ (d : Device). d.power) begun ∙ out.starts.power;
+    }
+
+-- a failed write is a fault
+is_fault : (f g : Flight) (old new : Counts) → g ≡ f → f.write ≡ true → CountsFailure g old new → IsFault f.disk old new
+is_fault f g old new same write (inl miss) = absurd (let w : g.write ≡ false = miss.0.0 in let v = ap (λ (x : Flight). x.write) same in cc)
+is_fault f g old new same write (inr fault) = subst (λ (x : Flight). IsFault x.disk old new) same fault.1
+
+-- ---- what a transfer does
+
+-- of its counts and of what is told
+record Effect (old new : Device) (disk number before : ℕ) (how : Moved) : Type 0 where
+  sizes : new.sizes ≡ old.sizes
+  arranges : new.arranges ≡ old.arranges
+  orders : new.orders ≡ old.orders
+  misses : new.counts.misses ≡ old.counts.misses
+  starts : (d : ℕ) → (d ≡ disk → ⊥) → new.counts.starts d ≡ old.counts.starts d
+  faults : (d : ℕ) → (d ≡ disk → ⊥) → new.counts.faults d ≡ old.counts.faults d
+  told : BothTold old.media new.media (λ was is. Unit {0})
+  counts : CountsEnd disk old.counts new.counts how
+  stuck : IfStuck how ((new.power ≡ true) × RoseBy before old.counts.waits new.counts.waits)
+  buffer : IfBack how (λ back. back.number ≡ number)
+
+still_told : (o m n : Option Media) (R : Media → Media → Type 0) → m ≡ o → BothTold m n R → BothTold o n (λ was is. Unit {0})
+still_told o m n R same told = both_map o n R (λ was is. Unit {0}) (subst (λ (x : Option Media). BothTold x n R) same told) (λ a b p q r. tt)
+
+same_told : (o n : Option Media) → n ≡ o → BothTold o n (λ was is. Unit {0})
+same_told None n same = subst (λ (x : Option Media). BothTold None x (λ was is. Unit {0})) (sym same) tt
+same_told (Some m) n same = subst (λ (x : Option Media). BothTold (Some m) x (λ was is. Unit {0})) (sym same) tt
+
+effect : (before : ℕ) (old new : Device) (ticket disk first count : ℕ) (buf : Buffer) (how : Moved) → old.flights ≡ [] → TransferGives before old new (flight_of ticket true disk first count buf) how → Effect old new disk buf.number before how
+effect before old new ticket disk first count buf (moved.Done back) none (now, out, ends) =
+    let f = flight_of ticket true disk first count buf in
+    let facts = out_facts old now f out in
+    let it = one_left f now.flights new.flights ends.flight (out_flights old now f out none) ends.flights in
+    let faults = ap (λ (d : Device). d.counts.faults) ends.new_is ∙ facts.faults in
+    record {
+      sizes = ap (λ (d : Device). d.sizes) ends.new_is ∙ facts.sizes;
+      arranges = ap (λ (d : Device). d.arranges) ends.new_is ∙ facts.arranges;
+      orders = ap (λ (d : Device). d.orders) ends.new_is ∙ facts.orders;
+      misses = ap (λ (d : Device). d.counts.misses) ends.new_is ∙ facts.misses;
+      starts = λ d differ. ap (λ (x : Device). x.counts.starts d) ends.new_is ∙ facts.starts d differ;
+      faults = λ d differ. ap (λ (h : ℕ → ℕ). h d) faults;
+      told = still_told old.media now.media new.media (Puts ends.flight) facts.media ends.media;
+      counts = (faults, ap (λ (d : Device). d.counts.cuts) ends.new_is ∙ facts.cuts);
+      stuck = tt;
+      buffer = ap (λ (b : Buffer). b.number) (ends.kept (ap (λ (g : Flight). g.write) it.0)) ∙ ap (λ (g : Flight). g.buf.number) it.0;
+    }
+effect before old new ticket disk first count buf (moved.Failed back) none (now, out, ends) =
+    let f = flight_of ticket true disk first count buf in
+    let facts = out_facts old now f out in
+    let it = one_left f now.flights new.flights ends.flight (out_flights old now f out none) ends.flights in
+    let fault = is_fault f ends.flight now.counts new.counts it.0 refl ends.counts in
+    record {
+      sizes = ap (λ (d : Device). d.sizes) ends.new_is ∙ facts.sizes;
+      arranges = ap (λ (d : Device). d.arranges) ends.new_is ∙ facts.arranges;
+      orders = ap (λ (d : Device). d.orders) ends.new_is ∙ facts.orders;
+      misses = ap (λ (c : Counts). c.misses) fault.new_is ∙ facts.misses;
+      starts = λ d differ. ap (λ (c : Counts). c.starts d) fault.new_is ∙ facts.starts d differ;
+      faults = λ d differ. fault.faults.elsewhere d differ ∙ ap (λ (h : ℕ → ℕ). h d) facts.faults;
+      told = still_told old.media now.media new.media (PutsSome ends.flight) facts.media ends.media;
+      counts = (subst (λ (h : ℕ → ℕ). RoseAt disk h new.counts.faults) facts.faults fault.faults, ap (λ (c : Counts). c.cuts) fault.new_is ∙ facts.cuts);
+      stuck = tt;
+      buffer = ap (λ (b : Buffer). b.number) (ends.kept (ap (λ (g : Flight). g.write) it.0)) ∙ ap (λ (g : Flight). g.buf.number) it.0;
+    }
+effect before old new ticket disk first count buf (moved.Dark true) none (now, out, cuts) =
+    let facts = out_facts old now (flight_of ticket true disk first count buf) out in
+    let faults = ap (λ (d : Device). d.counts.faults) cuts.new_is ∙ facts.faults in
+    record {
+      sizes = ap (λ (d : Device). d.sizes) cuts.new_is ∙ facts.sizes;
+      arranges = ap (λ (d : Device). d.arranges) cuts.new_is ∙ facts.arranges;
+      orders = ap (λ (d : Device). d.orders) cuts.new_is ∙ facts.orders;
+      misses = ap (λ (d : Device). d.counts.misses) cuts.new_is ∙ facts.misses;
+      starts = λ d differ. ap (λ (x : Device). x.counts.starts d) cuts.new_is ∙ facts.starts d differ;
+      faults = λ d differ. ap (λ (h : ℕ → ℕ). h d) faults;
+      told = still_told old.media now.media new.media (λ m n. IsTorn m now.flights n) facts.media cuts.media;
+      counts = (faults, subst (λ (n : ℕ). Rose n new.counts.cuts) facts.cuts cuts.cuts);
+      stuck = tt;
+      buffer = tt;
+    }
+effect before old new ticket disk first count buf (moved.Dark false) none cuts =
+    let faults = ap (λ (d : Device). d.counts.faults) cuts.new_is in
+    record {
+      sizes = ap (λ (d : Device). d.sizes) cuts.new_is;
+      arranges = ap (λ (d : Device). d.arranges) cuts.new_is;
+      orders = ap (λ (d : Device). d.orders) cuts.new_is;
+      misses = ap (λ (d : Device). d.counts.misses) cuts.new_is;
+      starts = λ d differ. ap (λ (x : Device). x.counts.starts d) cuts.new_is;
+      faults = λ d differ. ap (λ (h : ℕ → ℕ). h d) faults;
+      told = still_told old.media old.media new.media (λ m n. IsTorn m old.flights n) refl cuts.media;
+      counts = (faults, cuts.cuts);
+      stuck = tt;
+      buffer = tt;
+    }
+effect before old new ticket disk first count buf moved.Stuck none (out, waits) =
+    let facts = out_facts old new (flight_of ticket true disk first count buf) out in
+    record {
+      sizes = facts.sizes;
+      arranges = facts.arranges;
+      orders = facts.orders;
+      misses = facts.misses;
+      starts = facts.starts;
+      faults = λ d differ. ap (λ (h : ℕ → ℕ). h d) facts.faults;
+      told = same_told old.media new.media facts.media;
+      counts = (facts.faults, facts.cuts);
+      stuck = (facts.power, waits);
+      buffer = tt;
+    }
+
+-- ---- a piece
+
+module _ (w : RecordWrite) (disk number before after : ℕ) (old new : Device) (how : Moved) (ticket first count : ℕ) (buf : Buffer) where
+  pub piece_part :
+      IsReady old → number ≡ buf.number → IsTrue (w.targets disk) → IsPlanned (IsOfRecord w) (flight_of 0 true disk first count buf)
+      → TransferGives before old new (flight_of ticket true disk first count buf) how → Rests new how → after ≤ before → RoseBy (before - after) old.counts.waits new.counts.waits
+      → Path DeviceStep (OnlyAdds (flight_of 0 true disk first count buf) old) old new → WritesPart w disk number before after old new how
+  piece_part ready same target planned gives rests falls waits path =
+      let done = effect before old new ticket disk first count buf how ready.flights gives in
+      let moments = map-path (IsWriting w old) (λ x. adds_writing w (flight_of 0 true disk first count buf) old x ready.flights planned) path in
+      let other : (d : ℕ) → IsFalse (w.targets d) → d ≡ disk → ⊥ = λ d off here. never (w.targets disk) target (subst (λ (x : ℕ). IsFalse (w.targets x)) here off) in
+      record {
+        keeps = record {
+          sizes = done.sizes;
+          arranges = done.arranges;
+          orders = done.orders;
+          misses = done.misses;
+          starts = λ d off. done.starts d (other d off);
+          faults = λ d off. done.faults d (other d off);
+          media = media_written w old new done.told (last-path moments);
+        };
+        counts = done.counts;
+        rests = rests;
+        spends = record { falls = falls; waits = waits };
+        stuck = done.stuck;
+        buffer = subst (λ (n : ℕ). IfBack how (λ back. back.number ≡ n)) (sym same) done.buffer;
+        moments = moments;
+      }

@@ -1,0 +1,70 @@
+-- The parts of a write of a record: one disk, and pieces of it.
+use Rattle.std.specs.Prelude.{◌≡◌, ℕ, ◌+◌, ◌-◌, ◌<◌, ◌≤◌, ◌==◌, if◌then◌else◌, true, IfSome}
+use Rattle.lvm_num.specs.Buffer.{Buffer}
+use Rattle.lvm_num.specs.Record.{frame, slot_start}
+use Rattle.lvm_disk.specs.Counts.{Counts, Rose, RoseAt, RoseBy}
+use Rattle.lvm_disk.specs.Device.{Device}
+use Rattle.lvm_disk.specs.Paths.{DeviceStep, Path}
+use Rattle.lvm_kept.specs.Torn.{RecordWrite}
+use Rattle.lvm_move.specs.Transfer.{Rests}
+use Rattle.lvm_move.specs.declared.moves.Moved.{Moved}
+use Rattle.lvm_move.specs.declared.moves.Moved.TheVariants as moved
+use Rattle.lvm_quorum.specs.declared.write.SlotWrite.{SlotWrite}
+use Rattle.lvm_quorum.specs.Written.{IsWriting, KeepsShelf}
+
+-- the write of the record to one slot of one disk
+abbrev pub write_to : SlotWrite → RecordWrite
+write_to one = record {
+  kind = one.kind;
+  framed = record { stamp = one.stamp; content = one.content.now };
+  targets = λ d. d == one.disk;
+  slots = λ d. if one.second then 1 else 0;
+}
+
+-- sectors of the record stand there, from one on and below another
+abbrev pub PartsStand : RecordWrite → Device → ℕ → ℕ → ℕ → Type 0
+PartsStand w device d from to =
+    IfSome device.media (λ media. (k : ℕ) → from ≤ k → k < to → media d (slot_start w.kind (w.slots d) + k) ≡ frame w.kind w.framed.stamp w.framed.content k)
+
+-- what an end counts: a failure at the disk alone, a loss of power
+abbrev pub CountsEnd : ℕ → Counts → Counts → Moved → Type 0
+CountsEnd disk old new (moved.Done buf) = (new.faults ≡ old.faults) × (new.cuts ≡ old.cuts)
+CountsEnd disk old new (moved.Failed buf) = RoseAt disk old.faults new.faults × (new.cuts ≡ old.cuts)
+CountsEnd disk old new (moved.Dark started) = (new.faults ≡ old.faults) × Rose old.cuts new.cuts
+CountsEnd disk old new moved.Stuck = (new.faults ≡ old.faults) × (new.cuts ≡ old.cuts)
+
+-- what holds of the buffer, where it ended well
+abbrev pub IfDone : Moved → (Buffer → Type 0) → Type 0
+IfDone (moved.Done buf) P = P buf
+IfDone (moved.Failed buf) P = Unit {0}
+IfDone (moved.Dark started) P = Unit {0}
+IfDone moved.Stuck P = Unit {0}
+
+-- the buffer that comes back, if one does
+abbrev pub IfBack : Moved → (Buffer → Type 0) → Type 0
+IfBack (moved.Done buf) P = P buf
+IfBack (moved.Failed buf) P = P buf
+IfBack (moved.Dark started) P = Unit {0}
+IfBack moved.Stuck P = Unit {0}
+
+-- where nothing was heard of it, the power is on and all patience was spent
+abbrev pub IfStuck : Moved → Type 0 → Type 0
+IfStuck (moved.Done buf) P = Unit {0}
+IfStuck (moved.Failed buf) P = Unit {0}
+IfStuck (moved.Dark started) P = Unit {0}
+IfStuck moved.Stuck P = P
+
+-- the patience falls by what is waited
+pub record Spends (before after : ℕ) (old new : Device) : Type 0 where
+  pub falls : after ≤ before
+  pub waits : RoseBy (before - after) old.counts.waits new.counts.waits
+
+-- What some transfers, one after another, did that write the record to a disk; only the last of them may not have ended well.
+pub record WritesPart (w : RecordWrite) (disk : ℕ) (number before after : ℕ) (old new : Device) (how : Moved) : Type 0 where
+  pub keeps : KeepsShelf w old new
+  pub counts : CountsEnd disk old.counts new.counts how
+  pub rests : Rests new how
+  pub spends : Spends before after old new
+  pub stuck : IfStuck how ((new.power ≡ true) × RoseBy before old.counts.waits new.counts.waits)
+  pub buffer : IfBack how (λ back. back.number ≡ number)
+  pub moments : Path DeviceStep (IsWriting w old) old new

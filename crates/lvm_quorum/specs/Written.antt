@@ -1,0 +1,103 @@
+-- What a write of a record to several disks does, disk by disk.
+use Rattle.std.specs.Prelude.{◌≡◌, ℕ, ◌<◌, ◌≤◌, ◌&&◌, not, nat_lt, true, false, [], Some, IfSome, IsTrue, IsFalse, slice_get}
+use Rattle.lvm_num.specs.declared.record.Kind.{Kind}
+use Rattle.lvm_num.specs.declared.record.Framed.{Framed}
+use Rattle.lvm_num.specs.Buffer.{Buffer}
+use Rattle.lvm_num.specs.Disks.{Disks}
+use Rattle.lvm_num.specs.Geometry.{data_start}
+use Rattle.lvm_disk.specs.Counts.{Rose, RoseBy}
+use Rattle.lvm_disk.specs.Device.{Image, Device, image_of, MayLeave}
+use Rattle.lvm_disk.specs.Steps.{BothTold}
+use Rattle.lvm_kept.specs.Plans.{ChangesBy}
+use Rattle.lvm_kept.specs.Torn.{RecordWrite, IsOfRecord, StandsOn}
+use Rattle.lvm_quorum.specs.declared.homes.Homes.{Homes}
+use Rattle.lvm_quorum.specs.declared.write.Wrote.{Wrote}
+use Rattle.lvm_quorum.specs.declared.write.Wrote.TheVariants as wrote
+use Rattle.lvm_quorum.specs.Homes.{next_slot, Flips}
+
+-- the write of this record to these disks, by the slots that stand next
+abbrev pub write_of : Kind → Framed → Disks → Homes → RecordWrite
+write_of kind framed targets homes = record { kind = kind; framed = framed; targets = targets; slots = next_slot kind homes }
+
+-- the disk is there, with room for records
+abbrev pub HasRoom : Device → ℕ → Type 0
+HasRoom device d = (size : ℕ) × (slice_get device.sizes d ≡ Some size) × (data_start ≤ size)
+
+abbrev pub HaveRoom : Device → Disks → Type 0
+HaveRoom device targets = (d : ℕ) → IsTrue (targets d) → HasRoom device d
+
+-- each crash image is the media at first, but for sectors of the record in the targets' slots; so it is at each moment of the write
+abbrev pub IsWriting : RecordWrite → Device → Device → Type 0
+IsWriting w old now = IfSome old.media (λ media. (image : Image) → MayLeave now image → ChangesBy (IsOfRecord w) (image_of old.sizes media) image)
+
+-- The shelf is as it was, but for what the write counts and for sectors of the record in the targets' slots; other disks than the targets
+-- are left alone.
+pub record KeepsShelf (w : RecordWrite) (old new : Device) : Type 0 where
+  pub sizes : new.sizes ≡ old.sizes
+  pub arranges : new.arranges ≡ old.arranges
+  pub orders : new.orders ≡ old.orders
+  pub misses : new.counts.misses ≡ old.counts.misses
+  pub starts : (d : ℕ) → IsFalse (w.targets d) → new.counts.starts d ≡ old.counts.starts d
+  pub faults : (d : ℕ) → IsFalse (w.targets d) → new.counts.faults d ≡ old.counts.faults d
+  pub media : BothTold old.media new.media (λ was is. ChangesBy (IsOfRecord w) (image_of old.sizes was) (image_of new.sizes is))
+
+-- all of the record stands on a target, where the content is told
+abbrev pub StandsTold : RecordWrite → Device → ℕ → Type 0
+StandsTold w device d = IfSome device.media (λ media. StandsOn w (image_of device.sizes media) d)
+
+-- How the write of each disk ended: on a target that isn't among the failed all of it stands and its faults are as before,
+-- on a failed one the faults rose; another disk is no failed one, and its faults are as before.
+pub record EndsOn (w : RecordWrite) (failed : Disks) (old new : Device) (d : ℕ) : Type 0 where
+  pub stands : IsTrue (w.targets d) → IsFalse (failed d) → StandsTold w new d
+  pub well : IsFalse (failed d) → new.counts.faults d ≡ old.counts.faults d
+  pub badly : IsTrue (failed d) → Rose (old.counts.faults d) (new.counts.faults d)
+  pub target : IsTrue (failed d) → IsTrue (w.targets d)
+
+-- the targets that didn't fail
+abbrev pub written_well : Disks → Disks → Disks
+written_well targets failed d = targets d && not (failed d)
+
+-- ---- the answers
+
+-- what holds of the disks that failed and the buffer, where it was tried on each disk
+abbrev pub IfEnded : Wrote → (ℕ → Buffer → Type 0) → Type 0
+IfEnded (wrote.Ended failed buf) P = P failed buf
+IfEnded wrote.Dark P = Unit {0}
+IfEnded wrote.Stuck P = Unit {0}
+
+abbrev pub OnDark : Wrote → Type 0 → Type 0
+OnDark (wrote.Ended failed buf) P = Unit {0}
+OnDark wrote.Dark P = P
+OnDark wrote.Stuck P = Unit {0}
+
+abbrev pub OnStuck : Wrote → Type 0 → Type 0
+OnStuck (wrote.Ended failed buf) P = Unit {0}
+OnStuck wrote.Dark P = Unit {0}
+OnStuck wrote.Stuck P = P
+
+-- it was broken off: Dark or Stuck
+abbrev pub OnBroken : Wrote → Type 0 → Type 0
+OnBroken (wrote.Ended failed buf) P = Unit {0}
+OnBroken wrote.Dark P = P
+OnBroken wrote.Stuck P = P
+
+-- the power is off, in this call, and nothing is out
+pub record IsDarkened (old new : Device) : Type 0 where
+  pub flights : new.flights ≡ []
+  pub power : new.power ≡ false
+  pub cuts : Rose old.counts.cuts new.counts.cuts
+
+-- the power is on as ever, and so many answers that nothing has ended were borne
+pub record IsGivenUp (patience : ℕ) (old new : Device) : Type 0 where
+  pub power : new.power ≡ true
+  pub cuts : new.counts.cuts ≡ old.counts.cuts
+  pub waits : RoseBy patience old.counts.waits new.counts.waits
+
+-- Where it was broken off: at a target, when those before it had been written or had failed, and nothing had started on those behind it.
+pub record IsBrokenOff (w : RecordWrite) (old new : Device) (first homes : Homes) : Type 0 where
+  pub disk : ℕ
+  pub failed : Disks
+  pub target : IsTrue (w.targets disk)
+  pub before : (d : ℕ) → d < disk → EndsOn w failed old new d
+  pub behind : (d : ℕ) → disk < d → new.counts.starts d ≡ old.counts.starts d
+  pub homes_are : Flips w.kind (λ d. nat_lt d disk && written_well w.targets failed d) first homes
