@@ -1,5 +1,5 @@
 -- A record written to one disk after another.
-use Rattle.std.proofs.Common.{◌≡◌, ◌⊎◌, inl, inr, ⊎_elim, ℕ, ◌+◌, ◌-◌, ◌<◌, ◌≤◌, Bool, true, false, List, Option, Some, None, IfSome, IsTrue, IsFalse, length, slice_get, refl, sym, ◌∙◌, ap, subst, arith}
+use Rattle.std.proofs.Common.{◌≡◌, inl, inr, ⊎_elim, ℕ, ◌+◌, ◌<◌, ◌≤◌, Bool, true, false, IfSome, IsTrue, IsFalse, length, refl, sym, ◌∙◌, ap, subst, arith}
 use Rattle.std.specs.Prelude.{◌==◌, ◌&&◌, ◌||◌, not, nat_lt, if◌then◌else◌}
 use Rattle.std.proofs.lemmas.Bool.{cases_lt, eqb-true}
 use Rattle.std.proofs.lemmas.Bool.Decides.{nat_tests, eqb_tells}
@@ -269,12 +269,15 @@ module _ (w : RecordWrite) (number p q : ℕ) (old now : Device) (first homes : 
         or_here : (b : Bool) (n : ℕ) → (b || n == n) ≡ true
         or_here true n = refl
         or_here false n = grind (arith, nat_tests)
+
         or_elsewhere : (b : Bool) (d n : ℕ) → (d ≡ n → ⊥) → (b || d == n) ≡ b
         or_elsewhere true d n differ = refl
         or_elsewhere false d n differ = grind (arith, nat_tests)
+
         and_not : (b : Bool) → (b && false) ≡ false
         and_not true = refl
         and_not false = refl
+
         not_well : (targets : Disks) (more n d : ℕ) → IsTrue (has more n) → IsFalse (d == n && written_well targets (has more) d)
         not_well targets more n d bad = elim (eqb_tells d n) [
           | inl same ↦ ap (λ (b : Bool). b && written_well targets (has more) d) same.0 ∙ ap (λ (x : ℕ). targets d && not (has more x)) same.1 ∙ ap (λ (b : Bool). targets d && not b) bad ∙ and_not (targets d)
@@ -299,6 +302,7 @@ module _ (w : RecordWrite) (number p q : ℕ) (old now : Device) (first homes : 
       where
         none_there : HasRoom old d → ⊥
         none_there there = let gone = slice_get_past old.sizes d (omega (arith, past)) in let is = there.1 in cc
+
         off_or : (b : Bool) → (IsTrue b → ⊥) → IsFalse b
         off_or true none = absurd (none refl)
         off_or false none = refl
@@ -317,15 +321,16 @@ module _ (w : RecordWrite) (number p q : ℕ) (old now : Device) (first homes : 
     pub all_flipped : Flips w.kind (written_well w.targets (has failed)) first homes
     all_flipped = flips_same w.kind (well_below w.targets failed n) (written_well w.targets (has failed)) first homes
         (λ d. ⊎_elim
-          (λ (below : d < n). ap (λ (b : Bool). b && written_well w.targets (has failed) d) (lt_yes d n below))
-          (λ (past : n ≤ d).
-            let off = no_more d past in
-            ap (λ (b : Bool). nat_lt d n && (b && not (has failed d))) off ∙ and_no (nat_lt d n) ∙ sym (ap (λ (b : Bool). b && not (has failed d)) off))
-          (cases_lt d n))
+        (λ (below : d < n). ap (λ (b : Bool). b && written_well w.targets (has failed) d) (lt_yes d n below))
+        (λ (past : n ≤ d).
+        let off = no_more d past in
+        ap (λ (b : Bool). nat_lt d n && (b && not (has failed d))) off ∙ and_no (nat_lt d n) ∙ sym (ap (λ (b : Bool). b && not (has failed d)) off))
+        (cases_lt d n))
         so_far.flips
       where
         lt_yes : (d n : ℕ) → d < n → nat_lt d n ≡ true
         lt_yes d n e = grind (arith, nat_tests)
+
         and_no : (b : Bool) → (b && false) ≡ false
         and_no true = refl
         and_no false = refl

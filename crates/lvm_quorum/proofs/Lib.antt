@@ -9,3 +9,4 @@ pub mod Pieces
 pub mod Transfers
 pub mod Disks
 pub mod HomeSlots
+pub mod Shows

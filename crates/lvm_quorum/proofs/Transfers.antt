@@ -1,12 +1,8 @@
 -- Transfers of sectors of a record, one after another.
-use Rattle.std.proofs.Common.{◌≡◌, ◌⊎◌, inl, inr, ⊎_elim, ℕ, ◌+◌, ◌-◌, ◌<◌, ◌≤◌, Bool, true, false, List, Option, Some, None, IfSome, IsTrue, IsFalse, slice_get, refl, sym, ◌∙◌, ap, subst, arith}
-use Rattle.std.proofs.lemmas.Bool.{cases_lt}
+use Rattle.std.proofs.Common.{◌≡◌, ℕ, ◌+◌, ◌-◌, true, List, Some, slice_get, refl, sym, ◌∙◌, subst, arith}
 use Rattle.lvm_num.specs.Buffer.{Buffer}
-use Rattle.lvm_num.specs.Geometry.{data_start}
-use Rattle.lvm_num.specs.Record.{frame, slot_start}
 use Rattle.lvm_disk.specs.Counts.{Counts, Rose, RoseAt, RoseBy}
-use Rattle.lvm_disk.specs.Device.{Media, Device, IsReady, image_of}
-use Rattle.lvm_disk.specs.Steps.{BothTold}
+use Rattle.lvm_disk.specs.Device.{Device, IsReady, image_of}
 use Rattle.lvm_disk.specs.Paths.{Here}
 use Rattle.lvm_kept.specs.Plans.{ChangesBy}
 use Rattle.lvm_kept.specs.Torn.{RecordWrite, IsOfRecord}

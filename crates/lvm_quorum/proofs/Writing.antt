@@ -1,18 +1,18 @@
 -- What a write of a record leaves of the media, moment by moment, and one write after another.
-use Rattle.std.proofs.Common.{◌≡◌, ◌⊎◌, inl, inr, ⊎_elim, ℕ, ◌+◌, ◌<◌, ◌≤◌, Bool, true, false, List, [], Option, Some, None, IfSome, IsTrue, IsFalse, refl, sym, ◌∙◌, ap, subst, arith}
+use Rattle.std.proofs.Common.{◌≡◌, inl, inr, ⊎_elim, ℕ, ◌+◌, ◌<◌, ◌≤◌, List, [], Option, Some, None, IfSome, refl, sym, ◌∙◌, ap, subst, arith}
 use Rattle.std.specs.Prelude.{IsSomeAnd}
 use Rattle.std.proofs.lemmas.Bool.{cases_lt}
 use Rattle.lvm_num.specs.Buffer.{Sector}
 use Rattle.lvm_num.specs.Record.{frame, slot_start}
-use Rattle.lvm_disk.specs.Device.{Media, Image, Flight, Device, SameDisks, IsInFlight, IsCrashImage, image_of, MayLeave}
+use Rattle.lvm_disk.specs.Device.{Media, Image, Flight, Device, IsInFlight, IsCrashImage, image_of, MayLeave}
 use Rattle.lvm_disk.specs.Steps.{BothTold}
 use Rattle.lvm_disk.specs.Paths.{DeviceStep, Path}
-use Rattle.lvm_disk.proofs.Paths.{append-path, map-path, last-path}
+use Rattle.lvm_disk.proofs.Paths.{append-path, map-path}
 use Rattle.lvm_kept.specs.Raw.{OnlyAdds}
 use Rattle.lvm_kept.specs.Plans.{Plan, ChangesBy, IsPlanned}
 use Rattle.lvm_kept.specs.Torn.{RecordWrite, IsOfRecord}
 use Rattle.lvm_kept.proofs.Planned.{then_disks}
-use Rattle.lvm_quorum.specs.Written.{IsWriting, KeepsShelf}
+use Rattle.lvm_quorum.specs.Written.{IsWriting}
 use Rattle.lvm_quorum.specs.Parts.{PartsStand}
 
 -- ---- what is told
@@ -54,12 +54,6 @@ pub both_same : (o : Option Media) (R : Media → Media → Type 0) → ((m : Me
 both_same None R f = tt
 both_same (Some m) R f = f m
 
--- what holds of each sector that is told
-pub stand_told : (o n : Option Media) (R : Media → Media → Type 0) (P : Media → Type 0) → BothTold o n R → ((m k : Media) → R m k → P k) → IfSome n P
-stand_told o None R P both f = tt
-stand_told None (Some k) R P both f = absurd both
-stand_told (Some m) (Some k) R P both f = f m k both
-
 -- ---- changes
 
 pub changes_more : (P Q : Plan) (a b : Image) → ((d s : ℕ) (value : Sector) → P d s value → Q d s value) → ChangesBy P a b → ChangesBy Q a b
@@ -87,9 +81,9 @@ pub part_stays :
 part_stays w a b d part by stands = ⊎_elim
     (λ (same : b.sector d (slot_start w.kind (w.slots d) + part) ≡ a.sector d (slot_start w.kind (w.slots d) + part)). same ∙ stands)
     (λ (is : IsOfRecord w d (slot_start w.kind (w.slots d) + part) (b.sector d (slot_start w.kind (w.slots d) + part))).
-      let place = is.its.place in
-      let which : is.its.part ≡ part = omega (arith, place) in
-      is.its.is ∙ ap (frame w.kind w.framed.stamp w.framed.content) which)
+    let place = is.its.place in
+    let which : is.its.part ≡ part = omega (arith, place) in
+    is.its.is ∙ ap (frame w.kind w.framed.stamp w.framed.content) which)
     (by.each d (slot_start w.kind (w.slots d) + part))
 
 -- ---- moments
@@ -116,11 +110,11 @@ module _ (w : RecordWrite) where
   pub adds_writing : (f : Flight) (old now : Device) → old.flights ≡ [] → IsPlanned (IsOfRecord w) f → OnlyAdds f old now → IsWriting w old now
   adds_writing f old now none planned adds = if_told old.media (λ media. (image : Image) → MayLeave now image → ChangesBy (IsOfRecord w) (image_of old.sizes media) image)
       (λ m told image may.
-        let from = adds image may in
-        record {
-          same = then_disks (image_of old.sizes m) from.0 image (crash_of old m from.0 told from.1).same from.2.same;
-          each = λ d s. ⊎_elim (λ same. inl (same ∙ at_rest old m from.0 none told from.1 d s)) (λ put. inr (planned d s (image.sector d s) put)) (from.2.each d s);
-        })
+      let from = adds image may in
+      record {
+        same = then_disks (image_of old.sizes m) from.0 image (crash_of old m from.0 told from.1).same from.2.same;
+        each = λ d s. ⊎_elim (λ same. inl (same ∙ at_rest old m from.0 none told from.1 d s)) (λ put. inr (planned d s (image.sector d s) put)) (from.2.each d s);
+      })
 
   -- what the media becomes, as the last moment says
   pub media_written : (old new : Device) → BothTold old.media new.media (λ was is. Unit {0}) → IsWriting w old new → BothTold old.media new.media (λ was is. ChangesBy (IsOfRecord w) (image_of old.sizes was) (image_of new.sizes is))
@@ -131,9 +125,9 @@ module _ (w : RecordWrite) where
     writing_after : (now : Device) → IsWriting w mid now → IsWriting w old now
     writing_after now writing = if_told old.media (λ media. (image : Image) → MayLeave now image → ChangesBy (IsOfRecord w) (image_of old.sizes media) image)
         (λ m was image may.
-          let it = both_at old.media mid.media (λ was is. ChangesBy (IsOfRecord w) (image_of old.sizes was) (image_of mid.sizes is)) m told was in
-          changes_then (IsOfRecord w) (image_of old.sizes m) (image_of mid.sizes it.0) image it.2
-          (told_at mid.media (λ media. (image : Image) → MayLeave now image → ChangesBy (IsOfRecord w) (image_of mid.sizes media) image) it.0 it.1 writing image may))
+        let it = both_at old.media mid.media (λ was is. ChangesBy (IsOfRecord w) (image_of old.sizes was) (image_of mid.sizes is)) m told was in
+        changes_then (IsOfRecord w) (image_of old.sizes m) (image_of mid.sizes it.0) image it.2
+        (told_at mid.media (λ media. (image : Image) → MayLeave now image → ChangesBy (IsOfRecord w) (image_of mid.sizes media) image) it.0 it.1 writing image may))
 
     pub moments_on : (new : Device) → Path DeviceStep (IsWriting w old) old mid → Path DeviceStep (IsWriting w mid) mid new → Path DeviceStep (IsWriting w old) old new
     moments_on new one two = append-path one (map-path (IsWriting w old) writing_after two)
@@ -142,9 +136,9 @@ module _ (w : RecordWrite) where
     pub parts_stay : (d from to : ℕ) → PartsStand w old d from to → PartsStand w mid d from to
     parts_stay d from to stand = if_told mid.media (λ media. (k : ℕ) → from ≤ k → k < to → media d (slot_start w.kind (w.slots d) + k) ≡ frame w.kind w.framed.stamp w.framed.content k)
         (λ n is k low high.
-          let back = both_from old.media mid.media (λ was is. ChangesBy (IsOfRecord w) (image_of old.sizes was) (image_of mid.sizes is)) n told is in
-          part_stays w (image_of old.sizes back.0) (image_of mid.sizes n) d k back.2
-          (told_at old.media (λ media. (k : ℕ) → from ≤ k → k < to → media d (slot_start w.kind (w.slots d) + k) ≡ frame w.kind w.framed.stamp w.framed.content k) back.0 back.1 stand k low high))
+        let back = both_from old.media mid.media (λ was is. ChangesBy (IsOfRecord w) (image_of old.sizes was) (image_of mid.sizes is)) n told is in
+        part_stays w (image_of old.sizes back.0) (image_of mid.sizes n) d k back.2
+        (told_at old.media (λ media. (k : ℕ) → from ≤ k → k < to → media d (slot_start w.kind (w.slots d) + k) ≡ frame w.kind w.framed.stamp w.framed.content k) back.0 back.1 stand k low high))
 
 pub no_parts : (w : RecordWrite) (device : Device) (d : ℕ) → PartsStand w device d 0 0
 no_parts w device d = if_told device.media (λ media. (k : ℕ) → 0 ≤ k → k < 0 → media d (slot_start w.kind (w.slots d) + k) ≡ frame w.kind w.framed.stamp w.framed.content k)
@@ -155,16 +149,16 @@ parts_join w device d first to one two =
     let Stand : ℕ → ℕ → Media → Type 0 = λ from to media. (k : ℕ) → from ≤ k → k < to → media d (slot_start w.kind (w.slots d) + k) ≡ frame w.kind w.framed.stamp w.framed.content k in
     if_told device.media (Stand 0 to)
     (λ m told k low high. ⊎_elim
-      (λ (less : k < first). told_at device.media (Stand 0 first) m told one k low less)
-      (λ (more : first ≤ k). told_at device.media (Stand first to) m told two k more high)
-      (cases_lt k first))
+    (λ (less : k < first). told_at device.media (Stand 0 first) m told one k low less)
+    (λ (more : first ≤ k). told_at device.media (Stand first to) m told two k more high)
+    (cases_lt k first))
 
 -- a write of which another is a part
 module _ (w v : RecordWrite) (more : (d s : ℕ) (value : Sector) → IsOfRecord w d s value → IsOfRecord v d s value) where
   writing_wider : (old now : Device) → IsWriting w old now → IsWriting v old now
   writing_wider old now writing = if_told old.media (λ media. (image : Image) → MayLeave now image → ChangesBy (IsOfRecord v) (image_of old.sizes media) image)
       (λ m was image may. changes_more (IsOfRecord w) (IsOfRecord v) (image_of old.sizes m) image more
-        (told_at old.media (λ media. (image : Image) → MayLeave now image → ChangesBy (IsOfRecord w) (image_of old.sizes media) image) m was writing image may))
+      (told_at old.media (λ media. (image : Image) → MayLeave now image → ChangesBy (IsOfRecord w) (image_of old.sizes media) image) m was writing image may))
 
   pub moments_wider : (old new : Device) → Path DeviceStep (IsWriting w old) old new → Path DeviceStep (IsWriting v old) old new
   moments_wider old new path = map-path (IsWriting v old) (writing_wider old) path

@@ -3,3 +3,4 @@ pub mod Groups
 pub mod Homes
 pub mod Written
 pub mod Parts
+pub mod Shows

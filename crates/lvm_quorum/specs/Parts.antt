@@ -1,7 +1,7 @@
 -- The parts of a write of a record: one disk, and pieces of it.
-use Rattle.std.specs.Prelude.{◌≡◌, ℕ, ◌+◌, ◌-◌, ◌<◌, ◌≤◌, ◌==◌, if◌then◌else◌, Some, IfSome, length, slice_get}
+use Rattle.std.specs.Prelude.{◌≡◌, ℕ, ◌+◌, ◌-◌, ◌<◌, ◌≤◌, ◌==◌, if◌then◌else◌, true, IfSome}
 use Rattle.lvm_num.specs.Buffer.{Buffer}
-use Rattle.lvm_num.specs.Record.{frame, record_sectors, slot_start}
+use Rattle.lvm_num.specs.Record.{frame, slot_start}
 use Rattle.lvm_disk.specs.Counts.{Counts, Rose, RoseAt, RoseBy}
 use Rattle.lvm_disk.specs.Device.{Device}
 use Rattle.lvm_disk.specs.Paths.{DeviceStep, Path}
@@ -33,6 +33,7 @@ CountsEnd disk old new (moved.Failed buf) = RoseAt disk old.faults new.faults ×
 CountsEnd disk old new (moved.Dark started) = (new.faults ≡ old.faults) × Rose old.cuts new.cuts
 CountsEnd disk old new moved.Stuck = (new.faults ≡ old.faults) × (new.cuts ≡ old.cuts)
 
+-- what holds of the buffer, where it ended well
 abbrev pub IfDone : Moved → (Buffer → Type 0) → Type 0
 IfDone (moved.Done buf) P = P buf
 IfDone (moved.Failed buf) P = Unit {0}
@@ -64,6 +65,6 @@ pub record WritesPart (w : RecordWrite) (disk : ℕ) (number before after : ℕ)
   pub counts : CountsEnd disk old.counts new.counts how
   pub rests : Rests new how
   pub spends : Spends before after old new
-  pub stuck : IfStuck how ((new.power ≡ Rattle.std.specs.Prelude.true) × RoseBy before old.counts.waits new.counts.waits)
+  pub stuck : IfStuck how ((new.power ≡ true) × RoseBy before old.counts.waits new.counts.waits)
   pub buffer : IfBack how (λ back. back.number ≡ number)
   pub moments : Path DeviceStep (IsWriting w old) old new

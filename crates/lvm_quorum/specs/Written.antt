@@ -1,12 +1,12 @@
 -- What a write of a record to several disks does, disk by disk.
-use Rattle.std.specs.Prelude.{◌≡◌, ℕ, ◌+◌, ◌-◌, ◌<◌, ◌≤◌, ◌==◌, ◌&&◌, not, nat_lt, true, false, [], if◌then◌else◌, Some, IfSome, IsTrue, IsFalse, length, slice_get}
+use Rattle.std.specs.Prelude.{◌≡◌, ℕ, ◌<◌, ◌≤◌, ◌&&◌, not, nat_lt, true, false, [], Some, IfSome, IsTrue, IsFalse, slice_get}
 use Rattle.lvm_num.specs.declared.record.Kind.{Kind}
 use Rattle.lvm_num.specs.declared.record.Framed.{Framed}
 use Rattle.lvm_num.specs.Buffer.{Buffer}
-use Rattle.lvm_num.specs.Disks.{Disks, has}
+use Rattle.lvm_num.specs.Disks.{Disks}
 use Rattle.lvm_num.specs.Geometry.{data_start}
 use Rattle.lvm_disk.specs.Counts.{Rose, RoseBy}
-use Rattle.lvm_disk.specs.Device.{Image, Device, image_of, MayLeave, IsReady}
+use Rattle.lvm_disk.specs.Device.{Image, Device, image_of, MayLeave}
 use Rattle.lvm_disk.specs.Steps.{BothTold}
 use Rattle.lvm_kept.specs.Plans.{ChangesBy}
 use Rattle.lvm_kept.specs.Torn.{RecordWrite, IsOfRecord, StandsOn}
@@ -59,6 +59,7 @@ written_well targets failed d = targets d && not (failed d)
 
 -- ---- the answers
 
+-- what holds of the disks that failed and the buffer, where it was tried on each disk
 abbrev pub IfEnded : Wrote → (ℕ → Buffer → Type 0) → Type 0
 IfEnded (wrote.Ended failed buf) P = P failed buf
 IfEnded wrote.Dark P = Unit {0}

@@ -2,8 +2,8 @@ use Rattle.std.proofs.Common.{arith, ◌+◌}
 use Rattle.lvm_quorum.specs.Parts.{write_to, PartsStand}
 use Rattle.lvm_num.specs.Buffer.{Buffer}
 use Rattle.lvm_num.specs.Record.{record_sectors}
-use Rattle.std.proofs.Common.{length, subst, ℕ}
-use Rattle.lvm_quorum.proofs.Transfers.{none_written, piece_written, part_then, not_done, still_room}
+use Rattle.std.proofs.Common.{length}
+use Rattle.lvm_quorum.proofs.Transfers.{none_written, piece_written, part_then, not_done}
 use Rattle.lvm_quorum.proofs.write.write_slot.Goals as goal
 
 pub loop-first-init : goal.loop-first-init
