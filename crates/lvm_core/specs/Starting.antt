@@ -77,9 +77,12 @@ pub record IsPlaced (sizes : List ℕ) (mib : ℕ) (row : PvRow) : Type 0 where
   pub there : row.disk < length sizes
   pub within : (size : ℕ) → slice_get sizes row.disk ≡ Some size → sectors_needed mib row.pps ≤ size
 
--- so is each member that the status doesn't call missing
+-- so is each of these members that the status doesn't call missing
+abbrev pub AreAllPlaced : List ℕ → ℕ → List PvRow → Status → Type 0
+AreAllPlaced sizes mib members s = (row : PvRow) → Contains members row → calls_missing s row.disk ≡ false → IsPlaced sizes mib row
+
 abbrev pub ArePlaced : List ℕ → Descriptor → Status → Type 0
-ArePlaced sizes d s = (row : PvRow) → Contains d.pvs row → calls_missing s row.disk ≡ false → IsPlaced sizes d.mib row
+ArePlaced sizes d s = AreAllPlaced sizes d.mib d.pvs s
 
 -- The session that starts with these parts, after these entries and On, and with this stamp as its last.
 abbrev pub first_core : Reserved → Log → Stamp → Homes → Core

@@ -1,8 +1,12 @@
-//! What is looked up in a descriptor.
-ghost use Rattle.std.specs.Prelude.{◌≡◌, IfSome, IfNone};
+//! What is looked up in a group.
+ghost use Rattle.std.specs.Prelude.{◌≡◌, IfSome, IfNone, IsTrue, IsFalse};
+ghost use Rattle.lvm_num.specs.Geometry.{sectors_needed};
 ghost use Rattle.lvm_core.specs.Looking.{IsNumberOf, HasNoVolume};
+ghost use Rattle.lvm_core.specs.Starting.{IsPlaced, AreAllPlaced};
 
-use lvm_num::{LvRow, Name};
+use lvm_disk::Shelf;
+use lvm_num::{LvRow, Name, PvRow};
+use lvm_stale::StaleTable;
 
 // The number of the volume of this name.
 pub fn number_of(volumes: &[LvRow], name: &Name) -> Option<u16>
@@ -15,4 +19,32 @@ pub fn number_of(volumes: &[LvRow], name: &Name) -> Option<u16>
         }
     }
     None
+}
+
+// The sectors that a disk with so many partitions of so many MiB needs.
+fn sectors_needed(mib: u16, pps: u16) -> u64
+    ensures { result ≡ sectors_needed mib pps }
+{
+    4096 + 2048 * u64::from(mib) * u64::from(pps)
+}
+
+// Whether a member's disk is on the shelf, and large enough.
+fn is_placed<S: Shelf>(shelf: &S, mib: u16, row: &PvRow) -> bool
+    ensures yes { IsTrue result → IsPlaced (S.device shelf.now).sizes mib row.now }
+    ensures no { IsFalse result → IsPlaced (S.device shelf.now).sizes mib row.now → ⊥ }
+{
+    row.disk < shelf.disks() && sectors_needed(mib, row.pps) <= shelf.sectors(row.disk)
+}
+
+// Whether the disks of the members that aren't missing are.
+pub fn are_placed<S: Shelf>(shelf: &S, mib: u16, members: &[PvRow], table: &StaleTable) -> bool
+    ensures yes { IsTrue result → AreAllPlaced (S.device shelf.now).sizes mib members.now table.now }
+    ensures no { IsFalse result → AreAllPlaced (S.device shelf.now).sizes mib members.now table.now → ⊥ }
+{
+    for row in members {
+        if !table.is_missing(row.disk) && !is_placed(shelf, mib, row) {
+            return false;
+        }
+    }
+    true
 }

@@ -1,5 +1,5 @@
 //! The memory of a session, which is taken before it starts.
-ghost use Rattle.std.specs.Prelude.{◌≡◌, ◌≤◌, ◌||◌, ◌==◌, ℕ, [], IfOk, vec_capacity};
+ghost use Rattle.std.specs.Prelude.{◌≡◌, ◌≤◌, ◌||◌, ◌==◌, ℕ, [], IfOk, IsTrue, IsFalse, vec_capacity};
 ghost use Rattle.std.specs.List.{list_any};
 ghost use Rattle.lvm_num.specs.declared.descriptor.PvRow.{PvRow};
 ghost use Rattle.lvm_num.specs.Descriptor.{IsValid, is_member};
@@ -8,8 +8,10 @@ ghost use Rattle.lvm_num.specs.Status.{IsValidStatus};
 ghost use Rattle.lvm_vol.specs.Log.{spare_entries};
 ghost use Rattle.lvm_status.specs.Members.{HasItsRows};
 
+use crate::look::are_placed;
 use crate::request::{Open, Power};
 use crate::session::Session;
+use lvm_disk::Shelf;
 use lvm_hold::Queue;
 use lvm_mwc::Cache;
 use lvm_num::{Descriptor, DiskSet, Memory, Stamp};
@@ -61,7 +63,7 @@ impl Model for Parts {
 }
 
 impl Parts {
-    ghost use Rattle.lvm_core.specs.Starting.{IsRoom, IsOneGroup, IsReservedFor, AreReserved, first_core};
+    ghost use Rattle.lvm_core.specs.Starting.{IsRoom, IsOneGroup, IsReservedFor, AreReserved, ArePlaced, first_core};
     ghost use Rattle.lvm_core.specs.Fields.{core_of};
 
     /// Takes all the memory of a session of the group that was chosen. It begins with the status of
@@ -95,6 +97,16 @@ impl Parts {
             }),
             Err(_) => Err(Memory),
         }
+    }
+
+    /// Whether the disks of the members that aren't missing are on a shelf, each with the sectors that its
+    /// partitions need.
+    pub fn are_placed<S: Shelf>(&self, shelf: &S) -> bool
+        ensures yes { IsTrue result → ArePlaced (S.device shelf.now).sizes self.now.descriptor self.now.status.wanted }
+        ensures no { IsFalse result → ArePlaced (S.device shelf.now).sizes self.now.descriptor self.now.status.wanted → ⊥ }
+    {
+        let members = self.descriptor.pvs.as_slice();
+        are_placed(shelf, self.descriptor.mib, members, self.updater.wanted())
     }
 
     // The session that begins with them, whose moment of varyon is the epoch of the stamp.
