@@ -19,3 +19,5 @@ pub use survey::{Surveyed, survey_disks};
 
 #[cfg(test)]
 mod choice_tests;
+#[cfg(test)]
+mod survey_tests;
