@@ -19,4 +19,6 @@ pub use write::{Wrote, write_record};
 #[cfg(test)]
 mod choice_tests;
 #[cfg(test)]
+mod survey_tests;
+#[cfg(test)]
 mod write_tests;
