@@ -1,5 +1,5 @@
 -- A survey of disks one after the other.
-use Rattle.std.proofs.Common.{◌≡◌, ◌⊎◌, inl, inr, ◌<◌, ◌≤◌, ◌+◌, ◌++◌, [], ◌∷◌, ℕ, List, Option, Some, IfSome, true, false, length, slice_get, refl, sym, ◌∙◌, ap, subst, arith}
+use Rattle.std.proofs.Common.{◌≡◌, inl, inr, ◌≤◌, ◌+◌, ◌++◌, [], ◌∷◌, ℕ, List, Option, Some, IfSome, length, slice_get, refl, sym, ◌∙◌, subst, arith}
 use Rattle.std.proofs.lemmas.List.{length-append}
 use Rattle.lvm_disk.specs.Counts.{Rose}
 use Rattle.lvm_disk.specs.Device.{Media, Device, IsReady, image_of}

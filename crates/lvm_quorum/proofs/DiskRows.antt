@@ -1,19 +1,18 @@
 -- The row of a disk, as its sectors say it.
-use Rattle.std.proofs.Common.{◌≡◌, ◌⊎◌, inl, inr, ◌+◌, ◌<◌, ◌≤◌, ◌++◌, [], ◌∷◌, ℕ, zero, suc, List, Bool, true, false, Option, Some, None, IfSome, length, slice_get, slice_index_or, refl, sym, ◌∙◌, ap, subst, arith}
+use Rattle.std.proofs.Common.{◌≡◌, ◌⊎◌, inl, inr, ◌<◌, ◌≤◌, ◌++◌, [], ◌∷◌, ℕ, zero, suc, List, Bool, true, false, Some, None, length, slice_get, slice_index_or, refl, sym, ◌∙◌, ap, subst, arith}
 use Rattle.std.specs.Prelude.{◌&&◌, nat_le, nat_lt, if◌then◌else◌, Result, option_map}
 use Rattle.lvm_rec.specs.Note.{noted_of}
 use Rattle.std.proofs.lemmas.Bool.Decides.{nat_tests}
 use Rattle.lvm_num.specs.declared.record.Kind.{Kind}
 use Rattle.lvm_num.specs.declared.record.Kind.TheVariants as kind
-use Rattle.lvm_num.specs.Buffer.{Sector}
 use Rattle.lvm_num.specs.DescriptorBytes.{descriptor_of}
 use Rattle.lvm_num.specs.Note.{note_in}
-use Rattle.lvm_num.specs.Record.{Stamped, newer}
+use Rattle.lvm_num.specs.Record.{newer}
 use Rattle.lvm_num.specs.StatusBytes.{status_of}
 use Rattle.lvm_num.specs.Torn.{Sectors}
 use Rattle.lvm_rec.specs.Slots.{held, newest_on, slot_of}
 use Rattle.lvm_disk.specs.Device.{Image, Media, Device, image_of}
-use Rattle.lvm_kept.specs.Contents.{has_records, newest_at, descriptor_on, status_on, note_on}
+use Rattle.lvm_kept.specs.Contents.{has_records, descriptor_on, status_on, note_on}
 use Rattle.lvm_quorum.specs.declared.area.RecordArea.{RecordArea}
 use Rattle.lvm_quorum.specs.declared.row.SurveyRow.{SurveyRow}
 use Rattle.lvm_quorum.specs.Surveyed.{home_of, home_on, under, IsEmpty, IsRead}

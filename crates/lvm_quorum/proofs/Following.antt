@@ -1,5 +1,5 @@
 -- Reads of a disk's records that follow each other.
-use Rattle.std.proofs.Common.{◌≡◌, ◌+◌, ◌-◌, ◌<◌, ◌≤◌, ℕ, List, length, Option, Some, IfSome, slice_get, slice_index_or, refl, sym, ◌∙◌, ap, subst, arith}
+use Rattle.std.proofs.Common.{◌≡◌, ◌+◌, ◌-◌, ◌<◌, ◌≤◌, ℕ, List, length, Option, Some, IfSome, slice_get, slice_index_or, refl, sym, ◌∙◌, subst, arith}
 use Rattle.lvm_disk.specs.Counts.{Rose, RoseBy}
 use Rattle.lvm_disk.specs.Device.{Media, Device, IsReady}
 use Rattle.lvm_disk.specs.Paths.{Here}
@@ -9,7 +9,7 @@ use Rattle.lvm_quorum.specs.declared.area.Stop.{Stop}
 use Rattle.lvm_quorum.specs.declared.area.Stop.TheVariants as stop
 use Rattle.lvm_quorum.specs.declared.area.Unread.{Unread}
 use Rattle.lvm_quorum.specs.declared.area.Unread.TheVariants as unread
-use Rattle.lvm_quorum.specs.Surveying.{IsUnwritten, IsUntouched, OnlyReads, IsRested, IsCutOff, IsStuck, AllWereRead, OneFailed, StopGives, UnreadGives}
+use Rattle.lvm_quorum.specs.Surveying.{IsUntouched, OnlyReads, IsRested, IsStuck, AllWereRead, StopGives, UnreadGives}
 use Rattle.lvm_quorum.proofs.Joining.{or_got}
 use Rattle.lvm_quorum.proofs.Transferring.{unwritten_more}
 

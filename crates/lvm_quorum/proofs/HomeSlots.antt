@@ -1,6 +1,6 @@
 -- The disks whose newest record stands in slot 0, row by row.
-use Rattle.std.proofs.Common.{◌≡◌, inl, inr, ℕ, ◌+◌, ◌<◌, ◌≤◌, Bool, true, false, ◌&&◌, ◌||◌, length, List, [], ◌∷◌, Option, Some, None, Result, refl, sym, ap, ◌∙◌, arith}
-use Rattle.std.specs.Prelude.{◌==◌, nat_lt, if◌then◌else◌, slice_get, slice_index}
+use Rattle.std.proofs.Common.{◌≡◌, inl, inr, ℕ, ◌<◌, ◌≤◌, Bool, true, false, ◌&&◌, length, Option, Some, refl, sym, ap, ◌∙◌, arith}
+use Rattle.std.specs.Prelude.{◌==◌, nat_lt, slice_get}
 use Rattle.std.specs.Option.{option_map_or}
 use Rattle.std.proofs.lemmas.Bool.{cases_lt}
 use Rattle.std.proofs.lemmas.Bool.Decides.{nat_tests}
@@ -22,8 +22,10 @@ all_homes kind s n set all pass d = elim (cases_lt d n) [
   where
     lt_yes : (d n : ℕ) → d < n → nat_lt d n ≡ true
     lt_yes d n e = grind (arith, nat_tests)
+
     and_no : (b : Bool) → (b && false) ≡ false
     and_no true = refl
     and_no false = refl
+
     past_rows : (kind : Kind) (s : Survey) (d : ℕ) → length s.rows ≤ d → in_first_slot kind s d ≡ false
     past_rows kind s d past = ap (λ (o : Option SurveyRow). option_map_or (λ (r : SurveyRow). home_by kind r == 0) o false) (slice_get_past s.rows d past)

@@ -1,5 +1,5 @@
 -- Bytes of sectors that follow each other.
-use Rattle.std.proofs.Common.{◌≡◌, ◌+◌, ◌<◌, ◌++◌, [], ◌∷◌, ℕ, zero, suc, List, Option, Some, None, IfSome, slice_get, slice_index_or, append-nil, append_assoc, refl, sym, ◌∙◌, ap, subst, arith}
+use Rattle.std.proofs.Common.{◌≡◌, ◌+◌, ◌<◌, ◌++◌, [], ◌∷◌, ℕ, zero, suc, List, Option, Some, None, IfSome, slice_get, slice_index_or, append-nil, append_assoc, sym, ◌∙◌, ap, arith}
 use Rattle.lvm_num.specs.Buffer.{Sector}
 use Rattle.lvm_num.specs.Record.{joined}
 use Rattle.lvm_rec.proofs.SlotLemmas.{joined-more, joined-none}
@@ -38,9 +38,9 @@ or_got (y ∷ xs) (suc i) default x is = or_got xs i default x is
 -- the front of a buffer that has what stands on a disk
 pub joined-read : (xs : List Sector) (f : ℕ → Sector) (first n : ℕ) → ((i : ℕ) → i < n → slice_get xs i ≡ Some (f (first + i))) → joined (λ i. slice_index_or xs i []) 0 n ≡ joined f first n
 joined-read xs f first n has = joined-shifted (λ i. slice_index_or xs i []) f 0 first n (λ k lt.
-  let place : 0 + k ≡ k = omega arith in
-  ap (λ j. slice_index_or xs j []) place ∙ or_got xs k [] (f (first + k)) (has k lt)
-)
+    let place : 0 + k ≡ k = omega arith in
+    ap (λ j. slice_index_or xs j []) place ∙ or_got xs k [] (f (first + k)) (has k lt)
+    )
 
 -- bytes so far, and one piece more
 pub joined-so-far : (f : ℕ → List ℕ) (first done piece : ℕ) (bytes more : List ℕ) → bytes ≡ joined f first done → more ≡ bytes ++ joined f (first + done) piece → more ≡ joined f first (done + piece)

@@ -14,5 +14,7 @@ pub mod ShownValid
 pub mod Writing
 pub mod Pieces
 pub mod Transfers
+pub mod Tried
 pub mod Disks
 pub mod HomeSlots
+pub mod Emptying

@@ -1,9 +1,10 @@
 -- One transfer of sectors of a record, and one after another.
-use Rattle.std.proofs.Common.{◌≡◌, ◌⊎◌, inl, inr, ⊎_elim, ℕ, ◌+◌, ◌-◌, ◌<◌, ◌≤◌, Bool, true, false, List, [], ◌∷◌, ◌++◌, Option, Some, None, length, slice_get, IfSome, IsTrue, IsFalse, refl, sym, ◌∙◌, ap, subst, arith, eq-eqb, unwrap_or}
+use Rattle.std.proofs.Common.{◌≡◌, inl, inr, ℕ, ◌+◌, ◌-◌, ◌<◌, ◌≤◌, Bool, true, false, [], Option, Some, None, length, slice_get, IsTrue, IsFalse, refl, sym, ◌∙◌, ap, subst, arith, eq-eqb}
 use Rattle.std.specs.Prelude.{◌==◌, ◌&&◌, nat_le, nat_lt, if◌then◌else◌}
-use Rattle.std.proofs.lemmas.Bool.{eqb-true, ltb-true, leb-true, cases_lt}
+use Rattle.std.proofs.lemmas.Bool.{eqb-true, ltb-true, leb-true}
 use Rattle.std.proofs.lemmas.Bool.Decides.{nat_tests}
-use Rattle.lvm_num.specs.Buffer.{Buffer, Sector}
+use Rattle.lvm_num.specs.Buffer.{Buffer}
+use Rattle.lvm_num.specs.Disks.{Disks}
 use Rattle.lvm_num.specs.Record.{frame, slot_start, record_sectors}
 use Rattle.lvm_disk.specs.Counts.{Counts, Rose, RoseAt, RoseBy}
 use Rattle.lvm_disk.specs.Device.{Media, Flight, Device, IsReady, written, image_of}
@@ -11,18 +12,18 @@ use Rattle.lvm_disk.specs.Steps.{BothTold, Cuts, CountsFailure, IsRecordRead, Is
 use Rattle.lvm_disk.specs.Paths.{DeviceStep, Path}
 use Rattle.lvm_disk.proofs.Paths.{map-path, last-path}
 use Rattle.lvm_kept.specs.Raw.{OnlyAdds}
-use Rattle.lvm_kept.specs.Plans.{ChangesBy, IsPlanned}
-use Rattle.lvm_kept.specs.Torn.{RecordWrite, IsOfRecord}
+use Rattle.lvm_kept.specs.Plans.{Plan, IsPlanned}
+use Rattle.lvm_kept.specs.Torn.{IsOfRecord}
 use Rattle.lvm_kept.proofs.Records.{never}
 use Rattle.lvm_move.specs.Transfer.{IsOut, TransferGives, Rests, flight_of}
 use Rattle.lvm_move.specs.declared.moves.Moved.{Moved}
 use Rattle.lvm_move.specs.declared.moves.Moved.TheVariants as moved
 use Rattle.lvm_move.proofs.Ending.{one_left}
-use Rattle.lvm_move.proofs.Effects.{out_flights, done_effect}
+use Rattle.lvm_move.proofs.Effects.{out_flights}
 use Rattle.lvm_quorum.specs.declared.write.SlotWrite.{SlotWrite}
-use Rattle.lvm_quorum.specs.Written.{IsWriting, KeepsShelf}
-use Rattle.lvm_quorum.specs.Parts.{write_to, PartsStand, CountsEnd, IfStuck, IfBack, Spends, WritesPart}
-use Rattle.lvm_quorum.proofs.Writing.{told_at, both_map, adds_writing, media_written, stand_told}
+use Rattle.lvm_quorum.specs.Written.{IsWriting}
+use Rattle.lvm_quorum.specs.Parts.{write_to, CountsEnd, IfStuck, IfBack, DoesPart}
+use Rattle.lvm_quorum.proofs.Writing.{both_map, adds_writing, media_written}
 
 -- ---- the flight
 
@@ -195,15 +196,15 @@ effect before old new ticket disk first count buf moved.Stuck none (out, waits) 
 
 -- ---- a piece
 
-module _ (w : RecordWrite) (disk number before after : ℕ) (old new : Device) (how : Moved) (ticket first count : ℕ) (buf : Buffer) where
+module _ (targets : Disks) (P : Plan) (disk number before after : ℕ) (old new : Device) (how : Moved) (ticket first count : ℕ) (buf : Buffer) where
   pub piece_part :
-      IsReady old → number ≡ buf.number → IsTrue (w.targets disk) → IsPlanned (IsOfRecord w) (flight_of 0 true disk first count buf)
+      IsReady old → number ≡ buf.number → IsTrue (targets disk) → IsPlanned P (flight_of 0 true disk first count buf)
       → TransferGives before old new (flight_of ticket true disk first count buf) how → Rests new how → after ≤ before → RoseBy (before - after) old.counts.waits new.counts.waits
-      → Path DeviceStep (OnlyAdds (flight_of 0 true disk first count buf) old) old new → WritesPart w disk number before after old new how
+      → Path DeviceStep (OnlyAdds (flight_of 0 true disk first count buf) old) old new → DoesPart targets P disk number before after old new how
   piece_part ready same target planned gives rests falls waits path =
       let done = effect before old new ticket disk first count buf how ready.flights gives in
-      let moments = map-path (IsWriting w old) (λ x. adds_writing w (flight_of 0 true disk first count buf) old x ready.flights planned) path in
-      let other : (d : ℕ) → IsFalse (w.targets d) → d ≡ disk → ⊥ = λ d off here. never (w.targets disk) target (subst (λ (x : ℕ). IsFalse (w.targets x)) here off) in
+      let moments = map-path (IsWriting P old) (λ x. adds_writing P (flight_of 0 true disk first count buf) old x ready.flights planned) path in
+      let other : (d : ℕ) → IsFalse (targets d) → d ≡ disk → ⊥ = λ d off here. never (targets disk) target (subst (λ (x : ℕ). IsFalse (targets x)) here off) in
       record {
         keeps = record {
           sizes = done.sizes;
@@ -212,7 +213,7 @@ module _ (w : RecordWrite) (disk number before after : ℕ) (old new : Device) (
           misses = done.misses;
           starts = λ d off. done.starts d (other d off);
           faults = λ d off. done.faults d (other d off);
-          media = media_written w old new done.told (last-path moments);
+          media = media_written P old new done.told (last-path moments);
         };
         counts = done.counts;
         rests = rests;

@@ -1,12 +1,12 @@
 -- The records that disks of whole sectors show.
-use Rattle.std.proofs.Common.{◌≡◌, ◌⊎◌, inl, inr, ⊎_elim, ◌+◌, ◌*◌, ◌<◌, ◌≤◌, ◌++◌, [], ◌∷◌, ℕ, zero, suc, List, Bool, true, false, Option, Some, None, Result, Ok, Err, option_and_then, get_or, take, drop, refl, sym, ◌∙◌, ap, subst, arith}
+use Rattle.std.proofs.Common.{◌≡◌, ⊎_elim, ◌+◌, ◌*◌, ◌<◌, ◌≤◌, ◌++◌, [], ◌∷◌, ℕ, zero, suc, List, Bool, true, false, Option, Some, None, Result, Ok, Err, option_and_then, get_or, take, drop, refl, ap, subst, arith}
 use Rattle.std.specs.Prelude.{◌&&◌, nat_le, nat_lt, if◌then◌else◌}
 use Rattle.std.proofs.lemmas.Bool.Decides.{nat_tests}
 use Rattle.lvm_num.specs.declared.record.Framed.{Framed}
 use Rattle.lvm_num.specs.declared.record.Kind.{Kind}
 use Rattle.lvm_num.specs.declared.record.Kind.TheVariants as kind
 use Rattle.lvm_num.specs.declared.record.Stamp.{Stamp}
-use Rattle.lvm_num.specs.Record.{Stamped, announced, joined, may_be, newer, payload_of, record_in, record_sectors, slot_size, slot_start}
+use Rattle.lvm_num.specs.Record.{Stamped, announced, joined, may_be, payload_of, record_in, slot_size, slot_start}
 use Rattle.lvm_num.proofs.Newest.{of_two}
 use Rattle.lvm_num.proofs.Records.{both_true, bytes-drop, bytes-take, then_is}
 use Rattle.lvm_rec.specs.Slots.{held, newest_on, read_under, slot_of}

@@ -1,5 +1,5 @@
 -- One read of a disk's records on a shelf at rest.
-use Rattle.std.proofs.Common.{◌≡◌, ◌⊎◌, inl, inr, ⊎_elim, ◌-◌, ◌<◌, ◌≤◌, ◌++◌, [], ◌∷◌, ℕ, List, Bool, Option, true, false, Some, None, IfSome, slice_get, slice_index_or, refl, sym, ◌∙◌, ap, subst, arith}
+use Rattle.std.proofs.Common.{◌≡◌, ◌⊎◌, inl, inr, ⊎_elim, ◌-◌, ◌<◌, ◌≤◌, ◌++◌, [], ◌∷◌, ℕ, List, Bool, Option, true, false, Some, None, IfSome, slice_index_or, refl, sym, ◌∙◌, ap, subst}
 use Rattle.lvm_num.specs.Buffer.{Buffer, Sector}
 use Rattle.lvm_num.specs.Record.{joined}
 use Rattle.lvm_disk.specs.Counts.{Rose, RoseBy, Counts}
@@ -11,10 +11,10 @@ use Rattle.lvm_disk.proofs.Paths.{map-path}
 use Rattle.lvm_kept.specs.Raw.{OnlyAdds}
 use Rattle.lvm_move.specs.declared.moves.Moved.{Moved}
 use Rattle.lvm_move.specs.declared.moves.Moved.TheVariants as moved
-use Rattle.lvm_move.specs.Transfer.{IsOut, Rests, TransferGives, flight_of}
+use Rattle.lvm_move.specs.Transfer.{IsOut, TransferGives, flight_of}
 use Rattle.lvm_move.proofs.Effects.{DoneEffect, done_effect, out_flights}
 use Rattle.lvm_move.proofs.Ending.{one_left}
-use Rattle.lvm_quorum.specs.Surveying.{IsUnwritten, IsUntouched, IsRested, IsCutOff, IsStuck, AllWereRead, OneFailed, OnlyReads}
+use Rattle.lvm_quorum.specs.Surveying.{IsUnwritten, IsUntouched, IsCutOff, IsStuck, AllWereRead, OneFailed, OnlyReads}
 use Rattle.lvm_quorum.proofs.Joining.{joined-read}
 
 -- media of which each sector is the same are the same
@@ -48,6 +48,7 @@ adds_nothing disk first count buf old new adds image may =
   where
     brings_none : (before image : Image) → DiffersBy (flight_of 0 false disk first count buf) before image → (d s : ℕ) → image.sector d s ≡ before.sector d s
     brings_none before image differs d s = ⊎_elim (λ same. same) (λ put. absurd (cc (put))) (differs.each d s)
+
     as_before : (m : Option Media) (before image : Image) → MayLeave (record old { media = m }) before → DiffersBy (flight_of 0 false disk first count buf) before image → MayLeave (record old { media = m }) image
     as_before None before image may differs = absurd may
     as_before (Some m) before image may differs = record {
@@ -66,7 +67,7 @@ module _ (patience ticket disk first count : ℕ) (buf : Buffer) (old : Device) 
 
   -- while it is out
   module _ (now : Device) (out : IsOut old now f) where
-    of_begun : {X : Type 0} (field : Device → X) → field (record out.begun { counts = record out.begun.counts { waits = now.counts.waits } }) ≡ field (record old { flights = old.flights ++ f ∷ []; counts = record old.counts { starts = out.begun.counts.starts; waits = now.counts.waits }; wrote = out.begun.wrote }) 
+    of_begun : {X : Type 0} (field : Device → X) → field (record out.begun { counts = record out.begun.counts { waits = now.counts.waits } }) ≡ field (record old { flights = old.flights ++ f ∷ []; counts = record old.counts { starts = out.begun.counts.starts; waits = now.counts.waits }; wrote = out.begun.wrote })
     of_begun field = ap (λ (d : Device). field (record d { counts = record d.counts { waits = now.counts.waits } })) out.starts.new_is
 
     now_is : {X : Type 0} (field : Device → X) → field now ≡ field (record old { flights = old.flights ++ f ∷ []; counts = record old.counts { starts = out.begun.counts.starts; waits = now.counts.waits }; wrote = out.begun.wrote })

@@ -7,3 +7,4 @@ pub mod Laws
 pub mod Homes
 pub mod Written
 pub mod Parts
+pub mod Notes

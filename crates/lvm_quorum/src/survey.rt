@@ -158,12 +158,7 @@ fn empty_row(disk: u16, sectors: u64, failed: bool) -> SurveyRow
 }
 
 // The row of a disk on which these bytes stand.
-fn row_of(
-    alloc: Global,
-    disk: u16,
-    sectors: u64,
-    area: &RecordArea,
-) -> Result<SurveyRow, Memory>
+fn row_of(alloc: Global, disk: u16, sectors: u64, area: &RecordArea) -> Result<SurveyRow, Memory>
     ensures is { IfOk result (λ row. (row.disk ≡ disk) × (row.sectors ≡ sectors) × (row.failed ≡ false)) }
     ensures found { IfOk result (IsRowOf area.now) }
     ensures valid { IfOk result IsRowValid }

@@ -22,7 +22,7 @@ const LAST: Stamp = Stamp { epoch: 50, seq: 3 };
 const LONG: usize = 571_388;
 
 // Two disks with just the room for records.
-fn shelf(alloc: Global, plan: &[Planned]) -> Result<MemShelf, Fail> {
+pub fn shelf(alloc: Global, plan: &[Planned]) -> Result<MemShelf, Fail> {
     if !names_disks(plan, 2) {
         return Err("no such disk".into());
     }
@@ -38,7 +38,7 @@ fn replan(alloc: Global, shelf: &mut MemShelf, plan: &[Planned]) -> Result<(), F
     Ok(())
 }
 
-fn at(call: u64, act: Act) -> Planned {
+pub fn at(call: u64, act: Act) -> Planned {
     Planned { call, act }
 }
 
@@ -58,7 +58,7 @@ fn content(alloc: Global, len: usize, last: u8) -> Result<Rows<u8>, Fail> {
 }
 
 // All disks, where each has room for records.
-fn all_disks<S: Shelf>(shelf: &S) -> Option<DiskSet>
+pub fn all_disks<S: Shelf>(shelf: &S) -> Option<DiskSet>
     ensures { IfSome result (λ disks. HaveRoom (S.device shelf.now) (has disks)) }
 {
     let mut disks = DiskSet::empty();
@@ -73,7 +73,7 @@ fn all_disks<S: Shelf>(shelf: &S) -> Option<DiskSet>
 
 // How a write to all disks ended.
 #[derive(Clone, Copy, Debug, PartialEq, Eq)]
-enum End {
+pub enum End {
     Ended { failed: [bool; 2] },
     Dark,
     Stuck,
@@ -96,14 +96,16 @@ fn write<S: Shelf>(
         return Err("no record".into());
     }
     let buf = Pbuf::fresh(alloc, 9)?;
-    Ok(match write_record(shelf, kind, stamp, content, targets, homes, buf, patience) {
-        Wrote::Ended { failed, buf } if buf.number() == 9 => End::Ended {
-            failed: [failed.has(0), failed.has(1)],
+    Ok(
+        match write_record(shelf, kind, stamp, content, targets, homes, buf, patience) {
+            Wrote::Ended { failed, buf } if buf.number() == 9 => End::Ended {
+                failed: [failed.has(0), failed.has(1)],
+            },
+            Wrote::Ended { .. } => return Err("another buffer".into()),
+            Wrote::Dark => End::Dark,
+            Wrote::Stuck => End::Stuck,
         },
-        Wrote::Ended { .. } => return Err("another buffer".into()),
-        Wrote::Dark => End::Dark,
-        Wrote::Stuck => End::Stuck,
-    })
+    )
 }
 
 fn longest(kind: Kind) -> usize
@@ -132,17 +134,20 @@ fn held(
         (Kind::Status, false) => (64, 128),
         (Kind::Status, true) => (128, 192),
     };
-    let slot = shelf.image(disk).get(first * 512..end * 512).ok_or("a slot")?;
+    let slot = shelf
+        .image(disk)
+        .get(first * 512..end * 512)
+        .ok_or("a slot")?;
     let framed = read_slot(alloc, kind, slot)?;
-    Ok(framed.and_then(|framed| framed.content.as_slice().last().map(|last| (framed.stamp, *last))))
+    Ok(framed.and_then(|framed| framed
+        .content
+        .as_slice()
+        .last()
+        .map(|last| (framed.stamp, *last))))
 }
 
 // What the slots of a kind hold on both disks, slot 0 before slot 1.
-fn all_held(
-    alloc: Global,
-    shelf: &MemShelf,
-    kind: Kind,
-) -> Result<[Option<(Stamp, u8)>; 4], Fail> {
+fn all_held(alloc: Global, shelf: &MemShelf, kind: Kind) -> Result<[Option<(Stamp, u8)>; 4], Fail> {
     Ok([
         held(alloc, shelf, 0, kind, false)?,
         held(alloc, shelf, 0, kind, true)?,
@@ -154,7 +159,12 @@ fn all_held(
 // Whether the next write of each kind goes to slot 1: the descriptor on both disks, then the status.
 fn second(homes: &Homes) -> [bool; 4] {
     let Homes { descriptor, status } = *homes;
-    [descriptor.has(0), descriptor.has(1), status.has(0), status.has(1)]
+    [
+        descriptor.has(0),
+        descriptor.has(1),
+        status.has(0),
+        status.has(1),
+    ]
 }
 
 const WELL: End = End::Ended {
@@ -170,11 +180,17 @@ fn a_record_goes_to_both_slots_in_turn(rt: HostRuntime) -> Result<(), Fail> {
     for (stamp, last) in [(FIRST, 1), (LATER, 2), (LAST, 3)] {
         let content = content(alloc, 600, last)?;
         let record = (Kind::Status, stamp, content.as_slice());
-        assert_eq!(rt; write(alloc, &mut shelf, record, &mut homes, &mut patience)?, WELL);
+        assert_eq!(rt;
+            write(alloc, &mut shelf, record, &mut homes, &mut patience)?,
+            WELL
+        );
     }
     let third = Some((LAST, 3));
     let two = Some((LATER, 2));
-    assert_eq!(rt; all_held(alloc, &shelf, Kind::Status)?, [third, two, third, two]);
+    assert_eq!(rt;
+        all_held(alloc, &shelf, Kind::Status)?,
+        [third, two, third, two]
+    );
     assert_eq!(rt; all_held(alloc, &shelf, Kind::Descriptor)?, [None; 4]);
     assert_eq!(rt; second(&homes), [false, false, true, true]);
     assert_eq!(rt; patience.left, 1_000_000);
@@ -192,16 +208,28 @@ fn a_disk_that_fails_is_named_and_keeps_its_slot(rt: HostRuntime) -> Result<(), 
     let failed = End::Ended {
         failed: [true, false],
     };
-    assert_eq!(rt; write(alloc, &mut shelf, record, &mut homes, &mut patience)?, failed);
+    assert_eq!(rt;
+        write(alloc, &mut shelf, record, &mut homes, &mut patience)?,
+        failed
+    );
     assert_eq!(rt; second(&homes), [false, true, false, false]);
     let written = Some((FIRST, 1));
-    assert_eq!(rt; all_held(alloc, &shelf, Kind::Descriptor)?, [None, None, written, None]);
+    assert_eq!(rt;
+        all_held(alloc, &shelf, Kind::Descriptor)?,
+        [None, None, written, None]
+    );
     replan(alloc, &mut shelf, &[at(5, Act::Heal(0))])?;
     let two = content(alloc, 0, 2)?;
     let record = (Kind::Descriptor, LATER, two.as_slice());
-    assert_eq!(rt; write(alloc, &mut shelf, record, &mut homes, &mut patience)?, WELL);
+    assert_eq!(rt;
+        write(alloc, &mut shelf, record, &mut homes, &mut patience)?,
+        WELL
+    );
     let later = Some((LATER, 2));
-    assert_eq!(rt; all_held(alloc, &shelf, Kind::Descriptor)?, [later, None, written, later]);
+    assert_eq!(rt;
+        all_held(alloc, &shelf, Kind::Descriptor)?,
+        [later, None, written, later]
+    );
     assert_eq!(rt; second(&homes), [true, false, false, false]);
     Ok(())
 }
@@ -214,9 +242,15 @@ fn a_long_record_is_written_piece_by_piece(rt: HostRuntime) -> Result<(), Fail> 
     let mut patience = Patience::whole();
     let long = content(alloc, LONG - 1, 1)?;
     let record = (Kind::Descriptor, FIRST, long.as_slice());
-    assert_eq!(rt; write(alloc, &mut shelf, record, &mut homes, &mut patience)?, WELL);
+    assert_eq!(rt;
+        write(alloc, &mut shelf, record, &mut homes, &mut patience)?,
+        WELL
+    );
     let whole = Some((FIRST, 1));
-    assert_eq!(rt; all_held(alloc, &shelf, Kind::Descriptor)?, [whole, None, whole, None]);
+    assert_eq!(rt;
+        all_held(alloc, &shelf, Kind::Descriptor)?,
+        [whole, None, whole, None]
+    );
     // a start and a reap for each of five pieces on each disk
     assert_eq!(rt; shelf.calls(), 20);
     Ok(())
@@ -233,10 +267,16 @@ fn after_a_piece_that_failed_the_rest_of_the_disk_is_left_out(rt: HostRuntime) -
     let failed = End::Ended {
         failed: [true, false],
     };
-    assert_eq!(rt; write(alloc, &mut shelf, record, &mut homes, &mut patience)?, failed);
+    assert_eq!(rt;
+        write(alloc, &mut shelf, record, &mut homes, &mut patience)?,
+        failed
+    );
     assert_eq!(rt; shelf.calls(), 16);
     let whole = Some((FIRST, 1));
-    assert_eq!(rt; all_held(alloc, &shelf, Kind::Descriptor)?, [None, None, whole, None]);
+    assert_eq!(rt;
+        all_held(alloc, &shelf, Kind::Descriptor)?,
+        [None, None, whole, None]
+    );
     assert_eq!(rt; second(&homes), [false, true, false, false]);
     Ok(())
 }
@@ -249,19 +289,38 @@ fn a_cut_in_the_middle_leaves_the_record_before(rt: HostRuntime) -> Result<(), F
     let mut patience = Patience::whole();
     let one = content(alloc, LONG - 1, 1)?;
     let record = (Kind::Descriptor, FIRST, one.as_slice());
-    assert_eq!(rt; write(alloc, &mut shelf, record, &mut homes, &mut patience)?, WELL);
+    assert_eq!(rt;
+        write(alloc, &mut shelf, record, &mut homes, &mut patience)?,
+        WELL
+    );
     // the power is cut while the third piece of the second disk is out, of which every other sector lands
-    replan(alloc, &mut shelf, &[at(36, Act::Cut(0xaaaa_aaaa_aaaa_aaaa))])?;
+    replan(
+        alloc,
+        &mut shelf,
+        &[at(36, Act::Cut(0xaaaa_aaaa_aaaa_aaaa))],
+    )?;
     let two = content(alloc, LONG - 1, 2)?;
     let record = (Kind::Descriptor, LATER, two.as_slice());
-    assert_eq!(rt; write(alloc, &mut shelf, record, &mut homes, &mut patience)?, End::Dark);
+    assert_eq!(rt;
+        write(alloc, &mut shelf, record, &mut homes, &mut patience)?,
+        End::Dark
+    );
     assert_eq!(rt; shelf.calls(), 36);
     let was = Some((FIRST, 1));
     let later = Some((LATER, 2));
-    assert_eq!(rt; all_held(alloc, &shelf, Kind::Descriptor)?, [was, later, was, None]);
+    assert_eq!(rt;
+        all_held(alloc, &shelf, Kind::Descriptor)?,
+        [was, later, was, None]
+    );
     assert_eq!(rt; second(&homes), [false, true, false, false]);
-    assert_eq!(rt; write(alloc, &mut shelf, record, &mut homes, &mut patience)?, WELL);
-    assert_eq!(rt; all_held(alloc, &shelf, Kind::Descriptor)?, [later, later, was, later]);
+    assert_eq!(rt;
+        write(alloc, &mut shelf, record, &mut homes, &mut patience)?,
+        WELL
+    );
+    assert_eq!(rt;
+        all_held(alloc, &shelf, Kind::Descriptor)?,
+        [later, later, was, later]
+    );
     Ok(())
 }
 
@@ -274,7 +333,10 @@ fn nothing_is_heard_until_the_patience_has_run_out(rt: HostRuntime) -> Result<()
     let mut patience = Patience { left: 5 };
     let one = content(alloc, 0, 1)?;
     let record = (Kind::Status, FIRST, one.as_slice());
-    assert_eq!(rt; write(alloc, &mut shelf, record, &mut homes, &mut patience)?, End::Stuck);
+    assert_eq!(rt;
+        write(alloc, &mut shelf, record, &mut homes, &mut patience)?,
+        End::Stuck
+    );
     assert_eq!(rt; patience.left, 0);
     assert_eq!(rt; shelf.calls(), 8);
     assert_eq!(rt; second(&homes), [false, false, true, false]);

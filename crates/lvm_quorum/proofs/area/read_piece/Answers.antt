@@ -1,4 +1,4 @@
-use Rattle.std.proofs.Common.{◌≡◌, ℕ, List, Option, Some, None, IfSome, ◌++◌, slice_index_or, [], ◌∙◌, ap}
+use Rattle.std.proofs.Common.{◌≡◌, ℕ, List, ◌++◌, slice_index_or, [], ◌∙◌, ap}
 use Rattle.lvm_num.specs.Record.{joined}
 use Rattle.lvm_disk.specs.Device.{Media}
 use Rattle.lvm_move.specs.declared.moves.Moved.TheVariants as moved

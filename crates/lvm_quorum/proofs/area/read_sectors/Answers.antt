@@ -1,4 +1,4 @@
-use Rattle.std.proofs.Common.{◌≡◌, ◌+◌, ◌*◌, ◌++◌, ℕ, List, IfSome, length, refl, sym, ◌∙◌, ap, subst, arith}
+use Rattle.std.proofs.Common.{◌≡◌, ◌+◌, ◌++◌, ℕ, IfSome, length, refl, sym, ◌∙◌, ap, subst, arith}
 use Rattle.lvm_num.specs.Record.{joined}
 use Rattle.lvm_rec.proofs.SlotLemmas.{joined-none}
 use Rattle.lvm_disk.specs.Device.{Media}

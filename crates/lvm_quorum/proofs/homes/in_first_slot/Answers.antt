@@ -1,9 +1,9 @@
-use Rattle.std.proofs.Common.{◌≡◌, ℕ, ◌||◌, length, true, false, sym, ap, ◌∙◌, arith, eq-eqb}
+use Rattle.std.proofs.Common.{◌≡◌, ℕ, ◌||◌, length, false, sym, ap, ◌∙◌, arith, eq-eqb}
 use Rattle.std.specs.Prelude.{◌==◌}
 use Rattle.std.proofs.lemmas.Bool.Decides.{nat_tests}
 use Rattle.lvm_num.specs.Disks.{has}
 use Rattle.lvm_quorum.specs.declared.row.SurveyRow.{SurveyRow}
-use Rattle.lvm_quorum.specs.Homes.{in_first_slot, home_by}
+use Rattle.lvm_quorum.specs.Homes.{in_first_slot}
 use Rattle.lvm_quorum.proofs.SurveyRows.{row_read}
 use Rattle.lvm_quorum.proofs.Voting.{one_taken, one_left}
 use Rattle.lvm_quorum.proofs.HomeSlots.{home_told, all_homes}

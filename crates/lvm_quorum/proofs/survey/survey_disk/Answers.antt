@@ -1,9 +1,9 @@
-use Rattle.std.proofs.Common.{◌≡◌, ◌≤◌, ℕ, true, false, Some, IfSome, slice_index_or, refl, sym, ◌∙◌, ap, subst, arith}
+use Rattle.std.proofs.Common.{◌≡◌, Some, slice_index_or, refl, sym, ◌∙◌, ap, arith}
 use Rattle.lvm_disk.specs.Device.{Media, image_of}
 use Rattle.lvm_quorum.specs.Surveyed.{IsRead}
 use Rattle.lvm_quorum.specs.Surveying.{IsArea}
 use Rattle.lvm_quorum.proofs.Joining.{or_got, told-always, told-more}
-use Rattle.lvm_quorum.proofs.Following.{only_none, untouched_none, rested_none}
+use Rattle.lvm_quorum.proofs.Following.{only_none, rested_none}
 use Rattle.lvm_quorum.proofs.DiskRows.{empty_is_read, small_has_none, area_is_read, large_has, not_small}
 use Rattle.lvm_quorum.proofs.survey.survey_disk.Goals as goal
 
@@ -13,8 +13,7 @@ returns-then-sectors-lt-DATA-clause-only g c = only_none c.args.patience.now.lef
 pub returns-then-sectors-lt-DATA-clause-gives : goal.returns-then-sectors-lt-DATA-clause-gives
 returns-then-sectors-lt-DATA-clause-gives g c =
     let old = (g.S.Shelf.device c.args.shelf.now) in
-    let row = c.empty_row.result in
-    (
+    let row = c.empty_row.result in (
       rested_none old c.requires.ready,
       record {
         disk_is = c.empty_row.ensures.is.0;
@@ -42,8 +41,7 @@ returns-in-Ok-row_of-clause-gives g c =
     let disk = c.args.disk in
     let row = c.in-Ok-row_of.row in
     let says = c.in-Ok-row_of.ensures in
-    let sectors = c.sectors-sectors.ensures in
-    (
+    let sectors = c.sectors-sectors.ensures in (
       c.in-Ok.ensures.gives.rested,
       record {
         disk_is = says.is.0;

@@ -1,4 +1,4 @@
-use Rattle.std.proofs.Common.{◌≡◌, ◌≤◌, ℕ, List, Some, length, slice_get, sym, ◌∙◌, ap, subst}
+use Rattle.std.proofs.Common.{◌≡◌, ◌≤◌, List, Some, length, slice_get, sym, subst}
 use Rattle.lvm_quorum.specs.declared.row.SurveyRow.{SurveyRow}
 use Rattle.lvm_quorum.proofs.survey.survey_disks.Goals as goal
 

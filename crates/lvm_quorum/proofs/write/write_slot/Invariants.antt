@@ -1,5 +1,4 @@
-use Rattle.std.proofs.Common.{◌-◌, ◌≡◌, ◌≤◌, length}
-use Rattle.lvm_num.specs.Record.{record_sectors}
+use Rattle.std.proofs.Common.{◌-◌, ◌≤◌}
 use Rattle.lvm_quorum.specs.Parts.{write_to}
 use Rattle.lvm_quorum.proofs.Transfers.{WroteBelow}
 use Rattle.lvm_quorum.proofs.write.write_slot.Given as goal
