@@ -3,14 +3,11 @@ use Rattle.std.proofs.Common.{◌≡◌, inl, inr, ⊎_elim, ℕ, ◌+◌, ◌<�
 use Rattle.std.specs.Prelude.{◌==◌, ◌&&◌, ◌||◌, not, nat_lt, if◌then◌else◌}
 use Rattle.std.proofs.lemmas.Bool.{cases_lt, eqb-true}
 use Rattle.std.proofs.lemmas.Bool.Decides.{nat_tests, eqb_tells}
-use Rattle.std.proofs.lemmas.Option.{slice_get_past}
 use Rattle.lvm_num.specs.declared.record.Kind.{Kind}
 use Rattle.lvm_num.specs.Buffer.{Buffer, Sector}
 use Rattle.lvm_num.specs.Disks.{Disks, has}
 use Rattle.lvm_num.specs.Record.{frame, record_sectors, slot_start}
-use Rattle.lvm_disk.specs.Counts.{Rose}
 use Rattle.lvm_disk.specs.Device.{Media, Device, IsReady, image_of}
-use Rattle.lvm_disk.specs.Paths.{DeviceStep, Path, Here}
 use Rattle.lvm_kept.specs.Plans.{ChangesBy}
 use Rattle.lvm_kept.specs.Torn.{RecordWrite, IsOfRecord, StandsOn}
 use Rattle.lvm_kept.proofs.Records.{never}
@@ -19,11 +16,11 @@ use Rattle.lvm_move.specs.declared.moves.Moved.TheVariants as moved
 use Rattle.lvm_quorum.specs.declared.homes.Homes.{Homes}
 use Rattle.lvm_quorum.specs.declared.write.SlotWrite.{SlotWrite}
 use Rattle.lvm_quorum.specs.Homes.{second_slots, next_slot, Flips}
-use Rattle.lvm_quorum.specs.Written.{write_of, HasRoom, HaveRoom, KeepsShelf, EndsOn, StandsTold, IsWriting, IsBrokenOff, written_well}
-use Rattle.lvm_quorum.specs.Parts.{write_to, PartsStand, Spends, WritesPart}
+use Rattle.lvm_quorum.specs.Written.{write_of, HaveRoom, KeepsShelf, EndsOn, StandsTold, IsBrokenOff, FlipBelow, written_well}
+use Rattle.lvm_quorum.specs.Parts.{write_to, PartsStand, WritesPart}
 use Rattle.lvm_quorum.proofs.Voting.{lt_same, lt_other}
-use Rattle.lvm_quorum.proofs.Writing.{if_told, told_at, both_map, changes_more, moments_wider, moments_on, parts_stay, writing_here}
-use Rattle.lvm_quorum.proofs.Transfers.{keeps_here, keeps_then, spends_none, spends_then}
+use Rattle.lvm_quorum.proofs.Writing.{if_told, told_at, both_map, changes_more, moments_wider, parts_stay}
+use Rattle.lvm_quorum.proofs.Tried.{TriedDisks, nothing_tried, none_here, well_here, badly_here, broken_here, no_more, all_tried}
 
 -- ---- what stands of the record
 
@@ -38,7 +35,7 @@ parts_of : (w : RecordWrite) (device : Device) (d : ℕ) → StandsTold w device
 unfolding part_told
 parts_of w device d stands = if_told device.media (part_told w d) (λ m told k low inside. told_at device.media (λ media. StandsOn w (image_of device.sizes media) d) m told stands k inside)
 
-still_stands : (w : RecordWrite) (now new : Device) (d : ℕ) → KeepsShelf w now new → StandsTold w now d → StandsTold w new d
+still_stands : (w : RecordWrite) (now new : Device) (d : ℕ) → KeepsShelf w.targets (IsOfRecord w) now new → StandsTold w now d → StandsTold w new d
 still_stands w now new d keeps stands = all_stands w new d (parts_stay w now new keeps.media d 0 (record_sectors (length w.framed.content)) (parts_of w now d stands))
 
 -- ---- the write to one disk is a part of all
@@ -98,7 +95,7 @@ module _ (one : SlotWrite) (targets : Disks) (homes : Homes) (target : IsTrue (t
     spends = part.spends;
     stuck = part.stuck;
     buffer = part.buffer;
-    moments = moments_wider (write_to one) all_of of_all old new part.moments;
+    moments = moments_wider (IsOfRecord (write_to one)) (IsOfRecord all_of) of_all old new part.moments;
   }
 
   pub stands_of_all :
@@ -128,18 +125,9 @@ flips_none kind p homes none = record {
 abbrev pub well_below : Disks → ℕ → ℕ → Disks
 well_below targets failed n d = nat_lt d n && written_well targets (has failed) d
 
--- the targets below a disk were written, or tried; the others were left alone so far
+-- the record was written to the targets below a disk, or tried
 pub record WroteDisks (w : RecordWrite) (number before after : ℕ) (old now : Device) (first homes : Homes) (failed : ℕ) (buf : Buffer) (n : ℕ) : Type 0 where
-  pub keeps : KeepsShelf w old now
-  pub ready : IsReady now
-  pub cuts : now.counts.cuts ≡ old.counts.cuts
-  pub spends : Spends before after old now
-  pub buffer : buf.number ≡ number
-  pub moments : Path DeviceStep (IsWriting w old) old now
-  pub tried : (d : ℕ) → d < n → EndsOn w (has failed) old now d
-  pub none : (d : ℕ) → n ≤ d → IsFalse (has failed d)
-  pub same : (d : ℕ) → n ≤ d → now.counts.faults d ≡ old.counts.faults d
-  pub idle : (d : ℕ) → n ≤ d → now.counts.starts d ≡ old.counts.starts d
+  pub all : TriedDisks w.targets (IsOfRecord w) (StandsTold w) number before after old now failed buf n
   pub flips : Flips w.kind (well_below w.targets failed n) first homes
 
 nothing_below : (d : ℕ) → nat_lt d 0 ≡ false
@@ -147,65 +135,28 @@ nothing_below d = grind (arith, nat_tests)
 
 pub none_tried : (w : RecordWrite) (patience : ℕ) (old : Device) (homes : Homes) (failed : ℕ) (buf : Buffer) → IsReady old → ((d : ℕ) → IsFalse (has failed d)) → WroteDisks w buf.number patience patience old old homes homes failed buf 0
 none_tried w patience old homes failed buf ready empty = record {
-  keeps = keeps_here w old;
-  ready = ready;
-  cuts = refl;
-  spends = spends_none patience old;
-  buffer = refl;
-  moments = Here (writing_here w old ready.flights);
-  tried = λ d less. absurd (omega (arith, less));
-  none = λ d more. empty d;
-  same = λ d more. refl;
-  idle = λ d more. refl;
+  all = nothing_tried w.targets (IsOfRecord w) (StandsTold w) (still_stands w) patience old failed buf ready empty;
   flips = flips_none w.kind (well_below w.targets failed 0) homes (λ d. ap (λ (b : Bool). b && written_well w.targets (has failed) d) (nothing_below d));
-}
-
-ends_stay :
-    (w : RecordWrite) (old now new : Device) (failed more : ℕ) (d : ℕ) → KeepsShelf w now new → new.counts.faults d ≡ now.counts.faults d → has more d ≡ has failed d → EndsOn w (has failed) old now d
-    → EndsOn w (has more) old new d
-ends_stay w old now new failed more d keeps same as_was ends = record {
-  stands = λ target well. still_stands w now new d keeps (ends.stands target (sym as_was ∙ well));
-  well = λ well. same ∙ ends.well (sym as_was ∙ well);
-  badly = λ bad. subst (λ (n : ℕ). Rose (old.counts.faults d) n) (sym same) (ends.badly (sym as_was ∙ bad));
-  target = λ bad. ends.target (sym as_was ∙ bad);
 }
 
 -- the write to the next disk has ended
 module _ (w : RecordWrite) (number p q : ℕ) (old now : Device) (first homes : Homes) (failed : ℕ) (buf : Buffer) (n : ℕ) (so_far : WroteDisks w number p q old now first homes failed buf n) where
-  disk_ended :
-      (r : ℕ) (new : Device) (next : Homes) (more : ℕ) (back : Buffer) → KeepsShelf w now new → IsReady new → new.counts.cuts ≡ now.counts.cuts → Spends q r now new → back.number ≡ buf.number
-      → Path DeviceStep (IsWriting w now) now new → ((d : ℕ) → (d ≡ n → ⊥) → has more d ≡ has failed d) → ((d : ℕ) → (d ≡ n → ⊥) → new.counts.faults d ≡ now.counts.faults d) → ((d : ℕ) → (d ≡ n → ⊥) → new.counts.starts d ≡ now.counts.starts d)
-      → EndsOn w (has more) old new n → Flips w.kind (λ d. d == n && written_well w.targets (has more) d) homes next → WroteDisks w number p r old new first next more back (n + 1)
-  disk_ended r new next more back keeps ready cuts spends buffer moments others elsewhere alone own flips = record {
-    keeps = keeps_then w old now new so_far.keeps keeps;
-    ready = ready;
-    cuts = cuts ∙ so_far.cuts;
-    spends = spends_then p q r old now new so_far.spends spends;
-    buffer = buffer ∙ so_far.buffer;
-    moments = moments_on w old now so_far.keeps.media new so_far.moments moments;
-    tried = λ d less. ⊎_elim
-        (λ (below : d < n). ends_stay w old now new failed more d keeps (elsewhere d (λ e. omega (arith, e, below))) (others d (λ e. omega (arith, e, below))) (so_far.tried d below))
-        (λ (above : n ≤ d). let here : n ≡ d = omega (arith, above, less) in subst (EndsOn w (has more) old new) here own)
-        (cases_lt d n);
-    none = λ d above. others d (λ e. omega (arith, e, above)) ∙ so_far.none d (omega (arith, above));
-    same = λ d above. elsewhere d (λ e. omega (arith, e, above)) ∙ so_far.same d (omega (arith, above));
-    idle = λ d above. alone d (λ e. omega (arith, e, above)) ∙ so_far.idle d (omega (arith, above));
-    flips = record {
-      own = λ d.
-          let V : Bool = second_slots w.kind first d in
-          let H : Bool = second_slots w.kind homes d in
-          elim (eqb_tells d n) [
-            | inl same ↦
-                flips.own d ∙ ap (λ (b : Bool). if b && written_well w.targets (has more) d then not H else H) same.0
-                ∙ ap (λ (v : Bool). if written_well w.targets (has more) d then not v else v) (so_far.flips.own d ∙ ap (λ (b : Bool). if b && written_well w.targets (has failed) d then not V else V) (lt_not d n same.1))
-                ∙ ap (λ (b : Bool). if b && written_well w.targets (has more) d then not V else V) (sym (lt_same d n same.1))
-            | inr differ ↦
-                flips.own d ∙ ap (λ (b : Bool). if b && written_well w.targets (has more) d then not H else H) differ.0 ∙ so_far.flips.own d
-                ∙ ap (λ (b : Bool). if nat_lt d n && (w.targets d && not b) then not V else V) (sym (others d differ.1))
-                ∙ ap (λ (b : Bool). if b && written_well w.targets (has more) d then not V else V) (sym (lt_other d n differ.1))
-          ];
-      other = λ k differ d. flips.other k differ d ∙ so_far.flips.other k differ d;
-    };
+  flips_on : (next : Homes) (more : ℕ) → ((d : ℕ) → (d ≡ n → ⊥) → has more d ≡ has failed d) → Flips w.kind (λ d. d == n && written_well w.targets (has more) d) homes next → Flips w.kind (well_below w.targets more (n + 1)) first next
+  flips_on next more others flips = record {
+    own = λ d.
+        let V : Bool = second_slots w.kind first d in
+        let H : Bool = second_slots w.kind homes d in
+        elim (eqb_tells d n) [
+          | inl same ↦
+              flips.own d ∙ ap (λ (b : Bool). if b && written_well w.targets (has more) d then not H else H) same.0
+              ∙ ap (λ (v : Bool). if written_well w.targets (has more) d then not v else v) (so_far.flips.own d ∙ ap (λ (b : Bool). if b && written_well w.targets (has failed) d then not V else V) (lt_not d n same.1))
+              ∙ ap (λ (b : Bool). if b && written_well w.targets (has more) d then not V else V) (sym (lt_same d n same.1))
+          | inr differ ↦
+              flips.own d ∙ ap (λ (b : Bool). if b && written_well w.targets (has more) d then not H else H) differ.0 ∙ so_far.flips.own d
+              ∙ ap (λ (b : Bool). if nat_lt d n && (w.targets d && not b) then not V else V) (sym (others d differ.1))
+              ∙ ap (λ (b : Bool). if b && written_well w.targets (has more) d then not V else V) (sym (lt_other d n differ.1))
+        ];
+    other = λ k differ d. flips.other k differ d ∙ so_far.flips.other k differ d;
   }
     where
       lt_not : (d n : ℕ) → d ≡ n → nat_lt d n ≡ false
@@ -220,14 +171,10 @@ module _ (w : RecordWrite) (number p q : ℕ) (old now : Device) (first homes : 
 
   -- it is no target
   pub disk_skipped : IsFalse (w.targets n) → WroteDisks w number p q old now first homes failed buf (n + 1)
-  disk_skipped off = disk_ended q now homes failed buf (keeps_here w now) so_far.ready refl (spends_none q now) refl (Here (writing_here w now so_far.ready.flights)) (λ d differ. refl) (λ d differ. refl) (λ d differ. refl)
-      (record {
-        stands = λ target well. absurd (never (w.targets n) target off);
-        well = λ well. so_far.same n (omega arith);
-        badly = λ bad. absurd (never (has failed n) bad (so_far.none n (omega arith)));
-        target = λ bad. absurd (never (has failed n) bad (so_far.none n (omega arith)));
-      })
-      (flips_none w.kind (λ d. d == n && written_well w.targets (has failed) d) homes (λ d. no_target w.targets failed n d off))
+  disk_skipped off = record {
+    all = none_here w.targets (IsOfRecord w) (StandsTold w) (still_stands w) number p q old now failed buf n so_far.all off;
+    flips = flips_on homes failed (λ d differ. refl) (flips_none w.kind (λ d. d == n && written_well w.targets (has failed) d) homes (λ d. no_target w.targets failed n d off));
+  }
     where
       no_target : (targets : Disks) (failed n d : ℕ) → IsFalse (targets n) → IsFalse (d == n && written_well targets (has failed) d)
       no_target targets failed n d off = elim (eqb_tells d n) [
@@ -238,14 +185,11 @@ module _ (w : RecordWrite) (number p q : ℕ) (old now : Device) (first homes : 
   module _ (r : ℕ) (new : Device) (back : Buffer) (target : IsTrue (w.targets n)) (alone : (d : ℕ) → (d ≡ n → ⊥) → new.counts.starts d ≡ now.counts.starts d) where
     -- all of the record stands there
     pub disk_written : (next : Homes) → WritesPart w n buf.number q r now new (moved.Done back) → StandsTold w new n → Flips w.kind (λ d. d == n) homes next → WroteDisks w number p r old new first next failed back (n + 1)
-    disk_written next part stands flips = disk_ended r new next failed back part.keeps part.rests part.counts.1 part.spends part.buffer part.moments (λ d differ. refl) (λ d differ. ap (λ (h : ℕ → ℕ). h d) part.counts.0) alone
-        (record {
-          stands = λ t well. stands;
-          well = λ well. ap (λ (h : ℕ → ℕ). h n) part.counts.0 ∙ so_far.same n (omega arith);
-          badly = λ bad. absurd (never (has failed n) bad (so_far.none n (omega arith)));
-          target = λ bad. target;
-        })
-        (flips_same w.kind (λ d. d == n) (λ d. d == n && written_well w.targets (has failed) d) homes next (λ d. is_well w.targets failed n d target (so_far.none n (omega arith))) flips)
+    disk_written next part stands flips = record {
+      all = well_here w.targets (IsOfRecord w) (StandsTold w) (still_stands w) number p q old now failed buf n so_far.all r new back target alone part stands;
+      flips = flips_on next failed (λ d differ. refl)
+          (flips_same w.kind (λ d. d == n) (λ d. d == n && written_well w.targets (has failed) d) homes next (λ d. is_well w.targets failed n d target (so_far.all.none n (omega arith))) flips);
+    }
       where
         is_well : (targets : Disks) (failed n d : ℕ) → IsTrue (targets n) → IsFalse (has failed n) → (d == n) ≡ (d == n && written_well targets (has failed) d)
         is_well targets failed n d on fine = elim (eqb_tells d n) [
@@ -257,14 +201,10 @@ module _ (w : RecordWrite) (number p q : ℕ) (old now : Device) (first homes : 
     pub disk_failed : (more : ℕ) → WritesPart w n buf.number q r now new (moved.Failed back) → ((d : ℕ) → has more d ≡ (has failed d || d == n)) → WroteDisks w number p r old new first homes more back (n + 1)
     disk_failed more part with_it =
         let failed_here : IsTrue (has more n) = with_it n ∙ or_here (has failed n) n in
-        disk_ended r new homes more back part.keeps part.rests part.counts.1 part.spends part.buffer part.moments (λ d differ. with_it d ∙ or_elsewhere (has failed d) d n differ) part.counts.0.elsewhere alone
-        (record {
-          stands = λ t well. absurd (never (has more n) failed_here well);
-          well = λ well. absurd (never (has more n) failed_here well);
-          badly = λ bad. subst (λ (x : ℕ). Rose x (new.counts.faults n)) (so_far.same n (omega arith)) part.counts.0.here;
-          target = λ bad. target;
-        })
-        (flips_none w.kind (λ d. d == n && written_well w.targets (has more) d) homes (λ d. not_well w.targets more n d failed_here))
+        record {
+          all = badly_here w.targets (IsOfRecord w) (StandsTold w) (still_stands w) number p q old now failed buf n so_far.all r new back target alone more part with_it;
+          flips = flips_on homes more (λ d differ. with_it d ∙ or_elsewhere (has failed d) d n differ) (flips_none w.kind (λ d. d == n && written_well w.targets (has more) d) homes (λ d. not_well w.targets more n d failed_here));
+        }
       where
         or_here : (b : Bool) (n : ℕ) → (b || n == n) ≡ true
         or_here true n = refl
@@ -285,45 +225,20 @@ module _ (w : RecordWrite) (number p q : ℕ) (old now : Device) (first homes : 
         ]
 
   -- it was broken off
-  pub broken_off : (new : Device) → IsTrue (w.targets n) → KeepsShelf w now new → new.counts.faults ≡ now.counts.faults → ((d : ℕ) → (d ≡ n → ⊥) → new.counts.starts d ≡ now.counts.starts d) → IsBrokenOff w old new first homes
-  broken_off new target keeps faults alone = record {
-    disk = n;
-    failed = has failed;
-    target = target;
-    before = λ d below. ends_stay w old now new failed failed d keeps (ap (λ (h : ℕ → ℕ). h d) faults) refl (so_far.tried d below);
-    behind = λ d above. alone d (λ e. omega (arith, e, above)) ∙ so_far.idle d (omega (arith, above));
-    homes_are = so_far.flips;
-  }
+  pub broken_off : (new : Device) → IsTrue (w.targets n) → KeepsShelf w.targets (IsOfRecord w) now new → new.counts.faults ≡ now.counts.faults → ((d : ℕ) → (d ≡ n → ⊥) → new.counts.starts d ≡ now.counts.starts d) → IsBrokenOff w.targets (StandsTold w) old new (FlipBelow w.kind w.targets first homes)
+  broken_off new target keeps faults alone = broken_here w.targets (IsOfRecord w) (StandsTold w) (still_stands w) number p q old now failed buf n so_far.all new (FlipBelow w.kind w.targets first homes) target keeps faults alone so_far.flips
 
   -- all disks were tried
   module _ (room : HaveRoom old w.targets) (all : length old.sizes ≤ n) where
-    no_more : (d : ℕ) → n ≤ d → IsFalse (w.targets d)
-    no_more d past = off_or (w.targets d) (λ on. none_there (room d on))
-      where
-        none_there : HasRoom old d → ⊥
-        none_there there = let gone = slice_get_past old.sizes d (omega (arith, past)) in let is = there.1 in cc
-
-        off_or : (b : Bool) → (IsTrue b → ⊥) → IsFalse b
-        off_or true none = absurd (none refl)
-        off_or false none = refl
-
-    pub each_tried : (d : ℕ) → EndsOn w (has failed) old now d
-    each_tried d = ⊎_elim
-        (λ (below : d < n). so_far.tried d below)
-        (λ (past : n ≤ d). record {
-          stands = λ target well. absurd (never (w.targets d) target (no_more d past));
-          well = λ well. so_far.same d past;
-          badly = λ bad. absurd (never (has failed d) bad (so_far.none d past));
-          target = λ bad. absurd (never (has failed d) bad (so_far.none d past));
-        })
-        (cases_lt d n)
+    pub each_tried : (d : ℕ) → EndsOn w.targets (StandsTold w) (has failed) old now d
+    each_tried d = all_tried w.targets (IsOfRecord w) (StandsTold w) number p q old now failed buf n so_far.all room all d
 
     pub all_flipped : Flips w.kind (written_well w.targets (has failed)) first homes
     all_flipped = flips_same w.kind (well_below w.targets failed n) (written_well w.targets (has failed)) first homes
         (λ d. ⊎_elim
         (λ (below : d < n). ap (λ (b : Bool). b && written_well w.targets (has failed) d) (lt_yes d n below))
         (λ (past : n ≤ d).
-        let off = no_more d past in
+        let off = no_more w.targets old n room all d past in
         ap (λ (b : Bool). nat_lt d n && (b && not (has failed d))) off ∙ and_no (nat_lt d n) ∙ sym (ap (λ (b : Bool). b && not (has failed d)) off))
         (cases_lt d n))
         so_far.flips

@@ -2,16 +2,18 @@
 use Rattle.std.proofs.Common.{◌≡◌, inl, inr, ℕ, ◌+◌, ◌-◌, ◌<◌, ◌≤◌, Bool, true, false, [], Option, Some, None, length, slice_get, IsTrue, IsFalse, refl, sym, ◌∙◌, ap, subst, arith, eq-eqb}
 use Rattle.std.specs.Prelude.{◌==◌, ◌&&◌, nat_le, nat_lt, if◌then◌else◌}
 use Rattle.std.proofs.lemmas.Bool.{eqb-true, ltb-true, leb-true}
+use Rattle.std.proofs.lemmas.Bool.Decides.{nat_tests}
 use Rattle.lvm_num.specs.Buffer.{Buffer}
+use Rattle.lvm_num.specs.Disks.{Disks}
 use Rattle.lvm_num.specs.Record.{frame, slot_start, record_sectors}
 use Rattle.lvm_disk.specs.Counts.{Counts, Rose, RoseAt, RoseBy}
-use Rattle.lvm_disk.specs.Device.{Media, Flight, Device, IsReady, IsTorn}
-use Rattle.lvm_disk.specs.Steps.{BothTold, CountsFailure, IsFault, Puts, PutsSome}
+use Rattle.lvm_disk.specs.Device.{Media, Flight, Device, IsReady, written, image_of}
+use Rattle.lvm_disk.specs.Steps.{BothTold, Cuts, CountsFailure, IsRecordRead, IsFault, Puts}
 use Rattle.lvm_disk.specs.Paths.{DeviceStep, Path}
 use Rattle.lvm_disk.proofs.Paths.{map-path, last-path}
 use Rattle.lvm_kept.specs.Raw.{OnlyAdds}
-use Rattle.lvm_kept.specs.Plans.{IsPlanned}
-use Rattle.lvm_kept.specs.Torn.{RecordWrite, IsOfRecord}
+use Rattle.lvm_kept.specs.Plans.{Plan, IsPlanned}
+use Rattle.lvm_kept.specs.Torn.{IsOfRecord}
 use Rattle.lvm_kept.proofs.Records.{never}
 use Rattle.lvm_move.specs.Transfer.{IsOut, TransferGives, Rests, flight_of}
 use Rattle.lvm_move.specs.declared.moves.Moved.{Moved}
@@ -20,7 +22,7 @@ use Rattle.lvm_move.proofs.Ending.{one_left}
 use Rattle.lvm_move.proofs.Effects.{out_flights}
 use Rattle.lvm_quorum.specs.declared.write.SlotWrite.{SlotWrite}
 use Rattle.lvm_quorum.specs.Written.{IsWriting}
-use Rattle.lvm_quorum.specs.Parts.{write_to, CountsEnd, IfStuck, IfBack, WritesPart}
+use Rattle.lvm_quorum.specs.Parts.{write_to, CountsEnd, IfStuck, IfBack, DoesPart}
 use Rattle.lvm_quorum.proofs.Writing.{both_map, adds_writing, media_written}
 
 -- ---- the flight
@@ -43,6 +45,19 @@ module _ (one : SlotWrite) (from count first : ℕ) (buf : Buffer) (place : firs
       go true true false p q r is = absurd (cc)
       go true false u p q r is = absurd (cc)
       go false t u p q r is = absurd (cc)
+
+  -- and all that it says
+  pub frames_written : (ticket k : ℕ) → from ≤ k → k < from + count → written (flight_of ticket true one.disk first count buf) one.disk (slot_start one.kind (if one.second then 1 else 0) + k) ≡ Some (frame one.kind one.stamp one.content.now k)
+  frames_written ticket k low high =
+      let s : ℕ = slot_start one.kind (if one.second then 1 else 0) + k in
+      let here : (one.disk == one.disk) ≡ true = eq-eqb one.disk one.disk refl in
+      let above : nat_le first s ≡ true = grind (arith, nat_tests, place, low) in
+      let below : nat_lt s (first + count) ≡ true = grind (arith, nat_tests, place, high) in
+      ap (λ (b : Bool). if b && nat_le first s && nat_lt s (first + count) then slice_get buf.sectors (s - first) else None) here
+      ∙ ap (λ (b : Bool). if b && nat_lt s (first + count) then slice_get buf.sectors (s - first) else None) above
+      ∙ ap (λ (b : Bool). if b then slice_get buf.sectors (s - first) else None) below
+      ∙ frames (s - first) (omega (arith, place, low, high))
+      ∙ ap (λ (n : ℕ). Some (frame one.kind one.stamp one.content.now n)) (omega (arith, place, low))
 
 -- ---- what a start changes
 
@@ -130,7 +145,7 @@ effect before old new ticket disk first count buf (moved.Failed back) none (now,
       misses = ap (λ (c : Counts). c.misses) fault.new_is ∙ facts.misses;
       starts = λ d differ. ap (λ (c : Counts). c.starts d) fault.new_is ∙ facts.starts d differ;
       faults = λ d differ. fault.faults.elsewhere d differ ∙ ap (λ (h : ℕ → ℕ). h d) facts.faults;
-      told = still_told old.media now.media new.media (PutsSome ends.flight) facts.media ends.media;
+      told = still_told old.media now.media new.media (Rattle.lvm_disk.specs.Steps.PutsSome ends.flight) facts.media ends.media;
       counts = (subst (λ (h : ℕ → ℕ). RoseAt disk h new.counts.faults) facts.faults fault.faults, ap (λ (c : Counts). c.cuts) fault.new_is ∙ facts.cuts);
       stuck = tt;
       buffer = ap (λ (b : Buffer). b.number) (ends.kept (ap (λ (g : Flight). g.write) it.0)) ∙ ap (λ (g : Flight). g.buf.number) it.0;
@@ -145,7 +160,7 @@ effect before old new ticket disk first count buf (moved.Dark true) none (now, o
       misses = ap (λ (d : Device). d.counts.misses) cuts.new_is ∙ facts.misses;
       starts = λ d differ. ap (λ (x : Device). x.counts.starts d) cuts.new_is ∙ facts.starts d differ;
       faults = λ d differ. ap (λ (h : ℕ → ℕ). h d) faults;
-      told = still_told old.media now.media new.media (λ m n. IsTorn m now.flights n) facts.media cuts.media;
+      told = still_told old.media now.media new.media (λ m n. Rattle.lvm_disk.specs.Device.IsTorn m now.flights n) facts.media cuts.media;
       counts = (faults, subst (λ (n : ℕ). Rose n new.counts.cuts) facts.cuts cuts.cuts);
       stuck = tt;
       buffer = tt;
@@ -159,7 +174,7 @@ effect before old new ticket disk first count buf (moved.Dark false) none cuts =
       misses = ap (λ (d : Device). d.counts.misses) cuts.new_is;
       starts = λ d differ. ap (λ (x : Device). x.counts.starts d) cuts.new_is;
       faults = λ d differ. ap (λ (h : ℕ → ℕ). h d) faults;
-      told = still_told old.media old.media new.media (λ m n. IsTorn m old.flights n) refl cuts.media;
+      told = still_told old.media old.media new.media (λ m n. Rattle.lvm_disk.specs.Device.IsTorn m old.flights n) refl cuts.media;
       counts = (faults, cuts.cuts);
       stuck = tt;
       buffer = tt;
@@ -181,15 +196,15 @@ effect before old new ticket disk first count buf moved.Stuck none (out, waits) 
 
 -- ---- a piece
 
-module _ (w : RecordWrite) (disk number before after : ℕ) (old new : Device) (how : Moved) (ticket first count : ℕ) (buf : Buffer) where
+module _ (targets : Disks) (P : Plan) (disk number before after : ℕ) (old new : Device) (how : Moved) (ticket first count : ℕ) (buf : Buffer) where
   pub piece_part :
-      IsReady old → number ≡ buf.number → IsTrue (w.targets disk) → IsPlanned (IsOfRecord w) (flight_of 0 true disk first count buf)
+      IsReady old → number ≡ buf.number → IsTrue (targets disk) → IsPlanned P (flight_of 0 true disk first count buf)
       → TransferGives before old new (flight_of ticket true disk first count buf) how → Rests new how → after ≤ before → RoseBy (before - after) old.counts.waits new.counts.waits
-      → Path DeviceStep (OnlyAdds (flight_of 0 true disk first count buf) old) old new → WritesPart w disk number before after old new how
+      → Path DeviceStep (OnlyAdds (flight_of 0 true disk first count buf) old) old new → DoesPart targets P disk number before after old new how
   piece_part ready same target planned gives rests falls waits path =
       let done = effect before old new ticket disk first count buf how ready.flights gives in
-      let moments = map-path (IsWriting w old) (λ x. adds_writing w (flight_of 0 true disk first count buf) old x ready.flights planned) path in
-      let other : (d : ℕ) → IsFalse (w.targets d) → d ≡ disk → ⊥ = λ d off here. never (w.targets disk) target (subst (λ (x : ℕ). IsFalse (w.targets x)) here off) in
+      let moments = map-path (IsWriting P old) (λ x. adds_writing P (flight_of 0 true disk first count buf) old x ready.flights planned) path in
+      let other : (d : ℕ) → IsFalse (targets d) → d ≡ disk → ⊥ = λ d off here. never (targets disk) target (subst (λ (x : ℕ). IsFalse (targets x)) here off) in
       record {
         keeps = record {
           sizes = done.sizes;
@@ -198,7 +213,7 @@ module _ (w : RecordWrite) (disk number before after : ℕ) (old new : Device) (
           misses = done.misses;
           starts = λ d off. done.starts d (other d off);
           faults = λ d off. done.faults d (other d off);
-          media = media_written w old new done.told (last-path moments);
+          media = media_written P old new done.told (last-path moments);
         };
         counts = done.counts;
         rests = rests;

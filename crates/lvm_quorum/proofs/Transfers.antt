@@ -1,32 +1,33 @@
 -- Transfers of sectors of a record, one after another.
 use Rattle.std.proofs.Common.{◌≡◌, ℕ, ◌+◌, ◌-◌, true, List, Some, slice_get, refl, sym, ◌∙◌, subst, arith}
 use Rattle.lvm_num.specs.Buffer.{Buffer}
+use Rattle.lvm_num.specs.Disks.{Disks}
 use Rattle.lvm_disk.specs.Counts.{Counts, Rose, RoseAt, RoseBy}
 use Rattle.lvm_disk.specs.Device.{Device, IsReady, image_of}
 use Rattle.lvm_disk.specs.Paths.{Here}
-use Rattle.lvm_kept.specs.Plans.{ChangesBy}
+use Rattle.lvm_kept.specs.Plans.{Plan, ChangesBy}
 use Rattle.lvm_kept.specs.Torn.{RecordWrite, IsOfRecord}
 use Rattle.lvm_move.specs.declared.moves.Moved.{Moved}
 use Rattle.lvm_move.specs.declared.moves.Moved.TheVariants as moved
 use Rattle.lvm_quorum.specs.Written.{HasRoom, KeepsShelf}
-use Rattle.lvm_quorum.specs.Parts.{PartsStand, CountsEnd, IfDone, IfStuck, IfBack, Spends, WritesPart}
+use Rattle.lvm_quorum.specs.Parts.{PartsStand, CountsEnd, IfDone, IfStuck, IfBack, Spends, DoesPart, WritesPart}
 use Rattle.lvm_quorum.proofs.Writing.{both_then, both_same, changes_then, changes_none, writing_here, moments_on, parts_stay, no_parts, parts_join}
 
 -- ---- the shelf
 
-pub keeps_here : (w : RecordWrite) (old : Device) → KeepsShelf w old old
-keeps_here w old = record {
+pub keeps_here : (targets : Disks) (P : Plan) (old : Device) → KeepsShelf targets P old old
+keeps_here targets P old = record {
   sizes = refl;
   arranges = refl;
   orders = refl;
   misses = refl;
   starts = λ d off. refl;
   faults = λ d off. refl;
-  media = both_same old.media (λ was is. ChangesBy (IsOfRecord w) (image_of old.sizes was) (image_of old.sizes is)) (λ m. changes_none (IsOfRecord w) (image_of old.sizes m));
+  media = both_same old.media (λ was is. ChangesBy P (image_of old.sizes was) (image_of old.sizes is)) (λ m. changes_none P (image_of old.sizes m));
 }
 
-pub keeps_then : (w : RecordWrite) (old mid new : Device) → KeepsShelf w old mid → KeepsShelf w mid new → KeepsShelf w old new
-keeps_then w old mid new one two = record {
+pub keeps_then : (targets : Disks) (P : Plan) (old mid new : Device) → KeepsShelf targets P old mid → KeepsShelf targets P mid new → KeepsShelf targets P old new
+keeps_then targets P old mid new one two = record {
   sizes = two.sizes ∙ one.sizes;
   arranges = two.arranges ∙ one.arranges;
   orders = two.orders ∙ one.orders;
@@ -34,10 +35,10 @@ keeps_then w old mid new one two = record {
   starts = λ d off. two.starts d off ∙ one.starts d off;
   faults = λ d off. two.faults d off ∙ one.faults d off;
   media = both_then old.media mid.media new.media
-      (λ was is. ChangesBy (IsOfRecord w) (image_of old.sizes was) (image_of mid.sizes is))
-      (λ was is. ChangesBy (IsOfRecord w) (image_of mid.sizes was) (image_of new.sizes is))
-      (λ was is. ChangesBy (IsOfRecord w) (image_of old.sizes was) (image_of new.sizes is))
-      (λ a b c p q. changes_then (IsOfRecord w) (image_of old.sizes a) (image_of mid.sizes b) (image_of new.sizes c) p q) one.media two.media;
+      (λ was is. ChangesBy P (image_of old.sizes was) (image_of mid.sizes is))
+      (λ was is. ChangesBy P (image_of mid.sizes was) (image_of new.sizes is))
+      (λ was is. ChangesBy P (image_of old.sizes was) (image_of new.sizes is))
+      (λ a b c p q. changes_then P (image_of old.sizes a) (image_of mid.sizes b) (image_of new.sizes c) p q) one.media two.media;
 }
 
 pub still_room : (old new : Device) (d : ℕ) → new.sizes ≡ old.sizes → HasRoom old d → HasRoom new d
@@ -59,7 +60,7 @@ spends_then p q r old mid new one two =
     let sum : (p - q) + (q - r) ≡ p - r = omega (arith, f, g) in
     record { falls = omega (arith, f, g); waits = subst (λ (n : ℕ). RoseBy n old.counts.waits new.counts.waits) sum both }
 
-spent_then : (p q : ℕ) (old mid new : Device) → Spends p q old mid → RoseBy q mid.counts.waits new.counts.waits → RoseBy p old.counts.waits new.counts.waits
+pub spent_then : (p q : ℕ) (old mid new : Device) → Spends p q old mid → RoseBy q mid.counts.waits new.counts.waits → RoseBy p old.counts.waits new.counts.waits
 spent_then p q old mid new one rose =
     let both = rose_then (p - q) q old.counts.waits mid.counts.waits new.counts.waits one.waits rose in
     let f = one.falls in
@@ -92,28 +93,28 @@ not_done moved.Stuck P never = tt
 
 -- ---- one transfer after another
 
-pub part_here : (w : RecordWrite) (disk number patience : ℕ) (old : Device) (buf : Buffer) → IsReady old → buf.number ≡ number → WritesPart w disk number patience patience old old (moved.Done buf)
-part_here w disk number patience old buf ready same = record {
-  keeps = keeps_here w old;
+pub part_here : (targets : Disks) (P : Plan) (disk number patience : ℕ) (old : Device) (buf : Buffer) → IsReady old → buf.number ≡ number → DoesPart targets P disk number patience patience old old (moved.Done buf)
+part_here targets P disk number patience old buf ready same = record {
+  keeps = keeps_here targets P old;
   counts = (refl, refl);
   rests = ready;
   spends = spends_none patience old;
   stuck = tt;
   buffer = same;
-  moments = Here (writing_here w old ready.flights);
+  moments = Here (writing_here P old ready.flights);
 }
 
 pub part_then :
-    (w : RecordWrite) (disk number p q r : ℕ) (old mid new : Device) (buf : Buffer) (how : Moved) → WritesPart w disk number p q old mid (moved.Done buf) → WritesPart w disk buf.number q r mid new how
-    → WritesPart w disk number p r old new how
-part_then w disk number p q r old mid new buf how one two = record {
-  keeps = keeps_then w old mid new one.keeps two.keeps;
+    (targets : Disks) (P : Plan) (disk number p q r : ℕ) (old mid new : Device) (buf : Buffer) (how : Moved) → DoesPart targets P disk number p q old mid (moved.Done buf) → DoesPart targets P disk buf.number q r mid new how
+    → DoesPart targets P disk number p r old new how
+part_then targets P disk number p q r old mid new buf how one two = record {
+  keeps = keeps_then targets P old mid new one.keeps two.keeps;
   counts = counts_then disk old.counts mid.counts new.counts how one.counts.0 one.counts.1 two.counts;
   rests = two.rests;
   spends = spends_then p q r old mid new one.spends two.spends;
   stuck = stuck_then p q old mid new how one.spends two.stuck;
   buffer = back_then number buf.number how one.buffer two.buffer;
-  moments = moments_on w old mid one.keeps.media new one.moments two.moments;
+  moments = moments_on P old mid one.keeps.media new one.moments two.moments;
 }
 
 -- ---- the pieces of one disk
@@ -124,12 +125,12 @@ pub record WroteBelow (w : RecordWrite) (disk number before after : ℕ) (old no
   pub stand : PartsStand w now disk 0 first
 
 pub none_written : (w : RecordWrite) (disk patience : ℕ) (old : Device) (buf : Buffer) → IsReady old → WroteBelow w disk buf.number patience patience old old buf 0
-none_written w disk patience old buf ready = record { part = part_here w disk buf.number patience old buf ready refl; stand = no_parts w old disk }
+none_written w disk patience old buf ready = record { part = part_here w.targets (IsOfRecord w) disk buf.number patience old buf ready refl; stand = no_parts w old disk }
 
 pub piece_written :
     (w : RecordWrite) (disk number p q r : ℕ) (old mid new : Device) (buf back : Buffer) (first to : ℕ) → WroteBelow w disk number p q old mid buf first
     → WritesPart w disk buf.number q r mid new (moved.Done back) → PartsStand w new disk first to → WroteBelow w disk number p r old new back to
 piece_written w disk number p q r old mid new buf back first to so_far two stand = record {
-  part = part_then w disk number p q r old mid new buf (moved.Done back) so_far.part two;
+  part = part_then w.targets (IsOfRecord w) disk number p q r old mid new buf (moved.Done back) so_far.part two;
   stand = parts_join w new disk first to (parts_stay w mid new two.keeps.media disk 0 first so_far.stand) stand;
 }

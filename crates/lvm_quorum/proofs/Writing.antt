@@ -31,7 +31,7 @@ both_at (Some a) None R m both e = absurd both
 both_at (Some a) (Some k) R m both e = (k, refl, subst (λ (x : Media). R x k) (cc e) both)
 
 -- and what it was
-both_from : (o n : Option Media) (R : Media → Media → Type 0) (k : Media) → BothTold o n R → n ≡ Some k → (m : Media) × (o ≡ Some m) × R m k
+pub both_from : (o n : Option Media) (R : Media → Media → Type 0) (k : Media) → BothTold o n R → n ≡ Some k → (m : Media) × (o ≡ Some m) × R m k
 both_from o None R k both e = absurd (cc e)
 both_from None (Some a) R k both e = absurd both
 both_from (Some m) (Some a) R k both e = (m, refl, subst (λ (x : Media). R m x) (cc e) both)
@@ -53,6 +53,12 @@ both_then (Some a) (Some b) (Some c) R Q S f one two = f a b c one two
 pub both_same : (o : Option Media) (R : Media → Media → Type 0) → ((m : Media) → R m m) → BothTold o o R
 both_same None R f = tt
 both_same (Some m) R f = f m
+
+-- what holds of each sector that is told
+pub stand_told : (o n : Option Media) (R : Media → Media → Type 0) (P : Media → Type 0) → BothTold o n R → ((m k : Media) → R m k → P k) → IfSome n P
+stand_told o None R P both f = tt
+stand_told None (Some k) R P both f = absurd both
+stand_told (Some m) (Some k) R P both f = f m k both
 
 -- ---- changes
 
@@ -101,14 +107,14 @@ at_rest device m image none told may d s = ⊎_elim (λ same. same)
     (λ is. absurd (subst (λ (l : List Flight). IsInFlight l d s (image.sector d s)) none is))
     ((crash_of device m image told may).each d s)
 
-module _ (w : RecordWrite) where
-  pub writing_here : (old : Device) → old.flights ≡ [] → IsWriting w old old
-  writing_here old none = if_told old.media (λ media. (image : Image) → MayLeave old image → ChangesBy (IsOfRecord w) (image_of old.sizes media) image)
+module _ (P : Plan) where
+  pub writing_here : (old : Device) → old.flights ≡ [] → IsWriting P old old
+  writing_here old none = if_told old.media (λ media. (image : Image) → MayLeave old image → ChangesBy P (image_of old.sizes media) image)
       (λ m told image may. record { same = (crash_of old m image told may).same; each = λ d s. inl (at_rest old m image none told may d s) })
 
   -- one transfer of sectors of the record
-  pub adds_writing : (f : Flight) (old now : Device) → old.flights ≡ [] → IsPlanned (IsOfRecord w) f → OnlyAdds f old now → IsWriting w old now
-  adds_writing f old now none planned adds = if_told old.media (λ media. (image : Image) → MayLeave now image → ChangesBy (IsOfRecord w) (image_of old.sizes media) image)
+  pub adds_writing : (f : Flight) (old now : Device) → old.flights ≡ [] → IsPlanned P f → OnlyAdds f old now → IsWriting P old now
+  adds_writing f old now none planned adds = if_told old.media (λ media. (image : Image) → MayLeave now image → ChangesBy P (image_of old.sizes media) image)
       (λ m told image may.
       let from = adds image may in
       record {
@@ -117,28 +123,28 @@ module _ (w : RecordWrite) where
       })
 
   -- what the media becomes, as the last moment says
-  pub media_written : (old new : Device) → BothTold old.media new.media (λ was is. Unit {0}) → IsWriting w old new → BothTold old.media new.media (λ was is. ChangesBy (IsOfRecord w) (image_of old.sizes was) (image_of new.sizes is))
-  media_written old new both writing = both_map old.media new.media (λ was is. Unit {0}) (λ was is. ChangesBy (IsOfRecord w) (image_of old.sizes was) (image_of new.sizes is)) both
-      (λ m k was is none. told_at old.media (λ media. (image : Image) → MayLeave new image → ChangesBy (IsOfRecord w) (image_of old.sizes media) image) m was writing (image_of new.sizes k) (own_media new k is))
+  pub media_written : (old new : Device) → BothTold old.media new.media (λ was is. Unit {0}) → IsWriting P old new → BothTold old.media new.media (λ was is. ChangesBy P (image_of old.sizes was) (image_of new.sizes is))
+  media_written old new both writing = both_map old.media new.media (λ was is. Unit {0}) (λ was is. ChangesBy P (image_of old.sizes was) (image_of new.sizes is)) both
+      (λ m k was is none. told_at old.media (λ media. (image : Image) → MayLeave new image → ChangesBy P (image_of old.sizes media) image) m was writing (image_of new.sizes k) (own_media new k is))
 
-  module _ (old mid : Device) (told : BothTold old.media mid.media (λ was is. ChangesBy (IsOfRecord w) (image_of old.sizes was) (image_of mid.sizes is))) where
-    writing_after : (now : Device) → IsWriting w mid now → IsWriting w old now
-    writing_after now writing = if_told old.media (λ media. (image : Image) → MayLeave now image → ChangesBy (IsOfRecord w) (image_of old.sizes media) image)
+  module _ (old mid : Device) (told : BothTold old.media mid.media (λ was is. ChangesBy P (image_of old.sizes was) (image_of mid.sizes is))) where
+    writing_after : (now : Device) → IsWriting P mid now → IsWriting P old now
+    writing_after now writing = if_told old.media (λ media. (image : Image) → MayLeave now image → ChangesBy P (image_of old.sizes media) image)
         (λ m was image may.
-        let it = both_at old.media mid.media (λ was is. ChangesBy (IsOfRecord w) (image_of old.sizes was) (image_of mid.sizes is)) m told was in
-        changes_then (IsOfRecord w) (image_of old.sizes m) (image_of mid.sizes it.0) image it.2
-        (told_at mid.media (λ media. (image : Image) → MayLeave now image → ChangesBy (IsOfRecord w) (image_of mid.sizes media) image) it.0 it.1 writing image may))
+        let it = both_at old.media mid.media (λ was is. ChangesBy P (image_of old.sizes was) (image_of mid.sizes is)) m told was in
+        changes_then P (image_of old.sizes m) (image_of mid.sizes it.0) image it.2
+        (told_at mid.media (λ media. (image : Image) → MayLeave now image → ChangesBy P (image_of mid.sizes media) image) it.0 it.1 writing image may))
 
-    pub moments_on : (new : Device) → Path DeviceStep (IsWriting w old) old mid → Path DeviceStep (IsWriting w mid) mid new → Path DeviceStep (IsWriting w old) old new
-    moments_on new one two = append-path one (map-path (IsWriting w old) writing_after two)
+    pub moments_on : (new : Device) → Path DeviceStep (IsWriting P old) old mid → Path DeviceStep (IsWriting P mid) mid new → Path DeviceStep (IsWriting P old) old new
+    moments_on new one two = append-path one (map-path (IsWriting P old) writing_after two)
 
-    -- parts that stand on the media
-    pub parts_stay : (d from to : ℕ) → PartsStand w old d from to → PartsStand w mid d from to
-    parts_stay d from to stand = if_told mid.media (λ media. (k : ℕ) → from ≤ k → k < to → media d (slot_start w.kind (w.slots d) + k) ≡ frame w.kind w.framed.stamp w.framed.content k)
-        (λ n is k low high.
-        let back = both_from old.media mid.media (λ was is. ChangesBy (IsOfRecord w) (image_of old.sizes was) (image_of mid.sizes is)) n told is in
-        part_stays w (image_of old.sizes back.0) (image_of mid.sizes n) d k back.2
-        (told_at old.media (λ media. (k : ℕ) → from ≤ k → k < to → media d (slot_start w.kind (w.slots d) + k) ≡ frame w.kind w.framed.stamp w.framed.content k) back.0 back.1 stand k low high))
+-- parts that stand on the media
+pub parts_stay : (w : RecordWrite) (old mid : Device) → BothTold old.media mid.media (λ was is. ChangesBy (IsOfRecord w) (image_of old.sizes was) (image_of mid.sizes is)) → (d from to : ℕ) → PartsStand w old d from to → PartsStand w mid d from to
+parts_stay w old mid told d from to stand = if_told mid.media (λ media. (k : ℕ) → from ≤ k → k < to → media d (slot_start w.kind (w.slots d) + k) ≡ frame w.kind w.framed.stamp w.framed.content k)
+    (λ n is k low high.
+    let back = both_from old.media mid.media (λ was is. ChangesBy (IsOfRecord w) (image_of old.sizes was) (image_of mid.sizes is)) n told is in
+    part_stays w (image_of old.sizes back.0) (image_of mid.sizes n) d k back.2
+    (told_at old.media (λ media. (k : ℕ) → from ≤ k → k < to → media d (slot_start w.kind (w.slots d) + k) ≡ frame w.kind w.framed.stamp w.framed.content k) back.0 back.1 stand k low high))
 
 pub no_parts : (w : RecordWrite) (device : Device) (d : ℕ) → PartsStand w device d 0 0
 no_parts w device d = if_told device.media (λ media. (k : ℕ) → 0 ≤ k → k < 0 → media d (slot_start w.kind (w.slots d) + k) ≡ frame w.kind w.framed.stamp w.framed.content k)
@@ -154,11 +160,11 @@ parts_join w device d first to one two =
     (cases_lt k first))
 
 -- a write of which another is a part
-module _ (w v : RecordWrite) (more : (d s : ℕ) (value : Sector) → IsOfRecord w d s value → IsOfRecord v d s value) where
-  writing_wider : (old now : Device) → IsWriting w old now → IsWriting v old now
-  writing_wider old now writing = if_told old.media (λ media. (image : Image) → MayLeave now image → ChangesBy (IsOfRecord v) (image_of old.sizes media) image)
-      (λ m was image may. changes_more (IsOfRecord w) (IsOfRecord v) (image_of old.sizes m) image more
-      (told_at old.media (λ media. (image : Image) → MayLeave now image → ChangesBy (IsOfRecord w) (image_of old.sizes media) image) m was writing image may))
+module _ (P Q : Plan) (more : (d s : ℕ) (value : Sector) → P d s value → Q d s value) where
+  writing_wider : (old now : Device) → IsWriting P old now → IsWriting Q old now
+  writing_wider old now writing = if_told old.media (λ media. (image : Image) → MayLeave now image → ChangesBy Q (image_of old.sizes media) image)
+      (λ m was image may. changes_more P Q (image_of old.sizes m) image more
+      (told_at old.media (λ media. (image : Image) → MayLeave now image → ChangesBy P (image_of old.sizes media) image) m was writing image may))
 
-  pub moments_wider : (old new : Device) → Path DeviceStep (IsWriting w old) old new → Path DeviceStep (IsWriting v old) old new
-  moments_wider old new path = map-path (IsWriting v old) (writing_wider old) path
+  pub moments_wider : (old new : Device) → Path DeviceStep (IsWriting P old) old new → Path DeviceStep (IsWriting Q old) old new
+  moments_wider old new path = map-path (IsWriting Q old) (writing_wider old) path

@@ -4,3 +4,4 @@ pub mod Homes
 pub mod Written
 pub mod Parts
 pub mod Shows
+pub mod Notes

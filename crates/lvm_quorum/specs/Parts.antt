@@ -1,11 +1,13 @@
 -- The parts of a write of a record: one disk, and pieces of it.
-use Rattle.std.specs.Prelude.{◌≡◌, ℕ, ◌+◌, ◌-◌, ◌<◌, ◌≤◌, ◌==◌, if◌then◌else◌, true, IfSome}
+use Rattle.std.specs.Prelude.{◌≡◌, ℕ, ◌+◌, ◌-◌, ◌<◌, ◌≤◌, ◌==◌, if◌then◌else◌, Some, IfSome, length, slice_get}
 use Rattle.lvm_num.specs.Buffer.{Buffer}
+use Rattle.lvm_num.specs.Disks.{Disks}
 use Rattle.lvm_num.specs.Record.{frame, slot_start}
 use Rattle.lvm_disk.specs.Counts.{Counts, Rose, RoseAt, RoseBy}
 use Rattle.lvm_disk.specs.Device.{Device}
 use Rattle.lvm_disk.specs.Paths.{DeviceStep, Path}
-use Rattle.lvm_kept.specs.Torn.{RecordWrite}
+use Rattle.lvm_kept.specs.Plans.{Plan}
+use Rattle.lvm_kept.specs.Torn.{RecordWrite, IsOfRecord}
 use Rattle.lvm_move.specs.Transfer.{Rests}
 use Rattle.lvm_move.specs.declared.moves.Moved.{Moved}
 use Rattle.lvm_move.specs.declared.moves.Moved.TheVariants as moved
@@ -33,7 +35,6 @@ CountsEnd disk old new (moved.Failed buf) = RoseAt disk old.faults new.faults ×
 CountsEnd disk old new (moved.Dark started) = (new.faults ≡ old.faults) × Rose old.cuts new.cuts
 CountsEnd disk old new moved.Stuck = (new.faults ≡ old.faults) × (new.cuts ≡ old.cuts)
 
--- what holds of the buffer, where it ended well
 abbrev pub IfDone : Moved → (Buffer → Type 0) → Type 0
 IfDone (moved.Done buf) P = P buf
 IfDone (moved.Failed buf) P = Unit {0}
@@ -59,12 +60,16 @@ pub record Spends (before after : ℕ) (old new : Device) : Type 0 where
   pub falls : after ≤ before
   pub waits : RoseBy (before - after) old.counts.waits new.counts.waits
 
--- What some transfers, one after another, did that write the record to a disk; only the last of them may not have ended well.
-pub record WritesPart (w : RecordWrite) (disk : ℕ) (number before after : ℕ) (old new : Device) (how : Moved) : Type 0 where
-  pub keeps : KeepsShelf w old new
+-- What some transfers, one after another, did that write to a disk; only the last of them may not have ended well.
+pub record DoesPart (targets : Disks) (P : Plan) (disk : ℕ) (number before after : ℕ) (old new : Device) (how : Moved) : Type 0 where
+  pub keeps : KeepsShelf targets P old new
   pub counts : CountsEnd disk old.counts new.counts how
   pub rests : Rests new how
   pub spends : Spends before after old new
-  pub stuck : IfStuck how ((new.power ≡ true) × RoseBy before old.counts.waits new.counts.waits)
+  pub stuck : IfStuck how ((new.power ≡ Rattle.std.specs.Prelude.true) × RoseBy before old.counts.waits new.counts.waits)
   pub buffer : IfBack how (λ back. back.number ≡ number)
-  pub moments : Path DeviceStep (IsWriting w old) old new
+  pub moments : Path DeviceStep (IsWriting P old) old new
+
+-- they wrote the record
+abbrev pub WritesPart : RecordWrite → ℕ → ℕ → ℕ → ℕ → Device → Device → Moved → Type 0
+WritesPart w = DoesPart w.targets (IsOfRecord w)

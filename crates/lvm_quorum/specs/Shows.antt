@@ -11,10 +11,10 @@ use Rattle.lvm_num.specs.Record.{Frames}
 use Rattle.lvm_rec.specs.Slots.{BothBefore}
 use Rattle.lvm_disk.specs.Device.{Media, Image, Device, image_of, MayLeave}
 use Rattle.lvm_kept.specs.Contents.{has_records, newest_at, contents_of}
-use Rattle.lvm_kept.specs.Torn.{RecordWrite, on_disk, MayWriteAll, DescriptorsChange, StatusesChange, written}
+use Rattle.lvm_kept.specs.Torn.{RecordWrite, on_disk, IsOfRecord, MayWriteAll, DescriptorsChange, StatusesChange, written}
 use Rattle.lvm_quorum.specs.declared.homes.Homes.{Homes}
 use Rattle.lvm_quorum.specs.Homes.{SparesNewest}
-use Rattle.lvm_quorum.specs.Written.{write_of, IsWriting, KeepsShelf, EndsOn}
+use Rattle.lvm_quorum.specs.Written.{write_of, IsWriting, KeepsShelf, EndsOn, StandsTold}
 
 -- The record may be written where the slot that comes next spares the newest one, under a stamp after all that stand in the slots.
 abbrev pub IsFit : RecordWrite → Homes → Image → ℕ → Type 0
@@ -34,18 +34,18 @@ StatusMayBeWritten =
 abbrev pub DescriptorsOldOrNew : Type 0
 DescriptorsOldOrNew =
     (w : RecordWrite) (group : Descriptor) (old now : Device) (media : Media) (image : Image) → w.kind ≡ kind.Descriptor → old.media ≡ Some media
-    → MayWriteAll Descriptor descriptor_of w group (image_of old.sizes media) → IsWriting w old now → MayLeave now image
+    → MayWriteAll Descriptor descriptor_of w group (image_of old.sizes media) → IsWriting (IsOfRecord w) old now → MayLeave now image
     → DescriptorsChange w.targets (written w group) (contents_of (image_of old.sizes media)) (contents_of image)
 
 abbrev pub StatusesOldOrNew : Type 0
 StatusesOldOrNew =
     (w : RecordWrite) (status : Status) (old now : Device) (media : Media) (image : Image) → w.kind ≡ kind.Status → old.media ≡ Some media
-    → MayWriteAll Status status_of w status (image_of old.sizes media) → IsWriting w old now → MayLeave now image
+    → MayWriteAll Status status_of w status (image_of old.sizes media) → IsWriting (IsOfRecord w) old now → MayLeave now image
     → StatusesChange w.targets (written w status) (contents_of (image_of old.sizes media)) (contents_of image)
 
 -- Where the write to a target ended well, the new record is its newest.
 abbrev pub WrittenIsNewest : Type 0 → Type 0
 WrittenIsNewest X =
     (content_of : List ℕ → Result X ℕ) (w : RecordWrite) (x : X) (failed : Disks) (old new : Device) (was is : Media) (d : ℕ) → old.media ≡ Some was → new.media ≡ Some is
-    → MayWriteAll X content_of w x (image_of old.sizes was) → KeepsShelf w old new → EndsOn w failed old new d → IsTrue (w.targets d) → IsFalse (failed d)
+    → MayWriteAll X content_of w x (image_of old.sizes was) → KeepsShelf w.targets (IsOfRecord w) old new → EndsOn w.targets (StandsTold w) failed old new d → IsTrue (w.targets d) → IsFalse (failed d)
     → newest_at content_of w.kind (image_of new.sizes is) d ≡ Some (written w x)

@@ -1,4 +1,4 @@
--- What a write of a record to several disks does, disk by disk.
+-- What a write of a record or of a note to several disks does, disk by disk.
 use Rattle.std.specs.Prelude.{◌≡◌, ℕ, ◌<◌, ◌≤◌, ◌&&◌, not, nat_lt, true, false, [], Some, IfSome, IsTrue, IsFalse, slice_get}
 use Rattle.lvm_num.specs.declared.record.Kind.{Kind}
 use Rattle.lvm_num.specs.declared.record.Framed.{Framed}
@@ -8,8 +8,8 @@ use Rattle.lvm_num.specs.Geometry.{data_start}
 use Rattle.lvm_disk.specs.Counts.{Rose, RoseBy}
 use Rattle.lvm_disk.specs.Device.{Image, Device, image_of, MayLeave}
 use Rattle.lvm_disk.specs.Steps.{BothTold}
-use Rattle.lvm_kept.specs.Plans.{ChangesBy}
-use Rattle.lvm_kept.specs.Torn.{RecordWrite, IsOfRecord, StandsOn}
+use Rattle.lvm_kept.specs.Plans.{Plan, ChangesBy}
+use Rattle.lvm_kept.specs.Torn.{RecordWrite, StandsOn}
 use Rattle.lvm_quorum.specs.declared.homes.Homes.{Homes}
 use Rattle.lvm_quorum.specs.declared.write.Wrote.{Wrote}
 use Rattle.lvm_quorum.specs.declared.write.Wrote.TheVariants as wrote
@@ -26,20 +26,19 @@ HasRoom device d = (size : ℕ) × (slice_get device.sizes d ≡ Some size) × (
 abbrev pub HaveRoom : Device → Disks → Type 0
 HaveRoom device targets = (d : ℕ) → IsTrue (targets d) → HasRoom device d
 
--- each crash image is the media at first, but for sectors of the record in the targets' slots; so it is at each moment of the write
-abbrev pub IsWriting : RecordWrite → Device → Device → Type 0
-IsWriting w old now = IfSome old.media (λ media. (image : Image) → MayLeave now image → ChangesBy (IsOfRecord w) (image_of old.sizes media) image)
+-- each crash image is the media at first, but for what the write may bring; so it is at each moment of it
+abbrev pub IsWriting : Plan → Device → Device → Type 0
+IsWriting P old now = IfSome old.media (λ media. (image : Image) → MayLeave now image → ChangesBy P (image_of old.sizes media) image)
 
--- The shelf is as it was, but for what the write counts and for sectors of the record in the targets' slots; other disks than the targets
--- are left alone.
-pub record KeepsShelf (w : RecordWrite) (old new : Device) : Type 0 where
+-- The shelf is as it was, but for what a write to these disks counts and for what it may bring to their sectors; other disks are left alone.
+pub record KeepsShelf (targets : Disks) (P : Plan) (old new : Device) : Type 0 where
   pub sizes : new.sizes ≡ old.sizes
   pub arranges : new.arranges ≡ old.arranges
   pub orders : new.orders ≡ old.orders
   pub misses : new.counts.misses ≡ old.counts.misses
-  pub starts : (d : ℕ) → IsFalse (w.targets d) → new.counts.starts d ≡ old.counts.starts d
-  pub faults : (d : ℕ) → IsFalse (w.targets d) → new.counts.faults d ≡ old.counts.faults d
-  pub media : BothTold old.media new.media (λ was is. ChangesBy (IsOfRecord w) (image_of old.sizes was) (image_of new.sizes is))
+  pub starts : (d : ℕ) → IsFalse (targets d) → new.counts.starts d ≡ old.counts.starts d
+  pub faults : (d : ℕ) → IsFalse (targets d) → new.counts.faults d ≡ old.counts.faults d
+  pub media : BothTold old.media new.media (λ was is. ChangesBy P (image_of old.sizes was) (image_of new.sizes is))
 
 -- all of the record stands on a target, where the content is told
 abbrev pub StandsTold : RecordWrite → Device → ℕ → Type 0
@@ -47,11 +46,11 @@ StandsTold w device d = IfSome device.media (λ media. StandsOn w (image_of devi
 
 -- How the write of each disk ended: on a target that isn't among the failed all of it stands and its faults are as before,
 -- on a failed one the faults rose; another disk is no failed one, and its faults are as before.
-pub record EndsOn (w : RecordWrite) (failed : Disks) (old new : Device) (d : ℕ) : Type 0 where
-  pub stands : IsTrue (w.targets d) → IsFalse (failed d) → StandsTold w new d
+pub record EndsOn (targets : Disks) (Stands : Device → ℕ → Type 0) (failed : Disks) (old new : Device) (d : ℕ) : Type 0 where
+  pub stands : IsTrue (targets d) → IsFalse (failed d) → Stands new d
   pub well : IsFalse (failed d) → new.counts.faults d ≡ old.counts.faults d
   pub badly : IsTrue (failed d) → Rose (old.counts.faults d) (new.counts.faults d)
-  pub target : IsTrue (failed d) → IsTrue (w.targets d)
+  pub target : IsTrue (failed d) → IsTrue (targets d)
 
 -- the targets that didn't fail
 abbrev pub written_well : Disks → Disks → Disks
@@ -59,7 +58,6 @@ written_well targets failed d = targets d && not (failed d)
 
 -- ---- the answers
 
--- what holds of the disks that failed and the buffer, where it was tried on each disk
 abbrev pub IfEnded : Wrote → (ℕ → Buffer → Type 0) → Type 0
 IfEnded (wrote.Ended failed buf) P = P failed buf
 IfEnded wrote.Dark P = Unit {0}
@@ -94,10 +92,14 @@ pub record IsGivenUp (patience : ℕ) (old new : Device) : Type 0 where
   pub waits : RoseBy patience old.counts.waits new.counts.waits
 
 -- Where it was broken off: at a target, when those before it had been written or had failed, and nothing had started on those behind it.
-pub record IsBrokenOff (w : RecordWrite) (old new : Device) (first homes : Homes) : Type 0 where
+pub record IsBrokenOff (targets : Disks) (Stands : Device → ℕ → Type 0) (old new : Device) (Next : ℕ → Disks → Type 0) : Type 0 where
   pub disk : ℕ
   pub failed : Disks
-  pub target : IsTrue (w.targets disk)
-  pub before : (d : ℕ) → d < disk → EndsOn w failed old new d
+  pub target : IsTrue (targets disk)
+  pub before : (d : ℕ) → d < disk → EndsOn targets Stands failed old new d
   pub behind : (d : ℕ) → disk < d → new.counts.starts d ≡ old.counts.starts d
-  pub homes_are : Flips w.kind (λ d. nat_lt d disk && written_well w.targets failed d) first homes
+  pub next : Next disk failed
+
+-- the slots that come next, where the disks below one were tried
+abbrev pub FlipBelow : Kind → Disks → Homes → Homes → ℕ → Disks → Type 0
+FlipBelow kind targets first homes disk failed = Flips kind (λ d. nat_lt d disk && written_well targets failed d) first homes

@@ -7,6 +7,7 @@ mod groups;
 mod homes;
 mod laws;
 mod names;
+mod notes;
 mod shown;
 mod write;
 
@@ -14,10 +15,13 @@ pub use choice::{Choice, ChooseFault, choose};
 pub use homes::Homes;
 pub use laws::{records_are_old_or_new, records_may_be_written, written_is_newest};
 pub use lvm_survey::{Survey, SurveyRow, Surveyed, survey_disks};
+pub use notes::empty_notes;
 pub use write::{Wrote, write_record};
 
 #[cfg(test)]
 mod choice_tests;
+#[cfg(test)]
+mod notes_tests;
 #[cfg(test)]
 mod survey_tests;
 #[cfg(test)]

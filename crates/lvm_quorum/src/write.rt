@@ -5,8 +5,9 @@ ghost use Rattle.lvm_num.specs.Record.{frame, longest_content, record_sectors, s
 ghost use Rattle.lvm_disk.specs.Counts.{RoseBy};
 ghost use Rattle.lvm_disk.specs.Device.{IsReady};
 ghost use Rattle.lvm_disk.specs.Paths.{DeviceStep, Path};
+ghost use Rattle.lvm_kept.specs.Torn.{IsOfRecord};
 ghost use Rattle.lvm_quorum.specs.Homes.{Flips};
-ghost use Rattle.lvm_quorum.specs.Written.{write_of, HasRoom, HaveRoom, IsWriting, KeepsShelf, EndsOn, written_well, IfEnded, OnDark, OnStuck, OnBroken, IsDarkened, IsGivenUp, IsBrokenOff};
+ghost use Rattle.lvm_quorum.specs.Written.{write_of, HasRoom, HaveRoom, IsWriting, KeepsShelf, EndsOn, written_well, IfEnded, OnDark, OnStuck, OnBroken, IsDarkened, IsGivenUp, IsBrokenOff, FlipBelow, StandsTold};
 ghost use Rattle.lvm_quorum.specs.Parts.{write_to, PartsStand, IfDone, WritesPart};
 
 use crate::homes::Homes;
@@ -46,19 +47,19 @@ pub fn write_record<S: Shelf>(
     requires fits { length content.now ≤ longest_content kind }
     requires targets { HaveRoom (S.device shelf.old) (has targets) }
     // how each disk's write ended, and which slots come next
-    ensures each { let w = write_of kind (record { stamp = stamp; content = content.now }) (has targets) homes.old in IfEnded result (λ failed back. (d : ℕ) → EndsOn w (has failed) (S.device shelf.old) (S.device shelf.new) d) }
+    ensures each { let w = write_of kind (record { stamp = stamp; content = content.now }) (has targets) homes.old in IfEnded result (λ failed back. (d : ℕ) → EndsOn w.targets (StandsTold w) (has failed) (S.device shelf.old) (S.device shelf.new) d) }
     ensures homes { IfEnded result (λ failed back. Flips kind (written_well (has targets) (has failed)) homes.old homes.new) }
     ensures buffer { IfEnded result (λ failed back. back.number ≡ buf.number) }
     ensures ready { IfEnded result (λ failed back. IsReady (S.device shelf.new) × ((S.device shelf.new).counts.cuts ≡ (S.device shelf.old).counts.cuts)) }
     // where it was broken off
     ensures dark { OnDark result (IsDarkened (S.device shelf.old) (S.device shelf.new)) }
     ensures stuck { OnStuck result (IsGivenUp patience.old.left (S.device shelf.old) (S.device shelf.new)) }
-    ensures broken { let w = write_of kind (record { stamp = stamp; content = content.now }) (has targets) homes.old in OnBroken result (IsBrokenOff w (S.device shelf.old) (S.device shelf.new) homes.old homes.new) }
+    ensures broken { let w = write_of kind (record { stamp = stamp; content = content.now }) (has targets) homes.old in OnBroken result (IsBrokenOff w.targets (StandsTold w) (S.device shelf.old) (S.device shelf.new) (FlipBelow kind w.targets homes.old homes.new)) }
     // whatever the answer
     ensures patience { patience.new.left ≤ patience.old.left }
     ensures waited { RoseBy (patience.old.left - patience.new.left) (S.device shelf.old).counts.waits (S.device shelf.new).counts.waits }
-    ensures keeps { let w = write_of kind (record { stamp = stamp; content = content.now }) (has targets) homes.old in KeepsShelf w (S.device shelf.old) (S.device shelf.new) }
-    ensures moments { let w = write_of kind (record { stamp = stamp; content = content.now }) (has targets) homes.old in Path DeviceStep (IsWriting w (S.device shelf.old)) (S.device shelf.old) (S.device shelf.new) }
+    ensures keeps { let w = write_of kind (record { stamp = stamp; content = content.now }) (has targets) homes.old in KeepsShelf w.targets (IsOfRecord w) (S.device shelf.old) (S.device shelf.new) }
+    ensures moments { let w = write_of kind (record { stamp = stamp; content = content.now }) (has targets) homes.old in Path DeviceStep (IsWriting (IsOfRecord w) (S.device shelf.old)) (S.device shelf.old) (S.device shelf.new) }
 {
     let mut failed = DiskSet::empty();
     let mut buf = buf;

@@ -1,15 +1,15 @@
-ghost use Rattle.std.specs.Prelude.{◌≡◌, ◌<◌, ◌≤◌, ℕ, length, IsTrue};
+ghost use Rattle.std.specs.Prelude.{◌≡◌, IfSome};
 ghost use Rattle.lvm_num.specs.Record.{longest_content};
 ghost use Rattle.lvm_num.specs.Disks.{has};
-ghost use Rattle.lvm_quorum.specs.Written.{HasRoom};
+ghost use Rattle.lvm_quorum.specs.Written.{HaveRoom};
 
 use crate::choice_tests::is_survey;
 use crate::{Homes, Wrote, write_record};
+use lvm_survey::{Survey, SurveyRow};
 use lvm_disk::{Act, MemShelf, Planned, Shelf, names_disks};
 use lvm_move::{Patience, relight};
 use lvm_num::{DiskSet, Kind, Pbuf, Rows, Stamp};
 use lvm_rec::read_slot;
-use lvm_survey::{Survey, SurveyRow};
 use std::alloc::Global;
 use std::test::Fail;
 
@@ -23,7 +23,7 @@ const LAST: Stamp = Stamp { epoch: 50, seq: 3 };
 const LONG: usize = 571_388;
 
 // Two disks with just the room for records.
-fn shelf(alloc: Global, plan: &[Planned]) -> Result<MemShelf, Fail> {
+pub fn shelf(alloc: Global, plan: &[Planned]) -> Result<MemShelf, Fail> {
     if !names_disks(plan, 2) {
         return Err("no such disk".into());
     }
@@ -39,7 +39,7 @@ fn replan(alloc: Global, shelf: &mut MemShelf, plan: &[Planned]) -> Result<(), F
     Ok(())
 }
 
-fn at(call: u64, act: Act) -> Planned {
+pub fn at(call: u64, act: Act) -> Planned {
     Planned { call, act }
 }
 
@@ -58,32 +58,23 @@ fn content(alloc: Global, len: usize, last: u8) -> Result<Rows<u8>, Fail> {
     Ok(Rows::new(bytes))
 }
 
-// Whether each disk has room for records.
-fn has_room<S: Shelf>(shelf: &S) -> bool
-    ensures { IsTrue result → (d : ℕ) → d < length (S.device shelf.now).sizes → HasRoom (S.device shelf.now) d }
-{
-    for disk in 0..shelf.disks() {
-        if shelf.sectors(disk) < 4096 {
-            return false;
-        }
-    }
-    true
-}
-
-fn all_disks(count: u16) -> DiskSet
-    requires { count ≤ 128 }
-    ensures { (d : ℕ) → IsTrue (has result d) → d < count }
+// All disks, where each has room for records.
+pub fn all_disks<S: Shelf>(shelf: &S) -> Option<DiskSet>
+    ensures { IfSome result (λ disks. HaveRoom (S.device shelf.now) (has disks)) }
 {
     let mut disks = DiskSet::empty();
-    for disk in 0..count {
+    for disk in 0..shelf.disks() {
+        if shelf.sectors(disk) < 4096 {
+            return None;
+        }
         disks = disks.with(disk);
     }
-    disks
+    Some(disks)
 }
 
 // How a write to all disks ended.
 #[derive(Clone, Copy, Debug, PartialEq, Eq)]
-enum End {
+pub enum End {
     Ended { failed: [bool; 2] },
     Dark,
     Stuck,
@@ -101,22 +92,21 @@ fn write<S: Shelf>(
         return Err("a transfer is out".into());
     }
     relight(shelf);
-    if !has_room(shelf) || stamp.epoch == 0 || stamp.seq == 0 || content.len() > longest(kind) {
+    let targets = all_disks(shelf).ok_or("too small")?;
+    if stamp.epoch == 0 || stamp.seq == 0 || content.len() > longest(kind) {
         return Err("no record".into());
     }
-    let targets = all_disks(shelf.disks());
     let buf = Pbuf::fresh(alloc, 9)?;
-    match write_record(shelf, kind, stamp, content, targets, homes, buf, patience) {
-        Wrote::Ended { failed, buf } => {
-            if buf.number() != 9 {
-                return Err("another buffer".into());
-            }
-            let failed = [failed.has(0), failed.has(1)];
-            Ok(End::Ended { failed })
-        }
-        Wrote::Dark => Ok(End::Dark),
-        Wrote::Stuck => Ok(End::Stuck),
-    }
+    Ok(
+        match write_record(shelf, kind, stamp, content, targets, homes, buf, patience) {
+            Wrote::Ended { failed, buf } if buf.number() == 9 => End::Ended {
+                failed: [failed.has(0), failed.has(1)],
+            },
+            Wrote::Ended { .. } => return Err("another buffer".into()),
+            Wrote::Dark => End::Dark,
+            Wrote::Stuck => End::Stuck,
+        },
+    )
 }
 
 fn longest(kind: Kind) -> usize

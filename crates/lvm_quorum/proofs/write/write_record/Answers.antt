@@ -2,6 +2,7 @@ use Rattle.std.proofs.Common.{◌+◌, arith, sym, ◌∙◌}
 use Rattle.lvm_num.specs.Disks.{has}
 use Rattle.lvm_move.specs.declared.moves.Moved.TheVariants as moved
 use Rattle.lvm_quorum.specs.declared.write.SlotWrite.{SlotWrite}
+use Rattle.lvm_kept.specs.Torn.{IsOfRecord}
 use Rattle.lvm_quorum.specs.Written.{write_of}
 use Rattle.lvm_quorum.proofs.Writing.{moments_on}
 use Rattle.lvm_quorum.proofs.Transfers.{keeps_then}
@@ -42,7 +43,7 @@ returns-in-Dark-clause-keeps g c =
     let target = sym c.has.ensures.member ∙ c.if-not-has.false in
     let second = c.is_second.ensures ∙ slot_still w c.args.buf.number c.args.patience.now.left c.loop-disk.patience.left old now c.args.homes.now c.loop-disk.homes c.loop-disk.failed c.loop-disk.buf c.loop-disk.disk c.loop-disk.invariant in
     let part = part_of_all one (has c.args.targets) c.args.homes.now target second c.loop-disk.buf.number c.loop-disk.patience.left c.write_slot.new.patience.left now new (moved.Dark c.in-Dark.started) c.in-Dark.ensures.part in
-    keeps_then w old now new c.loop-disk.invariant.keeps part.keeps
+    keeps_then w.targets (IsOfRecord w) old now new c.loop-disk.invariant.all.keeps part.keeps
 
 pub returns-in-Dark-clause-moments : goal.returns-in-Dark-clause-moments
 returns-in-Dark-clause-moments g c =
@@ -54,7 +55,7 @@ returns-in-Dark-clause-moments g c =
     let target = sym c.has.ensures.member ∙ c.if-not-has.false in
     let second = c.is_second.ensures ∙ slot_still w c.args.buf.number c.args.patience.now.left c.loop-disk.patience.left old now c.args.homes.now c.loop-disk.homes c.loop-disk.failed c.loop-disk.buf c.loop-disk.disk c.loop-disk.invariant in
     let part = part_of_all one (has c.args.targets) c.args.homes.now target second c.loop-disk.buf.number c.loop-disk.patience.left c.write_slot.new.patience.left now new (moved.Dark c.in-Dark.started) c.in-Dark.ensures.part in
-    moments_on w old now c.loop-disk.invariant.keeps.media new c.loop-disk.invariant.moments part.moments
+    moments_on (IsOfRecord w) old now c.loop-disk.invariant.all.keeps.media new c.loop-disk.invariant.all.moments part.moments
 
 pub returns-in-Stuck-clause-broken : goal.returns-in-Stuck-clause-broken
 returns-in-Stuck-clause-broken g c =
@@ -79,7 +80,7 @@ returns-in-Stuck-clause-keeps g c =
     let target = sym c.has.ensures.member ∙ c.if-not-has.false in
     let second = c.is_second.ensures ∙ slot_still w c.args.buf.number c.args.patience.now.left c.loop-disk.patience.left old now c.args.homes.now c.loop-disk.homes c.loop-disk.failed c.loop-disk.buf c.loop-disk.disk c.loop-disk.invariant in
     let part = part_of_all one (has c.args.targets) c.args.homes.now target second c.loop-disk.buf.number c.loop-disk.patience.left c.write_slot.new.patience.left now new moved.Stuck c.in-Stuck.ensures.part in
-    keeps_then w old now new c.loop-disk.invariant.keeps part.keeps
+    keeps_then w.targets (IsOfRecord w) old now new c.loop-disk.invariant.all.keeps part.keeps
 
 pub returns-in-Stuck-clause-moments : goal.returns-in-Stuck-clause-moments
 returns-in-Stuck-clause-moments g c =
@@ -91,7 +92,7 @@ returns-in-Stuck-clause-moments g c =
     let target = sym c.has.ensures.member ∙ c.if-not-has.false in
     let second = c.is_second.ensures ∙ slot_still w c.args.buf.number c.args.patience.now.left c.loop-disk.patience.left old now c.args.homes.now c.loop-disk.homes c.loop-disk.failed c.loop-disk.buf c.loop-disk.disk c.loop-disk.invariant in
     let part = part_of_all one (has c.args.targets) c.args.homes.now target second c.loop-disk.buf.number c.loop-disk.patience.left c.write_slot.new.patience.left now new moved.Stuck c.in-Stuck.ensures.part in
-    moments_on w old now c.loop-disk.invariant.keeps.media new c.loop-disk.invariant.moments part.moments
+    moments_on (IsOfRecord w) old now c.loop-disk.invariant.all.keeps.media new c.loop-disk.invariant.all.moments part.moments
 
 pub loop-disk-preserved : goal.loop-disk-preserved
 loop-disk-preserved g c =

@@ -1,4 +1,5 @@
 use Rattle.std.proofs.Common.{arith, ◌+◌}
+use Rattle.lvm_kept.specs.Torn.{IsOfRecord}
 use Rattle.lvm_quorum.specs.Parts.{write_to, PartsStand}
 use Rattle.lvm_num.specs.Buffer.{Buffer}
 use Rattle.lvm_num.specs.Record.{record_sectors}
@@ -17,7 +18,7 @@ returns-in_default g c =
     let w = write_to c.args.one in
     let new = g.S.Shelf.device c.write_piece.new.shelf in
     record {
-      part = part_then w c.args.one.disk c.args.buf.number c.args.patience.now.left c.loop-first.patience.left c.write_piece.new.patience.left (g.S.Shelf.device c.args.shelf.now) (g.S.Shelf.device c.loop-first.shelf) new
+      part = part_then w.targets (IsOfRecord w) c.args.one.disk c.args.buf.number c.args.patience.now.left c.loop-first.patience.left c.write_piece.new.patience.left (g.S.Shelf.device c.args.shelf.now) (g.S.Shelf.device c.loop-first.shelf) new
           c.loop-first.buf c.write_piece.result c.loop-first.invariant.wrote.part c.write_piece.ensures.part;
       stands = not_done c.write_piece.result (λ (back : Buffer). PartsStand w new c.args.one.disk 0 (record_sectors (length c.args.one.content.now))) c.in_default.not-Done;
     }

@@ -1,0 +1,155 @@
+use Rattle.std.proofs.Common.{◌+◌, ℕ, arith, sym, subst, ◌∙◌}
+use Rattle.lvm_num.specs.Buffer.{Sector}
+use Rattle.lvm_num.specs.Disks.{Disks, has}
+use Rattle.lvm_disk.specs.Counts.{Rose}
+use Rattle.lvm_kept.specs.Torn.{IsOfNote}
+use Rattle.lvm_move.specs.declared.moves.Moved.TheVariants as moved
+use Rattle.lvm_quorum.specs.Notes.{empty_note, NoteTold}
+use Rattle.lvm_quorum.proofs.Writing.{moments_on}
+use Rattle.lvm_quorum.proofs.Transfers.{keeps_then, spends_then, spent_then}
+use Rattle.lvm_quorum.proofs.Tried.{nothing_tried, none_here, well_here, badly_here, broken_here, all_tried, as_tried}
+use Rattle.lvm_quorum.proofs.Emptying.{note_stays, note_part, note_alone}
+use Rattle.lvm_quorum.proofs.notes.empty_notes.Goals as goal
+use Rattle.lvm_quorum.proofs.notes.empty_notes.Goals.{in-Done, in-Failed}
+
+pub loop-disk-init : goal.loop-disk-init
+loop-disk-init g c = nothing_tried (has c.args.targets) (IsOfNote (has c.args.targets) (empty_note c.args.stamp)) (NoteTold (empty_note c.args.stamp)) (note_stays (has c.args.targets) (empty_note c.args.stamp)) c.args.patience.now.left (g.S.Shelf.device c.args.shelf.now) c.empty-failed.result c.args.buf c.requires.ready c.empty-failed.ensures
+
+pub loop-disk-preserved-then-not-has : goal.loop-disk-preserved-then-not-has
+loop-disk-preserved-then-not-has g c =
+    let old = g.S.Shelf.device c.args.shelf.now in
+    let now = g.S.Shelf.device c.loop-disk.shelf in
+    none_here (has c.args.targets) (IsOfNote (has c.args.targets) (empty_note c.args.stamp)) (NoteTold (empty_note c.args.stamp)) (note_stays (has c.args.targets) (empty_note c.args.stamp)) c.args.buf.number c.args.patience.now.left c.loop-disk.patience.left old now c.loop-disk.failed c.loop-disk.buf c.loop-disk.disk c.loop-disk.invariant (sym c.has.ensures.member ∙ c.if-not-has.true)
+
+pub returns-in-Dark-clause-dark : goal.returns-in-Dark-clause-dark
+returns-in-Dark-clause-dark g c =
+    let old = g.S.Shelf.device c.args.shelf.now in
+    let now = g.S.Shelf.device c.loop-disk.shelf in
+    let new = g.S.Shelf.device c.write_sector.new.shelf in
+    let target = sym c.has.ensures.member ∙ c.if-not-has.false in
+    let part = note_part c.write_note-note.result (empty_note c.args.stamp) c.loop-disk.disk c.loop-disk.buf.number c.loop-disk.patience.left c.write_sector.new.patience.left now new (moved.Dark c.in-Dark.started) c.write_note-note.ensures c.in-Dark.ensures.part (has c.args.targets) target in
+    record { flights = part.rests.0; power = part.rests.1; cuts = subst (λ (n : ℕ). Rose n new.counts.cuts) c.loop-disk.invariant.cuts part.counts.1 }
+
+pub returns-in-Dark-clause-broken : goal.returns-in-Dark-clause-broken
+returns-in-Dark-clause-broken g c =
+    let old = g.S.Shelf.device c.args.shelf.now in
+    let now = g.S.Shelf.device c.loop-disk.shelf in
+    let new = g.S.Shelf.device c.write_sector.new.shelf in
+    let target = sym c.has.ensures.member ∙ c.if-not-has.false in
+    let part = note_part c.write_note-note.result (empty_note c.args.stamp) c.loop-disk.disk c.loop-disk.buf.number c.loop-disk.patience.left c.write_sector.new.patience.left now new (moved.Dark c.in-Dark.started) c.write_note-note.ensures c.in-Dark.ensures.part (has c.args.targets) target in
+    broken_here (has c.args.targets) (IsOfNote (has c.args.targets) (empty_note c.args.stamp)) (NoteTold (empty_note c.args.stamp)) (note_stays (has c.args.targets) (empty_note c.args.stamp)) c.args.buf.number c.args.patience.now.left c.loop-disk.patience.left old now c.loop-disk.failed c.loop-disk.buf c.loop-disk.disk c.loop-disk.invariant new (λ (disk : ℕ) (failed : Disks). Unit {0}) target part.keeps part.counts.0 (note_alone c.write_note-note.result (empty_note c.args.stamp) c.loop-disk.disk c.loop-disk.buf.number c.loop-disk.patience.left c.write_sector.new.patience.left now new (moved.Dark c.in-Dark.started) c.write_note-note.ensures c.in-Dark.ensures.part) tt
+
+pub returns-in-Dark-clause-patience : goal.returns-in-Dark-clause-patience
+returns-in-Dark-clause-patience g c =
+    let old = g.S.Shelf.device c.args.shelf.now in
+    let now = g.S.Shelf.device c.loop-disk.shelf in
+    let new = g.S.Shelf.device c.write_sector.new.shelf in
+    let target = sym c.has.ensures.member ∙ c.if-not-has.false in
+    let part = note_part c.write_note-note.result (empty_note c.args.stamp) c.loop-disk.disk c.loop-disk.buf.number c.loop-disk.patience.left c.write_sector.new.patience.left now new (moved.Dark c.in-Dark.started) c.write_note-note.ensures c.in-Dark.ensures.part (has c.args.targets) target in
+    (spends_then c.args.patience.now.left c.loop-disk.patience.left c.write_sector.new.patience.left old now new c.loop-disk.invariant.spends part.spends).falls
+
+pub returns-in-Dark-clause-waited : goal.returns-in-Dark-clause-waited
+returns-in-Dark-clause-waited g c =
+    let old = g.S.Shelf.device c.args.shelf.now in
+    let now = g.S.Shelf.device c.loop-disk.shelf in
+    let new = g.S.Shelf.device c.write_sector.new.shelf in
+    let target = sym c.has.ensures.member ∙ c.if-not-has.false in
+    let part = note_part c.write_note-note.result (empty_note c.args.stamp) c.loop-disk.disk c.loop-disk.buf.number c.loop-disk.patience.left c.write_sector.new.patience.left now new (moved.Dark c.in-Dark.started) c.write_note-note.ensures c.in-Dark.ensures.part (has c.args.targets) target in
+    (spends_then c.args.patience.now.left c.loop-disk.patience.left c.write_sector.new.patience.left old now new c.loop-disk.invariant.spends part.spends).waits
+
+pub returns-in-Dark-clause-keeps : goal.returns-in-Dark-clause-keeps
+returns-in-Dark-clause-keeps g c =
+    let old = g.S.Shelf.device c.args.shelf.now in
+    let now = g.S.Shelf.device c.loop-disk.shelf in
+    let new = g.S.Shelf.device c.write_sector.new.shelf in
+    let target = sym c.has.ensures.member ∙ c.if-not-has.false in
+    let part = note_part c.write_note-note.result (empty_note c.args.stamp) c.loop-disk.disk c.loop-disk.buf.number c.loop-disk.patience.left c.write_sector.new.patience.left now new (moved.Dark c.in-Dark.started) c.write_note-note.ensures c.in-Dark.ensures.part (has c.args.targets) target in
+    keeps_then (has c.args.targets) (IsOfNote (has c.args.targets) (empty_note c.args.stamp)) old now new c.loop-disk.invariant.keeps part.keeps
+
+pub returns-in-Dark-clause-moments : goal.returns-in-Dark-clause-moments
+returns-in-Dark-clause-moments g c =
+    let old = g.S.Shelf.device c.args.shelf.now in
+    let now = g.S.Shelf.device c.loop-disk.shelf in
+    let new = g.S.Shelf.device c.write_sector.new.shelf in
+    let target = sym c.has.ensures.member ∙ c.if-not-has.false in
+    let part = note_part c.write_note-note.result (empty_note c.args.stamp) c.loop-disk.disk c.loop-disk.buf.number c.loop-disk.patience.left c.write_sector.new.patience.left now new (moved.Dark c.in-Dark.started) c.write_note-note.ensures c.in-Dark.ensures.part (has c.args.targets) target in
+    moments_on (IsOfNote (has c.args.targets) (empty_note c.args.stamp)) old now c.loop-disk.invariant.keeps.media new c.loop-disk.invariant.moments part.moments
+
+pub returns-in-Stuck-clause-stuck : goal.returns-in-Stuck-clause-stuck
+returns-in-Stuck-clause-stuck g c =
+    let old = g.S.Shelf.device c.args.shelf.now in
+    let now = g.S.Shelf.device c.loop-disk.shelf in
+    let new = g.S.Shelf.device c.write_sector.new.shelf in
+    let target = sym c.has.ensures.member ∙ c.if-not-has.false in
+    let part = note_part c.write_note-note.result (empty_note c.args.stamp) c.loop-disk.disk c.loop-disk.buf.number c.loop-disk.patience.left c.write_sector.new.patience.left now new (moved.Stuck) c.write_note-note.ensures c.in-Stuck.ensures.part (has c.args.targets) target in
+    record { power = part.stuck.0; cuts = part.counts.1 ∙ c.loop-disk.invariant.cuts; waits = spent_then c.args.patience.now.left c.loop-disk.patience.left old now new c.loop-disk.invariant.spends part.stuck.1 }
+
+pub returns-in-Stuck-clause-broken : goal.returns-in-Stuck-clause-broken
+returns-in-Stuck-clause-broken g c =
+    let old = g.S.Shelf.device c.args.shelf.now in
+    let now = g.S.Shelf.device c.loop-disk.shelf in
+    let new = g.S.Shelf.device c.write_sector.new.shelf in
+    let target = sym c.has.ensures.member ∙ c.if-not-has.false in
+    let part = note_part c.write_note-note.result (empty_note c.args.stamp) c.loop-disk.disk c.loop-disk.buf.number c.loop-disk.patience.left c.write_sector.new.patience.left now new (moved.Stuck) c.write_note-note.ensures c.in-Stuck.ensures.part (has c.args.targets) target in
+    broken_here (has c.args.targets) (IsOfNote (has c.args.targets) (empty_note c.args.stamp)) (NoteTold (empty_note c.args.stamp)) (note_stays (has c.args.targets) (empty_note c.args.stamp)) c.args.buf.number c.args.patience.now.left c.loop-disk.patience.left old now c.loop-disk.failed c.loop-disk.buf c.loop-disk.disk c.loop-disk.invariant new (λ (disk : ℕ) (failed : Disks). Unit {0}) target part.keeps part.counts.0 (note_alone c.write_note-note.result (empty_note c.args.stamp) c.loop-disk.disk c.loop-disk.buf.number c.loop-disk.patience.left c.write_sector.new.patience.left now new (moved.Stuck) c.write_note-note.ensures c.in-Stuck.ensures.part) tt
+
+pub returns-in-Stuck-clause-patience : goal.returns-in-Stuck-clause-patience
+returns-in-Stuck-clause-patience g c =
+    let old = g.S.Shelf.device c.args.shelf.now in
+    let now = g.S.Shelf.device c.loop-disk.shelf in
+    let new = g.S.Shelf.device c.write_sector.new.shelf in
+    let target = sym c.has.ensures.member ∙ c.if-not-has.false in
+    let part = note_part c.write_note-note.result (empty_note c.args.stamp) c.loop-disk.disk c.loop-disk.buf.number c.loop-disk.patience.left c.write_sector.new.patience.left now new (moved.Stuck) c.write_note-note.ensures c.in-Stuck.ensures.part (has c.args.targets) target in
+    (spends_then c.args.patience.now.left c.loop-disk.patience.left c.write_sector.new.patience.left old now new c.loop-disk.invariant.spends part.spends).falls
+
+pub returns-in-Stuck-clause-waited : goal.returns-in-Stuck-clause-waited
+returns-in-Stuck-clause-waited g c =
+    let old = g.S.Shelf.device c.args.shelf.now in
+    let now = g.S.Shelf.device c.loop-disk.shelf in
+    let new = g.S.Shelf.device c.write_sector.new.shelf in
+    let target = sym c.has.ensures.member ∙ c.if-not-has.false in
+    let part = note_part c.write_note-note.result (empty_note c.args.stamp) c.loop-disk.disk c.loop-disk.buf.number c.loop-disk.patience.left c.write_sector.new.patience.left now new (moved.Stuck) c.write_note-note.ensures c.in-Stuck.ensures.part (has c.args.targets) target in
+    (spends_then c.args.patience.now.left c.loop-disk.patience.left c.write_sector.new.patience.left old now new c.loop-disk.invariant.spends part.spends).waits
+
+pub returns-in-Stuck-clause-keeps : goal.returns-in-Stuck-clause-keeps
+returns-in-Stuck-clause-keeps g c =
+    let old = g.S.Shelf.device c.args.shelf.now in
+    let now = g.S.Shelf.device c.loop-disk.shelf in
+    let new = g.S.Shelf.device c.write_sector.new.shelf in
+    let target = sym c.has.ensures.member ∙ c.if-not-has.false in
+    let part = note_part c.write_note-note.result (empty_note c.args.stamp) c.loop-disk.disk c.loop-disk.buf.number c.loop-disk.patience.left c.write_sector.new.patience.left now new (moved.Stuck) c.write_note-note.ensures c.in-Stuck.ensures.part (has c.args.targets) target in
+    keeps_then (has c.args.targets) (IsOfNote (has c.args.targets) (empty_note c.args.stamp)) old now new c.loop-disk.invariant.keeps part.keeps
+
+pub returns-in-Stuck-clause-moments : goal.returns-in-Stuck-clause-moments
+returns-in-Stuck-clause-moments g c =
+    let old = g.S.Shelf.device c.args.shelf.now in
+    let now = g.S.Shelf.device c.loop-disk.shelf in
+    let new = g.S.Shelf.device c.write_sector.new.shelf in
+    let target = sym c.has.ensures.member ∙ c.if-not-has.false in
+    let part = note_part c.write_note-note.result (empty_note c.args.stamp) c.loop-disk.disk c.loop-disk.buf.number c.loop-disk.patience.left c.write_sector.new.patience.left now new (moved.Stuck) c.write_note-note.ensures c.in-Stuck.ensures.part (has c.args.targets) target in
+    moments_on (IsOfNote (has c.args.targets) (empty_note c.args.stamp)) old now c.loop-disk.invariant.keeps.media new c.loop-disk.invariant.moments part.moments
+
+pub loop-disk-preserved : goal.loop-disk-preserved
+loop-disk-preserved g c =
+    let old = g.S.Shelf.device c.args.shelf.now in
+    let now = g.S.Shelf.device c.loop-disk.shelf in
+    let new = g.S.Shelf.device c.write_sector.new.shelf in
+    let target = sym c.has.ensures.member ∙ c.if-not-has.false in
+    elim c.match-write_sector.branch [
+      | in-Done v ↦
+          as_tried (has c.args.targets) (IsOfNote (has c.args.targets) (empty_note c.args.stamp)) (NoteTold (empty_note c.args.stamp)) c.args.buf.number c.args.patience.now.left c.write_sector.new.patience.left old new c.loop-disk.failed c.match-write_sector.failed v.in-Done.back c.match-write_sector.buf (c.loop-disk.disk + 1) v.failed-is v.buf-is
+          (well_here (has c.args.targets) (IsOfNote (has c.args.targets) (empty_note c.args.stamp)) (NoteTold (empty_note c.args.stamp)) (note_stays (has c.args.targets) (empty_note c.args.stamp)) c.args.buf.number c.args.patience.now.left c.loop-disk.patience.left old now c.loop-disk.failed c.loop-disk.buf c.loop-disk.disk c.loop-disk.invariant c.write_sector.new.patience.left new v.in-Done.back target
+          (note_alone c.write_note-note.result (empty_note c.args.stamp) c.loop-disk.disk c.loop-disk.buf.number c.loop-disk.patience.left c.write_sector.new.patience.left now new (moved.Done v.in-Done.back) c.write_note-note.ensures v.in-Done.ensures.part)
+          (note_part c.write_note-note.result (empty_note c.args.stamp) c.loop-disk.disk c.loop-disk.buf.number c.loop-disk.patience.left c.write_sector.new.patience.left now new (moved.Done v.in-Done.back) c.write_note-note.ensures v.in-Done.ensures.part (has c.args.targets) target)
+          (subst (λ (s : Sector). NoteTold s new c.loop-disk.disk) c.write_note-note.ensures v.in-Done.ensures.stands))
+      | in-Failed v ↦
+          as_tried (has c.args.targets) (IsOfNote (has c.args.targets) (empty_note c.args.stamp)) (NoteTold (empty_note c.args.stamp)) c.args.buf.number c.args.patience.now.left c.write_sector.new.patience.left old new v.with-failed.result c.match-write_sector.failed v.in-Failed.back c.match-write_sector.buf (c.loop-disk.disk + 1) v.failed-is v.buf-is
+          (badly_here (has c.args.targets) (IsOfNote (has c.args.targets) (empty_note c.args.stamp)) (NoteTold (empty_note c.args.stamp)) (note_stays (has c.args.targets) (empty_note c.args.stamp)) c.args.buf.number c.args.patience.now.left c.loop-disk.patience.left old now c.loop-disk.failed c.loop-disk.buf c.loop-disk.disk c.loop-disk.invariant c.write_sector.new.patience.left new v.in-Failed.back target
+          (note_alone c.write_note-note.result (empty_note c.args.stamp) c.loop-disk.disk c.loop-disk.buf.number c.loop-disk.patience.left c.write_sector.new.patience.left now new (moved.Failed v.in-Failed.back) c.write_note-note.ensures v.in-Failed.ensures.part) v.with-failed.result
+          (note_part c.write_note-note.result (empty_note c.args.stamp) c.loop-disk.disk c.loop-disk.buf.number c.loop-disk.patience.left c.write_sector.new.patience.left now new (moved.Failed v.in-Failed.back) c.write_note-note.ensures v.in-Failed.ensures.part (has c.args.targets) target)
+          v.with-failed.ensures)
+    ]
+
+pub returns-clause-each : goal.returns-clause-each
+returns-clause-each g c =
+    all_tried (has c.args.targets) (IsOfNote (has c.args.targets) (empty_note c.args.stamp)) (NoteTold (empty_note c.args.stamp)) c.args.buf.number c.args.patience.now.left c.loop-disk.patience.left (g.S.Shelf.device c.args.shelf.now) (g.S.Shelf.device c.loop-disk.shelf) c.loop-disk.failed c.loop-disk.buf c.loop-disk.disk c.loop-disk.invariant c.requires.targets (omega arith)
