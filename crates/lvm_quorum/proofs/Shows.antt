@@ -41,7 +41,7 @@ status_may_be_written framed status targets homes image frames reads fit =
       each = λ d on. let it = fit d on in may_write Status status_of (on_disk w d) status (image.sector d) frames reads it.1.status it.2;
     }
 
-left_by : (w : RecordWrite) (old now : Device) (media : Media) (image : Image) → old.media ≡ Some media → IsWriting w old now → MayLeave now image → ChangesBy (IsOfRecord w) (image_of old.sizes media) image
+left_by : (w : RecordWrite) (old now : Device) (media : Media) (image : Image) → old.media ≡ Some media → IsWriting (IsOfRecord w) old now → MayLeave now image → ChangesBy (IsOfRecord w) (image_of old.sizes media) image
 left_by w old now media image told writing may = told_at old.media (λ m. (image : Image) → MayLeave now image → ChangesBy (IsOfRecord w) (image_of old.sizes m) image) media told writing image may
 
 pub descriptors_old_or_new : DescriptorsOldOrNew
