@@ -252,7 +252,7 @@ fn a_delayed_transfer_ends_later(rt: HostRuntime) -> Result<(), Fail> {
 // How a run by words ended: its status, what was written to the first and to the second sink, and the
 // sink for images.
 #[derive(Drop)]
-struct Said {
+struct Answered {
     status: u8,
     out: MemSink,
     err: MemSink,
@@ -260,7 +260,7 @@ struct Said {
 }
 
 // A run by words over files that are one disk of 4,100 sectors, with so much room for images.
-fn said(alloc: Global, words: &[&str], script: &[u8], room: usize) -> Result<Said, Fail> {
+fn said(alloc: Global, words: &[&str], script: &[u8], room: usize) -> Result<Answered, Fail> {
     let mut texts = Vec::new(alloc);
     for word in words {
         texts.push(Text::new(String::from_str(alloc, word)?))?;
@@ -284,7 +284,7 @@ fn said(alloc: Global, words: &[&str], script: &[u8], room: usize) -> Result<Sai
         files,
         &mut images,
     );
-    Ok(Said {
+    Ok(Answered {
         status: ended.status,
         out,
         err,
