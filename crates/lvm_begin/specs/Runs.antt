@@ -1,0 +1,89 @@
+-- How one write to some disks ends, and how several do, one after another.
+use Rattle.std.specs.Prelude.{◌≡◌, ◌⊎◌, ℕ, ◌<◌, List, IsTrue, IsFalse}
+use Rattle.lvm_num.specs.Buffer.{Buffer}
+use Rattle.lvm_num.specs.Disks.{Disks, has}
+use Rattle.lvm_disk.specs.Counts.{Rose}
+use Rattle.lvm_disk.specs.Device.{Device, IsReady}
+use Rattle.lvm_disk.specs.Paths.{DeviceStep, Path}
+use Rattle.lvm_kept.specs.Plans.{Plan}
+use Rattle.lvm_quorum.specs.declared.write.Wrote.{Wrote}
+use Rattle.lvm_quorum.specs.declared.write.Wrote.TheVariants as wrote
+use Rattle.lvm_quorum.specs.Parts.{Spends}
+use Rattle.lvm_quorum.specs.Written.{KeepsShelf, IsWriting, IsDarkened, IsGivenUp}
+use Rattle.lvm_begin.specs.declared.begin.Begun.{Begun}
+use Rattle.lvm_begin.specs.declared.begin.Begun.TheVariants as begun
+use Rattle.lvm_begin.specs.Beginning.{Beginning, Part, IsOfParts, AllStand}
+use Rattle.lvm_begin.specs.Ends.{HasNoFault, StopsAt, IsFirstFailed, WasTried}
+
+-- a write to disks as its answer names it: all went well, or this is the lowest that failed
+abbrev pub IsAnswer : Wrote → Begun → Type 0
+IsAnswer (wrote.Ended failed buf) (begun.Ended back) = (back ≡ buf) × ((d : ℕ) → IsFalse (has failed d))
+IsAnswer (wrote.Ended failed buf) (begun.DiskFailed disk back) = (back ≡ buf) × IsTrue (has failed disk) × ((d : ℕ) → d < disk → IsFalse (has failed d))
+IsAnswer (wrote.Ended failed buf) begun.Dark = ⊥
+IsAnswer (wrote.Ended failed buf) begun.Stuck = ⊥
+IsAnswer wrote.Dark (begun.Ended back) = ⊥
+IsAnswer wrote.Dark (begun.DiskFailed disk back) = ⊥
+IsAnswer wrote.Dark begun.Dark = Unit {0}
+IsAnswer wrote.Dark begun.Stuck = ⊥
+IsAnswer wrote.Stuck (begun.Ended back) = ⊥
+IsAnswer wrote.Stuck (begun.DiskFailed disk back) = ⊥
+IsAnswer wrote.Stuck begun.Dark = ⊥
+IsAnswer wrote.Stuck begun.Stuck = Unit {0}
+
+-- what is written, whatever the answer
+pub record Does (targets : Disks) (P : Plan) (before after : ℕ) (old new : Device) : Type 0 where
+  pub keeps : KeepsShelf targets P old new
+  pub spends : Spends before after old new
+  pub moments : Path DeviceStep (IsWriting P old) old new
+
+-- nothing is out, the power was never off, and the buffer is back
+pub record IsBack (number : ℕ) (old new : Device) (buf : Buffer) : Type 0 where
+  pub ready : IsReady new
+  pub cuts : new.counts.cuts ≡ old.counts.cuts
+  pub number_is : buf.number ≡ number
+
+-- ---- one write
+
+pub record OneWell (targets : Disks) (Stands : Device → ℕ → Type 0) (number : ℕ) (old new : Device) (buf : Buffer) : Type 0 where
+  pub back : IsBack number old new buf
+  pub well : HasNoFault old new
+  pub stands : (d : ℕ) → IsTrue (targets d) → Stands new d
+
+pub record OneBad (targets : Disks) (Stands : Device → ℕ → Type 0) (number : ℕ) (old new : Device) (disk : ℕ) (buf : Buffer) : Type 0 where
+  pub back : IsBack number old new buf
+  pub first : IsFirstFailed targets old new disk
+  pub tried : (d : ℕ) → IsTrue (targets d) → Stands new d ⊎ Rose (old.counts.faults d) (new.counts.faults d)
+
+abbrev pub HowOne : Disks → (Device → ℕ → Type 0) → ℕ → ℕ → Device → Device → Begun → Type 0
+HowOne targets Stands number before old new (begun.Ended buf) = OneWell targets Stands number old new buf
+HowOne targets Stands number before old new (begun.DiskFailed disk buf) = OneBad targets Stands number old new disk buf
+HowOne targets Stands number before old new begun.Dark = IsDarkened old new
+HowOne targets Stands number before old new begun.Stuck = IsGivenUp before old new
+
+-- how a write to these disks ended, which may bring this, and of which this then stands
+pub record OneGives (targets : Disks) (P : Plan) (Stands : Device → ℕ → Type 0) (number before after : ℕ) (old new : Device) (result : Begun) : Type 0 where
+  pub does : Does targets P before after old new
+  pub how : HowOne targets Stands number before old new result
+
+-- ---- several
+
+pub record ManyWell (b : Beginning) (order : List Part) (number : ℕ) (old new : Device) (buf : Buffer) : Type 0 where
+  pub back : IsBack number old new buf
+  pub well : HasNoFault old new
+  pub stand : AllStand b order new
+
+pub record ManyBad (b : Beginning) (order : List Part) (number : ℕ) (old new : Device) (disk : ℕ) (buf : Buffer) : Type 0 where
+  pub back : IsBack number old new buf
+  pub first : IsFirstFailed b.targets old new disk
+  pub stop : StopsAt b order old new (WasTried b old new)
+
+abbrev pub HowMany : Beginning → List Part → ℕ → ℕ → Device → Device → Begun → Type 0
+HowMany b order number before old new (begun.Ended buf) = ManyWell b order number old new buf
+HowMany b order number before old new (begun.DiskFailed disk buf) = ManyBad b order number old new disk buf
+HowMany b order number before old new begun.Dark = IsDarkened old new × StopsAt b order old new (λ hand. Unit {0})
+HowMany b order number before old new begun.Stuck = IsGivenUp before old new × StopsAt b order old new (λ hand. Unit {0})
+
+-- how the parts ended, in this order
+pub record ManyGives (b : Beginning) (order : List Part) (number before after : ℕ) (old new : Device) (result : Begun) : Type 0 where
+  pub does : Does b.targets (IsOfParts b order) before after old new
+  pub how : HowMany b order number before old new result

@@ -1,0 +1,242 @@
+//! The writes with which a group comes on: of its notes, its status and its descriptor.
+ghost use Rattle.std.specs.Prelude.{◌≡◌, ◌≢◌, ◌-◌, ◌<◌, ◌≤◌, ℕ, length, IfSome, IfNone, IsTrue, IsFalse};
+ghost use Rattle.lvm_num.specs.declared.record.Kind.TheVariants as kind;
+ghost use Rattle.lvm_num.specs.declared.descriptor.Descriptor.{Descriptor};
+ghost use Rattle.lvm_num.specs.declared.status.Status.{Status};
+ghost use Rattle.lvm_num.specs.Disks.{Disks, has};
+ghost use Rattle.lvm_num.specs.Record.{Stamped, longest_content};
+ghost use Rattle.lvm_disk.specs.Counts.{RoseBy};
+ghost use Rattle.lvm_disk.specs.Device.{IsReady, image_of};
+ghost use Rattle.lvm_disk.specs.Paths.{DeviceStep, Path};
+ghost use Rattle.lvm_kept.specs.Torn.{IsOfNote, IsOfRecord};
+ghost use Rattle.lvm_change.specs.Making.{Makes};
+ghost use Rattle.lvm_change.specs.Moments.{StaysKept};
+ghost use Rattle.lvm_change.specs.VaryingOn.{VariesOn};
+ghost use Rattle.lvm_quorum.specs.Homes.{Flips};
+ghost use Rattle.lvm_quorum.specs.Notes.{empty_note, NoteTold};
+ghost use Rattle.lvm_quorum.specs.Written.{write_of, StandsTold, HaveRoom, IsWriting, KeepsShelf, IsDarkened, IsGivenUp};
+ghost use Rattle.lvm_begin.specs.Beginning.{new_beginning, again_beginning, new_order, again_order, IsOfParts, AllStand, MayBeginNew, MayBeginAgain};
+ghost use Rattle.lvm_begin.specs.Ends.{IfEnded, IfDiskFailed, IfBack, OnDark, OnStuck, OnBroken, BothFlip, HasNoFault, StopsAt, IsFirstFailed, WasTried};
+ghost use Rattle.lvm_begin.specs.Runs.{IsAnswer, OneGives};
+
+use lvm_disk::Shelf;
+use lvm_move::Patience;
+use lvm_num::{DiskSet, Kind, Pbuf, Stamp};
+use lvm_quorum::{Homes, Wrote, empty_notes, write_record};
+
+/// How the writes with which a group comes on ended.
+#[derive(Drop)]
+pub enum Begun {
+    /// All of them stand on each disk.
+    Ended { buf: Pbuf },
+    /// One of them failed on some disks, of which this is the lowest. It was tried on the others too, and those
+    /// behind it weren't begun.
+    DiskFailed { disk: u16, buf: Pbuf },
+    /// The power was cut, and is off.
+    Dark,
+    /// Nothing was heard of a transfer until the patience had run out.
+    Stuck,
+}
+
+/// Writes what a new group begins with, on each target: a note without entries, the status under sequence 1 and
+/// then the descriptor under sequence 2 of the epoch. What is handed in are the bytes of the two records. It takes
+/// no memory.
+pub fn begin_new<S: Shelf>(
+    shelf: &mut S,
+    descriptor: &[u8],
+    status: &[u8],
+    epoch: u64,
+    targets: DiskSet,
+    homes: &mut Homes,
+    buf: Pbuf,
+    patience: &mut Patience,
+) -> Begun
+    requires ready { IsReady (S.device shelf.old) }
+    requires epoch { epoch ≢ 0 }
+    requires descriptor { length descriptor.now ≤ longest_content kind.Descriptor }
+    requires status { length status.now ≤ longest_content kind.Status }
+    requires targets { HaveRoom (S.device shelf.old) (has targets) }
+    // all three writes ended well
+    ensures stand { let b = new_beginning epoch descriptor.now status.now (has targets) homes.old in IfEnded result (λ back. AllStand b new_order (S.device shelf.new)) }
+    ensures well { IfEnded result (λ back. HasNoFault (S.device shelf.old) (S.device shelf.new)) }
+    ensures homes { IfEnded result (λ back. BothFlip (has targets) homes.old homes.new) }
+    // a disk failed
+    ensures failed { IfDiskFailed result (λ disk back. IsFirstFailed (has targets) (S.device shelf.old) (S.device shelf.new) disk) }
+    ensures tried { let b = new_beginning epoch descriptor.now status.now (has targets) homes.old in IfDiskFailed result (λ disk back. StopsAt b new_order (S.device shelf.old) (S.device shelf.new) (WasTried b (S.device shelf.old) (S.device shelf.new))) }
+    // the buffer comes back
+    ensures buffer { IfBack result (λ back. back.number ≡ buf.number) }
+    ensures ready { IfBack result (λ back. IsReady (S.device shelf.new) × ((S.device shelf.new).counts.cuts ≡ (S.device shelf.old).counts.cuts)) }
+    // they were broken off
+    ensures dark { OnDark result (IsDarkened (S.device shelf.old) (S.device shelf.new)) }
+    ensures stuck { OnStuck result (IsGivenUp patience.old.left (S.device shelf.old) (S.device shelf.new)) }
+    ensures broken { let b = new_beginning epoch descriptor.now status.now (has targets) homes.old in OnBroken result (StopsAt b new_order (S.device shelf.old) (S.device shelf.new) (λ hand. Unit {0})) }
+    // whatever the answer
+    ensures patience { patience.new.left ≤ patience.old.left }
+    ensures waited { RoseBy (patience.old.left - patience.new.left) (S.device shelf.old).counts.waits (S.device shelf.new).counts.waits }
+    ensures keeps { let b = new_beginning epoch descriptor.now status.now (has targets) homes.old in KeepsShelf (has targets) (IsOfParts b new_order) (S.device shelf.old) (S.device shelf.new) }
+    ensures moments { let b = new_beginning epoch descriptor.now status.now (has targets) homes.old in Path DeviceStep (IsWriting (IsOfParts b new_order) (S.device shelf.old)) (S.device shelf.old) (S.device shelf.new) }
+{
+    let buf = match notes(shelf, epoch, targets, buf, patience) {
+        Begun::Ended { buf } => buf,
+        stopped => return stopped,
+    };
+    let first = Stamp { epoch, seq: 1 };
+    let second = Stamp { epoch, seq: 2 };
+    let buf = match record(
+        shelf,
+        Kind::Status,
+        first,
+        status,
+        targets,
+        homes,
+        buf,
+        patience,
+    ) {
+        Begun::Ended { buf } => buf,
+        stopped => return stopped,
+    };
+    record(
+        shelf,
+        Kind::Descriptor,
+        second,
+        descriptor,
+        targets,
+        homes,
+        buf,
+        patience,
+    )
+}
+
+/// Writes what a further session of a group begins with, on each target: the descriptor under sequence 1 and the
+/// status under sequence 2 of the epoch, and then a note without entries. What is handed in are the bytes of the two
+/// records. It takes no memory.
+pub fn begin_again<S: Shelf>(
+    shelf: &mut S,
+    descriptor: &[u8],
+    status: &[u8],
+    epoch: u64,
+    targets: DiskSet,
+    homes: &mut Homes,
+    buf: Pbuf,
+    patience: &mut Patience,
+) -> Begun
+    requires ready { IsReady (S.device shelf.old) }
+    requires epoch { epoch ≢ 0 }
+    requires descriptor { length descriptor.now ≤ longest_content kind.Descriptor }
+    requires status { length status.now ≤ longest_content kind.Status }
+    requires targets { HaveRoom (S.device shelf.old) (has targets) }
+    // all three writes ended well
+    ensures stand { let b = again_beginning epoch descriptor.now status.now (has targets) homes.old in IfEnded result (λ back. AllStand b again_order (S.device shelf.new)) }
+    ensures well { IfEnded result (λ back. HasNoFault (S.device shelf.old) (S.device shelf.new)) }
+    ensures homes { IfEnded result (λ back. BothFlip (has targets) homes.old homes.new) }
+    // a disk failed
+    ensures failed { IfDiskFailed result (λ disk back. IsFirstFailed (has targets) (S.device shelf.old) (S.device shelf.new) disk) }
+    ensures tried { let b = again_beginning epoch descriptor.now status.now (has targets) homes.old in IfDiskFailed result (λ disk back. StopsAt b again_order (S.device shelf.old) (S.device shelf.new) (WasTried b (S.device shelf.old) (S.device shelf.new))) }
+    // the buffer comes back
+    ensures buffer { IfBack result (λ back. back.number ≡ buf.number) }
+    ensures ready { IfBack result (λ back. IsReady (S.device shelf.new) × ((S.device shelf.new).counts.cuts ≡ (S.device shelf.old).counts.cuts)) }
+    // they were broken off
+    ensures dark { OnDark result (IsDarkened (S.device shelf.old) (S.device shelf.new)) }
+    ensures stuck { OnStuck result (IsGivenUp patience.old.left (S.device shelf.old) (S.device shelf.new)) }
+    ensures broken { let b = again_beginning epoch descriptor.now status.now (has targets) homes.old in OnBroken result (StopsAt b again_order (S.device shelf.old) (S.device shelf.new) (λ hand. Unit {0})) }
+    // whatever the answer
+    ensures patience { patience.new.left ≤ patience.old.left }
+    ensures waited { RoseBy (patience.old.left - patience.new.left) (S.device shelf.old).counts.waits (S.device shelf.new).counts.waits }
+    ensures keeps { let b = again_beginning epoch descriptor.now status.now (has targets) homes.old in KeepsShelf (has targets) (IsOfParts b again_order) (S.device shelf.old) (S.device shelf.new) }
+    ensures moments { let b = again_beginning epoch descriptor.now status.now (has targets) homes.old in Path DeviceStep (IsWriting (IsOfParts b again_order) (S.device shelf.old)) (S.device shelf.old) (S.device shelf.new) }
+{
+    let first = Stamp { epoch, seq: 1 };
+    let second = Stamp { epoch, seq: 2 };
+    let buf = match record(
+        shelf,
+        Kind::Descriptor,
+        first,
+        descriptor,
+        targets,
+        homes,
+        buf,
+        patience,
+    ) {
+        Begun::Ended { buf } => buf,
+        stopped => return stopped,
+    };
+    let buf = match record(
+        shelf,
+        Kind::Status,
+        second,
+        status,
+        targets,
+        homes,
+        buf,
+        patience,
+    ) {
+        Begun::Ended { buf } => buf,
+        stopped => return stopped,
+    };
+    notes(shelf, epoch, targets, buf, patience)
+}
+
+// Empties the notes.
+fn notes<S: Shelf>(
+    shelf: &mut S,
+    epoch: u64,
+    targets: DiskSet,
+    buf: Pbuf,
+    patience: &mut Patience,
+) -> Begun
+    requires ready { IsReady (S.device shelf.old) }
+    requires targets { HaveRoom (S.device shelf.old) (has targets) }
+    ensures gives { OneGives (has targets) (IsOfNote (has targets) (empty_note epoch)) (NoteTold (empty_note epoch)) buf.number patience.old.left patience.new.left (S.device shelf.old) (S.device shelf.new) result }
+{
+    let wrote = empty_notes(shelf, epoch, targets, buf, patience);
+    all_or_lowest(wrote)
+}
+
+// Writes one record.
+fn record<S: Shelf>(
+    shelf: &mut S,
+    kind: Kind,
+    stamp: Stamp,
+    content: &[u8],
+    targets: DiskSet,
+    homes: &mut Homes,
+    buf: Pbuf,
+    patience: &mut Patience,
+) -> Begun
+    requires ready { IsReady (S.device shelf.old) }
+    requires stamp { (stamp.epoch ≢ 0) × (stamp.seq ≢ 0) }
+    requires fits { length content.now ≤ longest_content kind }
+    requires targets { HaveRoom (S.device shelf.old) (has targets) }
+    ensures gives { let w = write_of kind (record { stamp = stamp; content = content.now }) (has targets) homes.old in OneGives (has targets) (IsOfRecord w) (StandsTold w) buf.number patience.old.left patience.new.left (S.device shelf.old) (S.device shelf.new) result }
+    ensures homes { IfEnded result (λ back. Flips kind (has targets) homes.old homes.new) }
+{
+    let wrote = write_record(shelf, kind, stamp, content, targets, homes, buf, patience);
+    all_or_lowest(wrote)
+}
+
+// How a write to several disks ended: on all of them well, or the lowest on which it failed.
+fn all_or_lowest(wrote: Wrote) -> Begun
+    ensures { IsAnswer wrote result }
+{
+    match wrote {
+        Wrote::Ended { failed, buf } => match lowest(failed) {
+            None => Begun::Ended { buf },
+            Some(disk) => Begun::DiskFailed { disk, buf },
+        },
+        Wrote::Dark => Begun::Dark,
+        Wrote::Stuck => Begun::Stuck,
+    }
+}
+
+// The lowest disk of a set.
+fn lowest(disks: DiskSet) -> Option<u16>
+    ensures some { IfSome result (λ disk. IsTrue (has disks disk) × ((d : ℕ) → d < disk → IsFalse (has disks d))) }
+    ensures none { IfNone result ((d : ℕ) → IsFalse (has disks d)) }
+{
+    for disk in 0..128 {
+        if disks.has(disk) {
+            return Some(disk);
+        }
+    }
+    None
+}
