@@ -1,4 +1,4 @@
-use crate::write_tests::{End, all_disks, at, shelf};
+use crate::write_tests::{End, all_disks, at, has_room, shelf};
 use crate::{Wrote, empty_notes};
 use lvm_disk::{Act, MemShelf, Shelf};
 use lvm_move::{Patience, relight};
@@ -18,16 +18,22 @@ fn empty<S: Shelf>(
         return Err("a transfer is out".into());
     }
     relight(shelf);
-    let targets = all_disks(shelf).ok_or("too small")?;
+    if !has_room(shelf) {
+        return Err("too small".into());
+    }
+    let targets = all_disks(shelf.disks());
     let buf = Pbuf::fresh(alloc, 9)?;
-    Ok(match empty_notes(shelf, stamp, targets, buf, patience) {
-        Wrote::Ended { failed, buf } if buf.number() == 9 => End::Ended {
-            failed: [failed.has(0), failed.has(1)],
-        },
-        Wrote::Ended { .. } => return Err("another buffer".into()),
-        Wrote::Dark => End::Dark,
-        Wrote::Stuck => End::Stuck,
-    })
+    match empty_notes(shelf, stamp, targets, buf, patience) {
+        Wrote::Ended { failed, buf } => {
+            if buf.number() != 9 {
+                return Err("another buffer".into());
+            }
+            let failed = [failed.has(0), failed.has(1)];
+            Ok(End::Ended { failed })
+        }
+        Wrote::Dark => Ok(End::Dark),
+        Wrote::Stuck => Ok(End::Stuck),
+    }
 }
 
 // The stamp of a disk's note and how many entries it has.

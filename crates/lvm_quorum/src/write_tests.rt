@@ -1,15 +1,15 @@
-ghost use Rattle.std.specs.Prelude.{◌≡◌, IfSome};
+ghost use Rattle.std.specs.Prelude.{◌≡◌, ◌<◌, ◌≤◌, ℕ, length, IsTrue};
 ghost use Rattle.lvm_num.specs.Record.{longest_content};
 ghost use Rattle.lvm_num.specs.Disks.{has};
-ghost use Rattle.lvm_quorum.specs.Written.{HaveRoom};
+ghost use Rattle.lvm_quorum.specs.Written.{HasRoom};
 
 use crate::choice_tests::is_survey;
 use crate::{Homes, Wrote, write_record};
-use lvm_survey::{Survey, SurveyRow};
 use lvm_disk::{Act, MemShelf, Planned, Shelf, names_disks};
 use lvm_move::{Patience, relight};
 use lvm_num::{DiskSet, Kind, Pbuf, Rows, Stamp};
 use lvm_rec::read_slot;
+use lvm_survey::{Survey, SurveyRow};
 use std::alloc::Global;
 use std::test::Fail;
 
@@ -58,18 +58,27 @@ fn content(alloc: Global, len: usize, last: u8) -> Result<Rows<u8>, Fail> {
     Ok(Rows::new(bytes))
 }
 
-// All disks, where each has room for records.
-pub fn all_disks<S: Shelf>(shelf: &S) -> Option<DiskSet>
-    ensures { IfSome result (λ disks. HaveRoom (S.device shelf.now) (has disks)) }
+// Whether each disk has room for records.
+pub fn has_room<S: Shelf>(shelf: &S) -> bool
+    ensures { IsTrue result → (d : ℕ) → d < length (S.device shelf.now).sizes → HasRoom (S.device shelf.now) d }
 {
-    let mut disks = DiskSet::empty();
     for disk in 0..shelf.disks() {
         if shelf.sectors(disk) < 4096 {
-            return None;
+            return false;
         }
+    }
+    true
+}
+
+pub fn all_disks(count: u16) -> DiskSet
+    requires { count ≤ 128 }
+    ensures { (d : ℕ) → IsTrue (has result d) → d < count }
+{
+    let mut disks = DiskSet::empty();
+    for disk in 0..count {
         disks = disks.with(disk);
     }
-    Some(disks)
+    disks
 }
 
 // How a write to all disks ended.
@@ -92,21 +101,22 @@ fn write<S: Shelf>(
         return Err("a transfer is out".into());
     }
     relight(shelf);
-    let targets = all_disks(shelf).ok_or("too small")?;
-    if stamp.epoch == 0 || stamp.seq == 0 || content.len() > longest(kind) {
+    if !has_room(shelf) || stamp.epoch == 0 || stamp.seq == 0 || content.len() > longest(kind) {
         return Err("no record".into());
     }
+    let targets = all_disks(shelf.disks());
     let buf = Pbuf::fresh(alloc, 9)?;
-    Ok(
-        match write_record(shelf, kind, stamp, content, targets, homes, buf, patience) {
-            Wrote::Ended { failed, buf } if buf.number() == 9 => End::Ended {
-                failed: [failed.has(0), failed.has(1)],
-            },
-            Wrote::Ended { .. } => return Err("another buffer".into()),
-            Wrote::Dark => End::Dark,
-            Wrote::Stuck => End::Stuck,
-        },
-    )
+    match write_record(shelf, kind, stamp, content, targets, homes, buf, patience) {
+        Wrote::Ended { failed, buf } => {
+            if buf.number() != 9 {
+                return Err("another buffer".into());
+            }
+            let failed = [failed.has(0), failed.has(1)];
+            Ok(End::Ended { failed })
+        }
+        Wrote::Dark => Ok(End::Dark),
+        Wrote::Stuck => Ok(End::Stuck),
+    }
 }
 
 fn longest(kind: Kind) -> usize
