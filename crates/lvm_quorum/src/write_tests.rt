@@ -5,11 +5,11 @@ ghost use Rattle.lvm_quorum.specs.Written.{HaveRoom};
 
 use crate::choice_tests::is_survey;
 use crate::{Homes, Wrote, write_record};
-use lvm_survey::{Survey, SurveyRow};
 use lvm_disk::{Act, MemShelf, Planned, Shelf, names_disks};
 use lvm_move::{Patience, relight};
 use lvm_num::{DiskSet, Kind, Pbuf, Rows, Stamp};
 use lvm_rec::read_slot;
+use lvm_survey::{Survey, SurveyRow};
 use std::alloc::Global;
 use std::test::Fail;
 
