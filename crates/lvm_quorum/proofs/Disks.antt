@@ -93,7 +93,7 @@ module _ (one : SlotWrite) (targets : Disks) (homes : Homes) (target : IsTrue (t
     counts = part.counts;
     rests = part.rests;
     spends = part.spends;
-    stuck = part.stuck;
+    leaves = part.leaves;
     buffer = part.buffer;
     moments = moments_wider (IsOfRecord (write_to one)) (IsOfRecord all_of) of_all old new part.moments;
   }

@@ -1,6 +1,6 @@
 -- One transfer of sectors of a record, and one after another.
-use Rattle.std.proofs.Common.{◌≡◌, inl, inr, ℕ, ◌+◌, ◌-◌, ◌<◌, ◌≤◌, Bool, true, false, [], Option, Some, None, length, slice_get, IsTrue, IsFalse, refl, sym, ◌∙◌, ap, subst, arith, eq-eqb}
-use Rattle.std.specs.Prelude.{◌==◌, ◌&&◌, nat_le, nat_lt, if◌then◌else◌}
+use Rattle.std.proofs.Common.{◌≡◌, inl, inr, ℕ, ◌+◌, ◌-◌, ◌<◌, ◌≤◌, Bool, true, false, Option, Some, None, length, slice_get, IsTrue, IsFalse, refl, sym, ◌∙◌, ap, subst, arith, eq-eqb}
+use Rattle.std.specs.Prelude.{◌==◌, ◌&&◌, ◌++◌, List, map, nat_le, nat_lt, if◌then◌else◌}
 use Rattle.std.proofs.lemmas.Bool.{eqb-true, ltb-true, leb-true}
 use Rattle.std.proofs.lemmas.Bool.Decides.{nat_tests}
 use Rattle.lvm_num.specs.Buffer.{Buffer}
@@ -22,7 +22,7 @@ use Rattle.lvm_move.proofs.Ending.{one_left}
 use Rattle.lvm_move.proofs.Effects.{out_flights}
 use Rattle.lvm_quorum.specs.declared.write.SlotWrite.{SlotWrite}
 use Rattle.lvm_quorum.specs.Written.{IsWriting}
-use Rattle.lvm_quorum.specs.Parts.{write_to, CountsEnd, IfStuck, IfBack, DoesPart}
+use Rattle.lvm_quorum.specs.Parts.{write_to, CountsEnd, LeavesShelf, IfBack, DoesPart}
 use Rattle.lvm_quorum.proofs.Writing.{both_map, adds_writing, media_written}
 
 -- ---- the flight
@@ -71,6 +71,7 @@ record OutFacts (old now : Device) (disk : ℕ) : Type 0 where
   cuts : now.counts.cuts ≡ old.counts.cuts
   starts : (d : ℕ) → (d ≡ disk → ⊥) → now.counts.starts d ≡ old.counts.starts d
   power : now.power ≡ true
+  freed : now.freed ≡ old.freed
 
 out_facts : (old now : Device) (f : Flight) → IsOut old now f → OutFacts old now f.disk
 out_facts old now f out =
@@ -86,6 +87,7 @@ out_facts old now f out =
       cuts = ap (λ (d : Device). d.counts.cuts) waited ∙ ap (λ (d : Device). d.counts.cuts) begun;
       starts = λ d differ. ap (λ (x : Device). x.counts.starts d) waited ∙ out.starts.starts.elsewhere d differ;
       power = ap (λ (d : Device). d.power) waited ∙ ap (λ (d : Device). d.power) begun ∙ out.starts.power;
+      freed = ap (λ (d : Device). d.freed) waited ∙ ap (λ (d : Device). d.freed) begun;
     }
 
 -- a failed write is a fault
@@ -105,7 +107,7 @@ record Effect (old new : Device) (disk number before : ℕ) (how : Moved) : Type
   faults : (d : ℕ) → (d ≡ disk → ⊥) → new.counts.faults d ≡ old.counts.faults d
   told : BothTold old.media new.media (λ was is. Unit {0})
   counts : CountsEnd disk old.counts new.counts how
-  stuck : IfStuck how ((new.power ≡ true) × RoseBy before old.counts.waits new.counts.waits)
+  leaves : LeavesShelf number before old new how
   buffer : IfBack how (λ back. back.number ≡ number)
 
 still_told : (o m n : Option Media) (R : Media → Media → Type 0) → m ≡ o → BothTold m n R → BothTold o n (λ was is. Unit {0})
@@ -115,11 +117,11 @@ same_told : (o n : Option Media) → n ≡ o → BothTold o n (λ was is. Unit {
 same_told None n same = subst (λ (x : Option Media). BothTold None x (λ was is. Unit {0})) (sym same) tt
 same_told (Some m) n same = subst (λ (x : Option Media). BothTold (Some m) x (λ was is. Unit {0})) (sym same) tt
 
-effect : (before : ℕ) (old new : Device) (ticket disk first count : ℕ) (buf : Buffer) (how : Moved) → old.flights ≡ [] → TransferGives before old new (flight_of ticket true disk first count buf) how → Effect old new disk buf.number before how
-effect before old new ticket disk first count buf (moved.Done back) none (now, out, ends) =
+effect : (before : ℕ) (old new : Device) (ticket disk first count : ℕ) (buf : Buffer) (how : Moved) → IsReady old → TransferGives before old new (flight_of ticket true disk first count buf) how → Effect old new disk buf.number before how
+effect before old new ticket disk first count buf (moved.Done back) ready (now, out, ends) =
     let f = flight_of ticket true disk first count buf in
     let facts = out_facts old now f out in
-    let it = one_left f now.flights new.flights ends.flight (out_flights old now f out none) ends.flights in
+    let it = one_left f now.flights new.flights ends.flight (out_flights old now f out ready.flights) ends.flights in
     let faults = ap (λ (d : Device). d.counts.faults) ends.new_is ∙ facts.faults in
     record {
       sizes = ap (λ (d : Device). d.sizes) ends.new_is ∙ facts.sizes;
@@ -130,13 +132,13 @@ effect before old new ticket disk first count buf (moved.Done back) none (now, o
       faults = λ d differ. ap (λ (h : ℕ → ℕ). h d) faults;
       told = still_told old.media now.media new.media (Puts ends.flight) facts.media ends.media;
       counts = (faults, ap (λ (d : Device). d.counts.cuts) ends.new_is ∙ facts.cuts);
-      stuck = tt;
+      leaves = tt;
       buffer = ap (λ (b : Buffer). b.number) (ends.kept (ap (λ (g : Flight). g.write) it.0)) ∙ ap (λ (g : Flight). g.buf.number) it.0;
     }
-effect before old new ticket disk first count buf (moved.Failed back) none (now, out, ends) =
+effect before old new ticket disk first count buf (moved.Failed back) ready (now, out, ends) =
     let f = flight_of ticket true disk first count buf in
     let facts = out_facts old now f out in
-    let it = one_left f now.flights new.flights ends.flight (out_flights old now f out none) ends.flights in
+    let it = one_left f now.flights new.flights ends.flight (out_flights old now f out ready.flights) ends.flights in
     let fault = is_fault f ends.flight now.counts new.counts it.0 refl ends.counts in
     record {
       sizes = ap (λ (d : Device). d.sizes) ends.new_is ∙ facts.sizes;
@@ -147,11 +149,12 @@ effect before old new ticket disk first count buf (moved.Failed back) none (now,
       faults = λ d differ. fault.faults.elsewhere d differ ∙ ap (λ (h : ℕ → ℕ). h d) facts.faults;
       told = still_told old.media now.media new.media (Rattle.lvm_disk.specs.Steps.PutsSome ends.flight) facts.media ends.media;
       counts = (subst (λ (h : ℕ → ℕ). RoseAt disk h new.counts.faults) facts.faults fault.faults, ap (λ (c : Counts). c.cuts) fault.new_is ∙ facts.cuts);
-      stuck = tt;
+      leaves = tt;
       buffer = ap (λ (b : Buffer). b.number) (ends.kept (ap (λ (g : Flight). g.write) it.0)) ∙ ap (λ (g : Flight). g.buf.number) it.0;
     }
-effect before old new ticket disk first count buf (moved.Dark true) none (now, out, cuts) =
-    let facts = out_facts old now (flight_of ticket true disk first count buf) out in
+effect before old new ticket disk first count buf (moved.Dark true) ready (now, out, cuts) =
+    let f = flight_of ticket true disk first count buf in
+    let facts = out_facts old now f out in
     let faults = ap (λ (d : Device). d.counts.faults) cuts.new_is ∙ facts.faults in
     record {
       sizes = ap (λ (d : Device). d.sizes) cuts.new_is ∙ facts.sizes;
@@ -162,10 +165,19 @@ effect before old new ticket disk first count buf (moved.Dark true) none (now, o
       faults = λ d differ. ap (λ (h : ℕ → ℕ). h d) faults;
       told = still_told old.media now.media new.media (λ m n. Rattle.lvm_disk.specs.Device.IsTorn m now.flights n) facts.media cuts.media;
       counts = (faults, subst (λ (n : ℕ). Rose n new.counts.cuts) facts.cuts cuts.cuts);
-      stuck = tt;
+      leaves = record {
+        flights = ap (λ (d : Device). d.flights) cuts.new_is;
+        freed = inr (
+          buf,
+          ap (λ (d : Device). d.freed) cuts.new_is ∙ ap (λ (l : List Buffer). l ++ map (λ f. f.buf) now.flights) (facts.freed ∙ ready.freed) ∙ ap (λ (l : List Flight). map (λ f. f.buf) l) (out_flights old now f out ready.flights),
+          refl,
+        );
+        power = ap (λ (d : Device). d.power) cuts.new_is;
+        cuts = subst (λ (n : ℕ). Rose n new.counts.cuts) facts.cuts cuts.cuts;
+      };
       buffer = tt;
     }
-effect before old new ticket disk first count buf (moved.Dark false) none cuts =
+effect before old new ticket disk first count buf (moved.Dark false) ready cuts =
     let faults = ap (λ (d : Device). d.counts.faults) cuts.new_is in
     record {
       sizes = ap (λ (d : Device). d.sizes) cuts.new_is;
@@ -176,11 +188,17 @@ effect before old new ticket disk first count buf (moved.Dark false) none cuts =
       faults = λ d differ. ap (λ (h : ℕ → ℕ). h d) faults;
       told = still_told old.media old.media new.media (λ m n. Rattle.lvm_disk.specs.Device.IsTorn m old.flights n) refl cuts.media;
       counts = (faults, cuts.cuts);
-      stuck = tt;
+      leaves = record {
+        flights = ap (λ (d : Device). d.flights) cuts.new_is;
+        freed = inl (ap (λ (d : Device). d.freed) cuts.new_is ∙ ap (λ (l : List Buffer). l ++ map (λ f. f.buf) old.flights) ready.freed ∙ ap (λ (l : List Flight). map (λ f. f.buf) l) ready.flights);
+        power = ap (λ (d : Device). d.power) cuts.new_is;
+        cuts = cuts.cuts;
+      };
       buffer = tt;
     }
-effect before old new ticket disk first count buf moved.Stuck none (out, waits) =
-    let facts = out_facts old new (flight_of ticket true disk first count buf) out in
+effect before old new ticket disk first count buf moved.Stuck ready (out, waits) =
+    let f = flight_of ticket true disk first count buf in
+    let facts = out_facts old new f out in
     record {
       sizes = facts.sizes;
       arranges = facts.arranges;
@@ -190,7 +208,16 @@ effect before old new ticket disk first count buf moved.Stuck none (out, waits) 
       faults = λ d differ. ap (λ (h : ℕ → ℕ). h d) facts.faults;
       told = same_told old.media new.media facts.media;
       counts = (facts.faults, facts.cuts);
-      stuck = (facts.power, waits);
+      leaves = record {
+        flight = f;
+        flights = out_flights old new f out ready.flights;
+        write = refl;
+        buffer = refl;
+        freed = facts.freed ∙ ready.freed;
+        power = facts.power;
+        cuts = facts.cuts;
+        waits = waits;
+      };
       buffer = tt;
     }
 
@@ -202,7 +229,7 @@ module _ (targets : Disks) (P : Plan) (disk number before after : ℕ) (old new 
       → TransferGives before old new (flight_of ticket true disk first count buf) how → Rests new how → after ≤ before → RoseBy (before - after) old.counts.waits new.counts.waits
       → Path DeviceStep (OnlyAdds (flight_of 0 true disk first count buf) old) old new → DoesPart targets P disk number before after old new how
   piece_part ready same target planned gives rests falls waits path =
-      let done = effect before old new ticket disk first count buf how ready.flights gives in
+      let done = effect before old new ticket disk first count buf how ready gives in
       let moments = map-path (IsWriting P old) (λ x. adds_writing P (flight_of 0 true disk first count buf) old x ready.flights planned) path in
       let other : (d : ℕ) → IsFalse (targets d) → d ≡ disk → ⊥ = λ d off here. never (targets disk) target (subst (λ (x : ℕ). IsFalse (targets x)) here off) in
       record {
@@ -218,7 +245,7 @@ module _ (targets : Disks) (P : Plan) (disk number before after : ℕ) (old new 
         counts = done.counts;
         rests = rests;
         spends = record { falls = falls; waits = waits };
-        stuck = done.stuck;
+        leaves = subst (λ (n : ℕ). LeavesShelf n before old new how) (sym same) done.leaves;
         buffer = subst (λ (n : ℕ). IfBack how (λ back. back.number ≡ n)) (sym same) done.buffer;
         moments = moments;
       }

@@ -1,5 +1,5 @@
 -- Transfers of sectors of a record, one after another.
-use Rattle.std.proofs.Common.{◌≡◌, ℕ, ◌+◌, ◌-◌, true, List, Some, slice_get, refl, sym, ◌∙◌, subst, arith}
+use Rattle.std.proofs.Common.{◌≡◌, ℕ, ◌+◌, ◌-◌, List, Some, slice_get, refl, sym, ◌∙◌, subst, arith}
 use Rattle.lvm_num.specs.Buffer.{Buffer}
 use Rattle.lvm_num.specs.Disks.{Disks}
 use Rattle.lvm_disk.specs.Counts.{Counts, Rose, RoseAt, RoseBy}
@@ -9,8 +9,8 @@ use Rattle.lvm_kept.specs.Plans.{Plan, ChangesBy}
 use Rattle.lvm_kept.specs.Torn.{RecordWrite, IsOfRecord}
 use Rattle.lvm_move.specs.declared.moves.Moved.{Moved}
 use Rattle.lvm_move.specs.declared.moves.Moved.TheVariants as moved
-use Rattle.lvm_quorum.specs.Written.{HasRoom, KeepsShelf}
-use Rattle.lvm_quorum.specs.Parts.{PartsStand, CountsEnd, IfDone, IfStuck, IfBack, Spends, DoesPart, WritesPart}
+use Rattle.lvm_quorum.specs.Written.{HasRoom, KeepsShelf, FreesAtMost, IsDarkened, IsGivenUp}
+use Rattle.lvm_quorum.specs.Parts.{PartsStand, CountsEnd, IfDone, LeavesShelf, IfBack, Spends, DoesPart, WritesPart}
 use Rattle.lvm_quorum.proofs.Writing.{both_then, both_same, changes_then, changes_none, writing_here, moments_on, parts_stay, no_parts, parts_join}
 
 -- ---- the shelf
@@ -75,11 +75,31 @@ counts_then disk old mid new (moved.Failed back) f c end = (subst (λ (h : ℕ �
 counts_then disk old mid new (moved.Dark started) f c end = (end.0 ∙ f, subst (λ (n : ℕ). Rose n new.cuts) c end.1)
 counts_then disk old mid new moved.Stuck f c end = (end.0 ∙ f, end.1 ∙ c)
 
-stuck_then : (p q : ℕ) (old mid new : Device) (how : Moved) → Spends p q old mid → IfStuck how ((new.power ≡ true) × RoseBy q mid.counts.waits new.counts.waits) → IfStuck how ((new.power ≡ true) × RoseBy p old.counts.waits new.counts.waits)
-stuck_then p q old mid new (moved.Done back) one stuck = tt
-stuck_then p q old mid new (moved.Failed back) one stuck = tt
-stuck_then p q old mid new (moved.Dark started) one stuck = tt
-stuck_then p q old mid new moved.Stuck one stuck = (stuck.0, spent_then p q old mid new one stuck.1)
+pub darkened_then : (number next : ℕ) (old mid new : Device) → next ≡ number → mid.counts.cuts ≡ old.counts.cuts → IsDarkened next mid new → IsDarkened number old new
+darkened_then number next old mid new same cuts dark = record {
+  flights = dark.flights;
+  freed = subst (λ (n : ℕ). FreesAtMost n new) same dark.freed;
+  power = dark.power;
+  cuts = subst (λ (n : ℕ). Rose n new.counts.cuts) cuts dark.cuts;
+}
+
+pub given_up_then : (number next p q : ℕ) (old mid new : Device) → next ≡ number → mid.counts.cuts ≡ old.counts.cuts → Spends p q old mid → IsGivenUp next q mid new → IsGivenUp number p old new
+given_up_then number next p q old mid new same cuts one stuck = record {
+  flight = stuck.flight;
+  flights = stuck.flights;
+  write = stuck.write;
+  buffer = stuck.buffer ∙ same;
+  freed = stuck.freed;
+  power = stuck.power;
+  cuts = stuck.cuts ∙ cuts;
+  waits = spent_then p q old mid new one stuck.waits;
+}
+
+leaves_then : (number next p q : ℕ) (old mid new : Device) (how : Moved) → next ≡ number → mid.counts.cuts ≡ old.counts.cuts → Spends p q old mid → LeavesShelf next q mid new how → LeavesShelf number p old new how
+leaves_then number next p q old mid new (moved.Done back) same cuts one leaves = tt
+leaves_then number next p q old mid new (moved.Failed back) same cuts one leaves = tt
+leaves_then number next p q old mid new (moved.Dark started) same cuts one leaves = darkened_then number next old mid new same cuts leaves
+leaves_then number next p q old mid new moved.Stuck same cuts one leaves = given_up_then number next p q old mid new same cuts one leaves
 
 back_then : (number next : ℕ) (how : Moved) → next ≡ number → IfBack how (λ back. back.number ≡ next) → IfBack how (λ back. back.number ≡ number)
 back_then number next how same back = subst (λ (n : ℕ). IfBack how (λ back. back.number ≡ n)) same back
@@ -99,7 +119,7 @@ part_here targets P disk number patience old buf ready same = record {
   counts = (refl, refl);
   rests = ready;
   spends = spends_none patience old;
-  stuck = tt;
+  leaves = tt;
   buffer = same;
   moments = Here (writing_here P old ready.flights);
 }
@@ -112,7 +132,7 @@ part_then targets P disk number p q r old mid new buf how one two = record {
   counts = counts_then disk old.counts mid.counts new.counts how one.counts.0 one.counts.1 two.counts;
   rests = two.rests;
   spends = spends_then p q r old mid new one.spends two.spends;
-  stuck = stuck_then p q old mid new how one.spends two.stuck;
+  leaves = leaves_then number buf.number p q old mid new how one.buffer one.counts.1 one.spends two.leaves;
   buffer = back_then number buf.number how one.buffer two.buffer;
   moments = moments_on P old mid one.keeps.media new one.moments two.moments;
 }

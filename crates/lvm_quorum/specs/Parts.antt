@@ -1,5 +1,5 @@
 -- The parts of a write of a record: one disk, and pieces of it.
-use Rattle.std.specs.Prelude.{◌≡◌, ℕ, ◌+◌, ◌-◌, ◌<◌, ◌≤◌, ◌==◌, if◌then◌else◌, Some, IfSome, length, slice_get}
+use Rattle.std.specs.Prelude.{◌≡◌, ℕ, ◌+◌, ◌-◌, ◌<◌, ◌≤◌, ◌==◌, if◌then◌else◌, IfSome}
 use Rattle.lvm_num.specs.Buffer.{Buffer}
 use Rattle.lvm_num.specs.Disks.{Disks}
 use Rattle.lvm_num.specs.Record.{frame, slot_start}
@@ -12,7 +12,7 @@ use Rattle.lvm_move.specs.Transfer.{Rests}
 use Rattle.lvm_move.specs.declared.moves.Moved.{Moved}
 use Rattle.lvm_move.specs.declared.moves.Moved.TheVariants as moved
 use Rattle.lvm_quorum.specs.declared.write.SlotWrite.{SlotWrite}
-use Rattle.lvm_quorum.specs.Written.{IsWriting, KeepsShelf}
+use Rattle.lvm_quorum.specs.Written.{IsWriting, KeepsShelf, IsDarkened, IsGivenUp}
 
 -- the write of the record to one slot of one disk
 abbrev pub write_to : SlotWrite → RecordWrite
@@ -35,6 +35,7 @@ CountsEnd disk old new (moved.Failed buf) = RoseAt disk old.faults new.faults ×
 CountsEnd disk old new (moved.Dark started) = (new.faults ≡ old.faults) × Rose old.cuts new.cuts
 CountsEnd disk old new moved.Stuck = (new.faults ≡ old.faults) × (new.cuts ≡ old.cuts)
 
+-- the buffer that comes back, where all ended well
 abbrev pub IfDone : Moved → (Buffer → Type 0) → Type 0
 IfDone (moved.Done buf) P = P buf
 IfDone (moved.Failed buf) P = Unit {0}
@@ -48,12 +49,12 @@ IfBack (moved.Failed buf) P = P buf
 IfBack (moved.Dark started) P = Unit {0}
 IfBack moved.Stuck P = Unit {0}
 
--- where nothing was heard of it, the power is on and all patience was spent
-abbrev pub IfStuck : Moved → Type 0 → Type 0
-IfStuck (moved.Done buf) P = Unit {0}
-IfStuck (moved.Failed buf) P = Unit {0}
-IfStuck (moved.Dark started) P = Unit {0}
-IfStuck moved.Stuck P = P
+-- how the shelf is left where the write was broken off
+abbrev pub LeavesShelf : ℕ → ℕ → Device → Device → Moved → Type 0
+LeavesShelf number patience old new (moved.Done buf) = Unit {0}
+LeavesShelf number patience old new (moved.Failed buf) = Unit {0}
+LeavesShelf number patience old new (moved.Dark started) = IsDarkened number old new
+LeavesShelf number patience old new moved.Stuck = IsGivenUp number patience old new
 
 -- the patience falls by what is waited
 pub record Spends (before after : ℕ) (old new : Device) : Type 0 where
@@ -66,7 +67,7 @@ pub record DoesPart (targets : Disks) (P : Plan) (disk : ℕ) (number before aft
   pub counts : CountsEnd disk old.counts new.counts how
   pub rests : Rests new how
   pub spends : Spends before after old new
-  pub stuck : IfStuck how ((new.power ≡ Rattle.std.specs.Prelude.true) × RoseBy before old.counts.waits new.counts.waits)
+  pub leaves : LeavesShelf number before old new how
   pub buffer : IfBack how (λ back. back.number ≡ number)
   pub moments : Path DeviceStep (IsWriting P old) old new
 

@@ -1,12 +1,12 @@
 -- What a write of a record or of a note to several disks does, disk by disk.
-use Rattle.std.specs.Prelude.{◌≡◌, ℕ, ◌<◌, ◌≤◌, ◌&&◌, not, nat_lt, true, false, [], Some, IfSome, IsTrue, IsFalse, slice_get}
+use Rattle.std.specs.Prelude.{◌≡◌, ◌⊎◌, ℕ, ◌<◌, ◌≤◌, ◌&&◌, not, nat_lt, true, false, [], ◌∷◌, Some, IfSome, IsTrue, IsFalse, slice_get}
 use Rattle.lvm_num.specs.declared.record.Kind.{Kind}
 use Rattle.lvm_num.specs.declared.record.Framed.{Framed}
 use Rattle.lvm_num.specs.Buffer.{Buffer}
 use Rattle.lvm_num.specs.Disks.{Disks}
 use Rattle.lvm_num.specs.Geometry.{data_start}
 use Rattle.lvm_disk.specs.Counts.{Rose, RoseBy}
-use Rattle.lvm_disk.specs.Device.{Image, Device, image_of, MayLeave}
+use Rattle.lvm_disk.specs.Device.{Image, Flight, Device, image_of, MayLeave}
 use Rattle.lvm_disk.specs.Steps.{BothTold}
 use Rattle.lvm_kept.specs.Plans.{Plan, ChangesBy}
 use Rattle.lvm_kept.specs.Torn.{RecordWrite, StandsOn}
@@ -58,16 +58,19 @@ written_well targets failed d = targets d && not (failed d)
 
 -- ---- the answers
 
+-- where it was tried on each disk: what holds of the failed ones and of the buffer
 abbrev pub IfEnded : Wrote → (ℕ → Buffer → Type 0) → Type 0
 IfEnded (wrote.Ended failed buf) P = P failed buf
 IfEnded wrote.Dark P = Unit {0}
 IfEnded wrote.Stuck P = Unit {0}
 
+-- where the power was cut
 abbrev pub OnDark : Wrote → Type 0 → Type 0
 OnDark (wrote.Ended failed buf) P = Unit {0}
 OnDark wrote.Dark P = P
 OnDark wrote.Stuck P = Unit {0}
 
+-- where nothing was heard of a transfer
 abbrev pub OnStuck : Wrote → Type 0 → Type 0
 OnStuck (wrote.Ended failed buf) P = Unit {0}
 OnStuck wrote.Dark P = Unit {0}
@@ -79,14 +82,25 @@ OnBroken (wrote.Ended failed buf) P = Unit {0}
 OnBroken wrote.Dark P = P
 OnBroken wrote.Stuck P = P
 
--- the power is off, in this call, and nothing is out
-pub record IsDarkened (old new : Device) : Type 0 where
+-- no buffer was given up, or just the one of this number
+abbrev pub FreesAtMost : ℕ → Device → Type 0
+FreesAtMost number device = (device.freed ≡ []) ⊎ ((buf : Buffer) × (device.freed ≡ buf ∷ []) × (buf.number ≡ number))
+
+-- The power is off, in this call, and nothing is out; no buffer was given up but the one of this number.
+pub record IsDarkened (number : ℕ) (old new : Device) : Type 0 where
   pub flights : new.flights ≡ []
+  pub freed : FreesAtMost number new
   pub power : new.power ≡ false
   pub cuts : Rose old.counts.cuts new.counts.cuts
 
--- the power is on as ever, and so many answers that nothing has ended were borne
-pub record IsGivenUp (patience : ℕ) (old new : Device) : Type 0 where
+-- Just one transfer is out, a write with the buffer of this number; the power is on as ever, no buffer was given up, and so many answers
+-- that nothing has ended were borne.
+pub record IsGivenUp (number patience : ℕ) (old new : Device) : Type 0 where
+  pub flight : Flight
+  pub flights : new.flights ≡ flight ∷ []
+  pub write : flight.write ≡ true
+  pub buffer : flight.buf.number ≡ number
+  pub freed : new.freed ≡ []
   pub power : new.power ≡ true
   pub cuts : new.counts.cuts ≡ old.counts.cuts
   pub waits : RoseBy patience old.counts.waits new.counts.waits

@@ -7,8 +7,8 @@ ghost use Rattle.lvm_survey.specs.Rows.{AreRows};
 use crate::copies::{copy_of_descriptor, copy_of_status};
 use crate::groups::{greatest_epoch, group_of};
 use crate::names::{first_named, has_record, other_named};
-use lvm_survey::Survey;
 use lvm_num::{Descriptor, DiskSet, Name, Status};
+use lvm_survey::Survey;
 use std::alloc::Global;
 
 /// The group that a name chooses, by the disks that answered.

@@ -5,8 +5,8 @@ ghost use Rattle.lvm_survey.specs.Rows.{AreRows};
 ghost use Rattle.lvm_survey.specs.Surveyed.{IsRowValid, IsSurveyValid};
 
 use crate::{Choice, ChooseFault, choose};
-use lvm_survey::{Survey, SurveyRow};
 use lvm_num::{Descriptor, Name, PvRow, Rows, Stamp, Status, StatusRow, VolumeNumbers};
+use lvm_survey::{Survey, SurveyRow};
 use std::alloc::Global;
 use std::test::Fail;
 

@@ -11,9 +11,9 @@ ghost use Rattle.lvm_survey.specs.Surveyed.{surveyed, under};
 ghost use Rattle.lvm_quorum.specs.Groups.{stamped_if, IsGroup, IsLastEpoch};
 ghost use Rattle.lvm_survey.specs.Rows.{AreRows};
 
-use lvm_survey::{Survey, SurveyRow};
 use crate::shown::{Shown, descriptor_of, epoch_of, newer, status_of};
 use lvm_num::{Descriptor, DiskSet, Status};
+use lvm_survey::{Survey, SurveyRow};
 
 /// A group as the disks show it: its newest descriptor, its voters and their newest status.
 #[derive(Drop)]

@@ -5,8 +5,8 @@ ghost use Rattle.lvm_num.specs.Disks.{has};
 ghost use Rattle.lvm_quorum.specs.Homes.{second_slots, home_by, in_first_slot, SpareNewest, Flips};
 ghost use Rattle.lvm_survey.specs.Rows.{AreRows};
 
-use lvm_survey::{Survey, SurveyRow};
 use lvm_num::{DiskSet, Kind};
+use lvm_survey::{Survey, SurveyRow};
 
 /// For each kind of record the disks whose next write goes to slot 1, and not to slot 0.
 #[derive(Clone, Copy, Debug, PartialEq, Eq)]

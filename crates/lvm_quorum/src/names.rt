@@ -8,8 +8,8 @@ ghost use Rattle.lvm_quorum.specs.Groups.{IsNamedBy};
 ghost use Rattle.lvm_survey.specs.Rows.{AreRows};
 
 use crate::groups::group_of;
-use lvm_survey::{Survey, SurveyRow};
 use lvm_num::Name;
+use lvm_survey::{Survey, SurveyRow};
 
 /// The first group that has the name.
 pub fn first_named(survey: &Survey, name: &Name) -> Option<u64>

@@ -34,8 +34,8 @@ pub fn empty_notes<S: Shelf>(
     ensures buffer { IfEnded result (λ failed back. back.number ≡ buf.number) }
     ensures ready { IfEnded result (λ failed back. IsReady (S.device shelf.new) × ((S.device shelf.new).counts.cuts ≡ (S.device shelf.old).counts.cuts)) }
     // where it was broken off
-    ensures dark { OnDark result (IsDarkened (S.device shelf.old) (S.device shelf.new)) }
-    ensures stuck { OnStuck result (IsGivenUp patience.old.left (S.device shelf.old) (S.device shelf.new)) }
+    ensures dark { OnDark result (IsDarkened buf.number (S.device shelf.old) (S.device shelf.new)) }
+    ensures stuck { OnStuck result (IsGivenUp buf.number patience.old.left (S.device shelf.old) (S.device shelf.new)) }
     ensures broken { OnBroken result (IsBrokenOff (has targets) (NoteTold (empty_note stamp)) (S.device shelf.old) (S.device shelf.new) (λ disk failed. Unit {0})) }
     // whatever the answer
     ensures patience { patience.new.left ≤ patience.old.left }

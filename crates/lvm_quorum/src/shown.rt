@@ -5,8 +5,8 @@ ghost use Rattle.lvm_kept.specs.Group.{if_passes, is_of, is_status_of};
 ghost use Rattle.lvm_survey.specs.Surveyed.{under};
 ghost use Rattle.lvm_quorum.specs.Groups.{stamped_if, epoch_of};
 
-use lvm_survey::SurveyRow;
 use lvm_num::{Descriptor, Stamp, Status};
+use lvm_survey::SurveyRow;
 
 /// A record that a disk shows, under its stamp.
 #[derive(Drop)]

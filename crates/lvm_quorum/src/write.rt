@@ -52,8 +52,8 @@ pub fn write_record<S: Shelf>(
     ensures buffer { IfEnded result (λ failed back. back.number ≡ buf.number) }
     ensures ready { IfEnded result (λ failed back. IsReady (S.device shelf.new) × ((S.device shelf.new).counts.cuts ≡ (S.device shelf.old).counts.cuts)) }
     // where it was broken off
-    ensures dark { OnDark result (IsDarkened (S.device shelf.old) (S.device shelf.new)) }
-    ensures stuck { OnStuck result (IsGivenUp patience.old.left (S.device shelf.old) (S.device shelf.new)) }
+    ensures dark { OnDark result (IsDarkened buf.number (S.device shelf.old) (S.device shelf.new)) }
+    ensures stuck { OnStuck result (IsGivenUp buf.number patience.old.left (S.device shelf.old) (S.device shelf.new)) }
     ensures broken { let w = write_of kind (record { stamp = stamp; content = content.now }) (has targets) homes.old in OnBroken result (IsBrokenOff w.targets (StandsTold w) (S.device shelf.old) (S.device shelf.new) (FlipBelow kind w.targets homes.old homes.new)) }
     // whatever the answer
     ensures patience { patience.new.left ≤ patience.old.left }

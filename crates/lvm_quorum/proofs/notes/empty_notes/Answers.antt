@@ -1,12 +1,11 @@
 use Rattle.std.proofs.Common.{◌+◌, ℕ, arith, sym, subst, ◌∙◌}
 use Rattle.lvm_num.specs.Buffer.{Sector}
 use Rattle.lvm_num.specs.Disks.{Disks, has}
-use Rattle.lvm_disk.specs.Counts.{Rose}
 use Rattle.lvm_kept.specs.Torn.{IsOfNote}
 use Rattle.lvm_move.specs.declared.moves.Moved.TheVariants as moved
 use Rattle.lvm_quorum.specs.Notes.{empty_note, NoteTold}
 use Rattle.lvm_quorum.proofs.Writing.{moments_on}
-use Rattle.lvm_quorum.proofs.Transfers.{keeps_then, spends_then, spent_then}
+use Rattle.lvm_quorum.proofs.Transfers.{keeps_then, spends_then, darkened_then, given_up_then}
 use Rattle.lvm_quorum.proofs.Tried.{nothing_tried, none_here, well_here, badly_here, broken_here, all_tried, as_tried}
 use Rattle.lvm_quorum.proofs.Emptying.{note_stays, note_part, note_alone}
 use Rattle.lvm_quorum.proofs.notes.empty_notes.Goals as goal
@@ -28,7 +27,7 @@ returns-in-Dark-clause-dark g c =
     let new = g.S.Shelf.device c.write_sector.new.shelf in
     let target = sym c.has.ensures.member ∙ c.if-not-has.false in
     let part = note_part c.write_note-note.result (empty_note c.args.stamp) c.loop-disk.disk c.loop-disk.buf.number c.loop-disk.patience.left c.write_sector.new.patience.left now new (moved.Dark c.in-Dark.started) c.write_note-note.ensures c.in-Dark.ensures.part (has c.args.targets) target in
-    record { flights = part.rests.0; power = part.rests.1; cuts = subst (λ (n : ℕ). Rose n new.counts.cuts) c.loop-disk.invariant.cuts part.counts.1 }
+    darkened_then c.args.buf.number c.loop-disk.buf.number old now new c.loop-disk.invariant.buffer c.loop-disk.invariant.cuts part.leaves
 
 pub returns-in-Dark-clause-broken : goal.returns-in-Dark-clause-broken
 returns-in-Dark-clause-broken g c =
@@ -82,7 +81,7 @@ returns-in-Stuck-clause-stuck g c =
     let new = g.S.Shelf.device c.write_sector.new.shelf in
     let target = sym c.has.ensures.member ∙ c.if-not-has.false in
     let part = note_part c.write_note-note.result (empty_note c.args.stamp) c.loop-disk.disk c.loop-disk.buf.number c.loop-disk.patience.left c.write_sector.new.patience.left now new (moved.Stuck) c.write_note-note.ensures c.in-Stuck.ensures.part (has c.args.targets) target in
-    record { power = part.stuck.0; cuts = part.counts.1 ∙ c.loop-disk.invariant.cuts; waits = spent_then c.args.patience.now.left c.loop-disk.patience.left old now new c.loop-disk.invariant.spends part.stuck.1 }
+    given_up_then c.args.buf.number c.loop-disk.buf.number c.args.patience.now.left c.loop-disk.patience.left old now new c.loop-disk.invariant.buffer c.loop-disk.invariant.cuts c.loop-disk.invariant.spends part.leaves
 
 pub returns-in-Stuck-clause-broken : goal.returns-in-Stuck-clause-broken
 returns-in-Stuck-clause-broken g c =

@@ -5,7 +5,7 @@ use Rattle.lvm_quorum.specs.declared.write.SlotWrite.{SlotWrite}
 use Rattle.lvm_kept.specs.Torn.{IsOfRecord}
 use Rattle.lvm_quorum.specs.Written.{write_of}
 use Rattle.lvm_quorum.proofs.Writing.{moments_on}
-use Rattle.lvm_quorum.proofs.Transfers.{keeps_then}
+use Rattle.lvm_quorum.proofs.Transfers.{keeps_then, darkened_then, given_up_then}
 use Rattle.lvm_quorum.proofs.Disks.{none_tried, slot_still, disk_skipped, disk_written, disk_failed, broken_off, each_tried, all_flipped, as_joined, part_of_all, stands_of_all, starts_alone}
 use Rattle.lvm_quorum.proofs.write.write_record.Goals as goal
 use Rattle.lvm_quorum.proofs.write.write_record.Goals.{in-Done, in-Failed}
@@ -19,6 +19,11 @@ pub loop-disk-preserved-then-not-has : goal.loop-disk-preserved-then-not-has
 loop-disk-preserved-then-not-has g c =
     disk_skipped (write_of c.args.kind (record { stamp = c.args.stamp; content = c.args.content.now }) (has c.args.targets) c.args.homes.now) c.args.buf.number c.args.patience.now.left c.loop-disk.patience.left (g.S.Shelf.device c.args.shelf.now) (g.S.Shelf.device c.loop-disk.shelf) c.args.homes.now c.loop-disk.homes c.loop-disk.failed c.loop-disk.buf c.loop-disk.disk c.loop-disk.invariant
     (sym c.has.ensures.member ∙ c.if-not-has.true)
+
+pub returns-in-Dark-clause-dark : goal.returns-in-Dark-clause-dark
+returns-in-Dark-clause-dark g c =
+    let so_far = c.loop-disk.invariant.all in
+    darkened_then c.args.buf.number c.loop-disk.buf.number (g.S.Shelf.device c.args.shelf.now) (g.S.Shelf.device c.loop-disk.shelf) (g.S.Shelf.device c.write_slot.new.shelf) so_far.buffer so_far.cuts c.in-Dark.ensures.part.leaves
 
 pub returns-in-Dark-clause-broken : goal.returns-in-Dark-clause-broken
 returns-in-Dark-clause-broken g c =
@@ -56,6 +61,12 @@ returns-in-Dark-clause-moments g c =
     let second = c.is_second.ensures ∙ slot_still w c.args.buf.number c.args.patience.now.left c.loop-disk.patience.left old now c.args.homes.now c.loop-disk.homes c.loop-disk.failed c.loop-disk.buf c.loop-disk.disk c.loop-disk.invariant in
     let part = part_of_all one (has c.args.targets) c.args.homes.now target second c.loop-disk.buf.number c.loop-disk.patience.left c.write_slot.new.patience.left now new (moved.Dark c.in-Dark.started) c.in-Dark.ensures.part in
     moments_on (IsOfRecord w) old now c.loop-disk.invariant.all.keeps.media new c.loop-disk.invariant.all.moments part.moments
+
+pub returns-in-Stuck-clause-stuck : goal.returns-in-Stuck-clause-stuck
+returns-in-Stuck-clause-stuck g c =
+    let so_far = c.loop-disk.invariant.all in
+    given_up_then c.args.buf.number c.loop-disk.buf.number c.args.patience.now.left c.loop-disk.patience.left (g.S.Shelf.device c.args.shelf.now) (g.S.Shelf.device c.loop-disk.shelf) (g.S.Shelf.device c.write_slot.new.shelf) so_far.buffer so_far.cuts so_far.spends
+    c.in-Stuck.ensures.part.leaves
 
 pub returns-in-Stuck-clause-broken : goal.returns-in-Stuck-clause-broken
 returns-in-Stuck-clause-broken g c =
