@@ -23,7 +23,7 @@ use Rattle.lvm_begin.specs.Runs.{IsAnswer, Does, HowOne, OneGives}
 pub how_one :
     (targets : Disks) (Stands : Device → ℕ → Type 0) (number before : ℕ) (old new : Device) (w : Wrote) (result : Begun) → IsAnswer w result
     → IfWritten w (λ failed back. (d : ℕ) → EndsOn targets Stands (has failed) old new d) → IfWritten w (λ failed back. back.number ≡ number)
-    → IfWritten w (λ failed back. IsReady new × (new.counts.cuts ≡ old.counts.cuts)) → OnWrittenDark w (IsDarkened old new) → OnWrittenStuck w (IsGivenUp before old new)
+    → IfWritten w (λ failed back. IsReady new × (new.counts.cuts ≡ old.counts.cuts)) → OnWrittenDark w (IsDarkened number old new) → OnWrittenStuck w (IsGivenUp number before old new)
     → HowOne targets Stands number before old new result
 how_one targets Stands number before old new (wrote.Ended failed buf) (begun.Ended back) answer each number_is rests dark stuck = record {
   back = record { ready = rests.0; cuts = rests.1; number_is = ap (λ (b : Buffer). b.number) answer.0 ∙ number_is };

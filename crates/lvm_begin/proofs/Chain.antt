@@ -8,7 +8,7 @@ use Rattle.lvm_disk.specs.Paths.{DeviceStep, Path}
 use Rattle.lvm_disk.proofs.Paths.{map-path}
 use Rattle.lvm_kept.specs.Plans.{Plan, ChangesBy}
 use Rattle.lvm_num.specs.Disks.{Disks}
-use Rattle.lvm_quorum.specs.Written.{KeepsShelf, IsWriting, IsDarkened, IsGivenUp}
+use Rattle.lvm_quorum.specs.Written.{KeepsShelf, IsWriting, FreesAtMost, IsDarkened, IsGivenUp}
 use Rattle.lvm_quorum.proofs.Writing.{both_map, changes_more, moments_on, moments_wider}
 use Rattle.lvm_quorum.proofs.Transfers.{keeps_then, spends_then, spent_then}
 use Rattle.lvm_begin.specs.declared.begin.Begun.{Begun}
@@ -103,8 +103,8 @@ more_gives b ps p number before mid_left after old mid new buf result many one s
       first = record { target = o.first.target; rose = subst (λ (n : ℕ). Rose n (new.counts.faults disk)) (many.how.well disk) o.first.rose; lowest = λ d less. o.first.lowest d less ∙ many.how.well d };
       stop = stops (WasTried b old new) keeps (λ d target. ⊎_elim (λ stands. inl stands) (λ rose. inr (subst (λ (n : ℕ). Rose n (new.counts.faults d)) (many.how.well d) rose)) (o.tried d target));
     }
-    how begun.Dark keeps o = (record { flights = o.flights; power = o.power; cuts = subst (λ (n : ℕ). Rose n new.counts.cuts) many.how.back.cuts o.cuts }, stops (λ hand. Unit {0}) keeps tt)
-    how begun.Stuck keeps o = (record { power = o.power; cuts = o.cuts ∙ many.how.back.cuts; waits = spent_then before mid_left old mid new many.does.spends o.waits }, stops (λ hand. Unit {0}) keeps tt)
+    how begun.Dark keeps o = (record { flights = o.flights; power = o.power; cuts = subst (λ (n : ℕ). Rose n new.counts.cuts) many.how.back.cuts o.cuts; freed = subst (λ (n : ℕ). FreesAtMost n new) many.how.back.number_is o.freed }, stops (λ hand. Unit {0}) keeps tt)
+    how begun.Stuck keeps o = (record { flight = o.flight; flights = o.flights; write = o.write; buffer = o.buffer ∙ many.how.back.number_is; freed = o.freed; power = o.power; cuts = o.cuts ∙ many.how.back.cuts; waits = spent_then before mid_left old mid new many.does.spends o.waits }, stops (λ hand. Unit {0}) keeps tt)
 
 -- ---- it stopped before the others
 

@@ -45,13 +45,13 @@ module _ (b : Beginning) (order : List Part) (number before : ℕ) (old new : De
   tells_ready begun.Dark how = tt
   tells_ready begun.Stuck how = tt
 
-  pub tells_dark : (r : Begun) → HowMany b order number before old new r → OnDark r (IsDarkened old new)
+  pub tells_dark : (r : Begun) → HowMany b order number before old new r → OnDark r (IsDarkened number old new)
   tells_dark (begun.Ended buf) how = tt
   tells_dark (begun.DiskFailed disk buf) how = tt
   tells_dark begun.Dark how = how.0
   tells_dark begun.Stuck how = tt
 
-  pub tells_stuck : (r : Begun) → HowMany b order number before old new r → OnStuck r (IsGivenUp before old new)
+  pub tells_stuck : (r : Begun) → HowMany b order number before old new r → OnStuck r (IsGivenUp number before old new)
   tells_stuck (begun.Ended buf) how = tt
   tells_stuck (begun.DiskFailed disk buf) how = tt
   tells_stuck begun.Dark how = tt

@@ -57,8 +57,8 @@ pub record OneBad (targets : Disks) (Stands : Device → ℕ → Type 0) (number
 abbrev pub HowOne : Disks → (Device → ℕ → Type 0) → ℕ → ℕ → Device → Device → Begun → Type 0
 HowOne targets Stands number before old new (begun.Ended buf) = OneWell targets Stands number old new buf
 HowOne targets Stands number before old new (begun.DiskFailed disk buf) = OneBad targets Stands number old new disk buf
-HowOne targets Stands number before old new begun.Dark = IsDarkened old new
-HowOne targets Stands number before old new begun.Stuck = IsGivenUp before old new
+HowOne targets Stands number before old new begun.Dark = IsDarkened number old new
+HowOne targets Stands number before old new begun.Stuck = IsGivenUp number before old new
 
 -- how a write to these disks ended, which may bring this, and of which this then stands
 pub record OneGives (targets : Disks) (P : Plan) (Stands : Device → ℕ → Type 0) (number before after : ℕ) (old new : Device) (result : Begun) : Type 0 where
@@ -80,8 +80,8 @@ pub record ManyBad (b : Beginning) (order : List Part) (number : ℕ) (old new :
 abbrev pub HowMany : Beginning → List Part → ℕ → ℕ → Device → Device → Begun → Type 0
 HowMany b order number before old new (begun.Ended buf) = ManyWell b order number old new buf
 HowMany b order number before old new (begun.DiskFailed disk buf) = ManyBad b order number old new disk buf
-HowMany b order number before old new begun.Dark = IsDarkened old new × StopsAt b order old new (λ hand. Unit {0})
-HowMany b order number before old new begun.Stuck = IsGivenUp before old new × StopsAt b order old new (λ hand. Unit {0})
+HowMany b order number before old new begun.Dark = IsDarkened number old new × StopsAt b order old new (λ hand. Unit {0})
+HowMany b order number before old new begun.Stuck = IsGivenUp number before old new × StopsAt b order old new (λ hand. Unit {0})
 
 -- how the parts ended, in this order
 pub record ManyGives (b : Beginning) (order : List Part) (number before after : ℕ) (old new : Device) (result : Begun) : Type 0 where

@@ -67,8 +67,8 @@ pub fn begin_new<S: Shelf>(
     ensures buffer { IfBack result (λ back. back.number ≡ buf.number) }
     ensures ready { IfBack result (λ back. IsReady (S.device shelf.new) × ((S.device shelf.new).counts.cuts ≡ (S.device shelf.old).counts.cuts)) }
     // they were broken off
-    ensures dark { OnDark result (IsDarkened (S.device shelf.old) (S.device shelf.new)) }
-    ensures stuck { OnStuck result (IsGivenUp patience.old.left (S.device shelf.old) (S.device shelf.new)) }
+    ensures dark { OnDark result (IsDarkened buf.number (S.device shelf.old) (S.device shelf.new)) }
+    ensures stuck { OnStuck result (IsGivenUp buf.number patience.old.left (S.device shelf.old) (S.device shelf.new)) }
     ensures broken { let b = new_beginning epoch descriptor.now status.now (has targets) homes.old in OnBroken result (StopsAt b new_order (S.device shelf.old) (S.device shelf.new) (λ hand. Unit {0})) }
     // whatever the answer
     ensures patience { patience.new.left ≤ patience.old.left }
@@ -136,8 +136,8 @@ pub fn begin_again<S: Shelf>(
     ensures buffer { IfBack result (λ back. back.number ≡ buf.number) }
     ensures ready { IfBack result (λ back. IsReady (S.device shelf.new) × ((S.device shelf.new).counts.cuts ≡ (S.device shelf.old).counts.cuts)) }
     // they were broken off
-    ensures dark { OnDark result (IsDarkened (S.device shelf.old) (S.device shelf.new)) }
-    ensures stuck { OnStuck result (IsGivenUp patience.old.left (S.device shelf.old) (S.device shelf.new)) }
+    ensures dark { OnDark result (IsDarkened buf.number (S.device shelf.old) (S.device shelf.new)) }
+    ensures stuck { OnStuck result (IsGivenUp buf.number patience.old.left (S.device shelf.old) (S.device shelf.new)) }
     ensures broken { let b = again_beginning epoch descriptor.now status.now (has targets) homes.old in OnBroken result (StopsAt b again_order (S.device shelf.old) (S.device shelf.new) (λ hand. Unit {0})) }
     // whatever the answer
     ensures patience { patience.new.left ≤ patience.old.left }
