@@ -49,18 +49,22 @@ pub rested_more : (old mid new : Device) → IsRested old mid → IsRested mid n
 rested_more old mid new one two = record { ready = two.ready; cuts = two.cuts ∙ one.cuts }
 
 -- the rest was lost as patience was at the beginning
-stuck_more : (a b : ℕ) (old mid new : Device) → OnlyReads a b old mid → IsStuck b mid new → IsStuck a old new
-stuck_more a b old mid new one two = record {
+stuck_more : (number a b : ℕ) (old mid new : Device) → OnlyReads a b old mid → IsRested old mid → IsStuck number b mid new → IsStuck number a old new
+stuck_more number a b old mid new one rested two = record {
   flight = two.flight;
   out = two.out;
   reads = two.reads;
+  buffer = two.buffer;
+  freed = two.freed;
+  power = two.power;
+  cuts = two.cuts ∙ rested.cuts;
   waited = record { later = omega (arith, one.waited.later, two.waited.later); risen = omega (arith, one.falls, one.waited.later, one.waited.risen, two.waited.later, two.waited.risen) };
 }
 
 pub stop_more : (number a b : ℕ) (old mid new : Device) (how : Stop) → OnlyReads a b old mid → IsRested old mid → StopGives number b mid new how → StopGives number a old new how
 stop_more number a b old mid new (stop.Memory buf) one rested gives = (rested_more old mid new rested gives.0, gives.1)
 stop_more number a b old mid new stop.Dark one rested gives = record { power = gives.power; flights = gives.flights; cuts = subst (λ n. Rose n new.counts.cuts) rested.cuts gives.cuts }
-stop_more number a b old mid new stop.Stuck one rested gives = stuck_more a b old mid new one gives
+stop_more number a b old mid new stop.Stuck one rested gives = stuck_more number a b old mid new one rested gives
 
 -- all that reads of one disk have done while they succeeded
 pub record SoFar (disk a b : ℕ) (old now : Device) : Type 0 where

@@ -241,8 +241,17 @@ module _ (patience ticket disk first count : ℕ) (buf : Buffer) (old : Device) 
   read_cut_off new true gives = cut_off gives.0 new (out_cuts gives.0 gives.1) gives.2
   read_cut_off new false gives = cut_off old new refl gives
 
-  pub read_stuck : (new : Device) → TransferGives patience old new f moved.Stuck → IsStuck patience old new
-  read_stuck new gives = record { flight = f; out = flights_are new gives.0; reads = refl; waited = gives.1 }
+  pub read_stuck : (new : Device) → TransferGives patience old new f moved.Stuck → IsStuck buf.number patience old new
+  read_stuck new gives = record {
+    flight = f;
+    out = flights_are new gives.0;
+    reads = refl;
+    buffer = refl;
+    freed = now_is new gives.0 (λ d. d.freed) ∙ ready.freed;
+    power = now_is new gives.0 (λ d. d.power) ∙ ready.power;
+    cuts = out_cuts new gives.0;
+    waited = gives.1;
+  }
 
   -- ---- as a call tells it
 

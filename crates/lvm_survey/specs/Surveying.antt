@@ -62,18 +62,22 @@ pub record IsCutOff (old new : Device) : Type 0 where
   pub flights : new.flights ≡ []
   pub cuts : Rose old.counts.cuts new.counts.cuts
 
--- one read is out, of which nothing was heard until the patience had run out
-pub record IsStuck (patience : ℕ) (old new : Device) : Type 0 where
+-- One read is out with the buffer of this number, of which nothing was heard until the patience had run out. The power was on all the time.
+pub record IsStuck (number patience : ℕ) (old new : Device) : Type 0 where
   pub flight : Flight
   pub out : new.flights ≡ flight ∷ []
   pub reads : flight.write ≡ false
+  pub buffer : flight.buf.number ≡ number
+  pub freed : new.freed ≡ []
+  pub power : new.power ≡ true
+  pub cuts : new.counts.cuts ≡ old.counts.cuts
   pub waited : RoseBy patience old.counts.waits new.counts.waits
 
 -- how reads were ended before their end, with the buffer of this number
 abbrev pub StopGives : ℕ → ℕ → Device → Device → Stop → Type 0
 StopGives number patience old new (stop.Memory buf) = IsRested old new × (buf.number ≡ number)
 StopGives number patience old new stop.Dark = IsCutOff old new
-StopGives number patience old new stop.Stuck = IsStuck patience old new
+StopGives number patience old new stop.Stuck = IsStuck number patience old new
 
 -- all reads of a disk's records succeeded
 pub record AllWereRead (disk : ℕ) (old new : Device) : Type 0 where
@@ -177,9 +181,9 @@ IfEnded surveyed.Dark P = Unit {0}
 IfEnded surveyed.Stuck P = Unit {0}
 IfEnded (surveyed.Memory buf) P = Unit {0}
 
--- how a survey ended: the buffer of this number comes back where nothing is out and the power is on
+-- how a survey ended: the buffer of this number comes back where nothing is out and the power is on, and is out where nothing was heard of a read
 abbrev pub SurveyEnds : ℕ → ℕ → Device → Device → Surveyed → Type 0
 SurveyEnds number patience old new (surveyed.Ended survey buf) = IsRested old new × (buf.number ≡ number)
 SurveyEnds number patience old new surveyed.Dark = IsCutOff old new
-SurveyEnds number patience old new surveyed.Stuck = IsStuck patience old new
+SurveyEnds number patience old new surveyed.Stuck = IsStuck number patience old new
 SurveyEnds number patience old new (surveyed.Memory buf) = IsRested old new × (buf.number ≡ number)
