@@ -83,7 +83,8 @@ impl Parts {
         let table = StaleTable::from_status(alloc, &status)?;
         let updater = Updater::new(alloc, table, &descriptor)?;
         let cache = Cache::new(alloc, members(&descriptor))?;
-        let queue = Queue::new(alloc, room.table)?;
+        // The copy that is open has a place beside the requests.
+        let queue = Queue::new(alloc, room.table + 1)?;
         let pool = Pool::new(alloc, room.pool)?;
         match Vec::with_capacity(alloc, room.table as usize) {
             Ok(requests) => Ok(Parts {
