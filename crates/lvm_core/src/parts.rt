@@ -36,8 +36,9 @@ pub struct Room {
     pub bytes: u64,
 }
 
-/// All that a session needs memory for: its group, a table for its requests, the hold queue, the
-/// transfer buffers, the statuses and the cache with the notes of the members.
+/// What a session has beside its history and its shelf: its group, a table for its requests, the hold
+/// queue, the transfer buffers, the statuses and the cache with the notes of the members. All their
+/// memory is taken with them.
 #[derive(Drop)]
 pub struct Parts {
     descriptor: Descriptor,
