@@ -44,7 +44,7 @@ reserved d s room r valid one ranges its =
       idle = ap (λ (u : Updates). u.in_flight) its.status;
       requests = its.requests;
       most = subst (λ n. n ≤ 1024) (sym its.most) ranges.requests;
-      queue = its.queue ∙ ap (λ n. let w : Waiting = record { room = n; rows = [] } in w) (sym its.most);
+      queue = its.queue ∙ ap (λ n. let w : Waiting = record { room = n + 1; rows = [] } in w) (sym its.most);
       pool = its.pool ∙ ap (λ n. replicate n false) (sym buffers);
       buffers = subst (λ n. n ≤ 1024) (sym buffers) ranges.buffers;
       cache = subst (λ (x : Descriptor). IsEmptyCache x r.cache) (sym its.descriptor) its.cache;

@@ -2,3 +2,4 @@ pub mod Telling
 pub mod Landing
 pub mod Beginning
 pub mod Arranging
+pub mod Closing

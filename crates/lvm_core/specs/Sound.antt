@@ -38,7 +38,8 @@ pub record IsFitting (core : Core) : Type 0 where
   pub notes : (disk : ℕ) → has_disk core.cache disk ≡ is_member core.descriptor disk
   pub table : length core.requests ≤ core.most
   pub most : core.most ≤ 1024
-  pub queue : core.queue.room ≡ core.most
+  -- each request has a place, and the copy that is open one more
+  pub queue : core.queue.room ≡ core.most + 1
   pub buffers : length core.pool ≤ 1024
 
 -- nothing of the session may have a transfer under way

@@ -1,5 +1,5 @@
 -- How a session starts.
-use Rattle.std.specs.Prelude.{◌≡◌, ◌≤◌, ◌<◌, ◌++◌, ℕ, Bool, true, false, List, [], ◌∷◌, Option, Some, None, length, slice_get, replicate, Contains, if◌then◌else◌}
+use Rattle.std.specs.Prelude.{◌≡◌, ◌≤◌, ◌<◌, ◌+◌, ◌++◌, ℕ, Bool, true, false, List, [], ◌∷◌, Option, Some, None, length, slice_get, replicate, Contains, if◌then◌else◌}
 use Rattle.lvm_num.specs.declared.descriptor.PvRow.{PvRow}
 use Rattle.lvm_num.specs.declared.descriptor.Descriptor.{Descriptor}
 use Rattle.lvm_num.specs.declared.record.Stamp.{Stamp}
@@ -53,7 +53,8 @@ pub record IsReservedFor (d : Descriptor) (s : Status) (room : Room) (r : Reserv
   pub descriptor : r.descriptor ≡ d
   pub requests : r.requests ≡ []
   pub most : r.most ≡ room.table
-  pub queue : r.queue ≡ record { room = room.table; rows = [] }
+  -- a place for each request, and one for the copy that is open
+  pub queue : r.queue ≡ record { room = room.table + 1; rows = [] }
   pub pool : r.pool ≡ replicate room.pool false
   pub status : seen r.status ≡ first_updates s d
   pub cache : IsEmptyCache d r.cache
@@ -67,7 +68,7 @@ pub record AreReserved (r : Reserved) : Type 0 where
   pub idle : r.status.in_flight ≡ None
   pub requests : r.requests ≡ []
   pub most : r.most ≤ 1024
-  pub queue : r.queue ≡ record { room = r.most; rows = [] }
+  pub queue : r.queue ≡ record { room = r.most + 1; rows = [] }
   pub pool : r.pool ≡ replicate (length r.pool) false
   pub buffers : length r.pool ≤ 1024
   pub cache : IsEmptyCache r.descriptor r.cache

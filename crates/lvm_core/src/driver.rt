@@ -1,12 +1,13 @@
 //! A session over its shelf.
-ghost use Rattle.std.specs.Prelude.{◌≡◌, ◌≤◌, ◌<◌, ◌+◌, ◌^◌, [], length, slice_get, Some, IfSome, IfNone};
+ghost use Rattle.std.specs.Prelude.{◌≡◌, ◌≤◌, ◌<◌, ◌+◌, ◌^◌, [], length, slice_get, false, Some, IfSome, IfNone, All};
 ghost use Rattle.lvm_num.specs.Descriptor.{IsValid};
 ghost use Rattle.lvm_num.specs.Votes.{total_votes};
 ghost use Rattle.lvm_vol.specs.Log.{spare_entries};
 ghost use Rattle.lvm_disk.specs.Device.{IsReady};
 ghost use Rattle.lvm_disk.specs.Steps.{MayArrange, ArrangeGives};
+ghost use Rattle.lvm_core.specs.declared.request.Open.{Open};
 ghost use Rattle.lvm_core.specs.State.{state, votes_there};
-ghost use Rattle.lvm_core.specs.Dark.{after_arrange};
+ghost use Rattle.lvm_core.specs.Dark.{is_waiting, after_arrange};
 ghost use Rattle.lvm_core.specs.Looking.{IsNumberOf, HasNoVolume};
 ghost use Rattle.lvm_core.specs.Sound.{IsSound, HaveAllLanded};
 ghost use Rattle.lvm_core.specs.Starting.{ArePlaced, first_core};
@@ -148,8 +149,8 @@ impl<S: Shelf> Driver<S> {
     pub fn close(self) -> Closed<S>
         ensures shelf { S.device result.shelf ≡ record (S.device self.0) { freed = [] } }
         ensures history { result.history ≡ self.1.history }
-        // Where no request was open, each that the history tells of has landed.
-        ensures landed { self.1.requests ≡ [] → HaveAllLanded result.history.facts }
+        // Where no request waited, each that the history tells of has landed.
+        ensures landed { All (λ (o : Open). is_waiting o ≡ false) self.1.requests → HaveAllLanded result.history.facts }
     {
         let Driver { mut shelf, session } = self;
         while let Some(_) = shelf.next_freed() {}

@@ -36,8 +36,9 @@ pub struct Room {
     pub bytes: u64,
 }
 
-/// All that a session needs memory for: its group, a table for its requests, the hold queue, the
-/// transfer buffers, the statuses and the cache with the notes of the members.
+/// What a session has beside its history and its shelf: its group, a table for its requests, the hold
+/// queue, the transfer buffers, the statuses and the cache with the notes of the members. All their
+/// memory is taken with them.
 #[derive(Drop)]
 pub struct Parts {
     descriptor: Descriptor,
@@ -83,7 +84,8 @@ impl Parts {
         let table = StaleTable::from_status(alloc, &status)?;
         let updater = Updater::new(alloc, table, &descriptor)?;
         let cache = Cache::new(alloc, members(&descriptor))?;
-        let queue = Queue::new(alloc, room.table)?;
+        // The copy that is open has a place beside the requests.
+        let queue = Queue::new(alloc, room.table + 1)?;
         let pool = Pool::new(alloc, room.pool)?;
         match Vec::with_capacity(alloc, room.table as usize) {
             Ok(requests) => Ok(Parts {
