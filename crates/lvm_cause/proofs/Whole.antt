@@ -2,7 +2,7 @@
 use Rattle.std.proofs.Common.{◌≡◌, inl, ⊎_elim, ℕ, Bool, true, false, not, List, [], ◌∷◌, ◌++◌, Some, None, refl, sym, ap, subst, ◌∙◌, arith, append_assoc, append-nil}
 use Rattle.std.specs.Prelude.{IsTrue, IsFalse}
 use Rattle.std.specs.List.{AllByRecursion}
-use Rattle.lvm_vol.specs.Facts.{Fact}
+use Rattle.lvm_vol.specs.Facts.{Fact, Cut}
 use Rattle.lvm_vol.specs.declared.entry.Outcome.TheVariants as outcome
 use Rattle.lvm_good.specs.Over.{landings}
 use Rattle.lvm_good.specs.State.{Marks, State}
@@ -11,9 +11,9 @@ use Rattle.lvm_good.specs.Good.{Good}
 use Rattle.lvm_good.specs.Events.{Event}
 use Rattle.lvm_good.proofs.Each.{each_keeps}
 use Rattle.lvm_cause.specs.Faults.{Faults, HasFailed, NoneFailed}
-use Rattle.lvm_cause.specs.Caused.{FactIsCaused, Caused}
+use Rattle.lvm_cause.specs.Caused.{FactIsCaused, Since, Caused}
 use Rattle.lvm_cause.specs.Why.{enters}
-use Rattle.lvm_cause.specs.Laws.{EachEventKeepsCauses, CausedSteps, at_beginning, IsUnasked, EachMomentIsCaused, VotesAreLostByFaults, OffIsCaused, FirstIsUnasked}
+use Rattle.lvm_cause.specs.Laws.{EachEventKeepsCauses, CausedSteps, at_beginning, IsUnasked, EachMomentIsCaused, VotesAreLostByFaults, OffIsCaused, CutIsCaused, FirstIsUnasked}
 use Rattle.lvm_cause.proofs.Changes.{append_all, change_keeps}
 use Rattle.lvm_cause.proofs.Each.{changes}
 
@@ -76,12 +76,25 @@ all_landings : (s : State) (w : Faults) (started : ℕ → Bool) → (NoneFailed
 all_landings s w started why [] = tt
 all_landings s w started why (i ∷ places) = (why, all_landings s w started why places)
 
-pub off_caused : OffIsCaused
-off_caused votes s w places started caused enough off = record {
-  since = caused.landed.since ++ landings outcome.Off s.name started places;
-  is = ap (λ (l : List Fact). l ++ landings outcome.Off s.name started places) caused.landed.is ∙ append_assoc w.past caused.landed.since (landings outcome.Off s.name started places);
-  caused = append_all (FactIsCaused w s) caused.landed.since (landings outcome.Off s.name started places) caused.landed.caused (all_landings s w started (votes_lost votes s w caused enough off.lost) places);
+dark_landings : (s : State) (w : Faults) (started : ℕ → Bool) (places : List ℕ) → AllByRecursion (FactIsCaused w s) (landings outcome.Dark s.name started places)
+dark_landings s w started [] = tt
+dark_landings s w started (i ∷ places) = (tt, dark_landings s w started places)
+
+-- entries that have their cause
+since_more : (w : Faults) (s : State) (facts more : List Fact) → AllByRecursion (FactIsCaused w s) more → Since w s facts → Since w s (facts ++ more)
+since_more w s facts more all old = record {
+  since = old.since ++ more;
+  is = ap (λ (l : List Fact). l ++ more) old.is ∙ append_assoc w.past old.since more;
+  caused = append_all (FactIsCaused w s) old.since more old.caused all;
 }
+
+pub off_caused : OffIsCaused
+off_caused votes s w places started caused enough off =
+    since_more w s s.facts (landings outcome.Off s.name started places) (all_landings s w started (votes_lost votes s w caused enough off.lost) places) caused.landed
+
+pub cut_caused : CutIsCaused
+cut_caused s w places started caused =
+    since_more w s (s.facts ++ Cut ∷ []) (landings outcome.Dark s.name started places) (dark_landings s w started places) (since_more w s s.facts (Cut ∷ []) (tt, tt) caused.landed)
 
 pub first_is_unasked : FirstIsUnasked
 first_is_unasked = record { queue = λ i. refl; in_flight = refl; open_copy = refl; wanted = refl }

@@ -1,6 +1,7 @@
 -- Each event keeps the causes, and what follows from them.
 use Rattle.std.specs.Prelude.{◌≡◌, ℕ, Bool, not, List, [], ◌∷◌, ◌++◌, None, IsTrue, IsFalse}
 use Rattle.lvm_vol.specs.declared.entry.Outcome.TheVariants as outcome
+use Rattle.lvm_vol.specs.Facts.{Cut}
 use Rattle.lvm_good.specs.State.{State}
 use Rattle.lvm_good.specs.Found.{Votes}
 use Rattle.lvm_good.specs.Good.{Good}
@@ -49,6 +50,10 @@ abbrev pub OffIsCaused : Type 0
 OffIsCaused =
     (votes : Votes) (s : State) (w : Faults) (places : List ℕ) (started : ℕ → Bool)
     → Caused w s → IsTrue (votes.writes (λ d. not (w.missing d))) → GoesOff votes s places started → Since w s (s.facts ++ landings outcome.Off s.name started places)
+
+-- Where the power is cut and the open requests land as Dark, which needs no fault, what the history tells has its causes still.
+abbrev pub CutIsCaused : Type 0
+CutIsCaused = (s : State) (w : Faults) (places : List ℕ) (started : ℕ → Bool) → Caused w s → Since w s ((s.facts ++ Cut ∷ []) ++ landings outcome.Dark s.name started places)
 
 -- The first good session begins so.
 abbrev pub FirstIsUnasked : Type 0

@@ -12,6 +12,7 @@ pub record WriteFailedOn (s : State) (c : Pp) : Type 0 where
   pub place : ℕ
   pub write : Queued
   pub there : s.queue place ≡ Some write
+  pub writes : IsTrue write.write
   pub failed : write.targets c ≡ Some Badly
 
 -- the copy is the one that is being brought up

@@ -1,5 +1,5 @@
 //! Laws of causes. Each call does nothing: its contract is the law.
-ghost use Rattle.lvm_cause.specs.Laws.{EachEventKeepsCauses, EachMomentIsCaused, FirstIsUnasked, VotesAreLostByFaults, OffIsCaused};
+ghost use Rattle.lvm_cause.specs.Laws.{EachEventKeepsCauses, EachMomentIsCaused, FirstIsUnasked, VotesAreLostByFaults, OffIsCaused, CutIsCaused};
 
 /// Each event of a session, where whatever fails in it is a fault of that disk, keeps this: nothing is missing,
 /// stale or failed but from the beginning, or by a fault since.
@@ -17,4 +17,9 @@ pub fn each_moment_is_caused()
 pub fn going_off_is_caused()
     ensures votes { VotesAreLostByFaults }
     ensures landings { OffIsCaused }
+{}
+
+/// A cut of the power needs no fault, and after it the history has its causes still: the landings are as Dark.
+pub fn cut_is_caused()
+    ensures { CutIsCaused }
 {}

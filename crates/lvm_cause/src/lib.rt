@@ -3,4 +3,6 @@
 
 mod laws;
 
-pub use laws::{each_event_keeps_causes, each_moment_is_caused, going_off_is_caused};
+pub use laws::{
+    cut_is_caused, each_event_keeps_causes, each_moment_is_caused, going_off_is_caused,
+};

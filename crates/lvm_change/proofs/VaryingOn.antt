@@ -28,7 +28,7 @@ use Rattle.lvm_kept.specs.Kept.{MayDiffer, BlocksKept, Kept}
 use Rattle.lvm_kept.specs.Changes.{Serves, HasNoVolume, StayExcused}
 use Rattle.lvm_kept.specs.Torn.{StatusesChange}
 use Rattle.lvm_kept.proofs.Finding.{some_same, offered, is_offered, offers, finding_reads}
-use Rattle.lvm_kept.proofs.Restamping.{narrower, fewer_blocks, restamping_keeps}
+use Rattle.lvm_kept.proofs.Restamping.{fewer_blocks, restamping_keeps}
 use Rattle.lvm_kept.proofs.Restating.{statuses_keep}
 use Rattle.lvm_kept.proofs.Changing.{notes_keep}
 use Rattle.lvm_change.specs.VaryingOn.{AreShowing, RestampKeeps, HasNewest, OnlyNewestIsFound, MayRestate, RestateKeeps, HasNoActive, NotesOf, ForgettingKeeps}
@@ -184,34 +184,49 @@ true_not : (b : Bool) → b ≡ false → not b ≡ true
 true_not true e = absurd cc
 true_not false e = refl
 
--- a status that calls more stale, and as much dirty
-module _ (c : Contents) (was next : Stamped Status) (stale : (p : Pp) → IsTrue (calls_stale was.value p) → IsTrue (calls_stale next.value p)) (dirty : (lv : ℕ) → IsTrue (calls_dirty was.value lv) → IsTrue (calls_dirty next.value lv)) where
-  staler : (p : Pp) → not (calls_stale next.value p) ≡ true → not (calls_stale was.value p) ≡ true
-  staler p e = by_test (calls_stale was.value p) refl
-    where
-      by_test : (t : Bool) → calls_stale was.value p ≡ t → not t ≡ true
-      by_test true is = absurd (clash (calls_stale next.value p) (stale p is) (not_true (calls_stale next.value p) e))
-      by_test false is = refl
+-- what holds of all that pass one test holds of all that pass another one which is narrower on them
+narrower_on : {X : Type 0} (P : X → Type 0) (p q : X → Bool) (xs : List X) → ((x : X) → IsOneOf xs x → q x ≡ true → p x ≡ true) → AllByRecursion P (filter p xs) → AllByRecursion P (filter q xs)
+narrower_on P p q [] more all = tt
+narrower_on P p q (x ∷ xs) more all = by_tests (p x) (q x) (more x (inl refl)) (narrower_on P p q xs (λ y one. more y (inr one))) all
+  where
+    by_tests : (s t : Bool) → (t ≡ true → s ≡ true) → (AllByRecursion P (filter p xs) → AllByRecursion P (filter q xs))
+        → AllByRecursion P (if s then x ∷ filter p xs else filter p xs) → AllByRecursion P (if t then x ∷ filter q xs else filter q xs)
+    by_tests true true m rest all = (all.0, rest all.1)
+    by_tests true false m rest all = rest all.1
+    by_tests false true m rest all = absurd (let e = m refl in cc)
+    by_tests false false m rest all = rest all
 
-  fewer : (P : Pp → Type 0) (set : Disks) (row : LvRow) (lp : ℕ) → AllByRecursion P (fresh_on set (Some was) row lp) → AllByRecursion P (fresh_on set (Some next) row lp)
-  fewer P set row lp all = narrower P (λ (p : Pp). set p.disk && not (is_stale_by (Some was) p)) (λ (p : Pp). set p.disk && not (is_stale_by (Some next) p))
-      (λ p e. let parts = split (set p.disk) (not (is_stale_by (Some next) p)) e in join (set p.disk) (not (is_stale_by (Some was) p)) parts.0 (staler p parts.1))
-      (copies_of row lp) all
+-- a status that calls more copies of the group stale, and as many of its volumes dirty
+module _ (c : Contents) (group : Descriptor) (was next : Stamped Status)
+    (stale : (row : LvRow) (lp : ℕ) (p : Pp) → IsOneOf group.lvs row → IsOneOf (copies_of row lp) p → IsTrue (calls_stale was.value p) → IsTrue (calls_stale next.value p))
+    (dirty : (row : LvRow) → IsOneOf group.lvs row → IsTrue (calls_dirty was.value row.number) → IsTrue (calls_dirty next.value row.number)) where
+  module _ (row : LvRow) (volume : IsOneOf group.lvs row) (lp : ℕ) where
+    staler : (p : Pp) → IsOneOf (copies_of row lp) p → not (calls_stale next.value p) ≡ true → not (calls_stale was.value p) ≡ true
+    staler p one e = by_test (calls_stale was.value p) refl
+      where
+        by_test : (t : Bool) → calls_stale was.value p ≡ t → not t ≡ true
+        by_test true is = absurd (clash (calls_stale next.value p) (stale row lp p volume one is) (not_true (calls_stale next.value p) e))
+        by_test false is = refl
 
-  differ : (set : Disks) (row : LvRow) (lp : ℕ) (mode : Mode) (lv : ℕ) (k : Known) (b : ℕ) → MayDiffer c (Some was) lv mode (fresh_on set (Some was) row lp) k b → MayDiffer c (Some next) lv mode (fresh_on set (Some next) row lp) k b
-  differ set row lp Active lv k b m = fewer (λ (p : Pp). IsTrue (is_named c p.disk lv (track_group_of b))) set row lp m
-  differ set row lp Passive lv k b m = dirty lv m
-  differ set row lp Off lv k b m = m
+    fewer : (P : Pp → Type 0) (set : Disks) → AllByRecursion P (fresh_on set (Some was) row lp) → AllByRecursion P (fresh_on set (Some next) row lp)
+    fewer P set all = narrower_on P (λ (p : Pp). set p.disk && not (is_stale_by (Some was) p)) (λ (p : Pp). set p.disk && not (is_stale_by (Some next) p)) (copies_of row lp)
+        (λ p one e. let parts = split (set p.disk) (not (is_stale_by (Some next) p)) e in join (set p.disk) (not (is_stale_by (Some was) p)) parts.0 (staler p one parts.1))
+        all
 
-  staler_blocks : (facts : List Fact) (group : Descriptor) (set : Disks) → BlocksKept c facts group set (Some was) → BlocksKept c facts group set (Some next)
-  staler_blocks facts group set blocks row lp b one inside =
+    differ : (set : Disks) (mode : Mode) (k : Known) (b : ℕ) → MayDiffer c (Some was) row.number mode (fresh_on set (Some was) row lp) k b → MayDiffer c (Some next) row.number mode (fresh_on set (Some next) row lp) k b
+    differ set Active k b m = fewer (λ (p : Pp). IsTrue (is_named c p.disk row.number (track_group_of b))) set m
+    differ set Passive k b m = dirty row volume m
+    differ set Off k b m = m
+
+  staler_blocks : (facts : List Fact) (set : Disks) → BlocksKept c facts group set (Some was) → BlocksKept c facts group set (Some next)
+  staler_blocks facts set blocks row lp b one inside =
       let kept = blocks row lp b one inside in
       let k : Known = known (facts ++ Cut ∷ []) (Lv row.number) b in
       record {
-        allowed = fewer (λ (p : Pp). IsValue k (block_at c group.mib p b)) set row lp kept.allowed;
+        allowed = fewer row one lp (λ (p : Pp). IsValue k (block_at c group.mib p b)) set kept.allowed;
         equal = ⊎_elim
-            (λ (held : HoldOne c group.mib (fresh_on set (Some was) row lp) b). inl (held.0, fewer (λ (p : Pp). block_at c group.mib p b ≡ held.0) set row lp held.1))
-            (λ (m : MayDiffer c (Some was) row.number row.mode (fresh_on set (Some was) row lp) k b). inr (differ set row lp row.mode row.number k b m))
+            (λ (held : HoldOne c group.mib (fresh_on set (Some was) row lp) b). inl (held.0, fewer row one lp (λ (p : Pp). block_at c group.mib p b ≡ held.0) set held.1))
+            (λ (m : MayDiffer c (Some was) row.number row.mode (fresh_on set (Some was) row lp) k b). inr (differ row one lp set row.mode k b m))
             kept.equal;
       }
 
@@ -231,8 +246,9 @@ module _ (c : Contents) (group : Descriptor) (disks targets : Disks) (newest : S
       join (passes (is_of id) (c.descriptor d)) (has_room c d g) (split (set d) (passes (is_of id) (c.descriptor d)) two.0).1 two.1
 
   across : (k : Descriptor) → IsFound c id k → BlocksKept c facts k (members_in c all_disks id k) (Some next)
-  across k is = staler_blocks c was next may.marks.stale may.marks.dirty facts k (members_in c all_disks id k)
-      (subst (λ (s : Option (Stamped Status)). BlocksKept c facts k (members_in c all_disks id k) s) was_read (kept.lasting.across disks id group k by_found.reads is))
+  across k is = subst (λ (g : Descriptor). BlocksKept c facts g (members_in c all_disks id g) (Some next)) (sym (only_found c group disks newest facts within may.newest_is kept k is))
+      (staler_blocks c group was next may.marks.stale may.marks.dirty facts (members_in c all_disks id group)
+      (subst (λ (s : Option (Stamped Status)). BlocksKept c facts group (members_in c all_disks id group) s) was_read (kept.lasting.across disks id group group by_found.reads (disks, may.newest_is.found))))
 
   abbrev tests : Disks → Stamped Status → Pp → Bool
   tests set s p = set p.disk && not (is_stale_by (Some s) p)

@@ -147,7 +147,7 @@ stated_anew = restate_keeps three (either_of 0 2) (only 0) (at_60 1 three) statu
       own = refl;
       status = status_found;
       showing = restamped_shows;
-      marks = record { stale = λ p called. called; dirty = λ lv called. called; only = λ row lp p one. absurd one };
+      marks = record { stale = λ row lp p one. absurd one; dirty = λ row one. absurd one; only = λ row lp p one. absurd one };
       later = λ d r shows its. ap (λ (x : Stamped Status). stamp_lt x.stamp (record { epoch = 60; seq = 2 })) (written status_of_three (first_three d) r shows).1;
     })
     (record { own = λ d. put (Some (at_60 2 second_missing)) (of_three.status d) (only 0 d); rest = refl }) stamped_anew

@@ -1,11 +1,13 @@
 -- Entries as parts of spans, so that whoever makes them looks at no image but for what it shows.
-use Rattle.std.specs.Prelude.{◌≡◌, ◌++◌, ◌∷◌, ℕ, List, []}
+use Rattle.std.specs.Prelude.{◌≡◌, ◌++◌, ◌∷◌, ℕ, Bool, List, [], IsTrue}
 use Rattle.lvm_num.specs.declared.record.Kind.TheVariants as kind
 use Rattle.lvm_num.specs.declared.descriptor.Mode.{Mode}
 use Rattle.lvm_num.specs.declared.descriptor.Descriptor.{Descriptor}
+use Rattle.lvm_num.specs.Buffer.{Sector}
 use Rattle.lvm_num.specs.DescriptorBytes.{descriptor_of}
 use Rattle.lvm_vol.specs.declared.entry.Vol.TheVariants.{Lv}
-use Rattle.lvm_vol.specs.Facts.{Fact, Making, Made, Split, Removing, Removed, Begun, Landed, Taken, Cut, On}
+use Rattle.lvm_vol.specs.declared.entry.Outcome.{Outcome}
+use Rattle.lvm_vol.specs.Facts.{Request, Fact, Making, Made, Split, Removing, Removed, Begun, Landed, Taken, Cut, On}
 use Rattle.lvm_vol.specs.Legal.{Fits}
 use Rattle.lvm_vol.specs.Standing.{Open, volumes_in}
 use Rattle.lvm_disk.specs.Device.{Image, Device, image_of, MayLeave}
@@ -13,9 +15,9 @@ use Rattle.lvm_kept.specs.Contents.{contents_of}
 use Rattle.lvm_kept.specs.Changes.{IsFoundByAll, IsFoundByNone}
 use Rattle.lvm_kept.specs.Moments.{Moment, StaysCalm}
 use Rattle.lvm_kept.specs.Torn.{RecordWrite, MayWriteAll, written as as_read, Alone}
-use Rattle.lvm_change.specs.Entries.{IsQuiet}
+use Rattle.lvm_change.specs.Entries.{IsDisk, IsQuiet}
 use Rattle.lvm_change.specs.Moments.{Begins, Holds, Keeps}
-use Rattle.lvm_change.specs.Requests.{at}
+use Rattle.lvm_change.specs.Requests.{at, answered, darkened}
 use Rattle.lvm_change.specs.Making.{IsWritten}
 use Rattle.lvm_change.specs.Committing.{MayCommit}
 
@@ -24,7 +26,7 @@ abbrev pub QuietGoesOn : Type 0
 QuietGoesOn = (run : ℕ) (first : Moment) (device : Device) (facts : List Fact) (f : Fact) → Keeps run first (at device facts) → IsQuiet f
     → ((past : List Fact) → Begins run past first → Holds past (at device facts) → Fits (past ++ facts) f) → Keeps run first (at device (facts ++ f ∷ []))
 
--- the entry opens no write
+-- the entry opens no write of a disk: only the beginning of one does
 abbrev pub OpensNone : Fact → Type 0
 OpensNone (Removing vol) = Unit {0}
 OpensNone (Removed vol) = Unit {0}
@@ -33,13 +35,21 @@ OpensNone (On moment) = Unit {0}
 OpensNone Cut = Unit {0}
 OpensNone (Making lv blocks mode) = Unit {0}
 OpensNone (Made lv) = Unit {0}
-OpensNone (Split from lv) = ⊥
-OpensNone (Begun r) = ⊥
-OpensNone (Landed r how started got) = ⊥
+OpensNone (Split from lv) = Unit {0}
+OpensNone (Begun r) = IsTrue r.write → IsDisk r.vol → ⊥
+OpensNone (Landed r how started got) = Unit {0}
 
 -- After such an entry no write of a disk is open that wasn't.
 abbrev pub CalmGoesOn : Type 0
 CalmGoesOn = (first : Moment) (device : Device) (facts : List Fact) (f : Fact) → StaysCalm first (at device facts) → OpensNone f → StaysCalm first (at device (facts ++ f ∷ []))
+
+-- Nor is one after all the entries of a request that was answered,
+abbrev pub AnsweredStaysCalm : Type 0
+AnsweredStaysCalm = (first : Moment) (device : Device) (facts : List Fact) (r : Request) (how : Outcome) (got : List Sector) → StaysCalm first (at device facts) → StaysCalm first (at device (answered facts r how got))
+
+-- or was cut off.
+abbrev pub DarkenedStaysCalm : Type 0
+DarkenedStaysCalm = (first : Moment) (device : Device) (facts : List Fact) (r : Request) (started : Bool) → StaysCalm first (at device (darkened facts r started))
 
 -- ---- volumes
 

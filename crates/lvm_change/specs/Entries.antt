@@ -1,4 +1,4 @@
--- Entries of a history that speak of no volume.
+-- Entries of a history that speak of no volume, or take nothing away.
 use Rattle.std.specs.Prelude.{List, [], ◌∷◌, ◌++◌}
 use Rattle.lvm_vol.specs.declared.entry.Vol.{Vol}
 use Rattle.lvm_vol.specs.declared.entry.Vol.TheVariants.{Disk, Lv}

@@ -32,7 +32,8 @@ NamesNoVolume c = (d : ℕ) (r : Stamped Descriptor) → c.descriptor d ≡ Some
 pub record MayMake (c : Contents) (group : Descriptor) : Type 0 where
   -- by the survey: `mkvg` is refused where a disk shows a descriptor or, with force, one that names a volume
   pub empty : NamesNoVolume c
-  -- by the survey where none shows a descriptor; with force by the clock, where all groups that are shown are older than the moment that names the new one
+  -- by the survey where none shows a descriptor; with force a premise, which the clock meets only where no id that is shown is at or after the moment that
+  -- names the new group
   pub new_id : (d : ℕ) (r : Stamped Descriptor) → c.descriptor d ≡ Some r → r.value.id ≡ group.id → ⊥
   -- by the way the descriptor is built
   pub no_volume : group.lvs ≡ []
@@ -105,7 +106,7 @@ abbrev pub DescriptorGoesOn : Type 0
 DescriptorGoesOn = (group : Descriptor) (w : RecordWrite) (old new : Device) (written : IsWritten (Alone w) old new)
     → w.kind ≡ kind.Descriptor → MayWriteAll Descriptor descriptor_of w group (image_of old.sizes written.media) → MayMakeOn old group → Path DeviceStep (StaysKept old) old new
 
--- The writes of a `mkvg`, one after the other, each from a still shelf: the notes, a status, the group's descriptor.
+-- Writes, among others those of a `mkvg`, one after the other, each from a still shelf: the notes of some disks, a status, the group's descriptor.
 pub record Makes (group : Descriptor) (old new : Device) : Type 0 where
   pub noted : Device
   pub stated : Device

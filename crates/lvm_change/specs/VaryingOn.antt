@@ -60,11 +60,12 @@ OnlyNewestIsFound = (c : Contents) (group : Descriptor) (disks : Disks) (newest 
 
 -- ---- the status
 
--- The next status carries the marks of the one that was found, and no partition loses its last fresh copy by it: a further copy is stale only where it
--- stands on a disk that isn't a voter, while another copy of its logical partition is fresh on one that is.
+-- The next status carries the marks that the one that was found has on copies and volumes of the group (it has rows of the members alone), and no
+-- partition loses its last fresh copy by it: a further copy is stale only where it stands on a disk that isn't a voter, while another copy of its logical
+-- partition is fresh on one that is.
 pub record Carries (c : Contents) (group : Descriptor) (disks : Disks) (was next : Status) : Type 0 where
-  pub stale : (p : Pp) → IsTrue (calls_stale was p) → IsTrue (calls_stale next p)
-  pub dirty : (lv : ℕ) → IsTrue (calls_dirty was lv) → IsTrue (calls_dirty next lv)
+  pub stale : (row : LvRow) (lp : ℕ) (p : Pp) → IsOneOf group.lvs row → IsOneOf (copies_of row lp) p → IsTrue (calls_stale was p) → IsTrue (calls_stale next p)
+  pub dirty : (row : LvRow) → IsOneOf group.lvs row → IsTrue (calls_dirty was row.number) → IsTrue (calls_dirty next row.number)
   pub only : (row : LvRow) (lp : ℕ) (p : Pp) → IsOneOf group.lvs row → IsOneOf (copies_of row lp) p → IsTrue (calls_stale next p)
       → IsTrue (calls_stale was p) ⊎ (IsFalse (is_voter c disks group.id p.disk) × IsSome (fresh c disks group.id row lp))
 

@@ -8,7 +8,7 @@ ghost use Rattle.lvm_change.specs.VaryingOn.{RestampKeeps, OnlyNewestIsFound, Re
 ghost use Rattle.lvm_change.specs.Committing.{CommitKeeps, CommitGoesOn};
 ghost use Rattle.lvm_change.specs.VolumeEntries.{VolumeBegins, VolumeIsMade, VolumeGoes, VolumeIsGone, ZerosServe};
 ghost use Rattle.lvm_change.specs.WorkedSession.{WorkedSession};
-ghost use Rattle.lvm_change.specs.Entering.{QuietGoesOn, CalmGoesOn, BeginsInSpan, MadeInSpan, GoesInSpan, GoneInSpan, CommitsInSpan};
+ghost use Rattle.lvm_change.specs.Entering.{QuietGoesOn, CalmGoesOn, AnsweredStaysCalm, DarkenedStaysCalm, BeginsInSpan, MadeInSpan, GoesInSpan, GoneInSpan, CommitsInSpan};
 ghost use Rattle.lvm_change.specs.Requests.{StillShowsNone, BlankIsInNoGroup, StaysInNoGroup, WriteDoneKeeps, WriteLostKeeps, WriteDarkKeeps, WriteStuckKeeps, ReadGotKeeps, ReadFailedKeeps, ReadDarkKeeps, ReadStuckKeeps};
 
 /// An entry that speaks of no volume keeps the history where the disks in no group hold what they then may; one that takes nothing
@@ -133,10 +133,12 @@ pub fn worked_session()
 {}
 
 /// The same as parts of spans: quiet entries, those of volumes, and the commit between them; and after which entries no write of a
-/// disk is open that wasn't.
+/// disk is open that wasn't, as after all those of a request.
 pub fn entries_go_on()
     ensures quiet { QuietGoesOn }
     ensures calm { CalmGoesOn }
+    ensures answered { AnsweredStaysCalm }
+    ensures darkened { DarkenedStaysCalm }
     ensures begins { BeginsInSpan }
     ensures made { MadeInSpan }
     ensures goes { GoesInSpan }

@@ -20,7 +20,7 @@ use Rattle.lvm_vol.specs.May.{known, unknown}
 use Rattle.lvm_num.specs.Buffer.{zero_sector}
 use Rattle.lvm_num.specs.Status.{calls_stale}
 use Rattle.lvm_kept.specs.Examples.{stamped, row_of, mirror, either_of}
-use Rattle.lvm_kept.specs.Group.{descriptor_among, is_voter, has_quorum, Finds, IsOneOf}
+use Rattle.lvm_kept.specs.Group.{descriptor_among, is_voter, has_quorum, Finds, IsFound, IsOneOf}
 use Rattle.lvm_kept.specs.Kept.{StandsAs}
 use Rattle.lvm_good.specs.State.{Marks}
 use Rattle.lvm_good.specs.First.{at_first}
@@ -56,13 +56,21 @@ pub found : Finds first_contents all_disks 50 first_group
 unfolding has_quorum is_voter descriptor_among newest_below votes_by
 found = record { quorum = refl; newest = stamped 2 first_group; found = refl; is = refl }
 
+one_id : (id : ℕ) (g : Descriptor) → IsFound first_contents id g → id ≡ 50
+one_id id g is = let s = shown first_contents is.0 id g is.1 in sym s.of ∙ ap (λ (r : Stamped Descriptor). r.value.id) (the_descriptor s.disk s.newest s.there)
+
 pub stands : GroupStands first_contents first_group
 stands = record {
   a_member = omega arith;
   size = omega arith;
   found = found;
-  alone = λ disks id g f. let s = shown first_contents disks id g f in sym s.of ∙ ap (λ (r : Stamped Descriptor). r.value.id) (the_descriptor s.disk s.newest s.there);
+  alone = λ disks id g f. inl (one_id id g (disks, f));
   only = λ disks g f. let s = shown first_contents disks 50 g f in sym s.is ∙ ap (λ (r : Stamped Descriptor). r.value) (the_descriptor s.disk s.newest s.there);
+  others = record {
+    common = λ a b other g h apart r t. absurd (apart (one_id other g r.found));
+    size = λ other g h apart is also. absurd (apart (one_id other g is));
+    partitions = λ other g h apart is also. absurd (apart (one_id other g is));
+  };
   once = λ d e r t is also ids stamps. the_descriptor d r is ∙ sym (the_descriptor e t also);
 }
 

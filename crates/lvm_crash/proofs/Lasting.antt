@@ -30,7 +30,7 @@ use Rattle.lvm_good.specs.Events.{Event, Submit, EnterStep, Admit, Pin, Read, St
 use Rattle.lvm_crash.specs.Session.{members_there, GroupStands, HasVolumes, Shows, Describes}
 use Rattle.lvm_crash.specs.Left.{KeepsGroup}
 use Rattle.lvm_crash.specs.Lasting.{AsksOf, DescriptionLasts}
-use Rattle.lvm_crash.proofs.Remaining.{before, after}
+use Rattle.lvm_crash.proofs.Remaining.{before, after, others_last}
 
 -- ---- entries of a session
 
@@ -244,6 +244,7 @@ module _ (old : Contents) (status : ℕ → Option (Stamped Status)) (note : ℕ
     found = after old status note block _ group.id group stands.found;
     alone = λ disks id g f. stands.alone disks id g (before old status note block disks id g f);
     only = λ disks g f. stands.only disks g (before old status note block disks group.id g f);
+    others = others_last old status note block group.id stands.others;
     once = stands.once;
   }
 

@@ -1,13 +1,14 @@
 -- A session of a group, and what stands on the disks: when the one describes the other.
-use Rattle.std.specs.Prelude.{◌≡◌, ◌↔◌, ℕ, ◌<◌, ◌≤◌, Bool, true, false, List, length, Option, Some, IsTrue, option_map}
+use Rattle.std.specs.Prelude.{◌≡◌, ◌⊎◌, ◌↔◌, ℕ, ◌<◌, ◌≤◌, Bool, true, false, List, [], length, Option, Some, IsTrue, option_map}
 use Rattle.lvm_num.specs.declared.place.Pp.{Pp}
 use Rattle.lvm_num.specs.declared.descriptor.Mode.{Mode}
 use Rattle.lvm_num.specs.declared.descriptor.Mode.TheVariants.{Active, Passive, Off}
+use Rattle.lvm_num.specs.declared.descriptor.PvRow.{PvRow}
 use Rattle.lvm_num.specs.declared.descriptor.LvRow.{LvRow}
 use Rattle.lvm_num.specs.declared.descriptor.Descriptor.{Descriptor}
 use Rattle.lvm_num.specs.declared.status.Status.{Status}
 use Rattle.lvm_num.specs.Disks.{Disks}
-use Rattle.lvm_num.specs.Descriptor.{copies_of, volume_of}
+use Rattle.lvm_num.specs.Descriptor.{copies_of, member_of, volume_of}
 use Rattle.lvm_num.specs.Status.{calls_stale, calls_dirty}
 use Rattle.lvm_num.specs.Votes.{all_disks, votes_in, is_enough_to_read, is_enough_to_write}
 use Rattle.lvm_num.specs.Record.{Stamped}
@@ -16,7 +17,7 @@ use Rattle.lvm_vol.specs.Facts.{Fact}
 use Rattle.lvm_vol.specs.May.{known}
 use Rattle.lvm_vol.specs.Standing.{volumes_in}
 use Rattle.lvm_kept.specs.Contents.{Contents}
-use Rattle.lvm_kept.specs.Group.{if_passes, is_status_of, Finds, members_in, block_at, IsBlockOf, is_named, IsOneOf}
+use Rattle.lvm_kept.specs.Group.{if_passes, is_status_of, Finds, IsFound, members_in, Reads, block_at, IsBlockOf, is_named, IsOneOf}
 use Rattle.lvm_kept.specs.Kept.{StandsAs, RawAgrees}
 use Rattle.lvm_good.specs.State.{Marks, View, State}
 use Rattle.lvm_good.specs.Found.{Votes}
@@ -49,13 +50,21 @@ pub record AreVotesOf (group : Descriptor) (votes : Votes) : Type 0 where
 abbrev pub members_there : Contents → Descriptor → Disks
 members_there c group = members_in c all_disks group.id group
 
--- All disks together find the group by this descriptor, and whichever disks find a group find this one so.
+-- Of the groups beside this one: two sets of disks that can read one have a common member, and by what is found of it the partitions are of one size,
+-- and as many on the members that are shared.
+pub record OthersStand (c : Contents) (id : ℕ) : Type 0 where
+  pub common : (a b : Disks) (other : ℕ) (g h : Descriptor) → (other ≡ id → ⊥) → Reads c a other g → Reads c b other h → (d : ℕ) × IsTrue (members_in c a other g d) × IsTrue (members_in c b other h d)
+  pub size : (other : ℕ) (g h : Descriptor) → (other ≡ id → ⊥) → IsFound c other g → IsFound c other h → g.mib ≡ h.mib
+  pub partitions : (other : ℕ) (g h : Descriptor) → (other ≡ id → ⊥) → IsFound c other g → IsFound c other h → (d : ℕ) (p q : PvRow) → member_of g d ≡ Some p → member_of h d ≡ Some q → p.pps ≡ q.pps
+
+-- All disks together find the group by this descriptor, and whichever disks find a group find this one so, or another one where neither has a volume.
 pub record GroupStands (c : Contents) (group : Descriptor) : Type 0 where
   pub a_member : 1 ≤ length group.pvs
   pub size : 1 ≤ group.mib
   pub found : Finds c all_disks group.id group
-  pub alone : (disks : Disks) (id : ℕ) (g : Descriptor) → Finds c disks id g → id ≡ group.id
+  pub alone : (disks : Disks) (id : ℕ) (g : Descriptor) → Finds c disks id g → (id ≡ group.id) ⊎ ((group.lvs ≡ []) × (g.lvs ≡ []))
   pub only : (disks : Disks) (g : Descriptor) → Finds c disks group.id g → g ≡ group
+  pub others : OthersStand c group.id
   -- descriptors of a group under one stamp are one
   pub once : (d e : ℕ) (r t : Stamped Descriptor) → c.descriptor d ≡ Some r → c.descriptor e ≡ Some t → r.value.id ≡ t.value.id → r.stamp ≡ t.stamp → r ≡ t
 
