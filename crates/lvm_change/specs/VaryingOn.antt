@@ -60,9 +60,9 @@ OnlyNewestIsFound = (c : Contents) (group : Descriptor) (disks : Disks) (newest 
 
 -- ---- the status
 
--- The next status carries the marks that the one that was found has on copies and volumes of the group (it has rows of the members alone), and no
--- partition loses its last fresh copy by it: a further copy is stale only where it stands on a disk that isn't a voter, while another copy of its logical
--- partition is fresh on one that is.
+-- The next status, which has rows for the members alone, carries the marks on copies and volumes of the group of the one that was found, and no partition
+-- loses its last fresh copy by it: a further copy is stale only where it stands on a disk that isn't a voter, while another copy of its logical partition is
+-- fresh on one that is.
 pub record Carries (c : Contents) (group : Descriptor) (disks : Disks) (was next : Status) : Type 0 where
   pub stale : (row : LvRow) (lp : ℕ) (p : Pp) → IsOneOf group.lvs row → IsOneOf (copies_of row lp) p → IsTrue (calls_stale was p) → IsTrue (calls_stale next p)
   pub dirty : (row : LvRow) → IsOneOf group.lvs row → IsTrue (calls_dirty was row.number) → IsTrue (calls_dirty next row.number)
