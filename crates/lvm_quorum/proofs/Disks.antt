@@ -19,7 +19,7 @@ use Rattle.lvm_quorum.specs.Homes.{second_slots, next_slot, Flips}
 use Rattle.lvm_quorum.specs.Written.{write_of, HaveRoom, KeepsShelf, EndsOn, StandsTold, IsBrokenOff, FlipBelow, written_well}
 use Rattle.lvm_quorum.specs.Parts.{write_to, PartsStand, WritesPart}
 use Rattle.lvm_quorum.proofs.Voting.{lt_same, lt_other}
-use Rattle.lvm_quorum.proofs.Writing.{if_told, told_at, both_map, changes_more, moments_wider, parts_stay}
+use Rattle.lvm_quorum.proofs.Writing.{logs_wider, if_told, told_at, both_map, changes_more, moments_wider, parts_stay}
 use Rattle.lvm_quorum.proofs.Tried.{TriedDisks, nothing_tried, none_here, well_here, badly_here, broken_here, no_more, all_tried}
 
 -- ---- what stands of the record
@@ -85,6 +85,7 @@ module _ (one : SlotWrite) (targets : Disks) (homes : Homes) (target : IsTrue (t
       misses = part.keeps.misses;
       starts = λ d off. part.keeps.starts d (off_disk d off);
       faults = λ d off. part.keeps.faults d (off_disk d off);
+      wrote = logs_wider (IsOfRecord (write_to one)) (IsOfRecord all_of) old.wrote new.wrote of_all part.keeps.wrote;
       media = both_map old.media new.media
           (λ was is. ChangesBy (IsOfRecord (write_to one)) (image_of old.sizes was) (image_of new.sizes is))
           (λ was is. ChangesBy (IsOfRecord all_of) (image_of old.sizes was) (image_of new.sizes is)) part.keeps.media

@@ -1,14 +1,14 @@
 -- One transfer of sectors of a record, and one after another.
-use Rattle.std.proofs.Common.{◌≡◌, inl, inr, ℕ, ◌+◌, ◌-◌, ◌<◌, ◌≤◌, Bool, true, false, Option, Some, None, length, slice_get, IsTrue, IsFalse, refl, sym, ◌∙◌, ap, subst, arith, eq-eqb}
-use Rattle.std.specs.Prelude.{◌==◌, ◌&&◌, ◌++◌, List, map, nat_le, nat_lt, if◌then◌else◌}
+use Rattle.std.proofs.Common.{◌≡◌, inl, inr, ⊎_elim, ℕ, ◌+◌, ◌-◌, ◌<◌, ◌≤◌, Bool, true, false, Option, Some, None, length, slice_get, IsTrue, IsFalse, refl, sym, ◌∙◌, ap, subst, arith, eq-eqb}
+use Rattle.std.specs.Prelude.{◌⊎◌, ◌==◌, ◌&&◌, ◌++◌, List, map, nat_le, nat_lt, if◌then◌else◌}
 use Rattle.std.proofs.lemmas.Bool.{eqb-true, ltb-true, leb-true}
 use Rattle.std.proofs.lemmas.Bool.Decides.{nat_tests}
 use Rattle.lvm_num.specs.Buffer.{Buffer}
 use Rattle.lvm_num.specs.Disks.{Disks}
 use Rattle.lvm_num.specs.Record.{frame, slot_start, record_sectors}
 use Rattle.lvm_disk.specs.Counts.{Counts, Rose, RoseAt, RoseBy}
-use Rattle.lvm_disk.specs.Device.{Media, Flight, Device, IsReady, written, image_of}
-use Rattle.lvm_disk.specs.Steps.{BothTold, Cuts, CountsFailure, IsRecordRead, IsFault, Puts}
+use Rattle.lvm_disk.specs.Device.{Media, Flight, Range, Device, IsReady, written, image_of}
+use Rattle.lvm_disk.specs.Steps.{Logs, BothTold, Cuts, CountsFailure, IsRecordRead, IsFault, Puts}
 use Rattle.lvm_disk.specs.Paths.{DeviceStep, Path}
 use Rattle.lvm_disk.proofs.Paths.{map-path, last-path}
 use Rattle.lvm_kept.specs.Raw.{OnlyAdds}
@@ -21,9 +21,9 @@ use Rattle.lvm_move.specs.declared.moves.Moved.TheVariants as moved
 use Rattle.lvm_move.proofs.Ending.{one_left}
 use Rattle.lvm_move.proofs.Effects.{out_flights}
 use Rattle.lvm_quorum.specs.declared.write.SlotWrite.{SlotWrite}
-use Rattle.lvm_quorum.specs.Written.{IsWriting}
+use Rattle.lvm_quorum.specs.Written.{IsWriting, IsInPlan}
 use Rattle.lvm_quorum.specs.Parts.{write_to, CountsEnd, LeavesShelf, IfBack, DoesPart}
-use Rattle.lvm_quorum.proofs.Writing.{both_map, adds_writing, media_written}
+use Rattle.lvm_quorum.proofs.Writing.{logs_one, logs_same, both_map, adds_writing, media_written}
 
 -- ---- the flight
 
@@ -46,6 +46,16 @@ module _ (one : SlotWrite) (from count first : ℕ) (buf : Buffer) (place : firs
       go true false u p q r is = absurd (cc)
       go false t u p q r is = absurd (cc)
 
+  -- and each of its sectors is the place of one
+  pub range_planned : from + count ≤ record_sectors (length one.content.now) → IsInPlan (IsOfRecord (write_to one)) (record { disk = one.disk; first = first; count = count })
+  range_planned room s low high = (
+    frame one.kind one.stamp one.content.now (from + (s - first)),
+    record {
+      target = eq-eqb one.disk one.disk refl;
+      its = record { part = from + (s - first); inside = omega (arith, low, high, room); place = omega (arith, low, place); is = refl };
+    },
+  )
+
   -- and all that it says
   pub frames_written : (ticket k : ℕ) → from ≤ k → k < from + count → written (flight_of ticket true one.disk first count buf) one.disk (slot_start one.kind (if one.second then 1 else 0) + k) ≡ Some (frame one.kind one.stamp one.content.now k)
   frames_written ticket k low high =
@@ -61,7 +71,7 @@ module _ (one : SlotWrite) (from count first : ℕ) (buf : Buffer) (place : firs
 
 -- ---- what a start changes
 
-record OutFacts (old now : Device) (disk : ℕ) : Type 0 where
+record OutFacts (old begun now : Device) (disk : ℕ) : Type 0 where
   sizes : now.sizes ≡ old.sizes
   media : now.media ≡ old.media
   arranges : now.arranges ≡ old.arranges
@@ -72,8 +82,9 @@ record OutFacts (old now : Device) (disk : ℕ) : Type 0 where
   starts : (d : ℕ) → (d ≡ disk → ⊥) → now.counts.starts d ≡ old.counts.starts d
   power : now.power ≡ true
   freed : now.freed ≡ old.freed
+  wrote : now.wrote ≡ begun.wrote
 
-out_facts : (old now : Device) (f : Flight) → IsOut old now f → OutFacts old now f.disk
+out_facts : (old now : Device) (f : Flight) (out : IsOut old now f) → OutFacts old out.begun now f.disk
 out_facts old now f out =
     let begun = out.starts.new_is in
     let waited = out.waits.now_is in
@@ -88,6 +99,7 @@ out_facts old now f out =
       starts = λ d differ. ap (λ (x : Device). x.counts.starts d) waited ∙ out.starts.starts.elsewhere d differ;
       power = ap (λ (d : Device). d.power) waited ∙ ap (λ (d : Device). d.power) begun ∙ out.starts.power;
       freed = ap (λ (d : Device). d.freed) waited ∙ ap (λ (d : Device). d.freed) begun;
+      wrote = ap (λ (d : Device). d.wrote) waited;
     }
 
 -- a failed write is a fault
@@ -98,7 +110,8 @@ is_fault f g old new same write (inr fault) = subst (λ (x : Flight). IsFault x.
 -- ---- what a transfer does
 
 -- of its counts and of what is told
-record Effect (old new : Device) (disk number before : ℕ) (how : Moved) : Type 0 where
+record Effect (old new : Device) (disk first count number before : ℕ) (how : Moved) : Type 0 where
+  wrote : Logs old.wrote (record { disk = disk; first = first; count = count }) new.wrote ⊎ (new.wrote ≡ old.wrote)
   sizes : new.sizes ≡ old.sizes
   arranges : new.arranges ≡ old.arranges
   orders : new.orders ≡ old.orders
@@ -117,13 +130,14 @@ same_told : (o n : Option Media) → n ≡ o → BothTold o n (λ was is. Unit {
 same_told None n same = subst (λ (x : Option Media). BothTold None x (λ was is. Unit {0})) (sym same) tt
 same_told (Some m) n same = subst (λ (x : Option Media). BothTold (Some m) x (λ was is. Unit {0})) (sym same) tt
 
-effect : (before : ℕ) (old new : Device) (ticket disk first count : ℕ) (buf : Buffer) (how : Moved) → IsReady old → TransferGives before old new (flight_of ticket true disk first count buf) how → Effect old new disk buf.number before how
+effect : (before : ℕ) (old new : Device) (ticket disk first count : ℕ) (buf : Buffer) (how : Moved) → IsReady old → TransferGives before old new (flight_of ticket true disk first count buf) how → Effect old new disk first count buf.number before how
 effect before old new ticket disk first count buf (moved.Done back) ready (now, out, ends) =
     let f = flight_of ticket true disk first count buf in
     let facts = out_facts old now f out in
     let it = one_left f now.flights new.flights ends.flight (out_flights old now f out ready.flights) ends.flights in
     let faults = ap (λ (d : Device). d.counts.faults) ends.new_is ∙ facts.faults in
     record {
+      wrote = inl (subst (λ (o : Option (List Range)). Logs old.wrote (record { disk = disk; first = first; count = count }) o) (sym (ap (λ (d : Device). d.wrote) ends.new_is ∙ facts.wrote)) out.starts.wrote);
       sizes = ap (λ (d : Device). d.sizes) ends.new_is ∙ facts.sizes;
       arranges = ap (λ (d : Device). d.arranges) ends.new_is ∙ facts.arranges;
       orders = ap (λ (d : Device). d.orders) ends.new_is ∙ facts.orders;
@@ -141,6 +155,7 @@ effect before old new ticket disk first count buf (moved.Failed back) ready (now
     let it = one_left f now.flights new.flights ends.flight (out_flights old now f out ready.flights) ends.flights in
     let fault = is_fault f ends.flight now.counts new.counts it.0 refl ends.counts in
     record {
+      wrote = inl (subst (λ (o : Option (List Range)). Logs old.wrote (record { disk = disk; first = first; count = count }) o) (sym (ap (λ (d : Device). d.wrote) ends.new_is ∙ facts.wrote)) out.starts.wrote);
       sizes = ap (λ (d : Device). d.sizes) ends.new_is ∙ facts.sizes;
       arranges = ap (λ (d : Device). d.arranges) ends.new_is ∙ facts.arranges;
       orders = ap (λ (d : Device). d.orders) ends.new_is ∙ facts.orders;
@@ -157,6 +172,7 @@ effect before old new ticket disk first count buf (moved.Dark true) ready (now, 
     let facts = out_facts old now f out in
     let faults = ap (λ (d : Device). d.counts.faults) cuts.new_is ∙ facts.faults in
     record {
+      wrote = inl (subst (λ (o : Option (List Range)). Logs old.wrote (record { disk = disk; first = first; count = count }) o) (sym (ap (λ (d : Device). d.wrote) cuts.new_is ∙ facts.wrote)) out.starts.wrote);
       sizes = ap (λ (d : Device). d.sizes) cuts.new_is ∙ facts.sizes;
       arranges = ap (λ (d : Device). d.arranges) cuts.new_is ∙ facts.arranges;
       orders = ap (λ (d : Device). d.orders) cuts.new_is ∙ facts.orders;
@@ -180,6 +196,7 @@ effect before old new ticket disk first count buf (moved.Dark true) ready (now, 
 effect before old new ticket disk first count buf (moved.Dark false) ready cuts =
     let faults = ap (λ (d : Device). d.counts.faults) cuts.new_is in
     record {
+      wrote = inr (ap (λ (d : Device). d.wrote) cuts.new_is);
       sizes = ap (λ (d : Device). d.sizes) cuts.new_is;
       arranges = ap (λ (d : Device). d.arranges) cuts.new_is;
       orders = ap (λ (d : Device). d.orders) cuts.new_is;
@@ -200,6 +217,7 @@ effect before old new ticket disk first count buf moved.Stuck ready (out, waits)
     let f = flight_of ticket true disk first count buf in
     let facts = out_facts old new f out in
     record {
+      wrote = inl (subst (λ (o : Option (List Range)). Logs old.wrote (record { disk = disk; first = first; count = count }) o) (sym (facts.wrote)) out.starts.wrote);
       sizes = facts.sizes;
       arranges = facts.arranges;
       orders = facts.orders;
@@ -226,9 +244,10 @@ effect before old new ticket disk first count buf moved.Stuck ready (out, waits)
 module _ (targets : Disks) (P : Plan) (disk number before after : ℕ) (old new : Device) (how : Moved) (ticket first count : ℕ) (buf : Buffer) where
   pub piece_part :
       IsReady old → number ≡ buf.number → IsTrue (targets disk) → IsPlanned P (flight_of 0 true disk first count buf)
+      → IsInPlan P (record { disk = disk; first = first; count = count })
       → TransferGives before old new (flight_of ticket true disk first count buf) how → Rests new how → after ≤ before → RoseBy (before - after) old.counts.waits new.counts.waits
       → Path DeviceStep (OnlyAdds (flight_of 0 true disk first count buf) old) old new → DoesPart targets P disk number before after old new how
-  piece_part ready same target planned gives rests falls waits path =
+  piece_part ready same target planned inside gives rests falls waits path =
       let done = effect before old new ticket disk first count buf how ready gives in
       let moments = map-path (IsWriting P old) (λ x. adds_writing P (flight_of 0 true disk first count buf) old x ready.flights planned) path in
       let other : (d : ℕ) → IsFalse (targets d) → d ≡ disk → ⊥ = λ d off here. never (targets disk) target (subst (λ (x : ℕ). IsFalse (targets x)) here off) in
@@ -240,6 +259,7 @@ module _ (targets : Disks) (P : Plan) (disk number before after : ℕ) (old new 
           misses = done.misses;
           starts = λ d off. done.starts d (other d off);
           faults = λ d off. done.faults d (other d off);
+          wrote = ⊎_elim (logs_one P old.wrote new.wrote (record { disk = disk; first = first; count = count }) inside) (logs_same P old.wrote new.wrote) done.wrote;
           media = media_written P old new done.told (last-path moments);
         };
         counts = done.counts;

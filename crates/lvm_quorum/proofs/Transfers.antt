@@ -11,7 +11,7 @@ use Rattle.lvm_move.specs.declared.moves.Moved.{Moved}
 use Rattle.lvm_move.specs.declared.moves.Moved.TheVariants as moved
 use Rattle.lvm_quorum.specs.Written.{HasRoom, KeepsShelf, FreesAtMost, IsDarkened, IsGivenUp}
 use Rattle.lvm_quorum.specs.Parts.{PartsStand, CountsEnd, IfDone, LeavesShelf, IfBack, Spends, DoesPart, WritesPart}
-use Rattle.lvm_quorum.proofs.Writing.{both_then, both_same, changes_then, changes_none, writing_here, moments_on, parts_stay, no_parts, parts_join}
+use Rattle.lvm_quorum.proofs.Writing.{logs_none, logs_then, both_then, both_same, changes_then, changes_none, writing_here, moments_on, parts_stay, no_parts, parts_join}
 
 -- ---- the shelf
 
@@ -23,6 +23,7 @@ keeps_here targets P old = record {
   misses = refl;
   starts = λ d off. refl;
   faults = λ d off. refl;
+  wrote = logs_none P old.wrote;
   media = both_same old.media (λ was is. ChangesBy P (image_of old.sizes was) (image_of old.sizes is)) (λ m. changes_none P (image_of old.sizes m));
 }
 
@@ -34,6 +35,7 @@ keeps_then targets P old mid new one two = record {
   misses = two.misses ∙ one.misses;
   starts = λ d off. two.starts d off ∙ one.starts d off;
   faults = λ d off. two.faults d off ∙ one.faults d off;
+  wrote = logs_then P old.wrote mid.wrote new.wrote one.wrote two.wrote;
   media = both_then old.media mid.media new.media
       (λ was is. ChangesBy P (image_of old.sizes was) (image_of mid.sizes is))
       (λ was is. ChangesBy P (image_of mid.sizes was) (image_of new.sizes is))

@@ -1,18 +1,20 @@
 -- What a write of a record leaves of the media, moment by moment, and one write after another.
 use Rattle.std.proofs.Common.{◌≡◌, inl, inr, ⊎_elim, ℕ, ◌+◌, ◌<◌, ◌≤◌, List, [], Option, Some, None, IfSome, refl, sym, ◌∙◌, ap, subst, arith}
-use Rattle.std.specs.Prelude.{IsSomeAnd}
+use Rattle.std.specs.Prelude.{IsSomeAnd, ◌∷◌, ◌++◌}
+use Rattle.std.proofs.lemmas.List.{append-nil, append_assoc}
+use Rattle.std.proofs.lemmas.List.Elements.{All-nil, All-cons, All-append, All-weaker}
 use Rattle.std.proofs.lemmas.Bool.{cases_lt}
 use Rattle.lvm_num.specs.Buffer.{Sector}
 use Rattle.lvm_num.specs.Record.{frame, slot_start}
-use Rattle.lvm_disk.specs.Device.{Media, Image, Flight, Device, IsInFlight, IsCrashImage, image_of, MayLeave}
-use Rattle.lvm_disk.specs.Steps.{BothTold}
+use Rattle.lvm_disk.specs.Device.{Media, Image, Flight, Range, Device, IsInFlight, IsCrashImage, image_of, MayLeave}
+use Rattle.lvm_disk.specs.Steps.{BothTold, Logs}
 use Rattle.lvm_disk.specs.Paths.{DeviceStep, Path}
 use Rattle.lvm_disk.proofs.Paths.{append-path, map-path}
 use Rattle.lvm_kept.specs.Raw.{OnlyAdds}
 use Rattle.lvm_kept.specs.Plans.{Plan, ChangesBy, IsPlanned}
 use Rattle.lvm_kept.specs.Torn.{RecordWrite, IsOfRecord}
 use Rattle.lvm_kept.proofs.Planned.{then_disks}
-use Rattle.lvm_quorum.specs.Written.{IsWriting}
+use Rattle.lvm_quorum.specs.Written.{IsWriting, IsInPlan, LogsPlan}
 use Rattle.lvm_quorum.specs.Parts.{PartsStand}
 
 -- ---- what is told
@@ -137,6 +139,37 @@ module _ (P : Plan) where
 
     pub moments_on : (new : Device) → Path DeviceStep (IsWriting P old) old mid → Path DeviceStep (IsWriting P mid) mid new → Path DeviceStep (IsWriting P old) old new
     moments_on new one two = append-path one (map-path (IsWriting P old) writing_after two)
+
+-- ---- the ranges that were started
+
+pub logs_none : (P : Plan) (a : Option (List Range)) → LogsPlan P a a
+logs_none P None = tt
+logs_none P (Some a) = ([], sym (append-nil a), All-nil (IsInPlan P))
+
+pub logs_same : (P : Plan) (a b : Option (List Range)) → b ≡ a → LogsPlan P a b
+logs_same P a b same = subst (λ (o : Option (List Range)). LogsPlan P a o) (sym same) (logs_none P a)
+
+pub logs_one : (P : Plan) (a b : Option (List Range)) (range : Range) → IsInPlan P range → Logs a range b → LogsPlan P a b
+logs_one P None None range inside one = tt
+logs_one P None (Some b) range inside one = absurd one
+logs_one P (Some a) None range inside one = tt
+logs_one P (Some a) (Some b) range inside one = (range ∷ [], one, All-cons (IsInPlan P) range [] inside (All-nil (IsInPlan P)))
+
+pub logs_then : (P : Plan) (a b c : Option (List Range)) → LogsPlan P a b → LogsPlan P b c → LogsPlan P a c
+logs_then P None None None one two = tt
+logs_then P None None (Some c) one two = absurd two
+logs_then P None (Some b) c one two = absurd one
+logs_then P (Some a) None None one two = tt
+logs_then P (Some a) None (Some c) one two = absurd two
+logs_then P (Some a) (Some b) None one two = tt
+logs_then P (Some a) (Some b) (Some c) one two = (one.0 ++ two.0, two.1 ∙ ap (λ (l : List Range). l ++ two.0) one.1 ∙ append_assoc a one.0 two.0, All-append (IsInPlan P) one.0 two.0 one.2 two.2)
+
+pub logs_wider : (P Q : Plan) (a b : Option (List Range)) → ((d s : ℕ) (value : Sector) → P d s value → Q d s value) → LogsPlan P a b → LogsPlan Q a b
+logs_wider P Q None None more one = tt
+logs_wider P Q None (Some b) more one = absurd one
+logs_wider P Q (Some a) None more one = tt
+logs_wider P Q (Some a) (Some b) more one =
+    (one.0, one.1, All-weaker (IsInPlan P) (IsInPlan Q) (λ r inside s low high. let it = inside s low high in (it.0, more r.disk s it.0 it.1)) one.0 one.2)
 
 -- parts that stand on the media
 pub parts_stay : (w : RecordWrite) (old mid : Device) → BothTold old.media mid.media (λ was is. ChangesBy (IsOfRecord w) (image_of old.sizes was) (image_of mid.sizes is)) → (d from to : ℕ) → PartsStand w old d from to → PartsStand w mid d from to

@@ -1,12 +1,12 @@
 -- What a write of a record or of a note to several disks does, disk by disk.
-use Rattle.std.specs.Prelude.{◌≡◌, ◌⊎◌, ℕ, ◌<◌, ◌≤◌, ◌&&◌, not, nat_lt, true, false, [], ◌∷◌, Some, IfSome, IsTrue, IsFalse, slice_get}
+use Rattle.std.specs.Prelude.{◌≡◌, ◌⊎◌, ℕ, ◌<◌, ◌≤◌, ◌&&◌, not, nat_lt, true, false, [], ◌∷◌, Some, IfSome, IsTrue, IsFalse, slice_get, ◌+◌, ◌++◌, List, Option, None, All}
 use Rattle.lvm_num.specs.declared.record.Kind.{Kind}
 use Rattle.lvm_num.specs.declared.record.Framed.{Framed}
-use Rattle.lvm_num.specs.Buffer.{Buffer}
+use Rattle.lvm_num.specs.Buffer.{Buffer, Sector}
 use Rattle.lvm_num.specs.Disks.{Disks}
 use Rattle.lvm_num.specs.Geometry.{data_start}
 use Rattle.lvm_disk.specs.Counts.{Rose, RoseBy}
-use Rattle.lvm_disk.specs.Device.{Image, Flight, Device, image_of, MayLeave}
+use Rattle.lvm_disk.specs.Device.{Image, Flight, Range, Device, image_of, MayLeave}
 use Rattle.lvm_disk.specs.Steps.{BothTold}
 use Rattle.lvm_kept.specs.Plans.{Plan, ChangesBy}
 use Rattle.lvm_kept.specs.Torn.{RecordWrite, StandsOn}
@@ -30,6 +30,17 @@ HaveRoom device targets = (d : ℕ) → IsTrue (targets d) → HasRoom device d
 abbrev pub IsWriting : Plan → Device → Device → Type 0
 IsWriting P old now = IfSome old.media (λ media. (image : Image) → MayLeave now image → ChangesBy P (image_of old.sizes media) image)
 
+-- the plan brings something to each sector of the range
+abbrev pub IsInPlan : Plan → Range → Type 0
+IsInPlan P range = (s : ℕ) → range.first ≤ s → s < range.first + range.count → (value : Sector) × P range.disk s value
+
+-- The ranges that are told are those that were told before and others in the plan; or they are told no more.
+abbrev pub LogsPlan : Plan → Option (List Range) → Option (List Range) → Type 0
+LogsPlan P None None = Unit {0}
+LogsPlan P None (Some new) = ⊥
+LogsPlan P (Some old) None = Unit {0}
+LogsPlan P (Some old) (Some new) = (more : List Range) × (new ≡ old ++ more) × All (IsInPlan P) more
+
 -- The shelf is as it was, but for what a write to these disks counts and for what it may bring to their sectors; other disks are left alone.
 pub record KeepsShelf (targets : Disks) (P : Plan) (old new : Device) : Type 0 where
   pub sizes : new.sizes ≡ old.sizes
@@ -38,6 +49,7 @@ pub record KeepsShelf (targets : Disks) (P : Plan) (old new : Device) : Type 0 w
   pub misses : new.counts.misses ≡ old.counts.misses
   pub starts : (d : ℕ) → IsFalse (targets d) → new.counts.starts d ≡ old.counts.starts d
   pub faults : (d : ℕ) → IsFalse (targets d) → new.counts.faults d ≡ old.counts.faults d
+  pub wrote : LogsPlan P old.wrote new.wrote
   pub media : BothTold old.media new.media (λ was is. ChangesBy P (image_of old.sizes was) (image_of new.sizes is))
 
 -- all of the record stands on a target, where the content is told
