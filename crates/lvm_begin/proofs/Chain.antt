@@ -9,7 +9,7 @@ use Rattle.lvm_disk.proofs.Paths.{map-path}
 use Rattle.lvm_kept.specs.Plans.{Plan, ChangesBy}
 use Rattle.lvm_num.specs.Disks.{Disks}
 use Rattle.lvm_quorum.specs.Written.{KeepsShelf, IsWriting, FreesAtMost, IsDarkened, IsGivenUp}
-use Rattle.lvm_quorum.proofs.Writing.{both_map, changes_more, moments_on, moments_wider}
+use Rattle.lvm_quorum.proofs.Writing.{logs_wider, both_map, changes_more, moments_on, moments_wider}
 use Rattle.lvm_quorum.proofs.Transfers.{keeps_then, spends_then, spent_then}
 use Rattle.lvm_begin.specs.declared.begin.Begun.{Begun}
 use Rattle.lvm_begin.specs.declared.begin.Begun.TheVariants as begun
@@ -38,6 +38,7 @@ wider_keeps targets P Q old new more keeps = record {
   faults = keeps.faults;
   media = both_map old.media new.media (λ was is. ChangesBy P (image_of old.sizes was) (image_of new.sizes is)) (λ was is. ChangesBy Q (image_of old.sizes was) (image_of new.sizes is)) keeps.media
       (λ m n was is by. changes_more P Q (image_of old.sizes m) (image_of new.sizes n) more by);
+  wrote = logs_wider P Q old.wrote new.wrote more keeps.wrote;
 }
 
 wider : (targets : Disks) (P Q : Plan) (before after : ℕ) (old new : Device) → ((d s : ℕ) (value : Sector) → P d s value → Q d s value) → Does targets P before after old new → Does targets Q before after old new
