@@ -4,3 +4,6 @@
 mod begin;
 
 pub use begin::{Begun, begin_again, begin_new};
+
+#[cfg(test)]
+mod tests;
