@@ -1,7 +1,8 @@
 #!/usr/bin/env bash
 # Tries the built program as a user would, in a folder of its own: images are made, a block is written by
-# one run and read by the next; files that can't be used; and a loop in which the program is killed while
-# it writes, after which each block whose write was answered `ok` has to be there.
+# one run and read by the next; files that can't be used; a group that is made by one run and found by the
+# next; and loops in which the program is killed while it varies the group on, which has to come on again,
+# and while it writes, after which each block whose write was answered `ok` has to be there.
 # Not part of the gate. First build the program: (cd crates/lvm && rt run -- sim 1 8 < /dev/null)
 # usage: scripts/session.sh [ROUNDS]        LVM names another program
 set -u
@@ -25,6 +26,15 @@ run() {
     local ended=$?
     [ "$ended" = "$status" ] || fail "lvm $*: status $ended, not $status"
     [ "$got" = "$(printf "$wanted")" ] || fail "lvm $*: printed '$got'"
+}
+
+# run_and_kill: the program does lines.txt, and is killed meanwhile; its replies so far are in replies
+run_and_kill() {
+    "$lvm" script < lines.txt > replies &
+    local program=$!
+    sleep "0.0$((RANDOM % 9 + 1))"
+    kill -9 $program 2> /dev/null
+    wait $program 2> /dev/null
 }
 
 usage='usage: lvm script | lvm sim DISKS MIB | lvm image N MIB'
@@ -81,6 +91,32 @@ for change in 'truncate -s 2097152 hdisk0.img' 'rm hdisk0.img'; do
     run 0 'ok\n' "$write" script
 done
 
+# A group over image files: made by one run, found by the next, varied off, and varied on with a member away.
+run 0 '' '' image 1 8
+run 0 '' '' image 2 8
+run 0 'ok\nok\n' 'mkvg -y datavg -s 1 hdisk1 hdisk2\nvaryoffvg datavg\n' script
+run 1 'refused 26 InGroup hdisk1\nok\n4096 0000000000000001\n' "rd hdisk1 4096 1\n$write$read" script
+run 0 'ok\nhdisk1 datavg active pps 6 free 6 stale 0\n' 'varyonvg datavg\nlspv hdisk1\n' script
+run 1 'refused 4 GroupExists\n' 'mkvg -y other hdisk0\n' script
+run 1 'refused 27 NoPlan\n' 'fail hdisk0\n' script
+mv hdisk2.img away
+run 0 'ok\nhdisk2 datavg missing pps 6 free 6 stale 0\n' 'varyonvg datavg\nlspv hdisk2\n' script
+mv away hdisk2.img
+mv hdisk1.img away
+run 1 'refused 7 NoQuorum 1 3\n' 'varyonvg datavg\n' script
+mv away hdisk1.img
+run 0 'ok\n' 'varyonvg datavg\n' script
+
+# The program is killed while a group is varied on, again and again: it is found all the same.
+for round in $(seq 1 "$rounds"); do
+    for k in $(seq 1 50); do
+        printf 'varyonvg datavg\nvaryoffvg datavg\n'
+    done > lines.txt
+    run_and_kill
+    run 0 'ok\n' 'varyonvg datavg\n' script
+done
+rm -f hdisk1.img hdisk2.img
+
 # The program is killed between replies. Block 4096 + k gets the word of the round and k; each block whose
 # write was answered has to be there.
 rm hdisk0.img
@@ -90,11 +126,7 @@ for round in $(seq 1 "$rounds"); do
     for k in $(seq 0 1999); do
         printf 'wr hdisk0 %d 1 %016x\n' $((4096 + k)) $((round * 65536 + k))
     done > lines.txt
-    "$lvm" script < lines.txt > replies &
-    program=$!
-    sleep "0.0$((RANDOM % 9 + 1))"
-    kill -9 $program 2> /dev/null
-    wait $program 2> /dev/null
+    run_and_kill
     # A reply that was written in part isn't one.
     ok=$(grep -c '^ok$' replies)
     [ "$ok" = 0 ] || [ "$(tail -c 1 replies | od -An -tx1 | tr -d ' ')" = 0a ] || ok=$((ok - 1))

@@ -1,12 +1,10 @@
 -- The answer of one write.
-use Rattle.std.proofs.Common.{◌≡◌, ◌⊎◌, inl, inr, ℕ, ◌<◌, Bool, true, false, IsTrue, IsFalse, refl, sym, ◌∙◌, ap, subst}
+use Rattle.std.proofs.Common.{◌≡◌, inl, inr, ℕ, Bool, true, false, IsTrue, IsFalse, refl, ◌∙◌, ap, subst}
 use Rattle.std.specs.Prelude.{◌&&◌, not, if◌then◌else◌}
 use Rattle.lvm_num.specs.declared.record.Kind.{Kind}
 use Rattle.lvm_num.specs.Buffer.{Buffer}
 use Rattle.lvm_num.specs.Disks.{Disks, has}
-use Rattle.lvm_disk.specs.Counts.{Rose}
 use Rattle.lvm_disk.specs.Device.{Device, IsReady}
-use Rattle.lvm_kept.specs.Plans.{Plan}
 use Rattle.lvm_kept.specs.Torn.{IsOfRecord}
 use Rattle.lvm_num.specs.declared.record.Framed.{Framed}
 use Rattle.lvm_quorum.specs.declared.homes.Homes.{Homes}
@@ -17,7 +15,7 @@ use Rattle.lvm_quorum.specs.Written.{EndsOn, IfEnded as IfWritten, OnDark as OnW
 use Rattle.lvm_begin.specs.declared.begin.Begun.{Begun}
 use Rattle.lvm_begin.specs.declared.begin.Begun.TheVariants as begun
 use Rattle.lvm_begin.specs.Ends.{IfEnded}
-use Rattle.lvm_begin.specs.Runs.{IsAnswer, Does, HowOne, OneGives}
+use Rattle.lvm_begin.specs.Runs.{IsAnswer, HowOne, OneGives}
 
 -- where the write to each disk ended so, the answer says how all did
 pub how_one :

@@ -1,21 +1,19 @@
 -- The parts of a beginning, one after another.
-use Rattle.std.proofs.Common.{◌≡◌, ◌⊎◌, inl, inr, ⊎_elim, ℕ, ◌<◌, List, [], ◌∷◌, ◌++◌, append_assoc, IsTrue, refl, sym, ◌∙◌, ap, subst}
+use Rattle.std.proofs.Common.{◌≡◌, inl, inr, ⊎_elim, ℕ, List, [], ◌∷◌, ◌++◌, append_assoc, IsTrue, refl, ◌∙◌, ap, subst}
 use Rattle.lvm_num.specs.Buffer.{Buffer, Sector}
-use Rattle.lvm_disk.specs.Counts.{Rose, RoseBy}
+use Rattle.lvm_disk.specs.Counts.{Rose}
 use Rattle.lvm_disk.specs.Device.{Device, image_of}
-use Rattle.lvm_disk.specs.Steps.{BothTold}
 use Rattle.lvm_disk.specs.Paths.{DeviceStep, Path}
-use Rattle.lvm_disk.proofs.Paths.{map-path}
 use Rattle.lvm_kept.specs.Plans.{Plan, ChangesBy}
 use Rattle.lvm_num.specs.Disks.{Disks}
-use Rattle.lvm_quorum.specs.Written.{KeepsShelf, IsWriting, FreesAtMost, IsDarkened, IsGivenUp}
+use Rattle.lvm_quorum.specs.Written.{KeepsShelf, IsWriting, FreesAtMost}
 use Rattle.lvm_quorum.proofs.Writing.{logs_wider, both_map, changes_more, moments_on, moments_wider}
 use Rattle.lvm_quorum.proofs.Transfers.{keeps_then, spends_then, spent_then}
 use Rattle.lvm_begin.specs.declared.begin.Begun.{Begun}
 use Rattle.lvm_begin.specs.declared.begin.Begun.TheVariants as begun
 use Rattle.lvm_begin.specs.Beginning.{Beginning, Part, brought, IsOfParts, Stands, AllStand}
-use Rattle.lvm_begin.specs.Ends.{StopsAt, IsFirstFailed, WasTried}
-use Rattle.lvm_begin.specs.Runs.{Does, OneGives, HowOne, HowMany, ManyWell, ManyGives}
+use Rattle.lvm_begin.specs.Ends.{StopsAt, WasTried}
+use Rattle.lvm_begin.specs.Runs.{Does, OneGives, OneWell, HowOne, IsStage, AreDone, AreBegun, HowMany, ManyGives}
 
 -- ---- plans
 
@@ -61,18 +59,36 @@ stand_more : (b : Beginning) (ps : List Part) (p : Part) (device : Device) → A
 stand_more b [] p device all one = (one, tt)
 stand_more b (q ∷ ps) p device all one = (all.0, stand_more b ps p device all.1 one)
 
+-- ---- stage by stage
+
+done_more : (b : Beginning) (ps : List Part) (p : Part) (old mid new : Device) → AreDone b ps old mid → IsStage b p mid new → AreDone b (ps ++ p ∷ []) old new
+done_more b [] p old mid new done stage = (new, subst (λ (d : Device). IsStage b p d new) done stage, refl)
+done_more b (q ∷ ps) p old mid new done stage = (done.0, done.1, done_more b ps p done.0 mid new done.2 stage)
+
+begun_more : (b : Beginning) (ps : List Part) (p : Part) (old mid new : Device) → AreDone b ps old mid → Path DeviceStep (IsWriting (brought b p) mid) mid new → AreBegun b (ps ++ p ∷ []) old new
+begun_more b [] p old mid new done path = inl (subst (λ (d : Device). Path DeviceStep (IsWriting (brought b p) d) d new) done path)
+begun_more b (q ∷ ps) p old mid new done path = inr (done.0, done.1, begun_more b ps p done.0 mid new done.2 path)
+
+begun_in_front : (b : Beginning) (ps qs : List Part) (old new : Device) → AreBegun b ps old new → AreBegun b (ps ++ qs) old new
+begun_in_front b [] qs old new begun = absurd begun
+begun_in_front b (p ∷ ps) qs old new (inl path) = inl path
+begun_in_front b (p ∷ ps) qs old new (inr stage) = inr (stage.0, stage.1, begun_in_front b ps qs stage.0 new stage.2)
+
+stage_of : (b : Beginning) (p : Part) (number before after : ℕ) (old new : Device) (buf : Buffer) → Does b.targets (brought b p) before after old new → OneWell b.targets (Stands b p) number old new buf → IsStage b p old new
+stage_of b p number before after old new buf does one = record { still = one.back.ready.flights; keeps = does.keeps; path = does.moments; stands = one.stands }
+
 -- ---- the first part
 
 pub first_gives : (b : Beginning) (p : Part) (number before after : ℕ) (old new : Device) (result : Begun) → OneGives b.targets (brought b p) (Stands b p) number before after old new result → ManyGives b (p ∷ []) number before after old new result
 first_gives b p number before after old new result gives =
     let does = wider b.targets (brought b p) (IsOfParts b (p ∷ [])) before after old new (λ d s value is. inl is) gives.does in
-    record { does = does; how = how result does.keeps gives.how }
+    record { does = does; begun = inl gives.does.moments; how = how result does.keeps gives.how }
   where
     stops : (AtHand : Part → Type 0) → KeepsShelf b.targets (IsOfParts b (p ∷ [])) old new → AtHand p → StopsAt b (p ∷ []) old new AtHand
     stops AtHand keeps hand = record { before = []; hand = p; behind = []; is = refl; stand = tt; only = keeps; at_hand = hand }
 
     how : (result : Begun) → KeepsShelf b.targets (IsOfParts b (p ∷ [])) old new → HowOne b.targets (Stands b p) number before old new result → HowMany b (p ∷ []) number before old new result
-    how (begun.Ended buf) keeps one = record { back = one.back; well = one.well; stand = (one.stands, tt) }
+    how (begun.Ended buf) keeps one = record { back = one.back; well = one.well; stand = (one.stands, tt); done = (new, stage_of b p number before after old new buf gives.does one, refl) }
     how (begun.DiskFailed disk buf) keeps one = record { back = one.back; first = one.first; stop = stops (WasTried b old new) keeps one.tried }
     how begun.Dark keeps one = (one, stops (λ hand. Unit {0}) keeps tt)
     how begun.Stuck keeps one = (one, stops (λ hand. Unit {0}) keeps tt)
@@ -88,7 +104,7 @@ more_gives b ps p number before mid_left after old mid new buf result many one s
     let does = does_then b.targets P before mid_left after old mid new
     (wider b.targets (IsOfParts b ps) P before mid_left old mid (in_front b ps (p ∷ [])) many.does)
     (wider b.targets (brought b p) P mid_left after mid new (at_end b ps p) one.does) in
-    record { does = does; how = how result does.keeps one.how }
+    record { does = does; begun = begun_more b ps p old mid new many.how.done one.does.moments; how = how result does.keeps one.how }
   where
     stops : (AtHand : Part → Type 0) → KeepsShelf b.targets (IsOfParts b (ps ++ p ∷ [])) old new → AtHand p → StopsAt b (ps ++ p ∷ []) old new AtHand
     stops AtHand keeps hand = record { before = ps; hand = p; behind = []; is = refl; stand = stay; only = keeps; at_hand = hand }
@@ -98,6 +114,7 @@ more_gives b ps p number before mid_left after old mid new buf result many one s
       back = record { ready = o.back.ready; cuts = o.back.cuts ∙ many.how.back.cuts; number_is = o.back.number_is ∙ many.how.back.number_is };
       well = λ d. o.well d ∙ many.how.well d;
       stand = stand_more b ps p new stay o.stands;
+      done = done_more b ps p old mid new many.how.done (stage_of b p buf.number mid_left after mid new back one.does o);
     }
     how (begun.DiskFailed disk back) keeps o = record {
       back = record { ready = o.back.ready; cuts = o.back.cuts ∙ many.how.back.cuts; number_is = o.back.number_is ∙ many.how.back.number_is };
@@ -114,6 +131,7 @@ pub stopped_gives :
     → ManyGives b (ps ++ qs) number before after old new result
 stopped_gives b ps qs number before after old new result stopped many = record {
   does = wider b.targets (IsOfParts b ps) (IsOfParts b (ps ++ qs)) before after old new (in_front b ps qs) many.does;
+  begun = begun_in_front b ps qs old new many.begun;
   how = how result stopped many.how;
 }
   where

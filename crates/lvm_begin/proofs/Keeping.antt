@@ -1,25 +1,21 @@
 -- What the parts of a beginning keep of a history, moment by moment.
-use Rattle.std.proofs.Common.{◌≡◌, ℕ, IfSome, Some, List, refl, sym, ap, subst, ◌∙◌}
-use Rattle.lvm_num.specs.declared.descriptor.Descriptor.{Descriptor}
-use Rattle.lvm_num.specs.declared.status.Status.{Status}
-use Rattle.lvm_num.specs.DescriptorBytes.{descriptor_of}
-use Rattle.lvm_num.specs.StatusBytes.{status_of}
-use Rattle.lvm_disk.specs.Device.{Media, Image, Device, IsReady, image_of, MayLeave}
+use Rattle.std.proofs.Common.{◌≡◌, Some, []}
+use Rattle.lvm_disk.specs.Device.{Media, Image, Device, image_of, MayLeave}
 use Rattle.lvm_disk.specs.Paths.{DeviceStep, Path}
 use Rattle.lvm_disk.proofs.Paths.{append-path, map-path, last-path}
-use Rattle.lvm_kept.specs.Plans.{Plan, ChangesBy}
-use Rattle.lvm_kept.specs.Torn.{Writing, Alone, Note, brings}
+use Rattle.lvm_kept.specs.Plans.{ChangesBy}
+use Rattle.lvm_kept.specs.Torn.{Writing, brings}
 use Rattle.lvm_change.specs.Moments.{StaysKept}
 use Rattle.lvm_change.specs.Making.{IsWritten, LeavesOnly}
 use Rattle.lvm_quorum.specs.Written.{IsWriting}
 use Rattle.lvm_quorum.proofs.Writing.{told_at}
 
 -- a write from a still shelf
-pub is_written : (x : Writing) (old new : Device) (media : Media) → old.media ≡ Some media → IsReady old → Path DeviceStep (IsWriting (brings x) old) old new → IsWritten x old new
-is_written x old new media told ready path = record {
+abbrev pub is_written : (x : Writing) (old new : Device) (media : Media) → old.media ≡ Some media → old.flights ≡ [] → Path DeviceStep (IsWriting (brings x) old) old new → IsWritten x old new
+is_written x old new media told still path = record {
   media = media;
   told = told;
-  still = ready.flights;
+  still = still;
   path = map-path (LeavesOnly x (image_of old.sizes media)) (λ d writing. told_at old.media (λ m. (image : Image) → MayLeave d image → ChangesBy (brings x) (image_of old.sizes m) image) media told writing) path;
 }
 

@@ -3,3 +3,13 @@ pub mod Chain
 pub mod Answering
 pub mod Telling
 pub mod Keeping
+pub mod Places
+pub mod Showing
+pub mod Untold
+pub mod Found
+pub mod KeptNew
+pub mod KeptAgain
+pub mod Slots
+pub mod Shown
+pub mod Following
+pub mod Newest

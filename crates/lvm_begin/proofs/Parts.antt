@@ -1,14 +1,13 @@
 -- What one of the writes leaves of another.
-use Rattle.std.proofs.Common.{◌≡◌, ◌⊎◌, inl, inr, ⊎_elim, ℕ, ◌+◌, ◌<◌, ◌≤◌, ◌*◌, Bool, true, false, List, [], ◌∷◌, ◌++◌, length, Option, Some, IfSome, IsTrue, refl, sym, ◌∙◌, ap, subst, arith}
+use Rattle.std.proofs.Common.{◌≡◌, ⊎_elim, ℕ, ◌+◌, ◌<◌, ◌≤◌, Bool, true, false, List, length, refl, sym, ◌∙◌, subst, arith}
 use Rattle.std.specs.Prelude.{if◌then◌else◌}
-use Rattle.lvm_num.specs.declared.record.Kind.{Kind}
 use Rattle.lvm_num.specs.declared.record.Kind.TheVariants as kind
 use Rattle.lvm_num.specs.Buffer.{Sector}
-use Rattle.lvm_num.specs.Record.{frame, longest_content, record_sectors, slot_start}
+use Rattle.lvm_num.specs.Record.{record_sectors, slot_start}
 use Rattle.lvm_disk.specs.Device.{Media, Device, image_of}
 use Rattle.lvm_kept.specs.Contents.{note_sector}
 use Rattle.lvm_kept.specs.Plans.{ChangesBy}
-use Rattle.lvm_kept.specs.Torn.{RecordWrite, StandsOn, IsOfRecord}
+use Rattle.lvm_kept.specs.Torn.{StandsOn}
 use Rattle.lvm_quorum.specs.Written.{KeepsShelf}
 use Rattle.lvm_quorum.proofs.Writing.{if_told, told_at, both_from}
 use Rattle.lvm_begin.specs.Beginning.{Beginning, Part, TheDescriptor, TheStatus, TheNotes, describes, states, brought, Stands}

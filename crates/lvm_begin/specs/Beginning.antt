@@ -1,10 +1,9 @@
 -- The three writes with which a session of a group begins, and what lets them be made.
-use Rattle.std.specs.Prelude.{◌≡◌, ◌⊎◌, ℕ, ◌≤◌, List, [], ◌∷◌, length, IsTrue, true, Some}
+use Rattle.std.specs.Prelude.{◌≡◌, ◌⊎◌, ℕ, ◌≤◌, Bool, if◌then◌else◌, List, [], ◌∷◌, length, IsTrue, true, Some}
 use Rattle.lvm_num.specs.declared.record.Framed.{Framed}
 use Rattle.lvm_num.specs.declared.record.Kind.TheVariants as kind
 use Rattle.lvm_num.specs.declared.descriptor.Descriptor.{Descriptor}
 use Rattle.lvm_num.specs.declared.status.Status.{Status}
-use Rattle.lvm_num.specs.Buffer.{Sector}
 use Rattle.lvm_num.specs.Disks.{Disks}
 use Rattle.lvm_num.specs.DescriptorBytes.{descriptor_of}
 use Rattle.lvm_num.specs.StatusBytes.{status_of}
@@ -46,9 +45,9 @@ pub data Part : Type 0 where
 abbrev pub new_order : List Part
 new_order = TheNotes ∷ TheStatus ∷ TheDescriptor ∷ []
 
--- and for one that was there
-abbrev pub again_order : List Part
-again_order = TheDescriptor ∷ TheStatus ∷ TheNotes ∷ []
+-- and for one that was there, whose notes are emptied or stay
+abbrev pub again_order : Bool → List Part
+again_order forget = TheDescriptor ∷ TheStatus ∷ (if forget then TheNotes ∷ [] else [])
 
 -- a new group: its status has sequence 1, its descriptor 2
 abbrev pub new_beginning : ℕ → List ℕ → List ℕ → Disks → Homes → Beginning
@@ -102,8 +101,8 @@ pub record MayBeginNew (b : Beginning) (group : Descriptor) (status : Status) (i
   -- by the clock
   pub unused : IsUnused (contents_of image) status.id b.status.stamp
 
--- A group that these disks find, without volumes in mode active.
-pub record MayBeginAgain (b : Beginning) (group : Descriptor) (status : Status) (disks : Disks) (was : Stamped Status) (image : Image) : Type 0 where
+-- A group that these disks find, without volumes in mode active where its notes are emptied.
+pub record MayBeginAgain (b : Beginning) (forget : Bool) (group : Descriptor) (status : Status) (disks : Disks) (was : Stamped Status) (image : Image) : Type 0 where
   -- by the choice: the disks hold a quorum of the group, of which this is the newest status, and the records go to its voters
   pub members : 1 ≤ length group.pvs
   pub found : Finds (contents_of image) disks group.id group
@@ -117,4 +116,5 @@ pub record MayBeginAgain (b : Beginning) (group : Descriptor) (status : Status) 
   pub state : MayWriteAll Status status_of (states b) status image
   -- by the clock
   pub later : (d : ℕ) (r : Stamped Status) → (contents_of image).status d ≡ Some r → r.value.id ≡ group.id → stamp_lt r.stamp b.status.stamp ≡ true
-  pub quiet : HasNoActive group
+  -- by its rows
+  pub quiet : IsTrue forget → HasNoActive group

@@ -4,7 +4,7 @@ use Rattle.lvm_num.specs.declared.record.Kind.{Kind}
 use Rattle.lvm_num.specs.Buffer.{Buffer}
 use Rattle.lvm_num.specs.Disks.{Disks}
 use Rattle.lvm_disk.specs.Counts.{Rose}
-use Rattle.lvm_disk.specs.Device.{Device, IsReady}
+use Rattle.lvm_disk.specs.Device.{Device}
 use Rattle.lvm_quorum.specs.declared.homes.Homes.{Homes}
 use Rattle.lvm_quorum.specs.Homes.{second_slots}
 use Rattle.lvm_quorum.specs.Written.{KeepsShelf}

@@ -1,3 +1,6 @@
 pub mod Beginning
 pub mod Ends
+pub mod Kept
+pub mod Newest
 pub mod Runs
+pub mod Shown

@@ -1,5 +1,5 @@
 -- How one write to some disks ends, and how several do, one after another.
-use Rattle.std.specs.Prelude.{◌≡◌, ◌⊎◌, ℕ, ◌<◌, List, IsTrue, IsFalse}
+use Rattle.std.specs.Prelude.{◌≡◌, ◌⊎◌, ℕ, ◌<◌, List, [], ◌∷◌, IsTrue, IsFalse}
 use Rattle.lvm_num.specs.Buffer.{Buffer}
 use Rattle.lvm_num.specs.Disks.{Disks, has}
 use Rattle.lvm_disk.specs.Counts.{Rose}
@@ -12,7 +12,7 @@ use Rattle.lvm_quorum.specs.Parts.{Spends}
 use Rattle.lvm_quorum.specs.Written.{KeepsShelf, IsWriting, IsDarkened, IsGivenUp}
 use Rattle.lvm_begin.specs.declared.begin.Begun.{Begun}
 use Rattle.lvm_begin.specs.declared.begin.Begun.TheVariants as begun
-use Rattle.lvm_begin.specs.Beginning.{Beginning, Part, IsOfParts, AllStand}
+use Rattle.lvm_begin.specs.Beginning.{Beginning, Part, brought, IsOfParts, Stands, AllStand}
 use Rattle.lvm_begin.specs.Ends.{HasNoFault, StopsAt, IsFirstFailed, WasTried}
 
 -- a write to disks as its answer names it: all went well, or this is the lowest that failed
@@ -67,10 +67,28 @@ pub record OneGives (targets : Disks) (P : Plan) (Stands : Device → ℕ → Ty
 
 -- ---- several
 
+-- one part was written, from one still shelf to another, and stands
+pub record IsStage (b : Beginning) (part : Part) (old new : Device) : Type 0 where
+  pub still : new.flights ≡ []
+  pub keeps : KeepsShelf b.targets (brought b part) old new
+  pub path : Path DeviceStep (IsWriting (brought b part) old) old new
+  pub stands : (d : ℕ) → IsTrue (b.targets d) → Stands b part new d
+
+-- these parts were written, one after another
+abbrev pub AreDone : Beginning → List Part → Device → Device → Type 0
+AreDone b [] old new = new ≡ old
+AreDone b (part ∷ parts) old new = (mid : Device) × IsStage b part old mid × AreDone b parts mid new
+
+-- some of them were, and then one more was at hand, of which any moment may be the last
+abbrev pub AreBegun : Beginning → List Part → Device → Device → Type 0
+AreBegun b [] old new = ⊥
+AreBegun b (part ∷ parts) old new = Path DeviceStep (IsWriting (brought b part) old) old new ⊎ ((mid : Device) × IsStage b part old mid × AreBegun b parts mid new)
+
 pub record ManyWell (b : Beginning) (order : List Part) (number : ℕ) (old new : Device) (buf : Buffer) : Type 0 where
   pub back : IsBack number old new buf
   pub well : HasNoFault old new
   pub stand : AllStand b order new
+  pub done : AreDone b order old new
 
 pub record ManyBad (b : Beginning) (order : List Part) (number : ℕ) (old new : Device) (disk : ℕ) (buf : Buffer) : Type 0 where
   pub back : IsBack number old new buf
@@ -86,4 +104,5 @@ HowMany b order number before old new begun.Stuck = IsGivenUp number before old 
 -- how the parts ended, in this order
 pub record ManyGives (b : Beginning) (order : List Part) (number before after : ℕ) (old new : Device) (result : Begun) : Type 0 where
   pub does : Does b.targets (IsOfParts b order) before after old new
+  pub begun : AreBegun b order old new
   pub how : HowMany b order number before old new result

@@ -1,23 +1,19 @@
 //! The writes with which a group comes on: of its notes, its status and its descriptor.
 ghost use Rattle.std.specs.Prelude.{◌≡◌, ◌≢◌, ◌-◌, ◌<◌, ◌≤◌, ℕ, length, IfSome, IfNone, IsTrue, IsFalse};
 ghost use Rattle.lvm_num.specs.declared.record.Kind.TheVariants as kind;
-ghost use Rattle.lvm_num.specs.declared.descriptor.Descriptor.{Descriptor};
-ghost use Rattle.lvm_num.specs.declared.status.Status.{Status};
-ghost use Rattle.lvm_num.specs.Disks.{Disks, has};
-ghost use Rattle.lvm_num.specs.Record.{Stamped, longest_content};
+ghost use Rattle.lvm_num.specs.Disks.{has};
+ghost use Rattle.lvm_num.specs.Record.{longest_content};
 ghost use Rattle.lvm_disk.specs.Counts.{RoseBy};
-ghost use Rattle.lvm_disk.specs.Device.{IsReady, image_of};
+ghost use Rattle.lvm_disk.specs.Device.{IsReady};
 ghost use Rattle.lvm_disk.specs.Paths.{DeviceStep, Path};
 ghost use Rattle.lvm_kept.specs.Torn.{IsOfNote, IsOfRecord};
-ghost use Rattle.lvm_change.specs.Making.{Makes};
-ghost use Rattle.lvm_change.specs.Moments.{StaysKept};
-ghost use Rattle.lvm_change.specs.VaryingOn.{VariesOn};
 ghost use Rattle.lvm_quorum.specs.Homes.{Flips};
 ghost use Rattle.lvm_quorum.specs.Notes.{empty_note, NoteTold};
 ghost use Rattle.lvm_quorum.specs.Written.{write_of, StandsTold, HaveRoom, IsWriting, KeepsShelf, IsDarkened, IsGivenUp};
-ghost use Rattle.lvm_begin.specs.Beginning.{new_beginning, again_beginning, new_order, again_order, IsOfParts, AllStand, MayBeginNew, MayBeginAgain};
+ghost use Rattle.lvm_begin.specs.Beginning.{new_beginning, again_beginning, new_order, again_order, IsOfParts, AllStand};
 ghost use Rattle.lvm_begin.specs.Ends.{IfEnded, IfDiskFailed, IfBack, OnDark, OnStuck, OnBroken, BothFlip, HasNoFault, StopsAt, IsFirstFailed, WasTried};
-ghost use Rattle.lvm_begin.specs.Runs.{IsAnswer, OneGives};
+ghost use Rattle.lvm_begin.specs.Kept.{NewStaysKept, AgainStaysKept};
+ghost use Rattle.lvm_begin.specs.Runs.{IsAnswer, OneGives, ManyGives};
 
 use lvm_disk::Shelf;
 use lvm_move::Patience;
@@ -56,7 +52,7 @@ pub fn begin_new<S: Shelf>(
     requires descriptor { length descriptor.now ≤ longest_content kind.Descriptor }
     requires status { length status.now ≤ longest_content kind.Status }
     requires targets { HaveRoom (S.device shelf.old) (has targets) }
-    // all three writes ended well
+    // all of it was written well
     ensures stand { let b = new_beginning epoch descriptor.now status.now (has targets) homes.old in IfEnded result (λ back. AllStand b new_order (S.device shelf.new)) }
     ensures well { IfEnded result (λ back. HasNoFault (S.device shelf.old) (S.device shelf.new)) }
     ensures homes { IfEnded result (λ back. BothFlip (has targets) homes.old homes.new) }
@@ -75,42 +71,60 @@ pub fn begin_new<S: Shelf>(
     ensures waited { RoseBy (patience.old.left - patience.new.left) (S.device shelf.old).counts.waits (S.device shelf.new).counts.waits }
     ensures keeps { let b = new_beginning epoch descriptor.now status.now (has targets) homes.old in KeepsShelf (has targets) (IsOfParts b new_order) (S.device shelf.old) (S.device shelf.new) }
     ensures moments { let b = new_beginning epoch descriptor.now status.now (has targets) homes.old in Path DeviceStep (IsWriting (IsOfParts b new_order) (S.device shelf.old)) (S.device shelf.old) (S.device shelf.new) }
+    ensures kept { let b = new_beginning epoch descriptor.now status.now (has targets) homes.old in NewStaysKept b (S.device shelf.old) (S.device shelf.new) }
 {
-    let buf = match notes(shelf, epoch, targets, buf, patience) {
-        Begun::Ended { buf } => buf,
-        stopped => return stopped,
-    };
-    let first = Stamp { epoch, seq: 1 };
-    let second = Stamp { epoch, seq: 2 };
-    let buf = match record(
-        shelf,
-        Kind::Status,
-        first,
-        status,
-        targets,
-        homes,
-        buf,
-        patience,
-    ) {
-        Begun::Ended { buf } => buf,
-        stopped => return stopped,
-    };
-    record(
-        shelf,
-        Kind::Descriptor,
-        second,
-        descriptor,
-        targets,
-        homes,
-        buf,
-        patience,
+    write_new(
+        shelf, descriptor, status, epoch, targets, homes, buf, patience,
     )
 }
 
 /// Writes what a further session of a group begins with, on each target: the descriptor under sequence 1 and the
-/// status under sequence 2 of the epoch, and then a note without entries. What is handed in are the bytes of the two
-/// records. It takes no memory.
+/// status under sequence 2 of the epoch, and then, with `forget`, a note without entries: only a group without volumes
+/// in mode active may forget its notes. What is handed in are the bytes of the two records. It takes no memory.
 pub fn begin_again<S: Shelf>(
+    shelf: &mut S,
+    descriptor: &[u8],
+    status: &[u8],
+    epoch: u64,
+    targets: DiskSet,
+    forget: bool,
+    homes: &mut Homes,
+    buf: Pbuf,
+    patience: &mut Patience,
+) -> Begun
+    requires ready { IsReady (S.device shelf.old) }
+    requires epoch { epoch ≢ 0 }
+    requires descriptor { length descriptor.now ≤ longest_content kind.Descriptor }
+    requires status { length status.now ≤ longest_content kind.Status }
+    requires targets { HaveRoom (S.device shelf.old) (has targets) }
+    // all of it was written well
+    ensures stand { let b = again_beginning epoch descriptor.now status.now (has targets) homes.old in IfEnded result (λ back. AllStand b (again_order forget) (S.device shelf.new)) }
+    ensures well { IfEnded result (λ back. HasNoFault (S.device shelf.old) (S.device shelf.new)) }
+    ensures homes { IfEnded result (λ back. BothFlip (has targets) homes.old homes.new) }
+    // a disk failed
+    ensures failed { IfDiskFailed result (λ disk back. IsFirstFailed (has targets) (S.device shelf.old) (S.device shelf.new) disk) }
+    ensures tried { let b = again_beginning epoch descriptor.now status.now (has targets) homes.old in IfDiskFailed result (λ disk back. StopsAt b (again_order forget) (S.device shelf.old) (S.device shelf.new) (WasTried b (S.device shelf.old) (S.device shelf.new))) }
+    // the buffer comes back
+    ensures buffer { IfBack result (λ back. back.number ≡ buf.number) }
+    ensures ready { IfBack result (λ back. IsReady (S.device shelf.new) × ((S.device shelf.new).counts.cuts ≡ (S.device shelf.old).counts.cuts)) }
+    // they were broken off
+    ensures dark { OnDark result (IsDarkened buf.number (S.device shelf.old) (S.device shelf.new)) }
+    ensures stuck { OnStuck result (IsGivenUp buf.number patience.old.left (S.device shelf.old) (S.device shelf.new)) }
+    ensures broken { let b = again_beginning epoch descriptor.now status.now (has targets) homes.old in OnBroken result (StopsAt b (again_order forget) (S.device shelf.old) (S.device shelf.new) (λ hand. Unit {0})) }
+    // whatever the answer
+    ensures patience { patience.new.left ≤ patience.old.left }
+    ensures waited { RoseBy (patience.old.left - patience.new.left) (S.device shelf.old).counts.waits (S.device shelf.new).counts.waits }
+    ensures keeps { let b = again_beginning epoch descriptor.now status.now (has targets) homes.old in KeepsShelf (has targets) (IsOfParts b (again_order forget)) (S.device shelf.old) (S.device shelf.new) }
+    ensures moments { let b = again_beginning epoch descriptor.now status.now (has targets) homes.old in Path DeviceStep (IsWriting (IsOfParts b (again_order forget)) (S.device shelf.old)) (S.device shelf.old) (S.device shelf.new) }
+    ensures kept { let b = again_beginning epoch descriptor.now status.now (has targets) homes.old in AgainStaysKept b forget (S.device shelf.old) (S.device shelf.new) }
+{
+    write_again(
+        shelf, descriptor, status, epoch, targets, forget, homes, buf, patience,
+    )
+}
+
+// The parts of a new group, in their order.
+fn write_new<S: Shelf>(
     shelf: &mut S,
     descriptor: &[u8],
     status: &[u8],
@@ -125,45 +139,18 @@ pub fn begin_again<S: Shelf>(
     requires descriptor { length descriptor.now ≤ longest_content kind.Descriptor }
     requires status { length status.now ≤ longest_content kind.Status }
     requires targets { HaveRoom (S.device shelf.old) (has targets) }
-    // all three writes ended well
-    ensures stand { let b = again_beginning epoch descriptor.now status.now (has targets) homes.old in IfEnded result (λ back. AllStand b again_order (S.device shelf.new)) }
-    ensures well { IfEnded result (λ back. HasNoFault (S.device shelf.old) (S.device shelf.new)) }
+    ensures gives { let b = new_beginning epoch descriptor.now status.now (has targets) homes.old in ManyGives b new_order buf.number patience.old.left patience.new.left (S.device shelf.old) (S.device shelf.new) result }
     ensures homes { IfEnded result (λ back. BothFlip (has targets) homes.old homes.new) }
-    // a disk failed
-    ensures failed { IfDiskFailed result (λ disk back. IsFirstFailed (has targets) (S.device shelf.old) (S.device shelf.new) disk) }
-    ensures tried { let b = again_beginning epoch descriptor.now status.now (has targets) homes.old in IfDiskFailed result (λ disk back. StopsAt b again_order (S.device shelf.old) (S.device shelf.new) (WasTried b (S.device shelf.old) (S.device shelf.new))) }
-    // the buffer comes back
-    ensures buffer { IfBack result (λ back. back.number ≡ buf.number) }
-    ensures ready { IfBack result (λ back. IsReady (S.device shelf.new) × ((S.device shelf.new).counts.cuts ≡ (S.device shelf.old).counts.cuts)) }
-    // they were broken off
-    ensures dark { OnDark result (IsDarkened buf.number (S.device shelf.old) (S.device shelf.new)) }
-    ensures stuck { OnStuck result (IsGivenUp buf.number patience.old.left (S.device shelf.old) (S.device shelf.new)) }
-    ensures broken { let b = again_beginning epoch descriptor.now status.now (has targets) homes.old in OnBroken result (StopsAt b again_order (S.device shelf.old) (S.device shelf.new) (λ hand. Unit {0})) }
-    // whatever the answer
-    ensures patience { patience.new.left ≤ patience.old.left }
-    ensures waited { RoseBy (patience.old.left - patience.new.left) (S.device shelf.old).counts.waits (S.device shelf.new).counts.waits }
-    ensures keeps { let b = again_beginning epoch descriptor.now status.now (has targets) homes.old in KeepsShelf (has targets) (IsOfParts b again_order) (S.device shelf.old) (S.device shelf.new) }
-    ensures moments { let b = again_beginning epoch descriptor.now status.now (has targets) homes.old in Path DeviceStep (IsWriting (IsOfParts b again_order) (S.device shelf.old)) (S.device shelf.old) (S.device shelf.new) }
 {
-    let first = Stamp { epoch, seq: 1 };
-    let second = Stamp { epoch, seq: 2 };
-    let buf = match record(
-        shelf,
-        Kind::Descriptor,
-        first,
-        descriptor,
-        targets,
-        homes,
-        buf,
-        patience,
-    ) {
+    let buf = match notes(shelf, epoch, targets, buf, patience) {
         Begun::Ended { buf } => buf,
         stopped => return stopped,
     };
+    let of_status = Stamp { epoch, seq: 1 };
     let buf = match record(
         shelf,
         Kind::Status,
-        second,
+        of_status,
         status,
         targets,
         homes,
@@ -173,7 +160,72 @@ pub fn begin_again<S: Shelf>(
         Begun::Ended { buf } => buf,
         stopped => return stopped,
     };
-    notes(shelf, epoch, targets, buf, patience)
+    let of_descriptor = Stamp { epoch, seq: 2 };
+    record(
+        shelf,
+        Kind::Descriptor,
+        of_descriptor,
+        descriptor,
+        targets,
+        homes,
+        buf,
+        patience,
+    )
+}
+
+// Those of a group that was there.
+fn write_again<S: Shelf>(
+    shelf: &mut S,
+    descriptor: &[u8],
+    status: &[u8],
+    epoch: u64,
+    targets: DiskSet,
+    forget: bool,
+    homes: &mut Homes,
+    buf: Pbuf,
+    patience: &mut Patience,
+) -> Begun
+    requires ready { IsReady (S.device shelf.old) }
+    requires epoch { epoch ≢ 0 }
+    requires descriptor { length descriptor.now ≤ longest_content kind.Descriptor }
+    requires status { length status.now ≤ longest_content kind.Status }
+    requires targets { HaveRoom (S.device shelf.old) (has targets) }
+    ensures gives { let b = again_beginning epoch descriptor.now status.now (has targets) homes.old in ManyGives b (again_order forget) buf.number patience.old.left patience.new.left (S.device shelf.old) (S.device shelf.new) result }
+    ensures homes { IfEnded result (λ back. BothFlip (has targets) homes.old homes.new) }
+{
+    let of_descriptor = Stamp { epoch, seq: 1 };
+    let buf = match record(
+        shelf,
+        Kind::Descriptor,
+        of_descriptor,
+        descriptor,
+        targets,
+        homes,
+        buf,
+        patience,
+    ) {
+        Begun::Ended { buf } => buf,
+        stopped => return stopped,
+    };
+    let of_status = Stamp { epoch, seq: 2 };
+    let buf = match record(
+        shelf,
+        Kind::Status,
+        of_status,
+        status,
+        targets,
+        homes,
+        buf,
+        patience,
+    ) {
+        Begun::Ended { buf } => buf,
+        stopped => return stopped,
+    };
+    if forget {
+        notes(shelf, epoch, targets, buf, patience)
+    } else {
+        Begun::Ended { buf }
+    }
 }
 
 // Empties the notes.

@@ -2,8 +2,10 @@
 #![tactic(auto)]
 
 mod begin;
+mod laws;
 
 pub use begin::{Begun, begin_again, begin_new};
+pub use laws::{beginning_is_found, beginning_is_shown, homes_spare_newest, writes_are_of_records};
 
 #[cfg(test)]
 mod tests;

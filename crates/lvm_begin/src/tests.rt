@@ -170,6 +170,7 @@ fn begin<S: Shelf>(
             status.as_slice(),
             epoch,
             disks,
+            true,
             homes,
             buf,
             &mut patience,

@@ -196,10 +196,10 @@ narrower_on P p q (x ∷ xs) more all = by_tests (p x) (q x) (more x (inl refl))
     by_tests false true m rest all = absurd (let e = m refl in cc)
     by_tests false false m rest all = rest all
 
--- a status that calls more copies of the group stale, and as many of its volumes dirty
+-- a status that calls more copies of the group stale, and as many of its volumes in mode passive dirty
 module _ (c : Contents) (group : Descriptor) (was next : Stamped Status)
     (stale : (row : LvRow) (lp : ℕ) (p : Pp) → IsOneOf group.lvs row → IsOneOf (copies_of row lp) p → IsTrue (calls_stale was.value p) → IsTrue (calls_stale next.value p))
-    (dirty : (row : LvRow) → IsOneOf group.lvs row → IsTrue (calls_dirty was.value row.number) → IsTrue (calls_dirty next.value row.number)) where
+    (dirty : (row : LvRow) → IsOneOf group.lvs row → row.mode ≡ Passive → IsTrue (calls_dirty was.value row.number) → IsTrue (calls_dirty next.value row.number)) where
   module _ (row : LvRow) (volume : IsOneOf group.lvs row) (lp : ℕ) where
     staler : (p : Pp) → IsOneOf (copies_of row lp) p → not (calls_stale next.value p) ≡ true → not (calls_stale was.value p) ≡ true
     staler p one e = by_test (calls_stale was.value p) refl
@@ -213,10 +213,10 @@ module _ (c : Contents) (group : Descriptor) (was next : Stamped Status)
         (λ p one e. let parts = split (set p.disk) (not (is_stale_by (Some next) p)) e in join (set p.disk) (not (is_stale_by (Some was) p)) parts.0 (staler p one parts.1))
         all
 
-    differ : (set : Disks) (mode : Mode) (k : Known) (b : ℕ) → MayDiffer c (Some was) row.number mode (fresh_on set (Some was) row lp) k b → MayDiffer c (Some next) row.number mode (fresh_on set (Some next) row lp) k b
-    differ set Active k b m = fewer (λ (p : Pp). IsTrue (is_named c p.disk row.number (track_group_of b))) set m
-    differ set Passive k b m = dirty row volume m
-    differ set Off k b m = m
+    differ : (set : Disks) (mode : Mode) (k : Known) (b : ℕ) → row.mode ≡ mode → MayDiffer c (Some was) row.number mode (fresh_on set (Some was) row lp) k b → MayDiffer c (Some next) row.number mode (fresh_on set (Some next) row lp) k b
+    differ set Active k b mode_is m = fewer (λ (p : Pp). IsTrue (is_named c p.disk row.number (track_group_of b))) set m
+    differ set Passive k b mode_is m = dirty row volume mode_is m
+    differ set Off k b mode_is m = m
 
   staler_blocks : (facts : List Fact) (set : Disks) → BlocksKept c facts group set (Some was) → BlocksKept c facts group set (Some next)
   staler_blocks facts set blocks row lp b one inside =
@@ -226,7 +226,7 @@ module _ (c : Contents) (group : Descriptor) (was next : Stamped Status)
         allowed = fewer row one lp (λ (p : Pp). IsValue k (block_at c group.mib p b)) set kept.allowed;
         equal = ⊎_elim
             (λ (held : HoldOne c group.mib (fresh_on set (Some was) row lp) b). inl (held.0, fewer row one lp (λ (p : Pp). block_at c group.mib p b ≡ held.0) set held.1))
-            (λ (m : MayDiffer c (Some was) row.number row.mode (fresh_on set (Some was) row lp) k b). inr (differ row one lp set row.mode k b m))
+            (λ (m : MayDiffer c (Some was) row.number row.mode (fresh_on set (Some was) row lp) k b). inr (differ row one lp set row.mode k b refl m))
             kept.equal;
       }
 

@@ -2,7 +2,7 @@
 use Rattle.std.specs.Prelude.{◌≡◌, ◌⊎◌, ℕ, ◌≤◌, ◌++◌, ◌∷◌, true, List, [], length, Some, IsTrue, IsFalse}
 use Rattle.lvm_num.specs.declared.record.Kind.TheVariants as kind
 use Rattle.lvm_num.specs.declared.place.Pp.{Pp}
-use Rattle.lvm_num.specs.declared.descriptor.Mode.TheVariants.{Active}
+use Rattle.lvm_num.specs.declared.descriptor.Mode.TheVariants.{Active, Passive}
 use Rattle.lvm_num.specs.declared.descriptor.LvRow.{LvRow}
 use Rattle.lvm_num.specs.declared.descriptor.Descriptor.{Descriptor}
 use Rattle.lvm_num.specs.declared.status.Status.{Status}
@@ -60,12 +60,12 @@ OnlyNewestIsFound = (c : Contents) (group : Descriptor) (disks : Disks) (newest 
 
 -- ---- the status
 
--- The next status, which has rows for the members alone, carries the marks on copies and volumes of the group of the one that was found, and no partition
--- loses its last fresh copy by it: a further copy is stale only where it stands on a disk that isn't a voter, while another copy of its logical partition is
--- fresh on one that is.
+-- The next status, which has rows for the members alone, carries the marks on copies of the group and on its volumes in mode passive of the one that was
+-- found, and no partition loses its last fresh copy by it: a further copy is stale only where it stands on a disk that isn't a voter, while another copy of
+-- its logical partition is fresh on one that is. Of a volume in another mode a dirty mark says nothing.
 pub record Carries (c : Contents) (group : Descriptor) (disks : Disks) (was next : Status) : Type 0 where
   pub stale : (row : LvRow) (lp : ℕ) (p : Pp) → IsOneOf group.lvs row → IsOneOf (copies_of row lp) p → IsTrue (calls_stale was p) → IsTrue (calls_stale next p)
-  pub dirty : (row : LvRow) → IsOneOf group.lvs row → IsTrue (calls_dirty was row.number) → IsTrue (calls_dirty next row.number)
+  pub dirty : (row : LvRow) → IsOneOf group.lvs row → row.mode ≡ Passive → IsTrue (calls_dirty was row.number) → IsTrue (calls_dirty next row.number)
   pub only : (row : LvRow) (lp : ℕ) (p : Pp) → IsOneOf group.lvs row → IsOneOf (copies_of row lp) p → IsTrue (calls_stale next p)
       → IsTrue (calls_stale was p) ⊎ (IsFalse (is_voter c disks group.id p.disk) × IsSome (fresh c disks group.id row lp))
 

@@ -4,3 +4,4 @@ pub mod Sound
 pub mod Starting
 pub mod Looking
 pub mod Fields
+pub mod Held

@@ -4,9 +4,11 @@
 mod driver;
 mod look;
 mod parts;
+mod refused;
 mod request;
 mod session;
 
 pub use driver::{Closed, Driver};
 pub use parts::{Parts, Room};
+pub use refused::{Cause, Refused};
 pub use request::{CopyState, Open, OpenCopy, Power};

@@ -47,13 +47,16 @@ module _ (one : SlotWrite) (from count first : ℕ) (buf : Buffer) (place : firs
       go false t u p q r is = absurd (cc)
 
   -- and each of its sectors is the place of one
-  pub range_planned : from + count ≤ record_sectors (length one.content.now) → IsInPlan (IsOfRecord (write_to one)) (record { disk = one.disk; first = first; count = count })
-  range_planned room s low high = (
-    frame one.kind one.stamp one.content.now (from + (s - first)),
-    record {
-      target = eq-eqb one.disk one.disk refl;
-      its = record { part = from + (s - first); inside = omega (arith, low, high, room); place = omega (arith, low, place); is = refl };
-    },
+  pub range_planned : 1 ≤ count → from + count ≤ record_sectors (length one.content.now) → IsInPlan (IsOfRecord (write_to one)) (record { disk = one.disk; first = first; count = count })
+  range_planned some room = (
+    some,
+    λ s low high. (
+      frame one.kind one.stamp one.content.now (from + (s - first)),
+      record {
+        target = eq-eqb one.disk one.disk refl;
+        its = record { part = from + (s - first); inside = omega (arith, low, high, room); place = omega (arith, low, place); is = refl };
+      },
+    ),
   )
 
   -- and all that it says

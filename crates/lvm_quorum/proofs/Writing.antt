@@ -27,7 +27,7 @@ pub told_at : {X : Type 0} (o : Option X) (P : X → Type 0) (x : X) → o ≡ S
 told_at {X} o P x told is = subst (λ (p : Option X). IfSome p P) told is
 
 -- what the media becomes, where it is told
-both_at : (o n : Option Media) (R : Media → Media → Type 0) (m : Media) → BothTold o n R → o ≡ Some m → (k : Media) × (n ≡ Some k) × R m k
+pub both_at : (o n : Option Media) (R : Media → Media → Type 0) (m : Media) → BothTold o n R → o ≡ Some m → (k : Media) × (n ≡ Some k) × R m k
 both_at None n R m both e = absurd (cc e)
 both_at (Some a) None R m both e = absurd both
 both_at (Some a) (Some k) R m both e = (k, refl, subst (λ (x : Media). R x k) (cc e) both)
@@ -169,7 +169,7 @@ logs_wider P Q None None more one = tt
 logs_wider P Q None (Some b) more one = absurd one
 logs_wider P Q (Some a) None more one = tt
 logs_wider P Q (Some a) (Some b) more one =
-    (one.0, one.1, All-weaker (IsInPlan P) (IsInPlan Q) (λ r inside s low high. let it = inside s low high in (it.0, more r.disk s it.0 it.1)) one.0 one.2)
+    (one.0, one.1, All-weaker (IsInPlan P) (IsInPlan Q) (λ r inside. (inside.0, λ s low high. let it = inside.1 s low high in (it.0, more r.disk s it.0 it.1))) one.0 one.2)
 
 -- parts that stand on the media
 pub parts_stay : (w : RecordWrite) (old mid : Device) → BothTold old.media mid.media (λ was is. ChangesBy (IsOfRecord w) (image_of old.sizes was) (image_of mid.sizes is)) → (d from to : ℕ) → PartsStand w old d from to → PartsStand w mid d from to

@@ -30,9 +30,9 @@ HaveRoom device targets = (d : ℕ) → IsTrue (targets d) → HasRoom device d
 abbrev pub IsWriting : Plan → Device → Device → Type 0
 IsWriting P old now = IfSome old.media (λ media. (image : Image) → MayLeave now image → ChangesBy P (image_of old.sizes media) image)
 
--- the plan brings something to each sector of the range
+-- the range has sectors, and the plan brings something to each
 abbrev pub IsInPlan : Plan → Range → Type 0
-IsInPlan P range = (s : ℕ) → range.first ≤ s → s < range.first + range.count → (value : Sector) × P range.disk s value
+IsInPlan P range = (1 ≤ range.count) × ((s : ℕ) → range.first ≤ s → s < range.first + range.count → (value : Sector) × P range.disk s value)
 
 -- The ranges that are told are those that were told before and others in the plan; or they are told no more.
 abbrev pub LogsPlan : Plan → Option (List Range) → Option (List Range) → Type 0

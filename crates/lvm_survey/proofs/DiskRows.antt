@@ -1,10 +1,12 @@
 -- The row of a disk, as its sectors say it.
-use Rattle.std.proofs.Common.{◌≡◌, ◌⊎◌, inl, inr, ◌<◌, ◌≤◌, ◌++◌, [], ◌∷◌, ℕ, zero, suc, List, Bool, true, false, Some, None, length, slice_get, slice_index_or, refl, sym, ◌∙◌, ap, subst, arith}
+use Rattle.std.proofs.Common.{◌≡◌, ◌⊎◌, inl, inr, ◌<◌, ◌≤◌, ◌++◌, [], ◌∷◌, ℕ, zero, suc, List, Bool, true, false, Option, Some, None, IfSome, length, slice_get, slice_index_or, refl, sym, ◌∙◌, ap, subst, arith}
 use Rattle.std.specs.Prelude.{◌&&◌, nat_le, nat_lt, if◌then◌else◌, Result, option_map}
 use Rattle.lvm_rec.specs.Note.{noted_of}
 use Rattle.std.proofs.lemmas.Bool.Decides.{nat_tests}
 use Rattle.lvm_num.specs.declared.record.Kind.{Kind}
 use Rattle.lvm_num.specs.declared.record.Kind.TheVariants as kind
+use Rattle.lvm_num.specs.declared.record.Stamp.{Stamp}
+use Rattle.lvm_num.specs.declared.descriptor.Descriptor.{Descriptor}
 use Rattle.lvm_num.specs.DescriptorBytes.{descriptor_of}
 use Rattle.lvm_num.specs.Note.{note_in}
 use Rattle.lvm_num.specs.Record.{newer}
@@ -15,7 +17,7 @@ use Rattle.lvm_disk.specs.Device.{Image, Media, Device, image_of}
 use Rattle.lvm_kept.specs.Contents.{has_records, descriptor_on, status_on, note_on}
 use Rattle.lvm_survey.specs.declared.area.RecordArea.{RecordArea}
 use Rattle.lvm_survey.specs.declared.row.SurveyRow.{SurveyRow}
-use Rattle.lvm_survey.specs.Surveyed.{home_of, home_on, under, IsEmpty, IsRead}
+use Rattle.lvm_survey.specs.Surveyed.{home_of, home_on, under, IsEmpty, IsRead, descriptor_shown}
 use Rattle.lvm_survey.specs.Surveying.{IsArea, IsRowOf, IsSmall}
 use Rattle.lvm_survey.proofs.Joining.{or_got}
 
@@ -29,6 +31,9 @@ is_not d n size small = grind (arith, nat_tests)
 
 pub large_has : (sizes : List ℕ) (m : Media) (d size : ℕ) → slice_get sizes d ≡ Some size → d < length sizes → 4096 ≤ size → has_records (image_of sizes m) d ≡ true
 large_has sizes m d size got there large = let same : slice_index_or sizes d 0 ≡ size = or_got sizes d 0 size got in is_there d (length sizes) (slice_index_or sizes d 0) there (omega arith)
+
+pub index_has : (sizes : List ℕ) (m : Media) (d : ℕ) → d < length sizes → 4096 ≤ slice_index_or sizes d 0 → has_records (image_of sizes m) d ≡ true
+index_has sizes m d there large = is_there d (length sizes) (slice_index_or sizes d 0) there large
 
 pub small_has_none : (sizes : List ℕ) (m : Media) (d size : ℕ) → slice_get sizes d ≡ Some size → size < 4096 → has_records (image_of sizes m) d ≡ false
 small_has_none sizes m d size got small = let same : slice_index_or sizes d 0 ≡ size = or_got sizes d 0 size got in is_not d (length sizes) (slice_index_or sizes d 0) (omega arith)
@@ -79,6 +84,22 @@ area_is_read image d area row has is says =
           (home_twice status_of kind.Status area.statuses.first.items area.statuses.second.items sectors is.statuses.0 is.statuses.1
           ∙ where_it_has (has_records image d) (home_of (held status_of kind.Status (slot_of kind.Status 0 sectors)) (held status_of kind.Status (slot_of kind.Status 1 sectors))) 2 has);
     }
+
+-- ---- its descriptor alone
+
+value_under : {X : Type 0} (value : Option X) (stamp : Stamp) → value ≡ option_map (λ r. r.value) (under value stamp)
+value_under None stamp = refl
+value_under (Some x) stamp = refl
+
+-- the newest of what both slots hold is what the disk shows
+pub slots_show : (o : Option Media) (sizes : List ℕ) (d : ℕ) (first second : List ℕ) (value : Option Descriptor) (stamp : Stamp) → d < length sizes → 4096 ≤ slice_index_or sizes d 0
+    → IfSome o (λ m. first ≡ slot_of kind.Descriptor 0 (m d)) → IfSome o (λ m. second ≡ slot_of kind.Descriptor 1 (m d)) → under value stamp ≡ newer (held descriptor_of kind.Descriptor first) (held descriptor_of kind.Descriptor second)
+    → IfSome o (λ m. value ≡ descriptor_shown (image_of sizes m) d)
+unfolding descriptor_on
+slots_show None sizes d first second value stamp there large a b is = tt
+slots_show (Some m) sizes d first second value stamp there large a b is =
+    value_under value stamp
+    ∙ ap (λ o. option_map (λ r. r.value) o) (is ∙ held_twice descriptor_of kind.Descriptor first second (m d) a b ∙ where_it_has (has_records (image_of sizes m) d) (newest_on descriptor_of kind.Descriptor (m d)) None (index_has sizes m d there large))
 
 -- ---- places in lists
 

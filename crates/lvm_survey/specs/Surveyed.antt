@@ -1,5 +1,6 @@
 -- What a survey says of the disks.
 use Rattle.std.specs.Prelude.{◌≡◌, ℕ, if◌then◌else◌, List, [], ◌∷◌, length, Option, Some, None, Result, option_map, option_and_then, slice_get, unwrap_or, IfSome}
+use Rattle.lvm_num.specs.declared.descriptor.Descriptor.{Descriptor}
 use Rattle.lvm_num.specs.declared.record.Stamp.{Stamp}
 use Rattle.lvm_num.specs.declared.record.Kind.{Kind}
 use Rattle.lvm_num.specs.declared.record.Kind.TheVariants as kind
@@ -19,6 +20,10 @@ use Rattle.lvm_survey.specs.declared.row.Survey.{Survey}
 abbrev pub under : {X : Type 0} → Option X → Stamp → Option (Stamped X)
 under None stamp = None
 under (Some x) stamp = Some (record { stamp = stamp; value = x })
+
+-- the newest descriptor that a disk of the image shows
+abbrev pub descriptor_shown : Image → ℕ → Option Descriptor
+descriptor_shown image d = option_map (λ r. r.value) ((contents_of image).descriptor d)
 
 -- what the survey says that the disks show, of their records alone; of a disk whose read failed it says that it shows none
 abbrev pub surveyed : Survey → Contents

@@ -1,6 +1,8 @@
 //! Reading the records of a disk: two slots of each kind, and the note.
 ghost use Rattle.std.specs.Prelude.{◌≡◌, ℕ, ◌+◌, ◌*◌, ◌++◌, ◌<◌, ◌≤◌, length, slice_index_or, [], IfSome, IfOk, OnOk};
+ghost use Rattle.lvm_num.specs.declared.record.Kind.TheVariants as kind_is;
 ghost use Rattle.lvm_num.specs.Record.{joined};
+ghost use Rattle.lvm_rec.specs.Slots.{slot_of};
 ghost use Rattle.lvm_disk.specs.Device.{IsReady};
 ghost use Rattle.lvm_disk.specs.Steps.{IsRange};
 ghost use Rattle.lvm_survey.specs.Surveying.{OnlyReads, IsUntouched, ReadGives, IsArea};
@@ -77,15 +79,7 @@ pub fn read_area<S: Shelf>(
     ensures back { IfOk result (λ got. got.1.number ≡ buf.number) }
     ensures area { IfOk result (λ got. IfSome (S.device shelf.old).media (λ media. IsArea (media disk) got.0)) }
 {
-    let (descriptors, buf) = read_slots(
-        alloc,
-        shelf,
-        disk,
-        DESCRIPTORS,
-        DESCRIPTOR_SECTORS,
-        buf,
-        patience,
-    )?;
+    let (descriptors, buf) = read_descriptors(alloc, shelf, disk, buf, patience)?;
     let (statuses, buf) = read_slots(alloc, shelf, disk, STATUSES, STATUS_SECTORS, buf, patience)?;
     let (bytes, buf) = read_sectors(alloc, shelf, disk, NOTE, 1, buf, patience)?;
     let mut note = [0; SECTOR];
@@ -96,6 +90,35 @@ pub fn read_area<S: Shelf>(
         note,
     };
     Ok((area, buf))
+}
+
+/// Reads both slots of descriptors of a disk, in pieces of 256 sectors. After a read that failed the rest is left out.
+pub fn read_descriptors<S: Shelf>(
+    alloc: Global,
+    shelf: &mut S,
+    disk: u16,
+    buf: Pbuf,
+    patience: &mut Patience,
+) -> Result<(Slots, Pbuf), Unread>
+    requires ready { IsReady (S.device shelf.old) }
+    requires there { disk < length (S.device shelf.old).sizes }
+    requires large { 4096 ≤ slice_index_or (S.device shelf.old).sizes disk 0 }
+    ensures only { OnlyReads patience.old.left patience.new.left (S.device shelf.old) (S.device shelf.new) }
+    ensures elsewhere { (d : ℕ) → (d ≡ disk → ⊥) → IsUntouched d (S.device shelf.old) (S.device shelf.new) }
+    ensures gives { ReadGives disk buf.number patience.old.left (S.device shelf.old) (S.device shelf.new) result }
+    ensures back { IfOk result (λ got. got.1.number ≡ buf.number) }
+    ensures first { IfOk result (λ got. IfSome (S.device shelf.old).media (λ media. got.0.first.items ≡ slot_of kind_is.Descriptor 0 (media disk))) }
+    ensures second { IfOk result (λ got. IfSome (S.device shelf.old).media (λ media. got.0.second.items ≡ slot_of kind_is.Descriptor 1 (media disk))) }
+{
+    read_slots(
+        alloc,
+        shelf,
+        disk,
+        DESCRIPTORS,
+        DESCRIPTOR_SECTORS,
+        buf,
+        patience,
+    )
 }
 
 // Reads two slots of so many sectors, the second of which follows the first.

@@ -12,10 +12,10 @@ ghost use Rattle.lvm_num.specs.Status.{IsValidStatus};
 ghost use Rattle.lvm_num.specs.StatusBytes.{status_of};
 ghost use Rattle.lvm_rec.specs.Slots.{held};
 ghost use Rattle.lvm_survey.specs.Rows.{AreRows};
-ghost use Rattle.lvm_survey.specs.Surveyed.{home_of, under, IsEmpty, IsRead, IsRowValid, IsSurveyValid};
-ghost use Rattle.lvm_survey.specs.Surveying.{AreHomes, DiskGives, EachRow, IfEnded, IsHome, IsRowOf, IsSmall, IsUntouched, IsUnwritten, OnlyReads, RowsGive, SurveyEnds};
+ghost use Rattle.lvm_survey.specs.Surveyed.{home_of, under, IsEmpty, IsRead, IsRowValid, IsSurveyValid, descriptor_shown};
+ghost use Rattle.lvm_survey.specs.Surveying.{AreHomes, DiskGives, EachRow, IfEnded, IsHome, IsRowOf, IsSmall, IsUntouched, IsUnwritten, OnlyReads, ReadGives, RowsGive, SurveyEnds};
 
-use crate::area::{RecordArea, Slots, Stop, Unread, read_area};
+use crate::area::{RecordArea, Slots, Stop, Unread, read_area, read_descriptors};
 use crate::found::{Latest, descriptor_in, newest, status_in};
 use crate::row::{Survey, SurveyRow};
 use lvm_disk::Shelf;
@@ -82,6 +82,33 @@ pub fn survey_disks<S: Shelf>(
         Err(Stop::Memory(buf)) => Surveyed::Memory { buf },
         Err(Stop::Dark) => Surveyed::Dark,
         Err(Stop::Stuck) => Surveyed::Stuck,
+    }
+}
+
+/// Reads the two slots of descriptors of a disk, by 10 reads of at most 256 sectors, and answers the newest
+/// descriptor that the disk shows. After a failed read the rest is left out. No write is started. The buffer is
+/// used for each read.
+pub fn read_descriptor<S: Shelf>(
+    alloc: Global,
+    shelf: &mut S,
+    disk: u16,
+    buf: Pbuf,
+    patience: &mut Patience,
+) -> Result<(Option<Descriptor>, Pbuf), Unread>
+    requires ready { IsReady (S.device shelf.old) }
+    requires there { disk < length (S.device shelf.old).sizes }
+    requires large { 4096 ≤ slice_index_or (S.device shelf.old).sizes disk 0 }
+    ensures shown { IfOk result (λ got. IfSome (S.device shelf.old).media (λ media. got.0 ≡ descriptor_shown (image_of (S.device shelf.old).sizes media) disk)) }
+    ensures valid { IfOk result (λ got. IfSome got.0 IsValid) }
+    ensures back { IfOk result (λ got. got.1.number ≡ buf.number) }
+    ensures gives { ReadGives disk buf.number patience.old.left (S.device shelf.old) (S.device shelf.new) result }
+    ensures elsewhere { (d : ℕ) → (d ≡ disk → ⊥) → IsUntouched d (S.device shelf.old) (S.device shelf.new) }
+    ensures only { OnlyReads patience.old.left patience.new.left (S.device shelf.old) (S.device shelf.new) }
+{
+    let (slots, back) = read_descriptors(alloc, shelf, disk, buf, patience)?;
+    match newest_descriptor(alloc, &slots) {
+        Ok(latest) => Ok((latest.value, back)),
+        Err(Memory) => Err(Unread::Stopped(Stop::Memory(back))),
     }
 }
 

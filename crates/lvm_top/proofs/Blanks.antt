@@ -1,6 +1,16 @@
 -- Zeros that are written piece by piece.
-use Rattle.std.proofs.Common.{◌≡◌, ◌+◌, ◌-◌, ◌≤◌, ◌++◌, ℕ, List, Option, replicate, sym, ◌∙◌, ap, arith, append_assoc, length-append}
-use Rattle.std.proofs.lemmas.List.{append-nil, replicate-append-replicate}
+use Rattle.std.proofs.Common.{◌≡◌, ◌*◌, zero, suc, ◌∷◌, [], length, ◌<◌, refl, ◌+◌, ◌-◌, ◌≤◌, ◌++◌, ℕ, List, Option, IfSome, replicate, subst, sym, ◌∙◌, ap, arith, append_assoc, length-append}
+use Rattle.std.proofs.lemmas.List.{append-nil, replicate-append-replicate, get_or-replicate, length-replicate}
+use Rattle.std.specs.Prelude.{slice_index_or}
+use Rattle.lvm_num.specs.Buffer.{Sector, zero_sector}
+use Rattle.lvm_disk.specs.Device.{Media, Device, image_of}
+use Rattle.lvm_disk.specs.Media.{media_of, sizes_of, blank_disks_of}
+use Rattle.lvm_kept.specs.Changes.{IsBlank}
+use Rattle.lvm_change.specs.Moments.{IsEarlier}
+use Rattle.lvm_change.proofs.Zeros.{blank_is_earlier}
+use Rattle.lvm_stamps.specs.Behind.{IsBehind}
+use Rattle.lvm_stamps.proofs.Records.{blank_is_behind}
+use Rattle.lvm_top.specs.Sim.{sim_device, IsToldBlank}
 use Rattle.lvm_io.specs.Stream.{WhereTold, WritesFront}
 use Rattle.lvm_io.proofs.Told.{told_on, told_same}
 
@@ -40,3 +50,27 @@ front_of_all count piece all before mid after faults faults1 so_far within front
       written = q.written ∙ ap (λ (l : List ℕ). l ++ q.front) p ∙ append_assoc a (replicate count 0) q.front;
       short = omega (arith, q.short, length-append q.rest (replicate left 0));
     }
+
+-- ---- disks of zeros
+
+-- each sector of them is one of zeros
+blank_sector : (sizes : List ℕ) (d s : ℕ) → d < length (sizes_of (blank_disks_of sizes)) → s < slice_index_or (sizes_of (blank_disks_of sizes)) d 0 → media_of (blank_disks_of sizes) d s ≡ zero_sector
+blank_sector [] d s there within = absurd (omega (arith, there))
+blank_sector (size ∷ sizes) zero s there within = get_or-replicate size s zero_sector [] (let e = length-replicate {A = Sector} size zero_sector in omega (arith, within, e))
+blank_sector (size ∷ sizes) (suc d) s there within = blank_sector sizes d s (omega (arith, there)) within
+
+pub sim_is_blank : (disks mib : ℕ) → IsBlank (image_of (sim_device disks mib).sizes (media_of (blank_disks_of (replicate disks (2048 * mib)))))
+sim_is_blank disks mib d s there within = blank_sector (replicate disks (2048 * mib)) d s there within
+
+-- nothing was told before a run over them, and no stamp stands there
+pub sim_earlier : (run disks mib : ℕ) → IsEarlier run (sim_device disks mib) []
+sim_earlier run disks mib = blank_is_earlier run (sim_device disks mib) (media_of (blank_disks_of (replicate disks (2048 * mib)))) refl refl (sim_is_blank disks mib)
+
+pub sim_behind : (run disks mib : ℕ) → IsBehind run (sim_device disks mib)
+sim_behind run disks mib = blank_is_behind run (sim_device disks mib) (sim_is_blank disks mib)
+
+pub told_earlier : (run : ℕ) (device : Device) → IsToldBlank device → IsEarlier run device []
+told_earlier run device it = blank_is_earlier run device it.media it.told it.still it.blank
+
+pub told_behind : (run : ℕ) (device : Device) → IsToldBlank device → IsBehind run device
+told_behind run device it = blank_is_behind run device (subst (λ (m : Option Media). IfSome m (λ media. IsBlank (image_of device.sizes media))) (sym it.told) it.blank)

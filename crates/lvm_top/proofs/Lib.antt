@@ -1,12 +1,5 @@
-mod Texts
-mod Asking
-pub mod Spanning
-mod Logs
-mod Answering
-mod Lining
-mod Scripting
-mod Steady
-mod Stopping
-mod Commanding
-mod Blanks
-mod Causing
+pub mod Blanks
+pub mod Commanding
+pub mod Lining
+pub mod Scripting
+pub mod Stopping

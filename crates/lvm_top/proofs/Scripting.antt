@@ -3,30 +3,32 @@ use Rattle.std.proofs.Common.{◌≡◌, ◌+◌, ◌≤◌, ◌<◌, ℕ, List,
 use Rattle.std.proofs.lemmas.List.{append-nil}
 use Rattle.std.proofs.lemmas.List.Sums.{sum_by-append}
 use Rattle.lvm_disk.specs.Device.{Device}
-use Rattle.lvm_disk.proofs.Paths.{last-path}
 use Rattle.lvm_io.specs.Stream.{WhereTold}
 use Rattle.lvm_io.specs.Lines.{lines_of}
 use Rattle.lvm_io.specs.Reading.{Reading, to_come, lines_left, CountsGiven}
-use Rattle.lvm_vol.specs.Facts.{Fact, Cut, joined}
-use Rattle.lvm_vol.specs.Legal.{Legal}
+use Rattle.lvm_vol.specs.Facts.{Fact}
 use Rattle.lvm_vol.specs.Log.{Log}
-use Rattle.lvm_kept.specs.Raw.{RawKept, RawImagesKept}
-use Rattle.lvm_kept.specs.Moments.{Holds, Keeps, StaysCalm, IsEarlier, IsUpheld}
-use Rattle.lvm_kept.proofs.Chaining.{begins_run, keeps_on}
-use Rattle.lvm_kept.proofs.Spans.{keeps_still}
-use Rattle.lvm_top.specs.Replies.{reply_text}
-use Rattle.lvm_top.specs.Script.{State, state_of, IsLine, IsStuck, Says, Script, NoLine, NextLine, Ends, AtLine, InLine, IsWhole, IsPart, texts_of, is_refused, refusals_in, entry_state}
-use Rattle.lvm_top.specs.declared.reply.Reply.{Reply}
+use Rattle.lvm_kept.specs.Moments.{Moment, StaysCalm}
+use Rattle.lvm_change.specs.Moments.{Keeps, IsUpheld}
+use Rattle.lvm_change.proofs.Spans.{keeps_still, spans_join, span_upholds}
+use Rattle.lvm_stamps.specs.Behind.{IsBehind, IsAhead}
+use Rattle.lvm_stamps.proofs.Stamps.{later_is_ahead_too}
+use Rattle.lvm_core.specs.declared.parts.Room.{Room}
+use Rattle.lvm_line.specs.Lines.{IsLine}
+use Rattle.lvm_line.specs.Replies.{reply_text, IsStuck}
+use Rattle.lvm_line.specs.State.{State, IsTimely}
+use Rattle.lvm_top.specs.Script.{Says, Script, NoLine, NextLine, Ends, AtLine, InLine, IsWhole, IsPart, texts_of, is_refused, refusals_in, entry_state}
+use Rattle.lvm_line.specs.declared.reply.Reply.{Reply}
 
 -- nothing was read yet
 abbrev pub unread : Reading
 unread = record { front = []; block = []; given = 0 }
 
 -- what a run has done so far
-pub record RunSoFar (log : Log) (first now : State) (reading : Reading) (input left before after : Option (List ℕ)) (refused lines_done : ℕ) : Type 0 where
+pub record RunSoFar (log : Log) (room : Room) (first now : State) (reading : Reading) (input left before after : Option (List ℕ)) (refused lines_done : ℕ) : Type 0 where
   pub lines : List (List ℕ)
   pub replies : List Reply
-  pub script : Script log first lines replies now
+  pub script : Script log room first lines replies now
   pub read : WhereTold (to_come unread input) (to_come reading left) (λ a b. lines_of a ≡ lines ++ lines_of b)
   pub given : CountsGiven unread reading input left
   pub written : WhereTold before after (λ a b. b ≡ a ++ texts_of replies)
@@ -46,8 +48,8 @@ told_on None (Some b) z R S T f one two = absurd one
 told_on (Some a) None z R S T f one two = absurd one
 told_on (Some a) (Some b) None R S T f one two = absurd two
 
-pub at_start : (log : Log) (first : State) (input before : Option (List ℕ)) → RunSoFar log first first unread input input before before 0 0
-at_start log first input before = record {
+pub at_start : (log : Log) (room : Room) (first : State) (input before : Option (List ℕ)) → RunSoFar log room first first unread input input before before 0 0
+at_start log room first input before = record {
   lines = [];
   replies = [];
   script = NoLine;
@@ -74,13 +76,13 @@ one_more refused refused' lines_done said is few = bounded (is_refused said) is
     bounded true is = omega (arith, is, few)
     bounded false is = omega (arith, is, few)
 
-module _ (log : Log) (first now : State) (reading : Reading) (input left before after : Option (List ℕ)) (refused lines_done : ℕ) (so_far : RunSoFar log first now reading input left before after refused lines_done) where
+module _ (log : Log) (room : Room) (first now : State) (reading : Reading) (input left before after : Option (List ℕ)) (refused lines_done : ℕ) (so_far : RunSoFar log room first now reading input left before after refused lines_done) where
   -- one line more was read, done and answered
   pub line_answered :
-      (new : State) (reading' : Reading) (left' after' : Option (List ℕ)) (refused' : ℕ) (line : List ℕ) (answer said : Reply) → (IsStuck answer → ⊥) → Says answer said → IsLine log line answer now new
+      (new : State) (reading' : Reading) (left' after' : Option (List ℕ)) (refused' : ℕ) (line : List ℕ) (answer said : Reply) → (IsStuck answer → ⊥) → Says answer said → IsLine log room line answer now new
       → WhereTold (to_come reading left) (to_come reading' left') (λ a b. lines_of a ≡ line ∷ lines_of b) → CountsGiven reading reading' left left' → lines_left reading' < lines_left reading
       → WhereTold after after' (λ a b. b ≡ a ++ reply_text said) → refused' ≡ refused + cond (is_refused said) 1 0 → refused' ≤ lines_done + 1
-      → RunSoFar log first new reading' input left' before after' refused' (lines_done + 1)
+      → RunSoFar log room first new reading' input left' before after' refused' (lines_done + 1)
   line_answered new reading' left' after' refused' line answer said goes says does read given fewer written counts few = record {
     lines = so_far.lines ++ line ∷ [];
     replies = so_far.replies ++ said ∷ [];
@@ -96,7 +98,7 @@ module _ (log : Log) (first now : State) (reading : Reading) (input left before 
 
   -- the source has come to its end
   pub all_read : (reading' : Reading) (left' : Option (List ℕ)) → WhereTold (to_come reading left) (to_come reading' left') (λ a b. (a ≡ []) × (b ≡ [])) → CountsGiven reading reading' left left' → reading'.given ≤ 16777216
-      → IsWhole log first now input left' before after refused
+      → IsWhole log room first now input left' before after refused
   all_read reading' left' ends given within = record {
     lines = so_far.lines;
     replies = so_far.replies;
@@ -122,7 +124,7 @@ module _ (log : Log) (first now : State) (reading : Reading) (input left before 
       go (Some a) None (Some c) read ends count = absurd read
 
   -- the lines so far, and no other
-  pub part_so_far : IsPart log first now input before after refused
+  pub part_so_far : IsPart log room first now input before after refused
   part_so_far = record {
     lines = so_far.lines;
     replies = so_far.replies;
@@ -143,9 +145,9 @@ module _ (log : Log) (first now : State) (reading : Reading) (input left before 
 
   -- and one line more, of whose reply a front was written
   pub part_in_line :
-      (last : State) (reading' : Reading) (left' after' : Option (List ℕ)) (refused' : ℕ) (line : List ℕ) (answer said : Reply) (front rest : List ℕ) → Says answer said → IsLine log line answer now last
+      (last : State) (reading' : Reading) (left' after' : Option (List ℕ)) (refused' : ℕ) (line : List ℕ) (answer said : Reply) (front rest : List ℕ) → Says answer said → IsLine log room line answer now last
       → WhereTold (to_come reading left) (to_come reading' left') (λ a b. lines_of a ≡ line ∷ lines_of b) → reply_text said ≡ front ++ rest → WhereTold after after' (λ a b. b ≡ a ++ front) → refused' ≡ refused + cond (is_refused said) 1 0
-      → IsPart log first last input before after' refused'
+      → IsPart log room first last input before after' refused'
   part_in_line last reading' left' after' refused' line answer said front rest says does read split written counts = record {
     lines = so_far.lines;
     replies = so_far.replies;
@@ -167,40 +169,72 @@ module _ (log : Log) (first now : State) (reading : Reading) (input left before 
 
 -- ---- what a run upholds
 
--- a whole run of lines leaves no write open, and is one span
-pub script_calm : (log : Log) (first : State) {lines : List (List ℕ)} {replies : List Reply} {last : State} → Script log first lines replies last → StaysCalm first.moment last.moment
-script_calm log first NoLine past calm = calm
-script_calm log first (NextLine line answer said goes says script it) past calm = it.calm goes past (script_calm log first script past calm)
+-- From one state to a later one, where the clock is ahead of the disks at the first: it stays ahead, and the history is legal and each crash image kept with it
+-- at each moment between. No write of a disk is open that wasn't.
+pub record Went (run : ℕ) (first last : State) : Type 0 where
+  pub timely : IsTimely run first → IsTimely run last
+  pub keeps : IsTimely run first → Keeps run first.moment last.moment
+  pub calm : StaysCalm first.moment last.moment
+  pub waits : first.moment.device.counts.waits ≤ last.moment.device.counts.waits
+  pub power : first.moment.device.power ≡ true → last.moment.device.power ≡ true
+  pub clock : first.last ≤ last.last
 
-pub script_keeps : (log : Log) (first : State) {lines : List (List ℕ)} {replies : List Reply} {last : State} → Script log first lines replies last → Keeps log.run first.moment last.moment
-script_keeps log first NoLine = keeps_still log.run first.moment
-script_keeps log first (NextLine {mid = mid} {new = new} line answer said goes says script it) = keeps_on log.run first.moment mid.moment new.moment (script_keeps log first script) (script_calm log first script) it.keeps
+pub script_went : (log : Log) (room : Room) (first : State) {lines : List (List ℕ)} {replies : List Reply} {last : State} → Script log room first lines replies last → Went log.run first last
+script_went log room first NoLine = record { timely = λ timely. timely; keeps = λ timely. keeps_still log.run first.moment; calm = λ past calm. calm; waits = omega arith; power = λ on. on; clock = omega arith }
+script_went log room first (NextLine {mid = mid} {new = new} line answer said goes says script it) =
+    let went = script_went log room first script in
+    record {
+      timely = λ timely. it.goes.timely (went.timely timely);
+      keeps = λ timely. spans_join log.run first.moment mid.moment new.moment (went.keeps timely) went.calm (it.goes.keeps (went.timely timely));
+      calm = λ past calm. it.goes.calm goes past (went.calm past calm);
+      waits = let a = went.waits in let b = it.goes.waits in omega (arith, a, b);
+      power = λ on. it.goes.power;
+      clock = let a = went.clock in let b = it.goes.clock in omega (arith, a, b);
+    }
 
-ends_keep : (log : Log) (first mid last : State) {done : List (List ℕ)} {said : List Reply} {front : List ℕ} → Keeps log.run first.moment mid.moment → StaysCalm first.moment mid.moment → Ends log mid last done said front → Keeps log.run first.moment last.moment
-ends_keep log first mid last keeps calm (AtLine is) = subst (λ (s : State). Keeps log.run first.moment s.moment) (sym is) keeps
-ends_keep log first mid last keeps calm (InLine line answer said front rest says split it) = keeps_on log.run first.moment mid.moment last.moment keeps calm it.keeps
+-- the same to a run's last state, behind which a write may be open
+pub record Ended (run : ℕ) (first last : State) : Type 0 where
+  pub timely : IsTimely run first → IsTimely run last
+  pub keeps : IsTimely run first → Keeps run first.moment last.moment
+  pub power : first.moment.device.power ≡ true → last.moment.device.power ≡ true
+  pub clock : first.last ≤ last.last
 
-pub part_keeps : (log : Log) (first last : State) (input before after : Option (List ℕ)) (refused : ℕ) → IsPart log first last input before after refused → Keeps log.run first.moment last.moment
-part_keeps log first last input before after refused part = ends_keep log first part.mid last (script_keeps log first part.script) (script_calm log first part.script) part.ends
+ends_went : (log : Log) (room : Room) (first mid last : State) {done : List (List ℕ)} {said : List Reply} {front : List ℕ} → Went log.run first mid → Ends log room mid last done said front → Ended log.run first last
+ends_went log room first mid last went (AtLine is) = subst (λ (s : State). Ended log.run first s) (sym is) (record { timely = went.timely; keeps = went.keeps; power = went.power; clock = went.clock })
+ends_went log room first mid last went (InLine line answer said front rest says split it) = record {
+  timely = λ timely. it.goes.timely (went.timely timely);
+  keeps = λ timely. spans_join log.run first.moment mid.moment last.moment (went.keeps timely) went.calm (it.goes.keeps (went.timely timely));
+  power = λ on. it.goes.power;
+  clock = let a = went.clock in let b = it.goes.clock in omega (arith, a, b);
+}
 
--- from a run's entry to its exit, whatever was told before
-module _ (log : Log) (old new : Device) (facts : List Fact) (keeps : Keeps log.run (record { device = old; facts = [] }) (record { device = new; facts = facts })) (past : List Fact) (earlier : IsEarlier log.run old past) where
-  holds_at_exit : Holds (past ++ Cut ∷ []) (record { device = new; facts = facts })
-  holds_at_exit = last-path keeps (past ++ Cut ∷ []) (begins_run log.run old past earlier.told earlier.legal earlier.own earlier.kept)
-
-  pub legal_at_exit : Legal (joined past facts)
-  legal_at_exit = subst Legal (append_assoc past (Cut ∷ []) facts) holds_at_exit.legal
-
-  pub kept_at_exit : RawImagesKept new (joined past facts)
-  kept_at_exit image may = subst (RawKept image) (append_assoc past (Cut ∷ []) facts) (holds_at_exit.kept image may)
+pub part_ended : (log : Log) (room : Room) (first last : State) (input before after : Option (List ℕ)) (refused : ℕ) → IsPart log room first last input before after refused → Ended log.run first last
+part_ended log room first last input before after refused part = ends_went log room first part.mid last (script_went log room first part.script) part.ends
 
 -- a run that has done no line
-pub nothing_done : (log : Log) (first : State) (input before : Option (List ℕ)) → IsPart log first first input before before 0
-nothing_done log first input before = part_so_far log first first unread input input before before 0 0 (at_start log first input before)
+pub nothing_done : (log : Log) (room : Room) (first : State) (input before : Option (List ℕ)) → IsPart log room first first input before before 0
+nothing_done log room first input before = part_so_far log room first first unread input input before before 0 0 (at_start log room first input before)
+
+-- ---- runs
+
+-- The run's moment is later than what stands on the disks at its beginning, so the clock is ahead of them.
+pub begins_timely : (run : ℕ) (device : Device) → IsBehind run device → IsTimely run (entry_state device run)
+begins_timely run device behind = record { run_is = omega arith; later = tt; behind = later_is_ahead_too run (run + 1) device (omega arith) behind }
 
 -- the lines of a run uphold what was told before it
-pub run_upheld : (log : Log) (run : ℕ) (old new : Device) (facts : List Fact) (input before after : Option (List ℕ)) (refused : ℕ) → log.run ≡ run
-    → IsPart log (entry_state old) (state_of (record { device = new; facts = facts })) input before after refused → IsUpheld run old new facts
-run_upheld log run old new facts input before after refused named part =
-    let keeps = part_keeps log (entry_state old) (state_of (record { device = new; facts = facts })) input before after refused part in
-    subst (λ (n : ℕ). IsUpheld n old new facts) named (record { legal = legal_at_exit log old new facts keeps; kept = kept_at_exit log old new facts keeps })
+pub run_upheld : (log : Log) (room : Room) (run : ℕ) (entry exit : Device) (facts : List Fact) (end : State) (input before after : Option (List ℕ)) (refused : ℕ) → log.run ≡ run → end.moment ≡ record { device = exit; facts = facts }
+    → IsPart log room (entry_state entry run) end input before after refused → IsBehind run entry → IsUpheld run entry exit facts
+run_upheld log room run entry exit facts end input before after refused named is part behind =
+    span_upholds run entry exit facts
+    (subst (λ (m : Moment). Keeps run (record { device = entry; facts = [] }) m) is
+    (subst (λ (n : ℕ). Keeps n (record { device = entry; facts = [] }) end.moment) named
+    ((part_ended log room (entry_state entry run) end input before after refused part).keeps (subst (λ (n : ℕ). IsTimely n (entry_state entry run)) (sym named) (begins_timely run entry behind)))))
+
+-- and leave the clock ahead of the disks
+pub run_ahead : (log : Log) (room : Room) (run last : ℕ) (entry exit : Device) (facts : List Fact) (end : State) (input before after : Option (List ℕ)) (refused : ℕ) → log.run ≡ run → end.moment ≡ record { device = exit; facts = facts } → end.last ≡ last
+    → IsPart log room (entry_state entry run) end input before after refused → IsBehind run entry → IsAhead run (last + 1) exit facts
+run_ahead log room run last entry exit facts end input before after refused named is ended part behind =
+    subst (λ (m : Moment). IsAhead run (last + 1) m.device m.facts) is
+    (subst (λ (n : ℕ). IsAhead run (n + 1) end.moment.device end.moment.facts) ended
+    (subst (λ (n : ℕ). IsTimely n end) named
+    ((part_ended log room (entry_state entry run) end input before after refused part).timely (subst (λ (n : ℕ). IsTimely n (entry_state entry run)) (sym named) (begins_timely run entry behind)))))

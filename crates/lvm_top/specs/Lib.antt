@@ -1,13 +1,6 @@
-pub mod Refusals
-pub mod Replies
-pub mod Language
-pub mod Words
 pub mod Blank
 pub mod Program
-pub mod Requests
-pub mod RawLines
 pub mod Script
 pub mod Statuses
 pub mod Run
 pub mod Sim
-pub mod Causes

@@ -6,9 +6,9 @@ use Rattle.lvm_disk.specs.declared.memory.MemShelf.{MemShelf}
 use Rattle.lvm_vol.specs.Log.{Log}
 use Rattle.lvm_top.specs.Blank.{blank_image}
 use Rattle.lvm_top.specs.Run.{Stream}
-use Rattle.lvm_top.specs.declared.words.Job.{Job}
-use Rattle.lvm_top.specs.declared.words.Job.TheVariants.{Script, Sim, Image}
-use Rattle.lvm_top.specs.declared.words.WordsFault.{WordsFault}
+use Rattle.lvm_words.specs.declared.job.Job.{Job}
+use Rattle.lvm_words.specs.declared.job.Job.TheVariants.{Script, Sim, Image}
+use Rattle.lvm_words.specs.declared.job.WordsFault.{WordsFault}
 
 -- what holds where the words ask for a script over the files
 abbrev pub OnScript : Result Job WordsFault → Type 0 → Type 0

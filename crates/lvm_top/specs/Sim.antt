@@ -1,9 +1,10 @@
 -- The run over disks in memory that the words of the command line ask for.
-use Rattle.std.specs.Prelude.{◌*◌, ℕ, [], replicate}
-use Rattle.lvm_disk.specs.Device.{Device}
+use Rattle.std.specs.Prelude.{◌≡◌, ◌*◌, ℕ, [], Some, replicate}
+use Rattle.lvm_disk.specs.Device.{Media, Device, image_of}
 use Rattle.lvm_disk.specs.Media.{blank_disks_of}
+use Rattle.lvm_kept.specs.Changes.{IsBlank}
 use Rattle.lvm_disk.specs.Bench.{fresh_bench}
-use Rattle.lvm_top.specs.declared.room.Room.{Room}
+use Rattle.lvm_core.specs.declared.parts.Room.{Room}
 
 -- the room that a run from the command line is given
 abbrev pub full_room : Room
@@ -12,3 +13,10 @@ full_room = record { table = 1024; pool = 64; entries = 1048576; bytes = 2684354
 -- so many disks of zeros, each of so many MiB, without a plan, with a log of 65,536 writes
 abbrev pub sim_device : ℕ → ℕ → Device
 sim_device disks mib = (fresh_bench (blank_disks_of (replicate disks (2048 * mib))) [] 65536).device
+
+-- it is told what stands on the disks of a still shelf, and these are all zeros
+pub record IsToldBlank (device : Device) : Type 0 where
+  pub media : Media
+  pub told : device.media ≡ Some media
+  pub still : device.flights ≡ []
+  pub blank : IsBlank (image_of device.sizes media)

@@ -1,25 +1,25 @@
 //! The program by the words of its command line.
-ghost use Rattle.std.specs.Prelude.{◌≡◌, ◌≤◌, ◌<◌, length, [], None, IfOk, IfErr, IfSome, IfNone, IsSome};
+ghost use Rattle.std.specs.Prelude.{◌≡◌, ◌⊎◌, ◌≤◌, ◌<◌, length, [], None, IfOk, IfErr, IfSome, IfNone};
 ghost use Rattle.lvm_disk.specs.Device.{IsReady};
 ghost use Rattle.lvm_disk.specs.Memory.{device_of};
 ghost use Rattle.lvm_io.specs.Count.{Rose};
 ghost use Rattle.lvm_vol.specs.Facts.{joined};
 ghost use Rattle.lvm_vol.specs.Legal.{Legal};
-ghost use Rattle.lvm_kept.specs.Raw.{RawImagesKept};
-ghost use Rattle.lvm_kept.specs.Moments.{IsUpheld};
+ghost use Rattle.lvm_change.specs.Moments.{ImagesKept, IsUpheld};
+ghost use Rattle.lvm_stamps.specs.Behind.{IsBehind};
 ghost use Rattle.lvm_top.specs.Program.{OnScript, OnSim, OnImage, usage_line, IsSaid, IsUnrun, IsImaged};
 ghost use Rattle.lvm_top.specs.Run.{IsRun};
-ghost use Rattle.lvm_top.specs.Script.{facts_of};
-ghost use Rattle.lvm_top.specs.Sim.{full_room, sim_device};
-ghost use Rattle.lvm_top.specs.Words.{job_of};
+ghost use Rattle.lvm_top.specs.Script.{facts_of, run_of};
+ghost use Rattle.lvm_top.specs.Sim.{full_room, sim_device, IsToldBlank};
+ghost use Rattle.lvm_words.specs.Words.{job_of};
 
 use crate::image::run_image;
-use crate::room::Room;
 use crate::run::{Ended, run_script};
-use crate::words::{Job, WordsFault, read_words};
+use lvm_core::Room;
 use lvm_disk::{MemShelf, Shelf};
 use lvm_io::{Clock, Images, Sink, Source, write_all};
 use lvm_num::{Memory, Rows, Text};
+use lvm_words::{Job, WordsFault, read_words};
 use std::alloc::Global;
 
 // What is written where the words are not in the language.
@@ -81,7 +81,8 @@ fn unrun<S>(status: u8, files: S) -> Ended<S>
 /// over the files. `sim DISKS MIB` runs one over so many disks of zeros in memory, which are given back
 /// as the run left them. `image N MIB` writes so many MiB of zeros to a new image of disk N, and ends with
 /// status 0, or with 4 where the sink for images failed. Words that are not in the language are answered
-/// by a line of usage to `err`. Where no script is run over the files they come back untouched.
+/// by a line of usage to `err` and status 2. Where no memory is found for the words nothing is done, and the
+/// status is 5. Where no script is run over the files they come back untouched.
 pub fn run_words<I: Source, O: Sink, E: Sink, C: Clock, S: Shelf, P: Images>(
     alloc: Global,
     words: &[Text],
@@ -93,30 +94,33 @@ pub fn run_words<I: Source, O: Sink, E: Sink, C: Clock, S: Shelf, P: Images>(
     images: &mut P,
 ) -> Ended<S>
     requires ready { IsReady (S.device files) }
-    requires there { 0 < length (S.device files).sizes }
 
-    ensures usage { IfErr (job_of words.now) (λ _. IsUnrun result.status result.refused result.history result.sim 2) }
-    ensures usage_line { IfErr (job_of words.now) (λ _. IsSaid usage_line (record { content = E.held err.old; faults = E.faults err.old }) (record { content = E.held err.new; faults = E.faults err.new })) }
+    ensures usage { IfErr (job_of words.now) (λ _. (result.status ≡ 2) ⊎ (result.status ≡ 5)) }
+    ensures usage_unrun { IfErr (job_of words.now) (λ _. IsUnrun result.status result.refused result.history result.sim result.status) }
+    ensures usage_line { IfErr (job_of words.now) (λ _. result.status ≡ 2 → IsSaid usage_line (record { content = E.held err.old; faults = E.faults err.old }) (record { content = E.held err.new; faults = E.faults err.new })) }
+    ensures usage_unread { IfErr (job_of words.now) (λ _. result.status ≡ 5 → err.new ≡ err.old) }
     ensures usage_alone { IfErr (job_of words.now) (λ _. (result.shelf ≡ files) × (input.new ≡ input.old) × (out.new ≡ out.old) × (clock.new ≡ clock.old) × (images.new ≡ images.old)) }
 
-    ensures script_clock { OnScript (job_of words.now) (Rose (C.last clock.old) (C.last clock.new)) }
-    ensures script_run { OnScript (job_of words.now) (IsRun (C.last clock.new) full_room (S.device files) (S.device result.shelf) (record { content = I.left input.old; faults = I.faults input.old }) (record { content = I.left input.new; faults = I.faults input.new }) (record { content = O.held out.old; faults = O.faults out.old }) (record { content = O.held out.new; faults = O.faults out.new }) result.history result.status result.refused) }
-    ensures script_upheld { OnScript (job_of words.now) (IsUpheld (C.last clock.new) (S.device files) (S.device result.shelf) (facts_of result.history)) }
-    ensures script_first { OnScript (job_of words.now) (IsSome (S.device files).media → Legal (joined [] (facts_of result.history)) × RawImagesKept (S.device result.shelf) (joined [] (facts_of result.history))) }
+    ensures script_clock { OnScript (job_of words.now) (IfSome result.history (λ _. Rose (C.last clock.old) (C.last clock.new))) }
+    ensures script_run { OnScript (job_of words.now) (IsRun (run_of result.history) (C.last clock.new) full_room (S.device files) (S.device result.shelf) (record { content = I.left input.old; faults = I.faults input.old }) (record { content = I.left input.new; faults = I.faults input.new }) (record { content = O.held out.old; faults = O.faults out.old }) (record { content = O.held out.new; faults = O.faults out.new }) result.history result.status result.refused) }
+    ensures script_upheld { OnScript (job_of words.now) (IsBehind (run_of result.history) (S.device files) → IsUpheld (run_of result.history) (S.device files) (S.device result.shelf) (facts_of result.history)) }
+    ensures script_first { OnScript (job_of words.now) (IsToldBlank (S.device files) → Legal (joined [] (facts_of result.history)) × ImagesKept (S.device result.shelf) (joined [] (facts_of result.history))) }
     ensures script_alone { OnScript (job_of words.now) ((result.sim ≡ None) × (err.new ≡ err.old) × (images.new ≡ images.old)) }
 
     ensures sim_unmade { OnSim (job_of words.now) (λ _ _. IfNone result.sim (IsUnrun result.status result.refused result.history result.sim 5)) }
+    ensures sim_unmade_alone { OnSim (job_of words.now) (λ _ _. IfNone result.sim ((input.new ≡ input.old) × (out.new ≡ out.old) × (clock.new ≡ clock.old))) }
     ensures sim_clock { OnSim (job_of words.now) (λ _ _. IfSome result.sim (λ _. Rose (C.last clock.old) (C.last clock.new))) }
-    ensures sim_run { OnSim (job_of words.now) (λ disks mib. IfSome result.sim (λ shelf. IsRun (C.last clock.new) full_room (sim_device disks mib) (device_of shelf) (record { content = I.left input.old; faults = I.faults input.old }) (record { content = I.left input.new; faults = I.faults input.new }) (record { content = O.held out.old; faults = O.faults out.old }) (record { content = O.held out.new; faults = O.faults out.new }) result.history result.status result.refused)) }
-    ensures sim_upheld { OnSim (job_of words.now) (λ disks mib. IfSome result.sim (λ shelf. IsUpheld (C.last clock.new) (sim_device disks mib) (device_of shelf) (facts_of result.history))) }
-    ensures sim_first { OnSim (job_of words.now) (λ _ _. IfSome result.sim (λ shelf. Legal (joined [] (facts_of result.history)) × RawImagesKept (device_of shelf) (joined [] (facts_of result.history)))) }
+    ensures sim_run { OnSim (job_of words.now) (λ disks mib. IfSome result.sim (λ shelf. IsRun (run_of result.history) (C.last clock.new) full_room (sim_device disks mib) (device_of shelf) (record { content = I.left input.old; faults = I.faults input.old }) (record { content = I.left input.new; faults = I.faults input.new }) (record { content = O.held out.old; faults = O.faults out.old }) (record { content = O.held out.new; faults = O.faults out.new }) result.history result.status result.refused)) }
+    ensures sim_upheld { OnSim (job_of words.now) (λ disks mib. IfSome result.sim (λ shelf. IsUpheld (run_of result.history) (sim_device disks mib) (device_of shelf) (facts_of result.history))) }
+    ensures sim_first { OnSim (job_of words.now) (λ _ _. IfSome result.sim (λ shelf. Legal (joined [] (facts_of result.history)) × ImagesKept (device_of shelf) (joined [] (facts_of result.history)))) }
     ensures sim_alone { OnSim (job_of words.now) (λ _ _. (result.shelf ≡ files) × (err.new ≡ err.old) × (images.new ≡ images.old)) }
 
-    ensures image { OnImage (job_of words.now) (λ disk mib. IsImaged disk mib result.status (P.chosen images.new) (record { content = P.held images.old; faults = P.faults images.old }) (record { content = P.held images.new; faults = P.faults images.new })) }
+    ensures image { OnImage (job_of words.now) (λ disk mib. (result.status ≡ 5 → ⊥) → IsImaged disk mib result.status (P.chosen images.new) (record { content = P.held images.old; faults = P.faults images.old }) (record { content = P.held images.new; faults = P.faults images.new })) }
+    ensures image_unread { OnImage (job_of words.now) (λ _ _. result.status ≡ 5 → images.new ≡ images.old) }
     ensures image_unrun { OnImage (job_of words.now) (λ _ _. IsUnrun result.status result.refused result.history result.sim result.status) }
     ensures image_alone { OnImage (job_of words.now) (λ _ _. (result.shelf ≡ files) × (input.new ≡ input.old) × (out.new ≡ out.old) × (err.new ≡ err.old) × (clock.new ≡ clock.old)) }
 {
-    match read_words(words) {
+    match read_words(alloc, words) {
         Ok(Job::Script) => run_script(alloc, input, out, files, clock, full_room()),
         Ok(Job::Sim { disks, mib }) => match blank_shelf(alloc, disks, mib) {
             Ok(shelf) => {
@@ -136,5 +140,6 @@ pub fn run_words<I: Source, O: Sink, E: Sink, C: Clock, S: Shelf, P: Images>(
             say_usage(err);
             unrun(2, files)
         }
+        Err(WordsFault::Memory) => unrun(5, files),
     }
 }

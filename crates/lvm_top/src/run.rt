@@ -1,16 +1,19 @@
 //! A run of a script.
-ghost use Rattle.std.specs.Prelude.{◌≡◌, ◌<◌, length, None};
+ghost use Rattle.std.specs.Prelude.{◌≡◌, ◌≤◌, ◌<◌, ◌+◌, length, None, IfSome};
 ghost use Rattle.lvm_disk.specs.Device.{IsReady};
 ghost use Rattle.lvm_io.specs.Count.{Rose};
-ghost use Rattle.lvm_kept.specs.Moments.{IsUpheld};
+ghost use Rattle.lvm_change.specs.Moments.{IsUpheld};
+ghost use Rattle.lvm_stamps.specs.Behind.{IsBehind, IsAhead};
+ghost use Rattle.lvm_core.specs.Starting.{IsRoom};
 ghost use Rattle.lvm_top.specs.Run.{IsRun};
-ghost use Rattle.lvm_top.specs.Script.{IsRoom, facts_of};
+ghost use Rattle.lvm_top.specs.Script.{facts_of, run_of};
 ghost use Rattle.lvm_top.specs.Statuses.{status_of};
 
-use crate::room::Room;
-use crate::script::{Done, Stop, do_lines};
+use crate::script::{Stop, do_lines};
+use lvm_core::{Closed, Room};
 use lvm_disk::{MemShelf, Shelf};
 use lvm_io::{Clock, Lines, Sink, Source};
+use lvm_line::Stage;
 use lvm_vol::History;
 use std::alloc::Global;
 
@@ -32,12 +35,12 @@ pub struct Ended<S> {
     pub sim: Option<MemShelf>,
 }
 
-// The status of a run whose lines were done so.
-fn status_of(done: &Done) -> u8
-    ensures { result ≡ status_of done.now.stop done.now.refused }
+// The status of a run of which so many lines were refused, and that stopped so.
+fn status_of(stop: Option<Stop>, refused: u32) -> u8
+    ensures { result ≡ status_of stop refused }
 {
-    match done.stop {
-        None if done.refused == 0 => 0,
+    match stop {
+        None if refused == 0 => 0,
         None => 1,
         Some(Stop::SourceFault) => 3,
         Some(Stop::SinkFault) => 4,
@@ -47,8 +50,9 @@ fn status_of(done: &Done) -> u8
     }
 }
 
-/// Runs a script: reads a line, does it on the shelf, writes its reply, and goes on. The moment at which
-/// the run begins, which the clock is asked once for, names it in its history.
+/// Runs a script: reads a line, does it, writes its reply, and goes on. The moment at which the run begins
+/// names it in its history. The clock is asked for it, and once in each line that varies a group on. A group
+/// that is on at the end is varied off without a write.
 pub fn run_script<S: Shelf, I: Source, O: Sink, C: Clock>(
     alloc: Global,
     input: &mut I,
@@ -58,16 +62,17 @@ pub fn run_script<S: Shelf, I: Source, O: Sink, C: Clock>(
     room: Room,
 ) -> Ended<S>
     requires ready { IsReady (S.device shelf) }
-    requires there { 0 < length (S.device shelf).sizes }
     requires room { IsRoom room }
     ensures clock { Rose (C.last clock.old) (C.last clock.new) }
-    ensures run { IsRun (C.last clock.new) room (S.device shelf) (S.device result.shelf) (record { content = I.left input.old; faults = I.faults input.old }) (record { content = I.left input.new; faults = I.faults input.new }) (record { content = O.held out.old; faults = O.faults out.old }) (record { content = O.held out.new; faults = O.faults out.new }) result.history result.status result.refused }
-    ensures upheld { IsUpheld (C.last clock.new) (S.device shelf) (S.device result.shelf) (facts_of result.history) }
+    ensures named { IfSome result.history (λ log. Rose (C.last clock.old) log.run × (log.run ≤ C.last clock.new)) }
+    ensures run { IsRun (run_of result.history) (C.last clock.new) room (S.device shelf) (S.device result.shelf) (record { content = I.left input.old; faults = I.faults input.old }) (record { content = I.left input.new; faults = I.faults input.new }) (record { content = O.held out.old; faults = O.faults out.old }) (record { content = O.held out.new; faults = O.faults out.new }) result.history result.status result.refused }
+    // where the run's moment is later than what stands on the disks
+    ensures upheld { IsBehind (run_of result.history) (S.device shelf) → IsUpheld (run_of result.history) (S.device shelf) (S.device result.shelf) (facts_of result.history) }
+    ensures ahead { IsBehind (run_of result.history) (S.device shelf) → IsAhead (run_of result.history) (C.last clock.new + 1) (S.device result.shelf) (facts_of result.history) }
     ensures sim { result.sim ≡ None }
 {
-    let mut shelf = shelf;
     let run = clock.now();
-    let Ok(mut history) = History::new(alloc, run, room.entries, room.bytes) else {
+    let Ok(history) = History::new(alloc, run, room.entries, room.bytes) else {
         return Ended {
             status: 5,
             refused: 0,
@@ -85,9 +90,11 @@ pub fn run_script<S: Shelf, I: Source, O: Sink, C: Clock>(
             sim: None,
         };
     };
-    let done = do_lines(alloc, &mut lines, input, out, &mut shelf, &mut history);
+    let stage = Stage::Off { shelf, history };
+    let done = do_lines(alloc, &mut lines, input, out, stage, clock, room);
+    let Closed { shelf, history } = done.stage.close();
     Ended {
-        status: status_of(&done),
+        status: status_of(done.stop, done.refused),
         refused: done.refused,
         history: Some(history),
         shelf,

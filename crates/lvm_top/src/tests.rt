@@ -104,9 +104,9 @@ fn lines_are_skipped_or_refused(rt: HostRuntime) -> Result<(), Fail> {
         b"  \n# a remark\nrd hdisk0 4095 1\nrd hdisk0 4100 1\n rd  hdisk0 4099 1 \nrd hdisk1 4096 1\nrd hdisk0 4096 2\nwr hdisk0 4096 1 1";
     let (ended, out) = run(rt.alloc(), &given(script, &[]))?;
     assert_eq!(rt; ended.status, 1);
-    assert_eq!(rt; ended.refused, 5);
+    assert_eq!(rt; ended.refused, 4);
     let wanted =
-        b"refused 18 OutOfRange 4100\nrefused 18 OutOfRange 4100\n4099 0000000000000000\nrefused 1 BadLine 1\nrefused 1 BadLine 1\nrefused 1 BadLine 18\n";
+        b"refused 18 OutOfRange 4100\nrefused 18 OutOfRange 4100\n4099 0000000000000000\nrefused 5 NoDisk hdisk1\n4096 0000000000000000\n4097 0000000000000000\nrefused 1 BadLine 18\n";
     assert_eq!(rt; out.bytes(), wanted.as_slice());
     Ok(())
 }
@@ -130,9 +130,9 @@ fn no_group_is_on(rt: HostRuntime) -> Result<(), Fail> {
         b"lsvg -l datavg\nlslv -m lv00\nlspv hdisk0\nmklv -y lv00 -w n datavg 1\nrmlv lv00\nvaryoffvg datavg\nvaryonvg datavg\ncut\n";
     let (ended, out) = run(rt.alloc(), &given(script, &[]))?;
     assert_eq!(rt; ended.status, 1);
-    assert_eq!(rt; ended.refused, 8);
+    assert_eq!(rt; ended.refused, 7);
     let wanted =
-        b"refused 2 NoGroup\nrefused 2 NoGroup\nrefused 2 NoGroup\nrefused 2 NoGroup\nrefused 2 NoGroup\nrefused 2 NoGroup\nrefused 1 BadLine 1\nrefused 1 BadLine 1\n";
+        b"refused 2 NoGroup\nrefused 2 NoGroup\nrefused 2 NoGroup\nrefused 2 NoGroup\nrefused 2 NoGroup\nrefused 2 NoGroup\nrefused 11 NoRecord\nok\n";
     assert_eq!(rt; out.bytes(), wanted.as_slice());
     Ok(())
 }
@@ -170,16 +170,19 @@ fn a_source_or_a_sink_that_fails_ends_the_run(rt: HostRuntime) -> Result<(), Fai
     Ok(())
 }
 
+// A line on a disk reads its descriptor slots by ten transfers of two calls each, and then makes its own.
+const CALLS: [u64; 9] = [1, 20, 21, 22, 43, 44, 45, 65, 66];
+
 #[test]
-fn a_cut_at_each_call_leaves_a_value_that_is_allowed(rt: HostRuntime) -> Result<(), Fail> {
-    for call in 1..=7 {
+fn a_cut_at_some_calls_leaves_a_value_that_is_allowed(rt: HostRuntime) -> Result<(), Fail> {
+    for call in CALLS {
         for word in [0, 0x5555_5555_5555_5555, u64::MAX] {
             let plan = [Planned {
                 call,
                 act: Act::Cut(word),
             }];
             let (ended, _) = run(rt.alloc(), &given(WRITE_TWICE_AND_READ, &plan))?;
-            assert_eq!(rt; ended.refused, if call == 7 { 0 } else { 1 });
+            assert_eq!(rt; ended.refused, 1);
             assert!(rt; agrees(&ended));
         }
     }
@@ -187,10 +190,10 @@ fn a_cut_at_each_call_leaves_a_value_that_is_allowed(rt: HostRuntime) -> Result<
 }
 
 #[test]
-fn a_disk_that_fails_at_each_call_leaves_a_value_that_is_allowed(
+fn a_disk_that_fails_at_some_calls_leaves_a_value_that_is_allowed(
     rt: HostRuntime,
 ) -> Result<(), Fail> {
-    for call in 1..=6 {
+    for call in CALLS {
         for word in [0, u64::MAX] {
             let plan = [
                 Planned {
@@ -212,16 +215,22 @@ fn a_disk_that_fails_at_each_call_leaves_a_value_that_is_allowed(
 
 #[test]
 fn a_failed_write_is_lost_and_a_failed_read_says_so(rt: HostRuntime) -> Result<(), Fail> {
-    let plan = [Planned {
-        call: 2,
-        act: Act::Fail(0),
-    }];
-    let (ended, out) = run(rt.alloc(), &given(WRITE_AND_READ, &plan))?;
-    assert_eq!(rt; ended.status, 1);
-    assert_eq!(rt;
-        out.bytes(),
-        b"refused 19 Lost\nrefused 20 ReadFailed\n".as_slice()
-    );
+    for (call, wanted) in [
+        (
+            1,
+            "refused 9 DiskFailed hdisk0\nrefused 9 DiskFailed hdisk0\n",
+        ),
+        (22, "refused 19 Lost\nrefused 9 DiskFailed hdisk0\n"),
+        (44, "ok\nrefused 20 ReadFailed\n"),
+    ] {
+        let plan = [Planned {
+            call,
+            act: Act::Fail(0),
+        }];
+        let (ended, out) = run(rt.alloc(), &given(WRITE_AND_READ, &plan))?;
+        assert_eq!(rt; ended.status, 1);
+        assert_eq!(rt; out.bytes(), wanted.as_bytes());
+    }
     Ok(())
 }
 

@@ -1,4 +1,4 @@
-use Rattle.std.proofs.Common.{◌≡◌, ◌⊎◌, inl, inr, ⊎_elim, ℕ, ◌<◌, ◌≤◌, Bool, true, false, IsTrue, IsFalse, refl, arith}
+use Rattle.std.proofs.Common.{⊎_elim, ◌<◌, ◌≤◌, Bool, true, false, IsTrue, IsFalse, refl, arith}
 use Rattle.std.proofs.lemmas.Bool.{cases_lt}
 use Rattle.lvm_num.specs.Disks.{has}
 use Rattle.lvm_begin.proofs.begin.lowest.Goals as goal

@@ -14,5 +14,5 @@ returns-clause-part g c = λ targets target.
     piece_part targets (IsOfNote targets c.args.note.now) c.args.disk c.args.buf.number c.args.patience.now.left c.transfer.new.patience.left (g.S.Shelf.device c.args.shelf.now) (g.S.Shelf.device c.transfer.new.shelf) c.transfer.result
     c.transfer.ensures.gives.0 8 1 buf c.requires.ready (sym (ap (λ (b : Buffer). b.number) set)) target
     (note_planned c.args.disk buf c.args.note.now carries targets target)
-    (λ s low high. (c.args.note.now, record { target = target; place = omega (arith, low, high); is = refl }))
+    (omega arith, λ s low high. (c.args.note.now, record { target = target; place = omega (arith, low, high); is = refl }))
     c.transfer.ensures.gives.1 c.transfer.ensures.rests c.transfer.ensures.patience c.transfer.ensures.waited c.transfer.ensures.moments

@@ -15,5 +15,5 @@ returns-clause-part g c =
     piece_part (write_to one).targets (IsOfRecord (write_to one)) one.disk c.args.buf.number c.args.patience.now.left c.transfer.new.patience.left (g.S.Shelf.device c.args.shelf.now) (g.S.Shelf.device c.transfer.new.shelf) c.transfer.result
     c.transfer.ensures.gives.0 first c.args.count c.fill.new.buf c.requires.ready (sym c.fill.ensures.number) (eq-eqb one.disk one.disk refl)
     (frames_planned one c.args.first c.args.count first c.fill.new.buf place c.fill.ensures.frames c.requires.there)
-    (range_planned one c.args.first c.args.count first c.fill.new.buf place c.fill.ensures.frames c.requires.there)
+    (range_planned one c.args.first c.args.count first c.fill.new.buf place c.fill.ensures.frames c.requires.some c.requires.there)
     c.transfer.ensures.gives.1 c.transfer.ensures.rests c.transfer.ensures.patience c.transfer.ensures.waited c.transfer.ensures.moments

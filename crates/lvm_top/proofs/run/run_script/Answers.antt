@@ -1,33 +1,74 @@
-use Rattle.std.proofs.Common.{◌≡◌, ◌∙◌, ap, sym, subst, refl, ℕ, List, [], Some, None}
+use Rattle.std.proofs.Common.{◌≡◌, ◌≤◌, ◌∙◌, ◌+◌, ap, sym, subst, refl, ℕ, List, [], Some, None, IfNone, arith}
+use Rattle.lvm_io.specs.Count.{Rose}
+use Rattle.lvm_disk.specs.Device.{Device}
 use Rattle.lvm_vol.specs.Facts.{Fact}
 use Rattle.lvm_vol.specs.Log.{Log}
-use Rattle.lvm_top.specs.RawLines.{without_facts}
-use Rattle.lvm_top.specs.Script.{empty_log}
-use Rattle.lvm_top.proofs.Scripting.{nothing_done, run_upheld}
-use Rattle.lvm_top.proofs.Stopping.{nothing_ran, lines_ran}
+use Rattle.lvm_change.proofs.Spans.{span_upholds, keeps_still}
+use Rattle.lvm_stamps.specs.Behind.{IsAhead}
+use Rattle.lvm_line.specs.Stages.{shelf_in, history_in, state_in}
+use Rattle.lvm_line.specs.State.{State, without_facts}
+use Rattle.lvm_line.specs.declared.stage.Stage.TheVariants as stage
+use Rattle.lvm_top.specs.Script.{IsWhole, IsPart, empty_log, entry_state}
+use Rattle.lvm_top.proofs.Scripting.{nothing_done, part_ended, run_upheld, run_ahead}
+use Rattle.lvm_top.proofs.Stopping.{nothing_ran, nothing_ahead, first_is, named, later as later_run, the_run, the_upheld, the_ahead}
 use Rattle.lvm_top.proofs.run.run_script.Goals as goal
 
 pub returns-in_default-clause-run : goal.returns-in_default-clause-run
-returns-in_default-clause-run g c = nothing_ran (g.C.Clock.last c.now-run.new.self) c.args.room (g.S.Shelf.device c.args.shelf) _ _ None c.requires.ready refl tt
+returns-in_default-clause-run g c = nothing_ran 0 (g.C.Clock.last c.now-run.new.self) c.args.room (g.S.Shelf.device c.args.shelf) (record { content = g.I.Source.left c.args.input.now; faults = g.I.Source.faults c.args.input.now }) (record { content = g.O.Sink.held c.args.out.now; faults = g.O.Sink.faults c.args.out.now }) None c.requires.ready refl tt tt
 
 pub returns-in_default-clause-upheld : goal.returns-in_default-clause-upheld
-returns-in_default-clause-upheld g c = run_upheld (empty_log (g.C.Clock.last c.now-run.new.self) c.args.room) (g.C.Clock.last c.now-run.new.self) (g.S.Shelf.device c.args.shelf) (g.S.Shelf.device c.args.shelf) [] None None None 0 refl (nothing_done _ _ None None)
+returns-in_default-clause-upheld g c behind = span_upholds 0 (g.S.Shelf.device c.args.shelf) (g.S.Shelf.device c.args.shelf) [] (keeps_still 0 (record { device = g.S.Shelf.device c.args.shelf; facts = [] }))
+
+pub returns-in_default-clause-ahead : goal.returns-in_default-clause-ahead
+returns-in_default-clause-ahead g c behind = nothing_ahead 0 (g.C.Clock.last c.now-run.new.self) (g.S.Shelf.device c.args.shelf) [] refl (omega arith) behind
 
 pub returns-in_default-new-clause-run : goal.returns-in_default-new-clause-run
-returns-in_default-new-clause-run g c = nothing_ran (g.C.Clock.last c.now-run.new.self) c.args.room (g.S.Shelf.device c.args.shelf) _ _ (Some c.in-Ok.history) c.requires.ready (ap (λ (l : Log). l.facts) c.in-Ok.ensures)
-    (subst (λ (n : ℕ). c.in-Ok.history ≡ record (empty_log n c.args.room) { facts = c.in-Ok.history.facts }) (sym c.now-run.ensures.last) (c.in-Ok.ensures ∙ ap (λ (facts : List Fact). record (empty_log c.now-run.result c.args.room) { facts = facts }) (sym (ap (λ (l : Log). l.facts) c.in-Ok.ensures))))
+returns-in_default-new-clause-run g c = nothing_ran c.in-Ok.history.run (g.C.Clock.last c.now-run.new.self) c.args.room (g.S.Shelf.device c.args.shelf) (record { content = g.I.Source.left c.args.input.now; faults = g.I.Source.faults c.args.input.now }) (record { content = g.O.Sink.held c.args.out.now; faults = g.O.Sink.faults c.args.out.now }) (Some c.in-Ok.history) c.requires.ready (ap (λ (l : Log). l.facts) c.in-Ok.ensures)
+    (first_is c.in-Ok.history c.now-run.result c.args.room c.in-Ok.ensures) (ap (λ (l : Log). l.run) c.in-Ok.ensures ∙ sym c.now-run.ensures.last)
 
 pub returns-in_default-new-clause-upheld : goal.returns-in_default-new-clause-upheld
-returns-in_default-new-clause-upheld g c = run_upheld (empty_log (g.C.Clock.last c.now-run.new.self) c.args.room) (g.C.Clock.last c.now-run.new.self) (g.S.Shelf.device c.args.shelf) (g.S.Shelf.device c.args.shelf) c.in-Ok.history.facts (g.I.Source.left c.args.input.now) (g.O.Sink.held c.args.out.now) (g.O.Sink.held c.args.out.now) 0 refl (returns-in_default-new-clause-run g c).part
+returns-in_default-new-clause-upheld g c behind =
+    let run = c.in-Ok.history.run in
+    subst (λ (facts : List Fact). Rattle.lvm_change.specs.Moments.IsUpheld run (g.S.Shelf.device c.args.shelf) (g.S.Shelf.device c.args.shelf) facts) (sym (ap (λ (l : Log). l.facts) c.in-Ok.ensures))
+    (span_upholds run (g.S.Shelf.device c.args.shelf) (g.S.Shelf.device c.args.shelf) [] (keeps_still run (record { device = g.S.Shelf.device c.args.shelf; facts = [] })))
+
+pub returns-in_default-new-clause-ahead : goal.returns-in_default-new-clause-ahead
+returns-in_default-new-clause-ahead g c behind =
+    nothing_ahead c.in-Ok.history.run (g.C.Clock.last c.now-run.new.self) (g.S.Shelf.device c.args.shelf) c.in-Ok.history.facts (ap (λ (l : Log). l.facts) c.in-Ok.ensures)
+    (let e : c.in-Ok.history.run ≡ g.C.Clock.last c.now-run.new.self = ap (λ (l : Log). l.run) c.in-Ok.ensures ∙ sym c.now-run.ensures.last in omega (arith, e)) behind
 
 pub returns-clause-run : goal.returns-clause-run
 returns-clause-run g c =
-    lines_ran (g.C.Clock.last c.now-run.new.self) c.args.room (g.S.Shelf.device c.args.shelf) (g.S.Shelf.device c.do_lines-done.new.shelf)
-    (record { content = g.I.Source.left c.args.input.now; faults = g.I.Source.faults c.args.input.now }) (record { content = g.I.Source.left c.do_lines-done.new.input; faults = g.I.Source.faults c.do_lines-done.new.input })
-    (record { content = g.O.Sink.held c.args.out.now; faults = g.O.Sink.faults c.args.out.now }) (record { content = g.O.Sink.held c.do_lines-done.new.out; faults = g.O.Sink.faults c.do_lines-done.new.out })
-    c.in-Ok.history c.do_lines-done.new.history
-    (subst (λ (n : ℕ). c.in-Ok.history ≡ empty_log n c.args.room) (sym c.now-run.ensures.last) c.in-Ok.ensures) c.do_lines-done.ensures.rooms c.do_lines-done.result.stop c.do_lines-done.result.refused
-    c.status_of.result c.status_of.ensures c.requires.ready c.do_lines-done.ensures.whole c.do_lines-done.ensures.part c.do_lines-done.ensures.source c.do_lines-done.ensures.sink c.do_lines-done.ensures.stuck c.do_lines-done.ensures.long c.do_lines-done.ensures.ready
+    the_run g.S.Shelf.device c.args.shelf c.in-Ok.history c.now-run.result (g.C.Clock.last c.now-run.new.self) (g.C.Clock.last c.do_lines-done.new.clock) c.args.room c.in-Ok.ensures c.now-run.ensures.last
+    c.do_lines-done.result.stage c.close-shelf.result.shelf c.close-shelf.result.history c.close-shelf.ensures.shelf c.close-shelf.ensures.off c.close-shelf.ensures.history c.do_lines-done.ensures.rooms c.do_lines-done.result.stop c.do_lines-done.ensures.settled c.do_lines-done.ensures.off
+    (record { content = g.I.Source.left c.args.input.now; faults = g.I.Source.faults c.args.input.now }) (record { content = g.I.Source.left c.do_lines-done.new.input; faults = g.I.Source.faults c.do_lines-done.new.input }) (record { content = g.O.Sink.held c.args.out.now; faults = g.O.Sink.faults c.args.out.now }) (record { content = g.O.Sink.held c.do_lines-done.new.out; faults = g.O.Sink.faults c.do_lines-done.new.out }) c.do_lines-done.result.refused c.do_lines-done.ensures.part
+    c.status_of.result c.status_of.ensures c.requires.ready c.do_lines-done.ensures.whole c.do_lines-done.ensures.source c.do_lines-done.ensures.sink c.do_lines-done.ensures.stuck c.do_lines-done.ensures.long
 
 pub returns-clause-upheld : goal.returns-clause-upheld
-returns-clause-upheld g c = run_upheld (without_facts c.in-Ok.history) (g.C.Clock.last c.now-run.new.self) (g.S.Shelf.device c.args.shelf) (g.S.Shelf.device c.do_lines-done.new.shelf) c.do_lines-done.new.history.facts _ _ _ _ (ap (λ (l : Log). l.run) c.in-Ok.ensures ∙ sym c.now-run.ensures.last) c.do_lines-done.ensures.part
+returns-clause-upheld g c =
+    the_upheld g.S.Shelf.device c.args.shelf c.in-Ok.history c.now-run.result (g.C.Clock.last c.now-run.new.self) (g.C.Clock.last c.do_lines-done.new.clock) c.args.room c.in-Ok.ensures c.now-run.ensures.last
+    c.do_lines-done.result.stage c.close-shelf.result.shelf c.close-shelf.result.history c.close-shelf.ensures.shelf c.close-shelf.ensures.off c.close-shelf.ensures.history c.do_lines-done.ensures.rooms c.do_lines-done.result.stop c.do_lines-done.ensures.settled c.do_lines-done.ensures.off
+    (record { content = g.I.Source.left c.args.input.now; faults = g.I.Source.faults c.args.input.now }) (record { content = g.I.Source.left c.do_lines-done.new.input; faults = g.I.Source.faults c.do_lines-done.new.input }) (record { content = g.O.Sink.held c.args.out.now; faults = g.O.Sink.faults c.args.out.now }) (record { content = g.O.Sink.held c.do_lines-done.new.out; faults = g.O.Sink.faults c.do_lines-done.new.out }) c.do_lines-done.result.refused c.do_lines-done.ensures.part
+
+pub returns-clause-ahead : goal.returns-clause-ahead
+returns-clause-ahead g c =
+    the_ahead g.S.Shelf.device c.args.shelf c.in-Ok.history c.now-run.result (g.C.Clock.last c.now-run.new.self) (g.C.Clock.last c.do_lines-done.new.clock) c.args.room c.in-Ok.ensures c.now-run.ensures.last
+    c.do_lines-done.result.stage c.close-shelf.result.shelf c.close-shelf.result.history c.close-shelf.ensures.shelf c.close-shelf.ensures.off c.close-shelf.ensures.history c.do_lines-done.ensures.rooms c.do_lines-done.result.stop c.do_lines-done.ensures.settled c.do_lines-done.ensures.off
+    (record { content = g.I.Source.left c.args.input.now; faults = g.I.Source.faults c.args.input.now }) (record { content = g.I.Source.left c.do_lines-done.new.input; faults = g.I.Source.faults c.do_lines-done.new.input }) (record { content = g.O.Sink.held c.args.out.now; faults = g.O.Sink.faults c.args.out.now }) (record { content = g.O.Sink.held c.do_lines-done.new.out; faults = g.O.Sink.faults c.do_lines-done.new.out }) c.do_lines-done.result.refused c.do_lines-done.ensures.part
+
+pub returns-clause-clock : goal.returns-clause-clock
+returns-clause-clock g c =
+    let first = c.now-run.ensures.later in
+    let later : c.now-run.result ≤ g.C.Clock.last c.do_lines-done.new.clock = later_run g.S.Shelf.device c.args.shelf c.in-Ok.history c.now-run.result (g.C.Clock.last c.now-run.new.self) (g.C.Clock.last c.do_lines-done.new.clock) c.args.room c.in-Ok.ensures c.now-run.ensures.last
+    c.do_lines-done.result.stage c.close-shelf.result.shelf c.close-shelf.result.history c.close-shelf.ensures.shelf c.close-shelf.ensures.off c.close-shelf.ensures.history c.do_lines-done.ensures.rooms c.do_lines-done.result.stop c.do_lines-done.ensures.settled c.do_lines-done.ensures.off
+    (record { content = g.I.Source.left c.args.input.now; faults = g.I.Source.faults c.args.input.now }) (record { content = g.I.Source.left c.do_lines-done.new.input; faults = g.I.Source.faults c.do_lines-done.new.input }) (record { content = g.O.Sink.held c.args.out.now; faults = g.O.Sink.faults c.args.out.now }) (record { content = g.O.Sink.held c.do_lines-done.new.out; faults = g.O.Sink.faults c.do_lines-done.new.out }) c.do_lines-done.result.refused c.do_lines-done.ensures.part in
+    record { later = let a = first.later in omega (arith, a, later); risen = let a = first.risen in omega (arith, a, later) }
+
+pub returns-clause-named : goal.returns-clause-named
+returns-clause-named g c =
+    let is : c.close-shelf.result.history.run ≡ c.now-run.result = named g.S.Shelf.device c.args.shelf c.in-Ok.history c.now-run.result (g.C.Clock.last c.now-run.new.self) (g.C.Clock.last c.do_lines-done.new.clock) c.args.room c.in-Ok.ensures c.now-run.ensures.last
+    c.do_lines-done.result.stage c.close-shelf.result.shelf c.close-shelf.result.history c.close-shelf.ensures.shelf c.close-shelf.ensures.off c.close-shelf.ensures.history c.do_lines-done.ensures.rooms c.do_lines-done.result.stop c.do_lines-done.ensures.settled c.do_lines-done.ensures.off in
+    let later : c.now-run.result ≤ g.C.Clock.last c.do_lines-done.new.clock = later_run g.S.Shelf.device c.args.shelf c.in-Ok.history c.now-run.result (g.C.Clock.last c.now-run.new.self) (g.C.Clock.last c.do_lines-done.new.clock) c.args.room c.in-Ok.ensures c.now-run.ensures.last
+    c.do_lines-done.result.stage c.close-shelf.result.shelf c.close-shelf.result.history c.close-shelf.ensures.shelf c.close-shelf.ensures.off c.close-shelf.ensures.history c.do_lines-done.ensures.rooms c.do_lines-done.result.stop c.do_lines-done.ensures.settled c.do_lines-done.ensures.off
+    (record { content = g.I.Source.left c.args.input.now; faults = g.I.Source.faults c.args.input.now }) (record { content = g.I.Source.left c.do_lines-done.new.input; faults = g.I.Source.faults c.do_lines-done.new.input }) (record { content = g.O.Sink.held c.args.out.now; faults = g.O.Sink.faults c.args.out.now }) (record { content = g.O.Sink.held c.do_lines-done.new.out; faults = g.O.Sink.faults c.do_lines-done.new.out }) c.do_lines-done.result.refused c.do_lines-done.ensures.part in
+    (subst (λ (n : ℕ). Rose (g.C.Clock.last c.args.clock.now) n) (sym is) c.now-run.ensures.later, omega (arith, is, later))

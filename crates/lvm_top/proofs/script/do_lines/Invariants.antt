@@ -1,18 +1,15 @@
-use Rattle.std.proofs.Common.{◌≡◌, ◌≤◌, ◌<◌, length}
-use Rattle.lvm_disk.specs.Device.{IsReady}
-use Rattle.lvm_kept.proofs.Spans.{at_moment}
-use Rattle.lvm_top.specs.RawLines.{without_facts}
-use Rattle.lvm_top.specs.Script.{state_of, entry_state}
+use Rattle.std.proofs.Common.{◌≡◌, ◌≤◌}
+use Rattle.lvm_line.specs.Stages.{history_in, state_in, IsSettledStage}
+use Rattle.lvm_line.specs.State.{without_facts}
 use Rattle.lvm_top.proofs.Scripting.{RunSoFar}
 use Rattle.lvm_top.proofs.script.do_lines.Given as goal
 
 abbrev pub invariant-loop : goal.invariant-loop
 invariant-loop g l = record {
-  done : RunSoFar (without_facts l.fn.history) (entry_state (g.S.Shelf.device l.fn.shelf)) (state_of (at_moment (g.S.Shelf.device l.shelf) l.history.facts)) l.lines
+  done : RunSoFar (without_facts (history_in l.fn.stage)) l.fn.room (state_in g.S.Shelf.device l.fn.stage (g.C.Clock.last l.fn.clock)) (state_in g.S.Shelf.device l.stage (g.C.Clock.last l.clock)) l.lines
       (g.I.Source.left l.fn.input) (g.I.Source.left l.input) (g.O.Sink.held l.fn.out) (g.O.Sink.held l.out) l.refused l.counter;
-  ready : IsReady (g.S.Shelf.device l.shelf);
-  there : 0 < length (g.S.Shelf.device l.shelf).sizes;
-  rooms : l.history ≡ record l.fn.history { facts = l.history.facts };
+  settled : IsSettledStage g.S.Shelf.device l.stage;
+  rooms : without_facts (history_in l.stage) ≡ without_facts (history_in l.fn.stage);
   source : g.I.Source.faults l.fn.input ≤ g.I.Source.faults l.input;
   sink : g.O.Sink.faults l.fn.out ≤ g.O.Sink.faults l.out;
 }

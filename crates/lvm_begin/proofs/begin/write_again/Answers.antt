@@ -1,0 +1,65 @@
+use Rattle.std.proofs.Common.{◌≤◌, Bool, List, [], ◌∷◌, length, sym, subst}
+use Rattle.std.specs.Prelude.{if◌then◌else◌}
+use Rattle.lvm_num.specs.declared.record.Kind.TheVariants as kind
+use Rattle.lvm_num.specs.Buffer.{Buffer}
+use Rattle.lvm_num.specs.Disks.{has}
+use Rattle.lvm_begin.specs.declared.begin.Begun.TheVariants as begun
+use Rattle.lvm_begin.specs.Beginning.{Beginning, Part, TheDescriptor, TheStatus, TheNotes, again_beginning, again_order, brought, Stands}
+use Rattle.lvm_begin.specs.Ends.{BothFlip}
+use Rattle.lvm_begin.specs.Runs.{OneGives, ManyGives}
+use Rattle.lvm_begin.proofs.Answering.{same_gives}
+use Rattle.lvm_begin.proofs.Chain.{first_gives, more_gives, stopped_gives}
+use Rattle.lvm_begin.proofs.Parts.{still_stands}
+use Rattle.lvm_begin.proofs.Telling.{not_ended}
+use Rattle.lvm_begin.proofs.begin.write_again.Goals as goal
+
+abbrev last_part : Bool → List Part
+last_part forget = if forget then TheNotes ∷ [] else []
+
+pub returns-in_default : goal.returns-in_default
+returns-in_default g c =
+    let b : Beginning = again_beginning c.args.epoch c.args.descriptor.now c.args.status.now (has c.args.targets) c.args.homes.now in
+    let fits : length c.args.status.now ≤ 31740 = c.requires.status in
+    let gives : ManyGives b (again_order c.args.forget) c.args.buf.number c.args.patience.now.left c.record.new.patience.left (g.S.Shelf.device c.args.shelf.now) (g.S.Shelf.device c.record.new.shelf) c.record.result =
+    stopped_gives b (TheDescriptor ∷ []) (TheStatus ∷ last_part c.args.forget) c.args.buf.number c.args.patience.now.left c.record.new.patience.left (g.S.Shelf.device c.args.shelf.now) (g.S.Shelf.device c.record.new.shelf) c.record.result c.in_default.not-Ended
+    (first_gives b TheDescriptor c.args.buf.number c.args.patience.now.left c.record.new.patience.left (g.S.Shelf.device c.args.shelf.now) (g.S.Shelf.device c.record.new.shelf) c.record.result c.record.ensures.gives) in
+    record { gives = gives; homes = not_ended c.record.result (λ (back : Buffer). BothFlip (has c.args.targets) c.args.homes.now c.record.new.homes) c.in_default.not-Ended }
+
+pub returns-in_default-record : goal.returns-in_default-record
+returns-in_default-record g c =
+    let b : Beginning = again_beginning c.args.epoch c.args.descriptor.now c.args.status.now (has c.args.targets) c.args.homes.now in
+    let fits : length c.args.status.now ≤ 31740 = c.requires.status in
+    let gives : ManyGives b (again_order c.args.forget) c.args.buf.number c.args.patience.now.left c.record-2.new.patience.left (g.S.Shelf.device c.args.shelf.now) (g.S.Shelf.device c.record-2.new.shelf) c.record-2.result =
+    stopped_gives b (TheDescriptor ∷ TheStatus ∷ []) (last_part c.args.forget) c.args.buf.number c.args.patience.now.left c.record-2.new.patience.left (g.S.Shelf.device c.args.shelf.now) (g.S.Shelf.device c.record-2.new.shelf) c.record-2.result c.in_default-record.not-Ended
+    ((let many : ManyGives b (TheDescriptor ∷ []) c.args.buf.number c.args.patience.now.left c.record.new.patience.left (g.S.Shelf.device c.args.shelf.now) (g.S.Shelf.device c.record.new.shelf) (begun.Ended c.in-Ended.buf) = first_gives b TheDescriptor c.args.buf.number c.args.patience.now.left c.record.new.patience.left (g.S.Shelf.device c.args.shelf.now) (g.S.Shelf.device c.record.new.shelf) (begun.Ended c.in-Ended.buf) c.in-Ended.ensures.gives in
+    let one : OneGives b.targets (brought b TheStatus) (Stands b TheStatus) c.in-Ended.buf.number c.record.new.patience.left c.record-2.new.patience.left (g.S.Shelf.device c.record.new.shelf) (g.S.Shelf.device c.record-2.new.shelf) c.record-2.result = (same_gives kind.Status kind.Descriptor (has c.args.targets) c.args.homes.now c.record.new.homes b.status (has c.args.targets) c.in-Ended.buf.number c.record.new.patience.left c.record-2.new.patience.left (g.S.Shelf.device c.record.new.shelf) (g.S.Shelf.device c.record-2.new.shelf) c.record-2.result (λ e. absurd (cc (e))) c.in-Ended.ensures.homes (c.record-2.ensures.gives)) in
+    let keeps = one.does.keeps in
+    more_gives b (TheDescriptor ∷ []) TheStatus c.args.buf.number c.args.patience.now.left c.record.new.patience.left c.record-2.new.patience.left (g.S.Shelf.device c.args.shelf.now) (g.S.Shelf.device c.record.new.shelf) (g.S.Shelf.device c.record-2.new.shelf) c.in-Ended.buf c.record-2.result many one
+    ((λ d target. still_stands b fits TheDescriptor TheStatus (g.S.Shelf.device c.record.new.shelf) (g.S.Shelf.device c.record-2.new.shelf) d (λ e. absurd (cc (e))) keeps (many.how.stand.0 d target)), tt))) in
+    record { gives = gives; homes = not_ended c.record-2.result (λ (back : Buffer). BothFlip (has c.args.targets) c.args.homes.now c.record-2.new.homes) c.in_default-record.not-Ended }
+
+pub returns-then-forget-clause-gives : goal.returns-then-forget-clause-gives
+returns-then-forget-clause-gives g c =
+    let b : Beginning = again_beginning c.args.epoch c.args.descriptor.now c.args.status.now (has c.args.targets) c.args.homes.now in
+    let fits : length c.args.status.now ≤ 31740 = c.requires.status in
+    let many : ManyGives b (TheDescriptor ∷ TheStatus ∷ []) c.args.buf.number c.args.patience.now.left c.record-2.new.patience.left (g.S.Shelf.device c.args.shelf.now) (g.S.Shelf.device c.record-2.new.shelf) (begun.Ended c.in-Ended-record.buf) = (let many : ManyGives b (TheDescriptor ∷ []) c.args.buf.number c.args.patience.now.left c.record.new.patience.left (g.S.Shelf.device c.args.shelf.now) (g.S.Shelf.device c.record.new.shelf) (begun.Ended c.in-Ended.buf) = first_gives b TheDescriptor c.args.buf.number c.args.patience.now.left c.record.new.patience.left (g.S.Shelf.device c.args.shelf.now) (g.S.Shelf.device c.record.new.shelf) (begun.Ended c.in-Ended.buf) c.in-Ended.ensures.gives in
+    let one : OneGives b.targets (brought b TheStatus) (Stands b TheStatus) c.in-Ended.buf.number c.record.new.patience.left c.record-2.new.patience.left (g.S.Shelf.device c.record.new.shelf) (g.S.Shelf.device c.record-2.new.shelf) (begun.Ended c.in-Ended-record.buf) = (same_gives kind.Status kind.Descriptor (has c.args.targets) c.args.homes.now c.record.new.homes b.status (has c.args.targets) c.in-Ended.buf.number c.record.new.patience.left c.record-2.new.patience.left (g.S.Shelf.device c.record.new.shelf) (g.S.Shelf.device c.record-2.new.shelf) (begun.Ended c.in-Ended-record.buf) (λ e. absurd (cc (e))) c.in-Ended.ensures.homes (c.in-Ended-record.ensures.gives)) in
+    let keeps = one.does.keeps in
+    more_gives b (TheDescriptor ∷ []) TheStatus c.args.buf.number c.args.patience.now.left c.record.new.patience.left c.record-2.new.patience.left (g.S.Shelf.device c.args.shelf.now) (g.S.Shelf.device c.record.new.shelf) (g.S.Shelf.device c.record-2.new.shelf) c.in-Ended.buf (begun.Ended c.in-Ended-record.buf) many one
+    ((λ d target. still_stands b fits TheDescriptor TheStatus (g.S.Shelf.device c.record.new.shelf) (g.S.Shelf.device c.record-2.new.shelf) d (λ e. absurd (cc (e))) keeps (many.how.stand.0 d target)), tt)) in
+    let one : OneGives b.targets (brought b TheNotes) (Stands b TheNotes) c.in-Ended-record.buf.number c.record-2.new.patience.left c.notes.new.patience.left (g.S.Shelf.device c.record-2.new.shelf) (g.S.Shelf.device c.notes.new.shelf) c.notes.result = c.notes.ensures.gives in
+    let keeps = one.does.keeps in
+    subst (λ (forget : Bool). ManyGives b (again_order forget) c.args.buf.number c.args.patience.now.left c.notes.new.patience.left (g.S.Shelf.device c.args.shelf.now) (g.S.Shelf.device c.notes.new.shelf) c.notes.result) (sym c.if-forget.true)
+    (more_gives b (TheDescriptor ∷ TheStatus ∷ []) TheNotes c.args.buf.number c.args.patience.now.left c.record-2.new.patience.left c.notes.new.patience.left (g.S.Shelf.device c.args.shelf.now) (g.S.Shelf.device c.record-2.new.shelf) (g.S.Shelf.device c.notes.new.shelf) c.in-Ended-record.buf c.notes.result many one
+    ((λ d target. still_stands b fits TheDescriptor TheNotes (g.S.Shelf.device c.record-2.new.shelf) (g.S.Shelf.device c.notes.new.shelf) d (λ e. absurd (cc (e))) keeps (many.how.stand.0 d target)), ((λ d target. still_stands b fits TheStatus TheNotes (g.S.Shelf.device c.record-2.new.shelf) (g.S.Shelf.device c.notes.new.shelf) d (λ e. absurd (cc (e))) keeps (many.how.stand.1.0 d target)), tt)))
+
+pub returns-else-forget-clause-gives : goal.returns-else-forget-clause-gives
+returns-else-forget-clause-gives g c =
+    let b : Beginning = again_beginning c.args.epoch c.args.descriptor.now c.args.status.now (has c.args.targets) c.args.homes.now in
+    let fits : length c.args.status.now ≤ 31740 = c.requires.status in
+    let many : ManyGives b (TheDescriptor ∷ TheStatus ∷ []) c.args.buf.number c.args.patience.now.left c.record-2.new.patience.left (g.S.Shelf.device c.args.shelf.now) (g.S.Shelf.device c.record-2.new.shelf) (begun.Ended c.in-Ended-record.buf) = (let many : ManyGives b (TheDescriptor ∷ []) c.args.buf.number c.args.patience.now.left c.record.new.patience.left (g.S.Shelf.device c.args.shelf.now) (g.S.Shelf.device c.record.new.shelf) (begun.Ended c.in-Ended.buf) = first_gives b TheDescriptor c.args.buf.number c.args.patience.now.left c.record.new.patience.left (g.S.Shelf.device c.args.shelf.now) (g.S.Shelf.device c.record.new.shelf) (begun.Ended c.in-Ended.buf) c.in-Ended.ensures.gives in
+    let one : OneGives b.targets (brought b TheStatus) (Stands b TheStatus) c.in-Ended.buf.number c.record.new.patience.left c.record-2.new.patience.left (g.S.Shelf.device c.record.new.shelf) (g.S.Shelf.device c.record-2.new.shelf) (begun.Ended c.in-Ended-record.buf) = (same_gives kind.Status kind.Descriptor (has c.args.targets) c.args.homes.now c.record.new.homes b.status (has c.args.targets) c.in-Ended.buf.number c.record.new.patience.left c.record-2.new.patience.left (g.S.Shelf.device c.record.new.shelf) (g.S.Shelf.device c.record-2.new.shelf) (begun.Ended c.in-Ended-record.buf) (λ e. absurd (cc (e))) c.in-Ended.ensures.homes (c.in-Ended-record.ensures.gives)) in
+    let keeps = one.does.keeps in
+    more_gives b (TheDescriptor ∷ []) TheStatus c.args.buf.number c.args.patience.now.left c.record.new.patience.left c.record-2.new.patience.left (g.S.Shelf.device c.args.shelf.now) (g.S.Shelf.device c.record.new.shelf) (g.S.Shelf.device c.record-2.new.shelf) c.in-Ended.buf (begun.Ended c.in-Ended-record.buf) many one
+    ((λ d target. still_stands b fits TheDescriptor TheStatus (g.S.Shelf.device c.record.new.shelf) (g.S.Shelf.device c.record-2.new.shelf) d (λ e. absurd (cc (e))) keeps (many.how.stand.0 d target)), tt)) in
+    subst (λ (forget : Bool). ManyGives b (again_order forget) c.args.buf.number c.args.patience.now.left c.record-2.new.patience.left (g.S.Shelf.device c.args.shelf.now) (g.S.Shelf.device c.record-2.new.shelf) (begun.Ended c.in-Ended-record.buf)) (sym c.if-forget.false) many

@@ -1,0 +1,10 @@
+pub mod Searches
+pub mod Groups
+pub mod Rows
+pub mod Seeing
+pub mod Entries
+pub mod Counts
+pub mod Composing
+pub mod Keeping
+pub mod Midst
+pub mod Starting

@@ -1,0 +1,128 @@
+-- The two steps in which a group is made on a shelf: its disks are read, and its records are written.
+use Rattle.std.specs.Prelude.{◌≡◌, ℕ, ◌<◌, ◌≤◌, Bool, true, false, if◌then◌else◌, Result, Ok, Err}
+use Rattle.lvm_disk.specs.Device.{Device}
+use Rattle.lvm_vol.specs.Log.{Log, cut_log}
+use Rattle.lvm_quorum.specs.declared.homes.Homes.{Homes}
+use Rattle.lvm_quorum.specs.Written.{IsDarkened, IsGivenUp}
+use Rattle.lvm_survey.specs.Surveying.{IsUnwritten, IsRested, IsCutOff, IsStuck}
+use Rattle.lvm_begin.specs.Beginning.{Beginning, new_order, IsOfParts, AllStand}
+use Rattle.lvm_begin.specs.Ends.{BothFlip, HasNoFault, StopsAt, IsFirstFailed, WasTried}
+use Rattle.lvm_core.specs.declared.refused.Cause.{Cause}
+use Rattle.lvm_core.specs.declared.refused.Cause.TheVariants as cause
+use Rattle.lvm_core.specs.declared.parts.Room.{Room}
+use Rattle.lvm_core.specs.Starting.{IsReservedFor}
+use Rattle.lvm_group.specs.declared.look.Free.{Free}
+use Rattle.lvm_group.specs.declared.make.Standing.{Standing}
+use Rattle.lvm_group.specs.NewGroup.{NewGroup, among, size_for, new_group, new_status, given_up}
+use Rattle.lvm_group.specs.Made.{beginning_for, IsAsBefore}
+use Rattle.lvm_group.specs.Shown.{IfShown, HasGroup, ShowsEarlier, IsClockBack, IsUnread, AllRead, IsClear, SparesTold, last_moment}
+
+-- ---- the disks are read
+
+-- nothing was written, and nothing is out
+pub record HasOnlyRead (old new : Device) : Type 0 where
+  pub unwritten : IsUnwritten old new
+  pub rested : IsRested old new
+
+-- What was found lets a group be made at the moment: the slots that come next, and the buffer again, which has number 0.
+pub record IsFree (force : Bool) (moment : ℕ) (old new : Device) (free : Free) : Type 0 where
+  pub reads : HasOnlyRead old new
+  pub read : AllRead old new
+  pub no_group : IfShown old (λ c. HasGroup c force → ⊥)
+  pub first : moment < last_moment
+  pub later : IfShown old (λ c. ShowsEarlier c moment)
+  pub spares : SparesTold free.homes old
+  pub buffer : free.buf.number ≡ 0
+
+-- it doesn't, or it wasn't found out
+abbrev pub RefusesFound : Bool → ℕ → ℕ → Device → Device → Cause → Type 0
+RefusesFound force moment patience old new (cause.DiskFailed disk) = HasOnlyRead old new × IsUnread old new disk
+RefusesFound force moment patience old new cause.GroupExists = HasOnlyRead old new × AllRead old new × IfShown old (λ c. HasGroup c force)
+RefusesFound force moment patience old new (cause.ClockBack seen) = HasOnlyRead old new × AllRead old new × IfShown old (λ c. HasGroup c force → ⊥) × IsClockBack old moment seen
+RefusesFound force moment patience old new cause.Dark = IsUnwritten old new × IsCutOff old new
+RefusesFound force moment patience old new cause.Stuck = IsUnwritten old new × IsStuck 0 patience old new
+RefusesFound force moment patience old new cause.Memory = HasOnlyRead old new
+RefusesFound force moment patience old new (cause.NoDisk disk) = ⊥
+RefusesFound force moment patience old new (cause.TooMany limit) = ⊥
+RefusesFound force moment patience old new (cause.TooSmall disk) = ⊥
+RefusesFound force moment patience old new cause.HistoryFull = ⊥
+RefusesFound force moment patience old new cause.NoRecord = ⊥
+RefusesFound force moment patience old new cause.Ambiguous = ⊥
+RefusesFound force moment patience old new (cause.NoQuorum have total) = ⊥
+
+abbrev pub LookGives : Bool → ℕ → ℕ → Device → Device → Result Free Cause → Type 0
+LookGives force moment patience old new (Ok free) = IsFree force moment old new free
+LookGives force moment patience old new (Err why) = RefusesFound force moment patience old new why
+
+-- ---- the records are written
+
+-- all of them stand on each disk
+pub record AreWritten (b : Beginning) (old new : Device) : Type 0 where
+  pub stand : AllStand b new_order new
+  pub well : HasNoFault old new
+  pub rested : IsRested old new
+
+-- one of them failed on a disk
+pub record FailsOn (b : Beginning) (old new : Device) (disk : ℕ) : Type 0 where
+  pub first : IsFirstFailed b.targets old new disk
+  pub stops : StopsAt b new_order old new (WasTried b old new)
+  pub rested : IsRested old new
+
+-- they weren't all written
+abbrev pub BreaksOff : Beginning → ℕ → Device → Device → Cause → Type 0
+BreaksOff b patience old new (cause.DiskFailed disk) = FailsOn b old new disk
+BreaksOff b patience old new cause.Dark = IsDarkened 0 old new × StopsAt b new_order old new (λ hand. Unit {0})
+BreaksOff b patience old new cause.Stuck = IsGivenUp 0 patience old new × StopsAt b new_order old new (λ hand. Unit {0})
+BreaksOff b patience old new (cause.NoDisk disk) = ⊥
+BreaksOff b patience old new (cause.TooMany limit) = ⊥
+BreaksOff b patience old new (cause.TooSmall disk) = ⊥
+BreaksOff b patience old new cause.GroupExists = ⊥
+BreaksOff b patience old new cause.NoRecord = ⊥
+BreaksOff b patience old new cause.Ambiguous = ⊥
+BreaksOff b patience old new (cause.NoQuorum have total) = ⊥
+BreaksOff b patience old new (cause.ClockBack seen) = ⊥
+BreaksOff b patience old new cause.HistoryFull = ⊥
+BreaksOff b patience old new cause.Memory = ⊥
+
+-- how the writes ended, with the slots that then come next
+abbrev pub WriteGives : Beginning → ℕ → Device → Device → Homes → Result (Unit {0}) Cause → Type 0
+WriteGives b patience old new next (Ok done) = AreWritten b old new × BothFlip b.targets b.homes next
+WriteGives b patience old new next (Err why) = BreaksOff b patience old new why
+
+-- ---- after a power cut
+
+abbrev pub is_dark : Cause → Bool
+is_dark cause.Dark = true
+is_dark cause.Stuck = false
+is_dark (cause.DiskFailed disk) = false
+is_dark (cause.NoDisk disk) = false
+is_dark (cause.TooMany limit) = false
+is_dark (cause.TooSmall disk) = false
+is_dark cause.GroupExists = false
+is_dark cause.NoRecord = false
+is_dark cause.Ambiguous = false
+is_dark (cause.NoQuorum have total) = false
+is_dark (cause.ClockBack seen) = false
+is_dark cause.HistoryFull = false
+is_dark cause.Memory = false
+
+-- the history, with a cut where the power is off
+abbrev pub cut_at : {T : Type 0} → Result T Cause → Log → Log
+cut_at (Ok value) log = log
+cut_at (Err why) log = if is_dark why then cut_log log else log
+
+-- ---- all of it
+
+-- The records of the new group stand on each disk named, and its session may start, with these parts and slots.
+pub record Stands (w : NewGroup) (room : Room) (was is : Log) (old new : Device) (standing : Standing) : Type 0 where
+  pub clear : IsClear w was old new
+  pub homes : Homes
+  pub spares : SparesTold homes old
+  pub size : 1 ≤ size_for old.sizes w.disks w.mib
+  pub stand : AllStand (beginning_for old.sizes w homes) new_order new
+  pub only : IsAsBefore w (IsOfParts (beginning_for old.sizes w homes) new_order) old new
+  pub well : HasNoFault old new
+  pub rested : IsRested old new
+  pub parts : IsReservedFor (new_group old.sizes w) (new_status w) room standing.parts
+  pub flips : BothFlip (among w.disks) homes standing.homes
+  pub entered : is ≡ given_up was w.disks

@@ -1,0 +1,59 @@
+//! The disks are read, and what they show is judged.
+ghost use Rattle.std.specs.Prelude.{◌≡◌, ◌≢◌, ◌-◌, ◌≤◌};
+ghost use Rattle.lvm_disk.specs.Counts.{RoseBy};
+ghost use Rattle.lvm_disk.specs.Device.{IsReady};
+ghost use Rattle.lvm_disk.specs.Images.{LeavesNoMore};
+ghost use Rattle.lvm_disk.specs.Paths.{DeviceStep, Path};
+ghost use Rattle.lvm_survey.specs.Surveying.{IsUnwritten};
+ghost use Rattle.lvm_group.specs.Steps.{LookGives};
+
+use crate::judge::judge;
+use lvm_core::Cause;
+use lvm_disk::Shelf;
+use lvm_move::Patience;
+use lvm_num::Pbuf;
+use lvm_quorum::{Homes, Surveyed, survey_disks};
+use std::alloc::Global;
+
+// The number of the buffer in which records are read and written.
+const BUFFER: u32 = 0;
+
+/// What a group is begun with on disks that let one be made: the slots that come next, and a buffer.
+#[derive(Drop)]
+pub struct Free {
+    pub homes: Homes,
+    pub buf: Pbuf,
+}
+
+/// Reads the records of all disks, and judges whether a group may be made of them at the moment.
+pub fn look<S: Shelf>(
+    alloc: Global,
+    shelf: &mut S,
+    force: bool,
+    moment: u64,
+    patience: &mut Patience,
+) -> Result<Free, Cause>
+    requires ready { IsReady (S.device shelf.old) }
+    requires moment { moment ≢ 0 }
+    ensures gives { LookGives force moment patience.old.left (S.device shelf.old) (S.device shelf.new) result }
+    ensures unwritten { IsUnwritten (S.device shelf.old) (S.device shelf.new) }
+    ensures patience { patience.new.left ≤ patience.old.left }
+    ensures waited { RoseBy (patience.old.left - patience.new.left) (S.device shelf.old).counts.waits (S.device shelf.new).counts.waits }
+    ensures moments { Path DeviceStep (LeavesNoMore (S.device shelf.old)) (S.device shelf.old) (S.device shelf.new) }
+{
+    let Ok(buf) = Pbuf::fresh(alloc, BUFFER) else {
+        return Err(Cause::Memory);
+    };
+    match survey_disks(alloc, shelf, buf, patience) {
+        Surveyed::Ended { survey, buf } => {
+            judge(&survey, force, moment)?;
+            Ok(Free {
+                homes: Homes::of(&survey),
+                buf,
+            })
+        }
+        Surveyed::Dark => Err(Cause::Dark),
+        Surveyed::Stuck => Err(Cause::Stuck),
+        Surveyed::Memory { buf: _ } => Err(Cause::Memory),
+    }
+}

@@ -1,0 +1,105 @@
+//! The steps by which a group is made, up to its being on.
+ghost use Rattle.std.specs.Prelude.{◌≡◌, ◌≢◌, ◌-◌, ◌+◌, ◌≤◌, ℕ, length, IfOk, IfErr, IsTrue, AllPairs};
+ghost use Rattle.std.specs.Option.{ForSome};
+ghost use Rattle.lvm_num.specs.Descriptor.{is_size};
+ghost use Rattle.lvm_disk.specs.Counts.{RoseBy};
+ghost use Rattle.lvm_disk.specs.Device.{IsReady};
+ghost use Rattle.lvm_vol.specs.Log.{spare_entries};
+ghost use Rattle.lvm_stamps.specs.Behind.{IsBehind, ClockIsAhead};
+ghost use Rattle.lvm_kept.specs.Moments.{StaysCalm};
+ghost use Rattle.lvm_change.specs.Moments.{Keeps};
+ghost use Rattle.lvm_change.specs.Requests.{at};
+ghost use Rattle.lvm_core.specs.Held.{IsHeld};
+ghost use Rattle.lvm_core.specs.Sound.{HaveAllLanded};
+ghost use Rattle.lvm_core.specs.Starting.{IsRoom, first_core};
+ghost use Rattle.lvm_group.specs.NewGroup.{NewGroup, given_up};
+ghost use Rattle.lvm_group.specs.Made.{Refuses};
+ghost use Rattle.lvm_group.specs.Steps.{cut_at, Stands};
+
+use crate::checks::size_to_begin;
+use crate::look::{Free, look};
+use crate::plan::Plan;
+use crate::write::write;
+use lvm_core::{Cause, Parts, Room};
+use lvm_disk::Shelf;
+use lvm_move::Patience;
+use lvm_num::{Memory, Name};
+use lvm_quorum::Homes;
+use lvm_vol::{Entry, History, Vol};
+use std::alloc::Global;
+
+/// What the session of a group that was made starts with: its parts, and the slots that come next.
+#[derive(Drop)]
+pub struct Standing {
+    pub parts: Parts,
+    pub homes: Homes,
+}
+
+/// Makes a group up to its being on. A power cut is entered.
+pub fn make<S: Shelf>(
+    alloc: Global,
+    shelf: &mut S,
+    history: &mut History,
+    name: Name,
+    mib: Option<u16>,
+    disks: &[u16],
+    force: bool,
+    moment: u64,
+    room: Room,
+    patience: &mut Patience,
+) -> Result<Standing, Cause>
+    requires ready { IsReady (S.device shelf.old) }
+    requires landed { HaveAllLanded history.old.facts }
+    requires a_disk { 1 ≤ length disks.now }
+    requires differ { AllPairs (λ a b. a ≢ b) disks.now }
+    requires size { ForSome mib (λ given. IsTrue (is_size given)) }
+    requires moment { moment ≢ 0 }
+    requires room { IsRoom room }
+    ensures made { IfOk result (λ standing. Stands (record { name = name; mib = mib; disks = disks.now; force = force; moment = moment }) room history.old history.new (S.device shelf.old) (S.device shelf.new) standing) }
+    ensures refused { IfErr result (λ cause. Refuses (record { name = name; mib = mib; disks = disks.now; force = force; moment = moment }) patience.old.left history.old history.new (S.device shelf.old) (S.device shelf.new) cause) }
+    ensures held { ClockIsAhead history.old.run moment (S.device shelf.old) history.old.facts → IfOk result (λ standing. IsHeld (S.device shelf.new) (first_core standing.parts history.new (record { epoch = moment; seq = 2 }) standing.homes)) }
+    // whatever the answer
+    ensures keeps { ClockIsAhead history.old.run moment (S.device shelf.old) history.old.facts → Keeps history.old.run (at (S.device shelf.old) history.old.facts) (at (S.device shelf.new) history.new.facts) }
+    ensures calm { StaysCalm (at (S.device shelf.old) history.old.facts) (at (S.device shelf.new) history.new.facts) }
+    ensures behind { ClockIsAhead history.old.run moment (S.device shelf.old) history.old.facts → IsBehind (moment + 1) (S.device shelf.new) }
+    ensures patience { patience.new.left ≤ patience.old.left }
+    ensures waited { RoseBy (patience.old.left - patience.new.left) (S.device shelf.old).counts.waits (S.device shelf.new).counts.waits }
+{
+    let size = size_to_begin(shelf, history.spare_entries(), disks, mib)?;
+    let plan = match Plan::new(alloc, shelf, name, size, disks, moment, room) {
+        Ok(plan) => plan,
+        Err(Memory) => return Err(Cause::Memory),
+    };
+    let found = look(alloc, shelf, force, moment, patience);
+    enter_cut(history, &found);
+    let Free { mut homes, buf } = found?;
+    give_up(history, disks);
+    let written = write(shelf, &plan, moment, &mut homes, buf, patience);
+    enter_cut(history, &written);
+    written?;
+    Ok(Standing {
+        parts: plan.parts,
+        homes,
+    })
+}
+
+// Enters a cut where the power is off.
+fn enter_cut<T>(history: &mut History, answer: &Result<T, Cause>)
+    ensures { history.new ≡ cut_at answer.now history.old }
+{
+    if let Err(Cause::Dark) = answer {
+        history.cut();
+    }
+}
+
+// Enters that the contents of the disks are given up.
+fn give_up(history: &mut History, disks: &[u16])
+    requires { length disks.now ≤ spare_entries history.old }
+    ensures { history.new ≡ given_up history.old disks.now }
+{
+    for disk in disks {
+        history.push(Entry::Removed {
+            vol: Vol::Disk(*disk),
+        });
+    }
+}

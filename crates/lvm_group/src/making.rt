@@ -1,0 +1,90 @@
+//! The making of a group.
+ghost use Rattle.std.specs.Prelude.{◌≡◌, ◌≢◌, ◌-◌, ◌+◌, ◌≤◌, ℕ, length, IfOk, IsTrue, AllPairs};
+ghost use Rattle.std.specs.Option.{ForSome};
+ghost use Rattle.lvm_num.specs.Descriptor.{is_size};
+ghost use Rattle.lvm_disk.specs.Counts.{RoseBy};
+ghost use Rattle.lvm_disk.specs.Device.{IsReady};
+ghost use Rattle.lvm_stamps.specs.Behind.{IsBehind, ClockIsAhead};
+ghost use Rattle.lvm_kept.specs.Moments.{StaysCalm};
+ghost use Rattle.lvm_change.specs.Moments.{Keeps};
+ghost use Rattle.lvm_change.specs.Requests.{at};
+ghost use Rattle.lvm_core.specs.Held.{IsHeld};
+ghost use Rattle.lvm_core.specs.Sound.{HaveAllLanded};
+ghost use Rattle.lvm_core.specs.Starting.{IsRoom};
+ghost use Rattle.lvm_group.specs.NewGroup.{NewGroup};
+ghost use Rattle.lvm_group.specs.Made.{MkvgGives, shelf_left, history_left};
+
+use crate::make::make;
+use lvm_core::{Driver, Refused, Room};
+use lvm_disk::Shelf;
+use lvm_move::Patience;
+use lvm_num::{Name, Stamp};
+use lvm_vol::History;
+use std::alloc::Global;
+
+/// Makes a group of the disks named, in their order, and varies it on at the moment, which is its id too. Without a size
+/// in MiB its partitions are as small as the largest of the disks lets them be. With `force` groups without volumes give
+/// way. All memory is taken before the first write, and the contents of the disks are given up just then.
+///
+/// The causes, in their order: `NoDisk`, the first disk named that isn't there; `TooMany`, above 32; `TooSmall`, the first
+/// on which no partition fits; `HistoryFull`, fewer entries to spare than the disks and one; of the survey of all disks
+/// `Dark`, `Stuck`, and `DiskFailed`, the lowest that couldn't be read; `GroupExists`, where a disk shows a group, or with
+/// force one that has a volume; `ClockBack`, where the moment isn't later than the last that the disks show, or is the last
+/// that there is; and from the first write on `Dark`, `Stuck`, and `DiskFailed`, the lowest that couldn't be written.
+/// `Memory` may come before the first write.
+pub fn mkvg<S: Shelf>(
+    alloc: Global,
+    shelf: S,
+    history: History,
+    name: Name,
+    mib: Option<u16>,
+    disks: &[u16],
+    force: bool,
+    moment: u64,
+    room: Room,
+    patience: &mut Patience,
+) -> Result<Driver<S>, Refused<S>>
+    requires ready { IsReady (S.device shelf) }
+    requires landed { HaveAllLanded history.facts }
+    requires a_disk { 1 ≤ length disks.now }
+    requires differ { AllPairs (λ a b. a ≢ b) disks.now }
+    requires size { ForSome mib (λ given. IsTrue (is_size given)) }
+    requires moment { moment ≢ 0 }
+    requires room { IsRoom room }
+    ensures gives { MkvgGives S.device (record { name = name; mib = mib; disks = disks.now; force = force; moment = moment }) room patience.old.left history (S.device shelf) result }
+    ensures held { ClockIsAhead history.run moment (S.device shelf) history.facts → IfOk result (λ driver. IsHeld (S.device driver.0) driver.1) }
+    // whatever the answer
+    ensures keeps { ClockIsAhead history.run moment (S.device shelf) history.facts → Keeps history.run (at (S.device shelf) history.facts) (at (S.device (shelf_left result)) (history_left result).facts) }
+    ensures calm { StaysCalm (at (S.device shelf) history.facts) (at (S.device (shelf_left result)) (history_left result).facts) }
+    ensures behind { ClockIsAhead history.run moment (S.device shelf) history.facts → IsBehind (moment + 1) (S.device (shelf_left result)) }
+    ensures patience { patience.new.left ≤ patience.old.left }
+    ensures waited { RoseBy (patience.old.left - patience.new.left) (S.device shelf).counts.waits (S.device (shelf_left result)).counts.waits }
+{
+    let mut shelf = shelf;
+    let mut history = history;
+    match make(
+        alloc,
+        &mut shelf,
+        &mut history,
+        name,
+        mib,
+        disks,
+        force,
+        moment,
+        room,
+        patience,
+    ) {
+        Ok(standing) => {
+            let stamp = Stamp {
+                epoch: moment,
+                seq: 2,
+            };
+            Ok(Driver::start(standing.parts, shelf, history, stamp, standing.homes))
+        }
+        Err(cause) => Err(Refused {
+            shelf,
+            history,
+            cause,
+        }),
+    }
+}

@@ -1,0 +1,15 @@
+pub mod Texts
+pub mod Going
+pub mod Cutting
+pub mod Passive
+pub mod Coming
+pub mod Ranging
+pub mod Varying
+pub mod Making
+pub mod Staging
+pub mod Closing
+pub mod Asking
+pub mod Lining
+pub mod Causing
+pub mod Listing
+pub mod Ordering

@@ -1,0 +1,51 @@
+-- Lines, by how they are read.
+use Rattle.std.proofs.Common.{◌≡◌, ℕ, List, Option, Some, None, Result, Ok, Err, refl, sym, ◌∙◌, ap, subst}
+use Rattle.lvm_vol.specs.Log.{Log}
+use Rattle.lvm_disk.specs.Device.{Orders}
+use Rattle.lvm_parse.specs.declared.command.Command.{Command}
+use Rattle.lvm_parse.specs.declared.command.Command.TheVariants as command
+use Rattle.lvm_parse.specs.declared.rest.Misfit.{Misfit}
+use Rattle.lvm_parse.specs.Grammar.{line_of}
+use Rattle.lvm_parse.specs.Rests.{IsMkvgLine}
+use Rattle.lvm_core.specs.declared.parts.Room.{Room}
+use Rattle.lvm_line.specs.Groups.{IsAsked, NoMemoryForLine}
+use Rattle.lvm_line.specs.Lines.{CommandDoes, LineDoes, IsLine, IsOrder}
+use Rattle.lvm_line.specs.Moments.{GoesOn}
+use Rattle.lvm_line.specs.State.{State, IsSettled}
+use Rattle.lvm_line.specs.declared.reply.Refusal.TheVariants as refusal
+use Rattle.lvm_line.specs.declared.reply.Reply.{Reply}
+use Rattle.lvm_line.specs.declared.reply.Reply.TheVariants as reply
+use Rattle.lvm_line.proofs.Going.{same_goes, asked_goes}
+
+-- a line that is read so
+pub line_read :
+    (log : Log) (room : Room) (line : List ℕ) (read : Result (Option Command) Misfit) (answer : Reply) (old new : State) → line_of line ≡ read → LineDoes log room read old new answer → GoesOn log.run answer old new
+    → ((IsOrder read → ⊥) → new.moment.device.orders ≡ old.moment.device.orders) → IsLine log room line answer old new
+line_read log room line read answer old new is does goes orders = record {
+  does = subst (λ (r : Result (Option Command) Misfit). LineDoes log room r old new answer) (sym is) does;
+  goes = goes;
+  orders = subst (λ (r : Result (Option Command) Misfit). (IsOrder r → ⊥) → new.moment.device.orders ≡ old.moment.device.orders) (sym is) orders;
+}
+
+-- a line that changes nothing
+pub line_still :
+    (log : Log) (room : Room) (line : List ℕ) (read : Result (Option Command) Misfit) (answer : Reply) (old new : State) → line_of line ≡ read → LineDoes log room read old new answer → IsSettled old.moment old.session → new ≡ old
+    → IsLine log room line answer old new
+line_still log room line read answer old new is does settled same =
+    line_read log room line read answer old new is does (same_goes log.run answer old new settled same) (λ no_order. ap (λ (s : State). s.moment.device.orders) same)
+
+-- a line for which no memory was found
+pub line_unread : (log : Log) (room : Room) (line : List ℕ) (answer : Reply) (old new : State) → IsMkvgLine (line_of line) → answer ≡ reply.Refused refusal.Memory → IsAsked old new → IsSettled old.moment old.session → IsLine log room line answer old new
+line_unread log room line answer old new mkvg says asked settled = record {
+  does = of_mkvg (line_of line) mkvg;
+  goes = asked_goes log.run answer old new settled asked;
+  orders = λ no_order. ap (λ (s : State). s.moment.device.orders) asked.same;
+}
+  where
+    of_mkvg : (read : Result (Option Command) Misfit) → IsMkvgLine read → LineDoes log room read old new answer
+    of_mkvg (Ok (Some (command.Mkvg force name mib disks))) is = NoMemoryForLine says asked
+    of_mkvg read is = absurd is
+
+-- a command that is this one
+pub of_command : (log : Log) (room : Room) (it other : Command) (old new : State) (answer : Reply) → it ≡ other → CommandDoes log room other old new answer → CommandDoes log room it old new answer
+of_command log room it other old new answer is does = subst (λ (c : Command). CommandDoes log room c old new answer) (sym is) does

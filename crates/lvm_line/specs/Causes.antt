@@ -1,0 +1,54 @@
+-- What has happened where a line is refused for it.
+use Rattle.std.specs.Prelude.{◌≡◌, ◌⊎◌, ◌≤◌, ℕ, List, Option, Some, None, Result, Ok, Err}
+use Rattle.lvm_disk.specs.Counts.{Rose, RoseBy}
+use Rattle.lvm_parse.specs.declared.command.Command.{Command}
+use Rattle.lvm_parse.specs.declared.command.Command.TheVariants as command
+use Rattle.lvm_parse.specs.declared.rest.Misfit.{Misfit}
+use Rattle.lvm_parse.specs.Grammar.{line_of}
+use Rattle.lvm_vol.specs.Log.{Log}
+use Rattle.lvm_core.specs.declared.parts.Room.{Room}
+use Rattle.lvm_core.specs.State.{Core}
+use Rattle.lvm_varyon.specs.Varied.{IsRestated}
+use Rattle.lvm_line.specs.Disks.{patience_of_line}
+use Rattle.lvm_line.specs.Lines.{IsLine}
+use Rattle.lvm_line.specs.State.{State, IsTimely}
+use Rattle.lvm_line.specs.declared.reply.Refusal.{Refusal}
+use Rattle.lvm_line.specs.declared.reply.Refusal.TheVariants as refusal
+use Rattle.lvm_line.specs.declared.reply.Reply.TheVariants as reply
+
+-- the disk that a line reads or writes
+abbrev pub disk_of : Result (Option Command) Misfit → Option ℕ
+disk_of (Ok (Some (command.RawRd disk at count))) = Some disk
+disk_of (Ok (Some (command.RawWr disk at count word))) = Some disk
+disk_of other = None
+
+-- a count of this disk has risen
+abbrev pub RoseOn : Option ℕ → (ℕ → ℕ) → (ℕ → ℕ) → Type 0
+RoseOn (Some disk) old new = Rose (old disk) (new disk)
+RoseOn None old new = ⊥
+
+-- Transfers of the line's disk have failed; the power was cut; the shelf waited a million times; transfers of the disk that is named have failed; or the
+-- clock's moment isn't later than the one that is told. For the other refusals nothing has to have happened.
+abbrev pub HasCause : Result (Option Command) Misfit → Refusal → State → State → Type 0
+HasCause read refusal.Lost old new = RoseOn (disk_of read) old.moment.device.counts.faults new.moment.device.counts.faults
+HasCause read refusal.ReadFailed old new = RoseOn (disk_of read) old.moment.device.counts.faults new.moment.device.counts.faults
+HasCause read refusal.Dark old new = Rose old.moment.device.counts.cuts new.moment.device.counts.cuts
+HasCause read refusal.Stuck old new = RoseBy patience_of_line old.moment.device.counts.waits new.moment.device.counts.waits
+HasCause read (refusal.DiskFailed disk) old new =
+    Rose (old.moment.device.counts.misses disk) (new.moment.device.counts.misses disk) ⊎ Rose (old.moment.device.counts.faults disk) (new.moment.device.counts.faults disk)
+HasCause read (refusal.ClockBack seen) old new = new.last ≤ seen
+HasCause read other old new = Unit {0}
+
+-- Within each line that is refused for what its shelf or the clock did, that has happened.
+abbrev pub CauseLaw : Type 0
+CauseLaw = (log : Log) (room : Room) (line : List ℕ) (why : Refusal) (old new : State) → IsLine log room line (reply.Refused why) old new → HasCause (line_of line) why old new
+
+-- A group that a line has varied on is on, with its records and data as they should be, where the clock's moments rise.
+abbrev pub VaryonLaw : Type 0
+VaryonLaw =
+    (log : Log) (room : Room) (line name : List ℕ) (old new : State) → line_of line ≡ Ok (Some (command.Varyon name)) → IsLine log room line reply.Ok old new → IsTimely log.run old
+    → (core : Core) × (new.session ≡ Some core) × IsRestated old.moment.device new.moment.device core.descriptor
+
+-- Where the quorum is lacking nothing was written.
+abbrev pub NoQuorumLaw : Type 0
+NoQuorumLaw = (log : Log) (room : Room) (line : List ℕ) (have total : ℕ) (old new : State) → IsLine log room line (reply.Refused (refusal.NoQuorum have total)) old new → new.moment.device.wrote ≡ old.moment.device.wrote

@@ -1,0 +1,77 @@
+-- What one line of a script does.
+use Rattle.std.specs.Prelude.{◌≡◌, ◌≢◌, ◌≤◌, ℕ, List, Option, Some, None, Result, Ok, Err, IsSome, IsTrue, length, AllPairs}
+use Rattle.std.specs.Option.{ForSome}
+use Rattle.lvm_num.specs.Descriptor.{is_size}
+use Rattle.lvm_disk.specs.declared.shelf.Arrange.TheVariants as arrange
+use Rattle.lvm_vol.specs.Log.{Log}
+use Rattle.lvm_parse.specs.declared.command.Command.{Command}
+use Rattle.lvm_parse.specs.declared.command.Command.TheVariants as command
+use Rattle.lvm_parse.specs.declared.rest.Misfit.{Misfit}
+use Rattle.lvm_parse.specs.Grammar.{line_of}
+use Rattle.lvm_core.specs.declared.parts.Room.{Room}
+use Rattle.lvm_core.specs.State.{Core}
+use Rattle.lvm_line.specs.Disks.{ReadDoes, WriteDoes}
+use Rattle.lvm_line.specs.Groups.{MkvgDoes, VaryonDoes, VaryoffDoes}
+use Rattle.lvm_line.specs.Listings.{IsOn, IsNotOn, GroupShows, VolumeShows, DiskShows}
+use Rattle.lvm_line.specs.Moments.{GoesOn}
+use Rattle.lvm_line.specs.Replies.{IsRefused}
+use Rattle.lvm_line.specs.Shelves.{ArrangeDoes, CutDoes}
+use Rattle.lvm_line.specs.State.{State}
+use Rattle.lvm_line.specs.declared.reply.Refusal.TheVariants as refusal
+use Rattle.lvm_line.specs.declared.reply.Reply.{Reply}
+use Rattle.lvm_line.specs.declared.reply.Reply.TheVariants as reply
+
+-- what the grammar says of the numbers and disks of a command
+abbrev pub IsWithin : Command → Type 0
+IsWithin (command.Mkvg force name mib disks) = (1 ≤ length disks) × AllPairs (λ a b. a ≢ b) disks × ForSome mib (λ given. IsTrue (is_size given))
+IsWithin (command.RawRd disk at count) = (1 ≤ count) × (count ≤ 4096)
+IsWithin (command.RawWr disk at count word) = (1 ≤ count) × (count ≤ 4096)
+IsWithin other = Unit {0}
+
+-- `mklv` and `rmlv`, which aren't done yet where a group is on
+pub data MklvDoes (group : List ℕ) (old new : State) (answer : Reply) : Type 0 where
+  NoGroupForMklv : IsNotOn group old.session → IsRefused refusal.NoGroup answer old new → MklvDoes group old new answer
+  MklvIsNotDone : (core : Core) → old.session ≡ Some core → IsOn group core → IsRefused (refusal.BadLine 1) answer old new → MklvDoes group old new answer
+
+pub data RmlvDoes (old new : State) (answer : Reply) : Type 0 where
+  NoGroupForRmlv : old.session ≡ None → IsRefused refusal.NoGroup answer old new → RmlvDoes old new answer
+  RmlvIsNotDone : IsSome old.session → IsRefused (refusal.BadLine 1) answer old new → RmlvDoes old new answer
+
+-- a listing leaves the whole state
+abbrev pub IsListed : State → State → Type 0 → Type 0
+IsListed old new Shows = Shows × (new ≡ old)
+
+-- what a command does
+abbrev pub CommandDoes : Log → Room → Command → State → State → Reply → Type 0
+CommandDoes log room (command.Mkvg force name mib disks) old new answer = MkvgDoes log room force name mib disks old new answer
+CommandDoes log room (command.Varyon name) old new answer = VaryonDoes log room name old new answer
+CommandDoes log room (command.Varyoff name) old new answer = VaryoffDoes name old new answer
+CommandDoes log room (command.Lsvg volumes name) old new answer = IsListed old new (GroupShows volumes name old.session answer)
+CommandDoes log room (command.Mklv name copies mode policy group lps) old new answer = MklvDoes group old new answer
+CommandDoes log room (command.Rmlv name) old new answer = RmlvDoes old new answer
+CommandDoes log room (command.Lslv name) old new answer = IsListed old new (VolumeShows name old.session answer)
+CommandDoes log room (command.Lspv disk) old new answer = IsListed old new (DiskShows disk (length old.moment.device.sizes) old.session answer)
+CommandDoes log room (command.RawRd disk at count) old new answer = ReadDoes log disk at count old new answer
+CommandDoes log room (command.RawWr disk at count word) old new answer = WriteDoes log disk at count word old new answer
+CommandDoes log room (command.Fail disk) old new answer = ArrangeDoes disk (arrange.Fail disk) old new answer
+CommandDoes log room (command.Heal disk) old new answer = ArrangeDoes disk (arrange.Heal disk) old new answer
+CommandDoes log room (command.Cut word) old new answer = CutDoes log word old new answer
+
+-- what a line does that is read so: a line without a word, and a remark, do nothing
+abbrev pub LineDoes : Log → Room → Result (Option Command) Misfit → State → State → Reply → Type 0
+LineDoes log room (Ok None) old new answer = (answer ≡ reply.Silent) × (new ≡ old)
+LineDoes log room (Ok (Some c)) old new answer = CommandDoes log room c old new answer
+LineDoes log room (Err misfit) old new answer = IsRefused (refusal.BadLine misfit.column) answer old new
+
+-- `fail`, `heal` and `cut`, which alone arrange something
+abbrev pub IsOrder : Result (Option Command) Misfit → Type 0
+IsOrder (Ok (Some (command.Fail disk))) = Unit {0}
+IsOrder (Ok (Some (command.Heal disk))) = Unit {0}
+IsOrder (Ok (Some (command.Cut word))) = Unit {0}
+IsOrder other = ⊥
+
+-- a line joins two states
+pub record IsLine (log : Log) (room : Room) (line : List ℕ) (answer : Reply) (old new : State) : Type 0 where
+  pub does : LineDoes log room (line_of line) old new answer
+  pub goes : GoesOn log.run answer old new
+  pub orders : (IsOrder (line_of line) → ⊥) → new.moment.device.orders ≡ old.moment.device.orders

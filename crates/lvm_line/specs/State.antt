@@ -1,0 +1,44 @@
+-- What stands between two lines of a script.
+use Rattle.std.specs.Prelude.{◌≡◌, ◌+◌, ℕ, [], List, Option, IfSome}
+use Rattle.lvm_disk.specs.Device.{Device, IsReady}
+use Rattle.lvm_vol.specs.Facts.{Fact}
+use Rattle.lvm_vol.specs.Log.{Log}
+use Rattle.lvm_kept.specs.Moments.{Moment}
+use Rattle.lvm_stamps.specs.Behind.{IsAhead}
+use Rattle.lvm_core.specs.declared.request.Power.TheVariants as power
+use Rattle.lvm_core.specs.State.{Core}
+use Rattle.lvm_core.specs.Sound.{IsQuiet, HaveAllLanded}
+use Rattle.lvm_core.specs.Held.{IsHeld}
+
+-- The shelf, what the history has so far, the session of the group that is on, if one is, and the clock's last moment.
+pub record State : Type 0 where
+  pub moment : Moment
+  pub session : Option Core
+  pub last : ℕ
+
+-- the history with these entries
+abbrev pub log_with : Log → List Fact → Log
+log_with log facts = record log { facts = facts }
+
+-- the history's run and rooms alone
+abbrev pub without_facts : Log → Log
+without_facts log = log_with log []
+
+-- a session that is on, at which nothing is under way
+pub record IsIdle (core : Core) : Type 0 where
+  pub power : core.power ≡ power.On
+  pub quiet : IsQuiet core
+
+-- nothing is under way
+pub record IsSettled (moment : Moment) (on : Option Core) : Type 0 where
+  pub ready : IsReady moment.device
+  pub landed : HaveAllLanded moment.facts
+  pub session : IfSome on IsIdle
+
+-- What stands on the disks is of sessions up to the clock's last moment, and so is the run and each group that was varied on in it.
+abbrev pub IsTimely : ℕ → State → Type 0
+IsTimely run s = IsAhead run (s.last + 1) s.moment.device s.moment.facts
+
+-- the disks of a session hold what it says is committed
+abbrev pub AreHeld : State → Type 0
+AreHeld s = IfSome s.session (λ core. IsHeld s.moment.device core)

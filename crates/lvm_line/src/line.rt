@@ -1,0 +1,114 @@
+//! One line of a script.
+ghost use Rattle.std.specs.Prelude.{◌≡◌};
+ghost use Rattle.lvm_core.specs.Starting.{IsRoom};
+ghost use Rattle.lvm_line.specs.Lines.{IsWithin, CommandDoes, IsLine, IsOrder};
+ghost use Rattle.lvm_line.specs.Moments.{GoesOn};
+ghost use Rattle.lvm_line.specs.Stages.{shelf_in, history_in, state_in, IsSettledStage};
+ghost use Rattle.lvm_line.specs.State.{without_facts};
+
+use crate::disks::{do_read, do_write};
+use crate::groups::{do_mkvg, do_varyoff, do_varyon};
+use crate::listings::{list_disk, list_group, list_volume};
+use crate::reply::{Refusal, Reply};
+use crate::shelves::{do_arrange, do_cut};
+use crate::stage::{Answered, Stage};
+use crate::volumes::{do_mklv, do_rmlv};
+use lvm_core::Room;
+use lvm_disk::{Arrange, Shelf};
+use lvm_io::Clock;
+use lvm_parse::{Command, ParseFault, parse};
+use std::alloc::Global;
+
+// Does what a command asks for.
+fn do_command<S: Shelf, C: Clock>(
+    alloc: Global,
+    stage: Stage<S>,
+    clock: &mut C,
+    room: Room,
+    command: Command,
+) -> Answered<S>
+    requires settled { IsSettledStage S.device stage }
+    requires room { IsRoom room }
+    requires within { IsWithin command }
+    ensures does { CommandDoes (without_facts (history_in stage)) room command (state_in S.device stage (C.last clock.old)) (state_in S.device result.stage (C.last clock.new)) result.reply }
+    ensures goes { GoesOn (history_in stage).run result.reply (state_in S.device stage (C.last clock.old)) (state_in S.device result.stage (C.last clock.new)) }
+    ensures rooms { without_facts (history_in result.stage) ≡ without_facts (history_in stage) }
+    ensures orders { (IsOrder (Ok (Some command)) → ⊥) → (S.device (shelf_in result.stage)).orders ≡ (S.device (shelf_in stage)).orders }
+{
+    match command {
+        Command::Mkvg {
+            force,
+            name,
+            mib,
+            disks,
+        } => do_mkvg(
+            alloc,
+            stage,
+            clock,
+            room,
+            force,
+            name,
+            mib,
+            disks.as_slice(),
+        ),
+        Command::Varyon { name } => do_varyon(alloc, stage, clock, room, name),
+        Command::Varyoff { name } => do_varyoff(stage, name),
+        Command::Lsvg { volumes, name } => {
+            let reply = list_group(alloc, &stage, volumes, name);
+            stage.answered(reply)
+        }
+        Command::Mklv {
+            name: _,
+            copies: _,
+            mode: _,
+            policy: _,
+            group,
+            lps: _,
+        } => do_mklv(stage, group),
+        Command::Rmlv { name: _ } => do_rmlv(stage),
+        Command::Lslv { name } => {
+            let reply = list_volume(alloc, &stage, name);
+            stage.answered(reply)
+        }
+        Command::Lspv { disk } => {
+            let reply = list_disk(alloc, &stage, disk);
+            stage.answered(reply)
+        }
+        Command::RawRd { disk, at, count } => do_read(alloc, stage, disk, at, count),
+        Command::RawWr {
+            disk,
+            at,
+            count,
+            word,
+        } => do_write(alloc, stage, disk, at, count, word),
+        Command::Fail { disk } => do_arrange(stage, disk, Arrange::Fail(disk)),
+        Command::Heal { disk } => do_arrange(stage, disk, Arrange::Heal(disk)),
+        Command::Cut { word } => do_cut(stage, word),
+    }
+}
+
+/// Does what a line, without its line feed, asks for. A `mkvg` or a `varyonvg` of the language asks the
+/// clock once, before all else.
+pub fn do_line<S: Shelf, C: Clock>(
+    alloc: Global,
+    stage: Stage<S>,
+    clock: &mut C,
+    room: Room,
+    line: &[u8],
+) -> Answered<S>
+    requires settled { IsSettledStage S.device stage }
+    requires room { IsRoom room }
+    ensures line { IsLine (without_facts (history_in stage)) room line.now result.reply (state_in S.device stage (C.last clock.old)) (state_in S.device result.stage (C.last clock.new)) }
+    ensures rooms { without_facts (history_in result.stage) ≡ without_facts (history_in stage) }
+{
+    match parse(alloc, line) {
+        Ok(None) => stage.answered(Reply::Silent),
+        Ok(Some(command)) => do_command(alloc, stage, clock, room, command),
+        Err(ParseFault::BadLine { column }) => stage.refused(Refusal::BadLine { column }),
+        // Of the lines of the language a `mkvg` alone wants memory.
+        Err(ParseFault::Memory) => {
+            let _ = clock.now();
+            stage.refused(Refusal::Memory)
+        }
+    }
+}

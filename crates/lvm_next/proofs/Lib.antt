@@ -1,0 +1,4 @@
+pub mod Counting
+pub mod RowLemmas
+pub mod MarkLemmas
+pub mod Building

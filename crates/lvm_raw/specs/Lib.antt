@@ -1,0 +1,6 @@
+pub mod Requests
+pub mod Pieces
+pub mod Keeping
+pub mod Asking
+pub mod Looking
+pub mod Raw

@@ -1,0 +1,47 @@
+-- Whether a disk is in a group, which its descriptor slots say.
+use Rattle.std.specs.Prelude.{◌≡◌, ℕ, IsSome, IfSome}
+use Rattle.lvm_disk.specs.Device.{Device, image_of}
+use Rattle.lvm_vol.specs.Log.{Log, cut_log}
+use Rattle.lvm_kept.specs.Contents.{descriptor_on}
+use Rattle.lvm_change.specs.Requests.{IsInNoGroup}
+use Rattle.lvm_move.specs.Transfer.{Relights}
+use Rattle.lvm_survey.specs.Surveying.{OnlyReads, IsUntouched, IsRested, IsCutOff, IsStuck, AllWereRead, OneFailed}
+use Rattle.lvm_raw.specs.declared.fault.RawFault.{RawFault}
+use Rattle.lvm_raw.specs.declared.fault.RawFault.TheVariants as fault
+
+-- where it is told what stands on the disks, a slot of this one holds a valid descriptor
+abbrev pub ShowsDescriptor : Device → ℕ → Type 0
+ShowsDescriptor device disk = IfSome device.media (λ media. IsSome (descriptor_on (image_of device.sizes media) disk))
+
+-- nothing but reads of this disk's records
+pub record Reads (patience disk : ℕ) (old new : Device) : Type 0 where
+  pub left : ℕ
+  pub only : OnlyReads patience left old new
+  pub elsewhere : (d : ℕ) → (d ≡ disk → ⊥) → IsUntouched d old new
+
+-- both slots were read, and the disk is in no group
+pub record FindsNone (patience disk : ℕ) (old new : Device) : Type 0 where
+  pub reads : Reads patience disk old new
+  pub all : AllWereRead disk old new
+  pub none : IsInNoGroup new disk
+
+-- the power was cut in one of the reads, and is on again
+pub record WasDark (patience disk : ℕ) (old new : Device) : Type 0 where
+  pub dark : Device
+  pub reads : Reads patience disk old dark
+  pub off : IsCutOff old dark
+  pub lit : Relights dark new
+
+-- why no request is made once the slots are read, and what that leaves of the shelf
+abbrev pub LookFails : ℕ → ℕ → Device → Device → RawFault → Type 0
+LookFails patience disk old new fault.Dark = WasDark patience disk old new
+LookFails patience disk old new fault.Stuck = Reads patience disk old new × ((number : ℕ) × IsStuck number patience old new)
+LookFails patience disk old new (fault.DiskFailed d) = (d ≡ disk) × Reads patience disk old new × OneFailed disk old new
+LookFails patience disk old new (fault.InGroup d) = (d ≡ disk) × Reads patience disk old new × AllWereRead disk old new × ShowsDescriptor old disk
+LookFails patience disk old new fault.Memory = Reads patience disk old new × IsRested old new
+LookFails patience disk old new other = ⊥
+
+-- the history then: a cut is entered where it ends something
+abbrev pub look_ends : Log → RawFault → Log
+look_ends log fault.Dark = cut_log log
+look_ends log other = log

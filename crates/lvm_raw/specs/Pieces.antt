@@ -1,0 +1,102 @@
+-- How a range of blocks of a disk is moved in pieces.
+use Rattle.std.specs.Prelude.{true, false, ◌≡◌, ◌<◌, ◌+◌, ◌-◌, ◌*◌, ◌/◌, ◌%◌, ◌^◌, ◌++◌, ◌∷◌, ℕ, List, [], Option, None, Some, unwrap_or, min, length, take, slice_get, Result, Ok, Err}
+use Rattle.lvm_num.specs.Buffer.{Buffer, Sector}
+use Rattle.lvm_num.specs.Word.{fill_of}
+use Rattle.lvm_vol.specs.Facts.{Begun}
+use Rattle.lvm_kept.specs.Moments.{Moment}
+use Rattle.lvm_kept.specs.Laws.{next_write}
+use Rattle.lvm_change.specs.Requests.{next_read}
+use Rattle.lvm_move.specs.Transfer.{flight_of}
+use Rattle.lvm_move.specs.declared.moves.Moved.{Moved}
+use Rattle.lvm_move.specs.declared.moves.Moved.TheVariants as moved
+use Rattle.lvm_raw.specs.declared.fault.RawFault.{RawFault}
+use Rattle.lvm_raw.specs.declared.fault.RawFault.TheVariants as fault
+use Rattle.lvm_raw.specs.Requests.{write_ends, read_ends, ShelfAfter, HasEnded}
+
+-- a piece from this block on ends where the range does, or at the next multiple of 256
+abbrev pub piece_end : ℕ → ℕ → ℕ
+piece_end from end = min end (256 * (from / 256 + 1))
+
+-- how many pieces a range of at least one block has
+abbrev pub piece_count : ℕ → ℕ → ℕ
+piece_count at count = (at + count - 1) / 256 - at / 256 + 1
+
+-- ---- one piece
+
+-- each block is filled with a word, the first with this one, and each other with the next, wrapping
+abbrev pub AreFilled : ℕ → List Sector → Type 0
+AreFilled word blocks = (i : ℕ) → i < length blocks → slice_get blocks i ≡ Some (fill_of ((word + i) % 2 ^ 64))
+
+-- a request of the run that writes this piece by one transfer, which ended so
+pub record WritesPiece (run disk word from count patience : ℕ) (old new : Moment) (how : Moved) : Type 0 where
+  pub sent : Buffer
+  pub long : length (take count sent.sectors) ≡ count
+  pub filled : AreFilled word (take count sent.sectors)
+  pub shelf : (ticket : ℕ) × ShelfAfter patience old.device new.device (flight_of ticket true disk from count sent) how
+  pub facts : let r = next_write run old.facts disk from count (take count sent.sectors) in new.facts ≡ write_ends (old.facts ++ Begun r ∷ []) r how
+
+-- one that reads it
+pub record ReadsPiece (run disk from count patience : ℕ) (old new : Moment) (how : Moved) : Type 0 where
+  pub sent : Buffer
+  pub shelf : (ticket : ℕ) × ShelfAfter patience old.device new.device (flight_of ticket false disk from count sent) how
+  pub facts : let r = next_read run old.facts disk from count in new.facts ≡ read_ends (old.facts ++ Begun r ∷ []) r how
+
+-- The answer once one piece more has ended so. The first that didn't end well decides, but for one of which nothing was heard.
+abbrev pub answer_after : {X : Type 0} → RawFault → (Buffer → X → X) → Moved → Result X RawFault → Result X RawFault
+answer_after failed more moved.Stuck answer = Err fault.Stuck
+answer_after failed more (moved.Done back) (Ok x) = Ok (more back x)
+answer_after failed more (moved.Done back) (Err why) = Err why
+answer_after failed more (moved.Failed back) (Ok x) = Err failed
+answer_after failed more (moved.Failed back) (Err why) = Err why
+answer_after failed more (moved.Dark started) (Ok x) = Err fault.Dark
+answer_after failed more (moved.Dark started) (Err why) = Err why
+
+-- the answer so far: what was got, if nothing has failed
+abbrev pub answer_of : {X : Type 0} → X → Option RawFault → Result X RawFault
+answer_of x None = Ok x
+answer_of x (Some why) = Err why
+
+-- what has been got, with what one piece more got
+abbrev pub grown : {X : Type 0} → (Buffer → X → X) → Moved → X → X
+grown more (moved.Done back) x = more back x
+grown more (moved.Failed back) x = x
+grown more (moved.Dark started) x = x
+grown more moved.Stuck x = x
+
+-- how a piece that ended so is settled: its buffer comes back, and the first failure is noted; or the answer is given
+abbrev pub Settles : RawFault → Moved → Option RawFault → Option RawFault → Result Buffer RawFault → Type 0
+Settles failed (moved.Done back) old new given = (given ≡ Ok back) × (new ≡ old)
+Settles failed (moved.Failed back) old new given = (given ≡ Ok back) × (new ≡ Some (unwrap_or old failed))
+Settles failed (moved.Dark started) old new given = (given ≡ Err (unwrap_or old fault.Dark)) × (new ≡ old)
+Settles failed moved.Stuck old new given = (given ≡ Err fault.Stuck) × (new ≡ old)
+
+-- the answer to writes after one more, and that to reads, with the blocks that were got
+abbrev pub write_answer : ℕ → Moved → Result (Unit {0}) RawFault → Result (Unit {0}) RawFault
+write_answer count how answer = answer_after fault.Lost (λ back done. done) how answer
+
+abbrev pub with_front : ℕ → Buffer → List Sector → List Sector
+with_front count back blocks = blocks ++ take count back.sectors
+
+abbrev pub read_answer : ℕ → Moved → Result (List Sector) RawFault → Result (List Sector) RawFault
+read_answer count how answer = answer_after fault.ReadFailed (with_front count) how answer
+
+-- ---- one after the other
+
+-- Pieces of a range, from its first block to this one, each begun once the disk had answered the one before; the moment then, and the answer so far.
+pub data PiecesGo {X : Type 0} (Piece : ℕ → ℕ → ℕ → Moment → Moment → Moved → Type 0) (answer : ℕ → Moved → X → X) (at end : ℕ) (first : Moment) (none : X) : ℕ → Moment → X → Type 0 where
+  NoPiece : PiecesGo Piece answer at end first none at first none
+  OnePiece : {from patience : ℕ} {old new : Moment} {x : X} {how : Moved} → PiecesGo Piece answer at end first none from old x → from < end → Piece from (piece_end from end - from) patience old new how → HasEnded how
+      → PiecesGo Piece answer at end first none (piece_end from end) new (answer (piece_end from end - from) how x)
+
+-- All pieces of the range go so, or up to one that the disk didn't answer.
+pub data RangeGoes {X : Type 0} (Piece : ℕ → ℕ → ℕ → Moment → Moment → Moved → Type 0) (answer : ℕ → Moved → X → X) (at end : ℕ) (first : Moment) (none : X) (last : Moment) (given : X) : Type 0 where
+  WentThrough : PiecesGo Piece answer at end first none end last given → RangeGoes Piece answer at end first none last given
+  WasBroken : {from patience : ℕ} {old : Moment} {x : X} {how : Moved} → PiecesGo Piece answer at end first none from old x → from < end → Piece from (piece_end from end - from) patience old last how → (HasEnded how → ⊥)
+      → given ≡ answer (piece_end from end - from) how x → RangeGoes Piece answer at end first none last given
+
+-- how the writes of a range go, its first block filled with this word, and how the reads of one do
+abbrev pub WritesGo : ℕ → ℕ → ℕ → ℕ → ℕ → Moment → Moment → Result (Unit {0}) RawFault → Type 0
+WritesGo run disk at count word old new answer = RangeGoes (λ from n. WritesPiece run disk (word + (from - at)) from n) write_answer at (at + count) old (Ok tt) new answer
+
+abbrev pub ReadsGo : ℕ → ℕ → ℕ → ℕ → Moment → Moment → Result (List Sector) RawFault → Type 0
+ReadsGo run disk at count old new answer = RangeGoes (λ from n. ReadsPiece run disk from n) read_answer at (at + count) old (Ok []) new answer

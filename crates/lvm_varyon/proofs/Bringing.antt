@@ -1,0 +1,204 @@
+-- The reading, the plan and the writes together.
+use Rattle.std.proofs.Common.{◌≡◌, ◌≢◌, inl, inr, ℕ, ◌+◌, ◌-◌, ◌<◌, ◌≤◌, List, Option, Some, None, refl, sym, ap, subst, ◌∙◌, arith}
+use Rattle.std.proofs.lemmas.Bool.{cases_lt}
+use Rattle.std.specs.Prelude.{IsTrue, not, ◌^◌, IfSome}
+use Rattle.lvm_num.specs.declared.descriptor.Descriptor.{Descriptor}
+use Rattle.lvm_num.specs.Disks.{Disks, has}
+use Rattle.lvm_num.specs.declared.record.Kind.TheVariants as kind
+use Rattle.lvm_num.specs.Record.{Frames}
+use Rattle.lvm_disk.specs.Counts.{RoseBy, Rose}
+use Rattle.lvm_disk.specs.Device.{Media, Device, image_of, HasSectors}
+use Rattle.lvm_disk.specs.Steps.{BothTold}
+use Rattle.lvm_kept.specs.Contents.{Contents}
+use Rattle.lvm_kept.specs.Plans.{ChangesBy}
+use Rattle.lvm_stamps.specs.Behind.{StampsBefore, beginning_at, IsBehind}
+use Rattle.lvm_stamps.proofs.Stamps.{later_is_ahead_too, before_is_behind}
+use Rattle.lvm_stamps.proofs.Shelves.{unwritten_stays_behind}
+use Rattle.lvm_stamps.proofs.Records.{all_is_behind_end}
+use Rattle.lvm_quorum.specs.Written.{KeepsShelf}
+use Rattle.lvm_quorum.specs.declared.homes.Homes.{Homes}
+use Rattle.lvm_quorum.specs.Homes.{SparesNewest}
+use Rattle.lvm_survey.specs.declared.row.Survey.{Survey}
+use Rattle.lvm_survey.specs.Surveyed.{surveyed}
+use Rattle.lvm_survey.specs.Surveying.{IsUnwritten, IsCutOff}
+use Rattle.lvm_core.specs.declared.parts.Room.{Room}
+use Rattle.lvm_core.specs.declared.refused.Cause.{Cause}
+use Rattle.lvm_core.specs.declared.refused.Cause.TheVariants as cause
+use Rattle.lvm_begin.specs.Beginning.{Beginning, Part, again_beginning, again_order, IsOfParts, MayBeginAgain}
+use Rattle.lvm_begin.proofs.Following.{stamps_are_of_beginning}
+use Rattle.lvm_next.specs.Next.{IsNextStatus, has_active}
+use Rattle.lvm_varyon.specs.declared.plan.Plan.{Plan}
+use Rattle.lvm_varyon.specs.Chosen.{answering, last_moment}
+use Rattle.lvm_varyon.specs.Writing.{beginning, order, AllWritten, OneFailed, WasBrokenOff, IsLeftOut}
+use Rattle.lvm_varyon.specs.Varied.{HasWritten, AtChoice, WasStopped, Stops, IsAheadOfDisks, IsBrought}
+use Rattle.lvm_varyon.specs.Parts.{IsSurveyOf, StopsReading, NotChosen, IsPlan, StopsWriting}
+use Rattle.lvm_varyon.proofs.Seeing.{if_told, answered_by, found_at}
+use Rattle.lvm_varyon.proofs.Beginning.{spared, may_begin, target_answers}
+use Rattle.lvm_varyon.proofs.Placed.{placed}
+
+-- ---- it stopped before the first write
+
+pub stops_reading : (old new : Device) (name : List ℕ) (moment patience : ℕ) (why : Cause) → StopsReading patience old new why → Stops old new name moment patience why
+stops_reading old new name moment patience cause.Dark is = record { how = is.1; when = inl is.0 }
+stops_reading old new name moment patience cause.Stuck is = record { how = is.1; when = inl is.0 }
+stops_reading old new name moment patience cause.Memory is = is
+stops_reading old new name moment patience cause.HistoryFull is = is
+stops_reading old new name moment patience cause.NoRecord is = absurd is
+stops_reading old new name moment patience cause.Ambiguous is = absurd is
+stops_reading old new name moment patience (cause.NoQuorum have total) is = absurd is
+stops_reading old new name moment patience (cause.ClockBack seen) is = absurd is
+stops_reading old new name moment patience (cause.DiskFailed disk) is = absurd is
+stops_reading old new name moment patience (cause.NoDisk disk) is = is
+stops_reading old new name moment patience (cause.TooMany limit) is = is
+stops_reading old new name moment patience (cause.TooSmall disk) is = is
+stops_reading old new name moment patience cause.GroupExists is = is
+
+at_choice : (old new : Device) (survey : Survey) → IsSurveyOf old new survey → (Why : Contents → Type 0) → Why (surveyed survey) → AtChoice old new Why
+at_choice old new survey is Why why = record {
+  unwritten = is.unwritten;
+  rested = is.rested;
+  found = found_at old new survey is new refl;
+  why = why;
+}
+
+pub stops_choosing : (old new : Device) (name : List ℕ) (moment patience : ℕ) (survey : Survey) → IsSurveyOf old new survey → (why : Cause) → NotChosen (surveyed survey) name moment why → Stops old new name moment patience why
+stops_choosing old new name moment patience survey is cause.NoRecord why = at_choice old new survey is _ why
+stops_choosing old new name moment patience survey is cause.Ambiguous why = at_choice old new survey is _ why
+stops_choosing old new name moment patience survey is (cause.NoQuorum have total) why = at_choice old new survey is _ why
+stops_choosing old new name moment patience survey is (cause.ClockBack seen) why = at_choice old new survey is _ why
+stops_choosing old new name moment patience survey is cause.Memory why = (is.unwritten, is.rested)
+stops_choosing old new name moment patience survey is cause.HistoryFull why = why
+stops_choosing old new name moment patience survey is cause.Dark why = absurd why
+stops_choosing old new name moment patience survey is cause.Stuck why = absurd why
+stops_choosing old new name moment patience survey is (cause.DiskFailed disk) why = absurd why
+stops_choosing old new name moment patience survey is (cause.NoDisk disk) why = why
+stops_choosing old new name moment patience survey is (cause.TooMany limit) why = why
+stops_choosing old new name moment patience survey is (cause.TooSmall disk) why = why
+stops_choosing old new name moment patience survey is cause.GroupExists why = why
+
+-- ---- the writes
+
+pub rose_on : (m n a b c : ℕ) → RoseBy m a b → RoseBy n b c → RoseBy (m + n) a c
+rose_on m n a b c one two =
+    let x = one.later in
+    let y = two.later in
+    let r = one.risen in
+    let s = two.risen in
+    record { later = omega (arith, x, y); risen = omega (arith, x, y, r, s) }
+
+module _ (old read : Device) (survey : Survey) (is : IsSurveyOf old read survey) (name : List ℕ) (moment : ℕ) (some : moment ≢ 0) (room : Room) (plan : Plan) (by : IsPlan survey name moment room plan) where
+  pub targets_are : has plan.targets ≡ answering (surveyed survey) by.group
+  targets_are = λ i d. by.targets d i
+
+  pub beginning_is : again_beginning moment plan.descriptor plan.status (has plan.targets) plan.homes ≡ beginning moment by.group by.next (answering (surveyed survey) by.group) plan.homes
+  beginning_is = λ i. again_beginning moment (by.descriptor i) (by.status i) (targets_are i) plan.homes
+
+  pub order_is : again_order plan.forget ≡ order by.group
+  order_is = ap again_order by.forget
+
+  -- what was written, of the group that may come on
+  abbrev pub has_written : (new : Device) → new.counts.misses ≡ read.counts.misses → (How : Descriptor → Beginning → Device → Type 0)
+      → How by.group (again_beginning moment plan.descriptor plan.status (has plan.targets) plan.homes) read → HasWritten old new name moment How
+  has_written new same How how = record {
+    found = found_at old read survey is new same;
+    group = by.group;
+    was = by.was;
+    next = by.next;
+    chosen = by.chosen;
+    answered = λ d target. target_answers old read survey is name moment some room plan by d (by.targets d ∙ target);
+    next_is = subst (λ (t : Disks). IsNextStatus by.group t by.was by.next) targets_are by.next_is;
+    writes = record {
+      read = read;
+      unwritten = is.unwritten;
+      rested = is.rested;
+      homes = plan.homes;
+      spared = if_told old.media (λ media. (d : ℕ) → IsTrue (answering (surveyed survey) by.group d) → SparesNewest plan.homes (image_of old.sizes media) d)
+          (λ media told d target. spared old read survey is name moment some room plan by media told d (by.targets d ∙ target));
+      how = subst (λ (b : Beginning). How by.group b read) beginning_is how;
+    };
+  }
+
+  module _ (new : Device) (before between : ℕ) (falls : between ≤ before) (waited : RoseBy (before - between) old.counts.waits read.counts.waits) where
+    b : Beginning
+    b = again_beginning moment plan.descriptor plan.status (has plan.targets) plan.homes
+
+    left_out : IsLeftOut between read new → IsLeftOut before old new
+    left_out out = record {
+      flight = out.flight;
+      out = out.out;
+      freed = out.freed;
+      power = out.power;
+      cuts = out.cuts ∙ is.rested.cuts;
+      waited = subst (λ (n : ℕ). RoseBy n old.counts.waits new.counts.waits) (let e : (before - between) + between ≡ before = omega arith in e)
+          (rose_on (before - between) between old.counts.waits read.counts.waits new.counts.waits waited out.waited);
+    }
+
+    cut_off : IsCutOff read new → IsCutOff old new
+    cut_off cut = record { power = cut.power; flights = cut.flights; cuts = subst (λ (n : ℕ). Rose n new.counts.cuts) is.rested.cuts cut.cuts }
+
+    broken : (How : Type 0) → How → WasBrokenOff (again_beginning moment plan.descriptor plan.status (has plan.targets) plan.homes) (again_order plan.forget) read new → WasStopped old new name moment How
+    broken How how off = record {
+      how = how;
+      when = inr (has_written new off.only.misses (λ group b r. WasBrokenOff b (order group) r new) (subst (λ (parts : List Part). WasBrokenOff (again_beginning moment plan.descriptor plan.status (has plan.targets) plan.homes) parts read new) order_is off));
+    }
+
+    pub stops_writing : (why : Cause) → StopsWriting between (again_beginning moment plan.descriptor plan.status (has plan.targets) plan.homes) (again_order plan.forget) read new why → Stops old new name moment before why
+    stops_writing (cause.DiskFailed disk) bad = has_written new bad.stops.only.misses (λ group b r. OneFailed b (order group) disk r new)
+        (subst (λ (parts : List Part). OneFailed (again_beginning moment plan.descriptor plan.status (has plan.targets) plan.homes) parts disk read new) order_is bad)
+    stops_writing cause.Dark off = broken (IsCutOff old new) (cut_off off.0) off.1
+    stops_writing cause.Stuck off = broken (IsLeftOut before old new) (left_out off.0) off.1
+    stops_writing cause.Memory off = absurd off
+    stops_writing cause.HistoryFull off = off
+    stops_writing cause.NoRecord off = absurd off
+    stops_writing cause.Ambiguous off = absurd off
+    stops_writing (cause.NoQuorum have total) off = absurd off
+    stops_writing (cause.ClockBack seen) off = absurd off
+    stops_writing (cause.NoDisk disk) off = off
+    stops_writing (cause.TooMany limit) off = off
+    stops_writing (cause.TooSmall disk) off = off
+    stops_writing cause.GroupExists off = off
+
+    abbrev pub all_written : (homes : Homes) → AllWritten (again_beginning moment plan.descriptor plan.status (has plan.targets) plan.homes) (again_order plan.forget) homes read new
+        → HasWritten old new name moment (λ group b r. AllWritten b (order group) homes r new)
+    all_written homes well = has_written new well.keeps.misses (λ group b r. AllWritten b (order group) homes r new)
+        (subst (λ (parts : List Part). AllWritten (again_beginning moment plan.descriptor plan.status (has plan.targets) plan.homes) parts homes read new) order_is well)
+
+    pub brought : HasSectors old → (homes : Homes) → AllWritten (again_beginning moment plan.descriptor plan.status (has plan.targets) plan.homes) (again_order plan.forget) homes read new → IsBrought old new name moment room plan.parts homes
+    brought whole homes well = record {
+      written = all_written homes well;
+      reserved = by.parts;
+      placed = placed old read survey is name moment some room plan by new (well.keeps.sizes ∙ is.unwritten.sizes);
+      may = λ ahead media told. subst (λ (t : Disks). MayBeginAgain (beginning moment by.group by.next t plan.homes) (not (has_active by.group)) by.group by.next (answered_by survey) by.was (image_of old.sizes media)) targets_are
+          (may_begin old read survey is name moment some room plan by media told whole (ahead by.chosen.early));
+    }
+
+-- ---- what stands on the disks
+
+pub unwritten_behind : (moment : ℕ) (old new : Device) → HasSectors new → IsUnwritten old new → moment < 2 ^ 64 → IsAheadOfDisks moment old → IsBehind (moment + 1) new
+unwritten_behind moment old new whole same fits ahead = elim (cases_lt moment last_moment) [
+  | inl early ↦ later_is_ahead_too moment (moment + 1) new (omega arith) (unwritten_stays_behind moment old new same.sizes same.media (ahead early))
+  | inr last ↦ later_is_ahead_too (2 ^ 64) (moment + 1) new (omega (arith, last)) (all_is_behind_end new whole)
+]
+
+module _ (old read : Device) (survey : Survey) (is : IsSurveyOf old read survey) (name : List ℕ) (moment : ℕ) (some : moment ≢ 0) (room : Room) (plan : Plan) (by : IsPlan survey name moment room plan) where
+  -- whatever became of the writes
+  pub written_behind : (new : Device) (parts : List Part) → HasSectors old → IsAheadOfDisks moment old
+      → KeepsShelf (has plan.targets) (IsOfParts (again_beginning moment plan.descriptor plan.status (has plan.targets) plan.homes) parts) read new → IsBehind (moment + 1) new
+  written_behind new parts whole ahead keeps = before_is_behind (record { epoch = moment; seq = 3 }) (moment + 1) new (omega arith)
+      (if_told new.media (λ media. StampsBefore (record { epoch = moment; seq = 3 }) (image_of new.sizes media)) (λ is_media told.
+      let both = told_before read.media new.media (λ was now. ChangesBy (IsOfParts (again_beginning moment plan.descriptor plan.status (has plan.targets) plan.homes) parts) (image_of read.sizes was) (image_of new.sizes now)) is_media told keeps.media in
+      let told_old : old.media ≡ Some both.0 = sym is.unwritten.media ∙ both.1 in
+      let may = may_begin old read survey is name moment some room plan by both.0 told_old whole (ahead by.chosen.early) in
+      let behind : StampsBefore (beginning_at moment) (image_of read.sizes both.0) =
+      subst (λ (sizes : List ℕ). StampsBefore (beginning_at moment) (image_of sizes both.0)) (sym is.unwritten.sizes)
+      (subst (λ (o : Option Media). IfSome o (λ m. StampsBefore (beginning_at moment) (image_of old.sizes m))) told_old (ahead by.chosen.early)) in
+      stamps_are_of_beginning (again_beginning moment plan.descriptor plan.status (has plan.targets) plan.homes) parts (image_of read.sizes both.0) (image_of new.sizes is_media)
+      (subst (λ (bytes : List ℕ). Frames kind.Descriptor (record { stamp = record { epoch = moment; seq = 1 }; content = bytes })) (sym by.descriptor) may.describe.frames)
+      (subst (λ (bytes : List ℕ). Frames kind.Status (record { stamp = record { epoch = moment; seq = 2 }; content = bytes })) (sym by.status) may.state.frames)
+      (refl, omega arith) (refl, omega arith) both.2 behind))
+    where
+      told_before : (a b : Option Media) (R : Media → Media → Type 0) (is_media : Media) → b ≡ Some is_media → BothTold a b R → (was : Media) × (a ≡ Some was) × R was is_media
+      told_before None None R m e both = absurd cc
+      told_before None (Some n) R m e both = absurd both
+      told_before (Some w) None R m e both = absurd cc
+      told_before (Some w) (Some n) R m e both = let same : n ≡ m = cc in (w, refl, subst (R w) same both)

@@ -1,0 +1,12 @@
+pub mod Seeing
+pub mod Grouping
+pub mod Placing
+pub mod Sizes
+pub mod Beginning
+pub mod Placed
+pub mod Recovering
+pub mod Choosing
+pub mod Bringing
+pub mod KeptPaths
+pub mod After
+pub mod Spanning

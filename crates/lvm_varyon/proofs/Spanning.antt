@@ -1,0 +1,137 @@
+-- A varyon as a part of a run.
+use Rattle.std.proofs.Common.{◌≡◌, ℕ, ◌≤◌, Bool, true, false, List, Option, Some, None, refl, sym, ap, subst, ◌∙◌}
+use Rattle.std.specs.Prelude.{if◌then◌else◌}
+use Rattle.lvm_disk.specs.Device.{Media, Device, image_of}
+use Rattle.lvm_disk.specs.Paths.{DeviceStep, Path}
+use Rattle.lvm_disk.specs.Steps.{BothTold}
+use Rattle.lvm_vol.specs.Facts.{Fact, Cut, On}
+use Rattle.lvm_vol.specs.Log.{Log, spare_entries, is_uncut, with_fact, cut_log}
+use Rattle.lvm_kept.specs.Moments.{StaysCalm}
+use Rattle.lvm_kept.specs.Contents.{contents_of}
+use Rattle.lvm_change.specs.Moments.{Keeps, StaysKept}
+use Rattle.lvm_change.specs.Requests.{at}
+use Rattle.lvm_change.proofs.Entering.{quiet_goes_on, calm_goes_on}
+use Rattle.lvm_change.proofs.Spans.{keeps_still, steps_go_on, group_goes_on}
+use Rattle.lvm_stamps.specs.Behind.{ClockIsAhead}
+use Rattle.lvm_quorum.specs.declared.homes.Homes.{Homes}
+use Rattle.lvm_core.specs.declared.parts.Room.{Room}
+use Rattle.lvm_core.specs.declared.refused.Cause.{Cause}
+use Rattle.lvm_core.specs.declared.refused.Cause.TheVariants as cause
+use Rattle.lvm_core.specs.Held.{HoldsCommitted, IsHeld}
+use Rattle.lvm_core.specs.Starting.{Reserved, first_core}
+use Rattle.lvm_core.specs.State.{Core}
+use Rattle.lvm_varyon.specs.Varied.{IsRecovered, ComesOn, IsRestated, IsAheadOfDisks, IsBrought, last_stamp, log_after}
+use Rattle.lvm_varyon.specs.Restated.{HasNoConsistency}
+use Rattle.lvm_varyon.proofs.Recovering.{restated_is_recovered}
+use Rattle.lvm_varyon.proofs.Seeing.{if_told}
+use Rattle.lvm_varyon.proofs.After.{restated, ranges, holds}
+
+-- ---- the span
+
+pub ahead_of : (run moment : ℕ) (old : Device) (facts : List Fact) → ClockIsAhead run moment old facts → IsAheadOfDisks moment old
+ahead_of run moment old facts clock early = (clock early).behind
+
+on_steps : (log : Log) (old new : Device) → Path DeviceStep (StaysKept old) old new → Keeps log.run (at old log.facts) (at new log.facts)
+on_steps log old new path = steps_go_on log.run (at old log.facts) old new log.facts (keeps_still log.run (at old log.facts)) path
+
+same_calm : (log : Log) (old new : Device) → StaysCalm (at old log.facts) (at new log.facts)
+same_calm log old new past calm = calm
+
+-- a cut is entered, or there is nothing to end
+cut_keeps : (log : Log) (old new : Device) → Keeps log.run (at old log.facts) (at new log.facts) → Keeps log.run (at old log.facts) (at new (cut_log log).facts)
+cut_keeps log old new span = by_test (is_uncut log.facts)
+  where
+    by_test : (t : Bool) → Keeps log.run (at old log.facts) (at new (if t then with_fact log Cut else log).facts)
+    by_test true = quiet_goes_on log.run (at old log.facts) new log.facts Cut span tt (λ past begins holds. tt)
+    by_test false = span
+
+cut_calm : (log : Log) (old new : Device) → StaysCalm (at old log.facts) (at new (cut_log log).facts)
+cut_calm log old new = by_test (is_uncut log.facts)
+  where
+    by_test : (t : Bool) → StaysCalm (at old log.facts) (at new (if t then with_fact log Cut else log).facts)
+    by_test true = calm_goes_on (at old log.facts) new log.facts Cut (same_calm log old new) tt
+    by_test false = same_calm log old new
+
+pub refused_keeps : (why : Cause) (log : Log) (old new : Device) → Path DeviceStep (StaysKept old) old new → Keeps log.run (at old log.facts) (at new (log_after why log).facts)
+refused_keeps cause.Dark log old new path = cut_keeps log old new (on_steps log old new path)
+refused_keeps cause.HistoryFull log old new path = on_steps log old new path
+refused_keeps cause.NoRecord log old new path = on_steps log old new path
+refused_keeps cause.Ambiguous log old new path = on_steps log old new path
+refused_keeps (cause.NoQuorum have total) log old new path = on_steps log old new path
+refused_keeps (cause.ClockBack seen) log old new path = on_steps log old new path
+refused_keeps (cause.DiskFailed disk) log old new path = on_steps log old new path
+refused_keeps cause.Stuck log old new path = on_steps log old new path
+refused_keeps cause.Memory log old new path = on_steps log old new path
+refused_keeps (cause.NoDisk disk) log old new path = on_steps log old new path
+refused_keeps (cause.TooMany limit) log old new path = on_steps log old new path
+refused_keeps (cause.TooSmall disk) log old new path = on_steps log old new path
+refused_keeps cause.GroupExists log old new path = on_steps log old new path
+
+pub refused_calm : (why : Cause) (log : Log) (old new : Device) → StaysCalm (at old log.facts) (at new (log_after why log).facts)
+refused_calm cause.Dark log old new = cut_calm log old new
+refused_calm cause.HistoryFull log old new = same_calm log old new
+refused_calm cause.NoRecord log old new = same_calm log old new
+refused_calm cause.Ambiguous log old new = same_calm log old new
+refused_calm (cause.NoQuorum have total) log old new = same_calm log old new
+refused_calm (cause.ClockBack seen) log old new = same_calm log old new
+refused_calm (cause.DiskFailed disk) log old new = same_calm log old new
+refused_calm cause.Stuck log old new = same_calm log old new
+refused_calm cause.Memory log old new = same_calm log old new
+refused_calm (cause.NoDisk disk) log old new = same_calm log old new
+refused_calm (cause.TooMany limit) log old new = same_calm log old new
+refused_calm (cause.TooSmall disk) log old new = same_calm log old new
+refused_calm cause.GroupExists log old new = same_calm log old new
+
+-- ---- the group is on
+
+told_before : (a b : Option Media) (R : Media → Media → Type 0) (m : Media) → b ≡ Some m → BothTold a b R → (was : Media) × (a ≡ Some was)
+told_before None None R m e both = absurd cc
+told_before None (Some n) R m e both = absurd both
+told_before (Some w) None R m e both = absurd cc
+told_before (Some w) (Some n) R m e both = (w, refl)
+
+told_after : (a b : Option Media) (R : Media → Media → Type 0) (m : Media) → a ≡ Some m → BothTold a b R → (now : Media) × (b ≡ Some now)
+told_after None b R m e both = absurd cc
+told_after (Some w) None R m e both = absurd both
+told_after (Some w) (Some n) R m e both = (n, refl)
+
+module _ (old new : Device) (log : Log) (name : List ℕ) (moment : ℕ) (room : Room) (parts : Reserved) (homes : Homes) (core : Core) (is : IsBrought old new name moment room parts homes) (core_is : core ≡ first_core parts log (last_stamp moment) homes) where
+  pub comes_on : 1 ≤ spare_entries log → ComesOn old new log name moment room core
+  comes_on spare = subst (ComesOn old new log name moment room) (sym core_is) (record {
+    spare = spare;
+    written = is.written;
+    first = record { parts = parts; reserved = is.reserved; is = refl };
+  })
+
+  pub held : ClockIsAhead log.run moment old log.facts → IsHeld new core
+  held clock = if_told new.media (λ media. HoldsCommitted (image_of new.sizes media) core) (λ now told_now.
+      let before = told_before is.written.writes.read.media new.media _ now told_now is.written.writes.how.keeps.media in
+      let told : old.media ≡ Some before.0 = sym is.written.writes.unwritten.media ∙ before.1 in
+      holds old new name moment room parts homes is (ahead_of log.run moment old log.facts clock) before.0 now told told_now core log core_is (clock is.written.chosen.early).behind)
+
+  pub is_restated : ClockIsAhead log.run moment old log.facts → IsRestated old new core.descriptor
+  is_restated clock = subst (IsRestated old new) (sym (ap (λ (c : Core). c.descriptor) core_is ∙ is.reserved.descriptor)) (record {
+    disks = is.written.found.answered;
+    answered = is.written.found.have;
+    shows = λ was now told told_now. restated old new name moment room parts homes is (ahead_of log.run moment old log.facts clock) was now told told_now;
+    ranges = λ was first more told wrote wrote_now.
+        let after = told_after is.written.writes.read.media new.media _ was (is.written.writes.unwritten.media ∙ told) is.written.writes.how.keeps.media in
+        ranges old new name moment room parts homes is (ahead_of log.run moment old log.facts clock) was after.0 told after.1 first more wrote wrote_now;
+  })
+
+  pub is_recovered : ClockIsAhead log.run moment old log.facts → HasNoConsistency core.descriptor → IsRecovered old new core.descriptor
+  is_recovered clock quiet =
+      let r = is_restated clock in
+      record {
+        disks = r.disks;
+        answered = r.answered;
+        recovered = λ was now before more told told_now wrote wrote_now.
+            restated_is_recovered (contents_of (image_of old.sizes was)) more (contents_of (image_of new.sizes now)) r.disks core.descriptor (r.shows was now told told_now) (r.ranges was before more told wrote wrote_now) quiet;
+      }
+
+  pub on_keeps : Path DeviceStep (StaysKept old) old new → ClockIsAhead log.run moment old log.facts → Keeps log.run (at old log.facts) (at new core.history.facts)
+  on_keeps path clock = subst (λ (c : Core). Keeps log.run (at old log.facts) (at new c.history.facts)) (sym core_is)
+      (let ahead = clock is.written.chosen.early in group_goes_on log.run (at old log.facts) new log.facts moment (on_steps log old new path) ahead.run_is ahead.later)
+
+  pub on_calm : StaysCalm (at old log.facts) (at new core.history.facts)
+  on_calm = subst (λ (c : Core). StaysCalm (at old log.facts) (at new c.history.facts)) (sym core_is) (calm_goes_on (at old log.facts) new log.facts (On moment) (same_calm log old new) tt)

@@ -1,0 +1,151 @@
+-- The parts of a varyon: the reading of the shelf, the plan by what was read, and its writes.
+use Rattle.std.specs.Prelude.{◌≡◌, ℕ, not, true, false, length, List, Some, Result, Ok, Err, slice_get, IfSome}
+use Rattle.lvm_num.specs.declared.record.Stamp.{Stamp}
+use Rattle.lvm_num.specs.declared.descriptor.Descriptor.{Descriptor}
+use Rattle.lvm_num.specs.declared.status.Status.{Status}
+use Rattle.lvm_num.specs.Buffer.{Buffer}
+use Rattle.lvm_num.specs.Descriptor.{IsValid}
+use Rattle.lvm_num.specs.DescriptorBytes.{descriptor_bytes}
+use Rattle.lvm_num.specs.Disks.{has}
+use Rattle.lvm_num.specs.Record.{Stamped}
+use Rattle.lvm_num.specs.StatusBytes.{status_bytes}
+use Rattle.lvm_disk.specs.Counts.{Rose}
+use Rattle.lvm_disk.specs.Device.{Device, image_of}
+use Rattle.lvm_kept.specs.Contents.{Contents}
+use Rattle.lvm_quorum.specs.declared.choice.Choice.{Choice}
+use Rattle.lvm_quorum.specs.declared.choice.ChooseFault.{ChooseFault}
+use Rattle.lvm_quorum.specs.declared.choice.ChooseFault.TheVariants as fault
+use Rattle.lvm_quorum.specs.declared.homes.Homes.{Homes}
+use Rattle.lvm_quorum.specs.Choosing.{HasNoRecord, HasRecord, IsAmbiguous, LacksQuorum}
+use Rattle.lvm_quorum.specs.Homes.{SpareNewest}
+use Rattle.lvm_survey.specs.declared.row.Survey.{Survey}
+use Rattle.lvm_survey.specs.declared.row.SurveyRow.{SurveyRow}
+use Rattle.lvm_survey.specs.Rows.{AreRows}
+use Rattle.lvm_survey.specs.Surveyed.{surveyed, IsEmpty, IsRead, IsSurveyValid}
+use Rattle.lvm_survey.specs.Surveying.{IsUnwritten, IsRested, IsCutOff}
+use Rattle.lvm_core.specs.declared.parts.Room.{Room}
+use Rattle.lvm_core.specs.declared.refused.Cause.{Cause}
+use Rattle.lvm_core.specs.declared.refused.Cause.TheVariants as cause
+use Rattle.lvm_core.specs.Starting.{IsReservedFor}
+use Rattle.lvm_begin.specs.Beginning.{Beginning, Part}
+use Rattle.lvm_varyon.specs.declared.plan.Plan.{Plan}
+use Rattle.lvm_next.specs.Next.{IsNextStatus, has_active}
+use Rattle.lvm_varyon.specs.Chosen.{answering, MayComeOn, IsClockBack}
+use Rattle.lvm_varyon.specs.Writing.{AllWritten, OneFailed, WasBrokenOff, IsLeftOut}
+
+-- ---- the reading
+
+-- what a row says of a disk, by the counts of failed reads
+pub record IsRowOf (old new : Device) (d : ℕ) (row : SurveyRow) : Type 0 where
+  pub sectors : slice_get old.sizes d ≡ Some row.sectors
+  pub failed : row.failed ≡ true → Rose (old.counts.misses d) (new.counts.misses d)
+  pub answered : row.failed ≡ false → new.counts.misses d ≡ old.counts.misses d
+  pub empty : row.failed ≡ true → IsEmpty row
+  pub read : row.failed ≡ false → IfSome old.media (λ media. IsRead (image_of old.sizes media) d row)
+
+-- the survey says what the disks of the shelf show, and nothing was written
+pub record IsSurveyOf (old new : Device) (survey : Survey) : Type 0 where
+  pub rows : AreRows survey
+  pub all : length survey.rows ≡ length old.sizes
+  pub valid : IsSurveyValid survey
+  pub each : (d : ℕ) (row : SurveyRow) → slice_get survey.rows d ≡ Some row → IsRowOf old new d row
+  pub unwritten : IsUnwritten old new
+  pub rested : IsRested old new
+
+-- it stopped
+module _ (patience : ℕ) (old new : Device) where
+  abbrev pub StopsReading : Cause → Type 0
+  StopsReading cause.Dark = IsUnwritten old new × IsCutOff old new
+  StopsReading cause.Stuck = IsUnwritten old new × IsLeftOut patience old new
+  StopsReading cause.Memory = IsUnwritten old new × IsRested old new
+  StopsReading cause.HistoryFull = ⊥
+  StopsReading cause.NoRecord = ⊥
+  StopsReading cause.Ambiguous = ⊥
+  StopsReading (cause.NoQuorum have total) = ⊥
+  StopsReading (cause.ClockBack seen) = ⊥
+  StopsReading (cause.DiskFailed disk) = ⊥
+  StopsReading (cause.NoDisk disk) = ⊥
+  StopsReading (cause.TooMany limit) = ⊥
+  StopsReading (cause.TooSmall disk) = ⊥
+  StopsReading cause.GroupExists = ⊥
+
+abbrev pub ReadGives : ℕ → Device → Device → Result (Survey × Buffer) Cause → Type 0
+ReadGives patience old new (Ok got) = IsSurveyOf old new got.0
+ReadGives patience old new (Err why) = StopsReading patience old new why
+
+-- ---- the plan
+
+-- why no group may come on, by what the survey shows
+abbrev pub NotChosen : Contents → List ℕ → ℕ → Cause → Type 0
+NotChosen c name moment cause.NoRecord = HasNoRecord c name
+NotChosen c name moment cause.Ambiguous = HasRecord c name × IsAmbiguous c name
+NotChosen c name moment (cause.NoQuorum have total) = LacksQuorum c name have total
+NotChosen c name moment (cause.ClockBack seen) = IsClockBack c name moment seen
+NotChosen c name moment cause.Memory = Unit {0}
+NotChosen c name moment cause.HistoryFull = ⊥
+NotChosen c name moment cause.Dark = ⊥
+NotChosen c name moment cause.Stuck = ⊥
+NotChosen c name moment (cause.DiskFailed disk) = ⊥
+NotChosen c name moment (cause.NoDisk disk) = ⊥
+NotChosen c name moment (cause.TooMany limit) = ⊥
+NotChosen c name moment (cause.TooSmall disk) = ⊥
+NotChosen c name moment cause.GroupExists = ⊥
+
+-- the cause of a refusal of the choice
+abbrev pub cause_of : ChooseFault → Cause
+cause_of fault.NoRecord = cause.NoRecord
+cause_of fault.Ambiguous = cause.Ambiguous
+cause_of (fault.NoQuorum have total) = cause.NoQuorum have total
+cause_of fault.Memory = cause.Memory
+
+-- what is to be written of the group of a choice, to these slots, and the parts of its session
+pub record IsPlanFor (choice : Choice) (homes : Homes) (room : Room) (plan : Plan) : Type 0 where
+  pub next : Status
+  pub next_is : (stamp : Stamp) → IsNextStatus choice.descriptor (has choice.answering) (record { stamp = stamp; value = choice.status }) next
+  pub descriptor : plan.descriptor ≡ descriptor_bytes choice.descriptor
+  pub status : plan.status ≡ status_bytes next
+  pub targets : plan.targets ≡ choice.answering
+  pub forget : plan.forget ≡ not (has_active choice.descriptor)
+  pub same_homes : plan.homes ≡ homes
+  pub parts : IsReservedFor choice.descriptor next room plan.parts
+
+-- what is to be written of the group that may come on, and the parts of its session
+pub record IsPlan (survey : Survey) (name : List ℕ) (moment : ℕ) (room : Room) (plan : Plan) : Type 0 where
+  pub group : Descriptor
+  pub was : Stamped Status
+  pub next : Status
+  pub valid : IsValid group
+  pub chosen : MayComeOn (surveyed survey) name moment group was
+  pub targets : (d : ℕ) → has plan.targets d ≡ answering (surveyed survey) group d
+  pub next_is : IsNextStatus group (has plan.targets) was next
+  pub descriptor : plan.descriptor ≡ descriptor_bytes group
+  pub status : plan.status ≡ status_bytes next
+  pub forget : plan.forget ≡ not (has_active group)
+  pub homes : SpareNewest survey plan.homes
+  pub parts : IsReservedFor group next room plan.parts
+
+abbrev pub PlanGives : Survey → List ℕ → ℕ → Room → Result Plan Cause → Type 0
+PlanGives survey name moment room (Ok plan) = IsPlan survey name moment room plan
+PlanGives survey name moment room (Err why) = NotChosen (surveyed survey) name moment why
+
+-- ---- the writes
+
+module _ (patience : ℕ) (b : Beginning) (parts : List Part) (read new : Device) where
+  abbrev pub StopsWriting : Cause → Type 0
+  StopsWriting (cause.DiskFailed disk) = OneFailed b parts disk read new
+  StopsWriting cause.Dark = IsCutOff read new × WasBrokenOff b parts read new
+  StopsWriting cause.Stuck = IsLeftOut patience read new × WasBrokenOff b parts read new
+  StopsWriting cause.Memory = ⊥
+  StopsWriting cause.HistoryFull = ⊥
+  StopsWriting cause.NoRecord = ⊥
+  StopsWriting cause.Ambiguous = ⊥
+  StopsWriting (cause.NoQuorum have total) = ⊥
+  StopsWriting (cause.ClockBack seen) = ⊥
+  StopsWriting (cause.NoDisk disk) = ⊥
+  StopsWriting (cause.TooMany limit) = ⊥
+  StopsWriting (cause.TooSmall disk) = ⊥
+  StopsWriting cause.GroupExists = ⊥
+
+  abbrev pub WriteGives : Result Homes Cause → Type 0
+  WriteGives (Ok homes) = AllWritten b parts homes read new
+  WriteGives (Err why) = StopsWriting why

@@ -1,0 +1,150 @@
+-- How a varyon ends.
+use Rattle.std.specs.Prelude.{◌≡◌, ◌⊎◌, ◌+◌, ◌<◌, ◌≤◌, ◌++◌, ℕ, not, List, Some, IsTrue, Result, Ok, Err}
+use Rattle.lvm_num.specs.declared.record.Stamp.{Stamp}
+use Rattle.lvm_num.specs.declared.descriptor.Descriptor.{Descriptor}
+use Rattle.lvm_num.specs.declared.status.Status.{Status}
+use Rattle.lvm_num.specs.Disks.{Disks}
+use Rattle.lvm_num.specs.Record.{Stamped}
+use Rattle.lvm_disk.specs.Device.{Media, Range, Device, image_of}
+use Rattle.lvm_vol.specs.Log.{Log, spare_entries, cut_log}
+use Rattle.lvm_kept.specs.Contents.{Contents, contents_of}
+use Rattle.lvm_kept.specs.Recovered.{Recovered}
+use Rattle.lvm_change.specs.Moments.{Keeps}
+use Rattle.lvm_change.specs.Requests.{at}
+use Rattle.lvm_stamps.specs.Behind.{ClockIsAhead, IsBehind}
+use Rattle.lvm_quorum.specs.declared.homes.Homes.{Homes}
+use Rattle.lvm_quorum.specs.Choosing.{HasNoRecord, HasRecord, IsAmbiguous, LacksQuorum}
+use Rattle.lvm_survey.specs.Surveying.{IsUnwritten, IsRested, IsCutOff}
+use Rattle.lvm_core.specs.declared.parts.Room.{Room}
+use Rattle.lvm_core.specs.declared.refused.Cause.{Cause}
+use Rattle.lvm_core.specs.declared.refused.Cause.TheVariants as cause
+use Rattle.lvm_core.specs.Starting.{Reserved, IsReservedFor, ArePlaced, first_core}
+use Rattle.lvm_core.specs.State.{Core}
+use Rattle.lvm_begin.specs.Beginning.{Beginning, MayBeginAgain}
+use Rattle.lvm_varyon.specs.Found.{Found, HaveAnswered}
+use Rattle.lvm_next.specs.Next.{IsNextStatus, has_active}
+use Rattle.lvm_varyon.specs.Chosen.{answering, last_moment, MayComeOn, IsClockBack}
+use Rattle.lvm_varyon.specs.Writing.{beginning, order, Writes, AllWritten, OneFailed, WasBrokenOff, IsLeftOut}
+use Rattle.lvm_varyon.specs.Restated.{Restated, AreOfRecords, WhereTold}
+
+-- The group that the name chooses may come on, and this was written to its members that answer, with its next status.
+pub record HasWritten (old new : Device) (name : List ℕ) (moment : ℕ) (How : Descriptor → Beginning → Device → Type 0) : Type 0 where
+  pub found : Found old new
+  pub group : Descriptor
+  pub was : Stamped Status
+  pub next : Status
+  pub chosen : MayComeOn found.shown name moment group was
+  -- its members that answer are disks that did
+  pub answered : (d : ℕ) → IsTrue (answering found.shown group d) → IsTrue (found.answered d)
+  pub next_is : IsNextStatus group (answering found.shown group) was next
+  pub writes : Writes old moment group next (answering found.shown group) (How group)
+
+-- the stamp of the last record that a varyon writes
+abbrev pub last_stamp : ℕ → Stamp
+last_stamp moment = record { epoch = moment; seq = 2 }
+
+-- it is the session that begins with this group and this status
+pub record IsFirst (group : Descriptor) (next : Status) (log : Log) (moment : ℕ) (room : Room) (core : Core) : Type 0 where
+  pub parts : Reserved
+  pub reserved : IsReservedFor group next room parts
+  pub is : core ≡ first_core parts log (last_stamp moment) core.homes
+
+-- The group that the name chooses is on: its records stand, and its session begins with them.
+pub record ComesOn (old new : Device) (log : Log) (name : List ℕ) (moment : ℕ) (room : Room) (core : Core) : Type 0 where
+  pub spare : 1 ≤ spare_entries log
+  pub written : HasWritten old new name moment (λ group b read. AllWritten b (order group) core.homes read new)
+  pub first : IsFirst written.group written.next log moment room core
+
+-- What the disks then show, and what was written, where that is told and the clock's moments rise.
+pub record IsRestated (old new : Device) (group : Descriptor) : Type 0 where
+  pub disks : Disks
+  pub answered : HaveAnswered old new disks
+  pub shows : (was is : Media) → old.media ≡ Some was → new.media ≡ Some is → Restated (contents_of (image_of old.sizes was)) (contents_of (image_of new.sizes is)) disks group
+  pub ranges : (was : Media) (before more : List Range) → old.media ≡ Some was → old.wrote ≡ Some before → new.wrote ≡ Some (before ++ more) → AreOfRecords (contents_of (image_of old.sizes was)) disks group.id more
+
+-- So a group without consistency is recovered, by the disks that answered.
+pub record IsRecovered (old new : Device) (group : Descriptor) : Type 0 where
+  pub disks : Disks
+  pub answered : HaveAnswered old new disks
+  pub recovered : WhereTold old new (λ before ranges after. Recovered before ranges after disks group.id group)
+
+-- ---- the refusals
+
+-- nothing was written, and this holds of what the disks show that answered
+pub record AtChoice (old new : Device) (Why : Contents → Type 0) : Type 0 where
+  pub unwritten : IsUnwritten old new
+  pub rested : IsRested old new
+  pub found : Found old new
+  pub why : Why found.shown
+
+-- it stopped while the shelf was read or while this was written
+pub record WasStopped (old new : Device) (name : List ℕ) (moment : ℕ) (How : Type 0) : Type 0 where
+  pub how : How
+  pub when : IsUnwritten old new ⊎ HasWritten old new name moment (λ group b read. WasBrokenOff b (order group) read new)
+
+module _ (old new : Device) (name : List ℕ) (moment patience : ℕ) where
+  -- Why no group came on where the history has room: each refusal where it holds and those before it don't; want of memory is free. The others are of other commands.
+  abbrev pub Stops : Cause → Type 0
+  Stops cause.NoRecord = AtChoice old new (λ c. HasNoRecord c name)
+  Stops cause.Ambiguous = AtChoice old new (λ c. HasRecord c name × IsAmbiguous c name)
+  Stops (cause.NoQuorum have total) = AtChoice old new (λ c. LacksQuorum c name have total)
+  Stops (cause.ClockBack seen) = AtChoice old new (λ c. IsClockBack c name moment seen)
+  Stops (cause.DiskFailed disk) = HasWritten old new name moment (λ group b read. OneFailed b (order group) disk read new)
+  Stops cause.Dark = WasStopped old new name moment (IsCutOff old new)
+  Stops cause.Stuck = WasStopped old new name moment (IsLeftOut patience old new)
+  Stops cause.Memory = IsUnwritten old new × IsRested old new
+  Stops cause.HistoryFull = ⊥
+  Stops (cause.NoDisk disk) = ⊥
+  Stops (cause.TooMany limit) = ⊥
+  Stops (cause.TooSmall disk) = ⊥
+  Stops cause.GroupExists = ⊥
+
+  -- Why none came on: the history is full, or it isn't and this.
+  abbrev pub Refuses : Log → Cause → Type 0
+  Refuses log cause.HistoryFull = (spare_entries log ≡ 0) × (new ≡ old)
+  Refuses log why = (1 ≤ spare_entries log) × Stops why
+
+-- the history after a refusal: a cut of the power is entered
+abbrev pub log_after : Cause → Log → Log
+log_after cause.Dark log = cut_log log
+log_after cause.HistoryFull log = log
+log_after cause.NoRecord log = log
+log_after cause.Ambiguous log = log
+log_after (cause.NoQuorum have total) log = log
+log_after (cause.ClockBack seen) log = log
+log_after (cause.DiskFailed disk) log = log
+log_after cause.Stuck log = log
+log_after cause.Memory log = log
+log_after (cause.NoDisk disk) log = log
+log_after (cause.TooMany limit) log = log
+log_after (cause.TooSmall disk) log = log
+log_after cause.GroupExists log = log
+
+-- ---- before the session
+
+-- no record on the disks is of this moment or a later one, unless it is the last one that there is
+abbrev pub IsAheadOfDisks : ℕ → Device → Type 0
+IsAheadOfDisks moment device = moment < last_moment → IsBehind moment device
+
+-- The group that the name chooses has its records, and these are the parts of its session.
+pub record IsBrought (old new : Device) (name : List ℕ) (moment : ℕ) (room : Room) (parts : Reserved) (homes : Homes) : Type 0 where
+  pub written : HasWritten old new name moment (λ group b read. AllWritten b (order group) homes read new)
+  pub reserved : IsReservedFor written.group written.next room parts
+  pub placed : ArePlaced new.sizes parts.descriptor parts.status.wanted
+  -- by the choice and the clock
+  pub may : IsAheadOfDisks moment old → (media : Media) → old.media ≡ Some media
+      → MayBeginAgain (beginning moment written.group written.next (answering written.found.shown written.group) written.writes.homes) (not (has_active written.group)) written.group written.next written.found.answered written.was (image_of old.sizes media)
+
+abbrev pub BringGives : Device → Device → List ℕ → ℕ → ℕ → Room → Result (Reserved × Homes) Cause → Type 0
+BringGives old new name moment patience room (Ok got) = IsBrought old new name moment room got.0 got.1
+BringGives old new name moment patience room (Err why) = Stops old new name moment patience why
+
+-- ---- whatever the answer
+
+-- where the clock's moments rise, the history is legal at each moment of the call and each crash image is kept with it
+abbrev pub KeepsAll : Log → ℕ → Device → Device → Log → Type 0
+KeepsAll log moment old new last = ClockIsAhead log.run moment old log.facts → Keeps log.run (at old log.facts) (at new last.facts)
+
+-- and no later stamp than the moment's stands on the disks
+abbrev pub StaysBehind : Log → ℕ → Device → Device → Type 0
+StaysBehind log moment old new = ClockIsAhead log.run moment old log.facts → IsBehind (moment + 1) new

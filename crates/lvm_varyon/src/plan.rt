@@ -1,0 +1,110 @@
+//! What a varyon writes, by what the disks show.
+ghost use Rattle.std.specs.Prelude.{◌≡◌, IfOk};
+ghost use Rattle.lvm_num.specs.Descriptor.{IsValid};
+ghost use Rattle.lvm_num.specs.Status.{IsValidStatus};
+ghost use Rattle.lvm_survey.specs.Rows.{AreRows};
+ghost use Rattle.lvm_survey.specs.Surveyed.{IsSurveyValid};
+ghost use Rattle.lvm_core.specs.Starting.{IsRoom};
+ghost use Rattle.lvm_varyon.specs.Parts.{PlanGives, IsPlanFor, cause_of};
+
+use lvm_core::{Cause, Parts, Room};
+use lvm_next::{has_active, next_status};
+use lvm_num::{DiskSet, Memory, Name, Rows};
+use lvm_quorum::{Choice, ChooseFault, Homes, Survey, choose};
+use std::alloc::Global;
+
+// The last moment that a clock may answer. None is later.
+const LAST: u64 = u64::MAX;
+
+/// The parts of a session, and what is written before it begins, in memory that is all taken.
+#[derive(Drop)]
+pub struct Plan {
+    pub parts: Parts,
+    /// The bytes of the descriptor and of the next status.
+    pub descriptor: Rows<u8>,
+    pub status: Rows<u8>,
+    /// The members that answer.
+    pub targets: DiskSet,
+    /// The slots that come next.
+    pub homes: Homes,
+    /// Whether the notes are emptied.
+    pub forget: bool,
+}
+
+/// The plan by a survey, where the group of the name may come on under this moment.
+pub fn plan_of(
+    alloc: Global,
+    survey: &Survey,
+    name: Name,
+    moment: u64,
+    room: Room,
+) -> Result<Plan, Cause>
+    requires rows { AreRows survey.now }
+    requires valid { IsSurveyValid survey.now }
+    requires room { IsRoom room }
+    ensures { PlanGives survey.now name moment room result }
+{
+    let choice = match choose(alloc, survey, name) {
+        Ok(choice) => choice,
+        Err(fault) => return Err(cause_of(fault)),
+    };
+    if moment == LAST {
+        return Err(Cause::ClockBack { seen: moment });
+    }
+    if moment <= choice.seen {
+        return Err(Cause::ClockBack { seen: choice.seen });
+    }
+    match plan_for(alloc, choice, Homes::of(survey), room) {
+        Ok(plan) => Ok(plan),
+        Err(Memory) => Err(Cause::Memory),
+    }
+}
+
+// Why no group is chosen.
+fn cause_of(fault: ChooseFault) -> Cause
+    ensures { result ≡ cause_of fault }
+{
+    match fault {
+        ChooseFault::NoRecord => Cause::NoRecord,
+        ChooseFault::Ambiguous => Cause::Ambiguous,
+        ChooseFault::NoQuorum { have, total } => Cause::NoQuorum { have, total },
+        ChooseFault::Memory => Cause::Memory,
+    }
+}
+
+// The plan of the group that was chosen.
+fn plan_for(alloc: Global, choice: Choice, homes: Homes, room: Room) -> Result<Plan, Memory>
+    requires descriptor { IsValid choice.descriptor }
+    requires status { IsValidStatus choice.status }
+    requires room { IsRoom room }
+    ensures { IfOk result (IsPlanFor choice homes room) }
+{
+    let next = next_status(alloc, &choice.descriptor, &choice.status, choice.answering)?;
+    let descriptor = lvm_vgda::encode(alloc, &choice.descriptor)?;
+    let status = lvm_vgsa::encode(alloc, &next)?;
+    let forget = !has_active(&choice.descriptor);
+    let Choice {
+        descriptor: group,
+        answering: targets,
+        seen,
+        ..
+    } = choice;
+    let parts = Parts::new(
+        alloc,
+        Choice {
+            descriptor: group,
+            status: next,
+            answering: targets,
+            seen,
+        },
+        room,
+    )?;
+    Ok(Plan {
+        parts,
+        descriptor,
+        status,
+        targets,
+        homes,
+        forget,
+    })
+}

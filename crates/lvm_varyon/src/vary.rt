@@ -1,0 +1,138 @@
+//! Varying a group on.
+ghost use Rattle.std.specs.Prelude.{◌≡◌, ◌≢◌, ◌+◌, ◌-◌, ◌≤◌, IfOk, IfErr, MatchResult};
+ghost use Rattle.lvm_disk.specs.Counts.{RoseBy};
+ghost use Rattle.lvm_disk.specs.Device.{IsReady};
+ghost use Rattle.lvm_disk.specs.Paths.{DeviceStep, Path};
+ghost use Rattle.lvm_kept.specs.Moments.{StaysCalm};
+ghost use Rattle.lvm_change.specs.Moments.{StaysKept};
+ghost use Rattle.lvm_change.specs.Requests.{at};
+ghost use Rattle.lvm_stamps.specs.Behind.{ClockIsAhead, IsBehind};
+ghost use Rattle.lvm_core.specs.Held.{IsHeld};
+ghost use Rattle.lvm_core.specs.Sound.{HaveAllLanded};
+ghost use Rattle.lvm_core.specs.Starting.{IsRoom};
+ghost use Rattle.lvm_varyon.specs.Restated.{HasNoConsistency};
+ghost use Rattle.lvm_varyon.specs.Varied.{ComesOn, IsRestated, IsRecovered, Refuses, BringGives, IsAheadOfDisks, log_after, KeepsAll, StaysBehind};
+
+use crate::plan::{Plan, plan_of};
+use crate::writes::{read_disks, write_records};
+use lvm_core::{Cause, Driver, Parts, Refused, Room};
+use lvm_disk::Shelf;
+use lvm_move::Patience;
+use lvm_num::{Name, Stamp};
+use lvm_quorum::Homes;
+use lvm_vol::History;
+use std::alloc::Global;
+
+/// Varies the group of a name on: reads the records of all disks of the shelf, chooses the group's newest
+/// descriptor and status by the members that answer, and writes both to these under the moment, the status
+/// with a row for exactly the members. Missing are then those that don't answer, and stale, beside what
+/// was, their copies of which another is fresh. The notes are emptied where no volume is in mode active.
+///
+/// # Errors
+///
+/// In this order: `HistoryFull` where no entry is spare; `Dark` and `Stuck` while the disks are read;
+/// `NoRecord`, `Ambiguous` and `NoQuorum` by what those show that answer; `ClockBack` where the moment
+/// isn't later than each record of the group, or is the last one. Up to here nothing is written.
+/// Then `Dark`, `Stuck`, or `DiskFailed` where a write to a member that answered failed, the lowest of
+/// these. `Memory` comes before the first write alone.
+pub fn varyon<S: Shelf>(
+    alloc: Global,
+    shelf: S,
+    history: History,
+    name: Name,
+    moment: u64,
+    room: Room,
+    patience: &mut Patience,
+) -> Result<Driver<S>, Refused<S>>
+    requires ready { IsReady (S.device shelf) }
+    requires landed { HaveAllLanded history.facts }
+    requires room { IsRoom room }
+    requires moment { moment ≢ 0 }
+    // the group is on
+    ensures on { IfOk result (λ driver. ComesOn (S.device shelf) (S.device driver.0) history name moment room driver.1) }
+    ensures held { IfOk result (λ driver. ClockIsAhead history.run moment (S.device shelf) history.facts → IsHeld (S.device driver.0) driver.1) }
+    ensures restated { IfOk result (λ driver. ClockIsAhead history.run moment (S.device shelf) history.facts → IsRestated (S.device shelf) (S.device driver.0) driver.1.descriptor) }
+    ensures recovered { IfOk result (λ driver. ClockIsAhead history.run moment (S.device shelf) history.facts → HasNoConsistency driver.1.descriptor → IsRecovered (S.device shelf) (S.device driver.0) driver.1.descriptor) }
+    // each refusal with its cause
+    ensures refused { IfErr result (λ refused. Refuses (S.device shelf) (S.device refused.shelf) name moment patience.old.left history refused.cause) }
+    ensures history { IfErr result (λ refused. refused.history ≡ log_after refused.cause history) }
+    // whatever the answer
+    ensures patience { patience.new.left ≤ patience.old.left }
+    ensures waited { MatchResult result (λ driver. RoseBy (patience.old.left - patience.new.left) (S.device shelf).counts.waits (S.device driver.0).counts.waits) (λ refused. RoseBy (patience.old.left - patience.new.left) (S.device shelf).counts.waits (S.device refused.shelf).counts.waits) }
+    ensures keeps { MatchResult result (λ driver. KeepsAll history moment (S.device shelf) (S.device driver.0) driver.1.history) (λ refused. KeepsAll history moment (S.device shelf) (S.device refused.shelf) refused.history) }
+    ensures calm { MatchResult result (λ driver. StaysCalm (at (S.device shelf) history.facts) (at (S.device driver.0) driver.1.history.facts)) (λ refused. StaysCalm (at (S.device shelf) history.facts) (at (S.device refused.shelf) refused.history.facts)) }
+    ensures behind { MatchResult result (λ driver. StaysBehind history moment (S.device shelf) (S.device driver.0)) (λ refused. StaysBehind history moment (S.device shelf) (S.device refused.shelf)) }
+{
+    if history.spare_entries() == 0 {
+        return Err(refused(shelf, history, Cause::HistoryFull));
+    }
+    let mut shelf = shelf;
+    match bring(alloc, &mut shelf, name, moment, room, patience) {
+        Ok((parts, homes)) => {
+            let stamp = Stamp {
+                epoch: moment,
+                seq: 2,
+            };
+            Ok(Driver::start(parts, shelf, history, stamp, homes))
+        }
+        Err(cause) => Err(refused(shelf, history, cause)),
+    }
+}
+
+// What is handed back where the group didn't come on. A power cut is entered.
+fn refused<S: Shelf>(shelf: S, mut history: History, cause: Cause) -> Refused<S>
+    ensures shelf { result.shelf ≡ shelf }
+    ensures history { result.history ≡ log_after cause history }
+    ensures cause { result.cause ≡ cause }
+{
+    if let Cause::Dark = cause {
+        history.cut();
+    }
+    Refused {
+        shelf,
+        history,
+        cause,
+    }
+}
+
+// Writes the records of the group that the name chooses, and has the parts of its session.
+fn bring<S: Shelf>(
+    alloc: Global,
+    shelf: &mut S,
+    name: Name,
+    moment: u64,
+    room: Room,
+    patience: &mut Patience,
+) -> Result<(Parts, Homes), Cause>
+    requires ready { IsReady (S.device shelf.old) }
+    requires room { IsRoom room }
+    requires moment { moment ≢ 0 }
+    ensures gives { BringGives (S.device shelf.old) (S.device shelf.new) name moment patience.old.left room result }
+    ensures patience { patience.new.left ≤ patience.old.left }
+    ensures waited { RoseBy (patience.old.left - patience.new.left) (S.device shelf.old).counts.waits (S.device shelf.new).counts.waits }
+    ensures behind { IsAheadOfDisks moment (S.device shelf.old) → IsBehind (moment + 1) (S.device shelf.new) }
+    ensures kept { IsAheadOfDisks moment (S.device shelf.old) → Path DeviceStep (StaysKept (S.device shelf.old)) (S.device shelf.old) (S.device shelf.new) }
+{
+    let (survey, buf) = read_disks(alloc, shelf, patience)?;
+    let plan = plan_of(alloc, &survey, name, moment, room)?;
+    let Plan {
+        parts,
+        descriptor,
+        status,
+        targets,
+        homes,
+        forget,
+    } = plan;
+    let homes = write_records(
+        shelf,
+        descriptor.as_slice(),
+        status.as_slice(),
+        moment,
+        targets,
+        homes,
+        forget,
+        buf,
+        patience,
+    )?;
+    Ok((parts, homes))
+}

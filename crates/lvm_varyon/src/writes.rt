@@ -1,0 +1,81 @@
+//! The reading of a shelf, and the writes of a varyon.
+ghost use Rattle.std.specs.Prelude.{◌≡◌, ◌≢◌, ◌-◌, ◌≤◌, length};
+ghost use Rattle.lvm_num.specs.declared.record.Kind.TheVariants as kind;
+ghost use Rattle.lvm_num.specs.Disks.{has};
+ghost use Rattle.lvm_num.specs.Record.{longest_content};
+ghost use Rattle.lvm_disk.specs.Counts.{RoseBy};
+ghost use Rattle.lvm_disk.specs.Device.{IsReady};
+ghost use Rattle.lvm_disk.specs.Images.{LeavesNoMore};
+ghost use Rattle.lvm_disk.specs.Paths.{DeviceStep, Path};
+ghost use Rattle.lvm_quorum.specs.Written.{HaveRoom, KeepsShelf};
+ghost use Rattle.lvm_survey.specs.Surveying.{IsUnwritten};
+ghost use Rattle.lvm_begin.specs.Beginning.{again_beginning, again_order, IsOfParts};
+ghost use Rattle.lvm_begin.specs.Kept.{AgainStaysKept};
+ghost use Rattle.lvm_varyon.specs.Parts.{ReadGives, WriteGives};
+
+use lvm_begin::{Begun, begin_again};
+use lvm_core::Cause;
+use lvm_disk::Shelf;
+use lvm_move::Patience;
+use lvm_num::{DiskSet, Pbuf};
+use lvm_quorum::{Homes, Survey, Surveyed, survey_disks};
+use std::alloc::Global;
+
+/// Reads the records of all disks. The buffer that it read with comes back for the writes.
+pub fn read_disks<S: Shelf>(
+    alloc: Global,
+    shelf: &mut S,
+    patience: &mut Patience,
+) -> Result<(Survey, Pbuf), Cause>
+    requires ready { IsReady (S.device shelf.old) }
+    ensures gives { ReadGives patience.old.left (S.device shelf.old) (S.device shelf.new) result }
+    ensures unwritten { IsUnwritten (S.device shelf.old) (S.device shelf.new) }
+    ensures patience { patience.new.left ≤ patience.old.left }
+    ensures waited { RoseBy (patience.old.left - patience.new.left) (S.device shelf.old).counts.waits (S.device shelf.new).counts.waits }
+    ensures moments { Path DeviceStep (LeavesNoMore (S.device shelf.old)) (S.device shelf.old) (S.device shelf.new) }
+{
+    let Ok(buf) = Pbuf::fresh(alloc, 0) else {
+        return Err(Cause::Memory);
+    };
+    match survey_disks(alloc, shelf, buf, patience) {
+        Surveyed::Ended { survey, buf } => Ok((survey, buf)),
+        Surveyed::Dark => Err(Cause::Dark),
+        Surveyed::Stuck => Err(Cause::Stuck),
+        Surveyed::Memory { buf: _ } => Err(Cause::Memory),
+    }
+}
+
+/// Writes the descriptor and the status to the targets, and empties their notes or leaves them. The slots
+/// that come next come back.
+pub fn write_records<S: Shelf>(
+    shelf: &mut S,
+    descriptor: &[u8],
+    status: &[u8],
+    moment: u64,
+    targets: DiskSet,
+    homes: Homes,
+    forget: bool,
+    buf: Pbuf,
+    patience: &mut Patience,
+) -> Result<Homes, Cause>
+    requires ready { IsReady (S.device shelf.old) }
+    requires moment { moment ≢ 0 }
+    requires descriptor { length descriptor.now ≤ longest_content kind.Descriptor }
+    requires status { length status.now ≤ longest_content kind.Status }
+    requires targets { HaveRoom (S.device shelf.old) (has targets) }
+    ensures gives { let b = again_beginning moment descriptor.now status.now (has targets) homes in WriteGives patience.old.left b (again_order forget) (S.device shelf.old) (S.device shelf.new) result }
+    ensures patience { patience.new.left ≤ patience.old.left }
+    ensures waited { RoseBy (patience.old.left - patience.new.left) (S.device shelf.old).counts.waits (S.device shelf.new).counts.waits }
+    ensures keeps { let b = again_beginning moment descriptor.now status.now (has targets) homes in KeepsShelf (has targets) (IsOfParts b (again_order forget)) (S.device shelf.old) (S.device shelf.new) }
+    ensures kept { let b = again_beginning moment descriptor.now status.now (has targets) homes in AgainStaysKept b forget (S.device shelf.old) (S.device shelf.new) }
+{
+    let mut homes = homes;
+    match begin_again(
+        shelf, descriptor, status, moment, targets, forget, &mut homes, buf, patience,
+    ) {
+        Begun::Ended { buf: _ } => Ok(homes),
+        Begun::DiskFailed { disk, buf: _ } => Err(Cause::DiskFailed { disk }),
+        Begun::Dark => Err(Cause::Dark),
+        Begun::Stuck => Err(Cause::Stuck),
+    }
+}

@@ -1,0 +1,3 @@
+pub mod Parses
+pub mod Digits
+pub mod Outcomes

@@ -1,0 +1,278 @@
+-- What words ask for, by what `clap` makes of them.
+use Rattle.std.proofs.Common.{◌≡◌, ◌∙◌, ◌≤◌, ◌&&◌, ℕ, Bool, true, false, cond, nat_le, List, [], ◌∷◌, Option, Some, None, Result, Ok, Err, IsErrAnd, refl, sym, ap, ap₂, subst, arith, codes}
+use Rattle.std.specs.List.{list_all}
+use Rattle.std.specs.Str.{bytes_eq}
+use Rattle.std.proofs.lemmas.Bool.{le-leb}
+use Rattle.std.proofs.lemmas.Bool.Decides.{nat_tests}
+use Rattle.std.proofs.lemmas.Slice.Eq.{bytes_eq-Decides}
+use Rattle.clap.specs.Kinds.{or_else}
+use Rattle.clap.specs.ValueTests.{accepts}
+use Rattle.clap.specs.Words.{Kinds, Text, fault_of, subcommand_of}
+use Rattle.clap.specs.declared.error.kind.ErrorKind.TheVariants as kind
+use Rattle.clap.proofs.OnLiterals.{clap_on_literals}
+use Rattle.lvm_parse.specs.Words.{number_in}
+use Rattle.lvm_words.specs.CommandLine.{is_plain, is_signed, lvm_app, script_app}
+use Rattle.lvm_words.specs.Matched.{job_matched, with_both}
+use Rattle.lvm_words.specs.Words.{IsWithin, image_of, job_of, sim_of, with_two}
+use Rattle.lvm_words.specs.declared.job.Job.{Job}
+use Rattle.lvm_words.specs.declared.job.Job.TheVariants as job
+use Rattle.lvm_words.specs.declared.job.WordsFault.{WordsFault}
+use Rattle.lvm_words.specs.declared.job.WordsFault.TheVariants.{Usage}
+use Rattle.lvm_words.proofs.Digits.{accepted_number, both_true, number_accepted, number_is_plain, number_read, plain_parts}
+use Rattle.lvm_words.proofs.Parses.{Numbered, app_for, fails, fails_first, first_parser, image, level, level_more, level_none, level_one, level_two, none_fault, numbered_entered, numbered_fault, script_alone, script_fault, script_more, second_parser, sim, two_kinds, unknown_fault}
+
+pub data Outcome (words : List Text) : Type 0 where
+  asks : (j : Job) → job_of words ≡ Ok j → IsWithin j → fault_of lvm_app words ≡ [] → job_matched (subcommand_of lvm_app words) ≡ Some j → Outcome words
+  refused : job_of words ≡ Err Usage → fails (fault_of lvm_app words) ≡ true → Outcome words
+
+-- ---- `script`
+
+behind : (a : Text) (more : List Text) → list_all is_plain (a ∷ more) ≡ true → fails (fault_of lvm_app (codes "script" ∷ a ∷ more)) ≡ true
+behind a more plain =
+    let parts = both_true (is_plain a) (list_all is_plain more) plain in
+    ap fails (script_fault (a ∷ more)) ∙ fails_first (level script_app (a ∷ more)) [] (script_more a more (plain_parts a parts.0).0)
+
+script_matched : job_matched (subcommand_of lvm_app (codes "script" ∷ [])) ≡ Some job.Script
+unfolding clap_on_literals
+script_matched = refl
+
+script_outcome : (rest : List Text) → list_all is_plain rest ≡ true → Outcome (codes "script" ∷ rest)
+script_outcome [] plain = asks job.Script refl tt (script_fault [] ∙ ap (λ (k : Kinds). or_else k []) script_alone) script_matched
+script_outcome (a ∷ []) plain = refused refl (behind a [] plain)
+script_outcome (a ∷ b ∷ []) plain = refused refl (behind a (b ∷ []) plain)
+script_outcome (a ∷ b ∷ c ∷ more) plain = refused refl (behind a (b ∷ c ∷ more) plain)
+
+-- ---- a job with two numbers
+
+abbrev job_by : Numbered → Option ℕ → Option ℕ → Result Job WordsFault
+job_by sim = sim_of
+job_by image = image_of
+
+abbrev job_with : Numbered → ℕ → ℕ → Job
+job_with sim = job.Sim
+job_with image = job.Image
+
+abbrev first_low : Numbered → ℕ
+first_low sim = 1
+first_low image = 0
+
+abbrev first_high : Numbered → ℕ
+first_high sim = 32
+first_high image = 127
+
+abbrev second_high : Numbered → ℕ
+second_high sim = 64
+second_high image = 4096
+
+abbrev first_ok : Numbered → Text → Bool
+first_ok sim word = accepts false (first_parser sim) word
+first_ok image word = accepts false (first_parser image) word
+
+abbrev second_ok : Numbered → Text → Bool
+second_ok sim word = accepts false (second_parser sim) word
+second_ok image word = accepts false (second_parser image) word
+
+-- two numbers within their bounds
+both_within : (j : Numbered) (first second : ℕ) → first_low j ≤ first → first ≤ first_high j → 1 ≤ second → second ≤ second_high j
+    → (job_by j (Some first) (Some second) ≡ Ok (job_with j first second)) × IsWithin (job_with j first second)
+both_within sim first second a b c d = (rw (le-leb 1 first a, le-leb first 32 b, le-leb 1 second c, le-leb second 64 d) refl, (a, b, c, d))
+both_within image first second a b c d = (rw (le-leb first 127 b, le-leb 1 second c, le-leb second 4096 d) refl, (b, c, d))
+
+fails_test : {T : Type 0} (t : Bool) (x y : T) → (t ≡ true → ⊥) → cond t x y ≡ y
+fails_test true x y never = absurd (never refl)
+fails_test false x y never = refl
+
+-- else there is no job
+not_within : (j : Numbered) (first second : ℕ) → (first_low j ≤ first → first ≤ first_high j → 1 ≤ second → second ≤ second_high j → ⊥) → job_by j (Some first) (Some second) ≡ Err Usage
+not_within sim first second never = fails_test (nat_le 1 first && nat_le first 32 && nat_le 1 second && nat_le second 64) (Ok (job.Sim first second)) (Err Usage)
+    (λ test. never (grind (arith, nat_tests)) (grind (arith, nat_tests)) (grind (arith, nat_tests)) (grind (arith, nat_tests)))
+not_within image first second never = fails_test (nat_le first 127 && nat_le 1 second && nat_le second 4096) (Ok (job.Image first second)) (Err Usage)
+    (λ test. never (omega arith) (grind (arith, nat_tests)) (grind (arith, nat_tests)) (grind (arith, nat_tests)))
+
+accepted_first : (j : Numbered) (word : Text) → is_plain word ≡ true → first_ok j word ≡ true → (n : ℕ) × (number_in word ≡ Some n) × (first_low j ≤ n) × (n ≤ first_high j)
+accepted_first sim word plain ok = accepted_number word 1 32 plain ok
+accepted_first image word plain ok = accepted_number word 0 127 plain ok
+
+accepted_second : (j : Numbered) (word : Text) → is_plain word ≡ true → second_ok j word ≡ true → (n : ℕ) × (number_in word ≡ Some n) × (1 ≤ n) × (n ≤ second_high j)
+accepted_second sim word plain ok = accepted_number word 1 64 plain ok
+accepted_second image word plain ok = accepted_number word 1 4096 plain ok
+
+first_accepted : (j : Numbered) (word : Text) (n : ℕ) → is_plain word ≡ true → number_in word ≡ Some n → first_low j ≤ n → n ≤ first_high j → first_ok j word ≡ true
+first_accepted sim word n plain is above below = number_accepted word 1 32 n plain is above below
+first_accepted image word n plain is above below = number_accepted word 0 127 n plain is above below
+
+second_accepted : (j : Numbered) (word : Text) (n : ℕ) → is_plain word ≡ true → number_in word ≡ Some n → 1 ≤ n → n ≤ second_high j → second_ok j word ≡ true
+second_accepted sim word n plain is above below = number_accepted word 1 64 n plain is above below
+second_accepted image word n plain is above below = number_accepted word 1 4096 n plain is above below
+
+abbrev kinds_of : Bool → Kinds
+kinds_of ok = cond ok [] (kind.ValueValidation ∷ [])
+
+level_pair : (j : Numbered) (a b : Text) → is_signed a ≡ false → is_signed b ≡ false → level (app_for j) (a ∷ b ∷ []) ≡ two_kinds (kinds_of (first_ok j a)) (kinds_of (second_ok j b))
+level_pair sim a b is_a is_b = level_two sim a b is_a is_b
+level_pair image a b is_a is_b = level_two image a b is_a is_b
+
+-- a word that is refused makes no job
+no_first : (j : Numbered) (a b : Text) → is_plain a ≡ true → first_ok j a ≡ false → job_by j (number_in a) (number_in b) ≡ Err Usage
+no_first j a b plain never = go (number_in a) (number_in b) refl
+  where
+    none : (j : Numbered) (y : Option ℕ) → job_by j None y ≡ Err Usage
+    none sim y = refl
+    none image y = refl
+
+    one : (j : Numbered) (n : ℕ) → job_by j (Some n) None ≡ Err Usage
+    one sim n = refl
+    one image n = refl
+
+    go : (x y : Option ℕ) → number_in a ≡ x → job_by j x y ≡ Err Usage
+    go None y is = none j y
+    go (Some n) None is = one j n
+    go (Some n) (Some m) is = not_within j n m (λ above below _ _. let yes = first_accepted j a n plain is above below in absurd (cc))
+
+no_second : (j : Numbered) (a b : Text) → is_plain b ≡ true → second_ok j b ≡ false → job_by j (number_in a) (number_in b) ≡ Err Usage
+no_second j a b plain never = go (number_in a) (number_in b) refl
+  where
+    none : (j : Numbered) (x : Option ℕ) → job_by j x None ≡ Err Usage
+    none sim None = refl
+    none sim (Some n) = refl
+    none image None = refl
+    none image (Some n) = refl
+
+    first : (j : Numbered) (y : Option ℕ) → job_by j None y ≡ Err Usage
+    first sim y = refl
+    first image y = refl
+
+    go : (x y : Option ℕ) → number_in b ≡ y → job_by j x y ≡ Err Usage
+    go x None is = none j x
+    go None (Some m) is = first j (Some m)
+    go (Some n) (Some m) is = not_within j n m (λ _ _ above below. let yes = second_accepted j b m plain is above below in absurd (cc))
+
+job_of_pair : (j : Numbered) (a b : Text) → job_of ((app_for j).top.name ∷ a ∷ b ∷ []) ≡ job_by j (number_in a) (number_in b)
+job_of_pair sim a b = refl
+job_of_pair image a b = refl
+
+job_of_none : (j : Numbered) → job_of ((app_for j).top.name ∷ []) ≡ Err Usage
+job_of_none sim = refl
+job_of_none image = refl
+
+matched_pair : (j : Numbered) (a b : Text) (n m : ℕ) → is_plain a ≡ true → is_plain b ≡ true → number_in a ≡ Some n → number_in b ≡ Some m → n ≤ first_high j → m ≤ second_high j
+    → job_matched (subcommand_of lvm_app ((app_for j).top.name ∷ a ∷ b ∷ [])) ≡ Some (job_with j n m)
+matched_pair sim a b n m plain_a plain_b is_a is_b below_a below_b =
+    ap job_matched (numbered_entered sim a b (plain_parts a plain_a).0 (plain_parts b plain_b).0)
+    ∙ ap₂ (with_both job.Sim) (number_read a 16 n plain_a is_a (omega (arith, below_a))) (number_read b 32 m plain_b is_b (omega (arith, below_b)))
+matched_pair image a b n m plain_a plain_b is_a is_b below_a below_b =
+    ap job_matched (numbered_entered image a b (plain_parts a plain_a).0 (plain_parts b plain_b).0)
+    ∙ ap₂ (with_both job.Image) (number_read a 16 n plain_a is_a (omega (arith, below_a))) (number_read b 32 m plain_b is_b (omega (arith, below_b)))
+
+pair_outcome : (j : Numbered) (a b : Text) → is_plain a ≡ true → is_plain b ≡ true → Outcome ((app_for j).top.name ∷ a ∷ b ∷ [])
+pair_outcome j a b plain_a plain_b = go (first_ok j a) (second_ok j b) refl refl
+  where
+    fault : fault_of lvm_app ((app_for j).top.name ∷ a ∷ b ∷ []) ≡ or_else (two_kinds (kinds_of (first_ok j a)) (kinds_of (second_ok j b))) []
+    fault = numbered_fault j (a ∷ b ∷ []) ∙ ap (λ (k : Kinds). or_else k []) (level_pair j a b (plain_parts a plain_a).0 (plain_parts b plain_b).0)
+
+    go : (x y : Bool) → first_ok j a ≡ x → second_ok j b ≡ y → Outcome ((app_for j).top.name ∷ a ∷ b ∷ [])
+    go true true ok_a ok_b =
+        let first = accepted_first j a plain_a ok_a in
+        let second = accepted_second j b plain_b ok_b in
+        let within = both_within j first.0 second.0 first.2 first.3 second.2 second.3 in
+        asks (job_with j first.0 second.0) (job_of_pair j a b ∙ ap₂ (job_by j) first.1 second.1 ∙ within.0) within.1
+        (fault ∙ ap₂ (λ (x y : Bool). or_else (two_kinds (kinds_of x) (kinds_of y)) []) ok_a ok_b)
+        (matched_pair j a b first.0 second.0 plain_a plain_b first.1 second.1 first.3 second.3)
+    go true false ok_a ok_b = refused (job_of_pair j a b ∙ no_second j a b plain_b ok_b) (ap fails (fault ∙ ap₂ (λ (x y : Bool). or_else (two_kinds (kinds_of x) (kinds_of y)) []) ok_a ok_b))
+    go false true ok_a ok_b = refused (job_of_pair j a b ∙ no_first j a b plain_a ok_a) (ap fails (fault ∙ ap₂ (λ (x y : Bool). or_else (two_kinds (kinds_of x) (kinds_of y)) []) ok_a ok_b))
+    go false false ok_a ok_b = refused (job_of_pair j a b ∙ no_first j a b plain_a ok_a) (ap fails (fault ∙ ap₂ (λ (x y : Bool). or_else (two_kinds (kinds_of x) (kinds_of y)) []) ok_a ok_b))
+
+numbered_outcome : (j : Numbered) (rest : List Text) → list_all is_plain rest ≡ true → Outcome ((app_for j).top.name ∷ rest)
+numbered_outcome j [] plain = refused (job_of_none j) (ap fails (numbered_fault j []) ∙ fails_first (level (app_for j) []) [] (level_none j))
+numbered_outcome j (a ∷ []) plain =
+    let at_a = both_true (is_plain a) true plain in
+    refused refl (ap fails (numbered_fault j (a ∷ [])) ∙ fails_first (level (app_for j) (a ∷ [])) [] (level_one j a (plain_parts a at_a.0).0))
+numbered_outcome j (a ∷ b ∷ []) plain =
+    let at_a = both_true (is_plain a) (list_all is_plain (b ∷ [])) plain in
+    let at_b = both_true (is_plain b) true at_a.1 in
+    pair_outcome j a b at_a.0 at_b.0
+numbered_outcome j (a ∷ b ∷ c ∷ more) plain =
+    let at_a = both_true (is_plain a) (list_all is_plain (b ∷ c ∷ more)) plain in
+    let at_b = both_true (is_plain b) (list_all is_plain (c ∷ more)) at_a.1 in
+    let at_c = both_true (is_plain c) (list_all is_plain more) at_b.1 in
+    refused refl (ap fails (numbered_fault j (a ∷ b ∷ c ∷ more)) ∙ fails_first (level (app_for j) (a ∷ b ∷ c ∷ more)) [] (level_more j a b c more (plain_parts a at_a.0).0 (plain_parts b at_b.0).0 (plain_parts c at_c.0).0))
+
+-- ---- any words
+
+unknown_job : (name : Text) (rest : List Text) → bytes_eq name (codes "script") ≡ false → bytes_eq name (codes "sim") ≡ false → bytes_eq name (codes "image") ≡ false → job_of (name ∷ rest) ≡ Err Usage
+unknown_job name [] a b c = rw a refl
+unknown_job name (x ∷ []) a b c = refl
+unknown_job name (x ∷ y ∷ []) a b c = rw (b, c) refl
+unknown_job name (x ∷ y ∷ z ∷ more) a b c = refl
+
+turned : (a b : Text) → bytes_eq a b ≡ false → bytes_eq b a ≡ false
+turned a b differ = go (bytes_eq b a) refl
+  where
+    go : (t : Bool) → bytes_eq b a ≡ t → bytes_eq b a ≡ false
+    go false is = is
+    go true is = let same : a ≡ b = sym ((bytes_eq-Decides b a).0 is) in let yes : bytes_eq a b ≡ true = (bytes_eq-Decides a b).1 same in absurd (cc)
+
+pub outcome : (words : List Text) → list_all is_plain words ≡ true → Outcome words
+outcome [] plain = refused refl (ap fails none_fault)
+outcome (name ∷ rest) plain = go (bytes_eq name (codes "script")) (bytes_eq name (codes "sim")) (bytes_eq name (codes "image")) refl refl refl
+  where
+    parts : (is_plain name ≡ true) × (list_all is_plain rest ≡ true)
+    parts = both_true (is_plain name) (list_all is_plain rest) plain
+
+    go : (p q r : Bool) → bytes_eq name (codes "script") ≡ p → bytes_eq name (codes "sim") ≡ q → bytes_eq name (codes "image") ≡ r → Outcome (name ∷ rest)
+    go true q r a b c = subst (λ (n : Text). Outcome (n ∷ rest)) (sym ((bytes_eq-Decides name (codes "script")).0 a)) (script_outcome rest parts.1)
+    go false true r a b c = subst (λ (n : Text). Outcome (n ∷ rest)) (sym ((bytes_eq-Decides name (codes "sim")).0 b)) (numbered_outcome sim rest parts.1)
+    go false false true a b c = subst (λ (n : Text). Outcome (n ∷ rest)) (sym ((bytes_eq-Decides name (codes "image")).0 c)) (numbered_outcome image rest parts.1)
+    go false false false a b c = refused (unknown_job name rest a b c) (unknown_fault name rest (plain_parts name parts.0).0 (turned name (codes "script") a) (turned name (codes "sim") b) (turned name (codes "image") c))
+
+-- ---- words of which some are not plain
+
+numbers_plain : (j : Numbered) (a b : Text) → (is_plain a && (is_plain b && true)) ≡ false → job_by j (number_in a) (number_in b) ≡ Err Usage
+numbers_plain j a b mixed = go j (number_in a) (number_in b) refl refl
+  where
+    go : (j : Numbered) (x y : Option ℕ) → number_in a ≡ x → number_in b ≡ y → job_by j x y ≡ Err Usage
+    go sim None y is_a is_b = refl
+    go image None y is_a is_b = refl
+    go sim (Some n) None is_a is_b = refl
+    go image (Some n) None is_a is_b = refl
+    go j (Some n) (Some m) is_a is_b = let plain_a = number_is_plain a n is_a in let plain_b = number_is_plain b m is_b in absurd (cc)
+
+pub not_plain : (words : List Text) → list_all is_plain words ≡ false → job_of words ≡ Err Usage
+not_plain [] mixed = absurd (cc)
+not_plain (name ∷ []) mixed = fails_test (bytes_eq name (codes "script")) (Ok job.Script) (Err Usage)
+    (λ is. let plain : is_plain name ≡ true = ap is_plain ((bytes_eq-Decides name (codes "script")).0 is) in absurd (cc))
+not_plain (name ∷ a ∷ []) mixed = refl
+not_plain (name ∷ a ∷ b ∷ []) mixed = go (bytes_eq name (codes "sim")) (bytes_eq name (codes "image")) refl refl
+  where
+    go : (p q : Bool) → bytes_eq name (codes "sim") ≡ p → bytes_eq name (codes "image") ≡ q → with_two name a b ≡ Err Usage
+    go true q is_sim is_image =
+        let plain : is_plain name ≡ true = ap is_plain ((bytes_eq-Decides name (codes "sim")).0 is_sim) in
+        let rest : (is_plain a && (is_plain b && true)) ≡ false = cc in
+        rw is_sim (numbers_plain sim a b rest)
+    go false true is_sim is_image =
+        let plain : is_plain name ≡ true = ap is_plain ((bytes_eq-Decides name (codes "image")).0 is_image) in
+        let rest : (is_plain a && (is_plain b && true)) ≡ false = cc in
+        rw (is_sim, is_image) (numbers_plain image a b rest)
+    go false false is_sim is_image = rw (is_sim, is_image) refl
+not_plain (name ∷ a ∷ b ∷ c ∷ more) mixed = refl
+
+-- where `clap` finds no fault the job is found, and is what the words ask for
+pub job_found : (words : List Text) → list_all is_plain words ≡ true → fault_of lvm_app words ≡ [] → (found : Option Job) → found ≡ job_matched (subcommand_of lvm_app words) → (j : Job) × (found ≡ Some j) × (job_of words ≡ Ok j) × IsWithin j
+job_found words plain faultless found is = go (outcome words plain)
+  where
+    go : Outcome words → (j : Job) × (found ≡ Some j) × (job_of words ≡ Ok j) × IsWithin j
+    go (asks j asked within free matched) = (j, is ∙ matched, asked, within)
+    go (refused none fails_so) = let bad : fails [] ≡ true = ap fails (sym faultless) ∙ fails_so in absurd (cc)
+
+-- and where it finds one they ask for none
+pub none_asked : (words : List Text) → list_all is_plain words ≡ true → (fault_of lvm_app words ≡ [] → ⊥) → job_of words ≡ Err Usage
+none_asked words plain faulty = go (outcome words plain)
+  where
+    go : Outcome words → job_of words ≡ Err Usage
+    go (asks j asked within free matched) = absurd (faulty free)
+    go (refused none fails_so) = none
+
+-- what `?` hands on
+pub handed_on : {T E : Type 0} (r : Result T E) (e x : E) → IsErrAnd r (λ y. y ≡ e) → r ≡ Err x → e ≡ x
+handed_on (Ok t) e x h is = absurd h
+handed_on (Err y) e x h is = let same : y ≡ x = cc in sym h ∙ same

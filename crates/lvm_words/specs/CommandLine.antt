@@ -1,0 +1,38 @@
+-- The command line as `clap` is told it, and what is kept from it.
+use Rattle.std.specs.Prelude.{ℕ, ◌==◌, nat_le, ◌&&◌, ◌||◌, not, Bool, true, false, List, [], ◌∷◌, length, Some, codes}
+use Rattle.clap.specs.Words.{App, Rule, Shape, new_app, new_rule, with_rule, with_subcommand}
+use Rattle.clap.specs.Simple.{on_top}
+use Rattle.clap.specs.declared.builder.value_parser.ValueParser.TheVariants as parser
+
+-- a `+` or a `-` stands in front
+abbrev pub is_signed : List ℕ → Bool
+is_signed [] = false
+is_signed (b ∷ word) = b == 43 || b == 45
+
+-- the word may be one of the language: no sign in front, and at most 20 bytes
+abbrev pub is_plain : List ℕ → Bool
+is_plain word = not (is_signed word) && nat_le (length word) 20
+
+-- a number that has to be given, within these bounds
+abbrev pub number_rule : List ℕ → ℕ → ℕ → Rule
+number_rule id low high = record (new_rule id) { required = true; parser = Some (parser.Unsigned low high) }
+
+-- a job that has two numbers behind its name
+abbrev pub with_numbers : List ℕ → Rule → Rule → App
+with_numbers name first second = with_rule (with_rule (new_app name) first) second
+
+abbrev pub script_app : App
+script_app = new_app (codes "script")
+
+abbrev pub sim_app : App
+sim_app = with_numbers (codes "sim") (number_rule (codes "DISKS") 1 32) (number_rule (codes "MIB") 1 64)
+
+abbrev pub image_app : App
+image_app = with_numbers (codes "image") (number_rule (codes "N") 0 127) (number_rule (codes "MIB") 1 4096)
+
+-- the words begin with the name of a job, and nothing is answered by help
+abbrev pub lvm_settings : Shape → Shape
+lvm_settings s = record s { no_binary_name = true; disable_help_flag = true; disable_help_subcommand = true; subcommand_required = true }
+
+abbrev pub lvm_app : App
+lvm_app = with_subcommand (with_subcommand (with_subcommand (on_top lvm_settings (new_app (codes "lvm"))) script_app.top) sim_app.top) image_app.top

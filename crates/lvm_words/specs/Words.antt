@@ -1,0 +1,37 @@
+-- The language of the command line.
+use Rattle.std.specs.Prelude.{ℕ, ◌≤◌, nat_le, ◌&&◌, if◌then◌else◌, List, [], ◌∷◌, Option, Some, Result, Ok, Err, codes, bytes_eq}
+use Rattle.lvm_parse.specs.Words.{number_in}
+use Rattle.lvm_words.specs.declared.job.Job.{Job}
+use Rattle.lvm_words.specs.declared.job.Job.TheVariants.{Script, Sim, Image}
+use Rattle.lvm_words.specs.declared.job.WordsFault.{WordsFault}
+use Rattle.lvm_words.specs.declared.job.WordsFault.TheVariants.{Usage}
+
+-- 1 to 32 disks of 1 to 64 MiB
+abbrev pub sim_of : Option ℕ → Option ℕ → Result Job WordsFault
+sim_of (Some disks) (Some mib) = if nat_le 1 disks && nat_le disks 32 && nat_le 1 mib && nat_le mib 64 then Ok (Sim disks mib) else Err Usage
+sim_of disks mib = Err Usage
+
+-- a disk from 0 to 127, of 1 to 4,096 MiB
+abbrev pub image_of : Option ℕ → Option ℕ → Result Job WordsFault
+image_of (Some disk) (Some mib) = if nat_le disk 127 && nat_le 1 mib && nat_le mib 4096 then Ok (Image disk mib) else Err Usage
+image_of disk mib = Err Usage
+
+-- `script`
+abbrev pub alone : List ℕ → Result Job WordsFault
+alone name = if bytes_eq name (codes "script") then Ok Script else Err Usage
+
+-- `sim DISKS MIB` or `image N MIB`
+abbrev pub with_two : List ℕ → List ℕ → List ℕ → Result Job WordsFault
+with_two name first second = if bytes_eq name (codes "sim") then sim_of (number_in first) (number_in second) else (if bytes_eq name (codes "image") then image_of (number_in first) (number_in second) else Err Usage)
+
+-- what the words behind the program's name ask for
+abbrev pub job_of : List (List ℕ) → Result Job WordsFault
+job_of (name ∷ []) = alone name
+job_of (name ∷ first ∷ second ∷ []) = with_two name first second
+job_of words = Err Usage
+
+-- what is asked for is as large as it may be
+abbrev pub IsWithin : Job → Type 0
+IsWithin Script = Unit {0}
+IsWithin (Sim disks mib) = (1 ≤ disks) × (disks ≤ 32) × (1 ≤ mib) × (mib ≤ 64)
+IsWithin (Image disk mib) = (disk ≤ 127) × (1 ≤ mib) × (mib ≤ 4096)

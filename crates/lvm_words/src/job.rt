@@ -1,0 +1,22 @@
+//! What the words of the command line may ask for.
+
+/// What the words of the command line ask for.
+#[derive(Clone, Copy, Debug, PartialEq, Eq)]
+pub enum Job {
+    /// `script`: a script over the image files of the current folder.
+    Script,
+    /// `sim DISKS MIB`: a script over so many disks of zeros in memory, 1 to 32, each of so many MiB, 1
+    /// to 64.
+    Sim { disks: u16, mib: u32 },
+    /// `image N MIB`: a new image file for disk N, 0 to 127, of so many MiB of zeros, 1 to 4,096.
+    Image { disk: u16, mib: u32 },
+}
+
+/// Why words were not read.
+#[derive(Clone, Copy, Debug, PartialEq, Eq)]
+pub enum WordsFault {
+    /// They are not in the language of the command line.
+    Usage,
+    /// No memory was found for them.
+    Memory,
+}

@@ -1,0 +1,79 @@
+//! The command line as `clap` is told it.
+ghost use Rattle.std.specs.Prelude.{◌≡◌, IfOk, Err, true, false, [], map};
+ghost use Rattle.clap.specs.Words.{app_of, rule_of, fault_of, subcommand_of, subcommand_rows_of};
+ghost use Rattle.clap.specs.declared.builder.Command.TheViews.{out-Command};
+ghost use Rattle.lvm_words.specs.CommandLine.{number_rule, with_numbers, script_app, lvm_app};
+
+use crate::job::WordsFault;
+use clap::builder::ValueParser;
+use clap::error::ErrorKind;
+use clap::{Arg, ArgMatches, Command};
+use std::alloc::{AllocError, Global};
+
+// A number that has to be given, within these bounds.
+fn number<'a>(alloc: Global, id: &'a str, low: u64, high: u64) -> Arg<'a>
+    ensures rule { rule_of result ≡ number_rule id.entry.now low high }
+    ensures local { result.global ≡ false }
+{
+    Arg::new(alloc, id)
+        .required(true)
+        .value_parser(ValueParser::unsigned(low, high))
+}
+
+// A job with two numbers behind its name.
+fn numbered<'a>(
+    alloc: Global,
+    name: &'a str,
+    first: Arg<'a>,
+    second: Arg<'a>,
+) -> Result<Command<'a>, AllocError>
+    requires local { (first.global ≡ false) × (second.global ≡ false) }
+    ensures app { IfOk result (λ job. app_of job ≡ with_numbers name.entry.now (rule_of first.entry) (rule_of second.entry)) }
+    ensures local { IfOk result (λ job. (out-Command job).has_globals ≡ false) }
+{
+    Command::new(alloc, name).arg(first)?.arg(second)
+}
+
+// The program, which is asked for one of its jobs.
+fn command_line<'a>(alloc: Global) -> Result<Command<'a>, AllocError>
+    ensures { IfOk result (λ line. app_of line ≡ lvm_app) }
+{
+    let script = Command::new(alloc, "script");
+    let sim = numbered(
+        alloc,
+        "sim",
+        number(alloc, "DISKS", 1, 32),
+        number(alloc, "MIB", 1, 64),
+    )?;
+    let image = numbered(
+        alloc,
+        "image",
+        number(alloc, "N", 0, 127),
+        number(alloc, "MIB", 1, 4_096),
+    )?;
+    Command::new(alloc, "lvm")
+        .no_binary_name(true)
+        .disable_help_flag(true)
+        .disable_help_subcommand(true)
+        .subcommand_required(true)
+        .subcommand(script)?
+        .subcommand(sim)?
+        .subcommand(image)
+}
+
+/// What `clap` finds in the words. Usage comes exactly where there is a fault in them, by the language that
+/// it was told.
+pub(crate) fn parse<'a>(alloc: Global, words: &'a [&'a str]) -> Result<ArgMatches<'a>, WordsFault>
+    ensures faultless { IfOk result (λ _. fault_of lvm_app (map (λ word. word.now) words.now) ≡ []) }
+    ensures found { IfOk result (λ matches. subcommand_rows_of matches ≡ subcommand_of lvm_app (map (λ word. word.now) words.now)) }
+    ensures usage { result ≡ Err WordsFault.Usage → fault_of lvm_app (map (λ word. word.now) words.now) ≡ [] → ⊥ }
+{
+    let Ok(line) = command_line(alloc) else {
+        return Err(WordsFault::Memory);
+    };
+    match line.try_get_matches_from(words) {
+        Ok(matches) => Ok(matches),
+        Err(error) if error.kind() == ErrorKind::OutOfMemory => Err(WordsFault::Memory),
+        Err(_) => Err(WordsFault::Usage),
+    }
+}

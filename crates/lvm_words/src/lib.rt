@@ -1,0 +1,16 @@
+//! The words of the command line: what they ask for.
+//!
+//! `clap` reads them, behind a guard that refuses each word that isn't plain: with a sign in front, or of
+//! more than 20 bytes. What is left of its language is the one that is stated here.
+#![tactic(auto)]
+
+mod job;
+mod language;
+mod matched;
+mod plain;
+mod read;
+#[cfg(test)]
+mod tests;
+
+pub use job::{Job, WordsFault};
+pub use read::read_words;
