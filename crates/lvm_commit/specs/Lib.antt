@@ -1,0 +1,4 @@
+pub mod Committed
+pub mod Laws
+pub mod LawsOfData
+pub mod LawsOfVolumes
