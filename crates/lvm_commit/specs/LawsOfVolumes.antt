@@ -1,5 +1,5 @@
 -- What a session's disks show of a volume that is being made or removed.
-use Rattle.std.specs.Prelude.{◌≡◌, ℕ, ◌<◌, ◌++◌, ◌∷◌, [], true, List, Some, None, IsTrue, IsFalse, is_some}
+use Rattle.std.specs.Prelude.{◌≡◌, ℕ, ◌<◌, ◌++◌, ◌∷◌, [], List, None, IsTrue, IsFalse, is_some}
 use Rattle.lvm_num.specs.declared.place.Pp.{Pp}
 use Rattle.lvm_num.specs.declared.record.Stamp.{Stamp}
 use Rattle.lvm_num.specs.declared.descriptor.Mode.{Mode}
@@ -23,8 +23,10 @@ use Rattle.lvm_kept.specs.Committed.{IsWithinDisks}
 use Rattle.lvm_kept.specs.Kept.{StandsAs, Kept}
 use Rattle.lvm_kept.specs.Changes.{IsFoundByAll, IsFoundByNone}
 use Rattle.lvm_kept.specs.Moments.{Moment}
+use Rattle.lvm_kept.specs.Torn.{DescriptorsChange}
 use Rattle.lvm_change.specs.Moments.{Keeps}
 use Rattle.lvm_change.specs.Requests.{at}
+use Rattle.lvm_change.specs.VaryingOn.{AreShowing}
 use Rattle.lvm_change.specs.Committing.{DiffersInVolume, IsServed, MayCommit}
 use Rattle.lvm_change.specs.VolumeEntries.{AreZeros}
 use Rattle.lvm_quorum.specs.declared.homes.Homes.{Homes}
@@ -70,6 +72,23 @@ ZerosAreFound = (c : Contents) (group : Descriptor) (status : Status) (there : D
 -- no other group is found
 abbrev pub IsOnlyGroup : Contents → ℕ → Type 0
 IsOnlyGroup c id = (other : ℕ) (k : Descriptor) → IsFound c other k → other ≡ id
+
+-- whatever is found of another group was found before
+abbrev pub LeavesOthers : Contents → Contents → ℕ → Type 0
+LeavesOthers old new id = (other : ℕ) (k : Descriptor) → (other ≡ id → ⊥) → IsFound new other k → IsFound old other k
+
+-- A descriptor of the group on disks that show the group leaves the others as they were found,
+abbrev pub DescriptorLeavesOthers : Type 0
+DescriptorLeavesOthers = (id : ℕ) (targets : Disks) (next : Stamped Descriptor) (old new : Contents)
+    → next.value.id ≡ id → AreShowing old id targets → DescriptorsChange targets next old new → LeavesOthers old new id
+
+-- and so do statuses, notes and data.
+abbrev pub RestLeavesOthers : Type 0
+RestLeavesOthers = (id : ℕ) (old new : Contents) → new ≡ record old { status = new.status; note = new.note; block = new.block } → LeavesOthers old new id
+
+-- So the only group stays the only one.
+abbrev pub OnlyGroupStays : Type 0
+OnlyGroupStays = (id : ℕ) (old new : Contents) → LeavesOthers old new id → IsOnlyGroup old id → IsOnlyGroup new id
 
 -- A volume that the committed descriptor names is found by all,
 abbrev pub NamedIsFound : Type 0

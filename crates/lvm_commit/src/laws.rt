@@ -1,7 +1,7 @@
 //! Laws of the commits of a session. Each call does nothing: its contract is the law.
 ghost use Rattle.lvm_commit.specs.Laws.{OnlyCommittedIsFound, CommittedStatusIsRead, NewestIsBeginning, StatusFollows, StatusGoesOn, StatusIsCommitted, DescriptorIsCommitted};
 ghost use Rattle.lvm_commit.specs.LawsOfData.{FreeDataKeeps, FreeDataGoesOn, DataKeepsCommitted, StillHoldsCommitted};
-ghost use Rattle.lvm_commit.specs.LawsOfVolumes.{NextIsLater, CommittedMayCommit, ZerosAreFound, NamedIsFound, UnnamedIsNotFound, VolumeBeginsInSession, VolumeIsMadeInSession, VolumeIsGoneInSession};
+ghost use Rattle.lvm_commit.specs.LawsOfVolumes.{NextIsLater, CommittedMayCommit, ZerosAreFound, DescriptorLeavesOthers, RestLeavesOthers, OnlyGroupStays, NamedIsFound, UnnamedIsNotFound, VolumeBeginsInSession, VolumeIsMadeInSession, VolumeIsGoneInSession};
 
 /// Where the members that aren't missing have votes enough to write, each quorum finds the committed descriptor and reads the committed status.
 pub fn committed_is_found()
@@ -35,6 +35,13 @@ pub fn next_is_later()
 pub fn volume_may_be_committed()
     ensures descriptor { CommittedMayCommit }
     ensures zeros { ZerosAreFound }
+{}
+
+/// Nothing that a session writes makes another group found, so the only group stays the only one.
+pub fn only_group_stays()
+    ensures descriptor { DescriptorLeavesOthers }
+    ensures rest { RestLeavesOthers }
+    ensures only { OnlyGroupStays }
 {}
 
 /// Where no other group is found, a volume is found by all as soon as the committed descriptor names it, and by none where it doesn't.
