@@ -4,6 +4,8 @@ pub mod Statuses
 pub mod Committed
 pub mod Free
 pub mod Data
+pub mod Slots
 pub mod Still
 pub mod Volumes
 pub mod Others
+pub mod Writes

@@ -1,5 +1,5 @@
 -- What stays committed while no record is written, and the moments of a write of data.
-use Rattle.std.proofs.Common.{◌≡◌, ◌⊎◌, inl, inr, ⊎_elim, ℕ, ◌+◌, ◌<◌, ◌≤◌, List, [], Option, Some, Result, sym, ap, subst, ◌∙◌, arith}
+use Rattle.std.proofs.Common.{◌≡◌, ◌⊎◌, inl, inr, ⊎_elim, ℕ, ◌+◌, ◌<◌, List, [], Option, Some, sym, ap, subst, ◌∙◌, arith}
 use Rattle.std.specs.Prelude.{nat_lt, if◌then◌else◌}
 use Rattle.lvm_num.specs.declared.place.Pp.{Pp}
 use Rattle.lvm_num.specs.declared.record.Kind.{Kind}
@@ -12,10 +12,7 @@ use Rattle.lvm_num.specs.DescriptorBytes.{descriptor_of}
 use Rattle.lvm_num.specs.StatusBytes.{status_of}
 use Rattle.lvm_num.specs.Geometry.{data_start}
 use Rattle.lvm_num.specs.Record.{slot_start, slot_size}
-use Rattle.lvm_num.specs.Torn.{Sectors}
 use Rattle.lvm_num.specs.Votes.{all_disks}
-use Rattle.lvm_num.proofs.Records.{joined-same}
-use Rattle.lvm_rec.specs.Slots.{held, slot_of, slot_to_write, slot_for}
 use Rattle.lvm_vol.specs.Facts.{Fact}
 use Rattle.lvm_disk.specs.Device.{Media, Image, Flight, Device, image_of, IsCrashImage, MayLeave}
 use Rattle.lvm_disk.specs.Images.{DiffersBy}
@@ -31,6 +28,7 @@ use Rattle.lvm_commit.specs.Committed.{next_stamp, ShowsCommitted}
 use Rattle.lvm_commit.specs.LawsOfData.{IsSectorOf, PartitionChange, IsFlightOf, FreeDataGoesOn, DataKeepsCommitted, StillHoldsCommitted}
 use Rattle.lvm_commit.proofs.Committed.{still_finds, still_began}
 use Rattle.lvm_commit.proofs.Data.{free_data_keeps}
+use Rattle.lvm_commit.proofs.Slots.{slot_for_same}
 
 -- ---- other data
 
@@ -50,14 +48,6 @@ still_shows c block group status there shows = record {
   stated = shows.stated;
   last = shows.last;
 }
-
--- where the sectors of both slots are the same, so is the slot that comes next
-slot_for_same : {X : Type 0} (content_of : List ℕ → Result X ℕ) (kind : Kind) (old new : Sectors)
-    → ((slot s : ℕ) → slot < 2 → slot_start kind slot ≤ s → s < slot_start kind slot + slot_size kind → new s ≡ old s) → slot_for content_of kind new ≡ slot_for content_of kind old
-slot_for_same content_of kind old new same =
-    let first : slot_of kind 0 new ≡ slot_of kind 0 old = joined-same new old (slot_start kind 0) (slot_size kind) (λ s from to. same 0 s (omega arith) from to) in
-    let second : slot_of kind 1 new ≡ slot_of kind 1 old = joined-same new old (slot_start kind 1) (slot_size kind) (λ s from to. same 1 s (omega arith) from to) in
-    λ t. slot_to_write (held content_of kind (first t)) (held content_of kind (second t))
 
 slot_low : (kind : Kind) (slot s : ℕ) → slot < 2 → s < slot_start kind slot + slot_size kind → s < data_start
 slot_low kind.Descriptor slot s two lt = omega (arith, two, lt)

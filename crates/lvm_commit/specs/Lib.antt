@@ -2,3 +2,4 @@ pub mod Committed
 pub mod Laws
 pub mod LawsOfData
 pub mod LawsOfVolumes
+pub mod LawsOfWrites

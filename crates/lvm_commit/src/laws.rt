@@ -2,6 +2,7 @@
 ghost use Rattle.lvm_commit.specs.Laws.{OnlyCommittedIsFound, CommittedStatusIsRead, NewestIsBeginning, StatusFollows, StatusGoesOn, StatusIsCommitted, DescriptorIsCommitted};
 ghost use Rattle.lvm_commit.specs.LawsOfData.{FreeDataKeeps, FreeDataGoesOn, DataKeepsCommitted, StillHoldsCommitted};
 ghost use Rattle.lvm_commit.specs.LawsOfVolumes.{NextIsLater, CommittedMayCommit, ZerosAreFound, DescriptorLeavesOthers, RestLeavesOthers, OnlyGroupStays, NamedIsFound, UnnamedIsNotFound, VolumeBeginsInSession, VolumeIsMadeInSession, VolumeIsGoneInSession};
+ghost use Rattle.lvm_commit.specs.LawsOfWrites.{StatusMayGo, DescriptorMayGo, StatusIsHeld, DescriptorIsHeld, StatusWriteLeavesOthers, DescriptorWriteLeavesOthers};
 
 /// Where the members that aren't missing have votes enough to write, each quorum finds the committed descriptor and reads the committed status.
 pub fn committed_is_found()
@@ -55,6 +56,16 @@ pub fn entries_of_volumes_go_on()
     ensures begins { VolumeBeginsInSession }
     ensures made { VolumeIsMadeInSession }
     ensures gone { VolumeIsGoneInSession }
+{}
+
+/// A record of the session may be written under a stamp that comes next, and once it stands the disks hold it; other groups are left as they were.
+pub fn writes_are_held()
+    ensures may_state { StatusMayGo }
+    ensures may_describe { DescriptorMayGo }
+    ensures states { StatusIsHeld }
+    ensures describes { DescriptorIsHeld }
+    ensures stated { StatusWriteLeavesOthers }
+    ensures described { DescriptorWriteLeavesOthers }
 {}
 
 /// Data in a free partition keeps the history, at each moment while it is written, and leaves what is committed.
