@@ -1,6 +1,6 @@
 -- What is found of other groups, while records of one are written.
 use Rattle.std.proofs.Common.{◌≡◌, ⊎_elim, ℕ, Bool, true, false, ◌&&◌, Option, Some, None, refl, sym, ap, subst, ◌∙◌, eq-eqb}
-use Rattle.std.specs.Prelude.{IsTrue, ◌==◌, if◌then◌else◌}
+use Rattle.std.specs.Prelude.{IsTrue, IsSomeAnd, ◌==◌, if◌then◌else◌}
 use Rattle.std.proofs.lemmas.Bool.{eqb-true}
 use Rattle.lvm_num.specs.declared.descriptor.Descriptor.{Descriptor}
 use Rattle.lvm_num.specs.declared.status.Status.{Status}
@@ -9,12 +9,18 @@ use Rattle.lvm_num.specs.Disks.{Disks}
 use Rattle.lvm_num.specs.Note.{Noted}
 use Rattle.lvm_num.specs.Record.{Stamped, newest_below}
 use Rattle.lvm_num.specs.Votes.{votes_in, is_enough_to_read}
-use Rattle.lvm_kept.specs.Contents.{Contents}
+use Rattle.lvm_disk.specs.Device.{Media, Image, Device, image_of, IsCrashImage, MayLeave}
+use Rattle.lvm_kept.specs.Contents.{Contents, contents_of, data_at}
 use Rattle.lvm_kept.specs.Group.{if_passes, passes, is_of, has_room, descriptor_among, is_voter, has_quorum, IsFound}
+use Rattle.lvm_kept.specs.Places.{SameRecords}
+use Rattle.lvm_kept.proofs.Contained.{data_writes}
 use Rattle.lvm_change.proofs.Booleans.{either, clash}
-use Rattle.lvm_commit.specs.LawsOfVolumes.{DescriptorLeavesOthers, RestLeavesOthers, OnlyGroupStays}
+use Rattle.lvm_change.proofs.Making.{media_may}
+use Rattle.lvm_quorum.proofs.Writing.{both_from}
+use Rattle.lvm_commit.specs.LawsOfVolumes.{LeavesOthers, DescriptorLeavesOthers, RestLeavesOthers, OnlyGroupStays, OnlyGroupStaysByData, OnlyGroupStaysOn}
 use Rattle.lvm_commit.proofs.Committed.{still_finds}
 use Rattle.lvm_commit.proofs.Members.{one_group}
+use Rattle.lvm_commit.proofs.Still.{still_image, data_differs}
 
 -- a descriptor of another group is none of this one
 none_of : (other : ℕ) (o : Option (Stamped Descriptor)) → (passes (is_of other) o ≡ true → ⊥) → (passes (is_of other) o ≡ false) × (if_passes (is_of other) o ≡ None)
@@ -70,3 +76,29 @@ only_group_stays id old new leaves only other k is = ⊎_elim
     (λ (test : (other == id) ≡ true). eqb-true other id test)
     (λ (test : (other == id) ≡ false). only other k (leaves other k (λ same. clash (other == id) (eq-eqb other id same) test) is))
     (either (other == id))
+
+-- ---- on a shelf
+
+-- other data
+data_leaves : (id : ℕ) (old new : Image) → SameRecords old new → LeavesOthers (contents_of old) (contents_of new) id
+data_leaves id old new same = subst (λ (c : Contents). LeavesOthers (contents_of old) c id) (sym (data_writes old new same)) (rest_leaves_others id (contents_of old) (record (contents_of old) { block = data_at new }) refl)
+
+pub only_group_stays_by_data : OnlyGroupStaysByData
+only_group_stays_by_data id f old new its adds only image may =
+    let from = adds image may in
+    only_group_stays id (contents_of from.0) (contents_of image) (data_leaves id from.0 image (data_differs f its from.0 image from.2)) (only from.0 from.1)
+
+-- where something may be left, the media is told
+told_of : (device : Device) (image : Image) → MayLeave device image → (media : Media) × (device.media ≡ Some media)
+told_of device image may = go device.media refl may
+  where
+    go : (o : Option Media) → device.media ≡ o → IsSomeAnd o (λ media. IsCrashImage (image_of device.sizes media) device.flights image) → (media : Media) × (device.media ≡ Some media)
+    go None is left = absurd left
+    go (Some media) is left = (media, is)
+
+pub only_group_stays_on : OnlyGroupStaysOn
+only_group_stays_on id old new still leaves only image may =
+    let now = told_of new image may in
+    let was = both_from old.media new.media (λ was is. LeavesOthers (contents_of (image_of old.sizes was)) (contents_of (image_of new.sizes is)) id) now.0 leaves now.1 in
+    only_group_stays id (contents_of (image_of new.sizes now.0)) (contents_of image) (data_leaves id (image_of new.sizes now.0) image (still_image new now.0 now.1 still image may))
+    (only_group_stays id (contents_of (image_of old.sizes was.0)) (contents_of (image_of new.sizes now.0)) was.2 (only (image_of old.sizes was.0) (media_may old was.0 was.1)))

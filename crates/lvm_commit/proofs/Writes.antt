@@ -1,5 +1,5 @@
 -- A record of the session may be written, and once it stands what is committed is held.
-use Rattle.std.proofs.Common.{◌≡◌, ◌⊎◌, inl, inr, ⊎_elim, ℕ, ◌<◌, Bool, true, false, List, Some, Result, Ok, refl, sym, ap, ◌∙◌, arith}
+use Rattle.std.proofs.Common.{◌≡◌, ◌⊎◌, inl, inr, ⊎_elim, ℕ, ◌<◌, Bool, true, false, List, Some, Result, Ok, refl, sym, ap, subst, ◌∙◌, arith}
 use Rattle.std.specs.Prelude.{IsTrue, not, if◌then◌else◌}
 use Rattle.std.proofs.lemmas.Bool.Decides.{nat_tests}
 use Rattle.lvm_num.specs.declared.record.Kind.{Kind}
@@ -31,6 +31,7 @@ use Rattle.lvm_stamps.proofs.Records.{later_may_go}
 use Rattle.lvm_stamps.proofs.Stamps.{later_is_after_too}
 use Rattle.lvm_stamps.proofs.Writes.{record_is_before_next}
 use Rattle.lvm_commit.specs.Committed.{next_stamp, HoldsCommitted}
+use Rattle.lvm_commit.specs.LawsOfVolumes.{LeavesOthers}
 use Rattle.lvm_commit.specs.LawsOfWrites.{StatusMayGo, DescriptorMayGo, StandsWritten, StatusIsHeld, DescriptorIsHeld, StatusWriteLeavesOthers, DescriptorWriteLeavesOthers}
 use Rattle.lvm_commit.proofs.Committed.{status_is_committed, descriptor_is_committed}
 use Rattle.lvm_commit.proofs.Found.{shows_group}
@@ -134,13 +135,8 @@ status_is_held group status next there written stamp homes after framed old new 
 
 pub status_write_leaves_others : StatusWriteLeavesOthers
 status_write_leaves_others group status next there stamp homes framed old new whole holds frames reads later by =
-    rest_leaves_others group.id (contents_of old) (contents_of new) (only (contents_of old) (contents_of new) (statuses_change group status next there stamp homes framed old whole holds frames reads later new by).rest)
-  where
-    only : (a b : Contents) → b ≡ record a { status = b.status } → b ≡ record a { status = b.status; note = b.note; block = b.block }
-    only a b rest =
-        let note : b.note ≡ a.note = ap (λ (c : Contents). c.note) rest in
-        let block : b.block ≡ a.block = ap (λ (c : Contents). c.block) rest in
-        rest ∙ sym (λ t. record a { status = b.status; note = note t; block = block t })
+    subst (λ (c : Contents). LeavesOthers (contents_of old) c group.id) (sym (statuses_change group status next there stamp homes framed old whole holds frames reads later new by).rest)
+    (rest_leaves_others group.id (contents_of old) (record (contents_of old) { status = status_on new }) refl)
 
 -- ---- a descriptor
 

@@ -1,7 +1,7 @@
 //! Laws of the commits of a session. Each call does nothing: its contract is the law.
 ghost use Rattle.lvm_commit.specs.Laws.{OnlyCommittedIsFound, CommittedStatusIsRead, NewestIsBeginning, StatusFollows, StatusGoesOn, StatusIsCommitted, DescriptorIsCommitted};
-ghost use Rattle.lvm_commit.specs.LawsOfData.{FreeDataKeeps, FreeDataGoesOn, DataKeepsCommitted, StillHoldsCommitted};
-ghost use Rattle.lvm_commit.specs.LawsOfVolumes.{NextIsLater, CommittedMayCommit, ZerosAreFound, DescriptorLeavesOthers, RestLeavesOthers, OnlyGroupStays, NamedIsFound, UnnamedIsNotFound, VolumeBeginsInSession, VolumeIsMadeInSession, VolumeIsGoneInSession};
+ghost use Rattle.lvm_commit.specs.LawsOfData.{FreeDataKeeps, FreeDataGoesOn, DataKeepsCommitted, StillHoldsCommitted, TransferHoldsCommitted};
+ghost use Rattle.lvm_commit.specs.LawsOfVolumes.{NextIsLater, CommittedMayCommit, ZerosAreFound, DescriptorLeavesOthers, RestLeavesOthers, OnlyGroupStays, OnlyGroupStaysByData, OnlyGroupStaysOn, NamedIsFound, UnnamedIsNotFound, VolumeBeginsInSession, VolumeIsMadeInSession, VolumeIsGoneInSession};
 ghost use Rattle.lvm_commit.specs.LawsOfWrites.{StatusMayGo, DescriptorMayGo, StatusIsHeld, DescriptorIsHeld, StatusWriteLeavesOthers, DescriptorWriteLeavesOthers};
 
 /// Where the members that aren't missing have votes enough to write, each quorum finds the committed descriptor and reads the committed status.
@@ -43,6 +43,8 @@ pub fn only_group_stays()
     ensures descriptor { DescriptorLeavesOthers }
     ensures rest { RestLeavesOthers }
     ensures only { OnlyGroupStays }
+    ensures blocks { OnlyGroupStaysByData }
+    ensures on { OnlyGroupStaysOn }
 {}
 
 /// Where no other group is found, a volume is found by all as soon as the committed descriptor names it, and by none where it doesn't.
@@ -74,4 +76,5 @@ pub fn data_keeps_committed()
     ensures moments { FreeDataGoesOn }
     ensures shows { DataKeepsCommitted }
     ensures left { StillHoldsCommitted }
+    ensures transfer { TransferHoldsCommitted }
 {}
