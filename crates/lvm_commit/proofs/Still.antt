@@ -95,14 +95,15 @@ transfer_holds_committed group status there stamp homes f media old new told sti
 
 -- ---- a write of data
 
-module _ (mib : ℕ) (pp : Pp) (f : Flight) (its : IsFlightOf mib pp f) (before image : Image) (differs : DiffersBy f before image) where
-  of_data : IsOfData f
-  of_data d s lt = by_value (written f d s) refl
-    where
-      by_value : (o : Option Sector) → written f d s ≡ o → o ≡ None
-      by_value None is = refl
-      by_value (Some x) is = absurd (let low = (its d s x is).low in omega (arith, lt, low))
+-- one of a partition is of data
+pub of_data : (mib : ℕ) (pp : Pp) (f : Flight) → IsFlightOf mib pp f → IsOfData f
+of_data mib pp f its d s lt = by_value (written f d s) refl
+  where
+    by_value : (o : Option Sector) → written f d s ≡ o → o ≡ None
+    by_value None is = refl
+    by_value (Some x) is = absurd (let low = (its d s x is).low in omega (arith, lt, low))
 
+module _ (mib : ℕ) (pp : Pp) (f : Flight) (its : IsFlightOf mib pp f) (before image : Image) (differs : DiffersBy f before image) where
   data_moves : (d s : ℕ) → (data_at image d s ≡ data_at before d s) ⊎ IsSectorOf mib pp d s
   data_moves d s = ⊎_elim
       (λ (same : image.sector d s ≡ before.sector d s). inl (ap (λ (x : Sector). if nat_lt s data_start then [] else x) same))
@@ -110,7 +111,7 @@ module _ (mib : ℕ) (pp : Pp) (f : Flight) (its : IsFlightOf mib pp f) (before 
       (differs.each d s)
 
   pub moves_partition : PartitionChange mib pp (contents_of before) (contents_of image)
-  moves_partition = record { each = data_moves; rest = data_writes before image (data_differs f of_data before image differs) }
+  moves_partition = record { each = data_moves; rest = data_writes before image (data_differs f (of_data mib pp f its) before image differs) }
 
 pub free_data_goes_on : FreeDataGoesOn
 free_data_goes_on group status there pp f media old new told still enough shows on_it free its path =
