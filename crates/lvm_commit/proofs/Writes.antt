@@ -20,6 +20,7 @@ use Rattle.lvm_kept.specs.Torn.{RecordWrite, on_disk, IsOfRecord, StandsOn, MayW
 use Rattle.lvm_kept.proofs.Contained.{room-same}
 use Rattle.lvm_kept.proofs.Finding.{images_within}
 use Rattle.lvm_kept.proofs.Records.{descriptor_shows, status_shows, wider, whole_is_new}
+use Rattle.lvm_change.proofs.Committing.{commit_keeps}
 use Rattle.lvm_quorum.specs.declared.homes.Homes.{Homes}
 use Rattle.lvm_quorum.specs.Homes.{second_slots, next_slot}
 use Rattle.lvm_quorum.specs.Written.{write_of}
@@ -32,12 +33,13 @@ use Rattle.lvm_stamps.proofs.Stamps.{later_is_after_too}
 use Rattle.lvm_stamps.proofs.Writes.{record_is_before_next}
 use Rattle.lvm_commit.specs.Committed.{next_stamp, HoldsCommitted}
 use Rattle.lvm_commit.specs.LawsOfVolumes.{LeavesOthers}
-use Rattle.lvm_commit.specs.LawsOfWrites.{StatusMayGo, DescriptorMayGo, StandsWritten, StatusIsHeld, DescriptorIsHeld, StatusWriteLeavesOthers, DescriptorWriteLeavesOthers}
+use Rattle.lvm_commit.specs.LawsOfWrites.{StatusMayGo, DescriptorMayGo, StatusWriteKeeps, DescriptorWriteKeeps, StandsWritten, StatusIsHeld, DescriptorIsHeld, StatusWriteLeavesOthers, DescriptorWriteLeavesOthers}
 use Rattle.lvm_commit.proofs.Committed.{status_is_committed, descriptor_is_committed}
 use Rattle.lvm_commit.proofs.Found.{shows_group}
 use Rattle.lvm_commit.proofs.Others.{descriptor_leaves_others, rest_leaves_others}
 use Rattle.lvm_commit.proofs.Slots.{other_kind, turned}
-use Rattle.lvm_commit.proofs.Volumes.{next_is_later}
+use Rattle.lvm_commit.proofs.Statuses.{status_follows}
+use Rattle.lvm_commit.proofs.Volumes.{next_is_later, committed_may_commit}
 
 -- ---- numbers and slots
 
@@ -118,6 +120,19 @@ module _ (group : Descriptor) (status next : Status) (there : Disks) (stamp : St
   unfolding status_on
   status_stands d is stands = whole_is_new Status status_of status_write next old new d may_state (wider status_write old new frames may_state.slots by) is stands
 
+pub status_write_keeps : StatusWriteKeeps
+status_write_keeps group status next there stamp homes framed old new facts whole enough holds frames reads own marks later by kept =
+    status_follows group status there there (as_read (write_of kind.Status framed there homes) next) (contents_of old) (contents_of new) facts (images_within old)
+    (record {
+      enough = enough;
+      shows = holds.shows;
+      showing = λ d is. is;
+      own = own;
+      marks = marks;
+      later = λ d r shows its. (next_is_later old group status there stamp framed.stamp homes whole holds later).statuses d r shows;
+    })
+    (statuses_change group status next there stamp homes framed old whole holds frames reads later new by) kept
+
 pub status_is_held : StatusIsHeld
 status_is_held group status next there written stamp homes after framed old new whole holds frames reads own later stands = record {
   shows = status_is_committed group status there there written (as_read (write_of kind.Status framed there homes) next) (contents_of old) (contents_of new) holds.shows own
@@ -159,6 +174,13 @@ module _ (group next : Descriptor) (status : Status) (there : Disks) (stamp : St
   descriptor_stands : (d : ℕ) → IsTrue (there d) → StandsOn descriptor_write new d → descriptor_on new d ≡ Some (as_read descriptor_write next)
   unfolding descriptor_on
   descriptor_stands d is stands = whole_is_new Descriptor descriptor_of descriptor_write next old new d may_describe (wider descriptor_write old new frames may_describe.slots by) is stands
+
+pub descriptor_write_keeps : DescriptorWriteKeeps
+descriptor_write_keeps group next lv status there stamp homes framed old new facts whole holds frames reads serves later by kept =
+    commit_keeps group lv there (as_read (write_of kind.Descriptor framed there homes) next) (contents_of old) (contents_of new) facts (images_within old)
+    (committed_may_commit (contents_of old) group status there there facts lv (as_read (write_of kind.Descriptor framed there homes) next) holds.shows (λ d is. is)
+    (λ d r shows its. (next_is_later old group status there stamp framed.stamp homes whole holds later).descriptors d r shows) serves)
+    (descriptors_change group next status there stamp homes framed old whole holds frames reads later new by) kept
 
 pub descriptor_is_held : DescriptorIsHeld
 descriptor_is_held group next status there written stamp homes after framed old new whole holds frames reads alike later stands enough = record {

@@ -2,7 +2,7 @@
 ghost use Rattle.lvm_commit.specs.Laws.{OnlyCommittedIsFound, CommittedStatusIsRead, NewestIsBeginning, StatusFollows, StatusGoesOn, StatusIsCommitted, DescriptorIsCommitted};
 ghost use Rattle.lvm_commit.specs.LawsOfData.{FreeDataKeeps, FreeDataGoesOn, DataKeepsCommitted, StillHoldsCommitted, TransferHoldsCommitted};
 ghost use Rattle.lvm_commit.specs.LawsOfVolumes.{NextIsLater, CommittedMayCommit, ZerosAreFound, DescriptorLeavesOthers, RestLeavesOthers, OnlyGroupStays, OnlyGroupStaysByData, OnlyGroupStaysOn, NamedIsFound, UnnamedIsNotFound, VolumeBeginsInSession, VolumeIsMadeInSession, VolumeIsGoneInSession};
-ghost use Rattle.lvm_commit.specs.LawsOfWrites.{StatusMayGo, DescriptorMayGo, StatusIsHeld, DescriptorIsHeld, StatusWriteLeavesOthers, DescriptorWriteLeavesOthers};
+ghost use Rattle.lvm_commit.specs.LawsOfWrites.{StatusMayGo, DescriptorMayGo, StatusWriteKeeps, DescriptorWriteKeeps, StatusIsHeld, DescriptorIsHeld, StatusWriteLeavesOthers, DescriptorWriteLeavesOthers};
 
 /// Where the members that aren't missing have votes enough to write, each quorum finds the committed descriptor and reads the committed status.
 pub fn committed_is_found()
@@ -60,10 +60,12 @@ pub fn entries_of_volumes_go_on()
     ensures gone { VolumeIsGoneInSession }
 {}
 
-/// A record of the session may be written under a stamp that comes next, and once it stands the disks hold it; other groups are left as they were.
+/// A record of the session may be written under a stamp that comes next. Whatever of it has landed keeps the history and leaves other groups as they were, and once it stands the disks hold it.
 pub fn writes_are_held()
     ensures may_state { StatusMayGo }
     ensures may_describe { DescriptorMayGo }
+    ensures stating { StatusWriteKeeps }
+    ensures describing { DescriptorWriteKeeps }
     ensures states { StatusIsHeld }
     ensures describes { DescriptorIsHeld }
     ensures stated { StatusWriteLeavesOthers }
