@@ -3,9 +3,9 @@ pub mod Found
 pub mod Statuses
 pub mod Committed
 pub mod Free
-pub mod Data
 pub mod Slots
+pub mod Writes
+pub mod Data
 pub mod Still
 pub mod Volumes
 pub mod Others
-pub mod Writes

@@ -1,5 +1,5 @@
 pub mod Committed
 pub mod Laws
+pub mod LawsOfWrites
 pub mod LawsOfData
 pub mod LawsOfVolumes
-pub mod LawsOfWrites
