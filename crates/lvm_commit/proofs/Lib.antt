@@ -9,3 +9,5 @@ pub mod Data
 pub mod Still
 pub mod Volumes
 pub mod Others
+pub mod NoMore
+pub mod Finding

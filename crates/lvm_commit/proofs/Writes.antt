@@ -35,7 +35,6 @@ use Rattle.lvm_commit.specs.Committed.{next_stamp, HoldsCommitted}
 use Rattle.lvm_commit.specs.LawsOfVolumes.{LeavesOthers}
 use Rattle.lvm_commit.specs.LawsOfWrites.{StatusMayGo, DescriptorMayGo, StatusWriteKeeps, DescriptorWriteKeeps, StandsWritten, StatusIsHeld, DescriptorIsHeld, StatusWriteLeavesOthers, DescriptorWriteLeavesOthers}
 use Rattle.lvm_commit.proofs.Committed.{status_is_committed, descriptor_is_committed}
-use Rattle.lvm_commit.proofs.Found.{shows_group}
 use Rattle.lvm_commit.proofs.Others.{descriptor_leaves_others, rest_leaves_others}
 use Rattle.lvm_commit.proofs.Slots.{other_kind, turned}
 use Rattle.lvm_commit.proofs.Statuses.{status_follows}
@@ -113,7 +112,7 @@ module _ (group : Descriptor) (status next : Status) (there : Disks) (stamp : St
   may_state : MayWriteAll Status status_of status_write next old
   may_state = status_may_go old group status next there stamp homes framed whole holds frames reads later
 
-  statuses_change : StatusesChange there (as_read status_write next) (contents_of old) (contents_of new)
+  pub statuses_change : StatusesChange there (as_read status_write next) (contents_of old) (contents_of new)
   statuses_change = status_shows status_write next old new refl may_state by
 
   status_stands : (d : ℕ) → IsTrue (there d) → StandsOn status_write new d → status_on new d ≡ Some (as_read status_write next)
@@ -168,7 +167,7 @@ module _ (group next : Descriptor) (status : Status) (there : Disks) (stamp : St
   may_describe : MayWriteAll Descriptor descriptor_of descriptor_write next old
   may_describe = descriptor_may_go old group next status there stamp homes framed whole holds frames reads later
 
-  descriptors_change : DescriptorsChange there (as_read descriptor_write next) (contents_of old) (contents_of new)
+  pub descriptors_change : DescriptorsChange there (as_read descriptor_write next) (contents_of old) (contents_of new)
   descriptors_change = descriptor_shows descriptor_write next old new refl may_describe by
 
   descriptor_stands : (d : ℕ) → IsTrue (there d) → StandsOn descriptor_write new d → descriptor_on new d ≡ Some (as_read descriptor_write next)
@@ -201,5 +200,4 @@ descriptor_is_held group next status there written stamp homes after framed old 
 pub descriptor_write_leaves_others : DescriptorWriteLeavesOthers
 descriptor_write_leaves_others group next status there stamp homes framed old new whole holds frames reads own later by =
     descriptor_leaves_others group.id there (as_read (write_of kind.Descriptor framed there homes) next) (contents_of old) (contents_of new) own
-    (λ d is. shows_group (contents_of old) group status there holds.shows d is)
     (descriptors_change group next status there stamp homes framed old whole holds frames reads later new by)

@@ -28,7 +28,6 @@ use Rattle.lvm_kept.specs.Raw.{OnlyAdds}
 use Rattle.lvm_kept.specs.Torn.{DescriptorsChange}
 use Rattle.lvm_change.specs.Moments.{Keeps}
 use Rattle.lvm_change.specs.Requests.{IsOfData, at}
-use Rattle.lvm_change.specs.VaryingOn.{AreShowing}
 use Rattle.lvm_change.specs.Committing.{DiffersInVolume, IsServed, MayCommit}
 use Rattle.lvm_change.specs.VolumeEntries.{AreZeros}
 use Rattle.lvm_quorum.specs.declared.homes.Homes.{Homes}
@@ -79,10 +78,10 @@ IsOnlyGroup c id = (other : ℕ) (k : Descriptor) → IsFound c other k → othe
 abbrev pub LeavesOthers : Contents → Contents → ℕ → Type 0
 LeavesOthers old new id = (other : ℕ) (k : Descriptor) → (other ≡ id → ⊥) → IsFound new other k → IsFound old other k
 
--- A descriptor of the group on disks that show the group leaves the others as they were found,
+-- A descriptor of the group leaves the others as they were found,
 abbrev pub DescriptorLeavesOthers : Type 0
 DescriptorLeavesOthers = (id : ℕ) (targets : Disks) (next : Stamped Descriptor) (old new : Contents)
-    → next.value.id ≡ id → AreShowing old id targets → DescriptorsChange targets next old new → LeavesOthers old new id
+    → next.value.id ≡ id → DescriptorsChange targets next old new → LeavesOthers old new id
 
 -- and so do statuses, notes and data.
 abbrev pub RestLeavesOthers : Type 0

@@ -3,3 +3,4 @@ pub mod Laws
 pub mod LawsOfWrites
 pub mod LawsOfData
 pub mod LawsOfVolumes
+pub mod LawsOfFinding

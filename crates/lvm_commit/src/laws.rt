@@ -2,6 +2,7 @@
 ghost use Rattle.lvm_commit.specs.Laws.{OnlyCommittedIsFound, CommittedStatusIsRead, NewestIsBeginning, StatusFollows, StatusGoesOn, StatusIsCommitted, DescriptorIsCommitted};
 ghost use Rattle.lvm_commit.specs.LawsOfData.{FreeDataKeeps, FreeDataGoesOn, DataKeepsCommitted, StillHoldsCommitted, TransferHoldsCommitted};
 ghost use Rattle.lvm_commit.specs.LawsOfVolumes.{NextIsLater, CommittedMayCommit, ZerosAreFound, DescriptorLeavesOthers, RestLeavesOthers, OnlyGroupStays, OnlyGroupStaysByData, OnlyGroupStaysOn, NamedIsFound, UnnamedIsNotFound, VolumeBeginsInSession, VolumeIsMadeInSession, VolumeIsGoneInSession};
+ghost use Rattle.lvm_commit.specs.LawsOfFinding.{DescriptorFindsNoMore, RestFindsNothingNew, StatusWriteFindsNothingNew, DescriptorWriteFindsNoMore, TransferFindsNothingNew};
 ghost use Rattle.lvm_commit.specs.LawsOfWrites.{StatusMayGo, DescriptorMayGo, StatusWriteKeeps, DescriptorWriteKeeps, StatusIsHeld, DescriptorIsHeld, StatusWriteLeavesOthers, DescriptorWriteLeavesOthers};
 
 /// Where the members that aren't missing have votes enough to write, each quorum finds the committed descriptor and reads the committed status.
@@ -70,6 +71,15 @@ pub fn writes_are_held()
     ensures describes { DescriptorIsHeld }
     ensures stated { StatusWriteLeavesOthers }
     ensures described { DescriptorWriteLeavesOthers }
+{}
+
+/// Whatever a session writes and however much of it has landed, nothing is found that wasn't found before, but the descriptor that it writes.
+pub fn nothing_else_is_found()
+    ensures descriptor { DescriptorFindsNoMore }
+    ensures rest { RestFindsNothingNew }
+    ensures states { StatusWriteFindsNothingNew }
+    ensures describes { DescriptorWriteFindsNoMore }
+    ensures transfer { TransferFindsNothingNew }
 {}
 
 /// Data in a free partition keeps the history, at each moment while it is written, and leaves what is committed.
