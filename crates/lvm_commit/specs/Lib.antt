@@ -1,5 +1,7 @@
 pub mod Committed
 pub mod Laws
+pub mod LawsOfWrites
 pub mod LawsOfData
 pub mod LawsOfVolumes
 pub mod Settling
+pub mod LawsOfFinding
