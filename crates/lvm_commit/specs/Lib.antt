@@ -3,3 +3,4 @@ pub mod Laws
 pub mod LawsOfData
 pub mod LawsOfVolumes
 pub mod Settling
+pub mod Rounds

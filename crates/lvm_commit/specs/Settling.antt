@@ -81,11 +81,16 @@ there u = members_there u.group u.wanted
 abbrev pub many_there : Stored → ℕ
 many_there u = count_by (λ (row : PvRow). not (calls_missing u.wanted row.disk)) u.group.pvs
 
--- What a session needs before it writes records: nothing in flight, a valid group with a row for each member, a session that has begun, and
--- members that aren't missing with room for records and votes enough to write.
-pub record MaySettle (u : Stored) (device : Device) : Type 0 where
+-- the session is one of this group
+abbrev pub IsOf : Descriptor → Stored → Type 0
+IsOf group u = record group { lvs = [] } ≡ u.group
+
+-- What a session needs before it writes records: its group is valid, with a row for each member, it has begun, nothing is in flight, and the members
+-- that aren't missing have room for records and votes enough to write.
+pub record MaySettle (group : Descriptor) (u : Stored) (device : Device) : Type 0 where
+  pub valid : IsValid group
+  pub own : IsOf group u
   pub idle : u.in_flight ≡ None
-  pub valid : IsValid u.group
   pub id : u.wanted.id ≡ u.group.id
   pub rows : HasItsRows u.group u.wanted
   pub epoch : u.stamp.epoch ≢ 0
@@ -165,10 +170,6 @@ abbrev pub IsOfCommit : List ℕ → Stored → Stored → Plan
 IsOfCommit content first last d s value = (write : RecordWrite) × (Describes content write ⊎ StatesGroup first.group write) × IsOfSession first last write d s value
 
 -- ---- what stays kept
-
--- the session is one of this group
-abbrev pub IsOf : Descriptor → Stored → Type 0
-IsOf group u = record group { lvs = [] } ≡ u.group
 
 -- the disks hold what the session says is committed of the group, where the media is told
 abbrev pub SessionIsHeld : Device → Descriptor → Stored → Homes → Type 0

@@ -3,6 +3,7 @@
 
 mod commit;
 mod laws;
+mod write;
 
 pub use commit::{Settled, commit_descriptor, commit_status};
 pub use laws::{
