@@ -11,3 +11,6 @@ pub use laws::{
     next_is_later, only_group_stays, session_begins, status_follows, volume_is_found,
     volume_may_be_committed,
 };
+
+#[cfg(test)]
+mod tests;
