@@ -7,3 +7,6 @@ pub mod Data
 pub mod Still
 pub mod Volumes
 pub mod Others
+pub mod Counting
+pub mod Losing
+pub mod Ending

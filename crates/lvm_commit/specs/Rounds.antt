@@ -9,7 +9,7 @@ use Rattle.lvm_num.specs.Votes.{votes_in, total_votes, is_enough_to_write, CanWr
 use Rattle.lvm_disk.specs.Device.{Device, IsReady}
 use Rattle.lvm_disk.specs.Paths.{DeviceStep, Path}
 use Rattle.lvm_kept.specs.Torn.{RecordWrite, IsOfRecord}
-use Rattle.lvm_stale.specs.Table.{SameMembers, SameStale}
+use Rattle.lvm_stale.specs.Table.{SameStale}
 use Rattle.lvm_status.specs.Update.{Stored, no_disks}
 use Rattle.lvm_quorum.specs.declared.homes.Homes.{Homes}
 use Rattle.lvm_quorum.specs.Homes.{Flips}
@@ -17,13 +17,13 @@ use Rattle.lvm_quorum.specs.Parts.{Spends}
 use Rattle.lvm_quorum.specs.Written.{write_of, KeepsShelf, IsWriting, EndsOn, StandsTold, written_well, IsDarkened, IsGivenUp}
 use Rattle.lvm_commit.specs.declared.commit.Settled.{Settled}
 use Rattle.lvm_commit.specs.declared.commit.Settled.TheVariants as settled
-use Rattle.lvm_commit.specs.Settling.{there}
+use Rattle.lvm_commit.specs.Settling.{there, HasSameRows}
 
 -- ---- the session
 
 -- some of these disks become missing, and nothing else changes in what is wanted
 pub record Misses (failed : Disks) (old new : Status) : Type 0 where
-  pub members : SameMembers old new
+  pub rows : HasSameRows old new
   pub stale : SameStale old new
   pub dirty : new.dirty ≡ old.dirty
   pub missing : (d : ℕ) → calls_missing new d ≡ (calls_missing old d || failed d)
@@ -37,14 +37,13 @@ pub record IsStarted (u : Stored) : Type 0 where
   pub written : has u.writes.written ≡ no_disks
   pub failed : has u.writes.failed ≡ no_disks
 
--- The writes of the update in flight have ended, on these disks badly, if they are members that weren't missing: it is committed where the others have
--- votes enough to write, and else stays in flight.
+-- The writes of the update in flight have ended, on these disks badly where one went to them: it is committed where the other members have votes enough to
+-- write.
 pub record HasEnded (failed : Disks) (first last : Stored) : Type 0 where
   pub group : last.group ≡ first.group
   pub stamp : last.stamp ≡ first.stamp
   pub wanted : Misses (λ d. there first d && failed d) first.wanted last.wanted
   pub committed : CanWrite last.group (there last) → (last.in_flight ≡ None) × (last.committed ≡ first.wanted)
-  pub flies : IsFalse (is_enough_to_write last.group (votes_in last.group (there last))) → last.in_flight ≡ Some first.wanted
 
 -- the disks are wanted missing
 pub record HasLost (failed : Disks) (first last : Stored) : Type 0 where

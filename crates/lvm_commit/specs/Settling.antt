@@ -1,8 +1,9 @@
 -- How a session commits its records: what a commit needs, what it writes, and what it leaves.
-use Rattle.std.specs.Prelude.{◌≡◌, ◌⊎◌, ◌≢◌, ℕ, ◌+◌, ◌^◌, ◌<◌, ◌≤◌, not, List, [], length, None, Ok, IsTrue, IsFalse, IfSome, count_by}
+use Rattle.std.specs.Prelude.{◌≡◌, ◌⊎◌, ◌≢◌, ℕ, ◌+◌, ◌^◌, ◌<◌, ◌≤◌, not, List, [], map, None, Ok, IsTrue, IsFalse, IfSome, count_by}
 use Rattle.lvm_num.specs.declared.record.Kind.TheVariants as kind
 use Rattle.lvm_num.specs.declared.descriptor.PvRow.{PvRow}
 use Rattle.lvm_num.specs.declared.descriptor.Descriptor.{Descriptor}
+use Rattle.lvm_num.specs.declared.status.StatusRow.{StatusRow}
 use Rattle.lvm_num.specs.declared.status.Status.{Status}
 use Rattle.lvm_num.specs.Buffer.{Buffer, Sector}
 use Rattle.lvm_num.specs.Disks.{Disks}
@@ -20,7 +21,7 @@ use Rattle.lvm_vol.specs.Facts.{Fact}
 use Rattle.lvm_kept.specs.Contents.{contents_of}
 use Rattle.lvm_kept.specs.Plans.{Plan}
 use Rattle.lvm_kept.specs.Torn.{RecordWrite, IsOfRecord}
-use Rattle.lvm_stale.specs.Table.{SameMembers, SameStale}
+use Rattle.lvm_stale.specs.Table.{SameStale}
 use Rattle.lvm_status.specs.Members.{HasItsRows}
 use Rattle.lvm_status.specs.Update.{Stored, members_there}
 use Rattle.lvm_change.specs.Moments.{StaysKept, ImagesKept}
@@ -103,6 +104,12 @@ HasNumbers more u = u.stamp.seq + more + many_there u < 2 ^ 32
 
 -- ---- what is left
 
+-- The group, its size and the disks that have rows stay.
+pub record HasSameRows (old new : Status) : Type 0 where
+  pub id : new.id ≡ old.id
+  pub big : new.big ≡ old.big
+  pub disks : map (λ (row : StatusRow). row.disk) new.rows ≡ map (λ (row : StatusRow). row.disk) old.rows
+
 -- Nothing is in flight, what is wanted is committed, and the members that aren't missing have votes enough to write.
 pub record IsCommitted (u : Stored) : Type 0 where
   pub idle : u.in_flight ≡ None
@@ -121,7 +128,7 @@ pub record HasLostQuorum (first last : Stored) (old new : Device) (have total : 
 -- The group stays, and of what is wanted only this changes: members become missing, each of them after a transfer to it has failed.
 pub record OnlyLoses (first last : Stored) (old new : Device) : Type 0 where
   pub group : last.group ≡ first.group
-  pub members : SameMembers first.wanted last.wanted
+  pub rows : HasSameRows first.wanted last.wanted
   pub stale : SameStale first.wanted last.wanted
   pub dirty : last.wanted.dirty ≡ first.wanted.dirty
   pub stays : (d : ℕ) → IsTrue (calls_missing first.wanted d) → IsTrue (calls_missing last.wanted d)
