@@ -5,3 +5,4 @@ pub mod LawsOfData
 pub mod LawsOfVolumes
 pub mod Settling
 pub mod LawsOfFinding
+pub mod Rounds

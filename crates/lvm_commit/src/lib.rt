@@ -3,6 +3,7 @@
 
 mod commit;
 mod laws;
+mod write;
 
 pub use commit::{Settled, commit_descriptor, commit_status};
 pub use laws::{
@@ -10,3 +11,6 @@ pub use laws::{
     next_is_later, nothing_else_is_found, only_group_stays, session_begins, status_follows,
     volume_is_found, volume_may_be_committed, writes_are_held,
 };
+
+#[cfg(test)]
+mod tests;
