@@ -6,3 +6,5 @@ pub mod Closing
 pub mod Entering
 pub mod Zeroing
 pub mod Buffers
+pub mod Own
+pub mod ZeroEnding
