@@ -8,3 +8,5 @@ pub mod Zeroing
 pub mod Buffers
 pub mod Own
 pub mod ZeroEnding
+pub mod Spanning
+pub mod ZeroKeeping
