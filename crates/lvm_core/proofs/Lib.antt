@@ -10,3 +10,4 @@ pub mod Own
 pub mod ZeroEnding
 pub mod Spanning
 pub mod ZeroKeeping
+pub mod Settling
