@@ -156,7 +156,7 @@ module _ (old new : Device) (log : Log) (name : List ℕ) (moment : ℕ) (room :
       let reads : ReadsBy c all_disks group.id group = finding_reads c all_disks group.id group (record { quorum = holds.quorum; newest = holds.newest; found = holds.only.newest; is = holds.is }) in
       let enough : CanRead group (answering c group) = subst (λ (v : Disks). CanRead group v) (sym reads.voters) reads.reads.enough in
       more_is_enough.write group (votes_in group (answering c group)) (votes_in group (members_there group is.written.next))
-          (more_have_more group (answering c group) (members_there group is.written.next) present) (read_is_write group (votes_in group (answering c group)) is.valid.head.a_member enough)
+      (more_have_more group (answering c group) (members_there group is.written.next) present) (read_is_write group (votes_in group (answering c group)) is.valid.head.a_member enough)
     where
       present : (d : ℕ) → IsTrue (is_member is.written.group d) → IsTrue (answering is.written.found.shown is.written.group d) → IsTrue (members_there is.written.group is.written.next d)
       present d member target =
