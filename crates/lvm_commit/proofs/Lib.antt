@@ -11,3 +11,6 @@ pub mod Volumes
 pub mod Others
 pub mod NoMore
 pub mod Finding
+pub mod Counting
+pub mod Losing
+pub mod Ending

@@ -4,3 +4,5 @@ pub mod LawsOfWrites
 pub mod LawsOfData
 pub mod LawsOfVolumes
 pub mod LawsOfFinding
+pub mod Settling
+pub mod Rounds
