@@ -10,3 +10,5 @@ pub mod Others
 pub mod Counting
 pub mod Losing
 pub mod Ending
+pub mod Wanting
+pub mod Sizes
