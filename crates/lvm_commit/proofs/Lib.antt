@@ -12,3 +12,4 @@ pub mod Losing
 pub mod Ending
 pub mod Wanting
 pub mod Sizes
+pub mod Recording
