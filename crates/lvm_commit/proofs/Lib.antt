@@ -14,3 +14,6 @@ pub mod Finding
 pub mod Counting
 pub mod Losing
 pub mod Ending
+pub mod Wanting
+pub mod Sizes
+pub mod Recording

@@ -1,7 +1,7 @@
 //! One record of a session is written, and the members on which its write failed are missing.
 ghost use Rattle.std.specs.Prelude.{◌≡◌, ◌≢◌, ◌+◌, ◌<◌, ◌≤◌, ◌^◌, ◌++◌, ℕ, length, drop, None, IsTrue};
 ghost use Rattle.lvm_num.specs.declared.record.Kind.TheVariants as kind;
-ghost use Rattle.lvm_num.specs.Descriptor.{IsValid};
+ghost use Rattle.lvm_num.specs.Descriptor.{IsValid, is_member};
 ghost use Rattle.lvm_num.specs.Disks.{has};
 ghost use Rattle.lvm_num.specs.Record.{longest_content};
 ghost use Rattle.lvm_num.specs.StatusBytes.{status_bytes};
@@ -97,7 +97,7 @@ pub fn write_descriptor<S: Shelf>(
         patience,
     ) {
         Wrote::Ended { failed, buf } => {
-            lose(updater, failed);
+            lose(d, updater, failed);
             by_votes(d, updater, buf)
         }
         Wrote::Dark => Settled::Dark,
@@ -139,15 +139,17 @@ fn end_writes(d: &Descriptor, updater: &mut Updater, failed: DiskSet)
 }
 
 // These members are wanted missing.
-fn lose(updater: &mut Updater, failed: DiskSet)
+fn lose(d: &Descriptor, updater: &mut Updater, failed: DiskSet)
+    requires valid { IsValid d.now }
+    requires own { IsOf d.now updater.old }
     requires idle { updater.old.in_flight ≡ None }
     requires rows { HasItsRows updater.old.group updater.old.wanted }
-    requires members { (disk : ℕ) → IsTrue (has failed disk) → IsTrue (there updater.old disk) }
+    requires members { (disk : ℕ) → IsTrue (has failed disk) → IsTrue (is_member d.now disk) }
     ensures { HasLost (has failed) updater.old updater.new }
 {
-    for disk in 0..128 {
-        if failed.has(disk) {
-            updater.want(Change::Missing(disk));
+    for row in d.pvs.as_slice() {
+        if failed.has(row.disk) {
+            updater.want(Change::Missing(row.disk));
         }
     }
 }
