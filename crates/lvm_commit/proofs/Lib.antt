@@ -17,3 +17,5 @@ pub mod Ending
 pub mod Wanting
 pub mod Sizes
 pub mod Recording
+pub mod Chaining
+pub mod Round
