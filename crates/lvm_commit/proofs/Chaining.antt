@@ -1,26 +1,26 @@
 -- What some records of a session did, one after another.
-use Rattle.std.proofs.Common.{◌≡◌, ⊎_elim, ℕ, ◌+◌, ◌<◌, ◌≤◌, Bool, true, false, ◌&&◌, ◌||◌, not, IsTrue, IsFalse, refl, sym, ◌∙◌, ap, subst, arith}
+use Rattle.std.proofs.Common.{◌≡◌, ⊎_elim, ℕ, ◌+◌, Bool, true, false, ◌&&◌, ◌||◌, not, IsTrue, IsFalse, refl, sym, ◌∙◌, ap, arith}
 use Rattle.std.proofs.lemmas.Bool.{false≢true}
 use Rattle.lvm_num.specs.Buffer.{Buffer, Sector}
 use Rattle.lvm_num.specs.Disks.{Disks}
 use Rattle.lvm_num.specs.Descriptor.{is_member}
 use Rattle.lvm_num.specs.Status.{calls_missing}
-use Rattle.lvm_disk.specs.Counts.{Rose, NoneFalls}
+use Rattle.lvm_disk.specs.Counts.{NoneFalls}
 use Rattle.lvm_disk.specs.Device.{Device, IsReady, image_of}
 use Rattle.lvm_disk.specs.Paths.{DeviceStep, Path, Here, Then}
 use Rattle.lvm_disk.proofs.Rising.{rose_before, rose_after, none_falls_at_once, none_falls_on}
 use Rattle.lvm_disk.proofs.Stepping.{step_counts}
 use Rattle.lvm_kept.specs.Plans.{Plan, ChangesBy}
-use Rattle.lvm_kept.specs.Torn.{RecordWrite, IsOfRecord}
+use Rattle.lvm_kept.specs.Torn.{RecordWrite}
 use Rattle.lvm_status.specs.Update.{Stored}
 use Rattle.lvm_change.proofs.Booleans.{either, clash}
 use Rattle.lvm_quorum.specs.declared.homes.Homes.{Homes}
 use Rattle.lvm_quorum.specs.Parts.{Spends}
-use Rattle.lvm_quorum.specs.Written.{KeepsShelf, IsWriting, EndsOn, StandsTold}
+use Rattle.lvm_quorum.specs.Written.{KeepsShelf}
 use Rattle.lvm_quorum.proofs.Transfers.{keeps_then, spends_then}
 use Rattle.lvm_quorum.proofs.Writing.{logs_wider, both_map, changes_more}
-use Rattle.lvm_commit.specs.Settling.{there, HasSameRows, OnlyLoses, AreWell, HasLostQuorum, SpendsNumbers}
-use Rattle.lvm_commit.specs.Rounds.{Misses, WasTried}
+use Rattle.lvm_commit.specs.Settling.{there, OnlyLoses, AreWell, HasLostQuorum, SpendsNumbers}
+use Rattle.lvm_commit.specs.Rounds.{WasTried}
 
 -- ---- counts
 

@@ -19,3 +19,6 @@ pub mod Sizes
 pub mod Recording
 pub mod Chaining
 pub mod Round
+pub mod Holding
+pub mod HoldingStatus
+pub mod HoldingDescriptor

@@ -1,5 +1,5 @@
 -- What the write of one record does, however it ended.
-use Rattle.std.proofs.Common.{◌≡◌, ◌⊎◌, inl, inr, ⊎_elim, ℕ, ◌+◌, ◌≤◌, Bool, true, false, ◌&&◌, ◌||◌, not, List, [], ◌∷◌, IsTrue, IsFalse, refl, sym, ◌∙◌, ap, subst, arith}
+use Rattle.std.proofs.Common.{◌≡◌, ◌⊎◌, inl, inr, ⊎_elim, ℕ, ◌+◌, ◌≤◌, Bool, true, false, ◌&&◌, ◌||◌, not, List, [], ◌∷◌, IsTrue, IsFalse, refl, sym, ◌∙◌, ap, subst}
 use Rattle.std.specs.Prelude.{◌==◌}
 use Rattle.std.specs.List.{list_any}
 use Rattle.std.proofs.lemmas.Bool.{false≢true, eqb-true}
@@ -19,9 +19,9 @@ use Rattle.lvm_quorum.specs.Written.{KeepsShelf}
 use Rattle.lvm_commit.specs.declared.commit.Settled.{Settled}
 use Rattle.lvm_commit.specs.declared.commit.Settled.TheVariants as settled
 use Rattle.lvm_commit.specs.Settling.{there, many_there, OnlyLoses, HasLostQuorum}
-use Rattle.lvm_commit.specs.Rounds.{Misses, HasFew, WasTried, HowRecord, RecordGives}
+use Rattle.lvm_commit.specs.Rounds.{HasFew, WasTried, HowRecord, RecordGives}
 use Rattle.lvm_commit.proofs.Counting.{counts_less, counts_fewer}
-use Rattle.lvm_commit.proofs.Chaining.{Goes, path_counts, loses_none, record_loses, was_there, there_less}
+use Rattle.lvm_commit.proofs.Chaining.{Goes, path_counts, loses_none, record_loses, was_there}
 
 -- ---- how many are there
 
