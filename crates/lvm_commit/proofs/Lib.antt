@@ -19,6 +19,7 @@ pub mod Sizes
 pub mod Recording
 pub mod Chaining
 pub mod Round
+pub mod Ready
 pub mod Holding
 pub mod HoldingStatus
 pub mod HoldingDescriptor
