@@ -13,3 +13,4 @@ pub mod Ending
 pub mod Wanting
 pub mod Sizes
 pub mod Recording
+pub mod Starting

@@ -23,51 +23,18 @@ lose-requires-clause-members g c disk fails =
     let target : has c.members_there-targets.result disk ≡ true = (c.in-Ended.ensures.each disk).target fails in
     and_left (is_member d disk) (not (calls_missing c.args.updater.now.wanted disk)) (sym (ap (λ (set : Disks). set disk) c.members_there-targets.ensures) ∙ target)
 
+-- the session under the next stamp
+Sets : (u x : Stored) → Type 0
+Sets u x = x ≡ stamped u
+
 pub returns-in-Ended-clause-gives : goal.returns-in-Ended-clause-gives
 returns-in-Ended-clause-gives g c =
     let u : Stored = c.args.updater.now in
+    let x : Stored = c.set_stamp.new.self in
     let old : Device = g.S.Shelf.device c.args.shelf.now in
     let new : Device = g.S.Shelf.device c.write_record.new.shelf in
     let homes = c.args.homes.now in
-    let w : RecordWrite = session_write kind.Descriptor c.args.content.now u homes in
-    let same = as_session kind.Descriptor u homes c.stamp-stamp.result c.args.content.now c.args.content.now (has c.members_there-targets.result) c.stamp-stamp.ensures refl
-    (as_there c.args.d.now u (has c.members_there-targets.result) c.requires.own c.members_there-targets.ensures) in
-    let call = c.write_record.ensures in
-    let says : Says w c.args.patience.now.left c.write_record.new.patience.left old new =
-        subst (λ (x : RecordWrite). Says x c.args.patience.now.left c.write_record.new.patience.left old new) same
-        (record { keeps = call.keeps; spends = record { falls = call.patience; waits = call.waited }; moments = call.moments }) in
-    let tries : Tries w c.args.buf.number homes c.write_record.new.homes old new (has c.in-Ended.failed) c.in-Ended.buf =
-        subst (λ (x : RecordWrite). Tries x c.args.buf.number homes c.write_record.new.homes old new (has c.in-Ended.failed) c.in-Ended.buf) same
-        (record { each = c.in-Ended.ensures.each; flips = c.in-Ended.ensures.homes; number_is = c.in-Ended.ensures.buffer; ready = c.in-Ended.ensures.ready }) in
-    ended_gives w c.args.buf.number c.args.patience.now.left c.write_record.new.patience.left u c.lose.new.updater homes c.write_record.new.homes old new says
-    (has c.in-Ended.failed) c.in-Ended.buf c.by_votes.result tries c.lose.ensures.group c.lose.ensures.stamp c.lose.ensures.wanted c.by_votes.ensures
-
-pub returns-in-Dark-clause-gives : goal.returns-in-Dark-clause-gives
-returns-in-Dark-clause-gives g c =
-    let u : Stored = c.args.updater.now in
-    let old : Device = g.S.Shelf.device c.args.shelf.now in
-    let new : Device = g.S.Shelf.device c.write_record.new.shelf in
-    let homes = c.args.homes.now in
-    let w : RecordWrite = session_write kind.Descriptor c.args.content.now u homes in
-    let same = as_session kind.Descriptor u homes c.stamp-stamp.result c.args.content.now c.args.content.now (has c.members_there-targets.result) c.stamp-stamp.ensures refl
-    (as_there c.args.d.now u (has c.members_there-targets.result) c.requires.own c.members_there-targets.ensures) in
-    let call = c.write_record.ensures in
-    let says : Says w c.args.patience.now.left c.write_record.new.patience.left old new =
-        subst (λ (x : RecordWrite). Says x c.args.patience.now.left c.write_record.new.patience.left old new) same
-        (record { keeps = call.keeps; spends = record { falls = call.patience; waits = call.waited }; moments = call.moments }) in
-    dark_gives w c.args.buf.number c.args.patience.now.left c.write_record.new.patience.left u u homes c.write_record.new.homes old new says refl c.in-Dark.ensures.dark
-
-pub returns-in-Stuck-clause-gives : goal.returns-in-Stuck-clause-gives
-returns-in-Stuck-clause-gives g c =
-    let u : Stored = c.args.updater.now in
-    let old : Device = g.S.Shelf.device c.args.shelf.now in
-    let new : Device = g.S.Shelf.device c.write_record.new.shelf in
-    let homes = c.args.homes.now in
-    let w : RecordWrite = session_write kind.Descriptor c.args.content.now u homes in
-    let same = as_session kind.Descriptor u homes c.stamp-stamp.result c.args.content.now c.args.content.now (has c.members_there-targets.result) c.stamp-stamp.ensures refl
-    (as_there c.args.d.now u (has c.members_there-targets.result) c.requires.own c.members_there-targets.ensures) in
-    let call = c.write_record.ensures in
-    let says : Says w c.args.patience.now.left c.write_record.new.patience.left old new =
-        subst (λ (x : RecordWrite). Says x c.args.patience.now.left c.write_record.new.patience.left old new) same
-        (record { keeps = call.keeps; spends = record { falls = call.patience; waits = call.waited }; moments = call.moments }) in
-    stuck_gives w c.args.buf.number c.args.patience.now.left c.write_record.new.patience.left u u homes c.write_record.new.homes old new says refl c.in-Stuck.ensures.stuck
+    let w : RecordWrite = session_write kind.Descriptor c.args.content.now (stamped u) homes in
+    let h = c.set_stamp.ensures in
+    let h2 = c.next_stamp-stamp.ensures in
+    ?
