@@ -53,11 +53,11 @@ returns-in-Ended-clause-gives g c =
     let call = c.write_record.ensures in
     let failed : Disks = has c.in-Ended.failed in
     let says : Says w c.args.patience.now.left c.write_record.new.patience.left old new =
-        subst (λ (r : RecordWrite). Says r c.args.patience.now.left c.write_record.new.patience.left old new) same
-        (record { keeps = call.keeps; spends = record { falls = call.patience; waits = call.waited }; moments = call.moments }) in
+    subst (λ (r : RecordWrite). Says r c.args.patience.now.left c.write_record.new.patience.left old new) same
+    (record { keeps = call.keeps; spends = record { falls = call.patience; waits = call.waited }; moments = call.moments }) in
     let tries : Tries w c.args.buf.number homes c.write_record.new.homes old new failed c.in-Ended.buf =
-        subst (λ (r : RecordWrite). Tries r c.args.buf.number homes c.write_record.new.homes old new failed c.in-Ended.buf) same
-        (record { each = c.in-Ended.ensures.each; flips = c.in-Ended.ensures.homes; number_is = c.in-Ended.ensures.buffer; ready = c.in-Ended.ensures.ready }) in
+    subst (λ (r : RecordWrite). Tries r c.args.buf.number homes c.write_record.new.homes old new failed c.in-Ended.buf) same
+    (record { each = c.in-Ended.ensures.each; flips = c.in-Ended.ensures.homes; number_is = c.in-Ended.ensures.buffer; ready = c.in-Ended.ensures.ready }) in
     let ends = c.end_writes.ensures in
     ended_gives w c.args.buf.number c.args.patience.now.left c.write_record.new.patience.left (stamped u) last homes c.write_record.new.homes old new says
     failed c.in-Ended.buf c.by_votes.result tries (ends.group ∙ starts.group) (ends.stamp ∙ starts.stamp)
@@ -79,8 +79,8 @@ returns-in-Dark-clause-gives g c =
     (front x.wanted c.put_wanted-count.result c.put_wanted-count.new.bytes c.args.bytes.now put.written put.count) c.writes-targets.ensures in
     let call = c.write_record.ensures in
     let says : Says w c.args.patience.now.left c.write_record.new.patience.left old new =
-        subst (λ (r : RecordWrite). Says r c.args.patience.now.left c.write_record.new.patience.left old new) same
-        (record { keeps = call.keeps; spends = record { falls = call.patience; waits = call.waited }; moments = call.moments }) in
+    subst (λ (r : RecordWrite). Says r c.args.patience.now.left c.write_record.new.patience.left old new) same
+    (record { keeps = call.keeps; spends = record { falls = call.patience; waits = call.waited }; moments = call.moments }) in
     dark_gives w c.args.buf.number c.args.patience.now.left c.write_record.new.patience.left (stamped u) x homes c.write_record.new.homes old new says (same_as u x starts) c.in-Dark.ensures.dark
 
 pub returns-in-Stuck-clause-gives : goal.returns-in-Stuck-clause-gives
@@ -97,6 +97,6 @@ returns-in-Stuck-clause-gives g c =
     (front x.wanted c.put_wanted-count.result c.put_wanted-count.new.bytes c.args.bytes.now put.written put.count) c.writes-targets.ensures in
     let call = c.write_record.ensures in
     let says : Says w c.args.patience.now.left c.write_record.new.patience.left old new =
-        subst (λ (r : RecordWrite). Says r c.args.patience.now.left c.write_record.new.patience.left old new) same
-        (record { keeps = call.keeps; spends = record { falls = call.patience; waits = call.waited }; moments = call.moments }) in
+    subst (λ (r : RecordWrite). Says r c.args.patience.now.left c.write_record.new.patience.left old new) same
+    (record { keeps = call.keeps; spends = record { falls = call.patience; waits = call.waited }; moments = call.moments }) in
     stuck_gives w c.args.buf.number c.args.patience.now.left c.write_record.new.patience.left (stamped u) x homes c.write_record.new.homes old new says (same_as u x starts) c.in-Stuck.ensures.stuck
