@@ -17,6 +17,7 @@ pub mod Ending
 pub mod Wanting
 pub mod Sizes
 pub mod Recording
+pub mod Starting
 pub mod Chaining
 pub mod Round
 pub mod Ready

@@ -16,7 +16,7 @@ use Rattle.lvm_quorum.specs.Written.{KeepsShelf, IsWriting, EndsOn, StandsTold, 
 use Rattle.lvm_commit.specs.declared.commit.Settled.{Settled}
 use Rattle.lvm_commit.specs.declared.commit.Settled.TheVariants as settled
 use Rattle.lvm_commit.specs.Settling.{there}
-use Rattle.lvm_commit.specs.Rounds.{Misses, IsByVotes, session_write, WasTried, HowRecord, RecordGives}
+use Rattle.lvm_commit.specs.Rounds.{Misses, IsByVotes, IsSame, session_write, WasTried, HowRecord, RecordGives}
 use Rattle.lvm_commit.proofs.Losing.{misses_same}
 
 -- what is said of the write whatever the answer, and where it was tried on each disk
@@ -59,10 +59,10 @@ module _ (w : RecordWrite) (number before after : ℕ) (first last : Stored) (sl
       how settled.Dark its = absurd its
       how settled.Stuck its = absurd its
 
-  pub dark_gives : last ≡ first → IsDarkened number old new → RecordGives w number before after first last slots next old new settled.Dark
+  pub dark_gives : IsSame first last → IsDarkened number old new → RecordGives w number before after first last slots next old new settled.Dark
   dark_gives same dark = gives settled.Dark (dark, same)
 
-  pub stuck_gives : last ≡ first → IsGivenUp number before old new → RecordGives w number before after first last slots next old new settled.Stuck
+  pub stuck_gives : IsSame first last → IsGivenUp number before old new → RecordGives w number before after first last slots next old new settled.Stuck
   stuck_gives same stuck = gives settled.Stuck (stuck, same)
 
 -- the disks on which it failed were members that weren't missing

@@ -17,6 +17,7 @@ use Rattle.lvm_quorum.specs.Parts.{Spends}
 use Rattle.lvm_quorum.specs.Written.{write_of, KeepsShelf, IsWriting, EndsOn, StandsTold, written_well, IsDarkened, IsGivenUp}
 use Rattle.lvm_commit.specs.declared.commit.Settled.{Settled}
 use Rattle.lvm_commit.specs.declared.commit.Settled.TheVariants as settled
+use Rattle.lvm_commit.specs.Committed.{next_stamp}
 use Rattle.lvm_commit.specs.Settling.{there, HasSameRows}
 
 -- ---- the session
@@ -70,6 +71,10 @@ IsByVotes u buf settled.Stuck = ⊥
 
 -- ---- one record
 
+-- the next stamp is that of the record that is written
+abbrev pub stamped : Stored → Stored
+stamped u = record u { stamp = next_stamp u.stamp }
+
 -- the write of the record to the members that aren't missing, under the session's stamp
 abbrev pub session_write : Kind → List ℕ → Stored → Homes → RecordWrite
 session_write kind content u homes = write_of kind (record { stamp = u.stamp; content = content }) (there u) homes
@@ -86,11 +91,17 @@ pub record WasTried (w : RecordWrite) (number : ℕ) (first last : Stored) (slot
   pub stamp : last.stamp ≡ first.stamp
   pub wanted : Misses failed first.wanted last.wanted
 
+-- its group, what is wanted and its stamp are the same
+pub record IsSame (first last : Stored) : Type 0 where
+  pub group : last.group ≡ first.group
+  pub stamp : last.stamp ≡ first.stamp
+  pub wanted : last.wanted ≡ first.wanted
+
 abbrev pub HowRecord : RecordWrite → ℕ → ℕ → Stored → Stored → Homes → Homes → Device → Device → Settled → Type 0
 HowRecord w number before first last slots next old new (settled.Done buf) = WasTried w number first last slots next old new buf × CanWrite last.group (there last)
 HowRecord w number before first last slots next old new (settled.WentOff have total buf) = WasTried w number first last slots next old new buf × HasFew last have total
-HowRecord w number before first last slots next old new settled.Dark = IsDarkened number old new × (last ≡ first)
-HowRecord w number before first last slots next old new settled.Stuck = IsGivenUp number before old new × (last ≡ first)
+HowRecord w number before first last slots next old new settled.Dark = IsDarkened number old new × IsSame first last
+HowRecord w number before first last slots next old new settled.Stuck = IsGivenUp number before old new × IsSame first last
 
 -- how the write of one record ended, and what it did
 pub record RecordGives (w : RecordWrite) (number before after : ℕ) (first last : Stored) (slots next : Homes) (old new : Device) (result : Settled) : Type 0 where

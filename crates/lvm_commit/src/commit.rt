@@ -8,7 +8,7 @@ ghost use Rattle.lvm_disk.specs.Device.{IsReady};
 ghost use Rattle.lvm_quorum.specs.Written.{KeepsShelf, IsDarkened, IsGivenUp};
 ghost use Rattle.lvm_commit.specs.Settling.{IfDone, IfWentOff, IfBack, OnDark, OnStuck, EndsAtOnce, there, MaySettle, HasNumbers, IsCommitted, HasLostQuorum, OnlyLoses, AreWell, SpendsNumbers, IsOfStatus, IsOfCommit, IsPlain, StatusStaysKept, DescriptorStaysKept, StatusFindsNothingNew, CommitFindsNoMore, StaysHeld, ComesHeld};
 
-use crate::write::{next_stamp, write_descriptor, write_update};
+use crate::write::{is_committed, write_descriptor, write_wanted};
 use lvm_disk::Shelf;
 use lvm_move::Patience;
 use lvm_num::{Descriptor, Pbuf};
@@ -70,8 +70,8 @@ pub fn commit_status<S: Shelf>(
     ensures kept { StatusStaysKept updater.old homes.old (S.device shelf.old) (S.device shelf.new) }
 {
     let mut buf = buf;
-    while updater.start() {
-        match write_update(shelf, d, updater, homes, bytes, buf, patience) {
+    while !is_committed(updater) {
+        match write_wanted(shelf, d, updater, homes, bytes, buf, patience) {
             Settled::Done { buf: back } => buf = back,
             stopped => return stopped,
         }
@@ -121,7 +121,6 @@ pub fn commit_descriptor<S: Shelf>(
     ensures finds { CommitFindsNoMore content.now updater.old homes.old (S.device shelf.old) (S.device shelf.new) }
     ensures kept { DescriptorStaysKept content.now updater.old homes.old (S.device shelf.old) (S.device shelf.new) }
 {
-    updater.set_stamp(next_stamp(updater.stamp()));
     match write_descriptor(shelf, d, updater, homes, content, buf, patience) {
         Settled::Done { buf } => commit_status(shelf, d, updater, homes, bytes, buf, patience),
         stopped => stopped,

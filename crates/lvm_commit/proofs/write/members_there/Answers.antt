@@ -22,7 +22,7 @@ loop-row-preserved c disk =
     let lt : i < length rows = omega (arith, ap (length {A = PvRow}) c.as_slice-row-items.ensures) in
     let its : (get_or c.as_slice-row-items.result.now i no_row).disk ≡ (get_or rows i no_row).disk = ap (λ (all : List PvRow). (get_or all i no_row).disk) c.as_slice-row-items.ensures in
     let missing : c.is_missing.result ≡ gone (get_or rows i no_row).disk =
-        c.is_missing.ensures ∙ ap (λ (s : Status). calls_missing s (get_or c.as_slice-row-items.result.now i no_row).disk) c.wanted.ensures ∙ ap gone its in
+    c.is_missing.ensures ∙ ap (λ (s : Status). calls_missing s (get_or c.as_slice-row-items.result.now i no_row).disk) c.wanted.ensures ∙ ap gone its in
     let old = c.loop-row.invariant disk in
     elim c.if-not-is_missing.branch [
       | then-not-is_missing w ↦
