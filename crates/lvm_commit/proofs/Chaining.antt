@@ -1,10 +1,12 @@
 -- What some records of a session did, one after another.
-use Rattle.std.proofs.Common.{◌≡◌, ⊎_elim, ℕ, ◌+◌, Bool, true, false, ◌&&◌, ◌||◌, not, IsTrue, IsFalse, refl, sym, ◌∙◌, ap, arith}
+use Rattle.std.proofs.Common.{◌≡◌, ⊎_elim, ℕ, ◌+◌, Bool, true, false, ◌&&◌, ◌||◌, not, map, IsTrue, IsFalse, refl, sym, ◌∙◌, ap, arith}
 use Rattle.std.proofs.lemmas.Bool.{false≢true}
+use Rattle.lvm_num.specs.declared.status.StatusRow.{StatusRow}
+use Rattle.lvm_num.specs.declared.status.Status.{Status}
 use Rattle.lvm_num.specs.Buffer.{Buffer, Sector}
 use Rattle.lvm_num.specs.Disks.{Disks}
 use Rattle.lvm_num.specs.Descriptor.{is_member}
-use Rattle.lvm_num.specs.Status.{calls_missing}
+use Rattle.lvm_num.specs.Status.{calls_stale, calls_missing}
 use Rattle.lvm_disk.specs.Counts.{NoneFalls}
 use Rattle.lvm_disk.specs.Device.{Device, IsReady, image_of}
 use Rattle.lvm_disk.specs.Paths.{DeviceStep, Path, Here, Then}
@@ -20,7 +22,7 @@ use Rattle.lvm_quorum.specs.Written.{KeepsShelf}
 use Rattle.lvm_quorum.proofs.Transfers.{keeps_then, spends_then}
 use Rattle.lvm_quorum.proofs.Writing.{logs_wider, both_map, changes_more}
 use Rattle.lvm_commit.specs.Settling.{there, OnlyLoses, AreWell, HasLostQuorum, SpendsNumbers}
-use Rattle.lvm_commit.specs.Rounds.{WasTried}
+use Rattle.lvm_commit.specs.Rounds.{IsSame, WasTried}
 
 -- ---- counts
 
@@ -53,6 +55,16 @@ loses_none u old new = record {
   dirty = refl;
   stays = λ d is. is;
   lost = λ d is isnt. absurd (clash (calls_missing u.wanted d) is isnt);
+}
+
+pub loses_same : (first last : Stored) (old new : Device) → IsSame first last → OnlyLoses first last old new
+loses_same first last old new same = record {
+  group = same.group;
+  rows = record { id = ap (λ (s : Status). s.id) same.wanted; big = ap (λ (s : Status). s.big) same.wanted; disks = ap (λ (s : Status). map (λ (row : StatusRow). row.disk) s.rows) same.wanted };
+  stale = λ p. ap (λ (s : Status). calls_stale s p) same.wanted;
+  dirty = ap (λ (s : Status). s.dirty) same.wanted;
+  stays = λ d is. ap (λ (s : Status). calls_missing s d) same.wanted ∙ is;
+  lost = λ d is isnt. absurd (clash (calls_missing first.wanted d) (sym (ap (λ (s : Status). calls_missing s d) same.wanted) ∙ is) isnt);
 }
 
 pub loses_then : (first mid last : Stored) (old m new : Device) → NoneFalls old.counts m.counts → NoneFalls m.counts new.counts → OnlyLoses first mid old m → OnlyLoses mid last m new → OnlyLoses first last old new
