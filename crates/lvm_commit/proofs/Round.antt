@@ -21,7 +21,7 @@ use Rattle.lvm_commit.specs.declared.commit.Settled.TheVariants as settled
 use Rattle.lvm_commit.specs.Settling.{there, many_there, OnlyLoses, HasLostQuorum}
 use Rattle.lvm_commit.specs.Rounds.{HasFew, WasTried, HowRecord, RecordGives}
 use Rattle.lvm_commit.proofs.Counting.{counts_less, counts_fewer}
-use Rattle.lvm_commit.proofs.Chaining.{Goes, path_counts, loses_none, record_loses, was_there}
+use Rattle.lvm_commit.proofs.Chaining.{Goes, path_counts, loses_same, record_loses, was_there}
 
 -- ---- how many are there
 
@@ -126,5 +126,5 @@ module _ (w : RecordWrite) (number : ℕ) (first last : Stored) (slots next : Ho
       by_end : (r : Settled) → HowRecord w number before first last slots next old new r → OnlyLoses first last old new
       by_end (settled.Done buf) how = record_loses w number first last slots next old new buf targets how.0
       by_end (settled.WentOff have total buf) how = record_loses w number first last slots next old new buf targets how.0
-      by_end settled.Dark how = subst (λ (u : Stored). OnlyLoses first u old new) (sym how.1) (loses_none first old new)
-      by_end settled.Stuck how = subst (λ (u : Stored). OnlyLoses first u old new) (sym how.1) (loses_none first old new)
+      by_end settled.Dark how = loses_same first last old new how.1.group how.1.wanted
+      by_end settled.Stuck how = loses_same first last old new how.1.group how.1.wanted
