@@ -1,12 +1,13 @@
 -- What some records of a session did, one after another.
 use Rattle.std.proofs.Common.{◌≡◌, ⊎_elim, ℕ, ◌+◌, Bool, true, false, ◌&&◌, ◌||◌, not, map, IsTrue, IsFalse, refl, sym, ◌∙◌, ap, arith}
 use Rattle.std.proofs.lemmas.Bool.{false≢true}
+use Rattle.lvm_num.specs.declared.record.Stamp.{Stamp}
 use Rattle.lvm_num.specs.declared.status.StatusRow.{StatusRow}
 use Rattle.lvm_num.specs.declared.status.Status.{Status}
 use Rattle.lvm_num.specs.Buffer.{Buffer, Sector}
 use Rattle.lvm_num.specs.Disks.{Disks}
 use Rattle.lvm_num.specs.Descriptor.{is_member}
-use Rattle.lvm_num.specs.Status.{calls_stale, calls_missing}
+use Rattle.lvm_num.specs.Status.{calls_missing, calls_stale}
 use Rattle.lvm_disk.specs.Counts.{NoneFalls}
 use Rattle.lvm_disk.specs.Device.{Device, IsReady, image_of}
 use Rattle.lvm_disk.specs.Paths.{DeviceStep, Path, Here, Then}
@@ -22,7 +23,7 @@ use Rattle.lvm_quorum.specs.Written.{KeepsShelf}
 use Rattle.lvm_quorum.proofs.Transfers.{keeps_then, spends_then}
 use Rattle.lvm_quorum.proofs.Writing.{logs_wider, both_map, changes_more}
 use Rattle.lvm_commit.specs.Settling.{there, OnlyLoses, AreWell, HasLostQuorum, SpendsNumbers}
-use Rattle.lvm_commit.specs.Rounds.{IsSame, WasTried}
+use Rattle.lvm_commit.specs.Rounds.{WasTried}
 
 -- ---- counts
 
@@ -47,25 +48,19 @@ not_there first last less d isnt = ⊎_elim (λ is. absurd (clash (there first d
 pub loses_less : (first last : Stored) (old new : Device) → OnlyLoses first last old new → (d : ℕ) → IsTrue (there last d) → IsTrue (there first d)
 loses_less first last old new loses = there_less first last loses.group loses.stays
 
-pub loses_none : (u : Stored) (old new : Device) → OnlyLoses u u old new
-loses_none u old new = record {
-  group = refl;
-  rows = record { id = refl; big = refl; disks = refl };
-  stale = λ p. refl;
-  dirty = refl;
-  stays = λ d is. is;
-  lost = λ d is isnt. absurd (clash (calls_missing u.wanted d) is isnt);
+pub loses_same : (first last : Stored) (old new : Device) → last.group ≡ first.group → last.wanted ≡ first.wanted → OnlyLoses first last old new
+loses_same first last old new group same = record {
+  group = group;
+  rows = record { id = ap (λ (s : Status). s.id) same; big = ap (λ (s : Status). s.big) same; disks = ap (λ (s : Status). map (λ (row : StatusRow). row.disk) s.rows) same };
+  stale = λ p. ap (λ (s : Status). calls_stale s p) same;
+  dirty = ap (λ (s : Status). s.dirty) same;
+  stays = λ d is. ap (λ (s : Status). calls_missing s d) same ∙ is;
+  lost = λ d is isnt. absurd (clash (calls_missing last.wanted d) is (ap (λ (s : Status). calls_missing s d) same ∙ isnt));
 }
 
-pub loses_same : (first last : Stored) (old new : Device) → IsSame first last → OnlyLoses first last old new
-loses_same first last old new same = record {
-  group = same.group;
-  rows = record { id = ap (λ (s : Status). s.id) same.wanted; big = ap (λ (s : Status). s.big) same.wanted; disks = ap (λ (s : Status). map (λ (row : StatusRow). row.disk) s.rows) same.wanted };
-  stale = λ p. ap (λ (s : Status). calls_stale s p) same.wanted;
-  dirty = ap (λ (s : Status). s.dirty) same.wanted;
-  stays = λ d is. ap (λ (s : Status). calls_missing s d) same.wanted ∙ is;
-  lost = λ d is isnt. absurd (clash (calls_missing first.wanted d) (sym (ap (λ (s : Status). calls_missing s d) same.wanted) ∙ is) isnt);
-}
+-- whatever the stamp
+pub loses_from : (first last : Stored) (stamp : Stamp) (old new : Device) → OnlyLoses (record first { stamp = stamp }) last old new → OnlyLoses first last old new
+loses_from first last stamp old new loses = record { group = loses.group; rows = loses.rows; stale = loses.stale; dirty = loses.dirty; stays = loses.stays; lost = loses.lost }
 
 pub loses_then : (first mid last : Stored) (old m new : Device) → NoneFalls old.counts m.counts → NoneFalls m.counts new.counts → OnlyLoses first mid old m → OnlyLoses mid last m new → OnlyLoses first last old new
 loses_then first mid last old m new rises goes_on one two = record {
@@ -105,6 +100,10 @@ pub record Goes (P : Plan) (before after : ℕ) (first last : Stored) (old new :
 
 pub goes_wider : (P Q : Plan) (before after : ℕ) (first last : Stored) (old new : Device) → ((d s : ℕ) (value : Sector) → P d s value → Q d s value) → Goes P before after first last old new → Goes Q before after first last old new
 goes_wider P Q before after first last old new more goes = record { loses = goes.loses; keeps = keeps_wider (there first) (there first) P Q old new (λ d off. off) more goes.keeps; spends = goes.spends; rises = goes.rises }
+
+-- whatever the stamp
+pub goes_from : (P : Plan) (before after : ℕ) (first last : Stored) (stamp : Stamp) (old new : Device) → Goes P before after (record first { stamp = stamp }) last old new → Goes P before after first last old new
+goes_from P before after first last stamp old new goes = record { loses = loses_from first last stamp old new goes.loses; keeps = goes.keeps; spends = goes.spends; rises = goes.rises }
 
 pub goes_then : (P : Plan) (p q r : ℕ) (first mid last : Stored) (old m new : Device) → Goes P p q first mid old m → Goes P q r mid last m new → Goes P p r first last old new
 goes_then P p q r first mid last old m new one two = record {

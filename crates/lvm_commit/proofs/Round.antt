@@ -126,5 +126,5 @@ module _ (w : RecordWrite) (number : ℕ) (first last : Stored) (slots next : Ho
       by_end : (r : Settled) → HowRecord w number before first last slots next old new r → OnlyLoses first last old new
       by_end (settled.Done buf) how = record_loses w number first last slots next old new buf targets how.0
       by_end (settled.WentOff have total buf) how = record_loses w number first last slots next old new buf targets how.0
-      by_end settled.Dark how = loses_same first last old new how.1
-      by_end settled.Stuck how = loses_same first last old new how.1
+      by_end settled.Dark how = loses_same first last old new how.1.group how.1.wanted
+      by_end settled.Stuck how = loses_same first last old new how.1.group how.1.wanted
