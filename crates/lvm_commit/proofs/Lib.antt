@@ -26,3 +26,4 @@ pub mod HoldingStatus
 pub mod HoldingDescriptor
 pub mod StatusRound
 pub mod StatusRounds
+pub mod StatusEnding
