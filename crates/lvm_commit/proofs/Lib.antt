@@ -24,3 +24,4 @@ pub mod Ready
 pub mod Holding
 pub mod HoldingStatus
 pub mod HoldingDescriptor
+pub mod Describing
