@@ -25,3 +25,4 @@ pub mod Holding
 pub mod HoldingStatus
 pub mod HoldingDescriptor
 pub mod Describing
+pub mod StatusRound

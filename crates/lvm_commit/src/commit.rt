@@ -6,6 +6,7 @@ ghost use Rattle.lvm_num.specs.StatusBytes.{status_bytes};
 ghost use Rattle.lvm_disk.specs.Counts.{RoseBy};
 ghost use Rattle.lvm_disk.specs.Device.{IsReady};
 ghost use Rattle.lvm_quorum.specs.Written.{KeepsShelf, IsDarkened, IsGivenUp};
+ghost use Rattle.lvm_commit.specs.Rounds.{StatusGives};
 ghost use Rattle.lvm_commit.specs.Settling.{IfDone, IfWentOff, IfBack, OnDark, OnStuck, EndsAtOnce, there, MaySettle, HasNumbers, IsCommitted, HasLostQuorum, OnlyLoses, AreWell, SpendsNumbers, IsOfStatus, IsOfCommit, IsPlain, StatusStaysKept, DescriptorStaysKept, StatusFindsNothingNew, CommitFindsNoMore, StaysHeld, ComesHeld};
 
 use crate::write::{is_committed, write_descriptor, write_wanted};
@@ -69,14 +70,7 @@ pub fn commit_status<S: Shelf>(
     ensures finds { StatusFindsNothingNew updater.old homes.old (S.device shelf.old) (S.device shelf.new) }
     ensures kept { StatusStaysKept updater.old homes.old (S.device shelf.old) (S.device shelf.new) }
 {
-    let mut buf = buf;
-    while !is_committed(updater) {
-        match write_wanted(shelf, d, updater, homes, bytes, buf, patience) {
-            Settled::Done { buf: back } => buf = back,
-            stopped => return stopped,
-        }
-    }
-    Settled::Done { buf }
+    settle_status(shelf, d, updater, homes, bytes, buf, patience)
 }
 
 /// Writes a descriptor to the members that aren't missing. Those whose write fails are missing, and the status
@@ -125,4 +119,31 @@ pub fn commit_descriptor<S: Shelf>(
         Settled::Done { buf } => commit_status(shelf, d, updater, homes, bytes, buf, patience),
         stopped => stopped,
     }
+}
+
+// Writes what is wanted, until it is committed.
+fn settle_status<S: Shelf>(
+    shelf: &mut S,
+    d: &Descriptor,
+    updater: &mut Updater,
+    homes: &mut Homes,
+    bytes: &mut [u8],
+    buf: Pbuf,
+    patience: &mut Patience,
+) -> Settled
+    requires ready { IsReady (S.device shelf.old) }
+    requires may { MaySettle d.now updater.old (S.device shelf.old) }
+    requires numbers { HasNumbers 1 updater.old }
+    requires bytes { longest_content kind.Status ≤ length bytes.old }
+    ensures gives { StatusGives buf.number patience.old.left patience.new.left updater.old updater.new homes.old homes.new (S.device shelf.old) (S.device shelf.new) result }
+    ensures unwritten { updater.old.wanted ≡ updater.old.committed → EndsAtOnce result ((shelf.new ≡ shelf.old) × (updater.new ≡ updater.old) × (homes.new ≡ homes.old) × (patience.new ≡ patience.old)) }
+{
+    let mut buf = buf;
+    while !is_committed(updater) {
+        match write_wanted(shelf, d, updater, homes, bytes, buf, patience) {
+            Settled::Done { buf: back } => buf = back,
+            stopped => return stopped,
+        }
+    }
+    Settled::Done { buf }
 }
