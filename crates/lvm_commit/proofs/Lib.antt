@@ -24,6 +24,7 @@ pub mod Ready
 pub mod Holding
 pub mod HoldingStatus
 pub mod HoldingDescriptor
+pub mod Describing
 pub mod StatusRound
 pub mod StatusRounds
 pub mod StatusEnding

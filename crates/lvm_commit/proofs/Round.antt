@@ -94,23 +94,30 @@ module _ (w : RecordWrite) (number : ℕ) (first last : Stored) (slots next : Ho
         always true = refl
         always false = refl
 
+    -- which was there
+    pub was_there_on : (d : ℕ) → IsTrue (tried.failed d) → IsTrue (there first d)
+    was_there_on d fails = was_there w number first last slots next old new buf targets tried d fails
+
     -- too few to write are left only where it failed on one
-    pub quorum_lost : CanWrite first.group (there first) → (have total : ℕ) → HasFew last have total → HasLostQuorum first last old new have total
-    quorum_lost enough have total few = ⊎_elim
+    pub some_failed : CanWrite first.group (there first) → (have total : ℕ) → HasFew last have total → (d : ℕ) × IsTrue (tried.failed d)
+    some_failed enough have total few = ⊎_elim
         (λ (none : (d : ℕ) → IsFalse (tried.failed d)).
         let same = tried.wanted.same none in
         let there_same : there last ≡ there first = (λ t. members_there (tried.group t) (same t)) in
         absurd (clash (is_enough_to_write first.group (votes_in first.group (there first))) enough
         (sym (λ t. is_enough_to_write (tried.group t) (votes_in (tried.group t) (there_same t))) ∙ ap (is_enough_to_write last.group) (sym few.have_is) ∙ few.few)))
-        (λ (some : (d : ℕ) × IsTrue (tried.failed d)). record {
-          have_is = few.have_is;
-          total_is = few.total_is;
-          few = few.few;
-          disk = some.0;
-          was = was_there w number first last slots next old new buf targets tried some.0 some.1;
-          failed = (tried.each some.0).badly some.1;
-        })
+        (λ some. some)
         none_or_some
+
+    pub quorum_lost : CanWrite first.group (there first) → (have total : ℕ) → HasFew last have total → HasLostQuorum first last old new have total
+    quorum_lost enough have total few = let some = some_failed enough have total few in record {
+      have_is = few.have_is;
+      total_is = few.total_is;
+      few = few.few;
+      disk = some.0;
+      was = was_there w number first last slots next old new buf targets tried some.0 some.1;
+      failed = (tried.each some.0).badly some.1;
+    }
 
     pub fewer_after : (d : ℕ) → IsTrue (tried.failed d) → many_there last + 1 ≤ many_there first
     fewer_after d fails = fewer_there first last tried.group (record_loses w number first last slots next old new buf targets tried).stays d (was_there w number first last slots next old new buf targets tried d fails) (failed_is_missing d fails)
