@@ -36,10 +36,10 @@ record EndsAs (t : Status) (v : Updates) (disk : ℕ) (x : Updates) : Type 0 whe
   flown : (x.in_flight ≡ Some t) ⊎ ((x.in_flight ≡ None) × (x.committed ≡ t))
   held : is_held x ≡ true → x.in_flight ≡ Some x.committed
 
-abbrev without_update : Updates → Updates
+abbrev pub without_update : Updates → Updates
 without_update u = record u { in_flight = None; unstarted = no_disks; started = no_disks; written = no_disks; failed = no_disks }
 
-closed_cases : (P : Updates → Type 0) (m : Updates) → (is_held m ≡ true → is_owed m ≡ false → P (without_update m)) → P m → P (closed m)
+pub closed_cases : (P : Updates → Type 0) (m : Updates) → (is_held m ≡ true → is_owed m ≡ false → P (without_update m)) → P m → P (closed m)
 closed_cases P m ends stays = by_test (is_held m && not (is_owed m)) refl
   where
     by_test : (b : Bool) → is_held m && not (is_owed m) ≡ b → P (if b then without_update m else m)

@@ -14,3 +14,17 @@ pub mod Finding
 pub mod Counting
 pub mod Losing
 pub mod Ending
+pub mod Wanting
+pub mod Sizes
+pub mod Recording
+pub mod Starting
+pub mod Chaining
+pub mod Round
+pub mod Ready
+pub mod Holding
+pub mod HoldingStatus
+pub mod HoldingDescriptor
+pub mod Describing
+pub mod StatusRound
+pub mod StatusRounds
+pub mod StatusEnding
