@@ -25,4 +25,6 @@ pub mod Holding
 pub mod HoldingStatus
 pub mod HoldingDescriptor
 pub mod Describing
+pub mod Described
+pub mod Ends
 pub mod StatusRound
