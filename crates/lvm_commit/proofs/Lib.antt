@@ -28,3 +28,5 @@ pub mod Describing
 pub mod Described
 pub mod Ends
 pub mod StatusRound
+pub mod StatusRounds
+pub mod StatusEnding
