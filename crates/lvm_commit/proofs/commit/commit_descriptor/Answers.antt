@@ -1,4 +1,4 @@
-use Rattle.std.proofs.Common.{◌≡◌, ℕ, List, ap, subst, arith}
+use Rattle.std.proofs.Common.{◌≡◌, ℕ, List, ◌∙◌, ap, subst, arith}
 use Rattle.lvm_num.specs.declared.record.Kind.TheVariants as kind
 use Rattle.lvm_num.specs.declared.record.Stamp.{Stamp}
 use Rattle.lvm_num.specs.Buffer.{Buffer}
@@ -7,6 +7,7 @@ use Rattle.lvm_kept.specs.Torn.{RecordWrite, IsOfRecord}
 use Rattle.lvm_status.specs.Update.{Stored}
 use Rattle.lvm_quorum.specs.declared.homes.Homes.{Homes}
 use Rattle.lvm_quorum.specs.Written.{IsDarkened, IsGivenUp}
+use Rattle.lvm_quorum.proofs.Transfers.{spends_then}
 use Rattle.lvm_commit.specs.declared.commit.Settled.{Settled}
 use Rattle.lvm_commit.specs.declared.commit.Settled.TheVariants as settled
 use Rattle.lvm_commit.specs.Settling.{IfBack, IsOfCommit, ComesHeld, StaysHeld, HasLostQuorum, AreWell, IsCommitted, IsPlain, there}
@@ -90,8 +91,8 @@ returns-in_default g c =
 
 -- ---- where the status was committed then
 
-pub returns-in-Done-clause-held : goal.returns-in-Done-clause-held
-returns-in-Done-clause-held g c =
+pub returns-in-Done : goal.returns-in-Done
+returns-in-Done g c =
     let first : Stored = c.args.updater.now in
     let mid : Stored = c.write_descriptor.new.updater in
     let last : Stored = c.commit_status.new.updater in
@@ -121,367 +122,25 @@ returns-in-Done-clause-held g c =
       kept = e.kept;
       unwritten = λ same. ends_map r _ ((new ≡ m) × (last ≡ mid)) (λ is. (ap (λ s. g.S.Shelf.device s) is.0, is.1)) (e.unwritten same);
     } in
-    done_map r (λ back. StaysHeld mid last after final m new) (λ back. ComesHeld content first last homes final old new) (λ back stays group next reads own alike held. commit_held first mid last homes after final old m new content number p q buf r k group next reads own alike held e.finds stays) e.held
-
-pub returns-in-Done-clause-plain : goal.returns-in-Done-clause-plain
-returns-in-Done-clause-plain g c =
-    let first : Stored = c.args.updater.now in
-    let mid : Stored = c.write_descriptor.new.updater in
-    let last : Stored = c.commit_status.new.updater in
-    let homes : Homes = c.args.homes.now in
-    let after : Homes = c.write_descriptor.new.homes in
-    let final : Homes = c.commit_status.new.homes in
-    let old : Device = g.S.Shelf.device c.args.shelf.now in
-    let m : Device = g.S.Shelf.device c.write_descriptor.new.shelf in
-    let new : Device = g.S.Shelf.device c.commit_status.new.shelf in
-    let content : List ℕ = c.args.content.now in
-    let number = c.args.buf.number in
-    let p = c.args.patience.now.left in
-    let q = c.write_descriptor.new.patience.left in
-    let buf : Buffer = c.in-Done.buf in
-    let r : Settled = c.commit_status.result in
-    let gives : RecordGives (session_write kind.Descriptor content (stamped first) homes) number p q (stamped first) mid homes after old m (settled.Done buf) =
-    subst (λ (x : Settled). RecordGives (session_write kind.Descriptor content (stamped first) homes) number p q (stamped first) mid homes after old m x) c.in-Done.is c.write_descriptor.ensures.gives in
-    let e = c.commit_status.ensures in
-    let k : Described first mid last homes after final old m new content number p q buf r = record {
-      sectors = g.met.S.Shelf.sectors_are_whole c.args.shelf.now;
-      frames = c.write_descriptor.ensures.frames;
-      gives = gives;
-      was_settled = c.requires.settled;
-      committed = c.in-Done.ensures.committed.1;
-      loses = e.marks;
-      keeps = e.keeps;
-      kept = e.kept;
-      unwritten = λ same. ends_map r _ ((new ≡ m) × (last ≡ mid)) (λ is. (ap (λ s. g.S.Shelf.device s) is.0, is.1)) (e.unwritten same);
-    } in
-    done_map r (λ back. Unit {0}) (λ back. IsPlain kind.Descriptor content first last homes old new) (λ back is same. commit_plain first mid last homes after final old m new content number p q buf r k same) (done_unit r)
-
-pub returns-in-Done-clause-off : goal.returns-in-Done-clause-off
-returns-in-Done-clause-off g c =
-    let first : Stored = c.args.updater.now in
-    let mid : Stored = c.write_descriptor.new.updater in
-    let last : Stored = c.commit_status.new.updater in
-    let homes : Homes = c.args.homes.now in
-    let after : Homes = c.write_descriptor.new.homes in
-    let final : Homes = c.commit_status.new.homes in
-    let old : Device = g.S.Shelf.device c.args.shelf.now in
-    let m : Device = g.S.Shelf.device c.write_descriptor.new.shelf in
-    let new : Device = g.S.Shelf.device c.commit_status.new.shelf in
-    let content : List ℕ = c.args.content.now in
-    let number = c.args.buf.number in
-    let p = c.args.patience.now.left in
-    let q = c.write_descriptor.new.patience.left in
-    let buf : Buffer = c.in-Done.buf in
-    let r : Settled = c.commit_status.result in
-    let gives : RecordGives (session_write kind.Descriptor content (stamped first) homes) number p q (stamped first) mid homes after old m (settled.Done buf) =
-    subst (λ (x : Settled). RecordGives (session_write kind.Descriptor content (stamped first) homes) number p q (stamped first) mid homes after old m x) c.in-Done.is c.write_descriptor.ensures.gives in
-    let e = c.commit_status.ensures in
-    let k : Described first mid last homes after final old m new content number p q buf r = record {
-      sectors = g.met.S.Shelf.sectors_are_whole c.args.shelf.now;
-      frames = c.write_descriptor.ensures.frames;
-      gives = gives;
-      was_settled = c.requires.settled;
-      committed = c.in-Done.ensures.committed.1;
-      loses = e.marks;
-      keeps = e.keeps;
-      kept = e.kept;
-      unwritten = λ same. ends_map r _ ((new ≡ m) × (last ≡ mid)) (λ is. (ap (λ s. g.S.Shelf.device s) is.0, is.1)) (e.unwritten same);
-    } in
-    off_map r (λ have total back. HasLostQuorum mid last m new have total) (λ have total back. HasLostQuorum first last old new have total) (λ have total back lost. commit_off first mid last homes after final old m new content number p q buf r k have total lost) e.off
-
-pub returns-in-Done-clause-spent : goal.returns-in-Done-clause-spent
-returns-in-Done-clause-spent g c =
-    let first : Stored = c.args.updater.now in
-    let mid : Stored = c.write_descriptor.new.updater in
-    let last : Stored = c.commit_status.new.updater in
-    let homes : Homes = c.args.homes.now in
-    let after : Homes = c.write_descriptor.new.homes in
-    let final : Homes = c.commit_status.new.homes in
-    let old : Device = g.S.Shelf.device c.args.shelf.now in
-    let m : Device = g.S.Shelf.device c.write_descriptor.new.shelf in
-    let new : Device = g.S.Shelf.device c.commit_status.new.shelf in
-    let content : List ℕ = c.args.content.now in
-    let number = c.args.buf.number in
-    let p = c.args.patience.now.left in
-    let q = c.write_descriptor.new.patience.left in
-    let buf : Buffer = c.in-Done.buf in
-    let r : Settled = c.commit_status.result in
-    let gives : RecordGives (session_write kind.Descriptor content (stamped first) homes) number p q (stamped first) mid homes after old m (settled.Done buf) =
-    subst (λ (x : Settled). RecordGives (session_write kind.Descriptor content (stamped first) homes) number p q (stamped first) mid homes after old m x) c.in-Done.is c.write_descriptor.ensures.gives in
-    let e = c.commit_status.ensures in
-    let k : Described first mid last homes after final old m new content number p q buf r = record {
-      sectors = g.met.S.Shelf.sectors_are_whole c.args.shelf.now;
-      frames = c.write_descriptor.ensures.frames;
-      gives = gives;
-      was_settled = c.requires.settled;
-      committed = c.in-Done.ensures.committed.1;
-      loses = e.marks;
-      keeps = e.keeps;
-      kept = e.kept;
-      unwritten = λ same. ends_map r _ ((new ≡ m) × (last ≡ mid)) (λ is. (ap (λ s. g.S.Shelf.device s) is.0, is.1)) (e.unwritten same);
-    } in
-    commit_spent first mid last homes after final old m new content number p q buf r k e.spent
-
-pub returns-in-Done-clause-well : goal.returns-in-Done-clause-well
-returns-in-Done-clause-well g c =
-    let first : Stored = c.args.updater.now in
-    let mid : Stored = c.write_descriptor.new.updater in
-    let last : Stored = c.commit_status.new.updater in
-    let homes : Homes = c.args.homes.now in
-    let after : Homes = c.write_descriptor.new.homes in
-    let final : Homes = c.commit_status.new.homes in
-    let old : Device = g.S.Shelf.device c.args.shelf.now in
-    let m : Device = g.S.Shelf.device c.write_descriptor.new.shelf in
-    let new : Device = g.S.Shelf.device c.commit_status.new.shelf in
-    let content : List ℕ = c.args.content.now in
-    let number = c.args.buf.number in
-    let p = c.args.patience.now.left in
-    let q = c.write_descriptor.new.patience.left in
-    let buf : Buffer = c.in-Done.buf in
-    let r : Settled = c.commit_status.result in
-    let gives : RecordGives (session_write kind.Descriptor content (stamped first) homes) number p q (stamped first) mid homes after old m (settled.Done buf) =
-    subst (λ (x : Settled). RecordGives (session_write kind.Descriptor content (stamped first) homes) number p q (stamped first) mid homes after old m x) c.in-Done.is c.write_descriptor.ensures.gives in
-    let e = c.commit_status.ensures in
-    let k : Described first mid last homes after final old m new content number p q buf r = record {
-      sectors = g.met.S.Shelf.sectors_are_whole c.args.shelf.now;
-      frames = c.write_descriptor.ensures.frames;
-      gives = gives;
-      was_settled = c.requires.settled;
-      committed = c.in-Done.ensures.committed.1;
-      loses = e.marks;
-      keeps = e.keeps;
-      kept = e.kept;
-      unwritten = λ same. ends_map r _ ((new ≡ m) × (last ≡ mid)) (λ is. (ap (λ s. g.S.Shelf.device s) is.0, is.1)) (e.unwritten same);
-    } in
-    back_map r (λ back. AreWell last m new) (λ back. AreWell last old new) (λ back well. commit_well first mid last homes after final old m new content number p q buf r k well) e.well
-
-pub returns-in-Done-clause-dark : goal.returns-in-Done-clause-dark
-returns-in-Done-clause-dark g c =
-    let first : Stored = c.args.updater.now in
-    let mid : Stored = c.write_descriptor.new.updater in
-    let last : Stored = c.commit_status.new.updater in
-    let homes : Homes = c.args.homes.now in
-    let after : Homes = c.write_descriptor.new.homes in
-    let final : Homes = c.commit_status.new.homes in
-    let old : Device = g.S.Shelf.device c.args.shelf.now in
-    let m : Device = g.S.Shelf.device c.write_descriptor.new.shelf in
-    let new : Device = g.S.Shelf.device c.commit_status.new.shelf in
-    let content : List ℕ = c.args.content.now in
-    let number = c.args.buf.number in
-    let p = c.args.patience.now.left in
-    let q = c.write_descriptor.new.patience.left in
-    let buf : Buffer = c.in-Done.buf in
-    let r : Settled = c.commit_status.result in
-    let gives : RecordGives (session_write kind.Descriptor content (stamped first) homes) number p q (stamped first) mid homes after old m (settled.Done buf) =
-    subst (λ (x : Settled). RecordGives (session_write kind.Descriptor content (stamped first) homes) number p q (stamped first) mid homes after old m x) c.in-Done.is c.write_descriptor.ensures.gives in
-    let e = c.commit_status.ensures in
-    let k : Described first mid last homes after final old m new content number p q buf r = record {
-      sectors = g.met.S.Shelf.sectors_are_whole c.args.shelf.now;
-      frames = c.write_descriptor.ensures.frames;
-      gives = gives;
-      was_settled = c.requires.settled;
-      committed = c.in-Done.ensures.committed.1;
-      loses = e.marks;
-      keeps = e.keeps;
-      kept = e.kept;
-      unwritten = λ same. ends_map r _ ((new ≡ m) × (last ≡ mid)) (λ is. (ap (λ s. g.S.Shelf.device s) is.0, is.1)) (e.unwritten same);
-    } in
-    dark_map r (IsDarkened buf.number m new) (IsDarkened number old new) (λ dark. commit_dark first mid last homes after final old m new content number p q buf r k dark) e.dark
-
-pub returns-in-Done-clause-stuck : goal.returns-in-Done-clause-stuck
-returns-in-Done-clause-stuck g c =
-    let first : Stored = c.args.updater.now in
-    let mid : Stored = c.write_descriptor.new.updater in
-    let last : Stored = c.commit_status.new.updater in
-    let homes : Homes = c.args.homes.now in
-    let after : Homes = c.write_descriptor.new.homes in
-    let final : Homes = c.commit_status.new.homes in
-    let old : Device = g.S.Shelf.device c.args.shelf.now in
-    let m : Device = g.S.Shelf.device c.write_descriptor.new.shelf in
-    let new : Device = g.S.Shelf.device c.commit_status.new.shelf in
-    let content : List ℕ = c.args.content.now in
-    let number = c.args.buf.number in
-    let p = c.args.patience.now.left in
-    let q = c.write_descriptor.new.patience.left in
-    let buf : Buffer = c.in-Done.buf in
-    let r : Settled = c.commit_status.result in
-    let gives : RecordGives (session_write kind.Descriptor content (stamped first) homes) number p q (stamped first) mid homes after old m (settled.Done buf) =
-    subst (λ (x : Settled). RecordGives (session_write kind.Descriptor content (stamped first) homes) number p q (stamped first) mid homes after old m x) c.in-Done.is c.write_descriptor.ensures.gives in
-    let e = c.commit_status.ensures in
-    let k : Described first mid last homes after final old m new content number p q buf r = record {
-      sectors = g.met.S.Shelf.sectors_are_whole c.args.shelf.now;
-      frames = c.write_descriptor.ensures.frames;
-      gives = gives;
-      was_settled = c.requires.settled;
-      committed = c.in-Done.ensures.committed.1;
-      loses = e.marks;
-      keeps = e.keeps;
-      kept = e.kept;
-      unwritten = λ same. ends_map r _ ((new ≡ m) × (last ≡ mid)) (λ is. (ap (λ s. g.S.Shelf.device s) is.0, is.1)) (e.unwritten same);
-    } in
-    stuck_map r (IsGivenUp buf.number q m new) (IsGivenUp number p old new) (λ stuck. commit_stuck first mid last homes after final old m new content number p q buf r k stuck) e.stuck
-
-pub returns-in-Done-clause-marks : goal.returns-in-Done-clause-marks
-returns-in-Done-clause-marks g c =
-    let first : Stored = c.args.updater.now in
-    let mid : Stored = c.write_descriptor.new.updater in
-    let last : Stored = c.commit_status.new.updater in
-    let homes : Homes = c.args.homes.now in
-    let after : Homes = c.write_descriptor.new.homes in
-    let final : Homes = c.commit_status.new.homes in
-    let old : Device = g.S.Shelf.device c.args.shelf.now in
-    let m : Device = g.S.Shelf.device c.write_descriptor.new.shelf in
-    let new : Device = g.S.Shelf.device c.commit_status.new.shelf in
-    let content : List ℕ = c.args.content.now in
-    let number = c.args.buf.number in
-    let p = c.args.patience.now.left in
-    let q = c.write_descriptor.new.patience.left in
-    let buf : Buffer = c.in-Done.buf in
-    let r : Settled = c.commit_status.result in
-    let gives : RecordGives (session_write kind.Descriptor content (stamped first) homes) number p q (stamped first) mid homes after old m (settled.Done buf) =
-    subst (λ (x : Settled). RecordGives (session_write kind.Descriptor content (stamped first) homes) number p q (stamped first) mid homes after old m x) c.in-Done.is c.write_descriptor.ensures.gives in
-    let e = c.commit_status.ensures in
-    let k : Described first mid last homes after final old m new content number p q buf r = record {
-      sectors = g.met.S.Shelf.sectors_are_whole c.args.shelf.now;
-      frames = c.write_descriptor.ensures.frames;
-      gives = gives;
-      was_settled = c.requires.settled;
-      committed = c.in-Done.ensures.committed.1;
-      loses = e.marks;
-      keeps = e.keeps;
-      kept = e.kept;
-      unwritten = λ same. ends_map r _ ((new ≡ m) × (last ≡ mid)) (λ is. (ap (λ s. g.S.Shelf.device s) is.0, is.1)) (e.unwritten same);
-    } in
-    commit_loses first mid last homes after final old m new content number p q buf r k
-
-pub returns-in-Done-clause-numbers : goal.returns-in-Done-clause-numbers
-returns-in-Done-clause-numbers g c =
-    let first : Stored = c.args.updater.now in
-    let mid : Stored = c.write_descriptor.new.updater in
-    let last : Stored = c.commit_status.new.updater in
-    let homes : Homes = c.args.homes.now in
-    let after : Homes = c.write_descriptor.new.homes in
-    let final : Homes = c.commit_status.new.homes in
-    let old : Device = g.S.Shelf.device c.args.shelf.now in
-    let m : Device = g.S.Shelf.device c.write_descriptor.new.shelf in
-    let new : Device = g.S.Shelf.device c.commit_status.new.shelf in
-    let content : List ℕ = c.args.content.now in
-    let number = c.args.buf.number in
-    let p = c.args.patience.now.left in
-    let q = c.write_descriptor.new.patience.left in
-    let buf : Buffer = c.in-Done.buf in
-    let r : Settled = c.commit_status.result in
-    let gives : RecordGives (session_write kind.Descriptor content (stamped first) homes) number p q (stamped first) mid homes after old m (settled.Done buf) =
-    subst (λ (x : Settled). RecordGives (session_write kind.Descriptor content (stamped first) homes) number p q (stamped first) mid homes after old m x) c.in-Done.is c.write_descriptor.ensures.gives in
-    let e = c.commit_status.ensures in
-    let k : Described first mid last homes after final old m new content number p q buf r = record {
-      sectors = g.met.S.Shelf.sectors_are_whole c.args.shelf.now;
-      frames = c.write_descriptor.ensures.frames;
-      gives = gives;
-      was_settled = c.requires.settled;
-      committed = c.in-Done.ensures.committed.1;
-      loses = e.marks;
-      keeps = e.keeps;
-      kept = e.kept;
-      unwritten = λ same. ends_map r _ ((new ≡ m) × (last ≡ mid)) (λ is. (ap (λ s. g.S.Shelf.device s) is.0, is.1)) (e.unwritten same);
-    } in
-    commit_numbers first mid last homes after final old m new content number p q buf r k e.numbers
-
-pub returns-in-Done-clause-keeps : goal.returns-in-Done-clause-keeps
-returns-in-Done-clause-keeps g c =
-    let first : Stored = c.args.updater.now in
-    let mid : Stored = c.write_descriptor.new.updater in
-    let last : Stored = c.commit_status.new.updater in
-    let homes : Homes = c.args.homes.now in
-    let after : Homes = c.write_descriptor.new.homes in
-    let final : Homes = c.commit_status.new.homes in
-    let old : Device = g.S.Shelf.device c.args.shelf.now in
-    let m : Device = g.S.Shelf.device c.write_descriptor.new.shelf in
-    let new : Device = g.S.Shelf.device c.commit_status.new.shelf in
-    let content : List ℕ = c.args.content.now in
-    let number = c.args.buf.number in
-    let p = c.args.patience.now.left in
-    let q = c.write_descriptor.new.patience.left in
-    let buf : Buffer = c.in-Done.buf in
-    let r : Settled = c.commit_status.result in
-    let gives : RecordGives (session_write kind.Descriptor content (stamped first) homes) number p q (stamped first) mid homes after old m (settled.Done buf) =
-    subst (λ (x : Settled). RecordGives (session_write kind.Descriptor content (stamped first) homes) number p q (stamped first) mid homes after old m x) c.in-Done.is c.write_descriptor.ensures.gives in
-    let e = c.commit_status.ensures in
-    let k : Described first mid last homes after final old m new content number p q buf r = record {
-      sectors = g.met.S.Shelf.sectors_are_whole c.args.shelf.now;
-      frames = c.write_descriptor.ensures.frames;
-      gives = gives;
-      was_settled = c.requires.settled;
-      committed = c.in-Done.ensures.committed.1;
-      loses = e.marks;
-      keeps = e.keeps;
-      kept = e.kept;
-      unwritten = λ same. ends_map r _ ((new ≡ m) × (last ≡ mid)) (λ is. (ap (λ s. g.S.Shelf.device s) is.0, is.1)) (e.unwritten same);
-    } in
-    commit_keeps first mid last homes after final old m new content number p q buf r k e.numbers.rises
-
-pub returns-in-Done-clause-finds : goal.returns-in-Done-clause-finds
-returns-in-Done-clause-finds g c =
-    let first : Stored = c.args.updater.now in
-    let mid : Stored = c.write_descriptor.new.updater in
-    let last : Stored = c.commit_status.new.updater in
-    let homes : Homes = c.args.homes.now in
-    let after : Homes = c.write_descriptor.new.homes in
-    let final : Homes = c.commit_status.new.homes in
-    let old : Device = g.S.Shelf.device c.args.shelf.now in
-    let m : Device = g.S.Shelf.device c.write_descriptor.new.shelf in
-    let new : Device = g.S.Shelf.device c.commit_status.new.shelf in
-    let content : List ℕ = c.args.content.now in
-    let number = c.args.buf.number in
-    let p = c.args.patience.now.left in
-    let q = c.write_descriptor.new.patience.left in
-    let buf : Buffer = c.in-Done.buf in
-    let r : Settled = c.commit_status.result in
-    let gives : RecordGives (session_write kind.Descriptor content (stamped first) homes) number p q (stamped first) mid homes after old m (settled.Done buf) =
-    subst (λ (x : Settled). RecordGives (session_write kind.Descriptor content (stamped first) homes) number p q (stamped first) mid homes after old m x) c.in-Done.is c.write_descriptor.ensures.gives in
-    let e = c.commit_status.ensures in
-    let k : Described first mid last homes after final old m new content number p q buf r = record {
-      sectors = g.met.S.Shelf.sectors_are_whole c.args.shelf.now;
-      frames = c.write_descriptor.ensures.frames;
-      gives = gives;
-      was_settled = c.requires.settled;
-      committed = c.in-Done.ensures.committed.1;
-      loses = e.marks;
-      keeps = e.keeps;
-      kept = e.kept;
-      unwritten = λ same. ends_map r _ ((new ≡ m) × (last ≡ mid)) (λ is. (ap (λ s. g.S.Shelf.device s) is.0, is.1)) (e.unwritten same);
-    } in
-    λ group next reads own alike held. commit_finds first mid last homes after final old m new content number p q buf r k group next reads own alike held e.finds
-
-pub returns-in-Done-clause-kept : goal.returns-in-Done-clause-kept
-returns-in-Done-clause-kept g c =
-    let first : Stored = c.args.updater.now in
-    let mid : Stored = c.write_descriptor.new.updater in
-    let last : Stored = c.commit_status.new.updater in
-    let homes : Homes = c.args.homes.now in
-    let after : Homes = c.write_descriptor.new.homes in
-    let final : Homes = c.commit_status.new.homes in
-    let old : Device = g.S.Shelf.device c.args.shelf.now in
-    let m : Device = g.S.Shelf.device c.write_descriptor.new.shelf in
-    let new : Device = g.S.Shelf.device c.commit_status.new.shelf in
-    let content : List ℕ = c.args.content.now in
-    let number = c.args.buf.number in
-    let p = c.args.patience.now.left in
-    let q = c.write_descriptor.new.patience.left in
-    let buf : Buffer = c.in-Done.buf in
-    let r : Settled = c.commit_status.result in
-    let gives : RecordGives (session_write kind.Descriptor content (stamped first) homes) number p q (stamped first) mid homes after old m (settled.Done buf) =
-    subst (λ (x : Settled). RecordGives (session_write kind.Descriptor content (stamped first) homes) number p q (stamped first) mid homes after old m x) c.in-Done.is c.write_descriptor.ensures.gives in
-    let e = c.commit_status.ensures in
-    let k : Described first mid last homes after final old m new content number p q buf r = record {
-      sectors = g.met.S.Shelf.sectors_are_whole c.args.shelf.now;
-      frames = c.write_descriptor.ensures.frames;
-      gives = gives;
-      was_settled = c.requires.settled;
-      committed = c.in-Done.ensures.committed.1;
-      loses = e.marks;
-      keeps = e.keeps;
-      kept = e.kept;
-      unwritten = λ same. ends_map r _ ((new ≡ m) × (last ≡ mid)) (λ is. (ap (λ s. g.S.Shelf.device s) is.0, is.1)) (e.unwritten same);
-    } in
-    commit_kept first mid last homes after final old m new content number p q buf r k
+    let spends = spends_then p q c.commit_status.new.patience.left old m new gives.spends (record { falls = e.patience; waits = e.waited }) in
+    record {
+      done = e.done;
+      held = done_map r (λ back. StaysHeld mid last after final m new) (λ back. ComesHeld content first last homes final old new)
+          (λ back stays group next reads own alike held. commit_held first mid last homes after final old m new content number p q buf r k group next reads own alike held e.finds stays) e.held;
+      plain = done_map r (λ back. Unit {0}) (λ back. IsPlain kind.Descriptor content first last homes old new) (λ back is same. commit_plain first mid last homes after final old m new content number p q buf r k same) (done_unit r);
+      off = off_map r (λ have total back. HasLostQuorum mid last m new have total) (λ have total back. HasLostQuorum first last old new have total)
+          (λ have total back lost. commit_off first mid last homes after final old m new content number p q buf r k have total lost) e.off;
+      spent = commit_spent first mid last homes after final old m new content number p q buf r k e.spent;
+      buffer = back_map r (λ back. back.number ≡ buf.number) (λ back. back.number ≡ number) (λ back same. same ∙ gives.how.0.number_is) e.buffer;
+      ready = back_map r (λ back. IsReady new × (new.counts.cuts ≡ m.counts.cuts)) (λ back. IsReady new × (new.counts.cuts ≡ old.counts.cuts)) (λ back is. (is.0, is.1 ∙ gives.how.0.cuts)) e.ready;
+      well = back_map r (λ back. AreWell last m new) (λ back. AreWell last old new) (λ back well. commit_well first mid last homes after final old m new content number p q buf r k well) e.well;
+      dark = dark_map r (IsDarkened buf.number m new) (IsDarkened number old new) (λ dark. commit_dark first mid last homes after final old m new content number p q buf r k dark) e.dark;
+      stuck = stuck_map r (IsGivenUp buf.number q m new) (IsGivenUp number p old new) (λ stuck. commit_stuck first mid last homes after final old m new content number p q buf r k stuck) e.stuck;
+      marks = commit_loses first mid last homes after final old m new content number p q buf r k;
+      numbers = commit_numbers first mid last homes after final old m new content number p q buf r k e.numbers;
+      patience = spends.falls;
+      waited = spends.waits;
+      keeps = commit_keeps first mid last homes after final old m new content number p q buf r k e.numbers.rises;
+      finds = λ group next reads own alike held. commit_finds first mid last homes after final old m new content number p q buf r k group next reads own alike held e.finds;
+      kept = commit_kept first mid last homes after final old m new content number p q buf r k;
+    }
