@@ -42,7 +42,7 @@ there_less first last group stays d is = less (is_member first.group d) (calls_m
     less true false now more is = refl
     less false was now more is = is
 
-not_there : (first last : Stored) → ((d : ℕ) → IsTrue (there last d) → IsTrue (there first d)) → (d : ℕ) → IsFalse (there first d) → IsFalse (there last d)
+pub not_there : (first last : Stored) → ((d : ℕ) → IsTrue (there last d) → IsTrue (there first d)) → (d : ℕ) → IsFalse (there first d) → IsFalse (there last d)
 not_there first last less d isnt = ⊎_elim (λ is. absurd (clash (there first d) (less d is) isnt)) (λ is. is) (either (there last d))
 
 pub loses_less : (first last : Stored) (old new : Device) → OnlyLoses first last old new → (d : ℕ) → IsTrue (there last d) → IsTrue (there first d)

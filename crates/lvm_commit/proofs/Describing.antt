@@ -1,16 +1,15 @@
 -- What the write of a session's next descriptor does, however it ended.
-use Rattle.std.proofs.Common.{◌≡◌, inl, inr, ℕ, ◌+◌, ◌<◌, ◌≤◌, Bool, true, false, List, Option, Some, IfSome, Result, Ok, IsTrue, refl, sym, ◌∙◌, ap, subst, arith}
+use Rattle.std.proofs.Common.{◌≡◌, inl, ℕ, ◌+◌, ◌<◌, ◌≤◌, Bool, true, false, List, IfSome, Ok, refl, ap, arith}
 use Rattle.std.specs.Prelude.{if◌then◌else◌}
 use Rattle.lvm_num.specs.declared.record.Kind.TheVariants as kind
 use Rattle.lvm_num.specs.declared.record.Stamp.{Stamp}
 use Rattle.lvm_num.specs.declared.descriptor.Descriptor.{Descriptor}
-use Rattle.lvm_num.specs.Buffer.{Buffer, Sector}
-use Rattle.lvm_num.specs.Disks.{Disks}
+use Rattle.lvm_num.specs.Buffer.{Sector}
 use Rattle.lvm_num.specs.DescriptorBytes.{descriptor_of}
 use Rattle.lvm_num.specs.Record.{Frames}
 use Rattle.lvm_num.specs.Votes.{CanWrite}
 use Rattle.lvm_vol.specs.Facts.{Fact}
-use Rattle.lvm_disk.specs.Device.{Device, IsReady, image_of, HasSectors}
+use Rattle.lvm_disk.specs.Device.{Device, image_of, HasSectors}
 use Rattle.lvm_disk.proofs.Paths.{map-path, last-path}
 use Rattle.lvm_kept.specs.Contents.{contents_of}
 use Rattle.lvm_kept.specs.Torn.{RecordWrite, IsOfRecord}
@@ -24,8 +23,8 @@ use Rattle.lvm_commit.specs.declared.commit.Settled.TheVariants as settled
 use Rattle.lvm_commit.specs.Committed.{next_stamp}
 use Rattle.lvm_commit.specs.LawsOfVolumes.{VolumeServes}
 use Rattle.lvm_commit.specs.LawsOfFinding.{FindsNoMoreOn}
-use Rattle.lvm_commit.specs.Settling.{IfWentOff, IfBack, OnDark, OnStuck, there, IsOf, SessionIsHeld, OnlyLoses, AreWell, HasLostQuorum, SpendsNumbers, IsOfCommit, DescriptorStaysKept}
-use Rattle.lvm_commit.specs.Rounds.{stamped, session_write, WasTried, HowRecord, RecordGives}
+use Rattle.lvm_commit.specs.Settling.{IfWentOff, IfBack, OnDark, OnStuck, there, IsOf, SessionIsHeld, HasLostQuorum, SpendsNumbers, IsOfCommit, DescriptorStaysKept}
+use Rattle.lvm_commit.specs.Rounds.{stamped, session_write, HowRecord, RecordGives}
 use Rattle.lvm_commit.proofs.Chaining.{Goes, goes_from, Returns, record_returns}
 use Rattle.lvm_commit.proofs.Round.{record_goes, quorum_lost, some_failed, failed_is_missing, was_there_on}
 use Rattle.lvm_commit.proofs.Ready.{spends_none}
@@ -109,16 +108,19 @@ module _ (first mid : Stored) (homes after : Homes) (old m : Device) (content : 
 
     pub is_of_commit : (last : Stored) → mid.stamp.seq ≤ last.stamp.seq → (d s : ℕ) (value : Sector) → IsOfRecord w d s value → IsOfCommit content first last d s value
     is_of_commit last rises d s value its =
-        let seq : mid.stamp.seq ≡ first.stamp.seq + 1 = ap (λ (s : Stamp). s.seq) stamp_is in
-        (w, inl (record { kind = refl; content_is = refl }), record {
-          frames = frames;
-          slots = λ disk. slot_two (second_slots kind.Descriptor homes disk);
-          targets = λ disk is. is;
-          epoch = refl;
-          later = omega arith;
-          latest = omega (arith, seq, rises);
-          its = its;
-        })
+        let seq : mid.stamp.seq ≡ first.stamp.seq + 1 = ap (λ (s : Stamp). s.seq) stamp_is in (
+          w,
+          inl (record { kind = refl; content_is = refl }),
+          record {
+            frames = frames;
+            slots = λ disk. slot_two (second_slots kind.Descriptor homes disk);
+            targets = λ disk is. is;
+            epoch = refl;
+            later = omega arith;
+            latest = omega (arith, seq, rises);
+            its = its;
+          },
+        )
 
     -- ---- while it is written
 

@@ -28,7 +28,7 @@ use Rattle.lvm_commit.proofs.Chaining.{there_then}
 
 -- ---- where the media is told
 
-told_with : {P : Device → Type 0} {a b : Device} → Path DeviceStep P a b → is_some b.media ≡ is_some a.media
+pub told_with : {P : Device → Type 0} {a b : Device} → Path DeviceStep P a b → is_some b.media ≡ is_some a.media
 told_with (Here p) = refl
 told_with (Then path step p) = (step_same _ _ step).told ∙ told_with path
 

@@ -28,7 +28,6 @@ use Rattle.lvm_commit.specs.Settling.{there, IsOf, SessionIsHeld}
 use Rattle.lvm_commit.specs.Rounds.{WasTried}
 use Rattle.lvm_commit.proofs.Finding.{descriptor_write_finds_no_more}
 use Rattle.lvm_commit.proofs.Writes.{descriptor_write_keeps, descriptor_is_held}
-
 use Rattle.lvm_commit.proofs.Holding.{told_before, framed, one_write, whole, held_at, by_at, later, written, there_written, stand}
 
 module _ (first : Stored) (homes : Homes) (old : Device) (sectors : HasSectors old) (content : List ℕ) (next : Descriptor)

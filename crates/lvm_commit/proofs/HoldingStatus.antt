@@ -26,7 +26,6 @@ use Rattle.lvm_commit.specs.Settling.{there, IsOf, SessionIsHeld}
 use Rattle.lvm_commit.specs.Rounds.{WasTried}
 use Rattle.lvm_commit.proofs.Finding.{status_write_finds_nothing_new}
 use Rattle.lvm_commit.proofs.Writes.{status_write_keeps, status_is_held}
-
 use Rattle.lvm_commit.proofs.Holding.{told_before, framed, one_write, whole, held_at, by_at, later, can_write, written, there_written, stand}
 
 module _ (first : Stored) (homes : Homes) (old : Device) (sectors : HasSectors old) (content : List ℕ) (next : Status)

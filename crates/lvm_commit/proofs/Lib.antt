@@ -25,6 +25,8 @@ pub mod Holding
 pub mod HoldingStatus
 pub mod HoldingDescriptor
 pub mod Describing
+pub mod Described
+pub mod Ends
 pub mod StatusRound
 pub mod StatusRounds
 pub mod StatusEnding

@@ -1,8 +1,6 @@
 -- What is wanted goes in flight.
-use Rattle.std.proofs.Common.{◌≡◌, Bool, true, false, ◌↔◌, Some, None, IsTrue, refl, sym, ◌∙◌, ap, subst}
+use Rattle.std.proofs.Common.{◌≡◌, Bool, ◌↔◌, Some, None, IsTrue, sym, ◌∙◌, ap}
 use Rattle.std.specs.Prelude.{if◌then◌else◌}
-use Rattle.std.proofs.lemmas.Bool.{false≢true}
-use Rattle.lvm_num.specs.declared.record.Stamp.{Stamp}
 use Rattle.lvm_num.specs.declared.descriptor.Descriptor.{Descriptor}
 use Rattle.lvm_num.specs.declared.status.Status.{Status}
 use Rattle.lvm_status.specs.Update.{Stored, Updates, members_there, seen, MayStart}

@@ -2,7 +2,6 @@
 use Rattle.std.proofs.Common.{◌≡◌, ⊎_elim, ℕ, refl, sym, ◌∙◌, ap}
 use Rattle.lvm_num.specs.declared.record.Kind.TheVariants as kind
 use Rattle.lvm_num.specs.declared.descriptor.Descriptor.{Descriptor}
-use Rattle.lvm_num.specs.declared.status.Status.{Status}
 use Rattle.lvm_num.specs.Buffer.{Buffer}
 use Rattle.lvm_num.specs.Status.{IsValidStatus}
 use Rattle.lvm_num.specs.StatusBytes.{status_bytes}
@@ -22,7 +21,7 @@ use Rattle.lvm_commit.specs.Committed.{next_stamp}
 use Rattle.lvm_commit.specs.LawsOfFinding.{FindsNothingNew, FindsNothingNewOn}
 use Rattle.lvm_commit.specs.LawsOfVolumes.{LeavesOthers}
 use Rattle.lvm_commit.specs.Settling.{IsOfStatus, OthersAreLeft}
-use Rattle.lvm_commit.specs.Rounds.{stamped, session_write, WasTried, HasFew, HowRecord, RecordGives, HowStatus, StatusGives}
+use Rattle.lvm_commit.specs.Rounds.{stamped, session_write, HowRecord, RecordGives, HowStatus, StatusGives}
 use Rattle.lvm_commit.proofs.StatusRounds.{AreRounds, more_goes, more_numbers, more_kept, more_finds, more_returns, more_lost, lost_spends}
 
 -- where nothing is found that wasn't, other groups are left as they were
@@ -48,8 +47,8 @@ module _ (d : Descriptor) (number before left : ℕ) (first now : Stored) (slots
       well = rounds.returns.well;
       committed = record { idle = rounds.may.idle; same = same; votes = rounds.may.votes };
       held = λ group own marks held. (
-          rounds.held group own held,
-          nothing_new_leaves group.id old mid (λ was is. ChangesBy (IsOfStatus first now) (image_of old.sizes was) (image_of mid.sizes is)) rounds.goes.keeps.media (rounds.finds group own held),
+        rounds.held group own held,
+        nothing_new_leaves group.id old mid (λ was is. ChangesBy (IsOfStatus first now) (image_of old.sizes was) (image_of mid.sizes is)) rounds.goes.keeps.media (rounds.finds group own held),
       );
       plain = λ differs. ⊎_elim
           (λ fresh. absurd (differs (ap (λ (u : Stored). u.wanted) (sym fresh.same) ∙ sym same ∙ ap (λ (u : Stored). u.committed) fresh.same)))

@@ -1,15 +1,13 @@
 -- One record of a session's status: what it does, and what the disks hold then.
-use Rattle.std.proofs.Common.{◌≡◌, ◌⊎◌, inl, inr, ⊎_elim, ℕ, ◌+◌, ◌<◌, ◌≤◌, Bool, true, false, None, Ok, IsTrue, IsFalse, refl, sym, ◌∙◌, ap, arith}
-use Rattle.std.specs.Prelude.{is_some, if◌then◌else◌}
+use Rattle.std.proofs.Common.{◌≡◌, ◌⊎◌, inl, inr, ⊎_elim, ℕ, ◌+◌, ◌<◌, Bool, true, false, Ok, IsTrue, IsFalse, refl, sym, ◌∙◌, ap, arith}
+use Rattle.std.specs.Prelude.{if◌then◌else◌}
 use Rattle.lvm_num.specs.declared.record.Kind.TheVariants as kind
 use Rattle.lvm_num.specs.declared.record.Stamp.{Stamp}
 use Rattle.lvm_num.specs.declared.descriptor.Descriptor.{Descriptor}
-use Rattle.lvm_num.specs.declared.status.Status.{Status}
 use Rattle.lvm_num.specs.Buffer.{Buffer, Sector}
 use Rattle.lvm_num.specs.Status.{calls_missing, IsValidStatus}
 use Rattle.lvm_num.specs.StatusBytes.{status_bytes, status_of}
 use Rattle.lvm_num.specs.Record.{Frames}
-use Rattle.lvm_num.specs.Votes.{CanWrite}
 use Rattle.lvm_disk.specs.Device.{Device, HasSectors}
 use Rattle.lvm_disk.specs.Paths.{DeviceStep, Path}
 use Rattle.lvm_disk.proofs.Paths.{map-path, last-path}
@@ -18,7 +16,6 @@ use Rattle.lvm_status.specs.Update.{Stored}
 use Rattle.lvm_change.specs.Moments.{StaysKept}
 use Rattle.lvm_quorum.specs.declared.homes.Homes.{Homes}
 use Rattle.lvm_quorum.specs.Homes.{second_slots}
-use Rattle.lvm_quorum.specs.Written.{IsWriting}
 use Rattle.lvm_vgsa.proofs.RoundTrip.{is_read_again}
 use Rattle.lvm_commit.specs.declared.commit.Settled.{Settled}
 use Rattle.lvm_commit.specs.declared.commit.Settled.TheVariants as settled
@@ -26,7 +23,7 @@ use Rattle.lvm_commit.specs.Committed.{next_stamp}
 use Rattle.lvm_commit.specs.LawsOfFinding.{FindsNothingNewOn}
 use Rattle.lvm_commit.specs.Settling.{there, MaySettle, IsOf, OnlyLoses, IsOfStatus, IsOneRecord, WantsSameMarks, SessionIsHeld}
 use Rattle.lvm_commit.specs.Rounds.{WasTried, HowRecord, RecordGives, stamped, session_write}
-use Rattle.lvm_commit.proofs.Chaining.{Goes, Returns, keeps_wider, record_loses, record_returns, was_there}
+use Rattle.lvm_commit.proofs.Chaining.{Goes, Returns, keeps_wider, record_returns, was_there}
 use Rattle.lvm_commit.proofs.Round.{record_goes, none_or_some, failed_is_missing}
 use Rattle.lvm_commit.proofs.Holding.{with_told}
 use Rattle.lvm_commit.proofs.HoldingStatus.{status_moment_kept, status_moment_finds, status_holds}

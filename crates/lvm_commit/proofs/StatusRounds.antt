@@ -1,10 +1,9 @@
 -- Records of a session's status, one after another.
-use Rattle.std.proofs.Common.{◌≡◌, ◌⊎◌, inl, inr, ⊎_elim, ℕ, ◌+◌, ◌<◌, ◌≤◌, ◌^◌, not, List, [], None, IsTrue, IsFalse, refl, sym, ◌∙◌, ap, subst, arith}
+use Rattle.std.proofs.Common.{◌≡◌, ◌⊎◌, inl, inr, ⊎_elim, ℕ, ◌+◌, ◌<◌, ◌^◌, not, List, [], None, IsTrue, refl, sym, ◌∙◌, ap, subst, arith}
 use Rattle.std.specs.Prelude.{◌==◌}
 use Rattle.std.specs.List.{list_any}
 use Rattle.lvm_num.specs.declared.record.Kind.TheVariants as kind
 use Rattle.lvm_num.specs.declared.record.Stamp.{Stamp}
-use Rattle.lvm_num.specs.declared.descriptor.LvRow.{LvRow}
 use Rattle.lvm_num.specs.declared.descriptor.Descriptor.{Descriptor}
 use Rattle.lvm_num.specs.declared.status.Status.{Status}
 use Rattle.lvm_num.specs.Buffer.{Buffer, Sector}
@@ -14,7 +13,7 @@ use Rattle.lvm_num.specs.StatusBytes.{status_bytes}
 use Rattle.lvm_num.specs.Record.{Frames}
 use Rattle.lvm_num.specs.Votes.{votes_in, is_enough_to_write, CanWrite}
 use Rattle.lvm_disk.specs.Device.{Device, IsReady, HasSectors, image_of}
-use Rattle.lvm_disk.specs.Paths.{DeviceStep, Path, Here}
+use Rattle.lvm_disk.specs.Paths.{Here}
 use Rattle.lvm_disk.proofs.Paths.{append-path, map-path, last-path}
 use Rattle.lvm_disk.proofs.Rising.{none_falls_at_once}
 use Rattle.lvm_kept.specs.Plans.{ChangesBy}
@@ -25,20 +24,19 @@ use Rattle.lvm_change.specs.Moments.{StaysKept}
 use Rattle.lvm_status.proofs.Sound.{not_false}
 use Rattle.lvm_change.proofs.Booleans.{clash, second}
 use Rattle.lvm_quorum.specs.declared.homes.Homes.{Homes}
-use Rattle.lvm_quorum.proofs.Transfers.{keeps_here, spends_none as none_waited, darkened_then, given_up_then}
+use Rattle.lvm_quorum.proofs.Transfers.{keeps_here, spends_none as none_waited}
 use Rattle.lvm_quorum.proofs.Writing.{if_told}
 use Rattle.lvm_commit.specs.declared.commit.Settled.{Settled}
-use Rattle.lvm_commit.specs.declared.commit.Settled.TheVariants as settled
 use Rattle.lvm_commit.specs.Committed.{next_stamp}
 use Rattle.lvm_commit.specs.LawsOfFinding.{FindsNothingNew, FindsNothingNewOn}
-use Rattle.lvm_commit.specs.Settling.{there, many_there, MaySettle, HasNumbers, IsOf, IsCommitted, HasLostQuorum, SpendsNumbers, IsOfStatus, IsOneRecord, IsPlain, WantsSameMarks, SessionIsHeld, StatusStaysKept, StatusFindsNothingNew}
-use Rattle.lvm_commit.specs.Rounds.{stamped, session_write, WasTried, HasFew, HowRecord, RecordGives}
+use Rattle.lvm_commit.specs.Settling.{there, MaySettle, HasNumbers, IsOf, HasLostQuorum, SpendsNumbers, IsOfStatus, IsOneRecord, IsPlain, WantsSameMarks, SessionIsHeld, StatusStaysKept, StatusFindsNothingNew}
+use Rattle.lvm_commit.specs.Rounds.{stamped, session_write, WasTried, HasFew, RecordGives}
 use Rattle.lvm_commit.proofs.NoMore.{data_finds_nothing_new, then_nothing_new}
 use Rattle.lvm_commit.proofs.Still.{still_image}
-use Rattle.lvm_commit.proofs.Chaining.{Goes, Returns, goes_wider, goes_then, returns_then, loses_same, loses_less, loses_then, lost_quorum_then, spends_numbers_then}
+use Rattle.lvm_commit.proofs.Chaining.{Goes, Returns, goes_wider, goes_then, returns_then, loses_same, loses_less, lost_quorum_then, spends_numbers_then}
 use Rattle.lvm_commit.proofs.Round.{quorum_lost}
 use Rattle.lvm_commit.proofs.Ready.{may_settle_on, spends_one, spends_none}
-use Rattle.lvm_commit.proofs.StatusRound.{stamp_then, round_goes, RoundStaysKept, round_kept, round_finds, round_returns, round_holds, round_loses, round_plain}
+use Rattle.lvm_commit.proofs.StatusRound.{stamp_then, round_goes, round_kept, round_finds, round_returns, round_holds, round_loses, round_plain}
 
 -- ---- before the first
 

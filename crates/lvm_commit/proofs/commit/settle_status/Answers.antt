@@ -1,9 +1,7 @@
 use Rattle.std.proofs.Common.{◌≡◌, refl, sym, ◌∙◌, ap}
 use Rattle.std.proofs.lemmas.Bool.{false≢true}
 use Rattle.lvm_disk.specs.Device.{Device, HasSectors}
-use Rattle.lvm_num.specs.declared.status.Status.{Status}
 use Rattle.lvm_status.specs.Update.{Stored}
-use Rattle.lvm_commit.specs.Settling.{EndsAtOnce}
 use Rattle.lvm_commit.proofs.StatusRounds.{no_rounds, more_rounds}
 use Rattle.lvm_commit.proofs.StatusEnding.{rounds_end, rounds_stop}
 use Rattle.lvm_commit.proofs.commit.settle_status.Goals as goal

@@ -1,5 +1,4 @@
-use Rattle.std.proofs.Common.{◌≡◌, ◌≤◌, ℕ, length, ◌∙◌, ap, arith}
-use Rattle.lvm_num.specs.declared.status.Status.{Status}
+use Rattle.std.proofs.Common.{◌≡◌, ◌≤◌, length, arith}
 use Rattle.lvm_num.specs.StatusBytes.{status_bytes}
 use Rattle.lvm_commit.proofs.Sizes.{status_fits}
 use Rattle.lvm_commit.proofs.write.put_wanted.Goals as goal

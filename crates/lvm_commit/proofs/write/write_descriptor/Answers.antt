@@ -12,7 +12,7 @@ use Rattle.lvm_status.proofs.Sound.{and_left}
 use Rattle.lvm_quorum.specs.declared.homes.Homes.{Homes}
 use Rattle.lvm_quorum.specs.Written.{write_of}
 use Rattle.lvm_commit.specs.Committed.{next_stamp}
-use Rattle.lvm_commit.specs.Settling.{IsOf, there}
+use Rattle.lvm_commit.specs.Settling.{IsOf}
 use Rattle.lvm_commit.specs.Rounds.{HasLost, IsSame, stamped, session_write}
 use Rattle.lvm_commit.proofs.Recording.{Says, Tries, ended_gives, dark_gives, stuck_gives, as_session}
 use Rattle.lvm_commit.proofs.write.write_descriptor.Goals as goal
