@@ -1,6 +1,7 @@
 -- What a session is after records were written, by how that ended.
 use Rattle.std.proofs.Common.{◌≡◌, ℕ, ◌≤◌, Bool, false, List, length, replicate, refl, sym, ◌∙◌, ap, subst}
 use Rattle.std.specs.Prelude.{Result, Ok, Err, slice_set}
+use Rattle.lvm_num.specs.declared.place.Pp.{Pp}
 use Rattle.lvm_num.specs.declared.descriptor.Descriptor.{Descriptor}
 use Rattle.lvm_num.specs.DescriptorBytes.{descriptor_bytes}
 use Rattle.lvm_disk.specs.Device.{Device, IsReady}
@@ -12,13 +13,13 @@ use Rattle.lvm_quorum.specs.Parts.{Spends}
 use Rattle.lvm_quorum.specs.Written.{IsDarkened, IsGivenUp, KeepsShelf}
 use Rattle.lvm_commit.specs.declared.commit.Settled.{Settled}
 use Rattle.lvm_commit.specs.declared.commit.Settled.TheVariants as settled
-use Rattle.lvm_commit.specs.Settling.{IfDone, IfWentOff, IfBack, OnDark, OnStuck, there, IsCommitted, HasLostQuorum, OnlyLoses, AreWell, SpendsNumbers, IsOfStatus, IsOfCommit, StatusStaysKept, DescriptorStaysKept, StatusFindsNothingNew, CommitFindsNoMore, StaysHeld, ComesHeld}
+use Rattle.lvm_commit.specs.Settling.{IfDone, IfWentOff, IfBack, OnDark, OnStuck, EndsAtOnce, there, IsCommitted, HasLostQuorum, OnlyLoses, AreWell, SpendsNumbers, IsOfStatus, IsOfCommit, StatusStaysKept, DescriptorStaysKept, StatusFindsNothingNew, CommitFindsNoMore, StaysHeld, ComesHeld}
 use Rattle.lvm_core.specs.declared.fault.CommitFault.{CommitFault}
 use Rattle.lvm_core.specs.declared.request.Power.TheVariants as power
 use Rattle.lvm_core.specs.State.{Core, State, state}
 use Rattle.lvm_core.specs.Dark.{all_dark}
 use Rattle.lvm_core.specs.Committing.{with_one_out}
-use Rattle.lvm_core.specs.Steps.{EndsAs, CoreEnds, Settles, CommitsDescriptor, CommitsMarks}
+use Rattle.lvm_core.specs.Steps.{IsMarked, EndsAs, CoreEnds, Settles, CommitsDescriptor, CommitsMarks}
 use Rattle.lvm_core.proofs.Buffers.{one_is_out, back_again}
 
 -- ---- the buffer
@@ -148,3 +149,35 @@ pub record StatusPromises (first last : Stored) (homes next_homes : Homes) (numb
   pub held : IfDone how (λ back. StaysHeld first last homes next_homes old new)
   pub finds : StatusFindsNothingNew first homes old new
   pub kept : StatusStaysKept first homes old new
+
+pub commits_marks :
+    (to_stale to_fresh : List Pp) (first last : Stored) (homes next_homes : Homes) (number before after : ℕ) (old new : State) (how : Settled) (answer : Result (Unit {0}) CommitFault)
+    → IsMarked to_stale to_fresh old.core.status first → homes ≡ old.core.homes → number ≡ 0 → new.core.status ≡ last → new.core.homes ≡ next_homes
+    → StatusPromises first last homes next_homes number before after old.device new.device how → CoreEnds old.core.descriptor old.core new.core how answer
+    → (first.wanted ≡ first.committed → (answer ≡ Ok tt) × (new.device ≡ old.device) × (new.core ≡ record old.core { status = first })) → CommitsMarks to_stale to_fresh before after old new answer
+commits_marks to_stale to_fresh first last homes next_homes number before after old new how answer marked at none then at_then promises goes same =
+    let a = subst (λ (h : Homes). StatusPromises first last h next_homes number before after old.device new.device how) at promises in
+    let b = subst (λ (n : ℕ). StatusPromises first last old.core.homes next_homes n before after old.device new.device how) none a in
+    let d = subst (λ (h : Homes). StatusPromises first last old.core.homes h 0 before after old.device new.device how) (sym at_then) b in
+    let p = subst (λ (u : Stored). StatusPromises first u old.core.homes new.core.homes 0 before after old.device new.device how) (sym then) d in
+    record {
+      first = first;
+      marked = marked;
+      how = how;
+      settles = settles old.core.descriptor (IsOfStatus first) first new.core.status before after old new how answer refl p.promises goes;
+      held = p.held;
+      finds = p.finds;
+      kept = p.kept;
+      same = same;
+    }
+
+-- where it ended at once
+pub at_once : (Same : Type 0) (old mid new : Core) (mid_is : mid ≡ record old { pool = with_one_out old.pool; status = mid.status; homes = mid.homes }) (all : old.pool ≡ replicate (length old.pool) false) (how : Settled) (answer : Result (Unit {0}) CommitFault)
+    → IfBack how (λ back. back.number ≡ 0) → EndsAs mid new how answer → EndsAtOnce how Same → (Same → mid.homes ≡ old.homes) → Same × (answer ≡ Ok tt) × (new ≡ record old { status = mid.status })
+at_once Same old mid new mid_is all (settled.Done buf) answer number ends same homes =
+    let its = core_ends old mid new mid_is all (settled.Done buf) answer number ends in
+    let is = status_ends mid new (settled.Done buf) answer ends in
+    (same, its.0, its.1 ∙ ap (λ (u : Stored). record old { status = u; homes = new.homes }) is.0 ∙ ap (λ (h : Homes). record old { status = mid.status; homes = h }) (is.1 ∙ homes same))
+at_once Same old mid new mid_is all (settled.WentOff have total buf) answer number ends same homes = absurd same
+at_once Same old mid new mid_is all settled.Dark answer number ends same homes = absurd same
+at_once Same old mid new mid_is all settled.Stuck answer number ends same homes = absurd same

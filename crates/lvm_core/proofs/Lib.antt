@@ -13,3 +13,4 @@ pub mod ZeroKeeping
 pub mod Settling
 pub mod Sizes
 pub mod Ends
+pub mod Marking

@@ -8,13 +8,13 @@ use Rattle.lvm_num.specs.DescriptorBytes.{descriptor_bytes}
 use Rattle.lvm_num.specs.StatusBytes.{status_bytes}
 use Rattle.lvm_disk.specs.Device.{IsReady}
 use Rattle.lvm_kept.specs.Plans.{Plan}
-use Rattle.lvm_stale.specs.Table.{SameMembers, SameMissing}
+use Rattle.lvm_stale.specs.Table.{SameMissing}
 use Rattle.lvm_status.specs.Update.{Stored}
 use Rattle.lvm_quorum.specs.Parts.{Spends}
 use Rattle.lvm_quorum.specs.Written.{IsDarkened, IsGivenUp, KeepsShelf}
 use Rattle.lvm_commit.specs.declared.commit.Settled.{Settled}
 use Rattle.lvm_commit.specs.declared.commit.Settled.TheVariants as settled
-use Rattle.lvm_commit.specs.Settling.{IfDone, IfWentOff, IfBack, OnDark, OnStuck, there, IsCommitted, HasLostQuorum, OnlyLoses, AreWell, SpendsNumbers, IsOfStatus, IsOfCommit, StatusStaysKept, DescriptorStaysKept, StatusFindsNothingNew, CommitFindsNoMore, StaysHeld, ComesHeld}
+use Rattle.lvm_commit.specs.Settling.{HasSameRows, IfDone, IfWentOff, IfBack, OnDark, OnStuck, there, IsCommitted, HasLostQuorum, OnlyLoses, AreWell, SpendsNumbers, IsOfStatus, IsOfCommit, StatusStaysKept, DescriptorStaysKept, StatusFindsNothingNew, CommitFindsNoMore, StaysHeld, ComesHeld}
 use Rattle.lvm_core.specs.declared.fault.CommitFault.{CommitFault}
 use Rattle.lvm_core.specs.declared.fault.CommitFault.TheVariants as fault
 use Rattle.lvm_core.specs.declared.request.Power.TheVariants as power
@@ -30,7 +30,7 @@ pub record IsMarked (to_stale to_fresh : List Pp) (old new : Stored) : Type 0 wh
   pub committed : new.committed ≡ old.committed
   pub idle : new.in_flight ≡ None
   pub stamp : new.stamp ≡ old.stamp
-  pub members : SameMembers old.wanted new.wanted
+  pub rows : HasSameRows old.wanted new.wanted
   pub marks : Marks to_stale to_fresh old.wanted new.wanted
   pub missing : SameMissing old.wanted new.wanted
   pub dirty : new.wanted.dirty ≡ old.wanted.dirty

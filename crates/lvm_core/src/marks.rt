@@ -1,9 +1,6 @@
 //! Marks of partitions that are stale or fresh.
-ghost use Rattle.std.specs.Prelude.{◌≡◌, ◌||◌, ◌&&◌, ◌++◌, not, true, false, None, All};
-ghost use Rattle.lvm_num.specs.declared.place.Pp.{Pp};
-ghost use Rattle.lvm_num.specs.Status.{calls_stale};
+ghost use Rattle.std.specs.Prelude.{◌≡◌, ◌++◌, [], None, All};
 ghost use Rattle.lvm_status.specs.Calls.{IsMarkable};
-ghost use Rattle.lvm_core.specs.Committing.{is_among};
 ghost use Rattle.lvm_core.specs.Steps.{IsMarked};
 
 use lvm_num::Pp;
