@@ -120,15 +120,21 @@ fn is_ready<S: Shelf>(shelf: &S, d: &Descriptor, updater: &Updater) -> bool
     ensures numbers { IsTrue result → HasNumbers 2 updater.now }
 {
     let stamp = updater.stamp();
-    if !d.is_valid() || updater.in_flight().is_some() || stamp.epoch == 0 || stamp.seq > 1000 {
+    if !d.is_valid() || stamp.epoch == 0 || stamp.seq > 1000 {
+        return false;
+    }
+    if let Some(_) = updater.in_flight() {
+        return false;
+    }
+    let wanted = updater.wanted();
+    if wanted.as_status().id != d.id || !Updater::has_its_rows(d, wanted) {
+        return false;
+    }
+    if !has_room(shelf) || !are_below(d, shelf.disks()) {
         return false;
     }
     let (have, _) = updater.votes();
-    updater.wanted().as_status().id == d.id
-        && Updater::has_its_rows(d, updater.wanted())
-        && has_room(shelf)
-        && are_below(d, shelf.disks())
-        && d.enough_to_write(have)
+    d.enough_to_write(have)
 }
 
 fn first_updater(alloc: Global, d: &Descriptor) -> Result<Updater, Fail>
