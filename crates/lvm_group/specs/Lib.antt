@@ -4,3 +4,4 @@ pub mod Judged
 pub mod Planned
 pub mod Made
 pub mod Steps
+pub mod NewVolume

@@ -6,6 +6,7 @@ mod judge;
 mod look;
 mod make;
 mod making;
+mod next;
 mod plan;
 mod write;
 
