@@ -1,6 +1,8 @@
 -- How a command on a session ends, and what it leaves whatever its answer.
 use Rattle.std.specs.Prelude.{◌≡◌, ◌⊎◌, ℕ, ◌≤◌, [], Result, Ok, Err, IsTrue, IsFalse}
 use Rattle.lvm_num.specs.declared.place.Pp.{Pp}
+use Rattle.lvm_num.specs.declared.descriptor.Descriptor.{Descriptor}
+use Rattle.lvm_num.specs.DescriptorBytes.{descriptor_bytes}
 use Rattle.lvm_num.specs.Status.{calls_stale, calls_missing}
 use Rattle.lvm_disk.specs.Counts.{Rose}
 use Rattle.lvm_disk.specs.Device.{IsReady}
@@ -10,13 +12,12 @@ use Rattle.lvm_kept.specs.Moments.{Moment, StaysCalm}
 use Rattle.lvm_kept.specs.Plans.{Plan}
 use Rattle.lvm_stale.specs.Table.{SameMembers}
 use Rattle.lvm_quorum.specs.Written.{KeepsShelf, IsDarkened, IsGivenUp}
-use Rattle.lvm_commit.specs.Settling.{HasLostQuorum, IsOfSession}
+use Rattle.lvm_commit.specs.Settling.{HasLostQuorum, IsOfStatus, IsOfCommit}
 use Rattle.lvm_core.specs.declared.fault.CommitFault.{CommitFault}
 use Rattle.lvm_core.specs.declared.fault.CommitFault.TheVariants as commit
 use Rattle.lvm_core.specs.declared.request.Power.TheVariants as power
 use Rattle.lvm_core.specs.State.{Core, State, is_there}
 use Rattle.lvm_core.specs.Held.{IsHeld, IsOnlyGroupOn}
-use Rattle.lvm_core.specs.Settled.{IsSettled}
 use Rattle.lvm_core.specs.Committing.{moment_of, SpanGoesOn, StaysBehind}
 use Rattle.lvm_core.specs.Zeros.{IsZeroOf}
 use Rattle.lvm_group.specs.declared.fault.GroupFault.{GroupFault}
@@ -76,18 +77,30 @@ IfOn (Ok done) P = P
 IfOn (Err fault.Dark) P = Unit {0}
 IfOn (Err (fault.WentOff have total)) P = Unit {0}
 IfOn (Err fault.Stuck) P = Unit {0}
-IfOn (Err other) P = P
+IfOn (Err fault.Busy) P = P
+IfOn (Err fault.NoVolume) P = P
+IfOn (Err fault.VolumeExists) P = P
+IfOn (Err (fault.CopyLimit now)) P = P
+IfOn (Err (fault.LastFresh lp)) P = P
+IfOn (Err (fault.TooMany limit)) P = P
+IfOn (Err (fault.NoRoom free)) P = P
+IfOn (Err fault.HistoryFull) P = P
+IfOn (Err (fault.DiskFailed disk)) P = P
+IfOn (Err fault.Memory) P = P
 
 -- The disks hold what the session says, where they did, and no group but this one is found on them, where none was.
-pub record StaysHeld (old new : State) : Type 0 where
+pub record StillHeld (old new : State) : Type 0 where
   pub held : IsHeld old.device old.core → IsHeld new.device new.core
   pub only : IsHeld old.device old.core → IsOnlyGroupOn old.device old.core.descriptor.id → IsOnlyGroupOn new.device new.core.descriptor.id
 
 -- ---- whatever the answer
 
--- sectors of records of the session go to its members that aren't missing, and zeros to partitions of which this holds
-abbrev pub IsOfCommand : (Pp → Type 0) → State → State → Plan
-IsOfCommand Z old new d s value = IsOfSession old.core.status new.core.status d s value ⊎ ((pp : Pp) × Z pp × IsZeroOf old.core.descriptor.mib pp d s value)
+-- What a command may write: statuses of the session, a descriptor of which this holds, and zeros to partitions of which that does.
+abbrev pub IsOfCommand : (Descriptor → Type 0) → (Pp → Type 0) → State → State → Plan
+IsOfCommand N Z old new d s value =
+    IsOfStatus old.core.status new.core.status d s value
+    ⊎ ((next : Descriptor) × N next × IsOfCommit (descriptor_bytes next) old.core.status new.core.status d s value)
+    ⊎ ((pp : Pp) × Z pp × IsZeroOf old.core.descriptor.mib pp d s value)
 
 -- What is wanted of the status afterwards: members have become missing, each after a transfer to it has failed, and of the partitions of which this
 -- holds some stale ones are fresh.
@@ -110,9 +123,9 @@ pub record KeepsHistory (was is : Log) : Type 0 where
   pub room : record is { facts = [] } ≡ record was { facts = [] }
   pub later : (moment : ℕ) → IsLater was.facts moment → IsLater is.facts moment
 
--- what a command leaves that writes zeros only to such partitions
-pub record Leaves (Z : Pp → Type 0) (old new : State) : Type 0 where
-  pub writes : KeepsShelf (is_there old.core) (IsOfCommand Z old new) old.device new.device
+-- what a command leaves that writes such descriptors, and zeros to such partitions
+pub record Leaves (N : Descriptor → Type 0) (Z : Pp → Type 0) (old new : State) : Type 0 where
+  pub writes : KeepsShelf (is_there old.core) (IsOfCommand N Z old new) old.device new.device
   pub status : KeepsStatus Z old new
   pub stamps : StampsRise old new
   pub history : KeepsHistory old.core.history new.core.history

@@ -9,7 +9,7 @@ use Rattle.lvm_group.specs.NewVolume.{IsLowestFree, row_for, with_volume, withou
 use Rattle.lvm_group.specs.Volumes.{MayBeMade, MayBeRemoved}
 
 -- Nothing stands against the volume, which has the lowest free number, this map and these blocks; and the next descriptor is the one with it.
-pub record IsPlanned (v : NewVolume) (core : Core) (plan : VolumePlan) : Type 0 where
+pub record IsPlannedVolume (v : NewVolume) (core : Core) (plan : VolumePlan) : Type 0 where
   pub may : MayBeMade v core plan.map
   pub lowest : IsLowestFree core.descriptor plan.number
   pub blocks : plan.blocks ≡ volume_blocks core.descriptor.mib v.lps

@@ -10,6 +10,7 @@ use Rattle.lvm_vol.specs.Facts.{Fact, Making, Made, Removing, Removed}
 use Rattle.lvm_vol.specs.Log.{Log, with_fact}
 use Rattle.lvm_map.specs.FirstFit.{is_on}
 use Rattle.lvm_quorum.specs.Parts.{Spends}
+use Rattle.lvm_commit.specs.LawsOfData.{IsFree}
 use Rattle.lvm_core.specs.declared.fault.CommitFault.{CommitFault}
 use Rattle.lvm_core.specs.declared.fault.CommitFault.TheVariants as commit
 use Rattle.lvm_core.specs.State.{Core, State, is_there}
@@ -18,15 +19,15 @@ use Rattle.lvm_core.specs.Committing.{Marks, HasGoneDark, IsLeftOut}
 use Rattle.lvm_core.specs.Zeros.{IsAsBefore}
 use Rattle.lvm_group.specs.declared.new_volume.NewVolume.{NewVolume}
 use Rattle.lvm_group.specs.declared.new_volume.VolumePlan.{VolumePlan}
-use Rattle.lvm_group.specs.Endings.{EndsDark, EndsOff, EndsStuck, EndsFailed, Leaves, KeepsSpans, StaysHeld}
-use Rattle.lvm_group.specs.PlannedVolume.{IsPlanned}
-use Rattle.lvm_group.specs.Volumes.{IsUnused, AreZeroed, removing}
+use Rattle.lvm_group.specs.Endings.{EndsDark, EndsOff, EndsStuck, EndsFailed, Leaves, KeepsSpans, StillHeld}
+use Rattle.lvm_group.specs.PlannedVolume.{IsPlannedVolume}
+use Rattle.lvm_group.specs.Volumes.{AreZeroed, removing}
 
 -- ---- whatever comes of it
 
 -- what a stage leaves, what patience it takes, and that spans go on with it
-pub record Goes (Z : Pp → Type 0) (before after : ℕ) (old new : State) : Type 0 where
-  pub leaves : Leaves Z old new
+pub record Goes (N : Descriptor → Type 0) (Z : Pp → Type 0) (before after : ℕ) (old new : State) : Type 0 where
+  pub leaves : Leaves N Z old new
   pub spends : Spends before after old.device new.device
   pub spans : KeepsSpans old new
 
@@ -42,7 +43,8 @@ IfOn (Err commit.Stuck) P = Unit {0}
 
 -- partitions of members that aren't missing, of no volume, and each once
 pub record AreUnusedOn (core : Core) (map : List Pp) : Type 0 where
-  pub unused : All (IsUnused core) map
+  pub there : All (λ (pp : Pp). IsTrue (is_there core pp.disk)) map
+  pub free : All (IsFree core.descriptor) map
   pub places : All (IsPartitionOf core.descriptor) map
   pub once : AllPairs (λ a b. a ≢ b) map
 
@@ -120,7 +122,7 @@ MakeEnds plan patience old new (Err commit.Stuck) = BreaksOff plan old new (λ e
 
 -- nothing stands against a volume with this plan
 abbrev pub MayMake : Core → VolumePlan → Type 0
-MayMake core plan = (v : NewVolume) × IsPlanned v core plan × (1 ≤ v.lps)
+MayMake core plan = (v : NewVolume) × IsPlannedVolume v core plan × (1 ≤ v.lps)
 
 -- ---- the whole removal
 

@@ -6,7 +6,7 @@ ghost use Rattle.lvm_num.specs.Disks.{has};
 ghost use Rattle.lvm_status.specs.Update.{members_there};
 ghost use Rattle.lvm_core.specs.Settled.{IsSettled};
 ghost use Rattle.lvm_group.specs.Endings.{TakesCommands};
-ghost use Rattle.lvm_group.specs.PlannedVolume.{IsPlanned, IsWithout};
+ghost use Rattle.lvm_group.specs.PlannedVolume.{IsPlannedVolume, IsWithout};
 ghost use Rattle.lvm_group.specs.Volumes.{HasRoom, HasNumber, HasPlaces, MayBeMade, RefusesAll, RefusesMklv, RefusesRmlv};
 
 use crate::fault::GroupFault;
@@ -57,7 +57,7 @@ impl VolumePlan {
     ) -> Result<VolumePlan, GroupFault>
         requires settled { TakesCommands driver.now.1 → IsSettled driver.now.1 }
         requires some { 1 ≤ v.now.lps }
-        ensures planned { IfOk result (IsPlanned v.now driver.now.1) }
+        ensures planned { IfOk result (IsPlannedVolume v.now driver.now.1) }
         ensures refused { IfErr result (RefusesMklv v.now driver.now.1) }
     {
         check(driver, v)?;
@@ -192,7 +192,7 @@ fn plan<S: Shelf>(
 ) -> Result<VolumePlan, Memory>
     requires some { 1 ≤ v.now.lps }
     requires may { MayBeMade v.now driver.now.1 map }
-    ensures { IfOk result (IsPlanned v.now driver.now.1) }
+    ensures { IfOk result (IsPlannedVolume v.now driver.now.1) }
 {
     let group = driver.descriptor();
     let number = lowest_free(group);

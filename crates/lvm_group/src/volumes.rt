@@ -1,5 +1,5 @@
 //! The making and the removal of volumes.
-ghost use Rattle.std.specs.Prelude.{◌≡◌, ◌-◌, ◌≤◌, IfSome, IfNone, IsTrue, All};
+ghost use Rattle.std.specs.Prelude.{◌≡◌, ◌-◌, ◌≤◌, IfSome, IfNone, IsTrue, All, Contains};
 ghost use Rattle.lvm_num.specs.declared.descriptor.Mode.TheVariants as mode;
 ghost use Rattle.lvm_num.specs.declared.place.Pp.{Pp};
 ghost use Rattle.lvm_num.specs.Status.{calls_missing};
@@ -8,13 +8,16 @@ ghost use Rattle.lvm_kept.specs.Moments.{StaysCalm};
 ghost use Rattle.lvm_map.specs.FirstFit.{is_on};
 ghost use Rattle.lvm_quorum.specs.Written.{KeepsShelf};
 ghost use Rattle.lvm_core.specs.State.{state, is_there};
-ghost use Rattle.lvm_core.specs.Settled.{IsSettled};
+ghost use Rattle.lvm_commit.specs.Settling.{SpendsNumbers};
+ghost use Rattle.lvm_core.specs.Settled.{IsSettled, HasNumbers};
 ghost use Rattle.lvm_core.specs.Committing.{moment_of, StaysBehind};
-ghost use Rattle.lvm_group.specs.Endings.{TakesCommands, IfOn, StaysHeld, IsOfCommand, KeepsStatus, StampsRise, KeepsHistory, KeepsSpans};
+ghost use Rattle.lvm_group.specs.Endings.{TakesCommands, IfOn, StillHeld, IsOfCommand, KeepsStatus, StampsRise, KeepsHistory, KeepsSpans};
 ghost use Rattle.lvm_group.specs.PlannedVolume.{IsWithout};
 ghost use Rattle.lvm_group.specs.Stages.{Goes, IfOn as IfStays, AreUnusedOn, ZerosEnd, ClearEnds, MakeEnds, MayMake, RemoveEnds};
-ghost use Rattle.lvm_group.specs.Volumes.{IsUnused, MklvGives, RmlvGives};
+ghost use Rattle.lvm_group.specs.NewVolume.{without_volume};
+ghost use Rattle.lvm_group.specs.Volumes.{IsWith, IsChosen, MklvGives, RmlvGives};
 
+use crate::calls::{commit, set_status, zero};
 use crate::fault::GroupFault;
 use crate::new_volume::{NewVolume, VolumePlan, prepare_without};
 use lvm_core::{CommitFault, Driver, Prepared};
@@ -53,11 +56,11 @@ pub fn mklv<S: Shelf>(
     requires some { 1 ≤ lps }
     ensures gives { MklvGives (record { name = name; copies = copies; mode = mode; policy = policy; lps = lps }) patience.old.left (state (S.device driver.old.0) driver.old.1) (state (S.device driver.new.0) driver.new.1) result }
     ensures settled { TakesCommands driver.old.1 → IfOn result (IsSettled driver.new.1) }
-    ensures held { IfOn result (StaysHeld (state (S.device driver.old.0) driver.old.1) (state (S.device driver.new.0) driver.new.1)) }
+    ensures held { IfOn result (StillHeld (state (S.device driver.old.0) driver.old.1) (state (S.device driver.new.0) driver.new.1)) }
     // whatever the answer
     ensures keeps { KeepsSpans (state (S.device driver.old.0) driver.old.1) (state (S.device driver.new.0) driver.new.1) }
-    ensures writes { KeepsShelf (is_there driver.old.1) (IsOfCommand (IsUnused driver.old.1) (state (S.device driver.old.0) driver.old.1) (state (S.device driver.new.0) driver.new.1)) (S.device driver.old.0) (S.device driver.new.0) }
-    ensures status { KeepsStatus (IsUnused driver.old.1) (state (S.device driver.old.0) driver.old.1) (state (S.device driver.new.0) driver.new.1) }
+    ensures writes { KeepsShelf (is_there driver.old.1) (IsOfCommand (IsWith (record { name = name; copies = copies; mode = mode; policy = policy; lps = lps }) driver.old.1) (IsChosen (record { name = name; copies = copies; mode = mode; policy = policy; lps = lps }) driver.old.1) (state (S.device driver.old.0) driver.old.1) (state (S.device driver.new.0) driver.new.1)) (S.device driver.old.0) (S.device driver.new.0) }
+    ensures status { KeepsStatus (IsChosen (record { name = name; copies = copies; mode = mode; policy = policy; lps = lps }) driver.old.1) (state (S.device driver.old.0) driver.old.1) (state (S.device driver.new.0) driver.new.1) }
     ensures stamps { StampsRise (state (S.device driver.old.0) driver.old.1) (state (S.device driver.new.0) driver.new.1) }
     ensures history { KeepsHistory driver.old.1.history driver.new.1.history }
     ensures calm { StaysCalm (moment_of (state (S.device driver.old.0) driver.old.1)) (moment_of (state (S.device driver.new.0) driver.new.1)) }
@@ -95,10 +98,10 @@ pub fn rmlv<S: Shelf>(
     requires settled { TakesCommands driver.old.1 → IsSettled driver.old.1 }
     ensures gives { RmlvGives lv patience.old.left (state (S.device driver.old.0) driver.old.1) (state (S.device driver.new.0) driver.new.1) result }
     ensures settled { TakesCommands driver.old.1 → IfOn result (IsSettled driver.new.1) }
-    ensures held { IfOn result (StaysHeld (state (S.device driver.old.0) driver.old.1) (state (S.device driver.new.0) driver.new.1)) }
+    ensures held { IfOn result (StillHeld (state (S.device driver.old.0) driver.old.1) (state (S.device driver.new.0) driver.new.1)) }
     // whatever the answer
     ensures keeps { KeepsSpans (state (S.device driver.old.0) driver.old.1) (state (S.device driver.new.0) driver.new.1) }
-    ensures writes { KeepsShelf (is_there driver.old.1) (IsOfCommand (λ pp. ⊥) (state (S.device driver.old.0) driver.old.1) (state (S.device driver.new.0) driver.new.1)) (S.device driver.old.0) (S.device driver.new.0) }
+    ensures writes { KeepsShelf (is_there driver.old.1) (IsOfCommand (λ next. next ≡ without_volume driver.old.1.descriptor lv) (λ pp. ⊥) (state (S.device driver.old.0) driver.old.1) (state (S.device driver.new.0) driver.new.1)) (S.device driver.old.0) (S.device driver.new.0) }
     ensures status { KeepsStatus (λ pp. ⊥) (state (S.device driver.old.0) driver.old.1) (state (S.device driver.new.0) driver.new.1) }
     ensures stamps { StampsRise (state (S.device driver.old.0) driver.old.1) (state (S.device driver.new.0) driver.new.1) }
     ensures history { KeepsHistory driver.old.1.history driver.new.1.history }
@@ -121,8 +124,8 @@ fn make<S: Shelf>(
     requires settled { IsSettled driver.old.1 }
     requires may { MayMake driver.old.1 plan }
     ensures ends { MakeEnds plan patience.old.left (state (S.device driver.old.0) driver.old.1) (state (S.device driver.new.0) driver.new.1) result }
-    ensures goes { Goes (IsUnused driver.old.1) patience.old.left patience.new.left (state (S.device driver.old.0) driver.old.1) (state (S.device driver.new.0) driver.new.1) }
-    ensures held { IfStays result (StaysHeld (state (S.device driver.old.0) driver.old.1) (state (S.device driver.new.0) driver.new.1)) }
+    ensures goes { Goes (λ next. next ≡ plan.next) (Contains plan.map) patience.old.left patience.new.left (state (S.device driver.old.0) driver.old.1) (state (S.device driver.new.0) driver.new.1) }
+    ensures held { IfStays result (StillHeld (state (S.device driver.old.0) driver.old.1) (state (S.device driver.new.0) driver.new.1)) }
 {
     clear(driver, plan.map.as_slice(), patience)?;
     let lv = plan.number;
@@ -131,7 +134,7 @@ fn make<S: Shelf>(
         blocks: plan.blocks,
         mode: plan.mode,
     });
-    driver.commit(plan.next, patience)?;
+    commit(driver, plan.next, patience)?;
     driver.enter(Entry::Made { lv });
     Ok(())
 }
@@ -146,12 +149,12 @@ fn remove<S: Shelf>(
     requires settled { IsSettled driver.old.1 }
     requires without { IsWithout lv driver.old.1 next }
     ensures ends { RemoveEnds lv next patience.old.left (state (S.device driver.old.0) driver.old.1) (state (S.device driver.new.0) driver.new.1) result }
-    ensures goes { Goes (λ pp. ⊥) patience.old.left patience.new.left (state (S.device driver.old.0) driver.old.1) (state (S.device driver.new.0) driver.new.1) }
-    ensures held { IfStays result (StaysHeld (state (S.device driver.old.0) driver.old.1) (state (S.device driver.new.0) driver.new.1)) }
+    ensures goes { Goes (λ d. d ≡ next) (λ pp. ⊥) patience.old.left patience.new.left (state (S.device driver.old.0) driver.old.1) (state (S.device driver.new.0) driver.new.1) }
+    ensures held { IfStays result (StillHeld (state (S.device driver.old.0) driver.old.1) (state (S.device driver.new.0) driver.new.1)) }
 {
     let vol = Vol::Lv(lv);
     driver.enter(Entry::Removing { vol });
-    driver.commit(next, patience)?;
+    commit(driver, next, patience)?;
     driver.enter(Entry::Removed { vol });
     Ok(())
 }
@@ -166,11 +169,11 @@ fn clear<S: Shelf>(
     requires numbers { HasNumbers driver.old.1 }
     requires unused { AreUnusedOn driver.old.1 map.now }
     ensures ends { ClearEnds map.now patience.old.left (state (S.device driver.old.0) driver.old.1) (state (S.device driver.new.0) driver.new.1) result }
-    ensures goes { Goes (IsUnused driver.old.1) patience.old.left patience.new.left (state (S.device driver.old.0) driver.old.1) (state (S.device driver.new.0) driver.new.1) }
-    ensures held { IfStays result (StaysHeld (state (S.device driver.old.0) driver.old.1) (state (S.device driver.new.0) driver.new.1)) }
+    ensures goes { Goes (λ next. ⊥) (Contains map.now) patience.old.left patience.new.left (state (S.device driver.old.0) driver.old.1) (state (S.device driver.new.0) driver.new.1) }
+    ensures held { IfStays result (StillHeld (state (S.device driver.old.0) driver.old.1) (state (S.device driver.new.0) driver.new.1)) }
     ensures numbers { IfStays result (SpendsNumbers 1 driver.old.1.status driver.new.1.status) }
 {
-    driver.set_status(&[], map, patience)?;
+    set_status(driver, &[], map, patience)?;
     if let Some(disk) = first_missing(driver.table(), map) {
         return Err(CommitFault::DiskFailed { disk });
     }
@@ -199,11 +202,11 @@ fn zero_all<S: Shelf>(
     requires settled { IsSettled driver.old.1 }
     requires unused { AreUnusedOn driver.old.1 map.now }
     ensures ends { ZerosEnd map.now patience.old.left (state (S.device driver.old.0) driver.old.1) (state (S.device driver.new.0) driver.new.1) result }
-    ensures goes { Goes (IsUnused driver.old.1) patience.old.left patience.new.left (state (S.device driver.old.0) driver.old.1) (state (S.device driver.new.0) driver.new.1) }
-    ensures held { IfStays result (StaysHeld (state (S.device driver.old.0) driver.old.1) (state (S.device driver.new.0) driver.new.1)) }
+    ensures goes { Goes (λ next. ⊥) (Contains map.now) patience.old.left patience.new.left (state (S.device driver.old.0) driver.old.1) (state (S.device driver.new.0) driver.new.1) }
+    ensures held { IfStays result (StillHeld (state (S.device driver.old.0) driver.old.1) (state (S.device driver.new.0) driver.new.1)) }
 {
     for pp in map {
-        driver.zero(*pp, patience)?;
+        zero(driver, *pp, patience)?;
     }
     Ok(())
 }
