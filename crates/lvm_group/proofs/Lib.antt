@@ -13,3 +13,4 @@ pub mod Sublists
 pub mod NewDescriptor
 pub mod OldDescriptor
 pub mod Places
+pub mod Refusals
