@@ -3,7 +3,14 @@ pub mod Found
 pub mod Statuses
 pub mod Committed
 pub mod Free
+pub mod Slots
+pub mod Writes
 pub mod Data
 pub mod Still
 pub mod Volumes
 pub mod Others
+pub mod NoMore
+pub mod Finding
+pub mod Counting
+pub mod Losing
+pub mod Ending

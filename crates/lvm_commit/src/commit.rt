@@ -5,11 +5,12 @@ ghost use Rattle.lvm_num.specs.Record.{longest_content};
 ghost use Rattle.lvm_disk.specs.Counts.{RoseBy};
 ghost use Rattle.lvm_disk.specs.Device.{IsReady};
 ghost use Rattle.lvm_quorum.specs.Written.{KeepsShelf, IsDarkened, IsGivenUp};
-ghost use Rattle.lvm_commit.specs.Settling.{IfDone, IfWentOff, IfBack, OnDark, OnStuck, there, MaySettle, HasNumbers, IsCommitted, HasLostQuorum, OnlyLoses, AreWell, SpendsNumbers, IsOfStatus, IsOfCommit, StatusStaysKept, DescriptorStaysKept, StaysHeld, ComesHeld, EndsAtOnce};
+ghost use Rattle.lvm_commit.specs.Settling.{IfDone, IfWentOff, IfBack, OnDark, OnStuck, EndsAtOnce, there, MaySettle, HasNumbers, IsCommitted, HasLostQuorum, OnlyLoses, AreWell, SpendsNumbers, IsOfStatus, IsOfCommit, StatusStaysKept, DescriptorStaysKept, StaysHeld, ComesHeld};
 
+use crate::write::{next_stamp, write_descriptor, write_update};
 use lvm_disk::Shelf;
 use lvm_move::Patience;
-use lvm_num::Pbuf;
+use lvm_num::{Descriptor, Pbuf};
 use lvm_quorum::Homes;
 use lvm_status::Updater;
 
@@ -27,10 +28,11 @@ pub enum Settled {
 }
 
 /// Writes what is wanted of the status to the members that aren't missing, until what is wanted is committed.
-/// A member whose write fails is missing, and what is written next says so. It takes no memory; the bytes are
-/// room for the largest status.
+/// A member whose write fails is missing, and what is written next says so. `d` is the session's group, and
+/// `bytes` is room for the largest status. It takes no memory.
 pub fn commit_status<S: Shelf>(
     shelf: &mut S,
+    d: &Descriptor,
     updater: &mut Updater,
     homes: &mut Homes,
     bytes: &mut [u8],
@@ -38,7 +40,7 @@ pub fn commit_status<S: Shelf>(
     patience: &mut Patience,
 ) -> Settled
     requires ready { IsReady (S.device shelf.old) }
-    requires may { MaySettle updater.old (S.device shelf.old) }
+    requires may { MaySettle d.now updater.old (S.device shelf.old) }
     requires numbers { HasNumbers 1 updater.old }
     requires bytes { longest_content kind.Status ≤ length bytes.old }
     // what is wanted is committed
@@ -63,13 +65,22 @@ pub fn commit_status<S: Shelf>(
     ensures keeps { KeepsShelf (there updater.old) (IsOfStatus updater.old updater.new) (S.device shelf.old) (S.device shelf.new) }
     ensures kept { StatusStaysKept updater.old homes.old (S.device shelf.old) (S.device shelf.new) }
 {
+    let mut buf = buf;
+    while updater.start() {
+        match write_update(shelf, d, updater, homes, bytes, buf, patience) {
+            Settled::Done { buf: back } => buf = back,
+            stopped => return stopped,
+        }
+    }
     Settled::Done { buf }
 }
 
 /// Writes a descriptor to the members that aren't missing. Those whose write fails are missing, and the status
-/// says so before the call answers: what is wanted is committed. It takes no memory.
+/// says so before the call answers: what is wanted is committed. `d` is the session's group, and `bytes` is room
+/// for the largest status. It takes no memory.
 pub fn commit_descriptor<S: Shelf>(
     shelf: &mut S,
+    d: &Descriptor,
     updater: &mut Updater,
     homes: &mut Homes,
     content: &[u8],
@@ -78,7 +89,7 @@ pub fn commit_descriptor<S: Shelf>(
     patience: &mut Patience,
 ) -> Settled
     requires ready { IsReady (S.device shelf.old) }
-    requires may { MaySettle updater.old (S.device shelf.old) }
+    requires may { MaySettle d.now updater.old (S.device shelf.old) }
     requires settled { updater.old.committed ≡ updater.old.wanted }
     requires numbers { HasNumbers 2 updater.old }
     requires content { length content.now ≤ longest_content kind.Descriptor }
@@ -103,5 +114,9 @@ pub fn commit_descriptor<S: Shelf>(
     ensures keeps { KeepsShelf (there updater.old) (IsOfCommit content.now updater.old updater.new) (S.device shelf.old) (S.device shelf.new) }
     ensures kept { DescriptorStaysKept content.now updater.old homes.old (S.device shelf.old) (S.device shelf.new) }
 {
-    Settled::Done { buf }
+    updater.set_stamp(next_stamp(updater.stamp()));
+    match write_descriptor(shelf, d, updater, homes, content, buf, patience) {
+        Settled::Done { buf } => commit_status(shelf, d, updater, homes, bytes, buf, patience),
+        stopped => stopped,
+    }
 }

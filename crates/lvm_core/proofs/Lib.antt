@@ -4,3 +4,7 @@ pub mod Beginning
 pub mod Arranging
 pub mod Closing
 pub mod Entering
+pub mod Zeroing
+pub mod Buffers
+pub mod Own
+pub mod ZeroEnding

@@ -1,6 +1,7 @@
 //! The driver of a session: a group that is varied on, over its shelf.
 #![tactic(auto)]
 
+mod commit;
 mod driver;
 mod fault;
 mod look;
@@ -9,6 +10,7 @@ mod prepared;
 mod refused;
 mod request;
 mod session;
+mod zero;
 
 pub use driver::{Closed, Driver};
 pub use fault::CommitFault;
