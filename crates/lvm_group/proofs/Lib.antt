@@ -14,3 +14,7 @@ pub mod NewDescriptor
 pub mod OldDescriptor
 pub mod Places
 pub mod Refusals
+pub mod Leaving
+pub mod Going
+pub mod Zeroing
+pub mod Zeros
