@@ -8,3 +8,6 @@ pub mod Zeroing
 pub mod Buffers
 pub mod Own
 pub mod ZeroEnding
+pub mod Spanning
+pub mod ZeroKeeping
+pub mod Settling

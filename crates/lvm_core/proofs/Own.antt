@@ -1,5 +1,5 @@
 -- A session is sound after transfers of its own, whether its buffer is back or out.
-use Rattle.std.proofs.Common.{◌≡◌, ◌⊎◌, inl, inr, ⊎_elim, ℕ, zero, suc, ◌≤◌, ◌+◌, Bool, true, false, List, [], ◌∷◌, length, length-set, replicate, refl, sym, ◌∙◌, ap, subst, arith}
+use Rattle.std.proofs.Common.{◌≡◌, inl, inr, ℕ, zero, suc, ◌≤◌, ◌+◌, Bool, true, false, List, [], ◌∷◌, length, length-set, replicate, refl, sym, ◌∙◌, ap, subst, arith}
 use Rattle.std.specs.Prelude.{cond, count_by, slice_index_or, IsFalse, ◌==◌}
 use Rattle.std.proofs.lemmas.Bool.Decides.{nat_tests}
 use Rattle.lvm_num.specs.Buffer.{Buffer}
@@ -101,10 +101,10 @@ sound_dark old device core pool fits told placed is all some cut = record {
     few n (inl none) = let e = none_with device cut.flights none n in omega (arith, e)
     few n (inr (buf, one, number)) =
         let e : out_with device n ≡ cond (slice_index_or (with_one_out pool) n false) 1 0 =
-            ap (λ fs. count_by (λ (f : Flight). has_number n f.buf) fs + count_by (has_number n) device.freed) cut.flights
-            ∙ ap (λ bs. 0 + count_by (has_number n) bs) one
-            ∙ no_more (cond (has_number n buf) 1 0)
-            ∙ one_counted buf pool n number some all
+        ap (λ fs. count_by (λ (f : Flight). has_number n f.buf) fs + count_by (has_number n) device.freed) cut.flights
+        ∙ ap (λ bs. 0 + count_by (has_number n) bs) one
+        ∙ no_more (cond (has_number n buf) 1 0)
+        ∙ one_counted buf pool n number some all
         in
         omega (arith, e)
 

@@ -1,17 +1,14 @@
 -- What a session and its shelf are after zeros were written, by how the transfers ended.
-use Rattle.std.proofs.Common.{◌≡◌, inl, inr, ⊎_elim, ℕ, ◌<◌, ◌≤◌, ◌+◌, Bool, true, false, List, [], Option, Some, None, length, replicate, refl, sym, ◌∙◌, ap, subst, arith}
-use Rattle.std.specs.Prelude.{◌==◌, IsTrue, Result, Ok, Err, IfSome}
+use Rattle.std.proofs.Common.{◌≡◌, ⊎_elim, ℕ, ◌<◌, Some, refl, sym, ◌∙◌, ap, subst, arith}
+use Rattle.std.specs.Prelude.{◌==◌, Result}
 use Rattle.lvm_num.specs.declared.place.Pp.{Pp}
-use Rattle.lvm_num.specs.Descriptor.{IsPartitionOf}
 use Rattle.lvm_num.specs.Geometry.{data_start}
-use Rattle.lvm_disk.specs.Device.{Media, Image, Device, image_of, MayLeave}
-use Rattle.lvm_disk.specs.Steps.{BothTold}
+use Rattle.lvm_disk.specs.Device.{Media, Image, image_of, MayLeave}
 use Rattle.lvm_kept.specs.Places.{SameRecords}
 use Rattle.lvm_kept.specs.Plans.{ChangesBy}
 use Rattle.lvm_move.specs.declared.moves.Moved.{Moved}
 use Rattle.lvm_move.specs.declared.moves.Moved.TheVariants as moved
 use Rattle.lvm_quorum.specs.Parts.{DoesPart}
-use Rattle.lvm_quorum.specs.Written.{IsWriting}
 use Rattle.lvm_quorum.proofs.Writing.{if_told, told_at, both_from}
 use Rattle.lvm_stamps.proofs.Shelves.{data_stays_behind}
 use Rattle.lvm_commit.specs.Committed.{HoldsCommitted}
@@ -20,7 +17,6 @@ use Rattle.lvm_commit.proofs.Still.{data_keeps_committed}
 use Rattle.lvm_commit.proofs.NoMore.{data_finds_nothing_new}
 use Rattle.lvm_kept.specs.Contents.{contents_of}
 use Rattle.lvm_core.specs.declared.fault.CommitFault.{CommitFault}
-use Rattle.lvm_core.specs.declared.fault.CommitFault.TheVariants as fault
 use Rattle.lvm_core.specs.State.{Core, State, is_there}
 use Rattle.lvm_core.specs.Dark.{all_dark}
 use Rattle.lvm_core.specs.Held.{IsHeld}
@@ -28,7 +24,7 @@ use Rattle.lvm_core.specs.Committing.{with_one_out, StaysBehind}
 use Rattle.lvm_core.specs.Zeros.{IsZeroOf, ZeroEnds, GoesOnAfter, WritesZeros}
 
 -- zeros in a partition change no record
-zeros_below : (mib : ℕ) (pp : Pp) (a b : Image) → ChangesBy (IsZeroOf mib pp) a b → SameRecords a b
+pub zeros_below : (mib : ℕ) (pp : Pp) (a b : Image) → ChangesBy (IsZeroOf mib pp) a b → SameRecords a b
 zeros_below mib pp a b by = record {
   same = by.same;
   sectors = λ d s lt. ⊎_elim (λ same. same) (λ (zero : IsZeroOf mib pp d s (b.sector d s)). absurd (let low = zero.0.low in omega (arith, lt, low))) (by.each d s);

@@ -1,5 +1,5 @@
 -- Transfers of zeros to the sectors of a partition, one after another.
-use Rattle.std.proofs.Common.{◌≡◌, inl, inr, ⊎_elim, ℕ, ◌+◌, ◌-◌, ◌*◌, ◌<◌, ◌≤◌, Bool, true, false, List, length, Option, Some, None, slice_get, get_or, length-set, refl, sym, ◌∙◌, ap, subst, arith, eq-eqb}
+use Rattle.std.proofs.Common.{◌≡◌, ⊎_elim, ℕ, ◌+◌, ◌-◌, ◌*◌, ◌<◌, ◌≤◌, Bool, true, false, List, length, Option, Some, None, slice_get, get_or, length-set, refl, sym, ◌∙◌, ap, arith, eq-eqb}
 use Rattle.std.specs.Prelude.{◌==◌, ◌&&◌, nat_le, nat_lt, if◌then◌else◌, unwrap_or, slice_set}
 use Rattle.std.proofs.lemmas.Bool.{eqb-true, ltb-true, leb-true, cases_lt}
 use Rattle.std.proofs.lemmas.Bool.Decides.{nat_tests}
@@ -16,7 +16,7 @@ use Rattle.lvm_move.specs.declared.moves.Moved.{Moved}
 use Rattle.lvm_move.specs.declared.moves.Moved.TheVariants as moved
 use Rattle.lvm_move.proofs.Ending.{one_left}
 use Rattle.lvm_move.proofs.Effects.{out_flights}
-use Rattle.lvm_quorum.specs.Parts.{DoesPart, IfDone}
+use Rattle.lvm_quorum.specs.Parts.{IfDone}
 use Rattle.lvm_quorum.specs.Written.{IsInPlan, KeepsShelf}
 use Rattle.lvm_quorum.proofs.Writing.{if_told, told_at, both_from, stand_told}
 use Rattle.lvm_commit.specs.LawsOfData.{IsSectorOf}
@@ -45,8 +45,7 @@ module _ (mib : ℕ) (pp : Pp) (piece first : ℕ) (buf : Buffer) (place : first
       go true true true p q r is =
           let low = leb-true first s q in
           let high = ltb-true s (first + 256) r in
-          let got : Some value ≡ Some zero_sector = sym is ∙ clear (s - first) (omega (arith, low, high)) in
-          (
+          let got : Some value ≡ Some zero_sector = sym is ∙ clear (s - first) (omega (arith, low, high)) in (
             record { disk = sym (eqb-true pp.disk d p); low = omega (arith, low, place); high = omega (arith, high, place, small) },
             cc,
           )
@@ -131,4 +130,4 @@ module _ (mib : ℕ) (pp : Pp) (old mid : Device) where
       ap (λ (x : ℕ). m x s) its.disk
       ∙ ap (λ (x : ℕ). m pp.disk x) place
       ∙ told_at mid.media (λ media. (k : ℕ) → 0 ≤ k → k < 256 * n → media pp.disk (data_start + partition_blocks mib * pp.pp + k) ≡ zero_sector) m is zeros
-        (s - (data_start + partition_blocks mib * pp.pp)) (omega arith) (omega (arith, low, high, whole)))
+      (s - (data_start + partition_blocks mib * pp.pp)) (omega arith) (omega (arith, low, high, whole)))

@@ -82,6 +82,7 @@ Marks stale fresh old new = (p : Pp) → calls_stale new p ≡ (calls_stale old 
 
 -- What is wanted of the status afterwards: it has these marks, and members have become missing, each of them after a transfer to it has failed.
 pub record Restates (stale fresh : List Pp) (old new : State) : Type 0 where
+  pub group : new.core.status.group ≡ old.core.status.group
   pub rows : HasSameRows old.core.status.wanted new.core.status.wanted
   pub marks : Marks stale fresh old.core.status.wanted new.core.status.wanted
   pub dirty : new.core.status.wanted.dirty ≡ old.core.status.wanted.dirty

@@ -12,6 +12,7 @@ use lvm_num::{Pbuf, Pp};
 
 // The sectors of a transfer, and how many transfers a MiB has.
 const PIECE: u32 = 256;
+
 const PIECES: u32 = 8;
 
 /// Writes zeros to all of a partition, in pieces of 256 sectors, up to the first that doesn't go well.

@@ -1,4 +1,4 @@
-use Rattle.std.proofs.Common.{◌≡◌, ◌+◌, ◌*◌, ℕ, refl, sym, subst, arith}
+use Rattle.std.proofs.Common.{◌+◌, ◌*◌, ℕ, sym, subst, arith}
 use Rattle.std.specs.Prelude.{◌==◌}
 use Rattle.lvm_num.specs.Buffer.{Buffer}
 use Rattle.lvm_move.specs.declared.moves.Moved.TheVariants as moved

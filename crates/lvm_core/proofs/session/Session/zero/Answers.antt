@@ -1,6 +1,5 @@
-use Rattle.std.proofs.Common.{◌≡◌, ℕ, Bool, false, List, refl, sym, ◌∙◌, ap, subst}
+use Rattle.std.proofs.Common.{ℕ, Bool, false, List, refl, ◌∙◌, ap, subst}
 use Rattle.std.specs.Prelude.{◌==◌, slice_set}
-use Rattle.lvm_disk.specs.Device.{Device}
 use Rattle.lvm_move.specs.declared.moves.Moved.TheVariants as moved
 use Rattle.lvm_quorum.specs.Parts.{DoesPart}
 use Rattle.lvm_core.specs.declared.session.Session.{Session}
@@ -19,7 +18,7 @@ returns-in-Done-clause-does g c =
     let number = c.take_buffer-buf.ensures.number in
     let how = moved.Done c.in-Done.back in
     let part = subst (λ (s : Session). DoesPart (λ d. d == pp.disk) (IsZeroOf s.descriptor.mib pp) pp.disk 0 c.args.patience.now.left c.write_zeros.new.patience.left old new how) taken
-        (subst (λ (n : ℕ). DoesPart (λ d. d == pp.disk) (IsZeroOf c.take_buffer-buf.new.self.descriptor.mib pp) pp.disk n c.args.patience.now.left c.write_zeros.new.patience.left old new how) number c.in-Done.ensures.part) in
+    (subst (λ (n : ℕ). DoesPart (λ d. d == pp.disk) (IsZeroOf c.take_buffer-buf.new.self.descriptor.mib pp) pp.disk n c.args.patience.now.left c.write_zeros.new.patience.left old new how) number c.in-Done.ensures.part) in
     record {
       how = how;
       part = part;
@@ -27,8 +26,8 @@ returns-in-Done-clause-does g c =
       goes = (
         refl,
         ap (λ (s : Session). core_of (record s { pool = c.give.new.self })) taken
-        ∙ ap (λ (p : List Bool). core_of (record self { pool = p }))
-          (c.give.ensures ∙ ap (λ (s : Session). slice_set s.pool c.in-Done.back.number false) taken ∙ back_again self.pool c.in-Done.back.number part.buffer c.requires.buffers),
+            ∙ ap (λ (p : List Bool). core_of (record self { pool = p }))
+            (c.give.ensures ∙ ap (λ (s : Session). slice_set s.pool c.in-Done.back.number false) taken ∙ back_again self.pool c.in-Done.back.number part.buffer c.requires.buffers),
       );
     }
 
@@ -42,7 +41,7 @@ returns-in-Failed-clause-does g c =
     let number = c.take_buffer-buf.ensures.number in
     let how = moved.Failed c.in-Failed.back in
     let part = subst (λ (s : Session). DoesPart (λ d. d == pp.disk) (IsZeroOf s.descriptor.mib pp) pp.disk 0 c.args.patience.now.left c.write_zeros.new.patience.left old new how) taken
-        (subst (λ (n : ℕ). DoesPart (λ d. d == pp.disk) (IsZeroOf c.take_buffer-buf.new.self.descriptor.mib pp) pp.disk n c.args.patience.now.left c.write_zeros.new.patience.left old new how) number c.in-Failed.ensures.part) in
+    (subst (λ (n : ℕ). DoesPart (λ d. d == pp.disk) (IsZeroOf c.take_buffer-buf.new.self.descriptor.mib pp) pp.disk n c.args.patience.now.left c.write_zeros.new.patience.left old new how) number c.in-Failed.ensures.part) in
     record {
       how = how;
       part = part;
@@ -50,7 +49,7 @@ returns-in-Failed-clause-does g c =
       goes = (
         refl,
         ap (λ (s : Session). core_of (record s { pool = c.give-in-Failed.new.self })) taken
-        ∙ ap (λ (p : List Bool). core_of (record self { pool = p }))
-          (c.give-in-Failed.ensures ∙ ap (λ (s : Session). slice_set s.pool c.in-Failed.back.number false) taken ∙ back_again self.pool c.in-Failed.back.number part.buffer c.requires.buffers),
+            ∙ ap (λ (p : List Bool). core_of (record self { pool = p }))
+            (c.give-in-Failed.ensures ∙ ap (λ (s : Session). slice_set s.pool c.in-Failed.back.number false) taken ∙ back_again self.pool c.in-Failed.back.number part.buffer c.requires.buffers),
       );
     }
