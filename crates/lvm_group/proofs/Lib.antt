@@ -18,3 +18,4 @@ pub mod Leaving
 pub mod Going
 pub mod Zeroing
 pub mod Zeros
+pub mod Clearing

@@ -50,6 +50,7 @@ pub record AreUnusedOn (core : Core) (map : List Pp) : Type 0 where
   pub there : All (λ (pp : Pp). IsTrue (is_there core pp.disk)) map
   pub free : All (IsFree core.descriptor) map
   pub places : All (IsPartitionOf core.descriptor) map
+  pub disks : All (λ (pp : Pp). pp.disk < 128) map
   pub once : AllPairs (λ a b. a ≢ b) map
 
 -- zeros stand on all of them

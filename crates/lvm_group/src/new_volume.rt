@@ -8,7 +8,7 @@ ghost use Rattle.lvm_status.specs.Update.{members_there};
 ghost use Rattle.lvm_core.specs.Settled.{IsSettled};
 ghost use Rattle.lvm_group.specs.Endings.{TakesCommands};
 ghost use Rattle.lvm_group.specs.NewVolume.{without_volume};
-ghost use Rattle.lvm_group.specs.PlannedVolume.{IsPlannedVolume, IsWithout};
+ghost use Rattle.lvm_group.specs.PlannedVolume.{IsOneGroup, IsPlannedVolume, IsWithout};
 ghost use Rattle.lvm_group.specs.Volumes.{HasRoom, HasNumber, HasPlaces, MayBeMade, RefusesAll, RefusesMklv, RefusesRmlv};
 
 use crate::fault::GroupFault;
@@ -99,6 +99,7 @@ pub fn prepare_without<S: Shelf>(
 // Whether the session takes a command.
 fn takes_commands<S: Shelf>(driver: &Driver<S>) -> Result<(), GroupFault>
     ensures takes { IfOk result (λ done. TakesCommands driver.now.1) }
+    ensures group { IfOk result (λ done. IsOneGroup driver.now.1) }
     ensures refused { IfErr result (RefusesAll driver.now.1) }
 {
     match driver.power() {
@@ -120,6 +121,7 @@ fn takes_commands<S: Shelf>(driver: &Driver<S>) -> Result<(), GroupFault>
 // What stands against a new volume before places are looked for.
 fn check<S: Shelf>(driver: &Driver<S>, v: &NewVolume) -> Result<(), GroupFault>
     ensures may { IfOk result (λ done. HasNumber v.now driver.now.1) }
+    ensures group { IfOk result (λ done. IsOneGroup driver.now.1) }
     ensures refused { IfErr result (RefusesMklv v.now driver.now.1) }
 {
     takes_commands(driver)?;
@@ -193,6 +195,7 @@ fn plan<S: Shelf>(
     map: Rows<Pp>,
 ) -> Result<VolumePlan, Memory>
     requires some { 1 ≤ v.now.lps }
+    requires group { IsOneGroup driver.now.1 }
     requires may { MayBeMade v.now driver.now.1 map }
     ensures { IfOk result (IsPlannedVolume v.now driver.now.1) }
 {

@@ -13,7 +13,7 @@ ghost use Rattle.lvm_commit.specs.Settling.{SpendsNumbers};
 ghost use Rattle.lvm_core.specs.Settled.{IsSettled, HasNumbers};
 ghost use Rattle.lvm_core.specs.Committing.{moment_of, StaysBehind};
 ghost use Rattle.lvm_group.specs.Endings.{TakesCommands, IfOn, StillHeld, IsOfCommand, KeepsStatus, StampsRise, KeepsHistory, KeepsSpans, FindsOnly};
-ghost use Rattle.lvm_group.specs.PlannedVolume.{IsWithout};
+ghost use Rattle.lvm_group.specs.PlannedVolume.{IsOneGroup, IsWithout};
 ghost use Rattle.lvm_group.specs.Stages.{Goes, IfOn as IfStays, AreUnusedOn, IsLowestMissing, ZerosEnd, ClearEnds, MakeEnds, MayMake, RemoveEnds};
 ghost use Rattle.lvm_group.specs.NewVolume.{without_volume};
 ghost use Rattle.lvm_group.specs.Volumes.{IsWith, IsChosen, MklvGives, RmlvGives};
@@ -173,6 +173,7 @@ fn clear<S: Shelf>(
 ) -> Result<(), CommitFault>
     requires settled { IsSettled driver.old.1 }
     requires numbers { HasNumbers driver.old.1 }
+    requires group { IsOneGroup driver.old.1 }
     requires unused { AreUnusedOn driver.old.1 map.now }
     ensures ends { ClearEnds map.now patience.old.left (state (S.device driver.old.0) driver.old.1) (state (S.device driver.new.0) driver.new.1) result }
     ensures goes { Goes (λ next. ⊥) (Contains map.now) patience.old.left patience.new.left (state (S.device driver.old.0) driver.old.1) (state (S.device driver.new.0) driver.new.1) }
