@@ -19,3 +19,6 @@ pub mod Going
 pub mod Zeroing
 pub mod Zeros
 pub mod Clearing
+pub mod Serving
+pub mod Entering
+pub mod Removing

@@ -31,7 +31,7 @@ pub dark_history : (a b : State) → IsSettled a.core → HasGoneDark a b → b.
 dark_history a b settled dark = ap (λ (c : Core). c.history) dark.is ∙ dark_is_cut a.core.history a.core.requests settled.quiet.requests
 
 -- where the status is the same
-same_status : (Z : Pp → Type 0) (a b : State) → b.core.status ≡ a.core.status → KeepsStatus Z a b
+pub same_status : (Z : Pp → Type 0) (a b : State) → b.core.status ≡ a.core.status → KeepsStatus Z a b
 same_status Z a b same = record {
   group = ap (λ (s : Stored). s.group) same;
   rows = record { id = ap (λ (s : Stored). s.wanted.id) same; big = ap (λ (s : Stored). s.wanted.big) same; disks = ap (λ (s : Stored). Rattle.std.specs.Prelude.map (λ (r : _). r.disk) s.wanted.rows) same };
