@@ -22,3 +22,4 @@ pub mod Clearing
 pub mod Serving
 pub mod Entering
 pub mod Removing
+pub mod Naming
