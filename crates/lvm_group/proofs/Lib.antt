@@ -23,3 +23,4 @@ pub mod Serving
 pub mod Entering
 pub mod Removing
 pub mod Naming
+pub mod Answering
