@@ -102,7 +102,7 @@ leaves_committed s ready held only = record {
 -- ---- the commit
 
 module _ (N : Descriptor → Type 0) (Z : Pp → Type 0) (next : Descriptor) (its : N next) (p q : ℕ) (a b : State) (answer : Result (Unit {0}) CommitFault) (settled : IsSettled a.core) (group : a.core.status.group ≡ record a.core.descriptor { lvs = [] }) (ends : CommitEnds next p a b answer)
-    (finds : IsHeld a.device a.core → FindsNoMoreOn next a.device b.device) (marks : OnlyLoses a.core.status b.core.status a.device b.device) (numbers : SpendsNumbers 2 a.core.status b.core.status)
+    (finds : IsHeld a.device a.core → FindsNoMoreOn next a.device b.device) (marks : OnlyLoses a.core.status b.core.status a.device b.device) (numbers : SpendsNumbers 1 a.core.status b.core.status)
     (writes : KeepsShelf (is_there a.core) (IsOfCommit (descriptor_bytes next) a.core.status b.core.status) a.device b.device) where
   commit_history : KeepsHistory a.core.history b.core.history
   commit_history = by_answer answer ends

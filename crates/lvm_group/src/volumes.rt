@@ -1,6 +1,5 @@
 //! The making and the removal of volumes.
 ghost use Rattle.std.specs.Prelude.{◌≡◌, ◌<◌, ◌-◌, ◌≤◌, false, IfSome, IfNone, IsTrue, All, Contains};
-ghost use Rattle.lvm_num.specs.declared.descriptor.Mode.TheVariants as mode;
 ghost use Rattle.lvm_num.specs.declared.place.Pp.{Pp};
 ghost use Rattle.lvm_num.specs.Status.{calls_missing};
 ghost use Rattle.lvm_disk.specs.Counts.{RoseBy};
@@ -56,7 +55,7 @@ pub fn mklv<S: Shelf>(
 ) -> Result<u16, GroupFault>
     // where nothing is open, nothing is under way
     requires settled { TakesCommands driver.old.1 → IsSettled driver.old.1 }
-    requires off { mode ≡ mode.Off }
+    requires off { mode ≡ Mode.Off }
     requires some { 1 ≤ lps }
     ensures gives { MklvGives (record { name = name; copies = copies; mode = mode; policy = policy; lps = lps }) patience.old.left (state (S.device driver.old.0) driver.old.1) (state (S.device driver.new.0) driver.new.1) result }
     ensures settled { TakesCommands driver.old.1 → IfOn result (IsSettled driver.new.1) }
