@@ -19,11 +19,12 @@ use Rattle.lvm_varyon.specs.Varied.{Refuses as VaryonRefuses, IsRestated}
 use Rattle.lvm_line.specs.Causes.{HasCause, RoseOn, disk_of, VaryonLaw}
 use Rattle.lvm_line.specs.Disks.{patience_of_line, refusal_by, HasFaulted, NoWriteWhileOn, WriteFaults, WriteIsDone, NoReadWhileOn, ReadFaults, ReadGets}
 use Rattle.lvm_line.specs.Groups.{IsLit, IsLeftOff, refusal_of, asked_for, NoVaryonWhileOn, VariesOn, VaryonFails, NoMemoryForLine, NoMkvgWhileOn, MakesGroup, MkvgFails, NoVaryoff, VariesOff}
-use Rattle.lvm_line.specs.Lines.{LineDoes, CommandDoes, IsLine, NoGroupForMklv, MklvIsNotDone, NoGroupForRmlv, RmlvIsNotDone}
+use Rattle.lvm_line.specs.Lines.{LineDoes, CommandDoes, IsLine}
 use Rattle.lvm_line.specs.Listings.{NoSuchGroup, ListsGroup, NoGroupForVolume, NoSuchVolume, ListsVolume, NoGroupForDisk, NoSuchMember, ListsMember}
 use Rattle.lvm_line.specs.Replies.{Shows, InFull, WithoutMemory}
 use Rattle.lvm_line.specs.Shelves.{NotThere, NotPlanned, IsArranged, CutNotPlanned, PowerIsCut}
 use Rattle.lvm_line.specs.State.{State, log_with}
+use Rattle.lvm_line.specs.Volumes.{NoGroupForMklv, MklvIsNotDone, NoGroupForRmlv, RmlvIsNotDone}
 use Rattle.lvm_line.specs.declared.reply.Refusal.{Refusal}
 use Rattle.lvm_line.specs.declared.reply.Refusal.TheVariants as refusal
 use Rattle.lvm_line.specs.declared.reply.Reply.TheVariants as reply
@@ -214,5 +215,5 @@ varyon_restates log room line name old new is it timely = of_varyon (subst (λ (
   where
     of_varyon : LineDoes log room (Ok (Some (command.Varyon name))) old new reply.Ok → (core : Core) × (new.session ≡ Some core) × IsRestated old.moment.device new.moment.device core.descriptor
     of_varyon (NoVaryonWhileOn some says asked) = absurd (cc (says))
-    of_varyon (VariesOn core asks before comes restated left) = (core, left.after, restated (clock_is_ahead log.run old.last new.last old.moment.device old.moment.facts asks timely))
+    of_varyon (VariesOn core asks before comes restated left) = (core, left.after, restated (clock_is_ahead log.run old.last new.last old.moment.device old.moment.facts asks timely.ahead))
     of_varyon (VaryonFails reason gone asks before refuses left) = absurd (let e = left.answered in cc (e))

@@ -32,7 +32,7 @@ use Rattle.lvm_core.specs.Sound.{IsQuiet, HaveAllLanded}
 use Rattle.lvm_core.specs.Starting.{Reserved, IsReservedFor, first_core}
 use Rattle.lvm_core.specs.State.{Core}
 use Rattle.lvm_line.specs.Groups.{IsLit, IsLeftOn, IsLeftOff, refusal_of}
-use Rattle.lvm_line.specs.Moments.{GoesOn}
+use Rattle.lvm_line.specs.Moments.{GoesOn, Any}
 use Rattle.lvm_line.specs.Replies.{IsStuck}
 use Rattle.lvm_line.specs.Stages.{shelf_in, history_in, session_in, state_in}
 use Rattle.lvm_line.specs.State.{State, IsIdle, IsSettled, log_with}
@@ -140,13 +140,16 @@ module _ (run : ℕ) (old : State) (settled : IsSettled old.moment old.session) 
 
   -- it was refused
   pub left_off : (why : Cause) (left : Moment) (new : Device) → Promises run moment old.moment left → Leaves why old.moment.device left.device → IsLit why left.device new
-      → HaveAllLanded left.facts → GoesOn run (reply.Refused (refusal_of why)) old (record { moment = at new left.facts; session = None; last = moment })
+      → HaveAllLanded left.facts → GoesOn run Any (reply.Refused (refusal_of why)) old (record { moment = at new left.facts; session = None; last = moment })
   left_off why left new promises leaves lit landed =
       let up = lit_up why left.device new leaves.rests lit in
       record {
-        keeps = λ timely. up.keeps run old.moment left.facts (promises.keeps (clock_is_ahead run old.last moment old.moment.device old.moment.facts rose timely));
-        timely = λ timely. ahead left.facts new timely (promises.later (moment + 1) (omega arith) (earlier (moment + 1) timely (let e = rose.later in omega (arith, e))))
-            (up.behind (moment + 1) (promises.behind (clock_is_ahead run old.last moment old.moment.device old.moment.facts rose timely)));
+        keeps = λ timely held any. up.keeps run old.moment left.facts (promises.keeps (clock_is_ahead run old.last moment old.moment.device old.moment.facts rose timely.ahead));
+        timely = λ timely. record {
+          ahead = ahead left.facts new timely.ahead (promises.later (moment + 1) (omega arith) (earlier (moment + 1) timely.ahead (let e = rose.later in omega (arith, e))))
+              (up.behind (moment + 1) (promises.behind (clock_is_ahead run old.last moment old.moment.device old.moment.facts rose timely.ahead)));
+          session = tt;
+        };
         held = λ timely held. tt;
         calm = λ goes. promises.calm;
         settled = λ goes. record { ready = up.ready goes; landed = landed; session = tt };
@@ -156,13 +159,16 @@ module _ (run : ℕ) (old : State) (settled : IsSettled old.moment old.session) 
       }
 
   -- the group is on
-  pub left_on : (core : Core) (new : Device) → Promises run moment old.moment (at new core.history.facts) → IsReady new → IsIdle core → HaveAllLanded core.history.facts
-      → (ClockIsAhead run moment old.moment.device old.moment.facts → IsHeld new core) → GoesOn run reply.Ok old (record { moment = at new core.history.facts; session = Some core; last = moment })
-  left_on core new promises ready idle landed held = record {
-    keeps = λ timely. promises.keeps (clock_is_ahead run old.last moment old.moment.device old.moment.facts rose timely);
-    timely = λ timely. ahead core.history.facts new timely (promises.later (moment + 1) (omega arith) (earlier (moment + 1) timely (let e = rose.later in omega (arith, e))))
-        (promises.behind (clock_is_ahead run old.last moment old.moment.device old.moment.facts rose timely));
-    held = λ timely before. held (clock_is_ahead run old.last moment old.moment.device old.moment.facts rose timely);
+  pub left_on : (core : Core) (new : Device) → Promises run moment old.moment (at new core.history.facts) → IsReady new → IsIdle core → core.status.stamp.epoch ≡ moment → HaveAllLanded core.history.facts
+      → (ClockIsAhead run moment old.moment.device old.moment.facts → IsHeld new core) → GoesOn run Any reply.Ok old (record { moment = at new core.history.facts; session = Some core; last = moment })
+  left_on core new promises ready idle epoch landed held = record {
+    keeps = λ timely held any. promises.keeps (clock_is_ahead run old.last moment old.moment.device old.moment.facts rose timely.ahead);
+    timely = λ timely. record {
+      ahead = ahead core.history.facts new timely.ahead (promises.later (moment + 1) (omega arith) (earlier (moment + 1) timely.ahead (let e = rose.later in omega (arith, e))))
+          (promises.behind (clock_is_ahead run old.last moment old.moment.device old.moment.facts rose timely.ahead));
+      session = omega (arith, epoch);
+    };
+    held = λ timely before. held (clock_is_ahead run old.last moment old.moment.device old.moment.facts rose timely.ahead);
     calm = λ goes. promises.calm;
     settled = λ goes. record { ready = ready; landed = landed; session = idle };
     power = ready.power;

@@ -26,7 +26,7 @@ use Rattle.lvm_core.specs.State.{Core}
 use Rattle.lvm_core.specs.Held.{IsHeld}
 use Rattle.lvm_core.specs.Sound.{HaveAllLanded}
 use Rattle.lvm_core.proofs.Telling.{open_cut}
-use Rattle.lvm_line.specs.Moments.{GoesOn}
+use Rattle.lvm_line.specs.Moments.{GoesOn, Any}
 use Rattle.lvm_line.specs.Shelves.{IsCut, CutDoes, PowerIsCut}
 use Rattle.lvm_line.specs.Stages.{shelf_in, history_in, session_in, state_in, IsSettledStage, Between, history_after, GivesBack}
 use Rattle.lvm_line.specs.State.{State, IsIdle, IsSettled, log_with, without_facts}
@@ -76,14 +76,17 @@ module _ (log : Log) (word : ℕ) (old new : State) (settled : IsSettled old.mom
   path : Path DeviceStep (LeavesNoMore first) first new.moment.device
   path = leaves_on (Then (Here (λ image may. may)) (Arranged (arrange.Cut word) cut.cut) (arrange_leaves first cut.dark (arrange.Cut word) cut.cut)) (relit_path cut.dark new.moment.device still cut.lit)
 
-  pub cut_goes : (answer : Reply) → GoesOn log.run answer old new
+  pub cut_goes : (answer : Reply) → GoesOn log.run Any answer old new
   cut_goes answer = record {
-    keeps = λ timely. subst (λ (facts : List Fact). Keeps log.run old.moment (at new.moment.device facts)) (sym cut.facts)
+    keeps = λ timely held any. subst (λ (facts : List Fact). Keeps log.run old.moment (at new.moment.device facts)) (sym cut.facts)
         (cut_keeps log.run old.moment new.moment.device (log_with log old.moment.facts) (keeps_steps log.run old.moment first new.moment.device old.moment.facts (keeps_still log.run old.moment) path));
     timely = λ timely. record {
-      run_is = let e = timely.run_is in let same = cut.clock in omega (arith, e, same);
-      later = subst (λ (facts : List Fact). IsLater facts (new.last + 1)) (sym cut.facts) (cut_later (new.last + 1) (log_with log old.moment.facts) (subst (λ (n : ℕ). IsLater old.moment.facts (n + 1)) (sym cut.clock) timely.later));
-      behind = no_more_stays_behind (new.last + 1) first new.moment.device settled.ready.flights (last-path path) (subst (λ (n : ℕ). IsBehind (n + 1) first) (sym cut.clock) timely.behind);
+      ahead = record {
+        run_is = let e = timely.ahead.run_is in let same = cut.clock in omega (arith, e, same);
+        later = subst (λ (facts : List Fact). IsLater facts (new.last + 1)) (sym cut.facts) (cut_later (new.last + 1) (log_with log old.moment.facts) (subst (λ (n : ℕ). IsLater old.moment.facts (n + 1)) (sym cut.clock) timely.ahead.later));
+        behind = no_more_stays_behind (new.last + 1) first new.moment.device settled.ready.flights (last-path path) (subst (λ (n : ℕ). IsBehind (n + 1) first) (sym cut.clock) timely.ahead.behind);
+      };
+      session = subst (λ (s : Option Core). IfSome s (λ core. core.status.stamp.epoch ≤ new.last)) (sym cut.session) tt;
     };
     held = λ timely held. subst (λ (s : Option Core). IfSome s (λ core. IsHeld new.moment.device core)) (sym cut.session) tt;
     calm = λ goes. subst (λ (facts : List Fact). StaysCalm old.moment (at new.moment.device facts)) (sym cut.facts) (cut_calm old.moment new.moment.device (log_with log old.moment.facts) (λ past calm. calm));
@@ -168,8 +171,8 @@ module _ {S : Type 0} (device : S → Device) (old ordered : Stage S) (word : �
     pub cut_does : (answer : Reply) → answer ≡ reply.Ok → Between device old it (λ was now. CutDoes (without_facts (history_in old)) word was now answer)
     cut_does answer says = λ last. PowerIsCut shelf.0 says (subst (λ (s : Stage S). IsCut (without_facts (history_in old)) word (state_in device old last) (state_in device s last)) (sym is) (stage_cut last))
 
-    pub stage_cut_goes : (answer : Reply) → Between device old it (GoesOn (history_in old).run answer)
-    stage_cut_goes answer = λ last. subst (λ (s : Stage S). GoesOn (history_in old).run answer (state_in device old last) (state_in device s last)) (sym is)
+    pub stage_cut_goes : (answer : Reply) → Between device old it (GoesOn (history_in old).run Any answer)
+    stage_cut_goes answer = λ last. subst (λ (s : Stage S). GoesOn (history_in old).run Any answer (state_in device old last) (state_in device s last)) (sym is)
         (cut_goes (without_facts (history_in old)) word (state_in device old last) (state_in device (stage.Off last_shelf log) last) settled (stage_cut last) answer)
 
     pub cut_stage_rooms : without_facts (history_in it) ≡ without_facts (history_in old)

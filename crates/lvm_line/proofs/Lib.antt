@@ -8,6 +8,7 @@ pub mod Varying
 pub mod Making
 pub mod Staging
 pub mod Closing
+pub mod Options
 pub mod Asking
 pub mod Lining
 pub mod Causing

@@ -6,11 +6,15 @@ use Rattle.lvm_line.specs.State.{State, IsSettled, IsTimely, AreHeld}
 use Rattle.lvm_line.specs.Replies.{IsStuck}
 use Rattle.lvm_line.specs.declared.reply.Reply.{Reply}
 
--- From one state to the next, where this is answered. While the clock is ahead of the disks, the history is legal at each moment between and each
--- crash image is kept with it, the clock stays ahead, and the disks of a session hold what it says. Unless nothing was heard of a transfer, nothing is
--- under way and no write of a disk is open.
-pub record GoesOn (run : ℕ) (answer : Reply) (old new : State) : Type 0 where
-  pub keeps : IsTimely run old → Keeps run old.moment new.moment
+-- nothing is asked of the groups on the disks
+abbrev pub Any : State → Type 0
+Any s = Unit {0}
+
+-- From one state to the next, where this is answered. While the clock is ahead of the disks, and these hold what the session says and meet what is
+-- asked of them, the history is legal at each moment between and each crash image is kept with it. While the clock is ahead it stays so, and the disks go
+-- on holding what a session says. Unless nothing was heard of a transfer, nothing is under way and no write of a disk is open.
+pub record GoesOn (run : ℕ) (Asked : State → Type 0) (answer : Reply) (old new : State) : Type 0 where
+  pub keeps : IsTimely run old → AreHeld old → Asked old → Keeps run old.moment new.moment
   pub timely : IsTimely run old → IsTimely run new
   pub held : IsTimely run old → AreHeld old → AreHeld new
   pub calm : (IsStuck answer → ⊥) → StaysCalm old.moment new.moment

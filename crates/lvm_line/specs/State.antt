@@ -1,8 +1,11 @@
 -- What stands between two lines of a script.
-use Rattle.std.specs.Prelude.{◌≡◌, ◌+◌, ℕ, [], List, Option, IfSome}
-use Rattle.lvm_disk.specs.Device.{Device, IsReady}
+use Rattle.std.specs.Prelude.{◌≡◌, ◌+◌, ◌≤◌, ℕ, [], List, Option, IfSome}
+use Rattle.lvm_num.specs.declared.descriptor.Descriptor.{Descriptor}
+use Rattle.lvm_disk.specs.Device.{Image, Device, MayLeave, IsReady}
 use Rattle.lvm_vol.specs.Facts.{Fact}
 use Rattle.lvm_vol.specs.Log.{Log}
+use Rattle.lvm_kept.specs.Contents.{contents_of}
+use Rattle.lvm_kept.specs.Group.{IsFound}
 use Rattle.lvm_kept.specs.Moments.{Moment}
 use Rattle.lvm_stamps.specs.Behind.{IsAhead}
 use Rattle.lvm_core.specs.declared.request.Power.TheVariants as power
@@ -35,10 +38,20 @@ pub record IsSettled (moment : Moment) (on : Option Core) : Type 0 where
   pub landed : HaveAllLanded moment.facts
   pub session : IfSome on IsIdle
 
--- What stands on the disks is of sessions up to the clock's last moment, and so is the run and each group that was varied on in it.
-abbrev pub IsTimely : ℕ → State → Type 0
-IsTimely run s = IsAhead run (s.last + 1) s.moment.device s.moment.facts
+-- What stands on the disks is of sessions up to the clock's last moment, and so is the run and each group that was varied on in it, that of the session
+-- among them.
+pub record IsTimely (run : ℕ) (s : State) : Type 0 where
+  pub ahead : IsAhead run (s.last + 1) s.moment.device s.moment.facts
+  pub session : IfSome s.session (λ core. core.status.stamp.epoch ≤ s.last)
 
 -- the disks of a session hold what it says is committed
 abbrev pub AreHeld : State → Type 0
 AreHeld s = IfSome s.session (λ core. IsHeld s.moment.device core)
+
+-- no disks find a group but this one, whatever a power cut leaves
+abbrev pub IsOnlyGroupOn : Device → ℕ → Type 0
+IsOnlyGroupOn device id = (image : Image) → MayLeave device image → (other : ℕ) (group : Descriptor) → IsFound (contents_of image) other group → other ≡ id
+
+-- no disks find a group but that of the session
+abbrev pub IsAlone : State → Type 0
+IsAlone s = IfSome s.session (λ core. IsOnlyGroupOn s.moment.device core.descriptor.id)

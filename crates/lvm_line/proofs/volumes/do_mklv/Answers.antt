@@ -1,9 +1,10 @@
 use Rattle.std.proofs.Common.{◌∙◌, sym, ap, Some, Option, IsSome}
 use Rattle.lvm_core.specs.State.{Core}
-use Rattle.lvm_line.specs.Lines.{MklvIsNotDone}
+use Rattle.lvm_line.specs.Volumes.{MklvIsNotDone}
 use Rattle.lvm_line.specs.Listings.{IsOn}
 use Rattle.lvm_line.specs.Stages.{history_in, session_in, state_in}
 use Rattle.lvm_line.specs.declared.stage.Stage.{Stage}
+use Rattle.lvm_line.specs.State.{IsAlone}
 use Rattle.lvm_line.proofs.Ordering.{stays}
 use Rattle.lvm_line.proofs.Staging.{on_with}
 use Rattle.lvm_line.proofs.volumes.do_mklv.Goals as goal
@@ -14,7 +15,7 @@ returns-then-is_on-clause-does g c = λ last.
     MklvIsNotDone on.0 on.1 on.2 (c.refused.ensures.reply, ap (λ (s : Stage g.row.S.Denot). state_in g.S.Shelf.device s last) c.refused.ensures.stage)
 
 pub returns-then-is_on-clause-goes : goal.returns-then-is_on-clause-goes
-returns-then-is_on-clause-goes g c = stays g.S.Shelf.device c.args.stage c.refused.result.stage (history_in c.args.stage).run c.refused.result.reply c.requires.settled (c.refused.ensures.stage)
+returns-then-is_on-clause-goes g c = stays g.S.Shelf.device c.args.stage c.refused.result.stage (history_in c.args.stage).run IsAlone c.refused.result.reply c.requires.settled (c.refused.ensures.stage)
 
 pub returns-else-is_on-clause-goes : goal.returns-else-is_on-clause-goes
-returns-else-is_on-clause-goes g c = stays g.S.Shelf.device c.args.stage c.refused-else-is_on.result.stage (history_in c.args.stage).run c.refused-else-is_on.result.reply c.requires.settled (c.refused-else-is_on.ensures.stage)
+returns-else-is_on-clause-goes g c = stays g.S.Shelf.device c.args.stage c.refused-else-is_on.result.stage (history_in c.args.stage).run IsAlone c.refused-else-is_on.result.reply c.requires.settled (c.refused-else-is_on.ensures.stage)
