@@ -1,17 +1,16 @@
 -- A session stays sound when its shelf is told to fail, to heal or to cut the power.
-use Rattle.std.proofs.Common.{◌≡◌, ◌⊎◌, inl, inr, ℕ, ◌≤◌, ◌+◌, Bool, true, false, List, [], ◌∷◌, ◌++◌, length, map, refl, sym, ◌∙◌, ap, subst, arith}
+use Rattle.std.proofs.Common.{◌≡◌, inl, inr, ℕ, ◌≤◌, ◌+◌, Bool, true, false, List, [], ◌∷◌, map, refl, sym, ◌∙◌, ap, subst, arith}
 use Rattle.std.specs.Prelude.{cond, count_by, slice_index_or}
 use Rattle.std.proofs.lemmas.List.{length-map}
 use Rattle.std.proofs.lemmas.List.Sums.{sum_by-append}
-use Rattle.lvm_num.specs.Buffer.{Buffer}
 use Rattle.lvm_disk.specs.Device.{Device, Flight}
 use Rattle.lvm_disk.specs.Steps.{Cuts, GoesDark, with_order, ArrangeGives}
 use Rattle.lvm_disk.specs.declared.shelf.Arrange.{Arrange}
 use Rattle.lvm_disk.specs.declared.shelf.Arrange.TheVariants as arrange
-use Rattle.lvm_core.specs.State.{Core, State, state}
+use Rattle.lvm_core.specs.State.{Core, state}
 use Rattle.lvm_core.specs.Dark.{darkened, all_dark, after_arrange, dark_log}
 use Rattle.lvm_core.specs.Starting.{ArePlaced}
-use Rattle.lvm_core.specs.Sound.{has_number, out_with, is_dark, IsFitting, IsTold, IsLit, IsDark, IsSound}
+use Rattle.lvm_core.specs.Sound.{has_number, out_with, is_dark, IsFitting, IsTold, IsDark, IsSound}
 use Rattle.lvm_core.proofs.Landing.{dark_told, dark_each}
 
 -- a shelf that has as large disks and as many buffers out, and whose power and flights allow it
@@ -26,6 +25,7 @@ ordered_sound device core what sound = record {
   told = sound.told;
   placed = sound.placed;
   buffers = sound.buffers;
+  none_lost = sound.none_lost;
   quiet = sound.quiet;
   lit = λ is. let lit = sound.lit is in record { power = lit.power; freed = lit.freed };
   dark = λ is. let dark = sound.dark is in record { power = dark.power; flights = dark.flights };
@@ -42,6 +42,7 @@ module _ (core : Core) where
     table = subst (λ n. n ≤ core.most) (sym (length-map core.requests darkened)) fits.table;
     most = fits.most;
     queue = fits.queue;
+    a_buffer = fits.a_buffer;
     buffers = fits.buffers;
   }
 
@@ -57,7 +58,8 @@ dark_sound old new core sound like dark = record {
   fitting = dark_fits core sound.fitting;
   told = dark_is_told core sound.told;
   placed = subst (λ sizes. ArePlaced sizes core.descriptor core.status.wanted) (sym like.sizes) sound.placed;
-  buffers = λ n. like.out n ∙ sound.buffers n;
+  buffers = λ n. subst (λ k. k ≤ cond (slice_index_or core.pool n false) 1 0) (sym (like.out n)) (sound.buffers n);
+  none_lost = λ is. absurd (let e : ◌≡◌ {A = Bool} true false = is in cc);
   quiet = λ quiet. dark.flights;
   lit = λ is. absurd (let e : ◌≡◌ {A = Bool} true false = is in cc);
   dark = λ is. dark;

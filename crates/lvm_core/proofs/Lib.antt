@@ -3,3 +3,4 @@ pub mod Landing
 pub mod Beginning
 pub mod Arranging
 pub mod Closing
+pub mod Entering

@@ -1,25 +1,42 @@
 //! A session over its shelf.
-ghost use Rattle.std.specs.Prelude.{◌≡◌, ◌≤◌, ◌<◌, ◌+◌, ◌^◌, [], length, slice_get, false, Some, IfSome, IfNone, All};
-ghost use Rattle.lvm_num.specs.Descriptor.{IsValid};
+ghost use Rattle.std.specs.Prelude.{◌≡◌, ◌≢◌, ◌==◌, ◌≤◌, ◌<◌, ◌+◌, ◌-◌, ◌++◌, ◌^◌, ℕ, [], length, slice_get, false, Some, IfSome, IfNone, IfOk, IsOk, IsTrue, All, AllPairs};
+ghost use Rattle.lvm_num.specs.Descriptor.{IsValid, IsPartitionOf};
+ghost use Rattle.lvm_num.specs.DescriptorBytes.{descriptor_bytes};
 ghost use Rattle.lvm_num.specs.Votes.{total_votes};
-ghost use Rattle.lvm_vol.specs.Log.{spare_entries};
+ghost use Rattle.lvm_vol.specs.Log.{spare_entries, with_fact, plain_fact};
+ghost use Rattle.lvm_disk.specs.Counts.{RoseBy};
 ghost use Rattle.lvm_disk.specs.Device.{IsReady};
 ghost use Rattle.lvm_disk.specs.Steps.{MayArrange, ArrangeGives};
+ghost use Rattle.lvm_kept.specs.Moments.{Moment, StaysCalm};
+ghost use Rattle.lvm_quorum.specs.Written.{KeepsShelf};
+ghost use Rattle.lvm_commit.specs.Committed.{IsAlike};
+ghost use Rattle.lvm_commit.specs.LawsOfData.{IsFree};
+ghost use Rattle.lvm_commit.specs.Settling.{OnlyLoses, SpendsNumbers, IsOfStatus, IsOfCommit};
 ghost use Rattle.lvm_core.specs.declared.request.Open.{Open};
-ghost use Rattle.lvm_core.specs.State.{state, votes_there};
+ghost use Rattle.lvm_core.specs.State.{state, is_there, votes_there};
 ghost use Rattle.lvm_core.specs.Dark.{is_waiting, after_arrange};
 ghost use Rattle.lvm_core.specs.Looking.{IsNumberOf, HasNoVolume};
 ghost use Rattle.lvm_core.specs.Sound.{IsSound, HaveAllLanded};
 ghost use Rattle.lvm_core.specs.Starting.{ArePlaced, first_core};
+ghost use Rattle.lvm_core.specs.Held.{IsHeld, IsOnlyGroupOn};
+ghost use Rattle.lvm_core.specs.Settled.{IsSettled, HasNumbers};
+ghost use Rattle.lvm_core.specs.Committing.{CommitEnds, AreUnused, Marks, Restates, moment_of, SpanGoesOn, LetsCommit, StaysBehind};
+ghost use Rattle.lvm_core.specs.Zeros.{ZeroEnds, IsZeroOf};
+ghost use Rattle.lvm_core.specs.Entering.{IsOfVolume};
 
+use crate::fault::CommitFault;
 use crate::look::number_of;
 use crate::parts::Parts;
+use crate::prepared::Prepared;
+use crate::request::Power;
 use crate::session::Session;
 use lvm_disk::{Arrange, Shelf};
-use lvm_num::{Descriptor, Name, Stamp};
+use lvm_move::Patience;
+use lvm_num::{Descriptor, Memory, Name, Pp, Stamp};
 use lvm_quorum::Homes;
 use lvm_stale::StaleTable;
-use lvm_vol::History;
+use lvm_vol::{Entry, History};
+use std::alloc::Global;
 use std::marker::Model;
 
 /// A group that is varied on, over its shelf. Contracts see the shelf and what the session is about.
@@ -31,16 +48,16 @@ pub struct Driver<S: Shelf> {
 }
 
 impl<S: Shelf> Model for Driver<S> {
-    ghost use Rattle.std.specs.Prelude.{◌≤◌, vec_capacity};
+    ghost use Rattle.std.specs.Prelude.{◌≡◌, ◌≤◌, length, vec_capacity};
     ghost use Rattle.lvm_core.specs.State.{Core, state};
-    ghost use Rattle.lvm_core.specs.Fields.{core_of};
+    ghost use Rattle.lvm_core.specs.Fields.{core_of, status_room};
     ghost use Rattle.lvm_core.specs.Sound.{IsSound};
 
     ghost Value = { S × Core };
 
     ghost view = { λ d. (d.shelf, core_of d.session) };
 
-    ghost invariant = { λ d. (d.session.most ≤ vec_capacity d.session.requests) × IsSound (state (S.device d.shelf) (core_of d.session)) };
+    ghost invariant = { λ d. (d.session.most ≤ vec_capacity d.session.requests) × (length d.session.bytes.items ≡ status_room) × IsSound (state (S.device d.shelf) (core_of d.session)) };
 }
 
 impl<S: Shelf> Driver<S> {
@@ -87,6 +104,32 @@ impl<S: Shelf> Driver<S> {
         let done = self.shelf.arrange(what);
         self.session.arranged(what, done);
         done
+    }
+
+    /// Whether the session goes on.
+    pub fn power(&self) -> Power
+        ensures { result ≡ self.now.1.power }
+    {
+        self.session.power
+    }
+
+    /// Takes the memory by which the next descriptor is committed, and changes nothing.
+    pub fn prepare(&self, alloc: Global, next: Descriptor) -> Result<Prepared, Memory>
+        requires valid { IsValid next }
+        requires id { next.id ≡ self.now.1.descriptor.id }
+        ensures { IfOk result (λ prepared. prepared ≡ next) }
+    {
+        Prepared::new(alloc, next)
+    }
+
+    /// Enters that a volume is being made or removed, or that it is.
+    pub fn enter(&mut self, entry: Entry)
+        requires spare { 1 ≤ spare_entries self.old.1.history }
+        requires volume { IsOfVolume entry }
+        ensures shelf { self.new.0 ≡ self.old.0 }
+        ensures core { self.new.1 ≡ record self.old.1 { history = with_fact self.old.1.history (plain_fact entry) } }
+    {
+        self.session.history.push(entry);
     }
 
     /// How many sequence numbers are left for the stamps of this session's records.

@@ -2,13 +2,17 @@
 #![tactic(auto)]
 
 mod driver;
+mod fault;
 mod look;
 mod parts;
+mod prepared;
 mod refused;
 mod request;
 mod session;
 
 pub use driver::{Closed, Driver};
+pub use fault::CommitFault;
 pub use parts::{Parts, Room};
+pub use prepared::Prepared;
 pub use refused::{Cause, Refused};
 pub use request::{CopyState, Open, OpenCopy, Power};

@@ -8,3 +8,8 @@ pub mod Composing
 pub mod Keeping
 pub mod Midst
 pub mod Starting
+pub mod Numbers
+pub mod Sublists
+pub mod NewDescriptor
+pub mod OldDescriptor
+pub mod Places

@@ -1,0 +1,9 @@
+pub mod Members
+pub mod Found
+pub mod Statuses
+pub mod Committed
+pub mod Free
+pub mod Data
+pub mod Still
+pub mod Volumes
+pub mod Others

@@ -1,0 +1,5 @@
+pub mod Committed
+pub mod Laws
+pub mod LawsOfData
+pub mod LawsOfVolumes
+pub mod Settling
