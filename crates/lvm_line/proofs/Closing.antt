@@ -6,7 +6,7 @@ use Rattle.lvm_vol.specs.Log.{Log}
 use Rattle.lvm_core.specs.State.{Core}
 use Rattle.lvm_line.specs.Groups.{VaryoffDoes, VariesOff, EndsSession}
 use Rattle.lvm_line.specs.Listings.{IsOn}
-use Rattle.lvm_line.specs.Moments.{GoesOn, Any}
+use Rattle.lvm_line.specs.Moments.{GoesOn}
 use Rattle.lvm_line.specs.Stages.{shelf_in, history_in, state_in, IsSettledStage, Between}
 use Rattle.lvm_line.specs.State.{without_facts}
 use Rattle.lvm_line.specs.declared.reply.Reply.{Reply}
@@ -31,8 +31,8 @@ module _ {S : Type 0} (device : S → Device) (old new : Stage S) (driver : S ×
   pub closed_does : (name : List ℕ) (answer : Reply) → IsOn name driver.1 → answer ≡ reply.Ok → Between device old new (λ a b. VaryoffDoes name a b answer)
   closed_does name answer on says = between device old (stage.On driver) new (stage.Off shelf history) (λ log a b. VaryoffDoes name a b answer) was is (λ last. VariesOff driver.1 refl on (ends last) says)
 
-  pub closed_goes : (answer : Reply) → Between device old new (GoesOn (history_in old).run Any answer)
-  closed_goes answer = between device old (stage.On driver) new (stage.Off shelf history) (λ log. GoesOn log.run Any answer) was is
+  pub closed_goes : (answer : Reply) → Between device old new (GoesOn (history_in old).run answer)
+  closed_goes answer = between device old (stage.On driver) new (stage.Off shelf history) (λ log. GoesOn log.run answer) was is
       (λ last. ended_goes driver.1.history.run answer (state_in device (stage.On driver) last) (state_in device (stage.Off shelf history) last) (settled_as device old (stage.On driver) was settled) (ends last))
 
   pub closed_rooms : without_facts (history_in new) ≡ without_facts (history_in old)

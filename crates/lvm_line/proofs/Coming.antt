@@ -1,6 +1,5 @@
 -- How a group comes on, or doesn't.
 use Rattle.std.proofs.Common.{◌≡◌, ◌⊎◌, inl, inr, ⊎_elim, ◌+◌, ◌-◌, ◌^◌, ◌<◌, ◌≤◌, ◌∷◌, ◌++◌, [], ℕ, List, Bool, Option, Some, None, IfSome, if◌then◌else◌, true, false, min, refl, sym, ◌∙◌, ap, subst, arith}
-use Rattle.std.specs.Option.{option_and_then}
 use Rattle.lvm_disk.specs.Counts.{RoseBy}
 use Rattle.lvm_disk.specs.Device.{Device, IsReady}
 use Rattle.lvm_disk.specs.Images.{LeavesNoMore}
@@ -16,26 +15,17 @@ use Rattle.lvm_change.proofs.Spans.{keeps_steps}
 use Rattle.lvm_move.specs.Transfer.{Relights}
 use Rattle.lvm_stamps.specs.Behind.{IsBehind, IsAhead, ClockIsAhead}
 use Rattle.lvm_stamps.proofs.Shelves.{no_more_stays_behind}
-use Rattle.lvm_num.specs.declared.record.Stamp.{Stamp}
-use Rattle.lvm_num.specs.declared.descriptor.Descriptor.{Descriptor}
-use Rattle.lvm_num.specs.declared.status.Status.{Status}
-use Rattle.lvm_num.specs.Descriptor.{is_member}
-use Rattle.lvm_mwc.specs.Cache.{no_notes}
-use Rattle.lvm_mwc.specs.declared.notes.DiskNotes.{DiskNotes}
-use Rattle.lvm_status.specs.Update.{Updates}
-use Rattle.lvm_quorum.specs.declared.homes.Homes.{Homes}
-use Rattle.lvm_core.specs.declared.parts.Room.{Room}
 use Rattle.lvm_core.specs.declared.refused.Cause.{Cause}
 use Rattle.lvm_core.specs.declared.refused.Cause.TheVariants as cause
 use Rattle.lvm_core.specs.Held.{IsHeld}
-use Rattle.lvm_core.specs.Sound.{IsQuiet, HaveAllLanded}
-use Rattle.lvm_core.specs.Starting.{Reserved, IsReservedFor, first_core}
+use Rattle.lvm_core.specs.Sound.{HaveAllLanded}
+use Rattle.lvm_core.specs.Settled.{IsSettled as IsSettledCore}
 use Rattle.lvm_core.specs.State.{Core}
 use Rattle.lvm_line.specs.Groups.{IsLit, IsLeftOn, IsLeftOff, refusal_of}
-use Rattle.lvm_line.specs.Moments.{GoesOn, Any}
+use Rattle.lvm_line.specs.Moments.{GoesOn}
 use Rattle.lvm_line.specs.Replies.{IsStuck}
 use Rattle.lvm_line.specs.Stages.{shelf_in, history_in, session_in, state_in}
-use Rattle.lvm_line.specs.State.{State, IsIdle, IsSettled, log_with}
+use Rattle.lvm_line.specs.State.{State, IsSettled, log_with}
 use Rattle.lvm_line.specs.declared.reply.Refusal.TheVariants as refusal
 use Rattle.lvm_line.specs.declared.reply.Reply.{Reply}
 use Rattle.lvm_line.specs.declared.stage.Stage.{Stage}
@@ -80,7 +70,7 @@ pub record LitUp (answer : Reply) (left new : Device) : Type 0 where
   pub keeps : (run : ℕ) (first : Moment) (facts : List Fact) → Keeps run first (at left facts) → Keeps run first (at new facts)
   pub behind : (m : ℕ) → IsBehind m left → IsBehind m new
 
-at_rest : (answer : Reply) (left new : Device) → IsReady left → new ≡ left → LitUp answer left new
+pub at_rest : (answer : Reply) (left new : Device) → IsReady left → new ≡ left → LitUp answer left new
 at_rest answer left new ready same = subst (λ (d : Device). LitUp answer left d) (sym same) (record {
   ready = λ goes. ready;
   power = ready.power;
@@ -140,11 +130,11 @@ module _ (run : ℕ) (old : State) (settled : IsSettled old.moment old.session) 
 
   -- it was refused
   pub left_off : (why : Cause) (left : Moment) (new : Device) → Promises run moment old.moment left → Leaves why old.moment.device left.device → IsLit why left.device new
-      → HaveAllLanded left.facts → GoesOn run Any (reply.Refused (refusal_of why)) old (record { moment = at new left.facts; session = None; last = moment })
+      → HaveAllLanded left.facts → GoesOn run (reply.Refused (refusal_of why)) old (record { moment = at new left.facts; session = None; last = moment })
   left_off why left new promises leaves lit landed =
       let up = lit_up why left.device new leaves.rests lit in
       record {
-        keeps = λ timely held any. up.keeps run old.moment left.facts (promises.keeps (clock_is_ahead run old.last moment old.moment.device old.moment.facts rose timely.ahead));
+        keeps = λ timely held alone. up.keeps run old.moment left.facts (promises.keeps (clock_is_ahead run old.last moment old.moment.device old.moment.facts rose timely.ahead));
         timely = λ timely. record {
           ahead = ahead left.facts new timely.ahead (promises.later (moment + 1) (omega arith) (earlier (moment + 1) timely.ahead (let e = rose.later in omega (arith, e))))
               (up.behind (moment + 1) (promises.behind (clock_is_ahead run old.last moment old.moment.device old.moment.facts rose timely.ahead)));
@@ -159,10 +149,10 @@ module _ (run : ℕ) (old : State) (settled : IsSettled old.moment old.session) 
       }
 
   -- the group is on
-  pub left_on : (core : Core) (new : Device) → Promises run moment old.moment (at new core.history.facts) → IsReady new → IsIdle core → core.status.stamp.epoch ≡ moment → HaveAllLanded core.history.facts
-      → (ClockIsAhead run moment old.moment.device old.moment.facts → IsHeld new core) → GoesOn run Any reply.Ok old (record { moment = at new core.history.facts; session = Some core; last = moment })
+  pub left_on : (core : Core) (new : Device) → Promises run moment old.moment (at new core.history.facts) → IsReady new → IsSettledCore core → core.status.stamp.epoch ≡ moment → HaveAllLanded core.history.facts
+      → (ClockIsAhead run moment old.moment.device old.moment.facts → IsHeld new core) → GoesOn run reply.Ok old (record { moment = at new core.history.facts; session = Some core; last = moment })
   left_on core new promises ready idle epoch landed held = record {
-    keeps = λ timely held any. promises.keeps (clock_is_ahead run old.last moment old.moment.device old.moment.facts rose timely.ahead);
+    keeps = λ timely held alone. promises.keeps (clock_is_ahead run old.last moment old.moment.device old.moment.facts rose timely.ahead);
     timely = λ timely. record {
       ahead = ahead core.history.facts new timely.ahead (promises.later (moment + 1) (omega arith) (earlier (moment + 1) timely.ahead (let e = rose.later in omega (arith, e))))
           (promises.behind (clock_is_ahead run old.last moment old.moment.device old.moment.facts rose timely.ahead));
@@ -175,25 +165,6 @@ module _ (run : ℕ) (old : State) (settled : IsSettled old.moment old.session) 
     waits = promises.waits;
     clock = rose.later;
   }
-
--- ---- a session that starts
-
--- an empty note has none in flight
-none_out : (disk : ℕ) (b : Bool) → option_and_then (λ (n : DiskNotes). n.flight) (if b then Some (no_notes disk) else None) ≡ None
-none_out disk true = refl
-none_out disk false = refl
-
--- nothing is under way
-pub starts_idle : (d : Descriptor) (s : Status) (room : Room) (r : Reserved) (log : Log) (stamp : Stamp) (homes : Homes) → IsReservedFor d s room r → IsIdle (first_core r log stamp homes)
-starts_idle d s room r log stamp homes reserved = record {
-  power = refl;
-  quiet = record {
-    requests = reserved.requests;
-    copy = refl;
-    status = ap (λ (u : Updates). u.in_flight) reserved.status;
-    notes = λ disk. ap (option_and_then (λ (n : DiskNotes). n.flight)) (reserved.cache.notes disk) ∙ none_out disk (is_member d disk);
-  };
-}
 
 -- ---- a stage at which no group is on
 

@@ -22,14 +22,15 @@ use Rattle.lvm_stamps.proofs.Clock.{later_joins}
 use Rattle.lvm_move.specs.Transfer.{Relights}
 use Rattle.lvm_core.specs.declared.request.Open.{Open}
 use Rattle.lvm_core.specs.Dark.{dark_log}
+use Rattle.lvm_core.specs.Settled.{IsSettled as IsSettledCore}
 use Rattle.lvm_core.specs.State.{Core}
 use Rattle.lvm_core.specs.Held.{IsHeld}
 use Rattle.lvm_core.specs.Sound.{HaveAllLanded}
 use Rattle.lvm_core.proofs.Telling.{open_cut}
-use Rattle.lvm_line.specs.Moments.{GoesOn, Any}
+use Rattle.lvm_line.specs.Moments.{GoesOn}
 use Rattle.lvm_line.specs.Shelves.{IsCut, CutDoes, PowerIsCut}
 use Rattle.lvm_line.specs.Stages.{shelf_in, history_in, session_in, state_in, IsSettledStage, Between, history_after, GivesBack}
-use Rattle.lvm_line.specs.State.{State, IsIdle, IsSettled, log_with, without_facts}
+use Rattle.lvm_line.specs.State.{State, IsSettled, log_with, without_facts}
 use Rattle.lvm_line.specs.declared.reply.Reply.{Reply}
 use Rattle.lvm_line.specs.declared.reply.Reply.TheVariants as reply
 use Rattle.lvm_line.specs.declared.stage.Stage.{Stage}
@@ -76,9 +77,9 @@ module _ (log : Log) (word : ℕ) (old new : State) (settled : IsSettled old.mom
   path : Path DeviceStep (LeavesNoMore first) first new.moment.device
   path = leaves_on (Then (Here (λ image may. may)) (Arranged (arrange.Cut word) cut.cut) (arrange_leaves first cut.dark (arrange.Cut word) cut.cut)) (relit_path cut.dark new.moment.device still cut.lit)
 
-  pub cut_goes : (answer : Reply) → GoesOn log.run Any answer old new
+  pub cut_goes : (answer : Reply) → GoesOn log.run answer old new
   cut_goes answer = record {
-    keeps = λ timely held any. subst (λ (facts : List Fact). Keeps log.run old.moment (at new.moment.device facts)) (sym cut.facts)
+    keeps = λ timely held alone. subst (λ (facts : List Fact). Keeps log.run old.moment (at new.moment.device facts)) (sym cut.facts)
         (cut_keeps log.run old.moment new.moment.device (log_with log old.moment.facts) (keeps_steps log.run old.moment first new.moment.device old.moment.facts (keeps_still log.run old.moment) path));
     timely = λ timely. record {
       ahead = record {
@@ -97,7 +98,7 @@ module _ (log : Log) (word : ℕ) (old new : State) (settled : IsSettled old.mom
         power = ap (λ (d : Device). d.power) cut.lit;
       };
       landed = λ id. ap (λ (facts : List Fact). is_open facts id) cut.facts ∙ open_cut (log_with log old.moment.facts) id ∙ settled.landed id;
-      session = subst (λ (s : Option Core). IfSome s IsIdle) (sym cut.session) tt;
+      session = subst (λ (s : Option Core). IfSome s IsSettledCore) (sym cut.session) tt;
     };
     power = ap (λ (d : Device). d.power) cut.lit;
     waits = let same : new.moment.device.counts.waits ≡ old.moment.device.counts.waits = ap (λ (d : Device). d.counts.waits) cut.lit ∙ ap (λ (d : Device). d.counts.waits) cuts.new_is in omega (arith, same);
@@ -133,7 +134,7 @@ cut_rooms log = go (is_uncut log.facts) refl
 dark_alone : (log : Log) (requests : List Open) → requests ≡ [] → dark_log log requests ≡ cut_log log
 dark_alone log requests none = ap (dark_log log) none ∙ ap (λ (facts : List Fact). log_with (cut_log log) facts) (append-nil (cut_log log).facts)
 
-pub cut_history : (word : ℕ) (log : Log) (session : Option Core) → ((core : Core) → session ≡ Some core → core.history ≡ log) → IfSome session IsIdle → cut_log (history_after (arrange.Cut word) true log session) ≡ cut_log log
+pub cut_history : (word : ℕ) (log : Log) (session : Option Core) → ((core : Core) → session ≡ Some core → core.history ≡ log) → IfSome session IsSettledCore → cut_log (history_after (arrange.Cut word) true log session) ≡ cut_log log
 cut_history word log None its idle = refl
 cut_history word log (Some core) its idle = ap cut_log (dark_alone core.history core.requests idle.quiet.requests) ∙ cut_twice core.history ∙ ap cut_log (its core refl)
 
@@ -171,8 +172,8 @@ module _ {S : Type 0} (device : S → Device) (old ordered : Stage S) (word : �
     pub cut_does : (answer : Reply) → answer ≡ reply.Ok → Between device old it (λ was now. CutDoes (without_facts (history_in old)) word was now answer)
     cut_does answer says = λ last. PowerIsCut shelf.0 says (subst (λ (s : Stage S). IsCut (without_facts (history_in old)) word (state_in device old last) (state_in device s last)) (sym is) (stage_cut last))
 
-    pub stage_cut_goes : (answer : Reply) → Between device old it (GoesOn (history_in old).run Any answer)
-    stage_cut_goes answer = λ last. subst (λ (s : Stage S). GoesOn (history_in old).run Any answer (state_in device old last) (state_in device s last)) (sym is)
+    pub stage_cut_goes : (answer : Reply) → Between device old it (GoesOn (history_in old).run answer)
+    stage_cut_goes answer = λ last. subst (λ (s : Stage S). GoesOn (history_in old).run answer (state_in device old last) (state_in device s last)) (sym is)
         (cut_goes (without_facts (history_in old)) word (state_in device old last) (state_in device (stage.Off last_shelf log) last) settled (stage_cut last) answer)
 
     pub cut_stage_rooms : without_facts (history_in it) ≡ without_facts (history_in old)

@@ -17,15 +17,15 @@ use Rattle.lvm_line.specs.Groups.{IsAsked, EndsSession}
 use Rattle.lvm_change.specs.Moments.{Keeps}
 use Rattle.lvm_change.proofs.Spans.{keeps_still}
 use Rattle.lvm_move.specs.Transfer.{Relights}
-use Rattle.lvm_line.specs.Moments.{GoesOn, Any}
+use Rattle.lvm_line.specs.Moments.{GoesOn}
 use Rattle.lvm_line.specs.Replies.{IsStuck}
 use Rattle.lvm_line.specs.State.{State, IsSettled}
 use Rattle.lvm_line.specs.declared.reply.Reply.{Reply}
 
 -- where nothing changes
-pub still_goes : (run : ℕ) (Asked : State → Type 0) (answer : Reply) (s : State) → IsSettled s.moment s.session → GoesOn run Asked answer s s
-still_goes run Asked answer s settled = record {
-  keeps = λ timely held asked. keeps_still run s.moment;
+pub still_goes : (run : ℕ) (answer : Reply) (s : State) → IsSettled s.moment s.session → GoesOn run answer s s
+still_goes run answer s settled = record {
+  keeps = λ timely held alone. keeps_still run s.moment;
   timely = λ timely. timely;
   held = λ timely held. held;
   calm = λ goes past calm. calm;
@@ -35,21 +35,8 @@ still_goes run Asked answer s settled = record {
   clock = omega arith;
 }
 
-pub same_goes : (run : ℕ) (Asked : State → Type 0) (answer : Reply) (old new : State) → IsSettled old.moment old.session → new ≡ old → GoesOn run Asked answer old new
-same_goes run Asked answer old new settled same = subst (λ (s : State). GoesOn run Asked answer old s) (sym same) (still_goes run Asked answer old settled)
-
--- what goes on so whatever is asked
-pub whatever : (run : ℕ) (Asked : State → Type 0) (answer : Reply) (old new : State) → GoesOn run Any answer old new → GoesOn run Asked answer old new
-whatever run Asked answer old new goes = record {
-  keeps = λ timely held asked. goes.keeps timely held tt;
-  timely = goes.timely;
-  held = goes.held;
-  calm = goes.calm;
-  settled = goes.settled;
-  power = goes.power;
-  waits = goes.waits;
-  clock = goes.clock;
-}
+pub same_goes : (run : ℕ) (answer : Reply) (old new : State) → IsSettled old.moment old.session → new ≡ old → GoesOn run answer old new
+same_goes run answer old new settled same = subst (λ (s : State). GoesOn run answer old s) (sym same) (still_goes run answer old settled)
 
 -- what was ahead is so of a later moment too
 pub ahead_later : (run moment later : ℕ) (device : Device) (facts : List Fact) → moment ≤ later → IsAhead run moment device facts → IsAhead run later device facts
@@ -65,9 +52,9 @@ session_later None moment later le up_to = tt
 session_later (Some core) moment later le up_to = omega (arith, le, up_to)
 
 -- the clock alone was asked
-pub asked_goes : (run : ℕ) (answer : Reply) (old new : State) → IsSettled old.moment old.session → IsAsked old new → GoesOn run Any answer old new
-asked_goes run answer old new settled asked = subst (λ (s : State). GoesOn run Any answer old s) (sym asked.same) (record {
-  keeps = λ timely held any. keeps_still run old.moment;
+pub asked_goes : (run : ℕ) (answer : Reply) (old new : State) → IsSettled old.moment old.session → IsAsked old new → GoesOn run answer old new
+asked_goes run answer old new settled asked = subst (λ (s : State). GoesOn run answer old s) (sym asked.same) (record {
+  keeps = λ timely held alone. keeps_still run old.moment;
   timely = λ timely. record {
     ahead = ahead_later run (old.last + 1) (new.last + 1) old.moment.device old.moment.facts (omega (arith, later)) timely.ahead;
     session = session_later old.session old.last new.last later timely.session;
@@ -84,9 +71,9 @@ asked_goes run answer old new settled asked = subst (λ (s : State). GoesOn run 
     later = asked.asks.later
 
 -- a session ends, and nothing else changes
-pub ended_goes : (run : ℕ) (answer : Reply) (old new : State) → IsSettled old.moment old.session → EndsSession old new → GoesOn run Any answer old new
-ended_goes run answer old new settled ends = subst (λ (s : State). GoesOn run Any answer old s) (sym is) (record {
-  keeps = λ timely held any. keeps_still run old.moment;
+pub ended_goes : (run : ℕ) (answer : Reply) (old new : State) → IsSettled old.moment old.session → EndsSession old new → GoesOn run answer old new
+ended_goes run answer old new settled ends = subst (λ (s : State). GoesOn run answer old s) (sym is) (record {
+  keeps = λ timely held alone. keeps_still run old.moment;
   timely = λ timely. record { ahead = timely.ahead; session = tt };
   held = λ timely held. tt;
   calm = λ goes past calm. calm;
@@ -114,9 +101,9 @@ pub record Ranges (run : ℕ) (stuck : Type 0) (old new : Moment) : Type 0 where
   pub waits : old.device.counts.waits ≤ new.device.counts.waits
 
 pub ranges_go : (run : ℕ) (answer : Reply) (old new : Moment) (last : ℕ) (stuck : Type 0) → (stuck → IsStuck answer) → Ranges run stuck old new
-    → GoesOn run Any answer (record { moment = old; session = None; last = last }) (record { moment = new; session = None; last = last })
+    → GoesOn run answer (record { moment = old; session = None; last = last }) (record { moment = new; session = None; last = last })
 ranges_go run answer old new last stuck says ranges = record {
-  keeps = λ timely held any. ranges.keeps;
+  keeps = λ timely held alone. ranges.keeps;
   timely = λ timely. record {
     ahead = record { run_is = timely.ahead.run_is; later = ranges.later (last + 1) timely.ahead.later; behind = ranges.behind (last + 1) timely.ahead.behind };
     session = tt;

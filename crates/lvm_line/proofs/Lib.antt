@@ -3,6 +3,10 @@ pub mod Going
 pub mod Cutting
 pub mod Passive
 pub mod Coming
+pub mod Commanding
+pub mod Ending
+pub mod Landing
+pub mod Volumes
 pub mod Ranging
 pub mod Varying
 pub mod Making
@@ -11,6 +15,8 @@ pub mod Closing
 pub mod Options
 pub mod Asking
 pub mod Lining
+pub mod Knowing
+pub mod Faulting
 pub mod Causing
 pub mod Listing
 pub mod Ordering

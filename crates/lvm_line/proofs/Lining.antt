@@ -9,21 +9,21 @@ use Rattle.lvm_parse.specs.Grammar.{line_of}
 use Rattle.lvm_parse.specs.Rests.{IsMkvgLine}
 use Rattle.lvm_core.specs.declared.parts.Room.{Room}
 use Rattle.lvm_line.specs.Groups.{IsAsked, NoMemoryForLine}
-use Rattle.lvm_line.specs.Lines.{CommandDoes, LineDoes, IsLine, IsOrder, HasOneGroup}
-use Rattle.lvm_line.specs.Moments.{GoesOn, Any}
+use Rattle.lvm_line.specs.Lines.{CommandDoes, LineDoes, IsLine, IsOrder}
+use Rattle.lvm_line.specs.Moments.{GoesOn}
 use Rattle.lvm_line.specs.State.{State, IsSettled}
 use Rattle.lvm_line.specs.declared.reply.Refusal.TheVariants as refusal
 use Rattle.lvm_line.specs.declared.reply.Reply.{Reply}
 use Rattle.lvm_line.specs.declared.reply.Reply.TheVariants as reply
-use Rattle.lvm_line.proofs.Going.{same_goes, asked_goes, whatever}
+use Rattle.lvm_line.proofs.Going.{same_goes, asked_goes}
 
 -- a line that is read so
 pub line_read :
-    (log : Log) (room : Room) (line : List ℕ) (read : Result (Option Command) Misfit) (answer : Reply) (old new : State) → line_of line ≡ read → LineDoes log room read old new answer → GoesOn log.run (HasOneGroup read) answer old new
+    (log : Log) (room : Room) (line : List ℕ) (read : Result (Option Command) Misfit) (answer : Reply) (old new : State) → line_of line ≡ read → LineDoes log room read old new answer → GoesOn log.run answer old new
     → ((IsOrder read → ⊥) → new.moment.device.orders ≡ old.moment.device.orders) → IsLine log room line answer old new
 line_read log room line read answer old new is does goes orders = record {
   does = subst (λ (r : Result (Option Command) Misfit). LineDoes log room r old new answer) (sym is) does;
-  goes = subst (λ (r : Result (Option Command) Misfit). GoesOn log.run (HasOneGroup r) answer old new) (sym is) goes;
+  goes = goes;
   orders = subst (λ (r : Result (Option Command) Misfit). (IsOrder r → ⊥) → new.moment.device.orders ≡ old.moment.device.orders) (sym is) orders;
 }
 
@@ -32,13 +32,13 @@ pub line_still :
     (log : Log) (room : Room) (line : List ℕ) (read : Result (Option Command) Misfit) (answer : Reply) (old new : State) → line_of line ≡ read → LineDoes log room read old new answer → IsSettled old.moment old.session → new ≡ old
     → IsLine log room line answer old new
 line_still log room line read answer old new is does settled same =
-    line_read log room line read answer old new is does (same_goes log.run (HasOneGroup read) answer old new settled same) (λ no_order. ap (λ (s : State). s.moment.device.orders) same)
+    line_read log room line read answer old new is does (same_goes log.run answer old new settled same) (λ no_order. ap (λ (s : State). s.moment.device.orders) same)
 
 -- a line for which no memory was found
 pub line_unread : (log : Log) (room : Room) (line : List ℕ) (answer : Reply) (old new : State) → IsMkvgLine (line_of line) → answer ≡ reply.Refused refusal.Memory → IsAsked old new → IsSettled old.moment old.session → IsLine log room line answer old new
 line_unread log room line answer old new mkvg says asked settled = record {
   does = of_mkvg (line_of line) mkvg;
-  goes = whatever log.run (HasOneGroup (line_of line)) answer old new (asked_goes log.run answer old new settled asked);
+  goes = asked_goes log.run answer old new settled asked;
   orders = λ no_order. ap (λ (s : State). s.moment.device.orders) asked.same;
 }
   where
@@ -49,6 +49,3 @@ line_unread log room line answer old new mkvg says asked settled = record {
 -- a command that is this one
 pub of_command : (log : Log) (room : Room) (it other : Command) (old new : State) (answer : Reply) → it ≡ other → CommandDoes log room other old new answer → CommandDoes log room it old new answer
 of_command log room it other old new answer is does = subst (λ (c : Command). CommandDoes log room c old new answer) (sym is) does
-
-pub goes_as : (run : ℕ) (it other : Command) (answer : Reply) (old new : State) → it ≡ other → GoesOn run (HasOneGroup (Ok (Some other))) answer old new → GoesOn run (HasOneGroup (Ok (Some it))) answer old new
-goes_as run it other answer old new is goes = subst (λ (c : Command). GoesOn run (HasOneGroup (Ok (Some c))) answer old new) (sym is) goes

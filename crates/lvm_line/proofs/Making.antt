@@ -17,17 +17,18 @@ use Rattle.lvm_core.specs.declared.refused.Cause.TheVariants as cause
 use Rattle.lvm_core.specs.declared.refused.Refused.{Refused}
 use Rattle.lvm_core.specs.Held.{IsHeld}
 use Rattle.lvm_core.specs.Sound.{HaveAllLanded}
+use Rattle.lvm_core.specs.Settled.{IsSettled as IsSettledCore, HasNumbers}
 use Rattle.lvm_core.specs.State.{Core}
 use Rattle.lvm_line.specs.Disks.{patience_of_line}
 use Rattle.lvm_line.specs.Groups.{IsLit, refusal_of, MkvgDoes, MakesGroup, MkvgFails, asked_for}
-use Rattle.lvm_line.specs.Moments.{GoesOn, Any}
+use Rattle.lvm_line.specs.Moments.{GoesOn}
 use Rattle.lvm_line.specs.Stages.{shelf_in, history_in, session_in, state_in, IsSettledStage}
-use Rattle.lvm_line.specs.State.{State, IsIdle, without_facts}
+use Rattle.lvm_line.specs.State.{State, without_facts}
 use Rattle.lvm_line.specs.declared.reply.Reply.{Reply}
 use Rattle.lvm_line.specs.declared.reply.Reply.TheVariants as reply
 use Rattle.lvm_line.specs.declared.stage.Stage.{Stage}
 use Rattle.lvm_line.specs.declared.stage.Stage.TheVariants as stage
-use Rattle.lvm_line.proofs.Coming.{Rests, Leaves, Promises, lit_up, left_off, left_on, starts_idle, off_is}
+use Rattle.lvm_line.proofs.Coming.{Rests, Leaves, Promises, lit_up, left_off, left_on, off_is}
 use Rattle.lvm_line.proofs.Passive.{Bears, bears_cut, bears_given_up, landed_bears, later_bears, open_more}
 use Rattle.lvm_group.specs.NewGroup.{NewGroup, given_up}
 use Rattle.lvm_group.specs.Made.{IsMade, Refuses, MkvgGives, shelf_left, history_left}
@@ -101,6 +102,7 @@ module _ (w : NewGroup) (patience : ℕ) (was is : Log) (old left : Device) (rea
 pub record Called {S : Type 0} (device : S → Device) (shelf : S) (log : Log) (w : NewGroup) (room : Room) (outcome : Result (S × Core) (Refused S)) : Type 0 where
   pub gives : MkvgGives device w room patience_of_line log (device shelf) outcome
   pub held : ClockIsAhead log.run w.moment (device shelf) log.facts → IfOk outcome (λ driver. IsHeld (device driver.0) driver.1)
+  pub settled : IfOk outcome (λ driver. IsSettledCore driver.1 × HasNumbers driver.1)
   pub waited : (device shelf).counts.waits ≤ (device (shelf_left outcome)).counts.waits
   pub keeps : ClockIsAhead log.run w.moment (device shelf) log.facts → Keeps log.run (at (device shelf) log.facts) (at (device (shelf_left outcome)) (history_left outcome).facts)
   pub calm : StaysCalm (at (device shelf) log.facts) (at (device (shelf_left outcome)) (history_left outcome).facts)
@@ -123,12 +125,12 @@ module _ {S : Type 0} (device : S → Device) (shelf : S) (log : Log) (force : B
   does (Err refused) called left = MkvgFails refused.cause (device refused.shelf) refused.history rose refl called.gives
       (record { lit = left.lit; facts = ap (λ (l : Log). l.facts) left.off.1; after = left.off.0; answered = left.off.2 })
 
-  pub goes : (outcome : Result (S × Core) (Refused S)) → Called device shelf log wanted room outcome → Left device outcome it answer → GoesOn log.run Any answer (state_in device (stage.Off shelf log) last) (state_in device it moment)
+  pub goes : (outcome : Result (S × Core) (Refused S)) → Called device shelf log wanted room outcome → Left device outcome it answer → GoesOn log.run answer (state_in device (stage.Off shelf log) last) (state_in device it moment)
   goes (Ok driver) called left =
       let is = called.gives.core_is in
       let facts : driver.1.history.facts ≡ (given_up log disks).facts ++ On moment ∷ [] = ap (λ (c : Core). c.history.facts) is in
-      subst (λ (s : Stage S). GoesOn log.run Any answer (state_in device (stage.Off shelf log) last) (state_in device s moment)) (sym left.on.0)
-      (subst (λ (a : Reply). GoesOn log.run Any a (state_in device (stage.Off shelf log) last) (state_in device (stage.On driver) moment)) (sym left.on.1)
+      subst (λ (s : Stage S). GoesOn log.run answer (state_in device (stage.Off shelf log) last) (state_in device s moment)) (sym left.on.0)
+      (subst (λ (a : Reply). GoesOn log.run a (state_in device (stage.Off shelf log) last) (state_in device (stage.On driver) moment)) (sym left.on.1)
       (left_on log.run (state_in device (stage.Off shelf log) last) settled moment rose driver.1 (device driver.0)
       (record {
         keeps = called.keeps;
@@ -138,13 +140,13 @@ module _ {S : Type 0} (device : S → Device) (shelf : S) (log : Log) (force : B
         later = λ m lt later. subst (λ (l : List Fact). IsLater l m) (sym facts) (later_joins m (given_up log disks).facts (On moment ∷ []) (bears_given_up (λ l. IsLater l m) (later_bears m) log.facts disks later) (lt, tt));
       })
       called.gives.rested.ready
-      (subst IsIdle (sym is) (starts_idle _ _ room called.gives.reserved (given_up log disks) _ called.gives.next called.gives.parts))
+      called.settled.0
       (ap (λ (c : Core). c.status.stamp.epoch) is)
       (λ id. subst (λ (l : List Fact). is_open l id ≡ false) (sym facts) (open_more (given_up log disks).facts (On moment) id refl refl ∙ bears_given_up HaveAllLanded landed_bears log.facts disks settled.landed id))
       called.held))
   goes (Err refused) called left =
-      subst (λ (s : State). GoesOn log.run Any answer (state_in device (stage.Off shelf log) last) s) (sym (off_is device it refused.history moment left.off.0 left.off.1))
-      (subst (λ (a : Reply). GoesOn log.run Any a (state_in device (stage.Off shelf log) last) (record { moment = at (device (shelf_in it)) refused.history.facts; session = None; last = moment })) (sym left.off.2)
+      subst (λ (s : State). GoesOn log.run answer (state_in device (stage.Off shelf log) last) s) (sym (off_is device it refused.history moment left.off.0 left.off.1))
+      (subst (λ (a : Reply). GoesOn log.run a (state_in device (stage.Off shelf log) last) (record { moment = at (device (shelf_in it)) refused.history.facts; session = None; last = moment })) (sym left.off.2)
       (left_off log.run (state_in device (stage.Off shelf log) last) settled moment rose refused.cause (at (device refused.shelf) refused.history.facts) (device (shelf_in it))
       (record {
         keeps = called.keeps;

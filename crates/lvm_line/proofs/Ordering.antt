@@ -13,7 +13,7 @@ use Rattle.lvm_vol.specs.Log.{Log, cut_log}
 use Rattle.lvm_change.proofs.Spans.{keeps_still, keeps_steps}
 use Rattle.lvm_core.specs.Dark.{after_arrange}
 use Rattle.lvm_core.specs.State.{Core}
-use Rattle.lvm_line.specs.Moments.{GoesOn, Any}
+use Rattle.lvm_line.specs.Moments.{GoesOn}
 use Rattle.lvm_line.specs.Shelves.{over, ArrangeDoes, NotThere, NotPlanned, IsArranged}
 use Rattle.lvm_line.specs.Stages.{shelf_in, history_in, session_in, moment_in, state_in, IsSettledStage, Between, history_after}
 use Rattle.lvm_line.specs.State.{State, IsSettled}
@@ -24,8 +24,8 @@ use Rattle.lvm_line.specs.declared.stage.Stage.TheVariants as stage
 use Rattle.lvm_line.proofs.Going.{still_goes, same_goes}
 
 -- a stage that stays
-pub stays : {S : Type 0} (device : S → Device) (old new : Stage S) (run : ℕ) (Asked : State → Type 0) (answer : Reply) → IsSettledStage device old → new ≡ old → Between device old new (GoesOn run Asked answer)
-stays {S} device old new run Asked answer settled same = λ last. same_goes run Asked answer (state_in device old last) (state_in device new last) settled (ap (λ (s : Stage S). state_in device s last) same)
+pub stays : {S : Type 0} (device : S → Device) (old new : Stage S) (run : ℕ) (answer : Reply) → IsSettledStage device old → new ≡ old → Between device old new (GoesOn run answer)
+stays {S} device old new run answer settled same = λ last. same_goes run answer (state_in device old last) (state_in device new last) settled (ap (λ (s : Stage S). state_in device s last) same)
 
 -- a session's history is its stage's
 pub whose : {S : Type 0} (it : Stage S) (core : Core) → session_in it ≡ Some core → core.history ≡ history_in it
@@ -71,9 +71,9 @@ module _ {S : Type 0} (device : S → Device) (old new : Stage S) (disk : ℕ) (
       ∙ ap (λ (x : Log). record { moment = record { device = with_order (device (shelf_in old)) what; facts = x.facts }; session = session_in new; last = last }) h
       ∙ ap (λ (x : Option Core). record { moment = record { device = with_order (device (shelf_in old)) what; facts = (history_in old).facts }; session = x; last = last }) s
 
-  pub arranged_goes : (run : ℕ) (answer : Reply) → IsSettledStage device old → Between device old new (GoesOn run Any answer)
-  arranged_goes run answer settled = λ last. subst (λ (s : State). GoesOn run Any answer (state_in device old last) s) (sym (arranged_is last)) (record {
-    keeps = λ timely held any. keeps_steps run (moment_in device old) (device (shelf_in old)) (with_order (device (shelf_in old)) what) (history_in old).facts (keeps_still run (moment_in device old)) path;
+  pub arranged_goes : (run : ℕ) (answer : Reply) → IsSettledStage device old → Between device old new (GoesOn run answer)
+  arranged_goes run answer settled = λ last. subst (λ (s : State). GoesOn run answer (state_in device old last) s) (sym (arranged_is last)) (record {
+    keeps = λ timely held alone. keeps_steps run (moment_in device old) (device (shelf_in old)) (with_order (device (shelf_in old)) what) (history_in old).facts (keeps_still run (moment_in device old)) path;
     timely = λ timely. record { ahead = record { run_is = timely.ahead.run_is; later = timely.ahead.later; behind = timely.ahead.behind }; session = timely.session };
     held = λ timely held. held;
     calm = λ goes past calm. calm;
@@ -112,5 +112,5 @@ module _ {S : Type 0} (device : S → Device) (old new : Stage S) (what : Arrang
       ∙ ap (λ (x : Log). record { moment = record { device = device (shelf_in old); facts = x.facts }; session = session_in new; last = last }) kept_history
       ∙ ap (λ (x : Option Core). record { moment = record { device = device (shelf_in old); facts = (history_in old).facts }; session = x; last = last }) (session ∙ nothing_happens what (session_in old))
 
-  pub not_arranged_goes : (it : Stage S) (run : ℕ) (answer : Reply) → it ≡ new → IsSettledStage device old → Between device old it (GoesOn run Any answer)
-  not_arranged_goes it run answer is settled = λ last. same_goes run Any answer (state_in device old last) (state_in device it last) settled (ap (λ (s : Stage S). state_in device s last) is ∙ not_arranged_is last)
+  pub not_arranged_goes : (it : Stage S) (run : ℕ) (answer : Reply) → it ≡ new → IsSettledStage device old → Between device old it (GoesOn run answer)
+  not_arranged_goes it run answer is settled = λ last. same_goes run answer (state_in device old last) (state_in device it last) settled (ap (λ (s : Stage S). state_in device s last) is ∙ not_arranged_is last)

@@ -16,8 +16,8 @@ use Rattle.lvm_line.specs.Listings.{GroupShows, VolumeShows, DiskShows}
 use Rattle.lvm_line.specs.Moments.{GoesOn}
 use Rattle.lvm_line.specs.Replies.{IsRefused}
 use Rattle.lvm_line.specs.Shelves.{ArrangeDoes, CutDoes}
-use Rattle.lvm_line.specs.State.{State, IsAlone}
-use Rattle.lvm_line.specs.Volumes.{MklvDoes, RmlvDoes}
+use Rattle.lvm_line.specs.State.{State}
+use Rattle.lvm_line.specs.Volumes.{MklvDoes, RmlvDoes, wanted}
 use Rattle.lvm_line.specs.declared.reply.Refusal.TheVariants as refusal
 use Rattle.lvm_line.specs.declared.reply.Reply.{Reply}
 use Rattle.lvm_line.specs.declared.reply.Reply.TheVariants as reply
@@ -40,8 +40,8 @@ CommandDoes log room (command.Mkvg force name mib disks) old new answer = MkvgDo
 CommandDoes log room (command.Varyon name) old new answer = VaryonDoes log room name old new answer
 CommandDoes log room (command.Varyoff name) old new answer = VaryoffDoes name old new answer
 CommandDoes log room (command.Lsvg volumes name) old new answer = IsListed old new (GroupShows volumes name old.session answer)
-CommandDoes log room (command.Mklv name copies mode policy group lps) old new answer = MklvDoes group old new answer
-CommandDoes log room (command.Rmlv name) old new answer = RmlvDoes old new answer
+CommandDoes log room (command.Mklv name copies mode policy group lps) old new answer = MklvDoes (wanted name copies mode policy lps) group old new answer
+CommandDoes log room (command.Rmlv name) old new answer = RmlvDoes name old new answer
 CommandDoes log room (command.Lslv name) old new answer = IsListed old new (VolumeShows name old.session answer)
 CommandDoes log room (command.Lspv disk) old new answer = IsListed old new (DiskShows disk (length old.moment.device.sizes) old.session answer)
 CommandDoes log room (command.RawRd disk at count) old new answer = ReadDoes log disk at count old new answer
@@ -63,14 +63,8 @@ IsOrder (Ok (Some (command.Heal disk))) = Unit {0}
 IsOrder (Ok (Some (command.Cut word))) = Unit {0}
 IsOrder other = ⊥
 
--- Where the line makes or removes a volume, no disks find a group but the one that is on.
-abbrev pub HasOneGroup : Result (Option Command) Misfit → State → Type 0
-HasOneGroup (Ok (Some (command.Mklv name copies mode policy group lps))) s = IsAlone s
-HasOneGroup (Ok (Some (command.Rmlv name))) s = IsAlone s
-HasOneGroup other s = Unit {0}
-
 -- a line joins two states
 pub record IsLine (log : Log) (room : Room) (line : List ℕ) (answer : Reply) (old new : State) : Type 0 where
   pub does : LineDoes log room (line_of line) old new answer
-  pub goes : GoesOn log.run (HasOneGroup (line_of line)) answer old new
+  pub goes : GoesOn log.run answer old new
   pub orders : (IsOrder (line_of line) → ⊥) → new.moment.device.orders ≡ old.moment.device.orders

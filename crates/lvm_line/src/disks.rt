@@ -1,7 +1,7 @@
 //! The lines that read or write a range of a disk.
 ghost use Rattle.std.specs.Prelude.{◌≡◌, ◌≤◌, ◌<◌, ◌+◌, ◌^◌, length, IfOk, IfErr};
 ghost use Rattle.lvm_line.specs.Disks.{WriteDoes, ReadDoes, refusal_by, write_reply, blocks_text};
-ghost use Rattle.lvm_line.specs.Moments.{GoesOn, Any};
+ghost use Rattle.lvm_line.specs.Moments.{GoesOn};
 ghost use Rattle.lvm_line.specs.Replies.{Shows};
 ghost use Rattle.lvm_line.specs.Stages.{shelf_in, history_in, IsSettledStage, Between};
 ghost use Rattle.lvm_line.specs.State.{without_facts};
@@ -85,7 +85,7 @@ pub fn do_write<S: Shelf>(
     requires some { 1 ≤ count }
     requires most { count ≤ 4096 }
     ensures does { Between S.device stage result.stage (λ old new. WriteDoes (without_facts (history_in stage)) disk at count word old new result.reply) }
-    ensures goes { Between S.device stage result.stage (GoesOn (history_in stage).run Any result.reply) }
+    ensures goes { Between S.device stage result.stage (GoesOn (history_in stage).run result.reply) }
     ensures rooms { without_facts (history_in result.stage) ≡ without_facts (history_in stage) }
     ensures orders { (S.device (shelf_in result.stage)).orders ≡ (S.device (shelf_in stage)).orders }
 {
@@ -123,7 +123,7 @@ pub fn do_read<S: Shelf>(
     requires some { 1 ≤ count }
     requires most { count ≤ 4096 }
     ensures does { Between S.device stage result.stage (λ old new. ReadDoes (without_facts (history_in stage)) disk at count old new result.reply) }
-    ensures goes { Between S.device stage result.stage (GoesOn (history_in stage).run Any result.reply) }
+    ensures goes { Between S.device stage result.stage (GoesOn (history_in stage).run result.reply) }
     ensures rooms { without_facts (history_in result.stage) ≡ without_facts (history_in stage) }
     ensures orders { (S.device (shelf_in result.stage)).orders ≡ (S.device (shelf_in stage)).orders }
 {

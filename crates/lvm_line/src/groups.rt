@@ -4,7 +4,7 @@ ghost use Rattle.std.specs.Option.{ForSome};
 ghost use Rattle.lvm_num.specs.Descriptor.{is_size};
 ghost use Rattle.lvm_core.specs.Starting.{IsRoom};
 ghost use Rattle.lvm_line.specs.Groups.{MkvgDoes, VaryonDoes, VaryoffDoes, IsLit, refusal_of};
-ghost use Rattle.lvm_line.specs.Moments.{GoesOn, Any};
+ghost use Rattle.lvm_line.specs.Moments.{GoesOn};
 ghost use Rattle.lvm_line.specs.Stages.{shelf_in, history_in, session_in, state_in, IsSettledStage, Between};
 ghost use Rattle.lvm_line.specs.State.{without_facts};
 
@@ -89,7 +89,7 @@ pub fn do_mkvg<S: Shelf, C: Clock>(
     requires differ { AllPairs (λ a b. a ≢ b) disks.now }
     requires size { ForSome mib (λ given. IsTrue (is_size given)) }
     ensures does { MkvgDoes (without_facts (history_in stage)) room force name mib disks.now (state_in S.device stage (C.last clock.old)) (state_in S.device result.stage (C.last clock.new)) result.reply }
-    ensures goes { GoesOn (history_in stage).run Any result.reply (state_in S.device stage (C.last clock.old)) (state_in S.device result.stage (C.last clock.new)) }
+    ensures goes { GoesOn (history_in stage).run result.reply (state_in S.device stage (C.last clock.old)) (state_in S.device result.stage (C.last clock.new)) }
     ensures rooms { without_facts (history_in result.stage) ≡ without_facts (history_in stage) }
     ensures orders { (S.device (shelf_in result.stage)).orders ≡ (S.device (shelf_in stage)).orders }
 {
@@ -125,7 +125,7 @@ pub fn do_varyon<S: Shelf, C: Clock>(
     requires settled { IsSettledStage S.device stage }
     requires room { IsRoom room }
     ensures does { VaryonDoes (without_facts (history_in stage)) room name (state_in S.device stage (C.last clock.old)) (state_in S.device result.stage (C.last clock.new)) result.reply }
-    ensures goes { GoesOn (history_in stage).run Any result.reply (state_in S.device stage (C.last clock.old)) (state_in S.device result.stage (C.last clock.new)) }
+    ensures goes { GoesOn (history_in stage).run result.reply (state_in S.device stage (C.last clock.old)) (state_in S.device result.stage (C.last clock.new)) }
     ensures rooms { without_facts (history_in result.stage) ≡ without_facts (history_in stage) }
     ensures orders { (S.device (shelf_in result.stage)).orders ≡ (S.device (shelf_in stage)).orders }
 {
@@ -143,7 +143,7 @@ pub fn do_varyon<S: Shelf, C: Clock>(
 pub fn do_varyoff<S: Shelf>(stage: Stage<S>, name: Name) -> Answered<S>
     requires settled { IsSettledStage S.device stage }
     ensures does { Between S.device stage result.stage (λ old new. VaryoffDoes name old new result.reply) }
-    ensures goes { Between S.device stage result.stage (GoesOn (history_in stage).run Any result.reply) }
+    ensures goes { Between S.device stage result.stage (GoesOn (history_in stage).run result.reply) }
     ensures rooms { without_facts (history_in result.stage) ≡ without_facts (history_in stage) }
     ensures orders { (S.device (shelf_in result.stage)).orders ≡ (S.device (shelf_in stage)).orders }
 {

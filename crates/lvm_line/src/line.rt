@@ -1,7 +1,7 @@
 //! One line of a script.
 ghost use Rattle.std.specs.Prelude.{◌≡◌};
 ghost use Rattle.lvm_core.specs.Starting.{IsRoom};
-ghost use Rattle.lvm_line.specs.Lines.{IsWithin, CommandDoes, IsLine, IsOrder, HasOneGroup};
+ghost use Rattle.lvm_line.specs.Lines.{IsWithin, CommandDoes, IsLine, IsOrder};
 ghost use Rattle.lvm_line.specs.Moments.{GoesOn};
 ghost use Rattle.lvm_line.specs.Stages.{shelf_in, history_in, state_in, IsSettledStage};
 ghost use Rattle.lvm_line.specs.State.{without_facts};
@@ -31,7 +31,7 @@ fn do_command<S: Shelf, C: Clock>(
     requires room { IsRoom room }
     requires within { IsWithin command }
     ensures does { CommandDoes (without_facts (history_in stage)) room command (state_in S.device stage (C.last clock.old)) (state_in S.device result.stage (C.last clock.new)) result.reply }
-    ensures goes { GoesOn (history_in stage).run (HasOneGroup (Ok (Some command))) result.reply (state_in S.device stage (C.last clock.old)) (state_in S.device result.stage (C.last clock.new)) }
+    ensures goes { GoesOn (history_in stage).run result.reply (state_in S.device stage (C.last clock.old)) (state_in S.device result.stage (C.last clock.new)) }
     ensures rooms { without_facts (history_in result.stage) ≡ without_facts (history_in stage) }
     ensures orders { (IsOrder (Ok (Some command)) → ⊥) → (S.device (shelf_in result.stage)).orders ≡ (S.device (shelf_in stage)).orders }
 {
@@ -58,14 +58,14 @@ fn do_command<S: Shelf, C: Clock>(
             stage.answered(reply)
         }
         Command::Mklv {
-            name: _,
-            copies: _,
-            mode: _,
-            policy: _,
+            name,
+            copies,
+            mode,
+            policy,
             group,
-            lps: _,
-        } => do_mklv(stage, group),
-        Command::Rmlv { name: _ } => do_rmlv(stage),
+            lps,
+        } => do_mklv(alloc, stage, name, copies, mode, policy, group, lps),
+        Command::Rmlv { name } => do_rmlv(alloc, stage, name),
         Command::Lslv { name } => {
             let reply = list_volume(alloc, &stage, name);
             stage.answered(reply)

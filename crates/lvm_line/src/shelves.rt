@@ -1,7 +1,7 @@
 //! The lines that let a disk fail or heal, or cut the power.
 ghost use Rattle.std.specs.Prelude.{◌≡◌, ◌⊎◌};
 ghost use Rattle.lvm_disk.specs.declared.shelf.Arrange.TheVariants as arrange;
-ghost use Rattle.lvm_line.specs.Moments.{GoesOn, Any};
+ghost use Rattle.lvm_line.specs.Moments.{GoesOn};
 ghost use Rattle.lvm_line.specs.Shelves.{ArrangeDoes, CutDoes};
 ghost use Rattle.lvm_line.specs.Stages.{history_in, IsSettledStage, Between};
 ghost use Rattle.lvm_line.specs.State.{without_facts};
@@ -17,7 +17,7 @@ pub fn do_arrange<S: Shelf>(stage: Stage<S>, disk: u16, what: Arrange) -> Answer
     requires settled { IsSettledStage S.device stage }
     requires what { (what ≡ arrange.Fail disk) ⊎ (what ≡ arrange.Heal disk) }
     ensures does { Between S.device stage result.stage (λ old new. ArrangeDoes disk what old new result.reply) }
-    ensures goes { Between S.device stage result.stage (GoesOn (history_in stage).run Any result.reply) }
+    ensures goes { Between S.device stage result.stage (GoesOn (history_in stage).run result.reply) }
     ensures rooms { without_facts (history_in result.stage) ≡ without_facts (history_in stage) }
 {
     let mut stage = stage;
@@ -35,7 +35,7 @@ pub fn do_arrange<S: Shelf>(stage: Stage<S>, disk: u16, what: Arrange) -> Answer
 pub fn do_cut<S: Shelf>(stage: Stage<S>, word: u64) -> Answered<S>
     requires settled { IsSettledStage S.device stage }
     ensures does { Between S.device stage result.stage (λ old new. CutDoes (without_facts (history_in stage)) word old new result.reply) }
-    ensures goes { Between S.device stage result.stage (GoesOn (history_in stage).run Any result.reply) }
+    ensures goes { Between S.device stage result.stage (GoesOn (history_in stage).run result.reply) }
     ensures rooms { without_facts (history_in result.stage) ≡ without_facts (history_in stage) }
 {
     let mut stage = stage;

@@ -37,10 +37,10 @@ pub record IsRun (run last : ℕ) (room : Room) (entry exit : Device) (input lef
   pub ready : (status ≡ 6 → ⊥) → IsReady exit
   pub power : exit.power ≡ true
 
--- At each line of the run that makes or removes a volume no disks found a group but the one that was on.
-abbrev pub IsAlone : {run last : ℕ} {room : Room} {entry exit : Device} {input left before after : Stream} {history : Option Log} {status refused : ℕ} → IsRun run last room entry exit input left before after history status refused → Type 0
-IsAlone ran = StaysAlone ran.part.script × EndsAlone ran.part.ends
+-- In each line of the run that made or removed a volume no disks found a group but the one that was on.
+abbrev pub RanAlone : {run last : ℕ} {room : Room} {entry exit : Device} {input left before after : Stream} {history : Option Log} {status refused : ℕ} → IsRun run last room entry exit input left before after history status refused → Type 0
+RanAlone ran = StaysAlone ran.part.script × EndsAlone ran.part.ends
 
 -- What holds of such a run, whatever its lines were answered.
 abbrev pub WhereAlone : ℕ → ℕ → Room → Device → Device → Stream → Stream → Stream → Stream → Option Log → ℕ → ℕ → Type 0 → Type 0
-WhereAlone run last room entry exit input left before after history status refused Holds = (ran : IsRun run last room entry exit input left before after history status refused) → IsAlone ran → Holds
+WhereAlone run last room entry exit input left before after history status refused Holds = (ran : IsRun run last room entry exit input left before after history status refused) → RanAlone ran → Holds

@@ -7,7 +7,7 @@ use Rattle.lvm_raw.specs.declared.fault.RawFault.{RawFault}
 use Rattle.lvm_raw.specs.declared.fault.RawFault.TheVariants as fault
 use Rattle.lvm_raw.specs.Raw.{ReadGives}
 use Rattle.lvm_line.specs.Disks.{ReadDoes, refusal_by, blocks_text}
-use Rattle.lvm_line.specs.Moments.{GoesOn, Any}
+use Rattle.lvm_line.specs.Moments.{GoesOn}
 use Rattle.lvm_line.specs.Replies.{Shows}
 use Rattle.lvm_line.specs.Stages.{shelf_in, history_in}
 use Rattle.lvm_line.specs.State.{without_facts}
@@ -22,7 +22,7 @@ use Rattle.lvm_line.proofs.Staging.{between, settled_as}
 use Rattle.lvm_line.proofs.disks.do_read.Goals as goal
 
 pub returns-in-On-clause-goes : goal.returns-in-On-clause-goes
-returns-in-On-clause-goes g c = stays g.S.Shelf.device c.args.stage c.refused.result.stage (history_in c.args.stage).run Any c.refused.result.reply c.requires.settled (c.refused.ensures.stage ∙ sym c.in-On.is)
+returns-in-On-clause-goes g c = stays g.S.Shelf.device c.args.stage c.refused.result.stage (history_in c.args.stage).run c.refused.result.reply c.requires.settled (c.refused.ensures.stage ∙ sym c.in-On.is)
 
 pub returns-in-Off-clause-does : goal.returns-in-Off-clause-does
 returns-in-Off-clause-does g c =
@@ -44,7 +44,7 @@ pub returns-in-Off-clause-goes : goal.returns-in-Off-clause-goes
 returns-in-Off-clause-goes g c =
     let settled = settled_as g.S.Shelf.device c.args.stage (stage.Off c.in-Off.shelf c.in-Off.history) c.in-Off.is c.requires.settled in
     between g.S.Shelf.device c.args.stage (stage.Off c.in-Off.shelf c.in-Off.history) c.answered.result.stage (stage.Off c.read_disk-read.new.shelf c.read_disk-read.new.history)
-    (λ log was now. GoesOn log.run Any c.answered.result.reply was now) c.in-Off.is c.answered.ensures.stage
+    (λ log was now. GoesOn log.run c.answered.result.reply was now) c.in-Off.is c.answered.ensures.stage
     (λ last. ranges_go c.in-Off.history.run c.answered.result.reply (at (g.S.Shelf.device c.in-Off.shelf) c.in-Off.history.facts) (at (g.S.Shelf.device c.read_disk-read.new.shelf) c.read_disk-read.new.history.facts) last (c.read_disk-read.result ≡ Err fault.Stuck)
     (read_stuck c.read_disk-read.result c.answered.result.reply (subst (λ (a : Reply). IfErr c.read_disk-read.result (λ why. a ≡ reply.Refused (refusal_by why))) (sym c.answered.ensures.reply) c.read_reply.ensures.fault))
     (record {

@@ -4,7 +4,7 @@ use Rattle.lvm_group.specs.Made.{MkvgGives}
 use Rattle.lvm_line.specs.Groups.{asked_for}
 use Rattle.lvm_vol.specs.Log.{Log}
 use Rattle.lvm_line.specs.Groups.{MkvgDoes, IsAsked, NoVaryonWhileOn, NoMkvgWhileOn}
-use Rattle.lvm_line.specs.Moments.{GoesOn, Any}
+use Rattle.lvm_line.specs.Moments.{GoesOn}
 use Rattle.lvm_line.specs.Stages.{shelf_in, history_in, session_in, state_in}
 use Rattle.lvm_line.specs.State.{State, without_facts}
 use Rattle.lvm_line.specs.declared.stage.Stage.{Stage}
@@ -29,6 +29,7 @@ left-requires g c =
     let called : Called g.S.Shelf.device c.in-Off.shelf c.in-Off.history (asked_for c.args.name c.args.mib c.args.disks.now c.args.force c.now-moment.result) c.args.room c.mkvg.result = record {
       gives = subst (λ (n : ℕ). MkvgGives g.S.Shelf.device (asked_for c.args.name c.args.mib c.args.disks.now c.args.force c.now-moment.result) c.args.room n c.in-Off.history (g.S.Shelf.device c.in-Off.shelf) c.mkvg.result) c.whole-patience.ensures c.mkvg.ensures.gives;
       held = c.mkvg.ensures.held;
+      settled = c.mkvg.ensures.settled;
       waited = c.mkvg.ensures.waited.later;
       keeps = c.mkvg.ensures.keeps;
       calm = c.mkvg.ensures.calm;
@@ -42,6 +43,7 @@ returns-in-Off-clause-does g c =
     let called : Called g.S.Shelf.device c.in-Off.shelf c.in-Off.history (asked_for c.args.name c.args.mib c.args.disks.now c.args.force c.now-moment.result) c.args.room c.mkvg.result = record {
       gives = subst (λ (n : ℕ). MkvgGives g.S.Shelf.device (asked_for c.args.name c.args.mib c.args.disks.now c.args.force c.now-moment.result) c.args.room n c.in-Off.history (g.S.Shelf.device c.in-Off.shelf) c.mkvg.result) c.whole-patience.ensures c.mkvg.ensures.gives;
       held = c.mkvg.ensures.held;
+      settled = c.mkvg.ensures.settled;
       waited = c.mkvg.ensures.waited.later;
       keeps = c.mkvg.ensures.keeps;
       calm = c.mkvg.ensures.calm;
@@ -59,6 +61,7 @@ returns-in-Off-clause-goes g c =
     let called : Called g.S.Shelf.device c.in-Off.shelf c.in-Off.history (asked_for c.args.name c.args.mib c.args.disks.now c.args.force c.now-moment.result) c.args.room c.mkvg.result = record {
       gives = subst (λ (n : ℕ). MkvgGives g.S.Shelf.device (asked_for c.args.name c.args.mib c.args.disks.now c.args.force c.now-moment.result) c.args.room n c.in-Off.history (g.S.Shelf.device c.in-Off.shelf) c.mkvg.result) c.whole-patience.ensures c.mkvg.ensures.gives;
       held = c.mkvg.ensures.held;
+      settled = c.mkvg.ensures.settled;
       waited = c.mkvg.ensures.waited.later;
       keeps = c.mkvg.ensures.keeps;
       calm = c.mkvg.ensures.calm;
@@ -66,8 +69,8 @@ returns-in-Off-clause-goes g c =
     } in
     let left : Left g.S.Shelf.device c.mkvg.result c.left.result.stage c.left.result.reply = record { on = c.left.ensures.on; off = c.left.ensures.off; lit = c.left.ensures.lit } in
     moves g.S.Shelf.device c.args.stage (stage.Off c.in-Off.shelf c.in-Off.history) c.left.result.stage c.left.result.stage (g.C.Clock.last c.args.clock.now) (g.C.Clock.last c.now-moment.new.self)
-    (λ log was now. GoesOn log.run Any c.left.result.reply was now) c.in-Off.is refl
-    (subst (λ (n : ℕ). GoesOn c.in-Off.history.run Any c.left.result.reply (state_in g.S.Shelf.device (stage.Off c.in-Off.shelf c.in-Off.history) (g.C.Clock.last c.args.clock.now)) (state_in g.S.Shelf.device c.left.result.stage n)) (sym c.now-moment.ensures.last)
+    (λ log was now. GoesOn log.run c.left.result.reply was now) c.in-Off.is refl
+    (subst (λ (n : ℕ). GoesOn c.in-Off.history.run c.left.result.reply (state_in g.S.Shelf.device (stage.Off c.in-Off.shelf c.in-Off.history) (g.C.Clock.last c.args.clock.now)) (state_in g.S.Shelf.device c.left.result.stage n)) (sym c.now-moment.ensures.last)
     (goes g.S.Shelf.device c.in-Off.shelf c.in-Off.history c.args.force c.args.name c.args.mib c.args.disks.now c.now-moment.result (g.C.Clock.last c.args.clock.now) c.args.room c.left.result.stage c.left.result.reply c.now-moment.ensures.later settled c.mkvg.result called left))
 
 pub returns-in-Off-clause-rooms : goal.returns-in-Off-clause-rooms
@@ -76,6 +79,7 @@ returns-in-Off-clause-rooms g c =
     let called : Called g.S.Shelf.device c.in-Off.shelf c.in-Off.history (asked_for c.args.name c.args.mib c.args.disks.now c.args.force c.now-moment.result) c.args.room c.mkvg.result = record {
       gives = subst (λ (n : ℕ). MkvgGives g.S.Shelf.device (asked_for c.args.name c.args.mib c.args.disks.now c.args.force c.now-moment.result) c.args.room n c.in-Off.history (g.S.Shelf.device c.in-Off.shelf) c.mkvg.result) c.whole-patience.ensures c.mkvg.ensures.gives;
       held = c.mkvg.ensures.held;
+      settled = c.mkvg.ensures.settled;
       waited = c.mkvg.ensures.waited.later;
       keeps = c.mkvg.ensures.keeps;
       calm = c.mkvg.ensures.calm;
@@ -90,6 +94,7 @@ returns-in-Off-clause-orders g c =
     let called : Called g.S.Shelf.device c.in-Off.shelf c.in-Off.history (asked_for c.args.name c.args.mib c.args.disks.now c.args.force c.now-moment.result) c.args.room c.mkvg.result = record {
       gives = subst (λ (n : ℕ). MkvgGives g.S.Shelf.device (asked_for c.args.name c.args.mib c.args.disks.now c.args.force c.now-moment.result) c.args.room n c.in-Off.history (g.S.Shelf.device c.in-Off.shelf) c.mkvg.result) c.whole-patience.ensures c.mkvg.ensures.gives;
       held = c.mkvg.ensures.held;
+      settled = c.mkvg.ensures.settled;
       waited = c.mkvg.ensures.waited.later;
       keeps = c.mkvg.ensures.keeps;
       calm = c.mkvg.ensures.calm;

@@ -2,7 +2,6 @@ use Rattle.std.proofs.Common.{◌∙◌, ap, sym, subst, refl, rules, Option}
 use Rattle.lvm_core.specs.State.{Core}
 use Rattle.lvm_line.specs.Groups.{NoVaryoff}
 use Rattle.lvm_line.specs.Listings.{IsOn, IsNotOn}
-use Rattle.lvm_line.specs.Moments.{Any}
 use Rattle.lvm_line.specs.Stages.{history_in, session_in, state_in}
 use Rattle.lvm_line.specs.declared.stage.Stage.{Stage}
 use Rattle.lvm_line.proofs.Closing.{closed_does, closed_goes, closed_rooms, closed_orders}
@@ -10,7 +9,7 @@ use Rattle.lvm_line.proofs.Ordering.{stays}
 use Rattle.lvm_line.proofs.groups.do_varyoff.Goals as goal
 
 pub returns-in-Off-clause-goes : goal.returns-in-Off-clause-goes
-returns-in-Off-clause-goes g c = stays g.S.Shelf.device c.args.stage c.refused.result.stage (history_in c.args.stage).run Any c.refused.result.reply c.requires.settled (c.refused.ensures.stage ∙ sym c.in-Off.is)
+returns-in-Off-clause-goes g c = stays g.S.Shelf.device c.args.stage c.refused.result.stage (history_in c.args.stage).run c.refused.result.reply c.requires.settled (c.refused.ensures.stage ∙ sym c.in-Off.is)
 
 pub returns-then-eq-clause-does : goal.returns-then-eq-clause-does
 returns-then-eq-clause-does g c =
@@ -32,4 +31,4 @@ returns-else-eq-clause-does g c = λ last.
     NoVaryoff (subst (λ (s : Option Core). IsNotOn c.args.name s) (sym (ap session_in c.in-On.is)) off) (c.refused-else-eq.ensures.reply, ap (λ (s : Stage g.row.S.Denot). state_in g.S.Shelf.device s last) (c.refused-else-eq.ensures.stage ∙ sym c.in-On.is))
 
 pub returns-else-eq-clause-goes : goal.returns-else-eq-clause-goes
-returns-else-eq-clause-goes g c = stays g.S.Shelf.device c.args.stage c.refused-else-eq.result.stage (history_in c.args.stage).run Any c.refused-else-eq.result.reply c.requires.settled (c.refused-else-eq.ensures.stage ∙ sym c.in-On.is)
+returns-else-eq-clause-goes g c = stays g.S.Shelf.device c.args.stage c.refused-else-eq.result.stage (history_in c.args.stage).run c.refused-else-eq.result.reply c.requires.settled (c.refused-else-eq.ensures.stage ∙ sym c.in-On.is)

@@ -3,7 +3,7 @@ use Rattle.lvm_io.specs.Count.{Rose}
 use Rattle.lvm_varyon.specs.Varied.{Refuses}
 use Rattle.lvm_vol.specs.Log.{Log}
 use Rattle.lvm_line.specs.Groups.{VaryonDoes, IsAsked, NoVaryonWhileOn, NoMkvgWhileOn}
-use Rattle.lvm_line.specs.Moments.{GoesOn, Any}
+use Rattle.lvm_line.specs.Moments.{GoesOn}
 use Rattle.lvm_line.specs.Stages.{shelf_in, history_in, session_in, state_in}
 use Rattle.lvm_line.specs.State.{State, without_facts}
 use Rattle.lvm_line.specs.declared.stage.Stage.{Stage}
@@ -27,6 +27,7 @@ left-requires g c =
     let called : Called g.S.Shelf.device c.in-Off.shelf c.in-Off.history c.args.name c.now-moment.result c.args.room c.varyon.result = record {
       on = c.varyon.ensures.on;
       held = c.varyon.ensures.held;
+      settled = c.varyon.ensures.settled;
       restated = c.varyon.ensures.restated;
       refused = subst (λ (n : ℕ). IfErr c.varyon.result (λ refused. Refuses (g.S.Shelf.device c.in-Off.shelf) (g.S.Shelf.device refused.shelf) c.args.name c.now-moment.result n c.in-Off.history refused.cause)) c.whole-patience.ensures c.varyon.ensures.refused;
       history = c.varyon.ensures.history;
@@ -43,6 +44,7 @@ returns-in-Off-clause-does g c =
     let called : Called g.S.Shelf.device c.in-Off.shelf c.in-Off.history c.args.name c.now-moment.result c.args.room c.varyon.result = record {
       on = c.varyon.ensures.on;
       held = c.varyon.ensures.held;
+      settled = c.varyon.ensures.settled;
       restated = c.varyon.ensures.restated;
       refused = subst (λ (n : ℕ). IfErr c.varyon.result (λ refused. Refuses (g.S.Shelf.device c.in-Off.shelf) (g.S.Shelf.device refused.shelf) c.args.name c.now-moment.result n c.in-Off.history refused.cause)) c.whole-patience.ensures c.varyon.ensures.refused;
       history = c.varyon.ensures.history;
@@ -63,6 +65,7 @@ returns-in-Off-clause-goes g c =
     let called : Called g.S.Shelf.device c.in-Off.shelf c.in-Off.history c.args.name c.now-moment.result c.args.room c.varyon.result = record {
       on = c.varyon.ensures.on;
       held = c.varyon.ensures.held;
+      settled = c.varyon.ensures.settled;
       restated = c.varyon.ensures.restated;
       refused = subst (λ (n : ℕ). IfErr c.varyon.result (λ refused. Refuses (g.S.Shelf.device c.in-Off.shelf) (g.S.Shelf.device refused.shelf) c.args.name c.now-moment.result n c.in-Off.history refused.cause)) c.whole-patience.ensures c.varyon.ensures.refused;
       history = c.varyon.ensures.history;
@@ -73,8 +76,8 @@ returns-in-Off-clause-goes g c =
     } in
     let left : Left g.S.Shelf.device c.varyon.result c.left.result.stage c.left.result.reply = record { on = c.left.ensures.on; off = c.left.ensures.off; lit = c.left.ensures.lit } in
     moves g.S.Shelf.device c.args.stage (stage.Off c.in-Off.shelf c.in-Off.history) c.left.result.stage c.left.result.stage (g.C.Clock.last c.args.clock.now) (g.C.Clock.last c.now-moment.new.self)
-    (λ log was now. GoesOn log.run Any c.left.result.reply was now) c.in-Off.is refl
-    (subst (λ (n : ℕ). GoesOn c.in-Off.history.run Any c.left.result.reply (state_in g.S.Shelf.device (stage.Off c.in-Off.shelf c.in-Off.history) (g.C.Clock.last c.args.clock.now)) (state_in g.S.Shelf.device c.left.result.stage n)) (sym c.now-moment.ensures.last)
+    (λ log was now. GoesOn log.run c.left.result.reply was now) c.in-Off.is refl
+    (subst (λ (n : ℕ). GoesOn c.in-Off.history.run c.left.result.reply (state_in g.S.Shelf.device (stage.Off c.in-Off.shelf c.in-Off.history) (g.C.Clock.last c.args.clock.now)) (state_in g.S.Shelf.device c.left.result.stage n)) (sym c.now-moment.ensures.last)
     (goes g.S.Shelf.device c.in-Off.shelf c.in-Off.history c.args.name c.now-moment.result (g.C.Clock.last c.args.clock.now) c.args.room c.left.result.stage c.left.result.reply c.now-moment.ensures.later settled c.varyon.result called left))
 
 pub returns-in-Off-clause-rooms : goal.returns-in-Off-clause-rooms
@@ -83,6 +86,7 @@ returns-in-Off-clause-rooms g c =
     let called : Called g.S.Shelf.device c.in-Off.shelf c.in-Off.history c.args.name c.now-moment.result c.args.room c.varyon.result = record {
       on = c.varyon.ensures.on;
       held = c.varyon.ensures.held;
+      settled = c.varyon.ensures.settled;
       restated = c.varyon.ensures.restated;
       refused = subst (λ (n : ℕ). IfErr c.varyon.result (λ refused. Refuses (g.S.Shelf.device c.in-Off.shelf) (g.S.Shelf.device refused.shelf) c.args.name c.now-moment.result n c.in-Off.history refused.cause)) c.whole-patience.ensures c.varyon.ensures.refused;
       history = c.varyon.ensures.history;
@@ -100,6 +104,7 @@ returns-in-Off-clause-orders g c =
     let called : Called g.S.Shelf.device c.in-Off.shelf c.in-Off.history c.args.name c.now-moment.result c.args.room c.varyon.result = record {
       on = c.varyon.ensures.on;
       held = c.varyon.ensures.held;
+      settled = c.varyon.ensures.settled;
       restated = c.varyon.ensures.restated;
       refused = subst (λ (n : ℕ). IfErr c.varyon.result (λ refused. Refuses (g.S.Shelf.device c.in-Off.shelf) (g.S.Shelf.device refused.shelf) c.args.name c.now-moment.result n c.in-Off.history refused.cause)) c.whole-patience.ensures c.varyon.ensures.refused;
       history = c.varyon.ensures.history;

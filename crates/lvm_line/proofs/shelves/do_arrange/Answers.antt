@@ -1,6 +1,6 @@
 use Rattle.std.proofs.Common.{◌≡◌, ◌∙◌, ap, subst, sym, true, arith}
 use Rattle.lvm_disk.specs.Steps.{with_order, ArrangeGives}
-use Rattle.lvm_line.specs.Moments.{GoesOn, Any}
+use Rattle.lvm_line.specs.Moments.{GoesOn}
 use Rattle.lvm_line.specs.Shelves.{ArrangeDoes, IsArranged}
 use Rattle.lvm_line.specs.Stages.{shelf_in, history_in, session_in, state_in, Between}
 use Rattle.lvm_line.specs.State.{without_facts}
@@ -9,7 +9,7 @@ use Rattle.lvm_line.proofs.Ordering.{stays, not_arranged_goes, arranged_goes, ar
 use Rattle.lvm_line.proofs.shelves.do_arrange.Goals as goal
 
 pub returns-then-disk-disks-clause-goes : goal.returns-then-disk-disks-clause-goes
-returns-then-disk-disks-clause-goes g c = stays g.S.Shelf.device c.args.stage c.refused.result.stage (history_in c.args.stage).run Any c.refused.result.reply c.requires.settled (c.refused.ensures.stage)
+returns-then-disk-disks-clause-goes g c = stays g.S.Shelf.device c.args.stage c.refused.result.stage (history_in c.args.stage).run c.refused.result.reply c.requires.settled (c.refused.ensures.stage)
 
 pub returns-then-arrange-clause-does : goal.returns-then-arrange-clause-does
 returns-then-arrange-clause-does g c = λ last.
@@ -18,7 +18,7 @@ returns-then-arrange-clause-does g c = λ last.
     ∙ arranged_is g.S.Shelf.device c.args.stage c.arrange.new.self c.args.disk c.args.what c.requires.what c.if-arrange.ensures.shelf c.if-arrange.ensures.session c.if-arrange.ensures.history last)
 
 pub returns-then-arrange-clause-goes : goal.returns-then-arrange-clause-goes
-returns-then-arrange-clause-goes g c = subst (λ (s : Stage g.row.S.Denot). Between g.S.Shelf.device c.args.stage s (GoesOn (history_in c.args.stage).run Any c.answered.result.reply)) (sym c.answered.ensures.stage)
+returns-then-arrange-clause-goes g c = subst (λ (s : Stage g.row.S.Denot). Between g.S.Shelf.device c.args.stage s (GoesOn (history_in c.args.stage).run c.answered.result.reply)) (sym c.answered.ensures.stage)
     (arranged_goes g.S.Shelf.device c.args.stage c.arrange.new.self c.args.disk c.args.what c.requires.what c.if-arrange.ensures.shelf c.if-arrange.ensures.session c.if-arrange.ensures.history (history_in c.args.stage).run c.answered.result.reply c.requires.settled)
 
 pub returns-then-arrange-clause-rooms : goal.returns-then-arrange-clause-rooms
