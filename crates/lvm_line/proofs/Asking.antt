@@ -7,6 +7,7 @@ use Rattle.std.proofs.lemmas.Bool.{leb-true}
 use Rattle.std.proofs.lemmas.List.Quantifiers.{all_pairs_push}
 use Rattle.lvm_num.specs.Descriptor.{is_size}
 use Rattle.lvm_num.specs.declared.descriptor.Mode.{Mode}
+use Rattle.lvm_num.specs.declared.descriptor.Mode.TheVariants.{Off}
 use Rattle.lvm_num.specs.declared.descriptor.Policy.{Policy}
 use Rattle.lvm_num.specs.declared.descriptor.Policy.TheVariants as policy
 use Rattle.lvm_parse.specs.declared.chosen.MkvgOptions.{MkvgOptions}
@@ -17,8 +18,9 @@ use Rattle.lvm_parse.specs.declared.rest.Misfit.{Misfit}
 use Rattle.lvm_parse.specs.Grammar.{line_of, line_of_words, readable, rule, rd, wr, fail, heal, lspv, cut, cut_of, mkvg, mkvg_choice, no_mkvg_options, varyonvg, varyoffvg, lsvg, mklv, mklv_choice, no_mklv_options, rmlv, lslv}
 use Rattle.lvm_parse.specs.Line.{WordAt, Left, left_at, unreadable_at, is_remark}
 use Rattle.lvm_parse.specs.Reading.{misfit, then_, or_misfit, operand_of, operand, option, ends_of, ends, last, Choice, NoOption, Alone, Valued, is_new, options_of, options, required, is_further, further_disk, one_or_more, disks_of, disks, next_column}
-use Rattle.lvm_parse.specs.Words.{only, number_in, number_within, count_in, size_in, name_in, disk_in, word_in, mode_in, partitions_in}
+use Rattle.lvm_parse.specs.Words.{only, number_in, number_within, count_in, size_in, name_in, disk_in, word_in, mode_in, partitions_in, copies_in, policy_in}
 use Rattle.lvm_line.specs.Lines.{IsWithin}
+use Rattle.lvm_line.proofs.Options.{mapped, Keeping, keeping_if, options_keep}
 
 -- ---- what is read
 

@@ -39,9 +39,10 @@ none_left left new over = over.session
 
 module _ (read : Result (Option Command) Misfit) (failed : (d : ℕ) (a b : Counts) → Rose (a.faults d) (b.faults d) → HasFailed read d a b) where
   lost : (core : Core) (old : State) (first : old.session ≡ Some core) (have total : ℕ) (left : Device) (last : Stored) (new : Counts) → HasLostQuorum core.status last old.moment.device left have total → new ≡ left.counts → (2 * have ≤ total) × HasLost old.session old.moment.device.counts new
-  lost core old first have total left last new it same =
-      (subst (λ (n : ℕ). 2 * have ≤ n) (sym it.total_is) (at_most_half last.group have it.few),
-      subst (λ (s : Option Core). HasLost s old.moment.device.counts new) (sym first) (it.disk, it.was, subst (λ (n : Counts). Rose (old.moment.device.counts.faults it.disk) (n.faults it.disk)) (sym same) it.failed))
+  lost core old first have total left last new it same = (
+    subst (λ (n : ℕ). 2 * have ≤ n) (sym it.total_is) (at_most_half last.group have it.few),
+    subst (λ (s : Option Core). HasLost s old.moment.device.counts new) (sym first) (it.disk, it.was, subst (λ (n : Counts). Rose (old.moment.device.counts.faults it.disk) (n.faults it.disk)) (sym same) it.failed),
+  )
 
   pub known_group : (why : GroupFault) (old new : State) (core : Core) (left : Session) → old.session ≡ Some core → Facts why patience_of_line (state old.moment.device core) left → IsLeft (ends_session why) left new → Known read (refusal_for why) old new
   known_group fault.Dark old new core left some facts leaves =

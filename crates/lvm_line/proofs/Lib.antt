@@ -6,7 +6,7 @@ pub mod Coming
 pub mod Commanding
 pub mod Ending
 pub mod Landing
-pub mod Volumes
+pub mod OfVolumes
 pub mod Ranging
 pub mod Varying
 pub mod Making

@@ -1,6 +1,6 @@
 //! The lines that make or remove a volume.
 ghost use Rattle.std.specs.Prelude.{◌≡◌, ◌≤◌, ℕ, [], List, true, IsTrue, IsFalse};
-ghost use Rattle.lvm_num.specs.declared.descriptor.Mode.TheVariants as mode;
+ghost use Rattle.lvm_num.specs.declared.descriptor.Mode.TheVariants.{Off};
 ghost use Rattle.lvm_move.specs.Transfer.{Relights};
 ghost use Rattle.lvm_core.specs.State.{state};
 ghost use Rattle.lvm_core.specs.Looking.{IsNumberOf};
@@ -112,7 +112,7 @@ fn make_volume<S: Shelf>(
 ) -> Answered<S>
     requires settled { IsSettledStage S.device (Stage.On driver) }
     requires some { 1 ≤ lps }
-    requires off { mode ≡ mode.Off }
+    requires off { mode ≡ Off }
     ensures does { (group : List ℕ) → IsOn group driver.1 → Between S.device (Stage.On driver) result.stage (λ old new. MklvDoes (wanted name copies mode policy lps) group old new result.reply) }
     ensures goes { Between S.device (Stage.On driver) result.stage (GoesOn driver.1.history.run result.reply) }
     ensures rooms { without_facts (history_in result.stage) ≡ without_facts driver.1.history }
@@ -147,7 +147,7 @@ fn remove_volume<S: Shelf>(alloc: Global, driver: Driver<S>, lv: u16) -> Answere
     let mut patience = Patience::whole();
     match rmlv(alloc, &mut driver, lv, &mut patience) {
         Ok(()) => Stage::On { driver }.answered(Reply::Ok),
-        Err(why) => after(driver, why).refused(refusal_for(why)),
+        Err(fault) => after(driver, fault).refused(refusal_for(fault)),
     }
 }
 
@@ -164,7 +164,7 @@ pub fn do_mklv<S: Shelf>(
 ) -> Answered<S>
     requires settled { IsSettledStage S.device stage }
     requires some { 1 ≤ lps }
-    requires off { mode ≡ mode.Off }
+    requires off { mode ≡ Off }
     ensures does { Between S.device stage result.stage (λ old new. MklvDoes (wanted name copies mode policy lps) group old new result.reply) }
     ensures goes { Between S.device stage result.stage (GoesOn (history_in stage).run result.reply) }
     ensures rooms { without_facts (history_in result.stage) ≡ without_facts (history_in stage) }

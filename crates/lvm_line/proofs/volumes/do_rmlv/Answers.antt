@@ -14,8 +14,8 @@ use Rattle.lvm_line.proofs.volumes.do_rmlv.Goals as goal
 pub returns-in-Off-clause-goes : goal.returns-in-Off-clause-goes
 returns-in-Off-clause-goes g c = stays g.S.Shelf.device c.args.stage c.refused.result.stage (history_in c.args.stage).run c.refused.result.reply c.requires.settled (c.refused.ensures.stage ∙ sym c.in-Off.is)
 
-pub remove_volume-requires-clause-settled : goal.remove_volume-requires-clause-settled
-remove_volume-requires-clause-settled g c = settled_as g.S.Shelf.device c.args.stage (stage.On c.in-On.driver) c.in-On.is c.requires.settled
+pub remove_volume-requires : goal.remove_volume-requires
+remove_volume-requires g c = record { settled = settled_as g.S.Shelf.device c.args.stage (stage.On c.in-On.driver) c.in-On.is c.requires.settled }
 
 pub returns-in-Some-clause-does : goal.returns-in-Some-clause-does
 returns-in-Some-clause-does g c =

@@ -14,7 +14,7 @@ use Rattle.lvm_line.specs.declared.stage.Stage.TheVariants as stage
 use Rattle.lvm_line.proofs.Commanding.{Promised, session_of, rooms_stay}
 use Rattle.lvm_line.proofs.Ending.{Facts, mklv_facts, dark_still, lit_still}
 use Rattle.lvm_line.proofs.Landing.{mklv_landed}
-use Rattle.lvm_line.proofs.Volumes.{LeftSo, made_does, unmade_does, answered_goes, failed_goes, failed_orders}
+use Rattle.lvm_line.proofs.OfVolumes.{LeftSo, made_does, unmade_does, answered_goes, failed_goes, failed_orders}
 use Rattle.lvm_line.proofs.volumes.make_volume.Goals as goal
 
 pub mklv-requires-clause-settled : goal.mklv-requires-clause-settled
@@ -31,7 +31,7 @@ after-requires-clause-lit g c = λ ends other.
 pub returns-in-Ok-clause-does : goal.returns-in-Ok-clause-does
 returns-in-Ok-clause-does g c = λ group on.
     made_does g.S.Shelf.device c.args.driver c.mklv.new.driver c.requires.settled (wanted c.args.name c.args.copies c.args.mode c.args.policy c.args.lps) group c.in-Ok.field-0 c.answered.result.stage c.answered.result.reply c.answered.ensures.stage c.answered.ensures.reply
-    (subst (λ (n : ℕ). MklvGives (wanted c.args.name c.args.copies c.args.mode c.args.policy c.args.lps) n (session_of g.S.Shelf.device c.args.driver) (session_of g.S.Shelf.device c.mklv.new.driver) (Ok c.in-Ok.field-0)) c.whole-patience.ensures c.in-Ok.ensures.gives) on
+    ((subst (λ (n : ℕ). MklvGives (wanted c.args.name c.args.copies c.args.mode c.args.policy c.args.lps) n (session_of g.S.Shelf.device c.args.driver) (session_of g.S.Shelf.device c.mklv.new.driver) (Ok c.in-Ok.field-0)) c.whole-patience.ensures c.in-Ok.ensures.gives), c.mklv.ensures.finds) on
 
 pub returns-in-Ok-clause-goes : goal.returns-in-Ok-clause-goes
 returns-in-Ok-clause-goes g c =
@@ -76,7 +76,7 @@ returns-in-Err-clause-does g c = λ group on.
       on = λ goes. c.refused.ensures.stage ∙ c.after.ensures.on goes;
       history = ap (λ (s : Stage g.row.S.Denot). history_in s) c.refused.ensures.stage ∙ c.after.ensures.history;
     } in
-    unmade_does g.S.Shelf.device c.args.driver c.mklv.new.driver c.requires.settled (wanted c.args.name c.args.copies c.args.mode c.args.policy c.args.lps) group c.in-Err.why c.refused.result.stage c.refused.result.reply so (c.refused.ensures.reply ∙ ap (λ (r : Refusal). reply.Refused r) c.refusal_for.ensures) (subst (λ (n : ℕ). MklvGives (wanted c.args.name c.args.copies c.args.mode c.args.policy c.args.lps) n (session_of g.S.Shelf.device c.args.driver) (session_of g.S.Shelf.device c.mklv.new.driver) (Err c.in-Err.why)) c.whole-patience.ensures c.in-Err.ensures.gives) on
+    unmade_does g.S.Shelf.device c.args.driver c.mklv.new.driver c.requires.settled (wanted c.args.name c.args.copies c.args.mode c.args.policy c.args.lps) group c.in-Err.why c.refused.result.stage c.refused.result.reply so (c.refused.ensures.reply ∙ ap (λ (r : Refusal). reply.Refused r) c.refusal_for.ensures) ((subst (λ (n : ℕ). MklvGives (wanted c.args.name c.args.copies c.args.mode c.args.policy c.args.lps) n (session_of g.S.Shelf.device c.args.driver) (session_of g.S.Shelf.device c.mklv.new.driver) (Err c.in-Err.why)) c.whole-patience.ensures c.in-Err.ensures.gives), c.mklv.ensures.finds) on
 
 pub returns-in-Err-clause-goes : goal.returns-in-Err-clause-goes
 returns-in-Err-clause-goes g c =

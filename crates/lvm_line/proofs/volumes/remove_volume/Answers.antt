@@ -14,24 +14,24 @@ use Rattle.lvm_line.specs.declared.stage.Stage.TheVariants as stage
 use Rattle.lvm_line.proofs.Commanding.{Promised, session_of, rooms_stay}
 use Rattle.lvm_line.proofs.Ending.{Facts, rmlv_facts, dark_still, lit_still}
 use Rattle.lvm_line.proofs.Landing.{rmlv_landed}
-use Rattle.lvm_line.proofs.Volumes.{LeftSo, removed_does, unremoved_does, answered_goes, failed_goes, failed_orders}
+use Rattle.lvm_line.proofs.OfVolumes.{LeftSo, removed_does, unremoved_does, answered_goes, failed_goes, failed_orders}
 use Rattle.lvm_line.proofs.volumes.remove_volume.Goals as goal
 
-pub rmlv-requires-clause-settled : goal.rmlv-requires-clause-settled
-rmlv-requires-clause-settled g c = λ takes. c.requires.settled.session
+pub rmlv-requires : goal.rmlv-requires
+rmlv-requires g c = record { settled = λ takes. c.requires.settled.session }
 
 pub after-requires-clause-dark : goal.after-requires-clause-dark
 after-requires-clause-dark g c = λ dark.
-    dark_still patience_of_line (session_of g.S.Shelf.device c.args.driver) (session_of g.S.Shelf.device c.rmlv.new.driver) c.in-Err.why (rmlv_facts c.args.lv patience_of_line (session_of g.S.Shelf.device c.args.driver) (session_of g.S.Shelf.device c.rmlv.new.driver) c.requires.settled.session.power c.in-Err.why (subst (λ (n : ℕ). RmlvGives c.args.lv n (session_of g.S.Shelf.device c.args.driver) (session_of g.S.Shelf.device c.rmlv.new.driver) (Err c.in-Err.why)) c.whole-patience.ensures c.in-Err.ensures.gives)) dark
+    dark_still patience_of_line (session_of g.S.Shelf.device c.args.driver) (session_of g.S.Shelf.device c.rmlv.new.driver) c.in-Err.fault (rmlv_facts c.args.lv patience_of_line (session_of g.S.Shelf.device c.args.driver) (session_of g.S.Shelf.device c.rmlv.new.driver) c.requires.settled.session.power c.in-Err.fault (subst (λ (n : ℕ). RmlvGives c.args.lv n (session_of g.S.Shelf.device c.args.driver) (session_of g.S.Shelf.device c.rmlv.new.driver) (Err c.in-Err.fault)) c.whole-patience.ensures c.in-Err.ensures.gives)) dark
 
 pub after-requires-clause-lit : goal.after-requires-clause-lit
 after-requires-clause-lit g c = λ ends other.
-    lit_still patience_of_line (session_of g.S.Shelf.device c.args.driver) (session_of g.S.Shelf.device c.rmlv.new.driver) c.in-Err.why (rmlv_facts c.args.lv patience_of_line (session_of g.S.Shelf.device c.args.driver) (session_of g.S.Shelf.device c.rmlv.new.driver) c.requires.settled.session.power c.in-Err.why (subst (λ (n : ℕ). RmlvGives c.args.lv n (session_of g.S.Shelf.device c.args.driver) (session_of g.S.Shelf.device c.rmlv.new.driver) (Err c.in-Err.why)) c.whole-patience.ensures c.in-Err.ensures.gives)) ends other
+    lit_still patience_of_line (session_of g.S.Shelf.device c.args.driver) (session_of g.S.Shelf.device c.rmlv.new.driver) c.in-Err.fault (rmlv_facts c.args.lv patience_of_line (session_of g.S.Shelf.device c.args.driver) (session_of g.S.Shelf.device c.rmlv.new.driver) c.requires.settled.session.power c.in-Err.fault (subst (λ (n : ℕ). RmlvGives c.args.lv n (session_of g.S.Shelf.device c.args.driver) (session_of g.S.Shelf.device c.rmlv.new.driver) (Err c.in-Err.fault)) c.whole-patience.ensures c.in-Err.ensures.gives)) ends other
 
 pub returns-in-Ok-clause-does : goal.returns-in-Ok-clause-does
 returns-in-Ok-clause-does g c = λ name its.
     removed_does g.S.Shelf.device c.args.driver c.rmlv.new.driver c.requires.settled c.args.lv name c.answered.result.stage c.answered.result.reply c.answered.ensures.stage c.answered.ensures.reply
-    (subst (λ (n : ℕ). RmlvGives c.args.lv n (session_of g.S.Shelf.device c.args.driver) (session_of g.S.Shelf.device c.rmlv.new.driver) (Ok tt)) c.whole-patience.ensures c.in-Ok.ensures.gives) its
+    ((subst (λ (n : ℕ). RmlvGives c.args.lv n (session_of g.S.Shelf.device c.args.driver) (session_of g.S.Shelf.device c.rmlv.new.driver) (Ok tt)) c.whole-patience.ensures c.in-Ok.ensures.gives), c.rmlv.ensures.finds) its
 
 pub returns-in-Ok-clause-goes : goal.returns-in-Ok-clause-goes
 returns-in-Ok-clause-goes g c =
@@ -71,16 +71,16 @@ returns-in-Ok-clause-orders g c = ap (λ (s : Stage g.row.S.Denot). (g.S.Shelf.d
 
 pub returns-in-Err-clause-does : goal.returns-in-Err-clause-does
 returns-in-Err-clause-does g c = λ name its.
-    let so : LeftSo g.S.Shelf.device c.rmlv.new.driver c.in-Err.why c.refused.result.stage = record {
+    let so : LeftSo g.S.Shelf.device c.rmlv.new.driver c.in-Err.fault c.refused.result.stage = record {
       over = λ ends last. subst (λ (s : Stage g.row.S.Denot). IsOver (session_of g.S.Shelf.device c.rmlv.new.driver) (state_in g.S.Shelf.device s last)) (sym c.refused.ensures.stage) (c.after.ensures.over ends last);
       on = λ goes. c.refused.ensures.stage ∙ c.after.ensures.on goes;
       history = ap (λ (s : Stage g.row.S.Denot). history_in s) c.refused.ensures.stage ∙ c.after.ensures.history;
     } in
-    unremoved_does g.S.Shelf.device c.args.driver c.rmlv.new.driver c.requires.settled c.args.lv name c.in-Err.why c.refused.result.stage c.refused.result.reply so (c.refused.ensures.reply ∙ ap (λ (r : Refusal). reply.Refused r) c.refusal_for.ensures) (subst (λ (n : ℕ). RmlvGives c.args.lv n (session_of g.S.Shelf.device c.args.driver) (session_of g.S.Shelf.device c.rmlv.new.driver) (Err c.in-Err.why)) c.whole-patience.ensures c.in-Err.ensures.gives) its
+    unremoved_does g.S.Shelf.device c.args.driver c.rmlv.new.driver c.requires.settled c.args.lv name c.in-Err.fault c.refused.result.stage c.refused.result.reply so (c.refused.ensures.reply ∙ ap (λ (r : Refusal). reply.Refused r) c.refusal_for.ensures) ((subst (λ (n : ℕ). RmlvGives c.args.lv n (session_of g.S.Shelf.device c.args.driver) (session_of g.S.Shelf.device c.rmlv.new.driver) (Err c.in-Err.fault)) c.whole-patience.ensures c.in-Err.ensures.gives), c.rmlv.ensures.finds) its
 
 pub returns-in-Err-clause-goes : goal.returns-in-Err-clause-goes
 returns-in-Err-clause-goes g c =
-    let so : LeftSo g.S.Shelf.device c.rmlv.new.driver c.in-Err.why c.refused.result.stage = record {
+    let so : LeftSo g.S.Shelf.device c.rmlv.new.driver c.in-Err.fault c.refused.result.stage = record {
       over = λ ends last. subst (λ (s : Stage g.row.S.Denot). IsOver (session_of g.S.Shelf.device c.rmlv.new.driver) (state_in g.S.Shelf.device s last)) (sym c.refused.ensures.stage) (c.after.ensures.over ends last);
       on = λ goes. c.refused.ensures.stage ∙ c.after.ensures.on goes;
       history = ap (λ (s : Stage g.row.S.Denot). history_in s) c.refused.ensures.stage ∙ c.after.ensures.history;
@@ -94,8 +94,8 @@ returns-in-Err-clause-goes g c =
       behind = c.rmlv.ensures.behind;
       waits = c.rmlv.ensures.waited.later;
     } in
-    let landed = rmlv_landed c.args.lv patience_of_line (session_of g.S.Shelf.device c.args.driver) (session_of g.S.Shelf.device c.rmlv.new.driver) c.requires.settled.landed (Err c.in-Err.why) (subst (λ (n : ℕ). RmlvGives c.args.lv n (session_of g.S.Shelf.device c.args.driver) (session_of g.S.Shelf.device c.rmlv.new.driver) (Err c.in-Err.why)) c.whole-patience.ensures c.in-Err.ensures.gives) in
-    failed_goes g.S.Shelf.device c.args.driver c.rmlv.new.driver c.requires.settled promised landed c.in-Err.why c.refused.result.stage c.refused.result.reply so (c.refused.ensures.reply ∙ ap (λ (r : Refusal). reply.Refused r) c.refusal_for.ensures) (rmlv_facts c.args.lv patience_of_line (session_of g.S.Shelf.device c.args.driver) (session_of g.S.Shelf.device c.rmlv.new.driver) c.requires.settled.session.power c.in-Err.why (subst (λ (n : ℕ). RmlvGives c.args.lv n (session_of g.S.Shelf.device c.args.driver) (session_of g.S.Shelf.device c.rmlv.new.driver) (Err c.in-Err.why)) c.whole-patience.ensures c.in-Err.ensures.gives))
+    let landed = rmlv_landed c.args.lv patience_of_line (session_of g.S.Shelf.device c.args.driver) (session_of g.S.Shelf.device c.rmlv.new.driver) c.requires.settled.landed (Err c.in-Err.fault) (subst (λ (n : ℕ). RmlvGives c.args.lv n (session_of g.S.Shelf.device c.args.driver) (session_of g.S.Shelf.device c.rmlv.new.driver) (Err c.in-Err.fault)) c.whole-patience.ensures c.in-Err.ensures.gives) in
+    failed_goes g.S.Shelf.device c.args.driver c.rmlv.new.driver c.requires.settled promised landed c.in-Err.fault c.refused.result.stage c.refused.result.reply so (c.refused.ensures.reply ∙ ap (λ (r : Refusal). reply.Refused r) c.refusal_for.ensures) (rmlv_facts c.args.lv patience_of_line (session_of g.S.Shelf.device c.args.driver) (session_of g.S.Shelf.device c.rmlv.new.driver) c.requires.settled.session.power c.in-Err.fault (subst (λ (n : ℕ). RmlvGives c.args.lv n (session_of g.S.Shelf.device c.args.driver) (session_of g.S.Shelf.device c.rmlv.new.driver) (Err c.in-Err.fault)) c.whole-patience.ensures c.in-Err.ensures.gives))
     (c.in-Err.ensures.settled (record { on = c.requires.settled.session.power; requests = c.requires.settled.session.quiet.requests })) c.in-Err.ensures.held
 
 pub returns-in-Err-clause-rooms : goal.returns-in-Err-clause-rooms
@@ -113,7 +113,7 @@ returns-in-Err-clause-rooms g c =
 
 pub returns-in-Err-clause-orders : goal.returns-in-Err-clause-orders
 returns-in-Err-clause-orders g c =
-    let so : LeftSo g.S.Shelf.device c.rmlv.new.driver c.in-Err.why c.refused.result.stage = record {
+    let so : LeftSo g.S.Shelf.device c.rmlv.new.driver c.in-Err.fault c.refused.result.stage = record {
       over = λ ends last. subst (λ (s : Stage g.row.S.Denot). IsOver (session_of g.S.Shelf.device c.rmlv.new.driver) (state_in g.S.Shelf.device s last)) (sym c.refused.ensures.stage) (c.after.ensures.over ends last);
       on = λ goes. c.refused.ensures.stage ∙ c.after.ensures.on goes;
       history = ap (λ (s : Stage g.row.S.Denot). history_in s) c.refused.ensures.stage ∙ c.after.ensures.history;
@@ -127,4 +127,4 @@ returns-in-Err-clause-orders g c =
       behind = c.rmlv.ensures.behind;
       waits = c.rmlv.ensures.waited.later;
     } in
-    failed_orders g.S.Shelf.device c.args.driver c.rmlv.new.driver c.requires.settled promised (rmlv_landed c.args.lv patience_of_line (session_of g.S.Shelf.device c.args.driver) (session_of g.S.Shelf.device c.rmlv.new.driver) c.requires.settled.landed (Err c.in-Err.why) (subst (λ (n : ℕ). RmlvGives c.args.lv n (session_of g.S.Shelf.device c.args.driver) (session_of g.S.Shelf.device c.rmlv.new.driver) (Err c.in-Err.why)) c.whole-patience.ensures c.in-Err.ensures.gives)) c.in-Err.why c.refused.result.stage so (rmlv_facts c.args.lv patience_of_line (session_of g.S.Shelf.device c.args.driver) (session_of g.S.Shelf.device c.rmlv.new.driver) c.requires.settled.session.power c.in-Err.why (subst (λ (n : ℕ). RmlvGives c.args.lv n (session_of g.S.Shelf.device c.args.driver) (session_of g.S.Shelf.device c.rmlv.new.driver) (Err c.in-Err.why)) c.whole-patience.ensures c.in-Err.ensures.gives))
+    failed_orders g.S.Shelf.device c.args.driver c.rmlv.new.driver c.requires.settled promised (rmlv_landed c.args.lv patience_of_line (session_of g.S.Shelf.device c.args.driver) (session_of g.S.Shelf.device c.rmlv.new.driver) c.requires.settled.landed (Err c.in-Err.fault) (subst (λ (n : ℕ). RmlvGives c.args.lv n (session_of g.S.Shelf.device c.args.driver) (session_of g.S.Shelf.device c.rmlv.new.driver) (Err c.in-Err.fault)) c.whole-patience.ensures c.in-Err.ensures.gives)) c.in-Err.fault c.refused.result.stage so (rmlv_facts c.args.lv patience_of_line (session_of g.S.Shelf.device c.args.driver) (session_of g.S.Shelf.device c.rmlv.new.driver) c.requires.settled.session.power c.in-Err.fault (subst (λ (n : ℕ). RmlvGives c.args.lv n (session_of g.S.Shelf.device c.args.driver) (session_of g.S.Shelf.device c.rmlv.new.driver) (Err c.in-Err.fault)) c.whole-patience.ensures c.in-Err.ensures.gives))

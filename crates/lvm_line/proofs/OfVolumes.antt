@@ -10,13 +10,12 @@ use Rattle.lvm_group.specs.declared.fault.GroupFault.{GroupFault}
 use Rattle.lvm_group.specs.declared.fault.GroupFault.TheVariants as fault
 use Rattle.lvm_group.specs.declared.new_volume.NewVolume.{NewVolume}
 use Rattle.lvm_group.specs.Endings.{IfOn, StillHeld}
-use Rattle.lvm_group.specs.Volumes.{MklvGives, RmlvGives}
 use Rattle.lvm_line.specs.Disks.{patience_of_line}
 use Rattle.lvm_line.specs.Listings.{IsOn}
 use Rattle.lvm_line.specs.Moments.{GoesOn}
 use Rattle.lvm_line.specs.Stages.{shelf_in, history_in, session_in, state_in, IsSettledStage, Between}
 use Rattle.lvm_line.specs.State.{State, without_facts}
-use Rattle.lvm_line.specs.Volumes.{IsDone, IsLeft, IsOver, StaysOn, MklvDoes, MakesVolume, MklvFails, RmlvDoes, RemovesVolume, RmlvFails, ends_session, refusal_for}
+use Rattle.lvm_line.specs.Volumes.{IsDone, IsLeft, IsOver, StaysOn, MklvEnds, RmlvEnds, MklvDoes, MakesVolume, MklvFails, RmlvDoes, RemovesVolume, RmlvFails, ends_session, refusal_for}
 use Rattle.lvm_line.specs.declared.reply.Reply.{Reply}
 use Rattle.lvm_line.specs.declared.reply.Reply.TheVariants as reply
 use Rattle.lvm_line.specs.declared.stage.Stage.{Stage}
@@ -58,21 +57,21 @@ module _ {S : Type 0} (device : S → Device) (was is : S × Core) (settled : Is
       go true ends = so.over ends last
       go false goes = stays it (so.on goes) last
 
-  pub made_does : (w : NewVolume) (group : List ℕ) (number : ℕ) (it : Stage S) (answer : Reply) → it ≡ stage.On is → answer ≡ reply.Ok → MklvGives w patience_of_line (session_of device was) (session_of device is) (Ok number) → IsOn group was.1
+  pub made_does : (w : NewVolume) (group : List ℕ) (number : ℕ) (it : Stage S) (answer : Reply) → it ≡ stage.On is → answer ≡ reply.Ok → MklvEnds w (Ok number) (session_of device was) (session_of device is) → IsOn group was.1
       → Between device (stage.On was) it (λ old new. MklvDoes w group old new answer)
-  made_does w group number it answer same says gives on = λ last. MakesVolume was.1 number refl on (record { on = settled.session.power; left = session_of device is; gives = gives; leaves = stays it same last; clock = refl }) says
+  made_does w group number it answer same says ends on = λ last. MakesVolume was.1 number refl on (record { on = settled.session.power; left = session_of device is; ends = ends; leaves = stays it same last; clock = refl }) says
 
-  pub unmade_does : (w : NewVolume) (group : List ℕ) (why : GroupFault) (it : Stage S) (answer : Reply) → LeftSo device is why it → answer ≡ reply.Refused (refusal_for why) → MklvGives w patience_of_line (session_of device was) (session_of device is) (Err why) → IsOn group was.1
+  pub unmade_does : (w : NewVolume) (group : List ℕ) (why : GroupFault) (it : Stage S) (answer : Reply) → LeftSo device is why it → answer ≡ reply.Refused (refusal_for why) → MklvEnds w (Err why) (session_of device was) (session_of device is) → IsOn group was.1
       → Between device (stage.On was) it (λ old new. MklvDoes w group old new answer)
-  unmade_does w group why it answer so says gives on = λ last. MklvFails was.1 why refl on (record { on = settled.session.power; left = session_of device is; gives = gives; leaves = left why it so last; clock = refl }) says
+  unmade_does w group why it answer so says ends on = λ last. MklvFails was.1 why refl on (record { on = settled.session.power; left = session_of device is; ends = ends; leaves = left why it so last; clock = refl }) says
 
-  pub removed_does : (lv : ℕ) (name : List ℕ) (it : Stage S) (answer : Reply) → it ≡ stage.On is → answer ≡ reply.Ok → RmlvGives lv patience_of_line (session_of device was) (session_of device is) (Ok tt) → IsNumberOf was.1.descriptor.lvs name lv
+  pub removed_does : (lv : ℕ) (name : List ℕ) (it : Stage S) (answer : Reply) → it ≡ stage.On is → answer ≡ reply.Ok → RmlvEnds lv (Ok tt) (session_of device was) (session_of device is) → IsNumberOf was.1.descriptor.lvs name lv
       → Between device (stage.On was) it (λ old new. RmlvDoes name old new answer)
-  removed_does lv name it answer same says gives its = λ last. RemovesVolume was.1 lv refl its (record { on = settled.session.power; left = session_of device is; gives = gives; leaves = stays it same last; clock = refl }) says
+  removed_does lv name it answer same says ends its = λ last. RemovesVolume was.1 lv refl its (record { on = settled.session.power; left = session_of device is; ends = ends; leaves = stays it same last; clock = refl }) says
 
-  pub unremoved_does : (lv : ℕ) (name : List ℕ) (why : GroupFault) (it : Stage S) (answer : Reply) → LeftSo device is why it → answer ≡ reply.Refused (refusal_for why) → RmlvGives lv patience_of_line (session_of device was) (session_of device is) (Err why)
+  pub unremoved_does : (lv : ℕ) (name : List ℕ) (why : GroupFault) (it : Stage S) (answer : Reply) → LeftSo device is why it → answer ≡ reply.Refused (refusal_for why) → RmlvEnds lv (Err why) (session_of device was) (session_of device is)
       → IsNumberOf was.1.descriptor.lvs name lv → Between device (stage.On was) it (λ old new. RmlvDoes name old new answer)
-  unremoved_does lv name why it answer so says gives its = λ last. RmlvFails was.1 lv why refl its (record { on = settled.session.power; left = session_of device is; gives = gives; leaves = left why it so last; clock = refl }) says
+  unremoved_does lv name why it answer so says ends its = λ last. RmlvFails was.1 lv why refl its (record { on = settled.session.power; left = session_of device is; ends = ends; leaves = left why it so last; clock = refl }) says
 
   module _ (promised : Promised (session_of device was) (session_of device is)) (landed : HaveAllLanded is.1.history.facts) where
     pub answered_goes : (it : Stage S) (answer : Reply) → it ≡ stage.On is → Continues (session_of device was) (session_of device is) → Between device (stage.On was) it (GoesOn was.1.history.run answer)
