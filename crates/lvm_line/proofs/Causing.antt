@@ -169,12 +169,12 @@ known log room (Ok (Some (command.Lsvg volumes name))) why old new (ListsGroup c
 known log room (Ok (Some (command.Mklv name copies mode policy group lps))) why old new (NoGroupForMklv none is) = by_reply _ why refusal.NoGroup old new is.0 (easy _ refusal.NoGroup old new tt (λ e. cc) (λ h t e. cc))
 known log room (Ok (Some (command.Mklv name copies mode policy group lps))) why old new (MakesVolume core number some on done is) = absurd (cc (is))
 known log room (Ok (Some (command.Mklv name copies mode policy group lps))) why old new (MklvFails core reason some on done is) =
-    by_reply _ why (refusal_for reason) old new is (known_group (Ok (Some (command.Mklv name copies mode policy group lps))) (λ d a b rose. rose) reason old new core done.left some (mklv_facts (wanted name copies mode policy lps) patience_of_line (state old.moment.device core) done.left done.on reason done.ends.0) done.leaves)
+    by_reply _ why (refusal_for reason) old new is (known_group (Ok (Some (command.Mklv name copies mode policy group lps))) (λ d a b rose. rose) reason old new core done.left some (mklv_facts (wanted name copies mode policy lps) patience_of_line (state old.moment.device core) done.left done.on reason done.gives) done.leaves)
 known log room (Ok (Some (command.Rmlv name))) why old new (NoGroupForRmlv none is) = by_reply _ why refusal.NoGroup old new is.0 (easy _ refusal.NoGroup old new tt (λ e. cc) (λ h t e. cc))
 known log room (Ok (Some (command.Rmlv name))) why old new (NoVolumeForRmlv core some none is) = by_reply _ why refusal.NoVolume old new is.0 (easy _ refusal.NoVolume old new tt (λ e. cc) (λ h t e. cc))
 known log room (Ok (Some (command.Rmlv name))) why old new (RemovesVolume core lv some its done is) = absurd (cc (is))
 known log room (Ok (Some (command.Rmlv name))) why old new (RmlvFails core lv reason some its done is) =
-    by_reply _ why (refusal_for reason) old new is (known_group (Ok (Some (command.Rmlv name))) (λ d a b rose. rose) reason old new core done.left some (rmlv_facts lv patience_of_line (state old.moment.device core) done.left done.on reason done.ends.0) done.leaves)
+    by_reply _ why (refusal_for reason) old new is (known_group (Ok (Some (command.Rmlv name))) (λ d a b rose. rose) reason old new core done.left some (rmlv_facts lv patience_of_line (state old.moment.device core) done.left done.on reason done.gives) done.leaves)
 known log room (Ok (Some (command.Lslv name))) why old new (NoGroupForVolume none is, same) = by_reply _ why refusal.NoGroup old new is (easy _ refusal.NoGroup old new tt (λ e. cc) (λ h t e. cc))
 known log room (Ok (Some (command.Lslv name))) why old new (NoSuchVolume core some none is, same) = by_reply _ why refusal.NoVolume old new is (easy _ refusal.NoVolume old new tt (λ e. cc) (λ h t e. cc))
 known log room (Ok (Some (command.Lslv name))) why old new (ListsVolume core lv some its shows, same) = of_shows _ _ why old new shows

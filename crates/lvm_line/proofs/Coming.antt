@@ -69,6 +69,7 @@ pub record LitUp (answer : Reply) (left new : Device) : Type 0 where
   pub waits : new.counts.waits ≡ left.counts.waits
   pub keeps : (run : ℕ) (first : Moment) (facts : List Fact) → Keeps run first (at left facts) → Keeps run first (at new facts)
   pub behind : (m : ℕ) → IsBehind m left → IsBehind m new
+  pub fewer : LeavesNoMore left new
 
 pub at_rest : (answer : Reply) (left new : Device) → IsReady left → new ≡ left → LitUp answer left new
 at_rest answer left new ready same = subst (λ (d : Device). LitUp answer left d) (sym same) (record {
@@ -78,6 +79,7 @@ at_rest answer left new ready same = subst (λ (d : Device). LitUp answer left d
   waits = refl;
   keeps = λ run first facts keeps. keeps;
   behind = λ m behind. behind;
+  fewer = λ image may. may;
 })
 
 pub lit_up : (why : Cause) (left new : Device) → Rests why left → IsLit why left new → LitUp (reply.Refused (refusal_of why)) left new
@@ -90,6 +92,7 @@ lit_up cause.Dark left new still lit =
       waits = ap (λ (d : Device). d.counts.waits) lit;
       keeps = λ run first facts keeps. keeps_steps run first left new facts keeps path;
       behind = λ m behind. no_more_stays_behind m left new still (last-path path) behind;
+      fewer = last-path path;
     }
 lit_up cause.Stuck left new power same = subst (λ (d : Device). LitUp (reply.Refused refusal.Stuck) left d) (sym same) (record {
   ready = λ goes. absurd (goes refl);
@@ -98,6 +101,7 @@ lit_up cause.Stuck left new power same = subst (λ (d : Device). LitUp (reply.Re
   waits = refl;
   keeps = λ run first facts keeps. keeps;
   behind = λ m behind. behind;
+  fewer = λ image may. may;
 })
 lit_up (cause.NoDisk disk) left new ready same = at_rest (reply.Refused (refusal.NoDisk disk)) left new ready same
 lit_up (cause.TooMany limit) left new ready same = at_rest (reply.Refused (refusal.TooMany limit)) left new ready same

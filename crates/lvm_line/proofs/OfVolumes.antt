@@ -1,21 +1,18 @@
 -- `mklv` and `rmlv` on the session of the group that is on.
 use Rattle.std.proofs.Common.{◌≡◌, ◌≤◌, ℕ, List, Bool, true, false, IsTrue, IsFalse, Option, Some, None, Result, Ok, Err, refl, sym, ◌∙◌, ap, subst}
+use Rattle.lvm_num.specs.declared.descriptor.Descriptor.{Descriptor}
 use Rattle.lvm_disk.specs.Device.{Device}
-use Rattle.lvm_core.specs.declared.request.Power.TheVariants as power
-use Rattle.lvm_core.specs.Looking.{IsNumberOf}
 use Rattle.lvm_core.specs.Settled.{IsSettled as IsSettledCore}
 use Rattle.lvm_core.specs.Sound.{HaveAllLanded}
-use Rattle.lvm_core.specs.State.{Core, State as Session}
+use Rattle.lvm_core.specs.State.{Core, State as Session, state}
 use Rattle.lvm_group.specs.declared.fault.GroupFault.{GroupFault}
 use Rattle.lvm_group.specs.declared.fault.GroupFault.TheVariants as fault
-use Rattle.lvm_group.specs.declared.new_volume.NewVolume.{NewVolume}
-use Rattle.lvm_group.specs.Endings.{IfOn, StillHeld}
+use Rattle.lvm_group.specs.Endings.{IfOn, StillHeld, FindsOnly}
 use Rattle.lvm_line.specs.Disks.{patience_of_line}
-use Rattle.lvm_line.specs.Listings.{IsOn}
 use Rattle.lvm_line.specs.Moments.{GoesOn}
 use Rattle.lvm_line.specs.Stages.{shelf_in, history_in, session_in, state_in, IsSettledStage, Between}
 use Rattle.lvm_line.specs.State.{State, without_facts}
-use Rattle.lvm_line.specs.Volumes.{IsDone, IsLeft, IsOver, StaysOn, MklvEnds, RmlvEnds, MklvDoes, MakesVolume, MklvFails, RmlvDoes, RemovesVolume, RmlvFails, ends_session, refusal_for}
+use Rattle.lvm_line.specs.Volumes.{IsDone, IsOver, StaysOn, ends_session, refusal_for}
 use Rattle.lvm_line.specs.declared.reply.Reply.{Reply}
 use Rattle.lvm_line.specs.declared.reply.Reply.TheVariants as reply
 use Rattle.lvm_line.specs.declared.stage.Stage.{Stage}
@@ -50,28 +47,33 @@ module _ {S : Type 0} (device : S → Device) (was is : S × Core) (settled : Is
   stays : (it : Stage S) → it ≡ stage.On is → (last : ℕ) → StaysOn (session_of device is) (state_in device it last)
   stays it same last = subst (λ (s : Stage S). StaysOn (session_of device is) (state_in device s last)) (sym same) (record { device = refl; facts = refl; session = refl })
 
-  left : (why : GroupFault) (it : Stage S) → LeftSo device is why it → (last : ℕ) → IsLeft (ends_session why) (session_of device is) (state_in device it last)
-  left why it so last = go (ends_session why) refl
-    where
-      go : (b : Bool) → ends_session why ≡ b → IsLeft b (session_of device is) (state_in device it last)
-      go true ends = so.over ends last
-      go false goes = stays it (so.on goes) last
+  -- by what was answered, and by what may be found afterwards
+  module _ (Gives : Session → Session → Type 0) (IsNext : Core → Descriptor → Type 0) (gives : Gives (session_of device was) (session_of device is)) (finds : FindsOnly (IsNext was.1) (session_of device was) (session_of device is)) where
+    pub answered_done : (it : Stage S) → it ≡ stage.On is → (last : ℕ) → IsDone Gives IsNext false was.1 (state_in device (stage.On was) last) (state_in device it last)
+    answered_done it same last = record {
+      on = settled.session.power;
+      left = session_of device is;
+      gives = gives;
+      leaves = stays it same last;
+      finds = subst (λ (s : Stage S). FindsOnly (IsNext was.1) (session_of device was) (state (device (shelf_in s)) is.1)) (sym same) finds;
+      clock = refl;
+    }
 
-  pub made_does : (w : NewVolume) (group : List ℕ) (number : ℕ) (it : Stage S) (answer : Reply) → it ≡ stage.On is → answer ≡ reply.Ok → MklvEnds w (Ok number) (session_of device was) (session_of device is) → IsOn group was.1
-      → Between device (stage.On was) it (λ old new. MklvDoes w group old new answer)
-  made_does w group number it answer same says ends on = λ last. MakesVolume was.1 number refl on (record { on = settled.session.power; left = session_of device is; ends = ends; leaves = stays it same last; clock = refl }) says
-
-  pub unmade_does : (w : NewVolume) (group : List ℕ) (why : GroupFault) (it : Stage S) (answer : Reply) → LeftSo device is why it → answer ≡ reply.Refused (refusal_for why) → MklvEnds w (Err why) (session_of device was) (session_of device is) → IsOn group was.1
-      → Between device (stage.On was) it (λ old new. MklvDoes w group old new answer)
-  unmade_does w group why it answer so says ends on = λ last. MklvFails was.1 why refl on (record { on = settled.session.power; left = session_of device is; ends = ends; leaves = left why it so last; clock = refl }) says
-
-  pub removed_does : (lv : ℕ) (name : List ℕ) (it : Stage S) (answer : Reply) → it ≡ stage.On is → answer ≡ reply.Ok → RmlvEnds lv (Ok tt) (session_of device was) (session_of device is) → IsNumberOf was.1.descriptor.lvs name lv
-      → Between device (stage.On was) it (λ old new. RmlvDoes name old new answer)
-  removed_does lv name it answer same says ends its = λ last. RemovesVolume was.1 lv refl its (record { on = settled.session.power; left = session_of device is; ends = ends; leaves = stays it same last; clock = refl }) says
-
-  pub unremoved_does : (lv : ℕ) (name : List ℕ) (why : GroupFault) (it : Stage S) (answer : Reply) → LeftSo device is why it → answer ≡ reply.Refused (refusal_for why) → RmlvEnds lv (Err why) (session_of device was) (session_of device is)
-      → IsNumberOf was.1.descriptor.lvs name lv → Between device (stage.On was) it (λ old new. RmlvDoes name old new answer)
-  unremoved_does lv name why it answer so says ends its = λ last. RmlvFails was.1 lv why refl its (record { on = settled.session.power; left = session_of device is; ends = ends; leaves = left why it so last; clock = refl }) says
+    pub failed_done : (why : GroupFault) (it : Stage S) → LeftSo device is why it → Facts why patience_of_line (session_of device was) (session_of device is) → (last : ℕ) → IsDone Gives IsNext (ends_session why) was.1 (state_in device (stage.On was) last) (state_in device it last)
+    failed_done why it so facts last = go (ends_session why) refl
+      where
+        go : (b : Bool) → ends_session why ≡ b → IsDone Gives IsNext b was.1 (state_in device (stage.On was) last) (state_in device it last)
+        go true ends =
+            let lit = lit_after patience_of_line (session_of device was) (session_of device is) why (device (shelf_in it)) facts ends (so.over ends last).lit in
+            record {
+              on = settled.session.power;
+              left = session_of device is;
+              gives = gives;
+              leaves = so.over ends last;
+              finds = λ held id k may. finds held id k (may.0, lit.fewer may.0 may.1, may.2);
+              clock = refl;
+            }
+        go false goes = answered_done it (so.on goes) last
 
   module _ (promised : Promised (session_of device was) (session_of device is)) (landed : HaveAllLanded is.1.history.facts) where
     pub answered_goes : (it : Stage S) (answer : Reply) → it ≡ stage.On is → Continues (session_of device was) (session_of device is) → Between device (stage.On was) it (GoesOn was.1.history.run answer)

@@ -1,5 +1,6 @@
 -- What the lines do that make or remove a volume of the group that is on.
 use Rattle.std.specs.Prelude.{◌≡◌, ℕ, Bool, true, false, List, Option, Some, None, Result, Ok, Err}
+use Rattle.lvm_num.specs.declared.descriptor.Descriptor.{Descriptor}
 use Rattle.lvm_num.specs.declared.descriptor.Mode.{Mode}
 use Rattle.lvm_num.specs.declared.descriptor.Policy.{Policy}
 use Rattle.lvm_move.specs.Transfer.{Relights}
@@ -74,32 +75,34 @@ IsLeft false left new = StaysOn left new
 abbrev pub wanted : List ℕ → ℕ → Mode → Policy → ℕ → NewVolume
 wanted name copies mode policy lps = record { name = name; copies = copies; mode = mode; policy = policy; lps = lps }
 
--- The group answers so, and afterwards no descriptor may be found that might not be before, but that with the volume,
-abbrev pub MklvEnds : NewVolume → Result ℕ GroupFault → Session → Session → Type 0
-MklvEnds w given was is = MklvGives w patience_of_line was is given × FindsOnly (IsWith w was.core) was is
-
--- or without it.
-abbrev pub RmlvEnds : ℕ → Result (Unit {0}) GroupFault → Session → Session → Type 0
-RmlvEnds lv given was is = RmlvGives lv patience_of_line was is given × FindsOnly (λ next. next ≡ without_volume was.core.descriptor lv) was is
-
--- The command on the session, which was on, was answered so, and the clock wasn't asked.
-pub record IsDone (Ends : Session → Session → Type 0) (over : Bool) (core : Core) (old new : State) : Type 0 where
+-- The command on the session, which was on, was answered so, the clock wasn't asked, and of descriptors none may be found then that might not be before,
+-- but the one that was to be committed.
+pub record IsDone (Gives : Session → Session → Type 0) (IsNext : Core → Descriptor → Type 0) (over : Bool) (core : Core) (old new : State) : Type 0 where
   pub on : core.power ≡ power.On
   pub left : Session
-  pub ends : Ends (state old.moment.device core) left
+  pub gives : Gives (state old.moment.device core) left
   pub leaves : IsLeft over left new
+  pub finds : FindsOnly (IsNext core) (state old.moment.device core) (state new.moment.device left.core)
   pub clock : new.last ≡ old.last
+
+-- so was `mklv`
+abbrev pub MklvEnds : NewVolume → Result ℕ GroupFault → Bool → Core → State → State → Type 0
+MklvEnds w given over core old new = IsDone (λ was is. MklvGives w patience_of_line was is given) (IsWith w) over core old new
+
+-- so was `rmlv`
+abbrev pub RmlvEnds : ℕ → Result (Unit {0}) GroupFault → Bool → Core → State → State → Type 0
+RmlvEnds lv given over core old new = IsDone (λ was is. RmlvGives lv patience_of_line was is given) (λ of next. next ≡ without_volume of.descriptor lv) over core old new
 
 -- `mklv`
 pub data MklvDoes (w : NewVolume) (group : List ℕ) (old new : State) (answer : Reply) : Type 0 where
   NoGroupForMklv : IsNotOn group old.session → IsRefused refusal.NoGroup answer old new → MklvDoes w group old new answer
-  MakesVolume : (core : Core) (number : ℕ) → old.session ≡ Some core → IsOn group core → IsDone (MklvEnds w (Ok number)) false core old new → answer ≡ reply.Ok → MklvDoes w group old new answer
-  MklvFails : (core : Core) (why : GroupFault) → old.session ≡ Some core → IsOn group core → IsDone (MklvEnds w (Err why)) (ends_session why) core old new → answer ≡ reply.Refused (refusal_for why) → MklvDoes w group old new answer
+  MakesVolume : (core : Core) (number : ℕ) → old.session ≡ Some core → IsOn group core → MklvEnds w (Ok number) false core old new → answer ≡ reply.Ok → MklvDoes w group old new answer
+  MklvFails : (core : Core) (why : GroupFault) → old.session ≡ Some core → IsOn group core → MklvEnds w (Err why) (ends_session why) core old new → answer ≡ reply.Refused (refusal_for why) → MklvDoes w group old new answer
 
 -- `rmlv`, of the volume that has the name
 pub data RmlvDoes (name : List ℕ) (old new : State) (answer : Reply) : Type 0 where
   NoGroupForRmlv : old.session ≡ None → IsRefused refusal.NoGroup answer old new → RmlvDoes name old new answer
   NoVolumeForRmlv : (core : Core) → old.session ≡ Some core → HasNoVolume core.descriptor.lvs name → IsRefused refusal.NoVolume answer old new → RmlvDoes name old new answer
-  RemovesVolume : (core : Core) (lv : ℕ) → old.session ≡ Some core → IsNumberOf core.descriptor.lvs name lv → IsDone (RmlvEnds lv (Ok tt)) false core old new → answer ≡ reply.Ok → RmlvDoes name old new answer
-  RmlvFails : (core : Core) (lv : ℕ) (why : GroupFault) → old.session ≡ Some core → IsNumberOf core.descriptor.lvs name lv → IsDone (RmlvEnds lv (Err why)) (ends_session why) core old new → answer ≡ reply.Refused (refusal_for why)
+  RemovesVolume : (core : Core) (lv : ℕ) → old.session ≡ Some core → IsNumberOf core.descriptor.lvs name lv → RmlvEnds lv (Ok tt) false core old new → answer ≡ reply.Ok → RmlvDoes name old new answer
+  RmlvFails : (core : Core) (lv : ℕ) (why : GroupFault) → old.session ≡ Some core → IsNumberOf core.descriptor.lvs name lv → RmlvEnds lv (Err why) (ends_session why) core old new → answer ≡ reply.Refused (refusal_for why)
       → RmlvDoes name old new answer

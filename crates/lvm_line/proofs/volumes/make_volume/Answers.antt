@@ -2,11 +2,11 @@ use Rattle.std.proofs.Common.{◌≡◌, ◌∙◌, ℕ, refl, sym, ap, subst, R
 use Rattle.lvm_core.specs.Sound.{HaveAllLanded}
 use Rattle.lvm_core.specs.State.{Core, State as Session}
 use Rattle.lvm_group.specs.declared.fault.GroupFault.{GroupFault}
-use Rattle.lvm_group.specs.Volumes.{MklvGives}
+use Rattle.lvm_group.specs.Volumes.{IsWith, MklvGives}
 use Rattle.lvm_line.specs.Disks.{patience_of_line}
 use Rattle.lvm_line.specs.Stages.{shelf_in, history_in, state_in}
 use Rattle.lvm_line.specs.State.{without_facts}
-use Rattle.lvm_line.specs.Volumes.{IsOver, wanted}
+use Rattle.lvm_line.specs.Volumes.{IsOver, MakesVolume, MklvFails, wanted}
 use Rattle.lvm_line.specs.declared.reply.Refusal.{Refusal}
 use Rattle.lvm_line.specs.declared.reply.Reply.TheVariants as reply
 use Rattle.lvm_line.specs.declared.stage.Stage.{Stage}
@@ -14,7 +14,7 @@ use Rattle.lvm_line.specs.declared.stage.Stage.TheVariants as stage
 use Rattle.lvm_line.proofs.Commanding.{Promised, session_of, rooms_stay}
 use Rattle.lvm_line.proofs.Ending.{Facts, mklv_facts, dark_still, lit_still}
 use Rattle.lvm_line.proofs.Landing.{mklv_landed}
-use Rattle.lvm_line.proofs.OfVolumes.{LeftSo, made_does, unmade_does, answered_goes, failed_goes, failed_orders}
+use Rattle.lvm_line.proofs.OfVolumes.{LeftSo, answered_done, failed_done, answered_goes, failed_goes, failed_orders}
 use Rattle.lvm_line.proofs.volumes.make_volume.Goals as goal
 
 pub mklv-requires-clause-settled : goal.mklv-requires-clause-settled
@@ -29,9 +29,10 @@ after-requires-clause-lit g c = λ ends other.
     lit_still patience_of_line (session_of g.S.Shelf.device c.args.driver) (session_of g.S.Shelf.device c.mklv.new.driver) c.in-Err.why (mklv_facts (wanted c.args.name c.args.copies c.args.mode c.args.policy c.args.lps) patience_of_line (session_of g.S.Shelf.device c.args.driver) (session_of g.S.Shelf.device c.mklv.new.driver) c.requires.settled.session.power c.in-Err.why (subst (λ (n : ℕ). MklvGives (wanted c.args.name c.args.copies c.args.mode c.args.policy c.args.lps) n (session_of g.S.Shelf.device c.args.driver) (session_of g.S.Shelf.device c.mklv.new.driver) (Err c.in-Err.why)) c.whole-patience.ensures c.in-Err.ensures.gives)) ends other
 
 pub returns-in-Ok-clause-does : goal.returns-in-Ok-clause-does
-returns-in-Ok-clause-does g c = λ group on.
-    made_does g.S.Shelf.device c.args.driver c.mklv.new.driver c.requires.settled (wanted c.args.name c.args.copies c.args.mode c.args.policy c.args.lps) group c.in-Ok.field-0 c.answered.result.stage c.answered.result.reply c.answered.ensures.stage c.answered.ensures.reply
-    ((subst (λ (n : ℕ). MklvGives (wanted c.args.name c.args.copies c.args.mode c.args.policy c.args.lps) n (session_of g.S.Shelf.device c.args.driver) (session_of g.S.Shelf.device c.mklv.new.driver) (Ok c.in-Ok.field-0)) c.whole-patience.ensures c.in-Ok.ensures.gives), c.mklv.ensures.finds) on
+returns-in-Ok-clause-does g c = λ group on last.
+    MakesVolume c.args.driver.1 c.in-Ok.field-0 refl on
+    (answered_done g.S.Shelf.device c.args.driver c.mklv.new.driver c.requires.settled (λ was is. MklvGives (wanted c.args.name c.args.copies c.args.mode c.args.policy c.args.lps) patience_of_line was is (Ok c.in-Ok.field-0)) (IsWith (wanted c.args.name c.args.copies c.args.mode c.args.policy c.args.lps)) (subst (λ (n : ℕ). MklvGives (wanted c.args.name c.args.copies c.args.mode c.args.policy c.args.lps) n (session_of g.S.Shelf.device c.args.driver) (session_of g.S.Shelf.device c.mklv.new.driver) (Ok c.in-Ok.field-0)) c.whole-patience.ensures c.in-Ok.ensures.gives) c.mklv.ensures.finds c.answered.result.stage c.answered.ensures.stage last)
+    c.answered.ensures.reply
 
 pub returns-in-Ok-clause-goes : goal.returns-in-Ok-clause-goes
 returns-in-Ok-clause-goes g c =
@@ -70,13 +71,15 @@ pub returns-in-Ok-clause-orders : goal.returns-in-Ok-clause-orders
 returns-in-Ok-clause-orders g c = ap (λ (s : Stage g.row.S.Denot). (g.S.Shelf.device (shelf_in s)).orders) c.answered.ensures.stage ∙ c.mklv.ensures.writes.orders
 
 pub returns-in-Err-clause-does : goal.returns-in-Err-clause-does
-returns-in-Err-clause-does g c = λ group on.
+returns-in-Err-clause-does g c = λ group on last.
     let so : LeftSo g.S.Shelf.device c.mklv.new.driver c.in-Err.why c.refused.result.stage = record {
       over = λ ends last. subst (λ (s : Stage g.row.S.Denot). IsOver (session_of g.S.Shelf.device c.mklv.new.driver) (state_in g.S.Shelf.device s last)) (sym c.refused.ensures.stage) (c.after.ensures.over ends last);
       on = λ goes. c.refused.ensures.stage ∙ c.after.ensures.on goes;
       history = ap (λ (s : Stage g.row.S.Denot). history_in s) c.refused.ensures.stage ∙ c.after.ensures.history;
     } in
-    unmade_does g.S.Shelf.device c.args.driver c.mklv.new.driver c.requires.settled (wanted c.args.name c.args.copies c.args.mode c.args.policy c.args.lps) group c.in-Err.why c.refused.result.stage c.refused.result.reply so (c.refused.ensures.reply ∙ ap (λ (r : Refusal). reply.Refused r) c.refusal_for.ensures) ((subst (λ (n : ℕ). MklvGives (wanted c.args.name c.args.copies c.args.mode c.args.policy c.args.lps) n (session_of g.S.Shelf.device c.args.driver) (session_of g.S.Shelf.device c.mklv.new.driver) (Err c.in-Err.why)) c.whole-patience.ensures c.in-Err.ensures.gives), c.mklv.ensures.finds) on
+    MklvFails c.args.driver.1 c.in-Err.why refl on
+    (failed_done g.S.Shelf.device c.args.driver c.mklv.new.driver c.requires.settled (λ was is. MklvGives (wanted c.args.name c.args.copies c.args.mode c.args.policy c.args.lps) patience_of_line was is (Err c.in-Err.why)) (IsWith (wanted c.args.name c.args.copies c.args.mode c.args.policy c.args.lps)) (subst (λ (n : ℕ). MklvGives (wanted c.args.name c.args.copies c.args.mode c.args.policy c.args.lps) n (session_of g.S.Shelf.device c.args.driver) (session_of g.S.Shelf.device c.mklv.new.driver) (Err c.in-Err.why)) c.whole-patience.ensures c.in-Err.ensures.gives) c.mklv.ensures.finds c.in-Err.why c.refused.result.stage so (mklv_facts (wanted c.args.name c.args.copies c.args.mode c.args.policy c.args.lps) patience_of_line (session_of g.S.Shelf.device c.args.driver) (session_of g.S.Shelf.device c.mklv.new.driver) c.requires.settled.session.power c.in-Err.why (subst (λ (n : ℕ). MklvGives (wanted c.args.name c.args.copies c.args.mode c.args.policy c.args.lps) n (session_of g.S.Shelf.device c.args.driver) (session_of g.S.Shelf.device c.mklv.new.driver) (Err c.in-Err.why)) c.whole-patience.ensures c.in-Err.ensures.gives)) last)
+    (c.refused.ensures.reply ∙ ap (λ (r : Refusal). reply.Refused r) c.refusal_for.ensures)
 
 pub returns-in-Err-clause-goes : goal.returns-in-Err-clause-goes
 returns-in-Err-clause-goes g c =

@@ -2,11 +2,12 @@ use Rattle.std.proofs.Common.{◌≡◌, ◌∙◌, ℕ, refl, sym, ap, subst, R
 use Rattle.lvm_core.specs.Sound.{HaveAllLanded}
 use Rattle.lvm_core.specs.State.{Core, State as Session}
 use Rattle.lvm_group.specs.declared.fault.GroupFault.{GroupFault}
+use Rattle.lvm_group.specs.NewVolume.{without_volume}
 use Rattle.lvm_group.specs.Volumes.{RmlvGives}
 use Rattle.lvm_line.specs.Disks.{patience_of_line}
 use Rattle.lvm_line.specs.Stages.{shelf_in, history_in, state_in}
 use Rattle.lvm_line.specs.State.{without_facts}
-use Rattle.lvm_line.specs.Volumes.{IsOver}
+use Rattle.lvm_line.specs.Volumes.{IsOver, RemovesVolume, RmlvFails}
 use Rattle.lvm_line.specs.declared.reply.Refusal.{Refusal}
 use Rattle.lvm_line.specs.declared.reply.Reply.TheVariants as reply
 use Rattle.lvm_line.specs.declared.stage.Stage.{Stage}
@@ -14,7 +15,7 @@ use Rattle.lvm_line.specs.declared.stage.Stage.TheVariants as stage
 use Rattle.lvm_line.proofs.Commanding.{Promised, session_of, rooms_stay}
 use Rattle.lvm_line.proofs.Ending.{Facts, rmlv_facts, dark_still, lit_still}
 use Rattle.lvm_line.proofs.Landing.{rmlv_landed}
-use Rattle.lvm_line.proofs.OfVolumes.{LeftSo, removed_does, unremoved_does, answered_goes, failed_goes, failed_orders}
+use Rattle.lvm_line.proofs.OfVolumes.{LeftSo, answered_done, failed_done, answered_goes, failed_goes, failed_orders}
 use Rattle.lvm_line.proofs.volumes.remove_volume.Goals as goal
 
 pub rmlv-requires : goal.rmlv-requires
@@ -29,9 +30,10 @@ after-requires-clause-lit g c = λ ends other.
     lit_still patience_of_line (session_of g.S.Shelf.device c.args.driver) (session_of g.S.Shelf.device c.rmlv.new.driver) c.in-Err.fault (rmlv_facts c.args.lv patience_of_line (session_of g.S.Shelf.device c.args.driver) (session_of g.S.Shelf.device c.rmlv.new.driver) c.requires.settled.session.power c.in-Err.fault (subst (λ (n : ℕ). RmlvGives c.args.lv n (session_of g.S.Shelf.device c.args.driver) (session_of g.S.Shelf.device c.rmlv.new.driver) (Err c.in-Err.fault)) c.whole-patience.ensures c.in-Err.ensures.gives)) ends other
 
 pub returns-in-Ok-clause-does : goal.returns-in-Ok-clause-does
-returns-in-Ok-clause-does g c = λ name its.
-    removed_does g.S.Shelf.device c.args.driver c.rmlv.new.driver c.requires.settled c.args.lv name c.answered.result.stage c.answered.result.reply c.answered.ensures.stage c.answered.ensures.reply
-    ((subst (λ (n : ℕ). RmlvGives c.args.lv n (session_of g.S.Shelf.device c.args.driver) (session_of g.S.Shelf.device c.rmlv.new.driver) (Ok tt)) c.whole-patience.ensures c.in-Ok.ensures.gives), c.rmlv.ensures.finds) its
+returns-in-Ok-clause-does g c = λ name its last.
+    RemovesVolume c.args.driver.1 c.args.lv refl its
+    (answered_done g.S.Shelf.device c.args.driver c.rmlv.new.driver c.requires.settled (λ was is. RmlvGives c.args.lv patience_of_line was is (Ok tt)) (λ of next. next ≡ without_volume of.descriptor c.args.lv) (subst (λ (n : ℕ). RmlvGives c.args.lv n (session_of g.S.Shelf.device c.args.driver) (session_of g.S.Shelf.device c.rmlv.new.driver) (Ok tt)) c.whole-patience.ensures c.in-Ok.ensures.gives) c.rmlv.ensures.finds c.answered.result.stage c.answered.ensures.stage last)
+    c.answered.ensures.reply
 
 pub returns-in-Ok-clause-goes : goal.returns-in-Ok-clause-goes
 returns-in-Ok-clause-goes g c =
@@ -70,13 +72,15 @@ pub returns-in-Ok-clause-orders : goal.returns-in-Ok-clause-orders
 returns-in-Ok-clause-orders g c = ap (λ (s : Stage g.row.S.Denot). (g.S.Shelf.device (shelf_in s)).orders) c.answered.ensures.stage ∙ c.rmlv.ensures.writes.orders
 
 pub returns-in-Err-clause-does : goal.returns-in-Err-clause-does
-returns-in-Err-clause-does g c = λ name its.
+returns-in-Err-clause-does g c = λ name its last.
     let so : LeftSo g.S.Shelf.device c.rmlv.new.driver c.in-Err.fault c.refused.result.stage = record {
       over = λ ends last. subst (λ (s : Stage g.row.S.Denot). IsOver (session_of g.S.Shelf.device c.rmlv.new.driver) (state_in g.S.Shelf.device s last)) (sym c.refused.ensures.stage) (c.after.ensures.over ends last);
       on = λ goes. c.refused.ensures.stage ∙ c.after.ensures.on goes;
       history = ap (λ (s : Stage g.row.S.Denot). history_in s) c.refused.ensures.stage ∙ c.after.ensures.history;
     } in
-    unremoved_does g.S.Shelf.device c.args.driver c.rmlv.new.driver c.requires.settled c.args.lv name c.in-Err.fault c.refused.result.stage c.refused.result.reply so (c.refused.ensures.reply ∙ ap (λ (r : Refusal). reply.Refused r) c.refusal_for.ensures) ((subst (λ (n : ℕ). RmlvGives c.args.lv n (session_of g.S.Shelf.device c.args.driver) (session_of g.S.Shelf.device c.rmlv.new.driver) (Err c.in-Err.fault)) c.whole-patience.ensures c.in-Err.ensures.gives), c.rmlv.ensures.finds) its
+    RmlvFails c.args.driver.1 c.args.lv c.in-Err.fault refl its
+    (failed_done g.S.Shelf.device c.args.driver c.rmlv.new.driver c.requires.settled (λ was is. RmlvGives c.args.lv patience_of_line was is (Err c.in-Err.fault)) (λ of next. next ≡ without_volume of.descriptor c.args.lv) (subst (λ (n : ℕ). RmlvGives c.args.lv n (session_of g.S.Shelf.device c.args.driver) (session_of g.S.Shelf.device c.rmlv.new.driver) (Err c.in-Err.fault)) c.whole-patience.ensures c.in-Err.ensures.gives) c.rmlv.ensures.finds c.in-Err.fault c.refused.result.stage so (rmlv_facts c.args.lv patience_of_line (session_of g.S.Shelf.device c.args.driver) (session_of g.S.Shelf.device c.rmlv.new.driver) c.requires.settled.session.power c.in-Err.fault (subst (λ (n : ℕ). RmlvGives c.args.lv n (session_of g.S.Shelf.device c.args.driver) (session_of g.S.Shelf.device c.rmlv.new.driver) (Err c.in-Err.fault)) c.whole-patience.ensures c.in-Err.ensures.gives)) last)
+    (c.refused.ensures.reply ∙ ap (λ (r : Refusal). reply.Refused r) c.refusal_for.ensures)
 
 pub returns-in-Err-clause-goes : goal.returns-in-Err-clause-goes
 returns-in-Err-clause-goes g c =
