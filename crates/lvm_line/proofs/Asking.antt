@@ -1,5 +1,5 @@
 -- What the grammar says of the numbers and the disks of a command.
-use Rattle.std.proofs.Common.{◌≡◌, ◌≢◌, ◌≤◌, ◌<◌, ◌+◌, zero, suc, ◌∷◌, ◌++◌, [], ℕ, List, Bool, true, false, not, ◌&&◌, ◌||◌, length, Option, Some, None, Result, Ok, Err, is_some, if◌then◌else◌, unwrap_or, get_or, refl, sym, ◌∙◌, ap, subst, arith, eq-eqb}
+use Rattle.std.proofs.Common.{◌≡◌, ◌≢◌, ◌≤◌, ◌<◌, zero, suc, ◌∷◌, ◌++◌, [], ℕ, List, Bool, true, false, not, ◌&&◌, ◌||◌, length, Option, Some, None, Result, Ok, Err, is_some, if◌then◌else◌, get_or, refl, sym, ◌∙◌, ap, subst, arith, eq-eqb}
 use Rattle.std.specs.Prelude.{◌==◌, nat_le, nat_lt, AllPairs, IsTrue, codes, bytes_eq}
 use Rattle.std.specs.Option.{ForSome, option_map}
 use Rattle.std.specs.List.{list_any}
@@ -8,16 +8,14 @@ use Rattle.std.proofs.lemmas.List.Quantifiers.{all_pairs_push}
 use Rattle.lvm_num.specs.Descriptor.{is_size}
 use Rattle.lvm_num.specs.declared.descriptor.Mode.{Mode}
 use Rattle.lvm_num.specs.declared.descriptor.Mode.TheVariants.{Off}
-use Rattle.lvm_num.specs.declared.descriptor.Policy.{Policy}
-use Rattle.lvm_num.specs.declared.descriptor.Policy.TheVariants as policy
 use Rattle.lvm_parse.specs.declared.chosen.MkvgOptions.{MkvgOptions}
 use Rattle.lvm_parse.specs.declared.chosen.MklvOptions.{MklvOptions}
 use Rattle.lvm_parse.specs.declared.command.Command.{Command}
 use Rattle.lvm_parse.specs.declared.command.Command.TheVariants as command
 use Rattle.lvm_parse.specs.declared.rest.Misfit.{Misfit}
-use Rattle.lvm_parse.specs.Grammar.{line_of, line_of_words, readable, rule, rd, wr, fail, heal, lspv, cut, cut_of, mkvg, mkvg_choice, no_mkvg_options, varyonvg, varyoffvg, lsvg, mklv, mklv_choice, no_mklv_options, rmlv, lslv}
+use Rattle.lvm_parse.specs.Grammar.{line_of, line_of_words, readable, rule, rd, wr, cut_of, mkvg, mkvg_choice, no_mkvg_options, mklv, mklv_choice, no_mklv_options, lslv}
 use Rattle.lvm_parse.specs.Line.{WordAt, Left, left_at, unreadable_at, is_remark}
-use Rattle.lvm_parse.specs.Reading.{misfit, then_, or_misfit, operand_of, operand, option, ends_of, ends, last, Choice, NoOption, Alone, Valued, is_new, options_of, options, required, is_further, further_disk, one_or_more, disks_of, disks, next_column}
+use Rattle.lvm_parse.specs.Reading.{then_, or_misfit, operand_of, operand, option, ends_of, ends, last, is_new, options, required, is_further, further_disk, disks_of, disks, next_column}
 use Rattle.lvm_parse.specs.Words.{only, number_in, number_within, count_in, size_in, name_in, disk_in, word_in, mode_in, partitions_in, copies_in, policy_in}
 use Rattle.lvm_line.specs.Lines.{IsWithin}
 use Rattle.lvm_line.proofs.Options.{mapped, Keeping, keeping_if, options_keep}

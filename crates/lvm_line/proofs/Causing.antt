@@ -1,12 +1,11 @@
 -- Why lines are refused.
-use Rattle.std.proofs.Common.{◌≡◌, ◌⊎◌, inl, inr, ⊎_elim, ◌≤◌, ◌+◌, ℕ, List, Bool, Option, Some, None, IsSome, Result, Ok, Err, refl, sym, ◌∙◌, ap, subst, arith}
+use Rattle.std.proofs.Common.{◌≡◌, inl, inr, ⊎_elim, ◌≤◌, ℕ, List, Bool, Option, Some, None, Result, Ok, Err, refl, sym, ◌∙◌, ap, subst, arith}
 use Rattle.lvm_disk.specs.Counts.{Rose, RoseBy, Counts}
 use Rattle.lvm_disk.specs.Device.{Device}
 use Rattle.lvm_vol.specs.Log.{Log}
 use Rattle.lvm_parse.specs.declared.command.Command.{Command}
 use Rattle.lvm_parse.specs.declared.command.Command.TheVariants as command
 use Rattle.lvm_parse.specs.declared.rest.Misfit.{Misfit}
-use Rattle.lvm_parse.specs.Grammar.{line_of}
 use Rattle.lvm_raw.specs.declared.fault.RawFault.{RawFault}
 use Rattle.lvm_raw.specs.declared.fault.RawFault.TheVariants as fault
 use Rattle.lvm_core.specs.declared.parts.Room.{Room}
@@ -18,8 +17,8 @@ use Rattle.lvm_group.specs.Made.{Refuses as MkvgRefuses}
 use Rattle.lvm_varyon.specs.Varied.{Refuses as VaryonRefuses, IsRestated}
 use Rattle.lvm_line.specs.Causes.{HasCause, HasFailed, RoseOn, disk_of, VaryonLaw}
 use Rattle.lvm_line.specs.Disks.{patience_of_line, refusal_by, HasFaulted, NoWriteWhileOn, WriteFaults, WriteIsDone, NoReadWhileOn, ReadFaults, ReadGets}
-use Rattle.lvm_line.specs.Groups.{IsLit, IsLeftOff, refusal_of, asked_for, NoVaryonWhileOn, VariesOn, VaryonFails, NoMemoryForLine, NoMkvgWhileOn, MakesGroup, MkvgFails, NoVaryoff, VariesOff}
-use Rattle.lvm_line.specs.Lines.{LineDoes, CommandDoes, IsLine}
+use Rattle.lvm_line.specs.Groups.{IsLit, refusal_of, asked_for, NoVaryonWhileOn, VariesOn, VaryonFails, NoMemoryForLine, NoMkvgWhileOn, MakesGroup, MkvgFails, NoVaryoff, VariesOff}
+use Rattle.lvm_line.specs.Lines.{LineDoes}
 use Rattle.lvm_line.specs.Listings.{NoSuchGroup, ListsGroup, NoGroupForVolume, NoSuchVolume, ListsVolume, NoGroupForDisk, NoSuchMember, ListsMember}
 use Rattle.lvm_line.specs.Replies.{Shows, InFull, WithoutMemory}
 use Rattle.lvm_line.specs.Shelves.{NotThere, NotPlanned, IsArranged, CutNotPlanned, PowerIsCut}

@@ -1,8 +1,7 @@
 -- Commands on the session that is on.
-use Rattle.std.proofs.Common.{◌≡◌, ◌⊎◌, inl, inr, ◌+◌, ◌≤◌, ◌<◌, [], ◌∷◌, ℕ, List, Bool, true, false, Option, Some, None, IfSome, refl, sym, ◌∙◌, ap, subst, arith}
+use Rattle.std.proofs.Common.{◌≡◌, ◌+◌, ◌≤◌, [], ℕ, List, Bool, true, Option, None, refl, sym, ◌∙◌, ap, subst, arith}
 use Rattle.lvm_num.specs.Buffer.{Buffer}
 use Rattle.lvm_disk.specs.Device.{Device, IsReady}
-use Rattle.lvm_vol.specs.Facts.{Fact}
 use Rattle.lvm_vol.specs.Log.{Log}
 use Rattle.lvm_kept.specs.Moments.{Moment, StaysCalm}
 use Rattle.lvm_change.specs.Requests.{at}
@@ -19,9 +18,8 @@ use Rattle.lvm_group.specs.declared.fault.GroupFault.TheVariants as fault
 use Rattle.lvm_group.specs.Endings.{KeepsHistory, StillHeld}
 use Rattle.lvm_line.specs.Moments.{GoesOn}
 use Rattle.lvm_line.specs.Replies.{IsStuck}
-use Rattle.lvm_line.specs.Stages.{shelf_in, history_in, session_in, state_in, IsSettledStage, Between}
+use Rattle.lvm_line.specs.Stages.{shelf_in, history_in, session_in, state_in, Between}
 use Rattle.lvm_line.specs.State.{State, EntersVolumes, without_facts}
-use Rattle.lvm_line.specs.Volumes.{IsOver, StaysOn}
 use Rattle.lvm_line.specs.declared.reply.Refusal.TheVariants as refusal
 use Rattle.lvm_line.specs.declared.reply.Reply.{Reply}
 use Rattle.lvm_line.specs.declared.reply.Reply.TheVariants as reply

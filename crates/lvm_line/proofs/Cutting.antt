@@ -1,5 +1,5 @@
 -- What a power cut that is arranged does to a state at which nothing is under way.
-use Rattle.std.proofs.Common.{◌≡◌, ◌⊎◌, inl, inr, ⊎_elim, ◌+◌, ◌≤◌, ◌∷◌, ◌++◌, [], ℕ, List, Bool, true, false, Option, Some, None, IfSome, if◌then◌else◌, refl, sym, ◌∙◌, ap, subst, arith}
+use Rattle.std.proofs.Common.{◌≡◌, inl, inr, ◌+◌, ◌≤◌, ◌∷◌, ◌++◌, [], ℕ, List, Bool, true, false, Option, Some, None, IfSome, if◌then◌else◌, refl, sym, ◌∙◌, ap, subst, arith}
 use Rattle.std.proofs.lemmas.List.{append-nil}
 use Rattle.lvm_disk.specs.Device.{Device, IsReady}
 use Rattle.lvm_disk.specs.Images.{LeavesNoMore}
@@ -16,7 +16,7 @@ use Rattle.lvm_change.specs.Moments.{Keeps}
 use Rattle.lvm_change.specs.Requests.{at}
 use Rattle.lvm_change.proofs.Spans.{keeps_still, keeps_steps}
 use Rattle.lvm_change.proofs.Entering.{quiet_goes_on, calm_goes_on}
-use Rattle.lvm_stamps.specs.Behind.{IsBehind, IsAhead}
+use Rattle.lvm_stamps.specs.Behind.{IsBehind}
 use Rattle.lvm_stamps.proofs.Shelves.{no_more_stays_behind}
 use Rattle.lvm_stamps.proofs.Clock.{later_joins}
 use Rattle.lvm_move.specs.Transfer.{Relights}
@@ -25,7 +25,6 @@ use Rattle.lvm_core.specs.Dark.{dark_log}
 use Rattle.lvm_core.specs.Settled.{IsSettled as IsSettledCore}
 use Rattle.lvm_core.specs.State.{Core}
 use Rattle.lvm_core.specs.Held.{IsHeld}
-use Rattle.lvm_core.specs.Sound.{HaveAllLanded}
 use Rattle.lvm_core.proofs.Telling.{open_cut}
 use Rattle.lvm_line.specs.Moments.{GoesOn}
 use Rattle.lvm_line.specs.Shelves.{IsCut, CutDoes, PowerIsCut}

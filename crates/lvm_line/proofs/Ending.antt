@@ -1,19 +1,18 @@
 -- How `mklv` and `rmlv` end.
-use Rattle.std.proofs.Common.{◌≡◌, ◌⊎◌, inl, inr, ⊎_elim, ◌∷◌, ◌++◌, [], ℕ, List, Bool, true, false, Result, Ok, Err, refl, sym, ◌∙◌, ap, subst}
+use Rattle.std.proofs.Common.{◌≡◌, inl, inr, [], ℕ, true, false, Err, refl, sym, subst}
 use Rattle.lvm_disk.specs.Counts.{Rose}
 use Rattle.lvm_disk.specs.Device.{Device, IsReady}
 use Rattle.lvm_move.specs.Transfer.{Relights}
 use Rattle.lvm_quorum.specs.Written.{IsGivenUp}
 use Rattle.lvm_commit.specs.Settling.{HasLostQuorum}
 use Rattle.lvm_core.specs.declared.request.Power.TheVariants as power
-use Rattle.lvm_core.specs.State.{Core, State as Session}
+use Rattle.lvm_core.specs.State.{State as Session}
 use Rattle.lvm_group.specs.declared.fault.GroupFault.{GroupFault}
 use Rattle.lvm_group.specs.declared.fault.GroupFault.TheVariants as fault
 use Rattle.lvm_group.specs.declared.new_volume.NewVolume.{NewVolume}
 use Rattle.lvm_group.specs.Volumes.{MklvGives, RmlvGives}
 use Rattle.lvm_line.specs.Volumes.{ends_session, refusal_for}
 use Rattle.lvm_line.specs.declared.reply.Refusal.TheVariants as refusal
-use Rattle.lvm_line.specs.declared.reply.Reply.{Reply}
 use Rattle.lvm_line.specs.declared.reply.Reply.TheVariants as reply
 use Rattle.lvm_line.proofs.Coming.{LitUp}
 use Rattle.lvm_line.proofs.Commanding.{lit_rest, lit_dark, lit_stuck}

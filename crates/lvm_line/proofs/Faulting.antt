@@ -1,5 +1,5 @@
 -- Why `mklv` and `rmlv` are refused.
-use Rattle.std.proofs.Common.{◌≡◌, ◌*◌, ◌+◌, ◌≤◌, ◌<◌, ℕ, Bool, true, false, Option, Some, None, Result, IsTrue, IsFalse, if◌then◌else◌, refl, sym, ◌∙◌, ap, subst, arith}
+use Rattle.std.proofs.Common.{◌≡◌, ◌*◌, ◌≤◌, ℕ, Bool, true, false, Option, Some, None, Result, IsFalse, if◌then◌else◌, sym, ap, subst, arith}
 use Rattle.std.specs.Prelude.{nat_lt}
 use Rattle.std.proofs.lemmas.Bool.{ltb-false}
 use Rattle.lvm_num.specs.declared.descriptor.Descriptor.{Descriptor}
@@ -13,11 +13,10 @@ use Rattle.lvm_commit.specs.Settling.{HasLostQuorum}
 use Rattle.lvm_core.specs.State.{Core, State as Session, state}
 use Rattle.lvm_group.specs.declared.fault.GroupFault.{GroupFault}
 use Rattle.lvm_group.specs.declared.fault.GroupFault.TheVariants as fault
-use Rattle.lvm_line.specs.Causes.{HasCause, HasFailed, HasLost}
+use Rattle.lvm_line.specs.Causes.{HasFailed, HasLost}
 use Rattle.lvm_line.specs.Disks.{patience_of_line}
 use Rattle.lvm_line.specs.State.{State}
 use Rattle.lvm_line.specs.Volumes.{IsLeft, ends_session, refusal_for}
-use Rattle.lvm_line.specs.declared.reply.Refusal.TheVariants as refusal
 use Rattle.lvm_line.proofs.Ending.{Facts}
 use Rattle.lvm_line.proofs.Knowing.{Known}
 

@@ -1,10 +1,10 @@
 -- After `mklv` and `rmlv` each request has landed that had.
-use Rattle.std.proofs.Common.{◌≡◌, ◌⊎◌, inl, inr, ◌∷◌, ◌++◌, [], ℕ, List, Result, Ok, Err, refl, sym, ◌∙◌, ap, subst}
+use Rattle.std.proofs.Common.{◌≡◌, inl, inr, ◌∷◌, ◌++◌, [], ℕ, List, Result, Ok, Err, refl, sym, ◌∙◌, subst}
 use Rattle.lvm_num.specs.declared.place.Pp.{Pp}
 use Rattle.lvm_num.specs.Geometry.{volume_blocks}
 use Rattle.lvm_vol.specs.declared.entry.Vol.TheVariants.{Lv}
-use Rattle.lvm_vol.specs.Facts.{Fact, Making, Made, Removing, Removed}
-use Rattle.lvm_vol.specs.Log.{Log, cut_log}
+use Rattle.lvm_vol.specs.Facts.{Making, Made, Removing, Removed}
+use Rattle.lvm_vol.specs.Log.{Log}
 use Rattle.lvm_core.specs.Sound.{HaveAllLanded}
 use Rattle.lvm_core.specs.State.{Core, State as Session}
 use Rattle.lvm_group.specs.declared.fault.GroupFault.{GroupFault}

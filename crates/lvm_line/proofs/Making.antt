@@ -1,16 +1,15 @@
 -- `mkvg`, by how its call ends.
-use Rattle.std.proofs.Common.{◌≡◌, ◌⊎◌, inl, inr, ⊎_elim, ◌+◌, ◌-◌, ◌<◌, ◌≤◌, ◌∷◌, ◌++◌, [], ℕ, List, Bool, false, Option, Some, None, Result, Ok, Err, IfOk, IfErr, MatchResult, refl, sym, ◌∙◌, ap, subst, arith}
-use Rattle.lvm_disk.specs.Counts.{RoseBy}
+use Rattle.std.proofs.Common.{◌≡◌, inl, inr, ◌+◌, ◌≤◌, ◌∷◌, ◌++◌, [], ℕ, List, Bool, false, Option, None, Result, Ok, Err, IfOk, IfErr, refl, sym, ◌∙◌, ap, subst}
 use Rattle.lvm_disk.specs.Device.{Device, IsReady}
 use Rattle.lvm_io.specs.Count.{Rose}
 use Rattle.lvm_vol.specs.Facts.{Fact, On}
 use Rattle.lvm_vol.specs.Legal.{IsLater}
-use Rattle.lvm_vol.specs.Log.{Log, cut_log, is_open}
+use Rattle.lvm_vol.specs.Log.{Log, is_open}
 use Rattle.lvm_kept.specs.Moments.{StaysCalm}
 use Rattle.lvm_change.specs.Moments.{Keeps}
 use Rattle.lvm_change.specs.Requests.{at}
 use Rattle.lvm_stamps.specs.Behind.{IsBehind, ClockIsAhead}
-use Rattle.lvm_stamps.proofs.Clock.{on_is_earlier, later_joins}
+use Rattle.lvm_stamps.proofs.Clock.{later_joins}
 use Rattle.lvm_core.specs.declared.parts.Room.{Room}
 use Rattle.lvm_core.specs.declared.refused.Cause.{Cause}
 use Rattle.lvm_core.specs.declared.refused.Cause.TheVariants as cause
@@ -20,18 +19,17 @@ use Rattle.lvm_core.specs.Sound.{HaveAllLanded}
 use Rattle.lvm_core.specs.Settled.{IsSettled as IsSettledCore, HasNumbers}
 use Rattle.lvm_core.specs.State.{Core}
 use Rattle.lvm_line.specs.Disks.{patience_of_line}
-use Rattle.lvm_line.specs.Groups.{IsLit, refusal_of, MkvgDoes, MakesGroup, MkvgFails, asked_for}
+use Rattle.lvm_line.specs.Groups.{MkvgDoes, MakesGroup, MkvgFails, asked_for}
 use Rattle.lvm_line.specs.Moments.{GoesOn}
-use Rattle.lvm_line.specs.Stages.{shelf_in, history_in, session_in, state_in, IsSettledStage}
+use Rattle.lvm_line.specs.Stages.{shelf_in, history_in, state_in, IsSettledStage}
 use Rattle.lvm_line.specs.State.{State, without_facts}
 use Rattle.lvm_line.specs.declared.reply.Reply.{Reply}
-use Rattle.lvm_line.specs.declared.reply.Reply.TheVariants as reply
 use Rattle.lvm_line.specs.declared.stage.Stage.{Stage}
 use Rattle.lvm_line.specs.declared.stage.Stage.TheVariants as stage
-use Rattle.lvm_line.proofs.Coming.{Rests, Leaves, Promises, lit_up, left_off, left_on, off_is}
+use Rattle.lvm_line.proofs.Coming.{Rests, Leaves, lit_up, left_off, left_on, off_is}
 use Rattle.lvm_line.proofs.Passive.{Bears, bears_cut, bears_given_up, landed_bears, later_bears, open_more}
 use Rattle.lvm_group.specs.NewGroup.{NewGroup, given_up}
-use Rattle.lvm_group.specs.Made.{IsMade, Refuses, MkvgGives, shelf_left, history_left}
+use Rattle.lvm_group.specs.Made.{Refuses, MkvgGives, shelf_left, history_left}
 use Rattle.lvm_line.proofs.Cutting.{cut_rooms}
 use Rattle.lvm_line.proofs.Varying.{Left}
 

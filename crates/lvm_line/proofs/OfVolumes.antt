@@ -1,5 +1,5 @@
 -- `mklv` and `rmlv` on the session of the group that is on.
-use Rattle.std.proofs.Common.{◌≡◌, ◌≤◌, ℕ, List, Bool, true, false, IsTrue, IsFalse, Option, Some, None, Result, Ok, Err, refl, sym, ◌∙◌, ap, subst}
+use Rattle.std.proofs.Common.{◌≡◌, ℕ, Bool, true, false, IsTrue, IsFalse, Err, refl, sym, ◌∙◌, ap, subst}
 use Rattle.lvm_num.specs.declared.descriptor.Descriptor.{Descriptor}
 use Rattle.lvm_disk.specs.Device.{Device}
 use Rattle.lvm_core.specs.Settled.{IsSettled as IsSettledCore}
@@ -10,14 +10,13 @@ use Rattle.lvm_group.specs.declared.fault.GroupFault.TheVariants as fault
 use Rattle.lvm_group.specs.Endings.{IfOn, StillHeld, FindsOnly}
 use Rattle.lvm_line.specs.Disks.{patience_of_line}
 use Rattle.lvm_line.specs.Moments.{GoesOn}
-use Rattle.lvm_line.specs.Stages.{shelf_in, history_in, session_in, state_in, IsSettledStage, Between}
-use Rattle.lvm_line.specs.State.{State, without_facts}
+use Rattle.lvm_line.specs.Stages.{shelf_in, history_in, state_in, IsSettledStage, Between}
 use Rattle.lvm_line.specs.Volumes.{IsDone, IsOver, StaysOn, ends_session, refusal_for}
 use Rattle.lvm_line.specs.declared.reply.Reply.{Reply}
 use Rattle.lvm_line.specs.declared.reply.Reply.TheVariants as reply
 use Rattle.lvm_line.specs.declared.stage.Stage.{Stage}
 use Rattle.lvm_line.specs.declared.stage.Stage.TheVariants as stage
-use Rattle.lvm_line.proofs.Commanding.{Promised, Continues, session_of, goes_on, goes_off, rooms_stay}
+use Rattle.lvm_line.proofs.Commanding.{Promised, Continues, session_of, goes_on, goes_off}
 use Rattle.lvm_line.proofs.Ending.{Facts, ready_still, lit_after}
 
 -- ---- the session goes on after an answer that doesn't end it

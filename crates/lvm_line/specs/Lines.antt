@@ -1,5 +1,5 @@
 -- What one line of a script does.
-use Rattle.std.specs.Prelude.{◌≡◌, ◌≢◌, ◌≤◌, ℕ, List, Option, Some, None, Result, Ok, Err, IsSome, IsTrue, length, AllPairs}
+use Rattle.std.specs.Prelude.{◌≡◌, ◌≢◌, ◌≤◌, ℕ, List, Option, Some, None, Result, Ok, Err, IsTrue, length, AllPairs}
 use Rattle.std.specs.Option.{ForSome}
 use Rattle.lvm_num.specs.Descriptor.{is_size}
 use Rattle.lvm_num.specs.declared.descriptor.Mode.TheVariants.{Off}

@@ -1,6 +1,6 @@
 -- What stands between two lines of a script.
-use Rattle.std.specs.Prelude.{◌≡◌, ◌+◌, ◌≤◌, ◌<◌, ℕ, Bool, true, false, [], List, Option, IfSome, count_by}
-use Rattle.lvm_disk.specs.Device.{Device, IsReady}
+use Rattle.std.specs.Prelude.{◌+◌, ◌≤◌, ◌<◌, ℕ, Bool, true, false, [], List, Option, IfSome, count_by}
+use Rattle.lvm_disk.specs.Device.{IsReady}
 use Rattle.lvm_vol.specs.declared.entry.Vol.TheVariants.{Lv}
 use Rattle.lvm_vol.specs.Facts.{Fact, Making, Made, Split, Removing, Removed}
 use Rattle.lvm_vol.specs.Log.{Log}

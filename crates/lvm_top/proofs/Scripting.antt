@@ -17,7 +17,7 @@ use Rattle.lvm_core.specs.declared.parts.Room.{Room}
 use Rattle.lvm_line.specs.Lines.{IsLine}
 use Rattle.lvm_line.specs.Replies.{reply_text, IsStuck}
 use Rattle.lvm_line.specs.State.{State, IsTimely, AreHeld}
-use Rattle.lvm_top.specs.Run.{Stream, IsRun, WhereAlone}
+use Rattle.lvm_top.specs.Run.{Stream, WhereAlone}
 use Rattle.lvm_top.specs.Script.{Says, Script, NoLine, NextLine, StaysAlone, Ends, AtLine, InLine, EndsAlone, IsWhole, IsPart, texts_of, is_refused, refusals_in, entry_state, empty_log, facts_of}
 use Rattle.lvm_line.specs.declared.reply.Reply.{Reply}
 

@@ -15,7 +15,7 @@ use Rattle.lvm_line.specs.declared.stage.Stage.{Stage}
 use Rattle.lvm_line.specs.declared.stage.Stage.TheVariants as stage
 use Rattle.lvm_line.specs.State.{State, without_facts}
 use Rattle.lvm_top.specs.Run.{Stream, IsClosed, IsRun}
-use Rattle.lvm_top.specs.Script.{IsWhole, IsPart, empty_log, entry_state, facts_of, run_of}
+use Rattle.lvm_top.specs.Script.{IsWhole, IsPart, empty_log, entry_state, facts_of}
 use Rattle.lvm_top.proofs.Scripting.{nothing_done, part_ended, run_ahead}
 use Rattle.lvm_top.specs.Statuses.{status_of}
 use Rattle.lvm_top.specs.declared.script.Stop.{Stop}

@@ -1,12 +1,10 @@
-use Rattle.std.proofs.Common.{◌≡◌, ◌∙◌, ℕ, ap, sym, subst, refl, IfErr, IfOk, is_some}
-use Rattle.lvm_io.specs.Count.{Rose}
+use Rattle.std.proofs.Common.{◌∙◌, ℕ, ap, sym, subst, refl, is_some}
 use Rattle.lvm_group.specs.Made.{MkvgGives}
 use Rattle.lvm_line.specs.Groups.{asked_for}
-use Rattle.lvm_vol.specs.Log.{Log}
-use Rattle.lvm_line.specs.Groups.{MkvgDoes, IsAsked, NoVaryonWhileOn, NoMkvgWhileOn}
+use Rattle.lvm_line.specs.Groups.{MkvgDoes, NoMkvgWhileOn}
 use Rattle.lvm_line.specs.Moments.{GoesOn}
 use Rattle.lvm_line.specs.Stages.{shelf_in, history_in, session_in, state_in}
-use Rattle.lvm_line.specs.State.{State, without_facts}
+use Rattle.lvm_line.specs.State.{without_facts}
 use Rattle.lvm_line.specs.declared.stage.Stage.{Stage}
 use Rattle.lvm_line.specs.declared.stage.Stage.TheVariants as stage
 use Rattle.lvm_line.proofs.Going.{asked_goes}

@@ -1,4 +1,4 @@
-use Rattle.std.proofs.Common.{◌≡◌, ◌∙◌, ap, sym, subst, refl, length, ℕ, List}
+use Rattle.std.proofs.Common.{ap, sym, subst, length, ℕ, List}
 use Rattle.lvm_line.specs.Groups.{MkvgDoes}
 use Rattle.lvm_line.specs.Listings.{GroupShows, VolumeShows, DiskShows}
 use Rattle.lvm_line.specs.Stages.{shelf_in, history_in, session_in, state_in}

@@ -1,4 +1,4 @@
-use Rattle.std.proofs.Common.{◌≡◌, ◌∙◌, refl, sym, ap, subst, rules, Option}
+use Rattle.std.proofs.Common.{◌∙◌, refl, sym, ap, subst, rules, Option}
 use Rattle.lvm_core.specs.State.{Core}
 use Rattle.lvm_line.specs.Listings.{IsOn, IsNotOn}
 use Rattle.lvm_line.specs.Moments.{GoesOn}

@@ -1,6 +1,4 @@
-use Rattle.std.proofs.Common.{◌≡◌, ◌∙◌, refl, sym, ap, subst, rules, Option}
-use Rattle.lvm_core.specs.State.{Core}
-use Rattle.lvm_line.specs.Listings.{IsOn, IsNotOn}
+use Rattle.std.proofs.Common.{◌∙◌, refl, sym, ap}
 use Rattle.lvm_line.specs.Moments.{GoesOn}
 use Rattle.lvm_line.specs.Stages.{shelf_in, history_in, session_in, state_in}
 use Rattle.lvm_line.specs.State.{without_facts}

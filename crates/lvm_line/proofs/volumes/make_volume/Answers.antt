@@ -1,18 +1,13 @@
-use Rattle.std.proofs.Common.{◌≡◌, ◌∙◌, ℕ, refl, sym, ap, subst, Result, Ok, Err}
-use Rattle.lvm_core.specs.Sound.{HaveAllLanded}
-use Rattle.lvm_core.specs.State.{Core, State as Session}
-use Rattle.lvm_group.specs.declared.fault.GroupFault.{GroupFault}
+use Rattle.std.proofs.Common.{◌∙◌, ℕ, refl, sym, ap, subst, Ok, Err}
 use Rattle.lvm_group.specs.Volumes.{IsWith, MklvGives}
 use Rattle.lvm_line.specs.Disks.{patience_of_line}
 use Rattle.lvm_line.specs.Stages.{shelf_in, history_in, state_in}
-use Rattle.lvm_line.specs.State.{without_facts}
 use Rattle.lvm_line.specs.Volumes.{IsOver, MakesVolume, MklvFails, wanted}
 use Rattle.lvm_line.specs.declared.reply.Refusal.{Refusal}
 use Rattle.lvm_line.specs.declared.reply.Reply.TheVariants as reply
 use Rattle.lvm_line.specs.declared.stage.Stage.{Stage}
-use Rattle.lvm_line.specs.declared.stage.Stage.TheVariants as stage
 use Rattle.lvm_line.proofs.Commanding.{Promised, session_of, rooms_stay}
-use Rattle.lvm_line.proofs.Ending.{Facts, mklv_facts, dark_still, lit_still}
+use Rattle.lvm_line.proofs.Ending.{mklv_facts, dark_still, lit_still}
 use Rattle.lvm_line.proofs.Landing.{mklv_landed}
 use Rattle.lvm_line.proofs.OfVolumes.{LeftSo, answered_done, failed_done, answered_goes, failed_goes, failed_orders}
 use Rattle.lvm_line.proofs.volumes.make_volume.Goals as goal

@@ -1,15 +1,6 @@
-use Rattle.std.proofs.Common.{[], ◌∙◌, ap, sym, subst, refl, Ok}
-use Rattle.lvm_disk.specs.Device.{Device}
-use Rattle.lvm_disk.specs.Memory.{device_of}
-use Rattle.lvm_vol.specs.Facts.{joined}
-use Rattle.lvm_vol.specs.Legal.{Legal}
-use Rattle.lvm_change.specs.Moments.{ImagesKept, IsEarlier, IsUpheld}
-use Rattle.lvm_stamps.specs.Behind.{IsBehind}
-use Rattle.lvm_top.specs.Script.{facts_of, run_of}
-use Rattle.lvm_top.specs.Sim.{full_room, sim_device, IsToldBlank}
+use Rattle.std.proofs.Common.{ap}
+use Rattle.lvm_top.specs.Sim.{full_room}
 use Rattle.lvm_words.specs.Words.{job_of}
-use Rattle.lvm_words.specs.declared.job.Job.{Job}
-use Rattle.lvm_top.proofs.Blanks.{sim_earlier, sim_behind, told_earlier, told_behind}
 use Rattle.lvm_top.proofs.Commanding.{first_upheld, sim_upheld, sim_first, on_script, on_sim, unread_run, unread_upheld, unread_first}
 use Rattle.lvm_top.proofs.Scripting.{run_upheld}
 use Rattle.lvm_top.proofs.program.run_words.Goals as goal

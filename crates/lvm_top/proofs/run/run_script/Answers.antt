@@ -1,14 +1,7 @@
-use Rattle.std.proofs.Common.{◌≡◌, ◌≤◌, ◌∙◌, ◌+◌, ap, sym, subst, refl, ℕ, List, [], Some, None, IfNone, arith}
+use Rattle.std.proofs.Common.{◌≡◌, ◌≤◌, ◌∙◌, ap, sym, subst, refl, ℕ, [], Some, None, arith}
 use Rattle.lvm_io.specs.Count.{Rose}
-use Rattle.lvm_disk.specs.Device.{Device}
-use Rattle.lvm_vol.specs.Facts.{Fact}
 use Rattle.lvm_vol.specs.Log.{Log}
-use Rattle.lvm_stamps.specs.Behind.{IsAhead}
-use Rattle.lvm_line.specs.Stages.{shelf_in, history_in, state_in}
-use Rattle.lvm_line.specs.State.{State, without_facts}
-use Rattle.lvm_line.specs.declared.stage.Stage.TheVariants as stage
-use Rattle.lvm_top.specs.Script.{IsWhole, IsPart, empty_log, entry_state}
-use Rattle.lvm_top.proofs.Scripting.{nothing_done, part_ended, run_upheld, run_ahead}
+use Rattle.lvm_top.proofs.Scripting.{run_upheld}
 use Rattle.lvm_top.proofs.Stopping.{nothing_ran, nothing_ahead, first_is, named, later as later_run, the_run, the_ahead}
 use Rattle.lvm_top.proofs.run.run_script.Goals as goal
 
