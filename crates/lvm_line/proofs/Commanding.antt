@@ -1,5 +1,5 @@
 -- Commands on the session that is on.
-use Rattle.std.proofs.Common.{◌≡◌, ◌+◌, ◌≤◌, [], ℕ, List, Bool, true, Option, None, refl, sym, ◌∙◌, ap, subst, arith}
+use Rattle.std.proofs.Common.{◌≡◌, ◌⊎◌, ◌+◌, ◌≤◌, [], ℕ, List, Bool, true, Option, None, refl, sym, ◌∙◌, ap, subst, arith}
 use Rattle.lvm_num.specs.Buffer.{Buffer}
 use Rattle.lvm_disk.specs.Device.{Device, IsReady}
 use Rattle.lvm_vol.specs.Log.{Log}
@@ -16,7 +16,7 @@ use Rattle.lvm_core.specs.State.{Core, State as Session, state}
 use Rattle.lvm_group.specs.declared.fault.GroupFault.{GroupFault}
 use Rattle.lvm_group.specs.declared.fault.GroupFault.TheVariants as fault
 use Rattle.lvm_group.specs.Endings.{KeepsHistory, StillHeld}
-use Rattle.lvm_line.specs.Moments.{GoesOn}
+use Rattle.lvm_line.specs.Moments.{GoesOn, IsBrokenOff}
 use Rattle.lvm_line.specs.Replies.{IsStuck}
 use Rattle.lvm_line.specs.Stages.{shelf_in, history_in, session_in, state_in, Between}
 use Rattle.lvm_line.specs.State.{State, EntersVolumes, without_facts}
@@ -29,8 +29,13 @@ use Rattle.lvm_line.proofs.Coming.{LitUp, lit_up, at_rest}
 
 -- ---- what a command promises, whatever its answer
 
-pub record Promised (old new : Session) : Type 0 where
-  pub keeps : IsHeld old.device old.core → (EntersVolumes old.core.history.facts new.core.history.facts → IsOnlyGroupOn old.device old.core.descriptor.id) → (run : ℕ) (first : Moment) → SpanGoesOn run first old new
+-- a span that leads to the command goes on, where no other group is found on the disks as it is asked
+abbrev pub KeepsAlone : Reply → Session → Session → Type 0
+KeepsAlone answer old new =
+    IsHeld old.device old.core → (EntersVolumes old.core.history.facts new.core.history.facts ⊎ IsBrokenOff answer → IsOnlyGroupOn old.device old.core.descriptor.id) → (run : ℕ) (first : Moment) → SpanGoesOn run first old new
+
+pub record Promised (answer : Reply) (old new : Session) : Type 0 where
+  pub keeps : KeepsAlone answer old new
   pub orders : new.device.orders ≡ old.device.orders
   pub epoch : new.core.status.stamp.epoch ≡ old.core.status.stamp.epoch
   pub history : KeepsHistory old.core.history new.core.history
@@ -48,10 +53,10 @@ pub record Continues (old new : Session) : Type 0 where
 abbrev pub session_of : {S : Type 0} → (S → Device) → S × Core → Session
 session_of device driver = state (device driver.0) driver.1
 
-module _ {S : Type 0} (device : S → Device) (was is : S × Core) (promised : Promised (session_of device was) (session_of device is)) where
+module _ {S : Type 0} (device : S → Device) (was is : S × Core) (answer : Reply) (promised : Promised answer (session_of device was) (session_of device is)) where
   -- the session goes on
-  pub goes_on : (answer : Reply) → Continues (session_of device was) (session_of device is) → Between device (stage.On was) (stage.On is) (GoesOn was.1.history.run answer)
-  goes_on answer continues = λ last. record {
+  pub goes_on : Continues (session_of device was) (session_of device is) → Between device (stage.On was) (stage.On is) (GoesOn was.1.history.run answer)
+  goes_on continues = λ last. record {
     keeps = λ timely held alone. promised.keeps held alone was.1.history.run (moment_of (session_of device was)) (keeps_still was.1.history.run (moment_of (session_of device was)));
     timely = λ timely. record {
       ahead = record {
@@ -70,9 +75,9 @@ module _ {S : Type 0} (device : S → Device) (was is : S × Core) (promised : P
   }
 
   -- the session is over, and the power is on
-  pub goes_off : (it : Stage S) (answer : Reply) → session_in it ≡ None → history_in it ≡ is.1.history → LitUp answer (device is.0) (device (shelf_in it)) → ((IsStuck answer → ⊥) → HaveAllLanded is.1.history.facts)
+  pub goes_off : (it : Stage S) → session_in it ≡ None → history_in it ≡ is.1.history → LitUp answer (device is.0) (device (shelf_in it)) → ((IsStuck answer → ⊥) → HaveAllLanded is.1.history.facts)
       → Between device (stage.On was) it (GoesOn was.1.history.run answer)
-  goes_off it answer off same up landed = λ last. subst (λ (s : State). GoesOn was.1.history.run answer (state_in device (stage.On was) last) s) (sym (over last)) (record {
+  goes_off it off same up landed = λ last. subst (λ (s : State). GoesOn was.1.history.run answer (state_in device (stage.On was) last) s) (sym (over last)) (record {
     keeps = λ timely held alone. up.keeps was.1.history.run (moment_of (session_of device was)) is.1.history.facts
         (promised.keeps held alone was.1.history.run (moment_of (session_of device was)) (keeps_still was.1.history.run (moment_of (session_of device was))));
     timely = λ timely. record {

@@ -8,7 +8,7 @@ use Rattle.lvm_kept.specs.Moments.{Moment}
 use Rattle.lvm_stamps.specs.Behind.{IsAhead}
 use Rattle.lvm_core.specs.State.{Core}
 use Rattle.lvm_core.specs.Sound.{HaveAllLanded}
-use Rattle.lvm_core.specs.Held.{IsHeld, IsOnlyGroupOn}
+use Rattle.lvm_core.specs.Held.{IsHeld}
 use Rattle.lvm_core.specs.Settled.{IsSettled as IsSettledCore}
 
 -- The shelf, what the history has so far, the session of the group that is on, if one is, and the clock's last moment.
@@ -53,7 +53,3 @@ is_of_volume other = false
 -- such entries were entered
 abbrev pub EntersVolumes : List Fact → List Fact → Type 0
 EntersVolumes old new = count_by is_of_volume old < count_by is_of_volume new
-
--- Where a volume is made or removed meanwhile, no disks find a group but that of the session.
-abbrev pub IsAlone : State → State → Type 0
-IsAlone old new = EntersVolumes old.moment.facts new.moment.facts → IfSome old.session (λ core. IsOnlyGroupOn old.moment.device core.descriptor.id)

@@ -37,7 +37,7 @@ pub record IsRun (run last : ℕ) (room : Room) (entry exit : Device) (input lef
   pub ready : (status ≡ 6 → ⊥) → IsReady exit
   pub power : exit.power ≡ true
 
--- In each line of the run that made or removed a volume no disks found a group but the one that was on.
+-- In each line of the run that made or removed a volume, or was broken off at it, no disks found a group but the one that was on.
 abbrev pub RanAlone : {run last : ℕ} {room : Room} {entry exit : Device} {input left before after : Stream} {history : Option Log} {status refused : ℕ} → IsRun run last room entry exit input left before after history status refused → Type 0
 RanAlone ran = StaysAlone ran.part.script × EndsAlone ran.part.ends
 

@@ -1,13 +1,17 @@
 use Rattle.std.proofs.Common.{◌∙◌, ℕ, refl, sym, ap, subst, Ok, Err}
 use Rattle.lvm_group.specs.Volumes.{IsWith, MklvGives}
 use Rattle.lvm_line.specs.Disks.{patience_of_line}
-use Rattle.lvm_line.specs.Stages.{shelf_in, history_in, state_in}
-use Rattle.lvm_line.specs.Volumes.{IsOver, MakesVolume, MklvFails, wanted}
+use Rattle.lvm_line.specs.Moments.{GoesOn}
+use Rattle.lvm_line.specs.Stages.{shelf_in, history_in, state_in, Between}
+use Rattle.lvm_line.specs.State.{without_facts}
+use Rattle.lvm_line.specs.Volumes.{IsOver, MakesVolume, MklvFails, refusal_for, wanted}
 use Rattle.lvm_line.specs.declared.reply.Refusal.{Refusal}
+use Rattle.lvm_line.specs.declared.reply.Reply.{Reply}
 use Rattle.lvm_line.specs.declared.reply.Reply.TheVariants as reply
 use Rattle.lvm_line.specs.declared.stage.Stage.{Stage}
-use Rattle.lvm_line.proofs.Commanding.{Promised, session_of, rooms_stay}
-use Rattle.lvm_line.proofs.Ending.{mklv_facts, dark_still, lit_still}
+use Rattle.lvm_line.specs.declared.stage.Stage.TheVariants as stage
+use Rattle.lvm_line.proofs.Commanding.{Promised, session_of}
+use Rattle.lvm_line.proofs.Ending.{mklv_facts, dark_still, lit_still, failed_keeps, made_keeps}
 use Rattle.lvm_line.proofs.Landing.{mklv_landed}
 use Rattle.lvm_line.proofs.OfVolumes.{LeftSo, answered_done, failed_done, answered_goes, failed_goes, failed_orders}
 use Rattle.lvm_line.proofs.volumes.make_volume.Goals as goal
@@ -31,8 +35,8 @@ returns-in-Ok-clause-does g c = λ group on last.
 
 pub returns-in-Ok-clause-goes : goal.returns-in-Ok-clause-goes
 returns-in-Ok-clause-goes g c =
-    let promised : Promised (session_of g.S.Shelf.device c.args.driver) (session_of g.S.Shelf.device c.mklv.new.driver) = record {
-      keeps = c.mklv.ensures.keeps;
+    let promised : Promised reply.Ok (session_of g.S.Shelf.device c.args.driver) (session_of g.S.Shelf.device c.mklv.new.driver) = record {
+      keeps = made_keeps (wanted c.args.name c.args.copies c.args.mode c.args.policy c.args.lps) c.in-Ok.field-0 (session_of g.S.Shelf.device c.args.driver) (session_of g.S.Shelf.device c.mklv.new.driver) c.mklv.ensures.keeps (subst (λ (n : ℕ). MklvGives (wanted c.args.name c.args.copies c.args.mode c.args.policy c.args.lps) n (session_of g.S.Shelf.device c.args.driver) (session_of g.S.Shelf.device c.mklv.new.driver) (Ok c.in-Ok.field-0)) c.whole-patience.ensures c.in-Ok.ensures.gives);
       orders = c.mklv.ensures.writes.orders;
       epoch = c.mklv.ensures.stamps.epoch;
       history = c.mklv.ensures.history;
@@ -41,26 +45,18 @@ returns-in-Ok-clause-goes g c =
       waits = c.mklv.ensures.waited.later;
     } in
     let gives = (subst (λ (n : ℕ). MklvGives (wanted c.args.name c.args.copies c.args.mode c.args.policy c.args.lps) n (session_of g.S.Shelf.device c.args.driver) (session_of g.S.Shelf.device c.mklv.new.driver) (Ok c.in-Ok.field-0)) c.whole-patience.ensures c.in-Ok.ensures.gives) in
-    let landed = mklv_landed (wanted c.args.name c.args.copies c.args.mode c.args.policy c.args.lps) patience_of_line (session_of g.S.Shelf.device c.args.driver) (session_of g.S.Shelf.device c.mklv.new.driver) c.requires.settled.landed (Ok c.in-Ok.field-0) gives in
-    answered_goes g.S.Shelf.device c.args.driver c.mklv.new.driver c.requires.settled promised landed c.answered.result.stage c.answered.result.reply c.answered.ensures.stage (record {
+    let landed = (mklv_landed (wanted c.args.name c.args.copies c.args.mode c.args.policy c.args.lps) patience_of_line (session_of g.S.Shelf.device c.args.driver) (session_of g.S.Shelf.device c.mklv.new.driver) c.requires.settled.landed (Ok c.in-Ok.field-0) (subst (λ (n : ℕ). MklvGives (wanted c.args.name c.args.copies c.args.mode c.args.policy c.args.lps) n (session_of g.S.Shelf.device c.args.driver) (session_of g.S.Shelf.device c.mklv.new.driver) (Ok c.in-Ok.field-0)) c.whole-patience.ensures c.in-Ok.ensures.gives)) in
+    subst (λ (a : Reply). Between g.S.Shelf.device (stage.On c.args.driver) c.answered.result.stage (GoesOn c.args.driver.1.history.run a)) (sym c.answered.ensures.reply)
+    (answered_goes g.S.Shelf.device c.args.driver c.mklv.new.driver c.requires.settled reply.Ok promised landed c.answered.result.stage c.answered.ensures.stage (record {
       settled = c.in-Ok.ensures.settled (record { on = c.requires.settled.session.power; requests = c.requires.settled.session.quiet.requests });
       ready = gives.ready;
       landed = landed;
       held = c.in-Ok.ensures.held;
-    })
+    }))
 
 pub returns-in-Ok-clause-rooms : goal.returns-in-Ok-clause-rooms
 returns-in-Ok-clause-rooms g c =
-    let promised : Promised (session_of g.S.Shelf.device c.args.driver) (session_of g.S.Shelf.device c.mklv.new.driver) = record {
-      keeps = c.mklv.ensures.keeps;
-      orders = c.mklv.ensures.writes.orders;
-      epoch = c.mklv.ensures.stamps.epoch;
-      history = c.mklv.ensures.history;
-      calm = c.mklv.ensures.calm;
-      behind = c.mklv.ensures.behind;
-      waits = c.mklv.ensures.waited.later;
-    } in
-    rooms_stay g.S.Shelf.device c.args.driver c.mklv.new.driver promised c.answered.result.stage (ap (λ (s : Stage g.row.S.Denot). history_in s) c.answered.ensures.stage)
+    ap without_facts (ap (λ (s : Stage g.row.S.Denot). history_in s) c.answered.ensures.stage) ∙ c.mklv.ensures.history.room
 
 pub returns-in-Ok-clause-orders : goal.returns-in-Ok-clause-orders
 returns-in-Ok-clause-orders g c = ap (λ (s : Stage g.row.S.Denot). (g.S.Shelf.device (shelf_in s)).orders) c.answered.ensures.stage ∙ c.mklv.ensures.writes.orders
@@ -83,8 +79,8 @@ returns-in-Err-clause-goes g c =
       on = λ goes. c.refused.ensures.stage ∙ c.after.ensures.on goes;
       history = ap (λ (s : Stage g.row.S.Denot). history_in s) c.refused.ensures.stage ∙ c.after.ensures.history;
     } in
-    let promised : Promised (session_of g.S.Shelf.device c.args.driver) (session_of g.S.Shelf.device c.mklv.new.driver) = record {
-      keeps = c.mklv.ensures.keeps;
+    let promised : Promised (reply.Refused (refusal_for c.in-Err.why)) (session_of g.S.Shelf.device c.args.driver) (session_of g.S.Shelf.device c.mklv.new.driver) = record {
+      keeps = failed_keeps patience_of_line (session_of g.S.Shelf.device c.args.driver) (session_of g.S.Shelf.device c.mklv.new.driver) c.mklv.ensures.keeps c.in-Err.why (mklv_facts (wanted c.args.name c.args.copies c.args.mode c.args.policy c.args.lps) patience_of_line (session_of g.S.Shelf.device c.args.driver) (session_of g.S.Shelf.device c.mklv.new.driver) c.requires.settled.session.power c.in-Err.why (subst (λ (n : ℕ). MklvGives (wanted c.args.name c.args.copies c.args.mode c.args.policy c.args.lps) n (session_of g.S.Shelf.device c.args.driver) (session_of g.S.Shelf.device c.mklv.new.driver) (Err c.in-Err.why)) c.whole-patience.ensures c.in-Err.ensures.gives));
       orders = c.mklv.ensures.writes.orders;
       epoch = c.mklv.ensures.stamps.epoch;
       history = c.mklv.ensures.history;
@@ -92,22 +88,13 @@ returns-in-Err-clause-goes g c =
       behind = c.mklv.ensures.behind;
       waits = c.mklv.ensures.waited.later;
     } in
-    let landed = mklv_landed (wanted c.args.name c.args.copies c.args.mode c.args.policy c.args.lps) patience_of_line (session_of g.S.Shelf.device c.args.driver) (session_of g.S.Shelf.device c.mklv.new.driver) c.requires.settled.landed (Err c.in-Err.why) (subst (λ (n : ℕ). MklvGives (wanted c.args.name c.args.copies c.args.mode c.args.policy c.args.lps) n (session_of g.S.Shelf.device c.args.driver) (session_of g.S.Shelf.device c.mklv.new.driver) (Err c.in-Err.why)) c.whole-patience.ensures c.in-Err.ensures.gives) in
-    failed_goes g.S.Shelf.device c.args.driver c.mklv.new.driver c.requires.settled promised landed c.in-Err.why c.refused.result.stage c.refused.result.reply so (c.refused.ensures.reply ∙ ap (λ (r : Refusal). reply.Refused r) c.refusal_for.ensures) (mklv_facts (wanted c.args.name c.args.copies c.args.mode c.args.policy c.args.lps) patience_of_line (session_of g.S.Shelf.device c.args.driver) (session_of g.S.Shelf.device c.mklv.new.driver) c.requires.settled.session.power c.in-Err.why (subst (λ (n : ℕ). MklvGives (wanted c.args.name c.args.copies c.args.mode c.args.policy c.args.lps) n (session_of g.S.Shelf.device c.args.driver) (session_of g.S.Shelf.device c.mklv.new.driver) (Err c.in-Err.why)) c.whole-patience.ensures c.in-Err.ensures.gives))
-    (c.in-Err.ensures.settled (record { on = c.requires.settled.session.power; requests = c.requires.settled.session.quiet.requests })) c.in-Err.ensures.held
+    subst (λ (a : Reply). Between g.S.Shelf.device (stage.On c.args.driver) c.refused.result.stage (GoesOn c.args.driver.1.history.run a)) (sym (c.refused.ensures.reply ∙ ap (λ (r : Refusal). reply.Refused r) c.refusal_for.ensures))
+    (failed_goes g.S.Shelf.device c.args.driver c.mklv.new.driver c.requires.settled c.in-Err.why promised (mklv_landed (wanted c.args.name c.args.copies c.args.mode c.args.policy c.args.lps) patience_of_line (session_of g.S.Shelf.device c.args.driver) (session_of g.S.Shelf.device c.mklv.new.driver) c.requires.settled.landed (Err c.in-Err.why) (subst (λ (n : ℕ). MklvGives (wanted c.args.name c.args.copies c.args.mode c.args.policy c.args.lps) n (session_of g.S.Shelf.device c.args.driver) (session_of g.S.Shelf.device c.mklv.new.driver) (Err c.in-Err.why)) c.whole-patience.ensures c.in-Err.ensures.gives)) c.refused.result.stage so (mklv_facts (wanted c.args.name c.args.copies c.args.mode c.args.policy c.args.lps) patience_of_line (session_of g.S.Shelf.device c.args.driver) (session_of g.S.Shelf.device c.mklv.new.driver) c.requires.settled.session.power c.in-Err.why (subst (λ (n : ℕ). MklvGives (wanted c.args.name c.args.copies c.args.mode c.args.policy c.args.lps) n (session_of g.S.Shelf.device c.args.driver) (session_of g.S.Shelf.device c.mklv.new.driver) (Err c.in-Err.why)) c.whole-patience.ensures c.in-Err.ensures.gives))
+    (c.in-Err.ensures.settled (record { on = c.requires.settled.session.power; requests = c.requires.settled.session.quiet.requests })) c.in-Err.ensures.held)
 
 pub returns-in-Err-clause-rooms : goal.returns-in-Err-clause-rooms
 returns-in-Err-clause-rooms g c =
-    let promised : Promised (session_of g.S.Shelf.device c.args.driver) (session_of g.S.Shelf.device c.mklv.new.driver) = record {
-      keeps = c.mklv.ensures.keeps;
-      orders = c.mklv.ensures.writes.orders;
-      epoch = c.mklv.ensures.stamps.epoch;
-      history = c.mklv.ensures.history;
-      calm = c.mklv.ensures.calm;
-      behind = c.mklv.ensures.behind;
-      waits = c.mklv.ensures.waited.later;
-    } in
-    rooms_stay g.S.Shelf.device c.args.driver c.mklv.new.driver promised c.refused.result.stage (ap (λ (s : Stage g.row.S.Denot). history_in s) c.refused.ensures.stage ∙ c.after.ensures.history)
+    ap without_facts (ap (λ (s : Stage g.row.S.Denot). history_in s) c.refused.ensures.stage ∙ c.after.ensures.history) ∙ c.mklv.ensures.history.room
 
 pub returns-in-Err-clause-orders : goal.returns-in-Err-clause-orders
 returns-in-Err-clause-orders g c =
@@ -116,8 +103,8 @@ returns-in-Err-clause-orders g c =
       on = λ goes. c.refused.ensures.stage ∙ c.after.ensures.on goes;
       history = ap (λ (s : Stage g.row.S.Denot). history_in s) c.refused.ensures.stage ∙ c.after.ensures.history;
     } in
-    let promised : Promised (session_of g.S.Shelf.device c.args.driver) (session_of g.S.Shelf.device c.mklv.new.driver) = record {
-      keeps = c.mklv.ensures.keeps;
+    let promised : Promised (reply.Refused (refusal_for c.in-Err.why)) (session_of g.S.Shelf.device c.args.driver) (session_of g.S.Shelf.device c.mklv.new.driver) = record {
+      keeps = failed_keeps patience_of_line (session_of g.S.Shelf.device c.args.driver) (session_of g.S.Shelf.device c.mklv.new.driver) c.mklv.ensures.keeps c.in-Err.why (mklv_facts (wanted c.args.name c.args.copies c.args.mode c.args.policy c.args.lps) patience_of_line (session_of g.S.Shelf.device c.args.driver) (session_of g.S.Shelf.device c.mklv.new.driver) c.requires.settled.session.power c.in-Err.why (subst (λ (n : ℕ). MklvGives (wanted c.args.name c.args.copies c.args.mode c.args.policy c.args.lps) n (session_of g.S.Shelf.device c.args.driver) (session_of g.S.Shelf.device c.mklv.new.driver) (Err c.in-Err.why)) c.whole-patience.ensures c.in-Err.ensures.gives));
       orders = c.mklv.ensures.writes.orders;
       epoch = c.mklv.ensures.stamps.epoch;
       history = c.mklv.ensures.history;
@@ -125,4 +112,4 @@ returns-in-Err-clause-orders g c =
       behind = c.mklv.ensures.behind;
       waits = c.mklv.ensures.waited.later;
     } in
-    failed_orders g.S.Shelf.device c.args.driver c.mklv.new.driver c.requires.settled promised (mklv_landed (wanted c.args.name c.args.copies c.args.mode c.args.policy c.args.lps) patience_of_line (session_of g.S.Shelf.device c.args.driver) (session_of g.S.Shelf.device c.mklv.new.driver) c.requires.settled.landed (Err c.in-Err.why) (subst (λ (n : ℕ). MklvGives (wanted c.args.name c.args.copies c.args.mode c.args.policy c.args.lps) n (session_of g.S.Shelf.device c.args.driver) (session_of g.S.Shelf.device c.mklv.new.driver) (Err c.in-Err.why)) c.whole-patience.ensures c.in-Err.ensures.gives)) c.in-Err.why c.refused.result.stage so (mklv_facts (wanted c.args.name c.args.copies c.args.mode c.args.policy c.args.lps) patience_of_line (session_of g.S.Shelf.device c.args.driver) (session_of g.S.Shelf.device c.mklv.new.driver) c.requires.settled.session.power c.in-Err.why (subst (λ (n : ℕ). MklvGives (wanted c.args.name c.args.copies c.args.mode c.args.policy c.args.lps) n (session_of g.S.Shelf.device c.args.driver) (session_of g.S.Shelf.device c.mklv.new.driver) (Err c.in-Err.why)) c.whole-patience.ensures c.in-Err.ensures.gives))
+    failed_orders g.S.Shelf.device c.args.driver c.mklv.new.driver c.requires.settled c.in-Err.why promised (mklv_landed (wanted c.args.name c.args.copies c.args.mode c.args.policy c.args.lps) patience_of_line (session_of g.S.Shelf.device c.args.driver) (session_of g.S.Shelf.device c.mklv.new.driver) c.requires.settled.landed (Err c.in-Err.why) (subst (λ (n : ℕ). MklvGives (wanted c.args.name c.args.copies c.args.mode c.args.policy c.args.lps) n (session_of g.S.Shelf.device c.args.driver) (session_of g.S.Shelf.device c.mklv.new.driver) (Err c.in-Err.why)) c.whole-patience.ensures c.in-Err.ensures.gives)) c.refused.result.stage so (mklv_facts (wanted c.args.name c.args.copies c.args.mode c.args.policy c.args.lps) patience_of_line (session_of g.S.Shelf.device c.args.driver) (session_of g.S.Shelf.device c.mklv.new.driver) c.requires.settled.session.power c.in-Err.why (subst (λ (n : ℕ). MklvGives (wanted c.args.name c.args.copies c.args.mode c.args.policy c.args.lps) n (session_of g.S.Shelf.device c.args.driver) (session_of g.S.Shelf.device c.mklv.new.driver) (Err c.in-Err.why)) c.whole-patience.ensures c.in-Err.ensures.gives))

@@ -2,13 +2,17 @@ use Rattle.std.proofs.Common.{◌≡◌, ◌∙◌, ℕ, refl, sym, ap, subst, O
 use Rattle.lvm_group.specs.NewVolume.{without_volume}
 use Rattle.lvm_group.specs.Volumes.{RmlvGives}
 use Rattle.lvm_line.specs.Disks.{patience_of_line}
-use Rattle.lvm_line.specs.Stages.{shelf_in, history_in, state_in}
-use Rattle.lvm_line.specs.Volumes.{IsOver, RemovesVolume, RmlvFails}
+use Rattle.lvm_line.specs.Moments.{GoesOn}
+use Rattle.lvm_line.specs.Stages.{shelf_in, history_in, state_in, Between}
+use Rattle.lvm_line.specs.State.{without_facts}
+use Rattle.lvm_line.specs.Volumes.{IsOver, RemovesVolume, RmlvFails, refusal_for}
 use Rattle.lvm_line.specs.declared.reply.Refusal.{Refusal}
+use Rattle.lvm_line.specs.declared.reply.Reply.{Reply}
 use Rattle.lvm_line.specs.declared.reply.Reply.TheVariants as reply
 use Rattle.lvm_line.specs.declared.stage.Stage.{Stage}
-use Rattle.lvm_line.proofs.Commanding.{Promised, session_of, rooms_stay}
-use Rattle.lvm_line.proofs.Ending.{rmlv_facts, dark_still, lit_still}
+use Rattle.lvm_line.specs.declared.stage.Stage.TheVariants as stage
+use Rattle.lvm_line.proofs.Commanding.{Promised, session_of}
+use Rattle.lvm_line.proofs.Ending.{rmlv_facts, dark_still, lit_still, failed_keeps, removed_keeps}
 use Rattle.lvm_line.proofs.Landing.{rmlv_landed}
 use Rattle.lvm_line.proofs.OfVolumes.{LeftSo, answered_done, failed_done, answered_goes, failed_goes, failed_orders}
 use Rattle.lvm_line.proofs.volumes.remove_volume.Goals as goal
@@ -32,8 +36,8 @@ returns-in-Ok-clause-does g c = λ name its last.
 
 pub returns-in-Ok-clause-goes : goal.returns-in-Ok-clause-goes
 returns-in-Ok-clause-goes g c =
-    let promised : Promised (session_of g.S.Shelf.device c.args.driver) (session_of g.S.Shelf.device c.rmlv.new.driver) = record {
-      keeps = c.rmlv.ensures.keeps;
+    let promised : Promised reply.Ok (session_of g.S.Shelf.device c.args.driver) (session_of g.S.Shelf.device c.rmlv.new.driver) = record {
+      keeps = removed_keeps c.args.lv (session_of g.S.Shelf.device c.args.driver) (session_of g.S.Shelf.device c.rmlv.new.driver) c.rmlv.ensures.keeps (subst (λ (n : ℕ). RmlvGives c.args.lv n (session_of g.S.Shelf.device c.args.driver) (session_of g.S.Shelf.device c.rmlv.new.driver) (Ok tt)) c.whole-patience.ensures c.in-Ok.ensures.gives);
       orders = c.rmlv.ensures.writes.orders;
       epoch = c.rmlv.ensures.stamps.epoch;
       history = c.rmlv.ensures.history;
@@ -42,26 +46,18 @@ returns-in-Ok-clause-goes g c =
       waits = c.rmlv.ensures.waited.later;
     } in
     let gives = (subst (λ (n : ℕ). RmlvGives c.args.lv n (session_of g.S.Shelf.device c.args.driver) (session_of g.S.Shelf.device c.rmlv.new.driver) (Ok tt)) c.whole-patience.ensures c.in-Ok.ensures.gives) in
-    let landed = rmlv_landed c.args.lv patience_of_line (session_of g.S.Shelf.device c.args.driver) (session_of g.S.Shelf.device c.rmlv.new.driver) c.requires.settled.landed (Ok tt) gives in
-    answered_goes g.S.Shelf.device c.args.driver c.rmlv.new.driver c.requires.settled promised landed c.answered.result.stage c.answered.result.reply c.answered.ensures.stage (record {
+    let landed = (rmlv_landed c.args.lv patience_of_line (session_of g.S.Shelf.device c.args.driver) (session_of g.S.Shelf.device c.rmlv.new.driver) c.requires.settled.landed (Ok tt) (subst (λ (n : ℕ). RmlvGives c.args.lv n (session_of g.S.Shelf.device c.args.driver) (session_of g.S.Shelf.device c.rmlv.new.driver) (Ok tt)) c.whole-patience.ensures c.in-Ok.ensures.gives)) in
+    subst (λ (a : Reply). Between g.S.Shelf.device (stage.On c.args.driver) c.answered.result.stage (GoesOn c.args.driver.1.history.run a)) (sym c.answered.ensures.reply)
+    (answered_goes g.S.Shelf.device c.args.driver c.rmlv.new.driver c.requires.settled reply.Ok promised landed c.answered.result.stage c.answered.ensures.stage (record {
       settled = c.in-Ok.ensures.settled (record { on = c.requires.settled.session.power; requests = c.requires.settled.session.quiet.requests });
       ready = gives.ready;
       landed = landed;
       held = c.in-Ok.ensures.held;
-    })
+    }))
 
 pub returns-in-Ok-clause-rooms : goal.returns-in-Ok-clause-rooms
 returns-in-Ok-clause-rooms g c =
-    let promised : Promised (session_of g.S.Shelf.device c.args.driver) (session_of g.S.Shelf.device c.rmlv.new.driver) = record {
-      keeps = c.rmlv.ensures.keeps;
-      orders = c.rmlv.ensures.writes.orders;
-      epoch = c.rmlv.ensures.stamps.epoch;
-      history = c.rmlv.ensures.history;
-      calm = c.rmlv.ensures.calm;
-      behind = c.rmlv.ensures.behind;
-      waits = c.rmlv.ensures.waited.later;
-    } in
-    rooms_stay g.S.Shelf.device c.args.driver c.rmlv.new.driver promised c.answered.result.stage (ap (λ (s : Stage g.row.S.Denot). history_in s) c.answered.ensures.stage)
+    ap without_facts (ap (λ (s : Stage g.row.S.Denot). history_in s) c.answered.ensures.stage) ∙ c.rmlv.ensures.history.room
 
 pub returns-in-Ok-clause-orders : goal.returns-in-Ok-clause-orders
 returns-in-Ok-clause-orders g c = ap (λ (s : Stage g.row.S.Denot). (g.S.Shelf.device (shelf_in s)).orders) c.answered.ensures.stage ∙ c.rmlv.ensures.writes.orders
@@ -84,8 +80,8 @@ returns-in-Err-clause-goes g c =
       on = λ goes. c.refused.ensures.stage ∙ c.after.ensures.on goes;
       history = ap (λ (s : Stage g.row.S.Denot). history_in s) c.refused.ensures.stage ∙ c.after.ensures.history;
     } in
-    let promised : Promised (session_of g.S.Shelf.device c.args.driver) (session_of g.S.Shelf.device c.rmlv.new.driver) = record {
-      keeps = c.rmlv.ensures.keeps;
+    let promised : Promised (reply.Refused (refusal_for c.in-Err.fault)) (session_of g.S.Shelf.device c.args.driver) (session_of g.S.Shelf.device c.rmlv.new.driver) = record {
+      keeps = failed_keeps patience_of_line (session_of g.S.Shelf.device c.args.driver) (session_of g.S.Shelf.device c.rmlv.new.driver) c.rmlv.ensures.keeps c.in-Err.fault (rmlv_facts c.args.lv patience_of_line (session_of g.S.Shelf.device c.args.driver) (session_of g.S.Shelf.device c.rmlv.new.driver) c.requires.settled.session.power c.in-Err.fault (subst (λ (n : ℕ). RmlvGives c.args.lv n (session_of g.S.Shelf.device c.args.driver) (session_of g.S.Shelf.device c.rmlv.new.driver) (Err c.in-Err.fault)) c.whole-patience.ensures c.in-Err.ensures.gives));
       orders = c.rmlv.ensures.writes.orders;
       epoch = c.rmlv.ensures.stamps.epoch;
       history = c.rmlv.ensures.history;
@@ -93,22 +89,13 @@ returns-in-Err-clause-goes g c =
       behind = c.rmlv.ensures.behind;
       waits = c.rmlv.ensures.waited.later;
     } in
-    let landed = rmlv_landed c.args.lv patience_of_line (session_of g.S.Shelf.device c.args.driver) (session_of g.S.Shelf.device c.rmlv.new.driver) c.requires.settled.landed (Err c.in-Err.fault) (subst (λ (n : ℕ). RmlvGives c.args.lv n (session_of g.S.Shelf.device c.args.driver) (session_of g.S.Shelf.device c.rmlv.new.driver) (Err c.in-Err.fault)) c.whole-patience.ensures c.in-Err.ensures.gives) in
-    failed_goes g.S.Shelf.device c.args.driver c.rmlv.new.driver c.requires.settled promised landed c.in-Err.fault c.refused.result.stage c.refused.result.reply so (c.refused.ensures.reply ∙ ap (λ (r : Refusal). reply.Refused r) c.refusal_for.ensures) (rmlv_facts c.args.lv patience_of_line (session_of g.S.Shelf.device c.args.driver) (session_of g.S.Shelf.device c.rmlv.new.driver) c.requires.settled.session.power c.in-Err.fault (subst (λ (n : ℕ). RmlvGives c.args.lv n (session_of g.S.Shelf.device c.args.driver) (session_of g.S.Shelf.device c.rmlv.new.driver) (Err c.in-Err.fault)) c.whole-patience.ensures c.in-Err.ensures.gives))
-    (c.in-Err.ensures.settled (record { on = c.requires.settled.session.power; requests = c.requires.settled.session.quiet.requests })) c.in-Err.ensures.held
+    subst (λ (a : Reply). Between g.S.Shelf.device (stage.On c.args.driver) c.refused.result.stage (GoesOn c.args.driver.1.history.run a)) (sym (c.refused.ensures.reply ∙ ap (λ (r : Refusal). reply.Refused r) c.refusal_for.ensures))
+    (failed_goes g.S.Shelf.device c.args.driver c.rmlv.new.driver c.requires.settled c.in-Err.fault promised (rmlv_landed c.args.lv patience_of_line (session_of g.S.Shelf.device c.args.driver) (session_of g.S.Shelf.device c.rmlv.new.driver) c.requires.settled.landed (Err c.in-Err.fault) (subst (λ (n : ℕ). RmlvGives c.args.lv n (session_of g.S.Shelf.device c.args.driver) (session_of g.S.Shelf.device c.rmlv.new.driver) (Err c.in-Err.fault)) c.whole-patience.ensures c.in-Err.ensures.gives)) c.refused.result.stage so (rmlv_facts c.args.lv patience_of_line (session_of g.S.Shelf.device c.args.driver) (session_of g.S.Shelf.device c.rmlv.new.driver) c.requires.settled.session.power c.in-Err.fault (subst (λ (n : ℕ). RmlvGives c.args.lv n (session_of g.S.Shelf.device c.args.driver) (session_of g.S.Shelf.device c.rmlv.new.driver) (Err c.in-Err.fault)) c.whole-patience.ensures c.in-Err.ensures.gives))
+    (c.in-Err.ensures.settled (record { on = c.requires.settled.session.power; requests = c.requires.settled.session.quiet.requests })) c.in-Err.ensures.held)
 
 pub returns-in-Err-clause-rooms : goal.returns-in-Err-clause-rooms
 returns-in-Err-clause-rooms g c =
-    let promised : Promised (session_of g.S.Shelf.device c.args.driver) (session_of g.S.Shelf.device c.rmlv.new.driver) = record {
-      keeps = c.rmlv.ensures.keeps;
-      orders = c.rmlv.ensures.writes.orders;
-      epoch = c.rmlv.ensures.stamps.epoch;
-      history = c.rmlv.ensures.history;
-      calm = c.rmlv.ensures.calm;
-      behind = c.rmlv.ensures.behind;
-      waits = c.rmlv.ensures.waited.later;
-    } in
-    rooms_stay g.S.Shelf.device c.args.driver c.rmlv.new.driver promised c.refused.result.stage (ap (λ (s : Stage g.row.S.Denot). history_in s) c.refused.ensures.stage ∙ c.after.ensures.history)
+    ap without_facts (ap (λ (s : Stage g.row.S.Denot). history_in s) c.refused.ensures.stage ∙ c.after.ensures.history) ∙ c.rmlv.ensures.history.room
 
 pub returns-in-Err-clause-orders : goal.returns-in-Err-clause-orders
 returns-in-Err-clause-orders g c =
@@ -117,8 +104,8 @@ returns-in-Err-clause-orders g c =
       on = λ goes. c.refused.ensures.stage ∙ c.after.ensures.on goes;
       history = ap (λ (s : Stage g.row.S.Denot). history_in s) c.refused.ensures.stage ∙ c.after.ensures.history;
     } in
-    let promised : Promised (session_of g.S.Shelf.device c.args.driver) (session_of g.S.Shelf.device c.rmlv.new.driver) = record {
-      keeps = c.rmlv.ensures.keeps;
+    let promised : Promised (reply.Refused (refusal_for c.in-Err.fault)) (session_of g.S.Shelf.device c.args.driver) (session_of g.S.Shelf.device c.rmlv.new.driver) = record {
+      keeps = failed_keeps patience_of_line (session_of g.S.Shelf.device c.args.driver) (session_of g.S.Shelf.device c.rmlv.new.driver) c.rmlv.ensures.keeps c.in-Err.fault (rmlv_facts c.args.lv patience_of_line (session_of g.S.Shelf.device c.args.driver) (session_of g.S.Shelf.device c.rmlv.new.driver) c.requires.settled.session.power c.in-Err.fault (subst (λ (n : ℕ). RmlvGives c.args.lv n (session_of g.S.Shelf.device c.args.driver) (session_of g.S.Shelf.device c.rmlv.new.driver) (Err c.in-Err.fault)) c.whole-patience.ensures c.in-Err.ensures.gives));
       orders = c.rmlv.ensures.writes.orders;
       epoch = c.rmlv.ensures.stamps.epoch;
       history = c.rmlv.ensures.history;
@@ -126,4 +113,4 @@ returns-in-Err-clause-orders g c =
       behind = c.rmlv.ensures.behind;
       waits = c.rmlv.ensures.waited.later;
     } in
-    failed_orders g.S.Shelf.device c.args.driver c.rmlv.new.driver c.requires.settled promised (rmlv_landed c.args.lv patience_of_line (session_of g.S.Shelf.device c.args.driver) (session_of g.S.Shelf.device c.rmlv.new.driver) c.requires.settled.landed (Err c.in-Err.fault) (subst (λ (n : ℕ). RmlvGives c.args.lv n (session_of g.S.Shelf.device c.args.driver) (session_of g.S.Shelf.device c.rmlv.new.driver) (Err c.in-Err.fault)) c.whole-patience.ensures c.in-Err.ensures.gives)) c.in-Err.fault c.refused.result.stage so (rmlv_facts c.args.lv patience_of_line (session_of g.S.Shelf.device c.args.driver) (session_of g.S.Shelf.device c.rmlv.new.driver) c.requires.settled.session.power c.in-Err.fault (subst (λ (n : ℕ). RmlvGives c.args.lv n (session_of g.S.Shelf.device c.args.driver) (session_of g.S.Shelf.device c.rmlv.new.driver) (Err c.in-Err.fault)) c.whole-patience.ensures c.in-Err.ensures.gives))
+    failed_orders g.S.Shelf.device c.args.driver c.rmlv.new.driver c.requires.settled c.in-Err.fault promised (rmlv_landed c.args.lv patience_of_line (session_of g.S.Shelf.device c.args.driver) (session_of g.S.Shelf.device c.rmlv.new.driver) c.requires.settled.landed (Err c.in-Err.fault) (subst (λ (n : ℕ). RmlvGives c.args.lv n (session_of g.S.Shelf.device c.args.driver) (session_of g.S.Shelf.device c.rmlv.new.driver) (Err c.in-Err.fault)) c.whole-patience.ensures c.in-Err.ensures.gives)) c.refused.result.stage so (rmlv_facts c.args.lv patience_of_line (session_of g.S.Shelf.device c.args.driver) (session_of g.S.Shelf.device c.rmlv.new.driver) c.requires.settled.session.power c.in-Err.fault (subst (λ (n : ℕ). RmlvGives c.args.lv n (session_of g.S.Shelf.device c.args.driver) (session_of g.S.Shelf.device c.rmlv.new.driver) (Err c.in-Err.fault)) c.whole-patience.ensures c.in-Err.ensures.gives))
