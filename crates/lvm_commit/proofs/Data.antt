@@ -1,5 +1,5 @@
 -- Data in a free partition keeps the history.
-use Rattle.std.proofs.Common.{◌≡◌, inl, ⊎_elim, ℕ, true, ◌&&◌, List, Option, None, sym, ap, subst, ◌∙◌, eq-eqb}
+use Rattle.std.proofs.Common.{◌≡◌, inl, ⊎_elim, ℕ, true, ◌&&◌, List, Option, None, sym, ap, subst, ◌∙◌}
 use Rattle.std.specs.Prelude.{IsTrue, not}
 use Rattle.lvm_num.specs.declared.place.Pp.{Pp}
 use Rattle.lvm_num.specs.declared.descriptor.Descriptor.{Descriptor}
@@ -20,7 +20,7 @@ use Rattle.lvm_kept.proofs.Finding.{finding_reads}
 use Rattle.lvm_change.proofs.Booleans.{split, no_some}
 use Rattle.lvm_commit.specs.Committed.{ShowsCommitted}
 use Rattle.lvm_commit.specs.LawsOfData.{IsFree, IsSectorOf, PartitionChange, FreeDataKeeps}
-use Rattle.lvm_commit.proofs.Found.{only_found}
+use Rattle.lvm_commit.proofs.Found.{shows_group, only_found}
 use Rattle.lvm_commit.proofs.Free.{all_that_pass, none_stands}
 use Rattle.lvm_commit.proofs.Members.{one_group, parts_of}
 
@@ -28,7 +28,7 @@ module _ (group : Descriptor) (status : Status) (there : Disks) (pp : Pp) (old n
     (on_it : IsTrue (there pp.disk)) (free : IsFree group pp) (change : PartitionChange group.mib pp old new) (kept : Kept old facts) where
   -- the disk shows the group
   showing : passes (is_of group.id) (old.descriptor pp.disk) ≡ true
-  showing = ap (passes (is_of group.id)) (shows.described pp.disk on_it) ∙ eq-eqb shows.descriptor.value.id group.id (ap (λ (g : Descriptor). g.id) shows.value)
+  showing = shows_group old group status there shows pp.disk on_it
 
   -- so no copy of a volume that is found has other data
   unchanged : (id : ℕ) (k : Descriptor) → IsFound old id k → (set : Disks) → ((d : ℕ) → IsTrue (set d) → passes (is_of id) (old.descriptor d) ≡ true) → (s : Option (Stamped Status)) → BlocksChange old new facts k set s

@@ -1,17 +1,17 @@
 -- What quorums find of a session's group: the committed descriptor and the committed status.
-use Rattle.std.proofs.Common.{◌≡◌, inl, inr, ⊎_elim, ℕ, true, List, Some, refl, sym, ap, subst, ◌∙◌, eq-eqb}
+use Rattle.std.proofs.Common.{◌≡◌, inl, inr, ⊎_elim, ℕ, ◌<◌, Bool, true, false, List, Option, Some, refl, sym, ap, subst, ◌∙◌, eq-eqb}
 use Rattle.std.specs.Prelude.{IsTrue, []}
 use Rattle.std.proofs.lemmas.Bool.{eqb-true}
 use Rattle.lvm_num.specs.declared.descriptor.Descriptor.{Descriptor}
 use Rattle.lvm_num.specs.declared.status.Status.{Status}
 use Rattle.lvm_num.specs.Disks.{Disks}
 use Rattle.lvm_num.specs.Votes.{all_disks, CanRead, CanWrite}
-use Rattle.lvm_num.specs.Record.{Stamped, stamp_lt}
+use Rattle.lvm_num.specs.Record.{Stamped, stamp_lt, newest_below}
 use Rattle.lvm_num.proofs.Newest.{is_one, is_last}
 use Rattle.lvm_num.proofs.VotesLemmas.{read_meets_write}
 use Rattle.lvm_vol.specs.Facts.{Fact}
 use Rattle.lvm_kept.specs.Contents.{Contents}
-use Rattle.lvm_kept.specs.Group.{is_of, is_status_of, descriptor_among, Finds, IsFound, members_in, status_by, Reads}
+use Rattle.lvm_kept.specs.Group.{passes, is_of, is_status_of, descriptor_among, Finds, IsFound, members_in, status_by, Reads}
 use Rattle.lvm_kept.specs.Committed.{DescriptorStands, StatusStands, IsWithinDisks}
 use Rattle.lvm_kept.specs.Kept.{Kept}
 use Rattle.lvm_kept.proofs.Finding.{some_same, offered, is_offered, offers, finding_reads, finds_descriptor, meets_writers, newest_among}
@@ -19,6 +19,14 @@ use Rattle.lvm_change.proofs.Booleans.{clash}
 use Rattle.lvm_commit.specs.Committed.{IsAlike, ShowsCommitted}
 use Rattle.lvm_commit.specs.Laws.{OnlyCommittedIsFound, CommittedStatusIsRead, NewestIsBeginning}
 use Rattle.lvm_commit.proofs.Members.{shows_of, parts_of, same_votes}
+
+-- the newest of a set isn't before what one of its disks shows
+not_before : (X : Type 0) (of : X → Bool) (on : ℕ → Option (Stamped X)) (set : Disks) (n d : ℕ) (r newest : Stamped X)
+    → d < n → IsTrue (set d) → on d ≡ Some r → IsTrue (of r.value) → newest_below (offered of on set) n ≡ Some newest → stamp_lt newest.stamp r.stamp ≡ false
+not_before X of on set n d r newest lt in_set shows own found =
+    let last = is_last X (offered of on set) n d r lt (offers of on set d r in_set shows own) in
+    let same : newest ≡ last.0 = some_same newest last.0 (sym found ∙ last.1) in
+    ap (λ (x : Stamped X). stamp_lt x.stamp r.stamp) same ∙ last.2
 
 module _ (c : Contents) (group : Descriptor) (status : Status) (there : Disks) (shows : ShowsCommitted c group status there) where
   -- the committed records stand on the members that aren't missing
@@ -46,6 +54,10 @@ module _ (c : Contents) (group : Descriptor) (status : Status) (there : Disks) (
       own : IsTrue (is_status_of group.id shows.stands.value)
       own = eq-eqb shows.stands.value.id group.id (ap (λ (s : Status). s.id) shows.committed ∙ shows.own)
 
+  -- they show the group
+  pub shows_group : (d : ℕ) → IsTrue (there d) → passes (is_of group.id) (c.descriptor d) ≡ true
+  shows_group d is = ap (passes (is_of group.id)) (shows.described d is) ∙ eq-eqb shows.descriptor.value.id group.id (ap (λ (g : Descriptor). g.id) shows.value)
+
   module _ (facts : List Fact) (within : IsWithinDisks c) (enough : CanWrite group there) (kept : Kept c facts) where
     abbrev id : ℕ
     id = group.id
@@ -63,13 +75,12 @@ module _ (c : Contents) (group : Descriptor) (status : Status) (there : Disks) (
         let in_b = parts_of c b id k d both.2 in
         let own = shows_of (is_of id) (c.descriptor d) in_b.1 in
         let q : Stamped Descriptor = own.0 in
-        let last = is_last Descriptor (offered (is_of id) c.descriptor b) c.disks d q (within.descriptors d q own.1) (offers (is_of id) c.descriptor b d q in_b.0 own.1 own.2) in
+        let no_older = not_before Descriptor (is_of id) c.descriptor b c.disks d q f.newest (within.descriptors d q own.1) in_b.0 own.1 own.2 f.found in
         let one = is_one Descriptor (offered (is_of id) c.descriptor b) c.disks f.newest f.found in
         let from = is_offered (is_of id) c.descriptor b one.0 f.newest one.2 in
-        let same : f.newest ≡ last.0 = some_same f.newest last.0 (sym f.found ∙ last.1) in
         ⊎_elim
         (λ (alike : IsAlike f.newest.value group). subst (λ (g : Descriptor). IsAlike g group) f.is alike)
-        (λ (low : stamp_lt f.newest.stamp q.stamp ≡ true). absurd (clash (stamp_lt f.newest.stamp q.stamp) low (ap (λ (r : Stamped Descriptor). stamp_lt r.stamp q.stamp) same ∙ last.2)))
+        (λ (low : stamp_lt f.newest.stamp q.stamp ≡ true). absurd (clash (stamp_lt f.newest.stamp q.stamp) low no_older))
         (shows.began.since one.0 d f.newest q from.0 (eqb-true f.newest.value.id id from.1) both.1 own.1)
 
     -- so its quorum meets the members that aren't missing

@@ -46,6 +46,3 @@ same_votes a b alike = record { members = ap (λ (g : Descriptor). g.pvs) alike;
 
 pub same_room : (c : Contents) (d : ℕ) (a b : Descriptor) → IsAlike a b → has_room c d a ≡ has_room c d b
 same_room c d a b alike = ap (λ (g : Descriptor). has_room c d g) alike
-
-pub alike_back : (a b : Descriptor) → IsAlike a b → IsAlike b a
-alike_back a b alike = sym alike

@@ -32,7 +32,7 @@ use Rattle.lvm_change.proofs.Making.{stays_by}
 use Rattle.lvm_change.proofs.VaryingOn.{old_or_next}
 use Rattle.lvm_commit.specs.Committed.{SameMarks}
 use Rattle.lvm_commit.specs.Laws.{MayFollow, StatusFollows, StatusGoesOn}
-use Rattle.lvm_commit.proofs.Found.{only_found, status_read}
+use Rattle.lvm_commit.proofs.Found.{shows_group, only_found, status_read}
 use Rattle.lvm_commit.proofs.Members.{one_group, parts_of, among_all}
 
 -- tests that agree on a list let the same through
@@ -115,7 +115,7 @@ module _ (c : Contents) (group : Descriptor) (status : Status) (there targets : 
 
   -- the disks to which it goes show the group
   showing : (d : ℕ) → IsTrue (targets d) → passes (is_of id) (c.descriptor d) ≡ true
-  showing d target = ap (passes (is_of id)) (may.shows.described d (may.showing d target)) ∙ eq-eqb may.shows.descriptor.value.id id (ap (λ (g : Descriptor). g.id) may.shows.value)
+  showing d target = shows_group c group status there may.shows d (may.showing d target)
 
   module _ (new : Contents) (change : StatusesChange targets next c new) where
     abbrev now : Contents

@@ -1,5 +1,5 @@
 -- What stays committed while no record is written, and the moments of a write of data.
-use Rattle.std.proofs.Common.{◌≡◌, ◌⊎◌, inl, inr, ⊎_elim, ℕ, ◌+◌, ◌<◌, ◌≤◌, List, [], Option, Some, Result, sym, ap, subst, ◌∙◌, arith}
+use Rattle.std.proofs.Common.{◌≡◌, ◌⊎◌, inl, inr, ⊎_elim, ℕ, ◌+◌, ◌<◌, List, [], Option, Some, None, refl, sym, ap, subst, ◌∙◌, arith}
 use Rattle.std.specs.Prelude.{nat_lt, if◌then◌else◌}
 use Rattle.lvm_num.specs.declared.place.Pp.{Pp}
 use Rattle.lvm_num.specs.declared.record.Kind.{Kind}
@@ -12,12 +12,9 @@ use Rattle.lvm_num.specs.DescriptorBytes.{descriptor_of}
 use Rattle.lvm_num.specs.StatusBytes.{status_of}
 use Rattle.lvm_num.specs.Geometry.{data_start}
 use Rattle.lvm_num.specs.Record.{slot_start, slot_size}
-use Rattle.lvm_num.specs.Torn.{Sectors}
 use Rattle.lvm_num.specs.Votes.{all_disks}
-use Rattle.lvm_num.proofs.Records.{joined-same}
-use Rattle.lvm_rec.specs.Slots.{held, slot_of, slot_to_write, slot_for}
 use Rattle.lvm_vol.specs.Facts.{Fact}
-use Rattle.lvm_disk.specs.Device.{Media, Image, Flight, Device, image_of, IsCrashImage, MayLeave}
+use Rattle.lvm_disk.specs.Device.{Media, Image, Flight, Device, image_of, written, IsCrashImage, MayLeave}
 use Rattle.lvm_disk.specs.Images.{DiffersBy}
 use Rattle.lvm_disk.proofs.Paths.{map-path}
 use Rattle.lvm_kept.specs.Contents.{Contents, contents_of, data_at}
@@ -26,11 +23,14 @@ use Rattle.lvm_kept.specs.Places.{SameRecords}
 use Rattle.lvm_kept.proofs.Contained.{room-same, data_writes}
 use Rattle.lvm_kept.proofs.Finding.{images_within}
 use Rattle.lvm_change.specs.Moments.{ImagesKept, StaysKept}
+use Rattle.lvm_change.specs.Requests.{IsOfData}
+use Rattle.lvm_change.proofs.Booleans.{no_some}
 use Rattle.lvm_stamps.proofs.Writes.{data_keeps_before}
 use Rattle.lvm_commit.specs.Committed.{next_stamp, ShowsCommitted}
-use Rattle.lvm_commit.specs.LawsOfData.{IsSectorOf, PartitionChange, IsFlightOf, FreeDataGoesOn, DataKeepsCommitted, StillHoldsCommitted}
+use Rattle.lvm_commit.specs.LawsOfData.{IsSectorOf, PartitionChange, IsFlightOf, FreeDataGoesOn, DataKeepsCommitted, StillHoldsCommitted, TransferHoldsCommitted}
 use Rattle.lvm_commit.proofs.Committed.{still_finds, still_began}
 use Rattle.lvm_commit.proofs.Data.{free_data_keeps}
+use Rattle.lvm_commit.proofs.Slots.{slot_for_same}
 
 -- ---- other data
 
@@ -50,14 +50,6 @@ still_shows c block group status there shows = record {
   stated = shows.stated;
   last = shows.last;
 }
-
--- where the sectors of both slots are the same, so is the slot that comes next
-slot_for_same : {X : Type 0} (content_of : List ℕ → Result X ℕ) (kind : Kind) (old new : Sectors)
-    → ((slot s : ℕ) → slot < 2 → slot_start kind slot ≤ s → s < slot_start kind slot + slot_size kind → new s ≡ old s) → slot_for content_of kind new ≡ slot_for content_of kind old
-slot_for_same content_of kind old new same =
-    let first : slot_of kind 0 new ≡ slot_of kind 0 old = joined-same new old (slot_start kind 0) (slot_size kind) (λ s from to. same 0 s (omega arith) from to) in
-    let second : slot_of kind 1 new ≡ slot_of kind 1 old = joined-same new old (slot_start kind 1) (slot_size kind) (λ s from to. same 1 s (omega arith) from to) in
-    λ t. slot_to_write (held content_of kind (first t)) (held content_of kind (second t))
 
 slot_low : (kind : Kind) (slot s : ℕ) → slot < 2 → s < slot_start kind slot + slot_size kind → s < data_start
 slot_low kind.Descriptor slot s two lt = omega (arith, two, lt)
@@ -79,7 +71,7 @@ data_keeps_committed group status there stamp homes old new same holds = record 
 -- ---- a still shelf
 
 -- its crash images are its media
-still_image : (device : Device) (media : Media) → device.media ≡ Some media → device.flights ≡ [] → (image : Image) → MayLeave device image → SameRecords (image_of device.sizes media) image
+pub still_image : (device : Device) (media : Media) → device.media ≡ Some media → device.flights ≡ [] → (image : Image) → MayLeave device image → SameRecords (image_of device.sizes media) image
 still_image device media told still image may =
     let crash : IsCrashImage (image_of device.sizes media) [] image = subst (λ (l : List Flight). IsCrashImage (image_of device.sizes media) l image) still (subst (λ (o : Option Media). MayLeave (record device { media = o }) image) told may) in
     record { same = crash.same; sectors = λ d s lt. ⊎_elim (λ is. is) (λ is. absurd is) (crash.each d s) }
@@ -88,18 +80,30 @@ pub still_holds_committed : StillHoldsCommitted
 still_holds_committed group status there stamp homes device media told still holds image may =
     data_keeps_committed group status there stamp homes (image_of device.sizes media) image (still_image device media told still image may) holds
 
+-- ---- a transfer of data
+
+pub data_differs : (f : Flight) → IsOfData f → (before image : Image) → DiffersBy f before image → SameRecords before image
+data_differs f its before image differs = record {
+  same = differs.same;
+  sectors = λ d s lt. ⊎_elim (λ same. same) (λ put. absurd (no_some (image.sector d s) (sym (its d s lt) ∙ put))) (differs.each d s);
+}
+
+pub transfer_holds_committed : TransferHoldsCommitted
+transfer_holds_committed group status there stamp homes f media old new told still holds its adds image may =
+    let from = adds image may in
+    data_keeps_committed group status there stamp homes from.0 image (data_differs f its from.0 image from.2) (still_holds_committed group status there stamp homes old media told still holds from.0 from.1)
+
 -- ---- a write of data
 
-module _ (mib : ℕ) (pp : Pp) (f : Flight) (its : IsFlightOf mib pp f) (before image : Image) (differs : DiffersBy f before image) where
-  below : SameRecords before image
-  below = record {
-    same = differs.same;
-    sectors = λ d s lt. ⊎_elim
-        (λ same. same)
-        (λ put. absurd (let low = (its d s (image.sector d s) put).low in omega (arith, lt, low)))
-        (differs.each d s);
-  }
+-- one of a partition is of data
+pub of_data : (mib : ℕ) (pp : Pp) (f : Flight) → IsFlightOf mib pp f → IsOfData f
+of_data mib pp f its d s lt = by_value (written f d s) refl
+  where
+    by_value : (o : Option Sector) → written f d s ≡ o → o ≡ None
+    by_value None is = refl
+    by_value (Some x) is = absurd (let low = (its d s x is).low in omega (arith, lt, low))
 
+module _ (mib : ℕ) (pp : Pp) (f : Flight) (its : IsFlightOf mib pp f) (before image : Image) (differs : DiffersBy f before image) where
   data_moves : (d s : ℕ) → (data_at image d s ≡ data_at before d s) ⊎ IsSectorOf mib pp d s
   data_moves d s = ⊎_elim
       (λ (same : image.sector d s ≡ before.sector d s). inl (ap (λ (x : Sector). if nat_lt s data_start then [] else x) same))
@@ -107,7 +111,7 @@ module _ (mib : ℕ) (pp : Pp) (f : Flight) (its : IsFlightOf mib pp f) (before 
       (differs.each d s)
 
   pub moves_partition : PartitionChange mib pp (contents_of before) (contents_of image)
-  moves_partition = record { each = data_moves; rest = data_writes before image below }
+  moves_partition = record { each = data_moves; rest = data_writes before image (data_differs f (of_data mib pp f its) before image differs) }
 
 pub free_data_goes_on : FreeDataGoesOn
 free_data_goes_on group status there pp f media old new told still enough shows on_it free its path =

@@ -1,5 +1,5 @@
 -- What lets a volume be committed, and its entries.
-use Rattle.std.proofs.Common.{◌≡◌, ℕ, true, List, ◌++◌, refl, sym, ap, subst, ◌∙◌, eq-eqb}
+use Rattle.std.proofs.Common.{◌≡◌, ℕ, List, ◌++◌, refl, sym, ap, subst, ◌∙◌}
 use Rattle.std.specs.Prelude.{IsTrue, IsFalse, is_some}
 use Rattle.lvm_num.specs.declared.descriptor.Descriptor.{Descriptor}
 use Rattle.lvm_num.specs.declared.status.Status.{Status}
@@ -10,7 +10,7 @@ use Rattle.lvm_num.specs.Votes.{all_disks, CanWrite}
 use Rattle.lvm_vol.specs.declared.entry.Vol.TheVariants.{Lv}
 use Rattle.lvm_vol.specs.Facts.{Fact, Making, Made, Removed}
 use Rattle.lvm_kept.specs.Contents.{Contents, contents_of}
-use Rattle.lvm_kept.specs.Group.{passes, is_of, IsFound, members_in}
+use Rattle.lvm_kept.specs.Group.{IsFound, members_in}
 use Rattle.lvm_kept.specs.Committed.{IsWithinDisks}
 use Rattle.lvm_kept.specs.Kept.{Kept}
 use Rattle.lvm_kept.proofs.Finding.{images_within}
@@ -20,7 +20,7 @@ use Rattle.lvm_stamps.proofs.Records.{shown_is_before}
 use Rattle.lvm_stamps.proofs.Stamps.{later_is_after_too}
 use Rattle.lvm_commit.specs.Committed.{next_stamp, ShowsCommitted}
 use Rattle.lvm_commit.specs.LawsOfVolumes.{NextIsLater, CommittedMayCommit, ZerosAreFound, IsOnlyGroup, NamedIsFound, UnnamedIsNotFound, VolumeBeginsInSession, VolumeIsMadeInSession, VolumeIsGoneInSession}
-use Rattle.lvm_commit.proofs.Found.{only_found, status_read}
+use Rattle.lvm_commit.proofs.Found.{shows_group, only_found, status_read}
 use Rattle.lvm_commit.proofs.Members.{member_of_parts}
 
 -- ---- the descriptor
@@ -30,12 +30,9 @@ next_is_later image group status there stamp next homes whole holds later =
     shown_is_before next image whole (later_is_after_too (next_stamp stamp) next image later holds.stamps)
 
 module _ (c : Contents) (group : Descriptor) (status : Status) (there : Disks) (shows : ShowsCommitted c group status there) where
-  shows_group : (d : ℕ) → IsTrue (there d) → passes (is_of group.id) (c.descriptor d) ≡ true
-  shows_group d is = ap (passes (is_of group.id)) (shows.described d is) ∙ eq-eqb shows.descriptor.value.id group.id (ap (λ (g : Descriptor). g.id) shows.value)
-
   -- a member that isn't missing is one among all disks
   is_member : (d : ℕ) → IsTrue (there d) → IsTrue (members_in c all_disks group.id group d)
-  is_member d is = member_of_parts c all_disks group.id group d refl (shows_group d is) (shows.room d is)
+  is_member d is = member_of_parts c all_disks group.id group d refl (shows_group c group status there shows d is) (shows.room d is)
 
 pub committed_may_commit : CommittedMayCommit
 committed_may_commit c group status there targets facts lv next shows within later serves = record {

@@ -18,6 +18,7 @@ use Rattle.lvm_kept.specs.Kept.{Kept}
 use Rattle.lvm_kept.specs.Places.{SameRecords}
 use Rattle.lvm_kept.specs.Raw.{OnlyAdds}
 use Rattle.lvm_change.specs.Moments.{StaysKept}
+use Rattle.lvm_change.specs.Requests.{IsOfData}
 use Rattle.lvm_quorum.specs.declared.homes.Homes.{Homes}
 use Rattle.lvm_commit.specs.Committed.{ShowsCommitted, HoldsCommitted}
 
@@ -62,8 +63,14 @@ abbrev pub DataKeepsCommitted : Type 0
 DataKeepsCommitted = (group : Descriptor) (status : Status) (there : Disks) (stamp : Stamp) (homes : Homes) (old new : Image)
     → SameRecords old new → HoldsCommitted old group status there stamp homes → HoldsCommitted new group status there stamp homes
 
--- and each crash image of a still shelf shows it as its media does.
+-- each crash image of a still shelf shows it as its media does,
 abbrev pub StillHoldsCommitted : Type 0
 StillHoldsCommitted = (group : Descriptor) (status : Status) (there : Disks) (stamp : Stamp) (homes : Homes) (device : Device) (media : Media)
     → device.media ≡ Some media → device.flights ≡ [] → HoldsCommitted (image_of device.sizes media) group status there stamp homes
     → (image : Image) → MayLeave device image → HoldsCommitted image group status there stamp homes
+
+-- and so does each after one transfer of data that begins there, however it ends and if it doesn't.
+abbrev pub TransferHoldsCommitted : Type 0
+TransferHoldsCommitted = (group : Descriptor) (status : Status) (there : Disks) (stamp : Stamp) (homes : Homes) (f : Flight) (media : Media) (old new : Device)
+    → old.media ≡ Some media → old.flights ≡ [] → HoldsCommitted (image_of old.sizes media) group status there stamp homes → IsOfData f → OnlyAdds f old new
+    → (image : Image) → MayLeave new image → HoldsCommitted image group status there stamp homes

@@ -16,17 +16,18 @@ use Rattle.lvm_vol.specs.declared.entry.Vol.TheVariants.{Lv}
 use Rattle.lvm_vol.specs.Facts.{Fact, Making, Made, Removed, Cut}
 use Rattle.lvm_vol.specs.May.{known, IsValue}
 use Rattle.lvm_vol.specs.Standing.{Open, volumes_in}
-use Rattle.lvm_disk.specs.Device.{Image, Device, MayLeave}
+use Rattle.lvm_disk.specs.Device.{Image, Flight, Device, image_of, MayLeave}
+use Rattle.lvm_disk.specs.Steps.{BothTold}
 use Rattle.lvm_kept.specs.Contents.{Contents, contents_of}
 use Rattle.lvm_kept.specs.Group.{IsFound, block_at, IsBlockOf, IsOneOf}
 use Rattle.lvm_kept.specs.Committed.{IsWithinDisks}
 use Rattle.lvm_kept.specs.Kept.{StandsAs, Kept}
 use Rattle.lvm_kept.specs.Changes.{IsFoundByAll, IsFoundByNone}
 use Rattle.lvm_kept.specs.Moments.{Moment}
+use Rattle.lvm_kept.specs.Raw.{OnlyAdds}
 use Rattle.lvm_kept.specs.Torn.{DescriptorsChange}
 use Rattle.lvm_change.specs.Moments.{Keeps}
-use Rattle.lvm_change.specs.Requests.{at}
-use Rattle.lvm_change.specs.VaryingOn.{AreShowing}
+use Rattle.lvm_change.specs.Requests.{IsOfData, at}
 use Rattle.lvm_change.specs.Committing.{DiffersInVolume, IsServed, MayCommit}
 use Rattle.lvm_change.specs.VolumeEntries.{AreZeros}
 use Rattle.lvm_quorum.specs.declared.homes.Homes.{Homes}
@@ -77,10 +78,10 @@ IsOnlyGroup c id = (other : ℕ) (k : Descriptor) → IsFound c other k → othe
 abbrev pub LeavesOthers : Contents → Contents → ℕ → Type 0
 LeavesOthers old new id = (other : ℕ) (k : Descriptor) → (other ≡ id → ⊥) → IsFound new other k → IsFound old other k
 
--- A descriptor of the group on disks that show the group leaves the others as they were found,
+-- A descriptor of the group leaves the others as they were found,
 abbrev pub DescriptorLeavesOthers : Type 0
 DescriptorLeavesOthers = (id : ℕ) (targets : Disks) (next : Stamped Descriptor) (old new : Contents)
-    → next.value.id ≡ id → AreShowing old id targets → DescriptorsChange targets next old new → LeavesOthers old new id
+    → next.value.id ≡ id → DescriptorsChange targets next old new → LeavesOthers old new id
 
 -- and so do statuses, notes and data.
 abbrev pub RestLeavesOthers : Type 0
@@ -89,6 +90,19 @@ RestLeavesOthers = (id : ℕ) (old new : Contents) → new ≡ record old { stat
 -- So the only group stays the only one.
 abbrev pub OnlyGroupStays : Type 0
 OnlyGroupStays = (id : ℕ) (old new : Contents) → LeavesOthers old new id → IsOnlyGroup old id → IsOnlyGroup new id
+
+-- no crash image finds another group
+abbrev pub IsOnlyGroupOn : Device → ℕ → Type 0
+IsOnlyGroupOn device id = (image : Image) → MayLeave device image → IsOnlyGroup (contents_of image) id
+
+-- So it stays by one transfer of data, however it ends and if it doesn't,
+abbrev pub OnlyGroupStaysByData : Type 0
+OnlyGroupStaysByData = (id : ℕ) (f : Flight) (old new : Device) → IsOfData f → OnlyAdds f old new → IsOnlyGroupOn old id → IsOnlyGroupOn new id
+
+-- and once nothing is out, where the media leaves the others as they were found.
+abbrev pub OnlyGroupStaysOn : Type 0
+OnlyGroupStaysOn = (id : ℕ) (old new : Device)
+    → new.flights ≡ [] → BothTold old.media new.media (λ was is. LeavesOthers (contents_of (image_of old.sizes was)) (contents_of (image_of new.sizes is)) id) → IsOnlyGroupOn old id → IsOnlyGroupOn new id
 
 -- A volume that the committed descriptor names is found by all,
 abbrev pub NamedIsFound : Type 0
@@ -103,7 +117,7 @@ UnnamedIsNotFound = (c : Contents) (group : Descriptor) (status : Status) (there
 -- each crash image shows what is committed, and no other group is found in it
 pub record LeavesCommitted (device : Device) (group : Descriptor) (status : Status) (there : Disks) : Type 0 where
   pub shows : (image : Image) → MayLeave device image → ShowsCommitted (contents_of image) group status there
-  pub only : (image : Image) → MayLeave device image → IsOnlyGroup (contents_of image) group.id
+  pub only : IsOnlyGroupOn device group.id
 
 -- So a volume that isn't named may be in the making,
 abbrev pub VolumeBeginsInSession : Type 0

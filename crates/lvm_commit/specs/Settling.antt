@@ -1,8 +1,10 @@
 -- How a session commits its records: what a commit needs, what it writes, and what it leaves.
-use Rattle.std.specs.Prelude.{◌≡◌, ◌⊎◌, ◌≢◌, ℕ, ◌+◌, ◌^◌, ◌<◌, ◌≤◌, not, List, [], length, None, Ok, IsTrue, IsFalse, IfSome, count_by}
+use Rattle.std.specs.Prelude.{◌≡◌, ◌⊎◌, ◌≢◌, ℕ, ◌+◌, ◌^◌, ◌<◌, ◌≤◌, not, List, [], map, None, Ok, IsTrue, IsFalse, IfSome, count_by}
+use Rattle.lvm_num.specs.declared.record.Kind.{Kind}
 use Rattle.lvm_num.specs.declared.record.Kind.TheVariants as kind
 use Rattle.lvm_num.specs.declared.descriptor.PvRow.{PvRow}
 use Rattle.lvm_num.specs.declared.descriptor.Descriptor.{Descriptor}
+use Rattle.lvm_num.specs.declared.status.StatusRow.{StatusRow}
 use Rattle.lvm_num.specs.declared.status.Status.{Status}
 use Rattle.lvm_num.specs.Buffer.{Buffer, Sector}
 use Rattle.lvm_num.specs.Disks.{Disks}
@@ -20,16 +22,17 @@ use Rattle.lvm_vol.specs.Facts.{Fact}
 use Rattle.lvm_kept.specs.Contents.{contents_of}
 use Rattle.lvm_kept.specs.Plans.{Plan}
 use Rattle.lvm_kept.specs.Torn.{RecordWrite, IsOfRecord}
-use Rattle.lvm_stale.specs.Table.{SameMembers, SameStale}
+use Rattle.lvm_stale.specs.Table.{SameStale, SameMissing}
 use Rattle.lvm_status.specs.Members.{HasItsRows}
 use Rattle.lvm_status.specs.Update.{Stored, members_there}
 use Rattle.lvm_change.specs.Moments.{StaysKept, ImagesKept}
 use Rattle.lvm_quorum.specs.declared.homes.Homes.{Homes}
-use Rattle.lvm_quorum.specs.Written.{HaveRoom}
+use Rattle.lvm_quorum.specs.Written.{write_of, HaveRoom, KeepsShelf}
 use Rattle.lvm_commit.specs.declared.commit.Settled.{Settled}
 use Rattle.lvm_commit.specs.declared.commit.Settled.TheVariants as settled
-use Rattle.lvm_commit.specs.Committed.{IsAlike, SameMarks, HoldsCommitted}
+use Rattle.lvm_commit.specs.Committed.{next_stamp, IsAlike, SameMarks, HoldsCommitted}
 use Rattle.lvm_commit.specs.LawsOfVolumes.{VolumeServes, LeavesOthers}
+use Rattle.lvm_commit.specs.LawsOfFinding.{FindsNothingNewOn, FindsNoMoreOn}
 
 -- ---- the answers
 
@@ -81,11 +84,16 @@ there u = members_there u.group u.wanted
 abbrev pub many_there : Stored → ℕ
 many_there u = count_by (λ (row : PvRow). not (calls_missing u.wanted row.disk)) u.group.pvs
 
--- What a session needs before it writes records: nothing in flight, a valid group with a row for each member, a session that has begun, and
--- members that aren't missing with room for records and votes enough to write.
-pub record MaySettle (u : Stored) (device : Device) : Type 0 where
+-- the session is one of this group
+abbrev pub IsOf : Descriptor → Stored → Type 0
+IsOf group u = record group { lvs = [] } ≡ u.group
+
+-- What a session needs before it writes records: its group is valid, with a row for each member, it has begun, nothing is in flight, and the members
+-- that aren't missing have room for records and votes enough to write.
+pub record MaySettle (group : Descriptor) (u : Stored) (device : Device) : Type 0 where
+  pub valid : IsValid group
+  pub own : IsOf group u
   pub idle : u.in_flight ≡ None
-  pub valid : IsValid u.group
   pub id : u.wanted.id ≡ u.group.id
   pub rows : HasItsRows u.group u.wanted
   pub epoch : u.stamp.epoch ≢ 0
@@ -97,6 +105,12 @@ abbrev pub HasNumbers : ℕ → Stored → Type 0
 HasNumbers more u = u.stamp.seq + more + many_there u < 2 ^ 32
 
 -- ---- what is left
+
+-- The group, its size and the disks that have rows stay.
+pub record HasSameRows (old new : Status) : Type 0 where
+  pub id : new.id ≡ old.id
+  pub big : new.big ≡ old.big
+  pub disks : map (λ (row : StatusRow). row.disk) new.rows ≡ map (λ (row : StatusRow). row.disk) old.rows
 
 -- Nothing is in flight, what is wanted is committed, and the members that aren't missing have votes enough to write.
 pub record IsCommitted (u : Stored) : Type 0 where
@@ -116,7 +130,7 @@ pub record HasLostQuorum (first last : Stored) (old new : Device) (have total : 
 -- The group stays, and of what is wanted only this changes: members become missing, each of them after a transfer to it has failed.
 pub record OnlyLoses (first last : Stored) (old new : Device) : Type 0 where
   pub group : last.group ≡ first.group
-  pub members : SameMembers first.wanted last.wanted
+  pub rows : HasSameRows first.wanted last.wanted
   pub stale : SameStale first.wanted last.wanted
   pub dirty : last.wanted.dirty ≡ first.wanted.dirty
   pub stays : (d : ℕ) → IsTrue (calls_missing first.wanted d) → IsTrue (calls_missing last.wanted d)
@@ -164,11 +178,17 @@ IsOfStatus first last d s value = (write : RecordWrite) × StatesGroup first.gro
 abbrev pub IsOfCommit : List ℕ → Stored → Stored → Plan
 IsOfCommit content first last d s value = (write : RecordWrite) × (Describes content write ⊎ StatesGroup first.group write) × IsOfSession first last write d s value
 
--- ---- what stays kept
+-- This one record is written to the members that aren't missing, under the next stamp, and what was wanted still is.
+pub record IsOneRecord (kind : Kind) (content : List ℕ) (first last : Stored) (homes : Homes) (old new : Device) : Type 0 where
+  pub wanted : last.wanted ≡ first.wanted
+  pub stamp : last.stamp ≡ next_stamp first.stamp
+  pub writes : KeepsShelf (there first) (IsOfRecord (write_of kind (record { stamp = next_stamp first.stamp; content = content }) (there first) homes)) old new
 
--- the session is one of this group
-abbrev pub IsOf : Descriptor → Stored → Type 0
-IsOf group u = record group { lvs = [] } ≡ u.group
+-- So it is where no member becomes missing.
+abbrev pub IsPlain : Kind → List ℕ → Stored → Stored → Homes → Device → Device → Type 0
+IsPlain kind content first last homes old new = SameMissing first.wanted last.wanted → IsOneRecord kind content first last homes old new
+
+-- ---- what stays kept
 
 -- the disks hold what the session says is committed of the group, where the media is told
 abbrev pub SessionIsHeld : Device → Descriptor → Stored → Homes → Type 0
@@ -180,13 +200,25 @@ WantsSameMarks group u = SameMarks group u.committed u.wanted
 
 -- What was kept is kept at each moment while a status is committed that says the same of the group's volumes.
 abbrev pub StatusStaysKept : Stored → Homes → Device → Device → Type 0
-StatusStaysKept first homes old new = (group : Descriptor) → IsOf group first → WantsSameMarks group first → SessionIsHeld old group first homes → Path DeviceStep (StaysKept old) old new
+StatusStaysKept first homes old new = Path DeviceStep (λ d. (group : Descriptor) → IsOf group first → WantsSameMarks group first → SessionIsHeld old group first homes → StaysKept old d) old new
 
 -- So it is while the next descriptor is committed, which the history lets differ from the group by one volume.
 abbrev pub DescriptorStaysKept : List ℕ → Stored → Homes → Device → Device → Type 0
-DescriptorStaysKept content first homes old new =
-    (group next : Descriptor) (lv : ℕ) (facts : List Fact) → descriptor_of content ≡ Ok next → IsOf group first → SessionIsHeld old group first homes
-    → IfSome old.media (λ media. VolumeServes (contents_of (image_of old.sizes media)) facts group lv next) → ImagesKept old facts → Path DeviceStep (λ d. ImagesKept d facts) old new
+DescriptorStaysKept content first homes old new = Path DeviceStep
+    (λ d. (group next : Descriptor) (lv : ℕ) (facts : List Fact) → descriptor_of content ≡ Ok next → IsOf group first → SessionIsHeld old group first homes
+    → IfSome old.media (λ media. VolumeServes (contents_of (image_of old.sizes media)) facts group lv next) → ImagesKept old facts → ImagesKept d facts)
+    old new
+
+-- ---- what is found
+
+-- Where the disks held what was committed, nothing is found that wasn't found before,
+abbrev pub StatusFindsNothingNew : Stored → Homes → Device → Device → Type 0
+StatusFindsNothingNew first homes old new = (group : Descriptor) → IsOf group first → SessionIsHeld old group first homes → FindsNothingNewOn old new
+
+-- or it is the next descriptor, which differs from the group in its volumes alone.
+abbrev pub CommitFindsNoMore : List ℕ → Stored → Homes → Device → Device → Type 0
+CommitFindsNoMore content first homes old new =
+    (group next : Descriptor) → descriptor_of content ≡ Ok next → IsOf group first → IsAlike next group → SessionIsHeld old group first homes → FindsNoMoreOn next old new
 
 -- whatever is found of other groups was found before, where the media is told
 abbrev pub OthersAreLeft : ℕ → Device → Device → Type 0

@@ -7,6 +7,7 @@ use Rattle.lvm_disk.specs.Device.{Device, Flight}
 use Rattle.lvm_disk.specs.Steps.{Cuts, GoesDark, with_order, ArrangeGives}
 use Rattle.lvm_disk.specs.declared.shelf.Arrange.{Arrange}
 use Rattle.lvm_disk.specs.declared.shelf.Arrange.TheVariants as arrange
+use Rattle.lvm_core.specs.declared.request.Power.TheVariants as power
 use Rattle.lvm_core.specs.State.{Core, state}
 use Rattle.lvm_core.specs.Dark.{darkened, all_dark, after_arrange, dark_log}
 use Rattle.lvm_core.specs.Starting.{ArePlaced}
@@ -29,10 +30,11 @@ ordered_sound device core what sound = record {
   quiet = sound.quiet;
   lit = λ is. let lit = sound.lit is in record { power = lit.power; freed = lit.freed };
   dark = λ is. let dark = sound.dark is in record { power = dark.power; flights = dark.flights };
+  off = sound.off;
 }
 
 module _ (core : Core) where
-  dark_fits : IsFitting core → IsFitting (all_dark core)
+  pub dark_fits : IsFitting core → IsFitting (all_dark core)
   dark_fits fits = record {
     valid = fits.valid;
     id = fits.id;
@@ -46,7 +48,7 @@ module _ (core : Core) where
     buffers = fits.buffers;
   }
 
-  dark_is_told : IsTold core → IsTold (all_dark core)
+  pub dark_is_told : IsTold core → IsTold (all_dark core)
   dark_is_told told = record {
     table = dark_told core.history.facts core.requests told.table (dark_log core.history core.requests).facts;
     each = dark_each core.history core.requests told.table told.each;
@@ -63,6 +65,7 @@ dark_sound old new core sound like dark = record {
   quiet = λ quiet. dark.flights;
   lit = λ is. absurd (let e : ◌≡◌ {A = Bool} true false = is in cc);
   dark = λ is. dark;
+  off = λ is. absurd (let e : power.Dark ≡ power.Off = is in cc);
 }
 
 count_map : {X Y : Type 0} (p : Y → Bool) (f : X → Y) → (xs : List X) → count_by p (map f xs) ≡ count_by (λ x. p (f x)) xs

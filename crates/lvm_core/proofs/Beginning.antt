@@ -18,6 +18,7 @@ use Rattle.lvm_status.specs.Update.{Updates}
 use Rattle.lvm_quorum.specs.declared.homes.Homes.{Homes}
 use Rattle.lvm_core.specs.declared.parts.Room.{Room}
 use Rattle.lvm_core.specs.declared.request.Open.{Open}
+use Rattle.lvm_core.specs.declared.request.Power.TheVariants as power
 use Rattle.lvm_core.specs.State.{state}
 use Rattle.lvm_core.specs.Dark.{AreTold}
 use Rattle.lvm_core.specs.Sound.{HaveAllLanded, waits, has_number, out_with, IsFitting, IsSound}
@@ -65,7 +66,7 @@ none_flies d c empty disk = ap (λ (o : Option DiskNotes). option_and_then (λ (
     by_test true = refl
     by_test false = refl
 
-none_out : (count n : ℕ) → slice_index_or (replicate count false) n false ≡ false
+pub none_out : (count n : ℕ) → slice_index_or (replicate count false) n false ≡ false
 none_out zero n = refl
 none_out (suc count) zero = refl
 none_out (suc count) (suc n) = none_out count n
@@ -98,6 +99,7 @@ module _ (device : Device) (r : Reserved) (history : Log) (stamp : Stamp) (homes
     quiet = λ quiet. ready.flights;
     lit = λ is. record { power = ready.power; freed = ready.freed };
     dark = λ is. absurd (let e : ◌≡◌ {A = Bool} false true = is in cc);
+    off = λ is. absurd (let e : power.On ≡ power.Off = is in cc);
   }
     where
       out_first : (n : ℕ) → out_with device n ≡ cond (slice_index_or r.pool n false) 1 0

@@ -56,4 +56,5 @@ entered_sound device core e is sound =
       quiet = λ quiet. sound.quiet (record { requests = quiet.requests; copy = quiet.copy; status = quiet.status; notes = quiet.notes; buffers = quiet.buffers });
       lit = sound.lit;
       dark = sound.dark;
+      off = sound.off;
     }

@@ -4,3 +4,13 @@ pub mod Beginning
 pub mod Arranging
 pub mod Closing
 pub mod Entering
+pub mod Zeroing
+pub mod Buffers
+pub mod Own
+pub mod ZeroEnding
+pub mod Spanning
+pub mod ZeroKeeping
+pub mod Settling
+pub mod Sizes
+pub mod Ends
+pub mod Marking

@@ -1,5 +1,5 @@
 -- How the calls end by which a session commits a descriptor or marks.
-use Rattle.std.specs.Prelude.{◌≡◌, ℕ, ◌<◌, Bool, true, ◌&&◌, ◌||◌, ◌++◌, not, List, Result, Ok, Err, IsTrue, IsFalse, IfSome, All, slice_set}
+use Rattle.std.specs.Prelude.{◌≡◌, ℕ, ◌<◌, Bool, true, false, ◌&&◌, ◌||◌, ◌++◌, not, List, Result, Ok, Err, IsTrue, IsFalse, IfSome, All, slice_set}
 use Rattle.std.specs.List.{list_any}
 use Rattle.lvm_num.specs.declared.place.Pp.{Pp}
 use Rattle.lvm_num.specs.declared.descriptor.Descriptor.{Descriptor}
@@ -13,12 +13,12 @@ use Rattle.lvm_kept.specs.Contents.{contents_of}
 use Rattle.lvm_kept.specs.Moments.{Moment}
 use Rattle.lvm_change.specs.Moments.{Begins, Holds, Keeps}
 use Rattle.lvm_change.specs.Requests.{at}
-use Rattle.lvm_stale.specs.Table.{is_pp, SameMembers}
+use Rattle.lvm_stale.specs.Table.{is_pp}
 use Rattle.lvm_stamps.specs.Behind.{IsBehind}
 use Rattle.lvm_quorum.specs.Written.{IsDarkened, IsGivenUp}
 use Rattle.lvm_commit.specs.LawsOfData.{IsFree}
 use Rattle.lvm_commit.specs.LawsOfVolumes.{VolumeServes}
-use Rattle.lvm_commit.specs.Settling.{HasLostQuorum}
+use Rattle.lvm_commit.specs.Settling.{HasSameRows, HasLostQuorum, AreWell}
 use Rattle.lvm_core.specs.declared.fault.CommitFault.{CommitFault}
 use Rattle.lvm_core.specs.declared.fault.CommitFault.TheVariants as fault
 use Rattle.lvm_core.specs.declared.request.Power.TheVariants as power
@@ -36,6 +36,8 @@ with_one_out pool = slice_set pool 0 true
 pub record HasCommitted (next : Descriptor) (old new : State) : Type 0 where
   pub settled : IsSettled new.core
   pub is : new.core ≡ record old.core { descriptor = next; status = new.core.status; homes = new.core.homes }
+  -- no transfer to a member that isn't missing has failed
+  pub well : AreWell new.core.status old.device new.device
   pub ready : IsReady new.device
   pub cuts : new.device.counts.cuts ≡ old.device.counts.cuts
 
@@ -43,6 +45,7 @@ pub record HasCommitted (next : Descriptor) (old new : State) : Type 0 where
 pub record HasGoneOff (have total : ℕ) (old new : State) : Type 0 where
   pub lost : HasLostQuorum old.core.status new.core.status old.device new.device have total
   pub is : new.core ≡ record old.core { status = new.core.status; homes = new.core.homes; power = power.Off }
+  pub well : AreWell new.core.status old.device new.device
   pub ready : IsReady new.device
   pub cuts : new.device.counts.cuts ≡ old.device.counts.cuts
 
@@ -77,9 +80,15 @@ AreUnused d pps = All (λ (p : Pp). IsPartitionOf d p × IsFree d p) pps
 abbrev pub Marks : List Pp → List Pp → Status → Status → Type 0
 Marks stale fresh old new = (p : Pp) → calls_stale new p ≡ (calls_stale old p || is_among stale p) && not (is_among fresh p)
 
+-- they already are so
+pub record AreMarked (to_stale to_fresh : List Pp) (s : Status) : Type 0 where
+  pub stale : All (λ (p : Pp). calls_stale s p ≡ true) to_stale
+  pub fresh : All (λ (p : Pp). calls_stale s p ≡ false) to_fresh
+
 -- What is wanted of the status afterwards: it has these marks, and members have become missing, each of them after a transfer to it has failed.
 pub record Restates (stale fresh : List Pp) (old new : State) : Type 0 where
-  pub members : SameMembers old.core.status.wanted new.core.status.wanted
+  pub group : new.core.status.group ≡ old.core.status.group
+  pub rows : HasSameRows old.core.status.wanted new.core.status.wanted
   pub marks : Marks stale fresh old.core.status.wanted new.core.status.wanted
   pub dirty : new.core.status.wanted.dirty ≡ old.core.status.wanted.dirty
   pub stays : (d : ℕ) → IsTrue (calls_missing old.core.status.wanted d) → IsTrue (calls_missing new.core.status.wanted d)

@@ -1,8 +1,9 @@
 -- What holds of a session at every moment.
-use Rattle.std.specs.Prelude.{◌≡◌, ◌≤◌, ◌+◌, ◌&&◌, ◌==◌, ℕ, Bool, true, false, List, [], None, length, replicate, count_by, slice_index_or, if◌then◌else◌}
+use Rattle.std.specs.Prelude.{IsFalse, ◌≡◌, ◌≤◌, ◌+◌, ◌&&◌, ◌==◌, ℕ, Bool, true, false, List, [], None, length, replicate, count_by, slice_index_or, if◌then◌else◌}
 use Rattle.std.specs.List.{list_any}
 use Rattle.lvm_num.specs.Buffer.{Buffer}
 use Rattle.lvm_num.specs.Descriptor.{IsValid, is_member}
+use Rattle.lvm_num.specs.Votes.{is_enough_to_write}
 use Rattle.lvm_disk.specs.Device.{Device, Flight}
 use Rattle.lvm_vol.specs.Facts.{Fact}
 use Rattle.lvm_vol.specs.Log.{is_open}
@@ -11,7 +12,7 @@ use Rattle.lvm_status.specs.Members.{HasItsRows}
 use Rattle.lvm_core.specs.declared.request.Open.{Open}
 use Rattle.lvm_core.specs.declared.request.Power.{Power}
 use Rattle.lvm_core.specs.declared.request.Power.TheVariants as power
-use Rattle.lvm_core.specs.State.{Core, State}
+use Rattle.lvm_core.specs.State.{Core, State, votes_there}
 use Rattle.lvm_core.specs.Dark.{is_waiting, AreTold}
 use Rattle.lvm_core.specs.Starting.{ArePlaced}
 
@@ -83,3 +84,5 @@ pub record IsSound (s : State) : Type 0 where
   pub quiet : IsQuiet s.core → s.device.flights ≡ []
   pub lit : is_dark s.core.power ≡ false → IsLit s.device
   pub dark : is_dark s.core.power ≡ true → IsDark s.device
+  -- it is off where the members that aren't missing have too few votes to write
+  pub off : s.core.power ≡ power.Off → IsFalse (is_enough_to_write s.core.descriptor (votes_there s.core))

@@ -4,13 +4,15 @@ ghost use Rattle.lvm_num.specs.Descriptor.{IsValid, IsPartitionOf};
 ghost use Rattle.lvm_num.specs.DescriptorBytes.{descriptor_bytes};
 ghost use Rattle.lvm_num.specs.Votes.{total_votes};
 ghost use Rattle.lvm_vol.specs.Log.{spare_entries, with_fact, plain_fact};
-ghost use Rattle.lvm_disk.specs.Counts.{RoseBy};
+ghost use Rattle.lvm_disk.specs.Counts.{NoneFalls, RoseBy};
 ghost use Rattle.lvm_disk.specs.Device.{IsReady};
 ghost use Rattle.lvm_disk.specs.Steps.{MayArrange, ArrangeGives};
 ghost use Rattle.lvm_kept.specs.Moments.{Moment, StaysCalm};
 ghost use Rattle.lvm_quorum.specs.Written.{KeepsShelf};
 ghost use Rattle.lvm_commit.specs.Committed.{IsAlike};
 ghost use Rattle.lvm_commit.specs.LawsOfData.{IsFree};
+ghost use Rattle.lvm_commit.specs.LawsOfFinding.{FindsNothingNewOn, FindsNoMoreOn};
+ghost use Rattle.lvm_commit.specs.LawsOfVolumes.{IsOnlyGroupOn};
 ghost use Rattle.lvm_commit.specs.Settling.{OnlyLoses, SpendsNumbers, IsOfStatus, IsOfCommit};
 ghost use Rattle.lvm_core.specs.declared.request.Open.{Open};
 ghost use Rattle.lvm_core.specs.State.{state, is_there, votes_there};
@@ -18,7 +20,7 @@ ghost use Rattle.lvm_core.specs.Dark.{is_waiting, after_arrange};
 ghost use Rattle.lvm_core.specs.Looking.{IsNumberOf, HasNoVolume};
 ghost use Rattle.lvm_core.specs.Sound.{IsSound, HaveAllLanded};
 ghost use Rattle.lvm_core.specs.Starting.{ArePlaced, first_core};
-ghost use Rattle.lvm_core.specs.Held.{IsHeld, IsOnlyGroupOn};
+ghost use Rattle.lvm_core.specs.Held.{IsHeld};
 ghost use Rattle.lvm_core.specs.Settled.{IsSettled, HasNumbers};
 ghost use Rattle.lvm_core.specs.Committing.{CommitEnds, AreUnused, Marks, Restates, moment_of, SpanGoesOn, LetsCommit, StaysBehind};
 ghost use Rattle.lvm_core.specs.Zeros.{ZeroEnds, IsZeroOf};
@@ -120,6 +122,33 @@ impl<S: Shelf> Driver<S> {
         ensures { IfOk result (λ prepared. prepared ≡ next) }
     {
         Prepared::new(alloc, next)
+    }
+
+    /// Writes zeros to a partition that no volume has, of a member that isn't missing.
+    ///
+    /// # Errors
+    ///
+    /// `DiskFailed` at its first transfer that failed; the disk doesn't become missing by it. `Dark` and
+    /// `Stuck` as of `commit`.
+    pub fn zero(&mut self, pp: Pp, patience: &mut Patience) -> Result<(), CommitFault>
+        requires settled { IsSettled self.old.1 }
+        requires there { IsTrue (is_there self.old.1 pp.disk) }
+        requires partition { IsPartitionOf self.old.1.descriptor pp }
+        requires free { IsFree self.old.1.descriptor pp }
+        ensures ends { ZeroEnds pp patience.old.left (state (S.device self.old.0) self.old.1) (state (S.device self.new.0) self.new.1) result }
+        // whatever the answer
+        ensures records { (self.new.1.status ≡ self.old.1.status) × (self.new.1.homes ≡ self.old.1.homes) }
+        ensures held { IsHeld (S.device self.old.0) self.old.1 → IsHeld (S.device self.new.0) self.new.1 }
+        ensures finds { FindsNothingNewOn (S.device self.old.0) (S.device self.new.0) }
+        ensures writes { KeepsShelf (λ d. d == pp.disk) (IsZeroOf self.old.1.descriptor.mib pp) (S.device self.old.0) (S.device self.new.0) }
+        ensures keeps { IsHeld (S.device self.old.0) self.old.1 → (run : ℕ) (first : Moment) → SpanGoesOn run first (state (S.device self.old.0) self.old.1) (state (S.device self.new.0) self.new.1) }
+        ensures falls { NoneFalls (S.device self.old.0).counts (S.device self.new.0).counts }
+        ensures calm { StaysCalm (moment_of (state (S.device self.old.0) self.old.1)) (moment_of (state (S.device self.new.0) self.new.1)) }
+        ensures behind { StaysBehind (state (S.device self.old.0) self.old.1) (state (S.device self.new.0) self.new.1) }
+        ensures patience { patience.new.left ≤ patience.old.left }
+        ensures waited { RoseBy (patience.old.left - patience.new.left) (S.device self.old.0).counts.waits (S.device self.new.0).counts.waits }
+    {
+        self.session.zero(&mut self.shelf, pp, patience)
     }
 
     /// Enters that a volume is being made or removed, or that it is.

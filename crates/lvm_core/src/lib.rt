@@ -1,14 +1,17 @@
 //! The driver of a session: a group that is varied on, over its shelf.
 #![tactic(auto)]
 
+mod commit;
 mod driver;
 mod fault;
 mod look;
+mod marks;
 mod parts;
 mod prepared;
 mod refused;
 mod request;
 mod session;
+mod zero;
 
 pub use driver::{Closed, Driver};
 pub use fault::CommitFault;

@@ -54,7 +54,7 @@ fn darken_all(requests: &mut [Open])
 
 impl Session {
     // The power is off: a cut is entered, and all open requests that haven't landed land as Dark.
-    fn darken(&mut self)
+    pub fn darken(&mut self)
         requires { AreTold self.old.history.facts self.old.requests.items }
         ensures core { core_of self.new ≡ all_dark (core_of self.old) }
         ensures capacity { vec_capacity self.new.requests ≡ vec_capacity self.old.requests }

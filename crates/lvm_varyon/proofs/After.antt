@@ -7,6 +7,7 @@ use Rattle.std.proofs.lemmas.List.{append_cancel_left}
 use Rattle.lvm_num.specs.declared.record.Stamp.{Stamp}
 use Rattle.lvm_num.specs.declared.descriptor.PvRow.{PvRow}
 use Rattle.lvm_num.specs.declared.descriptor.Descriptor.{Descriptor}
+use Rattle.lvm_num.specs.declared.status.Status.{Status}
 use Rattle.lvm_num.specs.Disks.{Disks}
 use Rattle.lvm_num.specs.Descriptor.{is_member}
 use Rattle.lvm_num.specs.Geometry.{data_start, sectors_needed}
@@ -29,7 +30,8 @@ use Rattle.lvm_status.specs.Update.{Updates}
 use Rattle.lvm_quorum.specs.Homes.{SparesNewest}
 use Rattle.lvm_quorum.specs.Written.{LogsPlan, IsInPlan}
 use Rattle.lvm_core.specs.declared.parts.Room.{Room}
-use Rattle.lvm_core.specs.Held.{next_stamp, ShowsCommitted, HoldsCommitted}
+use Rattle.lvm_commit.specs.Committed.{next_stamp, Began, ShowsCommitted, HoldsCommitted}
+use Rattle.lvm_commit.proofs.Found.{newest_is_beginning}
 use Rattle.lvm_core.specs.Starting.{Reserved, first_core}
 use Rattle.lvm_core.specs.State.{Core, is_there}
 use Rattle.lvm_begin.specs.Beginning.{Beginning, describes, states, MayBeginAgain, IsOfParts}
@@ -190,21 +192,25 @@ module _ (old new : Device) (name : List ℕ) (moment : ℕ) (room : Room) (part
         target_member : (d : ℕ) → targets d ≡ true → is_member is.written.group d ≡ true
         target_member d target = room_member is.written.group.pvs d (λ (row : PvRow). nat_le (sectors_needed is.written.group.mib row.pps) (after.size d)) (target_room d target)
 
-    shows : ShowsCommitted after core
+    shows : ShowsCommitted after core.descriptor core.status.committed (is_there core)
     shows = record {
       found = subst (λ (g : Descriptor). Finds after all_disks g.id g) (sym group_is)
           (all_find_newest after is.written.group is.written.found.answered (as_read (describes b) is.written.group) (images_within (image_of new.sizes now)) may.members found.0.newest);
+      disks = is.written.found.answered;
+      began = subst (λ (g : Descriptor). Began after g is.written.found.answered) (sym group_is) (newest_is_beginning after is.written.group is.written.found.answered (as_read (describes b) is.written.group) found.0.newest);
       descriptor = as_read (describes b) is.written.group;
       value = sym group_is;
       latest = λ d r e its. found.0.newest.last d r e (its ∙ ap (λ (g : Descriptor). g.id) group_is);
       described = λ d present. begun.described d (sym (ap (λ (v : Disks). v d) there_are) ∙ present);
-      status = as_read (states b) is.written.next;
+      room = λ d present. subst (λ (g : Descriptor). IsTrue (has_room after d g)) (sym group_is) (target_room d (sym (ap (λ (v : Disks). v d) there_are) ∙ present));
+      own = ap (λ (s : Status). s.id) committed ∙ is.written.next_is.id ∙ sym (ap (λ (g : Descriptor). g.id) group_is);
+      stands = as_read (states b) is.written.next;
       committed = sym committed;
       stated = λ d present. begun.stated d (sym (ap (λ (v : Disks). v d) there_are) ∙ present);
       last = λ d r e its. status_is_last b forget is.written.group is.written.next before after begun may.later d r e (its ∙ ap (λ (g : Descriptor). g.id) group_is);
     }
 
-    pub holds : IsBehind moment old → HoldsCommitted (image_of new.sizes now) core
+    pub holds : IsBehind moment old → HoldsCommitted (image_of new.sizes now) core.descriptor core.status.committed (is_there core) core.status.stamp core.homes
     holds behind = record {
       shows = shows;
       stamps = subst (λ (s : Stamp). StampsBefore (next_stamp s) (image_of new.sizes now)) (sym stamp_is)
