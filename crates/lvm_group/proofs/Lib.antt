@@ -22,3 +22,5 @@ pub mod Clearing
 pub mod Serving
 pub mod Entering
 pub mod Removing
+pub mod Wider
+pub mod Answered

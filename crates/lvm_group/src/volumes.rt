@@ -1,6 +1,6 @@
 //! The making and the removal of volumes.
 ghost use Rattle.std.specs.Prelude.{◌≡◌, ◌<◌, ◌-◌, ◌≤◌, false, IfSome, IfNone, IsTrue, All, Contains};
-ghost use Rattle.lvm_num.specs.declared.descriptor.Mode.TheVariants as mode;
+ghost use Rattle.lvm_num.specs.declared.descriptor.Mode.TheVariants.{Off};
 ghost use Rattle.lvm_num.specs.declared.place.Pp.{Pp};
 ghost use Rattle.lvm_num.specs.Status.{calls_missing};
 ghost use Rattle.lvm_disk.specs.Counts.{RoseBy};
@@ -56,7 +56,7 @@ pub fn mklv<S: Shelf>(
 ) -> Result<u16, GroupFault>
     // where nothing is open, nothing is under way
     requires settled { TakesCommands driver.old.1 → IsSettled driver.old.1 }
-    requires off { mode ≡ mode.Off }
+    requires off { mode ≡ Off }
     requires some { 1 ≤ lps }
     ensures gives { MklvGives (record { name = name; copies = copies; mode = mode; policy = policy; lps = lps }) patience.old.left (state (S.device driver.old.0) driver.old.1) (state (S.device driver.new.0) driver.new.1) result }
     ensures settled { TakesCommands driver.old.1 → IfOn result (IsSettled driver.new.1) }
@@ -80,10 +80,7 @@ pub fn mklv<S: Shelf>(
         policy,
         lps,
     };
-    let plan = VolumePlan::new(alloc, driver, &v)?;
-    let number = plan.number;
-    make(driver, plan, patience)?;
-    Ok(number)
+    make_new(alloc, driver, &v, patience)
 }
 
 /// Removes a volume of the group that is on: the descriptor without it is committed, between the two entries of its
@@ -115,6 +112,42 @@ pub fn rmlv<S: Shelf>(
     ensures behind { StaysBehind (state (S.device driver.old.0) driver.old.1) (state (S.device driver.new.0) driver.new.1) }
     ensures patience { patience.new.left ≤ patience.old.left }
     ensures waited { RoseBy (patience.old.left - patience.new.left) (S.device driver.old.0).counts.waits (S.device driver.new.0).counts.waits }
+{
+    remove_old(alloc, driver, lv, patience)
+}
+
+// Makes a new volume, unless something stands against it, and answers its number.
+fn make_new<S: Shelf>(
+    alloc: Global,
+    driver: &mut Driver<S>,
+    v: &NewVolume,
+    patience: &mut Patience,
+) -> Result<u16, GroupFault>
+    requires settled { TakesCommands driver.old.1 → IsSettled driver.old.1 }
+    requires some { 1 ≤ v.now.lps }
+    ensures gives { MklvGives v.now patience.old.left (state (S.device driver.old.0) driver.old.1) (state (S.device driver.new.0) driver.new.1) result }
+    ensures goes { Goes (IsWith v.now driver.old.1) (IsChosen v.now driver.old.1) patience.old.left patience.new.left (state (S.device driver.old.0) driver.old.1) (state (S.device driver.new.0) driver.new.1) }
+    ensures settled { TakesCommands driver.old.1 → IfOn result (IsSettled driver.new.1) }
+    ensures held { IfOn result (StillHeld (state (S.device driver.old.0) driver.old.1) (state (S.device driver.new.0) driver.new.1)) }
+{
+    let plan = VolumePlan::new(alloc, driver, v)?;
+    let number = plan.number;
+    make(driver, plan, patience)?;
+    Ok(number)
+}
+
+// Removes a volume, unless something stands against it.
+fn remove_old<S: Shelf>(
+    alloc: Global,
+    driver: &mut Driver<S>,
+    lv: u16,
+    patience: &mut Patience,
+) -> Result<(), GroupFault>
+    requires settled { TakesCommands driver.old.1 → IsSettled driver.old.1 }
+    ensures gives { RmlvGives lv patience.old.left (state (S.device driver.old.0) driver.old.1) (state (S.device driver.new.0) driver.new.1) result }
+    ensures goes { Goes (λ next. next ≡ without_volume driver.old.1.descriptor lv) (λ pp. ⊥) patience.old.left patience.new.left (state (S.device driver.old.0) driver.old.1) (state (S.device driver.new.0) driver.new.1) }
+    ensures settled { TakesCommands driver.old.1 → IfOn result (IsSettled driver.new.1) }
+    ensures held { IfOn result (StillHeld (state (S.device driver.old.0) driver.old.1) (state (S.device driver.new.0) driver.new.1)) }
 {
     let next = prepare_without(alloc, driver, lv)?;
     remove(driver, lv, next, patience)?;
