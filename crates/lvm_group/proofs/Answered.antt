@@ -42,11 +42,11 @@ on_all (Err (fault.DiskFailed disk)) P holds = holds
 on_all (Err fault.Memory) P holds = holds
 
 -- what holds where the stage left the session on
-pub on_stays : {A : Type 0} (why : CommitFault) (P : Type 0) → IfStays (Err why) P → IfOn {A = A} (Err (fault_of why)) P
-on_stays commit.Dark P holds = tt
-on_stays (commit.WentOff have total) P holds = tt
-on_stays commit.Stuck P holds = tt
-on_stays (commit.DiskFailed disk) P holds = holds
+pub on_stays : (A : Type 0) (why : CommitFault) (P : Type 0) → IfStays (Err why) P → IfOn {A = A} (Err (fault_of why)) P
+on_stays A commit.Dark P holds = tt
+on_stays A (commit.WentOff have total) P holds = tt
+on_stays A commit.Stuck P holds = tt
+on_stays A (commit.DiskFailed disk) P holds = holds
 
 -- ---- the making
 
@@ -94,8 +94,8 @@ module _ (v : NewVolume) (plan : VolumePlan) (a : State) (planned : IsPlannedVol
     make_settled (commit.DiskFailed disk) ends = ends.settled
 
     -- and where the session is on, it is settled
-    pub make_broke_settled : {A : Type 0} (why : CommitFault) → MakeEnds plan p a b (Err why) → IfOn {A = A} (Err (fault_of why)) (IsSettled b.core)
-    make_broke_settled why ends = on_stays why (IsSettled b.core) (make_settled why ends)
+    pub make_broke_settled : (A : Type 0) (why : CommitFault) → MakeEnds plan p a b (Err why) → IfOn {A = A} (Err (fault_of why)) (IsSettled b.core)
+    make_broke_settled A why ends = on_stays A why (IsSettled b.core) (make_settled why ends)
 
     -- or that it was
     pub make_done : IsNamed plan a b → IsVolumeMade v plan.number a b
@@ -143,11 +143,11 @@ module _ (lv : ℕ) (next : Descriptor) (a : State) (without : IsWithout lv a.co
   remove_broke (commit.DiskFailed disk) ends = absurd ends
 
   -- the session isn't on then
-  pub remove_broke_settled : {A : Type 0} (why : CommitFault) → RemoveEnds lv next p a b (Err why) → IfOn {A = A} (Err (fault_of why)) (IsSettled b.core)
-  remove_broke_settled commit.Dark ends = tt
-  remove_broke_settled (commit.WentOff have total) ends = tt
-  remove_broke_settled commit.Stuck ends = tt
-  remove_broke_settled (commit.DiskFailed disk) ends = absurd ends
+  pub remove_broke_settled : (A : Type 0) (why : CommitFault) → RemoveEnds lv next p a b (Err why) → IfOn {A = A} (Err (fault_of why)) (IsSettled b.core)
+  remove_broke_settled A commit.Dark ends = tt
+  remove_broke_settled A (commit.WentOff have total) ends = tt
+  remove_broke_settled A commit.Stuck ends = tt
+  remove_broke_settled A (commit.DiskFailed disk) ends = absurd ends
 
   -- or that it was
   pub remove_done : IsUnnamed lv next a b → IsVolumeRemoved lv a b

@@ -15,6 +15,8 @@ pub mod OldDescriptor
 pub mod Places
 pub mod Refusals
 pub mod Leaving
+pub mod Wider
+pub mod Answered
 pub mod Going
 pub mod Zeroing
 pub mod Zeros
@@ -22,5 +24,3 @@ pub mod Clearing
 pub mod Serving
 pub mod Entering
 pub mod Removing
-pub mod Wider
-pub mod Answered
