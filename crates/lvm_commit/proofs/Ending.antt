@@ -1,12 +1,9 @@
 -- How the writes of an update end, one after another.
-use Rattle.std.proofs.Common.{◌≡◌, ◌⊎◌, inl, inr, ⊎_elim, ℕ, Bool, true, false, ◌&&◌, ◌||◌, not, Option, Some, None, IsTrue, refl, sym, ◌∙◌, ap, subst}
+use Rattle.std.proofs.Common.{◌≡◌, ◌⊎◌, inl, inr, ⊎_elim, ℕ, Bool, true, false, ◌&&◌, ◌||◌, not, Option, Some, None, refl, sym, ◌∙◌, ap, subst}
 use Rattle.std.specs.Prelude.{◌==◌, if◌then◌else◌, unwrap_or}
-use Rattle.std.specs.List.{list_any}
 use Rattle.std.proofs.lemmas.Bool.{eq-eqb, eqb-true, false≢true}
 use Rattle.std.proofs.lemmas.List.Folds.{Any-from_list_any}
-use Rattle.lvm_num.specs.declared.record.Stamp.{Stamp}
 use Rattle.lvm_num.specs.declared.descriptor.PvRow.{PvRow}
-use Rattle.lvm_num.specs.declared.descriptor.Descriptor.{Descriptor}
 use Rattle.lvm_num.specs.declared.status.Status.{Status}
 use Rattle.lvm_num.specs.Descriptor.{is_member}
 use Rattle.lvm_num.specs.Disks.{Disks}
@@ -36,10 +33,10 @@ record EndsAs (t : Status) (v : Updates) (disk : ℕ) (x : Updates) : Type 0 whe
   flown : (x.in_flight ≡ Some t) ⊎ ((x.in_flight ≡ None) × (x.committed ≡ t))
   held : is_held x ≡ true → x.in_flight ≡ Some x.committed
 
-abbrev without_update : Updates → Updates
+abbrev pub without_update : Updates → Updates
 without_update u = record u { in_flight = None; unstarted = no_disks; started = no_disks; written = no_disks; failed = no_disks }
 
-closed_cases : (P : Updates → Type 0) (m : Updates) → (is_held m ≡ true → is_owed m ≡ false → P (without_update m)) → P m → P (closed m)
+pub closed_cases : (P : Updates → Type 0) (m : Updates) → (is_held m ≡ true → is_owed m ≡ false → P (without_update m)) → P m → P (closed m)
 closed_cases P m ends stays = by_test (is_held m && not (is_owed m)) refl
   where
     by_test : (b : Bool) → is_held m && not (is_owed m) ≡ b → P (if b then without_update m else m)

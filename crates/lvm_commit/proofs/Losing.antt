@@ -1,5 +1,5 @@
 -- Members become missing.
-use Rattle.std.proofs.Common.{◌≡◌, ℕ, Bool, true, false, ◌||◌, IsFalse, refl, sym, ◌∙◌, ap}
+use Rattle.std.proofs.Common.{◌≡◌, ℕ, Bool, true, false, ◌||◌, IsFalse, refl, sym, ◌∙◌, ap, subst}
 use Rattle.std.specs.Prelude.{◌==◌, if◌then◌else◌}
 use Rattle.std.proofs.lemmas.Bool.{false≢true}
 use Rattle.lvm_num.specs.declared.status.Status.{Status}
@@ -42,3 +42,7 @@ misses_more failed next disk a b c one two more is = record {
   missing = λ d. two.missing d ∙ ap (λ b. if d == disk then true else b) (one.missing d) ∙ sym (more d);
   same = λ none. absurd (false≢true (sym (none disk) ∙ is));
 }
+
+-- what was wanted before is the same
+pub misses_at : (failed : Disks) (x a b : Status) → x ≡ a → Misses failed x b → Misses failed a b
+misses_at failed x a b is misses = subst (λ (s : Status). Misses failed s b) is misses

@@ -3,6 +3,6 @@ pub mod Laws
 pub mod LawsOfWrites
 pub mod LawsOfData
 pub mod LawsOfVolumes
-pub mod Settling
 pub mod LawsOfFinding
+pub mod Settling
 pub mod Rounds

@@ -1,10 +1,12 @@
 -- How one record that a session writes ends, and what the session is then.
 use Rattle.std.specs.Prelude.{◌≡◌, ℕ, ◌&&◌, ◌||◌, List, IsFalse, Some, None}
 use Rattle.lvm_num.specs.declared.record.Kind.{Kind}
+use Rattle.lvm_num.specs.declared.record.Kind.TheVariants as kind
 use Rattle.lvm_num.specs.declared.status.Status.{Status}
 use Rattle.lvm_num.specs.Buffer.{Buffer}
 use Rattle.lvm_num.specs.Disks.{Disks, has}
 use Rattle.lvm_num.specs.Status.{calls_missing}
+use Rattle.lvm_num.specs.StatusBytes.{status_bytes}
 use Rattle.lvm_num.specs.Votes.{votes_in, total_votes, is_enough_to_write, CanWrite}
 use Rattle.lvm_disk.specs.Device.{Device, IsReady}
 use Rattle.lvm_disk.specs.Paths.{DeviceStep, Path}
@@ -17,7 +19,8 @@ use Rattle.lvm_quorum.specs.Parts.{Spends}
 use Rattle.lvm_quorum.specs.Written.{write_of, KeepsShelf, IsWriting, EndsOn, StandsTold, written_well, IsDarkened, IsGivenUp}
 use Rattle.lvm_commit.specs.declared.commit.Settled.{Settled}
 use Rattle.lvm_commit.specs.declared.commit.Settled.TheVariants as settled
-use Rattle.lvm_commit.specs.Settling.{there, HasSameRows}
+use Rattle.lvm_commit.specs.Committed.{next_stamp}
+use Rattle.lvm_commit.specs.Settling.{there, HasSameRows, IsCommitted, HasLostQuorum, OnlyLoses, AreWell, SpendsNumbers, IsOfStatus, IsPlain, StatusFindsNothingNew, StatusStaysKept, StaysHeld}
 
 -- ---- the session
 
@@ -70,6 +73,10 @@ IsByVotes u buf settled.Stuck = ⊥
 
 -- ---- one record
 
+-- the next stamp is that of the record that is written
+abbrev pub stamped : Stored → Stored
+stamped u = record u { stamp = next_stamp u.stamp }
+
 -- the write of the record to the members that aren't missing, under the session's stamp
 abbrev pub session_write : Kind → List ℕ → Stored → Homes → RecordWrite
 session_write kind content u homes = write_of kind (record { stamp = u.stamp; content = content }) (there u) homes
@@ -86,11 +93,17 @@ pub record WasTried (w : RecordWrite) (number : ℕ) (first last : Stored) (slot
   pub stamp : last.stamp ≡ first.stamp
   pub wanted : Misses failed first.wanted last.wanted
 
+-- its group, what is wanted and its stamp are the same
+pub record IsSame (first last : Stored) : Type 0 where
+  pub group : last.group ≡ first.group
+  pub stamp : last.stamp ≡ first.stamp
+  pub wanted : last.wanted ≡ first.wanted
+
 abbrev pub HowRecord : RecordWrite → ℕ → ℕ → Stored → Stored → Homes → Homes → Device → Device → Settled → Type 0
 HowRecord w number before first last slots next old new (settled.Done buf) = WasTried w number first last slots next old new buf × CanWrite last.group (there last)
 HowRecord w number before first last slots next old new (settled.WentOff have total buf) = WasTried w number first last slots next old new buf × HasFew last have total
-HowRecord w number before first last slots next old new settled.Dark = IsDarkened number old new × (last ≡ first)
-HowRecord w number before first last slots next old new settled.Stuck = IsGivenUp number before old new × (last ≡ first)
+HowRecord w number before first last slots next old new settled.Dark = IsDarkened number old new × IsSame first last
+HowRecord w number before first last slots next old new settled.Stuck = IsGivenUp number before old new × IsSame first last
 
 -- how the write of one record ended, and what it did
 pub record RecordGives (w : RecordWrite) (number before after : ℕ) (first last : Stored) (slots next : Homes) (old new : Device) (result : Settled) : Type 0 where
@@ -98,3 +111,40 @@ pub record RecordGives (w : RecordWrite) (number before after : ℕ) (first last
   pub spends : Spends before after old new
   pub moments : Path DeviceStep (IsWriting (IsOfRecord w) old) old new
   pub how : HowRecord w number before first last slots next old new result
+
+-- ---- a status, record by record
+
+-- It ended with what is wanted committed.
+pub record StatusEnds (number : ℕ) (first last : Stored) (slots next : Homes) (old new : Device) (buf : Buffer) : Type 0 where
+  pub number_is : buf.number ≡ number
+  pub ready : IsReady new
+  pub cuts : new.counts.cuts ≡ old.counts.cuts
+  pub well : AreWell last old new
+  pub committed : IsCommitted last
+  pub held : StaysHeld first last slots next old new
+  pub plain : (first.wanted ≡ first.committed → ⊥) → IsPlain kind.Status (status_bytes first.wanted) first last slots old new
+
+-- It ended with too few votes left, and each record that was written lost a member.
+pub record StatusIsLost (number : ℕ) (first last : Stored) (old new : Device) (have total : ℕ) (buf : Buffer) : Type 0 where
+  pub number_is : buf.number ≡ number
+  pub ready : IsReady new
+  pub cuts : new.counts.cuts ≡ old.counts.cuts
+  pub well : AreWell last old new
+  pub lost : HasLostQuorum first last old new have total
+  pub spent : SpendsNumbers 0 first last
+
+abbrev pub HowStatus : ℕ → ℕ → Stored → Stored → Homes → Homes → Device → Device → Settled → Type 0
+HowStatus number before first last slots next old new (settled.Done buf) = StatusEnds number first last slots next old new buf
+HowStatus number before first last slots next old new (settled.WentOff have total buf) = StatusIsLost number first last old new have total buf
+HowStatus number before first last slots next old new settled.Dark = IsDarkened number old new
+HowStatus number before first last slots next old new settled.Stuck = IsGivenUp number before old new
+
+-- how the commit of a status ended, and what it did
+pub record StatusGives (number before after : ℕ) (first last : Stored) (slots next : Homes) (old new : Device) (result : Settled) : Type 0 where
+  pub loses : OnlyLoses first last old new
+  pub numbers : SpendsNumbers 1 first last
+  pub keeps : KeepsShelf (there first) (IsOfStatus first last) old new
+  pub spends : Spends before after old new
+  pub finds : StatusFindsNothingNew first slots old new
+  pub kept : StatusStaysKept first slots old new
+  pub how : HowStatus number before first last slots next old new result

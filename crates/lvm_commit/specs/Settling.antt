@@ -1,5 +1,6 @@
 -- How a session commits its records: what a commit needs, what it writes, and what it leaves.
 use Rattle.std.specs.Prelude.{◌≡◌, ◌⊎◌, ◌≢◌, ℕ, ◌+◌, ◌^◌, ◌<◌, ◌≤◌, not, List, [], map, None, Ok, IsTrue, IsFalse, IfSome, count_by}
+use Rattle.lvm_num.specs.declared.record.Kind.{Kind}
 use Rattle.lvm_num.specs.declared.record.Kind.TheVariants as kind
 use Rattle.lvm_num.specs.declared.descriptor.PvRow.{PvRow}
 use Rattle.lvm_num.specs.declared.descriptor.Descriptor.{Descriptor}
@@ -21,16 +22,17 @@ use Rattle.lvm_vol.specs.Facts.{Fact}
 use Rattle.lvm_kept.specs.Contents.{contents_of}
 use Rattle.lvm_kept.specs.Plans.{Plan}
 use Rattle.lvm_kept.specs.Torn.{RecordWrite, IsOfRecord}
-use Rattle.lvm_stale.specs.Table.{SameStale}
+use Rattle.lvm_stale.specs.Table.{SameStale, SameMissing}
 use Rattle.lvm_status.specs.Members.{HasItsRows}
 use Rattle.lvm_status.specs.Update.{Stored, members_there}
 use Rattle.lvm_change.specs.Moments.{StaysKept, ImagesKept}
 use Rattle.lvm_quorum.specs.declared.homes.Homes.{Homes}
-use Rattle.lvm_quorum.specs.Written.{HaveRoom}
+use Rattle.lvm_quorum.specs.Written.{write_of, HaveRoom, KeepsShelf}
 use Rattle.lvm_commit.specs.declared.commit.Settled.{Settled}
 use Rattle.lvm_commit.specs.declared.commit.Settled.TheVariants as settled
-use Rattle.lvm_commit.specs.Committed.{IsAlike, SameMarks, HoldsCommitted}
+use Rattle.lvm_commit.specs.Committed.{next_stamp, IsAlike, SameMarks, HoldsCommitted}
 use Rattle.lvm_commit.specs.LawsOfVolumes.{VolumeServes, LeavesOthers}
+use Rattle.lvm_commit.specs.LawsOfFinding.{FindsNothingNewOn, FindsNoMoreOn}
 
 -- ---- the answers
 
@@ -176,6 +178,16 @@ IsOfStatus first last d s value = (write : RecordWrite) × StatesGroup first.gro
 abbrev pub IsOfCommit : List ℕ → Stored → Stored → Plan
 IsOfCommit content first last d s value = (write : RecordWrite) × (Describes content write ⊎ StatesGroup first.group write) × IsOfSession first last write d s value
 
+-- This one record is written to the members that aren't missing, under the next stamp, and what was wanted still is.
+pub record IsOneRecord (kind : Kind) (content : List ℕ) (first last : Stored) (homes : Homes) (old new : Device) : Type 0 where
+  pub wanted : last.wanted ≡ first.wanted
+  pub stamp : last.stamp ≡ next_stamp first.stamp
+  pub writes : KeepsShelf (there first) (IsOfRecord (write_of kind (record { stamp = next_stamp first.stamp; content = content }) (there first) homes)) old new
+
+-- So it is where no member becomes missing.
+abbrev pub IsPlain : Kind → List ℕ → Stored → Stored → Homes → Device → Device → Type 0
+IsPlain kind content first last homes old new = SameMissing first.wanted last.wanted → IsOneRecord kind content first last homes old new
+
 -- ---- what stays kept
 
 -- the disks hold what the session says is committed of the group, where the media is told
@@ -188,13 +200,25 @@ WantsSameMarks group u = SameMarks group u.committed u.wanted
 
 -- What was kept is kept at each moment while a status is committed that says the same of the group's volumes.
 abbrev pub StatusStaysKept : Stored → Homes → Device → Device → Type 0
-StatusStaysKept first homes old new = (group : Descriptor) → IsOf group first → WantsSameMarks group first → SessionIsHeld old group first homes → Path DeviceStep (StaysKept old) old new
+StatusStaysKept first homes old new = Path DeviceStep (λ d. (group : Descriptor) → IsOf group first → WantsSameMarks group first → SessionIsHeld old group first homes → StaysKept old d) old new
 
 -- So it is while the next descriptor is committed, which the history lets differ from the group by one volume.
 abbrev pub DescriptorStaysKept : List ℕ → Stored → Homes → Device → Device → Type 0
-DescriptorStaysKept content first homes old new =
-    (group next : Descriptor) (lv : ℕ) (facts : List Fact) → descriptor_of content ≡ Ok next → IsOf group first → SessionIsHeld old group first homes
-    → IfSome old.media (λ media. VolumeServes (contents_of (image_of old.sizes media)) facts group lv next) → ImagesKept old facts → Path DeviceStep (λ d. ImagesKept d facts) old new
+DescriptorStaysKept content first homes old new = Path DeviceStep
+    (λ d. (group next : Descriptor) (lv : ℕ) (facts : List Fact) → descriptor_of content ≡ Ok next → IsOf group first → SessionIsHeld old group first homes
+    → IfSome old.media (λ media. VolumeServes (contents_of (image_of old.sizes media)) facts group lv next) → ImagesKept old facts → ImagesKept d facts)
+    old new
+
+-- ---- what is found
+
+-- Where the disks held what was committed, nothing is found that wasn't found before,
+abbrev pub StatusFindsNothingNew : Stored → Homes → Device → Device → Type 0
+StatusFindsNothingNew first homes old new = (group : Descriptor) → IsOf group first → SessionIsHeld old group first homes → FindsNothingNewOn old new
+
+-- or it is the next descriptor, which differs from the group in its volumes alone.
+abbrev pub CommitFindsNoMore : List ℕ → Stored → Homes → Device → Device → Type 0
+CommitFindsNoMore content first homes old new =
+    (group next : Descriptor) → descriptor_of content ≡ Ok next → IsOf group first → IsAlike next group → SessionIsHeld old group first homes → FindsNoMoreOn next old new
 
 -- whatever is found of other groups was found before, where the media is told
 abbrev pub OthersAreLeft : ℕ → Device → Device → Type 0

@@ -101,12 +101,7 @@ struct Ran {
     shelf: MemShelf,
 }
 
-fn run(
-    alloc: Global,
-    quorum: bool,
-    plan: &[Planned],
-    stale: Option<Pp>,
-) -> Result<Ran, Fail> {
+fn run(alloc: Global, quorum: bool, plan: &[Planned], stale: Option<Pp>) -> Result<Ran, Fail> {
     let mut shelf = shelf(alloc, plan)?;
     let group = group(alloc, 3, quorum)?;
     let mut updater = Updater::new(alloc, table(alloc, 3)?, &group)?;
@@ -209,7 +204,12 @@ fn nothing_is_written_where_nothing_is_wanted(rt: HostRuntime) -> Result<(), Fai
 #[test]
 fn a_member_that_fails_at_the_descriptor_is_missing(rt: HostRuntime) -> Result<(), Fail> {
     let alloc = rt.alloc();
-    let mut ran = run(alloc, true, &[at(3, Act::Fail(1)), at(7, Act::Heal(1))], None)?;
+    let mut ran = run(
+        alloc,
+        true,
+        &[at(3, Act::Fail(1)), at(7, Act::Heal(1))],
+        None,
+    )?;
     assert_eq!(rt; (ran.described, ran.stated), (End::Done, End::Done));
     // the status went to the two others
     assert_eq!(rt; (ran.calls, ran.shelf.calls()), (10, 10));
@@ -244,7 +244,10 @@ fn without_its_votes_a_group_goes_off(rt: HostRuntime) -> Result<(), Fail> {
     assert_eq!(rt; ran.calls, 6);
     let later = [at(7, Act::Fail(0)), at(7, Act::Fail(1))];
     let ran = run(alloc, true, &later, Some(SOME))?;
-    assert_eq!(rt; (ran.described, ran.stated), (End::Done, End::WentOff(1, 3)));
+    assert_eq!(rt;
+        (ran.described, ran.stated),
+        (End::Done, End::WentOff(1, 3))
+    );
     assert_eq!(rt; ran.shelf.calls(), 12);
     assert!(rt; !ran.updater.committed().is_stale(SOME));
     Ok(())
@@ -258,7 +261,11 @@ fn one_member_is_enough_with_quorum_checking_off(rt: HostRuntime) -> Result<(), 
     assert_eq!(rt; (ran.described, ran.stated), (End::Done, End::Done));
     assert_eq!(rt; (ran.calls, ran.shelf.calls()), (8, 10));
     assert!(rt; ran.updater.committed().is_missing(0) && ran.updater.committed().is_missing(1));
-    let all = [at(1, Act::Fail(0)), at(1, Act::Fail(1)), at(1, Act::Fail(2))];
+    let all = [
+        at(1, Act::Fail(0)),
+        at(1, Act::Fail(1)),
+        at(1, Act::Fail(2)),
+    ];
     let ran = run(alloc, false, &all, None)?;
     assert_eq!(rt; ran.described, End::WentOff(0, 3));
     Ok(())

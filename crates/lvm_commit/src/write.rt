@@ -1,9 +1,10 @@
 //! One record of a session is written, and the members on which its write failed are missing.
-ghost use Rattle.std.specs.Prelude.{◌≡◌, ◌≢◌, ◌+◌, ◌<◌, ◌≤◌, ◌^◌, ◌++◌, ℕ, length, drop, None, IsTrue};
+ghost use Rattle.std.specs.Prelude.{◌≡◌, ◌↔◌, ◌≢◌, ◌+◌, ◌<◌, ◌≤◌, ◌^◌, ◌++◌, ℕ, length, drop, None, IsTrue};
 ghost use Rattle.lvm_num.specs.declared.record.Kind.TheVariants as kind;
-ghost use Rattle.lvm_num.specs.Descriptor.{IsValid};
+ghost use Rattle.lvm_num.specs.Descriptor.{IsValid, is_member};
 ghost use Rattle.lvm_num.specs.Disks.{has};
-ghost use Rattle.lvm_num.specs.Record.{longest_content};
+ghost use Rattle.lvm_num.specs.Record.{Frames, longest_content};
+ghost use Rattle.lvm_num.specs.Status.{IsValidStatus};
 ghost use Rattle.lvm_num.specs.StatusBytes.{status_bytes};
 ghost use Rattle.lvm_disk.specs.Device.{IsReady};
 ghost use Rattle.lvm_status.specs.Members.{HasItsRows};
@@ -11,7 +12,7 @@ ghost use Rattle.lvm_status.specs.Update.{members_there};
 ghost use Rattle.lvm_quorum.specs.Written.{HaveRoom};
 ghost use Rattle.lvm_commit.specs.Committed.{next_stamp};
 ghost use Rattle.lvm_commit.specs.Settling.{IfDone, IsOf, there};
-ghost use Rattle.lvm_commit.specs.Rounds.{IsStarted, HasEnded, HasLost, IsByVotes, session_write, RecordGives};
+ghost use Rattle.lvm_commit.specs.Rounds.{IsStarted, HasEnded, HasLost, IsByVotes, stamped, session_write, RecordGives};
 
 use crate::commit::Settled;
 use lvm_disk::Shelf;
@@ -21,8 +22,9 @@ use lvm_quorum::{Homes, Wrote, write_record};
 use lvm_status::{Change, Updater};
 use lvm_vgsa::encode_into;
 
-/// Writes the update in flight to each member that isn't missing, and ends it.
-pub fn write_update<S: Shelf>(
+/// Writes what is wanted of the status to each member that isn't missing, under the next stamp. The members on which
+/// that fails are wanted missing.
+pub fn write_wanted<S: Shelf>(
     shelf: &mut S,
     d: &Descriptor,
     updater: &mut Updater,
@@ -34,13 +36,18 @@ pub fn write_update<S: Shelf>(
     requires ready { IsReady (S.device shelf.old) }
     requires valid { IsValid d.now }
     requires own { IsOf d.now updater.old }
-    requires started { IsStarted updater.old }
-    requires stamp { (updater.old.stamp.epoch ≢ 0) × (updater.old.stamp.seq ≢ 0) }
+    requires idle { updater.old.in_flight ≡ None }
+    requires differs { updater.old.committed ≢ updater.old.wanted }
+    requires epoch { updater.old.stamp.epoch ≢ 0 }
+    requires number { updater.old.stamp.seq + 1 < 2 ^ 32 }
     requires room { HaveRoom (S.device shelf.old) (there updater.old) }
     requires bytes { longest_content kind.Status ≤ length bytes.old }
-    ensures gives { RecordGives (session_write kind.Status (status_bytes updater.old.wanted) updater.old homes.old) buf.number patience.old.left patience.new.left updater.old updater.new homes.old homes.new (S.device shelf.old) (S.device shelf.new) result }
+    ensures gives { RecordGives (session_write kind.Status (status_bytes updater.old.wanted) (stamped updater.old) homes.old) buf.number patience.old.left patience.new.left (stamped updater.old) updater.new homes.old homes.new (S.device shelf.old) (S.device shelf.new) result }
+    ensures frames { Frames kind.Status (record { stamp = next_stamp updater.old.stamp; content = status_bytes updater.old.wanted }) }
+    ensures valid { IsValidStatus updater.old.wanted }
     ensures committed { IfDone result (λ back. (updater.new.in_flight ≡ None) × (updater.new.committed ≡ updater.old.wanted)) }
 {
+    updater.start();
     let stamp = updater.stamp();
     let targets = updater.writes().unstarted;
     let count = put_wanted(updater, bytes);
@@ -63,7 +70,8 @@ pub fn write_update<S: Shelf>(
     }
 }
 
-/// Writes a descriptor to each member that isn't missing, under the session's stamp.
+/// Writes a descriptor to each member that isn't missing, under the next stamp. The members on which that fails are
+/// wanted missing.
 pub fn write_descriptor<S: Shelf>(
     shelf: &mut S,
     d: &Descriptor,
@@ -78,14 +86,17 @@ pub fn write_descriptor<S: Shelf>(
     requires own { IsOf d.now updater.old }
     requires idle { updater.old.in_flight ≡ None }
     requires rows { HasItsRows updater.old.group updater.old.wanted }
-    requires stamp { (updater.old.stamp.epoch ≢ 0) × (updater.old.stamp.seq ≢ 0) }
+    requires epoch { updater.old.stamp.epoch ≢ 0 }
+    requires number { updater.old.stamp.seq + 1 < 2 ^ 32 }
     requires room { HaveRoom (S.device shelf.old) (there updater.old) }
     requires content { length content.now ≤ longest_content kind.Descriptor }
-    ensures gives { RecordGives (session_write kind.Descriptor content.now updater.old homes.old) buf.number patience.old.left patience.new.left updater.old updater.new homes.old homes.new (S.device shelf.old) (S.device shelf.new) result }
+    ensures gives { RecordGives (session_write kind.Descriptor content.now (stamped updater.old) homes.old) buf.number patience.old.left patience.new.left (stamped updater.old) updater.new homes.old homes.new (S.device shelf.old) (S.device shelf.new) result }
+    ensures frames { Frames kind.Descriptor (record { stamp = next_stamp updater.old.stamp; content = content.now }) }
     ensures committed { IfDone result (λ back. (updater.new.in_flight ≡ None) × (updater.new.committed ≡ updater.old.committed)) }
 {
+    let stamp = next_stamp(updater.stamp());
+    updater.set_stamp(stamp);
     let targets = members_there(d, updater);
-    let stamp = updater.stamp();
     match write_record(
         shelf,
         Kind::Descriptor,
@@ -97,7 +108,7 @@ pub fn write_descriptor<S: Shelf>(
         patience,
     ) {
         Wrote::Ended { failed, buf } => {
-            lose(updater, failed);
+            lose(d, updater, failed);
             by_votes(d, updater, buf)
         }
         Wrote::Dark => Settled::Dark,
@@ -105,8 +116,15 @@ pub fn write_descriptor<S: Shelf>(
     }
 }
 
-/// The stamp after this one in its session.
-pub fn next_stamp(stamp: Stamp) -> Stamp
+/// Whether what is wanted is committed.
+pub fn is_committed(updater: &Updater) -> bool
+    ensures { IsTrue result ↔ (updater.now.committed ≡ updater.now.wanted) }
+{
+    updater.committed().as_status() == updater.wanted().as_status()
+}
+
+// The stamp after this one in its session.
+fn next_stamp(stamp: Stamp) -> Stamp
     requires { stamp.seq + 1 < 2 ^ 32 }
     ensures { result ≡ next_stamp stamp }
 {
@@ -122,6 +140,7 @@ fn put_wanted(updater: &Updater, bytes: &mut [u8]) -> usize
     ensures written { bytes.new ≡ status_bytes updater.now.wanted ++ drop (length (status_bytes updater.now.wanted)) bytes.old }
     ensures count { result ≡ length (status_bytes updater.now.wanted) }
     ensures fits { result ≤ longest_content kind.Status }
+    ensures valid { IsValidStatus updater.now.wanted }
 {
     encode_into(updater.wanted().as_status(), bytes)
 }
@@ -139,15 +158,17 @@ fn end_writes(d: &Descriptor, updater: &mut Updater, failed: DiskSet)
 }
 
 // These members are wanted missing.
-fn lose(updater: &mut Updater, failed: DiskSet)
+fn lose(d: &Descriptor, updater: &mut Updater, failed: DiskSet)
+    requires valid { IsValid d.now }
+    requires own { IsOf d.now updater.old }
     requires idle { updater.old.in_flight ≡ None }
     requires rows { HasItsRows updater.old.group updater.old.wanted }
-    requires members { (disk : ℕ) → IsTrue (has failed disk) → IsTrue (there updater.old disk) }
+    requires members { (disk : ℕ) → IsTrue (has failed disk) → IsTrue (is_member d.now disk) }
     ensures { HasLost (has failed) updater.old updater.new }
 {
-    for disk in 0..128 {
-        if failed.has(disk) {
-            updater.want(Change::Missing(disk));
+    for row in d.pvs.as_slice() {
+        if failed.has(row.disk) {
+            updater.want(Change::Missing(row.disk));
         }
     }
 }

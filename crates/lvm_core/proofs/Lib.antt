@@ -11,3 +11,6 @@ pub mod ZeroEnding
 pub mod Spanning
 pub mod ZeroKeeping
 pub mod Settling
+pub mod Sizes
+pub mod Ends
+pub mod Marking

@@ -1,5 +1,5 @@
 -- How the calls end by which a session commits a descriptor or marks.
-use Rattle.std.specs.Prelude.{◌≡◌, ℕ, ◌<◌, Bool, true, ◌&&◌, ◌||◌, ◌++◌, not, List, Result, Ok, Err, IsTrue, IsFalse, IfSome, All, slice_set}
+use Rattle.std.specs.Prelude.{◌≡◌, ℕ, ◌<◌, Bool, true, false, ◌&&◌, ◌||◌, ◌++◌, not, List, Result, Ok, Err, IsTrue, IsFalse, IfSome, All, slice_set}
 use Rattle.std.specs.List.{list_any}
 use Rattle.lvm_num.specs.declared.place.Pp.{Pp}
 use Rattle.lvm_num.specs.declared.descriptor.Descriptor.{Descriptor}
@@ -79,6 +79,11 @@ AreUnused d pps = All (λ (p : Pp). IsPartitionOf d p × IsFree d p) pps
 -- these partitions are stale and those fresh, where they weren't, and all other marks are as they were
 abbrev pub Marks : List Pp → List Pp → Status → Status → Type 0
 Marks stale fresh old new = (p : Pp) → calls_stale new p ≡ (calls_stale old p || is_among stale p) && not (is_among fresh p)
+
+-- they already are so
+pub record AreMarked (to_stale to_fresh : List Pp) (s : Status) : Type 0 where
+  pub stale : All (λ (p : Pp). calls_stale s p ≡ true) to_stale
+  pub fresh : All (λ (p : Pp). calls_stale s p ≡ false) to_fresh
 
 -- What is wanted of the status afterwards: it has these marks, and members have become missing, each of them after a transfer to it has failed.
 pub record Restates (stale fresh : List Pp) (old new : State) : Type 0 where

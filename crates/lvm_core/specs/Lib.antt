@@ -10,3 +10,4 @@ pub mod Committing
 pub mod Zeros
 pub mod Entering
 pub mod Preparing
+pub mod Steps

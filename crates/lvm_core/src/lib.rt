@@ -5,6 +5,7 @@ mod commit;
 mod driver;
 mod fault;
 mod look;
+mod marks;
 mod parts;
 mod prepared;
 mod refused;

@@ -24,6 +24,7 @@ impl Model for Prepared {
 impl Prepared {
     ghost use Rattle.std.specs.Prelude.{◌≡◌, IfOk};
     ghost use Rattle.lvm_num.specs.Descriptor.{IsValid};
+    ghost use Rattle.lvm_num.specs.DescriptorBytes.{descriptor_bytes};
 
     /// Takes the memory of its record.
     pub(crate) fn new(alloc: Global, descriptor: Descriptor) -> Result<Prepared, Memory>
@@ -32,5 +33,14 @@ impl Prepared {
     {
         let bytes = lvm_vgda::encode(alloc, &descriptor)?;
         Ok(Prepared { descriptor, bytes })
+    }
+
+    /// The descriptor and the bytes.
+    pub(crate) fn into_parts(self) -> (Descriptor, Rows<u8>)
+        ensures descriptor { result.0 ≡ self }
+        ensures bytes { result.1 ≡ descriptor_bytes self }
+        ensures valid { IsValid self }
+    {
+        (self.descriptor, self.bytes)
     }
 }

@@ -24,3 +24,5 @@ pub mod Clearing
 pub mod Serving
 pub mod Entering
 pub mod Removing
+pub mod Naming
+pub mod Answering

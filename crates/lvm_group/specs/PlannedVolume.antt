@@ -6,7 +6,7 @@ use Rattle.lvm_num.specs.Geometry.{volume_blocks}
 use Rattle.lvm_core.specs.State.{Core}
 use Rattle.lvm_group.specs.declared.new_volume.VolumePlan.{VolumePlan}
 use Rattle.lvm_group.specs.declared.new_volume.NewVolume.{NewVolume}
-use Rattle.lvm_group.specs.NewVolume.{IsLowestFree, row_for, with_volume, without_volume}
+use Rattle.lvm_group.specs.NewVolume.{IsLowestFree, IsInOrder, row_for, with_volume, without_volume}
 use Rattle.lvm_group.specs.Volumes.{MayBeMade, MayBeRemoved}
 
 -- the session's descriptor is valid, and its status is of the same group
@@ -19,6 +19,7 @@ pub record IsPlannedVolume (v : NewVolume) (core : Core) (plan : VolumePlan) : T
   pub group : IsOneGroup core
   pub may : MayBeMade v core plan.map
   pub lowest : IsLowestFree core.descriptor plan.number
+  pub order : IsInOrder core.descriptor plan.number
   pub blocks : plan.blocks ≡ volume_blocks core.descriptor.mib v.lps
   pub mode : plan.mode ≡ v.mode
   pub next : plan.next ≡ with_volume core.descriptor (row_for v plan.number plan.map)
