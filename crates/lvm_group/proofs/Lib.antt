@@ -25,4 +25,3 @@ pub mod Serving
 pub mod Entering
 pub mod Removing
 pub mod Naming
-pub mod Answering
