@@ -13,3 +13,15 @@ pub mod Sublists
 pub mod NewDescriptor
 pub mod OldDescriptor
 pub mod Places
+pub mod Refusals
+pub mod Leaving
+pub mod Wider
+pub mod Answered
+pub mod Going
+pub mod Zeroing
+pub mod Zeros
+pub mod Clearing
+pub mod Serving
+pub mod Entering
+pub mod Removing
+pub mod Naming

@@ -5,19 +5,21 @@ use Rattle.lvm_num.specs.declared.descriptor.Descriptor.{Descriptor}
 use Rattle.lvm_num.specs.DescriptorBytes.{descriptor_bytes}
 use Rattle.lvm_num.specs.Status.{calls_stale, calls_missing}
 use Rattle.lvm_disk.specs.Counts.{Rose}
-use Rattle.lvm_disk.specs.Device.{IsReady}
+use Rattle.lvm_disk.specs.Device.{IsReady, Image, Device, MayLeave}
 use Rattle.lvm_vol.specs.Legal.{IsLater}
 use Rattle.lvm_vol.specs.Log.{Log, cut_log}
+use Rattle.lvm_kept.specs.Contents.{contents_of}
+use Rattle.lvm_kept.specs.Group.{IsFound}
 use Rattle.lvm_kept.specs.Moments.{Moment, StaysCalm}
 use Rattle.lvm_kept.specs.Plans.{Plan}
-use Rattle.lvm_stale.specs.Table.{SameMembers}
 use Rattle.lvm_quorum.specs.Written.{KeepsShelf, IsDarkened, IsGivenUp}
-use Rattle.lvm_commit.specs.Settling.{HasLostQuorum, IsOfStatus, IsOfCommit}
+use Rattle.lvm_commit.specs.LawsOfVolumes.{IsOnlyGroupOn}
+use Rattle.lvm_commit.specs.Settling.{HasSameRows, HasLostQuorum, IsOfStatus, IsOfCommit}
 use Rattle.lvm_core.specs.declared.fault.CommitFault.{CommitFault}
 use Rattle.lvm_core.specs.declared.fault.CommitFault.TheVariants as commit
 use Rattle.lvm_core.specs.declared.request.Power.TheVariants as power
 use Rattle.lvm_core.specs.State.{Core, State, is_there}
-use Rattle.lvm_core.specs.Held.{IsHeld, IsOnlyGroupOn}
+use Rattle.lvm_core.specs.Held.{IsHeld}
 use Rattle.lvm_core.specs.Committing.{moment_of, SpanGoesOn, StaysBehind}
 use Rattle.lvm_core.specs.Zeros.{IsZeroOf}
 use Rattle.lvm_group.specs.declared.fault.GroupFault.{GroupFault}
@@ -105,7 +107,8 @@ IsOfCommand N Z old new d s value =
 -- What is wanted of the status afterwards: members have become missing, each after a transfer to it has failed, and of the partitions of which this
 -- holds some stale ones are fresh.
 pub record KeepsStatus (Z : Pp → Type 0) (old new : State) : Type 0 where
-  pub members : SameMembers old.core.status.wanted new.core.status.wanted
+  pub group : new.core.status.group ≡ old.core.status.group
+  pub rows : HasSameRows old.core.status.wanted new.core.status.wanted
   pub stale : (p : Pp) → (Z p → ⊥) → calls_stale new.core.status.wanted p ≡ calls_stale old.core.status.wanted p
   pub none : (p : Pp) → IsTrue (calls_stale new.core.status.wanted p) → IsTrue (calls_stale old.core.status.wanted p)
   pub dirty : new.core.status.wanted.dirty ≡ old.core.status.wanted.dirty
@@ -135,3 +138,11 @@ pub record Leaves (N : Descriptor → Type 0) (Z : Pp → Type 0) (old new : Sta
 -- A span that leads to the command goes on, where the disks hold what the session says, and no group but this one is found on them.
 abbrev pub KeepsSpans : State → State → Type 0
 KeepsSpans old new = IsHeld old.device old.core → IsOnlyGroupOn old.device old.core.descriptor.id → (run : ℕ) (first : Moment) → SpanGoesOn run first old new
+
+-- a quorum of some crash image finds this descriptor
+abbrev pub MayBeFound : Device → ℕ → Descriptor → Type 0
+MayBeFound device id k = (image : Image) × MayLeave device image × IsFound (contents_of image) id k
+
+-- Whatever may be found might be found before, or is a descriptor of which this holds, where the disks hold what the session says.
+abbrev pub FindsOnly : (Descriptor → Type 0) → State → State → Type 0
+FindsOnly N old new = IsHeld old.device old.core → (id : ℕ) (k : Descriptor) → MayBeFound new.device id k → MayBeFound old.device id k ⊎ ((id ≡ k.id) × N k)

@@ -1,9 +1,11 @@
 -- The stages in which a volume is made or removed on a session.
-use Rattle.std.specs.Prelude.{◌≡◌, ◌≢◌, ◌⊎◌, ℕ, ◌≤◌, List, [], Result, Ok, Err, IsTrue, All, AllPairs}
+use Rattle.std.specs.Prelude.{◌≡◌, ◌≢◌, ◌⊎◌, ℕ, ◌<◌, ◌≤◌, List, [], Result, Ok, Err, IsTrue, IsFalse, All, AllPairs}
 use Rattle.lvm_num.specs.declared.place.Pp.{Pp}
 use Rattle.lvm_num.specs.declared.descriptor.Descriptor.{Descriptor}
+use Rattle.lvm_num.specs.declared.status.Status.{Status}
 use Rattle.lvm_num.specs.Descriptor.{IsPartitionOf}
-use Rattle.lvm_disk.specs.Counts.{Rose}
+use Rattle.lvm_num.specs.Status.{calls_missing}
+use Rattle.lvm_disk.specs.Counts.{Rose, NoneFalls}
 use Rattle.lvm_disk.specs.Device.{IsReady}
 use Rattle.lvm_vol.specs.declared.entry.Vol.TheVariants.{Lv}
 use Rattle.lvm_vol.specs.Facts.{Fact, Making, Made, Removing, Removed}
@@ -19,17 +21,19 @@ use Rattle.lvm_core.specs.Committing.{Marks, HasGoneDark, IsLeftOut}
 use Rattle.lvm_core.specs.Zeros.{IsAsBefore}
 use Rattle.lvm_group.specs.declared.new_volume.NewVolume.{NewVolume}
 use Rattle.lvm_group.specs.declared.new_volume.VolumePlan.{VolumePlan}
-use Rattle.lvm_group.specs.Endings.{EndsDark, EndsOff, EndsStuck, EndsFailed, Leaves, KeepsSpans, StillHeld}
+use Rattle.lvm_group.specs.Endings.{EndsDark, EndsOff, EndsStuck, EndsFailed, Leaves, KeepsSpans, FindsOnly, StillHeld}
 use Rattle.lvm_group.specs.PlannedVolume.{IsPlannedVolume}
 use Rattle.lvm_group.specs.Volumes.{AreZeroed, removing}
 
 -- ---- whatever comes of it
 
--- what a stage leaves, what patience it takes, and that spans go on with it
+-- what a stage leaves, what patience it takes, what is found after it, and that spans go on with it
 pub record Goes (N : Descriptor → Type 0) (Z : Pp → Type 0) (before after : ℕ) (old new : State) : Type 0 where
   pub leaves : Leaves N Z old new
   pub spends : Spends before after old.device new.device
   pub spans : KeepsSpans old new
+  pub finds : FindsOnly N old new
+  pub falls : NoneFalls old.device.counts new.device.counts
 
 -- the stage ended well, or a disk failed, and the session is on
 abbrev pub IfOn : Result (Unit {0}) CommitFault → Type 0 → Type 0
@@ -46,6 +50,7 @@ pub record AreUnusedOn (core : Core) (map : List Pp) : Type 0 where
   pub there : All (λ (pp : Pp). IsTrue (is_there core pp.disk)) map
   pub free : All (IsFree core.descriptor) map
   pub places : All (IsPartitionOf core.descriptor) map
+  pub disks : All (λ (pp : Pp). pp.disk < 128) map
   pub once : AllPairs (λ a b. a ≢ b) map
 
 -- zeros stand on all of them
@@ -53,10 +58,11 @@ pub record HasZeroedAll (map : List Pp) (old new : State) : Type 0 where
   pub same : IsAsBefore old new
   pub zeros : AreZeroed old.core.descriptor.mib map new.device
 
--- a transfer of a disk that has one failed
+-- a transfer of a disk that has one failed, and of no other
 pub record HasFailedOn (map : List Pp) (disk : ℕ) (old new : State) : Type 0 where
   pub same : IsAsBefore old new
   pub its : IsTrue (is_on map disk)
+  pub others : (d : ℕ) → (d ≡ disk → ⊥) → new.device.counts.faults d ≡ old.device.counts.faults d
   pub fault : Rose (old.device.counts.faults disk) (new.device.counts.faults disk)
 
 abbrev pub ZerosEnd : List Pp → ℕ → State → State → Result (Unit {0}) CommitFault → Type 0
@@ -68,6 +74,12 @@ ZerosEnd map patience old new (Err (commit.WentOff have total)) = ⊥
 
 -- ---- fresh zeros
 
+-- the lowest disk of the partitions that the status calls missing
+pub record IsLowestMissing (status : Status) (map : List Pp) (disk : ℕ) : Type 0 where
+  pub its : IsTrue (is_on map disk)
+  pub missing : IsTrue (calls_missing status disk)
+  pub lowest : (d : ℕ) → d < disk → IsTrue (is_on map d) → IsFalse (calls_missing status d)
+
 -- The partitions are zeros and fresh, on members that aren't missing.
 pub record AreCleared (map : List Pp) (old new : State) : Type 0 where
   pub settled : IsSettled new.core
@@ -78,9 +90,10 @@ pub record AreCleared (map : List Pp) (old new : State) : Type 0 where
   pub ready : IsReady new.device
   pub cuts : new.device.counts.cuts ≡ old.device.counts.cuts
 
--- a disk that has one failed
+-- a disk that has one failed, and none of theirs below it
 pub record FailsOn (map : List Pp) (disk : ℕ) (old new : State) : Type 0 where
   pub its : IsTrue (is_on map disk)
+  pub lowest : (d : ℕ) → d < disk → IsTrue (is_on map d) → new.device.counts.faults d ≡ old.device.counts.faults d
   pub ends : EndsFailed disk old new
   pub settled : IsSettled new.core
 

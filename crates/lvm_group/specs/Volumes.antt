@@ -157,11 +157,12 @@ pub record MakingEnds (v : NewVolume) (old new : State) (Ends : Log → Type 0) 
   pub so_far : HasEntered v map old new entered
   pub ends : Ends entered
 
--- a disk on which the volume was to have a partition failed
+-- a disk on which the volume was to have a partition failed, and none of these below it
 pub record MakingFails (v : NewVolume) (disk : ℕ) (old new : State) : Type 0 where
   pub map : List Pp
   pub may : MayBeMade v old.core map
   pub its : IsTrue (is_on map disk)
+  pub lowest : (d : ℕ) → d < disk → IsTrue (is_on map d) → new.device.counts.faults d ≡ old.device.counts.faults d
   pub ends : EndsFailed disk old new
 
 -- the volume's number, or why it wasn't made

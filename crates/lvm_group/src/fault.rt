@@ -34,6 +34,7 @@ pub enum GroupFault {
 }
 
 impl From<CommitFault> for GroupFault {
+    ghost use Rattle.std.specs.Prelude.{◌≡◌};
     ghost use Rattle.lvm_group.specs.Endings.{fault_of};
 
     ghost from_gives = { λ fault group. group ≡ fault_of fault };

@@ -1,12 +1,14 @@
 //! What stands against a volume that is to be made or removed, and what a new one is made of.
-ghost use Rattle.std.specs.Prelude.{◌≡◌, ◌↔◌, ◌≤◌, ◌*◌, ◌<◌, ℕ, length, IfOk, IfErr, IsTrue};
+ghost use Rattle.std.specs.Prelude.{◌≡◌, ◌↔◌, ◌≤◌, ◌<◌, ◌^◌, ℕ, length, IfOk, IfErr, IsTrue};
 ghost use Rattle.lvm_num.specs.declared.descriptor.Descriptor.{Descriptor};
 ghost use Rattle.lvm_num.specs.Descriptor.{IsValid, most_volumes};
 ghost use Rattle.lvm_num.specs.Disks.{has};
+ghost use Rattle.lvm_num.specs.Geometry.{partition_blocks, volume_blocks};
 ghost use Rattle.lvm_status.specs.Update.{members_there};
 ghost use Rattle.lvm_core.specs.Settled.{IsSettled};
 ghost use Rattle.lvm_group.specs.Endings.{TakesCommands};
-ghost use Rattle.lvm_group.specs.PlannedVolume.{IsPlannedVolume, IsWithout};
+ghost use Rattle.lvm_group.specs.NewVolume.{without_volume};
+ghost use Rattle.lvm_group.specs.PlannedVolume.{IsOneGroup, IsPlannedVolume, IsWithout};
 ghost use Rattle.lvm_group.specs.Volumes.{HasRoom, HasNumber, HasPlaces, MayBeMade, RefusesAll, RefusesMklv, RefusesRmlv};
 
 use crate::fault::GroupFault;
@@ -97,6 +99,7 @@ pub fn prepare_without<S: Shelf>(
 // Whether the session takes a command.
 fn takes_commands<S: Shelf>(driver: &Driver<S>) -> Result<(), GroupFault>
     ensures takes { IfOk result (λ done. TakesCommands driver.now.1) }
+    ensures group { IfOk result (λ done. IsOneGroup driver.now.1) }
     ensures refused { IfErr result (RefusesAll driver.now.1) }
 {
     match driver.power() {
@@ -118,6 +121,7 @@ fn takes_commands<S: Shelf>(driver: &Driver<S>) -> Result<(), GroupFault>
 // What stands against a new volume before places are looked for.
 fn check<S: Shelf>(driver: &Driver<S>, v: &NewVolume) -> Result<(), GroupFault>
     ensures may { IfOk result (λ done. HasNumber v.now driver.now.1) }
+    ensures group { IfOk result (λ done. IsOneGroup driver.now.1) }
     ensures refused { IfErr result (RefusesMklv v.now driver.now.1) }
 {
     takes_commands(driver)?;
@@ -191,12 +195,15 @@ fn plan<S: Shelf>(
     map: Rows<Pp>,
 ) -> Result<VolumePlan, Memory>
     requires some { 1 ≤ v.now.lps }
+    requires group { IsOneGroup driver.now.1 }
     requires may { MayBeMade v.now driver.now.1 map }
     ensures { IfOk result (IsPlannedVolume v.now driver.now.1) }
 {
+    // whose bytes are those of a name
+    let _bytes = v.name.as_bytes();
     let group = driver.descriptor();
     let number = lowest_free(group);
-    let blocks = MIB * u64::from(group.mib) * u64::from(v.lps);
+    let blocks = blocks_of(group.mib, v.lps);
     let row = LvRow {
         number,
         name: v.name,
@@ -214,6 +221,21 @@ fn plan<S: Shelf>(
         map,
         next,
     })
+}
+
+// The blocks of so many partitions of so many MiB.
+fn blocks_of(mib: u16, lps: u32) -> u64
+    ensures blocks { result ≡ volume_blocks mib lps }
+    ensures few { lps < 2 ^ 32 }
+{
+    partition_blocks(mib) * u64::from(lps)
+}
+
+fn partition_blocks(mib: u16) -> u64
+    ensures blocks { result ≡ partition_blocks mib }
+    ensures most { result < 2 ^ 27 }
+{
+    MIB * u64::from(mib)
 }
 
 // The descriptor without a volume.

@@ -1,9 +1,10 @@
 //! The making and the removal of volumes.
-ghost use Rattle.std.specs.Prelude.{◌≡◌, ◌-◌, ◌≤◌, IfSome, IfNone, IsTrue, All, Contains};
-ghost use Rattle.lvm_num.specs.declared.descriptor.Mode.TheVariants as mode;
+ghost use Rattle.std.specs.Prelude.{◌≡◌, ◌<◌, ◌-◌, ◌≤◌, false, IfSome, IfNone, IsTrue, All, Contains};
+ghost use Rattle.lvm_num.specs.declared.descriptor.Mode.TheVariants.{Off};
 ghost use Rattle.lvm_num.specs.declared.place.Pp.{Pp};
 ghost use Rattle.lvm_num.specs.Status.{calls_missing};
 ghost use Rattle.lvm_disk.specs.Counts.{RoseBy};
+ghost use Rattle.lvm_disk.specs.Device.{IsReady};
 ghost use Rattle.lvm_kept.specs.Moments.{StaysCalm};
 ghost use Rattle.lvm_map.specs.FirstFit.{is_on};
 ghost use Rattle.lvm_quorum.specs.Written.{KeepsShelf};
@@ -11,9 +12,9 @@ ghost use Rattle.lvm_core.specs.State.{state, is_there};
 ghost use Rattle.lvm_commit.specs.Settling.{SpendsNumbers};
 ghost use Rattle.lvm_core.specs.Settled.{IsSettled, HasNumbers};
 ghost use Rattle.lvm_core.specs.Committing.{moment_of, StaysBehind};
-ghost use Rattle.lvm_group.specs.Endings.{TakesCommands, IfOn, StillHeld, IsOfCommand, KeepsStatus, StampsRise, KeepsHistory, KeepsSpans};
-ghost use Rattle.lvm_group.specs.PlannedVolume.{IsWithout};
-ghost use Rattle.lvm_group.specs.Stages.{Goes, IfOn as IfStays, AreUnusedOn, ZerosEnd, ClearEnds, MakeEnds, MayMake, RemoveEnds};
+ghost use Rattle.lvm_group.specs.Endings.{TakesCommands, IfOn, StillHeld, IsOfCommand, KeepsStatus, StampsRise, KeepsHistory, KeepsSpans, FindsOnly};
+ghost use Rattle.lvm_group.specs.PlannedVolume.{IsOneGroup, IsWithout};
+ghost use Rattle.lvm_group.specs.Stages.{Goes, IfOn as IfStays, AreUnusedOn, IsLowestMissing, ZerosEnd, ClearEnds, MakeEnds, MayMake, RemoveEnds};
 ghost use Rattle.lvm_group.specs.NewVolume.{without_volume};
 ghost use Rattle.lvm_group.specs.Volumes.{IsWith, IsChosen, MklvGives, RmlvGives};
 
@@ -27,6 +28,9 @@ use lvm_num::{Mode, Name, Policy, Pp};
 use lvm_stale::StaleTable;
 use lvm_vol::{Entry, Vol};
 use std::alloc::Global;
+
+// The most disks of a shelf.
+const DISKS: u16 = 128;
 
 /// Makes a volume of the group that is on, and answers its number, the lowest that is free. Its partitions are
 /// those of first fit on the members that aren't missing. They become fresh, then zeros are written to them, and
@@ -52,13 +56,14 @@ pub fn mklv<S: Shelf>(
 ) -> Result<u16, GroupFault>
     // where nothing is open, nothing is under way
     requires settled { TakesCommands driver.old.1 → IsSettled driver.old.1 }
-    requires off { mode ≡ mode.Off }
+    requires off { mode ≡ Off }
     requires some { 1 ≤ lps }
     ensures gives { MklvGives (record { name = name; copies = copies; mode = mode; policy = policy; lps = lps }) patience.old.left (state (S.device driver.old.0) driver.old.1) (state (S.device driver.new.0) driver.new.1) result }
     ensures settled { TakesCommands driver.old.1 → IfOn result (IsSettled driver.new.1) }
     ensures held { IfOn result (StillHeld (state (S.device driver.old.0) driver.old.1) (state (S.device driver.new.0) driver.new.1)) }
     // whatever the answer
     ensures keeps { KeepsSpans (state (S.device driver.old.0) driver.old.1) (state (S.device driver.new.0) driver.new.1) }
+    ensures finds { FindsOnly (IsWith (record { name = name; copies = copies; mode = mode; policy = policy; lps = lps }) driver.old.1) (state (S.device driver.old.0) driver.old.1) (state (S.device driver.new.0) driver.new.1) }
     ensures writes { KeepsShelf (is_there driver.old.1) (IsOfCommand (IsWith (record { name = name; copies = copies; mode = mode; policy = policy; lps = lps }) driver.old.1) (IsChosen (record { name = name; copies = copies; mode = mode; policy = policy; lps = lps }) driver.old.1) (state (S.device driver.old.0) driver.old.1) (state (S.device driver.new.0) driver.new.1)) (S.device driver.old.0) (S.device driver.new.0) }
     ensures status { KeepsStatus (IsChosen (record { name = name; copies = copies; mode = mode; policy = policy; lps = lps }) driver.old.1) (state (S.device driver.old.0) driver.old.1) (state (S.device driver.new.0) driver.new.1) }
     ensures stamps { StampsRise (state (S.device driver.old.0) driver.old.1) (state (S.device driver.new.0) driver.new.1) }
@@ -75,10 +80,7 @@ pub fn mklv<S: Shelf>(
         policy,
         lps,
     };
-    let plan = VolumePlan::new(alloc, driver, &v)?;
-    let number = plan.number;
-    make(driver, plan, patience)?;
-    Ok(number)
+    make_new(alloc, driver, &v, patience)
 }
 
 /// Removes a volume of the group that is on: the descriptor without it is committed, between the two entries of its
@@ -101,6 +103,7 @@ pub fn rmlv<S: Shelf>(
     ensures held { IfOn result (StillHeld (state (S.device driver.old.0) driver.old.1) (state (S.device driver.new.0) driver.new.1)) }
     // whatever the answer
     ensures keeps { KeepsSpans (state (S.device driver.old.0) driver.old.1) (state (S.device driver.new.0) driver.new.1) }
+    ensures finds { FindsOnly (λ next. next ≡ without_volume driver.old.1.descriptor lv) (state (S.device driver.old.0) driver.old.1) (state (S.device driver.new.0) driver.new.1) }
     ensures writes { KeepsShelf (is_there driver.old.1) (IsOfCommand (λ next. next ≡ without_volume driver.old.1.descriptor lv) (λ pp. ⊥) (state (S.device driver.old.0) driver.old.1) (state (S.device driver.new.0) driver.new.1)) (S.device driver.old.0) (S.device driver.new.0) }
     ensures status { KeepsStatus (λ pp. ⊥) (state (S.device driver.old.0) driver.old.1) (state (S.device driver.new.0) driver.new.1) }
     ensures stamps { StampsRise (state (S.device driver.old.0) driver.old.1) (state (S.device driver.new.0) driver.new.1) }
@@ -109,6 +112,42 @@ pub fn rmlv<S: Shelf>(
     ensures behind { StaysBehind (state (S.device driver.old.0) driver.old.1) (state (S.device driver.new.0) driver.new.1) }
     ensures patience { patience.new.left ≤ patience.old.left }
     ensures waited { RoseBy (patience.old.left - patience.new.left) (S.device driver.old.0).counts.waits (S.device driver.new.0).counts.waits }
+{
+    remove_old(alloc, driver, lv, patience)
+}
+
+// Makes a new volume, unless something stands against it, and answers its number.
+fn make_new<S: Shelf>(
+    alloc: Global,
+    driver: &mut Driver<S>,
+    v: &NewVolume,
+    patience: &mut Patience,
+) -> Result<u16, GroupFault>
+    requires settled { TakesCommands driver.old.1 → IsSettled driver.old.1 }
+    requires some { 1 ≤ v.now.lps }
+    ensures gives { MklvGives v.now patience.old.left (state (S.device driver.old.0) driver.old.1) (state (S.device driver.new.0) driver.new.1) result }
+    ensures goes { Goes (IsWith v.now driver.old.1) (IsChosen v.now driver.old.1) patience.old.left patience.new.left (state (S.device driver.old.0) driver.old.1) (state (S.device driver.new.0) driver.new.1) }
+    ensures settled { TakesCommands driver.old.1 → IfOn result (IsSettled driver.new.1) }
+    ensures held { IfOn result (StillHeld (state (S.device driver.old.0) driver.old.1) (state (S.device driver.new.0) driver.new.1)) }
+{
+    let plan = VolumePlan::new(alloc, driver, v)?;
+    let number = plan.number;
+    make(driver, plan, patience)?;
+    Ok(number)
+}
+
+// Removes a volume, unless something stands against it.
+fn remove_old<S: Shelf>(
+    alloc: Global,
+    driver: &mut Driver<S>,
+    lv: u16,
+    patience: &mut Patience,
+) -> Result<(), GroupFault>
+    requires settled { TakesCommands driver.old.1 → IsSettled driver.old.1 }
+    ensures gives { RmlvGives lv patience.old.left (state (S.device driver.old.0) driver.old.1) (state (S.device driver.new.0) driver.new.1) result }
+    ensures goes { Goes (λ next. next ≡ without_volume driver.old.1.descriptor lv) (λ pp. ⊥) patience.old.left patience.new.left (state (S.device driver.old.0) driver.old.1) (state (S.device driver.new.0) driver.new.1) }
+    ensures settled { TakesCommands driver.old.1 → IfOn result (IsSettled driver.new.1) }
+    ensures held { IfOn result (StillHeld (state (S.device driver.old.0) driver.old.1) (state (S.device driver.new.0) driver.new.1)) }
 {
     let next = prepare_without(alloc, driver, lv)?;
     remove(driver, lv, next, patience)?;
@@ -167,6 +206,7 @@ fn clear<S: Shelf>(
 ) -> Result<(), CommitFault>
     requires settled { IsSettled driver.old.1 }
     requires numbers { HasNumbers driver.old.1 }
+    requires group { IsOneGroup driver.old.1 }
     requires unused { AreUnusedOn driver.old.1 map.now }
     ensures ends { ClearEnds map.now patience.old.left (state (S.device driver.old.0) driver.old.1) (state (S.device driver.new.0) driver.new.1) result }
     ensures goes { Goes (λ next. ⊥) (Contains map.now) patience.old.left patience.new.left (state (S.device driver.old.0) driver.old.1) (state (S.device driver.new.0) driver.new.1) }
@@ -174,23 +214,31 @@ fn clear<S: Shelf>(
     ensures numbers { IfStays result (SpendsNumbers 1 driver.old.1.status driver.new.1.status) }
 {
     set_status(driver, &[], map, patience)?;
-    if let Some(disk) = first_missing(driver.table(), map) {
+    if let Some(disk) = lowest_missing(driver.table(), map) {
         return Err(CommitFault::DiskFailed { disk });
     }
     zero_all(driver, map, patience)
 }
 
-// The first of the partitions' disks that a table calls missing.
-fn first_missing(table: &StaleTable, map: &[Pp]) -> Option<u16>
-    ensures some { IfSome result (λ disk. IsTrue (is_on map.now disk) × IsTrue (calls_missing table.now disk)) }
+// The lowest of the partitions' disks that a table calls missing.
+fn lowest_missing(table: &StaleTable, map: &[Pp]) -> Option<u16>
+    requires { All (λ (pp : Pp). pp.disk < 128) map.now }
+    ensures some { IfSome result (IsLowestMissing table.now map.now) }
     ensures none { IfNone result (All (λ (pp : Pp). calls_missing table.now pp.disk ≡ false) map.now) }
 {
-    for pp in map {
-        if table.is_missing(pp.disk) {
-            return Some(pp.disk);
+    for disk in 0..DISKS {
+        if is_on(map, disk) && table.is_missing(disk) {
+            return Some(disk);
         }
     }
     None
+}
+
+// Whether one of the partitions is on the disk.
+fn is_on(map: &[Pp], disk: u16) -> bool
+    ensures { result ≡ is_on map.now disk }
+{
+    map.iter().any(|pp| pp.disk == disk)
 }
 
 // Writes zeros to partitions, until a disk fails.
@@ -200,6 +248,7 @@ fn zero_all<S: Shelf>(
     patience: &mut Patience,
 ) -> Result<(), CommitFault>
     requires settled { IsSettled driver.old.1 }
+    requires ready { IsReady (S.device driver.old.0) }
     requires unused { AreUnusedOn driver.old.1 map.now }
     ensures ends { ZerosEnd map.now patience.old.left (state (S.device driver.old.0) driver.old.1) (state (S.device driver.new.0) driver.new.1) result }
     ensures goes { Goes (λ next. ⊥) (Contains map.now) patience.old.left patience.new.left (state (S.device driver.old.0) driver.old.1) (state (S.device driver.new.0) driver.new.1) }
