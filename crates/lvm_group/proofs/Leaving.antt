@@ -162,6 +162,7 @@ module _ (N : Descriptor → Type 0) (Z : Pp → Type 0) where
       before : (d : ℕ) → IsTrue (is_there b.core d) → IsTrue (is_there a.core d)
       before d is = fewer (is_member a.core.descriptor d) (calls_missing a.core.status.wanted d) (calls_missing b.core.status.wanted d) (one.status.stays d)
           (subst (λ (m : Bool). IsTrue (m && not (calls_missing b.core.status.wanted d))) (members d) is)
+
       lost : (d : ℕ) (t : Bool) → calls_missing b.core.status.wanted d ≡ t → IsTrue (calls_missing c.core.status.wanted d) → IsFalse (calls_missing a.core.status.wanted d)
           → IsTrue (is_there a.core d) × Rose (a.device.counts.faults d) (c.device.counts.faults d)
       lost d true mid is isnt = let first = one.status.lost d mid isnt in (first.0, rose_on (a.device.counts.faults d) (b.device.counts.faults d) (c.device.counts.faults d) first.1 (falls_two.faults d))

@@ -190,6 +190,7 @@ module _ (v : NewVolume) (plan : VolumePlan) (a : State) (settled : IsSettled a.
               subst (λ (x : Descriptor). VolumeServes (contents_of (image_of b.device.sizes m)) (past ++ (b.core.history.facts ++ f ∷ [])) x plan.number plan.next) (sym same)
               (subst (λ (x : Descriptor). VolumeServes (contents_of (image_of b.device.sizes m)) (past ++ (b.core.history.facts ++ f ∷ [])) d plan.number x) (sym planned.next)
               (subst (λ (l : List Fact). VolumeServes (contents_of (image_of b.device.sizes m)) l d plan.number (with_volume d (row_for v plan.number plan.map))) (sym grouped) all))
+
           by_media : (o : Option Media) → b.device.media ≡ o → IfSome o (λ media. HoldsCommitted (image_of b.device.sizes media) b.core.descriptor b.core.status.committed (is_there b.core) b.core.status.stamp b.core.homes)
               → IfSome o (λ media. VolumeServes (contents_of (image_of b.device.sizes media)) (past ++ (b.core.history.facts ++ f ∷ [])) b.core.descriptor plan.number plan.next)
           by_media None told shown = tt

@@ -61,6 +61,7 @@ module _ (d : Descriptor) (valid : IsValid d) (i : ℕ) (low : i ≤ length d.lv
         | inl some ↦ let before = numbered (i - 1) e (omega (arith, some)) in let rise = valid.volumes.numbers_rise (i - 1) i e (omega (arith, some)) lt in omega (arith, before, rise, some)
         | inr none ↦ let one = (valid.volumes.each i e lt).a_number in omega (arith, one, none)
       ]
+
       at : i < length d.lvs → (e : LvRow) → i + 1 < (get_or d.lvs i e).number
       at lt e = elim (cases_lt (i + 1) (get_or d.lvs i e).number) [
         | inl more ↦ more

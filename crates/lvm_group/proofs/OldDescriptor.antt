@@ -43,6 +43,7 @@ module _ (p : LvRow → Bool) where
       -- each of the others, against all of the first volume
       across : All (λ (y : Pp). All (λ (x : Pp). R x y) r.map) (partitions_in rows)
       across j d lt i e i-lt = subst (R (get_or r.map i e)) (get_or_default (partitions_in rows) j e d lt) (AllPairs-across R r.map (partitions_in rows) pairs i j e i-lt lt)
+
       by_test : (t : Bool) → AllPairs R (partitions_in (filter p rows)) → AllPairs R (partitions_in (cond t (r ∷ filter p rows) (filter p rows)))
       by_test true rest = AllPairs-append R r.map (partitions_in (filter p rows)) (AllPairs-left R r.map (partitions_in rows) pairs) rest
           (λ i j e i-lt j-lt. all_parts (λ (y : Pp). All (λ (x : Pp). R x y) r.map) rows across j e j-lt i e i-lt)
@@ -86,9 +87,11 @@ find_others (r ∷ rows) lv n other = by_test (r.number == lv) refl (find_others
   where
     kept : List LvRow
     kept = filter (λ (row : LvRow). not (row.number == lv)) rows
+
     differs : (t : Bool) → (r.number == n) ≡ t → r.number ≡ lv → t ≡ false
     differs true is its = absurd (other (sym (eqb-true r.number n is) ∙ its))
     differs false is its = refl
+
     by_test : (t : Bool) → (r.number == lv) ≡ t → find (has_number n) (filter (λ (row : LvRow). not (row.number == lv)) rows) ≡ find (has_number n) rows
         → find (has_number n) (cond (not t) (r ∷ filter (λ (row : LvRow). not (row.number == lv)) rows) (filter (λ (row : LvRow). not (row.number == lv)) rows)) ≡ find (has_number n) (r ∷ rows)
     by_test true is rest = rest ∙ sym (ap (λ (t : Bool). if t then Some r else find (has_number n) rows) (differs (r.number == n) refl (eqb-true r.number lv is)))

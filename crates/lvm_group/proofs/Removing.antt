@@ -55,6 +55,7 @@ module _ (lv : ℕ) (next : Descriptor) (a : State) (settled : IsSettled a.core)
       serves m = subst (λ (d : Descriptor). VolumeServes (contents_of (image_of a.device.sizes m)) (past ++ (a.core.history.facts ++ Removing (Lv lv) ∷ [])) a.core.descriptor lv d) (sym without.is)
           (subst (λ (facts : List Fact). VolumeServes (contents_of (image_of a.device.sizes m)) facts a.core.descriptor lv (without_volume a.core.descriptor lv)) (append_assoc past a.core.history.facts (Removing (Lv lv) ∷ []))
           (old_serves a.core.descriptor lv (contents_of (image_of a.device.sizes m)) (past ++ a.core.history.facts)))
+
       by_media : (o : Option Media) → IfSome o (λ media. VolumeServes (contents_of (image_of a.device.sizes media)) (past ++ (a.core.history.facts ++ Removing (Lv lv) ∷ [])) a.core.descriptor lv next)
       by_media None = tt
       by_media (Some m) = serves m

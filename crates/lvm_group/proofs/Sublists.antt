@@ -46,8 +46,10 @@ module _ {X : Type 0} (xs : List X) (k : ℕ) (y : X) (le : k ≤ length xs) whe
     where
       both : AllPairs R (take k xs ++ drop k xs)
       both = subst (AllPairs R) (sym (take-append-drop k xs)) pairs
+
       after : All (R y) (drop k xs)
       after i d lt = subst (R y) (sym (get_or-drop k xs i d)) (behind (k + i) d (omega arith) (omega (arith, lt, length-drop k xs)))
+
       across : (i j : ℕ) (d : X) → i < length (take k xs) → j < length (y ∷ drop k xs) → R (get_or (take k xs) i d) (get_or (y ∷ drop k xs) j d)
       across i zero d i-lt j-lt = let i-below : i < k = omega (arith, i-lt, length-take-le k xs le) in subst (λ (x : X). R x y) (sym (get_or-take k xs i d i-below)) (before i d i-below)
       across i (suc j) d i-lt j-lt = AllPairs-across R (take k xs) (drop k xs) both i j d i-lt (omega (arith, j-lt))
@@ -74,6 +76,7 @@ one_insert {X} xs k y x one = ⊎_elim (λ a. inr (whole (one_left (take k xs) (
   where
     whole : IsOneOf (take k xs ++ drop k xs) x → IsOneOf xs x
     whole a = subst (λ (l : List X). IsOneOf l x) (take-append-drop k xs) a
+
     behind : IsOneOf (y ∷ drop k xs) x → (x ≡ y) ⊎ IsOneOf xs x
     behind (inl here) = inl here
     behind (inr there) = inr (whole (one_right (take k xs) (drop k xs) x there))

@@ -1,7 +1,6 @@
 //! Commands on groups.
 #![tactic(auto)]
 
-mod calls;
 mod checks;
 mod fault;
 mod judge;

@@ -17,7 +17,6 @@ ghost use Rattle.lvm_group.specs.Stages.{Goes, IfOn as IfStays, AreUnusedOn, IsL
 ghost use Rattle.lvm_group.specs.NewVolume.{without_volume};
 ghost use Rattle.lvm_group.specs.Volumes.{IsWith, IsChosen, MklvGives, RmlvGives};
 
-use crate::calls::{commit, set_status, zero};
 use crate::fault::GroupFault;
 use crate::new_volume::{NewVolume, VolumePlan, prepare_without};
 use lvm_core::{CommitFault, Driver, Prepared};
@@ -139,7 +138,7 @@ fn make<S: Shelf>(
         blocks: plan.blocks,
         mode: plan.mode,
     });
-    commit(driver, plan.next, patience)?;
+    driver.commit(plan.next, patience)?;
     driver.enter(Entry::Made { lv });
     Ok(())
 }
@@ -159,7 +158,7 @@ fn remove<S: Shelf>(
 {
     let vol = Vol::Lv(lv);
     driver.enter(Entry::Removing { vol });
-    commit(driver, next, patience)?;
+    driver.commit(next, patience)?;
     driver.enter(Entry::Removed { vol });
     Ok(())
 }
@@ -179,7 +178,7 @@ fn clear<S: Shelf>(
     ensures held { IfStays result (StillHeld (state (S.device driver.old.0) driver.old.1) (state (S.device driver.new.0) driver.new.1)) }
     ensures numbers { IfStays result (SpendsNumbers 1 driver.old.1.status driver.new.1.status) }
 {
-    set_status(driver, &[], map, patience)?;
+    driver.set_status(&[], map, patience)?;
     if let Some(disk) = lowest_missing(driver.table(), map) {
         return Err(CommitFault::DiskFailed { disk });
     }
@@ -221,7 +220,7 @@ fn zero_all<S: Shelf>(
     ensures held { IfStays result (StillHeld (state (S.device driver.old.0) driver.old.1) (state (S.device driver.new.0) driver.new.1)) }
 {
     for pp in map {
-        zero(driver, *pp, patience)?;
+        driver.zero(*pp, patience)?;
     }
     Ok(())
 }

@@ -55,5 +55,5 @@ returns-clause-does g c =
     })
     (core_ends (core_of self) mid left mid_is c.requires.buffers how c.go_on.result number ends)
     (λ none.
-      let once = at_once _ (core_of self) mid left mid_is c.requires.buffers how c.go_on.result number ends (wrote.ensures.unwritten none) (λ all. all.2 ∙ ap (λ (s : Session). s.homes) c.take_buffer-buf.ensures.taken) in
-      (once.1, ap g.S.Shelf.device once.0.0, once.2 ∙ ap (λ (u : Stored). record (core_of self) { status = u }) once.0.1))
+    let once = at_once _ (core_of self) mid left mid_is c.requires.buffers how c.go_on.result number ends (wrote.ensures.unwritten none) (λ all. all.2 ∙ ap (λ (s : Session). s.homes) c.take_buffer-buf.ensures.taken) in
+    (once.1, ap g.S.Shelf.device once.0.0, once.2 ∙ ap (λ (u : Stored). record (core_of self) { status = u }) once.0.1))
