@@ -3,6 +3,8 @@ use Rattle.std.proofs.Common.{◌≡◌, ℕ, ◌≤◌, Bool, false, List, leng
 use Rattle.std.specs.Prelude.{Result, Ok, Err, slice_set}
 use Rattle.lvm_num.specs.declared.place.Pp.{Pp}
 use Rattle.lvm_num.specs.declared.descriptor.Descriptor.{Descriptor}
+use Rattle.lvm_num.specs.declared.record.Kind.TheVariants as kind
+use Rattle.lvm_num.specs.Descriptor.{IsValid}
 use Rattle.lvm_num.specs.DescriptorBytes.{descriptor_bytes}
 use Rattle.lvm_disk.specs.Device.{Device, IsReady}
 use Rattle.lvm_kept.specs.Plans.{Plan}
@@ -13,7 +15,7 @@ use Rattle.lvm_quorum.specs.Parts.{Spends}
 use Rattle.lvm_quorum.specs.Written.{IsDarkened, IsGivenUp, KeepsShelf}
 use Rattle.lvm_commit.specs.declared.commit.Settled.{Settled}
 use Rattle.lvm_commit.specs.declared.commit.Settled.TheVariants as settled
-use Rattle.lvm_commit.specs.Settling.{IfDone, IfWentOff, IfBack, OnDark, OnStuck, EndsAtOnce, there, IsCommitted, HasLostQuorum, OnlyLoses, AreWell, SpendsNumbers, IsOfStatus, IsOfCommit, StatusStaysKept, DescriptorStaysKept, StatusFindsNothingNew, CommitFindsNoMore, StaysHeld, ComesHeld}
+use Rattle.lvm_commit.specs.Settling.{IfDone, IfWentOff, IfBack, OnDark, OnStuck, EndsAtOnce, there, IsCommitted, HasLostQuorum, OnlyLoses, AreWell, SpendsNumbers, IsOfStatus, IsOfCommit, IsPlain, StatusStaysKept, DescriptorStaysKept, StatusFindsNothingNew, CommitFindsNoMore, StaysHeld, ComesHeld}
 use Rattle.lvm_core.specs.declared.fault.CommitFault.{CommitFault}
 use Rattle.lvm_core.specs.declared.request.Power.TheVariants as power
 use Rattle.lvm_core.specs.State.{Core, State, state}
@@ -93,6 +95,7 @@ pub record Promises (plan : Stored → Plan) (first last : Stored) (number befor
   pub dark : OnDark how (IsDarkened number old new)
   pub stuck : OnStuck how (IsGivenUp number before old new)
   pub loses : OnlyLoses first last old new
+  pub spent : IfWentOff how (λ have total back. SpendsNumbers 0 first last)
   pub numbers : SpendsNumbers 1 first last
   pub spends : Spends before after old new
   pub keeps : KeepsShelf (there first) (plan last) old new
@@ -109,6 +112,7 @@ module _ (next : Descriptor) (plan : Stored → Plan) (first last : Stored) (bef
         dark = p.dark;
         stuck = p.stuck;
         loses = p.loses;
+        spent = p.spent;
         numbers = p.numbers;
         spends = p.spends;
         keeps = p.keeps;
@@ -120,14 +124,15 @@ module _ (next : Descriptor) (plan : Stored → Plan) (first last : Stored) (bef
 pub record DescriptorPromises (content : List ℕ) (first last : Stored) (homes next_homes : Homes) (number before after : ℕ) (old new : Device) (how : Settled) : Type 0 where
   pub promises : Promises (IsOfCommit content first) first last number before after old new how
   pub held : IfDone how (λ back. ComesHeld content first last homes next_homes old new)
+  pub plain : IfDone how (λ back. IsPlain kind.Descriptor content first last homes old new)
   pub finds : CommitFindsNoMore content first homes old new
   pub kept : DescriptorStaysKept content first homes old new
 
 pub commits_descriptor :
     (next : Descriptor) (content : List ℕ) (first last : Stored) (homes next_homes : Homes) (number before after : ℕ) (old new : State) (how : Settled) (answer : Result (Unit {0}) CommitFault)
-    → content ≡ descriptor_bytes next → first ≡ old.core.status → homes ≡ old.core.homes → number ≡ 0 → new.core.status ≡ last → new.core.homes ≡ next_homes
+    → IsValid next → content ≡ descriptor_bytes next → first ≡ old.core.status → homes ≡ old.core.homes → number ≡ 0 → new.core.status ≡ last → new.core.homes ≡ next_homes
     → DescriptorPromises content first last homes next_homes number before after old.device new.device how → CoreEnds next old.core new.core how answer → CommitsDescriptor next before after old new answer
-commits_descriptor next content first last homes next_homes number before after old new how answer bytes is at none then at_then promises goes =
+commits_descriptor next content first last homes next_homes number before after old new how answer valid bytes is at none then at_then promises goes =
     let a = subst (λ (l : List ℕ). DescriptorPromises l first last homes next_homes number before after old.device new.device how) bytes promises in
     let b = subst (λ (u : Stored). DescriptorPromises (descriptor_bytes next) u last homes next_homes number before after old.device new.device how) is a in
     let d = subst (λ (h : Homes). DescriptorPromises (descriptor_bytes next) old.core.status last h next_homes number before after old.device new.device how) at b in
@@ -136,8 +141,10 @@ commits_descriptor next content first last homes next_homes number before after 
     let p = subst (λ (u : Stored). DescriptorPromises (descriptor_bytes next) old.core.status u old.core.homes new.core.homes 0 before after old.device new.device how) (sym then) f in
     record {
       how = how;
+      valid = valid;
       settles = settles next (IsOfCommit (descriptor_bytes next) old.core.status) old.core.status new.core.status before after old new how answer refl p.promises goes;
       held = p.held;
+      plain = p.plain;
       finds = p.finds;
       kept = p.kept;
     }

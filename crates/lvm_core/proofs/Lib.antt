@@ -3,6 +3,9 @@ pub mod Landing
 pub mod Beginning
 pub mod Arranging
 pub mod Closing
+pub mod Commits
+pub mod Committing
+pub mod Stating
 pub mod Entering
 pub mod Zeroing
 pub mod Buffers
@@ -14,3 +17,4 @@ pub mod Settling
 pub mod Sizes
 pub mod Ends
 pub mod Marking
+pub mod Settled

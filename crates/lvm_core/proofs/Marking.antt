@@ -60,7 +60,7 @@ markable_still old now p rows may = record { row = row_stays old now rows p.disk
 
 -- ---- one more
 
-pp_is : (a b : Pp) → is_pp a b ≡ true → a ≡ b
+pub pp_is : (a b : Pp) → is_pp a b ≡ true → a ≡ b
 pp_is a b e = by_tests (a.disk == b.disk) (a.pp == b.pp) refl refl e
   where
     by_tests : (s t : Bool) → (a.disk == b.disk) ≡ s → (a.pp == b.pp) ≡ t → s && t ≡ true → a ≡ b

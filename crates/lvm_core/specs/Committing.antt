@@ -18,7 +18,7 @@ use Rattle.lvm_stamps.specs.Behind.{IsBehind}
 use Rattle.lvm_quorum.specs.Written.{IsDarkened, IsGivenUp}
 use Rattle.lvm_commit.specs.LawsOfData.{IsFree}
 use Rattle.lvm_commit.specs.LawsOfVolumes.{VolumeServes}
-use Rattle.lvm_commit.specs.Settling.{HasSameRows, HasLostQuorum, AreWell}
+use Rattle.lvm_commit.specs.Settling.{HasSameRows, HasLostQuorum, AreWell, SpendsNumbers}
 use Rattle.lvm_core.specs.declared.fault.CommitFault.{CommitFault}
 use Rattle.lvm_core.specs.declared.fault.CommitFault.TheVariants as fault
 use Rattle.lvm_core.specs.declared.request.Power.TheVariants as power
@@ -44,6 +44,8 @@ pub record HasCommitted (next : Descriptor) (old new : State) : Type 0 where
 -- The members that aren't missing have so many votes of so many, too few to write: the session has gone off, with its descriptor as it was.
 pub record HasGoneOff (have total : ℕ) (old new : State) : Type 0 where
   pub lost : HasLostQuorum old.core.status new.core.status old.device new.device have total
+  -- no number was spent but for the members that became missing
+  pub spent : SpendsNumbers 0 old.core.status new.core.status
   pub is : new.core ≡ record old.core { status = new.core.status; homes = new.core.homes; power = power.Off }
   pub well : AreWell new.core.status old.device new.device
   pub ready : IsReady new.device

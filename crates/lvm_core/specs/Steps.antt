@@ -4,6 +4,7 @@ use Rattle.lvm_num.specs.declared.place.Pp.{Pp}
 use Rattle.lvm_num.specs.declared.record.Kind.TheVariants as kind
 use Rattle.lvm_num.specs.declared.descriptor.Descriptor.{Descriptor}
 use Rattle.lvm_num.specs.declared.status.Status.{Status}
+use Rattle.lvm_num.specs.Descriptor.{IsValid}
 use Rattle.lvm_num.specs.DescriptorBytes.{descriptor_bytes}
 use Rattle.lvm_num.specs.StatusBytes.{status_bytes}
 use Rattle.lvm_disk.specs.Device.{IsReady}
@@ -14,7 +15,7 @@ use Rattle.lvm_quorum.specs.Parts.{Spends}
 use Rattle.lvm_quorum.specs.Written.{IsDarkened, IsGivenUp, KeepsShelf}
 use Rattle.lvm_commit.specs.declared.commit.Settled.{Settled}
 use Rattle.lvm_commit.specs.declared.commit.Settled.TheVariants as settled
-use Rattle.lvm_commit.specs.Settling.{HasSameRows, IfDone, IfWentOff, IfBack, OnDark, OnStuck, there, IsCommitted, HasLostQuorum, OnlyLoses, AreWell, SpendsNumbers, IsOfStatus, IsOfCommit, StatusStaysKept, DescriptorStaysKept, StatusFindsNothingNew, CommitFindsNoMore, StaysHeld, ComesHeld}
+use Rattle.lvm_commit.specs.Settling.{HasSameRows, IfDone, IfWentOff, IfBack, OnDark, OnStuck, there, IsCommitted, HasLostQuorum, OnlyLoses, AreWell, SpendsNumbers, IsOfStatus, IsOfCommit, IsPlain, StatusStaysKept, DescriptorStaysKept, StatusFindsNothingNew, CommitFindsNoMore, StaysHeld, ComesHeld}
 use Rattle.lvm_core.specs.declared.fault.CommitFault.{CommitFault}
 use Rattle.lvm_core.specs.declared.fault.CommitFault.TheVariants as fault
 use Rattle.lvm_core.specs.declared.request.Power.TheVariants as power
@@ -61,6 +62,7 @@ pub record Settles (next : Descriptor) (plan : Plan) (first : Stored) (before af
   pub dark : OnDark how (IsDarkened 0 old.device new.device)
   pub stuck : OnStuck how (IsGivenUp 0 before old.device new.device)
   pub loses : OnlyLoses first new.core.status old.device new.device
+  pub spent : IfWentOff how (λ have total back. SpendsNumbers 0 first new.core.status)
   pub numbers : SpendsNumbers 1 first new.core.status
   pub spends : Spends before after old.device new.device
   pub keeps : KeepsShelf (there first) plan old.device new.device
@@ -71,8 +73,10 @@ pub record Settles (next : Descriptor) (plan : Plan) (first : Stored) (before af
 -- The descriptor was written, and the status where a member was lost.
 pub record CommitsDescriptor (next : Descriptor) (before after : ℕ) (old new : State) (answer : Result (Unit {0}) CommitFault) : Type 0 where
   pub how : Settled
+  pub valid : IsValid next
   pub settles : Settles next (IsOfCommit (descriptor_bytes next) old.core.status new.core.status) old.core.status before after old new how answer
   pub held : IfDone how (λ back. ComesHeld (descriptor_bytes next) old.core.status new.core.status old.core.homes new.core.homes old.device new.device)
+  pub plain : IfDone how (λ back. IsPlain kind.Descriptor (descriptor_bytes next) old.core.status new.core.status old.core.homes old.device new.device)
   pub finds : CommitFindsNoMore (descriptor_bytes next) old.core.status old.core.homes old.device new.device
   pub kept : DescriptorStaysKept (descriptor_bytes next) old.core.status old.core.homes old.device new.device
 

@@ -1,5 +1,6 @@
 //! A session over its shelf.
 ghost use Rattle.std.specs.Prelude.{◌≡◌, ◌≢◌, ◌==◌, ◌≤◌, ◌<◌, ◌+◌, ◌-◌, ◌++◌, ◌^◌, ℕ, [], length, slice_get, false, Some, IfSome, IfNone, IfOk, IsOk, IsTrue, All, AllPairs};
+ghost use Rattle.lvm_num.specs.declared.record.Kind.TheVariants as kind;
 ghost use Rattle.lvm_num.specs.Descriptor.{IsValid, IsPartitionOf};
 ghost use Rattle.lvm_num.specs.DescriptorBytes.{descriptor_bytes};
 ghost use Rattle.lvm_num.specs.Votes.{total_votes};
@@ -13,7 +14,7 @@ ghost use Rattle.lvm_commit.specs.Committed.{IsAlike};
 ghost use Rattle.lvm_commit.specs.LawsOfData.{IsFree};
 ghost use Rattle.lvm_commit.specs.LawsOfFinding.{FindsNothingNewOn, FindsNoMoreOn};
 ghost use Rattle.lvm_commit.specs.LawsOfVolumes.{IsOnlyGroupOn};
-ghost use Rattle.lvm_commit.specs.Settling.{OnlyLoses, SpendsNumbers, IsOfStatus, IsOfCommit};
+ghost use Rattle.lvm_commit.specs.Settling.{OnlyLoses, SpendsNumbers, IsOfStatus, IsOfCommit, IsPlain};
 ghost use Rattle.lvm_core.specs.declared.request.Open.{Open};
 ghost use Rattle.lvm_core.specs.State.{state, is_there, votes_there};
 ghost use Rattle.lvm_core.specs.Dark.{is_waiting, after_arrange};
@@ -22,7 +23,7 @@ ghost use Rattle.lvm_core.specs.Sound.{IsSound, HaveAllLanded};
 ghost use Rattle.lvm_core.specs.Starting.{ArePlaced, first_core};
 ghost use Rattle.lvm_core.specs.Held.{IsHeld};
 ghost use Rattle.lvm_core.specs.Settled.{IsSettled, HasNumbers};
-ghost use Rattle.lvm_core.specs.Committing.{CommitEnds, AreUnused, Marks, Restates, moment_of, SpanGoesOn, LetsCommit, StaysBehind};
+ghost use Rattle.lvm_core.specs.Committing.{CommitEnds, AreUnused, AreMarked, Restates, moment_of, SpanGoesOn, LetsCommit, StaysBehind};
 ghost use Rattle.lvm_core.specs.Zeros.{ZeroEnds, IsZeroOf};
 ghost use Rattle.lvm_core.specs.Entering.{IsOfVolume};
 
@@ -124,6 +125,74 @@ impl<S: Shelf> Driver<S> {
         Prepared::new(alloc, next)
     }
 
+    /// Writes a descriptor, which differs from the present one in its volumes alone, to all members that
+    /// aren't missing. A member whose write fails becomes missing, and the status says so before the call
+    /// answers. The buffer that it writes with comes from the pool and goes back.
+    ///
+    /// # Errors
+    ///
+    /// `WentOff` where the members that aren't missing have too few votes to write; the session is off then.
+    /// `Dark`, and the session has ended; a cut is entered. `Stuck`, and the transfer is out with the buffer:
+    /// nothing can be committed any more, only looked at, and the session closed.
+    pub fn commit(&mut self, next: Prepared, patience: &mut Patience) -> Result<(), CommitFault>
+        requires settled { IsSettled self.old.1 }
+        requires numbers { HasNumbers self.old.1 }
+        requires alike { IsAlike next self.old.1.descriptor }
+        ensures ends { CommitEnds next patience.old.left (state (S.device self.old.0) self.old.1) (state (S.device self.new.0) self.new.1) result }
+        ensures held { IsHeld (S.device self.old.0) self.old.1 → IfOk result (λ done. IsHeld (S.device self.new.0) self.new.1) }
+        // where no member became missing it is all that was written
+        ensures plain { IfOk result (λ done. IsPlain kind.Descriptor (descriptor_bytes next) self.old.1.status self.new.1.status self.old.1.homes (S.device self.old.0) (S.device self.new.0)) }
+        // whatever the answer
+        ensures finds { IsHeld (S.device self.old.0) self.old.1 → FindsNoMoreOn next (S.device self.old.0) (S.device self.new.0) }
+        ensures falls { NoneFalls (S.device self.old.0).counts (S.device self.new.0).counts }
+        ensures marks { OnlyLoses self.old.1.status self.new.1.status (S.device self.old.0) (S.device self.new.0) }
+        ensures numbers { SpendsNumbers 1 self.old.1.status self.new.1.status }
+        ensures writes { KeepsShelf (is_there self.old.1) (IsOfCommit (descriptor_bytes next) self.old.1.status self.new.1.status) (S.device self.old.0) (S.device self.new.0) }
+        ensures keeps { IsHeld (S.device self.old.0) self.old.1 → (lv run : ℕ) (first : Moment) → LetsCommit lv next run first (state (S.device self.old.0) self.old.1) → SpanGoesOn run first (state (S.device self.old.0) self.old.1) (state (S.device self.new.0) self.new.1) }
+        ensures calm { StaysCalm (moment_of (state (S.device self.old.0) self.old.1)) (moment_of (state (S.device self.new.0) self.new.1)) }
+        ensures behind { StaysBehind (state (S.device self.old.0) self.old.1) (state (S.device self.new.0) self.new.1) }
+        ensures patience { patience.new.left ≤ patience.old.left }
+        ensures waited { RoseBy (patience.old.left - patience.new.left) (S.device self.old.0).counts.waits (S.device self.new.0).counts.waits }
+    {
+        self.session.commit(&mut self.shelf, next, patience)
+    }
+
+    /// Commits a status with these partitions stale and those fresh, which no volume has. Where nothing
+    /// changes by it, nothing is written. A member whose write fails becomes missing, and the status says so
+    /// before the call answers.
+    ///
+    /// # Errors
+    ///
+    /// As of `commit`.
+    pub fn set_status(
+        &mut self,
+        stale: &[Pp],
+        fresh: &[Pp],
+        patience: &mut Patience,
+    ) -> Result<(), CommitFault>
+        requires settled { IsSettled self.old.1 }
+        requires numbers { HasNumbers self.old.1 }
+        requires unused { AreUnused self.old.1.descriptor (stale.now ++ fresh.now) }
+        requires once { AllPairs (λ a b. a ≢ b) (stale.now ++ fresh.now) }
+        ensures ends { CommitEnds self.old.1.descriptor patience.old.left (state (S.device self.old.0) self.old.1) (state (S.device self.new.0) self.new.1) result }
+        ensures held { IsHeld (S.device self.old.0) self.old.1 → IfOk result (λ done. IsHeld (S.device self.new.0) self.new.1) }
+        ensures nothing { AreMarked stale.now fresh.now self.old.1.status.committed → IsOk result × (S.device self.new.0 ≡ S.device self.old.0) × (self.new.1 ≡ self.old.1) }
+        // whatever the answer
+        ensures finds { IsHeld (S.device self.old.0) self.old.1 → FindsNothingNewOn (S.device self.old.0) (S.device self.new.0) }
+        ensures falls { NoneFalls (S.device self.old.0).counts (S.device self.new.0).counts }
+        ensures marks { Restates stale.now fresh.now (state (S.device self.old.0) self.old.1) (state (S.device self.new.0) self.new.1) }
+        ensures numbers { SpendsNumbers 1 self.old.1.status self.new.1.status }
+        ensures writes { KeepsShelf (is_there self.old.1) (IsOfStatus self.old.1.status self.new.1.status) (S.device self.old.0) (S.device self.new.0) }
+        ensures keeps { IsHeld (S.device self.old.0) self.old.1 → (run : ℕ) (first : Moment) → SpanGoesOn run first (state (S.device self.old.0) self.old.1) (state (S.device self.new.0) self.new.1) }
+        ensures calm { StaysCalm (moment_of (state (S.device self.old.0) self.old.1)) (moment_of (state (S.device self.new.0) self.new.1)) }
+        ensures behind { StaysBehind (state (S.device self.old.0) self.old.1) (state (S.device self.new.0) self.new.1) }
+        ensures patience { patience.new.left ≤ patience.old.left }
+        ensures waited { RoseBy (patience.old.left - patience.new.left) (S.device self.old.0).counts.waits (S.device self.new.0).counts.waits }
+    {
+        self.session
+            .set_status(&mut self.shelf, stale, fresh, patience)
+    }
+
     /// Writes zeros to a partition that no volume has, of a member that isn't missing.
     ///
     /// # Errors
@@ -176,7 +245,8 @@ impl<S: Shelf> Driver<S> {
         number_of(self.session.descriptor.lvs.as_slice(), &name)
     }
 
-    /// The committed descriptor.
+    /// The descriptor of the last command that was answered with Ok. After another answer of `commit` the next
+    /// one may stand on some members, and be found when the group is varied on again.
     pub fn descriptor(&self) -> &Descriptor
         ensures same { result.now ≡ self.now.1.descriptor }
         ensures valid { IsValid result.now }

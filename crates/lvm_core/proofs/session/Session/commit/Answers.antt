@@ -33,7 +33,7 @@ returns-in-Ok-clause-does g c =
     let same = status_ends mid left how _ c.in-Ok.ensures.ends in
     commits_descriptor c.args.next c.as_slice.result.now taken.updater wrote.new.updater taken.homes wrote.new.homes c.take_buffer-buf.result.number c.args.patience.now.left wrote.new.patience.left
     (state (g.S.Shelf.device c.args.shelf.now) (core_of self)) (state (g.S.Shelf.device wrote.new.shelf) (record left { descriptor = next })) how _
-    (c.as_slice.ensures ∙ c.into_parts-descriptor.ensures.bytes) (ap (λ (s : Session). s.updater) c.take_buffer-buf.ensures.taken) (ap (λ (s : Session). s.homes) c.take_buffer-buf.ensures.taken) c.take_buffer-buf.ensures.number same.0 same.1
+    c.into_parts-descriptor.ensures.valid (c.as_slice.ensures ∙ c.into_parts-descriptor.ensures.bytes) (ap (λ (s : Session). s.updater) c.take_buffer-buf.ensures.taken) (ap (λ (s : Session). s.homes) c.take_buffer-buf.ensures.taken) c.take_buffer-buf.ensures.number same.0 same.1
     (record {
       promises = record {
         done = wrote.ensures.done;
@@ -43,11 +43,13 @@ returns-in-Ok-clause-does g c =
         dark = wrote.ensures.dark;
         stuck = wrote.ensures.stuck;
         loses = wrote.ensures.marks;
+        spent = wrote.ensures.spent;
         numbers = wrote.ensures.numbers;
         spends = record { falls = wrote.ensures.patience; waits = wrote.ensures.waited };
         keeps = wrote.ensures.keeps;
       };
       held = wrote.ensures.held;
+      plain = wrote.ensures.plain;
       finds = wrote.ensures.finds;
       kept = wrote.ensures.kept;
     })
@@ -67,7 +69,7 @@ returns-in-Err-clause-does g c =
     let same = status_ends mid left how _ c.in-Err.ensures.ends in
     commits_descriptor c.args.next c.as_slice.result.now taken.updater wrote.new.updater taken.homes wrote.new.homes c.take_buffer-buf.result.number c.args.patience.now.left wrote.new.patience.left
     (state (g.S.Shelf.device c.args.shelf.now) (core_of self)) (state (g.S.Shelf.device wrote.new.shelf) left) how _
-    (c.as_slice.ensures ∙ c.into_parts-descriptor.ensures.bytes) (ap (λ (s : Session). s.updater) c.take_buffer-buf.ensures.taken) (ap (λ (s : Session). s.homes) c.take_buffer-buf.ensures.taken) c.take_buffer-buf.ensures.number same.0 same.1
+    c.into_parts-descriptor.ensures.valid (c.as_slice.ensures ∙ c.into_parts-descriptor.ensures.bytes) (ap (λ (s : Session). s.updater) c.take_buffer-buf.ensures.taken) (ap (λ (s : Session). s.homes) c.take_buffer-buf.ensures.taken) c.take_buffer-buf.ensures.number same.0 same.1
     (record {
       promises = record {
         done = wrote.ensures.done;
@@ -77,11 +79,13 @@ returns-in-Err-clause-does g c =
         dark = wrote.ensures.dark;
         stuck = wrote.ensures.stuck;
         loses = wrote.ensures.marks;
+        spent = wrote.ensures.spent;
         numbers = wrote.ensures.numbers;
         spends = record { falls = wrote.ensures.patience; waits = wrote.ensures.waited };
         keeps = wrote.ensures.keeps;
       };
       held = wrote.ensures.held;
+      plain = wrote.ensures.plain;
       finds = wrote.ensures.finds;
       kept = wrote.ensures.kept;
     })

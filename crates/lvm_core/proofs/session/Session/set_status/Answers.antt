@@ -45,6 +45,7 @@ returns-clause-does g c =
         dark = wrote.ensures.dark;
         stuck = wrote.ensures.stuck;
         loses = wrote.ensures.marks;
+        spent = wrote.ensures.spent;
         numbers = wrote.ensures.numbers;
         spends = record { falls = wrote.ensures.patience; waits = wrote.ensures.waited };
         keeps = wrote.ensures.keeps;
