@@ -15,17 +15,20 @@ commit-requires-clause-may g c = may_settle_now (state (g.S.Shelf.device c.self.
 
 pub invariant_of-self : goal.invariant_of-self
 invariant_of-self g c = (
-  rw (descriptor_most c.args.next c.args.patience.now.left c.commit.new.patience.left
-    (state (g.S.Shelf.device c.self.inside.shelf) (core_of c.self.inside.session))
-    (state (g.S.Shelf.device c.commit.new.shelf) (core_of c.commit.new.self))
-    c.commit.result c.commit.ensures.does (subst (λ (v : g.row.S.Denot × Core). IsSettled v.1) (sym c.self.view_is) c.requires.settled) c.self.invariant.2
-    (subst (λ (v : g.row.S.Denot × Core). IsAlike c.args.next v.1.descriptor) (sym c.self.view_is) c.requires.alike), c.commit.ensures.capacity) c.self.invariant.0,
+  rw (
+    descriptor_most c.args.next c.args.patience.now.left c.commit.new.patience.left
+        (state (g.S.Shelf.device c.self.inside.shelf) (core_of c.self.inside.session))
+        (state (g.S.Shelf.device c.commit.new.shelf) (core_of c.commit.new.self))
+        c.commit.result c.commit.ensures.does (subst (λ (v : g.row.S.Denot × Core). IsSettled v.1) (sym c.self.view_is) c.requires.settled) c.self.invariant.2
+        (subst (λ (v : g.row.S.Denot × Core). IsAlike c.args.next v.1.descriptor) (sym c.self.view_is) c.requires.alike),
+    c.commit.ensures.capacity,
+  ) c.self.invariant.0,
   c.commit.ensures.bytes ∙ c.self.invariant.1,
   descriptor_sound c.args.next c.args.patience.now.left c.commit.new.patience.left
-    (state (g.S.Shelf.device c.self.inside.shelf) (core_of c.self.inside.session))
-    (state (g.S.Shelf.device c.commit.new.shelf) (core_of c.commit.new.self))
-    c.commit.result c.commit.ensures.does (subst (λ (v : g.row.S.Denot × Core). IsSettled v.1) (sym c.self.view_is) c.requires.settled) c.self.invariant.2
-    (subst (λ (v : g.row.S.Denot × Core). IsAlike c.args.next v.1.descriptor) (sym c.self.view_is) c.requires.alike),
+      (state (g.S.Shelf.device c.self.inside.shelf) (core_of c.self.inside.session))
+      (state (g.S.Shelf.device c.commit.new.shelf) (core_of c.commit.new.self))
+      c.commit.result c.commit.ensures.does (subst (λ (v : g.row.S.Denot × Core). IsSettled v.1) (sym c.self.view_is) c.requires.settled) c.self.invariant.2
+      (subst (λ (v : g.row.S.Denot × Core). IsAlike c.args.next v.1.descriptor) (sym c.self.view_is) c.requires.alike),
 )
 
 pub returns-clause-ends : goal.returns-clause-ends
