@@ -18,7 +18,7 @@ use Rattle.lvm_commit.specs.declared.commit.Settled.TheVariants as settled
 use Rattle.lvm_commit.specs.Settling.{IfDone, IfWentOff, IfBack, OnDark, OnStuck, EndsAtOnce, there, IsCommitted, HasLostQuorum, OnlyLoses, AreWell, SpendsNumbers, IsOfStatus, IsOfCommit, IsPlain, StatusStaysKept, DescriptorStaysKept, StatusFindsNothingNew, CommitFindsNoMore, StaysHeld, ComesHeld}
 use Rattle.lvm_core.specs.declared.fault.CommitFault.{CommitFault}
 use Rattle.lvm_core.specs.declared.request.Power.TheVariants as power
-use Rattle.lvm_core.specs.State.{Core, State, state}
+use Rattle.lvm_core.specs.State.{Core, State}
 use Rattle.lvm_core.specs.Dark.{all_dark}
 use Rattle.lvm_core.specs.Committing.{with_one_out}
 use Rattle.lvm_core.specs.Steps.{IsMarked, EndsAs, CoreEnds, Settles, CommitsDescriptor, CommitsMarks}
@@ -42,16 +42,16 @@ module _ (old mid new : Core) (mid_is : mid ≡ record old { pool = with_one_out
   pub core_ends : (how : Settled) (answer : Result (Unit {0}) CommitFault) → IfBack how (λ back. back.number ≡ 0) → EndsAs mid new how answer → CoreEnds old.descriptor old new how answer
   core_ends (settled.Done buf) answer number ends =
       let is : new ≡ record old { status = mid.status; homes = mid.homes } =
-          ends.1
-          ∙ ap (λ (c : Core). record c { pool = slice_set c.pool buf.number false }) mid_is
-          ∙ ap (λ (p : List Bool). record old { pool = p; status = mid.status; homes = mid.homes }) (back_again old.pool buf.number number all)
+      ends.1
+      ∙ ap (λ (c : Core). record c { pool = slice_set c.pool buf.number false }) mid_is
+      ∙ ap (λ (p : List Bool). record old { pool = p; status = mid.status; homes = mid.homes }) (back_again old.pool buf.number number all)
       in
       (ends.0, is ∙ ap (λ (c : Core). record old { status = c.status; homes = c.homes }) (sym is))
   core_ends (settled.WentOff have total buf) answer number ends =
       let is : new ≡ record old { status = mid.status; homes = mid.homes; power = power.Off } =
-          ends.1
-          ∙ ap (λ (c : Core). record c { pool = slice_set c.pool buf.number false; power = power.Off }) mid_is
-          ∙ ap (λ (p : List Bool). record old { pool = p; status = mid.status; homes = mid.homes; power = power.Off }) (back_again old.pool buf.number number all)
+      ends.1
+      ∙ ap (λ (c : Core). record c { pool = slice_set c.pool buf.number false; power = power.Off }) mid_is
+      ∙ ap (λ (p : List Bool). record old { pool = p; status = mid.status; homes = mid.homes; power = power.Off }) (back_again old.pool buf.number number all)
       in
       (ends.0, is ∙ ap (λ (c : Core). record old { status = c.status; homes = c.homes; power = power.Off }) (sym is))
   core_ends settled.Dark answer number ends =

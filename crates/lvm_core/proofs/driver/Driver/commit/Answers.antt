@@ -1,11 +1,8 @@
-use Rattle.std.proofs.Common.{◌≡◌, ◌++◌, List, refl, sym, ◌∙◌, ap, subst}
-use Rattle.lvm_num.specs.declared.place.Pp.{Pp}
-use Rattle.lvm_num.specs.declared.descriptor.Descriptor.{Descriptor}
+use Rattle.std.proofs.Common.{sym, ◌∙◌, subst}
 use Rattle.lvm_commit.specs.Committed.{IsAlike}
 use Rattle.lvm_core.specs.State.{Core, state}
 use Rattle.lvm_core.specs.Fields.{core_of}
 use Rattle.lvm_core.specs.Settled.{IsSettled}
-use Rattle.lvm_core.specs.Committing.{AreUnused}
 use Rattle.lvm_core.proofs.Commits.{may_settle_now}
 use Rattle.lvm_core.proofs.Committing.{descriptor_sound, descriptor_most, descriptor_ends, descriptor_held, descriptor_plain, descriptor_finds, descriptor_falls, descriptor_writes, descriptor_keeps, descriptor_calm, descriptor_behind}
 use Rattle.lvm_core.proofs.driver.Driver.commit.Goals as goal
@@ -15,17 +12,20 @@ commit-requires-clause-may g c = may_settle_now (state (g.S.Shelf.device c.self.
 
 pub invariant_of-self : goal.invariant_of-self
 invariant_of-self g c = (
-  rw (descriptor_most c.args.next c.args.patience.now.left c.commit.new.patience.left
-    (state (g.S.Shelf.device c.self.inside.shelf) (core_of c.self.inside.session))
-    (state (g.S.Shelf.device c.commit.new.shelf) (core_of c.commit.new.self))
-    c.commit.result c.commit.ensures.does (subst (λ (v : g.row.S.Denot × Core). IsSettled v.1) (sym c.self.view_is) c.requires.settled) c.self.invariant.2
-    (subst (λ (v : g.row.S.Denot × Core). IsAlike c.args.next v.1.descriptor) (sym c.self.view_is) c.requires.alike), c.commit.ensures.capacity) c.self.invariant.0,
+  rw (
+    descriptor_most c.args.next c.args.patience.now.left c.commit.new.patience.left
+        (state (g.S.Shelf.device c.self.inside.shelf) (core_of c.self.inside.session))
+        (state (g.S.Shelf.device c.commit.new.shelf) (core_of c.commit.new.self))
+        c.commit.result c.commit.ensures.does (subst (λ (v : g.row.S.Denot × Core). IsSettled v.1) (sym c.self.view_is) c.requires.settled) c.self.invariant.2
+        (subst (λ (v : g.row.S.Denot × Core). IsAlike c.args.next v.1.descriptor) (sym c.self.view_is) c.requires.alike),
+    c.commit.ensures.capacity,
+  ) c.self.invariant.0,
   c.commit.ensures.bytes ∙ c.self.invariant.1,
   descriptor_sound c.args.next c.args.patience.now.left c.commit.new.patience.left
-    (state (g.S.Shelf.device c.self.inside.shelf) (core_of c.self.inside.session))
-    (state (g.S.Shelf.device c.commit.new.shelf) (core_of c.commit.new.self))
-    c.commit.result c.commit.ensures.does (subst (λ (v : g.row.S.Denot × Core). IsSettled v.1) (sym c.self.view_is) c.requires.settled) c.self.invariant.2
-    (subst (λ (v : g.row.S.Denot × Core). IsAlike c.args.next v.1.descriptor) (sym c.self.view_is) c.requires.alike),
+      (state (g.S.Shelf.device c.self.inside.shelf) (core_of c.self.inside.session))
+      (state (g.S.Shelf.device c.commit.new.shelf) (core_of c.commit.new.self))
+      c.commit.result c.commit.ensures.does (subst (λ (v : g.row.S.Denot × Core). IsSettled v.1) (sym c.self.view_is) c.requires.settled) c.self.invariant.2
+      (subst (λ (v : g.row.S.Denot × Core). IsAlike c.args.next v.1.descriptor) (sym c.self.view_is) c.requires.alike),
 )
 
 pub returns-clause-ends : goal.returns-clause-ends

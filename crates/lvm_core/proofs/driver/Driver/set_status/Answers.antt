@@ -1,7 +1,4 @@
-use Rattle.std.proofs.Common.{◌≡◌, ◌++◌, List, refl, sym, ◌∙◌, ap, subst}
-use Rattle.lvm_num.specs.declared.place.Pp.{Pp}
-use Rattle.lvm_num.specs.declared.descriptor.Descriptor.{Descriptor}
-use Rattle.lvm_commit.specs.Committed.{IsAlike}
+use Rattle.std.proofs.Common.{◌++◌, sym, ◌∙◌, subst}
 use Rattle.lvm_core.specs.State.{Core, state}
 use Rattle.lvm_core.specs.Fields.{core_of}
 use Rattle.lvm_core.specs.Settled.{IsSettled}
@@ -19,15 +16,18 @@ set_status-requires-clause-markable g c = unused_markable (core_of c.self.inside
 
 pub invariant_of-self : goal.invariant_of-self
 invariant_of-self g c = (
-  rw (status_most c.args.stale.now c.args.fresh.now c.args.patience.now.left c.set_status.new.patience.left
-    (state (g.S.Shelf.device c.self.inside.shelf) (core_of c.self.inside.session))
-    (state (g.S.Shelf.device c.set_status.new.shelf) (core_of c.set_status.new.self))
-    c.set_status.result c.set_status.ensures.does (subst (λ (v : g.row.S.Denot × Core). IsSettled v.1) (sym c.self.view_is) c.requires.settled) c.self.invariant.2, c.set_status.ensures.capacity) c.self.invariant.0,
+  rw (
+    status_most c.args.stale.now c.args.fresh.now c.args.patience.now.left c.set_status.new.patience.left
+        (state (g.S.Shelf.device c.self.inside.shelf) (core_of c.self.inside.session))
+        (state (g.S.Shelf.device c.set_status.new.shelf) (core_of c.set_status.new.self))
+        c.set_status.result c.set_status.ensures.does (subst (λ (v : g.row.S.Denot × Core). IsSettled v.1) (sym c.self.view_is) c.requires.settled) c.self.invariant.2,
+    c.set_status.ensures.capacity,
+  ) c.self.invariant.0,
   c.set_status.ensures.bytes ∙ c.self.invariant.1,
   status_sound c.args.stale.now c.args.fresh.now c.args.patience.now.left c.set_status.new.patience.left
-    (state (g.S.Shelf.device c.self.inside.shelf) (core_of c.self.inside.session))
-    (state (g.S.Shelf.device c.set_status.new.shelf) (core_of c.set_status.new.self))
-    c.set_status.result c.set_status.ensures.does (subst (λ (v : g.row.S.Denot × Core). IsSettled v.1) (sym c.self.view_is) c.requires.settled) c.self.invariant.2,
+      (state (g.S.Shelf.device c.self.inside.shelf) (core_of c.self.inside.session))
+      (state (g.S.Shelf.device c.set_status.new.shelf) (core_of c.set_status.new.self))
+      c.set_status.result c.set_status.ensures.does (subst (λ (v : g.row.S.Denot × Core). IsSettled v.1) (sym c.self.view_is) c.requires.settled) c.self.invariant.2,
 )
 
 pub returns-clause-ends : goal.returns-clause-ends

@@ -1,8 +1,8 @@
-use Rattle.std.proofs.Common.{◌≡◌, refl, sym, ◌∙◌, ap, subst}
+use Rattle.std.proofs.Common.{sym, ◌∙◌, ap, subst}
 use Rattle.lvm_status.specs.Update.{Stored}
 use Rattle.lvm_commit.specs.Settling.{MaySettle}
 use Rattle.lvm_core.specs.declared.session.Session.{Session}
-use Rattle.lvm_core.specs.State.{Core, state}
+use Rattle.lvm_core.specs.State.{state}
 use Rattle.lvm_core.specs.Fields.{core_of}
 use Rattle.lvm_core.specs.Steps.{IsMarked}
 use Rattle.lvm_core.proofs.Ends.{numbered, is_out, core_ends, status_ends, commits_marks, at_once}
@@ -56,5 +56,5 @@ returns-clause-does g c =
     })
     (core_ends (core_of self) mid left mid_is c.requires.buffers how c.go_on.result number ends)
     (λ none.
-      let once = at_once _ (core_of self) mid left mid_is c.requires.buffers how c.go_on.result number ends (wrote.ensures.unwritten none) (λ all. all.2 ∙ ap (λ (s : Session). s.homes) c.take_buffer-buf.ensures.taken) in
-      (once.1, ap g.S.Shelf.device once.0.0, once.2 ∙ ap (λ (u : Stored). record (core_of self) { status = u }) once.0.1))
+    let once = at_once _ (core_of self) mid left mid_is c.requires.buffers how c.go_on.result number ends (wrote.ensures.unwritten none) (λ all. all.2 ∙ ap (λ (s : Session). s.homes) c.take_buffer-buf.ensures.taken) in
+    (once.1, ap g.S.Shelf.device once.0.0, once.2 ∙ ap (λ (u : Stored). record (core_of self) { status = u }) once.0.1))
