@@ -28,12 +28,9 @@ use Rattle.lvm_commit.specs.Rounds.{stamped, session_write, HowRecord, RecordGiv
 use Rattle.lvm_commit.proofs.Chaining.{Goes, goes_from, Returns, record_returns}
 use Rattle.lvm_commit.proofs.Round.{record_goes, quorum_lost, some_failed, failed_is_missing, was_there_on}
 use Rattle.lvm_commit.proofs.Ready.{spends_none}
+use Rattle.lvm_commit.proofs.Writes.{slot_two}
 use Rattle.lvm_commit.proofs.Holding.{with_told}
 use Rattle.lvm_commit.proofs.HoldingDescriptor.{descriptor_moment_kept, descriptor_moment_finds}
-
-slot_two : (t : Bool) → (if t then 1 else 0) < 2
-slot_two true = omega arith
-slot_two false = omega arith
 
 module _ (first mid : Stored) (homes after : Homes) (old m : Device) (content : List ℕ) (number p q : ℕ) (r : Settled)
     (gives : RecordGives (session_write kind.Descriptor content (stamped first) homes) number p q (stamped first) mid homes after old m r) where

@@ -25,14 +25,11 @@ use Rattle.lvm_commit.specs.Settling.{there, MaySettle, IsOf, OnlyLoses, IsOfSta
 use Rattle.lvm_commit.specs.Rounds.{WasTried, HowRecord, RecordGives, stamped, session_write}
 use Rattle.lvm_commit.proofs.Chaining.{Goes, Returns, keeps_wider, record_returns, was_there}
 use Rattle.lvm_commit.proofs.Round.{record_goes, none_or_some, failed_is_missing}
+use Rattle.lvm_commit.proofs.Writes.{slot_two}
 use Rattle.lvm_commit.proofs.Holding.{with_told}
 use Rattle.lvm_commit.proofs.HoldingStatus.{status_moment_kept, status_moment_finds, status_holds}
 
 -- ---- whose sectors are written
-
-slot_below : (second : Bool) → (if second then 1 else 0) < 2
-slot_below true = omega arith
-slot_below false = omega arith
 
 module _ (d : Descriptor) (now last : Stored) (slots next : Homes) (mid new : Device) (sectors : HasSectors mid) (may : MaySettle d now mid) (number left after : ℕ) (result : Settled)
     (gives : RecordGives (session_write kind.Status (status_bytes now.wanted) (stamped now) slots) number left after (stamped now) last slots next mid new result)
@@ -57,7 +54,7 @@ module _ (d : Descriptor) (now last : Stored) (slots next : Homes) (mid new : De
       let seq : last.stamp.seq ≡ now.stamp.seq + 1 = ap (λ (x : Stamp). x.seq) stamp_then in (
         w,
         record { kind = refl; status = now.wanted; own = may.id; content = refl },
-        record { frames = frames; slots = λ disk. slot_below (second_slots kind.Status slots disk); targets = λ disk is. is; epoch = refl; later = omega arith; latest = omega (arith, seq); its = is },
+        record { frames = frames; slots = λ disk. slot_two (second_slots kind.Status slots disk); targets = λ disk is. is; epoch = refl; later = omega arith; latest = omega (arith, seq); its = is },
       )
 
   before : Goes (IsOfRecord w) left after (stamped now) last mid new

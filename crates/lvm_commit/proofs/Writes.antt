@@ -45,7 +45,7 @@ use Rattle.lvm_commit.proofs.Volumes.{next_is_later, committed_may_commit}
 before_next : (s : Stamp) → stamp_lt s (next_stamp s) ≡ true
 before_next s = grind (arith, nat_tests)
 
-slot_two : (t : Bool) → (if t then 1 else 0) < 2
+pub slot_two : (t : Bool) → (if t then 1 else 0) < 2
 slot_two true = omega arith
 slot_two false = omega arith
 
