@@ -1,5 +1,5 @@
 -- A session may commit its records while nothing is under way, and what stands on its disks then.
-use Rattle.std.proofs.Common.{◌≡◌, ℕ, zero, suc, ◌<◌, ◌≤◌, ◌+◌, ◌%◌, ◌++◌, Bool, true, false, ◌&&◌, not, List, [], Option, Some, None, length, refl, sym, ◌∙◌, ap, subst, arith}
+use Rattle.std.proofs.Common.{◌≡◌, ℕ, zero, suc, ◌<◌, ◌≤◌, ◌%◌, ◌++◌, Bool, true, false, ◌&&◌, not, List, [], Some, length, refl, sym, ◌∙◌, ap, subst, arith}
 use Rattle.std.specs.Prelude.{◌==◌, ◌||◌, IsTrue, IfSome, All, Contains, slice_get, get_or}
 use Rattle.std.specs.List.{list_any}
 use Rattle.std.proofs.lemmas.Bool.{eqb-true}
@@ -15,8 +15,7 @@ use Rattle.lvm_num.specs.declared.status.Status.{Status}
 use Rattle.lvm_num.specs.Disks.{Disks}
 use Rattle.lvm_num.specs.Descriptor.{IsValid, IsPartitionOf, is_member, is_size, copies_of}
 use Rattle.lvm_num.specs.declared.record.Stamp.{Stamp}
-use Rattle.lvm_num.specs.DescriptorBytes.{descriptor_bytes, descriptor_of}
-use Rattle.lvm_num.specs.Geometry.{data_start, partition_blocks}
+use Rattle.lvm_num.specs.Geometry.{partition_blocks}
 use Rattle.lvm_num.specs.Status.{calls_missing, calls_stale, calls_dirty}
 use Rattle.lvm_num.specs.Votes.{CanWrite}
 use Rattle.lvm_num.proofs.MapsLemmas.{find-Some}
@@ -27,11 +26,10 @@ use Rattle.lvm_status.specs.Calls.{IsMarkable}
 use Rattle.lvm_status.specs.Update.{Stored, members_there}
 use Rattle.lvm_quorum.specs.declared.homes.Homes.{Homes}
 use Rattle.lvm_quorum.specs.Written.{HasRoom}
-use Rattle.lvm_commit.specs.Committed.{HoldsCommitted, SameMarks, IsAlike}
+use Rattle.lvm_commit.specs.Committed.{HoldsCommitted}
 use Rattle.lvm_commit.specs.LawsOfData.{IsFree}
 use Rattle.lvm_commit.specs.Settling.{there, IsOf, MaySettle, SessionIsHeld, WantsSameMarks}
-use Rattle.lvm_core.specs.State.{Core, State, state, is_there}
-use Rattle.lvm_core.specs.Starting.{ArePlaced, IsPlaced}
+use Rattle.lvm_core.specs.State.{Core, State, is_there}
 use Rattle.lvm_core.specs.Sound.{IsSound}
 use Rattle.lvm_core.specs.Held.{IsHeld}
 use Rattle.lvm_core.specs.Settled.{IsSettled}

@@ -1,11 +1,11 @@
 -- What a session and its shelf are after a descriptor was committed.
-use Rattle.std.proofs.Common.{◌≡◌, ℕ, ◌++◌, List, Some, refl, sym, ◌∙◌, ap, subst}
+use Rattle.std.proofs.Common.{◌≡◌, ℕ, ◌++◌, List, refl, sym, ◌∙◌, subst}
 use Rattle.std.specs.Prelude.{Result, Ok, IfOk, IfSome}
 use Rattle.lvm_num.specs.declared.descriptor.Descriptor.{Descriptor}
 use Rattle.lvm_num.specs.Disks.{Disks}
 use Rattle.lvm_num.specs.DescriptorBytes.{descriptor_bytes, descriptor_of}
 use Rattle.lvm_disk.specs.Counts.{NoneFalls}
-use Rattle.lvm_disk.specs.Device.{Device, image_of}
+use Rattle.lvm_disk.specs.Device.{image_of}
 use Rattle.lvm_vol.specs.Facts.{Fact}
 use Rattle.lvm_kept.specs.Contents.{contents_of}
 use Rattle.lvm_kept.specs.Moments.{Moment, StaysCalm}
@@ -17,14 +17,14 @@ use Rattle.lvm_commit.specs.declared.commit.Settled.TheVariants as settled
 use Rattle.lvm_commit.specs.Committed.{IsAlike}
 use Rattle.lvm_commit.specs.LawsOfFinding.{FindsNoMoreOn}
 use Rattle.lvm_commit.specs.LawsOfVolumes.{VolumeServes}
-use Rattle.lvm_commit.specs.Settling.{IfDone, there, IsOf, IsOfCommit, IsPlain, SessionIsHeld, ComesHeld}
+use Rattle.lvm_commit.specs.Settling.{IfDone, IsOf, IsOfCommit, IsPlain, SessionIsHeld, ComesHeld}
 use Rattle.lvm_core.specs.declared.fault.CommitFault.{CommitFault}
 use Rattle.lvm_core.specs.State.{Core, State, is_there}
 use Rattle.lvm_core.specs.Sound.{IsSound}
 use Rattle.lvm_core.specs.Held.{IsHeld}
 use Rattle.lvm_core.specs.Settled.{IsSettled}
 use Rattle.lvm_core.specs.Committing.{CommitEnds, moment_of, SpanGoesOn, LetsCommit, StaysBehind}
-use Rattle.lvm_core.specs.Steps.{CoreEnds, Settles, CommitsDescriptor}
+use Rattle.lvm_core.specs.Steps.{CoreEnds, CommitsDescriptor}
 use Rattle.lvm_core.proofs.Spanning.{path_falls}
 use Rattle.lvm_core.proofs.Settled.{IsBegun, there_is, group_is, settles_sound, commit_ends, most_stays, settles_keep, settles_calm, settles_behind}
 use Rattle.lvm_core.proofs.Commits.{session_holds, holds_session}

@@ -18,7 +18,7 @@ use Rattle.lvm_commit.specs.declared.commit.Settled.TheVariants as settled
 use Rattle.lvm_commit.specs.Settling.{IfDone, IfWentOff, IfBack, OnDark, OnStuck, EndsAtOnce, there, IsCommitted, HasLostQuorum, OnlyLoses, AreWell, SpendsNumbers, IsOfStatus, IsOfCommit, IsPlain, StatusStaysKept, DescriptorStaysKept, StatusFindsNothingNew, CommitFindsNoMore, StaysHeld, ComesHeld}
 use Rattle.lvm_core.specs.declared.fault.CommitFault.{CommitFault}
 use Rattle.lvm_core.specs.declared.request.Power.TheVariants as power
-use Rattle.lvm_core.specs.State.{Core, State, state}
+use Rattle.lvm_core.specs.State.{Core, State}
 use Rattle.lvm_core.specs.Dark.{all_dark}
 use Rattle.lvm_core.specs.Committing.{with_one_out}
 use Rattle.lvm_core.specs.Steps.{IsMarked, EndsAs, CoreEnds, Settles, CommitsDescriptor, CommitsMarks}

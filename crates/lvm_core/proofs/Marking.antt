@@ -1,7 +1,6 @@
 -- Marks that are wanted one after another.
-use Rattle.std.proofs.Common.{◌≡◌, ℕ, ◌+◌, ◌<◌, Bool, true, false, ◌&&◌, ◌||◌, not, List, [], ◌∷◌, ◌++◌, length, take, get_or, None, refl, sym, ◌∙◌, ap, subst, arith}
-use Rattle.std.specs.Prelude.{◌==◌, All, IsTrue, if◌then◌else◌, cond}
-use Rattle.std.specs.List.{list_any}
+use Rattle.std.proofs.Common.{◌≡◌, ℕ, ◌+◌, ◌<◌, Bool, true, false, ◌&&◌, ◌||◌, not, List, [], length, take, get_or, None, refl, sym, ◌∙◌, ap, subst, arith}
+use Rattle.std.specs.Prelude.{◌==◌, All, if◌then◌else◌}
 use Rattle.std.proofs.lemmas.Bool.{eqb-true}
 use Rattle.std.proofs.lemmas.List.Folds.{list_any_more}
 use Rattle.lvm_num.specs.declared.place.Pp.{Pp}
@@ -14,14 +13,13 @@ use Rattle.lvm_num.specs.Votes.{CanWrite}
 use Rattle.lvm_disk.specs.Device.{Device}
 use Rattle.lvm_num.specs.Status.{calls_stale}
 use Rattle.lvm_stale.specs.Table.{is_pp, SameMembers, SameMissing}
-use Rattle.lvm_status.specs.declared.change.Change.{Change}
 use Rattle.lvm_status.specs.declared.change.Change.TheVariants as change
 use Rattle.lvm_status.specs.Update.{Updates, Stored, seen, is_held, is_owed, no_disks}
 use Rattle.lvm_status.specs.Calls.{BecomesStale, BecomesFresh, IsMarkable, closed, with_wanted, given_up}
 use Rattle.lvm_quorum.specs.Written.{HaveRoom}
 use Rattle.lvm_commit.specs.Settling.{HasSameRows, MaySettle, there}
 use Rattle.lvm_commit.proofs.Wanting.{row_stays}
-use Rattle.lvm_core.specs.Committing.{is_among, Marks, AreMarked}
+use Rattle.lvm_core.specs.Committing.{is_among, Marks}
 use Rattle.lvm_core.specs.Steps.{IsMarked}
 
 -- ---- so far

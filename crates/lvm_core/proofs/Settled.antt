@@ -1,10 +1,9 @@
 -- What a session and its shelf are after records were written: it is sound, and goes on as it says.
-use Rattle.std.proofs.Common.{◌≡◌, ◌⊎◌, inl, inr, ℕ, ◌+◌, ◌≤◌, ◌<◌, ◌++◌, Bool, true, false, true≢false, ◌&&◌, not, List, [], Option, Some, None, length, refl, sym, ◌∙◌, ap, subst, arith}
-use Rattle.std.specs.Prelude.{IsTrue, IsFalse, Result, Ok, Err, Contains, count_by}
+use Rattle.std.proofs.Common.{◌≡◌, inr, ℕ, ◌+◌, ◌≤◌, ◌<◌, ◌++◌, Bool, true, false, true≢false, ◌&&◌, not, List, [], refl, sym, ◌∙◌, ap, subst}
+use Rattle.std.specs.Prelude.{IsTrue, IsFalse, Result, Contains, count_by}
 use Rattle.lvm_num.specs.declared.descriptor.PvRow.{PvRow}
 use Rattle.lvm_num.specs.declared.descriptor.Descriptor.{Descriptor}
 use Rattle.lvm_num.specs.declared.record.Stamp.{Stamp}
-use Rattle.lvm_num.specs.declared.status.Status.{Status}
 use Rattle.lvm_num.specs.Disks.{Disks}
 use Rattle.lvm_num.specs.Buffer.{Sector}
 use Rattle.lvm_num.specs.Descriptor.{IsValid, is_member}
@@ -34,12 +33,12 @@ use Rattle.lvm_commit.specs.Settling.{HasSameRows, IfDone, IfWentOff, IfBack, On
 use Rattle.lvm_commit.proofs.Wanting.{row_stays}
 use Rattle.lvm_core.specs.declared.fault.CommitFault.{CommitFault}
 use Rattle.lvm_core.specs.declared.request.Power.TheVariants as power
-use Rattle.lvm_core.specs.State.{Core, State, state, is_there, votes_there}
+use Rattle.lvm_core.specs.State.{Core, State, state, is_there}
 use Rattle.lvm_core.specs.Dark.{all_dark, dark_log}
 use Rattle.lvm_core.specs.Starting.{IsPlaced, ArePlaced}
 use Rattle.lvm_core.specs.Sound.{is_dark, IsFitting, IsTold, IsSound}
 use Rattle.lvm_core.specs.Settled.{IsSettled}
-use Rattle.lvm_core.specs.Committing.{with_one_out, HasCommitted, CommitEnds, moment_of, SpanGoesOn, StaysBehind}
+use Rattle.lvm_core.specs.Committing.{with_one_out, CommitEnds, moment_of, StaysBehind}
 use Rattle.lvm_core.specs.Steps.{CoreEnds, Settles}
 use Rattle.lvm_core.proofs.Own.{fits_pool, one_out_long, sound_ready, sound_dark, sound_stuck}
 use Rattle.lvm_core.proofs.Spanning.{keeps_dark, calm_dark}

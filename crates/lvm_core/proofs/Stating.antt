@@ -1,13 +1,11 @@
 -- What a session and its shelf are after a status with marks was committed.
 use Rattle.std.proofs.Common.{◌≡◌, ℕ, ◌<◌, ◌++◌, List, refl, sym, ◌∙◌, ap, subst}
-use Rattle.std.specs.Prelude.{IsTrue, IsFalse, Result, Ok, IfOk, IsOk}
+use Rattle.std.specs.Prelude.{IsTrue, Result, IfOk, IsOk}
 use Rattle.lvm_num.specs.declared.place.Pp.{Pp}
 use Rattle.lvm_num.specs.declared.record.Stamp.{Stamp}
 use Rattle.lvm_num.specs.declared.descriptor.Descriptor.{Descriptor}
 use Rattle.lvm_num.specs.Disks.{Disks}
 use Rattle.lvm_disk.specs.Counts.{NoneFalls}
-use Rattle.lvm_disk.specs.Device.{Device}
-use Rattle.lvm_vol.specs.Facts.{Fact}
 use Rattle.lvm_kept.specs.Moments.{Moment, StaysCalm}
 use Rattle.lvm_kept.specs.Plans.{Plan}
 use Rattle.lvm_change.specs.Moments.{StaysKept}
@@ -20,12 +18,12 @@ use Rattle.lvm_commit.specs.LawsOfFinding.{FindsNothingNewOn}
 use Rattle.lvm_commit.specs.Settling.{IfDone, there, IsOf, IsOfStatus, SessionIsHeld, SpendsNumbers, StaysHeld, WantsSameMarks}
 use Rattle.lvm_commit.proofs.Chaining.{keeps_wider}
 use Rattle.lvm_core.specs.declared.fault.CommitFault.{CommitFault}
-use Rattle.lvm_core.specs.State.{Core, State, is_there}
+use Rattle.lvm_core.specs.State.{State, is_there}
 use Rattle.lvm_core.specs.Sound.{IsSound}
 use Rattle.lvm_core.specs.Held.{IsHeld}
 use Rattle.lvm_core.specs.Settled.{IsSettled}
 use Rattle.lvm_core.specs.Committing.{CommitEnds, AreUnused, AreMarked, Restates, moment_of, SpanGoesOn, StaysBehind}
-use Rattle.lvm_core.specs.Steps.{CoreEnds, Settles, CommitsMarks}
+use Rattle.lvm_core.specs.Steps.{CoreEnds, CommitsMarks}
 use Rattle.lvm_core.proofs.Spanning.{path_falls}
 use Rattle.lvm_core.proofs.Settled.{IsBegun, there_is, there_first, group_is, settles_sound, settles_numbers, commit_ends, most_stays, settles_keep, settles_calm, settles_behind}
 use Rattle.lvm_core.proofs.Commits.{holds_session, first_is_of, begun, first_held, wants_same, none_first}

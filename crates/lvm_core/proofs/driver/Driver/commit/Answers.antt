@@ -1,11 +1,8 @@
-use Rattle.std.proofs.Common.{◌≡◌, ◌++◌, List, refl, sym, ◌∙◌, ap, subst}
-use Rattle.lvm_num.specs.declared.place.Pp.{Pp}
-use Rattle.lvm_num.specs.declared.descriptor.Descriptor.{Descriptor}
+use Rattle.std.proofs.Common.{sym, ◌∙◌, subst}
 use Rattle.lvm_commit.specs.Committed.{IsAlike}
 use Rattle.lvm_core.specs.State.{Core, state}
 use Rattle.lvm_core.specs.Fields.{core_of}
 use Rattle.lvm_core.specs.Settled.{IsSettled}
-use Rattle.lvm_core.specs.Committing.{AreUnused}
 use Rattle.lvm_core.proofs.Commits.{may_settle_now}
 use Rattle.lvm_core.proofs.Committing.{descriptor_sound, descriptor_most, descriptor_ends, descriptor_held, descriptor_plain, descriptor_finds, descriptor_falls, descriptor_writes, descriptor_keeps, descriptor_calm, descriptor_behind}
 use Rattle.lvm_core.proofs.driver.Driver.commit.Goals as goal

@@ -1,6 +1,5 @@
-use Rattle.std.proofs.Common.{◌≡◌, ◌≤◌, ℕ, List, length, refl, sym, ◌∙◌, ap, subst}
+use Rattle.std.proofs.Common.{◌≤◌, ℕ, List, length, sym, ◌∙◌, ap, subst}
 use Rattle.lvm_num.specs.declared.record.Kind.TheVariants as kind
-use Rattle.lvm_num.specs.DescriptorBytes.{descriptor_bytes}
 use Rattle.lvm_num.specs.Record.{longest_content}
 use Rattle.lvm_core.specs.declared.session.Session.{Session}
 use Rattle.lvm_core.specs.State.{state}

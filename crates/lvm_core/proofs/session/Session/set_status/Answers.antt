@@ -1,8 +1,8 @@
-use Rattle.std.proofs.Common.{◌≡◌, refl, sym, ◌∙◌, ap, subst}
+use Rattle.std.proofs.Common.{sym, ◌∙◌, ap, subst}
 use Rattle.lvm_status.specs.Update.{Stored}
 use Rattle.lvm_commit.specs.Settling.{MaySettle}
 use Rattle.lvm_core.specs.declared.session.Session.{Session}
-use Rattle.lvm_core.specs.State.{Core, state}
+use Rattle.lvm_core.specs.State.{state}
 use Rattle.lvm_core.specs.Fields.{core_of}
 use Rattle.lvm_core.specs.Steps.{IsMarked}
 use Rattle.lvm_core.proofs.Ends.{numbered, is_out, core_ends, status_ends, commits_marks, at_once}
