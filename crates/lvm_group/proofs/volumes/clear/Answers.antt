@@ -20,7 +20,7 @@ pub returns-in_err-set_status-clause-ends : goal.returns-in_err-set_status-claus
 returns-in_err-set_status-clause-ends g c =
     let map = c.args.map.now in
     let a : State = state (g.S.Shelf.device c.args.driver.now.0) c.args.driver.now.1 in
-    let b : State = state (g.S.Shelf.device c.set_status.new.driver.0) c.set_status.new.driver.1 in
+    let b : State = state (g.S.Shelf.device c.set_status.new.self.0) c.set_status.new.self.1 in
     let p = c.args.patience.now.left in
     let q = c.set_status.new.patience.left in
     let s = c.set_status.ensures in
@@ -32,7 +32,7 @@ pub returns-in_err-set_status-clause-goes : goal.returns-in_err-set_status-claus
 returns-in_err-set_status-clause-goes g c =
     let map = c.args.map.now in
     let a : State = state (g.S.Shelf.device c.args.driver.now.0) c.args.driver.now.1 in
-    let b : State = state (g.S.Shelf.device c.set_status.new.driver.0) c.set_status.new.driver.1 in
+    let b : State = state (g.S.Shelf.device c.set_status.new.self.0) c.set_status.new.self.1 in
     let p = c.args.patience.now.left in
     let q = c.set_status.new.patience.left in
     let s = c.set_status.ensures in
@@ -43,7 +43,7 @@ pub returns-in-Some-clause-ends : goal.returns-in-Some-clause-ends
 returns-in-Some-clause-ends g c =
     let map = c.args.map.now in
     let a : State = state (g.S.Shelf.device c.args.driver.now.0) c.args.driver.now.1 in
-    let b : State = state (g.S.Shelf.device c.set_status.new.driver.0) c.set_status.new.driver.1 in
+    let b : State = state (g.S.Shelf.device c.set_status.new.self.0) c.set_status.new.self.1 in
     let p = c.args.patience.now.left in
     let q = c.set_status.new.patience.left in
     let s = c.set_status.ensures in
@@ -57,7 +57,7 @@ pub returns-in-Some-clause-goes : goal.returns-in-Some-clause-goes
 returns-in-Some-clause-goes g c =
     let map = c.args.map.now in
     let a : State = state (g.S.Shelf.device c.args.driver.now.0) c.args.driver.now.1 in
-    let b : State = state (g.S.Shelf.device c.set_status.new.driver.0) c.set_status.new.driver.1 in
+    let b : State = state (g.S.Shelf.device c.set_status.new.self.0) c.set_status.new.self.1 in
     let p = c.args.patience.now.left in
     let q = c.set_status.new.patience.left in
     let s = c.set_status.ensures in
@@ -68,7 +68,7 @@ pub returns-in-Some-clause-held : goal.returns-in-Some-clause-held
 returns-in-Some-clause-held g c =
     let map = c.args.map.now in
     let a : State = state (g.S.Shelf.device c.args.driver.now.0) c.args.driver.now.1 in
-    let b : State = state (g.S.Shelf.device c.set_status.new.driver.0) c.set_status.new.driver.1 in
+    let b : State = state (g.S.Shelf.device c.set_status.new.self.0) c.set_status.new.self.1 in
     let p = c.args.patience.now.left in
     let q = c.set_status.new.patience.left in
     let s = c.set_status.ensures in
@@ -80,7 +80,7 @@ pub zero_all-requires-clause-unused : goal.zero_all-requires-clause-unused
 zero_all-requires-clause-unused g c =
     let map = c.args.map.now in
     let a : State = state (g.S.Shelf.device c.args.driver.now.0) c.args.driver.now.1 in
-    let b : State = state (g.S.Shelf.device c.set_status.new.driver.0) c.set_status.new.driver.1 in
+    let b : State = state (g.S.Shelf.device c.set_status.new.self.0) c.set_status.new.self.1 in
     let p = c.args.patience.now.left in
     let q = c.set_status.new.patience.left in
     let s = c.set_status.ensures in
@@ -94,7 +94,7 @@ pub returns-clause-ends : goal.returns-clause-ends
 returns-clause-ends g c =
     let map = c.args.map.now in
     let a : State = state (g.S.Shelf.device c.args.driver.now.0) c.args.driver.now.1 in
-    let b : State = state (g.S.Shelf.device c.set_status.new.driver.0) c.set_status.new.driver.1 in
+    let b : State = state (g.S.Shelf.device c.set_status.new.self.0) c.set_status.new.self.1 in
     let p = c.args.patience.now.left in
     let q = c.set_status.new.patience.left in
     let s = c.set_status.ensures in
@@ -112,7 +112,7 @@ pub returns-clause-goes : goal.returns-clause-goes
 returns-clause-goes g c =
     let map = c.args.map.now in
     let a : State = state (g.S.Shelf.device c.args.driver.now.0) c.args.driver.now.1 in
-    let b : State = state (g.S.Shelf.device c.set_status.new.driver.0) c.set_status.new.driver.1 in
+    let b : State = state (g.S.Shelf.device c.set_status.new.self.0) c.set_status.new.self.1 in
     let p = c.args.patience.now.left in
     let q = c.set_status.new.patience.left in
     let s = c.set_status.ensures in
@@ -130,7 +130,7 @@ pub returns-clause-held : goal.returns-clause-held
 returns-clause-held g c =
     let map = c.args.map.now in
     let a : State = state (g.S.Shelf.device c.args.driver.now.0) c.args.driver.now.1 in
-    let b : State = state (g.S.Shelf.device c.set_status.new.driver.0) c.set_status.new.driver.1 in
+    let b : State = state (g.S.Shelf.device c.set_status.new.self.0) c.set_status.new.self.1 in
     let p = c.args.patience.now.left in
     let q = c.set_status.new.patience.left in
     let s = c.set_status.ensures in
@@ -148,7 +148,7 @@ pub returns-clause-numbers : goal.returns-clause-numbers
 returns-clause-numbers g c =
     let map = c.args.map.now in
     let a : State = state (g.S.Shelf.device c.args.driver.now.0) c.args.driver.now.1 in
-    let b : State = state (g.S.Shelf.device c.set_status.new.driver.0) c.set_status.new.driver.1 in
+    let b : State = state (g.S.Shelf.device c.set_status.new.self.0) c.set_status.new.self.1 in
     let p = c.args.patience.now.left in
     let q = c.set_status.new.patience.left in
     let s = c.set_status.ensures in

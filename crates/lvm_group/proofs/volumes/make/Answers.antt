@@ -165,7 +165,7 @@ returns-in_err-commit-clause-ends g c =
     let same_d : b.core.descriptor ≡ a.core.descriptor = ap (λ (x : Core). x.descriptor) cleared.is in
     let group_b : b.core.status.group ≡ record b.core.descriptor { lvs = [] } = goes_ab.leaves.status.group ∙ planned.group.status ∙ ap (λ (d : Descriptor). record d { lvs = [] }) (sym same_d) in
     let settled_m : IsSettled m.core = subst (λ (x : State). IsSettled x.core) (sym same) (settled_entered b f cleared.settled) in
-    let d : State = state (g.S.Shelf.device c.commit.new.driver.0) c.commit.new.driver.1 in
+    let d : State = state (g.S.Shelf.device c.commit.new.self.0) c.commit.new.self.1 in
     let r = c.commit.new.patience.left in
     let next = plan.next in
     let N = λ (x : Descriptor). x ≡ next in
@@ -205,7 +205,7 @@ returns-in_err-commit-clause-goes g c =
     let same_d : b.core.descriptor ≡ a.core.descriptor = ap (λ (x : Core). x.descriptor) cleared.is in
     let group_b : b.core.status.group ≡ record b.core.descriptor { lvs = [] } = goes_ab.leaves.status.group ∙ planned.group.status ∙ ap (λ (d : Descriptor). record d { lvs = [] }) (sym same_d) in
     let settled_m : IsSettled m.core = subst (λ (x : State). IsSettled x.core) (sym same) (settled_entered b f cleared.settled) in
-    let d : State = state (g.S.Shelf.device c.commit.new.driver.0) c.commit.new.driver.1 in
+    let d : State = state (g.S.Shelf.device c.commit.new.self.0) c.commit.new.self.1 in
     let r = c.commit.new.patience.left in
     let next = plan.next in
     let N = λ (x : Descriptor). x ≡ next in
@@ -243,7 +243,7 @@ returns-clause-ends g c =
     let same_d : b.core.descriptor ≡ a.core.descriptor = ap (λ (x : Core). x.descriptor) cleared.is in
     let group_b : b.core.status.group ≡ record b.core.descriptor { lvs = [] } = goes_ab.leaves.status.group ∙ planned.group.status ∙ ap (λ (d : Descriptor). record d { lvs = [] }) (sym same_d) in
     let settled_m : IsSettled m.core = subst (λ (x : State). IsSettled x.core) (sym same) (settled_entered b f cleared.settled) in
-    let d : State = state (g.S.Shelf.device c.commit.new.driver.0) c.commit.new.driver.1 in
+    let d : State = state (g.S.Shelf.device c.commit.new.self.0) c.commit.new.self.1 in
     let r = c.commit.new.patience.left in
     let next = plan.next in
     let N = λ (x : Descriptor). x ≡ next in
@@ -288,7 +288,7 @@ returns-clause-goes g c =
     let same_d : b.core.descriptor ≡ a.core.descriptor = ap (λ (x : Core). x.descriptor) cleared.is in
     let group_b : b.core.status.group ≡ record b.core.descriptor { lvs = [] } = goes_ab.leaves.status.group ∙ planned.group.status ∙ ap (λ (d : Descriptor). record d { lvs = [] }) (sym same_d) in
     let settled_m : IsSettled m.core = subst (λ (x : State). IsSettled x.core) (sym same) (settled_entered b f cleared.settled) in
-    let d : State = state (g.S.Shelf.device c.commit.new.driver.0) c.commit.new.driver.1 in
+    let d : State = state (g.S.Shelf.device c.commit.new.self.0) c.commit.new.self.1 in
     let r = c.commit.new.patience.left in
     let next = plan.next in
     let N = λ (x : Descriptor). x ≡ next in
@@ -333,7 +333,7 @@ returns-clause-held g c =
     let same_d : b.core.descriptor ≡ a.core.descriptor = ap (λ (x : Core). x.descriptor) cleared.is in
     let group_b : b.core.status.group ≡ record b.core.descriptor { lvs = [] } = goes_ab.leaves.status.group ∙ planned.group.status ∙ ap (λ (d : Descriptor). record d { lvs = [] }) (sym same_d) in
     let settled_m : IsSettled m.core = subst (λ (x : State). IsSettled x.core) (sym same) (settled_entered b f cleared.settled) in
-    let d : State = state (g.S.Shelf.device c.commit.new.driver.0) c.commit.new.driver.1 in
+    let d : State = state (g.S.Shelf.device c.commit.new.self.0) c.commit.new.self.1 in
     let r = c.commit.new.patience.left in
     let next = plan.next in
     let N = λ (x : Descriptor). x ≡ next in
