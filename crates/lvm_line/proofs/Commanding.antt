@@ -9,7 +9,8 @@ use Rattle.lvm_change.proofs.Spans.{keeps_still}
 use Rattle.lvm_move.specs.Transfer.{Relights}
 use Rattle.lvm_core.specs.declared.refused.Cause.TheVariants as cause
 use Rattle.lvm_core.specs.Committing.{moment_of, SpanGoesOn, StaysBehind}
-use Rattle.lvm_core.specs.Held.{IsHeld, IsOnlyGroupOn}
+use Rattle.lvm_commit.specs.LawsOfVolumes.{IsOnlyGroupOn}
+use Rattle.lvm_core.specs.Held.{IsHeld}
 use Rattle.lvm_core.specs.Settled.{IsSettled as IsSettledCore}
 use Rattle.lvm_core.specs.Sound.{HaveAllLanded}
 use Rattle.lvm_core.specs.State.{Core, State as Session, state}

@@ -2,7 +2,7 @@
 use Rattle.std.specs.Prelude.{◌≡◌, ◌⊎◌, ◌≤◌, ℕ, true, IfSome}
 use Rattle.lvm_kept.specs.Moments.{StaysCalm}
 use Rattle.lvm_change.specs.Moments.{Keeps}
-use Rattle.lvm_core.specs.Held.{IsOnlyGroupOn}
+use Rattle.lvm_commit.specs.LawsOfVolumes.{IsOnlyGroupOn}
 use Rattle.lvm_line.specs.State.{State, IsSettled, IsTimely, AreHeld, EntersVolumes}
 use Rattle.lvm_line.specs.Replies.{IsStuck}
 use Rattle.lvm_line.specs.declared.reply.Refusal.TheVariants as refusal
