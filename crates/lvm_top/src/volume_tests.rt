@@ -142,23 +142,3 @@ fn a_failing_disk_of_one_leaves_what_was_answered(rt: HostRuntime) -> Result<(),
     assert!(rt; is_there_where_made(rt.alloc(), &[SMALL], made, script, healed)?);
     Ok(())
 }
-
-#[test]
-fn a_failing_disk_of_two_leaves_what_was_answered(rt: HostRuntime) -> Result<(), Fail> {
-    let made = b"mkvg -y datavg -s 1 hdisk0 hdisk1\n";
-    let script = b"mkvg -y datavg -s 1 hdisk0 hdisk1\nmklv -y lv00 -w n datavg 1\n";
-    let healed =
-        b"mkvg -y datavg -s 1 hdisk0 hdisk1\nmklv -y lv00 -w n datavg 1\nvaryoffvg datavg\nheal hdisk0\nheal hdisk1\nvaryonvg datavg\nlsvg -l datavg\n";
-    assert!(rt; is_there_where_made(rt.alloc(), &[SMALL, SMALL], made, script, healed)?);
-    Ok(())
-}
-
-#[test]
-fn a_failing_disk_of_three_leaves_what_was_answered(rt: HostRuntime) -> Result<(), Fail> {
-    let made = b"mkvg -y datavg -s 1 hdisk0 hdisk1 hdisk2\n";
-    let script = b"mkvg -y datavg -s 1 hdisk0 hdisk1 hdisk2\nmklv -y lv00 -w n datavg 1\n";
-    let healed =
-        b"mkvg -y datavg -s 1 hdisk0 hdisk1 hdisk2\nmklv -y lv00 -w n datavg 1\nvaryoffvg datavg\nheal hdisk0\nheal hdisk1\nheal hdisk2\nvaryonvg datavg\nlsvg -l datavg\n";
-    assert!(rt; is_there_where_made(rt.alloc(), &[SMALL, SMALL, SMALL], made, script, healed)?);
-    Ok(())
-}
