@@ -22,6 +22,9 @@ fn status_of<R: Files + AllocGlobal>(
     out: &mut MemSink,
     moment: u64,
 ) -> Result<u8, Fail> {
+    if moment == 0 {
+        return Err(Fail::from("no such moment"));
+    }
     let alloc = rt.alloc();
     let files = FileShelf::open(rt, alloc)?;
     let mut images = ImageSink::new(rt);
