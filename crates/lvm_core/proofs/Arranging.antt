@@ -1,17 +1,17 @@
 -- A session stays sound when its shelf is told to fail, to heal or to cut the power.
-use Rattle.std.proofs.Common.{◌≡◌, ◌⊎◌, inl, inr, ℕ, ◌≤◌, ◌+◌, Bool, true, false, List, [], ◌∷◌, ◌++◌, length, map, refl, sym, ◌∙◌, ap, subst, arith}
+use Rattle.std.proofs.Common.{◌≡◌, inl, inr, ℕ, ◌≤◌, ◌+◌, Bool, true, false, List, [], ◌∷◌, map, refl, sym, ◌∙◌, ap, subst, arith}
 use Rattle.std.specs.Prelude.{cond, count_by, slice_index_or}
 use Rattle.std.proofs.lemmas.List.{length-map}
 use Rattle.std.proofs.lemmas.List.Sums.{sum_by-append}
-use Rattle.lvm_num.specs.Buffer.{Buffer}
 use Rattle.lvm_disk.specs.Device.{Device, Flight}
 use Rattle.lvm_disk.specs.Steps.{Cuts, GoesDark, with_order, ArrangeGives}
 use Rattle.lvm_disk.specs.declared.shelf.Arrange.{Arrange}
 use Rattle.lvm_disk.specs.declared.shelf.Arrange.TheVariants as arrange
-use Rattle.lvm_core.specs.State.{Core, State, state}
+use Rattle.lvm_core.specs.declared.request.Power.TheVariants as power
+use Rattle.lvm_core.specs.State.{Core, state}
 use Rattle.lvm_core.specs.Dark.{darkened, all_dark, after_arrange, dark_log}
 use Rattle.lvm_core.specs.Starting.{ArePlaced}
-use Rattle.lvm_core.specs.Sound.{has_number, out_with, is_dark, IsFitting, IsTold, IsLit, IsDark, IsSound}
+use Rattle.lvm_core.specs.Sound.{has_number, out_with, is_dark, IsFitting, IsTold, IsDark, IsSound}
 use Rattle.lvm_core.proofs.Landing.{dark_told, dark_each}
 
 -- a shelf that has as large disks and as many buffers out, and whose power and flights allow it
@@ -26,13 +26,15 @@ ordered_sound device core what sound = record {
   told = sound.told;
   placed = sound.placed;
   buffers = sound.buffers;
+  none_lost = sound.none_lost;
   quiet = sound.quiet;
   lit = λ is. let lit = sound.lit is in record { power = lit.power; freed = lit.freed };
   dark = λ is. let dark = sound.dark is in record { power = dark.power; flights = dark.flights };
+  off = sound.off;
 }
 
 module _ (core : Core) where
-  dark_fits : IsFitting core → IsFitting (all_dark core)
+  pub dark_fits : IsFitting core → IsFitting (all_dark core)
   dark_fits fits = record {
     valid = fits.valid;
     id = fits.id;
@@ -42,10 +44,11 @@ module _ (core : Core) where
     table = subst (λ n. n ≤ core.most) (sym (length-map core.requests darkened)) fits.table;
     most = fits.most;
     queue = fits.queue;
+    a_buffer = fits.a_buffer;
     buffers = fits.buffers;
   }
 
-  dark_is_told : IsTold core → IsTold (all_dark core)
+  pub dark_is_told : IsTold core → IsTold (all_dark core)
   dark_is_told told = record {
     table = dark_told core.history.facts core.requests told.table (dark_log core.history core.requests).facts;
     each = dark_each core.history core.requests told.table told.each;
@@ -57,10 +60,12 @@ dark_sound old new core sound like dark = record {
   fitting = dark_fits core sound.fitting;
   told = dark_is_told core sound.told;
   placed = subst (λ sizes. ArePlaced sizes core.descriptor core.status.wanted) (sym like.sizes) sound.placed;
-  buffers = λ n. like.out n ∙ sound.buffers n;
+  buffers = λ n. subst (λ k. k ≤ cond (slice_index_or core.pool n false) 1 0) (sym (like.out n)) (sound.buffers n);
+  none_lost = λ is. absurd (let e : ◌≡◌ {A = Bool} true false = is in cc);
   quiet = λ quiet. dark.flights;
   lit = λ is. absurd (let e : ◌≡◌ {A = Bool} true false = is in cc);
   dark = λ is. dark;
+  off = λ is. absurd (let e : power.Dark ≡ power.Off = is in cc);
 }
 
 count_map : {X Y : Type 0} (p : Y → Bool) (f : X → Y) → (xs : List X) → count_by p (map f xs) ≡ count_by (λ x. p (f x)) xs

@@ -13,15 +13,15 @@ use Rattle.lvm_vol.specs.Log.{Log}
 use Rattle.lvm_stale.specs.Table.{has_row}
 use Rattle.lvm_hold.specs.Waiting.{Waiting}
 use Rattle.lvm_mwc.specs.declared.notes.DiskNotes.{DiskNotes}
-use Rattle.lvm_mwc.specs.Cache.{Cached, notes_on, no_notes, has_disk, flight_on, IsNew}
-use Rattle.lvm_status.specs.Members.{HasItsRows}
+use Rattle.lvm_mwc.specs.Cache.{Cached, no_notes, has_disk, flight_on, IsNew}
 use Rattle.lvm_status.specs.Update.{Updates}
 use Rattle.lvm_quorum.specs.declared.homes.Homes.{Homes}
 use Rattle.lvm_core.specs.declared.parts.Room.{Room}
 use Rattle.lvm_core.specs.declared.request.Open.{Open}
-use Rattle.lvm_core.specs.State.{Core, state}
+use Rattle.lvm_core.specs.declared.request.Power.TheVariants as power
+use Rattle.lvm_core.specs.State.{state}
 use Rattle.lvm_core.specs.Dark.{AreTold}
-use Rattle.lvm_core.specs.Sound.{HaveAllLanded, waits, has_number, out_with, IsFitting, IsQuiet, IsSound}
+use Rattle.lvm_core.specs.Sound.{HaveAllLanded, waits, has_number, out_with, IsFitting, IsSound}
 use Rattle.lvm_core.specs.Starting.{IsRoom, IsOneGroup, Reserved, IsEmptyCache, IsReservedFor, AreReserved, ArePlaced, first_core}
 use Rattle.lvm_core.proofs.Telling.{open_on}
 
@@ -46,6 +46,7 @@ reserved d s room r valid one ranges its =
       most = subst (λ n. n ≤ 1024) (sym its.most) ranges.requests;
       queue = its.queue ∙ ap (λ n. let w : Waiting = record { room = n + 1; rows = [] } in w) (sym its.most);
       pool = its.pool ∙ ap (λ n. replicate n false) (sym buffers);
+      a_buffer = subst (λ n. 1 ≤ n) (sym buffers) ranges.a_buffer;
       buffers = subst (λ n. n ≤ 1024) (sym buffers) ranges.buffers;
       cache = subst (λ (x : Descriptor). IsEmptyCache x r.cache) (sym its.descriptor) its.cache;
     }
@@ -65,7 +66,7 @@ none_flies d c empty disk = ap (λ (o : Option DiskNotes). option_and_then (λ (
     by_test true = refl
     by_test false = refl
 
-none_out : (count n : ℕ) → slice_index_or (replicate count false) n false ≡ false
+pub none_out : (count n : ℕ) → slice_index_or (replicate count false) n false ≡ false
 none_out zero n = refl
 none_out (suc count) zero = refl
 none_out (suc count) (suc n) = none_out count n
@@ -81,6 +82,7 @@ module _ (device : Device) (r : Reserved) (history : Log) (stamp : Stamp) (homes
     table = subst (λ (os : List Open). length os ≤ r.most) (sym parts.requests) (omega arith);
     most = parts.most;
     queue = ap (λ (w : Waiting). w.room) parts.queue;
+    a_buffer = parts.a_buffer;
     buffers = parts.buffers;
   }
 
@@ -92,11 +94,16 @@ module _ (device : Device) (r : Reserved) (history : Log) (stamp : Stamp) (homes
       each = λ id. open_on history.facts stamp.epoch id ∙ landed id ∙ sym (ap (λ (os : List Open). waits os id) parts.requests);
     };
     placed = placed;
-    buffers = λ n.
-        ap (λ fs. count_by (λ (f : Flight). has_number n f.buf) fs + count_by (has_number n) device.freed) ready.flights
-        ∙ ap (λ bs. 0 + count_by (has_number n) bs) ready.freed
-        ∙ sym (ap (λ b. cond b 1 0) (ap (λ p. slice_index_or p n false) parts.pool ∙ none_out (length r.pool) n));
+    buffers = λ n. let e = out_first n in omega (arith, e);
+    none_lost = λ is. out_first;
     quiet = λ quiet. ready.flights;
     lit = λ is. record { power = ready.power; freed = ready.freed };
     dark = λ is. absurd (let e : ◌≡◌ {A = Bool} false true = is in cc);
+    off = λ is. absurd (let e : power.On ≡ power.Off = is in cc);
   }
+    where
+      out_first : (n : ℕ) → out_with device n ≡ cond (slice_index_or r.pool n false) 1 0
+      out_first n =
+          ap (λ fs. count_by (λ (f : Flight). has_number n f.buf) fs + count_by (has_number n) device.freed) ready.flights
+          ∙ ap (λ bs. 0 + count_by (has_number n) bs) ready.freed
+          ∙ sym (ap (λ b. cond b 1 0) (ap (λ p. slice_index_or p n false) parts.pool ∙ none_out (length r.pool) n))

@@ -1,8 +1,15 @@
 -- The fields of a session, and of its parts, as contracts see them.
+use Rattle.std.specs.Prelude.{ℕ}
+use Rattle.lvm_num.specs.declared.record.Kind.TheVariants as kind
+use Rattle.lvm_num.specs.Record.{longest_content}
 use Rattle.lvm_core.specs.declared.parts.Parts.TheInside.{Inside}
 use Rattle.lvm_core.specs.declared.session.Session.{Session}
 use Rattle.lvm_core.specs.State.{Core}
 use Rattle.lvm_core.specs.Starting.{Reserved}
+
+-- the bytes of the largest status
+abbrev pub status_room : ℕ
+status_room = longest_content kind.Status
 
 abbrev pub core_of : Session → Core
 core_of s = record {

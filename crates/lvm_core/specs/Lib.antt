@@ -5,3 +5,9 @@ pub mod Starting
 pub mod Looking
 pub mod Fields
 pub mod Held
+pub mod Settled
+pub mod Committing
+pub mod Zeros
+pub mod Entering
+pub mod Preparing
+pub mod Steps

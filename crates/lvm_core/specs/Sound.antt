@@ -1,9 +1,9 @@
 -- What holds of a session at every moment.
-use Rattle.std.specs.Prelude.{◌≡◌, ◌≤◌, ◌<◌, ◌+◌, ◌&&◌, ◌==◌, ℕ, Bool, true, false, List, [], None, length, count_by, slice_get, slice_index_or, Some, is_some, if◌then◌else◌}
+use Rattle.std.specs.Prelude.{IsFalse, ◌≡◌, ◌≤◌, ◌+◌, ◌&&◌, ◌==◌, ℕ, Bool, true, false, List, [], None, length, replicate, count_by, slice_index_or, if◌then◌else◌}
 use Rattle.std.specs.List.{list_any}
 use Rattle.lvm_num.specs.Buffer.{Buffer}
-use Rattle.lvm_num.specs.declared.descriptor.Descriptor.{Descriptor}
 use Rattle.lvm_num.specs.Descriptor.{IsValid, is_member}
+use Rattle.lvm_num.specs.Votes.{is_enough_to_write}
 use Rattle.lvm_disk.specs.Device.{Device, Flight}
 use Rattle.lvm_vol.specs.Facts.{Fact}
 use Rattle.lvm_vol.specs.Log.{is_open}
@@ -12,7 +12,7 @@ use Rattle.lvm_status.specs.Members.{HasItsRows}
 use Rattle.lvm_core.specs.declared.request.Open.{Open}
 use Rattle.lvm_core.specs.declared.request.Power.{Power}
 use Rattle.lvm_core.specs.declared.request.Power.TheVariants as power
-use Rattle.lvm_core.specs.State.{Core, State}
+use Rattle.lvm_core.specs.State.{Core, State, votes_there}
 use Rattle.lvm_core.specs.Dark.{is_waiting, AreTold}
 use Rattle.lvm_core.specs.Starting.{ArePlaced}
 
@@ -40,6 +40,7 @@ pub record IsFitting (core : Core) : Type 0 where
   pub most : core.most ≤ 1024
   -- each request has a place, and the copy that is open one more
   pub queue : core.queue.room ≡ core.most + 1
+  pub a_buffer : 1 ≤ length core.pool
   pub buffers : length core.pool ≤ 1024
 
 -- nothing of the session may have a transfer under way
@@ -48,6 +49,7 @@ pub record IsQuiet (core : Core) : Type 0 where
   pub copy : core.copy ≡ None
   pub status : core.status.in_flight ≡ None
   pub notes : (disk : ℕ) → flight_on core.cache disk ≡ None
+  pub buffers : core.pool ≡ replicate (length core.pool) false
 
 abbrev pub is_dark : Power → Bool
 is_dark power.On = false
@@ -75,9 +77,12 @@ pub record IsSound (s : State) : Type 0 where
   pub told : IsTold s.core
   -- the members that aren't missing are on the shelf
   pub placed : ArePlaced s.device.sizes s.core.descriptor s.core.status.wanted
-  -- each buffer is in the pool or out, at one place
-  pub buffers : (n : ℕ) → out_with s.device n ≡ (if slice_index_or s.core.pool n false then 1 else 0)
+  -- each buffer is in the pool or out, at one place, unless a power cut has lost it
+  pub buffers : (n : ℕ) → out_with s.device n ≤ (if slice_index_or s.core.pool n false then 1 else 0)
+  pub none_lost : is_dark s.core.power ≡ false → (n : ℕ) → out_with s.device n ≡ (if slice_index_or s.core.pool n false then 1 else 0)
   -- each transfer is the session's
   pub quiet : IsQuiet s.core → s.device.flights ≡ []
   pub lit : is_dark s.core.power ≡ false → IsLit s.device
   pub dark : is_dark s.core.power ≡ true → IsDark s.device
+  -- it is off where the members that aren't missing have too few votes to write
+  pub off : s.core.power ≡ power.Off → IsFalse (is_enough_to_write s.core.descriptor (votes_there s.core))

@@ -1,5 +1,5 @@
 -- How a session starts.
-use Rattle.std.specs.Prelude.{◌≡◌, ◌≤◌, ◌<◌, ◌+◌, ◌++◌, ℕ, Bool, true, false, List, [], ◌∷◌, Option, Some, None, length, slice_get, replicate, Contains, if◌then◌else◌}
+use Rattle.std.specs.Prelude.{◌≡◌, ◌≤◌, ◌<◌, ◌+◌, ℕ, Bool, false, List, [], Some, None, length, slice_get, replicate, Contains, if◌then◌else◌}
 use Rattle.lvm_num.specs.declared.descriptor.PvRow.{PvRow}
 use Rattle.lvm_num.specs.declared.descriptor.Descriptor.{Descriptor}
 use Rattle.lvm_num.specs.declared.record.Stamp.{Stamp}
@@ -70,6 +70,7 @@ pub record AreReserved (r : Reserved) : Type 0 where
   pub most : r.most ≤ 1024
   pub queue : r.queue ≡ record { room = r.most + 1; rows = [] }
   pub pool : r.pool ≡ replicate (length r.pool) false
+  pub a_buffer : 1 ≤ length r.pool
   pub buffers : length r.pool ≤ 1024
   pub cache : IsEmptyCache r.descriptor r.cache
 

@@ -1,5 +1,5 @@
 -- The state of a session of a group.
-use Rattle.std.specs.Prelude.{◌≡◌, ℕ, Bool, List, Option}
+use Rattle.std.specs.Prelude.{ℕ, Bool, List, Option}
 use Rattle.lvm_num.specs.declared.descriptor.Descriptor.{Descriptor}
 use Rattle.lvm_num.specs.Disks.{Disks}
 use Rattle.lvm_num.specs.Votes.{votes_in}
@@ -12,7 +12,6 @@ use Rattle.lvm_quorum.specs.declared.homes.Homes.{Homes}
 use Rattle.lvm_core.specs.declared.request.Open.{Open}
 use Rattle.lvm_core.specs.declared.request.OpenCopy.{OpenCopy}
 use Rattle.lvm_core.specs.declared.request.Power.{Power}
-use Rattle.lvm_core.specs.declared.request.Power.TheVariants as power
 
 -- What contracts see of a session beside its shelf.
 pub record Core : Type 0 where

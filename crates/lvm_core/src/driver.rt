@@ -1,25 +1,45 @@
 //! A session over its shelf.
-ghost use Rattle.std.specs.Prelude.{◌≡◌, ◌≤◌, ◌<◌, ◌+◌, ◌^◌, [], length, slice_get, false, Some, IfSome, IfNone, All};
-ghost use Rattle.lvm_num.specs.Descriptor.{IsValid};
+ghost use Rattle.std.specs.Prelude.{◌≡◌, ◌≢◌, ◌==◌, ◌≤◌, ◌<◌, ◌+◌, ◌-◌, ◌++◌, ◌^◌, ℕ, [], length, slice_get, false, Some, IfSome, IfNone, IfOk, IsOk, IsTrue, All, AllPairs};
+ghost use Rattle.lvm_num.specs.declared.record.Kind.TheVariants as kind;
+ghost use Rattle.lvm_num.specs.Descriptor.{IsValid, IsPartitionOf};
+ghost use Rattle.lvm_num.specs.DescriptorBytes.{descriptor_bytes};
 ghost use Rattle.lvm_num.specs.Votes.{total_votes};
-ghost use Rattle.lvm_vol.specs.Log.{spare_entries};
+ghost use Rattle.lvm_vol.specs.Log.{spare_entries, with_fact, plain_fact};
+ghost use Rattle.lvm_disk.specs.Counts.{NoneFalls, RoseBy};
 ghost use Rattle.lvm_disk.specs.Device.{IsReady};
 ghost use Rattle.lvm_disk.specs.Steps.{MayArrange, ArrangeGives};
+ghost use Rattle.lvm_kept.specs.Moments.{Moment, StaysCalm};
+ghost use Rattle.lvm_quorum.specs.Written.{KeepsShelf};
+ghost use Rattle.lvm_commit.specs.Committed.{IsAlike};
+ghost use Rattle.lvm_commit.specs.LawsOfData.{IsFree};
+ghost use Rattle.lvm_commit.specs.LawsOfFinding.{FindsNothingNewOn, FindsNoMoreOn};
+ghost use Rattle.lvm_commit.specs.LawsOfVolumes.{IsOnlyGroupOn};
+ghost use Rattle.lvm_commit.specs.Settling.{OnlyLoses, SpendsNumbers, IsOfStatus, IsOfCommit, IsPlain};
 ghost use Rattle.lvm_core.specs.declared.request.Open.{Open};
-ghost use Rattle.lvm_core.specs.State.{state, votes_there};
+ghost use Rattle.lvm_core.specs.State.{state, is_there, votes_there};
 ghost use Rattle.lvm_core.specs.Dark.{is_waiting, after_arrange};
 ghost use Rattle.lvm_core.specs.Looking.{IsNumberOf, HasNoVolume};
 ghost use Rattle.lvm_core.specs.Sound.{IsSound, HaveAllLanded};
 ghost use Rattle.lvm_core.specs.Starting.{ArePlaced, first_core};
+ghost use Rattle.lvm_core.specs.Held.{IsHeld};
+ghost use Rattle.lvm_core.specs.Settled.{IsSettled, HasNumbers};
+ghost use Rattle.lvm_core.specs.Committing.{CommitEnds, AreUnused, AreMarked, Restates, moment_of, SpanGoesOn, LetsCommit, StaysBehind};
+ghost use Rattle.lvm_core.specs.Zeros.{ZeroEnds, IsZeroOf};
+ghost use Rattle.lvm_core.specs.Entering.{IsOfVolume};
 
+use crate::fault::CommitFault;
 use crate::look::number_of;
 use crate::parts::Parts;
+use crate::prepared::Prepared;
+use crate::request::Power;
 use crate::session::Session;
 use lvm_disk::{Arrange, Shelf};
-use lvm_num::{Descriptor, Name, Stamp};
+use lvm_move::Patience;
+use lvm_num::{Descriptor, Memory, Name, Pp, Stamp};
 use lvm_quorum::Homes;
 use lvm_stale::StaleTable;
-use lvm_vol::History;
+use lvm_vol::{Entry, History};
+use std::alloc::Global;
 use std::marker::Model;
 
 /// A group that is varied on, over its shelf. Contracts see the shelf and what the session is about.
@@ -31,16 +51,16 @@ pub struct Driver<S: Shelf> {
 }
 
 impl<S: Shelf> Model for Driver<S> {
-    ghost use Rattle.std.specs.Prelude.{◌≤◌, vec_capacity};
+    ghost use Rattle.std.specs.Prelude.{◌≡◌, ◌≤◌, length, vec_capacity};
     ghost use Rattle.lvm_core.specs.State.{Core, state};
-    ghost use Rattle.lvm_core.specs.Fields.{core_of};
+    ghost use Rattle.lvm_core.specs.Fields.{core_of, status_room};
     ghost use Rattle.lvm_core.specs.Sound.{IsSound};
 
     ghost Value = { S × Core };
 
     ghost view = { λ d. (d.shelf, core_of d.session) };
 
-    ghost invariant = { λ d. (d.session.most ≤ vec_capacity d.session.requests) × IsSound (state (S.device d.shelf) (core_of d.session)) };
+    ghost invariant = { λ d. (d.session.most ≤ vec_capacity d.session.requests) × (length d.session.bytes.items ≡ status_room) × IsSound (state (S.device d.shelf) (core_of d.session)) };
 }
 
 impl<S: Shelf> Driver<S> {
@@ -89,6 +109,127 @@ impl<S: Shelf> Driver<S> {
         done
     }
 
+    /// Whether the session goes on.
+    pub fn power(&self) -> Power
+        ensures { result ≡ self.now.1.power }
+    {
+        self.session.power
+    }
+
+    /// Takes the memory by which the next descriptor is committed, and changes nothing.
+    pub fn prepare(&self, alloc: Global, next: Descriptor) -> Result<Prepared, Memory>
+        requires valid { IsValid next }
+        requires id { next.id ≡ self.now.1.descriptor.id }
+        ensures { IfOk result (λ prepared. prepared ≡ next) }
+    {
+        Prepared::new(alloc, next)
+    }
+
+    /// Writes a descriptor, which differs from the present one in its volumes alone, to all members that
+    /// aren't missing. A member whose write fails becomes missing, and the status says so before the call
+    /// answers. The buffer that it writes with comes from the pool and goes back.
+    ///
+    /// # Errors
+    ///
+    /// `WentOff` where the members that aren't missing have too few votes to write; the session is off then.
+    /// `Dark`, and the session has ended; a cut is entered. `Stuck`, and the transfer is out with the buffer:
+    /// nothing can be committed any more, only looked at, and the session closed.
+    pub fn commit(&mut self, next: Prepared, patience: &mut Patience) -> Result<(), CommitFault>
+        requires settled { IsSettled self.old.1 }
+        requires numbers { HasNumbers self.old.1 }
+        requires alike { IsAlike next self.old.1.descriptor }
+        ensures ends { CommitEnds next patience.old.left (state (S.device self.old.0) self.old.1) (state (S.device self.new.0) self.new.1) result }
+        ensures held { IsHeld (S.device self.old.0) self.old.1 → IfOk result (λ done. IsHeld (S.device self.new.0) self.new.1) }
+        // where no member became missing it is all that was written
+        ensures plain { IfOk result (λ done. IsPlain kind.Descriptor (descriptor_bytes next) self.old.1.status self.new.1.status self.old.1.homes (S.device self.old.0) (S.device self.new.0)) }
+        // whatever the answer
+        ensures finds { IsHeld (S.device self.old.0) self.old.1 → FindsNoMoreOn next (S.device self.old.0) (S.device self.new.0) }
+        ensures falls { NoneFalls (S.device self.old.0).counts (S.device self.new.0).counts }
+        ensures marks { OnlyLoses self.old.1.status self.new.1.status (S.device self.old.0) (S.device self.new.0) }
+        ensures numbers { SpendsNumbers 1 self.old.1.status self.new.1.status }
+        ensures writes { KeepsShelf (is_there self.old.1) (IsOfCommit (descriptor_bytes next) self.old.1.status self.new.1.status) (S.device self.old.0) (S.device self.new.0) }
+        ensures keeps { IsHeld (S.device self.old.0) self.old.1 → (lv run : ℕ) (first : Moment) → LetsCommit lv next run first (state (S.device self.old.0) self.old.1) → SpanGoesOn run first (state (S.device self.old.0) self.old.1) (state (S.device self.new.0) self.new.1) }
+        ensures calm { StaysCalm (moment_of (state (S.device self.old.0) self.old.1)) (moment_of (state (S.device self.new.0) self.new.1)) }
+        ensures behind { StaysBehind (state (S.device self.old.0) self.old.1) (state (S.device self.new.0) self.new.1) }
+        ensures patience { patience.new.left ≤ patience.old.left }
+        ensures waited { RoseBy (patience.old.left - patience.new.left) (S.device self.old.0).counts.waits (S.device self.new.0).counts.waits }
+    {
+        self.session.commit(&mut self.shelf, next, patience)
+    }
+
+    /// Commits a status with these partitions stale and those fresh, which no volume has. Where nothing
+    /// changes by it, nothing is written. A member whose write fails becomes missing, and the status says so
+    /// before the call answers.
+    ///
+    /// # Errors
+    ///
+    /// As of `commit`.
+    pub fn set_status(
+        &mut self,
+        stale: &[Pp],
+        fresh: &[Pp],
+        patience: &mut Patience,
+    ) -> Result<(), CommitFault>
+        requires settled { IsSettled self.old.1 }
+        requires numbers { HasNumbers self.old.1 }
+        requires unused { AreUnused self.old.1.descriptor (stale.now ++ fresh.now) }
+        requires once { AllPairs (λ a b. a ≢ b) (stale.now ++ fresh.now) }
+        ensures ends { CommitEnds self.old.1.descriptor patience.old.left (state (S.device self.old.0) self.old.1) (state (S.device self.new.0) self.new.1) result }
+        ensures held { IsHeld (S.device self.old.0) self.old.1 → IfOk result (λ done. IsHeld (S.device self.new.0) self.new.1) }
+        ensures nothing { AreMarked stale.now fresh.now self.old.1.status.committed → IsOk result × (S.device self.new.0 ≡ S.device self.old.0) × (self.new.1 ≡ self.old.1) }
+        // whatever the answer
+        ensures finds { IsHeld (S.device self.old.0) self.old.1 → FindsNothingNewOn (S.device self.old.0) (S.device self.new.0) }
+        ensures falls { NoneFalls (S.device self.old.0).counts (S.device self.new.0).counts }
+        ensures marks { Restates stale.now fresh.now (state (S.device self.old.0) self.old.1) (state (S.device self.new.0) self.new.1) }
+        ensures numbers { SpendsNumbers 1 self.old.1.status self.new.1.status }
+        ensures writes { KeepsShelf (is_there self.old.1) (IsOfStatus self.old.1.status self.new.1.status) (S.device self.old.0) (S.device self.new.0) }
+        ensures keeps { IsHeld (S.device self.old.0) self.old.1 → (run : ℕ) (first : Moment) → SpanGoesOn run first (state (S.device self.old.0) self.old.1) (state (S.device self.new.0) self.new.1) }
+        ensures calm { StaysCalm (moment_of (state (S.device self.old.0) self.old.1)) (moment_of (state (S.device self.new.0) self.new.1)) }
+        ensures behind { StaysBehind (state (S.device self.old.0) self.old.1) (state (S.device self.new.0) self.new.1) }
+        ensures patience { patience.new.left ≤ patience.old.left }
+        ensures waited { RoseBy (patience.old.left - patience.new.left) (S.device self.old.0).counts.waits (S.device self.new.0).counts.waits }
+    {
+        self.session
+            .set_status(&mut self.shelf, stale, fresh, patience)
+    }
+
+    /// Writes zeros to a partition that no volume has, of a member that isn't missing.
+    ///
+    /// # Errors
+    ///
+    /// `DiskFailed` at its first transfer that failed; the disk doesn't become missing by it. `Dark` and
+    /// `Stuck` as of `commit`.
+    pub fn zero(&mut self, pp: Pp, patience: &mut Patience) -> Result<(), CommitFault>
+        requires settled { IsSettled self.old.1 }
+        requires there { IsTrue (is_there self.old.1 pp.disk) }
+        requires partition { IsPartitionOf self.old.1.descriptor pp }
+        requires free { IsFree self.old.1.descriptor pp }
+        ensures ends { ZeroEnds pp patience.old.left (state (S.device self.old.0) self.old.1) (state (S.device self.new.0) self.new.1) result }
+        // whatever the answer
+        ensures records { (self.new.1.status ≡ self.old.1.status) × (self.new.1.homes ≡ self.old.1.homes) }
+        ensures held { IsHeld (S.device self.old.0) self.old.1 → IsHeld (S.device self.new.0) self.new.1 }
+        ensures finds { FindsNothingNewOn (S.device self.old.0) (S.device self.new.0) }
+        ensures writes { KeepsShelf (λ d. d == pp.disk) (IsZeroOf self.old.1.descriptor.mib pp) (S.device self.old.0) (S.device self.new.0) }
+        ensures keeps { IsHeld (S.device self.old.0) self.old.1 → (run : ℕ) (first : Moment) → SpanGoesOn run first (state (S.device self.old.0) self.old.1) (state (S.device self.new.0) self.new.1) }
+        ensures falls { NoneFalls (S.device self.old.0).counts (S.device self.new.0).counts }
+        ensures calm { StaysCalm (moment_of (state (S.device self.old.0) self.old.1)) (moment_of (state (S.device self.new.0) self.new.1)) }
+        ensures behind { StaysBehind (state (S.device self.old.0) self.old.1) (state (S.device self.new.0) self.new.1) }
+        ensures patience { patience.new.left ≤ patience.old.left }
+        ensures waited { RoseBy (patience.old.left - patience.new.left) (S.device self.old.0).counts.waits (S.device self.new.0).counts.waits }
+    {
+        self.session.zero(&mut self.shelf, pp, patience)
+    }
+
+    /// Enters that a volume is being made or removed, or that it is.
+    pub fn enter(&mut self, entry: Entry)
+        requires spare { 1 ≤ spare_entries self.old.1.history }
+        requires volume { IsOfVolume entry }
+        ensures shelf { self.new.0 ≡ self.old.0 }
+        ensures core { self.new.1 ≡ record self.old.1 { history = with_fact self.old.1.history (plain_fact entry) } }
+    {
+        self.session.history.push(entry);
+    }
+
     /// How many sequence numbers are left for the stamps of this session's records.
     pub fn numbers_left(&self) -> u32
         ensures { result + self.now.1.status.stamp.seq + 1 ≡ 2 ^ 32 }
@@ -104,7 +245,8 @@ impl<S: Shelf> Driver<S> {
         number_of(self.session.descriptor.lvs.as_slice(), &name)
     }
 
-    /// The committed descriptor.
+    /// The descriptor of the last command that was answered with Ok. After another answer of `commit` the next
+    /// one may stand on some members, and be found when the group is varied on again.
     pub fn descriptor(&self) -> &Descriptor
         ensures same { result.now ≡ self.now.1.descriptor }
         ensures valid { IsValid result.now }

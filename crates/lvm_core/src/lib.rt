@@ -1,14 +1,21 @@
 //! The driver of a session: a group that is varied on, over its shelf.
 #![tactic(auto)]
 
+mod commit;
 mod driver;
+mod fault;
 mod look;
+mod marks;
 mod parts;
+mod prepared;
 mod refused;
 mod request;
 mod session;
+mod zero;
 
 pub use driver::{Closed, Driver};
+pub use fault::CommitFault;
 pub use parts::{Parts, Room};
+pub use prepared::Prepared;
 pub use refused::{Cause, Refused};
 pub use request::{CopyState, Open, OpenCopy, Power};

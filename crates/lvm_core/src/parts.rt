@@ -1,5 +1,5 @@
 //! The memory of a session, which is taken before it starts.
-ghost use Rattle.std.specs.Prelude.{◌≡◌, ◌≤◌, ◌||◌, ◌==◌, ℕ, [], IfOk, IsTrue, IsFalse, vec_capacity};
+ghost use Rattle.std.specs.Prelude.{◌≡◌, ◌≤◌, ◌||◌, ◌==◌, ℕ, [], IfOk, IsTrue, IsFalse, length, vec_capacity};
 ghost use Rattle.std.specs.List.{list_any};
 ghost use Rattle.lvm_num.specs.declared.descriptor.PvRow.{PvRow};
 ghost use Rattle.lvm_num.specs.Descriptor.{IsValid, is_member};
@@ -7,6 +7,7 @@ ghost use Rattle.lvm_num.specs.Disks.{has};
 ghost use Rattle.lvm_num.specs.Status.{IsValidStatus};
 ghost use Rattle.lvm_vol.specs.Log.{spare_entries};
 ghost use Rattle.lvm_status.specs.Members.{HasItsRows};
+ghost use Rattle.lvm_core.specs.Fields.{status_room};
 
 use crate::look::are_placed;
 use crate::request::{Open, Power};
@@ -22,6 +23,9 @@ use lvm_status::Updater;
 use lvm_vol::{Entry, History};
 use std::alloc::Global;
 use std::marker::Model;
+
+// The bytes of the largest status.
+const STATUS_ROOM: usize = 31_740;
 
 /// How much a session and its run have room for.
 #[derive(Clone, Copy, Debug, PartialEq, Eq)]
@@ -48,11 +52,13 @@ pub struct Parts {
     pool: Pool,
     updater: Updater,
     cache: Cache,
+    bytes: Vec<u8>,
 }
 
 impl Model for Parts {
-    ghost use Rattle.std.specs.Prelude.{◌≤◌, vec_capacity};
+    ghost use Rattle.std.specs.Prelude.{◌≡◌, ◌≤◌, length, vec_capacity};
     ghost use Rattle.lvm_core.specs.Starting.{Reserved, AreReserved};
+    ghost use Rattle.lvm_core.specs.Fields.{status_room};
 
     ghost Value = { Reserved };
 
@@ -60,12 +66,12 @@ impl Model for Parts {
 
     ghost view = { reserved_of };
 
-    ghost invariant = { λ p. (p.most ≤ vec_capacity p.requests) × AreReserved (reserved_of p) };
+    ghost invariant = { λ p. (p.most ≤ vec_capacity p.requests) × (length p.bytes.items ≡ status_room) × AreReserved (reserved_of p) };
 }
 
 impl Parts {
     ghost use Rattle.lvm_core.specs.Starting.{IsRoom, IsOneGroup, IsReservedFor, AreReserved, ArePlaced, first_core};
-    ghost use Rattle.lvm_core.specs.Fields.{core_of};
+    ghost use Rattle.lvm_core.specs.Fields.{core_of, status_room};
 
     /// Takes all the memory of a session of the group that was chosen. It begins with the status of
     /// the choice.
@@ -87,6 +93,7 @@ impl Parts {
         // The copy that is open has a place beside the requests.
         let queue = Queue::new(alloc, room.table + 1)?;
         let pool = Pool::new(alloc, room.pool)?;
+        let bytes = room_of_status(alloc)?;
         match Vec::with_capacity(alloc, room.table as usize) {
             Ok(requests) => Ok(Parts {
                 descriptor,
@@ -96,6 +103,7 @@ impl Parts {
                 pool,
                 updater,
                 cache,
+                bytes,
             }),
             Err(_) => Err(Memory),
         }
@@ -116,6 +124,7 @@ impl Parts {
         requires { 1 ≤ spare_entries history }
         ensures core { core_of result ≡ first_core self history stamp homes }
         ensures table { result.most ≤ vec_capacity result.requests }
+        ensures bytes { length result.bytes.items ≡ status_room }
         ensures reserved { AreReserved self }
     {
         let Parts {
@@ -126,6 +135,7 @@ impl Parts {
             pool,
             mut updater,
             cache,
+            bytes,
         } = self;
         let mut history = history;
         history.push(Entry::On {
@@ -144,7 +154,18 @@ impl Parts {
             cache,
             homes,
             power: Power::On,
+            bytes,
         }
+    }
+}
+
+// Room for the bytes of the largest status.
+fn room_of_status(alloc: Global) -> Result<Vec<u8>, Memory>
+    ensures { IfOk result (λ bytes. length bytes.items ≡ status_room) }
+{
+    match vec![in alloc; 0; STATUS_ROOM] {
+        Ok(bytes) => Ok(bytes),
+        Err(_) => Err(Memory),
     }
 }
 

@@ -1,5 +1,5 @@
 //! A session beside its shelf.
-ghost use Rattle.std.specs.Prelude.{◌≡◌, ◌++◌, map, vec_capacity};
+ghost use Rattle.std.specs.Prelude.{◌≡◌, ◌++◌, length, map, vec_capacity};
 ghost use Rattle.lvm_core.specs.Dark.{AreTold, dark_facts, darkened, all_dark, is_cut, after_arrange};
 ghost use Rattle.lvm_core.specs.Fields.{core_of};
 
@@ -28,6 +28,8 @@ pub struct Session {
     pub cache: Cache,
     pub homes: Homes,
     pub power: Power,
+    // room for the bytes of a status
+    pub bytes: Vec<u8>,
 }
 
 // Enters for each request that hasn't landed that it lands as Dark.
@@ -52,10 +54,11 @@ fn darken_all(requests: &mut [Open])
 
 impl Session {
     // The power is off: a cut is entered, and all open requests that haven't landed land as Dark.
-    fn darken(&mut self)
+    pub fn darken(&mut self)
         requires { AreTold self.old.history.facts self.old.requests.items }
         ensures core { core_of self.new ≡ all_dark (core_of self.old) }
         ensures capacity { vec_capacity self.new.requests ≡ vec_capacity self.old.requests }
+        ensures bytes { length self.new.bytes.items ≡ length self.old.bytes.items }
     {
         self.history.cut();
         land_all_dark(&mut self.history, &self.requests);
@@ -69,6 +72,7 @@ impl Session {
         requires { AreTold self.old.history.facts self.old.requests.items }
         ensures core { core_of self.new ≡ after_arrange what done (core_of self.old) }
         ensures capacity { vec_capacity self.new.requests ≡ vec_capacity self.old.requests }
+        ensures bytes { length self.new.bytes.items ≡ length self.old.bytes.items }
     {
         if done && is_cut(what) {
             self.darken();

@@ -136,6 +136,7 @@ module _ (w : NewGroup) (was : Log) (old mid new : Device) (free : Free) (may : 
     homes = free.homes;
     spares = found.spares;
     size = size;
+    valid = planned.valid;
     stand = written.stand;
     only = as_before w old mid new un (IsOfParts writes new_order) keeps;
     well = well_before w old mid new un written.well;

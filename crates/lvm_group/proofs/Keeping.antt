@@ -51,7 +51,9 @@ use Rattle.lvm_num.specs.Votes.{all_disks, votes_in}
 use Rattle.lvm_num.proofs.VotesLemmas.{more_have_more, more_is_enough}
 use Rattle.lvm_status.specs.Update.{Updates}
 use Rattle.lvm_core.specs.declared.parts.Room.{Room}
-use Rattle.lvm_core.specs.Held.{ShowsCommitted, HoldsCommitted, IsHeld}
+use Rattle.lvm_commit.specs.Committed.{Began, ShowsCommitted, HoldsCommitted}
+use Rattle.lvm_commit.proofs.Found.{newest_is_beginning}
+use Rattle.lvm_core.specs.Held.{IsHeld}
 use Rattle.lvm_core.specs.Starting.{Reserved, IsReservedFor, first_core}
 use Rattle.lvm_core.specs.State.{Core, is_there}
 use Rattle.lvm_group.specs.NewGroup.{NewGroup, among, sectors_on, size_for, member_for, new_group, new_status, first_absent, first_too_small}
@@ -302,21 +304,29 @@ module _ (w : NewGroup) (device : Device) (homes : Homes) (its : IsBeginning w d
         among_all true b c is = is
         among_all false b c is = absurd cc
 
-    shows : ShowsCommitted shown core
+    room_for_parts : (d : ℕ) → IsTrue (among w.disks d) → IsTrue (has_room shown d (new_group device.sizes w))
+    room_for_parts d named = subst (λ (l : List ℕ). IsTrue (has_room (contents_of (image_of l is)) d (new_group device.sizes w))) (sym keeps.sizes)
+        (placed_among device.sizes w.name (size_for device.sizes w.disks w.mib) w.disks w.moment its.size its.there its.fit d named)
+
+    shows : ShowsCommitted shown core.descriptor core.status.committed (is_there core)
     shows = record {
       found = subst (λ (g : Descriptor). Finds shown all_disks g.id g) (sym parts.descriptor) found_by_all;
+      disks = among w.disks;
+      began = subst (λ (g : Descriptor). Began shown g (among w.disks)) (sym parts.descriptor) (newest_is_beginning shown (new_group device.sizes w) (among w.disks) newest finds.newest);
       descriptor = newest;
       value = sym parts.descriptor;
       latest = λ d found on own. inr (only_new d found on (own ∙ ap (λ (g : Descriptor). g.id) parts.descriptor));
       described = λ d on. begun.described d (target d on);
-      status = as_read (states started) (new_status w);
+      room = λ d on. subst (λ (g : Descriptor). IsTrue (has_room shown d g)) (sym parts.descriptor) (room_for_parts d (target d on));
+      own = ap (λ (u : Updates). u.committed.id) parts.status ∙ sym (ap (λ (g : Descriptor). g.id) parts.descriptor);
+      stands = as_read (states started) (new_status w);
       committed = sym (ap (λ (u : Updates). u.committed) parts.status);
       stated = λ d on. begun.stated d (target d on);
       last = λ d found on own. status_is_last started true (new_group device.sizes w) (new_status w) (contents_of (image_of device.sizes media)) shown begun (earlier_status w device homes its media told) d found on
           (own ∙ ap (λ (g : Descriptor). g.id) parts.descriptor);
     }
 
-    pub holds : HoldsCommitted (image_of new.sizes is) core
+    pub holds : HoldsCommitted (image_of new.sizes is) core.descriptor core.status.committed (is_there core) core.status.stamp core.homes
     holds = record {
       shows = shows;
       stamps = stamps_then w device homes its new keeps is told_new;
@@ -325,6 +335,6 @@ module _ (w : NewGroup) (device : Device) (homes : Homes) (its : IsBeginning w d
     }
 
   pub is_held : IsHeld new core
-  is_held = if_told new.media (λ is. HoldsCommitted (image_of new.sizes is) core) (λ is told_new.
+  is_held = if_told new.media (λ is. HoldsCommitted (image_of new.sizes is) core.descriptor core.status.committed (is_there core) core.status.stamp core.homes) (λ is told_new.
       let was = was_told device.media new.media (λ m n. ChangesBy (IsOfParts (beginning_for device.sizes w homes) new_order) (image_of device.sizes m) (image_of new.sizes n)) is keeps.media told_new in
       holds was.0 is was.1 told_new)

@@ -1,7 +1,12 @@
 -- The session of a group that was made may start, and what then holds.
-use Rattle.std.proofs.Common.{◌≡◌, ℕ, ◌≤◌, List, sym, ap, subst, ◌∙◌, arith}
+use Rattle.std.proofs.Common.{◌≡◌, ◌≢◌, ℕ, ◌≤◌, ◌*◌, Bool, true, false, ◌&&◌, not, List, IsTrue, sym, ap, subst, ◌∙◌, arith}
+use Rattle.std.specs.Prelude.{nat_lt, if◌then◌else◌}
+use Rattle.std.proofs.lemmas.Bool.Decides.{nat_tests}
 use Rattle.lvm_num.specs.declared.descriptor.Descriptor.{Descriptor}
 use Rattle.lvm_num.specs.declared.status.Status.{Status}
+use Rattle.lvm_num.specs.Descriptor.{is_member}
+use Rattle.lvm_num.specs.Votes.{all_disks, votes_in, total_votes, CanWrite}
+use Rattle.lvm_num.proofs.VotesLemmas.{total-some, more_is_enough, more_have_more}
 use Rattle.lvm_disk.specs.Device.{Device}
 use Rattle.lvm_vol.specs.Facts.{On}
 use Rattle.lvm_vol.specs.Legal.{IsLater}
@@ -11,18 +16,20 @@ use Rattle.lvm_change.specs.Moments.{Keeps}
 use Rattle.lvm_change.specs.Requests.{at}
 use Rattle.lvm_change.proofs.Entering.{calm_goes_on}
 use Rattle.lvm_change.proofs.Spans.{group_goes_on}
-use Rattle.lvm_status.specs.Update.{Updates}
+use Rattle.lvm_status.specs.Update.{Updates, members_there}
 use Rattle.lvm_stamps.specs.Behind.{IsAhead, ClockIsAhead}
 use Rattle.lvm_core.specs.declared.parts.Room.{Room}
 use Rattle.lvm_core.specs.Sound.{HaveAllLanded}
+use Rattle.lvm_core.specs.Settled.{IsSettled, HasNumbers}
+use Rattle.lvm_core.proofs.Settling.{starts_settled, starts_numbered}
 use Rattle.lvm_core.specs.Starting.{ArePlaced, first_core}
 use Rattle.lvm_core.specs.State.{Core}
-use Rattle.lvm_group.specs.NewGroup.{NewGroup, size_for, new_group}
+use Rattle.lvm_group.specs.NewGroup.{NewGroup, size_for, new_group, new_status}
 use Rattle.lvm_group.specs.Made.{IsMade}
 use Rattle.lvm_group.specs.Steps.{Stands}
 use Rattle.lvm_group.specs.declared.make.Standing.{Standing}
 use Rattle.lvm_group.proofs.Entries.{spare_given, landed_given, later_given}
-use Rattle.lvm_group.proofs.Groups.{are_placed}
+use Rattle.lvm_group.proofs.Groups.{are_placed, nothing_missing}
 
 module _ (w : NewGroup) (room : Room) (was is : Log) (old new : Device) (standing : Standing) (stands : Stands w room was is old new standing) where
   pub spare_left : 1 ≤ spare_entries is
@@ -64,3 +71,23 @@ module _ (w : NewGroup) (room : Room) (was is : Log) (old new : Device) (standin
 
   pub calm_on : (first : Moment) (core : Core) → core ≡ first_core standing.parts is (record { epoch = w.moment; seq = 2 }) standing.homes → StaysCalm first (at new is.facts) → StaysCalm first (at new core.history.facts)
   calm_on first core core_is calm = subst (λ (c : Core). StaysCalm first (at new c.history.facts)) (sym core_is) (calm_goes_on first new is.facts (On w.moment) calm tt)
+
+  -- all members are there
+  all_there : (d : ℕ) → IsTrue (is_member (new_group old.sizes w) d) → IsTrue (members_there (new_group old.sizes w) (new_status w) d)
+  all_there d member = ap (λ (m : Bool). is_member (new_group old.sizes w) d && not m) (nothing_missing w.disks w.moment d) ∙ ap (λ (m : Bool). m && true) member
+
+  votes : CanWrite (new_group old.sizes w) (members_there (new_group old.sizes w) (new_status w))
+  votes =
+      let group = new_group old.sizes w in
+      more_is_enough.write group (total_votes group) (votes_in group (members_there group (new_status w))) (more_have_more group all_disks (members_there group (new_status w)) (λ d member all. all_there d member))
+      (all_enough group.quorum (total_votes group) (total-some group stands.valid.head.a_member))
+    where
+      all_enough : (q : Bool) (total : ℕ) → 1 ≤ total → IsTrue (if q then nat_lt total (2 * total) else nat_lt 0 total)
+      all_enough true total some = grind (arith, nat_tests)
+      all_enough false total some = grind (arith, nat_tests)
+
+  pub settles : w.moment ≢ 0 → (core : Core) → core ≡ first_core standing.parts is (record { epoch = w.moment; seq = 2 }) standing.homes → IsSettled core × HasNumbers core
+  settles some core core_is = subst (λ (c : Core). IsSettled c × HasNumbers c) (sym core_is) (
+    starts_settled (new_group old.sizes w) (new_status w) room standing.parts is (record { epoch = w.moment; seq = 2 }) standing.homes stands.parts some votes,
+    starts_numbered (new_group old.sizes w) (new_status w) room standing.parts is (record { epoch = w.moment; seq = 2 }) standing.homes stands.parts stands.valid (omega arith),
+  )

@@ -1,5 +1,6 @@
 -- The two steps in which a group is made on a shelf: its disks are read, and its records are written.
 use Rattle.std.specs.Prelude.{◌≡◌, ℕ, ◌<◌, ◌≤◌, Bool, true, false, if◌then◌else◌, Result, Ok, Err}
+use Rattle.lvm_num.specs.Descriptor.{IsValid}
 use Rattle.lvm_disk.specs.Device.{Device}
 use Rattle.lvm_vol.specs.Log.{Log, cut_log}
 use Rattle.lvm_quorum.specs.declared.homes.Homes.{Homes}
@@ -119,6 +120,7 @@ pub record Stands (w : NewGroup) (room : Room) (was is : Log) (old new : Device)
   pub homes : Homes
   pub spares : SparesTold homes old
   pub size : 1 ≤ size_for old.sizes w.disks w.mib
+  pub valid : IsValid (new_group old.sizes w)
   pub stand : AllStand (beginning_for old.sizes w homes) new_order new
   pub only : IsAsBefore w (IsOfParts (beginning_for old.sizes w homes) new_order) old new
   pub well : HasNoFault old new

@@ -1,5 +1,5 @@
 -- What the grammar says of the numbers and the disks of a command.
-use Rattle.std.proofs.Common.{◌≡◌, ◌≢◌, ◌≤◌, ◌<◌, ◌+◌, zero, suc, ◌∷◌, ◌++◌, [], ℕ, List, Bool, true, false, not, ◌&&◌, ◌||◌, length, Option, Some, None, Result, Ok, Err, is_some, if◌then◌else◌, unwrap_or, get_or, refl, sym, ◌∙◌, ap, subst, arith, eq-eqb}
+use Rattle.std.proofs.Common.{◌≡◌, ◌≢◌, ◌≤◌, ◌<◌, zero, suc, ◌∷◌, ◌++◌, [], ℕ, List, Bool, true, false, not, ◌&&◌, ◌||◌, length, Option, Some, None, Result, Ok, Err, is_some, if◌then◌else◌, get_or, refl, sym, ◌∙◌, ap, subst, arith, eq-eqb}
 use Rattle.std.specs.Prelude.{◌==◌, nat_le, nat_lt, AllPairs, IsTrue, codes, bytes_eq}
 use Rattle.std.specs.Option.{ForSome, option_map}
 use Rattle.std.specs.List.{list_any}
@@ -7,18 +7,18 @@ use Rattle.std.proofs.lemmas.Bool.{leb-true}
 use Rattle.std.proofs.lemmas.List.Quantifiers.{all_pairs_push}
 use Rattle.lvm_num.specs.Descriptor.{is_size}
 use Rattle.lvm_num.specs.declared.descriptor.Mode.{Mode}
-use Rattle.lvm_num.specs.declared.descriptor.Policy.{Policy}
-use Rattle.lvm_num.specs.declared.descriptor.Policy.TheVariants as policy
+use Rattle.lvm_num.specs.declared.descriptor.Mode.TheVariants.{Off}
 use Rattle.lvm_parse.specs.declared.chosen.MkvgOptions.{MkvgOptions}
 use Rattle.lvm_parse.specs.declared.chosen.MklvOptions.{MklvOptions}
 use Rattle.lvm_parse.specs.declared.command.Command.{Command}
 use Rattle.lvm_parse.specs.declared.command.Command.TheVariants as command
 use Rattle.lvm_parse.specs.declared.rest.Misfit.{Misfit}
-use Rattle.lvm_parse.specs.Grammar.{line_of, line_of_words, readable, rule, rd, wr, fail, heal, lspv, cut, cut_of, mkvg, mkvg_choice, no_mkvg_options, varyonvg, varyoffvg, lsvg, mklv, mklv_choice, no_mklv_options, rmlv, lslv}
+use Rattle.lvm_parse.specs.Grammar.{line_of, line_of_words, readable, rule, rd, wr, cut_of, mkvg, mkvg_choice, no_mkvg_options, mklv, mklv_choice, no_mklv_options, lslv}
 use Rattle.lvm_parse.specs.Line.{WordAt, Left, left_at, unreadable_at, is_remark}
-use Rattle.lvm_parse.specs.Reading.{misfit, then_, or_misfit, operand_of, operand, option, ends_of, ends, last, Choice, NoOption, Alone, Valued, is_new, options_of, options, required, is_further, further_disk, one_or_more, disks_of, disks, next_column}
-use Rattle.lvm_parse.specs.Words.{only, number_in, number_within, count_in, size_in, name_in, disk_in, word_in, mode_in, partitions_in}
+use Rattle.lvm_parse.specs.Reading.{then_, or_misfit, operand_of, operand, option, ends_of, ends, last, is_new, options, required, is_further, further_disk, disks_of, disks, next_column}
+use Rattle.lvm_parse.specs.Words.{only, number_in, number_within, count_in, size_in, name_in, disk_in, word_in, mode_in, partitions_in, copies_in, policy_in}
 use Rattle.lvm_line.specs.Lines.{IsWithin}
+use Rattle.lvm_line.proofs.Options.{mapped, Keeping, keeping_if, options_keep}
 
 -- ---- what is read
 
@@ -66,6 +66,30 @@ counted l v is =
     let parts = both (nat_le 1 v.0) (nat_le v.0 4096) passes in
     (leb-true 1 v.0 parts.0, leb-true v.0 4096 parts.1)
 
+-- the last word was read, and none follows
+last_means : {T : Type 0} (meaning : List ℕ → Option T) (l : Left) (v : T) → last meaning l ≡ Ok v → (word : List ℕ) × (meaning word ≡ Some v)
+unfolding operand ends
+last_means {T} meaning l v is = go (operand meaning l) refl is
+  where
+    at_end : (words : List WordAt) (w : T) → ends_of words w ≡ Ok v → w ≡ v
+    at_end [] w same = cc (same)
+    at_end (x ∷ words) w same = absurd (cc (same))
+
+    go : (r : Result (T × Left) Misfit) → operand meaning l ≡ r → then_ r (λ value. ends value.1 value.0) ≡ Ok v → (word : List ℕ) × (meaning word ≡ Some v)
+    go (Ok value) read same = let word = operand_means meaning l.words l.end value read in (word.0, word.1 ∙ ap (λ (x : T). Some x) (at_end value.1.words value.0 same))
+    go (Err e) read same = absurd (cc (same))
+
+some_partitions : (l : Left) (lps : ℕ) → last partitions_in l ≡ Ok lps → 1 ≤ lps
+some_partitions l lps is =
+    let word = last_means partitions_in l lps is in
+    let passes = only_passes (λ n. nat_le 1 n && nat_le n 65535) (number_in word.0) lps word.1 in
+    leb-true 1 lps (both (nat_le 1 lps) (nat_le lps 65535) passes).0
+
+-- a value that must stand does
+found_of : {T : Type 0} (o : Option T) (column : ℕ) (v : T) → or_misfit o column ≡ Ok v → o ≡ Some v
+found_of (Some w) column v is = cc (is)
+found_of None column v is = absurd (cc (is))
+
 fits_ends : (l : Left) (c : Command) → IsWithin c → Fits (ends l c)
 unfolding Fits ends
 fits_ends l c within = go l.words
@@ -79,63 +103,45 @@ fits_ends l c within = go l.words
 IsSized : MkvgOptions → Type 0
 IsSized o = ForSome o.mib (λ given. IsTrue (is_size given))
 
--- what an option makes of sized options is sized
-SizedChoice : Choice MkvgOptions → Type 0
-SizedChoice NoOption = Unit {0}
-SizedChoice (Alone o) = IsSized o
-SizedChoice (Valued read) = (word : List ℕ) (o : MkvgOptions) → read word ≡ Some o → IsSized o
-
-sized_if : (b : Bool) (x y : Choice MkvgOptions) → SizedChoice x → SizedChoice y → SizedChoice (if b then x else y)
-sized_if true x y fx fy = fx
-sized_if false x y fx fy = fy
-
 with_name : (o : MkvgOptions) → IsSized o → (word : List ℕ) (after : MkvgOptions) → option_map (λ name. record o { name = Some name }) (name_in word) ≡ Some after → IsSized after
 unfolding IsSized
-with_name o sized word after is = go (name_in word) is
-  where
-    go : (found : Option (List ℕ)) → option_map (λ name. record o { name = Some name }) found ≡ Some after → IsSized after
-    go (Some name) same = let e : ◌≡◌ {A = MkvgOptions} (record o { name = Some name }) after = cc (same) in λ given its. sized given (ap (λ (x : MkvgOptions). x.mib) e ∙ its)
-    go None same = absurd (cc (same))
+with_name o sized word after is = mapped IsSized (λ name. record o { name = Some name }) (name_in word) after (λ name named. sized) is
 
 with_size : (o : MkvgOptions) (word : List ℕ) (after : MkvgOptions) → option_map (λ mib. record o { mib = Some mib }) (size_in word) ≡ Some after → IsSized after
 unfolding IsSized
-with_size o word after is = go (size_in word) refl is
-  where
-    go : (found : Option ℕ) → size_in word ≡ found → option_map (λ mib. record o { mib = Some mib }) found ≡ Some after → IsSized after
-    go (Some mib) found same =
-        let e : ◌≡◌ {A = MkvgOptions} (record o { mib = Some mib }) after = cc (same) in
-        λ given its. (let f : Some mib ≡ Some given = ap (λ (x : MkvgOptions). x.mib) e ∙ its in let h : mib ≡ given = cc (f) in ap is_size (sym h) ∙ only_passes is_size (number_within 1 1024 word) mib found)
-    go None found same = absurd (cc (same))
+with_size o word after is = mapped IsSized (λ mib. record o { mib = Some mib }) (size_in word) after
+    (λ mib found given its. (let h : mib ≡ given = cc (its) in ap is_size (sym h) ∙ only_passes is_size (number_within 1 1024 word) mib found)) is
 
-choice_is_sized : (o : MkvgOptions) (word : List ℕ) → IsSized o → SizedChoice (mkvg_choice o word)
-unfolding IsSized SizedChoice
+choice_is_sized : (o : MkvgOptions) (word : List ℕ) → IsSized o → Keeping IsSized (mkvg_choice o word)
+unfolding IsSized
 choice_is_sized o word sized =
-    sized_if (is_new word (codes "-f") o.force) _ _ sized
-    (sized_if (is_new word (codes "-y") (is_some o.name)) _ _ (with_name o sized)
-    (sized_if (is_new word (codes "-s") (is_some o.mib)) _ _ (with_size o) tt))
+    keeping_if IsSized (is_new word (codes "-f") o.force) _ _ sized
+    (keeping_if IsSized (is_new word (codes "-y") (is_some o.name)) _ _ (with_name o sized)
+    (keeping_if IsSized (is_new word (codes "-s") (is_some o.mib)) _ _ (with_size o) tt))
 
-options_are_sized : (o : MkvgOptions) (words : List WordAt) (end : ℕ) (v : MkvgOptions × Left) → IsSized o → options_of mkvg_choice o words end ≡ Ok v → IsSized v.0
-unfolding IsSized SizedChoice
-options_are_sized o [] end v sized is = let e : ◌≡◌ {A = MkvgOptions × Left} (o, record { words = []; end = end }) v = cc (is) in subst (λ (x : MkvgOptions × Left). IsSized x.0) e sized
-options_are_sized o (w ∷ []) end v sized is = go (mkvg_choice o w.bytes) (choice_is_sized o w.bytes sized) is
+-- ---- the options of `mklv`
+
+IsOff : MklvOptions → Type 0
+IsOff o = ForSome o.mode (λ given. given ≡ Off)
+
+with_other : {X : Type 0} (f : X → MklvOptions) (meaning : List ℕ → Option X) → ((x : X) → IsOff (f x)) → (word : List ℕ) (after : MklvOptions) → option_map f (meaning word) ≡ Some after → IsOff after
+with_other f meaning off word after is = mapped IsOff f (meaning word) after (λ x found. off x) is
+
+with_mode : (o : MklvOptions) (word : List ℕ) (after : MklvOptions) → option_map (λ mode. record o { mode = Some mode }) (mode_in word) ≡ Some after → IsOff after
+unfolding IsOff
+with_mode o word after is = mapped IsOff (λ mode. record o { mode = Some mode }) (mode_in word) after (λ mode found given its. (let h : mode ≡ given = cc (its) in sym h ∙ alone (bytes_eq word (codes "n")) mode found)) is
   where
-    go : (c : Choice MkvgOptions) → SizedChoice c → ◌≡◌ {A = Result (MkvgOptions × Left) Misfit} (elim c [ NoOption ↦ Ok (o, record { words = w ∷ []; end = end }) | Alone with ↦ Ok (with, record { words = []; end = end }) | Valued read ↦ misfit end ]) (Ok v) → IsSized v.0
-    go NoOption fits same = let e : ◌≡◌ {A = MkvgOptions × Left} (o, record { words = w ∷ []; end = end }) v = cc (same) in subst (λ (x : MkvgOptions × Left). IsSized x.0) e sized
-    go (Alone with) fits same = let e : ◌≡◌ {A = MkvgOptions × Left} (with, record { words = []; end = end }) v = cc (same) in subst (λ (x : MkvgOptions × Left). IsSized x.0) e fits
-    go (Valued read) fits same = absurd (cc (same))
-options_are_sized o (w ∷ x ∷ words) end v sized is =
-    go (mkvg_choice o w.bytes) (choice_is_sized o w.bytes sized) (λ next fits. options_are_sized next (x ∷ words) end v fits) (λ next fits. options_are_sized next words end v fits) is
-  where
-    go : (c : Choice MkvgOptions) → SizedChoice c → ((next : MkvgOptions) → IsSized next → options_of mkvg_choice next (x ∷ words) end ≡ Ok v → IsSized v.0) → ((next : MkvgOptions) → IsSized next → options_of mkvg_choice next words end ≡ Ok v → IsSized v.0)
-        → ◌≡◌ {A = Result (MkvgOptions × Left) Misfit} (elim c [ NoOption ↦ Ok (o, record { words = w ∷ x ∷ words; end = end }) | Alone with ↦ options_of mkvg_choice with (x ∷ words) end | Valued read ↦ then_ (or_misfit (read x.bytes) x.column) (λ with. options_of mkvg_choice with words end) ]) (Ok v)
-        → IsSized v.0
-    go NoOption fits one two same = let e : ◌≡◌ {A = MkvgOptions × Left} (o, record { words = w ∷ x ∷ words; end = end }) v = cc (same) in subst (λ (y : MkvgOptions × Left). IsSized y.0) e sized
-    go (Alone with) fits one two same = one with fits same
-    go (Valued read) fits one two same = of_value (read x.bytes) refl same
-      where
-        of_value : (found : Option MkvgOptions) → read x.bytes ≡ found → then_ (or_misfit found x.column) (λ with. options_of mkvg_choice with words end) ≡ Ok v → IsSized v.0
-        of_value (Some with) found rest = two with (fits x.bytes with found) rest
-        of_value None found rest = absurd (cc (rest))
+    alone : (b : Bool) (mode : Mode) → (if b then Some Off else None) ≡ Some mode → mode ≡ Off
+    alone true mode same = cc (same)
+    alone false mode same = absurd (cc (same))
+
+choice_is_off : (o : MklvOptions) (word : List ℕ) → IsOff o → Keeping IsOff (mklv_choice o word)
+unfolding IsOff
+choice_is_off o word off =
+    keeping_if IsOff (is_new word (codes "-y") (is_some o.name)) _ _ (with_other (λ name. record o { name = Some name }) name_in (λ name. off))
+    (keeping_if IsOff (is_new word (codes "-c") (is_some o.copies)) _ _ (with_other (λ copies. record o { copies = Some copies }) copies_in (λ copies. off))
+    (keeping_if IsOff (is_new word (codes "-w") (is_some o.mode)) _ _ (with_mode o)
+    (keeping_if IsOff (is_new word (codes "-d") (is_some o.policy)) _ _ (with_other (λ policy. record o { policy = Some policy }) policy_in (λ policy. off)) tt)))
 
 -- ---- disks
 
@@ -174,7 +180,7 @@ fits_mkvg l = fits_then (options mkvg_choice no_mkvg_options l) _ (λ o options_
     whole : (o : MkvgOptions × Left) (all : List ℕ) → options mkvg_choice no_mkvg_options l ≡ Ok o → disks [] o.1 ≡ Ok all → (1 ≤ length all) × AllPairs (λ a b. a ≢ b) all × ForSome o.0.mib (λ given. IsTrue (is_size given))
     whole o all options_are disks_are =
         let differ = disks_differ [] o.1.words o.1.end all (λ i j d less within. absurd (omega (arith, within))) disks_are in
-        (differ.0, differ.1, options_are_sized no_mkvg_options l.words l.end o (λ given its. absurd (cc (its))) options_are)
+        (differ.0, differ.1, options_keep IsSized mkvg_choice choice_is_sized no_mkvg_options l.words l.end o (λ given its. absurd (cc (its))) options_are)
 
 fits_rd : (l : Left) → Fits (rd l)
 fits_rd l = fits_then (operand disk_in l) _ (λ disk d. fits_then (operand number_in disk.1) _ (λ at a. fits_then (operand count_in at.1) _ (λ count c. fits_ends count.1 (command.RawRd disk.0 at.0 count.0) (counted at.1 count c))))
@@ -193,30 +199,12 @@ unfolding Fits
 fits_lslv l = fits_if (option (codes "-m") l).0 _ _ (fits_then (last name_in (option (codes "-m") l).1) (λ name. Ok (command.Lslv name)) (λ name is. tt)) tt
 
 fits_mklv : (l : Left) → Fits (mklv l)
-unfolding Fits
-fits_mklv l = of_options (options mklv_choice no_mklv_options l)
+unfolding Fits IsOff options
+fits_mklv l = fits_then (options mklv_choice no_mklv_options l) _ (λ o options_are. fits_then (required o.0.name o.1) _ (λ name named. fits_then (required o.0.mode o.1) _ (λ mode mode_is.
+    fits_then (operand name_in o.1) _ (λ group in_group. fits_then (last partitions_in group.1) _ (λ lps partitions_are. (some_partitions group.1 lps partitions_are, in_mode o mode options_are mode_is))))))
   where
-    of_lps : (name : List ℕ) (copies : ℕ) (m : Mode) (p : Policy) (group : List ℕ) (r : Result ℕ Misfit) → Fits (then_ r (λ lps. Ok (command.Mklv name copies m p group lps)))
-    of_lps name copies m p group (Ok lps) = tt
-    of_lps name copies m p group (Err e) = tt
-
-    of_group : (name : List ℕ) (copies : ℕ) (m : Mode) (p : Policy) (r : Result (List ℕ × Left) Misfit) → Fits (then_ r (λ group. then_ (last partitions_in group.1) (λ lps. Ok (command.Mklv name copies m p group.0 lps))))
-    of_group name copies m p (Ok group) = of_lps name copies m p group.0 (last partitions_in group.1)
-    of_group name copies m p (Err e) = tt
-
-    of_mode : (o : MklvOptions × Left) (name : List ℕ) (r : Result Mode Misfit) → Fits (then_ r (λ mode. then_ (operand name_in o.1) (λ group. then_ (last partitions_in group.1) (λ lps. Ok (command.Mklv name (unwrap_or o.0.copies 1) mode (unwrap_or o.0.policy policy.Parallel) group.0 lps)))))
-    of_mode o name (Ok mode) = of_group name (unwrap_or o.0.copies 1) mode (unwrap_or o.0.policy policy.Parallel) (operand name_in o.1)
-    of_mode o name (Err e) = tt
-
-    of_name : (o : MklvOptions × Left) (r : Result (List ℕ) Misfit)
-        → Fits (then_ r (λ name. then_ (required o.0.mode o.1) (λ mode. then_ (operand name_in o.1) (λ group. then_ (last partitions_in group.1) (λ lps. Ok (command.Mklv name (unwrap_or o.0.copies 1) mode (unwrap_or o.0.policy policy.Parallel) group.0 lps))))))
-    of_name o (Ok name) = of_mode o name (required o.0.mode o.1)
-    of_name o (Err e) = tt
-
-    of_options : (r : Result (MklvOptions × Left) Misfit)
-        → Fits (then_ r (λ o. then_ (required o.0.name o.1) (λ name. then_ (required o.0.mode o.1) (λ mode. then_ (operand name_in o.1) (λ group. then_ (last partitions_in group.1) (λ lps. Ok (command.Mklv name (unwrap_or o.0.copies 1) mode (unwrap_or o.0.policy policy.Parallel) group.0 lps)))))))
-    of_options (Ok o) = of_name o (required o.0.name o.1)
-    of_options (Err e) = tt
+    in_mode : (o : MklvOptions × Left) (mode : Mode) → options mklv_choice no_mklv_options l ≡ Ok o → required o.0.mode o.1 ≡ Ok mode → mode ≡ Off
+    in_mode o mode options_are mode_is = options_keep IsOff mklv_choice choice_is_off no_mklv_options l.words l.end o (λ given its. absurd (cc (its))) options_are mode (found_of o.0.mode (next_column o.1) mode mode_is)
 
 fits_rule : (word : List ℕ) (column : ℕ) (l : Left) → Fits (rule word column l)
 unfolding Fits

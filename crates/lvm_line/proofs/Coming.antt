@@ -1,41 +1,29 @@
 -- How a group comes on, or doesn't.
-use Rattle.std.proofs.Common.{◌≡◌, ◌⊎◌, inl, inr, ⊎_elim, ◌+◌, ◌-◌, ◌^◌, ◌<◌, ◌≤◌, ◌∷◌, ◌++◌, [], ℕ, List, Bool, Option, Some, None, IfSome, if◌then◌else◌, true, false, min, refl, sym, ◌∙◌, ap, subst, arith}
-use Rattle.std.specs.Option.{option_and_then}
-use Rattle.lvm_disk.specs.Counts.{RoseBy}
+use Rattle.std.proofs.Common.{◌≡◌, ◌+◌, ◌<◌, ◌≤◌, [], ℕ, List, Option, Some, None, true, refl, sym, ◌∙◌, ap, subst, arith}
 use Rattle.lvm_disk.specs.Device.{Device, IsReady}
 use Rattle.lvm_disk.specs.Images.{LeavesNoMore}
 use Rattle.lvm_disk.proofs.Paths.{last-path}
 use Rattle.lvm_io.specs.Count.{Rose}
-use Rattle.lvm_vol.specs.Facts.{Fact, On}
+use Rattle.lvm_vol.specs.Facts.{Fact}
 use Rattle.lvm_vol.specs.Legal.{IsLater}
-use Rattle.lvm_vol.specs.Log.{Log, cut_log}
+use Rattle.lvm_vol.specs.Log.{Log}
 use Rattle.lvm_kept.specs.Moments.{Moment, StaysCalm}
 use Rattle.lvm_change.specs.Moments.{Keeps}
 use Rattle.lvm_change.specs.Requests.{at}
 use Rattle.lvm_change.proofs.Spans.{keeps_steps}
-use Rattle.lvm_move.specs.Transfer.{Relights}
 use Rattle.lvm_stamps.specs.Behind.{IsBehind, IsAhead, ClockIsAhead}
 use Rattle.lvm_stamps.proofs.Shelves.{no_more_stays_behind}
-use Rattle.lvm_num.specs.declared.record.Stamp.{Stamp}
-use Rattle.lvm_num.specs.declared.descriptor.Descriptor.{Descriptor}
-use Rattle.lvm_num.specs.declared.status.Status.{Status}
-use Rattle.lvm_num.specs.Descriptor.{is_member}
-use Rattle.lvm_mwc.specs.Cache.{no_notes}
-use Rattle.lvm_mwc.specs.declared.notes.DiskNotes.{DiskNotes}
-use Rattle.lvm_status.specs.Update.{Updates}
-use Rattle.lvm_quorum.specs.declared.homes.Homes.{Homes}
-use Rattle.lvm_core.specs.declared.parts.Room.{Room}
 use Rattle.lvm_core.specs.declared.refused.Cause.{Cause}
 use Rattle.lvm_core.specs.declared.refused.Cause.TheVariants as cause
 use Rattle.lvm_core.specs.Held.{IsHeld}
-use Rattle.lvm_core.specs.Sound.{IsQuiet, HaveAllLanded}
-use Rattle.lvm_core.specs.Starting.{Reserved, IsReservedFor, first_core}
+use Rattle.lvm_core.specs.Sound.{HaveAllLanded}
+use Rattle.lvm_core.specs.Settled.{IsSettled as IsSettledCore}
 use Rattle.lvm_core.specs.State.{Core}
-use Rattle.lvm_line.specs.Groups.{IsLit, IsLeftOn, IsLeftOff, refusal_of}
+use Rattle.lvm_line.specs.Groups.{IsLit, refusal_of}
 use Rattle.lvm_line.specs.Moments.{GoesOn}
 use Rattle.lvm_line.specs.Replies.{IsStuck}
 use Rattle.lvm_line.specs.Stages.{shelf_in, history_in, session_in, state_in}
-use Rattle.lvm_line.specs.State.{State, IsIdle, IsSettled, log_with}
+use Rattle.lvm_line.specs.State.{State, IsSettled}
 use Rattle.lvm_line.specs.declared.reply.Refusal.TheVariants as refusal
 use Rattle.lvm_line.specs.declared.reply.Reply.{Reply}
 use Rattle.lvm_line.specs.declared.stage.Stage.{Stage}
@@ -79,8 +67,9 @@ pub record LitUp (answer : Reply) (left new : Device) : Type 0 where
   pub waits : new.counts.waits ≡ left.counts.waits
   pub keeps : (run : ℕ) (first : Moment) (facts : List Fact) → Keeps run first (at left facts) → Keeps run first (at new facts)
   pub behind : (m : ℕ) → IsBehind m left → IsBehind m new
+  pub fewer : LeavesNoMore left new
 
-at_rest : (answer : Reply) (left new : Device) → IsReady left → new ≡ left → LitUp answer left new
+pub at_rest : (answer : Reply) (left new : Device) → IsReady left → new ≡ left → LitUp answer left new
 at_rest answer left new ready same = subst (λ (d : Device). LitUp answer left d) (sym same) (record {
   ready = λ goes. ready;
   power = ready.power;
@@ -88,6 +77,7 @@ at_rest answer left new ready same = subst (λ (d : Device). LitUp answer left d
   waits = refl;
   keeps = λ run first facts keeps. keeps;
   behind = λ m behind. behind;
+  fewer = λ image may. may;
 })
 
 pub lit_up : (why : Cause) (left new : Device) → Rests why left → IsLit why left new → LitUp (reply.Refused (refusal_of why)) left new
@@ -100,6 +90,7 @@ lit_up cause.Dark left new still lit =
       waits = ap (λ (d : Device). d.counts.waits) lit;
       keeps = λ run first facts keeps. keeps_steps run first left new facts keeps path;
       behind = λ m behind. no_more_stays_behind m left new still (last-path path) behind;
+      fewer = last-path path;
     }
 lit_up cause.Stuck left new power same = subst (λ (d : Device). LitUp (reply.Refused refusal.Stuck) left d) (sym same) (record {
   ready = λ goes. absurd (goes refl);
@@ -108,6 +99,7 @@ lit_up cause.Stuck left new power same = subst (λ (d : Device). LitUp (reply.Re
   waits = refl;
   keeps = λ run first facts keeps. keeps;
   behind = λ m behind. behind;
+  fewer = λ image may. may;
 })
 lit_up (cause.NoDisk disk) left new ready same = at_rest (reply.Refused (refusal.NoDisk disk)) left new ready same
 lit_up (cause.TooMany limit) left new ready same = at_rest (reply.Refused (refusal.TooMany limit)) left new ready same
@@ -144,9 +136,12 @@ module _ (run : ℕ) (old : State) (settled : IsSettled old.moment old.session) 
   left_off why left new promises leaves lit landed =
       let up = lit_up why left.device new leaves.rests lit in
       record {
-        keeps = λ timely. up.keeps run old.moment left.facts (promises.keeps (clock_is_ahead run old.last moment old.moment.device old.moment.facts rose timely));
-        timely = λ timely. ahead left.facts new timely (promises.later (moment + 1) (omega arith) (earlier (moment + 1) timely (let e = rose.later in omega (arith, e))))
-            (up.behind (moment + 1) (promises.behind (clock_is_ahead run old.last moment old.moment.device old.moment.facts rose timely)));
+        keeps = λ timely held alone. up.keeps run old.moment left.facts (promises.keeps (clock_is_ahead run old.last moment old.moment.device old.moment.facts rose timely.ahead));
+        timely = λ timely. record {
+          ahead = ahead left.facts new timely.ahead (promises.later (moment + 1) (omega arith) (earlier (moment + 1) timely.ahead (let e = rose.later in omega (arith, e))))
+              (up.behind (moment + 1) (promises.behind (clock_is_ahead run old.last moment old.moment.device old.moment.facts rose timely.ahead)));
+          session = tt;
+        };
         held = λ timely held. tt;
         calm = λ goes. promises.calm;
         settled = λ goes. record { ready = up.ready goes; landed = landed; session = tt };
@@ -156,38 +151,22 @@ module _ (run : ℕ) (old : State) (settled : IsSettled old.moment old.session) 
       }
 
   -- the group is on
-  pub left_on : (core : Core) (new : Device) → Promises run moment old.moment (at new core.history.facts) → IsReady new → IsIdle core → HaveAllLanded core.history.facts
+  pub left_on : (core : Core) (new : Device) → Promises run moment old.moment (at new core.history.facts) → IsReady new → IsSettledCore core → core.status.stamp.epoch ≡ moment → HaveAllLanded core.history.facts
       → (ClockIsAhead run moment old.moment.device old.moment.facts → IsHeld new core) → GoesOn run reply.Ok old (record { moment = at new core.history.facts; session = Some core; last = moment })
-  left_on core new promises ready idle landed held = record {
-    keeps = λ timely. promises.keeps (clock_is_ahead run old.last moment old.moment.device old.moment.facts rose timely);
-    timely = λ timely. ahead core.history.facts new timely (promises.later (moment + 1) (omega arith) (earlier (moment + 1) timely (let e = rose.later in omega (arith, e))))
-        (promises.behind (clock_is_ahead run old.last moment old.moment.device old.moment.facts rose timely));
-    held = λ timely before. held (clock_is_ahead run old.last moment old.moment.device old.moment.facts rose timely);
+  left_on core new promises ready idle epoch landed held = record {
+    keeps = λ timely held alone. promises.keeps (clock_is_ahead run old.last moment old.moment.device old.moment.facts rose timely.ahead);
+    timely = λ timely. record {
+      ahead = ahead core.history.facts new timely.ahead (promises.later (moment + 1) (omega arith) (earlier (moment + 1) timely.ahead (let e = rose.later in omega (arith, e))))
+          (promises.behind (clock_is_ahead run old.last moment old.moment.device old.moment.facts rose timely.ahead));
+      session = omega (arith, epoch);
+    };
+    held = λ timely before. held (clock_is_ahead run old.last moment old.moment.device old.moment.facts rose timely.ahead);
     calm = λ goes. promises.calm;
     settled = λ goes. record { ready = ready; landed = landed; session = idle };
     power = ready.power;
     waits = promises.waits;
     clock = rose.later;
   }
-
--- ---- a session that starts
-
--- an empty note has none in flight
-none_out : (disk : ℕ) (b : Bool) → option_and_then (λ (n : DiskNotes). n.flight) (if b then Some (no_notes disk) else None) ≡ None
-none_out disk true = refl
-none_out disk false = refl
-
--- nothing is under way
-pub starts_idle : (d : Descriptor) (s : Status) (room : Room) (r : Reserved) (log : Log) (stamp : Stamp) (homes : Homes) → IsReservedFor d s room r → IsIdle (first_core r log stamp homes)
-starts_idle d s room r log stamp homes reserved = record {
-  power = refl;
-  quiet = record {
-    requests = reserved.requests;
-    copy = refl;
-    status = ap (λ (u : Updates). u.in_flight) reserved.status;
-    notes = λ disk. ap (option_and_then (λ (n : DiskNotes). n.flight)) (reserved.cache.notes disk) ∙ none_out disk (is_member d disk);
-  };
-}
 
 -- ---- a stage at which no group is on
 

@@ -1,5 +1,5 @@
 -- What a power cut that is arranged does to a state at which nothing is under way.
-use Rattle.std.proofs.Common.{◌≡◌, ◌⊎◌, inl, inr, ⊎_elim, ◌+◌, ◌≤◌, ◌∷◌, ◌++◌, [], ℕ, List, Bool, true, false, Option, Some, None, IfSome, if◌then◌else◌, refl, sym, ◌∙◌, ap, subst, arith}
+use Rattle.std.proofs.Common.{◌≡◌, inl, inr, ◌+◌, ◌≤◌, ◌∷◌, ◌++◌, [], ℕ, List, Bool, true, false, Option, Some, None, IfSome, if◌then◌else◌, refl, sym, ◌∙◌, ap, subst, arith}
 use Rattle.std.proofs.lemmas.List.{append-nil}
 use Rattle.lvm_disk.specs.Device.{Device, IsReady}
 use Rattle.lvm_disk.specs.Images.{LeavesNoMore}
@@ -16,20 +16,20 @@ use Rattle.lvm_change.specs.Moments.{Keeps}
 use Rattle.lvm_change.specs.Requests.{at}
 use Rattle.lvm_change.proofs.Spans.{keeps_still, keeps_steps}
 use Rattle.lvm_change.proofs.Entering.{quiet_goes_on, calm_goes_on}
-use Rattle.lvm_stamps.specs.Behind.{IsBehind, IsAhead}
+use Rattle.lvm_stamps.specs.Behind.{IsBehind}
 use Rattle.lvm_stamps.proofs.Shelves.{no_more_stays_behind}
 use Rattle.lvm_stamps.proofs.Clock.{later_joins}
 use Rattle.lvm_move.specs.Transfer.{Relights}
 use Rattle.lvm_core.specs.declared.request.Open.{Open}
 use Rattle.lvm_core.specs.Dark.{dark_log}
+use Rattle.lvm_core.specs.Settled.{IsSettled as IsSettledCore}
 use Rattle.lvm_core.specs.State.{Core}
 use Rattle.lvm_core.specs.Held.{IsHeld}
-use Rattle.lvm_core.specs.Sound.{HaveAllLanded}
 use Rattle.lvm_core.proofs.Telling.{open_cut}
 use Rattle.lvm_line.specs.Moments.{GoesOn}
 use Rattle.lvm_line.specs.Shelves.{IsCut, CutDoes, PowerIsCut}
 use Rattle.lvm_line.specs.Stages.{shelf_in, history_in, session_in, state_in, IsSettledStage, Between, history_after, GivesBack}
-use Rattle.lvm_line.specs.State.{State, IsIdle, IsSettled, log_with, without_facts}
+use Rattle.lvm_line.specs.State.{State, IsSettled, log_with, without_facts}
 use Rattle.lvm_line.specs.declared.reply.Reply.{Reply}
 use Rattle.lvm_line.specs.declared.reply.Reply.TheVariants as reply
 use Rattle.lvm_line.specs.declared.stage.Stage.{Stage}
@@ -78,12 +78,15 @@ module _ (log : Log) (word : ℕ) (old new : State) (settled : IsSettled old.mom
 
   pub cut_goes : (answer : Reply) → GoesOn log.run answer old new
   cut_goes answer = record {
-    keeps = λ timely. subst (λ (facts : List Fact). Keeps log.run old.moment (at new.moment.device facts)) (sym cut.facts)
+    keeps = λ timely held alone. subst (λ (facts : List Fact). Keeps log.run old.moment (at new.moment.device facts)) (sym cut.facts)
         (cut_keeps log.run old.moment new.moment.device (log_with log old.moment.facts) (keeps_steps log.run old.moment first new.moment.device old.moment.facts (keeps_still log.run old.moment) path));
     timely = λ timely. record {
-      run_is = let e = timely.run_is in let same = cut.clock in omega (arith, e, same);
-      later = subst (λ (facts : List Fact). IsLater facts (new.last + 1)) (sym cut.facts) (cut_later (new.last + 1) (log_with log old.moment.facts) (subst (λ (n : ℕ). IsLater old.moment.facts (n + 1)) (sym cut.clock) timely.later));
-      behind = no_more_stays_behind (new.last + 1) first new.moment.device settled.ready.flights (last-path path) (subst (λ (n : ℕ). IsBehind (n + 1) first) (sym cut.clock) timely.behind);
+      ahead = record {
+        run_is = let e = timely.ahead.run_is in let same = cut.clock in omega (arith, e, same);
+        later = subst (λ (facts : List Fact). IsLater facts (new.last + 1)) (sym cut.facts) (cut_later (new.last + 1) (log_with log old.moment.facts) (subst (λ (n : ℕ). IsLater old.moment.facts (n + 1)) (sym cut.clock) timely.ahead.later));
+        behind = no_more_stays_behind (new.last + 1) first new.moment.device settled.ready.flights (last-path path) (subst (λ (n : ℕ). IsBehind (n + 1) first) (sym cut.clock) timely.ahead.behind);
+      };
+      session = subst (λ (s : Option Core). IfSome s (λ core. core.status.stamp.epoch ≤ new.last)) (sym cut.session) tt;
     };
     held = λ timely held. subst (λ (s : Option Core). IfSome s (λ core. IsHeld new.moment.device core)) (sym cut.session) tt;
     calm = λ goes. subst (λ (facts : List Fact). StaysCalm old.moment (at new.moment.device facts)) (sym cut.facts) (cut_calm old.moment new.moment.device (log_with log old.moment.facts) (λ past calm. calm));
@@ -94,7 +97,7 @@ module _ (log : Log) (word : ℕ) (old new : State) (settled : IsSettled old.mom
         power = ap (λ (d : Device). d.power) cut.lit;
       };
       landed = λ id. ap (λ (facts : List Fact). is_open facts id) cut.facts ∙ open_cut (log_with log old.moment.facts) id ∙ settled.landed id;
-      session = subst (λ (s : Option Core). IfSome s IsIdle) (sym cut.session) tt;
+      session = subst (λ (s : Option Core). IfSome s IsSettledCore) (sym cut.session) tt;
     };
     power = ap (λ (d : Device). d.power) cut.lit;
     waits = let same : new.moment.device.counts.waits ≡ old.moment.device.counts.waits = ap (λ (d : Device). d.counts.waits) cut.lit ∙ ap (λ (d : Device). d.counts.waits) cuts.new_is in omega (arith, same);
@@ -130,7 +133,7 @@ cut_rooms log = go (is_uncut log.facts) refl
 dark_alone : (log : Log) (requests : List Open) → requests ≡ [] → dark_log log requests ≡ cut_log log
 dark_alone log requests none = ap (dark_log log) none ∙ ap (λ (facts : List Fact). log_with (cut_log log) facts) (append-nil (cut_log log).facts)
 
-pub cut_history : (word : ℕ) (log : Log) (session : Option Core) → ((core : Core) → session ≡ Some core → core.history ≡ log) → IfSome session IsIdle → cut_log (history_after (arrange.Cut word) true log session) ≡ cut_log log
+pub cut_history : (word : ℕ) (log : Log) (session : Option Core) → ((core : Core) → session ≡ Some core → core.history ≡ log) → IfSome session IsSettledCore → cut_log (history_after (arrange.Cut word) true log session) ≡ cut_log log
 cut_history word log None its idle = refl
 cut_history word log (Some core) its idle = ap cut_log (dark_alone core.history core.requests idle.quiet.requests) ∙ cut_twice core.history ∙ ap cut_log (its core refl)
 

@@ -1,5 +1,5 @@
 -- How states go on: where nothing changes, and steps of the shelf.
-use Rattle.std.proofs.Common.{◌≡◌, ◌+◌, ◌≤◌, ◌∷◌, [], ℕ, List, Bool, true, false, Option, None, refl, sym, ◌∙◌, ap, subst, arith}
+use Rattle.std.proofs.Common.{◌≡◌, ◌+◌, ◌≤◌, ◌∷◌, [], ℕ, List, true, Option, Some, None, IfSome, refl, sym, ◌∙◌, ap, subst, arith}
 use Rattle.lvm_num.specs.Buffer.{Buffer}
 use Rattle.lvm_disk.specs.Device.{Device, MayLeave, IsReady}
 use Rattle.lvm_disk.specs.Images.{LeavesNoMore}
@@ -25,7 +25,7 @@ use Rattle.lvm_line.specs.declared.reply.Reply.{Reply}
 -- where nothing changes
 pub still_goes : (run : ℕ) (answer : Reply) (s : State) → IsSettled s.moment s.session → GoesOn run answer s s
 still_goes run answer s settled = record {
-  keeps = λ timely. keeps_still run s.moment;
+  keeps = λ timely held alone. keeps_still run s.moment;
   timely = λ timely. timely;
   held = λ timely held. held;
   calm = λ goes past calm. calm;
@@ -46,11 +46,19 @@ ahead_later run moment later device facts le ahead = record {
   behind = later_is_ahead_too moment later device le ahead.behind;
 }
 
+-- a session's moment is up to each later one
+pub session_later : (session : Option Core) (moment later : ℕ) → moment ≤ later → IfSome session (λ core. core.status.stamp.epoch ≤ moment) → IfSome session (λ core. core.status.stamp.epoch ≤ later)
+session_later None moment later le up_to = tt
+session_later (Some core) moment later le up_to = omega (arith, le, up_to)
+
 -- the clock alone was asked
 pub asked_goes : (run : ℕ) (answer : Reply) (old new : State) → IsSettled old.moment old.session → IsAsked old new → GoesOn run answer old new
 asked_goes run answer old new settled asked = subst (λ (s : State). GoesOn run answer old s) (sym asked.same) (record {
-  keeps = λ timely. keeps_still run old.moment;
-  timely = λ timely. ahead_later run (old.last + 1) (new.last + 1) old.moment.device old.moment.facts (omega (arith, later)) timely;
+  keeps = λ timely held alone. keeps_still run old.moment;
+  timely = λ timely. record {
+    ahead = ahead_later run (old.last + 1) (new.last + 1) old.moment.device old.moment.facts (omega (arith, later)) timely.ahead;
+    session = session_later old.session old.last new.last later timely.session;
+  };
   held = λ timely held. held;
   calm = λ goes past calm. calm;
   settled = λ goes. settled;
@@ -65,8 +73,8 @@ asked_goes run answer old new settled asked = subst (λ (s : State). GoesOn run 
 -- a session ends, and nothing else changes
 pub ended_goes : (run : ℕ) (answer : Reply) (old new : State) → IsSettled old.moment old.session → EndsSession old new → GoesOn run answer old new
 ended_goes run answer old new settled ends = subst (λ (s : State). GoesOn run answer old s) (sym is) (record {
-  keeps = λ timely. keeps_still run old.moment;
-  timely = λ timely. timely;
+  keeps = λ timely held alone. keeps_still run old.moment;
+  timely = λ timely. record { ahead = timely.ahead; session = tt };
   held = λ timely held. tt;
   calm = λ goes past calm. calm;
   settled = λ goes. record { ready = settled.ready; landed = settled.landed; session = tt };
@@ -95,8 +103,11 @@ pub record Ranges (run : ℕ) (stuck : Type 0) (old new : Moment) : Type 0 where
 pub ranges_go : (run : ℕ) (answer : Reply) (old new : Moment) (last : ℕ) (stuck : Type 0) → (stuck → IsStuck answer) → Ranges run stuck old new
     → GoesOn run answer (record { moment = old; session = None; last = last }) (record { moment = new; session = None; last = last })
 ranges_go run answer old new last stuck says ranges = record {
-  keeps = λ timely. ranges.keeps;
-  timely = λ timely. record { run_is = timely.run_is; later = ranges.later (last + 1) timely.later; behind = ranges.behind (last + 1) timely.behind };
+  keeps = λ timely held alone. ranges.keeps;
+  timely = λ timely. record {
+    ahead = record { run_is = timely.ahead.run_is; later = ranges.later (last + 1) timely.ahead.later; behind = ranges.behind (last + 1) timely.ahead.behind };
+    session = tt;
+  };
   held = λ timely held. tt;
   calm = λ goes. ranges.calm (λ is. goes (says is));
   settled = λ goes. record { ready = ranges.ready (λ is. goes (says is)); landed = ranges.landed (λ is. goes (says is)); session = tt };

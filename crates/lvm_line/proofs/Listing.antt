@@ -1,5 +1,5 @@
 -- What is found in a descriptor.
-use Rattle.std.proofs.Common.{◌≡◌, ◌<◌, ◌+◌, zero, suc, ℕ, List, [], ◌∷◌, length, Bool, true, false, ◌||◌, Option, Some, None, is_some, get_or, if◌then◌else◌, eq-eqb, refl, sym, ◌∙◌, ap, subst, arith}
+use Rattle.std.proofs.Common.{◌≡◌, ℕ, List, [], ◌∷◌, Bool, true, false, ◌||◌, Option, Some, None, is_some, if◌then◌else◌, eq-eqb, refl, sym, ◌∙◌, ap}
 use Rattle.std.specs.Prelude.{◌==◌, IsSome, Contains}
 use Rattle.std.specs.List.{find, list_any}
 use Rattle.std.proofs.lemmas.List.Elements.{All-contains}

@@ -1,36 +1,35 @@
 -- `mkvg`, by how its call ends.
-use Rattle.std.proofs.Common.{◌≡◌, ◌⊎◌, inl, inr, ⊎_elim, ◌+◌, ◌-◌, ◌<◌, ◌≤◌, ◌∷◌, ◌++◌, [], ℕ, List, Bool, false, Option, Some, None, Result, Ok, Err, IfOk, IfErr, MatchResult, refl, sym, ◌∙◌, ap, subst, arith}
-use Rattle.lvm_disk.specs.Counts.{RoseBy}
+use Rattle.std.proofs.Common.{◌≡◌, inl, inr, ◌+◌, ◌≤◌, ◌∷◌, ◌++◌, [], ℕ, List, Bool, false, Option, None, Result, Ok, Err, IfOk, IfErr, refl, sym, ◌∙◌, ap, subst}
 use Rattle.lvm_disk.specs.Device.{Device, IsReady}
 use Rattle.lvm_io.specs.Count.{Rose}
 use Rattle.lvm_vol.specs.Facts.{Fact, On}
 use Rattle.lvm_vol.specs.Legal.{IsLater}
-use Rattle.lvm_vol.specs.Log.{Log, cut_log, is_open}
+use Rattle.lvm_vol.specs.Log.{Log, is_open}
 use Rattle.lvm_kept.specs.Moments.{StaysCalm}
 use Rattle.lvm_change.specs.Moments.{Keeps}
 use Rattle.lvm_change.specs.Requests.{at}
 use Rattle.lvm_stamps.specs.Behind.{IsBehind, ClockIsAhead}
-use Rattle.lvm_stamps.proofs.Clock.{on_is_earlier, later_joins}
+use Rattle.lvm_stamps.proofs.Clock.{later_joins}
 use Rattle.lvm_core.specs.declared.parts.Room.{Room}
 use Rattle.lvm_core.specs.declared.refused.Cause.{Cause}
 use Rattle.lvm_core.specs.declared.refused.Cause.TheVariants as cause
 use Rattle.lvm_core.specs.declared.refused.Refused.{Refused}
 use Rattle.lvm_core.specs.Held.{IsHeld}
 use Rattle.lvm_core.specs.Sound.{HaveAllLanded}
+use Rattle.lvm_core.specs.Settled.{IsSettled as IsSettledCore, HasNumbers}
 use Rattle.lvm_core.specs.State.{Core}
 use Rattle.lvm_line.specs.Disks.{patience_of_line}
-use Rattle.lvm_line.specs.Groups.{IsLit, refusal_of, MkvgDoes, MakesGroup, MkvgFails, asked_for}
+use Rattle.lvm_line.specs.Groups.{MkvgDoes, MakesGroup, MkvgFails, asked_for}
 use Rattle.lvm_line.specs.Moments.{GoesOn}
-use Rattle.lvm_line.specs.Stages.{shelf_in, history_in, session_in, state_in, IsSettledStage}
-use Rattle.lvm_line.specs.State.{State, IsIdle, without_facts}
+use Rattle.lvm_line.specs.Stages.{shelf_in, history_in, state_in, IsSettledStage}
+use Rattle.lvm_line.specs.State.{State, without_facts}
 use Rattle.lvm_line.specs.declared.reply.Reply.{Reply}
-use Rattle.lvm_line.specs.declared.reply.Reply.TheVariants as reply
 use Rattle.lvm_line.specs.declared.stage.Stage.{Stage}
 use Rattle.lvm_line.specs.declared.stage.Stage.TheVariants as stage
-use Rattle.lvm_line.proofs.Coming.{Rests, Leaves, Promises, lit_up, left_off, left_on, starts_idle, off_is}
+use Rattle.lvm_line.proofs.Coming.{Rests, Leaves, lit_up, left_off, left_on, off_is}
 use Rattle.lvm_line.proofs.Passive.{Bears, bears_cut, bears_given_up, landed_bears, later_bears, open_more}
 use Rattle.lvm_group.specs.NewGroup.{NewGroup, given_up}
-use Rattle.lvm_group.specs.Made.{IsMade, Refuses, MkvgGives, shelf_left, history_left}
+use Rattle.lvm_group.specs.Made.{Refuses, MkvgGives, shelf_left, history_left}
 use Rattle.lvm_line.proofs.Cutting.{cut_rooms}
 use Rattle.lvm_line.proofs.Varying.{Left}
 
@@ -101,6 +100,7 @@ module _ (w : NewGroup) (patience : ℕ) (was is : Log) (old left : Device) (rea
 pub record Called {S : Type 0} (device : S → Device) (shelf : S) (log : Log) (w : NewGroup) (room : Room) (outcome : Result (S × Core) (Refused S)) : Type 0 where
   pub gives : MkvgGives device w room patience_of_line log (device shelf) outcome
   pub held : ClockIsAhead log.run w.moment (device shelf) log.facts → IfOk outcome (λ driver. IsHeld (device driver.0) driver.1)
+  pub settled : IfOk outcome (λ driver. IsSettledCore driver.1 × HasNumbers driver.1)
   pub waited : (device shelf).counts.waits ≤ (device (shelf_left outcome)).counts.waits
   pub keeps : ClockIsAhead log.run w.moment (device shelf) log.facts → Keeps log.run (at (device shelf) log.facts) (at (device (shelf_left outcome)) (history_left outcome).facts)
   pub calm : StaysCalm (at (device shelf) log.facts) (at (device (shelf_left outcome)) (history_left outcome).facts)
@@ -138,7 +138,8 @@ module _ {S : Type 0} (device : S → Device) (shelf : S) (log : Log) (force : B
         later = λ m lt later. subst (λ (l : List Fact). IsLater l m) (sym facts) (later_joins m (given_up log disks).facts (On moment ∷ []) (bears_given_up (λ l. IsLater l m) (later_bears m) log.facts disks later) (lt, tt));
       })
       called.gives.rested.ready
-      (subst IsIdle (sym is) (starts_idle _ _ room called.gives.reserved (given_up log disks) _ called.gives.next called.gives.parts))
+      called.settled.0
+      (ap (λ (c : Core). c.status.stamp.epoch) is)
       (λ id. subst (λ (l : List Fact). is_open l id ≡ false) (sym facts) (open_more (given_up log disks).facts (On moment) id refl refl ∙ bears_given_up HaveAllLanded landed_bears log.facts disks settled.landed id))
       called.held))
   goes (Err refused) called left =

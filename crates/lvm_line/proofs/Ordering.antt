@@ -1,5 +1,5 @@
 -- Orders to the shelf of a stage.
-use Rattle.std.proofs.Common.{◌≡◌, ◌⊎◌, inl, inr, ◌<◌, ◌+◌, ◌≤◌, ◌++◌, [], ℕ, List, Bool, true, false, Option, Some, None, length, refl, sym, ◌∙◌, ap, subst, arith}
+use Rattle.std.proofs.Common.{◌≡◌, ◌⊎◌, inl, inr, ℕ, true, false, Option, Some, None, refl, sym, ◌∙◌, ap, subst, arith}
 use Rattle.std.specs.Option.{option_map}
 use Rattle.lvm_disk.specs.Device.{Device}
 use Rattle.lvm_disk.specs.Images.{LeavesNoMore}
@@ -8,20 +8,18 @@ use Rattle.lvm_disk.specs.Steps.{with_order, Arranges, ArrangeGives}
 use Rattle.lvm_disk.specs.declared.shelf.Arrange.{Arrange}
 use Rattle.lvm_disk.specs.declared.shelf.Arrange.TheVariants as arrange
 use Rattle.lvm_disk.proofs.Stepping.{arrange_leaves}
-use Rattle.lvm_vol.specs.Facts.{Fact}
-use Rattle.lvm_vol.specs.Log.{Log, cut_log}
+use Rattle.lvm_vol.specs.Log.{Log}
 use Rattle.lvm_change.proofs.Spans.{keeps_still, keeps_steps}
 use Rattle.lvm_core.specs.Dark.{after_arrange}
 use Rattle.lvm_core.specs.State.{Core}
 use Rattle.lvm_line.specs.Moments.{GoesOn}
-use Rattle.lvm_line.specs.Shelves.{over, ArrangeDoes, NotThere, NotPlanned, IsArranged}
+use Rattle.lvm_line.specs.Shelves.{over}
 use Rattle.lvm_line.specs.Stages.{shelf_in, history_in, session_in, moment_in, state_in, IsSettledStage, Between, history_after}
-use Rattle.lvm_line.specs.State.{State, IsSettled}
+use Rattle.lvm_line.specs.State.{State}
 use Rattle.lvm_line.specs.declared.reply.Reply.{Reply}
-use Rattle.lvm_line.specs.declared.reply.Reply.TheVariants as reply
 use Rattle.lvm_line.specs.declared.stage.Stage.{Stage}
 use Rattle.lvm_line.specs.declared.stage.Stage.TheVariants as stage
-use Rattle.lvm_line.proofs.Going.{still_goes, same_goes}
+use Rattle.lvm_line.proofs.Going.{same_goes}
 
 -- a stage that stays
 pub stays : {S : Type 0} (device : S → Device) (old new : Stage S) (run : ℕ) (answer : Reply) → IsSettledStage device old → new ≡ old → Between device old new (GoesOn run answer)
@@ -73,8 +71,8 @@ module _ {S : Type 0} (device : S → Device) (old new : Stage S) (disk : ℕ) (
 
   pub arranged_goes : (run : ℕ) (answer : Reply) → IsSettledStage device old → Between device old new (GoesOn run answer)
   arranged_goes run answer settled = λ last. subst (λ (s : State). GoesOn run answer (state_in device old last) s) (sym (arranged_is last)) (record {
-    keeps = λ timely. keeps_steps run (moment_in device old) (device (shelf_in old)) (with_order (device (shelf_in old)) what) (history_in old).facts (keeps_still run (moment_in device old)) path;
-    timely = λ timely. record { run_is = timely.run_is; later = timely.later; behind = timely.behind };
+    keeps = λ timely held alone. keeps_steps run (moment_in device old) (device (shelf_in old)) (with_order (device (shelf_in old)) what) (history_in old).facts (keeps_still run (moment_in device old)) path;
+    timely = λ timely. record { ahead = record { run_is = timely.ahead.run_is; later = timely.ahead.later; behind = timely.ahead.behind }; session = timely.session };
     held = λ timely held. held;
     calm = λ goes past calm. calm;
     settled = λ goes. record { ready = record { flights = settled.ready.flights; freed = settled.ready.freed; power = settled.ready.power }; landed = settled.landed; session = settled.session };

@@ -1,11 +1,11 @@
 -- Entries that begin nothing and land nothing: a cut, contents that are given up, and the varying on of a group.
-use Rattle.std.proofs.Common.{◌≡◌, ◌+◌, ◌<◌, ◌≤◌, ◌∷◌, ◌++◌, [], ℕ, List, Bool, Option, Some, None, true, false, not, is_some, if◌then◌else◌, ◌&&◌, ◌||◌, refl, sym, ◌∙◌, ap, subst, arith, append_assoc, map}
-use Rattle.std.specs.List.{filter_map, list_any, find, cons_option}
+use Rattle.std.proofs.Common.{◌≡◌, ◌∷◌, ◌++◌, [], ℕ, List, Bool, Option, None, true, false, not, is_some, if◌then◌else◌, ◌&&◌, ◌||◌, refl, sym, ◌∙◌, ap, subst, append_assoc, map}
+use Rattle.std.specs.List.{list_any, find, cons_option}
 use Rattle.std.proofs.lemmas.List.{append-nil}
 use Rattle.std.proofs.lemmas.List.Elements.{filter_map-append}
 use Rattle.std.proofs.lemmas.List.Folds.{list_any-append}
 use Rattle.lvm_vol.specs.declared.entry.Vol.TheVariants.{Disk}
-use Rattle.lvm_vol.specs.Facts.{Fact, Request, Removed, On, Cut, begun, begun_by}
+use Rattle.lvm_vol.specs.Facts.{Fact, Request, Removed, Cut, begun, begun_by}
 use Rattle.lvm_vol.specs.Log.{Log, asked, has_id, is_open, lands_id, is_uncut, cut_log}
 use Rattle.lvm_vol.specs.Legal.{IsLater}
 use Rattle.lvm_stamps.proofs.Clock.{later_joins}

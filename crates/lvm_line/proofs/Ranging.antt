@@ -1,5 +1,5 @@
 -- Lines that read or write ranges of disks.
-use Rattle.std.proofs.Common.{◌≡◌, ◌≤◌, ℕ, List, Bool, true, Option, None, Result, Ok, Err, IfOk, IfErr, refl, sym, ◌∙◌, ap, subst}
+use Rattle.std.proofs.Common.{◌≡◌, ℕ, List, Result, Ok, Err, IfOk, IfErr, refl, ◌∙◌, ap, subst}
 use Rattle.lvm_num.specs.Buffer.{Sector}
 use Rattle.lvm_disk.specs.Counts.{Rose, RoseBy}
 use Rattle.lvm_disk.specs.Device.{Device}

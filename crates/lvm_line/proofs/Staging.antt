@@ -1,12 +1,12 @@
 -- States of stages.
-use Rattle.std.proofs.Common.{◌≡◌, ℕ, List, Bool, true, false, Option, Some, None, IsSome, IfSome, refl, sym, ◌∙◌, ap, subst}
+use Rattle.std.proofs.Common.{◌≡◌, ℕ, Option, Some, None, IsSome, IfSome, refl, sym, ap, subst}
 use Rattle.lvm_disk.specs.Device.{Device}
 use Rattle.lvm_io.specs.Count.{Rose}
 use Rattle.lvm_vol.specs.Log.{Log}
 use Rattle.lvm_core.specs.State.{Core}
 use Rattle.lvm_line.specs.Groups.{IsAsked}
-use Rattle.lvm_line.specs.Stages.{history_in, moment_in, session_in, state_in, IsSettledStage, Between}
-use Rattle.lvm_line.specs.State.{State, IsSettled}
+use Rattle.lvm_line.specs.Stages.{history_in, state_in, IsSettledStage, Between}
+use Rattle.lvm_line.specs.State.{State}
 use Rattle.lvm_line.specs.declared.stage.Stage.{Stage}
 
 -- what holds of the states of two stages holds of those that they are

@@ -1,34 +1,34 @@
 -- `varyonvg`, by how its call ends.
-use Rattle.std.proofs.Common.{◌≡◌, ◌⊎◌, inl, inr, ⊎_elim, ◌+◌, ◌-◌, ◌<◌, ◌≤◌, ◌∷◌, ◌++◌, [], ℕ, List, Bool, false, Option, Some, None, Result, Ok, Err, IfOk, IfErr, MatchResult, refl, sym, ◌∙◌, ap, subst, arith}
+use Rattle.std.proofs.Common.{◌≡◌, ⊎_elim, ◌≤◌, ◌∷◌, ◌++◌, [], ℕ, List, false, None, Result, Ok, Err, IfOk, IfErr, MatchResult, refl, sym, ◌∙◌, ap, subst}
 use Rattle.lvm_disk.specs.Counts.{RoseBy}
 use Rattle.lvm_disk.specs.Device.{Device, IsReady}
 use Rattle.lvm_io.specs.Count.{Rose}
 use Rattle.lvm_vol.specs.Facts.{Fact, On}
 use Rattle.lvm_vol.specs.Legal.{IsLater}
-use Rattle.lvm_vol.specs.Log.{Log, cut_log, is_open}
+use Rattle.lvm_vol.specs.Log.{Log, is_open}
 use Rattle.lvm_kept.specs.Moments.{StaysCalm}
-use Rattle.lvm_change.specs.Moments.{Keeps}
 use Rattle.lvm_change.specs.Requests.{at}
-use Rattle.lvm_stamps.specs.Behind.{IsBehind, ClockIsAhead}
-use Rattle.lvm_stamps.proofs.Clock.{on_is_earlier, later_joins}
+use Rattle.lvm_stamps.specs.Behind.{ClockIsAhead}
+use Rattle.lvm_stamps.proofs.Clock.{later_joins}
 use Rattle.lvm_core.specs.declared.parts.Room.{Room}
 use Rattle.lvm_core.specs.declared.refused.Cause.{Cause}
 use Rattle.lvm_core.specs.declared.refused.Cause.TheVariants as cause
 use Rattle.lvm_core.specs.declared.refused.Refused.{Refused}
 use Rattle.lvm_core.specs.Held.{IsHeld}
 use Rattle.lvm_core.specs.Sound.{HaveAllLanded}
+use Rattle.lvm_core.specs.Settled.{IsSettled as IsSettledCore, HasNumbers}
 use Rattle.lvm_core.specs.State.{Core}
 use Rattle.lvm_line.specs.Disks.{patience_of_line}
 use Rattle.lvm_line.specs.Groups.{IsLit, refusal_of, VaryonDoes, VariesOn, VaryonFails}
 use Rattle.lvm_line.specs.Moments.{GoesOn}
 use Rattle.lvm_line.specs.Stages.{shelf_in, history_in, session_in, state_in, IsSettledStage}
-use Rattle.lvm_line.specs.State.{State, IsIdle, without_facts}
+use Rattle.lvm_line.specs.State.{State, without_facts}
 use Rattle.lvm_line.specs.declared.reply.Reply.{Reply}
 use Rattle.lvm_line.specs.declared.reply.Reply.TheVariants as reply
 use Rattle.lvm_line.specs.declared.stage.Stage.{Stage}
 use Rattle.lvm_line.specs.declared.stage.Stage.TheVariants as stage
-use Rattle.lvm_line.proofs.Coming.{Rests, Leaves, Promises, lit_up, left_off, left_on, starts_idle, off_is}
-use Rattle.lvm_line.proofs.Passive.{Bears, bears_cut, bears_given_up, landed_bears, later_bears, open_more}
+use Rattle.lvm_line.proofs.Coming.{Rests, Leaves, lit_up, left_off, left_on, off_is}
+use Rattle.lvm_line.proofs.Passive.{Bears, bears_cut, landed_bears, later_bears, open_more}
 use Rattle.lvm_line.proofs.Cutting.{cut_rooms}
 use Rattle.lvm_varyon.specs.Varied.{ComesOn, IsRestated, Refuses, KeepsAll, StaysBehind, log_after}
 
@@ -71,6 +71,7 @@ after_bears P bears cause.GroupExists log holds = holds
 pub record Called {S : Type 0} (device : S → Device) (shelf : S) (log : Log) (name : List ℕ) (moment : ℕ) (room : Room) (outcome : Result (S × Core) (Refused S)) : Type 0 where
   pub on : IfOk outcome (λ driver. ComesOn (device shelf) (device driver.0) log name moment room driver.1)
   pub held : IfOk outcome (λ driver. ClockIsAhead log.run moment (device shelf) log.facts → IsHeld (device driver.0) driver.1)
+  pub settled : IfOk outcome (λ driver. IsSettledCore driver.1 × HasNumbers driver.1)
   pub restated : IfOk outcome (λ driver. ClockIsAhead log.run moment (device shelf) log.facts → IsRestated (device shelf) (device driver.0) driver.1.descriptor)
   pub refused : IfErr outcome (λ refused. Refuses (device shelf) (device refused.shelf) name moment patience_of_line log refused.cause)
   pub history : IfErr outcome (λ refused. refused.history ≡ log_after refused.cause log)
@@ -121,7 +122,8 @@ module _ {S : Type 0} (device : S → Device) (shelf : S) (log : Log) (name : Li
         later = λ m lt later. subst (λ (l : List Fact). IsLater l m) (sym facts) (later_joins m log.facts (On moment ∷ []) later (lt, tt));
       })
       called.on.written.writes.how.rested.ready
-      (subst IsIdle (sym is) (starts_idle _ _ room called.on.first.parts log _ driver.1.homes called.on.first.reserved))
+      called.settled.0
+      (ap (λ (c : Core). c.status.stamp.epoch) is)
       (λ id. subst (λ (l : List Fact). is_open l id ≡ false) (sym facts) (open_more log.facts (On moment) id refl refl ∙ settled.landed id))
       called.held))
   goes (Err refused) called left =

@@ -7,5 +7,6 @@ pub mod Shelves
 pub mod Listings
 pub mod Disks
 pub mod Groups
+pub mod Volumes
 pub mod Lines
 pub mod Causes

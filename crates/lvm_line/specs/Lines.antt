@@ -1,7 +1,8 @@
 -- What one line of a script does.
-use Rattle.std.specs.Prelude.{◌≡◌, ◌≢◌, ◌≤◌, ℕ, List, Option, Some, None, Result, Ok, Err, IsSome, IsTrue, length, AllPairs}
+use Rattle.std.specs.Prelude.{◌≡◌, ◌≢◌, ◌≤◌, ℕ, List, Option, Some, None, Result, Ok, Err, IsTrue, length, AllPairs}
 use Rattle.std.specs.Option.{ForSome}
 use Rattle.lvm_num.specs.Descriptor.{is_size}
+use Rattle.lvm_num.specs.declared.descriptor.Mode.TheVariants.{Off}
 use Rattle.lvm_disk.specs.declared.shelf.Arrange.TheVariants as arrange
 use Rattle.lvm_vol.specs.Log.{Log}
 use Rattle.lvm_parse.specs.declared.command.Command.{Command}
@@ -9,14 +10,14 @@ use Rattle.lvm_parse.specs.declared.command.Command.TheVariants as command
 use Rattle.lvm_parse.specs.declared.rest.Misfit.{Misfit}
 use Rattle.lvm_parse.specs.Grammar.{line_of}
 use Rattle.lvm_core.specs.declared.parts.Room.{Room}
-use Rattle.lvm_core.specs.State.{Core}
 use Rattle.lvm_line.specs.Disks.{ReadDoes, WriteDoes}
 use Rattle.lvm_line.specs.Groups.{MkvgDoes, VaryonDoes, VaryoffDoes}
-use Rattle.lvm_line.specs.Listings.{IsOn, IsNotOn, GroupShows, VolumeShows, DiskShows}
+use Rattle.lvm_line.specs.Listings.{GroupShows, VolumeShows, DiskShows}
 use Rattle.lvm_line.specs.Moments.{GoesOn}
 use Rattle.lvm_line.specs.Replies.{IsRefused}
 use Rattle.lvm_line.specs.Shelves.{ArrangeDoes, CutDoes}
 use Rattle.lvm_line.specs.State.{State}
+use Rattle.lvm_line.specs.Volumes.{MklvDoes, RmlvDoes, wanted}
 use Rattle.lvm_line.specs.declared.reply.Refusal.TheVariants as refusal
 use Rattle.lvm_line.specs.declared.reply.Reply.{Reply}
 use Rattle.lvm_line.specs.declared.reply.Reply.TheVariants as reply
@@ -24,18 +25,10 @@ use Rattle.lvm_line.specs.declared.reply.Reply.TheVariants as reply
 -- what the grammar says of the numbers and disks of a command
 abbrev pub IsWithin : Command → Type 0
 IsWithin (command.Mkvg force name mib disks) = (1 ≤ length disks) × AllPairs (λ a b. a ≢ b) disks × ForSome mib (λ given. IsTrue (is_size given))
+IsWithin (command.Mklv name copies mode policy group lps) = (1 ≤ lps) × (mode ≡ Off)
 IsWithin (command.RawRd disk at count) = (1 ≤ count) × (count ≤ 4096)
 IsWithin (command.RawWr disk at count word) = (1 ≤ count) × (count ≤ 4096)
 IsWithin other = Unit {0}
-
--- `mklv` and `rmlv`, which aren't done yet where a group is on
-pub data MklvDoes (group : List ℕ) (old new : State) (answer : Reply) : Type 0 where
-  NoGroupForMklv : IsNotOn group old.session → IsRefused refusal.NoGroup answer old new → MklvDoes group old new answer
-  MklvIsNotDone : (core : Core) → old.session ≡ Some core → IsOn group core → IsRefused (refusal.BadLine 1) answer old new → MklvDoes group old new answer
-
-pub data RmlvDoes (old new : State) (answer : Reply) : Type 0 where
-  NoGroupForRmlv : old.session ≡ None → IsRefused refusal.NoGroup answer old new → RmlvDoes old new answer
-  RmlvIsNotDone : IsSome old.session → IsRefused (refusal.BadLine 1) answer old new → RmlvDoes old new answer
 
 -- a listing leaves the whole state
 abbrev pub IsListed : State → State → Type 0 → Type 0
@@ -47,8 +40,8 @@ CommandDoes log room (command.Mkvg force name mib disks) old new answer = MkvgDo
 CommandDoes log room (command.Varyon name) old new answer = VaryonDoes log room name old new answer
 CommandDoes log room (command.Varyoff name) old new answer = VaryoffDoes name old new answer
 CommandDoes log room (command.Lsvg volumes name) old new answer = IsListed old new (GroupShows volumes name old.session answer)
-CommandDoes log room (command.Mklv name copies mode policy group lps) old new answer = MklvDoes group old new answer
-CommandDoes log room (command.Rmlv name) old new answer = RmlvDoes old new answer
+CommandDoes log room (command.Mklv name copies mode policy group lps) old new answer = MklvDoes (wanted name copies mode policy lps) group old new answer
+CommandDoes log room (command.Rmlv name) old new answer = RmlvDoes name old new answer
 CommandDoes log room (command.Lslv name) old new answer = IsListed old new (VolumeShows name old.session answer)
 CommandDoes log room (command.Lspv disk) old new answer = IsListed old new (DiskShows disk (length old.moment.device.sizes) old.session answer)
 CommandDoes log room (command.RawRd disk at count) old new answer = ReadDoes log disk at count old new answer

@@ -1,11 +1,10 @@
 -- What is listed of the group that is on.
-use Rattle.std.specs.Prelude.{◌≡◌, ◌<◌, ◌≤◌, ◌⊎◌, ℕ, Bool, List, Option, Some, None, if◌then◌else◌, length}
+use Rattle.std.specs.Prelude.{◌≡◌, ◌<◌, ◌≤◌, ◌⊎◌, ℕ, Bool, List, Option, Some, None, if◌then◌else◌}
 use Rattle.lvm_num.specs.declared.descriptor.PvRow.{PvRow}
 use Rattle.lvm_num.specs.Descriptor.{member_of}
 use Rattle.lvm_show.specs.Listings.{group_text, volumes_text, volume_map_text, disk_text}
 use Rattle.lvm_core.specs.Looking.{IsNumberOf, HasNoVolume}
 use Rattle.lvm_core.specs.State.{Core}
-use Rattle.lvm_line.specs.State.{State}
 use Rattle.lvm_line.specs.Replies.{Shows}
 use Rattle.lvm_line.specs.declared.reply.Refusal.{Refusal}
 use Rattle.lvm_line.specs.declared.reply.Refusal.TheVariants as refusal

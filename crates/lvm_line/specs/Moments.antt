@@ -1,16 +1,31 @@
 -- What holds of the moments of each line.
-use Rattle.std.specs.Prelude.{◌≡◌, ◌≤◌, ℕ, true}
+use Rattle.std.specs.Prelude.{◌≡◌, ◌⊎◌, ◌≤◌, ℕ, true, IfSome}
 use Rattle.lvm_kept.specs.Moments.{StaysCalm}
 use Rattle.lvm_change.specs.Moments.{Keeps}
-use Rattle.lvm_line.specs.State.{State, IsSettled, IsTimely, AreHeld}
+use Rattle.lvm_commit.specs.LawsOfVolumes.{IsOnlyGroupOn}
+use Rattle.lvm_line.specs.State.{State, IsSettled, IsTimely, AreHeld, EntersVolumes}
 use Rattle.lvm_line.specs.Replies.{IsStuck}
+use Rattle.lvm_line.specs.declared.reply.Refusal.TheVariants as refusal
 use Rattle.lvm_line.specs.declared.reply.Reply.{Reply}
+use Rattle.lvm_line.specs.declared.reply.Reply.TheVariants as reply
 
--- From one state to the next, where this is answered. While the clock is ahead of the disks, the history is legal at each moment between and each
--- crash image is kept with it, the clock stays ahead, and the disks of a session hold what it says. Unless nothing was heard of a transfer, nothing is
--- under way and no write of a disk is open.
+-- what is answered where something that was begun was broken off
+abbrev pub IsBrokenOff : Reply → Type 0
+IsBrokenOff (reply.Refused refusal.Dark) = Unit {0}
+IsBrokenOff (reply.Refused (refusal.WentOff have total)) = Unit {0}
+IsBrokenOff (reply.Refused refusal.Stuck) = Unit {0}
+IsBrokenOff (reply.Refused (refusal.DiskFailed disk)) = Unit {0}
+IsBrokenOff other = ⊥
+
+-- No disks find a group but that of the session that is on, where a volume of it is made or removed meanwhile, or that is broken off.
+abbrev pub IsAlone : Reply → State → State → Type 0
+IsAlone answer old new = EntersVolumes old.moment.facts new.moment.facts ⊎ IsBrokenOff answer → IfSome old.session (λ core. IsOnlyGroupOn old.moment.device core.descriptor.id)
+
+-- From one state to the next, where this is answered. While the clock is ahead of the disks, these hold what the session says, and no other group is found
+-- on them where a volume is made or removed, the history is legal at each moment between and each crash image is kept with it. While the clock is ahead it
+-- stays so, and the disks go on holding what a session says. Unless nothing was heard of a transfer, nothing is under way and no write of a disk is open.
 pub record GoesOn (run : ℕ) (answer : Reply) (old new : State) : Type 0 where
-  pub keeps : IsTimely run old → Keeps run old.moment new.moment
+  pub keeps : IsTimely run old → AreHeld old → IsAlone answer old new → Keeps run old.moment new.moment
   pub timely : IsTimely run old → IsTimely run new
   pub held : IsTimely run old → AreHeld old → AreHeld new
   pub calm : (IsStuck answer → ⊥) → StaysCalm old.moment new.moment

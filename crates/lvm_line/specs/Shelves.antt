@@ -1,11 +1,10 @@
 -- What `fail`, `heal` and `cut` do.
-use Rattle.std.specs.Prelude.{◌≡◌, ◌≤◌, ◌<◌, ℕ, List, None, true, false, length}
+use Rattle.std.specs.Prelude.{◌≡◌, ◌≤◌, ◌<◌, ℕ, None, true, false, length}
 use Rattle.lvm_disk.specs.Device.{Device}
 use Rattle.lvm_disk.specs.Steps.{with_order, Arranges}
 use Rattle.lvm_disk.specs.declared.shelf.Arrange.{Arrange}
 use Rattle.lvm_disk.specs.declared.shelf.Arrange.TheVariants as arrange
 use Rattle.lvm_vol.specs.Log.{Log, cut_log}
-use Rattle.lvm_kept.specs.Moments.{Moment}
 use Rattle.lvm_move.specs.Transfer.{Relights}
 use Rattle.lvm_line.specs.State.{State, log_with}
 use Rattle.lvm_line.specs.Replies.{IsRefused}

@@ -1,14 +1,15 @@
 -- What stands between two lines of a script.
-use Rattle.std.specs.Prelude.{◌≡◌, ◌+◌, ℕ, [], List, Option, IfSome}
-use Rattle.lvm_disk.specs.Device.{Device, IsReady}
-use Rattle.lvm_vol.specs.Facts.{Fact}
+use Rattle.std.specs.Prelude.{◌+◌, ◌≤◌, ◌<◌, ℕ, Bool, true, false, [], List, Option, IfSome, count_by}
+use Rattle.lvm_disk.specs.Device.{IsReady}
+use Rattle.lvm_vol.specs.declared.entry.Vol.TheVariants.{Lv}
+use Rattle.lvm_vol.specs.Facts.{Fact, Making, Made, Split, Removing, Removed}
 use Rattle.lvm_vol.specs.Log.{Log}
 use Rattle.lvm_kept.specs.Moments.{Moment}
 use Rattle.lvm_stamps.specs.Behind.{IsAhead}
-use Rattle.lvm_core.specs.declared.request.Power.TheVariants as power
 use Rattle.lvm_core.specs.State.{Core}
-use Rattle.lvm_core.specs.Sound.{IsQuiet, HaveAllLanded}
+use Rattle.lvm_core.specs.Sound.{HaveAllLanded}
 use Rattle.lvm_core.specs.Held.{IsHeld}
+use Rattle.lvm_core.specs.Settled.{IsSettled as IsSettledCore}
 
 -- The shelf, what the history has so far, the session of the group that is on, if one is, and the clock's last moment.
 pub record State : Type 0 where
@@ -24,21 +25,31 @@ log_with log facts = record log { facts = facts }
 abbrev pub without_facts : Log → Log
 without_facts log = log_with log []
 
--- a session that is on, at which nothing is under way
-pub record IsIdle (core : Core) : Type 0 where
-  pub power : core.power ≡ power.On
-  pub quiet : IsQuiet core
-
 -- nothing is under way
 pub record IsSettled (moment : Moment) (on : Option Core) : Type 0 where
   pub ready : IsReady moment.device
   pub landed : HaveAllLanded moment.facts
-  pub session : IfSome on IsIdle
+  pub session : IfSome on IsSettledCore
 
--- What stands on the disks is of sessions up to the clock's last moment, and so is the run and each group that was varied on in it.
-abbrev pub IsTimely : ℕ → State → Type 0
-IsTimely run s = IsAhead run (s.last + 1) s.moment.device s.moment.facts
+-- What stands on the disks is of sessions up to the clock's last moment, and so is the run and each group that was varied on in it, that of the session
+-- among them.
+pub record IsTimely (run : ℕ) (s : State) : Type 0 where
+  pub ahead : IsAhead run (s.last + 1) s.moment.device s.moment.facts
+  pub session : IfSome s.session (λ core. core.status.stamp.epoch ≤ s.last)
 
 -- the disks of a session hold what it says is committed
 abbrev pub AreHeld : State → Type 0
 AreHeld s = IfSome s.session (λ core. IsHeld s.moment.device core)
+
+-- the entry says that a volume is made or removed
+abbrev pub is_of_volume : Fact → Bool
+is_of_volume (Making lv blocks mode) = true
+is_of_volume (Made lv) = true
+is_of_volume (Split from lv) = true
+is_of_volume (Removing (Lv lv)) = true
+is_of_volume (Removed (Lv lv)) = true
+is_of_volume other = false
+
+-- such entries were entered
+abbrev pub EntersVolumes : List Fact → List Fact → Type 0
+EntersVolumes old new = count_by is_of_volume old < count_by is_of_volume new

@@ -58,14 +58,14 @@ fn do_command<S: Shelf, C: Clock>(
             stage.answered(reply)
         }
         Command::Mklv {
-            name: _,
-            copies: _,
-            mode: _,
-            policy: _,
+            name,
+            copies,
+            mode,
+            policy,
             group,
-            lps: _,
-        } => do_mklv(stage, group),
-        Command::Rmlv { name: _ } => do_rmlv(stage),
+            lps,
+        } => do_mklv(alloc, stage, name, copies, mode, policy, group, lps),
+        Command::Rmlv { name } => do_rmlv(alloc, stage, name),
         Command::Lslv { name } => {
             let reply = list_volume(alloc, &stage, name);
             stage.answered(reply)

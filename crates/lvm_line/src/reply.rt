@@ -35,14 +35,25 @@ pub enum Refusal {
     NoRecord,
     /// 12: the group has no volume of that name.
     NoVolume,
-    /// 14: more disks are named than a group may have.
+    /// 13: the group has a volume of that name.
+    VolumeExists,
+    /// 14: more disks are named than a group may have, or the group has as many volumes as it may.
     TooMany { limit: u32 },
+    /// 15: the partitions that are free, so many, have no place for the volume.
+    NoRoom { free: u32 },
+    /// 16: so many copies can't be had; the volume has so many now.
+    CopyLimit { now: u8 },
+    /// 17: all fresh copies of this logical partition would go.
+    LastFresh { lp: u32 },
     /// 18: the blocks are not all within the data of the disk, which has so many sectors.
     OutOfRange { blocks: u64 },
     /// 19: a write failed, since its disk did. Each of its blocks is old or new.
     Lost,
     /// 20: a read failed, since its disk did.
     ReadFailed,
+    /// 22: the members that can be written to have so many votes of so many, too few for the group to
+    /// stay on.
+    WentOff { have: u32, total: u32 },
     /// 23: the power was cut meanwhile.
     Dark,
     /// 24: the shelf had nothing to tell a million times.
@@ -55,6 +66,8 @@ pub enum Refusal {
     NoPlan,
     /// 29: memory ran out.
     Memory,
+    /// 30: a request of the session hasn't been answered.
+    Busy,
 }
 
 /// The answer to a line.
@@ -94,16 +107,28 @@ fn shown(refusal: &Refusal) -> lvm_show::Refusal
         Refusal::Ambiguous => (10, Carried::Nothing),
         Refusal::NoRecord => (11, Carried::Nothing),
         Refusal::NoVolume => (12, Carried::Nothing),
+        Refusal::VolumeExists => (13, Carried::Nothing),
         Refusal::TooMany { limit } => (14, Carried::Number(u64::from(*limit))),
+        Refusal::NoRoom { free } => (15, Carried::Number(u64::from(*free))),
+        Refusal::CopyLimit { now } => (16, Carried::Number(u64::from(*now))),
+        Refusal::LastFresh { lp } => (17, Carried::Lp(*lp)),
         Refusal::OutOfRange { blocks } => (18, Carried::Number(*blocks)),
         Refusal::Lost => (19, Carried::Nothing),
         Refusal::ReadFailed => (20, Carried::Nothing),
+        Refusal::WentOff { have, total } => (
+            22,
+            Carried::Votes {
+                have: *have,
+                total: *total,
+            },
+        ),
         Refusal::Dark => (23, Carried::Nothing),
         Refusal::Stuck => (24, Carried::Nothing),
         Refusal::HistoryFull => (25, Carried::Nothing),
         Refusal::InGroup { disk } => (26, Carried::Disk(*disk)),
         Refusal::NoPlan => (27, Carried::Nothing),
         Refusal::Memory => (29, Carried::Nothing),
+        Refusal::Busy => (30, Carried::Nothing),
     };
     lvm_show::Refusal { number, carried }
 }

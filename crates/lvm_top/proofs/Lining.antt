@@ -1,8 +1,7 @@
 -- How the lines of a run follow each other.
-use Rattle.std.proofs.Common.{◌≡◌, ◌≤◌, ◌<◌, ◌++◌, ℕ, List, [], Option, Some, None, false, Result, Ok, Err, is_err, OnOk, OnErr, length, refl, sym, ap, subst, arith}
+use Rattle.std.proofs.Common.{◌≡◌, ◌≤◌, ◌++◌, ℕ, List, [], Option, Some, None, false, Result, Ok, Err, is_err, OnOk, OnErr, refl, sym, subst, arith}
 use Rattle.std.proofs.lemmas.List.{append-nil}
 use Rattle.lvm_disk.specs.Counts.{RoseBy}
-use Rattle.lvm_disk.specs.Device.{Device}
 use Rattle.lvm_io.specs.Stream.{WhereTold, WritesFront}
 use Rattle.lvm_vol.specs.Log.{Log}
 use Rattle.lvm_core.specs.declared.parts.Room.{Room}

@@ -16,8 +16,9 @@ use Rattle.lvm_stamps.proofs.Stamps.{later_is_ahead_too}
 use Rattle.lvm_core.specs.declared.parts.Room.{Room}
 use Rattle.lvm_line.specs.Lines.{IsLine}
 use Rattle.lvm_line.specs.Replies.{reply_text, IsStuck}
-use Rattle.lvm_line.specs.State.{State, IsTimely}
-use Rattle.lvm_top.specs.Script.{Says, Script, NoLine, NextLine, Ends, AtLine, InLine, IsWhole, IsPart, texts_of, is_refused, refusals_in, entry_state}
+use Rattle.lvm_line.specs.State.{State, IsTimely, AreHeld}
+use Rattle.lvm_top.specs.Run.{Stream, WhereAlone}
+use Rattle.lvm_top.specs.Script.{Says, Script, NoLine, NextLine, StaysAlone, Ends, AtLine, InLine, EndsAlone, IsWhole, IsPart, texts_of, is_refused, refusals_in, entry_state, empty_log, facts_of}
 use Rattle.lvm_line.specs.declared.reply.Reply.{Reply}
 
 -- nothing was read yet
@@ -169,23 +170,27 @@ module _ (log : Log) (room : Room) (first now : State) (reading : Reading) (inpu
 
 -- ---- what a run upholds
 
--- From one state to a later one, where the clock is ahead of the disks at the first: it stays ahead, and the history is legal and each crash image kept with it
--- at each moment between. No write of a disk is open that wasn't.
-pub record Went (run : ℕ) (first last : State) : Type 0 where
+-- From one state to a later one, where the clock is ahead of the disks at the first: it stays ahead, the disks go on holding what a session says, and where
+-- no other group was found at a line that asks for one, the history is legal and each crash image kept with it at each moment between. No write of a disk
+-- is open that wasn't.
+pub record Went (run : ℕ) (Alone : Type 0) (first last : State) : Type 0 where
   pub timely : IsTimely run first → IsTimely run last
-  pub keeps : IsTimely run first → Keeps run first.moment last.moment
+  pub held : IsTimely run first → AreHeld first → AreHeld last
+  pub keeps : IsTimely run first → AreHeld first → Alone → Keeps run first.moment last.moment
   pub calm : StaysCalm first.moment last.moment
   pub waits : first.moment.device.counts.waits ≤ last.moment.device.counts.waits
   pub power : first.moment.device.power ≡ true → last.moment.device.power ≡ true
   pub clock : first.last ≤ last.last
 
-pub script_went : (log : Log) (room : Room) (first : State) {lines : List (List ℕ)} {replies : List Reply} {last : State} → Script log room first lines replies last → Went log.run first last
-script_went log room first NoLine = record { timely = λ timely. timely; keeps = λ timely. keeps_still log.run first.moment; calm = λ past calm. calm; waits = omega arith; power = λ on. on; clock = omega arith }
+pub script_went : (log : Log) (room : Room) (first : State) {lines : List (List ℕ)} {replies : List Reply} {last : State} (script : Script log room first lines replies last) → Went log.run (StaysAlone script) first last
+script_went log room first NoLine =
+    record { timely = λ timely. timely; held = λ timely held. held; keeps = λ timely held alone. keeps_still log.run first.moment; calm = λ past calm. calm; waits = omega arith; power = λ on. on; clock = omega arith }
 script_went log room first (NextLine {mid = mid} {new = new} line answer said goes says script it) =
     let went = script_went log room first script in
     record {
       timely = λ timely. it.goes.timely (went.timely timely);
-      keeps = λ timely. spans_join log.run first.moment mid.moment new.moment (went.keeps timely) went.calm (it.goes.keeps (went.timely timely));
+      held = λ timely held. it.goes.held (went.timely timely) (went.held timely held);
+      keeps = λ timely held alone. spans_join log.run first.moment mid.moment new.moment (went.keeps timely held alone.0) went.calm (it.goes.keeps (went.timely timely) (went.held timely held) alone.1);
       calm = λ past calm. it.goes.calm goes past (went.calm past calm);
       waits = let a = went.waits in let b = it.goes.waits in omega (arith, a, b);
       power = λ on. it.goes.power;
@@ -193,23 +198,28 @@ script_went log room first (NextLine {mid = mid} {new = new} line answer said go
     }
 
 -- the same to a run's last state, behind which a write may be open
-pub record Ended (run : ℕ) (first last : State) : Type 0 where
+pub record Ended (run : ℕ) (Alone : Type 0) (first last : State) : Type 0 where
   pub timely : IsTimely run first → IsTimely run last
-  pub keeps : IsTimely run first → Keeps run first.moment last.moment
+  pub keeps : IsTimely run first → AreHeld first → Alone → Keeps run first.moment last.moment
   pub power : first.moment.device.power ≡ true → last.moment.device.power ≡ true
   pub clock : first.last ≤ last.last
 
-ends_went : (log : Log) (room : Room) (first mid last : State) {done : List (List ℕ)} {said : List Reply} {front : List ℕ} → Went log.run first mid → Ends log room mid last done said front → Ended log.run first last
-ends_went log room first mid last went (AtLine is) = subst (λ (s : State). Ended log.run first s) (sym is) (record { timely = went.timely; keeps = went.keeps; power = went.power; clock = went.clock })
-ends_went log room first mid last went (InLine line answer said front rest says split it) = record {
+ends_went : (log : Log) (room : Room) (Alone : Type 0) (first mid last : State) {done : List (List ℕ)} {said : List Reply} {front : List ℕ} → Went log.run Alone first mid → (ends : Ends log room mid last done said front) → Ended log.run (Alone × EndsAlone ends) first last
+ends_went log room Alone first mid last went (AtLine is) = record {
+  timely = λ timely. subst (IsTimely log.run) (sym is) (went.timely timely);
+  keeps = λ timely held alone. subst (λ (s : State). Keeps log.run first.moment s.moment) (sym is) (went.keeps timely held alone.0);
+  power = λ on. subst (λ (s : State). s.moment.device.power ≡ true) (sym is) (went.power on);
+  clock = subst (λ (s : State). first.last ≤ s.last) (sym is) went.clock;
+}
+ends_went log room Alone first mid last went (InLine line answer said front rest says split it) = record {
   timely = λ timely. it.goes.timely (went.timely timely);
-  keeps = λ timely. spans_join log.run first.moment mid.moment last.moment (went.keeps timely) went.calm (it.goes.keeps (went.timely timely));
+  keeps = λ timely held alone. spans_join log.run first.moment mid.moment last.moment (went.keeps timely held alone.0) went.calm (it.goes.keeps (went.timely timely) (went.held timely held) alone.1);
   power = λ on. it.goes.power;
   clock = let a = went.clock in let b = it.goes.clock in omega (arith, a, b);
 }
 
-pub part_ended : (log : Log) (room : Room) (first last : State) (input before after : Option (List ℕ)) (refused : ℕ) → IsPart log room first last input before after refused → Ended log.run first last
-part_ended log room first last input before after refused part = ends_went log room first part.mid last (script_went log room first part.script) part.ends
+pub part_ended : (log : Log) (room : Room) (first last : State) (input before after : Option (List ℕ)) (refused : ℕ) (part : IsPart log room first last input before after refused) → Ended log.run (StaysAlone part.script × EndsAlone part.ends) first last
+part_ended log room first last input before after refused part = ends_went log room (StaysAlone part.script) first part.mid last (script_went log room first part.script) part.ends
 
 -- a run that has done no line
 pub nothing_done : (log : Log) (room : Room) (first : State) (input before : Option (List ℕ)) → IsPart log room first first input before before 0
@@ -219,22 +229,21 @@ nothing_done log room first input before = part_so_far log room first first unre
 
 -- The run's moment is later than what stands on the disks at its beginning, so the clock is ahead of them.
 pub begins_timely : (run : ℕ) (device : Device) → IsBehind run device → IsTimely run (entry_state device run)
-begins_timely run device behind = record { run_is = omega arith; later = tt; behind = later_is_ahead_too run (run + 1) device (omega arith) behind }
+begins_timely run device behind = record { ahead = record { run_is = omega arith; later = tt; behind = later_is_ahead_too run (run + 1) device (omega arith) behind }; session = tt }
 
--- the lines of a run uphold what was told before it
-pub run_upheld : (log : Log) (room : Room) (run : ℕ) (entry exit : Device) (facts : List Fact) (end : State) (input before after : Option (List ℕ)) (refused : ℕ) → log.run ≡ run → end.moment ≡ record { device = exit; facts = facts }
-    → IsPart log room (entry_state entry run) end input before after refused → IsBehind run entry → IsUpheld run entry exit facts
-run_upheld log room run entry exit facts end input before after refused named is part behind =
-    span_upholds run entry exit facts
-    (subst (λ (m : Moment). Keeps run (record { device = entry; facts = [] }) m) is
-    (subst (λ (n : ℕ). Keeps n (record { device = entry; facts = [] }) end.moment) named
-    ((part_ended log room (entry_state entry run) end input before after refused part).keeps (subst (λ (n : ℕ). IsTimely n (entry_state entry run)) (sym named) (begins_timely run entry behind)))))
+-- A run whose lines find no other group where they ask for that upholds what was told before it,
+pub run_upheld : (run last : ℕ) (room : Room) (entry exit : Device) (input left before after : Stream) (history : Option Log) (status refused : ℕ)
+    → WhereAlone run last room entry exit input left before after history status refused (IsBehind run entry → IsUpheld run entry exit (facts_of history))
+run_upheld run last room entry exit input left before after history status refused = λ ran alone behind.
+    span_upholds run entry exit (facts_of history)
+    (subst (λ (m : Moment). Keeps run (record { device = entry; facts = [] }) m) ran.closed.moment
+    ((part_ended (empty_log run room) room (entry_state entry run) ran.end input.content before.content after.content refused ran.part).keeps (begins_timely run entry behind) tt alone))
 
--- and leave the clock ahead of the disks
+-- and leaves the clock ahead of the disks.
 pub run_ahead : (log : Log) (room : Room) (run last : ℕ) (entry exit : Device) (facts : List Fact) (end : State) (input before after : Option (List ℕ)) (refused : ℕ) → log.run ≡ run → end.moment ≡ record { device = exit; facts = facts } → end.last ≡ last
     → IsPart log room (entry_state entry run) end input before after refused → IsBehind run entry → IsAhead run (last + 1) exit facts
 run_ahead log room run last entry exit facts end input before after refused named is ended part behind =
     subst (λ (m : Moment). IsAhead run (last + 1) m.device m.facts) is
     (subst (λ (n : ℕ). IsAhead run (n + 1) end.moment.device end.moment.facts) ended
     (subst (λ (n : ℕ). IsTimely n end) named
-    ((part_ended log room (entry_state entry run) end input before after refused part).timely (subst (λ (n : ℕ). IsTimely n (entry_state entry run)) (sym named) (begins_timely run entry behind)))))
+    ((part_ended log room (entry_state entry run) end input before after refused part).timely (subst (λ (n : ℕ). IsTimely n (entry_state entry run)) (sym named) (begins_timely run entry behind)))).ahead)

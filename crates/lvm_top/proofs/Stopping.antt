@@ -10,14 +10,13 @@ use Rattle.lvm_num.specs.Buffer.{Buffer}
 use Rattle.lvm_stamps.specs.Behind.{IsBehind, IsAhead}
 use Rattle.lvm_stamps.proofs.Stamps.{later_is_ahead_too}
 use Rattle.lvm_core.specs.declared.parts.Room.{Room}
-use Rattle.lvm_change.specs.Moments.{IsUpheld}
 use Rattle.lvm_line.specs.Stages.{shelf_in, history_in, session_in, state_in, IsSettledStage, GivesBack}
 use Rattle.lvm_line.specs.declared.stage.Stage.{Stage}
 use Rattle.lvm_line.specs.declared.stage.Stage.TheVariants as stage
 use Rattle.lvm_line.specs.State.{State, without_facts}
 use Rattle.lvm_top.specs.Run.{Stream, IsClosed, IsRun}
-use Rattle.lvm_top.specs.Script.{IsWhole, IsPart, empty_log, entry_state, facts_of, run_of}
-use Rattle.lvm_top.proofs.Scripting.{nothing_done, part_ended, run_upheld, run_ahead}
+use Rattle.lvm_top.specs.Script.{IsWhole, IsPart, empty_log, entry_state, facts_of}
+use Rattle.lvm_top.proofs.Scripting.{nothing_done, part_ended, run_ahead}
 use Rattle.lvm_top.specs.Statuses.{status_of}
 use Rattle.lvm_top.specs.declared.script.Stop.{Stop}
 use Rattle.lvm_top.specs.declared.script.Stop.TheVariants as stop
@@ -173,9 +172,6 @@ module _ {S : Type 0} (device : S → Device) (shelf : S) (history : Log) (run b
 
     pub later : run ≤ last
     later = let e = (part_ended (without_facts history) room (state_in device (stage.Off shelf history) begun) (state_in device it last) input.content before.content after.content refused part).clock in omega (arith, e, asked)
-
-    pub the_upheld : IsBehind kept.run (device shelf) → IsUpheld kept.run (device shelf) (device closed) kept.facts
-    the_upheld = run_upheld (empty_log kept.run room) room kept.run (device shelf) (device closed) kept.facts (state_in device it last) input.content before.content after.content refused refl end_is the_part
 
     pub the_ahead : IsBehind kept.run (device shelf) → IsAhead kept.run (last + 1) (device closed) kept.facts
     the_ahead = run_ahead (empty_log kept.run room) room kept.run last (device shelf) (device closed) kept.facts (state_in device it last) input.content before.content after.content refused refl end_is refl the_part

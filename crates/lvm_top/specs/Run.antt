@@ -1,5 +1,5 @@
 -- A run of a script: how it ends, and why.
-use Rattle.std.specs.Prelude.{◌≡◌, ◌≤◌, ◌<◌, ◌+◌, ℕ, List, length, Option, IfNone, IfSome, true, min}
+use Rattle.std.specs.Prelude.{◌≡◌, ◌<◌, ◌+◌, ℕ, List, length, Option, IfNone, IfSome, true, min}
 use Rattle.lvm_disk.specs.Counts.{RoseBy}
 use Rattle.lvm_disk.specs.Device.{Device, IsReady}
 use Rattle.lvm_io.specs.Count.{Rose}
@@ -7,7 +7,7 @@ use Rattle.lvm_io.specs.Stream.{WhereTold}
 use Rattle.lvm_vol.specs.Log.{Log}
 use Rattle.lvm_core.specs.declared.parts.Room.{Room}
 use Rattle.lvm_line.specs.State.{State}
-use Rattle.lvm_top.specs.Script.{IsWhole, IsPart, empty_log, entry_state, facts_of}
+use Rattle.lvm_top.specs.Script.{IsWhole, IsPart, StaysAlone, EndsAlone, empty_log, entry_state, facts_of}
 
 -- what is told of a source or a sink, and how often it has failed
 pub record Stream : Type 0 where
@@ -36,3 +36,11 @@ pub record IsRun (run last : ℕ) (room : Room) (entry exit : Device) (input lef
   pub long : status ≡ 7 → WhereTold input.content left.content (λ a b. 16777216 + length b < length a)
   pub ready : (status ≡ 6 → ⊥) → IsReady exit
   pub power : exit.power ≡ true
+
+-- In each line of the run that made or removed a volume, or was broken off at it, no disks found a group but the one that was on.
+abbrev pub RanAlone : {run last : ℕ} {room : Room} {entry exit : Device} {input left before after : Stream} {history : Option Log} {status refused : ℕ} → IsRun run last room entry exit input left before after history status refused → Type 0
+RanAlone ran = StaysAlone ran.part.script × EndsAlone ran.part.ends
+
+-- What holds of such a run, whatever its lines were answered.
+abbrev pub WhereAlone : ℕ → ℕ → Room → Device → Device → Stream → Stream → Stream → Stream → Option Log → ℕ → ℕ → Type 0 → Type 0
+WhereAlone run last room entry exit input left before after history status refused Holds = (ran : IsRun run last room entry exit input left before after history status refused) → RanAlone ran → Holds

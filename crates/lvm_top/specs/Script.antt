@@ -8,6 +8,7 @@ use Rattle.lvm_vol.specs.Facts.{Fact}
 use Rattle.lvm_vol.specs.Log.{Log}
 use Rattle.lvm_core.specs.declared.parts.Room.{Room}
 use Rattle.lvm_line.specs.Lines.{IsLine}
+use Rattle.lvm_line.specs.Moments.{IsAlone}
 use Rattle.lvm_line.specs.Replies.{reply_text, IsStuck}
 use Rattle.lvm_line.specs.State.{State}
 use Rattle.lvm_line.specs.declared.reply.Refusal.TheVariants as refusal
@@ -23,6 +24,11 @@ pub data Script (log : Log) (room : Room) (first : State) : List (List ℕ) → 
   NoLine : Script log room first [] [] first
   NextLine : {lines : List (List ℕ)} {replies : List Reply} {mid new : State} (line : List ℕ) (answer said : Reply) → (IsStuck answer → ⊥) → Says answer said
       → Script log room first lines replies mid → IsLine log room line answer mid new → Script log room first (lines ++ line ∷ []) (replies ++ said ∷ []) new
+
+-- In each of the lines that makes or removes a volume, or is broken off at it, no disks find a group but the one that is on.
+abbrev pub StaysAlone : {log : Log} {room : Room} {first : State} {lines : List (List ℕ)} {replies : List Reply} {last : State} → Script log room first lines replies last → Type 0
+StaysAlone NoLine = Unit {0}
+StaysAlone (NextLine {mid = mid} {new = new} line answer said goes says before does) = StaysAlone before × IsAlone answer mid new
 
 -- the texts of the replies
 abbrev pub texts_of : List Reply → List ℕ
@@ -50,6 +56,10 @@ pub record IsWhole (log : Log) (room : Room) (first last : State) (input left be
 pub data Ends (log : Log) (room : Room) (mid last : State) : List (List ℕ) → List Reply → List ℕ → Type 0 where
   AtLine : last ≡ mid → Ends log room mid last [] [] []
   InLine : (line : List ℕ) (answer said : Reply) (front rest : List ℕ) → Says answer said → reply_text said ≡ front ++ rest → IsLine log room line answer mid last → Ends log room mid last (line ∷ []) (said ∷ []) front
+
+abbrev pub EndsAlone : {log : Log} {room : Room} {mid last : State} {done : List (List ℕ)} {said : List Reply} {front : List ℕ} → Ends log room mid last done said front → Type 0
+EndsAlone (AtLine same) = Unit {0}
+EndsAlone {mid = mid} {last = last} (InLine line answer said front rest says split does) = IsAlone answer mid last
 
 -- The lines that were done are the first of the source's, and what was written is their replies, the last perhaps a front of it.
 pub record IsPart (log : Log) (room : Room) (first last : State) (input before after : Option (List ℕ)) (refused : ℕ) : Type 0 where

@@ -2,6 +2,8 @@
 #![tactic(auto)]
 
 #[cfg(test)]
+mod bench;
+#[cfg(test)]
 mod group_tests;
 mod image;
 mod program;
@@ -9,6 +11,8 @@ mod run;
 mod script;
 #[cfg(test)]
 mod tests;
+#[cfg(test)]
+mod volume_tests;
 
 pub use image::run_image;
 pub use lvm_core::Room;

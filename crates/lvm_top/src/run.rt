@@ -5,7 +5,7 @@ ghost use Rattle.lvm_io.specs.Count.{Rose};
 ghost use Rattle.lvm_change.specs.Moments.{IsUpheld};
 ghost use Rattle.lvm_stamps.specs.Behind.{IsBehind, IsAhead};
 ghost use Rattle.lvm_core.specs.Starting.{IsRoom};
-ghost use Rattle.lvm_top.specs.Run.{IsRun};
+ghost use Rattle.lvm_top.specs.Run.{IsRun, WhereAlone};
 ghost use Rattle.lvm_top.specs.Script.{facts_of, run_of};
 ghost use Rattle.lvm_top.specs.Statuses.{status_of};
 
@@ -66,8 +66,8 @@ pub fn run_script<S: Shelf, I: Source, O: Sink, C: Clock>(
     ensures clock { Rose (C.last clock.old) (C.last clock.new) }
     ensures named { IfSome result.history (λ log. Rose (C.last clock.old) log.run × (log.run ≤ C.last clock.new)) }
     ensures run { IsRun (run_of result.history) (C.last clock.new) room (S.device shelf) (S.device result.shelf) (record { content = I.left input.old; faults = I.faults input.old }) (record { content = I.left input.new; faults = I.faults input.new }) (record { content = O.held out.old; faults = O.faults out.old }) (record { content = O.held out.new; faults = O.faults out.new }) result.history result.status result.refused }
-    // where the run's moment is later than what stands on the disks
-    ensures upheld { IsBehind (run_of result.history) (S.device shelf) → IsUpheld (run_of result.history) (S.device shelf) (S.device result.shelf) (facts_of result.history) }
+    // where the run's moment is later than what stands on the disks, and for the first no line made or removed a volume of one group among several
+    ensures upheld { WhereAlone (run_of result.history) (C.last clock.new) room (S.device shelf) (S.device result.shelf) (record { content = I.left input.old; faults = I.faults input.old }) (record { content = I.left input.new; faults = I.faults input.new }) (record { content = O.held out.old; faults = O.faults out.old }) (record { content = O.held out.new; faults = O.faults out.new }) result.history result.status result.refused (IsBehind (run_of result.history) (S.device shelf) → IsUpheld (run_of result.history) (S.device shelf) (S.device result.shelf) (facts_of result.history)) }
     ensures ahead { IsBehind (run_of result.history) (S.device shelf) → IsAhead (run_of result.history) (C.last clock.new + 1) (S.device result.shelf) (facts_of result.history) }
     ensures sim { result.sim ≡ None }
 {

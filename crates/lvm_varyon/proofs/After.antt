@@ -1,26 +1,24 @@
 -- What the disks show once a varyon has written its records.
-use Rattle.std.proofs.Common.{◌≡◌, ℕ, ◌<◌, Bool, true, false, ◌&&◌, ◌==◌, ◌||◌, List, [], ◌∷◌, ◌++◌, length, get_or, Option, Some, None, refl, sym, ap, subst, ◌∙◌, arith, eq-eqb}
-use Rattle.std.specs.Prelude.{IsTrue, not, nat_lt, nat_le, option_map, IfSome, All}
+use Rattle.std.proofs.Common.{◌≡◌, ℕ, Bool, true, false, ◌&&◌, ◌==◌, ◌||◌, List, [], ◌∷◌, ◌++◌, get_or, Option, Some, None, refl, sym, ap, subst, ◌∙◌, arith}
+use Rattle.std.specs.Prelude.{IsTrue, not, nat_le, option_map, IfSome, All}
 use Rattle.std.specs.List.{list_any}
-use Rattle.std.proofs.lemmas.Bool.Decides.{nat_tests}
 use Rattle.std.proofs.lemmas.List.{append_cancel_left}
 use Rattle.lvm_num.specs.declared.record.Stamp.{Stamp}
 use Rattle.lvm_num.specs.declared.descriptor.PvRow.{PvRow}
 use Rattle.lvm_num.specs.declared.descriptor.Descriptor.{Descriptor}
+use Rattle.lvm_num.specs.declared.status.Status.{Status}
 use Rattle.lvm_num.specs.Disks.{Disks}
 use Rattle.lvm_num.specs.Descriptor.{is_member}
-use Rattle.lvm_num.specs.Geometry.{data_start, sectors_needed}
+use Rattle.lvm_num.specs.Geometry.{sectors_needed}
 use Rattle.lvm_num.specs.Record.{Stamped}
 use Rattle.lvm_num.specs.Status.{calls_missing}
-use Rattle.lvm_num.specs.Votes.{all_disks, CanRead}
-use Rattle.lvm_num.proofs.VotesLemmas.{read_meets_read}
+use Rattle.lvm_num.specs.Votes.{all_disks}
 use Rattle.lvm_disk.specs.Device.{Media, Range, Device, image_of}
 use Rattle.lvm_disk.specs.Steps.{BothTold}
 use Rattle.lvm_kept.specs.Contents.{Contents, contents_of, has_records}
-use Rattle.lvm_kept.specs.Group.{passes, is_of, has_room, descriptor_among, is_voter, members_in, Finds}
+use Rattle.lvm_kept.specs.Group.{passes, is_of, has_room, descriptor_among, is_voter, Finds}
 use Rattle.lvm_kept.specs.Torn.{written as as_read}
 use Rattle.lvm_kept.proofs.Finding.{images_within}
-use Rattle.lvm_change.specs.VaryingOn.{HasNewest}
 use Rattle.lvm_stamps.specs.Behind.{StampsBefore, beginning_at, IsBehind}
 use Rattle.lvm_quorum.specs.declared.homes.Homes.{Homes}
 use Rattle.lvm_vol.specs.Log.{Log}
@@ -29,7 +27,8 @@ use Rattle.lvm_status.specs.Update.{Updates}
 use Rattle.lvm_quorum.specs.Homes.{SparesNewest}
 use Rattle.lvm_quorum.specs.Written.{LogsPlan, IsInPlan}
 use Rattle.lvm_core.specs.declared.parts.Room.{Room}
-use Rattle.lvm_core.specs.Held.{next_stamp, ShowsCommitted, HoldsCommitted}
+use Rattle.lvm_commit.specs.Committed.{next_stamp, Began, ShowsCommitted, HoldsCommitted}
+use Rattle.lvm_commit.proofs.Found.{newest_is_beginning}
 use Rattle.lvm_core.specs.Starting.{Reserved, first_core}
 use Rattle.lvm_core.specs.State.{Core, is_there}
 use Rattle.lvm_begin.specs.Beginning.{Beginning, describes, states, MayBeginAgain, IsOfParts}
@@ -190,21 +189,25 @@ module _ (old new : Device) (name : List ℕ) (moment : ℕ) (room : Room) (part
         target_member : (d : ℕ) → targets d ≡ true → is_member is.written.group d ≡ true
         target_member d target = room_member is.written.group.pvs d (λ (row : PvRow). nat_le (sectors_needed is.written.group.mib row.pps) (after.size d)) (target_room d target)
 
-    shows : ShowsCommitted after core
+    shows : ShowsCommitted after core.descriptor core.status.committed (is_there core)
     shows = record {
       found = subst (λ (g : Descriptor). Finds after all_disks g.id g) (sym group_is)
           (all_find_newest after is.written.group is.written.found.answered (as_read (describes b) is.written.group) (images_within (image_of new.sizes now)) may.members found.0.newest);
+      disks = is.written.found.answered;
+      began = subst (λ (g : Descriptor). Began after g is.written.found.answered) (sym group_is) (newest_is_beginning after is.written.group is.written.found.answered (as_read (describes b) is.written.group) found.0.newest);
       descriptor = as_read (describes b) is.written.group;
       value = sym group_is;
       latest = λ d r e its. found.0.newest.last d r e (its ∙ ap (λ (g : Descriptor). g.id) group_is);
       described = λ d present. begun.described d (sym (ap (λ (v : Disks). v d) there_are) ∙ present);
-      status = as_read (states b) is.written.next;
+      room = λ d present. subst (λ (g : Descriptor). IsTrue (has_room after d g)) (sym group_is) (target_room d (sym (ap (λ (v : Disks). v d) there_are) ∙ present));
+      own = ap (λ (s : Status). s.id) committed ∙ is.written.next_is.id ∙ sym (ap (λ (g : Descriptor). g.id) group_is);
+      stands = as_read (states b) is.written.next;
       committed = sym committed;
       stated = λ d present. begun.stated d (sym (ap (λ (v : Disks). v d) there_are) ∙ present);
       last = λ d r e its. status_is_last b forget is.written.group is.written.next before after begun may.later d r e (its ∙ ap (λ (g : Descriptor). g.id) group_is);
     }
 
-    pub holds : IsBehind moment old → HoldsCommitted (image_of new.sizes now) core
+    pub holds : IsBehind moment old → HoldsCommitted (image_of new.sizes now) core.descriptor core.status.committed (is_there core) core.status.stamp core.homes
     holds behind = record {
       shows = shows;
       stamps = subst (λ (s : Stamp). StampsBefore (next_stamp s) (image_of new.sizes now)) (sym stamp_is)

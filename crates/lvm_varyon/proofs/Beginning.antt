@@ -49,7 +49,8 @@ use Rattle.lvm_varyon.specs.Writing.{beginning}
 use Rattle.lvm_varyon.proofs.Seeing.{answered_by, read_row, shows_records, row_answers}
 use Rattle.lvm_varyon.proofs.Grouping.{same_voters, same_status, holds_finds}
 use Rattle.lvm_varyon.proofs.Placing.{one_place}
-use Rattle.lvm_varyon.proofs.Sizes.{descriptor_fits, status_fits}
+use Rattle.lvm_core.proofs.Sizes.{descriptor_fits}
+use Rattle.lvm_varyon.proofs.Sizes.{status_fits}
 
 both : (a b : Bool) → a ≡ true → b ≡ true → a && b ≡ true
 both true b e f = f

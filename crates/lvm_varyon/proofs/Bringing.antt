@@ -166,6 +166,7 @@ module _ (old read : Device) (survey : Survey) (is : IsSurveyOf old read survey)
     pub brought : HasSectors old → (homes : Homes) → AllWritten (again_beginning moment plan.descriptor plan.status (has plan.targets) plan.homes) (again_order plan.forget) homes read new → IsBrought old new name moment room plan.parts homes
     brought whole homes well = record {
       written = all_written homes well;
+      valid = by.valid;
       reserved = by.parts;
       placed = placed old read survey is name moment some room plan by new (well.keeps.sizes ∙ is.unwritten.sizes);
       may = λ ahead media told. subst (λ (t : Disks). MayBeginAgain (beginning moment by.group by.next t plan.homes) (not (has_active by.group)) by.group by.next (answered_by survey) by.was (image_of old.sizes media)) targets_are

@@ -1,6 +1,10 @@
 -- A varyon as a part of a run.
-use Rattle.std.proofs.Common.{◌≡◌, ℕ, ◌≤◌, Bool, true, false, List, Option, Some, None, refl, sym, ap, subst, ◌∙◌}
+use Rattle.std.proofs.Common.{◌≡◌, ◌≢◌, ℕ, ◌≤◌, Bool, true, false, ◌&&◌, not, IsTrue, arith, List, Option, Some, None, refl, sym, ap, subst, ◌∙◌}
 use Rattle.std.specs.Prelude.{if◌then◌else◌}
+use Rattle.lvm_num.specs.Disks.{Disks}
+use Rattle.lvm_num.specs.Descriptor.{is_member}
+use Rattle.lvm_num.specs.Votes.{all_disks, votes_in, CanRead, CanWrite}
+use Rattle.lvm_num.proofs.VotesLemmas.{read_is_write, more_is_enough, more_have_more}
 use Rattle.lvm_disk.specs.Device.{Media, Device, image_of}
 use Rattle.lvm_disk.specs.Paths.{DeviceStep, Path}
 use Rattle.lvm_disk.specs.Steps.{BothTold}
@@ -8,19 +12,26 @@ use Rattle.lvm_vol.specs.Facts.{Fact, Cut, On}
 use Rattle.lvm_vol.specs.Log.{Log, spare_entries, is_uncut, with_fact, cut_log}
 use Rattle.lvm_kept.specs.Moments.{StaysCalm}
 use Rattle.lvm_kept.specs.Contents.{contents_of}
+use Rattle.lvm_kept.specs.Group.{ReadsBy}
+use Rattle.lvm_kept.proofs.Finding.{finding_reads}
 use Rattle.lvm_change.specs.Moments.{Keeps, StaysKept}
 use Rattle.lvm_change.specs.Requests.{at}
 use Rattle.lvm_change.proofs.Entering.{quiet_goes_on, calm_goes_on}
 use Rattle.lvm_change.proofs.Spans.{keeps_still, steps_go_on, group_goes_on}
 use Rattle.lvm_stamps.specs.Behind.{ClockIsAhead}
+use Rattle.lvm_status.specs.Update.{members_there}
 use Rattle.lvm_quorum.specs.declared.homes.Homes.{Homes}
 use Rattle.lvm_core.specs.declared.parts.Room.{Room}
 use Rattle.lvm_core.specs.declared.refused.Cause.{Cause}
 use Rattle.lvm_core.specs.declared.refused.Cause.TheVariants as cause
-use Rattle.lvm_core.specs.Held.{HoldsCommitted, IsHeld}
+use Rattle.lvm_commit.specs.Committed.{HoldsCommitted}
+use Rattle.lvm_core.specs.Held.{IsHeld}
+use Rattle.lvm_core.specs.Settled.{IsSettled, HasNumbers}
+use Rattle.lvm_core.proofs.Settling.{starts_settled, starts_numbered}
 use Rattle.lvm_core.specs.Starting.{Reserved, first_core}
-use Rattle.lvm_core.specs.State.{Core}
+use Rattle.lvm_core.specs.State.{Core, is_there}
 use Rattle.lvm_varyon.specs.Varied.{IsRecovered, ComesOn, IsRestated, IsAheadOfDisks, IsBrought, last_stamp, log_after}
+use Rattle.lvm_varyon.specs.Chosen.{answering}
 use Rattle.lvm_varyon.specs.Restated.{HasNoConsistency}
 use Rattle.lvm_varyon.proofs.Recovering.{restated_is_recovered}
 use Rattle.lvm_varyon.proofs.Seeing.{if_told}
@@ -104,7 +115,7 @@ module _ (old new : Device) (log : Log) (name : List ℕ) (moment : ℕ) (room :
   })
 
   pub held : ClockIsAhead log.run moment old log.facts → IsHeld new core
-  held clock = if_told new.media (λ media. HoldsCommitted (image_of new.sizes media) core) (λ now told_now.
+  held clock = if_told new.media (λ media. HoldsCommitted (image_of new.sizes media) core.descriptor core.status.committed (is_there core) core.status.stamp core.homes) (λ now told_now.
       let before = told_before is.written.writes.read.media new.media _ now told_now is.written.writes.how.keeps.media in
       let told : old.media ≡ Some before.0 = sym is.written.writes.unwritten.media ∙ before.1 in
       holds old new name moment room parts homes is (ahead_of log.run moment old log.facts clock) before.0 now told told_now core log core_is (clock is.written.chosen.early).behind)
@@ -135,3 +146,26 @@ module _ (old new : Device) (log : Log) (name : List ℕ) (moment : ℕ) (room :
 
   pub on_calm : StaysCalm (at old log.facts) (at new core.history.facts)
   on_calm = subst (λ (c : Core). StaysCalm (at old log.facts) (at new c.history.facts)) (sym core_is) (calm_goes_on (at old log.facts) new log.facts (On moment) (same_calm log old new) tt)
+
+  -- the members that answer hold a quorum
+  votes : CanWrite is.written.group (members_there is.written.group is.written.next)
+  votes =
+      let group = is.written.group in
+      let c = is.written.found.shown in
+      let holds = is.written.chosen.holds in
+      let reads : ReadsBy c all_disks group.id group = finding_reads c all_disks group.id group (record { quorum = holds.quorum; newest = holds.newest; found = holds.only.newest; is = holds.is }) in
+      let enough : CanRead group (answering c group) = subst (λ (v : Disks). CanRead group v) (sym reads.voters) reads.reads.enough in
+      more_is_enough.write group (votes_in group (answering c group)) (votes_in group (members_there group is.written.next))
+      (more_have_more group (answering c group) (members_there group is.written.next) present) (read_is_write group (votes_in group (answering c group)) is.valid.head.a_member enough)
+    where
+      present : (d : ℕ) → IsTrue (is_member is.written.group d) → IsTrue (answering is.written.found.shown is.written.group d) → IsTrue (members_there is.written.group is.written.next d)
+      present d member target =
+          ap (λ (m : Bool). is_member is.written.group d && not m) (is.written.next_is.missing d)
+          ∙ ap (λ (a : Bool). a && not (a && not (answering is.written.found.shown is.written.group d))) member
+          ∙ ap (λ (t : Bool). true && not (true && not t)) target
+
+  pub settles : moment ≢ 0 → IsSettled core × HasNumbers core
+  settles some = subst (λ (c : Core). IsSettled c × HasNumbers c) (sym core_is) (
+    starts_settled is.written.group is.written.next room parts log (last_stamp moment) homes is.reserved some votes,
+    starts_numbered is.written.group is.written.next room parts log (last_stamp moment) homes is.reserved is.valid (omega arith),
+  )

@@ -4,6 +4,7 @@ use Rattle.lvm_num.specs.declared.record.Stamp.{Stamp}
 use Rattle.lvm_num.specs.declared.descriptor.Descriptor.{Descriptor}
 use Rattle.lvm_num.specs.declared.status.Status.{Status}
 use Rattle.lvm_num.specs.Disks.{Disks}
+use Rattle.lvm_num.specs.Descriptor.{IsValid}
 use Rattle.lvm_num.specs.Record.{Stamped}
 use Rattle.lvm_disk.specs.Device.{Media, Range, Device, image_of}
 use Rattle.lvm_vol.specs.Log.{Log, spare_entries, cut_log}
@@ -129,6 +130,7 @@ IsAheadOfDisks moment device = moment < last_moment → IsBehind moment device
 -- The group that the name chooses has its records, and these are the parts of its session.
 pub record IsBrought (old new : Device) (name : List ℕ) (moment : ℕ) (room : Room) (parts : Reserved) (homes : Homes) : Type 0 where
   pub written : HasWritten old new name moment (λ group b read. AllWritten b (order group) homes read new)
+  pub valid : IsValid written.group
   pub reserved : IsReservedFor written.group written.next room parts
   pub placed : ArePlaced new.sizes parts.descriptor parts.status.wanted
   -- by the choice and the clock

@@ -6,7 +6,7 @@ use Rattle.lvm_change.specs.Requests.{at}
 use Rattle.lvm_group.specs.NewGroup.{NewGroup}
 use Rattle.lvm_group.specs.Made.{IsMade}
 use Rattle.lvm_group.specs.Steps.{Stands}
-use Rattle.lvm_group.proofs.Starting.{spare_left, still_landed, placed, made, keeps_on, calm_on}
+use Rattle.lvm_group.proofs.Starting.{spare_left, still_landed, placed, made, settles, keeps_on, calm_on}
 use Rattle.lvm_group.proofs.making.mkvg.Goals as goal
 
 pub start-requires-clause-spare : goal.start-requires-clause-spare
@@ -44,6 +44,15 @@ returns-in-Ok-clause-gives g c =
     let new = g.S.Shelf.device c.make.new.shelf in
     let stands : Stands w c.args.room was c.make.new.history old new c.in-Ok.standing = c.in-Ok.ensures.made in
     subst (λ (s : g.row.S.Denot). IsMade w c.args.room was old (g.S.Shelf.device s) c.start.result.1) (sym c.start.ensures.shelf) (made w c.args.room was c.make.new.history old new c.in-Ok.standing stands c.start.result.1 c.start.ensures.core)
+
+pub returns-in-Ok-clause-settled : goal.returns-in-Ok-clause-settled
+returns-in-Ok-clause-settled g c =
+    let w : NewGroup = record { name = c.args.name; mib = c.args.mib; disks = c.args.disks.now; force = c.args.force; moment = c.args.moment } in
+    let was : Log = c.args.history in
+    let old = g.S.Shelf.device c.args.shelf in
+    let new = g.S.Shelf.device c.make.new.shelf in
+    let stands : Stands w c.args.room was c.make.new.history old new c.in-Ok.standing = c.in-Ok.ensures.made in
+    settles w c.args.room was c.make.new.history old new c.in-Ok.standing stands c.requires.moment c.start.result.1 c.start.ensures.core
 
 pub returns-in-Ok-clause-keeps : goal.returns-in-Ok-clause-keeps
 returns-in-Ok-clause-keeps g c = λ clock.

@@ -1,4 +1,4 @@
-use Rattle.std.proofs.Common.{◌≡◌, ◌+◌, ◌++◌, take, drop}
+use Rattle.std.proofs.Common.{◌≡◌, ◌+◌, ◌++◌, drop}
 use Rattle.std.specs.String.{string_bytes}
 use Rattle.lvm_line.specs.Disks.{blocks_text}
 use Rattle.lvm_line.proofs.disks.blocks_text.Given as goal

@@ -1,9 +1,6 @@
-use Rattle.std.proofs.Common.{◌≡◌, ◌∙◌, ap, sym, subst, refl, ℕ, List, Result, Err, IfOk, IfErr}
-use Rattle.lvm_num.specs.Buffer.{Sector}
+use Rattle.std.proofs.Common.{◌≡◌, ◌∙◌, ap, sym, subst, refl, ℕ, Err, IfOk, IfErr}
 use Rattle.lvm_disk.specs.Counts.{RoseBy}
-use Rattle.lvm_disk.specs.Device.{Device}
 use Rattle.lvm_change.specs.Requests.{at}
-use Rattle.lvm_raw.specs.declared.fault.RawFault.{RawFault}
 use Rattle.lvm_raw.specs.declared.fault.RawFault.TheVariants as fault
 use Rattle.lvm_raw.specs.Raw.{ReadGives}
 use Rattle.lvm_line.specs.Disks.{ReadDoes, refusal_by, blocks_text}

@@ -1,18 +1,12 @@
-use Rattle.std.proofs.Common.{◌≡◌, ◌∙◌, ap, sym, subst, refl, ℕ, List, Result, Err, IfOk, IfErr}
-use Rattle.lvm_num.specs.Buffer.{Sector}
+use Rattle.std.proofs.Common.{◌≡◌, ◌∙◌, ap, sym, subst, refl, ℕ, Err}
 use Rattle.lvm_disk.specs.Counts.{RoseBy}
-use Rattle.lvm_disk.specs.Device.{Device}
 use Rattle.lvm_change.specs.Requests.{at}
-use Rattle.lvm_raw.specs.declared.fault.RawFault.{RawFault}
 use Rattle.lvm_raw.specs.declared.fault.RawFault.TheVariants as fault
 use Rattle.lvm_raw.specs.Raw.{WriteGives}
-use Rattle.lvm_line.specs.Disks.{WriteDoes, refusal_by, blocks_text}
+use Rattle.lvm_line.specs.Disks.{WriteDoes}
 use Rattle.lvm_line.specs.Moments.{GoesOn}
-use Rattle.lvm_line.specs.Replies.{Shows}
 use Rattle.lvm_line.specs.Stages.{shelf_in, history_in}
 use Rattle.lvm_line.specs.State.{without_facts}
-use Rattle.lvm_line.specs.declared.reply.Reply.{Reply}
-use Rattle.lvm_line.specs.declared.reply.Reply.TheVariants as reply
 use Rattle.lvm_line.specs.declared.stage.Stage.{Stage}
 use Rattle.lvm_line.specs.declared.stage.Stage.TheVariants as stage
 use Rattle.lvm_line.proofs.Going.{ranges_go}

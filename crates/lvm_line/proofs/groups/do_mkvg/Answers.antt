@@ -1,12 +1,10 @@
-use Rattle.std.proofs.Common.{◌≡◌, ◌∙◌, ℕ, ap, sym, subst, refl, IfErr, IfOk, is_some}
-use Rattle.lvm_io.specs.Count.{Rose}
+use Rattle.std.proofs.Common.{◌∙◌, ℕ, ap, sym, subst, refl, is_some}
 use Rattle.lvm_group.specs.Made.{MkvgGives}
 use Rattle.lvm_line.specs.Groups.{asked_for}
-use Rattle.lvm_vol.specs.Log.{Log}
-use Rattle.lvm_line.specs.Groups.{MkvgDoes, IsAsked, NoVaryonWhileOn, NoMkvgWhileOn}
+use Rattle.lvm_line.specs.Groups.{MkvgDoes, NoMkvgWhileOn}
 use Rattle.lvm_line.specs.Moments.{GoesOn}
 use Rattle.lvm_line.specs.Stages.{shelf_in, history_in, session_in, state_in}
-use Rattle.lvm_line.specs.State.{State, without_facts}
+use Rattle.lvm_line.specs.State.{without_facts}
 use Rattle.lvm_line.specs.declared.stage.Stage.{Stage}
 use Rattle.lvm_line.specs.declared.stage.Stage.TheVariants as stage
 use Rattle.lvm_line.proofs.Going.{asked_goes}
@@ -29,6 +27,7 @@ left-requires g c =
     let called : Called g.S.Shelf.device c.in-Off.shelf c.in-Off.history (asked_for c.args.name c.args.mib c.args.disks.now c.args.force c.now-moment.result) c.args.room c.mkvg.result = record {
       gives = subst (λ (n : ℕ). MkvgGives g.S.Shelf.device (asked_for c.args.name c.args.mib c.args.disks.now c.args.force c.now-moment.result) c.args.room n c.in-Off.history (g.S.Shelf.device c.in-Off.shelf) c.mkvg.result) c.whole-patience.ensures c.mkvg.ensures.gives;
       held = c.mkvg.ensures.held;
+      settled = c.mkvg.ensures.settled;
       waited = c.mkvg.ensures.waited.later;
       keeps = c.mkvg.ensures.keeps;
       calm = c.mkvg.ensures.calm;
@@ -42,6 +41,7 @@ returns-in-Off-clause-does g c =
     let called : Called g.S.Shelf.device c.in-Off.shelf c.in-Off.history (asked_for c.args.name c.args.mib c.args.disks.now c.args.force c.now-moment.result) c.args.room c.mkvg.result = record {
       gives = subst (λ (n : ℕ). MkvgGives g.S.Shelf.device (asked_for c.args.name c.args.mib c.args.disks.now c.args.force c.now-moment.result) c.args.room n c.in-Off.history (g.S.Shelf.device c.in-Off.shelf) c.mkvg.result) c.whole-patience.ensures c.mkvg.ensures.gives;
       held = c.mkvg.ensures.held;
+      settled = c.mkvg.ensures.settled;
       waited = c.mkvg.ensures.waited.later;
       keeps = c.mkvg.ensures.keeps;
       calm = c.mkvg.ensures.calm;
@@ -59,6 +59,7 @@ returns-in-Off-clause-goes g c =
     let called : Called g.S.Shelf.device c.in-Off.shelf c.in-Off.history (asked_for c.args.name c.args.mib c.args.disks.now c.args.force c.now-moment.result) c.args.room c.mkvg.result = record {
       gives = subst (λ (n : ℕ). MkvgGives g.S.Shelf.device (asked_for c.args.name c.args.mib c.args.disks.now c.args.force c.now-moment.result) c.args.room n c.in-Off.history (g.S.Shelf.device c.in-Off.shelf) c.mkvg.result) c.whole-patience.ensures c.mkvg.ensures.gives;
       held = c.mkvg.ensures.held;
+      settled = c.mkvg.ensures.settled;
       waited = c.mkvg.ensures.waited.later;
       keeps = c.mkvg.ensures.keeps;
       calm = c.mkvg.ensures.calm;
@@ -76,6 +77,7 @@ returns-in-Off-clause-rooms g c =
     let called : Called g.S.Shelf.device c.in-Off.shelf c.in-Off.history (asked_for c.args.name c.args.mib c.args.disks.now c.args.force c.now-moment.result) c.args.room c.mkvg.result = record {
       gives = subst (λ (n : ℕ). MkvgGives g.S.Shelf.device (asked_for c.args.name c.args.mib c.args.disks.now c.args.force c.now-moment.result) c.args.room n c.in-Off.history (g.S.Shelf.device c.in-Off.shelf) c.mkvg.result) c.whole-patience.ensures c.mkvg.ensures.gives;
       held = c.mkvg.ensures.held;
+      settled = c.mkvg.ensures.settled;
       waited = c.mkvg.ensures.waited.later;
       keeps = c.mkvg.ensures.keeps;
       calm = c.mkvg.ensures.calm;
@@ -90,6 +92,7 @@ returns-in-Off-clause-orders g c =
     let called : Called g.S.Shelf.device c.in-Off.shelf c.in-Off.history (asked_for c.args.name c.args.mib c.args.disks.now c.args.force c.now-moment.result) c.args.room c.mkvg.result = record {
       gives = subst (λ (n : ℕ). MkvgGives g.S.Shelf.device (asked_for c.args.name c.args.mib c.args.disks.now c.args.force c.now-moment.result) c.args.room n c.in-Off.history (g.S.Shelf.device c.in-Off.shelf) c.mkvg.result) c.whole-patience.ensures c.mkvg.ensures.gives;
       held = c.mkvg.ensures.held;
+      settled = c.mkvg.ensures.settled;
       waited = c.mkvg.ensures.waited.later;
       keeps = c.mkvg.ensures.keeps;
       calm = c.mkvg.ensures.calm;

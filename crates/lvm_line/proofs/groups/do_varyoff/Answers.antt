@@ -1,4 +1,4 @@
-use Rattle.std.proofs.Common.{◌∙◌, ap, sym, subst, refl, rules, Option}
+use Rattle.std.proofs.Common.{◌∙◌, ap, sym, subst, rules, Option}
 use Rattle.lvm_core.specs.State.{Core}
 use Rattle.lvm_line.specs.Groups.{NoVaryoff}
 use Rattle.lvm_line.specs.Listings.{IsOn, IsNotOn}

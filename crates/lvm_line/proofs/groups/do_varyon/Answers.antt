@@ -1,11 +1,9 @@
-use Rattle.std.proofs.Common.{◌≡◌, ◌∙◌, ℕ, ap, sym, subst, refl, IfErr, IfOk, is_some}
-use Rattle.lvm_io.specs.Count.{Rose}
+use Rattle.std.proofs.Common.{◌∙◌, ℕ, ap, sym, subst, refl, IfErr, is_some}
 use Rattle.lvm_varyon.specs.Varied.{Refuses}
-use Rattle.lvm_vol.specs.Log.{Log}
-use Rattle.lvm_line.specs.Groups.{VaryonDoes, IsAsked, NoVaryonWhileOn, NoMkvgWhileOn}
+use Rattle.lvm_line.specs.Groups.{VaryonDoes, NoVaryonWhileOn}
 use Rattle.lvm_line.specs.Moments.{GoesOn}
 use Rattle.lvm_line.specs.Stages.{shelf_in, history_in, session_in, state_in}
-use Rattle.lvm_line.specs.State.{State, without_facts}
+use Rattle.lvm_line.specs.State.{without_facts}
 use Rattle.lvm_line.specs.declared.stage.Stage.{Stage}
 use Rattle.lvm_line.specs.declared.stage.Stage.TheVariants as stage
 use Rattle.lvm_line.proofs.Going.{asked_goes}
@@ -27,6 +25,7 @@ left-requires g c =
     let called : Called g.S.Shelf.device c.in-Off.shelf c.in-Off.history c.args.name c.now-moment.result c.args.room c.varyon.result = record {
       on = c.varyon.ensures.on;
       held = c.varyon.ensures.held;
+      settled = c.varyon.ensures.settled;
       restated = c.varyon.ensures.restated;
       refused = subst (λ (n : ℕ). IfErr c.varyon.result (λ refused. Refuses (g.S.Shelf.device c.in-Off.shelf) (g.S.Shelf.device refused.shelf) c.args.name c.now-moment.result n c.in-Off.history refused.cause)) c.whole-patience.ensures c.varyon.ensures.refused;
       history = c.varyon.ensures.history;
@@ -43,6 +42,7 @@ returns-in-Off-clause-does g c =
     let called : Called g.S.Shelf.device c.in-Off.shelf c.in-Off.history c.args.name c.now-moment.result c.args.room c.varyon.result = record {
       on = c.varyon.ensures.on;
       held = c.varyon.ensures.held;
+      settled = c.varyon.ensures.settled;
       restated = c.varyon.ensures.restated;
       refused = subst (λ (n : ℕ). IfErr c.varyon.result (λ refused. Refuses (g.S.Shelf.device c.in-Off.shelf) (g.S.Shelf.device refused.shelf) c.args.name c.now-moment.result n c.in-Off.history refused.cause)) c.whole-patience.ensures c.varyon.ensures.refused;
       history = c.varyon.ensures.history;
@@ -63,6 +63,7 @@ returns-in-Off-clause-goes g c =
     let called : Called g.S.Shelf.device c.in-Off.shelf c.in-Off.history c.args.name c.now-moment.result c.args.room c.varyon.result = record {
       on = c.varyon.ensures.on;
       held = c.varyon.ensures.held;
+      settled = c.varyon.ensures.settled;
       restated = c.varyon.ensures.restated;
       refused = subst (λ (n : ℕ). IfErr c.varyon.result (λ refused. Refuses (g.S.Shelf.device c.in-Off.shelf) (g.S.Shelf.device refused.shelf) c.args.name c.now-moment.result n c.in-Off.history refused.cause)) c.whole-patience.ensures c.varyon.ensures.refused;
       history = c.varyon.ensures.history;
@@ -83,6 +84,7 @@ returns-in-Off-clause-rooms g c =
     let called : Called g.S.Shelf.device c.in-Off.shelf c.in-Off.history c.args.name c.now-moment.result c.args.room c.varyon.result = record {
       on = c.varyon.ensures.on;
       held = c.varyon.ensures.held;
+      settled = c.varyon.ensures.settled;
       restated = c.varyon.ensures.restated;
       refused = subst (λ (n : ℕ). IfErr c.varyon.result (λ refused. Refuses (g.S.Shelf.device c.in-Off.shelf) (g.S.Shelf.device refused.shelf) c.args.name c.now-moment.result n c.in-Off.history refused.cause)) c.whole-patience.ensures c.varyon.ensures.refused;
       history = c.varyon.ensures.history;
@@ -100,6 +102,7 @@ returns-in-Off-clause-orders g c =
     let called : Called g.S.Shelf.device c.in-Off.shelf c.in-Off.history c.args.name c.now-moment.result c.args.room c.varyon.result = record {
       on = c.varyon.ensures.on;
       held = c.varyon.ensures.held;
+      settled = c.varyon.ensures.settled;
       restated = c.varyon.ensures.restated;
       refused = subst (λ (n : ℕ). IfErr c.varyon.result (λ refused. Refuses (g.S.Shelf.device c.in-Off.shelf) (g.S.Shelf.device refused.shelf) c.args.name c.now-moment.result n c.in-Off.history refused.cause)) c.whole-patience.ensures c.varyon.ensures.refused;
       history = c.varyon.ensures.history;

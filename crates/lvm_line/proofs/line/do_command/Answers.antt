@@ -1,4 +1,4 @@
-use Rattle.std.proofs.Common.{◌≡◌, ◌∙◌, ap, sym, subst, refl, length, ℕ, List}
+use Rattle.std.proofs.Common.{ap, sym, subst, length, ℕ, List}
 use Rattle.lvm_line.specs.Groups.{MkvgDoes}
 use Rattle.lvm_line.specs.Listings.{GroupShows, VolumeShows, DiskShows}
 use Rattle.lvm_line.specs.Stages.{shelf_in, history_in, session_in, state_in}
@@ -32,8 +32,14 @@ returns-in-Lsvg-clause-goes g c = stays g.S.Shelf.device c.args.stage c.answered
 pub returns-in-Mklv-clause-does : goal.returns-in-Mklv-clause-does
 returns-in-Mklv-clause-does g c = of_command (without_facts (history_in c.args.stage)) c.args.room c.args.command _ _ _ c.do_mklv.result.reply c.in-Mklv.is (c.do_mklv.ensures.does (g.C.Clock.last c.args.clock.now))
 
+pub returns-in-Mklv-clause-goes : goal.returns-in-Mklv-clause-goes
+returns-in-Mklv-clause-goes g c = c.do_mklv.ensures.goes (g.C.Clock.last c.args.clock.now)
+
 pub returns-in-Rmlv-clause-does : goal.returns-in-Rmlv-clause-does
 returns-in-Rmlv-clause-does g c = of_command (without_facts (history_in c.args.stage)) c.args.room c.args.command _ _ _ c.do_rmlv.result.reply c.in-Rmlv.is (c.do_rmlv.ensures.does (g.C.Clock.last c.args.clock.now))
+
+pub returns-in-Rmlv-clause-goes : goal.returns-in-Rmlv-clause-goes
+returns-in-Rmlv-clause-goes g c = c.do_rmlv.ensures.goes (g.C.Clock.last c.args.clock.now)
 
 pub returns-in-Lslv-clause-does : goal.returns-in-Lslv-clause-does
 returns-in-Lslv-clause-does g c = of_command (without_facts (history_in c.args.stage)) c.args.room c.args.command _ _ _ c.answered-in-Lslv.result.reply c.in-Lslv.is

@@ -1,4 +1,4 @@
-use Rattle.std.proofs.Common.{◌≡◌, ◌∙◌, ap, sym, refl, subst, None, Some, Ok, Option, Result}
+use Rattle.std.proofs.Common.{◌≡◌, ◌∙◌, ap, None, Some, Ok, Option}
 use Rattle.lvm_parse.specs.declared.command.Command.{Command}
 use Rattle.lvm_parse.specs.Reading.{misfit}
 use Rattle.lvm_line.specs.Stages.{history_in, state_in}

@@ -1,5 +1,5 @@
-use Rattle.std.proofs.Common.{◌≡◌, ◌<◌, ◌≤◌, inl, inr, ap, sym, subst, ◌∙◌, refl, length, ℕ, List, Bool, is_some, true, false, arith}
-use Rattle.std.specs.Prelude.{◌==◌, IsSome}
+use Rattle.std.proofs.Common.{◌<◌, ◌≤◌, inl, inr, ap, sym, subst, ◌∙◌, refl, length, ℕ, List}
+use Rattle.std.specs.Prelude.{◌==◌}
 use Rattle.lvm_num.specs.declared.descriptor.Descriptor.{Descriptor}
 use Rattle.lvm_num.specs.declared.descriptor.PvRow.{PvRow}
 use Rattle.lvm_num.specs.declared.status.Status.{Status}

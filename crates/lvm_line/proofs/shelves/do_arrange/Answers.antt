@@ -1,8 +1,7 @@
-use Rattle.std.proofs.Common.{◌≡◌, ◌∙◌, ap, subst, sym, true, arith}
-use Rattle.lvm_disk.specs.Steps.{with_order, ArrangeGives}
+use Rattle.std.proofs.Common.{◌∙◌, ap, subst, sym, arith}
 use Rattle.lvm_line.specs.Moments.{GoesOn}
-use Rattle.lvm_line.specs.Shelves.{ArrangeDoes, IsArranged}
-use Rattle.lvm_line.specs.Stages.{shelf_in, history_in, session_in, state_in, Between}
+use Rattle.lvm_line.specs.Shelves.{IsArranged}
+use Rattle.lvm_line.specs.Stages.{history_in, state_in, Between}
 use Rattle.lvm_line.specs.State.{without_facts}
 use Rattle.lvm_line.specs.declared.stage.Stage.{Stage}
 use Rattle.lvm_line.proofs.Ordering.{stays, not_arranged_goes, arranged_goes, arranged_is, same_rooms}

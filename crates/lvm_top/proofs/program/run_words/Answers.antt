@@ -1,36 +1,21 @@
-use Rattle.std.proofs.Common.{[], ◌∙◌, ap, sym, subst, refl, Ok}
-use Rattle.lvm_disk.specs.Device.{Device}
-use Rattle.lvm_disk.specs.Memory.{device_of}
-use Rattle.lvm_vol.specs.Facts.{joined}
-use Rattle.lvm_vol.specs.Legal.{Legal}
-use Rattle.lvm_change.specs.Moments.{ImagesKept, IsEarlier, IsUpheld}
-use Rattle.lvm_stamps.specs.Behind.{IsBehind}
-use Rattle.lvm_top.specs.Script.{facts_of, run_of}
-use Rattle.lvm_top.specs.Sim.{full_room, sim_device, IsToldBlank}
+use Rattle.std.proofs.Common.{ap}
+use Rattle.lvm_top.specs.Sim.{full_room}
 use Rattle.lvm_words.specs.Words.{job_of}
-use Rattle.lvm_words.specs.declared.job.Job.{Job}
-use Rattle.lvm_top.proofs.Blanks.{sim_earlier, sim_behind, told_earlier, told_behind}
-use Rattle.lvm_top.proofs.Commanding.{upheld_alone, on_script, on_sim_at, unread_run, unread_upheld, unread_first}
+use Rattle.lvm_top.proofs.Commanding.{first_upheld, sim_upheld, sim_first, on_script, on_sim, unread_run, unread_upheld, unread_first}
+use Rattle.lvm_top.proofs.Scripting.{run_upheld}
 use Rattle.lvm_top.proofs.program.run_words.Goals as goal
 
 pub returns-in-Ok-Script-clause-script_first : goal.returns-in-Ok-Script-clause-script_first
-returns-in-Ok-Script-clause-script_first g c =
-    on_script (job_of c.args.words.now) (IsToldBlank (g.S.Shelf.device c.args.files) → Legal (joined [] (facts_of c.run_script.result.history)) × ImagesKept (g.S.Shelf.device c.run_script.result.shelf) (joined [] (facts_of c.run_script.result.history)))
-    (λ blank. upheld_alone (run_of c.run_script.result.history) (g.S.Shelf.device c.args.files) (g.S.Shelf.device c.run_script.result.shelf) (facts_of c.run_script.result.history) (told_earlier (run_of c.run_script.result.history) (g.S.Shelf.device c.args.files) blank)
-    (c.run_script.ensures.upheld (told_behind (run_of c.run_script.result.history) (g.S.Shelf.device c.args.files) blank)))
+returns-in-Ok-Script-clause-script_first g c = on_script _ _ (first_upheld _ _ _ _ _ _ _ _ _ _ _ _)
+
+pub returns-in-Ok-Script-clause-script_upheld : goal.returns-in-Ok-Script-clause-script_upheld
+returns-in-Ok-Script-clause-script_upheld g c = on_script _ _ (run_upheld _ _ _ _ _ _ _ _ _ _ _ _)
 
 pub returns-in-Ok-clause-sim_upheld : goal.returns-in-Ok-clause-sim_upheld
-returns-in-Ok-clause-sim_upheld g c =
-    on_sim_at (job_of c.args.words.now) c.in-Ok-Sim.disks c.in-Ok-Sim.mib (c.in-Ok-Sim.ensures.job ∙ ap (λ (job : Job). Ok job) c.in-Ok-Sim.field-0-is)
-    (λ disks mib. IsUpheld (run_of c.run_script-ended.result.history) (sim_device disks mib) (device_of c.run_script-ended.result.shelf) (facts_of c.run_script-ended.result.history))
-    (subst (λ (d : Device). IsUpheld (run_of c.run_script-ended.result.history) d (device_of c.run_script-ended.result.shelf) (facts_of c.run_script-ended.result.history)) c.in-Ok.ensures (c.run_script-ended.ensures.upheld (subst (λ (d : Device). IsBehind (run_of c.run_script-ended.result.history) d) (sym c.in-Ok.ensures) (sim_behind (run_of c.run_script-ended.result.history) c.in-Ok-Sim.disks c.in-Ok-Sim.mib))))
+returns-in-Ok-clause-sim_upheld g c = on_sim _ _ (λ disks mib. sim_upheld _ _ _ disks mib _ _ _ _ _ _ _ _)
 
 pub returns-in-Ok-clause-sim_first : goal.returns-in-Ok-clause-sim_first
-returns-in-Ok-clause-sim_first g c =
-    on_sim_at (job_of c.args.words.now) c.in-Ok-Sim.disks c.in-Ok-Sim.mib (c.in-Ok-Sim.ensures.job ∙ ap (λ (job : Job). Ok job) c.in-Ok-Sim.field-0-is)
-    (λ disks mib. Legal (joined [] (facts_of c.run_script-ended.result.history)) × ImagesKept (device_of c.run_script-ended.result.shelf) (joined [] (facts_of c.run_script-ended.result.history)))
-    (upheld_alone (run_of c.run_script-ended.result.history) (sim_device c.in-Ok-Sim.disks c.in-Ok-Sim.mib) (device_of c.run_script-ended.result.shelf) (facts_of c.run_script-ended.result.history) (sim_earlier (run_of c.run_script-ended.result.history) c.in-Ok-Sim.disks c.in-Ok-Sim.mib)
-    (subst (λ (d : Device). IsUpheld (run_of c.run_script-ended.result.history) d (device_of c.run_script-ended.result.shelf) (facts_of c.run_script-ended.result.history)) c.in-Ok.ensures (c.run_script-ended.ensures.upheld (subst (λ (d : Device). IsBehind (run_of c.run_script-ended.result.history) d) (sym c.in-Ok.ensures) (sim_behind (run_of c.run_script-ended.result.history) c.in-Ok-Sim.disks c.in-Ok-Sim.mib)))))
+returns-in-Ok-clause-sim_first g c = on_sim _ _ (λ disks mib. sim_first _ _ _ disks mib _ _ _ _ _ _ _ _)
 
 pub returns-in-Err-Memory-clause-script_first : goal.returns-in-Err-Memory-clause-script_first
 returns-in-Err-Memory-clause-script_first g c =

@@ -1,23 +1,15 @@
-use Rattle.std.proofs.Common.{◌≡◌, ◌≤◌, ◌∙◌, ◌+◌, ap, sym, subst, refl, ℕ, List, [], Some, None, IfNone, arith}
+use Rattle.std.proofs.Common.{◌≡◌, ◌≤◌, ◌∙◌, ap, sym, subst, refl, ℕ, [], Some, None, arith}
 use Rattle.lvm_io.specs.Count.{Rose}
-use Rattle.lvm_disk.specs.Device.{Device}
-use Rattle.lvm_vol.specs.Facts.{Fact}
 use Rattle.lvm_vol.specs.Log.{Log}
-use Rattle.lvm_change.proofs.Spans.{span_upholds, keeps_still}
-use Rattle.lvm_stamps.specs.Behind.{IsAhead}
-use Rattle.lvm_line.specs.Stages.{shelf_in, history_in, state_in}
-use Rattle.lvm_line.specs.State.{State, without_facts}
-use Rattle.lvm_line.specs.declared.stage.Stage.TheVariants as stage
-use Rattle.lvm_top.specs.Script.{IsWhole, IsPart, empty_log, entry_state}
-use Rattle.lvm_top.proofs.Scripting.{nothing_done, part_ended, run_upheld, run_ahead}
-use Rattle.lvm_top.proofs.Stopping.{nothing_ran, nothing_ahead, first_is, named, later as later_run, the_run, the_upheld, the_ahead}
+use Rattle.lvm_top.proofs.Scripting.{run_upheld}
+use Rattle.lvm_top.proofs.Stopping.{nothing_ran, nothing_ahead, first_is, named, later as later_run, the_run, the_ahead}
 use Rattle.lvm_top.proofs.run.run_script.Goals as goal
 
 pub returns-in_default-clause-run : goal.returns-in_default-clause-run
 returns-in_default-clause-run g c = nothing_ran 0 (g.C.Clock.last c.now-run.new.self) c.args.room (g.S.Shelf.device c.args.shelf) (record { content = g.I.Source.left c.args.input.now; faults = g.I.Source.faults c.args.input.now }) (record { content = g.O.Sink.held c.args.out.now; faults = g.O.Sink.faults c.args.out.now }) None c.requires.ready refl tt tt
 
 pub returns-in_default-clause-upheld : goal.returns-in_default-clause-upheld
-returns-in_default-clause-upheld g c behind = span_upholds 0 (g.S.Shelf.device c.args.shelf) (g.S.Shelf.device c.args.shelf) [] (keeps_still 0 (record { device = g.S.Shelf.device c.args.shelf; facts = [] }))
+returns-in_default-clause-upheld g c = run_upheld _ _ _ _ _ _ _ _ _ _ _ _
 
 pub returns-in_default-clause-ahead : goal.returns-in_default-clause-ahead
 returns-in_default-clause-ahead g c behind = nothing_ahead 0 (g.C.Clock.last c.now-run.new.self) (g.S.Shelf.device c.args.shelf) [] refl (omega arith) behind
@@ -27,10 +19,7 @@ returns-in_default-new-clause-run g c = nothing_ran c.in-Ok.history.run (g.C.Clo
     (first_is c.in-Ok.history c.now-run.result c.args.room c.in-Ok.ensures) (ap (λ (l : Log). l.run) c.in-Ok.ensures ∙ sym c.now-run.ensures.last)
 
 pub returns-in_default-new-clause-upheld : goal.returns-in_default-new-clause-upheld
-returns-in_default-new-clause-upheld g c behind =
-    let run = c.in-Ok.history.run in
-    subst (λ (facts : List Fact). Rattle.lvm_change.specs.Moments.IsUpheld run (g.S.Shelf.device c.args.shelf) (g.S.Shelf.device c.args.shelf) facts) (sym (ap (λ (l : Log). l.facts) c.in-Ok.ensures))
-    (span_upholds run (g.S.Shelf.device c.args.shelf) (g.S.Shelf.device c.args.shelf) [] (keeps_still run (record { device = g.S.Shelf.device c.args.shelf; facts = [] })))
+returns-in_default-new-clause-upheld g c = run_upheld _ _ _ _ _ _ _ _ _ _ _ _
 
 pub returns-in_default-new-clause-ahead : goal.returns-in_default-new-clause-ahead
 returns-in_default-new-clause-ahead g c behind =
@@ -45,10 +34,7 @@ returns-clause-run g c =
     c.status_of.result c.status_of.ensures c.requires.ready c.do_lines-done.ensures.whole c.do_lines-done.ensures.source c.do_lines-done.ensures.sink c.do_lines-done.ensures.stuck c.do_lines-done.ensures.long
 
 pub returns-clause-upheld : goal.returns-clause-upheld
-returns-clause-upheld g c =
-    the_upheld g.S.Shelf.device c.args.shelf c.in-Ok.history c.now-run.result (g.C.Clock.last c.now-run.new.self) (g.C.Clock.last c.do_lines-done.new.clock) c.args.room c.in-Ok.ensures c.now-run.ensures.last
-    c.do_lines-done.result.stage c.close-shelf.result.shelf c.close-shelf.result.history c.close-shelf.ensures.shelf c.close-shelf.ensures.off c.close-shelf.ensures.history c.do_lines-done.ensures.rooms c.do_lines-done.result.stop c.do_lines-done.ensures.settled c.do_lines-done.ensures.off
-    (record { content = g.I.Source.left c.args.input.now; faults = g.I.Source.faults c.args.input.now }) (record { content = g.I.Source.left c.do_lines-done.new.input; faults = g.I.Source.faults c.do_lines-done.new.input }) (record { content = g.O.Sink.held c.args.out.now; faults = g.O.Sink.faults c.args.out.now }) (record { content = g.O.Sink.held c.do_lines-done.new.out; faults = g.O.Sink.faults c.do_lines-done.new.out }) c.do_lines-done.result.refused c.do_lines-done.ensures.part
+returns-clause-upheld g c = run_upheld _ _ _ _ _ _ _ _ _ _ _ _
 
 pub returns-clause-ahead : goal.returns-clause-ahead
 returns-clause-ahead g c =

@@ -1,10 +1,10 @@
-use Rattle.std.proofs.Common.{◌≡◌, ◌≤◌, ◌∙◌, inl, inr, ap, sym, refl, subst, List, arith}
+use Rattle.std.proofs.Common.{◌≤◌, ◌∙◌, inl, inr, sym, refl, subst, arith}
 use Rattle.std.proofs.lemmas.Bool.{cases_lt}
 use Rattle.lvm_io.specs.Reading.{Reading}
 use Rattle.lvm_line.specs.Replies.{IsStuck, reply_text}
 use Rattle.lvm_line.specs.Stages.{shelf_in, history_in, state_in}
 use Rattle.lvm_line.specs.State.{without_facts}
-use Rattle.lvm_top.proofs.Scripting.{RunSoFar, unread, at_start, all_read, part_so_far, part_in_line, line_answered, one_more, script_went}
+use Rattle.lvm_top.proofs.Scripting.{RunSoFar, at_start, all_read, part_so_far, part_in_line, line_answered, one_more, script_went}
 use Rattle.lvm_top.proofs.Lining.{renamed, wrote, took_all, stuck_waited, stuck_is_off, waited_since}
 use Rattle.lvm_top.proofs.script.do_lines.Goals as goal
 

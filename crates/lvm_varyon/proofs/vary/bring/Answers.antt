@@ -12,7 +12,8 @@ use Rattle.lvm_varyon.specs.Writing.{AllWritten}
 use Rattle.lvm_varyon.proofs.Beginning.{targets_have_room}
 use Rattle.lvm_varyon.proofs.Bringing.{stops_choosing, stops_writing, brought, unwritten_behind, written_behind}
 use Rattle.lvm_varyon.proofs.KeptPaths.{reading_kept, writing_kept}
-use Rattle.lvm_varyon.proofs.Sizes.{descriptor_fits, status_fits}
+use Rattle.lvm_core.proofs.Sizes.{descriptor_fits}
+use Rattle.lvm_varyon.proofs.Sizes.{status_fits}
 use Rattle.lvm_varyon.proofs.vary.bring.Goals as goal
 
 pub returns-in_err-survey-clause-kept : goal.returns-in_err-survey-clause-kept

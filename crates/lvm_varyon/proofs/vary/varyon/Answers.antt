@@ -10,7 +10,7 @@ use Rattle.lvm_stamps.proofs.Clock.{all_is_behind_next}
 use Rattle.lvm_core.specs.Held.{IsHeld}
 use Rattle.lvm_core.specs.declared.refused.Cause.TheVariants as cause
 use Rattle.lvm_varyon.specs.Varied.{ComesOn, IsRestated, IsRecovered}
-use Rattle.lvm_varyon.proofs.Spanning.{ahead_of, refused_keeps, refused_calm, comes_on, held, is_restated, is_recovered, on_keeps, on_calm}
+use Rattle.lvm_varyon.proofs.Spanning.{ahead_of, refused_keeps, refused_calm, comes_on, held, settles, is_restated, is_recovered, on_keeps, on_calm}
 use Rattle.lvm_varyon.proofs.vary.varyon.Goals as goal
 
 pub start-requires-clause-placed : goal.start-requires-clause-placed
@@ -34,6 +34,10 @@ returns-in-Ok-clause-on g c =
     let spare : 1 ≤ spare_entries c.args.history = omega (arith, is, some) in
     subst (λ (d : Device). ComesOn (g.S.Shelf.device c.args.shelf) d c.args.history c.args.name c.args.moment c.args.room c.start.result.1) (sym (ap g.S.Shelf.device c.start.ensures.shelf))
     (comes_on _ _ c.args.history c.args.name c.args.moment c.args.room c.in-Ok.parts c.in-Ok.homes c.start.result.1 c.in-Ok.ensures.gives c.start.ensures.core spare)
+
+pub returns-in-Ok-clause-settled : goal.returns-in-Ok-clause-settled
+returns-in-Ok-clause-settled g c =
+    settles _ _ c.args.history c.args.name c.args.moment c.args.room c.in-Ok.parts c.in-Ok.homes c.start.result.1 c.in-Ok.ensures.gives c.start.ensures.core c.requires.moment
 
 pub returns-in-Ok-clause-held : goal.returns-in-Ok-clause-held
 returns-in-Ok-clause-held g c = λ clock.

@@ -7,6 +7,7 @@ use Rattle.lvm_core.proofs.driver.Driver.start.Goals as goal
 pub invariant_of-result : goal.invariant_of-result
 invariant_of-result g c = (
   c.into_session.ensures.table,
+  c.into_session.ensures.bytes,
   subst (λ (core : Core). IsSound (state (g.S.Shelf.device c.args.shelf) core)) (sym c.into_session.ensures.core)
       (sound_first (g.S.Shelf.device c.args.shelf) c.args.parts c.args.history c.args.stamp c.args.homes c.into_session.ensures.reserved c.requires.landed c.requires.ready c.requires.placed),
 )

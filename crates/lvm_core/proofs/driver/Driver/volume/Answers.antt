@@ -1,4 +1,4 @@
-use Rattle.std.proofs.Common.{◌≡◌, List, IfNone, subst, sym, ap, ◌∙◌}
+use Rattle.std.proofs.Common.{List, IfNone, subst}
 use Rattle.lvm_num.specs.declared.descriptor.LvRow.{LvRow}
 use Rattle.lvm_core.specs.Looking.{HasNoVolume}
 use Rattle.lvm_core.proofs.driver.Driver.volume.Goals as goal

@@ -26,7 +26,7 @@ invariant_of-result c =
       status = c.in_ok-updater.ensures ∙ ap (λ (t : Status). first_updates t d) c.in_ok-table.ensures;
       cache = empty_cache d c.members.result c.in_ok-cache.cache c.members.ensures c.in_ok-cache.ensures;
     } in
-    (c.in-Ok.ensures.capacity, reserved d c.args.choice.status c.args.room parts c.requires.descriptor c.requires.group c.requires.room its)
+    (c.in-Ok.ensures.capacity, c.in_ok-bytes.ensures, reserved d c.args.choice.status c.args.room parts c.requires.descriptor c.requires.group c.requires.room its)
 
 pub returns-in-Ok : goal.returns-in-Ok
 returns-in-Ok c =

@@ -1,0 +1,146 @@
+use Rattle.std.proofs.Common.{◌≡◌, ℕ, List, ◌∙◌, ap, subst, arith}
+use Rattle.lvm_num.specs.declared.record.Kind.TheVariants as kind
+use Rattle.lvm_num.specs.declared.record.Stamp.{Stamp}
+use Rattle.lvm_num.specs.Buffer.{Buffer}
+use Rattle.lvm_disk.specs.Device.{Device, IsReady, HasSectors}
+use Rattle.lvm_kept.specs.Torn.{RecordWrite, IsOfRecord}
+use Rattle.lvm_status.specs.Update.{Stored}
+use Rattle.lvm_quorum.specs.declared.homes.Homes.{Homes}
+use Rattle.lvm_quorum.specs.Written.{IsDarkened, IsGivenUp}
+use Rattle.lvm_quorum.proofs.Transfers.{spends_then}
+use Rattle.lvm_commit.specs.declared.commit.Settled.{Settled}
+use Rattle.lvm_commit.specs.declared.commit.Settled.TheVariants as settled
+use Rattle.lvm_commit.specs.Settling.{IfBack, IsOfCommit, ComesHeld, StaysHeld, HasLostQuorum, AreWell, IsCommitted, IsPlain, there}
+use Rattle.lvm_commit.specs.Rounds.{stamped, session_write, RecordGives}
+use Rattle.lvm_commit.proofs.Chaining.{Returns, keeps_wider}
+use Rattle.lvm_commit.proofs.Ready.{may_settle_on, numbers_left, spends_one}
+use Rattle.lvm_commit.proofs.Ends.{done_map, off_map, back_map, not_done, done_unit, dark_map, stuck_map}
+use Rattle.lvm_commit.proofs.Describing.{describes, stamp_is, is_of_commit, descriptor_off, descriptor_spent, descriptor_back, descriptor_dark, descriptor_stuck, descriptor_finds, descriptor_kept}
+use Rattle.lvm_commit.proofs.Described.{ends_map, commit_loses, commit_well, commit_dark, commit_stuck, commit_off, commit_numbers, commit_spent, commit_plain, commit_keeps, commit_finds, commit_held, commit_kept, Described}
+use Rattle.lvm_commit.proofs.commit.commit_descriptor.Goals as goal
+
+-- ---- where the record was written
+
+pub commit_status-requires-clause-may : goal.commit_status-requires-clause-may
+commit_status-requires-clause-may g c =
+    let first : Stored = c.args.updater.now in
+    let mid : Stored = c.write_descriptor.new.updater in
+    let old : Device = g.S.Shelf.device c.args.shelf.now in
+    let m : Device = g.S.Shelf.device c.write_descriptor.new.shelf in
+    let content : List ℕ = c.args.content.now in
+    let w : RecordWrite = session_write kind.Descriptor content (stamped first) c.args.homes.now in
+    let gives : RecordGives w c.args.buf.number c.args.patience.now.left c.write_descriptor.new.patience.left (stamped first) mid c.args.homes.now c.write_descriptor.new.homes old m (settled.Done c.in-Done.buf) =
+    subst (λ (r : Settled). RecordGives w c.args.buf.number c.args.patience.now.left c.write_descriptor.new.patience.left (stamped first) mid c.args.homes.now c.write_descriptor.new.homes old m r) c.in-Done.is
+    c.write_descriptor.ensures.gives in
+    let one = describes first mid c.args.homes.now c.write_descriptor.new.homes old m content c.args.buf.number c.args.patience.now.left c.write_descriptor.new.patience.left (settled.Done c.in-Done.buf) gives in
+    may_settle_on c.args.d.now first mid old m c.requires.may one.loses c.in-Done.ensures.committed.0 (ap (λ (s : Stamp). s.epoch) gives.how.0.stamp) one.keeps.sizes gives.how.1
+
+pub commit_status-requires-clause-numbers : goal.commit_status-requires-clause-numbers
+commit_status-requires-clause-numbers g c =
+    let first : Stored = c.args.updater.now in
+    let mid : Stored = c.write_descriptor.new.updater in
+    let old : Device = g.S.Shelf.device c.args.shelf.now in
+    let m : Device = g.S.Shelf.device c.write_descriptor.new.shelf in
+    let content : List ℕ = c.args.content.now in
+    let one = describes first mid c.args.homes.now c.write_descriptor.new.homes old m content c.args.buf.number c.args.patience.now.left c.write_descriptor.new.patience.left c.write_descriptor.result c.write_descriptor.ensures.gives in
+    numbers_left first mid old m one.loses
+    (stamp_is first mid c.args.homes.now c.write_descriptor.new.homes old m content c.args.buf.number c.args.patience.now.left c.write_descriptor.new.patience.left c.write_descriptor.result c.write_descriptor.ensures.gives)
+    1 c.requires.numbers
+
+-- ---- where it was not, or too few members are left
+
+pub returns-in_default : goal.returns-in_default
+returns-in_default g c =
+    let first : Stored = c.args.updater.now in
+    let mid : Stored = c.write_descriptor.new.updater in
+    let homes : Homes = c.args.homes.now in
+    let after : Homes = c.write_descriptor.new.homes in
+    let old : Device = g.S.Shelf.device c.args.shelf.now in
+    let m : Device = g.S.Shelf.device c.write_descriptor.new.shelf in
+    let sectors : HasSectors old = g.met.S.Shelf.sectors_are_whole c.args.shelf.now in
+    let content : List ℕ = c.args.content.now in
+    let number = c.args.buf.number in
+    let p = c.args.patience.now.left in
+    let q = c.write_descriptor.new.patience.left in
+    let r : Settled = c.write_descriptor.result in
+    let w : RecordWrite = session_write kind.Descriptor content (stamped first) homes in
+    let gives : RecordGives w number p q (stamped first) mid homes after old m r = c.write_descriptor.ensures.gives in
+    let frames = c.write_descriptor.ensures.frames in
+    let one = describes first mid homes after old m content number p q r gives in
+    let stamp = stamp_is first mid homes after old m content number p q r gives in
+    let back : IfBack r (λ back. Returns number mid old m back) = descriptor_back first mid homes after old m content number p q r gives in
+    record {
+      done = not_done r (λ back. IsCommitted mid) c.in_default.not-Done;
+      held = not_done r (λ back. ComesHeld content first mid homes after old m) c.in_default.not-Done;
+      plain = not_done r (λ back. IsPlain kind.Descriptor content first mid homes old m) c.in_default.not-Done;
+      off = descriptor_off first mid homes after old m content number p q r gives c.requires.may.votes;
+      spent = descriptor_spent first mid homes after old m content number p q r gives c.requires.may.votes;
+      buffer = back_map r (λ buf. Returns number mid old m buf) (λ buf. buf.number ≡ number) (λ buf is. is.number_is) back;
+      ready = back_map r (λ buf. Returns number mid old m buf) (λ buf. IsReady m × (m.counts.cuts ≡ old.counts.cuts)) (λ buf is. (is.ready, is.cuts)) back;
+      well = back_map r (λ buf. Returns number mid old m buf) (λ buf. AreWell mid old m) (λ buf is. is.well) back;
+      dark = descriptor_dark first mid homes after old m content number p q r gives;
+      stuck = descriptor_stuck first mid homes after old m content number p q r gives;
+      marks = one.loses;
+      numbers = spends_one first mid old m one.loses stamp;
+      patience = one.spends.falls;
+      waited = one.spends.waits;
+      keeps = keeps_wider (there first) (there first) (IsOfRecord w) (IsOfCommit content first mid) old m (λ d off. off) (is_of_commit first mid homes after old m content number p q r gives sectors frames mid (omega arith)) one.keeps;
+      finds = λ group next reads own alike held. descriptor_finds first mid homes after old m content number p q r gives sectors frames group next reads held;
+      kept = descriptor_kept first mid homes after old m content number p q r gives sectors frames;
+    }
+
+-- ---- where the status was committed then
+
+pub returns-in-Done : goal.returns-in-Done
+returns-in-Done g c =
+    let first : Stored = c.args.updater.now in
+    let mid : Stored = c.write_descriptor.new.updater in
+    let last : Stored = c.commit_status.new.updater in
+    let homes : Homes = c.args.homes.now in
+    let after : Homes = c.write_descriptor.new.homes in
+    let final : Homes = c.commit_status.new.homes in
+    let old : Device = g.S.Shelf.device c.args.shelf.now in
+    let m : Device = g.S.Shelf.device c.write_descriptor.new.shelf in
+    let new : Device = g.S.Shelf.device c.commit_status.new.shelf in
+    let content : List ℕ = c.args.content.now in
+    let number = c.args.buf.number in
+    let p = c.args.patience.now.left in
+    let q = c.write_descriptor.new.patience.left in
+    let buf : Buffer = c.in-Done.buf in
+    let r : Settled = c.commit_status.result in
+    let gives : RecordGives (session_write kind.Descriptor content (stamped first) homes) number p q (stamped first) mid homes after old m (settled.Done buf) =
+    subst (λ (x : Settled). RecordGives (session_write kind.Descriptor content (stamped first) homes) number p q (stamped first) mid homes after old m x) c.in-Done.is c.write_descriptor.ensures.gives in
+    let e = c.commit_status.ensures in
+    let k : Described first mid last homes after final old m new content number p q buf r = record {
+      sectors = g.met.S.Shelf.sectors_are_whole c.args.shelf.now;
+      frames = c.write_descriptor.ensures.frames;
+      gives = gives;
+      was_settled = c.requires.settled;
+      committed = c.in-Done.ensures.committed.1;
+      loses = e.marks;
+      keeps = e.keeps;
+      kept = e.kept;
+      unwritten = λ same. ends_map r _ ((new ≡ m) × (last ≡ mid)) (λ is. (ap (λ s. g.S.Shelf.device s) is.0, is.1)) (e.unwritten same);
+    } in
+    let spends = spends_then p q c.commit_status.new.patience.left old m new gives.spends (record { falls = e.patience; waits = e.waited }) in
+    record {
+      done = e.done;
+      held = done_map r (λ back. StaysHeld mid last after final m new) (λ back. ComesHeld content first last homes final old new)
+          (λ back stays group next reads own alike held. commit_held first mid last homes after final old m new content number p q buf r k group next reads own alike held e.finds stays) e.held;
+      plain = done_map r (λ back. Unit {0}) (λ back. IsPlain kind.Descriptor content first last homes old new) (λ back is same. commit_plain first mid last homes after final old m new content number p q buf r k same) (done_unit r);
+      off = off_map r (λ have total back. HasLostQuorum mid last m new have total) (λ have total back. HasLostQuorum first last old new have total)
+          (λ have total back lost. commit_off first mid last homes after final old m new content number p q buf r k have total lost) e.off;
+      spent = commit_spent first mid last homes after final old m new content number p q buf r k e.spent;
+      buffer = back_map r (λ back. back.number ≡ buf.number) (λ back. back.number ≡ number) (λ back same. same ∙ gives.how.0.number_is) e.buffer;
+      ready = back_map r (λ back. IsReady new × (new.counts.cuts ≡ m.counts.cuts)) (λ back. IsReady new × (new.counts.cuts ≡ old.counts.cuts)) (λ back is. (is.0, is.1 ∙ gives.how.0.cuts)) e.ready;
+      well = back_map r (λ back. AreWell last m new) (λ back. AreWell last old new) (λ back well. commit_well first mid last homes after final old m new content number p q buf r k well) e.well;
+      dark = dark_map r (IsDarkened buf.number m new) (IsDarkened number old new) (λ dark. commit_dark first mid last homes after final old m new content number p q buf r k dark) e.dark;
+      stuck = stuck_map r (IsGivenUp buf.number q m new) (IsGivenUp number p old new) (λ stuck. commit_stuck first mid last homes after final old m new content number p q buf r k stuck) e.stuck;
+      marks = commit_loses first mid last homes after final old m new content number p q buf r k;
+      numbers = commit_numbers first mid last homes after final old m new content number p q buf r k e.numbers;
+      patience = spends.falls;
+      waited = spends.waits;
+      keeps = commit_keeps first mid last homes after final old m new content number p q buf r k e.numbers.rises;
+      finds = λ group next reads own alike held. commit_finds first mid last homes after final old m new content number p q buf r k group next reads own alike held e.finds;
+      kept = commit_kept first mid last homes after final old m new content number p q buf r k;
+    }

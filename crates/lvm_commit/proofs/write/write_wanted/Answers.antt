@@ -1,0 +1,102 @@
+use Rattle.std.proofs.Common.{◌≡◌, ℕ, ◌++◌, List, length, take, drop, ◌∙◌, ap, subst}
+use Rattle.std.proofs.Math.Seq.{take-append_seam}
+use Rattle.lvm_num.specs.declared.record.Kind.TheVariants as kind
+use Rattle.lvm_num.specs.declared.record.Stamp.{Stamp}
+use Rattle.lvm_num.specs.declared.descriptor.Descriptor.{Descriptor}
+use Rattle.lvm_num.specs.declared.status.Status.{Status}
+use Rattle.lvm_num.specs.Disks.{Disks, has}
+use Rattle.lvm_num.specs.StatusBytes.{status_bytes}
+use Rattle.lvm_disk.specs.Device.{Device}
+use Rattle.lvm_kept.specs.Torn.{RecordWrite}
+use Rattle.lvm_status.specs.declared.writes.Writes.{Writes}
+use Rattle.lvm_status.specs.Update.{Stored, members_there}
+use Rattle.lvm_quorum.specs.declared.homes.Homes.{Homes}
+use Rattle.lvm_quorum.specs.Written.{write_of}
+use Rattle.lvm_commit.specs.Settling.{there}
+use Rattle.lvm_commit.specs.Rounds.{IsSame, stamped, session_write}
+use Rattle.lvm_commit.proofs.Losing.{misses_at}
+use Rattle.lvm_commit.proofs.Recording.{Says, Tries, ended_gives, dark_gives, stuck_gives, only_targets, as_session}
+use Rattle.lvm_commit.proofs.Starting.{Starts, update_starts}
+use Rattle.lvm_commit.proofs.write.write_wanted.Goals as goal
+
+-- the bytes that were put in front
+front : (s : Status) (count : ℕ) (bytes old : List ℕ) → bytes ≡ status_bytes s ++ drop (length (status_bytes s)) old → count ≡ length (status_bytes s) → take count bytes ≡ status_bytes s
+front s count bytes old is many = ap (take count) is ∙ ap (λ n. take n (status_bytes s ++ drop (length (status_bytes s)) old)) many ∙ take-append_seam (status_bytes s) (drop (length (status_bytes s)) old)
+
+-- the members that aren't missing stay those
+there_still : (u x : Stored) → Starts u x → there x ≡ there u
+there_still u x starts = ap (λ (g : Descriptor). members_there g x.wanted) starts.group ∙ ap (λ (s : Status). members_there u.group s) starts.wanted
+
+-- the write that the call names
+named : (u x : Stored) (homes : Homes) (stamp : Stamp) (bytes : List ℕ) (writes : Writes) → Starts u x → stamp ≡ x.stamp → bytes ≡ status_bytes x.wanted → writes ≡ x.writes
+    → write_of kind.Status (record { stamp = stamp; content = bytes }) (has writes.unstarted) homes ≡ session_write kind.Status (status_bytes u.wanted) (stamped u) homes
+named u x homes stamp bytes writes starts stamp_is bytes_are writes_are =
+    as_session kind.Status (stamped u) homes stamp bytes (status_bytes u.wanted) (has writes.unstarted) (stamp_is ∙ starts.stamp) (bytes_are ∙ ap status_bytes starts.wanted)
+    (ap (λ (w : Writes). has w.unstarted) writes_are ∙ starts.started.unstarted ∙ there_still u x starts)
+
+same_as : (u x : Stored) → Starts u x → IsSame (stamped u) x
+same_as u x starts = record { group = starts.group; stamp = starts.stamp; wanted = starts.wanted }
+
+pub returns-in-Ended-clause-gives : goal.returns-in-Ended-clause-gives
+returns-in-Ended-clause-gives g c =
+    let u : Stored = c.args.updater.now in
+    let x : Stored = c.start.new.self in
+    let last : Stored = c.end_writes.new.updater in
+    let old : Device = g.S.Shelf.device c.args.shelf.now in
+    let new : Device = g.S.Shelf.device c.write_record.new.shelf in
+    let homes = c.args.homes.now in
+    let w : RecordWrite = session_write kind.Status (status_bytes u.wanted) (stamped u) homes in
+    let starts : Starts u x = update_starts u x c.start.result c.requires.idle c.requires.differs c.start.ensures.starts c.start.ensures.update in
+    let put = c.put_wanted-count.ensures in
+    let same = named u x homes c.stamp-stamp.result (take c.put_wanted-count.result c.put_wanted-count.new.bytes) c.writes-targets.result starts c.stamp-stamp.ensures
+    (front x.wanted c.put_wanted-count.result c.put_wanted-count.new.bytes c.args.bytes.now put.written put.count) c.writes-targets.ensures in
+    let call = c.write_record.ensures in
+    let failed : Disks = has c.in-Ended.failed in
+    let says : Says w c.args.patience.now.left c.write_record.new.patience.left old new =
+    subst (λ (r : RecordWrite). Says r c.args.patience.now.left c.write_record.new.patience.left old new) same
+    (record { keeps = call.keeps; spends = record { falls = call.patience; waits = call.waited }; moments = call.moments }) in
+    let tries : Tries w c.args.buf.number homes c.write_record.new.homes old new failed c.in-Ended.buf =
+    subst (λ (r : RecordWrite). Tries r c.args.buf.number homes c.write_record.new.homes old new failed c.in-Ended.buf) same
+    (record { each = c.in-Ended.ensures.each; flips = c.in-Ended.ensures.homes; number_is = c.in-Ended.ensures.buffer; ready = c.in-Ended.ensures.ready }) in
+    let ends = c.end_writes.ensures in
+    ended_gives w c.args.buf.number c.args.patience.now.left c.write_record.new.patience.left (stamped u) last homes c.write_record.new.homes old new says
+    failed c.in-Ended.buf c.by_votes.result tries (ends.group ∙ starts.group) (ends.stamp ∙ starts.stamp)
+    (misses_at failed x.wanted u.wanted last.wanted starts.wanted
+    (only_targets (there x) failed x.wanted last.wanted (λ d is. ap (λ (set : Disks). set d) (there_still u x starts) ∙ (tries.each d).target is) ends.wanted))
+    c.by_votes.ensures
+
+pub returns-in-Dark-clause-gives : goal.returns-in-Dark-clause-gives
+returns-in-Dark-clause-gives g c =
+    let u : Stored = c.args.updater.now in
+    let x : Stored = c.start.new.self in
+    let old : Device = g.S.Shelf.device c.args.shelf.now in
+    let new : Device = g.S.Shelf.device c.write_record.new.shelf in
+    let homes = c.args.homes.now in
+    let w : RecordWrite = session_write kind.Status (status_bytes u.wanted) (stamped u) homes in
+    let starts : Starts u x = update_starts u x c.start.result c.requires.idle c.requires.differs c.start.ensures.starts c.start.ensures.update in
+    let put = c.put_wanted-count.ensures in
+    let same = named u x homes c.stamp-stamp.result (take c.put_wanted-count.result c.put_wanted-count.new.bytes) c.writes-targets.result starts c.stamp-stamp.ensures
+    (front x.wanted c.put_wanted-count.result c.put_wanted-count.new.bytes c.args.bytes.now put.written put.count) c.writes-targets.ensures in
+    let call = c.write_record.ensures in
+    let says : Says w c.args.patience.now.left c.write_record.new.patience.left old new =
+    subst (λ (r : RecordWrite). Says r c.args.patience.now.left c.write_record.new.patience.left old new) same
+    (record { keeps = call.keeps; spends = record { falls = call.patience; waits = call.waited }; moments = call.moments }) in
+    dark_gives w c.args.buf.number c.args.patience.now.left c.write_record.new.patience.left (stamped u) x homes c.write_record.new.homes old new says (same_as u x starts) c.in-Dark.ensures.dark
+
+pub returns-in-Stuck-clause-gives : goal.returns-in-Stuck-clause-gives
+returns-in-Stuck-clause-gives g c =
+    let u : Stored = c.args.updater.now in
+    let x : Stored = c.start.new.self in
+    let old : Device = g.S.Shelf.device c.args.shelf.now in
+    let new : Device = g.S.Shelf.device c.write_record.new.shelf in
+    let homes = c.args.homes.now in
+    let w : RecordWrite = session_write kind.Status (status_bytes u.wanted) (stamped u) homes in
+    let starts : Starts u x = update_starts u x c.start.result c.requires.idle c.requires.differs c.start.ensures.starts c.start.ensures.update in
+    let put = c.put_wanted-count.ensures in
+    let same = named u x homes c.stamp-stamp.result (take c.put_wanted-count.result c.put_wanted-count.new.bytes) c.writes-targets.result starts c.stamp-stamp.ensures
+    (front x.wanted c.put_wanted-count.result c.put_wanted-count.new.bytes c.args.bytes.now put.written put.count) c.writes-targets.ensures in
+    let call = c.write_record.ensures in
+    let says : Says w c.args.patience.now.left c.write_record.new.patience.left old new =
+    subst (λ (r : RecordWrite). Says r c.args.patience.now.left c.write_record.new.patience.left old new) same
+    (record { keeps = call.keeps; spends = record { falls = call.patience; waits = call.waited }; moments = call.moments }) in
+    stuck_gives w c.args.buf.number c.args.patience.now.left c.write_record.new.patience.left (stamped u) x homes c.write_record.new.homes old new says (same_as u x starts) c.in-Stuck.ensures.stuck

@@ -1,0 +1,64 @@
+-- What stands on the disks of a session at which nothing is under way: they hold what the session says is committed.
+use Rattle.std.specs.Prelude.{◌≡◌, ◌⊎◌, ℕ, ◌+◌, [], true, Some, IsTrue}
+use Rattle.lvm_num.specs.declared.place.Pp.{Pp}
+use Rattle.lvm_num.specs.declared.record.Stamp.{Stamp}
+use Rattle.lvm_num.specs.declared.descriptor.LvRow.{LvRow}
+use Rattle.lvm_num.specs.declared.descriptor.Descriptor.{Descriptor}
+use Rattle.lvm_num.specs.declared.status.Status.{Status}
+use Rattle.lvm_num.specs.Disks.{Disks}
+use Rattle.lvm_num.specs.Descriptor.{copies_of}
+use Rattle.lvm_num.specs.Record.{Stamped, stamp_lt}
+use Rattle.lvm_num.specs.Status.{calls_stale, calls_dirty}
+use Rattle.lvm_num.specs.Votes.{all_disks, CanRead}
+use Rattle.lvm_disk.specs.Device.{Image}
+use Rattle.lvm_kept.specs.Contents.{Contents, contents_of, has_records}
+use Rattle.lvm_kept.specs.Group.{has_room, Finds, members_in, IsOneOf}
+use Rattle.lvm_quorum.specs.declared.homes.Homes.{Homes}
+use Rattle.lvm_quorum.specs.Homes.{SparesNewest}
+use Rattle.lvm_stamps.specs.Behind.{StampsBefore}
+
+-- the stamp after this one in its session
+abbrev pub next_stamp : Stamp → Stamp
+next_stamp stamp = record stamp { seq = stamp.seq + 1 }
+
+-- the two are one group, but for their volumes
+abbrev pub IsAlike : Descriptor → Descriptor → Type 0
+IsAlike a b = record a { lvs = [] } ≡ record b { lvs = [] }
+
+-- The next status says the same of the group's volumes: the same copies are stale, and the same volumes dirty.
+pub record SameMarks (group : Descriptor) (was next : Status) : Type 0 where
+  pub stale : (row : LvRow) (lp : ℕ) (p : Pp) → IsOneOf group.lvs row → IsOneOf (copies_of row lp) p → calls_stale next p ≡ calls_stale was p
+  pub dirty : (row : LvRow) → IsOneOf group.lvs row → calls_dirty next row.number ≡ calls_dirty was row.number
+
+-- The disks with which a session began hold a quorum of its group, and show it but for its volumes; any other descriptor of the group is earlier
+-- than each of theirs. So whatever of the group is found has its members, though some of these disks may be missing by now.
+pub record Began (c : Contents) (group : Descriptor) (disks : Disks) : Type 0 where
+  pub enough : CanRead group (members_in c disks group.id group)
+  pub alike : (d : ℕ) (r : Stamped Descriptor) → IsTrue (members_in c disks group.id group d) → c.descriptor d ≡ Some r → IsAlike r.value group
+  pub since : (d m : ℕ) (r q : Stamped Descriptor) → c.descriptor d ≡ Some r → r.value.id ≡ group.id → IsTrue (members_in c disks group.id group m) → c.descriptor m ≡ Some q
+      → IsAlike r.value group ⊎ (stamp_lt r.stamp q.stamp ≡ true)
+
+-- The disks show what is committed: all together find the group by it, each member that isn't missing has the descriptor and the status, and the
+-- sectors that its partitions need, and no disk shows a later record of the group. A member that is missing may show an earlier one; with quorum
+-- checking off all of them must be found, so the members that aren't missing may be too few to find it by themselves.
+pub record ShowsCommitted (c : Contents) (group : Descriptor) (status : Status) (there : Disks) : Type 0 where
+  pub found : Finds c all_disks group.id group
+  pub disks : Disks
+  pub began : Began c group disks
+  pub descriptor : Stamped Descriptor
+  pub value : descriptor.value ≡ group
+  pub latest : (d : ℕ) (r : Stamped Descriptor) → c.descriptor d ≡ Some r → r.value.id ≡ group.id → (stamp_lt r.stamp descriptor.stamp ≡ true) ⊎ (r ≡ descriptor)
+  pub described : (d : ℕ) → IsTrue (there d) → c.descriptor d ≡ Some descriptor
+  pub room : (d : ℕ) → IsTrue (there d) → IsTrue (has_room c d group)
+  pub own : status.id ≡ group.id
+  pub stands : Stamped Status
+  pub committed : stands.value ≡ status
+  pub stated : (d : ℕ) → IsTrue (there d) → c.status d ≡ Some stands
+  pub last : (d : ℕ) (r : Stamped Status) → c.status d ≡ Some r → r.value.id ≡ group.id → (stamp_lt r.stamp stands.stamp ≡ true) ⊎ (r ≡ stands)
+
+-- So it is, all stamps are of this session's last record or earlier ones, and the next record of each kind spares the newest.
+pub record HoldsCommitted (image : Image) (group : Descriptor) (status : Status) (present : Disks) (stamp : Stamp) (slots : Homes) : Type 0 where
+  pub shows : ShowsCommitted (contents_of image) group status present
+  pub stamps : StampsBefore (next_stamp stamp) image
+  pub there : (d : ℕ) → IsTrue (present d) → has_records image d ≡ true
+  pub homes : (d : ℕ) → IsTrue (present d) → SparesNewest slots image d

@@ -1,0 +1,138 @@
+-- What a session's disks show of a volume that is being made or removed.
+use Rattle.std.specs.Prelude.{◌≡◌, ℕ, ◌<◌, ◌++◌, ◌∷◌, [], List, None, IsTrue, IsFalse, is_some}
+use Rattle.lvm_num.specs.declared.place.Pp.{Pp}
+use Rattle.lvm_num.specs.declared.record.Stamp.{Stamp}
+use Rattle.lvm_num.specs.declared.descriptor.Mode.{Mode}
+use Rattle.lvm_num.specs.declared.descriptor.LvRow.{LvRow}
+use Rattle.lvm_num.specs.declared.descriptor.Descriptor.{Descriptor}
+use Rattle.lvm_num.specs.declared.status.Status.{Status}
+use Rattle.lvm_num.specs.Buffer.{zero_sector}
+use Rattle.lvm_num.specs.Disks.{Disks}
+use Rattle.lvm_num.specs.Descriptor.{copies_of, volume_of}
+use Rattle.lvm_num.specs.Record.{Stamped}
+use Rattle.lvm_num.specs.Status.{calls_stale}
+use Rattle.lvm_num.specs.Votes.{CanWrite}
+use Rattle.lvm_vol.specs.declared.entry.Vol.TheVariants.{Lv}
+use Rattle.lvm_vol.specs.Facts.{Fact, Making, Made, Removed, Cut}
+use Rattle.lvm_vol.specs.May.{known, IsValue}
+use Rattle.lvm_vol.specs.Standing.{Open, volumes_in}
+use Rattle.lvm_disk.specs.Device.{Image, Flight, Device, image_of, MayLeave}
+use Rattle.lvm_disk.specs.Steps.{BothTold}
+use Rattle.lvm_kept.specs.Contents.{Contents, contents_of}
+use Rattle.lvm_kept.specs.Group.{IsFound, block_at, IsBlockOf, IsOneOf}
+use Rattle.lvm_kept.specs.Committed.{IsWithinDisks}
+use Rattle.lvm_kept.specs.Kept.{StandsAs, Kept}
+use Rattle.lvm_kept.specs.Changes.{IsFoundByAll, IsFoundByNone}
+use Rattle.lvm_kept.specs.Moments.{Moment}
+use Rattle.lvm_kept.specs.Raw.{OnlyAdds}
+use Rattle.lvm_kept.specs.Torn.{DescriptorsChange}
+use Rattle.lvm_change.specs.Moments.{Keeps}
+use Rattle.lvm_change.specs.Requests.{IsOfData, at}
+use Rattle.lvm_change.specs.Committing.{DiffersInVolume, IsServed, MayCommit}
+use Rattle.lvm_change.specs.VolumeEntries.{AreZeros}
+use Rattle.lvm_quorum.specs.declared.homes.Homes.{Homes}
+use Rattle.lvm_stamps.specs.Laws.{IsNoLater, IsWhole, ShowsBefore}
+use Rattle.lvm_commit.specs.Committed.{next_stamp, ShowsCommitted, HoldsCommitted}
+use Rattle.lvm_commit.specs.Laws.{IsLaterDescriptor}
+
+-- ---- the descriptor that names it, or names it no more
+
+-- Whatever the disks show has a stamp before each that the session may use next.
+abbrev pub NextIsLater : Type 0
+NextIsLater = (image : Image) (group : Descriptor) (status : Status) (there : Disks) (stamp next : Stamp) (homes : Homes)
+    → IsWhole image → HoldsCommitted image group status there stamp homes → IsNoLater (next_stamp stamp) next → ShowsBefore next (contents_of image)
+
+-- What is asked of the history and of the blocks where the next descriptor is to be committed: the entry that the volume is being made or removed
+-- stands, and the descriptor differs by that volume alone; where it names it, it has the shape with which it is made, and its blocks are served.
+pub record VolumeServes (c : Contents) (facts : List Fact) (group : Descriptor) (lv : ℕ) (next : Descriptor) : Type 0 where
+  pub differs : DiffersInVolume lv group next
+  pub begun : (volumes_in facts lv).standing ≡ Open
+  pub stands : StandsAs group.mib Open (volumes_in facts lv).shape (volume_of next lv)
+  pub served : (row : LvRow) → IsOneOf next.lvs row → row.number ≡ lv → IsServed c facts group row
+
+-- Then it may be, since the disks show what is committed.
+abbrev pub CommittedMayCommit : Type 0
+CommittedMayCommit = (c : Contents) (group : Descriptor) (status : Status) (there targets : Disks) (facts : List Fact) (lv : ℕ) (next : Stamped Descriptor)
+    → ShowsCommitted c group status there → ((d : ℕ) → IsTrue (targets d) → IsTrue (there d)) → IsLaterDescriptor c group next → VolumeServes c facts group lv next.value
+    → MayCommit c facts group lv targets next
+
+-- each logical partition of the volume has a copy on a member that isn't missing, which the status doesn't call stale
+abbrev pub HasFreshCopies : Status → Disks → LvRow → Type 0
+HasFreshCopies status there row = (lp : ℕ) → lp < row.lps → (p : Pp) × IsOneOf (copies_of row lp) p × IsTrue (there p.disk) × IsFalse (calls_stale status p)
+
+-- Zeros on all copies of a new volume are found with each of its partitions fresh, since whatever status is read is the committed one.
+abbrev pub ZerosAreFound : Type 0
+ZerosAreFound = (c : Contents) (group : Descriptor) (status : Status) (there : Disks) (facts : List Fact) (row : LvRow)
+    → IsWithinDisks c → CanWrite group there → ShowsCommitted c group status there → Kept c facts
+    → ((lp n : ℕ) (p : Pp) → IsOneOf (copies_of row lp) p → IsBlockOf group.mib row lp n → block_at c group.mib p n ≡ zero_sector)
+    → ((lp n : ℕ) → IsBlockOf group.mib row lp n → IsValue (known (facts ++ Cut ∷ []) (Lv row.number) n) zero_sector)
+    → HasFreshCopies status there row → AreZeros c facts group row
+
+-- ---- its entries
+
+-- no other group is found
+abbrev pub IsOnlyGroup : Contents → ℕ → Type 0
+IsOnlyGroup c id = (other : ℕ) (k : Descriptor) → IsFound c other k → other ≡ id
+
+-- whatever is found of another group was found before
+abbrev pub LeavesOthers : Contents → Contents → ℕ → Type 0
+LeavesOthers old new id = (other : ℕ) (k : Descriptor) → (other ≡ id → ⊥) → IsFound new other k → IsFound old other k
+
+-- A descriptor of the group leaves the others as they were found,
+abbrev pub DescriptorLeavesOthers : Type 0
+DescriptorLeavesOthers = (id : ℕ) (targets : Disks) (next : Stamped Descriptor) (old new : Contents)
+    → next.value.id ≡ id → DescriptorsChange targets next old new → LeavesOthers old new id
+
+-- and so do statuses, notes and data.
+abbrev pub RestLeavesOthers : Type 0
+RestLeavesOthers = (id : ℕ) (old new : Contents) → new ≡ record old { status = new.status; note = new.note; block = new.block } → LeavesOthers old new id
+
+-- So the only group stays the only one.
+abbrev pub OnlyGroupStays : Type 0
+OnlyGroupStays = (id : ℕ) (old new : Contents) → LeavesOthers old new id → IsOnlyGroup old id → IsOnlyGroup new id
+
+-- no crash image finds another group
+abbrev pub IsOnlyGroupOn : Device → ℕ → Type 0
+IsOnlyGroupOn device id = (image : Image) → MayLeave device image → IsOnlyGroup (contents_of image) id
+
+-- So it stays by one transfer of data, however it ends and if it doesn't,
+abbrev pub OnlyGroupStaysByData : Type 0
+OnlyGroupStaysByData = (id : ℕ) (f : Flight) (old new : Device) → IsOfData f → OnlyAdds f old new → IsOnlyGroupOn old id → IsOnlyGroupOn new id
+
+-- and once nothing is out, where the media leaves the others as they were found.
+abbrev pub OnlyGroupStaysOn : Type 0
+OnlyGroupStaysOn = (id : ℕ) (old new : Device)
+    → new.flights ≡ [] → BothTold old.media new.media (λ was is. LeavesOthers (contents_of (image_of old.sizes was)) (contents_of (image_of new.sizes is)) id) → IsOnlyGroupOn old id → IsOnlyGroupOn new id
+
+-- A volume that the committed descriptor names is found by all,
+abbrev pub NamedIsFound : Type 0
+NamedIsFound = (c : Contents) (group : Descriptor) (status : Status) (there : Disks) (facts : List Fact) (lv : ℕ)
+    → IsWithinDisks c → CanWrite group there → ShowsCommitted c group status there → Kept c facts → IsOnlyGroup c group.id → IsTrue (is_some (volume_of group lv)) → IsFoundByAll c lv
+
+-- and one that it doesn't name by none.
+abbrev pub UnnamedIsNotFound : Type 0
+UnnamedIsNotFound = (c : Contents) (group : Descriptor) (status : Status) (there : Disks) (facts : List Fact) (lv : ℕ)
+    → IsWithinDisks c → CanWrite group there → ShowsCommitted c group status there → Kept c facts → IsOnlyGroup c group.id → volume_of group lv ≡ None → IsFoundByNone c lv
+
+-- each crash image shows what is committed, and no other group is found in it
+pub record LeavesCommitted (device : Device) (group : Descriptor) (status : Status) (there : Disks) : Type 0 where
+  pub shows : (image : Image) → MayLeave device image → ShowsCommitted (contents_of image) group status there
+  pub only : IsOnlyGroupOn device group.id
+
+-- So a volume that isn't named may be in the making,
+abbrev pub VolumeBeginsInSession : Type 0
+VolumeBeginsInSession = (run : ℕ) (first : Moment) (device : Device) (facts : List Fact) (group : Descriptor) (status : Status) (there : Disks) (lv blocks : ℕ) (mode : Mode)
+    → Keeps run first (at device facts) → CanWrite group there → LeavesCommitted device group status there → volume_of group lv ≡ None
+    → Keeps run first (at device (facts ++ Making lv blocks mode ∷ []))
+
+-- is made once it is named,
+abbrev pub VolumeIsMadeInSession : Type 0
+VolumeIsMadeInSession = (run : ℕ) (first : Moment) (device : Device) (facts : List Fact) (group : Descriptor) (status : Status) (there : Disks) (lv : ℕ)
+    → Keeps run first (at device facts) → CanWrite group there → LeavesCommitted device group status there → IsTrue (is_some (volume_of group lv))
+    → ((past : List Fact) → (volumes_in (past ++ facts) lv).standing ≡ Open) → Keeps run first (at device (facts ++ Made lv ∷ []))
+
+-- and is gone once it isn't named any more.
+abbrev pub VolumeIsGoneInSession : Type 0
+VolumeIsGoneInSession = (run : ℕ) (first : Moment) (device : Device) (facts : List Fact) (group : Descriptor) (status : Status) (there : Disks) (lv : ℕ)
+    → Keeps run first (at device facts) → CanWrite group there → LeavesCommitted device group status there → volume_of group lv ≡ None
+    → Keeps run first (at device (facts ++ Removed (Lv lv) ∷ []))

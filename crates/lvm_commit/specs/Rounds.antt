@@ -1,0 +1,150 @@
+-- How one record that a session writes ends, and what the session is then.
+use Rattle.std.specs.Prelude.{◌≡◌, ℕ, ◌&&◌, ◌||◌, List, IsFalse, Some, None}
+use Rattle.lvm_num.specs.declared.record.Kind.{Kind}
+use Rattle.lvm_num.specs.declared.record.Kind.TheVariants as kind
+use Rattle.lvm_num.specs.declared.status.Status.{Status}
+use Rattle.lvm_num.specs.Buffer.{Buffer}
+use Rattle.lvm_num.specs.Disks.{Disks, has}
+use Rattle.lvm_num.specs.Status.{calls_missing}
+use Rattle.lvm_num.specs.StatusBytes.{status_bytes}
+use Rattle.lvm_num.specs.Votes.{votes_in, total_votes, is_enough_to_write, CanWrite}
+use Rattle.lvm_disk.specs.Device.{Device, IsReady}
+use Rattle.lvm_disk.specs.Paths.{DeviceStep, Path}
+use Rattle.lvm_kept.specs.Torn.{RecordWrite, IsOfRecord}
+use Rattle.lvm_stale.specs.Table.{SameStale}
+use Rattle.lvm_status.specs.Update.{Stored, no_disks}
+use Rattle.lvm_quorum.specs.declared.homes.Homes.{Homes}
+use Rattle.lvm_quorum.specs.Homes.{Flips}
+use Rattle.lvm_quorum.specs.Parts.{Spends}
+use Rattle.lvm_quorum.specs.Written.{write_of, KeepsShelf, IsWriting, EndsOn, StandsTold, written_well, IsDarkened, IsGivenUp}
+use Rattle.lvm_commit.specs.declared.commit.Settled.{Settled}
+use Rattle.lvm_commit.specs.declared.commit.Settled.TheVariants as settled
+use Rattle.lvm_commit.specs.Committed.{next_stamp}
+use Rattle.lvm_commit.specs.Settling.{there, HasSameRows, IsCommitted, HasLostQuorum, OnlyLoses, AreWell, SpendsNumbers, IsOfStatus, IsPlain, StatusFindsNothingNew, StatusStaysKept, StaysHeld}
+
+-- ---- the session
+
+-- some of these disks become missing, and nothing else changes in what is wanted
+pub record Misses (failed : Disks) (old new : Status) : Type 0 where
+  pub rows : HasSameRows old new
+  pub stale : SameStale old new
+  pub dirty : new.dirty ≡ old.dirty
+  pub missing : (d : ℕ) → calls_missing new d ≡ (calls_missing old d || failed d)
+  pub same : ((d : ℕ) → IsFalse (failed d)) → new ≡ old
+
+-- what is wanted is in flight, and no write of it has started
+pub record IsStarted (u : Stored) : Type 0 where
+  pub flies : u.in_flight ≡ Some u.wanted
+  pub unstarted : has u.writes.unstarted ≡ there u
+  pub started : has u.writes.started ≡ no_disks
+  pub written : has u.writes.written ≡ no_disks
+  pub failed : has u.writes.failed ≡ no_disks
+
+-- The writes of the update in flight have ended, on these disks badly where one went to them: it is committed where the other members have votes enough to
+-- write.
+pub record HasEnded (failed : Disks) (first last : Stored) : Type 0 where
+  pub group : last.group ≡ first.group
+  pub stamp : last.stamp ≡ first.stamp
+  pub wanted : Misses (λ d. there first d && failed d) first.wanted last.wanted
+  pub committed : CanWrite last.group (there last) → (last.in_flight ≡ None) × (last.committed ≡ first.wanted)
+
+-- the disks are wanted missing
+pub record HasLost (failed : Disks) (first last : Stored) : Type 0 where
+  pub group : last.group ≡ first.group
+  pub stamp : last.stamp ≡ first.stamp
+  pub committed : last.committed ≡ first.committed
+  pub idle : last.in_flight ≡ None
+  pub wanted : Misses failed first.wanted last.wanted
+
+-- ---- the answers
+
+-- these are the votes of the members that aren't missing and of all, and too few to write
+pub record HasFew (u : Stored) (have total : ℕ) : Type 0 where
+  pub have_is : have ≡ votes_in u.group (there u)
+  pub total_is : total ≡ total_votes u.group
+  pub few : IsFalse (is_enough_to_write u.group have)
+
+-- the members that aren't missing have votes enough to write, or they don't
+abbrev pub IsByVotes : Stored → Buffer → Settled → Type 0
+IsByVotes u buf (settled.Done back) = (back ≡ buf) × CanWrite u.group (there u)
+IsByVotes u buf (settled.WentOff have total back) = (back ≡ buf) × HasFew u have total
+IsByVotes u buf settled.Dark = ⊥
+IsByVotes u buf settled.Stuck = ⊥
+
+-- ---- one record
+
+-- the next stamp is that of the record that is written
+abbrev pub stamped : Stored → Stored
+stamped u = record u { stamp = next_stamp u.stamp }
+
+-- the write of the record to the members that aren't missing, under the session's stamp
+abbrev pub session_write : Kind → List ℕ → Stored → Homes → RecordWrite
+session_write kind content u homes = write_of kind (record { stamp = u.stamp; content = content }) (there u) homes
+
+-- It was tried on each of them, and those on which it failed are missing.
+pub record WasTried (w : RecordWrite) (number : ℕ) (first last : Stored) (slots next : Homes) (old new : Device) (buf : Buffer) : Type 0 where
+  pub ready : IsReady new
+  pub cuts : new.counts.cuts ≡ old.counts.cuts
+  pub number_is : buf.number ≡ number
+  pub failed : Disks
+  pub each : (d : ℕ) → EndsOn w.targets (StandsTold w) failed old new d
+  pub flips : Flips w.kind (written_well w.targets failed) slots next
+  pub group : last.group ≡ first.group
+  pub stamp : last.stamp ≡ first.stamp
+  pub wanted : Misses failed first.wanted last.wanted
+
+-- its group, what is wanted and its stamp are the same
+pub record IsSame (first last : Stored) : Type 0 where
+  pub group : last.group ≡ first.group
+  pub stamp : last.stamp ≡ first.stamp
+  pub wanted : last.wanted ≡ first.wanted
+
+abbrev pub HowRecord : RecordWrite → ℕ → ℕ → Stored → Stored → Homes → Homes → Device → Device → Settled → Type 0
+HowRecord w number before first last slots next old new (settled.Done buf) = WasTried w number first last slots next old new buf × CanWrite last.group (there last)
+HowRecord w number before first last slots next old new (settled.WentOff have total buf) = WasTried w number first last slots next old new buf × HasFew last have total
+HowRecord w number before first last slots next old new settled.Dark = IsDarkened number old new × IsSame first last
+HowRecord w number before first last slots next old new settled.Stuck = IsGivenUp number before old new × IsSame first last
+
+-- how the write of one record ended, and what it did
+pub record RecordGives (w : RecordWrite) (number before after : ℕ) (first last : Stored) (slots next : Homes) (old new : Device) (result : Settled) : Type 0 where
+  pub keeps : KeepsShelf w.targets (IsOfRecord w) old new
+  pub spends : Spends before after old new
+  pub moments : Path DeviceStep (IsWriting (IsOfRecord w) old) old new
+  pub how : HowRecord w number before first last slots next old new result
+
+-- ---- a status, record by record
+
+-- It ended with what is wanted committed.
+pub record StatusEnds (number : ℕ) (first last : Stored) (slots next : Homes) (old new : Device) (buf : Buffer) : Type 0 where
+  pub number_is : buf.number ≡ number
+  pub ready : IsReady new
+  pub cuts : new.counts.cuts ≡ old.counts.cuts
+  pub well : AreWell last old new
+  pub committed : IsCommitted last
+  pub held : StaysHeld first last slots next old new
+  pub plain : (first.wanted ≡ first.committed → ⊥) → IsPlain kind.Status (status_bytes first.wanted) first last slots old new
+
+-- It ended with too few votes left, and each record that was written lost a member.
+pub record StatusIsLost (number : ℕ) (first last : Stored) (old new : Device) (have total : ℕ) (buf : Buffer) : Type 0 where
+  pub number_is : buf.number ≡ number
+  pub ready : IsReady new
+  pub cuts : new.counts.cuts ≡ old.counts.cuts
+  pub well : AreWell last old new
+  pub lost : HasLostQuorum first last old new have total
+  pub spent : SpendsNumbers 0 first last
+
+abbrev pub HowStatus : ℕ → ℕ → Stored → Stored → Homes → Homes → Device → Device → Settled → Type 0
+HowStatus number before first last slots next old new (settled.Done buf) = StatusEnds number first last slots next old new buf
+HowStatus number before first last slots next old new (settled.WentOff have total buf) = StatusIsLost number first last old new have total buf
+HowStatus number before first last slots next old new settled.Dark = IsDarkened number old new
+HowStatus number before first last slots next old new settled.Stuck = IsGivenUp number before old new
+
+-- how the commit of a status ended, and what it did
+pub record StatusGives (number before after : ℕ) (first last : Stored) (slots next : Homes) (old new : Device) (result : Settled) : Type 0 where
+  pub loses : OnlyLoses first last old new
+  pub numbers : SpendsNumbers 1 first last
+  pub keeps : KeepsShelf (there first) (IsOfStatus first last) old new
+  pub spends : Spends before after old new
+  pub finds : StatusFindsNothingNew first slots old new
+  pub kept : StatusStaysKept first slots old new
+  pub how : HowStatus number before first last slots next old new result

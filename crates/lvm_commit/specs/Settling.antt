@@ -1,0 +1,235 @@
+-- How a session commits its records: what a commit needs, what it writes, and what it leaves.
+use Rattle.std.specs.Prelude.{◌≡◌, ◌⊎◌, ◌≢◌, ℕ, ◌+◌, ◌^◌, ◌<◌, ◌≤◌, not, List, [], map, None, Ok, IsTrue, IsFalse, IfSome, count_by}
+use Rattle.lvm_num.specs.declared.record.Kind.{Kind}
+use Rattle.lvm_num.specs.declared.record.Kind.TheVariants as kind
+use Rattle.lvm_num.specs.declared.descriptor.PvRow.{PvRow}
+use Rattle.lvm_num.specs.declared.descriptor.Descriptor.{Descriptor}
+use Rattle.lvm_num.specs.declared.status.StatusRow.{StatusRow}
+use Rattle.lvm_num.specs.declared.status.Status.{Status}
+use Rattle.lvm_num.specs.Buffer.{Buffer, Sector}
+use Rattle.lvm_num.specs.Disks.{Disks}
+use Rattle.lvm_num.specs.Descriptor.{IsValid}
+use Rattle.lvm_num.specs.DescriptorBytes.{descriptor_of}
+use Rattle.lvm_num.specs.Record.{Frames}
+use Rattle.lvm_num.specs.Status.{calls_missing}
+use Rattle.lvm_num.specs.StatusBytes.{status_bytes}
+use Rattle.lvm_num.specs.Votes.{votes_in, total_votes, is_enough_to_write, CanWrite}
+use Rattle.lvm_disk.specs.Counts.{Rose}
+use Rattle.lvm_disk.specs.Device.{Device, image_of}
+use Rattle.lvm_disk.specs.Steps.{BothTold}
+use Rattle.lvm_disk.specs.Paths.{DeviceStep, Path}
+use Rattle.lvm_vol.specs.Facts.{Fact}
+use Rattle.lvm_kept.specs.Contents.{contents_of}
+use Rattle.lvm_kept.specs.Plans.{Plan}
+use Rattle.lvm_kept.specs.Torn.{RecordWrite, IsOfRecord}
+use Rattle.lvm_stale.specs.Table.{SameStale, SameMissing}
+use Rattle.lvm_status.specs.Members.{HasItsRows}
+use Rattle.lvm_status.specs.Update.{Stored, members_there}
+use Rattle.lvm_change.specs.Moments.{StaysKept, ImagesKept}
+use Rattle.lvm_quorum.specs.declared.homes.Homes.{Homes}
+use Rattle.lvm_quorum.specs.Written.{write_of, HaveRoom, KeepsShelf}
+use Rattle.lvm_commit.specs.declared.commit.Settled.{Settled}
+use Rattle.lvm_commit.specs.declared.commit.Settled.TheVariants as settled
+use Rattle.lvm_commit.specs.Committed.{next_stamp, IsAlike, SameMarks, HoldsCommitted}
+use Rattle.lvm_commit.specs.LawsOfVolumes.{VolumeServes, LeavesOthers}
+use Rattle.lvm_commit.specs.LawsOfFinding.{FindsNothingNewOn, FindsNoMoreOn}
+
+-- ---- the answers
+
+abbrev pub IfDone : Settled → (Buffer → Type 0) → Type 0
+IfDone (settled.Done buf) P = P buf
+IfDone (settled.WentOff have total buf) P = Unit {0}
+IfDone settled.Dark P = Unit {0}
+IfDone settled.Stuck P = Unit {0}
+
+abbrev pub IfWentOff : Settled → (ℕ → ℕ → Buffer → Type 0) → Type 0
+IfWentOff (settled.Done buf) P = Unit {0}
+IfWentOff (settled.WentOff have total buf) P = P have total buf
+IfWentOff settled.Dark P = Unit {0}
+IfWentOff settled.Stuck P = Unit {0}
+
+-- the buffer that comes back: Done or WentOff
+abbrev pub IfBack : Settled → (Buffer → Type 0) → Type 0
+IfBack (settled.Done buf) P = P buf
+IfBack (settled.WentOff have total buf) P = P buf
+IfBack settled.Dark P = Unit {0}
+IfBack settled.Stuck P = Unit {0}
+
+abbrev pub OnDark : Settled → Type 0 → Type 0
+OnDark (settled.Done buf) P = Unit {0}
+OnDark (settled.WentOff have total buf) P = Unit {0}
+OnDark settled.Dark P = P
+OnDark settled.Stuck P = Unit {0}
+
+abbrev pub OnStuck : Settled → Type 0 → Type 0
+OnStuck (settled.Done buf) P = Unit {0}
+OnStuck (settled.WentOff have total buf) P = Unit {0}
+OnStuck settled.Dark P = Unit {0}
+OnStuck settled.Stuck P = P
+
+-- it is Done, and nothing has changed
+abbrev pub EndsAtOnce : Settled → Type 0 → Type 0
+EndsAtOnce (settled.Done buf) Same = Same
+EndsAtOnce (settled.WentOff have total buf) Same = ⊥
+EndsAtOnce settled.Dark Same = ⊥
+EndsAtOnce settled.Stuck Same = ⊥
+
+-- ---- the members
+
+-- the members that aren't missing
+abbrev pub there : Stored → Disks
+there u = members_there u.group u.wanted
+
+-- how many they are
+abbrev pub many_there : Stored → ℕ
+many_there u = count_by (λ (row : PvRow). not (calls_missing u.wanted row.disk)) u.group.pvs
+
+-- the session is one of this group
+abbrev pub IsOf : Descriptor → Stored → Type 0
+IsOf group u = record group { lvs = [] } ≡ u.group
+
+-- What a session needs before it writes records: its group is valid, with a row for each member, it has begun, nothing is in flight, and the members
+-- that aren't missing have room for records and votes enough to write.
+pub record MaySettle (group : Descriptor) (u : Stored) (device : Device) : Type 0 where
+  pub valid : IsValid group
+  pub own : IsOf group u
+  pub idle : u.in_flight ≡ None
+  pub id : u.wanted.id ≡ u.group.id
+  pub rows : HasItsRows u.group u.wanted
+  pub epoch : u.stamp.epoch ≢ 0
+  pub room : HaveRoom device (there u)
+  pub votes : CanWrite u.group (there u)
+
+-- so many numbers are left for stamps, and one more for each member that isn't missing
+abbrev pub HasNumbers : ℕ → Stored → Type 0
+HasNumbers more u = u.stamp.seq + more + many_there u < 2 ^ 32
+
+-- ---- what is left
+
+-- The group, its size and the disks that have rows stay.
+pub record HasSameRows (old new : Status) : Type 0 where
+  pub id : new.id ≡ old.id
+  pub big : new.big ≡ old.big
+  pub disks : map (λ (row : StatusRow). row.disk) new.rows ≡ map (λ (row : StatusRow). row.disk) old.rows
+
+-- Nothing is in flight, what is wanted is committed, and the members that aren't missing have votes enough to write.
+pub record IsCommitted (u : Stored) : Type 0 where
+  pub idle : u.in_flight ≡ None
+  pub same : u.committed ≡ u.wanted
+  pub votes : CanWrite u.group (there u)
+
+-- the members that aren't missing have these votes, too few to write, and a transfer to one that was there has failed
+pub record HasLostQuorum (first last : Stored) (old new : Device) (have total : ℕ) : Type 0 where
+  pub have_is : have ≡ votes_in last.group (there last)
+  pub total_is : total ≡ total_votes last.group
+  pub few : IsFalse (is_enough_to_write last.group have)
+  pub disk : ℕ
+  pub was : IsTrue (there first disk)
+  pub failed : Rose (old.counts.faults disk) (new.counts.faults disk)
+
+-- The group stays, and of what is wanted only this changes: members become missing, each of them after a transfer to it has failed.
+pub record OnlyLoses (first last : Stored) (old new : Device) : Type 0 where
+  pub group : last.group ≡ first.group
+  pub rows : HasSameRows first.wanted last.wanted
+  pub stale : SameStale first.wanted last.wanted
+  pub dirty : last.wanted.dirty ≡ first.wanted.dirty
+  pub stays : (d : ℕ) → IsTrue (calls_missing first.wanted d) → IsTrue (calls_missing last.wanted d)
+  pub lost : (d : ℕ) → IsTrue (calls_missing last.wanted d) → IsFalse (calls_missing first.wanted d) → IsTrue (there first d) × Rose (old.counts.faults d) (new.counts.faults d)
+
+-- no transfer to a member that isn't missing has failed
+abbrev pub AreWell : Stored → Device → Device → Type 0
+AreWell last old new = (d : ℕ) → IsTrue (there last d) → new.counts.faults d ≡ old.counts.faults d
+
+-- The stamps rise within their session: by so many numbers at most, and by one more for each member that became missing.
+pub record SpendsNumbers (more : ℕ) (first last : Stored) : Type 0 where
+  pub epoch : last.stamp.epoch ≡ first.stamp.epoch
+  pub rises : first.stamp.seq ≤ last.stamp.seq
+  pub most : last.stamp.seq + many_there last ≤ first.stamp.seq + more + many_there first
+
+-- ---- what is written
+
+-- The sector is one of a record under a stamp of this session after one and up to another, in a slot of a member that wasn't missing.
+pub record IsOfSession (first last : Stored) (write : RecordWrite) (d s : ℕ) (value : Sector) : Type 0 where
+  pub frames : Frames write.kind write.framed
+  pub slots : (disk : ℕ) → write.slots disk < 2
+  pub targets : (disk : ℕ) → IsTrue (write.targets disk) → IsTrue (there first disk)
+  pub epoch : write.framed.stamp.epoch ≡ first.stamp.epoch
+  pub later : first.stamp.seq < write.framed.stamp.seq
+  pub latest : write.framed.stamp.seq ≤ last.stamp.seq
+  pub its : IsOfRecord write d s value
+
+-- it states the status of the group
+pub record StatesGroup (group : Descriptor) (write : RecordWrite) : Type 0 where
+  pub kind : write.kind ≡ kind.Status
+  pub status : Status
+  pub own : status.id ≡ group.id
+  pub content : write.framed.content ≡ status_bytes status
+
+-- it has these bytes of a descriptor
+pub record Describes (content : List ℕ) (write : RecordWrite) : Type 0 where
+  pub kind : write.kind ≡ kind.Descriptor
+  pub content_is : write.framed.content ≡ content
+
+-- the sector is one of a status of the group,
+abbrev pub IsOfStatus : Stored → Stored → Plan
+IsOfStatus first last d s value = (write : RecordWrite) × StatesGroup first.group write × IsOfSession first last write d s value
+
+-- or of the descriptor of these bytes, or of a status
+abbrev pub IsOfCommit : List ℕ → Stored → Stored → Plan
+IsOfCommit content first last d s value = (write : RecordWrite) × (Describes content write ⊎ StatesGroup first.group write) × IsOfSession first last write d s value
+
+-- This one record is written to the members that aren't missing, under the next stamp, and what was wanted still is.
+pub record IsOneRecord (kind : Kind) (content : List ℕ) (first last : Stored) (homes : Homes) (old new : Device) : Type 0 where
+  pub wanted : last.wanted ≡ first.wanted
+  pub stamp : last.stamp ≡ next_stamp first.stamp
+  pub writes : KeepsShelf (there first) (IsOfRecord (write_of kind (record { stamp = next_stamp first.stamp; content = content }) (there first) homes)) old new
+
+-- So it is where no member becomes missing.
+abbrev pub IsPlain : Kind → List ℕ → Stored → Stored → Homes → Device → Device → Type 0
+IsPlain kind content first last homes old new = SameMissing first.wanted last.wanted → IsOneRecord kind content first last homes old new
+
+-- ---- what stays kept
+
+-- the disks hold what the session says is committed of the group, where the media is told
+abbrev pub SessionIsHeld : Device → Descriptor → Stored → Homes → Type 0
+SessionIsHeld device group u homes = IfSome device.media (λ media. HoldsCommitted (image_of device.sizes media) group u.committed (there u) u.stamp homes)
+
+-- what is wanted says the same of the group's volumes as what is committed
+abbrev pub WantsSameMarks : Descriptor → Stored → Type 0
+WantsSameMarks group u = SameMarks group u.committed u.wanted
+
+-- What was kept is kept at each moment while a status is committed that says the same of the group's volumes.
+abbrev pub StatusStaysKept : Stored → Homes → Device → Device → Type 0
+StatusStaysKept first homes old new = Path DeviceStep (λ d. (group : Descriptor) → IsOf group first → WantsSameMarks group first → SessionIsHeld old group first homes → StaysKept old d) old new
+
+-- So it is while the next descriptor is committed, which the history lets differ from the group by one volume.
+abbrev pub DescriptorStaysKept : List ℕ → Stored → Homes → Device → Device → Type 0
+DescriptorStaysKept content first homes old new = Path DeviceStep
+    (λ d. (group next : Descriptor) (lv : ℕ) (facts : List Fact) → descriptor_of content ≡ Ok next → IsOf group first → SessionIsHeld old group first homes
+    → IfSome old.media (λ media. VolumeServes (contents_of (image_of old.sizes media)) facts group lv next) → ImagesKept old facts → ImagesKept d facts)
+    old new
+
+-- ---- what is found
+
+-- Where the disks held what was committed, nothing is found that wasn't found before,
+abbrev pub StatusFindsNothingNew : Stored → Homes → Device → Device → Type 0
+StatusFindsNothingNew first homes old new = (group : Descriptor) → IsOf group first → SessionIsHeld old group first homes → FindsNothingNewOn old new
+
+-- or it is the next descriptor, which differs from the group in its volumes alone.
+abbrev pub CommitFindsNoMore : List ℕ → Stored → Homes → Device → Device → Type 0
+CommitFindsNoMore content first homes old new =
+    (group next : Descriptor) → descriptor_of content ≡ Ok next → IsOf group first → IsAlike next group → SessionIsHeld old group first homes → FindsNoMoreOn next old new
+
+-- whatever is found of other groups was found before, where the media is told
+abbrev pub OthersAreLeft : ℕ → Device → Device → Type 0
+OthersAreLeft id old new = BothTold old.media new.media (λ was is. LeavesOthers (contents_of (image_of old.sizes was)) (contents_of (image_of new.sizes is)) id)
+
+-- Where the disks held what was committed, they hold what now is, and other groups are left as they were: of the same group,
+abbrev pub StaysHeld : Stored → Stored → Homes → Homes → Device → Device → Type 0
+StaysHeld first last homes_old homes_new old new =
+    (group : Descriptor) → IsOf group first → WantsSameMarks group first → SessionIsHeld old group first homes_old → SessionIsHeld new group last homes_new × OthersAreLeft group.id old new
+
+-- or of the next one, which differs from it in its volumes alone.
+abbrev pub ComesHeld : List ℕ → Stored → Stored → Homes → Homes → Device → Device → Type 0
+ComesHeld content first last homes_old homes_new old new =
+    (group next : Descriptor) → descriptor_of content ≡ Ok next → IsOf group first → IsAlike next group → SessionIsHeld old group first homes_old → SessionIsHeld new next last homes_new × OthersAreLeft group.id old new

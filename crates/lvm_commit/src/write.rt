@@ -1,0 +1,202 @@
+//! One record of a session is written, and the members on which its write failed are missing.
+ghost use Rattle.std.specs.Prelude.{◌≡◌, ◌↔◌, ◌≢◌, ◌+◌, ◌<◌, ◌≤◌, ◌^◌, ◌++◌, ℕ, length, drop, None, IsTrue};
+ghost use Rattle.lvm_num.specs.declared.record.Kind.TheVariants as kind;
+ghost use Rattle.lvm_num.specs.Descriptor.{IsValid, is_member};
+ghost use Rattle.lvm_num.specs.Disks.{has};
+ghost use Rattle.lvm_num.specs.Record.{Frames, longest_content};
+ghost use Rattle.lvm_num.specs.Status.{IsValidStatus};
+ghost use Rattle.lvm_num.specs.StatusBytes.{status_bytes};
+ghost use Rattle.lvm_disk.specs.Device.{IsReady};
+ghost use Rattle.lvm_status.specs.Members.{HasItsRows};
+ghost use Rattle.lvm_status.specs.Update.{members_there};
+ghost use Rattle.lvm_quorum.specs.Written.{HaveRoom};
+ghost use Rattle.lvm_commit.specs.Committed.{next_stamp};
+ghost use Rattle.lvm_commit.specs.Settling.{IfDone, IsOf, there};
+ghost use Rattle.lvm_commit.specs.Rounds.{IsStarted, HasEnded, HasLost, IsByVotes, stamped, session_write, RecordGives};
+
+use crate::commit::Settled;
+use lvm_disk::Shelf;
+use lvm_move::Patience;
+use lvm_num::{Descriptor, DiskSet, Kind, Pbuf, Stamp};
+use lvm_quorum::{Homes, Wrote, write_record};
+use lvm_status::{Change, Updater};
+use lvm_vgsa::encode_into;
+
+/// Writes what is wanted of the status to each member that isn't missing, under the next stamp. The members on which
+/// that fails are wanted missing.
+pub fn write_wanted<S: Shelf>(
+    shelf: &mut S,
+    d: &Descriptor,
+    updater: &mut Updater,
+    homes: &mut Homes,
+    bytes: &mut [u8],
+    buf: Pbuf,
+    patience: &mut Patience,
+) -> Settled
+    requires ready { IsReady (S.device shelf.old) }
+    requires valid { IsValid d.now }
+    requires own { IsOf d.now updater.old }
+    requires idle { updater.old.in_flight ≡ None }
+    requires differs { updater.old.committed ≢ updater.old.wanted }
+    requires epoch { updater.old.stamp.epoch ≢ 0 }
+    requires number { updater.old.stamp.seq + 1 < 2 ^ 32 }
+    requires room { HaveRoom (S.device shelf.old) (there updater.old) }
+    requires bytes { longest_content kind.Status ≤ length bytes.old }
+    ensures gives { RecordGives (session_write kind.Status (status_bytes updater.old.wanted) (stamped updater.old) homes.old) buf.number patience.old.left patience.new.left (stamped updater.old) updater.new homes.old homes.new (S.device shelf.old) (S.device shelf.new) result }
+    ensures frames { Frames kind.Status (record { stamp = next_stamp updater.old.stamp; content = status_bytes updater.old.wanted }) }
+    ensures valid { IsValidStatus updater.old.wanted }
+    ensures committed { IfDone result (λ back. (updater.new.in_flight ≡ None) × (updater.new.committed ≡ updater.old.wanted)) }
+{
+    updater.start();
+    let stamp = updater.stamp();
+    let targets = updater.writes().unstarted;
+    let count = put_wanted(updater, bytes);
+    match write_record(
+        shelf,
+        Kind::Status,
+        stamp,
+        &bytes[..count],
+        targets,
+        homes,
+        buf,
+        patience,
+    ) {
+        Wrote::Ended { failed, buf } => {
+            end_writes(d, updater, failed);
+            by_votes(d, updater, buf)
+        }
+        Wrote::Dark => Settled::Dark,
+        Wrote::Stuck => Settled::Stuck,
+    }
+}
+
+/// Writes a descriptor to each member that isn't missing, under the next stamp. The members on which that fails are
+/// wanted missing.
+pub fn write_descriptor<S: Shelf>(
+    shelf: &mut S,
+    d: &Descriptor,
+    updater: &mut Updater,
+    homes: &mut Homes,
+    content: &[u8],
+    buf: Pbuf,
+    patience: &mut Patience,
+) -> Settled
+    requires ready { IsReady (S.device shelf.old) }
+    requires valid { IsValid d.now }
+    requires own { IsOf d.now updater.old }
+    requires idle { updater.old.in_flight ≡ None }
+    requires rows { HasItsRows updater.old.group updater.old.wanted }
+    requires epoch { updater.old.stamp.epoch ≢ 0 }
+    requires number { updater.old.stamp.seq + 1 < 2 ^ 32 }
+    requires room { HaveRoom (S.device shelf.old) (there updater.old) }
+    requires content { length content.now ≤ longest_content kind.Descriptor }
+    ensures gives { RecordGives (session_write kind.Descriptor content.now (stamped updater.old) homes.old) buf.number patience.old.left patience.new.left (stamped updater.old) updater.new homes.old homes.new (S.device shelf.old) (S.device shelf.new) result }
+    ensures frames { Frames kind.Descriptor (record { stamp = next_stamp updater.old.stamp; content = content.now }) }
+    ensures committed { IfDone result (λ back. (updater.new.in_flight ≡ None) × (updater.new.committed ≡ updater.old.committed)) }
+{
+    let stamp = next_stamp(updater.stamp());
+    updater.set_stamp(stamp);
+    let targets = members_there(d, updater);
+    match write_record(
+        shelf,
+        Kind::Descriptor,
+        stamp,
+        content,
+        targets,
+        homes,
+        buf,
+        patience,
+    ) {
+        Wrote::Ended { failed, buf } => {
+            lose(d, updater, failed);
+            by_votes(d, updater, buf)
+        }
+        Wrote::Dark => Settled::Dark,
+        Wrote::Stuck => Settled::Stuck,
+    }
+}
+
+/// Whether what is wanted is committed.
+pub fn is_committed(updater: &Updater) -> bool
+    ensures { IsTrue result ↔ (updater.now.committed ≡ updater.now.wanted) }
+{
+    updater.committed().as_status() == updater.wanted().as_status()
+}
+
+// The stamp after this one in its session.
+fn next_stamp(stamp: Stamp) -> Stamp
+    requires { stamp.seq + 1 < 2 ^ 32 }
+    ensures { result ≡ next_stamp stamp }
+{
+    Stamp {
+        epoch: stamp.epoch,
+        seq: stamp.seq + 1,
+    }
+}
+
+// Puts the bytes of what is wanted at the front of others, and answers how many these are.
+fn put_wanted(updater: &Updater, bytes: &mut [u8]) -> usize
+    requires { longest_content kind.Status ≤ length bytes.old }
+    ensures written { bytes.new ≡ status_bytes updater.now.wanted ++ drop (length (status_bytes updater.now.wanted)) bytes.old }
+    ensures count { result ≡ length (status_bytes updater.now.wanted) }
+    ensures fits { result ≤ longest_content kind.Status }
+    ensures valid { IsValidStatus updater.now.wanted }
+{
+    encode_into(updater.wanted().as_status(), bytes)
+}
+
+// Ends the writes of the update in flight, on these disks badly.
+fn end_writes(d: &Descriptor, updater: &mut Updater, failed: DiskSet)
+    requires valid { IsValid d.now }
+    requires own { IsOf d.now updater.old }
+    requires started { IsStarted updater.old }
+    ensures { HasEnded (has failed) updater.old updater.new }
+{
+    while let Some(disk) = updater.next_write() {
+        updater.ended(disk, !failed.has(disk));
+    }
+}
+
+// These members are wanted missing.
+fn lose(d: &Descriptor, updater: &mut Updater, failed: DiskSet)
+    requires valid { IsValid d.now }
+    requires own { IsOf d.now updater.old }
+    requires idle { updater.old.in_flight ≡ None }
+    requires rows { HasItsRows updater.old.group updater.old.wanted }
+    requires members { (disk : ℕ) → IsTrue (has failed disk) → IsTrue (is_member d.now disk) }
+    ensures { HasLost (has failed) updater.old updater.new }
+{
+    for row in d.pvs.as_slice() {
+        if failed.has(row.disk) {
+            updater.want(Change::Missing(row.disk));
+        }
+    }
+}
+
+// Whether the members that aren't missing have votes enough to write.
+fn by_votes(d: &Descriptor, updater: &Updater, buf: Pbuf) -> Settled
+    requires valid { IsValid d.now }
+    requires own { IsOf d.now updater.now }
+    ensures { IsByVotes updater.now buf result }
+{
+    let (have, total) = updater.votes();
+    if d.enough_to_write(have) {
+        Settled::Done { buf }
+    } else {
+        Settled::WentOff { have, total, buf }
+    }
+}
+
+// The members that aren't missing.
+fn members_there(d: &Descriptor, updater: &Updater) -> DiskSet
+    requires { IsValid d.now }
+    ensures { has result ≡ members_there d.now updater.now.wanted }
+{
+    let mut there = DiskSet::empty();
+    for row in d.pvs.as_slice() {
+        if !updater.wanted().is_missing(row.disk) {
+            there = there.with(row.disk);
+        }
+    }
+    there
+}

@@ -1,0 +1,105 @@
+-- What a session and its shelf are after a descriptor was committed.
+use Rattle.std.proofs.Common.{◌≡◌, ℕ, ◌++◌, List, refl, sym, ◌∙◌, subst}
+use Rattle.std.specs.Prelude.{Result, Ok, IfOk, IfSome}
+use Rattle.lvm_num.specs.declared.descriptor.Descriptor.{Descriptor}
+use Rattle.lvm_num.specs.Disks.{Disks}
+use Rattle.lvm_num.specs.DescriptorBytes.{descriptor_bytes, descriptor_of}
+use Rattle.lvm_disk.specs.Counts.{NoneFalls}
+use Rattle.lvm_disk.specs.Device.{image_of}
+use Rattle.lvm_vol.specs.Facts.{Fact}
+use Rattle.lvm_kept.specs.Contents.{contents_of}
+use Rattle.lvm_kept.specs.Moments.{Moment, StaysCalm}
+use Rattle.lvm_change.specs.Moments.{ImagesKept}
+use Rattle.lvm_quorum.specs.Written.{KeepsShelf}
+use Rattle.lvm_vgda.proofs.Whole.{spelled_is_read}
+use Rattle.lvm_commit.specs.declared.commit.Settled.{Settled}
+use Rattle.lvm_commit.specs.declared.commit.Settled.TheVariants as settled
+use Rattle.lvm_commit.specs.Committed.{IsAlike}
+use Rattle.lvm_commit.specs.LawsOfFinding.{FindsNoMoreOn}
+use Rattle.lvm_commit.specs.LawsOfVolumes.{VolumeServes}
+use Rattle.lvm_commit.specs.Settling.{IfDone, IsOf, IsOfCommit, IsPlain, SessionIsHeld, ComesHeld}
+use Rattle.lvm_core.specs.declared.fault.CommitFault.{CommitFault}
+use Rattle.lvm_core.specs.State.{Core, State, is_there}
+use Rattle.lvm_core.specs.Sound.{IsSound}
+use Rattle.lvm_core.specs.Held.{IsHeld}
+use Rattle.lvm_core.specs.Settled.{IsSettled}
+use Rattle.lvm_core.specs.Committing.{CommitEnds, moment_of, SpanGoesOn, LetsCommit, StaysBehind}
+use Rattle.lvm_core.specs.Steps.{CoreEnds, CommitsDescriptor}
+use Rattle.lvm_core.proofs.Spanning.{path_falls}
+use Rattle.lvm_core.proofs.Settled.{IsBegun, there_is, group_is, settles_sound, commit_ends, most_stays, settles_keep, settles_calm, settles_behind}
+use Rattle.lvm_core.proofs.Commits.{session_holds, holds_session}
+
+-- nothing else is wanted first than what is
+still_begun : (core : Core) → IsBegun core core.status
+still_begun core = record { group = refl; stamp = refl; rows = record { id = refl; big = refl; disks = refl }; missing = λ d. refl }
+
+module _ (next : Descriptor) (before after : ℕ) (old new : State) (answer : Result (Unit {0}) CommitFault) (w : CommitsDescriptor next before after old new answer) (settled_is : IsSettled old.core) (sound : IsSound old) (alike : IsAlike next old.core.descriptor) where
+  abbrev plan : Rattle.lvm_kept.specs.Plans.Plan
+  plan = IsOfCommit (descriptor_bytes next) old.core.status new.core.status
+
+  read : descriptor_of (descriptor_bytes next) ≡ Ok next
+  read = spelled_is_read next w.valid
+
+  own : IsOf old.core.descriptor old.core.status
+  own = sym sound.fitting.group
+
+  held_first : IsHeld old.device old.core → SessionIsHeld old.device old.core.descriptor old.core.status old.core.homes
+  held_first = session_holds old.device old.core sound.fitting.group
+
+  pub descriptor_sound : IsSound new
+  descriptor_sound = settles_sound next plan old.core.status before after old new w.how answer w.settles (still_begun old.core) settled_is sound w.valid alike
+
+  pub descriptor_most : new.core.most ≡ old.core.most
+  descriptor_most = most_stays next plan old.core.status before after old new w.how answer w.settles (still_begun old.core) settled_is sound w.valid alike
+
+  pub descriptor_ends : CommitEnds next before old new answer
+  descriptor_ends = commit_ends next plan old.core.status before after old new w.how answer w.settles (still_begun old.core) settled_is sound w.valid alike
+
+  pub descriptor_held : IsHeld old.device old.core → IfOk answer (λ done. IsHeld new.device new.core)
+  descriptor_held held = by_how w.how w.held w.settles.goes
+    where
+      by_how : (h : Settled) → IfDone h (λ back. ComesHeld (descriptor_bytes next) old.core.status new.core.status old.core.homes new.core.homes old.device new.device) → CoreEnds next old.core new.core h answer
+          → IfOk answer (λ done. IsHeld new.device new.core)
+      by_how (settled.Done back) comes goes =
+          let its = comes old.core.descriptor next read own alike (held_first held) in
+          let group = group_is next plan old.core.status before after old new w.how answer w.settles (still_begun old.core) settled_is sound w.valid alike in
+          subst (λ (a : Result (Unit {0}) CommitFault). IfOk a (λ done. IsHeld new.device new.core)) (sym goes.0)
+          (subst (IsHeld new.device) (sym goes.1) (holds_session new.device old.core next new.core.status new.core.homes (group ∙ sym alike) its.0))
+      by_how (settled.WentOff have total back) comes goes = subst (λ (a : Result (Unit {0}) CommitFault). IfOk a (λ done. IsHeld new.device new.core)) (sym goes.0) tt
+      by_how settled.Dark comes goes = subst (λ (a : Result (Unit {0}) CommitFault). IfOk a (λ done. IsHeld new.device new.core)) (sym goes.0) tt
+      by_how settled.Stuck comes goes = subst (λ (a : Result (Unit {0}) CommitFault). IfOk a (λ done. IsHeld new.device new.core)) (sym goes.0) tt
+
+  pub descriptor_plain : IfOk answer (λ done. IsPlain Rattle.lvm_num.specs.declared.record.Kind.TheVariants.Descriptor (descriptor_bytes next) old.core.status new.core.status old.core.homes old.device new.device)
+  descriptor_plain = by_how w.how w.plain w.settles.goes
+    where
+      Plain : Type 0
+      Plain = IsPlain Rattle.lvm_num.specs.declared.record.Kind.TheVariants.Descriptor (descriptor_bytes next) old.core.status new.core.status old.core.homes old.device new.device
+
+      by_how : (h : Settled) → IfDone h (λ back. Plain) → CoreEnds next old.core new.core h answer → IfOk answer (λ done. Plain)
+      by_how (settled.Done back) plain goes = subst (λ (a : Result (Unit {0}) CommitFault). IfOk a (λ done. Plain)) (sym goes.0) plain
+      by_how (settled.WentOff have total back) plain goes = subst (λ (a : Result (Unit {0}) CommitFault). IfOk a (λ done. Plain)) (sym goes.0) tt
+      by_how settled.Dark plain goes = subst (λ (a : Result (Unit {0}) CommitFault). IfOk a (λ done. Plain)) (sym goes.0) tt
+      by_how settled.Stuck plain goes = subst (λ (a : Result (Unit {0}) CommitFault). IfOk a (λ done. Plain)) (sym goes.0) tt
+
+  pub descriptor_finds : IsHeld old.device old.core → FindsNoMoreOn next old.device new.device
+  descriptor_finds held = w.finds old.core.descriptor next read own alike (held_first held)
+
+  pub descriptor_falls : NoneFalls old.device.counts new.device.counts
+  descriptor_falls = path_falls old.device new.device w.kept
+
+  pub descriptor_writes : KeepsShelf (is_there old.core) plan old.device new.device
+  descriptor_writes = subst (λ (set : Disks). KeepsShelf set plan old.device new.device) (there_is old.core.descriptor old.core.status sound.fitting.group) w.settles.keeps
+
+  pub descriptor_keeps : IsHeld old.device old.core → (lv run : ℕ) (first : Moment) → LetsCommit lv next run first old → SpanGoesOn run first old new
+  descriptor_keeps held lv run first lets span =
+      settles_keep next plan old.core.status before after old new w.how answer w.settles (still_begun old.core) settled_is sound w.valid alike
+      (λ d. (group k : Descriptor) (v : ℕ) (facts : List Fact) → descriptor_of (descriptor_bytes next) ≡ Ok k → IsOf group old.core.status → SessionIsHeld old.device group old.core.status old.core.homes
+      → IfSome old.device.media (λ media. VolumeServes (contents_of (image_of old.device.sizes media)) facts group v k) → ImagesKept old.device facts → ImagesKept d facts)
+      w.kept run first span
+      (λ past begins holds d its. its old.core.descriptor next lv (past ++ old.core.history.facts) read own (held_first held) (lets past begins holds) holds.kept)
+
+  pub descriptor_calm : StaysCalm (moment_of old) (moment_of new)
+  descriptor_calm = settles_calm next plan old.core.status before after old new w.how answer w.settles (still_begun old.core) settled_is sound w.valid alike
+
+  pub descriptor_behind : StaysBehind old new
+  descriptor_behind = settles_behind next plan old.core.status before after old new w.how answer w.settles (still_begun old.core) settled_is sound w.valid alike (λ d n value it. (it.0, it.2))

@@ -1,0 +1,190 @@
+-- What a session is after records were written, by how that ended.
+use Rattle.std.proofs.Common.{◌≡◌, ℕ, ◌≤◌, Bool, false, List, length, replicate, refl, sym, ◌∙◌, ap, subst}
+use Rattle.std.specs.Prelude.{Result, Ok, Err, slice_set}
+use Rattle.lvm_num.specs.declared.place.Pp.{Pp}
+use Rattle.lvm_num.specs.declared.descriptor.Descriptor.{Descriptor}
+use Rattle.lvm_num.specs.declared.record.Kind.TheVariants as kind
+use Rattle.lvm_num.specs.Descriptor.{IsValid}
+use Rattle.lvm_num.specs.DescriptorBytes.{descriptor_bytes}
+use Rattle.lvm_disk.specs.Device.{Device, IsReady}
+use Rattle.lvm_kept.specs.Plans.{Plan}
+use Rattle.lvm_pbuf.specs.Out.{IsOut}
+use Rattle.lvm_status.specs.Update.{Stored}
+use Rattle.lvm_quorum.specs.declared.homes.Homes.{Homes}
+use Rattle.lvm_quorum.specs.Parts.{Spends}
+use Rattle.lvm_quorum.specs.Written.{IsDarkened, IsGivenUp, KeepsShelf}
+use Rattle.lvm_commit.specs.declared.commit.Settled.{Settled}
+use Rattle.lvm_commit.specs.declared.commit.Settled.TheVariants as settled
+use Rattle.lvm_commit.specs.Settling.{IfDone, IfWentOff, IfBack, OnDark, OnStuck, EndsAtOnce, there, IsCommitted, HasLostQuorum, OnlyLoses, AreWell, SpendsNumbers, IsOfStatus, IsOfCommit, IsPlain, StatusStaysKept, DescriptorStaysKept, StatusFindsNothingNew, CommitFindsNoMore, StaysHeld, ComesHeld}
+use Rattle.lvm_core.specs.declared.fault.CommitFault.{CommitFault}
+use Rattle.lvm_core.specs.declared.request.Power.TheVariants as power
+use Rattle.lvm_core.specs.State.{Core, State}
+use Rattle.lvm_core.specs.Dark.{all_dark}
+use Rattle.lvm_core.specs.Committing.{with_one_out}
+use Rattle.lvm_core.specs.Steps.{IsMarked, EndsAs, CoreEnds, Settles, CommitsDescriptor, CommitsMarks}
+use Rattle.lvm_core.proofs.Buffers.{one_is_out, back_again}
+
+-- ---- the buffer
+
+pub numbered : (how : Settled) (n : ℕ) → n ≡ 0 → IfBack how (λ back. back.number ≡ n) → IfBack how (λ back. back.number ≡ 0)
+numbered how n is back = subst (λ (k : ℕ). IfBack how (λ back. back.number ≡ k)) is back
+
+-- it is out until it is taken back
+pub is_out : (how : Settled) (pool taken : List Bool) → taken ≡ with_one_out pool → 1 ≤ length pool → IfBack how (λ back. back.number ≡ 0) → IfBack how (λ back. IsOut taken back.number)
+is_out (settled.Done buf) pool taken is some back = subst (λ (p : List Bool). IsOut p buf.number) (sym is) (one_is_out pool buf.number back some)
+is_out (settled.WentOff have total buf) pool taken is some back = subst (λ (p : List Bool). IsOut p buf.number) (sym is) (one_is_out pool buf.number back some)
+is_out settled.Dark pool taken is some back = tt
+is_out settled.Stuck pool taken is some back = tt
+
+-- ---- the session
+
+module _ (old mid new : Core) (mid_is : mid ≡ record old { pool = with_one_out old.pool; status = mid.status; homes = mid.homes }) (all : old.pool ≡ replicate (length old.pool) false) where
+  pub core_ends : (how : Settled) (answer : Result (Unit {0}) CommitFault) → IfBack how (λ back. back.number ≡ 0) → EndsAs mid new how answer → CoreEnds old.descriptor old new how answer
+  core_ends (settled.Done buf) answer number ends =
+      let is : new ≡ record old { status = mid.status; homes = mid.homes } =
+      ends.1
+      ∙ ap (λ (c : Core). record c { pool = slice_set c.pool buf.number false }) mid_is
+      ∙ ap (λ (p : List Bool). record old { pool = p; status = mid.status; homes = mid.homes }) (back_again old.pool buf.number number all)
+      in
+      (ends.0, is ∙ ap (λ (c : Core). record old { status = c.status; homes = c.homes }) (sym is))
+  core_ends (settled.WentOff have total buf) answer number ends =
+      let is : new ≡ record old { status = mid.status; homes = mid.homes; power = power.Off } =
+      ends.1
+      ∙ ap (λ (c : Core). record c { pool = slice_set c.pool buf.number false; power = power.Off }) mid_is
+      ∙ ap (λ (p : List Bool). record old { pool = p; status = mid.status; homes = mid.homes; power = power.Off }) (back_again old.pool buf.number number all)
+      in
+      (ends.0, is ∙ ap (λ (c : Core). record old { status = c.status; homes = c.homes; power = power.Off }) (sym is))
+  core_ends settled.Dark answer number ends =
+      let is : new ≡ all_dark (record old { pool = with_one_out old.pool; status = mid.status; homes = mid.homes }) = ends.1 ∙ ap all_dark mid_is in
+      (ends.0, is ∙ ap (λ (c : Core). all_dark (record old { pool = with_one_out old.pool; status = c.status; homes = c.homes })) (sym is))
+  core_ends settled.Stuck answer number ends =
+      let is : new ≡ record old { pool = with_one_out old.pool; status = mid.status; homes = mid.homes } = ends.1 ∙ mid_is in
+      (ends.0, is ∙ ap (λ (c : Core). record old { pool = with_one_out old.pool; status = c.status; homes = c.homes }) (sym is))
+
+  -- where it went well the next descriptor is put in
+  pub core_ends_well : (next : Descriptor) (how : Settled) → IfBack how (λ back. back.number ≡ 0) → EndsAs mid new how (Ok tt) → CoreEnds next old (record new { descriptor = next }) how (Ok tt)
+  core_ends_well next (settled.Done buf) number ends =
+      let its = core_ends (settled.Done buf) (Ok tt) number ends in
+      (refl, ap (λ (c : Core). record c { descriptor = next }) its.1)
+  core_ends_well next (settled.WentOff have total buf) number ends = absurd (cc (ends.0))
+  core_ends_well next settled.Dark number ends = absurd (cc (ends.0))
+  core_ends_well next settled.Stuck number ends = absurd (cc (ends.0))
+
+  -- and else it stays
+  pub core_ends_badly : (next : Descriptor) (fault : CommitFault) (how : Settled) → IfBack how (λ back. back.number ≡ 0) → EndsAs mid new how (Err fault) → CoreEnds next old new how (Err fault)
+  core_ends_badly next fault (settled.Done buf) number ends = absurd (cc (ends.0))
+  core_ends_badly next fault (settled.WentOff have total buf) number ends = core_ends (settled.WentOff have total buf) (Err fault) number ends
+  core_ends_badly next fault settled.Dark number ends = core_ends settled.Dark (Err fault) number ends
+  core_ends_badly next fault settled.Stuck number ends = core_ends settled.Stuck (Err fault) number ends
+
+-- what is wanted and the slots stay as they were written
+pub status_ends : (mid new : Core) (how : Settled) (answer : Result (Unit {0}) CommitFault) → EndsAs mid new how answer → (new.status ≡ mid.status) × (new.homes ≡ mid.homes)
+status_ends mid new (settled.Done buf) answer ends = (ap (λ (c : Core). c.status) ends.1, ap (λ (c : Core). c.homes) ends.1)
+status_ends mid new (settled.WentOff have total buf) answer ends = (ap (λ (c : Core). c.status) ends.1, ap (λ (c : Core). c.homes) ends.1)
+status_ends mid new settled.Dark answer ends = (ap (λ (c : Core). c.status) ends.1, ap (λ (c : Core). c.homes) ends.1)
+status_ends mid new settled.Stuck answer ends = (ap (λ (c : Core). c.status) ends.1, ap (λ (c : Core). c.homes) ends.1)
+
+-- ---- what was written
+
+-- what the writes promise, with a buffer of this number
+pub record Promises (plan : Stored → Plan) (first last : Stored) (number before after : ℕ) (old new : Device) (how : Settled) : Type 0 where
+  pub done : IfDone how (λ back. IsCommitted last)
+  pub off : IfWentOff how (λ have total back. HasLostQuorum first last old new have total)
+  pub ready : IfBack how (λ back. IsReady new × (new.counts.cuts ≡ old.counts.cuts))
+  pub well : IfBack how (λ back. AreWell last old new)
+  pub dark : OnDark how (IsDarkened number old new)
+  pub stuck : OnStuck how (IsGivenUp number before old new)
+  pub loses : OnlyLoses first last old new
+  pub spent : IfWentOff how (λ have total back. SpendsNumbers 0 first last)
+  pub numbers : SpendsNumbers 1 first last
+  pub spends : Spends before after old new
+  pub keeps : KeepsShelf (there first) (plan last) old new
+
+module _ (next : Descriptor) (plan : Stored → Plan) (first last : Stored) (before after : ℕ) (old new : State) (how : Settled) (answer : Result (Unit {0}) CommitFault) where
+  pub settles : new.core.status ≡ last → Promises plan first last 0 before after old.device new.device how → CoreEnds next old.core new.core how answer → Settles next (plan new.core.status) first before after old new how answer
+  settles is promises goes =
+      let p = subst (λ (u : Stored). Promises plan first u 0 before after old.device new.device how) (sym is) promises in
+      record {
+        done = p.done;
+        off = p.off;
+        ready = p.ready;
+        well = p.well;
+        dark = p.dark;
+        stuck = p.stuck;
+        loses = p.loses;
+        spent = p.spent;
+        numbers = p.numbers;
+        spends = p.spends;
+        keeps = p.keeps;
+        goes = goes;
+      }
+
+-- ---- a descriptor
+
+pub record DescriptorPromises (content : List ℕ) (first last : Stored) (homes next_homes : Homes) (number before after : ℕ) (old new : Device) (how : Settled) : Type 0 where
+  pub promises : Promises (IsOfCommit content first) first last number before after old new how
+  pub held : IfDone how (λ back. ComesHeld content first last homes next_homes old new)
+  pub plain : IfDone how (λ back. IsPlain kind.Descriptor content first last homes old new)
+  pub finds : CommitFindsNoMore content first homes old new
+  pub kept : DescriptorStaysKept content first homes old new
+
+pub commits_descriptor :
+    (next : Descriptor) (content : List ℕ) (first last : Stored) (homes next_homes : Homes) (number before after : ℕ) (old new : State) (how : Settled) (answer : Result (Unit {0}) CommitFault)
+    → IsValid next → content ≡ descriptor_bytes next → first ≡ old.core.status → homes ≡ old.core.homes → number ≡ 0 → new.core.status ≡ last → new.core.homes ≡ next_homes
+    → DescriptorPromises content first last homes next_homes number before after old.device new.device how → CoreEnds next old.core new.core how answer → CommitsDescriptor next before after old new answer
+commits_descriptor next content first last homes next_homes number before after old new how answer valid bytes is at none then at_then promises goes =
+    let a = subst (λ (l : List ℕ). DescriptorPromises l first last homes next_homes number before after old.device new.device how) bytes promises in
+    let b = subst (λ (u : Stored). DescriptorPromises (descriptor_bytes next) u last homes next_homes number before after old.device new.device how) is a in
+    let d = subst (λ (h : Homes). DescriptorPromises (descriptor_bytes next) old.core.status last h next_homes number before after old.device new.device how) at b in
+    let e = subst (λ (n : ℕ). DescriptorPromises (descriptor_bytes next) old.core.status last old.core.homes next_homes n before after old.device new.device how) none d in
+    let f = subst (λ (h : Homes). DescriptorPromises (descriptor_bytes next) old.core.status last old.core.homes h 0 before after old.device new.device how) (sym at_then) e in
+    let p = subst (λ (u : Stored). DescriptorPromises (descriptor_bytes next) old.core.status u old.core.homes new.core.homes 0 before after old.device new.device how) (sym then) f in
+    record {
+      how = how;
+      valid = valid;
+      settles = settles next (IsOfCommit (descriptor_bytes next) old.core.status) old.core.status new.core.status before after old new how answer refl p.promises goes;
+      held = p.held;
+      plain = p.plain;
+      finds = p.finds;
+      kept = p.kept;
+    }
+
+-- ---- a status
+
+pub record StatusPromises (first last : Stored) (homes next_homes : Homes) (number before after : ℕ) (old new : Device) (how : Settled) : Type 0 where
+  pub promises : Promises (IsOfStatus first) first last number before after old new how
+  pub held : IfDone how (λ back. StaysHeld first last homes next_homes old new)
+  pub finds : StatusFindsNothingNew first homes old new
+  pub kept : StatusStaysKept first homes old new
+
+pub commits_marks :
+    (to_stale to_fresh : List Pp) (first last : Stored) (homes next_homes : Homes) (number before after : ℕ) (old new : State) (how : Settled) (answer : Result (Unit {0}) CommitFault)
+    → IsMarked to_stale to_fresh old.core.status first → homes ≡ old.core.homes → number ≡ 0 → new.core.status ≡ last → new.core.homes ≡ next_homes
+    → StatusPromises first last homes next_homes number before after old.device new.device how → CoreEnds old.core.descriptor old.core new.core how answer
+    → (first.wanted ≡ first.committed → (answer ≡ Ok tt) × (new.device ≡ old.device) × (new.core ≡ record old.core { status = first })) → CommitsMarks to_stale to_fresh before after old new answer
+commits_marks to_stale to_fresh first last homes next_homes number before after old new how answer marked at none then at_then promises goes same =
+    let a = subst (λ (h : Homes). StatusPromises first last h next_homes number before after old.device new.device how) at promises in
+    let b = subst (λ (n : ℕ). StatusPromises first last old.core.homes next_homes n before after old.device new.device how) none a in
+    let d = subst (λ (h : Homes). StatusPromises first last old.core.homes h 0 before after old.device new.device how) (sym at_then) b in
+    let p = subst (λ (u : Stored). StatusPromises first u old.core.homes new.core.homes 0 before after old.device new.device how) (sym then) d in
+    record {
+      first = first;
+      marked = marked;
+      how = how;
+      settles = settles old.core.descriptor (IsOfStatus first) first new.core.status before after old new how answer refl p.promises goes;
+      held = p.held;
+      finds = p.finds;
+      kept = p.kept;
+      same = same;
+    }
+
+-- where it ended at once
+pub at_once : (Same : Type 0) (old mid new : Core) (mid_is : mid ≡ record old { pool = with_one_out old.pool; status = mid.status; homes = mid.homes }) (all : old.pool ≡ replicate (length old.pool) false) (how : Settled) (answer : Result (Unit {0}) CommitFault)
+    → IfBack how (λ back. back.number ≡ 0) → EndsAs mid new how answer → EndsAtOnce how Same → (Same → mid.homes ≡ old.homes) → Same × (answer ≡ Ok tt) × (new ≡ record old { status = mid.status })
+at_once Same old mid new mid_is all (settled.Done buf) answer number ends same homes =
+    let its = core_ends old mid new mid_is all (settled.Done buf) answer number ends in
+    let is = status_ends mid new (settled.Done buf) answer ends in
+    (same, its.0, its.1 ∙ ap (λ (u : Stored). record old { status = u; homes = new.homes }) is.0 ∙ ap (λ (h : Homes). record old { status = mid.status; homes = h }) (is.1 ∙ homes same))
+at_once Same old mid new mid_is all (settled.WentOff have total buf) answer number ends same homes = absurd same
+at_once Same old mid new mid_is all settled.Dark answer number ends same homes = absurd same
+at_once Same old mid new mid_is all settled.Stuck answer number ends same homes = absurd same

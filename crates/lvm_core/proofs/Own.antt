@@ -1,0 +1,135 @@
+-- A session is sound after transfers of its own, whether its buffer is back or out.
+use Rattle.std.proofs.Common.{◌≡◌, inl, inr, ℕ, zero, suc, ◌≤◌, ◌+◌, Bool, true, false, List, [], ◌∷◌, length, length-set, replicate, refl, sym, ◌∙◌, ap, subst, arith}
+use Rattle.std.specs.Prelude.{cond, count_by, slice_index_or, IsFalse, ◌==◌}
+use Rattle.std.proofs.lemmas.Bool.Decides.{nat_tests}
+use Rattle.lvm_num.specs.Buffer.{Buffer}
+use Rattle.lvm_num.specs.Votes.{is_enough_to_write}
+use Rattle.lvm_disk.specs.Device.{Device, Flight, IsReady}
+use Rattle.lvm_quorum.specs.Written.{FreesAtMost, IsDarkened, IsGivenUp}
+use Rattle.lvm_core.specs.declared.request.Power.TheVariants as power
+use Rattle.lvm_core.specs.State.{Core, state, votes_there}
+use Rattle.lvm_core.specs.Dark.{all_dark}
+use Rattle.lvm_core.specs.Starting.{ArePlaced}
+use Rattle.lvm_core.specs.Sound.{has_number, out_with, is_dark, IsFitting, IsTold, IsSound}
+use Rattle.lvm_core.specs.Committing.{with_one_out}
+use Rattle.lvm_core.proofs.Beginning.{none_out}
+use Rattle.lvm_core.proofs.Arranging.{dark_fits, dark_is_told}
+
+-- the parts fit with a pool of as many buffers
+pub fits_pool : (core : Core) (pool : List Bool) → length pool ≡ length core.pool → IsFitting core → IsFitting (record core { pool = pool })
+fits_pool core pool long fits = record {
+  valid = fits.valid;
+  id = fits.id;
+  rows = fits.rows;
+  group = fits.group;
+  notes = fits.notes;
+  table = fits.table;
+  most = fits.most;
+  queue = fits.queue;
+  a_buffer = subst (λ n. 1 ≤ n) (sym long) fits.a_buffer;
+  buffers = subst (λ n. n ≤ 1024) (sym long) fits.buffers;
+}
+
+pub one_out_long : (pool : List Bool) → length (with_one_out pool) ≡ length pool
+one_out_long pool = length-set pool 0 true
+
+-- ---- the buffers
+
+all_in : (pool : List Bool) (n : ℕ) → pool ≡ replicate (length pool) false → slice_index_or pool n false ≡ false
+all_in pool n all = ap (λ (p : List Bool). slice_index_or p n false) all ∙ none_out (length pool) n
+
+first_out : (pool : List Bool) → 1 ≤ length pool → slice_index_or (with_one_out pool) 0 false ≡ true
+first_out [] some = absurd (omega (arith, some))
+first_out (b ∷ rest) some = refl
+
+others_in : (pool : List Bool) (n : ℕ) → slice_index_or (with_one_out pool) (suc n) false ≡ slice_index_or pool (suc n) false
+others_in [] n = refl
+others_in (b ∷ rest) n = refl
+
+none_with : (device : Device) → device.flights ≡ [] → device.freed ≡ [] → (n : ℕ) → out_with device n ≡ 0
+none_with device none nothing n =
+    ap (λ fs. count_by (λ (f : Flight). has_number n f.buf) fs + count_by (has_number n) device.freed) none
+    ∙ ap (λ bs. 0 + count_by (has_number n) bs) nothing
+
+no_more : (k : ℕ) → 0 + (0 + k) ≡ k
+no_more k = omega arith
+
+no_less : (k : ℕ) → (0 + k) + 0 ≡ k
+no_less k = omega arith
+
+-- only one of number 0 may be out
+one_counted : (buf : Buffer) (pool : List Bool) (n : ℕ) → buf.number ≡ 0 → 1 ≤ length pool → pool ≡ replicate (length pool) false
+    → ◌≡◌ {A = ℕ} (cond (has_number n buf) 1 0) (cond (slice_index_or (with_one_out pool) n false) 1 0)
+one_counted buf pool zero is some all = let count : Bool → ℕ = λ b. cond b 1 0 in ap (λ (k : ℕ). count (k == 0)) is ∙ sym (ap count (first_out pool some))
+one_counted buf pool (suc n) is some all = let count : Bool → ℕ = λ b. cond b 1 0 in let differ : (0 == suc n) ≡ false = grind (arith, nat_tests) in ap (λ (k : ℕ). count (k == suc n)) is ∙ ap count differ ∙ sym (ap count (others_in pool n ∙ all_in pool (suc n) all))
+
+-- ---- nothing is out
+
+pub sound_ready :
+    (device : Device) (core : Core) → IsFitting core → IsTold core → ArePlaced device.sizes core.descriptor core.status.wanted → core.pool ≡ replicate (length core.pool) false
+    → is_dark core.power ≡ false → (core.power ≡ power.Off → IsFalse (is_enough_to_write core.descriptor (votes_there core))) → IsReady device → IsSound (state device core)
+sound_ready device core fits told placed all lit off ready = record {
+  fitting = fits;
+  told = told;
+  placed = placed;
+  buffers = λ n. let e = none_with device ready.flights ready.freed n in omega (arith, e);
+  none_lost = λ is n. let count : Bool → ℕ = λ b. cond b 1 0 in none_with device ready.flights ready.freed n ∙ sym (ap count (all_in core.pool n all));
+  quiet = λ quiet. ready.flights;
+  lit = λ is. record { power = ready.power; freed = ready.freed };
+  dark = λ is. absurd (cc (is, lit));
+  off = off;
+}
+
+-- ---- the power was cut
+
+pub sound_dark :
+    (old device : Device) (core : Core) (pool : List Bool) → IsFitting core → IsTold core → ArePlaced device.sizes core.descriptor core.status.wanted
+    → core.pool ≡ with_one_out pool → pool ≡ replicate (length pool) false → 1 ≤ length pool → IsDarkened 0 old device → IsSound (state device (all_dark core))
+sound_dark old device core pool fits told placed is all some cut = record {
+  fitting = dark_fits core fits;
+  told = dark_is_told core told;
+  placed = placed;
+  buffers = λ n. subst (λ (p : List Bool). out_with device n ≤ cond (slice_index_or p n false) 1 0) (sym is) (few n cut.freed);
+  none_lost = λ lit. absurd (let e : ◌≡◌ {A = Bool} true false = lit in cc);
+  quiet = λ quiet. cut.flights;
+  lit = λ lit. absurd (let e : ◌≡◌ {A = Bool} true false = lit in cc);
+  dark = λ lit. record { power = cut.power; flights = cut.flights };
+  off = λ off. absurd (let e : power.Dark ≡ power.Off = off in cc);
+}
+  where
+    few : (n : ℕ) → FreesAtMost 0 device → out_with device n ≤ cond (slice_index_or (with_one_out pool) n false) 1 0
+    few n (inl none) = let e = none_with device cut.flights none n in omega (arith, e)
+    few n (inr (buf, one, number)) =
+        let e : out_with device n ≡ cond (slice_index_or (with_one_out pool) n false) 1 0 =
+        ap (λ fs. count_by (λ (f : Flight). has_number n f.buf) fs + count_by (has_number n) device.freed) cut.flights
+        ∙ ap (λ bs. 0 + count_by (has_number n) bs) one
+        ∙ no_more (cond (has_number n buf) 1 0)
+        ∙ one_counted buf pool n number some all
+        in
+        omega (arith, e)
+
+-- ---- a transfer is out
+
+pub sound_stuck :
+    (patience : ℕ) (old device : Device) (core : Core) (pool : List Bool) → IsFitting core → IsTold core → ArePlaced device.sizes core.descriptor core.status.wanted
+    → core.pool ≡ with_one_out pool → pool ≡ replicate (length pool) false → 1 ≤ length pool → is_dark core.power ≡ false
+    → (core.power ≡ power.Off → IsFalse (is_enough_to_write core.descriptor (votes_there core))) → IsGivenUp 0 patience old device → IsSound (state device core)
+sound_stuck patience old device core pool fits told placed is all some lit off out = record {
+  fitting = fits;
+  told = told;
+  placed = placed;
+  buffers = λ n. let e = one n in omega (arith, e);
+  none_lost = λ on n. one n;
+  quiet = λ quiet. absurd (let inside = all_in core.pool 0 quiet.buffers in let gone = ap (λ (p : List Bool). slice_index_or p 0 false) is ∙ first_out pool some in cc (inside, gone));
+  lit = λ on. record { power = out.power; freed = out.freed };
+  dark = λ dark. absurd (cc (dark, lit));
+  off = off;
+}
+  where
+    one : (n : ℕ) → out_with device n ≡ cond (slice_index_or core.pool n false) 1 0
+    one n =
+        ap (λ fs. count_by (λ (f : Flight). has_number n f.buf) fs + count_by (has_number n) device.freed) out.flights
+        ∙ ap (λ bs. (0 + cond (has_number n out.flight.buf) 1 0) + count_by (has_number n) bs) out.freed
+        ∙ no_less (cond (has_number n out.flight.buf) 1 0)
+        ∙ one_counted out.flight.buf pool n out.buffer some all
+        ∙ let count : Bool → ℕ = λ b. cond b 1 0 in ap (λ (p : List Bool). count (slice_index_or p n false)) (sym is)

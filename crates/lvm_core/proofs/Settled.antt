@@ -1,0 +1,255 @@
+-- What a session and its shelf are after records were written: it is sound, and goes on as it says.
+use Rattle.std.proofs.Common.{◌≡◌, inr, ℕ, ◌+◌, ◌≤◌, ◌<◌, ◌++◌, Bool, true, false, true≢false, ◌&&◌, not, List, [], refl, sym, ◌∙◌, ap, subst}
+use Rattle.std.specs.Prelude.{IsTrue, IsFalse, Result, Contains, count_by}
+use Rattle.lvm_num.specs.declared.descriptor.PvRow.{PvRow}
+use Rattle.lvm_num.specs.declared.descriptor.Descriptor.{Descriptor}
+use Rattle.lvm_num.specs.declared.record.Stamp.{Stamp}
+use Rattle.lvm_num.specs.Disks.{Disks}
+use Rattle.lvm_num.specs.Buffer.{Sector}
+use Rattle.lvm_num.specs.Descriptor.{IsValid, is_member}
+use Rattle.lvm_num.specs.Status.{calls_missing}
+use Rattle.lvm_num.specs.Votes.{votes_in, is_enough_to_write, CanWrite}
+use Rattle.lvm_disk.specs.Device.{Device, image_of}
+use Rattle.lvm_disk.specs.Paths.{DeviceStep, Path}
+use Rattle.lvm_vol.specs.Facts.{Fact}
+use Rattle.lvm_vol.specs.Log.{Log}
+use Rattle.lvm_kept.specs.Moments.{Moment, StaysCalm}
+use Rattle.lvm_kept.specs.Plans.{Plan, ChangesBy}
+use Rattle.lvm_kept.specs.Torn.{RecordWrite}
+use Rattle.lvm_change.specs.Moments.{ImagesKept, Begins, Holds, Keeps}
+use Rattle.lvm_change.specs.Requests.{at}
+use Rattle.lvm_change.proofs.Spans.{keeps_path}
+use Rattle.lvm_stale.specs.Table.{SameMissing}
+use Rattle.lvm_stamps.specs.Behind.{beginning_at}
+use Rattle.lvm_stamps.specs.Laws.{IsOtherOrEarlier}
+use Rattle.lvm_stamps.proofs.Shelves.{earlier_stays_behind}
+use Rattle.lvm_stamps.proofs.Stamps.{session_is_before_later}
+use Rattle.lvm_status.specs.Update.{Stored, members_there}
+use Rattle.lvm_quorum.proofs.Writing.{both_map, changes_more}
+use Rattle.lvm_commit.specs.declared.commit.Settled.{Settled}
+use Rattle.lvm_commit.specs.declared.commit.Settled.TheVariants as settled
+use Rattle.lvm_commit.specs.Committed.{IsAlike}
+use Rattle.lvm_commit.specs.Settling.{HasSameRows, IfDone, IfWentOff, IfBack, OnDark, OnStuck, there, many_there, IsOf, IsCommitted, HasLostQuorum, SpendsNumbers, IsOfSession}
+use Rattle.lvm_commit.proofs.Wanting.{row_stays}
+use Rattle.lvm_core.specs.declared.fault.CommitFault.{CommitFault}
+use Rattle.lvm_core.specs.declared.request.Power.TheVariants as power
+use Rattle.lvm_core.specs.State.{Core, State, state, is_there}
+use Rattle.lvm_core.specs.Dark.{all_dark, dark_log}
+use Rattle.lvm_core.specs.Starting.{IsPlaced, ArePlaced}
+use Rattle.lvm_core.specs.Sound.{is_dark, IsFitting, IsTold, IsSound}
+use Rattle.lvm_core.specs.Settled.{IsSettled}
+use Rattle.lvm_core.specs.Committing.{with_one_out, CommitEnds, moment_of, StaysBehind}
+use Rattle.lvm_core.specs.Steps.{CoreEnds, Settles}
+use Rattle.lvm_core.proofs.Own.{fits_pool, one_out_long, sound_ready, sound_dark, sound_stuck}
+use Rattle.lvm_core.proofs.Spanning.{keeps_dark, calm_dark}
+
+-- the parts fit whether the session is on or off
+fits_power : (core : Core) → IsFitting core → IsFitting (record core { power = power.Off })
+fits_power core fits = record {
+  valid = fits.valid;
+  id = fits.id;
+  rows = fits.rows;
+  group = fits.group;
+  notes = fits.notes;
+  table = fits.table;
+  most = fits.most;
+  queue = fits.queue;
+  a_buffer = fits.a_buffer;
+  buffers = fits.buffers;
+}
+
+-- the members that aren't missing, by a session and by its status
+pub there_is : (d : Descriptor) (u : Stored) → u.group ≡ record d { lvs = [] } → there u ≡ members_there d u.wanted
+there_is d u is = λ t. members_there (is t) u.wanted
+
+-- What is known of the status that was to be committed first: it is of the session, and nothing else is missing by it.
+pub record IsBegun (old : Core) (first : Stored) : Type 0 where
+  pub group : first.group ≡ old.status.group
+  pub stamp : first.stamp ≡ old.status.stamp
+  pub rows : HasSameRows old.status.wanted first.wanted
+  pub missing : SameMissing old.status.wanted first.wanted
+
+module _ (next : Descriptor) (plan : Plan) (first : Stored) (before after : ℕ) (old new : State) (how : Settled) (answer : Result (Unit {0}) CommitFault) (s : Settles next plan first before after old new how answer)
+    (begins : IsBegun old.core first) (settled_is : IsSettled old.core) (sound : IsSound old) (valid : IsValid next) (alike : IsAlike next old.core.descriptor) where
+  group_first : first.group ≡ record old.core.descriptor { lvs = [] }
+  group_first = begins.group ∙ sound.fitting.group
+
+  pub group_is : new.core.status.group ≡ record old.core.descriptor { lvs = [] }
+  group_is = s.loses.group ∙ group_first
+
+  pub there_first : there first ≡ is_there old.core
+  there_first = λ t d. is_member (group_first t) d && not (begins.missing d t)
+
+  -- ---- the session
+
+  abbrev base : Descriptor → Core
+  base d = record old.core { descriptor = d; status = new.core.status; homes = new.core.homes }
+
+  fits : (d : Descriptor) → IsValid d → IsAlike d old.core.descriptor → IsFitting (base d)
+  fits d its same = record {
+    valid = its;
+    id = s.loses.rows.id ∙ begins.rows.id ∙ sound.fitting.id ∙ sym (ap (λ (g : Descriptor). g.id) same);
+    rows = λ disk.
+        row_stays first.wanted new.core.status.wanted s.loses.rows disk ∙ row_stays old.core.status.wanted first.wanted begins.rows disk ∙ sound.fitting.rows disk
+        ∙ ap (λ (g : Descriptor). is_member g disk) (sym same);
+    group = group_is ∙ sym same;
+    notes = λ disk. sound.fitting.notes disk ∙ ap (λ (g : Descriptor). is_member g disk) (sym same);
+    table = sound.fitting.table;
+    most = sound.fitting.most;
+    queue = sound.fitting.queue;
+    a_buffer = sound.fitting.a_buffer;
+    buffers = sound.fitting.buffers;
+  }
+
+  told : (d : Descriptor) → IsTold (base d)
+  told d = record { table = sound.told.table; each = sound.told.each }
+
+  was_there : (d : ℕ) → calls_missing new.core.status.wanted d ≡ false → calls_missing old.core.status.wanted d ≡ false
+  was_there d there = by_test (calls_missing old.core.status.wanted d) refl
+    where
+      by_test : (b : Bool) → calls_missing old.core.status.wanted d ≡ b → b ≡ false
+      by_test true is = absurd (true≢false (sym (s.loses.stays d (begins.missing d ∙ is)) ∙ there))
+      by_test false is = refl
+
+  placed : (d : Descriptor) → IsAlike d old.core.descriptor → ArePlaced new.device.sizes d new.core.status.wanted
+  placed d same row inside there =
+      let its = sound.placed row (subst (λ (rows : List PvRow). Contains rows row) (ap (λ (g : Descriptor). g.pvs) same) inside) (was_there row.disk there) in
+      subst (λ (sizes : List ℕ). IsPlaced sizes d.mib row) (sym s.keeps.sizes) (subst (λ (mib : ℕ). IsPlaced old.device.sizes mib row) (sym (ap (λ (g : Descriptor). g.mib) same)) its)
+
+  lit : is_dark old.core.power ≡ false
+  lit = ap is_dark settled_is.power
+
+  not_off : {X : Type 0} → old.core.power ≡ power.Off → X
+  not_off off = absurd (let e : power.On ≡ power.Off = sym settled_is.power ∙ off in cc)
+
+  few : (have total : ℕ) → HasLostQuorum first new.core.status old.device new.device have total → IsFalse (is_enough_to_write old.core.descriptor (votes_in old.core.descriptor (members_there old.core.descriptor new.core.status.wanted)))
+  few have total lost = subst (λ (g : Descriptor). IsFalse (is_enough_to_write g (votes_in g (members_there g new.core.status.wanted)))) group_is (subst (λ (n : ℕ). IsFalse (is_enough_to_write new.core.status.group n)) lost.have_is lost.few)
+
+  as_core : (core : Core) → new.core ≡ core → IsSound (state new.device core) → IsSound new
+  as_core core is it = subst (λ (c : Core). IsSound (state new.device c)) (sym is) it
+
+  pub settles_sound : IsSound new
+  settles_sound = by_how how refl s.goes
+    where
+      own : IsAlike old.core.descriptor old.core.descriptor
+      own = refl
+
+      here : Core
+      here = base old.core.descriptor
+
+      out : Core
+      out = record here { pool = with_one_out old.core.pool }
+
+      fits_here : IsFitting here
+      fits_here = fits old.core.descriptor sound.fitting.valid own
+
+      fits_out : IsFitting out
+      fits_out = fits_pool here (with_one_out old.core.pool) (one_out_long old.core.pool) fits_here
+
+      by_how : (h : Settled) → how ≡ h → CoreEnds next old.core new.core h answer → IsSound new
+      by_how (settled.Done back) is goes = as_core (base next) goes.1
+          (sound_ready new.device (base next) (fits next valid alike) (told next) (placed next alike) settled_is.quiet.buffers lit not_off (subst (λ (h : Settled). IfBack h (λ b. Rattle.lvm_disk.specs.Device.IsReady new.device × (new.device.counts.cuts ≡ old.device.counts.cuts))) is s.ready).0)
+      by_how (settled.WentOff have total back) is goes = as_core (record here { power = power.Off }) goes.1
+          (sound_ready new.device (record here { power = power.Off }) (fits_power here fits_here) (record { table = sound.told.table; each = sound.told.each }) (placed old.core.descriptor own) settled_is.quiet.buffers refl
+          (λ off. few have total (subst (λ (h : Settled). IfWentOff h (λ n m b. HasLostQuorum first new.core.status old.device new.device n m)) is s.off))
+          (subst (λ (h : Settled). IfBack h (λ b. Rattle.lvm_disk.specs.Device.IsReady new.device × (new.device.counts.cuts ≡ old.device.counts.cuts))) is s.ready).0)
+      by_how settled.Dark is goes = as_core (all_dark out) goes.1
+          (sound_dark old.device new.device out old.core.pool fits_out (record { table = sound.told.table; each = sound.told.each }) (placed old.core.descriptor own) refl settled_is.quiet.buffers sound.fitting.a_buffer
+          (subst (λ (h : Settled). OnDark h (Rattle.lvm_quorum.specs.Written.IsDarkened 0 old.device new.device)) is s.dark))
+      by_how settled.Stuck is goes = as_core out goes.1
+          (sound_stuck before old.device new.device out old.core.pool fits_out (record { table = sound.told.table; each = sound.told.each }) (placed old.core.descriptor own) refl settled_is.quiet.buffers sound.fitting.a_buffer lit not_off
+          (subst (λ (h : Settled). OnStuck h (Rattle.lvm_quorum.specs.Written.IsGivenUp 0 before old.device new.device)) is s.stuck))
+
+  -- ---- how it ends
+
+  settled_next : IsCommitted new.core.status → IsSettled (base next)
+  settled_next done = record {
+    power = settled_is.power;
+    quiet = record { requests = settled_is.quiet.requests; copy = settled_is.quiet.copy; status = done.idle; notes = settled_is.quiet.notes; buffers = settled_is.quiet.buffers };
+    committed = done.same;
+    epoch = λ none. settled_is.epoch (sym (s.numbers.epoch ∙ ap (λ (t : Stamp). t.epoch) begins.stamp) ∙ none);
+    votes = subst (λ (g : Descriptor). CanWrite g (members_there g new.core.status.wanted)) (group_is ∙ sym alike) done.votes;
+  }
+
+  lost_from : (have total : ℕ) → HasLostQuorum first new.core.status old.device new.device have total → HasLostQuorum old.core.status new.core.status old.device new.device have total
+  lost_from have total lost = record {
+    have_is = lost.have_is;
+    total_is = lost.total_is;
+    few = lost.few;
+    disk = lost.disk;
+    was = subst (λ (set : Disks). IsTrue (set lost.disk)) (there_first ∙ sym (there_is old.core.descriptor old.core.status sound.fitting.group)) lost.was;
+    failed = lost.failed;
+  }
+
+  -- as many numbers are left after the marks as before
+  many_first : many_there first ≡ many_there old.core.status
+  many_first = ap (λ (g : Descriptor). count_by (λ (row : PvRow). not (calls_missing first.wanted row.disk)) g.pvs) begins.group
+      ∙ ap (λ (set : ℕ → Bool). count_by (λ (row : PvRow). not (set row.disk)) old.core.status.group.pvs) (λ t d. begins.missing d t)
+
+  pub settles_numbers : (more : ℕ) → SpendsNumbers more first new.core.status → SpendsNumbers more old.core.status new.core.status
+  settles_numbers more spends = record {
+    epoch = spends.epoch ∙ ap (λ (t : Stamp). t.epoch) begins.stamp;
+    rises = subst (λ (t : Stamp). t.seq ≤ new.core.status.stamp.seq) begins.stamp spends.rises;
+    most = subst (λ n. new.core.status.stamp.seq + many_there new.core.status ≤ old.core.status.stamp.seq + more + n) many_first
+        (subst (λ (t : Stamp). new.core.status.stamp.seq + many_there new.core.status ≤ t.seq + more + many_there first) begins.stamp spends.most);
+  }
+
+  pub commit_ends : CommitEnds next before old new answer
+  commit_ends = by_how how s.done s.off s.spent s.ready s.well s.dark s.stuck s.goes
+    where
+      by_how : (h : Settled) → IfDone h (λ back. IsCommitted new.core.status) → IfWentOff h (λ have total back. HasLostQuorum first new.core.status old.device new.device have total)
+          → IfWentOff h (λ have total back. SpendsNumbers 0 first new.core.status)
+          → IfBack h (λ back. Rattle.lvm_disk.specs.Device.IsReady new.device × (new.device.counts.cuts ≡ old.device.counts.cuts)) → IfBack h (λ back. Rattle.lvm_commit.specs.Settling.AreWell new.core.status old.device new.device)
+          → OnDark h (Rattle.lvm_quorum.specs.Written.IsDarkened 0 old.device new.device) → OnStuck h (Rattle.lvm_quorum.specs.Written.IsGivenUp 0 before old.device new.device)
+          → CoreEnds next old.core new.core h answer → CommitEnds next before old new answer
+      by_how (settled.Done back) done off spent ready well dark stuck goes = subst (λ (a : Result (Unit {0}) CommitFault). CommitEnds next before old new a) (sym goes.0)
+          (record { settled = subst IsSettled (sym goes.1) (settled_next done); is = goes.1; well = well; ready = ready.0; cuts = ready.1 })
+      by_how (settled.WentOff have total back) done off spent ready well dark stuck goes = subst (λ (a : Result (Unit {0}) CommitFault). CommitEnds next before old new a) (sym goes.0)
+          (record { lost = lost_from have total off; spent = settles_numbers 0 spent; is = goes.1; well = well; ready = ready.0; cuts = ready.1 })
+      by_how settled.Dark done off spent ready well dark stuck goes = subst (λ (a : Result (Unit {0}) CommitFault). CommitEnds next before old new a) (sym goes.0) (record { cut = dark; is = goes.1 })
+      by_how settled.Stuck done off spent ready well dark stuck goes = subst (λ (a : Result (Unit {0}) CommitFault). CommitEnds next before old new a) (sym goes.0) (record { out = stuck; is = goes.1 })
+
+  -- ---- the history
+
+  by_history : (P : Log → Type 0) → P old.core.history → P (dark_log old.core.history old.core.requests) → P new.core.history
+  by_history P same dark = by_how how s.goes
+    where
+      by_how : (h : Settled) → CoreEnds next old.core new.core h answer → P new.core.history
+      by_how (settled.Done back) goes = subst (λ (c : Core). P c.history) (sym goes.1) same
+      by_how (settled.WentOff have total back) goes = subst (λ (c : Core). P c.history) (sym goes.1) same
+      by_how settled.Dark goes = subst (λ (c : Core). P c.history) (sym goes.1) dark
+      by_how settled.Stuck goes = subst (λ (c : Core). P c.history) (sym goes.1) same
+
+  pub most_stays : new.core.most ≡ old.core.most
+  most_stays = by_how how s.goes
+    where
+      by_how : (h : Settled) → CoreEnds next old.core new.core h answer → new.core.most ≡ old.core.most
+      by_how (settled.Done back) goes = ap (λ (c : Core). c.most) goes.1
+      by_how (settled.WentOff have total back) goes = ap (λ (c : Core). c.most) goes.1
+      by_how settled.Dark goes = ap (λ (c : Core). c.most) goes.1
+      by_how settled.Stuck goes = ap (λ (c : Core). c.most) goes.1
+
+  pub settles_keep : (P : Device → Type 0) → Path DeviceStep P old.device new.device → (run : ℕ) (at_first : Moment) → Keeps run at_first (moment_of old)
+      → ((past : List Fact) → Begins run past at_first → Holds past (moment_of old) → (d : Device) → P d → ImagesKept d (past ++ old.core.history.facts)) → Keeps run at_first (moment_of new)
+  settles_keep P path run at_first span kept =
+      let goes = keeps_path P run at_first old.device new.device old.core.history.facts span kept path in
+      by_history (λ (log : Log). Keeps run at_first (at new.device log.facts)) goes (keeps_dark new.device old.core.history old.core.requests settled_is.quiet.requests run at_first goes)
+
+  pub settles_calm : StaysCalm (moment_of old) (moment_of new)
+  settles_calm =
+      let same : StaysCalm (moment_of old) (at new.device old.core.history.facts) = λ past calm. calm in
+      by_history (λ (log : Log). StaysCalm (moment_of old) (at new.device log.facts)) same (calm_dark new.device old.core.history old.core.requests settled_is.quiet.requests (moment_of old) same)
+
+  -- ---- the stamps
+
+  pub settles_behind : ((d n : ℕ) (value : Sector) → plan d n value → (write : RecordWrite) × IsOfSession first new.core.status write d n value) → StaysBehind old new
+  settles_behind own moment later behind = earlier_stays_behind moment old.device new.device
+      (both_map old.device.media new.device.media (λ was is. ChangesBy plan (image_of old.device.sizes was) (image_of new.device.sizes is)) (λ was is. ChangesBy (IsOtherOrEarlier (beginning_at moment)) (image_of old.device.sizes was) (image_of new.device.sizes is)) s.keeps.media
+      (λ m n was is by. changes_more plan (IsOtherOrEarlier (beginning_at moment)) (image_of old.device.sizes m) (image_of new.device.sizes n) (λ d k value it.
+      let its = own d k value it in
+      inr (record {
+        write = its.0;
+        frames = its.1.frames;
+        earlier = session_is_before_later moment its.0.framed.stamp (subst (λ (e : ℕ). e < moment) (sym (its.1.epoch ∙ ap (λ (t : Stamp). t.epoch) begins.stamp)) later);
+        its = its.1.its;
+      })) by)) behind

@@ -1,0 +1,135 @@
+-- What a session and its shelf are after a status with marks was committed.
+use Rattle.std.proofs.Common.{◌≡◌, ℕ, ◌<◌, ◌++◌, List, refl, sym, ◌∙◌, ap, subst}
+use Rattle.std.specs.Prelude.{IsTrue, Result, IfOk, IsOk}
+use Rattle.lvm_num.specs.declared.place.Pp.{Pp}
+use Rattle.lvm_num.specs.declared.record.Stamp.{Stamp}
+use Rattle.lvm_num.specs.declared.descriptor.Descriptor.{Descriptor}
+use Rattle.lvm_num.specs.Disks.{Disks}
+use Rattle.lvm_disk.specs.Counts.{NoneFalls}
+use Rattle.lvm_kept.specs.Moments.{Moment, StaysCalm}
+use Rattle.lvm_kept.specs.Plans.{Plan}
+use Rattle.lvm_change.specs.Moments.{StaysKept}
+use Rattle.lvm_status.specs.Update.{Stored}
+use Rattle.lvm_quorum.specs.Written.{KeepsShelf}
+use Rattle.lvm_commit.specs.declared.commit.Settled.{Settled}
+use Rattle.lvm_commit.specs.declared.commit.Settled.TheVariants as settled
+use Rattle.lvm_commit.specs.Committed.{IsAlike}
+use Rattle.lvm_commit.specs.LawsOfFinding.{FindsNothingNewOn}
+use Rattle.lvm_commit.specs.Settling.{IfDone, there, IsOf, IsOfStatus, SessionIsHeld, SpendsNumbers, StaysHeld, WantsSameMarks}
+use Rattle.lvm_commit.proofs.Chaining.{keeps_wider}
+use Rattle.lvm_core.specs.declared.fault.CommitFault.{CommitFault}
+use Rattle.lvm_core.specs.State.{State, is_there}
+use Rattle.lvm_core.specs.Sound.{IsSound}
+use Rattle.lvm_core.specs.Held.{IsHeld}
+use Rattle.lvm_core.specs.Settled.{IsSettled}
+use Rattle.lvm_core.specs.Committing.{CommitEnds, AreUnused, AreMarked, Restates, moment_of, SpanGoesOn, StaysBehind}
+use Rattle.lvm_core.specs.Steps.{CoreEnds, CommitsMarks}
+use Rattle.lvm_core.proofs.Spanning.{path_falls}
+use Rattle.lvm_core.proofs.Settled.{IsBegun, there_is, there_first, group_is, settles_sound, settles_numbers, commit_ends, most_stays, settles_keep, settles_calm, settles_behind}
+use Rattle.lvm_core.proofs.Commits.{holds_session, first_is_of, begun, first_held, wants_same, none_first}
+
+module _ (stale fresh : List Pp) (before after : ℕ) (old new : State) (answer : Result (Unit {0}) CommitFault) (w : CommitsMarks stale fresh before after old new answer) (settled_is : IsSettled old.core) (sound : IsSound old) where
+  abbrev plan : Plan
+  plan = IsOfStatus w.first new.core.status
+
+  own : IsOf old.core.descriptor w.first
+  own = first_is_of old.core stale fresh w.first w.marked settled_is sound.fitting.group
+
+  begins : IsBegun old.core w.first
+  begins = begun old.core stale fresh w.first w.marked settled_is sound.fitting.group
+
+  same : IsAlike old.core.descriptor old.core.descriptor
+  same = refl
+
+  held_first : IsHeld old.device old.core → SessionIsHeld old.device old.core.descriptor w.first old.core.homes
+  held_first = first_held old.core stale fresh w.first w.marked settled_is sound.fitting.group old.device
+
+  wants : AreUnused old.core.descriptor (stale ++ fresh) → WantsSameMarks old.core.descriptor w.first
+  wants = wants_same old.core stale fresh w.first w.marked settled_is sound.fitting.group sound.fitting.valid
+
+  pub status_sound : IsSound new
+  status_sound = settles_sound old.core.descriptor plan w.first before after old new w.how answer w.settles begins settled_is sound sound.fitting.valid same
+
+  pub status_most : new.core.most ≡ old.core.most
+  status_most = most_stays old.core.descriptor plan w.first before after old new w.how answer w.settles begins settled_is sound sound.fitting.valid same
+
+  pub status_ends_so : CommitEnds old.core.descriptor before old new answer
+  status_ends_so = commit_ends old.core.descriptor plan w.first before after old new w.how answer w.settles begins settled_is sound sound.fitting.valid same
+
+  pub status_held : AreUnused old.core.descriptor (stale ++ fresh) → IsHeld old.device old.core → IfOk answer (λ done. IsHeld new.device new.core)
+  status_held unused held = by_how w.how w.held w.settles.goes
+    where
+      by_how : (h : Settled) → IfDone h (λ back. StaysHeld w.first new.core.status old.core.homes new.core.homes old.device new.device) → CoreEnds old.core.descriptor old.core new.core h answer → IfOk answer (λ done. IsHeld new.device new.core)
+      by_how (settled.Done back) stays goes =
+          let its = stays old.core.descriptor own (wants unused) (held_first held) in
+          let group = group_is old.core.descriptor plan w.first before after old new w.how answer w.settles begins settled_is sound sound.fitting.valid same in
+          subst (λ (a : Result (Unit {0}) CommitFault). IfOk a (λ done. IsHeld new.device new.core)) (sym goes.0)
+          (subst (IsHeld new.device) (sym goes.1) (holds_session new.device old.core old.core.descriptor new.core.status new.core.homes group its.0))
+      by_how (settled.WentOff have total back) stays goes = subst (λ (a : Result (Unit {0}) CommitFault). IfOk a (λ done. IsHeld new.device new.core)) (sym goes.0) tt
+      by_how settled.Dark stays goes = subst (λ (a : Result (Unit {0}) CommitFault). IfOk a (λ done. IsHeld new.device new.core)) (sym goes.0) tt
+      by_how settled.Stuck stays goes = subst (λ (a : Result (Unit {0}) CommitFault). IfOk a (λ done. IsHeld new.device new.core)) (sym goes.0) tt
+
+  -- where all marks are as they are to be
+  pub nothing_done : AreMarked stale fresh old.core.status.committed → IsOk answer × (new.device ≡ old.device) × (new.core ≡ old.core)
+  nothing_done marks =
+      let none : w.first ≡ old.core.status = none_first old.core stale fresh w.first w.marked settled_is sound.fitting.group marks in
+      let unwritten = w.same (ap (λ (u : Stored). u.wanted) none ∙ sym settled_is.committed ∙ sym (ap (λ (u : Stored). u.committed) none)) in
+      (subst (λ (a : Result (Unit {0}) CommitFault). IsOk a) (sym unwritten.0) refl, unwritten.1, unwritten.2 ∙ ap (λ (u : Stored). record old.core { status = u }) none)
+
+  pub status_finds : IsHeld old.device old.core → FindsNothingNewOn old.device new.device
+  status_finds held = w.finds old.core.descriptor own (held_first held)
+
+  pub status_falls : NoneFalls old.device.counts new.device.counts
+  status_falls = path_falls old.device new.device w.kept
+
+  there_is_so : there w.first ≡ is_there old.core
+  there_is_so = there_first old.core.descriptor plan w.first before after old new w.how answer w.settles begins settled_is sound sound.fitting.valid same
+
+  pub restates : Restates stale fresh old new
+  restates =
+      let loses = w.settles.loses in
+      let marked = w.marked in
+      record {
+        group = loses.group ∙ marked.group;
+        rows = record { id = loses.rows.id ∙ marked.rows.id; big = loses.rows.big ∙ marked.rows.big; disks = loses.rows.disks ∙ marked.rows.disks };
+        marks = λ p. loses.stale p ∙ marked.marks p;
+        dirty = loses.dirty ∙ marked.dirty;
+        stays = λ d is. loses.stays d (marked.missing d ∙ is);
+        lost = λ d is isnt.
+            let its = loses.lost d is (marked.missing d ∙ isnt) in
+            (subst (λ (set : Disks). IsTrue (set d)) there_is_so its.0, its.1);
+      }
+
+  pub status_numbers : SpendsNumbers 1 old.core.status new.core.status
+  status_numbers = settles_numbers old.core.descriptor plan w.first before after old new w.how answer w.settles begins settled_is sound sound.fitting.valid same 1 w.settles.numbers
+
+  pub status_writes : KeepsShelf (is_there old.core) (IsOfStatus old.core.status new.core.status) old.device new.device
+  status_writes = keeps_wider (there w.first) (is_there old.core) plan (IsOfStatus old.core.status new.core.status) old.device new.device
+      (λ d off. ap (λ (set : Disks). set d) there_is_so ∙ off)
+      (λ d s value it. (
+        it.0,
+        record { kind = it.1.kind; status = it.1.status; own = it.1.own ∙ ap (λ (g : Descriptor). g.id) w.marked.group; content = it.1.content },
+        record {
+          frames = it.2.frames;
+          slots = it.2.slots;
+          targets = λ disk is. subst (λ (set : Disks). IsTrue (set disk)) (there_is_so ∙ sym (there_is old.core.descriptor old.core.status sound.fitting.group)) (it.2.targets disk is);
+          epoch = it.2.epoch ∙ ap (λ (t : Stamp). t.epoch) w.marked.stamp;
+          later = subst (λ (t : Stamp). t.seq < it.0.framed.stamp.seq) w.marked.stamp it.2.later;
+          latest = it.2.latest;
+          its = it.2.its;
+        },
+      ))
+      w.settles.keeps
+
+  pub status_keeps : AreUnused old.core.descriptor (stale ++ fresh) → IsHeld old.device old.core → (run : ℕ) (first : Moment) → SpanGoesOn run first old new
+  status_keeps unused held run first span =
+      settles_keep old.core.descriptor plan w.first before after old new w.how answer w.settles begins settled_is sound sound.fitting.valid same
+      (λ d. (group : Descriptor) → IsOf group w.first → WantsSameMarks group w.first → SessionIsHeld old.device group w.first old.core.homes → StaysKept old.device d)
+      w.kept run first span
+      (λ past begins holds d its. its old.core.descriptor own (wants unused) (held_first held) (past ++ old.core.history.facts) holds.kept)
+
+  pub status_calm : StaysCalm (moment_of old) (moment_of new)
+  status_calm = settles_calm old.core.descriptor plan w.first before after old new w.how answer w.settles begins settled_is sound sound.fitting.valid same
+
+  pub status_behind : StaysBehind old new
+  status_behind = settles_behind old.core.descriptor plan w.first before after old new w.how answer w.settles begins settled_is sound sound.fitting.valid same (λ d n value it. (it.0, it.2))

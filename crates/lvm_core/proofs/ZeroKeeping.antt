@@ -1,0 +1,134 @@
+-- Zeros in a partition that no volume has: where they go, and what they keep.
+use Rattle.std.proofs.Common.{◌≡◌, inl, inr, ⊎_elim, ℕ, suc, ◌<◌, ◌≤◌, ◌*◌, ◌++◌, Bool, true, false, ◌&&◌, not, List, [], Some, length, refl, sym, ◌∙◌, ap, subst, arith}
+use Rattle.std.specs.Prelude.{◌==◌, IsTrue, Result, nat_lt, slice_get, if◌then◌else◌}
+use Rattle.std.proofs.lemmas.Bool.{eqb-true}
+use Rattle.std.proofs.Math.Nat.{mul-le-mul_left}
+use Rattle.lvm_num.specs.declared.place.Pp.{Pp}
+use Rattle.lvm_num.specs.declared.descriptor.PvRow.{PvRow}
+use Rattle.lvm_num.specs.declared.descriptor.Descriptor.{Descriptor}
+use Rattle.lvm_num.specs.declared.status.Status.{Status}
+use Rattle.lvm_num.specs.Buffer.{Sector}
+use Rattle.lvm_num.specs.Descriptor.{IsPartitionOf, IsMember, IsValid, is_member}
+use Rattle.lvm_num.specs.Geometry.{data_start, partition_blocks}
+use Rattle.lvm_num.specs.Status.{calls_missing}
+use Rattle.lvm_num.proofs.MapsLemmas.{find-Some}
+use Rattle.lvm_disk.specs.Device.{Media, Image, Device, image_of, MayLeave}
+use Rattle.lvm_vol.specs.Facts.{Fact}
+use Rattle.lvm_kept.specs.Contents.{contents_of}
+use Rattle.lvm_kept.specs.Moments.{Moment, StaysCalm}
+use Rattle.lvm_kept.specs.Plans.{ChangesBy}
+use Rattle.lvm_kept.proofs.Contained.{data_writes}
+use Rattle.lvm_kept.proofs.Finding.{images_within}
+use Rattle.lvm_change.specs.Moments.{ImagesKept, Keeps}
+use Rattle.lvm_change.specs.Requests.{at}
+use Rattle.lvm_change.proofs.Making.{media_may}
+use Rattle.lvm_change.proofs.Spans.{keeps_path}
+use Rattle.lvm_move.specs.declared.moves.Moved.{Moved}
+use Rattle.lvm_move.specs.declared.moves.Moved.TheVariants as moved
+use Rattle.lvm_quorum.specs.Parts.{DoesPart}
+use Rattle.lvm_quorum.specs.Written.{IsWriting}
+use Rattle.lvm_quorum.proofs.Writing.{told_at}
+use Rattle.lvm_commit.specs.Committed.{HoldsCommitted}
+use Rattle.lvm_commit.specs.LawsOfData.{IsFree, PartitionChange}
+use Rattle.lvm_commit.proofs.Data.{free_data_keeps}
+use Rattle.lvm_core.specs.declared.fault.CommitFault.{CommitFault}
+use Rattle.lvm_core.specs.State.{Core, State, state, is_there}
+use Rattle.lvm_core.specs.Dark.{all_dark}
+use Rattle.lvm_core.specs.Starting.{ArePlaced}
+use Rattle.lvm_core.specs.Sound.{IsQuiet, IsSound}
+use Rattle.lvm_core.specs.Held.{IsHeld}
+use Rattle.lvm_core.specs.Settled.{IsSettled}
+use Rattle.lvm_core.specs.Committing.{with_one_out, moment_of, SpanGoesOn}
+use Rattle.lvm_core.specs.Zeros.{IsZeroOf, HasSectorsOf, GoesOnAfter, WritesZeros}
+use Rattle.lvm_core.proofs.Own.{fits_pool, one_out_long, sound_ready, sound_dark, sound_stuck}
+use Rattle.lvm_core.proofs.Spanning.{told_media, keeps_dark, calm_dark}
+use Rattle.lvm_core.proofs.ZeroEnding.{zeros_below, zero_core}
+
+-- ---- where they go
+
+-- the partition of a member that isn't missing is on the shelf
+pub has_sectors : (sizes : List ℕ) (d : Descriptor) (s : Status) (pp : Pp) → ArePlaced sizes d s → calls_missing s pp.disk ≡ false → IsPartitionOf d pp → HasSectorsOf sizes d.mib pp
+has_sectors sizes d s pp placed there (row, member, below) =
+    let found = find-Some (λ (r : PvRow). r.disk == pp.disk) d.pvs row member in
+    let disk : row.disk ≡ pp.disk = eqb-true row.disk pp.disk found.0 in
+    let its = placed row (found.1.0, found.1.1, found.1.2 row) (ap (calls_missing s) disk ∙ there) in
+    record {
+      there = subst (λ n. n < length sizes) disk its.there;
+      within = λ size is.
+          let fits = its.within size (ap (slice_get sizes) disk ∙ is) in
+          let more : partition_blocks d.mib * suc pp.pp ≤ partition_blocks d.mib * row.pps = mul-le-mul_left (partition_blocks d.mib) below in
+          omega (arith, fits, more);
+    }
+
+-- a disk that is there isn't missing
+pub is_not_missing : (core : Core) (disk : ℕ) → IsTrue (is_there core disk) → calls_missing core.status.wanted disk ≡ false
+is_not_missing core disk there = by_tests (is_member core.descriptor disk) (calls_missing core.status.wanted disk) there
+  where
+    by_tests : (a b : Bool) → IsTrue (a && not b) → b ≡ false
+    by_tests true true is = absurd (let e : ◌≡◌ {A = Bool} false true = is in cc)
+    by_tests true false is = refl
+    by_tests false b is = absurd (let e : ◌≡◌ {A = Bool} false true = is in cc)
+
+-- a member has at most so many partitions
+pub is_low : (d : Descriptor) (pp : Pp) → IsValid d → IsPartitionOf d pp → pp.pp < 1016
+is_low d pp valid (row, member, below) =
+    let found = find-Some (λ (r : PvRow). r.disk == pp.disk) d.pvs row member in
+    let its : IsMember row = subst IsMember (found.1.2 row) (valid.members.each found.1.0 row found.1.1) in
+    let most = its.partitions in
+    omega (arith, below, most)
+
+-- ---- the moments
+
+zeros_change : (mib : ℕ) (pp : Pp) (a b : Image) → ChangesBy (IsZeroOf mib pp) a b → PartitionChange mib pp (contents_of a) (contents_of b)
+zeros_change mib pp a b by = record {
+  each = λ d s. ⊎_elim
+      (λ (same : b.sector d s ≡ a.sector d s). inl (ap (λ (x : Sector). if nat_lt s data_start then [] else x) same))
+      (λ (zero : IsZeroOf mib pp d s (b.sector d s)). inr zero.0)
+      (by.each d s);
+  rest = data_writes a b (zeros_below mib pp a b by);
+}
+
+module _ (pp : Pp) (before after : ℕ) (old new : State) (answer : Result (Unit {0}) CommitFault) (w : WritesZeros pp before after old new answer) (settled : IsSettled old.core) where
+  still_kept : IsTrue (is_there old.core pp.disk) → IsFree old.core.descriptor pp → IsHeld old.device old.core → (m : Media) → old.device.media ≡ Some m → (facts : List Fact) → ImagesKept old.device facts
+      → (d : Device) → IsWriting (IsZeroOf old.core.descriptor.mib pp) old.device d → ImagesKept d facts
+  still_kept there free held m is facts kept d writing image may =
+      let start = image_of old.device.sizes m in
+      let holds = told_at old.device.media (λ media. HoldsCommitted (image_of old.device.sizes media) old.core.descriptor old.core.status.committed (is_there old.core) old.core.status.stamp old.core.homes) m is held in
+      let by = told_at old.device.media (λ media. (i : Image) → MayLeave d i → ChangesBy (IsZeroOf old.core.descriptor.mib pp) (image_of old.device.sizes media) i) m is writing image may in
+      free_data_keeps old.core.descriptor old.core.status.committed (is_there old.core) pp (contents_of start) (contents_of image) facts (images_within start) settled.votes holds.shows there free
+      (zeros_change old.core.descriptor.mib pp start image by) (kept start (media_may old.device m is))
+
+  pub zero_keeps : IsTrue (is_there old.core pp.disk) → IsFree old.core.descriptor pp → IsHeld old.device old.core → (run : ℕ) (first : Moment) → SpanGoesOn run first old new
+  zero_keeps there free held run first span =
+      let facts = old.core.history.facts in
+      let goes = keeps_path (IsWriting (IsZeroOf old.core.descriptor.mib pp) old.device) run first old.device new.device facts span
+      (λ past begins holds d writing.
+      let told = told_media run past first old.device facts span begins in
+      still_kept there free held told.0 told.1 (past ++ facts) holds.kept d writing) w.part.moments in
+      zero_core pp before after old new (λ (c : Core). Keeps run first (at new.device c.history.facts)) (λ is. is) (λ is. keeps_dark new.device old.core.history old.core.requests settled.quiet.requests run first is) answer w goes
+
+  pub zero_calm : StaysCalm (moment_of old) (moment_of new)
+  zero_calm = zero_core pp before after old new (λ (c : Core). StaysCalm (moment_of old) (at new.device c.history.facts)) (λ is. is) (λ is. calm_dark new.device old.core.history old.core.requests settled.quiet.requests (moment_of old) is) answer w
+      (λ past calm. calm)
+
+  -- ---- afterwards
+
+  pub zero_sound : IsSound old → IsSound new
+  zero_sound sound = by_how w.how w.part w.goes
+    where
+      placed : ArePlaced new.device.sizes old.core.descriptor old.core.status.wanted
+      placed = subst (λ (sizes : List ℕ). ArePlaced sizes old.core.descriptor old.core.status.wanted) (sym w.part.keeps.sizes) sound.placed
+
+      out : Core
+      out = record old.core { pool = with_one_out old.core.pool }
+
+      as_core : (core : Core) → new.core ≡ core → IsSound (state new.device core) → IsSound new
+      as_core core is it = subst (λ (c : Core). IsSound (state new.device c)) (sym is) it
+
+      by_how : (how : Moved) → DoesPart (λ d. d == pp.disk) (IsZeroOf old.core.descriptor.mib pp) pp.disk 0 before after old.device new.device how → GoesOnAfter pp.disk old.core new.core how answer → IsSound new
+      by_how (moved.Done back) part goes = as_core old.core goes.1 (sound_ready new.device old.core sound.fitting sound.told placed settled.quiet.buffers (ap Rattle.lvm_core.specs.Sound.is_dark settled.power) sound.off part.rests)
+      by_how (moved.Failed back) part goes = as_core old.core goes.1 (sound_ready new.device old.core sound.fitting sound.told placed settled.quiet.buffers (ap Rattle.lvm_core.specs.Sound.is_dark settled.power) sound.off part.rests)
+      by_how (moved.Dark started) part goes = as_core (all_dark out) goes.1
+          (sound_dark old.device new.device out old.core.pool (fits_pool old.core (with_one_out old.core.pool) (one_out_long old.core.pool) sound.fitting) (record { table = sound.told.table; each = sound.told.each }) placed refl settled.quiet.buffers sound.fitting.a_buffer part.leaves)
+      by_how moved.Stuck part goes = as_core out goes.1
+          (sound_stuck before old.device new.device out old.core.pool (fits_pool old.core (with_one_out old.core.pool) (one_out_long old.core.pool) sound.fitting) (record { table = sound.told.table; each = sound.told.each }) placed refl settled.quiet.buffers sound.fitting.a_buffer (ap Rattle.lvm_core.specs.Sound.is_dark settled.power) sound.off part.leaves)

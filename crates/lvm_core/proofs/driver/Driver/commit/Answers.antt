@@ -1,0 +1,95 @@
+use Rattle.std.proofs.Common.{sym, ◌∙◌, subst}
+use Rattle.lvm_commit.specs.Committed.{IsAlike}
+use Rattle.lvm_core.specs.State.{Core, state}
+use Rattle.lvm_core.specs.Fields.{core_of}
+use Rattle.lvm_core.specs.Settled.{IsSettled}
+use Rattle.lvm_core.proofs.Commits.{may_settle_now}
+use Rattle.lvm_core.proofs.Committing.{descriptor_sound, descriptor_most, descriptor_ends, descriptor_held, descriptor_plain, descriptor_finds, descriptor_falls, descriptor_writes, descriptor_keeps, descriptor_calm, descriptor_behind}
+use Rattle.lvm_core.proofs.driver.Driver.commit.Goals as goal
+
+pub commit-requires-clause-may : goal.commit-requires-clause-may
+commit-requires-clause-may g c = may_settle_now (state (g.S.Shelf.device c.self.inside.shelf) (core_of c.self.inside.session)) c.self.invariant.2 (subst (λ (v : g.row.S.Denot × Core). IsSettled v.1) (sym c.self.view_is) c.requires.settled)
+
+pub invariant_of-self : goal.invariant_of-self
+invariant_of-self g c = (
+  rw (
+    descriptor_most c.args.next c.args.patience.now.left c.commit.new.patience.left
+        (state (g.S.Shelf.device c.self.inside.shelf) (core_of c.self.inside.session))
+        (state (g.S.Shelf.device c.commit.new.shelf) (core_of c.commit.new.self))
+        c.commit.result c.commit.ensures.does (subst (λ (v : g.row.S.Denot × Core). IsSettled v.1) (sym c.self.view_is) c.requires.settled) c.self.invariant.2
+        (subst (λ (v : g.row.S.Denot × Core). IsAlike c.args.next v.1.descriptor) (sym c.self.view_is) c.requires.alike),
+    c.commit.ensures.capacity,
+  ) c.self.invariant.0,
+  c.commit.ensures.bytes ∙ c.self.invariant.1,
+  descriptor_sound c.args.next c.args.patience.now.left c.commit.new.patience.left
+      (state (g.S.Shelf.device c.self.inside.shelf) (core_of c.self.inside.session))
+      (state (g.S.Shelf.device c.commit.new.shelf) (core_of c.commit.new.self))
+      c.commit.result c.commit.ensures.does (subst (λ (v : g.row.S.Denot × Core). IsSettled v.1) (sym c.self.view_is) c.requires.settled) c.self.invariant.2
+      (subst (λ (v : g.row.S.Denot × Core). IsAlike c.args.next v.1.descriptor) (sym c.self.view_is) c.requires.alike),
+)
+
+pub returns-clause-ends : goal.returns-clause-ends
+returns-clause-ends g c = rw (← c.self.view_is) (descriptor_ends c.args.next c.args.patience.now.left c.commit.new.patience.left
+    (state (g.S.Shelf.device c.self.inside.shelf) (core_of c.self.inside.session))
+    (state (g.S.Shelf.device c.commit.new.shelf) (core_of c.commit.new.self))
+    c.commit.result c.commit.ensures.does (subst (λ (v : g.row.S.Denot × Core). IsSettled v.1) (sym c.self.view_is) c.requires.settled) c.self.invariant.2
+    (subst (λ (v : g.row.S.Denot × Core). IsAlike c.args.next v.1.descriptor) (sym c.self.view_is) c.requires.alike))
+
+pub returns-clause-held : goal.returns-clause-held
+returns-clause-held g c = rw (← c.self.view_is) (descriptor_held c.args.next c.args.patience.now.left c.commit.new.patience.left
+    (state (g.S.Shelf.device c.self.inside.shelf) (core_of c.self.inside.session))
+    (state (g.S.Shelf.device c.commit.new.shelf) (core_of c.commit.new.self))
+    c.commit.result c.commit.ensures.does (subst (λ (v : g.row.S.Denot × Core). IsSettled v.1) (sym c.self.view_is) c.requires.settled) c.self.invariant.2
+    (subst (λ (v : g.row.S.Denot × Core). IsAlike c.args.next v.1.descriptor) (sym c.self.view_is) c.requires.alike))
+
+pub returns-clause-plain : goal.returns-clause-plain
+returns-clause-plain g c = rw (← c.self.view_is) (descriptor_plain c.args.next c.args.patience.now.left c.commit.new.patience.left
+    (state (g.S.Shelf.device c.self.inside.shelf) (core_of c.self.inside.session))
+    (state (g.S.Shelf.device c.commit.new.shelf) (core_of c.commit.new.self))
+    c.commit.result c.commit.ensures.does (subst (λ (v : g.row.S.Denot × Core). IsSettled v.1) (sym c.self.view_is) c.requires.settled) c.self.invariant.2
+    (subst (λ (v : g.row.S.Denot × Core). IsAlike c.args.next v.1.descriptor) (sym c.self.view_is) c.requires.alike))
+
+pub returns-clause-finds : goal.returns-clause-finds
+returns-clause-finds g c = rw (← c.self.view_is) (descriptor_finds c.args.next c.args.patience.now.left c.commit.new.patience.left
+    (state (g.S.Shelf.device c.self.inside.shelf) (core_of c.self.inside.session))
+    (state (g.S.Shelf.device c.commit.new.shelf) (core_of c.commit.new.self))
+    c.commit.result c.commit.ensures.does (subst (λ (v : g.row.S.Denot × Core). IsSettled v.1) (sym c.self.view_is) c.requires.settled) c.self.invariant.2
+    (subst (λ (v : g.row.S.Denot × Core). IsAlike c.args.next v.1.descriptor) (sym c.self.view_is) c.requires.alike))
+
+pub returns-clause-falls : goal.returns-clause-falls
+returns-clause-falls g c = rw (← c.self.view_is) (descriptor_falls c.args.next c.args.patience.now.left c.commit.new.patience.left
+    (state (g.S.Shelf.device c.self.inside.shelf) (core_of c.self.inside.session))
+    (state (g.S.Shelf.device c.commit.new.shelf) (core_of c.commit.new.self))
+    c.commit.result c.commit.ensures.does (subst (λ (v : g.row.S.Denot × Core). IsSettled v.1) (sym c.self.view_is) c.requires.settled) c.self.invariant.2
+    (subst (λ (v : g.row.S.Denot × Core). IsAlike c.args.next v.1.descriptor) (sym c.self.view_is) c.requires.alike))
+
+pub returns-clause-writes : goal.returns-clause-writes
+returns-clause-writes g c = rw (← c.self.view_is) (descriptor_writes c.args.next c.args.patience.now.left c.commit.new.patience.left
+    (state (g.S.Shelf.device c.self.inside.shelf) (core_of c.self.inside.session))
+    (state (g.S.Shelf.device c.commit.new.shelf) (core_of c.commit.new.self))
+    c.commit.result c.commit.ensures.does (subst (λ (v : g.row.S.Denot × Core). IsSettled v.1) (sym c.self.view_is) c.requires.settled) c.self.invariant.2
+    (subst (λ (v : g.row.S.Denot × Core). IsAlike c.args.next v.1.descriptor) (sym c.self.view_is) c.requires.alike))
+
+pub returns-clause-keeps : goal.returns-clause-keeps
+returns-clause-keeps g c = rw (← c.self.view_is) (descriptor_keeps c.args.next c.args.patience.now.left c.commit.new.patience.left
+    (state (g.S.Shelf.device c.self.inside.shelf) (core_of c.self.inside.session))
+    (state (g.S.Shelf.device c.commit.new.shelf) (core_of c.commit.new.self))
+    c.commit.result c.commit.ensures.does (subst (λ (v : g.row.S.Denot × Core). IsSettled v.1) (sym c.self.view_is) c.requires.settled) c.self.invariant.2
+    (subst (λ (v : g.row.S.Denot × Core). IsAlike c.args.next v.1.descriptor) (sym c.self.view_is) c.requires.alike))
+
+pub returns-clause-calm : goal.returns-clause-calm
+returns-clause-calm g c = rw (← c.self.view_is) (descriptor_calm c.args.next c.args.patience.now.left c.commit.new.patience.left
+    (state (g.S.Shelf.device c.self.inside.shelf) (core_of c.self.inside.session))
+    (state (g.S.Shelf.device c.commit.new.shelf) (core_of c.commit.new.self))
+    c.commit.result c.commit.ensures.does (subst (λ (v : g.row.S.Denot × Core). IsSettled v.1) (sym c.self.view_is) c.requires.settled) c.self.invariant.2
+    (subst (λ (v : g.row.S.Denot × Core). IsAlike c.args.next v.1.descriptor) (sym c.self.view_is) c.requires.alike))
+
+pub returns-clause-behind : goal.returns-clause-behind
+returns-clause-behind g c = rw (← c.self.view_is) (descriptor_behind c.args.next c.args.patience.now.left c.commit.new.patience.left
+    (state (g.S.Shelf.device c.self.inside.shelf) (core_of c.self.inside.session))
+    (state (g.S.Shelf.device c.commit.new.shelf) (core_of c.commit.new.self))
+    c.commit.result c.commit.ensures.does (subst (λ (v : g.row.S.Denot × Core). IsSettled v.1) (sym c.self.view_is) c.requires.settled) c.self.invariant.2
+    (subst (λ (v : g.row.S.Denot × Core). IsAlike c.args.next v.1.descriptor) (sym c.self.view_is) c.requires.alike))
+
+pub returns-clause-numbers : goal.returns-clause-numbers
+returns-clause-numbers g c = rw (← c.self.view_is) c.commit.ensures.does.settles.numbers

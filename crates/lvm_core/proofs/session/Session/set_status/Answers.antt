@@ -1,0 +1,60 @@
+use Rattle.std.proofs.Common.{sym, ◌∙◌, ap, subst}
+use Rattle.lvm_status.specs.Update.{Stored}
+use Rattle.lvm_commit.specs.Settling.{MaySettle}
+use Rattle.lvm_core.specs.declared.session.Session.{Session}
+use Rattle.lvm_core.specs.State.{state}
+use Rattle.lvm_core.specs.Fields.{core_of}
+use Rattle.lvm_core.specs.Steps.{IsMarked}
+use Rattle.lvm_core.proofs.Ends.{numbered, is_out, core_ends, status_ends, commits_marks, at_once}
+use Rattle.lvm_core.proofs.Marking.{may_settle}
+use Rattle.lvm_core.proofs.session.Session.set_status.Goals as goal
+
+pub commit_status-settled-requires-clause-may : goal.commit_status-settled-requires-clause-may
+commit_status-settled-requires-clause-may g c =
+    subst (λ (s : Session). MaySettle s.descriptor s.updater (g.S.Shelf.device c.args.shelf.now)) (sym c.take_buffer-buf.ensures.taken)
+    (may_settle c.args.self.now.descriptor (g.S.Shelf.device c.args.shelf.now) c.args.stale.now c.args.fresh.now c.args.self.now.updater c.mark.new.updater c.mark.ensures c.requires.may)
+
+pub go_on-requires-clause-out : goal.go_on-requires-clause-out
+go_on-requires-clause-out g c =
+    let how = c.commit_status-settled.result in
+    is_out how c.args.self.now.pool c.take_buffer-buf.new.self.pool (ap (λ (s : Session). s.pool) c.take_buffer-buf.ensures.taken) c.requires.fitting.a_buffer
+    (numbered how c.take_buffer-buf.result.number c.take_buffer-buf.ensures.number c.commit_status-settled.ensures.buffer)
+
+pub returns-clause-does : goal.returns-clause-does
+returns-clause-does g c =
+    let self = c.args.self.now in
+    let taken = c.take_buffer-buf.new.self in
+    let wrote = c.commit_status-settled in
+    let how = wrote.result in
+    let mid = core_of (record taken { updater = wrote.new.updater; homes = wrote.new.homes }) in
+    let left = core_of c.go_on.new.self in
+    let mid_is = ap (λ (s : Session). core_of (record s { updater = wrote.new.updater; homes = wrote.new.homes })) c.take_buffer-buf.ensures.taken in
+    let number = numbered how c.take_buffer-buf.result.number c.take_buffer-buf.ensures.number wrote.ensures.buffer in
+    let ends = c.go_on.ensures.ends in
+    let same = status_ends mid left how c.go_on.result ends in
+    commits_marks c.args.stale.now c.args.fresh.now taken.updater wrote.new.updater taken.homes wrote.new.homes c.take_buffer-buf.result.number c.args.patience.now.left wrote.new.patience.left
+    (state (g.S.Shelf.device c.args.shelf.now) (core_of self)) (state (g.S.Shelf.device wrote.new.shelf) left) how c.go_on.result
+    (subst (λ (u : Stored). IsMarked c.args.stale.now c.args.fresh.now self.updater u) (sym (ap (λ (s : Session). s.updater) c.take_buffer-buf.ensures.taken)) c.mark.ensures)
+    (ap (λ (s : Session). s.homes) c.take_buffer-buf.ensures.taken) c.take_buffer-buf.ensures.number same.0 same.1
+    (record {
+      promises = record {
+        done = wrote.ensures.done;
+        off = wrote.ensures.off;
+        ready = wrote.ensures.ready;
+        well = wrote.ensures.well;
+        dark = wrote.ensures.dark;
+        stuck = wrote.ensures.stuck;
+        loses = wrote.ensures.marks;
+        spent = wrote.ensures.spent;
+        numbers = wrote.ensures.numbers;
+        spends = record { falls = wrote.ensures.patience; waits = wrote.ensures.waited };
+        keeps = wrote.ensures.keeps;
+      };
+      held = wrote.ensures.held;
+      finds = wrote.ensures.finds;
+      kept = wrote.ensures.kept;
+    })
+    (core_ends (core_of self) mid left mid_is c.requires.buffers how c.go_on.result number ends)
+    (λ none.
+    let once = at_once _ (core_of self) mid left mid_is c.requires.buffers how c.go_on.result number ends (wrote.ensures.unwritten none) (λ all. all.2 ∙ ap (λ (s : Session). s.homes) c.take_buffer-buf.ensures.taken) in
+    (once.1, ap g.S.Shelf.device once.0.0, once.2 ∙ ap (λ (u : Stored). record (core_of self) { status = u }) once.0.1))

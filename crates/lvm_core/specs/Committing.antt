@@ -1,0 +1,118 @@
+-- How the calls end by which a session commits a descriptor or marks.
+use Rattle.std.specs.Prelude.{◌≡◌, ℕ, ◌<◌, Bool, true, false, ◌&&◌, ◌||◌, ◌++◌, not, List, Result, Ok, Err, IsTrue, IsFalse, IfSome, All, slice_set}
+use Rattle.std.specs.List.{list_any}
+use Rattle.lvm_num.specs.declared.place.Pp.{Pp}
+use Rattle.lvm_num.specs.declared.descriptor.Descriptor.{Descriptor}
+use Rattle.lvm_num.specs.declared.status.Status.{Status}
+use Rattle.lvm_num.specs.Descriptor.{IsPartitionOf}
+use Rattle.lvm_num.specs.Status.{calls_stale, calls_missing}
+use Rattle.lvm_disk.specs.Counts.{Rose}
+use Rattle.lvm_disk.specs.Device.{IsReady, image_of}
+use Rattle.lvm_vol.specs.Facts.{Fact}
+use Rattle.lvm_kept.specs.Contents.{contents_of}
+use Rattle.lvm_kept.specs.Moments.{Moment}
+use Rattle.lvm_change.specs.Moments.{Begins, Holds, Keeps}
+use Rattle.lvm_change.specs.Requests.{at}
+use Rattle.lvm_stale.specs.Table.{is_pp}
+use Rattle.lvm_stamps.specs.Behind.{IsBehind}
+use Rattle.lvm_quorum.specs.Written.{IsDarkened, IsGivenUp}
+use Rattle.lvm_commit.specs.LawsOfData.{IsFree}
+use Rattle.lvm_commit.specs.LawsOfVolumes.{VolumeServes}
+use Rattle.lvm_commit.specs.Settling.{HasSameRows, HasLostQuorum, AreWell, SpendsNumbers}
+use Rattle.lvm_core.specs.declared.fault.CommitFault.{CommitFault}
+use Rattle.lvm_core.specs.declared.fault.CommitFault.TheVariants as fault
+use Rattle.lvm_core.specs.declared.request.Power.TheVariants as power
+use Rattle.lvm_core.specs.State.{State, is_there}
+use Rattle.lvm_core.specs.Dark.{all_dark}
+use Rattle.lvm_core.specs.Settled.{IsSettled}
+
+-- ---- how they end
+
+-- the first buffer is out
+abbrev pub with_one_out : List Bool → List Bool
+with_one_out pool = slice_set pool 0 true
+
+-- This descriptor is committed, and what is wanted of the status; nothing is under way.
+pub record HasCommitted (next : Descriptor) (old new : State) : Type 0 where
+  pub settled : IsSettled new.core
+  pub is : new.core ≡ record old.core { descriptor = next; status = new.core.status; homes = new.core.homes }
+  -- no transfer to a member that isn't missing has failed
+  pub well : AreWell new.core.status old.device new.device
+  pub ready : IsReady new.device
+  pub cuts : new.device.counts.cuts ≡ old.device.counts.cuts
+
+-- The members that aren't missing have so many votes of so many, too few to write: the session has gone off, with its descriptor as it was.
+pub record HasGoneOff (have total : ℕ) (old new : State) : Type 0 where
+  pub lost : HasLostQuorum old.core.status new.core.status old.device new.device have total
+  -- no number was spent but for the members that became missing
+  pub spent : SpendsNumbers 0 old.core.status new.core.status
+  pub is : new.core ≡ record old.core { status = new.core.status; homes = new.core.homes; power = power.Off }
+  pub well : AreWell new.core.status old.device new.device
+  pub ready : IsReady new.device
+  pub cuts : new.device.counts.cuts ≡ old.device.counts.cuts
+
+-- The power was cut in the call: the session has ended, with its descriptor as it was. The buffer that was out is lost, or the shelf still has it.
+pub record HasGoneDark (old new : State) : Type 0 where
+  pub cut : IsDarkened 0 old.device new.device
+  pub is : new.core ≡ all_dark (record old.core { pool = with_one_out old.core.pool; status = new.core.status; homes = new.core.homes })
+
+-- Nothing was heard of a transfer until the patience had run out: it is out, with its buffer, and the descriptor is as it was.
+pub record IsLeftOut (patience : ℕ) (old new : State) : Type 0 where
+  pub out : IsGivenUp 0 patience old.device new.device
+  pub is : new.core ≡ record old.core { pool = with_one_out old.core.pool; status = new.core.status; homes = new.core.homes }
+
+-- what a commit answers
+abbrev pub CommitEnds : Descriptor → ℕ → State → State → Result (Unit {0}) CommitFault → Type 0
+CommitEnds next patience old new (Ok done) = HasCommitted next old new
+CommitEnds next patience old new (Err (fault.WentOff have total)) = HasGoneOff have total old new
+CommitEnds next patience old new (Err fault.Dark) = HasGoneDark old new
+CommitEnds next patience old new (Err fault.Stuck) = IsLeftOut patience old new
+CommitEnds next patience old new (Err (fault.DiskFailed disk)) = ⊥
+
+-- ---- marks
+
+abbrev pub is_among : List Pp → Pp → Bool
+is_among pps p = list_any (λ (q : Pp). is_pp p q) pps
+
+-- each of the partitions is one of its member that no volume of the group has
+abbrev pub AreUnused : Descriptor → List Pp → Type 0
+AreUnused d pps = All (λ (p : Pp). IsPartitionOf d p × IsFree d p) pps
+
+-- these partitions are stale and those fresh, where they weren't, and all other marks are as they were
+abbrev pub Marks : List Pp → List Pp → Status → Status → Type 0
+Marks stale fresh old new = (p : Pp) → calls_stale new p ≡ (calls_stale old p || is_among stale p) && not (is_among fresh p)
+
+-- they already are so
+pub record AreMarked (to_stale to_fresh : List Pp) (s : Status) : Type 0 where
+  pub stale : All (λ (p : Pp). calls_stale s p ≡ true) to_stale
+  pub fresh : All (λ (p : Pp). calls_stale s p ≡ false) to_fresh
+
+-- What is wanted of the status afterwards: it has these marks, and members have become missing, each of them after a transfer to it has failed.
+pub record Restates (stale fresh : List Pp) (old new : State) : Type 0 where
+  pub group : new.core.status.group ≡ old.core.status.group
+  pub rows : HasSameRows old.core.status.wanted new.core.status.wanted
+  pub marks : Marks stale fresh old.core.status.wanted new.core.status.wanted
+  pub dirty : new.core.status.wanted.dirty ≡ old.core.status.wanted.dirty
+  pub stays : (d : ℕ) → IsTrue (calls_missing old.core.status.wanted d) → IsTrue (calls_missing new.core.status.wanted d)
+  pub lost : (d : ℕ) → IsTrue (calls_missing new.core.status.wanted d) → IsFalse (calls_missing old.core.status.wanted d)
+      → IsTrue (is_there old.core d) × Rose (old.device.counts.faults d) (new.device.counts.faults d)
+
+-- ---- the moments
+
+-- what the history of a session has, and what its shelf is
+abbrev pub moment_of : State → Moment
+moment_of s = at s.device s.core.history.facts
+
+-- A span that leads to the one moment goes on to the other.
+abbrev pub SpanGoesOn : ℕ → Moment → State → State → Type 0
+SpanGoesOn run first old new = Keeps run first (moment_of old) → Keeps run first (moment_of new)
+
+-- In a history that may have stood before the span, what lets the session's next descriptor be committed: a volume is being made or removed by it.
+abbrev pub LetsCommit : ℕ → Descriptor → ℕ → Moment → State → Type 0
+LetsCommit lv next run first s =
+    (past : List Fact) → Begins run past first → Holds past (moment_of s)
+    → IfSome s.device.media (λ media. VolumeServes (contents_of (image_of s.device.sizes media)) (past ++ s.core.history.facts) s.core.descriptor lv next)
+
+-- what stands on the disks is from before each moment after the session's, where it was
+abbrev pub StaysBehind : State → State → Type 0
+StaysBehind old new = (moment : ℕ) → old.core.status.stamp.epoch < moment → IsBehind moment old.device → IsBehind moment new.device

@@ -1,0 +1,64 @@
+-- The partitions that first fit gives a volume of one copy.
+use Rattle.std.proofs.Common.{◌≡◌, ◌≢◌, ◌⊎◌, inl, inr, ⊎_elim, ℕ, zero, suc, ◌+◌, ◌-◌, ◌*◌, ◌%◌, ◌<◌, ◌≤◌, Bool, true, false, ◌&&◌, List, [], ◌∷◌, length, get_or, take, drop, Option, Some, None, refl, sym, ap, subst, ◌∙◌, eq-eqb, arith}
+use Rattle.std.specs.Prelude.{◌==◌, slice_get, All, AllPairs, Contains, IsTrue}
+use Rattle.std.proofs.lemmas.Bool.{false≢true}
+use Rattle.std.proofs.lemmas.List.{length-take-le, length-drop, get_or-take, get_or-drop, get_or_default}
+use Rattle.std.proofs.lemmas.List.Folds.{list_any_at}
+use Rattle.lvm_num.specs.declared.place.Pp.{Pp}
+use Rattle.lvm_num.specs.declared.descriptor.LvRow.{LvRow}
+use Rattle.lvm_num.specs.declared.descriptor.Descriptor.{Descriptor}
+use Rattle.lvm_num.specs.Descriptor.{IsPartitionOf, IsValid, copies_of, partitions_used}
+use Rattle.lvm_num.specs.Disks.{Disks}
+use Rattle.lvm_map.specs.FirstFit.{is_among, Asked, IsAllocated, new_volume}
+use Rattle.lvm_map.specs.Laws.{IsNewPlace}
+use Rattle.lvm_map.proofs.FreeLists.{is_pp-same}
+use Rattle.lvm_map.proofs.Fitting.{get-get_or}
+use Rattle.lvm_map.proofs.NewPlaces.{new_place}
+use Rattle.lvm_kept.specs.Group.{IsOneOf}
+
+among_is : (xs : List Pp) (pp : Pp) → Contains xs pp → is_among xs pp ≡ true
+among_is xs pp has = list_any_at (λ (p : Pp). p.disk == pp.disk && p.pp == pp.pp) xs has.0 pp has.1 (is_pp-same (get_or xs has.0 pp) pp has.2)
+
+module _ (d : Descriptor) (usable : Disks) (lps : ℕ) (map : List Pp) (valid : IsValid d) (all : IsAllocated d usable (new_volume lps 1) map) where
+  place : (k : ℕ) (e : Pp) → k < length map → IsNewPlace d usable (new_volume lps 1) (take k map) (get_or map k e)
+  place k e lt = new_place d usable (new_volume lps 1) map k (get_or map k e) valid all.fits (get-get_or map k e lt) (omega arith)
+
+  -- they are partitions of usable members,
+  pub places_of : All (IsPartitionOf d) map
+  places_of k e lt = let new = place k e lt in (new.row, new.member, new.within)
+
+  pub usable_of : All (λ (pp : Pp). IsTrue (usable pp.disk)) map
+  usable_of k e lt = (place k e lt).is_usable
+
+  -- of no volume,
+  pub free_of : All (λ (pp : Pp). Contains (partitions_used d) pp → ⊥) map
+  free_of k e lt has = false≢true (sym (place k e lt).free ∙ among_is (partitions_used d) (get_or map k e) has)
+
+  -- and each once
+  pub once_of : AllPairs (λ (a b : Pp). a ≢ b) map
+  once_of i j e less lt same =
+      let size : length (take j map) ≡ j = length-take-le j map (omega (arith, lt)) in
+      let at : get_or (take j map) i (get_or map j e) ≡ get_or map j e = get_or-take j map i (get_or map j e) less ∙ get_or_default map i (get_or map j e) e (omega (arith, less, lt)) ∙ same in
+      false≢true (sym (place j e lt).new ∙ among_is (take j map) (get_or map j e) (i, omega (arith, size, less), at))
+
+-- ---- the copies
+
+first_of : (xs : List Pp) (p : Pp) → IsOneOf (take 1 xs) p → (0 < length xs) × (get_or xs 0 p ≡ p)
+first_of [] p is = absurd is
+first_of (x ∷ xs) p (inl here) = (omega arith, sym here)
+first_of (x ∷ xs) p (inr there) = absurd there
+
+its_first : (xs : List Pp) (e : Pp) → 0 < length xs → IsOneOf (take 1 xs) (get_or xs 0 e)
+its_first [] e lt = absurd (omega (arith, lt))
+its_first (x ∷ xs) e lt = inl refl
+
+-- the one copy of a logical partition
+pub one_copy : (row : LvRow) (lp : ℕ) (p : Pp) → row.copies ≡ 1 → IsOneOf (copies_of row lp) p → Contains row.map p
+one_copy row lp p one is =
+    let at = first_of (drop (lp * 1) row.map) p (subst (λ (n : ℕ). IsOneOf (take n (drop (lp * n) row.map)) p) one is) in
+    (lp * 1 + 0, omega (arith, at.0, length-drop (lp * 1) row.map), sym (get_or-drop (lp * 1) row.map 0 p) ∙ at.1)
+
+pub its_copy : (row : LvRow) (lp : ℕ) (e : Pp) → row.copies ≡ 1 → lp < length row.map → IsOneOf (copies_of row lp) (get_or row.map (lp * 1 + 0) e)
+its_copy row lp e one lt =
+    subst (λ (n : ℕ). IsOneOf (take n (drop (lp * n) row.map)) (get_or row.map (lp * 1 + 0) e)) (sym one)
+    (subst (λ (p : Pp). IsOneOf (take 1 (drop (lp * 1) row.map)) p) (get_or-drop (lp * 1) row.map 0 e) (its_first (drop (lp * 1) row.map) e (omega (arith, lt, length-drop (lp * 1) row.map))))
