@@ -1,0 +1,4 @@
+pub mod Devices
+pub mod Transfers
+pub mod Named
+pub mod Begun

@@ -1,0 +1,90 @@
+-- Which descriptors may be found after a line, and after the lines of a script.
+use Rattle.std.specs.Prelude.{◌≡◌, ◌⊎◌, ◌≤◌, ℕ, Bool, true, false, List, Option, Some, None, Result, Ok, IsSomeAnd, length}
+use Rattle.lvm_num.specs.declared.descriptor.Descriptor.{Descriptor}
+use Rattle.lvm_disk.specs.Device.{Device, HasSectors}
+use Rattle.lvm_vol.specs.Log.{Log}
+use Rattle.lvm_parse.specs.declared.command.Command.{Command}
+use Rattle.lvm_parse.specs.declared.command.Command.TheVariants as command
+use Rattle.lvm_parse.specs.declared.rest.Misfit.{Misfit}
+use Rattle.lvm_parse.specs.Grammar.{line_of}
+use Rattle.lvm_core.specs.declared.parts.Room.{Room}
+use Rattle.lvm_core.specs.Looking.{IsNumberOf}
+use Rattle.lvm_core.specs.State.{Core}
+use Rattle.lvm_group.specs.NewGroup.{new_group}
+use Rattle.lvm_group.specs.NewVolume.{without_volume}
+use Rattle.lvm_group.specs.Volumes.{IsWith}
+use Rattle.lvm_group.specs.Endings.{MayBeFound}
+use Rattle.lvm_line.specs.Groups.{asked_for}
+use Rattle.lvm_line.specs.Moments.{IsBrokenOff}
+use Rattle.lvm_line.specs.State.{State}
+use Rattle.lvm_line.specs.Volumes.{wanted}
+use Rattle.lvm_line.specs.declared.reply.Reply.{Reply}
+use Rattle.lvm_line.specs.declared.reply.Reply.TheVariants as reply
+use Rattle.lvm_top.specs.Script.{Script, NoLine, NextLine}
+
+-- ---- one line
+
+-- the descriptor that a line was to commit: of the group that is made, or of that which is on with a volume more or without one
+abbrev pub IsToCommit : Result (Option Command) Misfit → State → State → Descriptor → Type 0
+IsToCommit (Ok (Some (command.Mkvg force name mib disks))) old new k = k ≡ new_group old.moment.device.sizes (asked_for name mib disks force new.last)
+IsToCommit (Ok (Some (command.Mklv name copies mode policy group lps))) old new k = IsSomeAnd old.session (λ core. IsWith (wanted name copies mode policy lps) core k)
+IsToCommit (Ok (Some (command.Rmlv name))) old new k = IsSomeAnd old.session (λ core. (lv : ℕ) × IsNumberOf core.descriptor.lvs name lv × (k ≡ without_volume core.descriptor lv))
+IsToCommit other old new k = ⊥
+
+-- The line was answered as done or as broken off, and was to commit this descriptor of the group.
+pub record MayHaveCommitted (read : Result (Option Command) Misfit) (answer : Reply) (old new : State) (id : ℕ) (k : Descriptor) : Type 0 where
+  pub tried : (answer ≡ reply.Ok) ⊎ IsBrokenOff answer
+  pub own : id ≡ k.id
+  pub is : IsToCommit read old new k
+
+-- the commands after which a group is on: it was made, varied on, or given a volume more or less
+abbrev pub is_group_command : Command → Bool
+is_group_command (command.Mkvg force name mib disks) = true
+is_group_command (command.Varyon name) = true
+is_group_command (command.Mklv name copies mode policy group lps) = true
+is_group_command (command.Rmlv name) = true
+is_group_command (command.Varyoff name) = false
+is_group_command (command.Lsvg volumes name) = false
+is_group_command (command.Lslv name) = false
+is_group_command (command.Lspv disk) = false
+is_group_command (command.RawRd disk at count) = false
+is_group_command (command.RawWr disk at count word) = false
+is_group_command (command.Fail disk) = false
+is_group_command (command.Heal disk) = false
+is_group_command (command.Cut word) = false
+
+-- such a command was answered as done
+abbrev pub is_acknowledged : Result (Option Command) Misfit → Reply → Bool
+is_acknowledged (Ok (Some c)) reply.Ok = is_group_command c
+is_acknowledged read answer = false
+
+-- of the group of the session its descriptor alone, and of another group what there was
+pub data StandsOf (core : Core) (Before : ℕ → Descriptor → Type 0) (id : ℕ) (k : Descriptor) : Type 0 where
+  IsCommitted : id ≡ core.descriptor.id → k ≡ core.descriptor → StandsOf core Before id k
+  OfAnother : (id ≡ core.descriptor.id → ⊥) → Before id k → StandsOf core Before id k
+
+-- What may stand after a line, by what may stand before it: an acknowledged group command leaves of its group what it has committed alone; after another
+-- line there may be what there was, or what the line may have committed.
+abbrev pub StandsAfter : Bool → Result (Option Command) Misfit → Reply → State → State → (ℕ → Descriptor → Type 0) → ℕ → Descriptor → Type 0
+StandsAfter true read answer old new Before id k = IsSomeAnd new.session (λ core. StandsOf core Before id k)
+StandsAfter false read answer old new Before id k = Before id k ⊎ MayHaveCommitted read answer old new id k
+
+-- ---- the lines of a script
+
+-- What may stand of a group after these lines: what could be found before the first of them; since the last acknowledged command on it what that has
+-- committed, and what was being committed since.
+abbrev pub MayStand : {log : Log} {room : Room} {first : State} {lines : List (List ℕ)} {replies : List Reply} {last : State} → Script log room first lines replies last → ℕ → Descriptor → Type 0
+MayStand {first = first} NoLine id k = MayBeFound first.moment.device id k
+MayStand (NextLine {mid = mid} {new = new} line answer said goes says before does) id k = StandsAfter (is_acknowledged (line_of line) answer) (line_of line) answer mid new (MayStand before) id k
+
+-- ---- shelves
+
+-- What holds of each shelf: it has at most 128 disks, and where it is told what stands on them, each sector has 512 bytes.
+pub record IsShelf (device : Device) : Type 0 where
+  pub few : length device.sizes ≤ 128
+  pub whole : HasSectors device
+
+-- so it is where each line begins
+abbrev pub AreShelves : {log : Log} {room : Room} {first : State} {lines : List (List ℕ)} {replies : List Reply} {last : State} → Script log room first lines replies last → Type 0
+AreShelves NoLine = Unit {0}
+AreShelves (NextLine {mid = mid} line answer said goes says before does) = AreShelves before × IsShelf mid.moment.device
