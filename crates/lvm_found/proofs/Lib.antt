@@ -2,3 +2,8 @@ pub mod Devices
 pub mod Transfers
 pub mod Named
 pub mod Begun
+pub mod Making
+pub mod Varying
+pub mod Volumes
+pub mod Groups
+pub mod Lines

@@ -45,8 +45,8 @@ named_word : (word name : List ℕ) → name_in word ≡ Some name → IsTrue (i
 named_word word name is = go (is_name word) refl is
   where
     go : (b : Bool) → is_name word ≡ b → (if b then Some word else None) ≡ Some name → is_name name ≡ true
-    go true yes same = let e : word ≡ name = cc (same) in ap is_name (sym e) ∙ yes
-    go false no same = absurd (cc (same))
+    go true passes same = let e : word ≡ name = cc (same) in ap is_name (sym e) ∙ passes
+    go false fails same = absurd (cc (same))
 
 IsNamed : MkvgOptions → Type 0
 IsNamed o = ForSome o.name (λ name. IsTrue (is_name name))

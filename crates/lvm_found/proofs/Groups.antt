@@ -1,0 +1,128 @@
+-- What is found after the lines that make a group or vary one on.
+use Rattle.std.proofs.Common.{◌≡◌, ◌≢◌, ◌⊎◌, inl, inr, ⊎_elim, ℕ, ◌-◌, ◌^◌, ◌<◌, ◌++◌, List, Bool, Option, Some, None, Ok, refl, sym, ap, subst, ◌∙◌, arith}
+use Rattle.lvm_num.specs.declared.descriptor.Descriptor.{Descriptor}
+use Rattle.lvm_disk.specs.Device.{Device, IsReady}
+use Rattle.lvm_io.specs.Count.{Rose}
+use Rattle.lvm_vol.specs.Log.{Log}
+use Rattle.lvm_parse.specs.declared.command.Command.TheVariants as command
+use Rattle.lvm_parse.specs.Grammar.{line_of}
+use Rattle.lvm_stamps.specs.Behind.{IsBehind}
+use Rattle.lvm_begin.specs.Beginning.{new_order}
+use Rattle.lvm_core.specs.declared.parts.Room.{Room}
+use Rattle.lvm_core.specs.declared.refused.Cause.{Cause}
+use Rattle.lvm_core.specs.declared.refused.Cause.TheVariants as cause
+use Rattle.lvm_core.specs.State.{Core}
+use Rattle.lvm_group.specs.Endings.{MayBeFound}
+use Rattle.lvm_group.specs.NewGroup.{NewGroup, new_group}
+use Rattle.lvm_line.specs.Disks.{patience_of_line}
+use Rattle.lvm_line.specs.Groups.{Asks, IsAsked, IsLeftOff, MkvgDoes, NoMemoryForLine, NoMkvgWhileOn, MakesGroup, MkvgFails, VaryonDoes, NoVaryonWhileOn, VariesOn, VaryonFails, asked_for, refusal_of}
+use Rattle.lvm_line.specs.Moments.{IsBrokenOff}
+use Rattle.lvm_line.specs.Replies.{IsStuck}
+use Rattle.lvm_line.specs.State.{State, IsTimely, log_with}
+use Rattle.lvm_line.specs.declared.reply.Refusal.TheVariants as refusal
+use Rattle.lvm_line.specs.declared.reply.Reply.{Reply}
+use Rattle.lvm_line.specs.declared.reply.Reply.TheVariants as reply
+use Rattle.lvm_line.proofs.Asking.{line_is_within}
+use Rattle.lvm_line.proofs.Coming.{Leaves, clock_is_ahead, lit_up}
+use Rattle.lvm_line.proofs.Making.{leaves as making_leaves}
+use Rattle.lvm_line.proofs.Varying.{leaves as varying_leaves}
+use Rattle.lvm_varyon.specs.Varied.{HasWritten, Refuses}
+use Rattle.lvm_varyon.specs.Writing.{order}
+use Rattle.lvm_found.specs.Standing.{MayHaveCommitted, IsShelf}
+use Rattle.lvm_found.proofs.Begun.{IsIts}
+use Rattle.lvm_found.proofs.Devices.{NothingNew, then_nothing, same_nothing, fewer_nothing, unwritten_nothing}
+use Rattle.lvm_found.proofs.Making.{IsAskedFor, parts_find, refused_finds}
+use Rattle.lvm_found.proofs.Named.{line_has_name}
+use Rattle.lvm_found.proofs.Varying.{written_nothing}
+
+-- ---- the clock
+
+asked_nothing : (old new : State) → IsAsked old new → NothingNew old.moment.device new.moment.device
+asked_nothing old new asked = same_nothing old.moment.device new.moment.device (ap (λ (s : State). s.moment.device) asked.same)
+
+-- no moment that a clock answers is the first of all
+some_moment : (last moment : ℕ) → Rose last moment → moment ≢ 0
+some_moment last moment rose none = let r = rose.risen in omega (arith, r, none)
+
+module _ (log : Log) (old new : State) (answer : Reply) (heard : IsStuck answer → ⊥) (shelf : IsShelf old.moment.device) (ready : IsReady old.moment.device) (timely : IsTimely log.run old) where
+  behind : Asks old new → new.last < 2 ^ 64 - 1 → IsBehind new.last old.moment.device
+  behind asks early = (clock_is_ahead log.run old.last new.last old.moment.device old.moment.facts asks timely.ahead early).behind
+
+  -- a refusal of which something was heard
+  not_stuck : (why : Cause) → answer ≡ reply.Refused (refusal_of why) → why ≡ cause.Stuck → ⊥
+  not_stuck why says stuck = heard (says ∙ ap (λ (c : Cause). reply.Refused (refusal_of c)) stuck)
+
+  -- ---- `mkvg`
+
+  module _ (line : List ℕ) (force : Bool) (name : List ℕ) (mib : Option ℕ) (disks : List ℕ) (read : line_of line ≡ Ok (Some (command.Mkvg force name mib disks))) where
+    abbrev w : NewGroup
+    w = asked_for name mib disks force new.last
+
+    abbrev Found : Device → Type 0
+    Found device = (id : ℕ) (k : Descriptor) → MayBeFound device id k → MayBeFound old.moment.device id k ⊎ MayHaveCommitted (Ok (Some (command.Mkvg force name mib disks))) answer old new id k
+
+    asked : Asks old new → IsAskedFor (asked_for name mib disks force new.last) old.moment.device
+    asked asks =
+        let within = line_is_within line (command.Mkvg force name mib disks) read in
+        record {
+          shelf = shelf;
+          ready = ready;
+          moment = some_moment old.last new.last asks;
+          named = line_has_name line force name mib disks read;
+          a_disk = within.0;
+          differ = within.1;
+          sized = within.2;
+          clock = behind asks;
+        }
+
+    committed : (answer ≡ reply.Ok) ⊎ IsBrokenOff answer → (id : ℕ) (k : Descriptor) → IsIts (new_group old.moment.device.sizes (asked_for name mib disks force new.last)) id k → MayHaveCommitted (Ok (Some (command.Mkvg force name mib disks))) answer old new id k
+    committed tried id k its = record { tried = tried; own = its.0 ∙ sym (ap (λ (d : Descriptor). d.id) its.1); is = its.1 }
+
+    pub mkvg_finds : (room : Room) → MkvgDoes log room force name mib disks old new answer → Found new.moment.device
+    mkvg_finds room (NoMemoryForLine says same) id k it = inl (asked_nothing old new same id k it)
+    mkvg_finds room (NoMkvgWhileOn on says same) id k it = inl (asked_nothing old new same id k it)
+    mkvg_finds room (MakesGroup core asks before made left) id k it = ⊎_elim
+        (λ was. inl was)
+        (λ its. inr (committed (inl left.answered) id k its))
+        (parts_find w old.moment.device (asked asks) (log_with log old.moment.facts) new.moment.device made.clear made.homes made.spares new_order made.only made.rested.ready.flights id k it)
+    mkvg_finds room (MkvgFails why left is asks before refuses gone) id k it =
+        let rests = (making_leaves w patience_of_line (log_with log old.moment.facts) is old.moment.device left ready why refuses).rests in
+        ⊎_elim
+        (λ was. inl was)
+        (λ its. inr (committed (inr (subst IsBrokenOff (sym gone.answered) its.0)) id k its.1))
+        (refused_finds w old.moment.device (asked asks) patience_of_line (log_with log old.moment.facts) is left why (not_stuck why gone.answered) refuses id k
+        (fewer_nothing left new.moment.device (lit_up why left new.moment.device rests gone.lit).fewer id k it))
+
+  -- ---- `varyonvg`
+
+  module _ (name : List ℕ) where
+    module _ (asks : Asks old new) (left : Device) where
+      written : (How : _) (it : HasWritten old.moment.device left name new.last How) → _
+      written How it = written_nothing old.moment.device left name new.last How it shelf (some_moment old.last new.last asks) (behind asks)
+
+      stops_nothing : (why : Cause) → (why ≡ cause.Stuck → ⊥) → Refuses old.moment.device left name new.last patience_of_line (log_with log old.moment.facts) why → NothingNew old.moment.device left
+      stops_nothing cause.HistoryFull other refuses = same_nothing old.moment.device left refuses.1
+      stops_nothing cause.NoRecord other refuses = unwritten_nothing old.moment.device left refuses.1.unwritten refuses.1.rested.ready.flights
+      stops_nothing cause.Ambiguous other refuses = unwritten_nothing old.moment.device left refuses.1.unwritten refuses.1.rested.ready.flights
+      stops_nothing (cause.NoQuorum have total) other refuses = unwritten_nothing old.moment.device left refuses.1.unwritten refuses.1.rested.ready.flights
+      stops_nothing (cause.ClockBack seen) other refuses = unwritten_nothing old.moment.device left refuses.1.unwritten refuses.1.rested.ready.flights
+      stops_nothing (cause.DiskFailed disk) other refuses =
+          let stops = refuses.1.writes.how.stops in written _ refuses.1 _ stops.only refuses.1.writes.how.rested.ready.flights
+      stops_nothing cause.Dark other refuses = ⊎_elim
+          (λ un. unwritten_nothing old.moment.device left un refuses.1.how.flights)
+          (λ it. written _ it _ it.writes.how.only refuses.1.how.flights)
+          refuses.1.when
+      stops_nothing cause.Stuck other refuses = absurd (other refl)
+      stops_nothing cause.Memory other refuses = unwritten_nothing old.moment.device left refuses.1.0 refuses.1.1.ready.flights
+      stops_nothing (cause.NoDisk disk) other refuses = absurd refuses.1
+      stops_nothing (cause.TooMany limit) other refuses = absurd refuses.1
+      stops_nothing (cause.TooSmall disk) other refuses = absurd refuses.1
+      stops_nothing cause.GroupExists other refuses = absurd refuses.1
+
+    pub varyon_nothing : (room : Room) → VaryonDoes log room name old new answer → NothingNew old.moment.device new.moment.device
+    varyon_nothing room (NoVaryonWhileOn on says same) = asked_nothing old new same
+    varyon_nothing room (VariesOn core asks before comes restated left) = written asks new.moment.device _ comes.written (order comes.written.group) comes.written.writes.how.keeps comes.written.writes.how.rested.ready.flights
+    varyon_nothing room (VaryonFails why left asks before refuses gone) =
+        let rests = (varying_leaves old.moment.device left name new.last patience_of_line (log_with log old.moment.facts) ready why refuses).rests in
+        then_nothing old.moment.device left new.moment.device (stops_nothing asks left why (not_stuck why gone.answered) refuses)
+        (fewer_nothing left new.moment.device (lit_up why left new.moment.device rests gone.lit).fewer)
