@@ -1,5 +1,5 @@
 -- What is found after the lines that make a group or vary one on.
-use Rattle.std.proofs.Common.{◌≡◌, ◌≢◌, ◌⊎◌, inl, inr, ⊎_elim, ℕ, ◌-◌, ◌^◌, ◌<◌, ◌++◌, List, Bool, Option, Some, None, Ok, refl, sym, ap, subst, ◌∙◌, arith}
+use Rattle.std.proofs.Common.{◌≡◌, ◌≢◌, ◌⊎◌, inl, inr, ⊎_elim, ℕ, ◌-◌, ◌^◌, ◌<◌, ◌++◌, ◌∷◌, [], List, Bool, Option, Some, None, Ok, refl, sym, ap, subst, ◌∙◌, arith}
 use Rattle.lvm_num.specs.declared.descriptor.Descriptor.{Descriptor}
 use Rattle.lvm_disk.specs.Device.{Device, IsReady}
 use Rattle.lvm_io.specs.Count.{Rose}
@@ -97,8 +97,8 @@ module _ (log : Log) (old new : State) (answer : Reply) (heard : IsStuck answer 
 
   module _ (name : List ℕ) where
     module _ (asks : Asks old new) (left : Device) where
-      written : (How : _) (it : HasWritten old.moment.device left name new.last How) → _
-      written How it = written_nothing old.moment.device left name new.last How it shelf (some_moment old.last new.last asks) (behind asks)
+      some : new.last ≢ 0
+      some = some_moment old.last new.last asks
 
       stops_nothing : (why : Cause) → (why ≡ cause.Stuck → ⊥) → Refuses old.moment.device left name new.last patience_of_line (log_with log old.moment.facts) why → NothingNew old.moment.device left
       stops_nothing cause.HistoryFull other refuses = same_nothing old.moment.device left refuses.1
@@ -107,10 +107,11 @@ module _ (log : Log) (old new : State) (answer : Reply) (heard : IsStuck answer 
       stops_nothing (cause.NoQuorum have total) other refuses = unwritten_nothing old.moment.device left refuses.1.unwritten refuses.1.rested.ready.flights
       stops_nothing (cause.ClockBack seen) other refuses = unwritten_nothing old.moment.device left refuses.1.unwritten refuses.1.rested.ready.flights
       stops_nothing (cause.DiskFailed disk) other refuses =
-          let stops = refuses.1.writes.how.stops in written _ refuses.1 _ stops.only refuses.1.writes.how.rested.ready.flights
+          let stops = refuses.1.writes.how.stops in
+          written_nothing old.moment.device left name new.last _ refuses.1 shelf some (behind asks) (stops.before ++ stops.hand ∷ []) stops.only refuses.1.writes.how.rested.ready.flights
       stops_nothing cause.Dark other refuses = ⊎_elim
           (λ un. unwritten_nothing old.moment.device left un refuses.1.how.flights)
-          (λ it. written _ it _ it.writes.how.only refuses.1.how.flights)
+          (λ it. written_nothing old.moment.device left name new.last _ it shelf some (behind asks) (it.writes.how.before ++ it.writes.how.hand ∷ []) it.writes.how.only refuses.1.how.flights)
           refuses.1.when
       stops_nothing cause.Stuck other refuses = absurd (other refl)
       stops_nothing cause.Memory other refuses = unwritten_nothing old.moment.device left refuses.1.0 refuses.1.1.ready.flights
@@ -121,7 +122,8 @@ module _ (log : Log) (old new : State) (answer : Reply) (heard : IsStuck answer 
 
     pub varyon_nothing : (room : Room) → VaryonDoes log room name old new answer → NothingNew old.moment.device new.moment.device
     varyon_nothing room (NoVaryonWhileOn on says same) = asked_nothing old new same
-    varyon_nothing room (VariesOn core asks before comes restated left) = written asks new.moment.device _ comes.written (order comes.written.group) comes.written.writes.how.keeps comes.written.writes.how.rested.ready.flights
+    varyon_nothing room (VariesOn core asks before comes restated left) =
+        written_nothing old.moment.device new.moment.device name new.last _ comes.written shelf (some_moment old.last new.last asks) (behind asks) (order comes.written.group) comes.written.writes.how.keeps comes.written.writes.how.rested.ready.flights
     varyon_nothing room (VaryonFails why left asks before refuses gone) =
         let rests = (varying_leaves old.moment.device left name new.last patience_of_line (log_with log old.moment.facts) ready why refuses).rests in
         then_nothing old.moment.device left new.moment.device (stops_nothing asks left why (not_stuck why gone.answered) refuses)

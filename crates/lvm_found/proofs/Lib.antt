@@ -7,3 +7,5 @@ pub mod Varying
 pub mod Volumes
 pub mod Groups
 pub mod Lines
+pub mod Acknowledged
+pub mod Scripts

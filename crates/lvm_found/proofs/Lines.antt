@@ -50,8 +50,8 @@ module _ (log : Log) (old new : State) (answer : Reply) where
   wr_nothing disk at count word (WriteIsDone off gives is) = write_nothing log disk at count word patience_of_line old.moment new.moment (Ok tt) gives
 
   arrange_nothing : (disk : ℕ) (what : Arrange) → ArrangeDoes disk what old new answer → FindsNothing
-  arrange_nothing disk what (NotThere beyond is) = same_state is.1
-  arrange_nothing disk what (NotPlanned there unplanned is) = same_state is.1
+  arrange_nothing disk what (NotThere beyond is) id k it = same_state is.1 id k it
+  arrange_nothing disk what (NotPlanned there unplanned is) id k it = same_state is.1 id k it
   arrange_nothing disk what (IsArranged there planned is same) id k it = subst (λ (s : State). MayBeFound s.moment.device id k) same it
 
   cut_nothing : (word : ℕ) → CutDoes log word old new answer → FindsNothing

@@ -55,10 +55,10 @@ module _ (name : List ℕ) (copies : ℕ) (mode : Mode) (policy : Policy) (group
         (done_finds old new held core on (λ was is. MklvGives (wanted name copies mode policy lps) patience_of_line was is given) (IsWith (wanted name copies mode policy lps)) over done id k it)
 
     failed_mklv : (why : GroupFault) → answer ≡ reply.Refused (refusal_for why) → MklvEnds (wanted name copies mode policy lps) (Err why) (ends_session why) core old new → FoundByMklv
-    failed_mklv fault.Dark says done = tried_mklv (Err fault.Dark) _ (inr (subst IsBrokenOff (sym says) tt)) done
-    failed_mklv (fault.WentOff have total) says done = tried_mklv (Err (fault.WentOff have total)) _ (inr (subst IsBrokenOff (sym says) tt)) done
-    failed_mklv fault.Stuck says done = tried_mklv (Err fault.Stuck) _ (inr (subst IsBrokenOff (sym says) tt)) done
-    failed_mklv (fault.DiskFailed disk) says done = tried_mklv (Err (fault.DiskFailed disk)) _ (inr (subst IsBrokenOff (sym says) tt)) done
+    failed_mklv fault.Dark says done id k it = tried_mklv (Err fault.Dark) _ (inr (subst IsBrokenOff (sym says) tt)) done id k it
+    failed_mklv (fault.WentOff have total) says done id k it = tried_mklv (Err (fault.WentOff have total)) _ (inr (subst IsBrokenOff (sym says) tt)) done id k it
+    failed_mklv fault.Stuck says done id k it = tried_mklv (Err fault.Stuck) _ (inr (subst IsBrokenOff (sym says) tt)) done id k it
+    failed_mklv (fault.DiskFailed disk) says done id k it = tried_mklv (Err (fault.DiskFailed disk)) _ (inr (subst IsBrokenOff (sym says) tt)) done id k it
     failed_mklv fault.Busy says done id k it = inl (idle_nothing core done.left old new done.gives.0 done.leaves id k it)
     failed_mklv fault.NoVolume says done id k it = absurd done.gives
     failed_mklv fault.VolumeExists says done id k it = inl (idle_nothing core done.left old new done.gives.0 done.leaves id k it)
@@ -71,8 +71,8 @@ module _ (name : List ℕ) (copies : ℕ) (mode : Mode) (policy : Policy) (group
 
   pub mklv_finds : MklvDoes (wanted name copies mode policy lps) group old new answer → FoundByMklv
   mklv_finds (NoGroupForMklv none is) id k it = inl (same_nothing old.moment.device new.moment.device (ap (λ (s : State). s.moment.device) is.1) id k it)
-  mklv_finds (MakesVolume core number some on done is) = tried_mklv core some (Ok number) false (inl is) done
-  mklv_finds (MklvFails core why some on done is) = failed_mklv core some why is done
+  mklv_finds (MakesVolume core number some on done is) id k it = tried_mklv core some (Ok number) false (inl is) done id k it
+  mklv_finds (MklvFails core why some on done is) id k it = failed_mklv core some why is done id k it
 
 -- ---- `rmlv`
 
@@ -93,9 +93,9 @@ module _ (name : List ℕ) (old new : State) (answer : Reply) (held : AreHeld ol
         (done_finds old new held core on (λ was is. RmlvGives lv patience_of_line was is given) (λ c d. d ≡ without_volume c.descriptor lv) over done id k it)
 
     failed_rmlv : (why : GroupFault) → answer ≡ reply.Refused (refusal_for why) → RmlvEnds lv (Err why) (ends_session why) core old new → FoundByRmlv
-    failed_rmlv fault.Dark says done = tried_rmlv (Err fault.Dark) _ (inr (subst IsBrokenOff (sym says) tt)) done
-    failed_rmlv (fault.WentOff have total) says done = tried_rmlv (Err (fault.WentOff have total)) _ (inr (subst IsBrokenOff (sym says) tt)) done
-    failed_rmlv fault.Stuck says done = tried_rmlv (Err fault.Stuck) _ (inr (subst IsBrokenOff (sym says) tt)) done
+    failed_rmlv fault.Dark says done id k it = tried_rmlv (Err fault.Dark) _ (inr (subst IsBrokenOff (sym says) tt)) done id k it
+    failed_rmlv (fault.WentOff have total) says done id k it = tried_rmlv (Err (fault.WentOff have total)) _ (inr (subst IsBrokenOff (sym says) tt)) done id k it
+    failed_rmlv fault.Stuck says done id k it = tried_rmlv (Err fault.Stuck) _ (inr (subst IsBrokenOff (sym says) tt)) done id k it
     failed_rmlv (fault.DiskFailed disk) says done id k it = absurd done.gives
     failed_rmlv fault.Busy says done id k it = inl (idle_nothing core done.left old new done.gives.0 done.leaves id k it)
     failed_rmlv fault.NoVolume says done id k it = inl (idle_nothing core done.left old new done.gives.0 done.leaves id k it)
@@ -110,5 +110,5 @@ module _ (name : List ℕ) (old new : State) (answer : Reply) (held : AreHeld ol
   pub rmlv_finds : RmlvDoes name old new answer → FoundByRmlv
   rmlv_finds (NoGroupForRmlv none is) id k it = inl (same_nothing old.moment.device new.moment.device (ap (λ (s : State). s.moment.device) is.1) id k it)
   rmlv_finds (NoVolumeForRmlv core some none is) id k it = inl (same_nothing old.moment.device new.moment.device (ap (λ (s : State). s.moment.device) is.1) id k it)
-  rmlv_finds (RemovesVolume core lv some its done is) = tried_rmlv core some lv its (Ok tt) false (inl is) done
-  rmlv_finds (RmlvFails core lv why some its done is) = failed_rmlv core some lv its why is done
+  rmlv_finds (RemovesVolume core lv some its done is) id k it = tried_rmlv core some lv its (Ok tt) false (inl is) done id k it
+  rmlv_finds (RmlvFails core lv why some its done is) id k it = failed_rmlv core some lv its why is done id k it

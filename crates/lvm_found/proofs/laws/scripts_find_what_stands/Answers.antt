@@ -1,0 +1,11 @@
+use Rattle.lvm_found.proofs.Scripts.{script_finds, varyon_finds, run_finds}
+use Rattle.lvm_found.proofs.laws.scripts_find_what_stands.Goals as goal
+
+pub returns-clause-stands : goal.returns-clause-stands
+returns-clause-stands c = script_finds
+
+pub returns-clause-varyon : goal.returns-clause-varyon
+returns-clause-varyon c = varyon_finds
+
+pub returns-clause-run : goal.returns-clause-run
+returns-clause-run c = run_finds
