@@ -57,19 +57,19 @@ pub record LeavesOn (read : Result (Option Command) Misfit) (old new : State) : 
 
 module _ (log : Log) (room : Room) (old new : State) where
   by_command : (c : Command) → is_group_command c ≡ true → CommandDoes log room c old new reply.Ok → LeavesOn (Ok (Some c)) old new
-  by_command (command.Mkvg force name mib disks) yes (NoMemoryForLine says asked) = absurd (cc (says))
-  by_command (command.Mkvg force name mib disks) yes (NoMkvgWhileOn on says asked) = absurd (cc (says))
-  by_command (command.Mkvg force name mib disks) yes (MakesGroup core asks before made left) = record {
+  by_command (command.Mkvg force name mib disks) acked (NoMemoryForLine says asked) = absurd (cc (says))
+  by_command (command.Mkvg force name mib disks) acked (NoMkvgWhileOn on says asked) = absurd (cc (says))
+  by_command (command.Mkvg force name mib disks) acked (MakesGroup core asks before made left) = record {
     core = core;
     on = left.after;
     own = λ k is. ap (λ (d : Descriptor). d.id) (is ∙ sym (ap (λ (c : Core). c.descriptor) made.core_is ∙ made.parts.descriptor));
   }
-  by_command (command.Mkvg force name mib disks) yes (MkvgFails why gone is asks before refuses left) = absurd (let e = left.answered in cc (e))
-  by_command (command.Varyon name) yes (NoVaryonWhileOn on says asked) = absurd (cc (says))
-  by_command (command.Varyon name) yes (VariesOn core asks before comes restated left) = record { core = core; on = left.after; own = λ k is. absurd is }
-  by_command (command.Varyon name) yes (VaryonFails why gone asks before refuses left) = absurd (let e = left.answered in cc (e))
-  by_command (command.Mklv name copies mode policy group lps) yes (NoGroupForMklv none is) = absurd (let e = is.0 in cc (e))
-  by_command (command.Mklv name copies mode policy group lps) yes (MakesVolume core number some on done says) = record {
+  by_command (command.Mkvg force name mib disks) acked (MkvgFails why gone is asks before refuses left) = absurd (let e = left.answered in cc (e))
+  by_command (command.Varyon name) acked (NoVaryonWhileOn on says asked) = absurd (cc (says))
+  by_command (command.Varyon name) acked (VariesOn core asks before comes restated left) = record { core = core; on = left.after; own = λ k is. absurd is }
+  by_command (command.Varyon name) acked (VaryonFails why gone asks before refuses left) = absurd (let e = left.answered in cc (e))
+  by_command (command.Mklv name copies mode policy group lps) acked (NoGroupForMklv none is) = absurd (let e = is.0 in cc (e))
+  by_command (command.Mklv name copies mode policy group lps) acked (MakesVolume core number some on done says) = record {
     core = done.left.core;
     on = done.leaves.session;
     own = λ k is.
@@ -79,10 +79,10 @@ module _ (log : Log) (room : Room) (old new : State) where
     where
       told_and : {X : Type 0} (o : Option X) (P : X → Type 0) (x : X) → o ≡ Some x → IsSomeAnd o P → P x
       told_and {X} o P x some is = subst (λ (p : Option X). IsSomeAnd p P) some is
-  by_command (command.Mklv name copies mode policy group lps) yes (MklvFails core why some on done says) = absurd (cc (says))
-  by_command (command.Rmlv name) yes (NoGroupForRmlv none is) = absurd (let e = is.0 in cc (e))
-  by_command (command.Rmlv name) yes (NoVolumeForRmlv core some none is) = absurd (let e = is.0 in cc (e))
-  by_command (command.Rmlv name) yes (RemovesVolume core lv some its done says) = record {
+  by_command (command.Mklv name copies mode policy group lps) acked (MklvFails core why some on done says) = absurd (cc (says))
+  by_command (command.Rmlv name) acked (NoGroupForRmlv none is) = absurd (let e = is.0 in cc (e))
+  by_command (command.Rmlv name) acked (NoVolumeForRmlv core some none is) = absurd (let e = is.0 in cc (e))
+  by_command (command.Rmlv name) acked (RemovesVolume core lv some its done says) = record {
     core = done.left.core;
     on = done.leaves.session;
     own = λ k is.
@@ -92,24 +92,24 @@ module _ (log : Log) (room : Room) (old new : State) where
     where
       told_and : {X : Type 0} (o : Option X) (P : X → Type 0) (x : X) → o ≡ Some x → IsSomeAnd o P → P x
       told_and {X} o P x some is = subst (λ (p : Option X). IsSomeAnd p P) some is
-  by_command (command.Rmlv name) yes (RmlvFails core lv why some its done says) = absurd (cc (says))
-  by_command (command.Varyoff name) yes does = absurd (cc (yes))
-  by_command (command.Lsvg volumes name) yes does = absurd (cc (yes))
-  by_command (command.Lslv name) yes does = absurd (cc (yes))
-  by_command (command.Lspv disk) yes does = absurd (cc (yes))
-  by_command (command.RawRd disk at count) yes does = absurd (cc (yes))
-  by_command (command.RawWr disk at count word) yes does = absurd (cc (yes))
-  by_command (command.Fail disk) yes does = absurd (cc (yes))
-  by_command (command.Heal disk) yes does = absurd (cc (yes))
-  by_command (command.Cut word) yes does = absurd (cc (yes))
+  by_command (command.Rmlv name) acked (RmlvFails core lv why some its done says) = absurd (cc (says))
+  by_command (command.Varyoff name) acked does = absurd (cc (acked))
+  by_command (command.Lsvg volumes name) acked does = absurd (cc (acked))
+  by_command (command.Lslv name) acked does = absurd (cc (acked))
+  by_command (command.Lspv disk) acked does = absurd (cc (acked))
+  by_command (command.RawRd disk at count) acked does = absurd (cc (acked))
+  by_command (command.RawWr disk at count word) acked does = absurd (cc (acked))
+  by_command (command.Fail disk) acked does = absurd (cc (acked))
+  by_command (command.Heal disk) acked does = absurd (cc (acked))
+  by_command (command.Cut word) acked does = absurd (cc (acked))
 
   pub leaves_on : (read : Result (Option Command) Misfit) (answer : Reply) → is_acknowledged read answer ≡ true → LineDoes log room read old new answer → LeavesOn read old new
-  leaves_on (Err misfit) answer yes does = absurd (cc (yes))
-  leaves_on (Ok None) answer yes does = absurd (cc (yes))
-  leaves_on (Ok (Some c)) reply.Ok yes does = by_command c yes does
-  leaves_on (Ok (Some c)) reply.Silent yes does = absurd (cc (yes))
-  leaves_on (Ok (Some c)) (reply.Lines text) yes does = absurd (cc (yes))
-  leaves_on (Ok (Some c)) (reply.Refused why) yes does = absurd (cc (yes))
+  leaves_on (Err misfit) answer acked does = absurd (cc (acked))
+  leaves_on (Ok None) answer acked does = absurd (cc (acked))
+  leaves_on (Ok (Some c)) reply.Ok acked does = by_command c acked does
+  leaves_on (Ok (Some c)) reply.Silent acked does = absurd (cc (acked))
+  leaves_on (Ok (Some c)) (reply.Lines text) acked does = absurd (cc (acked))
+  leaves_on (Ok (Some c)) (reply.Refused why) acked does = absurd (cc (acked))
 
 -- ---- what then stands
 
@@ -119,5 +119,5 @@ module _ (core : Core) (Before : ℕ → Descriptor → Type 0) (id : ℕ) (k : 
     where
       by_id : (t : Bool) → (id == core.descriptor.id) ≡ t → Before id k ⊎ ((id ≡ k.id) × (k.id ≡ core.descriptor.id)) → StandsOf core Before id k
       by_id true is which = let its = eqb-true id core.descriptor.id is in IsCommitted its (only its)
-      by_id false is (inl before) = OfAnother (λ same. (let yes = eq-eqb id core.descriptor.id same in cc (yes, is))) before
-      by_id false is (inr committed) = absurd (let yes = eq-eqb id core.descriptor.id (committed.0 ∙ committed.1) in cc (yes, is))
+      by_id false is (inl before) = OfAnother (λ same. (let equal = eq-eqb id core.descriptor.id same in cc (equal, is))) before
+      by_id false is (inr committed) = absurd (let equal = eq-eqb id core.descriptor.id (committed.0 ∙ committed.1) in cc (equal, is))

@@ -62,9 +62,9 @@ module _ (log : Log) (room : Room) (past : List Fact) (first : State) (begin : M
       → StaysAlone (NextLine line answer said heard says before it) → is_acknowledged (line_of line) answer ≡ true
       → (id : ℕ) (k : Descriptor) → MayBeFound new.moment.device id k → MayStand before id k ⊎ MayHaveCommitted (line_of line) answer mid new id k
       → IsSomeAnd new.session (λ core. StandsOf core (MayStand before) id k)
-  acknowledged {mid = mid} {new = new} line answer said heard says before it alone yes id k found which =
+  acknowledged {mid = mid} {new = new} line answer said heard says before it alone acked id k found which =
       let whole = script_went log room first (NextLine line answer said heard says before it) in
-      let on = leaves_on log room mid new (line_of line) answer yes it.does in
+      let on = leaves_on log room mid new (line_of line) answer acked it.does in
       let settled = it.goes.settled heard in
       let held : IsHeld new.moment.device on.core = told_at new.session (λ c. IsHeld new.moment.device c) on.core on.on (whole.held begin.timely first_held) in
       let idle : IsSettledCore on.core = told_at new.session IsSettledCore on.core on.on settled.session in
@@ -87,7 +87,7 @@ module _ (log : Log) (room : Room) (past : List Fact) (first : State) (begin : M
     where
       by_answer : (t : Bool) → is_acknowledged (line_of line) answer ≡ t → MayStand before id k ⊎ MayHaveCommitted (line_of line) answer mid new id k
           → StandsAfter t (line_of line) answer mid new (MayStand before) id k
-      by_answer true yes which = acknowledged line answer said heard says before it alone yes id k found which
+      by_answer true acked which = acknowledged line answer said heard says before it alone acked id k found which
       by_answer false other which = which
 
   -- what is told at first is told after the lines
