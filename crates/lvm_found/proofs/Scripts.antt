@@ -36,7 +36,7 @@ use Rattle.lvm_line.specs.declared.reply.Reply.{Reply}
 use Rattle.lvm_line.specs.declared.reply.Reply.TheVariants as reply
 use Rattle.lvm_top.specs.Script.{Script, NoLine, NextLine, StaysAlone, entry_state, empty_log}
 use Rattle.lvm_top.proofs.Scripting.{script_went, begins_timely}
-use Rattle.lvm_found.specs.Laws.{MayBegin, ScriptFindsWhatStands, VaryonFindsWhatStands, RunFindsWhatStands}
+use Rattle.lvm_found.specs.Laws.{MayStart, ScriptFindsWhatStands, VaryonFindsWhatStands, RunMayStart, RunFindsWhatStands}
 use Rattle.lvm_found.specs.Standing.{MayHaveCommitted, is_acknowledged, StandsOf, StandsAfter, MayStand, AreShelves}
 use Rattle.lvm_found.proofs.Acknowledged.{only_committed, leaves_on, stands_of}
 use Rattle.lvm_found.proofs.Lines.{line_finds_no_more}
@@ -49,7 +49,7 @@ script_ready : (log : Log) (room : Room) (first : State) {lines : List (List ℕ
 script_ready log room first NoLine ready = ready
 script_ready log room first (NextLine line answer said heard says before it) ready = (it.goes.settled heard).ready
 
-module _ (log : Log) (room : Room) (past : List Fact) (first : State) (begin : MayBegin log.run past first) where
+module _ (log : Log) (room : Room) (past : List Fact) (first : State) (begin : MayStart log.run past first) where
   first_held : AreHeld first
   first_held = subst (λ (s : Option Core). IfSome s (λ core. IsHeld first.moment.device core)) (sym begin.off) tt
 
@@ -135,8 +135,9 @@ begins_run run device past earlier =
     more : count_by (begins_in run) past ≡ 0 → ◌≡◌ {A = ℕ} (count_by (begins_in run) past + 0) 0
     more e = omega (arith, e)
 
+pub run_may_start : RunMayStart
+run_may_start run entry past ready behind earlier = record { off = refl; ready = ready; timely = begins_timely run entry behind; begins = begins_run run entry past earlier }
+
 pub run_finds : RunFindsWhatStands
 run_finds run last room entry exit input left before after history status refused ran past ready behind earlier alone shelves =
-    stands (empty_log run room) room (past ++ Cut ∷ []) (entry_state entry run)
-    (record { off = refl; ready = ready; timely = begins_timely run entry behind; begins = begins_run run entry past earlier })
-    ran.part.script alone.0 shelves
+    stands (empty_log run room) room (past ++ Cut ∷ []) (entry_state entry run) (run_may_start run entry past ready behind earlier) ran.part.script alone.0 shelves

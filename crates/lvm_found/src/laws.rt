@@ -1,5 +1,5 @@
 //! Laws of what quorums find. Each call does nothing: its contract is the law.
-ghost use Rattle.lvm_found.specs.Laws.{LineFindsNoMore, ScriptFindsWhatStands, VaryonFindsWhatStands, RunFindsWhatStands};
+ghost use Rattle.lvm_found.specs.Laws.{LineFindsNoMore, ScriptFindsWhatStands, VaryonFindsWhatStands, RunMayStart, RunFindsWhatStands};
 
 /// After a line no descriptor may be found that might not be before, but the one that the line was to commit.
 pub fn lines_find_no_more()
@@ -11,5 +11,6 @@ pub fn lines_find_no_more()
 pub fn scripts_find_what_stands()
     ensures stands { ScriptFindsWhatStands }
     ensures varyon { VaryonFindsWhatStands }
+    ensures start { RunMayStart }
     ensures run { RunFindsWhatStands }
 {}

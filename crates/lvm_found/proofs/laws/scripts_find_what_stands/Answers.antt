@@ -1,4 +1,4 @@
-use Rattle.lvm_found.proofs.Scripts.{script_finds, varyon_finds, run_finds}
+use Rattle.lvm_found.proofs.Scripts.{script_finds, varyon_finds, run_may_start, run_finds}
 use Rattle.lvm_found.proofs.laws.scripts_find_what_stands.Goals as goal
 
 pub returns-clause-stands : goal.returns-clause-stands
@@ -9,3 +9,6 @@ returns-clause-varyon c = varyon_finds
 
 pub returns-clause-run : goal.returns-clause-run
 returns-clause-run c = run_finds
+
+pub returns-clause-start : goal.returns-clause-start
+returns-clause-start c = run_may_start
