@@ -1,6 +1,6 @@
 -- What is found after a group command that was acknowledged.
-use Rattle.std.proofs.Common.{◌≡◌, ◌⊎◌, inl, inr, ⊎_elim, ℕ, List, [], Bool, true, false, Option, Some, None, Result, Ok, Err, refl, sym, ap, subst, ◌∙◌}
-use Rattle.std.specs.Prelude.{◌==◌, IsSomeAnd, IfSome}
+use Rattle.std.proofs.Common.{◌≡◌, ◌⊎◌, inl, inr, ℕ, List, [], Bool, true, false, Option, Some, None, Result, Ok, Err, refl, sym, ap, subst, ◌∙◌}
+use Rattle.std.specs.Prelude.{◌==◌, IsSomeAnd}
 use Rattle.std.proofs.lemmas.Bool.{eqb-true, eq-eqb}
 use Rattle.lvm_num.specs.declared.descriptor.Descriptor.{Descriptor}
 use Rattle.lvm_disk.specs.Device.{Media, Device, image_of, MayLeave}
@@ -30,7 +30,7 @@ use Rattle.lvm_line.specs.State.{State}
 use Rattle.lvm_line.specs.Volumes.{NoGroupForMklv, MakesVolume, MklvFails, NoGroupForRmlv, NoVolumeForRmlv, RemovesVolume, RmlvFails, wanted}
 use Rattle.lvm_line.specs.declared.reply.Reply.{Reply}
 use Rattle.lvm_line.specs.declared.reply.Reply.TheVariants as reply
-use Rattle.lvm_found.specs.Standing.{IsToCommit, MayHaveCommitted, is_group_command, is_acknowledged, StandsOf, IsCommitted, OfAnother}
+use Rattle.lvm_found.specs.Standing.{IsToCommit, is_group_command, is_acknowledged, StandsOf, IsCommitted, OfAnother}
 
 -- ---- a session at which nothing is under way
 

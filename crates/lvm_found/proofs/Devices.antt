@@ -1,9 +1,9 @@
 -- What may be found of one device that might be found of another.
-use Rattle.std.proofs.Common.{◌≡◌, ◌⊎◌, inl, inr, ⊎_elim, ℕ, List, [], Option, Some, None, refl, sym, subst}
+use Rattle.std.proofs.Common.{◌≡◌, inl, ⊎_elim, ℕ, List, [], Option, Some, None, subst}
 use Rattle.std.specs.Prelude.{IsSomeAnd}
 use Rattle.lvm_num.specs.declared.descriptor.Descriptor.{Descriptor}
-use Rattle.lvm_disk.specs.Device.{Media, Image, Flight, Device, image_of, IsCrashImage, MayLeave}
-use Rattle.lvm_disk.specs.Images.{LeavesNoMore, DiffersBy}
+use Rattle.lvm_disk.specs.Device.{Media, Image, Flight, Device, image_of, IsCrashImage}
+use Rattle.lvm_disk.specs.Images.{LeavesNoMore}
 use Rattle.lvm_kept.specs.Raw.{OnlyAdds}
 use Rattle.lvm_change.specs.Requests.{IsOfData}
 use Rattle.lvm_commit.proofs.NoMore.{data_finds_nothing_new}

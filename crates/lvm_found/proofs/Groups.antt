@@ -1,5 +1,5 @@
 -- What is found after the lines that make a group or vary one on.
-use Rattle.std.proofs.Common.{◌≡◌, ◌≢◌, ◌⊎◌, inl, inr, ⊎_elim, ℕ, ◌-◌, ◌^◌, ◌<◌, ◌++◌, ◌∷◌, [], List, Bool, Option, Some, None, Ok, refl, sym, ap, subst, ◌∙◌, arith}
+use Rattle.std.proofs.Common.{◌≡◌, ◌≢◌, ◌⊎◌, inl, inr, ⊎_elim, ℕ, ◌-◌, ◌^◌, ◌<◌, ◌++◌, ◌∷◌, [], List, Bool, Option, Some, Ok, refl, sym, ap, subst, ◌∙◌, arith}
 use Rattle.lvm_num.specs.declared.descriptor.Descriptor.{Descriptor}
 use Rattle.lvm_disk.specs.Device.{Device, IsReady}
 use Rattle.lvm_io.specs.Count.{Rose}
@@ -11,22 +11,20 @@ use Rattle.lvm_begin.specs.Beginning.{new_order}
 use Rattle.lvm_core.specs.declared.parts.Room.{Room}
 use Rattle.lvm_core.specs.declared.refused.Cause.{Cause}
 use Rattle.lvm_core.specs.declared.refused.Cause.TheVariants as cause
-use Rattle.lvm_core.specs.State.{Core}
 use Rattle.lvm_group.specs.Endings.{MayBeFound}
 use Rattle.lvm_group.specs.NewGroup.{NewGroup, new_group}
 use Rattle.lvm_line.specs.Disks.{patience_of_line}
-use Rattle.lvm_line.specs.Groups.{Asks, IsAsked, IsLeftOff, MkvgDoes, NoMemoryForLine, NoMkvgWhileOn, MakesGroup, MkvgFails, VaryonDoes, NoVaryonWhileOn, VariesOn, VaryonFails, asked_for, refusal_of}
+use Rattle.lvm_line.specs.Groups.{Asks, IsAsked, MkvgDoes, NoMemoryForLine, NoMkvgWhileOn, MakesGroup, MkvgFails, VaryonDoes, NoVaryonWhileOn, VariesOn, VaryonFails, asked_for, refusal_of}
 use Rattle.lvm_line.specs.Moments.{IsBrokenOff}
 use Rattle.lvm_line.specs.Replies.{IsStuck}
 use Rattle.lvm_line.specs.State.{State, IsTimely, log_with}
-use Rattle.lvm_line.specs.declared.reply.Refusal.TheVariants as refusal
 use Rattle.lvm_line.specs.declared.reply.Reply.{Reply}
 use Rattle.lvm_line.specs.declared.reply.Reply.TheVariants as reply
 use Rattle.lvm_line.proofs.Asking.{line_is_within}
-use Rattle.lvm_line.proofs.Coming.{Leaves, clock_is_ahead, lit_up}
+use Rattle.lvm_line.proofs.Coming.{clock_is_ahead, lit_up}
 use Rattle.lvm_line.proofs.Making.{leaves as making_leaves}
 use Rattle.lvm_line.proofs.Varying.{leaves as varying_leaves}
-use Rattle.lvm_varyon.specs.Varied.{HasWritten, Refuses}
+use Rattle.lvm_varyon.specs.Varied.{Refuses}
 use Rattle.lvm_varyon.specs.Writing.{order}
 use Rattle.lvm_found.specs.Standing.{MayHaveCommitted, IsShelf}
 use Rattle.lvm_found.proofs.Begun.{IsIts}

@@ -1,7 +1,7 @@
 -- What is found after a line.
-use Rattle.std.proofs.Common.{◌≡◌, ◌⊎◌, inl, inr, ⊎_elim, ℕ, List, Option, Some, None, Result, Ok, Err, refl, ap, subst}
+use Rattle.std.proofs.Common.{◌≡◌, ◌⊎◌, inl, ℕ, List, Option, Some, None, Result, Ok, Err, refl, ap, subst}
 use Rattle.lvm_num.specs.declared.descriptor.Descriptor.{Descriptor}
-use Rattle.lvm_disk.specs.Device.{Device, IsReady}
+use Rattle.lvm_disk.specs.Device.{IsReady}
 use Rattle.lvm_disk.specs.declared.shelf.Arrange.{Arrange}
 use Rattle.lvm_disk.specs.declared.shelf.Arrange.TheVariants as arrange
 use Rattle.lvm_disk.proofs.Stepping.{arrange_leaves}
@@ -15,9 +15,9 @@ use Rattle.lvm_core.specs.declared.parts.Room.{Room}
 use Rattle.lvm_group.specs.Endings.{MayBeFound}
 use Rattle.lvm_line.specs.Disks.{patience_of_line, WriteDoes, ReadDoes, NoWriteWhileOn, WriteFaults, WriteIsDone, NoReadWhileOn, ReadFaults, ReadGets}
 use Rattle.lvm_line.specs.Groups.{VaryoffDoes, NoVaryoff, VariesOff}
-use Rattle.lvm_line.specs.Lines.{LineDoes, IsLine}
+use Rattle.lvm_line.specs.Lines.{LineDoes}
 use Rattle.lvm_line.specs.Replies.{IsStuck}
-use Rattle.lvm_line.specs.Shelves.{ArrangeDoes, NotThere, NotPlanned, IsArranged, CutDoes, CutNotPlanned, PowerIsCut, over}
+use Rattle.lvm_line.specs.Shelves.{ArrangeDoes, NotThere, NotPlanned, IsArranged, CutDoes, CutNotPlanned, PowerIsCut}
 use Rattle.lvm_line.specs.State.{State, IsTimely, AreHeld}
 use Rattle.lvm_line.specs.declared.reply.Reply.{Reply}
 use Rattle.lvm_found.specs.Laws.{LineFindsNoMore}

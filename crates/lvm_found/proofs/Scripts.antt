@@ -1,25 +1,24 @@
 -- What is found after the lines of a script.
-use Rattle.std.proofs.Common.{◌≡◌, ◌⊎◌, inl, inr, ⊎_elim, ℕ, ◌+◌, List, [], ◌∷◌, ◌++◌, Bool, true, false, Option, Some, None, Result, Ok, count_by, cond, refl, sym, ap, subst, ◌∙◌, arith}
+use Rattle.std.proofs.Common.{◌≡◌, ◌⊎◌, inl, inr, ⊎_elim, ℕ, ◌+◌, List, [], ◌∷◌, ◌++◌, Bool, true, false, Option, Some, None, Result, count_by, cond, refl, sym, ap, subst, ◌∙◌, arith}
 use Rattle.std.specs.Prelude.{IsSome, IsSomeAnd, IfSome}
 use Rattle.std.proofs.lemmas.List.{append-nil}
 use Rattle.std.proofs.lemmas.List.Sums.{sum_by-append}
 use Rattle.lvm_num.specs.declared.descriptor.Descriptor.{Descriptor}
-use Rattle.lvm_disk.specs.Device.{Media, Device, IsReady}
+use Rattle.lvm_disk.specs.Device.{Device, IsReady}
 use Rattle.lvm_disk.proofs.Paths.{last-path}
 use Rattle.lvm_vol.specs.Facts.{Fact, Cut}
 use Rattle.lvm_vol.specs.Legal.{begins_in, Legal}
 use Rattle.lvm_vol.specs.Log.{Log}
 use Rattle.lvm_parse.specs.declared.command.Command.{Command}
-use Rattle.lvm_parse.specs.declared.command.Command.TheVariants as command
 use Rattle.lvm_parse.specs.declared.rest.Misfit.{Misfit}
 use Rattle.lvm_parse.specs.Grammar.{line_of}
 use Rattle.lvm_kept.specs.Contents.{contents_of}
 use Rattle.lvm_kept.specs.Kept.{Kept}
-use Rattle.lvm_kept.specs.Moments.{Moment, Calm}
+use Rattle.lvm_kept.specs.Moments.{Calm}
 use Rattle.lvm_kept.proofs.Chaining.{span_told}
 use Rattle.lvm_kept.proofs.Keeping.{cut_calm}
 use Rattle.lvm_kept.proofs.Landing.{legal_more}
-use Rattle.lvm_change.specs.Moments.{Begins, Keeps, ImagesKept, IsEarlier}
+use Rattle.lvm_change.specs.Moments.{Begins, ImagesKept, IsEarlier}
 use Rattle.lvm_change.proofs.Entries.{cut_keeps}
 use Rattle.lvm_change.proofs.Spans.{later_append}
 use Rattle.lvm_quorum.proofs.Writing.{told_at}

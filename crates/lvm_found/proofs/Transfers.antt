@@ -1,15 +1,12 @@
 -- What the reading and the writing of a range of a disk makes found: nothing new.
-use Rattle.std.proofs.Common.{◌≡◌, ◌≤◌, ◌<◌, ◌-◌, ◌+◌, ◌*◌, ◌/◌, ℕ, Bool, true, false, [], Result, Ok, Err, refl, sym, ap, subst, ◌∙◌, min, arith}
+use Rattle.std.proofs.Common.{◌≤◌, ◌<◌, ◌-◌, ◌+◌, ℕ, true, false, [], Result, Ok, refl, ap, subst, arith}
 use Rattle.lvm_num.specs.Geometry.{data_start}
-use Rattle.lvm_num.specs.Buffer.{Buffer}
-use Rattle.lvm_disk.specs.Device.{Image, Flight, Device, MayLeave}
+use Rattle.lvm_disk.specs.Device.{Flight, Device, MayLeave}
 use Rattle.lvm_disk.specs.Images.{LeavesNoMore}
-use Rattle.lvm_disk.specs.Steps.{Starts}
 use Rattle.lvm_disk.proofs.CrashImages.{done_leaves, failed_leaves, cut_leaves, start_leaves}
 use Rattle.lvm_disk.proofs.Paths.{last-path}
 use Rattle.lvm_vol.specs.Log.{Log}
 use Rattle.lvm_kept.specs.Moments.{Moment}
-use Rattle.lvm_kept.specs.Raw.{OnlyAdds}
 use Rattle.lvm_move.specs.declared.moves.Moved.{Moved}
 use Rattle.lvm_move.specs.declared.moves.Moved.TheVariants as moved
 use Rattle.lvm_move.specs.Transfer.{WaitsOnly, IsOut, TransferGives, Relights, flight_of}
@@ -17,7 +14,7 @@ use Rattle.lvm_raw.specs.declared.fault.RawFault.{RawFault}
 use Rattle.lvm_raw.specs.declared.fault.RawFault.TheVariants as fault
 use Rattle.lvm_raw.specs.Looking.{LookFails}
 use Rattle.lvm_raw.specs.Pieces.{piece_end, PiecesGo, NoPiece, OnePiece, RangeGoes, WentThrough, WasBroken, WritesPiece, ReadsPiece}
-use Rattle.lvm_raw.specs.Raw.{RawGives, Rejected, Unasked, Asked, WriteGives, ReadGives}
+use Rattle.lvm_raw.specs.Raw.{Rejected, Unasked, Asked, WriteGives, ReadGives}
 use Rattle.lvm_raw.specs.Requests.{RelightsAfter, ShelfAfter}
 use Rattle.lvm_raw.proofs.Moving.{brings_data}
 use Rattle.lvm_found.proofs.Devices.{NothingNew, then_nothing, same_nothing, fewer_nothing, data_nothing}

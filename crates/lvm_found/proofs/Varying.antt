@@ -1,6 +1,6 @@
 -- What is found after the varying on of a group, whatever became of it: what was found before.
-use Rattle.std.proofs.Common.{◌≡◌, ◌≢◌, ◌⊎◌, inl, inr, ⊎_elim, ℕ, ◌-◌, ◌^◌, ◌<◌, ◌≤◌, Bool, true, false, ◌&&◌, List, [], ◌∷◌, ◌++◌, length, get_or, Option, Some, None, refl, sym, ap, subst, ◌∙◌, arith}
-use Rattle.std.specs.Prelude.{IsTrue, IsSomeAnd, nat_lt, nat_le, not, slice_get, slice_index_or}
+use Rattle.std.proofs.Common.{◌≡◌, ◌≢◌, ⊎_elim, ℕ, ◌-◌, ◌^◌, ◌<◌, ◌≤◌, Bool, true, false, ◌&&◌, List, [], length, Option, Some, None, refl, sym, ap, subst, ◌∙◌, arith}
+use Rattle.std.specs.Prelude.{IsTrue, IsSomeAnd, nat_lt, nat_le, slice_get, slice_index_or}
 use Rattle.std.proofs.lemmas.Bool.Decides.{nat_tests}
 use Rattle.std.proofs.lemmas.Option.{slice_get_within, get_or_from_slice_get}
 use Rattle.lvm_num.specs.declared.record.Framed.{Framed}
@@ -11,12 +11,11 @@ use Rattle.lvm_num.specs.Descriptor.{IsValid}
 use Rattle.lvm_num.specs.DescriptorBytes.{descriptor_of, descriptor_bytes}
 use Rattle.lvm_num.specs.Disks.{Disks}
 use Rattle.lvm_num.specs.Geometry.{data_start}
-use Rattle.lvm_num.specs.Record.{Stamped, stamp_lt}
 use Rattle.lvm_num.specs.StatusBytes.{status_of, status_bytes}
 use Rattle.lvm_num.proofs.Newest.{is_one}
 use Rattle.lvm_vgda.proofs.Whole.{spelled_is_read}
 use Rattle.lvm_vgsa.proofs.RoundTrip.{is_read_again}
-use Rattle.lvm_disk.specs.Device.{Media, Device, IsReady, image_of, AreSectors, MayLeave, IsCrashImage, Image}
+use Rattle.lvm_disk.specs.Device.{Media, Device, image_of, AreSectors, MayLeave, IsCrashImage, Image}
 use Rattle.lvm_disk.specs.Steps.{BothTold}
 use Rattle.lvm_kept.specs.Contents.{Contents, contents_of, has_records}
 use Rattle.lvm_kept.specs.Group.{is_of, descriptor_among, Finds}
@@ -30,7 +29,7 @@ use Rattle.lvm_stamps.proofs.Records.{session_may_go, shown_is_before}
 use Rattle.lvm_stamps.proofs.Stamps.{behind_is_before}
 use Rattle.lvm_survey.proofs.ShownValid.{descriptors_valid}
 use Rattle.lvm_quorum.specs.Homes.{SparesNewest}
-use Rattle.lvm_quorum.specs.Written.{write_of, HasRoom, KeepsShelf}
+use Rattle.lvm_quorum.specs.Written.{write_of, KeepsShelf}
 use Rattle.lvm_quorum.proofs.Shows.{descriptor_may_be_written, status_may_be_written}
 use Rattle.lvm_quorum.proofs.Writing.{told_at}
 use Rattle.lvm_begin.specs.Beginning.{Beginning, Part, describes, states, IsOfParts}

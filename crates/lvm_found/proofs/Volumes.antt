@@ -1,10 +1,9 @@
 -- What is found after a volume was to be made or removed: what was found before, or what was to be committed.
-use Rattle.std.proofs.Common.{◌≡◌, ◌⊎◌, inl, inr, ⊎_elim, ℕ, List, Bool, false, Option, Some, None, Result, Ok, Err, refl, sym, ap, subst, ◌∙◌}
+use Rattle.std.proofs.Common.{◌≡◌, ◌⊎◌, inl, inr, ⊎_elim, ℕ, List, Bool, false, Option, Some, Result, Ok, Err, sym, ap, subst, ◌∙◌}
 use Rattle.std.specs.Prelude.{IsSomeAnd}
 use Rattle.lvm_num.specs.declared.descriptor.Descriptor.{Descriptor}
 use Rattle.lvm_num.specs.declared.descriptor.Mode.{Mode}
 use Rattle.lvm_num.specs.declared.descriptor.Policy.{Policy}
-use Rattle.lvm_disk.specs.Device.{Device}
 use Rattle.lvm_parse.specs.declared.command.Command.TheVariants as command
 use Rattle.lvm_quorum.proofs.Writing.{told_at}
 use Rattle.lvm_core.specs.Held.{IsHeld}
@@ -12,7 +11,6 @@ use Rattle.lvm_core.specs.Looking.{IsNumberOf}
 use Rattle.lvm_core.specs.State.{Core, State as Session, state}
 use Rattle.lvm_group.specs.declared.fault.GroupFault.{GroupFault}
 use Rattle.lvm_group.specs.declared.fault.GroupFault.TheVariants as fault
-use Rattle.lvm_group.specs.declared.new_volume.NewVolume.{NewVolume}
 use Rattle.lvm_group.specs.Endings.{MayBeFound}
 use Rattle.lvm_group.specs.NewVolume.{without_volume}
 use Rattle.lvm_group.specs.Volumes.{IsWith, MklvGives, RmlvGives}
