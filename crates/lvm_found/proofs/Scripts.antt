@@ -1,11 +1,13 @@
 -- What is found after the lines of a script.
-use Rattle.std.proofs.Common.{◌≡◌, ◌⊎◌, inl, inr, ⊎_elim, ℕ, ◌+◌, List, [], ◌∷◌, ◌++◌, Bool, true, false, Option, Some, None, Result, count_by, cond, refl, sym, ap, subst, ◌∙◌, arith}
+use Rattle.std.proofs.Common.{◌≡◌, ◌⊎◌, inl, inr, ⊎_elim, ℕ, ◌+◌, List, [], ◌∷◌, ◌++◌, Bool, true, false, Option, Some, None, Result, count_by, cond, refl, sym, ap, subst, ◌∙◌, arith, ◌≤◌, length}
 use Rattle.std.specs.Prelude.{IsSome, IsSomeAnd, IfSome}
 use Rattle.std.proofs.lemmas.List.{append-nil}
 use Rattle.std.proofs.lemmas.List.Sums.{sum_by-append}
 use Rattle.lvm_num.specs.declared.descriptor.Descriptor.{Descriptor}
 use Rattle.lvm_disk.specs.Device.{Device, IsReady}
+use Rattle.lvm_disk.specs.Paths.{Path, Here, Then}
 use Rattle.lvm_disk.proofs.Paths.{last-path}
+use Rattle.lvm_disk.proofs.Stepping.{step_same}
 use Rattle.lvm_vol.specs.Facts.{Fact, Cut}
 use Rattle.lvm_vol.specs.Legal.{begins_in, Legal}
 use Rattle.lvm_vol.specs.Log.{Log}
@@ -14,7 +16,7 @@ use Rattle.lvm_parse.specs.declared.rest.Misfit.{Misfit}
 use Rattle.lvm_parse.specs.Grammar.{line_of}
 use Rattle.lvm_kept.specs.Contents.{contents_of}
 use Rattle.lvm_kept.specs.Kept.{Kept}
-use Rattle.lvm_kept.specs.Moments.{Calm}
+use Rattle.lvm_kept.specs.Moments.{Moment, Step, Moves, Enters, Calm}
 use Rattle.lvm_kept.proofs.Chaining.{span_told}
 use Rattle.lvm_kept.proofs.Keeping.{cut_calm}
 use Rattle.lvm_kept.proofs.Landing.{legal_more}
@@ -36,10 +38,21 @@ use Rattle.lvm_line.specs.declared.reply.Reply.TheVariants as reply
 use Rattle.lvm_top.specs.Script.{Script, NoLine, NextLine, StaysAlone, entry_state, empty_log}
 use Rattle.lvm_top.proofs.Scripting.{script_went, begins_timely}
 use Rattle.lvm_found.specs.Laws.{MayStart, ScriptFindsWhatStands, VaryonFindsWhatStands, RunMayStart, RunFindsWhatStands}
-use Rattle.lvm_found.specs.Standing.{MayHaveCommitted, is_acknowledged, StandsOf, StandsAfter, MayStand, AreShelves}
+use Rattle.lvm_found.specs.Standing.{MayHaveCommitted, is_acknowledged, StandsOf, StandsAfter, MayStand, AreWhole}
 use Rattle.lvm_found.proofs.Acknowledged.{only_committed, leaves_on, stands_of}
 use Rattle.lvm_found.proofs.Lines.{line_finds_no_more}
 use Rattle.lvm_found.proofs.Varying.{was_found}
+
+-- ---- what stays
+
+step_sizes : (old new : Moment) → Step old new → new.device.sizes ≡ old.device.sizes
+step_sizes old new (Moves step same) = (step_same old.device new.device step).sizes
+step_sizes old new (Enters f same is) = ap (λ (d : Device). d.sizes) same
+
+-- the disks are as many and as large as they were
+span_sizes : {P : Moment → Type 0} {first last : Moment} → Path Step P first last → last.device.sizes ≡ first.device.sizes
+span_sizes (Here p) = refl
+span_sizes (Then path step p) = step_sizes _ _ step ∙ span_sizes path
 
 -- ---- the lines
 
@@ -73,15 +86,16 @@ module _ (log : Log) (room : Room) (past : List Fact) (first : State) (begin : M
       (λ same. only_committed new.moment.device on.core (past ++ new.moment.facts) idle held settled.ready.flights kept k (subst (λ (i : ℕ). MayBeFound new.moment.device i k) same found))
       (⊎_elim (λ stood. inl stood) (λ committed. inr (committed.own, on.own k committed.is)) which))
 
-  pub stands : {lines : List (List ℕ)} {replies : List Reply} {last : State} (script : Script log room first lines replies last) → StaysAlone script → AreShelves script
+  pub stands : {lines : List (List ℕ)} {replies : List Reply} {last : State} (script : Script log room first lines replies last) → StaysAlone script → AreWhole script
       → (id : ℕ) (k : Descriptor) → MayBeFound last.moment.device id k → MayStand script id k
-  stands NoLine alone shelves id k it = it
-  stands (NextLine {mid = mid} {new = new} line answer said heard says before it) alone shelves id k found =
+  stands NoLine alone whole id k it = it
+  stands (NextLine {mid = mid} {new = new} line answer said heard says before it) alone whole id k found =
       let went = script_went log room first before in
+      let few : length mid.moment.device.sizes ≤ 128 = subst (λ (sizes : List ℕ). length sizes ≤ 128) (sym (span_sizes (went.keeps begin.timely first_held alone.0))) begin.few in
       let which = ⊎_elim
-      (λ was. inl (stands before alone.0 shelves.0 id k was))
+      (λ was. inl (stands before alone.0 whole.0 id k was))
       (λ committed. inr committed)
-      (line_finds_no_more log room line answer mid new it heard shelves.1 (script_ready log room first before begin.ready) (went.timely begin.timely) (went.held begin.timely first_held) id k found) in
+      (line_finds_no_more log room line answer mid new it heard (record { few = few; whole = whole.1 }) (script_ready log room first before begin.ready) (went.timely begin.timely) (went.held begin.timely first_held) id k found) in
       by_answer (is_acknowledged (line_of line) answer) refl which
     where
       by_answer : (t : Bool) → is_acknowledged (line_of line) answer ≡ t → MayStand before id k ⊎ MayHaveCommitted (line_of line) answer mid new id k
@@ -94,7 +108,7 @@ module _ (log : Log) (room : Room) (past : List Fact) (first : State) (begin : M
   last_told script alone = span_told ((script_went log room first script).keeps begin.timely first_held alone) begin.begins.told
 
 pub script_finds : ScriptFindsWhatStands
-script_finds log room past first lines replies last script begin alone shelves = stands log room past first begin script alone shelves
+script_finds log room past first lines replies last script begin alone whole = stands log room past first begin script alone whole
 
 -- ---- a varyon after them
 
@@ -103,7 +117,7 @@ some_of (Some x) some = (x, refl)
 some_of None some = absurd (cc (some))
 
 pub varyon_finds : VaryonFindsWhatStands
-varyon_finds log room past first lines replies last script begin alone shelves line name new is it =
+varyon_finds log room past first lines replies last script begin alone whole line name new is it =
     of_varyon (subst (λ (r : Result (Option Command) Misfit). LineDoes log room r last new reply.Ok) is it.does)
   where
     of_varyon : VaryonDoes log room name last new reply.Ok → IsSomeAnd new.session (λ core. MayStand script core.descriptor.id core.descriptor)
@@ -113,7 +127,7 @@ varyon_finds log room past first lines replies last script begin alone shelves l
         let same : core.descriptor ≡ comes.written.group = ap (λ (c : Core). c.descriptor) comes.first.is ∙ comes.first.reserved.descriptor in
         subst (λ (s : Option Core). IsSomeAnd s (λ c. MayStand script c.descriptor.id c.descriptor)) (sym left.after)
         (subst (λ (d : Descriptor). MayStand script d.id d) (sym same)
-        (stands log room past first begin script alone shelves comes.written.group.id comes.written.group (was_found last.moment.device new.moment.device name new.last _ comes.written told.0 told.1)))
+        (stands log room past first begin script alone whole comes.written.group.id comes.written.group (was_found last.moment.device new.moment.device name new.last _ comes.written told.0 told.1)))
     of_varyon (VaryonFails why gone asks before refuses left) = absurd (let e = left.answered in cc (e))
 
 -- ---- runs
@@ -135,8 +149,8 @@ begins_run run device past earlier =
     more e = omega (arith, e)
 
 pub run_may_start : RunMayStart
-run_may_start run entry past ready behind earlier = record { off = refl; ready = ready; timely = begins_timely run entry behind; begins = begins_run run entry past earlier }
+run_may_start run entry past few ready behind earlier = record { off = refl; few = few; ready = ready; timely = begins_timely run entry behind; begins = begins_run run entry past earlier }
 
 pub run_finds : RunFindsWhatStands
-run_finds run last room entry exit input left before after history status refused ran past ready behind earlier alone shelves =
-    stands (empty_log run room) room (past ++ Cut ∷ []) (entry_state entry run) (run_may_start run entry past ready behind earlier) ran.part.script alone.0 shelves
+run_finds run last room entry exit input left before after history status refused ran past few ready behind earlier alone whole =
+    stands (empty_log run room) room (past ++ Cut ∷ []) (entry_state entry run) (run_may_start run entry past few ready behind earlier) ran.part.script alone.0 whole

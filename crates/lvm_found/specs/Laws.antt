@@ -1,5 +1,5 @@
 -- The descriptor that a later `varyonvg` finds is that of the last acknowledged command on its group, or one that was being committed since.
-use Rattle.std.specs.Prelude.{◌≡◌, ◌⊎◌, ◌++◌, ◌∷◌, ℕ, [], List, Option, Some, None, Ok, IsSomeAnd}
+use Rattle.std.specs.Prelude.{◌≡◌, ◌⊎◌, ◌≤◌, ◌++◌, ◌∷◌, ℕ, [], List, Option, Some, None, Ok, IsSomeAnd, length}
 use Rattle.lvm_num.specs.declared.descriptor.Descriptor.{Descriptor}
 use Rattle.lvm_disk.specs.Device.{Device, IsReady}
 use Rattle.lvm_vol.specs.Facts.{Fact, Cut}
@@ -17,7 +17,7 @@ use Rattle.lvm_line.specs.declared.reply.Reply.{Reply}
 use Rattle.lvm_line.specs.declared.reply.Reply.TheVariants as reply
 use Rattle.lvm_top.specs.Run.{Stream, IsRun, RanAlone}
 use Rattle.lvm_top.specs.Script.{Script, StaysAlone, entry_state}
-use Rattle.lvm_found.specs.Standing.{MayHaveCommitted, MayStand, IsShelf, AreShelves}
+use Rattle.lvm_found.specs.Standing.{MayHaveCommitted, MayStand, IsShelf, AreWhole}
 
 -- Whatever may be found after a line might be found before it, or is what the line may have committed; where nothing is under way before it nor after it,
 -- the clock is ahead of the disks, and these hold what a session says.
@@ -27,9 +27,11 @@ LineFindsNoMore =
     → IsShelf old.moment.device → IsReady old.moment.device → IsTimely log.run old → AreHeld old
     → (id : ℕ) (k : Descriptor) → MayBeFound new.moment.device id k → MayBeFound old.moment.device id k ⊎ MayHaveCommitted (line_of line) answer old new id k
 
--- A state from which a script may begin: no group is on, nothing is under way, the clock is ahead of the disks, and an earlier history is kept with them.
+-- A state from which a script may begin: no group is on, nothing is under way, the clock is ahead of the disks, of which there are at most 128, and an
+-- earlier history is kept with them.
 pub record MayStart (run : ℕ) (past : List Fact) (first : State) : Type 0 where
   pub off : first.session ≡ None
+  pub few : length first.moment.device.sizes ≤ 128
   pub ready : IsReady first.moment.device
   pub timely : IsTimely run first
   pub begins : Begins run past first.moment
@@ -38,25 +40,25 @@ pub record MayStart (run : ℕ) (past : List Fact) (first : State) : Type 0 wher
 abbrev pub ScriptFindsWhatStands : Type 0
 ScriptFindsWhatStands =
     (log : Log) (room : Room) (past : List Fact) (first : State) (lines : List (List ℕ)) (replies : List Reply) (last : State) (script : Script log room first lines replies last)
-    → MayStart log.run past first → StaysAlone script → AreShelves script
+    → MayStart log.run past first → StaysAlone script → AreWhole script
     → (id : ℕ) (k : Descriptor) → MayBeFound last.moment.device id k → MayStand script id k
 
 -- So a group that a `varyonvg` varies on thereafter has a descriptor that may stand.
 abbrev pub VaryonFindsWhatStands : Type 0
 VaryonFindsWhatStands =
     (log : Log) (room : Room) (past : List Fact) (first : State) (lines : List (List ℕ)) (replies : List Reply) (last : State) (script : Script log room first lines replies last)
-    → MayStart log.run past first → StaysAlone script → AreShelves script
+    → MayStart log.run past first → StaysAlone script → AreWhole script
     → (line name : List ℕ) (new : State) → line_of line ≡ Ok (Some (command.Varyon name)) → IsLine log room line reply.Ok last new
     → IsSomeAnd new.session (λ core. MayStand script core.descriptor.id core.descriptor)
 
 -- A run may start where nothing is under way, its moment is later than what stands on the disks, and they are kept with an earlier history.
 abbrev pub RunMayStart : Type 0
-RunMayStart = (run : ℕ) (entry : Device) (past : List Fact) → IsReady entry → IsBehind run entry → IsEarlier run entry past → MayStart run (past ++ Cut ∷ []) (entry_state entry run)
+RunMayStart = (run : ℕ) (entry : Device) (past : List Fact) → length entry.sizes ≤ 128 → IsReady entry → IsBehind run entry → IsEarlier run entry past → MayStart run (past ++ Cut ∷ []) (entry_state entry run)
 
 -- So it is of the lines of each run that were answered whole.
 abbrev pub RunFindsWhatStands : Type 0
 RunFindsWhatStands =
     (run last : ℕ) (room : Room) (entry exit : Device) (input left before after : Stream) (history : Option Log) (status refused : ℕ)
     (ran : IsRun run last room entry exit input left before after history status refused) (past : List Fact)
-    → IsReady entry → IsBehind run entry → IsEarlier run entry past → RanAlone ran → AreShelves ran.part.script
+    → length entry.sizes ≤ 128 → IsReady entry → IsBehind run entry → IsEarlier run entry past → RanAlone ran → AreWhole ran.part.script
     → (id : ℕ) (k : Descriptor) → MayBeFound ran.part.mid.moment.device id k → MayStand ran.part.script id k

@@ -84,7 +84,7 @@ pub record IsShelf (device : Device) : Type 0 where
   pub few : length device.sizes ≤ 128
   pub whole : HasSectors device
 
--- so it is where each line begins
-abbrev pub AreShelves : {log : Log} {room : Room} {first : State} {lines : List (List ℕ)} {replies : List Reply} {last : State} → Script log room first lines replies last → Type 0
-AreShelves NoLine = Unit {0}
-AreShelves (NextLine {mid = mid} line answer said goes says before does) = AreShelves before × IsShelf mid.moment.device
+-- the sectors have 512 bytes wherever a line begins, as those of each shelf do
+abbrev pub AreWhole : {log : Log} {room : Room} {first : State} {lines : List (List ℕ)} {replies : List Reply} {last : State} → Script log room first lines replies last → Type 0
+AreWhole NoLine = Unit {0}
+AreWhole (NextLine {mid = mid} line answer said goes says before does) = AreWhole before × HasSectors mid.moment.device
