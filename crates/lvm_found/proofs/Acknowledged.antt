@@ -26,6 +26,7 @@ use Rattle.lvm_group.specs.Volumes.{IsWith}
 use Rattle.lvm_core.specs.Looking.{IsNumberOf}
 use Rattle.lvm_line.specs.Groups.{VariesOn, NoVaryonWhileOn, VaryonFails, NoMemoryForLine, NoMkvgWhileOn, MakesGroup, MkvgFails}
 use Rattle.lvm_line.specs.Lines.{CommandDoes, LineDoes}
+use Rattle.lvm_line.specs.Replies.{IsStuck}
 use Rattle.lvm_line.specs.State.{State}
 use Rattle.lvm_line.specs.Volumes.{NoGroupForMklv, MakesVolume, MklvFails, NoGroupForRmlv, NoVolumeForRmlv, RemovesVolume, RmlvFails, wanted}
 use Rattle.lvm_line.specs.declared.reply.Reply.{Reply}
@@ -110,6 +111,15 @@ module _ (log : Log) (room : Room) (old new : State) where
   leaves_on (Ok (Some c)) reply.Silent acked does = absurd (cc (acked))
   leaves_on (Ok (Some c)) (reply.Lines text) acked does = absurd (cc (acked))
   leaves_on (Ok (Some c)) (reply.Refused why) acked does = absurd (cc (acked))
+
+-- something was heard of it
+pub was_heard : (read : Result (Option Command) Misfit) (answer : Reply) → is_acknowledged read answer ≡ true → IsStuck answer → ⊥
+was_heard (Err misfit) answer acked stuck = cc (acked)
+was_heard (Ok None) answer acked stuck = cc (acked)
+was_heard (Ok (Some c)) reply.Ok acked stuck = cc (stuck)
+was_heard (Ok (Some c)) reply.Silent acked stuck = cc (stuck)
+was_heard (Ok (Some c)) (reply.Lines text) acked stuck = cc (stuck)
+was_heard (Ok (Some c)) (reply.Refused why) acked stuck = cc (acked)
 
 -- ---- what then stands
 

@@ -14,9 +14,8 @@ use Rattle.lvm_core.specs.declared.refused.Cause.TheVariants as cause
 use Rattle.lvm_group.specs.Endings.{MayBeFound}
 use Rattle.lvm_group.specs.NewGroup.{NewGroup, new_group}
 use Rattle.lvm_line.specs.Disks.{patience_of_line}
-use Rattle.lvm_line.specs.Groups.{Asks, IsAsked, MkvgDoes, NoMemoryForLine, NoMkvgWhileOn, MakesGroup, MkvgFails, VaryonDoes, NoVaryonWhileOn, VariesOn, VaryonFails, asked_for, refusal_of}
+use Rattle.lvm_line.specs.Groups.{IsLit, Asks, IsAsked, MkvgDoes, NoMemoryForLine, NoMkvgWhileOn, MakesGroup, MkvgFails, VaryonDoes, NoVaryonWhileOn, VariesOn, VaryonFails, asked_for}
 use Rattle.lvm_line.specs.Moments.{IsBrokenOff}
-use Rattle.lvm_line.specs.Replies.{IsStuck}
 use Rattle.lvm_line.specs.State.{State, IsTimely, log_with}
 use Rattle.lvm_line.specs.declared.reply.Reply.{Reply}
 use Rattle.lvm_line.specs.declared.reply.Reply.TheVariants as reply
@@ -29,7 +28,7 @@ use Rattle.lvm_varyon.specs.Writing.{order}
 use Rattle.lvm_found.specs.Standing.{MayHaveCommitted, IsShelf}
 use Rattle.lvm_found.proofs.Begun.{IsIts}
 use Rattle.lvm_found.proofs.Devices.{NothingNew, then_nothing, same_nothing, fewer_nothing, unwritten_nothing}
-use Rattle.lvm_found.proofs.Making.{IsAskedFor, parts_find, refused_finds}
+use Rattle.lvm_found.proofs.Making.{IsAskedFor, none_out, parts_find, refused_finds}
 use Rattle.lvm_found.proofs.Named.{line_has_name}
 use Rattle.lvm_found.proofs.Varying.{written_nothing}
 
@@ -42,13 +41,13 @@ asked_nothing old new asked = same_nothing old.moment.device new.moment.device (
 some_moment : (last moment : ℕ) → Rose last moment → moment ≢ 0
 some_moment last moment rose none = let r = rose.risen in omega (arith, r, none)
 
-module _ (log : Log) (old new : State) (answer : Reply) (heard : IsStuck answer → ⊥) (shelf : IsShelf old.moment.device) (ready : IsReady old.moment.device) (timely : IsTimely log.run old) where
+module _ (log : Log) (old new : State) (answer : Reply) (shelf : IsShelf old.moment.device) (ready : IsReady old.moment.device) (after : IsReady new.moment.device) (timely : IsTimely log.run old) where
   behind : Asks old new → new.last < 2 ^ 64 - 1 → IsBehind new.last old.moment.device
   behind asks early = (clock_is_ahead log.run old.last new.last old.moment.device old.moment.facts asks timely.ahead early).behind
 
-  -- a refusal of which something was heard
-  not_stuck : (why : Cause) → answer ≡ reply.Refused (refusal_of why) → why ≡ cause.Stuck → ⊥
-  not_stuck why says stuck = heard (says ∙ ap (λ (c : Cause). reply.Refused (refusal_of c)) stuck)
+  -- where nothing was heard of a transfer the shelf is left as it was
+  left_still : (why : Cause) (left : Device) → IsLit why left new.moment.device → why ≡ cause.Stuck → left.flights ≡ []
+  left_still why left lit stuck = let same : new.moment.device ≡ left = subst (λ (c : Cause). IsLit c left new.moment.device) stuck lit in sym (ap (λ (d : Device). d.flights) same) ∙ after.flights
 
   -- ---- `mkvg`
 
@@ -88,7 +87,7 @@ module _ (log : Log) (old new : State) (answer : Reply) (heard : IsStuck answer 
         ⊎_elim
         (λ was. inl was)
         (λ its. inr (committed (inr (subst IsBrokenOff (sym gone.answered) its.0)) id k its.1))
-        (refused_finds w old.moment.device (asked asks) patience_of_line (log_with log old.moment.facts) is left why (not_stuck why gone.answered) refuses id k
+        (refused_finds w old.moment.device (asked asks) patience_of_line (log_with log old.moment.facts) is left why (left_still why left gone.lit) refuses id k
         (fewer_nothing left new.moment.device (lit_up why left new.moment.device rests gone.lit).fewer id k it))
 
   -- ---- `varyonvg`
@@ -98,25 +97,25 @@ module _ (log : Log) (old new : State) (answer : Reply) (heard : IsStuck answer 
       some : new.last ≢ 0
       some = some_moment old.last new.last asks
 
-      stops_nothing : (why : Cause) → (why ≡ cause.Stuck → ⊥) → Refuses old.moment.device left name new.last patience_of_line (log_with log old.moment.facts) why → NothingNew old.moment.device left
-      stops_nothing cause.HistoryFull other refuses = same_nothing old.moment.device left refuses.1
-      stops_nothing cause.NoRecord other refuses = unwritten_nothing old.moment.device left refuses.1.unwritten refuses.1.rested.ready.flights
-      stops_nothing cause.Ambiguous other refuses = unwritten_nothing old.moment.device left refuses.1.unwritten refuses.1.rested.ready.flights
-      stops_nothing (cause.NoQuorum have total) other refuses = unwritten_nothing old.moment.device left refuses.1.unwritten refuses.1.rested.ready.flights
-      stops_nothing (cause.ClockBack seen) other refuses = unwritten_nothing old.moment.device left refuses.1.unwritten refuses.1.rested.ready.flights
-      stops_nothing (cause.DiskFailed disk) other refuses =
+      stops_nothing : (why : Cause) → (why ≡ cause.Stuck → left.flights ≡ []) → Refuses old.moment.device left name new.last patience_of_line (log_with log old.moment.facts) why → NothingNew old.moment.device left
+      stops_nothing cause.HistoryFull rests refuses = same_nothing old.moment.device left refuses.1
+      stops_nothing cause.NoRecord rests refuses = unwritten_nothing old.moment.device left refuses.1.unwritten refuses.1.rested.ready.flights
+      stops_nothing cause.Ambiguous rests refuses = unwritten_nothing old.moment.device left refuses.1.unwritten refuses.1.rested.ready.flights
+      stops_nothing (cause.NoQuorum have total) rests refuses = unwritten_nothing old.moment.device left refuses.1.unwritten refuses.1.rested.ready.flights
+      stops_nothing (cause.ClockBack seen) rests refuses = unwritten_nothing old.moment.device left refuses.1.unwritten refuses.1.rested.ready.flights
+      stops_nothing (cause.DiskFailed disk) rests refuses =
           let stops = refuses.1.writes.how.stops in
           written_nothing old.moment.device left name new.last _ refuses.1 shelf some (behind asks) (stops.before ++ stops.hand ∷ []) stops.only refuses.1.writes.how.rested.ready.flights
-      stops_nothing cause.Dark other refuses = ⊎_elim
+      stops_nothing cause.Dark rests refuses = ⊎_elim
           (λ un. unwritten_nothing old.moment.device left un refuses.1.how.flights)
           (λ it. written_nothing old.moment.device left name new.last _ it shelf some (behind asks) (it.writes.how.before ++ it.writes.how.hand ∷ []) it.writes.how.only refuses.1.how.flights)
           refuses.1.when
-      stops_nothing cause.Stuck other refuses = absurd (other refl)
-      stops_nothing cause.Memory other refuses = unwritten_nothing old.moment.device left refuses.1.0 refuses.1.1.ready.flights
-      stops_nothing (cause.NoDisk disk) other refuses = absurd refuses.1
-      stops_nothing (cause.TooMany limit) other refuses = absurd refuses.1
-      stops_nothing (cause.TooSmall disk) other refuses = absurd refuses.1
-      stops_nothing cause.GroupExists other refuses = absurd refuses.1
+      stops_nothing cause.Stuck rests refuses = absurd (none_out left.flights refuses.1.how.flight (rests refl) refuses.1.how.out)
+      stops_nothing cause.Memory rests refuses = unwritten_nothing old.moment.device left refuses.1.0 refuses.1.1.ready.flights
+      stops_nothing (cause.NoDisk disk) rests refuses = absurd refuses.1
+      stops_nothing (cause.TooMany limit) rests refuses = absurd refuses.1
+      stops_nothing (cause.TooSmall disk) rests refuses = absurd refuses.1
+      stops_nothing cause.GroupExists rests refuses = absurd refuses.1
 
     pub varyon_nothing : (room : Room) → VaryonDoes log room name old new answer → NothingNew old.moment.device new.moment.device
     varyon_nothing room (NoVaryonWhileOn on says same) = asked_nothing old new same
@@ -124,5 +123,5 @@ module _ (log : Log) (old new : State) (answer : Reply) (heard : IsStuck answer 
         written_nothing old.moment.device new.moment.device name new.last _ comes.written shelf (some_moment old.last new.last asks) (behind asks) (order comes.written.group) comes.written.writes.how.keeps comes.written.writes.how.rested.ready.flights
     varyon_nothing room (VaryonFails why left asks before refuses gone) =
         let rests = (varying_leaves old.moment.device left name new.last patience_of_line (log_with log old.moment.facts) ready why refuses).rests in
-        then_nothing old.moment.device left new.moment.device (stops_nothing asks left why (not_stuck why gone.answered) refuses)
+        then_nothing old.moment.device left new.moment.device (stops_nothing asks left why (left_still why left gone.lit) refuses)
         (fewer_nothing left new.moment.device (lit_up why left new.moment.device rests gone.lit).fewer)

@@ -16,7 +16,6 @@ use Rattle.lvm_group.specs.Endings.{MayBeFound}
 use Rattle.lvm_line.specs.Disks.{patience_of_line, WriteDoes, ReadDoes, NoWriteWhileOn, WriteFaults, WriteIsDone, NoReadWhileOn, ReadFaults, ReadGets}
 use Rattle.lvm_line.specs.Groups.{VaryoffDoes, NoVaryoff, VariesOff}
 use Rattle.lvm_line.specs.Lines.{LineDoes}
-use Rattle.lvm_line.specs.Replies.{IsStuck}
 use Rattle.lvm_line.specs.Shelves.{ArrangeDoes, NotThere, NotPlanned, IsArranged, CutDoes, CutNotPlanned, PowerIsCut}
 use Rattle.lvm_line.specs.State.{State, IsTimely, AreHeld}
 use Rattle.lvm_line.specs.declared.reply.Reply.{Reply}
@@ -59,13 +58,13 @@ module _ (log : Log) (old new : State) (answer : Reply) where
   cut_nothing word (PowerIsCut planned is cut) =
       then_nothing old.moment.device cut.dark new.moment.device (fewer_nothing old.moment.device cut.dark (arrange_leaves old.moment.device cut.dark (arrange.Cut word) cut.cut)) (relit_nothing cut.dark new.moment.device cut.lit)
 
-module _ (log : Log) (room : Room) (line : List ℕ) (answer : Reply) (old new : State) (heard : IsStuck answer → ⊥) (shelf : IsShelf old.moment.device) (ready : IsReady old.moment.device) (timely : IsTimely log.run old) (held : AreHeld old) where
+module _ (log : Log) (room : Room) (line : List ℕ) (answer : Reply) (old new : State) (shelf : IsShelf old.moment.device) (ready : IsReady old.moment.device) (after : IsReady new.moment.device) (timely : IsTimely log.run old) (held : AreHeld old) where
   by_reading : (read : Result (Option Command) Misfit) → line_of line ≡ read → LineDoes log room read old new answer
       → (id : ℕ) (k : Descriptor) → MayBeFound new.moment.device id k → MayBeFound old.moment.device id k ⊎ MayHaveCommitted read answer old new id k
   by_reading (Err misfit) is does id k it = inl (same_state log old new answer does.1 id k it)
   by_reading (Ok None) is does id k it = inl (same_state log old new answer does.1 id k it)
-  by_reading (Ok (Some (command.Mkvg force name mib disks))) is does id k it = mkvg_finds log old new answer heard shelf ready timely line force name mib disks is room does id k it
-  by_reading (Ok (Some (command.Varyon name))) is does id k it = inl (varyon_nothing log old new answer heard shelf ready timely name room does id k it)
+  by_reading (Ok (Some (command.Mkvg force name mib disks))) is does id k it = mkvg_finds log old new answer shelf ready after timely line force name mib disks is room does id k it
+  by_reading (Ok (Some (command.Varyon name))) is does id k it = inl (varyon_nothing log old new answer shelf ready after timely name room does id k it)
   by_reading (Ok (Some (command.Varyoff name))) is does id k it = inl (varyoff_nothing log old new answer name does id k it)
   by_reading (Ok (Some (command.Lsvg volumes name))) is does id k it = inl (same_state log old new answer does.1 id k it)
   by_reading (Ok (Some (command.Mklv name copies mode policy group lps))) is does id k it = mklv_finds name copies mode policy group lps old new answer held does id k it
@@ -79,4 +78,4 @@ module _ (log : Log) (room : Room) (line : List ℕ) (answer : Reply) (old new :
   by_reading (Ok (Some (command.Cut word))) is does id k it = inl (cut_nothing log old new answer word does id k it)
 
 pub line_finds_no_more : LineFindsNoMore
-line_finds_no_more log room line answer old new it heard shelf ready timely held = by_reading log room line answer old new heard shelf ready timely held (line_of line) refl it.does
+line_finds_no_more log room line answer old new it shelf ready after timely held = by_reading log room line answer old new shelf ready after timely held (line_of line) refl it.does

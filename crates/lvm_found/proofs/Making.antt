@@ -7,7 +7,7 @@ use Rattle.lvm_num.specs.declared.descriptor.Descriptor.{Descriptor}
 use Rattle.lvm_num.specs.Descriptor.{is_size}
 use Rattle.lvm_num.specs.Geometry.{data_start, partition_blocks}
 use Rattle.lvm_num.specs.Name.{is_name}
-use Rattle.lvm_disk.specs.Device.{Media, Device, IsReady, image_of}
+use Rattle.lvm_disk.specs.Device.{Media, Flight, Device, IsReady, image_of}
 use Rattle.lvm_vol.specs.Log.{Log}
 use Rattle.lvm_stamps.specs.Behind.{IsBehind}
 use Rattle.lvm_quorum.specs.declared.homes.Homes.{Homes}
@@ -26,6 +26,10 @@ use Rattle.lvm_line.specs.declared.reply.Reply.TheVariants as reply
 use Rattle.lvm_found.specs.Standing.{IsShelf}
 use Rattle.lvm_found.proofs.Begun.{MayDescribe, IsIts, begun_finds}
 use Rattle.lvm_found.proofs.Devices.{same_nothing, unwritten_nothing}
+
+-- nothing is out, so no flight is
+pub none_out : (flights : List Flight) (f : Flight) → flights ≡ [] → flights ≡ f ∷ [] → ⊥
+none_out flights f none one = cc
 
 -- ---- the size of its partitions
 
@@ -109,19 +113,20 @@ module _ (w : NewGroup) (old : Device) (asked : IsAskedFor w old) where
     breaks_find begun breaks still why broken id k it =
         ⊎_elim (λ before. inl before) (λ its. inr (broken, its)) (parts_find was left breaks.clear breaks.homes breaks.spares (breaks.stops.before ++ breaks.stops.hand ∷ []) breaks.stops.only still id k it)
 
-    pub refused_finds : (why : Cause) → (why ≡ cause.Stuck → ⊥) → Refuses w patience was is old left why → FoundBy left why
-    refused_finds (cause.NoDisk disk) heard refuses id k it = inl (same_nothing old left refuses.0.shelf id k it)
-    refused_finds (cause.TooMany limit) heard refuses id k it = inl (same_nothing old left refuses.0.shelf id k it)
-    refused_finds (cause.TooSmall disk) heard refuses id k it = inl (same_nothing old left refuses.0.shelf id k it)
-    refused_finds cause.HistoryFull heard refuses id k it = inl (same_nothing old left refuses.0.shelf id k it)
-    refused_finds (cause.DiskFailed disk) heard (inl unread) id k it = inl (unwritten_nothing old left unread.read.unwritten unread.read.rested.ready.flights id k it)
-    refused_finds (cause.DiskFailed disk) heard (inr unwritten) id k it = breaks_find is unwritten.breaks unwritten.rested.ready.flights (cause.DiskFailed disk) tt id k it
-    refused_finds cause.GroupExists heard refuses id k it = inl (unwritten_nothing old left refuses.0.unwritten refuses.0.rested.ready.flights id k it)
-    refused_finds (cause.ClockBack seen) heard refuses id k it = inl (unwritten_nothing old left refuses.0.unwritten refuses.0.rested.ready.flights id k it)
-    refused_finds cause.Dark heard (inl reading) id k it = inl (unwritten_nothing old left reading.unwritten reading.cut.flights id k it)
-    refused_finds cause.Dark heard (inr writing) id k it = breaks_find writing.begun writing.breaks writing.cut.flights cause.Dark tt id k it
-    refused_finds cause.Stuck heard refuses id k it = absurd (heard refl)
-    refused_finds cause.Memory heard refuses id k it = inl (unwritten_nothing old left refuses.unwritten refuses.rested.ready.flights id k it)
-    refused_finds cause.NoRecord heard refuses id k it = absurd refuses
-    refused_finds cause.Ambiguous heard refuses id k it = absurd refuses
-    refused_finds (cause.NoQuorum have total) heard refuses id k it = absurd refuses
+    pub refused_finds : (why : Cause) → (why ≡ cause.Stuck → left.flights ≡ []) → Refuses w patience was is old left why → FoundBy left why
+    refused_finds (cause.NoDisk disk) rests refuses id k it = inl (same_nothing old left refuses.0.shelf id k it)
+    refused_finds (cause.TooMany limit) rests refuses id k it = inl (same_nothing old left refuses.0.shelf id k it)
+    refused_finds (cause.TooSmall disk) rests refuses id k it = inl (same_nothing old left refuses.0.shelf id k it)
+    refused_finds cause.HistoryFull rests refuses id k it = inl (same_nothing old left refuses.0.shelf id k it)
+    refused_finds (cause.DiskFailed disk) rests (inl unread) id k it = inl (unwritten_nothing old left unread.read.unwritten unread.read.rested.ready.flights id k it)
+    refused_finds (cause.DiskFailed disk) rests (inr unwritten) id k it = breaks_find is unwritten.breaks unwritten.rested.ready.flights (cause.DiskFailed disk) tt id k it
+    refused_finds cause.GroupExists rests refuses id k it = inl (unwritten_nothing old left refuses.0.unwritten refuses.0.rested.ready.flights id k it)
+    refused_finds (cause.ClockBack seen) rests refuses id k it = inl (unwritten_nothing old left refuses.0.unwritten refuses.0.rested.ready.flights id k it)
+    refused_finds cause.Dark rests (inl reading) id k it = inl (unwritten_nothing old left reading.unwritten reading.cut.flights id k it)
+    refused_finds cause.Dark rests (inr writing) id k it = breaks_find writing.begun writing.breaks writing.cut.flights cause.Dark tt id k it
+    refused_finds cause.Stuck rests (inl reading) id k it = absurd (none_out left.flights reading.stuck.flight (rests refl) reading.stuck.out)
+    refused_finds cause.Stuck rests (inr writing) id k it = absurd (none_out left.flights writing.stuck.flight (rests refl) writing.stuck.flights)
+    refused_finds cause.Memory rests refuses id k it = inl (unwritten_nothing old left refuses.unwritten refuses.rested.ready.flights id k it)
+    refused_finds cause.NoRecord rests refuses id k it = absurd refuses
+    refused_finds cause.Ambiguous rests refuses id k it = absurd refuses
+    refused_finds (cause.NoQuorum have total) rests refuses id k it = absurd refuses

@@ -4,7 +4,7 @@ use Rattle.std.specs.Prelude.{IsSome, IsSomeAnd, IfSome}
 use Rattle.std.proofs.lemmas.List.{append-nil}
 use Rattle.std.proofs.lemmas.List.Sums.{sum_by-append}
 use Rattle.lvm_num.specs.declared.descriptor.Descriptor.{Descriptor}
-use Rattle.lvm_disk.specs.Device.{Device, IsReady}
+use Rattle.lvm_disk.specs.Device.{Device, IsReady, HasSectors}
 use Rattle.lvm_disk.specs.Paths.{Path, Here, Then}
 use Rattle.lvm_disk.proofs.Paths.{last-path}
 use Rattle.lvm_disk.proofs.Stepping.{step_same}
@@ -31,15 +31,16 @@ use Rattle.lvm_core.specs.State.{Core}
 use Rattle.lvm_group.specs.Endings.{MayBeFound}
 use Rattle.lvm_line.specs.Groups.{VaryonDoes, NoVaryonWhileOn, VariesOn, VaryonFails}
 use Rattle.lvm_line.specs.Lines.{LineDoes, IsLine}
+use Rattle.lvm_line.specs.Moments.{IsAlone}
 use Rattle.lvm_line.specs.Replies.{IsStuck}
 use Rattle.lvm_line.specs.State.{State, AreHeld}
 use Rattle.lvm_line.specs.declared.reply.Reply.{Reply}
 use Rattle.lvm_line.specs.declared.reply.Reply.TheVariants as reply
-use Rattle.lvm_top.specs.Script.{Script, NoLine, NextLine, StaysAlone, entry_state, empty_log}
+use Rattle.lvm_top.specs.Script.{Says, Script, NoLine, NextLine, StaysAlone, Ends, AtLine, InLine, EndsAlone, entry_state, empty_log}
 use Rattle.lvm_top.proofs.Scripting.{script_went, begins_timely}
 use Rattle.lvm_found.specs.Laws.{MayStart, ScriptFindsWhatStands, VaryonFindsWhatStands, RunMayStart, RunFindsWhatStands}
-use Rattle.lvm_found.specs.Standing.{MayHaveCommitted, is_acknowledged, StandsOf, StandsAfter, MayStand, AreWhole}
-use Rattle.lvm_found.proofs.Acknowledged.{only_committed, leaves_on, stands_of}
+use Rattle.lvm_found.specs.Standing.{MayHaveCommitted, is_acknowledged, StandsOf, StandsAfter, MayStand, MayStandAtEnd, AreWhole}
+use Rattle.lvm_found.proofs.Acknowledged.{only_committed, leaves_on, was_heard, stands_of}
 use Rattle.lvm_found.proofs.Lines.{line_finds_no_more}
 use Rattle.lvm_found.proofs.Varying.{was_found}
 
@@ -70,7 +71,7 @@ module _ (log : Log) (room : Room) (past : List Fact) (first : State) (begin : M
   images_kept script alone = (last-path ((script_went log room first script).keeps begin.timely first_held alone) past begin.begins).kept
 
   -- what an acknowledged group command leaves
-  acknowledged : {lines : List (List ℕ)} {replies : List Reply} {mid new : State} (line : List ℕ) (answer said : Reply) (heard : IsStuck answer → ⊥) (says : _) (before : Script log room first lines replies mid) (it : IsLine log room line answer mid new)
+  acknowledged : {lines : List (List ℕ)} {replies : List Reply} {mid new : State} (line : List ℕ) (answer said : Reply) (heard : IsStuck answer → ⊥) (says : Says answer said) (before : Script log room first lines replies mid) (it : IsLine log room line answer mid new)
       → StaysAlone (NextLine line answer said heard says before it) → is_acknowledged (line_of line) answer ≡ true
       → (id : ℕ) (k : Descriptor) → MayBeFound new.moment.device id k → MayStand before id k ⊎ MayHaveCommitted (line_of line) answer mid new id k
       → IsSomeAnd new.session (λ core. StandsOf core (MayStand before) id k)
@@ -86,22 +87,28 @@ module _ (log : Log) (room : Room) (past : List Fact) (first : State) (begin : M
       (λ same. only_committed new.moment.device on.core (past ++ new.moment.facts) idle held settled.ready.flights kept k (subst (λ (i : ℕ). MayBeFound new.moment.device i k) same found))
       (⊎_elim (λ stood. inl stood) (λ committed. inr (committed.own, on.own k committed.is)) which))
 
-  pub stands : {lines : List (List ℕ)} {replies : List Reply} {last : State} (script : Script log room first lines replies last) → StaysAlone script → AreWhole script
-      → (id : ℕ) (k : Descriptor) → MayBeFound last.moment.device id k → MayStand script id k
-  stands NoLine alone whole id k it = it
-  stands (NextLine {mid = mid} {new = new} line answer said heard says before it) alone whole id k found =
+  -- what a line leaves after which nothing is under way
+  line_stands : {lines : List (List ℕ)} {replies : List Reply} {mid new : State} (line : List ℕ) (answer said : Reply) (says : Says answer said) (before : Script log room first lines replies mid) (it : IsLine log room line answer mid new)
+      → IsReady new.moment.device → StaysAlone before × IsAlone answer mid new → HasSectors mid.moment.device → ((id : ℕ) (k : Descriptor) → MayBeFound mid.moment.device id k → MayStand before id k)
+      → (id : ℕ) (k : Descriptor) → MayBeFound new.moment.device id k → StandsAfter (is_acknowledged (line_of line) answer) (line_of line) answer mid new (MayStand before) id k
+  line_stands {mid = mid} {new = new} line answer said says before it after alone whole stood id k found =
       let went = script_went log room first before in
       let few : length mid.moment.device.sizes ≤ 128 = subst (λ (sizes : List ℕ). length sizes ≤ 128) (sym (span_sizes (went.keeps begin.timely first_held alone.0))) begin.few in
-      let which = ⊎_elim
-      (λ was. inl (stands before alone.0 whole.0 id k was))
+      by_answer (is_acknowledged (line_of line) answer) refl (⊎_elim
+      (λ was. inl (stood id k was))
       (λ committed. inr committed)
-      (line_finds_no_more log room line answer mid new it heard (record { few = few; whole = whole.1 }) (script_ready log room first before begin.ready) (went.timely begin.timely) (went.held begin.timely first_held) id k found) in
-      by_answer (is_acknowledged (line_of line) answer) refl which
+      (line_finds_no_more log room line answer mid new it (record { few = few; whole = whole }) (script_ready log room first before begin.ready) after (went.timely begin.timely) (went.held begin.timely first_held) id k found))
     where
       by_answer : (t : Bool) → is_acknowledged (line_of line) answer ≡ t → MayStand before id k ⊎ MayHaveCommitted (line_of line) answer mid new id k
           → StandsAfter t (line_of line) answer mid new (MayStand before) id k
-      by_answer true acked which = acknowledged line answer said heard says before it alone acked id k found which
+      by_answer true acked which = acknowledged line answer said (was_heard (line_of line) answer acked) says before it alone acked id k found which
       by_answer false other which = which
+
+  pub stands : {lines : List (List ℕ)} {replies : List Reply} {last : State} (script : Script log room first lines replies last) → StaysAlone script → AreWhole script
+      → (id : ℕ) (k : Descriptor) → MayBeFound last.moment.device id k → MayStand script id k
+  stands NoLine alone whole id k it = it
+  stands (NextLine line answer said heard says before it) alone whole id k found =
+      line_stands line answer said says before it (it.goes.settled heard).ready alone whole.1 (stands before alone.0 whole.0) id k found
 
   -- what is told at first is told after the lines
   last_told : {lines : List (List ℕ)} {replies : List Reply} {last : State} (script : Script log room first lines replies last) → StaysAlone script → IsSome last.moment.device.media
@@ -151,6 +158,17 @@ begins_run run device past earlier =
 pub run_may_start : RunMayStart
 run_may_start run entry past few ready behind earlier = record { off = refl; few = few; ready = ready; timely = begins_timely run entry behind; begins = begins_run run entry past earlier }
 
+-- where it ends
+module _ (log : Log) (room : Room) (past : List Fact) (first : State) (begin : MayStart log.run past first) {lines : List (List ℕ)} {replies : List Reply} {mid : State}
+    (script : Script log room first lines replies mid) (whole : AreWhole script) (sectors : HasSectors mid.moment.device) where
+  end_stands : {last : State} {done : List (List ℕ)} {said : List Reply} {front : List ℕ} (ends : Ends log room mid last done said front) → StaysAlone script × EndsAlone ends → IsReady last.moment.device
+      → (id : ℕ) (k : Descriptor) → MayBeFound last.moment.device id k → MayStandAtEnd ends (MayStand script) id k
+  end_stands (AtLine same) alone after id k found = stands log room past first begin script alone.0 whole id k (subst (λ (s : State). MayBeFound s.moment.device id k) same found)
+  end_stands (InLine line answer said front rest says split it) alone after id k found =
+      line_stands log room past first begin line answer said says script it after alone sectors (stands log room past first begin script alone.0 whole) id k found
+
 pub run_finds : RunFindsWhatStands
-run_finds run last room entry exit input left before after history status refused ran past few ready behind earlier alone whole =
-    stands (empty_log run room) room (past ++ Cut ∷ []) (entry_state entry run) (run_may_start run entry past few ready behind earlier) ran.part.script alone.0 whole
+run_finds run last room entry exit input left before after history status refused ran past few ready behind earlier alone whole sectors heard id k found =
+    let same : ran.end.moment.device ≡ exit = ap (λ (m : Moment). m.device) ran.closed.moment in
+    end_stands (empty_log run room) room (past ++ Cut ∷ []) (entry_state entry run) (run_may_start run entry past few ready behind earlier) ran.part.script whole sectors ran.part.ends alone
+    (subst IsReady (sym same) (ran.ready heard)) id k (subst (λ (d : Device). MayBeFound d id k) (sym same) found)

@@ -1,7 +1,7 @@
 -- The descriptor that a later `varyonvg` finds is that of the last acknowledged command on its group, or one that was being committed since.
 use Rattle.std.specs.Prelude.{◌≡◌, ◌⊎◌, ◌≤◌, ◌++◌, ◌∷◌, ℕ, [], List, Option, Some, None, Ok, IsSomeAnd, length}
 use Rattle.lvm_num.specs.declared.descriptor.Descriptor.{Descriptor}
-use Rattle.lvm_disk.specs.Device.{Device, IsReady}
+use Rattle.lvm_disk.specs.Device.{Device, IsReady, HasSectors}
 use Rattle.lvm_vol.specs.Facts.{Fact, Cut}
 use Rattle.lvm_vol.specs.Log.{Log}
 use Rattle.lvm_parse.specs.declared.command.Command.TheVariants as command
@@ -11,20 +11,19 @@ use Rattle.lvm_stamps.specs.Behind.{IsBehind}
 use Rattle.lvm_core.specs.declared.parts.Room.{Room}
 use Rattle.lvm_group.specs.Endings.{MayBeFound}
 use Rattle.lvm_line.specs.Lines.{IsLine}
-use Rattle.lvm_line.specs.Replies.{IsStuck}
 use Rattle.lvm_line.specs.State.{State, IsTimely, AreHeld}
 use Rattle.lvm_line.specs.declared.reply.Reply.{Reply}
 use Rattle.lvm_line.specs.declared.reply.Reply.TheVariants as reply
 use Rattle.lvm_top.specs.Run.{Stream, IsRun, RanAlone}
 use Rattle.lvm_top.specs.Script.{Script, StaysAlone, entry_state}
-use Rattle.lvm_found.specs.Standing.{MayHaveCommitted, MayStand, IsShelf, AreWhole}
+use Rattle.lvm_found.specs.Standing.{MayHaveCommitted, MayStand, MayStandAtEnd, IsShelf, AreWhole}
 
 -- Whatever may be found after a line might be found before it, or is what the line may have committed; where nothing is under way before it nor after it,
 -- the clock is ahead of the disks, and these hold what a session says.
 abbrev pub LineFindsNoMore : Type 0
 LineFindsNoMore =
-    (log : Log) (room : Room) (line : List ℕ) (answer : Reply) (old new : State) → IsLine log room line answer old new → (IsStuck answer → ⊥)
-    → IsShelf old.moment.device → IsReady old.moment.device → IsTimely log.run old → AreHeld old
+    (log : Log) (room : Room) (line : List ℕ) (answer : Reply) (old new : State) → IsLine log room line answer old new
+    → IsShelf old.moment.device → IsReady old.moment.device → IsReady new.moment.device → IsTimely log.run old → AreHeld old
     → (id : ℕ) (k : Descriptor) → MayBeFound new.moment.device id k → MayBeFound old.moment.device id k ⊎ MayHaveCommitted (line_of line) answer old new id k
 
 -- A state from which a script may begin: no group is on, nothing is under way, the clock is ahead of the disks, of which there are at most 128, and an
@@ -55,10 +54,10 @@ VaryonFindsWhatStands =
 abbrev pub RunMayStart : Type 0
 RunMayStart = (run : ℕ) (entry : Device) (past : List Fact) → length entry.sizes ≤ 128 → IsReady entry → IsBehind run entry → IsEarlier run entry past → MayStart run (past ++ Cut ∷ []) (entry_state entry run)
 
--- So it is of the lines of each run that were answered whole.
+-- So it is at the end of each run after which nothing is under way.
 abbrev pub RunFindsWhatStands : Type 0
 RunFindsWhatStands =
     (run last : ℕ) (room : Room) (entry exit : Device) (input left before after : Stream) (history : Option Log) (status refused : ℕ)
     (ran : IsRun run last room entry exit input left before after history status refused) (past : List Fact)
-    → length entry.sizes ≤ 128 → IsReady entry → IsBehind run entry → IsEarlier run entry past → RanAlone ran → AreWhole ran.part.script
-    → (id : ℕ) (k : Descriptor) → MayBeFound ran.part.mid.moment.device id k → MayStand ran.part.script id k
+    → length entry.sizes ≤ 128 → IsReady entry → IsBehind run entry → IsEarlier run entry past → RanAlone ran → AreWhole ran.part.script → HasSectors ran.part.mid.moment.device → (status ≡ 6 → ⊥)
+    → (id : ℕ) (k : Descriptor) → MayBeFound exit id k → MayStandAtEnd ran.part.ends (MayStand ran.part.script) id k

@@ -20,7 +20,7 @@ use Rattle.lvm_line.specs.State.{State}
 use Rattle.lvm_line.specs.Volumes.{wanted}
 use Rattle.lvm_line.specs.declared.reply.Reply.{Reply}
 use Rattle.lvm_line.specs.declared.reply.Reply.TheVariants as reply
-use Rattle.lvm_top.specs.Script.{Script, NoLine, NextLine}
+use Rattle.lvm_top.specs.Script.{Script, NoLine, NextLine, Ends, AtLine, InLine}
 
 -- ---- one line
 
@@ -76,6 +76,11 @@ StandsAfter false read answer old new Before id k = Before id k ⊎ MayHaveCommi
 abbrev pub MayStand : {log : Log} {room : Room} {first : State} {lines : List (List ℕ)} {replies : List Reply} {last : State} → Script log room first lines replies last → ℕ → Descriptor → Type 0
 MayStand {first = first} NoLine id k = MayBeFound first.moment.device id k
 MayStand (NextLine {mid = mid} {new = new} line answer said goes says before does) id k = StandsAfter (is_acknowledged (line_of line) answer) (line_of line) answer mid new (MayStand before) id k
+
+-- What may stand once a run has ended behind these lines, perhaps in one line more whose reply wasn't written in full.
+abbrev pub MayStandAtEnd : {log : Log} {room : Room} {mid last : State} {done : List (List ℕ)} {said : List Reply} {front : List ℕ} → Ends log room mid last done said front → (ℕ → Descriptor → Type 0) → ℕ → Descriptor → Type 0
+MayStandAtEnd (AtLine same) Before id k = Before id k
+MayStandAtEnd {mid = mid} {last = last} (InLine line answer said front rest says split does) Before id k = StandsAfter (is_acknowledged (line_of line) answer) (line_of line) answer mid last Before id k
 
 -- ---- shelves
 

@@ -6,7 +6,7 @@ pub fn lines_find_no_more()
     ensures { LineFindsNoMore }
 {}
 
-/// After the lines of a script, and of a run, what may be found of a group is what the last acknowledged command on it has
+/// After the lines of a script, and at the end of a run, what may be found of a group is what the last acknowledged command on it has
 /// committed, or what was being committed since, and so is what a `varyonvg` then finds.
 pub fn scripts_find_what_stands()
     ensures stands { ScriptFindsWhatStands }
