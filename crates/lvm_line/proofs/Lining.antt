@@ -1,5 +1,6 @@
 -- Lines, by how they are read.
 use Rattle.std.proofs.Common.{◌≡◌, ℕ, List, Option, Some, Result, Ok, sym, ap, subst}
+use Rattle.lvm_disk.specs.Device.{HasSectors}
 use Rattle.lvm_vol.specs.Log.{Log}
 use Rattle.lvm_parse.specs.declared.command.Command.{Command}
 use Rattle.lvm_parse.specs.declared.command.Command.TheVariants as command
@@ -19,26 +20,29 @@ use Rattle.lvm_line.proofs.Going.{same_goes, asked_goes}
 -- a line that is read so
 pub line_read :
     (log : Log) (room : Room) (line : List ℕ) (read : Result (Option Command) Misfit) (answer : Reply) (old new : State) → line_of line ≡ read → LineDoes log room read old new answer → GoesOn log.run answer old new
-    → ((IsOrder read → ⊥) → new.moment.device.orders ≡ old.moment.device.orders) → IsLine log room line answer old new
-line_read log room line read answer old new is does goes orders = record {
+    → ((IsOrder read → ⊥) → new.moment.device.orders ≡ old.moment.device.orders) → HasSectors old.moment.device → IsLine log room line answer old new
+line_read log room line read answer old new is does goes orders whole = record {
   does = subst (λ (r : Result (Option Command) Misfit). LineDoes log room r old new answer) (sym is) does;
   goes = goes;
   orders = subst (λ (r : Result (Option Command) Misfit). (IsOrder r → ⊥) → new.moment.device.orders ≡ old.moment.device.orders) (sym is) orders;
+  whole = whole;
 }
 
 -- a line that changes nothing
 pub line_still :
     (log : Log) (room : Room) (line : List ℕ) (read : Result (Option Command) Misfit) (answer : Reply) (old new : State) → line_of line ≡ read → LineDoes log room read old new answer → IsSettled old.moment old.session → new ≡ old
-    → IsLine log room line answer old new
-line_still log room line read answer old new is does settled same =
-    line_read log room line read answer old new is does (same_goes log.run answer old new settled same) (λ no_order. ap (λ (s : State). s.moment.device.orders) same)
+    → HasSectors old.moment.device → IsLine log room line answer old new
+line_still log room line read answer old new is does settled same whole =
+    line_read log room line read answer old new is does (same_goes log.run answer old new settled same) (λ no_order. ap (λ (s : State). s.moment.device.orders) same) whole
 
 -- a line for which no memory was found
-pub line_unread : (log : Log) (room : Room) (line : List ℕ) (answer : Reply) (old new : State) → IsMkvgLine (line_of line) → answer ≡ reply.Refused refusal.Memory → IsAsked old new → IsSettled old.moment old.session → IsLine log room line answer old new
-line_unread log room line answer old new mkvg says asked settled = record {
+pub line_unread : (log : Log) (room : Room) (line : List ℕ) (answer : Reply) (old new : State) → IsMkvgLine (line_of line) → answer ≡ reply.Refused refusal.Memory → IsAsked old new → IsSettled old.moment old.session
+    → HasSectors old.moment.device → IsLine log room line answer old new
+line_unread log room line answer old new mkvg says asked settled whole = record {
   does = of_mkvg (line_of line) mkvg;
   goes = asked_goes log.run answer old new settled asked;
   orders = λ no_order. ap (λ (s : State). s.moment.device.orders) asked.same;
+  whole = whole;
 }
   where
     of_mkvg : (read : Result (Option Command) Misfit) → IsMkvgLine read → LineDoes log room read old new answer

@@ -1,13 +1,15 @@
 -- `mklv` and `rmlv` on the session of the group that is on.
 use Rattle.std.proofs.Common.{◌≡◌, ℕ, Bool, true, false, IsTrue, IsFalse, Err, refl, sym, ◌∙◌, ap, subst}
+use Rattle.lvm_num.specs.declared.place.Pp.{Pp}
 use Rattle.lvm_num.specs.declared.descriptor.Descriptor.{Descriptor}
 use Rattle.lvm_disk.specs.Device.{Device}
+use Rattle.lvm_quorum.specs.Written.{KeepsShelf}
 use Rattle.lvm_core.specs.Settled.{IsSettled as IsSettledCore}
 use Rattle.lvm_core.specs.Sound.{HaveAllLanded}
-use Rattle.lvm_core.specs.State.{Core, State as Session, state}
+use Rattle.lvm_core.specs.State.{Core, State as Session, state, is_there}
 use Rattle.lvm_group.specs.declared.fault.GroupFault.{GroupFault}
 use Rattle.lvm_group.specs.declared.fault.GroupFault.TheVariants as fault
-use Rattle.lvm_group.specs.Endings.{IfOn, StillHeld, FindsOnly}
+use Rattle.lvm_group.specs.Endings.{IfOn, StillHeld, FindsOnly, IsOfCommand, KeepsStatus}
 use Rattle.lvm_line.specs.Disks.{patience_of_line}
 use Rattle.lvm_line.specs.Moments.{GoesOn}
 use Rattle.lvm_line.specs.Stages.{shelf_in, history_in, state_in, IsSettledStage, Between}
@@ -46,22 +48,26 @@ module _ {S : Type 0} (device : S → Device) (was is : S × Core) (settled : Is
   stays : (it : Stage S) → it ≡ stage.On is → (last : ℕ) → StaysOn (session_of device is) (state_in device it last)
   stays it same last = subst (λ (s : Stage S). StaysOn (session_of device is) (state_in device s last)) (sym same) (record { device = refl; facts = refl; session = refl })
 
-  -- by what was answered, and by what may be found afterwards
-  module _ (Gives : Session → Session → Type 0) (IsNext : Core → Descriptor → Type 0) (gives : Gives (session_of device was) (session_of device is)) (finds : FindsOnly (IsNext was.1) (session_of device was) (session_of device is)) where
-    pub answered_done : (it : Stage S) → it ≡ stage.On is → (last : ℕ) → IsDone Gives IsNext false was.1 (state_in device (stage.On was) last) (state_in device it last)
+  -- by what was answered, what may be found afterwards, and what was written
+  module _ (Gives : Session → Session → Type 0) (IsNext : Core → Descriptor → Type 0) (IsPlace : Core → Pp → Type 0) (gives : Gives (session_of device was) (session_of device is)) (finds : FindsOnly (IsNext was.1) (session_of device was) (session_of device is))
+      (status : KeepsStatus (IsPlace was.1) (session_of device was) (session_of device is))
+      (writes : KeepsShelf (is_there was.1) (IsOfCommand (IsNext was.1) (IsPlace was.1) (session_of device was) (session_of device is)) (device was.0) (device is.0)) where
+    pub answered_done : (it : Stage S) → it ≡ stage.On is → (last : ℕ) → IsDone Gives IsNext IsPlace false was.1 (state_in device (stage.On was) last) (state_in device it last)
     answered_done it same last = record {
       on = settled.session.power;
       left = session_of device is;
       gives = gives;
       leaves = stays it same last;
       finds = subst (λ (s : Stage S). FindsOnly (IsNext was.1) (session_of device was) (state (device (shelf_in s)) is.1)) (sym same) finds;
+      status = status;
+      writes = writes;
       clock = refl;
     }
 
-    pub failed_done : (why : GroupFault) (it : Stage S) → LeftSo device is why it → Facts why patience_of_line (session_of device was) (session_of device is) → (last : ℕ) → IsDone Gives IsNext (ends_session why) was.1 (state_in device (stage.On was) last) (state_in device it last)
+    pub failed_done : (why : GroupFault) (it : Stage S) → LeftSo device is why it → Facts why patience_of_line (session_of device was) (session_of device is) → (last : ℕ) → IsDone Gives IsNext IsPlace (ends_session why) was.1 (state_in device (stage.On was) last) (state_in device it last)
     failed_done why it so facts last = go (ends_session why) refl
       where
-        go : (b : Bool) → ends_session why ≡ b → IsDone Gives IsNext b was.1 (state_in device (stage.On was) last) (state_in device it last)
+        go : (b : Bool) → ends_session why ≡ b → IsDone Gives IsNext IsPlace b was.1 (state_in device (stage.On was) last) (state_in device it last)
         go true ends =
             let lit = lit_after patience_of_line (session_of device was) (session_of device is) why (device (shelf_in it)) facts ends (so.over ends last).lit in
             record {
@@ -70,6 +76,8 @@ module _ {S : Type 0} (device : S → Device) (was is : S × Core) (settled : Is
               gives = gives;
               leaves = so.over ends last;
               finds = λ held id k may. finds held id k (may.0, lit.fewer may.0 may.1, may.2);
+              status = status;
+              writes = writes;
               clock = refl;
             }
         go false goes = answered_done it (so.on goes) last

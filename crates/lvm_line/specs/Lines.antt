@@ -3,6 +3,7 @@ use Rattle.std.specs.Prelude.{◌≡◌, ◌≢◌, ◌≤◌, ℕ, List, Option
 use Rattle.std.specs.Option.{ForSome}
 use Rattle.lvm_num.specs.Descriptor.{is_size}
 use Rattle.lvm_num.specs.declared.descriptor.Mode.TheVariants.{Off}
+use Rattle.lvm_disk.specs.Device.{HasSectors}
 use Rattle.lvm_disk.specs.declared.shelf.Arrange.TheVariants as arrange
 use Rattle.lvm_vol.specs.Log.{Log}
 use Rattle.lvm_parse.specs.declared.command.Command.{Command}
@@ -63,8 +64,9 @@ IsOrder (Ok (Some (command.Heal disk))) = Unit {0}
 IsOrder (Ok (Some (command.Cut word))) = Unit {0}
 IsOrder other = ⊥
 
--- a line joins two states
+-- A line joins two states, of a shelf whose sectors are 512 bytes each.
 pub record IsLine (log : Log) (room : Room) (line : List ℕ) (answer : Reply) (old new : State) : Type 0 where
   pub does : LineDoes log room (line_of line) old new answer
   pub goes : GoesOn log.run answer old new
   pub orders : (IsOrder (line_of line) → ⊥) → new.moment.device.orders ≡ old.moment.device.orders
+  pub whole : HasSectors old.moment.device

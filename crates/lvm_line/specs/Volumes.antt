@@ -3,16 +3,18 @@ use Rattle.std.specs.Prelude.{◌≡◌, ℕ, Bool, true, false, List, Some, Non
 use Rattle.lvm_num.specs.declared.descriptor.Descriptor.{Descriptor}
 use Rattle.lvm_num.specs.declared.descriptor.Mode.{Mode}
 use Rattle.lvm_num.specs.declared.descriptor.Policy.{Policy}
+use Rattle.lvm_num.specs.declared.place.Pp.{Pp}
 use Rattle.lvm_move.specs.Transfer.{Relights}
+use Rattle.lvm_quorum.specs.Written.{KeepsShelf}
 use Rattle.lvm_core.specs.Looking.{IsNumberOf, HasNoVolume}
 use Rattle.lvm_core.specs.declared.request.Power.TheVariants as power
-use Rattle.lvm_core.specs.State.{Core, State as Session, state}
+use Rattle.lvm_core.specs.State.{Core, State as Session, state, is_there}
 use Rattle.lvm_group.specs.declared.fault.GroupFault.{GroupFault}
 use Rattle.lvm_group.specs.declared.fault.GroupFault.TheVariants as fault
 use Rattle.lvm_group.specs.declared.new_volume.NewVolume.{NewVolume}
 use Rattle.lvm_group.specs.NewVolume.{without_volume}
-use Rattle.lvm_group.specs.Endings.{FindsOnly}
-use Rattle.lvm_group.specs.Volumes.{IsWith, MklvGives, RmlvGives}
+use Rattle.lvm_group.specs.Endings.{FindsOnly, IsOfCommand, KeepsStatus}
+use Rattle.lvm_group.specs.Volumes.{IsWith, IsChosen, MklvGives, RmlvGives}
 use Rattle.lvm_line.specs.Disks.{patience_of_line}
 use Rattle.lvm_line.specs.Listings.{IsOn, IsNotOn}
 use Rattle.lvm_line.specs.Replies.{IsRefused}
@@ -76,22 +78,25 @@ abbrev pub wanted : List ℕ → ℕ → Mode → Policy → ℕ → NewVolume
 wanted name copies mode policy lps = record { name = name; copies = copies; mode = mode; policy = policy; lps = lps }
 
 -- The command on the session, which was on, was answered so, the clock wasn't asked, and of descriptors none may be found then that might not be before,
--- but the one that was to be committed.
-pub record IsDone (Gives : Session → Session → Type 0) (IsNext : Core → Descriptor → Type 0) (over : Bool) (core : Core) (old new : State) : Type 0 where
+-- but the one that was to be committed. Only statuses of the session, that descriptor, and zeros in these partitions were written to members; a member
+-- became missing only after a transfer to it had failed, and a partition only of these was made fresh.
+pub record IsDone (Gives : Session → Session → Type 0) (IsNext : Core → Descriptor → Type 0) (IsPlace : Core → Pp → Type 0) (over : Bool) (core : Core) (old new : State) : Type 0 where
   pub on : core.power ≡ power.On
   pub left : Session
   pub gives : Gives (state old.moment.device core) left
   pub leaves : IsLeft over left new
   pub finds : FindsOnly (IsNext core) (state old.moment.device core) (state new.moment.device left.core)
+  pub status : KeepsStatus (IsPlace core) (state old.moment.device core) left
+  pub writes : KeepsShelf (is_there core) (IsOfCommand (IsNext core) (IsPlace core) (state old.moment.device core) left) old.moment.device left.device
   pub clock : new.last ≡ old.last
 
 -- so was `mklv`
 abbrev pub MklvEnds : NewVolume → Result ℕ GroupFault → Bool → Core → State → State → Type 0
-MklvEnds w given over core old new = IsDone (λ was is. MklvGives w patience_of_line was is given) (IsWith w) over core old new
+MklvEnds w given over core old new = IsDone (λ was is. MklvGives w patience_of_line was is given) (IsWith w) (IsChosen w) over core old new
 
 -- so was `rmlv`
 abbrev pub RmlvEnds : ℕ → Result (Unit {0}) GroupFault → Bool → Core → State → State → Type 0
-RmlvEnds lv given over core old new = IsDone (λ was is. RmlvGives lv patience_of_line was is given) (λ of next. next ≡ without_volume of.descriptor lv) over core old new
+RmlvEnds lv given over core old new = IsDone (λ was is. RmlvGives lv patience_of_line was is given) (λ of next. next ≡ without_volume of.descriptor lv) (λ of pp. ⊥) over core old new
 
 -- `mklv`
 pub data MklvDoes (w : NewVolume) (group : List ℕ) (old new : State) (answer : Reply) : Type 0 where

@@ -1,7 +1,7 @@
 use Rattle.std.proofs.Common.{◌≡◌, ◌∙◌, ap, None, Some, Ok, Option}
 use Rattle.lvm_parse.specs.declared.command.Command.{Command}
 use Rattle.lvm_parse.specs.Reading.{misfit}
-use Rattle.lvm_line.specs.Stages.{history_in, state_in}
+use Rattle.lvm_line.specs.Stages.{shelf_in, history_in, state_in}
 use Rattle.lvm_line.specs.State.{without_facts}
 use Rattle.lvm_line.specs.declared.reply.Refusal.TheVariants as refusal
 use Rattle.lvm_line.specs.declared.reply.Reply.TheVariants as reply
@@ -18,22 +18,22 @@ pub returns-in-Ok-None-clause-line : goal.returns-in-Ok-None-clause-line
 returns-in-Ok-None-clause-line g c =
     line_still (without_facts (history_in c.args.stage)) c.args.room c.args.line.now (Ok None) c.answered.result.reply _ _ (c.in-Ok-None.ensures.read ∙ ap (λ (o : Option Command). Ok o) c.in-Ok-None.field-0-is)
     (c.answered.ensures.reply, ap (λ (s : Stage g.row.S.Denot). state_in g.S.Shelf.device s (g.C.Clock.last c.args.clock.now)) c.answered.ensures.stage) c.requires.settled
-    (ap (λ (s : Stage g.row.S.Denot). state_in g.S.Shelf.device s (g.C.Clock.last c.args.clock.now)) c.answered.ensures.stage)
+    (ap (λ (s : Stage g.row.S.Denot). state_in g.S.Shelf.device s (g.C.Clock.last c.args.clock.now)) c.answered.ensures.stage) (g.met.S.Shelf.sectors_are_whole (shelf_in c.args.stage))
 
 pub returns-in-Ok-Some-clause-line : goal.returns-in-Ok-Some-clause-line
 returns-in-Ok-Some-clause-line g c =
     line_read (without_facts (history_in c.args.stage)) c.args.room c.args.line.now (Ok (Some c.in-Ok-Some.command)) c.do_command.result.reply _ _ (c.in-Ok-Some.ensures.read ∙ ap (λ (o : Option Command). Ok o) c.in-Ok-Some.field-0-is)
-    c.do_command.ensures.does c.do_command.ensures.goes c.do_command.ensures.orders
+    c.do_command.ensures.does c.do_command.ensures.goes c.do_command.ensures.orders (g.met.S.Shelf.sectors_are_whole (shelf_in c.args.stage))
 
 pub returns-in-Err-BadLine-clause-line : goal.returns-in-Err-BadLine-clause-line
 returns-in-Err-BadLine-clause-line g c =
     let says : c.refused.result.reply ≡ reply.Refused (refusal.BadLine c.in-Err-BadLine.column) = cc in
     line_still (without_facts (history_in c.args.stage)) c.args.room c.args.line.now (misfit c.in-Err-BadLine.column) c.refused.result.reply _ _ ((c.parse.ensures.bad_line c.in-Err-BadLine.column).0 (cc))
     (says, ap (λ (s : Stage g.row.S.Denot). state_in g.S.Shelf.device s (g.C.Clock.last c.args.clock.now)) c.refused.ensures.stage) c.requires.settled
-    (ap (λ (s : Stage g.row.S.Denot). state_in g.S.Shelf.device s (g.C.Clock.last c.args.clock.now)) c.refused.ensures.stage)
+    (ap (λ (s : Stage g.row.S.Denot). state_in g.S.Shelf.device s (g.C.Clock.last c.args.clock.now)) c.refused.ensures.stage) (g.met.S.Shelf.sectors_are_whole (shelf_in c.args.stage))
 
 pub returns-in-Err-Memory-clause-line : goal.returns-in-Err-Memory-clause-line
 returns-in-Err-Memory-clause-line g c =
     line_unread (without_facts (history_in c.args.stage)) c.args.room c.args.line.now c.refused-in-Err-Memory.result.reply _ _ (c.parse.ensures.memory (cc)) c.refused-in-Err-Memory.ensures.reply
     (asked_stays g.S.Shelf.device c.args.stage c.refused-in-Err-Memory.result.stage (g.C.Clock.last c.args.clock.now) (g.C.Clock.last c.now.new.self) c.now.result c.now.ensures.later c.now.ensures.last c.refused-in-Err-Memory.ensures.stage)
-    c.requires.settled
+    c.requires.settled (g.met.S.Shelf.sectors_are_whole (shelf_in c.args.stage))

@@ -1,5 +1,5 @@
 use Rattle.std.proofs.Common.{◌∙◌, ℕ, refl, sym, ap, subst, Ok, Err}
-use Rattle.lvm_group.specs.Volumes.{IsWith, MklvGives}
+use Rattle.lvm_group.specs.Volumes.{IsWith, IsChosen, MklvGives}
 use Rattle.lvm_line.specs.Disks.{patience_of_line}
 use Rattle.lvm_line.specs.Moments.{GoesOn}
 use Rattle.lvm_line.specs.Stages.{shelf_in, history_in, state_in, Between}
@@ -30,7 +30,7 @@ after-requires-clause-lit g c = λ ends other.
 pub returns-in-Ok-clause-does : goal.returns-in-Ok-clause-does
 returns-in-Ok-clause-does g c = λ group on last.
     MakesVolume c.args.driver.1 c.in-Ok.field-0 refl on
-    (answered_done g.S.Shelf.device c.args.driver c.mklv.new.driver c.requires.settled (λ was is. MklvGives (wanted c.args.name c.args.copies c.args.mode c.args.policy c.args.lps) patience_of_line was is (Ok c.in-Ok.field-0)) (IsWith (wanted c.args.name c.args.copies c.args.mode c.args.policy c.args.lps)) (subst (λ (n : ℕ). MklvGives (wanted c.args.name c.args.copies c.args.mode c.args.policy c.args.lps) n (session_of g.S.Shelf.device c.args.driver) (session_of g.S.Shelf.device c.mklv.new.driver) (Ok c.in-Ok.field-0)) c.whole-patience.ensures c.in-Ok.ensures.gives) c.mklv.ensures.finds c.answered.result.stage c.answered.ensures.stage last)
+    (answered_done g.S.Shelf.device c.args.driver c.mklv.new.driver c.requires.settled (λ was is. MklvGives (wanted c.args.name c.args.copies c.args.mode c.args.policy c.args.lps) patience_of_line was is (Ok c.in-Ok.field-0)) (IsWith (wanted c.args.name c.args.copies c.args.mode c.args.policy c.args.lps)) (IsChosen (wanted c.args.name c.args.copies c.args.mode c.args.policy c.args.lps)) (subst (λ (n : ℕ). MklvGives (wanted c.args.name c.args.copies c.args.mode c.args.policy c.args.lps) n (session_of g.S.Shelf.device c.args.driver) (session_of g.S.Shelf.device c.mklv.new.driver) (Ok c.in-Ok.field-0)) c.whole-patience.ensures c.in-Ok.ensures.gives) c.mklv.ensures.finds c.mklv.ensures.status c.mklv.ensures.writes c.answered.result.stage c.answered.ensures.stage last)
     c.answered.ensures.reply
 
 pub returns-in-Ok-clause-goes : goal.returns-in-Ok-clause-goes
@@ -69,7 +69,7 @@ returns-in-Err-clause-does g c = λ group on last.
       history = ap (λ (s : Stage g.row.S.Denot). history_in s) c.refused.ensures.stage ∙ c.after.ensures.history;
     } in
     MklvFails c.args.driver.1 c.in-Err.why refl on
-    (failed_done g.S.Shelf.device c.args.driver c.mklv.new.driver c.requires.settled (λ was is. MklvGives (wanted c.args.name c.args.copies c.args.mode c.args.policy c.args.lps) patience_of_line was is (Err c.in-Err.why)) (IsWith (wanted c.args.name c.args.copies c.args.mode c.args.policy c.args.lps)) (subst (λ (n : ℕ). MklvGives (wanted c.args.name c.args.copies c.args.mode c.args.policy c.args.lps) n (session_of g.S.Shelf.device c.args.driver) (session_of g.S.Shelf.device c.mklv.new.driver) (Err c.in-Err.why)) c.whole-patience.ensures c.in-Err.ensures.gives) c.mklv.ensures.finds c.in-Err.why c.refused.result.stage so (mklv_facts (wanted c.args.name c.args.copies c.args.mode c.args.policy c.args.lps) patience_of_line (session_of g.S.Shelf.device c.args.driver) (session_of g.S.Shelf.device c.mklv.new.driver) c.requires.settled.session.power c.in-Err.why (subst (λ (n : ℕ). MklvGives (wanted c.args.name c.args.copies c.args.mode c.args.policy c.args.lps) n (session_of g.S.Shelf.device c.args.driver) (session_of g.S.Shelf.device c.mklv.new.driver) (Err c.in-Err.why)) c.whole-patience.ensures c.in-Err.ensures.gives)) last)
+    (failed_done g.S.Shelf.device c.args.driver c.mklv.new.driver c.requires.settled (λ was is. MklvGives (wanted c.args.name c.args.copies c.args.mode c.args.policy c.args.lps) patience_of_line was is (Err c.in-Err.why)) (IsWith (wanted c.args.name c.args.copies c.args.mode c.args.policy c.args.lps)) (IsChosen (wanted c.args.name c.args.copies c.args.mode c.args.policy c.args.lps)) (subst (λ (n : ℕ). MklvGives (wanted c.args.name c.args.copies c.args.mode c.args.policy c.args.lps) n (session_of g.S.Shelf.device c.args.driver) (session_of g.S.Shelf.device c.mklv.new.driver) (Err c.in-Err.why)) c.whole-patience.ensures c.in-Err.ensures.gives) c.mklv.ensures.finds c.mklv.ensures.status c.mklv.ensures.writes c.in-Err.why c.refused.result.stage so (mklv_facts (wanted c.args.name c.args.copies c.args.mode c.args.policy c.args.lps) patience_of_line (session_of g.S.Shelf.device c.args.driver) (session_of g.S.Shelf.device c.mklv.new.driver) c.requires.settled.session.power c.in-Err.why (subst (λ (n : ℕ). MklvGives (wanted c.args.name c.args.copies c.args.mode c.args.policy c.args.lps) n (session_of g.S.Shelf.device c.args.driver) (session_of g.S.Shelf.device c.mklv.new.driver) (Err c.in-Err.why)) c.whole-patience.ensures c.in-Err.ensures.gives)) last)
     (c.refused.ensures.reply ∙ ap (λ (r : Refusal). reply.Refused r) c.refusal_for.ensures)
 
 pub returns-in-Err-clause-goes : goal.returns-in-Err-clause-goes

@@ -31,7 +31,7 @@ after-requires-clause-lit g c = λ ends other.
 pub returns-in-Ok-clause-does : goal.returns-in-Ok-clause-does
 returns-in-Ok-clause-does g c = λ name its last.
     RemovesVolume c.args.driver.1 c.args.lv refl its
-    (answered_done g.S.Shelf.device c.args.driver c.rmlv.new.driver c.requires.settled (λ was is. RmlvGives c.args.lv patience_of_line was is (Ok tt)) (λ of next. next ≡ without_volume of.descriptor c.args.lv) (subst (λ (n : ℕ). RmlvGives c.args.lv n (session_of g.S.Shelf.device c.args.driver) (session_of g.S.Shelf.device c.rmlv.new.driver) (Ok tt)) c.whole-patience.ensures c.in-Ok.ensures.gives) c.rmlv.ensures.finds c.answered.result.stage c.answered.ensures.stage last)
+    (answered_done g.S.Shelf.device c.args.driver c.rmlv.new.driver c.requires.settled (λ was is. RmlvGives c.args.lv patience_of_line was is (Ok tt)) (λ of next. next ≡ without_volume of.descriptor c.args.lv) (λ of pp. ⊥) (subst (λ (n : ℕ). RmlvGives c.args.lv n (session_of g.S.Shelf.device c.args.driver) (session_of g.S.Shelf.device c.rmlv.new.driver) (Ok tt)) c.whole-patience.ensures c.in-Ok.ensures.gives) c.rmlv.ensures.finds c.rmlv.ensures.status c.rmlv.ensures.writes c.answered.result.stage c.answered.ensures.stage last)
     c.answered.ensures.reply
 
 pub returns-in-Ok-clause-goes : goal.returns-in-Ok-clause-goes
@@ -70,7 +70,7 @@ returns-in-Err-clause-does g c = λ name its last.
       history = ap (λ (s : Stage g.row.S.Denot). history_in s) c.refused.ensures.stage ∙ c.after.ensures.history;
     } in
     RmlvFails c.args.driver.1 c.args.lv c.in-Err.fault refl its
-    (failed_done g.S.Shelf.device c.args.driver c.rmlv.new.driver c.requires.settled (λ was is. RmlvGives c.args.lv patience_of_line was is (Err c.in-Err.fault)) (λ of next. next ≡ without_volume of.descriptor c.args.lv) (subst (λ (n : ℕ). RmlvGives c.args.lv n (session_of g.S.Shelf.device c.args.driver) (session_of g.S.Shelf.device c.rmlv.new.driver) (Err c.in-Err.fault)) c.whole-patience.ensures c.in-Err.ensures.gives) c.rmlv.ensures.finds c.in-Err.fault c.refused.result.stage so (rmlv_facts c.args.lv patience_of_line (session_of g.S.Shelf.device c.args.driver) (session_of g.S.Shelf.device c.rmlv.new.driver) c.requires.settled.session.power c.in-Err.fault (subst (λ (n : ℕ). RmlvGives c.args.lv n (session_of g.S.Shelf.device c.args.driver) (session_of g.S.Shelf.device c.rmlv.new.driver) (Err c.in-Err.fault)) c.whole-patience.ensures c.in-Err.ensures.gives)) last)
+    (failed_done g.S.Shelf.device c.args.driver c.rmlv.new.driver c.requires.settled (λ was is. RmlvGives c.args.lv patience_of_line was is (Err c.in-Err.fault)) (λ of next. next ≡ without_volume of.descriptor c.args.lv) (λ of pp. ⊥) (subst (λ (n : ℕ). RmlvGives c.args.lv n (session_of g.S.Shelf.device c.args.driver) (session_of g.S.Shelf.device c.rmlv.new.driver) (Err c.in-Err.fault)) c.whole-patience.ensures c.in-Err.ensures.gives) c.rmlv.ensures.finds c.rmlv.ensures.status c.rmlv.ensures.writes c.in-Err.fault c.refused.result.stage so (rmlv_facts c.args.lv patience_of_line (session_of g.S.Shelf.device c.args.driver) (session_of g.S.Shelf.device c.rmlv.new.driver) c.requires.settled.session.power c.in-Err.fault (subst (λ (n : ℕ). RmlvGives c.args.lv n (session_of g.S.Shelf.device c.args.driver) (session_of g.S.Shelf.device c.rmlv.new.driver) (Err c.in-Err.fault)) c.whole-patience.ensures c.in-Err.ensures.gives)) last)
     (c.refused.ensures.reply ∙ ap (λ (r : Refusal). reply.Refused r) c.refusal_for.ensures)
 
 pub returns-in-Err-clause-goes : goal.returns-in-Err-clause-goes
