@@ -2,7 +2,7 @@
 use Rattle.std.proofs.Common.{◌≡◌, inl, ⊎_elim, ℕ, List, [], Option, Some, None, subst}
 use Rattle.std.specs.Prelude.{IsSomeAnd}
 use Rattle.lvm_num.specs.declared.descriptor.Descriptor.{Descriptor}
-use Rattle.lvm_disk.specs.Device.{Media, Image, Flight, Device, image_of, IsCrashImage}
+use Rattle.lvm_disk.specs.Device.{Media, Image, Flight, Device, image_of, IsCrashImage, HasSectors}
 use Rattle.lvm_disk.specs.Images.{LeavesNoMore}
 use Rattle.lvm_kept.specs.Raw.{OnlyAdds}
 use Rattle.lvm_change.specs.Requests.{IsOfData}
@@ -10,6 +10,12 @@ use Rattle.lvm_commit.proofs.NoMore.{data_finds_nothing_new}
 use Rattle.lvm_commit.proofs.Still.{data_differs}
 use Rattle.lvm_survey.specs.Surveying.{IsUnwritten}
 use Rattle.lvm_group.specs.Endings.{MayBeFound}
+use Rattle.lvm_found.specs.Standing.{HasFewDisks}
+
+-- at most 128 disks, and sectors of 512 bytes
+pub record IsShelf (device : Device) : Type 0 where
+  pub few : HasFewDisks device
+  pub whole : HasSectors device
 
 -- whatever may be found of the second might be found of the first
 abbrev pub NothingNew : Device → Device → Type 0

@@ -25,9 +25,9 @@ use Rattle.lvm_line.proofs.Making.{leaves as making_leaves}
 use Rattle.lvm_line.proofs.Varying.{leaves as varying_leaves}
 use Rattle.lvm_varyon.specs.Varied.{Refuses}
 use Rattle.lvm_varyon.specs.Writing.{order}
-use Rattle.lvm_found.specs.Standing.{MayHaveCommitted, IsShelf}
+use Rattle.lvm_found.specs.Standing.{MayHaveCommitted}
 use Rattle.lvm_found.proofs.Begun.{IsIts}
-use Rattle.lvm_found.proofs.Devices.{NothingNew, then_nothing, same_nothing, fewer_nothing, unwritten_nothing}
+use Rattle.lvm_found.proofs.Devices.{IsShelf, NothingNew, then_nothing, same_nothing, fewer_nothing, unwritten_nothing}
 use Rattle.lvm_found.proofs.Making.{IsAskedFor, none_out, parts_find, refused_finds}
 use Rattle.lvm_found.proofs.Named.{line_has_name}
 use Rattle.lvm_found.proofs.Varying.{written_nothing}

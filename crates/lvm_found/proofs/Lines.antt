@@ -20,8 +20,8 @@ use Rattle.lvm_line.specs.Shelves.{ArrangeDoes, NotThere, NotPlanned, IsArranged
 use Rattle.lvm_line.specs.State.{State, IsTimely, AreHeld}
 use Rattle.lvm_line.specs.declared.reply.Reply.{Reply}
 use Rattle.lvm_found.specs.Laws.{LineFindsNoMore}
-use Rattle.lvm_found.specs.Standing.{MayHaveCommitted, IsShelf}
-use Rattle.lvm_found.proofs.Devices.{NothingNew, then_nothing, same_nothing, fewer_nothing}
+use Rattle.lvm_found.specs.Standing.{MayHaveCommitted}
+use Rattle.lvm_found.proofs.Devices.{IsShelf, NothingNew, then_nothing, same_nothing, fewer_nothing}
 use Rattle.lvm_found.proofs.Groups.{mkvg_finds, varyon_nothing}
 use Rattle.lvm_found.proofs.Transfers.{relit_nothing, write_nothing, read_nothing}
 use Rattle.lvm_found.proofs.Volumes.{mklv_finds, rmlv_finds}
@@ -78,4 +78,4 @@ module _ (log : Log) (room : Room) (line : List ℕ) (answer : Reply) (old new :
   by_reading (Ok (Some (command.Cut word))) is does id k it = inl (cut_nothing log old new answer word does id k it)
 
 pub line_finds_no_more : LineFindsNoMore
-line_finds_no_more log room line answer old new it shelf ready after timely held = by_reading log room line answer old new shelf ready after timely held (line_of line) refl it.does
+line_finds_no_more log room line answer old new it few ready after timely held = by_reading log room line answer old new (record { few = few; whole = it.whole }) ready after timely held (line_of line) refl it.does

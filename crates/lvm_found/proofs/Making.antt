@@ -23,9 +23,8 @@ use Rattle.lvm_group.proofs.Keeping.{IsBeginning, may_begin}
 use Rattle.lvm_line.specs.Groups.{refusal_of}
 use Rattle.lvm_line.specs.Moments.{IsBrokenOff}
 use Rattle.lvm_line.specs.declared.reply.Reply.TheVariants as reply
-use Rattle.lvm_found.specs.Standing.{IsShelf}
 use Rattle.lvm_found.proofs.Begun.{MayDescribe, IsIts, begun_finds}
-use Rattle.lvm_found.proofs.Devices.{same_nothing, unwritten_nothing}
+use Rattle.lvm_found.proofs.Devices.{IsShelf, same_nothing, unwritten_nothing}
 
 -- nothing is out, so no flight is
 pub none_out : (flights : List Flight) (f : Flight) → flights ≡ [] → flights ≡ f ∷ [] → ⊥

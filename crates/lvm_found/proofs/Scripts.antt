@@ -4,7 +4,7 @@ use Rattle.std.specs.Prelude.{IsSome, IsSomeAnd, IfSome}
 use Rattle.std.proofs.lemmas.List.{append-nil}
 use Rattle.std.proofs.lemmas.List.Sums.{sum_by-append}
 use Rattle.lvm_num.specs.declared.descriptor.Descriptor.{Descriptor}
-use Rattle.lvm_disk.specs.Device.{Device, IsReady, HasSectors}
+use Rattle.lvm_disk.specs.Device.{Device, IsReady}
 use Rattle.lvm_disk.specs.Paths.{Path, Here, Then}
 use Rattle.lvm_disk.proofs.Paths.{last-path}
 use Rattle.lvm_disk.proofs.Stepping.{step_same}
@@ -39,7 +39,7 @@ use Rattle.lvm_line.specs.declared.reply.Reply.TheVariants as reply
 use Rattle.lvm_top.specs.Script.{Says, Script, NoLine, NextLine, StaysAlone, Ends, AtLine, InLine, EndsAlone, entry_state, empty_log}
 use Rattle.lvm_top.proofs.Scripting.{script_went, begins_timely}
 use Rattle.lvm_found.specs.Laws.{MayStart, ScriptFindsWhatStands, VaryonFindsWhatStands, RunMayStart, RunFindsWhatStands}
-use Rattle.lvm_found.specs.Standing.{MayHaveCommitted, is_acknowledged, StandsOf, StandsAfter, MayStand, MayStandAtEnd, AreWhole}
+use Rattle.lvm_found.specs.Standing.{MayHaveCommitted, is_acknowledged, StandsOf, StandsAfter, MayStand, MayStandAtEnd}
 use Rattle.lvm_found.proofs.Acknowledged.{only_committed, leaves_on, was_heard, stands_of}
 use Rattle.lvm_found.proofs.Lines.{line_finds_no_more}
 use Rattle.lvm_found.proofs.Varying.{was_found}
@@ -89,33 +89,33 @@ module _ (log : Log) (room : Room) (past : List Fact) (first : State) (begin : M
 
   -- what a line leaves after which nothing is under way
   line_stands : {lines : List (List ℕ)} {replies : List Reply} {mid new : State} (line : List ℕ) (answer said : Reply) (says : Says answer said) (before : Script log room first lines replies mid) (it : IsLine log room line answer mid new)
-      → IsReady new.moment.device → StaysAlone before × IsAlone answer mid new → HasSectors mid.moment.device → ((id : ℕ) (k : Descriptor) → MayBeFound mid.moment.device id k → MayStand before id k)
+      → IsReady new.moment.device → StaysAlone before × IsAlone answer mid new → ((id : ℕ) (k : Descriptor) → MayBeFound mid.moment.device id k → MayStand before id k)
       → (id : ℕ) (k : Descriptor) → MayBeFound new.moment.device id k → StandsAfter (is_acknowledged (line_of line) answer) (line_of line) answer mid new (MayStand before) id k
-  line_stands {mid = mid} {new = new} line answer said says before it after alone whole stood id k found =
+  line_stands {mid = mid} {new = new} line answer said says before it after alone stood id k found =
       let went = script_went log room first before in
       let few : length mid.moment.device.sizes ≤ 128 = subst (λ (sizes : List ℕ). length sizes ≤ 128) (sym (span_sizes (went.keeps begin.timely first_held alone.0))) begin.few in
       by_answer (is_acknowledged (line_of line) answer) refl (⊎_elim
       (λ was. inl (stood id k was))
       (λ committed. inr committed)
-      (line_finds_no_more log room line answer mid new it (record { few = few; whole = whole }) (script_ready log room first before begin.ready) after (went.timely begin.timely) (went.held begin.timely first_held) id k found))
+      (line_finds_no_more log room line answer mid new it few (script_ready log room first before begin.ready) after (went.timely begin.timely) (went.held begin.timely first_held) id k found))
     where
       by_answer : (t : Bool) → is_acknowledged (line_of line) answer ≡ t → MayStand before id k ⊎ MayHaveCommitted (line_of line) answer mid new id k
           → StandsAfter t (line_of line) answer mid new (MayStand before) id k
       by_answer true acked which = acknowledged line answer said (was_heard (line_of line) answer acked) says before it alone acked id k found which
       by_answer false other which = which
 
-  pub stands : {lines : List (List ℕ)} {replies : List Reply} {last : State} (script : Script log room first lines replies last) → StaysAlone script → AreWhole script
+  pub stands : {lines : List (List ℕ)} {replies : List Reply} {last : State} (script : Script log room first lines replies last) → StaysAlone script
       → (id : ℕ) (k : Descriptor) → MayBeFound last.moment.device id k → MayStand script id k
-  stands NoLine alone whole id k it = it
-  stands (NextLine line answer said heard says before it) alone whole id k found =
-      line_stands line answer said says before it (it.goes.settled heard).ready alone whole.1 (stands before alone.0 whole.0) id k found
+  stands NoLine alone id k it = it
+  stands (NextLine line answer said heard says before it) alone id k found =
+      line_stands line answer said says before it (it.goes.settled heard).ready alone (stands before alone.0) id k found
 
   -- what is told at first is told after the lines
   last_told : {lines : List (List ℕ)} {replies : List Reply} {last : State} (script : Script log room first lines replies last) → StaysAlone script → IsSome last.moment.device.media
   last_told script alone = span_told ((script_went log room first script).keeps begin.timely first_held alone) begin.begins.told
 
 pub script_finds : ScriptFindsWhatStands
-script_finds log room past first lines replies last script begin alone whole = stands log room past first begin script alone whole
+script_finds log room past first lines replies last script begin alone = stands log room past first begin script alone
 
 -- ---- a varyon after them
 
@@ -124,7 +124,7 @@ some_of (Some x) some = (x, refl)
 some_of None some = absurd (cc (some))
 
 pub varyon_finds : VaryonFindsWhatStands
-varyon_finds log room past first lines replies last script begin alone whole line name new is it =
+varyon_finds log room past first lines replies last script begin alone line name new is it =
     of_varyon (subst (λ (r : Result (Option Command) Misfit). LineDoes log room r last new reply.Ok) is it.does)
   where
     of_varyon : VaryonDoes log room name last new reply.Ok → IsSomeAnd new.session (λ core. MayStand script core.descriptor.id core.descriptor)
@@ -134,7 +134,7 @@ varyon_finds log room past first lines replies last script begin alone whole lin
         let same : core.descriptor ≡ comes.written.group = ap (λ (c : Core). c.descriptor) comes.first.is ∙ comes.first.reserved.descriptor in
         subst (λ (s : Option Core). IsSomeAnd s (λ c. MayStand script c.descriptor.id c.descriptor)) (sym left.after)
         (subst (λ (d : Descriptor). MayStand script d.id d) (sym same)
-        (stands log room past first begin script alone whole comes.written.group.id comes.written.group (was_found last.moment.device new.moment.device name new.last _ comes.written told.0 told.1)))
+        (stands log room past first begin script alone comes.written.group.id comes.written.group (was_found last.moment.device new.moment.device name new.last _ comes.written told.0 told.1)))
     of_varyon (VaryonFails why gone asks before refuses left) = absurd (let e = left.answered in cc (e))
 
 -- ---- runs
@@ -160,15 +160,15 @@ run_may_start run entry past few ready behind earlier = record { off = refl; few
 
 -- where it ends
 module _ (log : Log) (room : Room) (past : List Fact) (first : State) (begin : MayStart log.run past first) {lines : List (List ℕ)} {replies : List Reply} {mid : State}
-    (script : Script log room first lines replies mid) (whole : AreWhole script) (sectors : HasSectors mid.moment.device) where
+    (script : Script log room first lines replies mid) where
   end_stands : {last : State} {done : List (List ℕ)} {said : List Reply} {front : List ℕ} (ends : Ends log room mid last done said front) → StaysAlone script × EndsAlone ends → IsReady last.moment.device
       → (id : ℕ) (k : Descriptor) → MayBeFound last.moment.device id k → MayStandAtEnd ends (MayStand script) id k
-  end_stands (AtLine same) alone after id k found = stands log room past first begin script alone.0 whole id k (subst (λ (s : State). MayBeFound s.moment.device id k) same found)
+  end_stands (AtLine same) alone after id k found = stands log room past first begin script alone.0 id k (subst (λ (s : State). MayBeFound s.moment.device id k) same found)
   end_stands (InLine line answer said front rest says split it) alone after id k found =
-      line_stands log room past first begin line answer said says script it after alone sectors (stands log room past first begin script alone.0 whole) id k found
+      line_stands log room past first begin line answer said says script it after alone (stands log room past first begin script alone.0) id k found
 
 pub run_finds : RunFindsWhatStands
-run_finds run last room entry exit input left before after history status refused ran past few ready behind earlier alone whole sectors heard id k found =
+run_finds run last room entry exit input left before after history status refused ran past few ready behind earlier alone heard id k found =
     let same : ran.end.moment.device ≡ exit = ap (λ (m : Moment). m.device) ran.closed.moment in
-    end_stands (empty_log run room) room (past ++ Cut ∷ []) (entry_state entry run) (run_may_start run entry past few ready behind earlier) ran.part.script whole sectors ran.part.ends alone
+    end_stands (empty_log run room) room (past ++ Cut ∷ []) (entry_state entry run) (run_may_start run entry past few ready behind earlier) ran.part.script ran.part.ends alone
     (subst IsReady (sym same) (ran.ready heard)) id k (subst (λ (d : Device). MayBeFound d id k) (sym same) found)

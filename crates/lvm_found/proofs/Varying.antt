@@ -41,9 +41,8 @@ use Rattle.lvm_varyon.specs.Varied.{HasWritten}
 use Rattle.lvm_varyon.specs.Writing.{beginning}
 use Rattle.lvm_varyon.proofs.Grouping.{holds_finds}
 use Rattle.lvm_varyon.proofs.Sizes.{status_fits}
-use Rattle.lvm_found.specs.Standing.{IsShelf}
 use Rattle.lvm_found.proofs.Begun.{MayDescribe, IsIts, begun_finds}
-use Rattle.lvm_found.proofs.Devices.{NothingNew, unwritten_nothing}
+use Rattle.lvm_found.proofs.Devices.{IsShelf, NothingNew, unwritten_nothing}
 
 -- a disk with room for records has records
 has_room_for : (sizes : List ℕ) (media : Media) (d size : ℕ) → slice_get sizes d ≡ Some size → data_start ≤ size → has_records (image_of sizes media) d ≡ true

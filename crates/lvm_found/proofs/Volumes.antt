@@ -4,6 +4,7 @@ use Rattle.std.specs.Prelude.{IsSomeAnd}
 use Rattle.lvm_num.specs.declared.descriptor.Descriptor.{Descriptor}
 use Rattle.lvm_num.specs.declared.descriptor.Mode.{Mode}
 use Rattle.lvm_num.specs.declared.descriptor.Policy.{Policy}
+use Rattle.lvm_num.specs.declared.place.Pp.{Pp}
 use Rattle.lvm_parse.specs.declared.command.Command.TheVariants as command
 use Rattle.lvm_quorum.proofs.Writing.{told_at}
 use Rattle.lvm_core.specs.Held.{IsHeld}
@@ -13,7 +14,7 @@ use Rattle.lvm_group.specs.declared.fault.GroupFault.{GroupFault}
 use Rattle.lvm_group.specs.declared.fault.GroupFault.TheVariants as fault
 use Rattle.lvm_group.specs.Endings.{MayBeFound}
 use Rattle.lvm_group.specs.NewVolume.{without_volume}
-use Rattle.lvm_group.specs.Volumes.{IsWith, MklvGives, RmlvGives}
+use Rattle.lvm_group.specs.Volumes.{IsWith, IsChosen, MklvGives, RmlvGives}
 use Rattle.lvm_line.specs.Disks.{patience_of_line}
 use Rattle.lvm_line.specs.Moments.{IsBrokenOff}
 use Rattle.lvm_line.specs.State.{State, AreHeld}
@@ -32,9 +33,9 @@ module _ (old new : State) (held : AreHeld old) (core : Core) (on : old.session 
   holds = told_at old.session (λ c. IsHeld old.moment.device c) core on held
 
   -- what the command finds, whatever became of it
-  done_finds : (Gives : Session → Session → Type 0) (IsNext : Core → Descriptor → Type 0) (over : Bool) → IsDone Gives IsNext over core old new
+  done_finds : (Gives : Session → Session → Type 0) (IsNext : Core → Descriptor → Type 0) (IsPlace : Core → Pp → Type 0) (over : Bool) → IsDone Gives IsNext IsPlace over core old new
       → (id : ℕ) (k : Descriptor) → MayBeFound new.moment.device id k → MayBeFound old.moment.device id k ⊎ ((id ≡ k.id) × IsSomeAnd old.session (λ c. IsNext c k))
-  done_finds Gives IsNext over done id k it = ⊎_elim
+  done_finds Gives IsNext IsPlace over done id k it = ⊎_elim
       (λ before. inl before)
       (λ next. inr (next.0, subst (λ (o : Option Core). IsSomeAnd o (λ c. IsNext c k)) (sym on) next.1))
       (done.finds holds id k it)
@@ -50,7 +51,7 @@ module _ (name : List ℕ) (copies : ℕ) (mode : Mode) (policy : Policy) (group
     tried_mklv given over tried done id k it = ⊎_elim
         (λ before. inl before)
         (λ next. inr (record { tried = tried; own = next.0; is = next.1 }))
-        (done_finds old new held core on (λ was is. MklvGives (wanted name copies mode policy lps) patience_of_line was is given) (IsWith (wanted name copies mode policy lps)) over done id k it)
+        (done_finds old new held core on (λ was is. MklvGives (wanted name copies mode policy lps) patience_of_line was is given) (IsWith (wanted name copies mode policy lps)) (IsChosen (wanted name copies mode policy lps)) over done id k it)
 
     failed_mklv : (why : GroupFault) → answer ≡ reply.Refused (refusal_for why) → MklvEnds (wanted name copies mode policy lps) (Err why) (ends_session why) core old new → FoundByMklv
     failed_mklv fault.Dark says done id k it = tried_mklv (Err fault.Dark) _ (inr (subst IsBrokenOff (sym says) tt)) done id k it
@@ -88,7 +89,7 @@ module _ (name : List ℕ) (old new : State) (answer : Reply) (held : AreHeld ol
     tried_rmlv given over tried done id k it = ⊎_elim
         (λ before. inl before)
         (λ next. inr (record { tried = tried; own = next.0; is = named k next.1 }))
-        (done_finds old new held core on (λ was is. RmlvGives lv patience_of_line was is given) (λ c d. d ≡ without_volume c.descriptor lv) over done id k it)
+        (done_finds old new held core on (λ was is. RmlvGives lv patience_of_line was is given) (λ c d. d ≡ without_volume c.descriptor lv) (λ c pp. ⊥) over done id k it)
 
     failed_rmlv : (why : GroupFault) → answer ≡ reply.Refused (refusal_for why) → RmlvEnds lv (Err why) (ends_session why) core old new → FoundByRmlv
     failed_rmlv fault.Dark says done id k it = tried_rmlv (Err fault.Dark) _ (inr (subst IsBrokenOff (sym says) tt)) done id k it

@@ -1,7 +1,7 @@
 -- Which descriptors may be found after a line, and after the lines of a script.
 use Rattle.std.specs.Prelude.{◌≡◌, ◌⊎◌, ◌≤◌, ℕ, Bool, true, false, List, Option, Some, Result, Ok, IsSomeAnd, length}
 use Rattle.lvm_num.specs.declared.descriptor.Descriptor.{Descriptor}
-use Rattle.lvm_disk.specs.Device.{Device, HasSectors}
+use Rattle.lvm_disk.specs.Device.{Device}
 use Rattle.lvm_vol.specs.Log.{Log}
 use Rattle.lvm_parse.specs.declared.command.Command.{Command}
 use Rattle.lvm_parse.specs.declared.command.Command.TheVariants as command
@@ -84,12 +84,6 @@ MayStandAtEnd {mid = mid} {last = last} (InLine line answer said front rest says
 
 -- ---- shelves
 
--- What holds of each shelf: it has at most 128 disks, and where it is told what stands on them, each sector has 512 bytes.
-pub record IsShelf (device : Device) : Type 0 where
-  pub few : length device.sizes ≤ 128
-  pub whole : HasSectors device
-
--- the sectors have 512 bytes wherever a line begins, as those of each shelf do
-abbrev pub AreWhole : {log : Log} {room : Room} {first : State} {lines : List (List ℕ)} {replies : List Reply} {last : State} → Script log room first lines replies last → Type 0
-AreWhole NoLine = Unit {0}
-AreWhole (NextLine {mid = mid} line answer said goes says before does) = AreWhole before × HasSectors mid.moment.device
+-- the shelf has at most 128 disks, as each has
+abbrev pub HasFewDisks : Device → Type 0
+HasFewDisks device = length device.sizes ≤ 128
