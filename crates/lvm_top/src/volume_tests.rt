@@ -24,11 +24,11 @@ struct Case<'a> {
     gone: &'a [u8],
 }
 
-// A case whose lines are done, and then those that list the volumes.
+// The script of a case with lines that list the volumes, and the calls of a shelf that the line itself makes: the
+// starts of its transfers, and behind each its end.
 #[derive(Drop)]
 struct Listed {
     script: Vec<u8>,
-    // the calls of the line itself
     first: u64,
     last: u64,
 }
@@ -52,12 +52,17 @@ fn listed(alloc: Global, case: &Case<'_>, after: &[u8]) -> Result<Listed, Fail> 
     })
 }
 
-// Whether a power cut before each call of the line leaves the volume or leaves it out, in a group that comes on.
+// Whether a power cut before each call of the line, a transfer's start or its end, leaves the volume or leaves it out,
+// in a group that comes on.
 fn cuts_leave_it_whole_or_out(alloc: Global, case: &Case<'_>) -> Result<bool, Fail> {
     let listed = listed(alloc, case, COMES_ON)?;
     let mut whole = listed.first < listed.last;
     for call in listed.first..=listed.last {
         for word in CUTS {
+            // nothing is under way before a start
+            if word > 0 && call % 2 == listed.first % 2 {
+                continue;
+            }
             let plan = [Planned {
                 call,
                 act: Act::Cut(word),
@@ -82,12 +87,16 @@ fn agrees(case: &Case<'_>, out: &[u8]) -> bool {
     }
 }
 
-// Whether a volume is there just where the line was answered so, with each disk failing from each call of the
+// Whether a volume is there just where the line was answered so, with each disk failing from each transfer of the
 // line on, and healed afterwards.
 fn failures_leave_what_was_answered(alloc: Global, case: &Case<'_>) -> Result<bool, Fail> {
     let listed = listed(alloc, case, HEALED)?;
     let mut agree = listed.first < listed.last;
     for call in listed.first..=listed.last {
+        // a failure between a start and its end fails the same transfers
+        if call % 2 != listed.first % 2 {
+            continue;
+        }
         for disk in 0..case.sizes.len() as u16 {
             let plan = [Planned {
                 call,
