@@ -87,9 +87,13 @@ fn agrees(case: &Case<'_>, out: &[u8]) -> bool {
     }
 }
 
-// Whether a volume is there just where the line was answered so, with each disk failing from each transfer of the
-// line on, and healed afterwards.
-fn failures_leave_what_was_answered(alloc: Global, case: &Case<'_>) -> Result<bool, Fail> {
+// Whether a volume is there just where the line was answered so, with each of these disks failing from each transfer
+// of the line on, and healed afterwards.
+fn failures_leave_what_was_answered(
+    alloc: Global,
+    case: &Case<'_>,
+    disks: &[u16],
+) -> Result<bool, Fail> {
     let listed = listed(alloc, case, HEALED)?;
     let mut agree = listed.first < listed.last;
     for call in listed.first..=listed.last {
@@ -97,10 +101,10 @@ fn failures_leave_what_was_answered(alloc: Global, case: &Case<'_>) -> Result<bo
         if call % 2 != listed.first % 2 {
             continue;
         }
-        for disk in 0..case.sizes.len() as u16 {
+        for disk in disks {
             let plan = [Planned {
                 call,
-                act: Act::Fail(disk),
+                act: Act::Fail(*disk),
             }];
             let (_, out) = run(alloc, case.sizes, &plan, &listed.script)?;
             agree = agree && agrees(case, out.bytes());
@@ -165,7 +169,7 @@ fn a_failing_disk_of_one_leaves_what_was_answered(rt: HostRuntime) -> Result<(),
         there: b"ok\nlv00 LPs 1 PPs 1 PVs 1 stale 0\n",
         gone: b"ok\n",
     };
-    assert!(rt; failures_leave_what_was_answered(rt.alloc(), &case)?);
+    assert!(rt; failures_leave_what_was_answered(rt.alloc(), &case, &[0])?);
     Ok(())
 }
 
@@ -178,7 +182,7 @@ fn a_failing_disk_of_two_leaves_what_was_answered(rt: HostRuntime) -> Result<(),
         there: b"ok\nlv00 LPs 2 PPs 2 PVs 2 stale 0\n",
         gone: b"ok\n",
     };
-    assert!(rt; failures_leave_what_was_answered(rt.alloc(), &case)?);
+    assert!(rt; failures_leave_what_was_answered(rt.alloc(), &case, &[0, 1])?);
     Ok(())
 }
 
@@ -191,6 +195,6 @@ fn a_failing_disk_of_three_leaves_what_was_answered(rt: HostRuntime) -> Result<(
         there: b"ok\nlv00 LPs 1 PPs 1 PVs 1 stale 0\n",
         gone: b"ok\n",
     };
-    assert!(rt; failures_leave_what_was_answered(rt.alloc(), &case)?);
+    assert!(rt; failures_leave_what_was_answered(rt.alloc(), &case, &[0, 1, 2])?);
     Ok(())
 }
