@@ -19,3 +19,5 @@ pub use volumes::{mklv, rmlv};
 
 #[cfg(test)]
 mod tests;
+#[cfg(test)]
+mod volume_tests;

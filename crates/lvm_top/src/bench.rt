@@ -14,10 +14,12 @@ const AMPLE: Room = Room {
     bytes: 65_536,
 };
 
-// Disks of 8 MiB, and of 4.
+// Disks of 8 MiB, of 4, and with room for one partition of 1 MiB.
 pub const LARGE: u64 = 16_384;
 
 pub const SMALL: u64 = 8_192;
+
+pub const TINY: u64 = 6_144;
 
 // A script over disks of zeros, of so many sectors, and what it wrote.
 pub fn run(

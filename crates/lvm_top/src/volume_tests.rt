@@ -1,15 +1,37 @@
 // Volumes on disks in memory: what scripts are answered, and what a power cut or a failing disk leaves of
 // one that is being made or removed.
 
-use crate::bench::{LARGE, SMALL, answers, run};
+use crate::bench::{LARGE, TINY, answers, run};
 use lvm_disk::{Act, Planned};
 use std::alloc::Global;
 use std::test::Fail;
 
-const WORDS: [u64; 2] = [0, u64::MAX];
+const CUTS: [u64; 3] = [0, 0x5555_5555_5555_5555, u64::MAX];
 
-// The listing of the one volume that is made below.
-const LISTED: &[u8] = b"lv00 LPs 1 PPs 1 PVs 1 stale 0\n";
+const COMES_ON: &[u8] = b"varyonvg datavg\nlsvg -l datavg\n";
+
+const HEALED: &[u8] =
+    b"varyoffvg datavg\nheal hdisk0\nheal hdisk1\nheal hdisk2\nvaryonvg datavg\nlsvg -l datavg\n";
+
+// A line that makes or removes a volume of a group, on disks of these sizes, behind the lines before it, and how a
+// listing ends in which the volume is there and one in which it isn't.
+#[derive(Clone, Copy, Drop)]
+struct Case<'a> {
+    sizes: &'a [u64],
+    before: &'a [u8],
+    line: &'a [u8],
+    there: &'a [u8],
+    gone: &'a [u8],
+}
+
+// The script of a case with lines that list the volumes, and the calls of a shelf that the line itself makes: the
+// starts of its transfers, and behind each its end.
+#[derive(Drop)]
+struct Listed {
+    script: Vec<u8>,
+    first: u64,
+    last: u64,
+}
 
 // The calls of a shelf that a script makes.
 fn calls_of(alloc: Global, sizes: &[u64], script: &[u8]) -> Result<u64, Fail> {
@@ -17,30 +39,78 @@ fn calls_of(alloc: Global, sizes: &[u64], script: &[u8]) -> Result<u64, Fail> {
     Ok(ended.shelf.calls())
 }
 
-// Whether a script, whose last lines vary a group on and list its volumes, ends well with the volume or
-// without it, where this happens before one of the calls.
-fn ends_with_or_without(
-    alloc: Global,
-    sizes: &[u64],
-    script: &[u8],
-    call: u64,
-    act: Act,
-) -> Result<bool, Fail> {
-    let (_, out) = run(alloc, sizes, &[Planned { call, act }], script)?;
-    let listed = out.bytes().strip_suffix(LISTED).unwrap_or(out.bytes());
-    Ok(listed.ends_with(b"ok\n"))
+fn listed(alloc: Global, case: &Case<'_>, after: &[u8]) -> Result<Listed, Fail> {
+    let mut script = Vec::from_slice(alloc, case.before)?;
+    let before = calls_of(alloc, case.sizes, &script)?;
+    script.extend_from_slice(case.line)?;
+    let last = calls_of(alloc, case.sizes, &script)?;
+    script.extend_from_slice(after)?;
+    Ok(Listed {
+        script,
+        first: before.saturating_add(1),
+        last,
+    })
 }
 
-// Whether the answer to a `mkvg` and a `mklv` agrees with the listing at the script's end: a volume that is
-// made is there, and one isn't for which a disk failed.
-fn agrees(out: &[u8]) -> bool {
+// Whether a power cut before each call of the line, a transfer's start or its end, leaves the volume or leaves it out,
+// in a group that comes on.
+fn cuts_leave_it_whole_or_out(alloc: Global, case: &Case<'_>) -> Result<bool, Fail> {
+    let listed = listed(alloc, case, COMES_ON)?;
+    let mut whole = listed.first < listed.last;
+    for call in listed.first..=listed.last {
+        for word in CUTS {
+            // nothing is under way before a start
+            if word > 0 && call % 2 == listed.first % 2 {
+                continue;
+            }
+            let plan = [Planned {
+                call,
+                act: Act::Cut(word),
+            }];
+            let (_, out) = run(alloc, case.sizes, &plan, &listed.script)?;
+            let out = out.bytes();
+            whole = whole && (out.ends_with(case.there) || out.ends_with(case.gone));
+        }
+    }
+    Ok(whole)
+}
+
+// Whether the answer to the line, the second, agrees with how the listing ends.
+fn agrees(case: &Case<'_>, out: &[u8]) -> bool {
     if out.starts_with(b"ok\nok\n") {
-        out.ends_with(LISTED)
+        out.ends_with(case.there)
     } else if out.starts_with(b"ok\nrefused 9 DiskFailed hdisk") {
-        !out.ends_with(LISTED)
+        out.ends_with(case.gone)
     } else {
         out.starts_with(b"ok\nrefused 22 WentOff ")
+            && (out.ends_with(case.there) || out.ends_with(case.gone))
     }
+}
+
+// Whether a volume is there just where the line was answered so, with each of these disks failing from each transfer
+// of the line on, and healed afterwards.
+fn failures_leave_what_was_answered(
+    alloc: Global,
+    case: &Case<'_>,
+    disks: &[u16],
+) -> Result<bool, Fail> {
+    let listed = listed(alloc, case, HEALED)?;
+    let mut agree = listed.first < listed.last;
+    for call in listed.first..=listed.last {
+        // a failure between a start and its end fails the same transfers
+        if call % 2 != listed.first % 2 {
+            continue;
+        }
+        for disk in disks {
+            let plan = [Planned {
+                call,
+                act: Act::Fail(*disk),
+            }];
+            let (_, out) = run(alloc, case.sizes, &plan, &listed.script)?;
+            agree = agree && agrees(case, out.bytes());
+        }
+    }
+    Ok(agree)
 }
 
 #[test]
@@ -65,80 +135,66 @@ fn a_volume_that_cannot_be_is_refused(rt: HostRuntime) -> Result<(), Fail> {
 
 #[test]
 fn a_cut_at_each_call_leaves_a_new_volume_or_none(rt: HostRuntime) -> Result<(), Fail> {
-    let made = b"mkvg -y datavg -s 1 hdisk0 hdisk1\n";
-    let script = b"mkvg -y datavg -s 1 hdisk0 hdisk1\nmklv -y lv00 -w n datavg 1\n";
-    let listed =
-        b"mkvg -y datavg -s 1 hdisk0 hdisk1\nmklv -y lv00 -w n datavg 1\nvaryonvg datavg\nlsvg -l datavg\n";
-    let first = calls_of(rt.alloc(), &[SMALL, SMALL], made)?;
-    let last = calls_of(rt.alloc(), &[SMALL, SMALL], script)?;
-    for call in first..=last {
-        if call == first {
-            continue;
-        }
-        for word in WORDS {
-            assert!(rt;
-                ends_with_or_without(rt.alloc(), &[SMALL, SMALL], listed, call, Act::Cut(word))?
-            );
-        }
-    }
+    let case = Case {
+        sizes: &[TINY, TINY],
+        before: b"mkvg -y datavg -s 1 hdisk0 hdisk1\n",
+        line: b"mklv -y lv00 -w n datavg 1\n",
+        there: b"ok\nlv00 LPs 1 PPs 1 PVs 1 stale 0\n",
+        gone: b"ok\n",
+    };
+    assert!(rt; cuts_leave_it_whole_or_out(rt.alloc(), &case)?);
     Ok(())
 }
 
+// Whose descriptor has two sectors, which a cut may tear.
 #[test]
 fn a_cut_at_each_call_leaves_an_old_volume_or_none(rt: HostRuntime) -> Result<(), Fail> {
-    let made = b"mkvg -y datavg -s 1 hdisk0 hdisk1\nmklv -y lv00 -w n datavg 1\n";
-    let script = b"mkvg -y datavg -s 1 hdisk0 hdisk1\nmklv -y lv00 -w n datavg 1\nrmlv lv00\n";
-    let listed =
-        b"mkvg -y datavg -s 1 hdisk0 hdisk1\nmklv -y lv00 -w n datavg 1\nrmlv lv00\nvaryonvg datavg\nlsvg -l datavg\n";
-    let first = calls_of(rt.alloc(), &[SMALL, SMALL], made)?;
-    let last = calls_of(rt.alloc(), &[SMALL, SMALL], script)?;
-    for call in first..=last {
-        if call == first {
-            continue;
-        }
-        for word in WORDS {
-            assert!(rt;
-                ends_with_or_without(rt.alloc(), &[SMALL, SMALL], listed, call, Act::Cut(word))?
-            );
-        }
-    }
+    let case = Case {
+        sizes: &[14 * 2_048 + 4_096, TINY],
+        before: b"mkvg -y datavg -s 1 hdisk0 hdisk1\nmklv -y lv00 -w n datavg 1\nmklv -y lv01 -w n datavg 1\nmklv -y lv02 -w n datavg 1\nmklv -y lv03 -w n datavg 1\nmklv -y lv04 -w n datavg 1\nmklv -y lv05 -w n datavg 1\nmklv -y lv06 -w n datavg 1\nmklv -y lv07 -w n datavg 1\nmklv -y lv08 -w n datavg 1\nmklv -y lv09 -w n datavg 1\nmklv -y lv10 -w n datavg 1\nmklv -y lv11 -w n datavg 1\nmklv -y lv12 -w n datavg 1\n",
+        line: b"rmlv lv12\n",
+        there: b"lv11 LPs 1 PPs 1 PVs 1 stale 0\nlv12 LPs 1 PPs 1 PVs 1 stale 0\n",
+        gone: b"lv11 LPs 1 PPs 1 PVs 1 stale 0\n",
+    };
+    assert!(rt; cuts_leave_it_whole_or_out(rt.alloc(), &case)?);
     Ok(())
-}
-
-// Whether a volume is there just where it was made, with each disk of a group failing from each call of its
-// making on, and healed afterwards.
-fn is_there_where_made(
-    alloc: Global,
-    sizes: &[u64],
-    made: &[u8],
-    script: &[u8],
-    healed: &[u8],
-) -> Result<bool, Fail> {
-    let first = calls_of(alloc, sizes, made)?;
-    let last = calls_of(alloc, sizes, script)?;
-    let mut agree = true;
-    for call in first..=last {
-        if call == first {
-            continue;
-        }
-        for disk in 0..sizes.len() as u16 {
-            let plan = [Planned {
-                call,
-                act: Act::Fail(disk),
-            }];
-            let (_, out) = run(alloc, sizes, &plan, healed)?;
-            agree = agree && agrees(out.bytes());
-        }
-    }
-    Ok(agree)
 }
 
 #[test]
 fn a_failing_disk_of_one_leaves_what_was_answered(rt: HostRuntime) -> Result<(), Fail> {
-    let made = b"mkvg -y datavg -s 1 hdisk0\n";
-    let script = b"mkvg -y datavg -s 1 hdisk0\nmklv -y lv00 -w n datavg 1\n";
-    let healed =
-        b"mkvg -y datavg -s 1 hdisk0\nmklv -y lv00 -w n datavg 1\nvaryoffvg datavg\nheal hdisk0\nvaryonvg datavg\nlsvg -l datavg\n";
-    assert!(rt; is_there_where_made(rt.alloc(), &[SMALL], made, script, healed)?);
+    let case = Case {
+        sizes: &[TINY],
+        before: b"mkvg -y datavg -s 1 hdisk0\n",
+        line: b"mklv -y lv00 -w n datavg 1\n",
+        there: b"ok\nlv00 LPs 1 PPs 1 PVs 1 stale 0\n",
+        gone: b"ok\n",
+    };
+    assert!(rt; failures_leave_what_was_answered(rt.alloc(), &case, &[0])?);
+    Ok(())
+}
+
+#[test]
+fn a_failing_disk_of_two_leaves_what_was_answered(rt: HostRuntime) -> Result<(), Fail> {
+    let case = Case {
+        sizes: &[TINY, TINY],
+        before: b"mkvg -y datavg -s 1 hdisk0 hdisk1\n",
+        line: b"mklv -y lv00 -w n datavg 2\n",
+        there: b"ok\nlv00 LPs 2 PPs 2 PVs 2 stale 0\n",
+        gone: b"ok\n",
+    };
+    assert!(rt; failures_leave_what_was_answered(rt.alloc(), &case, &[0, 1])?);
+    Ok(())
+}
+
+#[test]
+fn a_failing_disk_of_three_leaves_what_was_answered(rt: HostRuntime) -> Result<(), Fail> {
+    let case = Case {
+        sizes: &[TINY, TINY, TINY],
+        before: b"mkvg -y datavg -s 1 hdisk0 hdisk1 hdisk2\n",
+        line: b"mklv -y lv00 -w n datavg 1\n",
+        there: b"ok\nlv00 LPs 1 PPs 1 PVs 1 stale 0\n",
+        gone: b"ok\n",
+    };
+    assert!(rt; failures_leave_what_was_answered(rt.alloc(), &case, &[0, 1, 2])?);
     Ok(())
 }
