@@ -19,5 +19,3 @@ pub use volumes::{mklv, rmlv};
 
 #[cfg(test)]
 mod tests;
-#[cfg(test)]
-mod volume_tests;
