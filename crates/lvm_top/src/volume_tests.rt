@@ -39,7 +39,7 @@ fn calls_of(alloc: Global, sizes: &[u64], script: &[u8]) -> Result<u64, Fail> {
     Ok(ended.shelf.calls())
 }
 
-fn listed(alloc: Global, case: &Case<'_>, after: &[u8]) -> Result<Listed, Fail> {
+fn with_listing(alloc: Global, case: &Case<'_>, after: &[u8]) -> Result<Listed, Fail> {
     let mut script = Vec::from_slice(alloc, case.before)?;
     let before = calls_of(alloc, case.sizes, &script)?;
     script.extend_from_slice(case.line)?;
@@ -55,7 +55,7 @@ fn listed(alloc: Global, case: &Case<'_>, after: &[u8]) -> Result<Listed, Fail> 
 // Whether a power cut before each call of the line, a transfer's start or its end, leaves the volume or leaves it out,
 // in a group that comes on.
 fn cuts_leave_it_whole_or_out(alloc: Global, case: &Case<'_>) -> Result<bool, Fail> {
-    let listed = listed(alloc, case, COMES_ON)?;
+    let listed = with_listing(alloc, case, COMES_ON)?;
     let mut whole = listed.first < listed.last;
     for call in listed.first..=listed.last {
         for word in CUTS {
@@ -94,7 +94,7 @@ fn failures_leave_what_was_answered(
     case: &Case<'_>,
     disks: &[u16],
 ) -> Result<bool, Fail> {
-    let listed = listed(alloc, case, HEALED)?;
+    let listed = with_listing(alloc, case, HEALED)?;
     let mut agree = listed.first < listed.last;
     for call in listed.first..=listed.last {
         // a failure between a start and its end fails the same transfers
