@@ -1,8 +1,9 @@
 #!/usr/bin/env bash
 # Tries the built program as a user would, in a folder of its own: images are made, a block is written by
-# one run and read by the next; files that can't be used; a group that is made by one run and found by the
-# next; and loops in which the program is killed while it varies the group on, which has to come on again,
-# and while it writes, after which each block whose write was answered `ok` has to be there.
+# one run and read by the next; files that can't be used; a group and a volume that are made by one run and
+# found by the next; and loops in which the program is killed while it varies the group on, which has to come
+# on again, while it makes and removes a volume, which has to be there whole or not at all, and while it
+# writes, after which each block whose write was answered `ok` has to be there.
 # Not part of the gate. First build the program: (cd crates/lvm && rt run -- sim 1 8 < /dev/null)
 # usage: scripts/session.sh [ROUNDS]        LVM names another program
 set -u
@@ -76,20 +77,23 @@ fi
 
 # A file that becomes shorter, and one that goes away, while the program runs.
 mkfifo lines
-for change in 'truncate -s 2097152 hdisk0.img' 'rm hdisk0.img'; do
+# become CHANGE REPLIES: the file changes so between the first read and the lines behind it, which are answered so
+become() {
     "$lvm" script < lines > replies &
     exec 3> lines
     printf "$read" >&3
     sleep 0.5
-    $change
+    $1
     printf "$write$read" >&3
     exec 3>&-
     wait $!
-    [ "$(cat replies)" = "$(printf '4096 0000000000000001\nrefused 19 Lost\nrefused 20 ReadFailed\n')" ] || fail "$change: $(cat replies)"
+    [ "$(cat replies)" = "$(printf "4096 0000000000000001\n$2")" ] || fail "$1: $(cat replies)"
     rm -f hdisk0.img
     run 0 '' '' image 0 8
     run 0 'ok\n' "$write" script
-done
+}
+become 'truncate -s 2097152 hdisk0.img' 'refused 19 Lost\nrefused 20 ReadFailed\n'
+become 'rm hdisk0.img' 'refused 9 DiskFailed hdisk0\nrefused 9 DiskFailed hdisk0\n'
 
 # A group over image files: made by one run, found by the next, varied off, and varied on with a member away.
 run 0 '' '' image 1 8
@@ -100,6 +104,7 @@ run 0 'ok\nhdisk1 datavg active pps 6 free 6 stale 0\n' 'varyonvg datavg\nlspv h
 run 1 'refused 4 GroupExists\n' 'mkvg -y other hdisk0\n' script
 run 1 'refused 27 NoPlan\n' 'fail hdisk0\n' script
 mv hdisk2.img away
+: > hdisk2.img
 run 0 'ok\nhdisk2 datavg missing pps 6 free 6 stale 0\n' 'varyonvg datavg\nlspv hdisk2\n' script
 mv away hdisk2.img
 mv hdisk1.img away
@@ -114,6 +119,27 @@ for round in $(seq 1 "$rounds"); do
     done > lines.txt
     run_and_kill
     run 0 'ok\n' 'varyonvg datavg\n' script
+done
+
+# A volume is made by one run, and found and removed by the next.
+run 0 'ok\nok\n' 'varyonvg datavg\nmklv -y lv00 -w n datavg 7\n' script
+run 0 'ok\nlv00 LPs 7 PPs 7 PVs 2 stale 0\nok\n' 'varyonvg datavg\nlsvg -l datavg\nrmlv lv00\n' script
+
+# The program is killed while it makes and removes a volume, which is there whole or not at all.
+for round in $(seq 1 "$rounds"); do
+    {
+        printf 'varyonvg datavg\n'
+        for k in $(seq 1 50); do
+            printf 'mklv -y lv00 -w n datavg 2\nrmlv lv00\n'
+        done
+    } > lines.txt
+    run_and_kill
+    found=$(printf 'varyonvg datavg\nlsvg -l datavg\n' | "$lvm" script)
+    case "$found" in
+        ok) ;;
+        "$(printf 'ok\nlv00 LPs 2 PPs 2 PVs 1 stale 0')") run 0 'ok\nok\n' 'varyonvg datavg\nrmlv lv00\n' script ;;
+        *) fail "after a kill: '$found'" ;;
+    esac
 done
 rm -f hdisk1.img hdisk2.img
 
