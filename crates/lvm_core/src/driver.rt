@@ -43,7 +43,7 @@ use std::alloc::Global;
 use std::marker::Model;
 
 /// A group that is varied on, over its shelf. Contracts see the shelf and what the session is about.
-/// No call of it takes memory.
+/// No call of it but `prepare` takes memory.
 #[derive(Drop)]
 pub struct Driver<S: Shelf> {
     shelf: S,
