@@ -5,9 +5,7 @@ use Rattle.std.proofs.lemmas.List.{append-nil}
 use Rattle.std.proofs.lemmas.List.Sums.{sum_by-append}
 use Rattle.lvm_num.specs.declared.descriptor.Descriptor.{Descriptor}
 use Rattle.lvm_disk.specs.Device.{Device, IsReady}
-use Rattle.lvm_disk.specs.Paths.{Path, Here, Then}
 use Rattle.lvm_disk.proofs.Paths.{last-path}
-use Rattle.lvm_disk.proofs.Stepping.{step_same}
 use Rattle.lvm_vol.specs.Facts.{Fact, Cut}
 use Rattle.lvm_vol.specs.Legal.{begins_in, Legal}
 use Rattle.lvm_vol.specs.Log.{Log}
@@ -16,8 +14,8 @@ use Rattle.lvm_parse.specs.declared.rest.Misfit.{Misfit}
 use Rattle.lvm_parse.specs.Grammar.{line_of}
 use Rattle.lvm_kept.specs.Contents.{contents_of}
 use Rattle.lvm_kept.specs.Kept.{Kept}
-use Rattle.lvm_kept.specs.Moments.{Moment, Step, Moves, Enters, Calm}
-use Rattle.lvm_kept.proofs.Chaining.{span_told}
+use Rattle.lvm_kept.specs.Moments.{Moment, Calm}
+use Rattle.lvm_kept.proofs.Chaining.{span_told, span_sizes}
 use Rattle.lvm_kept.proofs.Keeping.{cut_calm}
 use Rattle.lvm_kept.proofs.Landing.{legal_more}
 use Rattle.lvm_change.specs.Moments.{Begins, ImagesKept, IsEarlier}
@@ -43,17 +41,6 @@ use Rattle.lvm_found.specs.Standing.{MayHaveCommitted, is_acknowledged, StandsOf
 use Rattle.lvm_found.proofs.Acknowledged.{only_committed, leaves_on, was_heard, stands_of}
 use Rattle.lvm_found.proofs.Lines.{line_finds_no_more}
 use Rattle.lvm_found.proofs.Varying.{was_found}
-
--- ---- what stays
-
-step_sizes : (old new : Moment) → Step old new → new.device.sizes ≡ old.device.sizes
-step_sizes old new (Moves step same) = (step_same old.device new.device step).sizes
-step_sizes old new (Enters f same is) = ap (λ (d : Device). d.sizes) same
-
--- the disks are as many and as large as they were
-span_sizes : {P : Moment → Type 0} {first last : Moment} → Path Step P first last → last.device.sizes ≡ first.device.sizes
-span_sizes (Here p) = refl
-span_sizes (Then path step p) = step_sizes _ _ step ∙ span_sizes path
 
 -- ---- the lines
 
