@@ -12,5 +12,3 @@ pub use laws::{
     volume_is_found, volume_may_be_committed, writes_are_held,
 };
 
-#[cfg(test)]
-mod tests;

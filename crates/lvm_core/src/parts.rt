@@ -1,5 +1,5 @@
 //! The memory of a session, which is taken before it starts.
-ghost use Rattle.std.specs.Prelude.{◌≡◌, ◌≤◌, ◌||◌, ◌==◌, ℕ, [], IfOk, IsTrue, IsFalse, length, vec_capacity};
+ghost use Rattle.std.specs.Prelude.{◌≡◌, ◌≤◌, ◌||◌, ◌==◌, ℕ, [], IfOk, IsTrue, IsFalse, false, ◌+◌, replicate, length, vec_capacity};
 ghost use Rattle.std.specs.List.{list_any};
 ghost use Rattle.lvm_num.specs.declared.descriptor.PvRow.{PvRow};
 ghost use Rattle.lvm_num.specs.Descriptor.{IsValid, is_member};
@@ -7,7 +7,10 @@ ghost use Rattle.lvm_num.specs.Disks.{has};
 ghost use Rattle.lvm_num.specs.Status.{IsValidStatus};
 ghost use Rattle.lvm_vol.specs.Log.{spare_entries};
 ghost use Rattle.lvm_status.specs.Members.{HasItsRows};
+ghost use Rattle.lvm_status.specs.Calls.{first_updates};
+ghost use Rattle.lvm_status.specs.Update.{seen};
 ghost use Rattle.lvm_core.specs.Fields.{status_room};
+ghost use Rattle.lvm_core.specs.Starting.{IsRoom, IsOneGroup, IsEmptyCache};
 
 use crate::look::are_placed;
 use crate::request::{Open, Power};
@@ -15,7 +18,7 @@ use crate::session::Session;
 use lvm_disk::Shelf;
 use lvm_hold::Queue;
 use lvm_mwc::Cache;
-use lvm_num::{Descriptor, DiskSet, Memory, Stamp};
+use lvm_num::{Descriptor, DiskSet, Memory, Stamp, Status};
 use lvm_pbuf::Pool;
 use lvm_quorum::{Choice, Homes};
 use lvm_stale::StaleTable;
@@ -70,7 +73,7 @@ impl Model for Parts {
 }
 
 impl Parts {
-    ghost use Rattle.lvm_core.specs.Starting.{IsRoom, IsOneGroup, IsReservedFor, AreReserved, ArePlaced, first_core};
+    ghost use Rattle.lvm_core.specs.Starting.{IsReservedFor, AreReserved, ArePlaced, first_core};
     ghost use Rattle.lvm_core.specs.Fields.{core_of, status_room};
 
     /// Takes all the memory of a session of the group that was chosen. It begins with the status of
@@ -82,31 +85,17 @@ impl Parts {
         requires group { IsOneGroup choice.descriptor choice.status }
         ensures { IfOk result (IsReservedFor choice.descriptor choice.status room) }
     {
-        let Choice {
-            descriptor,
-            status,
-            ..
-        } = choice;
-        let table = StaleTable::from_status(alloc, &status)?;
-        let updater = Updater::new(alloc, table, &descriptor)?;
-        let cache = Cache::new(alloc, members(&descriptor))?;
-        // The copy that is open has a place beside the requests.
-        let queue = Queue::new(alloc, room.table + 1)?;
-        let pool = Pool::new(alloc, room.pool)?;
-        let bytes = room_of_status(alloc)?;
-        match Vec::with_capacity(alloc, room.table as usize) {
-            Ok(requests) => Ok(Parts {
-                descriptor,
-                requests,
-                most: room.table,
-                queue,
-                pool,
-                updater,
-                cache,
-                bytes,
-            }),
-            Err(_) => Err(Memory),
-        }
+        let taken = Taken::new(alloc, &choice.descriptor, &choice.status, room)?;
+        Ok(Parts {
+            descriptor: choice.descriptor,
+            requests: taken.requests,
+            most: room.table,
+            queue: taken.queue,
+            pool: taken.pool,
+            updater: taken.updater,
+            cache: taken.cache,
+            bytes: taken.bytes,
+        })
     }
 
     /// Whether the disks of the members that aren't missing are on a shelf, each with the sectors that its
@@ -156,6 +145,78 @@ impl Parts {
             power: Power::On,
             bytes,
         }
+    }
+}
+
+// The memory of a session.
+#[derive(Drop)]
+struct Taken {
+    requests: Vec<Open>,
+    queue: Queue,
+    pool: Pool,
+    updater: Updater,
+    cache: Cache,
+    bytes: Vec<u8>,
+}
+
+impl Taken {
+    ghost use Rattle.lvm_core.specs.Fields.{status_room};
+
+    fn new(alloc: Global, d: &Descriptor, status: &Status, room: Room) -> Result<Taken, Memory>
+        requires room { IsRoom room }
+        requires descriptor { IsValid d.now }
+        requires status { IsValidStatus status.now }
+        requires group { IsOneGroup d.now status.now }
+        ensures updater { IfOk result (λ taken. seen taken.updater ≡ first_updates status.now d.now) }
+        ensures cache { IfOk result (λ taken. IsEmptyCache d.now taken.cache) }
+        ensures requests { IfOk result (λ taken. taken.requests.items ≡ []) }
+        ensures capacity { IfOk result (λ taken. room.table ≤ vec_capacity taken.requests) }
+        ensures queue { IfOk result (λ taken. taken.queue ≡ record { room = room.table + 1; rows = [] }) }
+        ensures pool { IfOk result (λ taken. taken.pool ≡ replicate room.pool false) }
+        ensures bytes { IfOk result (λ taken. length taken.bytes.items ≡ status_room) }
+    {
+        let (updater, cache) = of_group(alloc, d, status)?;
+        let (requests, queue, pool) = of_requests(alloc, room)?;
+        let bytes = room_of_status(alloc)?;
+        Ok(Taken {
+            requests,
+            queue,
+            pool,
+            updater,
+            cache,
+            bytes,
+        })
+    }
+}
+
+// The updates and the cache of a group that begins with a status.
+fn of_group(alloc: Global, d: &Descriptor, status: &Status) -> Result<(Updater, Cache), Memory>
+    requires descriptor { IsValid d.now }
+    requires status { IsValidStatus status.now }
+    requires group { IsOneGroup d.now status.now }
+    ensures updater { IfOk result (λ made. seen made.0 ≡ first_updates status.now d.now) }
+    ensures cache { IfOk result (λ made. IsEmptyCache d.now made.1) }
+{
+    let table = StaleTable::from_status(alloc, status)?;
+    let updater = Updater::new(alloc, table, d)?;
+    let cache = Cache::new(alloc, members(d))?;
+    Ok((updater, cache))
+}
+
+// The table of requests, with the hold queue and the transfer buffers.
+fn of_requests(alloc: Global, room: Room) -> Result<(Vec<Open>, Queue, Pool), Memory>
+    requires { IsRoom room }
+    ensures requests { IfOk result (λ made. made.0.items ≡ []) }
+    ensures capacity { IfOk result (λ made. room.table ≤ vec_capacity made.0) }
+    ensures queue { IfOk result (λ made. made.1 ≡ record { room = room.table + 1; rows = [] }) }
+    ensures pool { IfOk result (λ made. made.2 ≡ replicate room.pool false) }
+{
+    // The copy that is open has a place beside the requests.
+    let queue = Queue::new(alloc, room.table + 1)?;
+    let pool = Pool::new(alloc, room.pool)?;
+    match Vec::with_capacity(alloc, room.table as usize) {
+        Ok(requests) => Ok((requests, queue, pool)),
+        Err(_) => Err(Memory),
     }
 }
 

@@ -12,8 +12,6 @@ mod queue;
 mod row;
 mod shelf;
 mod tally;
-#[cfg(test)]
-mod tests;
 mod write_log;
 
 pub use flying::Flying;

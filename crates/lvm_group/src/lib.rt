@@ -17,5 +17,3 @@ pub use fault::GroupFault;
 pub use making::mkvg;
 pub use volumes::{mklv, rmlv};
 
-#[cfg(test)]
-mod tests;

@@ -5,5 +5,3 @@ mod queue;
 
 pub use queue::{Held, Queue, Row};
 
-#[cfg(test)]
-mod tests;

@@ -12,5 +12,3 @@ pub use memory::{MemClock, MemSink, MemSource};
 pub use stream::{Clock, Got, Images, Put, Sink, Source};
 pub use system::{StdSink, StdSource, SystemClock};
 
-#[cfg(test)]
-mod tests;

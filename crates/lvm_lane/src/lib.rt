@@ -6,8 +6,6 @@ mod image;
 mod name;
 mod shelf;
 mod sink;
-#[cfg(test)]
-mod tests;
 
 pub use shelf::FileShelf;
 pub use sink::ImageSink;

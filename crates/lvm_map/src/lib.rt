@@ -9,5 +9,3 @@ mod room;
 pub use fit::{MapFault, allocate, allocate_more};
 pub use places::{blocks, place};
 
-#[cfg(test)]
-mod tests;

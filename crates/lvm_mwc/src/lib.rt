@@ -10,5 +10,3 @@ pub use cache::{Cache, Pin};
 pub use entries::CacheEntry;
 pub use notes::DiskNotes;
 
-#[cfg(test)]
-mod tests;

@@ -47,5 +47,3 @@ impl<T: Drop> From<AllocFailed<T>> for Memory {
     }
 }
 
-#[cfg(test)]
-mod tests;

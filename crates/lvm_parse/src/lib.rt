@@ -71,5 +71,3 @@ pub use command::{Command, ParseFault};
 pub use line::parse;
 pub use words::number_of;
 
-#[cfg(test)]
-mod tests;

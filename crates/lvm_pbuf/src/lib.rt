@@ -5,5 +5,3 @@ mod pool;
 
 pub use pool::Pool;
 
-#[cfg(test)]
-mod tests;

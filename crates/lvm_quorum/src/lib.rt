@@ -18,11 +18,3 @@ pub use lvm_survey::{Survey, SurveyRow, Surveyed, survey_disks};
 pub use notes::empty_notes;
 pub use write::{Wrote, write_record};
 
-#[cfg(test)]
-mod choice_tests;
-#[cfg(test)]
-mod notes_tests;
-#[cfg(test)]
-mod survey_tests;
-#[cfg(test)]
-mod write_tests;

@@ -12,5 +12,3 @@ mod request;
 pub use disk::{read_disk, write_disk};
 pub use fault::RawFault;
 
-#[cfg(test)]
-mod tests;

@@ -5,8 +5,6 @@ mod frames;
 mod laws;
 mod notes;
 mod numbers;
-#[cfg(test)]
-mod tests;
 
 pub use frames::{frame, read_slot, slot_sectors};
 pub use laws::{frames_are_read, later_stamps, newest_stays_or_is_new, note_stays_or_is_new};

@@ -7,5 +7,3 @@ mod writes;
 pub use reads::read_order;
 pub use writes::{TargetState, write_next};
 
-#[cfg(test)]
-mod tests;

@@ -15,7 +15,3 @@ pub use map::show_map;
 pub use member::show_disk;
 pub use refusal::{Carried, Refusal, show_refusal};
 
-#[cfg(test)]
-mod listing_tests;
-#[cfg(test)]
-mod word_tests;

@@ -6,5 +6,3 @@ mod table;
 
 pub use table::StaleTable;
 
-#[cfg(test)]
-mod tests;

@@ -11,5 +11,3 @@ pub use change::{Change, Progress};
 pub use updater::Updater;
 pub use writes::Writes;
 
-#[cfg(test)]
-mod tests;

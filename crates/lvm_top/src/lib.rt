@@ -1,18 +1,10 @@
 //! The top calls: a script read line by line, done on a shelf of disks, and answered.
 #![tactic(auto)]
 
-#[cfg(test)]
-mod bench;
-#[cfg(test)]
-mod group_tests;
 mod image;
 mod program;
 mod run;
 mod script;
-#[cfg(test)]
-mod tests;
-#[cfg(test)]
-mod volume_tests;
 
 pub use image::run_image;
 pub use lvm_core::Room;

@@ -6,8 +6,6 @@
 mod pass;
 mod rule;
 mod steps;
-#[cfg(test)]
-mod tests;
 mod turn;
 
 pub use pass::Pass;

@@ -9,5 +9,3 @@ mod writes;
 pub use laws::restated_is_recovered;
 pub use vary::varyon;
 
-#[cfg(test)]
-mod tests;

@@ -17,5 +17,3 @@ pub use laws::descriptors_are_exact;
 pub use reading::decode;
 pub use writing::encode;
 
-#[cfg(test)]
-mod tests;

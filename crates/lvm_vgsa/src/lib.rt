@@ -13,5 +13,3 @@ pub use laws::written_is_read;
 pub use reading::decode;
 pub use writing::{encode, encode_into};
 
-#[cfg(test)]
-mod tests;

@@ -14,5 +14,3 @@ pub use entry::{Entry, Outcome, Vol};
 pub use history::History;
 pub use shown::{Past, Shown};
 
-#[cfg(test)]
-mod tests;

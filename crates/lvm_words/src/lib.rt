@@ -9,8 +9,6 @@ mod language;
 mod matched;
 mod plain;
 mod read;
-#[cfg(test)]
-mod tests;
 
 pub use job::{Job, WordsFault};
 pub use read::read_words;

@@ -1,0 +1,17 @@
+//! Tests of the layer below, by its public calls alone.
+#![tactic(auto)]
+
+#[cfg(test)]
+mod disk;
+#[cfg(test)]
+mod lane;
+#[cfg(test)]
+mod quorum_choice;
+#[cfg(test)]
+mod quorum_notes;
+#[cfg(test)]
+mod quorum_survey;
+#[cfg(test)]
+mod quorum_write;
+#[cfg(test)]
+mod raw;

@@ -1,0 +1,11 @@
+//! Tests of the layer below, by its public calls alone.
+#![tactic(auto)]
+
+#[cfg(test)]
+mod begin;
+#[cfg(test)]
+mod commit;
+#[cfg(test)]
+mod group;
+#[cfg(test)]
+mod varyon;

@@ -1,0 +1,27 @@
+//! Tests of the layer below, by its public calls alone.
+#![tactic(auto)]
+
+#[cfg(test)]
+mod hold;
+#[cfg(test)]
+mod io;
+#[cfg(test)]
+mod mwc;
+#[cfg(test)]
+mod parse;
+#[cfg(test)]
+mod pbuf;
+#[cfg(test)]
+mod sched;
+#[cfg(test)]
+mod show_listing;
+#[cfg(test)]
+mod show_word;
+#[cfg(test)]
+mod status;
+#[cfg(test)]
+mod turn;
+#[cfg(test)]
+mod vol;
+#[cfg(test)]
+mod words;

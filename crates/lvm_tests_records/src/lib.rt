@@ -1,0 +1,17 @@
+//! Tests of the layer below, by its public calls alone.
+#![tactic(auto)]
+
+#[cfg(test)]
+mod map;
+#[cfg(test)]
+mod num;
+#[cfg(test)]
+mod rec;
+#[cfg(test)]
+mod stale;
+#[cfg(test)]
+mod vgda;
+#[cfg(test)]
+mod vgsa;
+#[cfg(test)]
+mod word;
