@@ -1,4 +1,4 @@
-mod Rising
-mod Changes
-mod Each
-mod Whole
+pub mod Rising
+pub mod Changes
+pub mod Each
+pub mod Whole

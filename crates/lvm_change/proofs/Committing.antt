@@ -48,7 +48,7 @@ module _ (old : Contents) (shown : ℕ → Option (Stamped Descriptor)) (g : Des
     (facts : List Fact) (kept : Kept old facts) (lv : ℕ)
     (others : (row : LvRow) → IsOneOf rows row → (row.number ≡ lv → ⊥) → IsOneOf g.lvs row)
     (volumes : (number : ℕ) → (number ≡ lv → ⊥) → volume_of (record g { lvs = rows }) number ≡ volume_of g number)
-    (begun : (volumes_in facts lv).standing ≡ Open) (stands : StandsAs g.mib Open (volumes_in facts lv).shape (volume_of (record g { lvs = rows }) lv))
+    (stands : StandsAs g.mib (volumes_in facts lv).standing (volumes_in facts lv).shape (volume_of (record g { lvs = rows }) lv))
     (served : (row : LvRow) → IsOneOf rows row → row.number ≡ lv → IsServed old facts g row) where
   abbrev now : Contents
   now = new old shown g n rows own later found within
@@ -196,8 +196,7 @@ module _ (old : Contents) (shown : ℕ → Option (Stamped Descriptor)) (g : Des
       ⊎_elim
       (λ (same : k ≡ it.was). subst (λ (x : Descriptor). StandsAs x.mib (volumes_in facts number).standing (volumes_in facts number).shape (volume_of x number)) (sym same) stood)
       (λ (is : (k ≡ next) × (it.was ≡ g) × (id ≡ g.id)). subst (λ (x : Descriptor). StandsAs x.mib (volumes_in facts number).standing (volumes_in facts number).shape (volume_of x number)) (sym is.0) (⊎_elim
-      (λ (its : number ≡ lv). subst (λ (m : ℕ). StandsAs g.mib (volumes_in facts m).standing (volumes_in facts m).shape (volume_of next m)) (sym its)
-      (subst (λ (t : Standing). StandsAs g.mib t (volumes_in facts lv).shape (volume_of next lv)) (sym begun) stands))
+      (λ (its : number ≡ lv). subst (λ (m : ℕ). StandsAs g.mib (volumes_in facts m).standing (volumes_in facts m).shape (volume_of next m)) (sym its) stands)
       (λ (isnt : number ≡ lv → ⊥). subst (λ (o : Option LvRow). StandsAs g.mib (volumes_in facts number).standing (volumes_in facts number).shape o) (sym (volumes number isnt))
       (subst (λ (x : Descriptor). StandsAs x.mib (volumes_in facts number).standing (volumes_in facts number).shape (volume_of x number)) is.1 stood))
       (same_number number lv)))
@@ -297,5 +296,5 @@ commit_keeps group lv targets next old new facts within may change kept =
     (λ d. ⊎_elim (λ same. inl same) (λ (is : IsTrue (targets d) × (new.descriptor d ≡ Some next)). inr (is.1 ∙ ap (λ (r : Stamped Descriptor). Some r) next_is, may.showing d is.0)) (change.own d))
     may.later may.found within facts kept lv may.differs.rows
     (λ number isnt. ap (λ (v : Descriptor). volume_of v number) (sym alone) ∙ may.differs.volumes number isnt)
-    may.begun (subst (λ (v : Descriptor). StandsAs group.mib Open (volumes_in facts lv).shape (volume_of v lv)) alone may.stands)
+    (subst (λ (v : Descriptor). StandsAs group.mib (volumes_in facts lv).standing (volumes_in facts lv).shape (volume_of v lv)) alone may.stands)
     may.served)

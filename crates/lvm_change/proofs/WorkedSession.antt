@@ -216,7 +216,6 @@ half_made = commit_keeps three 1 (only 1) (stamped 3 with_volume) of_three half_
     (record {
       found = (either_of 0 2, two_find);
       differs = record { alone = refl; rows = λ row one isnt. only_row row one isnt; volumes = λ number isnt. other number (1 == number) refl isnt };
-      begun = refl;
       stands = refl;
       served = λ row one its. served row one;
       showing = λ d is. group_shows d (second_shows d is);

@@ -11,7 +11,7 @@ use Rattle.lvm_num.specs.Record.{Stamped, stamp_lt}
 use Rattle.lvm_vol.specs.declared.entry.Vol.TheVariants.{Lv}
 use Rattle.lvm_vol.specs.Facts.{Fact, Cut}
 use Rattle.lvm_vol.specs.May.{known}
-use Rattle.lvm_vol.specs.Standing.{Open, volumes_in}
+use Rattle.lvm_vol.specs.Standing.{volumes_in}
 use Rattle.lvm_disk.specs.Device.{Device, image_of}
 use Rattle.lvm_disk.specs.Paths.{DeviceStep, Path}
 use Rattle.lvm_kept.specs.Contents.{Contents, contents_of}
@@ -45,9 +45,8 @@ pub record MayCommit (c : Contents) (facts : List Fact) (group : Descriptor) (lv
   -- the session's descriptor, which the disks that it was varied on with find
   pub found : IsFound c group.id group
   pub differs : DiffersInVolume lv group next.value
-  -- the entry that the volume is being made or removed stands, and where the next descriptor names it, it has the shape with which it is made
-  pub begun : (volumes_in facts lv).standing ≡ Open
-  pub stands : StandsAs group.mib Open (volumes_in facts lv).shape (volume_of next.value lv)
+  -- by the history it may be named, or not, as the next descriptor says: as where it is being made or removed, or where it stays with its shape
+  pub stands : StandsAs group.mib (volumes_in facts lv).standing (volumes_in facts lv).shape (volume_of next.value lv)
   -- where it is named, its blocks are zeros, and the status that was committed calls none of its partitions stale
   pub served : (row : LvRow) → IsOneOf next.value.lvs row → row.number ≡ lv → IsServed c facts group row
   pub showing : AreShowing c group.id targets

@@ -25,13 +25,15 @@ use Rattle.lvm_change.proofs.Making.{media_may}
 use Rattle.lvm_quorum.specs.declared.homes.Homes.{Homes}
 use Rattle.lvm_quorum.specs.Written.{KeepsShelf, IsDarkened, IsGivenUp}
 use Rattle.lvm_quorum.proofs.Transfers.{keeps_then, darkened_then, given_up_then}
-use Rattle.lvm_quorum.proofs.Writing.{told_at, both_map, both_then}
+use Rattle.lvm_quorum.proofs.Writing.{told_at, if_told, both_map, both_then}
 use Rattle.lvm_commit.specs.declared.commit.Settled.{Settled}
 use Rattle.lvm_commit.specs.declared.commit.Settled.TheVariants as settled
 use Rattle.lvm_commit.specs.Committed.{next_stamp, IsAlike}
 use Rattle.lvm_commit.specs.LawsOfVolumes.{VolumeServes, LeavesOthers}
 use Rattle.lvm_commit.specs.LawsOfFinding.{FindsNoMore, FindsNoMoreOn}
-use Rattle.lvm_commit.specs.Settling.{IfWentOff, EndsAtOnce, there, IsOf, SessionIsHeld, WantsSameMarks, OthersAreLeft, OnlyLoses, AreWell, HasLostQuorum, SpendsNumbers, IsOfStatus, IsOfCommit, IsOneRecord, StatusStaysKept, DescriptorStaysKept, StatusFindsNothingNew, StaysHeld}
+use Rattle.lvm_commit.specs.Committed.{MayMark}
+use Rattle.lvm_commit.proofs.Statuses.{same_marks}
+use Rattle.lvm_commit.specs.Settling.{IfWentOff, EndsAtOnce, there, IsOf, SessionIsHeld, WantsMarks, OthersAreLeft, OnlyLoses, AreWell, HasLostQuorum, SpendsNumbers, IsOfStatus, IsOfCommit, IsOneRecord, StatusStaysKept, DescriptorStaysKept, StatusFindsNothingNew, StaysHeld}
 use Rattle.lvm_commit.specs.Rounds.{stamped, session_write, WasTried, RecordGives}
 use Rattle.lvm_commit.proofs.Chaining.{Goes, Returns, path_counts, keeps_wider, loses_less, loses_then, not_there, record_returns, lost_quorum_then, spends_numbers_then}
 use Rattle.lvm_commit.proofs.Round.{none_or_some, failed_is_missing, was_there_on}
@@ -187,11 +189,10 @@ module _ (first mid last : Stored) (homes after final : Homes) (old m new : Devi
     next_held : SessionIsHeld m next mid after
     next_held = descriptor_holds first homes old k.sectors content next k.frames reads mid after m number one.keeps buf tried k.committed k.gives.how.1 group own alike held
 
-    next_marks : WantsSameMarks next mid
-    next_marks = record {
-      stale = λ row lp p in_row in_copies. tried.wanted.stale p ∙ ap (λ (s : Status). calls_stale s p) (sym k.was_settled ∙ sym k.committed);
-      dirty = λ row in_row. ap (λ (numbers : List ℕ). calls_dirty (record mid.wanted { dirty = numbers }) row.number) (tried.wanted.dirty ∙ ap (λ (s : Status). s.dirty) (sym k.was_settled ∙ sym k.committed));
-    }
+    next_marks : WantsMarks m next mid
+    next_marks = if_told m.media (λ media. MayMark (contents_of (image_of m.sizes media)) next mid.committed mid.wanted) (λ media told. same_marks (contents_of (image_of m.sizes media)) next mid.committed mid.wanted
+        (λ p. tried.wanted.stale p ∙ ap (λ (s : Status). calls_stale s p) (sym k.was_settled ∙ sym k.committed))
+        (λ n. ap (λ (numbers : List ℕ). calls_dirty (record mid.wanted { dirty = numbers }) n) (tried.wanted.dirty ∙ ap (λ (s : Status). s.dirty) (sym k.was_settled ∙ sym k.committed))))
 
     pub commit_finds : StatusFindsNothingNew mid after m new → FindsNoMoreOn next old new
     commit_finds finds = then_no_more old m new (λ was is. ChangesBy (IsOfRecord w) (image_of old.sizes was) (image_of m.sizes is)) one.keeps.media (finds next next_is_of next_held) next
@@ -212,7 +213,7 @@ module _ (first mid last : Stored) (homes after final : Homes) (old m new : Devi
   described_kept : DescriptorStaysKept content first homes old m
   described_kept = descriptor_kept first mid homes after old m content number p q (settled.Done buf) k.gives k.sectors k.frames
 
-  then_kept : (d : Device) → ((group : Descriptor) → IsOf group mid → WantsSameMarks group mid → SessionIsHeld m group mid after → StaysKept m d) × (is_some d.media ≡ is_some m.media) → CommitStays d
+  then_kept : (d : Device) → ((group : Descriptor) → IsOf group mid → WantsMarks m group mid → SessionIsHeld m group mid after → StaysKept m d) × (is_some d.media ≡ is_some m.media) → CommitStays d
   then_kept d is group next lv facts reads own held serves was image may =
       let media = told_before old d image (is.1 ∙ told_with k.gives.moments) may in
       let served = told_at old.media (λ x. VolumeServes (contents_of (image_of old.sizes x)) facts group lv next) media.0 media.1 serves in

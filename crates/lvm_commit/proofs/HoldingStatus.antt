@@ -1,6 +1,6 @@
 -- What the disks hold and what is found of them, while the next status is written and once it stands.
 use Rattle.std.proofs.Common.{◌≡◌, ℕ, List, Ok, sym, subst}
-use Rattle.std.specs.Prelude.{is_some}
+use Rattle.std.specs.Prelude.{IfSome, is_some}
 use Rattle.lvm_num.specs.declared.record.Kind.TheVariants as kind
 use Rattle.lvm_num.specs.declared.record.Stamp.{Stamp}
 use Rattle.lvm_num.specs.declared.descriptor.Descriptor.{Descriptor}
@@ -19,8 +19,8 @@ use Rattle.lvm_change.specs.Moments.{StaysKept}
 use Rattle.lvm_change.proofs.Making.{media_may}
 use Rattle.lvm_quorum.specs.declared.homes.Homes.{Homes}
 use Rattle.lvm_quorum.specs.Written.{KeepsShelf, IsWriting}
-use Rattle.lvm_quorum.proofs.Writing.{if_told, both_from}
-use Rattle.lvm_commit.specs.Committed.{next_stamp, SameMarks, HoldsCommitted}
+use Rattle.lvm_quorum.proofs.Writing.{if_told, told_at, both_from}
+use Rattle.lvm_commit.specs.Committed.{next_stamp, MayMark, HoldsCommitted}
 use Rattle.lvm_commit.specs.LawsOfFinding.{FindsNothingNew, FindsNothingNewOn}
 use Rattle.lvm_commit.specs.Settling.{there, IsOf, SessionIsHeld}
 use Rattle.lvm_commit.specs.Rounds.{WasTried}
@@ -35,11 +35,11 @@ module _ (first : Stored) (homes : Homes) (old : Device) (sectors : HasSectors o
 
   pub status_moment_kept :
       (d : Device) → IsWriting (IsOfRecord w) old d → is_some d.media ≡ is_some old.media → CanWrite first.group (there first)
-      → (group : Descriptor) → IsOf group first → next.id ≡ group.id → SameMarks group first.committed next → SessionIsHeld old group first homes → StaysKept old d
+      → (group : Descriptor) → IsOf group first → next.id ≡ group.id → IfSome old.media (λ m. MayMark (contents_of (image_of old.sizes m)) group first.committed next) → SessionIsHeld old group first homes → StaysKept old d
   status_moment_kept d writing same enough group own its marks held facts kept image may =
       let m = told_before old d image same may in
       status_write_keeps group first.committed next (there first) first.stamp homes w.framed (image_of old.sizes m.0) image facts (whole first homes old sectors kind.Status content m.0 m.1)
-      (can_write first homes old sectors kind.Status content group (there first) own enough) (held_at first homes old sectors kind.Status content group m.0 m.1 held) frames reads its marks
+      (can_write first homes old sectors kind.Status content group (there first) own enough) (held_at first homes old sectors kind.Status content group m.0 m.1 held) frames reads its (told_at old.media (λ m. MayMark (contents_of (image_of old.sizes m)) group first.committed next) m.0 m.1 marks)
       (later first homes old sectors kind.Status content) (by_at first homes old sectors kind.Status content d m.0 m.1 writing image may) (kept (image_of old.sizes m.0) (media_may old m.0 m.1))
 
   pub status_moment_finds : (d : Device) → IsWriting (IsOfRecord w) old d → (group : Descriptor) → SessionIsHeld old group first homes → FindsNothingNewOn old d

@@ -20,7 +20,7 @@ use Rattle.lvm_commit.specs.declared.commit.Settled.{Settled}
 use Rattle.lvm_commit.specs.declared.commit.Settled.TheVariants as settled
 use Rattle.lvm_commit.specs.Committed.{next_stamp}
 use Rattle.lvm_commit.specs.LawsOfFinding.{FindsNothingNewOn}
-use Rattle.lvm_commit.specs.Settling.{there, MaySettle, IsOf, OnlyLoses, IsOfStatus, IsOneRecord, WantsSameMarks, SessionIsHeld}
+use Rattle.lvm_commit.specs.Settling.{there, MaySettle, IsOf, OnlyLoses, IsOfStatus, IsOneRecord, WantsMarks, SessionIsHeld}
 use Rattle.lvm_commit.specs.Rounds.{WasTried, HowRecord, RecordGives, stamped, session_write}
 use Rattle.lvm_commit.proofs.Chaining.{Goes, Returns, keeps_wider, record_returns, was_there}
 use Rattle.lvm_commit.proofs.Round.{record_goes, none_or_some, failed_is_missing}
@@ -68,7 +68,7 @@ module _ (d : Descriptor) (now last : Stored) (slots next : Homes) (mid new : De
   -- ---- each moment
 
   abbrev pub RoundStaysKept : Device → Type 0
-  RoundStaysKept e = (group : Descriptor) → IsOf group now → WantsSameMarks group now → SessionIsHeld mid group now slots → StaysKept mid e
+  RoundStaysKept e = (group : Descriptor) → IsOf group now → WantsMarks mid group now → SessionIsHeld mid group now slots → StaysKept mid e
 
   pub round_kept : Path DeviceStep RoundStaysKept mid new
   round_kept = map-path RoundStaysKept

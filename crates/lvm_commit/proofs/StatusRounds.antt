@@ -29,7 +29,9 @@ use Rattle.lvm_quorum.proofs.Writing.{if_told}
 use Rattle.lvm_commit.specs.declared.commit.Settled.{Settled}
 use Rattle.lvm_commit.specs.Committed.{next_stamp}
 use Rattle.lvm_commit.specs.LawsOfFinding.{FindsNothingNew, FindsNothingNewOn}
-use Rattle.lvm_commit.specs.Settling.{there, MaySettle, HasNumbers, IsOf, HasLostQuorum, SpendsNumbers, IsOfStatus, IsOneRecord, IsPlain, WantsSameMarks, SessionIsHeld, StatusStaysKept, StatusFindsNothingNew}
+use Rattle.lvm_commit.specs.Committed.{MayMark}
+use Rattle.lvm_commit.proofs.Statuses.{same_marks}
+use Rattle.lvm_commit.specs.Settling.{there, MaySettle, HasNumbers, IsOf, HasLostQuorum, SpendsNumbers, IsOfStatus, IsOneRecord, IsPlain, WantsMarks, SessionIsHeld, StatusStaysKept, StatusFindsNothingNew}
 use Rattle.lvm_commit.specs.Rounds.{stamped, session_write, WasTried, HasFew, RecordGives}
 use Rattle.lvm_commit.proofs.NoMore.{data_finds_nothing_new, then_nothing_new}
 use Rattle.lvm_commit.proofs.Still.{still_image}
@@ -67,7 +69,7 @@ pub record AreRounds (d : Descriptor) (number before left : ℕ) (first now : St
   pub returns : Returns number now old mid buf
   pub numbers : SpendsNumbers 1 first now
   pub stage : IsFresh first now slots next old mid ⊎ IsOn first now slots old mid
-  pub marks : (group : Descriptor) → WantsSameMarks group first → WantsSameMarks group now
+  pub marks : (group : Descriptor) → WantsMarks old group first → WantsMarks mid group now
   pub held : (group : Descriptor) → IsOf group first → SessionIsHeld old group first slots → SessionIsHeld mid group now next
   pub finds : StatusFindsNothingNew first slots old mid
   pub kept : StatusStaysKept first slots old mid
@@ -147,7 +149,7 @@ module _ (d : Descriptor) (number before left : ℕ) (first now : Stored) (slots
 
   pub more_kept : StatusStaysKept first slots old new
   more_kept = append-path rounds.kept
-      (map-path (λ (e : Device). (group : Descriptor) → IsOf group first → WantsSameMarks group first → SessionIsHeld old group first slots → StaysKept old e)
+      (map-path (λ (e : Device). (group : Descriptor) → IsOf group first → WantsMarks old group first → SessionIsHeld old group first slots → StaysKept old e)
       (λ e goes group own marks held facts kept.
       goes group (own ∙ sym rounds.goes.loses.group) (rounds.marks group marks) (rounds.held group own held) facts (last-path rounds.kept group own marks held facts kept))
       (round_kept d now last next then mid new sectors rounds.may buf.number left after result gives frames valid))
@@ -215,10 +217,9 @@ module _ (d : Descriptor) (number before left : ℕ) (first now : Stored) (slots
         returns = more_returns;
         numbers = more_numbers;
         stage = inr (record { plain = more_plain; spare = more_spare });
-        marks = λ group marks. record {
-          stale = λ row lp p row_is copy. one.loses.stale p ∙ ap (λ (s : Status). calls_stale s p) (sym same);
-          dirty = λ row row_is. ap (λ (numbers : List ℕ). list_any (λ n. n == row.number) numbers) one.loses.dirty ∙ ap (λ (s : Status). calls_dirty s row.number) (sym same);
-        };
+        marks = λ group marks. if_told new.media (λ media. MayMark (contents_of (image_of new.sizes media)) group last.committed last.wanted) (λ media told. same_marks (contents_of (image_of new.sizes media)) group last.committed last.wanted
+            (λ p. one.loses.stale p ∙ ap (λ (s : Status). calls_stale s p) (sym same))
+            (λ n. ap (λ (numbers : List ℕ). list_any (λ m. m == n) numbers) one.loses.dirty ∙ ap (λ (s : Status). calls_dirty s n) (sym same)));
         held = λ group own held. round_holds d now last next then mid new sectors rounds.may buf.number left after result gives frames valid back tried same group (own ∙ sym rounds.goes.loses.group) (rounds.held group own held);
         finds = more_finds;
         kept = more_kept;

@@ -1,7 +1,10 @@
 -- The next status of a session keeps the history.
 use Rattle.std.proofs.Common.{◌≡◌, ◌⊎◌, inl, inr, ⊎_elim, ℕ, ◌<◌, Bool, true, false, ◌&&◌, List, [], ◌∷◌, ◌++◌, Option, Some, None, refl, sym, ap, subst, ◌∙◌, eq-eqb}
 use Rattle.std.specs.Prelude.{IsTrue, ◌==◌, not, if◌then◌else◌, filter}
+use Rattle.std.specs.List.{AllByRecursion}
 use Rattle.std.proofs.lemmas.Bool.{eqb-true}
+use Rattle.lvm_num.specs.Geometry.{track_group_of}
+use Rattle.lvm_num.specs.Status.{calls_stale, calls_dirty}
 use Rattle.lvm_num.specs.declared.place.Pp.{Pp}
 use Rattle.lvm_num.specs.declared.record.Stamp.{Stamp}
 use Rattle.lvm_num.specs.declared.descriptor.Mode.{Mode}
@@ -15,10 +18,10 @@ use Rattle.lvm_num.specs.Votes.{all_disks}
 use Rattle.lvm_num.specs.Record.{Stamped, stamp_lt, newest_below}
 use Rattle.lvm_vol.specs.declared.entry.Vol.TheVariants.{Lv}
 use Rattle.lvm_vol.specs.Facts.{Fact, Cut}
-use Rattle.lvm_vol.specs.May.{Known, known}
+use Rattle.lvm_vol.specs.May.{Known, known, IsValue}
 use Rattle.lvm_disk.specs.Device.{Image, image_of}
 use Rattle.lvm_kept.specs.Contents.{Contents, contents_of}
-use Rattle.lvm_kept.specs.Group.{if_passes, passes, is_of, is_status_of, IsFound, members_in, status_by, Reads, ReadsBy, is_stale_by, fresh_on, IsOneOf, IsSome, HoldOne}
+use Rattle.lvm_kept.specs.Group.{if_passes, passes, is_of, is_status_of, IsFound, members_in, status_by, Reads, ReadsBy, is_stale_by, fresh_on, block_at, is_named, IsOneOf, IsSome, HoldOne}
 use Rattle.lvm_kept.specs.Committed.{IsWithinDisks}
 use Rattle.lvm_kept.specs.Kept.{MayDiffer, IsBlockKept, BlocksKept, Kept}
 use Rattle.lvm_kept.specs.Changes.{Serves, HasNoVolume}
@@ -27,46 +30,121 @@ use Rattle.lvm_kept.proofs.Finding.{finding_reads, images_within}
 use Rattle.lvm_kept.proofs.Records.{status_shows}
 use Rattle.lvm_kept.proofs.Restamping.{fewer_blocks}
 use Rattle.lvm_kept.proofs.Restating.{statuses_keep}
-use Rattle.lvm_change.proofs.Booleans.{either, clash, not-itself}
+use Rattle.lvm_change.proofs.Booleans.{either, clash, split, not-itself}
 use Rattle.lvm_change.proofs.Making.{stays_by}
 use Rattle.lvm_change.proofs.VaryingOn.{old_or_next}
-use Rattle.lvm_commit.specs.Committed.{SameMarks}
+use Rattle.lvm_commit.specs.Committed.{MayMark}
+use Rattle.lvm_commit.proofs.Free.{all_that_pass}
 use Rattle.lvm_commit.specs.Laws.{MayFollow, StatusFollows, StatusGoesOn}
 use Rattle.lvm_commit.proofs.Found.{shows_group, only_found, status_read}
 use Rattle.lvm_commit.proofs.Members.{one_group, parts_of, among_all}
 
--- tests that agree on a list let the same through
-filter_same : {X : Type 0} (p q : X → Bool) (xs : List X) → ((x : X) → IsOneOf xs x → p x ≡ q x) → filter p xs ≡ filter q xs
-filter_same p q [] same = refl
-filter_same p q (x ∷ xs) same =
-    let here = same x (inl refl) in
-    let rest = filter_same p q xs (λ y one. same y (inr one)) in
-    λ t. if here t then x ∷ rest t else rest t
+-- statuses that say the same may follow one another
+pub same_marks : (c : Contents) (group : Descriptor) (was next : Status) → ((p : Pp) → calls_stale next p ≡ calls_stale was p) → ((n : ℕ) → calls_dirty next n ≡ calls_dirty was n) → MayMark c group was next
+same_marks c group was next stale dirty = record {
+  stale = λ row lp p one copy is. stale p ∙ is;
+  added = λ row lp p one low copy is. inl (sym (stale p) ∙ is);
+  dirty = λ row one soft is. dirty row.number ∙ is;
+}
 
--- ---- two statuses that say the same of the group's volumes
+-- ---- lists
 
-module _ (c : Contents) (group : Descriptor) (was next : Stamped Status) (marks : SameMarks group was.value next.value) where
-  fresh_same : (set : Disks) (row : LvRow) (lp : ℕ) → IsOneOf group.lvs row → fresh_on set (Some next) row lp ≡ fresh_on set (Some was) row lp
-  fresh_same set row lp volume = filter_same (λ (p : Pp). set p.disk && not (is_stale_by (Some next) p)) (λ (p : Pp). set p.disk && not (is_stale_by (Some was) p)) (copies_of row lp)
-      (λ p one. ap (λ (t : Bool). set p.disk && not t) (marks.stale row lp p volume one))
+no_true : {X : Type 0} (t : Bool) → t ≡ true → t ≡ false → X
+no_true true a b = absurd cc
+no_true false a b = absurd cc
 
-  differ : (row : LvRow) (mode : Mode) (copies : List Pp) (k : Known) (b : ℕ) → IsOneOf group.lvs row → MayDiffer c (Some was) row.number mode copies k b → MayDiffer c (Some next) row.number mode copies k b
-  differ row Active copies k b volume m = m
-  differ row Passive copies k b volume m = marks.dirty row volume ∙ m
-  differ row Off copies k b volume m = m
+both_of : (a b : Bool) → a ≡ true → b ≡ true → (a && b) ≡ true
+both_of true b h k = k
+both_of false b h k = absurd cc
 
-  same_blocks : (facts : List Fact) (set : Disks) → BlocksKept c facts group set (Some was) → BlocksKept c facts group set (Some next)
-  same_blocks facts set blocks row lp b volume inside =
-      let k : Known = known (facts ++ Cut ∷ []) (Lv row.number) b in
-      let kept = blocks row lp b volume inside in
-      subst (λ (copies : List Pp). IsBlockKept c group.mib (Some next) row copies k b) (sym (fresh_same set row lp volume))
-      (record {
-        allowed = kept.allowed;
+not_so : (b : Bool) → not b ≡ true → b ≡ false
+not_so true h = absurd cc
+not_so false h = refl
+
+so_not : (b : Bool) → b ≡ false → not b ≡ true
+so_not true h = absurd cc
+so_not false h = refl
+
+-- what holds of all that pass holds of one that does
+at_passing : {X : Type 0} (P : X → Type 0) (test : X → Bool) (xs : List X) → AllByRecursion P (filter test xs) → (x : X) → IsOneOf xs x → test x ≡ true → P x
+at_passing P test [] all x one passes = absurd one
+at_passing P test (y ∷ ys) all x one passes = by (test y) refl (λ rest there. at_passing P test ys rest x there passes) all one
+  where
+    by : (t : Bool) → test y ≡ t → (AllByRecursion P (filter test ys) → IsOneOf ys x → P x) → AllByRecursion P (if t then y ∷ filter test ys else filter test ys) → IsOneOf (y ∷ ys) x → P x
+    by true is further all (inl here) = subst P (sym here) all.0
+    by true is further all (inr there) = further all.1 there
+    by false is further all (inl here) = absurd (let p = passes in let q = ap test here in cc)
+    by false is further all (inr there) = further all there
+
+some_passing : {X : Type 0} (test : X → Bool) (xs : List X) → IsSome (filter test xs) → (x : X) × IsOneOf xs x × (test x ≡ true)
+some_passing test [] some = absurd some
+some_passing test (y ∷ ys) some = by (test y) refl (λ s. some_passing test ys s) some
+  where
+    by : (t : Bool) → test y ≡ t → (IsSome (filter test ys) → (x : _) × IsOneOf ys x × (test x ≡ true)) → IsSome (if t then y ∷ filter test ys else filter test ys) → (x : _) × IsOneOf (y ∷ ys) x × (test x ≡ true)
+    by true is further some = (y, inl refl, is)
+    by false is further some = let rest = further some in (rest.0, inr rest.1, rest.2)
+
+one_passes : {X : Type 0} (test : X → Bool) (xs : List X) (x : X) → IsOneOf xs x → test x ≡ true → IsSome (filter test xs)
+one_passes test [] x one passes = absurd one
+one_passes test (y ∷ ys) x one passes = by (test y) refl (λ there. one_passes test ys x there passes) one
+  where
+    by : (t : Bool) → test y ≡ t → (IsOneOf ys x → IsSome (filter test ys)) → IsOneOf (y ∷ ys) x → IsSome (if t then y ∷ filter test ys else filter test ys)
+    by true is further one = tt
+    by false is further (inl here) = absurd (let p = passes in let q = ap test here in cc)
+    by false is further (inr there) = further there
+
+-- ---- a status with the marks of another, and further ones
+
+module _ (c : Contents) (group : Descriptor) (was next : Stamped Status) (marks : MayMark c group was.value next.value) where
+  abbrev passing : Stamped Status → Disks → Pp → Bool
+  passing status set p = set p.disk && not (is_stale_by (Some status) p)
+
+  -- fresh by the next one: fresh by the one before
+  still_fresh : (set : Disks) (row : LvRow) (lp : ℕ) (p : Pp) → IsOneOf group.lvs row → IsOneOf (copies_of row lp) p → passing next set p ≡ true → passing was set p ≡ true
+  still_fresh set row lp p one copy is =
+      let parts = split (set p.disk) (not (is_stale_by (Some next) p)) is in
+      both_of (set p.disk) (not (is_stale_by (Some was) p)) parts.0 (so_not (is_stale_by (Some was) p) (⊎_elim
+      (λ (stale : is_stale_by (Some was) p ≡ true). no_true (is_stale_by (Some next) p) (marks.stale row lp p one copy stale) (not_so (is_stale_by (Some next) p) parts.1))
+      (λ fresh. fresh)
+      (either (is_stale_by (Some was) p))))
+
+  marked_blocks : (facts : List Fact) (set : Disks) → BlocksKept c facts group set (Some was) → BlocksKept c facts group set (Some next)
+  marked_blocks facts set blocks row lp b one inside =
+      let kept = blocks row lp b one inside in
+      record {
+        allowed = all_that_pass (λ p. IsValue k (block_at c group.mib p b)) (passing next set) (copies_of row lp) (λ p copy is.
+            at_passing (λ p. IsValue k (block_at c group.mib p b)) (passing was set) (copies_of row lp) kept.allowed p copy (still_fresh set row lp p one copy is));
         equal = ⊎_elim
-            (λ (held : HoldOne c group.mib (fresh_on set (Some was) row lp) b). inl held)
-            (λ (m : MayDiffer c (Some was) row.number row.mode (fresh_on set (Some was) row lp) k b). inr (differ row row.mode (fresh_on set (Some was) row lp) k b volume m))
+            (λ (hold : HoldOne c group.mib (fresh_on set (Some was) row lp) b). inl (
+              hold.0,
+              all_that_pass (λ p. block_at c group.mib p b ≡ hold.0) (passing next set) (copies_of row lp) (λ p copy is.
+              at_passing (λ p. block_at c group.mib p b ≡ hold.0) (passing was set) (copies_of row lp) hold.1 p copy (still_fresh set row lp p one copy is)),
+            ))
+            (λ differ. inr (by row.mode refl differ))
             kept.equal;
-      })
+      }
+    where
+      k : Known
+      k = known (facts ++ Cut ∷ []) (Lv row.number) b
+
+      by : (m : Mode) → row.mode ≡ m → MayDiffer c (Some was) row.number m (fresh_on set (Some was) row lp) k b → MayDiffer c (Some next) row.number m (fresh_on set (Some next) row lp) k b
+      by Active is named = all_that_pass (λ p. IsTrue (is_named c p.disk row.number (track_group_of b))) (passing next set) (copies_of row lp) (λ p copy passed.
+          at_passing (λ p. IsTrue (is_named c p.disk row.number (track_group_of b))) (passing was set) (copies_of row lp) named p copy (still_fresh set row lp p one copy passed))
+      by Passive is dirty = marks.dirty row one is dirty
+      by Off is loose = loose
+
+  marked_some : (row : LvRow) (lp : ℕ) → IsOneOf group.lvs row → lp < row.lps → IsSome (fresh_on (members_in c all_disks group.id group) (Some was) row lp) → IsSome (fresh_on (members_in c all_disks group.id group) (Some next) row lp)
+  marked_some row lp one low some =
+      let members : Disks = members_in c all_disks group.id group in
+      let p = some_passing (passing was members) (copies_of row lp) some in
+      let parts = split (members p.0.disk) (not (is_stale_by (Some was) p.0)) p.2 in
+      ⊎_elim
+      (λ (stale : is_stale_by (Some next) p.0 ≡ true). ⊎_elim
+      (λ (was_so : IsTrue (calls_stale was.value p.0)). no_true (calls_stale was.value p.0) was_so (not_so (is_stale_by (Some was) p.0) parts.1))
+      (λ other. one_passes (passing next members) (copies_of row lp) other.0 other.1 (both_of (members other.0.disk) (not (is_stale_by (Some next) other.0)) other.3 (so_not (is_stale_by (Some next) other.0) other.2)))
+      (marks.added row lp p.0 one low p.1 stale))
+      (λ fresh. one_passes (passing next members) (copies_of row lp) p.0 p.1 (both_of (members p.0.disk) (not (is_stale_by (Some next) p.0)) parts.0 (so_not (is_stale_by (Some next) p.0) fresh)))
+      (either (is_stale_by (Some next) p.0))
 
 -- ---- the next one
 
@@ -89,16 +167,16 @@ module _ (c : Contents) (group : Descriptor) (status : Status) (there targets : 
   was_read : status_by c all_disks id group ≡ Some was
   was_read = status_read c group status there may.shows facts within may.enough kept all_disks group reads_group
 
-  marks : SameMarks group was.value next.value
-  marks = subst (λ (s : Status). SameMarks group s next.value) (sym may.shows.committed) may.marks
+  marks : MayMark c group was.value next.value
+  marks = subst (λ (s : Status). MayMark c group s next.value) (sym may.shows.committed) may.marks
 
   across : (k : Descriptor) → IsFound c id k → BlocksKept c facts k (members_in c all_disks id k) (Some next)
   across k is = subst (λ (g : Descriptor). BlocksKept c facts g (members_in c all_disks id g) (Some next)) (sym (same_group k is))
-      (same_blocks c group was next marks facts (members_in c all_disks id group)
+      (marked_blocks c group was next marks facts (members_in c all_disks id group)
       (subst (λ (s : Option (Stamped Status)). BlocksKept c facts group (members_in c all_disks id group) s) was_read (kept.lasting.across all_disks id group group reads_group found_group)))
 
   some_of_group : (row : LvRow) (lp : ℕ) → IsOneOf group.lvs row → lp < row.lps → IsSome (fresh_on (members_in c all_disks id group) (Some next) row lp)
-  some_of_group row lp volume inside = subst (λ (copies : List Pp). IsSome copies) (sym (fresh_same c group was next marks (members_in c all_disks id group) row lp volume))
+  some_of_group row lp volume inside = marked_some c group was next marks row lp volume inside
       (subst (λ (s : Option (Stamped Status)). IsSome (fresh_on (members_in c all_disks id group) s row lp)) was_read (kept.lasting.some all_disks id group group reads_group found_group row lp volume inside))
 
   pub serves : Serves c facts id next

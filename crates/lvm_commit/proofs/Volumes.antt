@@ -38,7 +38,6 @@ pub committed_may_commit : CommittedMayCommit
 committed_may_commit c group status there targets facts lv next shows within later serves = record {
   found = (all_disks, shows.found);
   differs = serves.differs;
-  begun = serves.begun;
   stands = serves.stands;
   served = serves.served;
   showing = λ d target. shows_group c group status there shows d (within d target);

@@ -1,7 +1,8 @@
 -- What stands on the disks of a session at which nothing is under way: they hold what the session says is committed.
-use Rattle.std.specs.Prelude.{◌≡◌, ◌⊎◌, ℕ, ◌+◌, [], true, Some, IsTrue}
+use Rattle.std.specs.Prelude.{◌≡◌, ◌⊎◌, ℕ, ◌+◌, ◌<◌, [], true, Some, IsTrue, IsFalse}
 use Rattle.lvm_num.specs.declared.place.Pp.{Pp}
 use Rattle.lvm_num.specs.declared.record.Stamp.{Stamp}
+use Rattle.lvm_num.specs.declared.descriptor.Mode.TheVariants.{Passive}
 use Rattle.lvm_num.specs.declared.descriptor.LvRow.{LvRow}
 use Rattle.lvm_num.specs.declared.descriptor.Descriptor.{Descriptor}
 use Rattle.lvm_num.specs.declared.status.Status.{Status}
@@ -25,10 +26,13 @@ next_stamp stamp = record stamp { seq = stamp.seq + 1 }
 abbrev pub IsAlike : Descriptor → Descriptor → Type 0
 IsAlike a b = record a { lvs = [] } ≡ record b { lvs = [] }
 
--- The next status says the same of the group's volumes: the same copies are stale, and the same volumes dirty.
-pub record SameMarks (group : Descriptor) (was next : Status) : Type 0 where
-  pub stale : (row : LvRow) (lp : ℕ) (p : Pp) → IsOneOf group.lvs row → IsOneOf (copies_of row lp) p → calls_stale next p ≡ calls_stale was p
-  pub dirty : (row : LvRow) → IsOneOf group.lvs row → calls_dirty next row.number ≡ calls_dirty was row.number
+-- The next status has the marks of the one before on the group's copies and its volumes in mode passive, and calls further copies stale only where another
+-- one of the logical partition stays fresh on a member that shows the group.
+pub record MayMark (c : Contents) (group : Descriptor) (was next : Status) : Type 0 where
+  pub stale : (row : LvRow) (lp : ℕ) (p : Pp) → IsOneOf group.lvs row → IsOneOf (copies_of row lp) p → IsTrue (calls_stale was p) → IsTrue (calls_stale next p)
+  pub added : (row : LvRow) (lp : ℕ) (p : Pp) → IsOneOf group.lvs row → lp < row.lps → IsOneOf (copies_of row lp) p → IsTrue (calls_stale next p)
+      → IsTrue (calls_stale was p) ⊎ ((q : Pp) × IsOneOf (copies_of row lp) q × IsFalse (calls_stale next q) × IsTrue (members_in c all_disks group.id group q.disk))
+  pub dirty : (row : LvRow) → IsOneOf group.lvs row → row.mode ≡ Passive → IsTrue (calls_dirty was row.number) → IsTrue (calls_dirty next row.number)
 
 -- The disks with which a session began hold a quorum of its group, and show it but for its volumes; any other descriptor of the group is earlier
 -- than each of theirs. So whatever of the group is found has its members, though some of these disks may be missing by now.

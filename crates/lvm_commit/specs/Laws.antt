@@ -18,7 +18,7 @@ use Rattle.lvm_kept.specs.Torn.{RecordWrite, MayWriteAll, written as as_read, St
 use Rattle.lvm_change.specs.Moments.{StaysKept}
 use Rattle.lvm_change.specs.Making.{IsWritten}
 use Rattle.lvm_change.specs.VaryingOn.{HasNewest}
-use Rattle.lvm_commit.specs.Committed.{IsAlike, SameMarks, Began, ShowsCommitted}
+use Rattle.lvm_commit.specs.Committed.{IsAlike, MayMark, Began, ShowsCommitted}
 
 -- ---- what is found
 
@@ -51,8 +51,8 @@ pub record MayFollow (c : Contents) (group : Descriptor) (status : Status) (ther
   pub shows : ShowsCommitted c group status there
   pub showing : (d : ℕ) → IsTrue (targets d) → IsTrue (there d)
   pub own : next.value.id ≡ group.id
-  -- of the group's volumes it says the same
-  pub marks : SameMarks group status next.value
+  -- of the group's volumes it says the same, or calls copies stale that others replace
+  pub marks : MayMark c group status next.value
   -- by the stamps of the session, which rise
   pub later : IsLaterStatus c group next
 

@@ -42,12 +42,11 @@ abbrev pub NextIsLater : Type 0
 NextIsLater = (image : Image) (group : Descriptor) (status : Status) (there : Disks) (stamp next : Stamp) (homes : Homes)
     → IsWhole image → HoldsCommitted image group status there stamp homes → IsNoLater (next_stamp stamp) next → ShowsBefore next (contents_of image)
 
--- What is asked of the history and of the blocks where the next descriptor is to be committed: the entry that the volume is being made or removed
--- stands, and the descriptor differs by that volume alone; where it names it, it has the shape with which it is made, and its blocks are served.
+-- What is asked of the history and of the blocks where the next descriptor is to be committed: it differs by one volume alone, which by the history may be
+-- named or not, as it says; where it names it, it has the shape with which it was made, and its blocks are served.
 pub record VolumeServes (c : Contents) (facts : List Fact) (group : Descriptor) (lv : ℕ) (next : Descriptor) : Type 0 where
   pub differs : DiffersInVolume lv group next
-  pub begun : (volumes_in facts lv).standing ≡ Open
-  pub stands : StandsAs group.mib Open (volumes_in facts lv).shape (volume_of next lv)
+  pub stands : StandsAs group.mib (volumes_in facts lv).standing (volumes_in facts lv).shape (volume_of next lv)
   pub served : (row : LvRow) → IsOneOf next.lvs row → row.number ≡ lv → IsServed c facts group row
 
 -- Then it may be, since the disks show what is committed.

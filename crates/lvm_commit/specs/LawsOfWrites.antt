@@ -20,7 +20,7 @@ use Rattle.lvm_quorum.specs.declared.homes.Homes.{Homes}
 use Rattle.lvm_quorum.specs.Homes.{Flips}
 use Rattle.lvm_quorum.specs.Written.{write_of}
 use Rattle.lvm_stamps.specs.Laws.{IsNoLater, IsWhole}
-use Rattle.lvm_commit.specs.Committed.{next_stamp, IsAlike, SameMarks, HoldsCommitted}
+use Rattle.lvm_commit.specs.Committed.{next_stamp, IsAlike, MayMark, HoldsCommitted}
 use Rattle.lvm_commit.specs.LawsOfVolumes.{VolumeServes, LeavesOthers}
 
 -- ---- before it is written
@@ -42,7 +42,7 @@ DescriptorMayGo = (image : Image) (group next : Descriptor) (status : Status) (t
 -- Whatever of a status has landed that says the same of the group's volumes, the history is kept;
 abbrev pub StatusWriteKeeps : Type 0
 StatusWriteKeeps = (group : Descriptor) (status next : Status) (there : Disks) (stamp : Stamp) (homes : Homes) (framed : Framed) (old new : Image) (facts : List Fact)
-    → IsWhole old → CanWrite group there → HoldsCommitted old group status there stamp homes → Frames kind.Status framed → status_of framed.content ≡ Ok next → next.id ≡ group.id → SameMarks group status next
+    → IsWhole old → CanWrite group there → HoldsCommitted old group status there stamp homes → Frames kind.Status framed → status_of framed.content ≡ Ok next → next.id ≡ group.id → MayMark (contents_of old) group status next
     → IsNoLater (next_stamp stamp) framed.stamp → ChangesBy (IsOfRecord (write_of kind.Status framed there homes)) old new → Kept (contents_of old) facts → Kept (contents_of new) facts
 
 -- and so it is of a descriptor that the history lets differ from the group by one volume.

@@ -30,7 +30,7 @@ use Rattle.lvm_quorum.specs.declared.homes.Homes.{Homes}
 use Rattle.lvm_quorum.specs.Written.{write_of, HaveRoom, KeepsShelf}
 use Rattle.lvm_commit.specs.declared.commit.Settled.{Settled}
 use Rattle.lvm_commit.specs.declared.commit.Settled.TheVariants as settled
-use Rattle.lvm_commit.specs.Committed.{next_stamp, IsAlike, SameMarks, HoldsCommitted}
+use Rattle.lvm_commit.specs.Committed.{next_stamp, IsAlike, MayMark, HoldsCommitted}
 use Rattle.lvm_commit.specs.LawsOfVolumes.{VolumeServes, LeavesOthers}
 use Rattle.lvm_commit.specs.LawsOfFinding.{FindsNothingNewOn, FindsNoMoreOn}
 
@@ -194,13 +194,13 @@ IsPlain kind content first last homes old new = SameMissing first.wanted last.wa
 abbrev pub SessionIsHeld : Device → Descriptor → Stored → Homes → Type 0
 SessionIsHeld device group u homes = IfSome device.media (λ media. HoldsCommitted (image_of device.sizes media) group u.committed (there u) u.stamp homes)
 
--- what is wanted says the same of the group's volumes as what is committed
-abbrev pub WantsSameMarks : Descriptor → Stored → Type 0
-WantsSameMarks group u = SameMarks group u.committed u.wanted
+-- what is wanted of the group's volumes may follow what is committed, where the media is told
+abbrev pub WantsMarks : Device → Descriptor → Stored → Type 0
+WantsMarks device group u = IfSome device.media (λ media. MayMark (contents_of (image_of device.sizes media)) group u.committed u.wanted)
 
 -- What was kept is kept at each moment while a status is committed that says the same of the group's volumes.
 abbrev pub StatusStaysKept : Stored → Homes → Device → Device → Type 0
-StatusStaysKept first homes old new = Path DeviceStep (λ d. (group : Descriptor) → IsOf group first → WantsSameMarks group first → SessionIsHeld old group first homes → StaysKept old d) old new
+StatusStaysKept first homes old new = Path DeviceStep (λ d. (group : Descriptor) → IsOf group first → WantsMarks old group first → SessionIsHeld old group first homes → StaysKept old d) old new
 
 -- So it is while the next descriptor is committed, which the history lets differ from the group by one volume.
 abbrev pub DescriptorStaysKept : List ℕ → Stored → Homes → Device → Device → Type 0
@@ -227,7 +227,7 @@ OthersAreLeft id old new = BothTold old.media new.media (λ was is. LeavesOthers
 -- Where the disks held what was committed, they hold what now is, and other groups are left as they were: of the same group,
 abbrev pub StaysHeld : Stored → Stored → Homes → Homes → Device → Device → Type 0
 StaysHeld first last homes_old homes_new old new =
-    (group : Descriptor) → IsOf group first → WantsSameMarks group first → SessionIsHeld old group first homes_old → SessionIsHeld new group last homes_new × OthersAreLeft group.id old new
+    (group : Descriptor) → IsOf group first → WantsMarks old group first → SessionIsHeld old group first homes_old → SessionIsHeld new group last homes_new × OthersAreLeft group.id old new
 
 -- or of the next one, which differs from it in its volumes alone.
 abbrev pub ComesHeld : List ℕ → Stored → Stored → Homes → Homes → Device → Device → Type 0

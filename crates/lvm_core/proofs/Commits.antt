@@ -1,5 +1,5 @@
 -- A session may commit its records while nothing is under way, and what stands on its disks then.
-use Rattle.std.proofs.Common.{◌≡◌, ℕ, zero, suc, ◌<◌, ◌≤◌, ◌%◌, ◌++◌, Bool, true, false, ◌&&◌, not, List, [], Some, length, refl, sym, ◌∙◌, ap, subst, arith}
+use Rattle.std.proofs.Common.{◌≡◌, inl, ℕ, zero, suc, ◌<◌, ◌≤◌, ◌%◌, ◌++◌, Bool, true, false, ◌&&◌, not, List, [], Some, length, refl, sym, ◌∙◌, ap, subst, arith}
 use Rattle.std.specs.Prelude.{◌==◌, ◌||◌, IsTrue, IfSome, All, Contains, slice_get, get_or}
 use Rattle.std.specs.List.{list_any}
 use Rattle.std.proofs.lemmas.Bool.{eqb-true}
@@ -26,9 +26,10 @@ use Rattle.lvm_status.specs.Calls.{IsMarkable}
 use Rattle.lvm_status.specs.Update.{Stored, members_there}
 use Rattle.lvm_quorum.specs.declared.homes.Homes.{Homes}
 use Rattle.lvm_quorum.specs.Written.{HasRoom}
-use Rattle.lvm_commit.specs.Committed.{HoldsCommitted}
+use Rattle.lvm_commit.specs.Committed.{MayMark, HoldsCommitted}
+use Rattle.lvm_kept.specs.Contents.{Contents}
 use Rattle.lvm_commit.specs.LawsOfData.{IsFree}
-use Rattle.lvm_commit.specs.Settling.{there, IsOf, MaySettle, SessionIsHeld, WantsSameMarks}
+use Rattle.lvm_commit.specs.Settling.{there, IsOf, MaySettle, SessionIsHeld}
 use Rattle.lvm_core.specs.State.{Core, State, is_there}
 use Rattle.lvm_core.specs.Sound.{IsSound}
 use Rattle.lvm_core.specs.Held.{IsHeld}
@@ -160,12 +161,16 @@ module _ (core : Core) (stale fresh : List Pp) (first : Stored) (marked : IsMark
     committed_is : core.status.wanted ≡ first.committed
     committed_is = sym settled.committed ∙ sym marked.committed
 
-    pub wants_same : WantsSameMarks core.descriptor first
-    wants_same = record {
-      stale = λ row lp p volume one.
-          marked.marks p ∙ ap (λ b. (calls_stale core.status.wanted p || b) && not (is_among fresh p)) (not_stale row lp p volume one)
-          ∙ ap (λ b. (calls_stale core.status.wanted p || false) && not b) (not_fresh row lp p volume one) ∙ as_before (calls_stale core.status.wanted p) ∙ ap (λ (s : Status). calls_stale s p) committed_is;
-      dirty = λ row volume. ap (λ (dirty : List ℕ). list_any (λ n. n == row.number) dirty) marked.dirty ∙ ap (λ (s : Status). calls_dirty s row.number) committed_is;
+    same_stale : (row : LvRow) (lp : ℕ) (p : Pp) → IsOneOf core.descriptor.lvs row → IsOneOf (copies_of row lp) p → calls_stale first.wanted p ≡ calls_stale first.committed p
+    same_stale row lp p volume one =
+        marked.marks p ∙ ap (λ b. (calls_stale core.status.wanted p || b) && not (is_among fresh p)) (not_stale row lp p volume one)
+        ∙ ap (λ b. (calls_stale core.status.wanted p || false) && not b) (not_fresh row lp p volume one) ∙ as_before (calls_stale core.status.wanted p) ∙ ap (λ (s : Status). calls_stale s p) committed_is
+
+    pub wants_marks : (c : Contents) → MayMark c core.descriptor first.committed first.wanted
+    wants_marks c = record {
+      stale = λ row lp p volume one is. same_stale row lp p volume one ∙ is;
+      added = λ row lp p volume low one is. inl (sym (same_stale row lp p volume one) ∙ is);
+      dirty = λ row volume soft is. ap (λ (dirty : List ℕ). list_any (λ n. n == row.number) dirty) marked.dirty ∙ ap (λ (s : Status). calls_dirty s row.number) committed_is ∙ is;
     }
 
   -- where all is so already

@@ -13,9 +13,12 @@ use Rattle.lvm_status.specs.Update.{Stored}
 use Rattle.lvm_quorum.specs.Written.{KeepsShelf}
 use Rattle.lvm_commit.specs.declared.commit.Settled.{Settled}
 use Rattle.lvm_commit.specs.declared.commit.Settled.TheVariants as settled
-use Rattle.lvm_commit.specs.Committed.{IsAlike}
+use Rattle.lvm_commit.specs.Committed.{IsAlike, MayMark}
+use Rattle.lvm_kept.specs.Contents.{contents_of}
+use Rattle.lvm_disk.specs.Device.{image_of}
+use Rattle.lvm_quorum.proofs.Writing.{if_told}
 use Rattle.lvm_commit.specs.LawsOfFinding.{FindsNothingNewOn}
-use Rattle.lvm_commit.specs.Settling.{IfDone, there, IsOf, IsOfStatus, SessionIsHeld, SpendsNumbers, StaysHeld, WantsSameMarks}
+use Rattle.lvm_commit.specs.Settling.{IfDone, there, IsOf, IsOfStatus, SessionIsHeld, SpendsNumbers, StaysHeld, WantsMarks}
 use Rattle.lvm_commit.proofs.Chaining.{keeps_wider}
 use Rattle.lvm_core.specs.declared.fault.CommitFault.{CommitFault}
 use Rattle.lvm_core.specs.State.{State, is_there}
@@ -26,7 +29,7 @@ use Rattle.lvm_core.specs.Committing.{CommitEnds, AreUnused, AreMarked, Restates
 use Rattle.lvm_core.specs.Steps.{CoreEnds, CommitsMarks}
 use Rattle.lvm_core.proofs.Spanning.{path_falls}
 use Rattle.lvm_core.proofs.Settled.{IsBegun, there_is, there_first, group_is, settles_sound, settles_numbers, commit_ends, most_stays, settles_keep, settles_calm, settles_behind}
-use Rattle.lvm_core.proofs.Commits.{holds_session, first_is_of, begun, first_held, wants_same, none_first}
+use Rattle.lvm_core.proofs.Commits.{holds_session, first_is_of, begun, first_held, wants_marks, none_first}
 
 module _ (stale fresh : List Pp) (before after : ℕ) (old new : State) (answer : Result (Unit {0}) CommitFault) (w : CommitsMarks stale fresh before after old new answer) (settled_is : IsSettled old.core) (sound : IsSound old) where
   abbrev plan : Plan
@@ -44,8 +47,9 @@ module _ (stale fresh : List Pp) (before after : ℕ) (old new : State) (answer 
   held_first : IsHeld old.device old.core → SessionIsHeld old.device old.core.descriptor w.first old.core.homes
   held_first = first_held old.core stale fresh w.first w.marked settled_is sound.fitting.group old.device
 
-  wants : AreUnused old.core.descriptor (stale ++ fresh) → WantsSameMarks old.core.descriptor w.first
-  wants = wants_same old.core stale fresh w.first w.marked settled_is sound.fitting.group sound.fitting.valid
+  wants : AreUnused old.core.descriptor (stale ++ fresh) → WantsMarks old.device old.core.descriptor w.first
+  wants unused = if_told old.device.media (λ media. MayMark (contents_of (image_of old.device.sizes media)) old.core.descriptor w.first.committed w.first.wanted)
+      (λ media told. wants_marks old.core stale fresh w.first w.marked settled_is sound.fitting.group sound.fitting.valid unused (contents_of (image_of old.device.sizes media)))
 
   pub status_sound : IsSound new
   status_sound = settles_sound old.core.descriptor plan w.first before after old new w.how answer w.settles begins settled_is sound sound.fitting.valid same
@@ -124,7 +128,7 @@ module _ (stale fresh : List Pp) (before after : ℕ) (old new : State) (answer 
   pub status_keeps : AreUnused old.core.descriptor (stale ++ fresh) → IsHeld old.device old.core → (run : ℕ) (first : Moment) → SpanGoesOn run first old new
   status_keeps unused held run first span =
       settles_keep old.core.descriptor plan w.first before after old new w.how answer w.settles begins settled_is sound sound.fitting.valid same
-      (λ d. (group : Descriptor) → IsOf group w.first → WantsSameMarks group w.first → SessionIsHeld old.device group w.first old.core.homes → StaysKept old.device d)
+      (λ d. (group : Descriptor) → IsOf group w.first → WantsMarks old.device group w.first → SessionIsHeld old.device group w.first old.core.homes → StaysKept old.device d)
       w.kept run first span
       (λ past begins holds d its. its old.core.descriptor own (wants unused) (held_first held) (past ++ old.core.history.facts) holds.kept)
 

@@ -1,11 +1,11 @@
-mod Blocks
-mod Finding
-mod First
-mod FirstMedia
-mod Images
-mod Lasting
-mod Lists
-mod Loose
-mod Remaining
-mod Standing
-mod Statuses
+pub mod Blocks
+pub mod Finding
+pub mod First
+pub mod FirstMedia
+pub mod Images
+pub mod Lasting
+pub mod Lists
+pub mod Loose
+pub mod Remaining
+pub mod Standing
+pub mod Statuses

@@ -85,7 +85,7 @@ pub record Frame (old new : State) : Type 0 where
   pub passive : (lv : ℕ) → new.is_passive lv ≡ old.is_passive lv
   pub dirty : (lv : ℕ) → IsTrue (old.committed.value.dirty lv) → IsTrue (new.committed.value.dirty lv)
   pub copies : (lv b : ℕ) → new.is_copy lv b ≡ old.is_copy lv b
-  pub tight : (lv b : ℕ) → IsTrue (new.is_active lv) ⊎ IsTrue (new.is_passive lv) → IsFalse (told new lv b).loose
+  pub tight : (lv b : ℕ) (c : Pp) → IsTrue (new.is_copy lv b c) → IsTrue (new.is_active lv) ⊎ IsTrue (new.is_passive lv) → IsFalse (told new lv b).loose
   pub seen : (i lv b : ℕ) (r n : Queued) (v : List ℕ) → Seen old i r lv b v → new.queue i ≡ Some n → IsTrue (is_past n.phase)
       → IsValue (told new lv b) v × (IsTrue (told new lv b).loose ⊎ ((e : Pp) → Live new lv b e → new.media.block lv b e ≡ v))
   pub still : (i lv b : ℕ) (r n : Queued) (c : Pp) → Seen old i r lv b (old.media.block lv b c) → new.queue i ≡ Some n → IsTrue (is_past n.phase) → new.media.block lv b c ≡ old.media.block lv b c

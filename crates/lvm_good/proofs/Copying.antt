@@ -89,7 +89,7 @@ module _ (s : State) (i : ℕ) (r : Queued) (value : ℕ → List ℕ) (target :
       (seen lv b over).1
     where
       by_mode : (x : Bool) → s.is_active lv ≡ x → IsTrue (told s lv b).loose → Agree new lv b ⊎ MayDiffer new lv b x
-      by_mode true is loose = never (told s lv b).loose loose (sound.tied.tight lv b (inl is))
+      by_mode true is loose = let at = sound.tied.inside i r step.there lv b over in never (told s lv b).loose loose (sound.tied.tight lv b at.0 at.1 (inl is))
       by_mode false is loose = inr (inl loose)
 
   settled_now : (lv b : ℕ) → Settled s lv b → Settled new lv b

@@ -37,7 +37,7 @@ module _ (s : State) (sound : Sound s) where
     new = λ i lv b r started over. new_value_in i r lv b started over;
     loose = λ lv b h. or_left (told s lv b).loose _ h;
     started = λ i lv b r started over off soft. or_right (told s lv b).loose (is_off (told s lv b).mode) (is_some_open (told s lv b).open_writes)
-        (sound.tied.modes lv b off soft)
+        (let at = sound.tied.inside i r started.there lv b over in sound.tied.modes lv b at.0 at.1 off soft)
         (some_open b (told s lv b).open_writes (request_of s i) (r.value b) (is_open i r lv b started over));
   }
 
@@ -127,7 +127,7 @@ module _ (s : State) (sound : Sound s) where
       equal_if_settled : (active loose : Bool) → s.is_active lv ≡ active → (told s lv b).loose ≡ loose → Settled s lv b → Agree s lv b ⊎ MayDiffer s lv b active
           → ((value : List ℕ) × ((c : Pp) → Fresh s marks lv b c → v.block lv b c ≡ value)) ⊎ MayDifferAfter s v marks (after lv b) lv b active
       equal_if_settled active false on tight settled (inl agree) = inl (agree.0, λ c fresh. same_if_calm settled tight c (is_live c fresh) ∙ agree.1 c (is_live c fresh))
-      equal_if_settled true true on loose settled (inl agree) = never (told s lv b).loose loose (sound.tied.tight lv b (inl on))
+      equal_if_settled true true on loose settled (inl agree) = inr (λ c fresh. never (told s lv b).loose loose (sound.tied.tight lv b c fresh.copy (inl on)))
       equal_if_settled false true on loose settled (inl agree) = inr (inl (wide.loose lv b loose))
       equal_if_settled true loose on l settled (inr differ) = inr (λ c fresh. named_after c.disk lv (track_group_of b) (differ c (is_live c fresh)).1)
       equal_if_settled false loose on l settled (inr (inl is)) = inr (inl (wide.loose lv b is))

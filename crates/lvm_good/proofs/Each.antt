@@ -1,5 +1,5 @@
 -- Each event keeps what is true of a session, and so does a list of them.
-use Rattle.std.proofs.Common.{◌≡◌, ◌⊎◌, inl, inr, ⊎_elim, ℕ, Bool, true, false, [], ◌∷◌, ◌++◌, Some, refl, sym, ap, subst, ◌∙◌, eqb-true, arith, ◌<◌}
+use Rattle.std.proofs.Common.{◌≡◌, ◌⊎◌, inl, inr, ⊎_elim, ℕ, Bool, true, false, [], ◌∷◌, ◌++◌, Some, refl, sym, ap, subst, ◌∙◌, eqb-true, arith, ◌<◌, None}
 use Rattle.std.specs.Prelude.{IsTrue, IsFalse, ◌==◌, if◌then◌else◌}
 use Rattle.lvm_vol.specs.declared.entry.Outcome.TheVariants as outcome
 use Rattle.lvm_vol.specs.Facts.{Landed as HasLanded, Begun, Taken}
@@ -34,7 +34,7 @@ use Rattle.lvm_good.specs.Open.{OpenKeeps}
 use Rattle.lvm_good.specs.LandGot.{LandGotKeeps}
 use Rattle.lvm_good.specs.LandLost.{LandLostKeeps}
 use Rattle.lvm_good.specs.Submit.{SubmitKeeps}
-use Rattle.lvm_good.specs.State.{Phase, Held, WantEntry, Ready, Going, Landed, Queued, State, covers, has_landed, is_pinning}
+use Rattle.lvm_good.specs.State.{Phase, Held, WantEntry, Ready, Going, Landed, Queued, State, covers, is_held, is_past, has_landed, is_pinning}
 use Rattle.lvm_good.specs.Pin.{PinKeeps}
 use Rattle.lvm_good.specs.Good.{Good}
 use Rattle.lvm_good.specs.MoveStatus.{MoveStatusKeeps}
@@ -70,17 +70,18 @@ enter_step_keeps votes s i q r step good = record {
   told = told_entered s.queue s.name s.facts good.told i q r (newest_place s i step.newest) step.step step.reads;
 }
 
-early_unlanded : (p : Phase) → (p ≡ Held) ⊎ (p ≡ WantEntry) ⊎ (p ≡ Ready) → IsFalse (has_landed p)
-early_unlanded p (inl e) = ap has_landed e
-early_unlanded p (inr (inl e)) = ap has_landed e
-early_unlanded p (inr (inr e)) = ap has_landed e
+early_unlanded : (r : Queued) → (r.phase ≡ Held) ⊎ (r.phase ≡ WantEntry) ⊎ (r.phase ≡ Ready) ⊎ (IsFalse r.write × IsTrue (is_past r.phase) × (r.got ≡ None)) → IsFalse (has_landed r.phase)
+early_unlanded r (inl e) = ap has_landed e
+early_unlanded r (inr (inl e)) = ap has_landed e
+early_unlanded r (inr (inr (inl e))) = ap has_landed e
+early_unlanded r (inr (inr (inr e))) = past_unlanded r.phase e.1
 
 pub admit_keeps : AdmitKeeps
 admit_keeps votes s i r phase several targets step good = record {
   sound = admit_core s i r phase several targets step good.sound;
   found = let f = good.found in record { set = f.set; enough = f.enough; have = f.have; only = f.only; newer = f.newer };
   told = told_change s.queue s.name s.facts good.told i r step.there (admitted r phase several targets) (record { lv = refl; over = λ lv b. refl; write = refl; value = λ b. refl; step = refl })
-      (λ asked. ⊎_elim (λ (e : phase ≡ WantEntry). ap has_landed e) (λ (e : (phase ≡ Ready) × (IsTrue r.write → IsTrue (s.is_active r.lv) → IsTrue several → ⊥)). ap has_landed e.0) step.phase_now ∙ sym (early_unlanded r.phase step.early));
+      (λ asked. ⊎_elim (λ (e : phase ≡ WantEntry). ap has_landed e) (λ (e : (phase ≡ Ready) × (IsTrue r.write → IsTrue (s.is_active r.lv) → IsTrue several → ⊥)). ap has_landed e.0) step.phase_now ∙ sym (early_unlanded r step.early));
 }
 
 not_phase : {X : Type 0} (p q : Phase) → p ≡ q → IsFalse (has_landed q) → IsTrue (has_landed p) → X

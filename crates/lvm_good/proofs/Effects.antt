@@ -13,7 +13,7 @@ use Rattle.lvm_good.specs.LandDone.{IsDropped}
 pub record ClosesOnly (s : State) (i : ℕ) (r : Queued) (facts : List Fact) : Type 0 where
   pub outside : (lv b : ℕ) → IsFalse (covers r lv b) → known facts (Lv lv) b ≡ told s lv b
   pub modes : (lv b : ℕ) → (known facts (Lv lv) b).mode ≡ (told s lv b).mode
-  pub tight : (lv b : ℕ) → IsTrue (s.is_active lv) ⊎ IsTrue (s.is_passive lv) → IsFalse (known facts (Lv lv) b).loose
+  pub tight : (lv b : ℕ) (c : Pp) → IsTrue (s.is_copy lv b c) → IsTrue (s.is_active lv) ⊎ IsTrue (s.is_passive lv) → IsFalse (known facts (Lv lv) b).loose
   -- the other open writes stay
   pub others : (lv b j : ℕ) (e : Queued) → s.queue j ≡ Some e → IsTrue e.write → IsFalse (j == i) → write_of b (known facts (Lv lv) b) (request_of s j) ≡ write_of b (told s lv b) (request_of s j)
 

@@ -134,7 +134,7 @@ module _ (s : State) (sound : Sound s) (t : Told s.queue s.name s.facts) (how : 
         let busy = sound.blocks.busy i lv b r start inside in
         let known_values = way.some lv b busy.known in (
           subst (λ (m : Known). IsIn m.values (r.value b)) (sym is_now) (in_added k.values (x ∷ []) known_values.0 (r.value b) known_values.1 (inl (is_of.value lv b start.write inside))),
-          λ off soft. subst (λ (m : Known). IsTrue m.loose) (sym is_now) (or_second k.loose (is_off k.mode) (ap is_off (way.modes lv b) ∙ sound.tied.modes lv b off soft)),
+          λ off soft. subst (λ (m : Known). IsTrue m.loose) (sym is_now) (or_second k.loose (is_off k.mode) (ap is_off (way.modes lv b) ∙ (let at = sound.tied.inside i r start.there lv b inside in sound.tied.modes lv b at.0 at.1 off soft))),
         )
 
     still_cared : (lv b : ℕ) (r : Queued) → IsCared s facts lv b r → IsCared s next lv b r

@@ -61,7 +61,7 @@ module _ (s : State) (sound : Sound s) (t : Told s.queue s.name s.facts) (i : �
   closes_only calm = record {
     outside = λ lv b off. landing_outside s.facts request how started got lv b (is_of.over lv b ∙ off);
     modes = λ lv b. landing_mode s.facts request how started got lv b;
-    tight = λ lv b on. landing_tight s.facts request how started got lv b calm (sound.tied.tight lv b on);
+    tight = λ lv b c copy on. landing_tight s.facts request how started got lv b calm (sound.tied.tight lv b c copy on);
     others = λ lv b j e at write other. landing_others s.facts request how started got lv b (s.name j) (others_apart j e at write other);
   }
 

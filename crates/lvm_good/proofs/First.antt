@@ -51,8 +51,8 @@ first_is_core = record {
   };
   tied = record {
     open_writes = λ i r there write un lv b. nothing r there;
-    modes = λ lv b off soft. not_either off;
-    tight = λ lv b on. not_loose (1 == lv && nat_lt b 2048);
+    modes = λ lv b c copy off soft. not_either off;
+    tight = λ lv b c copy on. not_loose (1 == lv && nat_lt b 2048);
     owner = λ lv b l d c e x y z. both (1 == lv && nat_lt b 2048) (e.pp == 0 && (e.disk == 0 || e.disk == 1)) (left (1 == lv && nat_lt b 2048) (c.pp == 0 && (c.disk == 0 || c.disk == 1)) x) (right (1 == l && nat_lt d 2048) (e.pp == 0 && (e.disk == 0 || e.disk == 1)) z);
     inside = λ i r there lv b over. nothing r there;
     place = λ i r there lv b over. nothing r there;

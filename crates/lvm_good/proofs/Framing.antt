@@ -31,7 +31,7 @@ module _ (old new : State) (frame : Frame old new) (sound : Nearly old) where
         let f = frame.from i n there in
         frame.writes i n there write unlanded lv b ∙ sound.tied.open_writes i f.0 f.1 (sym f.2.write ∙ write) (f.2.unlanded unlanded) lv b
         ∙ sym (same_write n.write f.0.write (covers n lv b) (covers f.0 lv b) (n.value b) (f.0.value b) f.2.write (f.2.over lv b) (f.2.value b));
-    modes = λ lv b off soft. ap is_off (frame.modes lv b) ∙ sound.tied.modes lv b (sym (frame.active lv) ∙ off) (sym (frame.passive lv) ∙ soft);
+    modes = λ lv b c copy off soft. ap is_off (frame.modes lv b) ∙ sound.tied.modes lv b c (ap (λ (f : Pp → Bool). f c) (sym (frame.copies lv b)) ∙ copy) (sym (frame.active lv) ∙ off) (sym (frame.passive lv) ∙ soft);
     tight = frame.tight;
     owner = λ lv b l d c e x y z. ap (λ (f : Pp → Bool). f e) (frame.copies lv b) ∙ sound.tied.owner lv b l d c e (ap (λ (f : Pp → Bool). f c) (sym (frame.copies lv b)) ∙ x) (ap (λ (f : Pp → Bool). f c) (sym (frame.copies l d)) ∙ y) (ap (λ (f : Pp → Bool). f e) (sym (frame.copies l d)) ∙ z);
     inside = λ i n there lv b over. let f = frame.from i n there in let k = sound.tied.inside i f.0 f.1 lv b (sym (f.2.over lv b) ∙ over) in (k.0, ap (λ (g : Pp → Bool). g k.0) (frame.copies lv b) ∙ k.1);

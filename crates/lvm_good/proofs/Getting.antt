@@ -232,8 +232,8 @@ module _ (s : State) (i : ℕ) (given : Request) (r : Queued) (facts : List Fact
         ∙ step.own (ap (λ (q : Queued). q.write) is.1 ∙ write) lv b ∙ ap (λ (q : Queued). the_write q lv b) is.1)
         (λ (other : IsFalse (j == i) × (s.queue j ≡ Some m)). ap (write_of b (known facts (Lv lv) b)) (named_other s.name i j given other.0) ∙ step.others lv b j m other.1 write other.0 ∙ sound.tied.open_writes j m other.1 write unlanded lv b)
         (put_cases s.queue i j r m h);
-    modes = λ lv b off soft. ap is_off (step.modes lv b) ∙ sound.tied.modes lv b off soft;
-    tight = λ lv b on. step.loose lv b ∙ sound.tied.tight lv b on;
+    modes = λ lv b c copy off soft. ap is_off (step.modes lv b) ∙ sound.tied.modes lv b c copy off soft;
+    tight = λ lv b c copy on. step.loose lv b ∙ sound.tied.tight lv b c copy on;
     owner = sound.tied.owner;
     inside = λ j m h lv b over. ⊎_elim
         (λ (is : (j ≡ i) × (r ≡ m)). step.inside lv b (ap (λ (q : Queued). covers q lv b) is.1 ∙ over))

@@ -1,26 +1,26 @@
-mod Small
-mod Effects
-mod Claims
-mod Telling
+pub mod Small
+pub mod Effects
+pub mod Claims
+pub mod Telling
 pub mod CrashLemmas
-mod Requests
-mod StartFirst
-mod Restage
-mod Landing
-mod Calm
-mod Framing
-mod Quieting
-mod Marking
-mod Noting
-mod Writes
-mod Others
-mod Getting
-mod Copying
+pub mod Requests
+pub mod StartFirst
+pub mod Restage
+pub mod Landing
+pub mod Calm
+pub mod Framing
+pub mod Quieting
+pub mod Marking
+pub mod Noting
+pub mod Writes
+pub mod Others
+pub mod Getting
+pub mod Copying
 pub mod Finding
-mod Whole
-mod Rules
+pub mod Whole
+pub mod Rules
 pub mod First
-mod Asking
-mod Entered
+pub mod Asking
+pub mod Entered
 pub mod Each
-mod Ending
+pub mod Ending

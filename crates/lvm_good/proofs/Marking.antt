@@ -83,7 +83,9 @@ module _ (s : State) (wanted : Marks) (missing : ℕ → Bool) (open_copy : Opti
         ⊎_elim
         (λ (w : IsTrue (wanted.stale old.0)). ⊎_elim
         (λ (before : IsTrue (s.wanted.stale old.0)). never (s.wanted.stale old.0) before old.2.wanted)
+        (⊎_elim
         (λ (by : Replaced s wanted old.0). (by.other, was.tied.owner lv b by.lv by.block old.0 by.other old.1 by.copy by.other_copy, kept_now by.other by.kept (all_three s was.statuses by.other by.fresh (not_before by.other by.kept))))
+        (λ (none : (l k : ℕ) → IsTrue (s.is_copy l k old.0) → ⊥). absurd (none lv b old.1)))
         (step.added old.0 w))
         (λ (n : IsFalse (wanted.stale old.0)). (old.0, old.1, kept_now old.0 n old.2))
         (decided (wanted.stale old.0));

@@ -4,7 +4,7 @@ use Rattle.std.specs.Prelude.{IsTrue, IsFalse, ◌==◌}
 use Rattle.std.proofs.lemmas.Bool.{cases_lt}
 use Rattle.lvm_num.specs.declared.place.Pp.{Pp}
 use Rattle.lvm_num.specs.Geometry.{track_group_of}
-use Rattle.lvm_good.specs.State.{write_of, Groups, Stage, Phase, Held, WantEntry, Ready, Going, Queued, State, covers, request_of, is_past, has_landed, is_pinning, stale_in, is_settled_stale, HasPassed, Live, Started, told}
+use Rattle.lvm_good.specs.State.{write_of, Groups, Stage, Phase, Held, WantEntry, Ready, Going, Queued, State, covers, request_of, is_held, is_past, has_landed, is_pinning, stale_in, is_settled_stale, HasPassed, Live, Started, told}
 use Rattle.lvm_good.proofs.Small.{IsIn, never, and_left_false}
 use Rattle.lvm_good.specs.Sound.{Complete, Statuses, Conflict, MayDiffer, Agree, Settled, Tied, Holds, Sound, the_write}
 use Rattle.lvm_good.proofs.Claims.{Frame, Calmer, PlainKeeps, AdmitKeepsCore}
@@ -94,7 +94,7 @@ plain_keeps s i r n facts cache step alike sound =
       passive = λ lv. refl;
       dirty = λ lv h. h;
       copies = λ lv b. refl;
-      tight = λ lv b on. step.loose lv b ∙ sound.tied.tight lv b on;
+      tight = λ lv b c copy on. step.loose lv b ∙ sound.tied.tight lv b c copy on;
       seen = λ j lv b e m v seen h past. (
         subst (λ (o : Option (List (List ℕ))). IsIn o v) (sym (step.may lv b)) seen.allowed,
         ⊎_elim
@@ -136,15 +136,31 @@ plain_keeps s i r n facts cache step alike sound =
 
 -- ---- a request is admitted
 
-early_not_landed : (p : Phase) → (p ≡ Held) ⊎ (p ≡ WantEntry) ⊎ (p ≡ Ready) → IsFalse (has_landed p)
-early_not_landed p (inl e) = ap has_landed e
-early_not_landed p (inr (inl e)) = ap has_landed e
-early_not_landed p (inr (inr e)) = ap has_landed e
+past_unlanded : (p : Phase) → IsTrue (is_past p) → IsFalse (has_landed p)
+past_unlanded p h = by (is_held p) (has_landed p) h
+  where
+    by : (a b : Bool) → IsTrue (not a && not b) → IsFalse b
+    by a false e = refl
+    by true true e = absurd cc
+    by false true e = absurd cc
+
+early_not_landed : (r : Queued) → (r.phase ≡ Held) ⊎ (r.phase ≡ WantEntry) ⊎ (r.phase ≡ Ready) ⊎ (IsFalse r.write × IsTrue (is_past r.phase) × (r.got ≡ None)) → IsFalse (has_landed r.phase)
+early_not_landed r (inl e) = ap has_landed e
+early_not_landed r (inr (inl e)) = ap has_landed e
+early_not_landed r (inr (inr (inl e))) = ap has_landed e
+early_not_landed r (inr (inr (inr e))) = past_unlanded r.phase e.1
 
 early_not_going : (p : Phase) → (p ≡ Held) ⊎ (p ≡ WantEntry) ⊎ (p ≡ Ready) → p ≡ Going → ⊥
 early_not_going p (inl e) g = cc
 early_not_going p (inr (inl e)) g = cc
 early_not_going p (inr (inr e)) g = cc
+
+write_not_going : (r : Queued) → (r.phase ≡ Held) ⊎ (r.phase ≡ WantEntry) ⊎ (r.phase ≡ Ready) ⊎ (IsFalse r.write × IsTrue (is_past r.phase) × (r.got ≡ None)) → IsTrue r.write → r.phase ≡ Going → ⊥
+write_not_going r (inl e) w g = early_not_going r.phase (inl e) g
+write_not_going r (inr (inl e)) w g = early_not_going r.phase (inr (inl e)) g
+write_not_going r (inr (inr (inl e))) w g = early_not_going r.phase (inr (inr e)) g
+write_not_going r (inr (inr (inr e))) w g = let c : ◌≡◌ {A = Bool} true false = sym w ∙ e.0 in cc
+
 
 usable_parts : (stale missing : Bool) → IsTrue (not stale && not missing) → IsFalse stale × IsFalse missing
 usable_parts true missing h = absurd cc
@@ -159,10 +175,10 @@ module _ (s : State) (i : ℕ) (r : Queued) (phase : Phase) (several : Bool) (ta
   new = with_req s i n
 
   un : IsFalse (has_landed r.phase)
-  un = early_not_landed r.phase step.early
+  un = early_not_landed r step.early
 
   calm : IsTrue r.write → r.phase ≡ Going → ⊥
-  calm w g = early_not_going r.phase step.early g
+  calm w g = write_not_going r step.early w g
 
   calm_now : IsTrue n.write → n.phase ≡ Going → ⊥
   calm_now w g = ⊎_elim (λ (e : phase ≡ WantEntry). early_not_going phase (inr (inl e)) g) (λ (e : (phase ≡ Ready) × (IsTrue r.write → IsTrue (s.is_active r.lv) → IsTrue several → ⊥)). early_not_going phase (inr (inr e.0)) g) step.phase_now

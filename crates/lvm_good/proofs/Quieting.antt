@@ -1,5 +1,5 @@
 -- Events that change neither requests nor blocks.
-use Rattle.std.proofs.Common.{◌≡◌, inl, inr, ⊎_elim, ℕ, Some, refl, sym, ap, subst, ◌∙◌}
+use Rattle.std.proofs.Common.{◌≡◌, inl, inr, ⊎_elim, ℕ, Bool, Some, refl, sym, ap, subst, ◌∙◌}
 use Rattle.std.specs.Prelude.{IsTrue}
 use Rattle.lvm_num.specs.declared.place.Pp.{Pp}
 use Rattle.lvm_num.specs.Geometry.{track_group_of}
@@ -56,7 +56,7 @@ module _ (old new : State) (quiet : Quiet old new) (was : Nearly old) where
     passive = quiet.passive;
     dirty = quiet.dirty;
     copies = quiet.copies;
-    tight = λ lv b on. ap (λ (k : Known). k.loose) (quiet.known_same lv b) ∙ was.tied.tight lv b (⊎_elim (λ (a : IsTrue (new.is_active lv)). inl (sym (quiet.active lv) ∙ a)) (λ (a : IsTrue (new.is_passive lv)). inr (sym (quiet.passive lv) ∙ a)) on);
+    tight = λ lv b c copy on. ap (λ (k : Known). k.loose) (quiet.known_same lv b) ∙ was.tied.tight lv b c (ap (λ (f : Pp → Bool). f c) (sym (quiet.copies lv b)) ∙ copy) (⊎_elim (λ (a : IsTrue (new.is_active lv)). inl (sym (quiet.active lv) ∙ a)) (λ (a : IsTrue (new.is_passive lv)). inr (sym (quiet.passive lv) ∙ a)) on);
     seen = λ i lv b r n v seen there past. (
       subst (λ (k : Known). IsIn k.values v) (sym (quiet.known_same lv b)) seen.allowed,
       ⊎_elim

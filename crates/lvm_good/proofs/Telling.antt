@@ -229,7 +229,7 @@ module _ (facts : List Fact) (r : Request) (lv b : ℕ) where
 
 -- ---- an open write began
 
-filtered : (test : Request → Bool) (ws : List Request) (s : Request) → Stands s (filter test ws) → Stands s ws
+pub filtered : (test : Request → Bool) (ws : List Request) (s : Request) → Stands s (filter test ws) → Stands s ws
 filtered test [] s h = h
 filtered test (w ∷ ws) s h = by_test (test w) (filtered test ws s) h
   where
@@ -238,7 +238,7 @@ filtered test (w ∷ ws) s h = by_test (test w) (filtered test ws s) h
     by_test true later (inr there) = inr (later there)
     by_test false later k = inr (later k)
 
-changed : (f : Fact) (vol : Vol) (b : ℕ) (k : Known) (s : Request) → Stands s (change f vol b k).open_writes → Stands s k.open_writes ⊎ (Begun s ≡ f)
+pub changed : (f : Fact) (vol : Vol) (b : ℕ) (k : Known) (s : Request) → Stands s (change f vol b k).open_writes → Stands s k.open_writes ⊎ (Begun s ≡ f)
 changed (Making lv blocks m) vol b k s h = by_test (same_vol (Lv lv) vol && nat_lt b blocks) h
   where
     by_test : (t : Bool) → Stands s (if t then record { values = Some (zero_sector ∷ []); open_writes = []; loose = false; mode = m } else k).open_writes → Stands s k.open_writes ⊎ (Begun s ≡ Making lv blocks m)
@@ -270,10 +270,10 @@ changed (Removing gone) vol b k s h = inl h
 changed (Taken r) vol b k s h = inl h
 changed (On moment) vol b k s h = inl h
 
-abbrev OpenBegan : List Fact → Type 0
+abbrev pub OpenBegan : List Fact → Type 0
 OpenBegan facts = (vol : Vol) (b : ℕ) (s : Request) → Stands s (known facts vol b).open_writes → Stands (Begun s) facts
 
-open_began : (facts : List Fact) → Legal facts → OpenBegan facts
+pub open_began : (facts : List Fact) → Legal facts → OpenBegan facts
 open_began facts legal = grow_legal OpenBegan grow [] facts (λ vol b s none. none) legal
   where
     grow : (past : List Fact) (f : Fact) → OpenBegan past → Fits past f → OpenBegan (past ++ f ∷ [])

@@ -109,7 +109,7 @@ module _ (s : State) (i : ℕ) (r : Queued) (step : Takes s i r) (sound : Sound 
         passive = λ lv. refl;
         dirty = λ lv h. h;
         copies = λ lv b. refl;
-        tight = λ lv b on. ap (λ (k : Known). k.loose) (same_known lv b) ∙ sound.tied.tight lv b on;
+        tight = λ lv b c copy on. ap (λ (k : Known). k.loose) (same_known lv b) ∙ sound.tied.tight lv b c copy on;
         seen = λ j lv b e n v seen h past. (
           subst (λ (k : Known). IsIn k.values v) (sym (same_known lv b)) seen.allowed,
           ⊎_elim

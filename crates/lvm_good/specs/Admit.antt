@@ -3,7 +3,7 @@ use Rattle.std.specs.Prelude.{◌≡◌, ◌⊎◌, ℕ, ◌<◌, Bool, Option, 
 use Rattle.lvm_num.specs.declared.place.Pp.{Pp}
 use Rattle.lvm_good.specs.Found.{Votes}
 use Rattle.lvm_good.specs.Updates.{with_req}
-use Rattle.lvm_good.specs.State.{Stage, Phase, Held, WantEntry, Ready, Queued, State, has_landed, is_usable}
+use Rattle.lvm_good.specs.State.{Stage, Phase, Held, WantEntry, Ready, Queued, State, has_landed, is_past, is_usable}
 use Rattle.lvm_good.specs.Good.{Good}
 use Rattle.lvm_good.specs.Sound.{Conflict}
 
@@ -13,7 +13,8 @@ admitted r phase several targets = record r { phase = phase; several = several; 
 -- a request that isn't blocked gets its targets, or gets them again
 pub record Admits (s : State) (i : ℕ) (r : Queued) (phase : Phase) (several : Bool) (targets : Pp → Option Stage) : Type 0 where
   pub there : s.queue i ≡ Some r
-  pub early : (r.phase ≡ Held) ⊎ (r.phase ≡ WantEntry) ⊎ (r.phase ≡ Ready)
+  -- or it is a read that has got nothing yet
+  pub early : (r.phase ≡ Held) ⊎ (r.phase ≡ WantEntry) ⊎ (r.phase ≡ Ready) ⊎ (IsFalse r.write × IsTrue (is_past r.phase) × (r.got ≡ None))
   pub phase_now : (phase ≡ WantEntry) ⊎ ((phase ≡ Ready) × (IsTrue r.write → IsTrue (s.is_active r.lv) → IsTrue several → ⊥))
   pub free : (j : ℕ) (e : Queued) → s.queue j ≡ Some e → j < i → Conflict e r → IsTrue (has_landed e.phase)
   pub usable : IsFalse r.write → (c : Pp) (x : Stage) → targets c ≡ Some x → IsTrue (s.is_copy r.lv r.first c) × IsTrue (is_usable s c)

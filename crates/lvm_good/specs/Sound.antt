@@ -55,8 +55,9 @@ the_write r lv b = if r.write && covers r lv b then Some (r.value b) else None
 
 pub record Tied (s : State) : Type 0 where
   pub open_writes : (i : ℕ) (r : Queued) → s.queue i ≡ Some r → IsTrue r.write → IsFalse (has_landed r.phase) → (lv b : ℕ) → write_of b (told s lv b) (request_of s i) ≡ the_write r lv b
-  pub modes : (lv b : ℕ) → IsFalse (s.is_active lv) → IsFalse (s.is_passive lv) → IsTrue (is_off (told s lv b).mode)
-  pub tight : (lv b : ℕ) → IsTrue (s.is_active lv) ⊎ IsTrue (s.is_passive lv) → IsFalse (told s lv b).loose
+  -- at a block that has a copy: what is known of others, past the end of their volume, may be older
+  pub modes : (lv b : ℕ) (c : Pp) → IsTrue (s.is_copy lv b c) → IsFalse (s.is_active lv) → IsFalse (s.is_passive lv) → IsTrue (is_off (told s lv b).mode)
+  pub tight : (lv b : ℕ) (c : Pp) → IsTrue (s.is_copy lv b c) → IsTrue (s.is_active lv) ⊎ IsTrue (s.is_passive lv) → IsFalse (told s lv b).loose
   -- a partition is a copy of one logical partition
   pub owner : (lv b l d : ℕ) (c e : Pp) → IsTrue (s.is_copy lv b c) → IsTrue (s.is_copy l d c) → IsTrue (s.is_copy l d e) → IsTrue (s.is_copy lv b e)
   pub inside : (i : ℕ) (r : Queued) → s.queue i ≡ Some r → (lv b : ℕ) → IsTrue (covers r lv b) → (c : Pp) × IsTrue (s.is_copy lv b c)

@@ -20,7 +20,8 @@ pub record Wants (s : State) (wanted : Marks) (missing : ℕ → Bool) (open_cop
   pub missing_still : (d : ℕ) → IsTrue (s.missing d) → IsTrue (missing d)
   pub still : (c : Pp) → IsTrue (s.wanted.stale c) → IsTrue (wanted.stale c)
   pub still_dirty : (lv : ℕ) → IsTrue (s.wanted.dirty lv) → IsTrue (wanted.dirty lv)
-  pub added : (c : Pp) → IsTrue (wanted.stale c) → IsTrue (s.wanted.stale c) ⊎ Replaced s wanted c
+  -- what is added has another copy in its place, or is no copy that is there
+  pub added : (c : Pp) → IsTrue (wanted.stale c) → IsTrue (s.wanted.stale c) ⊎ Replaced s wanted c ⊎ ((lv b : ℕ) → IsTrue (s.is_copy lv b c) → ⊥)
   -- an open copy that ends is stale by what is wanted
   pub open_same : (open_copy ≡ s.open_copy) ⊎ ((open_copy ≡ None) × ((o : OpenCopy) → s.open_copy ≡ Some o → IsTrue (wanted.stale o.target)))
   pub open_there : (o : OpenCopy) → open_copy ≡ Some o → IsFalse (missing o.target.disk)

@@ -20,7 +20,7 @@ use Rattle.lvm_num.specs.Votes.{CanWrite}
 use Rattle.lvm_vol.specs.declared.entry.Vol.TheVariants.{Lv}
 use Rattle.lvm_vol.specs.Facts.{Fact, Making, Removing, Cut}
 use Rattle.lvm_vol.specs.May.{Known, known, IsValue, change, cut}
-use Rattle.lvm_vol.specs.Standing.{Open, Volume, no_volumes, volumes_after_fact, volumes_in, put}
+use Rattle.lvm_vol.specs.Standing.{Standing, Open, Volume, no_volumes, volumes_after_fact, volumes_in, put}
 use Rattle.lvm_disk.specs.Device.{Media, Image, image_of}
 use Rattle.lvm_kept.specs.Contents.{Contents, contents_of}
 use Rattle.lvm_kept.specs.Group.{block_at, IsBlockOf, IsOneOf}
@@ -138,8 +138,7 @@ module _ (v : NewVolume) (lv : ℕ) (map : List Pp) (d : Descriptor) (lowest : I
         let open_now = making_open facts lv (volume_blocks d.mib v.lps) v.mode in
         record {
           differs = differs_with d v lv map valid lowest order;
-          begun = ap (λ (x : Volume). x.standing) open_now;
-          stands = subst (λ (o : Option LvRow). StandsAs d.mib Open (volumes_in (facts ++ Making lv (volume_blocks d.mib v.lps) v.mode ∷ []) lv).shape o) (sym (named_with d v lv map valid lowest order)) (ap (λ (x : Volume). x.shape) open_now);
+          stands = subst (λ (t : Standing). StandsAs d.mib t (volumes_in (facts ++ Making lv (volume_blocks d.mib v.lps) v.mode ∷ []) lv).shape (volume_of next lv)) (sym (ap (λ (x : Volume). x.standing) open_now)) (subst (λ (o : Option LvRow). StandsAs d.mib Open (volumes_in (facts ++ Making lv (volume_blocks d.mib v.lps) v.mode ∷ []) lv).shape o) (sym (named_with d v lv map valid lowest order)) (ap (λ (x : Volume). x.shape) open_now));
           served = its_served;
         }
 
@@ -148,7 +147,6 @@ module _ (v : NewVolume) (lv : ℕ) (map : List Pp) (d : Descriptor) (lowest : I
 pub old_serves : (d : Descriptor) (lv : ℕ) (c : Contents) (facts : List Fact) → VolumeServes c (facts ++ Removing (Lv lv) ∷ []) d lv (without_volume d lv)
 old_serves d lv c facts = record {
   differs = differs_without d lv;
-  begun = removing_open facts lv;
-  stands = subst (λ (o : Option LvRow). StandsAs d.mib Open (volumes_in (facts ++ Removing (Lv lv) ∷ []) lv).shape o) (sym (unnamed_without d lv)) tt;
+  stands = subst (λ (t : Standing). StandsAs d.mib t (volumes_in (facts ++ Removing (Lv lv) ∷ []) lv).shape (volume_of (without_volume d lv) lv)) (sym (removing_open facts lv)) (subst (λ (o : Option LvRow). StandsAs d.mib Open (volumes_in (facts ++ Removing (Lv lv) ∷ []) lv).shape o) (sym (unnamed_without d lv)) tt);
   served = λ r is its. absurd (none_without d lv r is its);
 }
