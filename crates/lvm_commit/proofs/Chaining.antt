@@ -52,7 +52,7 @@ pub loses_same : (first last : Stored) (old new : Device) → last.group ≡ fir
 loses_same first last old new group same = record {
   group = group;
   rows = record { id = ap (λ (s : Status). s.id) same; big = ap (λ (s : Status). s.big) same; disks = ap (λ (s : Status). map (λ (row : StatusRow). row.disk) s.rows) same };
-  stale = λ p. ap (λ (s : Status). calls_stale s p) same;
+  stale = λ p is. ap (λ (s : Status). calls_stale s p) same ∙ is;
   dirty = ap (λ (s : Status). s.dirty) same;
   stays = λ d is. ap (λ (s : Status). calls_missing s d) same ∙ is;
   lost = λ d is isnt. absurd (clash (calls_missing last.wanted d) is (ap (λ (s : Status). calls_missing s d) same ∙ isnt));
@@ -66,7 +66,7 @@ pub loses_then : (first mid last : Stored) (old m new : Device) → NoneFalls ol
 loses_then first mid last old m new rises goes_on one two = record {
   group = two.group ∙ one.group;
   rows = record { id = two.rows.id ∙ one.rows.id; big = two.rows.big ∙ one.rows.big; disks = two.rows.disks ∙ one.rows.disks };
-  stale = λ p. two.stale p ∙ one.stale p;
+  stale = λ p is. two.stale p (one.stale p is);
   dirty = two.dirty ∙ one.dirty;
   stays = λ d is. two.stays d (one.stays d is);
   lost = λ d is isnt. ⊎_elim

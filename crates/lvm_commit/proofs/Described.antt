@@ -1,15 +1,14 @@
 -- The commit of a session's next descriptor: its record, and then the status of those that it lost.
 use Rattle.std.proofs.Common.{◌≡◌, ◌⊎◌, inl, inr, ⊎_elim, ℕ, ◌+◌, ◌<◌, ◌≤◌, Bool, true, false, not, ◌&&◌, List, IfSome, Ok, IsTrue, IsFalse, refl, sym, ◌∙◌, ap, subst, arith}
-use Rattle.std.specs.Prelude.{is_some, []}
+use Rattle.std.specs.Prelude.{is_some, [], Result}
 use Rattle.lvm_num.specs.declared.record.Kind.TheVariants as kind
 use Rattle.lvm_num.specs.declared.record.Stamp.{Stamp}
 use Rattle.lvm_num.specs.declared.descriptor.Descriptor.{Descriptor}
-use Rattle.lvm_num.specs.declared.status.Status.{Status}
 use Rattle.lvm_num.specs.Buffer.{Buffer, Sector}
-use Rattle.lvm_num.specs.Descriptor.{is_member}
+use Rattle.lvm_num.specs.Descriptor.{IsValid, is_member}
 use Rattle.lvm_num.specs.DescriptorBytes.{descriptor_of}
 use Rattle.lvm_num.specs.Record.{Frames}
-use Rattle.lvm_num.specs.Status.{calls_missing, calls_stale, calls_dirty}
+use Rattle.lvm_num.specs.Status.{calls_missing}
 use Rattle.lvm_vol.specs.Facts.{Fact}
 use Rattle.lvm_disk.specs.Device.{Media, Device, image_of, HasSectors}
 use Rattle.lvm_disk.specs.Steps.{BothTold}
@@ -25,16 +24,15 @@ use Rattle.lvm_change.proofs.Making.{media_may}
 use Rattle.lvm_quorum.specs.declared.homes.Homes.{Homes}
 use Rattle.lvm_quorum.specs.Written.{KeepsShelf, IsDarkened, IsGivenUp}
 use Rattle.lvm_quorum.proofs.Transfers.{keeps_then, darkened_then, given_up_then}
-use Rattle.lvm_quorum.proofs.Writing.{told_at, if_told, both_map, both_then}
+use Rattle.lvm_quorum.proofs.Writing.{told_at, both_map, both_then}
 use Rattle.lvm_commit.specs.declared.commit.Settled.{Settled}
 use Rattle.lvm_commit.specs.declared.commit.Settled.TheVariants as settled
 use Rattle.lvm_commit.specs.Committed.{next_stamp, IsAlike}
 use Rattle.lvm_commit.specs.LawsOfVolumes.{VolumeServes, LeavesOthers}
 use Rattle.lvm_commit.specs.LawsOfFinding.{FindsNoMore, FindsNoMoreOn}
-use Rattle.lvm_commit.specs.Committed.{MayMark}
-use Rattle.lvm_commit.proofs.Statuses.{same_marks}
-use Rattle.lvm_commit.specs.Settling.{IfWentOff, EndsAtOnce, there, IsOf, SessionIsHeld, WantsMarks, OthersAreLeft, OnlyLoses, AreWell, HasLostQuorum, SpendsNumbers, IsOfStatus, IsOfCommit, IsOneRecord, StatusStaysKept, DescriptorStaysKept, StatusFindsNothingNew, StaysHeld}
-use Rattle.lvm_commit.specs.Rounds.{stamped, session_write, WasTried, RecordGives}
+use Rattle.lvm_commit.proofs.Leaving.{wants_marks, round_left, left_then}
+use Rattle.lvm_commit.specs.Settling.{IfWentOff, EndsAtOnce, MarksLeft, there, IsOf, SessionIsHeld, WantsMarks, OthersAreLeft, OnlyLoses, AreWell, HasLostQuorum, SpendsNumbers, IsOfStatus, IsOfCommit, IsOneRecord, StatusStaysKept, DescriptorStaysKept, StatusFindsNothingNew, StaysHeld}
+use Rattle.lvm_commit.specs.Rounds.{MarksRound, stamped, session_write, WasTried, RecordGives}
 use Rattle.lvm_commit.proofs.Chaining.{Goes, Returns, path_counts, keeps_wider, loses_less, loses_then, not_there, record_returns, lost_quorum_then, spends_numbers_then}
 use Rattle.lvm_commit.proofs.Round.{none_or_some, failed_is_missing, was_there_on}
 use Rattle.lvm_commit.proofs.Ready.{spends_one, spends_none}
@@ -56,6 +54,10 @@ ends_map (settled.WentOff have total buf) Same Other more is = is
 ends_map settled.Dark Same Other more is = is
 ends_map settled.Stuck Same Other more is = is
 
+-- a result is of one value
+same_ok : {E : Type 0} (a b : Descriptor) (r : Result Descriptor E) → r ≡ Ok a → r ≡ Ok b → a ≡ b
+same_ok a b r is also = cc
+
 -- where nothing more is found but the descriptor of the group, others are left as they were
 pub leaves_others_on : (id : ℕ) (next : Descriptor) (old new : Device) (R : Media → Media → Type 0) → next.id ≡ id → BothTold old.media new.media R → FindsNoMoreOn next old new → OthersAreLeft id old new
 leaves_others_on id next old new R own both finds =
@@ -65,7 +67,7 @@ leaves_others_on id next old new R own both finds =
     (told_at old.media (λ media. FindsNoMore next (contents_of (image_of old.sizes media)) (contents_of (image_of new.sizes is))) was told_was (finds (image_of new.sizes is) (media_may new is told_is)) other k found))
 
 -- A descriptor was written, and then what was wanted of the status was committed.
-pub record Described (first mid last : Stored) (homes after final : Homes) (old m new : Device) (content : List ℕ) (number p q : ℕ) (buf : Buffer) (r : Settled) : Type 0 where
+pub record Described (d : Descriptor) (first mid last : Stored) (homes after final : Homes) (old m new : Device) (content : List ℕ) (number p q : ℕ) (buf : Buffer) (r : Settled) : Type 0 where
   pub sectors : HasSectors old
   pub frames : Frames kind.Descriptor (record { stamp = next_stamp first.stamp; content = content })
   pub gives : RecordGives (session_write kind.Descriptor content (stamped first) homes) number p q (stamped first) mid homes after old m (settled.Done buf)
@@ -73,10 +75,14 @@ pub record Described (first mid last : Stored) (homes after final : Homes) (old 
   pub committed : mid.committed ≡ first.committed
   pub loses : OnlyLoses mid last m new
   pub keeps : KeepsShelf (there mid) (IsOfStatus mid last) m new
-  pub kept : StatusStaysKept mid after m new
+  pub kept : StatusStaysKept d mid after m new
+  pub valid : IsValid d
+  pub describes : descriptor_of content ≡ Ok d
+  pub round : MarksRound d first mid
+  pub left : MarksLeft d mid last
   pub unwritten : mid.wanted ≡ mid.committed → EndsAtOnce r ((new ≡ m) × (last ≡ mid))
 
-module _ (first mid last : Stored) (homes after final : Homes) (old m new : Device) (content : List ℕ) (number p q : ℕ) (buf : Buffer) (r : Settled) (k : Described first mid last homes after final old m new content number p q buf r) where
+module _ (d : Descriptor) (first mid last : Stored) (homes after final : Homes) (old m new : Device) (content : List ℕ) (number p q : ℕ) (buf : Buffer) (r : Settled) (k : Described d first mid last homes after final old m new content number p q buf r) where
   abbrev w : RecordWrite
   w = session_write kind.Descriptor content (stamped first) homes
 
@@ -100,6 +106,9 @@ module _ (first mid last : Stored) (homes after final : Homes) (old m new : Devi
 
   pub commit_loses : OnlyLoses first last old new
   commit_loses = loses_then first mid last old m new one.rises (path_counts k.kept) one.loses k.loses
+
+  pub commit_left : MarksLeft d first last
+  commit_left = left_then d first mid last k.valid (loses_less first mid old m one.loses) (loses_less mid last m new k.loses) (round_left d first mid k.valid k.round (loses_less first mid old m one.loses)) k.left
 
   returns : Returns number mid old m buf
   returns = record_returns w number (stamped first) mid homes after old m buf refl tried
@@ -183,6 +192,9 @@ module _ (first mid last : Stored) (homes after final : Homes) (old m new : Devi
   -- ---- what is held between the two
 
   module _ (group next : Descriptor) (reads : descriptor_of content ≡ Ok next) (own : IsOf group first) (alike : IsAlike next group) (held : SessionIsHeld old group first homes) where
+    is_next : next ≡ d
+    is_next = same_ok next d (descriptor_of content) reads k.describes
+
     next_is_of : IsOf next mid
     next_is_of = alike ∙ own ∙ sym tried.group
 
@@ -190,9 +202,8 @@ module _ (first mid last : Stored) (homes after final : Homes) (old m new : Devi
     next_held = descriptor_holds first homes old k.sectors content next k.frames reads mid after m number one.keeps buf tried k.committed k.gives.how.1 group own alike held
 
     next_marks : WantsMarks m next mid
-    next_marks = if_told m.media (λ media. MayMark (contents_of (image_of m.sizes media)) next mid.committed mid.wanted) (λ media told. same_marks (contents_of (image_of m.sizes media)) next mid.committed mid.wanted
-        (λ p. tried.wanted.stale p ∙ ap (λ (s : Status). calls_stale s p) (sym k.was_settled ∙ sym k.committed))
-        (λ n. ap (λ (numbers : List ℕ). calls_dirty (record mid.wanted { dirty = numbers }) n) (tried.wanted.dirty ∙ ap (λ (s : Status). s.dirty) (sym k.was_settled ∙ sym k.committed))))
+    next_marks = subst (λ (g : Descriptor). WantsMarks m g mid) (sym is_next)
+        (wants_marks d first mid k.valid k.round mid.committed tried.wanted.stale tried.wanted.dirty (k.committed ∙ k.was_settled) refl m after (subst (λ (g : Descriptor). SessionIsHeld m g mid after) is_next next_held))
 
     pub commit_finds : StatusFindsNothingNew mid after m new → FindsNoMoreOn next old new
     commit_finds finds = then_no_more old m new (λ was is. ChangesBy (IsOfRecord w) (image_of old.sizes was) (image_of m.sizes is)) one.keeps.media (finds next next_is_of next_held) next
@@ -213,12 +224,13 @@ module _ (first mid last : Stored) (homes after final : Homes) (old m new : Devi
   described_kept : DescriptorStaysKept content first homes old m
   described_kept = descriptor_kept first mid homes after old m content number p q (settled.Done buf) k.gives k.sectors k.frames
 
-  then_kept : (d : Device) → ((group : Descriptor) → IsOf group mid → WantsMarks m group mid → SessionIsHeld m group mid after → StaysKept m d) × (is_some d.media ≡ is_some m.media) → CommitStays d
-  then_kept d is group next lv facts reads own held serves was image may =
-      let media = told_before old d image (is.1 ∙ told_with k.gives.moments) may in
+  then_kept : (e : Device) → (WantsMarks m d mid → SessionIsHeld m d mid after → StaysKept m e) × (is_some e.media ≡ is_some m.media) → CommitStays e
+  then_kept e is group next lv facts reads own held serves was image may =
+      let media = told_before old e image (is.1 ∙ told_with k.gives.moments) may in
       let served = told_at old.media (λ x. VolumeServes (contents_of (image_of old.sizes x)) facts group lv next) media.0 media.1 serves in
       let alike : IsAlike next group = ap (λ (g : Descriptor). record g { lvs = [] }) served.differs.alone in
-      is.0 next (next_is_of group next reads own alike held) (next_marks group next reads own alike held) (next_held group next reads own alike held) facts
+      is.0 (subst (λ (g : Descriptor). WantsMarks m g mid) (is_next group next reads own alike held) (next_marks group next reads own alike held))
+      (subst (λ (g : Descriptor). SessionIsHeld m g mid after) (is_next group next reads own alike held) (next_held group next reads own alike held)) facts
       (last-path described_kept group next lv facts reads own held serves was) image may
 
   pub commit_kept : DescriptorStaysKept content first homes old new

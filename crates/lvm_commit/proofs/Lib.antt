@@ -1,5 +1,7 @@
 pub mod Members
 pub mod Found
+pub mod Copies
+pub mod Leaving
 pub mod Statuses
 pub mod Committed
 pub mod Free

@@ -16,7 +16,7 @@ use Rattle.lvm_quorum.specs.Written.{KeepsShelf, IsWriting, EndsOn, StandsTold, 
 use Rattle.lvm_commit.specs.declared.commit.Settled.{Settled}
 use Rattle.lvm_commit.specs.declared.commit.Settled.TheVariants as settled
 use Rattle.lvm_commit.specs.Settling.{there}
-use Rattle.lvm_commit.specs.Rounds.{Misses, IsByVotes, IsSame, session_write, WasTried, HowRecord, RecordGives}
+use Rattle.lvm_commit.specs.Rounds.{Misses, Leaves, IsByVotes, IsSame, session_write, WasTried, HowRecord, RecordGives}
 use Rattle.lvm_commit.proofs.Losing.{misses_same}
 
 -- what is said of the write whatever the answer, and where it was tried on each disk
@@ -36,7 +36,7 @@ module _ (w : RecordWrite) (number before after : ℕ) (first last : Stored) (sl
   gives result how = record { keeps = says.keeps; spends = says.spends; moments = says.moments; how = how }
 
   pub ended_gives :
-      (failed : Disks) (back : Buffer) (result : Settled) → Tries w number slots next old new failed back → last.group ≡ first.group → last.stamp ≡ first.stamp → Misses failed first.wanted last.wanted → IsByVotes last back result
+      (failed : Disks) (back : Buffer) (result : Settled) → Tries w number slots next old new failed back → last.group ≡ first.group → last.stamp ≡ first.stamp → Leaves failed first.wanted last.wanted → IsByVotes last back result
       → RecordGives w number before after first last slots next old new result
   ended_gives failed back result tries group stamp misses votes = gives result (how result votes)
     where

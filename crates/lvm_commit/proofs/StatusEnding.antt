@@ -21,8 +21,8 @@ use Rattle.lvm_commit.specs.Committed.{next_stamp}
 use Rattle.lvm_commit.specs.LawsOfFinding.{FindsNothingNew, FindsNothingNewOn}
 use Rattle.lvm_commit.specs.LawsOfVolumes.{LeavesOthers}
 use Rattle.lvm_commit.specs.Settling.{IsOfStatus, OthersAreLeft}
-use Rattle.lvm_commit.specs.Rounds.{stamped, session_write, HowRecord, RecordGives, HowStatus, StatusGives}
-use Rattle.lvm_commit.proofs.StatusRounds.{AreRounds, more_goes, more_numbers, more_kept, more_finds, more_returns, more_lost, lost_spends}
+use Rattle.lvm_commit.specs.Rounds.{MarksRound, stamped, session_write, HowRecord, RecordGives, HowStatus, StatusGives}
+use Rattle.lvm_commit.proofs.StatusRounds.{AreRounds, more_goes, more_left, more_numbers, more_kept, more_finds, more_returns, more_lost, lost_spends}
 
 -- where nothing is found that wasn't, other groups are left as they were
 pub nothing_new_leaves : (id : ℕ) (old new : Device) (R : Media → Media → Type 0) → BothTold old.media new.media R → FindsNothingNewOn old new → OthersAreLeft id old new
@@ -32,9 +32,10 @@ nothing_new_leaves id old new R both finds =
     told_at old.media (λ media. FindsNothingNew (contents_of (image_of old.sizes media)) (contents_of (image_of new.sizes n))) m was (finds (image_of new.sizes n) (media_may new n is)) other k found)
 
 module _ (d : Descriptor) (number before left : ℕ) (first now : Stored) (slots next : Homes) (old mid : Device) (buf : Buffer) (rounds : AreRounds d number before left first now slots next old mid buf) where
-  pub rounds_end : now.committed ≡ now.wanted → StatusGives number before left first now slots next old mid (settled.Done buf)
+  pub rounds_end : now.committed ≡ now.wanted → StatusGives d number before left first now slots next old mid (settled.Done buf)
   rounds_end same = record {
     loses = rounds.goes.loses;
+    left = rounds.leaving;
     numbers = rounds.numbers;
     keeps = rounds.goes.keeps;
     spends = rounds.goes.spends;
@@ -59,32 +60,33 @@ module _ (d : Descriptor) (number before left : ℕ) (first now : Stored) (slots
 
   module _ (differs : now.committed ≡ now.wanted → ⊥) (sectors : HasSectors mid) (last : Stored) (then : Homes) (new : Device) (after : ℕ) (result : Settled)
       (gives : RecordGives (session_write kind.Status (status_bytes now.wanted) (stamped now) next) buf.number left after (stamped now) last next then mid new result)
-      (frames : Frames kind.Status (record { stamp = next_stamp now.stamp; content = status_bytes now.wanted })) (valid : IsValidStatus now.wanted) where
+      (frames : Frames kind.Status (record { stamp = next_stamp now.stamp; content = status_bytes now.wanted })) (valid : IsValidStatus now.wanted) (round : MarksRound d now last) where
     how_stopped : (r : Settled) → ((back : Buffer) → r ≡ settled.Done back → ⊥) → HowRecord (session_write kind.Status (status_bytes now.wanted) (stamped now) next) buf.number left (stamped now) last next then mid new r
         → HowStatus number before first last slots then old new r
     how_stopped (settled.Done back) never how = absurd (never back refl)
     how_stopped (settled.WentOff have total back) never how =
-        let returns = more_returns d number before left first now slots next old mid buf rounds differs sectors last then new after result gives frames valid back how.0 in
+        let returns = more_returns d number before left first now slots next old mid buf rounds differs sectors last then new after result gives frames valid round back how.0 in
         record {
           number_is = returns.number_is;
           ready = returns.ready;
           cuts = returns.cuts;
           well = returns.well;
-          lost = more_lost d number before left first now slots next old mid buf rounds differs sectors last then new after result gives frames valid back how.0 have total how.1;
-          spent = lost_spends d number before left first now slots next old mid buf rounds differs sectors last then new after result gives frames valid back how.0 have total how.1;
+          lost = more_lost d number before left first now slots next old mid buf rounds differs sectors last then new after result gives frames valid round back how.0 have total how.1;
+          spent = lost_spends d number before left first now slots next old mid buf rounds differs sectors last then new after result gives frames valid round back how.0 have total how.1;
         }
     how_stopped settled.Dark never how = darkened_then number buf.number old mid new rounds.returns.number_is rounds.returns.cuts how.0
     how_stopped settled.Stuck never how = given_up_then number buf.number before left old mid new rounds.returns.number_is rounds.returns.cuts rounds.goes.spends how.0
 
-    pub rounds_stop : ((back : Buffer) → result ≡ settled.Done back → ⊥) → StatusGives number before after first last slots then old new result
+    pub rounds_stop : ((back : Buffer) → result ≡ settled.Done back → ⊥) → StatusGives d number before after first last slots then old new result
     rounds_stop never =
-        let goes = more_goes d number before left first now slots next old mid buf rounds differs sectors last then new after result gives frames valid in
+        let goes = more_goes d number before left first now slots next old mid buf rounds differs sectors last then new after result gives frames valid round in
         record {
           loses = goes.loses;
-          numbers = more_numbers d number before left first now slots next old mid buf rounds differs sectors last then new after result gives frames valid;
+          left = more_left d number before left first now slots next old mid buf rounds differs sectors last then new after result gives frames valid round;
+          numbers = more_numbers d number before left first now slots next old mid buf rounds differs sectors last then new after result gives frames valid round;
           keeps = goes.keeps;
           spends = goes.spends;
-          finds = more_finds d number before left first now slots next old mid buf rounds differs sectors last then new after result gives frames valid;
-          kept = more_kept d number before left first now slots next old mid buf rounds differs sectors last then new after result gives frames valid;
+          finds = more_finds d number before left first now slots next old mid buf rounds differs sectors last then new after result gives frames valid round;
+          kept = more_kept d number before left first now slots next old mid buf rounds differs sectors last then new after result gives frames valid round;
           how = how_stopped result never gives.how;
         }

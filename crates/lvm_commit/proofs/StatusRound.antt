@@ -68,12 +68,12 @@ module _ (d : Descriptor) (now last : Stored) (slots next : Homes) (mid new : De
   -- ---- each moment
 
   abbrev pub RoundStaysKept : Device → Type 0
-  RoundStaysKept e = (group : Descriptor) → IsOf group now → WantsMarks mid group now → SessionIsHeld mid group now slots → StaysKept mid e
+  RoundStaysKept e = WantsMarks mid d now → SessionIsHeld mid d now slots → StaysKept mid e
 
   pub round_kept : Path DeviceStep RoundStaysKept mid new
   round_kept = map-path RoundStaysKept
-      (λ e (writing, told) group own marks held.
-      status_moment_kept now slots mid sectors (status_bytes now.wanted) now.wanted frames reads e writing told may.votes group own (may.id ∙ ap (λ (g : Descriptor). g.id) (sym own)) marks held)
+      (λ e (writing, told) marks held.
+      status_moment_kept now slots mid sectors (status_bytes now.wanted) now.wanted frames reads e writing told may.votes d may.own (may.id ∙ ap (λ (g : Descriptor). g.id) (sym may.own)) marks held)
       (with_told gives.moments)
 
   pub round_finds : (group : Descriptor) → SessionIsHeld mid group now slots → FindsNothingNewOn mid new

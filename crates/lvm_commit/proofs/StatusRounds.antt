@@ -1,14 +1,11 @@
 -- Records of a session's status, one after another.
-use Rattle.std.proofs.Common.{◌≡◌, ◌⊎◌, inl, inr, ⊎_elim, ℕ, ◌+◌, ◌<◌, ◌^◌, not, List, [], None, IsTrue, refl, sym, ◌∙◌, ap, subst, arith}
-use Rattle.std.specs.Prelude.{◌==◌}
-use Rattle.std.specs.List.{list_any}
+use Rattle.std.proofs.Common.{◌≡◌, ◌⊎◌, inl, inr, ⊎_elim, ℕ, ◌+◌, ◌<◌, ◌^◌, not, [], None, IsTrue, refl, sym, ◌∙◌, ap, subst, arith}
 use Rattle.lvm_num.specs.declared.record.Kind.TheVariants as kind
 use Rattle.lvm_num.specs.declared.record.Stamp.{Stamp}
 use Rattle.lvm_num.specs.declared.descriptor.Descriptor.{Descriptor}
-use Rattle.lvm_num.specs.declared.status.Status.{Status}
 use Rattle.lvm_num.specs.Buffer.{Buffer, Sector}
 use Rattle.lvm_num.specs.Descriptor.{is_member}
-use Rattle.lvm_num.specs.Status.{calls_stale, calls_missing, calls_dirty, IsValidStatus}
+use Rattle.lvm_num.specs.Status.{calls_missing, IsValidStatus}
 use Rattle.lvm_num.specs.StatusBytes.{status_bytes}
 use Rattle.lvm_num.specs.Record.{Frames}
 use Rattle.lvm_num.specs.Votes.{votes_in, is_enough_to_write, CanWrite}
@@ -29,10 +26,9 @@ use Rattle.lvm_quorum.proofs.Writing.{if_told}
 use Rattle.lvm_commit.specs.declared.commit.Settled.{Settled}
 use Rattle.lvm_commit.specs.Committed.{next_stamp}
 use Rattle.lvm_commit.specs.LawsOfFinding.{FindsNothingNew, FindsNothingNewOn}
-use Rattle.lvm_commit.specs.Committed.{MayMark}
-use Rattle.lvm_commit.proofs.Statuses.{same_marks}
-use Rattle.lvm_commit.specs.Settling.{there, MaySettle, HasNumbers, IsOf, HasLostQuorum, SpendsNumbers, IsOfStatus, IsOneRecord, IsPlain, WantsMarks, SessionIsHeld, StatusStaysKept, StatusFindsNothingNew}
-use Rattle.lvm_commit.specs.Rounds.{stamped, session_write, WasTried, HasFew, RecordGives}
+use Rattle.lvm_commit.proofs.Leaving.{wants_marks, round_left, left_same_as, left_then}
+use Rattle.lvm_commit.specs.Settling.{there, MarksLeft, MaySettle, HasNumbers, IsOf, HasLostQuorum, SpendsNumbers, IsOfStatus, IsOneRecord, IsPlain, WantsMarks, SessionIsHeld, StatusStaysKept, StatusFindsNothingNew}
+use Rattle.lvm_commit.specs.Rounds.{MarksRound, stamped, session_write, WasTried, HasFew, RecordGives}
 use Rattle.lvm_commit.proofs.NoMore.{data_finds_nothing_new, then_nothing_new}
 use Rattle.lvm_commit.proofs.Still.{still_image}
 use Rattle.lvm_commit.proofs.Chaining.{Goes, Returns, goes_wider, goes_then, returns_then, loses_same, loses_less, lost_quorum_then, spends_numbers_then}
@@ -69,10 +65,11 @@ pub record AreRounds (d : Descriptor) (number before left : ℕ) (first now : St
   pub returns : Returns number now old mid buf
   pub numbers : SpendsNumbers 1 first now
   pub stage : IsFresh first now slots next old mid ⊎ IsOn first now slots old mid
-  pub marks : (group : Descriptor) → WantsMarks old group first → WantsMarks mid group now
+  pub leaving : MarksLeft d first now
+  pub marks : WantsMarks old d first → SessionIsHeld old d first slots → WantsMarks mid d now
   pub held : (group : Descriptor) → IsOf group first → SessionIsHeld old group first slots → SessionIsHeld mid group now next
   pub finds : StatusFindsNothingNew first slots old mid
-  pub kept : StatusStaysKept first slots old mid
+  pub kept : StatusStaysKept d first slots old mid
 
 spends_at : (more : ℕ) (u : Stored) → SpendsNumbers more u u
 spends_at more u = record { epoch = refl; rises = omega arith; most = omega arith }
@@ -84,10 +81,11 @@ no_rounds d patience first slots old buf may ready = record {
   returns = record { number_is = refl; ready = ready; cuts = refl; well = λ e is. refl };
   numbers = spends_at 1 first;
   stage = inl (record { same = refl; slots_are = refl; device = refl });
-  marks = λ group marks. marks;
+  leaving = left_same_as d first;
+  marks = λ marks held. marks;
   held = λ group own held. held;
   finds = λ group own held. still_finds old ready.flights;
-  kept = Here (λ group own marks held facts kept. kept);
+  kept = Here (λ marks held facts kept. kept);
 }
 
 -- ---- while something is wanted
@@ -104,7 +102,10 @@ module _ (d : Descriptor) (number before left : ℕ) (first now : Stored) (slots
 module _ (d : Descriptor) (number before left : ℕ) (first now : Stored) (slots next : Homes) (old mid : Device) (buf : Buffer) (rounds : AreRounds d number before left first now slots next old mid buf) (differs : now.committed ≡ now.wanted → ⊥)
     (sectors : HasSectors mid) (last : Stored) (then : Homes) (new : Device) (after : ℕ) (result : Settled)
     (gives : RecordGives (session_write kind.Status (status_bytes now.wanted) (stamped now) next) buf.number left after (stamped now) last next then mid new result)
-    (frames : Frames kind.Status (record { stamp = next_stamp now.stamp; content = status_bytes now.wanted })) (valid : IsValidStatus now.wanted) where
+    (frames : Frames kind.Status (record { stamp = next_stamp now.stamp; content = status_bytes now.wanted })) (valid : IsValidStatus now.wanted) (round : MarksRound d now last) where
+  first_own : IsOf d first
+  first_own = rounds.may.own ∙ rounds.goes.loses.group
+
   spent : SpendsNumbers 0 first now
   spent = none_spent d number before left first now slots next old mid buf rounds differs
 
@@ -147,12 +148,16 @@ module _ (d : Descriptor) (number before left : ℕ) (first now : Stored) (slots
   pub more_numbers : SpendsNumbers 1 first last
   more_numbers = spends_numbers_then 0 1 first now last spent (spends_one now last mid new one.loses stamp_is)
 
-  pub more_kept : StatusStaysKept first slots old new
+  pub more_kept : StatusStaysKept d first slots old new
   more_kept = append-path rounds.kept
-      (map-path (λ (e : Device). (group : Descriptor) → IsOf group first → WantsMarks old group first → SessionIsHeld old group first slots → StaysKept old e)
-      (λ e goes group own marks held facts kept.
-      goes group (own ∙ sym rounds.goes.loses.group) (rounds.marks group marks) (rounds.held group own held) facts (last-path rounds.kept group own marks held facts kept))
+      (map-path (λ (e : Device). WantsMarks old d first → SessionIsHeld old d first slots → StaysKept old e)
+      (λ e goes marks held facts kept.
+      goes (rounds.marks marks held) (rounds.held d first_own held) facts (last-path rounds.kept marks held facts kept))
       (round_kept d now last next then mid new sectors rounds.may buf.number left after result gives frames valid))
+
+  pub more_left : MarksLeft d first last
+  more_left = left_then d first now last rounds.may.valid (loses_less first now old mid rounds.goes.loses) (loses_less now last mid new one.loses) rounds.leaving
+      (round_left d now last rounds.may.valid round (loses_less now last mid new one.loses))
 
   pub more_finds : StatusFindsNothingNew first slots old new
   more_finds group own held =
@@ -217,9 +222,9 @@ module _ (d : Descriptor) (number before left : ℕ) (first now : Stored) (slots
         returns = more_returns;
         numbers = more_numbers;
         stage = inr (record { plain = more_plain; spare = more_spare });
-        marks = λ group marks. if_told new.media (λ media. MayMark (contents_of (image_of new.sizes media)) group last.committed last.wanted) (λ media told. same_marks (contents_of (image_of new.sizes media)) group last.committed last.wanted
-            (λ p. one.loses.stale p ∙ ap (λ (s : Status). calls_stale s p) (sym same))
-            (λ n. ap (λ (numbers : List ℕ). list_any (λ m. m == n) numbers) one.loses.dirty ∙ ap (λ (s : Status). calls_dirty s n) (sym same)));
+        leaving = more_left;
+        marks = λ marks held. wants_marks d now last rounds.may.valid round now.wanted one.loses.stale one.loses.dirty refl same new then
+            (round_holds d now last next then mid new sectors rounds.may buf.number left after result gives frames valid back tried same d rounds.may.own (rounds.held d first_own held));
         held = λ group own held. round_holds d now last next then mid new sectors rounds.may buf.number left after result gives frames valid back tried same group (own ∙ sym rounds.goes.loses.group) (rounds.held group own held);
         finds = more_finds;
         kept = more_kept;

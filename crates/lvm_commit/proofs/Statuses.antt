@@ -23,7 +23,7 @@ use Rattle.lvm_disk.specs.Device.{Image, image_of}
 use Rattle.lvm_kept.specs.Contents.{Contents, contents_of}
 use Rattle.lvm_kept.specs.Group.{if_passes, passes, is_of, is_status_of, IsFound, members_in, status_by, Reads, ReadsBy, is_stale_by, fresh_on, block_at, is_named, IsOneOf, IsSome, HoldOne}
 use Rattle.lvm_kept.specs.Committed.{IsWithinDisks}
-use Rattle.lvm_kept.specs.Kept.{MayDiffer, IsBlockKept, BlocksKept, Kept}
+use Rattle.lvm_kept.specs.Kept.{MayDiffer, BlocksKept, Kept}
 use Rattle.lvm_kept.specs.Changes.{Serves, HasNoVolume}
 use Rattle.lvm_kept.specs.Torn.{StatusesChange, written as as_read, Alone}
 use Rattle.lvm_kept.proofs.Finding.{finding_reads, images_within}

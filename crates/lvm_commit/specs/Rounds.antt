@@ -1,17 +1,22 @@
 -- How one record that a session writes ends, and what the session is then.
-use Rattle.std.specs.Prelude.{◌≡◌, ℕ, ◌&&◌, ◌||◌, List, IsFalse, Some, None}
+use Rattle.std.specs.Prelude.{◌≡◌, ℕ, ◌&&◌, ◌||◌, ◌⊎◌, true, false, List, IsTrue, IsFalse, Some, None}
+use Rattle.std.specs.List.{list_any}
 use Rattle.lvm_num.specs.declared.record.Kind.{Kind}
 use Rattle.lvm_num.specs.declared.record.Kind.TheVariants as kind
+use Rattle.lvm_num.specs.declared.place.Pp.{Pp}
+use Rattle.lvm_num.specs.declared.descriptor.PvRow.{PvRow}
+use Rattle.lvm_num.specs.declared.descriptor.Descriptor.{Descriptor}
 use Rattle.lvm_num.specs.declared.status.Status.{Status}
 use Rattle.lvm_num.specs.Buffer.{Buffer}
 use Rattle.lvm_num.specs.Disks.{Disks, has}
-use Rattle.lvm_num.specs.Status.{calls_missing}
+use Rattle.lvm_num.specs.Status.{calls_stale, calls_missing}
 use Rattle.lvm_num.specs.StatusBytes.{status_bytes}
 use Rattle.lvm_num.specs.Votes.{votes_in, total_votes, is_enough_to_write, CanWrite}
 use Rattle.lvm_disk.specs.Device.{Device, IsReady}
 use Rattle.lvm_disk.specs.Paths.{DeviceStep, Path}
 use Rattle.lvm_kept.specs.Torn.{RecordWrite, IsOfRecord}
 use Rattle.lvm_stale.specs.Table.{SameStale}
+use Rattle.lvm_left.specs.Marking.{IsLeftIn, Marks}
 use Rattle.lvm_status.specs.Update.{Stored, no_disks}
 use Rattle.lvm_quorum.specs.declared.homes.Homes.{Homes}
 use Rattle.lvm_quorum.specs.Homes.{Flips}
@@ -20,7 +25,7 @@ use Rattle.lvm_quorum.specs.Written.{write_of, KeepsShelf, IsWriting, EndsOn, St
 use Rattle.lvm_commit.specs.declared.commit.Settled.{Settled}
 use Rattle.lvm_commit.specs.declared.commit.Settled.TheVariants as settled
 use Rattle.lvm_commit.specs.Committed.{next_stamp}
-use Rattle.lvm_commit.specs.Settling.{there, HasSameRows, IsCommitted, HasLostQuorum, OnlyLoses, AreWell, SpendsNumbers, IsOfStatus, IsPlain, StatusFindsNothingNew, StatusStaysKept, StaysHeld}
+use Rattle.lvm_commit.specs.Settling.{there, NoneIsLeft, MarksLeft, HasSameRows, IsCommitted, HasLostQuorum, OnlyLoses, AreWell, SpendsNumbers, IsOfStatus, IsPlain, StatusFindsNothingNew, StatusStaysKept, StaysHeld}
 
 -- ---- the session
 
@@ -31,6 +36,25 @@ pub record Misses (failed : Disks) (old new : Status) : Type 0 where
   pub dirty : new.dirty ≡ old.dirty
   pub missing : (d : ℕ) → calls_missing new d ≡ (calls_missing old d || failed d)
   pub same : ((d : ℕ) → IsFalse (failed d)) → new ≡ old
+
+-- So it is, and further partitions may become stale.
+pub record Leaves (failed : Disks) (old new : Status) : Type 0 where
+  pub rows : HasSameRows old new
+  pub stale : (p : Pp) → IsTrue (calls_stale old p) → IsTrue (calls_stale new p)
+  pub dirty : new.dirty ≡ old.dirty
+  pub missing : (d : ℕ) → calls_missing new d ≡ (calls_missing old d || failed d)
+  pub same : ((d : ℕ) → IsFalse (failed d)) → new ≡ old
+
+-- where a member is one of these disks, the copies of the group's volumes that are left behind are wanted stale, and nothing else changes
+pub record HasMarked (group : Descriptor) (failed : Disks) (first last : Stored) : Type 0 where
+  pub rest : last ≡ record first { wanted = last.wanted }
+  pub unmarked : list_any (λ (row : PvRow). failed row.disk) group.pvs ≡ false → last.wanted ≡ first.wanted
+  pub marked : list_any (λ (row : PvRow). failed row.disk) group.pvs ≡ true → Marks (there first) (IsLeftIn (there first) first.wanted group.lvs) first.wanted last.wanted
+
+-- One record leaves none behind where none was, and only what is left behind becomes stale.
+pub record MarksRound (group : Descriptor) (first last : Stored) : Type 0 where
+  pub none : NoneIsLeft group first → NoneIsLeft group last
+  pub only : (p : Pp) → IsTrue (calls_stale last.wanted p) → IsTrue (calls_stale first.wanted p) ⊎ IsLeftIn (there last) last.wanted group.lvs p
 
 -- what is wanted is in flight, and no write of it has started
 pub record IsStarted (u : Stored) : Type 0 where
@@ -91,7 +115,7 @@ pub record WasTried (w : RecordWrite) (number : ℕ) (first last : Stored) (slot
   pub flips : Flips w.kind (written_well w.targets failed) slots next
   pub group : last.group ≡ first.group
   pub stamp : last.stamp ≡ first.stamp
-  pub wanted : Misses failed first.wanted last.wanted
+  pub wanted : Leaves failed first.wanted last.wanted
 
 -- its group, what is wanted and its stamp are the same
 pub record IsSame (first last : Stored) : Type 0 where
@@ -140,11 +164,12 @@ HowStatus number before first last slots next old new settled.Dark = IsDarkened 
 HowStatus number before first last slots next old new settled.Stuck = IsGivenUp number before old new
 
 -- how the commit of a status ended, and what it did
-pub record StatusGives (number before after : ℕ) (first last : Stored) (slots next : Homes) (old new : Device) (result : Settled) : Type 0 where
+pub record StatusGives (group : Descriptor) (number before after : ℕ) (first last : Stored) (slots next : Homes) (old new : Device) (result : Settled) : Type 0 where
   pub loses : OnlyLoses first last old new
+  pub left : MarksLeft group first last
   pub numbers : SpendsNumbers 1 first last
   pub keeps : KeepsShelf (there first) (IsOfStatus first last) old new
   pub spends : Spends before after old new
   pub finds : StatusFindsNothingNew first slots old new
-  pub kept : StatusStaysKept first slots old new
+  pub kept : StatusStaysKept group first slots old new
   pub how : HowStatus number before first last slots next old new result

@@ -2,16 +2,18 @@
 use Rattle.std.specs.Prelude.{◌≡◌, ◌⊎◌, ◌≢◌, ℕ, ◌+◌, ◌^◌, ◌<◌, ◌≤◌, not, List, [], map, None, Ok, IsTrue, IsFalse, IfSome, count_by}
 use Rattle.lvm_num.specs.declared.record.Kind.{Kind}
 use Rattle.lvm_num.specs.declared.record.Kind.TheVariants as kind
+use Rattle.lvm_num.specs.declared.place.Pp.{Pp}
 use Rattle.lvm_num.specs.declared.descriptor.PvRow.{PvRow}
+use Rattle.lvm_num.specs.declared.descriptor.LvRow.{LvRow}
 use Rattle.lvm_num.specs.declared.descriptor.Descriptor.{Descriptor}
 use Rattle.lvm_num.specs.declared.status.StatusRow.{StatusRow}
 use Rattle.lvm_num.specs.declared.status.Status.{Status}
 use Rattle.lvm_num.specs.Buffer.{Buffer, Sector}
 use Rattle.lvm_num.specs.Disks.{Disks}
-use Rattle.lvm_num.specs.Descriptor.{IsValid}
+use Rattle.lvm_num.specs.Descriptor.{IsValid, copies_of}
 use Rattle.lvm_num.specs.DescriptorBytes.{descriptor_of}
 use Rattle.lvm_num.specs.Record.{Frames}
-use Rattle.lvm_num.specs.Status.{calls_missing}
+use Rattle.lvm_num.specs.Status.{calls_stale, calls_missing}
 use Rattle.lvm_num.specs.StatusBytes.{status_bytes}
 use Rattle.lvm_num.specs.Votes.{votes_in, total_votes, is_enough_to_write, CanWrite}
 use Rattle.lvm_disk.specs.Counts.{Rose}
@@ -22,7 +24,9 @@ use Rattle.lvm_vol.specs.Facts.{Fact}
 use Rattle.lvm_kept.specs.Contents.{contents_of}
 use Rattle.lvm_kept.specs.Plans.{Plan}
 use Rattle.lvm_kept.specs.Torn.{RecordWrite, IsOfRecord}
-use Rattle.lvm_stale.specs.Table.{SameStale, SameMissing}
+use Rattle.lvm_kept.specs.Group.{IsOneOf}
+use Rattle.lvm_stale.specs.Table.{SameMissing}
+use Rattle.lvm_left.specs.Marking.{IsLeftIn}
 use Rattle.lvm_status.specs.Members.{HasItsRows}
 use Rattle.lvm_status.specs.Update.{Stored, members_there}
 use Rattle.lvm_change.specs.Moments.{StaysKept, ImagesKept}
@@ -127,14 +131,38 @@ pub record HasLostQuorum (first last : Stored) (old new : Device) (have total : 
   pub was : IsTrue (there first disk)
   pub failed : Rose (old.counts.faults disk) (new.counts.faults disk)
 
--- The group stays, and of what is wanted only this changes: members become missing, each of them after a transfer to it has failed.
+-- The group stays, and of what is wanted only this changes: members become missing, each of them after a transfer to it has failed, and further
+-- partitions stale.
 pub record OnlyLoses (first last : Stored) (old new : Device) : Type 0 where
   pub group : last.group ≡ first.group
   pub rows : HasSameRows first.wanted last.wanted
-  pub stale : SameStale first.wanted last.wanted
+  pub stale : (p : Pp) → IsTrue (calls_stale first.wanted p) → IsTrue (calls_stale last.wanted p)
   pub dirty : last.wanted.dirty ≡ first.wanted.dirty
   pub stays : (d : ℕ) → IsTrue (calls_missing first.wanted d) → IsTrue (calls_missing last.wanted d)
   pub lost : (d : ℕ) → IsTrue (calls_missing last.wanted d) → IsFalse (calls_missing first.wanted d) → IsTrue (there first d) × Rose (old.counts.faults d) (new.counts.faults d)
+
+-- no copy of the group's volumes is left behind: one on a disk that is missing, of whose logical partition another one is usable, is wanted stale
+abbrev pub NoneIsLeft : Descriptor → Stored → Type 0
+NoneIsLeft group u = (p : Pp) → IsLeftIn (there u) u.wanted group.lvs p → IsTrue (calls_stale u.wanted p)
+
+-- It is a copy of one of the group's volumes on a disk that is missing at last. Another copy of its logical partition isn't wanted stale, and was on a
+-- member that wasn't missing at first.
+pub record IsPassed (group : Descriptor) (first last : Stored) (p : Pp) : Type 0 where
+  pub row : LvRow
+  pub lp : ℕ
+  pub volume : IsOneOf group.lvs row
+  pub inside : lp < row.lps
+  pub one : IsOneOf (copies_of row lp) p
+  pub absent : IsFalse (there last p.disk)
+  pub other : Pp
+  pub among : IsOneOf (copies_of row lp) other
+  pub fresh : IsFalse (calls_stale last.wanted other)
+  pub was_there : IsTrue (there first other.disk)
+
+-- No copy is left behind where none was, and no partition becomes stale for another reason.
+pub record MarksLeft (group : Descriptor) (first last : Stored) : Type 0 where
+  pub none : NoneIsLeft group first → NoneIsLeft group last
+  pub only : (p : Pp) → IsTrue (calls_stale last.wanted p) → IsTrue (calls_stale first.wanted p) ⊎ IsPassed group first last p
 
 -- no transfer to a member that isn't missing has failed
 abbrev pub AreWell : Stored → Device → Device → Type 0
@@ -198,9 +226,9 @@ SessionIsHeld device group u homes = IfSome device.media (λ media. HoldsCommitt
 abbrev pub WantsMarks : Device → Descriptor → Stored → Type 0
 WantsMarks device group u = IfSome device.media (λ media. MayMark (contents_of (image_of device.sizes media)) group u.committed u.wanted)
 
--- What was kept is kept at each moment while a status is committed that says the same of the group's volumes.
-abbrev pub StatusStaysKept : Stored → Homes → Device → Device → Type 0
-StatusStaysKept first homes old new = Path DeviceStep (λ d. (group : Descriptor) → IsOf group first → WantsMarks old group first → SessionIsHeld old group first homes → StaysKept old d) old new
+-- What was kept is kept at each moment while a status is committed that may follow.
+abbrev pub StatusStaysKept : Descriptor → Stored → Homes → Device → Device → Type 0
+StatusStaysKept group first homes old new = Path DeviceStep (λ d. WantsMarks old group first → SessionIsHeld old group first homes → StaysKept old d) old new
 
 -- So it is while the next descriptor is committed, which the history lets differ from the group by one volume.
 abbrev pub DescriptorStaysKept : List ℕ → Stored → Homes → Device → Device → Type 0

@@ -1,13 +1,14 @@
 //! The records of a session are committed.
-ghost use Rattle.std.specs.Prelude.{◌≡◌, ◌-◌, ◌≤◌, length};
+ghost use Rattle.std.specs.Prelude.{Ok, ◌≡◌, ◌-◌, ◌≤◌, length};
 ghost use Rattle.lvm_num.specs.declared.record.Kind.TheVariants as kind;
+ghost use Rattle.lvm_num.specs.DescriptorBytes.{descriptor_of};
 ghost use Rattle.lvm_num.specs.Record.{longest_content};
 ghost use Rattle.lvm_num.specs.StatusBytes.{status_bytes};
 ghost use Rattle.lvm_disk.specs.Counts.{RoseBy};
 ghost use Rattle.lvm_disk.specs.Device.{IsReady};
 ghost use Rattle.lvm_quorum.specs.Written.{KeepsShelf, IsDarkened, IsGivenUp};
 ghost use Rattle.lvm_commit.specs.Rounds.{StatusGives};
-ghost use Rattle.lvm_commit.specs.Settling.{IfDone, IfWentOff, IfBack, OnDark, OnStuck, EndsAtOnce, there, MaySettle, HasNumbers, IsCommitted, HasLostQuorum, OnlyLoses, AreWell, SpendsNumbers, IsOfStatus, IsOfCommit, IsPlain, StatusStaysKept, DescriptorStaysKept, StatusFindsNothingNew, CommitFindsNoMore, StaysHeld, ComesHeld};
+ghost use Rattle.lvm_commit.specs.Settling.{IfDone, IfWentOff, IfBack, OnDark, OnStuck, EndsAtOnce, there, MaySettle, HasNumbers, IsCommitted, HasLostQuorum, OnlyLoses, MarksLeft, AreWell, SpendsNumbers, IsOfStatus, IsOfCommit, IsPlain, StatusStaysKept, DescriptorStaysKept, StatusFindsNothingNew, CommitFindsNoMore, StaysHeld, ComesHeld};
 
 use crate::write::{is_committed, write_descriptor, write_wanted};
 use lvm_disk::Shelf;
@@ -30,8 +31,8 @@ pub enum Settled {
 }
 
 /// Writes what is wanted of the status to the members that aren't missing, until what is wanted is committed.
-/// A member whose write fails is missing, and what is written next says so. `d` is the session's group, and
-/// `bytes` is room for the largest status. It takes no memory.
+/// A member whose write fails is missing, and what is written next says so, and calls the copies stale that it
+/// leaves behind. `d` is the session's group, and `bytes` is room for the largest status. It takes no memory.
 pub fn commit_status<S: Shelf>(
     shelf: &mut S,
     d: &Descriptor,
@@ -63,19 +64,21 @@ pub fn commit_status<S: Shelf>(
     ensures unwritten { updater.old.wanted ≡ updater.old.committed → EndsAtOnce result ((shelf.new ≡ shelf.old) × (updater.new ≡ updater.old) × (homes.new ≡ homes.old) × (patience.new ≡ patience.old)) }
     // whatever the answer
     ensures marks { OnlyLoses updater.old updater.new (S.device shelf.old) (S.device shelf.new) }
+    ensures left { MarksLeft d.now updater.old updater.new }
     ensures numbers { SpendsNumbers 1 updater.old updater.new }
     ensures patience { patience.new.left ≤ patience.old.left }
     ensures waited { RoseBy (patience.old.left - patience.new.left) (S.device shelf.old).counts.waits (S.device shelf.new).counts.waits }
     ensures keeps { KeepsShelf (there updater.old) (IsOfStatus updater.old updater.new) (S.device shelf.old) (S.device shelf.new) }
     ensures finds { StatusFindsNothingNew updater.old homes.old (S.device shelf.old) (S.device shelf.new) }
-    ensures kept { StatusStaysKept updater.old homes.old (S.device shelf.old) (S.device shelf.new) }
+    ensures kept { StatusStaysKept d.now updater.old homes.old (S.device shelf.old) (S.device shelf.new) }
 {
     settle_status(shelf, d, updater, homes, bytes, buf, patience)
 }
 
 /// Writes a descriptor to the members that aren't missing. Those whose write fails are missing, and the status
-/// says so before the call answers: what is wanted is committed. `d` is the session's group, and `bytes` is room
-/// for the largest status. It takes no memory.
+/// says so before the call answers, and calls the copies stale that they leave behind: what is wanted is
+/// committed. `d` is that descriptor and `content` its bytes, and `bytes` is room for the largest status. It
+/// takes no memory.
 pub fn commit_descriptor<S: Shelf>(
     shelf: &mut S,
     d: &Descriptor,
@@ -91,6 +94,7 @@ pub fn commit_descriptor<S: Shelf>(
     requires settled { updater.old.committed ≡ updater.old.wanted }
     requires numbers { HasNumbers 2 updater.old }
     requires content { length content.now ≤ longest_content kind.Descriptor }
+    requires describes { descriptor_of content.now ≡ Ok d.now }
     requires bytes { longest_content kind.Status ≤ length bytes.old }
     // the descriptor is committed, and what is wanted
     ensures done { IfDone result (λ back. IsCommitted updater.new) }
@@ -108,6 +112,7 @@ pub fn commit_descriptor<S: Shelf>(
     ensures stuck { OnStuck result (IsGivenUp buf.number patience.old.left (S.device shelf.old) (S.device shelf.new)) }
     // whatever the answer
     ensures marks { OnlyLoses updater.old updater.new (S.device shelf.old) (S.device shelf.new) }
+    ensures left { MarksLeft d.now updater.old updater.new }
     ensures numbers { SpendsNumbers 1 updater.old updater.new }
     ensures patience { patience.new.left ≤ patience.old.left }
     ensures waited { RoseBy (patience.old.left - patience.new.left) (S.device shelf.old).counts.waits (S.device shelf.new).counts.waits }
@@ -135,7 +140,7 @@ fn settle_status<S: Shelf>(
     requires may { MaySettle d.now updater.old (S.device shelf.old) }
     requires numbers { HasNumbers 1 updater.old }
     requires bytes { longest_content kind.Status ≤ length bytes.old }
-    ensures gives { StatusGives buf.number patience.old.left patience.new.left updater.old updater.new homes.old homes.new (S.device shelf.old) (S.device shelf.new) result }
+    ensures gives { StatusGives d.now buf.number patience.old.left patience.new.left updater.old updater.new homes.old homes.new (S.device shelf.old) (S.device shelf.new) result }
     ensures unwritten { updater.old.wanted ≡ updater.old.committed → EndsAtOnce result ((shelf.new ≡ shelf.old) × (updater.new ≡ updater.old) × (homes.new ≡ homes.old) × (patience.new ≡ patience.old)) }
 {
     let mut buf = buf;

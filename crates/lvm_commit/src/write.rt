@@ -1,5 +1,7 @@
 //! One record of a session is written, and the members on which its write failed are missing.
 ghost use Rattle.std.specs.Prelude.{◌≡◌, ◌↔◌, ◌≢◌, ◌+◌, ◌<◌, ◌≤◌, ◌^◌, ◌++◌, ℕ, length, drop, None, IsTrue};
+ghost use Rattle.std.specs.List.{list_any};
+ghost use Rattle.lvm_num.specs.declared.descriptor.PvRow.{PvRow};
 ghost use Rattle.lvm_num.specs.declared.record.Kind.TheVariants as kind;
 ghost use Rattle.lvm_num.specs.Descriptor.{IsValid, is_member};
 ghost use Rattle.lvm_num.specs.Disks.{has};
@@ -12,7 +14,7 @@ ghost use Rattle.lvm_status.specs.Update.{members_there};
 ghost use Rattle.lvm_quorum.specs.Written.{HaveRoom};
 ghost use Rattle.lvm_commit.specs.Committed.{next_stamp};
 ghost use Rattle.lvm_commit.specs.Settling.{IfDone, IsOf, there};
-ghost use Rattle.lvm_commit.specs.Rounds.{IsStarted, HasEnded, HasLost, IsByVotes, stamped, session_write, RecordGives};
+ghost use Rattle.lvm_commit.specs.Rounds.{IsStarted, HasEnded, HasLost, HasMarked, MarksRound, IsByVotes, stamped, session_write, RecordGives};
 
 use crate::commit::Settled;
 use lvm_disk::Shelf;
@@ -23,7 +25,7 @@ use lvm_status::{Change, Updater};
 use lvm_vgsa::encode_into;
 
 /// Writes what is wanted of the status to each member that isn't missing, under the next stamp. The members on which
-/// that fails are wanted missing.
+/// that fails are wanted missing, and the copies that they leave behind stale.
 pub fn write_wanted<S: Shelf>(
     shelf: &mut S,
     d: &Descriptor,
@@ -37,6 +39,7 @@ pub fn write_wanted<S: Shelf>(
     requires valid { IsValid d.now }
     requires own { IsOf d.now updater.old }
     requires idle { updater.old.in_flight ≡ None }
+    requires rows { HasItsRows updater.old.group updater.old.wanted }
     requires differs { updater.old.committed ≢ updater.old.wanted }
     requires epoch { updater.old.stamp.epoch ≢ 0 }
     requires number { updater.old.stamp.seq + 1 < 2 ^ 32 }
@@ -45,6 +48,7 @@ pub fn write_wanted<S: Shelf>(
     ensures gives { RecordGives (session_write kind.Status (status_bytes updater.old.wanted) (stamped updater.old) homes.old) buf.number patience.old.left patience.new.left (stamped updater.old) updater.new homes.old homes.new (S.device shelf.old) (S.device shelf.new) result }
     ensures frames { Frames kind.Status (record { stamp = next_stamp updater.old.stamp; content = status_bytes updater.old.wanted }) }
     ensures valid { IsValidStatus updater.old.wanted }
+    ensures marks { MarksRound d.now updater.old updater.new }
     ensures committed { IfDone result (λ back. (updater.new.in_flight ≡ None) × (updater.new.committed ≡ updater.old.wanted)) }
 {
     updater.start();
@@ -63,6 +67,7 @@ pub fn write_wanted<S: Shelf>(
     ) {
         Wrote::Ended { failed, buf } => {
             end_writes(d, updater, failed);
+            mark_left(d, updater, failed);
             by_votes(d, updater, buf)
         }
         Wrote::Dark => Settled::Dark,
@@ -71,7 +76,7 @@ pub fn write_wanted<S: Shelf>(
 }
 
 /// Writes a descriptor to each member that isn't missing, under the next stamp. The members on which that fails are
-/// wanted missing.
+/// wanted missing, and the copies of `d` that they leave behind stale.
 pub fn write_descriptor<S: Shelf>(
     shelf: &mut S,
     d: &Descriptor,
@@ -92,6 +97,7 @@ pub fn write_descriptor<S: Shelf>(
     requires content { length content.now ≤ longest_content kind.Descriptor }
     ensures gives { RecordGives (session_write kind.Descriptor content.now (stamped updater.old) homes.old) buf.number patience.old.left patience.new.left (stamped updater.old) updater.new homes.old homes.new (S.device shelf.old) (S.device shelf.new) result }
     ensures frames { Frames kind.Descriptor (record { stamp = next_stamp updater.old.stamp; content = content.now }) }
+    ensures marks { MarksRound d.now updater.old updater.new }
     ensures committed { IfDone result (λ back. (updater.new.in_flight ≡ None) × (updater.new.committed ≡ updater.old.committed)) }
 {
     let stamp = next_stamp(updater.stamp());
@@ -109,6 +115,7 @@ pub fn write_descriptor<S: Shelf>(
     ) {
         Wrote::Ended { failed, buf } => {
             lose(d, updater, failed);
+            mark_left(d, updater, failed);
             by_votes(d, updater, buf)
         }
         Wrote::Dark => Settled::Dark,
@@ -171,6 +178,26 @@ fn lose(d: &Descriptor, updater: &mut Updater, failed: DiskSet)
             updater.want(Change::Missing(row.disk));
         }
     }
+}
+
+// Where a member is one of these disks, the copies of the group's volumes that are left behind are wanted stale.
+fn mark_left(d: &Descriptor, updater: &mut Updater, lost: DiskSet)
+    requires valid { IsValid d.now }
+    requires own { IsOf d.now updater.old }
+    requires rows { HasItsRows updater.old.group updater.old.wanted }
+    ensures { HasMarked d.now (has lost) updater.old updater.new }
+{
+    if is_any_of(d, lost) {
+        updater.mark_left(d.lvs.as_slice());
+    }
+}
+
+// Whether a member is one of these disks.
+fn is_any_of(d: &Descriptor, disks: DiskSet) -> bool
+    requires { IsValid d.now }
+    ensures { result ≡ list_any (λ (row : PvRow). has disks row.disk) d.now.pvs }
+{
+    d.pvs.as_slice().iter().any(|row| disks.has(row.disk))
 }
 
 // Whether the members that aren't missing have votes enough to write.

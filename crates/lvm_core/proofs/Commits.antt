@@ -1,5 +1,5 @@
 -- A session may commit its records while nothing is under way, and what stands on its disks then.
-use Rattle.std.proofs.Common.{◌≡◌, inl, ℕ, zero, suc, ◌<◌, ◌≤◌, ◌%◌, ◌++◌, Bool, true, false, ◌&&◌, not, List, [], Some, length, refl, sym, ◌∙◌, ap, subst, arith}
+use Rattle.std.proofs.Common.{◌≡◌, inl, inr, ◌∷◌, ℕ, zero, suc, ◌<◌, ◌≤◌, ◌%◌, ◌++◌, Bool, true, false, ◌&&◌, not, List, [], Some, length, refl, sym, ◌∙◌, ap, subst, arith}
 use Rattle.std.specs.Prelude.{◌==◌, ◌||◌, IsTrue, IfSome, All, Contains, slice_get, get_or}
 use Rattle.std.specs.List.{list_any}
 use Rattle.std.proofs.lemmas.Bool.{eqb-true}
@@ -28,8 +28,9 @@ use Rattle.lvm_quorum.specs.declared.homes.Homes.{Homes}
 use Rattle.lvm_quorum.specs.Written.{HasRoom}
 use Rattle.lvm_commit.specs.Committed.{MayMark, HoldsCommitted}
 use Rattle.lvm_kept.specs.Contents.{Contents}
+use Rattle.lvm_left.specs.Marking.{is_served}
 use Rattle.lvm_commit.specs.LawsOfData.{IsFree}
-use Rattle.lvm_commit.specs.Settling.{there, IsOf, MaySettle, SessionIsHeld}
+use Rattle.lvm_commit.specs.Settling.{NoneIsLeft, there, IsOf, MaySettle, SessionIsHeld}
 use Rattle.lvm_core.specs.State.{Core, State, is_there}
 use Rattle.lvm_core.specs.Sound.{IsSound}
 use Rattle.lvm_core.specs.Held.{IsHeld}
@@ -126,6 +127,11 @@ among_at pps p is =
     let found = Any-from_list_any (λ (q : Pp). is_pp p q) pps is in
     subst (Contains pps) (sym (pp_is p found.1 found.4)) (found.0, found.2, found.3)
 
+-- tests that agree on the elements
+any_same : (p q : Pp → Bool) (xs : List Pp) → ((x : Pp) → IsOneOf xs x → p x ≡ q x) → list_any p xs ≡ list_any q xs
+any_same p q [] same = refl
+any_same p q (x ∷ xs) same = λ i. same x (inl refl) i || any_same p q xs (λ y is. same y (inr is)) i
+
 isnt : (b : Bool) → (b ≡ true → ⊥) → b ≡ false
 isnt true contra = absurd (contra refl)
 isnt false contra = refl
@@ -165,6 +171,27 @@ module _ (core : Core) (stale fresh : List Pp) (first : Stored) (marked : IsMark
     same_stale row lp p volume one =
         marked.marks p ∙ ap (λ b. (calls_stale core.status.wanted p || b) && not (is_among fresh p)) (not_stale row lp p volume one)
         ∙ ap (λ b. (calls_stale core.status.wanted p || false) && not b) (not_fresh row lp p volume one) ∙ as_before (calls_stale core.status.wanted p) ∙ ap (λ (s : Status). calls_stale s p) committed_is
+
+    same_wanted : (row : LvRow) (lp : ℕ) (p : Pp) → IsOneOf core.descriptor.lvs row → IsOneOf (copies_of row lp) p → calls_stale first.wanted p ≡ calls_stale core.status.wanted p
+    same_wanted row lp p volume one = same_stale row lp p volume one ∙ sym (ap (λ (s : Status). calls_stale s p) committed_is)
+
+    -- so none is left behind by what is wanted now where none was
+    pub first_none : NoneIsLeft core.descriptor core.status → NoneIsLeft core.descriptor first
+    first_none none p left =
+        let copies = copies_of left.row left.left.lp in
+        let there_same : there first ≡ there core.status = (λ t d. is_member (marked.group t) d && not (marked.missing d t)) in
+        let serves : is_served (there core.status) core.status.wanted copies ≡ is_served (there first) first.wanted copies =
+        any_same (λ (q : Pp). there core.status q.disk && not (calls_stale core.status.wanted q)) (λ (q : Pp). there first q.disk && not (calls_stale first.wanted q)) copies
+        (λ q copy. sym (λ t. there_same t q.disk && not (same_wanted left.row left.left.lp q left.volume copy t))) in
+        same_wanted left.row left.left.lp p left.volume left.left.left.one ∙ none p (record {
+          row = left.row;
+          volume = left.volume;
+          left = record {
+            lp = left.left.lp;
+            below = left.left.below;
+            left = record { one = left.left.left.one; absent = sym (λ t. there_same t p.disk) ∙ left.left.left.absent; served = serves ∙ left.left.left.served };
+          };
+        })
 
     pub wants_marks : (c : Contents) → MayMark c core.descriptor first.committed first.wanted
     wants_marks c = record {

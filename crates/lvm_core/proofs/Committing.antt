@@ -5,7 +5,9 @@ use Rattle.lvm_num.specs.declared.descriptor.Descriptor.{Descriptor}
 use Rattle.lvm_num.specs.Disks.{Disks}
 use Rattle.lvm_num.specs.DescriptorBytes.{descriptor_bytes, descriptor_of}
 use Rattle.lvm_disk.specs.Counts.{NoneFalls}
-use Rattle.lvm_disk.specs.Device.{image_of}
+use Rattle.lvm_disk.specs.Device.{Device, image_of}
+use Rattle.lvm_num.specs.Descriptor.{IsValid}
+use Rattle.lvm_status.specs.Update.{Stored}
 use Rattle.lvm_vol.specs.Facts.{Fact}
 use Rattle.lvm_kept.specs.Contents.{contents_of}
 use Rattle.lvm_kept.specs.Moments.{Moment, StaysCalm}
@@ -17,7 +19,7 @@ use Rattle.lvm_commit.specs.declared.commit.Settled.TheVariants as settled
 use Rattle.lvm_commit.specs.Committed.{IsAlike}
 use Rattle.lvm_commit.specs.LawsOfFinding.{FindsNoMoreOn}
 use Rattle.lvm_commit.specs.LawsOfVolumes.{VolumeServes}
-use Rattle.lvm_commit.specs.Settling.{IfDone, IsOf, IsOfCommit, IsPlain, SessionIsHeld, ComesHeld}
+use Rattle.lvm_commit.specs.Settling.{MaySettle, MarksLeft, IfDone, IsOf, IsOfCommit, IsPlain, SessionIsHeld, ComesHeld}
 use Rattle.lvm_core.specs.declared.fault.CommitFault.{CommitFault}
 use Rattle.lvm_core.specs.State.{Core, State, is_there}
 use Rattle.lvm_core.specs.Sound.{IsSound}
@@ -32,6 +34,10 @@ use Rattle.lvm_core.proofs.Commits.{session_holds, holds_session}
 -- nothing else is wanted first than what is
 still_begun : (core : Core) → IsBegun core core.status
 still_begun core = record { group = refl; stamp = refl; rows = record { id = refl; big = refl; disks = refl }; missing = λ d. refl }
+
+-- the next descriptor may be committed where the session's group may
+pub may_next : (d next : Descriptor) (u : Stored) (device : Device) → MaySettle d u device → IsValid next → IsAlike next d → MaySettle next u device
+may_next d next u device may valid alike = record { valid = valid; own = alike ∙ may.own; idle = may.idle; id = may.id; rows = may.rows; epoch = may.epoch; room = may.room; votes = may.votes }
 
 module _ (next : Descriptor) (before after : ℕ) (old new : State) (answer : Result (Unit {0}) CommitFault) (w : CommitsDescriptor next before after old new answer) (settled_is : IsSettled old.core) (sound : IsSound old) (alike : IsAlike next old.core.descriptor) where
   abbrev plan : Rattle.lvm_kept.specs.Plans.Plan
@@ -48,6 +54,9 @@ module _ (next : Descriptor) (before after : ℕ) (old new : State) (answer : Re
 
   pub descriptor_sound : IsSound new
   descriptor_sound = settles_sound next plan old.core.status before after old new w.how answer w.settles (still_begun old.core) settled_is sound w.valid alike
+
+  pub descriptor_left : MarksLeft next old.core.status new.core.status
+  descriptor_left = w.left
 
   pub descriptor_most : new.core.most ≡ old.core.most
   descriptor_most = most_stays next plan old.core.status before after old new w.how answer w.settles (still_begun old.core) settled_is sound w.valid alike

@@ -15,7 +15,7 @@ use Rattle.lvm_quorum.specs.Parts.{Spends}
 use Rattle.lvm_quorum.specs.Written.{IsDarkened, IsGivenUp, KeepsShelf}
 use Rattle.lvm_commit.specs.declared.commit.Settled.{Settled}
 use Rattle.lvm_commit.specs.declared.commit.Settled.TheVariants as settled
-use Rattle.lvm_commit.specs.Settling.{IfDone, IfWentOff, IfBack, OnDark, OnStuck, EndsAtOnce, there, IsCommitted, HasLostQuorum, OnlyLoses, AreWell, SpendsNumbers, IsOfStatus, IsOfCommit, IsPlain, StatusStaysKept, DescriptorStaysKept, StatusFindsNothingNew, CommitFindsNoMore, StaysHeld, ComesHeld}
+use Rattle.lvm_commit.specs.Settling.{MarksLeft, IfDone, IfWentOff, IfBack, OnDark, OnStuck, EndsAtOnce, there, IsCommitted, HasLostQuorum, OnlyLoses, AreWell, SpendsNumbers, IsOfStatus, IsOfCommit, IsPlain, StatusStaysKept, DescriptorStaysKept, StatusFindsNothingNew, CommitFindsNoMore, StaysHeld, ComesHeld}
 use Rattle.lvm_core.specs.declared.fault.CommitFault.{CommitFault}
 use Rattle.lvm_core.specs.declared.request.Power.TheVariants as power
 use Rattle.lvm_core.specs.State.{Core, State}
@@ -121,24 +121,25 @@ module _ (next : Descriptor) (plan : Stored → Plan) (first last : Stored) (bef
 
 -- ---- a descriptor
 
-pub record DescriptorPromises (content : List ℕ) (first last : Stored) (homes next_homes : Homes) (number before after : ℕ) (old new : Device) (how : Settled) : Type 0 where
+pub record DescriptorPromises (next : Descriptor) (content : List ℕ) (first last : Stored) (homes next_homes : Homes) (number before after : ℕ) (old new : Device) (how : Settled) : Type 0 where
   pub promises : Promises (IsOfCommit content first) first last number before after old new how
   pub held : IfDone how (λ back. ComesHeld content first last homes next_homes old new)
   pub plain : IfDone how (λ back. IsPlain kind.Descriptor content first last homes old new)
   pub finds : CommitFindsNoMore content first homes old new
+  pub left : MarksLeft next first last
   pub kept : DescriptorStaysKept content first homes old new
 
 pub commits_descriptor :
     (next : Descriptor) (content : List ℕ) (first last : Stored) (homes next_homes : Homes) (number before after : ℕ) (old new : State) (how : Settled) (answer : Result (Unit {0}) CommitFault)
     → IsValid next → content ≡ descriptor_bytes next → first ≡ old.core.status → homes ≡ old.core.homes → number ≡ 0 → new.core.status ≡ last → new.core.homes ≡ next_homes
-    → DescriptorPromises content first last homes next_homes number before after old.device new.device how → CoreEnds next old.core new.core how answer → CommitsDescriptor next before after old new answer
+    → DescriptorPromises next content first last homes next_homes number before after old.device new.device how → CoreEnds next old.core new.core how answer → CommitsDescriptor next before after old new answer
 commits_descriptor next content first last homes next_homes number before after old new how answer valid bytes is at none then at_then promises goes =
-    let a = subst (λ (l : List ℕ). DescriptorPromises l first last homes next_homes number before after old.device new.device how) bytes promises in
-    let b = subst (λ (u : Stored). DescriptorPromises (descriptor_bytes next) u last homes next_homes number before after old.device new.device how) is a in
-    let d = subst (λ (h : Homes). DescriptorPromises (descriptor_bytes next) old.core.status last h next_homes number before after old.device new.device how) at b in
-    let e = subst (λ (n : ℕ). DescriptorPromises (descriptor_bytes next) old.core.status last old.core.homes next_homes n before after old.device new.device how) none d in
-    let f = subst (λ (h : Homes). DescriptorPromises (descriptor_bytes next) old.core.status last old.core.homes h 0 before after old.device new.device how) (sym at_then) e in
-    let p = subst (λ (u : Stored). DescriptorPromises (descriptor_bytes next) old.core.status u old.core.homes new.core.homes 0 before after old.device new.device how) (sym then) f in
+    let a = subst (λ (l : List ℕ). DescriptorPromises next l first last homes next_homes number before after old.device new.device how) bytes promises in
+    let b = subst (λ (u : Stored). DescriptorPromises next (descriptor_bytes next) u last homes next_homes number before after old.device new.device how) is a in
+    let d = subst (λ (h : Homes). DescriptorPromises next (descriptor_bytes next) old.core.status last h next_homes number before after old.device new.device how) at b in
+    let e = subst (λ (n : ℕ). DescriptorPromises next (descriptor_bytes next) old.core.status last old.core.homes next_homes n before after old.device new.device how) none d in
+    let f = subst (λ (h : Homes). DescriptorPromises next (descriptor_bytes next) old.core.status last old.core.homes h 0 before after old.device new.device how) (sym at_then) e in
+    let p = subst (λ (u : Stored). DescriptorPromises next (descriptor_bytes next) old.core.status u old.core.homes new.core.homes 0 before after old.device new.device how) (sym then) f in
     record {
       how = how;
       valid = valid;
@@ -146,27 +147,29 @@ commits_descriptor next content first last homes next_homes number before after 
       held = p.held;
       plain = p.plain;
       finds = p.finds;
+      left = p.left;
       kept = p.kept;
     }
 
 -- ---- a status
 
-pub record StatusPromises (first last : Stored) (homes next_homes : Homes) (number before after : ℕ) (old new : Device) (how : Settled) : Type 0 where
+pub record StatusPromises (group : Descriptor) (first last : Stored) (homes next_homes : Homes) (number before after : ℕ) (old new : Device) (how : Settled) : Type 0 where
   pub promises : Promises (IsOfStatus first) first last number before after old new how
   pub held : IfDone how (λ back. StaysHeld first last homes next_homes old new)
   pub finds : StatusFindsNothingNew first homes old new
-  pub kept : StatusStaysKept first homes old new
+  pub left : MarksLeft group first last
+  pub kept : StatusStaysKept group first homes old new
 
 pub commits_marks :
     (to_stale to_fresh : List Pp) (first last : Stored) (homes next_homes : Homes) (number before after : ℕ) (old new : State) (how : Settled) (answer : Result (Unit {0}) CommitFault)
     → IsMarked to_stale to_fresh old.core.status first → homes ≡ old.core.homes → number ≡ 0 → new.core.status ≡ last → new.core.homes ≡ next_homes
-    → StatusPromises first last homes next_homes number before after old.device new.device how → CoreEnds old.core.descriptor old.core new.core how answer
+    → StatusPromises old.core.descriptor first last homes next_homes number before after old.device new.device how → CoreEnds old.core.descriptor old.core new.core how answer
     → (first.wanted ≡ first.committed → (answer ≡ Ok tt) × (new.device ≡ old.device) × (new.core ≡ record old.core { status = first })) → CommitsMarks to_stale to_fresh before after old new answer
 commits_marks to_stale to_fresh first last homes next_homes number before after old new how answer marked at none then at_then promises goes same =
-    let a = subst (λ (h : Homes). StatusPromises first last h next_homes number before after old.device new.device how) at promises in
-    let b = subst (λ (n : ℕ). StatusPromises first last old.core.homes next_homes n before after old.device new.device how) none a in
-    let d = subst (λ (h : Homes). StatusPromises first last old.core.homes h 0 before after old.device new.device how) (sym at_then) b in
-    let p = subst (λ (u : Stored). StatusPromises first u old.core.homes new.core.homes 0 before after old.device new.device how) (sym then) d in
+    let a = subst (λ (h : Homes). StatusPromises old.core.descriptor first last h next_homes number before after old.device new.device how) at promises in
+    let b = subst (λ (n : ℕ). StatusPromises old.core.descriptor first last old.core.homes next_homes n before after old.device new.device how) none a in
+    let d = subst (λ (h : Homes). StatusPromises old.core.descriptor first last old.core.homes h 0 before after old.device new.device how) (sym at_then) b in
+    let p = subst (λ (u : Stored). StatusPromises old.core.descriptor first u old.core.homes new.core.homes 0 before after old.device new.device how) (sym then) d in
     record {
       first = first;
       marked = marked;
@@ -174,6 +177,7 @@ commits_marks to_stale to_fresh first last homes next_homes number before after 
       settles = settles old.core.descriptor (IsOfStatus first) first new.core.status before after old new how answer refl p.promises goes;
       held = p.held;
       finds = p.finds;
+      left = p.left;
       kept = p.kept;
       same = same;
     }

@@ -1,5 +1,5 @@
 -- What a session and its shelf are after a status with marks was committed.
-use Rattle.std.proofs.Common.{◌≡◌, ℕ, ◌<◌, ◌++◌, List, refl, sym, ◌∙◌, ap, subst}
+use Rattle.std.proofs.Common.{◌≡◌, ℕ, ◌<◌, ◌++◌, List, refl, sym, ◌∙◌, ap, subst, ⊎_elim, inl, inr}
 use Rattle.std.specs.Prelude.{IsTrue, Result, IfOk, IsOk}
 use Rattle.lvm_num.specs.declared.place.Pp.{Pp}
 use Rattle.lvm_num.specs.declared.record.Stamp.{Stamp}
@@ -18,7 +18,7 @@ use Rattle.lvm_kept.specs.Contents.{contents_of}
 use Rattle.lvm_disk.specs.Device.{image_of}
 use Rattle.lvm_quorum.proofs.Writing.{if_told}
 use Rattle.lvm_commit.specs.LawsOfFinding.{FindsNothingNewOn}
-use Rattle.lvm_commit.specs.Settling.{IfDone, there, IsOf, IsOfStatus, SessionIsHeld, SpendsNumbers, StaysHeld, WantsMarks}
+use Rattle.lvm_commit.specs.Settling.{IsPassed, IfDone, there, IsOf, IsOfStatus, SessionIsHeld, SpendsNumbers, StaysHeld, WantsMarks}
 use Rattle.lvm_commit.proofs.Chaining.{keeps_wider}
 use Rattle.lvm_core.specs.declared.fault.CommitFault.{CommitFault}
 use Rattle.lvm_core.specs.State.{State, is_there}
@@ -29,7 +29,7 @@ use Rattle.lvm_core.specs.Committing.{CommitEnds, AreUnused, AreMarked, Restates
 use Rattle.lvm_core.specs.Steps.{CoreEnds, CommitsMarks}
 use Rattle.lvm_core.proofs.Spanning.{path_falls}
 use Rattle.lvm_core.proofs.Settled.{IsBegun, there_is, there_first, group_is, settles_sound, settles_numbers, commit_ends, most_stays, settles_keep, settles_calm, settles_behind}
-use Rattle.lvm_core.proofs.Commits.{holds_session, first_is_of, begun, first_held, wants_marks, none_first}
+use Rattle.lvm_core.proofs.Commits.{holds_session, first_is_of, begun, first_held, wants_marks, none_first, first_none}
 
 module _ (stale fresh : List Pp) (before after : ℕ) (old new : State) (answer : Result (Unit {0}) CommitFault) (w : CommitsMarks stale fresh before after old new answer) (settled_is : IsSettled old.core) (sound : IsSound old) where
   abbrev plan : Plan
@@ -89,14 +89,30 @@ module _ (stale fresh : List Pp) (before after : ℕ) (old new : State) (answer 
   there_is_so : there w.first ≡ is_there old.core
   there_is_so = there_first old.core.descriptor plan w.first before after old new w.how answer w.settles begins settled_is sound sound.fitting.valid same
 
-  pub restates : Restates stale fresh old new
-  restates =
+  passed_so : (p : Pp) → IsPassed old.core.descriptor w.first new.core.status p → IsPassed old.core.descriptor old.core.status new.core.status p
+  passed_so p is = record {
+    row = is.row;
+    lp = is.lp;
+    volume = is.volume;
+    inside = is.inside;
+    one = is.one;
+    absent = is.absent;
+    other = is.other;
+    among = is.among;
+    fresh = is.fresh;
+    was_there = subst (λ (set : Disks). IsTrue (set is.other.disk)) (there_is_so ∙ sym (there_is old.core.descriptor old.core.status sound.fitting.group)) is.was_there;
+  }
+
+  pub restates : AreUnused old.core.descriptor (stale ++ fresh) → Restates stale fresh old new
+  restates unused =
       let loses = w.settles.loses in
       let marked = w.marked in
       record {
         group = loses.group ∙ marked.group;
         rows = record { id = loses.rows.id ∙ marked.rows.id; big = loses.rows.big ∙ marked.rows.big; disks = loses.rows.disks ∙ marked.rows.disks };
-        marks = λ p. loses.stale p ∙ marked.marks p;
+        kept = λ p is. loses.stale p (marked.marks p ∙ is);
+        only = λ p stale. ⊎_elim (λ was. inl (sym (marked.marks p) ∙ was)) (λ (is : IsPassed old.core.descriptor w.first new.core.status p). inr (passed_so p is)) (w.left.only p stale);
+        none = λ none. w.left.none (first_none old.core stale fresh w.first w.marked settled_is sound.fitting.group sound.fitting.valid unused none);
         dirty = loses.dirty ∙ marked.dirty;
         stays = λ d is. loses.stays d (marked.missing d ∙ is);
         lost = λ d is isnt.
@@ -128,9 +144,9 @@ module _ (stale fresh : List Pp) (before after : ℕ) (old new : State) (answer 
   pub status_keeps : AreUnused old.core.descriptor (stale ++ fresh) → IsHeld old.device old.core → (run : ℕ) (first : Moment) → SpanGoesOn run first old new
   status_keeps unused held run first span =
       settles_keep old.core.descriptor plan w.first before after old new w.how answer w.settles begins settled_is sound sound.fitting.valid same
-      (λ d. (group : Descriptor) → IsOf group w.first → WantsMarks old.device group w.first → SessionIsHeld old.device group w.first old.core.homes → StaysKept old.device d)
+      (λ d. WantsMarks old.device old.core.descriptor w.first → SessionIsHeld old.device old.core.descriptor w.first old.core.homes → StaysKept old.device d)
       w.kept run first span
-      (λ past begins holds d its. its old.core.descriptor own (wants unused) (held_first held) (past ++ old.core.history.facts) holds.kept)
+      (λ past begins holds d its. its (wants unused) (held_first held) (past ++ old.core.history.facts) holds.kept)
 
   pub status_calm : StaysCalm (moment_of old) (moment_of new)
   status_calm = settles_calm old.core.descriptor plan w.first before after old new w.how answer w.settles begins settled_is sound sound.fitting.valid same

@@ -1,5 +1,5 @@
 -- How the calls end by which a session commits a descriptor or marks.
-use Rattle.std.specs.Prelude.{◌≡◌, ℕ, ◌<◌, Bool, true, false, ◌&&◌, ◌||◌, ◌++◌, not, List, Result, Ok, Err, IsTrue, IsFalse, IfSome, All, slice_set}
+use Rattle.std.specs.Prelude.{◌≡◌, ◌⊎◌, ℕ, ◌<◌, Bool, true, false, ◌&&◌, ◌||◌, ◌++◌, not, List, Result, Ok, Err, IsTrue, IsFalse, IfSome, All, slice_set}
 use Rattle.std.specs.List.{list_any}
 use Rattle.lvm_num.specs.declared.place.Pp.{Pp}
 use Rattle.lvm_num.specs.declared.descriptor.Descriptor.{Descriptor}
@@ -18,7 +18,7 @@ use Rattle.lvm_stamps.specs.Behind.{IsBehind}
 use Rattle.lvm_quorum.specs.Written.{IsDarkened, IsGivenUp}
 use Rattle.lvm_commit.specs.LawsOfData.{IsFree}
 use Rattle.lvm_commit.specs.LawsOfVolumes.{VolumeServes}
-use Rattle.lvm_commit.specs.Settling.{HasSameRows, HasLostQuorum, AreWell, SpendsNumbers}
+use Rattle.lvm_commit.specs.Settling.{HasSameRows, NoneIsLeft, IsPassed, HasLostQuorum, AreWell, SpendsNumbers}
 use Rattle.lvm_core.specs.declared.fault.CommitFault.{CommitFault}
 use Rattle.lvm_core.specs.declared.fault.CommitFault.TheVariants as fault
 use Rattle.lvm_core.specs.declared.request.Power.TheVariants as power
@@ -78,20 +78,27 @@ is_among pps p = list_any (λ (q : Pp). is_pp p q) pps
 abbrev pub AreUnused : Descriptor → List Pp → Type 0
 AreUnused d pps = All (λ (p : Pp). IsPartitionOf d p × IsFree d p) pps
 
+-- whether a partition is stale once these are and those aren't
+abbrev pub marks_of : List Pp → List Pp → Status → Pp → Bool
+marks_of stale fresh old p = (calls_stale old p || is_among stale p) && not (is_among fresh p)
+
 -- these partitions are stale and those fresh, where they weren't, and all other marks are as they were
 abbrev pub Marks : List Pp → List Pp → Status → Status → Type 0
-Marks stale fresh old new = (p : Pp) → calls_stale new p ≡ (calls_stale old p || is_among stale p) && not (is_among fresh p)
+Marks stale fresh old new = (p : Pp) → calls_stale new p ≡ marks_of stale fresh old p
 
 -- they already are so
 pub record AreMarked (to_stale to_fresh : List Pp) (s : Status) : Type 0 where
   pub stale : All (λ (p : Pp). calls_stale s p ≡ true) to_stale
   pub fresh : All (λ (p : Pp). calls_stale s p ≡ false) to_fresh
 
--- What is wanted of the status afterwards: it has these marks, and members have become missing, each of them after a transfer to it has failed.
+-- What is wanted of the status afterwards: it has these marks, members have become missing, each of them after a transfer to it has failed, and the copies
+-- that they leave behind are stale.
 pub record Restates (stale fresh : List Pp) (old new : State) : Type 0 where
   pub group : new.core.status.group ≡ old.core.status.group
   pub rows : HasSameRows old.core.status.wanted new.core.status.wanted
-  pub marks : Marks stale fresh old.core.status.wanted new.core.status.wanted
+  pub kept : (p : Pp) → IsTrue (marks_of stale fresh old.core.status.wanted p) → IsTrue (calls_stale new.core.status.wanted p)
+  pub only : (p : Pp) → IsTrue (calls_stale new.core.status.wanted p) → IsTrue (marks_of stale fresh old.core.status.wanted p) ⊎ IsPassed old.core.descriptor old.core.status new.core.status p
+  pub none : NoneIsLeft old.core.descriptor old.core.status → NoneIsLeft old.core.descriptor new.core.status
   pub dirty : new.core.status.wanted.dirty ≡ old.core.status.wanted.dirty
   pub stays : (d : ℕ) → IsTrue (calls_missing old.core.status.wanted d) → IsTrue (calls_missing new.core.status.wanted d)
   pub lost : (d : ℕ) → IsTrue (calls_missing new.core.status.wanted d) → IsFalse (calls_missing old.core.status.wanted d)

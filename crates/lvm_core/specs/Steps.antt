@@ -13,7 +13,7 @@ use Rattle.lvm_quorum.specs.Parts.{Spends}
 use Rattle.lvm_quorum.specs.Written.{IsDarkened, IsGivenUp, KeepsShelf}
 use Rattle.lvm_commit.specs.declared.commit.Settled.{Settled}
 use Rattle.lvm_commit.specs.declared.commit.Settled.TheVariants as settled
-use Rattle.lvm_commit.specs.Settling.{HasSameRows, IfDone, IfWentOff, IfBack, OnDark, OnStuck, there, IsCommitted, HasLostQuorum, OnlyLoses, AreWell, SpendsNumbers, IsOfStatus, IsOfCommit, IsPlain, StatusStaysKept, DescriptorStaysKept, StatusFindsNothingNew, CommitFindsNoMore, StaysHeld, ComesHeld}
+use Rattle.lvm_commit.specs.Settling.{HasSameRows, IfDone, IfWentOff, IfBack, OnDark, OnStuck, there, IsCommitted, HasLostQuorum, OnlyLoses, MarksLeft, AreWell, SpendsNumbers, IsOfStatus, IsOfCommit, IsPlain, StatusStaysKept, DescriptorStaysKept, StatusFindsNothingNew, CommitFindsNoMore, StaysHeld, ComesHeld}
 use Rattle.lvm_core.specs.declared.fault.CommitFault.{CommitFault}
 use Rattle.lvm_core.specs.declared.fault.CommitFault.TheVariants as fault
 use Rattle.lvm_core.specs.declared.request.Power.TheVariants as power
@@ -76,6 +76,7 @@ pub record CommitsDescriptor (next : Descriptor) (before after : ℕ) (old new :
   pub held : IfDone how (λ back. ComesHeld (descriptor_bytes next) old.core.status new.core.status old.core.homes new.core.homes old.device new.device)
   pub plain : IfDone how (λ back. IsPlain kind.Descriptor (descriptor_bytes next) old.core.status new.core.status old.core.homes old.device new.device)
   pub finds : CommitFindsNoMore (descriptor_bytes next) old.core.status old.core.homes old.device new.device
+  pub left : MarksLeft next old.core.status new.core.status
   pub kept : DescriptorStaysKept (descriptor_bytes next) old.core.status old.core.homes old.device new.device
 
 -- These marks were made, and the status written.
@@ -86,5 +87,6 @@ pub record CommitsMarks (to_stale to_fresh : List Pp) (before after : ℕ) (old 
   pub settles : Settles old.core.descriptor (IsOfStatus first new.core.status) first before after old new how answer
   pub held : IfDone how (λ back. StaysHeld first new.core.status old.core.homes new.core.homes old.device new.device)
   pub finds : StatusFindsNothingNew first old.core.homes old.device new.device
-  pub kept : StatusStaysKept first old.core.homes old.device new.device
+  pub left : MarksLeft old.core.descriptor first new.core.status
+  pub kept : StatusStaysKept old.core.descriptor first old.core.homes old.device new.device
   pub same : first.wanted ≡ first.committed → (answer ≡ Ok tt) × (new.device ≡ old.device) × (new.core ≡ record old.core { status = first })

@@ -5,6 +5,7 @@ ghost use Rattle.lvm_num.specs.Record.{longest_content};
 ghost use Rattle.lvm_disk.specs.Device.{IsReady};
 ghost use Rattle.lvm_pbuf.specs.Out.{IsOut};
 ghost use Rattle.lvm_status.specs.Calls.{IsMarkable};
+ghost use Rattle.lvm_commit.specs.Committed.{IsAlike};
 ghost use Rattle.lvm_commit.specs.Settling.{IfBack, MaySettle, HasNumbers};
 ghost use Rattle.lvm_core.specs.State.{state};
 ghost use Rattle.lvm_core.specs.Dark.{AreTold};
@@ -114,6 +115,7 @@ impl Session {
         requires bytes { length self.old.bytes.items ≡ status_room }
         requires may { MaySettle self.old.descriptor self.old.updater (S.device shelf.old) }
         requires settled { self.old.updater.committed ≡ self.old.updater.wanted }
+        requires alike { IsAlike next self.old.descriptor }
         requires numbers { HasNumbers 2 self.old.updater }
         ensures does { CommitsDescriptor next patience.old.left patience.new.left (state (S.device shelf.old) (core_of self.old)) (state (S.device shelf.new) (core_of self.new)) result }
         ensures capacity { vec_capacity self.new.requests ≡ vec_capacity self.old.requests }
@@ -123,7 +125,7 @@ impl Session {
         let buf = self.take_buffer();
         let settled = commit_descriptor(
             shelf,
-            &self.descriptor,
+            &descriptor,
             &mut self.updater,
             &mut self.homes,
             content.as_slice(),

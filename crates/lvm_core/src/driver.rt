@@ -14,7 +14,7 @@ ghost use Rattle.lvm_commit.specs.Committed.{IsAlike};
 ghost use Rattle.lvm_commit.specs.LawsOfData.{IsFree};
 ghost use Rattle.lvm_commit.specs.LawsOfFinding.{FindsNothingNewOn, FindsNoMoreOn};
 ghost use Rattle.lvm_commit.specs.LawsOfVolumes.{IsOnlyGroupOn};
-ghost use Rattle.lvm_commit.specs.Settling.{OnlyLoses, SpendsNumbers, IsOfStatus, IsOfCommit, IsPlain};
+ghost use Rattle.lvm_commit.specs.Settling.{OnlyLoses, MarksLeft, SpendsNumbers, IsOfStatus, IsOfCommit, IsPlain};
 ghost use Rattle.lvm_core.specs.declared.request.Open.{Open};
 ghost use Rattle.lvm_core.specs.State.{state, is_there, votes_there};
 ghost use Rattle.lvm_core.specs.Dark.{is_waiting, after_arrange};
@@ -127,7 +127,7 @@ impl<S: Shelf> Driver<S> {
 
     /// Writes a descriptor, which differs from the present one in its volumes alone, to all members that
     /// aren't missing. A member whose write fails becomes missing, and the status says so before the call
-    /// answers. The buffer that it writes with comes from the pool and goes back.
+    /// answers, and calls the copies stale that it leaves behind. The buffer that it writes with comes from the pool and goes back.
     ///
     /// # Errors
     ///
@@ -146,6 +146,7 @@ impl<S: Shelf> Driver<S> {
         ensures finds { IsHeld (S.device self.old.0) self.old.1 → FindsNoMoreOn next (S.device self.old.0) (S.device self.new.0) }
         ensures falls { NoneFalls (S.device self.old.0).counts (S.device self.new.0).counts }
         ensures marks { OnlyLoses self.old.1.status self.new.1.status (S.device self.old.0) (S.device self.new.0) }
+        ensures left { MarksLeft next self.old.1.status self.new.1.status }
         ensures numbers { SpendsNumbers 1 self.old.1.status self.new.1.status }
         ensures writes { KeepsShelf (is_there self.old.1) (IsOfCommit (descriptor_bytes next) self.old.1.status self.new.1.status) (S.device self.old.0) (S.device self.new.0) }
         ensures keeps { IsHeld (S.device self.old.0) self.old.1 → (lv run : ℕ) (first : Moment) → LetsCommit lv next run first (state (S.device self.old.0) self.old.1) → SpanGoesOn run first (state (S.device self.old.0) self.old.1) (state (S.device self.new.0) self.new.1) }
@@ -159,7 +160,7 @@ impl<S: Shelf> Driver<S> {
 
     /// Commits a status with these partitions stale and those fresh, which no volume has. Where nothing
     /// changes by it, nothing is written. A member whose write fails becomes missing, and the status says so
-    /// before the call answers.
+    /// before the call answers, and calls the copies stale that it leaves behind.
     ///
     /// # Errors
     ///

@@ -1,4 +1,3 @@
 pub mod Counting
 pub mod RowLemmas
-pub mod MarkLemmas
 pub mod Building

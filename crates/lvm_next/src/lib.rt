@@ -1,7 +1,6 @@
 //! The status with which a group comes on, by the one that was found and by which members answer.
 #![tactic(auto)]
 
-mod mark;
 mod next;
 
 pub use next::{has_active, next_status};

@@ -12,7 +12,7 @@ ghost use Rattle.lvm_num.specs.Status.{IsValidStatus, calls_stale};
 ghost use Rattle.lvm_next.specs.Next.{IsNextStatus, is_passive, has_active};
 ghost use Rattle.lvm_next.specs.Rows.{AreMemberRows};
 
-use crate::mark::mark_volumes;
+use lvm_left::mark_volumes;
 use lvm_num::{
     Descriptor, DiskSet, LvRow, Memory, Mode, PvRow, Rows, Status, StatusRow, VolumeNumbers,
 };

@@ -1,16 +1,18 @@
 //! The updater.
-ghost use Rattle.std.specs.Prelude.{◌≡◌, ◌↔◌, ◌<◌, ◌+◌, ◌^◌, None, [], ◌||◌, IsTrue, IfOk, IfSome, if◌then◌else◌};
+ghost use Rattle.std.specs.Prelude.{All, ◌≡◌, ◌↔◌, ◌<◌, ◌+◌, ◌^◌, None, [], ◌||◌, IsTrue, IfOk, IfSome, if◌then◌else◌};
 ghost use Rattle.std.specs.List.{list_any};
 ghost use Rattle.std.specs.Option.{option_copied};
 ghost use Rattle.lvm_num.specs.declared.descriptor.PvRow.{PvRow};
-ghost use Rattle.lvm_num.specs.Descriptor.{IsValid, is_member};
+ghost use Rattle.lvm_num.specs.Descriptor.{IsValid, IsLaidOut, is_member, partitions_in};
 ghost use Rattle.lvm_num.specs.Votes.{total_votes};
 ghost use Rattle.lvm_num.specs.Disks.{has};
+ghost use Rattle.lvm_left.specs.Marking.{IsLeftIn, Marks, IsMarkable};
 ghost use Rattle.lvm_status.specs.Members.{HasItsRows, all_rows, all_members};
 ghost use Rattle.lvm_status.specs.Update.{members_there, IsLowest};
 
 use crate::{Change, Progress, Writes};
-use lvm_num::{Descriptor, DiskSet, Memory, Pp, Rows, Stamp, Status};
+use lvm_left::mark_volumes;
+use lvm_num::{Descriptor, DiskSet, LvRow, Memory, Pp, Rows, Stamp, Status};
 use lvm_stale::StaleTable;
 use std::alloc::Global;
 use std::marker::Model;
@@ -51,7 +53,7 @@ impl Model for Updater {
 }
 
 impl Updater {
-    ghost use Rattle.lvm_status.specs.Update.{seen, is_held, is_owed, is_settled_stale, votes_there, MayStart};
+    ghost use Rattle.lvm_status.specs.Update.{seen, is_there, is_held, is_owed, is_settled_stale, votes_there, MayStart};
     ghost use Rattle.lvm_status.specs.Calls.{first_updates, Changes, MayChange, with_wanted, with_update, with_start, with_end, WantsAtEnd, with_commit, closed, comes_held, after_end, given_up};
     ghost use Rattle.lvm_status.specs.Progress.{progress_of};
 
@@ -91,6 +93,20 @@ impl Updater {
     {
         self.set_wanted(change);
         self.close();
+    }
+
+    /// The copies of these volumes that are left behind become wanted stale: those on disks that aren't members
+    /// or are missing, where a copy of the same logical partition is fresh on a member that isn't missing.
+    pub fn mark_left(&mut self, volumes: &[LvRow])
+        requires laid_out { All IsLaidOut volumes.now }
+        requires markable { All (IsMarkable self.old.wanted) (partitions_in volumes.now) }
+        ensures wanted { Marks (is_there (seen self.old)) (IsLeftIn (is_there (seen self.old)) self.old.wanted volumes.now) self.old.wanted self.new.wanted }
+        ensures rest { self.new ≡ record self.old { wanted = self.new.wanted } }
+    {
+        // The wanted table is a status that a record may state.
+        let _ = self.wanted.as_status();
+        let there = members_there(&self.group, &self.wanted);
+        mark_volumes(&mut self.wanted, volumes, there);
     }
 
     /// Puts what is wanted in flight, under the next stamp, where nothing is in flight and it isn't what is

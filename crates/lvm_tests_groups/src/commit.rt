@@ -8,7 +8,7 @@ use crate::{Settled, commit_descriptor, commit_status};
 use lvm_disk::{Act, MemShelf, Planned, Shelf, names_disks};
 use lvm_move::{Patience, relight};
 use lvm_num::{
-    Descriptor, DiskSet, Name, Pbuf, Pp, PvRow, Rows, Stamp, Status, StatusRow, VolumeNumbers,
+    Descriptor, DiskSet, LvRow, Mode, Name, Pbuf, Policy, Pp, PvRow, Rows, Stamp, Status, StatusRow, VolumeNumbers,
 };
 use lvm_quorum::{Homes, Surveyed, survey_disks};
 use lvm_stale::StaleTable;
@@ -233,8 +233,34 @@ struct Ran {
 }
 
 fn run(alloc: Global, quorum: bool, plan: &[Planned], stale: Option<Pp>) -> Result<Ran, Fail> {
-    let mut shelf = shelf(alloc, plan)?;
     let group = group(alloc, 3, quorum)?;
+    run_on(alloc, group, plan, stale)
+}
+
+// The same with a volume of one logical partition, which has a copy on disk 1 and one on disk 2.
+fn run_mirrored(alloc: Global, plan: &[Planned], stale: Option<Pp>) -> Result<Ran, Fail> {
+    let mut group = group(alloc, 3, true)?;
+    let mut rows = Vec::new(alloc);
+    rows.push(LvRow {
+        number: 1,
+        name: Name::read(b"lv00").ok_or("a name")?,
+        mode: Mode::Off,
+        policy: Policy::Parallel,
+        copies: 2,
+        lps: 1,
+        map: Rows::new(Vec::from_slice(alloc, &[OTHER, SOME])?),
+    })?;
+    group.lvs = Rows::new(rows);
+    run_on(alloc, group, plan, stale)
+}
+
+fn run_on(
+    alloc: Global,
+    group: Descriptor,
+    plan: &[Planned],
+    stale: Option<Pp>,
+) -> Result<Ran, Fail> {
+    let mut shelf = shelf(alloc, plan)?;
     let mut updater = first_updater(alloc, &group)?;
     let mut homes = Homes {
         descriptor: DiskSet::empty(),
@@ -284,6 +310,7 @@ fn stamp(epoch: u64, seq: u32) -> Stamp {
 }
 
 const SOME: Pp = Pp { disk: 2, pp: 0 };
+const OTHER: Pp = Pp { disk: 1, pp: 0 };
 
 #[test]
 fn a_record_goes_to_each_member(rt: HostRuntime) -> Result<(), Fail> {
@@ -331,6 +358,35 @@ fn a_status_whose_write_fails_is_written_again(rt: HostRuntime) -> Result<(), Fa
     assert_eq!(rt; ran.stated, (End::Done, 16));
     assert!(rt; ran.updater.committed().is_missing(2));
     assert_eq!(rt; ran.updater.stamp(), stamp(50, 3));
+    Ok(())
+}
+
+#[test]
+fn a_copy_on_a_member_that_is_lost_becomes_stale(rt: HostRuntime) -> Result<(), Fail> {
+    let alloc = rt.alloc();
+    let ran = run_mirrored(alloc, &[at(3, Act::Fail(1))], None)?;
+    // the status that says that disk 1 is missing says so of the copy too
+    assert_eq!(rt; ran.described, (End::Done, 10));
+    assert!(rt; ran.updater.committed().is_missing(1));
+    assert!(rt; ran.updater.committed().is_stale(OTHER));
+    assert!(rt; !ran.updater.committed().is_stale(SOME));
+    // and so it is where the disk is lost while a status is written
+    let ran = run_mirrored(alloc, &[at(9, Act::Fail(1))], Some(Pp { disk: 0, pp: 0 }))?;
+    assert_eq!(rt; ran.stated, (End::Done, 16));
+    assert!(rt; ran.updater.committed().is_stale(OTHER));
+    assert!(rt; !ran.updater.committed().is_stale(SOME));
+    Ok(())
+}
+
+#[test]
+fn the_last_fresh_copy_stays_so(rt: HostRuntime) -> Result<(), Fail> {
+    let alloc = rt.alloc();
+    // the other copy is stale already
+    let ran = run_mirrored(alloc, &[at(9, Act::Fail(1))], Some(SOME))?;
+    assert_eq!(rt; ran.stated, (End::Done, 16));
+    assert!(rt; ran.updater.committed().is_missing(1));
+    assert!(rt; !ran.updater.committed().is_stale(OTHER));
+    assert!(rt; ran.updater.committed().is_stale(SOME));
     Ok(())
 }
 

@@ -12,11 +12,12 @@ use Rattle.lvm_commit.specs.declared.commit.Settled.{Settled}
 use Rattle.lvm_commit.specs.declared.commit.Settled.TheVariants as settled
 use Rattle.lvm_commit.specs.Settling.{IfBack, IsOfCommit, ComesHeld, StaysHeld, HasLostQuorum, AreWell, IsCommitted, IsPlain, there}
 use Rattle.lvm_commit.specs.Rounds.{stamped, session_write, RecordGives}
-use Rattle.lvm_commit.proofs.Chaining.{Returns, keeps_wider}
+use Rattle.lvm_commit.proofs.Chaining.{Returns, keeps_wider, loses_less}
+use Rattle.lvm_commit.proofs.Leaving.{round_left}
 use Rattle.lvm_commit.proofs.Ready.{may_settle_on, numbers_left, spends_one}
 use Rattle.lvm_commit.proofs.Ends.{done_map, off_map, back_map, not_done, done_unit, dark_map, stuck_map}
 use Rattle.lvm_commit.proofs.Describing.{describes, stamp_is, is_of_commit, descriptor_off, descriptor_spent, descriptor_back, descriptor_dark, descriptor_stuck, descriptor_finds, descriptor_kept}
-use Rattle.lvm_commit.proofs.Described.{ends_map, commit_loses, commit_well, commit_dark, commit_stuck, commit_off, commit_numbers, commit_spent, commit_plain, commit_keeps, commit_finds, commit_held, commit_kept, Described}
+use Rattle.lvm_commit.proofs.Described.{ends_map, commit_left, commit_loses, commit_well, commit_dark, commit_stuck, commit_off, commit_numbers, commit_spent, commit_plain, commit_keeps, commit_finds, commit_held, commit_kept, Described}
 use Rattle.lvm_commit.proofs.commit.commit_descriptor.Goals as goal
 
 -- ---- where the record was written
@@ -81,6 +82,7 @@ returns-in_default g c =
       dark = descriptor_dark first mid homes after old m content number p q r gives;
       stuck = descriptor_stuck first mid homes after old m content number p q r gives;
       marks = one.loses;
+      left = round_left c.args.d.now first mid c.requires.may.valid c.write_descriptor.ensures.marks (loses_less first mid old m one.loses);
       numbers = spends_one first mid old m one.loses stamp;
       patience = one.spends.falls;
       waited = one.spends.waits;
@@ -111,7 +113,7 @@ returns-in-Done g c =
     let gives : RecordGives (session_write kind.Descriptor content (stamped first) homes) number p q (stamped first) mid homes after old m (settled.Done buf) =
     subst (λ (x : Settled). RecordGives (session_write kind.Descriptor content (stamped first) homes) number p q (stamped first) mid homes after old m x) c.in-Done.is c.write_descriptor.ensures.gives in
     let e = c.commit_status.ensures in
-    let k : Described first mid last homes after final old m new content number p q buf r = record {
+    let k : Described c.args.d.now first mid last homes after final old m new content number p q buf r = record {
       sectors = g.met.S.Shelf.sectors_are_whole c.args.shelf.now;
       frames = c.write_descriptor.ensures.frames;
       gives = gives;
@@ -120,27 +122,32 @@ returns-in-Done g c =
       loses = e.marks;
       keeps = e.keeps;
       kept = e.kept;
+      valid = c.requires.may.valid;
+      describes = c.requires.describes;
+      round = c.write_descriptor.ensures.marks;
+      left = e.left;
       unwritten = λ same. ends_map r _ ((new ≡ m) × (last ≡ mid)) (λ is. (ap (λ s. g.S.Shelf.device s) is.0, is.1)) (e.unwritten same);
     } in
     let spends = spends_then p q c.commit_status.new.patience.left old m new gives.spends (record { falls = e.patience; waits = e.waited }) in
     record {
       done = e.done;
       held = done_map r (λ back. StaysHeld mid last after final m new) (λ back. ComesHeld content first last homes final old new)
-          (λ back stays group next reads own alike held. commit_held first mid last homes after final old m new content number p q buf r k group next reads own alike held e.finds stays) e.held;
-      plain = done_map r (λ back. Unit {0}) (λ back. IsPlain kind.Descriptor content first last homes old new) (λ back is same. commit_plain first mid last homes after final old m new content number p q buf r k same) (done_unit r);
+          (λ back stays group next reads own alike held. commit_held c.args.d.now first mid last homes after final old m new content number p q buf r k group next reads own alike held e.finds stays) e.held;
+      plain = done_map r (λ back. Unit {0}) (λ back. IsPlain kind.Descriptor content first last homes old new) (λ back is same. commit_plain c.args.d.now first mid last homes after final old m new content number p q buf r k same) (done_unit r);
       off = off_map r (λ have total back. HasLostQuorum mid last m new have total) (λ have total back. HasLostQuorum first last old new have total)
-          (λ have total back lost. commit_off first mid last homes after final old m new content number p q buf r k have total lost) e.off;
-      spent = commit_spent first mid last homes after final old m new content number p q buf r k e.spent;
+          (λ have total back lost. commit_off c.args.d.now first mid last homes after final old m new content number p q buf r k have total lost) e.off;
+      spent = commit_spent c.args.d.now first mid last homes after final old m new content number p q buf r k e.spent;
       buffer = back_map r (λ back. back.number ≡ buf.number) (λ back. back.number ≡ number) (λ back same. same ∙ gives.how.0.number_is) e.buffer;
       ready = back_map r (λ back. IsReady new × (new.counts.cuts ≡ m.counts.cuts)) (λ back. IsReady new × (new.counts.cuts ≡ old.counts.cuts)) (λ back is. (is.0, is.1 ∙ gives.how.0.cuts)) e.ready;
-      well = back_map r (λ back. AreWell last m new) (λ back. AreWell last old new) (λ back well. commit_well first mid last homes after final old m new content number p q buf r k well) e.well;
-      dark = dark_map r (IsDarkened buf.number m new) (IsDarkened number old new) (λ dark. commit_dark first mid last homes after final old m new content number p q buf r k dark) e.dark;
-      stuck = stuck_map r (IsGivenUp buf.number q m new) (IsGivenUp number p old new) (λ stuck. commit_stuck first mid last homes after final old m new content number p q buf r k stuck) e.stuck;
-      marks = commit_loses first mid last homes after final old m new content number p q buf r k;
-      numbers = commit_numbers first mid last homes after final old m new content number p q buf r k e.numbers;
+      well = back_map r (λ back. AreWell last m new) (λ back. AreWell last old new) (λ back well. commit_well c.args.d.now first mid last homes after final old m new content number p q buf r k well) e.well;
+      dark = dark_map r (IsDarkened buf.number m new) (IsDarkened number old new) (λ dark. commit_dark c.args.d.now first mid last homes after final old m new content number p q buf r k dark) e.dark;
+      stuck = stuck_map r (IsGivenUp buf.number q m new) (IsGivenUp number p old new) (λ stuck. commit_stuck c.args.d.now first mid last homes after final old m new content number p q buf r k stuck) e.stuck;
+      marks = commit_loses c.args.d.now first mid last homes after final old m new content number p q buf r k;
+      left = commit_left c.args.d.now first mid last homes after final old m new content number p q buf r k;
+      numbers = commit_numbers c.args.d.now first mid last homes after final old m new content number p q buf r k e.numbers;
       patience = spends.falls;
       waited = spends.waits;
-      keeps = commit_keeps first mid last homes after final old m new content number p q buf r k e.numbers.rises;
-      finds = λ group next reads own alike held. commit_finds first mid last homes after final old m new content number p q buf r k group next reads own alike held e.finds;
-      kept = commit_kept first mid last homes after final old m new content number p q buf r k;
+      keeps = commit_keeps c.args.d.now first mid last homes after final old m new content number p q buf r k e.numbers.rises;
+      finds = λ group next reads own alike held. commit_finds c.args.d.now first mid last homes after final old m new content number p q buf r k group next reads own alike held e.finds;
+      kept = commit_kept c.args.d.now first mid last homes after final old m new content number p q buf r k;
     }

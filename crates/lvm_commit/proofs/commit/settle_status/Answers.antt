@@ -26,7 +26,7 @@ loop-shelf-preserved g c =
     let call = c.in-Done.ensures in
     record {
       rounds = more_rounds c.args.d.now c.args.buf.number c.args.patience.now.left c.loop-shelf.patience.left c.args.updater.now now c.args.homes.now c.loop-shelf.homes (g.S.Shelf.device c.args.shelf.now) mid c.loop-shelf.buf
-          inv.rounds differs sectors c.write_wanted.new.updater c.write_wanted.new.homes (g.S.Shelf.device c.write_wanted.new.shelf) c.write_wanted.new.patience.left _ call.gives call.frames call.valid
+          inv.rounds differs sectors c.write_wanted.new.updater c.write_wanted.new.homes (g.S.Shelf.device c.write_wanted.new.shelf) c.write_wanted.new.patience.left _ call.gives call.frames call.valid call.marks
           c.in-Done.back call.gives.how.0 call.committed.0 call.committed.1 call.gives.how.1;
       unwritten = λ same. absurd (still_differs c.args.updater.now now (inv.unwritten same).1 differs same);
     }
@@ -41,7 +41,7 @@ returns-in_default g c =
     let call = c.write_wanted.ensures in
     record {
       gives = rounds_stop c.args.d.now c.args.buf.number c.args.patience.now.left c.loop-shelf.patience.left c.args.updater.now now c.args.homes.now c.loop-shelf.homes (g.S.Shelf.device c.args.shelf.now) mid c.loop-shelf.buf
-          inv.rounds differs sectors c.write_wanted.new.updater c.write_wanted.new.homes (g.S.Shelf.device c.write_wanted.new.shelf) c.write_wanted.new.patience.left c.write_wanted.result call.gives call.frames call.valid c.in_default.not-Done;
+          inv.rounds differs sectors c.write_wanted.new.updater c.write_wanted.new.homes (g.S.Shelf.device c.write_wanted.new.shelf) c.write_wanted.new.patience.left c.write_wanted.result call.gives call.frames call.valid call.marks c.in_default.not-Done;
       unwritten = λ same. absurd (still_differs c.args.updater.now now (inv.unwritten same).1 differs same);
     }
 

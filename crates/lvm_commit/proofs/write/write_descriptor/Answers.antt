@@ -14,6 +14,8 @@ use Rattle.lvm_quorum.specs.Written.{write_of}
 use Rattle.lvm_commit.specs.Committed.{next_stamp}
 use Rattle.lvm_commit.specs.Settling.{IsOf}
 use Rattle.lvm_commit.specs.Rounds.{HasLost, IsSame, stamped, session_write}
+use Rattle.lvm_commit.proofs.Wanting.{row_stays}
+use Rattle.lvm_commit.proofs.Leaving.{leaves, marks_round, round_same}
 use Rattle.lvm_commit.proofs.Recording.{Says, Tries, ended_gives, dark_gives, stuck_gives, as_session}
 use Rattle.lvm_commit.proofs.write.write_descriptor.Goals as goal
 
@@ -41,7 +43,8 @@ pub returns-in-Ended-clause-gives : goal.returns-in-Ended-clause-gives
 returns-in-Ended-clause-gives g c =
     let u : Stored = c.args.updater.now in
     let x : Stored = c.set_stamp.new.self in
-    let last : Stored = c.lose.new.updater in
+    let mid : Stored = c.lose.new.updater in
+    let last : Stored = c.mark_left.new.updater in
     let old : Device = g.S.Shelf.device c.args.shelf.now in
     let new : Device = g.S.Shelf.device c.write_record.new.shelf in
     let homes = c.args.homes.now in
@@ -56,9 +59,41 @@ returns-in-Ended-clause-gives g c =
     let tries : Tries w c.args.buf.number homes c.write_record.new.homes old new failed c.in-Ended.buf =
     subst (λ (r : RecordWrite). Tries r c.args.buf.number homes c.write_record.new.homes old new failed c.in-Ended.buf) same
     (record { each = c.in-Ended.ensures.each; flips = c.in-Ended.ensures.homes; number_is = c.in-Ended.ensures.buffer; ready = c.in-Ended.ensures.ready }) in
-    let lost : HasLost failed (stamped u) last = subst (λ (s : Stored). HasLost failed s last) is c.lose.ensures in
+    let lost : HasLost failed (stamped u) mid = subst (λ (s : Stored). HasLost failed s mid) is c.lose.ensures in
     ended_gives w c.args.buf.number c.args.patience.now.left c.write_record.new.patience.left (stamped u) last homes c.write_record.new.homes old new says
-    failed c.in-Ended.buf c.by_votes.result tries lost.group lost.stamp lost.wanted c.by_votes.ensures
+    failed c.in-Ended.buf c.by_votes.result tries
+    (ap (λ (s : Stored). s.group) c.mark_left.ensures.rest ∙ lost.group) (ap (λ (s : Stored). s.stamp) c.mark_left.ensures.rest ∙ lost.stamp) (leaves c.args.d.now u mid last failed lost.wanted c.mark_left.ensures) c.by_votes.ensures
+
+pub mark_left-requires-clause-rows : goal.mark_left-requires-clause-rows
+mark_left-requires-clause-rows g c disk =
+    let u : Stored = c.args.updater.now in
+    let x : Stored = c.set_stamp.new.self in
+    let mid : Stored = c.lose.new.updater in
+    let is : x ≡ stamped u = stamps u x c.stamp.result c.next_stamp-stamp.result c.stamp.ensures c.next_stamp-stamp.ensures c.set_stamp.ensures in
+    let lost : HasLost (has c.in-Ended.failed) (stamped u) mid = subst (λ (s : Stored). HasLost (has c.in-Ended.failed) s mid) is c.lose.ensures in
+    row_stays u.wanted mid.wanted lost.wanted.rows disk ∙ c.requires.rows disk ∙ sym (ap (λ (g : Descriptor). is_member g disk) lost.group)
+
+pub returns-in-Ended-clause-marks : goal.returns-in-Ended-clause-marks
+returns-in-Ended-clause-marks g c =
+    let u : Stored = c.args.updater.now in
+    let x : Stored = c.set_stamp.new.self in
+    let mid : Stored = c.lose.new.updater in
+    let last : Stored = c.mark_left.new.updater in
+    let failed : Disks = has c.in-Ended.failed in
+    let is : x ≡ stamped u = stamps u x c.stamp.result c.next_stamp-stamp.result c.stamp.ensures c.next_stamp-stamp.ensures c.set_stamp.ensures in
+    let lost : HasLost failed (stamped u) mid = subst (λ (s : Stored). HasLost failed s mid) is c.lose.ensures in
+    marks_round c.args.d.now u mid last failed lost.wanted c.mark_left.ensures lost.group
+    (λ disk fails. and_left (is_member c.args.d.now disk) (not (calls_missing x.wanted disk)) (sym (ap (λ (set : Disks). set disk) c.members_there-targets.ensures) ∙ (c.in-Ended.ensures.each disk).target fails))
+
+pub returns-in-Dark-clause-marks : goal.returns-in-Dark-clause-marks
+returns-in-Dark-clause-marks g c =
+    let is : c.set_stamp.new.self ≡ stamped c.args.updater.now = stamps c.args.updater.now c.set_stamp.new.self c.stamp.result c.next_stamp-stamp.result c.stamp.ensures c.next_stamp-stamp.ensures c.set_stamp.ensures in
+    round_same c.args.d.now c.args.updater.now c.set_stamp.new.self (ap (λ (s : Stored). s.group) is) (ap (λ (s : Stored). s.wanted) is)
+
+pub returns-in-Stuck-clause-marks : goal.returns-in-Stuck-clause-marks
+returns-in-Stuck-clause-marks g c =
+    let is : c.set_stamp.new.self ≡ stamped c.args.updater.now = stamps c.args.updater.now c.set_stamp.new.self c.stamp.result c.next_stamp-stamp.result c.stamp.ensures c.next_stamp-stamp.ensures c.set_stamp.ensures in
+    round_same c.args.d.now c.args.updater.now c.set_stamp.new.self (ap (λ (s : Stored). s.group) is) (ap (λ (s : Stored). s.wanted) is)
 
 pub returns-in-Dark-clause-gives : goal.returns-in-Dark-clause-gives
 returns-in-Dark-clause-gives g c =

@@ -4,11 +4,14 @@ use Rattle.lvm_core.specs.State.{Core, state}
 use Rattle.lvm_core.specs.Fields.{core_of}
 use Rattle.lvm_core.specs.Settled.{IsSettled}
 use Rattle.lvm_core.proofs.Commits.{may_settle_now}
-use Rattle.lvm_core.proofs.Committing.{descriptor_sound, descriptor_most, descriptor_ends, descriptor_held, descriptor_plain, descriptor_finds, descriptor_falls, descriptor_writes, descriptor_keeps, descriptor_calm, descriptor_behind}
+use Rattle.lvm_core.proofs.Committing.{descriptor_sound, descriptor_most, descriptor_ends, descriptor_held, descriptor_plain, descriptor_left, descriptor_finds, descriptor_falls, descriptor_writes, descriptor_keeps, descriptor_calm, descriptor_behind}
 use Rattle.lvm_core.proofs.driver.Driver.commit.Goals as goal
 
 pub commit-requires-clause-may : goal.commit-requires-clause-may
 commit-requires-clause-may g c = may_settle_now (state (g.S.Shelf.device c.self.inside.shelf) (core_of c.self.inside.session)) c.self.invariant.2 (subst (λ (v : g.row.S.Denot × Core). IsSettled v.1) (sym c.self.view_is) c.requires.settled)
+
+pub commit-requires-clause-alike : goal.commit-requires-clause-alike
+commit-requires-clause-alike g c = subst (λ (v : g.row.S.Denot × Core). IsAlike c.args.next v.1.descriptor) (sym c.self.view_is) c.requires.alike
 
 pub invariant_of-self : goal.invariant_of-self
 invariant_of-self g c = (
@@ -44,6 +47,13 @@ returns-clause-held g c = rw (← c.self.view_is) (descriptor_held c.args.next c
 
 pub returns-clause-plain : goal.returns-clause-plain
 returns-clause-plain g c = rw (← c.self.view_is) (descriptor_plain c.args.next c.args.patience.now.left c.commit.new.patience.left
+    (state (g.S.Shelf.device c.self.inside.shelf) (core_of c.self.inside.session))
+    (state (g.S.Shelf.device c.commit.new.shelf) (core_of c.commit.new.self))
+    c.commit.result c.commit.ensures.does (subst (λ (v : g.row.S.Denot × Core). IsSettled v.1) (sym c.self.view_is) c.requires.settled) c.self.invariant.2
+    (subst (λ (v : g.row.S.Denot × Core). IsAlike c.args.next v.1.descriptor) (sym c.self.view_is) c.requires.alike))
+
+pub returns-clause-left : goal.returns-clause-left
+returns-clause-left g c = rw (← c.self.view_is) (descriptor_left c.args.next c.args.patience.now.left c.commit.new.patience.left
     (state (g.S.Shelf.device c.self.inside.shelf) (core_of c.self.inside.session))
     (state (g.S.Shelf.device c.commit.new.shelf) (core_of c.commit.new.self))
     c.commit.result c.commit.ensures.does (subst (λ (v : g.row.S.Denot × Core). IsSettled v.1) (sym c.self.view_is) c.requires.settled) c.self.invariant.2

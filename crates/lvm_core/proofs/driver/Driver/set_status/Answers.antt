@@ -65,7 +65,8 @@ pub returns-clause-marks : goal.returns-clause-marks
 returns-clause-marks g c = rw (← c.self.view_is) (restates c.args.stale.now c.args.fresh.now c.args.patience.now.left c.set_status.new.patience.left
     (state (g.S.Shelf.device c.self.inside.shelf) (core_of c.self.inside.session))
     (state (g.S.Shelf.device c.set_status.new.shelf) (core_of c.set_status.new.self))
-    c.set_status.result c.set_status.ensures.does (subst (λ (v : g.row.S.Denot × Core). IsSettled v.1) (sym c.self.view_is) c.requires.settled) c.self.invariant.2)
+    c.set_status.result c.set_status.ensures.does (subst (λ (v : g.row.S.Denot × Core). IsSettled v.1) (sym c.self.view_is) c.requires.settled) c.self.invariant.2
+    (subst (λ (v : g.row.S.Denot × Core). AreUnused v.1.descriptor (c.args.stale.now ++ c.args.fresh.now)) (sym c.self.view_is) c.requires.unused))
 
 pub returns-clause-numbers : goal.returns-clause-numbers
 returns-clause-numbers g c = rw (← c.self.view_is) (status_numbers c.args.stale.now c.args.fresh.now c.args.patience.now.left c.set_status.new.patience.left

@@ -1,6 +1,12 @@
-use Rattle.std.proofs.Common.{◌≤◌, ℕ, List, length, sym, ◌∙◌, ap, subst}
+use Rattle.std.proofs.Common.{◌≡◌, Ok, ◌≤◌, ℕ, List, length, sym, ◌∙◌, ap, subst}
 use Rattle.lvm_num.specs.declared.record.Kind.TheVariants as kind
+use Rattle.lvm_num.specs.declared.descriptor.Descriptor.{Descriptor}
+use Rattle.lvm_num.specs.DescriptorBytes.{descriptor_bytes, descriptor_of}
 use Rattle.lvm_num.specs.Record.{longest_content}
+use Rattle.lvm_disk.specs.Device.{Device}
+use Rattle.lvm_vgda.proofs.Whole.{spelled_is_read}
+use Rattle.lvm_commit.specs.Settling.{MaySettle, MarksLeft}
+use Rattle.lvm_core.proofs.Committing.{may_next}
 use Rattle.lvm_core.specs.declared.session.Session.{Session}
 use Rattle.lvm_core.specs.State.{state}
 use Rattle.lvm_core.specs.Fields.{core_of}
@@ -11,6 +17,18 @@ use Rattle.lvm_core.proofs.session.Session.commit.Goals as goal
 pub commit_descriptor-settled-requires-clause-content : goal.commit_descriptor-settled-requires-clause-content
 commit_descriptor-settled-requires-clause-content g c =
     subst (λ (l : List ℕ). length l ≤ longest_content kind.Descriptor) (sym (c.as_slice.ensures ∙ c.into_parts-descriptor.ensures.bytes)) (descriptor_fits c.args.next c.into_parts-descriptor.ensures.valid)
+
+pub commit_descriptor-settled-requires-clause-may : goal.commit_descriptor-settled-requires-clause-may
+commit_descriptor-settled-requires-clause-may g c =
+    let device : Device = g.S.Shelf.device c.args.shelf.now in
+    subst (λ (d : Descriptor). MaySettle d c.take_buffer-buf.new.self.updater device) (sym c.into_parts-descriptor.ensures.descriptor)
+    (subst (λ (s : Session). MaySettle c.args.next s.updater device) (sym c.take_buffer-buf.ensures.taken)
+    (may_next c.args.self.now.descriptor c.args.next c.args.self.now.updater device c.requires.may c.into_parts-descriptor.ensures.valid c.requires.alike))
+
+pub commit_descriptor-settled-requires-clause-describes : goal.commit_descriptor-settled-requires-clause-describes
+commit_descriptor-settled-requires-clause-describes g c =
+    subst (λ (l : List ℕ). descriptor_of l ≡ Ok c.into_parts-descriptor.result.0) (sym (c.as_slice.ensures ∙ c.into_parts-descriptor.ensures.bytes))
+    (subst (λ (d : Descriptor). descriptor_of (descriptor_bytes c.args.next) ≡ Ok d) (sym c.into_parts-descriptor.ensures.descriptor) (spelled_is_read c.args.next c.into_parts-descriptor.ensures.valid))
 
 pub go_on-requires-clause-out : goal.go_on-requires-clause-out
 go_on-requires-clause-out g c =
@@ -50,6 +68,7 @@ returns-in-Ok-clause-does g c =
       held = wrote.ensures.held;
       plain = wrote.ensures.plain;
       finds = wrote.ensures.finds;
+      left = subst (λ (d : Descriptor). MarksLeft d taken.updater wrote.new.updater) c.into_parts-descriptor.ensures.descriptor wrote.ensures.left;
       kept = wrote.ensures.kept;
     })
     (subst (λ d. Rattle.lvm_core.specs.Steps.CoreEnds d (core_of self) (record left { descriptor = next }) how (Rattle.std.specs.Prelude.Ok tt)) c.into_parts-descriptor.ensures.descriptor
@@ -86,6 +105,7 @@ returns-in-Err-clause-does g c =
       held = wrote.ensures.held;
       plain = wrote.ensures.plain;
       finds = wrote.ensures.finds;
+      left = subst (λ (d : Descriptor). MarksLeft d taken.updater wrote.new.updater) c.into_parts-descriptor.ensures.descriptor wrote.ensures.left;
       kept = wrote.ensures.kept;
     })
     (core_ends_badly (core_of self) mid left mid_is c.requires.buffers c.args.next c.in-Err.fault how number c.in-Err.ensures.ends)

@@ -1,6 +1,6 @@
 use Rattle.std.proofs.Common.{sym, ◌∙◌, ap, subst}
 use Rattle.lvm_status.specs.Update.{Stored}
-use Rattle.lvm_commit.specs.Settling.{MaySettle}
+use Rattle.lvm_commit.specs.Settling.{MaySettle, MarksLeft, StatusStaysKept}
 use Rattle.lvm_core.specs.declared.session.Session.{Session}
 use Rattle.lvm_core.specs.State.{state}
 use Rattle.lvm_core.specs.Fields.{core_of}
@@ -52,7 +52,8 @@ returns-clause-does g c =
       };
       held = wrote.ensures.held;
       finds = wrote.ensures.finds;
-      kept = wrote.ensures.kept;
+      left = subst (λ (s : Session). MarksLeft s.descriptor taken.updater wrote.new.updater) c.take_buffer-buf.ensures.taken wrote.ensures.left;
+      kept = subst (λ (s : Session). StatusStaysKept s.descriptor taken.updater taken.homes (g.S.Shelf.device c.args.shelf.now) (g.S.Shelf.device wrote.new.shelf)) c.take_buffer-buf.ensures.taken wrote.ensures.kept;
     })
     (core_ends (core_of self) mid left mid_is c.requires.buffers how c.go_on.result number ends)
     (λ none.

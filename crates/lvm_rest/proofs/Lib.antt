@@ -1,0 +1,12 @@
+pub mod Copies
+pub mod Uncut
+pub mod Shapes
+pub mod Rows
+pub mod Resting
+pub mod Back
+pub mod Staying
+pub mod Matching
+pub mod Lasting
+pub mod Closing
+pub mod Causing
+pub mod Left
