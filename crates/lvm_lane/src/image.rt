@@ -2,7 +2,9 @@
 ghost use Rattle.std.specs.Prelude.{◌≡◌, ◌+◌, ◌≤◌, ◌<◌, ◌*◌, ◌^◌, IfOk, OnOk};
 ghost use Rattle.lvm_disk.specs.Steps.{ChangedAtMost};
 
+use crate::exclusive::Exclusive;
 use crate::name::image_name;
+use crate::read_buffer::ReadBuffer;
 use lvm_num::Pbuf;
 use std::fs::{Metadata, OpenFile, OpenOptions};
 use std::io::{ErrorKind, Read, Seek, SeekFrom, Write};
@@ -67,18 +69,16 @@ fn put<F: Write + Seek + OpenFile>(
 {
     see_bytes(file, 512 * (first + count as u64))?;
     file.seek(SeekFrom::Start(512 * first))?;
-    for k in 0..count {
-        file.write_all(buf.sector(k))?;
-    }
-    Ok(())
+    file.write_all(buf.front(count))
 }
 
-// Fills the buffer's first sectors from the file from sector `first` on.
+// Fills the buffer's first sectors from the file from sector `first` on, by way of the room.
 fn get<F: Read + Seek + OpenFile>(
     file: &mut F,
     first: u64,
     count: u32,
     buf: &mut Pbuf,
+    room: &mut ReadBuffer,
 ) -> io::Result<()>
     requires within { first + count < 2 ^ 55 }
     requires most { count ≤ 256 }
@@ -86,27 +86,30 @@ fn get<F: Read + Seek + OpenFile>(
 {
     see_bytes(file, 512 * (first + count as u64))?;
     file.seek(SeekFrom::Start(512 * first))?;
+    room.read_front(file, count)?;
     for k in 0..count {
-        let mut sector = [0; 512];
-        file.read_exact(&mut sector)?;
-        buf.set_sector(k, &sector);
+        buf.set_sector(k, room.sector(k));
     }
     Ok(())
 }
 
-impl<F: Read + Write + Seek + OpenFile + Drop> Image<F> {
-    /// The image of a disk. It has the whole sectors of the file; none where there is no file, or none
-    /// that can be opened. A file that can't be opened for writing is opened for reading alone.
-    pub fn open<R: Files<File = F>>(rt: &R, disk: u16) -> Image<F> {
-        match open_file(rt, image_name(disk).as_str()) {
-            Ok((file, bytes)) => Image {
-                file: Some(file),
-                sectors: bytes / 512,
-            },
-            Err(_) => Image {
-                file: None,
-                sectors: 0,
-            },
+impl<F: Read + Write + Seek + OpenFile + Exclusive + Drop> Image<F> {
+    /// The image of a disk, which is this program's alone from now on. It has the whole sectors of the
+    /// file. A file that can't be opened for writing is opened for reading alone. Where another program
+    /// holds the file, the error is of the kind `WouldBlock`.
+    pub fn open<R: Files<File = F>>(rt: &R, disk: u16) -> io::Result<Image<F>> {
+        let (file, bytes) = open_file(rt, image_name(disk).as_str())?;
+        Ok(Image {
+            file: Some(file),
+            sectors: bytes / 512,
+        })
+    }
+
+    /// The image of a disk without a file. It has no sectors.
+    pub fn absent() -> Image<F> {
+        Image {
+            file: None,
+            sectors: 0,
         }
     }
 
@@ -141,7 +144,13 @@ impl<F: Read + Write + Seek + OpenFile + Drop> Image<F> {
 
     /// Reads `count` sectors from sector `first` on to the buffer's first. After a fault the buffer's
     /// first sectors may be anything.
-    pub fn read(&mut self, first: u64, count: u32, buf: &mut Pbuf) -> Result<(), ImageFault>
+    pub fn read(
+        &mut self,
+        first: u64,
+        count: u32,
+        buf: &mut Pbuf,
+        room: &mut ReadBuffer,
+    ) -> Result<(), ImageFault>
         requires within { first + count ≤ self.old }
         requires most { count ≤ 256 }
         ensures same { self.new ≡ self.old }
@@ -150,7 +159,7 @@ impl<F: Read + Write + Seek + OpenFile + Drop> Image<F> {
         let Some(file) = &mut self.file else {
             return Err(ImageFault);
         };
-        match get(file, first, count, buf) {
+        match get(file, first, count, buf, room) {
             Ok(()) => Ok(()),
             Err(_) => Err(ImageFault),
         }
@@ -160,7 +169,10 @@ impl<F: Read + Write + Seek + OpenFile + Drop> Image<F> {
 // Opens an ordinary file, for reading and writing where that may be, and says how long it is. Anything
 // else of that name isn't opened: to open a pipe may wait for ever. What a program that was killed left
 // there is synced, since it may be read.
-fn open_file<R: Files>(rt: &R, name: &str) -> io::Result<(R::File, u64)> {
+fn open_file<R: Files>(rt: &R, name: &str) -> io::Result<(R::File, u64)>
+where
+    R::File: Exclusive,
+{
     if !fs::metadata(rt, name)?.is_file() {
         return Err(io::Error::from(ErrorKind::InvalidInput));
     }
@@ -168,6 +180,7 @@ fn open_file<R: Files>(rt: &R, name: &str) -> io::Result<(R::File, u64)> {
         Ok(file) => file,
         Err(_) => fs::open(rt, name)?,
     };
+    file.try_exclusive()?;
     file.sync_data()?;
     let bytes = file.metadata()?.len();
     Ok((file, bytes))

@@ -2,10 +2,13 @@
 //! program meets real files; no clause says what they hold.
 #![tactic(auto)]
 
+mod exclusive;
 mod image;
 mod name;
+mod read_buffer;
 mod shelf;
 mod sink;
 
+pub use exclusive::Exclusive;
 pub use shelf::FileShelf;
 pub use sink::ImageSink;

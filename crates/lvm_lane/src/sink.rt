@@ -1,10 +1,11 @@
 //! A sink that makes image files.
-ghost use Rattle.std.specs.Prelude.{◌≡◌, ◌<◌, ◌≤◌, None, Some, length, IfSome};
+ghost use Rattle.std.specs.Prelude.{◌≡◌, ◌<◌, ◌≤◌, None, Some, length, IfOk};
 
+use crate::exclusive::Exclusive;
 use crate::name::image_name;
 use lvm_io::{Images, Put, Sink};
 use std::fs::{File, OpenFile};
-use std::io::Write;
+use std::io::{ErrorKind, Write};
 use std::marker::Model;
 use std::rt::Files;
 use std::{fs, io};
@@ -14,14 +15,22 @@ use std::{fs, io};
 ///
 /// It makes no file before a disk is chosen, and none where there is one of that name: what a disk
 /// holds is never written over. Until a disk is chosen, and where its file can't be made, each write
-/// fails. What it took is durable.
+/// fails. What it took is synced after each 64 MiB, and where it is settled. After a fault each write
+/// fails. No other program uses the file meanwhile.
 #[derive(Drop)]
 pub struct ImageSink<'a, R: Files> {
     files: &'a R,
     file: Option<R::File>,
     disk: Option<u16>,
     faults: u64,
+    // Bytes since the last sync.
+    unsynced: u64,
+    // Whether there was a file of the chosen disk already.
+    taken: bool,
 }
+
+// So many bytes are synced at once.
+const SYNC: u64 = 67_108_864;
 
 impl<'a, R: Files> Model for ImageSink<'a, R> {
     ghost use Rattle.std.specs.Prelude.{◌≡◌, None};
@@ -44,28 +53,57 @@ impl<'a, R: Files> ImageSink<'a, R> {
             file: None,
             disk: None,
             faults: 0,
+            unsynced: 0,
+            taken: false,
+        }
+    }
+
+    /// Whether a disk was chosen.
+    pub fn is_chosen(&self) -> bool {
+        self.disk.is_some()
+    }
+
+    /// Whether no image was made of the disk that was chosen last, since it has one.
+    pub fn is_taken(&self) -> bool {
+        self.taken
+    }
+
+    /// Sees that what it took is durable.
+    pub fn settle(&self) -> io::Result<()> {
+        match &self.file {
+            Some(file) => file.sync_data(),
+            None => Ok(()),
         }
     }
 }
 
-// Makes a file that isn't there yet, and sees that its folder keeps it.
-fn make_file<R: Files>(files: &R, name: &str) -> io::Result<R::File> {
+// Makes a file that isn't there yet, and sees that its folder keeps it. It is this program's alone.
+fn make_file<R: Files>(files: &R, name: &str) -> io::Result<R::File>
+where
+    R::File: Exclusive,
+{
     let file = File::create_new(files, name)?;
+    file.try_exclusive()?;
     fs::open(files, ".")?.sync_all()?;
     Ok(file)
 }
 
-// Writes a front of the bytes and sees that it is durable; None where none was.
-fn put<F: Write + OpenFile>(file: &mut F, from: &[u8]) -> Option<usize>
+// Writes a front of the bytes, after so many that aren't synced. Answers how many it took, and how many
+// aren't synced then: it sees to that where they are many.
+fn put<F: Write + OpenFile>(file: &mut F, from: &[u8], unsynced: u64) -> io::Result<(usize, u64)>
     requires { 0 < length from.now }
-    ensures { IfSome result (λ count. (1 ≤ count) × (count ≤ length from.now)) }
+    ensures { IfOk result (λ it. (1 ≤ it.0) × (it.0 ≤ length from.now)) }
 {
-    let count = file.write(from).ok()?;
+    let count = file.write(from)?;
     if count == 0 {
-        return None;
+        return Err(io::Error::from(ErrorKind::WriteZero));
     }
-    file.sync_data().ok()?;
-    Some(count)
+    let unsynced = unsynced.saturating_add(count as u64);
+    if unsynced < SYNC {
+        return Ok((count, unsynced));
+    }
+    file.sync_data()?;
+    Ok((count, 0))
 }
 
 impl<'a, R: Files> Sink for ImageSink<'a, R> {
@@ -86,8 +124,10 @@ impl<'a, R: Files> Sink for ImageSink<'a, R> {
         ensures cause { result ≡ Put.Failed → Rose self.old.faults self.new.faults }
         ensures unmade { self.old.chosen ≡ None → result ≡ Put.Failed }
     {
-        if let Some(file) = &mut self.file {
-            if let Some(count) = put(file, from) {
+        if let Some(mut file) = self.file.take() {
+            if let Ok((count, unsynced)) = put(&mut file, from, self.unsynced) {
+                self.file = Some(file);
+                self.unsynced = unsynced;
                 return Put::Took(count);
             }
         }
@@ -96,9 +136,15 @@ impl<'a, R: Files> Sink for ImageSink<'a, R> {
     }
 }
 
-impl<'a, R: Files> Images for ImageSink<'a, R> {
+impl<'a, R: Files> Images for ImageSink<'a, R>
+where
+    R::File: Exclusive,
+{
     fn choose(&mut self, disk: u16) {
-        self.file = make_file(self.files, image_name(disk).as_str()).ok();
+        let made = make_file(self.files, image_name(disk).as_str());
+        self.taken = matches!(&made, Err(fault) if fault.kind() == ErrorKind::AlreadyExists);
+        self.file = made.ok();
         self.disk = Some(disk);
+        self.unsynced = 0;
     }
 }

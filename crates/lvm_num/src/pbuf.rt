@@ -1,5 +1,6 @@
 //! A buffer of 256 sectors, which moves from hand to hand.
-ghost use Rattle.std.specs.Prelude.{◌≡◌, ◌<◌, length, IfOk, slice_get, slice_set, replicate};
+ghost use Rattle.std.specs.Prelude.{◌≡◌, ◌<◌, ◌≤◌, length, take, IfOk, slice_get, slice_set, replicate};
+ghost use Rattle.std.specs.List.{flat_map};
 ghost use Rattle.lvm_num.specs.Buffer.{zero_sector};
 
 use crate::Memory;
@@ -62,5 +63,13 @@ impl Pbuf {
         ensures length { length self.old.sectors ≡ 256 }
     {
         self.sectors[k as usize] = *from;
+    }
+
+    /// The bytes of its first `count` sectors.
+    pub fn front(&self, count: u32) -> &[u8]
+        requires { count ≤ 256 }
+        ensures { result.now ≡ flat_map (λ sector. sector) (take count self.now.sectors) }
+    {
+        self.sectors[..count as usize].as_flattened()
     }
 }

@@ -1,6 +1,7 @@
 //! Blocks that one word fills.
 ghost use Rattle.std.specs.Prelude.{◌≡◌, ◌≢◌, ℕ, ◌<◌, ◌^◌, IfSome, IfNone};
-ghost use Rattle.lvm_num.specs.Word.{fill_of};
+ghost use Rattle.std.specs.List.{list_all};
+ghost use Rattle.lvm_num.specs.Word.{fill_of, is_word};
 
 const WORD: usize = 8;
 
@@ -18,14 +19,23 @@ pub fn fill(word: u64) -> [u8; 512]
     block
 }
 
+// Whether each of the pieces is the word.
+fn are_all(pieces: &[[u8; WORD]], word: u64) -> bool
+    ensures { result ≡ list_all (is_word word) pieces.now }
+{
+    pieces
+        .iter()
+        .all(|piece| u64::from_be_bytes(*piece) == word)
+}
+
 /// The word that fills the block, if one does.
 pub fn word_of(block: &[u8; 512]) -> Option<u64>
     ensures filled { IfSome result (λ word. block.now ≡ fill_of word) }
     ensures other { IfNone result ((word : ℕ) → word < 2 ^ 64 → block.now ≢ fill_of word) }
 {
-    let [a, b, c, d, e, f, g, h, ..] = *block;
-    let word = u64::from_be_bytes([a, b, c, d, e, f, g, h]);
-    if fill(word) == *block {
+    let (pieces, _) = block.as_chunks::<WORD>();
+    let word = u64::from_be_bytes(pieces[0]);
+    if are_all(pieces, word) {
         Some(word)
     } else {
         None
