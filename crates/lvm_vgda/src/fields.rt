@@ -97,42 +97,50 @@ fn are_zeros(bytes: &[u8]) -> bool
 pub fn u8_up_to(most: u8, unread: Unread) -> Result<(u8, Unread), Fault>
     ensures { Gives (λ x. (x.0, rest_of x.1)) result (number_at w8 (λ n. nat_le n most) (rest_of unread.entry)) }
 {
-    let (number, after) = u8_at(unread)?;
-    if number > most {
+    let read = u8_at(unread);
+    if let Ok((number, _)) = &read
+        && *number > most
+    {
         return Err(Fault::At(unread.place));
     }
-    Ok((number, after))
+    read
 }
 
 /// A byte from 1 up to a greatest one.
 pub fn u8_from_1(most: u8, unread: Unread) -> Result<(u8, Unread), Fault>
     ensures { Gives (λ x. (x.0, rest_of x.1)) result (number_at w8 (λ n. nat_le 1 n && nat_le n most) (rest_of unread.entry)) }
 {
-    let (number, after) = u8_at(unread)?;
-    if number < 1 || number > most {
+    let read = u8_at(unread);
+    if let Ok((number, _)) = &read
+        && (*number < 1 || *number > most)
+    {
         return Err(Fault::At(unread.place));
     }
-    Ok((number, after))
+    read
 }
 
 /// A number of two bytes up to a greatest one.
 pub fn u16_up_to(most: u16, unread: Unread) -> Result<(u16, Unread), Fault>
     ensures { Gives (λ x. (x.0, rest_of x.1)) result (number_at w16 (λ n. nat_le n most) (rest_of unread.entry)) }
 {
-    let (number, after) = u16_at(unread)?;
-    if number > most {
+    let read = u16_at(unread);
+    if let Ok((number, _)) = &read
+        && *number > most
+    {
         return Err(Fault::At(unread.place));
     }
-    Ok((number, after))
+    read
 }
 
 /// A number of two bytes from 1 up to a greatest one.
 pub fn u16_from_1(most: u16, unread: Unread) -> Result<(u16, Unread), Fault>
     ensures { Gives (λ x. (x.0, rest_of x.1)) result (number_at w16 (λ n. nat_le 1 n && nat_le n most) (rest_of unread.entry)) }
 {
-    let (number, after) = u16_at(unread)?;
-    if number < 1 || number > most {
+    let read = u16_at(unread);
+    if let Ok((number, _)) = &read
+        && (*number < 1 || *number > most)
+    {
         return Err(Fault::At(unread.place));
     }
-    Ok((number, after))
+    read
 }

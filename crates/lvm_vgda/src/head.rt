@@ -9,17 +9,50 @@ ghost use Rattle.lvm_num.specs.Descriptor.{is_size, most_members, most_volumes};
 ghost use Rattle.lvm_num.specs.DescriptorBytes.{is_name_field, name_at, version_at, member_count_at};
 ghost use Rattle.lvm_num.specs.Reading.{number_at};
 ghost use Rattle.lvm_vgda.specs.Reading.{Gives, rest_of, skipped};
+ghost use Rattle.lvm_vgda.specs.Parts.{begin_at, rules_at, counts_at};
 
 use crate::fault::Fault;
-use crate::fields::{bytes_at, u16_at, u16_from_1, u64_at};
+use crate::fields::{bytes_at, u8_up_to, u16_at, u16_from_1, u16_up_to, u64_at, zeros_at};
 use crate::unread::Unread;
 use lvm_num::{LvRow, Name};
 
 const SIZES: [u16; 11] = [1, 2, 4, 8, 16, 32, 64, 128, 256, 512, 1024];
 
-/// Whether the group is big, which the version says.
+/// Whether the group is big, and its id.
+#[tactic(auto, unfolding(crate::specs::Parts::begin_at))]
+pub fn begin_at(unread: Unread) -> Result<((bool, u64), Unread), Fault>
+    ensures { Gives (λ x. (x.0, rest_of x.1)) result (begin_at (rest_of unread.entry)) }
+{
+    let (big, unread) = version_at(unread)?;
+    let (id, unread) = id_at(unread)?;
+    Ok(((big, id), unread))
+}
+
+/// The size of a partition, and whether the group needs a quorum and has even votes.
+#[tactic(auto, unfolding(crate::specs::Parts::rules_at))]
+pub fn rules_at(unread: Unread) -> Result<((u16, bool, bool), Unread), Fault>
+    ensures { Gives (λ x. (x.0, rest_of x.1)) result (rules_at (rest_of unread.entry)) }
+{
+    let (mib, unread) = size_at(unread)?;
+    let (quorum, unread) = u8_up_to(1, unread)?;
+    let (even, unread) = u8_up_to(1, unread)?;
+    Ok(((mib, quorum == 1, even == 1), unread))
+}
+
+/// How many members and how many volumes follow.
+#[tactic(auto, unfolding(crate::specs::Parts::counts_at))]
+pub fn counts_at(big: bool, even: bool, unread: Unread) -> Result<((u16, u16), Unread), Fault>
+    ensures { Gives (λ x. (x.0, rest_of x.1)) result (counts_at big even (rest_of unread.entry)) }
+{
+    let (members, unread) = member_count_at(big, even, unread)?;
+    let (volumes, unread) = u16_up_to(most_volumes(big), unread)?;
+    let unread = zeros_at(12, unread)?;
+    Ok(((members, volumes), unread))
+}
+
+// Whether the group is big, which the version says.
 #[tactic(auto, unfolding(lvm_num::specs::DescriptorBytes::version_at))]
-pub fn version_at(unread: Unread) -> Result<(bool, Unread), Fault>
+fn version_at(unread: Unread) -> Result<(bool, Unread), Fault>
     ensures { Gives (λ x. (x.0, rest_of x.1)) result (version_at (rest_of unread.entry)) }
 {
     let (magic, after) = bytes_at(4, unread)?;
@@ -32,26 +65,28 @@ pub fn version_at(unread: Unread) -> Result<(bool, Unread), Fault>
     }
 }
 
-/// The id, which isn't 0.
-pub fn id_at(unread: Unread) -> Result<(u64, Unread), Fault>
+// The id, which isn't 0.
+fn id_at(unread: Unread) -> Result<(u64, Unread), Fault>
     ensures { Gives (λ x. (x.0, rest_of x.1)) result (number_at w64 (λ n. not (n == 0)) (rest_of unread.entry)) }
 {
-    let (id, after) = u64_at(unread)?;
-    if id == 0 {
+    let read = u64_at(unread);
+    if let Ok((0, _)) = &read {
         return Err(Fault::At(unread.place));
     }
-    Ok((id, after))
+    read
 }
 
-/// The size of a partition.
-pub fn size_at(unread: Unread) -> Result<(u16, Unread), Fault>
+// The size of a partition.
+fn size_at(unread: Unread) -> Result<(u16, Unread), Fault>
     ensures { Gives (λ x. (x.0, rest_of x.1)) result (number_at w16 is_size (rest_of unread.entry)) }
 {
-    let (mib, after) = u16_at(unread)?;
-    if !is_size(mib) {
+    let read = u16_at(unread);
+    if let Ok((mib, _)) = &read
+        && !is_size(*mib)
+    {
         return Err(Fault::At(unread.place));
     }
-    Ok((mib, after))
+    read
 }
 
 fn is_size(mib: u16) -> bool
@@ -60,9 +95,9 @@ fn is_size(mib: u16) -> bool
     SIZES.contains(&mib)
 }
 
-/// The number of members. Where votes are even and it isn't 2, the flag before it is the fault.
+// The number of members. Where votes are even and it isn't 2, the flag before it is the fault.
 #[tactic(auto, unfolding(lvm_num::specs::DescriptorBytes::member_count_at))]
-pub fn member_count_at(big: bool, even: bool, unread: Unread) -> Result<(u16, Unread), Fault>
+fn member_count_at(big: bool, even: bool, unread: Unread) -> Result<(u16, Unread), Fault>
     ensures { Gives (λ x. (x.0, rest_of x.1)) result (member_count_at big even (rest_of unread.entry)) }
 {
     let (count, _) = u16_at(unread)?;

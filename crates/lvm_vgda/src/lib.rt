@@ -16,4 +16,3 @@ pub use fault::VgdaFault;
 pub use laws::descriptors_are_exact;
 pub use reading::decode;
 pub use writing::encode;
-

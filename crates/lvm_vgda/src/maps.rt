@@ -132,11 +132,13 @@ fn copy_disk_at<'a>(
 ) -> Result<(u16, Unread<'a>), Fault>
     ensures { Gives (λ x. (x.0, rest_of x.1)) result (number_at w16 (λ n. list_any (λ (row : PvRow). row.disk == n) members.now && not (list_any (λ (p : Pp). p.disk == n) begun.now)) (rest_of unread.entry)) }
 {
-    let (disk, after) = u16_at(unread)?;
-    if !has_member(members, disk) || is_on(begun, disk) {
+    let read = u16_at(unread);
+    if let Ok((disk, _)) = &read
+        && (!has_member(members, *disk) || is_on(begun, *disk))
+    {
         return Err(Fault::At(unread.place));
     }
-    Ok((disk, after))
+    read
 }
 
 fn is_on(copies: &[Pp], disk: u16) -> bool

@@ -2,14 +2,16 @@
 ghost use Rattle.std.specs.Prelude.{IfOk, Ok};
 ghost use Rattle.lvm_num.specs.declared.descriptor.Descriptor.{Descriptor as descriptor};
 ghost use Rattle.lvm_num.specs.DescriptorBytes.{IsDescriptor, descriptor_of};
-ghost use Rattle.lvm_vgda.specs.Reading.{Gives, Answers};
+ghost use Rattle.lvm_vgda.specs.Reading.{Gives, Answers, rest_of};
+ghost use Rattle.lvm_vgda.specs.Parts.{descriptor_by_parts, rows_at};
 
 use crate::fault::{Fault, VgdaFault};
-use crate::fields::{all, behind, u8_up_to, u16_up_to, zeros_at};
-use crate::head::{id_at, member_count_at, most_volumes, name_at, size_at, version_at};
+use crate::fields::{all, behind};
+use crate::head::{begin_at, counts_at, name_at, rules_at};
 use crate::maps::maps_at;
 use crate::rows::{members_at, volumes_at};
-use lvm_num::{Descriptor, Rows};
+use crate::unread::Unread;
+use lvm_num::{Descriptor, LvRow, PvRow, Rows};
 use std::alloc::Global;
 
 /// The descriptor that the bytes spell, all of them. Other bytes than those that `encode` writes of a
@@ -30,23 +32,16 @@ pub fn decode(alloc: Global, bytes: &[u8]) -> Result<Descriptor, VgdaFault>
     }
 }
 
-#[tactic(auto, unfolding(lvm_num::specs::DescriptorBytes::descriptor_of))]
+#[tactic(auto, unfolding(crate::specs::Parts::descriptor_by_parts))]
 fn descriptor_of(alloc: Global, bytes: &[u8]) -> Result<Descriptor, Fault>
-    ensures { Gives (λ d. d) result (descriptor_of bytes.now) }
+    ensures { Gives (λ d. d) result (descriptor_by_parts bytes.now) }
 {
-    let (big, unread) = version_at(all(bytes))?;
-    let (id, unread) = id_at(unread)?;
+    let ((big, id), unread) = begin_at(all(bytes))?;
     let name = name_at(&[], unread)?;
     let unread = behind(16, unread);
-    let (mib, unread) = size_at(unread)?;
-    let (quorum, unread) = u8_up_to(1, unread)?;
-    let (even, unread) = u8_up_to(1, unread)?;
-    let (members, unread) = member_count_at(big, even == 1, unread)?;
-    let (volumes, unread) = u16_up_to(most_volumes(big), unread)?;
-    let unread = zeros_at(12, unread)?;
-    let (pvs, unread) = members_at(alloc, members, unread)?;
-    let (lvs, unread) = volumes_at(alloc, big, volumes, unread)?;
-    let (lvs, unread) = maps_at(alloc, &pvs, lvs, unread)?;
+    let ((mib, quorum, even), unread) = rules_at(unread)?;
+    let (counts, unread) = counts_at(big, even, unread)?;
+    let ((pvs, lvs), unread) = rows_at(alloc, big, counts, unread)?;
     if !unread.bytes.is_empty() {
         return Err(Fault::At(unread.place));
     }
@@ -54,10 +49,26 @@ fn descriptor_of(alloc: Global, bytes: &[u8]) -> Result<Descriptor, Fault>
         id,
         name,
         mib,
-        quorum: quorum == 1,
-        even: even == 1,
+        quorum,
+        even,
         big,
         pvs: Rows::new(pvs),
         lvs: Rows::new(lvs),
     })
+}
+
+// So many members, and so many volumes with their partitions.
+#[tactic(auto, unfolding(crate::specs::Parts::rows_at))]
+fn rows_at(
+    alloc: Global,
+    big: bool,
+    counts: (u16, u16),
+    unread: Unread,
+) -> Result<((Vec<PvRow>, Vec<LvRow>), Unread), Fault>
+    ensures { Gives (λ x. ((x.0.0.items, x.0.1.items), rest_of x.1)) result (rows_at big counts.0 counts.1 (rest_of unread.entry)) }
+{
+    let (pvs, unread) = members_at(alloc, counts.0, unread)?;
+    let (lvs, unread) = volumes_at(alloc, big, counts.1, unread)?;
+    let (lvs, unread) = maps_at(alloc, &pvs, lvs, unread)?;
+    Ok(((pvs, lvs), unread))
 }

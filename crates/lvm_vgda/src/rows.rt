@@ -5,9 +5,10 @@ ghost use Rattle.std.specs.Int.{w8, w16, w32};
 ghost use Rattle.lvm_num.specs.declared.descriptor.PvRow.{PvRow};
 ghost use Rattle.lvm_num.specs.declared.descriptor.LvRow.{LvRow};
 ghost use Rattle.lvm_num.specs.Descriptor.{most_volumes};
-ghost use Rattle.lvm_num.specs.DescriptorBytes.{mode_named, policy_named, member_at, members_at, volume_at, volumes_at};
+ghost use Rattle.lvm_num.specs.DescriptorBytes.{mode_named, policy_named, member_at, members_at, volumes_at};
 ghost use Rattle.lvm_num.specs.Reading.{number_at};
 ghost use Rattle.lvm_vgda.specs.Reading.{Gives, rest_of};
+ghost use Rattle.lvm_vgda.specs.Parts.{number_and_copies_at, mode_and_policy_at, volume_by_parts};
 
 use crate::fault::Fault;
 use crate::fields::{behind, u8_from_1, u8_up_to, u16_at, u16_from_1, u32_at, zeros_at};
@@ -46,11 +47,13 @@ fn member_at<'a>(earlier: &[PvRow], unread: Unread<'a>) -> Result<(PvRow, Unread
 fn disk_at<'a>(earlier: &[PvRow], unread: Unread<'a>) -> Result<(u16, Unread<'a>), Fault>
     ensures { Gives (λ x. (x.0, rest_of x.1)) result (number_at w16 (λ n. nat_lt n 128 && not (list_any (λ (row : PvRow). row.disk == n) earlier.now)) (rest_of unread.entry)) }
 {
-    let (disk, after) = u16_at(unread)?;
-    if disk >= 128 || has_member(earlier, disk) {
+    let read = u16_at(unread);
+    if let Ok((disk, _)) = &read
+        && (*disk >= 128 || has_member(earlier, *disk))
+    {
         return Err(Fault::At(unread.place));
     }
-    Ok((disk, after))
+    read
 }
 
 /// Whether a member is on the disk.
@@ -79,20 +82,17 @@ pub fn volumes_at(
     Ok((rows, rest))
 }
 
-#[tactic(auto, unfolding(lvm_num::specs::DescriptorBytes::volume_at))]
+#[tactic(auto, unfolding(crate::specs::Parts::volume_by_parts))]
 fn volume_at<'a>(
     alloc: Global,
     big: bool,
     earlier: &[LvRow],
     unread: Unread<'a>,
 ) -> Result<(LvRow, Unread<'a>), Fault>
-    ensures { Gives (λ x. (x.0, rest_of x.1)) result (volume_at big earlier.now (rest_of unread.entry)) }
+    ensures { Gives (λ x. (x.0, rest_of x.1)) result (volume_by_parts big earlier.now (rest_of unread.entry)) }
 {
-    let (number, unread) = volume_number_at(big, earlier, unread)?;
-    let (copies, unread) = u8_from_1(3, unread)?;
-    let (mode, unread) = u8_up_to(2, unread)?;
-    let (policy, unread) = u8_up_to(3, unread)?;
-    let unread = zeros_at(3, unread)?;
+    let ((number, copies), unread) = number_and_copies_at(big, earlier, unread)?;
+    let ((mode, policy), unread) = mode_and_policy_at(unread)?;
     let (lps, unread) = lps_at(unread)?;
     let name = name_at(earlier, unread)?;
     let unread = behind(16, unread);
@@ -101,12 +101,35 @@ fn volume_at<'a>(
         number,
         name,
         copies,
-        mode: mode_named(mode),
-        policy: policy_named(policy),
+        mode,
+        policy,
         lps,
         map: Rows::empty(alloc),
     };
     Ok((row, unread))
+}
+
+#[tactic(auto, unfolding(crate::specs::Parts::number_and_copies_at))]
+fn number_and_copies_at<'a>(
+    big: bool,
+    earlier: &[LvRow],
+    unread: Unread<'a>,
+) -> Result<((u16, u8), Unread<'a>), Fault>
+    ensures { Gives (λ x. (x.0, rest_of x.1)) result (number_and_copies_at big earlier.now (rest_of unread.entry)) }
+{
+    let (number, unread) = volume_number_at(big, earlier, unread)?;
+    let (copies, unread) = u8_from_1(3, unread)?;
+    Ok(((number, copies), unread))
+}
+
+#[tactic(auto, unfolding(crate::specs::Parts::mode_and_policy_at))]
+fn mode_and_policy_at(unread: Unread) -> Result<((Mode, Policy), Unread), Fault>
+    ensures { Gives (λ x. (x.0, rest_of x.1)) result (mode_and_policy_at (rest_of unread.entry)) }
+{
+    let (mode, unread) = u8_up_to(2, unread)?;
+    let (policy, unread) = u8_up_to(3, unread)?;
+    let unread = zeros_at(3, unread)?;
+    Ok(((mode_named(mode), policy_named(policy)), unread))
 }
 
 // A number above those of all earlier volumes.
@@ -117,11 +140,13 @@ fn volume_number_at<'a>(
 ) -> Result<(u16, Unread<'a>), Fault>
     ensures { Gives (λ x. (x.0, rest_of x.1)) result (number_at w16 (λ n. nat_le 1 n && nat_le n (most_volumes big) && list_all (λ (row : LvRow). nat_lt row.number n) earlier.now) (rest_of unread.entry)) }
 {
-    let (number, after) = u16_at(unread)?;
-    if number < 1 || number > most_volumes(big) || !is_above(earlier, number) {
+    let read = u16_at(unread);
+    if let Ok((number, _)) = &read
+        && (*number < 1 || *number > most_volumes(big) || !is_above(earlier, *number))
+    {
         return Err(Fault::At(unread.place));
     }
-    Ok((number, after))
+    read
 }
 
 fn is_above(rows: &[LvRow], number: u16) -> bool
@@ -133,11 +158,11 @@ fn is_above(rows: &[LvRow], number: u16) -> bool
 fn lps_at(unread: Unread) -> Result<(u32, Unread), Fault>
     ensures { Gives (λ x. (x.0, rest_of x.1)) result (number_at w32 (λ n. nat_le 1 n) (rest_of unread.entry)) }
 {
-    let (lps, after) = u32_at(unread)?;
-    if lps == 0 {
+    let read = u32_at(unread);
+    if let Ok((0, _)) = &read {
         return Err(Fault::At(unread.place));
     }
-    Ok((lps, after))
+    read
 }
 
 fn mode_named(code: u8) -> Mode

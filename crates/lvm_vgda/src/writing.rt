@@ -5,6 +5,7 @@ ghost use Rattle.lvm_num.specs.declared.descriptor.LvRow.{LvRow};
 ghost use Rattle.lvm_num.specs.Name.{padded};
 ghost use Rattle.lvm_num.specs.Descriptor.{IsValid};
 ghost use Rattle.lvm_num.specs.DescriptorBytes.{flag, mode_code, policy_code, descriptor_magic, member_bytes, volume_bytes, partition_bytes, descriptor_bytes};
+ghost use Rattle.lvm_vgda.specs.Parts.{head_bytes, row_bytes};
 
 use byteorder::{BigEndian, ByteOrder};
 use lvm_num::{Descriptor, LvRow, Memory, Mode, Policy, Pp, PvRow, Rows};
@@ -15,13 +16,30 @@ pub fn encode(alloc: Global, d: &Descriptor) -> Result<Rows<u8>, Memory>
     requires { IsValid d.now }
     ensures { IfOk result (λ bytes. bytes ≡ descriptor_bytes d.now) }
 {
+    let mut out = head(alloc, d)?;
+    put_rows(&mut out, d)?;
+    Ok(Rows::new(out))
+}
+
+// What stands before the rows.
+fn head(alloc: Global, d: &Descriptor) -> Result<Vec<u8>, AllocError>
+    requires members { length d.now.pvs ≤ 128 }
+    requires volumes { length d.now.lvs ≤ 511 }
+    ensures { IfOk result (λ out. out.items ≡ head_bytes d.now) }
+{
     let mut out = Vec::from_slice(alloc, &identity(d))?;
     out.extend_from_slice(d.name.as_field())?;
     out.extend_from_slice(&numbers(d))?;
-    put_members(&mut out, d.pvs.as_slice())?;
-    put_volumes(&mut out, d.lvs.as_slice())?;
-    put_maps(&mut out, d.lvs.as_slice())?;
-    Ok(Rows::new(out))
+    Ok(out)
+}
+
+// The rows and the partitions.
+fn put_rows(out: &mut Vec<u8>, d: &Descriptor) -> Result<(), AllocError>
+    ensures { OnOk result (out.new.items ≡ out.old.items ++ row_bytes d.now) }
+{
+    put_members(out, d.pvs.as_slice())?;
+    put_volumes(out, d.lvs.as_slice())?;
+    put_maps(out, d.lvs.as_slice())
 }
 
 // What stands before the name.
