@@ -1,35 +1,28 @@
 -- The entries of a volume in a session, and the commit between them.
-use Rattle.std.proofs.Common.{◌≡◌, ◌⊎◌, inl, inr, ⊎_elim, ℕ, ◌+◌, ◌-◌, ◌<◌, ◌≤◌, Bool, true, false, List, [], ◌∷◌, ◌++◌, append_assoc, Option, Some, None, Result, Ok, Err, refl, sym, ap, subst, ◌∙◌, arith}
+use Rattle.std.proofs.Common.{◌≡◌, inl, inr, ⊎_elim, ℕ, ◌-◌, ◌≤◌, Bool, true, false, [], ◌∷◌, Option, Some, None, Result, Ok, Err, refl, sym, ap, subst, arith}
 use Rattle.std.specs.Prelude.{IsTrue, IfSome, not, length}
 use Rattle.std.proofs.lemmas.List.Sums.{sum_by-append, count_by-le-length}
 use Rattle.lvm_num.specs.declared.place.Pp.{Pp}
-use Rattle.lvm_num.specs.declared.descriptor.Mode.{Mode}
 use Rattle.lvm_num.specs.declared.descriptor.Descriptor.{Descriptor}
-use Rattle.lvm_num.specs.declared.status.Status.{Status}
 use Rattle.lvm_num.specs.DescriptorBytes.{descriptor_bytes}
-use Rattle.lvm_num.specs.Disks.{Disks}
 use Rattle.lvm_num.specs.declared.descriptor.PvRow.{PvRow}
 use Rattle.lvm_num.specs.Descriptor.{IsValid, most_members}
 use Rattle.lvm_num.specs.Status.{calls_missing}
 use Rattle.lvm_disk.specs.Counts.{RoseBy, NoneFalls}
-use Rattle.lvm_disk.specs.Device.{Media, Image, Device, IsReady, image_of, MayLeave}
-use Rattle.lvm_vol.specs.declared.entry.Vol.TheVariants.{Lv}
-use Rattle.lvm_vol.specs.Facts.{Fact, Making, Made, Removing, Removed}
+use Rattle.lvm_disk.specs.Device.{Media, Image, IsReady, image_of, MayLeave}
+use Rattle.lvm_vol.specs.Facts.{Fact}
 use Rattle.lvm_vol.specs.Legal.{IsLater}
-use Rattle.lvm_vol.specs.Log.{Log, with_fact, cut_log, need, needed, spare_entries}
-use Rattle.lvm_vol.specs.Standing.{Open, volumes_in}
+use Rattle.lvm_vol.specs.Log.{Log, with_fact, need, spare_entries}
 use Rattle.lvm_kept.specs.Contents.{contents_of}
 use Rattle.lvm_kept.specs.Moments.{Moment, StaysCalm}
-use Rattle.lvm_change.specs.Moments.{Begins, Holds, Keeps}
-use Rattle.lvm_change.specs.Requests.{at}
 use Rattle.lvm_change.specs.Entering.{OpensNone}
-use Rattle.lvm_change.proofs.Entering.{calm_goes_on, goes_in_span}
+use Rattle.lvm_change.proofs.Entering.{calm_goes_on}
 use Rattle.lvm_status.specs.Update.{members_there}
 use Rattle.lvm_quorum.specs.Written.{KeepsShelf}
 use Rattle.lvm_quorum.proofs.Transfers.{keeps_here, spends_none}
 use Rattle.lvm_commit.specs.Committed.{HoldsCommitted, IsAlike}
 use Rattle.lvm_commit.specs.LawsOfFinding.{FindsNoMoreOn}
-use Rattle.lvm_commit.specs.LawsOfVolumes.{IsOnlyGroupOn, LeavesCommitted, VolumeServes}
+use Rattle.lvm_commit.specs.LawsOfVolumes.{IsOnlyGroupOn, LeavesCommitted}
 use Rattle.lvm_commit.specs.Settling.{many_there, OnlyLoses, NoneIsLeft, MarksLeft, SpendsNumbers, IsOfCommit}
 use Rattle.lvm_commit.proofs.Still.{still_holds_committed}
 use Rattle.lvm_core.specs.declared.fault.CommitFault.{CommitFault}

@@ -1,6 +1,6 @@
 -- What a command leaves, one call after another.
-use Rattle.std.proofs.Common.{◌≡◌, ◌⊎◌, inl, inr, ⊎_elim, ℕ, ◌+◌, ◌-◌, ◌<◌, ◌≤◌, Bool, true, false, List, Option, refl, sym, ap, subst, ◌∙◌, arith}
-use Rattle.std.specs.Prelude.{◌&&◌, not, IsTrue, IsFalse, map}
+use Rattle.std.proofs.Common.{◌≡◌, inl, inr, ⊎_elim, ℕ, ◌<◌, ◌≤◌, Bool, true, false, List, refl, sym, subst, ◌∙◌, arith}
+use Rattle.std.specs.Prelude.{◌&&◌, not, IsTrue, IsFalse}
 use Rattle.std.proofs.lemmas.Bool.{false≢true}
 use Rattle.lvm_num.specs.declared.place.Pp.{Pp}
 use Rattle.lvm_num.specs.declared.descriptor.Descriptor.{Descriptor}
@@ -8,19 +8,19 @@ use Rattle.lvm_num.specs.declared.status.Status.{Status}
 use Rattle.lvm_num.specs.Buffer.{Sector}
 use Rattle.lvm_num.specs.Disks.{Disks}
 use Rattle.lvm_num.specs.Descriptor.{is_member}
-use Rattle.lvm_num.specs.Status.{calls_stale, calls_missing}
+use Rattle.lvm_num.specs.Status.{calls_missing}
 use Rattle.lvm_disk.specs.Counts.{Rose, NoneFalls}
 use Rattle.lvm_disk.specs.Device.{Device, image_of}
 use Rattle.lvm_kept.specs.Torn.{RecordWrite}
 use Rattle.lvm_kept.specs.Plans.{Plan, ChangesBy}
-use Rattle.lvm_status.specs.Update.{Stored, members_there}
+use Rattle.lvm_status.specs.Update.{members_there}
 use Rattle.lvm_quorum.specs.Written.{KeepsShelf}
 use Rattle.lvm_quorum.proofs.Writing.{logs_wider, both_map, changes_more}
 use Rattle.lvm_quorum.proofs.Transfers.{keeps_here, keeps_then}
 use Rattle.lvm_commit.specs.Settling.{there, IsOfSession, StatesGroup, IsOfStatus, IsOfCommit}
 use Rattle.lvm_core.specs.State.{State, is_there}
 use Rattle.lvm_core.specs.Zeros.{IsZeroOf}
-use Rattle.lvm_group.specs.Endings.{IsOfCommand, KeepsStatus, StampsRise, KeepsHistory, Leaves}
+use Rattle.lvm_group.specs.Endings.{IsOfCommand, StampsRise, Leaves}
 
 -- ---- counts
 

@@ -1,5 +1,5 @@
 -- Which copies are left behind with one volume more, and with one less.
-use Rattle.std.proofs.Common.{◌≡◌, ◌⊎◌, inl, inr, ⊎_elim, ℕ, ◌-◌, ◌*◌, ◌<◌, Bool, true, ◌&&◌, List, [], ◌∷◌, length, get_or, take, drop, refl, sym, ap, subst, ◌∙◌, eq-eqb, arith}
+use Rattle.std.proofs.Common.{◌≡◌, inl, inr, ⊎_elim, ℕ, ◌-◌, ◌*◌, Bool, true, ◌&&◌, List, [], ◌∷◌, get_or, take, drop, refl, sym, ap, subst, ◌∙◌, eq-eqb}
 use Rattle.std.specs.Prelude.{◌==◌, not, IsTrue, IsFalse, All, Contains}
 use Rattle.std.proofs.lemmas.List.Elements.{All-contains}
 use Rattle.lvm_num.specs.declared.place.Pp.{Pp}
@@ -9,7 +9,6 @@ use Rattle.lvm_num.specs.Descriptor.{copies_of, partitions_used}
 use Rattle.lvm_num.specs.Status.{calls_stale}
 use Rattle.lvm_kept.specs.Group.{IsOneOf}
 use Rattle.lvm_stale.specs.Table.{is_pp}
-use Rattle.lvm_left.specs.Marking.{IsLeftIn}
 use Rattle.lvm_status.specs.Update.{Stored}
 use Rattle.lvm_change.proofs.Booleans.{either, clash}
 use Rattle.lvm_commit.specs.LawsOfData.{IsFree}

@@ -1,41 +1,36 @@
 -- A volume is made: its entries, and the descriptor with it, once its partitions are fresh zeros.
-use Rattle.std.proofs.Common.{◌≡◌, ◌≢◌, ◌⊎◌, inl, inr, ⊎_elim, ℕ, zero, suc, ◌+◌, ◌-◌, ◌*◌, ◌<◌, ◌≤◌, Bool, true, false, ◌&&◌, ◌||◌, List, [], ◌∷◌, ◌++◌, append_assoc, Option, Some, None, Result, Ok, Err, length, get_or, refl, sym, ap, subst, ◌∙◌, arith}
+use Rattle.std.proofs.Common.{◌≡◌, inl, inr, ⊎_elim, ℕ, zero, suc, ◌+◌, ◌*◌, ◌<◌, ◌≤◌, Bool, true, false, List, [], ◌∷◌, ◌++◌, append_assoc, Option, Some, None, Result, Ok, Err, length, get_or, refl, sym, ap, subst, ◌∙◌, arith}
 use Rattle.std.specs.Prelude.{not, IsTrue, IsFalse, IfSome, All, AllPairs, Contains, is_some, find, ◌==◌, if◌then◌else◌}
 use Rattle.std.proofs.lemmas.Bool.{eqb-true}
-use Rattle.std.proofs.lemmas.List.Elements.{All-weaker, All-from_get_or}
 use Rattle.lvm_num.specs.declared.place.Pp.{Pp}
 use Rattle.lvm_num.specs.declared.record.Kind.{Kind}
 use Rattle.lvm_num.specs.declared.record.Kind.TheVariants as kind
-use Rattle.lvm_num.specs.declared.descriptor.Mode.{Mode}
 use Rattle.lvm_num.specs.declared.descriptor.PvRow.{PvRow}
-use Rattle.lvm_num.specs.declared.descriptor.LvRow.{LvRow}
 use Rattle.lvm_num.specs.declared.descriptor.Descriptor.{Descriptor}
 use Rattle.lvm_num.specs.declared.status.Status.{Status}
 use Rattle.lvm_num.specs.Buffer.{Sector, zero_sector}
 use Rattle.lvm_num.specs.Geometry.{data_start, volume_blocks}
-use Rattle.lvm_num.specs.Record.{Frames, record_sectors, slot_start, longest_content}
-use Rattle.lvm_num.specs.Descriptor.{IsMember, IsPartitionOf, IsValid, member_of, is_member, volume_of}
+use Rattle.lvm_num.specs.Record.{record_sectors, slot_start, longest_content}
+use Rattle.lvm_num.specs.Descriptor.{IsMember, is_member, volume_of}
 use Rattle.lvm_num.specs.DescriptorBytes.{descriptor_bytes}
 use Rattle.lvm_num.specs.Status.{calls_stale}
 use Rattle.lvm_num.specs.Votes.{CanWrite}
-use Rattle.lvm_disk.specs.Device.{Media, Device, image_of}
+use Rattle.lvm_disk.specs.Device.{Media, image_of}
 use Rattle.lvm_vol.specs.Facts.{Fact, Making, Made}
 use Rattle.lvm_vol.specs.Log.{Log, with_fact, cut_log}
 use Rattle.lvm_vol.specs.Standing.{Open, Volume, volumes_in}
 use Rattle.lvm_kept.specs.Contents.{contents_of}
 use Rattle.lvm_kept.specs.Kept.{Kept}
 use Rattle.lvm_kept.specs.Moments.{Moment}
-use Rattle.lvm_kept.specs.Torn.{RecordWrite, IsOfRecord}
 use Rattle.lvm_map.specs.FirstFit.{IsAllocated, new_volume}
-use Rattle.lvm_change.specs.Moments.{Begins, Holds, Keeps}
 use Rattle.lvm_change.proofs.Making.{media_may}
 use Rattle.lvm_status.specs.Update.{members_there}
 use Rattle.lvm_quorum.specs.Written.{KeepsShelf}
 use Rattle.lvm_quorum.proofs.Transfers.{darkened_then, given_up_then}
 use Rattle.lvm_commit.specs.Committed.{ShowsCommitted, HoldsCommitted}
-use Rattle.lvm_commit.specs.LawsOfData.{IsFree, IsSectorOf}
-use Rattle.lvm_commit.specs.LawsOfVolumes.{IsOnlyGroupOn, VolumeServes}
-use Rattle.lvm_commit.specs.Settling.{there, NoneIsLeft, MarksLeft, IsOfCommit}
+use Rattle.lvm_commit.specs.LawsOfData.{IsSectorOf}
+use Rattle.lvm_commit.specs.LawsOfVolumes.{VolumeServes}
+use Rattle.lvm_commit.specs.Settling.{NoneIsLeft, MarksLeft, IsOfCommit}
 use Rattle.lvm_commit.proofs.Volumes.{volume_begins_in_session, volume_is_made_in_session}
 use Rattle.lvm_core.specs.declared.fault.CommitFault.{CommitFault}
 use Rattle.lvm_core.specs.declared.fault.CommitFault.TheVariants as commit
@@ -43,13 +38,12 @@ use Rattle.lvm_core.specs.State.{Core, State, is_there}
 use Rattle.lvm_core.specs.Held.{IsHeld}
 use Rattle.lvm_core.specs.Settled.{IsSettled}
 use Rattle.lvm_core.specs.Committing.{LetsCommit, HasCommitted, CommitEnds}
-use Rattle.lvm_core.specs.Zeros.{IsZeroed}
 use Rattle.lvm_group.specs.declared.new_volume.NewVolume.{NewVolume}
 use Rattle.lvm_group.specs.declared.new_volume.VolumePlan.{VolumePlan}
 use Rattle.lvm_group.specs.NewVolume.{row_for, with_volume}
 use Rattle.lvm_group.specs.Endings.{StillHeld}
 use Rattle.lvm_group.specs.PlannedVolume.{IsPlannedVolume}
-use Rattle.lvm_group.specs.Stages.{Goes, IfOn, AreUnusedOn, AreCleared, ClearEnds, making_of, IsNamed, MakeEnds}
+use Rattle.lvm_group.specs.Stages.{Goes, AreUnusedOn, AreCleared, ClearEnds, making_of, IsNamed, MakeEnds}
 use Rattle.lvm_group.specs.Volumes.{AreZeroed}
 use Rattle.lvm_group.proofs.Groups.{size_positive}
 use Rattle.lvm_group.proofs.Leaving.{rose_from, there_before, wider}

@@ -1,32 +1,28 @@
 -- A volume is removed: its entries, and the descriptor without it.
-use Rattle.std.proofs.Common.{◌≡◌, ◌⊎◌, inl, inr, ⊎_elim, ℕ, ◌+◌, ◌-◌, ◌<◌, ◌≤◌, Bool, true, false, List, [], ◌∷◌, ◌++◌, append_assoc, Option, Some, None, Result, Ok, Err, refl, sym, ap, subst, ◌∙◌, arith}
+use Rattle.std.proofs.Common.{◌≡◌, ℕ, List, [], ◌∷◌, ◌++◌, append_assoc, Option, Some, None, Result, Ok, Err, refl, sym, ap, subst, ◌∙◌}
 use Rattle.std.specs.Prelude.{IsTrue, IfSome}
 use Rattle.lvm_num.specs.declared.place.Pp.{Pp}
 use Rattle.lvm_num.specs.declared.descriptor.Descriptor.{Descriptor}
 use Rattle.lvm_disk.specs.Device.{Media, image_of}
 use Rattle.lvm_vol.specs.declared.entry.Vol.TheVariants.{Lv}
 use Rattle.lvm_vol.specs.Facts.{Fact, Removing, Removed}
-use Rattle.lvm_vol.specs.Log.{Log, with_fact, cut_log}
+use Rattle.lvm_vol.specs.Log.{with_fact}
 use Rattle.lvm_kept.specs.Contents.{contents_of}
 use Rattle.lvm_kept.specs.Moments.{Moment}
-use Rattle.lvm_change.specs.Moments.{Begins, Holds, Keeps}
 use Rattle.lvm_change.proofs.Entering.{goes_in_span}
-use Rattle.lvm_quorum.proofs.Transfers.{spends_then}
-use Rattle.lvm_commit.specs.LawsOfVolumes.{IsOnlyGroupOn, VolumeServes}
+use Rattle.lvm_commit.specs.LawsOfVolumes.{VolumeServes}
 use Rattle.lvm_commit.specs.Settling.{NoneIsLeft}
 use Rattle.lvm_commit.proofs.Volumes.{volume_is_gone_in_session}
 use Rattle.lvm_core.specs.declared.fault.CommitFault.{CommitFault}
 use Rattle.lvm_core.specs.declared.fault.CommitFault.TheVariants as commit
 use Rattle.lvm_core.specs.State.{Core, State, is_there}
-use Rattle.lvm_core.specs.Held.{IsHeld}
 use Rattle.lvm_core.specs.Settled.{IsSettled}
-use Rattle.lvm_core.specs.Committing.{moment_of, SpanGoesOn, LetsCommit, HasCommitted, CommitEnds}
+use Rattle.lvm_core.specs.Committing.{LetsCommit, HasCommitted, CommitEnds}
 use Rattle.lvm_num.specs.Descriptor.{is_member}
 use Rattle.lvm_group.specs.NewVolume.{without_volume}
-use Rattle.lvm_group.specs.Endings.{StillHeld, EndsDark, EndsOff, EndsStuck}
+use Rattle.lvm_group.specs.Endings.{StillHeld}
 use Rattle.lvm_group.specs.PlannedVolume.{IsWithout}
-use Rattle.lvm_group.specs.Stages.{Goes, IfOn, IsUnnamed, RemoveEnds}
-use Rattle.lvm_group.specs.Volumes.{removing}
+use Rattle.lvm_group.specs.Stages.{Goes, IsUnnamed, RemoveEnds}
 use Rattle.lvm_group.proofs.Going.{goes_then, still_then}
 use Rattle.lvm_group.proofs.Zeroing.{dark_history}
 use Rattle.lvm_group.proofs.Serving.{old_serves}

@@ -1,7 +1,7 @@
 -- What a descriptor with a new volume, or without an old one, needs of the history and the disks.
-use Rattle.std.proofs.Common.{◌≡◌, ◌⊎◌, inl, inr, ⊎_elim, ℕ, ◌+◌, ◌-◌, ◌*◌, ◌/◌, ◌%◌, ◌<◌, ◌≤◌, Bool, true, false, ◌&&◌, ◌||◌, append_assoc, List, [], ◌∷◌, ◌++◌, Option, Some, None, length, get_or, refl, sym, ap, subst, ◌∙◌, eq-eqb, arith}
-use Rattle.std.specs.Prelude.{◌==◌, not, find, nat_lt, IsTrue, IsFalse, IfSome, All, Contains, if◌then◌else◌}
-use Rattle.std.proofs.lemmas.Bool.{false≢true, cases_lt}
+use Rattle.std.proofs.Common.{◌≡◌, inl, inr, ⊎_elim, ℕ, ◌+◌, ◌-◌, ◌*◌, ◌%◌, ◌<◌, ◌≤◌, Bool, true, false, ◌&&◌, List, [], ◌∷◌, ◌++◌, Option, Some, None, length, get_or, refl, sym, ap, subst, ◌∙◌, eq-eqb, arith}
+use Rattle.std.specs.Prelude.{◌==◌, find, nat_lt, IsTrue, IsFalse, All, if◌then◌else◌}
+use Rattle.std.proofs.lemmas.Bool.{false≢true}
 use Rattle.std.proofs.lemmas.Bool.Decides.{nat_tests}
 use Rattle.std.proofs.lemmas.List.Elements.{All-contains}
 use Rattle.std.proofs.Math.Nat.{div-lt_iff_lt-mul, mul_comm}
@@ -10,17 +10,17 @@ use Rattle.lvm_num.specs.declared.descriptor.Mode.{Mode}
 use Rattle.lvm_num.specs.declared.descriptor.LvRow.{LvRow}
 use Rattle.lvm_num.specs.declared.descriptor.Descriptor.{Descriptor}
 use Rattle.lvm_num.specs.declared.status.Status.{Status}
-use Rattle.lvm_num.specs.Buffer.{Sector, zero_sector}
+use Rattle.lvm_num.specs.Buffer.{zero_sector}
 use Rattle.lvm_num.specs.Disks.{Disks}
-use Rattle.lvm_num.specs.Geometry.{data_start, partition_blocks, partition_of, sector_of, volume_blocks}
+use Rattle.lvm_num.specs.Geometry.{partition_blocks, sector_of, volume_blocks}
 use Rattle.lvm_num.specs.Descriptor.{IsValid, copies_of, volume_of}
 use Rattle.lvm_num.specs.Status.{calls_stale}
 use Rattle.lvm_num.specs.Votes.{CanWrite}
 use Rattle.lvm_vol.specs.declared.entry.Vol.TheVariants.{Lv}
 use Rattle.lvm_vol.specs.Facts.{Fact, Making, Removing, Cut}
-use Rattle.lvm_vol.specs.May.{Known, known, IsValue, change, cut}
-use Rattle.lvm_vol.specs.Standing.{Standing, Open, Volume, no_volumes, volumes_after_fact, volumes_in, put}
-use Rattle.lvm_disk.specs.Device.{Media, Image, image_of}
+use Rattle.lvm_vol.specs.May.{Known, known, IsValue, cut}
+use Rattle.lvm_vol.specs.Standing.{Standing, Open, Volume, no_volumes, volumes_after_fact, volumes_in}
+use Rattle.lvm_disk.specs.Device.{Media, image_of}
 use Rattle.lvm_kept.specs.Contents.{Contents, contents_of}
 use Rattle.lvm_kept.specs.Group.{block_at, IsBlockOf, IsOneOf}
 use Rattle.lvm_kept.specs.Kept.{StandsAs, Kept}
@@ -30,7 +30,6 @@ use Rattle.lvm_kept.proofs.Values.{known_more}
 use Rattle.lvm_change.specs.Committing.{IsServed}
 use Rattle.lvm_change.proofs.Entries.{volumes-append}
 use Rattle.lvm_change.proofs.VolumeEntries.{zeros_serve}
-use Rattle.lvm_map.specs.FirstFit.{IsAllocated}
 use Rattle.lvm_commit.specs.Committed.{ShowsCommitted}
 use Rattle.lvm_commit.specs.LawsOfData.{IsSectorOf}
 use Rattle.lvm_commit.specs.LawsOfVolumes.{VolumeServes, HasFreshCopies}

@@ -1,13 +1,11 @@
 -- Zeros, one partition after another.
-use Rattle.std.proofs.Common.{◌≡◌, ◌⊎◌, inl, inr, ⊎_elim, ℕ, ◌+◌, ◌-◌, ◌<◌, ◌≤◌, Bool, true, false, List, [], Option, Some, None, Result, Ok, Err, length, take, get_or, refl, sym, ap, subst, ◌∙◌, eq-eqb, arith}
+use Rattle.std.proofs.Common.{◌≡◌, inl, inr, ℕ, ◌-◌, ◌≤◌, List, Result, Ok, Err, sym, ap, subst, ◌∙◌, arith}
 use Rattle.std.specs.Prelude.{◌==◌, IsTrue, IsFalse, All, Contains}
 use Rattle.std.proofs.lemmas.Bool.{eqb-true, false≢true}
 use Rattle.lvm_num.specs.declared.place.Pp.{Pp}
 use Rattle.lvm_num.specs.declared.descriptor.Descriptor.{Descriptor}
-use Rattle.lvm_num.specs.declared.status.Status.{Status}
-use Rattle.lvm_num.specs.Buffer.{Sector}
 use Rattle.lvm_num.specs.Status.{calls_stale, calls_missing}
-use Rattle.lvm_disk.specs.Counts.{Rose, RoseBy, NoneFalls}
+use Rattle.lvm_disk.specs.Counts.{RoseBy, NoneFalls}
 use Rattle.lvm_vol.specs.Log.{Log, cut_log}
 use Rattle.lvm_kept.specs.Moments.{Moment, StaysCalm}
 use Rattle.lvm_status.specs.Update.{Stored}
@@ -22,7 +20,7 @@ use Rattle.lvm_core.specs.Held.{IsHeld}
 use Rattle.lvm_core.specs.Settled.{IsSettled}
 use Rattle.lvm_core.specs.Committing.{moment_of, SpanGoesOn, StaysBehind, HasGoneDark}
 use Rattle.lvm_core.specs.Zeros.{IsZeroOf, ZeroEnds}
-use Rattle.lvm_group.specs.Endings.{IsOfCommand, KeepsStatus, KeepsHistory, FindsOnly, StillHeld}
+use Rattle.lvm_group.specs.Endings.{IsOfCommand, KeepsStatus, KeepsHistory, StillHeld}
 use Rattle.lvm_group.specs.Stages.{Goes}
 use Rattle.lvm_group.proofs.Leaving.{wider}
 use Rattle.lvm_group.proofs.Going.{keeps_same, keeps_cut, dark_is_cut, finds_nothing, only_still}

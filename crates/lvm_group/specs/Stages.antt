@@ -1,5 +1,5 @@
 -- The stages in which a volume is made or removed on a session.
-use Rattle.std.specs.Prelude.{◌≡◌, ◌≢◌, ◌⊎◌, ℕ, ◌<◌, ◌≤◌, List, [], Result, Ok, Err, IsTrue, IsFalse, All, AllPairs}
+use Rattle.std.specs.Prelude.{◌≡◌, ◌≢◌, ◌⊎◌, ℕ, ◌<◌, ◌≤◌, List, Result, Ok, Err, IsTrue, IsFalse, All, AllPairs}
 use Rattle.lvm_num.specs.declared.place.Pp.{Pp}
 use Rattle.lvm_num.specs.declared.descriptor.Descriptor.{Descriptor}
 use Rattle.lvm_num.specs.declared.status.Status.{Status}
@@ -8,7 +8,7 @@ use Rattle.lvm_num.specs.Status.{calls_stale, calls_missing}
 use Rattle.lvm_disk.specs.Counts.{Rose, NoneFalls}
 use Rattle.lvm_disk.specs.Device.{IsReady}
 use Rattle.lvm_vol.specs.declared.entry.Vol.TheVariants.{Lv}
-use Rattle.lvm_vol.specs.Facts.{Fact, Making, Made, Removing, Removed}
+use Rattle.lvm_vol.specs.Facts.{Making, Made, Removed}
 use Rattle.lvm_vol.specs.Log.{Log, with_fact}
 use Rattle.lvm_map.specs.FirstFit.{is_on}
 use Rattle.lvm_quorum.specs.Parts.{Spends}
@@ -21,7 +21,7 @@ use Rattle.lvm_core.specs.Committing.{HasGoneDark, IsLeftOut}
 use Rattle.lvm_core.specs.Zeros.{IsAsBefore}
 use Rattle.lvm_group.specs.declared.new_volume.NewVolume.{NewVolume}
 use Rattle.lvm_group.specs.declared.new_volume.VolumePlan.{VolumePlan}
-use Rattle.lvm_group.specs.Endings.{EndsDark, EndsOff, EndsStuck, EndsFailed, Leaves, KeepsSpans, FindsOnly, StillHeld}
+use Rattle.lvm_group.specs.Endings.{EndsDark, EndsOff, EndsStuck, EndsFailed, Leaves, KeepsSpans, FindsOnly}
 use Rattle.lvm_group.specs.PlannedVolume.{IsPlannedVolume}
 use Rattle.lvm_group.specs.Volumes.{AreZeroed, removing}
 

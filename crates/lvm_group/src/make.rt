@@ -15,7 +15,7 @@ ghost use Rattle.lvm_core.specs.Starting.{IsRoom, first_core};
 ghost use Rattle.lvm_group.specs.NewGroup.{given_up};
 ghost use Rattle.lvm_group.specs.Planned.{group_of, IsPlannedFor, RefusesPlan};
 ghost use Rattle.lvm_group.specs.Made.{Refuses};
-ghost use Rattle.lvm_group.specs.Steps.{cut_at, Stands};
+ghost use Rattle.lvm_group.specs.Steps.{cut_at, standing_of, Stands};
 
 use crate::checks::size_to_begin;
 use crate::look::{Free, look};
@@ -73,11 +73,21 @@ pub fn make<S: Shelf>(
     ensures waited { RoseBy (patience.old.left - patience.new.left) (S.device shelf.old).counts.waits (S.device shelf.new).counts.waits }
 {
     let plan = plan_for(alloc, shelf, history.spare_entries(), asked, disks, moment)?;
-    let homes = bring(alloc, shelf, history, asked, disks, moment, &plan, patience)?;
-    Ok(Standing {
-        parts: plan.parts,
-        homes,
-    })
+    let brought = bring(alloc, shelf, history, asked, disks, moment, &plan, patience);
+    start_with(plan, brought)
+}
+
+// What the session of a plan starts with, where its records were written.
+fn start_with(plan: Plan, brought: Result<Homes, Cause>) -> Result<Standing, Cause>
+    ensures { result ≡ standing_of plan.parts brought }
+{
+    match brought {
+        Ok(homes) => Ok(Standing {
+            parts: plan.parts,
+            homes,
+        }),
+        Err(why) => Err(why),
+    }
 }
 
 // Plans a group, with so many entries to spare, unless something stands against it before any disk is read.

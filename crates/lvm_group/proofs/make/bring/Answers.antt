@@ -1,15 +1,11 @@
-use Rattle.std.proofs.Common.{◌≡◌, ℕ, List, Option, ◌≤◌, IsTrue, Result, sym, ap, subst, ◌∙◌}
+use Rattle.std.proofs.Common.{◌≡◌, Result, sym, ap, subst, ◌∙◌}
 use Rattle.std.proofs.lemmas.Result.{err_from_is_err_and}
-use Rattle.lvm_num.specs.Descriptor.{is_size}
-use Rattle.lvm_group.proofs.Groups.{size_positive}
 use Rattle.lvm_vol.specs.Log.{Log, spare_entries}
 use Rattle.lvm_kept.specs.Moments.{StaysCalm}
 use Rattle.lvm_change.specs.Moments.{Keeps}
 use Rattle.lvm_change.specs.Requests.{at}
-use Rattle.lvm_change.proofs.Spans.{keeps_still}
-use Rattle.lvm_stamps.proofs.Clock.{all_is_behind_next}
 use Rattle.lvm_core.specs.declared.refused.Cause.{Cause}
-use Rattle.lvm_group.specs.NewGroup.{NewGroup, size_for, given_up, MayBegin}
+use Rattle.lvm_group.specs.NewGroup.{NewGroup, given_up}
 use Rattle.lvm_group.specs.Planned.{group_of, IsPlannedFor}
 use Rattle.lvm_group.specs.Steps.{IsFree, cut_at}
 use Rattle.lvm_group.specs.declared.look.Free.{Free}

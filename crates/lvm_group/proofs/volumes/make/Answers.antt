@@ -1,11 +1,10 @@
-use Rattle.std.proofs.Common.{◌≡◌, ◌+◌, ◌<◌, ◌≤◌, ℕ, List, [], Result, Ok, Err, refl, sym, ap, subst, ◌∙◌, arith}
+use Rattle.std.proofs.Common.{◌≡◌, ◌≤◌, ℕ, List, [], Err, refl, sym, ap, subst, ◌∙◌, arith}
 use Rattle.std.specs.Prelude.{Contains}
 use Rattle.std.proofs.lemmas.Result.{err_from_is_err_and}
 use Rattle.lvm_num.specs.declared.place.Pp.{Pp}
 use Rattle.lvm_num.specs.declared.descriptor.Descriptor.{Descriptor}
 use Rattle.lvm_num.specs.DescriptorBytes.{descriptor_bytes}
 use Rattle.lvm_vol.specs.Facts.{Fact, Making, Made}
-use Rattle.lvm_vol.specs.Log.{Log, spare_entries}
 use Rattle.lvm_kept.specs.Moments.{Moment}
 use Rattle.lvm_quorum.specs.Written.{KeepsShelf}
 use Rattle.lvm_commit.specs.Settling.{many_there, NoneIsLeft, MarksLeft, IsOfCommit}
@@ -20,7 +19,7 @@ use Rattle.lvm_group.specs.Endings.{StillHeld}
 use Rattle.lvm_group.specs.PlannedVolume.{IsPlannedVolume}
 use Rattle.lvm_group.specs.Stages.{Goes, AreUnusedOn, AreCleared, ClearEnds, IsNamed}
 use Rattle.lvm_group.proofs.Zeroing.{NoNext}
-use Rattle.lvm_group.proofs.Entering.{entered, spare_more, settled_entered, commit_goes, commit_still, many_bound, has_numbers}
+use Rattle.lvm_group.proofs.Entering.{entered, settled_entered, commit_goes, commit_still, many_bound, has_numbers}
 use Rattle.lvm_group.proofs.Naming.{plan_unused, clear_break_goes, clear_break, lets_make, none_named, break_goes, make_break, make_goes, make_still, make_named}
 use Rattle.lvm_group.proofs.volumes.make.Goals as goal
 

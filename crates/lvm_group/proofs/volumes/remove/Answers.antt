@@ -1,9 +1,8 @@
-use Rattle.std.proofs.Common.{◌≡◌, ◌<◌, ◌≤◌, ℕ, [], Result, Ok, Err, refl, sym, ap, subst, ◌∙◌, arith}
+use Rattle.std.proofs.Common.{◌≡◌, ℕ, [], Err, refl, sym, ap, subst, ◌∙◌, arith}
 use Rattle.std.proofs.lemmas.Result.{err_from_is_err_and}
 use Rattle.lvm_num.specs.declared.descriptor.Descriptor.{Descriptor}
 use Rattle.lvm_vol.specs.declared.entry.Vol.TheVariants.{Lv}
 use Rattle.lvm_vol.specs.Facts.{Fact, Removing, Removed}
-use Rattle.lvm_vol.specs.Log.{Log, spare_entries}
 use Rattle.lvm_kept.specs.Moments.{Moment}
 use Rattle.lvm_commit.specs.Settling.{NoneIsLeft}
 use Rattle.lvm_core.specs.declared.fault.CommitFault.{CommitFault}
@@ -12,9 +11,8 @@ use Rattle.lvm_core.specs.Settled.{IsSettled, HasNumbers}
 use Rattle.lvm_core.specs.Committing.{LetsCommit, HasCommitted, CommitEnds}
 use Rattle.lvm_group.specs.Endings.{StillHeld}
 use Rattle.lvm_group.specs.PlannedVolume.{IsWithout}
-use Rattle.lvm_group.specs.Stages.{Goes, IsUnnamed, RemoveEnds}
-use Rattle.lvm_group.specs.NewVolume.{without_volume}
-use Rattle.lvm_group.proofs.Entering.{entered, spare_more, settled_entered, commit_goes, commit_still, has_numbers}
+use Rattle.lvm_group.specs.Stages.{Goes, IsUnnamed}
+use Rattle.lvm_group.proofs.Entering.{entered, settled_entered, commit_goes, commit_still, has_numbers}
 use Rattle.lvm_group.proofs.Removing.{NoZeros, lets_remove, none_unnamed, break_goes, remove_break, remove_goes, remove_still, removed}
 use Rattle.lvm_group.proofs.volumes.remove.Goals as goal
 
