@@ -1,4 +1,5 @@
 pub mod Blocks
+pub mod Ends
 pub mod Finding
 pub mod First
 pub mod FirstMedia

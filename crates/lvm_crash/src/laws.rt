@@ -2,7 +2,7 @@
 ghost use Rattle.lvm_crash.specs.First.{GroupsHaveVotes, FirstIsDescribed, FirstMatches};
 ghost use Rattle.lvm_crash.specs.Standing.{CommittedIsFound};
 ghost use Rattle.lvm_crash.specs.Lasting.{DescriptionLasts, StatusesLast};
-ghost use Rattle.lvm_crash.specs.Laws.{WhatRemainsIsKept, CrashImagesRemain, CrashImagesAreKept, LastImagesAreKept};
+ghost use Rattle.lvm_crash.specs.Laws.{WhatRemainsIsKept, CrashImagesRemain, CrashImagesAreKept, LastImagesAreKept, CutIsKept, OffIsKept};
 
 /// Where the state of a session describes what stands on the disks, whatever a loss of power may leave of it
 /// keeps the history: it agrees with it, and goes on doing so whichever disks answer next.
@@ -22,6 +22,13 @@ pub fn crash_images_remain()
 pub fn crash_images_are_kept()
     ensures on { CrashImagesAreKept }
     ensures over { LastImagesAreKept }
+{}
+
+/// At each moment of the end of a session, from its last matching shelf on: after a cut of the power, after each
+/// landing as Dark, and after each landing as Off, each crash image keeps the history.
+pub fn ends_are_kept()
+    ensures cut { CutIsKept }
+    ensures off { OffIsKept }
 {}
 
 /// Where disks with votes enough to write show a descriptor of the group and no disk a later one, whichever

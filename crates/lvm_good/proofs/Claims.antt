@@ -180,10 +180,6 @@ OpenKeepsCore = (s : State) (o : OpenCopy) → Opens s o → Sound s → Sound (
 abbrev pub ClearKeepsCore : Type 0
 ClearKeepsCore = (s : State) (wanted : Marks) (c : Pp) → Clears s wanted c → Sound s → Sound (record s { wanted = wanted })
 
--- After the power went off, or the votes were lost and no flight is out: what is known then allows what the disks show.
-abbrev pub OffIsKept : Type 0
-OffIsKept = (s : State) (v : View) (after : ℕ → ℕ → Known) (marks : Marks) (lv b : ℕ) → Sound s → IsCrash s v → Widens s after → IsPossible s marks → BlockKept s v marks (cut b (after lv b)) lv b
-
 -- A write that has started has a target that is fresh by all three statuses: rule 7 always has a copy that stays fresh.
 pub record KeptTarget (s : State) (r : Queued) : Type 0 where
   pub copy : Pp

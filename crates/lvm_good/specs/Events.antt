@@ -16,6 +16,7 @@ use Rattle.lvm_good.specs.EndStep.{StepEnds}
 use Rattle.lvm_good.specs.LandReadFailed.{ReadFails, read_failed}
 use Rattle.lvm_good.specs.Transfer.{Restages, restaged}
 use Rattle.lvm_good.specs.Take.{Takes, taken}
+use Rattle.lvm_good.specs.TakeEarlier.{TakesEarlier, taken_earlier}
 use Rattle.lvm_good.specs.Updates.{with_req, land}
 use Rattle.lvm_good.specs.EndUpdate.{UpdateEnds}
 use Rattle.lvm_good.specs.Read.{Reads, reading}
@@ -50,6 +51,7 @@ pub data Event : Type 0 where
   LandNoFresh : (i : ℕ) (r : Queued) → Event
   EndStep : (i : ℕ) (r : Queued) → Event
   Take : (i : ℕ) (r : Queued) → Event
+  TakeEarlier : (q : Request) → Event
   Want : (wanted : Marks) (missing : ℕ → Bool) (open_copy : Option OpenCopy) → Event
   BeginUpdate : (u : Stamped Marks) → Event
   MoveStatus : (u : Stamped Marks) (status : ℕ → Option (Stamped Marks)) (flying : ℕ → Bool) → Event
@@ -77,6 +79,7 @@ Step votes (LandReadFailed i r) s new = ReadFails s i r × (new ≡ read_failed 
 Step votes (LandNoFresh i r) s new = FindsNoFresh s i r × (new ≡ no_fresh s i r)
 Step votes (EndStep i r) s new = StepEnds s i r × (new ≡ with_req s i (land r))
 Step votes (Take i r) s new = Takes s i r × (new ≡ taken s i r)
+Step votes (TakeEarlier q) s new = TakesEarlier s q × (new ≡ taken_earlier s q)
 Step votes (Want wanted missing open_copy) s new = Wants s wanted missing open_copy × (new ≡ after_wants s wanted missing open_copy)
 Step votes (BeginUpdate u) s new = Begins s u × (new ≡ record s { in_flight = Some u })
 Step votes (MoveStatus u status flying) s new = Moves s u status × (new ≡ moved s status flying)

@@ -19,6 +19,7 @@ pub mod LandReadFailed
 pub mod LandNoFresh
 pub mod EndStep
 pub mod Take
+pub mod TakeEarlier
 pub mod Want
 pub mod BeginUpdate
 pub mod MoveStatus

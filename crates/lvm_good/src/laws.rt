@@ -14,6 +14,7 @@ ghost use Rattle.lvm_good.specs.LandReadFailed.{LandReadFailedKeeps};
 ghost use Rattle.lvm_good.specs.LandNoFresh.{LandNoFreshKeeps};
 ghost use Rattle.lvm_good.specs.EndStep.{EndStepKeeps};
 ghost use Rattle.lvm_good.specs.Take.{TakeKeeps};
+ghost use Rattle.lvm_good.specs.TakeEarlier.{TakeEarlierKeeps};
 ghost use Rattle.lvm_good.specs.Want.{WantKeeps};
 ghost use Rattle.lvm_good.specs.BeginUpdate.{BeginUpdateKeeps};
 ghost use Rattle.lvm_good.specs.MoveStatus.{MoveStatusKeeps};
@@ -96,9 +97,11 @@ pub fn step_ends()
     ensures { EndStepKeeps }
 {}
 
-/// The answer of a request that has landed is taken, or a step that has ended leaves the queue.
+/// The answer of a request that has landed is taken, or a step that has ended leaves the queue; or the
+/// answer of a request of an earlier session is taken while this one is on.
 pub fn answer_is_taken()
-    ensures { TakeKeeps }
+    ensures own { TakeKeeps }
+    ensures earlier { TakeEarlierKeeps }
 {}
 
 /// More staleness is wanted, disks become missing, the copy that is brought up ends.
@@ -174,13 +177,15 @@ pub fn first_is_good()
 {}
 
 /// Where the votes are lost and no flight is out, each open request lands as Off, with its data
-/// started or not. The history is legal then, and what the disks may show agrees with it.
+/// started or not. The history is legal then, and what the disks may show agrees with it; and so it is
+/// between any two of the landings.
 pub fn group_goes_off()
     ensures { OffKeeps }
 {}
 
 /// Where the power is cut, whatever is out, each open request lands as Dark. The history is legal then,
-/// and each image that the cut may leave agrees with it.
+/// and each image that the cut may leave agrees with it; and so it is right after the cut, and between
+/// any two of the landings.
 pub fn power_is_cut()
     ensures { CutKeeps }
 {}
