@@ -4,11 +4,10 @@ use Rattle.std.specs.Prelude.{◌≡◌, ◌⊎◌, ℕ, Bool, List, Option, Som
 use Rattle.lvm_num.specs.declared.place.Pp.{Pp}
 use Rattle.lvm_num.specs.Geometry.{track_group_of}
 use Rattle.lvm_num.specs.Record.{Stamped, stamp_lt}
-use Rattle.lvm_vol.specs.May.{Known, cut, IsValue}
-use Rattle.lvm_good.specs.State.{write_of, Marks, Groups, View, OpenCopy, StepWrite, Phase, Stage, Queued, State, covers, request_of, is_past, has_landed, is_pinning, Live, Named, Started, told}
+use Rattle.lvm_vol.specs.May.{IsValue}
+use Rattle.lvm_good.specs.State.{write_of, Marks, Groups, OpenCopy, StepWrite, Phase, Stage, Queued, State, covers, request_of, is_past, has_landed, is_pinning, Live, Named, Started, told}
 use Rattle.lvm_good.specs.Sound.{StaysFresh, Blocks, Tied, Statuses, Holds, Sound, Nearly}
 use Rattle.lvm_good.proofs.Effects.{DoneEffect, LostEffect, ChangeEffect, GotEffect, JoinEffect}
-use Rattle.lvm_good.specs.Crash.{IsCrash, Widens, IsPossible, BlockKept}
 use Rattle.lvm_vol.specs.Facts.{Fact, Request}
 use Rattle.lvm_good.specs.EndNote.{EndsNote}
 use Rattle.lvm_good.specs.CopyWrite.{CopyWrites}

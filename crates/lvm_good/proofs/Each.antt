@@ -35,7 +35,7 @@ use Rattle.lvm_good.specs.Open.{OpenKeeps}
 use Rattle.lvm_good.specs.LandGot.{LandGotKeeps}
 use Rattle.lvm_good.specs.LandLost.{LandLostKeeps}
 use Rattle.lvm_good.specs.Submit.{SubmitKeeps}
-use Rattle.lvm_good.specs.State.{Phase, Held, WantEntry, Ready, Going, Landed, Queued, State, covers, is_held, is_past, has_landed, is_pinning}
+use Rattle.lvm_good.specs.State.{Phase, Held, WantEntry, Ready, Going, Landed, Queued, State, covers, is_past, has_landed, is_pinning}
 use Rattle.lvm_good.specs.Pin.{PinKeeps}
 use Rattle.lvm_good.specs.Good.{Good}
 use Rattle.lvm_good.specs.MoveStatus.{MoveStatusKeeps}

@@ -32,6 +32,7 @@ pub mod CopyWrite
 pub mod Clear
 pub mod Events
 pub mod First
+pub mod Worked
 pub mod Over
 pub mod Off
 pub mod Cut
