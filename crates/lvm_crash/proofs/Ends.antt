@@ -1,5 +1,5 @@
 -- At each moment of the end of a session its state goes on describing the disks.
-use Rattle.std.proofs.Common.{◌≡◌, inl, inr, ℕ, Bool, List, [], ◌∷◌, ◌++◌, Option, Some, None, refl, sym, ap, subst, ◌∙◌, append_assoc, append-nil}
+use Rattle.std.proofs.Common.{inl, inr, ℕ, Bool, List, [], ◌∷◌, ◌++◌, Option, Some, None, refl, sym, ap, subst, ◌∙◌, append_assoc, append-nil}
 use Rattle.lvm_num.specs.declared.descriptor.Descriptor.{Descriptor}
 use Rattle.lvm_num.specs.declared.status.Status.{Status}
 use Rattle.lvm_num.specs.Record.{Stamped}
@@ -8,19 +8,18 @@ use Rattle.lvm_num.specs.Buffer.{Sector}
 use Rattle.lvm_vol.specs.declared.entry.Vol.TheVariants.{Disk, Lv}
 use Rattle.lvm_vol.specs.declared.entry.Outcome.{Outcome}
 use Rattle.lvm_vol.specs.declared.entry.Outcome.TheVariants as outcome
-use Rattle.lvm_vol.specs.Facts.{Fact, Landed as HasLanded, Cut, Stands, block_of, Request}
+use Rattle.lvm_vol.specs.Facts.{Fact, Landed as HasLanded, Cut, Stands}
 use Rattle.lvm_vol.specs.May.{Known, known, cut, also, May}
-use Rattle.lvm_vol.specs.Standing.{Volume, no_volumes, volumes_in}
+use Rattle.lvm_vol.specs.Standing.{Volume, no_volumes}
 use Rattle.lvm_vol.proofs.Knowing.{known-push}
 use Rattle.lvm_kept.specs.Contents.{Contents}
 use Rattle.lvm_kept.specs.Kept.{StandsAs}
 use Rattle.lvm_good.specs.State.{State}
 use Rattle.lvm_good.specs.Found.{Votes}
 use Rattle.lvm_good.specs.Good.{Good}
-use Rattle.lvm_good.specs.Over.{IsUnlanded, AreOpen, landings}
+use Rattle.lvm_good.specs.Over.{IsUnlanded, landings}
 use Rattle.lvm_good.proofs.Ending.{off_keeps, cut_keeps}
 use Rattle.lvm_crash.specs.Session.{Describes}
-use Rattle.lvm_crash.specs.Flights.{Matches}
 use Rattle.lvm_crash.specs.Laws.{CutIsKept, OffIsKept}
 use Rattle.lvm_crash.proofs.Lasting.{IsOfSession, volumes-append, volumes_stand, modes_stay, raw_stays, on_volume}
 use Rattle.lvm_crash.proofs.Images.{last_images_kept}
@@ -35,7 +34,7 @@ cut_again b k x may = by_values (cut b k).values may
 
 module _ (s : State) (group : Descriptor) (in_flight : Option (Stamped Status)) (c : Contents) where
   -- with an entry of a session more
-  entry_more : (facts : List Fact) (f : Fact) → IsOfSession group f → Describes s facts group in_flight c → Describes s (facts ++ f ∷ []) group in_flight c
+  pub entry_more : (facts : List Fact) (f : Fact) → IsOfSession group f → Describes s facts group in_flight c → Describes s (facts ++ f ∷ []) group in_flight c
   entry_more facts f of old = record {
     stands = old.stands;
     volumes = let v = old.volumes in record {

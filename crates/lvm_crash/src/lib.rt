@@ -4,6 +4,6 @@
 mod laws;
 
 pub use laws::{
-    committed_is_found, crash_images_are_kept, crash_images_remain, description_lasts, ends_are_kept,
-    first_is_described, what_remains_is_kept,
+    committed_is_found, crash_images_are_kept, crash_images_remain, description_lasts,
+    ends_are_kept, sessions_match, what_remains_is_kept,
 };
