@@ -27,3 +27,4 @@ pub mod Ending
 pub mod Worked
 pub mod WorkedWrites
 pub mod WorkedReads
+pub mod Wrong

@@ -22,7 +22,7 @@ use Rattle.lvm_good.proofs.Worked.{leads, allows_append, not_either, first_put, 
 
 -- ---- it is asked and admitted
 
-submits : (mode : Mode) → Submits (at_rest mode false) 1 asked held
+pub submits : (mode : Mode) → Submits (at_rest mode false) 1 asked held
 submits mode = record {
   held = refl;
   newest = λ j e is. nothing e is;
@@ -35,7 +35,7 @@ submits mode = record {
 abbrev submitted : Mode → State
 submitted mode = made (Submit 1 asked held) (at_rest mode false)
 
-admits : (mode : Mode) → Admits (submitted mode) 1 held (phase_in mode) true (both_at Todo)
+pub admits : (mode : Mode) → Admits (submitted mode) 1 held (phase_in mode) true (both_at Todo)
 admits mode = record {
   there = refl;
   early = inl refl;
@@ -87,7 +87,7 @@ twice : (old new : ℕ → Bool) (e n : ℕ) → (named_on new e ≡ named_on ol
 twice old new e n (inl h) = inl (h, h)
 twice old new e n (inr h) = inr (h.1, h.1)
 
-recorded : (votes : Votes) (mode : Mode) → IsTrue (votes.writes two_disks) → AllowsAll votes (recording mode) (admitted_in mode)
+pub recorded : (votes : Votes) (mode : Mode) → IsTrue (votes.writes two_disks) → AllowsAll votes (recording mode) (admitted_in mode)
 recorded votes Off enough = tt
 recorded votes Passive enough = (
   record {
@@ -215,7 +215,7 @@ each_mode_writes votes mode enough = (
 
 -- ---- it ends
 
-brought : (lv b : ℕ) (e : Pp) → (written lv b e ≡ zero_sector) ⊎ (IsTrue (covers held lv b) × (e ≡ first_copy) × (written lv b e ≡ held.value b))
+pub brought : (lv b : ℕ) (e : Pp) → (written lv b e ≡ zero_sector) ⊎ (IsTrue (covers held lv b) × (e ≡ first_copy) × (written lv b e ≡ held.value b))
 brought lv b e = by (covers held lv b && is_pp e first_copy) refl
   where
     by : (t : Bool) → (covers held lv b && is_pp e first_copy) ≡ t
@@ -223,7 +223,7 @@ brought lv b e = by (covers held lv b && is_pp e first_copy) refl
     by true is = inr (left (covers held lv b) (is_pp e first_copy) is, pp_is e first_copy (right (covers held lv b) (is_pp e first_copy) is), refl)
     by false is = inl refl
 
-brought_whole : (lv b : ℕ) → IsTrue (covers held lv b) → written lv b first_copy ≡ held.value b
+pub brought_whole : (lv b : ℕ) → IsTrue (covers held lv b) → written lv b first_copy ≡ held.value b
 brought_whole lv b over = ap (λ (t : Bool). if t then held.value b else zero_sector) (both (covers held lv b) true over refl)
 
 -- the second copy becomes wanted stale, in whose place is the first

@@ -33,6 +33,7 @@ pub mod Clear
 pub mod Events
 pub mod First
 pub mod Worked
+pub mod Wrong
 pub mod Over
 pub mod Off
 pub mod Cut

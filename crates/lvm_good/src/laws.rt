@@ -31,6 +31,7 @@ ghost use Rattle.lvm_good.specs.Found.{QuorumFinds};
 ghost use Rattle.lvm_good.specs.Off.{OffKeeps};
 ghost use Rattle.lvm_good.specs.Over.{OverStays};
 ghost use Rattle.lvm_good.specs.First.{FirstIsGood, BringingUpIsGood};
+ghost use Rattle.lvm_good.specs.Wrong.{StartsUnrecorded, NoteLacksEntry, DoneUnsettled, ClearedUnpassed, CopyIsSkipped, CommittedEarly, EndedUncommitted, TwoVotes};
 ghost use Rattle.lvm_good.specs.Worked.{EachModeWrites, WriteEnds, ReadEnds, CopyIsBroughtUp, DisksAreLost, CutMeetsWrite, EarlierIsTaken};
 
 /// A request begins.
@@ -193,6 +194,22 @@ pub fn sessions_are_met()
     ensures losses { DisksAreLost }
     ensures cut { CutMeetsWrite }
     ensures earlier { EarlierIsTaken }
+{}
+
+/// Wrong steps, each from a good state on. A loss of power may leave what the history doesn't allow where a write
+/// of two targets starts that isn't recorded; where a note is out that lacks an entry of the cache; where a write lands
+/// as Done that has failed on a copy which isn't stale yet; where a copy is cleared that hasn't passed all; and
+/// where a write skips the copy that is being brought up. Disks with votes enough may find a status that isn't meant
+/// any more, or not yet, where an update is committed with too few votes, or ends uncommitted.
+pub fn conditions_are_needed()
+    ensures unrecorded { StartsUnrecorded }
+    ensures note { NoteLacksEntry }
+    ensures unsettled { DoneUnsettled }
+    ensures unpassed { ClearedUnpassed }
+    ensures skipped { CopyIsSkipped }
+    ensures early { CommittedEarly }
+    ensures uncommitted { EndedUncommitted }
+    ensures votes { TwoVotes }
 {}
 
 /// Where the votes are lost and no flight is out, each open request lands as Off, with its data
