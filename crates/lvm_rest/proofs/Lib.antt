@@ -8,5 +8,6 @@ pub mod Marking
 pub mod Lasting
 pub mod Closed
 pub mod Causes
+pub mod Seen
 pub mod Pairs
 pub mod Examples

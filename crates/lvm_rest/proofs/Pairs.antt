@@ -35,10 +35,14 @@ behind : {X : Type 0} (t : Bool) (x r : X) → (if t then Some x else None) ≡ 
 behind true x r e = cc
 behind false x r e = absurd cc
 
-first_pp : Pp
-first_pp = record { disk = 0; pp = 0 }
+pub first_partition : (lp : ℕ) → lp < 1 → lp ≡ 0
+first_partition lp low = omega arith
 
-abbrev both_copies : List Pp
+-- a block of it lies below 2,048
+pub block_low : (b : ℕ) → b / 2048 ≡ 0 → IsTrue (nat_lt b 2048)
+block_low b is = grind (arith, nat_tests)
+
+abbrev pub both_copies : List Pp
 both_copies = record { disk = 0; pp = 0 } ∷ record { disk = 1; pp = 0 } ∷ []
 
 module _ (x : Pair) where
@@ -95,13 +99,6 @@ module _ (x : Pair) where
   pub the_row : (row : LvRow) → IsOneOf group.lvs row → row ≡ mirror x.mode
   the_row row (inl is) = is
   the_row row (inr none) = absurd none
-
-  pub first_partition : (lp : ℕ) → lp < 1 → lp ≡ 0
-  first_partition lp low = omega arith
-
-  -- a block of it lies below 2,048
-  pub block_low : (b : ℕ) → b / 2048 ≡ 0 → IsTrue (nat_lt b 2048)
-  block_low b is = grind (arith, nat_tests)
 
   -- its fresh copies are both, or the first where the second is stale
   fresh_if : (t : Bool) → fresh_on (members_in c all_disks 50 group) (Some (status_of (record x { lost = t }))) (mirror x.mode) 0 ≡ (if t then record { disk = 0; pp = 0 } ∷ [] else both_copies)

@@ -4,6 +4,7 @@ use Rattle.lvm_num.specs.declared.descriptor.Descriptor.{Descriptor}
 use Rattle.lvm_num.specs.declared.status.Status.{Status}
 use Rattle.lvm_num.specs.Disks.{Disks}
 use Rattle.lvm_num.specs.Descriptor.{IsValid}
+use Rattle.lvm_num.specs.Record.{Stamped}
 use Rattle.lvm_num.specs.Votes.{CanWrite}
 use Rattle.lvm_vol.specs.Facts.{Fact}
 use Rattle.lvm_disk.specs.Device.{Media, Device, image_of}
@@ -16,6 +17,11 @@ use Rattle.lvm_good.specs.Good.{Good}
 use Rattle.lvm_crash.specs.Session.{AreVotesOf, Describes}
 use Rattle.lvm_crash.specs.Flights.{Matches}
 use Rattle.lvm_rest.specs.Rest.{IsIdle, SeesThat, AreClosed, IsAtRest}
+
+-- For each group there is a state at which nothing is under way that sees what stands on its disks.
+abbrev pub RestIsSeen : Type 0
+RestIsSeen = (facts : List Fact) (group : Descriptor) (stands : Stamped Status) (there : Disks) (c : Contents)
+    → IsValid group → (s : State) × (s.facts ≡ facts) × IsIdle s × SeesThat s group stands there c
 
 -- Where nothing is under way, the state sees what stands on the disks, these show what is committed to members with votes enough to write, and
 -- they are at rest with the history, in which no write is open: the state is good and describes them.
