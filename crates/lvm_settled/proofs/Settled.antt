@@ -16,7 +16,7 @@ use Rattle.lvm_good.specs.State as good
 use Rattle.lvm_good.specs.Found.{Votes}
 use Rattle.lvm_rest.proofs.Rest.{good_is_rest}
 use Rattle.lvm_rest.proofs.Closed.{landed_are_closed}
-use Rattle.lvm_rest.proofs.Lasting.{rest_matches}
+use Rattle.lvm_rest.proofs.Good.{rest_matches}
 use Rattle.lvm_settled.specs.Settled.{IsKnown, IsCarried, IsViewOf, SettledIsGood, GoodIsSettled}
 
 pub settled_is_good : SettledIsGood
