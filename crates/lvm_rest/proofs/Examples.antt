@@ -13,12 +13,13 @@ use Rattle.lvm_num.specs.declared.descriptor.LvRow.{LvRow}
 use Rattle.lvm_num.specs.declared.descriptor.Descriptor.{Descriptor}
 use Rattle.lvm_num.specs.declared.status.Status.{Status}
 use Rattle.lvm_num.specs.Bits.{has_bit}
-use Rattle.lvm_num.specs.Buffer.{zero_sector}
+use Rattle.lvm_num.specs.Buffer.{Sector, zero_sector}
 use Rattle.lvm_num.specs.Disks.{Disks}
 use Rattle.lvm_num.specs.Descriptor.{IsMember, IsVolume, IsPartitionOf, IsLaidOut, IsValid, copies_of, volume_of}
 use Rattle.lvm_num.specs.Name.{is_name}
-use Rattle.lvm_num.specs.Geometry.{sector_of}
-use Rattle.lvm_num.specs.Note.{Noted}
+use Rattle.lvm_num.specs.Geometry.{partition_blocks, sector_of}
+use Rattle.lvm_num.specs.Note.{Noted, note_in, IsEntry}
+use Rattle.lvm_num.proofs.Notes.{written_is_read}
 use Rattle.lvm_num.specs.Record.{Stamped}
 use Rattle.lvm_num.specs.Votes.{CanWrite, CanRead, all_disks, votes_by}
 use Rattle.lvm_vol.specs.Facts.{Fact, Cut, is_over}
@@ -27,14 +28,22 @@ use Rattle.lvm_vol.specs.Legal.{Legal}
 use Rattle.lvm_vol.specs.declared.entry.Vol.TheVariants.{Lv}
 use Rattle.lvm_vol.specs.Standing.{Standing, Absent, Open, Settled, Volume, no_volumes, volumes_in}
 use Rattle.lvm_kept.specs.Contents.{Contents}
-use Rattle.lvm_kept.specs.Examples.{stamped, member, mirror, two, either_of, only, zeros, ones, torn_mirror, no_note, names_first}
-use Rattle.lvm_kept.specs.Group.{members_in, is_stale_by, fresh_on, block_at, IsBlockOf, IsOneOf, HoldOne, has_room}
+use Rattle.lvm_kept.specs.Examples.{stamped, member, mirror, two, either_of, only, zeros, ones, torn_mirror}
+use Rattle.lvm_kept.specs.Group.{members_in, is_stale_by, fresh_on, block_at, IsBlockOf, names_if, IsOneOf, HoldOne, has_room}
 use Rattle.lvm_kept.specs.Kept.{StandsAs, IsBlockKept, Kept}
 use Rattle.lvm_kept.specs.Committed.{IsWithinDisks}
 use Rattle.lvm_commit.specs.Committed.{IsAlike, Began, ShowsCommitted}
+use Rattle.lvm_good.specs.State.{State}
+use Rattle.lvm_good.specs.Found.{Votes}
+use Rattle.lvm_good.specs.Good.{Good}
+use Rattle.lvm_crash.specs.Session.{AreVotesOf, Describes}
+use Rattle.lvm_crash.specs.Flights.{Matches}
 use Rattle.lvm_crash.proofs.Lists.{left_of, right_of, both_of, of_passing}
 use Rattle.lvm_rest.specs.Rest.{IsEven, NoneIsBehind, IsAlone, AreClosed, IsAtRest}
-use Rattle.lvm_rest.specs.Examples.{Pair, status_of, shown_by, there_by, first_write, past_of, now_on, history_of, even_pair, torn_pair, IsRestingPair, PairsRest}
+use Rattle.lvm_rest.specs.Examples.{Pair, status_of, shown_by, there_by, pair_sizes, media_of, device_of, first_write, history_of, even_pair, torn_pair, naming_note, naming, IsRestingPair, PairsRest}
+use Rattle.lvm_rest.proofs.Good.{rest_is_good, still_matches}
+use Rattle.lvm_rest.proofs.Seen.{rest_is_seen}
+use Rattle.lvm_rest.proofs.Sectors.{told}
 use Rattle.lvm_rest.proofs.Pairs.{both_copies, the_descriptor, the_status, id_is, group_is, found_by_all, the_row, first_partition, block_low, kept}
 
 -- ---- the history
@@ -215,23 +224,57 @@ module _ (x : Pair) where
 
 -- ---- zeros
 
-zeros_kept : (mode : Mode) (dirty lost cut : Bool) (note : ℕ → Option Noted) → Kept (shown_by (even_pair mode dirty lost note)) (history_of mode cut)
+-- past the records the data is what stands there
+high : (a b : ℕ) → nat_lt (4096 + a + b) 4096 ≡ false
+high a b = grind (arith, nat_tests)
+
+pub stands_at : (x : Pair) (p : Pp) (b : ℕ) → block_at (shown_by x) 1 p b ≡ x.stands p.disk (sector_of 1 p.pp b)
+stands_at x p b = ap (λ (t : Bool). if t then [] else x.stands p.disk (sector_of 1 p.pp b)) (high (partition_blocks 1 * p.pp) (b % partition_blocks 1))
+
+zeros_kept : (mode : Mode) (dirty lost cut : Bool) (note : Sector) → Kept (shown_by (even_pair mode dirty lost note)) (history_of mode cut)
 zeros_kept mode dirty lost cut note = kept (even_pair mode dirty lost note) (history_of mode cut)
-    (λ b low. let zero = zero_value mode cut b low in record { allowed = (zero, (zero, tt)); equal = inl (zero_sector, (refl, (refl, tt))) }) (volumes mode cut)
+    (λ b low.
+    let zero = zero_value mode cut b low in
+    let first = stands_at (even_pair mode dirty lost note) (record { disk = 0; pp = 0 }) b in
+    let second = stands_at (even_pair mode dirty lost note) (record { disk = 1; pp = 0 }) b in
+    record { allowed = (subst (IsValue (known (history_of mode cut ++ Cut ∷ []) (Lv 1) b)) (sym first) zero, (subst (IsValue (known (history_of mode cut ++ Cut ∷ []) (Lv 1) b)) (sym second) zero, tt)); equal = inl (zero_sector, (first, (second, tt))) })
+    (volumes mode cut)
 
-zeros_even : (mode : Mode) (dirty lost : Bool) (note : ℕ → Option Noted) (set : Disks) → IsEven (shown_by (even_pair mode dirty lost note)) (two mode) (Some (status_of (even_pair mode dirty lost note))) set
+zeros_even : (mode : Mode) (dirty lost : Bool) (note : Sector) (set : Disks) → IsEven (shown_by (even_pair mode dirty lost note)) (two mode) (Some (status_of (even_pair mode dirty lost note))) set
 zeros_even mode dirty lost note set row lp b one on inside =
-    (zero_sector, of_passing (λ p. block_at (shown_by (even_pair mode dirty lost note)) 1 p b ≡ zero_sector) (λ p. set p.disk && not (is_stale_by (Some (status_of (even_pair mode dirty lost note))) p)) (copies_of row lp) (λ p copy use_. refl))
+    (zero_sector, of_passing (λ p. block_at (shown_by (even_pair mode dirty lost note)) 1 p b ≡ zero_sector) (λ p. set p.disk && not (is_stale_by (Some (status_of (even_pair mode dirty lost note))) p)) (copies_of row lp)
+    (λ p copy use_. stands_at (even_pair mode dirty lost note) p b))
 
-zeros_rest : (mode : Mode) (dirty lost cut : Bool) (note : ℕ → Option Noted) → IsRestingPair (even_pair mode dirty lost note) (history_of mode cut)
-zeros_rest mode dirty lost cut note = let x : Pair = even_pair mode dirty lost note in record {
-  valid = valid mode;
-  within = within x;
-  enough = enough x;
-  shows = shows x;
-  closed = closed mode cut;
-  at_rest = record { legal = legal mode cut; kept = zeros_kept mode dirty lost cut note; alone = alone x; even = zeros_even mode dirty lost note (there_by x); behind = behind x };
-}
+-- a session begins there
+good_of : (x : Pair) (facts : List Fact) → ((d s : ℕ) → s < 4096 → x.stands d s ≡ zero_sector) → AreClosed facts (two x.mode) → IsAtRest (shown_by x) facts (two x.mode) (Some (status_of x)) (there_by x)
+    → (votes : Votes) → AreVotesOf (two x.mode) votes → (s : State) × (s.facts ≡ facts) × Good votes s × Matches s s.facts (two x.mode) None (device_of x) (media_of x)
+good_of x facts below is_closed rests votes are =
+    let seen = rest_is_seen facts (two x.mode) (status_of x) (there_by x) (shown_by x) (valid x.mode) in
+    let both = rest_is_good votes seen.0 (two x.mode) (status_of x).value (there_by x) (shown_by x) are (valid x.mode) (within x) (enough x) (shows x) seen.2 seen.3
+    (subst (λ (f : List Fact). AreClosed f (two x.mode)) (sym seen.1) is_closed)
+    (subst (λ (f : List Fact). IsAtRest (shown_by x) f (two x.mode) (Some (status_of x)) (there_by x)) (sym seen.1) rests) in
+    (
+      seen.0,
+      seen.1,
+      both.0,
+      still_matches seen.0 seen.0.facts (two x.mode) (device_of x) (media_of x) refl refl
+          (subst (λ (c : Contents). Describes seen.0 seen.0.facts (two x.mode) None c) (sym (told x below)) both.1),
+    )
+
+zeros_rest : (mode : Mode) (dirty lost cut : Bool) (note : Sector) → IsRestingPair (even_pair mode dirty lost note) (history_of mode cut)
+zeros_rest mode dirty lost cut note =
+    let x : Pair = even_pair mode dirty lost note in
+    let rests : IsAtRest (shown_by x) (history_of mode cut) (two mode) (Some (status_of x)) (there_by x) =
+    record { legal = legal mode cut; kept = zeros_kept mode dirty lost cut note; alone = alone x; even = zeros_even mode dirty lost note (there_by x); behind = behind x } in
+    record {
+      told = told x (λ d s low. refl);
+      valid = valid mode;
+      enough = enough x;
+      shows = shows x;
+      closed = closed mode cut;
+      at_rest = rests;
+      good = good_of x (history_of mode cut) (λ d s low. refl) (closed mode cut) rests;
+    }
 
 -- ---- where the first block differs
 
@@ -239,7 +282,17 @@ zeros_rest mode dirty lost cut note = let x : Pair = even_pair mode dirty lost n
 at_first_sector : (b : ℕ) → IsTrue (nat_lt b 2048) → (sector_of 1 0 b == 4096) ≡ true → b ≡ 0
 at_first_sector b low is = let e : sector_of 1 0 b ≡ 4096 = eqb-true (sector_of 1 0 b) 4096 is in grind (arith, nat_tests)
 
-torn_each : (mode : Mode) (dirty : Bool) (note : ℕ → Option Noted)
+pub torn_below : (d s : ℕ) → s < 4096 → torn_mirror d s ≡ zero_sector
+torn_below d s low = by (d == 1)
+  where
+    isnt : (s == 4096) ≡ false
+    isnt = grind (arith, nat_tests)
+
+    by : (t : Bool) → (if t then (if s == 4096 then ones else zero_sector) else zero_sector) ≡ zero_sector
+    by true = ap (λ (t : Bool). if t then ones else zero_sector) isnt
+    by false = refl
+
+torn_each : (mode : Mode) (dirty : Bool) (note : Sector)
     → IsBlockKept (shown_by (torn_pair mode dirty note)) 1 (Some (status_of (torn_pair mode dirty note))) (mirror mode) both_copies (known (history_of mode true ++ Cut ∷ []) (Lv 1) 0) 0
     → (b : ℕ) → IsTrue (nat_lt b 2048) → IsBlockKept (shown_by (torn_pair mode dirty note)) 1 (Some (status_of (torn_pair mode dirty note))) (mirror mode) both_copies (known (history_of mode true ++ Cut ∷ []) (Lv 1) b) b
 torn_each mode dirty note zeroth b low = by (sector_of 1 0 b == 4096) refl
@@ -248,27 +301,44 @@ torn_each mode dirty note zeroth b low = by (sector_of 1 0 b == 4096) refl
     by true is = subst (λ (n : ℕ). IsBlockKept (shown_by (torn_pair mode dirty note)) 1 (Some (status_of (torn_pair mode dirty note))) (mirror mode) both_copies (known (history_of mode true ++ Cut ∷ []) (Lv 1) n) n) (sym (at_first_sector b low is)) zeroth
     by false is =
         let zero = zero_value mode true b low in
-        let second : block_at (shown_by (torn_pair mode dirty note)) 1 (record { disk = 1; pp = 0 }) b ≡ zero_sector = ap (λ (t : Bool). if t then ones else zero_sector) is in
-        record { allowed = (zero, (subst (IsValue (known (history_of mode true ++ Cut ∷ []) (Lv 1) b)) (sym second) zero, tt)); equal = inl (zero_sector, (refl, (second, tt))) }
+        let first : block_at (shown_by (torn_pair mode dirty note)) 1 (record { disk = 0; pp = 0 }) b ≡ zero_sector = stands_at (torn_pair mode dirty note) (record { disk = 0; pp = 0 }) b in
+        let second : block_at (shown_by (torn_pair mode dirty note)) 1 (record { disk = 1; pp = 0 }) b ≡ zero_sector =
+        stands_at (torn_pair mode dirty note) (record { disk = 1; pp = 0 }) b ∙ ap (λ (t : Bool). if t then ones else zero_sector) is in
+        record {
+          allowed = (subst (IsValue (known (history_of mode true ++ Cut ∷ []) (Lv 1) b)) (sym first) zero, (subst (IsValue (known (history_of mode true ++ Cut ∷ []) (Lv 1) b)) (sym second) zero, tt));
+          equal = inl (zero_sector, (first, (second, tt)));
+        }
 
-pub active_torn : Kept (shown_by (torn_pair Active false names_first)) (history_of Active true)
-active_torn = kept (torn_pair Active false names_first) (history_of Active true) (torn_each Active false names_first (record { allowed = (inl refl, (inr (inl refl), tt)); equal = inr (refl, (refl, tt)) })) (volumes Active true)
+-- the note names the first track group
+pub naming_read : note_in naming ≡ Some naming_note
+naming_read = written_is_read naming_note (record { stamp = omega arith; count = omega arith; entries = All-cons IsEntry (record { lv = 1; group = 0 }) [] (record { some_lv = λ e. omega (arith, e); lv = omega arith; group = omega arith }) (All-nil IsEntry) })
 
-pub passive_torn : Kept (shown_by (torn_pair Passive true no_note)) (history_of Passive true)
-passive_torn = kept (torn_pair Passive true no_note) (history_of Passive true) (torn_each Passive true no_note (record { allowed = (inl refl, (inr (inl refl), tt)); equal = inr refl })) (volumes Passive true)
+pub is_naming : names_if (note_in naming) 1 0 ≡ true
+is_naming = ap (λ (o : Option Noted). names_if o 1 0) naming_read
 
-off_torn : Kept (shown_by (torn_pair Off false no_note)) (history_of Off true)
-off_torn = kept (torn_pair Off false no_note) (history_of Off true) (torn_each Off false no_note (record { allowed = (inl refl, (inr (inl refl), tt)); equal = inr refl })) (volumes Off true)
+pub active_torn : Kept (shown_by (torn_pair Active false naming)) (history_of Active true)
+active_torn = kept (torn_pair Active false naming) (history_of Active true) (torn_each Active false naming (record { allowed = (inl refl, (inr (inl refl), tt)); equal = inr (is_naming, (is_naming, tt)) })) (volumes Active true)
 
-off_rest : IsRestingPair (torn_pair Off false no_note) (history_of Off true)
-off_rest = let x : Pair = torn_pair Off false no_note in record {
-  valid = valid Off;
-  within = within x;
-  enough = enough x;
-  shows = shows x;
-  closed = closed Off true;
-  at_rest = record { legal = legal Off true; kept = off_torn; alone = alone x; even = λ row lp b one on inside. absurd (on (ap (λ (r : LvRow). r.mode) (the_row x row one))); behind = behind x };
-}
+pub passive_torn : Kept (shown_by (torn_pair Passive true zero_sector)) (history_of Passive true)
+passive_torn = kept (torn_pair Passive true zero_sector) (history_of Passive true) (torn_each Passive true zero_sector (record { allowed = (inl refl, (inr (inl refl), tt)); equal = inr refl })) (volumes Passive true)
+
+off_torn : Kept (shown_by (torn_pair Off false zero_sector)) (history_of Off true)
+off_torn = kept (torn_pair Off false zero_sector) (history_of Off true) (torn_each Off false zero_sector (record { allowed = (inl refl, (inr (inl refl), tt)); equal = inr refl })) (volumes Off true)
+
+off_rest : IsRestingPair (torn_pair Off false zero_sector) (history_of Off true)
+off_rest =
+    let x : Pair = torn_pair Off false zero_sector in
+    let rests : IsAtRest (shown_by x) (history_of Off true) (two Off) (Some (status_of x)) (there_by x) =
+    record { legal = legal Off true; kept = off_torn; alone = alone x; even = λ row lp b one on inside. absurd (on (ap (λ (r : LvRow). r.mode) (the_row x row one))); behind = behind x } in
+    record {
+      told = told x torn_below;
+      valid = valid Off;
+      enough = enough x;
+      shows = shows x;
+      closed = closed Off true;
+      at_rest = rests;
+      good = good_of x (history_of Off true) torn_below (closed Off true) rests;
+    }
 
 pub pairs_rest : PairsRest
 pairs_rest = record { even = zeros_rest; off = off_rest }

@@ -10,4 +10,5 @@ pub mod Closed
 pub mod Causes
 pub mod Seen
 pub mod Pairs
+pub mod Sectors
 pub mod Examples
