@@ -40,7 +40,8 @@ use Rattle.lvm_begin.proofs.Shown.{again_is_shown}
 use Rattle.lvm_next.specs.Next.{IsNextStatus, has_active}
 use Rattle.lvm_varyon.specs.Found.{records_on}
 use Rattle.lvm_varyon.specs.Chosen.{answering}
-use Rattle.lvm_varyon.specs.Restated.{Restated, AreOfRecords}
+use Rattle.lvm_next.specs.Restated.{Restated}
+use Rattle.lvm_varyon.specs.Restated.{AreOfRecords}
 use Rattle.lvm_varyon.specs.Varied.{IsAheadOfDisks, IsBrought, last_stamp}
 use Rattle.lvm_varyon.specs.Writing.{beginning, order}
 use Rattle.lvm_varyon.proofs.Grouping.{same_voters}

@@ -19,7 +19,8 @@ use Rattle.lvm_kept.specs.Contents.{Contents}
 use Rattle.lvm_kept.specs.Group.{is_voter, status_among, is_stale_by, fresh_on, IsOneOf, IsSome}
 use Rattle.lvm_kept.specs.Recovered.{IsRecordRange, IsCopyRange, IsMadeEqual, IsLeftBehind as IsLeftBehindBy, Recovered}
 use Rattle.lvm_next.specs.Next.{IsLeftBehind, is_active, is_passive, has_passive}
-use Rattle.lvm_varyon.specs.Restated.{Restated, AreOfRecords, HasNoConsistency}
+use Rattle.lvm_next.specs.Restated.{Restated}
+use Rattle.lvm_varyon.specs.Restated.{AreOfRecords, HasNoConsistency}
 use Rattle.lvm_varyon.specs.Laws.{RestatedIsRecovered}
 
 is_off : {P : Type 0} (m : Mode) → m ≡ Off → m ≡ Passive → P

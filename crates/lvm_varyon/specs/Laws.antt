@@ -5,7 +5,8 @@ use Rattle.lvm_num.specs.Disks.{Disks}
 use Rattle.lvm_disk.specs.Device.{Range}
 use Rattle.lvm_kept.specs.Contents.{Contents}
 use Rattle.lvm_kept.specs.Recovered.{Recovered}
-use Rattle.lvm_varyon.specs.Restated.{Restated, AreOfRecords, HasNoConsistency}
+use Rattle.lvm_next.specs.Restated.{Restated}
+use Rattle.lvm_varyon.specs.Restated.{AreOfRecords, HasNoConsistency}
 
 -- A group without consistency, of which just records were written, is recovered once it is restated.
 abbrev pub RestatedIsRecovered : Type 0

@@ -26,7 +26,8 @@ use Rattle.lvm_varyon.specs.Found.{Found, HaveAnswered}
 use Rattle.lvm_next.specs.Next.{IsNextStatus, has_active}
 use Rattle.lvm_varyon.specs.Chosen.{answering, last_moment, MayComeOn, IsClockBack}
 use Rattle.lvm_varyon.specs.Writing.{beginning, order, Writes, AllWritten, OneFailed, WasBrokenOff, IsLeftOut}
-use Rattle.lvm_varyon.specs.Restated.{Restated, AreOfRecords, WhereTold}
+use Rattle.lvm_next.specs.Restated.{Restated}
+use Rattle.lvm_varyon.specs.Restated.{AreOfRecords, WhereTold}
 
 -- The group that the name chooses may come on, and this was written to its members that answer, with its next status.
 pub record HasWritten (old new : Device) (name : List ℕ) (moment : ℕ) (How : Descriptor → Beginning → Device → Type 0) : Type 0 where

@@ -1,0 +1,14 @@
+//! Laws of settled sessions. Each call does nothing: its contract is the law.
+ghost use Rattle.lvm_settled.specs.Settled.{SettledIsGood, GoodIsSettled};
+
+/// A session may begin: where it is settled and its disks hold what it says, with an earlier history in which no
+/// write is open, its usable copies are even and none is left behind, its state is good and matches the shelf.
+pub fn settled_is_good()
+    ensures { SettledIsGood }
+{}
+
+/// A session may be left: where its state is good and describes the disks, these keep the history, its usable
+/// copies are even and none is left behind.
+pub fn good_is_settled()
+    ensures { GoodIsSettled }
+{}
