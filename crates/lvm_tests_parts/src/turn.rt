@@ -4,8 +4,8 @@ ghost use Rattle.lvm_vol.specs.Fronts.{own};
 ghost use Rattle.lvm_turn.specs.Views.{numbers, up_to};
 ghost use Rattle.lvm_turn.specs.Calls.{IsIdle};
 
-use crate::{Pass, Turn};
 use lvm_num::Memory;
+use lvm_turn::{Pass, Turn};
 use lvm_vol::{Entry, History, Past, Shown, Vol};
 use std::alloc::Global;
 use std::process::Abort;
