@@ -1,5 +1,6 @@
 ghost use Rattle.lvm_hold.specs.Conflicts.{IsInGroup};
 
+use crate::fixtures::check;
 use lvm_hold::{Held, Queue};
 use std::process::Abort;
 
@@ -54,6 +55,14 @@ fn waits(rt: &(impl Abort + AllocGlobal), first: Held, second: Held) -> [Option<
     [wait_of(&queue, 7), wait_of(&queue, 9)]
 }
 
+fn check_waits(rt: &(impl Abort + AllocGlobal), first: Held, second: Held, meet: bool) {
+    assert_eq!(rt;
+        waits(rt, first, second),
+        [Some(None), Some(meet.then_some(7))],
+        "{second:?} after {first:?}"
+    );
+}
+
 #[test]
 fn requests_meet_at_the_edges_of_a_range_and_of_a_track_group(rt: HostRuntime) {
     let last = u64::MAX - 255;
@@ -79,11 +88,7 @@ fn requests_meet_at_the_edges_of_a_range_and_of_a_track_group(rt: HostRuntime) {
         (read(300, 9), copy(256), false),
         (copy(256), copy(256), false),
     ] {
-        assert_eq!(rt;
-            waits(&rt, first, second),
-            [Some(None), Some(meet.then_some(7))],
-            "{second:?} after {first:?}"
-        );
+        check_waits(&rt, first, second, meet);
     }
 }
 
@@ -109,15 +114,12 @@ fn the_least_earlier_one_is_waited_for_until_it_leaves(rt: HostRuntime) {
     queue.enter(4, valid(&rt, write(12, 8)));
     queue.enter(8, valid(&rt, write(15, 1)));
     queue.enter(9, valid(&rt, read(0, 20)));
-    let all = four_waits(&queue);
-    assert_eq!(rt;
-        all,
-        [Some(None), Some(Some(3)), Some(Some(3)), Some(Some(4))]
-    );
+    let all = [Some(None), Some(Some(3)), Some(Some(3)), Some(Some(4))];
+    check(&rt, four_waits(&queue) == all, "all");
     leave(&rt, &mut queue, 3);
-    let without_3 = four_waits(&queue);
-    assert_eq!(rt; without_3, [None, Some(None), Some(Some(4)), Some(Some(4))]);
+    let without_3 = [None, Some(None), Some(Some(4)), Some(Some(4))];
+    check(&rt, four_waits(&queue) == without_3, "without 3");
     leave(&rt, &mut queue, 4);
-    let without_4 = four_waits(&queue);
-    assert_eq!(rt; without_4, [None, None, Some(None), Some(Some(8))]);
+    let without_4 = [None, None, Some(None), Some(Some(8))];
+    check(&rt, four_waits(&queue) == without_4, "without 4");
 }

@@ -1,3 +1,4 @@
+use crate::fixtures::check;
 use lvm_io::{
     Clock, Got, Images, Lines, MOST_BYTES, MemClock, MemSink, MemSource, NextLine, Put, Sink,
     SinkFault, Source, StdSink, StdSource, SystemClock, write_all,
@@ -27,10 +28,10 @@ fn expect_lines<R: Abort + AllocGlobal, I: Source>(rt: &R, input: &mut I, want: 
     let mut lines = Lines::new(rt.alloc()).expect(rt, "memory");
     for line in want {
         let next = lines.next_line(rt.alloc(), input);
-        assert!(rt; is_line(&next, line));
+        check(rt, is_line(&next, line), "a line");
     }
-    let ended = matches!(lines.next_line(rt.alloc(), input), NextLine::End);
-    assert!(rt; ended);
+    let end = lines.next_line(rt.alloc(), input);
+    check(rt, matches!(end, NextLine::End), "the end");
 }
 
 #[test]
@@ -77,14 +78,14 @@ fn a_fault_in_the_middle_of_a_line_loses_nothing(rt: HostRuntime) {
         calls: 0,
     });
     let mut lines = Lines::new(rt.alloc()).expect(&rt, "memory");
-    let failed = matches!(lines.next_line(rt.alloc(), &mut input), NextLine::Failed);
-    assert!(rt; failed);
+    let first = lines.next_line(rt.alloc(), &mut input);
+    check(&rt, matches!(first, NextLine::Failed), "the fault");
     for want in [b"wait", b"step"] {
         let next = lines.next_line(rt.alloc(), &mut input);
-        assert!(rt; is_line(&next, want));
+        check(&rt, is_line(&next, want), "a line");
     }
-    let ended = matches!(lines.next_line(rt.alloc(), &mut input), NextLine::End);
-    assert!(rt; ended);
+    let end = lines.next_line(rt.alloc(), &mut input);
+    check(&rt, matches!(end, NextLine::End), "the end");
 }
 
 // Reads a source of so many bytes without a line feed, and the answer after it.
@@ -104,12 +105,10 @@ fn sixteen_mebibytes_are_read_and_no_byte_more(rt: HostRuntime) {
         (NextLine::Line(line), NextLine::End) => line.len() == most,
         _ => false,
     };
-    assert!(rt; whole);
-    let too_long = matches!(
-        long_line(&rt, most + 1),
-        (NextLine::TooLong, NextLine::TooLong)
-    );
-    assert!(rt; too_long);
+    check(&rt, whole, "all of them");
+    let longer = long_line(&rt, most + 1);
+    let too_long = matches!(longer, (NextLine::TooLong, NextLine::TooLong));
+    check(&rt, too_long, "a byte more");
 }
 
 #[test]
@@ -117,7 +116,11 @@ fn a_source_in_memory_fails_at_its_calls(rt: HostRuntime) {
     let mut source = MemSource::new(rows(&rt, b"abcde"), calls(&rt, &[1, 3]));
     let mut first = [0; 3];
     let answers = [source.read(&mut first), source.read(&mut first)];
-    assert_eq!(rt; (answers, first), ([Got::Failed, Got::Bytes(3)], *b"abc"));
+    check(
+        &rt,
+        answers == [Got::Failed, Got::Bytes(3)] && first == *b"abc",
+        "first",
+    );
     let mut rest = [0; 3];
     let answers = [
         source.read(&mut rest),
@@ -125,7 +128,7 @@ fn a_source_in_memory_fails_at_its_calls(rt: HostRuntime) {
         source.read(&mut rest),
     ];
     let want = [Got::Failed, Got::Bytes(2), Got::End];
-    assert_eq!(rt; (answers, rest), (want, *b"de\0"));
+    check(&rt, answers == want && rest == *b"de\0", "rest");
 }
 
 #[test]
@@ -138,8 +141,8 @@ fn a_sink_in_memory_fails_at_its_calls_and_once_it_is_full(rt: HostRuntime) {
         sink.write(b"f"),
     ];
     let want = [Put::Took(3), Put::Failed, Put::Took(2), Put::Failed];
-    assert_eq!(rt; puts, want);
-    assert_eq!(rt; sink.bytes(), b"abcde".as_slice());
+    check(&rt, puts == want, "answers");
+    check(&rt, sink.bytes() == b"abcde".as_slice(), "bytes");
 }
 
 #[test]
@@ -147,18 +150,19 @@ fn a_sink_in_memory_begins_anew_with_an_image(rt: HostRuntime) {
     let mut sink = MemSink::new(rt.alloc(), 5, calls(&rt, &[])).expect(&rt, "memory");
     let full = write_all(&mut sink, b"abcde");
     sink.choose(1);
-    assert_eq!(rt; sink.bytes(), b"".as_slice());
+    check(&rt, sink.bytes().is_empty(), "a new image");
     let again = write_all(&mut sink, b"image");
-    assert_eq!(rt; [full, again], [Ok(()), Ok(())]);
-    assert_eq!(rt; sink.bytes(), b"image".as_slice());
+    check(&rt, full == Ok(()) && again == Ok(()), "answers");
+    check(&rt, sink.bytes() == b"image".as_slice(), "bytes");
 }
 
 #[test]
 fn a_front_of_a_text_is_written_where_the_sink_fails(rt: HostRuntime) {
     let mut sink = MemSink::new(rt.alloc(), 4, calls(&rt, &[])).expect(&rt, "memory");
-    let writes = [write_all(&mut sink, b"ok\n"), write_all(&mut sink, b"ok\n")];
-    assert_eq!(rt; writes, [Ok(()), Err(SinkFault)]);
-    assert_eq!(rt; sink.bytes(), b"ok\no".as_slice());
+    let whole = write_all(&mut sink, b"ok\n");
+    let front = write_all(&mut sink, b"ok\n");
+    check(&rt, whole == Ok(()) && front == Err(SinkFault), "answers");
+    check(&rt, sink.bytes() == b"ok\no".as_slice(), "bytes");
 }
 
 // Takes two bytes at a time, and then none.
@@ -182,15 +186,16 @@ fn a_writer_that_takes_nothing_has_failed(rt: HostRuntime) {
     let mut sink = StdSink::new(Narrow(5));
     let whole = write_all(&mut sink, b"abcd");
     let puts = [sink.write(b"ef"), sink.write(b"f")];
-    assert_eq!(rt; whole, Ok(()));
-    assert_eq!(rt; puts, [Put::Took(1), Put::Failed]);
+    check(&rt, whole == Ok(()), "whole");
+    check(&rt, puts == [Put::Took(1), Put::Failed], "answers");
 }
 
 #[test]
 fn a_clock_in_memory_counts_up_to_the_last_moment(rt: HostRuntime) {
     for (start, first, second) in [(49, 49, 50), (u64::MAX, u64::MAX, u64::MAX)] {
         let mut clock = MemClock::new(start);
-        assert_eq!(rt; [clock.now(), clock.now()], [first, second]);
+        let moments = [clock.now(), clock.now()];
+        check(&rt, moments == [first, second], "moments");
     }
 }
 
@@ -215,12 +220,13 @@ impl time::Clock for Standing {
 fn the_clock_of_the_system_tells_microseconds_and_rises(rt: HostRuntime) {
     for (time, first, second) in [(Some(70), 70, 71), (None, 1, 2)] {
         let mut clock = SystemClock::new(Standing(time));
-        assert_eq!(rt; [clock.now(), clock.now()], [first, second]);
+        let moments = [clock.now(), clock.now()];
+        check(&rt, moments == [first, second], "moments");
     }
 
     // 2020 was over when this was written, and 2100 hasn't come.
     let mut real = SystemClock::new(rt);
     let moment = real.now();
-    assert!(rt; moment > 1_600_000_000_000_000);
-    assert!(rt; moment < 4_102_444_800_000_000);
+    check(&rt, moment > 1_600_000_000_000_000, "later than 2020");
+    check(&rt, moment < 4_102_444_800_000_000, "earlier than 2100");
 }

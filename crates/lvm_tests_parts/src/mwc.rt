@@ -1,3 +1,4 @@
+use crate::fixtures::check;
 use crate::mwc::Do::{At, Ends, Named, NamedOnlyHere, Pins, Puts, Starts, Unpin};
 use lvm_mwc::{Cache, Pin};
 use lvm_num::{DiskSet, NoteEntry};
@@ -25,7 +26,7 @@ enum Do {
 
 fn pin(rt: &impl Abort, cache: &mut Cache, group: u32, want: Pin) {
     assert!(rt; cache.pins(1, group) < u32::MAX);
-    assert_eq!(rt; cache.pin(1, group), want, "{group}");
+    check(rt, cache.pin(1, group) == want, "pin");
 }
 
 fn unpin(rt: &impl Abort, cache: &mut Cache, group: u32) {
@@ -39,8 +40,7 @@ fn start(rt: &impl Abort, cache: &mut Cache, disk: u16, first: u32, last: u32) {
     let note = cache.start_note(disk);
     let ends = [note.first().copied(), note.last().copied()];
     let want = [first, last].map(|group| Some(NoteEntry { lv: 1, group }));
-    assert_eq!(rt; note.len(), 62);
-    assert_eq!(rt; ends, want);
+    check(rt, note.len() == 62 && ends == want, "note");
 }
 
 fn end(rt: &impl Abort, cache: &mut Cache, disk: u16, ok: bool) {
@@ -58,12 +58,12 @@ fn is_named_only_here(cache: &Cache, disk: u16, group: u32) -> bool {
 
 fn look(rt: &impl Abort, cache: &Cache, what: &Do) {
     match what {
-        At(group, place) => assert_eq!(rt; cache.find(1, *group), *place, "{group}"),
-        Pins(group, count) => assert_eq!(rt; cache.pins(1, *group), *count, "{group}"),
+        At(group, place) => check(rt, cache.find(1, *group) == *place, "place"),
+        Pins(group, count) => check(rt, cache.pins(1, *group) == *count, "pins"),
         Named(disk, group, want) => {
-            assert_eq!(rt; cache.is_named(*disk, 1, *group), *want, "{group}")
+            check(rt, cache.is_named(*disk, 1, *group) == *want, "named")
         }
-        NamedOnlyHere(disk, group) => assert!(rt; is_named_only_here(cache, *disk, *group)),
+        NamedOnlyHere(disk, group) => check(rt, is_named_only_here(cache, *disk, *group), "here"),
         _ => {}
     }
 }
@@ -88,7 +88,7 @@ fn run(rt: &(impl Abort + AllocGlobal), all: &[Do]) {
     for what in all {
         step(rt, &mut cache, what);
     }
-    assert_eq!(rt; cache.find(2, 0), None);
+    check(rt, cache.find(2, 0).is_none(), "no other volume");
 }
 
 #[test]

@@ -1,3 +1,4 @@
+use crate::fixtures::{check, check_at};
 use lvm_num::{Mode, Name, Policy, Rows};
 use lvm_parse::{Command, ParseFault, parse};
 use std::process::Abort;
@@ -5,7 +6,12 @@ use std::process::Abort;
 // The line isn't in the language from this column on.
 fn refused(rt: &(impl Abort + AllocGlobal), line: &[u8], column: u32) {
     let read = parse(rt.alloc(), line);
-    assert!(rt; read == Err(ParseFault::BadLine { column }));
+    check_at(
+        rt,
+        read == Err(ParseFault::BadLine { column }),
+        "column",
+        column as usize,
+    );
 }
 
 // None of these lines is.
@@ -24,7 +30,7 @@ fn spells(rt: &(impl Abort + AllocGlobal), line: &[u8], command: Command) {
 // The line asks for nothing.
 fn skipped(rt: &(impl Abort + AllocGlobal), line: &[u8]) {
     let read = parse(rt.alloc(), line);
-    assert!(rt; read == Ok(None));
+    check(rt, read == Ok(None), "nothing");
 }
 
 fn name(rt: &impl Abort, bytes: &[u8]) -> Name {

@@ -1,12 +1,10 @@
-use lvm_num::Policy;
+use crate::fixtures::check;
 use lvm_num::Policy::{Parallel, ParallelWrite, RoundRobin, Sequential};
 use lvm_sched::TargetState::{Done, Failed, Flying, Waiting};
 use lvm_sched::{read_order, write_next};
 
 #[test]
-fn copies_are_read_in_the_order_of_the_policy(rt: HostRuntime) {
-    let none = read_order(Parallel, &[], 0, [0; 3]);
-    assert!(rt; none.is_empty());
+fn three_copies_are_read_in_the_order_of_the_policy(rt: HostRuntime) {
     for (policy, last, loads, want) in [
         (Parallel, 0, [4, 2, 2], [2, 1, 3]),
         (Parallel, 0, [1, 1, 0], [3, 1, 2]),
@@ -16,20 +14,34 @@ fn copies_are_read_in_the_order_of_the_policy(rt: HostRuntime) {
         (RoundRobin, 3, [0; 3], [1, 2, 3]),
     ] {
         let order = read_order(policy, &[1, 2, 3], last, loads);
-        assert_eq!(rt; order.as_slice(), want.as_slice(), "{policy:?}");
+        check(
+            &rt,
+            order.as_slice() == want.as_slice(),
+            "an order of three",
+        );
     }
 }
 
 #[test]
-fn two_of_three_copies_are_read_in_the_order_of_the_policy(rt: HostRuntime) {
+fn fewer_copies_are_read_in_the_order_of_the_policy(rt: HostRuntime) {
+    let order = read_order(Parallel, &[], 0, [0; 3]);
+    check(&rt, order.is_empty(), "none");
     let order = read_order(Parallel, &[1, 3], 3, [9, 0, 9]);
-    assert_eq!(rt; order.as_slice(), [1, 3].as_slice());
+    check(
+        &rt,
+        order.as_slice() == [1, 3].as_slice(),
+        "the lowest of equal loads",
+    );
     let order = read_order(Sequential, &[2, 3], 2, [9, 9, 0]);
-    assert_eq!(rt; order.as_slice(), [2, 3].as_slice());
+    check(&rt, order.as_slice() == [2, 3].as_slice(), "the lowest");
     let order = read_order(RoundRobin, &[1, 3], 1, [0; 3]);
-    assert_eq!(rt; order.as_slice(), [3, 1].as_slice());
+    check(&rt, order.as_slice() == [3, 1].as_slice(), "the next one");
     let order = read_order(RoundRobin, &[1, 2], 2, [0; 3]);
-    assert_eq!(rt; order.as_slice(), [1, 2].as_slice());
+    check(
+        &rt,
+        order.as_slice() == [1, 2].as_slice(),
+        "the first again",
+    );
 }
 
 #[test]
@@ -44,7 +56,7 @@ fn a_target_is_started_where_the_policy_lets_it(rt: HostRuntime) {
         (RoundRobin, [Done, Flying, Done, Failed], None),
         (RoundRobin, [Waiting, Flying, Waiting, Done], Some(0)),
     ] {
-        assert_eq!(rt; write_next(policy, &states), want, "{policy:?} {states:?}");
+        check(&rt, write_next(policy, &states) == want, "the next target");
     }
-    assert_eq!(rt; write_next(Sequential, &[]), None);
+    check(&rt, write_next(Sequential, &[]).is_none(), "no target");
 }

@@ -1,7 +1,7 @@
 ghost use Rattle.std.specs.Prelude.{IsTrue, IsSome, ◌↔◌};
 ghost use Rattle.lvm_num.specs.Descriptor.{volume_of, member_of};
 
-use crate::fixtures::{Member, Volume, group, status, volume};
+use crate::fixtures::{Member, Volume, check, group, status, volume};
 use lvm_num::{Descriptor, Pp, Rows, Text};
 use lvm_show::{show_disk, show_group, show_map, show_volumes};
 use lvm_stale::StaleTable;
@@ -138,7 +138,7 @@ fn a_new_group_is_listed(rt: HostRuntime) {
         let members = DISKS.get(..*count).expect(&rt, "members");
         let d = empty(&rt, members, *quorum);
         let shown = all(&rt, &d, &fresh(&rt, disks));
-        assert_eq!(rt; shown.as_str(), *text);
+        check(&rt, shown.as_str() == *text, text);
     }
 }
 
@@ -146,7 +146,7 @@ fn a_new_group_is_listed(rt: HostRuntime) {
 fn a_group_without_volumes_lists_none(rt: HostRuntime) {
     let d = empty(&rt, &DISKS, true);
     let shown = volumes(&rt, &d, &fresh(&rt, &[0, 1, 2]));
-    assert_eq!(rt; shown.as_str(), "");
+    check(&rt, shown.is_empty(), "no line");
 }
 
 static LISTS: [(List, &str); 7] = [
@@ -180,7 +180,7 @@ fn a_group_with_stale_partitions_and_a_missing_disk_is_listed(rt: HostRuntime) {
     let t = stale(&rt);
     for (list, text) in &LISTS {
         let shown = listed(&rt, &d, &t, list);
-        assert_eq!(rt; shown.as_str(), *text);
+        check(&rt, shown.as_str() == *text, text);
     }
 }
 
@@ -226,7 +226,11 @@ fn numbers_have_four_digits_or_more(rt: HostRuntime) {
     let shown = map(&rt, &large(&rt), &fresh(&rt, &[0]), 1);
     for (lp, text) in &LINES {
         let line = shown.as_bytes().get(lp * 17..lp * 17 + 17);
-        assert!(rt; line == Some(text.as_bytes()), "{text}");
+        check(&rt, line == Some(text.as_bytes()), text);
     }
-    assert!(rt; shown.as_str().ends_with("\n10000 0856 hdisk9\n"));
+    check(
+        &rt,
+        shown.as_str().ends_with("\n10000 0856 hdisk9\n"),
+        "the last line",
+    );
 }

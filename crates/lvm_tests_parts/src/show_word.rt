@@ -1,6 +1,7 @@
 ghost use Rattle.std.specs.Prelude.{IsTrue};
 ghost use Rattle.lvm_show.specs.Refusals.{is_refusal};
 
+use crate::fixtures::{check, check_at};
 use lvm_num::{Text, fill};
 use lvm_show::{Carried, Refusal, show_block, show_refusal};
 use std::process::Abort;
@@ -10,7 +11,7 @@ fn says(rt: &(impl Abort + AllocGlobal), number: u8, carried: Carried, text: &[u
     requires { IsTrue (is_refusal (record { number = number; carried = carried })) }
 {
     let shown = show_refusal(rt.alloc(), &Refusal { number, carried }).expect(rt, "memory");
-    assert_eq!(rt; shown.as_bytes(), text);
+    check_at(rt, shown.as_bytes() == text, "refusal", usize::from(number));
 }
 
 #[test]
@@ -96,7 +97,7 @@ fn a_filled_block_is_shown_by_its_word(rt: HostRuntime) {
         (510, 0x19f, "510 000000000000019f\n"),
         (0, 0xABCD_EF01_2345_6789, "0 abcdef0123456789\n"),
     ] {
-        assert_eq!(rt; block(&rt, at, &fill(word)).as_str(), text);
+        check(&rt, block(&rt, at, &fill(word)).as_str() == text, text);
     }
 }
 
@@ -105,7 +106,11 @@ fn another_block_is_shown_whole(rt: HostRuntime) {
     let mut bytes = [0; 512];
     bytes[511] = 0xa5;
     let shown = block(&rt, 4_096, &bytes);
-    assert_eq!(rt; shown.len(), 1_030);
-    assert!(rt; shown.as_bytes().starts_with(b"4096 000000000000000"));
-    assert!(rt; shown.as_bytes().ends_with(b"000a5\n"));
+    check(&rt, shown.len() == 1_030, "length");
+    check(
+        &rt,
+        shown.as_str().starts_with("4096 000000000000000"),
+        "first",
+    );
+    check(&rt, shown.as_str().ends_with("000a5\n"), "last");
 }

@@ -1,4 +1,4 @@
-use crate::fixtures::{Member, group, status};
+use crate::fixtures::{Member, check, group, status};
 use crate::status::Do::{
     Clean, Clear, Dirty, Ends, Flies, HasStamp, IsDirty, Mark, Miss, Missing, SetStamp, Stale,
     Starts, Votes, Writes, WritesNone,
@@ -85,23 +85,23 @@ fn want(rt: &impl Abort, updater: &mut Updater, change: Change) {
 fn start(rt: &impl Abort, updater: &mut Updater, starts: bool) {
     let seq = updater.stamp().seq;
     assert!(rt; seq < u32::MAX);
-    assert_eq!(rt; updater.start(), starts);
+    check(rt, updater.start() == starts, "starts");
 }
 
 fn next_write(rt: &impl Abort, updater: &mut Updater, disk: Option<u16>) {
-    assert_eq!(rt; updater.next_write(), disk);
+    check(rt, updater.next_write() == disk, "the next write");
 }
 
 fn ended(rt: &impl Abort, updater: &mut Updater, disk: u16, ok: bool, progress: Progress) {
     assert!(rt; disk < 128);
     let out = updater.writes().started.has(disk);
     assert!(rt; out);
-    assert_eq!(rt; updater.ended(disk, ok), progress);
+    check(rt, updater.ended(disk, ok) == progress, "progress");
 }
 
 fn is_stale(rt: &impl Abort, updater: &Updater, committed: bool, settled: bool) {
-    assert_eq!(rt; updater.committed().is_stale(SOME), committed);
-    assert_eq!(rt; updater.is_settled_stale(SOME), settled);
+    check(rt, updater.committed().is_stale(SOME) == committed, "stale");
+    check(rt, updater.is_settled_stale(SOME) == settled, "settled");
 }
 
 fn set_stamp(rt: &impl Abort, updater: &mut Updater, stamp: Stamp) {
@@ -136,21 +136,17 @@ fn step(rt: &impl Abort, updater: &mut Updater, what: &Do) {
 fn look(rt: &impl Abort, updater: &Updater, what: &Do) {
     match what {
         Do::Stale(committed, settled) => is_stale(rt, updater, *committed, *settled),
-        Do::IsDirty(dirty) => assert_eq!(rt; updater.committed().is_dirty(511), *dirty),
-        Do::Missing(disk) => assert_eq!(rt; updater.wanted().is_missing(*disk), true),
-        Do::Flies(flies) => assert_eq!(rt; updater.in_flight().is_some(), *flies),
-        Do::Votes(have, total) => assert_eq!(rt; updater.votes(), (*have, *total)),
-        Do::HasStamp(epoch, seq) => {
-            assert_eq!(rt;
-                updater.stamp(),
-                Stamp {
-                    epoch: *epoch,
-                    seq: *seq
-                }
-            )
-        }
+        Do::IsDirty(dirty) => check(rt, updater.committed().is_dirty(511) == *dirty, "dirty"),
+        Do::Missing(disk) => check(rt, updater.wanted().is_missing(*disk), "missing"),
+        Do::Flies(flies) => check(rt, updater.in_flight().is_some() == *flies, "in flight"),
+        Do::Votes(have, total) => check(rt, updater.votes() == (*have, *total), "votes"),
+        Do::HasStamp(epoch, seq) => has_stamp(rt, updater, *epoch, *seq),
         _ => {}
     }
+}
+
+fn has_stamp(rt: &impl Abort, updater: &Updater, epoch: u64, seq: u32) {
+    check(rt, updater.stamp() == Stamp { epoch, seq }, "stamp");
 }
 
 fn run(rt: &impl Abort, mut updater: Updater, all: &[Do]) {
@@ -414,6 +410,6 @@ fn a_table_of_other_members_does_not_fit(rt: HostRuntime) {
     ];
     for (disks, fits) in tables {
         let table = table_of(&rt, disks);
-        assert_eq!(rt; Updater::has_its_rows(&group, &table), fits, "{disks:?}");
+        check(&rt, Updater::has_its_rows(&group, &table) == fits, "fits");
     }
 }

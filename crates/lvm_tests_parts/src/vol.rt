@@ -1,3 +1,7 @@
+ghost use Rattle.std.specs.Prelude.{◌≤◌};
+ghost use Rattle.lvm_vol.specs.Log.{spare_entries};
+
+use crate::fixtures::check;
 use lvm_num::Mode;
 use lvm_vol::{Entry, History, Outcome, Vol};
 use std::process::Abort;
@@ -17,50 +21,74 @@ enum Step {
     Cut,
 }
 
+fn room(rt: &impl Abort, history: &History, entries: u32)
+    ensures { entries ≤ spare_entries history.now }
+{
+    assert!(rt; history.spare_entries() >= entries);
+}
+
+fn make(rt: &impl Abort, history: &mut History, lv: u16, mode: Mode) {
+    room(rt, history, 1);
+    history.push(Entry::Making {
+        lv,
+        blocks: 8,
+        mode,
+    });
+}
+
+fn remove(rt: &impl Abort, history: &mut History, lv: u16) {
+    room(rt, history, 1);
+    history.push(Entry::Removed { vol: Vol::Lv(lv) });
+}
+
+fn split(rt: &impl Abort, history: &mut History, from: u16, lv: u16) {
+    room(rt, history, 1);
+    history.push(Entry::Split { from, lv });
+}
+
+fn vary_on(rt: &impl Abort, history: &mut History, moment: u64) {
+    room(rt, history, 1);
+    history.push(Entry::On { moment });
+}
+
+fn write(rt: &impl Abort, history: &mut History, lv: u16, byte: u8) {
+    room(rt, history, 3);
+    assert!(rt; history.spare_bytes() >= 512);
+    let _id = history.begin(7, Vol::Lv(lv), 5, 1, Some([byte; 512].as_slice()));
+}
+
+fn read(rt: &impl Abort, history: &mut History, lv: u16) {
+    room(rt, history, 3);
+    assert!(rt; history.spare_bytes() >= 512);
+    let _id = history.begin(7, Vol::Lv(lv), 5, 1, None);
+}
+
+fn land(rt: &impl Abort, history: &mut History, id: u64, outcome: Outcome, started: bool) {
+    assert!(rt; history.is_open(id));
+    history.land(id, outcome, started);
+}
+
+fn got(rt: &impl Abort, history: &mut History, id: u64, byte: u8) {
+    assert!(rt; history.awaited(id) == Some(1));
+    history.land_read(id, [byte; 512].as_slice());
+}
+
+fn take(rt: &impl Abort, history: &mut History, id: u64) {
+    assert!(rt; history.is_answered(7, id));
+    history.taken(7, id);
+}
+
 fn enter(rt: &impl Abort, history: &mut History, step: Step) {
     match step {
-        Step::Make(lv, mode) => {
-            assert!(rt; history.spare_entries() >= 1);
-            history.push(Entry::Making {
-                lv,
-                blocks: 8,
-                mode,
-            });
-        }
-        Step::Remove(lv) => {
-            assert!(rt; history.spare_entries() >= 1);
-            history.push(Entry::Removed { vol: Vol::Lv(lv) });
-        }
-        Step::Split { from, lv } => {
-            assert!(rt; history.spare_entries() >= 1);
-            history.push(Entry::Split { from, lv });
-        }
-        Step::Write(lv, byte) => {
-            assert!(rt; history.spare_entries() >= 3);
-            assert!(rt; history.spare_bytes() >= 512);
-            let _id = history.begin(7, Vol::Lv(lv), 5, 1, Some([byte; 512].as_slice()));
-        }
-        Step::Read(lv) => {
-            assert!(rt; history.spare_entries() >= 3);
-            assert!(rt; history.spare_bytes() >= 512);
-            let _id = history.begin(7, Vol::Lv(lv), 5, 1, None);
-        }
-        Step::Land(id, outcome, started) => {
-            assert!(rt; history.is_open(id));
-            history.land(id, outcome, started);
-        }
-        Step::Got(id, byte) => {
-            assert_eq!(rt; history.awaited(id), Some(1));
-            history.land_read(id, [byte; 512].as_slice());
-        }
-        Step::Take(id) => {
-            assert!(rt; history.is_answered(7, id));
-            history.taken(7, id);
-        }
-        Step::On(moment) => {
-            assert!(rt; history.spare_entries() >= 1);
-            history.push(Entry::On { moment });
-        }
+        Step::Make(lv, mode) => make(rt, history, lv, mode),
+        Step::Remove(lv) => remove(rt, history, lv),
+        Step::Split { from, lv } => split(rt, history, from, lv),
+        Step::Write(lv, byte) => write(rt, history, lv, byte),
+        Step::Read(lv) => read(rt, history, lv),
+        Step::Land(id, outcome, started) => land(rt, history, id, outcome, started),
+        Step::Got(id, byte) => got(rt, history, id, byte),
+        Step::Take(id) => take(rt, history, id),
+        Step::On(moment) => vary_on(rt, history, moment),
         Step::Cut => history.cut(),
     }
 }
@@ -125,16 +153,16 @@ fn dark(id: u64, started: bool) -> Step {
     Step::Land(id, Outcome::Dark, started)
 }
 
-fn check(rt: &(impl Abort + AllocGlobal), cases: &[(&str, &[Step], u16, [bool; 4])]) {
+fn check_all(rt: &(impl Abort + AllocGlobal), cases: &[(&str, &[Step], u16, [bool; 4])]) {
     for (what, steps, lv, want) in cases {
         let history = told(rt, steps);
-        assert_eq!(rt; allowed(&history, *lv), *want, "{what}");
+        check(rt, allowed(&history, *lv) == *want, what);
     }
 }
 
 #[test]
 fn writes_and_reads_leave_what_the_table_says(rt: HostRuntime) {
-    check(
+    check_all(
         &rt,
         &[
             ("nothing is known", &[], 1, ALL),
@@ -206,7 +234,7 @@ fn writes_and_reads_leave_what_the_table_says(rt: HostRuntime) {
 
 #[test]
 fn cuts_add_what_was_open(rt: HostRuntime) {
-    check(
+    check_all(
         &rt,
         &[
             (
@@ -257,7 +285,7 @@ fn cuts_add_what_was_open(rt: HostRuntime) {
 
 #[test]
 fn what_went_off_is_loose_in_mode_off_alone(rt: HostRuntime) {
-    check(
+    check_all(
         &rt,
         &[
             ("not started", &[OFF, WRITE_1, off(1, false)], 1, ONLY_0),
@@ -332,7 +360,7 @@ fn what_went_off_is_loose_in_mode_off_alone(rt: HostRuntime) {
 #[test]
 fn volumes_come_and_go_with_their_blocks(rt: HostRuntime) {
     let split = Step::Split { from: 1, lv: 2 };
-    check(
+    check_all(
         &rt,
         &[
             (
@@ -505,7 +533,7 @@ fn wrong_histories_are_not_legal(rt: HostRuntime) {
         ("moments that rise", &[Step::On(60), Step::On(61)], true),
     ];
     for (what, steps, want) in cases {
-        assert_eq!(rt; told(&rt, steps).is_legal(), want, "{what}");
+        check(&rt, told(&rt, steps).is_legal() == want, what);
     }
 }
 
@@ -553,37 +581,45 @@ fn begun(id: u64, write: bool, place: u64) -> Option<Entry> {
 #[test]
 fn tells_what_was_entered(rt: HostRuntime) {
     let history = told(&rt, &[ACTIVE, WRITE_1, READ, done(1), Step::Got(2, 2)]);
-    assert_eq!(rt; counts(&history), (50, 5, 100 - 5 - 2 - 1, 65_536 - 1_024));
+    check(
+        &rt,
+        counts(&history) == (50, 5, 100 - 5 - 2 - 1, 65_536 - 1_024),
+        "counts",
+    );
     let entries = [entry(&history, 1), entry(&history, 2)];
-    assert_eq!(rt; entries, [begun(1, true, 0), begun(2, false, 1)]);
-    assert_eq!(rt; ends(&history), Some([1, 1, 2, 2]));
+    check(
+        &rt,
+        entries == [begun(1, true, 0), begun(2, false, 1)],
+        "entries",
+    );
+    check(&rt, ends(&history) == Some([1, 1, 2, 2]), "blocks");
 }
 
 #[test]
 fn an_answer_is_there_for_its_client_until_it_is_taken(rt: HostRuntime) {
     let mut history = told(&rt, &[ACTIVE, WRITE_1, READ, done(1), Step::Got(2, 1)]);
     let answered = [history.is_answered(8, 2), history.is_answered(7, 2)];
-    assert_eq!(rt; answered, [false, true]);
+    check(&rt, answered == [false, true], "answered");
     enter(&rt, &mut history, Step::Take(2));
-    assert!(rt; !history.is_answered(7, 2));
+    check(&rt, !history.is_answered(7, 2), "taken");
 }
 
 #[test]
 fn a_cut_is_entered_once(rt: HostRuntime) {
     let mut history = told(&rt, &[ACTIVE, WRITE_1, done(1), Step::Cut]);
-    assert_eq!(rt; history.len(), 4);
+    check(&rt, history.len() == 4, "entries");
     history.cut();
-    assert_eq!(rt; history.len(), 4);
+    check(&rt, history.len() == 4, "entries");
 }
 
 #[test]
 fn room_for_four_entries_serves_one_request(rt: HostRuntime) {
     let mut history = History::new(rt.alloc(), 50, 4, 512).expect(&rt, "memory");
-    assert_eq!(rt; counts(&history), (50, 0, 3, 512));
+    check(&rt, counts(&history) == (50, 0, 3, 512), "counts");
     enter(&rt, &mut history, WRITE_1);
-    assert_eq!(rt; counts(&history), (50, 1, 0, 0));
+    check(&rt, counts(&history) == (50, 1, 0, 0), "counts");
     enter(&rt, &mut history, done(1));
     enter(&rt, &mut history, Step::Take(1));
     history.cut();
-    assert_eq!(rt; counts(&history), (50, 4, 0, 0));
+    check(&rt, counts(&history) == (50, 4, 0, 0), "counts");
 }

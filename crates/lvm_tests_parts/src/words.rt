@@ -1,5 +1,6 @@
 // Words as they come from a shell.
 
+use crate::fixtures::check;
 use lvm_num::Text;
 use lvm_words::{Job, WordsFault, read_words};
 use std::process::Abort;
@@ -31,7 +32,7 @@ static JOBS: [(&[&str], Job); 3] = [
 #[test]
 fn each_job_is_read(rt: HostRuntime) {
     for (words, job) in &JOBS {
-        assert!(rt; read(&rt, words) == Ok(*job));
+        check(&rt, read(&rt, words) == Ok(*job), "a job");
     }
 }
 
@@ -51,6 +52,6 @@ static REFUSED: [&[&str]; 9] = [
 #[test]
 fn what_clap_takes_beyond_the_language_is_refused(rt: HostRuntime) {
     for words in &REFUSED {
-        assert!(rt; read(&rt, words) == Err(WordsFault::Usage));
+        check(&rt, read(&rt, words) == Err(WordsFault::Usage), "usage");
     }
 }

@@ -1,4 +1,4 @@
-use crate::fixtures::{Member, Volume, group};
+use crate::fixtures::{Member, Volume, check, group};
 use lvm_map::{MapFault, allocate, allocate_more, blocks, place};
 use lvm_num::{Descriptor, DiskSet, Place, Pp, Rows};
 use std::process::Abort;
@@ -207,7 +207,7 @@ fn is_as(map: &Map, want: &Want) -> bool {
 fn the_first_partitions_that_fit_are_taken(rt: HostRuntime) {
     for (what, of, usable, ask, want) in &FITS {
         let map = answered(&rt, of, usable, ask);
-        assert!(rt; is_as(&map, want), "{what}");
+        check(&rt, is_as(&map, want), what);
     }
 }
 
@@ -240,9 +240,9 @@ fn blocks_of(rt: &impl Abort, d: &Descriptor, lv: u16) -> Option<u64> {
 #[test]
 fn a_block_has_a_sector_on_each_copy(rt: HostRuntime) {
     let d = group(&rt, &DISKS, &[MIRRORED]);
-    assert_eq!(rt; blocks_of(&rt, &d, 4), Some(4096));
-    assert_eq!(rt; blocks_of(&rt, &d, 3), None);
     for (lv, copy, block, want) in &PLACES {
-        assert_eq!(rt; sector(&rt, &d, *lv, *copy, *block), *want);
+        check(&rt, sector(&rt, &d, *lv, *copy, *block) == *want, "a place");
     }
+    check(&rt, blocks_of(&rt, &d, 4) == Some(4096), "blocks");
+    check(&rt, blocks_of(&rt, &d, 3).is_none(), "no volume");
 }

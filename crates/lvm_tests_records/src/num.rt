@@ -1,4 +1,4 @@
-use crate::fixtures::{Member, Volume, group, members, status, volume};
+use crate::fixtures::{Member, Volume, check, group, members, status, volume};
 use lvm_num::{Descriptor, DiskSet, Name, Pp, PvRow, Rows};
 use std::process::Abort;
 
@@ -93,7 +93,7 @@ static NAMES: [(&str, bool); 20] = [
 #[test]
 fn names_are_refused_at_each_rule(rt: HostRuntime) {
     for (text, is) in &NAMES {
-        assert_eq!(rt; Name::read(text.as_bytes()).is_some(), *is, "{text}");
+        check(&rt, Name::read(text.as_bytes()).is_some() == *is, text);
     }
 }
 
@@ -114,8 +114,7 @@ fn is_head(
 #[test]
 fn heads_and_members_are_refused_at_each_rule(rt: HostRuntime) {
     for (what, id, mib, even, disks, valid) in &HEADS {
-        let is = is_head(&rt, *id, *mib, *even, disks);
-        assert_eq!(rt; is, *valid, "{what}");
+        check(&rt, is_head(&rt, *id, *mib, *even, disks) == *valid, what);
     }
 }
 
@@ -126,8 +125,7 @@ fn has_volumes(rt: &(impl Abort + AllocGlobal), volumes: &[Volume]) -> bool {
 #[test]
 fn volumes_are_refused_at_each_rule(rt: HostRuntime) {
     for (what, volumes, valid) in &VOLUMES {
-        let is = has_volumes(&rt, volumes);
-        assert_eq!(rt; is, *valid, "{what}");
+        check(&rt, has_volumes(&rt, volumes) == *valid, what);
     }
 }
 
@@ -156,7 +154,11 @@ fn a_big_group_has_more_members(rt: HostRuntime) {
         (128, true, true),
         (129, true, false),
     ] {
-        assert_eq!(rt; group_of_many(&rt, disks, big).is_valid(), valid, "{disks}");
+        check(
+            &rt,
+            group_of_many(&rt, disks, big).is_valid() == valid,
+            "members",
+        );
     }
 }
 
@@ -191,8 +193,12 @@ fn a_partition_used_twice_is_found_in_the_fullest_group(rt: HostRuntime) {
         pp: 1015,
     };
     let first = Pp { disk: 0, pp: 0 };
-    assert_eq!(rt; full_group(&rt, last).is_valid(), true);
-    assert_eq!(rt; full_group(&rt, first).is_valid(), false);
+    check(&rt, full_group(&rt, last).is_valid(), "each once");
+    check(
+        &rt,
+        !full_group(&rt, first).is_valid(),
+        "the first one twice",
+    );
 }
 
 // what, big, disks, dirty, valid
@@ -227,8 +233,7 @@ fn is_status(
 #[test]
 fn statuses_are_refused_at_each_rule(rt: HostRuntime) {
     for (what, big, disks, dirty, valid) in &STATUSES {
-        let is = is_status(&rt, 50, *big, disks, dirty);
-        assert_eq!(rt; is, *valid, "{what}");
+        check(&rt, is_status(&rt, 50, *big, disks, dirty) == *valid, what);
     }
 }
 
@@ -248,59 +253,65 @@ fn a_big_status_has_more_rows(rt: HostRuntime) {
         (50, true, 33, true),
         (0, true, 33, false),
     ] {
-        let is = is_status_of_first(&rt, id, big, count);
-        assert_eq!(rt; is, valid, "{count} rows");
+        check(
+            &rt,
+            is_status_of_first(&rt, id, big, count) == valid,
+            "rows",
+        );
     }
 }
 
 #[test]
 fn a_set_has_what_was_put_in_last(rt: HostRuntime) {
     let set = DiskSet::empty().with(0).with(127).without(0).without(5);
-    assert_eq!(rt; set.has(0), false);
-    assert_eq!(rt; set.has(127), true);
-    assert_eq!(rt; set == DiskSet::empty().with(127), true);
+    check(&rt, !set.has(0) && set.has(127), "127 and not 0");
+    check(&rt, set == DiskSet::empty().with(127), "127 alone");
 }
 
-// The votes of disks 0, 4 and 3, of all and of the first, and whether so many are enough to read and to write.
-fn votes_of(group: &Descriptor, votes: u32) -> Option<([u32; 5], [bool; 2])> {
-    if !group.is_valid() {
-        return None;
-    }
-    let first = DiskSet::empty().with(0);
-    let counts = [
-        group.votes(0),
-        group.votes(4),
-        group.votes(3),
-        group.total_votes(),
-        group.votes_in(first),
-    ];
-    let enough = [group.enough_to_read(votes), group.enough_to_write(votes)];
-    Some((counts, enough))
-}
-
-fn votes_of_two(
-    rt: &(impl Abort + AllocGlobal),
-    quorum: bool,
-    even: bool,
-    votes: u32,
-) -> ([u32; 5], [bool; 2]) {
+// The group of two disks.
+fn two_disks(rt: &(impl Abort + AllocGlobal), quorum: bool, even: bool) -> Descriptor {
     let mut group = group(rt, TWO, &[]);
     group.quorum = quorum;
     group.even = even;
-    votes_of(&group, votes).expect(rt, "valid")
+    group
+}
+
+// The votes of disks 0, 4 and 3.
+fn votes(rt: &impl Abort, group: &Descriptor) -> [u32; 3] {
+    let valid = group.is_valid();
+    assert!(rt; valid);
+    [group.votes(0), group.votes(4), group.votes(3)]
+}
+
+// The votes of all and those of the first.
+fn sums(rt: &impl Abort, group: &Descriptor) -> [u32; 2] {
+    let valid = group.is_valid();
+    assert!(rt; valid);
+    [
+        group.total_votes(),
+        group.votes_in(DiskSet::empty().with(0)),
+    ]
+}
+
+// Whether so many are enough to read and to write.
+fn enough(rt: &impl Abort, group: &Descriptor, votes: u32) -> [bool; 2] {
+    let valid = group.is_valid();
+    assert!(rt; valid);
+    [group.enough_to_read(votes), group.enough_to_write(votes)]
 }
 
 // What is enough for three of two disks, for two of two that are even, and without a quorum.
 #[test]
 fn two_disks_have_three_votes_unless_even(rt: HostRuntime) {
-    for (quorum, even, votes, total, read, write) in [
+    for (quorum, even, first, total, read, write) in [
         (true, false, 2, 3, true, true),
         (true, true, 1, 2, false, false),
         (false, false, 2, 3, false, true),
         (false, true, 1, 2, false, true),
     ] {
-        let (counts, enough) = votes_of_two(&rt, quorum, even, votes);
-        assert_eq!(rt; counts, [votes, 1, 0, total, votes]);
-        assert_eq!(rt; enough, [read, write]);
+        let group = two_disks(&rt, quorum, even);
+        check(&rt, votes(&rt, &group) == [first, 1, 0], "votes");
+        check(&rt, sums(&rt, &group) == [total, first], "sums");
+        check(&rt, enough(&rt, &group, first) == [read, write], "enough");
     }
 }

@@ -1,6 +1,7 @@
 ghost use Rattle.std.specs.Prelude.{◌≡◌, ◌≤◌, length};
 ghost use Rattle.lvm_num.specs.Record.{longest_content};
 
+use crate::fixtures::{check, check_at};
 use lvm_num::{Framed, NoteEntry, Rows, Stamp};
 use lvm_rec::{Kind, frame, read_note, read_slot, slot_sectors, write_note};
 use std::process::Abort;
@@ -32,11 +33,18 @@ fn the_descriptor_of_three_disks_has_these_bytes(rt: HostRuntime) {
     want[..20].copy_from_slice(&HEAD);
     want[20..92].copy_from_slice(&GROUP);
     let sector = frame(Kind::Descriptor, STAMP, &GROUP, 0);
-    assert_eq!(rt; slot_sectors(72), 1);
-    assert!(rt; sector == want);
-    assert!(rt; holds_the_group(&rt, &sector));
-    assert!(rt; held(&rt, Kind::Status, &sector).is_none());
-    assert!(rt; held(&rt, Kind::Descriptor, &sector[..511]).is_none());
+    check(&rt, slot_sectors(72) == 1 && sector == want, "the sector");
+    check(&rt, holds_the_group(&rt, &sector), "the content");
+    check(
+        &rt,
+        held(&rt, Kind::Status, &sector).is_none(),
+        "another kind",
+    );
+    check(
+        &rt,
+        held(&rt, Kind::Descriptor, &sector[..511]).is_none(),
+        "short",
+    );
 }
 
 fn sevens(rt: &(impl Abort + AllocGlobal), count: usize) -> Vec<u8>
@@ -91,10 +99,15 @@ fn the_longest_content_of_each_kind_fits(rt: HostRuntime) {
         (Kind::Descriptor, 31_740, 64, [0, 64], Some(31_741)),
     ] {
         let slot = slot_of(&rt, kind, count);
-        assert_eq!(rt; slot_sectors(count), sectors);
-        assert_eq!(rt; sevens_in(&rt, kind, &slot), Some(count));
+        check_at(&rt, slot.len() == sectors * 512, "sectors", count);
+        check_at(
+            &rt,
+            sevens_in(&rt, kind, &slot) == Some(count),
+            "sevens",
+            count,
+        );
         let longer = with_a_byte_more(&rt, slot, index);
-        assert_eq!(rt; sevens_in(&rt, kind, &longer), more);
+        check_at(&rt, sevens_in(&rt, kind, &longer) == more, "more", count);
     }
 }
 
@@ -115,19 +128,29 @@ fn wanted(at: usize, bit: u8) -> Option<usize> {
     }
 }
 
+fn check_turned(rt: &(impl Abort + AllocGlobal), slot: &[u8], at: usize) {
+    for bit in [1, 128] {
+        check_at(
+            rt,
+            read_turned(rt, slot, at, bit) == wanted(at, bit),
+            "byte",
+            at,
+        );
+    }
+}
+
 #[test]
 fn a_slot_with_one_bit_turned_reads_as_another_content_or_none(rt: HostRuntime) {
     let mut slot = slot_of(&rt, Kind::Status, 493);
     slot.resize(1536, 0).expect(&rt, "memory");
     for at in 0..1536 {
-        for bit in [1, 128] {
-            assert_eq!(rt;
-                read_turned(&rt, &slot, at, bit),
-                wanted(at, bit),
-                "bit {bit} of byte {at}"
-            );
-        }
+        check_turned(&rt, &slot, at);
     }
+}
+
+// What a sector names, under this stamp.
+fn noted(sector: &[u8; 512], stamp: u64, entries: &[NoteEntry]) -> bool {
+    read_note(sector).is_some_and(|note| note.stamp == stamp && note.entries.as_slice() == entries)
 }
 
 #[test]
@@ -137,17 +160,19 @@ fn the_note_of_one_track_group_has_these_bytes(rt: HostRuntime) {
     want[..16].copy_from_slice(&NOTE);
     want[511] = 50;
     let mut sector = write_note(50, &[entry]);
-    assert!(rt; sector == want);
-    let note = read_note(&sector).expect(&rt, "a note");
-    assert_eq!(rt; note.stamp, 50);
-    assert_eq!(rt; note.entries.as_slice(), [entry].as_slice());
+    check(&rt, sector == want, "written");
+    check(&rt, noted(&sector, 50, &[entry]), "read");
     sector[511] = 51;
-    assert!(rt; read_note(&sector).is_none());
+    check(&rt, read_note(&sector).is_none(), "two stamps");
 }
 
-// How many entries the sector names.
-fn entries_in(sector: &[u8; 512]) -> Option<usize> {
-    read_note(sector).map(|note| note.entries.len())
+// How many entries the sector names where this byte is other ones.
+fn entries_with(sector: &[u8; 512], at: usize, bits: u8) -> Option<usize> {
+    let mut turned = *sector;
+    if let Some(byte) = turned.get_mut(at) {
+        *byte ^= bits;
+    }
+    read_note(&turned).map(|note| note.entries.len())
 }
 
 #[test]
@@ -157,14 +182,16 @@ fn entries_count_at_each_place_but_for_volume_0(rt: HostRuntime) {
         group: u32::MAX,
     }; 62];
     let mut sector = write_note(u64::MAX, &full);
-    for at in 0..496 {
-        // a volume of 255 or 65,280 counts, as does any track group
+    // a volume of 255 or 65,280 counts, as does any track group
+    for at in 8..504 {
         let count = if at % 8 == 2 || at % 8 == 3 { 61 } else { 62 };
-        let was = sector[8 + at];
-        sector[8 + at] ^= 255;
-        assert_eq!(rt; entries_in(&sector), Some(count), "byte {at}");
-        sector[8 + at] = was;
+        check_at(
+            &rt,
+            entries_with(&sector, at, 255) == Some(count),
+            "byte",
+            at,
+        );
     }
-    sector[8..10].copy_from_slice(&[0, 0]);
-    assert_eq!(rt; entries_in(&sector), Some(61));
+    sector[8] = 0;
+    check(&rt, entries_with(&sector, 9, 255) == Some(61), "volume 0");
 }

@@ -1,4 +1,4 @@
-use crate::fixtures::{Volume, group, status};
+use crate::fixtures::{Volume, check, group, status};
 use lvm_num::Pp;
 use lvm_stale::StaleTable;
 use std::process::Abort;
@@ -40,10 +40,10 @@ fn last_marks(table: &StaleTable) -> Option<u8> {
 fn a_partition_is_marked_and_cleared_alone(rt: HostRuntime) {
     let mut table = table_of(&rt);
     mark(&rt, &mut table, 7, 1015);
-    assert_eq!(rt; stale(&table), [true, false, false, false]);
-    assert_eq!(rt; last_marks(&table), Some(0x80));
+    check(&rt, stale(&table) == [true, false, false, false], "marked");
+    check(&rt, last_marks(&table) == Some(0x80), "the last bit");
     clear(&rt, &mut table, 7, 1015);
-    assert_eq!(rt; stale(&table), [false; 4]);
+    check(&rt, stale(&table) == [false; 4], "cleared");
 }
 
 fn set_missing(rt: &impl Abort, table: &mut StaleTable, disk: u16) {
@@ -57,8 +57,12 @@ fn a_disk_is_missing_alone(rt: HostRuntime) {
     let mut table = table_of(&rt);
     set_missing(&rt, &mut table, 3);
     let missing = [3, 7, 4].map(|disk| table.is_missing(disk));
-    assert_eq!(rt; missing, [true, false, false]);
-    assert!(rt; !table.is_stale(Pp { disk: 3, pp: 0 }));
+    check(&rt, missing == [true, false, false], "missing");
+    check(&rt, !table.is_stale(Pp { disk: 3, pp: 0 }), "fresh");
+}
+
+fn is_dirty(table: &StaleTable, volumes: &[u16]) -> bool {
+    table.as_status().dirty.as_slice() == volumes
 }
 
 #[test]
@@ -67,15 +71,11 @@ fn dirty_volumes_stay_in_order(rt: HostRuntime) {
     for lv in [511, 1, 7, 5, 7] {
         table.set_dirty(lv, true);
     }
-    assert_eq!(rt;
-        table.as_status().dirty.as_slice(),
-        [1, 5, 7, 511].as_slice()
-    );
+    check(&rt, is_dirty(&table, &[1, 5, 7, 511]), "dirty");
     table.set_dirty(5, false);
     table.set_dirty(6, false);
-    assert_eq!(rt; table.as_status().dirty.as_slice(), [1, 7, 511].as_slice());
-    assert_eq!(rt; table.is_dirty(5), false);
-    assert_eq!(rt; table.is_dirty(7), true);
+    check(&rt, is_dirty(&table, &[1, 7, 511]), "clean");
+    check(&rt, table.is_dirty(7) && !table.is_dirty(5), "one by one");
 }
 
 // Whether the status that is made of a table is as it is shown.
@@ -87,8 +87,12 @@ fn is_shown(rt: &(impl Abort + AllocGlobal), table: &StaleTable) -> bool {
 fn the_status_is_what_was_set(rt: HostRuntime) {
     let mut table = table_of(&rt);
     mark(&rt, &mut table, 3, 9);
-    assert!(rt; is_shown(&rt, &table));
-    assert!(rt; *table.as_status() != *table_of(&rt).as_status());
+    check(&rt, is_shown(&rt, &table), "the same");
+    check(
+        &rt,
+        *table.as_status() != *table_of(&rt).as_status(),
+        "changed",
+    );
 }
 
 const MIRRORED: Volume = (2, "lv", 2, 2, &[(3, 4), (7, 4), (3, 1015), (7, 1015)]);
@@ -104,12 +108,12 @@ fn stale_copies(rt: &(impl Abort + AllocGlobal), table: &StaleTable, lv: u16) ->
 #[test]
 fn stale_copies_of_a_volume_are_counted(rt: HostRuntime) {
     let mut table = table_of(&rt);
-    assert_eq!(rt; stale_copies(&rt, &table, 2), 0);
+    check(&rt, stale_copies(&rt, &table, 2) == 0, "none");
     for (disk, pp) in [(3, 4), (7, 1015), (3, 5)] {
         mark(&rt, &mut table, disk, pp);
     }
-    assert_eq!(rt; stale_copies(&rt, &table, 2), 2);
-    assert_eq!(rt; stale_copies(&rt, &table, 1), 0);
+    check(&rt, stale_copies(&rt, &table, 2) == 2, "two");
+    check(&rt, stale_copies(&rt, &table, 1) == 0, "no volume");
 }
 
 fn copy(rt: &impl Abort, to: &mut StaleTable, from: &StaleTable) {
@@ -127,5 +131,5 @@ fn a_table_becomes_another_without_memory(rt: HostRuntime) {
     mark(&rt, &mut one, 3, 2);
     other.set_dirty(9, true);
     copy(&rt, &mut other, &one);
-    assert!(rt; *one.as_status() == *other.as_status());
+    check(&rt, *one.as_status() == *other.as_status(), "the same");
 }

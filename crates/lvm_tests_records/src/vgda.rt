@@ -1,4 +1,4 @@
-use crate::fixtures::{Member, group, members};
+use crate::fixtures::{Member, check, check_at, group, members};
 use lvm_num::{Descriptor, LvRow, Mode, Name, Policy, Pp, PvRow, Rows};
 use lvm_vgda::{VgdaFault, decode, encode};
 use std::process::Abort;
@@ -43,8 +43,8 @@ fn three_disks_are_written_and_read_in_both_versions(rt: HostRuntime) {
         let group = three(&rt, big);
         let written = encoded(&rt, &group).as_slice() == want.as_slice();
         let read = decoded(&rt, &want) == group;
-        assert!(rt; written);
-        assert!(rt; read);
+        check(&rt, written, "written");
+        check(&rt, read, "read");
     }
 }
 
@@ -127,7 +127,7 @@ fn fault_with(rt: &(impl Abort + AllocGlobal), changes: &[(usize, u8)]) -> Optio
 #[test]
 fn each_rule_is_refused_at_its_place(rt: HostRuntime) {
     for (what, changes, place) in &FAULTS {
-        assert_eq!(rt; fault_with(&rt, changes), Some(*place), "{what}");
+        check(&rt, fault_with(&rt, changes) == Some(*place), what);
     }
 }
 
@@ -135,14 +135,14 @@ fn each_rule_is_refused_at_its_place(rt: HostRuntime) {
 fn all_of_the_bytes_are_needed_and_none_more(rt: HostRuntime) {
     let mut bytes = two(&rt);
     let again = encoded(&rt, &decoded(&rt, &bytes));
-    assert!(rt; again.as_slice() == bytes.as_slice());
+    check(&rt, again.as_slice() == bytes.as_slice(), "again");
     for len in 0..148 {
         let front = bytes.get(..len).expect(&rt, "bytes");
-        assert_eq!(rt; fault_in(&rt, front), Some(len as u32));
+        check_at(&rt, fault_in(&rt, front) == Some(len as u32), "bytes", len);
     }
     bytes.push(0).expect(&rt, "memory");
-    assert_eq!(rt; fault_in(&rt, &bytes), Some(148));
-    assert_eq!(rt; fault_in(&rt, &THREE[..71]), Some(71));
+    check(&rt, fault_in(&rt, &bytes) == Some(148), "a byte more");
+    check(&rt, fault_in(&rt, &THREE[..71]) == Some(71), "three disks");
 }
 
 // A name of its own for each number.
@@ -239,8 +239,7 @@ fn the_largest_of_each_version_is_read_again(rt: HostRuntime) {
     ] {
         let group = full_group(&rt, big, members, volumes);
         let bytes = encoded(&rt, &group);
-        let same = decoded(&rt, bytes.as_slice()) == group;
-        assert_eq!(rt; bytes.len(), len);
-        assert!(rt; same, "{len}");
+        check_at(&rt, bytes.len() == len, "bytes", len);
+        check_at(&rt, decoded(&rt, bytes.as_slice()) == group, "again", len);
     }
 }

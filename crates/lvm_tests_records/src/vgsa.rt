@@ -1,3 +1,4 @@
+use crate::fixtures::{check, check_at};
 use lvm_num::{Rows, Status, StatusRow, VolumeNumbers};
 use lvm_vgsa::{VgsaFault, decode, encode, encode_into};
 use std::process::Abort;
@@ -84,8 +85,7 @@ fn each_version_has_its_head_and_its_end(rt: HostRuntime) {
     for (what, form, len, first, last) in &BYTES {
         let bytes = bytes_of(&rt, form);
         let ends = bytes.as_slice().starts_with(first) && bytes.as_slice().ends_with(last);
-        assert_eq!(rt; bytes.len(), *len, "{what}");
-        assert!(rt; ends, "{what}");
+        check(&rt, bytes.len() == *len && ends, what);
     }
 }
 
@@ -94,8 +94,12 @@ fn a_row_has_its_disk_and_its_marks(rt: HostRuntime) {
     let bytes = bytes_of(&rt, &SMALL);
     assert_eq!(rt; bytes.len(), 280);
     let rows = &bytes.as_slice()[16..];
-    assert!(rt; rows.starts_with(&[0, 0, 0, 0, 0, 2]));
-    assert!(rt; (&rows[132..]).starts_with(&[0, 1, 1, 0, 0, 0]));
+    check(&rt, rows.starts_with(&[0, 0, 0, 0, 0, 2]), "the first row");
+    check(
+        &rt,
+        (&rows[132..]).starts_with(&[0, 1, 1, 0, 0, 0]),
+        "the second",
+    );
 }
 
 #[test]
@@ -106,9 +110,9 @@ fn what_follows_stays(rt: HostRuntime) {
     let fits = bytes.len() <= into.len();
     assert!(rt; fits);
     let end = encode_into(&status, &mut into);
-    assert_eq!(rt; end, 148);
-    assert!(rt; into.starts_with(bytes.as_slice()));
-    assert!(rt; into.ends_with(&[0xa5, 0xa5]));
+    check(&rt, end == 148, "the end");
+    check(&rt, into.starts_with(bytes.as_slice()), "the status");
+    check(&rt, into.ends_with(&[0xa5, 0xa5]), "what follows");
 }
 
 // How many bytes the status has, where it is read of them again.
@@ -136,8 +140,16 @@ fn the_largest_of_each_version_round_trips(rt: HostRuntime) {
         (false, 32, 4_240, 5_264),
         (true, 128, 16_912, 17_936),
     ] {
-        assert_eq!(rt; read_again(&rt, big, disks, &[]), Some(clean));
-        assert_eq!(rt; read_again(&rt, big, disks, &all), Some(dirty));
+        check(
+            &rt,
+            read_again(&rt, big, disks, &[]) == Some(clean),
+            "clean",
+        );
+        check(
+            &rt,
+            read_again(&rt, big, disks, &all) == Some(dirty),
+            "dirty",
+        );
     }
 }
 
@@ -195,10 +207,11 @@ fn fault_with(rt: &(impl Abort + AllocGlobal), form: &Form, at: usize, put: &[u8
 #[test]
 fn each_rule_is_refused_at_its_place(rt: HostRuntime) {
     for (form, at, put, place) in &FAULTS {
-        assert_eq!(rt;
-            fault_with(&rt, form, *at, put),
-            Some(*place),
-            "{put:?} at {at}"
+        check_at(
+            &rt,
+            fault_with(&rt, form, *at, put) == Some(*place),
+            "byte",
+            *at,
         );
     }
 }
@@ -208,12 +221,16 @@ fn all_of_the_bytes_are_needed_and_none_more(rt: HostRuntime) {
     let mut bytes = bytes_of(&rt, &BIG_DIRTY).into_vec();
     for len in 0..286 {
         let front = bytes.get(..len).expect(&rt, "bytes");
-        assert_eq!(rt; fault_in(&rt, front), Some(len as u32));
+        check_at(&rt, fault_in(&rt, front) == Some(len as u32), "bytes", len);
     }
-    assert_eq!(rt; fault_in(&rt, &bytes), None);
+    check(&rt, fault_in(&rt, &bytes).is_none(), "all");
     bytes.extend_from_slice(&[0, 0]).expect(&rt, "memory");
-    assert_eq!(rt; fault_in(&rt, &bytes), Some(286));
-    let mut more = bytes_of(&rt, &SMALL).into_vec();
-    more.push(0).expect(&rt, "memory");
-    assert_eq!(rt; fault_in(&rt, &more), Some(280));
+    check(&rt, fault_in(&rt, &bytes) == Some(286), "two bytes more");
+}
+
+#[test]
+fn a_byte_more_is_refused_without_dirty_volumes(rt: HostRuntime) {
+    let mut bytes = bytes_of(&rt, &SMALL).into_vec();
+    bytes.push(0).expect(&rt, "memory");
+    check(&rt, fault_in(&rt, &bytes) == Some(280), "a byte more");
 }
