@@ -1,8 +1,8 @@
 ghost use Rattle.lvm_hold.specs.Conflicts.{IsInGroup};
 
-use crate::{Held, Queue};
+use crate::fixtures::check;
+use lvm_hold::{Held, Queue};
 use std::process::Abort;
-use std::test::Fail;
 
 fn read(at: u64, count: u32) -> Held {
     Held {
@@ -38,25 +38,29 @@ fn valid(rt: &impl Abort, ask: Held) -> Held
     ask
 }
 
-// What one waits for that is inside.
-fn blocked_by(rt: &impl Abort, queue: &Queue, id: u64) -> Option<u64> {
-    assert!(rt; queue.has(id));
-    queue.blocked_by(id)
+// What one waits for, where it is inside.
+fn wait_of(queue: &Queue, id: u64) -> Option<Option<u64>> {
+    if queue.has(id) {
+        Some(queue.blocked_by(id))
+    } else {
+        None
+    }
 }
 
-// Whether the second waits for the first.
-fn waits(rt: &(impl Abort + AllocGlobal), first: Held, second: Held) -> bool {
+// What the first and the second of two wait for.
+fn waits(rt: &(impl Abort + AllocGlobal), first: Held, second: Held) -> [Option<Option<u64>>; 2] {
     let mut queue = Queue::new(rt.alloc(), 2).expect(rt, "memory");
     queue.enter(7, valid(rt, first));
     queue.enter(9, valid(rt, second));
-    assert_eq!(rt; blocked_by(rt, &queue, 7), None);
-    match blocked_by(rt, &queue, 9) {
-        None => false,
-        Some(id) => {
-            assert_eq!(rt; id, 7);
-            true
-        }
-    }
+    [wait_of(&queue, 7), wait_of(&queue, 9)]
+}
+
+fn check_waits(rt: &(impl Abort + AllocGlobal), first: Held, second: Held, meet: bool) {
+    assert_eq!(rt;
+        waits(rt, first, second),
+        [Some(None), Some(meet.then_some(7))],
+        "{second:?} after {first:?}"
+    );
 }
 
 #[test]
@@ -66,7 +70,7 @@ fn requests_meet_at_the_edges_of_a_range_and_of_a_track_group(rt: HostRuntime) {
         lv: 2,
         ..write(10, 5)
     };
-    for (first, second, want) in [
+    for (first, second, meet) in [
         (write(10, 5), write(15, 1), false),
         (write(10, 5), write(14, 1), true),
         (write(10, 5), read(9, 1), false),
@@ -84,12 +88,23 @@ fn requests_meet_at_the_edges_of_a_range_and_of_a_track_group(rt: HostRuntime) {
         (read(300, 9), copy(256), false),
         (copy(256), copy(256), false),
     ] {
-        assert_eq!(rt;
-            waits(&rt, first, second),
-            want,
-            "{second:?} after {first:?}"
-        );
+        check_waits(&rt, first, second, meet);
     }
+}
+
+fn leave(rt: &impl Abort, queue: &mut Queue, id: u64) {
+    assert!(rt; queue.has(id));
+    queue.leave(id);
+}
+
+// What 3, 4, 8 and 9 wait for.
+fn four_waits(queue: &Queue) -> [Option<Option<u64>>; 4] {
+    [
+        wait_of(queue, 3),
+        wait_of(queue, 4),
+        wait_of(queue, 8),
+        wait_of(queue, 9),
+    ]
 }
 
 #[test]
@@ -99,17 +114,12 @@ fn the_least_earlier_one_is_waited_for_until_it_leaves(rt: HostRuntime) {
     queue.enter(4, valid(&rt, write(12, 8)));
     queue.enter(8, valid(&rt, write(15, 1)));
     queue.enter(9, valid(&rt, read(0, 20)));
-    assert_eq!(rt; blocked_by(&rt, &queue, 3), None);
-    assert_eq!(rt; blocked_by(&rt, &queue, 4), Some(3));
-    assert_eq!(rt; blocked_by(&rt, &queue, 8), Some(3));
-    assert_eq!(rt; blocked_by(&rt, &queue, 9), Some(4));
-    assert!(rt; queue.has(3));
-    queue.leave(3);
-    assert!(rt; !queue.has(3));
-    assert_eq!(rt; blocked_by(&rt, &queue, 4), None);
-    assert_eq!(rt; blocked_by(&rt, &queue, 8), Some(4));
-    assert!(rt; queue.has(4));
-    queue.leave(4);
-    assert_eq!(rt; blocked_by(&rt, &queue, 8), None);
-    assert_eq!(rt; blocked_by(&rt, &queue, 9), Some(8));
+    let all = [Some(None), Some(Some(3)), Some(Some(3)), Some(Some(4))];
+    check(&rt, four_waits(&queue) == all, "all");
+    leave(&rt, &mut queue, 3);
+    let without_3 = [None, Some(None), Some(Some(4)), Some(Some(4))];
+    check(&rt, four_waits(&queue) == without_3, "without 3");
+    leave(&rt, &mut queue, 4);
+    let without_4 = [None, None, Some(None), Some(Some(8))];
+    check(&rt, four_waits(&queue) == without_4, "without 4");
 }

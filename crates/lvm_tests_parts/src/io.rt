@@ -1,51 +1,50 @@
-use crate::{
+use crate::fixtures::check;
+use lvm_io::{
     Clock, Got, Images, Lines, MOST_BYTES, MemClock, MemSink, MemSource, NextLine, Put, Sink,
     SinkFault, Source, StdSink, StdSource, SystemClock, write_all,
 };
 use lvm_num::Rows;
-use std::alloc::{AllocError, Global};
 use std::io::{self, ErrorKind, Read, Write};
 use std::process::Abort;
-use std::test::Fail;
 use std::time::{self, Duration};
 
-fn rows(alloc: Global, bytes: &[u8]) -> Result<Rows<u8>, AllocError> {
-    Ok(Rows::new(Vec::from_slice(alloc, bytes)?))
+fn rows(rt: &(impl Abort + AllocGlobal), bytes: &[u8]) -> Rows<u8> {
+    Rows::new(bytes.to_vec(rt.alloc()).expect(rt, "memory"))
 }
 
-fn calls(alloc: Global, numbers: &[u64]) -> Result<Rows<u64>, AllocError> {
-    Ok(Rows::new(Vec::from_slice(alloc, numbers)?))
+fn calls(rt: &(impl Abort + AllocGlobal), numbers: &[u64]) -> Rows<u64> {
+    Rows::new(numbers.to_vec(rt.alloc()).expect(rt, "memory"))
+}
+
+fn is_line(next: &NextLine, want: &[u8]) -> bool {
+    match next {
+        NextLine::Line(line) => line.as_slice() == want,
+        _ => false,
+    }
 }
 
 // Expects these lines, and then the end.
-fn expect_lines<I: Source>(
-    rt: &impl Abort,
-    alloc: Global,
-    input: &mut I,
-    want: &[&[u8]],
-) -> Result<(), Fail> {
-    let mut lines = Lines::new(alloc).expect(rt, "memory");
+fn expect_lines<R: Abort + AllocGlobal, I: Source>(rt: &R, input: &mut I, want: &[&[u8]]) {
+    let mut lines = Lines::new(rt.alloc()).expect(rt, "memory");
     for line in want {
-        match lines.next_line(alloc, input) {
-            NextLine::Line(got) => assert_eq!(rt; got.as_slice(), *line),
-            _ => panic!(rt; "a line is left"),
-        }
+        let next = lines.next_line(rt.alloc(), input);
+        check(rt, is_line(&next, line), "a line");
     }
-    let ended = matches!(lines.next_line(alloc, input), NextLine::End);
-    assert!(rt; ended);
-    Ok(())
+    let end = lines.next_line(rt.alloc(), input);
+    check(rt, matches!(end, NextLine::End), "the end");
 }
 
 #[test]
-fn lines_end_with_a_line_feed_that_the_last_may_lack(rt: HostRuntime) -> Result<(), Fail> {
-    let alloc = rt.alloc();
-    let none: &[&[u8]] = &[];
-    let mut nothing = MemSource::new(rows(alloc, b"")?, calls(alloc, &[])?);
-    expect_lines(&rt, alloc, &mut nothing, none)?;
-    let mut whole = MemSource::new(rows(alloc, b"wr\n\nrd 1\n")?, calls(alloc, &[])?);
-    expect_lines(&rt, alloc, &mut whole, &[b"wr", b"", b"rd 1"])?;
-    let mut lacking = MemSource::new(rows(alloc, b"\nrd")?, calls(alloc, &[])?);
-    expect_lines(&rt, alloc, &mut lacking, &[b"", b"rd"])
+fn lines_end_with_a_line_feed_that_the_last_may_lack(rt: HostRuntime) {
+    let texts: [(&[u8], &[&[u8]]); 3] = [
+        (b"", &[]),
+        (b"wr\n\nrd 1\n", &[b"wr", b"", b"rd 1"]),
+        (b"\nrd", &[b"", b"rd"]),
+    ];
+    for (text, want) in texts {
+        let mut input = MemSource::new(rows(&rt, text), calls(&rt, &[]));
+        expect_lines(&rt, &mut input, want);
+    }
 }
 
 // Gives a byte at a time, and fails once before the third.
@@ -73,95 +72,97 @@ impl Read for Dripping<'_> {
 }
 
 #[test]
-fn a_fault_in_the_middle_of_a_line_loses_nothing(rt: HostRuntime) -> Result<(), Fail> {
-    let alloc = rt.alloc();
+fn a_fault_in_the_middle_of_a_line_loses_nothing(rt: HostRuntime) {
     let mut input = StdSource::new(Dripping {
         left: b"wait\nstep",
         calls: 0,
     });
-    let mut lines = Lines::new(alloc).expect(&rt, "memory");
-    let failed = matches!(lines.next_line(alloc, &mut input), NextLine::Failed);
-    assert!(rt; failed);
+    let mut lines = Lines::new(rt.alloc()).expect(&rt, "memory");
+    let first = lines.next_line(rt.alloc(), &mut input);
+    check(&rt, matches!(first, NextLine::Failed), "the fault");
     for want in [b"wait", b"step"] {
-        match lines.next_line(alloc, &mut input) {
-            NextLine::Line(line) => assert_eq!(rt; line.as_slice(), want.as_slice()),
-            _ => panic!(rt; "a line is left"),
-        }
+        let next = lines.next_line(rt.alloc(), &mut input);
+        check(&rt, is_line(&next, want), "a line");
     }
-    let ended = matches!(lines.next_line(alloc, &mut input), NextLine::End);
-    assert!(rt; ended);
-    Ok(())
+    let end = lines.next_line(rt.alloc(), &mut input);
+    check(&rt, matches!(end, NextLine::End), "the end");
 }
 
 // Reads a source of so many bytes without a line feed, and the answer after it.
-fn long_line(alloc: Global, size: usize) -> Result<(NextLine, NextLine), Fail> {
-    let bytes = vec![in alloc; b'x'; size]?;
-    let mut input = MemSource::new(Rows::new(bytes), Rows::empty(alloc));
-    match Lines::new(alloc) {
-        Ok(mut lines) => {
-            let line = lines.next_line(alloc, &mut input);
-            let after = lines.next_line(alloc, &mut input);
-            Ok((line, after))
-        }
-        Err(_) => Ok((NextLine::Memory, NextLine::Memory)),
-    }
+fn long_line(rt: &(impl Abort + AllocGlobal), size: usize) -> (NextLine, NextLine) {
+    let bytes = vec![in rt.alloc(); b'x'; size].expect(rt, "memory");
+    let mut input = MemSource::new(Rows::new(bytes), Rows::empty(rt.alloc()));
+    let mut lines = Lines::new(rt.alloc()).expect(rt, "memory");
+    let line = lines.next_line(rt.alloc(), &mut input);
+    let after = lines.next_line(rt.alloc(), &mut input);
+    (line, after)
 }
 
 #[test]
-fn sixteen_mebibytes_are_read_and_no_byte_more(rt: HostRuntime) -> Result<(), Fail> {
+fn sixteen_mebibytes_are_read_and_no_byte_more(rt: HostRuntime) {
     let most = MOST_BYTES as usize;
-    let (whole, after) = long_line(rt.alloc(), most)?;
-    match whole {
-        NextLine::Line(line) => assert_eq!(rt; line.len(), most),
-        _ => panic!(rt; "the line is read"),
-    }
-    let ended = matches!(after, NextLine::End);
-    assert!(rt; ended);
-    let (first, second) = long_line(rt.alloc(), most + 1)?;
-    let too_long = matches!(first, NextLine::TooLong) && matches!(second, NextLine::TooLong);
-    assert!(rt; too_long);
-    Ok(())
+    let whole = match long_line(&rt, most) {
+        (NextLine::Line(line), NextLine::End) => line.len() == most,
+        _ => false,
+    };
+    check(&rt, whole, "all of them");
+    let longer = long_line(&rt, most + 1);
+    let too_long = matches!(longer, (NextLine::TooLong, NextLine::TooLong));
+    check(&rt, too_long, "a byte more");
 }
 
 #[test]
-fn a_source_in_memory_fails_at_its_calls(rt: HostRuntime) -> Result<(), Fail> {
-    let alloc = rt.alloc();
-    let mut source = MemSource::new(rows(alloc, b"abcde")?, calls(alloc, &[1, 3])?);
-    let mut into = [0; 3];
-    assert_eq!(rt; source.read(&mut into), Got::Failed);
-    assert_eq!(rt; source.read(&mut into), Got::Bytes(3));
-    assert_eq!(rt; into, *b"abc");
-    assert_eq!(rt; source.read(&mut into), Got::Failed);
-    assert_eq!(rt; source.read(&mut into), Got::Bytes(2));
-    assert_eq!(rt; into, *b"dec");
-    assert_eq!(rt; source.read(&mut into), Got::End);
-    Ok(())
+fn a_source_in_memory_fails_at_its_calls(rt: HostRuntime) {
+    let mut source = MemSource::new(rows(&rt, b"abcde"), calls(&rt, &[1, 3]));
+    let mut first = [0; 3];
+    let answers = [source.read(&mut first), source.read(&mut first)];
+    check(
+        &rt,
+        answers == [Got::Failed, Got::Bytes(3)] && first == *b"abc",
+        "first",
+    );
+    let mut rest = [0; 3];
+    let answers = [
+        source.read(&mut rest),
+        source.read(&mut rest),
+        source.read(&mut rest),
+    ];
+    let want = [Got::Failed, Got::Bytes(2), Got::End];
+    check(&rt, answers == want && rest == *b"de\0", "rest");
 }
 
 #[test]
-fn a_sink_in_memory_fails_at_its_calls_and_once_it_is_full(rt: HostRuntime) -> Result<(), Fail> {
-    let alloc = rt.alloc();
-    let mut sink = MemSink::new(alloc, 5, calls(alloc, &[2])?).expect(&rt, "memory");
-    assert_eq!(rt; sink.write(b"abc"), Put::Took(3));
-    assert_eq!(rt; sink.write(b"def"), Put::Failed);
-    assert_eq!(rt; sink.write(b"def"), Put::Took(2));
-    assert_eq!(rt; sink.write(b"f"), Put::Failed);
-    assert_eq!(rt; sink.bytes(), b"abcde".as_slice());
+fn a_sink_in_memory_fails_at_its_calls_and_once_it_is_full(rt: HostRuntime) {
+    let mut sink = MemSink::new(rt.alloc(), 5, calls(&rt, &[2])).expect(&rt, "memory");
+    let puts = [
+        sink.write(b"abc"),
+        sink.write(b"def"),
+        sink.write(b"def"),
+        sink.write(b"f"),
+    ];
+    let want = [Put::Took(3), Put::Failed, Put::Took(2), Put::Failed];
+    check(&rt, puts == want, "answers");
+    check(&rt, sink.bytes() == b"abcde".as_slice(), "bytes");
+}
+
+#[test]
+fn a_sink_in_memory_begins_anew_with_an_image(rt: HostRuntime) {
+    let mut sink = MemSink::new(rt.alloc(), 5, calls(&rt, &[])).expect(&rt, "memory");
+    let full = write_all(&mut sink, b"abcde");
     sink.choose(1);
-    assert_eq!(rt; sink.bytes(), b"".as_slice());
-    assert_eq!(rt; write_all(&mut sink, b"image"), Ok(()));
-    assert_eq!(rt; sink.bytes(), b"image".as_slice());
-    Ok(())
+    check(&rt, sink.bytes().is_empty(), "a new image");
+    let again = write_all(&mut sink, b"image");
+    check(&rt, full == Ok(()) && again == Ok(()), "answers");
+    check(&rt, sink.bytes() == b"image".as_slice(), "bytes");
 }
 
 #[test]
-fn a_front_of_a_text_is_written_where_the_sink_fails(rt: HostRuntime) -> Result<(), Fail> {
-    let alloc = rt.alloc();
-    let mut sink = MemSink::new(alloc, 4, Rows::empty(alloc)).expect(&rt, "memory");
-    assert_eq!(rt; write_all(&mut sink, b"ok\n"), Ok(()));
-    assert_eq!(rt; write_all(&mut sink, b"ok\n"), Err(SinkFault));
-    assert_eq!(rt; sink.bytes(), b"ok\no".as_slice());
-    Ok(())
+fn a_front_of_a_text_is_written_where_the_sink_fails(rt: HostRuntime) {
+    let mut sink = MemSink::new(rt.alloc(), 4, calls(&rt, &[])).expect(&rt, "memory");
+    let whole = write_all(&mut sink, b"ok\n");
+    let front = write_all(&mut sink, b"ok\n");
+    check(&rt, whole == Ok(()) && front == Err(SinkFault), "answers");
+    check(&rt, sink.bytes() == b"ok\no".as_slice(), "bytes");
 }
 
 // Takes two bytes at a time, and then none.
@@ -183,19 +184,19 @@ impl Write for Narrow {
 #[test]
 fn a_writer_that_takes_nothing_has_failed(rt: HostRuntime) {
     let mut sink = StdSink::new(Narrow(5));
-    assert_eq!(rt; write_all(&mut sink, b"abcd"), Ok(()));
-    assert_eq!(rt; sink.write(b"ef"), Put::Took(1));
-    assert_eq!(rt; sink.write(b"f"), Put::Failed);
+    let whole = write_all(&mut sink, b"abcd");
+    let puts = [sink.write(b"ef"), sink.write(b"f")];
+    check(&rt, whole == Ok(()), "whole");
+    check(&rt, puts == [Put::Took(1), Put::Failed], "answers");
 }
 
 #[test]
 fn a_clock_in_memory_counts_up_to_the_last_moment(rt: HostRuntime) {
-    let mut clock = MemClock::new(49);
-    assert_eq!(rt; clock.now(), 49);
-    assert_eq!(rt; clock.now(), 50);
-    let mut late = MemClock::new(u64::MAX);
-    assert_eq!(rt; late.now(), u64::MAX);
-    assert_eq!(rt; late.now(), u64::MAX);
+    for (start, first, second) in [(49, 49, 50), (u64::MAX, u64::MAX, u64::MAX)] {
+        let mut clock = MemClock::new(start);
+        let moments = [clock.now(), clock.now()];
+        check(&rt, moments == [first, second], "moments");
+    }
 }
 
 // A clock that stands still, or tells no time.
@@ -217,16 +218,15 @@ impl time::Clock for Standing {
 
 #[test]
 fn the_clock_of_the_system_tells_microseconds_and_rises(rt: HostRuntime) {
-    let mut standing = SystemClock::new(Standing(Some(70)));
-    assert_eq!(rt; standing.now(), 70);
-    assert_eq!(rt; standing.now(), 71);
-    let mut silent = SystemClock::new(Standing(None));
-    assert_eq!(rt; silent.now(), 1);
-    assert_eq!(rt; silent.now(), 2);
+    for (time, first, second) in [(Some(70), 70, 71), (None, 1, 2)] {
+        let mut clock = SystemClock::new(Standing(time));
+        let moments = [clock.now(), clock.now()];
+        check(&rt, moments == [first, second], "moments");
+    }
 
     // 2020 was over when this was written, and 2100 hasn't come.
     let mut real = SystemClock::new(rt);
     let moment = real.now();
-    assert!(rt; moment > 1_600_000_000_000_000);
-    assert!(rt; moment < 4_102_444_800_000_000);
+    check(&rt, moment > 1_600_000_000_000_000, "later than 2020");
+    check(&rt, moment < 4_102_444_800_000_000, "earlier than 2100");
 }

@@ -1,6 +1,8 @@
-//! Tests of the layer below, by its public calls alone.
+//! Tests of what a session, the program and its language are made of, by public calls alone.
 #![tactic(auto)]
 
+#[cfg(test)]
+mod fixtures;
 #[cfg(test)]
 mod hold;
 #[cfg(test)]

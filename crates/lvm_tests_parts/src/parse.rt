@@ -1,11 +1,24 @@
-use crate::{Command, ParseFault, parse};
+use crate::fixtures::{check, check_at};
 use lvm_num::{Mode, Name, Policy, Rows};
+use lvm_parse::{Command, ParseFault, parse};
 use std::process::Abort;
 
 // The line isn't in the language from this column on.
 fn refused(rt: &(impl Abort + AllocGlobal), line: &[u8], column: u32) {
     let read = parse(rt.alloc(), line);
-    assert!(rt; read == Err(ParseFault::BadLine { column }));
+    check_at(
+        rt,
+        read == Err(ParseFault::BadLine { column }),
+        "column",
+        column as usize,
+    );
+}
+
+// None of these lines is.
+fn all_refused(rt: &(impl Abort + AllocGlobal), lines: &[(&[u8], u32)]) {
+    for (line, column) in lines {
+        refused(rt, line, *column);
+    }
 }
 
 // The line spells this command.
@@ -17,7 +30,7 @@ fn spells(rt: &(impl Abort + AllocGlobal), line: &[u8], command: Command) {
 // The line asks for nothing.
 fn skipped(rt: &(impl Abort + AllocGlobal), line: &[u8]) {
     let read = parse(rt.alloc(), line);
-    assert!(rt; read == Ok(None));
+    check(rt, read == Ok(None), "nothing");
 }
 
 fn name(rt: &impl Abort, bytes: &[u8]) -> Name {
@@ -37,176 +50,236 @@ fn repeated(rt: &(impl Abort + AllocGlobal), byte: u8, times: usize, end: &[u8])
 
 #[test]
 fn a_group_is_made_of_what_fits(rt: HostRuntime) {
-    refused(&rt, b"mkvg", 5);
-    refused(&rt, b"mkvg -y", 8);
-    refused(&rt, b"mkvg -y 9vg hdisk0", 9);
-    refused(&rt, b"mkvg -y hdiskvg hdisk0", 9);
-    refused(&rt, b"mkvg -y abcdefghijklmnop hdisk0", 9);
-    refused(&rt, b"mkvg -y -f hdisk0", 9);
-    refused(&rt, b"mkvg -y datavg", 15);
-    refused(&rt, b"mkvg -y datavg -s", 18);
-    refused(&rt, b"mkvg -y datavg -s 3 hdisk0", 19);
-    refused(&rt, b"mkvg -y datavg -s 2048 hdisk0", 19);
-    refused(&rt, b"mkvg -y datavg -s 0 hdisk0", 19);
-    refused(&rt, b"mkvg -y datavg -x hdisk0", 16);
-    refused(&rt, b"mkvg -y 9 -s 3 hdisk01", 9);
+    all_refused(
+        &rt,
+        &[
+            (b"mkvg", 5),
+            (b"mkvg -y", 8),
+            (b"mkvg -y 9vg hdisk0", 9),
+            (b"mkvg -y hdiskvg hdisk0", 9),
+            (b"mkvg -y abcdefghijklmnop hdisk0", 9),
+            (b"mkvg -y -f hdisk0", 9),
+            (b"mkvg -y datavg", 15),
+            (b"mkvg -y datavg -s", 18),
+            (b"mkvg -y datavg -s 3 hdisk0", 19),
+            (b"mkvg -y datavg -s 2048 hdisk0", 19),
+            (b"mkvg -y datavg -s 0 hdisk0", 19),
+            (b"mkvg -y datavg -x hdisk0", 16),
+            (b"mkvg -y 9 -s 3 hdisk01", 9),
+        ],
+    );
 }
 
 #[test]
 fn an_option_of_a_group_stands_once_and_before_the_disks(rt: HostRuntime) {
-    refused(&rt, b"mkvg hdisk0", 6);
-    refused(&rt, b"mkvg -f hdisk0", 9);
-    refused(&rt, b"mkvg -s 1 hdisk0", 11);
-    refused(&rt, b"mkvg -f -f -y datavg hdisk0", 9);
-    refused(&rt, b"mkvg -y datavg -y datavg hdisk0", 16);
-    refused(&rt, b"mkvg -y datavg -s 1 -s 1 hdisk0", 21);
-    refused(&rt, b"mkvg -y datavg hdisk0 -f", 23);
-    refused(&rt, b"mkvg -y datavg hdisk0 -s 1", 23);
+    all_refused(
+        &rt,
+        &[
+            (b"mkvg hdisk0", 6),
+            (b"mkvg -f hdisk0", 9),
+            (b"mkvg -s 1 hdisk0", 11),
+            (b"mkvg -f -f -y datavg hdisk0", 9),
+            (b"mkvg -y datavg -y datavg hdisk0", 16),
+            (b"mkvg -y datavg -s 1 -s 1 hdisk0", 21),
+            (b"mkvg -y datavg hdisk0 -f", 23),
+            (b"mkvg -y datavg hdisk0 -s 1", 23),
+        ],
+    );
 }
 
 #[test]
 fn a_disk_stands_once(rt: HostRuntime) {
-    refused(&rt, b"mkvg -y datavg hdisk0 hdisk0", 23);
-    refused(&rt, b"mkvg -y datavg hdisk0 hdisk1 hdisk0", 30);
-    refused(&rt, b"mkvg -y datavg hdisk0 hdisk01", 23);
-    refused(&rt, b"mkvg -y datavg lv00", 16);
-    refused(&rt, b"mkvg -y datavg hdisk0 128", 23);
+    all_refused(
+        &rt,
+        &[
+            (b"mkvg -y datavg hdisk0 hdisk0", 23),
+            (b"mkvg -y datavg hdisk0 hdisk1 hdisk0", 30),
+            (b"mkvg -y datavg hdisk0 hdisk01", 23),
+            (b"mkvg -y datavg lv00", 16),
+            (b"mkvg -y datavg hdisk0 128", 23),
+        ],
+    );
 }
 
 #[test]
 fn a_group_is_named(rt: HostRuntime) {
-    refused(&rt, b"varyonvg", 9);
-    refused(&rt, b"varyonvg -n", 12);
-    refused(&rt, b"varyonvg -n -n datavg", 13);
-    refused(&rt, b"varyonvg datavg -n", 17);
-    refused(&rt, b"varyonvg datavg x", 17);
-    refused(&rt, b"varyonvg -f datavg", 10);
-    refused(&rt, b"varyoffvg", 10);
-    refused(&rt, b"varyoffvg -n datavg", 11);
-    refused(&rt, b"varyoffvg hdisk0", 11);
-    refused(&rt, b"lsvg", 5);
-    refused(&rt, b"lsvg -l", 8);
-    refused(&rt, b"lsvg -l -l datavg", 9);
-    refused(&rt, b"lsvg datavg -l", 13);
-    refused(&rt, b"lsvg -p datavg", 6);
+    all_refused(
+        &rt,
+        &[
+            (b"varyonvg", 9),
+            (b"varyonvg -n", 12),
+            (b"varyonvg -n -n datavg", 13),
+            (b"varyonvg datavg -n", 17),
+            (b"varyonvg datavg x", 17),
+            (b"varyonvg -f datavg", 10),
+            (b"varyoffvg", 10),
+            (b"varyoffvg -n datavg", 11),
+            (b"varyoffvg hdisk0", 11),
+            (b"lsvg", 5),
+            (b"lsvg -l", 8),
+            (b"lsvg -l -l datavg", 9),
+            (b"lsvg datavg -l", 13),
+            (b"lsvg -p datavg", 6),
+        ],
+    );
 }
 
 #[test]
 fn a_volume_is_made_of_what_fits(rt: HostRuntime) {
-    refused(&rt, b"mklv", 5);
-    refused(&rt, b"mklv -y lv00 datavg 1", 14);
-    refused(&rt, b"mklv -w n datavg 1", 11);
-    refused(&rt, b"mklv datavg 1", 6);
-    refused(&rt, b"mklv -y lv00 -w y datavg 1", 17);
-    refused(&rt, b"mklv -y lv00 -w a datavg 1", 17);
-    refused(&rt, b"mklv -y lv00 -w nn datavg 1", 17);
-    refused(&rt, b"mklv -y lv00 -c 10 -w n datavg 1", 17);
-    refused(&rt, b"mklv -y lv00 -d x -w n datavg 1", 17);
-    refused(&rt, b"mklv -y lv00 -d pp -w n datavg 1", 17);
-    refused(&rt, b"mklv -y lv00 -w n datavg", 25);
-    refused(&rt, b"mklv -y lv00 -w n", 18);
-    refused(&rt, b"mklv -y lv00 -w", 16);
+    all_refused(
+        &rt,
+        &[
+            (b"mklv", 5),
+            (b"mklv -y lv00 datavg 1", 14),
+            (b"mklv -w n datavg 1", 11),
+            (b"mklv datavg 1", 6),
+            (b"mklv -y lv00 -w y datavg 1", 17),
+            (b"mklv -y lv00 -w a datavg 1", 17),
+            (b"mklv -y lv00 -w nn datavg 1", 17),
+            (b"mklv -y lv00 -c 10 -w n datavg 1", 17),
+            (b"mklv -y lv00 -d x -w n datavg 1", 17),
+            (b"mklv -y lv00 -d pp -w n datavg 1", 17),
+            (b"mklv -y lv00 -w n datavg", 25),
+            (b"mklv -y lv00 -w n", 18),
+            (b"mklv -y lv00 -w", 16),
+        ],
+    );
 }
 
 #[test]
 fn an_option_of_a_volume_stands_once_and_before_the_group(rt: HostRuntime) {
-    refused(&rt, b"mklv -y lv00 -y lv01 -w n datavg 1", 14);
-    refused(&rt, b"mklv -y lv00 -w n -w n datavg 1", 19);
-    refused(&rt, b"mklv -y lv00 -c 1 -c 1 -w n datavg 1", 19);
-    refused(&rt, b"mklv -y lv00 -d p -d p -w n datavg 1", 19);
-    refused(&rt, b"mklv -y lv00 -w n datavg 1 -c 2", 28);
-    refused(&rt, b"mklv -y lv00 -w n datavg -c 2 1", 26);
-    refused(&rt, b"mklv -y lv00 -w n datavg 0", 26);
-    refused(&rt, b"mklv -y lv00 -w n datavg 65536", 26);
-    refused(&rt, b"mklv -y lv00 -w n datavg 1 1", 28);
+    all_refused(
+        &rt,
+        &[
+            (b"mklv -y lv00 -y lv01 -w n datavg 1", 14),
+            (b"mklv -y lv00 -w n -w n datavg 1", 19),
+            (b"mklv -y lv00 -c 1 -c 1 -w n datavg 1", 19),
+            (b"mklv -y lv00 -d p -d p -w n datavg 1", 19),
+            (b"mklv -y lv00 -w n datavg 1 -c 2", 28),
+            (b"mklv -y lv00 -w n datavg -c 2 1", 26),
+            (b"mklv -y lv00 -w n datavg 0", 26),
+            (b"mklv -y lv00 -w n datavg 65536", 26),
+            (b"mklv -y lv00 -w n datavg 1 1", 28),
+        ],
+    );
 }
 
 #[test]
 fn a_volume_is_named(rt: HostRuntime) {
-    refused(&rt, b"rmlv", 5);
-    refused(&rt, b"rmlv -f", 8);
-    refused(&rt, b"rmlv lv00 -f", 11);
-    refused(&rt, b"rmlv -f -f lv00", 9);
-    refused(&rt, b"rmlv 0lv", 6);
-    refused(&rt, b"lslv", 5);
-    refused(&rt, b"lslv lv00", 6);
-    refused(&rt, b"lslv -m", 8);
-    refused(&rt, b"lslv -m -m lv00", 9);
-    refused(&rt, b"lslv -m lv00 x", 14);
-    refused(&rt, b"lslv -l lv00", 6);
+    all_refused(
+        &rt,
+        &[
+            (b"rmlv", 5),
+            (b"rmlv -f", 8),
+            (b"rmlv lv00 -f", 11),
+            (b"rmlv -f -f lv00", 9),
+            (b"rmlv 0lv", 6),
+            (b"lslv", 5),
+            (b"lslv lv00", 6),
+            (b"lslv -m", 8),
+            (b"lslv -m -m lv00", 9),
+            (b"lslv -m lv00 x", 14),
+            (b"lslv -l lv00", 6),
+        ],
+    );
 }
 
 #[test]
 fn a_disk_is_named(rt: HostRuntime) {
-    refused(&rt, b"lspv", 5);
-    refused(&rt, b"lspv datavg", 6);
-    refused(&rt, b"lspv hdisk0 hdisk1", 13);
-    refused(&rt, b"lspv hdisk00", 6);
-    refused(&rt, b"fail", 5);
-    refused(&rt, b"fail hdisk", 6);
-    refused(&rt, b"fail hdisk0 x", 13);
-    refused(&rt, b"heal", 5);
-    refused(&rt, b"heal hdisk1000", 6);
-    refused(&rt, b"heal hdisk128", 6);
-    refused(&rt, b"heal hdisk-1", 6);
-    refused(&rt, b"heal Hdisk1", 6);
+    all_refused(
+        &rt,
+        &[
+            (b"lspv", 5),
+            (b"lspv datavg", 6),
+            (b"lspv hdisk0 hdisk1", 13),
+            (b"lspv hdisk00", 6),
+            (b"fail", 5),
+            (b"fail hdisk", 6),
+            (b"fail hdisk0 x", 13),
+            (b"heal", 5),
+            (b"heal hdisk1000", 6),
+            (b"heal hdisk128", 6),
+            (b"heal hdisk-1", 6),
+            (b"heal Hdisk1", 6),
+        ],
+    );
 }
 
 #[test]
 fn blocks_are_read(rt: HostRuntime) {
-    refused(&rt, b"rd", 3);
-    refused(&rt, b"rd ", 4);
-    refused(&rt, b"rd hdisk0", 10);
-    refused(&rt, b"rd hdisk0 5", 12);
-    refused(&rt, b"rd  hdisk0  5 ", 15);
-    refused(&rt, b"rd hdisk0 5 1 1", 15);
-    refused(&rt, b"rd lv00 5", 4);
-    refused(&rt, b"rd hdisk01 0 1", 4);
-    refused(&rt, b"rd hdisk01 x 0", 4);
-    refused(&rt, b"rd hdisk0 x 1", 11);
-    refused(&rt, b"rd hdisk0 18446744073709551616 1", 11);
-    refused(&rt, b"rd hdisk0 000000000000000000001 1", 11);
-    refused(&rt, b"rd hdisk0 -1 1", 11);
-    refused(&rt, b"rd hdisk0 +1 1", 11);
+    all_refused(
+        &rt,
+        &[
+            (b"rd", 3),
+            (b"rd ", 4),
+            (b"rd hdisk0", 10),
+            (b"rd hdisk0 5", 12),
+            (b"rd  hdisk0  5 ", 15),
+            (b"rd hdisk0 5 1 1", 15),
+            (b"rd lv00 5", 4),
+            (b"rd hdisk01 0 1", 4),
+            (b"rd hdisk01 x 0", 4),
+            (b"rd hdisk0 x 1", 11),
+            (b"rd hdisk0 18446744073709551616 1", 11),
+            (b"rd hdisk0 000000000000000000001 1", 11),
+            (b"rd hdisk0 -1 1", 11),
+            (b"rd hdisk0 +1 1", 11),
+        ],
+    );
 }
 
 #[test]
 fn blocks_are_written(rt: HostRuntime) {
-    refused(&rt, b"rd hdisk0 0 0", 13);
-    refused(&rt, b"rd hdisk0 0 4097", 13);
-    refused(&rt, b"rd hdisk0 0 99999999999999999999", 13);
-    refused(&rt, b"wr hdisk0 0 1", 14);
-    refused(&rt, b"wr hdisk0 0 1 1", 15);
-    refused(&rt, b"wr hdisk0 0 1 000000000000000g", 15);
-    refused(&rt, b"wr hdisk0 0 1 00000000000000001", 15);
-    refused(&rt, b"wr hdisk0 0 1 0000000000000001 x", 32);
-    refused(&rt, b"cut 1", 5);
-    refused(&rt, b"cut 0000000000000001 x", 22);
-    refused(&rt, b"cut 00000000000000FG", 5);
-    refused(&rt, b"cut -1", 5);
+    all_refused(
+        &rt,
+        &[
+            (b"rd hdisk0 0 0", 13),
+            (b"rd hdisk0 0 4097", 13),
+            (b"rd hdisk0 0 99999999999999999999", 13),
+            (b"wr hdisk0 0 1", 14),
+            (b"wr hdisk0 0 1 1", 15),
+            (b"wr hdisk0 0 1 000000000000000g", 15),
+            (b"wr hdisk0 0 1 00000000000000001", 15),
+            (b"wr hdisk0 0 1 0000000000000001 x", 32),
+            (b"cut 1", 5),
+            (b"cut 0000000000000001 x", 22),
+            (b"cut 00000000000000FG", 5),
+            (b"cut -1", 5),
+        ],
+    );
 }
 
 #[test]
 fn any_other_first_word_is_refused_where_it_begins(rt: HostRuntime) {
-    refused(&rt, b"wait", 1);
-    refused(&rt, b"step 1", 1);
-    refused(&rt, b"RD hdisk0 0 1", 1);
-    refused(&rt, b"  foo", 3);
-    refused(&rt, b"rdx hdisk0 0 1", 1);
-    refused(&rt, b"syncvg -v datavg", 1);
-    refused(&rt, b"mklvcopy lv00 2", 1);
-    refused(&rt, b"post lv00 0 1 0000000000000001", 1);
-    refused(&rt, b" rd lv00", 5);
+    all_refused(
+        &rt,
+        &[
+            (b"wait", 1),
+            (b"step 1", 1),
+            (b"RD hdisk0 0 1", 1),
+            (b"  foo", 3),
+            (b"rdx hdisk0 0 1", 1),
+            (b"syncvg -v datavg", 1),
+            (b"mklvcopy lv00 2", 1),
+            (b"post lv00 0 1 0000000000000001", 1),
+            (b" rd lv00", 5),
+        ],
+    );
 }
 
 #[test]
 fn a_byte_that_does_not_print_comes_first(rt: HostRuntime) {
-    refused(&rt, b"rd\thdisk0 0 1", 3);
-    refused(&rt, b"# remark \x07", 10);
-    refused(&rt, b"foo \x80", 5);
-    refused(&rt, b"\x7f", 1);
-    refused(&rt, b"mkvg -y 9 hdisk0\r", 17);
-    refused(&rt, b"rd hdisk0 0 1\n", 14);
+    all_refused(
+        &rt,
+        &[
+            (b"rd\thdisk0 0 1", 3),
+            (b"# remark \x07", 10),
+            (b"foo \x80", 5),
+            (b"\x7f", 1),
+            (b"mkvg -y 9 hdisk0\r", 17),
+            (b"rd hdisk0 0 1\n", 14),
+        ],
+    );
 }
 
 #[test]

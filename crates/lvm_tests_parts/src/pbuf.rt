@@ -1,25 +1,19 @@
-use crate::Pool;
-use std::test::Fail;
+use crate::fixtures::check;
+use lvm_pbuf::Pool;
 
 #[test]
-fn a_pool_of_two_gives_each_buffer_once_and_again_when_it_is_back(
-    rt: HostRuntime,
-) -> Result<(), Fail> {
+fn a_pool_of_two_gives_each_buffer_once_and_again_when_it_is_back(rt: HostRuntime) {
     let mut pool = Pool::new(rt.alloc(), 2).expect(&rt, "memory");
-    assert_eq!(rt; pool.out(), 0);
-    let zero = pool.take().ok_or("a buffer is in")?;
-    assert_eq!(rt; zero.number(), 0);
-    let mut one = pool.take().ok_or("a buffer is in")?;
-    assert_eq!(rt; one.number(), 1);
-    assert_eq!(rt; pool.out(), 2);
-    assert!(rt; pool.take().is_none());
+    let zero = pool.take().expect(&rt, "a buffer is in");
+    let mut one = pool.take().expect(&rt, "a buffer is in");
+    let numbers = [zero.number(), one.number(), pool.out()];
+    check(&rt, numbers == [0, 1, 2], "taken");
+    check(&rt, pool.take().is_none(), "none is left");
 
     one.set_sector(255, &[7; 512]);
     pool.give(one);
-    assert_eq!(rt; pool.out(), 1);
-    let again = pool.take().ok_or("a buffer is in")?;
-    assert_eq!(rt; again.number(), 1);
-    assert_eq!(rt; again.sector(255), &[7; 512]);
-    assert!(rt; pool.take().is_none());
-    Ok(())
+    check(&rt, pool.out() == 1, "one is back");
+    let again = pool.take().expect(&rt, "a buffer is in");
+    check(&rt, again.number() == 1, "the same");
+    check(&rt, again.sector(255) == &[7; 512], "as it was");
 }

@@ -1,285 +1,236 @@
-ghost use Rattle.std.specs.Prelude.{IsTrue, IsSome, ◌≡◌, ◌↔◌, IfOk};
-ghost use Rattle.lvm_num.specs.Descriptor.{IsValid, volume_of, member_of};
+ghost use Rattle.std.specs.Prelude.{IsTrue, IsSome, ◌↔◌};
+ghost use Rattle.lvm_num.specs.Descriptor.{volume_of, member_of};
 
-use crate::map::volume_of;
-use crate::member::member_of;
-use crate::{show_disk, show_group, show_map, show_volumes};
-use lvm_num::{
-    Descriptor, LvRow, Mode, Name, Policy, Pp, PvRow, Rows, Status, StatusRow, VolumeNumbers,
-};
+use crate::fixtures::{Member, Volume, check, group, status, volume};
+use lvm_num::{Descriptor, Pp, Rows, Text};
+use lvm_show::{show_disk, show_group, show_map, show_volumes};
 use lvm_stale::StaleTable;
-use std::alloc::Global;
 use std::process::Abort;
-use std::test::Fail;
 
 // Members of six partitions on the first disks.
-fn members(alloc: Global, count: u16) -> Result<Rows<PvRow>, Fail> {
-    let mut pvs = Vec::new(alloc);
-    for disk in 0..count {
-        pvs.push(PvRow {
-            disk,
-            pps: 6,
-            spare: disk == 2,
-        })?;
-    }
-    Ok(Rows::new(pvs))
-}
+const DISKS: [Member; 3] = [(0, 6, false), (1, 6, false), (2, 6, true)];
 
-fn volume(
-    alloc: Global,
-    number: u16,
-    name: &[u8],
-    copies: u8,
-    lps: u32,
-    map: &[(u16, u16)],
-) -> Result<LvRow, Fail> {
-    let mut pps = Vec::new(alloc);
-    for (disk, pp) in map {
-        pps.push(Pp {
-            disk: *disk,
-            pp: *pp,
-        })?;
-    }
-    Ok(LvRow {
-        number,
-        name: Name::read(name).ok_or("name")?,
-        copies,
-        mode: Mode::Off,
-        policy: Policy::Parallel,
-        lps,
-        map: Rows::new(pps),
-    })
-}
-
-fn group(alloc: Global, count: u16, lvs: Vec<LvRow>) -> Result<Descriptor, Fail> {
-    Ok(Descriptor {
-        id: 50,
-        name: Name::read(b"datavg").ok_or("name")?,
-        mib: 1,
-        quorum: true,
-        even: false,
-        big: false,
-        pvs: members(alloc, count)?,
-        lvs: Rows::new(lvs),
-    })
-}
-
-// Three disks. The second is missing; on it a copy of each volume is stale, and on the third a
-// partition that no volume has.
-fn with_volumes(alloc: Global) -> Result<Descriptor, Fail> {
-    let mut lvs = Vec::new(alloc);
-    lvs.push(volume(alloc, 1, b"lv00", 2, 2, &[(0, 0), (1, 0), (0, 1), (1, 1)])?)?;
-    lvs.push(volume(alloc, 3, b"big", 3, 1, &[(0, 2), (1, 2), (2, 0)])?)?;
-    group(alloc, 3, lvs)
-}
-
-// A status of the first disks, where these are missing and these partitions are stale.
-fn table(
-    alloc: Global,
-    rt: &impl Abort,
-    count: u16,
-    missing: &[u16],
-    stale: &[Pp],
-) -> Result<StaleTable, Fail> {
-    let mut rows = Vec::new(alloc);
-    for disk in 0..count {
-        rows.push(StatusRow {
-            disk,
-            missing: missing.contains(&disk),
-            stale: [0; 127],
-        })?;
-    }
-    let status = Status {
-        id: 50,
-        big: false,
-        dirty: VolumeNumbers::empty(alloc)?,
-        rows: Rows::new(rows),
-    };
-    let valid = status.is_valid();
-    assert!(rt; valid);
-    let mut table = StaleTable::from_status(alloc, &status)?;
-    for pp in stale {
-        let fits = table.has_row(pp.disk) && pp.pp < 1016;
-        assert!(rt; fits);
-        table.mark(*pp);
-    }
-    Ok(table)
-}
-
-const STALE: [Pp; 3] = [
-    Pp { disk: 1, pp: 0 },
-    Pp { disk: 1, pp: 2 },
-    Pp { disk: 2, pp: 5 },
+const VOLUMES: [Volume; 2] = [
+    (1, "lv00", 2, 2, &[(0, 0), (1, 0), (0, 1), (1, 1)]),
+    (3, "big", 3, 1, &[(0, 2), (1, 2), (2, 0)]),
 ];
 
-fn is_group(
-    rt: &(impl Abort + AllocGlobal),
-    d: &Descriptor,
-    t: &StaleTable,
-    text: &[u8],
-) -> Result<(), Fail> {
-    let valid = d.is_valid();
-    assert!(rt; valid);
-    let shown = show_group(rt.alloc(), d, t)?;
-    assert_eq!(rt; shown.as_bytes(), text);
-    Ok(())
+// What is listed.
+enum List {
+    Group,
+    Volumes,
+    Map(u16),
+    Disk(u16),
 }
 
-fn is_map(
-    rt: &(impl Abort + AllocGlobal),
-    d: &Descriptor,
-    t: &StaleTable,
-    lv: u16,
-    text: &[u8],
-) -> Result<(), Fail> {
+fn has_volume(d: &Descriptor, lv: u16) -> bool
+    ensures { IsTrue result ↔ IsSome (volume_of d.now lv) }
+{
+    d.lvs.as_slice().iter().any(|row| row.number == lv)
+}
+
+fn has_member(d: &Descriptor, disk: u16) -> bool
+    ensures { IsTrue result ↔ IsSome (member_of d.now disk) }
+{
+    d.pvs.as_slice().iter().any(|row| row.disk == disk)
+}
+
+fn map(rt: &(impl Abort + AllocGlobal), d: &Descriptor, t: &StaleTable, lv: u16) -> Text {
     let valid = d.is_valid();
     assert!(rt; valid);
-    let there = volume_of(d.lvs.as_slice(), lv).is_some();
+    let there = has_volume(d, lv);
     assert!(rt; there);
-    let shown = show_map(rt.alloc(), d, t, lv)?;
-    assert_eq!(rt; shown.as_bytes(), text);
-    Ok(())
+    show_map(rt.alloc(), d, t, lv).expect(rt, "memory")
 }
 
-fn is_disk(
-    rt: &(impl Abort + AllocGlobal),
-    d: &Descriptor,
-    t: &StaleTable,
-    disk: u16,
-    text: &[u8],
-) -> Result<(), Fail> {
+fn disk(rt: &(impl Abort + AllocGlobal), d: &Descriptor, t: &StaleTable, disk: u16) -> Text {
     let valid = d.is_valid();
     assert!(rt; valid);
-    let there = member_of(d.pvs.as_slice(), disk).is_some();
+    let there = has_member(d, disk);
     assert!(rt; there);
-    let shown = show_disk(rt.alloc(), d, t, disk)?;
-    assert_eq!(rt; shown.as_bytes(), text);
-    Ok(())
+    show_disk(rt.alloc(), d, t, disk).expect(rt, "memory")
 }
 
-#[test]
-fn a_new_group_of_three_is_listed(rt: HostRuntime) -> Result<(), Fail> {
-    let d = group(rt.alloc(), 3, Vec::new(rt.alloc()))?;
-    let t = table(rt.alloc(), &rt, 3, &[], &[])?;
-    is_group(
-        &rt,
-        &d,
-        &t,
-        b"VOLUME GROUP datavg\nPP SIZE 1\nPVs 3\nMISSING PVs 0\nLVs 0\nPPs 18\nFREE PPs 18\nSTALE PPs 0\nVGDAs 3\nQUORUM 2\n",
-    )
-}
-
-#[test]
-fn a_new_group_of_one_has_two_votes(rt: HostRuntime) -> Result<(), Fail> {
-    let d = group(rt.alloc(), 1, Vec::new(rt.alloc()))?;
-    let t = table(rt.alloc(), &rt, 1, &[], &[])?;
-    is_group(
-        &rt,
-        &d,
-        &t,
-        b"VOLUME GROUP datavg\nPP SIZE 1\nPVs 1\nMISSING PVs 0\nLVs 0\nPPs 6\nFREE PPs 6\nSTALE PPs 0\nVGDAs 2\nQUORUM 2\n",
-    )
-}
-
-#[test]
-fn a_new_group_of_two_has_three_votes(rt: HostRuntime) -> Result<(), Fail> {
-    let mut d = group(rt.alloc(), 2, Vec::new(rt.alloc()))?;
-    let t = table(rt.alloc(), &rt, 2, &[], &[])?;
-    is_group(
-        &rt,
-        &d,
-        &t,
-        b"VOLUME GROUP datavg\nPP SIZE 1\nPVs 2\nMISSING PVs 0\nLVs 0\nPPs 12\nFREE PPs 12\nSTALE PPs 0\nVGDAs 3\nQUORUM 2\n",
-    )?;
-    d.quorum = false;
-    is_group(
-        &rt,
-        &d,
-        &t,
-        b"VOLUME GROUP datavg\nPP SIZE 1\nPVs 2\nMISSING PVs 0\nLVs 0\nPPs 12\nFREE PPs 12\nSTALE PPs 0\nVGDAs 3\nQUORUM 1\n",
-    )
-}
-
-#[test]
-fn a_group_with_stale_partitions_and_a_missing_disk_is_listed(rt: HostRuntime) -> Result<(), Fail> {
-    let d = with_volumes(rt.alloc())?;
-    let t = table(rt.alloc(), &rt, 3, &[1], &STALE)?;
-    is_group(
-        &rt,
-        &d,
-        &t,
-        b"VOLUME GROUP datavg\nPP SIZE 1\nPVs 3\nMISSING PVs 1\nLVs 2\nPPs 18\nFREE PPs 11\nSTALE PPs 2\nVGDAs 3\nQUORUM 2\n",
-    )
-}
-
-#[test]
-fn its_volumes_are_listed(rt: HostRuntime) -> Result<(), Fail> {
-    let d = with_volumes(rt.alloc())?;
-    let t = table(rt.alloc(), &rt, 3, &[1], &STALE)?;
+fn all(rt: &(impl Abort + AllocGlobal), d: &Descriptor, t: &StaleTable) -> Text {
     let valid = d.is_valid();
     assert!(rt; valid);
-    let shown = show_volumes(rt.alloc(), &d, &t)?;
-    assert_eq!(rt;
-        shown.as_bytes(),
-        b"lv00 LPs 2 PPs 4 PVs 2 stale 1\nbig LPs 1 PPs 3 PVs 3 stale 1\n".as_slice()
-    );
-    Ok(())
+    show_group(rt.alloc(), d, t).expect(rt, "memory")
 }
 
-#[test]
-fn a_group_without_volumes_lists_none(rt: HostRuntime) -> Result<(), Fail> {
-    let d = group(rt.alloc(), 1, Vec::new(rt.alloc()))?;
-    let t = table(rt.alloc(), &rt, 1, &[], &[])?;
+fn volumes(rt: &(impl Abort + AllocGlobal), d: &Descriptor, t: &StaleTable) -> Text {
     let valid = d.is_valid();
     assert!(rt; valid);
-    let shown = show_volumes(rt.alloc(), &d, &t)?;
-    assert_eq!(rt; shown.as_bytes(), b"".as_slice());
-    Ok(())
+    show_volumes(rt.alloc(), d, t).expect(rt, "memory")
 }
 
-#[test]
-fn its_maps_are_listed(rt: HostRuntime) -> Result<(), Fail> {
-    let d = with_volumes(rt.alloc())?;
-    let t = table(rt.alloc(), &rt, 3, &[1], &STALE)?;
-    is_map(
-        &rt,
-        &d,
-        &t,
-        1,
-        b"0001 0001 hdisk0 0001 hdisk1 stale\n0002 0002 hdisk0 0002 hdisk1\n",
-    )?;
-    is_map(
-        &rt,
-        &d,
-        &t,
-        3,
-        b"0001 0003 hdisk0 0003 hdisk1 stale 0001 hdisk2\n",
-    )
+fn listed(rt: &(impl Abort + AllocGlobal), d: &Descriptor, t: &StaleTable, list: &List) -> Text {
+    match list {
+        List::Group => all(rt, d, t),
+        List::Volumes => volumes(rt, d, t),
+        List::Map(lv) => map(rt, d, t, *lv),
+        List::Disk(number) => disk(rt, d, t, *number),
+    }
 }
 
-#[test]
-fn its_members_are_listed(rt: HostRuntime) -> Result<(), Fail> {
-    let d = with_volumes(rt.alloc())?;
-    let t = table(rt.alloc(), &rt, 3, &[1], &STALE)?;
-    is_disk(
-        &rt,
-        &d,
-        &t,
-        0,
-        b"hdisk0 datavg active pps 6 free 3 stale 0\n",
-    )?;
-    is_disk(
-        &rt,
-        &d,
-        &t,
+// A table of the first three disks, of which nothing is stale.
+fn fresh(rt: &(impl Abort + AllocGlobal), disks: &[u16]) -> StaleTable {
+    let status = status(rt, disks, 0, &[]);
+    let valid = status.is_valid();
+    assert!(rt; valid);
+    StaleTable::from_status(rt.alloc(), &status).expect(rt, "memory")
+}
+
+fn mark(rt: &impl Abort, table: &mut StaleTable, disk: u16, pp: u16) {
+    let fits = table.has_row(disk) && pp < 1016;
+    assert!(rt; fits);
+    table.mark(Pp { disk, pp });
+}
+
+// A table of three disks where the second is missing. On it a copy of each volume is stale, and on the
+// third a partition that no volume has.
+fn stale(rt: &(impl Abort + AllocGlobal)) -> StaleTable {
+    let mut table = fresh(rt, &[0, 1, 2]);
+    let there = table.has_row(1);
+    assert!(rt; there);
+    table.set_missing(1, true);
+    mark(rt, &mut table, 1, 0);
+    mark(rt, &mut table, 1, 2);
+    mark(rt, &mut table, 2, 5);
+    table
+}
+
+static NEW: [(usize, &[u16], bool, &str); 4] = [
+    (
         1,
-        b"hdisk1 datavg missing pps 6 free 3 stale 2\n",
-    )?;
-    is_disk(
-        &rt,
-        &d,
-        &t,
+        &[0],
+        true,
+        "VOLUME GROUP datavg\nPP SIZE 1\nPVs 1\nMISSING PVs 0\nLVs 0\nPPs 6\nFREE PPs 6\nSTALE PPs 0\nVGDAs 2\nQUORUM 2\n",
+    ),
+    (
         2,
-        b"hdisk2 datavg active pps 6 free 5 stale 0\n",
-    )
+        &[0, 1],
+        true,
+        "VOLUME GROUP datavg\nPP SIZE 1\nPVs 2\nMISSING PVs 0\nLVs 0\nPPs 12\nFREE PPs 12\nSTALE PPs 0\nVGDAs 3\nQUORUM 2\n",
+    ),
+    (
+        2,
+        &[0, 1],
+        false,
+        "VOLUME GROUP datavg\nPP SIZE 1\nPVs 2\nMISSING PVs 0\nLVs 0\nPPs 12\nFREE PPs 12\nSTALE PPs 0\nVGDAs 3\nQUORUM 1\n",
+    ),
+    (
+        3,
+        &[0, 1, 2],
+        true,
+        "VOLUME GROUP datavg\nPP SIZE 1\nPVs 3\nMISSING PVs 0\nLVs 0\nPPs 18\nFREE PPs 18\nSTALE PPs 0\nVGDAs 3\nQUORUM 2\n",
+    ),
+];
+
+fn empty(rt: &(impl Abort + AllocGlobal), members: &[Member], quorum: bool) -> Descriptor {
+    let mut group = group(rt, members, &[]);
+    group.quorum = quorum;
+    group
+}
+
+#[test]
+fn a_new_group_is_listed(rt: HostRuntime) {
+    for (count, disks, quorum, text) in &NEW {
+        let members = DISKS.get(..*count).expect(&rt, "members");
+        let d = empty(&rt, members, *quorum);
+        let shown = all(&rt, &d, &fresh(&rt, disks));
+        check(&rt, shown.as_str() == *text, text);
+    }
+}
+
+#[test]
+fn a_group_without_volumes_lists_none(rt: HostRuntime) {
+    let d = empty(&rt, &DISKS, true);
+    let shown = volumes(&rt, &d, &fresh(&rt, &[0, 1, 2]));
+    check(&rt, shown.is_empty(), "no line");
+}
+
+static LISTS: [(List, &str); 7] = [
+    (
+        List::Group,
+        "VOLUME GROUP datavg\nPP SIZE 1\nPVs 3\nMISSING PVs 1\nLVs 2\nPPs 18\nFREE PPs 11\nSTALE PPs 2\nVGDAs 3\nQUORUM 2\n",
+    ),
+    (
+        List::Volumes,
+        "lv00 LPs 2 PPs 4 PVs 2 stale 1\nbig LPs 1 PPs 3 PVs 3 stale 1\n",
+    ),
+    (
+        List::Map(1),
+        "0001 0001 hdisk0 0001 hdisk1 stale\n0002 0002 hdisk0 0002 hdisk1\n",
+    ),
+    (
+        List::Map(3),
+        "0001 0003 hdisk0 0003 hdisk1 stale 0001 hdisk2\n",
+    ),
+    (List::Disk(0), "hdisk0 datavg active pps 6 free 3 stale 0\n"),
+    (
+        List::Disk(1),
+        "hdisk1 datavg missing pps 6 free 3 stale 2\n",
+    ),
+    (List::Disk(2), "hdisk2 datavg active pps 6 free 5 stale 0\n"),
+];
+
+#[test]
+fn a_group_with_stale_partitions_and_a_missing_disk_is_listed(rt: HostRuntime) {
+    let d = group(&rt, &DISKS, &VOLUMES);
+    let t = stale(&rt);
+    for (list, text) in &LISTS {
+        let shown = listed(&rt, &d, &t, list);
+        check(&rt, shown.as_str() == *text, text);
+    }
+}
+
+// The first partitions of disks with 1,016 each.
+fn first_pps(rt: &(impl Abort + AllocGlobal), count: u16) -> Rows<Pp> {
+    let mut pps = Vec::new(rt.alloc());
+    for k in 0..count {
+        pps.push(Pp {
+            disk: k / 1016,
+            pp: k % 1016,
+        })
+        .expect(rt, "memory");
+    }
+    Rows::new(pps)
+}
+
+// A group of ten disks, with one volume of 10,000 partitions.
+fn large(rt: &(impl Abort + AllocGlobal)) -> Descriptor {
+    let disks = [0, 1, 2, 3, 4, 5, 6, 7, 8, 9].map(|disk| (disk, 1016, false));
+    let mut row = volume(rt, &(1, "lv00", 1, 10_000, &[]));
+    row.map = first_pps(rt, 10_000);
+    let mut lvs = Vec::new(rt.alloc());
+    lvs.push(row).expect(rt, "memory");
+    let mut group = group(rt, &disks, &[]);
+    group.lvs = Rows::new(lvs);
+    group
+}
+
+// Logical partitions from 0, with their lines, which are of 17 bytes each.
+static LINES: [(usize, &str); 8] = [
+    (0, "0001 0001 hdisk0\n"),
+    (8, "0009 0009 hdisk0\n"),
+    (9, "0010 0010 hdisk0\n"),
+    (98, "0099 0099 hdisk0\n"),
+    (99, "0100 0100 hdisk0\n"),
+    (999, "1000 1000 hdisk0\n"),
+    (1_016, "1017 0001 hdisk1\n"),
+    (9_998, "9999 0855 hdisk9\n"),
+];
+
+#[test]
+fn numbers_have_four_digits_or_more(rt: HostRuntime) {
+    let shown = map(&rt, &large(&rt), &fresh(&rt, &[0]), 1);
+    for (lp, text) in &LINES {
+        let line = shown.as_bytes().get(lp * 17..lp * 17 + 17);
+        check(&rt, line == Some(text.as_bytes()), text);
+    }
+    check(
+        &rt,
+        shown.as_str().ends_with("\n10000 0856 hdisk9\n"),
+        "the last line",
+    );
 }

@@ -1,84 +1,44 @@
-use crate::Progress::{Committed, QuorumLost, Waiting};
-use crate::tests::Do::{
+use crate::fixtures::{Member, check, group, status};
+use crate::status::Do::{
     Clean, Clear, Dirty, Ends, Flies, HasStamp, IsDirty, Mark, Miss, Missing, SetStamp, Stale,
     Starts, Votes, Writes, WritesNone,
 };
-use crate::{Change, Progress, Updater};
-use lvm_num::{Descriptor, Memory, Name, Pp, PvRow, Rows, Stamp, Status, StatusRow, VolumeNumbers};
+use lvm_num::{Descriptor, Pp, Stamp};
 use lvm_stale::StaleTable;
-use std::alloc::Global;
+use lvm_status::Progress::{Committed, QuorumLost, Waiting};
+use lvm_status::{Change, Progress, Updater};
 use std::process::Abort;
 
-// A group whose members came in this order.
-fn group_of(alloc: Global, disks: &[u16], quorum: bool, even: bool) -> Result<Descriptor, Memory> {
-    let mut pvs = Vec::new(alloc);
-    for disk in disks {
-        let row = PvRow {
-            disk: *disk,
-            pps: 6,
-            spare: false,
-        };
-        pvs.push(row)?;
-    }
-    let Some(name) = Name::read(b"vg") else {
-        return Err(Memory);
-    };
-    Ok(Descriptor {
-        id: 50,
-        name,
-        mib: 1,
-        quorum,
-        even,
-        big: false,
-        pvs: Rows::new(pvs),
-        lvs: Rows::empty(alloc),
-    })
-}
-
 // A table with rows for these disks and nothing stale.
-fn status_of(alloc: Global, disks: &[u16], missing: u16) -> Result<Status, Memory> {
-    let mut rows = Vec::new(alloc);
-    for disk in disks {
-        let row = StatusRow {
-            disk: *disk,
-            missing: *disk == missing,
-            stale: [0; 127],
-        };
-        rows.push(row)?;
-    }
-    Ok(Status {
-        id: 50,
-        big: false,
-        dirty: VolumeNumbers::empty(alloc)?,
-        rows: Rows::new(rows),
-    })
+fn table_of(rt: &(impl Abort + AllocGlobal), disks: &[u16]) -> StaleTable {
+    let status = status(rt, disks, 0, &[]);
+    let valid = status.is_valid();
+    assert!(rt; valid);
+    StaleTable::from_status(rt.alloc(), &status).expect(rt, "memory")
 }
 
-fn updater_of(
-    rt: &(impl Abort + AllocGlobal),
-    group: &Descriptor,
-    disks: &[u16],
-    missing: u16,
-) -> Updater {
-    let status = status_of(rt.alloc(), disks, missing).expect(rt, "memory");
-    let valid = group.is_valid() && status.is_valid();
+fn updater_of(rt: &(impl Abort + AllocGlobal), group: &Descriptor, table: StaleTable) -> Updater {
+    let valid = group.is_valid();
     assert!(rt; valid);
-    let table = StaleTable::from_status(rt.alloc(), &status).expect(rt, "memory");
     let fits = Updater::has_its_rows(group, &table);
     assert!(rt; fits);
     Updater::new(rt.alloc(), table, group).expect(rt, "memory")
 }
 
+const THREE: [Member; 3] = [(9, 6, false), (2, 6, false), (5, 6, false)];
+
 // Three members, of which the first is disk 9.
 fn three(rt: &(impl Abort + AllocGlobal), quorum: bool) -> Updater {
-    let group = group_of(rt.alloc(), &[9, 2, 5], quorum, false).expect(rt, "memory");
-    updater_of(rt, &group, &[2, 5, 9], 128)
+    let mut group = group(rt, &THREE, &[]);
+    group.quorum = quorum;
+    updater_of(rt, &group, table_of(rt, &[2, 5, 9]))
 }
 
 // Two members, of which the first is disk 4.
 fn two(rt: &(impl Abort + AllocGlobal), even: bool) -> Updater {
-    let group = group_of(rt.alloc(), &[4, 1], true, even).expect(rt, "memory");
-    updater_of(rt, &group, &[1, 4], 128)
+    let mut group = group(rt, &[(4, 6, false), (1, 6, false)], &[]);
+    group.even = even;
+    updater_of(rt, &group, table_of(rt, &[1, 4]))
 }
 
 // The partition that the tests speak of.
@@ -125,23 +85,23 @@ fn want(rt: &impl Abort, updater: &mut Updater, change: Change) {
 fn start(rt: &impl Abort, updater: &mut Updater, starts: bool) {
     let seq = updater.stamp().seq;
     assert!(rt; seq < u32::MAX);
-    assert_eq!(rt; updater.start(), starts);
+    check(rt, updater.start() == starts, "starts");
 }
 
 fn next_write(rt: &impl Abort, updater: &mut Updater, disk: Option<u16>) {
-    assert_eq!(rt; updater.next_write(), disk);
+    check(rt, updater.next_write() == disk, "the next write");
 }
 
 fn ended(rt: &impl Abort, updater: &mut Updater, disk: u16, ok: bool, progress: Progress) {
     assert!(rt; disk < 128);
     let out = updater.writes().started.has(disk);
     assert!(rt; out);
-    assert_eq!(rt; updater.ended(disk, ok), progress);
+    check(rt, updater.ended(disk, ok) == progress, "progress");
 }
 
 fn is_stale(rt: &impl Abort, updater: &Updater, committed: bool, settled: bool) {
-    assert_eq!(rt; updater.committed().is_stale(SOME), committed);
-    assert_eq!(rt; updater.is_settled_stale(SOME), settled);
+    check(rt, updater.committed().is_stale(SOME) == committed, "stale");
+    check(rt, updater.is_settled_stale(SOME) == settled, "settled");
 }
 
 fn set_stamp(rt: &impl Abort, updater: &mut Updater, stamp: Stamp) {
@@ -176,21 +136,17 @@ fn step(rt: &impl Abort, updater: &mut Updater, what: &Do) {
 fn look(rt: &impl Abort, updater: &Updater, what: &Do) {
     match what {
         Do::Stale(committed, settled) => is_stale(rt, updater, *committed, *settled),
-        Do::IsDirty(dirty) => assert_eq!(rt; updater.committed().is_dirty(511), *dirty),
-        Do::Missing(disk) => assert_eq!(rt; updater.wanted().is_missing(*disk), true),
-        Do::Flies(flies) => assert_eq!(rt; updater.in_flight().is_some(), *flies),
-        Do::Votes(have, total) => assert_eq!(rt; updater.votes(), (*have, *total)),
-        Do::HasStamp(epoch, seq) => {
-            assert_eq!(rt;
-                updater.stamp(),
-                Stamp {
-                    epoch: *epoch,
-                    seq: *seq
-                }
-            )
-        }
+        Do::IsDirty(dirty) => check(rt, updater.committed().is_dirty(511) == *dirty, "dirty"),
+        Do::Missing(disk) => check(rt, updater.wanted().is_missing(*disk), "missing"),
+        Do::Flies(flies) => check(rt, updater.in_flight().is_some() == *flies, "in flight"),
+        Do::Votes(have, total) => check(rt, updater.votes() == (*have, *total), "votes"),
+        Do::HasStamp(epoch, seq) => has_stamp(rt, updater, *epoch, *seq),
         _ => {}
     }
+}
+
+fn has_stamp(rt: &impl Abort, updater: &Updater, epoch: u64, seq: u32) {
+    check(rt, updater.stamp() == Stamp { epoch, seq }, "stamp");
 }
 
 fn run(rt: &impl Abort, mut updater: Updater, all: &[Do]) {
@@ -381,9 +337,17 @@ fn an_update_ends_where_its_last_write_is_given_up(rt: HostRuntime) {
     run(&rt, three(&rt, true), &all);
 }
 
+// Three members, of which disk 2 was missing at the beginning.
+fn three_without_2(rt: &(impl Abort + AllocGlobal)) -> Updater {
+    let mut table = table_of(rt, &[2, 5, 9]);
+    let there = table.has_row(2);
+    assert!(rt; there);
+    table.set_missing(2, true);
+    updater_of(rt, &group(rt, &THREE, &[]), table)
+}
+
 #[test]
 fn members_that_were_missing_at_the_beginning_are_not_written(rt: HostRuntime) {
-    let group = group_of(rt.alloc(), &[9, 2, 5], true, false).expect(&rt, "memory");
     let all = [
         Votes(2, 3),
         Mark,
@@ -392,7 +356,13 @@ fn members_that_were_missing_at_the_beginning_are_not_written(rt: HostRuntime) {
         Writes(9),
         WritesNone,
     ];
-    run(&rt, updater_of(&rt, &group, &[2, 5, 9], 2), &all);
+    run(&rt, three_without_2(&rt), &all);
+}
+
+// Two members, of which the first is disk 5.
+fn first_5(rt: &(impl Abort + AllocGlobal)) -> Updater {
+    let group = group(rt, &[(5, 6, false), (1, 6, false)], &[]);
+    updater_of(rt, &group, table_of(rt, &[1, 5]))
 }
 
 #[test]
@@ -412,8 +382,7 @@ fn staleness_is_settled_once_no_later_session_can_find_it_fresh(rt: HostRuntime)
         Mark,
         Stale(true, false),
     ];
-    let group = group_of(rt.alloc(), &[5, 1], true, false).expect(&rt, "memory");
-    run(&rt, updater_of(&rt, &group, &[1, 5], 128), &all);
+    run(&rt, first_5(&rt), &all);
 }
 
 #[test]
@@ -430,19 +399,17 @@ fn stamps_go_on_from_the_one_that_was_set(rt: HostRuntime) {
     run(&rt, two(&rt, false), &all);
 }
 
-fn fits(rt: &(impl Abort + AllocGlobal), group: &Descriptor, disks: &[u16]) -> bool {
-    let status = status_of(rt.alloc(), disks, 128).expect(rt, "memory");
-    let valid = status.is_valid();
-    assert!(rt; valid);
-    let table = StaleTable::from_status(rt.alloc(), &status).expect(rt, "memory");
-    Updater::has_its_rows(group, &table)
-}
-
 #[test]
 fn a_table_of_other_members_does_not_fit(rt: HostRuntime) {
-    let group = group_of(rt.alloc(), &[9, 2, 5], true, false).expect(&rt, "memory");
-    assert_eq!(rt; fits(&rt, &group, &[2, 5, 9]), true);
-    assert_eq!(rt; fits(&rt, &group, &[2, 5, 8]), false);
-    assert_eq!(rt; fits(&rt, &group, &[2, 9]), false);
-    assert_eq!(rt; fits(&rt, &group, &[2, 5, 9, 10]), false);
+    let group = group(&rt, &THREE, &[]);
+    let tables: [(&[u16], bool); 4] = [
+        (&[2, 5, 9], true),
+        (&[2, 5, 8], false),
+        (&[2, 9], false),
+        (&[2, 5, 9, 10], false),
+    ];
+    for (disks, fits) in tables {
+        let table = table_of(&rt, disks);
+        check(&rt, Updater::has_its_rows(&group, &table) == fits, "fits");
+    }
 }

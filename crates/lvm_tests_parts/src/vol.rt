@@ -1,12 +1,12 @@
-use super::{Entry, History, Outcome, Vol};
-use crate::fits::is_legal;
-use crate::row::{Ask, Row};
-use lvm_num::Mode;
-use std::alloc::Global;
-use std::process::Abort;
-use std::test::Fail;
+ghost use Rattle.std.specs.Prelude.{◌≤◌};
+ghost use Rattle.lvm_vol.specs.Log.{spare_entries};
 
-/// What is entered, about block 5 of a volume; ids count the requests from 1.
+use crate::fixtures::check;
+use lvm_num::Mode;
+use lvm_vol::{Entry, History, Outcome, Vol};
+use std::process::Abort;
+
+// What is entered, about block 5 of a volume; ids count the requests from 1.
 #[derive(Clone, Copy)]
 enum Step {
     Make(u16, Mode),
@@ -16,58 +16,92 @@ enum Step {
     Read(u16),
     Land(u64, Outcome, bool),
     Got(u64, u8),
+    Take(u64),
+    On(u64),
     Cut,
+}
+
+fn room(rt: &impl Abort, history: &History, entries: u32)
+    ensures { entries ≤ spare_entries history.now }
+{
+    assert!(rt; history.spare_entries() >= entries);
+}
+
+fn make(rt: &impl Abort, history: &mut History, lv: u16, mode: Mode) {
+    room(rt, history, 1);
+    history.push(Entry::Making {
+        lv,
+        blocks: 8,
+        mode,
+    });
+}
+
+fn remove(rt: &impl Abort, history: &mut History, lv: u16) {
+    room(rt, history, 1);
+    history.push(Entry::Removed { vol: Vol::Lv(lv) });
+}
+
+fn split(rt: &impl Abort, history: &mut History, from: u16, lv: u16) {
+    room(rt, history, 1);
+    history.push(Entry::Split { from, lv });
+}
+
+fn vary_on(rt: &impl Abort, history: &mut History, moment: u64) {
+    room(rt, history, 1);
+    history.push(Entry::On { moment });
+}
+
+fn write(rt: &impl Abort, history: &mut History, lv: u16, byte: u8) {
+    room(rt, history, 3);
+    assert!(rt; history.spare_bytes() >= 512);
+    let _id = history.begin(7, Vol::Lv(lv), 5, 1, Some([byte; 512].as_slice()));
+}
+
+fn read(rt: &impl Abort, history: &mut History, lv: u16) {
+    room(rt, history, 3);
+    assert!(rt; history.spare_bytes() >= 512);
+    let _id = history.begin(7, Vol::Lv(lv), 5, 1, None);
+}
+
+fn land(rt: &impl Abort, history: &mut History, id: u64, outcome: Outcome, started: bool) {
+    assert!(rt; history.is_open(id));
+    history.land(id, outcome, started);
+}
+
+fn got(rt: &impl Abort, history: &mut History, id: u64, byte: u8) {
+    assert!(rt; history.awaited(id) == Some(1));
+    history.land_read(id, [byte; 512].as_slice());
+}
+
+fn take(rt: &impl Abort, history: &mut History, id: u64) {
+    assert!(rt; history.is_answered(7, id));
+    history.taken(7, id);
 }
 
 fn enter(rt: &impl Abort, history: &mut History, step: Step) {
     match step {
-        Step::Make(lv, mode) => {
-            assert!(rt; history.spare_entries() >= 1);
-            history.push(Entry::Making {
-                lv,
-                blocks: 8,
-                mode,
-            });
-        }
-        Step::Remove(lv) => {
-            assert!(rt; history.spare_entries() >= 1);
-            history.push(Entry::Removed { vol: Vol::Lv(lv) });
-        }
-        Step::Split { from, lv } => {
-            assert!(rt; history.spare_entries() >= 1);
-            history.push(Entry::Split { from, lv });
-        }
-        Step::Write(lv, byte) => {
-            assert!(rt; history.spare_entries() >= 3);
-            assert!(rt; history.spare_bytes() >= 512);
-            let _id = history.begin(7, Vol::Lv(lv), 5, 1, Some([byte; 512].as_slice()));
-        }
-        Step::Read(lv) => {
-            assert!(rt; history.spare_entries() >= 3);
-            assert!(rt; history.spare_bytes() >= 512);
-            let _id = history.begin(7, Vol::Lv(lv), 5, 1, None);
-        }
-        Step::Land(id, outcome, started) => {
-            assert!(rt; history.is_open(id));
-            history.land(id, outcome, started);
-        }
-        Step::Got(id, byte) => {
-            assert_eq!(rt; history.awaited(id), Some(1));
-            history.land_read(id, [byte; 512].as_slice());
-        }
+        Step::Make(lv, mode) => make(rt, history, lv, mode),
+        Step::Remove(lv) => remove(rt, history, lv),
+        Step::Split { from, lv } => split(rt, history, from, lv),
+        Step::Write(lv, byte) => write(rt, history, lv, byte),
+        Step::Read(lv) => read(rt, history, lv),
+        Step::Land(id, outcome, started) => land(rt, history, id, outcome, started),
+        Step::Got(id, byte) => got(rt, history, id, byte),
+        Step::Take(id) => take(rt, history, id),
+        Step::On(moment) => vary_on(rt, history, moment),
         Step::Cut => history.cut(),
     }
 }
 
-fn told(rt: &impl Abort, alloc: Global, steps: &[Step]) -> Result<History, Fail> {
-    let mut history = History::new(alloc, 50, 100, 65_536)?;
+fn told(rt: &(impl Abort + AllocGlobal), steps: &[Step]) -> History {
+    let mut history = History::new(rt.alloc(), 50, 100, 65_536).expect(rt, "memory");
     for step in steps {
         enter(rt, &mut history, *step);
     }
-    Ok(history)
+    history
 }
 
-/// Of the bytes 0 to 3, those of which block 5 may be full.
+// Of the bytes 0 to 3, those of which block 5 may be full.
 fn allowed(history: &History, lv: u16) -> [bool; 4] {
     [
         history.may_of(Vol::Lv(lv), 5, &[0; 512]),
@@ -119,23 +153,17 @@ fn dark(id: u64, started: bool) -> Step {
     Step::Land(id, Outcome::Dark, started)
 }
 
-fn check(
-    rt: &impl Abort,
-    alloc: Global,
-    cases: &[(&str, &[Step], u16, [bool; 4])],
-) -> Result<(), Fail> {
+fn check_all(rt: &(impl Abort + AllocGlobal), cases: &[(&str, &[Step], u16, [bool; 4])]) {
     for (what, steps, lv, want) in cases {
-        let history = told(rt, alloc, steps)?;
-        assert_eq!(rt; allowed(&history, *lv), *want, "{what}");
+        let history = told(rt, steps);
+        check(rt, allowed(&history, *lv) == *want, what);
     }
-    Ok(())
 }
 
 #[test]
-fn writes_and_reads_leave_what_the_table_says(rt: HostRuntime) -> Result<(), Fail> {
-    check(
+fn writes_and_reads_leave_what_the_table_says(rt: HostRuntime) {
+    check_all(
         &rt,
-        rt.alloc(),
         &[
             ("nothing is known", &[], 1, ALL),
             ("made of zeros", &[ACTIVE], 1, ONLY_0),
@@ -201,14 +229,13 @@ fn writes_and_reads_leave_what_the_table_says(rt: HostRuntime) -> Result<(), Fai
                 BOTH_1_2,
             ),
         ],
-    )
+    );
 }
 
 #[test]
-fn cuts_add_what_was_open(rt: HostRuntime) -> Result<(), Fail> {
-    check(
+fn cuts_add_what_was_open(rt: HostRuntime) {
+    check_all(
         &rt,
-        rt.alloc(),
         &[
             (
                 "two open writes, cut",
@@ -253,14 +280,13 @@ fn cuts_add_what_was_open(rt: HostRuntime) -> Result<(), Fail> {
                 ONLY_1,
             ),
         ],
-    )
+    );
 }
 
 #[test]
-fn what_went_off_is_loose_in_mode_off_alone(rt: HostRuntime) -> Result<(), Fail> {
-    check(
+fn what_went_off_is_loose_in_mode_off_alone(rt: HostRuntime) {
+    check_all(
         &rt,
-        rt.alloc(),
         &[
             ("not started", &[OFF, WRITE_1, off(1, false)], 1, ONLY_0),
             (
@@ -328,15 +354,14 @@ fn what_went_off_is_loose_in_mode_off_alone(rt: HostRuntime) -> Result<(), Fail>
                 ONLY_1,
             ),
         ],
-    )
+    );
 }
 
 #[test]
-fn volumes_come_and_go_with_their_blocks(rt: HostRuntime) -> Result<(), Fail> {
+fn volumes_come_and_go_with_their_blocks(rt: HostRuntime) {
     let split = Step::Split { from: 1, lv: 2 };
-    check(
+    check_all(
         &rt,
-        rt.alloc(),
         &[
             (
                 "removed",
@@ -433,225 +458,168 @@ fn volumes_come_and_go_with_their_blocks(rt: HostRuntime) -> Result<(), Fail> {
                 ONLY_0,
             ),
         ],
+    );
+}
+
+#[test]
+fn wrong_histories_are_not_legal(rt: HostRuntime) {
+    let lands = |outcome: Outcome, started: bool| Step::Land(1, outcome, started);
+    let cases: [(&str, &[Step], bool); 14] = [
+        ("nothing", &[], true),
+        (
+            "a write and a read of it",
+            &[
+                ACTIVE,
+                WRITE_1,
+                done(1),
+                Step::Take(1),
+                READ,
+                Step::Got(2, 1),
+                Step::Take(2),
+            ],
+            true,
+        ),
+        (
+            "an old value, read after the write is done",
+            &[ACTIVE, WRITE_1, done(1), READ, Step::Got(2, 0)],
+            false,
+        ),
+        (
+            "a value that was never there",
+            &[ACTIVE, WRITE_1, READ, Step::Got(2, 1)],
+            false,
+        ),
+        (
+            "a value of an unknown block",
+            &[WRITE_1, READ, Step::Got(2, 1)],
+            true,
+        ),
+        (
+            "a read that is done",
+            &[READ, lands(Outcome::Done, true)],
+            false,
+        ),
+        (
+            "a read that is lost",
+            &[READ, lands(Outcome::Lost, true)],
+            false,
+        ),
+        (
+            "a write that got",
+            &[WRITE_1, lands(Outcome::Got, true)],
+            false,
+        ),
+        (
+            "a write that failed as a read",
+            &[WRITE_1, lands(Outcome::ReadFailed, true)],
+            false,
+        ),
+        (
+            "started without a fresh copy",
+            &[WRITE_1, lands(Outcome::NoFresh, true)],
+            false,
+        ),
+        (
+            "not started without a fresh copy",
+            &[WRITE_1, lands(Outcome::NoFresh, false)],
+            true,
+        ),
+        (
+            "a moment again",
+            &[Step::On(60), Step::Cut, Step::On(60)],
+            false,
+        ),
+        ("a moment that falls", &[Step::On(60), Step::On(59)], false),
+        ("moments that rise", &[Step::On(60), Step::On(61)], true),
+    ];
+    for (what, steps, want) in cases {
+        check(&rt, told(&rt, steps).is_legal() == want, what);
+    }
+}
+
+// The run, the entries, the room that is left for more of them and for bytes.
+fn counts(history: &History) -> (u64, u32, u32, u64) {
+    (
+        history.run(),
+        history.len(),
+        history.spare_entries(),
+        history.spare_bytes(),
     )
 }
 
-/// A write of client 1 and a read of client 2, each of block 5 of volume 1: 9s are written, and 9s or
-/// 8s stand at the read's place.
-fn judged(rows: &[Row], got: u8) -> bool {
-    let ask = |client: u32, write: bool, place: u64| Ask {
-        client,
+fn entry(history: &History, k: u32) -> Option<Entry> {
+    if k < history.len() {
+        Some(history.entry(k))
+    } else {
+        None
+    }
+}
+
+// The first and the last byte of each of the first two blocks.
+fn ends(history: &History) -> Option<[u8; 4]> {
+    if history.block_count() == 2 {
+        let (one, two) = (history.block(0), history.block(1));
+        Some([one[0], one[511], two[0], two[511]])
+    } else {
+        None
+    }
+}
+
+// A request of client 7 for block 5 of volume 1.
+fn begun(id: u64, write: bool, place: u64) -> Option<Entry> {
+    Some(Entry::Begun {
+        client: 7,
+        id,
         vol: Vol::Lv(1),
         at: 5,
         count: 1,
         write,
         place,
-    };
-    is_legal(
-        rows,
-        &[ask(1, true, 0), ask(2, false, 1)],
-        &[[9; 512], [got; 512]],
-    )
-}
-
-fn landed(id: u64, outcome: Outcome, started: bool) -> Row {
-    Row::Landed {
-        id,
-        outcome,
-        started,
-    }
+    })
 }
 
 #[test]
-fn wrong_histories_are_not_legal(rt: HostRuntime) {
-    let write = Row::Begun { id: 1 };
-    let read = Row::Begun { id: 2 };
-    let done = landed(1, Outcome::Done, true);
-    let got = landed(2, Outcome::Got, true);
-    let made = Row::Making {
-        lv: 1,
-        blocks: 8,
-        mode: Mode::Active,
-    };
-    let cases: [(&str, &[Row], u8, bool); 21] = [
-        ("nothing", &[], 9, true),
-        (
-            "a write and a read of it",
-            &[
-                made,
-                write,
-                done,
-                Row::Taken { client: 1, id: 1 },
-                read,
-                got,
-                Row::Taken { client: 2, id: 2 },
-            ],
-            9,
-            true,
-        ),
-        (
-            "an old value, read after the write is done",
-            &[made, write, done, read, got],
-            8,
-            false,
-        ),
-        (
-            "a value that was never there",
-            &[made, write, read, got],
-            9,
-            false,
-        ),
-        ("a value of an unknown block", &[write, read, got], 9, true),
-        ("a number left out", &[read], 9, false),
-        ("a number given twice", &[write, write], 9, false),
-        ("landed before it began", &[done, write], 9, false),
-        ("landed twice", &[write, done, done], 9, false),
-        (
-            "taken before it landed",
-            &[write, Row::Taken { client: 1, id: 1 }],
-            9,
-            false,
-        ),
-        (
-            "taken twice",
-            &[
-                write,
-                done,
-                Row::Taken { client: 1, id: 1 },
-                Row::Taken { client: 1, id: 1 },
-            ],
-            9,
-            false,
-        ),
-        (
-            "taken by another client",
-            &[write, done, Row::Taken { client: 2, id: 1 }],
-            9,
-            false,
-        ),
-        (
-            "a read that is done",
-            &[write, read, landed(2, Outcome::Done, true)],
-            9,
-            false,
-        ),
-        (
-            "a read that is lost",
-            &[write, read, landed(2, Outcome::Lost, true)],
-            9,
-            false,
-        ),
-        (
-            "a write that got",
-            &[write, landed(1, Outcome::Got, true)],
-            9,
-            false,
-        ),
-        (
-            "a write that failed as a read",
-            &[write, landed(1, Outcome::ReadFailed, true)],
-            9,
-            false,
-        ),
-        (
-            "started without a fresh copy",
-            &[write, landed(1, Outcome::NoFresh, true)],
-            9,
-            false,
-        ),
-        (
-            "not started without a fresh copy",
-            &[write, landed(1, Outcome::NoFresh, false)],
-            9,
-            true,
-        ),
-        (
-            "a moment again",
-            &[Row::On { moment: 60 }, Row::Cut, Row::On { moment: 60 }],
-            9,
-            false,
-        ),
-        (
-            "a moment that falls",
-            &[Row::On { moment: 60 }, Row::On { moment: 59 }],
-            9,
-            false,
-        ),
-        (
-            "moments that rise",
-            &[Row::On { moment: 60 }, Row::On { moment: 61 }],
-            9,
-            true,
-        ),
-    ];
-    for (what, rows, got, want) in cases {
-        assert_eq!(rt; judged(rows, got), want, "{what}");
-    }
-}
-
-#[test]
-fn tells_what_was_entered(rt: HostRuntime) -> Result<(), Fail> {
-    let mut history = told(
+fn tells_what_was_entered(rt: HostRuntime) {
+    let history = told(&rt, &[ACTIVE, WRITE_1, READ, done(1), Step::Got(2, 2)]);
+    check(
         &rt,
-        rt.alloc(),
-        &[ACTIVE, WRITE_1, READ, done(1), Step::Got(2, 1)],
-    )?;
-    assert_eq!(rt; history.run(), 50);
-    assert_eq!(rt; history.len(), 5);
-    assert_eq!(rt; history.spare_entries(), 100 - 5 - 2 - 1);
-    assert_eq!(rt; history.spare_bytes(), 65_536 - 1_024);
-    assert!(rt; history.is_legal());
-    assert!(rt; !history.is_answered(8, 2));
-    assert!(rt; history.is_answered(7, 2));
-    history.taken(7, 2);
-    assert!(rt; !history.is_answered(7, 2));
-    assert!(rt; history.len() > 2);
-    assert_eq!(rt;
-        history.entry(2),
-        Entry::Begun {
-            client: 7,
-            id: 2,
-            vol: Vol::Lv(1),
-            at: 5,
-            count: 1,
-            write: false,
-            place: 1
-        }
+        counts(&history) == (50, 5, 100 - 5 - 2 - 1, 65_536 - 1_024),
+        "counts",
     );
-    assert_eq!(rt;
-        history.entry(1),
-        Entry::Begun {
-            client: 7,
-            id: 1,
-            vol: Vol::Lv(1),
-            at: 5,
-            count: 1,
-            write: true,
-            place: 0
-        }
+    let entries = [entry(&history, 1), entry(&history, 2)];
+    check(
+        &rt,
+        entries == [begun(1, true, 0), begun(2, false, 1)],
+        "entries",
     );
-    assert_eq!(rt; history.block_count(), 2);
-    assert_eq!(rt; history.block(0)[511], 1);
-    assert_eq!(rt; history.block(1)[0], 1);
-    history.cut();
-    assert_eq!(rt; history.len(), 7);
-    history.cut();
-    assert_eq!(rt; history.len(), 7);
-    Ok(())
+    check(&rt, ends(&history) == Some([1, 1, 2, 2]), "blocks");
 }
 
 #[test]
-fn room_for_four_entries_serves_one_request(rt: HostRuntime) -> Result<(), Fail> {
-    let mut history = History::new(rt.alloc(), 50, 4, 512)?;
-    assert_eq!(rt; history.spare_entries(), 3);
-    enter(&rt, &mut history, WRITE_1);
-    assert_eq!(rt; history.spare_entries(), 0);
-    assert_eq!(rt; history.spare_bytes(), 0);
-    enter(&rt, &mut history, done(1));
-    assert!(rt; history.is_answered(7, 1));
-    history.taken(7, 1);
-    assert_eq!(rt; history.spare_entries(), 0);
+fn an_answer_is_there_for_its_client_until_it_is_taken(rt: HostRuntime) {
+    let mut history = told(&rt, &[ACTIVE, WRITE_1, READ, done(1), Step::Got(2, 1)]);
+    let answered = [history.is_answered(8, 2), history.is_answered(7, 2)];
+    check(&rt, answered == [false, true], "answered");
+    enter(&rt, &mut history, Step::Take(2));
+    check(&rt, !history.is_answered(7, 2), "taken");
+}
+
+#[test]
+fn a_cut_is_entered_once(rt: HostRuntime) {
+    let mut history = told(&rt, &[ACTIVE, WRITE_1, done(1), Step::Cut]);
+    check(&rt, history.len() == 4, "entries");
     history.cut();
-    assert_eq!(rt; history.len(), 4);
-    Ok(())
+    check(&rt, history.len() == 4, "entries");
+}
+
+#[test]
+fn room_for_four_entries_serves_one_request(rt: HostRuntime) {
+    let mut history = History::new(rt.alloc(), 50, 4, 512).expect(&rt, "memory");
+    check(&rt, counts(&history) == (50, 0, 3, 512), "counts");
+    enter(&rt, &mut history, WRITE_1);
+    check(&rt, counts(&history) == (50, 1, 0, 0), "counts");
+    enter(&rt, &mut history, done(1));
+    enter(&rt, &mut history, Step::Take(1));
+    history.cut();
+    check(&rt, counts(&history) == (50, 4, 0, 0), "counts");
 }

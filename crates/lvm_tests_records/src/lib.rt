@@ -1,6 +1,8 @@
-//! Tests of the layer below, by its public calls alone.
+//! Tests of the records and of what is found in them, by public calls alone.
 #![tactic(auto)]
 
+#[cfg(test)]
+mod fixtures;
 #[cfg(test)]
 mod map;
 #[cfg(test)]

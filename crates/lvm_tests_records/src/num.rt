@@ -1,22 +1,18 @@
-use crate::{
-    Descriptor, DiskSet, LvRow, Mode, Name, Policy, Pp, PvRow, Rows, Status, StatusRow,
-    VolumeNumbers,
-};
-use std::alloc::Global;
-use std::test::Fail;
+use crate::fixtures::{Member, Volume, check, group, members, status, volume};
+use lvm_num::{Descriptor, DiskSet, Name, Pp, PvRow, Rows};
+use std::process::Abort;
 
-// number, name, copies, logical partitions, map
-type Volume = (u16, &'static str, u8, u32, &'static [(u16, u16)]);
+type Disks = &'static [Member];
 
-type Disks = &'static [(u16, u16)];
+const TWO: Disks = &[(0, 6, false), (4, 6, false)];
 
-const TWO: Disks = &[(0, 6), (4, 6)];
+type Map = &'static [(u16, u16)];
 
-const MAP: Disks = &[(0, 0), (4, 0), (0, 5), (4, 1)];
+const MAP: Map = &[(0, 0), (4, 0), (0, 5), (4, 1)];
 
 const LV: Volume = (1, "lv00", 2, 2, MAP);
 
-// what, id, MiB, even, disks with their partitions, valid
+// what, id, MiB, even, members, valid
 static HEADS: [(&str, u64, u16, bool, Disks, bool); 15] = [
     ("two members", 50, 1, false, TWO, true),
     ("no id", 0, 1, false, TWO, false),
@@ -25,14 +21,28 @@ static HEADS: [(&str, u64, u16, bool, Disks, bool); 15] = [
     ("size 3", 50, 3, false, TWO, false),
     ("size 2048", 50, 2048, false, TWO, false),
     ("even", 50, 1, true, TWO, true),
-    ("one even", 50, 1, true, &[(0, 6)], false),
-    ("three even", 50, 1, true, &[(0, 6), (1, 6), (2, 6)], false),
+    ("one even", 50, 1, true, &[(0, 6, false)], false),
+    (
+        "three even",
+        50,
+        1,
+        true,
+        &[(0, 6, false), (1, 6, false), (2, 6, false)],
+        false,
+    ),
     ("no member", 50, 1, false, &[], false),
-    ("the last disk", 50, 1, false, &[(127, 1016)], true),
-    ("disk 128", 50, 1, false, &[(128, 6)], false),
-    ("no partition", 50, 1, false, &[(0, 0)], false),
-    ("1017 partitions", 50, 1, false, &[(0, 1017)], false),
-    ("a disk twice", 50, 1, false, &[(3, 6), (3, 5)], false),
+    ("the last disk", 50, 1, false, &[(127, 1016, false)], true),
+    ("disk 128", 50, 1, false, &[(128, 6, false)], false),
+    ("no partition", 50, 1, false, &[(0, 0, false)], false),
+    ("1017 partitions", 50, 1, false, &[(0, 1017, false)], false),
+    (
+        "a disk twice",
+        50,
+        1,
+        false,
+        &[(3, 6, false), (3, 5, false)],
+        false,
+    ),
 ];
 
 static VOLUMES: [(&str, &[Volume], bool); 19] = [
@@ -83,107 +93,60 @@ static NAMES: [(&str, bool); 20] = [
 #[test]
 fn names_are_refused_at_each_rule(rt: HostRuntime) {
     for (text, is) in &NAMES {
-        assert_eq!(rt; Name::read(text.as_bytes()).is_some(), *is, "{text}");
+        check(&rt, Name::read(text.as_bytes()).is_some() == *is, text);
     }
 }
 
-fn name_of(text: &str) -> Result<Name, Fail> {
-    Ok(Name::read(text.as_bytes()).ok_or("a name")?)
-}
-
-fn volume_of(alloc: Global, of: &Volume) -> Result<LvRow, Fail> {
-    let (number, name, copies, lps, places) = *of;
-    let mut map = Vec::new(alloc);
-    for (disk, pp) in places {
-        map.push(Pp {
-            disk: *disk,
-            pp: *pp,
-        })?;
-    }
-    let name = name_of(name)?;
-    let (mode, policy) = (Mode::Active, Policy::Parallel);
-    let map = Rows::new(map);
-    Ok(LvRow {
-        number,
-        name,
-        copies,
-        mode,
-        policy,
-        lps,
-        map,
-    })
-}
-
-fn member_rows(alloc: Global, disks: &[(u16, u16)]) -> Result<Rows<PvRow>, Fail> {
-    let mut pvs = Vec::new(alloc);
-    for (disk, pps) in disks {
-        pvs.push(PvRow {
-            disk: *disk,
-            pps: *pps,
-            spare: false,
-        })?;
-    }
-    Ok(Rows::new(pvs))
-}
-
-fn group_of_two(alloc: Global) -> Result<Descriptor, Fail> {
-    Ok(Descriptor {
-        id: 50,
-        name: name_of("datavg")?,
-        mib: 1,
-        quorum: true,
-        even: false,
-        big: false,
-        pvs: member_rows(alloc, TWO)?,
-        lvs: Rows::empty(alloc),
-    })
+fn is_head(
+    rt: &(impl Abort + AllocGlobal),
+    id: u64,
+    mib: u16,
+    even: bool,
+    disks: &[Member],
+) -> bool {
+    let mut group = group(rt, disks, &[]);
+    group.id = id;
+    group.mib = mib;
+    group.even = even;
+    group.is_valid()
 }
 
 #[test]
-fn heads_and_members_are_refused_at_each_rule(rt: HostRuntime) -> Result<(), Fail> {
+fn heads_and_members_are_refused_at_each_rule(rt: HostRuntime) {
     for (what, id, mib, even, disks, valid) in &HEADS {
-        let mut group = group_of_two(rt.alloc())?;
-        group.id = *id;
-        group.mib = *mib;
-        group.even = *even;
-        group.pvs = member_rows(rt.alloc(), disks)?;
-        assert_eq!(rt; group.is_valid(), *valid, "{what}");
+        check(&rt, is_head(&rt, *id, *mib, *even, disks) == *valid, what);
     }
-    Ok(())
+}
+
+fn has_volumes(rt: &(impl Abort + AllocGlobal), volumes: &[Volume]) -> bool {
+    group(rt, TWO, volumes).is_valid()
 }
 
 #[test]
-fn volumes_are_refused_at_each_rule(rt: HostRuntime) -> Result<(), Fail> {
+fn volumes_are_refused_at_each_rule(rt: HostRuntime) {
     for (what, volumes, valid) in &VOLUMES {
-        let mut lvs = Vec::new(rt.alloc());
-        for row in *volumes {
-            lvs.push(volume_of(rt.alloc(), row)?)?;
-        }
-        let mut group = group_of_two(rt.alloc())?;
-        group.lvs = Rows::new(lvs);
-        assert_eq!(rt; group.is_valid(), *valid, "{what}");
+        check(&rt, has_volumes(&rt, volumes) == *valid, what);
     }
-    Ok(())
 }
 
-// A group of so many members, of 1,016 partitions each.
-fn group_of_many(alloc: Global, disks: u16, big: bool) -> Result<Descriptor, Fail> {
-    let mut group = group_of_two(alloc)?;
-    let mut pvs = Vec::new(alloc);
-    for disk in 0..disks {
-        pvs.push(PvRow {
-            disk,
-            pps: 1016,
-            spare: false,
-        })?;
+// So many members of 1,016 partitions.
+fn many(rt: &(impl Abort + AllocGlobal), count: u16) -> Rows<PvRow> {
+    let mut rows = Vec::new(rt.alloc());
+    for disk in 0..count {
+        rows.push((disk, 1016, false)).expect(rt, "memory");
     }
+    members(rt, &rows)
+}
+
+fn group_of_many(rt: &(impl Abort + AllocGlobal), disks: u16, big: bool) -> Descriptor {
+    let mut group = group(rt, &[], &[]);
     group.big = big;
-    group.pvs = Rows::new(pvs);
-    Ok(group)
+    group.pvs = many(rt, disks);
+    group
 }
 
 #[test]
-fn a_big_group_has_more_members(rt: HostRuntime) -> Result<(), Fail> {
+fn a_big_group_has_more_members(rt: HostRuntime) {
     for (disks, big, valid) in [
         (32, false, true),
         (33, false, false),
@@ -191,44 +154,51 @@ fn a_big_group_has_more_members(rt: HostRuntime) -> Result<(), Fail> {
         (128, true, true),
         (129, true, false),
     ] {
-        assert_eq!(rt;
-            group_of_many(rt.alloc(), disks, big)?.is_valid(),
-            valid,
-            "{disks}"
+        check(
+            &rt,
+            group_of_many(&rt, disks, big).is_valid() == valid,
+            "members",
         );
     }
-    Ok(())
 }
 
-// One volume on all partitions of 128 disks, but that its last one is the one given.
-fn full_group(alloc: Global, last: Pp) -> Result<Descriptor, Fail> {
-    let mut group = group_of_many(alloc, 128, true)?;
-    let mut map = Vec::new(alloc);
+// All partitions of 128 disks, but that the last one is the one given.
+fn full_map(rt: &(impl Abort + AllocGlobal), last: Pp) -> Rows<Pp> {
+    let mut map = Vec::new(rt.alloc());
     for disk in 0..128 {
         for pp in 0..1016 {
-            map.push(Pp { disk, pp })?;
+            map.push(Pp { disk, pp }).expect(rt, "memory");
         }
     }
     map.pop();
-    map.push(last)?;
-    let mut row = volume_of(alloc, &(511, "lv00", 1, 130_048, &[]))?;
-    row.map = Rows::new(map);
-    let mut lvs = Vec::new(alloc);
-    lvs.push(row)?;
+    map.push(last).expect(rt, "memory");
+    Rows::new(map)
+}
+
+// One volume on all of them.
+fn full_group(rt: &(impl Abort + AllocGlobal), last: Pp) -> Descriptor {
+    let mut row = volume(rt, &(511, "lv00", 1, 130_048, &[]));
+    row.map = full_map(rt, last);
+    let mut lvs = Vec::new(rt.alloc());
+    lvs.push(row).expect(rt, "memory");
+    let mut group = group_of_many(rt, 128, true);
     group.lvs = Rows::new(lvs);
-    Ok(group)
+    group
 }
 
 #[test]
-fn a_partition_used_twice_is_found_in_the_fullest_group(rt: HostRuntime) -> Result<(), Fail> {
+fn a_partition_used_twice_is_found_in_the_fullest_group(rt: HostRuntime) {
     let last = Pp {
         disk: 127,
         pp: 1015,
     };
     let first = Pp { disk: 0, pp: 0 };
-    assert_eq!(rt; full_group(rt.alloc(), last)?.is_valid(), true);
-    assert_eq!(rt; full_group(rt.alloc(), first)?.is_valid(), false);
-    Ok(())
+    check(&rt, full_group(&rt, last).is_valid(), "each once");
+    check(
+        &rt,
+        !full_group(&rt, first).is_valid(),
+        "the first one twice",
+    );
 }
 
 // what, big, disks, dirty, valid
@@ -247,89 +217,101 @@ static STATUSES: [(&str, bool, &[u16], &[u16], bool); 12] = [
     ("volumes that rise", false, &[0], &[6, 7], true),
 ];
 
-fn status_rows(alloc: Global, disks: &[u16]) -> Result<Rows<StatusRow>, Fail> {
-    let mut rows = Vec::new(alloc);
-    for disk in disks {
-        rows.push(StatusRow {
-            disk: *disk,
-            missing: false,
-            stale: [0xff; 127],
-        })?;
-    }
-    Ok(Rows::new(rows))
-}
-
-fn numbers_of(alloc: Global, numbers: &[u16]) -> Result<VolumeNumbers, Fail> {
-    Ok(VolumeNumbers::new(alloc, numbers).map_err(|_| "memory")?)
+fn is_status(
+    rt: &(impl Abort + AllocGlobal),
+    id: u64,
+    big: bool,
+    disks: &[u16],
+    dirty: &[u16],
+) -> bool {
+    let mut status = status(rt, disks, 0xff, dirty);
+    status.id = id;
+    status.big = big;
+    status.is_valid()
 }
 
 #[test]
-fn statuses_are_refused_at_each_rule(rt: HostRuntime) -> Result<(), Fail> {
-    let alloc = rt.alloc();
+fn statuses_are_refused_at_each_rule(rt: HostRuntime) {
     for (what, big, disks, dirty, valid) in &STATUSES {
-        let status = Status {
-            id: 50,
-            big: *big,
-            dirty: numbers_of(alloc, dirty)?,
-            rows: status_rows(alloc, disks)?,
-        };
-        assert_eq!(rt; status.is_valid(), *valid, "{what}");
+        check(&rt, is_status(&rt, 50, *big, disks, dirty) == *valid, what);
     }
-    let mut disks = Vec::new(alloc);
-    for disk in 0..33 {
-        disks.push(disk)?;
+}
+
+fn is_status_of_first(rt: &(impl Abort + AllocGlobal), id: u64, big: bool, count: u16) -> bool {
+    let mut disks = Vec::new(rt.alloc());
+    for disk in 0..count {
+        disks.push(disk).expect(rt, "memory");
     }
+    is_status(rt, id, big, &disks, &[])
+}
+
+#[test]
+fn a_big_status_has_more_rows(rt: HostRuntime) {
     for (id, big, count, valid) in [
         (50, false, 32, true),
         (50, false, 33, false),
         (50, true, 33, true),
         (0, true, 33, false),
     ] {
-        disks.truncate(count);
-        let rows = status_rows(alloc, &disks)?;
-        let dirty = numbers_of(alloc, &[])?;
-        let status = Status {
-            id,
-            big,
-            dirty,
-            rows,
-        };
-        assert_eq!(rt; status.is_valid(), valid, "{count} rows");
-        disks.push(32)?;
+        check(
+            &rt,
+            is_status_of_first(&rt, id, big, count) == valid,
+            "rows",
+        );
     }
-    Ok(())
 }
 
 #[test]
 fn a_set_has_what_was_put_in_last(rt: HostRuntime) {
     let set = DiskSet::empty().with(0).with(127).without(0).without(5);
-    assert_eq!(rt; set.has(0), false);
-    assert_eq!(rt; set.has(127), true);
-    assert_eq!(rt; set == DiskSet::empty().with(127), true);
+    check(&rt, !set.has(0) && set.has(127), "127 and not 0");
+    check(&rt, set == DiskSet::empty().with(127), "127 alone");
+}
+
+// The group of two disks.
+fn two_disks(rt: &(impl Abort + AllocGlobal), quorum: bool, even: bool) -> Descriptor {
+    let mut group = group(rt, TWO, &[]);
+    group.quorum = quorum;
+    group.even = even;
+    group
+}
+
+// The votes of disks 0, 4 and 3.
+fn votes(rt: &impl Abort, group: &Descriptor) -> [u32; 3] {
+    let valid = group.is_valid();
+    assert!(rt; valid);
+    [group.votes(0), group.votes(4), group.votes(3)]
+}
+
+// The votes of all and those of the first.
+fn sums(rt: &impl Abort, group: &Descriptor) -> [u32; 2] {
+    let valid = group.is_valid();
+    assert!(rt; valid);
+    [
+        group.total_votes(),
+        group.votes_in(DiskSet::empty().with(0)),
+    ]
+}
+
+// Whether so many are enough to read and to write.
+fn enough(rt: &impl Abort, group: &Descriptor, votes: u32) -> [bool; 2] {
+    let valid = group.is_valid();
+    assert!(rt; valid);
+    [group.enough_to_read(votes), group.enough_to_write(votes)]
 }
 
 // What is enough for three of two disks, for two of two that are even, and without a quorum.
 #[test]
-fn two_disks_have_three_votes_unless_even(rt: HostRuntime) -> Result<(), Fail> {
-    let mut group = group_of_two(rt.alloc())?;
-    let first = DiskSet::empty().with(0);
-    for (quorum, even, votes, read, write) in [
-        (true, false, 2, true, true),
-        (true, true, 1, false, false),
-        (false, false, 2, false, true),
-        (false, true, 1, false, true),
+fn two_disks_have_three_votes_unless_even(rt: HostRuntime) {
+    for (quorum, even, first, total, read, write) in [
+        (true, false, 2, 3, true, true),
+        (true, true, 1, 2, false, false),
+        (false, false, 2, 3, false, true),
+        (false, true, 1, 2, false, true),
     ] {
-        group.quorum = quorum;
-        group.even = even;
-        let valid = group.is_valid();
-        assert!(rt; valid);
-        assert_eq!(rt; group.votes(0), votes);
-        assert_eq!(rt; group.votes(4), 1);
-        assert_eq!(rt; group.votes(3), 0);
-        assert_eq!(rt; group.total_votes(), votes + 1);
-        assert_eq!(rt; group.votes_in(first), votes);
-        assert_eq!(rt; group.enough_to_read(votes), read);
-        assert_eq!(rt; group.enough_to_write(votes), write);
+        let group = two_disks(&rt, quorum, even);
+        check(&rt, votes(&rt, &group) == [first, 1, 0], "votes");
+        check(&rt, sums(&rt, &group) == [total, first], "sums");
+        check(&rt, enough(&rt, &group, first) == [read, write], "enough");
     }
-    Ok(())
 }

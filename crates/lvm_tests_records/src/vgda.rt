@@ -1,7 +1,7 @@
-use crate::{VgdaFault, decode, encode};
-use lvm_num::{Descriptor, LvRow, Memory, Mode, Name, Policy, Pp, PvRow, Rows};
-use std::alloc::Global;
-use std::test::Fail;
+use crate::fixtures::{Member, check, check_at, group, members};
+use lvm_num::{Descriptor, LvRow, Mode, Name, Policy, Pp, PvRow, Rows};
+use lvm_vgda::{VgdaFault, decode, encode};
+use std::process::Abort;
 
 // A group of three disks without a volume.
 const THREE: [u8; 72] =
@@ -17,73 +17,52 @@ const LV01: [u8; 32] = *b"\0\x02\x01\x02\0\0\0\0\0\0\0\x01lv01\0\0\0\0\0\0\0\0\0
 
 const MAPS: [u8; 20] = *b"\0\0\0\0\0\x01\0\0\0\0\0\x01\0\x01\0\x01\0\0\0\x02";
 
-fn volumes_of_two(alloc: Global) -> Result<Vec<u8>, Fail> {
-    let mut bytes = Vec::from_slice(alloc, &TWO)?;
-    bytes.extend_from_slice(&LV00)?;
-    bytes.extend_from_slice(&LV01)?;
-    bytes.extend_from_slice(&MAPS)?;
-    Ok(bytes)
+const MEMBERS: [Member; 3] = [(0, 6, false), (1, 6, false), (2, 6, false)];
+
+fn encoded(rt: &(impl Abort + AllocGlobal), group: &Descriptor) -> Rows<u8> {
+    let valid = group.is_valid();
+    assert!(rt; valid);
+    encode(rt.alloc(), group).expect(rt, "memory")
 }
 
-fn name_of(text: &[u8]) -> Result<Name, Fail> {
-    Ok(Name::read(text).ok_or("a name")?)
+fn decoded(rt: &(impl Abort + AllocGlobal), bytes: &[u8]) -> Descriptor {
+    decode(rt.alloc(), bytes).expect(rt, "a descriptor")
 }
 
-fn place_of(read: Result<Descriptor, VgdaFault>) -> Option<u32> {
-    match read {
+fn three(rt: &(impl Abort + AllocGlobal), big: bool) -> Descriptor {
+    let mut group = group(rt, &MEMBERS, &[]);
+    group.big = big;
+    group
+}
+
+#[test]
+fn three_disks_are_written_and_read_in_both_versions(rt: HostRuntime) {
+    let mut want = THREE;
+    for (big, version) in [(false, b'1'), (true, b'2')] {
+        want[3] = version;
+        let group = three(&rt, big);
+        let written = encoded(&rt, &group).as_slice() == want.as_slice();
+        let read = decoded(&rt, &want) == group;
+        check(&rt, written, "written");
+        check(&rt, read, "read");
+    }
+}
+
+// The bytes of the group of two disks.
+fn two(rt: &(impl Abort + AllocGlobal)) -> Vec<u8> {
+    let mut bytes = TWO.to_vec(rt.alloc()).expect(rt, "memory");
+    bytes.extend_from_slice(&LV00).expect(rt, "memory");
+    bytes.extend_from_slice(&LV01).expect(rt, "memory");
+    bytes.extend_from_slice(&MAPS).expect(rt, "memory");
+    bytes
+}
+
+// The place of the first fault.
+fn fault_in(rt: &(impl Abort + AllocGlobal), bytes: &[u8]) -> Option<u32> {
+    match decode(rt.alloc(), bytes) {
         Err(VgdaFault::BadDescriptor { place }) => Some(place),
         _ => None,
     }
-}
-
-fn group_of_three(alloc: Global, big: bool) -> Result<Descriptor, Fail> {
-    let mut pvs = Vec::new(alloc);
-    for disk in 0..3 {
-        pvs.push(PvRow {
-            disk,
-            pps: 6,
-            spare: false,
-        })?;
-    }
-    Ok(Descriptor {
-        id: 50,
-        name: name_of(b"datavg")?,
-        mib: 1,
-        quorum: true,
-        even: false,
-        big,
-        pvs: Rows::new(pvs),
-        lvs: Rows::empty(alloc),
-    })
-}
-
-#[test]
-fn three_disks_are_written_and_read_in_both_versions(rt: HostRuntime) -> Result<(), Fail> {
-    let alloc = rt.alloc();
-    let mut want = THREE;
-    for big in [false, true] {
-        let group = group_of_three(alloc, big)?;
-        let valid = group.is_valid();
-        assert!(rt; valid);
-        let bytes = encode(alloc, &group).map_err(|_| "memory")?;
-        want[3] = if big { b'2' } else { b'1' };
-        assert!(rt; bytes.as_slice() == want.as_slice());
-        assert!(rt; decode(alloc, &want) == Ok(group));
-    }
-    Ok(())
-}
-
-#[test]
-fn three_disks_are_refused_at_the_place_of_the_fault(rt: HostRuntime) -> Result<(), Fail> {
-    let alloc = rt.alloc();
-    let mut flag = THREE;
-    flag[30] = 2;
-    assert_eq!(rt; place_of(decode(alloc, &flag)), Some(30));
-    assert_eq!(rt; place_of(decode(alloc, &THREE[..71])), Some(71));
-    let mut more = Vec::from_slice(alloc, &THREE)?;
-    more.push(0)?;
-    assert_eq!(rt; place_of(decode(alloc, &more)), Some(72));
-    Ok(())
 }
 
 // what, the bytes that are put over others, the place of the fault
@@ -137,45 +116,46 @@ static FAULTS: [(&str, &[(usize, u8)], u32); 43] = [
     ("the first of two", &[(129, 2), (52, 2)], 52),
 ];
 
-#[test]
-fn each_rule_is_refused_at_its_place(rt: HostRuntime) -> Result<(), Fail> {
-    let alloc = rt.alloc();
-    for (what, changes, place) in &FAULTS {
-        let mut bytes = volumes_of_two(alloc)?;
-        for (at, byte) in *changes {
-            *bytes.get_mut(*at).ok_or("a place")? = *byte;
-        }
-        assert_eq!(rt; place_of(decode(alloc, &bytes)), Some(*place), "{what}");
+fn fault_with(rt: &(impl Abort + AllocGlobal), changes: &[(usize, u8)]) -> Option<u32> {
+    let mut bytes = two(rt);
+    for (at, byte) in changes {
+        *bytes.get_mut(*at).expect(rt, "a place") = *byte;
     }
-    Ok(())
+    fault_in(rt, &bytes)
 }
 
 #[test]
-fn all_of_the_bytes_are_needed(rt: HostRuntime) -> Result<(), Fail> {
-    let alloc = rt.alloc();
-    let bytes = volumes_of_two(alloc)?;
-    let group = decode(alloc, &bytes).map_err(|_| "a descriptor")?;
-    let valid = group.is_valid();
-    assert!(rt; valid);
-    let again = encode(alloc, &group).map_err(|_| "memory")?;
-    assert!(rt; again.as_slice() == bytes.as_slice());
-    for len in 0..148 {
-        let front = bytes.get(..len).ok_or("bytes")?;
-        assert_eq!(rt; place_of(decode(alloc, front)), Some(len as u32));
+fn each_rule_is_refused_at_its_place(rt: HostRuntime) {
+    for (what, changes, place) in &FAULTS {
+        check(&rt, fault_with(&rt, changes) == Some(*place), what);
     }
-    Ok(())
+}
+
+#[test]
+fn all_of_the_bytes_are_needed_and_none_more(rt: HostRuntime) {
+    let mut bytes = two(&rt);
+    let again = encoded(&rt, &decoded(&rt, &bytes));
+    check(&rt, again.as_slice() == bytes.as_slice(), "again");
+    for len in 0..148 {
+        let front = bytes.get(..len).expect(&rt, "bytes");
+        check_at(&rt, fault_in(&rt, front) == Some(len as u32), "bytes", len);
+    }
+    bytes.push(0).expect(&rt, "memory");
+    check(&rt, fault_in(&rt, &bytes) == Some(148), "a byte more");
+    check(&rt, fault_in(&rt, &THREE[..71]) == Some(71), "three disks");
 }
 
 // A name of its own for each number.
-fn numbered(number: u16) -> Result<Name, Fail> {
+fn numbered(rt: &impl Abort, number: u16) -> Name {
     let digit = |value: u16| b'0' + (value % 10) as u8;
-    name_of(&[
+    let bytes = [
         b'l',
         b'v',
         digit(number / 100),
         digit(number / 10),
         digit(number),
-    ])
+    ];
+    Name::read(&bytes).expect(rt, "a name")
 }
 
 // The partition after this one, of disks with 1,016 each.
@@ -193,53 +173,73 @@ fn after(pp: Pp) -> Pp {
     }
 }
 
-// So many members with 1,016 partitions, and so many volumes that have them all, the last one twice
-// as many as each other.
-fn full_group(alloc: Global, big: bool, members: u16, volumes: u16) -> Result<Descriptor, Fail> {
-    let mut group = group_of_three(alloc, big)?;
-    let mut pvs = Vec::new(alloc);
-    for disk in 0..members {
-        pvs.push(PvRow {
-            disk,
-            pps: 1016,
-            spare: true,
-        })?;
+// So many partitions from this one on, which becomes the one after them.
+fn next_map(rt: &(impl Abort + AllocGlobal), free: &mut Pp, lps: u32) -> Rows<Pp> {
+    let mut map = Vec::new(rt.alloc());
+    for _ in 0..lps {
+        map.push(*free).expect(rt, "memory");
+        *free = after(*free);
     }
-    let mut lvs = Vec::new(alloc);
-    let each = u32::from(members) * 1016 / (u32::from(volumes) + 1);
+    Rows::new(map)
+}
+
+fn next_volume(rt: &(impl Abort + AllocGlobal), number: u16, free: &mut Pp, lps: u32) -> LvRow {
+    LvRow {
+        number,
+        name: numbered(rt, number),
+        copies: 1,
+        mode: Mode::Passive,
+        policy: Policy::Parallel,
+        lps,
+        map: next_map(rt, free, lps),
+    }
+}
+
+// So many volumes of as many partitions each, and the last one of twice as many.
+fn full_volumes(rt: &(impl Abort + AllocGlobal), count: u16, each: u32) -> Rows<LvRow> {
+    let mut lvs = Vec::new(rt.alloc());
     let mut free = Pp { disk: 0, pp: 0 };
-    for number in 1..=volumes {
-        let lps = if number == volumes { each * 2 } else { each };
-        let mut map = Vec::new(alloc);
-        for _ in 0..lps {
-            map.push(free)?;
-            free = after(free);
-        }
-        lvs.push(LvRow {
-            number,
-            name: numbered(number)?,
-            copies: 1,
-            mode: Mode::Passive,
-            policy: Policy::Parallel,
-            lps,
-            map: Rows::new(map),
-        })?;
+    for number in 1..=count {
+        let lps = if number == count {
+            each.saturating_mul(2)
+        } else {
+            each
+        };
+        lvs.push(next_volume(rt, number, &mut free, lps))
+            .expect(rt, "memory");
     }
-    group.pvs = Rows::new(pvs);
-    group.lvs = Rows::new(lvs);
-    Ok(group)
+    Rows::new(lvs)
+}
+
+// So many members with 1,016 partitions.
+fn full_members(rt: &(impl Abort + AllocGlobal), count: u16) -> Rows<PvRow> {
+    let mut rows = Vec::new(rt.alloc());
+    for disk in 0..count {
+        rows.push((disk, 1016, true)).expect(rt, "memory");
+    }
+    members(rt, &rows)
+}
+
+// So many members, and so many volumes that have all of their partitions.
+fn full_group(rt: &(impl Abort + AllocGlobal), big: bool, pvs: u16, lvs: u16) -> Descriptor {
+    let each = u32::from(pvs) * 1016 / (u32::from(lvs) + 1);
+    let mut group = group(rt, &[], &[]);
+    group.big = big;
+    group.pvs = full_members(rt, pvs);
+    group.lvs = full_volumes(rt, lvs, each);
+    group
 }
 
 #[test]
-fn the_largest_of_each_version_is_read_again(rt: HostRuntime) -> Result<(), Fail> {
-    let alloc = rt.alloc();
-    for (big, members, volumes, len) in [(false, 32, 255, 138_512), (true, 128, 511, 537_616)] {
-        let group = full_group(alloc, big, members, volumes)?;
-        let valid = group.is_valid();
-        assert!(rt; valid);
-        let bytes = encode(alloc, &group).map_err(|_| "memory")?;
-        assert_eq!(rt; bytes.len(), len);
-        assert!(rt; decode(alloc, bytes.as_slice()) == Ok(group));
+fn the_largest_of_each_version_is_read_again(rt: HostRuntime) {
+    for (big, members, volumes, len) in [
+        (false, 32, 0, 304),
+        (false, 32, 255, 138_512),
+        (true, 128, 511, 537_616),
+    ] {
+        let group = full_group(&rt, big, members, volumes);
+        let bytes = encoded(&rt, &group);
+        check_at(&rt, bytes.len() == len, "bytes", len);
+        check_at(&rt, decoded(&rt, bytes.as_slice()) == group, "again", len);
     }
-    Ok(())
 }
