@@ -1,0 +1,55 @@
+//! Runs scripts over disks in memory, as the cases of standard input say, and prints what the scripts are answered.
+//!
+//! A case is given line by line, its first word saying what the line is:
+//!
+//! | Line | What it says |
+//! |---|---|
+//! | `case NAME` | a case begins; it is printed |
+//! | `sim DISKS MIB` | it is over so many disks of zeros of so many MiB |
+//! | `disks SECTORS ..` | or over disks of zeros of so many sectors |
+//! | `> TEXT` | a line of the script |
+//! | `* TEXT` | a line of the script, at whose calls of the disks a `sweep` acts |
+//! | `unended` | the script's last line lacks its line feed |
+//! | `plan CALL ACT` | before that call of the next run `cut WORD`, `pick WORD`, `fail DISK`, `heal DISK` or `delay REAPS` is done |
+//! | `source N` | the source of the next run fails at its N-th read |
+//! | `sink BYTES` | the sink of the next run has room for so many bytes |
+//! | `entries N` | the history of a run has room for so many entries |
+//! | `clock N` | the clock answers N next, and then one more each time |
+//! | `block DISK AT` | each run is to leave a block there that its history allows |
+//! | `run` | the script is run, and forgotten; the disks stay as it leaves them |
+//! | `words [WORD] ..` | the program runs by these words, the script its input, the disks its files |
+//! | `sweep ACTS` | the script is run over disks of zeros once for each call of the marked lines and each of the acts `cut WORD ..` or `fail DISK ..`, which is done before that call; the answers from these lines on are printed, each once |
+//! | `twice N ACTS` | the same, and the act is done again N calls later |
+//!
+//! Empty lines and those that begin with `#` say nothing.
+#![tactic(auto)]
+
+mod bench;
+mod fault;
+mod outside;
+mod parse;
+mod print;
+mod run;
+mod script;
+mod sweep;
+
+use bench::Bench;
+use lvm_io::StdSink;
+use std::io;
+use std::process::ExitCode;
+
+fn main(rt: HostRuntime) -> ExitCode {
+    let alloc = rt.alloc();
+    let Ok(cases) = io::read_to_string(alloc, rt.reader()) else {
+        return ExitCode::FAILURE;
+    };
+    let mut out = StdSink::new(io::writer(&rt));
+    let mut bench = Bench::new(alloc);
+    for line in cases.lines() {
+        if let Err(fault) = bench.take_line(alloc, line, &mut out) {
+            let _ = eprintln!(rt; "{fault}: {line}");
+            return ExitCode::FAILURE;
+        }
+    }
+    ExitCode::SUCCESS
+}

@@ -1,0 +1,121 @@
+//! Runs over disks in memory.
+ghost use Rattle.std.specs.Prelude.{◌≡◌, ◌%◌, ◌≤◌, length, All, IfOk, IsTrue};
+ghost use Rattle.lvm_disk.specs.Device.{IsReady};
+ghost use Rattle.lvm_disk.specs.Memory.{device_of};
+
+use crate::fault::Fault;
+use crate::outside::Outside;
+use lvm_disk::{MemShelf, Planned, Shelf, names_disks};
+use lvm_io::{MemClock, MemSink};
+use lvm_num::Rows;
+use lvm_top::{Ended, Room, run_script};
+use lvm_vol::Vol;
+use std::alloc::Global;
+
+/// The sizes of the disks of a case in sectors, and how many entries the history of a run has room for.
+#[derive(Drop)]
+pub struct Sizes {
+    pub sectors: Vec<u64>,
+    pub entries: u32,
+}
+
+/// How a run ended, and what it wrote.
+#[derive(Drop)]
+pub struct Ran {
+    pub ended: Ended<MemShelf>,
+    pub out: MemSink,
+}
+
+// How many writes a shelf tells by their ranges.
+const LOG: u32 = 1_024;
+
+/// Disks of zeros.
+pub fn blank(alloc: Global, sectors: &[u64], plan: &[Planned]) -> Result<MemShelf, Fault>
+    ensures { IfOk result (λ shelf. IsReady (device_of shelf)) }
+{
+    if sectors.is_empty() || sectors.len() > 128 || !names_disks(plan, sectors.len() as u16) {
+        return Err(Fault::Line);
+    }
+    let plan = Rows::new(Vec::from_slice(alloc, plan)?);
+    Ok(MemShelf::new(alloc, sectors, plan, LOG)?)
+}
+
+// What stands on the disks.
+fn images_of(alloc: Global, shelf: &MemShelf) -> Result<Vec<Rows<u8>>, Fault> {
+    let mut images = Vec::new(alloc);
+    for disk in 0..shelf.disks() {
+        images.push(Rows::new(Vec::from_slice(alloc, shelf.image(disk))?))?;
+    }
+    Ok(images)
+}
+
+fn are_whole(images: &[Rows<u8>]) -> bool
+    ensures { IsTrue result → All (λ bytes. length bytes % 512 ≡ 0) images.now }
+{
+    images.iter().all(|bytes| bytes.len() % 512 == 0)
+}
+
+/// The disks as a run left them, which are started again: none is failing, and calls are counted from 1.
+pub fn restarted(alloc: Global, shelf: &MemShelf, plan: &[Planned]) -> Result<MemShelf, Fault>
+    ensures { IfOk result (λ again. IsReady (device_of again)) }
+{
+    let images = images_of(alloc, shelf)?;
+    if images.is_empty() || images.len() > 128 || !are_whole(&images) {
+        return Err(Fault::Line);
+    }
+    if !names_disks(plan, images.len() as u16) {
+        return Err(Fault::Line);
+    }
+    let plan = Rows::new(Vec::from_slice(alloc, plan)?);
+    Ok(MemShelf::from_images(alloc, Rows::new(images), plan, LOG)?)
+}
+
+/// Runs a script.
+pub fn run(
+    alloc: Global,
+    shelf: MemShelf,
+    script: &[u8],
+    outside: &Outside,
+    clock: &mut MemClock,
+    entries: u32,
+) -> Result<Ran, Fault>
+    requires { IsReady (device_of shelf) }
+{
+    let room = Room {
+        table: 4,
+        pool: 4,
+        entries: entries.max(4),
+        bytes: 1_048_576,
+    };
+    let mut input = outside.source(alloc, script)?;
+    let mut out = MemSink::new(alloc, outside.sink, Rows::empty(alloc))?;
+    let ended = run_script(alloc, &mut input, &mut out, shelf, clock, room);
+    Ok(Ran { ended, out })
+}
+
+/// What a run's history says that its status doesn't: whether it is legal, and whether it allows what stands in a
+/// sector of a disk.
+pub fn judged(ended: &Ended<MemShelf>, watched: Option<(u16, u64)>) -> &'static str {
+    let Some(history) = &ended.history else {
+        return ", no history";
+    };
+    if !history.is_legal() {
+        return ", not legal";
+    }
+    match watched {
+        None => "",
+        Some((disk, at)) => match sector(&ended.shelf, disk, at) {
+            Some(value) if history.may_of(Vol::Disk(disk), at, value) => ", allowed",
+            _ => ", not allowed",
+        },
+    }
+}
+
+// What stands in a sector of a disk.
+fn sector(shelf: &MemShelf, disk: u16, at: u64) -> Option<&[u8; 512]> {
+    if disk >= shelf.disks() {
+        return None;
+    }
+    let first = usize::try_from(at).ok()?.checked_mul(512)?;
+    shelf.image(disk).get(first..)?.first_chunk::<512>()
+}
