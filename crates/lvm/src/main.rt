@@ -1,7 +1,6 @@
 //! `lvm`: a logical volume manager over image files, or over disks in memory.
 #![tactic(auto)]
 
-
 use lvm_io::{StdSink, StdSource, SystemClock};
 use lvm_lane::{FileShelf, ImageSink};
 use lvm_num::Text;

@@ -6,4 +6,3 @@ mod laws;
 
 pub use begin::{Begun, begin_again, begin_new};
 pub use laws::{beginning_is_found, beginning_is_shown, homes_spare_newest, writes_are_of_records};
-

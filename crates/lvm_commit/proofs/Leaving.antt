@@ -48,9 +48,11 @@ any_of failed (row ∷ rows) d among fails = by_test (row.disk == d) refl among 
     front : (a b : Bool) → a ≡ true → a || b ≡ true
     front true b is = refl
     front false b is = absurd (false≢true is)
+
     behind : (a b : Bool) → b ≡ true → a || b ≡ true
     behind true b is = refl
     behind false b is = is
+
     by_test : (t : Bool) → (row.disk == d) ≡ t → t || list_any (λ (r : PvRow). r.disk == d) rows ≡ true → (list_any (λ (r : PvRow). r.disk == d) rows ≡ true → failed d ≡ true → list_any (λ (r : PvRow). failed r.disk) rows ≡ true)
         → failed row.disk || list_any (λ (r : PvRow). failed r.disk) rows ≡ true
     by_test true is among rest = front (failed row.disk) (list_any (λ (r : PvRow). failed r.disk) rows) (ap failed (eqb-true row.disk d is) ∙ fails)

@@ -118,7 +118,7 @@ module _ (c : Contents) (group : Descriptor) (was next : Stamped Status) (marks 
             (λ (hold : HoldOne c group.mib (fresh_on set (Some was) row lp) b). inl (
               hold.0,
               all_that_pass (λ p. block_at c group.mib p b ≡ hold.0) (passing next set) (copies_of row lp) (λ p copy is.
-              at_passing (λ p. block_at c group.mib p b ≡ hold.0) (passing was set) (copies_of row lp) hold.1 p copy (still_fresh set row lp p one copy is)),
+                  at_passing (λ p. block_at c group.mib p b ≡ hold.0) (passing was set) (copies_of row lp) hold.1 p copy (still_fresh set row lp p one copy is)),
             ))
             (λ differ. inr (by row.mode refl differ))
             kept.equal;

@@ -4,4 +4,3 @@
 mod queue;
 
 pub use queue::{Held, Queue, Row};
-

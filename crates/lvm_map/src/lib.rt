@@ -8,4 +8,3 @@ mod room;
 
 pub use fit::{MapFault, allocate, allocate_more};
 pub use places::{blocks, place};
-

@@ -9,4 +9,3 @@ mod notes;
 pub use cache::{Cache, Pin};
 pub use entries::CacheEntry;
 pub use notes::DiskNotes;
-

@@ -70,4 +70,3 @@ mod words;
 pub use command::{Command, ParseFault};
 pub use line::parse;
 pub use words::number_of;
-

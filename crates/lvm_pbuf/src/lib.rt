@@ -4,4 +4,3 @@
 mod pool;
 
 pub use pool::Pool;
-

@@ -11,4 +11,3 @@ mod request;
 
 pub use disk::{read_disk, write_disk};
 pub use fault::RawFault;
-

@@ -6,4 +6,3 @@ mod writes;
 
 pub use reads::read_order;
 pub use writes::{TargetState, write_next};
-

@@ -14,4 +14,3 @@ pub use group::{show_group, show_volumes};
 pub use map::show_map;
 pub use member::show_disk;
 pub use refusal::{Carried, Refusal, show_refusal};
-

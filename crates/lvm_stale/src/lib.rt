@@ -5,4 +5,3 @@
 mod table;
 
 pub use table::StaleTable;
-

@@ -10,4 +10,3 @@ mod writes;
 pub use change::{Change, Progress};
 pub use updater::Updater;
 pub use writes::Writes;
-

@@ -8,7 +8,8 @@ use crate::{Settled, commit_descriptor, commit_status};
 use lvm_disk::{Act, MemShelf, Planned, Shelf, names_disks};
 use lvm_move::{Patience, relight};
 use lvm_num::{
-    Descriptor, DiskSet, LvRow, Mode, Name, Pbuf, Policy, Pp, PvRow, Rows, Stamp, Status, StatusRow, VolumeNumbers,
+    Descriptor, DiskSet, LvRow, Mode, Name, Pbuf, Policy, Pp, PvRow, Rows, Stamp, Status,
+    StatusRow, VolumeNumbers,
 };
 use lvm_quorum::{Homes, Surveyed, survey_disks};
 use lvm_stale::StaleTable;
@@ -310,6 +311,7 @@ fn stamp(epoch: u64, seq: u32) -> Stamp {
 }
 
 const SOME: Pp = Pp { disk: 2, pp: 0 };
+
 const OTHER: Pp = Pp { disk: 1, pp: 0 };
 
 #[test]

@@ -13,4 +13,3 @@ mod values;
 pub use entry::{Entry, Outcome, Vol};
 pub use history::History;
 pub use shown::{Past, Shown};
-
