@@ -86,7 +86,7 @@ module _ (N M : Descriptor → Type 0) (Z Y : Pp → Type 0) (names : (d : Descr
       group = leaves.status.group;
       rows = leaves.status.rows;
       stale = λ pp out. leaves.status.stale pp (λ z. out (zeros pp z));
-      none = leaves.status.none;
+      further = leaves.status.further;
       dirty = leaves.status.dirty;
       stays = leaves.status.stays;
       lost = leaves.status.lost;

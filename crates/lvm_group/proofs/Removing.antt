@@ -13,6 +13,7 @@ use Rattle.lvm_change.specs.Moments.{Begins, Holds, Keeps}
 use Rattle.lvm_change.proofs.Entering.{goes_in_span}
 use Rattle.lvm_quorum.proofs.Transfers.{spends_then}
 use Rattle.lvm_commit.specs.LawsOfVolumes.{IsOnlyGroupOn, VolumeServes}
+use Rattle.lvm_commit.specs.Settling.{NoneIsLeft}
 use Rattle.lvm_commit.proofs.Volumes.{volume_is_gone_in_session}
 use Rattle.lvm_core.specs.declared.fault.CommitFault.{CommitFault}
 use Rattle.lvm_core.specs.declared.fault.CommitFault.TheVariants as commit
@@ -30,6 +31,7 @@ use Rattle.lvm_group.proofs.Going.{goes_then, still_then}
 use Rattle.lvm_group.proofs.Zeroing.{dark_history}
 use Rattle.lvm_group.proofs.Serving.{old_serves}
 use Rattle.lvm_group.proofs.OldDescriptor.{unnamed_without}
+use Rattle.lvm_group.proofs.Left.{none_left_without}
 use Rattle.lvm_group.proofs.Entering.{entered, settled_entered, entry_goes, entry_still, leaves_committed}
 
 -- no zeros
@@ -59,6 +61,10 @@ module _ (lv : ℕ) (next : Descriptor) (a : State) (settled : IsSettled a.core)
       by_media : (o : Option Media) → IfSome o (λ media. VolumeServes (contents_of (image_of a.device.sizes media)) (past ++ (a.core.history.facts ++ Removing (Lv lv) ∷ [])) a.core.descriptor lv next)
       by_media None = tt
       by_media (Some m) = serves m
+
+  -- fewer copies can be left behind
+  pub none_unnamed : NoneIsLeft begun.core.descriptor begun.core.status → NoneIsLeft next begun.core.status
+  none_unnamed none = subst (λ (d : Descriptor). NoneIsLeft d a.core.status) (sym without.is) (none_left_without a.core.descriptor lv a.core.status none)
 
   module _ (p q : ℕ) (b : State) (goes : Goes N NoZeros p q begun b) where
     pub break_goes : Goes N NoZeros p q a b

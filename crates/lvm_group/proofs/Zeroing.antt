@@ -14,6 +14,7 @@ use Rattle.lvm_status.specs.Update.{Stored}
 use Rattle.lvm_quorum.specs.Written.{KeepsShelf}
 use Rattle.lvm_commit.specs.LawsOfFinding.{FindsNothingNewOn}
 use Rattle.lvm_commit.specs.LawsOfVolumes.{IsOnlyGroupOn}
+use Rattle.lvm_commit.specs.Settling.{NoneIsLeft}
 use Rattle.lvm_core.specs.declared.fault.CommitFault.{CommitFault}
 use Rattle.lvm_core.specs.declared.fault.CommitFault.TheVariants as commit
 use Rattle.lvm_core.specs.State.{Core, State, is_there}
@@ -35,8 +36,8 @@ pub same_status : (Z : Pp → Type 0) (a b : State) → b.core.status ≡ a.core
 same_status Z a b same = record {
   group = ap (λ (s : Stored). s.group) same;
   rows = record { id = ap (λ (s : Stored). s.wanted.id) same; big = ap (λ (s : Stored). s.wanted.big) same; disks = ap (λ (s : Stored). Rattle.std.specs.Prelude.map (λ (r : _). r.disk) s.wanted.rows) same };
-  stale = λ p off. ap (λ (s : Stored). calls_stale s.wanted p) same;
-  none = λ p is. subst (λ (s : Stored). IsTrue (calls_stale s.wanted p)) same is;
+  stale = λ p off is. subst (λ (s : Stored). IsTrue (calls_stale s.wanted p)) (sym same) is;
+  further = λ p is. inl (subst (λ (s : Stored). IsTrue (calls_stale s.wanted p)) same is);
   dirty = ap (λ (s : Stored). s.wanted.dirty) same;
   stays = λ d is. subst (λ (s : Stored). IsTrue (calls_missing s.wanted d)) (sym same) is;
   lost = λ d is isnt. absurd (false≢true (sym isnt ∙ subst (λ (s : Stored). IsTrue (calls_missing s.wanted d)) same is));
@@ -82,4 +83,5 @@ module _ (map : List Pp) (pp : Pp) (inside : Contains map pp) (p q : ℕ) (a b :
     held = held;
     only = λ h only. subst (λ (c : Core). IsOnlyGroupOn b.device c.descriptor.id) (sym core)
         (only_still NoNext a b a.core.descriptor.id (λ k none. absurd none) h (finds_nothing NoNext a b _ writes.media finds) only);
+    left = λ none. subst (λ (c : Core). NoneIsLeft c.descriptor c.status) (sym core) none;
   }
