@@ -11,6 +11,7 @@ use Rattle.lvm_core.specs.declared.refused.Cause.TheVariants as cause
 use Rattle.lvm_core.specs.State.{Core}
 use Rattle.lvm_group.specs.NewGroup.{NewGroup}
 use Rattle.lvm_group.specs.Made.{IsMade, Refuses as MkvgRefuses}
+use Rattle.lvm_num.specs.declared.descriptor.Descriptor.{Descriptor}
 use Rattle.lvm_varyon.specs.Restated.{HasNoConsistency}
 use Rattle.lvm_varyon.specs.Varied.{ComesOn, IsRestated, IsRecovered, Refuses as VaryonRefuses, log_after}
 use Rattle.lvm_line.specs.Disks.{patience_of_line}
