@@ -11,4 +11,3 @@ pub use lines::{Lines, MOST_BYTES, NextLine, SinkFault, lines_make_the_text, wri
 pub use memory::{MemClock, MemSink, MemSource};
 pub use stream::{Clock, Got, Images, Put, Sink, Source};
 pub use system::{StdSink, StdSource, SystemClock};
-

@@ -1,5 +1,5 @@
 -- Runs of lines.
-use Rattle.std.proofs.Common.{◌≡◌, ◌⊎◌, inl, inr, ⊎_elim, ◌↔◌, ◌+◌, ◌≤◌, ◌<◌, ℕ, List, [], ◌∷◌, ◌++◌, Option, Some, None, Bool, true, false, cond, length, refl, sym, ◌∙◌, ap, subst, arith, zero-add, append_assoc}
+use Rattle.std.proofs.Common.{◌≡◌, inl, inr, ⊎_elim, ◌↔◌, ◌+◌, ◌≤◌, ◌<◌, ℕ, List, [], ◌∷◌, ◌++◌, Option, Some, None, Bool, true, false, cond, length, refl, sym, ◌∙◌, ap, subst, arith, zero-add, append_assoc}
 use Rattle.std.proofs.lemmas.Bool.{cases_lt}
 use Rattle.std.proofs.lemmas.List.{append-nil}
 use Rattle.std.proofs.lemmas.List.Sums.{sum_by-append}
@@ -54,7 +54,7 @@ told_then (Some a) (Some b) R S f one = f a b one
 told_then None (Some b) R S f one = absurd one
 told_then (Some a) None R S f one = absurd one
 
-told_same : (o : Option (List ℕ)) (R : List ℕ → List ℕ → Type 0) → ((a : List ℕ) → R a a) → WhereTold o o R
+pub told_same : (o : Option (List ℕ)) (R : List ℕ → List ℕ → Type 0) → ((a : List ℕ) → R a a) → WhereTold o o R
 told_same None R same = tt
 told_same (Some a) R same = same a
 
@@ -278,6 +278,11 @@ lines_ended log room first last input output refused lines = ends_went log room 
 pub nothing_done : (log : Log) (room : Room) (first : State) (input output : Stream) → AreDone log room first first (record { before = input; after = input }) (record { before = output; after = output }) 0
 nothing_done log room first input output =
     lines_so_far log room first first nothing_read input.content input.content output.content output.content 0 0 (at_start log room first input.content output.content) input input.faults output.faults output.faults
+
+-- in which no line was broken off
+pub nothing_broken : (log : Log) (room : Room) (first : State) (input output : Stream) → (nothing_done log room first input output).done ≡ []
+unfolding nothing_done lines_so_far
+nothing_broken log room first input output = refl
 
 -- ---- runs
 

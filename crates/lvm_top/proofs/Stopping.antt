@@ -15,7 +15,7 @@ use Rattle.lvm_line.specs.State.{State, without_facts}
 use Rattle.lvm_top.specs.Run.{Run, IsClosed, IsRun, Promises}
 use Rattle.lvm_top.specs.Script.{Stream, Passage, StaysAlone, EndsAlone, empty_log, entry_state, facts_of}
 use Rattle.lvm_top.proofs.Firsts.{first_upheld}
-use Rattle.lvm_top.proofs.Scripting.{Ended, told_same, nothing_done, lines_ended, run_upheld, run_ahead}
+use Rattle.lvm_top.proofs.Scripting.{Ended, told_same, nothing_done, nothing_broken, lines_ended, run_upheld, run_ahead}
 use Rattle.lvm_top.specs.Statuses.{status_of, GoesUntil}
 use Rattle.lvm_top.specs.declared.script.Stop.{Stop}
 use Rattle.lvm_top.specs.declared.script.Stop.TheVariants as stop
@@ -77,7 +77,7 @@ nothing_ran run last room device input output history ready none is named = reco
   closed = record { moment = ap (λ (facts : List Fact). record { device = device; facts = facts }) (sym none); clock = named };
   lines = nothing_done (empty_log run room) room (entry_state device run) input output;
   whole = λ low. absurd (omega (arith, low));
-  between = λ no_sink no_stuck. refl;
+  between = λ no_sink no_stuck. nothing_broken (empty_log run room) room (entry_state device run) input output;
   source = λ is. absurd (omega (arith, is));
   sink = λ is. absurd (omega (arith, is));
   read_well = λ no. refl;
@@ -91,7 +91,7 @@ nothing_ran run last room device input output history ready none is named = reco
 
 module _ (run last : ℕ) (room : Room) (entry exit : Device) (input output : Passage) (log : Log) (made : log ≡ record (empty_log run room) { facts = log.facts }) (end : State) (closed : IsClosed exit (Some log) last end) (why : Option Stop) (refused : ℕ) where
   -- a run of lines that ended so
-  ran_so : ℕ → Run
+  abbrev ran_so : ℕ → Run
   ran_so status = record { named = run; last = last; room = room; entry = entry; exit = exit; input = input; output = output; history = Some log; status = status; refused = refused }
 
   -- lines were done, and the status says why no more were

@@ -1,10 +1,10 @@
-use Rattle.std.proofs.Common.{◌≡◌, ◌≤◌, ◌<◌, ◌↔◌, ◌∙◌, ℕ, List, Some, None, OnErr, inl, inr, sym, refl, subst, arith}
+use Rattle.std.proofs.Common.{◌≡◌, ◌≤◌, ◌<◌, ◌↔◌, ◌∙◌, ℕ, List, Some, None, OnErr, inl, inr, sym, refl, subst}
 use Rattle.lvm_io.specs.declared.lines.NextLine.TheVariants as next
 use Rattle.std.proofs.lemmas.Bool.{cases_lt}
 use Rattle.lvm_io.specs.Count.{Rose}
 use Rattle.lvm_io.specs.Reading.{Reading}
 use Rattle.lvm_line.specs.Replies.{IsStuck, reply_text}
-use Rattle.lvm_line.specs.Stages.{shelf_in, history_in, state_in}
+use Rattle.lvm_line.specs.Stages.{history_in, state_in}
 use Rattle.lvm_line.specs.State.{without_facts}
 use Rattle.lvm_top.specs.declared.script.Stop.TheVariants as stop
 use Rattle.lvm_top.proofs.Scripting.{RunSoFar, at_start, line_answered, one_more, stops_between, stops_in_line}
@@ -33,7 +33,7 @@ returns-in-Failed-clause-goes g c =
     stops_between (without_facts (history_in c.args.stage)) c.args.room (state_in g.S.Shelf.device c.args.stage (g.C.Clock.last c.args.clock.now)) (state_in g.S.Shelf.device c.loop.stage (g.C.Clock.last c.loop.clock)) c.loop.lines (g.I.Source.left c.args.input.now) (g.I.Source.left c.loop.input) (g.O.Sink.held c.args.out.now) (g.O.Sink.held c.loop.out) c.loop.refused c.loop.counter c.loop.invariant.done
     (Some stop.SourceFault) c.next_line.new.self (g.I.Source.left c.next_line.new.input) (g.I.Source.faults c.args.input.now) (g.I.Source.faults c.next_line.new.input) (g.O.Sink.faults c.args.out.now) (g.O.Sink.faults c.loop.out) c.in-Failed.ensures.given
     (λ is. absurd (cc (is)), λ over. absurd (let no = c.in-Failed.ensures.too_long.1 over in cc (no))) (λ is. cc (is)) (λ is. cc (is))
-    (λ is. absurd (cc (is))) (λ is. subst (λ (n : ℕ). Rose n (g.I.Source.faults c.next_line.new.input)) c.loop.invariant.source c.in-Failed.ensures.cause) (λ no. absurd (no refl)) c.loop.invariant.sink
+    (λ is. absurd (cc (is))) (λ is. subst (λ (n : ℕ). Rose n (g.I.Source.faults c.next_line.new.input)) c.loop.invariant.source (c.in-Failed.ensures.cause refl)) (λ no. absurd (no refl)) c.loop.invariant.sink
 
 pub returns-in-TooLong-clause-goes : goal.returns-in-TooLong-clause-goes
 returns-in-TooLong-clause-goes g c =
