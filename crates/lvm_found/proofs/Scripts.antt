@@ -155,7 +155,7 @@ module _ (log : Log) (room : Room) (past : List Fact) (first : State) (begin : M
       line_stands log room past first begin line answer said says script it after alone (stands log room past first begin script alone.0) id k found
 
 pub run_finds : RunFindsWhatStands
-run_finds run last room entry exit input left before after history status refused ran past few ready behind earlier alone heard id k found =
-    let same : ran.end.moment.device ≡ exit = ap (λ (m : Moment). m.device) ran.closed.moment in
-    end_stands (empty_log run room) room (past ++ Cut ∷ []) (entry_state entry run) (run_may_start run entry past few ready behind earlier) ran.part.script ran.part.ends alone
+run_finds r ran past few ready behind earlier alone heard id k found =
+    let same : ran.end.moment.device ≡ r.exit = ap (λ (m : Moment). m.device) ran.closed.moment in
+    end_stands (empty_log r.named r.room) r.room (past ++ Cut ∷ []) (entry_state r.entry r.named) (run_may_start r.named r.entry past few ready behind earlier) ran.lines.script ran.lines.ends alone
     (subst IsReady (sym same) (ran.ready heard)) id k (subst (λ (d : Device). MayBeFound d id k) (sym same) found)

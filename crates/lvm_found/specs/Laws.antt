@@ -14,7 +14,7 @@ use Rattle.lvm_line.specs.Lines.{IsLine}
 use Rattle.lvm_line.specs.State.{State, IsTimely, AreHeld}
 use Rattle.lvm_line.specs.declared.reply.Reply.{Reply}
 use Rattle.lvm_line.specs.declared.reply.Reply.TheVariants as reply
-use Rattle.lvm_top.specs.Run.{Stream, IsRun, RanAlone}
+use Rattle.lvm_top.specs.Run.{Run, IsRun, RanAlone}
 use Rattle.lvm_top.specs.Script.{Script, StaysAlone, entry_state}
 use Rattle.lvm_found.specs.Standing.{MayHaveCommitted, MayStand, MayStandAtEnd, HasFewDisks}
 
@@ -57,7 +57,6 @@ RunMayStart = (run : ℕ) (entry : Device) (past : List Fact) → HasFewDisks en
 -- So it is at the end of each run after which nothing is under way.
 abbrev pub RunFindsWhatStands : Type 0
 RunFindsWhatStands =
-    (run last : ℕ) (room : Room) (entry exit : Device) (input left before after : Stream) (history : Option Log) (status refused : ℕ)
-    (ran : IsRun run last room entry exit input left before after history status refused) (past : List Fact)
-    → HasFewDisks entry → IsReady entry → IsBehind run entry → IsEarlier run entry past → RanAlone ran → (status ≡ 6 → ⊥)
-    → (id : ℕ) (k : Descriptor) → MayBeFound exit id k → MayStandAtEnd ran.part.ends (MayStand ran.part.script) id k
+    (r : Run) (ran : IsRun r) (past : List Fact)
+    → HasFewDisks r.entry → IsReady r.entry → IsBehind r.named r.entry → IsEarlier r.named r.entry past → RanAlone ran → (r.status ≡ 6 → ⊥)
+    → (id : ℕ) (k : Descriptor) → MayBeFound r.exit id k → MayStandAtEnd ran.lines.ends (MayStand ran.lines.script) id k

@@ -12,7 +12,7 @@ use Rattle.lvm_io.proofs.Feeds.{lines-feed, lines-last}
 pub record LinesSoFar (old now : Reading) (before left : Option (List ℕ)) (faults later : ℕ) : Type 0 where
   pub same : WhereTold (to_come old before) (to_come now left) (λ a b. b ≡ a)
   pub given : CountsGiven old now before left
-  pub faults_rise : faults ≤ later
+  pub faults_stay : later ≡ faults
   pub fewer : lines_left now ≤ lines_left old
 
 pub same_reading : (front block front' block' : List ℕ) (given given' : ℕ) → front ≡ front' → block ≡ block' → given ≡ given' → let made : List ℕ → List ℕ → ℕ → Reading = λ f b g. record { front = f; block = b; given = g } in made front block given ≡ made front' block' given'

@@ -14,7 +14,7 @@ pub record SourceState : Type 0 where
   pub calls : ℕ
   pub faults : ℕ
 
--- the bytes that were taken, how many may be, the numbers of the calls that fail, how many calls were made and failed, and the disk that was chosen
+-- the bytes that were taken, how many may be, the numbers of the calls that fail, how many calls were made and failed, the disk that was chosen, and how often one was
 pub record SinkState : Type 0 where
   pub bytes : List ℕ
   pub room : ℕ
@@ -22,6 +22,7 @@ pub record SinkState : Type 0 where
   pub calls : ℕ
   pub faults : ℕ
   pub chosen : Option ℕ
+  pub choices : ℕ
 
 -- the first moment, the last one answered, and how often it was asked
 pub record ClockState : Type 0 where

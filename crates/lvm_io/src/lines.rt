@@ -83,6 +83,7 @@ impl Lines {
         ensures too_long { (result ≡ NextLine.TooLong) ↔ (MOST_BYTES < self.new.given) }
         ensures later { I.faults input.old ≤ I.faults input.new }
         ensures cause { result ≡ NextLine.Failed → Rose (I.faults input.old) (I.faults input.new) }
+        ensures well { (result ≡ NextLine.Failed → ⊥) → I.faults input.new ≡ I.faults input.old }
     {
         while self.given <= MOST_BYTES {
             match self.take_line(alloc) {
@@ -130,6 +131,7 @@ impl Lines {
         ensures block { Refills self.old self.new (I.left input.old) (I.left input.new) result }
         ensures later { I.faults input.old ≤ I.faults input.new }
         ensures cause { result ≡ Got.Failed → Rose (I.faults input.old) (I.faults input.new) }
+        ensures well { (result ≡ Got.Failed → ⊥) → I.faults input.new ≡ I.faults input.old }
     {
         let got = input.read(&mut self.block);
         if let Got::Bytes(count) = got {
@@ -167,9 +169,10 @@ pub struct SinkFault;
 pub fn write_all<O: Sink>(out: &mut O, text: &[u8]) -> Result<(), SinkFault>
     ensures whole { OnOk result (WhereTold (O.held out.old) (O.held out.new) (λ a b. b ≡ a ++ text.now)) }
     ensures front { OnErr result (WhereTold (O.held out.old) (O.held out.new) (λ a b. WritesFront text.now a b)) }
-    ensures image { O.chosen out.new ≡ O.chosen out.old }
+    ensures image { (O.chosen out.new ≡ O.chosen out.old) × (O.choices out.new ≡ O.choices out.old) }
     ensures later { O.faults out.old ≤ O.faults out.new }
     ensures cause { OnErr result (Rose (O.faults out.old) (O.faults out.new)) }
+    ensures well { OnOk result (O.faults out.new ≡ O.faults out.old) }
 {
     let mut rest = text;
     while !rest.is_empty() {

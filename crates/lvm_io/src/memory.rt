@@ -57,6 +57,7 @@ impl Source for MemSource {
         ensures bytes { ReadGives (Some self.old.left) (Some self.new.left) into.new result }
         ensures later { self.old.faults ≤ self.new.faults }
         ensures cause { result ≡ Got.Failed → Rose self.old.faults self.new.faults }
+        ensures well { (result ≡ Got.Failed → ⊥) → self.new.faults ≡ self.old.faults }
 
         // It fails at the told calls alone, and gives as many bytes as it can.
         ensures answer { result ≡ read_answer self.old (length into.old) }
@@ -78,8 +79,8 @@ impl Source for MemSource {
     }
 }
 
-/// A sink in memory. Contracts see the bytes that it took, its room, its failing calls, its counts and
-/// the disk that was chosen.
+/// A sink in memory. Contracts see the bytes that it took, its room, its failing calls, its counts, the
+/// disk that was chosen and how often one was.
 #[derive(Drop)]
 pub struct MemSink {
     bytes: Vec<u8>,
@@ -88,6 +89,7 @@ pub struct MemSink {
     calls: u64,
     faults: u64,
     disk: Option<u16>,
+    choices: u64,
 }
 
 impl Model for MemSink {
@@ -97,7 +99,7 @@ impl Model for MemSink {
 
     ghost Value = { SinkState };
 
-    ghost view = { λ s. record { bytes = s.bytes.items; room = s.room; fails = s.fails; calls = s.calls; faults = s.faults; chosen = s.disk } };
+    ghost view = { λ s. record { bytes = s.bytes.items; room = s.room; fails = s.fails; calls = s.calls; faults = s.faults; chosen = s.disk; choices = s.choices } };
 
     ghost invariant = { λ s. (length s.bytes.items ≤ s.room) × (s.room ≤ vec_capacity s.bytes) };
 }
@@ -106,7 +108,7 @@ impl MemSink {
     /// A sink that has room for so many bytes, which are reserved here. Its writes are counted from 1,
     /// and those whose numbers stand in `fails` fail, as does each once it is full.
     pub fn new(alloc: Global, room: usize, fails: Rows<u64>) -> Result<MemSink, Memory>
-        ensures { IfOk result (λ sink. sink ≡ record { bytes = []; room = room; fails = fails; calls = 0; faults = 0; chosen = None }) }
+        ensures { IfOk result (λ sink. sink ≡ record { bytes = []; room = room; fails = fails; calls = 0; faults = 0; chosen = None; choices = 0 }) }
     {
         match Vec::with_capacity(alloc, room) {
             Ok(bytes) => Ok(MemSink {
@@ -116,6 +118,7 @@ impl MemSink {
                 calls: 0,
                 faults: 0,
                 disk: None,
+                choices: 0,
             }),
             Err(_) => Err(Memory),
         }
@@ -138,12 +141,15 @@ impl Sink for MemSink {
 
     ghost chosen = { λ s. s.chosen };
 
+    ghost choices = { λ s. s.choices };
+
     fn write(&mut self, from: &[u8]) -> Put
         requires { 0 < length from.now }
         ensures bytes { WriteGives (Some self.old.bytes) (Some self.new.bytes) from.now result }
-        ensures image { self.new.chosen ≡ self.old.chosen }
+        ensures image { (self.new.chosen ≡ self.old.chosen) × (self.new.choices ≡ self.old.choices) }
         ensures later { self.old.faults ≤ self.new.faults }
         ensures cause { result ≡ Put.Failed → Rose self.old.faults self.new.faults }
+        ensures well { (result ≡ Put.Failed → ⊥) → self.new.faults ≡ self.old.faults }
 
         // It fails at the told calls and where it is full alone, and takes as many bytes as it can.
         ensures answer { result ≡ write_answer self.old (length from.now) }
@@ -166,12 +172,14 @@ impl Sink for MemSink {
 impl Images for MemSink {
     fn choose(&mut self, disk: u16)
         ensures image { self.new.chosen ≡ Some disk }
+        ensures once { self.new.choices ≡ next_count self.old.choices }
         ensures empty { self.new.bytes ≡ [] }
         ensures later { self.old.faults ≤ self.new.faults }
-        ensures after { self.new ≡ record self.old { bytes = []; chosen = Some disk } }
+        ensures after { self.new ≡ record self.old { bytes = []; chosen = Some disk; choices = next_count self.old.choices } }
     {
         self.bytes.clear();
         self.disk = Some(disk);
+        self.choices = self.choices.saturating_add(1);
     }
 }
 
@@ -219,7 +227,7 @@ impl Clock for MemClock {
         ensures some { 1 ≤ result }
         ensures last { self.new.last ≡ result }
         ensures later { Rose self.old.last result }
-        ensures asked { Rose self.old.asked self.new.asked }
+        ensures asked { self.new.asked ≡ next_count self.old.asked }
 
         ensures answer { result ≡ moment_after self.old }
         ensures after { self.new ≡ record self.old { last = result; asked = next_count self.old.asked } }

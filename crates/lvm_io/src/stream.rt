@@ -1,6 +1,6 @@
 //! Where bytes come from, where they go, and what tells the time.
 ghost use Rattle.std.specs.Prelude.{◌≡◌, ◌<◌, ◌≤◌, List, ℕ, Option, Some, None, [], length};
-ghost use Rattle.lvm_io.specs.Count.{Rose};
+ghost use Rattle.lvm_io.specs.Count.{Rose, next_count};
 
 /// The answer of a source.
 #[derive(Clone, Copy, Debug, PartialEq, Eq)]
@@ -37,7 +37,8 @@ pub trait Source {
         requires { 0 < length into.old }
         ensures bytes { ReadGives (left self.old) (left self.new) into.new result }
         ensures later { faults self.old ≤ faults self.new }
-        ensures cause { result ≡ Got.Failed → Rose (faults self.old) (faults self.new) };
+        ensures cause { result ≡ Got.Failed → Rose (faults self.old) (faults self.new) }
+        ensures well { (result ≡ Got.Failed → ⊥) → faults self.new ≡ faults self.old };
 }
 
 /// Bytes that are written one after the other.
@@ -53,13 +54,17 @@ pub trait Sink {
     // The disk to whose image the bytes go, where one was chosen.
     ghost chosen: { Self → Option ℕ } = { λ _. None };
 
+    // How often a disk was chosen. It never falls, and stands at the last value of 64 bits.
+    ghost choices: { Self → ℕ } = { λ _. 0 };
+
     /// Writes a front of `from`.
     fn write(&mut self, from: &[u8]) -> Put
         requires { 0 < length from.now }
         ensures bytes { WriteGives (held self.old) (held self.new) from.now result }
-        ensures image { chosen self.new ≡ chosen self.old }
+        ensures image { (chosen self.new ≡ chosen self.old) × (choices self.new ≡ choices self.old) }
         ensures later { faults self.old ≤ faults self.new }
-        ensures cause { result ≡ Put.Failed → Rose (faults self.old) (faults self.new) };
+        ensures cause { result ≡ Put.Failed → Rose (faults self.old) (faults self.new) }
+        ensures well { (result ≡ Put.Failed → ⊥) → faults self.new ≡ faults self.old };
 }
 
 /// A sink for the images of disks, one after the other.
@@ -69,6 +74,7 @@ pub trait Images: Sink {
     /// What is written afterwards goes to a new image of this disk, which is empty.
     fn choose(&mut self, disk: u16)
         ensures image { Self.chosen self.new ≡ Some disk }
+        ensures once { Self.choices self.new ≡ next_count (Self.choices self.old) }
         ensures empty { WhereTold (Self.held self.old) (Self.held self.new) (λ a b. b ≡ []) }
         ensures later { Self.faults self.old ≤ Self.faults self.new };
 }
@@ -86,5 +92,5 @@ pub trait Clock {
         ensures some { 1 ≤ result }
         ensures last { last self.new ≡ result }
         ensures later { Rose (last self.old) result }
-        ensures asked { Rose (asked self.old) (asked self.new) };
+        ensures asked { asked self.new ≡ next_count (asked self.old) };
 }

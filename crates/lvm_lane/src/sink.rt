@@ -11,7 +11,7 @@ use std::rt::Files;
 use std::{fs, io};
 
 /// A sink for the files `hdisk0.img` and so on of the current folder. Contracts see the number of its
-/// faults and the disk that was chosen.
+/// faults, the disk that was chosen and how often one was.
 ///
 /// It makes no file before a disk is chosen, and none where there is one of that name: what a disk
 /// holds is never written over. Until a disk is chosen, and where its file can't be made, each write
@@ -22,6 +22,7 @@ pub struct ImageSink<'a, R: Files> {
     files: &'a R,
     file: Option<R::File>,
     disk: Option<u16>,
+    choices: u64,
     faults: u64,
     // Bytes since the last sync.
     unsynced: u64,
@@ -38,7 +39,7 @@ impl<'a, R: Files> Model for ImageSink<'a, R> {
 
     ghost Value = { SinkState };
 
-    ghost view = { λ s. record { chosen = s.disk; faults = s.faults } };
+    ghost view = { λ s. record { chosen = s.disk; choices = s.choices; faults = s.faults } };
 
     ghost invariant = { λ s. s.disk ≡ None → s.file ≡ None };
 }
@@ -46,12 +47,13 @@ impl<'a, R: Files> Model for ImageSink<'a, R> {
 impl<'a, R: Files> ImageSink<'a, R> {
     /// A sink for which no disk is chosen yet.
     pub fn new(rt: &'a R) -> ImageSink<'a, R>
-        ensures { result ≡ record { chosen = None; faults = 0 } }
+        ensures { result ≡ record { chosen = None; choices = 0; faults = 0 } }
     {
         ImageSink {
             files: rt,
             file: None,
             disk: None,
+            choices: 0,
             faults: 0,
             unsynced: 0,
             taken: false,
@@ -116,10 +118,12 @@ impl<'a, R: Files> Sink for ImageSink<'a, R> {
 
     ghost chosen = { λ s. s.chosen };
 
+    ghost choices = { λ s. s.choices };
+
     fn write(&mut self, from: &[u8]) -> Put
         requires { 0 < length from.now }
         ensures bytes { WriteGives None None from.now result }
-        ensures image { self.new.chosen ≡ self.old.chosen }
+        ensures image { (self.new.chosen ≡ self.old.chosen) × (self.new.choices ≡ self.old.choices) }
         ensures later { self.old.faults ≤ self.new.faults }
         ensures cause { result ≡ Put.Failed → Rose self.old.faults self.new.faults }
         ensures unmade { self.old.chosen ≡ None → result ≡ Put.Failed }
@@ -145,6 +149,7 @@ where
         self.taken = matches!(&made, Err(fault) if fault.kind() == ErrorKind::AlreadyExists);
         self.file = made.ok();
         self.disk = Some(disk);
+        self.choices = self.choices.saturating_add(1);
         self.unsynced = 0;
     }
 }

@@ -14,10 +14,10 @@ use Rattle.lvm_core.specs.declared.refused.Cause.TheVariants as cause
 use Rattle.lvm_core.specs.State.{Core, state}
 use Rattle.lvm_group.specs.NewGroup.{NewGroup}
 use Rattle.lvm_group.specs.Made.{Refuses as MkvgRefuses}
-use Rattle.lvm_varyon.specs.Varied.{Refuses as VaryonRefuses, IsRestated}
+use Rattle.lvm_varyon.specs.Varied.{Refuses as VaryonRefuses}
 use Rattle.lvm_line.specs.Causes.{HasCause, HasFailed, RoseOn, disk_of, VaryonLaw}
 use Rattle.lvm_line.specs.Disks.{patience_of_line, refusal_by, HasFaulted, NoWriteWhileOn, WriteFaults, WriteIsDone, NoReadWhileOn, ReadFaults, ReadGets}
-use Rattle.lvm_line.specs.Groups.{IsLit, refusal_of, asked_for, NoVaryonWhileOn, VariesOn, VaryonFails, NoMemoryForLine, NoMkvgWhileOn, MakesGroup, MkvgFails, NoVaryoff, VariesOff}
+use Rattle.lvm_line.specs.Groups.{IsLit, IsBroughtBack, refusal_of, asked_for, NoVaryonWhileOn, VariesOn, VaryonFails, NoMemoryForLine, NoMkvgWhileOn, MakesGroup, MkvgFails, NoVaryoff, VariesOff}
 use Rattle.lvm_line.specs.Lines.{LineDoes}
 use Rattle.lvm_line.specs.Listings.{NoSuchGroup, ListsGroup, NoGroupForVolume, NoSuchVolume, ListsVolume, NoGroupForDisk, NoSuchMember, ListsMember}
 use Rattle.lvm_line.specs.Replies.{Shows, InFull, WithoutMemory}
@@ -208,7 +208,7 @@ stuck_off log room read old new does = (known log room read refusal.Stuck old ne
 pub varyon_restates : VaryonLaw
 varyon_restates log room line name old new is it timely = of_varyon (subst (λ (r : Result (Option Command) Misfit). LineDoes log room r old new reply.Ok) is it.does)
   where
-    of_varyon : LineDoes log room (Ok (Some (command.Varyon name))) old new reply.Ok → (core : Core) × (new.session ≡ Some core) × IsRestated old.moment.device new.moment.device core.descriptor
+    of_varyon : LineDoes log room (Ok (Some (command.Varyon name))) old new reply.Ok → (core : Core) × (new.session ≡ Some core) × IsBroughtBack old.moment.device new.moment.device core.descriptor
     of_varyon (NoVaryonWhileOn some says asked) = absurd (cc (says))
     of_varyon (VariesOn core asks before comes restated left) = (core, left.after, restated (clock_is_ahead log.run old.last new.last old.moment.device old.moment.facts asks timely.ahead))
     of_varyon (VaryonFails reason gone asks before refuses left) = absurd (let e = left.answered in cc (e))

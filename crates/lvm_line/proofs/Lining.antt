@@ -1,6 +1,7 @@
 -- Lines, by how they are read.
 use Rattle.std.proofs.Common.{◌≡◌, ℕ, List, Option, Some, Result, Ok, sym, ap, subst}
 use Rattle.lvm_disk.specs.Device.{HasSectors}
+use Rattle.lvm_io.specs.Count.{next_count}
 use Rattle.lvm_vol.specs.Log.{Log}
 use Rattle.lvm_parse.specs.declared.command.Command.{Command}
 use Rattle.lvm_parse.specs.declared.command.Command.TheVariants as command
@@ -9,7 +10,7 @@ use Rattle.lvm_parse.specs.Grammar.{line_of}
 use Rattle.lvm_parse.specs.Rests.{IsMkvgLine}
 use Rattle.lvm_core.specs.declared.parts.Room.{Room}
 use Rattle.lvm_line.specs.Groups.{IsAsked, NoMemoryForLine}
-use Rattle.lvm_line.specs.Lines.{CommandDoes, LineDoes, IsLine, IsOrder}
+use Rattle.lvm_line.specs.Lines.{CommandDoes, LineDoes, IsLine, IsOrder, asked_after}
 use Rattle.lvm_line.specs.Moments.{GoesOn}
 use Rattle.lvm_line.specs.State.{State, IsSettled}
 use Rattle.lvm_line.specs.declared.reply.Refusal.TheVariants as refusal
@@ -48,6 +49,19 @@ line_unread log room line answer old new mkvg says asked settled whole = record 
     of_mkvg : (read : Result (Option Command) Misfit) → IsMkvgLine read → LineDoes log room read old new answer
     of_mkvg (Ok (Some (command.Mkvg force name mib disks))) is = NoMemoryForLine says asked
     of_mkvg read is = absurd is
+
+-- the clock was asked once more, as by a `mkvg`
+pub asked_once : (read : Result (Option Command) Misfit) (before after : ℕ) → IsMkvgLine read → after ≡ next_count before → after ≡ asked_after read before
+asked_once (Ok (Some (command.Mkvg force name mib disks))) before after is once = once
+asked_once read before after is once = absurd is
+
+-- the command is this one
+pub asked_by : (it other : Command) (before after : ℕ) → it ≡ other → after ≡ asked_after (Ok (Some other)) before → after ≡ asked_after (Ok (Some it)) before
+asked_by it other before after is so = subst (λ (c : Command). after ≡ asked_after (Ok (Some c)) before) (sym is) so
+
+-- the line is read so
+pub asked_so : (read other : Result (Option Command) Misfit) (before after : ℕ) → read ≡ other → after ≡ asked_after other before → after ≡ asked_after read before
+asked_so read other before after is so = subst (λ (r : Result (Option Command) Misfit). after ≡ asked_after r before) (sym is) so
 
 -- a command that is this one
 pub of_command : (log : Log) (room : Room) (it other : Command) (old new : State) (answer : Reply) → it ≡ other → CommandDoes log room other old new answer → CommandDoes log room it old new answer

@@ -31,7 +31,8 @@ use Rattle.lvm_line.specs.declared.stage.Stage.TheVariants as stage
 use Rattle.lvm_line.proofs.Coming.{Rests, Leaves, lit_up, left_off, left_on, off_is}
 use Rattle.lvm_line.proofs.Passive.{Bears, bears_cut, landed_bears, later_bears, open_more}
 use Rattle.lvm_line.proofs.Cutting.{cut_rooms}
-use Rattle.lvm_varyon.specs.Varied.{ComesOn, IsRestated, Refuses, KeepsAll, StaysBehind, log_after}
+use Rattle.lvm_varyon.specs.Restated.{HasNoConsistency}
+use Rattle.lvm_varyon.specs.Varied.{ComesOn, IsRestated, IsRecovered, Refuses, KeepsAll, StaysBehind, log_after}
 
 -- ---- a refusal
 
@@ -75,6 +76,7 @@ pub record Called {S : Type 0} (device : S → Device) (shelf : S) (log : Log) (
   pub left : IfOk outcome (λ driver. NoneIsLeft driver.1.descriptor driver.1.status)
   pub settled : IfOk outcome (λ driver. IsSettledCore driver.1 × HasNumbers driver.1)
   pub restated : IfOk outcome (λ driver. ClockIsAhead log.run moment (device shelf) log.facts → IsRestated (device shelf) (device driver.0) driver.1.descriptor)
+  pub recovered : IfOk outcome (λ driver. ClockIsAhead log.run moment (device shelf) log.facts → HasNoConsistency driver.1.descriptor → IsRecovered (device shelf) (device driver.0) driver.1.descriptor)
   pub refused : IfErr outcome (λ refused. Refuses (device shelf) (device refused.shelf) name moment patience_of_line log refused.cause)
   pub history : IfErr outcome (λ refused. refused.history ≡ log_after refused.cause log)
   pub waited : MatchResult outcome (λ driver. (device shelf).counts.waits ≤ (device driver.0).counts.waits) (λ refused. (device shelf).counts.waits ≤ (device refused.shelf).counts.waits)
@@ -105,7 +107,7 @@ module _ {S : Type 0} (device : S → Device) (shelf : S) (log : Log) (name : Li
   pub does : (outcome : Result (S × Core) (Refused S)) → Called device shelf log name moment room outcome → Left device outcome it answer
       → VaryonDoes (without_facts log) room name (state_in device (stage.Off shelf log) last) (state_in device it moment) answer
   does (Ok driver) called left = subst (λ (s : Stage S). VaryonDoes (without_facts log) room name (state_in device (stage.Off shelf log) last) (state_in device s moment) answer) (sym left.on.0)
-      (VariesOn driver.1 rose refl called.on called.restated (record { facts = refl; after = refl; answered = left.on.1 }))
+      (VariesOn driver.1 rose refl called.on (λ ahead. record { restated = called.restated ahead; recovered = called.recovered ahead }) (record { facts = refl; after = refl; answered = left.on.1 }))
   does (Err refused) called left = VaryonFails refused.cause (device refused.shelf) rose refl called.refused
       (record { lit = left.lit; facts = ap (λ (l : Log). l.facts) (left.off.1 ∙ called.history); after = left.off.0; answered = left.off.2 })
 

@@ -9,7 +9,7 @@ use Rattle.lvm_vol.specs.Log.{Log}
 use Rattle.lvm_commit.specs.Settling.{there}
 use Rattle.lvm_core.specs.declared.parts.Room.{Room}
 use Rattle.lvm_core.specs.State.{Core}
-use Rattle.lvm_varyon.specs.Varied.{IsRestated}
+use Rattle.lvm_line.specs.Groups.{IsBroughtBack}
 use Rattle.lvm_line.specs.Disks.{patience_of_line}
 use Rattle.lvm_line.specs.Lines.{IsLine}
 use Rattle.lvm_line.specs.State.{State, IsTimely}
@@ -57,11 +57,12 @@ HasCause read other old new = Unit {0}
 abbrev pub CauseLaw : Type 0
 CauseLaw = (log : Log) (room : Room) (line : List ℕ) (why : Refusal) (old new : State) → IsLine log room line (reply.Refused why) old new → HasCause (line_of line) why old new
 
--- A group that a line has varied on is on, with its records and data as they should be, where the clock's moments rise.
+-- A group that a line has varied on is on, with its records and data as they should be, recovered where no volume of it has consistency, where the clock's
+-- moments rise.
 abbrev pub VaryonLaw : Type 0
 VaryonLaw =
     (log : Log) (room : Room) (line name : List ℕ) (old new : State) → line_of line ≡ Ok (Some (command.Varyon name)) → IsLine log room line reply.Ok old new → IsTimely log.run old
-    → (core : Core) × (new.session ≡ Some core) × IsRestated old.moment.device new.moment.device core.descriptor
+    → (core : Core) × (new.session ≡ Some core) × IsBroughtBack old.moment.device new.moment.device core.descriptor
 
 -- Where the quorum is lacking nothing was written.
 abbrev pub NoQuorumLaw : Type 0

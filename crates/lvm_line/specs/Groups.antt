@@ -11,7 +11,9 @@ use Rattle.lvm_core.specs.declared.refused.Cause.TheVariants as cause
 use Rattle.lvm_core.specs.State.{Core}
 use Rattle.lvm_group.specs.NewGroup.{NewGroup}
 use Rattle.lvm_group.specs.Made.{IsMade, Refuses as MkvgRefuses}
-use Rattle.lvm_varyon.specs.Varied.{ComesOn, IsRestated, Refuses as VaryonRefuses, log_after}
+use Rattle.lvm_num.specs.declared.descriptor.Descriptor.{Descriptor}
+use Rattle.lvm_varyon.specs.Restated.{HasNoConsistency}
+use Rattle.lvm_varyon.specs.Varied.{ComesOn, IsRestated, IsRecovered, Refuses as VaryonRefuses, log_after}
 use Rattle.lvm_line.specs.Disks.{patience_of_line}
 use Rattle.lvm_line.specs.Listings.{IsOn, IsNotOn}
 use Rattle.lvm_line.specs.Replies.{IsRefused}
@@ -64,11 +66,16 @@ pub record IsAsked (old new : State) : Type 0 where
   pub asks : Asks old new
   pub same : new ≡ record old { last = new.last }
 
+-- The records of the group stand again, and where no volume of it has consistency it is recovered.
+pub record IsBroughtBack (old new : Device) (group : Descriptor) : Type 0 where
+  pub restated : IsRestated old new group
+  pub recovered : HasNoConsistency group → IsRecovered old new group
+
 -- `varyonvg`, at the moment that the clock has answered
 pub data VaryonDoes (log : Log) (room : Room) (name : List ℕ) (old new : State) (answer : Reply) : Type 0 where
   NoVaryonWhileOn : IsSome old.session → answer ≡ reply.Refused refusal.GroupOn → IsAsked old new → VaryonDoes log room name old new answer
   VariesOn : (core : Core) → Asks old new → old.session ≡ None → ComesOn old.moment.device new.moment.device (log_with log old.moment.facts) name new.last room core
-      → (ClockIsAhead log.run new.last old.moment.device old.moment.facts → IsRestated old.moment.device new.moment.device core.descriptor) → IsLeftOn core new answer → VaryonDoes log room name old new answer
+      → (ClockIsAhead log.run new.last old.moment.device old.moment.facts → IsBroughtBack old.moment.device new.moment.device core.descriptor) → IsLeftOn core new answer → VaryonDoes log room name old new answer
   VaryonFails : (why : Cause) (left : Device) → Asks old new → old.session ≡ None → VaryonRefuses old.moment.device left name new.last patience_of_line (log_with log old.moment.facts) why
       → IsLeftOff log why left (log_after why (log_with log old.moment.facts)) new answer → VaryonDoes log room name old new answer
 

@@ -5,6 +5,7 @@ use Rattle.lvm_num.specs.Descriptor.{is_size}
 use Rattle.lvm_num.specs.declared.descriptor.Mode.TheVariants.{Off}
 use Rattle.lvm_disk.specs.Device.{HasSectors}
 use Rattle.lvm_disk.specs.declared.shelf.Arrange.TheVariants as arrange
+use Rattle.lvm_io.specs.Count.{next_count}
 use Rattle.lvm_vol.specs.Log.{Log}
 use Rattle.lvm_parse.specs.declared.command.Command.{Command}
 use Rattle.lvm_parse.specs.declared.command.Command.TheVariants as command
@@ -63,6 +64,12 @@ IsOrder (Ok (Some (command.Fail disk))) = Unit {0}
 IsOrder (Ok (Some (command.Heal disk))) = Unit {0}
 IsOrder (Ok (Some (command.Cut word))) = Unit {0}
 IsOrder other = ⊥
+
+-- how often the clock has been asked after a line: once more by `mkvg` and `varyonvg` alone
+abbrev pub asked_after : Result (Option Command) Misfit → ℕ → ℕ
+asked_after (Ok (Some (command.Mkvg force name mib disks))) asked = next_count asked
+asked_after (Ok (Some (command.Varyon name))) asked = next_count asked
+asked_after other asked = asked
 
 -- A line joins two states, of a shelf whose sectors are 512 bytes each.
 pub record IsLine (log : Log) (room : Room) (line : List ℕ) (answer : Reply) (old new : State) : Type 0 where

@@ -2,6 +2,7 @@
 ghost use Rattle.std.specs.Prelude.{◌≡◌, ◌≢◌, ◌≤◌, [], length, IfOk, IfErr, IsTrue, AllPairs};
 ghost use Rattle.std.specs.Option.{ForSome};
 ghost use Rattle.lvm_num.specs.Descriptor.{is_size};
+ghost use Rattle.lvm_io.specs.Count.{next_count};
 ghost use Rattle.lvm_core.specs.Starting.{IsRoom};
 ghost use Rattle.lvm_line.specs.Groups.{MkvgDoes, VaryonDoes, VaryoffDoes, IsLit, refusal_of};
 ghost use Rattle.lvm_line.specs.Moments.{GoesOn};
@@ -88,6 +89,7 @@ pub fn do_mkvg<S: Shelf, C: Clock>(
     requires a_disk { 1 ≤ length disks.now }
     requires differ { AllPairs (λ a b. a ≢ b) disks.now }
     requires size { ForSome mib (λ given. IsTrue (is_size given)) }
+    ensures asked { C.asked clock.new ≡ next_count (C.asked clock.old) }
     ensures does { MkvgDoes (without_facts (history_in stage)) room force name mib disks.now (state_in S.device stage (C.last clock.old)) (state_in S.device result.stage (C.last clock.new)) result.reply }
     ensures goes { GoesOn (history_in stage).run result.reply (state_in S.device stage (C.last clock.old)) (state_in S.device result.stage (C.last clock.new)) }
     ensures rooms { without_facts (history_in result.stage) ≡ without_facts (history_in stage) }
@@ -124,6 +126,7 @@ pub fn do_varyon<S: Shelf, C: Clock>(
 ) -> Answered<S>
     requires settled { IsSettledStage S.device stage }
     requires room { IsRoom room }
+    ensures asked { C.asked clock.new ≡ next_count (C.asked clock.old) }
     ensures does { VaryonDoes (without_facts (history_in stage)) room name (state_in S.device stage (C.last clock.old)) (state_in S.device result.stage (C.last clock.new)) result.reply }
     ensures goes { GoesOn (history_in stage).run result.reply (state_in S.device stage (C.last clock.old)) (state_in S.device result.stage (C.last clock.new)) }
     ensures rooms { without_facts (history_in result.stage) ≡ without_facts (history_in stage) }

@@ -1,7 +1,8 @@
 //! One line of a script.
 ghost use Rattle.std.specs.Prelude.{◌≡◌};
 ghost use Rattle.lvm_core.specs.Starting.{IsRoom};
-ghost use Rattle.lvm_line.specs.Lines.{IsWithin, CommandDoes, IsLine, IsOrder};
+ghost use Rattle.lvm_parse.specs.Grammar.{line_of};
+ghost use Rattle.lvm_line.specs.Lines.{IsWithin, CommandDoes, IsLine, IsOrder, asked_after};
 ghost use Rattle.lvm_line.specs.Moments.{GoesOn};
 ghost use Rattle.lvm_line.specs.Stages.{shelf_in, history_in, state_in, IsSettledStage};
 ghost use Rattle.lvm_line.specs.State.{without_facts};
@@ -34,6 +35,7 @@ fn do_command<S: Shelf, C: Clock>(
     ensures goes { GoesOn (history_in stage).run result.reply (state_in S.device stage (C.last clock.old)) (state_in S.device result.stage (C.last clock.new)) }
     ensures rooms { without_facts (history_in result.stage) ≡ without_facts (history_in stage) }
     ensures orders { (IsOrder (Ok (Some command)) → ⊥) → (S.device (shelf_in result.stage)).orders ≡ (S.device (shelf_in stage)).orders }
+    ensures asked { C.asked clock.new ≡ asked_after (Ok (Some command)) (C.asked clock.old) }
 {
     match command {
         Command::Mkvg {
@@ -100,6 +102,7 @@ pub fn do_line<S: Shelf, C: Clock>(
     requires room { IsRoom room }
     ensures line { IsLine (without_facts (history_in stage)) room line.now result.reply (state_in S.device stage (C.last clock.old)) (state_in S.device result.stage (C.last clock.new)) }
     ensures rooms { without_facts (history_in result.stage) ≡ without_facts (history_in stage) }
+    ensures asked { C.asked clock.new ≡ asked_after (line_of line.now) (C.asked clock.old) }
 {
     match parse(alloc, line) {
         Ok(None) => stage.answered(Reply::Silent),

@@ -1,8 +1,10 @@
 -- Runs of lines.
-use Rattle.std.proofs.Common.{◌≡◌, ◌+◌, ◌≤◌, ◌<◌, ℕ, List, [], ◌∷◌, ◌++◌, Option, Some, None, Bool, true, false, cond, length, refl, sym, ◌∙◌, ap, subst, arith, zero-add, append_assoc}
+use Rattle.std.proofs.Common.{◌≡◌, inl, inr, ⊎_elim, ◌↔◌, ◌+◌, ◌≤◌, ◌<◌, ℕ, List, [], ◌∷◌, ◌++◌, Option, Some, None, Bool, true, false, cond, length, refl, sym, ◌∙◌, ap, subst, arith, zero-add, append_assoc}
+use Rattle.std.proofs.lemmas.Bool.{cases_lt}
 use Rattle.std.proofs.lemmas.List.{append-nil}
 use Rattle.std.proofs.lemmas.List.Sums.{sum_by-append}
 use Rattle.lvm_disk.specs.Device.{Device}
+use Rattle.lvm_io.specs.Count.{Rose}
 use Rattle.lvm_io.specs.Stream.{WhereTold}
 use Rattle.lvm_io.specs.Lines.{lines_of}
 use Rattle.lvm_io.specs.Reading.{Reading, to_come, lines_left, CountsGiven}
@@ -17,27 +19,42 @@ use Rattle.lvm_core.specs.declared.parts.Room.{Room}
 use Rattle.lvm_line.specs.Lines.{IsLine}
 use Rattle.lvm_line.specs.Replies.{reply_text, IsStuck}
 use Rattle.lvm_line.specs.State.{State, IsTimely, AreHeld}
-use Rattle.lvm_top.specs.Run.{Stream, WhereAlone}
-use Rattle.lvm_top.specs.Script.{Says, Script, NoLine, NextLine, StaysAlone, Ends, AtLine, InLine, EndsAlone, IsWhole, IsPart, texts_of, is_refused, refusals_in, entry_state, empty_log, facts_of}
+use Rattle.lvm_top.specs.Run.{Run, WhereAlone}
+use Rattle.lvm_top.specs.Script.{Stream, Passage, Says, Script, NoLine, NextLine, StaysAlone, Ends, AtLine, InLine, EndsAlone, AreDone, AreAllRead, texts_of, is_refused, refusals_in, entry_state, empty_log, facts_of}
+use Rattle.lvm_top.specs.Statuses.{GoesUntil}
+use Rattle.lvm_top.specs.declared.script.Stop.{Stop}
+use Rattle.lvm_top.specs.declared.script.Stop.TheVariants as stop
+use Rattle.lvm_top.proofs.Lining.{Wrote}
 use Rattle.lvm_line.specs.declared.reply.Reply.{Reply}
 
 -- nothing was read yet
-abbrev pub unread : Reading
-unread = record { front = []; block = []; given = 0 }
+abbrev pub nothing_read : Reading
+nothing_read = record { front = []; block = []; given = 0 }
 
 -- what a run has done so far
 pub record RunSoFar (log : Log) (room : Room) (first now : State) (reading : Reading) (input left before after : Option (List ℕ)) (refused lines_done : ℕ) : Type 0 where
   pub lines : List (List ℕ)
   pub replies : List Reply
   pub script : Script log room first lines replies now
-  pub read : WhereTold (to_come unread input) (to_come reading left) (λ a b. lines_of a ≡ lines ++ lines_of b)
-  pub given : CountsGiven unread reading input left
+  pub read : WhereTold (to_come nothing_read input) (to_come reading left) (λ a b. lines_of a ≡ lines ++ lines_of b)
+  pub given : CountsGiven nothing_read reading input left
   pub written : WhereTold before after (λ a b. b ≡ a ++ texts_of replies)
   pub counted : refused ≡ refusals_in replies
   pub few : refused ≤ lines_done
   pub bounded : lines_left reading + lines_done ≤ 16842752
+  pub within : reading.given ≤ 16777216
 
-told_same : (o : Option (List ℕ)) (R : List ℕ → List ℕ → Type 0) → ((a : List ℕ) → R a a) → WhereTold o o R
+-- a stream before and after
+abbrev pub passage : Option (List ℕ) → ℕ → Option (List ℕ) → ℕ → Passage
+passage a f b g = record { before = record { content = a; faults = f }; after = record { content = b; faults = g } }
+
+told_then : (x y : Option (List ℕ)) (R S : List ℕ → List ℕ → Type 0) → ((a b : List ℕ) → R a b → S a b) → WhereTold x y R → WhereTold x y S
+told_then None None R S f one = tt
+told_then (Some a) (Some b) R S f one = f a b one
+told_then None (Some b) R S f one = absurd one
+told_then (Some a) None R S f one = absurd one
+
+pub told_same : (o : Option (List ℕ)) (R : List ℕ → List ℕ → Type 0) → ((a : List ℕ) → R a a) → WhereTold o o R
 told_same None R same = tt
 told_same (Some a) R same = same a
 
@@ -49,17 +66,18 @@ told_on None (Some b) z R S T f one two = absurd one
 told_on (Some a) None z R S T f one two = absurd one
 told_on (Some a) (Some b) None R S T f one two = absurd two
 
-pub at_start : (log : Log) (room : Room) (first : State) (input before : Option (List ℕ)) → RunSoFar log room first first unread input input before before 0 0
+pub at_start : (log : Log) (room : Room) (first : State) (input before : Option (List ℕ)) → RunSoFar log room first first nothing_read input input before before 0 0
 at_start log room first input before = record {
   lines = [];
   replies = [];
   script = NoLine;
-  read = told_same (to_come unread input) (λ a b. lines_of a ≡ lines_of b) (λ a. refl);
+  read = told_same (to_come nothing_read input) (λ a b. lines_of a ≡ lines_of b) (λ a. refl);
   given = told_same input (λ a b. length a + 0 ≡ length b + 0) (λ a. refl);
   written = told_same before (λ a b. b ≡ a ++ []) (λ a. sym (append-nil a));
   counted = refl;
   few = omega arith;
   bounded = omega arith;
+  within = omega arith;
 }
 
 texts_more : (replies : List Reply) (said : Reply) → texts_of (replies ++ said ∷ []) ≡ texts_of replies ++ reply_text said
@@ -81,40 +99,60 @@ module _ (log : Log) (room : Room) (first now : State) (reading : Reading) (inpu
   -- one line more was read, done and answered
   pub line_answered :
       (new : State) (reading' : Reading) (left' after' : Option (List ℕ)) (refused' : ℕ) (line : List ℕ) (answer said : Reply) → (IsStuck answer → ⊥) → Says answer said → IsLine log room line answer now new
-      → WhereTold (to_come reading left) (to_come reading' left') (λ a b. lines_of a ≡ line ∷ lines_of b) → CountsGiven reading reading' left left' → lines_left reading' < lines_left reading
+      → WhereTold (to_come reading left) (to_come reading' left') (λ a b. lines_of a ≡ line ∷ lines_of b) → CountsGiven reading reading' left left' → lines_left reading' < lines_left reading → reading'.given ≤ 16777216
       → WhereTold after after' (λ a b. b ≡ a ++ reply_text said) → refused' ≡ refused + cond (is_refused said) 1 0 → refused' ≤ lines_done + 1
       → RunSoFar log room first new reading' input left' before after' refused' (lines_done + 1)
-  line_answered new reading' left' after' refused' line answer said goes says does read given fewer written counts few = record {
+  line_answered new reading' left' after' refused' line answer said goes says does read given fewer within written counts few = record {
     lines = so_far.lines ++ line ∷ [];
     replies = so_far.replies ++ said ∷ [];
     script = NextLine line answer said goes says so_far.script does;
-    read = told_on (to_come unread input) (to_come reading left) (to_come reading' left') _ _ (λ a b. lines_of a ≡ (so_far.lines ++ line ∷ []) ++ lines_of b)
+    read = told_on (to_come nothing_read input) (to_come reading left) (to_come reading' left') _ _ (λ a b. lines_of a ≡ (so_far.lines ++ line ∷ []) ++ lines_of b)
         (λ a b c one two. one ∙ ap (λ (l : List (List ℕ)). so_far.lines ++ l) two ∙ sym (append_assoc so_far.lines (line ∷ []) (lines_of c))) so_far.read read;
     given = told_on input left left' _ _ (λ a b. length a + 0 ≡ length b + reading'.given) (λ a b c one two. omega (arith, one, two)) so_far.given given;
     written = told_on before after after' _ _ (λ a b. b ≡ a ++ texts_of (so_far.replies ++ said ∷ [])) (λ a b c one two. two ∙ ap (λ (t : List ℕ). t ++ reply_text said) one ∙ append_assoc a (texts_of so_far.replies) (reply_text said) ∙ ap (λ (t : List ℕ). a ++ t) (sym (texts_more so_far.replies said))) so_far.written written;
     counted = counts ∙ ap (λ (n : ℕ). n + cond (is_refused said) 1 0) so_far.counted ∙ sym (refusals_more so_far.replies said);
     few = few;
     bounded = let b = so_far.bounded in omega (arith, b, fewer);
+    within = within;
   }
 
-  -- the source has come to its end
-  pub all_read : (reading' : Reading) (left' : Option (List ℕ)) → WhereTold (to_come reading left) (to_come reading' left') (λ a b. (a ≡ []) × (b ≡ [])) → CountsGiven reading reading' left left' → reading'.given ≤ 16777216
-      → IsWhole log room first now input left' before after refused
-  all_read reading' left' ends given within = record {
+  -- how much was read
+  all_given : (reading' : Reading) (left' : Option (List ℕ)) → CountsGiven reading reading' left left' → WhereTold input left' (λ a b. length a + 0 ≡ length b + reading'.given)
+  all_given reading' left' given = told_on input left left' _ _ (λ a b. length a + 0 ≡ length b + reading'.given) (λ a b c one two. omega (arith, one, two)) so_far.given given
+
+  -- the lines so far, and no other
+  pub lines_so_far : (unread : Stream) (f h k : ℕ) → AreDone log room first now (record { before = record { content = input; faults = f }; after = unread }) (passage before h after k) refused
+  lines_so_far unread f h k = record {
     lines = so_far.lines;
     replies = so_far.replies;
+    mid = now;
     script = so_far.script;
-    read = go input left left' so_far.read ends (told_on input left left' _ _ (λ a b. length a + 0 ≡ length b + reading'.given) (λ a b c one two. omega (arith, one, two)) so_far.given given);
-    written = so_far.written;
-    counted = so_far.counted;
+    done = [];
+    said = [];
+    front = [];
+    ends = AtLine refl;
+    read = λ bytes is. begins_with bytes (to_come reading left) (subst (λ (o : Option (List ℕ)). WhereTold (to_come nothing_read o) (to_come reading left) (λ a b. lines_of a ≡ so_far.lines ++ lines_of b)) is so_far.read);
+    written = told_on before after after _ (λ a b. b ≡ a) (λ a b. b ≡ (a ++ texts_of so_far.replies) ++ []) (λ a b c one two. two ∙ one ∙ sym (append-nil (a ++ texts_of so_far.replies))) so_far.written (told_same after (λ a b. b ≡ a) (λ a. refl));
+    in_full = inl refl;
+    counted = so_far.counted ∙ ap refusals_in (sym (append-nil so_far.replies));
   }
+    where
+      begins_with : (bytes : List ℕ) (now : Option (List ℕ)) → WhereTold (Some bytes) now (λ a b. lines_of a ≡ so_far.lines ++ lines_of b) → (rest : List (List ℕ)) × (lines_of bytes ≡ (so_far.lines ++ []) ++ rest)
+      begins_with bytes (Some b) read = (lines_of b, read ∙ ap (λ (l : List (List ℕ)). l ++ lines_of b) (sym (append-nil so_far.lines)))
+      begins_with bytes None read = absurd read
+
+  -- the source has come to its end
+  pub all_read : (reading' : Reading) (left' : Option (List ℕ)) (f g h k : ℕ) → WhereTold (to_come reading left) (to_come reading' left') (λ a b. (a ≡ []) × (b ≡ [])) → CountsGiven reading reading' left left' → reading'.given ≤ 16777216
+      → AreAllRead (lines_so_far (record { content = left'; faults = g }) f h k) (passage input f left' g)
+  unfolding lines_so_far
+  all_read reading' left' f g h k ends given within = (refl, go input left left' so_far.read ends (all_given reading' left' given))
     where
       nothing_left : (front block rest : List ℕ) → front ++ (block ++ rest) ≡ [] → rest ≡ []
       nothing_left [] [] rest is = is
       nothing_left [] (b ∷ block) rest is = absurd (cc (is))
       nothing_left (f ∷ front) block rest is = absurd (cc (is))
 
-      go : (x y z : Option (List ℕ)) → WhereTold (to_come unread x) (to_come reading y) (λ a b. lines_of a ≡ so_far.lines ++ lines_of b) → WhereTold (to_come reading y) (to_come reading' z) (λ a b. (a ≡ []) × (b ≡ [])) → WhereTold x z (λ a b. length a + 0 ≡ length b + reading'.given)
+      go : (x y z : Option (List ℕ)) → WhereTold (to_come nothing_read x) (to_come reading y) (λ a b. lines_of a ≡ so_far.lines ++ lines_of b) → WhereTold (to_come reading y) (to_come reading' z) (λ a b. (a ≡ []) × (b ≡ [])) → WhereTold x z (λ a b. length a + 0 ≡ length b + reading'.given)
           → WhereTold x z (λ a b. (lines_of a ≡ so_far.lines) × (b ≡ []) × (length a ≤ 16777216))
       go None y None read ends count = tt
       go (Some a) (Some b) (Some c) read ends count =
@@ -124,43 +162,58 @@ module _ (log : Log) (room : Room) (first now : State) (reading : Reading) (inpu
       go (Some a) y None read ends count = absurd count
       go (Some a) None (Some c) read ends count = absurd read
 
-  -- the lines so far, and no other
-  pub part_so_far : IsPart log room first now input before after refused
-  part_so_far = record {
-    lines = so_far.lines;
-    replies = so_far.replies;
-    mid = now;
-    script = so_far.script;
-    done = [];
-    said = [];
-    front = [];
-    ends = AtLine refl;
-    read = λ bytes is. begins_with bytes (to_come reading left) (subst (λ (o : Option (List ℕ)). WhereTold (to_come unread o) (to_come reading left) (λ a b. lines_of a ≡ so_far.lines ++ lines_of b)) is so_far.read);
-    written = told_on before after after _ (λ a b. b ≡ a) (λ a b. b ≡ (a ++ texts_of so_far.replies) ++ []) (λ a b c one two. two ∙ one ∙ sym (append-nil (a ++ texts_of so_far.replies))) so_far.written (told_same after (λ a b. b ≡ a) (λ a. refl));
-    counted = so_far.counted ∙ ap refusals_in (sym (append-nil so_far.replies));
+  -- the run stops between two lines
+  pub stops_between :
+      (why : Option Stop) (reading' : Reading) (left' : Option (List ℕ)) (f g h k : ℕ) → CountsGiven reading reading' left left' → (why ≡ Some stop.TooLong) ↔ (16777216 < reading'.given) → (why ≡ Some stop.SinkFault → ⊥) → (why ≡ Some stop.Stuck → ⊥)
+      → (why ≡ None → WhereTold (to_come reading left) (to_come reading' left') (λ a b. (a ≡ []) × (b ≡ []))) → (why ≡ Some stop.SourceFault → Rose f g) → ((why ≡ Some stop.SourceFault → ⊥) → g ≡ f) → k ≡ h
+      → GoesUntil why log room first now (passage input f left' g) (passage before h after k) refused
+  unfolding lines_so_far
+  stops_between why reading' left' f g h k given too_long no_sink no_stuck ends source read_well written_well = record {
+    lines = lines_so_far (record { content = left'; faults = g }) f h k;
+    whole = λ is. all_read reading' left' f g h k (ends is) given (within (λ long. cc (is, long)));
+    between = λ no_sink no_stuck. refl;
+    source = source;
+    sink = λ is. absurd (no_sink is);
+    read_well = read_well;
+    written_well = λ no_sink no_stuck. written_well;
+    stuck = λ is. absurd (no_stuck is);
+    long = λ is. told_then input left' _ (λ a b. 16777216 + length b < length a) (λ a b e. let over = too_long.0 is in omega (arith, e, over)) (all_given reading' left' given);
+    short = λ not_long. told_then input left' _ (λ a b. length a ≤ 16777216 + length b) (λ a b e. let fits = within not_long in omega (arith, e, fits)) (all_given reading' left' given);
   }
     where
-      begins_with : (bytes : List ℕ) (now : Option (List ℕ)) → WhereTold (Some bytes) now (λ a b. lines_of a ≡ so_far.lines ++ lines_of b) → (rest : List (List ℕ)) × (lines_of bytes ≡ (so_far.lines ++ []) ++ rest)
-      begins_with bytes (Some b) read = (lines_of b, read ∙ ap (λ (l : List (List ℕ)). l ++ lines_of b) (sym (append-nil so_far.lines)))
-      begins_with bytes None read = absurd read
+      within : (why ≡ Some stop.TooLong → ⊥) → reading'.given ≤ 16777216
+      within not_long = elim (cases_lt 16777216 reading'.given) [ inl over ↦ absurd (not_long (too_long.1 over)) | inr fits ↦ fits ]
 
-  -- and one line more, of whose reply a front was written
-  pub part_in_line :
-      (last : State) (reading' : Reading) (left' after' : Option (List ℕ)) (refused' : ℕ) (line : List ℕ) (answer said : Reply) (front rest : List ℕ) → Says answer said → IsLine log room line answer now last
-      → WhereTold (to_come reading left) (to_come reading' left') (λ a b. lines_of a ≡ line ∷ lines_of b) → reply_text said ≡ front ++ rest → WhereTold after after' (λ a b. b ≡ a ++ front) → refused' ≡ refused + cond (is_refused said) 1 0
-      → IsPart log room first last input before after' refused'
-  part_in_line last reading' left' after' refused' line answer said front rest says does read split written counts = record {
-    lines = so_far.lines;
-    replies = so_far.replies;
-    mid = now;
-    script = so_far.script;
-    done = line ∷ [];
-    said = said ∷ [];
-    front = front;
-    ends = InLine line answer said front rest says split does;
-    read = λ bytes is. begins_with bytes (to_come reading left) (to_come reading' left') (subst (λ (o : Option (List ℕ)). WhereTold (to_come unread o) (to_come reading left) (λ a b. lines_of a ≡ so_far.lines ++ lines_of b)) is so_far.read) read;
-    written = told_on before after after' _ _ (λ a b. b ≡ (a ++ texts_of so_far.replies) ++ front) (λ a b c one two. two ∙ ap (λ (t : List ℕ). t ++ front) one) so_far.written written;
-    counted = counts ∙ ap (λ (n : ℕ). n + cond (is_refused said) 1 0) so_far.counted ∙ sym (refusals_more so_far.replies said);
+  -- the run stops in one line more
+  pub stops_in_line :
+      (why : Option Stop) (last : State) (reading' : Reading) (left' after' : Option (List ℕ)) (f g h k refused' : ℕ) (line : List ℕ) (answer said : Reply) (text : Wrote (reply_text said) after after' h k) → Says answer said → IsLine log room line answer now last
+      → WhereTold (to_come reading left) (to_come reading' left') (λ a b. lines_of a ≡ line ∷ lines_of b) → CountsGiven reading reading' left left' → reading'.given ≤ 16777216 → refused' ≡ refused + cond (is_refused said) 1 0
+      → (why ≡ None → ⊥) → (why ≡ Some stop.SourceFault → ⊥) → (why ≡ Some stop.TooLong → ⊥) → ((why ≡ Some stop.SinkFault → ⊥) → why ≡ Some stop.Stuck) → (why ≡ Some stop.SinkFault → Rose h k) → (why ≡ Some stop.Stuck → IsStuck answer) → g ≡ f
+      → GoesUntil why log room first last (passage input f left' g) (passage before h after' k) refused'
+  stops_in_line why last reading' left' after' f g h k refused' line answer said text says does read given within counts not_end no_source not_long either sink stuck well = record {
+    lines = record {
+      lines = so_far.lines;
+      replies = so_far.replies;
+      mid = now;
+      script = so_far.script;
+      done = line ∷ [];
+      said = said ∷ [];
+      front = text.front;
+      ends = InLine line answer said text.front text.rest says text.split does;
+      read = λ bytes is. begins_with bytes (to_come reading left) (to_come reading' left') (subst (λ (o : Option (List ℕ)). WhereTold (to_come nothing_read o) (to_come reading left) (λ a b. lines_of a ≡ so_far.lines ++ lines_of b)) is so_far.read) read;
+      written = told_on before after after' _ _ (λ a b. b ≡ (a ++ texts_of so_far.replies) ++ text.front) (λ a b c one two. two ∙ ap (λ (t : List ℕ). t ++ text.front) one) so_far.written text.written;
+      in_full = ⊎_elim (λ is. inl (is ∙ sym (append-nil (reply_text said)))) (λ rose. inr rose) text.in_full;
+      counted = counts ∙ ap (λ (n : ℕ). n + cond (is_refused said) 1 0) so_far.counted ∙ sym (refusals_more so_far.replies said);
+    };
+    whole = λ is. absurd (not_end is);
+    between = λ no_sink no_stuck. absurd (no_stuck (either no_sink));
+    source = λ is. absurd (no_source is);
+    sink = sink;
+    read_well = λ no_source. well;
+    written_well = λ no_sink no_stuck. absurd (no_stuck (either no_sink));
+    stuck = stuck;
+    long = λ is. absurd (not_long is);
+    short = λ not_long. told_then input left' _ (λ a b. length a ≤ 16777216 + length b) (λ a b e. omega (arith, e, within)) (all_given reading' left' given);
   }
     where
       begins_with : (bytes : List ℕ) (y z : Option (List ℕ)) → WhereTold (Some bytes) y (λ a b. lines_of a ≡ so_far.lines ++ lines_of b) → WhereTold y z (λ a b. lines_of a ≡ line ∷ lines_of b) → (rest : List (List ℕ)) × (lines_of bytes ≡ (so_far.lines ++ line ∷ []) ++ rest)
@@ -218,12 +271,18 @@ ends_went log room Alone first mid last went (InLine line answer said front rest
   clock = let a = went.clock in let b = it.goes.clock in omega (arith, a, b);
 }
 
-pub part_ended : (log : Log) (room : Room) (first last : State) (input before after : Option (List ℕ)) (refused : ℕ) (part : IsPart log room first last input before after refused) → Ended log.run (StaysAlone part.script × EndsAlone part.ends) first last
-part_ended log room first last input before after refused part = ends_went log room (StaysAlone part.script) first part.mid last (script_went log room first part.script) part.ends
+pub lines_ended : (log : Log) (room : Room) (first last : State) (input output : Passage) (refused : ℕ) (lines : AreDone log room first last input output refused) → Ended log.run (StaysAlone lines.script × EndsAlone lines.ends) first last
+lines_ended log room first last input output refused lines = ends_went log room (StaysAlone lines.script) first lines.mid last (script_went log room first lines.script) lines.ends
 
 -- a run that has done no line
-pub nothing_done : (log : Log) (room : Room) (first : State) (input before : Option (List ℕ)) → IsPart log room first first input before before 0
-nothing_done log room first input before = part_so_far log room first first unread input input before before 0 0 (at_start log room first input before)
+pub nothing_done : (log : Log) (room : Room) (first : State) (input output : Stream) → AreDone log room first first (record { before = input; after = input }) (record { before = output; after = output }) 0
+nothing_done log room first input output =
+    lines_so_far log room first first nothing_read input.content input.content output.content output.content 0 0 (at_start log room first input.content output.content) input input.faults output.faults output.faults
+
+-- in which no line was broken off
+pub nothing_broken : (log : Log) (room : Room) (first : State) (input output : Stream) → (nothing_done log room first input output).done ≡ []
+unfolding nothing_done lines_so_far
+nothing_broken log room first input output = refl
 
 -- ---- runs
 
@@ -232,18 +291,17 @@ pub begins_timely : (run : ℕ) (device : Device) → IsBehind run device → Is
 begins_timely run device behind = record { ahead = record { run_is = omega arith; later = tt; behind = later_is_ahead_too run (run + 1) device (omega arith) behind }; session = tt }
 
 -- A run whose lines find no other group where they ask for that upholds what was told before it,
-pub run_upheld : (run last : ℕ) (room : Room) (entry exit : Device) (input left before after : Stream) (history : Option Log) (status refused : ℕ)
-    → WhereAlone run last room entry exit input left before after history status refused (IsBehind run entry → IsUpheld run entry exit (facts_of history))
-run_upheld run last room entry exit input left before after history status refused = λ ran alone behind.
-    span_upholds run entry exit (facts_of history)
-    (subst (λ (m : Moment). Keeps run (record { device = entry; facts = [] }) m) ran.closed.moment
-    ((part_ended (empty_log run room) room (entry_state entry run) ran.end input.content before.content after.content refused ran.part).keeps (begins_timely run entry behind) tt alone))
+pub run_upheld : (r : Run) → WhereAlone r (IsBehind r.named r.entry → IsUpheld r.named r.entry r.exit (facts_of r.history))
+run_upheld r = λ ran alone behind.
+    span_upholds r.named r.entry r.exit (facts_of r.history)
+    (subst (λ (m : Moment). Keeps r.named (record { device = r.entry; facts = [] }) m) ran.closed.moment
+    ((lines_ended (empty_log r.named r.room) r.room (entry_state r.entry r.named) ran.end r.input r.output r.refused ran.lines).keeps (begins_timely r.named r.entry behind) tt alone))
 
 -- and leaves the clock ahead of the disks.
-pub run_ahead : (log : Log) (room : Room) (run last : ℕ) (entry exit : Device) (facts : List Fact) (end : State) (input before after : Option (List ℕ)) (refused : ℕ) → log.run ≡ run → end.moment ≡ record { device = exit; facts = facts } → end.last ≡ last
-    → IsPart log room (entry_state entry run) end input before after refused → IsBehind run entry → IsAhead run (last + 1) exit facts
-run_ahead log room run last entry exit facts end input before after refused named is ended part behind =
+pub run_ahead : (log : Log) (room : Room) (run last : ℕ) (entry exit : Device) (facts : List Fact) (end : State) (input output : Passage) (refused : ℕ) → log.run ≡ run → end.moment ≡ record { device = exit; facts = facts } → end.last ≡ last
+    → AreDone log room (entry_state entry run) end input output refused → IsBehind run entry → IsAhead run (last + 1) exit facts
+run_ahead log room run last entry exit facts end input output refused named is ended lines behind =
     subst (λ (m : Moment). IsAhead run (last + 1) m.device m.facts) is
     (subst (λ (n : ℕ). IsAhead run (n + 1) end.moment.device end.moment.facts) ended
     (subst (λ (n : ℕ). IsTimely n end) named
-    ((part_ended log room (entry_state entry run) end input before after refused part).timely (subst (λ (n : ℕ). IsTimely n (entry_state entry run)) (sym named) (begins_timely run entry behind)))).ahead)
+    ((lines_ended log room (entry_state entry run) end input output refused lines).timely (subst (λ (n : ℕ). IsTimely n (entry_state entry run)) (sym named) (begins_timely run entry behind)))).ahead)

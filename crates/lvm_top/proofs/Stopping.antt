@@ -1,9 +1,7 @@
 -- Why a run ended, by its status.
 use Rattle.std.proofs.Common.{◌≡◌, ◌⊎◌, inl, inr, ◌≤◌, ◌<◌, ◌+◌, ◌==◌, if◌then◌else◌, ℕ, List, [], length, Option, Some, None, true, IfNone, IfSome, refl, sym, ◌∙◌, ap, subst, arith}
-use Rattle.lvm_disk.specs.Counts.{RoseBy}
 use Rattle.lvm_disk.specs.Device.{Device, IsReady}
 use Rattle.lvm_io.specs.Count.{Rose}
-use Rattle.lvm_io.specs.Stream.{WhereTold}
 use Rattle.lvm_vol.specs.Facts.{Fact}
 use Rattle.lvm_vol.specs.Log.{Log}
 use Rattle.lvm_num.specs.Buffer.{Buffer}
@@ -14,16 +12,13 @@ use Rattle.lvm_line.specs.Stages.{shelf_in, history_in, session_in, state_in, Is
 use Rattle.lvm_line.specs.declared.stage.Stage.{Stage}
 use Rattle.lvm_line.specs.declared.stage.Stage.TheVariants as stage
 use Rattle.lvm_line.specs.State.{State, without_facts}
-use Rattle.lvm_top.specs.Run.{Stream, IsClosed, IsRun}
-use Rattle.lvm_top.specs.Script.{IsWhole, IsPart, empty_log, entry_state, facts_of}
-use Rattle.lvm_top.proofs.Scripting.{nothing_done, part_ended, run_ahead}
-use Rattle.lvm_top.specs.Statuses.{status_of}
+use Rattle.lvm_top.specs.Run.{Run, IsClosed, IsRun, Promises}
+use Rattle.lvm_top.specs.Script.{Stream, Passage, StaysAlone, EndsAlone, empty_log, entry_state, facts_of}
+use Rattle.lvm_top.proofs.Firsts.{first_upheld}
+use Rattle.lvm_top.proofs.Scripting.{Ended, told_same, nothing_done, nothing_broken, lines_ended, run_upheld, run_ahead}
+use Rattle.lvm_top.specs.Statuses.{status_of, GoesUntil}
 use Rattle.lvm_top.specs.declared.script.Stop.{Stop}
 use Rattle.lvm_top.specs.declared.script.Stop.TheVariants as stop
-
-pub if_none : {A : Type 0} (o : Option A) (P : Type 0) → o ≡ None → IfNone o P → P
-if_none None P is p = p
-if_none (Some a) P is p = absurd (cc (is))
 
 pub is_status : (why : Option Stop) (refused : ℕ) → (status_of why refused < 8) × (status_of why refused ≡ 2 → ⊥)
 is_status None refused = (omega arith, λ two. omega (arith, two))
@@ -71,51 +66,63 @@ always None P p = p
 always (Some log) P p = tt
 
 -- no memory was found for a run, and nothing was done
-pub nothing_ran : (run last : ℕ) (room : Room) (device : Device) (input out : Stream) (history : Option Log) → IsReady device → facts_of history ≡ [] → IfSome history (λ log. log ≡ record (empty_log run room) { facts = log.facts }) → IfSome history (λ log. run ≡ last)
-    → IsRun run last room device device input input out out history 5 0
-nothing_ran run last room device input out history ready none is named = record {
+pub nothing_ran : (run last : ℕ) (room : Room) (device : Device) (input output : Stream) (history : Option Log) → IsReady device → facts_of history ≡ [] → IfSome history (λ log. log ≡ record (empty_log run room) { facts = log.facts }) → IfSome history (λ log. run ≡ last)
+    → IsRun (record { named = run; last = last; room = room; entry = device; exit = device; input = record { before = input; after = input }; output = record { before = output; after = output }; history = history; status = 5; refused = 0 })
+nothing_ran run last room device input output history ready none is named = record {
   history_is = is;
   none = always history ((◌≡◌ {A = ℕ} 5 5) × (◌≡◌ {A = ℕ} 0 0) × (device ≡ device)) (refl, refl, refl);
   status_is = (omega arith, λ two. omega (arith, two));
   counted = λ low. absurd (omega (arith, low));
   end = entry_state device run;
   closed = record { moment = ap (λ (facts : List Fact). record { device = device; facts = facts }) (sym none); clock = named };
+  lines = nothing_done (empty_log run room) room (entry_state device run) input output;
   whole = λ low. absurd (omega (arith, low));
-  part = nothing_done (empty_log run room) room (entry_state device run) input.content out.content;
+  between = λ no_sink no_stuck. nothing_broken (empty_log run room) room (entry_state device run) input output;
   source = λ is. absurd (omega (arith, is));
   sink = λ is. absurd (omega (arith, is));
+  read_well = λ no. refl;
+  written_well = λ no_sink no_stuck. refl;
   stuck = λ is. absurd (omega (arith, is));
   long = λ is. absurd (omega (arith, is));
+  short = λ no. told_same input.content (λ a b. length a ≤ 16777216 + length b) (λ a. omega arith);
   ready = λ goes. ready;
   power = ready.power;
 }
 
-module _ (run last : ℕ) (room : Room) (entry exit : Device) (input left before after : Stream) (log : Log) (made : log ≡ record (empty_log run room) { facts = log.facts }) (end : State) (closed : IsClosed exit (Some log) last end) (why : Option Stop) (refused : ℕ) where
+module _ (run last : ℕ) (room : Room) (entry exit : Device) (input output : Passage) (log : Log) (made : log ≡ record (empty_log run room) { facts = log.facts }) (end : State) (closed : IsClosed exit (Some log) last end) (why : Option Stop) (refused : ℕ) where
+  -- a run of lines that ended so
+  abbrev ran_so : ℕ → Run
+  ran_so status = record { named = run; last = last; room = room; entry = entry; exit = exit; input = input; output = output; history = Some log; status = status; refused = refused }
+
   -- lines were done, and the status says why no more were
   pub lines_ran :
       (status : ℕ) → status ≡ status_of why refused
-      → IfNone why (IsWhole (empty_log run room) room (entry_state entry run) end input.content left.content before.content after.content refused)
-      → IsPart (empty_log run room) room (entry_state entry run) end input.content before.content after.content refused
-      → (why ≡ Some stop.SourceFault → Rose input.faults left.faults) → (why ≡ Some stop.SinkFault → Rose before.faults after.faults)
-      → (why ≡ Some stop.Stuck → RoseBy 1000000 entry.counts.waits exit.counts.waits) → (why ≡ Some stop.TooLong → WhereTold input.content left.content (λ a b. 16777216 + length b < length a))
+      → GoesUntil why (empty_log run room) room (entry_state entry run) end input output refused
       → ((why ≡ Some stop.Stuck → ⊥) → IsReady exit) → exit.power ≡ true
-      → IsRun run last room entry exit input left before after (Some log) status refused
-  lines_ran status says whole part source sink stuck long ready power = subst (λ (n : ℕ). IsRun run last room entry exit input left before after (Some log) n refused) (sym says) (record {
+      → IsRun (record { named = run; last = last; room = room; entry = entry; exit = exit; input = input; output = output; history = Some log; status = status; refused = refused })
+  lines_ran status says goes ready power = subst (λ (n : ℕ). IsRun (ran_so n)) (sym says) (record {
     history_is = made;
     none = tt;
     status_is = is_status why refused;
     counted = counted_at_end why refused;
     end = end;
     closed = closed;
-    whole = λ low. if_none why _ (at_end why refused low) whole;
-    part = part;
-    source = λ is. source (why_at why refused 3 (omega arith) is);
-    sink = λ is. sink (why_at why refused 4 (omega arith) is);
-    stuck = λ is. stuck (why_at why refused 6 (omega arith) is);
-    long = λ is. long (why_at why refused 7 (omega arith) is);
-    ready = λ goes. ready (λ is. goes (ap (λ (w : Option Stop). status_of w refused) is));
+    lines = goes.lines;
+    whole = λ low. goes.whole (at_end why refused low);
+    between = λ no_sink no_stuck. goes.between (λ is. no_sink (says_so is)) (λ is. no_stuck (says_so is));
+    source = λ is. goes.source (why_at why refused 3 (omega arith) is);
+    sink = λ is. goes.sink (why_at why refused 4 (omega arith) is);
+    read_well = λ no. goes.read_well (λ is. no (says_so is));
+    written_well = λ no_sink no_stuck. goes.written_well (λ is. no_sink (says_so is)) (λ is. no_stuck (says_so is));
+    stuck = λ is. goes.stuck (why_at why refused 6 (omega arith) is);
+    long = λ is. goes.long (why_at why refused 7 (omega arith) is);
+    short = λ no. goes.short (λ is. no (says_so is));
+    ready = λ no. ready (λ is. no (says_so is));
     power = power;
   })
+    where
+      says_so : {w : Option Stop} → why ≡ w → status_of why refused ≡ status_of w refused
+      says_so is = ap (λ (w : Option Stop). status_of w refused) is
 
 -- no memory was found, so that the clock stays ahead of the disks
 pub nothing_ahead : (run last : ℕ) (device : Device) (facts : List Fact) → facts ≡ [] → run ≤ last → IsBehind run device → IsAhead run (last + 1) device facts
@@ -165,28 +172,48 @@ module _ {S : Type 0} (device : S → Device) (shelf : S) (history : Log) (run b
   kept_made : kept ≡ record (empty_log kept.run room) { facts = kept.facts }
   kept_made = ap (λ (l : Log). record l { facts = kept.facts }) (ap without_facts kept_is ∙ rooms ∙ log_is)
 
-  module _ (input left before after : Stream) (refused : ℕ) (part : IsPart (without_facts history) room (state_in device (stage.Off shelf history) begun) (state_in device it last) input.content before.content after.content refused) where
-    pub the_part : IsPart (empty_log kept.run room) room (entry_state (device shelf) kept.run) (state_in device it last) input.content before.content after.content refused
-    the_part = subst (λ (s : State). IsPart (empty_log kept.run room) room s (state_in device it last) input.content before.content after.content refused) first_state
-        (subst (λ (l : Log). IsPart l room (state_in device (stage.Off shelf history) begun) (state_in device it last) input.content before.content after.content refused) log_is part)
+  module _ (input output : Passage) (refused : ℕ) (goes : GoesUntil why (without_facts history) room (state_in device (stage.Off shelf history) begun) (state_in device it last) input output refused) where
+    pub the_lines : GoesUntil why (empty_log kept.run room) room (entry_state (device shelf) kept.run) (state_in device it last) input output refused
+    the_lines = subst (λ (s : State). GoesUntil why (empty_log kept.run room) room s (state_in device it last) input output refused) first_state
+        (subst (λ (l : Log). GoesUntil why l room (state_in device (stage.Off shelf history) begun) (state_in device it last) input output refused) log_is goes)
+
+    ended : Ended (without_facts history).run (StaysAlone goes.lines.script × EndsAlone goes.lines.ends) (state_in device (stage.Off shelf history) begun) (state_in device it last)
+    ended = lines_ended (without_facts history) room (state_in device (stage.Off shelf history) begun) (state_in device it last) input output refused goes.lines
 
     pub later : run ≤ last
-    later = let e = (part_ended (without_facts history) room (state_in device (stage.Off shelf history) begun) (state_in device it last) input.content before.content after.content refused part).clock in omega (arith, e, asked)
+    later = let e = ended.clock in omega (arith, e, asked)
 
     pub the_ahead : IsBehind kept.run (device shelf) → IsAhead kept.run (last + 1) (device closed) kept.facts
-    the_ahead = run_ahead (empty_log kept.run room) room kept.run last (device shelf) (device closed) kept.facts (state_in device it last) input.content before.content after.content refused refl end_is refl the_part
+    the_ahead = run_ahead (empty_log kept.run room) room kept.run last (device shelf) (device closed) kept.facts (state_in device it last) input output refused refl end_is refl the_lines.lines
 
     pub the_run :
         (status : ℕ) → status ≡ status_of why refused → IsReady (device shelf)
-        → IfNone why (IsWhole (without_facts history) room (state_in device (stage.Off shelf history) begun) (state_in device it last) input.content left.content before.content after.content refused)
-        → (why ≡ Some stop.SourceFault → Rose input.faults left.faults) → (why ≡ Some stop.SinkFault → Rose before.faults after.faults)
-        → (why ≡ Some stop.Stuck → RoseBy 1000000 (device shelf).counts.waits (device (shelf_in it)).counts.waits) → (why ≡ Some stop.TooLong → WhereTold input.content left.content (λ a b. 16777216 + length b < length a))
-        → IsRun kept.run last room (device shelf) (device closed) input left before after (Some kept) status refused
-    the_run status says ready whole source sink stuck long =
-        lines_ran kept.run last room (device shelf) (device closed) input left before after kept kept_made (state_in device it last) (record { moment = end_is; clock = refl }) why refused status says
-        (subst (λ (s : State). IfNone why (IsWhole (empty_log kept.run room) room s (state_in device it last) input.content left.content before.content after.content refused)) first_state
-        (subst (λ (l : Log). IfNone why (IsWhole l room (state_in device (stage.Off shelf history) begun) (state_in device it last) input.content left.content before.content after.content refused)) log_is whole))
-        the_part source sink
-        (λ is. subst (λ (d : Device). RoseBy 1000000 (device shelf).counts.waits d.counts.waits) (sym exit_same) (stuck is)) long
-        (λ goes. subst IsReady (sym exit_same) (settled goes).ready)
-        (subst (λ (d : Device). d.power ≡ true) (sym exit_same) ((part_ended (without_facts history) room (state_in device (stage.Off shelf history) begun) (state_in device it last) input.content before.content after.content refused part).power ready.power))
+        → IsRun (record { named = kept.run; last = last; room = room; entry = device shelf; exit = device closed; input = input; output = output; history = Some kept; status = status; refused = refused })
+    the_run status says ready =
+        lines_ran kept.run last room (device shelf) (device closed) input output kept kept_made (state_in device it last) (record { moment = end_is; clock = refl }) why refused status says the_lines
+        (λ no. subst IsReady (sym exit_same) (settled no).ready)
+        (subst (λ (d : Device). d.power ≡ true) (sym exit_same) (ended.power ready.power))
+
+    -- all that is promised of it
+    pub the_promises :
+        (clock : ℕ) (status : ℕ) → status ≡ status_of why refused → IsReady (device shelf) → Rose clock run
+        → Promises clock (record { named = kept.run; last = last; room = room; entry = device shelf; exit = device closed; input = input; output = output; history = Some kept; status = status; refused = refused })
+    the_promises clock status says ready rose = record {
+      clock = (subst (λ (n : ℕ). Rose clock n) (sym named) rose, (let is = named in let le = later in omega (arith, is, le)));
+      does = the_run status says ready;
+      upheld = run_upheld _;
+      first = first_upheld _;
+      ahead = the_ahead;
+    }
+
+-- and of one for which no memory was found
+pub nothing_promised : (asked run last : ℕ) (room : Room) (device : Device) (input output : Stream) (history : Option Log) → IsReady device → facts_of history ≡ [] → IfSome history (λ log. log ≡ record (empty_log run room) { facts = log.facts }) → IfSome history (λ log. run ≡ last)
+    → run ≤ last → IfSome history (λ log. Rose asked log.run × (log.run ≤ last))
+    → Promises asked (record { named = run; last = last; room = room; entry = device; exit = device; input = record { before = input; after = input }; output = record { before = output; after = output }; history = history; status = 5; refused = 0 })
+nothing_promised asked run last room device input output history ready none is named le clock = record {
+  clock = clock;
+  does = nothing_ran run last room device input output history ready none is named;
+  upheld = run_upheld _;
+  first = first_upheld _;
+  ahead = nothing_ahead run last device (facts_of history) none le;
+}

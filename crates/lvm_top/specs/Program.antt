@@ -1,11 +1,15 @@
 -- What the program does by the words of its command line.
 use Rattle.std.specs.Prelude.{◌≡◌, ◌⊎◌, ◌++◌, ℕ, List, [], Option, Some, None, Result, Ok, Err, codes}
-use Rattle.lvm_io.specs.Count.{Rose}
+use Rattle.lvm_io.specs.Count.{Rose, next_count}
 use Rattle.lvm_io.specs.Stream.{WhereTold, WritesFront}
 use Rattle.lvm_disk.specs.declared.memory.MemShelf.{MemShelf}
 use Rattle.lvm_vol.specs.Log.{Log}
 use Rattle.lvm_top.specs.Blank.{blank_image}
-use Rattle.lvm_top.specs.Run.{Stream}
+use Rattle.lvm_change.specs.Moments.{ImagesKept, IsUpheld}
+use Rattle.lvm_vol.specs.Facts.{joined}
+use Rattle.lvm_vol.specs.Legal.{Legal}
+use Rattle.lvm_top.specs.Run.{Run, Promises, WhereAlone}
+use Rattle.lvm_top.specs.Script.{Stream, facts_of}
 use Rattle.lvm_words.specs.declared.job.Job.{Job}
 use Rattle.lvm_words.specs.declared.job.Job.TheVariants.{Script, Sim, Image}
 use Rattle.lvm_words.specs.declared.job.WordsFault.{WordsFault}
@@ -46,10 +50,23 @@ pub record IsUnrun (status refused : ℕ) (history : Option Log) (sim : Option M
   pub history_is : history ≡ None
   pub sim_is : sim ≡ None
 
--- A new image of the disk has so many MiB of zeros, or the sink failed and it has a front of them.
-pub record IsImaged (disk mib status : ℕ) (chosen : Option ℕ) (before after : Stream) : Type 0 where
+-- The words are not in the language: nothing was run, and a line of usage was written, or no memory was found to read them.
+pub record IsUsage (status refused : ℕ) (history : Option Log) (sim : Option MemShelf) (before after : Stream) : Type 0 where
+  pub status_is : (status ≡ 2) ⊎ (status ≡ 5)
+  pub unrun : IsUnrun status refused history sim status
+  pub line : status ≡ 2 → IsSaid usage_line before after
+
+-- what a run over disks that hold nothing promises beside: no moment can be earlier than the run's, and nothing was told before
+pub record PromisesBlank (asked : ℕ) (r : Run) : Type 0 where
+  pub promises : Promises asked r
+  pub upheld : WhereAlone r (IsUpheld r.named r.entry r.exit (facts_of r.history))
+  pub first : WhereAlone r (Legal (joined [] (facts_of r.history)) × ImagesKept r.exit (joined [] (facts_of r.history)))
+
+-- That disk alone was chosen, and its new image has so many MiB of zeros, or the sink failed and it has a front of them.
+pub record IsImaged (disk mib status : ℕ) (chosen : Option ℕ) (earlier choices : ℕ) (before after : Stream) : Type 0 where
   pub status_is : (status ≡ 0) ⊎ (status ≡ 4)
   pub chosen_is : chosen ≡ Some disk
+  pub once : choices ≡ next_count earlier
   pub whole : status ≡ 0 → WhereTold before.content after.content (λ a b. b ≡ blank_image mib)
   pub front : status ≡ 4 → WhereTold before.content after.content (λ a b. WritesFront (blank_image mib) [] b)
   pub cause : status ≡ 4 → Rose before.faults after.faults

@@ -1,46 +1,77 @@
 -- A run of a script: how it ends, and why.
-use Rattle.std.specs.Prelude.{◌≡◌, ◌<◌, ◌+◌, ℕ, List, length, Option, IfNone, IfSome, true, min}
-use Rattle.lvm_disk.specs.Counts.{RoseBy}
+use Rattle.std.specs.Prelude.{◌≡◌, ◌<◌, ◌≤◌, ◌+◌, ℕ, [], length, Option, IfNone, IfSome, true, min}
+use Rattle.lvm_change.specs.Moments.{ImagesKept, IsUpheld}
 use Rattle.lvm_disk.specs.Device.{Device, IsReady}
 use Rattle.lvm_io.specs.Count.{Rose}
 use Rattle.lvm_io.specs.Stream.{WhereTold}
+use Rattle.lvm_vol.specs.Facts.{joined}
+use Rattle.lvm_vol.specs.Legal.{Legal}
 use Rattle.lvm_vol.specs.Log.{Log}
+use Rattle.lvm_stamps.specs.Behind.{IsBehind, IsAhead}
 use Rattle.lvm_core.specs.declared.parts.Room.{Room}
 use Rattle.lvm_line.specs.State.{State}
-use Rattle.lvm_top.specs.Script.{IsWhole, IsPart, StaysAlone, EndsAlone, empty_log, entry_state, facts_of}
+use Rattle.lvm_top.specs.Script.{Passage, AreDone, AreAllRead, EndsStuck, StaysAlone, EndsAlone, empty_log, entry_state, facts_of}
+use Rattle.lvm_top.specs.Sim.{IsToldBlank}
 
--- what is told of a source or a sink, and how often it has failed
-pub record Stream : Type 0 where
-  pub content : Option (List ℕ)
-  pub faults : ℕ
+-- What a run was given and what came of it: the moment that names it and the clock's last one, its rooms, the shelf before and after, what was read and written, its history, its status, and how many lines were refused.
+pub record Run : Type 0 where
+  pub named : ℕ
+  pub last : ℕ
+  pub room : Room
+  pub entry : Device
+  pub exit : Device
+  pub input : Passage
+  pub output : Passage
+  pub history : Option Log
+  pub status : ℕ
+  pub refused : ℕ
 
 -- A session that is on at the end is closed without a write. The clock was last asked by a line, or at the beginning.
 pub record IsClosed (exit : Device) (history : Option Log) (last : ℕ) (end : State) : Type 0 where
   pub moment : end.moment ≡ record { device = exit; facts = facts_of history }
   pub clock : IfSome history (λ log. end.last ≡ last)
 
--- A run from the moment at which it began to the clock's last one. Status 0 or 1: the input was read to its end, each line was done, and the replies were
--- written; 1 where one was a refusal. Any other status has its cause, and the lines done are the input's first. Without a history nothing was done.
-pub record IsRun (run last : ℕ) (room : Room) (entry exit : Device) (input left before after : Stream) (history : Option Log) (status refused : ℕ) : Type 0 where
-  pub history_is : IfSome history (λ log. log ≡ record (empty_log run room) { facts = log.facts })
-  pub none : IfNone history ((status ≡ 5) × (refused ≡ 0) × (exit ≡ entry))
-  pub status_is : (status < 8) × (status ≡ 2 → ⊥)
-  pub counted : status < 2 → status ≡ min refused 1
+-- the lines of the run, from its first state to its last
+abbrev pub LinesOf : Run → State → Type 0
+LinesOf r end = AreDone (empty_log r.named r.room) r.room (entry_state r.entry r.named) end r.input r.output r.refused
+
+-- The lines that were done are the input's first, each as it should be. Status 0 or 1: all of the input was read and done; 1 where a line was refused. Any
+-- other status has its cause: 3 that a read failed and 4 that a write did, which come at no other status but a write's at 6; 6 that the last line was answered
+-- Stuck; 7 exactly that too much was read. At 3, 5 and 7 the run ended between two lines. Without a history nothing was done.
+pub record IsRun (r : Run) : Type 0 where
+  pub history_is : IfSome r.history (λ log. log ≡ record (empty_log r.named r.room) { facts = log.facts })
+  pub none : IfNone r.history ((r.status ≡ 5) × (r.refused ≡ 0) × (r.exit ≡ r.entry))
+  pub status_is : (r.status < 8) × (r.status ≡ 2 → ⊥)
+  pub counted : r.status < 2 → r.status ≡ min r.refused 1
   pub end : State
-  pub closed : IsClosed exit history last end
-  pub whole : status < 2 → IsWhole (empty_log run room) room (entry_state entry run) end input.content left.content before.content after.content refused
-  pub part : IsPart (empty_log run room) room (entry_state entry run) end input.content before.content after.content refused
-  pub source : status ≡ 3 → Rose input.faults left.faults
-  pub sink : status ≡ 4 → Rose before.faults after.faults
-  pub stuck : status ≡ 6 → RoseBy 1000000 entry.counts.waits exit.counts.waits
-  pub long : status ≡ 7 → WhereTold input.content left.content (λ a b. 16777216 + length b < length a)
-  pub ready : (status ≡ 6 → ⊥) → IsReady exit
-  pub power : exit.power ≡ true
+  pub closed : IsClosed r.exit r.history r.last end
+  pub lines : LinesOf r end
+  pub whole : r.status < 2 → AreAllRead lines r.input
+  pub between : (r.status ≡ 4 → ⊥) → (r.status ≡ 6 → ⊥) → lines.done ≡ []
+  pub source : r.status ≡ 3 → Rose r.input.before.faults r.input.after.faults
+  pub sink : r.status ≡ 4 → Rose r.output.before.faults r.output.after.faults
+  pub read_well : (r.status ≡ 3 → ⊥) → r.input.after.faults ≡ r.input.before.faults
+  pub written_well : (r.status ≡ 4 → ⊥) → (r.status ≡ 6 → ⊥) → r.output.after.faults ≡ r.output.before.faults
+  pub stuck : r.status ≡ 6 → EndsStuck lines.ends
+  pub long : r.status ≡ 7 → WhereTold r.input.before.content r.input.after.content (λ a b. 16777216 + length b < length a)
+  pub short : (r.status ≡ 7 → ⊥) → WhereTold r.input.before.content r.input.after.content (λ a b. length a ≤ 16777216 + length b)
+  pub ready : (r.status ≡ 6 → ⊥) → IsReady r.exit
+  pub power : r.exit.power ≡ true
 
 -- In each line of the run that made or removed a volume, or was broken off at it, no disks found a group but the one that was on.
-abbrev pub RanAlone : {run last : ℕ} {room : Room} {entry exit : Device} {input left before after : Stream} {history : Option Log} {status refused : ℕ} → IsRun run last room entry exit input left before after history status refused → Type 0
-RanAlone ran = StaysAlone ran.part.script × EndsAlone ran.part.ends
+abbrev pub RanAlone : {r : Run} → IsRun r → Type 0
+RanAlone ran = StaysAlone ran.lines.script × EndsAlone ran.lines.ends
 
 -- What holds of such a run, whatever its lines were answered.
-abbrev pub WhereAlone : ℕ → ℕ → Room → Device → Device → Stream → Stream → Stream → Stream → Option Log → ℕ → ℕ → Type 0 → Type 0
-WhereAlone run last room entry exit input left before after history status refused Holds = (ran : IsRun run last room entry exit input left before after history status refused) → RanAlone ran → Holds
+abbrev pub WhereAlone : Run → Type 0 → Type 0
+WhereAlone r Holds = (ran : IsRun r) → RanAlone ran → Holds
+
+-- What every run promises. Its moment was answered by the clock in this call. Its lines are as they should be. Where its moment is later than what stands on
+-- the disks, and no line made or removed a volume of one group among several, the history is legal with what was told before, and each crash image that the
+-- disks may leave is kept with it; over disks that hold nothing so it is without anything told before. The clock stays ahead of the disks.
+pub record Promises (asked : ℕ) (r : Run) : Type 0 where
+  pub clock : IfSome r.history (λ log. Rose asked log.run × (log.run ≤ r.last))
+  pub does : IsRun r
+  pub upheld : WhereAlone r (IsBehind r.named r.entry → IsUpheld r.named r.entry r.exit (facts_of r.history))
+  pub first : WhereAlone r (IsToldBlank r.entry → Legal (joined [] (facts_of r.history)) × ImagesKept r.exit (joined [] (facts_of r.history)))
+  pub ahead : IsBehind r.named r.entry → IsAhead r.named (r.last + 1) r.exit (facts_of r.history)

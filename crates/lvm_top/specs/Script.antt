@@ -2,6 +2,7 @@
 use Rattle.std.specs.Prelude.{◌≡◌, ◌⊎◌, ◌≤◌, ◌++◌, ℕ, [], ◌∷◌, List, Option, Some, None, Bool, true, false, count_by, length}
 use Rattle.std.specs.List.{flat_map}
 use Rattle.lvm_disk.specs.Device.{Device}
+use Rattle.lvm_io.specs.Count.{Rose}
 use Rattle.lvm_io.specs.Stream.{WhereTold}
 use Rattle.lvm_io.specs.Lines.{lines_of}
 use Rattle.lvm_vol.specs.Facts.{Fact}
@@ -43,15 +44,6 @@ is_refused (reply.Lines text) = false
 abbrev pub refusals_in : List Reply → ℕ
 refusals_in replies = count_by is_refused replies
 
--- All that the source had was read and done, and what was written is the replies; where the one and the other is told.
-pub record IsWhole (log : Log) (room : Room) (first last : State) (input left before after : Option (List ℕ)) (refused : ℕ) : Type 0 where
-  pub lines : List (List ℕ)
-  pub replies : List Reply
-  pub script : Script log room first lines replies last
-  pub read : WhereTold input left (λ a b. (lines_of a ≡ lines) × (b ≡ []) × (length a ≤ 16777216))
-  pub written : WhereTold before after (λ a b. b ≡ a ++ texts_of replies)
-  pub counted : refused ≡ refusals_in replies
-
 -- what follows the lines that were answered whole: nothing, or one line more whose reply was written in part, or after which nothing was heard
 pub data Ends (log : Log) (room : Room) (mid last : State) : List (List ℕ) → List Reply → List ℕ → Type 0 where
   AtLine : last ≡ mid → Ends log room mid last [] [] []
@@ -61,8 +53,24 @@ abbrev pub EndsAlone : {log : Log} {room : Room} {mid last : State} {done : List
 EndsAlone (AtLine same) = Unit {0}
 EndsAlone {mid = mid} {last = last} (InLine line answer said front rest says split does) = IsAlone answer mid last
 
--- The lines that were done are the first of the source's, and what was written is their replies, the last perhaps a front of it.
-pub record IsPart (log : Log) (room : Room) (first last : State) (input before after : Option (List ℕ)) (refused : ℕ) : Type 0 where
+-- nothing was heard of a transfer in the line after which no more were done
+abbrev pub EndsStuck : {log : Log} {room : Room} {mid last : State} {done : List (List ℕ)} {said : List Reply} {front : List ℕ} → Ends log room mid last done said front → Type 0
+EndsStuck (AtLine same) = ⊥
+EndsStuck (InLine line answer said front rest says split does) = IsStuck answer
+
+-- what is told of a source or a sink, and how often it has failed
+pub record Stream : Type 0 where
+  pub content : Option (List ℕ)
+  pub faults : ℕ
+
+-- a source or a sink before and after
+pub record Passage : Type 0 where
+  pub before : Stream
+  pub after : Stream
+
+-- The lines that were done are the first of the source's, and what was written is their replies: each whole, but that of the last a front where the sink
+-- failed.
+pub record AreDone (log : Log) (room : Room) (first last : State) (input output : Passage) (refused : ℕ) : Type 0 where
   pub lines : List (List ℕ)
   pub replies : List Reply
   pub mid : State
@@ -71,9 +79,14 @@ pub record IsPart (log : Log) (room : Room) (first last : State) (input before a
   pub said : List Reply
   pub front : List ℕ
   pub ends : Ends log room mid last done said front
-  pub read : (bytes : List ℕ) → input ≡ Some bytes → (rest : List (List ℕ)) × (lines_of bytes ≡ (lines ++ done) ++ rest)
-  pub written : WhereTold before after (λ a b. b ≡ (a ++ texts_of replies) ++ front)
+  pub read : (bytes : List ℕ) → input.before.content ≡ Some bytes → (rest : List (List ℕ)) × (lines_of bytes ≡ (lines ++ done) ++ rest)
+  pub written : WhereTold output.before.content output.after.content (λ a b. b ≡ (a ++ texts_of replies) ++ front)
+  pub in_full : (front ≡ texts_of said) ⊎ Rose output.before.faults output.after.faults
   pub counted : refused ≡ refusals_in (replies ++ said)
+
+-- All that the source had was read, at most 16 MiB, and done.
+abbrev pub AreAllRead : {log : Log} {room : Room} {first last : State} {input output : Passage} {refused : ℕ} → AreDone log room first last input output refused → Passage → Type 0
+AreAllRead lines input = (lines.done ≡ []) × WhereTold input.before.content input.after.content (λ a b. (lines_of a ≡ lines.lines) × (b ≡ []) × (length a ≤ 16777216))
 
 -- the entries of a history, if there is one
 abbrev pub facts_of : Option Log → List Fact

@@ -19,7 +19,7 @@ pub fn run_image<O: Sink>(mib: u32, out: &mut O) -> u8
     ensures status { (result ≡ 0) ⊎ (result ≡ 4) }
     ensures whole { result ≡ 0 → WhereTold (O.held out.old) (O.held out.new) (λ a b. b ≡ a ++ blank_image mib) }
     ensures front { result ≡ 4 → WhereTold (O.held out.old) (O.held out.new) (λ a b. WritesFront (blank_image mib) a b) }
-    ensures image { O.chosen out.new ≡ O.chosen out.old }
+    ensures image { (O.chosen out.new ≡ O.chosen out.old) × (O.choices out.new ≡ O.choices out.old) }
     ensures later { O.faults out.old ≤ O.faults out.new }
     ensures cause { result ≡ 4 → Rose (O.faults out.old) (O.faults out.new) }
 {

@@ -2,15 +2,10 @@
 ghost use Rattle.std.specs.Prelude.{◌≡◌, ◌⊎◌, ◌≤◌, ◌<◌, length, [], None, IfOk, IfErr, IfSome, IfNone};
 ghost use Rattle.lvm_disk.specs.Device.{IsReady};
 ghost use Rattle.lvm_disk.specs.Memory.{device_of};
-ghost use Rattle.lvm_io.specs.Count.{Rose};
-ghost use Rattle.lvm_vol.specs.Facts.{joined};
-ghost use Rattle.lvm_vol.specs.Legal.{Legal};
-ghost use Rattle.lvm_change.specs.Moments.{ImagesKept, IsUpheld};
-ghost use Rattle.lvm_stamps.specs.Behind.{IsBehind};
-ghost use Rattle.lvm_top.specs.Program.{OnScript, OnSim, OnImage, usage_line, IsSaid, IsUnrun, IsImaged};
-ghost use Rattle.lvm_top.specs.Run.{IsRun, WhereAlone};
-ghost use Rattle.lvm_top.specs.Script.{facts_of, run_of};
-ghost use Rattle.lvm_top.specs.Sim.{full_room, sim_device, IsToldBlank};
+ghost use Rattle.lvm_top.specs.Program.{OnScript, OnSim, OnImage, usage_line, IsSaid, IsUnrun, IsUsage, IsImaged, PromisesBlank};
+ghost use Rattle.lvm_top.specs.Run.{Promises};
+ghost use Rattle.lvm_top.specs.Script.{run_of};
+ghost use Rattle.lvm_top.specs.Sim.{full_room, sim_device};
 ghost use Rattle.lvm_words.specs.Words.{job_of};
 
 use crate::image::run_image;
@@ -57,7 +52,7 @@ fn say_usage<E: Sink>(err: &mut E)
 
 // Makes a new image of a disk.
 fn make_image<P: Images>(disk: u16, mib: u32, images: &mut P) -> u8
-    ensures { IsImaged disk mib result (P.chosen images.new) (record { content = P.held images.old; faults = P.faults images.old }) (record { content = P.held images.new; faults = P.faults images.new }) }
+    ensures { IsImaged disk mib result (P.chosen images.new) (P.choices images.old) (P.choices images.new) (record { content = P.held images.old; faults = P.faults images.old }) (record { content = P.held images.new; faults = P.faults images.new }) }
 {
     images.choose(disk);
     run_image(mib, images)
@@ -95,30 +90,14 @@ pub fn run_words<I: Source, O: Sink, E: Sink, C: Clock, S: Shelf, P: Images>(
 ) -> Ended<S>
     requires ready { IsReady (S.device files) }
 
-    ensures usage { IfErr (job_of words.now) (λ _. (result.status ≡ 2) ⊎ (result.status ≡ 5)) }
-    ensures usage_unrun { IfErr (job_of words.now) (λ _. IsUnrun result.status result.refused result.history result.sim result.status) }
-    ensures usage_line { IfErr (job_of words.now) (λ _. result.status ≡ 2 → IsSaid usage_line (record { content = E.held err.old; faults = E.faults err.old }) (record { content = E.held err.new; faults = E.faults err.new })) }
-    ensures usage_unread { IfErr (job_of words.now) (λ _. result.status ≡ 5 → err.new ≡ err.old) }
-    ensures usage_alone { IfErr (job_of words.now) (λ _. (result.shelf ≡ files) × (input.new ≡ input.old) × (out.new ≡ out.old) × (clock.new ≡ clock.old) × (images.new ≡ images.old)) }
-
-    ensures script_clock { OnScript (job_of words.now) (IfSome result.history (λ _. Rose (C.last clock.old) (C.last clock.new))) }
-    ensures script_run { OnScript (job_of words.now) (IsRun (run_of result.history) (C.last clock.new) full_room (S.device files) (S.device result.shelf) (record { content = I.left input.old; faults = I.faults input.old }) (record { content = I.left input.new; faults = I.faults input.new }) (record { content = O.held out.old; faults = O.faults out.old }) (record { content = O.held out.new; faults = O.faults out.new }) result.history result.status result.refused) }
-    ensures script_upheld { OnScript (job_of words.now) (WhereAlone (run_of result.history) (C.last clock.new) full_room (S.device files) (S.device result.shelf) (record { content = I.left input.old; faults = I.faults input.old }) (record { content = I.left input.new; faults = I.faults input.new }) (record { content = O.held out.old; faults = O.faults out.old }) (record { content = O.held out.new; faults = O.faults out.new }) result.history result.status result.refused (IsBehind (run_of result.history) (S.device files) → IsUpheld (run_of result.history) (S.device files) (S.device result.shelf) (facts_of result.history))) }
-    ensures script_first { OnScript (job_of words.now) (WhereAlone (run_of result.history) (C.last clock.new) full_room (S.device files) (S.device result.shelf) (record { content = I.left input.old; faults = I.faults input.old }) (record { content = I.left input.new; faults = I.faults input.new }) (record { content = O.held out.old; faults = O.faults out.old }) (record { content = O.held out.new; faults = O.faults out.new }) result.history result.status result.refused (IsToldBlank (S.device files) → Legal (joined [] (facts_of result.history)) × ImagesKept (S.device result.shelf) (joined [] (facts_of result.history)))) }
+    ensures usage { IfErr (job_of words.now) (λ _. IsUsage result.status result.refused result.history result.sim (record { content = E.held err.old; faults = E.faults err.old }) (record { content = E.held err.new; faults = E.faults err.new })) }
+    ensures usage_alone { IfErr (job_of words.now) (λ _. (result.shelf ≡ files) × (input.new ≡ input.old) × (out.new ≡ out.old) × (clock.new ≡ clock.old) × (images.new ≡ images.old) × (result.status ≡ 5 → err.new ≡ err.old)) }
+    ensures script { OnScript (job_of words.now) (Promises (C.last clock.old) (record { named = run_of result.history; last = C.last clock.new; room = full_room; entry = S.device files; exit = S.device result.shelf; input = record { before = record { content = I.left input.old; faults = I.faults input.old }; after = record { content = I.left input.new; faults = I.faults input.new } }; output = record { before = record { content = O.held out.old; faults = O.faults out.old }; after = record { content = O.held out.new; faults = O.faults out.new } }; history = result.history; status = result.status; refused = result.refused })) }
     ensures script_alone { OnScript (job_of words.now) ((result.sim ≡ None) × (err.new ≡ err.old) × (images.new ≡ images.old)) }
-
-    ensures sim_unmade { OnSim (job_of words.now) (λ _ _. IfNone result.sim (IsUnrun result.status result.refused result.history result.sim 5)) }
-    ensures sim_unmade_alone { OnSim (job_of words.now) (λ _ _. IfNone result.sim ((input.new ≡ input.old) × (out.new ≡ out.old) × (clock.new ≡ clock.old))) }
-    ensures sim_clock { OnSim (job_of words.now) (λ _ _. IfSome result.sim (λ _. Rose (C.last clock.old) (C.last clock.new))) }
-    ensures sim_run { OnSim (job_of words.now) (λ disks mib. IfSome result.sim (λ shelf. IsRun (run_of result.history) (C.last clock.new) full_room (sim_device disks mib) (device_of shelf) (record { content = I.left input.old; faults = I.faults input.old }) (record { content = I.left input.new; faults = I.faults input.new }) (record { content = O.held out.old; faults = O.faults out.old }) (record { content = O.held out.new; faults = O.faults out.new }) result.history result.status result.refused)) }
-    ensures sim_upheld { OnSim (job_of words.now) (λ disks mib. IfSome result.sim (λ shelf. WhereAlone (run_of result.history) (C.last clock.new) full_room (sim_device disks mib) (device_of shelf) (record { content = I.left input.old; faults = I.faults input.old }) (record { content = I.left input.new; faults = I.faults input.new }) (record { content = O.held out.old; faults = O.faults out.old }) (record { content = O.held out.new; faults = O.faults out.new }) result.history result.status result.refused (IsUpheld (run_of result.history) (sim_device disks mib) (device_of shelf) (facts_of result.history)))) }
-    ensures sim_first { OnSim (job_of words.now) (λ disks mib. IfSome result.sim (λ shelf. WhereAlone (run_of result.history) (C.last clock.new) full_room (sim_device disks mib) (device_of shelf) (record { content = I.left input.old; faults = I.faults input.old }) (record { content = I.left input.new; faults = I.faults input.new }) (record { content = O.held out.old; faults = O.faults out.old }) (record { content = O.held out.new; faults = O.faults out.new }) result.history result.status result.refused (Legal (joined [] (facts_of result.history)) × ImagesKept (device_of shelf) (joined [] (facts_of result.history))))) }
-    ensures sim_alone { OnSim (job_of words.now) (λ _ _. (result.shelf ≡ files) × (err.new ≡ err.old) × (images.new ≡ images.old)) }
-
-    ensures image { OnImage (job_of words.now) (λ disk mib. (result.status ≡ 5 → ⊥) → IsImaged disk mib result.status (P.chosen images.new) (record { content = P.held images.old; faults = P.faults images.old }) (record { content = P.held images.new; faults = P.faults images.new })) }
-    ensures image_unread { OnImage (job_of words.now) (λ _ _. result.status ≡ 5 → images.new ≡ images.old) }
-    ensures image_unrun { OnImage (job_of words.now) (λ _ _. IsUnrun result.status result.refused result.history result.sim result.status) }
-    ensures image_alone { OnImage (job_of words.now) (λ _ _. (result.shelf ≡ files) × (input.new ≡ input.old) × (out.new ≡ out.old) × (err.new ≡ err.old) × (clock.new ≡ clock.old)) }
+    ensures sim { OnSim (job_of words.now) (λ disks mib. IfSome result.sim (λ shelf. PromisesBlank (C.last clock.old) (record { named = run_of result.history; last = C.last clock.new; room = full_room; entry = sim_device disks mib; exit = device_of shelf; input = record { before = record { content = I.left input.old; faults = I.faults input.old }; after = record { content = I.left input.new; faults = I.faults input.new } }; output = record { before = record { content = O.held out.old; faults = O.faults out.old }; after = record { content = O.held out.new; faults = O.faults out.new } }; history = result.history; status = result.status; refused = result.refused }))) }
+    ensures sim_alone { OnSim (job_of words.now) (λ _ _. (result.shelf ≡ files) × (err.new ≡ err.old) × (images.new ≡ images.old) × IfNone result.sim (IsUnrun result.status result.refused result.history result.sim 5 × (input.new ≡ input.old) × (out.new ≡ out.old) × (clock.new ≡ clock.old))) }
+    ensures image { OnImage (job_of words.now) (λ disk mib. IsUnrun result.status result.refused result.history result.sim result.status × ((result.status ≡ 5 → ⊥) → IsImaged disk mib result.status (P.chosen images.new) (P.choices images.old) (P.choices images.new) (record { content = P.held images.old; faults = P.faults images.old }) (record { content = P.held images.new; faults = P.faults images.new }))) }
+    ensures image_alone { OnImage (job_of words.now) (λ _ _. (result.shelf ≡ files) × (input.new ≡ input.old) × (out.new ≡ out.old) × (err.new ≡ err.old) × (clock.new ≡ clock.old) × (result.status ≡ 5 → images.new ≡ images.old)) }
 {
     match read_words(alloc, words) {
         Ok(Job::Script) => run_script(alloc, input, out, files, clock, full_room()),

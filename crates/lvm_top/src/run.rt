@@ -1,12 +1,10 @@
 //! A run of a script.
-ghost use Rattle.std.specs.Prelude.{◌≡◌, ◌≤◌, ◌<◌, ◌+◌, length, None, IfSome};
+ghost use Rattle.std.specs.Prelude.{◌≡◌, None};
 ghost use Rattle.lvm_disk.specs.Device.{IsReady};
 ghost use Rattle.lvm_io.specs.Count.{Rose};
-ghost use Rattle.lvm_change.specs.Moments.{IsUpheld};
-ghost use Rattle.lvm_stamps.specs.Behind.{IsBehind, IsAhead};
 ghost use Rattle.lvm_core.specs.Starting.{IsRoom};
-ghost use Rattle.lvm_top.specs.Run.{IsRun, WhereAlone};
-ghost use Rattle.lvm_top.specs.Script.{facts_of, run_of};
+ghost use Rattle.lvm_top.specs.Run.{Promises};
+ghost use Rattle.lvm_top.specs.Script.{run_of};
 ghost use Rattle.lvm_top.specs.Statuses.{status_of};
 
 use crate::script::{Stop, do_lines};
@@ -64,11 +62,7 @@ pub fn run_script<S: Shelf, I: Source, O: Sink, C: Clock>(
     requires ready { IsReady (S.device shelf) }
     requires room { IsRoom room }
     ensures clock { Rose (C.last clock.old) (C.last clock.new) }
-    ensures named { IfSome result.history (λ log. Rose (C.last clock.old) log.run × (log.run ≤ C.last clock.new)) }
-    ensures run { IsRun (run_of result.history) (C.last clock.new) room (S.device shelf) (S.device result.shelf) (record { content = I.left input.old; faults = I.faults input.old }) (record { content = I.left input.new; faults = I.faults input.new }) (record { content = O.held out.old; faults = O.faults out.old }) (record { content = O.held out.new; faults = O.faults out.new }) result.history result.status result.refused }
-    // where the run's moment is later than what stands on the disks, and for the first no line made or removed a volume of one group among several
-    ensures upheld { WhereAlone (run_of result.history) (C.last clock.new) room (S.device shelf) (S.device result.shelf) (record { content = I.left input.old; faults = I.faults input.old }) (record { content = I.left input.new; faults = I.faults input.new }) (record { content = O.held out.old; faults = O.faults out.old }) (record { content = O.held out.new; faults = O.faults out.new }) result.history result.status result.refused (IsBehind (run_of result.history) (S.device shelf) → IsUpheld (run_of result.history) (S.device shelf) (S.device result.shelf) (facts_of result.history)) }
-    ensures ahead { IsBehind (run_of result.history) (S.device shelf) → IsAhead (run_of result.history) (C.last clock.new + 1) (S.device result.shelf) (facts_of result.history) }
+    ensures run { Promises (C.last clock.old) (record { named = run_of result.history; last = C.last clock.new; room = room; entry = S.device shelf; exit = S.device result.shelf; input = record { before = record { content = I.left input.old; faults = I.faults input.old }; after = record { content = I.left input.new; faults = I.faults input.new } }; output = record { before = record { content = O.held out.old; faults = O.faults out.old }; after = record { content = O.held out.new; faults = O.faults out.new } }; history = result.history; status = result.status; refused = result.refused }) }
     ensures sim { result.sim ≡ None }
 {
     let run = clock.now();

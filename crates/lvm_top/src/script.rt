@@ -1,13 +1,13 @@
 //! A script, line by line.
-ghost use Rattle.std.specs.Prelude.{◌≡◌, ◌⊎◌, ◌↔◌, ◌+◌, ◌++◌, ◌^◌, if◌then◌else◌, ◌<◌, ◌≤◌, [], ◌∷◌, List, ℕ, length, Some, None, IfSome, IfNone, OnOk, OnErr, IsTrue};
-ghost use Rattle.lvm_disk.specs.Counts.{RoseBy};
+ghost use Rattle.std.specs.Prelude.{◌≡◌, ◌⊎◌, ◌↔◌, ◌+◌, ◌++◌, ◌^◌, if◌then◌else◌, ◌<◌, ◌≤◌, [], Some, None, OnOk, OnErr, IsTrue};
 ghost use Rattle.lvm_io.specs.Count.{Rose};
 ghost use Rattle.lvm_io.specs.Stream.{WhereTold, WritesFront};
 ghost use Rattle.lvm_core.specs.Starting.{IsRoom};
 ghost use Rattle.lvm_line.specs.Replies.{reply_text, IsStuck};
 ghost use Rattle.lvm_line.specs.Stages.{shelf_in, history_in, session_in, state_in, IsSettledStage};
 ghost use Rattle.lvm_line.specs.State.{without_facts};
-ghost use Rattle.lvm_top.specs.Script.{Says, IsWhole, IsPart, is_refused};
+ghost use Rattle.lvm_top.specs.Script.{Says, is_refused};
+ghost use Rattle.lvm_top.specs.Statuses.{GoesUntil};
 
 use lvm_core::Room;
 use lvm_disk::Shelf;
@@ -34,6 +34,7 @@ fn say<O: Sink>(alloc: Global, out: &mut O, answer: Reply) -> (Reply, Result<(),
     ensures front { OnErr result.1 (WhereTold (O.held out.old) (O.held out.new) (λ a b. WritesFront (reply_text result.0) a b)) }
     ensures later { O.faults out.old ≤ O.faults out.new }
     ensures cause { OnErr result.1 (Rose (O.faults out.old) (O.faults out.new)) }
+    ensures well { OnOk result.1 (O.faults out.new ≡ O.faults out.old) }
 {
     match text_of(alloc, &answer) {
         Ok(text) => (answer, write_all(out, text.as_bytes())),
@@ -91,13 +92,8 @@ pub fn do_lines<S: Shelf, I: Source, O: Sink, C: Clock>(
     requires settled { IsSettledStage S.device stage }
     requires room { IsRoom room }
     requires unread { lines.old ≡ record { front = []; block = []; given = 0 } }
-    ensures whole { IfNone result.stop (IsWhole (without_facts (history_in stage)) room (state_in S.device stage (C.last clock.old)) (state_in S.device result.stage (C.last clock.new)) (I.left input.old) (I.left input.new) (O.held out.old) (O.held out.new) result.refused) }
-    ensures part { IsPart (without_facts (history_in stage)) room (state_in S.device stage (C.last clock.old)) (state_in S.device result.stage (C.last clock.new)) (I.left input.old) (O.held out.old) (O.held out.new) result.refused }
-    ensures source { result.stop ≡ Some Stop.SourceFault → Rose (I.faults input.old) (I.faults input.new) }
-    ensures sink { result.stop ≡ Some Stop.SinkFault → Rose (O.faults out.old) (O.faults out.new) }
-    ensures stuck { result.stop ≡ Some Stop.Stuck → RoseBy 1000000 (S.device (shelf_in stage)).counts.waits (S.device (shelf_in result.stage)).counts.waits }
+    ensures goes { GoesUntil result.stop (without_facts (history_in stage)) room (state_in S.device stage (C.last clock.old)) (state_in S.device result.stage (C.last clock.new)) (record { before = record { content = I.left input.old; faults = I.faults input.old }; after = record { content = I.left input.new; faults = I.faults input.new } }) (record { before = record { content = O.held out.old; faults = O.faults out.old }; after = record { content = O.held out.new; faults = O.faults out.new } }) result.refused }
     ensures off { result.stop ≡ Some Stop.Stuck → session_in result.stage ≡ None }
-    ensures long { result.stop ≡ Some Stop.TooLong → WhereTold (I.left input.old) (I.left input.new) (λ a b. 16777216 + length b < length a) }
     ensures settled { (result.stop ≡ Some Stop.Stuck → ⊥) → IsSettledStage S.device result.stage }
     ensures rooms { without_facts (history_in result.stage) ≡ without_facts (history_in stage) }
 {

@@ -1,11 +1,11 @@
-use Rattle.std.proofs.Common.{ap, sym, subst, length, ℕ, List}
+use Rattle.std.proofs.Common.{ap, sym, subst, refl, length, ℕ, List}
 use Rattle.lvm_line.specs.Groups.{MkvgDoes}
 use Rattle.lvm_line.specs.Listings.{GroupShows, VolumeShows, DiskShows}
 use Rattle.lvm_line.specs.Stages.{shelf_in, history_in, session_in, state_in}
 use Rattle.lvm_line.specs.State.{without_facts}
 use Rattle.lvm_line.specs.declared.reply.Reply.{Reply}
 use Rattle.lvm_line.specs.declared.stage.Stage.{Stage}
-use Rattle.lvm_line.proofs.Lining.{of_command}
+use Rattle.lvm_line.proofs.Lining.{of_command, asked_by}
 use Rattle.lvm_line.proofs.Ordering.{stays}
 use Rattle.lvm_line.proofs.line.do_command.Goals as goal
 
@@ -84,3 +84,42 @@ returns-in-Cut-clause-does g c = of_command (without_facts (history_in c.args.st
 
 pub returns-in-Cut-clause-goes : goal.returns-in-Cut-clause-goes
 returns-in-Cut-clause-goes g c = c.do_cut.ensures.goes (g.C.Clock.last c.args.clock.now)
+
+pub returns-in-Mkvg-clause-asked : goal.returns-in-Mkvg-clause-asked
+returns-in-Mkvg-clause-asked g c = asked_by c.args.command _ (g.C.Clock.asked c.args.clock.now) (g.C.Clock.asked c.do_mkvg.new.clock) c.in-Mkvg.is c.do_mkvg.ensures.asked
+
+pub returns-in-Varyon-clause-asked : goal.returns-in-Varyon-clause-asked
+returns-in-Varyon-clause-asked g c = asked_by c.args.command _ (g.C.Clock.asked c.args.clock.now) (g.C.Clock.asked c.do_varyon.new.clock) c.in-Varyon.is c.do_varyon.ensures.asked
+
+pub returns-in-Varyoff-clause-asked : goal.returns-in-Varyoff-clause-asked
+returns-in-Varyoff-clause-asked g c = asked_by c.args.command _ (g.C.Clock.asked c.args.clock.now) (g.C.Clock.asked c.args.clock.now) c.in-Varyoff.is refl
+
+pub returns-in-Lsvg-clause-asked : goal.returns-in-Lsvg-clause-asked
+returns-in-Lsvg-clause-asked g c = asked_by c.args.command _ (g.C.Clock.asked c.args.clock.now) (g.C.Clock.asked c.args.clock.now) c.in-Lsvg.is refl
+
+pub returns-in-Mklv-clause-asked : goal.returns-in-Mklv-clause-asked
+returns-in-Mklv-clause-asked g c = asked_by c.args.command _ (g.C.Clock.asked c.args.clock.now) (g.C.Clock.asked c.args.clock.now) c.in-Mklv.is refl
+
+pub returns-in-Rmlv-clause-asked : goal.returns-in-Rmlv-clause-asked
+returns-in-Rmlv-clause-asked g c = asked_by c.args.command _ (g.C.Clock.asked c.args.clock.now) (g.C.Clock.asked c.args.clock.now) c.in-Rmlv.is refl
+
+pub returns-in-Lslv-clause-asked : goal.returns-in-Lslv-clause-asked
+returns-in-Lslv-clause-asked g c = asked_by c.args.command _ (g.C.Clock.asked c.args.clock.now) (g.C.Clock.asked c.args.clock.now) c.in-Lslv.is refl
+
+pub returns-in-Lspv-clause-asked : goal.returns-in-Lspv-clause-asked
+returns-in-Lspv-clause-asked g c = asked_by c.args.command _ (g.C.Clock.asked c.args.clock.now) (g.C.Clock.asked c.args.clock.now) c.in-Lspv.is refl
+
+pub returns-in-RawRd-clause-asked : goal.returns-in-RawRd-clause-asked
+returns-in-RawRd-clause-asked g c = asked_by c.args.command _ (g.C.Clock.asked c.args.clock.now) (g.C.Clock.asked c.args.clock.now) c.in-RawRd.is refl
+
+pub returns-in-RawWr-clause-asked : goal.returns-in-RawWr-clause-asked
+returns-in-RawWr-clause-asked g c = asked_by c.args.command _ (g.C.Clock.asked c.args.clock.now) (g.C.Clock.asked c.args.clock.now) c.in-RawWr.is refl
+
+pub returns-in-Fail-clause-asked : goal.returns-in-Fail-clause-asked
+returns-in-Fail-clause-asked g c = asked_by c.args.command _ (g.C.Clock.asked c.args.clock.now) (g.C.Clock.asked c.args.clock.now) c.in-Fail.is refl
+
+pub returns-in-Heal-clause-asked : goal.returns-in-Heal-clause-asked
+returns-in-Heal-clause-asked g c = asked_by c.args.command _ (g.C.Clock.asked c.args.clock.now) (g.C.Clock.asked c.args.clock.now) c.in-Heal.is refl
+
+pub returns-in-Cut-clause-asked : goal.returns-in-Cut-clause-asked
+returns-in-Cut-clause-asked g c = asked_by c.args.command _ (g.C.Clock.asked c.args.clock.now) (g.C.Clock.asked c.args.clock.now) c.in-Cut.is refl

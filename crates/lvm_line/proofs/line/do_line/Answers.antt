@@ -1,4 +1,4 @@
-use Rattle.std.proofs.Common.{◌≡◌, ◌∙◌, ap, None, Some, Ok, Option}
+use Rattle.std.proofs.Common.{◌≡◌, ◌∙◌, ap, refl, None, Some, Ok, Option}
 use Rattle.lvm_parse.specs.declared.command.Command.{Command}
 use Rattle.lvm_parse.specs.Reading.{misfit}
 use Rattle.lvm_line.specs.Stages.{shelf_in, history_in, state_in}
@@ -7,7 +7,7 @@ use Rattle.lvm_line.specs.declared.reply.Refusal.TheVariants as refusal
 use Rattle.lvm_line.specs.declared.reply.Reply.TheVariants as reply
 use Rattle.lvm_line.specs.declared.stage.Stage.{Stage}
 use Rattle.lvm_line.proofs.Asking.{line_is_within}
-use Rattle.lvm_line.proofs.Lining.{line_read, line_still, line_unread}
+use Rattle.lvm_line.proofs.Lining.{line_read, line_still, line_unread, asked_once, asked_so}
 use Rattle.lvm_line.proofs.Staging.{asked_stays}
 use Rattle.lvm_line.proofs.line.do_line.Goals as goal
 
@@ -37,3 +37,15 @@ returns-in-Err-Memory-clause-line g c =
     line_unread (without_facts (history_in c.args.stage)) c.args.room c.args.line.now c.refused-in-Err-Memory.result.reply _ _ (c.parse.ensures.memory (cc)) c.refused-in-Err-Memory.ensures.reply
     (asked_stays g.S.Shelf.device c.args.stage c.refused-in-Err-Memory.result.stage (g.C.Clock.last c.args.clock.now) (g.C.Clock.last c.now.new.self) c.now.result c.now.ensures.later c.now.ensures.last c.refused-in-Err-Memory.ensures.stage)
     c.requires.settled (g.met.S.Shelf.sectors_are_whole (shelf_in c.args.stage))
+
+pub returns-in-Ok-None-clause-asked : goal.returns-in-Ok-None-clause-asked
+returns-in-Ok-None-clause-asked g c = asked_so _ (Ok None) (g.C.Clock.asked c.args.clock.now) (g.C.Clock.asked c.args.clock.now) (c.in-Ok-None.ensures.read ∙ ap (λ (o : Option Command). Ok o) c.in-Ok-None.field-0-is) refl
+
+pub returns-in-Ok-Some-clause-asked : goal.returns-in-Ok-Some-clause-asked
+returns-in-Ok-Some-clause-asked g c = asked_so _ (Ok (Some c.in-Ok-Some.command)) (g.C.Clock.asked c.args.clock.now) (g.C.Clock.asked c.do_command.new.clock) (c.in-Ok-Some.ensures.read ∙ ap (λ (o : Option Command). Ok o) c.in-Ok-Some.field-0-is) c.do_command.ensures.asked
+
+pub returns-in-Err-BadLine-clause-asked : goal.returns-in-Err-BadLine-clause-asked
+returns-in-Err-BadLine-clause-asked g c = asked_so _ (misfit c.in-Err-BadLine.column) (g.C.Clock.asked c.args.clock.now) (g.C.Clock.asked c.args.clock.now) ((c.parse.ensures.bad_line c.in-Err-BadLine.column).0 (cc)) refl
+
+pub returns-in-Err-Memory-clause-asked : goal.returns-in-Err-Memory-clause-asked
+returns-in-Err-Memory-clause-asked g c = asked_once _ (g.C.Clock.asked c.args.clock.now) (g.C.Clock.asked c.now.new.self) (c.parse.ensures.memory (cc)) c.now.ensures.asked

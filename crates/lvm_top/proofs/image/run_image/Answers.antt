@@ -12,4 +12,4 @@ loop-preserved g c =
     one_more (65536 * c.loop.counter) 65536 (g.O.Sink.held c.args.out.now) (g.O.Sink.held c.loop.out) (g.O.Sink.held c.write_all.new.out) (g.O.Sink.faults c.args.out.now) (g.O.Sink.faults c.loop.out) (g.O.Sink.faults c.write_all.new.out)
     c.loop.invariant.0 c.in-Ok.ensures.whole c.write_all.ensures.later in
     let sum : 65536 * c.loop.counter + 65536 ≡ 65536 * (c.loop.counter + 1) = omega arith in
-    (subst (λ (n : ℕ). BlankSoFar n (g.O.Sink.held c.args.out.now) (g.O.Sink.held c.write_all.new.out) (g.O.Sink.faults c.args.out.now) (g.O.Sink.faults c.write_all.new.out)) sum more, c.write_all.ensures.image ∙ c.loop.invariant.1)
+    (subst (λ (n : ℕ). BlankSoFar n (g.O.Sink.held c.args.out.now) (g.O.Sink.held c.write_all.new.out) (g.O.Sink.faults c.args.out.now) (g.O.Sink.faults c.write_all.new.out)) sum more, (c.write_all.ensures.image.0 ∙ c.loop.invariant.1.0, c.write_all.ensures.image.1 ∙ c.loop.invariant.1.1))

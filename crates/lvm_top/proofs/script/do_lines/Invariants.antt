@@ -1,4 +1,4 @@
-use Rattle.std.proofs.Common.{◌≡◌, ◌≤◌}
+use Rattle.std.proofs.Common.{◌≡◌}
 use Rattle.lvm_line.specs.Stages.{history_in, state_in, IsSettledStage}
 use Rattle.lvm_line.specs.State.{without_facts}
 use Rattle.lvm_top.proofs.Scripting.{RunSoFar}
@@ -10,6 +10,6 @@ invariant-loop g l = record {
       (g.I.Source.left l.fn.input) (g.I.Source.left l.input) (g.O.Sink.held l.fn.out) (g.O.Sink.held l.out) l.refused l.counter;
   settled : IsSettledStage g.S.Shelf.device l.stage;
   rooms : without_facts (history_in l.stage) ≡ without_facts (history_in l.fn.stage);
-  source : g.I.Source.faults l.fn.input ≤ g.I.Source.faults l.input;
-  sink : g.O.Sink.faults l.fn.out ≤ g.O.Sink.faults l.out;
+  source : g.I.Source.faults l.input ≡ g.I.Source.faults l.fn.input;
+  sink : g.O.Sink.faults l.out ≡ g.O.Sink.faults l.fn.out;
 }
