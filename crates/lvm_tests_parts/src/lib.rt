@@ -22,8 +22,4 @@ mod show_word;
 #[cfg(test)]
 mod status;
 #[cfg(test)]
-mod turn;
-#[cfg(test)]
-mod vol;
-#[cfg(test)]
 mod words;
