@@ -20,6 +20,8 @@ mod show_listing;
 #[cfg(test)]
 mod show_word;
 #[cfg(test)]
+mod stale;
+#[cfg(test)]
 mod status;
 #[cfg(test)]
 mod words;
