@@ -99,16 +99,20 @@ fn long_line(rt: &(impl Abort + AllocGlobal), size: usize) -> (NextLine, NextLin
 }
 
 #[test]
-fn sixteen_mebibytes_are_read_and_no_byte_more(rt: HostRuntime) {
+fn sixteen_mebibytes_are_a_line(rt: HostRuntime) {
     let most = MOST_BYTES as usize;
     let whole = match long_line(&rt, most) {
         (NextLine::Line(line), NextLine::End) => line.len() == most,
         _ => false,
     };
-    check(&rt, whole, "all of them");
-    let longer = long_line(&rt, most + 1);
+    check(&rt, whole, "the line");
+}
+
+#[test]
+fn a_byte_more_is_too_long(rt: HostRuntime) {
+    let longer = long_line(&rt, MOST_BYTES as usize + 1);
     let too_long = matches!(longer, (NextLine::TooLong, NextLine::TooLong));
-    check(&rt, too_long, "a byte more");
+    check(&rt, too_long, "both answers");
 }
 
 #[test]

@@ -20,10 +20,8 @@ mod show_listing;
 #[cfg(test)]
 mod show_word;
 #[cfg(test)]
+mod stale;
+#[cfg(test)]
 mod status;
-#[cfg(test)]
-mod turn;
-#[cfg(test)]
-mod vol;
 #[cfg(test)]
 mod words;

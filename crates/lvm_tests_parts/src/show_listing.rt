@@ -146,7 +146,7 @@ fn a_new_group_is_listed(rt: HostRuntime) {
 fn a_group_without_volumes_lists_none(rt: HostRuntime) {
     let d = empty(&rt, &DISKS, true);
     let shown = volumes(&rt, &d, &fresh(&rt, &[0, 1, 2]));
-    check(&rt, shown.is_empty(), "no line");
+    check(&rt, shown.as_str().is_empty(), "no line");
 }
 
 static LISTS: [(List, &str); 7] = [
@@ -210,7 +210,7 @@ fn large(rt: &(impl Abort + AllocGlobal)) -> Descriptor {
 }
 
 // Logical partitions from 0, with their lines, which are of 17 bytes each.
-static LINES: [(usize, &str); 8] = [
+static LINES: [(u16, &str); 8] = [
     (0, "0001 0001 hdisk0\n"),
     (8, "0009 0009 hdisk0\n"),
     (9, "0010 0010 hdisk0\n"),
@@ -221,12 +221,16 @@ static LINES: [(usize, &str); 8] = [
     (9_998, "9999 0855 hdisk9\n"),
 ];
 
+fn line_at(text: &Text, lp: u16) -> Option<&[u8]> {
+    let at = 17 * usize::from(lp);
+    text.as_bytes().get(at..at + 17)
+}
+
 #[test]
 fn numbers_have_four_digits_or_more(rt: HostRuntime) {
     let shown = map(&rt, &large(&rt), &fresh(&rt, &[0]), 1);
     for (lp, text) in &LINES {
-        let line = shown.as_bytes().get(lp * 17..lp * 17 + 17);
-        check(&rt, line == Some(text.as_bytes()), text);
+        check(&rt, line_at(&shown, *lp) == Some(text.as_bytes()), text);
     }
     check(
         &rt,

@@ -10,8 +10,6 @@ mod num;
 #[cfg(test)]
 mod rec;
 #[cfg(test)]
-mod stale;
-#[cfg(test)]
 mod vgda;
 #[cfg(test)]
 mod vgsa;

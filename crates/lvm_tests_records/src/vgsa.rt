@@ -102,15 +102,22 @@ fn a_row_has_its_disk_and_its_marks(rt: HostRuntime) {
     );
 }
 
+// Where the status ends once it is written over the first of these bytes.
+fn written(rt: &(impl Abort + AllocGlobal), status: &Status, into: &mut [u8]) -> usize {
+    let valid = status.is_valid();
+    assert!(rt; valid);
+    let bytes = encode(rt.alloc(), status).expect(rt, "memory");
+    let fits = bytes.len() <= into.len();
+    assert!(rt; fits);
+    encode_into(status, into)
+}
+
 #[test]
 fn what_follows_stays(rt: HostRuntime) {
     let status = status_of(&rt, false, 1, &[]);
     let bytes = encoded(&rt, &status);
     let mut into = [0xa5; 150];
-    let fits = bytes.len() <= into.len();
-    assert!(rt; fits);
-    let end = encode_into(&status, &mut into);
-    check(&rt, end == 148, "the end");
+    check(&rt, written(&rt, &status, &mut into) == 148, "the end");
     check(&rt, into.starts_with(bytes.as_slice()), "the status");
     check(&rt, into.ends_with(&[0xa5, 0xa5]), "what follows");
 }

@@ -1,7 +1,7 @@
 use Rattle.std.proofs.Common.{None, [], ◌∷◌}
-use Rattle.lvm_tests_parts.specs.declared.turn.Desk.{Desk}
+use Rattle.lvm_tests_history.specs.declared.turn.Desk.{Desk}
 use Rattle.lvm_turn.proofs.Idle.{idle_first}
-use Rattle.lvm_tests_parts.proofs.turn.opened.Goals as goal
+use Rattle.lvm_tests_history.proofs.turn.opened.Goals as goal
 
 pub returns-clause-idle : goal.returns-clause-idle
 returns-clause-idle g c =

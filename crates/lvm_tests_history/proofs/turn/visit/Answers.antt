@@ -3,7 +3,7 @@ use Rattle.std.proofs.lemmas.List.{append-nil}
 use Rattle.lvm_vol.proofs.Growing.{none_fell}
 use Rattle.lvm_turn.proofs.Leaving.{may_leave}
 use Rattle.lvm_turn.proofs.Idle.{idle_holds, idle_left}
-use Rattle.lvm_tests_parts.proofs.turn.visit.Goals as goal
+use Rattle.lvm_tests_history.proofs.turn.visit.Goals as goal
 
 pub enter-value-requires-clause-holds : goal.enter-value-requires-clause-holds
 enter-value-requires-clause-holds g c = (c.args.client, idle_holds c.args.turn.now.table (c.args.client ∷ []) c.args.pass c.requires c.args.client (inl refl))

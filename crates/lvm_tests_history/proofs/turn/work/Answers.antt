@@ -2,7 +2,7 @@ use Rattle.std.proofs.Common.{ℕ, [], ◌∷◌, ap, sym, subst, inl, refl}
 use Rattle.lvm_turn.specs.Views.{Holds}
 use Rattle.lvm_turn.proofs.Leaving.{may_leave}
 use Rattle.lvm_turn.proofs.Idle.{idle_holds, idle_left}
-use Rattle.lvm_tests_parts.proofs.turn.work.Goals as goal
+use Rattle.lvm_tests_history.proofs.turn.work.Goals as goal
 
 pub enter-desk-requires-clause-holds : goal.enter-desk-requires-clause-holds
 enter-desk-requires-clause-holds g c = (c.args.client, idle_holds c.args.turn.now.table (c.args.client ∷ []) c.loop.pass c.loop.invariant c.args.client (inl refl))

@@ -1,6 +1,6 @@
 use Rattle.std.proofs.Common.{[], ◌∷◌, inl, refl}
 use Rattle.lvm_turn.proofs.Idle.{idle_without, idle_alone, idle_holds}
-use Rattle.lvm_tests_parts.proofs.turn.opened_for_two.Goals as goal
+use Rattle.lvm_tests_history.proofs.turn.opened_for_two.Goals as goal
 
 pub split-two-requires-clause-holds : goal.split-two-requires-clause-holds
 split-two-requires-clause-holds g c = idle_holds c.opened-turn.result.0.table (2 ∷ 1 ∷ []) c.opened-turn.result.1 c.opened-turn.ensures.idle 2 (inl refl)

@@ -1,0 +1,9 @@
+//! Tests of histories and of the turn that lends them, by public calls alone.
+#![tactic(auto)]
+
+#[cfg(test)]
+mod fixtures;
+#[cfg(test)]
+mod turn;
+#[cfg(test)]
+mod vol;
