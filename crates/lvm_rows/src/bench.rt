@@ -4,7 +4,7 @@ use crate::fault::Fault;
 use crate::outside::Outside;
 use crate::parse;
 use crate::print::{print_line, print_run, print_words};
-use crate::run::{Sizes, blank, restarted, run};
+use crate::run::{Ran, Sizes, blank, restarted, run};
 use crate::script::Script;
 use crate::sweep::{Swept, Swing, sweep};
 use lvm_disk::MemShelf;
@@ -114,7 +114,8 @@ impl Bench {
             self.sizes.entries,
         )?;
         print_run(alloc, &ran, self.watched, out)?;
-        self.left = Some(ran.ended.shelf);
+        let Ran { ended, out: _ } = ran;
+        self.left = Some(ended.shelf);
         self.script = Script::new(alloc);
         self.outside = Outside::new(alloc);
         Ok(())

@@ -75,17 +75,37 @@ fn ending(alloc: Global, before: &[u8], ran: &Ran, judged: &str) -> Result<Vec<u
     Ok(line)
 }
 
+// A call of the marked lines: its number, and whether it starts a transfer. The next one ends it.
+#[derive(Clone, Copy)]
+struct Call {
+    number: u64,
+    starts: bool,
+}
+
+// Whether the act at this call may leave what no other one does: before a start nothing is under way for a cut to leave
+// in part, and a disk that fails before the end of a transfer fails the same ones as before its start.
+fn may_differ(act: Act, call: Call) -> bool {
+    match act {
+        Act::Cut(word) => word == 0 || !call.starts,
+        Act::Fail(_) => call.starts,
+        _ => true,
+    }
+}
+
 // The answers with each act at a call.
 fn sweep_call(
     alloc: Global,
     swept: &Swept,
     swing: &Swing,
-    call: u64,
+    call: Call,
     before: &[u8],
     endings: &mut BTreeSet<Vec<u8>>,
 ) -> Result<(), Fault> {
     for act in swing.acts {
-        let plan = plan_at(alloc, swept, call, *act, swing.again)?;
+        if !may_differ(*act, call) {
+            continue;
+        }
+        let plan = plan_at(alloc, swept, call.number, *act, swing.again)?;
         let ran = try_lines(alloc, swept, swept.script.text(), &plan)?;
         let judged = judged(&ran.ended, swept.watched);
         endings.insert(ending(alloc, before, &ran, judged)?)?;
@@ -99,7 +119,11 @@ pub fn sweep(alloc: Global, swept: &Swept, swing: &Swing) -> Result<BTreeSet<Vec
     let through = try_lines(alloc, swept, swept.script.through(), &swept.outside.plan)?;
     let first = before.ended.shelf.calls().saturating_add(1);
     let mut endings = BTreeSet::new(alloc);
-    for call in first..=through.ended.shelf.calls() {
+    for number in first..=through.ended.shelf.calls() {
+        let call = Call {
+            number,
+            starts: number.abs_diff(first) % 2 == 0,
+        };
         sweep_call(alloc, swept, swing, call, before.out.bytes(), &mut endings)?;
     }
     Ok(endings)

@@ -1,13 +1,10 @@
-//! Tests of the layer below, by its public calls alone.
+//! Tests of the top calls of which the stored run of `lvm_rows` can't tell: what is given back beside the replies, new
+//! images, and files.
 #![tactic(auto)]
 
 #[cfg(test)]
-mod program;
+mod files;
 #[cfg(test)]
-mod top;
+mod given;
 #[cfg(test)]
-mod top_bench;
-#[cfg(test)]
-mod top_group;
-#[cfg(test)]
-mod top_volume;
+mod outside;

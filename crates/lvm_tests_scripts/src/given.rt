@@ -1,0 +1,69 @@
+// What a run by words gives back, and the images that it makes.
+
+use crate::outside::{sink, source, texts};
+use lvm_disk::{MemShelf, Shelf};
+use lvm_io::{MemClock, MemSink};
+use lvm_num::Rows;
+use lvm_top::{Ended, run_words};
+use std::process::Abort;
+
+const WRITE: &[u8] = b"wr hdisk0 4096 1 0000000000000001\n";
+
+// A run by words over files that are one disk of 4,100 sectors, and its images.
+fn ended(rt: &(impl Abort + AllocGlobal), words: &[&str], images: &mut MemSink) -> Ended<MemShelf> {
+    let alloc = rt.alloc();
+    let texts = texts(rt, words);
+    let files = MemShelf::new(alloc, &[4_100], Rows::empty(alloc), 8).expect(rt, "files");
+    let mut input = source(rt, WRITE);
+    let mut out = sink(rt, 64);
+    let mut err = sink(rt, 64);
+    run_words(
+        alloc,
+        &texts,
+        &mut input,
+        &mut out,
+        &mut err,
+        &mut MemClock::new(7),
+        files,
+        images,
+    )
+}
+
+// The last byte of the first data sector of a shelf's first disk.
+fn last_byte(shelf: &MemShelf) -> Option<u8> {
+    if shelf.disks() == 0 {
+        return None;
+    }
+    shelf.image(0).get(4_096 * 512 + 511).copied()
+}
+
+#[test]
+fn a_script_leaves_its_block_on_the_files(rt: HostRuntime) {
+    let ended = ended(&rt, &["script"], &mut sink(&rt, 0));
+    assert_eq!(rt; (ended.status, ended.refused), (0, 0));
+    assert_eq!(rt; last_byte(&ended.shelf), Some(1));
+    assert!(rt; ended.sim.is_none());
+    let history = ended.history.expect(&rt, "a history");
+    assert_eq!(rt; (history.run(), history.len()), (7, 3));
+}
+
+#[test]
+fn a_simulation_leaves_the_files_and_gives_its_disks_back(rt: HostRuntime) {
+    let ended = ended(&rt, &["sim", "1", "8"], &mut sink(&rt, 0));
+    assert_eq!(rt; (ended.status, ended.refused), (0, 0));
+    assert_eq!(rt; last_byte(&ended.shelf), Some(0));
+    let sim = ended.sim.expect(&rt, "disks");
+    assert_eq!(rt; last_byte(&sim), Some(1));
+}
+
+#[test]
+fn an_image_is_zeros_as_far_as_there_is_room(rt: HostRuntime) {
+    for (room, status) in [(2_097_152, 0), (2_097_151, 4)] {
+        let mut images = sink(&rt, room);
+        let ended = ended(&rt, &["image", "127", "2"], &mut images);
+        assert_eq!(rt; ended.status, status);
+        assert_eq!(rt; images.bytes().len(), room);
+        assert!(rt; images.bytes().iter().all(|byte| *byte == 0));
+        assert!(rt; ended.history.is_none());
+    }
+}
