@@ -12,4 +12,3 @@ pub use fault::VgsaFault;
 pub use laws::written_is_read;
 pub use reading::decode;
 pub use writing::{encode, encode_into};
-

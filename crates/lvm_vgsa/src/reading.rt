@@ -81,11 +81,11 @@ fn id_at(unread: Unread) -> Result<(u64, Unread), VgsaFault>
     ensures read { Gives (λ x. (x.0, rest_of x.1)) result (number_at w64 (λ n. not (n == 0)) (rest_of unread.entry)) }
     ensures end { IfOk result (λ x. x.1.place ≡ unread.entry.place + 8) }
 {
-    let (id, after) = u64_at(unread)?;
-    if id == 0 {
+    let read = u64_at(unread);
+    if let Ok((0, _)) = &read {
         return Err(bad_at(unread));
     }
-    Ok((id, after))
+    read
 }
 
 // How many rows follow, by the version.
@@ -95,12 +95,14 @@ fn count_at(version: u8, unread: Unread) -> Result<(u16, Unread), VgsaFault>
     ensures few { IfOk result (λ x. x.0 ≤ 128) }
     ensures end { IfOk result (λ x. x.1.place ≡ unread.entry.place + 2) }
 {
-    let (count, after) = u16_at(unread)?;
     let most = if version >= 2 { 128 } else { 32 };
-    if count == 0 || count > most {
+    let read = u16_at(unread);
+    if let Ok((count, _)) = &read
+        && (*count == 0 || *count > most)
+    {
         return Err(bad_at(unread));
     }
-    Ok((count, after))
+    read
 }
 
 // What tells in version 3 whether the group is big: 0 in other versions.
@@ -109,16 +111,24 @@ fn size_at(version: u8, count: u16, unread: Unread) -> Result<(u16, Unread), Vgs
     ensures read { Gives (λ x. (x.0, rest_of x.1)) result (number_at w16 (λ n. if version == 3 then nat_le n 1 && (n == 1 || nat_le count 32) else n == 0) (rest_of unread.entry)) }
     ensures end { IfOk result (λ x. x.1.place ≡ unread.entry.place + 2) }
 {
-    let (size, after) = u16_at(unread)?;
-    let fits = if version == 3 {
+    let read = u16_at(unread);
+    if let Ok((size, _)) = &read
+        && !is_size(version, count, *size)
+    {
+        return Err(bad_at(unread));
+    }
+    read
+}
+
+// Whether a status of the version with so many rows has this where version 3 tells whether the group is big.
+fn is_size(version: u8, count: u16, size: u16) -> bool
+    ensures { result ≡ (if version == 3 then nat_le size 1 && (size == 1 || nat_le count 32) else size == 0) }
+{
+    if version == 3 {
         size == 1 || size == 0 && count <= 32
     } else {
         size == 0
-    };
-    if !fits {
-        return Err(bad_at(unread));
     }
-    Ok((size, after))
 }
 
 // How many rows follow, and whether the group is big.
@@ -142,11 +152,13 @@ fn disk_at<'a>(earlier: &[StatusRow], unread: Unread<'a>) -> Result<(u16, Unread
     ensures behind { IfOk result (λ x. IsTrue (list_all (λ (row : status_row). nat_lt row.disk x.0) earlier.now)) }
     ensures end { IfOk result (λ x. x.1.place ≡ unread.entry.place + 2) }
 {
-    let (disk, after) = u16_at(unread)?;
-    if disk >= DISKS || !is_behind(disk, earlier) {
+    let read = u16_at(unread);
+    if let Ok((disk, _)) = &read
+        && (*disk >= DISKS || !is_behind(*disk, earlier))
+    {
         return Err(bad_at(unread));
     }
-    Ok((disk, after))
+    read
 }
 
 // Whether a disk comes after those of rows that rise.
@@ -165,11 +177,13 @@ fn flag_at(unread: Unread) -> Result<(u8, Unread), VgsaFault>
     ensures read { Gives (λ x. (x.0, rest_of x.1)) result (number_at w8 is_flag (rest_of unread.entry)) }
     ensures end { IfOk result (λ x. x.1.place ≡ unread.entry.place + 1) }
 {
-    let (flag, after) = u8_at(unread)?;
-    if flag > 1 {
+    let read = u8_at(unread);
+    if let Ok((flag, _)) = &read
+        && *flag > 1
+    {
         return Err(bad_at(unread));
     }
-    Ok((flag, after))
+    read
 }
 
 fn marks_at(unread: Unread) -> Result<([u8; 127], Unread), VgsaFault>
@@ -234,11 +248,13 @@ fn number_at<'a>(earlier: &[u16], unread: Unread<'a>) -> Result<(u16, Unread<'a>
     ensures behind { IfOk result (λ x. IsTrue (list_all (λ m. nat_lt m x.0) earlier.now)) }
     ensures end { IfOk result (λ x. x.1.place ≡ unread.entry.place + 2) }
 {
-    let (number, after) = u16_at(unread)?;
-    if number == 0 || number > MOST_VOLUMES || !is_above(number, earlier) {
+    let read = u16_at(unread);
+    if let Ok((number, _)) = &read
+        && (*number == 0 || *number > MOST_VOLUMES || !is_above(*number, earlier))
+    {
         return Err(bad_at(unread));
     }
-    Ok((number, after))
+    read
 }
 
 // Whether a number comes after others that rise.
@@ -259,11 +275,13 @@ fn dirty_count_at(unread: Unread) -> Result<(u16, Unread), VgsaFault>
     ensures few { IfOk result (λ x. x.0 ≤ 511) }
     ensures end { IfOk result (λ x. x.1.place ≡ unread.entry.place + 2) }
 {
-    let (count, after) = u16_at(unread)?;
-    if count == 0 || count > MOST_VOLUMES {
+    let read = u16_at(unread);
+    if let Ok((count, _)) = &read
+        && (*count == 0 || *count > MOST_VOLUMES)
+    {
         return Err(bad_at(unread));
     }
-    Ok((count, after))
+    read
 }
 
 fn numbers_at(
