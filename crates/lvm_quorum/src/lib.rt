@@ -17,4 +17,3 @@ pub use laws::{records_are_old_or_new, records_may_be_written, written_is_newest
 pub use lvm_survey::{Survey, SurveyRow, Surveyed, survey_disks};
 pub use notes::empty_notes;
 pub use write::{Wrote, write_record};
-
