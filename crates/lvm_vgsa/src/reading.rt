@@ -7,7 +7,8 @@ ghost use Rattle.lvm_num.specs.declared.status.Status.{Status as status};
 ghost use Rattle.lvm_num.specs.Descriptor.{most_members};
 ghost use Rattle.lvm_num.specs.DescriptorBytes.{is_flag};
 ghost use Rattle.lvm_num.specs.Reading.{bytes_at, number_at};
-ghost use Rattle.lvm_num.specs.StatusBytes.{IsStatus, status_version_at, rows_and_size_at, status_row_at, status_rows_at, numbers_at, dirty_at, status_of};
+ghost use Rattle.lvm_num.specs.StatusBytes.{IsStatus, status_version_at, rows_and_size_at, status_rows_at, numbers_at, dirty_at, status_of};
+ghost use Rattle.lvm_vgsa.specs.Parts.{head_at, status_by_parts, disk_and_missing_at, row_by_parts};
 ghost use Rattle.lvm_vgsa.specs.Reading.{Gives, rest_of};
 
 use crate::VgsaFault;
@@ -29,13 +30,11 @@ pub fn decode(alloc: Global, bytes: &[u8]) -> Result<Status, VgsaFault>
     status_at(alloc, bytes)
 }
 
-#[tactic(auto, unfolding(lvm_num::specs::StatusBytes::status_of))]
+#[tactic(auto, unfolding(crate::specs::Parts::status_by_parts))]
 fn status_at(alloc: Global, bytes: &[u8]) -> Result<Status, VgsaFault>
-    ensures { Gives (λ x. x) result (status_of bytes.now) }
+    ensures { Gives (λ x. x) result (status_by_parts bytes.now) }
 {
-    let (version, unread) = version_at(Unread { place: 0, bytes })?;
-    let (id, unread) = id_at(unread)?;
-    let ((count, big), unread) = rows_and_size_at(version, unread)?;
+    let ((version, id, count, big), unread) = head_at(bytes)?;
     let (rows, unread) = rows_at(alloc, count, unread)?;
     let (dirty, unread) = dirty_at(alloc, version, unread)?;
     if !unread.bytes.is_empty() {
@@ -47,6 +46,19 @@ fn status_at(alloc: Global, bytes: &[u8]) -> Result<Status, VgsaFault>
         dirty,
         rows: Rows::new(rows),
     })
+}
+
+// The version, the group's id, how many rows follow, and whether the group is big.
+#[tactic(auto, unfolding(crate::specs::Parts::head_at))]
+fn head_at(bytes: &[u8]) -> Result<((u8, u64, u16, bool), Unread<'_>), VgsaFault>
+    ensures read { Gives (λ x. (x.0, rest_of x.1)) result (head_at (0, bytes.now)) }
+    ensures few { IfOk result (λ x. x.0.2 ≤ 128) }
+    ensures end { IfOk result (λ x. x.1.place ≡ 16) }
+{
+    let (version, unread) = version_at(Unread { place: 0, bytes })?;
+    let (id, unread) = id_at(unread)?;
+    let ((count, big), unread) = rows_and_size_at(version, unread)?;
+    Ok(((version, id, count, big), unread))
 }
 
 fn bad_at(unread: Unread) -> VgsaFault
@@ -197,23 +209,20 @@ fn marks_at(unread: Unread) -> Result<([u8; 127], Unread), VgsaFault>
     Ok((marks, after))
 }
 
-#[tactic(auto, unfolding(lvm_num::specs::StatusBytes::status_row_at))]
+#[tactic(auto, unfolding(crate::specs::Parts::row_by_parts))]
 fn row_at<'a>(
     earlier: &[StatusRow],
     unread: Unread<'a>,
 ) -> Result<(StatusRow, Unread<'a>), VgsaFault>
     requires begin { unread.place < 2 ^ 15 }
     requires rising { AllPairs (λ (a b : status_row). a.disk < b.disk) earlier.now }
-    ensures read { Gives (λ x. (x.0, rest_of x.1)) result (status_row_at earlier.now (rest_of unread.entry)) }
+    ensures read { Gives (λ x. (x.0, rest_of x.1)) result (row_by_parts earlier.now (rest_of unread.entry)) }
     ensures behind { IfOk result (λ x. IsTrue (list_all (λ (row : status_row). nat_lt row.disk x.0.disk) earlier.now)) }
     ensures end { IfOk result (λ x. x.1.place ≡ unread.entry.place + 132) }
 {
-    let (disk, unread) = disk_at(earlier, unread)?;
-    let (missing, unread) = flag_at(unread)?;
-    let unread = zero_at(unread)?;
+    let ((disk, missing), unread) = disk_and_missing_at(earlier, unread)?;
     let (stale, unread) = marks_at(unread)?;
     let unread = zero_at(unread)?;
-    let missing = missing == 1;
     Ok((
         StatusRow {
             disk,
@@ -222,6 +231,24 @@ fn row_at<'a>(
         },
         unread,
     ))
+}
+
+// The disk of a row that follows the earlier ones, and whether it is missing.
+#[tactic(auto, unfolding(crate::specs::Parts::disk_and_missing_at))]
+fn disk_and_missing_at<'a>(
+    earlier: &[StatusRow],
+    unread: Unread<'a>,
+) -> Result<((u16, bool), Unread<'a>), VgsaFault>
+    requires begin { unread.place < 2 ^ 15 }
+    requires rising { AllPairs (λ (a b : status_row). a.disk < b.disk) earlier.now }
+    ensures read { Gives (λ x. (x.0, rest_of x.1)) result (disk_and_missing_at earlier.now (rest_of unread.entry)) }
+    ensures behind { IfOk result (λ x. IsTrue (list_all (λ (row : status_row). nat_lt row.disk x.0.0) earlier.now)) }
+    ensures end { IfOk result (λ x. x.1.place ≡ unread.entry.place + 4) }
+{
+    let (disk, unread) = disk_at(earlier, unread)?;
+    let (missing, unread) = flag_at(unread)?;
+    let unread = zero_at(unread)?;
+    Ok(((disk, missing == 1), unread))
 }
 
 fn rows_at(alloc: Global, count: u16, unread: Unread) -> Result<(Vec<StatusRow>, Unread), VgsaFault>
