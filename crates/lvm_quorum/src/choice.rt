@@ -1,4 +1,5 @@
 //! Which group a name chooses.
+ghost use Rattle.std.specs.Prelude.{◌≡◌, IfOk};
 ghost use Rattle.lvm_survey.specs.Surveyed.{surveyed, IsSurveyValid};
 ghost use Rattle.lvm_quorum.specs.Choosing.{ChooseGives};
 ghost use Rattle.lvm_quorum.specs.Groups.{GroupGives};
@@ -7,7 +8,7 @@ ghost use Rattle.lvm_survey.specs.Rows.{AreRows};
 use crate::copies::{copy_of_descriptor, copy_of_status};
 use crate::groups::{greatest_epoch, group_of};
 use crate::names::{first_named, has_record, other_named};
-use lvm_num::{Descriptor, DiskSet, Name, Status};
+use lvm_num::{Descriptor, DiskSet, Memory, Name, Status};
 use lvm_survey::Survey;
 use std::alloc::Global;
 
@@ -75,16 +76,27 @@ fn choice_of(alloc: Global, survey: &Survey, id: u64) -> Result<Choice, ChooseFa
         let total = descriptor.total_votes();
         return Err(ChooseFault::NoQuorum { have, total });
     }
-    let Ok(descriptor) = copy_of_descriptor(alloc, descriptor) else {
-        return Err(ChooseFault::Memory);
-    };
-    let Ok(status) = copy_of_status(alloc, status.value) else {
-        return Err(ChooseFault::Memory);
-    };
-    Ok(Choice {
-        descriptor,
-        status,
-        answering: group.voters,
-        seen: greatest_epoch(survey, id),
-    })
+    match copies(alloc, descriptor, status.value) {
+        Ok((descriptor, status)) => Ok(Choice {
+            descriptor,
+            status,
+            answering: group.voters,
+            seen: greatest_epoch(survey, id),
+        }),
+        Err(Memory) => Err(ChooseFault::Memory),
+    }
+}
+
+// A descriptor and a status that say the same.
+fn copies(
+    alloc: Global,
+    descriptor: &Descriptor,
+    status: &Status,
+) -> Result<(Descriptor, Status), Memory>
+    ensures descriptor { IfOk result (λ made. made.0 ≡ descriptor.now) }
+    ensures status { IfOk result (λ made. made.1 ≡ status.now) }
+{
+    let descriptor = copy_of_descriptor(alloc, descriptor)?;
+    let status = copy_of_status(alloc, status)?;
+    Ok((descriptor, status))
 }

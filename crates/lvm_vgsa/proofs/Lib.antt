@@ -1,6 +1,7 @@
 pub mod Fields
 pub mod Many
 pub mod Orders
+pub mod PartLaws
 pub mod Pieces
 pub mod RoundTrip
 pub mod Rows

@@ -1,3 +1,4 @@
 pub mod Laws
+pub mod Parts
 pub mod Putting
 pub mod Reading

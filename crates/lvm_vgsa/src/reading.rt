@@ -7,7 +7,8 @@ ghost use Rattle.lvm_num.specs.declared.status.Status.{Status as status};
 ghost use Rattle.lvm_num.specs.Descriptor.{most_members};
 ghost use Rattle.lvm_num.specs.DescriptorBytes.{is_flag};
 ghost use Rattle.lvm_num.specs.Reading.{bytes_at, number_at};
-ghost use Rattle.lvm_num.specs.StatusBytes.{IsStatus, status_version_at, rows_and_size_at, status_row_at, status_rows_at, numbers_at, dirty_at, status_of};
+ghost use Rattle.lvm_num.specs.StatusBytes.{IsStatus, status_version_at, rows_and_size_at, status_rows_at, numbers_at, dirty_at, status_of};
+ghost use Rattle.lvm_vgsa.specs.Parts.{head_at, status_by_parts, disk_and_missing_at, row_by_parts};
 ghost use Rattle.lvm_vgsa.specs.Reading.{Gives, rest_of};
 
 use crate::VgsaFault;
@@ -29,13 +30,11 @@ pub fn decode(alloc: Global, bytes: &[u8]) -> Result<Status, VgsaFault>
     status_at(alloc, bytes)
 }
 
-#[tactic(auto, unfolding(lvm_num::specs::StatusBytes::status_of))]
+#[tactic(auto, unfolding(crate::specs::Parts::status_by_parts))]
 fn status_at(alloc: Global, bytes: &[u8]) -> Result<Status, VgsaFault>
-    ensures { Gives (λ x. x) result (status_of bytes.now) }
+    ensures { Gives (λ x. x) result (status_by_parts bytes.now) }
 {
-    let (version, unread) = version_at(Unread { place: 0, bytes })?;
-    let (id, unread) = id_at(unread)?;
-    let ((count, big), unread) = rows_and_size_at(version, unread)?;
+    let ((version, id, count, big), unread) = head_at(bytes)?;
     let (rows, unread) = rows_at(alloc, count, unread)?;
     let (dirty, unread) = dirty_at(alloc, version, unread)?;
     if !unread.bytes.is_empty() {
@@ -47,6 +46,19 @@ fn status_at(alloc: Global, bytes: &[u8]) -> Result<Status, VgsaFault>
         dirty,
         rows: Rows::new(rows),
     })
+}
+
+// The version, the group's id, how many rows follow, and whether the group is big.
+#[tactic(auto, unfolding(crate::specs::Parts::head_at))]
+fn head_at(bytes: &[u8]) -> Result<((u8, u64, u16, bool), Unread<'_>), VgsaFault>
+    ensures read { Gives (λ x. (x.0, rest_of x.1)) result (head_at (0, bytes.now)) }
+    ensures few { IfOk result (λ x. x.0.2 ≤ 128) }
+    ensures end { IfOk result (λ x. x.1.place ≡ 16) }
+{
+    let (version, unread) = version_at(Unread { place: 0, bytes })?;
+    let (id, unread) = id_at(unread)?;
+    let ((count, big), unread) = rows_and_size_at(version, unread)?;
+    Ok(((version, id, count, big), unread))
 }
 
 fn bad_at(unread: Unread) -> VgsaFault
@@ -81,11 +93,11 @@ fn id_at(unread: Unread) -> Result<(u64, Unread), VgsaFault>
     ensures read { Gives (λ x. (x.0, rest_of x.1)) result (number_at w64 (λ n. not (n == 0)) (rest_of unread.entry)) }
     ensures end { IfOk result (λ x. x.1.place ≡ unread.entry.place + 8) }
 {
-    let (id, after) = u64_at(unread)?;
-    if id == 0 {
+    let read = u64_at(unread);
+    if let Ok((0, _)) = &read {
         return Err(bad_at(unread));
     }
-    Ok((id, after))
+    read
 }
 
 // How many rows follow, by the version.
@@ -95,12 +107,14 @@ fn count_at(version: u8, unread: Unread) -> Result<(u16, Unread), VgsaFault>
     ensures few { IfOk result (λ x. x.0 ≤ 128) }
     ensures end { IfOk result (λ x. x.1.place ≡ unread.entry.place + 2) }
 {
-    let (count, after) = u16_at(unread)?;
     let most = if version >= 2 { 128 } else { 32 };
-    if count == 0 || count > most {
+    let read = u16_at(unread);
+    if let Ok((count, _)) = &read
+        && (*count == 0 || *count > most)
+    {
         return Err(bad_at(unread));
     }
-    Ok((count, after))
+    read
 }
 
 // What tells in version 3 whether the group is big: 0 in other versions.
@@ -109,16 +123,24 @@ fn size_at(version: u8, count: u16, unread: Unread) -> Result<(u16, Unread), Vgs
     ensures read { Gives (λ x. (x.0, rest_of x.1)) result (number_at w16 (λ n. if version == 3 then nat_le n 1 && (n == 1 || nat_le count 32) else n == 0) (rest_of unread.entry)) }
     ensures end { IfOk result (λ x. x.1.place ≡ unread.entry.place + 2) }
 {
-    let (size, after) = u16_at(unread)?;
-    let fits = if version == 3 {
+    let read = u16_at(unread);
+    if let Ok((size, _)) = &read
+        && !is_size(version, count, *size)
+    {
+        return Err(bad_at(unread));
+    }
+    read
+}
+
+// Whether a status of the version with so many rows has this where version 3 tells whether the group is big.
+fn is_size(version: u8, count: u16, size: u16) -> bool
+    ensures { result ≡ (if version == 3 then nat_le size 1 && (size == 1 || nat_le count 32) else size == 0) }
+{
+    if version == 3 {
         size == 1 || size == 0 && count <= 32
     } else {
         size == 0
-    };
-    if !fits {
-        return Err(bad_at(unread));
     }
-    Ok((size, after))
 }
 
 // How many rows follow, and whether the group is big.
@@ -142,11 +164,13 @@ fn disk_at<'a>(earlier: &[StatusRow], unread: Unread<'a>) -> Result<(u16, Unread
     ensures behind { IfOk result (λ x. IsTrue (list_all (λ (row : status_row). nat_lt row.disk x.0) earlier.now)) }
     ensures end { IfOk result (λ x. x.1.place ≡ unread.entry.place + 2) }
 {
-    let (disk, after) = u16_at(unread)?;
-    if disk >= DISKS || !is_behind(disk, earlier) {
+    let read = u16_at(unread);
+    if let Ok((disk, _)) = &read
+        && (*disk >= DISKS || !is_behind(*disk, earlier))
+    {
         return Err(bad_at(unread));
     }
-    Ok((disk, after))
+    read
 }
 
 // Whether a disk comes after those of rows that rise.
@@ -165,11 +189,13 @@ fn flag_at(unread: Unread) -> Result<(u8, Unread), VgsaFault>
     ensures read { Gives (λ x. (x.0, rest_of x.1)) result (number_at w8 is_flag (rest_of unread.entry)) }
     ensures end { IfOk result (λ x. x.1.place ≡ unread.entry.place + 1) }
 {
-    let (flag, after) = u8_at(unread)?;
-    if flag > 1 {
+    let read = u8_at(unread);
+    if let Ok((flag, _)) = &read
+        && *flag > 1
+    {
         return Err(bad_at(unread));
     }
-    Ok((flag, after))
+    read
 }
 
 fn marks_at(unread: Unread) -> Result<([u8; 127], Unread), VgsaFault>
@@ -183,23 +209,20 @@ fn marks_at(unread: Unread) -> Result<([u8; 127], Unread), VgsaFault>
     Ok((marks, after))
 }
 
-#[tactic(auto, unfolding(lvm_num::specs::StatusBytes::status_row_at))]
+#[tactic(auto, unfolding(crate::specs::Parts::row_by_parts))]
 fn row_at<'a>(
     earlier: &[StatusRow],
     unread: Unread<'a>,
 ) -> Result<(StatusRow, Unread<'a>), VgsaFault>
     requires begin { unread.place < 2 ^ 15 }
     requires rising { AllPairs (λ (a b : status_row). a.disk < b.disk) earlier.now }
-    ensures read { Gives (λ x. (x.0, rest_of x.1)) result (status_row_at earlier.now (rest_of unread.entry)) }
+    ensures read { Gives (λ x. (x.0, rest_of x.1)) result (row_by_parts earlier.now (rest_of unread.entry)) }
     ensures behind { IfOk result (λ x. IsTrue (list_all (λ (row : status_row). nat_lt row.disk x.0.disk) earlier.now)) }
     ensures end { IfOk result (λ x. x.1.place ≡ unread.entry.place + 132) }
 {
-    let (disk, unread) = disk_at(earlier, unread)?;
-    let (missing, unread) = flag_at(unread)?;
-    let unread = zero_at(unread)?;
+    let ((disk, missing), unread) = disk_and_missing_at(earlier, unread)?;
     let (stale, unread) = marks_at(unread)?;
     let unread = zero_at(unread)?;
-    let missing = missing == 1;
     Ok((
         StatusRow {
             disk,
@@ -208,6 +231,24 @@ fn row_at<'a>(
         },
         unread,
     ))
+}
+
+// The disk of a row that follows the earlier ones, and whether it is missing.
+#[tactic(auto, unfolding(crate::specs::Parts::disk_and_missing_at))]
+fn disk_and_missing_at<'a>(
+    earlier: &[StatusRow],
+    unread: Unread<'a>,
+) -> Result<((u16, bool), Unread<'a>), VgsaFault>
+    requires begin { unread.place < 2 ^ 15 }
+    requires rising { AllPairs (λ (a b : status_row). a.disk < b.disk) earlier.now }
+    ensures read { Gives (λ x. (x.0, rest_of x.1)) result (disk_and_missing_at earlier.now (rest_of unread.entry)) }
+    ensures behind { IfOk result (λ x. IsTrue (list_all (λ (row : status_row). nat_lt row.disk x.0.0) earlier.now)) }
+    ensures end { IfOk result (λ x. x.1.place ≡ unread.entry.place + 4) }
+{
+    let (disk, unread) = disk_at(earlier, unread)?;
+    let (missing, unread) = flag_at(unread)?;
+    let unread = zero_at(unread)?;
+    Ok(((disk, missing == 1), unread))
 }
 
 fn rows_at(alloc: Global, count: u16, unread: Unread) -> Result<(Vec<StatusRow>, Unread), VgsaFault>
@@ -234,11 +275,13 @@ fn number_at<'a>(earlier: &[u16], unread: Unread<'a>) -> Result<(u16, Unread<'a>
     ensures behind { IfOk result (λ x. IsTrue (list_all (λ m. nat_lt m x.0) earlier.now)) }
     ensures end { IfOk result (λ x. x.1.place ≡ unread.entry.place + 2) }
 {
-    let (number, after) = u16_at(unread)?;
-    if number == 0 || number > MOST_VOLUMES || !is_above(number, earlier) {
+    let read = u16_at(unread);
+    if let Ok((number, _)) = &read
+        && (*number == 0 || *number > MOST_VOLUMES || !is_above(*number, earlier))
+    {
         return Err(bad_at(unread));
     }
-    Ok((number, after))
+    read
 }
 
 // Whether a number comes after others that rise.
@@ -259,11 +302,13 @@ fn dirty_count_at(unread: Unread) -> Result<(u16, Unread), VgsaFault>
     ensures few { IfOk result (λ x. x.0 ≤ 511) }
     ensures end { IfOk result (λ x. x.1.place ≡ unread.entry.place + 2) }
 {
-    let (count, after) = u16_at(unread)?;
-    if count == 0 || count > MOST_VOLUMES {
+    let read = u16_at(unread);
+    if let Ok((count, _)) = &read
+        && (*count == 0 || *count > MOST_VOLUMES)
+    {
         return Err(bad_at(unread));
     }
-    Ok((count, after))
+    read
 }
 
 fn numbers_at(

@@ -35,8 +35,8 @@ returns-then-not-enough_to_read c =
       total_is = c.total_votes-total.ensures;
     }
 
-pub returns : goal.returns
-returns c =
+pub returns-in-Ok : goal.returns-in-Ok
+returns-in-Ok c =
     let shown = surveyed c.args.survey.now in
     let id = c.args.id in
     let group = stamped c.in-Some.group.descriptor in
@@ -48,8 +48,8 @@ returns c =
       newest = found;
       found = sym c.in-Some.ensures.status ∙ ap stamped_if c.in-Some-status.is;
       quorum = sym (quorum_is shown id c.votes_in-have.result group c.enough_to_read.result found have c.enough_to_read.ensures) ∙ c.if-not-enough_to_read.false;
-      descriptor = c.in-Ok.ensures;
-      newest_status = c.in-Ok-copy_of_status.ensures;
+      descriptor = c.in-Ok.ensures.descriptor;
+      newest_status = c.in-Ok.ensures.status;
       answering = c.in-Some.ensures.voters;
       seen = seen_is_greatest shown id c.greatest_epoch.result group found c.greatest_epoch.ensures;
     }

@@ -1,10 +1,10 @@
 use Rattle.std.proofs.Common.{sym}
-use Rattle.lvm_num.specs.StatusBytes.{status_of}
+use Rattle.lvm_vgsa.specs.Parts.{status_by_parts}
 use Rattle.lvm_vgsa.proofs.Many.{more_follow}
 use Rattle.lvm_vgsa.proofs.reading.status_at.Goals as goal
 
 pub returns-then-not-is_empty : goal.returns-then-not-is_empty
-unfolding status_of
+unfolding status_by_parts
 returns-then-not-is_empty c =
-    rw (c.bad_at.ensures, c.in_ok-version.ensures.read, c.in_ok-id.ensures.read, c.in_ok-count.ensures.read, c.in_ok-rows.ensures.read, c.in_ok-dirty.ensures.read)
+    rw (c.bad_at.ensures, c.in_ok-version.ensures.read, c.in_ok-rows.ensures.read, c.in_ok-dirty.ensures.read)
     (more_follow _ _ _ (sym c.if-not-is_empty.ensures))
