@@ -19,6 +19,7 @@ use Rattle.lvm_disk.specs.Steps.{BothTold}
 use Rattle.lvm_kept.specs.Contents.{data_at, contents_of}
 use Rattle.lvm_kept.specs.Group.{IsOneOf}
 use Rattle.lvm_kept.specs.Plans.{ChangesBy}
+use Rattle.lvm_change.proofs.Booleans.{either, clash}
 use Rattle.lvm_commit.specs.LawsOfData.{IsFree, IsSectorOf}
 use Rattle.lvm_commit.specs.Settling.{IsOfSession, IsOfStatus, IsOfCommit}
 use Rattle.lvm_core.specs.State.{State, is_there}
@@ -84,9 +85,12 @@ module _ (N : Descriptor → Type 0) (Z : Pp → Type 0) (old new : State) (was 
   fewer : (row : LvRow) (lp : ℕ) (p : Pp) → IsOneOf old.core.descriptor.lvs row → IsOneOf (copies_of row lp) p → IsUsable (Some stands) (is_there new.core) p → IsUsable (Some stood) (is_there old.core) p
   fewer row lp p one copy usable = record {
     in_there = wanted.fewer p.disk usable.in_there;
-    fresh = ap (λ (s : Status). calls_stale s p) wanted.before
-        ∙ sym (leaves.status.stale p (λ chosen. free p chosen (contains _ p (of_rows old.core.descriptor.lvs row p one (of_map row lp p copy)))))
-        ∙ ap (λ (s : Status). calls_stale s p) (sym wanted.after) ∙ usable.fresh;
+    fresh = ap (λ (s : Status). calls_stale s p) wanted.before ∙ ⊎_elim
+        (λ stale. absurd (clash (calls_stale new.core.status.wanted p)
+        (leaves.status.stale p (λ chosen. free p chosen (contains _ p (of_rows old.core.descriptor.lvs row p one (of_map row lp p copy)))) stale)
+        (ap (λ (s : Status). calls_stale s p) (sym wanted.after) ∙ usable.fresh)))
+        (λ fresh. fresh)
+        (either (calls_stale old.core.status.wanted p));
   }
 
   pub kept_even : IsEven (contents_of before) old.core.descriptor (Some stood) (is_there old.core) → IsEven (contents_of after) old.core.descriptor (Some stands) (is_there new.core)

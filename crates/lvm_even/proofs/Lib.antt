@@ -1,1 +1,3 @@
 pub mod Even
+mod Notes
+mod OffLemmas

@@ -1,6 +1,9 @@
-//! What group commands leave even: the usable copies of volumes, whatever the answer.
+//! What group commands leave of a settled session: even copies, and the notes as they were.
 #![tactic(auto)]
 
 mod laws;
 
-pub use laws::{mklv_keeps_even, rmlv_keeps_even};
+pub use laws::{
+    fewer_are_even, mklv_keeps_even, mklv_keeps_notes, off_is_even, off_volume_is_even,
+    rmlv_keeps_even, rmlv_keeps_notes,
+};

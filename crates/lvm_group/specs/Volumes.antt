@@ -128,7 +128,7 @@ abbrev pub making : NewVolume → ℕ → State → Log
 making v lv s = with_fact s.core.history (Making lv (volume_blocks s.core.descriptor.mib v.lps) v.mode)
 
 -- The volume of the lowest free number is made: the partitions that first fit gives it are zeros and fresh, the descriptor names it, and the history says
--- so; members that became missing aside, nothing else of the session has changed.
+-- so; members that became missing aside, and the copies that they left behind, nothing else of the session has changed.
 pub record IsVolumeMade (v : NewVolume) (lv : ℕ) (old new : State) : Type 0 where
   pub map : List Pp
   pub may : MayBeMade v old.core map
@@ -194,7 +194,8 @@ pub record MayBeRemoved (lv : ℕ) (core : Core) : Type 0 where
   pub there : IsSome (volume_of core.descriptor lv)
   pub room : HasRoom core
 
--- The volume is removed: the descriptor names it no more, and the history says so; members that became missing aside, nothing else of the session has changed.
+-- The volume is removed: the descriptor names it no more, and the history says so; members that became missing aside, and the copies that they left behind,
+-- nothing else of the session has changed.
 pub record IsVolumeRemoved (lv : ℕ) (old new : State) : Type 0 where
   pub may : MayBeRemoved lv old.core
   pub is : new.core ≡ record old.core {

@@ -42,6 +42,9 @@ const DISKS: u16 = 128;
 /// two entries to spare or than 65,536 sequence numbers; and from the first write on `Dark`, `WentOff`, `Stuck`,
 /// and `DiskFailed`, where a disk failed on which the volume was to have a partition: the volume isn't made then.
 /// `Memory` may come before the first write.
+///
+/// A member to which a record can't be written becomes missing; its fresh copies become stale where another copy of
+/// their logical partition is usable.
 pub fn mklv<S: Shelf>(
     alloc: Global,
     driver: &mut Driver<S>,
@@ -90,7 +93,7 @@ pub fn mklv<S: Shelf>(
 /// The causes, in their order: `Dark` and `WentOff`, where the session is over; `Busy`, where a request is open;
 /// `NoVolume`, where the group has none of the number; `HistoryFull`, with fewer than two entries to spare or than
 /// 65,536 sequence numbers; and from the first write on `Dark`, `WentOff` and `Stuck`. `Memory` may come before the
-/// first write.
+/// first write. Members become missing, and copies stale, as by `mklv`.
 pub fn rmlv<S: Shelf>(
     alloc: Global,
     driver: &mut Driver<S>,

@@ -7,17 +7,19 @@ use Rattle.lvm_vol.specs.Legal.{Legal}
 use Rattle.lvm_vol.specs.May.{known as known_of}
 use Rattle.lvm_vol.specs.declared.entry.Vol.TheVariants.{Lv}
 use Rattle.lvm_disk.specs.Device.{Media, image_of}
-use Rattle.lvm_kept.specs.Contents.{contents_of}
+use Rattle.lvm_kept.specs.Contents.{Contents, contents_of}
 use Rattle.lvm_kept.specs.Kept.{Kept}
 use Rattle.lvm_kept.proofs.Finding.{images_within}
 use Rattle.lvm_change.proofs.Making.{media_may}
+use Rattle.lvm_status.specs.Update.{members_there}
 use Rattle.lvm_core.specs.State.{State, is_there}
 use Rattle.lvm_good.specs.State as good
 use Rattle.lvm_good.specs.Found.{Votes}
 use Rattle.lvm_rest.proofs.Rest.{good_is_rest}
 use Rattle.lvm_rest.proofs.Closed.{landed_are_closed}
 use Rattle.lvm_rest.proofs.Good.{rest_matches}
-use Rattle.lvm_settled.specs.Settled.{IsKnown, IsCarried, IsViewOf, SettledIsGood, GoodIsSettled}
+use Rattle.lvm_settled.specs.Settled.{IsKnown, IsCarried, IsViewOf, SettledIsGood, GoodIsSettled, NoneLeftIsBehind}
+use Rattle.lvm_rest.specs.Rest.{NoneIsBehind}
 
 pub settled_is_good : SettledIsGood
 settled_is_good votes past s media known v are carried view =
@@ -37,3 +39,9 @@ pub good_is_settled : GoodIsSettled
 good_is_settled votes past s media known v are view good describes =
     let rest = good_is_rest votes v s.core.descriptor s.core.status.committed (is_there s.core) (contents_of (image_of s.device.sizes media)) are known.sound.fitting.valid (images_within (image_of s.device.sizes media)) known.held.shows view.idle view.sees good describes in
     (rest.kept, rest.even, rest.behind)
+
+pub none_left_is_behind : NoneLeftIsBehind
+none_left_is_behind past s media known none =
+    let c : Contents = contents_of (image_of s.device.sizes media) in
+    subst (λ (set : Disks). NoneIsBehind c s.core.descriptor (Some known.held.shows.stands) set) (ap (λ (g : Descriptor). members_there g s.core.status.wanted) known.sound.fitting.group)
+    (none_is_behind c s.core.descriptor s.core.status known.held.shows.stands (known.held.shows.committed ∙ known.settled.committed) none)

@@ -1,5 +1,5 @@
 //! Laws of settled sessions. Each call does nothing: its contract is the law.
-ghost use Rattle.lvm_settled.specs.Settled.{SettledIsGood, GoodIsSettled};
+ghost use Rattle.lvm_settled.specs.Settled.{SettledIsGood, GoodIsSettled, NoneLeftIsBehind};
 
 /// A session may begin: where it is settled and its disks hold what it says, with an earlier history in which no
 /// write is open, its usable copies are even and none is left behind, its state is good and matches the shelf.
@@ -11,4 +11,9 @@ pub fn settled_is_good()
 /// copies are even and none is left behind.
 pub fn good_is_settled()
     ensures { GoodIsSettled }
+{}
+
+/// Where a settled session leaves no copy behind by what it wants, none is behind by what stands on the disks.
+pub fn none_left_is_behind()
+    ensures { NoneLeftIsBehind }
 {}
