@@ -31,7 +31,7 @@ ghost use Rattle.lvm_good.specs.Found.{QuorumFinds};
 ghost use Rattle.lvm_good.specs.Off.{OffKeeps};
 ghost use Rattle.lvm_good.specs.Over.{OverStays};
 ghost use Rattle.lvm_good.specs.First.{FirstIsGood, BringingUpIsGood};
-ghost use Rattle.lvm_good.specs.Wrong.{StartsUnrecorded, NoteLacksEntry, DoneUnsettled, ClearedUnpassed, CopyIsSkipped, CommittedEarly, EndedUncommitted, TwoVotes};
+ghost use Rattle.lvm_good.specs.Wrong.{StartsUnrecorded, NoteLacksEntry, DoneUnsettled, ClearedUnpassed, CopyIsSkipped, CommittedEarly, EndedUncommitted, TwoVotes, LeftFresh, NoneFresh, NamesAreNeeded};
 ghost use Rattle.lvm_good.specs.Worked.{EachModeWrites, RecordsGoOut, WriteEnds, ReadEnds, CopyIsBroughtUp, DisksAreLost, CutMeetsWrite, EarlierIsTaken};
 
 /// A request begins.
@@ -211,6 +211,16 @@ pub fn conditions_are_needed()
     ensures early { CommittedEarly }
     ensures uncommitted { EndedUncommitted }
     ensures votes { TwoVotes }
+{}
+
+/// So it may where a copy on a lost disk stays fresh beside a usable one to which alone a write then goes; and where
+/// a status leaves no copy fresh, what is acknowledged isn't to be found. Where copies differ after a cut, the
+/// names in the notes are what allows it: a session that begins without them, or empties the notes before the
+/// copies are equal, leaves what the history doesn't allow.
+pub fn fresh_copies_and_names_are_needed()
+    ensures left { LeftFresh }
+    ensures none { NoneFresh }
+    ensures names { NamesAreNeeded }
 {}
 
 /// Where the votes are lost and no flight is out, each open request lands as Off, with its data
