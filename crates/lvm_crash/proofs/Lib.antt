@@ -4,6 +4,7 @@ pub mod Finding
 pub mod Worked
 pub mod WorkedShelf
 pub mod WorkedFlights
+pub mod WorkedRecords
 pub mod Images
 pub mod Lasting
 pub mod Lists

@@ -26,7 +26,7 @@ use Rattle.lvm_crash.specs.Worked.{Shown, to_disk, device_of, media_of, RestMatc
 use Rattle.lvm_crash.proofs.Ends.{entry_more}
 use Rattle.lvm_crash.proofs.Lists.{left_of, right_of, both_of}
 use Rattle.lvm_crash.proofs.Worked.{base, enough, on_either}
-use Rattle.lvm_crash.proofs.WorkedShelf.{descriptors, Fits, describes}
+use Rattle.lvm_crash.proofs.WorkedShelf.{descriptors, no_update, Fits, describes}
 
 -- ---- flights
 
@@ -81,15 +81,15 @@ out_of s w flights are blocks = record {
 
 -- ---- at rest
 
-fits_rest : (mode : Mode) (stale : Bool) → Fits (record { mode = mode; stale = stale; dirty = false; named = false }) (at_rest mode stale)
-fits_rest mode stale = record { block = λ lv b p. refl; names = λ d lv g. refl; status = λ d. refl; none = refl; volumes = λ facts v. v }
+fits_rest : (mode : Mode) (stale : Bool) → Fits (record { mode = mode; stale = stale; dirty = false; named = false }) (at_rest mode stale) None
+fits_rest mode stale = record { block = λ lv b p. refl; names = λ d lv g. refl; status = λ d. refl; statuses = no_update (record { mode = mode; stale = stale; dirty = false; named = false }) (at_rest mode stale) refl; volumes = λ facts v. v }
 
 pub rest_matches : RestMatches
 rest_matches mode stale = record {
   good = λ votes are. first_is_good votes mode stale (are.writes two_disks ∙ enough mode);
   matches = let w : Shown = record { mode = mode; stale = stale; dirty = false; named = false } in record {
     told = refl;
-    describes = describes w (at_rest mode stale) (fits_rest mode stale);
+    describes = describes w (at_rest mode stale) None (fits_rest mode stale);
     out = out_of (at_rest mode stale) w [] (λ d s value none. absurd none) (λ lv b p value copy none. absurd none);
   };
 }
@@ -102,26 +102,26 @@ while_writing mode = record { mode = mode; stale = false; dirty = has_mark mode;
 abbrev two_writes : List Flight
 two_writes = to_disk 0 (ones ∷ []) ∷ to_disk 1 (ones ∷ []) ∷ []
 
-fits_writing : (mode : Mode) → Fits (while_writing mode) (writing mode)
+fits_writing : (mode : Mode) → Fits (while_writing mode) (writing mode) None
 fits_writing Active = record {
   block = λ lv b p. refl;
   names = λ d lv g. refl;
   status = λ d. refl;
-  none = refl;
+  statuses = no_update (while_writing Active) (writing Active) refl;
   volumes = λ facts v. record { copies = v.copies; inside = v.inside; some = v.some; notes = v.notes; mark = v.mark; modes = v.modes; history = v.history };
 }
 fits_writing Passive = record {
   block = λ lv b p. refl;
   names = λ d lv g. refl;
   status = λ d. refl;
-  none = refl;
+  statuses = no_update (while_writing Passive) (writing Passive) refl;
   volumes = λ facts v. record { copies = v.copies; inside = v.inside; some = v.some; notes = v.notes; mark = v.mark; modes = v.modes; history = v.history };
 }
 fits_writing Off = record {
   block = λ lv b p. refl;
   names = λ d lv g. refl;
   status = λ d. refl;
-  none = refl;
+  statuses = no_update (while_writing Off) (writing Off) refl;
   volumes = λ facts v. record { copies = v.copies; inside = v.inside; some = v.some; notes = v.notes; mark = v.mark; modes = v.modes; history = v.history };
 }
 
@@ -181,7 +181,7 @@ writing_matches mode = record {
   matches = let w = while_writing mode in record {
     told = refl;
     describes = subst (λ l. Describes (writing mode) l (two mode) None (contents_of (image_of (device_of w two_writes).sizes (media_of w)))) (sym (its_facts mode))
-        (entry_more (writing mode) (two mode) None _ (at_rest mode false).facts (Begun asked) (1, refl, refl) (describes w (writing mode) (fits_writing mode)));
+        (entry_more (writing mode) (two mode) None _ (at_rest mode false).facts (Begun asked) (1, refl, refl) (describes w (writing mode) None (fits_writing mode)));
     out = out_of (writing mode) w two_writes (λ d s value flies. let f = of_two d s value flies in (f.0, f.3)) (λ lv b p value copy flies. inl (write_brings mode lv b p value copy flies));
   };
 }
@@ -194,12 +194,12 @@ while_stepping mode = record { mode = mode; stale = true; dirty = false; named =
 abbrev step_write : List Flight
 step_write = to_disk 1 (replicate 256 zero_sector) ∷ []
 
-fits_stepping : (mode : Mode) → Fits (while_stepping mode) (stepping mode)
+fits_stepping : (mode : Mode) → Fits (while_stepping mode) (stepping mode) None
 fits_stepping mode = record {
   block = λ lv b p. refl;
   names = λ d lv g. refl;
   status = λ d. refl;
-  none = refl;
+  statuses = no_update (while_stepping mode) (stepping mode) refl;
   volumes = λ facts v. record { copies = v.copies; inside = v.inside; some = v.some; notes = v.notes; mark = v.mark; modes = v.modes; history = v.history };
 }
 
@@ -249,7 +249,7 @@ stepping_matches mode = record {
   good = λ votes are. (copy_is_brought_up votes mode (are.writes two_disks ∙ enough mode)).0.reached.good;
   matches = let w = while_stepping mode in record {
     told = refl;
-    describes = describes w (stepping mode) (fits_stepping mode);
+    describes = describes w (stepping mode) None (fits_stepping mode);
     out = out_of (stepping mode) w step_write (λ d s value flies. let f = of_step d s value flies in (f.1, subst (λ (n : ℕ). IsTrue (two_disks n)) (sym f.0) refl)) (λ lv b p value copy flies. inr (step_brings mode lv b p value copy flies));
   };
 }

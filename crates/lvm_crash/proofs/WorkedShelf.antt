@@ -32,7 +32,7 @@ use Rattle.lvm_kept.proofs.Standing.{zeros-sector}
 use Rattle.lvm_good.specs.State.{Marks, State}
 use Rattle.lvm_good.specs.First.{two_disks, marks_with, on_both, at_rest}
 use Rattle.lvm_good.specs.Worked.{first_group}
-use Rattle.lvm_crash.specs.Session.{marks_shown, members_there, HasVolumes, Shows, Describes}
+use Rattle.lvm_crash.specs.Session.{marks_shown, members_there, HasVolumes, HasStatuses, Shows, Describes}
 use Rattle.lvm_crash.specs.Worked.{Shown, sizes, status_shown, note_shown, framed_group, framed_status, media_of}
 use Rattle.lvm_crash.proofs.Worked.{base, behind, stands, volumes, its_marks}
 use Rattle.lvm_crash.proofs.Lasting.{group_stands}
@@ -45,7 +45,7 @@ group_read Active = refl
 group_read Passive = refl
 group_read Off = refl
 
-status_read : (w : Shown) (stale dirty : Bool) → w.stale ≡ stale → w.dirty ≡ dirty → status_of (status_bytes (status_shown w).value) ≡ Ok (status_shown w).value
+pub status_read : (w : Shown) (stale dirty : Bool) → w.stale ≡ stale → w.dirty ≡ dirty → status_of (status_bytes (status_shown w).value) ≡ Ok (status_shown w).value
 unfolding status_version_at rows_and_size_at status_row_at status_rows_at numbers_at dirty_at status_of
 status_read w stale dirty e f = subst (λ (v : Shown). status_of (status_bytes (status_shown v).value) ≡ Ok (status_shown v).value) back (by stale dirty)
   where
@@ -66,7 +66,7 @@ one k low = omega arith
 not-equal : (a b : ℕ) → (a ≡ b → ⊥) → (a == b) ≡ false
 not-equal a b differ = grind (arith, nat_tests)
 
-no-magic : (kind : Kind) → take 2 zero_sector ≡ kind_magic kind → ⊥
+pub no-magic : (kind : Kind) → take 2 zero_sector ≡ kind_magic kind → ⊥
 no-magic kind.Descriptor e = absurd (omega (arith, ap (λ (l : List ℕ). get_or l 0 0) e))
 no-magic kind.Status e = absurd (omega (arith, ap (λ (l : List ℕ). get_or l 0 0) e))
 
@@ -82,7 +82,7 @@ and_false true = refl
 and_false false = refl
 
 -- only the two disks have room
-room : (w : Shown) (d : ℕ) → has_records (image_of sizes (media_of w)) d ≡ either_of 0 1 d
+pub room : (w : Shown) (d : ℕ) → has_records (image_of sizes (media_of w)) d ≡ either_of 0 1 d
 room w d = by_first (d == 0) refl
   where
     by_second : (t : Bool) → (d == 1) ≡ t → (d == 0) ≡ false → has_records (image_of sizes (media_of w)) d ≡ either_of 0 1 d
@@ -106,7 +106,7 @@ module _ (w : Shown) where
       ∙ ap (λ (t : Bool). if w.named && t then note_bytes note_shown else zero_sector) (not-equal s 8 c)
       ∙ ap (λ (t : Bool). if t then note_bytes note_shown else zero_sector) (and_false w.named)
 
-  second_zero : (kind : Kind) (d k : ℕ) → k < slot_size kind → media_of w d (slot_start kind 1 + k) ≡ zero_sector
+  pub second_zero : (kind : Kind) (d k : ℕ) → k < slot_size kind → media_of w d (slot_start kind 1 + k) ≡ zero_sector
   second_zero kind.Descriptor d k low = zero_else d (slot_start kind.Descriptor 1 + k) (λ e. omega (arith, e)) (λ e. omega (arith, e)) (λ e. omega (arith, e))
   second_zero kind.Status d k low = zero_else d (slot_start kind.Status 1 + k) (λ e. omega (arith, e, low)) (λ e. omega (arith, e, low)) (λ e. omega (arith, e))
 
@@ -160,12 +160,16 @@ module _ (w : Shown) where
       ap (λ (o : Option Framed). option_and_then (λ r. read_under r.stamp (descriptor_of r.content)) o) (second_none kind.Descriptor d) in
       λ t. newer (first t) (second t)
 
-  newest_status : (d : ℕ) → newest_on status_of kind.Status (media_of w d) ≡ Some (status_shown w)
+  pub status_held : (d : ℕ) → held status_of kind.Status (slot_of kind.Status 0 (media_of w d)) ≡ Some (status_shown w)
+  status_held d = ap (λ (o : Option Framed). option_and_then (λ r. read_under r.stamp (status_of r.content)) o) (status_first d) ∙ ap (read_under (framed_status w).stamp) (status_read w w.stale w.dirty refl refl)
+
+  pub status_none : (d : ℕ) → held status_of kind.Status (slot_of kind.Status 1 (media_of w d)) ≡ None
+  status_none d = ap (λ (o : Option Framed). option_and_then (λ r. read_under r.stamp (status_of r.content)) o) (second_none kind.Status d)
+
+  pub newest_status : (d : ℕ) → newest_on status_of kind.Status (media_of w d) ≡ Some (status_shown w)
   newest_status d =
-      let first : held status_of kind.Status (slot_of kind.Status 0 (media_of w d)) ≡ Some (status_shown w) =
-      ap (λ (o : Option Framed). option_and_then (λ r. read_under r.stamp (status_of r.content)) o) (status_first d) ∙ ap (read_under (framed_status w).stamp) (status_read w w.stale w.dirty refl refl) in
-      let second : held status_of kind.Status (slot_of kind.Status 1 (media_of w d)) ≡ None =
-      ap (λ (o : Option Framed). option_and_then (λ r. read_under r.stamp (status_of r.content)) o) (second_none kind.Status d) in
+      let first = status_held d in
+      let second = status_none d in
       λ t. newer (first t) (second t)
 
   -- ---- what the image shows
@@ -174,7 +178,7 @@ module _ (w : Shown) where
   unfolding descriptor_on
   descriptors d = let here : has_records image d ≡ either_of 0 1 d = room w d in let newest : newest_on descriptor_of kind.Descriptor (media_of w d) ≡ Some (stamped 2 (two w.mode)) = newest_group d in λ t. if here t then newest t else None
 
-  statuses_on : (d : ℕ) → status_on image d ≡ (if either_of 0 1 d then Some (status_shown w) else None)
+  pub statuses_on : (d : ℕ) → status_on image d ≡ (if either_of 0 1 d then Some (status_shown w) else None)
   unfolding status_on
   statuses_on d = let here : has_records image d ≡ either_of 0 1 d = room w d in let newest : newest_on status_of kind.Status (media_of w d) ≡ Some (status_shown w) = newest_status d in λ t. if here t then newest t else None
 
@@ -183,7 +187,7 @@ module _ (w : Shown) where
       let descriptor : (d : ℕ) → descriptor_on image d ≡ (base w.mode).descriptor d = descriptors in
       λ t. record { disks = 2; size = image.size; descriptor = λ d. descriptor d t; status = status_on image; note = note_on image; block = data_at image }
 
-  the_status : (d : ℕ) (r : Stamped Status) → status_on image d ≡ Some r → r ≡ status_shown w
+  pub the_status : (d : ℕ) (r : Stamped Status) → status_on image d ≡ Some r → r ≡ status_shown w
   the_status d r is = behind (either_of 0 1 d) (status_shown w) r (sym (statuses_on d) ∙ is)
 
   -- names of the notes
@@ -203,7 +207,7 @@ module _ (w : Shown) where
   or_false true = refl
   or_false false = refl
 
-  its_names : (lv g : ℕ) → names_if (note_in (note_bytes note_shown)) lv g ≡ first_group lv g
+  pub its_names : (lv g : ℕ) → names_if (note_in (note_bytes note_shown)) lv g ≡ first_group lv g
   its_names lv g =
       ap (λ o. names_if o lv g) (written_is_read note_shown is_note)
       ∙ or_false ((1 == lv) && (0 == g)) ∙ ap (λ (t : Bool). t && (0 == g)) (swapped 1 lv) ∙ ap (λ (t : Bool). (lv == 1) && t) (swapped 0 g)
@@ -212,7 +216,7 @@ module _ (w : Shown) where
   on_disk true lv g = its_names lv g
   on_disk false lv g = refl
 
-  if_or : (a b : Bool) → (if a then true else b) ≡ (a || b)
+  pub if_or : (a b : Bool) → (if a then true else b) ≡ (a || b)
   if_or true b = refl
   if_or false b = refl
 
@@ -238,32 +242,36 @@ module _ (w : Shown) where
 
   -- ---- a session of it
 
+  -- no update is under way
+  pub no_update : (s : State) → s.in_flight ≡ None → HasStatuses s (two w.mode) None (contents_of image)
+  no_update s none = record {
+    same = none;
+    own = λ u e. absurd cc;
+    once = λ d e r u is also ids stamps. the_status d r is ∙ sym (the_status e u also);
+    new = λ u d r e is ids stamps. absurd cc;
+  }
+
   -- what stands on the disks is what such a state says
-  pub record Fits (s : State) : Type 0 where
+  pub record Fits (s : State) (in_flight : Option (Stamped Status)) : Type 0 where
     pub block : (lv b : ℕ) (p : Pp) → s.media.block lv b p ≡ zero_sector
     pub names : (d lv g : ℕ) → s.media.names d lv g ≡ (w.named && (two_disks d && first_group lv g))
     pub status : (d : ℕ) → s.media.status d ≡ on_both (record { stamp = (status_shown w).stamp; value = marks_with w.stale w.dirty }) d
-    pub none : s.in_flight ≡ None
+    pub statuses : HasStatuses s (two w.mode) in_flight (contents_of image)
     pub volumes : (facts : List Fact) → HasVolumes (at_rest w.mode w.stale) facts (two w.mode) (members_there (base w.mode) (two w.mode)) → HasVolumes s facts (two w.mode) (members_there (base w.mode) (two w.mode))
 
-  shows : (s : State) → Fits s → Shows s (two w.mode) None (contents_of image)
-  shows s fits = record {
+  shows : (s : State) (in_flight : Option (Stamped Status)) → Fits s in_flight → Shows s (two w.mode) in_flight (contents_of image)
+  shows s in_flight fits = record {
     blocks = λ lv b p copy. fits.block lv b p ∙ zeros lv b p;
     names = λ d lv g. fits.names d lv g ∙ sym (names d lv g);
     status = λ d. fits.status d ∙ shown_status d;
-    statuses = record {
-      same = fits.none;
-      own = λ u e. absurd cc;
-      once = λ d e r u is also ids stamps. the_status d r is ∙ sym (the_status e u also);
-      new = λ u d r e is ids stamps. absurd cc;
-    };
+    statuses = fits.statuses;
   }
 
   -- such a state describes the image, with the history of its beginning
-  pub describes : (s : State) → Fits s → Describes s (at_rest w.mode w.stale).facts (two w.mode) None (contents_of image)
-  describes s fits = subst (λ c. Describes s (at_rest w.mode w.stale).facts (two w.mode) None c) (sym rest) (record {
+  pub describes : (s : State) (in_flight : Option (Stamped Status)) → Fits s in_flight → Describes s (at_rest w.mode w.stale).facts (two w.mode) in_flight (contents_of image)
+  describes s in_flight fits = subst (λ c. Describes s (at_rest w.mode w.stale).facts (two w.mode) in_flight c) (sym rest) (record {
     stands = group_stands (base w.mode) (status_on image) (note_on image) (data_at image) (two w.mode) (stands w.mode);
     volumes = fits.volumes (at_rest w.mode w.stale).facts (volumes w.mode w.stale);
-    shown = subst (λ c. Shows s (two w.mode) None c) rest (shows s fits);
+    shown = subst (λ c. Shows s (two w.mode) in_flight c) rest (shows s in_flight fits);
     raw = λ d b low none from to. tt;
   })

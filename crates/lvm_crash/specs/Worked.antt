@@ -1,6 +1,7 @@
 -- Worked sessions and their shelves, byte by byte: a group of two disks with a mirrored volume. (That what is asked of a session, its disks and what is out can be met.)
-use Rattle.std.specs.Prelude.{ℕ, Bool, true, false, ◌&&◌, List, [], ◌∷◌, replicate, length, Some, None, if◌then◌else◌, ◌==◌}
+use Rattle.std.specs.Prelude.{ℕ, Bool, true, false, ◌&&◌, List, [], ◌∷◌, replicate, length, Option, Some, None, if◌then◌else◌, ◌==◌}
 use Rattle.lvm_num.specs.declared.descriptor.Mode.{Mode}
+use Rattle.lvm_num.specs.declared.descriptor.Mode.TheVariants.{Active}
 use Rattle.lvm_num.specs.declared.descriptor.Descriptor.{Descriptor}
 use Rattle.lvm_num.specs.declared.status.Status.{Status}
 use Rattle.lvm_num.specs.declared.record.Framed.{Framed}
@@ -18,7 +19,7 @@ use Rattle.lvm_good.specs.State.{has_notes, has_mark, State}
 use Rattle.lvm_good.specs.Found.{Votes}
 use Rattle.lvm_good.specs.Good.{Good}
 use Rattle.lvm_good.specs.First.{at_rest}
-use Rattle.lvm_good.specs.Worked.{ones, writing, stepping}
+use Rattle.lvm_good.specs.Worked.{ones, writing, stepping, updating, noting}
 use Rattle.lvm_crash.specs.Session.{AreVotesOf}
 use Rattle.lvm_crash.specs.Flights.{Matches}
 
@@ -77,12 +78,26 @@ device_of w flights = record {
 abbrev pub to_disk : ℕ → List Sector → Flight
 to_disk d sectors = record { ticket = d; disk = d; first = data_start; count = length sectors; write = true; buf = record { number = d; sectors = sectors } }
 
+-- a write of one sector
+abbrev pub sector_to : ℕ → ℕ → Sector → Flight
+sector_to d first sector = record { ticket = d; disk = d; first = first; count = 1; write = true; buf = record { number = d; sectors = sector ∷ [] } }
+
+-- the status by which the second copy is stale, and its one sector
+abbrev pub next_status : Stamped Status
+next_status = record { stamp = record { epoch = 1; seq = 2 }; value = status_of_rows (row_of 0 false ∷ row_of 1 true ∷ []) }
+
+abbrev pub framed_next : Framed
+framed_next = record { stamp = next_status.stamp; content = status_bytes next_status.value }
+
+abbrev pub next_sector : Sector
+next_sector = frame kind.Status framed_next.stamp framed_next.content 0
+
 -- ---- laws
 
 -- a good session that matches this shelf, in a group whose votes are these
-pub record IsMet (s : State) (w : Shown) (flights : List Flight) : Type 0 where
+pub record IsMet (s : State) (w : Shown) (in_flight : Option (Stamped Status)) (flights : List Flight) : Type 0 where
   pub good : (votes : Votes) → AreVotesOf (two w.mode) votes → Good votes s
-  pub matches : Matches s s.facts (two w.mode) None (device_of w flights) (media_of w)
+  pub matches : Matches s s.facts (two w.mode) in_flight (device_of w flights) (media_of w)
 
 -- Each group has its votes.
 abbrev pub GroupsHaveVotes : Type 0
@@ -90,13 +105,23 @@ GroupsHaveVotes = (group : Descriptor) → (votes : Votes) × AreVotesOf group v
 
 -- A session at rest matches a shelf at which nothing is out, in each mode, with a stale copy or without.
 abbrev pub RestMatches : Type 0
-RestMatches = (mode : Mode) (stale : Bool) → IsMet (at_rest mode stale) (record { mode = mode; stale = stale; dirty = false; named = false }) []
+RestMatches = (mode : Mode) (stale : Bool) → IsMet (at_rest mode stale) (record { mode = mode; stale = stale; dirty = false; named = false }) None []
 
 -- A session with a write out to both copies matches a shelf at which it is out to both disks, which name its track group, or call its volume dirty, or neither.
 abbrev pub WritingMatches : Type 0
 WritingMatches =
-    (mode : Mode) → IsMet (writing mode) (record { mode = mode; stale = false; dirty = has_mark mode; named = has_notes mode }) (to_disk 0 (ones ∷ []) ∷ to_disk 1 (ones ∷ []) ∷ [])
+    (mode : Mode) → IsMet (writing mode) (record { mode = mode; stale = false; dirty = has_mark mode; named = has_notes mode }) None (to_disk 0 (ones ∷ []) ∷ to_disk 1 (ones ∷ []) ∷ [])
 
 -- A session that brings up a copy matches one at which the write of a step is out to the disk of the copy.
 abbrev pub SteppingMatches : Type 0
-SteppingMatches = (mode : Mode) → IsMet (stepping mode) (record { mode = mode; stale = true; dirty = false; named = false }) (to_disk 1 (replicate 256 zero_sector) ∷ [])
+SteppingMatches = (mode : Mode) → IsMet (stepping mode) (record { mode = mode; stale = true; dirty = false; named = false }) None (to_disk 1 (replicate 256 zero_sector) ∷ [])
+
+-- A session with an update of the status out to both disks matches one at which the record is out to their second slots.
+abbrev pub UpdatingMatches : Type 0
+UpdatingMatches =
+    (mode : Mode) → IsMet (updating mode) (record { mode = mode; stale = false; dirty = false; named = false }) (Some next_status)
+    (sector_to 0 (slot_start kind.Status 1) next_sector ∷ sector_to 1 (slot_start kind.Status 1) next_sector ∷ [])
+
+-- A session with a note out matches one at which its sector is out.
+abbrev pub NotingMatches : Type 0
+NotingMatches = IsMet noting (record { mode = Active; stale = false; dirty = false; named = false }) None (sector_to 0 note_sector (note_bytes note_shown) ∷ [])

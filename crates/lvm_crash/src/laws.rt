@@ -1,5 +1,5 @@
 //! Laws of what stands on the disks of a session. Each call does nothing: its contract is the law.
-ghost use Rattle.lvm_crash.specs.Worked.{GroupsHaveVotes, RestMatches, WritingMatches, SteppingMatches};
+ghost use Rattle.lvm_crash.specs.Worked.{GroupsHaveVotes, RestMatches, WritingMatches, SteppingMatches, UpdatingMatches, NotingMatches};
 ghost use Rattle.lvm_crash.specs.Standing.{CommittedIsFound};
 ghost use Rattle.lvm_crash.specs.Lasting.{DescriptionLasts, StatusesLast};
 ghost use Rattle.lvm_crash.specs.Laws.{WhatRemainsIsKept, CrashImagesRemain, CrashImagesAreKept, LastImagesAreKept, CutIsKept, OffIsKept};
@@ -38,13 +38,15 @@ pub fn committed_is_found()
 {}
 
 /// Each group has votes, and there are good sessions that match a shelf, byte by byte, in each mode: at rest, with
-/// a stale copy or without; with a write out to both copies; and with a copy being brought up, to which the write of
-/// a step is out.
+/// a stale copy or without; with a write out to both copies; with a copy being brought up, to which the write of
+/// a step is out; and with a status out to both disks. So there is one in mode active with a note out.
 pub fn sessions_match()
     ensures votes { GroupsHaveVotes }
     ensures rest { RestMatches }
     ensures writing { WritingMatches }
     ensures stepping { SteppingMatches }
+    ensures updating { UpdatingMatches }
+    ensures noting { NotingMatches }
 {}
 
 /// Each event leaves a state that describes the disks, where they show what it says of blocks, notes and statuses;

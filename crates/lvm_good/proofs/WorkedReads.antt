@@ -99,7 +99,7 @@ read_gets_allowed votes mode = allows_append votes read_out
       ),
     )
 
-read_fails_allowed : (votes : Votes) (mode : Mode) → AllowsAll votes read_fails (at_rest mode true)
+pub read_fails_allowed : (votes : Votes) (mode : Mode) → AllowsAll votes read_fails (at_rest mode true)
 read_fails_allowed votes mode = allows_append votes read_out (Read 1 reading_first first_copy Badly None ∷ LandReadFailed 1 failed_first ∷ []) (at_rest mode true) (read_goes_out votes mode true) (
   record { there = refl; read = refl; past = refl; was = (Flying, refl); gets = λ value is. nothing value is },
   (record { there = refl; request = refl; read = refl; past = refl; failed = λ c stage at. by (is_pp c first_copy) stage at }, tt),
@@ -218,6 +218,9 @@ disks_lost_allowed votes mode = (
   ),
 )
 
+pub none_fresh_allowed : (votes : Votes) (mode : Mode) → AllowsAll votes none_fresh (at_rest mode false)
+none_fresh_allowed votes mode = allows_append votes disks_lost (LandNoFresh 1 held ∷ []) (at_rest mode false) (disks_lost_allowed votes mode) (record { there = refl; request = refl; early = inl refl; none = λ c copy. refl }, tt)
+
 -- the one place of the queue is open
 one_open : (s : State) (r : Queued) (started : Bool) → s.queue 1 ≡ Some r → IsFalse r.step → IsFalse (has_landed r.phase) → ((j : ℕ) (e : Queued) → s.queue j ≡ Some e → (j ≡ 1) × (e ≡ r))
     → started ≡ is_going r.phase → AreOpen s (1 ∷ []) (λ i. started)
@@ -230,8 +233,7 @@ one_open s r started there request unlanded only going = record {
 
 pub disks_are_lost : DisksAreLost
 disks_are_lost votes mode enough none = (
-  leads votes none_fresh (at_rest mode false) (first_is_good votes mode false enough)
-      (allows_append votes disks_lost (LandNoFresh 1 held ∷ []) (at_rest mode false) (disks_lost_allowed votes mode) (record { there = refl; request = refl; early = inl refl; none = λ c copy. refl }, tt)),
+  leads votes none_fresh (at_rest mode false) (first_is_good votes mode false enough) (none_fresh_allowed votes mode),
   record {
     lost = none;
     no_data = λ i r c there flies. untouched r c (first_put 1 held i r there).1 flies;

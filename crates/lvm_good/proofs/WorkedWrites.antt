@@ -15,7 +15,7 @@ use Rattle.lvm_good.specs.Want.{Wants}
 use Rattle.lvm_good.specs.LandDone.{IsDropped}
 use Rattle.lvm_good.specs.Events.{AllowsAll, after_all, made, Submit, Admit, StartWrite, Transfer, LandDone, LandLost, Take}
 use Rattle.lvm_good.specs.First.{two_disks, no_disk, first_copy, second_copy, is_either, marks_with, stamped, at_rest}
-use Rattle.lvm_good.specs.Worked.{asked, held, both_at, phase_in, ready, one_out, both_out, first_group, named_on, only, note_to, no_note, update, recording, zeros, writing_out, writing, written, one_failed, one_fails, both_failed, both_fail, IsWriting, EachModeWrites, WriteEnds}
+use Rattle.lvm_good.specs.Worked.{asked, held, both_at, phase_in, ready, one_out, both_out, first_group, named_on, only, note_to, no_note, update, recording, zeros, writing_out, writing, written, one_failed, one_fails, both_failed, both_fail, updating_out, noting_out, IsWriting, EachModeWrites, RecordsGoOut, WriteEnds}
 use Rattle.lvm_good.proofs.First.{nothing, not_so, left, right, both, first_is_good}
 use Rattle.lvm_good.proofs.Small.{never}
 use Rattle.lvm_good.proofs.Worked.{leads, allows_append, not_either, first_put, none_below, pp_is, on_two, at_either, placed, note_ends, update_allowed}
@@ -319,3 +319,18 @@ pub write_ends : WriteEnds
 write_ends votes enough =
     let good = (each_mode_writes votes Active enough).0.reached.good in
     (leads votes one_fails (writing Active) good (one_fails_allowed votes enough), leads votes both_fail (writing Active) good (both_fail_allowed votes enough))
+
+-- ---- a record is out
+
+pub records_go_out : RecordsGoOut
+records_go_out votes mode enough = (
+  leads votes updating_out (at_rest mode false) (first_is_good votes mode false enough)
+      (second_wanted _ refl (λ c. refl) (λ c. refl) refl (λ d. refl), (record { none = refl; value = refl; later = refl }, (record { flies = refl; each = λ d. inl refl }, tt))),
+  leads votes noting_out (at_rest Active false) (first_is_good votes Active false enough) (
+    submits Active,
+    (
+      admits Active,
+      (record { there = refl; waits = refl; has = refl; keeps = λ j e at write pinning on several cached. not_so cached }, (record { disk = 0; there = refl; none = refl; each = λ d. note_flies 0 d }, tt)),
+    ),
+  ),
+)

@@ -1,20 +1,26 @@
 -- What wrong steps would leave.
-use Rattle.std.proofs.Common.{◌≡◌, ◌⊎◌, inl, inr, ⊎_elim, ℕ, Bool, true, false, ◌||◌, List, ◌++◌, get_or, Option, Some, None, refl, sym, ap, ◌∙◌, arith, eqb-true}
-use Rattle.std.specs.Prelude.{IsTrue, ◌==◌, if◌then◌else◌}
+use Rattle.std.proofs.Common.{◌≡◌, ◌⊎◌, inl, inr, ⊎_elim, ℕ, Bool, true, false, ◌||◌, List, ◌++◌, get_or, Option, Some, None, refl, sym, ap, ◌∙◌, arith, eqb-true, ◌+◌, ◌<◌, [], subst, ◌∷◌, ◌&&◌}
+use Rattle.std.specs.Prelude.{IsTrue, ◌==◌, if◌then◌else◌, nat_le, nat_lt}
 use Rattle.std.specs.Option.{option_map_or}
 use Rattle.lvm_num.specs.declared.descriptor.Mode.{Mode}
 use Rattle.lvm_num.specs.declared.descriptor.Mode.TheVariants.{Active, Passive, Off}
 use Rattle.lvm_num.specs.Buffer.{zero_sector}
 use Rattle.lvm_num.specs.Record.{Stamped, stamp_lt}
-use Rattle.lvm_good.specs.State.{Marks, Groups, View, Flying, State, covers}
+use Rattle.lvm_num.specs.declared.place.Pp.{Pp}
+use Rattle.lvm_num.specs.Geometry.{track_group_of}
+use Rattle.lvm_vol.specs.May.{Known, unknown, cut, IsValue}
+use Rattle.std.proofs.lemmas.Bool.Decides.{nat_tests}
+use Rattle.lvm_good.specs.Updates.{is_pp}
+use Rattle.lvm_good.proofs.Small.{never}
+use Rattle.lvm_good.specs.State.{Marks, Groups, View, Flying, State, covers, told}
 use Rattle.lvm_good.specs.Found.{Votes}
 use Rattle.lvm_good.specs.Good.{Good}
-use Rattle.lvm_good.specs.Crash.{IsCrash, EachKept}
+use Rattle.lvm_good.specs.Crash.{IsCrash, IsPossible, Fresh, MayDifferAfter, EachKept}
 use Rattle.lvm_good.specs.Events.{AllowsAll, after_all}
-use Rattle.lvm_good.specs.First.{two_disks, first_copy, second_copy, marks_with, stamped, on_both, at_rest}
-use Rattle.lvm_good.specs.Worked.{ones, held, both_out, only, recording, written, writing, all_passed}
-use Rattle.lvm_good.specs.Wrong.{asking, going_out, StartsUnrecorded, empty_note, NoteLacksEntry, half_done, DoneUnsettled, ClearedUnpassed, CopyIsSkipped, one_reads, both_write, halfway, CommittedEarly, EndedUncommitted, TwoVotes}
-use Rattle.lvm_good.proofs.First.{nothing, not_so, left, right, first_is_good, bringing_up_is_good}
+use Rattle.lvm_good.specs.First.{two_disks, first_copy, second_copy, is_either, marks_with, stamped, on_both, at_rest}
+use Rattle.lvm_good.specs.Worked.{ones, held, both_out, only, recording, written, writing, all_passed, asked, first_group}
+use Rattle.lvm_good.specs.Wrong.{asking, going_out, StartsUnrecorded, empty_note, NoteLacksEntry, half_done, DoneUnsettled, ClearedUnpassed, CopyIsSkipped, one_reads, both_write, halfway, CommittedEarly, EndedUncommitted, TwoVotes, LeftFresh, none_is_fresh, NoneFresh, differing, NamesAreNeeded}
+use Rattle.lvm_good.proofs.First.{nothing, not_so, left, right, both, first_is_good, bringing_up_is_good}
 use Rattle.lvm_good.proofs.Worked.{leads}
 use Rattle.lvm_good.proofs.WorkedWrites.{submits, admits, recorded, brought, brought_whole, second_wanted, each_mode_writes, write_ends}
 
@@ -194,3 +200,87 @@ two_votes = record { votes = record { reads = one_reads; writes = both_write; me
         by : (t : Bool) → a 0 ≡ t → IsTrue (t || a 1) → (d : ℕ) × IsTrue (a d) × IsTrue (b d)
         by true is h = (0, is, left (b 0) (b 1) write)
         by false is h = (1, h, right (b 0) (b 1) write)
+
+-- ---- fresh copies
+
+pub left_fresh : LeftFresh
+left_fresh votes mode enough = record {
+  good = first_is_good votes mode false enough;
+  broken = λ kept. ⊎_elim (λ (is : ones ≡ zero_sector). ones_differ is) (λ none. none) ((kept _ (marks_with false false) 1 0 (as_it_stands _) (inl refl)).allowed second_copy (record { copy = refl; fresh = refl }));
+}
+
+pub none_fresh : NoneFresh
+none_fresh votes mode enough = record {
+  good = first_is_good votes mode false enough;
+  broken = λ kept. let one = (kept _ none_is_fresh 1 0 (as_it_stands _) (inl refl)).some first_copy refl in never (is_either one.0) one.1.copy one.1.fresh;
+}
+
+-- ---- names
+
+-- what is known of a block of the volume at its beginning
+abbrev fresh_by : Bool → Known
+fresh_by inside = if inside then record { values = Some (zero_sector ∷ []); open_writes = []; loose = false; mode = Active } else unknown
+
+-- what stands on a copy is allowed: zeros, and what the write brought
+may_be : (b : ℕ) (inside over first : Bool) → IsTrue inside
+    → IsValue (cut b (cut b (if over then record (fresh_by inside) { open_writes = asked ∷ (fresh_by inside).open_writes } else fresh_by inside))) (if over && first then held.value b else zero_sector)
+may_be b true true true h = inr (inl refl)
+may_be b true true false h = inl refl
+may_be b true false first h = inl refl
+may_be b false over first h = not_so h
+
+zero_if : (b : ℕ) (over first : Bool) → over ≡ false → (if over && first then held.value b else zero_sector) ≡ zero_sector
+zero_if b false first h = refl
+zero_if b true first h = absurd cc
+
+named_if : (lv b : ℕ) → IsTrue (covers held lv b) → IsTrue (first_group lv (track_group_of b))
+named_if lv b over =
+    let volume : lv ≡ 1 = sym (eqb-true 1 lv (left (1 == lv) (nat_le 0 b) (left (1 == lv && nat_le 0 b) (nat_lt b (0 + 1)) over))) in
+    let inside : IsTrue (nat_lt b (0 + 1)) = right (1 == lv && nat_le 0 b) (nat_lt b (0 + 1)) over in
+    let low : b < 0 + 1 = grind (arith, nat_tests) in
+    let is : b ≡ 0 = omega (arith, low) in
+    ap (λ (n : ℕ). n == 1 && track_group_of b == 0) volume ∙ ap (λ (n : ℕ). track_group_of n == 0) is
+
+-- nothing is out
+stays : (named : Bool) (v : View) (lv b : ℕ) (c : Pp) → IsCrash (differing named) v → IsTrue ((differing named).is_copy lv b c) → v.block lv b c ≡ written lv b c
+stays named v lv b c crash copy = elim (crash.block lv b c copy) [
+  | inl same ↦ same
+  | inr rest ↦ elim rest [
+    | inl brings ↦ nothing brings.req brings.started.there
+    | inr step ↦ nothing step.step step.flies
+  ]
+]
+
+names_stay : (v : View) (d lv g : ℕ) → IsCrash (differing true) v → v.names d lv g ≡ first_group lv g
+names_stay v d lv g crash = elim (crash.names d) [
+  | inl same ↦ ap (λ (n : Groups). n lv g) same
+  | inr flies ↦ nothing flies.0 flies.1
+]
+
+is_committed : (named : Bool) (marks : Marks) → IsPossible (differing named) marks → marks ≡ marks_with false false
+is_committed named marks possible = ⊎_elim (λ is. is) (λ u. nothing u.0 u.1) possible
+
+pub names_are_needed : NamesAreNeeded
+names_are_needed = record {
+  named = λ v marks lv b crash possible. record {
+    allowed = λ c fresh. subst (IsValue (cut b (told (differing true) lv b))) (sym (stays true v lv b c crash fresh.copy))
+        (may_be b (1 == lv && nat_lt b 2048) (covers held lv b) (is_pp c first_copy) (left (1 == lv && nat_lt b 2048) (is_either c) fresh.copy));
+    equal = by v lv b marks crash (covers held lv b) refl;
+    some = λ c copy. (
+      first_copy,
+      record {
+        copy = both (1 == lv && nat_lt b 2048) true (left (1 == lv && nat_lt b 2048) (is_either c) copy) refl;
+        fresh = ap (λ (m : Marks). m.stale first_copy) (is_committed true marks possible);
+      },
+    );
+  };
+  unnamed = λ kept. ⊎_elim
+      (λ one. two_values one.0 (one.1 first_copy (record { copy = refl; fresh = refl })) (one.1 second_copy (record { copy = refl; fresh = refl })))
+      (λ differ. not_so (differ second_copy (record { copy = refl; fresh = refl })))
+      (kept _ (marks_with false false) 1 0 (as_it_stands _) (inl refl)).equal;
+}
+  where
+    by : (v : View) (lv b : ℕ) (marks : Marks) → IsCrash (differing true) v → (over : Bool) → covers held lv b ≡ over
+        → ((value : List ℕ) × ((c : Pp) → Fresh (differing true) marks lv b c → v.block lv b c ≡ value)) ⊎ MayDifferAfter (differing true) v marks (cut b (told (differing true) lv b)) lv b true
+    by v lv b marks crash true over = inr (λ c fresh. names_stay v c.disk lv (track_group_of b) crash ∙ named_if lv b over)
+    by v lv b marks crash false over = inl (zero_sector, λ c fresh. stays true v lv b c crash fresh.copy ∙ zero_if b (covers held lv b) (is_pp c first_copy) over)

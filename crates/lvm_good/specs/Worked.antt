@@ -101,6 +101,22 @@ writing_out mode = Submit 1 asked held ∷ Admit 1 held (phase_in mode) true (bo
 abbrev pub writing : Mode → State
 writing mode = after_all (writing_out mode) (at_rest mode false)
 
+-- ---- a record is out
+
+-- an update of the status is out to both disks
+abbrev pub updating_out : List Event
+updating_out = Want (marks_with true false) no_disk None ∷ BeginUpdate (stamped 2 (marks_with true false)) ∷ MoveStatus (stamped 2 (marks_with true false)) (on_both (stamped 1 (marks_with false false))) two_disks ∷ []
+
+abbrev pub updating : Mode → State
+updating mode = after_all updating_out (at_rest mode false)
+
+-- the note of a write that has pinned its entry is out to the first disk
+abbrev pub noting_out : List Event
+noting_out = Submit 1 asked held ∷ Admit 1 held WantEntry true (both_at Todo) ∷ Pin 1 (waiting Active) first_group ∷ StartNote (note_to 0) ∷ []
+
+abbrev pub noting : State
+noting = after_all noting_out (at_rest Active false)
+
 -- ---- it ends
 
 -- its block is on the first copy
@@ -258,6 +274,10 @@ pub record IsWriting (s : State) : Type 0 where
 
 abbrev pub EachModeWrites : Type 0
 EachModeWrites = (votes : Votes) (mode : Mode) → IsTrue (votes.writes two_disks) → Leads votes (writing_out mode) (at_rest mode false) × IsWriting (writing mode)
+
+-- on the way to it, a status or a note is out;
+abbrev pub RecordsGoOut : Type 0
+RecordsGoOut = (votes : Votes) (mode : Mode) → IsTrue (votes.writes two_disks) → Leads votes updating_out (at_rest mode false) × Leads votes noting_out (at_rest Active false)
 
 -- then it lands as Done, or as Lost.
 abbrev pub WriteEnds : Type 0

@@ -3,6 +3,7 @@ use Rattle.std.specs.Prelude.{◌≡◌, ℕ, Bool, true, false, ◌&&◌, ◌||
 use Rattle.lvm_num.specs.declared.descriptor.Mode.{Mode}
 use Rattle.lvm_num.specs.declared.descriptor.Mode.TheVariants.{Active, Off}
 use Rattle.lvm_num.specs.Record.{Stamped}
+use Rattle.lvm_vol.specs.Facts.{Making, Made, Begun, Cut}
 use Rattle.lvm_good.specs.State.{Marks, Groups, View, Todo, Flying, Well, Badly, Ready, Queued, State}
 use Rattle.lvm_good.specs.Admit.{admitted}
 use Rattle.lvm_good.specs.StartWrite.{going}
@@ -10,8 +11,8 @@ use Rattle.lvm_good.specs.Crash.{IsCrash, IsPossible, EachKept}
 use Rattle.lvm_good.specs.Found.{Votes, IsNewest}
 use Rattle.lvm_good.specs.Good.{Good}
 use Rattle.lvm_good.specs.Events.{Event, Submit, Admit, StartWrite, Transfer, LandDone, Want, BeginUpdate, MoveStatus, CommitUpdate, EndUpdate, StartNote, Open, Clear, after_all}
-use Rattle.lvm_good.specs.First.{two_disks, no_disk, first_copy, second_copy, marks_with, stamped, on_both, at_rest, bringing_up}
-use Rattle.lvm_good.specs.Worked.{asked, held, both_at, phase_in, first_at, ready, one_out, both_out, only, update, recording, zeros, writing, written, one_well, one_failed, one_fails, none_passed, all_passed, passed_by, at_stage}
+use Rattle.lvm_good.specs.First.{two_disks, no_disk, first_copy, second_copy, is_either, marks_with, stamped, on_both, at_rest, bringing_up}
+use Rattle.lvm_good.specs.Worked.{asked, held, first_group, both_at, phase_in, first_at, ready, one_out, both_out, only, update, recording, zeros, writing, written, one_well, one_failed, one_fails, none_passed, all_passed, passed_by, at_stage}
 
 -- The state is good, and after the events a loss of power may leave what the history doesn't allow.
 pub record Breaks (votes : Votes) (s : State) (events : List Event) : Type 0 where
@@ -78,6 +79,36 @@ skipping =
 
 abbrev pub CopyIsSkipped : Type 0
 CopyIsSkipped = (votes : Votes) (mode : Mode) → IsTrue (votes.writes two_disks) → Breaks votes (bringing_up mode all_passed) skipping
+
+-- A disk becomes missing, and its copy isn't wanted stale though there is another usable one; then a write goes to that one alone.
+abbrev pub leaving_fresh : List Event
+leaving_fresh =
+    Want (marks_with false false) (only 1) None ∷ Submit 1 asked held ∷ Admit 1 held Ready false (first_at Todo) ∷ StartWrite 1 to_first first_copy ∷ Transfer 1 to_first_out first_copy Well written
+    ∷ LandDone 1 (at_stage to_first_out first_copy Well) ∷ []
+
+abbrev pub LeftFresh : Type 0
+LeftFresh = (votes : Votes) (mode : Mode) → IsTrue (votes.writes two_disks) → Breaks votes (at_rest mode false) leaving_fresh
+
+-- Both copies become stale.
+abbrev pub none_is_fresh : Marks
+none_is_fresh = record { stale = is_either; dirty = λ lv. false }
+
+abbrev pub NoneFresh : Type 0
+NoneFresh = (votes : Votes) (mode : Mode) → IsTrue (votes.writes two_disks) → Breaks votes (at_rest mode false) (Want none_is_fresh no_disk None ∷ update (stamped 1 (marks_with false false)) 2 none_is_fresh)
+
+-- ---- names
+
+-- A session in mode active that begins after a cut, at which a write had come to the first copy alone; the notes name its track group, or don't.
+abbrev pub differing : Bool → State
+differing named = record (at_rest Active false) {
+  media = record (at_rest Active false).media { block = written; names = λ d lv g. named && first_group lv g };
+  facts = Making 1 2048 Active ∷ Made 1 ∷ Begun asked ∷ Cut ∷ [];
+}
+
+-- The names are what allows the copies to differ: a session doesn't begin without them, nor may they go before the copies are equal.
+pub record NamesAreNeeded : Type 0 where
+  pub named : EachKept (differing true)
+  pub unnamed : EachKept (differing false) → ⊥
 
 -- ---- statuses
 

@@ -31,8 +31,8 @@ ghost use Rattle.lvm_good.specs.Found.{QuorumFinds};
 ghost use Rattle.lvm_good.specs.Off.{OffKeeps};
 ghost use Rattle.lvm_good.specs.Over.{OverStays};
 ghost use Rattle.lvm_good.specs.First.{FirstIsGood, BringingUpIsGood};
-ghost use Rattle.lvm_good.specs.Wrong.{StartsUnrecorded, NoteLacksEntry, DoneUnsettled, ClearedUnpassed, CopyIsSkipped, CommittedEarly, EndedUncommitted, TwoVotes};
-ghost use Rattle.lvm_good.specs.Worked.{EachModeWrites, WriteEnds, ReadEnds, CopyIsBroughtUp, DisksAreLost, CutMeetsWrite, EarlierIsTaken};
+ghost use Rattle.lvm_good.specs.Wrong.{StartsUnrecorded, NoteLacksEntry, DoneUnsettled, ClearedUnpassed, CopyIsSkipped, CommittedEarly, EndedUncommitted, TwoVotes, LeftFresh, NoneFresh, NamesAreNeeded};
+ghost use Rattle.lvm_good.specs.Worked.{EachModeWrites, RecordsGoOut, WriteEnds, ReadEnds, CopyIsBroughtUp, DisksAreLost, CutMeetsWrite, EarlierIsTaken};
 
 /// A request begins.
 pub fn request_begins()
@@ -181,13 +181,14 @@ pub fn first_is_good()
 {}
 
 /// Worked sessions, from a session at rest on: each of their events may be made where it is made. In each mode a
-/// write goes out to both copies, and a cut may meet it there; a read that failed on one copy is admitted again
+/// write goes out to both copies, and a cut may meet it there; a status and a note go out; a read that failed on one copy is admitted again
 /// and gets its block of the other, or fails; a stale copy is opened, a step of it ends, and once it has passed
 /// all track groups it is cleared; where both disks are lost a write finds no usable copy, or the group goes off;
 /// and the answer of a request of an earlier session is taken. In mode active the write ends: as Done after it
 /// failed on one copy, as Lost after it failed on both. So for each event there is a good state that allows it.
 pub fn sessions_are_met()
     ensures writes { EachModeWrites }
+    ensures records { RecordsGoOut }
     ensures write_ends { WriteEnds }
     ensures reads { ReadEnds }
     ensures copies { CopyIsBroughtUp }
@@ -210,6 +211,16 @@ pub fn conditions_are_needed()
     ensures early { CommittedEarly }
     ensures uncommitted { EndedUncommitted }
     ensures votes { TwoVotes }
+{}
+
+/// So it may where a copy on a lost disk stays fresh beside a usable one to which alone a write then goes; and where
+/// a status leaves no copy fresh, what is acknowledged isn't to be found. Where copies differ after a cut, the
+/// names in the notes are what allows it: a session that begins without them, or empties the notes before the
+/// copies are equal, leaves what the history doesn't allow.
+pub fn fresh_copies_and_names_are_needed()
+    ensures left { LeftFresh }
+    ensures none { NoneFresh }
+    ensures names { NamesAreNeeded }
 {}
 
 /// Where the votes are lost and no flight is out, each open request lands as Off, with its data
