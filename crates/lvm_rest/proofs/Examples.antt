@@ -240,7 +240,7 @@ zeros_kept mode dirty lost cut note = kept (even_pair mode dirty lost note) (his
     record { allowed = (subst (IsValue (known (history_of mode cut ++ Cut ∷ []) (Lv 1) b)) (sym first) zero, (subst (IsValue (known (history_of mode cut ++ Cut ∷ []) (Lv 1) b)) (sym second) zero, tt)); equal = inl (zero_sector, (first, (second, tt))) })
     (volumes mode cut)
 
-zeros_even : (mode : Mode) (dirty lost : Bool) (note : Sector) (set : Disks) → IsEven (shown_by (even_pair mode dirty lost note)) (two mode) (Some (status_of (even_pair mode dirty lost note))) set
+pub zeros_even : (mode : Mode) (dirty lost : Bool) (note : Sector) (set : Disks) → IsEven (shown_by (even_pair mode dirty lost note)) (two mode) (Some (status_of (even_pair mode dirty lost note))) set
 zeros_even mode dirty lost note set row lp b one on inside =
     (zero_sector, of_passing (λ p. block_at (shown_by (even_pair mode dirty lost note)) 1 p b ≡ zero_sector) (λ p. set p.disk && not (is_stale_by (Some (status_of (even_pair mode dirty lost note))) p)) (copies_of row lp)
     (λ p copy use_. stands_at (even_pair mode dirty lost note) p b))
