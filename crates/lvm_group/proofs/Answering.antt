@@ -1,21 +1,21 @@
 -- What the making and the removal of a volume answer.
-use Rattle.std.proofs.Common.{◌≡◌, ◌⊎◌, inl, inr, ⊎_elim, ℕ, ◌<◌, ◌≤◌, Bool, true, false, List, [], Result, Ok, Err, refl, sym, ap, subst, ◌∙◌}
-use Rattle.std.specs.Prelude.{IsTrue, Contains}
+use Rattle.std.proofs.Common.{◌≡◌, inl, inr, ⊎_elim, ℕ, Result, Ok, Err, refl, ◌∙◌}
+use Rattle.std.specs.Prelude.{Contains}
 use Rattle.lvm_num.specs.declared.place.Pp.{Pp}
 use Rattle.lvm_num.specs.declared.descriptor.Descriptor.{Descriptor}
 use Rattle.lvm_vol.specs.declared.entry.Vol.TheVariants.{Lv}
-use Rattle.lvm_vol.specs.Facts.{Fact, Making, Made, Removed}
+use Rattle.lvm_vol.specs.Facts.{Making, Made, Removed}
 use Rattle.lvm_vol.specs.Log.{Log, with_fact}
 use Rattle.lvm_core.specs.declared.fault.CommitFault.{CommitFault}
 use Rattle.lvm_core.specs.declared.fault.CommitFault.TheVariants as commit
-use Rattle.lvm_core.specs.State.{Core, State, is_there}
+use Rattle.lvm_core.specs.State.{State, is_there}
 use Rattle.lvm_core.specs.Settled.{IsSettled}
 use Rattle.lvm_group.specs.declared.fault.GroupFault.{GroupFault}
 use Rattle.lvm_group.specs.declared.fault.GroupFault.TheVariants as fault
 use Rattle.lvm_group.specs.declared.new_volume.NewVolume.{NewVolume}
 use Rattle.lvm_group.specs.declared.new_volume.VolumePlan.{VolumePlan}
-use Rattle.lvm_group.specs.NewVolume.{row_for, with_volume, without_volume}
-use Rattle.lvm_group.specs.Endings.{fault_of, TakesCommands, IfOn, IsOfCommand, Leaves, FindsOnly}
+use Rattle.lvm_group.specs.NewVolume.{without_volume}
+use Rattle.lvm_group.specs.Endings.{fault_of, IfOn, Leaves, FindsOnly}
 use Rattle.lvm_group.specs.PlannedVolume.{IsPlannedVolume, IsWithout}
 use Rattle.lvm_group.specs.Stages.{IfOn as IfStays, making_of, BreaksOff, MakeEnds, IsNamed, RemoveEnds, IsUnnamed}
 use Rattle.lvm_group.specs.Volumes.{RefusesMklv, RefusesRmlv, IsWith, IsChosen, making, HasEntered, MakingEnds, IsVolumeMade, MklvGives, IsVolumeRemoved, RmlvGives}
@@ -86,7 +86,7 @@ module _ (N M : Descriptor → Type 0) (Z Y : Pp → Type 0) (names : (d : Descr
       group = leaves.status.group;
       rows = leaves.status.rows;
       stale = λ pp out. leaves.status.stale pp (λ z. out (zeros pp z));
-      none = leaves.status.none;
+      further = leaves.status.further;
       dirty = leaves.status.dirty;
       stays = leaves.status.stays;
       lost = leaves.status.lost;

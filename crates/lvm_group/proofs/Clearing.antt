@@ -1,9 +1,9 @@
 -- Partitions become fresh, and then zeros.
-use Rattle.std.proofs.Common.{◌≡◌, ◌⊎◌, inl, inr, ⊎_elim, ℕ, zero, suc, ◌+◌, ◌-◌, ◌<◌, ◌≤◌, Bool, true, false, ◌&&◌, ◌||◌, List, [], ◌∷◌, Option, Some, None, Result, Ok, Err, length, get_or, refl, sym, ap, subst, ◌∙◌, eq-eqb, arith}
+use Rattle.std.proofs.Common.{◌≡◌, inl, inr, ⊎_elim, ℕ, suc, ◌-◌, ◌≤◌, Bool, true, false, ◌&&◌, ◌||◌, List, [], ◌∷◌, Result, Ok, Err, get_or, refl, sym, ap, subst, ◌∙◌, arith}
 use Rattle.std.specs.Prelude.{◌==◌, not, IsTrue, IsFalse, All, Contains}
 use Rattle.std.specs.List.{list_any}
 use Rattle.std.proofs.lemmas.Bool.{eqb-true, false≢true}
-use Rattle.std.proofs.lemmas.List.Elements.{Contains-get_or}
+use Rattle.std.proofs.lemmas.List.Folds.{list_any_at}
 use Rattle.lvm_num.specs.declared.place.Pp.{Pp}
 use Rattle.lvm_num.specs.declared.descriptor.Descriptor.{Descriptor}
 use Rattle.lvm_num.specs.declared.status.Status.{Status}
@@ -12,18 +12,18 @@ use Rattle.lvm_num.specs.Status.{calls_stale, calls_missing}
 use Rattle.lvm_disk.specs.Counts.{RoseBy, NoneFalls}
 use Rattle.lvm_vol.specs.Log.{Log, cut_log}
 use Rattle.lvm_kept.specs.Moments.{Moment, StaysCalm}
-use Rattle.lvm_change.proofs.Booleans.{split}
+use Rattle.lvm_change.proofs.Booleans.{split, either}
 use Rattle.lvm_stale.specs.Table.{is_pp}
 use Rattle.lvm_quorum.specs.Written.{KeepsShelf}
 use Rattle.lvm_commit.specs.LawsOfFinding.{FindsNothingNewOn}
 use Rattle.lvm_commit.specs.LawsOfVolumes.{IsOnlyGroupOn}
-use Rattle.lvm_commit.specs.Settling.{SpendsNumbers, IsOfStatus}
+use Rattle.lvm_commit.specs.Settling.{NoneIsLeft, SpendsNumbers, IsOfStatus}
 use Rattle.lvm_core.specs.declared.fault.CommitFault.{CommitFault}
 use Rattle.lvm_core.specs.declared.fault.CommitFault.TheVariants as commit
 use Rattle.lvm_core.specs.State.{Core, State, is_there}
 use Rattle.lvm_core.specs.Held.{IsHeld}
 use Rattle.lvm_core.specs.Settled.{IsSettled}
-use Rattle.lvm_core.specs.Committing.{is_among, moment_of, SpanGoesOn, StaysBehind, Marks, Restates, HasCommitted, CommitEnds}
+use Rattle.lvm_core.specs.Committing.{is_among, moment_of, SpanGoesOn, StaysBehind, Restates, HasCommitted, CommitEnds}
 use Rattle.lvm_group.specs.Endings.{IsOfCommand, KeepsHistory, FindsOnly, StillHeld}
 use Rattle.lvm_map.specs.FirstFit.{is_on}
 use Rattle.lvm_status.specs.Update.{members_there}
@@ -35,6 +35,7 @@ use Rattle.lvm_group.specs.PlannedVolume.{IsOneGroup}
 use Rattle.lvm_group.specs.Stages.{Goes, IfOn, AreUnusedOn, IsLowestMissing, FailsOn, ZerosEnd, ClearEnds}
 use Rattle.lvm_group.specs.Volumes.{AreZeroed}
 use Rattle.lvm_group.proofs.Leaving.{wider}
+use Rattle.lvm_group.proofs.Left.{itself, is_used}
 use Rattle.lvm_group.proofs.Going.{keeps_same, keeps_cut, finds_nothing, only_still, goes_then, still_then}
 use Rattle.lvm_group.proofs.Zeroing.{NoNext, dark_history}
 
@@ -66,6 +67,21 @@ was : (a b : Bool) → IsTrue ((a || false) && not b) → IsTrue a
 was true b is = refl
 was false b is = is
 
+-- what is to be fresh isn't stale,
+not_marked : (a b : Bool) → b ≡ true → IsTrue ((a || false) && not b) → ⊥
+not_marked true b is marked = false≢true (sym (ap not is) ∙ marked)
+not_marked false b is marked = false≢true marked
+
+-- since no copy of a volume is among it
+pub fresh_of : (map : List Pp) (a b : State) → All (IsFree a.core.descriptor) map → Restates [] map a b → All (λ (pp : Pp). IsFalse (calls_stale b.core.status.wanted pp)) map
+fresh_of map a b free marks k e lt = ⊎_elim
+    (λ stale. ⊎_elim
+    (λ marked. absurd (not_marked (calls_stale a.core.status.wanted (get_or map k e)) (is_among map (get_or map k e)) (list_any_at (λ (q : Pp). is_pp (get_or map k e) q) map k e lt (itself (get_or map k e))) marked))
+    (λ passed. absurd (free k e lt (is_used a.core.descriptor passed.row passed.lp (get_or map k e) passed.volume passed.one)))
+    (marks.only (get_or map k e) stale))
+    (λ fresh. fresh)
+    (either (calls_stale b.core.status.wanted (get_or map k e)))
+
 -- ---- the status with fresh marks
 
 module _ (map : List Pp) (p q : ℕ) (a b : State) (answer : Result (Unit {0}) CommitFault) (settled : IsSettled a.core) (ends : CommitEnds a.core.descriptor p a b answer)
@@ -92,8 +108,8 @@ module _ (map : List Pp) (p q : ℕ) (a b : State) (answer : Result (Unit {0}) C
       status = record {
         group = marks.group;
         rows = marks.rows;
-        stale = λ pp out. marks.marks pp ∙ kept (calls_stale a.core.status.wanted pp) (is_among map pp) (not_among map pp out);
-        none = λ pp is. was (calls_stale a.core.status.wanted pp) (is_among map pp) (subst IsTrue (marks.marks pp) is);
+        stale = λ pp out is. marks.kept pp (kept (calls_stale a.core.status.wanted pp) (is_among map pp) (not_among map pp out) ∙ is);
+        further = λ pp is. ⊎_elim (λ marked. inl (was (calls_stale a.core.status.wanted pp) (is_among map pp) marked)) (λ passed. inr passed.absent) (marks.only pp is);
         dirty = marks.dirty;
         stays = marks.stays;
         lost = marks.lost;
@@ -113,6 +129,7 @@ module _ (map : List Pp) (p q : ℕ) (a b : State) (answer : Result (Unit {0}) C
   fresh_still held same = record {
     held = held;
     only = λ h only. subst (λ (d : Descriptor). IsOnlyGroupOn b.device d.id) (sym same) (only_still NoNext a b a.core.descriptor.id (λ k none. absurd none) h fresh_finds only);
+    left = λ none. subst (λ (d : Descriptor). NoneIsLeft d b.core.status) (sym same) (marks.none none);
   }
 
   -- where it wasn't committed
@@ -217,8 +234,8 @@ module _ (map : List Pp) (p q : ℕ) (a b : State) (settled : IsSettled a.core) 
         settled = subst IsSettled (sym ends.same.core) done.settled;
         is = subst (λ (x : Core). x ≡ record a.core { status = x.status; homes = x.homes }) (sym ends.same.core) done.is;
         there = subst (λ (x : Core). All (λ (pp : Pp). IsTrue (is_there x pp.disk)) map) (sym ends.same.core) here;
-        fresh = subst (λ (x : Core). Marks [] map a.core.status.committed x.status.committed) (sym ends.same.core)
-            (subst (λ (s : Status). Marks [] map s b.core.status.committed) (sym settled.committed) (subst (λ (s : Status). Marks [] map a.core.status.wanted s) (sym done.settled.committed) marks.marks));
+        fresh = subst (λ (x : Core). All (λ (pp : Pp). IsFalse (calls_stale x.status.committed pp)) map) (sym ends.same.core)
+            (subst (λ (s : Status). All (λ (pp : Pp). IsFalse (calls_stale s pp)) map) (sym done.settled.committed) (fresh_of map a b unused.free marks));
         zeros = subst (λ (d : Descriptor). AreZeroed d.mib map c.device) same ends.zeros;
         ready = ends.same.ready;
         cuts = ends.same.cuts ∙ done.cuts;

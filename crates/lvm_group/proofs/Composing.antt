@@ -3,7 +3,7 @@ use Rattle.std.proofs.Common.{◌≡◌, inl, inr, ⊎_elim, ℕ, ◌-◌, ◌�
 use Rattle.std.specs.Prelude.{if◌then◌else◌}
 use Rattle.lvm_num.specs.Disks.{Disks, has}
 use Rattle.lvm_disk.specs.Counts.{RoseBy, Rose}
-use Rattle.lvm_disk.specs.Device.{Media, Range, Device, image_of}
+use Rattle.lvm_disk.specs.Device.{Media, Range, Device, IsReady, image_of}
 use Rattle.lvm_disk.specs.Steps.{BothTold}
 use Rattle.lvm_vol.specs.Log.{Log, cut_log, spare_entries}
 use Rattle.lvm_kept.specs.Plans.{Plan as Bringing, ChangesBy}
@@ -15,9 +15,9 @@ use Rattle.lvm_begin.specs.Ends.{BothFlip, HasNoFault, StopsAt, IsFirstFailed, W
 use Rattle.lvm_core.specs.declared.parts.Room.{Room}
 use Rattle.lvm_core.specs.declared.refused.Cause.{Cause}
 use Rattle.lvm_core.specs.declared.refused.Cause.TheVariants as cause
-use Rattle.lvm_group.specs.NewGroup.{NewGroup, among, size_for, given_up, MayBegin}
+use Rattle.lvm_group.specs.NewGroup.{NewGroup, among, size_for, given_up, MayBegin, RefusesFirst}
 use Rattle.lvm_group.specs.Shown.{IsClear}
-use Rattle.lvm_group.specs.Planned.{IsPlanned}
+use Rattle.lvm_group.specs.Planned.{IsPlanned, RefusesPlan}
 use Rattle.lvm_group.specs.Made.{beginning_for, IsAsBefore, Stops, Breaks, HasRead, Refuses}
 use Rattle.lvm_group.specs.Steps.{HasOnlyRead, IsFree, RefusesFound, AreWritten, BreaksOff, Stands, is_dark}
 use Rattle.lvm_group.specs.declared.look.Free.{Free}
@@ -32,6 +32,29 @@ cut_where why log = if is_dark why then cut_log log else log
 
 has_read : (was is : Log) (old new : Device) → HasOnlyRead old new → is ≡ was → HasRead was is old new
 has_read was is old new reads same = record { unwritten = reads.unwritten; rested = reads.rested; history = same }
+
+refuses_first : (w : NewGroup) (patience : ℕ) (log : Log) (device : Device) (why : Cause) → RefusesFirst device.sizes (spare_entries log) w.disks w.mib why → Refuses w patience log log device device why
+refuses_first w patience log device (cause.NoDisk disk) refuses = (record { shelf = refl; history = refl }, refuses)
+refuses_first w patience log device (cause.TooMany limit) refuses = (record { shelf = refl; history = refl }, refuses)
+refuses_first w patience log device (cause.TooSmall disk) refuses = (record { shelf = refl; history = refl }, refuses)
+refuses_first w patience log device cause.HistoryFull refuses = (record { shelf = refl; history = refl }, refuses)
+refuses_first w patience log device (cause.DiskFailed disk) refuses = absurd refuses
+refuses_first w patience log device cause.GroupExists refuses = absurd refuses
+refuses_first w patience log device (cause.ClockBack seen) refuses = absurd refuses
+refuses_first w patience log device cause.Dark refuses = absurd refuses
+refuses_first w patience log device cause.Stuck refuses = absurd refuses
+refuses_first w patience log device cause.Memory refuses = absurd refuses
+refuses_first w patience log device cause.NoRecord refuses = refuses
+refuses_first w patience log device cause.Ambiguous refuses = refuses
+refuses_first w patience log device (cause.NoQuorum have total) refuses = refuses
+
+pub refuses_plan : (w : NewGroup) (patience : ℕ) (log : Log) (device : Device) (why : Cause) → IsReady device → RefusesPlan w (spare_entries log) device.sizes why → Refuses w patience log log device device why
+refuses_plan w patience log device why ready (inl memory) = subst (Refuses w patience log log device device) (sym memory) (record {
+  unwritten = record { sizes = refl; media = refl; wrote = refl; arranges = refl; orders = refl; faults = refl };
+  rested = record { ready = ready; cuts = refl };
+  history = refl;
+})
+refuses_plan w patience log device why ready (inr refuses) = refuses_first w patience log device why refuses
 
 pub refuses_reading : (w : NewGroup) (patience : ℕ) (was is : Log) (old new : Device) (why : Cause) → MayBegin old.sizes (spare_entries was) w.disks w.mib → is ≡ cut_where why was
     → RefusesFound w.force w.moment patience old new why → Refuses w patience was is old new why

@@ -1,36 +1,29 @@
 -- The entries of a volume in a session, and the commit between them.
-use Rattle.std.proofs.Common.{◌≡◌, ◌⊎◌, inl, inr, ⊎_elim, ℕ, ◌+◌, ◌-◌, ◌<◌, ◌≤◌, Bool, true, false, List, [], ◌∷◌, ◌++◌, append_assoc, Option, Some, None, Result, Ok, Err, refl, sym, ap, subst, ◌∙◌, arith}
+use Rattle.std.proofs.Common.{◌≡◌, inl, inr, ⊎_elim, ℕ, ◌-◌, ◌≤◌, Bool, true, false, [], ◌∷◌, Option, Some, None, Result, Ok, Err, refl, sym, ap, subst, arith}
 use Rattle.std.specs.Prelude.{IsTrue, IfSome, not, length}
 use Rattle.std.proofs.lemmas.List.Sums.{sum_by-append, count_by-le-length}
 use Rattle.lvm_num.specs.declared.place.Pp.{Pp}
-use Rattle.lvm_num.specs.declared.descriptor.Mode.{Mode}
 use Rattle.lvm_num.specs.declared.descriptor.Descriptor.{Descriptor}
-use Rattle.lvm_num.specs.declared.status.Status.{Status}
 use Rattle.lvm_num.specs.DescriptorBytes.{descriptor_bytes}
-use Rattle.lvm_num.specs.Disks.{Disks}
 use Rattle.lvm_num.specs.declared.descriptor.PvRow.{PvRow}
 use Rattle.lvm_num.specs.Descriptor.{IsValid, most_members}
 use Rattle.lvm_num.specs.Status.{calls_missing}
 use Rattle.lvm_disk.specs.Counts.{RoseBy, NoneFalls}
-use Rattle.lvm_disk.specs.Device.{Media, Image, Device, IsReady, image_of, MayLeave}
-use Rattle.lvm_vol.specs.declared.entry.Vol.TheVariants.{Lv}
-use Rattle.lvm_vol.specs.Facts.{Fact, Making, Made, Removing, Removed}
+use Rattle.lvm_disk.specs.Device.{Media, Image, IsReady, image_of, MayLeave}
+use Rattle.lvm_vol.specs.Facts.{Fact}
 use Rattle.lvm_vol.specs.Legal.{IsLater}
-use Rattle.lvm_vol.specs.Log.{Log, with_fact, cut_log, need, needed, spare_entries}
-use Rattle.lvm_vol.specs.Standing.{Open, volumes_in}
+use Rattle.lvm_vol.specs.Log.{Log, with_fact, need, spare_entries}
 use Rattle.lvm_kept.specs.Contents.{contents_of}
 use Rattle.lvm_kept.specs.Moments.{Moment, StaysCalm}
-use Rattle.lvm_change.specs.Moments.{Begins, Holds, Keeps}
-use Rattle.lvm_change.specs.Requests.{at}
 use Rattle.lvm_change.specs.Entering.{OpensNone}
-use Rattle.lvm_change.proofs.Entering.{calm_goes_on, goes_in_span}
+use Rattle.lvm_change.proofs.Entering.{calm_goes_on}
 use Rattle.lvm_status.specs.Update.{members_there}
 use Rattle.lvm_quorum.specs.Written.{KeepsShelf}
 use Rattle.lvm_quorum.proofs.Transfers.{keeps_here, spends_none}
 use Rattle.lvm_commit.specs.Committed.{HoldsCommitted, IsAlike}
 use Rattle.lvm_commit.specs.LawsOfFinding.{FindsNoMoreOn}
-use Rattle.lvm_commit.specs.LawsOfVolumes.{IsOnlyGroupOn, LeavesCommitted, VolumeServes}
-use Rattle.lvm_commit.specs.Settling.{many_there, OnlyLoses, SpendsNumbers, IsOfCommit}
+use Rattle.lvm_commit.specs.LawsOfVolumes.{IsOnlyGroupOn, LeavesCommitted}
+use Rattle.lvm_commit.specs.Settling.{many_there, OnlyLoses, NoneIsLeft, MarksLeft, SpendsNumbers, IsOfCommit}
 use Rattle.lvm_commit.proofs.Still.{still_holds_committed}
 use Rattle.lvm_core.specs.declared.fault.CommitFault.{CommitFault}
 use Rattle.lvm_core.specs.declared.fault.CommitFault.TheVariants as commit
@@ -83,7 +76,7 @@ module _ (N : Descriptor → Type 0) (Z : Pp → Type 0) where
       }
 
   pub entry_still : (s : State) (f : Fact) → StillHeld s (entered s f)
-  entry_still s f = record { held = λ held. held; only = λ held only. only }
+  entry_still s f = record { held = λ held. held; only = λ held only. only; left = λ none. none }
 
 -- ---- what a held session's crash images show
 
@@ -102,7 +95,7 @@ leaves_committed s ready held only = record {
 -- ---- the commit
 
 module _ (N : Descriptor → Type 0) (Z : Pp → Type 0) (next : Descriptor) (its : N next) (p q : ℕ) (a b : State) (answer : Result (Unit {0}) CommitFault) (settled : IsSettled a.core) (group : a.core.status.group ≡ record a.core.descriptor { lvs = [] }) (ends : CommitEnds next p a b answer)
-    (finds : IsHeld a.device a.core → FindsNoMoreOn next a.device b.device) (marks : OnlyLoses a.core.status b.core.status a.device b.device) (numbers : SpendsNumbers 1 a.core.status b.core.status)
+    (finds : IsHeld a.device a.core → FindsNoMoreOn next a.device b.device) (marks : OnlyLoses a.core.status b.core.status a.device b.device) (left : MarksLeft next a.core.status b.core.status) (numbers : SpendsNumbers 1 a.core.status b.core.status)
     (writes : KeepsShelf (is_there a.core) (IsOfCommit (descriptor_bytes next) a.core.status b.core.status) a.device b.device) where
   commit_history : KeepsHistory a.core.history b.core.history
   commit_history = by_answer answer ends
@@ -126,7 +119,7 @@ module _ (N : Descriptor → Type 0) (Z : Pp → Type 0) (next : Descriptor) (it
         group = marks.group;
         rows = marks.rows;
         stale = λ pp out. marks.stale pp;
-        none = λ pp is. subst IsTrue (marks.stale pp) is;
+        further = λ pp is. ⊎_elim (λ before. inl before) (λ passed. inr passed.absent) (left.only pp is);
         dirty = marks.dirty;
         stays = marks.stays;
         lost = λ d is isnt. let two = marks.lost d is isnt in (subst (λ (g : Descriptor). IsTrue (members_there g a.core.status.wanted d)) group two.0, two.1);
@@ -142,11 +135,13 @@ module _ (N : Descriptor → Type 0) (Z : Pp → Type 0) (next : Descriptor) (it
     falls = falls;
   }
 
-  pub commit_still : (IsHeld a.device a.core → IsHeld b.device b.core) → b.core.descriptor ≡ next → ((k : Descriptor) → N k → k.id ≡ a.core.descriptor.id) → StillHeld a b
-  commit_still held same ids = record {
+  pub commit_still : (IsHeld a.device a.core → IsHeld b.device b.core) → b.core.descriptor ≡ next → ((k : Descriptor) → N k → k.id ≡ a.core.descriptor.id)
+      → (NoneIsLeft a.core.descriptor a.core.status → NoneIsLeft next a.core.status) → StillHeld a b
+  commit_still held same ids none_next = record {
     held = held;
     only = λ h only. subst (λ (d : Descriptor). IsOnlyGroupOn b.device d.id) (sym same)
         (subst (λ (n : ℕ). IsOnlyGroupOn b.device n) (sym (ids next its)) (only_still N a b a.core.descriptor.id ids h commit_finds only));
+    left = λ none. subst (λ (d : Descriptor). NoneIsLeft d b.core.status) (sym same) (left.none (none_next none));
   }
 
 -- ---- sequence numbers

@@ -1,6 +1,6 @@
 -- Stages of a command, one after another.
-use Rattle.std.proofs.Common.{◌≡◌, ◌⊎◌, inl, inr, ⊎_elim, ℕ, ◌+◌, ◌<◌, ◌≤◌, Bool, true, false, List, [], ◌∷◌, ◌++◌, Option, Some, None, refl, sym, ap, subst, ◌∙◌, arith}
-use Rattle.std.specs.Prelude.{IsTrue, IfSome, IsSomeAnd, if◌then◌else◌}
+use Rattle.std.proofs.Common.{◌≡◌, ◌⊎◌, inl, inr, ⊎_elim, ℕ, Bool, true, false, List, [], ◌∷◌, Option, Some, None, refl, sym, ap, subst, ◌∙◌, arith}
+use Rattle.std.specs.Prelude.{IfSome, IsSomeAnd, if◌then◌else◌}
 use Rattle.std.proofs.lemmas.List.{append-nil}
 use Rattle.lvm_num.specs.declared.place.Pp.{Pp}
 use Rattle.lvm_num.specs.declared.descriptor.Descriptor.{Descriptor}
@@ -11,11 +11,10 @@ use Rattle.lvm_disk.specs.Steps.{BothTold}
 use Rattle.lvm_vol.specs.Facts.{Fact, Cut}
 use Rattle.lvm_vol.specs.Legal.{IsLater}
 use Rattle.lvm_vol.specs.Log.{Log, with_fact, is_uncut, cut_log}
-use Rattle.lvm_kept.specs.Contents.{Contents, contents_of}
+use Rattle.lvm_kept.specs.Contents.{contents_of}
 use Rattle.lvm_kept.specs.Group.{IsFound}
 use Rattle.lvm_change.proofs.Making.{media_may}
 use Rattle.lvm_change.proofs.Spans.{later_append}
-use Rattle.lvm_quorum.specs.Parts.{Spends}
 use Rattle.lvm_quorum.proofs.Transfers.{spends_none, spends_then}
 use Rattle.lvm_commit.specs.LawsOfFinding.{FindsNothingNew, FindsNoMore, FindsNothingNewOn, FindsNoMoreOn}
 use Rattle.lvm_commit.specs.LawsOfVolumes.{IsOnlyGroupOn}
@@ -97,10 +96,10 @@ only_still N a b id its held finds only image may other k is = ⊎_elim
 -- ---- one stage after another
 
 pub still_then : (a b c : State) → StillHeld a b → StillHeld b c → StillHeld a c
-still_then a b c one two = record { held = λ held. two.held (one.held held); only = λ held only. two.only (one.held held) (one.only held only) }
+still_then a b c one two = record { held = λ held. two.held (one.held held); only = λ held only. two.only (one.held held) (one.only held only); left = λ none. two.left (one.left none) }
 
 pub still_none : (a : State) → StillHeld a a
-still_none a = record { held = λ held. held; only = λ held only. only }
+still_none a = record { held = λ held. held; only = λ held only. only; left = λ none. none }
 
 falls_then : (a b c : Device) → NoneFalls a.counts b.counts → NoneFalls b.counts c.counts → NoneFalls a.counts c.counts
 falls_then a b c one two = record {

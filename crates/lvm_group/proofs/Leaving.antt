@@ -1,6 +1,6 @@
 -- What a command leaves, one call after another.
-use Rattle.std.proofs.Common.{◌≡◌, ◌⊎◌, inl, inr, ⊎_elim, ℕ, ◌+◌, ◌-◌, ◌<◌, ◌≤◌, Bool, true, false, List, Option, refl, sym, ap, subst, ◌∙◌, arith}
-use Rattle.std.specs.Prelude.{◌&&◌, not, IsTrue, IsFalse, map}
+use Rattle.std.proofs.Common.{◌≡◌, inl, inr, ⊎_elim, ℕ, ◌<◌, ◌≤◌, Bool, true, false, List, refl, sym, subst, ◌∙◌, arith}
+use Rattle.std.specs.Prelude.{◌&&◌, not, IsTrue, IsFalse}
 use Rattle.std.proofs.lemmas.Bool.{false≢true}
 use Rattle.lvm_num.specs.declared.place.Pp.{Pp}
 use Rattle.lvm_num.specs.declared.descriptor.Descriptor.{Descriptor}
@@ -8,19 +8,19 @@ use Rattle.lvm_num.specs.declared.status.Status.{Status}
 use Rattle.lvm_num.specs.Buffer.{Sector}
 use Rattle.lvm_num.specs.Disks.{Disks}
 use Rattle.lvm_num.specs.Descriptor.{is_member}
-use Rattle.lvm_num.specs.Status.{calls_stale, calls_missing}
+use Rattle.lvm_num.specs.Status.{calls_missing}
 use Rattle.lvm_disk.specs.Counts.{Rose, NoneFalls}
 use Rattle.lvm_disk.specs.Device.{Device, image_of}
 use Rattle.lvm_kept.specs.Torn.{RecordWrite}
 use Rattle.lvm_kept.specs.Plans.{Plan, ChangesBy}
-use Rattle.lvm_status.specs.Update.{Stored, members_there}
+use Rattle.lvm_status.specs.Update.{members_there}
 use Rattle.lvm_quorum.specs.Written.{KeepsShelf}
 use Rattle.lvm_quorum.proofs.Writing.{logs_wider, both_map, changes_more}
 use Rattle.lvm_quorum.proofs.Transfers.{keeps_here, keeps_then}
 use Rattle.lvm_commit.specs.Settling.{there, IsOfSession, StatesGroup, IsOfStatus, IsOfCommit}
 use Rattle.lvm_core.specs.State.{State, is_there}
 use Rattle.lvm_core.specs.Zeros.{IsZeroOf}
-use Rattle.lvm_group.specs.Endings.{IsOfCommand, KeepsStatus, StampsRise, KeepsHistory, Leaves}
+use Rattle.lvm_group.specs.Endings.{IsOfCommand, StampsRise, Leaves}
 
 -- ---- counts
 
@@ -61,6 +61,10 @@ fewer false a b more is = is
 pub there_before : (d : Descriptor) (old new : Status) (disk : ℕ) → (IsTrue (calls_missing old disk) → IsTrue (calls_missing new disk)) → IsTrue (members_there d new disk) → IsTrue (members_there d old disk)
 there_before d old new disk stays is = fewer (is_member d disk) (calls_missing old disk) (calls_missing new disk) stays is
 
+there_less : (a b : State) → b.core.status.group ≡ a.core.status.group → ((d : ℕ) → IsTrue (calls_missing a.core.status.wanted d) → IsTrue (calls_missing b.core.status.wanted d)) → (d : ℕ)
+    → IsTrue (there b.core.status d) → IsTrue (there a.core.status d)
+there_less a b group stays d is = there_before a.core.status.group a.core.status.wanted b.core.status.wanted d (stays d) (subst (λ (g : Descriptor). IsTrue (members_there g b.core.status.wanted d)) group is)
+
 module _ (N : Descriptor → Type 0) (Z : Pp → Type 0) where
   -- ---- nothing
 
@@ -70,8 +74,8 @@ module _ (N : Descriptor → Type 0) (Z : Pp → Type 0) where
     status = record {
       group = refl;
       rows = record { id = refl; big = refl; disks = refl };
-      stale = λ p off. refl;
-      none = λ p is. is;
+      stale = λ p off is. is;
+      further = λ p is. inl is;
       dirty = refl;
       stays = λ d m. m;
       lost = λ d is isnt. absurd (false≢true (sym isnt ∙ is));
@@ -97,14 +101,11 @@ module _ (N : Descriptor → Type 0) (Z : Pp → Type 0) where
       its = is.its;
     }
 
-    there_first : (d : ℕ) → IsTrue (there b.core.status d) → IsTrue (there a.core.status d)
-    there_first d is = there_before a.core.status.group a.core.status.wanted b.core.status.wanted d (stays d) (subst (λ (g : Descriptor). IsTrue (members_there g b.core.status.wanted d)) group is)
-
     session_second : (write : RecordWrite) (d s : ℕ) (value : Sector) → IsOfSession b.core.status c.core.status write d s value → IsOfSession a.core.status c.core.status write d s value
     session_second write d s value is = record {
       frames = is.frames;
       slots = is.slots;
-      targets = λ disk t. there_first disk (is.targets disk t);
+      targets = λ disk t. there_less a b group stays disk (is.targets disk t);
       epoch = is.epoch ∙ one.epoch;
       later = omega (arith, is.later, one.rises);
       latest = is.latest;
@@ -147,8 +148,11 @@ module _ (N : Descriptor → Type 0) (Z : Pp → Type 0) where
     status = record {
       group = two.status.group ∙ one.status.group;
       rows = record { id = two.status.rows.id ∙ one.status.rows.id; big = two.status.rows.big ∙ one.status.rows.big; disks = two.status.rows.disks ∙ one.status.rows.disks };
-      stale = λ p off. two.status.stale p off ∙ one.status.stale p off;
-      none = λ p is. one.status.none p (two.status.none p is);
+      stale = λ p off is. two.status.stale p off (one.status.stale p off is);
+      further = λ p is. ⊎_elim
+          (λ before. ⊎_elim (λ first. inl first) (λ gone. inr (outside (there c.core.status p.disk) (there b.core.status p.disk) (there_less b c two.status.group two.status.stays p.disk) gone)) (one.status.further p before))
+          (λ gone. inr gone)
+          (two.status.further p is);
       dirty = two.status.dirty ∙ one.status.dirty;
       stays = λ d is. two.status.stays d (one.status.stays d is);
       lost = λ d is isnt. lost d (calls_missing b.core.status.wanted d) refl is isnt;

@@ -7,6 +7,7 @@ pub mod Counts
 pub mod Composing
 pub mod Keeping
 pub mod Midst
+pub mod Left
 pub mod Starting
 pub mod Numbers
 pub mod Sublists

@@ -1,57 +1,53 @@
 -- A volume is made: its entries, and the descriptor with it, once its partitions are fresh zeros.
-use Rattle.std.proofs.Common.{◌≡◌, ◌≢◌, ◌⊎◌, inl, inr, ⊎_elim, ℕ, zero, suc, ◌+◌, ◌-◌, ◌*◌, ◌<◌, ◌≤◌, Bool, true, false, ◌&&◌, ◌||◌, List, [], ◌∷◌, ◌++◌, append_assoc, Option, Some, None, Result, Ok, Err, length, get_or, refl, sym, ap, subst, ◌∙◌, arith}
-use Rattle.std.specs.Prelude.{not, IsTrue, IfSome, All, AllPairs, Contains, is_some, find, ◌==◌, if◌then◌else◌}
+use Rattle.std.proofs.Common.{◌≡◌, inl, inr, ⊎_elim, ℕ, zero, suc, ◌+◌, ◌*◌, ◌<◌, ◌≤◌, Bool, true, false, List, [], ◌∷◌, ◌++◌, append_assoc, Option, Some, None, Result, Ok, Err, length, get_or, refl, sym, ap, subst, ◌∙◌, arith}
+use Rattle.std.specs.Prelude.{not, IsTrue, IsFalse, IfSome, All, AllPairs, Contains, is_some, find, ◌==◌, if◌then◌else◌}
 use Rattle.std.proofs.lemmas.Bool.{eqb-true}
-use Rattle.std.proofs.lemmas.List.Elements.{All-weaker, All-from_get_or}
 use Rattle.lvm_num.specs.declared.place.Pp.{Pp}
 use Rattle.lvm_num.specs.declared.record.Kind.{Kind}
 use Rattle.lvm_num.specs.declared.record.Kind.TheVariants as kind
-use Rattle.lvm_num.specs.declared.descriptor.Mode.{Mode}
 use Rattle.lvm_num.specs.declared.descriptor.PvRow.{PvRow}
-use Rattle.lvm_num.specs.declared.descriptor.LvRow.{LvRow}
 use Rattle.lvm_num.specs.declared.descriptor.Descriptor.{Descriptor}
 use Rattle.lvm_num.specs.declared.status.Status.{Status}
 use Rattle.lvm_num.specs.Buffer.{Sector, zero_sector}
 use Rattle.lvm_num.specs.Geometry.{data_start, volume_blocks}
-use Rattle.lvm_num.specs.Record.{Frames, record_sectors, slot_start, longest_content}
-use Rattle.lvm_num.specs.Descriptor.{IsMember, IsPartitionOf, IsValid, member_of, is_member, volume_of}
+use Rattle.lvm_num.specs.Record.{record_sectors, slot_start, longest_content}
+use Rattle.lvm_num.specs.Descriptor.{IsMember, is_member, volume_of}
 use Rattle.lvm_num.specs.DescriptorBytes.{descriptor_bytes}
 use Rattle.lvm_num.specs.Status.{calls_stale}
 use Rattle.lvm_num.specs.Votes.{CanWrite}
-use Rattle.lvm_disk.specs.Device.{Media, Device, image_of}
+use Rattle.lvm_disk.specs.Device.{Media, image_of}
 use Rattle.lvm_vol.specs.Facts.{Fact, Making, Made}
 use Rattle.lvm_vol.specs.Log.{Log, with_fact, cut_log}
 use Rattle.lvm_vol.specs.Standing.{Open, Volume, volumes_in}
 use Rattle.lvm_kept.specs.Contents.{contents_of}
 use Rattle.lvm_kept.specs.Kept.{Kept}
 use Rattle.lvm_kept.specs.Moments.{Moment}
-use Rattle.lvm_kept.specs.Torn.{RecordWrite, IsOfRecord}
 use Rattle.lvm_map.specs.FirstFit.{IsAllocated, new_volume}
-use Rattle.lvm_change.specs.Moments.{Begins, Holds, Keeps}
 use Rattle.lvm_change.proofs.Making.{media_may}
+use Rattle.lvm_status.specs.Update.{members_there}
 use Rattle.lvm_quorum.specs.Written.{KeepsShelf}
 use Rattle.lvm_quorum.proofs.Transfers.{darkened_then, given_up_then}
 use Rattle.lvm_commit.specs.Committed.{ShowsCommitted, HoldsCommitted}
-use Rattle.lvm_commit.specs.LawsOfData.{IsFree, IsSectorOf}
-use Rattle.lvm_commit.specs.LawsOfVolumes.{IsOnlyGroupOn, VolumeServes}
-use Rattle.lvm_commit.specs.Settling.{OnlyLoses, IsOfCommit}
+use Rattle.lvm_commit.specs.LawsOfData.{IsSectorOf}
+use Rattle.lvm_commit.specs.LawsOfVolumes.{VolumeServes}
+use Rattle.lvm_commit.specs.Settling.{NoneIsLeft, MarksLeft, IsOfCommit}
 use Rattle.lvm_commit.proofs.Volumes.{volume_begins_in_session, volume_is_made_in_session}
 use Rattle.lvm_core.specs.declared.fault.CommitFault.{CommitFault}
 use Rattle.lvm_core.specs.declared.fault.CommitFault.TheVariants as commit
 use Rattle.lvm_core.specs.State.{Core, State, is_there}
 use Rattle.lvm_core.specs.Held.{IsHeld}
 use Rattle.lvm_core.specs.Settled.{IsSettled}
-use Rattle.lvm_core.specs.Committing.{is_among, Marks, LetsCommit, HasCommitted, CommitEnds}
-use Rattle.lvm_core.specs.Zeros.{IsZeroed}
+use Rattle.lvm_core.specs.Committing.{LetsCommit, HasCommitted, CommitEnds}
 use Rattle.lvm_group.specs.declared.new_volume.NewVolume.{NewVolume}
 use Rattle.lvm_group.specs.declared.new_volume.VolumePlan.{VolumePlan}
 use Rattle.lvm_group.specs.NewVolume.{row_for, with_volume}
 use Rattle.lvm_group.specs.Endings.{StillHeld}
 use Rattle.lvm_group.specs.PlannedVolume.{IsPlannedVolume}
-use Rattle.lvm_group.specs.Stages.{Goes, IfOn, AreUnusedOn, AreCleared, ClearEnds, making_of, IsNamed, MakeEnds}
+use Rattle.lvm_group.specs.Stages.{Goes, AreUnusedOn, AreCleared, ClearEnds, making_of, IsNamed, MakeEnds}
 use Rattle.lvm_group.specs.Volumes.{AreZeroed}
 use Rattle.lvm_group.proofs.Groups.{size_positive}
 use Rattle.lvm_group.proofs.Leaving.{rose_from, there_before, wider}
+use Rattle.lvm_group.proofs.Left.{none_with, fresh_with}
 use Rattle.lvm_group.proofs.Going.{goes_then, still_then}
 use Rattle.lvm_group.proofs.Zeroing.{NoNext, dark_history}
 use Rattle.lvm_group.proofs.Zeros.{zeros_stay}
@@ -186,7 +182,7 @@ module _ (v : NewVolume) (plan : VolumePlan) (a : State) (settled : IsSettled a.
               subst (λ (o : Option Media). IfSome o (λ media. (disk s : ℕ) → IsSectorOf d.mib (get_or plan.map k e) disk s → media disk s ≡ zero_sector)) told (cleared.zeros k e lt) in
               let all : VolumeServes (contents_of (image_of b.device.sizes m)) (facts ++ made ∷ []) d plan.number (with_volume d (row_for v plan.number plan.map)) =
               new_serves v plan.number plan.map d planned.lowest planned.order planned.group.valid (size_positive d.mib planned.group.valid.head.size) one whole
-              m b.device.sizes facts b.core.status.committed a.core.status.committed (is_there b.core) enough shows kept zeros cleared.there cleared.fresh in
+              m b.device.sizes facts b.core.status.committed (is_there b.core) enough shows kept zeros cleared.there cleared.fresh in
               subst (λ (x : Descriptor). VolumeServes (contents_of (image_of b.device.sizes m)) (past ++ (b.core.history.facts ++ f ∷ [])) x plan.number plan.next) (sym same)
               (subst (λ (x : Descriptor). VolumeServes (contents_of (image_of b.device.sizes m)) (past ++ (b.core.history.facts ++ f ∷ [])) d plan.number x) (sym planned.next)
               (subst (λ (l : List Fact). VolumeServes (contents_of (image_of b.device.sizes m)) l d plan.number (with_volume d (row_for v plan.number plan.map))) (sym grouped) all))
@@ -196,9 +192,16 @@ module _ (v : NewVolume) (plan : VolumePlan) (a : State) (settled : IsSettled a.
           by_media None told shown = tt
           by_media (Some m) told shown = serves m told shown
 
+      -- none of its copies is left behind
+      pub none_named : NoneIsLeft begun.core.descriptor begun.core.status → NoneIsLeft plan.next begun.core.status
+      none_named none = subst (λ (d : Descriptor). NoneIsLeft d b.core.status) (sym planned.next)
+          (none_with a.core.descriptor v plan.number plan.map b.core.status (λ k e lt. subst (λ (g : Descriptor). IsTrue (members_there g b.core.status.wanted (get_or plan.map k e).disk)) (sym (clear_goes.leaves.status.group ∙ planned.group.status))
+          (subst (λ (d : Descriptor). IsTrue (members_there d b.core.status.wanted (get_or plan.map k e).disk)) same (cleared.there k e lt)))
+          (subst (λ (d : Descriptor). NoneIsLeft d b.core.status) same none))
+
       -- ---- the commit
 
-      module _ (r : ℕ) (c : State) (goes : Goes N Z q r begun c) (marks : OnlyLoses b.core.status c.core.status b.device c.device)
+      module _ (r : ℕ) (c : State) (goes : Goes N Z q r begun c) (left : MarksLeft plan.next b.core.status c.core.status)
           (writes : KeepsShelf (is_there b.core) (IsOfCommit (descriptor_bytes plan.next) b.core.status c.core.status) b.device c.device) where
         pub break_goes : Goes N Z p r a c
         break_goes = goes_then N Z p q r a begun c (ap (λ (d : Descriptor). d.mib) same) (λ d. ap (λ (x : Descriptor). is_member x d) same) begun_goes still_begun goes
@@ -295,7 +298,9 @@ module _ (v : NewVolume) (plan : VolumePlan) (a : State) (settled : IsSettled a.
             settled = settled_entered c (Made plan.number) done.settled;
             is = ap (λ (x : Core). record x { history = with_fact x.history (Made plan.number) }) done.is
                 ∙ ap (λ (x : Core). record x { descriptor = plan.next; history = with_fact (with_fact x.history f) (Made plan.number); status = c.core.status; homes = c.core.homes }) cleared.is;
-            fresh = λ pp. ap (λ (s : Status). calls_stale s pp) done.settled.committed ∙ marks.stale pp ∙ ap (λ (s : Status). calls_stale s pp) (sym cleared.settled.committed) ∙ cleared.fresh pp;
+            fresh = subst (λ (s : Status). All (λ (pp : Pp). IsFalse (calls_stale s pp)) plan.map) (sym done.settled.committed)
+                (fresh_with a.core.descriptor v plan.number plan.map b.core.status c.core.status one plan_unused.free (subst (λ (s : Status). All (λ (pp : Pp). IsFalse (calls_stale s pp)) plan.map) cleared.settled.committed cleared.fresh)
+                (subst (λ (d : Descriptor). MarksLeft d b.core.status c.core.status) planned.next left));
             zeros = zeros_then;
             ready = done.ready;
             cuts = done.cuts ∙ cleared.cuts;

@@ -1,5 +1,5 @@
 -- The descriptor without a volume.
-use Rattle.std.proofs.Common.{◌≡◌, ◌≢◌, ◌⊎◌, inl, inr, ⊎_elim, ℕ, ◌<◌, ◌≤◌, Bool, true, false, cond, List, [], ◌∷◌, ◌++◌, length, get_or, Option, Some, None, refl, sym, ap, subst, ◌∙◌, eq-eqb, arith}
+use Rattle.std.proofs.Common.{◌≡◌, ◌≢◌, inl, inr, ℕ, ◌<◌, ◌≤◌, Bool, true, false, cond, List, [], ◌∷◌, length, get_or, Option, Some, None, refl, sym, ap, subst, ◌∙◌, eq-eqb, arith}
 use Rattle.std.specs.Prelude.{◌==◌, not, find, filter, All, AllPairs, if◌then◌else◌}
 use Rattle.std.proofs.lemmas.Bool.{eqb-true}
 use Rattle.std.proofs.lemmas.List.{get_or_default}
@@ -7,7 +7,7 @@ use Rattle.std.proofs.lemmas.List.Elements.{All-filter, All-append}
 use Rattle.lvm_num.specs.declared.place.Pp.{Pp}
 use Rattle.lvm_num.specs.declared.descriptor.LvRow.{LvRow}
 use Rattle.lvm_num.specs.declared.descriptor.Descriptor.{Descriptor}
-use Rattle.lvm_num.specs.Descriptor.{IsVolume, AreVolumes, IsPartitionOf, IsLaidOut, IsValid, most_volumes, partitions_in, partitions_used, volume_of}
+use Rattle.lvm_num.specs.Descriptor.{IsVolume, IsPartitionOf, IsLaidOut, IsValid, partitions_in, volume_of}
 use Rattle.lvm_num.proofs.Pairs.{All-left, All-right, AllPairs-left, AllPairs-right, AllPairs-across, AllPairs-append}
 use Rattle.lvm_kept.specs.Group.{IsOneOf}
 use Rattle.lvm_change.specs.Committing.{DiffersInVolume}

@@ -1,35 +1,33 @@
 -- A volume is removed: its entries, and the descriptor without it.
-use Rattle.std.proofs.Common.{◌≡◌, ◌⊎◌, inl, inr, ⊎_elim, ℕ, ◌+◌, ◌-◌, ◌<◌, ◌≤◌, Bool, true, false, List, [], ◌∷◌, ◌++◌, append_assoc, Option, Some, None, Result, Ok, Err, refl, sym, ap, subst, ◌∙◌, arith}
+use Rattle.std.proofs.Common.{◌≡◌, ℕ, List, [], ◌∷◌, ◌++◌, append_assoc, Option, Some, None, Result, Ok, Err, refl, sym, ap, subst, ◌∙◌}
 use Rattle.std.specs.Prelude.{IsTrue, IfSome}
 use Rattle.lvm_num.specs.declared.place.Pp.{Pp}
 use Rattle.lvm_num.specs.declared.descriptor.Descriptor.{Descriptor}
 use Rattle.lvm_disk.specs.Device.{Media, image_of}
 use Rattle.lvm_vol.specs.declared.entry.Vol.TheVariants.{Lv}
 use Rattle.lvm_vol.specs.Facts.{Fact, Removing, Removed}
-use Rattle.lvm_vol.specs.Log.{Log, with_fact, cut_log}
+use Rattle.lvm_vol.specs.Log.{with_fact}
 use Rattle.lvm_kept.specs.Contents.{contents_of}
 use Rattle.lvm_kept.specs.Moments.{Moment}
-use Rattle.lvm_change.specs.Moments.{Begins, Holds, Keeps}
 use Rattle.lvm_change.proofs.Entering.{goes_in_span}
-use Rattle.lvm_quorum.proofs.Transfers.{spends_then}
-use Rattle.lvm_commit.specs.LawsOfVolumes.{IsOnlyGroupOn, VolumeServes}
+use Rattle.lvm_commit.specs.LawsOfVolumes.{VolumeServes}
+use Rattle.lvm_commit.specs.Settling.{NoneIsLeft}
 use Rattle.lvm_commit.proofs.Volumes.{volume_is_gone_in_session}
 use Rattle.lvm_core.specs.declared.fault.CommitFault.{CommitFault}
 use Rattle.lvm_core.specs.declared.fault.CommitFault.TheVariants as commit
 use Rattle.lvm_core.specs.State.{Core, State, is_there}
-use Rattle.lvm_core.specs.Held.{IsHeld}
 use Rattle.lvm_core.specs.Settled.{IsSettled}
-use Rattle.lvm_core.specs.Committing.{moment_of, SpanGoesOn, LetsCommit, HasCommitted, CommitEnds}
+use Rattle.lvm_core.specs.Committing.{LetsCommit, HasCommitted, CommitEnds}
 use Rattle.lvm_num.specs.Descriptor.{is_member}
 use Rattle.lvm_group.specs.NewVolume.{without_volume}
-use Rattle.lvm_group.specs.Endings.{StillHeld, EndsDark, EndsOff, EndsStuck}
+use Rattle.lvm_group.specs.Endings.{StillHeld}
 use Rattle.lvm_group.specs.PlannedVolume.{IsWithout}
-use Rattle.lvm_group.specs.Stages.{Goes, IfOn, IsUnnamed, RemoveEnds}
-use Rattle.lvm_group.specs.Volumes.{removing}
+use Rattle.lvm_group.specs.Stages.{Goes, IsUnnamed, RemoveEnds}
 use Rattle.lvm_group.proofs.Going.{goes_then, still_then}
 use Rattle.lvm_group.proofs.Zeroing.{dark_history}
 use Rattle.lvm_group.proofs.Serving.{old_serves}
 use Rattle.lvm_group.proofs.OldDescriptor.{unnamed_without}
+use Rattle.lvm_group.proofs.Left.{none_left_without}
 use Rattle.lvm_group.proofs.Entering.{entered, settled_entered, entry_goes, entry_still, leaves_committed}
 
 -- no zeros
@@ -59,6 +57,10 @@ module _ (lv : ℕ) (next : Descriptor) (a : State) (settled : IsSettled a.core)
       by_media : (o : Option Media) → IfSome o (λ media. VolumeServes (contents_of (image_of a.device.sizes media)) (past ++ (a.core.history.facts ++ Removing (Lv lv) ∷ [])) a.core.descriptor lv next)
       by_media None = tt
       by_media (Some m) = serves m
+
+  -- fewer copies can be left behind
+  pub none_unnamed : NoneIsLeft begun.core.descriptor begun.core.status → NoneIsLeft next begun.core.status
+  none_unnamed none = subst (λ (d : Descriptor). NoneIsLeft d a.core.status) (sym without.is) (none_left_without a.core.descriptor lv a.core.status none)
 
   module _ (p q : ℕ) (b : State) (goes : Goes N NoZeros p q begun b) where
     pub break_goes : Goes N NoZeros p q a b

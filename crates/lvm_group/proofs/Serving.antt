@@ -1,27 +1,26 @@
 -- What a descriptor with a new volume, or without an old one, needs of the history and the disks.
-use Rattle.std.proofs.Common.{◌≡◌, ◌⊎◌, inl, inr, ⊎_elim, ℕ, ◌+◌, ◌-◌, ◌*◌, ◌/◌, ◌%◌, ◌<◌, ◌≤◌, Bool, true, false, ◌&&◌, ◌||◌, append_assoc, List, [], ◌∷◌, ◌++◌, Option, Some, None, length, get_or, refl, sym, ap, subst, ◌∙◌, eq-eqb, arith}
-use Rattle.std.specs.Prelude.{◌==◌, not, find, nat_lt, IsTrue, IsFalse, IfSome, All, Contains, if◌then◌else◌}
-use Rattle.std.proofs.lemmas.Bool.{false≢true, cases_lt}
+use Rattle.std.proofs.Common.{◌≡◌, inl, inr, ⊎_elim, ℕ, ◌+◌, ◌-◌, ◌*◌, ◌%◌, ◌<◌, ◌≤◌, Bool, true, false, ◌&&◌, List, [], ◌∷◌, ◌++◌, Option, Some, None, length, get_or, refl, sym, ap, subst, ◌∙◌, eq-eqb, arith}
+use Rattle.std.specs.Prelude.{◌==◌, find, nat_lt, IsTrue, IsFalse, All, if◌then◌else◌}
+use Rattle.std.proofs.lemmas.Bool.{false≢true}
 use Rattle.std.proofs.lemmas.Bool.Decides.{nat_tests}
 use Rattle.std.proofs.lemmas.List.Elements.{All-contains}
-use Rattle.std.proofs.lemmas.List.Folds.{list_any_at}
 use Rattle.std.proofs.Math.Nat.{div-lt_iff_lt-mul, mul_comm}
 use Rattle.lvm_num.specs.declared.place.Pp.{Pp}
 use Rattle.lvm_num.specs.declared.descriptor.Mode.{Mode}
 use Rattle.lvm_num.specs.declared.descriptor.LvRow.{LvRow}
 use Rattle.lvm_num.specs.declared.descriptor.Descriptor.{Descriptor}
 use Rattle.lvm_num.specs.declared.status.Status.{Status}
-use Rattle.lvm_num.specs.Buffer.{Sector, zero_sector}
+use Rattle.lvm_num.specs.Buffer.{zero_sector}
 use Rattle.lvm_num.specs.Disks.{Disks}
-use Rattle.lvm_num.specs.Geometry.{data_start, partition_blocks, partition_of, sector_of, volume_blocks}
+use Rattle.lvm_num.specs.Geometry.{partition_blocks, sector_of, volume_blocks}
 use Rattle.lvm_num.specs.Descriptor.{IsValid, copies_of, volume_of}
 use Rattle.lvm_num.specs.Status.{calls_stale}
 use Rattle.lvm_num.specs.Votes.{CanWrite}
 use Rattle.lvm_vol.specs.declared.entry.Vol.TheVariants.{Lv}
 use Rattle.lvm_vol.specs.Facts.{Fact, Making, Removing, Cut}
-use Rattle.lvm_vol.specs.May.{Known, known, IsValue, change, cut}
-use Rattle.lvm_vol.specs.Standing.{Standing, Open, Volume, no_volumes, volumes_after_fact, volumes_in, put}
-use Rattle.lvm_disk.specs.Device.{Media, Image, image_of}
+use Rattle.lvm_vol.specs.May.{Known, known, IsValue, cut}
+use Rattle.lvm_vol.specs.Standing.{Standing, Open, Volume, no_volumes, volumes_after_fact, volumes_in}
+use Rattle.lvm_disk.specs.Device.{Media, image_of}
 use Rattle.lvm_kept.specs.Contents.{Contents, contents_of}
 use Rattle.lvm_kept.specs.Group.{block_at, IsBlockOf, IsOneOf}
 use Rattle.lvm_kept.specs.Kept.{StandsAs, Kept}
@@ -31,13 +30,10 @@ use Rattle.lvm_kept.proofs.Values.{known_more}
 use Rattle.lvm_change.specs.Committing.{IsServed}
 use Rattle.lvm_change.proofs.Entries.{volumes-append}
 use Rattle.lvm_change.proofs.VolumeEntries.{zeros_serve}
-use Rattle.lvm_map.specs.FirstFit.{IsAllocated}
 use Rattle.lvm_commit.specs.Committed.{ShowsCommitted}
 use Rattle.lvm_commit.specs.LawsOfData.{IsSectorOf}
 use Rattle.lvm_commit.specs.LawsOfVolumes.{VolumeServes, HasFreshCopies}
 use Rattle.lvm_commit.proofs.Volumes.{zeros_are_found}
-use Rattle.lvm_core.specs.Committing.{is_among, Marks}
-use Rattle.lvm_stale.specs.Table.{is_pp}
 use Rattle.lvm_group.specs.declared.new_volume.NewVolume.{NewVolume}
 use Rattle.lvm_group.specs.NewVolume.{IsLowestFree, IsInOrder, row_for, with_volume, without_volume}
 use Rattle.lvm_group.proofs.Sublists.{one_insert}
@@ -73,13 +69,6 @@ zeros_allowed facts lv blocks n mode lt =
 
 -- ---- with a new volume
 
-no_mark : (a b : Bool) → b ≡ true → a && not b ≡ false
-no_mark true b is = ap not is
-no_mark false b is = refl
-
-itself : (p : Pp) → is_pp p p ≡ true
-itself p = ap (λ (t : Bool). t && (p.pp == p.pp)) (eq-eqb p.disk p.disk refl) ∙ eq-eqb p.pp p.pp refl
-
 module _ (v : NewVolume) (lv : ℕ) (map : List Pp) (d : Descriptor) (lowest : IsLowestFree d lv) (order : IsInOrder d lv) (valid : IsValid d) (size : 1 ≤ d.mib) (one : v.copies ≡ 1) (whole : length map ≡ v.lps * 1) where
   abbrev row : LvRow
   row = row_for v lv map
@@ -101,9 +90,9 @@ module _ (v : NewVolume) (lv : ℕ) (map : List Pp) (d : Descriptor) (lowest : I
           by_test false test rest (inl here) none = false≢true (sym test ∙ eq-eqb x.number lv (ap (λ (y : LvRow). y.number) (sym here) ∙ its))
           by_test false test rest (inr there) none = rest there its none
 
-  module _ (media : Media) (sizes : List ℕ) (facts : List Fact) (status was : Status) (there : Disks) (enough : CanWrite d there) (shows : ShowsCommitted (contents_of (image_of sizes media)) d status there)
+  module _ (media : Media) (sizes : List ℕ) (facts : List Fact) (status : Status) (there : Disks) (enough : CanWrite d there) (shows : ShowsCommitted (contents_of (image_of sizes media)) d status there)
       (kept : Kept (contents_of (image_of sizes media)) (facts ++ Making lv (volume_blocks d.mib v.lps) v.mode ∷ []))
-      (zeros : All (λ (pp : Pp). (disk s : ℕ) → IsSectorOf d.mib pp disk s → media disk s ≡ zero_sector) map) (here : All (λ (pp : Pp). IsTrue (there pp.disk)) map) (fresh : Marks [] map was status) where
+      (zeros : All (λ (pp : Pp). (disk s : ℕ) → IsSectorOf d.mib pp disk s → media disk s ≡ zero_sector) map) (here : All (λ (pp : Pp). IsTrue (there pp.disk)) map) (fresh : All (λ (pp : Pp). IsFalse (calls_stale status pp)) map) where
     abbrev c : Contents
     c = contents_of (image_of sizes media)
 
@@ -126,7 +115,7 @@ module _ (v : NewVolume) (lv : ℕ) (map : List Pp) (d : Descriptor) (lowest : I
         let k = lp * 1 + 0 in
         let within : lp < length map = omega (arith, lt, whole) in
         let within_k : k < length map = omega (arith, lt, whole) in
-        (get_or map k e, its_copy row lp e one within, here k e within_k, fresh (get_or map k e) ∙ no_mark (calls_stale was (get_or map k e) || false) (is_among map (get_or map k e)) (list_any_at (λ (q : Pp). is_pp (get_or map k e) q) map k e within_k (itself (get_or map k e))))
+        (get_or map k e, its_copy row lp e one within, here k e within_k, fresh k e within_k)
 
     its_served : (r : LvRow) → IsOneOf next.lvs r → r.number ≡ lv → IsServed c (facts ++ Making lv (volume_blocks d.mib v.lps) v.mode ∷ []) d r
     its_served r is its = subst (λ (x : LvRow). IsServed c (facts ++ Making lv (volume_blocks d.mib v.lps) v.mode ∷ []) d x) (sym (own_row r is its))

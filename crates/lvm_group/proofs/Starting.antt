@@ -18,6 +18,7 @@ use Rattle.lvm_change.proofs.Entering.{calm_goes_on}
 use Rattle.lvm_change.proofs.Spans.{group_goes_on}
 use Rattle.lvm_status.specs.Update.{Updates, members_there}
 use Rattle.lvm_stamps.specs.Behind.{IsAhead, ClockIsAhead}
+use Rattle.lvm_commit.specs.Settling.{NoneIsLeft}
 use Rattle.lvm_core.specs.declared.parts.Room.{Room}
 use Rattle.lvm_core.specs.Sound.{HaveAllLanded}
 use Rattle.lvm_core.specs.Settled.{IsSettled, HasNumbers}
@@ -30,6 +31,7 @@ use Rattle.lvm_group.specs.Steps.{Stands}
 use Rattle.lvm_group.specs.declared.make.Standing.{Standing}
 use Rattle.lvm_group.proofs.Entries.{spare_given, landed_given, later_given}
 use Rattle.lvm_group.proofs.Groups.{are_placed, nothing_missing}
+use Rattle.lvm_group.proofs.Left.{none_left_of_none}
 
 module _ (w : NewGroup) (room : Room) (was is : Log) (old new : Device) (standing : Standing) (stands : Stands w room was is old new standing) where
   pub spare_left : 1 ≤ spare_entries is
@@ -91,3 +93,7 @@ module _ (w : NewGroup) (room : Room) (was is : Log) (old new : Device) (standin
     starts_settled (new_group old.sizes w) (new_status w) room standing.parts is (record { epoch = w.moment; seq = 2 }) standing.homes stands.parts some votes,
     starts_numbered (new_group old.sizes w) (new_status w) room standing.parts is (record { epoch = w.moment; seq = 2 }) standing.homes stands.parts stands.valid (omega arith),
   )
+
+  -- it has no volume, of which a copy might be left behind
+  pub none_left : (core : Core) → core ≡ first_core standing.parts is (record { epoch = w.moment; seq = 2 }) standing.homes → NoneIsLeft core.descriptor core.status
+  none_left core core_is = none_left_of_none core.descriptor core.status (ap (λ (c : Core). c.descriptor.lvs) core_is ∙ ap (λ (d : Descriptor). d.lvs) stands.parts.descriptor)

@@ -1,19 +1,18 @@
 -- Zeros, one partition after another.
-use Rattle.std.proofs.Common.{◌≡◌, ◌⊎◌, inl, inr, ⊎_elim, ℕ, ◌+◌, ◌-◌, ◌<◌, ◌≤◌, Bool, true, false, List, [], Option, Some, None, Result, Ok, Err, length, take, get_or, refl, sym, ap, subst, ◌∙◌, eq-eqb, arith}
+use Rattle.std.proofs.Common.{◌≡◌, inl, inr, ℕ, ◌-◌, ◌≤◌, List, Result, Ok, Err, sym, ap, subst, ◌∙◌, arith}
 use Rattle.std.specs.Prelude.{◌==◌, IsTrue, IsFalse, All, Contains}
 use Rattle.std.proofs.lemmas.Bool.{eqb-true, false≢true}
 use Rattle.lvm_num.specs.declared.place.Pp.{Pp}
 use Rattle.lvm_num.specs.declared.descriptor.Descriptor.{Descriptor}
-use Rattle.lvm_num.specs.declared.status.Status.{Status}
-use Rattle.lvm_num.specs.Buffer.{Sector}
 use Rattle.lvm_num.specs.Status.{calls_stale, calls_missing}
-use Rattle.lvm_disk.specs.Counts.{Rose, RoseBy, NoneFalls}
+use Rattle.lvm_disk.specs.Counts.{RoseBy, NoneFalls}
 use Rattle.lvm_vol.specs.Log.{Log, cut_log}
 use Rattle.lvm_kept.specs.Moments.{Moment, StaysCalm}
 use Rattle.lvm_status.specs.Update.{Stored}
 use Rattle.lvm_quorum.specs.Written.{KeepsShelf}
 use Rattle.lvm_commit.specs.LawsOfFinding.{FindsNothingNewOn}
 use Rattle.lvm_commit.specs.LawsOfVolumes.{IsOnlyGroupOn}
+use Rattle.lvm_commit.specs.Settling.{NoneIsLeft}
 use Rattle.lvm_core.specs.declared.fault.CommitFault.{CommitFault}
 use Rattle.lvm_core.specs.declared.fault.CommitFault.TheVariants as commit
 use Rattle.lvm_core.specs.State.{Core, State, is_there}
@@ -21,7 +20,7 @@ use Rattle.lvm_core.specs.Held.{IsHeld}
 use Rattle.lvm_core.specs.Settled.{IsSettled}
 use Rattle.lvm_core.specs.Committing.{moment_of, SpanGoesOn, StaysBehind, HasGoneDark}
 use Rattle.lvm_core.specs.Zeros.{IsZeroOf, ZeroEnds}
-use Rattle.lvm_group.specs.Endings.{IsOfCommand, KeepsStatus, KeepsHistory, FindsOnly, StillHeld}
+use Rattle.lvm_group.specs.Endings.{IsOfCommand, KeepsStatus, KeepsHistory, StillHeld}
 use Rattle.lvm_group.specs.Stages.{Goes}
 use Rattle.lvm_group.proofs.Leaving.{wider}
 use Rattle.lvm_group.proofs.Going.{keeps_same, keeps_cut, dark_is_cut, finds_nothing, only_still}
@@ -35,8 +34,8 @@ pub same_status : (Z : Pp → Type 0) (a b : State) → b.core.status ≡ a.core
 same_status Z a b same = record {
   group = ap (λ (s : Stored). s.group) same;
   rows = record { id = ap (λ (s : Stored). s.wanted.id) same; big = ap (λ (s : Stored). s.wanted.big) same; disks = ap (λ (s : Stored). Rattle.std.specs.Prelude.map (λ (r : _). r.disk) s.wanted.rows) same };
-  stale = λ p off. ap (λ (s : Stored). calls_stale s.wanted p) same;
-  none = λ p is. subst (λ (s : Stored). IsTrue (calls_stale s.wanted p)) same is;
+  stale = λ p off is. subst (λ (s : Stored). IsTrue (calls_stale s.wanted p)) (sym same) is;
+  further = λ p is. inl (subst (λ (s : Stored). IsTrue (calls_stale s.wanted p)) same is);
   dirty = ap (λ (s : Stored). s.wanted.dirty) same;
   stays = λ d is. subst (λ (s : Stored). IsTrue (calls_missing s.wanted d)) (sym same) is;
   lost = λ d is isnt. absurd (false≢true (sym isnt ∙ subst (λ (s : Stored). IsTrue (calls_missing s.wanted d)) same is));
@@ -82,4 +81,5 @@ module _ (map : List Pp) (pp : Pp) (inside : Contains map pp) (p q : ℕ) (a b :
     held = held;
     only = λ h only. subst (λ (c : Core). IsOnlyGroupOn b.device c.descriptor.id) (sym core)
         (only_still NoNext a b a.core.descriptor.id (λ k none. absurd none) h (finds_nothing NoNext a b _ writes.media finds) only);
+    left = λ none. subst (λ (c : Core). NoneIsLeft c.descriptor c.status) (sym core) none;
   }

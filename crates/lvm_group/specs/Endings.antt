@@ -14,7 +14,7 @@ use Rattle.lvm_kept.specs.Moments.{Moment, StaysCalm}
 use Rattle.lvm_kept.specs.Plans.{Plan}
 use Rattle.lvm_quorum.specs.Written.{KeepsShelf, IsDarkened, IsGivenUp}
 use Rattle.lvm_commit.specs.LawsOfVolumes.{IsOnlyGroupOn}
-use Rattle.lvm_commit.specs.Settling.{HasSameRows, HasLostQuorum, IsOfStatus, IsOfCommit}
+use Rattle.lvm_commit.specs.Settling.{there, HasSameRows, NoneIsLeft, HasLostQuorum, IsOfStatus, IsOfCommit}
 use Rattle.lvm_core.specs.declared.fault.CommitFault.{CommitFault}
 use Rattle.lvm_core.specs.declared.fault.CommitFault.TheVariants as commit
 use Rattle.lvm_core.specs.declared.request.Power.TheVariants as power
@@ -90,10 +90,12 @@ IfOn (Err fault.HistoryFull) P = P
 IfOn (Err (fault.DiskFailed disk)) P = P
 IfOn (Err fault.Memory) P = P
 
--- The disks hold what the session says, where they did, and no group but this one is found on them, where none was.
+-- The disks hold what the session says, where they did, no group but this one is found on them, where none was, and no copy is left behind on a member that
+-- is missing, where none was.
 pub record StillHeld (old new : State) : Type 0 where
   pub held : IsHeld old.device old.core → IsHeld new.device new.core
   pub only : IsHeld old.device old.core → IsOnlyGroupOn old.device old.core.descriptor.id → IsOnlyGroupOn new.device new.core.descriptor.id
+  pub left : NoneIsLeft old.core.descriptor old.core.status → NoneIsLeft new.core.descriptor new.core.status
 
 -- ---- whatever the answer
 
@@ -104,13 +106,13 @@ IsOfCommand N Z old new d s value =
     ⊎ ((next : Descriptor) × N next × IsOfCommit (descriptor_bytes next) old.core.status new.core.status d s value)
     ⊎ ((pp : Pp) × Z pp × IsZeroOf old.core.descriptor.mib pp d s value)
 
--- What is wanted of the status afterwards: members have become missing, each after a transfer to it has failed, and of the partitions of which this
--- holds some stale ones are fresh.
+-- What is wanted of the status afterwards: members have become missing, each after a transfer to it has failed, of the partitions of which this holds some
+-- stale ones are fresh, and further ones are stale only on members that aren't there any more.
 pub record KeepsStatus (Z : Pp → Type 0) (old new : State) : Type 0 where
   pub group : new.core.status.group ≡ old.core.status.group
   pub rows : HasSameRows old.core.status.wanted new.core.status.wanted
-  pub stale : (p : Pp) → (Z p → ⊥) → calls_stale new.core.status.wanted p ≡ calls_stale old.core.status.wanted p
-  pub none : (p : Pp) → IsTrue (calls_stale new.core.status.wanted p) → IsTrue (calls_stale old.core.status.wanted p)
+  pub stale : (p : Pp) → (Z p → ⊥) → IsTrue (calls_stale old.core.status.wanted p) → IsTrue (calls_stale new.core.status.wanted p)
+  pub further : (p : Pp) → IsTrue (calls_stale new.core.status.wanted p) → IsTrue (calls_stale old.core.status.wanted p) ⊎ IsFalse (there new.core.status p.disk)
   pub dirty : new.core.status.wanted.dirty ≡ old.core.status.wanted.dirty
   pub stays : (d : ℕ) → IsTrue (calls_missing old.core.status.wanted d) → IsTrue (calls_missing new.core.status.wanted d)
   pub lost : (d : ℕ) → IsTrue (calls_missing new.core.status.wanted d) → IsFalse (calls_missing old.core.status.wanted d)

@@ -1,14 +1,17 @@
 -- All that a new group takes memory for.
-use Rattle.std.specs.Prelude.{◌≡◌, ℕ, List}
+use Rattle.std.specs.Prelude.{◌≡◌, ◌⊎◌, ◌≤◌, ℕ, List}
 use Rattle.lvm_num.specs.Descriptor.{IsValid}
 use Rattle.lvm_num.specs.Status.{IsValidStatus}
 use Rattle.lvm_num.specs.DescriptorBytes.{descriptor_bytes}
 use Rattle.lvm_num.specs.StatusBytes.{status_bytes}
 use Rattle.lvm_num.specs.Disks.{has}
 use Rattle.lvm_core.specs.declared.parts.Room.{Room}
+use Rattle.lvm_core.specs.declared.refused.Cause.{Cause}
+use Rattle.lvm_core.specs.declared.refused.Cause.TheVariants as cause
 use Rattle.lvm_core.specs.Starting.{IsReservedFor}
+use Rattle.lvm_group.specs.declared.make.Asked.{Asked}
 use Rattle.lvm_group.specs.declared.plan.Plan.{Plan}
-use Rattle.lvm_group.specs.NewGroup.{among, descriptor_for, status_for}
+use Rattle.lvm_group.specs.NewGroup.{NewGroup, among, size_for, descriptor_for, status_for, MayBegin, RefusesFirst}
 
 -- The bytes of its descriptor and of its status, which are valid, its disks, and the parts of its session.
 pub record IsPlanned (sizes : List ℕ) (name : List ℕ) (mib : ℕ) (disks : List ℕ) (moment : ℕ) (room : Room) (plan : Plan) : Type 0 where
@@ -18,3 +21,17 @@ pub record IsPlanned (sizes : List ℕ) (name : List ℕ) (mib : ℕ) (disks : L
   pub status : plan.status ≡ status_bytes (status_for disks moment)
   pub targets : (d : ℕ) → has plan.targets d ≡ among disks d
   pub parts : IsReservedFor (descriptor_for sizes name mib disks moment) (status_for disks moment) room plan.parts
+
+-- the group that is asked for
+abbrev pub group_of : Asked → List ℕ → ℕ → NewGroup
+group_of asked disks moment = record { name = asked.name; mib = asked.mib; disks = disks; force = asked.force; moment = moment }
+
+-- The plan is one of this group, which may begin with so many entries to spare on disks of these sizes.
+pub record IsPlannedFor (w : NewGroup) (room : Room) (spare : ℕ) (sizes : List ℕ) (plan : Plan) : Type 0 where
+  pub may : MayBegin sizes spare w.disks w.mib
+  pub size : 1 ≤ size_for sizes w.disks w.mib
+  pub planned : IsPlanned sizes w.name (size_for sizes w.disks w.mib) w.disks w.moment room plan
+
+-- Why there is none: something stands against the group before any disk is read, or memory is wanting.
+abbrev pub RefusesPlan : NewGroup → ℕ → List ℕ → Cause → Type 0
+RefusesPlan w spare sizes why = (why ≡ cause.Memory) ⊎ RefusesFirst sizes spare w.disks w.mib why

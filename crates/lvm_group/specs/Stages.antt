@@ -1,14 +1,14 @@
 -- The stages in which a volume is made or removed on a session.
-use Rattle.std.specs.Prelude.{◌≡◌, ◌≢◌, ◌⊎◌, ℕ, ◌<◌, ◌≤◌, List, [], Result, Ok, Err, IsTrue, IsFalse, All, AllPairs}
+use Rattle.std.specs.Prelude.{◌≡◌, ◌≢◌, ◌⊎◌, ℕ, ◌<◌, ◌≤◌, List, Result, Ok, Err, IsTrue, IsFalse, All, AllPairs}
 use Rattle.lvm_num.specs.declared.place.Pp.{Pp}
 use Rattle.lvm_num.specs.declared.descriptor.Descriptor.{Descriptor}
 use Rattle.lvm_num.specs.declared.status.Status.{Status}
 use Rattle.lvm_num.specs.Descriptor.{IsPartitionOf}
-use Rattle.lvm_num.specs.Status.{calls_missing}
+use Rattle.lvm_num.specs.Status.{calls_stale, calls_missing}
 use Rattle.lvm_disk.specs.Counts.{Rose, NoneFalls}
 use Rattle.lvm_disk.specs.Device.{IsReady}
 use Rattle.lvm_vol.specs.declared.entry.Vol.TheVariants.{Lv}
-use Rattle.lvm_vol.specs.Facts.{Fact, Making, Made, Removing, Removed}
+use Rattle.lvm_vol.specs.Facts.{Making, Made, Removed}
 use Rattle.lvm_vol.specs.Log.{Log, with_fact}
 use Rattle.lvm_map.specs.FirstFit.{is_on}
 use Rattle.lvm_quorum.specs.Parts.{Spends}
@@ -17,11 +17,11 @@ use Rattle.lvm_core.specs.declared.fault.CommitFault.{CommitFault}
 use Rattle.lvm_core.specs.declared.fault.CommitFault.TheVariants as commit
 use Rattle.lvm_core.specs.State.{Core, State, is_there}
 use Rattle.lvm_core.specs.Settled.{IsSettled}
-use Rattle.lvm_core.specs.Committing.{Marks, HasGoneDark, IsLeftOut}
+use Rattle.lvm_core.specs.Committing.{HasGoneDark, IsLeftOut}
 use Rattle.lvm_core.specs.Zeros.{IsAsBefore}
 use Rattle.lvm_group.specs.declared.new_volume.NewVolume.{NewVolume}
 use Rattle.lvm_group.specs.declared.new_volume.VolumePlan.{VolumePlan}
-use Rattle.lvm_group.specs.Endings.{EndsDark, EndsOff, EndsStuck, EndsFailed, Leaves, KeepsSpans, FindsOnly, StillHeld}
+use Rattle.lvm_group.specs.Endings.{EndsDark, EndsOff, EndsStuck, EndsFailed, Leaves, KeepsSpans, FindsOnly}
 use Rattle.lvm_group.specs.PlannedVolume.{IsPlannedVolume}
 use Rattle.lvm_group.specs.Volumes.{AreZeroed, removing}
 
@@ -85,7 +85,7 @@ pub record AreCleared (map : List Pp) (old new : State) : Type 0 where
   pub settled : IsSettled new.core
   pub is : new.core ≡ record old.core { status = new.core.status; homes = new.core.homes }
   pub there : All (λ (pp : Pp). IsTrue (is_there new.core pp.disk)) map
-  pub fresh : Marks [] map old.core.status.committed new.core.status.committed
+  pub fresh : All (λ (pp : Pp). IsFalse (calls_stale new.core.status.committed pp)) map
   pub zeros : AreZeroed old.core.descriptor.mib map new.device
   pub ready : IsReady new.device
   pub cuts : new.device.counts.cuts ≡ old.device.counts.cuts
@@ -121,7 +121,7 @@ pub record BreaksOff (plan : VolumePlan) (old new : State) (Ends : Log → Type 
 pub record IsNamed (plan : VolumePlan) (old new : State) : Type 0 where
   pub settled : IsSettled new.core
   pub is : new.core ≡ record old.core { descriptor = plan.next; history = with_fact (making_of plan old) (Made plan.number); status = new.core.status; homes = new.core.homes }
-  pub fresh : Marks [] plan.map old.core.status.committed new.core.status.committed
+  pub fresh : All (λ (pp : Pp). IsFalse (calls_stale new.core.status.committed pp)) plan.map
   pub zeros : AreZeroed old.core.descriptor.mib plan.map new.device
   pub ready : IsReady new.device
   pub cuts : new.device.counts.cuts ≡ old.device.counts.cuts

@@ -11,7 +11,7 @@ use Rattle.lvm_begin.specs.Ends.{BothFlip, HasNoFault, StopsAt, IsFirstFailed, W
 use Rattle.lvm_core.specs.declared.refused.Cause.{Cause}
 use Rattle.lvm_core.specs.declared.refused.Cause.TheVariants as cause
 use Rattle.lvm_core.specs.declared.parts.Room.{Room}
-use Rattle.lvm_core.specs.Starting.{IsReservedFor}
+use Rattle.lvm_core.specs.Starting.{Reserved, IsReservedFor}
 use Rattle.lvm_group.specs.declared.look.Free.{Free}
 use Rattle.lvm_group.specs.declared.make.Standing.{Standing}
 use Rattle.lvm_group.specs.NewGroup.{NewGroup, among, size_for, new_group, new_status, given_up}
@@ -113,6 +113,11 @@ cut_at (Ok value) log = log
 cut_at (Err why) log = if is_dark why then cut_log log else log
 
 -- ---- all of it
+
+-- what the session of these parts starts with, where its records were written
+abbrev pub standing_of : Reserved → Result Homes Cause → Result Standing Cause
+standing_of parts (Ok homes) = Ok (record { parts = parts; homes = homes })
+standing_of parts (Err why) = Err why
 
 -- The records of the new group stand on each disk named, and its session may start, with these parts and slots.
 pub record Stands (w : NewGroup) (room : Room) (was is : Log) (old new : Device) (standing : Standing) : Type 0 where

@@ -1,9 +1,10 @@
 -- What the making and the removal of a volume answer.
-use Rattle.std.specs.Prelude.{◌≡◌, ◌⊎◌, ℕ, ◌+◌, ◌-◌, ◌^◌, ◌<◌, ◌≤◌, List, [], length, None, IsSome, Result, Ok, Err, IsTrue, All, Contains}
+use Rattle.std.specs.Prelude.{◌≡◌, ◌⊎◌, ℕ, ◌-◌, ◌^◌, ◌<◌, ◌≤◌, List, [], length, None, IsSome, Result, Ok, Err, IsTrue, IsFalse, All, Contains}
 use Rattle.lvm_num.specs.declared.place.Pp.{Pp}
 use Rattle.lvm_num.specs.declared.descriptor.Descriptor.{Descriptor}
 use Rattle.lvm_num.specs.Geometry.{volume_blocks}
 use Rattle.lvm_num.specs.Descriptor.{volume_of, most_volumes}
+use Rattle.lvm_num.specs.Status.{calls_stale}
 use Rattle.lvm_disk.specs.Device.{Device, IsReady}
 use Rattle.lvm_vol.specs.declared.entry.Vol.TheVariants.{Lv}
 use Rattle.lvm_vol.specs.Facts.{Making, Made, Removing, Removed}
@@ -13,7 +14,6 @@ use Rattle.lvm_core.specs.State.{Core, State, is_there, votes_there}
 use Rattle.lvm_num.specs.Votes.{total_votes}
 use Rattle.lvm_core.specs.declared.request.Power.TheVariants as power
 use Rattle.lvm_core.specs.Looking.{IsNumberOf, HasNoVolume}
-use Rattle.lvm_core.specs.Committing.{Marks}
 use Rattle.lvm_core.specs.Zeros.{IsZeroed}
 use Rattle.lvm_group.specs.declared.fault.GroupFault.{GroupFault}
 use Rattle.lvm_group.specs.declared.fault.GroupFault.TheVariants as fault
@@ -140,7 +140,7 @@ pub record IsVolumeMade (v : NewVolume) (lv : ℕ) (old new : State) : Type 0 wh
     homes = new.core.homes;
   }
   pub zeros : AreZeroed old.core.descriptor.mib map new.device
-  pub fresh : Marks [] map old.core.status.committed new.core.status.committed
+  pub fresh : All (λ (pp : Pp). IsFalse (calls_stale new.core.status.committed pp)) map
   pub ready : IsReady new.device
   pub cuts : new.device.counts.cuts ≡ old.device.counts.cuts
 

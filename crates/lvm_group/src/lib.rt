@@ -16,4 +16,3 @@ mod write;
 pub use fault::GroupFault;
 pub use making::mkvg;
 pub use volumes::{mklv, rmlv};
-

@@ -12,9 +12,10 @@ ghost use Rattle.lvm_change.specs.Requests.{at};
 ghost use Rattle.lvm_core.specs.Held.{IsHeld};
 ghost use Rattle.lvm_core.specs.Sound.{HaveAllLanded};
 ghost use Rattle.lvm_core.specs.Starting.{IsRoom, first_core};
-ghost use Rattle.lvm_group.specs.NewGroup.{NewGroup, given_up};
+ghost use Rattle.lvm_group.specs.NewGroup.{given_up};
+ghost use Rattle.lvm_group.specs.Planned.{group_of, IsPlannedFor, RefusesPlan};
 ghost use Rattle.lvm_group.specs.Made.{Refuses};
-ghost use Rattle.lvm_group.specs.Steps.{cut_at, Stands};
+ghost use Rattle.lvm_group.specs.Steps.{cut_at, standing_of, Stands};
 
 use crate::checks::size_to_begin;
 use crate::look::{Free, look};
@@ -28,6 +29,15 @@ use lvm_quorum::Homes;
 use lvm_vol::{Entry, History, Vol};
 use std::alloc::Global;
 
+/// What is asked of a new group beside its disks and its moment.
+#[derive(Drop)]
+pub struct Asked {
+    pub name: Name,
+    pub mib: Option<u16>,
+    pub force: bool,
+    pub room: Room,
+}
+
 /// What the session of a group that was made starts with: its parts, and the slots that come next.
 #[derive(Drop)]
 pub struct Standing {
@@ -40,23 +50,20 @@ pub fn make<S: Shelf>(
     alloc: Global,
     shelf: &mut S,
     history: &mut History,
-    name: Name,
-    mib: Option<u16>,
+    asked: &Asked,
     disks: &[u16],
-    force: bool,
     moment: u64,
-    room: Room,
     patience: &mut Patience,
 ) -> Result<Standing, Cause>
     requires ready { IsReady (S.device shelf.old) }
     requires landed { HaveAllLanded history.old.facts }
     requires a_disk { 1 ≤ length disks.now }
     requires differ { AllPairs (λ a b. a ≢ b) disks.now }
-    requires size { ForSome mib (λ given. IsTrue (is_size given)) }
+    requires size { ForSome asked.now.mib (λ given. IsTrue (is_size given)) }
     requires moment { moment ≢ 0 }
-    requires room { IsRoom room }
-    ensures made { IfOk result (λ standing. Stands (record { name = name; mib = mib; disks = disks.now; force = force; moment = moment }) room history.old history.new (S.device shelf.old) (S.device shelf.new) standing) }
-    ensures refused { IfErr result (λ cause. Refuses (record { name = name; mib = mib; disks = disks.now; force = force; moment = moment }) patience.old.left history.old history.new (S.device shelf.old) (S.device shelf.new) cause) }
+    requires room { IsRoom asked.now.room }
+    ensures made { IfOk result (Stands (group_of asked.now disks.now moment) asked.now.room history.old history.new (S.device shelf.old) (S.device shelf.new)) }
+    ensures refused { IfErr result (Refuses (group_of asked.now disks.now moment) patience.old.left history.old history.new (S.device shelf.old) (S.device shelf.new)) }
     ensures held { ClockIsAhead history.old.run moment (S.device shelf.old) history.old.facts → IfOk result (λ standing. IsHeld (S.device shelf.new) (first_core standing.parts history.new (record { epoch = moment; seq = 2 }) standing.homes)) }
     // whatever the answer
     ensures keeps { ClockIsAhead history.old.run moment (S.device shelf.old) history.old.facts → Keeps history.old.run (at (S.device shelf.old) history.old.facts) (at (S.device shelf.new) history.new.facts) }
@@ -65,22 +72,81 @@ pub fn make<S: Shelf>(
     ensures patience { patience.new.left ≤ patience.old.left }
     ensures waited { RoseBy (patience.old.left - patience.new.left) (S.device shelf.old).counts.waits (S.device shelf.new).counts.waits }
 {
-    let size = size_to_begin(shelf, history.spare_entries(), disks, mib)?;
-    let plan = match Plan::new(alloc, shelf, name, size, disks, moment, room) {
-        Ok(plan) => plan,
-        Err(Memory) => return Err(Cause::Memory),
-    };
-    let found = look(alloc, shelf, force, moment, patience);
+    let plan = plan_for(alloc, shelf, history.spare_entries(), asked, disks, moment)?;
+    let brought = bring(alloc, shelf, history, asked, disks, moment, &plan, patience);
+    start_with(plan, brought)
+}
+
+// What the session of a plan starts with, where its records were written.
+fn start_with(plan: Plan, brought: Result<Homes, Cause>) -> Result<Standing, Cause>
+    ensures { result ≡ standing_of plan.parts brought }
+{
+    match brought {
+        Ok(homes) => Ok(Standing {
+            parts: plan.parts,
+            homes,
+        }),
+        Err(why) => Err(why),
+    }
+}
+
+// Plans a group, with so many entries to spare, unless something stands against it before any disk is read.
+fn plan_for<S: Shelf>(
+    alloc: Global,
+    shelf: &S,
+    spare: u32,
+    asked: &Asked,
+    disks: &[u16],
+    moment: u64,
+) -> Result<Plan, Cause>
+    requires a_disk { 1 ≤ length disks.now }
+    requires differ { AllPairs (λ a b. a ≢ b) disks.now }
+    requires size { ForSome asked.now.mib (λ given. IsTrue (is_size given)) }
+    requires moment { moment ≢ 0 }
+    requires room { IsRoom asked.now.room }
+    ensures planned { IfOk result (IsPlannedFor (group_of asked.now disks.now moment) asked.now.room spare (S.device shelf.now).sizes) }
+    ensures refused { IfErr result (RefusesPlan (group_of asked.now disks.now moment) spare (S.device shelf.now).sizes) }
+{
+    let size = size_to_begin(shelf, spare, disks, asked.mib)?;
+    match Plan::new(alloc, shelf, asked.name, size, disks, moment, asked.room) {
+        Ok(plan) => Ok(plan),
+        Err(Memory) => Err(Cause::Memory),
+    }
+}
+
+// Reads the disks, and writes the records of a planned group to its own where they let one be made. A power cut is
+// entered.
+fn bring<S: Shelf>(
+    alloc: Global,
+    shelf: &mut S,
+    history: &mut History,
+    asked: &Asked,
+    disks: &[u16],
+    moment: u64,
+    plan: &Plan,
+    patience: &mut Patience,
+) -> Result<Homes, Cause>
+    requires ready { IsReady (S.device shelf.old) }
+    requires moment { moment ≢ 0 }
+    requires planned { IsPlannedFor (group_of asked.now disks.now moment) asked.now.room (spare_entries history.old) (S.device shelf.old).sizes plan.now }
+    ensures made { IfOk result (λ homes. Stands (group_of asked.now disks.now moment) asked.now.room history.old history.new (S.device shelf.old) (S.device shelf.new) (record { parts = plan.now.parts; homes = homes })) }
+    ensures refused { IfErr result (Refuses (group_of asked.now disks.now moment) patience.old.left history.old history.new (S.device shelf.old) (S.device shelf.new)) }
+    ensures held { ClockIsAhead history.old.run moment (S.device shelf.old) history.old.facts → IfOk result (λ homes. IsHeld (S.device shelf.new) (first_core plan.now.parts history.new (record { epoch = moment; seq = 2 }) homes)) }
+    // whatever the answer
+    ensures keeps { ClockIsAhead history.old.run moment (S.device shelf.old) history.old.facts → Keeps history.old.run (at (S.device shelf.old) history.old.facts) (at (S.device shelf.new) history.new.facts) }
+    ensures calm { StaysCalm (at (S.device shelf.old) history.old.facts) (at (S.device shelf.new) history.new.facts) }
+    ensures behind { ClockIsAhead history.old.run moment (S.device shelf.old) history.old.facts → IsBehind (moment + 1) (S.device shelf.new) }
+    ensures patience { patience.new.left ≤ patience.old.left }
+    ensures waited { RoseBy (patience.old.left - patience.new.left) (S.device shelf.old).counts.waits (S.device shelf.new).counts.waits }
+{
+    let found = look(alloc, shelf, asked.force, moment, patience);
     enter_cut(history, &found);
     let Free { mut homes, buf } = found?;
     give_up(history, disks);
-    let written = write(shelf, &plan, moment, &mut homes, buf, patience);
+    let written = write(shelf, plan, moment, &mut homes, buf, patience);
     enter_cut(history, &written);
     written?;
-    Ok(Standing {
-        parts: plan.parts,
-        homes,
-    })
+    Ok(homes)
 }
 
 // Enters a cut where the power is off.

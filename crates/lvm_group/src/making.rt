@@ -8,6 +8,7 @@ ghost use Rattle.lvm_stamps.specs.Behind.{IsBehind, ClockIsAhead};
 ghost use Rattle.lvm_kept.specs.Moments.{StaysCalm};
 ghost use Rattle.lvm_change.specs.Moments.{Keeps};
 ghost use Rattle.lvm_change.specs.Requests.{at};
+ghost use Rattle.lvm_commit.specs.Settling.{NoneIsLeft};
 ghost use Rattle.lvm_core.specs.Held.{IsHeld};
 ghost use Rattle.lvm_core.specs.Settled.{IsSettled, HasNumbers};
 ghost use Rattle.lvm_core.specs.Sound.{HaveAllLanded};
@@ -15,7 +16,7 @@ ghost use Rattle.lvm_core.specs.Starting.{IsRoom};
 ghost use Rattle.lvm_group.specs.NewGroup.{NewGroup};
 ghost use Rattle.lvm_group.specs.Made.{MkvgGives, shelf_left, history_left};
 
-use crate::make::make;
+use crate::make::{Asked, make};
 use lvm_core::{Driver, Refused, Room};
 use lvm_disk::Shelf;
 use lvm_move::Patience;
@@ -55,6 +56,7 @@ pub fn mkvg<S: Shelf>(
     ensures gives { MkvgGives S.device (record { name = name; mib = mib; disks = disks.now; force = force; moment = moment }) room patience.old.left history (S.device shelf) result }
     ensures settled { IfOk result (λ driver. IsSettled driver.1 × HasNumbers driver.1) }
     ensures held { ClockIsAhead history.run moment (S.device shelf) history.facts → IfOk result (λ driver. IsHeld (S.device driver.0) driver.1) }
+    ensures left { IfOk result (λ driver. NoneIsLeft driver.1.descriptor driver.1.status) }
     // whatever the answer
     ensures keeps { ClockIsAhead history.run moment (S.device shelf) history.facts → Keeps history.run (at (S.device shelf) history.facts) (at (S.device (shelf_left result)) (history_left result).facts) }
     ensures calm { StaysCalm (at (S.device shelf) history.facts) (at (S.device (shelf_left result)) (history_left result).facts) }
@@ -64,16 +66,19 @@ pub fn mkvg<S: Shelf>(
 {
     let mut shelf = shelf;
     let mut history = history;
+    let asked = Asked {
+        name,
+        mib,
+        force,
+        room,
+    };
     match make(
         alloc,
         &mut shelf,
         &mut history,
-        name,
-        mib,
+        &asked,
         disks,
-        force,
         moment,
-        room,
         patience,
     ) {
         Ok(standing) => {

@@ -15,6 +15,7 @@ use Rattle.lvm_stamps.specs.Behind.{IsBehind, IsAhead, ClockIsAhead}
 use Rattle.lvm_stamps.proofs.Shelves.{no_more_stays_behind}
 use Rattle.lvm_core.specs.declared.refused.Cause.{Cause}
 use Rattle.lvm_core.specs.declared.refused.Cause.TheVariants as cause
+use Rattle.lvm_commit.specs.Settling.{NoneIsLeft}
 use Rattle.lvm_core.specs.Held.{IsHeld}
 use Rattle.lvm_core.specs.Sound.{HaveAllLanded}
 use Rattle.lvm_core.specs.Settled.{IsSettled as IsSettledCore}
@@ -143,6 +144,7 @@ module _ (run : ℕ) (old : State) (settled : IsSettled old.moment old.session) 
           session = tt;
         };
         held = λ timely held. tt;
+        left = λ none. tt;
         calm = λ goes. promises.calm;
         settled = λ goes. record { ready = up.ready goes; landed = landed; session = tt };
         power = up.power;
@@ -152,8 +154,8 @@ module _ (run : ℕ) (old : State) (settled : IsSettled old.moment old.session) 
 
   -- the group is on
   pub left_on : (core : Core) (new : Device) → Promises run moment old.moment (at new core.history.facts) → IsReady new → IsSettledCore core → core.status.stamp.epoch ≡ moment → HaveAllLanded core.history.facts
-      → (ClockIsAhead run moment old.moment.device old.moment.facts → IsHeld new core) → GoesOn run reply.Ok old (record { moment = at new core.history.facts; session = Some core; last = moment })
-  left_on core new promises ready idle epoch landed held = record {
+      → (ClockIsAhead run moment old.moment.device old.moment.facts → IsHeld new core) → NoneIsLeft core.descriptor core.status → GoesOn run reply.Ok old (record { moment = at new core.history.facts; session = Some core; last = moment })
+  left_on core new promises ready idle epoch landed held none = record {
     keeps = λ timely held alone. promises.keeps (clock_is_ahead run old.last moment old.moment.device old.moment.facts rose timely.ahead);
     timely = λ timely. record {
       ahead = ahead core.history.facts new timely.ahead (promises.later (moment + 1) (omega arith) (earlier (moment + 1) timely.ahead (let e = rose.later in omega (arith, e))))
@@ -161,6 +163,7 @@ module _ (run : ℕ) (old : State) (settled : IsSettled old.moment old.session) 
       session = omega (arith, epoch);
     };
     held = λ timely before. held (clock_is_ahead run old.last moment old.moment.device old.moment.facts rose timely.ahead);
+    left = λ before. none;
     calm = λ goes. promises.calm;
     settled = λ goes. record { ready = ready; landed = landed; session = idle };
     power = ready.power;

@@ -28,6 +28,7 @@ still_goes run answer s settled = record {
   keeps = λ timely held alone. keeps_still run s.moment;
   timely = λ timely. timely;
   held = λ timely held. held;
+  left = λ none. none;
   calm = λ goes past calm. calm;
   settled = λ goes. settled;
   power = settled.ready.power;
@@ -60,6 +61,7 @@ asked_goes run answer old new settled asked = subst (λ (s : State). GoesOn run 
     session = session_later old.session old.last new.last later timely.session;
   };
   held = λ timely held. held;
+  left = λ none. none;
   calm = λ goes past calm. calm;
   settled = λ goes. settled;
   power = settled.ready.power;
@@ -76,6 +78,7 @@ ended_goes run answer old new settled ends = subst (λ (s : State). GoesOn run a
   keeps = λ timely held alone. keeps_still run old.moment;
   timely = λ timely. record { ahead = timely.ahead; session = tt };
   held = λ timely held. tt;
+  left = λ none. tt;
   calm = λ goes past calm. calm;
   settled = λ goes. record { ready = settled.ready; landed = settled.landed; session = tt };
   power = settled.ready.power;
@@ -109,6 +112,7 @@ ranges_go run answer old new last stuck says ranges = record {
     session = tt;
   };
   held = λ timely held. tt;
+  left = λ none. tt;
   calm = λ goes. ranges.calm (λ is. goes (says is));
   settled = λ goes. record { ready = ranges.ready (λ is. goes (says is)); landed = ranges.landed (λ is. goes (says is)); session = tt };
   power = ranges.power;

@@ -14,6 +14,7 @@ use Rattle.lvm_core.specs.declared.parts.Room.{Room}
 use Rattle.lvm_core.specs.declared.refused.Cause.{Cause}
 use Rattle.lvm_core.specs.declared.refused.Cause.TheVariants as cause
 use Rattle.lvm_core.specs.declared.refused.Refused.{Refused}
+use Rattle.lvm_commit.specs.Settling.{NoneIsLeft}
 use Rattle.lvm_core.specs.Held.{IsHeld}
 use Rattle.lvm_core.specs.Sound.{HaveAllLanded}
 use Rattle.lvm_core.specs.Settled.{IsSettled as IsSettledCore, HasNumbers}
@@ -100,6 +101,7 @@ module _ (w : NewGroup) (patience : ℕ) (was is : Log) (old left : Device) (rea
 pub record Called {S : Type 0} (device : S → Device) (shelf : S) (log : Log) (w : NewGroup) (room : Room) (outcome : Result (S × Core) (Refused S)) : Type 0 where
   pub gives : MkvgGives device w room patience_of_line log (device shelf) outcome
   pub held : ClockIsAhead log.run w.moment (device shelf) log.facts → IfOk outcome (λ driver. IsHeld (device driver.0) driver.1)
+  pub left : IfOk outcome (λ driver. NoneIsLeft driver.1.descriptor driver.1.status)
   pub settled : IfOk outcome (λ driver. IsSettledCore driver.1 × HasNumbers driver.1)
   pub waited : (device shelf).counts.waits ≤ (device (shelf_left outcome)).counts.waits
   pub keeps : ClockIsAhead log.run w.moment (device shelf) log.facts → Keeps log.run (at (device shelf) log.facts) (at (device (shelf_left outcome)) (history_left outcome).facts)
@@ -141,7 +143,7 @@ module _ {S : Type 0} (device : S → Device) (shelf : S) (log : Log) (force : B
       called.settled.0
       (ap (λ (c : Core). c.status.stamp.epoch) is)
       (λ id. subst (λ (l : List Fact). is_open l id ≡ false) (sym facts) (open_more (given_up log disks).facts (On moment) id refl refl ∙ bears_given_up HaveAllLanded landed_bears log.facts disks settled.landed id))
-      called.held))
+      called.held called.left))
   goes (Err refused) called left =
       subst (λ (s : State). GoesOn log.run answer (state_in device (stage.Off shelf log) last) s) (sym (off_is device it refused.history moment left.off.0 left.off.1))
       (subst (λ (a : Reply). GoesOn log.run a (state_in device (stage.Off shelf log) last) (record { moment = at (device (shelf_in it)) refused.history.facts; session = None; last = moment })) (sym left.off.2)

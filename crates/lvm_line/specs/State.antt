@@ -6,6 +6,7 @@ use Rattle.lvm_vol.specs.Facts.{Fact, Making, Made, Split, Removing, Removed}
 use Rattle.lvm_vol.specs.Log.{Log}
 use Rattle.lvm_kept.specs.Moments.{Moment}
 use Rattle.lvm_stamps.specs.Behind.{IsAhead}
+use Rattle.lvm_commit.specs.Settling.{NoneIsLeft}
 use Rattle.lvm_core.specs.State.{Core}
 use Rattle.lvm_core.specs.Sound.{HaveAllLanded}
 use Rattle.lvm_core.specs.Held.{IsHeld}
@@ -40,6 +41,10 @@ pub record IsTimely (run : ℕ) (s : State) : Type 0 where
 -- the disks of a session hold what it says is committed
 abbrev pub AreHeld : State → Type 0
 AreHeld s = IfSome s.session (λ core. IsHeld s.moment.device core)
+
+-- no copy of a session's volumes is left behind on a member that is missing
+abbrev pub HaveNoneLeft : State → Type 0
+HaveNoneLeft s = IfSome s.session (λ core. NoneIsLeft core.descriptor core.status)
 
 -- the entry says that a volume is made or removed
 abbrev pub is_of_volume : Fact → Bool

@@ -9,4 +9,5 @@ pub mod Choosing
 pub mod Bringing
 pub mod KeptPaths
 pub mod After
+pub mod Left
 pub mod Spanning

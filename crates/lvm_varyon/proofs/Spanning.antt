@@ -1,6 +1,7 @@
 -- A varyon as a part of a run.
 use Rattle.std.proofs.Common.{◌≡◌, ◌≢◌, ℕ, ◌≤◌, Bool, true, false, ◌&&◌, not, IsTrue, arith, List, Option, Some, None, refl, sym, ap, subst, ◌∙◌}
 use Rattle.std.specs.Prelude.{if◌then◌else◌}
+use Rattle.lvm_num.specs.declared.descriptor.Descriptor.{Descriptor}
 use Rattle.lvm_num.specs.Disks.{Disks}
 use Rattle.lvm_num.specs.Descriptor.{is_member}
 use Rattle.lvm_num.specs.Votes.{all_disks, votes_in, CanRead, CanWrite}
@@ -19,12 +20,13 @@ use Rattle.lvm_change.specs.Requests.{at}
 use Rattle.lvm_change.proofs.Entering.{quiet_goes_on, calm_goes_on}
 use Rattle.lvm_change.proofs.Spans.{keeps_still, steps_go_on, group_goes_on}
 use Rattle.lvm_stamps.specs.Behind.{ClockIsAhead}
-use Rattle.lvm_status.specs.Update.{members_there}
+use Rattle.lvm_status.specs.Update.{Updates, members_there}
 use Rattle.lvm_quorum.specs.declared.homes.Homes.{Homes}
 use Rattle.lvm_core.specs.declared.parts.Room.{Room}
 use Rattle.lvm_core.specs.declared.refused.Cause.{Cause}
 use Rattle.lvm_core.specs.declared.refused.Cause.TheVariants as cause
 use Rattle.lvm_commit.specs.Committed.{HoldsCommitted}
+use Rattle.lvm_commit.specs.Settling.{NoneIsLeft}
 use Rattle.lvm_core.specs.Held.{IsHeld}
 use Rattle.lvm_core.specs.Settled.{IsSettled, HasNumbers}
 use Rattle.lvm_core.proofs.Settling.{starts_settled, starts_numbered}
@@ -33,6 +35,7 @@ use Rattle.lvm_core.specs.State.{Core, is_there}
 use Rattle.lvm_varyon.specs.Varied.{IsRecovered, ComesOn, IsRestated, IsAheadOfDisks, IsBrought, last_stamp, log_after}
 use Rattle.lvm_varyon.specs.Chosen.{answering}
 use Rattle.lvm_varyon.specs.Restated.{HasNoConsistency}
+use Rattle.lvm_varyon.proofs.Left.{next_leaves_none}
 use Rattle.lvm_varyon.proofs.Recovering.{restated_is_recovered}
 use Rattle.lvm_varyon.proofs.Seeing.{if_told}
 use Rattle.lvm_varyon.proofs.After.{restated, ranges, holds}
@@ -119,6 +122,12 @@ module _ (old new : Device) (log : Log) (name : List ℕ) (moment : ℕ) (room :
       let before = told_before is.written.writes.read.media new.media _ now told_now is.written.writes.how.keeps.media in
       let told : old.media ≡ Some before.0 = sym is.written.writes.unwritten.media ∙ before.1 in
       holds old new name moment room parts homes is (ahead_of log.run moment old log.facts clock) before.0 now told told_now core log core_is (clock is.written.chosen.early).behind)
+
+  -- no copy is left behind, since the next status calls them stale
+  pub none_left : NoneIsLeft core.descriptor core.status
+  none_left = subst (λ (c : Core). NoneIsLeft c.descriptor c.status) (sym core_is) (subst (λ (d : Descriptor). NoneIsLeft d (first_core parts log (last_stamp moment) homes).status) (sym is.reserved.descriptor)
+      (next_leaves_none is.written.group (answering is.written.found.shown is.written.group) is.written.was is.written.next (first_core parts log (last_stamp moment) homes).status is.valid is.written.next_is
+      (ap (λ (u : Updates). u.group) is.reserved.status) (ap (λ (u : Updates). u.wanted) is.reserved.status)))
 
   pub is_restated : ClockIsAhead log.run moment old log.facts → IsRestated old new core.descriptor
   is_restated clock = subst (IsRestated old new) (sym (ap (λ (c : Core). c.descriptor) core_is ∙ is.reserved.descriptor)) (record {

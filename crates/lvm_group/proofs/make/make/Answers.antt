@@ -1,264 +1,67 @@
-use Rattle.std.proofs.Common.{◌≡◌, ℕ, List, Option, ◌≤◌, IsTrue, Result, sym, ap, subst, ◌∙◌}
+use Rattle.std.proofs.Common.{Result, Ok, Err, sym, subst}
+use Rattle.std.specs.Prelude.{IfOk, IfErr}
 use Rattle.std.proofs.lemmas.Result.{err_from_is_err_and}
-use Rattle.lvm_num.specs.Descriptor.{is_size}
-use Rattle.lvm_group.proofs.Groups.{size_positive}
-use Rattle.lvm_vol.specs.Log.{Log, spare_entries}
-use Rattle.lvm_kept.specs.Moments.{StaysCalm}
-use Rattle.lvm_change.specs.Moments.{Keeps}
 use Rattle.lvm_change.specs.Requests.{at}
 use Rattle.lvm_change.proofs.Spans.{keeps_still}
 use Rattle.lvm_stamps.proofs.Clock.{all_is_behind_next}
+use Rattle.lvm_quorum.specs.declared.homes.Homes.{Homes}
 use Rattle.lvm_core.specs.declared.refused.Cause.{Cause}
-use Rattle.lvm_group.specs.NewGroup.{NewGroup, size_for, given_up, MayBegin}
-use Rattle.lvm_group.specs.Planned.{IsPlanned}
-use Rattle.lvm_group.specs.Steps.{IsFree, cut_at}
-use Rattle.lvm_group.specs.declared.look.Free.{Free}
-use Rattle.lvm_group.proofs.Composing.{cut_where, refuses_reading}
-use Rattle.lvm_group.proofs.Entries.{calm_given}
-use Rattle.lvm_group.proofs.Midst.{keeps_where, calm_where, read_keeps, read_behind, descriptor_long, status_long, have_room, refuses_written, stands_written, written_keeps, written_behind, written_held}
+use Rattle.lvm_core.specs.Held.{IsHeld}
+use Rattle.lvm_core.specs.Starting.{Reserved, first_core}
+use Rattle.lvm_group.specs.declared.make.Standing.{Standing}
+use Rattle.lvm_group.specs.NewGroup.{NewGroup}
+use Rattle.lvm_group.specs.Planned.{group_of, IsPlannedFor, RefusesPlan}
+use Rattle.lvm_group.specs.Made.{Refuses}
+use Rattle.lvm_group.specs.Steps.{standing_of, Stands}
+use Rattle.lvm_group.proofs.Composing.{refuses_plan}
 use Rattle.lvm_group.proofs.make.make.Goals as goal
 
 -- ---- before the disks are read
 
-pub returns-in_err-size-clause-keeps : goal.returns-in_err-size-clause-keeps
-returns-in_err-size-clause-keeps g c = λ clock. keeps_still c.args.history.now.run (at (g.S.Shelf.device c.args.shelf.now) c.args.history.now.facts)
+pub returns-in_err-plan-clause-refused : goal.returns-in_err-plan-clause-refused
+returns-in_err-plan-clause-refused g c =
+    let w : NewGroup = group_of c.args.asked.now c.args.disks.now c.args.moment in
+    let old = g.S.Shelf.device c.args.shelf.now in
+    let why : Cause = c.in_err-plan.field-0.0 in
+    let p = err_from_is_err_and c.from_residual.result c.from_residual.ensures.1 in
+    rw (p.1, p.2) (refuses_plan w c.args.patience.now.left c.args.history.now old why c.requires.ready (subst (λ n. RefusesPlan w n old.sizes why) c.spare_entries.ensures.spare c.in_err-plan.ensures.refused))
 
-pub returns-in_err-size-clause-behind : goal.returns-in_err-size-clause-behind
-returns-in_err-size-clause-behind g c = λ clock.
+pub returns-in_err-plan-clause-keeps : goal.returns-in_err-plan-clause-keeps
+returns-in_err-plan-clause-keeps g c = λ clock. keeps_still c.args.history.now.run (at (g.S.Shelf.device c.args.shelf.now) c.args.history.now.facts)
+
+pub returns-in_err-plan-clause-behind : goal.returns-in_err-plan-clause-behind
+returns-in_err-plan-clause-behind g c = λ clock.
     all_is_behind_next c.args.history.now.run c.args.moment (g.S.Shelf.device c.args.shelf.now) c.args.history.now.facts (g.met.S.Shelf.sectors_are_whole c.args.shelf.now) c.ranges.moment.fits clock
 
-pub returns-in-Err-clause-keeps : goal.returns-in-Err-clause-keeps
-returns-in-Err-clause-keeps g c = λ clock. keeps_still c.args.history.now.run (at (g.S.Shelf.device c.args.shelf.now) c.args.history.now.facts)
+-- ---- where it is planned
 
-pub returns-in-Err-clause-behind : goal.returns-in-Err-clause-behind
-returns-in-Err-clause-behind g c = λ clock.
-    all_is_behind_next c.args.history.now.run c.args.moment (g.S.Shelf.device c.args.shelf.now) c.args.history.now.facts (g.met.S.Shelf.sectors_are_whole c.args.shelf.now) c.ranges.moment.fits clock
-
--- ---- where what was found refuses
-
-pub returns-in_err-homes-clause-refused : goal.returns-in_err-homes-clause-refused
-returns-in_err-homes-clause-refused g c =
-    let w : NewGroup = record { name = c.args.name; mib = c.args.mib; disks = c.args.disks.now; force = c.args.force; moment = c.args.moment } in
+pub bring-brought-requires-clause-planned : goal.bring-brought-requires-clause-planned
+bring-brought-requires-clause-planned g c =
+    let w : NewGroup = group_of c.args.asked.now c.args.disks.now c.args.moment in
     let old = g.S.Shelf.device c.args.shelf.now in
-    let mid = g.S.Shelf.device c.look-found.new.shelf in
-    let why : Cause = c.in_err-homes.field-0.0 in
-    let may : MayBegin old.sizes (spare_entries c.args.history.now) w.disks w.mib = subst (λ n. MayBegin old.sizes n w.disks w.mib) c.spare_entries.ensures.spare c.in_ok-size.ensures.may in
-    let p = err_from_is_err_and c.from_residual-in_err-homes.result c.from_residual-in_err-homes.ensures.1 in
-    rw (p.1, p.2) (refuses_reading w c.args.patience.now.left c.args.history.now c.enter_cut.new.history old mid why may (c.enter_cut.ensures ∙ ap (λ (r : Result Free Cause). cut_at r c.args.history.now) c.in_err-homes.was)
-    (rw c.in_err-homes.was at c.look-found.ensures.gives))
+    subst (λ n. IsPlannedFor w c.args.asked.now.room n old.sizes c.in_ok-plan.plan) c.spare_entries.ensures.spare c.in_ok-plan.ensures.planned
 
-pub returns-in_err-homes-clause-keeps : goal.returns-in_err-homes-clause-keeps
-returns-in_err-homes-clause-keeps g c = λ clock.
-    let old = g.S.Shelf.device c.args.shelf.now in
-    let mid = g.S.Shelf.device c.look-found.new.shelf in
-    let was : Log = c.args.history.now in
-    keeps_where was.run (at old was.facts) mid c.in_err-homes.field-0.0 was c.enter_cut.new.history (c.enter_cut.ensures ∙ ap (λ (r : Result Free Cause). cut_at r was) c.in_err-homes.was)
-    (read_keeps was.run c.args.moment old mid was c.look-found.ensures.unwritten c.look-found.ensures.moments)
+-- ---- what the session starts with
 
-pub returns-in_err-homes-clause-calm : goal.returns-in_err-homes-clause-calm
-returns-in_err-homes-clause-calm g c =
-    let old = g.S.Shelf.device c.args.shelf.now in
-    let mid = g.S.Shelf.device c.look-found.new.shelf in
-    let was : Log = c.args.history.now in
-    calm_where (at old was.facts) mid c.in_err-homes.field-0.0 was c.enter_cut.new.history (c.enter_cut.ensures ∙ ap (λ (r : Result Free Cause). cut_at r was) c.in_err-homes.was) (λ past calm. calm)
+ok_standing : (parts : Reserved) (brought : Result Homes Cause) (P : Standing → Type 0) → IfOk brought (λ homes. P (record { parts = parts; homes = homes })) → IfOk (standing_of parts brought) P
+ok_standing parts (Ok homes) P stands = stands
+ok_standing parts (Err why) P stands = tt
 
-pub returns-in_err-homes-clause-behind : goal.returns-in_err-homes-clause-behind
-returns-in_err-homes-clause-behind g c = λ clock.
-    read_behind c.args.history.now.run c.args.moment (g.S.Shelf.device c.args.shelf.now) (g.S.Shelf.device c.look-found.new.shelf) c.args.history.now c.look-found.ensures.unwritten
-    (g.met.S.Shelf.sectors_are_whole c.look-found.new.shelf) c.ranges.moment.fits clock
-
--- ---- where it lets the records be written
-
-some_size : (sizes disks : List ℕ) (given : Option ℕ) (size : ℕ) → size ≡ size_for sizes disks given → IsTrue (is_size size) → 1 ≤ size_for sizes disks given
-some_size sizes disks given size same is = subst (λ n. 1 ≤ n) same (size_positive size is)
-
-pub write-written-requires-clause-descriptor : goal.write-written-requires-clause-descriptor
-write-written-requires-clause-descriptor g c =
-    let w : NewGroup = record { name = c.args.name; mib = c.args.mib; disks = c.args.disks.now; force = c.args.force; moment = c.args.moment } in
-    let was : Log = c.args.history.now in
-    let old = g.S.Shelf.device c.args.shelf.now in
-    let mid = g.S.Shelf.device c.look-found.new.shelf in
-    let free : Free = c.in_ok-homes.field-0 in
-    let may : MayBegin old.sizes (spare_entries was) w.disks w.mib = subst (λ n. MayBegin old.sizes n w.disks w.mib) c.spare_entries.ensures.spare c.in_ok-size.ensures.may in
-    let found : IsFree w.force w.moment old mid free = rw c.in_ok-homes.was at c.look-found.ensures.gives in
-    let planned : IsPlanned old.sizes w.name (size_for old.sizes w.disks w.mib) w.disks w.moment c.args.room c.in-Ok.plan = subst (λ n. IsPlanned old.sizes w.name n w.disks w.moment c.args.room c.in-Ok.plan) c.in_ok-size.ensures.size c.in-Ok.ensures in
-    let size : 1 ≤ size_for old.sizes w.disks w.mib = some_size old.sizes w.disks w.mib c.in_ok-size.size c.in_ok-size.ensures.size c.in_ok-size.ensures.is_size in
-    descriptor_long w c.args.room was old mid free c.in-Ok.plan may found planned size
-
-pub write-written-requires-clause-status : goal.write-written-requires-clause-status
-write-written-requires-clause-status g c =
-    let w : NewGroup = record { name = c.args.name; mib = c.args.mib; disks = c.args.disks.now; force = c.args.force; moment = c.args.moment } in
-    let was : Log = c.args.history.now in
-    let old = g.S.Shelf.device c.args.shelf.now in
-    let mid = g.S.Shelf.device c.look-found.new.shelf in
-    let free : Free = c.in_ok-homes.field-0 in
-    let may : MayBegin old.sizes (spare_entries was) w.disks w.mib = subst (λ n. MayBegin old.sizes n w.disks w.mib) c.spare_entries.ensures.spare c.in_ok-size.ensures.may in
-    let found : IsFree w.force w.moment old mid free = rw c.in_ok-homes.was at c.look-found.ensures.gives in
-    let planned : IsPlanned old.sizes w.name (size_for old.sizes w.disks w.mib) w.disks w.moment c.args.room c.in-Ok.plan = subst (λ n. IsPlanned old.sizes w.name n w.disks w.moment c.args.room c.in-Ok.plan) c.in_ok-size.ensures.size c.in-Ok.ensures in
-    let size : 1 ≤ size_for old.sizes w.disks w.mib = some_size old.sizes w.disks w.mib c.in_ok-size.size c.in_ok-size.ensures.size c.in_ok-size.ensures.is_size in
-    status_long w c.args.room was old mid free c.in-Ok.plan may found planned size
-
-pub write-written-requires-clause-targets : goal.write-written-requires-clause-targets
-write-written-requires-clause-targets g c =
-    let w : NewGroup = record { name = c.args.name; mib = c.args.mib; disks = c.args.disks.now; force = c.args.force; moment = c.args.moment } in
-    let was : Log = c.args.history.now in
-    let old = g.S.Shelf.device c.args.shelf.now in
-    let mid = g.S.Shelf.device c.look-found.new.shelf in
-    let free : Free = c.in_ok-homes.field-0 in
-    let may : MayBegin old.sizes (spare_entries was) w.disks w.mib = subst (λ n. MayBegin old.sizes n w.disks w.mib) c.spare_entries.ensures.spare c.in_ok-size.ensures.may in
-    let found : IsFree w.force w.moment old mid free = rw c.in_ok-homes.was at c.look-found.ensures.gives in
-    let planned : IsPlanned old.sizes w.name (size_for old.sizes w.disks w.mib) w.disks w.moment c.args.room c.in-Ok.plan = subst (λ n. IsPlanned old.sizes w.name n w.disks w.moment c.args.room c.in-Ok.plan) c.in_ok-size.ensures.size c.in-Ok.ensures in
-    let size : 1 ≤ size_for old.sizes w.disks w.mib = some_size old.sizes w.disks w.mib c.in_ok-size.size c.in_ok-size.ensures.size c.in_ok-size.ensures.is_size in
-    have_room w c.args.room was old mid free c.in-Ok.plan may found planned size
-
--- ---- where they weren't all written
-
-pub returns-in_err-written-clause-refused : goal.returns-in_err-written-clause-refused
-returns-in_err-written-clause-refused g c =
-    let w : NewGroup = record { name = c.args.name; mib = c.args.mib; disks = c.args.disks.now; force = c.args.force; moment = c.args.moment } in
-    let was : Log = c.args.history.now in
-    let old = g.S.Shelf.device c.args.shelf.now in
-    let mid = g.S.Shelf.device c.look-found.new.shelf in
-    let free : Free = c.in_ok-homes.field-0 in
-    let may : MayBegin old.sizes (spare_entries was) w.disks w.mib = subst (λ n. MayBegin old.sizes n w.disks w.mib) c.spare_entries.ensures.spare c.in_ok-size.ensures.may in
-    let found : IsFree w.force w.moment old mid free = rw c.in_ok-homes.was at c.look-found.ensures.gives in
-    let planned : IsPlanned old.sizes w.name (size_for old.sizes w.disks w.mib) w.disks w.moment c.args.room c.in-Ok.plan = subst (λ n. IsPlanned old.sizes w.name n w.disks w.moment c.args.room c.in-Ok.plan) c.in_ok-size.ensures.size c.in-Ok.ensures in
-    let size : 1 ≤ size_for old.sizes w.disks w.mib = some_size old.sizes w.disks w.mib c.in_ok-size.size c.in_ok-size.ensures.size c.in_ok-size.ensures.is_size in
-    let new = g.S.Shelf.device c.write-written.new.shelf in
-    let given : c.give_up.new.history ≡ given_up was w.disks = c.give_up.ensures ∙ ap (λ (l : Log). given_up l w.disks) (c.enter_cut.ensures ∙ ap (λ (r : Result Free Cause). cut_at r was) c.in_ok-homes.was) in
-    let is : c.enter_cut-2.new.history ≡ cut_where c.in_err-written.field-0.0 (given_up was w.disks) = c.enter_cut-2.ensures ∙ ap (λ (r : Result (Unit {0}) Cause). cut_at r c.give_up.new.history) c.in_err-written.was ∙ ap (cut_where c.in_err-written.field-0.0) given in
-    let p = err_from_is_err_and c.from_residual-in_err-written.result c.from_residual-in_err-written.ensures.1 in
-    rw (p.1, p.2) (refuses_written w c.args.room was old mid free c.in-Ok.plan may found planned size new c.write-written.ensures.keeps c.args.patience.now.left c.look-found.new.patience.left c.enter_cut-2.new.history c.write-written.new.homes c.in_err-written.field-0.0
-    c.look-found.ensures.patience c.look-found.ensures.waited is (rw c.in_err-written.was at c.write-written.ensures.gives))
-
-pub returns-in_err-written-clause-keeps : goal.returns-in_err-written-clause-keeps
-returns-in_err-written-clause-keeps g c = λ clock.
-    let w : NewGroup = record { name = c.args.name; mib = c.args.mib; disks = c.args.disks.now; force = c.args.force; moment = c.args.moment } in
-    let was : Log = c.args.history.now in
-    let old = g.S.Shelf.device c.args.shelf.now in
-    let mid = g.S.Shelf.device c.look-found.new.shelf in
-    let free : Free = c.in_ok-homes.field-0 in
-    let may : MayBegin old.sizes (spare_entries was) w.disks w.mib = subst (λ n. MayBegin old.sizes n w.disks w.mib) c.spare_entries.ensures.spare c.in_ok-size.ensures.may in
-    let found : IsFree w.force w.moment old mid free = rw c.in_ok-homes.was at c.look-found.ensures.gives in
-    let planned : IsPlanned old.sizes w.name (size_for old.sizes w.disks w.mib) w.disks w.moment c.args.room c.in-Ok.plan = subst (λ n. IsPlanned old.sizes w.name n w.disks w.moment c.args.room c.in-Ok.plan) c.in_ok-size.ensures.size c.in-Ok.ensures in
-    let size : 1 ≤ size_for old.sizes w.disks w.mib = some_size old.sizes w.disks w.mib c.in_ok-size.size c.in_ok-size.ensures.size c.in_ok-size.ensures.is_size in
-    let new = g.S.Shelf.device c.write-written.new.shelf in
-    let given : c.give_up.new.history ≡ given_up was w.disks = c.give_up.ensures ∙ ap (λ (l : Log). given_up l w.disks) (c.enter_cut.ensures ∙ ap (λ (r : Result Free Cause). cut_at r was) c.in_ok-homes.was) in
-    let is : c.enter_cut-2.new.history ≡ cut_where c.in_err-written.field-0.0 (given_up was w.disks) = c.enter_cut-2.ensures ∙ ap (λ (r : Result (Unit {0}) Cause). cut_at r c.give_up.new.history) c.in_err-written.was ∙ ap (cut_where c.in_err-written.field-0.0) given in
-    keeps_where was.run (at old was.facts) new c.in_err-written.field-0.0 (given_up was w.disks) c.enter_cut-2.new.history is
-    (written_keeps w c.args.room was old mid free c.in-Ok.plan may found planned size new c.write-written.ensures.keeps was.run c.ranges.moment.fits (g.met.S.Shelf.sectors_are_whole c.look-found.new.shelf) clock c.look-found.ensures.moments c.write-written.ensures.kept)
-
-pub returns-in_err-written-clause-calm : goal.returns-in_err-written-clause-calm
-returns-in_err-written-clause-calm g c =
-    let w : NewGroup = record { name = c.args.name; mib = c.args.mib; disks = c.args.disks.now; force = c.args.force; moment = c.args.moment } in
-    let was : Log = c.args.history.now in
-    let old = g.S.Shelf.device c.args.shelf.now in
-    let mid = g.S.Shelf.device c.look-found.new.shelf in
-    let free : Free = c.in_ok-homes.field-0 in
-    let may : MayBegin old.sizes (spare_entries was) w.disks w.mib = subst (λ n. MayBegin old.sizes n w.disks w.mib) c.spare_entries.ensures.spare c.in_ok-size.ensures.may in
-    let found : IsFree w.force w.moment old mid free = rw c.in_ok-homes.was at c.look-found.ensures.gives in
-    let planned : IsPlanned old.sizes w.name (size_for old.sizes w.disks w.mib) w.disks w.moment c.args.room c.in-Ok.plan = subst (λ n. IsPlanned old.sizes w.name n w.disks w.moment c.args.room c.in-Ok.plan) c.in_ok-size.ensures.size c.in-Ok.ensures in
-    let size : 1 ≤ size_for old.sizes w.disks w.mib = some_size old.sizes w.disks w.mib c.in_ok-size.size c.in_ok-size.ensures.size c.in_ok-size.ensures.is_size in
-    let new = g.S.Shelf.device c.write-written.new.shelf in
-    let given : c.give_up.new.history ≡ given_up was w.disks = c.give_up.ensures ∙ ap (λ (l : Log). given_up l w.disks) (c.enter_cut.ensures ∙ ap (λ (r : Result Free Cause). cut_at r was) c.in_ok-homes.was) in
-    let is : c.enter_cut-2.new.history ≡ cut_where c.in_err-written.field-0.0 (given_up was w.disks) = c.enter_cut-2.ensures ∙ ap (λ (r : Result (Unit {0}) Cause). cut_at r c.give_up.new.history) c.in_err-written.was ∙ ap (cut_where c.in_err-written.field-0.0) given in
-    calm_where (at old was.facts) new c.in_err-written.field-0.0 (given_up was w.disks) c.enter_cut-2.new.history is (calm_given (at old was.facts) new was.facts w.disks (λ past calm. calm))
-
-pub returns-in_err-written-clause-behind : goal.returns-in_err-written-clause-behind
-returns-in_err-written-clause-behind g c = λ clock.
-    let w : NewGroup = record { name = c.args.name; mib = c.args.mib; disks = c.args.disks.now; force = c.args.force; moment = c.args.moment } in
-    let was : Log = c.args.history.now in
-    let old = g.S.Shelf.device c.args.shelf.now in
-    let mid = g.S.Shelf.device c.look-found.new.shelf in
-    let free : Free = c.in_ok-homes.field-0 in
-    let may : MayBegin old.sizes (spare_entries was) w.disks w.mib = subst (λ n. MayBegin old.sizes n w.disks w.mib) c.spare_entries.ensures.spare c.in_ok-size.ensures.may in
-    let found : IsFree w.force w.moment old mid free = rw c.in_ok-homes.was at c.look-found.ensures.gives in
-    let planned : IsPlanned old.sizes w.name (size_for old.sizes w.disks w.mib) w.disks w.moment c.args.room c.in-Ok.plan = subst (λ n. IsPlanned old.sizes w.name n w.disks w.moment c.args.room c.in-Ok.plan) c.in_ok-size.ensures.size c.in-Ok.ensures in
-    let size : 1 ≤ size_for old.sizes w.disks w.mib = some_size old.sizes w.disks w.mib c.in_ok-size.size c.in_ok-size.ensures.size c.in_ok-size.ensures.is_size in
-    let new = g.S.Shelf.device c.write-written.new.shelf in
-    written_behind w c.args.room was old mid free c.in-Ok.plan may found planned size new c.write-written.ensures.keeps was.run c.ranges.moment.fits (g.met.S.Shelf.sectors_are_whole c.look-found.new.shelf) clock
-
--- ---- where they were
+err_standing : (parts : Reserved) (brought : Result Homes Cause) (P : Cause → Type 0) → IfErr brought P → IfErr (standing_of parts brought) P
+err_standing parts (Ok homes) P refuses = tt
+err_standing parts (Err why) P refuses = refuses
 
 pub returns-clause-made : goal.returns-clause-made
 returns-clause-made g c =
-    let w : NewGroup = record { name = c.args.name; mib = c.args.mib; disks = c.args.disks.now; force = c.args.force; moment = c.args.moment } in
-    let was : Log = c.args.history.now in
-    let old = g.S.Shelf.device c.args.shelf.now in
-    let mid = g.S.Shelf.device c.look-found.new.shelf in
-    let free : Free = c.in_ok-homes.field-0 in
-    let may : MayBegin old.sizes (spare_entries was) w.disks w.mib = subst (λ n. MayBegin old.sizes n w.disks w.mib) c.spare_entries.ensures.spare c.in_ok-size.ensures.may in
-    let found : IsFree w.force w.moment old mid free = rw c.in_ok-homes.was at c.look-found.ensures.gives in
-    let planned : IsPlanned old.sizes w.name (size_for old.sizes w.disks w.mib) w.disks w.moment c.args.room c.in-Ok.plan = subst (λ n. IsPlanned old.sizes w.name n w.disks w.moment c.args.room c.in-Ok.plan) c.in_ok-size.ensures.size c.in-Ok.ensures in
-    let size : 1 ≤ size_for old.sizes w.disks w.mib = some_size old.sizes w.disks w.mib c.in_ok-size.size c.in_ok-size.ensures.size c.in_ok-size.ensures.is_size in
-    let new = g.S.Shelf.device c.write-written.new.shelf in
-    let given : c.give_up.new.history ≡ given_up was w.disks = c.give_up.ensures ∙ ap (λ (l : Log). given_up l w.disks) (c.enter_cut.ensures ∙ ap (λ (r : Result Free Cause). cut_at r was) c.in_ok-homes.was) in
-    let is : c.enter_cut-2.new.history ≡ given_up was w.disks = c.enter_cut-2.ensures ∙ ap (λ (r : Result (Unit {0}) Cause). cut_at r c.give_up.new.history) c.in_ok-written.was ∙ given in
-    let gives = rw c.in_ok-written.was at c.write-written.ensures.gives in
-    stands_written w c.args.room was old mid free c.in-Ok.plan may found planned size new c.write-written.ensures.keeps c.write-written.new.homes c.enter_cut-2.new.history is gives.0 gives.1
+    let P : Standing → Type 0 = Stands (group_of c.args.asked.now c.args.disks.now c.args.moment) c.args.asked.now.room c.args.history.now c.bring-brought.new.history (g.S.Shelf.device c.args.shelf.now) (g.S.Shelf.device c.bring-brought.new.shelf) in
+    subst (λ (r : Result Standing Cause). IfOk r P) (sym c.start_with.ensures) (ok_standing c.in_ok-plan.plan.parts c.bring-brought.result P c.bring-brought.ensures.made)
+
+pub returns-clause-refused : goal.returns-clause-refused
+returns-clause-refused g c =
+    let P : Cause → Type 0 = Refuses (group_of c.args.asked.now c.args.disks.now c.args.moment) c.args.patience.now.left c.args.history.now c.bring-brought.new.history (g.S.Shelf.device c.args.shelf.now) (g.S.Shelf.device c.bring-brought.new.shelf) in
+    subst (λ (r : Result Standing Cause). IfErr r P) (sym c.start_with.ensures) (err_standing c.in_ok-plan.plan.parts c.bring-brought.result P c.bring-brought.ensures.refused)
 
 pub returns-clause-held : goal.returns-clause-held
 returns-clause-held g c = λ clock.
-    let w : NewGroup = record { name = c.args.name; mib = c.args.mib; disks = c.args.disks.now; force = c.args.force; moment = c.args.moment } in
-    let was : Log = c.args.history.now in
-    let old = g.S.Shelf.device c.args.shelf.now in
-    let mid = g.S.Shelf.device c.look-found.new.shelf in
-    let free : Free = c.in_ok-homes.field-0 in
-    let may : MayBegin old.sizes (spare_entries was) w.disks w.mib = subst (λ n. MayBegin old.sizes n w.disks w.mib) c.spare_entries.ensures.spare c.in_ok-size.ensures.may in
-    let found : IsFree w.force w.moment old mid free = rw c.in_ok-homes.was at c.look-found.ensures.gives in
-    let planned : IsPlanned old.sizes w.name (size_for old.sizes w.disks w.mib) w.disks w.moment c.args.room c.in-Ok.plan = subst (λ n. IsPlanned old.sizes w.name n w.disks w.moment c.args.room c.in-Ok.plan) c.in_ok-size.ensures.size c.in-Ok.ensures in
-    let size : 1 ≤ size_for old.sizes w.disks w.mib = some_size old.sizes w.disks w.mib c.in_ok-size.size c.in_ok-size.ensures.size c.in_ok-size.ensures.is_size in
-    let new = g.S.Shelf.device c.write-written.new.shelf in
-    let given : c.give_up.new.history ≡ given_up was w.disks = c.give_up.ensures ∙ ap (λ (l : Log). given_up l w.disks) (c.enter_cut.ensures ∙ ap (λ (r : Result Free Cause). cut_at r was) c.in_ok-homes.was) in
-    let is : c.enter_cut-2.new.history ≡ given_up was w.disks = c.enter_cut-2.ensures ∙ ap (λ (r : Result (Unit {0}) Cause). cut_at r c.give_up.new.history) c.in_ok-written.was ∙ given in
-    let gives = rw c.in_ok-written.was at c.write-written.ensures.gives in
-    written_held w c.args.room was old mid free c.in-Ok.plan may found planned size new c.write-written.ensures.keeps was.run c.ranges.moment.fits (g.met.S.Shelf.sectors_are_whole c.look-found.new.shelf) clock c.write-written.new.homes c.enter_cut-2.new.history gives.0 gives.1
-
-pub returns-clause-keeps : goal.returns-clause-keeps
-returns-clause-keeps g c = λ clock.
-    let w : NewGroup = record { name = c.args.name; mib = c.args.mib; disks = c.args.disks.now; force = c.args.force; moment = c.args.moment } in
-    let was : Log = c.args.history.now in
-    let old = g.S.Shelf.device c.args.shelf.now in
-    let mid = g.S.Shelf.device c.look-found.new.shelf in
-    let free : Free = c.in_ok-homes.field-0 in
-    let may : MayBegin old.sizes (spare_entries was) w.disks w.mib = subst (λ n. MayBegin old.sizes n w.disks w.mib) c.spare_entries.ensures.spare c.in_ok-size.ensures.may in
-    let found : IsFree w.force w.moment old mid free = rw c.in_ok-homes.was at c.look-found.ensures.gives in
-    let planned : IsPlanned old.sizes w.name (size_for old.sizes w.disks w.mib) w.disks w.moment c.args.room c.in-Ok.plan = subst (λ n. IsPlanned old.sizes w.name n w.disks w.moment c.args.room c.in-Ok.plan) c.in_ok-size.ensures.size c.in-Ok.ensures in
-    let size : 1 ≤ size_for old.sizes w.disks w.mib = some_size old.sizes w.disks w.mib c.in_ok-size.size c.in_ok-size.ensures.size c.in_ok-size.ensures.is_size in
-    let new = g.S.Shelf.device c.write-written.new.shelf in
-    let given : c.give_up.new.history ≡ given_up was w.disks = c.give_up.ensures ∙ ap (λ (l : Log). given_up l w.disks) (c.enter_cut.ensures ∙ ap (λ (r : Result Free Cause). cut_at r was) c.in_ok-homes.was) in
-    let is : c.enter_cut-2.new.history ≡ given_up was w.disks = c.enter_cut-2.ensures ∙ ap (λ (r : Result (Unit {0}) Cause). cut_at r c.give_up.new.history) c.in_ok-written.was ∙ given in
-    let gives = rw c.in_ok-written.was at c.write-written.ensures.gives in
-    subst (λ (l : Log). Keeps was.run (at old was.facts) (at new l.facts)) (sym is)
-    (written_keeps w c.args.room was old mid free c.in-Ok.plan may found planned size new c.write-written.ensures.keeps was.run c.ranges.moment.fits (g.met.S.Shelf.sectors_are_whole c.look-found.new.shelf) clock c.look-found.ensures.moments c.write-written.ensures.kept)
-
-pub returns-clause-calm : goal.returns-clause-calm
-returns-clause-calm g c =
-    let w : NewGroup = record { name = c.args.name; mib = c.args.mib; disks = c.args.disks.now; force = c.args.force; moment = c.args.moment } in
-    let was : Log = c.args.history.now in
-    let old = g.S.Shelf.device c.args.shelf.now in
-    let mid = g.S.Shelf.device c.look-found.new.shelf in
-    let free : Free = c.in_ok-homes.field-0 in
-    let may : MayBegin old.sizes (spare_entries was) w.disks w.mib = subst (λ n. MayBegin old.sizes n w.disks w.mib) c.spare_entries.ensures.spare c.in_ok-size.ensures.may in
-    let found : IsFree w.force w.moment old mid free = rw c.in_ok-homes.was at c.look-found.ensures.gives in
-    let planned : IsPlanned old.sizes w.name (size_for old.sizes w.disks w.mib) w.disks w.moment c.args.room c.in-Ok.plan = subst (λ n. IsPlanned old.sizes w.name n w.disks w.moment c.args.room c.in-Ok.plan) c.in_ok-size.ensures.size c.in-Ok.ensures in
-    let size : 1 ≤ size_for old.sizes w.disks w.mib = some_size old.sizes w.disks w.mib c.in_ok-size.size c.in_ok-size.ensures.size c.in_ok-size.ensures.is_size in
-    let new = g.S.Shelf.device c.write-written.new.shelf in
-    let given : c.give_up.new.history ≡ given_up was w.disks = c.give_up.ensures ∙ ap (λ (l : Log). given_up l w.disks) (c.enter_cut.ensures ∙ ap (λ (r : Result Free Cause). cut_at r was) c.in_ok-homes.was) in
-    let is : c.enter_cut-2.new.history ≡ given_up was w.disks = c.enter_cut-2.ensures ∙ ap (λ (r : Result (Unit {0}) Cause). cut_at r c.give_up.new.history) c.in_ok-written.was ∙ given in
-    let gives = rw c.in_ok-written.was at c.write-written.ensures.gives in
-    subst (λ (l : Log). StaysCalm (at old was.facts) (at new l.facts)) (sym is) (calm_given (at old was.facts) new was.facts w.disks (λ past calm. calm))
-
-pub returns-clause-behind : goal.returns-clause-behind
-returns-clause-behind g c = λ clock.
-    let w : NewGroup = record { name = c.args.name; mib = c.args.mib; disks = c.args.disks.now; force = c.args.force; moment = c.args.moment } in
-    let was : Log = c.args.history.now in
-    let old = g.S.Shelf.device c.args.shelf.now in
-    let mid = g.S.Shelf.device c.look-found.new.shelf in
-    let free : Free = c.in_ok-homes.field-0 in
-    let may : MayBegin old.sizes (spare_entries was) w.disks w.mib = subst (λ n. MayBegin old.sizes n w.disks w.mib) c.spare_entries.ensures.spare c.in_ok-size.ensures.may in
-    let found : IsFree w.force w.moment old mid free = rw c.in_ok-homes.was at c.look-found.ensures.gives in
-    let planned : IsPlanned old.sizes w.name (size_for old.sizes w.disks w.mib) w.disks w.moment c.args.room c.in-Ok.plan = subst (λ n. IsPlanned old.sizes w.name n w.disks w.moment c.args.room c.in-Ok.plan) c.in_ok-size.ensures.size c.in-Ok.ensures in
-    let size : 1 ≤ size_for old.sizes w.disks w.mib = some_size old.sizes w.disks w.mib c.in_ok-size.size c.in_ok-size.ensures.size c.in_ok-size.ensures.is_size in
-    let new = g.S.Shelf.device c.write-written.new.shelf in
-    written_behind w c.args.room was old mid free c.in-Ok.plan may found planned size new c.write-written.ensures.keeps was.run c.ranges.moment.fits (g.met.S.Shelf.sectors_are_whole c.look-found.new.shelf) clock
+    let P : Standing → Type 0 = λ standing. IsHeld (g.S.Shelf.device c.bring-brought.new.shelf) (first_core standing.parts c.bring-brought.new.history (record { epoch = c.args.moment; seq = 2 }) standing.homes) in
+    subst (λ (r : Result Standing Cause). IfOk r P) (sym c.start_with.ensures) (ok_standing c.in_ok-plan.plan.parts c.bring-brought.result P (c.bring-brought.ensures.held clock))

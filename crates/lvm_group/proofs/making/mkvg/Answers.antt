@@ -6,7 +6,7 @@ use Rattle.lvm_change.specs.Requests.{at}
 use Rattle.lvm_group.specs.NewGroup.{NewGroup}
 use Rattle.lvm_group.specs.Made.{IsMade}
 use Rattle.lvm_group.specs.Steps.{Stands}
-use Rattle.lvm_group.proofs.Starting.{spare_left, still_landed, placed, made, settles, keeps_on, calm_on}
+use Rattle.lvm_group.proofs.Starting.{spare_left, still_landed, placed, made, settles, keeps_on, calm_on, none_left}
 use Rattle.lvm_group.proofs.making.mkvg.Goals as goal
 
 pub start-requires-clause-spare : goal.start-requires-clause-spare
@@ -73,3 +73,12 @@ returns-in-Ok-clause-calm g c =
     let stands : Stands w c.args.room was c.make.new.history old new c.in-Ok.standing = c.in-Ok.ensures.made in
     subst (λ (s : g.row.S.Denot). StaysCalm (at old was.facts) (at (g.S.Shelf.device s) c.start.result.1.history.facts)) (sym c.start.ensures.shelf)
     (calm_on w c.args.room was c.make.new.history old new c.in-Ok.standing stands (at old was.facts) c.start.result.1 c.start.ensures.core c.in-Ok.ensures.calm)
+
+pub returns-in-Ok-clause-left : goal.returns-in-Ok-clause-left
+returns-in-Ok-clause-left g c =
+    let w : NewGroup = record { name = c.args.name; mib = c.args.mib; disks = c.args.disks.now; force = c.args.force; moment = c.args.moment } in
+    let was : Log = c.args.history in
+    let old = g.S.Shelf.device c.args.shelf in
+    let new = g.S.Shelf.device c.make.new.shelf in
+    let stands : Stands w c.args.room was c.make.new.history old new c.in-Ok.standing = c.in-Ok.ensures.made in
+    none_left w c.args.room was c.make.new.history old new c.in-Ok.standing stands c.start.result.1 c.start.ensures.core

@@ -1,10 +1,8 @@
-use Rattle.std.proofs.Common.{◌≡◌, ◌<◌, ◌≤◌, ap, sym, subst, ◌∙◌, arith, refl, length}
+use Rattle.std.proofs.Common.{ap, ◌∙◌, arith, refl, length}
 use Rattle.lvm_num.specs.declared.descriptor.Descriptor.{Descriptor}
-use Rattle.lvm_num.specs.declared.descriptor.LvRow.{LvRow}
 use Rattle.lvm_num.specs.Descriptor.{most_volumes}
 use Rattle.lvm_core.specs.Looking.{HasNoVolume}
 use Rattle.lvm_group.specs.Endings.{TakesCommands}
-use Rattle.lvm_group.specs.Volumes.{HasNewName, HasOneCopy}
 use Rattle.lvm_group.proofs.Refusals.{if_none}
 use Rattle.lvm_group.proofs.new_volume.check.Goals as goal
 

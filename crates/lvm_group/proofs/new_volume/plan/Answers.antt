@@ -1,14 +1,13 @@
-use Rattle.std.proofs.Common.{◌≡◌, ◌≢◌, ◌<◌, ◌≤◌, ◌^◌, ap, sym, subst, ◌∙◌, arith, List, get_or, length}
-use Rattle.std.specs.Prelude.{All, IsTrue}
+use Rattle.std.proofs.Common.{◌≡◌, ◌≢◌, ◌<◌, ◌^◌, ap, sym, subst, ◌∙◌, List, get_or, length}
+use Rattle.std.specs.Prelude.{All}
 use Rattle.std.proofs.lemmas.List.Elements.{Contains-get_or}
 use Rattle.lvm_num.specs.declared.place.Pp.{Pp}
 use Rattle.lvm_num.specs.declared.descriptor.Descriptor.{Descriptor}
 use Rattle.lvm_num.specs.declared.descriptor.LvRow.{LvRow}
-use Rattle.lvm_num.specs.Name.{is_name}
 use Rattle.lvm_num.specs.Descriptor.{IsValid, most_volumes}
 use Rattle.lvm_map.specs.FirstFit.{IsAllocated, new_volume}
 use Rattle.lvm_core.specs.State.{Core, is_there}
-use Rattle.lvm_group.specs.NewVolume.{IsLowestFree, IsInOrder, row_for, with_volume}
+use Rattle.lvm_group.specs.NewVolume.{row_for, with_volume}
 use Rattle.lvm_group.specs.Volumes.{HasPlaces}
 use Rattle.lvm_group.proofs.NewDescriptor.{valid_with}
 use Rattle.lvm_group.proofs.new_volume.plan.Goals as goal

@@ -1,7 +1,5 @@
-use Rattle.std.proofs.Common.{◌≡◌, ap, sym, subst, ◌∙◌}
-use Rattle.lvm_num.specs.declared.descriptor.Descriptor.{Descriptor}
+use Rattle.std.proofs.Common.{sym, subst}
 use Rattle.lvm_num.specs.Descriptor.{IsValid}
-use Rattle.lvm_group.specs.NewVolume.{without_volume}
 use Rattle.lvm_group.proofs.OldDescriptor.{valid_without}
 use Rattle.lvm_group.proofs.new_volume.without.Goals as goal
 

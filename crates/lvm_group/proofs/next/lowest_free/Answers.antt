@@ -2,7 +2,7 @@ use Rattle.std.proofs.Common.{◌≡◌, ◌+◌, ◌<◌, ◌≤◌, sym, ap, s
 use Rattle.std.proofs.lemmas.List.{get_or_default}
 use Rattle.lvm_num.specs.declared.descriptor.LvRow.{LvRow}
 use Rattle.lvm_group.specs.NewVolume.{IsLowestFree, IsInOrder}
-use Rattle.lvm_group.proofs.Numbers.{AreNumbered, numbered_more, lowest_is, order_is}
+use Rattle.lvm_group.proofs.Numbers.{AreNumbered, lowest_is, order_is}
 use Rattle.lvm_group.proofs.next.lowest_free.Goals as goal
 
 pub returns-then-row-lowest-clause-lowest : goal.returns-then-row-lowest-clause-lowest

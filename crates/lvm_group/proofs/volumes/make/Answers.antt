@@ -1,14 +1,13 @@
-use Rattle.std.proofs.Common.{◌≡◌, ◌+◌, ◌<◌, ◌≤◌, ℕ, List, [], Result, Ok, Err, refl, sym, ap, subst, ◌∙◌, arith}
+use Rattle.std.proofs.Common.{◌≡◌, ◌≤◌, ℕ, List, [], Err, refl, sym, ap, subst, ◌∙◌, arith}
 use Rattle.std.specs.Prelude.{Contains}
 use Rattle.std.proofs.lemmas.Result.{err_from_is_err_and}
 use Rattle.lvm_num.specs.declared.place.Pp.{Pp}
 use Rattle.lvm_num.specs.declared.descriptor.Descriptor.{Descriptor}
 use Rattle.lvm_num.specs.DescriptorBytes.{descriptor_bytes}
 use Rattle.lvm_vol.specs.Facts.{Fact, Making, Made}
-use Rattle.lvm_vol.specs.Log.{Log, spare_entries}
 use Rattle.lvm_kept.specs.Moments.{Moment}
 use Rattle.lvm_quorum.specs.Written.{KeepsShelf}
-use Rattle.lvm_commit.specs.Settling.{many_there, OnlyLoses, IsOfCommit}
+use Rattle.lvm_commit.specs.Settling.{many_there, NoneIsLeft, MarksLeft, IsOfCommit}
 use Rattle.lvm_core.specs.declared.fault.CommitFault.{CommitFault}
 use Rattle.lvm_core.specs.State.{Core, State, state, is_there}
 use Rattle.lvm_core.specs.Held.{IsHeld}
@@ -20,8 +19,8 @@ use Rattle.lvm_group.specs.Endings.{StillHeld}
 use Rattle.lvm_group.specs.PlannedVolume.{IsPlannedVolume}
 use Rattle.lvm_group.specs.Stages.{Goes, AreUnusedOn, AreCleared, ClearEnds, IsNamed}
 use Rattle.lvm_group.proofs.Zeroing.{NoNext}
-use Rattle.lvm_group.proofs.Entering.{entered, spare_more, settled_entered, commit_goes, commit_still, many_bound, has_numbers}
-use Rattle.lvm_group.proofs.Naming.{plan_unused, clear_break_goes, clear_break, lets_make, break_goes, make_break, make_goes, make_still, make_named}
+use Rattle.lvm_group.proofs.Entering.{entered, settled_entered, commit_goes, commit_still, many_bound, has_numbers}
+use Rattle.lvm_group.proofs.Naming.{plan_unused, clear_break_goes, clear_break, lets_make, none_named, break_goes, make_break, make_goes, make_still, make_named}
 use Rattle.lvm_group.proofs.volumes.make.Goals as goal
 
 pub clear-requires-clause-numbers : goal.clear-requires-clause-numbers
@@ -175,15 +174,15 @@ returns-in_err-commit-clause-ends g c =
     subst (λ (x : State). LetsCommit plan.number next run first x) (sym same)
     (lets_make v plan a settled planned p q b goes_ab cleared still_ab (subst (λ (x : State). IsHeld x.device x.core) same held) run first) in
     let goes_m : Goes N (Contains plan.map) q r m d =
-    commit_goes N (Contains plan.map) next refl q r m d c.commit.result settled_m group_m s.ends s.finds s.marks s.numbers s.writes
+    commit_goes N (Contains plan.map) next refl q r m d c.commit.result settled_m group_m s.ends s.finds s.marks s.left s.numbers s.writes
     (λ held only run first. s.keeps held plan.number run first (lets held run first)) s.falls s.calm s.behind s.patience s.waited in
     let goes : Goes N (Contains plan.map) q r (entered b f) d = subst (λ (x : State). Goes N (Contains plan.map) q r x d) same goes_m in
-    let marks : OnlyLoses b.core.status d.core.status b.device d.device = subst (λ (x : State). OnlyLoses x.core.status d.core.status x.device d.device) same s.marks in
+    let left : MarksLeft next b.core.status d.core.status = subst (λ (x : State). MarksLeft next x.core.status d.core.status) same s.left in
     let writes : KeepsShelf (is_there b.core) (IsOfCommit (descriptor_bytes next) b.core.status d.core.status) b.device d.device =
     subst (λ (x : State). KeepsShelf (is_there x.core) (IsOfCommit (descriptor_bytes next) x.core.status d.core.status) x.device d.device) same s.writes in
     let why : CommitFault = c.in_err-commit.field-0.0 in
     let e = err_from_is_err_and c.from_residual-in_err-commit.result c.from_residual-in_err-commit.ensures.1 in
-    rw (e.1, e.2) (make_break v plan a settled planned p q b goes_ab cleared still_ab r d goes marks writes (Err why) (λ done is. absurd cc) (subst (λ (x : State). CommitEnds next q x d (Err why)) same c.in_err-commit.ensures.ends))
+    rw (e.1, e.2) (make_break v plan a settled planned p q b goes_ab cleared still_ab r d goes left writes (Err why) (λ done is. absurd cc) (subst (λ (x : State). CommitEnds next q x d (Err why)) same c.in_err-commit.ensures.ends))
 
 pub returns-in_err-commit-clause-goes : goal.returns-in_err-commit-clause-goes
 returns-in_err-commit-clause-goes g c =
@@ -215,13 +214,13 @@ returns-in_err-commit-clause-goes g c =
     subst (λ (x : State). LetsCommit plan.number next run first x) (sym same)
     (lets_make v plan a settled planned p q b goes_ab cleared still_ab (subst (λ (x : State). IsHeld x.device x.core) same held) run first) in
     let goes_m : Goes N (Contains plan.map) q r m d =
-    commit_goes N (Contains plan.map) next refl q r m d c.commit.result settled_m group_m s.ends s.finds s.marks s.numbers s.writes
+    commit_goes N (Contains plan.map) next refl q r m d c.commit.result settled_m group_m s.ends s.finds s.marks s.left s.numbers s.writes
     (λ held only run first. s.keeps held plan.number run first (lets held run first)) s.falls s.calm s.behind s.patience s.waited in
     let goes : Goes N (Contains plan.map) q r (entered b f) d = subst (λ (x : State). Goes N (Contains plan.map) q r x d) same goes_m in
-    let marks : OnlyLoses b.core.status d.core.status b.device d.device = subst (λ (x : State). OnlyLoses x.core.status d.core.status x.device d.device) same s.marks in
+    let left : MarksLeft next b.core.status d.core.status = subst (λ (x : State). MarksLeft next x.core.status d.core.status) same s.left in
     let writes : KeepsShelf (is_there b.core) (IsOfCommit (descriptor_bytes next) b.core.status d.core.status) b.device d.device =
     subst (λ (x : State). KeepsShelf (is_there x.core) (IsOfCommit (descriptor_bytes next) x.core.status d.core.status) x.device d.device) same s.writes in
-    break_goes v plan a settled planned p q b goes_ab cleared still_ab r d goes marks writes
+    break_goes v plan a settled planned p q b goes_ab cleared still_ab r d goes left writes
 
 pub returns-clause-ends : goal.returns-clause-ends
 returns-clause-ends g c =
@@ -253,20 +252,21 @@ returns-clause-ends g c =
     subst (λ (x : State). LetsCommit plan.number next run first x) (sym same)
     (lets_make v plan a settled planned p q b goes_ab cleared still_ab (subst (λ (x : State). IsHeld x.device x.core) same held) run first) in
     let goes_m : Goes N (Contains plan.map) q r m d =
-    commit_goes N (Contains plan.map) next refl q r m d c.commit.result settled_m group_m s.ends s.finds s.marks s.numbers s.writes
+    commit_goes N (Contains plan.map) next refl q r m d c.commit.result settled_m group_m s.ends s.finds s.marks s.left s.numbers s.writes
     (λ held only run first. s.keeps held plan.number run first (lets held run first)) s.falls s.calm s.behind s.patience s.waited in
     let goes : Goes N (Contains plan.map) q r (entered b f) d = subst (λ (x : State). Goes N (Contains plan.map) q r x d) same goes_m in
-    let marks : OnlyLoses b.core.status d.core.status b.device d.device = subst (λ (x : State). OnlyLoses x.core.status d.core.status x.device d.device) same s.marks in
+    let left : MarksLeft next b.core.status d.core.status = subst (λ (x : State). MarksLeft next x.core.status d.core.status) same s.left in
     let writes : KeepsShelf (is_there b.core) (IsOfCommit (descriptor_bytes next) b.core.status d.core.status) b.device d.device =
     subst (λ (x : State). KeepsShelf (is_there x.core) (IsOfCommit (descriptor_bytes next) x.core.status d.core.status) x.device d.device) same s.writes in
     let done : HasCommitted next (entered b f) d = subst (λ (x : State). HasCommitted next x d) same c.in_ok-commit.ensures.ends in
     let still_m : StillHeld m d =
-    commit_still N (Contains plan.map) next refl q r m d c.commit.result settled_m group_m s.ends s.finds s.marks s.numbers s.writes (λ held. c.in_ok-commit.ensures.held held)
+    commit_still N (Contains plan.map) next refl q r m d c.commit.result settled_m group_m s.ends s.finds s.marks s.left s.numbers s.writes (λ held. c.in_ok-commit.ensures.held held)
     (ap (λ (x : Core). x.descriptor) c.in_ok-commit.ensures.ends.is)
-    (λ k is. ap (λ (x : Descriptor). x.id) (is ∙ planned.next) ∙ ap (λ (x : Descriptor). x.id) (sym same_d) ∙ ap (λ (x : State). x.core.descriptor.id) (sym same)) in
+    (λ k is. ap (λ (x : Descriptor). x.id) (is ∙ planned.next) ∙ ap (λ (x : Descriptor). x.id) (sym same_d) ∙ ap (λ (x : State). x.core.descriptor.id) (sym same))
+    (subst (λ (x : State). NoneIsLeft x.core.descriptor x.core.status → NoneIsLeft next x.core.status) (sym same) (none_named v plan a settled planned p q b goes_ab cleared still_ab)) in
     let still_d : StillHeld (entered b f) d = subst (λ (x : State). StillHeld x d) same still_m in
     let same_e : state (g.S.Shelf.device c.enter-2.new.self.0) c.enter-2.new.self.1 ≡ entered d (Made plan.number) = λ t. state (g.S.Shelf.device (c.enter-2.ensures.shelf t)) (c.enter-2.ensures.core t) in
-    subst (IsNamed plan a) (sym same_e) (make_named v plan a settled planned p q b goes_ab cleared still_ab r d goes marks writes done still_d)
+    subst (IsNamed plan a) (sym same_e) (make_named v plan a settled planned p q b goes_ab cleared still_ab r d goes left writes done still_d)
 
 pub returns-clause-goes : goal.returns-clause-goes
 returns-clause-goes g c =
@@ -298,20 +298,21 @@ returns-clause-goes g c =
     subst (λ (x : State). LetsCommit plan.number next run first x) (sym same)
     (lets_make v plan a settled planned p q b goes_ab cleared still_ab (subst (λ (x : State). IsHeld x.device x.core) same held) run first) in
     let goes_m : Goes N (Contains plan.map) q r m d =
-    commit_goes N (Contains plan.map) next refl q r m d c.commit.result settled_m group_m s.ends s.finds s.marks s.numbers s.writes
+    commit_goes N (Contains plan.map) next refl q r m d c.commit.result settled_m group_m s.ends s.finds s.marks s.left s.numbers s.writes
     (λ held only run first. s.keeps held plan.number run first (lets held run first)) s.falls s.calm s.behind s.patience s.waited in
     let goes : Goes N (Contains plan.map) q r (entered b f) d = subst (λ (x : State). Goes N (Contains plan.map) q r x d) same goes_m in
-    let marks : OnlyLoses b.core.status d.core.status b.device d.device = subst (λ (x : State). OnlyLoses x.core.status d.core.status x.device d.device) same s.marks in
+    let left : MarksLeft next b.core.status d.core.status = subst (λ (x : State). MarksLeft next x.core.status d.core.status) same s.left in
     let writes : KeepsShelf (is_there b.core) (IsOfCommit (descriptor_bytes next) b.core.status d.core.status) b.device d.device =
     subst (λ (x : State). KeepsShelf (is_there x.core) (IsOfCommit (descriptor_bytes next) x.core.status d.core.status) x.device d.device) same s.writes in
     let done : HasCommitted next (entered b f) d = subst (λ (x : State). HasCommitted next x d) same c.in_ok-commit.ensures.ends in
     let still_m : StillHeld m d =
-    commit_still N (Contains plan.map) next refl q r m d c.commit.result settled_m group_m s.ends s.finds s.marks s.numbers s.writes (λ held. c.in_ok-commit.ensures.held held)
+    commit_still N (Contains plan.map) next refl q r m d c.commit.result settled_m group_m s.ends s.finds s.marks s.left s.numbers s.writes (λ held. c.in_ok-commit.ensures.held held)
     (ap (λ (x : Core). x.descriptor) c.in_ok-commit.ensures.ends.is)
-    (λ k is. ap (λ (x : Descriptor). x.id) (is ∙ planned.next) ∙ ap (λ (x : Descriptor). x.id) (sym same_d) ∙ ap (λ (x : State). x.core.descriptor.id) (sym same)) in
+    (λ k is. ap (λ (x : Descriptor). x.id) (is ∙ planned.next) ∙ ap (λ (x : Descriptor). x.id) (sym same_d) ∙ ap (λ (x : State). x.core.descriptor.id) (sym same))
+    (subst (λ (x : State). NoneIsLeft x.core.descriptor x.core.status → NoneIsLeft next x.core.status) (sym same) (none_named v plan a settled planned p q b goes_ab cleared still_ab)) in
     let still_d : StillHeld (entered b f) d = subst (λ (x : State). StillHeld x d) same still_m in
     let same_e : state (g.S.Shelf.device c.enter-2.new.self.0) c.enter-2.new.self.1 ≡ entered d (Made plan.number) = λ t. state (g.S.Shelf.device (c.enter-2.ensures.shelf t)) (c.enter-2.ensures.core t) in
-    subst (Goes N (Contains plan.map) p r a) (sym same_e) (make_goes v plan a settled planned p q b goes_ab cleared still_ab r d goes marks writes done still_d)
+    subst (Goes N (Contains plan.map) p r a) (sym same_e) (make_goes v plan a settled planned p q b goes_ab cleared still_ab r d goes left writes done still_d)
 
 pub returns-clause-held : goal.returns-clause-held
 returns-clause-held g c =
@@ -343,17 +344,18 @@ returns-clause-held g c =
     subst (λ (x : State). LetsCommit plan.number next run first x) (sym same)
     (lets_make v plan a settled planned p q b goes_ab cleared still_ab (subst (λ (x : State). IsHeld x.device x.core) same held) run first) in
     let goes_m : Goes N (Contains plan.map) q r m d =
-    commit_goes N (Contains plan.map) next refl q r m d c.commit.result settled_m group_m s.ends s.finds s.marks s.numbers s.writes
+    commit_goes N (Contains plan.map) next refl q r m d c.commit.result settled_m group_m s.ends s.finds s.marks s.left s.numbers s.writes
     (λ held only run first. s.keeps held plan.number run first (lets held run first)) s.falls s.calm s.behind s.patience s.waited in
     let goes : Goes N (Contains plan.map) q r (entered b f) d = subst (λ (x : State). Goes N (Contains plan.map) q r x d) same goes_m in
-    let marks : OnlyLoses b.core.status d.core.status b.device d.device = subst (λ (x : State). OnlyLoses x.core.status d.core.status x.device d.device) same s.marks in
+    let left : MarksLeft next b.core.status d.core.status = subst (λ (x : State). MarksLeft next x.core.status d.core.status) same s.left in
     let writes : KeepsShelf (is_there b.core) (IsOfCommit (descriptor_bytes next) b.core.status d.core.status) b.device d.device =
     subst (λ (x : State). KeepsShelf (is_there x.core) (IsOfCommit (descriptor_bytes next) x.core.status d.core.status) x.device d.device) same s.writes in
     let done : HasCommitted next (entered b f) d = subst (λ (x : State). HasCommitted next x d) same c.in_ok-commit.ensures.ends in
     let still_m : StillHeld m d =
-    commit_still N (Contains plan.map) next refl q r m d c.commit.result settled_m group_m s.ends s.finds s.marks s.numbers s.writes (λ held. c.in_ok-commit.ensures.held held)
+    commit_still N (Contains plan.map) next refl q r m d c.commit.result settled_m group_m s.ends s.finds s.marks s.left s.numbers s.writes (λ held. c.in_ok-commit.ensures.held held)
     (ap (λ (x : Core). x.descriptor) c.in_ok-commit.ensures.ends.is)
-    (λ k is. ap (λ (x : Descriptor). x.id) (is ∙ planned.next) ∙ ap (λ (x : Descriptor). x.id) (sym same_d) ∙ ap (λ (x : State). x.core.descriptor.id) (sym same)) in
+    (λ k is. ap (λ (x : Descriptor). x.id) (is ∙ planned.next) ∙ ap (λ (x : Descriptor). x.id) (sym same_d) ∙ ap (λ (x : State). x.core.descriptor.id) (sym same))
+    (subst (λ (x : State). NoneIsLeft x.core.descriptor x.core.status → NoneIsLeft next x.core.status) (sym same) (none_named v plan a settled planned p q b goes_ab cleared still_ab)) in
     let still_d : StillHeld (entered b f) d = subst (λ (x : State). StillHeld x d) same still_m in
     let same_e : state (g.S.Shelf.device c.enter-2.new.self.0) c.enter-2.new.self.1 ≡ entered d (Made plan.number) = λ t. state (g.S.Shelf.device (c.enter-2.ensures.shelf t)) (c.enter-2.ensures.core t) in
-    subst (StillHeld a) (sym same_e) (make_still v plan a settled planned p q b goes_ab cleared still_ab r d goes marks writes done still_d)
+    subst (StillHeld a) (sym same_e) (make_still v plan a settled planned p q b goes_ab cleared still_ab r d goes left writes done still_d)

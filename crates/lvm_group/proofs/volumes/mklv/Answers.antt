@@ -1,13 +1,10 @@
-use Rattle.std.proofs.Common.{◌≡◌, ℕ, Result, Ok, Err}
+use Rattle.std.proofs.Common.{◌≡◌}
 use Rattle.std.specs.Prelude.{Contains}
 use Rattle.std.proofs.lemmas.Result.{err_from_is_err_and}
 use Rattle.lvm_core.specs.declared.fault.CommitFault.{CommitFault}
 use Rattle.lvm_core.specs.State.{State, state}
-use Rattle.lvm_core.specs.Settled.{IsSettled}
-use Rattle.lvm_group.specs.declared.fault.GroupFault.{GroupFault}
 use Rattle.lvm_group.specs.declared.new_volume.NewVolume.{NewVolume}
 use Rattle.lvm_group.specs.declared.new_volume.VolumePlan.{VolumePlan}
-use Rattle.lvm_group.specs.Endings.{fault_of, StillHeld}
 use Rattle.lvm_group.specs.PlannedVolume.{IsPlannedVolume}
 use Rattle.lvm_group.specs.Volumes.{IsWith, IsChosen}
 use Rattle.lvm_group.proofs.Answering.{finds_wider, leaves_wider, its_next, its_places, make_given, make_fails}

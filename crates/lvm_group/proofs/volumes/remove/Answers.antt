@@ -1,20 +1,19 @@
-use Rattle.std.proofs.Common.{◌≡◌, ◌<◌, ◌≤◌, ℕ, [], Result, Ok, Err, refl, sym, ap, subst, ◌∙◌, arith}
+use Rattle.std.proofs.Common.{◌≡◌, ℕ, [], Err, refl, sym, ap, subst, ◌∙◌, arith}
 use Rattle.std.proofs.lemmas.Result.{err_from_is_err_and}
 use Rattle.lvm_num.specs.declared.descriptor.Descriptor.{Descriptor}
 use Rattle.lvm_vol.specs.declared.entry.Vol.TheVariants.{Lv}
 use Rattle.lvm_vol.specs.Facts.{Fact, Removing, Removed}
-use Rattle.lvm_vol.specs.Log.{Log, spare_entries}
 use Rattle.lvm_kept.specs.Moments.{Moment}
+use Rattle.lvm_commit.specs.Settling.{NoneIsLeft}
 use Rattle.lvm_core.specs.declared.fault.CommitFault.{CommitFault}
 use Rattle.lvm_core.specs.State.{Core, State, state}
 use Rattle.lvm_core.specs.Settled.{IsSettled, HasNumbers}
 use Rattle.lvm_core.specs.Committing.{LetsCommit, HasCommitted, CommitEnds}
 use Rattle.lvm_group.specs.Endings.{StillHeld}
 use Rattle.lvm_group.specs.PlannedVolume.{IsWithout}
-use Rattle.lvm_group.specs.Stages.{Goes, IsUnnamed, RemoveEnds}
-use Rattle.lvm_group.specs.NewVolume.{without_volume}
-use Rattle.lvm_group.proofs.Entering.{entered, spare_more, settled_entered, commit_goes, commit_still, has_numbers}
-use Rattle.lvm_group.proofs.Removing.{NoZeros, lets_remove, break_goes, remove_break, remove_goes, remove_still, removed}
+use Rattle.lvm_group.specs.Stages.{Goes, IsUnnamed}
+use Rattle.lvm_group.proofs.Entering.{entered, settled_entered, commit_goes, commit_still, has_numbers}
+use Rattle.lvm_group.proofs.Removing.{NoZeros, lets_remove, none_unnamed, break_goes, remove_break, remove_goes, remove_still, removed}
 use Rattle.lvm_group.proofs.volumes.remove.Goals as goal
 
 pub enter-requires-clause-spare : goal.enter-requires-clause-spare
@@ -65,7 +64,7 @@ returns-in_err-commit-clause-ends g c =
     let group_m : m.core.status.group ≡ record m.core.descriptor { lvs = [] } = subst (λ (x : State). x.core.status.group ≡ record x.core.descriptor { lvs = [] }) (sym same) without.group.status in
     let lets = λ (run : ℕ) (first : Moment). subst (λ (x : State). LetsCommit c.args.lv next run first x) (sym same) (lets_remove c.args.lv next a settled without run first) in
     let goes : Goes N NoZeros p q m b =
-    commit_goes N NoZeros next refl p q m b c.commit.result settled_m group_m s.ends s.finds s.marks s.numbers s.writes
+    commit_goes N NoZeros next refl p q m b c.commit.result settled_m group_m s.ends s.finds s.marks s.left s.numbers s.writes
     (λ held only run first. s.keeps held c.args.lv run first (lets run first)) s.falls s.calm s.behind s.patience s.waited in
     let goes_a : Goes N NoZeros p q (entered a f) b = subst (λ (x : State). Goes N NoZeros p q x b) same goes in
     let why : CommitFault = c.in_err-commit.field-0.0 in
@@ -90,7 +89,7 @@ returns-in_err-commit-clause-goes g c =
     let group_m : m.core.status.group ≡ record m.core.descriptor { lvs = [] } = subst (λ (x : State). x.core.status.group ≡ record x.core.descriptor { lvs = [] }) (sym same) without.group.status in
     let lets = λ (run : ℕ) (first : Moment). subst (λ (x : State). LetsCommit c.args.lv next run first x) (sym same) (lets_remove c.args.lv next a settled without run first) in
     let goes : Goes N NoZeros p q m b =
-    commit_goes N NoZeros next refl p q m b c.commit.result settled_m group_m s.ends s.finds s.marks s.numbers s.writes
+    commit_goes N NoZeros next refl p q m b c.commit.result settled_m group_m s.ends s.finds s.marks s.left s.numbers s.writes
     (λ held only run first. s.keeps held c.args.lv run first (lets run first)) s.falls s.calm s.behind s.patience s.waited in
     let goes_a : Goes N NoZeros p q (entered a f) b = subst (λ (x : State). Goes N NoZeros p q x b) same goes in
     break_goes c.args.lv next a settled without p q b goes_a
@@ -113,13 +112,14 @@ returns-clause-ends g c =
     let group_m : m.core.status.group ≡ record m.core.descriptor { lvs = [] } = subst (λ (x : State). x.core.status.group ≡ record x.core.descriptor { lvs = [] }) (sym same) without.group.status in
     let lets = λ (run : ℕ) (first : Moment). subst (λ (x : State). LetsCommit c.args.lv next run first x) (sym same) (lets_remove c.args.lv next a settled without run first) in
     let goes : Goes N NoZeros p q m b =
-    commit_goes N NoZeros next refl p q m b c.commit.result settled_m group_m s.ends s.finds s.marks s.numbers s.writes
+    commit_goes N NoZeros next refl p q m b c.commit.result settled_m group_m s.ends s.finds s.marks s.left s.numbers s.writes
     (λ held only run first. s.keeps held c.args.lv run first (lets run first)) s.falls s.calm s.behind s.patience s.waited in
     let goes_a : Goes N NoZeros p q (entered a f) b = subst (λ (x : State). Goes N NoZeros p q x b) same goes in
     let done : HasCommitted next (entered a f) b = subst (λ (x : State). HasCommitted next x b) same c.in_ok-commit.ensures.ends in
     let still_m : StillHeld m b =
-    commit_still N NoZeros next refl p q m b c.commit.result settled_m group_m s.ends s.finds s.marks s.numbers s.writes (λ held. c.in_ok-commit.ensures.held held)
-    (ap (λ (x : Core). x.descriptor) c.in_ok-commit.ensures.ends.is) (λ k is. ap (λ (d : Descriptor). d.id) (is ∙ without.is) ∙ ap (λ (x : State). x.core.descriptor.id) (sym same)) in
+    commit_still N NoZeros next refl p q m b c.commit.result settled_m group_m s.ends s.finds s.marks s.left s.numbers s.writes (λ held. c.in_ok-commit.ensures.held held)
+    (ap (λ (x : Core). x.descriptor) c.in_ok-commit.ensures.ends.is) (λ k is. ap (λ (d : Descriptor). d.id) (is ∙ without.is) ∙ ap (λ (x : State). x.core.descriptor.id) (sym same))
+    (subst (λ (x : State). NoneIsLeft x.core.descriptor x.core.status → NoneIsLeft next x.core.status) (sym same) (none_unnamed c.args.lv next a settled without)) in
     let still : StillHeld (entered a f) b = subst (λ (x : State). StillHeld x b) same still_m in
     let same_b : state (g.S.Shelf.device c.enter-2.new.self.0) c.enter-2.new.self.1 ≡ entered b (Removed (Lv c.args.lv)) = λ t. state (g.S.Shelf.device (c.enter-2.ensures.shelf t)) (c.enter-2.ensures.core t) in
     subst (λ (x : State). IsUnnamed c.args.lv next a x) (sym same_b) (removed c.args.lv next a settled without p q b goes_a done still)
@@ -142,13 +142,14 @@ returns-clause-goes g c =
     let group_m : m.core.status.group ≡ record m.core.descriptor { lvs = [] } = subst (λ (x : State). x.core.status.group ≡ record x.core.descriptor { lvs = [] }) (sym same) without.group.status in
     let lets = λ (run : ℕ) (first : Moment). subst (λ (x : State). LetsCommit c.args.lv next run first x) (sym same) (lets_remove c.args.lv next a settled without run first) in
     let goes : Goes N NoZeros p q m b =
-    commit_goes N NoZeros next refl p q m b c.commit.result settled_m group_m s.ends s.finds s.marks s.numbers s.writes
+    commit_goes N NoZeros next refl p q m b c.commit.result settled_m group_m s.ends s.finds s.marks s.left s.numbers s.writes
     (λ held only run first. s.keeps held c.args.lv run first (lets run first)) s.falls s.calm s.behind s.patience s.waited in
     let goes_a : Goes N NoZeros p q (entered a f) b = subst (λ (x : State). Goes N NoZeros p q x b) same goes in
     let done : HasCommitted next (entered a f) b = subst (λ (x : State). HasCommitted next x b) same c.in_ok-commit.ensures.ends in
     let still_m : StillHeld m b =
-    commit_still N NoZeros next refl p q m b c.commit.result settled_m group_m s.ends s.finds s.marks s.numbers s.writes (λ held. c.in_ok-commit.ensures.held held)
-    (ap (λ (x : Core). x.descriptor) c.in_ok-commit.ensures.ends.is) (λ k is. ap (λ (d : Descriptor). d.id) (is ∙ without.is) ∙ ap (λ (x : State). x.core.descriptor.id) (sym same)) in
+    commit_still N NoZeros next refl p q m b c.commit.result settled_m group_m s.ends s.finds s.marks s.left s.numbers s.writes (λ held. c.in_ok-commit.ensures.held held)
+    (ap (λ (x : Core). x.descriptor) c.in_ok-commit.ensures.ends.is) (λ k is. ap (λ (d : Descriptor). d.id) (is ∙ without.is) ∙ ap (λ (x : State). x.core.descriptor.id) (sym same))
+    (subst (λ (x : State). NoneIsLeft x.core.descriptor x.core.status → NoneIsLeft next x.core.status) (sym same) (none_unnamed c.args.lv next a settled without)) in
     let still : StillHeld (entered a f) b = subst (λ (x : State). StillHeld x b) same still_m in
     let same_b : state (g.S.Shelf.device c.enter-2.new.self.0) c.enter-2.new.self.1 ≡ entered b (Removed (Lv c.args.lv)) = λ t. state (g.S.Shelf.device (c.enter-2.ensures.shelf t)) (c.enter-2.ensures.core t) in
     subst (λ (x : State). Goes N NoZeros p q a x) (sym same_b) (remove_goes c.args.lv next a settled without p q b goes_a done still)
@@ -171,13 +172,14 @@ returns-clause-held g c =
     let group_m : m.core.status.group ≡ record m.core.descriptor { lvs = [] } = subst (λ (x : State). x.core.status.group ≡ record x.core.descriptor { lvs = [] }) (sym same) without.group.status in
     let lets = λ (run : ℕ) (first : Moment). subst (λ (x : State). LetsCommit c.args.lv next run first x) (sym same) (lets_remove c.args.lv next a settled without run first) in
     let goes : Goes N NoZeros p q m b =
-    commit_goes N NoZeros next refl p q m b c.commit.result settled_m group_m s.ends s.finds s.marks s.numbers s.writes
+    commit_goes N NoZeros next refl p q m b c.commit.result settled_m group_m s.ends s.finds s.marks s.left s.numbers s.writes
     (λ held only run first. s.keeps held c.args.lv run first (lets run first)) s.falls s.calm s.behind s.patience s.waited in
     let goes_a : Goes N NoZeros p q (entered a f) b = subst (λ (x : State). Goes N NoZeros p q x b) same goes in
     let done : HasCommitted next (entered a f) b = subst (λ (x : State). HasCommitted next x b) same c.in_ok-commit.ensures.ends in
     let still_m : StillHeld m b =
-    commit_still N NoZeros next refl p q m b c.commit.result settled_m group_m s.ends s.finds s.marks s.numbers s.writes (λ held. c.in_ok-commit.ensures.held held)
-    (ap (λ (x : Core). x.descriptor) c.in_ok-commit.ensures.ends.is) (λ k is. ap (λ (d : Descriptor). d.id) (is ∙ without.is) ∙ ap (λ (x : State). x.core.descriptor.id) (sym same)) in
+    commit_still N NoZeros next refl p q m b c.commit.result settled_m group_m s.ends s.finds s.marks s.left s.numbers s.writes (λ held. c.in_ok-commit.ensures.held held)
+    (ap (λ (x : Core). x.descriptor) c.in_ok-commit.ensures.ends.is) (λ k is. ap (λ (d : Descriptor). d.id) (is ∙ without.is) ∙ ap (λ (x : State). x.core.descriptor.id) (sym same))
+    (subst (λ (x : State). NoneIsLeft x.core.descriptor x.core.status → NoneIsLeft next x.core.status) (sym same) (none_unnamed c.args.lv next a settled without)) in
     let still : StillHeld (entered a f) b = subst (λ (x : State). StillHeld x b) same still_m in
     let same_b : state (g.S.Shelf.device c.enter-2.new.self.0) c.enter-2.new.self.1 ≡ entered b (Removed (Lv c.args.lv)) = λ t. state (g.S.Shelf.device (c.enter-2.ensures.shelf t)) (c.enter-2.ensures.core t) in
     subst (λ (x : State). StillHeld a x) (sym same_b) (remove_still c.args.lv next a settled without p q b goes_a done still)

@@ -1,4 +1,4 @@
-use Rattle.std.proofs.Common.{◌≡◌, ◌<◌, ◌≤◌, Result, Ok, Err, get_or, length, sym, ap, subst, ◌∙◌, arith}
+use Rattle.std.proofs.Common.{Err, get_or, sym, subst}
 use Rattle.std.specs.Prelude.{IsTrue, Contains}
 use Rattle.std.proofs.lemmas.List.Elements.{Contains-get_or}
 use Rattle.std.proofs.lemmas.Result.{err_from_is_err_and}
@@ -8,11 +8,9 @@ use Rattle.lvm_commit.specs.LawsOfData.{IsFree}
 use Rattle.lvm_core.specs.declared.fault.CommitFault.{CommitFault}
 use Rattle.lvm_core.specs.State.{Core, State, state, is_there}
 use Rattle.lvm_core.specs.Settled.{IsSettled}
-use Rattle.lvm_core.specs.Zeros.{ZeroEnds}
-use Rattle.lvm_group.specs.Endings.{StillHeld}
-use Rattle.lvm_group.specs.Stages.{Goes, ZerosEnd, IfOn}
+use Rattle.lvm_group.specs.Stages.{Goes}
 use Rattle.lvm_group.proofs.Zeroing.{NoNext, zero_goes, zero_still}
-use Rattle.lvm_group.proofs.Zeros.{IsZeroing, zeroing_none, zeroing_more, zeros_break, zeros_end, then, zeros_fail_still}
+use Rattle.lvm_group.proofs.Zeros.{IsZeroing, zeroing_more, zeros_break, zeros_end, then, zeros_fail_still}
 use Rattle.lvm_group.proofs.volumes.zero_all.Goals as goal
 
 pub zero-requires-clause-partition : goal.zero-requires-clause-partition
