@@ -3,4 +3,4 @@
 
 mod laws;
 
-pub use laws::{good_is_settled, settled_is_good};
+pub use laws::{good_is_settled, pairs_settle, settled_is_good};
