@@ -1,24 +1,23 @@
 -- The two disks that are worked by hand are recovered.
-use Rattle.std.proofs.Common.{◌≡◌, ◌⊎◌, inl, inr, ⊎_elim, ℕ, ◌<◌, ◌/◌, Bool, true, false, ◌&&◌, not, List, [], ◌∷◌, Option, Some, None, refl, sym, ap, subst, ◌∙◌, arith}
-use Rattle.std.specs.Prelude.{IsTrue, IsFalse, ◌==◌, nat_lt, get_or, if◌then◌else◌}
+use Rattle.std.proofs.Common.{◌≡◌, ◌⊎◌, inl, inr, ℕ, ◌<◌, Bool, true, false, List, [], ◌∷◌, Some, None, refl, sym, ap, subst, ◌∙◌, arith}
+use Rattle.std.specs.Prelude.{IsFalse, ◌==◌, nat_lt, get_or, if◌then◌else◌}
 use Rattle.std.proofs.lemmas.Bool.{eqb-true}
-use Rattle.std.proofs.lemmas.Bool.Decides.{nat_tests}
 use Rattle.lvm_num.specs.declared.place.Pp.{Pp}
 use Rattle.lvm_num.specs.declared.descriptor.Mode.{Mode}
 use Rattle.lvm_num.specs.declared.descriptor.Mode.TheVariants.{Active, Passive, Off}
 use Rattle.lvm_num.specs.declared.descriptor.LvRow.{LvRow}
 use Rattle.lvm_num.specs.Bits.{has_bit}
 use Rattle.lvm_num.specs.Buffer.{Sector, zero_sector}
-use Rattle.lvm_num.specs.Geometry.{data_start, sector_of}
+use Rattle.lvm_num.specs.Geometry.{data_start}
 use Rattle.lvm_num.specs.Note.{note_in}
 use Rattle.lvm_kept.specs.Contents.{Contents}
-use Rattle.lvm_kept.specs.Examples.{mirror, two, either_of, zeros, ones, torn_mirror}
-use Rattle.lvm_kept.specs.Group.{fresh_on, block_at, IsBlockOf, IsOneOf, HoldOne}
+use Rattle.lvm_kept.specs.Examples.{mirror, two, either_of, ones, torn_mirror}
+use Rattle.lvm_kept.specs.Group.{fresh_on, IsBlockOf, HoldOne}
 use Rattle.lvm_kept.specs.Kept.{Kept}
 use Rattle.lvm_commit.specs.Committed.{ShowsCommitted}
 use Rattle.lvm_rest.specs.Rest.{IsEven, NoneIsBehind}
 use Rattle.lvm_rest.specs.Examples.{Pair, status_of, shown_by, there_by, media_of, device_of, even_pair, torn_pair, history_of, naming}
-use Rattle.lvm_rest.proofs.Pairs.{both_copies, the_row, first_partition, block_low}
+use Rattle.lvm_rest.proofs.Pairs.{both_copies, the_row, first_partition}
 use Rattle.lvm_rest.proofs.Sectors.{told}
 use Rattle.lvm_rest.proofs.Examples.{valid, within, enough, shows, behind, zeros_even, torn_below, is_naming, active_torn, passive_torn}
 use Rattle.lvm_recover.specs.Recopied.{IsToEqual, IsFromFirst, IsRecopied, HoldFirst, AreEqualled, OnlyNotesOf}

@@ -1,6 +1,5 @@
 -- Recovery, worked by hand: two disks that mirror a volume and differ in its first block.
 use Rattle.std.specs.Prelude.{◌≡◌, false, true, List, Some}
-use Rattle.lvm_num.specs.declared.descriptor.Mode.{Mode}
 use Rattle.lvm_num.specs.declared.descriptor.Mode.TheVariants.{Active, Passive}
 use Rattle.lvm_num.specs.Buffer.{zero_sector}
 use Rattle.lvm_num.specs.Descriptor.{IsValid}

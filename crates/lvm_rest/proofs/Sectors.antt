@@ -131,7 +131,6 @@ module _ (x : Pair) (zeros_below : (d s : ℕ) → s < 4096 → x.stands d s ≡
       by_first true is = let e : 0 ≡ d = sym (eqb-true d 0 is) in subst (λ (n : ℕ). has_records image n ≡ either_of 0 1 n) e refl
       by_first false is = by_second (d == 1) refl is
 
-
   descriptors : (d : ℕ) → descriptor_on image d ≡ (shown_by x).descriptor d
   unfolding descriptor_on
   descriptors d = let here : has_records image d ≡ either_of 0 1 d = room d in let newest : newest_on descriptor_of kind.Descriptor (media_of x d) ≡ Some (stamped 2 (two x.mode)) = newest_group d in λ t. if here t then newest t else None

@@ -1,30 +1,26 @@
 -- The sessions that are worked by hand are settled.
-use Rattle.std.proofs.Common.{◌≡◌, ◌⊎◌, inl, inr, ⊎_elim, ℕ, zero, suc, ◌+◌, ◌<◌, Bool, true, false, ◌&&◌, ◌||◌, not, List, [], ◌∷◌, ◌++◌, take, Option, Some, None, refl, sym, ap, subst, ◌∙◌, arith}
-use Rattle.std.specs.Prelude.{IsTrue, IsFalse, ◌==◌, nat_lt, if◌then◌else◌, find, option_and_then, slice_index_or}
+use Rattle.std.proofs.Common.{◌≡◌, inl, inr, ⊎_elim, ℕ, zero, suc, ◌+◌, ◌<◌, Bool, true, false, ◌&&◌, ◌||◌, not, [], ◌∷◌, take, Option, Some, None, refl, sym, ap, subst, ◌∙◌, arith}
+use Rattle.std.specs.Prelude.{IsTrue, IsFalse, ◌==◌, if◌then◌else◌, option_and_then, slice_index_or}
 use Rattle.std.specs.List.{list_any}
 use Rattle.std.proofs.lemmas.Bool.{eqb-true}
-use Rattle.std.proofs.lemmas.Bool.Decides.{nat_tests}
 use Rattle.lvm_num.specs.declared.descriptor.Mode.{Mode}
 use Rattle.lvm_num.specs.declared.descriptor.PvRow.{PvRow}
-use Rattle.lvm_num.specs.declared.descriptor.Descriptor.{Descriptor}
-use Rattle.lvm_num.specs.declared.status.Status.{Status}
 use Rattle.lvm_num.specs.declared.record.Kind.{Kind}
 use Rattle.lvm_num.specs.declared.record.Kind.TheVariants as kind
 use Rattle.lvm_num.specs.Buffer.{Sector, zero_sector}
 use Rattle.lvm_num.specs.DescriptorBytes.{descriptor_of}
 use Rattle.lvm_num.specs.StatusBytes.{status_of as read_status}
 use Rattle.lvm_num.specs.Disks.{Disks, has}
-use Rattle.lvm_num.specs.Descriptor.{is_member}
-use Rattle.lvm_num.specs.Record.{Stamped, slot_start, slot_size, kind_magic, stamp_lt}
-use Rattle.lvm_num.specs.Torn.{AllBefore, stamp_of}
+use Rattle.lvm_num.specs.Record.{slot_start, slot_size, kind_magic, stamp_lt}
+use Rattle.lvm_num.specs.Torn.{stamp_of}
 use Rattle.lvm_num.specs.Votes.{CanWrite}
 use Rattle.lvm_num.specs.declared.record.Framed.{Framed}
 use Rattle.lvm_rec.specs.Slots.{held, slot_of, read_under, slot_to_write}
 use Rattle.lvm_disk.specs.Device.{Image, image_of, MayLeave}
-use Rattle.lvm_vol.specs.Facts.{Request, Fact, Begun, Stands}
+use Rattle.lvm_vol.specs.Facts.{Request, Begun, Stands}
 use Rattle.lvm_vol.specs.Legal.{lands}
-use Rattle.lvm_kept.specs.Contents.{Contents, contents_of, has_records}
-use Rattle.lvm_kept.specs.Examples.{stamped, member, two, either_of, only}
+use Rattle.lvm_kept.specs.Contents.{Contents, contents_of}
+use Rattle.lvm_kept.specs.Examples.{stamped, member, two, either_of}
 use Rattle.lvm_kept.specs.Group.{IsFound}
 use Rattle.lvm_kept.proofs.Finding.{some_same}
 use Rattle.lvm_kept.specs.Kept.{Kept}
@@ -39,11 +35,10 @@ use Rattle.lvm_core.specs.Starting.{Reserved, AreReserved, IsPlaced}
 use Rattle.lvm_core.proofs.Beginning.{sound_first}
 use Rattle.lvm_rest.specs.Closed.{IsClosed}
 use Rattle.lvm_rest.specs.Rest.{IsEven, NoneIsBehind}
-use Rattle.lvm_rest.specs.Examples.{Pair, status_of, pair_sizes, framed_group, framed_status, media_of, device_of, shown_by, there_by, past_of, now_on, history_of, even_pair}
+use Rattle.lvm_rest.specs.Examples.{Pair, status_of, pair_sizes, framed_group, framed_status, media_of, device_of, there_by, past_of, now_on, history_of, even_pair}
 use Rattle.lvm_rest.proofs.Pairs.{id_is}
 use Rattle.lvm_rest.proofs.Sectors.{group_read, status_read, group_first, status_first, no-magic, not-equal, stands_else, second_zero, second_none, room, told}
 use Rattle.lvm_rest.proofs.Examples.{valid, there_in, at_both, enough, shows, behind, zeros_even, pairs_rest}
-use Rattle.lvm_settled.specs.Settled.{IsKnown, IsCarried}
 use Rattle.lvm_settled.specs.Examples.{core_of, session_of, PairsSettle}
 
 -- ---- who is there

@@ -1,23 +1,19 @@
 -- A settled session is in a good state.
-use Rattle.std.proofs.Common.{◌≡◌, inl, inr, ℕ, List, [], ◌++◌, Option, Some, None, refl, sym, ap, subst, ◌∙◌}
-use Rattle.lvm_num.specs.Disks.{Disks}
-use Rattle.lvm_num.specs.declared.descriptor.Descriptor.{Descriptor}
+use Rattle.std.proofs.Common.{◌≡◌, inl, List, [], ◌++◌, sym, subst}
 use Rattle.lvm_vol.specs.Facts.{Fact}
 use Rattle.lvm_vol.specs.Legal.{Legal}
 use Rattle.lvm_vol.specs.May.{known as known_of}
 use Rattle.lvm_vol.specs.declared.entry.Vol.TheVariants.{Lv}
-use Rattle.lvm_disk.specs.Device.{Media, image_of}
+use Rattle.lvm_disk.specs.Device.{image_of}
 use Rattle.lvm_kept.specs.Contents.{contents_of}
 use Rattle.lvm_kept.specs.Kept.{Kept}
 use Rattle.lvm_kept.proofs.Finding.{images_within}
 use Rattle.lvm_change.proofs.Making.{media_may}
-use Rattle.lvm_core.specs.State.{State, is_there}
-use Rattle.lvm_good.specs.State as good
-use Rattle.lvm_good.specs.Found.{Votes}
+use Rattle.lvm_core.specs.State.{is_there}
 use Rattle.lvm_rest.proofs.Rest.{good_is_rest}
 use Rattle.lvm_rest.proofs.Closed.{landed_are_closed}
 use Rattle.lvm_rest.proofs.Good.{rest_matches}
-use Rattle.lvm_settled.specs.Settled.{IsKnown, IsCarried, IsViewOf, SettledIsGood, GoodIsSettled}
+use Rattle.lvm_settled.specs.Settled.{SettledIsGood, GoodIsSettled}
 
 pub settled_is_good : SettledIsGood
 settled_is_good votes past s media known v are carried view =

@@ -1,5 +1,5 @@
 -- A settled session, worked by hand: of the two disks that mirror a volume.
-use Rattle.std.specs.Prelude.{false, List, [], ◌∷◌, None, Bool}
+use Rattle.std.specs.Prelude.{false, [], ◌∷◌, None, Bool}
 use Rattle.lvm_num.specs.declared.descriptor.Mode.{Mode}
 use Rattle.lvm_num.specs.Buffer.{Sector}
 use Rattle.lvm_kept.specs.Examples.{two}

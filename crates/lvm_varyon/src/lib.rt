@@ -8,4 +8,3 @@ mod writes;
 
 pub use laws::restated_is_recovered;
 pub use vary::varyon;
-
