@@ -31,6 +31,8 @@ use Rattle.lvm_group.specs.Endings.{IsOfCommand, Leaves}
 use Rattle.lvm_rest.specs.Rest.{IsEven}
 use Rattle.lvm_rest.specs.Commands.{IsUsable}
 use Rattle.lvm_commit.proofs.Copies.{contains, of_map, of_rows}
+use Rattle.lvm_change.proofs.Booleans.{clash}
+use Rattle.lvm_rest.proofs.Rows.{tested}
 use Rattle.lvm_rest.proofs.Commands.{free_keeps_even}
 use Rattle.lvm_even.specs.Even.{AreWanted, MklvKeepsEven, RmlvKeepsEven}
 
@@ -86,11 +88,11 @@ module _ (N : Descriptor → Type 0) (Z : Pp → Type 0) (old new : State) (was 
   fewer row lp p one copy usable = record {
     in_there = wanted.fewer p.disk usable.in_there;
     fresh = ap (λ (s : Status). calls_stale s p) wanted.before ∙ ⊎_elim
-        (λ stale. absurd (clash (calls_stale new.core.status.wanted p)
+        (λ (stale : IsTrue (calls_stale old.core.status.wanted p)). absurd (clash (calls_stale new.core.status.wanted p)
         (leaves.status.stale p (λ chosen. free p chosen (contains _ p (of_rows old.core.descriptor.lvs row p one (of_map row lp p copy)))) stale)
-        (ap (λ (s : Status). calls_stale s p) (sym wanted.after) ∙ usable.fresh)))
-        (λ fresh. fresh)
-        (either (calls_stale old.core.status.wanted p));
+        (sym (ap (λ (s : Status). calls_stale s p) wanted.after) ∙ usable.fresh)))
+        (λ isnt. isnt)
+        (tested (calls_stale old.core.status.wanted p));
   }
 
   pub kept_even : IsEven (contents_of before) old.core.descriptor (Some stood) (is_there old.core) → IsEven (contents_of after) old.core.descriptor (Some stands) (is_there new.core)

@@ -1,30 +1,33 @@
 -- The two disks that are worked by hand are recovered.
-use Rattle.std.proofs.Common.{◌≡◌, ◌⊎◌, inl, inr, ⊎_elim, ℕ, ◌<◌, ◌/◌, Bool, true, false, ◌&&◌, not, List, [], ◌∷◌, Option, Some, None, refl, sym, ap, subst, ◌∙◌, arith}
-use Rattle.std.specs.Prelude.{IsTrue, IsFalse, ◌==◌, nat_lt, get_or, if◌then◌else◌}
+use Rattle.std.proofs.Common.{◌≡◌, ◌⊎◌, inl, inr, ℕ, ◌<◌, Bool, true, false, List, [], ◌∷◌, Some, None, refl, sym, ap, subst, ◌∙◌, arith}
+use Rattle.std.specs.Prelude.{IsFalse, ◌==◌, nat_lt, get_or, if◌then◌else◌}
 use Rattle.std.proofs.lemmas.Bool.{eqb-true}
-use Rattle.std.proofs.lemmas.Bool.Decides.{nat_tests}
 use Rattle.lvm_num.specs.declared.place.Pp.{Pp}
 use Rattle.lvm_num.specs.declared.descriptor.Mode.{Mode}
 use Rattle.lvm_num.specs.declared.descriptor.Mode.TheVariants.{Active, Passive, Off}
 use Rattle.lvm_num.specs.declared.descriptor.LvRow.{LvRow}
 use Rattle.lvm_num.specs.Bits.{has_bit}
 use Rattle.lvm_num.specs.Buffer.{Sector, zero_sector}
-use Rattle.lvm_num.specs.Geometry.{sector_of}
-use Rattle.lvm_num.specs.Note.{Noted}
+use Rattle.lvm_num.specs.Geometry.{data_start}
+use Rattle.lvm_num.specs.Note.{note_in}
 use Rattle.lvm_kept.specs.Contents.{Contents}
-use Rattle.lvm_kept.specs.Examples.{mirror, two, either_of, zeros, ones, torn_mirror, no_note, names_first}
-use Rattle.lvm_kept.specs.Group.{fresh_on, block_at, IsBlockOf, IsOneOf, HoldOne}
-use Rattle.lvm_rest.specs.Rest.{IsEven}
-use Rattle.lvm_rest.specs.Examples.{Pair, status_of, shown_by, there_by, even_pair, torn_pair, history_of}
-use Rattle.lvm_rest.proofs.Pairs.{both_copies, the_row, first_partition, block_low}
-use Rattle.lvm_rest.proofs.Examples.{valid, within, enough, shows, behind, at_both, active_torn, passive_torn}
+use Rattle.lvm_kept.specs.Examples.{mirror, two, either_of, ones, torn_mirror}
+use Rattle.lvm_kept.specs.Group.{fresh_on, IsBlockOf, HoldOne}
+use Rattle.lvm_kept.specs.Kept.{Kept}
+use Rattle.lvm_commit.specs.Committed.{ShowsCommitted}
+use Rattle.lvm_rest.specs.Rest.{IsEven, NoneIsBehind}
+use Rattle.lvm_rest.specs.Examples.{Pair, status_of, shown_by, there_by, media_of, device_of, even_pair, torn_pair, history_of, naming}
+use Rattle.lvm_rest.proofs.Pairs.{both_copies, the_row, first_partition}
+use Rattle.lvm_rest.proofs.Sectors.{told}
+use Rattle.lvm_rest.proofs.Examples.{valid, within, enough, shows, behind, zeros_even, torn_below, is_naming, active_torn, passive_torn}
 use Rattle.lvm_recover.specs.Recopied.{IsToEqual, IsFromFirst, IsRecopied, HoldFirst, AreEqualled, OnlyNotesOf}
-use Rattle.lvm_recover.specs.Examples.{IsRecoveredPair, no_notes_of_two, PairsRecover}
+use Rattle.lvm_recover.specs.Keeping.{MayRecover}
+use Rattle.lvm_recover.specs.Examples.{IsRecoveredPair, PairsRecover}
 
 differ : ones ≡ zero_sector → ⊥
 differ e = absurd (omega (arith, ap (λ (s : Sector). get_or s 0 0) e))
 
-module _ (mode : Mode) (dirty : Bool) (note : ℕ → Option Noted) (on : mode ≡ Off → ⊥) where
+module _ (mode : Mode) (dirty : Bool) (note : Sector) (on : mode ≡ Off → ⊥) where
   abbrev old : Pair
   old = torn_pair mode dirty note
 
@@ -46,7 +49,7 @@ module _ (mode : Mode) (dirty : Bool) (note : ℕ → Option Noted) (on : mode �
 
   module _ (to_equal : IsToEqual (shown_by old) (Some (status_of old)) (there_by old) mode 1 0) where
     recopied : IsRecopied (shown_by old) (two mode) (Some (status_of old)) (there_by old) (shown_by copied)
-    recopied = record { rest = refl; each = λ d s. by_disk d s (d == 1) refl }
+    recopied = record { rest = refl; each = λ d s. by_low d s (nat_lt s data_start) }
       where
         by_sector : (d s : ℕ) → d ≡ 1 → (t : Bool) → (s == 4096) ≡ t → (zero_sector ≡ (if t then ones else zero_sector)) ⊎ IsFromFirst (shown_by old) (two mode) (Some (status_of old)) (there_by old) d s zero_sector
         by_sector d s first false e = inl refl
@@ -71,6 +74,10 @@ module _ (mode : Mode) (dirty : Bool) (note : ℕ → Option Noted) (on : mode �
         by_disk d s true e = by_sector d s (eqb-true d 1 e) (s == 4096) refl
         by_disk d s false e = inl refl
 
+        by_low : (d s : ℕ) (t : Bool) → ((if t then [] else zero_sector) ≡ (if t then [] else torn_mirror d s)) ⊎ IsFromFirst (shown_by old) (two mode) (Some (status_of old)) (there_by old) d s (if t then [] else zero_sector)
+        by_low d s true = inl refl
+        by_low d s false = by_disk d s (d == 1) refl
+
     equalled : AreEqualled (shown_by old) (two mode) (Some (status_of old)) (there_by old) (shown_by copied)
     equalled row lp b one inside made =
         let is = the_row old row one in
@@ -79,37 +86,42 @@ module _ (mode : Mode) (dirty : Bool) (note : ℕ → Option Noted) (on : mode �
         (subst (λ (n : ℕ). HoldFirst (shown_by old) (shown_by copied) 1 (fresh_on (there_by old) (Some (status_of old)) (mirror mode) n) b) (sym none)
         (subst (λ (ps : List Pp). HoldFirst (shown_by old) (shown_by copied) 1 ps b) (sym usable) (refl, (refl, tt))))
 
-active : IsRecoveredPair (torn_pair Active false names_first) (even_pair Active false false names_first) (even_pair Active false false no_notes_of_two) (history_of Active true)
-active = let named : IsToEqual (shown_by (torn_pair Active false names_first)) (Some (status_of (torn_pair Active false names_first))) (there_by (torn_pair Active false names_first)) Active 1 0 = (0, refl, refl) in record {
-  valid = valid Active;
-  within = within (torn_pair Active false names_first);
-  enough = enough (torn_pair Active false names_first);
-  shows = shows (torn_pair Active false names_first);
-  kept = active_torn;
-  behind = behind (torn_pair Active false names_first);
-  uneven = uneven Active false names_first (λ e. absurd cc);
-  to_equal = named;
-  recopied = recopied Active false names_first (λ e. absurd cc) named;
-  moved = λ e. differ (sym e);
-  equalled = equalled Active false names_first (λ e. absurd cc) named;
-  emptied = record { rest = refl; others = λ d away. ap (λ (t : Bool). if t then None else names_first d) away };
-}
+-- on a still shelf
+may : (x : Pair) → ((d s : ℕ) → s < 4096 → x.stands d s ≡ zero_sector) → MayRecover (two x.mode) (status_of x).value (there_by x) (device_of x)
+may x below =
+    let both = subst (λ (c : Contents). (shows : ShowsCommitted c (two x.mode) (status_of x).value (there_by x)) × NoneIsBehind c (two x.mode) (Some shows.stands) (there_by x)) (sym (told x below)) (shows x, behind x) in
+    record { media = media_of x; told = refl; valid = valid x.mode; enough = enough x; shows = both.0; none_behind = both.1 }
 
-passive : IsRecoveredPair (torn_pair Passive true no_note) (even_pair Passive true false no_note) (even_pair Passive true false no_note) (history_of Passive true)
-passive = let dirty : IsToEqual (shown_by (torn_pair Passive true no_note)) (Some (status_of (torn_pair Passive true no_note))) (there_by (torn_pair Passive true no_note)) Passive 1 0 = refl in record {
-  valid = valid Passive;
-  within = within (torn_pair Passive true no_note);
-  enough = enough (torn_pair Passive true no_note);
-  shows = shows (torn_pair Passive true no_note);
-  kept = passive_torn;
-  behind = behind (torn_pair Passive true no_note);
-  uneven = uneven Passive true no_note (λ e. absurd cc);
-  to_equal = dirty;
-  recopied = recopied Passive true no_note (λ e. absurd cc) dirty;
-  moved = λ e. differ (sym e);
-  equalled = equalled Passive true no_note (λ e. absurd cc) dirty;
-  emptied = record { rest = refl; others = λ d away. refl };
-}
+-- where the notes of the two alone differ
+emptied : (mode : Mode) (dirty : Bool) (note : Sector) → OnlyNotesOf (there_by (torn_pair mode dirty note)) (shown_by (even_pair mode dirty false note)) (shown_by (even_pair mode dirty false zero_sector))
+emptied mode dirty note = record { rest = refl; others = λ d away. by d (either_of 0 1 d) away }
+  where
+    by : (d : ℕ) (t : Bool) → IsFalse t → (if t then note_in zero_sector else None) ≡ (if t then note_in note else None)
+    by d true away = absurd cc
+    by d false away = refl
+
+module _ (mode : Mode) (dirty : Bool) (note : Sector) (on : mode ≡ Off → ⊥) (to_equal : IsToEqual (shown_by (torn_pair mode dirty note)) (Some (status_of (torn_pair mode dirty note))) (there_by (torn_pair mode dirty note)) mode 1 0)
+    (is_kept : Kept (shown_by (torn_pair mode dirty note)) (history_of mode true)) where
+  recovered : IsRecoveredPair (torn_pair mode dirty note) (even_pair mode dirty false note) (even_pair mode dirty false zero_sector) (history_of mode true)
+  recovered = record {
+    valid = valid mode;
+    may = may (torn_pair mode dirty note) torn_below;
+    within = within (torn_pair mode dirty note);
+    enough = enough (torn_pair mode dirty note);
+    shows = shows (torn_pair mode dirty note);
+    kept = is_kept;
+    behind = behind (torn_pair mode dirty note);
+    uneven = uneven mode dirty note on;
+    to_equal = to_equal;
+    recopied = recopied mode dirty note on to_equal;
+    moved = λ e. differ (sym e);
+    equalled = equalled mode dirty note on to_equal;
+    emptied = emptied mode dirty note;
+    even = zeros_even mode dirty false zero_sector (either_of 0 1);
+  }
 
 pub pairs_recover : PairsRecover
-pairs_recover = record { active = active; passive = passive }
+pairs_recover = record {
+  active = recovered Active false naming (λ e. absurd cc) (0, refl, is_naming) active_torn;
+  passive = recovered Passive true zero_sector (λ e. absurd cc) refl passive_torn;
+}

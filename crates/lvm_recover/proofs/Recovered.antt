@@ -1,6 +1,6 @@
 -- A group whose named track groups were copied is recovered.
-use Rattle.std.proofs.Common.{◌≡◌, ◌⊎◌, inl, inr, ⊎_elim, ℕ, Bool, true, false, ◌&&◌, ◌||◌, ◌==◌, List, [], ◌∷◌, Option, Some, None, refl, sym, ap, subst, ◌∙◌}
-use Rattle.std.specs.Prelude.{IsTrue, IsFalse, if◌then◌else◌, not, find, is_some, option_map}
+use Rattle.std.proofs.Common.{◌≡◌, ◌⊎◌, inl, inr, ⊎_elim, ℕ, Bool, true, false, ◌&&◌, ◌||◌, ◌==◌, List, [], ◌∷◌, Option, Some, refl, sym, ap, subst, ◌∙◌}
+use Rattle.std.specs.Prelude.{if◌then◌else◌, not, find, is_some, option_map}
 use Rattle.std.specs.List.{list_any, AllByRecursion}
 use Rattle.lvm_num.specs.declared.place.Pp.{Pp}
 use Rattle.lvm_num.specs.declared.descriptor.Mode.{Mode}
@@ -23,7 +23,6 @@ use Rattle.lvm_kept.specs.Group.{descriptor_among, is_voter, status_among, is_st
 use Rattle.lvm_kept.specs.Kept.{Kept}
 use Rattle.lvm_kept.specs.Recovered.{IsMadeEqual, MadeEqual, IsCopied, IsLeftBehind as IsLeftBehindBy, Recovered}
 use Rattle.lvm_next.specs.Next.{IsLeftBehind, is_passive, has_passive}
-use Rattle.lvm_rest.specs.Rest.{IsEven}
 use Rattle.lvm_recover.specs.Recopied.{IsToEqual, IsFromFirst, IsRecopied, HoldFirst, AreEqualled}
 use Rattle.lvm_recover.proofs.Beginning.{usable_same}
 use Rattle.lvm_recover.proofs.Equalling.{even_there}

@@ -1,24 +1,25 @@
 -- Recovery, worked by hand: two disks that mirror a volume and differ in its first block.
-use Rattle.std.specs.Prelude.{◌≡◌, ℕ, false, true, if◌then◌else◌, List, Option, None, Some}
-use Rattle.lvm_num.specs.Note.{Noted}
-use Rattle.lvm_num.specs.declared.descriptor.Mode.{Mode}
+use Rattle.std.specs.Prelude.{◌≡◌, false, true, List, Some}
 use Rattle.lvm_num.specs.declared.descriptor.Mode.TheVariants.{Active, Passive}
+use Rattle.lvm_num.specs.Buffer.{zero_sector}
 use Rattle.lvm_num.specs.Descriptor.{IsValid}
 use Rattle.lvm_num.specs.Votes.{CanWrite}
 use Rattle.lvm_vol.specs.Facts.{Fact}
 use Rattle.lvm_kept.specs.Committed.{IsWithinDisks}
-use Rattle.lvm_kept.specs.Examples.{no_note, names_first, either_of, two}
+use Rattle.lvm_kept.specs.Examples.{two}
 use Rattle.lvm_kept.specs.Group.{block_at}
 use Rattle.lvm_kept.specs.Kept.{Kept}
 use Rattle.lvm_commit.specs.Committed.{ShowsCommitted}
 use Rattle.lvm_rest.specs.Rest.{IsEven, NoneIsBehind}
-use Rattle.lvm_rest.specs.Examples.{Pair, shown_by, status_of, there_by, history_of, even_pair, torn_pair}
+use Rattle.lvm_rest.specs.Examples.{Pair, shown_by, status_of, there_by, device_of, history_of, even_pair, torn_pair, naming}
 use Rattle.lvm_recover.specs.Recopied.{IsToEqual, IsRecopied, AreEqualled, OnlyNotesOf}
+use Rattle.lvm_recover.specs.Keeping.{MayRecover}
 
--- All that is asked for a recovery holds of the disks before it: they keep the history and show what is committed, with no fresh copy left behind; their
--- usable copies differ at a block, which is to be made equal. After the copying and after the notes are emptied they show this.
+-- All that is asked for a recovery holds of the disks before it, sector by sector: they keep the history and show what is committed, with no fresh copy
+-- left behind; their usable copies differ at a block, which is to be made equal. After the copying and after the notes are emptied they show this.
 pub record IsRecoveredPair (old copied new : Pair) (facts : List Fact) : Type 0 where
   pub valid : IsValid (two old.mode)
+  pub may : MayRecover (two old.mode) (status_of old).value (there_by old) (device_of old)
   pub within : IsWithinDisks (shown_by old)
   pub enough : CanWrite (two old.mode) (there_by old)
   pub shows : ShowsCommitted (shown_by old) (two old.mode) (status_of old).value (there_by old)
@@ -30,12 +31,9 @@ pub record IsRecoveredPair (old copied new : Pair) (facts : List Fact) : Type 0 
   pub moved : block_at (shown_by copied) 1 (record { disk = 1; pp = 0 }) 0 ≡ block_at (shown_by old) 1 (record { disk = 1; pp = 0 }) 0 → ⊥
   pub equalled : AreEqualled (shown_by old) (two old.mode) (Some shows.stands) (there_by old) (shown_by copied)
   pub emptied : OnlyNotesOf (there_by old) (shown_by copied) (shown_by new)
-
--- the notes of both disks name nothing
-abbrev pub no_notes_of_two : ℕ → Option Noted
-no_notes_of_two d = if either_of 0 1 d then None else names_first d
+  pub even : IsEven (shown_by new) (two old.mode) (Some shows.stands) (there_by old)
 
 -- In mode active the notes name the track group, in mode passive the volume is dirty.
 pub record PairsRecover : Type 0 where
-  pub active : IsRecoveredPair (torn_pair Active false names_first) (even_pair Active false false names_first) (even_pair Active false false no_notes_of_two) (history_of Active true)
-  pub passive : IsRecoveredPair (torn_pair Passive true no_note) (even_pair Passive true false no_note) (even_pair Passive true false no_note) (history_of Passive true)
+  pub active : IsRecoveredPair (torn_pair Active false naming) (even_pair Active false false naming) (even_pair Active false false zero_sector) (history_of Active true)
+  pub passive : IsRecoveredPair (torn_pair Passive true zero_sector) (even_pair Passive true false zero_sector) (even_pair Passive true false zero_sector) (history_of Passive true)

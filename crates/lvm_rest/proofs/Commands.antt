@@ -11,15 +11,15 @@ use Rattle.lvm_num.specs.declared.descriptor.Descriptor.{Descriptor}
 use Rattle.lvm_num.specs.declared.status.Status.{Status}
 use Rattle.lvm_num.specs.Disks.{Disks}
 use Rattle.lvm_num.specs.Descriptor.{copies_of}
-use Rattle.lvm_num.specs.Geometry.{track_group_of, partition_of, sector_of}
+use Rattle.lvm_num.specs.Geometry.{track_group_of, sector_of}
 use Rattle.lvm_num.specs.Record.{Stamped, stamp_lt, newest_below}
 use Rattle.lvm_num.specs.Status.{calls_stale, calls_dirty}
 use Rattle.lvm_num.specs.Votes.{all_disks, CanWrite}
 use Rattle.lvm_vol.specs.declared.entry.Vol.TheVariants.{Lv}
 use Rattle.lvm_vol.specs.Facts.{Fact, Cut}
-use Rattle.lvm_vol.specs.May.{Known, known, IsValue}
+use Rattle.lvm_vol.specs.May.{known, IsValue}
 use Rattle.lvm_kept.specs.Contents.{Contents}
-use Rattle.lvm_kept.specs.Group.{if_passes, passes, is_of, is_status_of, Finds, IsFound, members_in, ReadsBy, Reads, status_by, is_stale_by, fresh_on, block_at, IsBlockOf, is_named, IsOneOf, IsSome, HoldOne}
+use Rattle.lvm_kept.specs.Group.{if_passes, passes, is_of, is_status_of, IsFound, members_in, ReadsBy, Reads, status_by, is_stale_by, fresh_on, block_at, IsBlockOf, is_named, IsOneOf, IsSome, HoldOne}
 use Rattle.lvm_kept.specs.Kept.{MayDiffer, IsBlockKept, BlocksKept, Kept}
 use Rattle.lvm_kept.specs.Committed.{IsWithinDisks}
 use Rattle.lvm_kept.specs.Changes.{Serves, HasNoVolume}
@@ -35,7 +35,6 @@ use Rattle.lvm_commit.specs.Laws.{IsLaterStatus}
 use Rattle.lvm_commit.proofs.Free.{none_stands}
 use Rattle.lvm_commit.proofs.Found.{shows_group, only_found, status_read}
 use Rattle.lvm_commit.proofs.Members.{one_group, parts_of, member_of_parts, among_all}
-use Rattle.lvm_crash.specs.Session.{members_there}
 use Rattle.lvm_crash.proofs.Lists.{left_of, right_of, both_of, not_so, so_not, of_passing, one_passes}
 use Rattle.lvm_rest.specs.Rest.{IsEven, NoneIsBehind}
 use Rattle.lvm_rest.specs.Commands.{IsUsable, KeepsCopies, IsUniform, EvenStays, FreeKeepsEven, BehindStays, HasCopiesOf, CopiesServe, MayClean, CleaningFollows}
@@ -60,10 +59,10 @@ even_stays old new group next was is before after size each even row lp b one on
     subst (λ (m : ℕ). HoldOne new m (fresh_on after is row lp) b) (sym size) (
       hold.0,
       of_passing (λ p. block_at new group.mib p b ≡ hold.0) (passing is after) (copies_of row lp) (λ p copy use_.
-      let usable = usable_of is after p use_ in
-      let from = carried.copies lp p copy usable in
-      carried.held lp b p here copy usable
-      ∙ at_passing (λ p. block_at old group.mib p b ≡ hold.0) (passing was before) (copies_of carried.from lp) hold.1 p from.0 (passing_of was before p from.1)),
+          let usable = usable_of is after p use_ in
+          let from = carried.copies lp p copy usable in
+          carried.held lp b p here copy usable
+          ∙ at_passing (λ p. block_at old group.mib p b ≡ hold.0) (passing was before) (copies_of carried.from lp) hold.1 p from.0 (passing_of was before p from.1)),
     ))
     (λ (uniform : IsUniform new group.mib is after row). subst (λ (m : ℕ). HoldOne new m (fresh_on after is row lp) b) (sym size) (uniform lp b here))
     (each row one on)
@@ -142,7 +141,7 @@ module _ (c : Contents) (group : Descriptor) (status : Status) (there : Disks) (
             (λ (hold : HoldOne c group.mib (fresh_on members stands from lp) b). inl (
               hold.0,
               of_passing (λ p. block_at c group.mib p b ≡ hold.0) (passing next members) (copies_of row lp) (λ p copy use_. let w = was p copy use_ in
-              at_passing (λ p. block_at c group.mib p b ≡ hold.0) (passing stands members) (copies_of from lp) hold.1 p w.0 w.1),
+                  at_passing (λ p. block_at c group.mib p b ≡ hold.0) (passing stands members) (copies_of from lp) hold.1 p w.0 w.1),
             ))
             (λ differ. inr (by row.mode refl (subst (λ (m : Mode). MayDiffer c stands row.number m (fresh_on members stands from lp) (known (facts ++ Cut ∷ []) (Lv row.number) b) b) (sym mode) differ)))
             kept_from.equal;
@@ -266,7 +265,7 @@ module _ (c : Contents) (group : Descriptor) (status : Status) (there : Disks) (
               equal = inl (
                 hold.0,
                 of_passing (λ p. block_at c group.mib p b ≡ hold.0) (passing (Some next) members) (copies_of row lp) (λ p copy use_.
-                at_passing (λ p. block_at c group.mib p b ≡ hold.0) (passing stands there) (copies_of row lp) hold.1 p copy (all_usable row lp p one inside.inside some copy (same_usable row lp p one copy use_))),
+                    at_passing (λ p. block_at c group.mib p b ≡ hold.0) (passing stands there) (copies_of row lp) hold.1 p copy (all_usable row lp p one inside.inside some copy (same_usable row lp p one copy use_))),
               );
             }
           where

@@ -1,5 +1,5 @@
 -- The groups that are worked by hand are at rest.
-use Rattle.std.proofs.Common.{◌≡◌, ◌⊎◌, inl, inr, ⊎_elim, ℕ, ◌<◌, ◌/◌, ◌%◌, ◌+◌, ◌*◌, Bool, true, false, ◌&&◌, not, List, [], ◌∷◌, ◌++◌, Option, Some, None, refl, sym, ap, subst, ◌∙◌, arith}
+use Rattle.std.proofs.Common.{◌≡◌, inl, inr, ℕ, ◌<◌, ◌%◌, ◌+◌, ◌*◌, Bool, true, false, ◌&&◌, not, List, [], ◌∷◌, ◌++◌, Option, Some, None, refl, sym, ap, subst, ◌∙◌, arith}
 use Rattle.std.specs.Prelude.{IsTrue, IsFalse, ◌==◌, ◌≢◌, nat_lt, if◌then◌else◌, AllPairs}
 use Rattle.std.proofs.lemmas.List.Elements.{All-nil, All-cons}
 use Rattle.std.proofs.lemmas.List.Kept.{AllPairs-cons}
@@ -11,7 +11,6 @@ use Rattle.lvm_num.specs.declared.descriptor.Mode.TheVariants.{Active, Passive, 
 use Rattle.lvm_num.specs.declared.descriptor.PvRow.{PvRow}
 use Rattle.lvm_num.specs.declared.descriptor.LvRow.{LvRow}
 use Rattle.lvm_num.specs.declared.descriptor.Descriptor.{Descriptor}
-use Rattle.lvm_num.specs.declared.status.Status.{Status}
 use Rattle.lvm_num.specs.Bits.{has_bit}
 use Rattle.lvm_num.specs.Buffer.{Sector, zero_sector}
 use Rattle.lvm_num.specs.Disks.{Disks}
@@ -21,15 +20,15 @@ use Rattle.lvm_num.specs.Geometry.{partition_blocks, sector_of}
 use Rattle.lvm_num.specs.Note.{Noted, note_in, IsEntry}
 use Rattle.lvm_num.proofs.Notes.{written_is_read}
 use Rattle.lvm_num.specs.Record.{Stamped}
-use Rattle.lvm_num.specs.Votes.{CanWrite, CanRead, all_disks, votes_by}
+use Rattle.lvm_num.specs.Votes.{CanWrite, all_disks, votes_by}
 use Rattle.lvm_vol.specs.Facts.{Fact, Cut, is_over}
 use Rattle.lvm_vol.specs.May.{Known, known, unknown, cut as after_cut, IsValue}
 use Rattle.lvm_vol.specs.Legal.{Legal}
 use Rattle.lvm_vol.specs.declared.entry.Vol.TheVariants.{Lv}
-use Rattle.lvm_vol.specs.Standing.{Standing, Absent, Open, Settled, Volume, no_volumes, volumes_in}
+use Rattle.lvm_vol.specs.Standing.{Open, Settled, Volume, no_volumes, volumes_in}
 use Rattle.lvm_kept.specs.Contents.{Contents}
-use Rattle.lvm_kept.specs.Examples.{stamped, member, mirror, two, either_of, only, zeros, ones, torn_mirror}
-use Rattle.lvm_kept.specs.Group.{members_in, is_stale_by, fresh_on, block_at, IsBlockOf, names_if, IsOneOf, HoldOne, has_room}
+use Rattle.lvm_kept.specs.Examples.{stamped, member, mirror, two, either_of, only, ones, torn_mirror}
+use Rattle.lvm_kept.specs.Group.{is_stale_by, block_at, names_if, IsOneOf, has_room}
 use Rattle.lvm_kept.specs.Kept.{StandsAs, IsBlockKept, Kept}
 use Rattle.lvm_kept.specs.Committed.{IsWithinDisks}
 use Rattle.lvm_commit.specs.Committed.{IsAlike, Began, ShowsCommitted}
@@ -38,13 +37,13 @@ use Rattle.lvm_good.specs.Found.{Votes}
 use Rattle.lvm_good.specs.Good.{Good}
 use Rattle.lvm_crash.specs.Session.{AreVotesOf, Describes}
 use Rattle.lvm_crash.specs.Flights.{Matches}
-use Rattle.lvm_crash.proofs.Lists.{left_of, right_of, both_of, of_passing}
+use Rattle.lvm_crash.proofs.Lists.{of_passing}
 use Rattle.lvm_rest.specs.Rest.{IsEven, NoneIsBehind, IsAlone, AreClosed, IsAtRest}
-use Rattle.lvm_rest.specs.Examples.{Pair, status_of, shown_by, there_by, pair_sizes, media_of, device_of, first_write, history_of, even_pair, torn_pair, naming_note, naming, IsRestingPair, PairsRest}
+use Rattle.lvm_rest.specs.Examples.{Pair, status_of, shown_by, there_by, media_of, device_of, first_write, history_of, even_pair, torn_pair, naming_note, naming, IsRestingPair, PairsRest}
 use Rattle.lvm_rest.proofs.Good.{rest_is_good, still_matches}
 use Rattle.lvm_rest.proofs.Seen.{rest_is_seen}
 use Rattle.lvm_rest.proofs.Sectors.{told}
-use Rattle.lvm_rest.proofs.Pairs.{both_copies, the_descriptor, the_status, id_is, group_is, found_by_all, the_row, first_partition, block_low, kept}
+use Rattle.lvm_rest.proofs.Pairs.{both_copies, the_descriptor, the_status, id_is, found_by_all, the_row, first_partition, kept}
 
 -- ---- the history
 
@@ -240,10 +239,12 @@ zeros_kept mode dirty lost cut note = kept (even_pair mode dirty lost note) (his
     record { allowed = (subst (IsValue (known (history_of mode cut ++ Cut ∷ []) (Lv 1) b)) (sym first) zero, (subst (IsValue (known (history_of mode cut ++ Cut ∷ []) (Lv 1) b)) (sym second) zero, tt)); equal = inl (zero_sector, (first, (second, tt))) })
     (volumes mode cut)
 
-zeros_even : (mode : Mode) (dirty lost : Bool) (note : Sector) (set : Disks) → IsEven (shown_by (even_pair mode dirty lost note)) (two mode) (Some (status_of (even_pair mode dirty lost note))) set
-zeros_even mode dirty lost note set row lp b one on inside =
-    (zero_sector, of_passing (λ p. block_at (shown_by (even_pair mode dirty lost note)) 1 p b ≡ zero_sector) (λ p. set p.disk && not (is_stale_by (Some (status_of (even_pair mode dirty lost note))) p)) (copies_of row lp)
-    (λ p copy use_. stands_at (even_pair mode dirty lost note) p b))
+pub zeros_even : (mode : Mode) (dirty lost : Bool) (note : Sector) (set : Disks) → IsEven (shown_by (even_pair mode dirty lost note)) (two mode) (Some (status_of (even_pair mode dirty lost note))) set
+zeros_even mode dirty lost note set row lp b one on inside = (
+  zero_sector,
+  of_passing (λ p. block_at (shown_by (even_pair mode dirty lost note)) 1 p b ≡ zero_sector) (λ p. set p.disk && not (is_stale_by (Some (status_of (even_pair mode dirty lost note))) p)) (copies_of row lp)
+      (λ p copy use_. stands_at (even_pair mode dirty lost note) p b),
+)
 
 -- a session begins there
 good_of : (x : Pair) (facts : List Fact) → ((d s : ℕ) → s < 4096 → x.stands d s ≡ zero_sector) → AreClosed facts (two x.mode) → IsAtRest (shown_by x) facts (two x.mode) (Some (status_of x)) (there_by x)
@@ -252,8 +253,7 @@ good_of x facts below is_closed rests votes are =
     let seen = rest_is_seen facts (two x.mode) (status_of x) (there_by x) (shown_by x) (valid x.mode) in
     let both = rest_is_good votes seen.0 (two x.mode) (status_of x).value (there_by x) (shown_by x) are (valid x.mode) (within x) (enough x) (shows x) seen.2 seen.3
     (subst (λ (f : List Fact). AreClosed f (two x.mode)) (sym seen.1) is_closed)
-    (subst (λ (f : List Fact). IsAtRest (shown_by x) f (two x.mode) (Some (status_of x)) (there_by x)) (sym seen.1) rests) in
-    (
+    (subst (λ (f : List Fact). IsAtRest (shown_by x) f (two x.mode) (Some (status_of x)) (there_by x)) (sym seen.1) rests) in (
       seen.0,
       seen.1,
       both.0,

@@ -1,7 +1,6 @@
 -- A session at rest is in a good state, and describes its disks.
-use Rattle.std.proofs.Common.{◌≡◌, ◌⊎◌, inl, inr, ⊎_elim, ℕ, zero, suc, ◌+◌, ◌*◌, ◌<◌, ◌≤◌, ◌/◌, Bool, true, false, ◌&&◌, not, List, [], ◌∷◌, ◌++◌, Option, Some, None, refl, sym, ap, subst, ◌∙◌, arith, rules}
+use Rattle.std.proofs.Common.{◌≡◌, ◌⊎◌, inl, inr, ⊎_elim, ℕ, zero, suc, ◌<◌, ◌≤◌, Bool, true, false, ◌&&◌, not, List, [], Option, Some, None, refl, sym, ap, subst, ◌∙◌, arith, rules}
 use Rattle.std.specs.Prelude.{IsTrue, IsFalse, ◌==◌, if◌then◌else◌, option_map}
-use Rattle.std.specs.List.{AllByRecursion}
 use Rattle.std.proofs.lemmas.Bool.{eq-eqb, eqb-true}
 use Rattle.lvm_num.specs.declared.place.Pp.{Pp}
 use Rattle.lvm_num.specs.declared.descriptor.Mode.{Mode}
@@ -11,29 +10,26 @@ use Rattle.lvm_num.specs.declared.descriptor.Descriptor.{Descriptor}
 use Rattle.lvm_num.specs.declared.status.Status.{Status}
 use Rattle.lvm_num.specs.Disks.{Disks}
 use Rattle.lvm_num.specs.Buffer.{Sector}
-use Rattle.lvm_num.specs.Descriptor.{IsValid, copies_of, is_size, volume_of}
+use Rattle.lvm_num.specs.Descriptor.{IsValid, copies_of, is_size}
 use Rattle.lvm_num.specs.Geometry.{track_group_of, partition_of, volume_blocks}
 use Rattle.lvm_num.specs.Record.{Stamped, stamp_lt}
-use Rattle.lvm_num.specs.Status.{calls_stale}
 use Rattle.lvm_num.specs.Votes.{all_disks, CanWrite}
 use Rattle.lvm_disk.specs.Device.{Flight, IsInFlight, image_of}
 use Rattle.lvm_vol.specs.declared.entry.Vol.TheVariants.{Lv}
-use Rattle.lvm_vol.specs.Facts.{Fact, Cut}
 use Rattle.lvm_vol.specs.May.{Known, known, cut, is_off, IsValue}
 use Rattle.lvm_vol.specs.Standing.{Standing, Absent, Open, Settled as IsMade, Shape, volumes_in}
 use Rattle.lvm_kept.specs.Contents.{Contents, contents_of}
-use Rattle.lvm_kept.specs.Group.{is_voter, status_among, Finds, ReadsBy, status_by, is_status_of, is_stale_by, is_dirty_by, fresh_on, block_at, IsBlockOf, is_named, IsOneOf, IsSome, HoldOne}
+use Rattle.lvm_kept.specs.Group.{status_among, ReadsBy, status_by, is_stale_by, fresh_on, block_at, IsBlockOf, is_named, IsOneOf, IsSome, HoldOne}
 use Rattle.lvm_kept.specs.Kept.{StandsAs, MayDiffer as MayDifferOn, IsBlockKept, BlocksKept}
 use Rattle.lvm_kept.specs.Committed.{IsWithinDisks}
 use Rattle.lvm_kept.proofs.Finding.{some_same, finding_reads, images_within}
 use Rattle.lvm_commit.specs.Committed.{ShowsCommitted}
 use Rattle.lvm_commit.proofs.Found.{only_found, status_read}
-use Rattle.lvm_good.specs.State.{Marks, Queued, OpenCopy, State, Live, Named, Started, stale_in, told}
-use Rattle.lvm_good.specs.Sound.{DifferDirty, MayDiffer, Agree, Settled, Sound}
+use Rattle.lvm_good.specs.State.{Marks, Queued, OpenCopy, State, Live, stale_in, told}
+use Rattle.lvm_good.specs.Sound.{MayDiffer, Agree, Settled, Sound}
 use Rattle.lvm_good.specs.Found.{Votes, Found}
-use Rattle.lvm_good.specs.Told.{Told}
 use Rattle.lvm_good.specs.Good.{Good}
-use Rattle.lvm_crash.specs.Session.{marks_of, as_marks, marks_shown, AreVotesOf, members_there, has_notes, has_mark, IsBlockIn, GroupStands, HasVolumes, HasStatuses, Describes}
+use Rattle.lvm_crash.specs.Session.{as_marks, marks_shown, AreVotesOf, members_there, has_notes, has_mark, GroupStands, HasVolumes, Describes}
 use Rattle.lvm_crash.proofs.Loose.{loose_is_off}
 use Rattle.lvm_crash.proofs.Lists.{left_of, right_of, both_of, not_so, so_not}
 use Rattle.lvm_rest.specs.Rest.{IsIdle, SeesThat, AreClosed, IsAtRest}
@@ -226,7 +222,7 @@ module _ (votes : Votes) (s : State) (group : Descriptor) (status : Status) (the
       | inr some ↦ inl (agree_on there (rest.even row lp b one on inside) (λ p live. ⊎_elim
           (λ (is : IsTrue (there p.disk)). is)
           (λ (isnt : IsFalse (there p.disk)). let of = live_of row lp b p one inside live in
-              absurd (passes_none (usable there) (copies_of row lp) some.0 (rest.behind row lp p one inside.inside of.copy of.member isnt of.fresh) some.1 some.2))
+          absurd (passes_none (usable there) (copies_of row lp) some.0 (rest.behind row lp p one inside.inside of.copy of.member isnt of.fresh) some.1 some.2))
           (tested (there p.disk))))
     ]
 
@@ -242,22 +238,22 @@ module _ (votes : Votes) (s : State) (group : Descriptor) (status : Status) (the
     equal_by Active is (inr named) = elim (with_consistency (not_off row.mode (ap is_off is))) [
       | inl agree ↦ inl agree
       | inr missing ↦ inr (λ p live. (
-          missing p live,
-          record {
-            home = sees.names p.disk row.number (track_group_of b)
-                ∙ (let of = live_of row lp b p one inside live in
-                at_passing (λ (q : Pp). IsTrue (is_named c q.disk row.number (track_group_of b))) (usable members) (copies_of row lp) named p of.copy (passes row lp p members of of.member));
-            flying = λ n flies. nothing n (sym (idle.no_note p.disk) ∙ flies);
-          },
-        ))
+        missing p live,
+        record {
+          home = sees.names p.disk row.number (track_group_of b)
+              ∙ (let of = live_of row lp b p one inside live in
+              at_passing (λ (q : Pp). IsTrue (is_named c q.disk row.number (track_group_of b))) (usable members) (copies_of row lp) named p of.copy (passes row lp p members of of.member));
+          flying = λ n flies. nothing n (sym (idle.no_note p.disk) ∙ flies);
+        },
+      ))
     ]
     equal_by Passive is (inr dirty) = elim (with_consistency (not_off row.mode (ap is_off is))) [
       | inl agree ↦ inl agree
       | inr missing ↦ inr (inr (record {
-          passive = sees.copies.mark row one ∙ ap has_mark is;
-          missing = missing;
-          dirty = ap (λ (m : Stamped Marks). m.value.dirty row.number) sees.committed ∙ dirty;
-        }))
+        passive = sees.copies.mark row one ∙ ap has_mark is;
+        missing = missing;
+        dirty = ap (λ (m : Stamped Marks). m.value.dirty row.number) sees.committed ∙ dirty;
+      }))
     ]
     equal_by Off is (inr loose) = inr (inl (loose_uncut b (told s row.number b) (closed row lp b one inside) loose))
 
@@ -272,10 +268,10 @@ module _ (votes : Votes) (s : State) (group : Descriptor) (status : Status) (the
   settled lv b = elim (block_in group lv b) [
     | inl at ↦ subst (λ (n : ℕ). Settled s n b) at.number (settled_at at.row at.lp b at.volume at.inside)
     | inr none ↦ record {
-        calm = λ i r started over. no_request i r started.there;
-        allowed = λ p live. absurd (none (sees.copies.inside lv b p live.copy));
-        equal = inl ([], λ p live. absurd (none (sees.copies.inside lv b p live.copy)));
-      }
+      calm = λ i r started over. no_request i r started.there;
+      allowed = λ p live. absurd (none (sees.copies.inside lv b p live.copy));
+      equal = inl ([], λ p live. absurd (none (sees.copies.inside lv b p live.copy)));
+    }
   ]
 
   -- ---- the rest of it
@@ -346,7 +342,8 @@ module _ (votes : Votes) (s : State) (group : Descriptor) (status : Status) (the
       stale_is_wanted = λ p stale fresh. clash (s.committed.value.stale p) stale (sym (wanted_stale p) ∙ fresh);
       flying_is_wanted = λ p u flies stale fresh. no_flight u flies;
       kept = λ lv b p copy. let q = kept lv b p copy in (
-        q.0, q.1,
+        q.0,
+        q.1,
         record { committed = committed_stale q.0 ∙ q.2; flying = λ u flies. no_flight u flies; wanted = wanted_stale q.0 ∙ committed_stale q.0 ∙ q.2 },
       );
       open_there = λ o is. no_open o is;

@@ -1,23 +1,18 @@
 -- A table that is marked with the copies that are left behind, as the next status of a session.
-use Rattle.std.proofs.Common.{◌≡◌, ◌⊎◌, inl, inr, ⊎_elim, ℕ, ◌<◌, Bool, true, false, ◌&&◌, ◌||◌, not, List, [], ◌∷◌, ◌==◌, Some, refl, sym, ap, subst, ◌∙◌}
+use Rattle.std.proofs.Common.{◌≡◌, inl, inr, ⊎_elim, ℕ, Bool, true, false, ◌&&◌, ◌||◌, not, List, [], ◌∷◌, ◌==◌, refl, sym, ap, subst, ◌∙◌}
 use Rattle.std.specs.Prelude.{IsTrue, IsFalse}
 use Rattle.std.specs.List.{list_any}
 use Rattle.lvm_num.specs.declared.place.Pp.{Pp}
 use Rattle.lvm_num.specs.declared.descriptor.LvRow.{LvRow}
-use Rattle.lvm_num.specs.declared.descriptor.Descriptor.{Descriptor}
 use Rattle.lvm_num.specs.declared.status.Status.{Status}
-use Rattle.lvm_num.specs.Disks.{Disks}
-use Rattle.lvm_num.specs.Descriptor.{IsValid, copies_of}
-use Rattle.lvm_num.specs.Record.{Stamped}
+use Rattle.lvm_num.specs.Descriptor.{copies_of}
 use Rattle.lvm_num.specs.Status.{calls_stale}
-use Rattle.lvm_kept.specs.Contents.{Contents}
-use Rattle.lvm_kept.specs.Group.{fresh_on, IsOneOf}
-use Rattle.lvm_crash.specs.Session.{members_there}
+use Rattle.lvm_kept.specs.Group.{IsOneOf}
 use Rattle.lvm_crash.proofs.Lists.{left_of, right_of, both_of, not_so, so_not}
-use Rattle.lvm_left.specs.Marking.{Marks, IsLeftIn}
+use Rattle.lvm_left.specs.Marking.{IsLeftIn}
 use Rattle.lvm_commit.specs.Settling.{there as not_missing}
 use Rattle.lvm_commit.proofs.Copies.{one_place}
-use Rattle.lvm_rest.proofs.Rows.{tested, none_passing}
+use Rattle.lvm_rest.proofs.Rows.{none_passing}
 use Rattle.lvm_rest.specs.Marking.{MarkedMayFollow, MarkedLeavesNone, NoneIsLeftBehind}
 
 clash : {X : Type 0} (t : Bool) → IsTrue t → IsFalse t → X
@@ -52,14 +47,14 @@ marked_may_follow c group there was next valid members marks = record {
   added = λ row lp p one low copy stale. ⊎_elim
       (λ was_so. inl was_so)
       (λ (left : IsLeftIn there was group.lvs p). inr (
-          let place = one_place group row left.row lp left.left.lp p valid one left.volume copy left.left.left.one in
-          let q = some_one (λ (r : Pp). there r.disk && not (calls_stale was r)) (copies_of left.row left.left.lp) left.left.left.served in
-          let in_there = left_of (there q.0.disk) (not (calls_stale was q.0)) q.2 in (
-            q.0,
-            subst (λ (r : LvRow). IsOneOf (copies_of r lp) q.0) (sym place.row_is) (subst (λ (n : ℕ). IsOneOf (copies_of left.row n) q.0) (sym place.lp_is) q.1),
-            marks.answered q.0 in_there ∙ not_so (calls_stale was q.0) (right_of (there q.0.disk) (not (calls_stale was q.0)) q.2),
-            members q.0.disk in_there,
-          )))
+      let place = one_place group row left.row lp left.left.lp p valid one left.volume copy left.left.left.one in
+      let q = some_one (λ (r : Pp). there r.disk && not (calls_stale was r)) (copies_of left.row left.left.lp) left.left.left.served in
+      let in_there = left_of (there q.0.disk) (not (calls_stale was q.0)) q.2 in (
+        q.0,
+        subst (λ (r : LvRow). IsOneOf (copies_of r lp) q.0) (sym place.row_is) (subst (λ (n : ℕ). IsOneOf (copies_of left.row n) q.0) (sym place.lp_is) q.1),
+        marks.answered q.0 in_there ∙ not_so (calls_stale was q.0) (right_of (there q.0.disk) (not (calls_stale was q.0)) q.2),
+        members q.0.disk in_there,
+      )))
       (marks.only p stale);
   dirty = λ row one soft is. ap (λ (numbers : List ℕ). list_any (λ n. n == row.number) numbers) marks.dirty ∙ is;
 }

@@ -1,7 +1,6 @@
 -- The two disks that are worked by hand keep their history.
-use Rattle.std.proofs.Common.{◌≡◌, ◌⊎◌, inl, inr, ⊎_elim, ℕ, ◌<◌, ◌/◌, Bool, true, false, ◌&&◌, not, List, [], ◌∷◌, ◌++◌, Option, Some, None, refl, sym, ap, subst, ◌∙◌, arith}
-use Rattle.std.specs.Prelude.{IsTrue, IsFalse, ◌==◌, nat_lt, if◌then◌else◌, is_some}
-use Rattle.std.proofs.lemmas.Bool.{eqb-true}
+use Rattle.std.proofs.Common.{◌≡◌, inl, inr, ⊎_elim, ℕ, ◌<◌, ◌/◌, Bool, true, false, ◌&&◌, List, [], ◌∷◌, ◌++◌, Option, Some, None, refl, sym, ap, subst, ◌∙◌, arith}
+use Rattle.std.specs.Prelude.{IsTrue, ◌==◌, nat_lt, if◌then◌else◌, is_some}
 use Rattle.std.proofs.lemmas.Bool.Decides.{nat_tests}
 use Rattle.lvm_num.specs.declared.place.Pp.{Pp}
 use Rattle.lvm_num.specs.declared.descriptor.Mode.{Mode}
@@ -12,23 +11,23 @@ use Rattle.lvm_num.specs.declared.status.Status.{Status}
 use Rattle.lvm_num.specs.Bits.{has_bit}
 use Rattle.lvm_num.specs.Disks.{Disks}
 use Rattle.lvm_num.specs.declared.descriptor.PvRow.{PvRow}
-use Rattle.lvm_num.specs.Descriptor.{member_of, copies_of, volume_of}
+use Rattle.lvm_num.specs.Descriptor.{member_of, volume_of}
 use Rattle.lvm_num.specs.Record.{Stamped, newest_below}
 use Rattle.lvm_num.specs.Votes.{all_disks, votes_by, CanRead}
 use Rattle.lvm_num.proofs.VotesLemmas.{read_meets_read}
 use Rattle.lvm_vol.specs.Facts.{Fact, Cut}
 use Rattle.lvm_vol.specs.May.{Known, known}
 use Rattle.lvm_vol.specs.declared.entry.Vol.TheVariants.{Lv}
-use Rattle.lvm_vol.specs.Standing.{Standing, Absent, Open, Settled, volumes_in}
+use Rattle.lvm_vol.specs.Standing.{volumes_in}
 use Rattle.lvm_kept.specs.Contents.{Contents}
 use Rattle.lvm_kept.specs.Examples.{stamped, mirror, two, either_of}
-use Rattle.lvm_kept.specs.Group.{descriptor_among, is_voter, has_quorum, status_among, Finds, IsFound, Reads, ReadsBy, members_in, status_by, fresh_on, fresh, IsBlockOf, IsOneOf, IsSome, HoldOne}
-use Rattle.lvm_kept.specs.Kept.{StandsAs, HasStatus, MayDiffer, IsBlockKept, BlocksKept, IsAvailable, Kept}
+use Rattle.lvm_kept.specs.Group.{descriptor_among, is_voter, has_quorum, status_among, Finds, IsFound, Reads, ReadsBy, members_in, status_by, fresh_on, fresh, IsOneOf, IsSome, HoldOne}
+use Rattle.lvm_kept.specs.Kept.{StandsAs, HasStatus, MayDiffer, IsBlockKept, BlocksKept, Kept}
 use Rattle.lvm_kept.proofs.Finding.{some_same, finding_reads}
 use Rattle.lvm_kept.proofs.Restamping.{fewer_blocks}
 use Rattle.lvm_crash.proofs.Standing.{shown}
-use Rattle.lvm_crash.proofs.Lists.{left_of, right_of, both_of}
-use Rattle.lvm_rest.specs.Examples.{Pair, status_of, shown_by, there_by}
+use Rattle.lvm_crash.proofs.Lists.{right_of}
+use Rattle.lvm_rest.specs.Examples.{Pair, status_of, shown_by}
 
 -- what stands behind a test is the one thing that stands there
 behind : {X : Type 0} (t : Bool) (x r : X) → (if t then Some x else None) ≡ Some r → r ≡ x

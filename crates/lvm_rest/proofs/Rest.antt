@@ -1,5 +1,5 @@
 -- Where a session in a good state has nothing under way, its disks are at rest.
-use Rattle.std.proofs.Common.{◌≡◌, ◌⊎◌, inl, inr, ⊎_elim, ℕ, ◌*◌, ◌<◌, Bool, true, false, ◌&&◌, not, List, [], ◌∷◌, Option, Some, None, refl, sym, ap, subst, ◌∙◌}
+use Rattle.std.proofs.Common.{◌≡◌, ◌⊎◌, inl, inr, ℕ, ◌*◌, ◌<◌, Bool, true, false, ◌&&◌, not, [], Some, None, refl, sym, ap, ◌∙◌}
 use Rattle.std.specs.Prelude.{IsTrue, IsFalse}
 use Rattle.lvm_num.specs.declared.place.Pp.{Pp}
 use Rattle.lvm_num.specs.declared.descriptor.Mode.{Mode}
@@ -19,8 +19,8 @@ use Rattle.lvm_kept.specs.Committed.{IsWithinDisks}
 use Rattle.lvm_commit.specs.Committed.{ShowsCommitted}
 use Rattle.lvm_commit.proofs.Found.{shows_group}
 use Rattle.lvm_commit.proofs.Members.{member_of_parts}
-use Rattle.lvm_good.specs.State.{Marks, State, Live, Started, stale_in, told, covers}
-use Rattle.lvm_good.specs.Sound.{MayDiffer, Agree, Settled, Sound}
+use Rattle.lvm_good.specs.State.{Marks, State, Live, stale_in, told}
+use Rattle.lvm_good.specs.Sound.{MayDiffer, Agree}
 use Rattle.lvm_good.specs.Found.{Votes}
 use Rattle.lvm_good.specs.Good.{Good}
 use Rattle.lvm_good.proofs.CrashLemmas.{core_kept}
@@ -28,7 +28,7 @@ use Rattle.lvm_crash.specs.Session.{AreVotesOf, members_there, has_notes, has_ma
 use Rattle.lvm_crash.proofs.Blocks.{block_of}
 use Rattle.lvm_crash.proofs.Lists.{left_of, right_of, both_of, not_so, so_not, of_passing}
 use Rattle.lvm_crash.proofs.Remaining.{remains_kept}
-use Rattle.lvm_rest.specs.Rest.{IsIdle, SeesThat, IsAtRest}
+use Rattle.lvm_rest.specs.Rest.{IsIdle, SeesThat}
 use Rattle.lvm_rest.specs.Good.{GoodIsRest}
 use Rattle.lvm_rest.proofs.Rows.{none_passing}
 use Rattle.lvm_rest.proofs.Good.{mib_positive}
@@ -124,7 +124,7 @@ module _ (votes : Votes) (s : State) (group : Descriptor) (status : Status) (the
         (both_of (not (s.committed.value.stale some.0)) (not (s.missing some.0.disk)) (so_not (s.committed.value.stale some.0) fresh_too) (so_not (s.missing some.0.disk) (isnt_missing some.0.disk in_set)))
         (ap (λ (m : Marks). m.stale some.0) idle.wanted ∙ fresh_too) in
         clash (s.wanted.stale p) stale (ap (λ (m : Marks). m.stale p) idle.wanted ∙ committed_stale p ∙ fresh)
-      )
+        )
   ]
 
 pub good_is_rest : GoodIsRest

@@ -26,13 +26,13 @@ use Rattle.lvm_rest.specs.Examples.{Pair, status_of, framed_group, framed_status
 
 -- ---- the records are read
 
-group_read : (mode : Mode) → descriptor_of (descriptor_bytes (two mode)) ≡ Ok (two mode)
+pub group_read : (mode : Mode) → descriptor_of (descriptor_bytes (two mode)) ≡ Ok (two mode)
 unfolding is_name version_at member_at members_at volume_at volumes_at partition_at partitions_at maps_at member_count_at descriptor_of
 group_read Active = refl
 group_read Passive = refl
 group_read Off = refl
 
-status_read : (x : Pair) (dirty lost : Bool) → read_status (status_bytes (status_of (record x { dirty = dirty; lost = lost })).value) ≡ Ok (status_of (record x { dirty = dirty; lost = lost })).value
+pub status_read : (x : Pair) (dirty lost : Bool) → read_status (status_bytes (status_of (record x { dirty = dirty; lost = lost })).value) ≡ Ok (status_of (record x { dirty = dirty; lost = lost })).value
 unfolding status_version_at rows_and_size_at status_row_at status_rows_at numbers_at dirty_at read_status
 status_read x true true = refl
 status_read x true false = refl
@@ -41,13 +41,13 @@ status_read x false false = refl
 
 -- ---- slots
 
-one : (k : ℕ) → k < 1 → k ≡ 0
+pub one : (k : ℕ) → k < 1 → k ≡ 0
 one k low = omega arith
 
-not-equal : (a b : ℕ) → (a ≡ b → ⊥) → (a == b) ≡ false
+pub not-equal : (a b : ℕ) → (a ≡ b → ⊥) → (a == b) ≡ false
 not-equal a b differ = grind (arith, nat_tests)
 
-no-magic : (kind : Kind) → take 2 zero_sector ≡ kind_magic kind → ⊥
+pub no-magic : (kind : Kind) → take 2 zero_sector ≡ kind_magic kind → ⊥
 no-magic kind.Descriptor e = absurd (omega (arith, ap (λ (l : List ℕ). get_or l 0 0) e))
 no-magic kind.Status e = absurd (omega (arith, ap (λ (l : List ℕ). get_or l 0 0) e))
 
@@ -70,11 +70,11 @@ status_sectors x true k low = one k low
 status_sectors x false k low = one k low
 
 -- the first slots hold the records
-group_first : (x : Pair) (d : ℕ) → record_in kind.Descriptor (slot_at kind.Descriptor (slot_start kind.Descriptor 0) (media_of x d)) ≡ Some (framed_group x)
+pub group_first : (x : Pair) (d : ℕ) → record_in kind.Descriptor (slot_at kind.Descriptor (slot_start kind.Descriptor 0) (media_of x d)) ≡ Some (framed_group x)
 group_first x d = whole_is_read kind.Descriptor (framed_group x) (slot_start kind.Descriptor 0) (media_of x d) (group_frames x)
     (λ k low. subst (λ (n : ℕ). media_of x d (512 + n) ≡ frame kind.Descriptor (framed_group x).stamp (framed_group x).content n) (sym (one k low)) refl)
 
-status_first : (x : Pair) (d : ℕ) → record_in kind.Status (slot_at kind.Status (slot_start kind.Status 0) (media_of x d)) ≡ Some (framed_status x)
+pub status_first : (x : Pair) (d : ℕ) → record_in kind.Status (slot_at kind.Status (slot_start kind.Status 0) (media_of x d)) ≡ Some (framed_status x)
 status_first x d = whole_is_read kind.Status (framed_status x) (slot_start kind.Status 0) (media_of x d) (status_frames x x.dirty)
     (λ k low. subst (λ (n : ℕ). media_of x d (64 + n) ≡ frame kind.Status (framed_status x).stamp (framed_status x).content n) (sym (status_sectors x x.dirty k low)) refl)
 
@@ -83,18 +83,18 @@ module _ (x : Pair) (zeros_below : (d s : ℕ) → s < 4096 → x.stands d s ≡
   image = image_of pair_sizes (media_of x)
 
   -- past the first slots and the note stands what stands there
-  stands_else : (d s : ℕ) → (s ≡ 512 → ⊥) → (s ≡ 64 → ⊥) → (s ≡ 8 → ⊥) → media_of x d s ≡ x.stands d s
+  pub stands_else : (d s : ℕ) → (s ≡ 512 → ⊥) → (s ≡ 64 → ⊥) → (s ≡ 8 → ⊥) → media_of x d s ≡ x.stands d s
   stands_else d s a b n =
       ap (λ (t : Bool). if t then frame kind.Descriptor (framed_group x).stamp (framed_group x).content 0 else if s == slot_start kind.Status 0 then frame kind.Status (framed_status x).stamp (framed_status x).content 0 else if s == 8 then x.note else x.stands d s) (not-equal s 512 a)
       ∙ ap (λ (t : Bool). if t then frame kind.Status (framed_status x).stamp (framed_status x).content 0 else if s == 8 then x.note else x.stands d s) (not-equal s 64 b)
       ∙ ap (λ (t : Bool). if t then x.note else x.stands d s) (not-equal s 8 n)
 
-  second_zero : (kind : Kind) (d k : ℕ) → k < slot_size kind → media_of x d (slot_start kind 1 + k) ≡ zero_sector
+  pub second_zero : (kind : Kind) (d k : ℕ) → k < slot_size kind → media_of x d (slot_start kind 1 + k) ≡ zero_sector
   second_zero kind.Descriptor d k low = stands_else d (slot_start kind.Descriptor 1 + k) (λ e. omega (arith, e)) (λ e. omega (arith, e)) (λ e. omega (arith, e)) ∙ zeros_below d (slot_start kind.Descriptor 1 + k) (omega (arith, low))
   second_zero kind.Status d k low = stands_else d (slot_start kind.Status 1 + k) (λ e. omega (arith, e, low)) (λ e. omega (arith, e, low)) (λ e. omega (arith, e, low)) ∙ zeros_below d (slot_start kind.Status 1 + k) (omega (arith, low))
 
   -- the second slots hold nothing
-  second_none : (kind : Kind) (d : ℕ) → record_in kind (slot_at kind (slot_start kind 1) (media_of x d)) ≡ None
+  pub second_none : (kind : Kind) (d : ℕ) → record_in kind (slot_at kind (slot_start kind 1) (media_of x d)) ≡ None
   second_none kind d = none_or (record_in kind (slot_at kind (slot_start kind 1) (media_of x d))) (λ r is. never_before r.stamp.epoch r.stamp.seq
       (before_is_older kind (record { epoch = 0; seq = 0 }) (slot_start kind 1) (media_of x d)
       (λ k low. subst (λ (y : Sector). IsSector y) (sym (second_zero kind d k low)) zeros-sector)
@@ -130,7 +130,6 @@ module _ (x : Pair) (zeros_below : (d s : ℕ) → s < 4096 → x.stands d s ≡
       by_first : (t : Bool) → (d == 0) ≡ t → has_records image d ≡ either_of 0 1 d
       by_first true is = let e : 0 ≡ d = sym (eqb-true d 0 is) in subst (λ (n : ℕ). has_records image n ≡ either_of 0 1 n) e refl
       by_first false is = by_second (d == 1) refl is
-
 
   descriptors : (d : ℕ) → descriptor_on image d ≡ (shown_by x).descriptor d
   unfolding descriptor_on

@@ -1,6 +1,6 @@
 -- For each group at rest there is a state that sees what its disks show.
-use Rattle.std.proofs.Common.{◌≡◌, ◌⊎◌, ◌↔◌, inl, inr, ℕ, ◌<◌, Bool, true, false, ◌&&◌, ◌||◌, not, List, [], ◌∷◌, Option, Some, None, refl, sym, ap, subst, ◌∙◌, arith}
-use Rattle.std.specs.Prelude.{IsTrue, IsFalse, ◌==◌, nat_lt, if◌then◌else◌, find}
+use Rattle.std.proofs.Common.{◌≡◌, ◌↔◌, inl, inr, ℕ, ◌<◌, Bool, true, false, ◌&&◌, ◌||◌, not, List, [], ◌∷◌, Option, Some, None, refl, sym, ap, subst, ◌∙◌, arith}
+use Rattle.std.specs.Prelude.{IsTrue, ◌==◌, nat_lt, if◌then◌else◌, find}
 use Rattle.std.specs.List.{list_any}
 use Rattle.std.proofs.lemmas.Bool.{eqb-true, eq-eqb}
 use Rattle.std.proofs.lemmas.Bool.Decides.{nat_tests}
@@ -109,12 +109,14 @@ module _ (facts : List Fact) (group : Descriptor) (stands : Stamped Status) (the
   copies : (row : LvRow) (lp b : ℕ) (p : Pp) → IsOneOf group.lvs row → IsBlockOf group.mib row lp b → IsTrue (seen.is_copy row.number b p) ↔ (IsOneOf (copies_of row lp) p × IsTrue (members_there c group p.disk))
   copies row lp b p one inside =
       subst (λ (o : Option LvRow). IsTrue (is_copy_by o group.mib (members_there c group) b p) ↔ (IsOneOf (copies_of row lp) p × IsTrue (members_there c group p.disk))) (sym (row_is_volume group row valid one))
-      (subst (λ (n : ℕ). IsTrue (is_copy_by (Some row) group.mib (members_there c group) b p) ↔ (IsOneOf (copies_of row n) p × IsTrue (members_there c group p.disk))) inside.partition
-      (λ is. let rest = right_of (nat_lt (partition_of group.mib b) row.lps) (list_any (is_same p) (copies_of row (partition_of group.mib b)) && members_there c group p.disk) is in
-      (is_among (copies_of row (partition_of group.mib b)) p (left_of (list_any (is_same p) (copies_of row (partition_of group.mib b))) (members_there c group p.disk) rest),
-      right_of (list_any (is_same p) (copies_of row (partition_of group.mib b))) (members_there c group p.disk) rest),
-      λ is. both_of (nat_lt (partition_of group.mib b) row.lps) (list_any (is_same p) (copies_of row (partition_of group.mib b)) && members_there c group p.disk) low
-      (both_of (list_any (is_same p) (copies_of row (partition_of group.mib b))) (members_there c group p.disk) (among_is (copies_of row (partition_of group.mib b)) p is.0) is.1)))
+      (subst (λ (n : ℕ). IsTrue (is_copy_by (Some row) group.mib (members_there c group) b p) ↔ (IsOneOf (copies_of row n) p × IsTrue (members_there c group p.disk))) inside.partition (
+        λ is. let rest = right_of (nat_lt (partition_of group.mib b) row.lps) (list_any (is_same p) (copies_of row (partition_of group.mib b)) && members_there c group p.disk) is in (
+          is_among (copies_of row (partition_of group.mib b)) p (left_of (list_any (is_same p) (copies_of row (partition_of group.mib b))) (members_there c group p.disk) rest),
+          right_of (list_any (is_same p) (copies_of row (partition_of group.mib b))) (members_there c group p.disk) rest,
+        ),
+        λ is. both_of (nat_lt (partition_of group.mib b) row.lps) (list_any (is_same p) (copies_of row (partition_of group.mib b)) && members_there c group p.disk) low
+            (both_of (list_any (is_same p) (copies_of row (partition_of group.mib b))) (members_there c group p.disk) (among_is (copies_of row (partition_of group.mib b)) p is.0) is.1),
+      ))
     where
       low : IsTrue (nat_lt (partition_of group.mib b) row.lps)
       low = below (partition_of group.mib b) row.lps (subst (λ (n : ℕ). n < row.lps) (sym inside.partition) inside.inside)

@@ -1,5 +1,5 @@
 -- A session at rest is in a good state exactly where the disks keep the history and its copies are even.
-use Rattle.std.specs.Prelude.{◌≡◌, ℕ, [], List, Option, None, Some}
+use Rattle.std.specs.Prelude.{◌≡◌, [], List, None, Some}
 use Rattle.lvm_num.specs.declared.descriptor.Descriptor.{Descriptor}
 use Rattle.lvm_num.specs.declared.status.Status.{Status}
 use Rattle.lvm_num.specs.Disks.{Disks}

@@ -1,7 +1,5 @@
 -- A settled session is in a good state.
-use Rattle.std.proofs.Common.{◌≡◌, inl, inr, ℕ, List, [], ◌++◌, Option, Some, None, refl, sym, ap, subst, ◌∙◌}
-use Rattle.lvm_num.specs.Disks.{Disks}
-use Rattle.lvm_num.specs.declared.descriptor.Descriptor.{Descriptor}
+use Rattle.std.proofs.Common.{◌≡◌, inl, List, [], ◌++◌, sym, subst}
 use Rattle.lvm_vol.specs.Facts.{Fact}
 use Rattle.lvm_vol.specs.Legal.{Legal}
 use Rattle.lvm_vol.specs.May.{known as known_of}

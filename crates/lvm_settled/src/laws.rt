@@ -1,5 +1,6 @@
 //! Laws of settled sessions. Each call does nothing: its contract is the law.
 ghost use Rattle.lvm_settled.specs.Settled.{SettledIsGood, GoodIsSettled, NoneLeftIsBehind};
+ghost use Rattle.lvm_settled.specs.Examples.{PairsSettle};
 
 /// A session may begin: where it is settled and its disks hold what it says, with an earlier history in which no
 /// write is open, its usable copies are even and none is left behind, its state is good and matches the shelf.
@@ -16,4 +17,10 @@ pub fn good_is_settled()
 /// Where a settled session leaves no copy behind by what it wants, none is behind by what stands on the disks.
 pub fn none_left_is_behind()
     ensures { NoneLeftIsBehind }
+{}
+
+/// There are such sessions: of two disks that mirror a volume, in each mode, with both members or one that is lost,
+/// and after a power cut during a write.
+pub fn pairs_settle()
+    ensures { PairsSettle }
 {}

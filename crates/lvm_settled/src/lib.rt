@@ -3,4 +3,4 @@
 
 mod laws;
 
-pub use laws::{good_is_settled, none_left_is_behind, settled_is_good};
+pub use laws::{good_is_settled, none_left_is_behind, pairs_settle, settled_is_good};
