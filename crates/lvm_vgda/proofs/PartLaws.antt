@@ -3,14 +3,12 @@ use Rattle.std.proofs.Common.{◌≡◌, ℕ, Bool, true, ◌&&◌, List, [], Re
 use Rattle.std.specs.Prelude.{◌==◌, not, nat_le, nat_lt, bytes_eq}
 use Rattle.std.specs.List.{list_any, list_all}
 use Rattle.std.specs.Int.{w8, w16, w32, w64}
-use Rattle.lvm_num.specs.declared.descriptor.PvRow.{PvRow}
 use Rattle.lvm_num.specs.declared.descriptor.LvRow.{LvRow}
 use Rattle.lvm_num.specs.declared.descriptor.Mode.{Mode}
 use Rattle.lvm_num.specs.declared.descriptor.Policy.{Policy}
-use Rattle.lvm_num.specs.declared.descriptor.Descriptor.{Descriptor}
 use Rattle.lvm_num.specs.Descriptor.{is_size, most_volumes}
 use Rattle.lvm_num.specs.DescriptorBytes.{is_flag, mode_named, policy_named, name_at, version_at, member_count_at, members_at, volume_at, volumes_at, maps_at, descriptor_of}
-use Rattle.lvm_num.specs.Reading.{◌>>=◌, Rest, number_at, zeros_at, end_at}
+use Rattle.lvm_num.specs.Reading.{◌>>=◌, Rest, number_at, zeros_at}
 use Rattle.lvm_vgda.specs.Parts.{begin_at, rules_at, counts_at, rows_at, descriptor_by_parts, number_and_copies_at, mode_and_policy_at, volume_by_parts}
 
 -- two steps in one part
