@@ -19,7 +19,6 @@ use Rattle.lvm_disk.specs.Steps.{BothTold}
 use Rattle.lvm_kept.specs.Contents.{data_at, contents_of}
 use Rattle.lvm_kept.specs.Group.{IsOneOf}
 use Rattle.lvm_kept.specs.Plans.{ChangesBy}
-use Rattle.lvm_change.proofs.Booleans.{either, clash}
 use Rattle.lvm_commit.specs.LawsOfData.{IsFree, IsSectorOf}
 use Rattle.lvm_commit.specs.Settling.{IsOfSession, IsOfStatus, IsOfCommit}
 use Rattle.lvm_core.specs.State.{State, is_there}
