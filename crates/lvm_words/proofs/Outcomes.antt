@@ -13,7 +13,7 @@ use Rattle.clap.proofs.OnLiterals.{clap_on_literals}
 use Rattle.lvm_parse.specs.Words.{number_in}
 use Rattle.lvm_words.specs.CommandLine.{is_plain, is_signed, lvm_app, script_app}
 use Rattle.lvm_words.specs.Matched.{job_matched, with_both}
-use Rattle.lvm_words.specs.Words.{IsWithin, image_of, job_of, sim_of, with_two}
+use Rattle.lvm_words.specs.Words.{IsWithin, image_of, work_of, sim_of, with_two}
 use Rattle.lvm_words.specs.declared.job.Job.{Job}
 use Rattle.lvm_words.specs.declared.job.Job.TheVariants as job
 use Rattle.lvm_words.specs.declared.job.WordsFault.{WordsFault}
@@ -22,8 +22,8 @@ use Rattle.lvm_words.proofs.Digits.{accepted_number, both_true, number_accepted,
 use Rattle.lvm_words.proofs.Parses.{Numbered, app_for, fails, fails_first, first_parser, image, level, level_more, level_none, level_one, level_two, none_fault, numbered_entered, numbered_fault, script_alone, script_fault, script_more, second_parser, sim, two_kinds, unknown_fault}
 
 pub data Outcome (words : List Text) : Type 0 where
-  asks : (j : Job) → job_of words ≡ Ok j → IsWithin j → fault_of lvm_app words ≡ [] → job_matched (subcommand_of lvm_app words) ≡ Some j → Outcome words
-  refused : job_of words ≡ Err Usage → fails (fault_of lvm_app words) ≡ true → Outcome words
+  asks : (j : Job) → work_of words ≡ Ok j → IsWithin j → fault_of lvm_app words ≡ [] → job_matched (subcommand_of lvm_app words) ≡ Some j → Outcome words
+  refused : work_of words ≡ Err Usage → fails (fault_of lvm_app words) ≡ true → Outcome words
 
 -- ---- `script`
 
@@ -147,13 +147,13 @@ no_second j a b plain never = go (number_in a) (number_in b) refl
     go None (Some m) is = first j (Some m)
     go (Some n) (Some m) is = not_within j n m (λ _ _ above below. let yes = second_accepted j b m plain is above below in absurd (cc))
 
-job_of_pair : (j : Numbered) (a b : Text) → job_of ((app_for j).top.name ∷ a ∷ b ∷ []) ≡ job_by j (number_in a) (number_in b)
-job_of_pair sim a b = refl
-job_of_pair image a b = refl
+work_of_pair : (j : Numbered) (a b : Text) → work_of ((app_for j).top.name ∷ a ∷ b ∷ []) ≡ job_by j (number_in a) (number_in b)
+work_of_pair sim a b = refl
+work_of_pair image a b = refl
 
-job_of_none : (j : Numbered) → job_of ((app_for j).top.name ∷ []) ≡ Err Usage
-job_of_none sim = refl
-job_of_none image = refl
+work_of_none : (j : Numbered) → work_of ((app_for j).top.name ∷ []) ≡ Err Usage
+work_of_none sim = refl
+work_of_none image = refl
 
 matched_pair : (j : Numbered) (a b : Text) (n m : ℕ) → is_plain a ≡ true → is_plain b ≡ true → number_in a ≡ Some n → number_in b ≡ Some m → n ≤ first_high j → m ≤ second_high j
     → job_matched (subcommand_of lvm_app ((app_for j).top.name ∷ a ∷ b ∷ [])) ≡ Some (job_with j n m)
@@ -175,15 +175,15 @@ pair_outcome j a b plain_a plain_b = go (first_ok j a) (second_ok j b) refl refl
         let first = accepted_first j a plain_a ok_a in
         let second = accepted_second j b plain_b ok_b in
         let within = both_within j first.0 second.0 first.2 first.3 second.2 second.3 in
-        asks (job_with j first.0 second.0) (job_of_pair j a b ∙ ap₂ (job_by j) first.1 second.1 ∙ within.0) within.1
+        asks (job_with j first.0 second.0) (work_of_pair j a b ∙ ap₂ (job_by j) first.1 second.1 ∙ within.0) within.1
         (fault ∙ ap₂ (λ (x y : Bool). or_else (two_kinds (kinds_of x) (kinds_of y)) []) ok_a ok_b)
         (matched_pair j a b first.0 second.0 plain_a plain_b first.1 second.1 first.3 second.3)
-    go true false ok_a ok_b = refused (job_of_pair j a b ∙ no_second j a b plain_b ok_b) (ap fails (fault ∙ ap₂ (λ (x y : Bool). or_else (two_kinds (kinds_of x) (kinds_of y)) []) ok_a ok_b))
-    go false true ok_a ok_b = refused (job_of_pair j a b ∙ no_first j a b plain_a ok_a) (ap fails (fault ∙ ap₂ (λ (x y : Bool). or_else (two_kinds (kinds_of x) (kinds_of y)) []) ok_a ok_b))
-    go false false ok_a ok_b = refused (job_of_pair j a b ∙ no_first j a b plain_a ok_a) (ap fails (fault ∙ ap₂ (λ (x y : Bool). or_else (two_kinds (kinds_of x) (kinds_of y)) []) ok_a ok_b))
+    go true false ok_a ok_b = refused (work_of_pair j a b ∙ no_second j a b plain_b ok_b) (ap fails (fault ∙ ap₂ (λ (x y : Bool). or_else (two_kinds (kinds_of x) (kinds_of y)) []) ok_a ok_b))
+    go false true ok_a ok_b = refused (work_of_pair j a b ∙ no_first j a b plain_a ok_a) (ap fails (fault ∙ ap₂ (λ (x y : Bool). or_else (two_kinds (kinds_of x) (kinds_of y)) []) ok_a ok_b))
+    go false false ok_a ok_b = refused (work_of_pair j a b ∙ no_first j a b plain_a ok_a) (ap fails (fault ∙ ap₂ (λ (x y : Bool). or_else (two_kinds (kinds_of x) (kinds_of y)) []) ok_a ok_b))
 
 numbered_outcome : (j : Numbered) (rest : List Text) → list_all is_plain rest ≡ true → Outcome ((app_for j).top.name ∷ rest)
-numbered_outcome j [] plain = refused (job_of_none j) (ap fails (numbered_fault j []) ∙ fails_first (level (app_for j) []) [] (level_none j))
+numbered_outcome j [] plain = refused (work_of_none j) (ap fails (numbered_fault j []) ∙ fails_first (level (app_for j) []) [] (level_none j))
 numbered_outcome j (a ∷ []) plain =
     let at_a = both_true (is_plain a) true plain in
     refused refl (ap fails (numbered_fault j (a ∷ [])) ∙ fails_first (level (app_for j) (a ∷ [])) [] (level_one j a (plain_parts a at_a.0).0))
@@ -199,7 +199,7 @@ numbered_outcome j (a ∷ b ∷ c ∷ more) plain =
 
 -- ---- any words
 
-unknown_job : (name : Text) (rest : List Text) → bytes_eq name (codes "script") ≡ false → bytes_eq name (codes "sim") ≡ false → bytes_eq name (codes "image") ≡ false → job_of (name ∷ rest) ≡ Err Usage
+unknown_job : (name : Text) (rest : List Text) → bytes_eq name (codes "script") ≡ false → bytes_eq name (codes "sim") ≡ false → bytes_eq name (codes "image") ≡ false → work_of (name ∷ rest) ≡ Err Usage
 unknown_job name [] a b c = rw a refl
 unknown_job name (x ∷ []) a b c = refl
 unknown_job name (x ∷ y ∷ []) a b c = rw (b, c) refl
@@ -237,7 +237,7 @@ numbers_plain j a b mixed = go j (number_in a) (number_in b) refl refl
     go image (Some n) None is_a is_b = refl
     go j (Some n) (Some m) is_a is_b = let plain_a = number_is_plain a n is_a in let plain_b = number_is_plain b m is_b in absurd (cc)
 
-pub not_plain : (words : List Text) → list_all is_plain words ≡ false → job_of words ≡ Err Usage
+pub not_plain : (words : List Text) → list_all is_plain words ≡ false → work_of words ≡ Err Usage
 not_plain [] mixed = absurd (cc)
 not_plain (name ∷ []) mixed = fails_test (bytes_eq name (codes "script")) (Ok job.Script) (Err Usage)
     (λ is. let plain : is_plain name ≡ true = ap is_plain ((bytes_eq-Decides name (codes "script")).0 is) in absurd (cc))
@@ -257,18 +257,18 @@ not_plain (name ∷ a ∷ b ∷ []) mixed = go (bytes_eq name (codes "sim")) (by
 not_plain (name ∷ a ∷ b ∷ c ∷ more) mixed = refl
 
 -- where `clap` finds no fault the job is found, and is what the words ask for
-pub job_found : (words : List Text) → list_all is_plain words ≡ true → fault_of lvm_app words ≡ [] → (found : Option Job) → found ≡ job_matched (subcommand_of lvm_app words) → (j : Job) × (found ≡ Some j) × (job_of words ≡ Ok j) × IsWithin j
+pub job_found : (words : List Text) → list_all is_plain words ≡ true → fault_of lvm_app words ≡ [] → (found : Option Job) → found ≡ job_matched (subcommand_of lvm_app words) → (j : Job) × (found ≡ Some j) × (work_of words ≡ Ok j) × IsWithin j
 job_found words plain faultless found is = go (outcome words plain)
   where
-    go : Outcome words → (j : Job) × (found ≡ Some j) × (job_of words ≡ Ok j) × IsWithin j
+    go : Outcome words → (j : Job) × (found ≡ Some j) × (work_of words ≡ Ok j) × IsWithin j
     go (asks j asked within free matched) = (j, is ∙ matched, asked, within)
     go (refused none fails_so) = let bad : fails [] ≡ true = ap fails (sym faultless) ∙ fails_so in absurd (cc)
 
 -- and where it finds one they ask for none
-pub none_asked : (words : List Text) → list_all is_plain words ≡ true → (fault_of lvm_app words ≡ [] → ⊥) → job_of words ≡ Err Usage
+pub none_asked : (words : List Text) → list_all is_plain words ≡ true → (fault_of lvm_app words ≡ [] → ⊥) → work_of words ≡ Err Usage
 none_asked words plain faulty = go (outcome words plain)
   where
-    go : Outcome words → job_of words ≡ Err Usage
+    go : Outcome words → work_of words ≡ Err Usage
     go (asks j asked within free matched) = absurd (faulty free)
     go (refused none fails_so) = none
 

@@ -1,8 +1,8 @@
 -- The language of the command line.
-use Rattle.std.specs.Prelude.{ℕ, ◌≤◌, nat_le, ◌&&◌, if◌then◌else◌, List, [], ◌∷◌, Option, Some, Result, Ok, Err, codes, bytes_eq}
+use Rattle.std.specs.Prelude.{ℕ, ◌≤◌, nat_le, ◌&&◌, if◌then◌else◌, List, [], ◌∷◌, Option, Some, None, Result, Ok, Err, codes, bytes_eq}
 use Rattle.lvm_parse.specs.Words.{number_in}
 use Rattle.lvm_words.specs.declared.job.Job.{Job}
-use Rattle.lvm_words.specs.declared.job.Job.TheVariants.{Script, Sim, Image}
+use Rattle.lvm_words.specs.declared.job.Job.TheVariants.{Script, Sim, Image, Help, Version}
 use Rattle.lvm_words.specs.declared.job.WordsFault.{WordsFault}
 use Rattle.lvm_words.specs.declared.job.WordsFault.TheVariants.{Usage}
 
@@ -24,14 +24,33 @@ alone name = if bytes_eq name (codes "script") then Ok Script else Err Usage
 abbrev pub with_two : List ℕ → List ℕ → List ℕ → Result Job WordsFault
 with_two name first second = if bytes_eq name (codes "sim") then sim_of (number_in first) (number_in second) else (if bytes_eq name (codes "image") then image_of (number_in first) (number_in second) else Err Usage)
 
+-- what the words ask to be done
+abbrev pub work_of : List (List ℕ) → Result Job WordsFault
+work_of (name ∷ []) = alone name
+work_of (name ∷ first ∷ second ∷ []) = with_two name first second
+work_of words = Err Usage
+
+-- `--help` or `--version`
+abbrev pub told_by : List ℕ → Option Job
+told_by word = if bytes_eq word (codes "--help") then Some Help else (if bytes_eq word (codes "--version") then Some Version else None)
+
+-- what the words ask to be told of the program
+abbrev pub told_of : List (List ℕ) → Option Job
+told_of (word ∷ []) = told_by word
+told_of words = None
+
+abbrev pub told_or : Option Job → Result Job WordsFault → Result Job WordsFault
+told_or (Some job) work = Ok job
+told_or None work = work
+
 -- what the words behind the program's name ask for
 abbrev pub job_of : List (List ℕ) → Result Job WordsFault
-job_of (name ∷ []) = alone name
-job_of (name ∷ first ∷ second ∷ []) = with_two name first second
-job_of words = Err Usage
+job_of words = told_or (told_of words) (work_of words)
 
 -- what is asked for is as large as it may be
 abbrev pub IsWithin : Job → Type 0
 IsWithin Script = Unit {0}
 IsWithin (Sim disks mib) = (1 ≤ disks) × (disks ≤ 32) × (1 ≤ mib) × (mib ≤ 64)
 IsWithin (Image disk mib) = (disk ≤ 127) × (1 ≤ mib) × (mib ≤ 4096)
+IsWithin Help = Unit {0}
+IsWithin Version = Unit {0}

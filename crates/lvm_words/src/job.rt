@@ -10,6 +10,10 @@ pub enum Job {
     Sim { disks: u16, mib: u32 },
     /// `image N MIB`: a new image file for disk N, 0 to 127, of so many MiB of zeros, 1 to 4,096.
     Image { disk: u16, mib: u32 },
+    /// `--help`: how the words go.
+    Help,
+    /// `--version`: which program this is.
+    Version,
 }
 
 /// Why words were not read.
