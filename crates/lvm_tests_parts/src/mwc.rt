@@ -49,7 +49,7 @@ fn end(rt: &impl Abort, cache: &mut Cache, disk: u16, ok: bool) {
 }
 
 fn is_named_only_here(cache: &Cache, disk: u16, group: u32) -> bool {
-    let other = 127 - disk.min(127);
+    let other = if disk == 0 { 127 } else { 0 };
     cache.is_named(disk, 1, group)
         && !cache.is_named(other, 1, group)
         && !cache.is_named(5, 1, group)

@@ -1,8 +1,12 @@
-ghost use Rattle.std.specs.Prelude.{IsTrue, IsSome, ◌↔◌};
-ghost use Rattle.lvm_num.specs.Descriptor.{volume_of, member_of};
+ghost use Rattle.std.specs.Prelude.{IsTrue, IsSome, ◌≡◌, ◌==◌, ◌↔◌, IfOk};
+ghost use Rattle.std.specs.List.{find};
+ghost use Rattle.std.specs.Option.{option_copied};
+ghost use Rattle.lvm_num.specs.Descriptor.{IsValid, volume_of, member_of};
+ghost use Rattle.lvm_num.specs.declared.descriptor.LvRow.{LvRow};
+ghost use Rattle.lvm_num.specs.declared.descriptor.PvRow.{PvRow};
 
 use crate::fixtures::{Member, Volume, check, group, status, volume};
-use lvm_num::{Descriptor, Pp, Rows, Text};
+use lvm_num::{Descriptor, LvRow, Pp, PvRow, Rows, Text};
 use lvm_show::{show_disk, show_group, show_map, show_volumes};
 use lvm_stale::StaleTable;
 use std::process::Abort;
@@ -23,22 +27,24 @@ enum List {
     Disk(u16),
 }
 
-fn has_volume(d: &Descriptor, lv: u16) -> bool
-    ensures { IsTrue result ↔ IsSome (volume_of d.now lv) }
+// The volume of a number.
+fn volume_of(lvs: &[LvRow], number: u16) -> Option<&LvRow>
+    ensures { option_copied result ≡ find (λ (row : LvRow). row.number == number) lvs.now }
 {
-    d.lvs.as_slice().iter().any(|row| row.number == lv)
+    lvs.iter().find(|row| row.number == number)
 }
 
-fn has_member(d: &Descriptor, disk: u16) -> bool
-    ensures { IsTrue result ↔ IsSome (member_of d.now disk) }
+// The member on a disk.
+fn member_of(pvs: &[PvRow], disk: u16) -> Option<&PvRow>
+    ensures { option_copied result ≡ find (λ (row : PvRow). row.disk == disk) pvs.now }
 {
-    d.pvs.as_slice().iter().any(|row| row.disk == disk)
+    pvs.iter().find(|row| row.disk == disk)
 }
 
 fn map(rt: &(impl Abort + AllocGlobal), d: &Descriptor, t: &StaleTable, lv: u16) -> Text {
     let valid = d.is_valid();
     assert!(rt; valid);
-    let there = has_volume(d, lv);
+    let there = volume_of(d.lvs.as_slice(), lv).is_some();
     assert!(rt; there);
     show_map(rt.alloc(), d, t, lv).expect(rt, "memory")
 }
@@ -46,7 +52,7 @@ fn map(rt: &(impl Abort + AllocGlobal), d: &Descriptor, t: &StaleTable, lv: u16)
 fn disk(rt: &(impl Abort + AllocGlobal), d: &Descriptor, t: &StaleTable, disk: u16) -> Text {
     let valid = d.is_valid();
     assert!(rt; valid);
-    let there = has_member(d, disk);
+    let there = member_of(d.pvs.as_slice(), disk).is_some();
     assert!(rt; there);
     show_disk(rt.alloc(), d, t, disk).expect(rt, "memory")
 }

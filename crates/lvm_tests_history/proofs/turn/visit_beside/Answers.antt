@@ -8,5 +8,7 @@ try_enter-requires-clause-holds g c = (c.args.client, idle_holds c.args.turn.now
 pub returns-clause-one : goal.returns-clause-one
 returns-clause-one g c =
     let found = c.in-Some.desk in
-    let told = record { entries = found.history.facts; fixed = found.history.run ∷ []; counts = found.lent ∷ [] } in
-    idle_left c.args.turn.now.table (c.args.client ∷ []) c.args.pass c.requires.one c.try_enter.new.pass c.leave.new.pass told told c.try_enter.ensures.at c.in-Some.ensures.entered c.leave.ensures
+    idle_left c.args.turn.now.table (c.args.client ∷ []) c.args.pass c.requires.one c.try_enter.new.pass c.leave.new.pass
+    record { entries = found.history.facts; fixed = found.history.run ∷ []; counts = found.lent ∷ [] }
+    record { entries = found.history.facts; fixed = found.history.run ∷ []; counts = found.lent ∷ [] }
+    c.try_enter.ensures.at c.in-Some.ensures.entered c.leave.ensures
