@@ -1,4 +1,7 @@
 //! A case, line by line.
+ghost use Rattle.std.specs.Prelude.{IfOk};
+ghost use Rattle.lvm_disk.specs.Device.{IsReady};
+ghost use Rattle.lvm_disk.specs.Memory.{device_of};
 
 use crate::fault::Fault;
 use crate::outside::Outside;
@@ -7,10 +10,10 @@ use crate::print::{print_line, print_run, print_words};
 use crate::run::{Ran, Sizes, blank, restarted, run};
 use crate::script::Script;
 use crate::sweep::{Swept, Swing, sweep};
+use crate::words::{Answered, answer};
 use lvm_disk::MemShelf;
-use lvm_io::{MemClock, MemSink, Sink};
-use lvm_num::{Rows, Text};
-use lvm_top::run_words;
+use lvm_io::{MemClock, Sink};
+use lvm_num::Text;
 use std::alloc::Global;
 
 /// How many entries the history of a run has room for where nothing else is said.
@@ -73,52 +76,73 @@ impl Bench {
     // Says something of the disks or of the next run.
     fn set(&mut self, alloc: Global, verb: &str, rest: &str) -> Result<(), Fault> {
         match verb {
-            "sim" => self.sizes.sectors = parse::simulated(alloc, rest)?,
-            "disks" => self.sizes.sectors = parse::numbers(alloc, rest)?,
-            "block" => self.watched = Some(parse::place(rest)?),
-            "unended" => self.script.unend(),
-            _ => return self.set_outside(verb, rest),
+            "sim" => self.set_sizes(parse::simulated(alloc, rest)),
+            "disks" => self.set_sizes(parse::numbers(alloc, rest)),
+            "entries" => self.set_entries(rest),
+            "block" => self.watch(rest),
+            "clock" => self.set_clock(rest),
+            "plan" => self.outside.push_act(rest),
+            "source" => self.outside.push_fault(rest),
+            "sink" => self.outside.set_room(rest),
+            "unended" => {
+                self.script.unend();
+                Ok(())
+            }
+            _ => Err(Fault::Line),
         }
+    }
+
+    fn set_sizes(&mut self, sectors: Result<Vec<u64>, Fault>) -> Result<(), Fault> {
+        self.sizes.sectors = sectors?;
         Ok(())
     }
 
-    // Says something of what the next run meets beside.
-    fn set_outside(&mut self, verb: &str, rest: &str) -> Result<(), Fault> {
-        match verb {
-            "plan" => self.outside.plan.push(parse::planned(rest)?)?,
-            "source" => self.outside.fails.push(parse::number(rest)?)?,
-            "sink" => self.outside.sink = parse::small(rest)? as usize,
-            "entries" => self.sizes.entries = parse::small(rest)?,
-            "clock" => self.clock = MemClock::new(parse::number(rest)?.max(1)),
-            _ => return Err(Fault::Line),
-        }
+    fn set_entries(&mut self, rest: &str) -> Result<(), Fault> {
+        self.sizes.entries = parse::small(rest)?;
+        Ok(())
+    }
+
+    fn set_clock(&mut self, rest: &str) -> Result<(), Fault> {
+        let first = parse::number(rest)?;
+        self.clock = MemClock::new(first.max(1));
+        Ok(())
+    }
+
+    fn watch(&mut self, rest: &str) -> Result<(), Fault> {
+        self.watched = Some(parse::place(rest)?);
         Ok(())
     }
 
     // The disks of the next run.
-    fn shelf(&self, alloc: Global) -> Result<MemShelf, Fault> {
+    fn shelf(&self, alloc: Global) -> Result<MemShelf, Fault>
+        ensures { IfOk result (λ shelf. IsReady (device_of shelf)) }
+    {
         match &self.left {
-            None => blank(alloc, &self.sizes.sectors, &self.outside.plan),
-            Some(left) => restarted(alloc, left, &self.outside.plan),
+            None => blank(alloc, &self.sizes.sectors, self.outside.plan()),
+            Some(left) => restarted(alloc, left, self.outside.plan()),
         }
     }
 
-    fn run<O: Sink>(&mut self, alloc: Global, out: &mut O) -> Result<(), Fault> {
+    // The next run.
+    fn next_run(&mut self, alloc: Global) -> Result<Ran, Fault> {
+        let streams = self.outside.streams(alloc, self.script.text())?;
         let shelf = self.shelf(alloc)?;
-        let ran = run(
-            alloc,
-            shelf,
-            self.script.text(),
-            &self.outside,
-            &mut self.clock,
-            self.sizes.entries,
-        )?;
+        Ok(run(alloc, streams, shelf, &mut self.clock, self.sizes.entries))
+    }
+
+    fn run<O: Sink>(&mut self, alloc: Global, out: &mut O) -> Result<(), Fault> {
+        let ran = self.next_run(alloc)?;
         print_run(alloc, &ran, self.watched, out)?;
+        self.leave(alloc, ran);
+        Ok(())
+    }
+
+    // Keeps the disks as a run leaves them, and forgets what it was given.
+    fn leave(&mut self, alloc: Global, ran: Ran) {
         let Ran { ended, out: _ } = ran;
         self.left = Some(ended.shelf);
         self.script = Script::new(alloc);
         self.outside = Outside::new(alloc);
-        Ok(())
     }
 
     fn sweep<O: Sink>(
@@ -152,38 +176,14 @@ impl Bench {
 
     fn words<O: Sink>(&self, alloc: Global, rest: &str, out: &mut O) -> Result<(), Fault> {
         let words = parse::bracketed(alloc, rest)?;
+        let answered = self.answer(alloc, &words)?;
+        print_words(alloc, &answered, out)
+    }
+
+    // What the program answers to words.
+    fn answer(&self, alloc: Global, words: &[Text]) -> Result<Answered, Fault> {
+        let input = self.outside.source(alloc, self.script.text())?;
         let files = blank(alloc, &self.sizes.sectors, &[])?;
-        self.answer(alloc, &words, files, out)
+        answer(alloc, words, input, files)
     }
-
-    // Lets the program answer words.
-    fn answer<O: Sink>(
-        &self,
-        alloc: Global,
-        words: &[Text],
-        files: MemShelf,
-        out: &mut O,
-    ) -> Result<(), Fault> {
-        let mut input = self.outside.source(alloc, self.script.text())?;
-        let mut written = sink(alloc)?;
-        let mut said = sink(alloc)?;
-        let mut images = sink(alloc)?;
-        let mut clock = MemClock::new(FIRST);
-        let ended = run_words(
-            alloc,
-            words,
-            &mut input,
-            &mut written,
-            &mut said,
-            &mut clock,
-            files,
-            &mut images,
-        );
-        print_words(alloc, ended.status, written.bytes(), said.bytes(), out)
-    }
-}
-
-// A sink with ample room.
-fn sink(alloc: Global) -> Result<MemSink, Fault> {
-    Ok(MemSink::new(alloc, 65_536, Rows::empty(alloc))?)
 }

@@ -32,6 +32,7 @@ mod print;
 mod run;
 mod script;
 mod sweep;
+mod words;
 
 use bench::Bench;
 use lvm_io::StdSink;

@@ -1,8 +1,9 @@
 //! What a run meets beside its script and its disks.
 
 use crate::fault::Fault;
+use crate::parse;
 use lvm_disk::Planned;
-use lvm_io::MemSource;
+use lvm_io::{MemSink, MemSource};
 use lvm_num::Rows;
 use std::alloc::Global;
 
@@ -12,9 +13,16 @@ const AMPLE: usize = 65_536;
 /// What is planned for the disks, which reads of the source fail, and how many bytes the sink takes.
 #[derive(Drop)]
 pub struct Outside {
-    pub plan: Vec<Planned>,
-    pub fails: Vec<u64>,
-    pub sink: usize,
+    plan: Vec<Planned>,
+    fails: Vec<u64>,
+    room: usize,
+}
+
+/// Where a run reads its script and writes its replies.
+#[derive(Drop)]
+pub struct Streams {
+    pub input: MemSource,
+    pub out: MemSink,
 }
 
 impl Outside {
@@ -23,8 +31,30 @@ impl Outside {
         Outside {
             plan: Vec::new(alloc),
             fails: Vec::new(alloc),
-            sink: AMPLE,
+            room: AMPLE,
         }
+    }
+
+    pub fn plan(&self) -> &[Planned] {
+        &self.plan
+    }
+
+    /// Plans an act.
+    pub fn push_act(&mut self, text: &str) -> Result<(), Fault> {
+        let planned = parse::planned(text)?;
+        Ok(self.plan.push(planned)?)
+    }
+
+    /// Lets a read of the source fail.
+    pub fn push_fault(&mut self, text: &str) -> Result<(), Fault> {
+        let read = parse::number(text)?;
+        Ok(self.fails.push(read)?)
+    }
+
+    /// Gives the sink another room.
+    pub fn set_room(&mut self, text: &str) -> Result<(), Fault> {
+        self.room = parse::small(text)? as usize;
+        Ok(())
     }
 
     /// A source of this script.
@@ -33,4 +63,20 @@ impl Outside {
         let fails = Vec::from_slice(alloc, &self.fails)?;
         Ok(MemSource::new(Rows::new(bytes), Rows::new(fails)))
     }
+
+    /// A source of this script, and a sink.
+    pub fn streams(&self, alloc: Global, script: &[u8]) -> Result<Streams, Fault> {
+        let input = self.source(alloc, script)?;
+        let out = sink(alloc, self.room)?;
+        Ok(Streams { input, out })
+    }
+}
+
+fn sink(alloc: Global, room: usize) -> Result<MemSink, Fault> {
+    Ok(MemSink::new(alloc, room, Rows::empty(alloc))?)
+}
+
+/// A sink with ample room.
+pub fn ample(alloc: Global) -> Result<MemSink, Fault> {
+    sink(alloc, AMPLE)
 }

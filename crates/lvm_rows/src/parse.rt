@@ -37,11 +37,7 @@ pub fn split(text: &str) -> (&str, &str) {
 
 /// Numbers between blanks.
 pub fn numbers(alloc: Global, text: &str) -> Result<Vec<u64>, Fault> {
-    let mut numbers = Vec::new(alloc);
-    for word in text.split_whitespace() {
-        numbers.push(number(word)?)?;
-    }
-    Ok(numbers)
+    text.split_whitespace().map(number).try_collect(alloc)
 }
 
 /// The sizes in sectors of disks, of which so many have so many MiB.
@@ -79,11 +75,10 @@ pub fn planned(text: &str) -> Result<Planned, Fault> {
 /// Acts of one name, one for each word behind it.
 pub fn acts(alloc: Global, text: &str) -> Result<Vec<Act>, Fault> {
     let (name, words) = split(text);
-    let mut acts = Vec::new(alloc);
-    for word in words.split_whitespace() {
-        acts.push(act(name, word)?)?;
-    }
-    Ok(acts)
+    words
+        .split_whitespace()
+        .map(|word| act(name, word))
+        .try_collect(alloc)
 }
 
 /// A disk, and the number of one of its sectors.

@@ -2,6 +2,7 @@
 
 use crate::fault::Fault;
 use crate::run::{Ran, judged};
+use crate::words::Answered;
 use lvm_io::{Sink, write_all};
 use std::alloc::Global;
 
@@ -30,15 +31,10 @@ pub fn print_run<O: Sink>(
 }
 
 /// Prints how a run by words ended, what it wrote, and what it said beside.
-pub fn print_words<O: Sink>(
-    alloc: Global,
-    status: u8,
-    written: &[u8],
-    said: &[u8],
-    out: &mut O,
-) -> Result<(), Fault> {
-    print_lines(out, written)?;
-    print_lines(out, said)?;
+pub fn print_words<O: Sink>(alloc: Global, answered: &Answered, out: &mut O) -> Result<(), Fault> {
+    print_lines(out, answered.out.bytes())?;
+    print_lines(out, answered.err.bytes())?;
+    let status = answered.status;
     let line = format!(in alloc; "status {status}\n")?;
     Ok(write_all(out, line.as_bytes())?)
 }

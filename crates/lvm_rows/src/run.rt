@@ -4,7 +4,7 @@ ghost use Rattle.lvm_disk.specs.Device.{IsReady};
 ghost use Rattle.lvm_disk.specs.Memory.{device_of};
 
 use crate::fault::Fault;
-use crate::outside::Outside;
+use crate::outside::Streams;
 use lvm_disk::{MemShelf, Planned, Shelf, names_disks};
 use lvm_io::{MemClock, MemSink};
 use lvm_num::Rows;
@@ -73,12 +73,11 @@ pub fn restarted(alloc: Global, shelf: &MemShelf, plan: &[Planned]) -> Result<Me
 /// Runs a script.
 pub fn run(
     alloc: Global,
+    streams: Streams,
     shelf: MemShelf,
-    script: &[u8],
-    outside: &Outside,
     clock: &mut MemClock,
     entries: u32,
-) -> Result<Ran, Fault>
+) -> Ran
     requires { IsReady (device_of shelf) }
 {
     let room = Room {
@@ -87,10 +86,9 @@ pub fn run(
         entries: entries.max(4),
         bytes: 1_048_576,
     };
-    let mut input = outside.source(alloc, script)?;
-    let mut out = MemSink::new(alloc, outside.sink, Rows::empty(alloc))?;
+    let Streams { mut input, mut out } = streams;
     let ended = run_script(alloc, &mut input, &mut out, shelf, clock, room);
-    Ok(Ran { ended, out })
+    Ran { ended, out }
 }
 
 /// What a run's history says that its status doesn't: whether it is legal, and whether it allows what stands in a

@@ -27,16 +27,10 @@ pub struct Swing<'a> {
 
 // Runs some of the lines, with a plan.
 fn try_lines(alloc: Global, swept: &Swept, lines: &[u8], plan: &[Planned]) -> Result<Ran, Fault> {
+    let streams = swept.outside.streams(alloc, lines)?;
     let shelf = blank(alloc, &swept.sizes.sectors, plan)?;
     let mut clock = MemClock::new(7);
-    run(
-        alloc,
-        shelf,
-        lines,
-        swept.outside,
-        &mut clock,
-        swept.sizes.entries,
-    )
+    Ok(run(alloc, streams, shelf, &mut clock, swept.sizes.entries))
 }
 
 // The plan of a sweep with an act at a call.
@@ -47,7 +41,7 @@ fn plan_at(
     act: Act,
     again: Option<u64>,
 ) -> Result<Vec<Planned>, Fault> {
-    let mut plan = Vec::from_slice(alloc, &swept.outside.plan)?;
+    let mut plan = Vec::from_slice(alloc, swept.outside.plan())?;
     plan.push(Planned { call, act })?;
     if let Some(later) = again {
         plan.push(Planned {
@@ -115,8 +109,8 @@ fn sweep_call(
 
 /// The different answers from the marked lines on, where an act is done before one of their calls.
 pub fn sweep(alloc: Global, swept: &Swept, swing: &Swing) -> Result<BTreeSet<Vec<u8>>, Fault> {
-    let before = try_lines(alloc, swept, swept.script.before(), &swept.outside.plan)?;
-    let through = try_lines(alloc, swept, swept.script.through(), &swept.outside.plan)?;
+    let before = try_lines(alloc, swept, swept.script.before(), swept.outside.plan())?;
+    let through = try_lines(alloc, swept, swept.script.through(), swept.outside.plan())?;
     let first = before.ended.shelf.calls().saturating_add(1);
     let mut endings = BTreeSet::new(alloc);
     for number in first..=through.ended.shelf.calls() {
