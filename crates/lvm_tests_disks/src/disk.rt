@@ -1,266 +1,281 @@
-// A shelf in memory at work. Its starts and reaps go through the trait.
-ghost use Rattle.std.specs.Prelude.{◌≤◌};
+//! A shelf in memory at work: what its calls answer, one after the other. Its starts and reaps go
+//! through the trait.
+use crate::fixtures::{blank_shelf, plan_of, start};
+use Answer::*;
+use Step::*;
+use lvm_disk::{Act, Arrange, MemShelf, Planned, Reaped, Shelf, Started, names_disks};
+use lvm_num::Pbuf;
+use std::process::Abort;
 
-use crate::{Act, Arrange, MemShelf, Planned, Reaped, Shelf, Started, names_disks};
-use lvm_num::{Memory, Pbuf, Rows};
-use std::alloc::Global;
-use std::test::Fail;
-
-// Two disks of 16 sectors.
-fn shelf(alloc: Global, plan: &[Planned]) -> Result<MemShelf, Fail> {
-    if !names_disks(plan, 2) {
-        return Err(Fail::from("no such disk"));
-    }
-    let plan = Rows::new(Vec::from_slice(alloc, plan)?);
-    Ok(MemShelf::new(alloc, &[16, 16], plan, 8)?)
-}
-
-fn start<S: Shelf>(
-    shelf: &mut S,
-    write: bool,
-    disk: u16,
-    at: (u64, u32),
-    buf: Pbuf,
-) -> Option<u64> {
-    let (first, count) = at;
-    if disk >= shelf.disks() || count < 1 || count > 256 || shelf.flights() >= 1024 {
-        return None;
-    }
-    if first > 1000 || first + count as u64 > shelf.sectors(disk) {
-        return None;
-    }
-    let started = if write {
-        shelf.start_write(disk, first, count, buf)
-    } else {
-        shelf.start_read(disk, first, count, buf)
-    };
-    match started {
-        Started::Ticket(ticket) => Some(ticket),
-        Started::Dark(_) => None,
-    }
-}
-
-// Starts a write of sectors of one byte, which is the buffer's number too.
-fn write<S: Shelf>(
-    alloc: Global,
-    shelf: &mut S,
-    disk: u16,
-    first: u64,
-    count: u32,
-    byte: u8,
-) -> Result<Option<u64>, Memory> {
-    let mut buf = Pbuf::fresh(alloc, byte as u32)?;
-    for k in 0..8 {
-        buf.set_sector(k, &[byte; 512]);
-    }
-    Ok(start(shelf, true, disk, (first, count), buf))
-}
-
-fn read<S: Shelf>(
-    alloc: Global,
-    shelf: &mut S,
-    disk: u16,
-    first: u64,
-    count: u32,
-) -> Result<Option<u64>, Memory> {
-    Ok(start(shelf, false, disk, (first, count), Pbuf::fresh(alloc, 0)?))
+// What is asked of the shelf.
+#[derive(Clone, Copy)]
+enum Step {
+    // A write of sectors, of one byte, which is its buffer's number too.
+    Write(u16, u64, u32, u8),
+    // A read of sectors, into a buffer of zeros.
+    Read(u16, u64, u32),
+    Reap,
+    NextFreed,
+    Order(Arrange),
+    Replan(&'static [Planned]),
+    // The last byte of a sector.
+    ByteAt(u16, u64),
+    Faults(u16),
+    Flights,
+    Calls,
 }
 
 #[derive(Clone, Copy, Debug, PartialEq, Eq)]
-enum End {
+enum Answer {
+    Ticket(u64),
     Empty,
+    // The ticket, and the first byte of the buffer.
     Done(u64, u8),
     Failed(u64),
+    // How many buffers are given back.
     Dark(u32),
+    Is(u64),
+    Taken,
+    Nothing,
+    // No call may be asked so.
+    Refused,
 }
 
-// The end of a transfer, with the first byte of its buffer.
-fn reap<S: Shelf>(shelf: &mut S) -> Option<End> {
+type Script = (&'static str, &'static [Planned], &'static [(Step, Answer)]);
+
+// On two disks of 16 sectors.
+static SCRIPTS: [Script; 7] = [
+    (
+        "a write is read back",
+        &[],
+        &[
+            (Write(1, 5, 2, 7), Ticket(0)),
+            (ByteAt(1, 5), Is(0)),
+            (Reap, Done(0, 7)),
+            (Read(1, 6, 1), Ticket(0)),
+            (Reap, Done(0, 7)),
+            (ByteAt(1, 6), Is(7)),
+            (ByteAt(0, 5), Is(0)),
+            (Calls, Is(4)),
+        ],
+    ),
+    // Three sectors are under way, of two writes with a read between them. The word 5 picks the first
+    // and the third.
+    (
+        "a cut writes the sectors that its word picks",
+        &[
+            Planned {
+                call: 4,
+                act: Act::Cut(5),
+            },
+            Planned {
+                call: 4,
+                act: Act::Cut(2),
+            },
+        ],
+        &[
+            (Write(0, 1, 2, 7), Ticket(0)),
+            (Read(0, 9, 4), Ticket(1)),
+            (Write(1, 3, 1, 9), Ticket(2)),
+            (Reap, Dark(3)),
+            (ByteAt(0, 1), Is(7)),
+            (ByteAt(0, 2), Is(0)),
+            (ByteAt(1, 3), Is(9)),
+            (Write(0, 1, 1, 6), Dark(1)),
+            (NextFreed, Is(7)),
+            (NextFreed, Is(0)),
+            (NextFreed, Is(9)),
+            (NextFreed, Nothing),
+        ],
+    ),
+    (
+        "a failed write leaves the sectors that were picked",
+        &[
+            Planned {
+                call: 2,
+                act: Act::Pick(2),
+            },
+            Planned {
+                call: 2,
+                act: Act::Fail(0),
+            },
+            Planned {
+                call: 5,
+                act: Act::Heal(0),
+            },
+        ],
+        &[
+            (Write(0, 4, 3, 7), Ticket(0)),
+            (Reap, Failed(0)),
+            (ByteAt(0, 5), Is(7)),
+            (Faults(0), Is(1)),
+            (Read(0, 5, 1), Ticket(0)),
+            (Read(0, 5, 1), Ticket(1)),
+            (Reap, Done(0, 7)),
+            (Faults(0), Is(1)),
+        ],
+    ),
+    (
+        "a delayed transfer is passed over",
+        &[Planned {
+            call: 1,
+            act: Act::Delay(2),
+        }],
+        &[
+            (Write(0, 4, 1, 7), Ticket(0)),
+            (Write(0, 4, 1, 8), Ticket(1)),
+            (Reap, Done(1, 8)),
+            (Reap, Empty),
+            (Reap, Done(0, 7)),
+            (ByteAt(0, 4), Is(7)),
+        ],
+    ),
+    (
+        "the least free ticket is used again",
+        &[],
+        &[
+            (Write(0, 0, 1, 1), Ticket(0)),
+            (Write(0, 1, 1, 2), Ticket(1)),
+            (Reap, Done(0, 1)),
+            (Write(0, 2, 1, 3), Ticket(0)),
+            (Reap, Done(1, 2)),
+        ],
+    ),
+    (
+        "arrangements fail, heal and cut",
+        &[],
+        &[
+            (Order(Arrange::Fail(1)), Taken),
+            (Write(1, 0, 1, 1), Ticket(0)),
+            (Reap, Failed(0)),
+            (Order(Arrange::Heal(1)), Taken),
+            (Write(1, 0, 1, 2), Ticket(0)),
+            (Reap, Done(0, 2)),
+            (Write(1, 1, 1, 3), Ticket(0)),
+            (Order(Arrange::Cut(1)), Taken),
+            (Flights, Is(0)),
+            (ByteAt(1, 1), Is(3)),
+        ],
+    ),
+    (
+        "a plan may be replaced",
+        &[Planned {
+            call: 2,
+            act: Act::Cut(0),
+        }],
+        &[
+            (
+                Replan(&[Planned {
+                    call: 3,
+                    act: Act::Cut(1),
+                }]),
+                Taken,
+            ),
+            (Write(0, 0, 1, 1), Ticket(0)),
+            (Write(0, 1, 1, 2), Ticket(1)),
+            (Reap, Dark(2)),
+            (ByteAt(0, 0), Is(1)),
+            (ByteAt(0, 1), Is(0)),
+        ],
+    ),
+];
+
+// A buffer of one byte, as a transfer's.
+fn buffer(rt: &(impl Abort + AllocGlobal), byte: u8) -> Pbuf {
+    let mut buf = Pbuf::fresh(rt.alloc(), u32::from(byte)).expect(rt, "memory");
+    for k in 0..8 {
+        buf.set_sector(k, &[byte; 512]);
+    }
+    buf
+}
+
+fn started<S: Shelf>(shelf: &mut S, write: bool, disk: u16, at: (u64, u32), buf: Pbuf) -> Answer {
+    match start(shelf, write, disk, at, buf) {
+        Some(Started::Ticket(ticket)) => Ticket(ticket),
+        Some(Started::Dark(_)) => Dark(1),
+        None => Refused,
+    }
+}
+
+fn reap<S: Shelf>(shelf: &mut S) -> Answer {
     if shelf.flights() == 0 {
-        return None;
+        return Refused;
     }
-    Some(match shelf.reap() {
-        Reaped::Empty => End::Empty,
-        Reaped::Done { ticket, buf } => End::Done(ticket, buf.sector(0)[0]),
-        Reaped::Failed { ticket, .. } => End::Failed(ticket),
-        Reaped::Dark { freed } => End::Dark(freed),
-    })
-}
-
-fn image(shelf: &MemShelf, disk: u16) -> Option<&[u8]> {
-    if disk < shelf.disks() {
-        Some(shelf.image(disk))
-    } else {
-        None
+    match shelf.reap() {
+        Reaped::Empty => Empty,
+        Reaped::Done { ticket, buf } => Done(ticket, buf.sector(0)[0]),
+        Reaped::Failed { ticket, .. } => Failed(ticket),
+        Reaped::Dark { freed } => Dark(freed),
     }
 }
 
-// The last byte of a sector.
-fn byte_at(shelf: &MemShelf, disk: u16, sector: u16) -> Option<u8> {
-    image(shelf, disk)?
-        .get(sector as usize * 512 + 511)
-        .copied()
-}
-
-fn faults<S: Shelf>(shelf: &S, disk: u16) -> Option<u64> {
-    if disk < shelf.disks() {
-        Some(shelf.faults(disk))
-    } else {
-        None
+fn next_freed<S: Shelf>(shelf: &mut S) -> Answer {
+    match shelf.next_freed() {
+        Some(buf) => Is(u64::from(buf.number())),
+        None => Nothing,
     }
 }
 
-fn arrange<S: Shelf>(shelf: &mut S, what: Arrange) -> bool {
+fn faults<S: Shelf>(shelf: &S, disk: u16) -> Answer {
+    if disk >= shelf.disks() {
+        return Refused;
+    }
+    Is(shelf.faults(disk))
+}
+
+fn arrange<S: Shelf>(shelf: &mut S, what: Arrange) -> Answer {
     match what {
-        Arrange::Fail(disk) | Arrange::Heal(disk) if disk >= shelf.disks() => return false,
+        Arrange::Fail(disk) | Arrange::Heal(disk) if disk >= shelf.disks() => return Refused,
         _ => {}
     }
-    shelf.arrange(what)
+    if shelf.arrange(what) { Taken } else { Nothing }
 }
 
-fn one_image(alloc: Global, bytes: Rows<u8>) -> Result<MemShelf, Fail> {
-    if bytes.len() % 512 != 0 {
-        return Err(Fail::from("not whole sectors"));
-    }
-    let mut images = Vec::new(alloc);
-    images.push(bytes)?;
-    Ok(MemShelf::from_images(alloc, Rows::new(images), Rows::empty(alloc), 0)?)
-}
-
-fn replan(alloc: Global, shelf: &mut MemShelf, plan: &[Planned]) -> Result<(), Fail> {
+fn replan(rt: &(impl Abort + AllocGlobal), shelf: &mut MemShelf, plan: &[Planned]) -> Answer {
     if !names_disks(plan, shelf.disks()) {
-        return Err(Fail::from("no such disk"));
+        return Refused;
     }
-    shelf.set_plan(Rows::new(Vec::from_slice(alloc, plan)?));
-    Ok(())
+    shelf.set_plan(plan_of(rt, plan));
+    Taken
 }
 
-fn at(call: u64, act: Act) -> Planned {
-    Planned { call, act }
-}
-
-#[test]
-fn a_write_is_read_back(rt: HostRuntime) -> Result<(), Fail> {
-    let alloc = rt.alloc();
-    let mut shelf = shelf(alloc, &[])?;
-    assert_eq!(rt; write(alloc, &mut shelf, 1, 5, 2, 7)?, Some(0));
-    assert_eq!(rt; byte_at(&shelf, 1, 5), Some(0));
-    assert_eq!(rt; reap(&mut shelf), Some(End::Done(0, 7)));
-    assert_eq!(rt; read(alloc, &mut shelf, 1, 6, 1)?, Some(0));
-    assert_eq!(rt; reap(&mut shelf), Some(End::Done(0, 7)));
-    assert_eq!(rt; byte_at(&shelf, 1, 6), Some(7));
-    assert_eq!(rt; byte_at(&shelf, 0, 5), Some(0));
-    assert_eq!(rt; shelf.calls(), 4);
-    Ok(())
-}
-
-// Three sectors are under way, of two writes with a read between them. The word 5 picks the first and
-// the third.
-#[test]
-fn a_cut_writes_the_sectors_that_its_word_picks(rt: HostRuntime) -> Result<(), Fail> {
-    let alloc = rt.alloc();
-    let mut shelf = shelf(alloc, &[at(4, Act::Cut(5)), at(4, Act::Cut(2))])?;
-    assert_eq!(rt; write(alloc, &mut shelf, 0, 1, 2, 7)?, Some(0));
-    assert_eq!(rt; read(alloc, &mut shelf, 0, 9, 4)?, Some(1));
-    assert_eq!(rt; write(alloc, &mut shelf, 1, 3, 1, 9)?, Some(2));
-    assert_eq!(rt; reap(&mut shelf), Some(End::Dark(3)));
-    assert_eq!(rt; byte_at(&shelf, 0, 1), Some(7));
-    assert_eq!(rt; byte_at(&shelf, 0, 2), Some(0));
-    assert_eq!(rt; byte_at(&shelf, 1, 3), Some(9));
-    assert_eq!(rt; write(alloc, &mut shelf, 0, 1, 1, 6)?, None);
-    for number in [7, 0, 9] {
-        assert_eq!(rt; shelf.next_freed().map(|buf| buf.number()), Some(number));
+fn byte_at(shelf: &MemShelf, disk: u16, sector: u64) -> Answer {
+    if disk >= shelf.disks() || sector > 1000 {
+        return Refused;
     }
-    assert!(rt; shelf.next_freed().is_none());
-    Ok(())
-}
-
-#[test]
-fn a_failed_write_leaves_the_sectors_that_were_picked(rt: HostRuntime) -> Result<(), Fail> {
-    let alloc = rt.alloc();
-    let plan = [
-        at(2, Act::Pick(2)),
-        at(2, Act::Fail(0)),
-        at(5, Act::Heal(0)),
-    ];
-    let mut shelf = shelf(alloc, &plan)?;
-    assert_eq!(rt; write(alloc, &mut shelf, 0, 4, 3, 7)?, Some(0));
-    assert_eq!(rt; reap(&mut shelf), Some(End::Failed(0)));
-    assert_eq!(rt; byte_at(&shelf, 0, 5), Some(7));
-    assert_eq!(rt; faults(&shelf, 0), Some(1));
-    assert_eq!(rt; read(alloc, &mut shelf, 0, 5, 1)?, Some(0));
-    assert_eq!(rt; read(alloc, &mut shelf, 0, 5, 1)?, Some(1));
-    assert_eq!(rt; reap(&mut shelf), Some(End::Done(0, 7)));
-    assert_eq!(rt; faults(&shelf, 0), Some(1));
-    Ok(())
-}
-
-#[test]
-fn a_delayed_transfer_is_passed_over(rt: HostRuntime) -> Result<(), Fail> {
-    let alloc = rt.alloc();
-    let plan = [at(1, Act::Delay(2))];
-    let mut shelf = shelf(alloc, &plan)?;
-    assert_eq!(rt; write(alloc, &mut shelf, 0, 4, 1, 7)?, Some(0));
-    assert_eq!(rt; write(alloc, &mut shelf, 0, 4, 1, 8)?, Some(1));
-    assert_eq!(rt; reap(&mut shelf), Some(End::Done(1, 8)));
-    assert_eq!(rt; reap(&mut shelf), Some(End::Empty));
-    assert_eq!(rt; reap(&mut shelf), Some(End::Done(0, 7)));
-    assert_eq!(rt; byte_at(&shelf, 0, 4), Some(7));
-    Ok(())
-}
-
-#[test]
-fn the_least_free_ticket_is_used_again(rt: HostRuntime) -> Result<(), Fail> {
-    let alloc = rt.alloc();
-    let mut shelf = shelf(alloc, &[])?;
-    assert_eq!(rt; write(alloc, &mut shelf, 0, 0, 1, 1)?, Some(0));
-    assert_eq!(rt; write(alloc, &mut shelf, 0, 1, 1, 2)?, Some(1));
-    assert_eq!(rt; reap(&mut shelf), Some(End::Done(0, 1)));
-    assert_eq!(rt; write(alloc, &mut shelf, 0, 2, 1, 3)?, Some(0));
-    assert_eq!(rt; reap(&mut shelf), Some(End::Done(1, 2)));
-    Ok(())
-}
-
-#[test]
-fn arrangements_fail_heal_and_cut(rt: HostRuntime) -> Result<(), Fail> {
-    let alloc = rt.alloc();
-    let mut shelf = shelf(alloc, &[])?;
-    assert!(rt; arrange(&mut shelf, Arrange::Fail(1)));
-    assert_eq!(rt; write(alloc, &mut shelf, 1, 0, 1, 1)?, Some(0));
-    assert_eq!(rt; reap(&mut shelf), Some(End::Failed(0)));
-    assert!(rt; arrange(&mut shelf, Arrange::Heal(1)));
-    assert_eq!(rt; write(alloc, &mut shelf, 1, 0, 1, 2)?, Some(0));
-    assert_eq!(rt; reap(&mut shelf), Some(End::Done(0, 2)));
-    assert_eq!(rt; write(alloc, &mut shelf, 1, 1, 1, 3)?, Some(0));
-    assert!(rt; arrange(&mut shelf, Arrange::Cut(1)));
-    assert_eq!(rt; shelf.flights(), 0);
-    assert_eq!(rt; byte_at(&shelf, 1, 1), Some(3));
-    Ok(())
-}
-
-#[test]
-fn images_are_taken_and_given_back(rt: HostRuntime) -> Result<(), Fail> {
-    let alloc = rt.alloc();
-    let mut bytes = Vec::new(alloc);
-    for k in 0..1024u32 {
-        bytes.push((k % 251) as u8)?;
+    match shelf.image(disk).get(sector as usize * 512 + 511) {
+        Some(byte) => Is(u64::from(*byte)),
+        None => Nothing,
     }
-    let kept = bytes.clone()?;
-    let shelf = one_image(alloc, Rows::new(bytes))?;
-    assert_eq!(rt; shelf.disks(), 1);
-    assert_eq!(rt; image(&shelf, 0), Some(kept.as_slice()));
-    Ok(())
+}
+
+fn ask(rt: &(impl Abort + AllocGlobal), shelf: &mut MemShelf, step: Step) -> Answer {
+    match step {
+        Write(disk, first, count, byte) => started(
+            shelf,
+            true,
+            disk,
+            (first, count),
+            buffer(rt, byte),
+        ),
+        Read(disk, first, count) => started(shelf, false, disk, (first, count), buffer(rt, 0)),
+        Reap => reap(shelf),
+        NextFreed => next_freed(shelf),
+        Order(what) => arrange(shelf, what),
+        Replan(plan) => replan(rt, shelf, plan),
+        ByteAt(disk, sector) => byte_at(shelf, disk, sector),
+        Faults(disk) => faults(shelf, disk),
+        Flights => Is(u64::from(shelf.flights())),
+        Calls => Is(shelf.calls()),
+    }
 }
 
 #[test]
-fn a_plan_may_be_replaced(rt: HostRuntime) -> Result<(), Fail> {
-    let alloc = rt.alloc();
-    let mut shelf = shelf(alloc, &[at(2, Act::Cut(0))])?;
-    replan(alloc, &mut shelf, &[at(3, Act::Cut(1))])?;
-    assert_eq!(rt; write(alloc, &mut shelf, 0, 0, 1, 1)?, Some(0));
-    assert_eq!(rt; write(alloc, &mut shelf, 0, 1, 1, 2)?, Some(1));
-    assert_eq!(rt; reap(&mut shelf), Some(End::Dark(2)));
-    assert_eq!(rt; byte_at(&shelf, 0, 0), Some(1));
-    assert_eq!(rt; byte_at(&shelf, 0, 1), Some(0));
-    Ok(())
+fn a_shelf_in_memory_answers_by_its_plan(rt: HostRuntime) {
+    for (name, plan, steps) in &SCRIPTS {
+        let mut shelf = blank_shelf(&rt, &[16, 16], plan);
+        for (step, wanted) in *steps {
+            assert_eq!(rt; ask(&rt, &mut shelf, *step), *wanted, "{name}");
+        }
+    }
 }

@@ -1,394 +1,332 @@
-// Image files, those of the system and those of a trial.
-use crate::{FileShelf, ImageSink};
+//! Image files: those of the system, and the one of a trial system, which watches the calls on it.
+use crate::fixtures::start;
+use crate::trial::{Fault, Trial, are_filled};
+use End::*;
+use Transfer::*;
 use lvm_disk::{Reaped, Shelf, Started};
 use lvm_io::{Images, Put, Sink, write_all};
-use lvm_num::Pbuf;
-use std::alloc::{Allocator, Global};
-use std::cell::Cell;
-use std::fs::{Metadata, OpenFile, OpenOptions};
-use std::io::{ErrorKind, Read, Seek, SeekFrom, Write};
+use lvm_lane::{FileShelf, ImageSink};
+use lvm_num::{Pbuf, fill};
+use std::fs;
+use std::fs::{OpenFile, OpenOptions};
 use std::process::Abort;
 use std::rt::Files;
-use std::test::Fail;
-use std::{fs, io};
 
-// The end of a transfer, with the first byte of its buffer's second sector.
+// What the sectors of a buffer have that take no part in a transfer.
+const REST: u64 = u64::MAX;
+
+// A transfer of a disk's sectors from one on, so many, the first of which is filled with the word, and each
+// other with the next.
+#[derive(Clone, Copy)]
+enum Transfer {
+    Write(u16, u64, u32, u64),
+    Read(u16, u64, u32, u64),
+}
+
 #[derive(Clone, Copy, Debug, PartialEq, Eq)]
 enum End {
-    Done(u8),
+    Well,
+    // It ended well, with other bytes in its buffer.
+    OtherBytes,
     Failed,
+    // It may not be started, or didn't end.
     Refused,
 }
 
-// Starts a transfer of two sectors, which a write fills with a byte, and ends it.
-fn transfer<S: Shelf>(
-    alloc: Global,
-    shelf: &mut S,
-    write: bool,
-    at: (u16, u64),
-    byte: u8,
-) -> Result<End, Fail> {
-    let (disk, first) = at;
-    let mut buf = Pbuf::fresh(alloc, 0)?;
-    for k in 0..2 {
-        buf.set_sector(k, &[byte; 512]);
-    }
-    if disk >= shelf.disks() || shelf.flights() >= 1024 || first > 1000 {
-        return Ok(End::Refused);
-    }
-    if first + 2 > shelf.sectors(disk) {
-        return Ok(End::Refused);
-    }
-    let started = if write {
-        shelf.start_write(disk, first, 2, buf)
+fn sector_of(word: u64, count: u32, k: u32) -> [u8; 512] {
+    fill(if k < count {
+        word.wrapping_add(u64::from(k))
     } else {
-        shelf.start_read(disk, first, 2, buf)
-    };
-    if let Started::Dark(_) = started {
-        return Ok(End::Refused);
-    }
-    if shelf.flights() == 0 {
-        return Ok(End::Refused);
-    }
-    Ok(match shelf.reap() {
-        Reaped::Done { buf, .. } => End::Done(buf.sector(1)[0]),
-        Reaped::Failed { .. } => End::Failed,
-        _ => End::Refused,
+        REST
     })
 }
 
-fn sectors<S: Shelf>(shelf: &S, disk: u16) -> Option<u64> {
-    if disk < shelf.disks() {
-        Some(shelf.sectors(disk))
-    } else {
-        None
+// A buffer whose first sectors have words from this one on.
+fn buffer(rt: &(impl Abort + AllocGlobal), word: u64, count: u32) -> Pbuf {
+    let mut buf = Pbuf::fresh(rt.alloc(), 0).expect(rt, "memory");
+    for k in 0..256 {
+        buf.set_sector(k, &sector_of(word, count, k));
     }
+    buf
 }
 
-fn faults<S: Shelf>(shelf: &S, disk: u16) -> Option<u64> {
-    if disk < shelf.disks() {
-        Some(shelf.faults(disk))
-    } else {
-        None
-    }
+fn has_words(buf: &Pbuf, word: u64, count: u32) -> bool {
+    (0..256).all(|k| *buf.sector(k) == sector_of(word, count, k))
 }
 
-// Two images of 20 sectors are made, the second with some bytes more. What is there isn't written over.
-fn make_images<R: Abort + Files>(rt: &R) -> Result<(), Fail> {
-    let mut sink = ImageSink::new(rt);
-    assert_eq!(rt; sink.write(b"a"), Put::Failed);
-    for disk in [0, 3] {
-        sink.choose(disk);
-        for _ in 0..20 {
-            assert_eq!(rt; write_all(&mut sink, &[0; 512]), Ok(()));
+// How a transfer ends whose sectors then have words from this one on.
+fn finish<S: Shelf>(shelf: &mut S, word: u64, count: u32) -> End {
+    if shelf.flights() == 0 {
+        return Refused;
+    }
+    match shelf.reap() {
+        Reaped::Done { ticket: _, buf } => {
+            if has_words(&buf, word, count) {
+                Well
+            } else {
+                OtherBytes
+            }
         }
+        Reaped::Failed { .. } => Failed,
+        _ => Refused,
     }
-    assert_eq!(rt; write_all(&mut sink, &[7; 100]), Ok(()));
-    sink.choose(0);
-    assert_eq!(rt; sink.write(b"a"), Put::Failed);
-    assert_eq!(rt; fs::metadata(rt, "hdisk0.img")?.len(), 10_240);
-    Ok(())
 }
 
-// Part of a sector at the end isn't one, and a folder isn't a file.
-fn see_sizes<S: Shelf>(rt: &impl Abort, shelf: &S) {
-    let sizes = [0, 1, 2, 3, 4].map(|disk| sectors(shelf, disk));
-    assert_eq!(rt; sizes, [Some(20), Some(0), Some(0), Some(20), Some(0)]);
-    assert_eq!(rt; shelf.disks(), 5);
-}
-
-fn write_and_read<R: Abort + Files + AllocGlobal, S: Shelf>(
-    rt: &R,
-    shelf: &mut S,
-) -> Result<(), Fail> {
-    let alloc = rt.alloc();
-    assert_eq!(rt; transfer(alloc, shelf, true, (3, 18), 9)?, End::Done(9));
-    assert_eq!(rt; transfer(alloc, shelf, false, (3, 18), 1)?, End::Done(9));
-    assert_eq!(rt; transfer(alloc, shelf, false, (3, 17), 1)?, End::Done(9));
-    assert_eq!(rt; transfer(alloc, shelf, false, (0, 18), 1)?, End::Done(0));
-    let bytes = fs::read(rt, "hdisk3.img")?;
-    assert_eq!(rt; bytes.len(), 10_340);
-    assert_eq!(rt; bytes.iter().filter(|byte| **byte == 9).count(), 1024);
-    assert_eq!(rt; bytes.iter().position(|byte| *byte == 9), Some(18 * 512));
-    Ok(())
-}
-
-// A file that has become shorter isn't made longer again, and one that is gone fails.
-fn break_files<R: Abort + Files + AllocGlobal, S: Shelf>(
-    rt: &R,
-    shelf: &mut S,
-) -> Result<(), Fail> {
-    let alloc = rt.alloc();
-    OpenOptions::new()
-        .write(true)
-        .open(rt, "hdisk3.img")?
-        .set_len(18 * 512 + 511)?;
-    assert_eq!(rt; transfer(alloc, shelf, true, (3, 17), 5)?, End::Failed);
-    assert_eq!(rt; transfer(alloc, shelf, false, (3, 17), 5)?, End::Failed);
-    assert_eq!(rt; transfer(alloc, shelf, true, (3, 16), 5)?, End::Done(5));
-    assert_eq!(rt; faults(shelf, 3), Some(1));
-    assert_eq!(rt; fs::metadata(rt, "hdisk3.img")?.len(), 18 * 512 + 511);
-    fs::remove_file(rt, "hdisk3.img")?;
-    assert_eq!(rt; transfer(alloc, shelf, true, (3, 16), 5)?, End::Failed);
-    assert_eq!(rt; faults(shelf, 3), Some(2));
-    Ok(())
-}
-
-// It runs in a folder of its own files.
-#[test]
-fn images_are_made_written_and_read(rt: HostRuntime) -> Result<(), Fail> {
-    for name in ["hdisk0.img", "hdisk3.img"] {
-        let _ = fs::remove_file(&rt, name);
+fn carry_out<S: Shelf>(rt: &(impl Abort + AllocGlobal), shelf: &mut S, it: Transfer) -> End {
+    let (Write(disk, first, count, word) | Read(disk, first, count, word)) = it;
+    let writes = matches!(it, Write(..));
+    let buf = buffer(rt, word, if writes { count } else { 0 });
+    match start(shelf, writes, disk, (first, count), buf) {
+        Some(Started::Ticket(_)) => finish(shelf, word, count),
+        _ => Refused,
     }
-    let _ = fs::remove_dir(&rt, "hdisk4.img");
-    let empty = FileShelf::open(&rt, rt.alloc())?;
-    assert_eq!(rt; (empty.disks(), sectors(&empty, 0)), (1, Some(0)));
-    make_images(&rt)?;
-    fs::create_dir(&rt, "hdisk4.img")?;
-    let mut shelf = FileShelf::open(&rt, rt.alloc())?;
-    see_sizes(&rt, &shelf);
-    write_and_read(&rt, &mut shelf)?;
-    break_files(&rt, &mut shelf)?;
-    fs::remove_dir(&rt, "hdisk4.img")?;
-    fs::remove_file(&rt, "hdisk0.img")?;
-    Ok(())
 }
 
-// A system with one folder and one file, `hdisk1.img`, which watches the calls on it.
-#[derive(Drop)]
-struct Trial {
+fn sectors<S: Shelf>(shelf: &S, disk: u16) -> u64 {
+    if disk < shelf.disks() {
+        shelf.sectors(disk)
+    } else {
+        0
+    }
+}
+
+fn faults<S: Shelf>(shelf: &S, disk: u16) -> u64 {
+    if disk < shelf.disks() {
+        shelf.faults(disk)
+    } else {
+        0
+    }
+}
+
+// The file of the trial system has 300 sectors with the words from 1,000 on; it is synced when it is opened.
+struct Case {
+    name: &'static str,
     may_write: bool,
-    len: Cell<u64>,
-    // Writes since the last sync, and syncs in all.
-    unsynced: Cell<u32>,
-    syncs: Cell<u32>,
-    // Whether syncs, and whether writes, fail.
-    sync_fails: Cell<bool>,
-    write_fails: Cell<bool>,
+    // What goes wrong, the transfer, how it ends, and then the writes that weren't synced, the syncs and the
+    // disk's faults.
+    transfers: &'static [(Fault, Transfer, End, (u32, u32), u64)],
+    // The sectors that the file has then: from which on, how many, and the first one's word.
+    file: &'static [(u64, u32, u64)],
 }
 
-impl Trial {
-    fn new(may_write: bool) -> Trial {
-        Trial {
-            may_write,
-            len: Cell::new(10_240),
-            unsynced: Cell::new(0),
-            syncs: Cell::new(0),
-            sync_fails: Cell::new(false),
-            write_fails: Cell::new(false),
-        }
-    }
-}
-
-fn fault() -> io::Error {
-    io::Error::from(ErrorKind::Other)
-}
-
-#[derive(Drop)]
-struct Opened<'a> {
-    trial: &'a Trial,
-    writes: bool,
-}
-
-impl Read for Opened<'_> {
-    fn read(&mut self, buf: &mut [u8]) -> io::Result<usize> {
-        buf.fill(3);
-        Ok(buf.len())
-    }
-}
-
-// It takes at most 100 bytes at once.
-impl Write for Opened<'_> {
-    fn write(&mut self, buf: &[u8]) -> io::Result<usize> {
-        if !self.writes || self.trial.write_fails.get() {
-            return Err(fault());
-        }
-        self.trial
-            .unsynced
-            .set(self.trial.unsynced.get().saturating_add(1));
-        Ok(buf.len().min(100))
-    }
-
-    fn flush(&mut self) -> io::Result<()> {
-        Ok(())
-    }
-}
-
-impl Seek for Opened<'_> {
-    fn seek(&mut self, to: SeekFrom) -> io::Result<u64> {
-        match to {
-            SeekFrom::Start(at) => Ok(at),
-            _ => Err(fault()),
-        }
-    }
-}
-
-impl OpenFile for Opened<'_> {
-    fn metadata(&self) -> io::Result<Metadata> {
-        Ok(Metadata::of_file(self.trial.len.get()))
-    }
-
-    fn set_len(&self, _size: u64) -> io::Result<()> {
-        Err(fault())
-    }
-
-    fn sync_all(&self) -> io::Result<()> {
-        self.sync_data()
-    }
-
-    fn sync_data(&self) -> io::Result<()> {
-        if self.trial.sync_fails.get() {
-            return Err(fault());
-        }
-        self.trial.unsynced.set(0);
-        self.trial
-            .syncs
-            .set(self.trial.syncs.get().saturating_add(1));
-        Ok(())
-    }
-}
-
-#[derive(Drop)]
-struct NoFolder;
-
-impl Read for NoFolder {
-    fn read(&mut self, _buf: &mut [u8]) -> io::Result<usize> {
-        Ok(0)
-    }
-}
-
-impl<'a> Files for &'a Trial {
-    type File = Opened<'a>;
-
-    type Dir = NoFolder;
-
-    fn open_file(&self, how: &OpenOptions, path: &str) -> io::Result<Opened<'a>> {
-        let is_there = path == "hdisk1.img" || path == ".";
-        if how.asks_create_new() == is_there {
-            return Err(fault());
-        }
-        if how.asks_write() && !self.may_write {
-            return Err(io::Error::from(ErrorKind::PermissionDenied));
-        }
-        Ok(Opened {
-            trial: *self,
-            writes: how.asks_write(),
-        })
-    }
-
-    fn open_dir(&self, _path: &str) -> io::Result<NoFolder> {
-        Ok(NoFolder)
-    }
-
-    fn metadata(&self, path: &str) -> io::Result<Metadata> {
-        if path == "hdisk1.img" {
-            Ok(Metadata::of_file(self.len.get()))
-        } else {
-            Err(io::Error::from(ErrorKind::NotFound))
-        }
-    }
-
-    fn symlink_metadata(&self, path: &str) -> io::Result<Metadata> {
-        self.metadata(path)
-    }
-
-    fn copy(&self, _from: &str, _to: &str) -> io::Result<u64> {
-        Err(fault())
-    }
-
-    fn rename(&self, _from: &str, _to: &str) -> io::Result<()> {
-        Err(fault())
-    }
-
-    fn remove_file(&self, _path: &str) -> io::Result<()> {
-        Err(fault())
-    }
-
-    fn create_dir(&self, _path: &str) -> io::Result<()> {
-        Err(fault())
-    }
-
-    fn remove_dir(&self, _path: &str) -> io::Result<()> {
-        Err(fault())
-    }
-
-    fn remove_dir_all<B: Allocator>(&self, _alloc: B, _path: &str) -> io::Result<()> {
-        Err(fault())
-    }
-}
-
-// A write is answered as done only once all of it was synced.
-#[test]
-fn a_write_is_synced_before_it_is_done(rt: HostRuntime) -> Result<(), Fail> {
-    let alloc = rt.alloc();
-    let trial = Trial::new(true);
-    let mut shelf = FileShelf::open(&&trial, alloc)?;
-    assert_eq!(rt; (shelf.disks(), trial.syncs.get()), (2, 1));
-    assert_eq!(rt; transfer(alloc, &mut shelf, true, (1, 4), 9)?, End::Done(9));
-    assert_eq!(rt; (trial.unsynced.get(), trial.syncs.get()), (0, 2));
-    assert_eq!(rt;
-        transfer(alloc, &mut shelf, false, (1, 4), 1)?,
-        End::Done(3)
-    );
-    assert_eq!(rt; trial.syncs.get(), 2);
-    Ok(())
-}
+static CASES: [Case; 6] = [
+    Case {
+        name: "a write is synced before it is done, and a read syncs nothing",
+        may_write: true,
+        transfers: &[
+            (Fault::Nothing, Write(1, 4, 2, 9), Well, (0, 2), 0),
+            (Fault::Nothing, Read(1, 4, 2, 9), Well, (0, 2), 0),
+            (Fault::Nothing, Write(1, 299, 1, 8), Well, (0, 3), 0),
+        ],
+        file: &[(0, 4, 1000), (4, 2, 9), (6, 293, 1006), (299, 1, 8)],
+    },
+    Case {
+        name: "a transfer moves all its sectors, each to its own place",
+        may_write: true,
+        transfers: &[
+            (Fault::Nothing, Read(1, 0, 256, 1000), Well, (0, 1), 0),
+            (Fault::Nothing, Write(1, 30, 256, 5000), Well, (0, 2), 0),
+            (Fault::Nothing, Read(1, 30, 256, 5000), Well, (0, 2), 0),
+            (Fault::Nothing, Read(1, 31, 255, 5001), Well, (0, 2), 0),
+            (
+                Fault::Nothing,
+                Read(1, 44, 256, 5014),
+                OtherBytes,
+                (0, 2),
+                0,
+            ),
+        ],
+        file: &[(0, 30, 1000), (30, 256, 5000), (286, 14, 1286)],
+    },
+    Case {
+        name: "a write that failed may be tried again",
+        may_write: true,
+        transfers: &[
+            (Fault::Writes, Write(1, 4, 2, 9), Failed, (0, 2), 1),
+            (Fault::Nothing, Write(1, 4, 2, 9), Well, (0, 3), 1),
+        ],
+        file: &[(0, 4, 1000), (4, 2, 9), (6, 294, 1006)],
+    },
+    // The failed read is a miss.
+    Case {
+        name: "after a failed sync a file is used no more",
+        may_write: true,
+        transfers: &[
+            (Fault::Syncs, Write(1, 4, 2, 9), Failed, (12, 1), 1),
+            (Fault::Nothing, Write(1, 4, 2, 9), Failed, (12, 1), 2),
+            (Fault::Nothing, Read(1, 4, 2, 9), Failed, (12, 1), 2),
+        ],
+        file: &[(0, 4, 1000), (6, 294, 1006)],
+    },
+    Case {
+        name: "a file that may only be read is read",
+        may_write: false,
+        transfers: &[
+            (Fault::Nothing, Read(1, 4, 2, 1004), Well, (0, 1), 0),
+            (Fault::Nothing, Write(1, 4, 2, 9), Failed, (0, 2), 1),
+        ],
+        file: &[(0, 300, 1000)],
+    },
+    Case {
+        name: "a disk without a file has no sectors",
+        may_write: true,
+        transfers: &[
+            (Fault::Nothing, Read(0, 0, 1, 0), Refused, (0, 1), 0),
+            (Fault::Nothing, Write(0, 0, 1, 0), Refused, (0, 1), 0),
+        ],
+        file: &[(0, 300, 1000)],
+    },
+];
 
 #[test]
-fn a_write_that_failed_may_be_tried_again(rt: HostRuntime) -> Result<(), Fail> {
-    let alloc = rt.alloc();
-    let trial = Trial::new(true);
-    let mut shelf = FileShelf::open(&&trial, alloc)?;
-    trial.write_fails.set(true);
-    assert_eq!(rt; transfer(alloc, &mut shelf, true, (1, 4), 9)?, End::Failed);
-    assert_eq!(rt; faults(&shelf, 1), Some(1));
-    trial.write_fails.set(false);
-    assert_eq!(rt; transfer(alloc, &mut shelf, true, (1, 4), 9)?, End::Done(9));
-    Ok(())
+fn a_file_is_written_read_and_synced(rt: HostRuntime) {
+    for case in &CASES {
+        let trial = Trial::new(&rt, case.may_write, 300, 1000);
+        let mut shelf = FileShelf::open(&&trial, rt.alloc()).expect(&rt, "memory");
+        for (fault, it, end, counts, missed) in case.transfers {
+            trial.set_fault(*fault);
+            let ended = carry_out(&rt, &mut shelf, *it);
+            let left = (ended, trial.counts(), faults(&shelf, 1));
+            assert_eq!(rt; left, (*end, *counts, *missed), "{}", case.name);
+        }
+        assert!(rt; is_left(&trial, case.file), "{}", case.name);
+    }
 }
 
-// The failed read is a miss.
-#[test]
-fn after_a_failed_sync_a_file_is_used_no_more(rt: HostRuntime) -> Result<(), Fail> {
-    let alloc = rt.alloc();
-    let trial = Trial::new(true);
-    let mut shelf = FileShelf::open(&&trial, alloc)?;
-    trial.sync_fails.set(true);
-    assert_eq!(rt; transfer(alloc, &mut shelf, true, (1, 4), 9)?, End::Failed);
-    trial.sync_fails.set(false);
-    assert_eq!(rt; transfer(alloc, &mut shelf, true, (1, 4), 9)?, End::Failed);
-    assert_eq!(rt; transfer(alloc, &mut shelf, false, (1, 4), 9)?, End::Failed);
-    assert_eq!(rt; faults(&shelf, 1), Some(2));
-    Ok(())
-}
-
-#[test]
-fn a_file_that_may_only_be_read_is_read(rt: HostRuntime) -> Result<(), Fail> {
-    let alloc = rt.alloc();
-    let trial = Trial::new(false);
-    let mut shelf = FileShelf::open(&&trial, alloc)?;
-    assert_eq!(rt;
-        transfer(alloc, &mut shelf, false, (1, 4), 1)?,
-        End::Done(3)
-    );
-    assert_eq!(rt; transfer(alloc, &mut shelf, true, (1, 4), 9)?, End::Failed);
-    assert_eq!(rt; trial.unsynced.get(), 0);
-    Ok(())
+fn is_left(trial: &Trial, file: &[(u64, u32, u64)]) -> bool {
+    file.iter()
+        .all(|(first, count, word)| trial.holds(*first, *count, *word))
 }
 
 #[test]
 fn what_an_image_took_is_synced(rt: HostRuntime) {
-    let trial = Trial::new(true);
-    let files = &trial;
-    let mut sink = ImageSink::new(&files);
+    let trial = Trial::new(&rt, true, 2, 0);
+    let took = sync_image(&&trial, &trial);
+    assert_eq!(rt; took, [Put::Took(100), Put::Failed, Put::Failed]);
+    // One sync of the folder and one of the file.
+    assert_eq!(rt; trial.counts(), (1, 2));
+}
+
+// Writes to an image, then where a sync fails, and then where a file of that name is there already.
+fn sync_image<R: Files>(files: &R, trial: &Trial) -> [Put; 3] {
+    let mut sink = ImageSink::new(files);
     sink.choose(0);
-    assert_eq!(rt; trial.syncs.get(), 1, "the folder");
-    assert_eq!(rt; sink.write(&[0; 512]), Put::Took(100));
-    assert_eq!(rt; (trial.unsynced.get(), trial.syncs.get()), (0, 2));
-    trial.sync_fails.set(true);
-    assert_eq!(rt; sink.write(&[0; 512]), Put::Failed);
-    // A file of that name is there already.
-    trial.sync_fails.set(false);
+    let took = sink.write(&[0; 512]);
+    trial.set_fault(Fault::Syncs);
+    let unsynced = sink.write(&[0; 512]);
+    trial.set_fault(Fault::Nothing);
     sink.choose(1);
-    assert_eq!(rt; sink.write(&[0; 512]), Put::Failed);
+    [took, unsynced, sink.write(&[0; 512])]
+}
+
+// Images of 20 and of 300 sectors, the second with some bytes more. What is there isn't written over, and
+// nothing is written before a disk is chosen.
+fn make_images<R: Files>(rt: &R) -> [bool; 5] {
+    let mut sink = ImageSink::new(rt);
+    let unchosen = sink.write(b"a") == Put::Failed;
+    let small = makes_image(&mut sink, 0, 20);
+    let large = makes_image(&mut sink, 3, 300);
+    let more = write_all(&mut sink, &[7; 100]).is_ok();
+    sink.choose(0);
+    [
+        unchosen,
+        small,
+        large,
+        more,
+        sink.write(b"a") == Put::Failed,
+    ]
+}
+
+fn makes_image<R: Files>(sink: &mut ImageSink<'_, R>, disk: u16, sectors: u32) -> bool {
+    sink.choose(disk);
+    for _ in 0..sectors {
+        if write_all(sink, &[0; 512]).is_err() {
+            return false;
+        }
+    }
+    true
+}
+
+// Of the system's files.
+static WHOLE: [(Transfer, End); 7] = [
+    (Write(3, 18, 256, 5000), Well),
+    (Read(3, 18, 256, 5000), Well),
+    (Read(3, 19, 255, 5001), Well),
+    (Read(3, 17, 1, 0), Well),
+    (Read(3, 274, 1, 0), Well),
+    (Read(0, 19, 1, 0), Well),
+    (Read(0, 19, 2, 0), Refused),
+];
+
+// A file that has become shorter isn't made longer again.
+static SHORTER: [(Transfer, End); 3] = [
+    (Write(3, 17, 2, 5), Failed),
+    (Read(3, 17, 2, 5), Failed),
+    (Write(3, 16, 2, 5), Well),
+];
+
+static GONE: [(Transfer, End); 1] = [(Write(3, 16, 2, 5), Failed)];
+
+fn see_transfers<S: Shelf>(
+    rt: &(impl Abort + AllocGlobal),
+    shelf: &mut S,
+    all: &[(Transfer, End)],
+) {
+    for (k, (it, end)) in all.iter().enumerate() {
+        assert_eq!(rt; carry_out(rt, shelf, *it), *end, "transfer {k}");
+    }
+}
+
+fn sizes<S: Shelf>(shelf: &S) -> (u16, [u64; 5]) {
+    (
+        shelf.disks(),
+        [0, 1, 2, 3, 4].map(|disk| sectors(shelf, disk)),
+    )
+}
+
+fn shorten(rt: &(impl Abort + Files)) {
+    let file = OpenOptions::new()
+        .write(true)
+        .open(rt, "hdisk3.img")
+        .expect(rt, "a file");
+    file.set_len(18 * 512 + 511).expect(rt, "a shorter file");
+}
+
+fn see_bytes(rt: &(impl Abort + Files + AllocGlobal)) {
+    let bytes = fs::read(rt, "hdisk3.img").expect(rt, "the file");
+    let at = bytes.iter().position(|byte| *byte != 0);
+    let own = are_filled(&bytes, 18, 256, 5000);
+    assert_eq!(rt;
+        (bytes.len(), at, own),
+        (300 * 512 + 100, Some(18 * 512 + 6), true)
+    );
+}
+
+fn len_of(rt: &(impl Abort + Files)) -> u64 {
+    fs::metadata(rt, "hdisk3.img").expect(rt, "the file").len()
+}
+
+// It runs in a folder of its own files. Part of a sector at the end isn't one, and a folder isn't a file.
+#[test]
+fn images_are_made_written_and_read(rt: HostRuntime) {
+    for name in ["hdisk0.img", "hdisk3.img"] {
+        let _ = fs::remove_file(&rt, name);
+    }
+    let _ = fs::remove_dir(&rt, "hdisk4.img");
+    let empty = FileShelf::open(&rt, rt.alloc()).expect(&rt, "memory");
+    assert_eq!(rt; sizes(&empty), (1, [0; 5]));
+    assert_eq!(rt; make_images(&rt), [true; 5]);
+    fs::create_dir(&rt, "hdisk4.img").expect(&rt, "a folder");
+    let mut shelf = FileShelf::open(&rt, rt.alloc()).expect(&rt, "memory");
+    assert_eq!(rt; sizes(&shelf), (5, [20, 0, 0, 300, 0]));
+    see_transfers(&rt, &mut shelf, &WHOLE);
+    see_bytes(&rt);
+    shorten(&rt);
+    see_transfers(&rt, &mut shelf, &SHORTER);
+    assert_eq!(rt; len_of(&rt), 18 * 512 + 511);
+    fs::remove_file(&rt, "hdisk3.img").expect(&rt, "the file");
+    see_transfers(&rt, &mut shelf, &GONE);
+    assert_eq!(rt; faults(&shelf, 3), 2);
+    fs::remove_dir(&rt, "hdisk4.img").expect(&rt, "the folder");
+    fs::remove_file(&rt, "hdisk0.img").expect(&rt, "a file");
 }

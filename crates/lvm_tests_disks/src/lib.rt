@@ -4,14 +4,16 @@
 #[cfg(test)]
 mod disk;
 #[cfg(test)]
+mod fixtures;
+#[cfg(test)]
 mod lane;
 #[cfg(test)]
 mod quorum_choice;
-#[cfg(test)]
-mod quorum_notes;
 #[cfg(test)]
 mod quorum_survey;
 #[cfg(test)]
 mod quorum_write;
 #[cfg(test)]
 mod raw;
+#[cfg(test)]
+mod trial;

@@ -1,29 +1,18 @@
+//! Which group a name chooses, by what the disks show.
 ghost use Rattle.std.specs.Prelude.{IsTrue, IfSome};
 ghost use Rattle.lvm_num.specs.Descriptor.{IsValid};
 ghost use Rattle.lvm_num.specs.Status.{IsValidStatus};
 ghost use Rattle.lvm_survey.specs.Rows.{AreRows};
 ghost use Rattle.lvm_survey.specs.Surveyed.{IsRowValid, IsSurveyValid};
 
-use crate::{Choice, ChooseFault, choose};
-use lvm_num::{Descriptor, Name, PvRow, Rows, Stamp, Status, StatusRow, VolumeNumbers};
+use crate::fixtures::{
+    DATA, FIRST, LARGE, LATER, NAMESAKE, NONE, OTHER, first_two, group, name_of, status,
+};
+use Answer::*;
+use lvm_num::{Descriptor, Rows, Stamp, Status};
+use lvm_quorum::{Choice, ChooseFault, Homes, choose};
 use lvm_survey::{Survey, SurveyRow};
-use std::alloc::Global;
-use std::test::Fail;
-
-// Six partitions of 1 MiB end with this many sectors.
-const LARGE: u64 = 16_384;
-
-const NONE: Stamp = Stamp { epoch: 0, seq: 0 };
-
-const FIRST: Stamp = Stamp { epoch: 50, seq: 2 };
-
-const LATER: Stamp = Stamp { epoch: 60, seq: 1 };
-
-const DATA: u64 = 7;
-
-const NAMESAKE: u64 = 9;
-
-const OTHER: u64 = 8;
+use std::process::Abort;
 
 // What a disk shows: the group and the stamp of its records.
 #[derive(Clone, Copy)]
@@ -45,80 +34,232 @@ const MEMBER: Disk = Disk {
     status: Some((DATA, FIRST)),
 };
 
-// A group of the first disks; its first member is a spare in later epochs alone.
-fn group(alloc: Global, members: u16, id: u64, stamp: Stamp) -> Result<Descriptor, Fail> {
-    let mut pvs = Vec::new(alloc);
-    for disk in 0..members {
-        let spare = disk == 0 && stamp.epoch > 50;
-        pvs.push(PvRow {
-            disk,
-            pps: 6,
-            spare,
-        })?;
-    }
-    let name: &[u8] = if id == OTHER { b"othervg" } else { b"datavg" };
-    Ok(Descriptor {
-        id,
-        name: Name::read(name).ok_or("a name")?,
-        mib: 1,
-        quorum: true,
-        even: false,
-        big: false,
-        pvs: Rows::new(pvs),
-        lvs: Rows::empty(alloc),
-    })
+const SMALL: Disk = Disk {
+    sectors: LARGE - 1,
+    descriptor: Some((DATA, FIRST)),
+    status: Some((DATA, FIRST)),
+};
+
+const NEWER_DESCRIPTOR: Disk = Disk {
+    sectors: LARGE,
+    descriptor: Some((DATA, LATER)),
+    status: Some((DATA, FIRST)),
+};
+
+const NEWER_STATUS: Disk = Disk {
+    sectors: LARGE,
+    descriptor: Some((DATA, FIRST)),
+    status: Some((DATA, LATER)),
+};
+
+// A newer status on a disk that has no descriptor, and so no vote.
+const STRAY: Disk = Disk {
+    sectors: LARGE,
+    descriptor: None,
+    status: Some((DATA, LATER)),
+};
+
+const BARE: Disk = Disk {
+    sectors: LARGE,
+    descriptor: Some((DATA, FIRST)),
+    status: None,
+};
+
+const FOREIGN_STATUS: Disk = Disk {
+    sectors: LARGE,
+    descriptor: Some((DATA, FIRST)),
+    status: Some((OTHER, LATER)),
+};
+
+const OTHERS: Disk = Disk {
+    sectors: LARGE,
+    descriptor: Some((OTHER, LATER)),
+    status: Some((OTHER, LATER)),
+};
+
+const NAMESAKES: Disk = Disk {
+    sectors: LARGE,
+    descriptor: Some((NAMESAKE, FIRST)),
+    status: None,
+};
+
+#[derive(Clone, Copy, Debug, PartialEq, Eq)]
+enum Answer {
+    // The stamps under which the descriptor and the status stand, which of the first four disks are voters, and
+    // the greatest epoch.
+    Chosen((Stamp, Stamp), [bool; 4], u64),
+    Not(ChooseFault),
+    // It is no survey as `choose` is given one.
+    Refused,
 }
 
-// A status with a row for the first disk, which is missing in later epochs alone.
-fn status(alloc: Global, id: u64, stamp: Stamp) -> Result<Status, Fail> {
-    let mut rows = Vec::new(alloc);
-    rows.push(StatusRow {
-        disk: 0,
-        missing: stamp.epoch > 50,
-        stale: [0; 127],
-    })?;
-    Ok(Status {
-        id,
-        big: false,
-        dirty: VolumeNumbers::empty(alloc).map_err(|_| "memory")?,
-        rows: Rows::new(rows),
-    })
-}
+// How many members `datavg` has, what the disks show, and what is answered.
+static CASES: [(&str, u16, &[Disk], Answer); 22] = [
+    (
+        "all members are there",
+        3,
+        &[MEMBER, MEMBER, MEMBER, EMPTY],
+        Chosen((FIRST, FIRST), [true, true, true, false], 50),
+    ),
+    (
+        "two of three are there",
+        3,
+        &[EMPTY, MEMBER, MEMBER],
+        Chosen((FIRST, FIRST), [false, true, true, false], 50),
+    ),
+    (
+        "the newest records are taken and not the first",
+        3,
+        &[MEMBER, NEWER_DESCRIPTOR, NEWER_STATUS],
+        Chosen((LATER, LATER), [true, true, true, false], 60),
+    ),
+    (
+        "a namesake behind the group",
+        3,
+        &[MEMBER, MEMBER, NAMESAKES],
+        Not(ChooseFault::Ambiguous),
+    ),
+    (
+        "a namesake before the group",
+        3,
+        &[NAMESAKES, MEMBER, MEMBER],
+        Not(ChooseFault::Ambiguous),
+    ),
+    (
+        "a group without a status",
+        3,
+        &[NAMESAKES, NAMESAKES],
+        Not(ChooseFault::NoRecord),
+    ),
+    (
+        "half of four votes",
+        4,
+        &[MEMBER, EMPTY, MEMBER],
+        Not(ChooseFault::NoQuorum { have: 2, total: 4 }),
+    ),
+    (
+        "three of four votes",
+        4,
+        &[MEMBER, EMPTY, MEMBER, MEMBER],
+        Chosen((FIRST, FIRST), [true, false, true, true], 50),
+    ),
+    (
+        "the second of two disks has one vote of three",
+        2,
+        &[EMPTY, MEMBER],
+        Not(ChooseFault::NoQuorum { have: 1, total: 3 }),
+    ),
+    (
+        "the first of two disks has two votes of three",
+        2,
+        &[MEMBER, EMPTY],
+        Chosen((FIRST, FIRST), [true, false, false, false], 50),
+    ),
+    (
+        "a disk that is too small has no vote",
+        3,
+        &[MEMBER, MEMBER, SMALL],
+        Chosen((FIRST, FIRST), [true, true, false, false], 50),
+    ),
+    (
+        "one vote beside disks that are too small",
+        3,
+        &[MEMBER, SMALL, SMALL],
+        Not(ChooseFault::NoQuorum { have: 1, total: 3 }),
+    ),
+    (
+        "no voter, and so no status",
+        1,
+        &[SMALL],
+        Not(ChooseFault::NoRecord),
+    ),
+    (
+        "a disk of another group has no vote",
+        3,
+        &[MEMBER, MEMBER, OTHERS],
+        Chosen((FIRST, FIRST), [true, true, false, false], 50),
+    ),
+    (
+        "a status may be of an older epoch",
+        1,
+        &[NEWER_DESCRIPTOR],
+        Chosen((LATER, FIRST), [true, false, false, false], 60),
+    ),
+    (
+        "a status of no voter is seen and not taken",
+        2,
+        &[MEMBER, STRAY],
+        Chosen((FIRST, FIRST), [true, false, false, false], 60),
+    ),
+    ("no disk", 3, &[], Not(ChooseFault::NoRecord)),
+    (
+        "no descriptor of the name",
+        3,
+        &[EMPTY, OTHERS],
+        Not(ChooseFault::NoRecord),
+    ),
+    (
+        "no status at all",
+        3,
+        &[BARE, BARE, BARE],
+        Not(ChooseFault::NoRecord),
+    ),
+    (
+        "a status of another group",
+        1,
+        &[FOREIGN_STATUS],
+        Not(ChooseFault::NoRecord),
+    ),
+    (
+        "a status on one voter alone",
+        3,
+        &[BARE, BARE, NEWER_STATUS],
+        Chosen((FIRST, LATER), [true, true, true, false], 60),
+    ),
+    (
+        "a descriptor without its first disk",
+        3,
+        &[EMPTY, NEWER_DESCRIPTOR, MEMBER],
+        Chosen((LATER, FIRST), [false, true, true, false], 60),
+    ),
+];
 
-fn survey_of(alloc: Global, members: u16, disks: &[Disk]) -> Result<Survey, Fail> {
-    let mut rows = Vec::new(alloc);
-    for (disk, shown) in (0..128).zip(disks) {
-        rows.push(row_of(alloc, members, disk, *shown)?)?;
-    }
-    Ok(Survey {
-        rows: Rows::new(rows),
-    })
-}
-
-fn row_of(alloc: Global, members: u16, disk: u16, shown: Disk) -> Result<SurveyRow, Fail> {
-    let (descriptor, descriptor_stamp) = match shown.descriptor {
-        Some((id, stamp)) => (Some(group(alloc, members, id, stamp)?), stamp),
-        None => (None, NONE),
-    };
-    let (status, status_stamp) = match shown.status {
-        Some((id, stamp)) => (Some(status(alloc, id, stamp)?), stamp),
-        None => (None, NONE),
-    };
-    Ok(SurveyRow {
+fn row_of(rt: &(impl Abort + AllocGlobal), members: u16, disk: u16, shown: &Disk) -> SurveyRow {
+    SurveyRow {
         disk,
         failed: false,
         sectors: shown.sectors,
-        descriptor,
-        descriptor_stamp,
-        status,
-        status_stamp,
+        descriptor: shown
+            .descriptor
+            .map(|(id, stamp)| group(rt, members, id, stamp)),
+        descriptor_stamp: stamp_of(shown.descriptor),
+        status: shown.status.map(|(id, stamp)| status(rt, id, stamp)),
+        status_stamp: stamp_of(shown.status),
         note: None,
         homes: [2, 2],
-    })
+    }
+}
+
+fn stamp_of(shown: Option<(u64, Stamp)>) -> Stamp {
+    match shown {
+        Some((_, stamp)) => stamp,
+        None => NONE,
+    }
+}
+
+fn survey_of(rt: &(impl Abort + AllocGlobal), members: u16, disks: &[Disk]) -> Survey {
+    let mut rows = Vec::new(rt.alloc());
+    for (disk, shown) in (0..128).zip(disks) {
+        rows.push(row_of(rt, members, disk, shown))
+            .expect(rt, "memory");
+    }
+    Survey {
+        rows: Rows::new(rows),
+    }
 }
 
 // Whether it is a survey as `choose` is given one.
-pub fn is_survey(survey: &Survey) -> bool
+fn is_survey(survey: &Survey) -> bool
     ensures rows { IsTrue result → AreRows survey.now }
     ensures valid { IsTrue result → IsSurveyValid survey.now }
 {
@@ -158,164 +299,85 @@ fn is_status(row: &SurveyRow) -> bool
     }
 }
 
-// What `datavg` chooses of a group of so many members, on these disks.
-fn chosen(
-    alloc: Global,
-    members: u16,
-    disks: &[Disk],
-) -> Result<Result<Choice, ChooseFault>, Fail> {
-    let survey = survey_of(alloc, members, disks)?;
-    if !is_survey(&survey) {
-        return Err("no survey".into());
+fn descriptor_stamp(rt: &(impl Abort + AllocGlobal), members: u16, is: &Descriptor) -> Stamp {
+    for stamp in [FIRST, LATER] {
+        if *is == group(rt, members, DATA, stamp) {
+            return stamp;
+        }
     }
-    let name = Name::read(b"datavg").ok_or("a name")?;
-    Ok(choose(alloc, &survey, name))
+    NONE
 }
 
-fn choice(alloc: Global, members: u16, disks: &[Disk]) -> Result<Choice, Fail> {
-    Ok(chosen(alloc, members, disks)?.map_err(|_| "refused")?)
+fn status_stamp(rt: &(impl Abort + AllocGlobal), is: &Status) -> Stamp {
+    for stamp in [FIRST, LATER] {
+        if *is == status(rt, DATA, stamp) {
+            return stamp;
+        }
+    }
+    NONE
 }
 
-fn refusal(alloc: Global, members: u16, disks: &[Disk]) -> Result<Option<ChooseFault>, Fail> {
-    Ok(chosen(alloc, members, disks)?.err())
-}
-
-// Whether the choice has just these disks of the first four.
-fn answer(choice: &Choice) -> [bool; 4] {
+fn told(rt: &(impl Abort + AllocGlobal), members: u16, choice: &Choice) -> Answer {
+    let descriptor = descriptor_stamp(rt, members, &choice.descriptor);
+    let status = status_stamp(rt, &choice.status);
     let has = choice.answering;
-    [has.has(0), has.has(1), has.has(2), has.has(3)]
+    let voters = [has.has(0), has.has(1), has.has(2), has.has(3)];
+    Chosen((descriptor, status), voters, choice.seen)
+}
+
+// What `datavg` chooses.
+fn chosen(rt: &(impl Abort + AllocGlobal), members: u16, survey: &Survey) -> Answer {
+    if !is_survey(survey) {
+        return Refused;
+    }
+    let name = name_of(rt, b"datavg");
+    match choose(rt.alloc(), survey, name) {
+        Ok(choice) => told(rt, members, &choice),
+        Err(why) => Not(why),
+    }
 }
 
 #[test]
-fn a_group_of_three_is_chosen(rt: HostRuntime) -> Result<(), Fail> {
-    let alloc = rt.alloc();
-    let all = choice(alloc, 3, &[MEMBER, MEMBER, MEMBER, EMPTY])?;
-    assert!(rt; all.descriptor == group(alloc, 3, DATA, FIRST)?);
-    assert!(rt; all.status == status(alloc, DATA, FIRST)?);
-    assert_eq!(rt; answer(&all), [true, true, true, false]);
-    assert_eq!(rt; all.seen, 50);
-    let two = choice(alloc, 3, &[EMPTY, MEMBER, MEMBER])?;
-    assert_eq!(rt; answer(&two), [false, true, true, false]);
-    Ok(())
+fn a_name_chooses_by_what_the_disks_show(rt: HostRuntime) {
+    for (name, members, disks, answer) in &CASES {
+        let survey = survey_of(&rt, *members, disks);
+        assert_eq!(rt; chosen(&rt, *members, &survey), *answer, "{name}");
+    }
+}
+
+// The homes of two disks, and the disks whose next descriptor and whose next status goes to slot 1.
+static NEXT: [([[u8; 2]; 2], [[bool; 2]; 2]); 2] = [
+    ([[0, 2], [1, 0]], [[true, false], [false, true]]),
+    ([[2, 1], [0, 0]], [[false, true], [false, true]]),
+];
+
+fn with_homes(rt: &(impl Abort + AllocGlobal), disk: u16, homes: [u8; 2]) -> SurveyRow {
+    SurveyRow {
+        homes,
+        ..row_of(rt, 2, disk, &EMPTY)
+    }
+}
+
+fn survey_with(rt: &(impl Abort + AllocGlobal), homes: &[[u8; 2]; 2]) -> Survey {
+    let mut rows = Vec::new(rt.alloc());
+    for (disk, slots) in (0..2).zip(homes) {
+        rows.push(with_homes(rt, disk, *slots)).expect(rt, "memory");
+    }
+    Survey {
+        rows: Rows::new(rows),
+    }
+}
+
+fn next_slots(rt: &impl Abort, survey: &Survey) -> [[bool; 2]; 2] {
+    assert!(rt; is_survey(survey));
+    let Homes { descriptor, status } = Homes::of(survey);
+    [first_two(descriptor), first_two(status)]
 }
 
 #[test]
-fn the_newest_records_are_taken_and_not_the_first(rt: HostRuntime) -> Result<(), Fail> {
-    let alloc = rt.alloc();
-    let newer = Disk {
-        descriptor: Some((DATA, LATER)),
-        ..MEMBER
-    };
-    let newest = Disk {
-        status: Some((DATA, LATER)),
-        ..MEMBER
-    };
-    let choice = choice(alloc, 3, &[MEMBER, newer, newest])?;
-    assert!(rt; choice.descriptor == group(alloc, 3, DATA, LATER)?);
-    assert!(rt; choice.status == status(alloc, DATA, LATER)?);
-    assert_eq!(rt; answer(&choice), [true, true, true, false]);
-    assert_eq!(rt; choice.seen, 60);
-    Ok(())
-}
-
-#[test]
-fn two_groups_of_one_name_are_ambiguous(rt: HostRuntime) -> Result<(), Fail> {
-    let alloc = rt.alloc();
-    let other = Disk {
-        descriptor: Some((NAMESAKE, FIRST)),
-        status: None,
-        ..MEMBER
-    };
-    let ambiguous = Some(ChooseFault::Ambiguous);
-    assert_eq!(rt; refusal(alloc, 3, &[MEMBER, MEMBER, other])?, ambiguous);
-    assert_eq!(rt; refusal(alloc, 3, &[other, MEMBER, MEMBER])?, ambiguous);
-    assert_eq!(rt;
-        refusal(alloc, 3, &[other, other])?,
-        Some(ChooseFault::NoRecord)
-    );
-    Ok(())
-}
-
-#[test]
-fn half_of_the_votes_are_no_quorum(rt: HostRuntime) -> Result<(), Fail> {
-    let alloc = rt.alloc();
-    let half = ChooseFault::NoQuorum { have: 2, total: 4 };
-    assert_eq!(rt; refusal(alloc, 4, &[MEMBER, EMPTY, MEMBER])?, Some(half));
-    assert_eq!(rt; refusal(alloc, 4, &[MEMBER, EMPTY, MEMBER, MEMBER])?, None);
-    let second = ChooseFault::NoQuorum { have: 1, total: 3 };
-    assert_eq!(rt; refusal(alloc, 2, &[EMPTY, MEMBER])?, Some(second));
-    assert_eq!(rt; refusal(alloc, 2, &[MEMBER, EMPTY])?, None);
-    Ok(())
-}
-
-#[test]
-fn a_disk_that_is_too_small_has_no_vote(rt: HostRuntime) -> Result<(), Fail> {
-    let alloc = rt.alloc();
-    let small = Disk {
-        sectors: LARGE - 1,
-        ..MEMBER
-    };
-    let two = choice(alloc, 3, &[MEMBER, MEMBER, small])?;
-    assert_eq!(rt; answer(&two), [true, true, false, false]);
-    let one = ChooseFault::NoQuorum { have: 1, total: 3 };
-    assert_eq!(rt; refusal(alloc, 3, &[MEMBER, small, small])?, Some(one));
-    assert_eq!(rt; refusal(alloc, 1, &[small])?, Some(ChooseFault::NoRecord));
-    Ok(())
-}
-
-#[test]
-fn a_disk_of_another_group_has_no_vote(rt: HostRuntime) -> Result<(), Fail> {
-    let alloc = rt.alloc();
-    let other = Disk {
-        descriptor: Some((OTHER, LATER)),
-        status: Some((OTHER, LATER)),
-        ..MEMBER
-    };
-    let choice = choice(alloc, 3, &[MEMBER, MEMBER, other])?;
-    assert_eq!(rt; answer(&choice), [true, true, false, false]);
-    assert_eq!(rt; choice.seen, 50);
-    Ok(())
-}
-
-#[test]
-fn a_status_may_be_of_an_older_epoch(rt: HostRuntime) -> Result<(), Fail> {
-    let alloc = rt.alloc();
-    let newer = Disk {
-        descriptor: Some((DATA, LATER)),
-        ..MEMBER
-    };
-    let older = choice(alloc, 1, &[newer])?;
-    assert!(rt; older.status == status(alloc, DATA, FIRST)?);
-    assert_eq!(rt; older.seen, 60);
-    let stray = Disk {
-        status: Some((DATA, LATER)),
-        ..EMPTY
-    };
-    let seen = choice(alloc, 2, &[MEMBER, stray])?;
-    assert!(rt; seen.status == status(alloc, DATA, FIRST)?);
-    assert_eq!(rt; seen.seen, 60);
-    Ok(())
-}
-
-#[test]
-fn a_name_without_a_status_or_a_descriptor_has_no_record(rt: HostRuntime) -> Result<(), Fail> {
-    let alloc = rt.alloc();
-    let bare = Disk {
-        status: None,
-        ..MEMBER
-    };
-    let foreign = Disk {
-        status: Some((OTHER, LATER)),
-        ..MEMBER
-    };
-    let other = Disk {
-        descriptor: Some((OTHER, FIRST)),
-        ..MEMBER
-    };
-    let none = Some(ChooseFault::NoRecord);
-    assert_eq!(rt; refusal(alloc, 3, &[])?, none);
-    assert_eq!(rt; refusal(alloc, 3, &[EMPTY, other])?, none);
-    assert_eq!(rt; refusal(alloc, 3, &[bare, bare, bare])?, none);
-    assert_eq!(rt; refusal(alloc, 1, &[foreign])?, none);
-    Ok(())
+fn the_slot_without_the_newest_record_comes_next(rt: HostRuntime) {
+    for (homes, second) in &NEXT {
+        let survey = survey_with(&rt, homes);
+        assert_eq!(rt; next_slots(&rt, &survey), *second, "{homes:?}");
+    }
 }

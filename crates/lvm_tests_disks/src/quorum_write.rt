@@ -1,17 +1,16 @@
-ghost use Rattle.std.specs.Prelude.{◌≡◌, ◌<◌, ◌≤◌, ℕ, length, IsTrue};
+//! Records and notes that are written to two disks in memory with just the room for records.
+ghost use Rattle.std.specs.Prelude.{◌≡◌};
 ghost use Rattle.lvm_num.specs.Record.{longest_content};
-ghost use Rattle.lvm_num.specs.Disks.{has};
-ghost use Rattle.lvm_quorum.specs.Written.{HasRoom};
 
-use crate::choice_tests::is_survey;
-use crate::{Homes, Wrote, write_record};
+use crate::fixtures::{all_disks, blank_shelf, first_two, has_room, plan_of};
+use End::*;
+use Step::*;
 use lvm_disk::{Act, MemShelf, Planned, Shelf, names_disks};
 use lvm_move::{Patience, relight};
-use lvm_num::{DiskSet, Kind, Pbuf, Rows, Stamp};
-use lvm_rec::read_slot;
-use lvm_survey::{Survey, SurveyRow};
-use std::alloc::Global;
-use std::test::Fail;
+use lvm_num::{DiskSet, Kind, Pbuf, Stamp};
+use lvm_quorum::{Homes, Wrote, empty_notes, write_record};
+use lvm_rec::{read_note, read_slot};
+use std::process::Abort;
 
 const FIRST: Stamp = Stamp { epoch: 50, seq: 1 };
 
@@ -22,101 +21,272 @@ const LAST: Stamp = Stamp { epoch: 50, seq: 3 };
 // The longest descriptor has 1,152 sectors, which are five pieces.
 const LONG: usize = 571_388;
 
-// Two disks with just the room for records.
-pub fn shelf(alloc: Global, plan: &[Planned]) -> Result<MemShelf, Fail> {
-    if !names_disks(plan, 2) {
-        return Err("no such disk".into());
-    }
-    let plan = Rows::new(Vec::from_slice(alloc, plan)?);
-    Ok(MemShelf::new(alloc, &[4096, 4096], plan, 0)?)
+#[derive(Clone, Copy)]
+enum Step {
+    // A record of so many bytes, of which the last is told apart.
+    Write(Kind, Stamp, usize, u8),
+    Replan(&'static [Planned]),
 }
 
-fn replan(alloc: Global, shelf: &mut MemShelf, plan: &[Planned]) -> Result<(), Fail> {
-    if !names_disks(plan, shelf.disks()) {
-        return Err("no such disk".into());
-    }
-    shelf.set_plan(Rows::new(Vec::from_slice(alloc, plan)?));
-    Ok(())
-}
-
-pub fn at(call: u64, act: Act) -> Planned {
-    Planned { call, act }
-}
-
-fn first_homes() -> Homes {
-    Homes {
-        descriptor: DiskSet::empty(),
-        status: DiskSet::empty(),
-    }
-}
-
-// So many sevens, and one byte that is told apart.
-fn content(alloc: Global, len: usize, last: u8) -> Result<Rows<u8>, Fail> {
-    let mut bytes = Vec::new(alloc);
-    bytes.resize(len, 7)?;
-    bytes.push(last)?;
-    Ok(Rows::new(bytes))
-}
-
-// Whether each disk has room for records.
-pub fn has_room<S: Shelf>(shelf: &S) -> bool
-    ensures { IsTrue result → (d : ℕ) → d < length (S.device shelf.now).sizes → HasRoom (S.device shelf.now) d }
-{
-    for disk in 0..shelf.disks() {
-        if shelf.sectors(disk) < 4096 {
-            return false;
-        }
-    }
-    true
-}
-
-pub fn all_disks(count: u16) -> DiskSet
-    requires { count ≤ 128 }
-    ensures { (d : ℕ) → IsTrue (has result d) → d < count }
-{
-    let mut disks = DiskSet::empty();
-    for disk in 0..count {
-        disks = disks.with(disk);
-    }
-    disks
-}
-
-// How a write to all disks ended.
+// How a write to both disks ended.
 #[derive(Clone, Copy, Debug, PartialEq, Eq)]
-pub enum End {
-    Ended { failed: [bool; 2] },
+enum End {
+    // On which of them it failed.
+    Ended([bool; 2]),
     Dark,
     Stuck,
+    // The plan was replaced.
+    Replanned,
+    // It came back with another buffer.
+    OtherBuffer,
 }
 
-fn write<S: Shelf>(
-    alloc: Global,
-    shelf: &mut S,
-    record: (Kind, Stamp, &[u8]),
-    homes: &mut Homes,
-    patience: &mut Patience,
-) -> Result<End, Fail> {
-    let (kind, stamp, content) = record;
-    if shelf.flights() > 0 {
-        return Err("a transfer is out".into());
-    }
-    relight(shelf);
-    if !has_room(shelf) || stamp.epoch == 0 || stamp.seq == 0 || content.len() > longest(kind) {
-        return Err("no record".into());
-    }
-    let targets = all_disks(shelf.disks());
-    let buf = Pbuf::fresh(alloc, 9)?;
-    match write_record(shelf, kind, stamp, content, targets, homes, buf, patience) {
-        Wrote::Ended { failed, buf } => {
-            if buf.number() != 9 {
-                return Err("another buffer".into());
-            }
-            let failed = [failed.has(0), failed.has(1)];
-            Ok(End::Ended { failed })
-        }
-        Wrote::Dark => Ok(End::Dark),
-        Wrote::Stuck => Ok(End::Stuck),
-    }
+const WELL: End = Ended([false, false]);
+
+// The stamp and the last byte of what a slot holds.
+type Held = Option<(Stamp, u8)>;
+
+const ONE: Held = Some((FIRST, 1));
+
+const TWO: Held = Some((LATER, 2));
+
+const THREE: Held = Some((LAST, 3));
+
+// What is left after a step.
+#[derive(Clone, Copy, Debug, PartialEq, Eq)]
+struct Left {
+    calls: u64,
+    // The disks whose next descriptor, and whose next status, goes to slot 1.
+    second: [[bool; 2]; 2],
+    // The slots of the kind of the case, on the first disk and on the second.
+    held: (Held, Held, Held, Held),
+}
+
+struct Case {
+    name: &'static str,
+    kind: Kind,
+    plan: &'static [Planned],
+    // The patience before all steps and after them.
+    patience: u32,
+    patience_left: u32,
+    steps: &'static [(Step, End, Left)],
+}
+
+static CASES: [Case; 7] = [
+    Case {
+        name: "a record goes to both slots in turn",
+        kind: Kind::Status,
+        plan: &[],
+        patience: 9,
+        patience_left: 9,
+        steps: &[
+            (
+                Write(Kind::Status, FIRST, 600, 1),
+                WELL,
+                Left {
+                    calls: 4,
+                    second: [[false, false], [true, true]],
+                    held: (ONE, None, ONE, None),
+                },
+            ),
+            (
+                Write(Kind::Status, LATER, 600, 2),
+                WELL,
+                Left {
+                    calls: 8,
+                    second: [[false, false], [false, false]],
+                    held: (ONE, TWO, ONE, TWO),
+                },
+            ),
+            (
+                Write(Kind::Status, LAST, 600, 3),
+                WELL,
+                Left {
+                    calls: 12,
+                    second: [[false, false], [true, true]],
+                    held: (THREE, TWO, THREE, TWO),
+                },
+            ),
+        ],
+    },
+    Case {
+        name: "a status leaves the descriptors as they are",
+        kind: Kind::Descriptor,
+        plan: &[],
+        patience: 9,
+        patience_left: 9,
+        steps: &[
+            (
+                Write(Kind::Descriptor, FIRST, 0, 1),
+                WELL,
+                Left {
+                    calls: 4,
+                    second: [[true, true], [false, false]],
+                    held: (ONE, None, ONE, None),
+                },
+            ),
+            (
+                Write(Kind::Status, LATER, 0, 2),
+                WELL,
+                Left {
+                    calls: 8,
+                    second: [[true, true], [true, true]],
+                    held: (ONE, None, ONE, None),
+                },
+            ),
+        ],
+    },
+    Case {
+        name: "a disk that fails is named and keeps its slot",
+        kind: Kind::Descriptor,
+        plan: &[Planned {
+            call: 1,
+            act: Act::Fail(0),
+        }],
+        patience: 9,
+        patience_left: 9,
+        steps: &[
+            (
+                Write(Kind::Descriptor, FIRST, 0, 1),
+                Ended([true, false]),
+                Left {
+                    calls: 4,
+                    second: [[false, true], [false, false]],
+                    held: (None, None, ONE, None),
+                },
+            ),
+            (
+                Replan(&[Planned {
+                    call: 5,
+                    act: Act::Heal(0),
+                }]),
+                Replanned,
+                Left {
+                    calls: 4,
+                    second: [[false, true], [false, false]],
+                    held: (None, None, ONE, None),
+                },
+            ),
+            (
+                Write(Kind::Descriptor, LATER, 0, 2),
+                WELL,
+                Left {
+                    calls: 8,
+                    second: [[true, false], [false, false]],
+                    held: (TWO, None, ONE, TWO),
+                },
+            ),
+        ],
+    },
+    // A start and a reap for each of five pieces on each disk.
+    Case {
+        name: "a long record is written piece by piece",
+        kind: Kind::Descriptor,
+        plan: &[],
+        patience: 9,
+        patience_left: 9,
+        steps: &[(
+            Write(Kind::Descriptor, FIRST, LONG - 1, 1),
+            WELL,
+            Left {
+                calls: 20,
+                second: [[true, true], [false, false]],
+                held: (ONE, None, ONE, None),
+            },
+        )],
+    },
+    Case {
+        name: "after a piece that failed the rest of the disk is left out",
+        kind: Kind::Descriptor,
+        plan: &[Planned {
+            call: 5,
+            act: Act::Fail(0),
+        }],
+        patience: 9,
+        patience_left: 9,
+        steps: &[(
+            Write(Kind::Descriptor, FIRST, LONG - 1, 1),
+            Ended([true, false]),
+            Left {
+                calls: 16,
+                second: [[false, true], [false, false]],
+                held: (None, None, ONE, None),
+            },
+        )],
+    },
+    // The power is cut while the third piece of the second disk is out, of which every other sector lands.
+    Case {
+        name: "a cut in the middle leaves the record before",
+        kind: Kind::Descriptor,
+        plan: &[Planned {
+            call: 36,
+            act: Act::Cut(0xaaaa_aaaa_aaaa_aaaa),
+        }],
+        patience: 9,
+        patience_left: 9,
+        steps: &[
+            (
+                Write(Kind::Descriptor, FIRST, LONG - 1, 1),
+                WELL,
+                Left {
+                    calls: 20,
+                    second: [[true, true], [false, false]],
+                    held: (ONE, None, ONE, None),
+                },
+            ),
+            (
+                Write(Kind::Descriptor, LATER, LONG - 1, 2),
+                Dark,
+                Left {
+                    calls: 36,
+                    second: [[false, true], [false, false]],
+                    held: (ONE, TWO, ONE, None),
+                },
+            ),
+            (
+                Write(Kind::Descriptor, LATER, LONG - 1, 2),
+                WELL,
+                Left {
+                    calls: 56,
+                    second: [[true, false], [false, false]],
+                    held: (TWO, TWO, ONE, TWO),
+                },
+            ),
+        ],
+    },
+    Case {
+        name: "nothing is heard until the patience has run out",
+        kind: Kind::Status,
+        plan: &[
+            Planned {
+                call: 1,
+                act: Act::Delay(2),
+            },
+            Planned {
+                call: 5,
+                act: Act::Delay(1000),
+            },
+        ],
+        patience: 5,
+        patience_left: 0,
+        steps: &[(
+            Write(Kind::Status, FIRST, 0, 1),
+            Stuck,
+            Left {
+                calls: 8,
+                second: [[false, false], [true, false]],
+                held: (ONE, None, None, None),
+            },
+        )],
+    },
+];
+
+// So many sevens, and one byte that is told apart.
+fn content_of(rt: &(impl Abort + AllocGlobal), len: usize, last: u8) -> Vec<u8> {
+    let mut bytes = Vec::new(rt.alloc());
+    bytes.resize(len.min(LONG), 7).expect(rt, "memory");
+    bytes.push(last).expect(rt, "memory");
+    bytes
 }
 
 fn longest(kind: Kind) -> usize
@@ -128,258 +298,193 @@ fn longest(kind: Kind) -> usize
     }
 }
 
-// The stamp and the last byte of the content of what a slot of a disk holds.
+fn end_of(wrote: Wrote) -> End {
+    match wrote {
+        Wrote::Ended { failed, buf } => {
+            if buf.number() == 9 {
+                Ended(first_two(failed))
+            } else {
+                OtherBuffer
+            }
+        }
+        Wrote::Dark => Dark,
+        Wrote::Stuck => Stuck,
+    }
+}
+
+fn write<S: Shelf>(
+    rt: &(impl Abort + AllocGlobal),
+    shelf: &mut S,
+    record: (Kind, Stamp, &[u8]),
+    homes: &mut Homes,
+    patience: &mut Patience,
+) -> End {
+    let (kind, stamp, content) = record;
+    assert!(rt; shelf.flights() == 0);
+    relight(shelf);
+    assert!(rt; has_room(shelf));
+    assert!(rt; stamp.epoch != 0 && stamp.seq != 0 && content.len() <= longest(kind));
+    let targets = all_disks(shelf.disks());
+    let buf = Pbuf::fresh(rt.alloc(), 9).expect(rt, "memory");
+    end_of(write_record(shelf, kind, stamp, content, targets, homes, buf, patience))
+}
+
+fn replan(rt: &(impl Abort + AllocGlobal), shelf: &mut MemShelf, plan: &[Planned]) -> End {
+    assert!(rt; names_disks(plan, shelf.disks()));
+    shelf.set_plan(plan_of(rt, plan));
+    Replanned
+}
+
+fn take(
+    rt: &(impl Abort + AllocGlobal),
+    shelf: &mut MemShelf,
+    step: Step,
+    homes: &mut Homes,
+    patience: &mut Patience,
+) -> End {
+    match step {
+        Write(kind, stamp, len, last) => {
+            let content = content_of(rt, len, last);
+            write(
+                rt,
+                shelf,
+                (kind, stamp, content.as_slice()),
+                homes,
+                patience,
+            )
+        }
+        Replan(plan) => replan(rt, shelf, plan),
+    }
+}
+
+// What a slot of a disk holds.
 fn held(
-    alloc: Global,
+    rt: &(impl Abort + AllocGlobal),
     shelf: &MemShelf,
     disk: u16,
     kind: Kind,
     second: bool,
-) -> Result<Option<(Stamp, u8)>, Fail> {
-    if disk >= shelf.disks() {
-        return Err("no such disk".into());
-    }
+) -> Held {
     let (first, end) = match (kind, second) {
         (Kind::Descriptor, false) => (512, 1664),
         (Kind::Descriptor, true) => (1664, 2816),
         (Kind::Status, false) => (64, 128),
         (Kind::Status, true) => (128, 192),
     };
-    let slot = shelf
-        .image(disk)
-        .get(first * 512..end * 512)
-        .ok_or("a slot")?;
-    let framed = read_slot(alloc, kind, slot)?;
-    Ok(framed.and_then(|framed| framed
-        .content
-        .as_slice()
-        .last()
-        .map(|last| (framed.stamp, *last))))
+    assert!(rt; disk < shelf.disks());
+    let slot = shelf.image(disk).get(first * 512..end * 512)?;
+    let framed = read_slot(rt.alloc(), kind, slot).expect(rt, "memory")?;
+    let last = framed.content.as_slice().last()?;
+    Some((framed.stamp, *last))
 }
 
-// What the slots of a kind hold on both disks, slot 0 before slot 1.
-fn all_held(alloc: Global, shelf: &MemShelf, kind: Kind) -> Result<[Option<(Stamp, u8)>; 4], Fail> {
-    Ok([
-        held(alloc, shelf, 0, kind, false)?,
-        held(alloc, shelf, 0, kind, true)?,
-        held(alloc, shelf, 1, kind, false)?,
-        held(alloc, shelf, 1, kind, true)?,
-    ])
+fn all_held(
+    rt: &(impl Abort + AllocGlobal),
+    shelf: &MemShelf,
+    kind: Kind,
+) -> (Held, Held, Held, Held) {
+    (
+        held(rt, shelf, 0, kind, false),
+        held(rt, shelf, 0, kind, true),
+        held(rt, shelf, 1, kind, false),
+        held(rt, shelf, 1, kind, true),
+    )
 }
 
-// Whether the next write of each kind goes to slot 1: the descriptor on both disks, then the status.
-fn second(homes: &Homes) -> [bool; 4] {
-    let Homes { descriptor, status } = *homes;
-    [
-        descriptor.has(0),
-        descriptor.has(1),
-        status.has(0),
-        status.has(1),
-    ]
-}
-
-const WELL: End = End::Ended {
-    failed: [false, false],
-};
-
-#[test]
-fn a_record_goes_to_both_slots_in_turn(rt: HostRuntime) -> Result<(), Fail> {
-    let alloc = rt.alloc();
-    let mut shelf = shelf(alloc, &[])?;
-    let mut homes = first_homes();
-    let mut patience = Patience::whole();
-    for (stamp, last) in [(FIRST, 1), (LATER, 2), (LAST, 3)] {
-        let content = content(alloc, 600, last)?;
-        let record = (Kind::Status, stamp, content.as_slice());
-        assert_eq!(rt;
-            write(alloc, &mut shelf, record, &mut homes, &mut patience)?,
-            WELL
-        );
+fn look(rt: &(impl Abort + AllocGlobal), shelf: &MemShelf, homes: &Homes, kind: Kind) -> Left {
+    Left {
+        calls: shelf.calls(),
+        second: [first_two(homes.descriptor), first_two(homes.status)],
+        held: all_held(rt, shelf, kind),
     }
-    let third = Some((LAST, 3));
-    let two = Some((LATER, 2));
-    assert_eq!(rt;
-        all_held(alloc, &shelf, Kind::Status)?,
-        [third, two, third, two]
-    );
-    assert_eq!(rt; all_held(alloc, &shelf, Kind::Descriptor)?, [None; 4]);
-    assert_eq!(rt; second(&homes), [false, false, true, true]);
-    assert_eq!(rt; patience.left, 1_000_000);
-    Ok(())
 }
 
-#[test]
-fn a_disk_that_fails_is_named_and_keeps_its_slot(rt: HostRuntime) -> Result<(), Fail> {
-    let alloc = rt.alloc();
-    let mut shelf = shelf(alloc, &[at(1, Act::Fail(0))])?;
-    let mut homes = first_homes();
-    let mut patience = Patience::whole();
-    let one = content(alloc, 0, 1)?;
-    let record = (Kind::Descriptor, FIRST, one.as_slice());
-    let failed = End::Ended {
-        failed: [true, false],
+fn see_steps(rt: &(impl Abort + AllocGlobal), case: &Case, shelf: &mut MemShelf) {
+    let mut homes = Homes {
+        descriptor: DiskSet::empty(),
+        status: DiskSet::empty(),
     };
-    assert_eq!(rt;
-        write(alloc, &mut shelf, record, &mut homes, &mut patience)?,
-        failed
-    );
-    assert_eq!(rt; second(&homes), [false, true, false, false]);
-    let written = Some((FIRST, 1));
-    assert_eq!(rt;
-        all_held(alloc, &shelf, Kind::Descriptor)?,
-        [None, None, written, None]
-    );
-    replan(alloc, &mut shelf, &[at(5, Act::Heal(0))])?;
-    let two = content(alloc, 0, 2)?;
-    let record = (Kind::Descriptor, LATER, two.as_slice());
-    assert_eq!(rt;
-        write(alloc, &mut shelf, record, &mut homes, &mut patience)?,
-        WELL
-    );
-    let later = Some((LATER, 2));
-    assert_eq!(rt;
-        all_held(alloc, &shelf, Kind::Descriptor)?,
-        [later, None, written, later]
-    );
-    assert_eq!(rt; second(&homes), [true, false, false, false]);
-    Ok(())
-}
-
-#[test]
-fn a_long_record_is_written_piece_by_piece(rt: HostRuntime) -> Result<(), Fail> {
-    let alloc = rt.alloc();
-    let mut shelf = shelf(alloc, &[])?;
-    let mut homes = first_homes();
-    let mut patience = Patience::whole();
-    let long = content(alloc, LONG - 1, 1)?;
-    let record = (Kind::Descriptor, FIRST, long.as_slice());
-    assert_eq!(rt;
-        write(alloc, &mut shelf, record, &mut homes, &mut patience)?,
-        WELL
-    );
-    let whole = Some((FIRST, 1));
-    assert_eq!(rt;
-        all_held(alloc, &shelf, Kind::Descriptor)?,
-        [whole, None, whole, None]
-    );
-    // a start and a reap for each of five pieces on each disk
-    assert_eq!(rt; shelf.calls(), 20);
-    Ok(())
-}
-
-#[test]
-fn after_a_piece_that_failed_the_rest_of_the_disk_is_left_out(rt: HostRuntime) -> Result<(), Fail> {
-    let alloc = rt.alloc();
-    let mut shelf = shelf(alloc, &[at(5, Act::Fail(0))])?;
-    let mut homes = first_homes();
-    let mut patience = Patience::whole();
-    let long = content(alloc, LONG - 1, 1)?;
-    let record = (Kind::Descriptor, FIRST, long.as_slice());
-    let failed = End::Ended {
-        failed: [true, false],
+    let mut patience = Patience {
+        left: case.patience,
     };
-    assert_eq!(rt;
-        write(alloc, &mut shelf, record, &mut homes, &mut patience)?,
-        failed
-    );
-    assert_eq!(rt; shelf.calls(), 16);
-    let whole = Some((FIRST, 1));
-    assert_eq!(rt;
-        all_held(alloc, &shelf, Kind::Descriptor)?,
-        [None, None, whole, None]
-    );
-    assert_eq!(rt; second(&homes), [false, true, false, false]);
-    Ok(())
+    for (step, end, wanted) in case.steps {
+        let ended = take(rt, shelf, *step, &mut homes, &mut patience);
+        let is = look(rt, shelf, &homes, case.kind);
+        assert_eq!(rt; (ended, is), (*end, *wanted), "{}", case.name);
+    }
+    assert_eq!(rt; patience.left, case.patience_left, "{}", case.name);
 }
 
 #[test]
-fn a_cut_in_the_middle_leaves_the_record_before(rt: HostRuntime) -> Result<(), Fail> {
-    let alloc = rt.alloc();
-    let mut shelf = shelf(alloc, &[])?;
-    let mut homes = first_homes();
-    let mut patience = Patience::whole();
-    let one = content(alloc, LONG - 1, 1)?;
-    let record = (Kind::Descriptor, FIRST, one.as_slice());
-    assert_eq!(rt;
-        write(alloc, &mut shelf, record, &mut homes, &mut patience)?,
-        WELL
-    );
-    // the power is cut while the third piece of the second disk is out, of which every other sector lands
-    replan(
-        alloc,
-        &mut shelf,
-        &[at(36, Act::Cut(0xaaaa_aaaa_aaaa_aaaa))],
-    )?;
-    let two = content(alloc, LONG - 1, 2)?;
-    let record = (Kind::Descriptor, LATER, two.as_slice());
-    assert_eq!(rt;
-        write(alloc, &mut shelf, record, &mut homes, &mut patience)?,
-        End::Dark
-    );
-    assert_eq!(rt; shelf.calls(), 36);
-    let was = Some((FIRST, 1));
-    let later = Some((LATER, 2));
-    assert_eq!(rt;
-        all_held(alloc, &shelf, Kind::Descriptor)?,
-        [was, later, was, None]
-    );
-    assert_eq!(rt; second(&homes), [false, true, false, false]);
-    assert_eq!(rt;
-        write(alloc, &mut shelf, record, &mut homes, &mut patience)?,
-        WELL
-    );
-    assert_eq!(rt;
-        all_held(alloc, &shelf, Kind::Descriptor)?,
-        [later, later, was, later]
-    );
-    Ok(())
+fn records_are_written(rt: HostRuntime) {
+    for case in &CASES {
+        let mut shelf = blank_shelf(&rt, &[4096, 4096], case.plan);
+        see_steps(&rt, case, &mut shelf);
+    }
 }
 
-#[test]
-fn nothing_is_heard_until_the_patience_has_run_out(rt: HostRuntime) -> Result<(), Fail> {
-    let alloc = rt.alloc();
-    let plan = [at(1, Act::Delay(2)), at(5, Act::Delay(1000))];
-    let mut shelf = shelf(alloc, &plan)?;
-    let mut homes = first_homes();
-    let mut patience = Patience { left: 5 };
-    let one = content(alloc, 0, 1)?;
-    let record = (Kind::Status, FIRST, one.as_slice());
-    assert_eq!(rt;
-        write(alloc, &mut shelf, record, &mut homes, &mut patience)?,
-        End::Stuck
-    );
-    assert_eq!(rt; patience.left, 0);
-    assert_eq!(rt; shelf.calls(), 8);
-    assert_eq!(rt; second(&homes), [false, false, true, false]);
-    Ok(())
+// A plan, how the notes of both disks are emptied, and the stamps of the notes, which have no entries then.
+static NOTES: [(&str, &[Planned], End, [Option<u64>; 2]); 4] = [
+    ("both notes are emptied", &[], WELL, [Some(50), Some(50)]),
+    (
+        "a note that failed is named and the other is written",
+        &[Planned {
+            call: 1,
+            act: Act::Fail(0),
+        }],
+        Ended([true, false]),
+        [Some(0), Some(50)],
+    ),
+    (
+        "a cut between two notes leaves the first",
+        &[Planned {
+            call: 4,
+            act: Act::Cut(0),
+        }],
+        Dark,
+        [Some(50), Some(0)],
+    ),
+    (
+        "a cut may leave the second too",
+        &[Planned {
+            call: 4,
+            act: Act::Cut(1),
+        }],
+        Dark,
+        [Some(50), Some(50)],
+    ),
+];
+
+fn empty<S: Shelf>(rt: &(impl Abort + AllocGlobal), shelf: &mut S, stamp: u64) -> End {
+    assert!(rt; shelf.flights() == 0);
+    relight(shelf);
+    assert!(rt; has_room(shelf));
+    let targets = all_disks(shelf.disks());
+    let buf = Pbuf::fresh(rt.alloc(), 9).expect(rt, "memory");
+    end_of(empty_notes(shelf, stamp, targets, buf, &mut Patience::whole()))
 }
 
-fn row(disk: u16, homes: [u8; 2]) -> SurveyRow {
-    SurveyRow {
-        disk,
-        failed: false,
-        sectors: 4096,
-        descriptor: None,
-        descriptor_stamp: FIRST,
-        status: None,
-        status_stamp: FIRST,
-        note: None,
-        homes,
+// The stamp of a disk's note, where it has no entries.
+fn note_on(rt: &impl Abort, shelf: &MemShelf, disk: u16) -> Option<u64> {
+    assert!(rt; disk < shelf.disks());
+    let bytes = shelf.image(disk).get(8 * 512..9 * 512)?;
+    let mut sector = [0; 512];
+    assert!(rt; bytes.len() == sector.len());
+    sector.copy_from_slice(bytes);
+    let note = read_note(&sector)?;
+    if note.entries.is_empty() {
+        Some(note.stamp)
+    } else {
+        None
     }
 }
 
 #[test]
-fn the_slot_without_the_newest_record_comes_next(rt: HostRuntime) -> Result<(), Fail> {
-    let mut rows = Vec::new(rt.alloc());
-    for (disk, homes) in [(0, [0, 2]), (1, [1, 0])] {
-        rows.push(row(disk, homes))?;
+fn notes_are_emptied(rt: HostRuntime) {
+    for (name, plan, end, stamps) in &NOTES {
+        let mut shelf = blank_shelf(&rt, &[4096, 4096], plan);
+        let ended = empty(&rt, &mut shelf, 50);
+        let notes = [note_on(&rt, &shelf, 0), note_on(&rt, &shelf, 1)];
+        assert_eq!(rt; (ended, notes, shelf.calls()), (*end, *stamps, 4), "{name}");
     }
-    let survey = Survey {
-        rows: Rows::new(rows),
-    };
-    if !is_survey(&survey) {
-        return Err("no survey".into());
-    }
-    assert_eq!(rt; second(&Homes::of(&survey)), [true, false, false, true]);
-    Ok(())
 }

@@ -1,23 +1,32 @@
-ghost use Rattle.std.specs.Prelude.{◌<◌, ℕ, length, All, IsTrue, IfOk};
+//! A descriptor and then a status, committed by a session of three members in memory.
+ghost use Rattle.std.specs.Prelude.{◌≡◌, ◌≤◌, ◌<◌, Ok, length, All, IsTrue};
 ghost use Rattle.lvm_num.specs.declared.descriptor.PvRow.{PvRow as pv_row};
-ghost use Rattle.lvm_quorum.specs.Written.{HasRoom};
+ghost use Rattle.lvm_num.specs.DescriptorBytes.{descriptor_of};
 ghost use Rattle.lvm_commit.specs.Settling.{IsOf, MaySettle, HasNumbers};
 
-use crate::write::is_committed;
-use crate::{Settled, commit_descriptor, commit_status};
-use lvm_disk::{Act, MemShelf, Planned, Shelf, names_disks};
-use lvm_move::{Patience, relight};
-use lvm_num::{
-    Descriptor, DiskSet, LvRow, Mode, Name, Pbuf, Policy, Pp, PvRow, Rows, Stamp, Status,
-    StatusRow, VolumeNumbers,
+use crate::fixtures::{
+    blank_shelf, first_homes, group, has_room, row, stamp, status, survey, volume,
 };
-use lvm_quorum::{Homes, Surveyed, survey_disks};
+use lvm_commit::{Settled, commit_descriptor, commit_status};
+use lvm_disk::{Act, MemShelf, Planned, Shelf};
+use lvm_move::{Patience, relight};
+use lvm_num::{Descriptor, Pbuf, Pp, Rows, Stamp};
+use lvm_quorum::Homes;
 use lvm_stale::StaleTable;
 use lvm_status::{Change, Updater};
-use std::alloc::Global;
-use std::test::Fail;
+use lvm_survey::Survey;
+use std::process::Abort;
 
 const ID: u64 = 50;
+
+// Three disks with room for one partition.
+const SIZES: [u64; 3] = [6144, 6144, 6144];
+
+const ZEROTH: Pp = Pp { disk: 0, pp: 0 };
+
+const FIRST: Pp = Pp { disk: 1, pp: 0 };
+
+const SECOND: Pp = Pp { disk: 2, pp: 0 };
 
 // How a commit ended.
 #[derive(Clone, Copy, Debug, PartialEq, Eq)]
@@ -26,85 +35,308 @@ enum End {
     WentOff(u32, u32),
     Dark,
     Stuck,
+    // It came back with another buffer.
+    OtherBuffer,
 }
 
-fn end_of(settled: Settled) -> Result<End, Fail> {
+// The group of a session: without volumes, also with quorum checking off, or with a volume of one logical partition
+// that has a copy on disk 1 and one on disk 2.
+#[derive(Clone, Copy, Debug, PartialEq, Eq)]
+enum Group {
+    Plain,
+    NoQuorum,
+    Mirrored,
+}
+
+// How the commits of a descriptor and then of a status ended, each after how many calls of the shelf, and what they
+// left committed. After a descriptor that wasn't committed no status is tried.
+#[derive(Clone, Copy, Debug, PartialEq, Eq)]
+struct Ran {
+    described: (End, u64),
+    stated: (End, u64),
+    stamp: Stamp,
+    // Of the three disks: which are missing, and whose partition is stale.
+    missing: [bool; 3],
+    stale: [bool; 3],
+}
+
+struct Case {
+    name: &'static str,
+    group: Group,
+    plan: &'static [Planned],
+    // The partition that the status calls stale.
+    stale: Option<Pp>,
+    ran: Ran,
+}
+
+static CASES: [Case; 12] = [
+    Case {
+        name: "a record goes to each member",
+        group: Group::Plain,
+        plan: &[],
+        stale: Some(SECOND),
+        // Nothing was wanted with the descriptor, so no status was written.
+        ran: Ran {
+            described: (End::Done, 6),
+            stated: (End::Done, 12),
+            stamp: Stamp { epoch: 50, seq: 2 },
+            missing: [false, false, false],
+            stale: [false, false, true],
+        },
+    },
+    Case {
+        name: "nothing is written where nothing is wanted",
+        group: Group::Plain,
+        plan: &[],
+        stale: None,
+        ran: Ran {
+            described: (End::Done, 6),
+            stated: (End::Done, 6),
+            stamp: Stamp { epoch: 50, seq: 1 },
+            missing: [false, false, false],
+            stale: [false, false, false],
+        },
+    },
+    // The status goes to the two others.
+    Case {
+        name: "a member that fails at the descriptor is missing",
+        group: Group::Plain,
+        plan: &[Planned {
+            call: 3,
+            act: Act::Fail(1),
+        }],
+        stale: None,
+        ran: Ran {
+            described: (End::Done, 10),
+            stated: (End::Done, 10),
+            stamp: Stamp { epoch: 50, seq: 2 },
+            missing: [false, true, false],
+            stale: [false, false, false],
+        },
+    },
+    // The first of the two has the partition stale, the second disk 2 missing too.
+    Case {
+        name: "a status whose write fails is written again",
+        group: Group::Plain,
+        plan: &[Planned {
+            call: 11,
+            act: Act::Fail(2),
+        }],
+        stale: Some(SECOND),
+        ran: Ran {
+            described: (End::Done, 6),
+            stated: (End::Done, 16),
+            stamp: Stamp { epoch: 50, seq: 3 },
+            missing: [false, false, true],
+            stale: [false, false, true],
+        },
+    },
+    Case {
+        name: "a copy on a member that is lost at a descriptor becomes stale",
+        group: Group::Mirrored,
+        plan: &[Planned {
+            call: 3,
+            act: Act::Fail(1),
+        }],
+        stale: None,
+        ran: Ran {
+            described: (End::Done, 10),
+            stated: (End::Done, 10),
+            stamp: Stamp { epoch: 50, seq: 2 },
+            missing: [false, true, false],
+            stale: [false, true, false],
+        },
+    },
+    Case {
+        name: "and so does one on a member that is lost at a status",
+        group: Group::Mirrored,
+        plan: &[Planned {
+            call: 9,
+            act: Act::Fail(1),
+        }],
+        stale: Some(ZEROTH),
+        ran: Ran {
+            described: (End::Done, 6),
+            stated: (End::Done, 16),
+            stamp: Stamp { epoch: 50, seq: 3 },
+            missing: [false, true, false],
+            stale: [true, true, false],
+        },
+    },
+    // The other copy is stale already.
+    Case {
+        name: "the last fresh copy stays so",
+        group: Group::Mirrored,
+        plan: &[Planned {
+            call: 9,
+            act: Act::Fail(1),
+        }],
+        stale: Some(SECOND),
+        ran: Ran {
+            described: (End::Done, 6),
+            stated: (End::Done, 16),
+            stamp: Stamp { epoch: 50, seq: 3 },
+            missing: [false, true, false],
+            stale: [false, false, true],
+        },
+    },
+    // No status is written.
+    Case {
+        name: "without its votes a group goes off",
+        group: Group::Plain,
+        plan: &[
+            Planned {
+                call: 1,
+                act: Act::Fail(0),
+            },
+            Planned {
+                call: 1,
+                act: Act::Fail(1),
+            },
+        ],
+        stale: None,
+        ran: Ran {
+            described: (End::WentOff(1, 3), 6),
+            stated: (End::WentOff(1, 3), 6),
+            stamp: Stamp { epoch: 50, seq: 1 },
+            missing: [false, false, false],
+            stale: [false, false, false],
+        },
+    },
+    Case {
+        name: "and so it does where they are lost at a status",
+        group: Group::Plain,
+        plan: &[
+            Planned {
+                call: 7,
+                act: Act::Fail(0),
+            },
+            Planned {
+                call: 7,
+                act: Act::Fail(1),
+            },
+        ],
+        stale: Some(SECOND),
+        ran: Ran {
+            described: (End::Done, 6),
+            stated: (End::WentOff(1, 3), 12),
+            stamp: Stamp { epoch: 50, seq: 2 },
+            missing: [false, false, false],
+            stale: [false, false, false],
+        },
+    },
+    Case {
+        name: "one member is enough with quorum checking off",
+        group: Group::NoQuorum,
+        plan: &[
+            Planned {
+                call: 1,
+                act: Act::Fail(0),
+            },
+            Planned {
+                call: 1,
+                act: Act::Fail(1),
+            },
+        ],
+        stale: Some(SECOND),
+        ran: Ran {
+            described: (End::Done, 8),
+            stated: (End::Done, 10),
+            stamp: Stamp { epoch: 50, seq: 3 },
+            missing: [true, true, false],
+            stale: [false, false, true],
+        },
+    },
+    Case {
+        name: "and none is too few",
+        group: Group::NoQuorum,
+        plan: &[
+            Planned {
+                call: 1,
+                act: Act::Fail(0),
+            },
+            Planned {
+                call: 1,
+                act: Act::Fail(1),
+            },
+            Planned {
+                call: 1,
+                act: Act::Fail(2),
+            },
+        ],
+        stale: None,
+        ran: Ran {
+            described: (End::WentOff(0, 3), 6),
+            stated: (End::WentOff(0, 3), 6),
+            stamp: Stamp { epoch: 50, seq: 1 },
+            missing: [false, false, false],
+            stale: [false, false, false],
+        },
+    },
+    Case {
+        name: "nothing is heard until the patience has run out",
+        group: Group::Plain,
+        plan: &[Planned {
+            call: 1,
+            act: Act::Delay(2_000),
+        }],
+        stale: None,
+        ran: Ran {
+            described: (End::Stuck, 1_001),
+            stated: (End::Stuck, 1_001),
+            stamp: Stamp { epoch: 50, seq: 1 },
+            missing: [false, false, false],
+            stale: [false, false, false],
+        },
+    },
+];
+
+fn end_of(settled: Settled) -> End {
     match settled {
-        Settled::Done { buf } if buf.number() == 9 => Ok(End::Done),
-        Settled::WentOff { have, total, buf } if buf.number() == 9 => Ok(End::WentOff(have, total)),
-        Settled::Dark => Ok(End::Dark),
-        Settled::Stuck => Ok(End::Stuck),
-        _ => Err("another buffer".into()),
-    }
-}
-
-// A group of the first disks, with one partition of 1 MiB each.
-fn group(alloc: Global, members: u16, quorum: bool) -> Result<Descriptor, Fail> {
-    let mut pvs = Vec::new(alloc);
-    for disk in 0..members {
-        pvs.push(PvRow {
-            disk,
-            pps: 1,
-            spare: false,
-        })?;
-    }
-    Ok(Descriptor {
-        id: ID,
-        name: Name::read(b"datavg").ok_or("a name")?,
-        mib: 1,
-        quorum,
-        even: false,
-        big: false,
-        pvs: Rows::new(pvs),
-        lvs: Rows::empty(alloc),
-    })
-}
-
-// A table with rows for these members and nothing stale.
-fn table(alloc: Global, members: u16) -> Result<StaleTable, Fail> {
-    let mut rows = Vec::new(alloc);
-    for disk in 0..members {
-        rows.push(StatusRow {
-            disk,
-            missing: false,
-            stale: [0; 127],
-        })?;
-    }
-    let status = Status {
-        id: ID,
-        big: false,
-        dirty: VolumeNumbers::empty(alloc).map_err(|_| "memory")?,
-        rows: Rows::new(rows),
-    };
-    if !status.is_valid() {
-        return Err("no status".into());
-    }
-    Ok(StaleTable::from_status(alloc, &status)?)
-}
-
-// Three disks with room for one partition.
-fn shelf(alloc: Global, plan: &[Planned]) -> Result<MemShelf, Fail> {
-    if !names_disks(plan, 3) {
-        return Err("no such disk".into());
-    }
-    let plan = Rows::new(Vec::from_slice(alloc, plan)?);
-    Ok(MemShelf::new(alloc, &[6144, 6144, 6144], plan, 0)?)
-}
-
-fn at(call: u64, act: Act) -> Planned {
-    Planned { call, act }
-}
-
-// Whether each disk has room for records.
-fn has_room<S: Shelf>(shelf: &S) -> bool
-    ensures { IsTrue result → (d : ℕ) → d < length (S.device shelf.now).sizes → HasRoom (S.device shelf.now) d }
-{
-    for disk in 0..shelf.disks() {
-        if shelf.sectors(disk) < 4096 {
-            return false;
+        Settled::Done { buf } => {
+            if buf.number() == 9 {
+                End::Done
+            } else {
+                End::OtherBuffer
+            }
         }
+        Settled::WentOff { have, total, buf } => {
+            if buf.number() == 9 {
+                End::WentOff(have, total)
+            } else {
+                End::OtherBuffer
+            }
+        }
+        Settled::Dark => End::Dark,
+        Settled::Stuck => End::Stuck,
     }
-    true
+}
+
+fn group_of(rt: &(impl Abort + AllocGlobal), is: Group) -> Descriptor {
+    let mut group = group(rt, ID, 3);
+    group.quorum = is != Group::NoQuorum;
+    if is == Group::Mirrored {
+        group.lvs = volume(rt, [FIRST, SECOND]);
+    }
+    group
+}
+
+// A table with a row for each member and nothing stale.
+fn first_table(rt: &(impl Abort + AllocGlobal)) -> StaleTable {
+    let status = status(rt, ID, 3);
+    assert!(rt; status.is_valid());
+    StaleTable::from_status(rt.alloc(), &status).expect(rt, "memory")
+}
+
+fn first_updater(rt: &(impl Abort + AllocGlobal), d: &Descriptor) -> Updater
+    ensures own { IsOf d.now result }
+    ensures settled { result.committed ≡ result.wanted }
+{
+    let table = first_table(rt);
+    assert!(rt; d.is_valid() && Updater::has_its_rows(d, &table));
+    let mut updater = Updater::new(rt.alloc(), table, d).expect(rt, "memory");
+    updater.set_stamp(stamp(50, 0));
+    updater
 }
 
 // Whether each member's disk is one of so many.
@@ -138,42 +370,43 @@ fn is_ready<S: Shelf>(shelf: &S, d: &Descriptor, updater: &Updater) -> bool
     d.enough_to_write(have)
 }
 
-fn first_updater(alloc: Global, d: &Descriptor) -> Result<Updater, Fail>
-    ensures { IfOk result (λ updater. IsOf d.now updater) }
+fn content_of(rt: &(impl Abort + AllocGlobal), d: &Descriptor) -> Rows<u8>
+    ensures describes { descriptor_of result ≡ Ok d.now }
+    ensures fits { length result ≤ 571388 }
 {
-    let table = table(alloc, 3)?;
-    if !d.is_valid() || !Updater::has_its_rows(d, &table) {
-        return Err("no group".into());
+    if !d.is_valid() {
+        panic!(rt; "no group");
     }
-    let mut updater = Updater::new(alloc, table, d)?;
-    updater.set_stamp(stamp(50, 0));
-    Ok(updater)
+    let content = lvm_vgda::encode(rt.alloc(), d).expect(rt, "memory");
+    assert!(rt; content.len() <= 571_388);
+    content
+}
+
+// Room for the largest status.
+fn room(rt: &(impl Abort + AllocGlobal)) -> Vec<u8>
+    ensures { length result.items ≡ 31740 }
+{
+    vec![in rt.alloc(); 0; 31_740].expect(rt, "memory")
 }
 
 fn describe<S: Shelf>(
-    alloc: Global,
+    rt: &(impl Abort + AllocGlobal),
     shelf: &mut S,
     d: &Descriptor,
     updater: &mut Updater,
     homes: &mut Homes,
-) -> Result<End, Fail>
-    requires { IsOf d.now updater.old }
+) -> End
+    requires own { IsOf d.now updater.old }
+    requires settled { updater.old.committed ≡ updater.old.wanted }
     ensures { IsOf d.now updater.new }
 {
-    if shelf.flights() > 0 {
-        return Err("a transfer is out".into());
-    }
+    assert!(rt; shelf.flights() == 0);
     relight(shelf);
-    if !is_ready(shelf, d, updater) || !is_committed(updater) {
-        return Err("not ready".into());
-    }
-    let content = lvm_vgda::encode(alloc, d)?;
-    if content.len() > 571_388 {
-        return Err("no record".into());
-    }
-    let mut bytes = vec![in alloc; 0; 31_740]?;
-    let mut patience = Patience::whole();
-    let buf = Pbuf::fresh(alloc, 9)?;
+    let content = content_of(rt, d);
+    let mut bytes = room(rt);
+    let buf = Pbuf::fresh(rt.alloc(), 9).expect(rt, "memory");
+    let mut patience = Patience { left: 1_000 };
+    assert!(rt; is_ready(shelf, d, updater));
     end_of(commit_descriptor(
         shelf,
         d,
@@ -187,248 +420,138 @@ fn describe<S: Shelf>(
 }
 
 fn state<S: Shelf>(
-    alloc: Global,
+    rt: &(impl Abort + AllocGlobal),
     shelf: &mut S,
     d: &Descriptor,
     updater: &mut Updater,
     homes: &mut Homes,
-) -> Result<End, Fail>
+) -> End
     requires { IsOf d.now updater.old }
 {
-    if shelf.flights() > 0 {
-        return Err("a transfer is out".into());
-    }
+    assert!(rt; shelf.flights() == 0);
     relight(shelf);
-    if !is_ready(shelf, d, updater) {
-        return Err("not ready".into());
-    }
-    let mut bytes = vec![in alloc; 0; 31_740]?;
-    let mut patience = Patience::whole();
-    let buf = Pbuf::fresh(alloc, 9)?;
+    let mut bytes = room(rt);
+    let buf = Pbuf::fresh(rt.alloc(), 9).expect(rt, "memory");
+    let mut patience = Patience { left: 1_000 };
+    assert!(rt; is_ready(shelf, d, updater));
     end_of(commit_status(shelf, d, updater, homes, &mut bytes, buf, &mut patience))
 }
 
 // The partition, if it is one, is wanted stale.
-fn mark(d: &Descriptor, updater: &mut Updater, stale: Option<Pp>) -> Result<(), Fail>
+fn mark(rt: &impl Abort, d: &Descriptor, updater: &mut Updater, stale: Option<Pp>)
     requires { IsOf d.now updater.old }
     ensures { IsOf d.now updater.new }
 {
-    let Some(pp) = stale else {
-        return Ok(());
-    };
-    if !updater.wanted().has_row(pp.disk) || pp.pp >= 1016 {
-        return Err("no such partition".into());
+    if let Some(pp) = stale {
+        assert!(rt; updater.wanted().has_row(pp.disk) && pp.pp < 1016);
+        updater.want(Change::Stale(pp));
     }
-    updater.want(Change::Stale(pp));
-    Ok(())
 }
 
-// What a descriptor and then a status that calls a partition stale were answered, after how many calls of the shelf,
-// and what they left.
-#[derive(Drop)]
-struct Ran {
-    described: (End, u64),
-    stated: (End, u64),
-    updater: Updater,
-    shelf: MemShelf,
+fn missing_of(updater: &Updater) -> [bool; 3] {
+    let committed = updater.committed();
+    [
+        committed.is_missing(0),
+        committed.is_missing(1),
+        committed.is_missing(2),
+    ]
 }
 
-fn run(alloc: Global, quorum: bool, plan: &[Planned], stale: Option<Pp>) -> Result<Ran, Fail> {
-    let group = group(alloc, 3, quorum)?;
-    run_on(alloc, group, plan, stale)
+fn stale_of(updater: &Updater) -> [bool; 3] {
+    let committed = updater.committed();
+    [
+        committed.is_stale(ZEROTH),
+        committed.is_stale(FIRST),
+        committed.is_stale(SECOND),
+    ]
 }
 
-// The same with a volume of one logical partition, which has a copy on disk 1 and one on disk 2.
-fn run_mirrored(alloc: Global, plan: &[Planned], stale: Option<Pp>) -> Result<Ran, Fail> {
-    let mut group = group(alloc, 3, true)?;
-    let mut rows = Vec::new(alloc);
-    rows.push(LvRow {
-        number: 1,
-        name: Name::read(b"lv00").ok_or("a name")?,
-        mode: Mode::Off,
-        policy: Policy::Parallel,
-        copies: 2,
-        lps: 1,
-        map: Rows::new(Vec::from_slice(alloc, &[OTHER, SOME])?),
-    })?;
-    group.lvs = Rows::new(rows);
-    run_on(alloc, group, plan, stale)
-}
-
-fn run_on(
-    alloc: Global,
-    group: Descriptor,
-    plan: &[Planned],
+fn run(
+    rt: &(impl Abort + AllocGlobal),
+    shelf: &mut MemShelf,
+    d: &Descriptor,
     stale: Option<Pp>,
-) -> Result<Ran, Fail> {
-    let mut shelf = shelf(alloc, plan)?;
-    let mut updater = first_updater(alloc, &group)?;
-    let mut homes = Homes {
-        descriptor: DiskSet::empty(),
-        status: DiskSet::empty(),
+) -> Ran {
+    let mut updater = first_updater(rt, d);
+    let mut homes = first_homes();
+    let described = describe(rt, shelf, d, &mut updater, &mut homes);
+    let described = (described, shelf.calls());
+    let stated = if described.0 == End::Done {
+        mark(rt, d, &mut updater, stale);
+        state(rt, shelf, d, &mut updater, &mut homes)
+    } else {
+        described.0
     };
-    let end = describe(alloc, &mut shelf, &group, &mut updater, &mut homes)?;
-    let described = (end, shelf.calls());
-    if end != End::Done {
-        return Ok(Ran {
-            described,
-            stated: described,
-            updater,
-            shelf,
-        });
-    }
-    mark(&group, &mut updater, stale)?;
-    let end = state(alloc, &mut shelf, &group, &mut updater, &mut homes)?;
-    let stated = (end, shelf.calls());
-    Ok(Ran {
+    Ran {
         described,
-        stated,
-        updater,
-        shelf,
-    })
+        stated: (stated, shelf.calls()),
+        stamp: updater.stamp(),
+        missing: missing_of(&updater),
+        stale: stale_of(&updater),
+    }
+}
+
+#[test]
+fn records_are_committed(rt: HostRuntime) {
+    for case in &CASES {
+        let mut shelf = blank_shelf(&rt, &SIZES, case.plan);
+        let group = group_of(&rt, case.group);
+        let ran = run(&rt, &mut shelf, &group, case.stale);
+        assert_eq!(rt; ran, case.ran, "{}", case.name);
+    }
 }
 
 // The stamps of the newest descriptor and status of each disk.
-fn stamps<S: Shelf>(alloc: Global, shelf: &mut S) -> Result<Vec<(Stamp, Stamp)>, Fail> {
-    if shelf.flights() > 0 {
-        return Err("a transfer is out".into());
-    }
-    relight(shelf);
-    let mut patience = Patience::whole();
-    let buf = Pbuf::fresh(alloc, 7)?;
-    let Surveyed::Ended { survey, buf: _ } = survey_disks(alloc, shelf, buf, &mut patience) else {
-        return Err("not ended".into());
-    };
-    let mut stamps = Vec::new(alloc);
-    for row in survey.rows.as_slice() {
-        stamps.push((row.descriptor_stamp, row.status_stamp))?;
-    }
-    Ok(stamps)
+fn stamps_in(rt: &impl Abort, survey: &Survey) -> [(Stamp, Stamp); 3] {
+    [
+        stamps_on(rt, survey, 0),
+        stamps_on(rt, survey, 1),
+        stamps_on(rt, survey, 2),
+    ]
 }
 
-fn stamp(epoch: u64, seq: u32) -> Stamp {
-    Stamp { epoch, seq }
+fn stamps_on(rt: &impl Abort, survey: &Survey, disk: usize) -> (Stamp, Stamp) {
+    let row = row(rt, survey, disk);
+    (row.descriptor_stamp, row.status_stamp)
 }
 
-const SOME: Pp = Pp { disk: 2, pp: 0 };
-
-const OTHER: Pp = Pp { disk: 1, pp: 0 };
+fn left(rt: &(impl Abort + AllocGlobal), plan: &[Planned]) -> [(Stamp, Stamp); 3] {
+    let mut shelf = blank_shelf(rt, &SIZES, plan);
+    let group = group_of(rt, Group::Plain);
+    let _ = run(rt, &mut shelf, &group, Some(SECOND));
+    let survey = survey(rt, &mut shelf);
+    stamps_in(rt, &survey)
+}
 
 #[test]
-fn a_record_goes_to_each_member(rt: HostRuntime) -> Result<(), Fail> {
-    let alloc = rt.alloc();
-    let mut ran = run(alloc, true, &[], Some(SOME))?;
-    // nothing was wanted with the descriptor, so no status was written
-    assert_eq!(rt; ran.described, (End::Done, 6));
-    assert_eq!(rt; ran.stated, (End::Done, 12));
-    assert!(rt; ran.updater.committed().is_stale(SOME));
-    let left = stamps(alloc, &mut ran.shelf)?;
+fn committed_records_stand_on_the_disks(rt: HostRuntime) {
     let each = (stamp(50, 1), stamp(50, 2));
-    assert_eq!(rt; left.as_slice(), [each, each, each].as_slice());
-    Ok(())
-}
-
-#[test]
-fn nothing_is_written_where_nothing_is_wanted(rt: HostRuntime) -> Result<(), Fail> {
-    let ran = run(rt.alloc(), true, &[], None)?;
-    assert_eq!(rt; ran.described, (End::Done, 6));
-    assert_eq!(rt; ran.stated, (End::Done, 6));
-    assert_eq!(rt; ran.updater.stamp(), stamp(50, 1));
-    Ok(())
-}
-
-#[test]
-fn a_member_that_fails_at_the_descriptor_is_missing(rt: HostRuntime) -> Result<(), Fail> {
-    let alloc = rt.alloc();
-    let plan = [at(3, Act::Fail(1)), at(7, Act::Heal(1))];
-    let mut ran = run(alloc, true, &plan, None)?;
-    // the status went to the two others
-    assert_eq!(rt; ran.described, (End::Done, 10));
-    assert_eq!(rt; ran.stated, (End::Done, 10));
-    assert!(rt; ran.updater.committed().is_missing(1));
-    let left = stamps(alloc, &mut ran.shelf)?;
-    let there = (stamp(50, 1), stamp(50, 2));
-    let missing = (stamp(0, 0), stamp(0, 0));
-    assert_eq!(rt; left.as_slice(), [there, missing, there].as_slice());
-    Ok(())
-}
-
-#[test]
-fn a_status_whose_write_fails_is_written_again(rt: HostRuntime) -> Result<(), Fail> {
-    let ran = run(rt.alloc(), true, &[at(11, Act::Fail(2))], Some(SOME))?;
-    // the first of the two has the partition stale, the second disk 2 missing too
-    assert_eq!(rt; ran.stated, (End::Done, 16));
-    assert!(rt; ran.updater.committed().is_missing(2));
-    assert_eq!(rt; ran.updater.stamp(), stamp(50, 3));
-    Ok(())
-}
-
-#[test]
-fn a_copy_on_a_member_that_is_lost_becomes_stale(rt: HostRuntime) -> Result<(), Fail> {
-    let alloc = rt.alloc();
-    let ran = run_mirrored(alloc, &[at(3, Act::Fail(1))], None)?;
-    // the status that says that disk 1 is missing says so of the copy too
-    assert_eq!(rt; ran.described, (End::Done, 10));
-    assert!(rt; ran.updater.committed().is_missing(1));
-    assert!(rt; ran.updater.committed().is_stale(OTHER));
-    assert!(rt; !ran.updater.committed().is_stale(SOME));
-    // and so it is where the disk is lost while a status is written
-    let ran = run_mirrored(alloc, &[at(9, Act::Fail(1))], Some(Pp { disk: 0, pp: 0 }))?;
-    assert_eq!(rt; ran.stated, (End::Done, 16));
-    assert!(rt; ran.updater.committed().is_stale(OTHER));
-    assert!(rt; !ran.updater.committed().is_stale(SOME));
-    Ok(())
-}
-
-#[test]
-fn the_last_fresh_copy_stays_so(rt: HostRuntime) -> Result<(), Fail> {
-    let alloc = rt.alloc();
-    // the other copy is stale already
-    let ran = run_mirrored(alloc, &[at(9, Act::Fail(1))], Some(SOME))?;
-    assert_eq!(rt; ran.stated, (End::Done, 16));
-    assert!(rt; ran.updater.committed().is_missing(1));
-    assert!(rt; !ran.updater.committed().is_stale(OTHER));
-    assert!(rt; ran.updater.committed().is_stale(SOME));
-    Ok(())
-}
-
-#[test]
-fn without_its_votes_a_group_goes_off(rt: HostRuntime) -> Result<(), Fail> {
-    let alloc = rt.alloc();
-    let two = [at(1, Act::Fail(0)), at(1, Act::Fail(1))];
-    let ran = run(alloc, true, &two, None)?;
-    // no status was written
-    assert_eq!(rt; ran.described, (End::WentOff(1, 3), 6));
-    let later = [at(7, Act::Fail(0)), at(7, Act::Fail(1))];
-    let ran = run(alloc, true, &later, Some(SOME))?;
-    assert_eq!(rt; ran.stated, (End::WentOff(1, 3), 12));
-    assert!(rt; !ran.updater.committed().is_stale(SOME));
-    Ok(())
-}
-
-#[test]
-fn one_member_is_enough_with_quorum_checking_off(rt: HostRuntime) -> Result<(), Fail> {
-    let alloc = rt.alloc();
-    let two = [at(1, Act::Fail(0)), at(1, Act::Fail(1))];
-    let ran = run(alloc, false, &two, Some(SOME))?;
-    assert_eq!(rt; ran.described, (End::Done, 8));
-    assert_eq!(rt; ran.stated, (End::Done, 10));
-    let all = [
-        at(1, Act::Fail(0)),
-        at(1, Act::Fail(1)),
-        at(1, Act::Fail(2)),
+    assert_eq!(rt; left(&rt, &[]), [each; 3]);
+    let plan = [
+        Planned {
+            call: 3,
+            act: Act::Fail(1),
+        },
+        Planned {
+            call: 11,
+            act: Act::Heal(1),
+        },
     ];
-    let ran = run(alloc, false, &all, None)?;
-    assert_eq!(rt; ran.described, (End::WentOff(0, 3), 6));
-    Ok(())
+    let there = (stamp(50, 1), stamp(50, 3));
+    let missing = (stamp(0, 0), stamp(0, 0));
+    assert_eq!(rt; left(&rt, &plan), [there, missing, there]);
 }
 
 #[test]
-fn a_cut_ends_a_commit(rt: HostRuntime) -> Result<(), Fail> {
-    let alloc = rt.alloc();
+fn a_cut_ends_a_commit(rt: HostRuntime) {
     for call in 1..=12 {
-        let ran = run(alloc, true, &[at(call, Act::Cut(0x5555))], Some(SOME))?;
+        let plan = [Planned {
+            call,
+            act: Act::Cut(0x5555),
+        }];
+        let mut shelf = blank_shelf(&rt, &SIZES, &plan);
+        let group = group_of(&rt, Group::Plain);
+        let ran = run(&rt, &mut shelf, &group, Some(SECOND));
         assert_eq!(rt; ran.stated, (End::Dark, call));
     }
-    Ok(())
 }

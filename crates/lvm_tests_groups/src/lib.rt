@@ -6,6 +6,6 @@ mod begin;
 #[cfg(test)]
 mod commit;
 #[cfg(test)]
-mod group;
+mod fixtures;
 #[cfg(test)]
 mod varyon;

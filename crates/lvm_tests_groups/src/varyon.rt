@@ -1,24 +1,18 @@
 //! Groups of two disks that come on, and that don't.
-ghost use Rattle.std.specs.Prelude.{◌≡◌, ◌%◌, ◌<◌, ◌≤◌, ℕ, length, IsTrue};
-ghost use Rattle.std.specs.List.{All};
-ghost use Rattle.lvm_num.specs.Disks.{has};
-ghost use Rattle.lvm_quorum.specs.Written.{HasRoom};
-
-use crate::varyon;
-use lvm_begin::{Begun, begin_new};
-use lvm_core::{Cause, Driver, Refused, Room};
-use lvm_disk::{Act, MemShelf, Planned, Shelf, names_disks};
+use crate::fixtures::{Begin, begin_first, blank_shelf, group, images_of, name_of, volume};
+use lvm_core::{Cause, Driver, Room};
+use lvm_disk::{Act, Arrange, MemShelf, Planned, Shelf};
 use lvm_move::{Patience, relight};
-use lvm_num::{
-    Descriptor, DiskSet, LvRow, Mode, Name, Pbuf, Policy, Pp, PvRow, Rows, Status, StatusRow,
-    VolumeNumbers,
-};
-use lvm_quorum::Homes;
+use lvm_num::Pp;
+use lvm_varyon::varyon;
 use lvm_vol::History;
-use std::alloc::Global;
-use std::test::Fail;
+use std::process::Abort;
 
 const GROUP: u64 = 50;
+
+const FIRST: Pp = Pp { disk: 0, pp: 0 };
+
+const SECOND: Pp = Pp { disk: 1, pp: 0 };
 
 const ROOM: Room = Room {
     table: 4,
@@ -27,232 +21,172 @@ const ROOM: Room = Room {
     bytes: 0,
 };
 
-fn name() -> Result<Name, Fail> {
-    Ok(Name::read(b"datavg").ok_or("a name")?)
+#[derive(Clone, Copy, Debug, PartialEq, Eq)]
+enum Answer {
+    On(Session),
+    Not(Cause),
 }
 
-// A group of two disks with one partition of 1 MiB each, and a volume of one logical partition on both.
-fn group(alloc: Global) -> Result<Descriptor, Fail> {
-    let mut pvs = Vec::new(alloc);
-    let mut map = Vec::new(alloc);
-    for disk in 0..2 {
-        pvs.push(PvRow {
-            disk,
-            pps: 1,
-            spare: false,
-        })?;
-        map.push(Pp { disk, pp: 0 })?;
-    }
-    let mut lvs = Vec::new(alloc);
-    lvs.push(LvRow {
-        number: 1,
-        name: Name::read(b"lv00").ok_or("a name")?,
-        copies: 2,
-        mode: Mode::Off,
-        policy: Policy::Parallel,
-        lps: 1,
-        map: Rows::new(map),
-    })?;
-    Ok(Descriptor {
-        id: GROUP,
-        name: name()?,
-        mib: 1,
-        quorum: true,
-        even: false,
-        big: false,
-        pvs: Rows::new(pvs),
-        lvs: Rows::new(lvs),
-    })
+// The votes, and of the two disks which are missing and whose copy of the volume is stale.
+#[derive(Clone, Copy, Debug, PartialEq, Eq)]
+struct Session {
+    votes: (u32, u32),
+    missing: [bool; 2],
+    stale: [bool; 2],
 }
 
-fn status(alloc: Global) -> Result<Status, Fail> {
-    let mut rows = Vec::new(alloc);
-    for disk in 0..2 {
-        rows.push(StatusRow {
-            disk,
-            missing: false,
-            stale: [0; 127],
-        })?;
-    }
-    Ok(Status {
-        id: GROUP,
-        big: false,
-        dirty: VolumeNumbers::empty(alloc).map_err(|_| "memory")?,
-        rows: Rows::new(rows),
-    })
-}
-
-fn descriptor_bytes(alloc: Global) -> Result<Rows<u8>, Fail> {
-    let group = group(alloc)?;
-    if !group.is_valid() {
-        return Err("no descriptor".into());
-    }
-    Ok(lvm_vgda::encode(alloc, &group)?)
-}
-
-fn status_bytes(alloc: Global) -> Result<Rows<u8>, Fail> {
-    let status = status(alloc)?;
-    if !status.is_valid() {
-        return Err("no status".into());
-    }
-    Ok(lvm_vgsa::encode(alloc, &status)?)
-}
-
-// Whether each disk has room for records.
-fn has_room<S: Shelf>(shelf: &S) -> bool
-    ensures { IsTrue result → (d : ℕ) → d < length (S.device shelf.now).sizes → HasRoom (S.device shelf.now) d }
-{
-    for disk in 0..shelf.disks() {
-        if shelf.sectors(disk) < 4096 {
-            return false;
-        }
-    }
-    true
-}
-
-fn all_disks(count: u16) -> DiskSet
-    requires { count ≤ 128 }
-    ensures { (d : ℕ) → IsTrue (has result d) → d < count }
-{
-    let mut disks = DiskSet::empty();
-    for disk in 0..count {
-        disks = disks.with(disk);
-    }
-    disks
-}
-
-// Two disks on which the group was made.
-fn made(alloc: Global) -> Result<MemShelf, Fail> {
-    let mut shelf = MemShelf::new(alloc, &[6144, 6144], Rows::empty(alloc), 0)?;
-    begin(alloc, &mut shelf)?;
-    Ok(shelf)
-}
-
-fn begin<S: Shelf>(alloc: Global, shelf: &mut S) -> Result<(), Fail> {
-    if shelf.flights() > 0 {
-        return Err("a transfer is out".into());
-    }
-    relight(shelf);
-    let descriptor = descriptor_bytes(alloc)?;
-    let status = status_bytes(alloc)?;
-    if !has_room(shelf) || descriptor.len() > 571_388 || status.len() > 31_740 {
-        return Err("no records".into());
-    }
-    let disks = all_disks(shelf.disks());
-    let mut homes = Homes {
-        descriptor: DiskSet::empty(),
-        status: DiskSet::empty(),
-    };
-    let begun = begin_new(
-        shelf,
-        descriptor.as_slice(),
-        status.as_slice(),
-        GROUP,
-        disks,
-        &mut homes,
-        Pbuf::fresh(alloc, 9)?,
-        &mut Patience::whole(),
-    );
-    match begun {
-        Begun::Ended { buf: _ } => Ok(()),
-        _ => Err("not made".into()),
-    }
-}
-
-fn bytes_of(alloc: Global, shelf: &MemShelf, disk: u16) -> Result<Vec<u8>, Fail> {
-    if disk >= shelf.disks() {
-        return Err("no such disk".into());
-    }
-    Ok(Vec::from_slice(alloc, shelf.image(disk))?)
-}
-
-// The two disks again, with a plan.
-fn planned(alloc: Global, made: &MemShelf, plan: &[Planned]) -> Result<MemShelf, Fail> {
-    let mut images = Vec::new(alloc);
-    for disk in 0..2 {
-        images.push(Rows::new(bytes_of(alloc, made, disk)?))?;
-    }
-    if !names_disks(plan, 2) || !are_whole(&images) || images.len() != 2 {
-        return Err("no such plan".into());
-    }
-    let plan = Rows::new(Vec::from_slice(alloc, plan)?);
-    Ok(MemShelf::from_images(alloc, Rows::new(images), plan, 8)?)
-}
-
-fn are_whole(images: &[Rows<u8>]) -> bool
-    ensures { IsTrue result → All (λ bytes. length bytes % 512 ≡ 0) images.now }
-{
-    images.iter().all(|bytes| bytes.len() % 512 == 0)
-}
-
-// Varies the group on.
-fn vary<S: Shelf + Drop>(
-    alloc: Global,
-    shelf: S,
+struct Case {
+    name: &'static str,
+    plan: &'static [Planned],
     moment: u64,
-) -> Result<Result<Driver<S>, Refused<S>>, Fail> {
-    let mut shelf = shelf;
-    if shelf.flights() > 0 || moment == 0 {
-        return Err("a transfer is out".into());
+    answer: Answer,
+    // What is answered ten moments later, where no disk fails any more.
+    later: Answer,
+}
+
+const WHOLE: Answer = Answer::On(Session {
+    votes: (3, 3),
+    missing: [false, false],
+    stale: [false, false],
+});
+
+// The group is made by twelve calls.
+static CASES: [Case; 6] = [
+    Case {
+        name: "all disks are there",
+        plan: &[],
+        moment: 60,
+        answer: WHOLE,
+        later: WHOLE,
+    },
+    Case {
+        name: "the second disk is missing, and comes back with a stale copy",
+        plan: &[Planned {
+            call: 13,
+            act: Act::Fail(1),
+        }],
+        moment: 60,
+        answer: Answer::On(Session {
+            votes: (2, 3),
+            missing: [false, true],
+            stale: [false, true],
+        }),
+        later: Answer::On(Session {
+            votes: (3, 3),
+            missing: [false, false],
+            stale: [false, true],
+        }),
+    },
+    Case {
+        name: "the first disk is missing",
+        plan: &[Planned {
+            call: 13,
+            act: Act::Fail(0),
+        }],
+        moment: 60,
+        answer: Answer::Not(Cause::NoQuorum { have: 1, total: 3 }),
+        later: WHOLE,
+    },
+    Case {
+        name: "an earlier moment",
+        plan: &[],
+        moment: 40,
+        answer: Answer::Not(Cause::ClockBack { seen: 50 }),
+        later: Answer::Not(Cause::ClockBack { seen: 50 }),
+    },
+    Case {
+        name: "the moment of the session before",
+        plan: &[],
+        moment: 50,
+        answer: Answer::Not(Cause::ClockBack { seen: 50 }),
+        later: WHOLE,
+    },
+    Case {
+        name: "the last moment of a clock",
+        plan: &[],
+        moment: u64::MAX,
+        answer: Answer::Not(Cause::ClockBack { seen: u64::MAX }),
+        later: Answer::Not(Cause::ClockBack { seen: u64::MAX }),
+    },
+];
+
+// Two disks on which a group was made that has a volume of one logical partition with a copy on each.
+fn made(rt: &(impl Abort + AllocGlobal), plan: &[Planned]) -> MemShelf {
+    let mut shelf = blank_shelf(rt, &[6144, 6144], plan);
+    let mut group = group(rt, GROUP, 2);
+    group.lvs = volume(rt, [FIRST, SECOND]);
+    assert_eq!(rt; begin_first(rt, &mut shelf, &group), Begin::Ended);
+    shelf
+}
+
+fn told<S: Shelf>(driver: &Driver<S>) -> Session {
+    let table = driver.table();
+    Session {
+        votes: driver.votes(),
+        missing: [table.is_missing(0), table.is_missing(1)],
+        stale: [table.is_stale(FIRST), table.is_stale(SECOND)],
     }
+}
+
+// Varies the group on and off again, and gives the shelf back.
+fn vary<S: Shelf + Drop>(rt: &(impl Abort + AllocGlobal), shelf: S, moment: u64) -> (S, Answer) {
+    let mut shelf = shelf;
+    assert!(rt; shelf.flights() == 0 && moment != 0);
     relight(&mut shelf);
-    let history = History::new(alloc, 7, 8, 0)?;
-    Ok(varyon(
-        alloc,
+    let name = name_of(rt, b"datavg");
+    let history = History::new(rt.alloc(), 7, 8, 0).expect(rt, "memory");
+    let mut patience = Patience::whole();
+    match varyon(
+        rt.alloc(),
         shelf,
         history,
-        name()?,
+        name,
         moment,
         ROOM,
-        &mut Patience::whole(),
-    ))
-}
-
-fn fail(disk: u16) -> Planned {
-    Planned {
-        call: 1,
-        act: Act::Fail(disk),
+        &mut patience,
+    ) {
+        Ok(driver) => {
+            let is = told(&driver);
+            (driver.close().shelf, Answer::On(is))
+        }
+        Err(refused) => (refused.shelf, Answer::Not(refused.cause)),
     }
 }
 
-#[test]
-fn a_group_comes_on_without_its_second_disk(rt: HostRuntime) -> Result<(), Fail> {
-    let alloc = rt.alloc();
-    let shelf = planned(alloc, &made(alloc)?, &[fail(1)])?;
-    let driver = vary(alloc, shelf, 60)?.map_err(|_| "refused")?;
-    assert_eq!(rt; driver.votes(), (2, 3));
-    assert!(rt; driver.table().is_missing(1) && !driver.table().is_missing(0));
-    assert!(rt; driver.table().is_stale(Pp { disk: 1, pp: 0 }));
-    assert!(rt; !driver.table().is_stale(Pp { disk: 0, pp: 0 }));
-    let closed = driver.close();
-    let whole = planned(alloc, &closed.shelf, &[])?;
-    let again = vary(alloc, whole, 70)?.map_err(|_| "refused")?;
-    assert_eq!(rt; again.votes(), (3, 3));
-    assert!(rt; again.table().is_stale(Pp { disk: 1, pp: 0 }));
-    Ok(())
+// The disk fails no more.
+fn heal<S: Shelf>(rt: &impl Abort, shelf: &mut S, disk: u16) {
+    assert!(rt; disk < shelf.disks());
+    assert!(rt; shelf.arrange(Arrange::Heal(disk)));
 }
 
 #[test]
-fn a_group_is_refused_without_its_first_disk(rt: HostRuntime) -> Result<(), Fail> {
-    let alloc = rt.alloc();
-    let made = made(alloc)?;
-    let shelf = planned(alloc, &made, &[fail(0)])?;
-    let refused = vary(alloc, shelf, 60)?.err().ok_or("on")?;
-    assert_eq!(rt; refused.cause, Cause::NoQuorum { have: 1, total: 3 });
-    for disk in 0..2 {
-        assert!(rt; bytes_of(alloc, &refused.shelf, disk)? == bytes_of(alloc, &made, disk)?);
+fn a_group_comes_on_by_its_votes_at_a_later_moment(rt: HostRuntime) {
+    for case in &CASES {
+        let shelf = made(&rt, case.plan);
+        let (left, answer) = vary(&rt, shelf, case.moment);
+        let later = vary_later(&rt, left, case.moment.saturating_add(10));
+        assert_eq!(rt; (answer, later), (case.answer, case.later), "{}", case.name);
     }
-    Ok(())
+}
+
+fn vary_later<S: Shelf + Drop>(rt: &(impl Abort + AllocGlobal), shelf: S, moment: u64) -> Answer {
+    let mut shelf = shelf;
+    heal(rt, &mut shelf, 0);
+    heal(rt, &mut shelf, 1);
+    let (_, answer) = vary(rt, shelf, moment);
+    answer
 }
 
 #[test]
-fn a_moment_that_is_not_later_is_refused(rt: HostRuntime) -> Result<(), Fail> {
-    let alloc = rt.alloc();
-    let made = made(alloc)?;
-    for (moment, seen) in [(40, 50), (50, 50), (u64::MAX, u64::MAX)] {
-        let shelf = planned(alloc, &made, &[])?;
-        let refused = vary(alloc, shelf, moment)?.err().ok_or("on")?;
-        assert_eq!(rt; refused.cause, Cause::ClockBack { seen });
-    }
-    Ok(())
+fn nothing_is_written_where_a_group_does_not_come_on(rt: HostRuntime) {
+    let plan = [Planned {
+        call: 13,
+        act: Act::Fail(0),
+    }];
+    let shelf = made(&rt, &plan);
+    let before = images_of(&rt, &shelf);
+    let (unlit, _) = vary(&rt, shelf, 60);
+    assert!(rt; images_of(&rt, &unlit) == before);
+    let (earlier, _) = vary(&rt, unlit, 50);
+    assert!(rt; images_of(&rt, &earlier) == before);
 }
