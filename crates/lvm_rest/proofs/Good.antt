@@ -35,18 +35,11 @@ use Rattle.lvm_crash.proofs.Lists.{left_of, right_of, both_of, not_so, so_not}
 use Rattle.lvm_rest.specs.Rest.{IsIdle, SeesThat, AreClosed, IsAtRest}
 use Rattle.lvm_rest.specs.Good.{RestIsGood, StillMatches, RestMatches}
 use Rattle.lvm_commit.proofs.Copies.{one_place}
-use Rattle.lvm_rest.proofs.Rows.{tested, at_passing, some_passing, none_passing, passes_none, row_is_volume, block_in}
+use Rattle.lvm_rest.proofs.Rows.{clash, nothing, tested, at_passing, some_passing, none_passing, passes_none, row_is_volume, block_in}
 use Rattle.lvm_rest.proofs.Shapes.{shape_mode}
 use Rattle.lvm_rest.proofs.Cuts.{value_uncut, loose_uncut, known_cut}
 
 -- ---- small things
-
-nothing : {X A : Type 0} (a : A) → None ≡ Some a → X
-nothing a e = absurd cc
-
-clash : {X : Type 0} (t : Bool) → IsTrue t → IsFalse t → X
-clash true a b = absurd cc
-clash false a b = absurd cc
 
 without_true : (t : Bool) → IsFalse (t && true) → IsFalse t
 without_true true h = h

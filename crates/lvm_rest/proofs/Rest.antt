@@ -30,15 +30,8 @@ use Rattle.lvm_crash.proofs.Lists.{left_of, right_of, both_of, not_so, so_not, o
 use Rattle.lvm_crash.proofs.Remaining.{remains_kept}
 use Rattle.lvm_rest.specs.Rest.{IsIdle, SeesThat}
 use Rattle.lvm_rest.specs.Good.{GoodIsRest}
-use Rattle.lvm_rest.proofs.Rows.{none_passing}
+use Rattle.lvm_rest.proofs.Rows.{clash, nothing, none_passing}
 use Rattle.lvm_rest.proofs.Good.{mib_positive}
-
-nothing : {X A : Type 0} (a : A) → None ≡ Some a → X
-nothing a e = absurd cc
-
-clash : {X : Type 0} (t : Bool) → IsTrue t → IsFalse t → X
-clash true a b = absurd cc
-clash false a b = absurd cc
 
 not_both : (a b : Bool) → IsFalse a → IsFalse (a && b)
 not_both true b h = absurd cc
