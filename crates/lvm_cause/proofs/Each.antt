@@ -10,7 +10,7 @@ use Rattle.lvm_good.specs.State.{Marks, Stage, Todo, Flying, Badly, Queued, Open
 use Rattle.lvm_good.specs.Found.{Votes}
 use Rattle.lvm_good.specs.Good.{Good}
 use Rattle.lvm_good.specs.Updates.{put, without, is_pp, staged}
-use Rattle.lvm_good.specs.Events.{Event, Submit, EnterStep, Admit, Pin, Read, StartWrite, Transfer, LandDone, LandLost, LandGot, LandReadFailed, LandNoFresh, EndStep, Take, Want, BeginUpdate, MoveStatus, CommitUpdate, EndUpdate, StartNote, EndNote, Open, CopyWrite, Clear, Step}
+use Rattle.lvm_good.specs.Events.{Event, Submit, EnterStep, Admit, Pin, Read, StartWrite, Transfer, LandDone, LandLost, LandGot, LandReadFailed, LandNoFresh, EndStep, Take, TakeEarlier, Want, BeginUpdate, MoveStatus, CommitUpdate, EndUpdate, StartNote, EndNote, Open, CopyWrite, Clear, Step}
 use Rattle.lvm_good.specs.LandNoFresh.{FindsNoFresh}
 use Rattle.lvm_good.specs.CopyWrite.{Passes}
 use Rattle.lvm_cause.specs.Faults.{Faults, HasFailed, SomeFailed, NoneFailed, HasCause}
@@ -209,6 +209,7 @@ module _ (votes : Votes) (s : State) (w : Faults) (now : ℕ → ℕ) (rises : (
           ⊎ ((f : Fact) × ((if t then s.facts else s.facts ++ Taken (s.name i) ∷ []) ≡ s.facts ++ f ∷ []) × FactIsCaused (record w { now = now }) (record s { queue = without s.queue i; facts = if t then s.facts else s.facts ++ Taken (s.name i) ∷ [] }) f)
       by_step true = inl refl
       by_step false = inr (Taken (s.name i), refl, tt)
+  changes (TakeEarlier q) new step why = subst (Changes (TakeEarlier q)) (sym step.1) (quiet None _ refl refl refl refl refl refl same_queue (inr (Taken q, refl, tt)))
   changes (Want wanted missing open_copy) new step why = subst (Changes (Want wanted missing open_copy)) (sym step.1) (record {
     copies = refl;
     missing = λ d h. ⊎_elim (λ was. inl was) (λ rose. inr (then_rose (w.began d) (w.now d) (now d) (since_began d) rose)) (why.0 d h);

@@ -2,3 +2,4 @@ pub mod Rising
 pub mod Changes
 pub mod Each
 pub mod Whole
+pub mod Worked

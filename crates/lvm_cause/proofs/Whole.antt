@@ -89,8 +89,8 @@ since_more w s facts more all old = record {
 }
 
 pub off_caused : OffIsCaused
-off_caused votes s w places started caused enough off =
-    since_more w s s.facts (landings outcome.Off s.name started places) (all_landings s w started (votes_lost votes s w caused enough off.lost) places) caused.landed
+off_caused votes s w first rest started caused enough off =
+    since_more w s s.facts (landings outcome.Off s.name started first) (all_landings s w started (votes_lost votes s w caused enough off.lost) first) caused.landed
 
 pub cut_caused : CutIsCaused
 cut_caused s w places started caused =

@@ -45,15 +45,15 @@ abbrev pub VotesAreLostByFaults : Type 0
 VotesAreLostByFaults =
     (votes : Votes) (s : State) (w : Faults) → Caused w s → IsTrue (votes.writes (λ d. not (w.missing d))) → IsFalse (votes.writes (λ d. not (s.missing d))) → NoneFailed w → ⊥
 
--- so the landings of a group that goes off have their cause too.
+-- so the landings of a group that goes off have their cause too, also where only the first of them have landed.
 abbrev pub OffIsCaused : Type 0
 OffIsCaused =
-    (votes : Votes) (s : State) (w : Faults) (places : List ℕ) (started : ℕ → Bool)
-    → Caused w s → IsTrue (votes.writes (λ d. not (w.missing d))) → GoesOff votes s places started → Since w s (s.facts ++ landings outcome.Off s.name started places)
+    (votes : Votes) (s : State) (w : Faults) (first rest : List ℕ) (started : ℕ → Bool)
+    → Caused w s → IsTrue (votes.writes (λ d. not (w.missing d))) → GoesOff votes s (first ++ rest) started → Since w s (s.facts ++ landings outcome.Off s.name started first)
 
--- Where the power is cut and the open requests land as Dark, which needs no fault, what the history tells has its causes still.
+-- Where the power is cut and open requests land as Dark, which needs no fault, what the history tells has its causes still.
 abbrev pub CutIsCaused : Type 0
-CutIsCaused = (s : State) (w : Faults) (places : List ℕ) (started : ℕ → Bool) → Caused w s → Since w s ((s.facts ++ Cut ∷ []) ++ landings outcome.Dark s.name started places)
+CutIsCaused = (s : State) (w : Faults) (first : List ℕ) (started : ℕ → Bool) → Caused w s → Since w s ((s.facts ++ Cut ∷ []) ++ landings outcome.Dark s.name started first)
 
 -- The first good session begins so.
 abbrev pub FirstIsUnasked : Type 0

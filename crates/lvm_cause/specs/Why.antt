@@ -4,7 +4,7 @@ use Rattle.lvm_num.specs.declared.place.Pp.{Pp}
 use Rattle.lvm_disk.specs.Counts.{Rose}
 use Rattle.lvm_good.specs.State.{Marks, Stage, Todo, Badly, Queued, OpenCopy, State}
 use Rattle.lvm_good.specs.Found.{Votes}
-use Rattle.lvm_good.specs.Events.{Event, Submit, EnterStep, Admit, Pin, Read, StartWrite, Transfer, LandDone, LandLost, LandGot, LandReadFailed, LandNoFresh, EndStep, Take, Want, BeginUpdate, MoveStatus, CommitUpdate, EndUpdate, StartNote, EndNote, Open, CopyWrite, Clear, Step}
+use Rattle.lvm_good.specs.Events.{Event, Submit, EnterStep, Admit, Pin, Read, StartWrite, Transfer, LandDone, LandLost, LandGot, LandReadFailed, LandNoFresh, EndStep, Take, TakeEarlier, Want, BeginUpdate, MoveStatus, CommitUpdate, EndUpdate, StartNote, EndNote, Open, CopyWrite, Clear, Step}
 use Rattle.lvm_cause.specs.Faults.{Faults}
 
 -- a write of the queue has failed on the copy
@@ -55,6 +55,7 @@ Why (LandGot i r got) s before after = Unit {0}
 Why (LandNoFresh i r) s before after = Unit {0}
 Why (EndStep i r) s before after = Unit {0}
 Why (Take i r) s before after = Unit {0}
+Why (TakeEarlier q) s before after = Unit {0}
 Why (BeginUpdate u) s before after = Unit {0}
 Why (MoveStatus u status flying) s before after = Unit {0}
 Why EndUpdate s before after = Unit {0}

@@ -1,4 +1,5 @@
 //! Laws of causes. Each call does nothing: its contract is the law.
+ghost use Rattle.lvm_cause.specs.Worked.{LossIsCaused, FailedReadIsCaused, FaultsAreNeeded};
 ghost use Rattle.lvm_cause.specs.Laws.{EachEventKeepsCauses, EachMomentIsCaused, FirstIsUnasked, VotesAreLostByFaults, OffIsCaused, CutIsCaused};
 
 /// Each event of a session, where whatever fails in it is a fault of that disk, keeps this: nothing is missing,
@@ -22,4 +23,13 @@ pub fn going_off_is_caused()
 /// A cut of the power needs no fault, and after it the history has its causes still: the landings are as Dark.
 pub fn cut_is_caused()
     ensures { CutIsCaused }
+{}
+
+/// Worked sessions whose events have their causes: writes of records fail on both disks, and a write finds no usable
+/// copy; the disk of the one fresh copy fails, and a read with it. Where no count rose, no disk may
+/// become missing, nor a copy wanted stale.
+pub fn causes_are_met()
+    ensures loss { LossIsCaused }
+    ensures read { FailedReadIsCaused }
+    ensures needed { FaultsAreNeeded }
 {}

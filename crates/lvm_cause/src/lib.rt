@@ -4,5 +4,6 @@
 mod laws;
 
 pub use laws::{
-    cut_is_caused, each_event_keeps_causes, each_moment_is_caused, going_off_is_caused,
+    causes_are_met, cut_is_caused, each_event_keeps_causes, each_moment_is_caused,
+    going_off_is_caused,
 };

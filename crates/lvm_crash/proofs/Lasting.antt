@@ -26,7 +26,7 @@ use Rattle.lvm_kept.specs.Kept.{StandsAs, RawAgrees}
 use Rattle.lvm_good.specs.State.{State, Queued}
 use Rattle.lvm_good.specs.Found.{Votes}
 use Rattle.lvm_good.specs.Good.{Good}
-use Rattle.lvm_good.specs.Events.{Event, Submit, EnterStep, Admit, Pin, Read, StartWrite, Transfer, LandDone, LandLost, LandGot, LandReadFailed, LandNoFresh, EndStep, Take, Want, BeginUpdate, MoveStatus, CommitUpdate, EndUpdate, StartNote, EndNote, Open as OpenCopy, CopyWrite, Clear, Step}
+use Rattle.lvm_good.specs.Events.{Event, Submit, EnterStep, Admit, Pin, Read, StartWrite, Transfer, LandDone, LandLost, LandGot, LandReadFailed, LandNoFresh, EndStep, Take, TakeEarlier, Want, BeginUpdate, MoveStatus, CommitUpdate, EndUpdate, StartNote, EndNote, Open as OpenCopy, CopyWrite, Clear, Step}
 use Rattle.lvm_crash.specs.Session.{members_there, GroupStands, HasVolumes, Shows, Describes}
 use Rattle.lvm_crash.specs.Left.{KeepsGroup}
 use Rattle.lvm_crash.specs.Lasting.{AsksOf, DescriptionLasts}
@@ -47,7 +47,7 @@ IsOfSession group (Removed vol) = ⊥
 IsOfSession group Cut = ⊥
 IsOfSession group (On moment) = ⊥
 
-volumes-append : (volumes : ℕ → Volume) (facts more : List Fact) → volumes_after volumes (facts ++ more) ≡ volumes_after (volumes_after volumes facts) more
+pub volumes-append : (volumes : ℕ → Volume) (facts more : List Fact) → volumes_after volumes (facts ++ more) ≡ volumes_after (volumes_after volumes facts) more
 volumes-append volumes [] more = refl
 volumes-append volumes (g ∷ facts) more = volumes-append (volumes_after_fact g volumes) facts more
 
@@ -58,7 +58,7 @@ settles mib Open shape (Some row) some stands = stands
 settles mib Absent shape (Some row) some stands = absurd stands
 
 -- the group's volumes stand in the history as they did
-volumes_stand : (group : Descriptor) (facts : List Fact) (f : Fact) → IsOfSession group f → (lv : ℕ) → StandsAs group.mib (volumes_in facts lv).standing (volumes_in facts lv).shape (volume_of group lv)
+pub volumes_stand : (group : Descriptor) (facts : List Fact) (f : Fact) → IsOfSession group f → (lv : ℕ) → StandsAs group.mib (volumes_in facts lv).standing (volumes_in facts lv).shape (volume_of group lv)
     → StandsAs group.mib (volumes_in (facts ++ f ∷ []) lv).standing (volumes_in (facts ++ f ∷ []) lv).shape (volume_of group lv)
 volumes_stand group facts f of lv stands =
     subst (λ (v : Volume). StandsAs group.mib v.standing v.shape (volume_of group lv)) (sym (ap (λ (v : ℕ → Volume). v lv) (volumes-append no_volumes facts (f ∷ [])))) (by f of)
@@ -106,7 +106,7 @@ read_mode outcome.NoFresh x k = refl
 read_mode outcome.Off x k = refl
 read_mode outcome.Dark x k = refl
 
-modes_stay : (group : Descriptor) (facts : List Fact) (f : Fact) → IsOfSession group f → (vol : Vol) (b : ℕ) → (known (facts ++ f ∷ []) vol b).mode ≡ (known facts vol b).mode
+pub modes_stay : (group : Descriptor) (facts : List Fact) (f : Fact) → IsOfSession group f → (vol : Vol) (b : ℕ) → (known (facts ++ f ∷ []) vol b).mode ≡ (known facts vol b).mode
 modes_stay group facts f of vol b = ap (λ (k : Known). k.mode) (known-push facts f vol b) ∙ by f of
   where
     by : (f : Fact) → IsOfSession group f → (change f vol b (known facts (source f vol) b)).mode ≡ (known facts vol b).mode
@@ -145,7 +145,7 @@ not_about group (Removed vol) of d b = absurd of
 not_about group Cut of d b = absurd of
 not_about group (On moment) of d b = absurd of
 
-raw_stays : (group : Descriptor) (facts : List Fact) (f : Fact) → IsOfSession group f → (d b : ℕ) → known ((facts ++ f ∷ []) ++ Cut ∷ []) (Disk d) b ≡ known (facts ++ Cut ∷ []) (Disk d) b
+pub raw_stays : (group : Descriptor) (facts : List Fact) (f : Fact) → IsOfSession group f → (d b : ℕ) → known ((facts ++ f ∷ []) ++ Cut ∷ []) (Disk d) b ≡ known (facts ++ Cut ∷ []) (Disk d) b
 raw_stays group facts f of d b =
     known-push (facts ++ f ∷ []) Cut (Disk d) b ∙ ap (cut b) (others_stay facts f (Disk d) b (not_about group f of d b)) ∙ sym (known-push facts Cut (Disk d) b)
 
@@ -160,7 +160,7 @@ record Goes (group : Descriptor) (s new : State) : Type 0 where
 
 module _ (votes : Votes) (group : Descriptor) (s : State) (good : Good votes s) where
   -- a request of the queue is on a volume
-  on_volume : (i : ℕ) (r : Queued) → s.queue i ≡ Some r → IsFalse r.step → (lv : ℕ) × ((s.name i).vol ≡ Lv lv)
+  pub on_volume : (i : ℕ) (r : Queued) → s.queue i ≡ Some r → IsFalse r.step → (lv : ℕ) × ((s.name i).vol ≡ Lv lv)
   on_volume i r there request = (r.lv, (good.told.same i r there request).vol)
 
   -- a write is a request
@@ -203,6 +203,7 @@ module _ (votes : Votes) (group : Descriptor) (s : State) (good : Good votes s) 
           ⊎ ((f : Fact) × ((if t then s.facts else s.facts ++ Taken (s.name i) ∷ []) ≡ s.facts ++ f ∷ []) × IsOfSession group f)
       by_step true = inl refl
       by_step false = inr (Taken (s.name i), refl, tt)
+  goes (TakeEarlier q) new step asks = subst Went (sym step.1) (record { copies = refl; active = refl; passive = refl; facts = inr (Taken q, refl, tt) })
   goes (Want wanted missing open_copy) new step asks = subst Went (sym step.1) (quiet _ refl refl refl refl)
   goes (BeginUpdate u) new step asks = subst Went (sym step.1) (quiet _ refl refl refl refl)
   goes (MoveStatus u status flying) new step asks = subst Went (sym step.1) (quiet _ refl refl refl refl)

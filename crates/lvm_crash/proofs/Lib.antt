@@ -1,7 +1,10 @@
 pub mod Blocks
+pub mod Ends
 pub mod Finding
-pub mod First
-pub mod FirstMedia
+pub mod Worked
+pub mod WorkedShelf
+pub mod WorkedFlights
+pub mod WorkedRecords
 pub mod Images
 pub mod Lasting
 pub mod Lists

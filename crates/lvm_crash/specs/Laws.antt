@@ -1,10 +1,11 @@
 -- What is left is kept.
-use Rattle.std.specs.Prelude.{ℕ, List, Option}
+use Rattle.std.specs.Prelude.{ℕ, Bool, List, [], ◌∷◌, ◌++◌, Option}
 use Rattle.lvm_num.specs.declared.descriptor.Descriptor.{Descriptor}
 use Rattle.lvm_num.specs.declared.status.Status.{Status}
 use Rattle.lvm_num.specs.Record.{Stamped}
 use Rattle.lvm_vol.specs.declared.entry.Vol.TheVariants.{Lv}
-use Rattle.lvm_vol.specs.Facts.{Fact}
+use Rattle.lvm_vol.specs.Facts.{Fact, Cut}
+use Rattle.lvm_vol.specs.declared.entry.Outcome.TheVariants as outcome
 use Rattle.lvm_vol.specs.May.{known, cut}
 use Rattle.lvm_disk.specs.Device.{Media, Image, Device, image_of, MayLeave}
 use Rattle.lvm_kept.specs.Contents.{Contents, contents_of}
@@ -14,7 +15,8 @@ use Rattle.lvm_good.specs.State.{Marks, View, State}
 use Rattle.lvm_good.specs.Found.{Votes, Found}
 use Rattle.lvm_good.specs.Crash.{IsCrash, IsPossible, BlockKept}
 use Rattle.lvm_good.specs.Good.{Good}
-use Rattle.lvm_good.specs.Over.{IsOver}
+use Rattle.lvm_good.specs.Off.{GoesOff}
+use Rattle.lvm_good.specs.Over.{AreOpen, landings, IsOver}
 use Rattle.lvm_crash.specs.Session.{AreVotesOf, Describes}
 use Rattle.lvm_crash.specs.Left.{MayRemain}
 use Rattle.lvm_crash.specs.Flights.{Matches}
@@ -46,3 +48,18 @@ abbrev pub LastImagesAreKept : Type 0
 LastImagesAreKept =
     (votes : Votes) (s : State) (facts : List Fact) (group : Descriptor) (in_flight : Option (Stamped Status)) (device : Device) (media : Media) (image : Image)
     → AreVotesOf group votes → Good votes s → IsOver s facts → Matches s facts group in_flight device media → MayLeave device image → Kept (contents_of image) facts
+
+-- Where the power is cut, the cut and each landing as Dark is a moment: at each of them, whatever was out, each crash image of the shelf before the cut
+-- keeps the history, the first of the landings being in it and the rest not yet.
+abbrev pub CutIsKept : Type 0
+CutIsKept =
+    (votes : Votes) (s : State) (group : Descriptor) (in_flight : Option (Stamped Status)) (device : Device) (media : Media) (image : Image) (first rest : List ℕ) (started : ℕ → Bool)
+    → AreVotesOf group votes → Good votes s → AreOpen s (first ++ rest) started → Matches s s.facts group in_flight device media → MayLeave device image
+    → Kept (contents_of image) ((s.facts ++ Cut ∷ []) ++ landings outcome.Dark s.name started first)
+
+-- So where the group goes off, with each landing as Off.
+abbrev pub OffIsKept : Type 0
+OffIsKept =
+    (votes : Votes) (s : State) (group : Descriptor) (in_flight : Option (Stamped Status)) (device : Device) (media : Media) (image : Image) (first rest : List ℕ) (started : ℕ → Bool)
+    → AreVotesOf group votes → Good votes s → GoesOff votes s (first ++ rest) started → Matches s s.facts group in_flight device media → MayLeave device image
+    → Kept (contents_of image) (s.facts ++ landings outcome.Off s.name started first)

@@ -4,4 +4,4 @@ pub mod Left
 pub mod Flights
 pub mod Laws
 pub mod Lasting
-pub mod First
+pub mod Worked

@@ -1,8 +1,6 @@
 -- A session of a group, and what stands on the disks: when the one describes the other.
-use Rattle.std.specs.Prelude.{◌≡◌, ◌⊎◌, ◌↔◌, ℕ, ◌<◌, ◌≤◌, Bool, true, false, List, [], length, Option, Some, IsTrue, option_map}
+use Rattle.std.specs.Prelude.{◌≡◌, ◌⊎◌, ◌↔◌, ℕ, ◌<◌, ◌≤◌, List, [], length, Option, Some, IsTrue, option_map}
 use Rattle.lvm_num.specs.declared.place.Pp.{Pp}
-use Rattle.lvm_num.specs.declared.descriptor.Mode.{Mode}
-use Rattle.lvm_num.specs.declared.descriptor.Mode.TheVariants.{Active, Passive, Off}
 use Rattle.lvm_num.specs.declared.descriptor.PvRow.{PvRow}
 use Rattle.lvm_num.specs.declared.descriptor.LvRow.{LvRow}
 use Rattle.lvm_num.specs.declared.descriptor.Descriptor.{Descriptor}
@@ -20,6 +18,7 @@ use Rattle.lvm_kept.specs.Contents.{Contents}
 use Rattle.lvm_kept.specs.Group.{if_passes, is_status_of, Finds, IsFound, members_in, Reads, block_at, IsBlockOf, is_named, IsOneOf}
 use Rattle.lvm_kept.specs.Kept.{StandsAs, RawAgrees}
 use Rattle.lvm_good.specs.State.{Marks, View, State}
+pub use Rattle.lvm_good.specs.State.{has_notes, has_mark}
 use Rattle.lvm_good.specs.Found.{Votes}
 
 -- ---- what a session sees of the disks
@@ -69,16 +68,6 @@ pub record GroupStands (c : Contents) (group : Descriptor) : Type 0 where
   pub once : (d e : ℕ) (r t : Stamped Descriptor) → c.descriptor d ≡ Some r → c.descriptor e ≡ Some t → r.value.id ≡ t.value.id → r.stamp ≡ t.stamp → r ≡ t
 
 -- ---- its volumes
-
-abbrev pub has_notes : Mode → Bool
-has_notes Active = true
-has_notes Passive = false
-has_notes Off = false
-
-abbrev pub has_mark : Mode → Bool
-has_mark Active = false
-has_mark Passive = true
-has_mark Off = false
 
 -- a block of a volume of the group
 pub record IsBlockIn (group : Descriptor) (lv b : ℕ) : Type 0 where

@@ -1,8 +1,8 @@
 //! Laws of what stands on the disks of a session. Each call does nothing: its contract is the law.
-ghost use Rattle.lvm_crash.specs.First.{GroupsHaveVotes, FirstIsDescribed, FirstMatches};
+ghost use Rattle.lvm_crash.specs.Worked.{GroupsHaveVotes, RestMatches, WritingMatches, SteppingMatches, UpdatingMatches, NotingMatches};
 ghost use Rattle.lvm_crash.specs.Standing.{CommittedIsFound};
 ghost use Rattle.lvm_crash.specs.Lasting.{DescriptionLasts, StatusesLast};
-ghost use Rattle.lvm_crash.specs.Laws.{WhatRemainsIsKept, CrashImagesRemain, CrashImagesAreKept, LastImagesAreKept};
+ghost use Rattle.lvm_crash.specs.Laws.{WhatRemainsIsKept, CrashImagesRemain, CrashImagesAreKept, LastImagesAreKept, CutIsKept, OffIsKept};
 
 /// Where the state of a session describes what stands on the disks, whatever a loss of power may leave of it
 /// keeps the history: it agrees with it, and goes on doing so whichever disks answer next.
@@ -24,17 +24,29 @@ pub fn crash_images_are_kept()
     ensures over { LastImagesAreKept }
 {}
 
+/// At each moment of the end of a session, from its last matching shelf on: after a cut of the power, after each
+/// landing as Dark, and after each landing as Off, each crash image keeps the history.
+pub fn ends_are_kept()
+    ensures cut { CutIsKept }
+    ensures off { OffIsKept }
+{}
+
 /// Where disks with votes enough to write show a descriptor of the group and no disk a later one, whichever
 /// disks find the group find it by that descriptor.
 pub fn committed_is_found()
     ensures { CommittedIsFound }
 {}
 
-/// Each group has votes, and there is a session whose good state describes disks, and matches a shelf, byte by byte.
-pub fn first_is_described()
+/// Each group has votes, and there are good sessions that match a shelf, byte by byte, in each mode: at rest, with
+/// a stale copy or without; with a write out to both copies; with a copy being brought up, to which the write of
+/// a step is out; and with a status out to both disks. So there is one in mode active with a note out.
+pub fn sessions_match()
     ensures votes { GroupsHaveVotes }
-    ensures described { FirstIsDescribed }
-    ensures matches { FirstMatches }
+    ensures rest { RestMatches }
+    ensures writing { WritingMatches }
+    ensures stepping { SteppingMatches }
+    ensures updating { UpdatingMatches }
+    ensures noting { NotingMatches }
 {}
 
 /// Each event leaves a state that describes the disks, where they show what it says of blocks, notes and statuses;

@@ -5,5 +5,5 @@ mod laws;
 
 pub use laws::{
     committed_is_found, crash_images_are_kept, crash_images_remain, description_lasts,
-    first_is_described, what_remains_is_kept,
+    ends_are_kept, sessions_match, what_remains_is_kept,
 };

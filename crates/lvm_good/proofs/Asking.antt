@@ -5,7 +5,7 @@ use Rattle.std.specs.List.{list_any}
 use Rattle.lvm_vol.specs.declared.entry.Vol.TheVariants.{Lv}
 use Rattle.lvm_vol.specs.declared.entry.Outcome.{Outcome}
 use Rattle.lvm_vol.specs.Facts.{Request, Fact, Begun, Landed, Taken, Stands, same_request}
-use Rattle.lvm_vol.specs.Legal.{begins_in, lands, takes, Legal, IsOutcomeOf, GotMay}
+use Rattle.lvm_vol.specs.Legal.{begins_in, lands, takes, TakenOnce, Legal, IsOutcomeOf, GotMay}
 use Rattle.lvm_vol.proofs.Legality.{legal_push, unlanded, untaken, same_self}
 use Rattle.lvm_vol.proofs.Order.{any-push, stands_left, stands_last}
 use Rattle.lvm_good.specs.State.{Queued, covers, has_landed}
@@ -74,6 +74,14 @@ module _ (queue : ℕ → Option Queued) (name : ℕ → Request) (facts : List 
     apart = λ p k m n at_p at_k asked_p asked_k other. let e = from p m at_p in let g = from k n at_k in t.apart p k e.0 g.0 e.1 g.1 (sym e.2.step ∙ asked_p) (sym g.2.step ∙ asked_k) other;
     steps_read = λ j m h step. let e = from j m h in e.2.write ∙ t.steps_read j e.0 e.1 (sym e.2.step ∙ step);
   }
+
+  -- the answer of a request is taken that isn't there
+  pub told_earlier : (q : Request) → TakenOnce facts q → ((j : ℕ) (m : Queued) → queue j ≡ Some m → IsFalse m.step → IsFalse (same_request (name j) q)) → Told queue name (facts ++ Taken q ∷ [])
+  told_earlier q once other = told_more queue (Taken q)
+      (λ j m h. (m, h, asks_itself m))
+      ((legal_push facts (Taken q)).1 (t.legal, once))
+      (λ j m h asked. or_false (list_any (lands (name j)) facts) ∙ t.ended j m h asked)
+      other
 
   module _ (i : ℕ) (r : Queued) (there : queue i ≡ Some r) where
     from_one : (n : Queued) → AsksSame r n → ComesFrom queue (put queue i n)

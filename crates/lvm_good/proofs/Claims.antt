@@ -4,11 +4,10 @@ use Rattle.std.specs.Prelude.{◌≡◌, ◌⊎◌, ℕ, Bool, List, Option, Som
 use Rattle.lvm_num.specs.declared.place.Pp.{Pp}
 use Rattle.lvm_num.specs.Geometry.{track_group_of}
 use Rattle.lvm_num.specs.Record.{Stamped, stamp_lt}
-use Rattle.lvm_vol.specs.May.{Known, cut, IsValue}
-use Rattle.lvm_good.specs.State.{write_of, Marks, Groups, View, OpenCopy, StepWrite, Phase, Stage, Queued, State, covers, request_of, is_past, has_landed, is_pinning, Live, Named, Started, told}
+use Rattle.lvm_vol.specs.May.{IsValue}
+use Rattle.lvm_good.specs.State.{write_of, Marks, Groups, OpenCopy, StepWrite, Phase, Stage, Queued, State, covers, request_of, is_past, has_landed, is_pinning, Live, Named, Started, told}
 use Rattle.lvm_good.specs.Sound.{StaysFresh, Blocks, Tied, Statuses, Holds, Sound, Nearly}
 use Rattle.lvm_good.proofs.Effects.{DoneEffect, LostEffect, ChangeEffect, GotEffect, JoinEffect}
-use Rattle.lvm_good.specs.Crash.{IsCrash, Widens, IsPossible, BlockKept}
 use Rattle.lvm_vol.specs.Facts.{Fact, Request}
 use Rattle.lvm_good.specs.EndNote.{EndsNote}
 use Rattle.lvm_good.specs.CopyWrite.{CopyWrites}
@@ -179,10 +178,6 @@ OpenKeepsCore = (s : State) (o : OpenCopy) → Opens s o → Sound s → Sound (
 
 abbrev pub ClearKeepsCore : Type 0
 ClearKeepsCore = (s : State) (wanted : Marks) (c : Pp) → Clears s wanted c → Sound s → Sound (record s { wanted = wanted })
-
--- After the power went off, or the votes were lost and no flight is out: what is known then allows what the disks show.
-abbrev pub OffIsKept : Type 0
-OffIsKept = (s : State) (v : View) (after : ℕ → ℕ → Known) (marks : Marks) (lv b : ℕ) → Sound s → IsCrash s v → Widens s after → IsPossible s marks → BlockKept s v marks (cut b (after lv b)) lv b
 
 -- A write that has started has a target that is fresh by all three statuses: rule 7 always has a copy that stays fresh.
 pub record KeptTarget (s : State) (r : Queued) : Type 0 where

@@ -10,7 +10,6 @@ use Rattle.lvm_good.specs.State.{write_of, Marks, Groups, View, Going, Queued, S
 use Rattle.lvm_good.proofs.Small.{IsIn, never, and_right_false, and_left_false, or_left, or_right, in_more, in_added, brought_in, some_open}
 use Rattle.lvm_good.specs.Sound.{MayDiffer, Agree, Settled, Busy, Recorded, StaysFresh, Sound}
 use Rattle.lvm_good.specs.Crash.{CopyBrings, IsCrash, Fresh, MayDifferAfter, BlockKept, IsPossible, Widens, CoreIsKept}
-use Rattle.lvm_good.proofs.Claims.{OffIsKept}
 
 -- a started write is open in the history
 pub the_write_is : (write over : Bool) (w : List ℕ) → IsTrue write → IsTrue over → (if write && over then Some w else None) ≡ Some w
@@ -39,14 +38,6 @@ module _ (s : State) (sound : Sound s) where
     started = λ i lv b r started over off soft. or_right (told s lv b).loose (is_off (told s lv b).mode) (is_some_open (told s lv b).open_writes)
         (let at = sound.tied.inside i r started.there lv b over in sound.tied.modes lv b at.0 at.1 off soft)
         (some_open b (told s lv b).open_writes (request_of s i) (r.value b) (is_open i r lv b started over));
-  }
-
-  pub cut_again : (after : ℕ → ℕ → Known) → Widens s after → Widens s (λ lv b. cut b (after lv b))
-  cut_again after w = record {
-    old = λ lv b value h. in_more (after lv b).values _ value (w.old lv b value h);
-    new = λ i lv b r started over. in_more (after lv b).values _ (r.value b) (w.new i lv b r started over);
-    loose = λ lv b h. or_left (after lv b).loose _ (w.loose lv b h);
-    started = λ i lv b r started over off soft. or_left (after lv b).loose _ (w.started i lv b r started over off soft);
   }
 
   module _ (v : View) (crash : IsCrash s v) (after : ℕ → ℕ → Known) (wide : Widens s after) where
@@ -153,7 +144,7 @@ module _ (s : State) (sound : Sound s) where
         | inr flies ↦ ap (λ (m : Marks). m.stale e) flies.2 ∙ kept.flying flies.0 flies.1
       ]
 
-      block_kept : BlockKept s v marks (after lv b) lv b
+      pub block_kept : BlockKept s v marks (after lv b) lv b
       block_kept = record {
         allowed = λ c fresh. allowed_live lv b c (is_live c fresh);
         equal = elim (sound.blocks.each lv b) [
@@ -165,6 +156,3 @@ module _ (s : State) (sound : Sound s) where
 
 pub core_kept : CoreIsKept
 core_kept s sound v marks lv b crash possible = block_kept s sound v crash (λ lv b. cut b (told s lv b)) (cut_widens s sound) marks possible lv b
-
-pub off_is_kept : OffIsKept
-off_is_kept s v after marks lv b sound crash wide possible = block_kept s sound v crash (λ lv b. cut b (after lv b)) (cut_again s sound after wide) marks possible lv b

@@ -4,14 +4,14 @@ use Rattle.std.specs.Prelude.{IsTrue, IsFalse, ◌==◌, if◌then◌else◌}
 use Rattle.lvm_vol.specs.declared.entry.Outcome.TheVariants as outcome
 use Rattle.lvm_vol.specs.Facts.{Landed as HasLanded, Begun, Taken}
 use Rattle.lvm_good.proofs.Entered.{write_asks, past_unlanded, done_effect, lost_effect, got_effect, got_may, quiet_effect, silent_effect, pin_alike, read_alike, begun_effect, entered_effect}
-use Rattle.lvm_good.proofs.Asking.{told_change, told_landed, told_taken, told_left, told_begun, told_entered}
+use Rattle.lvm_good.proofs.Asking.{told_change, told_landed, told_taken, told_earlier, told_left, told_begun, told_entered}
 use Rattle.lvm_good.proofs.Others.{plain_keeps, admit_keeps as admit_core}
 use Rattle.lvm_good.proofs.Getting.{got_keeps as got_core, submit_keeps as submit_core}
 use Rattle.lvm_good.proofs.Writes.{first_keeps as first_core, restaging_keeps as restaging_core, done_keeps as done_core, lost_keeps as lost_core, land_alike}
 use Rattle.lvm_good.proofs.Marking.{wants_keep as wants_core, begin_keeps as begin_core, commit_keeps as commit_core, update_end_keeps as update_end_core}
 use Rattle.lvm_good.proofs.Noting.{start_note_keeps as start_note_core, end_note_keeps as end_note_core}
 use Rattle.lvm_good.proofs.Copying.{copy_write_keeps as copy_write_core, open_keeps as open_core, clear_keeps as clear_core}
-use Rattle.lvm_good.proofs.Whole.{moved_core, taken_core}
+use Rattle.lvm_good.proofs.Whole.{moved_core, taken_core, told_core}
 use Rattle.lvm_vol.proofs.Knowing.{known-push}
 use Rattle.lvm_vol.specs.May.{known}
 use Rattle.lvm_vol.specs.declared.entry.Vol.TheVariants.{Lv}
@@ -27,6 +27,7 @@ use Rattle.lvm_good.specs.EndStep.{EndStepKeeps}
 use Rattle.lvm_good.specs.LandReadFailed.{LandReadFailedKeeps}
 use Rattle.lvm_good.specs.Transfer.{TransferKeeps}
 use Rattle.lvm_good.specs.Take.{TakeKeeps}
+use Rattle.lvm_good.specs.TakeEarlier.{TakeEarlierKeeps}
 use Rattle.lvm_good.specs.Updates.{without, staged, land}
 use Rattle.lvm_good.specs.EndUpdate.{EndUpdateKeeps}
 use Rattle.lvm_good.specs.Read.{reading, ReadKeeps}
@@ -34,11 +35,11 @@ use Rattle.lvm_good.specs.Open.{OpenKeeps}
 use Rattle.lvm_good.specs.LandGot.{LandGotKeeps}
 use Rattle.lvm_good.specs.LandLost.{LandLostKeeps}
 use Rattle.lvm_good.specs.Submit.{SubmitKeeps}
-use Rattle.lvm_good.specs.State.{Phase, Held, WantEntry, Ready, Going, Landed, Queued, State, covers, is_held, is_past, has_landed, is_pinning}
+use Rattle.lvm_good.specs.State.{Phase, Held, WantEntry, Ready, Going, Landed, Queued, State, covers, is_past, has_landed, is_pinning}
 use Rattle.lvm_good.specs.Pin.{PinKeeps}
 use Rattle.lvm_good.specs.Good.{Good}
 use Rattle.lvm_good.specs.MoveStatus.{MoveStatusKeeps}
-use Rattle.lvm_good.specs.Events.{Submit, EnterStep, Admit, Pin, Read, StartWrite, Transfer, LandDone, LandLost, LandGot, LandReadFailed, LandNoFresh, EndStep, Take, Want, BeginUpdate, MoveStatus, CommitUpdate, EndUpdate, StartNote, EndNote, Open, CopyWrite, Clear, EachEventKeepsGood, Reached, EachMomentIsKept}
+use Rattle.lvm_good.specs.Events.{Submit, EnterStep, Admit, Pin, Read, StartWrite, Transfer, LandDone, LandLost, LandGot, LandReadFailed, LandNoFresh, EndStep, Take, TakeEarlier, Want, BeginUpdate, MoveStatus, CommitUpdate, EndUpdate, StartNote, EndNote, Open, CopyWrite, Clear, EachEventKeepsGood, Reached, EachMomentIsKept}
 use Rattle.lvm_good.specs.Want.{WantKeeps}
 use Rattle.lvm_good.specs.LandNoFresh.{LandNoFreshKeeps}
 use Rattle.lvm_good.specs.StartNote.{StartNoteKeeps}
@@ -285,6 +286,13 @@ take_keeps votes s i r step good = record {
     by_test lv b true = refl
     by_test lv b false = known-push s.facts (Taken (s.name i)) (Lv lv) b
 
+pub take_earlier_keeps : TakeEarlierKeeps
+take_earlier_keeps votes s q step good = record {
+  sound = told_core s good.sound (s.facts ++ Taken q ∷ []) (λ lv b. known-push s.facts (Taken q) (Lv lv) b);
+  found = let f = good.found in record { set = f.set; enough = f.enough; have = f.have; only = f.only; newer = f.newer };
+  told = told_earlier s.queue s.name s.facts good.told q step.once step.other;
+}
+
 pub each_keeps : EachEventKeepsGood
 each_keeps votes (Submit i q r) s new step good = subst (Good votes) (sym step.1) (submit_keeps votes s i q r step.0 good)
 each_keeps votes (EnterStep i q r) s new step good = subst (Good votes) (sym step.1) (enter_step_keeps votes s i q r step.0 good)
@@ -300,6 +308,7 @@ each_keeps votes (LandReadFailed i r) s new step good = subst (Good votes) (sym 
 each_keeps votes (LandNoFresh i r) s new step good = subst (Good votes) (sym step.1) (land_no_fresh_keeps votes s i r step.0 good)
 each_keeps votes (EndStep i r) s new step good = subst (Good votes) (sym step.1) (end_step_keeps votes s i r step.0 good)
 each_keeps votes (Take i r) s new step good = subst (Good votes) (sym step.1) (take_keeps votes s i r step.0 good)
+each_keeps votes (TakeEarlier q) s new step good = subst (Good votes) (sym step.1) (take_earlier_keeps votes s q step.0 good)
 each_keeps votes (Want wanted missing open_copy) s new step good = subst (Good votes) (sym step.1) (want_keeps votes s wanted missing open_copy step.0 good)
 each_keeps votes (BeginUpdate u) s new step good = subst (Good votes) (sym step.1) (begin_update_keeps votes s u step.0 good)
 each_keeps votes (MoveStatus u status flying) s new step good = subst (Good votes) (sym step.1) (move_status_keeps votes s u status flying step.0 good)

@@ -6,7 +6,7 @@ use Rattle.std.proofs.lemmas.List.{append-nil}
 use Rattle.lvm_vol.specs.declared.entry.Outcome.{Outcome}
 use Rattle.lvm_vol.specs.declared.entry.Outcome.TheVariants as outcome
 use Rattle.lvm_vol.specs.Facts.{Landed as HasLanded, Request, Fact, Begun, Taken, Cut, Stands, same_request, block_of}
-use Rattle.lvm_vol.specs.May.{ended, read, Known, is_off, known, cut}
+use Rattle.lvm_vol.specs.May.{ended, read, Known, is_off, is_some_open, known, cut}
 use Rattle.lvm_vol.proofs.Knowing.{known-push}
 use Rattle.lvm_vol.proofs.Legality.{legal_push}
 use Rattle.lvm_vol.proofs.Order.{any-push, stands_left}
@@ -20,10 +20,10 @@ use Rattle.lvm_good.specs.Over.{IsDistinct, IsUnlanded, is_going, AreOpen, landi
 use Rattle.lvm_good.specs.Sound.{Sound}
 use Rattle.lvm_good.specs.Cut.{CutKeeps}
 use Rattle.lvm_good.specs.Crash.{BlockKept, Widens}
-use Rattle.lvm_good.proofs.Small.{IsIn, or_left, in_more, in_added}
+use Rattle.lvm_good.proofs.Small.{IsIn, or_left, or_right, in_more, in_added, brought_in, some_open}
 use Rattle.lvm_good.proofs.Telling.{is_open_if, is_calm, after_landing, landing_mode, landing_others, landing_ended}
 use Rattle.lvm_good.proofs.Requests.{decided}
-use Rattle.lvm_good.proofs.CrashLemmas.{is_open, cut_widens, off_is_kept}
+use Rattle.lvm_good.proofs.CrashLemmas.{is_open, cut_widens, block_kept}
 use Rattle.lvm_good.proofs.Entered.{write_asks}
 
 kind_over : (how : Outcome) → IsFalse (is_calm how) → (q : Request) (started : Bool) → IsOutcomeOf how q started
@@ -164,30 +164,43 @@ module _ (s : State) (sound : Sound s) (t : Told s.queue s.name s.facts) (how : 
         other_name : (j : ℕ) → Stands j places → same_request (s.name j) q ≡ false
         other_name j there = let u = open_there j there in t.apart i j mine.req u.req mine.there u.there mine.request u.request (apart_from j there)
 
-  all_land : (places : List ℕ) (facts : List Fact) (started : ℕ → Bool) → IsDistinct places → ((j : ℕ) → Stands j places → IsUnlanded s j)
-      → ((j : ℕ) (r : Queued) → s.queue j ≡ Some r → IsTrue r.write → started j ≡ is_going r.phase) → Way s places facts → Way s [] (facts ++ landings how s.name started places)
-  all_land [] facts started distinct each begun_data way = subst (Way s []) (sym (append-nil facts)) way
-  all_land (i ∷ places) facts started distinct each begun_data way = subst (Way s []) (append_assoc facts (HasLanded (s.name i) how (started i) [] ∷ []) (landings how s.name started places))
-      (all_land places (facts ++ HasLanded (s.name i) how (started i) [] ∷ []) started distinct.1 (λ j there. each j (inr there)) begun_data
-      (way_step i places facts (started i) distinct.0 (each i (inl refl)) (λ j there. each j (inr there)) (begun_data i) way))
+  -- some of the open requests land, one after another
+  some_land : (first rest : List ℕ) (facts : List Fact) (started : ℕ → Bool) → IsDistinct (first ++ rest) → ((j : ℕ) → Stands j (first ++ rest) → IsUnlanded s j)
+      → ((j : ℕ) (r : Queued) → s.queue j ≡ Some r → IsTrue r.write → started j ≡ is_going r.phase) → Way s (first ++ rest) facts → Way s rest (facts ++ landings how s.name started first)
+  some_land [] rest facts started distinct each begun_data way = subst (Way s rest) (sym (append-nil facts)) way
+  some_land (i ∷ first) rest facts started distinct each begun_data way = subst (Way s rest) (append_assoc facts (HasLanded (s.name i) how (started i) [] ∷ []) (landings how s.name started first))
+      (some_land first rest (facts ++ HasLanded (s.name i) how (started i) [] ∷ []) started distinct.1 (λ j there. each j (inr there)) begun_data
+      (way_step i (first ++ rest) facts (started i) distinct.0 (each i (inl refl)) (λ j there. each j (inr there)) (begun_data i) way))
 
-  landed_over : (places : List ℕ) (facts : List Fact) (started : ℕ → Bool) → AreOpen s places started → Way s places facts → IsOver s (facts ++ landings how s.name started places)
-  landed_over places facts started open_now way =
-      let last = all_land places facts started open_now.once open_now.each open_now.begun_data way in
-      let all = facts ++ landings how s.name started places in
-      let wide : Widens s (λ lv b. known all (Lv lv) b) = record {
-        old = last.old;
-        new = λ i lv b r start inside. (cared last i lv b r start inside).0;
-        loose = last.loose;
-        started = λ i lv b r start inside off soft. (cared last i lv b r start inside).1 off soft;
-      } in
-      record { legal = last.legal; kept = λ v marks lv b crash possible. off_is_kept s v (λ lv b. known all (Lv lv) b) marks lv b sound crash wide possible }
-    where
-      cared : {all : List Fact} → Way s [] all → (i lv b : ℕ) (r : Queued) → Started s i r → IsTrue (covers r lv b) → IsCared s all lv b r
-      cared {all = all} last i lv b r start inside = ⊎_elim (λ (waiting : ⊥ × (write_of b (known all (Lv lv) b) (s.name i) ≡ Some (r.value b))). absurd waiting.0) (λ (c : IsCared s all lv b r). c) (last.writes i lv b r start inside)
+  -- after a cut, what an open write brings is allowed too
+  cut_then : {rest : List ℕ} {facts : List Fact} → Way s rest facts → Widens s (λ lv b. cut b (known facts (Lv lv) b))
+  cut_then {rest = rest} {facts = facts} way = record {
+    old = λ lv b value h. in_more (known facts (Lv lv) b).values _ value (way.old lv b value h);
+    new = λ i lv b r start inside. ⊎_elim
+        (λ (waiting : Stands i rest × (write_of b (known facts (Lv lv) b) (s.name i) ≡ Some (r.value b))).
+        let busy = sound.blocks.busy i lv b r start inside in
+        let values = way.some lv b busy.known in
+        in_added (known facts (Lv lv) b).values _ values.0 (r.value b) values.1 (brought_in b (known facts (Lv lv) b).open_writes (s.name i) (r.value b) waiting.1))
+        (λ (cared : IsCared s facts lv b r). in_more (known facts (Lv lv) b).values _ (r.value b) cared.0)
+        (way.writes i lv b r start inside);
+    loose = λ lv b h. or_left (known facts (Lv lv) b).loose _ (way.loose lv b h);
+    started = λ i lv b r start inside off soft. ⊎_elim
+        (λ (waiting : Stands i rest × (write_of b (known facts (Lv lv) b) (s.name i) ≡ Some (r.value b))).
+        let at = sound.tied.inside i r start.there lv b inside in
+        or_right (known facts (Lv lv) b).loose (is_off (known facts (Lv lv) b).mode) (is_some_open (known facts (Lv lv) b).open_writes)
+        (ap is_off (way.modes lv b) ∙ sound.tied.modes lv b at.0 at.1 off soft) (some_open b (known facts (Lv lv) b).open_writes (s.name i) (r.value b) waiting.1))
+        (λ (cared : IsCared s facts lv b r). or_left (known facts (Lv lv) b).loose _ (cared.1 off soft))
+        (way.writes i lv b r start inside);
+  }
+
+  landed_over : (first rest : List ℕ) (facts : List Fact) (started : ℕ → Bool) → AreOpen s (first ++ rest) started → Way s (first ++ rest) facts → IsOver s (facts ++ landings how s.name started first)
+  landed_over first rest facts started open_now way =
+      let last = some_land first rest facts started open_now.once open_now.each open_now.begun_data way in
+      let all = facts ++ landings how s.name started first in
+      record { legal = last.legal; kept = λ v marks lv b crash possible. block_kept s sound v crash (λ lv b. cut b (known all (Lv lv) b)) (cut_then last) marks possible lv b }
 
 pub off_keeps : OffKeeps
-off_keeps votes s places started step good = landed_over s good.sound good.told outcome.Off refl places s.facts started step.requests (record {
+off_keeps votes s first rest started step good = landed_over s good.sound good.told outcome.Off refl first rest s.facts started step.requests (record {
   legal = good.told.legal;
   old = λ lv b value h. h;
   some = λ lv b h. h;
@@ -201,10 +214,10 @@ off_keeps votes s places started step good = landed_over s good.sound good.told 
 })
 
 pub cut_keeps : CutKeeps
-cut_keeps votes s places started step good =
+cut_keeps votes s first rest started step good =
     let is_now : (lv b : ℕ) → known (s.facts ++ Cut ∷ []) (Lv lv) b ≡ cut b (told s lv b) = λ lv b. known-push s.facts Cut (Lv lv) b in
     let wide = cut_widens s good.sound in
-    landed_over s good.sound good.told outcome.Dark refl places (s.facts ++ Cut ∷ []) started step (record {
+    landed_over s good.sound good.told outcome.Dark refl first rest (s.facts ++ Cut ∷ []) started step (record {
       legal = (legal_push s.facts Cut).1 (good.told.legal, tt);
       old = λ lv b value h. subst (λ (k : Known). IsIn k.values value) (sym (is_now lv b)) (wide.old lv b value h);
       some = λ lv b h. subst HasValues (sym (is_now lv b)) (h.0 ++ map (λ (r : Request). block_of r.blocks r.at b) (told s lv b).open_writes, ap (λ (m : Option (List (List ℕ))). option_map (λ vs. vs ++ map (λ (r : Request). block_of r.blocks r.at b) (told s lv b).open_writes) m) h.1);

@@ -24,3 +24,7 @@ pub mod Asking
 pub mod Entered
 pub mod Each
 pub mod Ending
+pub mod Worked
+pub mod WorkedWrites
+pub mod WorkedReads
+pub mod Wrong

@@ -161,7 +161,6 @@ write_not_going r (inr (inl e)) w g = early_not_going r.phase (inr (inl e)) g
 write_not_going r (inr (inr (inl e))) w g = early_not_going r.phase (inr (inr e)) g
 write_not_going r (inr (inr (inr e))) w g = let c : ◌≡◌ {A = Bool} true false = sym w ∙ e.0 in cc
 
-
 usable_parts : (stale missing : Bool) → IsTrue (not stale && not missing) → IsFalse stale × IsFalse missing
 usable_parts true missing h = absurd cc
 usable_parts false true h = absurd cc

@@ -63,29 +63,17 @@ module _ (s : State) (status : ℕ → Option (Stamped Marks)) (flying : ℕ →
 
 -- ---- a request is taken
 
-module _ (s : State) (i : ℕ) (r : Queued) (step : Takes s i r) (sound : Sound s) (facts : List Fact) (same_known : (lv b : ℕ) → known facts (Lv lv) b ≡ told s lv b) where
+-- Requests leave the queue that are no writes under way, and the history goes on with what changes nothing that is known of blocks.
+module _ (s : State) (queue : ℕ → Option Queued) (before : (j : ℕ) (e : Queued) → queue j ≡ Some e → s.queue j ≡ Some e) (stays : (j : ℕ) (e : Queued) → Started s j e → queue j ≡ Some e)
+    (sound : Sound s) (facts : List Fact) (same_known : (lv b : ℕ) → known facts (Lv lv) b ≡ told s lv b) where
   abbrev taken : State
-  taken = record s { queue = without s.queue i; facts = facts }
-
-  before : (j : ℕ) (e : Queued) → without s.queue i j ≡ Some e → s.queue j ≡ Some e
-  before j e h = by_test (j == i) h
-    where
-      by_test : (t : Bool) → (if t then None else s.queue j) ≡ Some e → s.queue j ≡ Some e
-      by_test true k = absurd cc
-      by_test false k = k
-
-  stays : (j : ℕ) (e : Queued) → Started s j e → without s.queue i j ≡ Some e
-  stays j e started = ⊎_elim
-      (λ (same : IsTrue (j == i)). never (has_landed r.phase) step.landed
-      (ap (λ (q : Queued). has_landed q.phase) (one_req (sym step.there ∙ ap s.queue (sym (eqb-true _ _ same)) ∙ started.there)) ∙ ap has_landed started.going))
-      (λ (other : IsFalse (j == i)). ap (λ (t : Bool). if t then None else s.queue j) other ∙ started.there)
-      (decided (j == i))
+  taken = record s { queue = queue; facts = facts }
 
   live_taken : (lv b : ℕ) (e : Pp) → Live taken lv b e → Live s lv b e
   live_taken lv b e live = record { copy = live.copy; counts = ⊎_elim (λ (f : IsFalse (is_settled_stale s e)). inl f) (λ (k : HasPassed taken lv (track_group_of b) e). inr (record { copy = k.copy; is_open = k.is_open; target = k.target; passed = k.passed })) live.counts }
 
-  pub taken_core : Sound taken
-  taken_core =
+  pub left_core : Sound taken
+  left_core =
       let calmer : Calmer s taken = record {
         started = λ j e started. record { there = before j e started.there; write = started.write; going = started.going };
         started_still = λ j e started. record { there = stays j e started; write = started.write; going = started.going };
@@ -126,8 +114,31 @@ module _ (s : State) (i : ℕ) (r : Queued) (step : Takes s i r) (sound : Sound 
       record {
         blocks = calm_blocks s taken calmer sound.blocks;
         tied = f.0;
-        statuses = same_statuses s sound s.media.block (without s.queue i) facts;
+        statuses = same_statuses s sound s.media.block queue facts;
         behind = record { left_behind = sound.behind.left_behind };
         notes = record { home = sound.notes.home; pinned = f.2 };
         holds = f.1;
       }
+
+-- a request that has landed leaves the queue
+module _ (s : State) (i : ℕ) (r : Queued) (step : Takes s i r) where
+  before : (j : ℕ) (e : Queued) → without s.queue i j ≡ Some e → s.queue j ≡ Some e
+  before j e h = by_test (j == i) h
+    where
+      by_test : (t : Bool) → (if t then None else s.queue j) ≡ Some e → s.queue j ≡ Some e
+      by_test true k = absurd cc
+      by_test false k = k
+
+  stays : (j : ℕ) (e : Queued) → Started s j e → without s.queue i j ≡ Some e
+  stays j e started = ⊎_elim
+      (λ (same : IsTrue (j == i)). never (has_landed r.phase) step.landed
+      (ap (λ (q : Queued). has_landed q.phase) (one_req (sym step.there ∙ ap s.queue (sym (eqb-true _ _ same)) ∙ started.there)) ∙ ap has_landed started.going))
+      (λ (other : IsFalse (j == i)). ap (λ (t : Bool). if t then None else s.queue j) other ∙ started.there)
+      (decided (j == i))
+
+  pub taken_core : Sound s → (facts : List Fact) → ((lv b : ℕ) → known facts (Lv lv) b ≡ told s lv b) → Sound (record s { queue = without s.queue i; facts = facts })
+  taken_core sound facts same_known = left_core s (without s.queue i) before stays sound facts same_known
+
+-- the history goes on with what changes nothing that is known of blocks
+pub told_core : (s : State) → Sound s → (facts : List Fact) → ((lv b : ℕ) → known facts (Lv lv) b ≡ told s lv b) → Sound (record s { facts = facts })
+told_core s sound facts same_known = left_core s s.queue (λ j e h. h) (λ j e started. started.there) sound facts same_known

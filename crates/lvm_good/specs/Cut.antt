@@ -7,6 +7,7 @@ use Rattle.lvm_good.specs.Good.{Good}
 use Rattle.lvm_good.specs.Over.{AreOpen, landings, IsOver}
 use Rattle.lvm_vol.specs.declared.entry.Outcome.TheVariants as outcome
 
--- whatever is out, all open requests land as Dark
+-- Whatever is out, all open requests land as Dark. The cut and each landing are moments: so it is when the first of them have landed, and the rest haven't.
 abbrev pub CutKeeps : Type 0
-CutKeeps = (votes : Votes) (s : State) (places : List ℕ) (started : ℕ → Bool) → AreOpen s places started → Good votes s → IsOver s ((s.facts ++ Cut ∷ []) ++ landings outcome.Dark s.name started places)
+CutKeeps = (votes : Votes) (s : State) (first rest : List ℕ) (started : ℕ → Bool)
+    → AreOpen s (first ++ rest) started → Good votes s → IsOver s ((s.facts ++ Cut ∷ []) ++ landings outcome.Dark s.name started first)

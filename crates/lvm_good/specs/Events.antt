@@ -16,6 +16,7 @@ use Rattle.lvm_good.specs.EndStep.{StepEnds}
 use Rattle.lvm_good.specs.LandReadFailed.{ReadFails, read_failed}
 use Rattle.lvm_good.specs.Transfer.{Restages, restaged}
 use Rattle.lvm_good.specs.Take.{Takes, taken}
+use Rattle.lvm_good.specs.TakeEarlier.{TakesEarlier, taken_earlier}
 use Rattle.lvm_good.specs.Updates.{with_req, land}
 use Rattle.lvm_good.specs.EndUpdate.{UpdateEnds}
 use Rattle.lvm_good.specs.Read.{Reads, reading}
@@ -50,6 +51,7 @@ pub data Event : Type 0 where
   LandNoFresh : (i : ℕ) (r : Queued) → Event
   EndStep : (i : ℕ) (r : Queued) → Event
   Take : (i : ℕ) (r : Queued) → Event
+  TakeEarlier : (q : Request) → Event
   Want : (wanted : Marks) (missing : ℕ → Bool) (open_copy : Option OpenCopy) → Event
   BeginUpdate : (u : Stamped Marks) → Event
   MoveStatus : (u : Stamped Marks) (status : ℕ → Option (Stamped Marks)) (flying : ℕ → Bool) → Event
@@ -61,32 +63,65 @@ pub data Event : Type 0 where
   CopyWrite : (i : ℕ) (r : Queued) (value : ℕ → List ℕ) (target : Pp) (open_copy : Option OpenCopy) (step_write : Option StepWrite) (block : ℕ → ℕ → Pp → List ℕ) → Event
   Clear : (wanted : Marks) (c : Pp) → Event
 
+-- it may be made in the state
+abbrev pub Allows : Votes → Event → State → Type 0
+Allows votes (Submit i q r) s = Submits s i q r
+Allows votes (EnterStep i q r) s = StepEnters s i r
+Allows votes (Admit i r phase several targets) s = Admits s i r phase several targets
+Allows votes (Pin i r cache) s = Pins s i r cache
+Allows votes (Read i r c stage got) s = Reads s i r c got
+Allows votes (StartWrite i r c) s = MayStart s i r c
+Allows votes (Transfer i r c stage block) s = Restages s i r c stage block
+Allows votes (LandDone i r) s = LandsDone s i r
+Allows votes (LandLost i r) s = LandsLost s i r
+Allows votes (LandGot i r got) s = LandsGot s i r got
+Allows votes (LandReadFailed i r) s = ReadFails s i r
+Allows votes (LandNoFresh i r) s = FindsNoFresh s i r
+Allows votes (EndStep i r) s = StepEnds s i r
+Allows votes (Take i r) s = Takes s i r
+Allows votes (TakeEarlier q) s = TakesEarlier s q
+Allows votes (Want wanted missing open_copy) s = Wants s wanted missing open_copy
+Allows votes (BeginUpdate u) s = Begins s u
+Allows votes (MoveStatus u status flying) s = Moves s u status
+Allows votes (CommitUpdate u has_it done wanted open_copy) s = Commit votes s u has_it done wanted open_copy
+Allows votes EndUpdate s = UpdateEnds s
+Allows votes (StartNote flying) s = StartsNote s flying
+Allows votes (EndNote d names home flying) s = EndsNote s d names home flying
+Allows votes (Open o) s = Opens s o
+Allows votes (CopyWrite i r value target open_copy step_write block) s = CopyWrites s i r value target open_copy block
+Allows votes (Clear wanted c) s = Clears s wanted c
+
+-- the state that it makes of it
+abbrev pub made : Event → State → State
+made (Submit i q r) s = submitted s i q r
+made (EnterStep i q r) s = entered s i q r
+made (Admit i r phase several targets) s = with_req s i (admitted r phase several targets)
+made (Pin i r cache) s = pinned s i r cache
+made (Read i r c stage got) s = with_req s i (reading r c stage got)
+made (StartWrite i r c) s = started_first s i r c
+made (Transfer i r c stage block) s = restaged s i r c stage block
+made (LandDone i r) s = done s i r
+made (LandLost i r) s = lost s i r
+made (LandGot i r got) s = with_got s i r got
+made (LandReadFailed i r) s = read_failed s i r
+made (LandNoFresh i r) s = no_fresh s i r
+made (EndStep i r) s = with_req s i (land r)
+made (Take i r) s = taken s i r
+made (TakeEarlier q) s = taken_earlier s q
+made (Want wanted missing open_copy) s = after_wants s wanted missing open_copy
+made (BeginUpdate u) s = record s { in_flight = Some u }
+made (MoveStatus u status flying) s = moved s status flying
+made (CommitUpdate u has_it done wanted open_copy) s = after_commit s u done wanted open_copy
+made EndUpdate s = record s { in_flight = None }
+made (StartNote flying) s = record s { flying_note = flying }
+made (EndNote d names home flying) s = after_note s names home flying
+made (Open o) s = record s { open_copy = Some o }
+made (CopyWrite i r value target open_copy step_write block) s = copied s block open_copy step_write
+made (Clear wanted c) s = record s { wanted = wanted }
+
 -- it may be made in the state, and makes the new one of it
 abbrev pub Step : Votes → Event → State → State → Type 0
-Step votes (Submit i q r) s new = Submits s i q r × (new ≡ submitted s i q r)
-Step votes (EnterStep i q r) s new = StepEnters s i r × (new ≡ entered s i q r)
-Step votes (Admit i r phase several targets) s new = Admits s i r phase several targets × (new ≡ with_req s i (admitted r phase several targets))
-Step votes (Pin i r cache) s new = Pins s i r cache × (new ≡ pinned s i r cache)
-Step votes (Read i r c stage got) s new = Reads s i r c got × (new ≡ with_req s i (reading r c stage got))
-Step votes (StartWrite i r c) s new = MayStart s i r c × (new ≡ started_first s i r c)
-Step votes (Transfer i r c stage block) s new = Restages s i r c stage block × (new ≡ restaged s i r c stage block)
-Step votes (LandDone i r) s new = LandsDone s i r × (new ≡ done s i r)
-Step votes (LandLost i r) s new = LandsLost s i r × (new ≡ lost s i r)
-Step votes (LandGot i r got) s new = LandsGot s i r got × (new ≡ with_got s i r got)
-Step votes (LandReadFailed i r) s new = ReadFails s i r × (new ≡ read_failed s i r)
-Step votes (LandNoFresh i r) s new = FindsNoFresh s i r × (new ≡ no_fresh s i r)
-Step votes (EndStep i r) s new = StepEnds s i r × (new ≡ with_req s i (land r))
-Step votes (Take i r) s new = Takes s i r × (new ≡ taken s i r)
-Step votes (Want wanted missing open_copy) s new = Wants s wanted missing open_copy × (new ≡ after_wants s wanted missing open_copy)
-Step votes (BeginUpdate u) s new = Begins s u × (new ≡ record s { in_flight = Some u })
-Step votes (MoveStatus u status flying) s new = Moves s u status × (new ≡ moved s status flying)
-Step votes (CommitUpdate u has_it done wanted open_copy) s new = Commit votes s u has_it done wanted open_copy × (new ≡ after_commit s u done wanted open_copy)
-Step votes EndUpdate s new = UpdateEnds s × (new ≡ record s { in_flight = None })
-Step votes (StartNote flying) s new = StartsNote s flying × (new ≡ record s { flying_note = flying })
-Step votes (EndNote d names home flying) s new = EndsNote s d names home flying × (new ≡ after_note s names home flying)
-Step votes (Open o) s new = Opens s o × (new ≡ record s { open_copy = Some o })
-Step votes (CopyWrite i r value target open_copy step_write block) s new = CopyWrites s i r value target open_copy block × (new ≡ copied s block open_copy step_write)
-Step votes (Clear wanted c) s new = Clears s wanted c × (new ≡ record s { wanted = wanted })
+Step votes event s new = Allows votes event s × (new ≡ made event s)
 
 -- Each event keeps what is true of a session.
 abbrev pub EachEventKeepsGood : Type 0
@@ -96,6 +131,16 @@ EachEventKeepsGood = (votes : Votes) (event : Event) (old new : State) → Step 
 abbrev pub Steps : Votes → List Event → State → State → Type 0
 Steps votes [] old new = new ≡ old
 Steps votes (event ∷ events) old new = (middle : State) × Step votes event old middle × Steps votes events middle new
+
+-- the state after these events
+abbrev pub after_all : List Event → State → State
+after_all [] s = s
+after_all (event ∷ events) s = after_all events (made event s)
+
+-- each of them may be made in the state that those before it leave
+abbrev pub AllowsAll : Votes → List Event → State → Type 0
+AllowsAll votes [] s = Unit {0}
+AllowsAll votes (event ∷ events) s = Allows votes event s × AllowsAll votes events (made event s)
 
 -- From a good state on, a list of events leads to a good state, in which each crash image agrees with the history, and the history is legal.
 pub record Reached (votes : Votes) (s : State) : Type 0 where

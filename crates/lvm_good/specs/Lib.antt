@@ -19,6 +19,7 @@ pub mod LandReadFailed
 pub mod LandNoFresh
 pub mod EndStep
 pub mod Take
+pub mod TakeEarlier
 pub mod Want
 pub mod BeginUpdate
 pub mod MoveStatus
@@ -31,6 +32,8 @@ pub mod CopyWrite
 pub mod Clear
 pub mod Events
 pub mod First
+pub mod Worked
+pub mod Wrong
 pub mod Over
 pub mod Off
 pub mod Cut

@@ -16,6 +16,7 @@ pub record GoesOff (votes : Votes) (s : State) (places : List ℕ) (started : �
   pub no_copy : s.step_write ≡ None
   pub requests : AreOpen s places started
 
--- all open requests land as Off
+-- All open requests land as Off. Each landing is a moment: so it is when the first of them have landed, and the rest haven't.
 abbrev pub OffKeeps : Type 0
-OffKeeps = (votes : Votes) (s : State) (places : List ℕ) (started : ℕ → Bool) → GoesOff votes s places started → Good votes s → IsOver s (s.facts ++ landings outcome.Off s.name started places)
+OffKeeps = (votes : Votes) (s : State) (first rest : List ℕ) (started : ℕ → Bool)
+    → GoesOff votes s (first ++ rest) started → Good votes s → IsOver s (s.facts ++ landings outcome.Off s.name started first)

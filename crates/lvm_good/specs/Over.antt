@@ -1,4 +1,4 @@
--- A session is over: each request that is open lands, and what the disks may show then agrees with the history.
+-- A session is over: the requests that are open land, one after another, and what the disks may show then agrees with the history.
 use Rattle.lvm_vol.specs.Facts.{Landed as HasLanded, Request, Fact, Taken, Stands}
 use Rattle.std.specs.Prelude.{◌≡◌, ℕ, Bool, true, false, List, [], ◌∷◌, ◌++◌, Some, IsTrue, IsFalse}
 use Rattle.lvm_vol.specs.declared.entry.Vol.TheVariants.{Lv}

@@ -14,6 +14,7 @@ ghost use Rattle.lvm_good.specs.LandReadFailed.{LandReadFailedKeeps};
 ghost use Rattle.lvm_good.specs.LandNoFresh.{LandNoFreshKeeps};
 ghost use Rattle.lvm_good.specs.EndStep.{EndStepKeeps};
 ghost use Rattle.lvm_good.specs.Take.{TakeKeeps};
+ghost use Rattle.lvm_good.specs.TakeEarlier.{TakeEarlierKeeps};
 ghost use Rattle.lvm_good.specs.Want.{WantKeeps};
 ghost use Rattle.lvm_good.specs.BeginUpdate.{BeginUpdateKeeps};
 ghost use Rattle.lvm_good.specs.MoveStatus.{MoveStatusKeeps};
@@ -29,7 +30,9 @@ ghost use Rattle.lvm_good.specs.Cut.{CutKeeps};
 ghost use Rattle.lvm_good.specs.Found.{QuorumFinds};
 ghost use Rattle.lvm_good.specs.Off.{OffKeeps};
 ghost use Rattle.lvm_good.specs.Over.{OverStays};
-ghost use Rattle.lvm_good.specs.First.{FirstIsGood};
+ghost use Rattle.lvm_good.specs.First.{FirstIsGood, BringingUpIsGood};
+ghost use Rattle.lvm_good.specs.Wrong.{StartsUnrecorded, NoteLacksEntry, DoneUnsettled, ClearedUnpassed, CopyIsSkipped, CommittedEarly, EndedUncommitted, TwoVotes, LeftFresh, NoneFresh, NamesAreNeeded};
+ghost use Rattle.lvm_good.specs.Worked.{EachModeWrites, RecordsGoOut, WriteEnds, ReadEnds, CopyIsBroughtUp, DisksAreLost, CutMeetsWrite, EarlierIsTaken};
 
 /// A request begins.
 pub fn request_begins()
@@ -96,9 +99,11 @@ pub fn step_ends()
     ensures { EndStepKeeps }
 {}
 
-/// The answer of a request that has landed is taken, or a step that has ended leaves the queue.
+/// The answer of a request that has landed is taken, or a step that has ended leaves the queue; or the
+/// answer of a request of an earlier session is taken while this one is on.
 pub fn answer_is_taken()
-    ensures { TakeKeeps }
+    ensures own { TakeKeeps }
+    ensures earlier { TakeEarlierKeeps }
 {}
 
 /// More staleness is wanted, disks become missing, the copy that is brought up ends.
@@ -168,19 +173,66 @@ pub fn quorum_finds()
     ensures { QuorumFinds }
 {}
 
-/// A session on a new volume is in a good state.
+/// A session on a new volume is in a good state, in each mode, with a stale copy or without; and so it is while
+/// that copy is being brought up, however far.
 pub fn first_is_good()
-    ensures { FirstIsGood }
+    ensures rest { FirstIsGood }
+    ensures brought_up { BringingUpIsGood }
+{}
+
+/// Worked sessions, from a session at rest on: each of their events may be made where it is made. In each mode a
+/// write goes out to both copies, and a cut may meet it there; a status and a note go out; a read that failed on one copy is admitted again
+/// and gets its block of the other, or fails; a stale copy is opened, a step of it ends, and once it has passed
+/// all track groups it is cleared; where both disks are lost a write finds no usable copy, or the group goes off;
+/// and the answer of a request of an earlier session is taken. In mode active the write ends: as Done after it
+/// failed on one copy, as Lost after it failed on both. So for each event there is a good state that allows it.
+pub fn sessions_are_met()
+    ensures writes { EachModeWrites }
+    ensures records { RecordsGoOut }
+    ensures write_ends { WriteEnds }
+    ensures reads { ReadEnds }
+    ensures copies { CopyIsBroughtUp }
+    ensures losses { DisksAreLost }
+    ensures cut { CutMeetsWrite }
+    ensures earlier { EarlierIsTaken }
+{}
+
+/// Wrong steps, each from a good state on. A loss of power may leave what the history doesn't allow where a write
+/// of two targets starts that isn't recorded; where a note is out that lacks an entry of the cache; where a write lands
+/// as Done that has failed on a copy which isn't stale yet; where a copy is cleared that hasn't passed all; and
+/// where a write skips the copy that is being brought up. Disks with votes enough may find a status that isn't meant
+/// any more, or not yet, where an update is committed with too few votes, or ends uncommitted.
+pub fn conditions_are_needed()
+    ensures unrecorded { StartsUnrecorded }
+    ensures note { NoteLacksEntry }
+    ensures unsettled { DoneUnsettled }
+    ensures unpassed { ClearedUnpassed }
+    ensures skipped { CopyIsSkipped }
+    ensures early { CommittedEarly }
+    ensures uncommitted { EndedUncommitted }
+    ensures votes { TwoVotes }
+{}
+
+/// So it may where a copy on a lost disk stays fresh beside a usable one to which alone a write then goes; and where
+/// a status leaves no copy fresh, what is acknowledged isn't to be found. Where copies differ after a cut, the
+/// names in the notes are what allows it: a session that begins without them, or empties the notes before the
+/// copies are equal, leaves what the history doesn't allow.
+pub fn fresh_copies_and_names_are_needed()
+    ensures left { LeftFresh }
+    ensures none { NoneFresh }
+    ensures names { NamesAreNeeded }
 {}
 
 /// Where the votes are lost and no flight is out, each open request lands as Off, with its data
-/// started or not. The history is legal then, and what the disks may show agrees with it.
+/// started or not. The history is legal then, and what the disks may show agrees with it; and so it is
+/// between any two of the landings.
 pub fn group_goes_off()
     ensures { OffKeeps }
 {}
 
 /// Where the power is cut, whatever is out, each open request lands as Dark. The history is legal then,
-/// and each image that the cut may leave agrees with it.
+/// and each image that the cut may leave agrees with it; and so it is right after the cut, and between
+/// any two of the landings.
 pub fn power_is_cut()
     ensures { CutKeeps }
 {}
