@@ -1,6 +1,6 @@
 -- Group commands keep usable copies even, by what they may write.
-use Rattle.std.proofs.Common.{◌≡◌, ◌⊎◌, inl, inr, ⊎_elim, ℕ, zero, suc, ◌+◌, ◌*◌, ◌<◌, ◌≤◌, Bool, true, false, List, [], length, Option, Some, refl, sym, ap, subst, ◌∙◌, arith}
-use Rattle.std.specs.Prelude.{IsTrue, IsFalse, nat_lt, if◌then◌else◌, Contains}
+use Rattle.std.proofs.Common.{◌≡◌, ◌⊎◌, inl, inr, ⊎_elim, ℕ, zero, suc, ◌+◌, ◌<◌, ◌≤◌, Bool, true, false, List, [], length, Option, Some, refl, sym, ap, subst, ◌∙◌, arith}
+use Rattle.std.specs.Prelude.{IsTrue, IsFalse, nat_lt, if◌then◌else◌}
 use Rattle.std.proofs.lemmas.Bool.Decides.{nat_tests}
 use Rattle.lvm_num.specs.declared.place.Pp.{Pp}
 use Rattle.lvm_num.specs.declared.record.Kind.{Kind}
@@ -20,11 +20,9 @@ use Rattle.lvm_kept.specs.Contents.{data_at, contents_of}
 use Rattle.lvm_kept.specs.Group.{IsOneOf}
 use Rattle.lvm_kept.specs.Plans.{ChangesBy}
 use Rattle.lvm_commit.specs.LawsOfData.{IsFree, IsSectorOf}
-use Rattle.lvm_commit.specs.Settling.{IsOfSession, IsOfStatus, IsOfCommit}
+use Rattle.lvm_commit.specs.Settling.{IsOfStatus, IsOfCommit}
 use Rattle.lvm_core.specs.State.{State, is_there}
-use Rattle.lvm_core.specs.Zeros.{IsZeroOf}
 use Rattle.lvm_group.specs.NewVolume.{without_volume}
-use Rattle.lvm_group.specs.declared.new_volume.NewVolume.{NewVolume}
 use Rattle.lvm_group.specs.Volumes.{IsWith, IsChosen}
 use Rattle.lvm_group.specs.Endings.{IsOfCommand, Leaves}
 use Rattle.lvm_rest.specs.Rest.{IsEven}

@@ -27,6 +27,9 @@ use Rattle.lvm_recover.specs.Recopied.{IsToEqual, IsFromFirst, IsRecopied, HoldF
 use Rattle.lvm_recover.proofs.Beginning.{usable_same}
 use Rattle.lvm_recover.proofs.Equalling.{even_there}
 use Rattle.lvm_recover.specs.Recovered.{HasNoPassive, Recovers, RecoveredByCopying}
+use Rattle.lvm_change.proofs.Booleans.{split, join}
+use Rattle.lvm_crash.proofs.Lists.{not_so, so_not}
+use Rattle.lvm_rest.proofs.Rows.{clash}
 
 -- ---- members and modes
 
@@ -51,26 +54,6 @@ some_member (r ∷ rs) d = by_test (r.disk == d) (some_member rs d)
     by_test : (t : Bool) → is_some (find (λ (row : PvRow). row.disk == d) rs) ≡ list_any (λ (row : PvRow). row.disk == d) rs → is_some (if t then Some r else find (λ (row : PvRow). row.disk == d) rs) ≡ (t || list_any (λ (row : PvRow). row.disk == d) rs)
     by_test true e = refl
     by_test false e = e
-
-both : (a b : Bool) → a && b ≡ true → (a ≡ true) × (b ≡ true)
-both true true e = (refl, refl)
-both true false e = absurd cc
-both false b e = absurd cc
-
-join : (a b : Bool) → a ≡ true → b ≡ true → a && b ≡ true
-join true b e f = f
-join false b e f = absurd cc
-
-not_true : (b : Bool) → not b ≡ true → b ≡ false
-not_true true e = absurd cc
-not_true false e = refl
-
-true_not : (b : Bool) → b ≡ false → not b ≡ true
-true_not true e = absurd cc
-true_not false e = refl
-
-clash : {P : Type 0} (b : Bool) → b ≡ true → b ≡ false → P
-clash b e f = absurd cc
 
 -- ---- other data and other notes
 
@@ -223,8 +206,8 @@ module _ (old begun copied new : Contents) (ranges : List Range) (disks : Disks)
     status = next;
     found = status_now;
     missing = λ d. (
-      λ e. let two = both (is_member group d) (not (there d)) (sym (is.restated.next.missing d) ∙ e) in (member_is d ∙ two.0, not_true (there d) two.1),
-      λ e. is.restated.next.missing d ∙ join (is_member group d) (not (there d)) (sym (member_is d) ∙ e.0) (true_not (there d) e.1),
+      λ e. let two = split (is_member group d) (not (there d)) (sym (is.restated.next.missing d) ∙ e) in (member_is d ∙ two.0, not_so (there d) two.1),
+      λ e. is.restated.next.missing d ∙ join (is_member group d) (not (there d)) (sym (member_is d) ∙ e.0) (so_not (there d) e.1),
     );
     stale = λ p row member. let its = is.restated.next.stale p (sym (member_is p.disk) ∙ ap is_some member) in (
       λ e. ⊎_elim (λ was_so. inl (stale_was p ∙ was_so)) (λ l. inr (left p l)) (its.0 e),
@@ -232,7 +215,7 @@ module _ (old begun copied new : Contents) (ranges : List Range) (disks : Disks)
     );
     strangers = λ p none. is.restated.next.strangers p (sym (member_is p.disk) ∙ ap is_some none);
     dirty = λ lv. (
-      λ e. let two = both (calls_dirty was.value lv) (has_passive group lv) (sym (is.restated.next.dirty lv) ∙ e) in clash (has_passive group lv) two.1 (none_passive group.lvs lv soft),
+      λ e. let two = split (calls_dirty was.value lv) (has_passive group lv) (sym (is.restated.next.dirty lv) ∙ e) in clash (has_passive group lv) two.1 (none_passive group.lvs lv soft),
       λ e. absurd (soft e.row e.volume e.mode),
     );
     notes = λ d lv track_group voter. is.empty d lv track_group voter;

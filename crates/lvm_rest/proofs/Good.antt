@@ -25,28 +25,21 @@ use Rattle.lvm_kept.specs.Committed.{IsWithinDisks}
 use Rattle.lvm_kept.proofs.Finding.{some_same, finding_reads, images_within}
 use Rattle.lvm_commit.specs.Committed.{ShowsCommitted}
 use Rattle.lvm_commit.proofs.Found.{only_found, status_read}
-use Rattle.lvm_good.specs.State.{Marks, Queued, OpenCopy, State, Live, stale_in, told}
+use Rattle.lvm_good.specs.State.{has_notes, has_mark, Marks, Queued, OpenCopy, State, Live, stale_in, told}
 use Rattle.lvm_good.specs.Sound.{MayDiffer, Agree, Settled, Sound}
 use Rattle.lvm_good.specs.Found.{Votes, Found}
 use Rattle.lvm_good.specs.Good.{Good}
-use Rattle.lvm_crash.specs.Session.{as_marks, marks_shown, AreVotesOf, members_there, has_notes, has_mark, GroupStands, HasVolumes, Describes}
+use Rattle.lvm_crash.specs.Session.{as_marks, marks_shown, AreVotesOf, members_there, GroupStands, HasVolumes, Describes}
 use Rattle.lvm_crash.proofs.Loose.{loose_is_off}
 use Rattle.lvm_crash.proofs.Lists.{left_of, right_of, both_of, not_so, so_not}
 use Rattle.lvm_rest.specs.Rest.{IsIdle, SeesThat, AreClosed, IsAtRest}
 use Rattle.lvm_rest.specs.Good.{RestIsGood, StillMatches, RestMatches}
 use Rattle.lvm_commit.proofs.Copies.{one_place}
-use Rattle.lvm_rest.proofs.Rows.{tested, at_passing, some_passing, none_passing, passes_none, row_is_volume, block_in}
+use Rattle.lvm_rest.proofs.Rows.{clash, nothing, tested, at_passing, some_passing, none_passing, passes_none, row_is_volume, block_in}
 use Rattle.lvm_rest.proofs.Shapes.{shape_mode}
 use Rattle.lvm_rest.proofs.Cuts.{value_uncut, loose_uncut, known_cut}
 
 -- ---- small things
-
-nothing : {X A : Type 0} (a : A) → None ≡ Some a → X
-nothing a e = absurd cc
-
-clash : {X : Type 0} (t : Bool) → IsTrue t → IsFalse t → X
-clash true a b = absurd cc
-clash false a b = absurd cc
 
 without_true : (t : Bool) → IsFalse (t && true) → IsFalse t
 without_true true h = h

@@ -1,6 +1,6 @@
 -- A table that is marked with the copies that are left behind, as the next status of a session.
 use Rattle.std.proofs.Common.{◌≡◌, inl, inr, ⊎_elim, ℕ, Bool, true, false, ◌&&◌, ◌||◌, not, List, [], ◌∷◌, ◌==◌, refl, sym, ap, subst, ◌∙◌}
-use Rattle.std.specs.Prelude.{IsTrue, IsFalse}
+use Rattle.std.specs.Prelude.{IsTrue}
 use Rattle.std.specs.List.{list_any}
 use Rattle.lvm_num.specs.declared.place.Pp.{Pp}
 use Rattle.lvm_num.specs.declared.descriptor.LvRow.{LvRow}
@@ -12,12 +12,8 @@ use Rattle.lvm_crash.proofs.Lists.{left_of, right_of, both_of, not_so, so_not}
 use Rattle.lvm_left.specs.Marking.{IsLeftIn}
 use Rattle.lvm_commit.specs.Settling.{there as not_missing}
 use Rattle.lvm_commit.proofs.Copies.{one_place}
-use Rattle.lvm_rest.proofs.Rows.{none_passing}
+use Rattle.lvm_rest.proofs.Rows.{clash, none_passing}
 use Rattle.lvm_rest.specs.Marking.{MarkedMayFollow, MarkedLeavesNone, NoneIsLeftBehind}
-
-clash : {X : Type 0} (t : Bool) → IsTrue t → IsFalse t → X
-clash true a b = absurd cc
-clash false a b = absurd cc
 
 -- one of a list passes
 some_one : {X : Type 0} (test : X → Bool) (xs : List X) → IsTrue (list_any test xs) → (x : X) × IsOneOf xs x × IsTrue (test x)

@@ -19,26 +19,19 @@ use Rattle.lvm_kept.specs.Committed.{IsWithinDisks}
 use Rattle.lvm_commit.specs.Committed.{ShowsCommitted}
 use Rattle.lvm_commit.proofs.Found.{shows_group}
 use Rattle.lvm_commit.proofs.Members.{member_of_parts}
-use Rattle.lvm_good.specs.State.{Marks, State, Live, stale_in, told}
+use Rattle.lvm_good.specs.State.{has_notes, has_mark, Marks, State, Live, stale_in, told}
 use Rattle.lvm_good.specs.Sound.{MayDiffer, Agree}
 use Rattle.lvm_good.specs.Found.{Votes}
 use Rattle.lvm_good.specs.Good.{Good}
 use Rattle.lvm_good.proofs.CrashLemmas.{core_kept}
-use Rattle.lvm_crash.specs.Session.{AreVotesOf, members_there, has_notes, has_mark, Describes}
+use Rattle.lvm_crash.specs.Session.{AreVotesOf, members_there, Describes}
 use Rattle.lvm_crash.proofs.Blocks.{block_of}
 use Rattle.lvm_crash.proofs.Lists.{left_of, right_of, both_of, not_so, so_not, of_passing}
 use Rattle.lvm_crash.proofs.Remaining.{remains_kept}
 use Rattle.lvm_rest.specs.Rest.{IsIdle, SeesThat}
 use Rattle.lvm_rest.specs.Good.{GoodIsRest}
-use Rattle.lvm_rest.proofs.Rows.{none_passing}
+use Rattle.lvm_rest.proofs.Rows.{clash, nothing, none_passing}
 use Rattle.lvm_rest.proofs.Good.{mib_positive}
-
-nothing : {X A : Type 0} (a : A) → None ≡ Some a → X
-nothing a e = absurd cc
-
-clash : {X : Type 0} (t : Bool) → IsTrue t → IsFalse t → X
-clash true a b = absurd cc
-clash false a b = absurd cc
 
 not_both : (a b : Bool) → IsFalse a → IsFalse (a && b)
 not_both true b h = absurd cc

@@ -17,8 +17,8 @@ use Rattle.lvm_vol.specs.Facts.{Fact}
 use Rattle.lvm_kept.specs.Contents.{Contents}
 use Rattle.lvm_kept.specs.Group.{is_named, IsBlockOf, IsOneOf}
 use Rattle.lvm_kept.proofs.Finding.{some_same}
-use Rattle.lvm_good.specs.State.{State}
-use Rattle.lvm_crash.specs.Session.{as_marks, marks_of, view_of, members_there, has_notes, has_mark, IsBlockIn}
+use Rattle.lvm_good.specs.State.{has_notes, has_mark, State}
+use Rattle.lvm_crash.specs.Session.{as_marks, marks_of, view_of, members_there, IsBlockIn}
 use Rattle.lvm_crash.proofs.Lists.{left_of, right_of, both_of}
 use Rattle.lvm_rest.specs.Good.{RestIsSeen}
 use Rattle.lvm_rest.proofs.Rows.{row_is_volume}
