@@ -1,0 +1,125 @@
+ghost use Rattle.lvm_hold.specs.Conflicts.{IsInGroup};
+
+use crate::fixtures::check;
+use lvm_hold::{Held, Queue};
+use std::process::Abort;
+
+fn read(at: u64, count: u32) -> Held {
+    Held {
+        lv: 1,
+        at,
+        count,
+        write: false,
+        copy: false,
+    }
+}
+
+fn write(at: u64, count: u32) -> Held {
+    Held {
+        write: true,
+        ..read(at, count)
+    }
+}
+
+fn copy(at: u64) -> Held {
+    Held {
+        copy: true,
+        ..read(at, 256)
+    }
+}
+
+// What may enter.
+fn valid(rt: &impl Abort, ask: Held) -> Held
+    ensures { IsInGroup result }
+{
+    assert!(rt; ask.count >= 1 && u64::from(ask.count) <= u64::MAX - ask.at);
+    assert!(rt; ask.at % 256 + u64::from(ask.count) <= 256);
+    assert!(rt; !ask.copy || ask.count == 256);
+    ask
+}
+
+// What one waits for, where it is inside.
+fn wait_of(queue: &Queue, id: u64) -> Option<Option<u64>> {
+    if queue.has(id) {
+        Some(queue.blocked_by(id))
+    } else {
+        None
+    }
+}
+
+// What the first and the second of two wait for.
+fn waits(rt: &(impl Abort + AllocGlobal), first: Held, second: Held) -> [Option<Option<u64>>; 2] {
+    let mut queue = Queue::new(rt.alloc(), 2).expect(rt, "memory");
+    queue.enter(7, valid(rt, first));
+    queue.enter(9, valid(rt, second));
+    [wait_of(&queue, 7), wait_of(&queue, 9)]
+}
+
+fn check_waits(rt: &(impl Abort + AllocGlobal), first: Held, second: Held, meet: bool) {
+    assert_eq!(rt;
+        waits(rt, first, second),
+        [Some(None), Some(meet.then_some(7))],
+        "{second:?} after {first:?}"
+    );
+}
+
+#[test]
+fn requests_meet_at_the_edges_of_a_range_and_of_a_track_group(rt: HostRuntime) {
+    let last = u64::MAX - 255;
+    let other = Held {
+        lv: 2,
+        ..write(10, 5)
+    };
+    for (first, second, meet) in [
+        (write(10, 5), write(15, 1), false),
+        (write(10, 5), write(14, 1), true),
+        (write(10, 5), read(9, 1), false),
+        (write(10, 5), read(9, 2), true),
+        (read(10, 5), write(0, 256), true),
+        (read(10, 5), read(10, 5), false),
+        (write(10, 5), other, false),
+        (write(last, 255), read(last + 254, 1), true),
+        (copy(256), write(255, 1), false),
+        (copy(256), write(256, 1), true),
+        (copy(256), write(511, 1), true),
+        (copy(256), write(512, 1), false),
+        (write(511, 1), copy(256), true),
+        (copy(256), read(300, 9), false),
+        (read(300, 9), copy(256), false),
+        (copy(256), copy(256), false),
+    ] {
+        check_waits(&rt, first, second, meet);
+    }
+}
+
+fn leave(rt: &impl Abort, queue: &mut Queue, id: u64) {
+    assert!(rt; queue.has(id));
+    queue.leave(id);
+}
+
+// What 3, 4, 8 and 9 wait for.
+fn four_waits(queue: &Queue) -> [Option<Option<u64>>; 4] {
+    [
+        wait_of(queue, 3),
+        wait_of(queue, 4),
+        wait_of(queue, 8),
+        wait_of(queue, 9),
+    ]
+}
+
+#[test]
+fn the_least_earlier_one_is_waited_for_until_it_leaves(rt: HostRuntime) {
+    let mut queue = Queue::new(rt.alloc(), 4).expect(&rt, "memory");
+    queue.enter(3, valid(&rt, read(8, 8)));
+    queue.enter(4, valid(&rt, write(12, 8)));
+    queue.enter(8, valid(&rt, write(15, 1)));
+    queue.enter(9, valid(&rt, read(0, 20)));
+    let all = [Some(None), Some(Some(3)), Some(Some(3)), Some(Some(4))];
+    check(&rt, four_waits(&queue) == all, "all");
+    leave(&rt, &mut queue, 3);
+    let without_3 = [None, Some(None), Some(Some(4)), Some(Some(4))];
+    check(&rt, four_waits(&queue) == without_3, "without 3");
+    leave(&rt, &mut queue, 4);
+    let without_4 = [None, None, Some(None), Some(Some(8))];
+    check(&rt, four_waits(&queue) == without_4, "without 4");
+}

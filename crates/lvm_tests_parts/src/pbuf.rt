@@ -1,0 +1,19 @@
+use crate::fixtures::check;
+use lvm_pbuf::Pool;
+
+#[test]
+fn a_pool_of_two_gives_each_buffer_once_and_again_when_it_is_back(rt: HostRuntime) {
+    let mut pool = Pool::new(rt.alloc(), 2).expect(&rt, "memory");
+    let zero = pool.take().expect(&rt, "a buffer is in");
+    let mut one = pool.take().expect(&rt, "a buffer is in");
+    let numbers = [zero.number(), one.number(), pool.out()];
+    check(&rt, numbers == [0, 1, 2], "taken");
+    check(&rt, pool.take().is_none(), "none is left");
+
+    one.set_sector(255, &[7; 512]);
+    pool.give(one);
+    check(&rt, pool.out() == 1, "one is back");
+    let again = pool.take().expect(&rt, "a buffer is in");
+    check(&rt, again.number() == 1, "the same");
+    check(&rt, again.sector(255) == &[7; 512], "as it was");
+}
