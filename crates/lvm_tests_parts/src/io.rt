@@ -101,18 +101,20 @@ fn long_line(rt: &(impl Abort + AllocGlobal), size: usize) -> (NextLine, NextLin
 #[test]
 fn sixteen_mebibytes_are_a_line(rt: HostRuntime) {
     let most = MOST_BYTES as usize;
-    let whole = match long_line(&rt, most) {
-        (NextLine::Line(line), NextLine::End) => line.len() == most,
+    let (whole, after) = long_line(&rt, most);
+    let is_whole = match whole {
+        NextLine::Line(line) => line.len() == most,
         _ => false,
     };
-    check(&rt, whole, "the line");
+    check(&rt, is_whole, "the line");
+    check(&rt, matches!(after, NextLine::End), "the end");
 }
 
 #[test]
 fn a_byte_more_is_too_long(rt: HostRuntime) {
-    let longer = long_line(&rt, MOST_BYTES as usize + 1);
-    let too_long = matches!(longer, (NextLine::TooLong, NextLine::TooLong));
-    check(&rt, too_long, "both answers");
+    let (first, second) = long_line(&rt, MOST_BYTES as usize + 1);
+    check(&rt, matches!(first, NextLine::TooLong), "the line");
+    check(&rt, matches!(second, NextLine::TooLong), "what follows");
 }
 
 #[test]
