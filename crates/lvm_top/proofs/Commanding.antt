@@ -16,7 +16,7 @@ use Rattle.lvm_top.proofs.Scripting.{run_upheld}
 use Rattle.lvm_core.specs.declared.parts.Room.{Room}
 use Rattle.lvm_top.proofs.Stopping.{nothing_ran}
 use Rattle.lvm_words.specs.declared.job.Job.{Job}
-use Rattle.lvm_words.specs.declared.job.Job.TheVariants.{Script, Sim, Image}
+use Rattle.lvm_words.specs.declared.job.Job.TheVariants.{Script, Sim, Image, Help, Version}
 use Rattle.lvm_words.specs.declared.job.WordsFault.{WordsFault}
 
 -- as if nothing had been told before
@@ -44,6 +44,8 @@ pub on_script : (asked : Result Job WordsFault) (P : Type 0) → P → OnScript 
 on_script (Ok Script) P p = p
 on_script (Ok (Sim disks mib)) P p = tt
 on_script (Ok (Image disk mib)) P p = tt
+on_script (Ok Help) P p = tt
+on_script (Ok Version) P p = tt
 on_script (Err why) P p = tt
 
 -- and where they ask for one over disks in memory
@@ -51,6 +53,8 @@ pub on_sim : (asked : Result Job WordsFault) (P : ℕ → ℕ → Type 0) → ((
 on_sim (Ok Script) P p = tt
 on_sim (Ok (Sim disks mib)) P p = p disks mib
 on_sim (Ok (Image disk mib)) P p = tt
+on_sim (Ok Help) P p = tt
+on_sim (Ok Version) P p = tt
 on_sim (Err why) P p = tt
 
 -- where so many disks are asked for, what holds of these

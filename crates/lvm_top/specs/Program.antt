@@ -7,7 +7,7 @@ use Rattle.lvm_vol.specs.Log.{Log}
 use Rattle.lvm_top.specs.Blank.{blank_image}
 use Rattle.lvm_top.specs.Run.{Stream}
 use Rattle.lvm_words.specs.declared.job.Job.{Job}
-use Rattle.lvm_words.specs.declared.job.Job.TheVariants.{Script, Sim, Image}
+use Rattle.lvm_words.specs.declared.job.Job.TheVariants.{Script, Sim, Image, Help, Version}
 use Rattle.lvm_words.specs.declared.job.WordsFault.{WordsFault}
 
 -- what holds where the words ask for a script over the files
@@ -15,6 +15,8 @@ abbrev pub OnScript : Result Job WordsFault → Type 0 → Type 0
 OnScript (Ok Script) P = P
 OnScript (Ok (Sim disks mib)) P = Unit {0}
 OnScript (Ok (Image disk mib)) P = Unit {0}
+OnScript (Ok Help) P = Unit {0}
+OnScript (Ok Version) P = Unit {0}
 OnScript (Err why) P = Unit {0}
 
 -- what holds where they ask for a script over so many disks in memory, each of so many MiB
@@ -22,6 +24,8 @@ abbrev pub OnSim : Result Job WordsFault → (ℕ → ℕ → Type 0) → Type 0
 OnSim (Ok Script) P = Unit {0}
 OnSim (Ok (Sim disks mib)) P = P disks mib
 OnSim (Ok (Image disk mib)) P = Unit {0}
+OnSim (Ok Help) P = Unit {0}
+OnSim (Ok Version) P = Unit {0}
 OnSim (Err why) P = Unit {0}
 
 -- what holds where they ask for a new image of a disk, of so many MiB
@@ -29,7 +33,32 @@ abbrev pub OnImage : Result Job WordsFault → (ℕ → ℕ → Type 0) → Type
 OnImage (Ok Script) P = Unit {0}
 OnImage (Ok (Sim disks mib)) P = Unit {0}
 OnImage (Ok (Image disk mib)) P = P disk mib
+OnImage (Ok Help) P = Unit {0}
+OnImage (Ok Version) P = Unit {0}
 OnImage (Err why) P = Unit {0}
+
+-- how the words go, and which program this is
+abbrev pub help_text : List ℕ
+help_text = codes "usage: lvm script | lvm sim DISKS MIB | lvm image N MIB\n  script         does the lines of standard input over hdisk0.img to hdisk127.img of this folder\n  sim DISKS MIB  does them over 1 to 32 disks of zeros in memory, each of 1 to 64 MiB\n  image N MIB    makes hdiskN.img, N from 0 to 127, of 1 to 4,096 MiB of zeros\n"
+
+abbrev pub version_line : List ℕ
+version_line = codes "lvm 0.1.0\n"
+
+-- what holds of the text that the words ask to be told
+abbrev pub OnText : Result Job WordsFault → (List ℕ → Type 0) → Type 0
+OnText (Ok Script) P = Unit {0}
+OnText (Ok (Sim disks mib)) P = Unit {0}
+OnText (Ok (Image disk mib)) P = Unit {0}
+OnText (Ok Help) P = P help_text
+OnText (Ok Version) P = P version_line
+OnText (Err why) P = Unit {0}
+
+-- The text was written whole and the status is 0, or the sink failed, a front of it was written and the status is 4.
+pub record IsTold (text : List ℕ) (status : ℕ) (before after : Stream) : Type 0 where
+  pub status_is : (status ≡ 0) ⊎ (status ≡ 4)
+  pub whole : status ≡ 0 → WhereTold before.content after.content (λ a b. b ≡ a ++ text)
+  pub front : status ≡ 4 → WhereTold before.content after.content (λ a b. WritesFront text a b)
+  pub cause : status ≡ 4 → Rose before.faults after.faults
 
 -- the line for words that are not in the language
 abbrev pub usage_line : List ℕ

@@ -7,7 +7,7 @@ ghost use Rattle.lvm_vol.specs.Facts.{joined};
 ghost use Rattle.lvm_vol.specs.Legal.{Legal};
 ghost use Rattle.lvm_change.specs.Moments.{ImagesKept, IsUpheld};
 ghost use Rattle.lvm_stamps.specs.Behind.{IsBehind};
-ghost use Rattle.lvm_top.specs.Program.{OnScript, OnSim, OnImage, usage_line, IsSaid, IsUnrun, IsImaged};
+ghost use Rattle.lvm_top.specs.Program.{OnScript, OnSim, OnImage, OnText, help_text, version_line, usage_line, IsTold, IsSaid, IsUnrun, IsImaged};
 ghost use Rattle.lvm_top.specs.Run.{IsRun, WhereAlone};
 ghost use Rattle.lvm_top.specs.Script.{facts_of, run_of};
 ghost use Rattle.lvm_top.specs.Sim.{full_room, sim_device, IsToldBlank};
@@ -17,13 +17,20 @@ use crate::image::run_image;
 use crate::run::{Ended, run_script};
 use lvm_core::Room;
 use lvm_disk::{MemShelf, Shelf};
-use lvm_io::{Clock, Images, Sink, Source, write_all};
+use lvm_io::{Clock, Images, Sink, SinkFault, Source, write_all};
 use lvm_num::{Memory, Rows, Text};
 use lvm_words::{Job, WordsFault, read_words};
 use std::alloc::Global;
 
 // What is written where the words are not in the language.
 const USAGE: &[u8] = b"usage: lvm script | lvm sim DISKS MIB | lvm image N MIB\n";
+
+// What `--help` tells.
+const HELP: &[u8] =
+    b"usage: lvm script | lvm sim DISKS MIB | lvm image N MIB\n  script         does the lines of standard input over hdisk0.img to hdisk127.img of this folder\n  sim DISKS MIB  does them over 1 to 32 disks of zeros in memory, each of 1 to 64 MiB\n  image N MIB    makes hdiskN.img, N from 0 to 127, of 1 to 4,096 MiB of zeros\n";
+
+// What `--version` tells.
+const VERSION: &[u8] = b"lvm 0.1.0\n";
 
 // The room of a run.
 fn full_room() -> Room
@@ -55,6 +62,30 @@ fn say_usage<E: Sink>(err: &mut E)
     let _ = write_all(err, USAGE);
 }
 
+// Writes a text. Status 0: all of it was written. Status 4: the sink failed, and a front of it was.
+fn tell<O: Sink>(text: &[u8], out: &mut O) -> u8
+    ensures { IsTold text.now result (record { content = O.held out.old; faults = O.faults out.old }) (record { content = O.held out.new; faults = O.faults out.new }) }
+{
+    match write_all(out, text) {
+        Ok(()) => 0,
+        Err(SinkFault) => 4,
+    }
+}
+
+// Tells how the words go.
+fn tell_help<O: Sink>(out: &mut O) -> u8
+    ensures { IsTold help_text result (record { content = O.held out.old; faults = O.faults out.old }) (record { content = O.held out.new; faults = O.faults out.new }) }
+{
+    tell(HELP, out)
+}
+
+// Tells which program this is.
+fn tell_version<O: Sink>(out: &mut O) -> u8
+    ensures { IsTold version_line result (record { content = O.held out.old; faults = O.faults out.old }) (record { content = O.held out.new; faults = O.faults out.new }) }
+{
+    tell(VERSION, out)
+}
+
 // Makes a new image of a disk.
 fn make_image<P: Images>(disk: u16, mib: u32, images: &mut P) -> u8
     ensures { IsImaged disk mib result (P.chosen images.new) (record { content = P.held images.old; faults = P.faults images.old }) (record { content = P.held images.new; faults = P.faults images.new }) }
@@ -81,7 +112,8 @@ fn unrun<S>(status: u8, files: S) -> Ended<S>
 /// over the files. `sim DISKS MIB` runs one over so many disks of zeros in memory, which are given back
 /// as the run left them. `image N MIB` writes so many MiB of zeros to a new image of disk N, and ends with
 /// status 0, or with 4 where the sink for images failed. Words that are not in the language are answered
-/// by a line of usage to `err` and status 2. Where no memory is found for the words nothing is done, and the
+/// by a line of usage to `err` and status 2. `--help` and `--version` write a text to `out`, and end with
+/// status 0, or with 4 where the sink failed. Where no memory is found for the words nothing is done, and the
 /// status is 5. Where no script is run over the files they come back untouched.
 pub fn run_words<I: Source, O: Sink, E: Sink, C: Clock, S: Shelf, P: Images>(
     alloc: Global,
@@ -115,6 +147,10 @@ pub fn run_words<I: Source, O: Sink, E: Sink, C: Clock, S: Shelf, P: Images>(
     ensures sim_first { OnSim (job_of words.now) (λ disks mib. IfSome result.sim (λ shelf. WhereAlone (run_of result.history) (C.last clock.new) full_room (sim_device disks mib) (device_of shelf) (record { content = I.left input.old; faults = I.faults input.old }) (record { content = I.left input.new; faults = I.faults input.new }) (record { content = O.held out.old; faults = O.faults out.old }) (record { content = O.held out.new; faults = O.faults out.new }) result.history result.status result.refused (Legal (joined [] (facts_of result.history)) × ImagesKept (device_of shelf) (joined [] (facts_of result.history))))) }
     ensures sim_alone { OnSim (job_of words.now) (λ _ _. (result.shelf ≡ files) × (err.new ≡ err.old) × (images.new ≡ images.old)) }
 
+    ensures text { OnText (job_of words.now) (λ text. IsTold text result.status (record { content = O.held out.old; faults = O.faults out.old }) (record { content = O.held out.new; faults = O.faults out.new })) }
+    ensures text_unrun { OnText (job_of words.now) (λ _. IsUnrun result.status result.refused result.history result.sim result.status) }
+    ensures text_alone { OnText (job_of words.now) (λ _. (result.shelf ≡ files) × (input.new ≡ input.old) × (err.new ≡ err.old) × (clock.new ≡ clock.old) × (images.new ≡ images.old)) }
+
     ensures image { OnImage (job_of words.now) (λ disk mib. (result.status ≡ 5 → ⊥) → IsImaged disk mib result.status (P.chosen images.new) (record { content = P.held images.old; faults = P.faults images.old }) (record { content = P.held images.new; faults = P.faults images.new })) }
     ensures image_unread { OnImage (job_of words.now) (λ _ _. result.status ≡ 5 → images.new ≡ images.old) }
     ensures image_unrun { OnImage (job_of words.now) (λ _ _. IsUnrun result.status result.refused result.history result.sim result.status) }
@@ -136,6 +172,8 @@ pub fn run_words<I: Source, O: Sink, E: Sink, C: Clock, S: Shelf, P: Images>(
             Err(Memory) => unrun(5, files),
         },
         Ok(Job::Image { disk, mib }) => unrun(make_image(disk, mib, images), files),
+        Ok(Job::Help) => unrun(tell_help(out), files),
+        Ok(Job::Version) => unrun(tell_version(out), files),
         Err(WordsFault::Usage) => {
             say_usage(err);
             unrun(2, files)
