@@ -43,11 +43,23 @@ write='wr hdisk0 4096 1 0000000000000001\n'
 read='rd hdisk0 4096 1\n'
 
 # Words outside the language: one line on standard error, none on standard output.
-for words in '' 'help' 'sim 0 8' 'sim +1 8' 'image 128 1' 'image 0 -1' 'script script' '--help'; do
+for words in '' 'help' 'sim 0 8' 'sim +1 8' 'image 128 1' 'image 0 -1' 'script script' '--help script' '-h'; do
     # shellcheck disable=SC2086
     run 2 '' '' $words
     [ "$(cat said)" = "$usage" ] || fail "lvm $words: said '$(cat said)'"
 done
+run 2 '' '' "$(printf 'scr\303')"
+[ "$(cat said)" = "$usage" ] || fail "words that are no text: said '$(cat said)'"
+
+# said WANTED: what the last run said on standard error
+said() {
+    [ "$(cat said)" = "$1" ] || fail "said '$(cat said)', not '$1'"
+}
+
+# Help and the version, on standard output.
+[ "$("$lvm" --help 2> said | head -n 1)" = "$usage" ] || fail 'help'
+said ''
+run 0 'lvm 0.1.0\n' '' --version
 
 # No file yet.
 run 1 'refused 18 OutOfRange 0\n' "$read" script
@@ -61,6 +73,7 @@ run 0 '4096 0000000000000001\n' "$read" script
 
 # An image isn't made again.
 run 4 '' '' image 0 8
+said 'lvm: there is an image of this disk already'
 run 0 '4096 0000000000000001\n' "$read" script
 
 # Part of a sector at the end is left alone.
@@ -77,12 +90,21 @@ fi
 
 # A file that becomes shorter, and one that goes away, while the program runs.
 mkfifo lines
+# answers N: waits until so many lines are answered, half a minute at most
+answers() {
+    for _ in $(seq 1 3000); do
+        [ "$(wc -l < replies)" -ge "$1" ] && return
+        sleep 0.01
+    done
+    fail "no answer: $(cat replies)"
+}
 # become CHANGE REPLIES: the file changes so between the first read and the lines behind it, which are answered so
 become() {
+    : > replies
     "$lvm" script < lines > replies &
     exec 3> lines
     printf "$read" >&3
-    sleep 0.5
+    answers 1
     $1
     printf "$write$read" >&3
     exec 3>&-
@@ -92,6 +114,26 @@ become() {
     run 0 '' '' image 0 8
     run 0 'ok\n' "$write" script
 }
+# Two programs: while one has the images, another has none of them.
+: > replies
+"$lvm" script < lines > replies &
+exec 3> lines
+printf "$read" >&3
+answers 1
+run 1 'refused 18 OutOfRange 0\n' "$read" script
+said 'lvm: this folder is in use by another program'
+exec 3>&-
+wait $!
+run 0 '4096 0000000000000001\n' "$read" script
+
+# A standard stream that is closed fails, and no image is taken for it.
+"$lvm" script >&- 2> said <<< 'lsvg x'
+[ $? = 4 ] || fail 'standard output is closed'
+said "lvm: standard output can't be written"
+"$lvm" script <&- > replies 2> said
+[ $? = 3 ] || fail 'standard input is closed'
+said "lvm: standard input can't be read"
+
 become 'truncate -s 2097152 hdisk0.img' 'refused 19 Lost\nrefused 20 ReadFailed\n'
 become 'rm hdisk0.img' 'refused 9 DiskFailed hdisk0\nrefused 9 DiskFailed hdisk0\n'
 
