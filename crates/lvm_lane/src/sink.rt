@@ -126,6 +126,7 @@ impl<'a, R: Files> Sink for ImageSink<'a, R> {
         ensures image { (self.new.chosen ≡ self.old.chosen) × (self.new.choices ≡ self.old.choices) }
         ensures later { self.old.faults ≤ self.new.faults }
         ensures cause { result ≡ Put.Failed → Rose self.old.faults self.new.faults }
+        ensures well { (result ≡ Put.Failed → ⊥) → self.new.faults ≡ self.old.faults }
         ensures unmade { self.old.chosen ≡ None → result ≡ Put.Failed }
     {
         if let Some(mut file) = self.file.take() {
