@@ -16,11 +16,6 @@ pub fn check(rt: &impl Abort, is: bool, what: &str) {
     assert!(rt; is, "{what}");
 }
 
-/// The same, with a place or a count.
-pub fn check_at(rt: &impl Abort, is: bool, what: &str, at: usize) {
-    assert!(rt; is, "{what} {at}");
-}
-
 pub fn name(rt: &impl Abort, text: &str) -> Name {
     Name::read(text.as_bytes()).expect(rt, "a name")
 }

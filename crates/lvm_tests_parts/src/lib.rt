@@ -1,4 +1,4 @@
-//! Tests of what a session, the program and its language are made of, by public calls alone.
+//! Tests of what a session is made of, by public calls alone.
 #![tactic(auto)]
 
 #[cfg(test)]
@@ -6,22 +6,12 @@ mod fixtures;
 #[cfg(test)]
 mod hold;
 #[cfg(test)]
-mod io;
-#[cfg(test)]
 mod mwc;
-#[cfg(test)]
-mod parse;
 #[cfg(test)]
 mod pbuf;
 #[cfg(test)]
 mod sched;
 #[cfg(test)]
-mod show_listing;
-#[cfg(test)]
-mod show_word;
-#[cfg(test)]
 mod stale;
 #[cfg(test)]
 mod status;
-#[cfg(test)]
-mod words;
