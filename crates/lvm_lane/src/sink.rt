@@ -1,5 +1,5 @@
 //! A sink that makes image files.
-ghost use Rattle.std.specs.Prelude.{◌≡◌, ◌<◌, ◌≤◌, None, Some, length, IfOk};
+ghost use Rattle.std.specs.Prelude.{◌≡◌, ◌<◌, ◌≤◌, None, Some, is_some, length, IfOk};
 
 use crate::exclusive::Exclusive;
 use crate::name::image_name;
@@ -61,7 +61,9 @@ impl<'a, R: Files> ImageSink<'a, R> {
     }
 
     /// Whether a disk was chosen.
-    pub fn is_chosen(&self) -> bool {
+    pub fn is_chosen(&self) -> bool
+        ensures { result ≡ is_some self.now.chosen }
+    {
         self.disk.is_some()
     }
 
