@@ -183,14 +183,18 @@ fn a_file_is_written_read_and_synced(rt: HostRuntime) {
     for case in &CASES {
         let trial = Trial::new(&rt, case.may_write, 300, 1000);
         let mut shelf = FileShelf::open(&&trial, rt.alloc()).expect(&rt, "memory");
-        for (fault, it, end, counts, missed) in case.transfers {
-            trial.set_fault(*fault);
-            let ended = carry_out(&rt, &mut shelf, *it);
-            let left = (ended, trial.counts(), faults(&shelf, 1));
-            assert_eq!(rt; left, (*end, *counts, *missed), "{}", case.name);
-        }
-        assert!(rt; is_left(&trial, case.file), "{}", case.name);
+        see_case(&rt, case, &trial, &mut shelf);
     }
+}
+
+fn see_case<S: Shelf>(rt: &(impl Abort + AllocGlobal), case: &Case, trial: &Trial, shelf: &mut S) {
+    for (fault, it, end, counts, missed) in case.transfers {
+        trial.set_fault(*fault);
+        let ended = carry_out(rt, shelf, *it);
+        let left = (ended, trial.counts(), faults(shelf, 1));
+        assert_eq!(rt; left, (*end, *counts, *missed), "{}", case.name);
+    }
+    assert!(rt; is_left(trial, case.file), "{}", case.name);
 }
 
 fn is_left(trial: &Trial, file: &[(u64, u32, u64)]) -> bool {
@@ -306,27 +310,39 @@ fn len_of(rt: &(impl Abort + Files)) -> u64 {
     fs::metadata(rt, "hdisk3.img").expect(rt, "the file").len()
 }
 
+// Works on the images through a shelf, and takes them away under it.
+fn see_work<S: Shelf>(rt: &(impl Abort + Files + AllocGlobal), shelf: &mut S) {
+    assert_eq!(rt; sizes(shelf), (5, [20, 0, 0, 300, 0]));
+    see_transfers(rt, shelf, &WHOLE);
+    see_bytes(rt);
+    shorten(rt);
+    see_transfers(rt, shelf, &SHORTER);
+    assert_eq!(rt; len_of(rt), 18 * 512 + 511);
+    fs::remove_file(rt, "hdisk3.img").expect(rt, "the file");
+    see_transfers(rt, shelf, &GONE);
+    assert_eq!(rt; faults(shelf, 3), 2);
+}
+
+fn remove_all<R: Files>(rt: &R) {
+    for name in ["hdisk0.img", "hdisk3.img"] {
+        let _ = fs::remove_file(rt, name);
+    }
+    let _ = fs::remove_dir(rt, "hdisk4.img");
+}
+
+fn first_sizes(rt: &(impl Abort + Files + AllocGlobal)) -> (u16, [u64; 5]) {
+    let shelf = FileShelf::open(rt, rt.alloc()).expect(rt, "memory");
+    sizes(&shelf)
+}
+
 // It runs in a folder of its own files. Part of a sector at the end isn't one, and a folder isn't a file.
 #[test]
 fn images_are_made_written_and_read(rt: HostRuntime) {
-    for name in ["hdisk0.img", "hdisk3.img"] {
-        let _ = fs::remove_file(&rt, name);
-    }
-    let _ = fs::remove_dir(&rt, "hdisk4.img");
-    let empty = FileShelf::open(&rt, rt.alloc()).expect(&rt, "memory");
-    assert_eq!(rt; sizes(&empty), (1, [0; 5]));
+    remove_all(&rt);
+    assert_eq!(rt; first_sizes(&rt), (1, [0; 5]));
     assert_eq!(rt; make_images(&rt), [true; 5]);
     fs::create_dir(&rt, "hdisk4.img").expect(&rt, "a folder");
     let mut shelf = FileShelf::open(&rt, rt.alloc()).expect(&rt, "memory");
-    assert_eq!(rt; sizes(&shelf), (5, [20, 0, 0, 300, 0]));
-    see_transfers(&rt, &mut shelf, &WHOLE);
-    see_bytes(&rt);
-    shorten(&rt);
-    see_transfers(&rt, &mut shelf, &SHORTER);
-    assert_eq!(rt; len_of(&rt), 18 * 512 + 511);
-    fs::remove_file(&rt, "hdisk3.img").expect(&rt, "the file");
-    see_transfers(&rt, &mut shelf, &GONE);
-    assert_eq!(rt; faults(&shelf, 3), 2);
-    fs::remove_dir(&rt, "hdisk4.img").expect(&rt, "the folder");
-    fs::remove_file(&rt, "hdisk0.img").expect(&rt, "a file");
+    see_work(&rt, &mut shelf);
+    remove_all(&rt);
 }
