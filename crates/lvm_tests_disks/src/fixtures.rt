@@ -1,7 +1,8 @@
-//! What the tests share: disks in memory, plans of faults, and the start of a transfer.
+//! What the tests share: one assertion, disks and sinks in memory, plans of faults, and the start of a transfer.
 ghost use Rattle.std.specs.Prelude.{◌≡◌};
 
 use lvm_disk::{MemShelf, Planned, Shelf, Started, names_disks};
+use lvm_io::MemSink;
 use lvm_num::{Pbuf, Rows};
 use std::process::Abort;
 
@@ -9,6 +10,21 @@ pub fn plan_of(rt: &(impl Abort + AllocGlobal), plan: &[Planned]) -> Rows<Planne
     ensures { result ≡ plan.now }
 {
     Rows::new(Vec::from_slice(rt.alloc(), plan).expect(rt, "memory"))
+}
+
+/// Ends the test where this isn't so, and says of what.
+pub fn check(rt: &impl Abort, is: bool, what: &str) {
+    assert!(rt; is, "{what}");
+}
+
+/// The same, with a place.
+pub fn check_at(rt: &impl Abort, is: bool, what: &str, at: usize) {
+    assert!(rt; is, "{what} {at}");
+}
+
+/// A sink with room for so many bytes.
+pub fn sink(rt: &(impl Abort + AllocGlobal), room: usize) -> MemSink {
+    MemSink::new(rt.alloc(), room, Rows::empty(rt.alloc())).expect(rt, "memory")
 }
 
 /// Disks of zeros, of these numbers of sectors.

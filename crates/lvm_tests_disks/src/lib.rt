@@ -6,6 +6,8 @@ mod disk;
 #[cfg(test)]
 mod fixtures;
 #[cfg(test)]
+mod image;
+#[cfg(test)]
 mod lane;
 #[cfg(test)]
 mod raw;
