@@ -1,6 +1,6 @@
 //! A shelf in memory at work: what its calls answer, one after the other. Its starts and reaps go
 //! through the trait.
-use crate::fixtures::{blank_shelf, plan_of, start};
+use crate::fixtures::{blank_shelf, check, plan_of, start};
 use Answer::*;
 use Step::*;
 use lvm_disk::{Act, Arrange, MemShelf, Planned, Reaped, Shelf, Started, names_disks};
@@ -275,7 +275,8 @@ fn a_shelf_in_memory_answers_by_its_plan(rt: HostRuntime) {
     for (name, plan, steps) in &SCRIPTS {
         let mut shelf = blank_shelf(&rt, &[16, 16], plan);
         for (step, wanted) in *steps {
-            assert_eq!(rt; ask(&rt, &mut shelf, *step), *wanted, "{name}");
+            let answer = ask(&rt, &mut shelf, *step);
+            check(&rt, answer == *wanted, name);
         }
     }
 }

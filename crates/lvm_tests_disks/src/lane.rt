@@ -1,16 +1,19 @@
 //! Image files: those of the system, and the one of a trial system, which watches the calls on it.
-use crate::fixtures::start;
+use crate::fixtures::{check, check_at, sink, start};
 use crate::trial::{Fault, Trial, are_filled};
 use End::*;
 use Transfer::*;
 use lvm_disk::{Reaped, Shelf, Started};
 use lvm_io::{Images, Put, Sink, write_all};
-use lvm_lane::{FileShelf, ImageSink};
+use lvm_lane::{Exclusive, FileShelf, ImageSink};
 use lvm_num::{Pbuf, fill};
 use std::fs;
 use std::fs::{OpenFile, OpenOptions};
 use std::process::Abort;
 use std::rt::Files;
+
+// What is said of one disk has room here.
+const ROOM: usize = 100;
 
 // What the sectors of a buffer have that take no part in a transfer.
 const REST: u64 = u64::MAX;
@@ -147,14 +150,14 @@ static CASES: [Case; 6] = [
         ],
         file: &[(0, 4, 1000), (4, 2, 9), (6, 294, 1006)],
     },
-    // The failed read is a miss.
+    // Its 1,024 bytes are eleven writes of at most 100. The failed read is a miss.
     Case {
         name: "after a failed sync a file is used no more",
         may_write: true,
         transfers: &[
-            (Fault::Syncs, Write(1, 4, 2, 9), Failed, (12, 1), 1),
-            (Fault::Nothing, Write(1, 4, 2, 9), Failed, (12, 1), 2),
-            (Fault::Nothing, Read(1, 4, 2, 9), Failed, (12, 1), 2),
+            (Fault::Syncs, Write(1, 4, 2, 9), Failed, (11, 1), 1),
+            (Fault::Nothing, Write(1, 4, 2, 9), Failed, (11, 1), 2),
+            (Fault::Nothing, Read(1, 4, 2, 9), Failed, (11, 1), 2),
         ],
         file: &[(0, 4, 1000), (6, 294, 1006)],
     },
@@ -182,15 +185,20 @@ static CASES: [Case; 6] = [
 fn a_file_is_written_read_and_synced(rt: HostRuntime) {
     for case in &CASES {
         let trial = Trial::new(&rt, case.may_write, 300, 1000);
-        let mut shelf = FileShelf::open(&&trial, rt.alloc()).expect(&rt, "memory");
-        for (fault, it, end, counts, missed) in case.transfers {
-            trial.set_fault(*fault);
-            let ended = carry_out(&rt, &mut shelf, *it);
-            let left = (ended, trial.counts(), faults(&shelf, 1));
-            assert_eq!(rt; left, (*end, *counts, *missed), "{}", case.name);
-        }
-        assert!(rt; is_left(&trial, case.file), "{}", case.name);
+        let mut err = sink(&rt, ROOM);
+        let mut shelf = FileShelf::open(&&trial, rt.alloc(), &mut err).expect(&rt, "memory");
+        see_case(&rt, case, &trial, &mut shelf);
     }
+}
+
+fn see_case<S: Shelf>(rt: &(impl Abort + AllocGlobal), case: &Case, trial: &Trial, shelf: &mut S) {
+    for (fault, it, end, counts, missed) in case.transfers {
+        trial.set_fault(*fault);
+        let ended = carry_out(rt, shelf, *it);
+        let left = (ended, trial.counts(), faults(shelf, 1));
+        check(rt, left == (*end, *counts, *missed), case.name);
+    }
+    check(rt, is_left(trial, case.file), case.name);
 }
 
 fn is_left(trial: &Trial, file: &[(u64, u32, u64)]) -> bool {
@@ -198,46 +206,69 @@ fn is_left(trial: &Trial, file: &[(u64, u32, u64)]) -> bool {
         .all(|(first, count, word)| trial.holds(*first, *count, *word))
 }
 
-#[test]
-fn what_an_image_took_is_synced(rt: HostRuntime) {
-    let trial = Trial::new(&rt, true, 2, 0);
-    let took = sync_image(&&trial, &trial);
-    assert_eq!(rt; took, [Put::Took(100), Put::Failed, Put::Failed]);
-    // One sync of the folder and one of the file.
-    assert_eq!(rt; trial.counts(), (1, 2));
-}
+// What goes wrong while the trial system's file is opened, the room of the sink, the sectors that disk 1 has
+// then, the syncs, and what the sink is told.
+static OPENINGS: [(Fault, usize, u64, u32, &str); 5] = [
+    (Fault::Nothing, ROOM, 300, 1, ""),
+    (
+        Fault::Held("hdisk1.img"),
+        ROOM,
+        0,
+        0,
+        "lvm: hdisk1.img is in use by another program\n",
+    ),
+    (
+        Fault::Held("."),
+        ROOM,
+        0,
+        0,
+        "lvm: this folder is in use by another program\n",
+    ),
+    (
+        Fault::Syncs,
+        ROOM,
+        0,
+        0,
+        "lvm: hdisk1.img can't be opened\n",
+    ),
+    (Fault::Held("hdisk1.img"), 4, 0, 0, "lvm:"),
+];
 
-// Writes to an image, then where a sync fails, and then where a file of that name is there already.
-fn sync_image<R: Files>(files: &R, trial: &Trial) -> [Put; 3] {
-    let mut sink = ImageSink::new(files);
-    sink.choose(0);
-    let took = sink.write(&[0; 512]);
-    trial.set_fault(Fault::Syncs);
-    let unsynced = sink.write(&[0; 512]);
-    trial.set_fault(Fault::Nothing);
-    sink.choose(1);
-    [took, unsynced, sink.write(&[0; 512])]
+#[test]
+fn what_is_not_used_is_said(rt: HostRuntime) {
+    for (fault, room, size, syncs, said) in &OPENINGS {
+        let trial = Trial::new(&rt, true, 300, 1000);
+        trial.set_fault(*fault);
+        let mut err = sink(&rt, *room);
+        let shelf = FileShelf::open(&&trial, rt.alloc(), &mut err).expect(&rt, "memory");
+        let has = (shelf.disks(), sectors(&shelf, 1), trial.counts());
+        check(&rt, has == (2, *size, (0, *syncs)), said);
+        check(&rt, err.bytes() == said.as_bytes(), said);
+    }
 }
 
 // Images of 20 and of 300 sectors, the second with some bytes more. What is there isn't written over, and
 // nothing is written before a disk is chosen.
-fn make_images<R: Files>(rt: &R) -> [bool; 5] {
+fn make_images<R: Files>(rt: &R) -> [bool; 5]
+where
+    R::File: Exclusive,
+{
     let mut sink = ImageSink::new(rt);
     let unchosen = sink.write(b"a") == Put::Failed;
     let small = makes_image(&mut sink, 0, 20);
     let large = makes_image(&mut sink, 3, 300);
-    let more = write_all(&mut sink, &[7; 100]).is_ok();
+    let more = write_all(&mut sink, &[7; 100]).is_ok() && sink.settle().is_ok();
     sink.choose(0);
     [
         unchosen,
         small,
         large,
         more,
-        sink.write(b"a") == Put::Failed,
+        sink.is_taken() && sink.write(b"a") == Put::Failed,
     ]
 }
 
-fn makes_image<R: Files>(sink: &mut ImageSink<'_, R>, disk: u16, sectors: u32) -> bool {
+fn makes_image<S: Images>(sink: &mut S, disk: u16, sectors: u32) -> bool {
     sink.choose(disk);
     for _ in 0..sectors {
         if write_all(sink, &[0; 512]).is_err() {
@@ -270,10 +301,11 @@ static GONE: [(Transfer, End); 1] = [(Write(3, 16, 2, 5), Failed)];
 fn see_transfers<S: Shelf>(
     rt: &(impl Abort + AllocGlobal),
     shelf: &mut S,
+    what: &str,
     all: &[(Transfer, End)],
 ) {
     for (k, (it, end)) in all.iter().enumerate() {
-        assert_eq!(rt; carry_out(rt, shelf, *it), *end, "transfer {k}");
+        check_at(rt, carry_out(rt, shelf, *it) == *end, what, k);
     }
 }
 
@@ -295,38 +327,62 @@ fn shorten(rt: &(impl Abort + Files)) {
 fn see_bytes(rt: &(impl Abort + Files + AllocGlobal)) {
     let bytes = fs::read(rt, "hdisk3.img").expect(rt, "the file");
     let at = bytes.iter().position(|byte| *byte != 0);
-    let own = are_filled(&bytes, 18, 256, 5000);
-    assert_eq!(rt;
-        (bytes.len(), at, own),
-        (300 * 512 + 100, Some(18 * 512 + 6), true)
-    );
+    check(rt, bytes.len() == 300 * 512 + 100, "the length");
+    check(rt, at == Some(18 * 512 + 6), "the first byte");
+    check(rt, are_filled(&bytes, 18, 256, 5000), "the words");
 }
 
 fn len_of(rt: &(impl Abort + Files)) -> u64 {
     fs::metadata(rt, "hdisk3.img").expect(rt, "the file").len()
 }
 
-// It runs in a folder of its own files. Part of a sector at the end isn't one, and a folder isn't a file.
+// Works on the images through a shelf, and takes them away under it.
+fn see_work<S: Shelf>(rt: &(impl Abort + Files + AllocGlobal), shelf: &mut S) {
+    see_transfers(rt, shelf, "whole", &WHOLE);
+    see_bytes(rt);
+    shorten(rt);
+    see_transfers(rt, shelf, "shorter", &SHORTER);
+    check(rt, len_of(rt) == 18 * 512 + 511, "the shorter length");
+    fs::remove_file(rt, "hdisk3.img").expect(rt, "the file");
+    see_transfers(rt, shelf, "gone", &GONE);
+    check(rt, faults(shelf, 3) == 2, "the faults");
+}
+
+fn remove_all<R: Files>(rt: &R) {
+    for name in ["hdisk0.img", "hdisk3.img"] {
+        let _ = fs::remove_file(rt, name);
+    }
+    let _ = fs::remove_dir(rt, "hdisk4.img");
+}
+
+// A shelf of the system's files, which has these disks, and says this where it is opened.
+fn open_shelf<R: Abort + Files + AllocGlobal>(
+    rt: &R,
+    disks: (u16, [u64; 5]),
+    said: &str,
+) -> FileShelf<R::File>
+where
+    R::File: Exclusive,
+{
+    let mut err = sink(rt, ROOM);
+    let shelf = FileShelf::open(rt, rt.alloc(), &mut err).expect(rt, "memory");
+    check(rt, sizes(&shelf) == disks, "the disks");
+    check(rt, err.bytes() == said.as_bytes(), "what is said");
+    shelf
+}
+
+// It runs in a folder of its own files. Part of a sector at the end isn't one, and a folder isn't a file. Of
+// two shelves at once the second has no file.
 #[test]
 fn images_are_made_written_and_read(rt: HostRuntime) {
-    for name in ["hdisk0.img", "hdisk3.img"] {
-        let _ = fs::remove_file(&rt, name);
-    }
-    let _ = fs::remove_dir(&rt, "hdisk4.img");
-    let empty = FileShelf::open(&rt, rt.alloc()).expect(&rt, "memory");
-    assert_eq!(rt; sizes(&empty), (1, [0; 5]));
-    assert_eq!(rt; make_images(&rt), [true; 5]);
+    remove_all(&rt);
+    let _ = open_shelf(&rt, (1, [0; 5]), "");
+    check(&rt, make_images(&rt) == [true; 5], "the images");
     fs::create_dir(&rt, "hdisk4.img").expect(&rt, "a folder");
-    let mut shelf = FileShelf::open(&rt, rt.alloc()).expect(&rt, "memory");
-    assert_eq!(rt; sizes(&shelf), (5, [20, 0, 0, 300, 0]));
-    see_transfers(&rt, &mut shelf, &WHOLE);
-    see_bytes(&rt);
-    shorten(&rt);
-    see_transfers(&rt, &mut shelf, &SHORTER);
-    assert_eq!(rt; len_of(&rt), 18 * 512 + 511);
-    fs::remove_file(&rt, "hdisk3.img").expect(&rt, "the file");
-    see_transfers(&rt, &mut shelf, &GONE);
-    assert_eq!(rt; faults(&shelf, 3), 2);
-    fs::remove_dir(&rt, "hdisk4.img").expect(&rt, "the folder");
-    fs::remove_file(&rt, "hdisk0.img").expect(&rt, "a file");
+    let disks = (5, [20, 0, 0, 300, 0]);
+    let mut shelf = open_shelf(&rt, disks, "lvm: hdisk4.img can't be opened\n");
+    let held = "lvm: this folder is in use by another program\n";
+    let _ = open_shelf(&rt, (5, [0; 5]), held);
+    see_work(&rt, &mut shelf);
+    remove_all(&rt);
 }

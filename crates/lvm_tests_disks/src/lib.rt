@@ -1,4 +1,4 @@
-//! Tests of the layer below, by its public calls alone.
+//! Tests of disks in memory, of image files and of ranges of a disk, by their public calls alone.
 #![tactic(auto)]
 
 #[cfg(test)]
@@ -6,13 +6,9 @@ mod disk;
 #[cfg(test)]
 mod fixtures;
 #[cfg(test)]
+mod image;
+#[cfg(test)]
 mod lane;
-#[cfg(test)]
-mod quorum_choice;
-#[cfg(test)]
-mod quorum_survey;
-#[cfg(test)]
-mod quorum_write;
 #[cfg(test)]
 mod raw;
 #[cfg(test)]

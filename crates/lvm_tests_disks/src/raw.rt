@@ -1,5 +1,5 @@
 //! Ranges of a disk in memory, written and read.
-use crate::fixtures::blank_shelf;
+use crate::fixtures::{blank_shelf, check};
 use Answer::*;
 use Ask::*;
 use lvm_disk::{Act, MemShelf, Planned, Shelf};
@@ -265,9 +265,9 @@ fn ranges_of_a_disk_in_no_group(rt: HostRuntime) {
         let mut history = history_of(&rt, case.room);
         for (what, answer, entries) in case.asks {
             let got = (asked(&rt, &mut shelf, &mut history, *what), history.len());
-            assert_eq!(rt; got, (*answer, *entries), "{}", case.name);
+            check(&rt, got == (*answer, *entries), case.name);
         }
         let landed = landings(&rt, &history);
-        assert_eq!(rt; landed.as_slice(), case.landed, "{}", case.name);
+        check(&rt, landed.as_slice() == case.landed, case.name);
     }
 }

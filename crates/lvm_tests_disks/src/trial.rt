@@ -1,4 +1,5 @@
 //! A system with one folder and one file, `hdisk1.img`, which watches the calls on it.
+use lvm_lane::Exclusive;
 use lvm_num::fill;
 use std::alloc::Allocator;
 use std::cell::{Cell, RefCell};
@@ -11,12 +12,17 @@ use std::rt::Files;
 // As many bytes as one call moves.
 const MOST: usize = 100;
 
+/// As many bytes as one write to a new file takes.
+pub const MOST_OF_NEW: usize = 65_536;
+
 /// What goes wrong.
-#[derive(Clone, Copy, Debug, PartialEq, Eq)]
+#[derive(Clone, Copy)]
 pub enum Fault {
     Nothing,
     Writes,
     Syncs,
+    /// Another program holds what is opened by this name.
+    Held(&'static str),
 }
 
 #[derive(Drop)]
@@ -24,7 +30,7 @@ pub struct Trial {
     may_write: bool,
     fault: Cell<Fault>,
     bytes: RefCell<Vec<u8>>,
-    // Writes since the last sync, and syncs in all.
+    // Writes since a file was last synced, and syncs in all, those of the folder among them.
     unsynced: Cell<u32>,
     syncs: Cell<u32>,
 }
@@ -64,6 +70,14 @@ impl Trial {
         }
     }
 
+    // Whether another program holds what is opened by this name.
+    fn is_held(&self, path: &str) -> bool {
+        match self.fault.get() {
+            Fault::Held(held) => held == path,
+            _ => false,
+        }
+    }
+
     fn len(&self) -> u64 {
         match self.bytes.try_borrow() {
             Ok(bytes) => bytes.len() as u64,
@@ -90,11 +104,31 @@ fn io_fault() -> io::Error {
     io::Error::from(ErrorKind::Other)
 }
 
+/// An open file. What a new one takes is counted and not kept.
 #[derive(Drop)]
 pub struct Opened<'a> {
     trial: &'a Trial,
     writes: bool,
+    is_folder: bool,
+    is_new: bool,
+    is_held: bool,
     at: usize,
+}
+
+impl Opened<'_> {
+    fn keep(&mut self, buf: &[u8]) -> io::Result<usize> {
+        let Ok(mut bytes) = self.trial.bytes.try_borrow_mut() else {
+            return Err(io_fault());
+        };
+        if self.at > bytes.len() {
+            return Err(io_fault());
+        }
+        let into = &mut bytes.as_mut_slice()[self.at..];
+        let count = into.len().min(buf.len()).min(MOST);
+        into[..count].copy_from_slice(&buf[..count]);
+        self.at = self.at.saturating_add(count);
+        Ok(count)
+    }
 }
 
 impl Read for Opened<'_> {
@@ -112,19 +146,14 @@ impl Read for Opened<'_> {
 
 impl Write for Opened<'_> {
     fn write(&mut self, buf: &[u8]) -> io::Result<usize> {
-        if !self.writes || self.trial.fault.get() == Fault::Writes {
+        if !self.writes || matches!(self.trial.fault.get(), Fault::Writes) {
             return Err(io_fault());
         }
-        let Ok(mut bytes) = self.trial.bytes.try_borrow_mut() else {
-            return Err(io_fault());
+        let count = if self.is_new {
+            buf.len().min(MOST_OF_NEW)
+        } else {
+            self.keep(buf)?
         };
-        if self.at > bytes.len() {
-            return Err(io_fault());
-        }
-        let into = &mut bytes.as_mut_slice()[self.at..];
-        let count = into.len().min(buf.len()).min(MOST);
-        into[..count].copy_from_slice(&buf[..count]);
-        self.at = self.at.saturating_add(count);
         self.trial
             .unsynced
             .set(self.trial.unsynced.get().saturating_add(1));
@@ -162,13 +191,24 @@ impl OpenFile for Opened<'_> {
     }
 
     fn sync_data(&self) -> io::Result<()> {
-        if self.trial.fault.get() == Fault::Syncs {
+        if matches!(self.trial.fault.get(), Fault::Syncs) {
             return Err(io_fault());
         }
-        self.trial.unsynced.set(0);
+        if !self.is_folder {
+            self.trial.unsynced.set(0);
+        }
         self.trial
             .syncs
             .set(self.trial.syncs.get().saturating_add(1));
+        Ok(())
+    }
+}
+
+impl Exclusive for Opened<'_> {
+    fn try_exclusive(&self) -> io::Result<()> {
+        if self.is_held {
+            return Err(io::Error::from(ErrorKind::WouldBlock));
+        }
         Ok(())
     }
 }
@@ -189,8 +229,12 @@ impl<'a> Files for &'a Trial {
 
     fn open_file(&self, how: &OpenOptions, path: &str) -> io::Result<Opened<'a>> {
         let is_there = path == "hdisk1.img" || path == ".";
-        if how.asks_create_new() == is_there {
-            return Err(io_fault());
+        let is_new = how.asks_create_new();
+        if is_new && is_there {
+            return Err(io::Error::from(ErrorKind::AlreadyExists));
+        }
+        if !is_new && !is_there {
+            return Err(io::Error::from(ErrorKind::NotFound));
         }
         if how.asks_write() && !self.may_write {
             return Err(io::Error::from(ErrorKind::PermissionDenied));
@@ -198,6 +242,9 @@ impl<'a> Files for &'a Trial {
         Ok(Opened {
             trial: *self,
             writes: how.asks_write(),
+            is_folder: path == ".",
+            is_new,
+            is_held: self.is_held(path),
             at: 0,
         })
     }
