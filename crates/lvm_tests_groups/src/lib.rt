@@ -1,10 +1,8 @@
-//! Tests of the layer below, by its public calls alone.
+//! Tests of the making of groups and of their coming on, by public calls alone.
 #![tactic(auto)]
 
 #[cfg(test)]
 mod begin;
-#[cfg(test)]
-mod commit;
 #[cfg(test)]
 mod fixtures;
 #[cfg(test)]

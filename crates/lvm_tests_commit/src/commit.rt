@@ -5,7 +5,7 @@ ghost use Rattle.lvm_num.specs.DescriptorBytes.{descriptor_of};
 ghost use Rattle.lvm_commit.specs.Settling.{IsOf, MaySettle, HasNumbers};
 
 use crate::fixtures::{
-    blank_shelf, first_homes, group, has_room, row, stamp, status, survey, volume,
+    blank_shelf, check, first_homes, group, has_room, row, stamp, status, survey, volume,
 };
 use lvm_commit::{Settled, commit_descriptor, commit_status};
 use lvm_disk::{Act, MemShelf, Planned, Shelf};
@@ -497,7 +497,7 @@ fn records_are_committed(rt: HostRuntime) {
         let mut shelf = blank_shelf(&rt, &SIZES, case.plan);
         let group = group_of(&rt, case.group);
         let ran = run(&rt, &mut shelf, &group, case.stale);
-        assert_eq!(rt; ran, case.ran, "{}", case.name);
+        check(&rt, ran == case.ran, case.name);
     }
 }
 
@@ -526,7 +526,7 @@ fn left(rt: &(impl Abort + AllocGlobal), plan: &[Planned]) -> [(Stamp, Stamp); 3
 #[test]
 fn committed_records_stand_on_the_disks(rt: HostRuntime) {
     let each = (stamp(50, 1), stamp(50, 2));
-    assert_eq!(rt; left(&rt, &[]), [each; 3]);
+    check(&rt, left(&rt, &[]) == [each; 3], "no fault");
     let plan = [
         Planned {
             call: 3,
@@ -539,7 +539,8 @@ fn committed_records_stand_on_the_disks(rt: HostRuntime) {
     ];
     let there = (stamp(50, 1), stamp(50, 3));
     let missing = (stamp(0, 0), stamp(0, 0));
-    assert_eq!(rt; left(&rt, &plan), [there, missing, there]);
+    let wanted = [there, missing, there];
+    check(&rt, left(&rt, &plan) == wanted, "a member that was lost");
 }
 
 #[test]
@@ -552,6 +553,6 @@ fn a_cut_ends_a_commit(rt: HostRuntime) {
         let mut shelf = blank_shelf(&rt, &SIZES, &plan);
         let group = group_of(&rt, Group::Plain);
         let ran = run(&rt, &mut shelf, &group, Some(SECOND));
-        assert_eq!(rt; ran.stated, (End::Dark, call));
+        check(&rt, ran.stated == (End::Dark, call), "a cut");
     }
 }

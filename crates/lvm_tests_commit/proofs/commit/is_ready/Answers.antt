@@ -16,7 +16,7 @@ use Rattle.lvm_status.specs.Update.{Stored}
 use Rattle.lvm_status.proofs.Sound.{and_left}
 use Rattle.lvm_quorum.specs.Written.{HasRoom}
 use Rattle.lvm_commit.specs.Settling.{there, IsOf}
-use Rattle.lvm_tests_groups.proofs.commit.is_ready.Goals as goal
+use Rattle.lvm_tests_commit.proofs.commit.is_ready.Goals as goal
 
 -- a member's disk is one of so many
 below : (d : Descriptor) (n disk : ℕ) → All (λ (row : PvRow). row.disk < n) d.pvs → is_member d disk ≡ true → disk < n
