@@ -5,6 +5,7 @@ use lvm_io::MemClock;
 use lvm_lane::{FileShelf, ImageSink};
 use lvm_top::run_words;
 use std::fs;
+use std::fs::File;
 use std::process::Abort;
 use std::rt::Files;
 
@@ -15,7 +16,7 @@ const MAKE: &[u8] = b"mkvg -y datavg -s 1 hdisk0\nfail hdisk0\n";
 const COME_ON: &[u8] = b"varyonvg datavg\nlspv hdisk0\n";
 
 // Whether the words, with a script and a first moment, end with the status and write this.
-fn says<R: Files + AllocGlobal + Abort>(
+fn says<R: Files<File = File> + AllocGlobal + Abort>(
     rt: &R,
     words: &[&str],
     script: &[u8],
@@ -25,7 +26,7 @@ fn says<R: Files + AllocGlobal + Abort>(
 ) -> bool {
     let alloc = rt.alloc();
     let texts = texts(rt, words);
-    let files = FileShelf::open(rt, alloc).expect(rt, "files");
+    let files = FileShelf::open(rt, alloc, &mut sink(rt, 64)).expect(rt, "files");
     let mut input = source(rt, script);
     let mut out = sink(rt, 4_096);
     let ended = run_words(
