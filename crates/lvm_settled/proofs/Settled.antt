@@ -1,5 +1,6 @@
 -- A settled session is in a good state.
-use Rattle.std.proofs.Common.{◌≡◌, inl, List, [], ◌++◌, sym, subst}
+use Rattle.std.proofs.Common.{◌≡◌, inl, List, [], ◌++◌, Some, sym, ap, subst, ◌∙◌}
+use Rattle.lvm_num.specs.declared.descriptor.Descriptor.{Descriptor}
 use Rattle.lvm_vol.specs.Facts.{Fact}
 use Rattle.lvm_vol.specs.Legal.{Legal}
 use Rattle.lvm_vol.specs.May.{known as known_of}
@@ -17,6 +18,7 @@ use Rattle.lvm_good.specs.Found.{Votes}
 use Rattle.lvm_rest.proofs.Rest.{good_is_rest}
 use Rattle.lvm_rest.proofs.Closed.{landed_are_closed}
 use Rattle.lvm_rest.proofs.Good.{rest_matches}
+use Rattle.lvm_rest.proofs.Marking.{none_is_left_behind as none_is_behind}
 use Rattle.lvm_settled.specs.Settled.{IsKnown, IsCarried, IsViewOf, SettledIsGood, GoodIsSettled, NoneLeftIsBehind}
 use Rattle.lvm_rest.specs.Rest.{NoneIsBehind}
 

@@ -1,4 +1,6 @@
 //! A system with one folder and one file, `hdisk1.img`, which watches the calls on it.
+ghost use Rattle.std.specs.Prelude.{◌≤◌, length, IfOk};
+
 use lvm_lane::Exclusive;
 use lvm_num::fill;
 use std::alloc::Allocator;
@@ -116,7 +118,20 @@ pub struct Opened<'a> {
 }
 
 impl Opened<'_> {
-    fn keep(&mut self, buf: &[u8]) -> io::Result<usize> {
+    // Writes a front of the bytes behind those before, and answers how many.
+    fn put(&mut self, buf: &[u8]) -> io::Result<usize>
+        ensures { IfOk result (λ count. count ≤ length buf.now) }
+    {
+        if self.is_new {
+            Ok(buf.len().min(MOST_OF_NEW))
+        } else {
+            self.keep(buf)
+        }
+    }
+
+    fn keep(&mut self, buf: &[u8]) -> io::Result<usize>
+        ensures { IfOk result (λ count. count ≤ length buf.now) }
+    {
         let Ok(mut bytes) = self.trial.bytes.try_borrow_mut() else {
             return Err(io_fault());
         };
@@ -149,11 +164,7 @@ impl Write for Opened<'_> {
         if !self.writes || matches!(self.trial.fault.get(), Fault::Writes) {
             return Err(io_fault());
         }
-        let count = if self.is_new {
-            buf.len().min(MOST_OF_NEW)
-        } else {
-            self.keep(buf)?
-        };
+        let count = self.put(buf)?;
         self.trial
             .unsynced
             .set(self.trial.unsynced.get().saturating_add(1));
