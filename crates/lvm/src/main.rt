@@ -8,7 +8,7 @@ use lvm_io::{Sink, StdSink, StdSource, SystemClock, write_all};
 use lvm_lane::{FileShelf, ImageSink};
 use lvm_num::{Memory, Text};
 use lvm_top::{Job, WordsFault, read_words, run_words};
-use std::alloc::Global;
+use std::alloc::{AllocError, Global};
 use std::fs::{File, OpenOptions};
 use std::io::ErrorKind;
 use std::os::fd::{AsRawFd, IntoRawFd};
@@ -22,6 +22,16 @@ const SINK_FAULT: u8 = 4;
 const MEMORY: u8 = 5;
 
 const NULL_DEVICE: &str = "/dev/null";
+
+// More bytes than a command gives back.
+const LARGE: usize = 16_777_216;
+
+// Takes a large block and gives it back untouched. The system's allocator keeps up to twice the largest block
+// that was given back: so what a command gives back is there for the next one, and isn't taken from the system
+// page by page again.
+fn keep_memory(alloc: Global) {
+    let _block: Result<Vec<u8>, AllocError> = Vec::with_capacity(alloc, LARGE);
+}
 
 // Sees that the descriptors 0, 1 and 2 are taken, so that no file that is opened later gets one of them and
 // is read or written as a standard stream. A closed stream becomes the null device, for writing alone where
@@ -109,6 +119,7 @@ fn main(rt: HostRuntime) -> ExitCode {
         return ExitCode::from(SINK_FAULT);
     }
     let alloc = rt.alloc();
+    keep_memory(alloc);
     let mut err = StdSink::new(rt.stderr());
     let Ok(words) = words_of(&rt, alloc) else {
         say_why(&mut err, MEMORY, None);
