@@ -1,15 +1,13 @@
 //! Groups that are made, and that come on again.
 use crate::fixtures::{
-    Begin, begin_first, begin_next, blank_shelf, first_three, group, image_shelf, images_of,
-    name_of, row, stamp, status, survey,
+    Begin, begin_first, begin_next, blank_shelf, check, first_three, group, name_of, put_sector,
+    row, sector_of, status, survey,
 };
 use lvm_disk::{Act, MemShelf, Planned, Shelf};
 use lvm_num::Stamp;
 use lvm_quorum::{Choice, ChooseFault, choose};
 use lvm_survey::{Survey, SurveyRow};
 use std::process::Abort;
-
-const SECTOR: usize = 512;
 
 const GROUP: u64 = 50;
 
@@ -42,6 +40,27 @@ struct Look {
     shown: [Shown; 3],
     chosen: Chosen,
 }
+
+const BLANK: Shown = Shown {
+    descriptor: Stamp { epoch: 0, seq: 0 },
+    status: Stamp { epoch: 0, seq: 0 },
+    homes: [2, 2],
+    note: Some(0),
+};
+
+const NOTED: Shown = Shown {
+    descriptor: Stamp { epoch: 0, seq: 0 },
+    status: Stamp { epoch: 0, seq: 0 },
+    homes: [2, 2],
+    note: Some(50),
+};
+
+const STATED: Shown = Shown {
+    descriptor: Stamp { epoch: 0, seq: 0 },
+    status: Stamp { epoch: 50, seq: 1 },
+    homes: [2, 0],
+    note: Some(50),
+};
 
 const MADE: Shown = Shown {
     descriptor: Stamp { epoch: 50, seq: 2 },
@@ -108,24 +127,30 @@ fn make(rt: &(impl Abort + AllocGlobal), shelf: &mut MemShelf, id: u64) -> (Begi
     (end, shelf.calls())
 }
 
+// Disks on which a group of all three was made.
+fn made(rt: &(impl Abort + AllocGlobal), id: u64) -> MemShelf {
+    let mut shelf = blank_shelf(rt, &SIZES, &[]);
+    let made = make(rt, &mut shelf, id);
+    check(rt, made == (Begin::Ended, 18), "a new group");
+    shelf
+}
+
 #[test]
 fn a_new_group_is_found_and_comes_on_again(rt: HostRuntime) {
-    let mut shelf = blank_shelf(&rt, &SIZES, &[]);
-    let made = make(&rt, &mut shelf, GROUP);
-    assert_eq!(rt; made, (Begin::Ended, 18));
-    let first = see(&rt, &mut shelf);
+    let mut shelf = made(&rt, GROUP);
+    check_look(&rt, &mut shelf, MADE, 50);
+    let end = come_on(&rt, &mut shelf, 60);
+    check(&rt, end == Begin::Ended, "a group that comes on again");
+    check_look(&rt, &mut shelf, AGAIN, 60);
+}
+
+// Each disk has these records, and the whole group is chosen.
+fn check_look<S: Shelf>(rt: &(impl Abort + AllocGlobal), shelf: &mut S, each: Shown, seen: u64) {
     let wanted = Look {
-        shown: [MADE; 3],
-        chosen: Chosen::Whole([true; 3], 50),
+        shown: [each; 3],
+        chosen: Chosen::Whole([true; 3], seen),
     };
-    assert_eq!(rt; first, wanted);
-    assert_eq!(rt; come_on(&rt, &mut shelf, 60), Begin::Ended);
-    let again = see(&rt, &mut shelf);
-    let wanted = Look {
-        shown: [AGAIN; 3],
-        chosen: Chosen::Whole([true; 3], 60),
-    };
-    assert_eq!(rt; again, wanted);
+    check(rt, see(rt, shelf) == wanted, "a whole group");
 }
 
 fn come_on<S: Shelf>(rt: &(impl Abort + AllocGlobal), shelf: &mut S, epoch: u64) -> Begin {
@@ -133,34 +158,37 @@ fn come_on<S: Shelf>(rt: &(impl Abort + AllocGlobal), shelf: &mut S, epoch: u64)
     begin_next(rt, shelf, &group, epoch)
 }
 
-// Each record is of the group or isn't there, and a status stands before its disk's descriptor is begun.
-fn is_begun(shown: &Shown) -> bool {
-    let none = stamp(0, 0);
-    let has_status = shown.status == MADE.status;
-    if shown.descriptor == none {
-        has_status || shown.status == none
-    } else {
-        has_status && shown.descriptor == MADE.descriptor
-    }
-}
+// A cut: at which call, the word that picks the sectors which are written all the same, and what the two disks have.
+type Cut = (u64, u64, [Shown; 2]);
 
-fn see_begun<S: Shelf>(rt: &(impl Abort + AllocGlobal), shelf: &mut S, call: u64) {
-    let survey = survey(rt, shelf);
-    for row in survey.rows.as_slice() {
-        assert!(rt; is_begun(&shown_on(rt, row)), "at {call}");
-    }
-}
+// A new group of two disks is six writes of one sector, each of two calls: at the first nothing is under way. So these
+// are all the bytes that a cut can leave.
+const CUTS: [Cut; 7] = [
+    (2, 0, [BLANK, BLANK]),
+    (3, 0x5555_5555_5555_5555, [NOTED, BLANK]),
+    (4, u64::MAX, [NOTED, NOTED]),
+    (7, 0, [STATED, NOTED]),
+    (8, 0x5555_5555_5555_5555, [STATED, STATED]),
+    (12, 0, [MADE, STATED]),
+    (12, u64::MAX, [MADE, MADE]),
+];
 
 #[test]
-fn a_cut_at_any_call_leaves_old_or_new_records(rt: HostRuntime) {
-    for word in [0, 0x5555_5555_5555_5555, u64::MAX] {
-        for call in 1..=12 {
-            let act = Act::Cut(word);
-            let mut shelf = blank_shelf(&rt, &[4096; 2], &[Planned { call, act }]);
-            assert_eq!(rt; make(&rt, &mut shelf, GROUP), (Begin::Dark, call));
-            see_begun(&rt, &mut shelf, call);
-        }
+fn a_cut_leaves_the_writes_that_ended(rt: HostRuntime) {
+    let cuts = CUTS;
+    for (call, word, shown) in &cuts {
+        let act = Act::Cut(*word);
+        let mut shelf = blank_shelf(&rt, &[4096; 2], &[Planned { call: *call, act }]);
+        let made = make(&rt, &mut shelf, GROUP);
+        check(&rt, made == (Begin::Dark, *call), "a cut");
+        let left = shown_on_two(&rt, &mut shelf);
+        check(&rt, left == *shown, "what a cut leaves");
     }
+}
+
+fn shown_on_two<S: Shelf>(rt: &(impl Abort + AllocGlobal), shelf: &mut S) -> [Shown; 2] {
+    let survey = survey(rt, shelf);
+    [0, 1].map(|disk| shown_on(rt, row(rt, &survey, disk)))
 }
 
 // The notes and the statuses are tried on all disks, and no descriptor is begun.
@@ -172,78 +200,66 @@ fn the_lowest_disk_that_failed_is_named(rt: HostRuntime) {
     });
     let mut shelf = blank_shelf(&rt, &SIZES, &plan);
     let made = make(&rt, &mut shelf, GROUP);
-    assert_eq!(rt; made, (Begin::DiskFailed(1), 12));
+    check(
+        &rt,
+        made == (Begin::DiskFailed(1), 12),
+        "two disks that failed",
+    );
 }
 
-// Bytes that are changed on the disks of the group, each on a disk at a place, and what is chosen then.
-static CHANGED: [(&str, &[(usize, usize, u8)], Chosen); 4] = [
+// Sectors of the disks of the group, each on a disk, and what is chosen where the first byte of each is another.
+static CHANGED: [(&str, &[(u16, u64)], Chosen); 4] = [
     (
         "both descriptors of a disk",
-        &[(1, 512 * SECTOR, 0), (1, 1664 * SECTOR, 0)],
+        &[(1, 512), (1, 1664)],
         Chosen::Whole([true, false, true], 50),
     ),
     (
         "the descriptors of two disks",
-        &[(0, 512 * SECTOR, 0), (1, 512 * SECTOR, 0)],
+        &[(0, 512), (1, 512)],
         Chosen::Not(ChooseFault::NoQuorum { have: 1, total: 3 }),
     ),
     (
         "all statuses",
-        &[
-            (0, 64 * SECTOR, 255),
-            (1, 64 * SECTOR, 255),
-            (2, 64 * SECTOR, 255),
-        ],
+        &[(0, 64), (1, 64), (2, 64)],
         Chosen::Not(ChooseFault::NoRecord),
     ),
-    (
-        "a note",
-        &[(0, 8 * SECTOR, 1)],
-        Chosen::Whole([true; 3], 50),
-    ),
+    ("a note", &[(0, 8)], Chosen::Whole([true; 3], 50)),
 ];
 
-// The bytes of the disks after a group of all three was made.
-fn group_images(rt: &(impl Abort + AllocGlobal), id: u64) -> Vec<Vec<u8>> {
-    let mut shelf = blank_shelf(rt, &SIZES, &[]);
-    assert_eq!(rt; make(rt, &mut shelf, id), (Begin::Ended, 18));
-    images_of(rt, &shelf)
-}
-
-fn change(rt: &impl Abort, images: &mut Vec<Vec<u8>>, changes: &[(usize, usize, u8)]) {
-    for (disk, place, byte) in changes {
-        let image = images.get_mut(*disk).expect(rt, "a disk");
-        *image.get_mut(*place).expect(rt, "a byte") = *byte;
+// Inverts the first byte of each of these sectors. Once more, and they are as they were.
+fn invert(rt: &(impl Abort + AllocGlobal), shelf: &mut MemShelf, sectors: &[(u16, u64)]) {
+    for (disk, sector) in sectors {
+        let mut bytes = sector_of(rt, shelf, *disk, *sector);
+        bytes[0] = 255 - bytes[0];
+        put_sector(rt, shelf, *disk, *sector, &bytes);
     }
-}
-
-fn chosen_of(rt: &(impl Abort + AllocGlobal), images: &[Vec<u8>]) -> Chosen {
-    let mut shelf = image_shelf(rt, images, &[]);
-    see(rt, &mut shelf).chosen
 }
 
 #[test]
-fn bad_images_are_told_apart(rt: HostRuntime) {
-    for (name, changes, chosen) in &CHANGED {
-        let mut images = group_images(&rt, GROUP);
-        change(&rt, &mut images, changes);
-        assert_eq!(rt; chosen_of(&rt, &images), *chosen, "{name}");
+fn bad_sectors_are_told_apart(rt: HostRuntime) {
+    let mut shelf = made(&rt, GROUP);
+    for (name, sectors, chosen) in &CHANGED {
+        invert(&rt, &mut shelf, sectors);
+        let look = see(&rt, &mut shelf);
+        check(&rt, look.chosen == *chosen, name);
+        invert(&rt, &mut shelf, sectors);
     }
 }
 
+// The records of the last disk are of another group of that name.
 #[test]
 fn two_groups_of_one_name_are_ambiguous(rt: HostRuntime) {
-    let images = mixed_images(&rt);
-    let chosen = chosen_of(&rt, &images);
-    assert_eq!(rt; chosen, Chosen::Not(ChooseFault::Ambiguous));
-}
-
-// The last disk is of another group of that name.
-fn mixed_images(rt: &(impl Abort + AllocGlobal)) -> Vec<Vec<u8>> {
-    let mut images = group_images(rt, GROUP);
-    let mut others = group_images(rt, OTHER);
-    let _ = images.pop();
-    let other = others.pop().expect(rt, "a disk");
-    images.push(other).expect(rt, "memory");
-    images
+    let mut shelf = made(&rt, GROUP);
+    let other = made(&rt, OTHER);
+    for sector in [8, 64, 512] {
+        let bytes = sector_of(&rt, &other, 2, sector);
+        put_sector(&rt, &mut shelf, 2, sector, &bytes);
+    }
+    let look = see(&rt, &mut shelf);
+    check(
+        &rt,
+        look.chosen == Chosen::Not(ChooseFault::Ambiguous),
+        "two groups",
+    );
 }

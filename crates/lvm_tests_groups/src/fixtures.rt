@@ -1,7 +1,6 @@
 //! What the tests share: disks in memory with plans of faults, groups and their records, and what the calls of the
 //! layer want of their arguments.
-ghost use Rattle.std.specs.Prelude.{◌≡◌, ◌%◌, ◌<◌, ◌≤◌, ℕ, length, IsTrue};
-ghost use Rattle.std.specs.List.{All};
+ghost use Rattle.std.specs.Prelude.{◌≡◌, ◌<◌, ◌≤◌, ℕ, length, IsTrue};
 ghost use Rattle.lvm_num.specs.Disks.{has};
 ghost use Rattle.lvm_quorum.specs.Written.{HasRoom};
 ghost use Rattle.lvm_survey.specs.Rows.{AreRows};
@@ -9,7 +8,7 @@ ghost use Rattle.lvm_survey.specs.Surveyed.{IsSurveyValid};
 
 use lvm_begin::{Begun, begin_again, begin_new};
 use lvm_disk::{MemShelf, Planned, Shelf, names_disks};
-use lvm_move::{Patience, relight};
+use lvm_move::{Moved, Patience, relight, transfer};
 use lvm_num::{
     Descriptor, DiskSet, LvRow, Mode, Name, Pbuf, Policy, Pp, PvRow, Rows, Stamp, Status,
     StatusRow, VolumeNumbers,
@@ -17,6 +16,11 @@ use lvm_num::{
 use lvm_quorum::Homes;
 use lvm_survey::{Survey, SurveyRow, Surveyed, survey_disks};
 use std::process::Abort;
+
+/// Ends the test where this isn't so, and says of what.
+pub fn check(rt: &impl Abort, is: bool, what: &str) {
+    assert!(rt; is, "{what}");
+}
 
 pub fn stamp(epoch: u64, seq: u32) -> Stamp {
     Stamp { epoch, seq }
@@ -47,31 +51,30 @@ pub fn images_of(rt: &(impl Abort + AllocGlobal), shelf: &MemShelf) -> Vec<Vec<u
     images
 }
 
-fn rows_of(rt: &(impl Abort + AllocGlobal), images: &[Vec<u8>]) -> Rows<Rows<u8>> {
-    let mut rows = Vec::new(rt.alloc());
-    for image in images {
-        let copy = Vec::from_slice(rt.alloc(), image.as_slice()).expect(rt, "memory");
-        rows.push(Rows::new(copy)).expect(rt, "memory");
-    }
-    Rows::new(rows)
+/// One sector of a disk.
+pub fn sector_of(rt: &impl Abort, shelf: &MemShelf, disk: u16, sector: u64) -> [u8; 512] {
+    assert!(rt; disk < shelf.disks());
+    let (sectors, _) = shelf.image(disk).as_chunks::<512>();
+    *sectors.get(sector as usize).expect(rt, "a sector")
 }
 
-/// Disks on which this stands.
-pub fn image_shelf(
+/// Puts bytes on a sector of a disk.
+pub fn put_sector<S: Shelf>(
     rt: &(impl Abort + AllocGlobal),
-    images: &[Vec<u8>],
-    plan: &[Planned],
-) -> MemShelf {
-    let rows = rows_of(rt, images);
-    assert!(rt; !rows.is_empty() && rows.len() <= 128);
-    assert!(rt; are_whole(rows.as_slice()) && names_disks(plan, rows.len() as u16));
-    MemShelf::from_images(rt.alloc(), rows, plan_of(rt, plan), 0).expect(rt, "memory")
-}
-
-fn are_whole(images: &[Rows<u8>]) -> bool
-    ensures { IsTrue result → All (λ bytes. length bytes % 512 ≡ 0) images.now }
-{
-    images.iter().all(|bytes| bytes.len() % 512 == 0)
+    shelf: &mut S,
+    disk: u16,
+    sector: u64,
+    bytes: &[u8; 512],
+) {
+    assert!(rt; shelf.flights() == 0);
+    relight(shelf);
+    assert!(rt; disk < shelf.disks() && sector < 4096);
+    assert!(rt; sector < shelf.sectors(disk));
+    let mut buf = Pbuf::fresh(rt.alloc(), 8).expect(rt, "memory");
+    buf.set_sector(0, bytes);
+    let mut patience = Patience::whole();
+    let moved = transfer(shelf, true, disk, sector, 1, buf, &mut patience);
+    check(rt, matches!(&moved, Moved::Done(_)), "a write");
 }
 
 /// Whether each disk has room for records.

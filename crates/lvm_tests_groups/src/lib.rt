@@ -6,4 +6,6 @@ mod begin;
 #[cfg(test)]
 mod fixtures;
 #[cfg(test)]
+mod group;
+#[cfg(test)]
 mod varyon;

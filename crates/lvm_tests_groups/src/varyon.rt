@@ -1,5 +1,5 @@
 //! Groups of two disks that come on, and that don't.
-use crate::fixtures::{Begin, begin_first, blank_shelf, group, images_of, name_of, volume};
+use crate::fixtures::{Begin, begin_first, blank_shelf, check, group, images_of, name_of, volume};
 use lvm_core::{Cause, Driver, Room};
 use lvm_disk::{Act, Arrange, MemShelf, Planned, Shelf};
 use lvm_move::{Patience, relight};
@@ -115,7 +115,8 @@ fn made(rt: &(impl Abort + AllocGlobal), plan: &[Planned]) -> MemShelf {
     let mut shelf = blank_shelf(rt, &[6144, 6144], plan);
     let mut group = group(rt, GROUP, 2);
     group.lvs = volume(rt, [FIRST, SECOND]);
-    assert_eq!(rt; begin_first(rt, &mut shelf, &group), Begin::Ended);
+    let end = begin_first(rt, &mut shelf, &group);
+    check(rt, end == Begin::Ended, "a new group");
     shelf
 }
 
@@ -165,7 +166,8 @@ fn a_group_comes_on_by_its_votes_at_a_later_moment(rt: HostRuntime) {
         let shelf = made(&rt, case.plan);
         let (left, answer) = vary(&rt, shelf, case.moment);
         let later = vary_later(&rt, left, case.moment.saturating_add(10));
-        assert_eq!(rt; (answer, later), (case.answer, case.later), "{}", case.name);
+        check(&rt, answer == case.answer, case.name);
+        check(&rt, later == case.later, case.name);
     }
 }
 
@@ -186,7 +188,11 @@ fn nothing_is_written_where_a_group_does_not_come_on(rt: HostRuntime) {
     let shelf = made(&rt, &plan);
     let before = images_of(&rt, &shelf);
     let (unlit, _) = vary(&rt, shelf, 60);
-    assert!(rt; images_of(&rt, &unlit) == before);
+    check(&rt, images_of(&rt, &unlit) == before, "without a quorum");
     let (earlier, _) = vary(&rt, unlit, 50);
-    assert!(rt; images_of(&rt, &earlier) == before);
+    check(
+        &rt,
+        images_of(&rt, &earlier) == before,
+        "at an earlier moment",
+    );
 }
