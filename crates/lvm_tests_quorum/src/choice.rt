@@ -6,7 +6,7 @@ ghost use Rattle.lvm_survey.specs.Rows.{AreRows};
 ghost use Rattle.lvm_survey.specs.Surveyed.{IsRowValid, IsSurveyValid};
 
 use crate::fixtures::{
-    DATA, FIRST, LARGE, LATER, NAMESAKE, NONE, OTHER, first_two, group, name_of, status,
+    DATA, FIRST, LARGE, LATER, NAMESAKE, NONE, OTHER, check, first_two, group, name_of, status,
 };
 use Answer::*;
 use lvm_num::{Descriptor, Rows, Stamp, Status};
@@ -341,14 +341,22 @@ fn chosen(rt: &(impl Abort + AllocGlobal), members: u16, survey: &Survey) -> Ans
 fn a_name_chooses_by_what_the_disks_show(rt: HostRuntime) {
     for (name, members, disks, answer) in &CASES {
         let survey = survey_of(&rt, *members, disks);
-        assert_eq!(rt; chosen(&rt, *members, &survey), *answer, "{name}");
+        check(&rt, chosen(&rt, *members, &survey) == *answer, name);
     }
 }
 
 // The homes of two disks, and the disks whose next descriptor and whose next status goes to slot 1.
-static NEXT: [([[u8; 2]; 2], [[bool; 2]; 2]); 2] = [
-    ([[0, 2], [1, 0]], [[true, false], [false, true]]),
-    ([[2, 1], [0, 0]], [[false, true], [false, true]]),
+static NEXT: [(&str, [[u8; 2]; 2], [[bool; 2]; 2]); 2] = [
+    (
+        "the first has no status",
+        [[0, 2], [1, 0]],
+        [[true, false], [false, true]],
+    ),
+    (
+        "the first has no descriptor",
+        [[2, 1], [0, 0]],
+        [[false, true], [false, true]],
+    ),
 ];
 
 fn with_homes(rt: &(impl Abort + AllocGlobal), disk: u16, homes: [u8; 2]) -> SurveyRow {
@@ -376,8 +384,8 @@ fn next_slots(rt: &impl Abort, survey: &Survey) -> [[bool; 2]; 2] {
 
 #[test]
 fn the_slot_without_the_newest_record_comes_next(rt: HostRuntime) {
-    for (homes, second) in &NEXT {
+    for (name, homes, second) in &NEXT {
         let survey = survey_with(&rt, homes);
-        assert_eq!(rt; next_slots(&rt, &survey), *second, "{homes:?}");
+        check(&rt, next_slots(&rt, &survey) == *second, name);
     }
 }

@@ -1,5 +1,5 @@
-//! What the tests share: disks in memory, plans of faults, records, and what the calls of the layer want of
-//! their arguments.
+//! What the tests share: one assertion, disks in memory, plans of faults, records, and what the calls of the
+//! layer want of their arguments.
 ghost use Rattle.std.specs.Prelude.{◌≡◌, ◌%◌, ◌<◌, ◌≤◌, ℕ, length, IsTrue};
 ghost use Rattle.std.specs.List.{All};
 ghost use Rattle.lvm_num.specs.Disks.{has};
@@ -29,6 +29,11 @@ pub fn plan_of(rt: &(impl Abort + AllocGlobal), plan: &[Planned]) -> Rows<Planne
     ensures { result ≡ plan.now }
 {
     Rows::new(Vec::from_slice(rt.alloc(), plan).expect(rt, "memory"))
+}
+
+/// Ends the test where this isn't so, and says of what.
+pub fn check(rt: &impl Abort, is: bool, what: &str) {
+    assert!(rt; is, "{what}");
 }
 
 /// Disks of zeros, of these numbers of sectors.

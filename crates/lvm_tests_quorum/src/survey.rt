@@ -1,5 +1,5 @@
 //! What the records of disks in memory are found to be.
-use crate::fixtures::{DATA, FIRST, LATER, NAMESAKE, NONE, group, image_shelf, status};
+use crate::fixtures::{DATA, FIRST, LATER, NAMESAKE, NONE, check, group, image_shelf, status};
 use lvm_disk::{Act, MemShelf, Planned, Shelf};
 use lvm_move::{Patience, relight};
 use lvm_num::{Kind, Pbuf, Rows, Stamp};
@@ -427,27 +427,29 @@ fn images_of(rt: &(impl Abort + AllocGlobal), disks: &[Disk]) -> Rows<Rows<u8>> 
 fn descriptor_in(rt: &(impl Abort + AllocGlobal), row: &SurveyRow) -> Slot {
     let stamp = row.descriptor_stamp;
     let Some(descriptor) = &row.descriptor else {
-        assert_eq!(rt; stamp, NONE);
+        check(rt, stamp == NONE, "no descriptor has no stamp");
         return None;
     };
-    assert!(rt; *descriptor == group(rt, 2, descriptor.id, stamp));
+    let wanted = group(rt, 2, descriptor.id, stamp);
+    check(rt, *descriptor == wanted, "a descriptor");
     Some((descriptor.id, stamp))
 }
 
 fn status_in(rt: &(impl Abort + AllocGlobal), row: &SurveyRow) -> Slot {
     let stamp = row.status_stamp;
     let Some(is) = &row.status else {
-        assert_eq!(rt; stamp, NONE);
+        check(rt, stamp == NONE, "no status has no stamp");
         return None;
     };
-    assert!(rt; *is == status(rt, is.id, stamp));
+    let wanted = status(rt, is.id, stamp);
+    check(rt, *is == wanted, "a status");
     Some((is.id, stamp))
 }
 
 // The stamp of its note, which has to have no entries.
 fn note_in(rt: &impl Abort, row: &SurveyRow) -> Option<u64> {
     let note = row.note.as_ref()?;
-    assert!(rt; note.entries.is_empty());
+    check(rt, note.entries.is_empty(), "an empty note");
     Some(note.stamp)
 }
 
@@ -463,9 +465,9 @@ fn found_in(rt: &(impl Abort + AllocGlobal), row: &SurveyRow) -> Found {
 }
 
 fn see_rows(rt: &(impl Abort + AllocGlobal), survey: &Survey, case: &Case) {
-    assert_eq!(rt; survey.rows.len(), case.found.len(), "{}", case.name);
+    check(rt, survey.rows.len() == case.found.len(), case.name);
     for (row, found) in survey.rows.as_slice().iter().zip(case.found) {
-        assert_eq!(rt; found_in(rt, row), *found, "{}", case.name);
+        check(rt, found_in(rt, row) == *found, case.name);
     }
 }
 
@@ -491,12 +493,8 @@ fn see(rt: &(impl Abort + AllocGlobal), cases: &[Case]) {
     for case in cases {
         let mut shelf = image_shelf(rt, images_of(rt, case.disks), case.plan);
         let end = survey(rt, &mut shelf, case);
-        assert_eq!(rt;
-            (end, shelf.calls()),
-            (case.end, case.calls),
-            "{}",
-            case.name
-        );
+        check(rt, end == case.end, case.name);
+        check(rt, shelf.calls() == case.calls, case.name);
     }
 }
 

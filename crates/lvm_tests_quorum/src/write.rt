@@ -2,7 +2,7 @@
 ghost use Rattle.std.specs.Prelude.{◌≡◌};
 ghost use Rattle.lvm_num.specs.Record.{longest_content};
 
-use crate::fixtures::{all_disks, blank_shelf, first_two, has_room, plan_of};
+use crate::fixtures::{all_disks, blank_shelf, check, first_two, has_room, plan_of};
 use End::*;
 use Step::*;
 use lvm_disk::{Act, MemShelf, Planned, Shelf, names_disks};
@@ -410,9 +410,10 @@ fn see_steps(rt: &(impl Abort + AllocGlobal), case: &Case, shelf: &mut MemShelf)
     for (step, end, wanted) in case.steps {
         let ended = take(rt, shelf, *step, &mut homes, &mut patience);
         let is = look(rt, shelf, &homes, case.kind);
-        assert_eq!(rt; (ended, is), (*end, *wanted), "{}", case.name);
+        check(rt, ended == *end, case.name);
+        check(rt, is == *wanted, case.name);
     }
-    assert_eq!(rt; patience.left, case.patience_left, "{}", case.name);
+    check(rt, patience.left == case.patience_left, case.name);
 }
 
 #[test]
@@ -485,6 +486,8 @@ fn notes_are_emptied(rt: HostRuntime) {
         let mut shelf = blank_shelf(&rt, &[4096, 4096], plan);
         let ended = empty(&rt, &mut shelf, 50);
         let notes = [note_on(&rt, &shelf, 0), note_on(&rt, &shelf, 1)];
-        assert_eq!(rt; (ended, notes, shelf.calls()), (*end, *stamps, 4), "{name}");
+        check(&rt, ended == *end, name);
+        check(&rt, notes == *stamps, name);
+        check(&rt, shelf.calls() == 4, name);
     }
 }
