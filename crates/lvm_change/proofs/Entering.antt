@@ -1,13 +1,14 @@
 -- Entries as parts of spans.
 use Rattle.std.proofs.Common.{◌≡◌, ◌++◌, ◌∷◌, ℕ, ◌+◌, List, [], Bool, true, false, ◌&&◌, Some, None, refl, ap, subst, ◌∙◌, append_assoc}
-use Rattle.std.specs.Prelude.{if◌then◌else◌, nat_le, nat_lt}
-use Rattle.lvm_num.specs.Buffer.{Sector}
+use Rattle.std.specs.Prelude.{if◌then◌else◌, nat_lt, IsFalse}
+use Rattle.lvm_num.specs.Buffer.{Sector, zero_sector}
+use Rattle.lvm_num.specs.declared.descriptor.Mode.{Mode}
 use Rattle.lvm_vol.specs.declared.entry.Vol.{Vol}
 use Rattle.lvm_vol.specs.declared.entry.Outcome.{Outcome}
 use Rattle.lvm_vol.specs.declared.entry.Outcome.TheVariants as outcome
-use Rattle.lvm_vol.specs.declared.entry.Vol.TheVariants.{Disk, Lv}
+use Rattle.lvm_vol.specs.declared.entry.Vol.TheVariants.{Lv}
 use Rattle.lvm_vol.specs.Facts.{Request, Fact, Making, Made, Split, Removing, Removed, Begun, Landed, Taken, Cut, On, same_vol, is_over, block_of}
-use Rattle.lvm_vol.specs.May.{Known, known, is_open_in, without, ended, read, landed, change}
+use Rattle.lvm_vol.specs.May.{Known, known, is_open_in, without, ended, read, landed, source, change}
 use Rattle.lvm_disk.specs.Device.{Image, image_of}
 use Rattle.lvm_kept.specs.Contents.{contents_of}
 use Rattle.lvm_kept.specs.Moments.{Calm}
@@ -17,10 +18,8 @@ use Rattle.lvm_kept.proofs.Keeping.{cut_calm}
 use Rattle.lvm_kept.proofs.Records.{descriptor_shows}
 use Rattle.lvm_kept.proofs.Spans.{regroup}
 use Rattle.lvm_kept.proofs.Values.{known_more, open_now, closes}
-use Rattle.lvm_change.specs.Entries.{IsDisk}
 use Rattle.lvm_change.specs.Making.{LeavesOnly}
 use Rattle.lvm_change.specs.Entering.{QuietGoesOn, OpensNone, CalmGoesOn, AnsweredStaysCalm, DarkenedStaysCalm, BeginsInSpan, MadeInSpan, GoesInSpan, GoneInSpan, CommitsInSpan}
-use Rattle.lvm_change.proofs.Booleans.{split}
 use Rattle.lvm_change.proofs.Entries.{quiet_entry_keeps}
 use Rattle.lvm_change.proofs.Spans.{entry_goes_on, keeps_path}
 use Rattle.lvm_change.proofs.Making.{media_may}
@@ -34,20 +33,21 @@ closed : (t : Bool) (k : Known) → k.open_writes ≡ [] → (if t then record k
 closed true k none = refl
 closed false k none = none
 
--- what begins is no write of a disk
-begun_none : (r : Request) → OpensNone (Begun r) → (d b : ℕ) (k : Known) → k.open_writes ≡ [] → (change (Begun r) (Disk d) b k).open_writes ≡ []
-begun_none r opens d b k none = by_test (r.write && is_over r (Disk d) b) refl
-  where
-    is_disk : (vol : Vol) → same_vol vol (Disk d) ≡ true → IsDisk vol
-    is_disk (Disk e) same = tt
-    is_disk (Lv lv) same = absurd cc
+made_anew : (t : Bool) (m : Mode) (k : Known) → k.open_writes ≡ [] → (if t then record { values = Some (zero_sector ∷ []); open_writes = []; loose = false; mode = m } else k).open_writes ≡ []
+made_anew true m k none = refl
+made_anew false m k none = none
 
-    by_test : (t : Bool) → (r.write && is_over r (Disk d) b) ≡ t → (if t then record k { open_writes = r ∷ k.open_writes } else k).open_writes ≡ []
-    by_test false is = none
-    by_test true is =
-        let two = split r.write (is_over r (Disk d) b) is in
-        let upto = split (same_vol r.vol (Disk d) && nat_le r.at b) (nat_lt b (r.at + r.count)) two.1 in
-        absurd (opens two.0 (is_disk r.vol (split (same_vol r.vol (Disk d)) (nat_le r.at b) upto.0).0))
+split_off : (t : Bool) (k : Known) → k.open_writes ≡ [] → (if t then record k { open_writes = [] } else k).open_writes ≡ []
+split_off true k none = refl
+split_off false k none = none
+
+-- what begins is no write
+begun_none : (r : Request) → OpensNone (Begun r) → (vol : Vol) (b : ℕ) (k : Known) → k.open_writes ≡ [] → (change (Begun r) vol b k).open_writes ≡ []
+begun_none r opens vol b k none = by_test r.write (is_over r vol b) opens
+  where
+    by_test : (w t : Bool) → IsFalse w → (if w && t then record k { open_writes = r ∷ k.open_writes } else k).open_writes ≡ []
+    by_test true t opens = absurd cc
+    by_test false t opens = none
 
 read_open : (how : Outcome) (x : Sector) (k : Known) → (read how x k).open_writes ≡ k.open_writes
 read_open outcome.Got x k = by_test k.loose
@@ -106,26 +106,29 @@ module _ (r : Request) (how : Outcome) (started : Bool) (put got : Sector) (k : 
 
 -- one entry more that opens nothing
 still_calm : (facts : List Fact) (f : Fact) → OpensNone f → Calm facts → Calm (facts ++ f ∷ [])
-still_calm facts (Removing vol) opens calm d b = ap (λ (k : Known). k.open_writes) (known_more facts (Removing vol) (Disk d) b) ∙ calm d b
-still_calm facts (Removed vol) opens calm d b = ap (λ (k : Known). k.open_writes) (known_more facts (Removed vol) (Disk d) b) ∙ closed (same_vol vol (Disk d)) (known facts (Disk d) b) (calm d b)
-still_calm facts (Taken r) opens calm d b = ap (λ (k : Known). k.open_writes) (known_more facts (Taken r) (Disk d) b) ∙ calm d b
-still_calm facts (On moment) opens calm d b = ap (λ (k : Known). k.open_writes) (known_more facts (On moment) (Disk d) b) ∙ calm d b
-still_calm facts Cut opens calm d b = ap (λ (k : Known). k.open_writes) (known_more facts Cut (Disk d) b)
-still_calm facts (Making lv blocks mode) opens calm d b = ap (λ (k : Known). k.open_writes) (known_more facts (Making lv blocks mode) (Disk d) b) ∙ calm d b
-still_calm facts (Made lv) opens calm d b = ap (λ (k : Known). k.open_writes) (known_more facts (Made lv) (Disk d) b) ∙ calm d b
-still_calm facts (Split from lv) opens calm d b = ap (λ (k : Known). k.open_writes) (known_more facts (Split from lv) (Disk d) b) ∙ calm d b
-still_calm facts (Begun r) opens calm d b = ap (λ (k : Known). k.open_writes) (known_more facts (Begun r) (Disk d) b) ∙ begun_none r opens d b (known facts (Disk d) b) (calm d b)
-still_calm facts (Landed r how started got) opens calm d b =
-    ap (λ (k : Known). k.open_writes) (known_more facts (Landed r how started got) (Disk d) b) ∙ over_none r how started (block_of r.blocks r.at b) (block_of got r.at b) (known facts (Disk d) b) (calm d b) (is_over r (Disk d) b)
+still_calm facts (Removing gone) opens calm vol b = ap (λ (k : Known). k.open_writes) (known_more facts (Removing gone) vol b) ∙ calm vol b
+still_calm facts (Removed gone) opens calm vol b = ap (λ (k : Known). k.open_writes) (known_more facts (Removed gone) vol b) ∙ closed (same_vol gone vol) (known facts vol b) (calm vol b)
+still_calm facts (Taken r) opens calm vol b = ap (λ (k : Known). k.open_writes) (known_more facts (Taken r) vol b) ∙ calm vol b
+still_calm facts (On moment) opens calm vol b = ap (λ (k : Known). k.open_writes) (known_more facts (On moment) vol b) ∙ calm vol b
+still_calm facts Cut opens calm vol b = ap (λ (k : Known). k.open_writes) (known_more facts Cut vol b)
+still_calm facts (Making lv blocks mode) opens calm vol b =
+    ap (λ (k : Known). k.open_writes) (known_more facts (Making lv blocks mode) vol b) ∙ made_anew (same_vol (Lv lv) vol && nat_lt b blocks) mode (known facts vol b) (calm vol b)
+still_calm facts (Made lv) opens calm vol b = ap (λ (k : Known). k.open_writes) (known_more facts (Made lv) vol b) ∙ calm vol b
+still_calm facts (Split from lv) opens calm vol b =
+    let was = source (Split from lv) vol in
+    ap (λ (k : Known). k.open_writes) (known_more facts (Split from lv) vol b) ∙ split_off (same_vol (Lv lv) vol) (known facts was b) (calm was b)
+still_calm facts (Begun r) opens calm vol b = ap (λ (k : Known). k.open_writes) (known_more facts (Begun r) vol b) ∙ begun_none r opens vol b (known facts vol b) (calm vol b)
+still_calm facts (Landed r how started got) opens calm vol b =
+    ap (λ (k : Known). k.open_writes) (known_more facts (Landed r how started got) vol b) ∙ over_none r how started (block_of r.blocks r.at b) (block_of got r.at b) (known facts vol b) (calm vol b) (is_over r vol b)
 
 pub calm_goes_on : CalmGoesOn
 calm_goes_on first device facts f stays opens past calm = regroup Calm past facts f (still_calm (past ++ facts) f opens (stays past calm))
 
 -- a request begins and lands
 ends_calm : (facts : List Fact) (r : Request) (how : Outcome) (started : Bool) (got : List Sector) → Calm facts → Calm ((facts ++ Begun r ∷ []) ++ Landed r how started got ∷ [])
-ends_calm facts r how started got calm d b =
-    ap (λ (k : Known). k.open_writes) (known_more (facts ++ Begun r ∷ []) (Landed r how started got) (Disk d) b ∙ ap (change (Landed r how started got) (Disk d) b) (known_more facts (Begun r) (Disk d) b))
-    ∙ begun_ends r how started (block_of r.blocks r.at b) (block_of got r.at b) (known facts (Disk d) b) (calm d b) r.write (is_over r (Disk d) b) refl
+ends_calm facts r how started got calm vol b =
+    ap (λ (k : Known). k.open_writes) (known_more (facts ++ Begun r ∷ []) (Landed r how started got) vol b ∙ ap (change (Landed r how started got) vol b) (known_more facts (Begun r) vol b))
+    ∙ begun_ends r how started (block_of r.blocks r.at b) (block_of got r.at b) (known facts vol b) (calm vol b) r.write (is_over r vol b) refl
 
 pub answered_stays_calm : AnsweredStaysCalm
 answered_stays_calm first device facts r how got stays =

@@ -1,5 +1,5 @@
 -- Entries as parts of spans, so that whoever makes them looks at no image but for what it shows.
-use Rattle.std.specs.Prelude.{◌≡◌, ◌++◌, ◌∷◌, ℕ, Bool, List, [], IsTrue}
+use Rattle.std.specs.Prelude.{◌≡◌, ◌++◌, ◌∷◌, ℕ, Bool, List, [], IsFalse}
 use Rattle.lvm_num.specs.declared.record.Kind.TheVariants as kind
 use Rattle.lvm_num.specs.declared.descriptor.Mode.{Mode}
 use Rattle.lvm_num.specs.declared.descriptor.Descriptor.{Descriptor}
@@ -15,7 +15,7 @@ use Rattle.lvm_kept.specs.Contents.{contents_of}
 use Rattle.lvm_kept.specs.Changes.{IsFoundByAll, IsFoundByNone}
 use Rattle.lvm_kept.specs.Moments.{Moment, StaysCalm}
 use Rattle.lvm_kept.specs.Torn.{RecordWrite, MayWriteAll, written as as_read, Alone}
-use Rattle.lvm_change.specs.Entries.{IsDisk, IsQuiet}
+use Rattle.lvm_change.specs.Entries.{IsQuiet}
 use Rattle.lvm_change.specs.Moments.{Begins, Holds, Keeps}
 use Rattle.lvm_change.specs.Requests.{at, answered, darkened}
 use Rattle.lvm_change.specs.Making.{IsWritten}
@@ -26,7 +26,7 @@ abbrev pub QuietGoesOn : Type 0
 QuietGoesOn = (run : ℕ) (first : Moment) (device : Device) (facts : List Fact) (f : Fact) → Keeps run first (at device facts) → IsQuiet f
     → ((past : List Fact) → Begins run past first → Holds past (at device facts) → Fits (past ++ facts) f) → Keeps run first (at device (facts ++ f ∷ []))
 
--- the entry opens no write of a disk: only the beginning of one does
+-- the entry opens no write: only the beginning of one does
 abbrev pub OpensNone : Fact → Type 0
 OpensNone (Removing vol) = Unit {0}
 OpensNone (Removed vol) = Unit {0}
@@ -36,10 +36,10 @@ OpensNone Cut = Unit {0}
 OpensNone (Making lv blocks mode) = Unit {0}
 OpensNone (Made lv) = Unit {0}
 OpensNone (Split from lv) = Unit {0}
-OpensNone (Begun r) = IsTrue r.write → IsDisk r.vol → ⊥
+OpensNone (Begun r) = IsFalse r.write
 OpensNone (Landed r how started got) = Unit {0}
 
--- After such an entry no write of a disk is open that wasn't.
+-- After such an entry no write is open where none was.
 abbrev pub CalmGoesOn : Type 0
 CalmGoesOn = (first : Moment) (device : Device) (facts : List Fact) (f : Fact) → StaysCalm first (at device facts) → OpensNone f → StaysCalm first (at device (facts ++ f ∷ []))
 

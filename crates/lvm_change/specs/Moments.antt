@@ -16,7 +16,7 @@ abbrev pub ImagesKept : Device → List Fact → Type 0
 ImagesKept device facts = (image : Image) → MayLeave device image → Kept (contents_of image) facts
 
 -- What the earlier history and the shelf are to each other before a run, or a span of it, of this number: the shelf tells its media, the joined
--- history is legal, the earlier one names no request of this run and no moment from it on, no write of a disk is open, and each crash image is kept.
+-- history is legal, the earlier one names no request of this run and no moment from it on, no write is open, and each crash image is kept.
 pub record Begins (run : ℕ) (past : List Fact) (m : Moment) : Type 0 where
   pub told : IsSome m.device.media
   pub legal : Legal (past ++ m.facts)
@@ -84,7 +84,7 @@ abbrev pub DisksGoOut : Type 0
 DisksGoOut = (run : ℕ) (first : Moment) (device : Device) (facts : List Fact) (disks : List ℕ) → Keeps run first (record { device = device; facts = facts })
     → Keeps run first (record { device = device; facts = facts ++ map (λ d. Removed (Disk d)) disks })
 
--- one span may follow another after which no write of a disk is open that wasn't;
+-- one span may follow another after which no write is open where none was;
 abbrev pub SpansJoin : Type 0
 SpansJoin = (run : ℕ) (first mid last : Moment) → Keeps run first mid → StaysCalm first mid → Keeps run mid last → Keeps run first last
 

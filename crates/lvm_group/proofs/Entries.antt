@@ -59,7 +59,7 @@ out_later (d ∷ disks) moment = out_later disks moment
 pub later_given : (facts : List Fact) (disks : List ℕ) (moment : ℕ) → IsLater facts moment → IsLater (facts ++ out disks) moment
 later_given facts disks moment later = later_joins moment facts (out disks) later (out_later disks moment)
 
--- ---- no write of a disk is opened
+-- ---- no write is opened
 
 pub calm_given : (first : Moment) (device : Device) (facts : List Fact) (disks : List ℕ) → StaysCalm first (at device facts) → StaysCalm first (at device (facts ++ out disks))
 calm_given first device facts [] calm = subst (λ (l : List Fact). StaysCalm first (at device l)) (sym (append-nil facts)) calm

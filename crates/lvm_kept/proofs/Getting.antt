@@ -18,7 +18,7 @@ use Rattle.lvm_kept.proofs.Keeping.{of_kept, kept_more}
 -- while no write is open, what a crash may leave is what the block may have now
 now_may : (facts : List Fact) (image : Image) → Calm facts → RawKept image facts → (d b : ℕ) → d < image.disks → data_start ≤ b → b < image.size d → May (known facts (Disk d) b) (image.sector d b)
 now_may facts image calm kept d b there low high =
-    cut_adds_none (known facts (Disk d) b).values b (image.sector d b) (subst (λ (l : List Request). Among (after_cut l b (known facts (Disk d) b).values) (image.sector d b)) (calm d b) (of_kept image facts kept d b there low high))
+    cut_adds_none (known facts (Disk d) b).values b (image.sector d b) (subst (λ (l : List Request). Among (after_cut l b (known facts (Disk d) b).values) (image.sector d b)) (calm (Disk d) b) (of_kept image facts kept d b there low high))
 
 module _ (run id disk at count : ℕ) (facts : List Fact) (image : Image) (calm : Calm facts) (kept : RawKept image facts) (there : disk < image.disks) (low : data_start ≤ at) (high : at + count ≤ image.size disk) where
   abbrev it : Request

@@ -4,6 +4,7 @@ use Rattle.lvm_num.specs.Buffer.{Sector}
 use Rattle.lvm_disk.specs.Device.{Image, Flight, SameDisks, written}
 use Rattle.lvm_disk.specs.Images.{DiffersBy}
 use Rattle.lvm_disk.specs.Steps.{Puts, PutsSome}
+use Rattle.lvm_vol.specs.declared.entry.Vol.{Vol}
 use Rattle.lvm_vol.specs.declared.entry.Vol.TheVariants.{Disk}
 use Rattle.lvm_vol.specs.declared.entry.Outcome.{Outcome}
 use Rattle.lvm_vol.specs.declared.entry.Outcome.TheVariants as outcome
@@ -45,10 +46,10 @@ pub kept_cut : (image : Image) (facts : List Fact) → RawKept image facts → R
 kept_cut image facts kept = kept_more image facts Cut (λ d b there low high. cut_again (known facts (Disk d) b) b (image.sector d b) (of_kept image facts kept d b there low high))
 
 -- a write that isn't open lands, and nothing changes
-landed_closed : (r : Request) (how : Outcome) (started : Bool) (got : List Sector) (d b : ℕ) (k : Known) → r.write ≡ true → k.open_writes ≡ [] → change (Landed r how started got) (Disk d) b k ≡ k
-landed_closed r how started got d b k write none =
+landed_closed : (r : Request) (how : Outcome) (started : Bool) (got : List Sector) (vol : Vol) (b : ℕ) (k : Known) → r.write ≡ true → k.open_writes ≡ [] → change (Landed r how started got) vol b k ≡ k
+landed_closed r how started got vol b k write none =
     let closed : is_open_in r k.open_writes ≡ false = ap (is_open_in r) none in
-    go (is_over r (Disk d) b) _ (open_first r.write (is_open_in r k.open_writes) write closed (ended r how started (block_of r.blocks r.at b) k) (Rattle.lvm_vol.specs.May.read how (block_of got r.at b) k))
+    go (is_over r vol b) _ (open_first r.write (is_open_in r k.open_writes) write closed (ended r how started (block_of r.blocks r.at b) k) (Rattle.lvm_vol.specs.May.read how (block_of got r.at b) k))
   where
     go : (t : Bool) (x : Known) → x ≡ k → (if t then x else k) ≡ k
     go true x is = is
@@ -60,7 +61,7 @@ landed_closed r how started got d b k write none =
 -- a write that a cut has closed lands
 pub kept_closed : (image : Image) (facts : List Fact) (r : Request) (how : Outcome) (started : Bool) → r.write ≡ true → Calm facts → RawKept image facts → RawKept image (facts ++ Landed r how started [] ∷ [])
 kept_closed image facts r how started write calm kept = kept_more image facts (Landed r how started []) (λ d b there low high.
-    subst (λ (k : Known). May (cut b k) (image.sector d b)) (sym (landed_closed r how started [] d b (known facts (Disk d) b) write (calm d b))) (of_kept image facts kept d b there low high))
+    subst (λ (k : Known). May (cut b k) (image.sector d b)) (sym (landed_closed r how started [] (Disk d) b (known facts (Disk d) b) write (calm (Disk d) b))) (of_kept image facts kept d b there low high))
 
 module _ (run id disk at count : ℕ) (blocks : List Sector) (f : Flight) (carries : Carries (raw_request run id disk at count true blocks) f) where
   abbrev it : Request
@@ -119,7 +120,7 @@ module _ (run id disk at count : ℕ) (blocks : List Sector) (f : Flight) (carri
       let values = (known facts (Disk d) b).values in
       let v = block_of blocks at b in
       let was : May (cut b (known facts (Disk d) b)) (before.sector d b) = of_kept before facts kept d b (subst (λ (n : ℕ). d < n) same.disks there) low (subst (λ (n : ℕ). b < n) (same.size d) high) in
-      let may : Among values (before.sector d b) = cut_adds_none values b (before.sector d b) (subst (λ (l : List Request). Among (after_cut l b values) (before.sector d b)) (calm d b) was) in
+      let may : Among values (before.sector d b) = cut_adds_none values b (before.sector d b) (subst (λ (l : List Request). Among (after_cut l b values) (before.sector d b)) (calm (Disk d) b) was) in
       still b (known facts (Disk d) b) (image.sector d b) (⊎_elim
       (λ as_was. subst (λ (x : Sector). Among (Rattle.lvm_vol.specs.May.also (v ∷ []) values) x) (sym as_was) (also_adds (v ∷ []) values (before.sector d b) may))
       (λ put. also_is v (image.sector d b) values (let e : Some (image.sector d b) ≡ Some v = sym put ∙ carries.there d b over in cc))
@@ -153,18 +154,18 @@ module _ (run id disk at count : ℕ) (blocks : List Sector) (f : Flight) (carri
   landed_open how started b k false none = none
 
   pub landed_calm : (how : Outcome) (started : Bool) (facts : List Fact) → Calm facts → Calm ((facts ++ Begun it ∷ []) ++ Landed it how started [] ∷ [])
-  landed_calm how started facts calm d b =
-      ap (λ (k : Known). k.open_writes) (known_more (facts ++ Begun it ∷ []) (Landed it how started []) (Disk d) b ∙ ap (change (Landed it how started []) (Disk d) b) (known_more facts (Begun it) (Disk d) b))
-      ∙ landed_open how started b (known facts (Disk d) b) (is_over it (Disk d) b) (calm d b)
+  landed_calm how started facts calm vol b =
+      ap (λ (k : Known). k.open_writes) (known_more (facts ++ Begun it ∷ []) (Landed it how started []) vol b ∙ ap (change (Landed it how started []) vol b) (known_more facts (Begun it) vol b))
+      ∙ landed_open how started b (known facts vol b) (is_over it vol b) (calm vol b)
 
 -- a cut closes all
 pub cut_calm : (facts : List Fact) → Calm (facts ++ Cut ∷ [])
-cut_calm facts d b = ap (λ (k : Known). k.open_writes) (known_more facts Cut (Disk d) b)
+cut_calm facts vol b = ap (λ (k : Known). k.open_writes) (known_more facts Cut vol b)
 
 pub taken_calm : (facts : List Fact) (r : Request) → Calm facts → Calm (facts ++ Taken r ∷ [])
-taken_calm facts r calm d b = ap (λ (k : Known). k.open_writes) (known_more facts (Taken r) (Disk d) b) ∙ calm d b
+taken_calm facts r calm vol b = ap (λ (k : Known). k.open_writes) (known_more facts (Taken r) vol b) ∙ calm vol b
 
 -- a write that was closed by the cut lands
 pub closed_calm : (facts : List Fact) (r : Request) (how : Outcome) (started : Bool) → r.write ≡ true → Calm facts → Calm (facts ++ Landed r how started [] ∷ [])
-closed_calm facts r how started write calm d b =
-    ap (λ (k : Known). k.open_writes) (known_more facts (Landed r how started []) (Disk d) b ∙ landed_closed r how started [] d b (known facts (Disk d) b) write (calm d b)) ∙ calm d b
+closed_calm facts r how started write calm vol b =
+    ap (λ (k : Known). k.open_writes) (known_more facts (Landed r how started []) vol b ∙ landed_closed r how started [] vol b (known facts vol b) write (calm vol b)) ∙ calm vol b

@@ -128,11 +128,11 @@ module _ (run id disk at count ticket : ℕ) (sent : Buffer) (old : Device) (fac
   landing_open how v false k = refl
 
   landing_calm : (past : List Fact) (how : Outcome) (started : Bool) (got : List Sector) → Calm past → Calm (past ++ Landed it how started got ∷ [])
-  landing_calm past how started got calm d b =
-      ap (λ (k : Known). k.open_writes) (known_more past (Landed it how started got) (Disk d) b) ∙ landing_open how (block_of got at b) (is_over it (Disk d) b) (known past (Disk d) b) ∙ calm d b
+  landing_calm past how started got calm vol b =
+      ap (λ (k : Known). k.open_writes) (known_more past (Landed it how started got) vol b) ∙ landing_open how (block_of got at b) (is_over it vol b) (known past vol b) ∙ calm vol b
 
   begun_calm : (past : List Fact) → Calm past → Calm (past ++ Begun it ∷ [])
-  begun_calm past calm d b = ap (λ (k : Known). k.open_writes) (known_more past (Begun it) (Disk d) b) ∙ calm d b
+  begun_calm past calm vol b = ap (λ (k : Known). k.open_writes) (known_more past (Begun it) vol b) ∙ calm vol b
 
   pub read_calm : (how : Outcome) (started : Bool) (got : List Sector) (new : Device) → StaysCalm first (at_moment new (((facts ++ Begun it ∷ []) ++ Landed it how started got ∷ []) ++ Taken it ∷ []))
   read_calm how started got new past calm =

@@ -2,7 +2,7 @@
 use Rattle.std.specs.Prelude.{◌≡◌, ℕ, ◌++◌, List, [], ◌∷◌, IsSome, count_by}
 use Rattle.lvm_disk.specs.Device.{Device}
 use Rattle.lvm_disk.specs.Paths.{DeviceStep, Path}
-use Rattle.lvm_vol.specs.declared.entry.Vol.TheVariants.{Disk}
+use Rattle.lvm_vol.specs.declared.entry.Vol.{Vol}
 use Rattle.lvm_vol.specs.Facts.{Fact, joined}
 use Rattle.lvm_vol.specs.May.{known}
 use Rattle.lvm_vol.specs.Legal.{Legal, begins_in}
@@ -17,9 +17,9 @@ pub data Step (old new : Moment) : Type 0 where
   Moves : DeviceStep old.device new.device → new.facts ≡ old.facts → Step old new
   Enters : (f : Fact) → new.device ≡ old.device → new.facts ≡ old.facts ++ f ∷ [] → Step old new
 
--- no write of a raw disk is open
+-- no write of a block of any volume is open
 abbrev pub Calm : List Fact → Type 0
-Calm facts = (d b : ℕ) → (known facts (Disk d) b).open_writes ≡ []
+Calm facts = (vol : Vol) (b : ℕ) → (known facts vol b).open_writes ≡ []
 
 -- what the earlier history and the shelf are to each other before a run, or a span of it, of this number
 pub record Begins (run : ℕ) (past : List Fact) (m : Moment) : Type 0 where

@@ -24,7 +24,7 @@ IsAlone answer old new = EntersVolumes old.moment.facts new.moment.facts ⊎ IsB
 -- From one state to the next, where this is answered. While the clock is ahead of the disks, these hold what the session says, and no other group is found
 -- on them where a volume is made or removed, the history is legal at each moment between and each crash image is kept with it. While the clock is ahead it
 -- stays so, and the disks go on holding what a session says. No copy is left behind where none was. Unless nothing was heard of a transfer, nothing is
--- under way and no write of a disk is open.
+-- under way and no write is open where none was.
 pub record GoesOn (run : ℕ) (answer : Reply) (old new : State) : Type 0 where
   pub keeps : IsTimely run old → AreHeld old → IsAlone answer old new → Keeps run old.moment new.moment
   pub timely : IsTimely run old → IsTimely run new

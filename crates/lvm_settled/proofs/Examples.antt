@@ -1,7 +1,6 @@
 -- The sessions that are worked by hand are settled.
-use Rattle.std.proofs.Common.{◌≡◌, inl, inr, ⊎_elim, ℕ, zero, suc, ◌+◌, ◌<◌, Bool, true, false, ◌&&◌, ◌||◌, not, [], ◌∷◌, take, Option, Some, None, refl, sym, ap, subst, ◌∙◌, arith}
+use Rattle.std.proofs.Common.{◌≡◌, ⊎_elim, ℕ, zero, suc, ◌+◌, ◌<◌, Bool, true, false, ◌&&◌, ◌||◌, not, [], ◌∷◌, take, Option, Some, None, refl, sym, ap, subst, ◌∙◌, arith}
 use Rattle.std.specs.Prelude.{IsTrue, IsFalse, ◌==◌, if◌then◌else◌, option_and_then, slice_index_or}
-use Rattle.std.specs.List.{list_any}
 use Rattle.std.proofs.lemmas.Bool.{eqb-true}
 use Rattle.lvm_num.specs.declared.descriptor.Mode.{Mode}
 use Rattle.lvm_num.specs.declared.descriptor.PvRow.{PvRow}
@@ -17,13 +16,12 @@ use Rattle.lvm_num.specs.Votes.{CanWrite}
 use Rattle.lvm_num.specs.declared.record.Framed.{Framed}
 use Rattle.lvm_rec.specs.Slots.{held, slot_of, read_under, slot_to_write}
 use Rattle.lvm_disk.specs.Device.{Image, image_of, MayLeave}
-use Rattle.lvm_vol.specs.Facts.{Request, Begun, Stands}
-use Rattle.lvm_vol.specs.Legal.{lands}
 use Rattle.lvm_kept.specs.Contents.{Contents, contents_of}
 use Rattle.lvm_kept.specs.Examples.{stamped, member, two, either_of}
 use Rattle.lvm_kept.specs.Group.{IsFound}
 use Rattle.lvm_kept.proofs.Finding.{some_same}
 use Rattle.lvm_kept.specs.Kept.{Kept}
+use Rattle.lvm_kept.specs.Moments.{Calm}
 use Rattle.lvm_stamps.specs.Behind.{StampsBefore}
 use Rattle.lvm_quorum.specs.Homes.{SparesNewest}
 use Rattle.lvm_commit.specs.Committed.{ShowsCommitted, HoldsCommitted}
@@ -33,9 +31,8 @@ use Rattle.lvm_core.specs.State.{is_there}
 use Rattle.lvm_core.specs.Sound.{IsQuiet, IsSound}
 use Rattle.lvm_core.specs.Starting.{Reserved, AreReserved, IsPlaced}
 use Rattle.lvm_core.proofs.Beginning.{sound_first}
-use Rattle.lvm_rest.specs.Closed.{IsClosed}
 use Rattle.lvm_rest.specs.Rest.{IsEven, NoneIsBehind}
-use Rattle.lvm_rest.specs.Examples.{Pair, status_of, pair_sizes, framed_group, framed_status, media_of, device_of, there_by, past_of, now_on, history_of, even_pair}
+use Rattle.lvm_rest.specs.Examples.{Pair, status_of, pair_sizes, framed_group, framed_status, media_of, device_of, there_by, history_of, even_pair}
 use Rattle.lvm_rest.proofs.Pairs.{id_is}
 use Rattle.lvm_rest.proofs.Sectors.{group_read, status_read, group_first, status_first, no-magic, not-equal, stands_else, second_zero, second_none, room, told}
 use Rattle.lvm_rest.proofs.Examples.{valid, there_in, at_both, enough, shows, behind, zeros_even, pairs_rest}
@@ -173,13 +170,9 @@ quiet x = record { requests = refl; copy = refl; status = refl; notes = λ disk.
 
 -- ---- the history
 
-closed_past : (mode : Mode) (cut : Bool) → IsClosed (past_of mode cut)
-closed_past mode false vol b = refl
-closed_past mode true vol b = refl
-
-no_begin : (r : Request) → Stands (Begun r) now_on → list_any (lands r) now_on ≡ true
-no_begin r (inl e) = absurd cc
-no_begin r (inr none) = absurd none
+no_write : (mode : Mode) (cut : Bool) → Calm (history_of mode cut)
+no_write mode false vol b = refl
+no_write mode true vol b = refl
 
 -- ---- all of it
 
@@ -211,8 +204,7 @@ pairs_settle mode dirty lost cut note =
         only = λ i crash other k found. id_is x other k (subst (λ (c : Contents). IsFound c other k) (told x below) (subst (λ (j : Image). IsFound (contents_of j) other k) (left_is x below i crash) found));
       };
       carried = record {
-        closed = closed_past mode cut;
-        all_land = λ r begins. no_begin r begins;
+        calm = no_write mode cut;
         even = held_even.1;
         behind = held_even.2;
       };

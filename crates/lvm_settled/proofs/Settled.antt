@@ -1,33 +1,29 @@
 -- A settled session is in a good state.
-use Rattle.std.proofs.Common.{◌≡◌, inl, List, [], ◌++◌, Some, sym, ap, subst, ◌∙◌}
+use Rattle.std.proofs.Common.{◌≡◌, inl, List, ◌++◌, Some, sym, ap, subst, ◌∙◌}
 use Rattle.lvm_num.specs.declared.descriptor.Descriptor.{Descriptor}
+use Rattle.lvm_num.specs.Disks.{Disks}
 use Rattle.lvm_vol.specs.Facts.{Fact}
 use Rattle.lvm_vol.specs.Legal.{Legal}
-use Rattle.lvm_vol.specs.May.{known as known_of}
-use Rattle.lvm_vol.specs.declared.entry.Vol.TheVariants.{Lv}
-use Rattle.lvm_num.specs.Disks.{Disks}
-use Rattle.lvm_disk.specs.Device.{Media, image_of}
+use Rattle.lvm_disk.specs.Device.{image_of}
 use Rattle.lvm_kept.specs.Contents.{Contents, contents_of}
 use Rattle.lvm_kept.specs.Kept.{Kept}
+use Rattle.lvm_kept.specs.Moments.{Calm}
 use Rattle.lvm_kept.proofs.Finding.{images_within}
 use Rattle.lvm_change.proofs.Making.{media_may}
 use Rattle.lvm_status.specs.Update.{members_there}
-use Rattle.lvm_core.specs.State.{State, is_there}
-use Rattle.lvm_good.specs.State as good
-use Rattle.lvm_good.specs.Found.{Votes}
+use Rattle.lvm_core.specs.State.{is_there}
 use Rattle.lvm_rest.proofs.Rest.{good_is_rest}
-use Rattle.lvm_rest.proofs.Closed.{landed_are_closed}
+use Rattle.lvm_rest.proofs.Closed.{calm_is_closed}
 use Rattle.lvm_rest.proofs.Good.{rest_matches}
 use Rattle.lvm_rest.proofs.Marking.{none_is_left_behind as none_is_behind}
-use Rattle.lvm_settled.specs.Settled.{IsKnown, IsCarried, IsViewOf, SettledIsGood, GoodIsSettled, NoneLeftIsBehind}
+use Rattle.lvm_settled.specs.Settled.{SettledIsGood, GoodIsSettled, NoneLeftIsBehind}
 use Rattle.lvm_rest.specs.Rest.{NoneIsBehind}
 
 pub settled_is_good : SettledIsGood
 settled_is_good votes past s media known v are carried view =
     let facts : List Fact = past ++ s.core.history.facts in
     rest_matches votes v s.core.descriptor s.core.status.committed (is_there s.core) s.device media known.told (known.sound.quiet known.settled.quiet) are known.sound.fitting.valid known.settled.votes known.held.shows view.idle view.sees
-    (λ row lp b one inside. subst (λ (f : List Fact). (known_of f (Lv row.number) b).open_writes ≡ []) (sym view.facts)
-    (landed_are_closed past s.core.history.facts known.holds.legal carried.closed carried.all_land (Lv row.number) b))
+    (calm_is_closed v.facts s.core.descriptor (subst Calm (sym view.facts) carried.calm))
     (record {
       legal = subst Legal (sym view.facts) known.holds.legal;
       kept = subst (Kept (contents_of (image_of s.device.sizes media))) (sym view.facts) (known.holds.kept (image_of s.device.sizes media) (media_may s.device media known.told));
@@ -45,4 +41,4 @@ pub none_left_is_behind : NoneLeftIsBehind
 none_left_is_behind past s media known none =
     let c : Contents = contents_of (image_of s.device.sizes media) in
     subst (λ (set : Disks). NoneIsBehind c s.core.descriptor (Some known.held.shows.stands) set) (ap (λ (g : Descriptor). members_there g s.core.status.wanted) known.sound.fitting.group)
-    (none_is_behind c s.core.descriptor s.core.status known.held.shows.stands (known.held.shows.committed ∙ known.settled.committed) none)
+    (none_is_left_behind c s.core.descriptor s.core.status known.held.shows.stands (known.held.shows.committed ∙ known.settled.committed) none)

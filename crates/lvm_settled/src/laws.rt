@@ -2,8 +2,8 @@
 ghost use Rattle.lvm_settled.specs.Settled.{SettledIsGood, GoodIsSettled, NoneLeftIsBehind};
 ghost use Rattle.lvm_settled.specs.Examples.{PairsSettle};
 
-/// A session may begin: where it is settled and its disks hold what it says, with an earlier history in which no
-/// write is open, its usable copies are even and none is left behind, its state is good and matches the shelf.
+/// A session may begin: where it is settled and its disks hold what it says, no write is open in its history and the
+/// earlier one, its usable copies are even and none is left behind, its state is good and matches the shelf.
 pub fn settled_is_good()
     ensures { SettledIsGood }
 {}
