@@ -15,7 +15,6 @@ use Rattle.lvm_core.specs.declared.refused.Cause.{Cause}
 use Rattle.lvm_core.specs.declared.refused.Cause.TheVariants as cause
 use Rattle.lvm_core.specs.declared.refused.Refused.{Refused}
 use Rattle.lvm_commit.specs.Settling.{NoneIsLeft}
-use Rattle.lvm_core.specs.Held.{IsHeld}
 use Rattle.lvm_core.specs.Sound.{HaveAllLanded}
 use Rattle.lvm_core.specs.Settled.{IsSettled as IsSettledCore, HasNumbers}
 use Rattle.lvm_core.specs.State.{Core}
@@ -32,7 +31,7 @@ use Rattle.lvm_line.proofs.Coming.{Rests, Leaves, lit_up, left_off, left_on, off
 use Rattle.lvm_line.proofs.Passive.{Bears, bears_cut, landed_bears, later_bears, open_more}
 use Rattle.lvm_line.proofs.Cutting.{cut_rooms}
 use Rattle.lvm_varyon.specs.Restated.{HasNoConsistency}
-use Rattle.lvm_varyon.specs.Varied.{ComesOn, IsRestated, IsRecovered, Refuses, KeepsAll, StaysBehind, log_after}
+use Rattle.lvm_varyon.specs.Varied.{ComesOn, StartsHeld, IsRestated, IsRecovered, Refuses, KeepsAll, StaysBehind, log_after}
 
 -- ---- a refusal
 
@@ -72,7 +71,7 @@ after_bears P bears cause.GroupExists log holds = holds
 
 pub record Called {S : Type 0} (device : S → Device) (shelf : S) (log : Log) (name : List ℕ) (moment : ℕ) (room : Room) (outcome : Result (S × Core) (Refused S)) : Type 0 where
   pub on : IfOk outcome (λ driver. ComesOn (device shelf) (device driver.0) log name moment room driver.1)
-  pub held : IfOk outcome (λ driver. ClockIsAhead log.run moment (device shelf) log.facts → IsHeld (device driver.0) driver.1)
+  pub held : IfOk outcome (λ driver. ClockIsAhead log.run moment (device shelf) log.facts → StartsHeld (device driver.0) driver.1)
   pub left : IfOk outcome (λ driver. NoneIsLeft driver.1.descriptor driver.1.status)
   pub settled : IfOk outcome (λ driver. IsSettledCore driver.1 × HasNumbers driver.1)
   pub restated : IfOk outcome (λ driver. ClockIsAhead log.run moment (device shelf) log.facts → IsRestated (device shelf) (device driver.0) driver.1.descriptor)
@@ -129,7 +128,7 @@ module _ {S : Type 0} (device : S → Device) (shelf : S) (log : Log) (name : Li
       called.settled.0
       (ap (λ (c : Core). c.status.stamp.epoch) is)
       (λ id. subst (λ (l : List Fact). is_open l id ≡ false) (sym facts) (open_more log.facts (On moment) id refl refl ∙ settled.landed id))
-      called.held called.left))
+      (λ ahead. (called.held ahead).held) called.left))
   goes (Err refused) called left =
       subst (λ (s : State). GoesOn log.run answer (state_in device (stage.Off shelf log) last) s) (sym (off_is device it refused.history moment left.off.0 left.off.1))
       (subst (λ (a : Reply). GoesOn log.run a (state_in device (stage.Off shelf log) last) (record { moment = at (device (shelf_in it)) refused.history.facts; session = None; last = moment })) (sym left.off.2)

@@ -13,7 +13,8 @@ use Rattle.lvm_vol.specs.Facts.{Fact, Cut, On}
 use Rattle.lvm_vol.specs.Log.{Log, spare_entries, is_uncut, with_fact, cut_log}
 use Rattle.lvm_kept.specs.Moments.{StaysCalm}
 use Rattle.lvm_kept.specs.Contents.{contents_of}
-use Rattle.lvm_kept.specs.Group.{ReadsBy}
+use Rattle.lvm_kept.specs.Group.{ReadsBy, is_named}
+use Rattle.lvm_mwc.specs.Cache.{is_named as is_named_by}
 use Rattle.lvm_kept.proofs.Finding.{finding_reads}
 use Rattle.lvm_change.specs.Moments.{Keeps, StaysKept}
 use Rattle.lvm_change.specs.Requests.{at}
@@ -32,13 +33,13 @@ use Rattle.lvm_core.specs.Settled.{IsSettled, HasNumbers}
 use Rattle.lvm_core.proofs.Settling.{starts_settled, starts_numbered}
 use Rattle.lvm_core.specs.Starting.{Reserved, first_core}
 use Rattle.lvm_core.specs.State.{Core, is_there}
-use Rattle.lvm_varyon.specs.Varied.{IsRecovered, ComesOn, IsRestated, IsAheadOfDisks, IsBrought, last_stamp, log_after}
+use Rattle.lvm_varyon.specs.Varied.{IsRecovered, ComesOn, IsRestated, StartsHeld, IsAheadOfDisks, IsBrought, last_stamp, log_after}
 use Rattle.lvm_varyon.specs.Chosen.{answering}
 use Rattle.lvm_varyon.specs.Restated.{HasNoConsistency}
 use Rattle.lvm_varyon.proofs.Left.{next_leaves_none}
 use Rattle.lvm_varyon.proofs.Recovering.{restated_is_recovered}
 use Rattle.lvm_varyon.proofs.Seeing.{if_told}
-use Rattle.lvm_varyon.proofs.After.{restated, ranges, holds}
+use Rattle.lvm_varyon.proofs.After.{restated, ranges, forgotten, holds}
 
 -- ---- the span
 
@@ -117,11 +118,20 @@ module _ (old new : Device) (log : Log) (name : List ℕ) (moment : ℕ) (room :
     first = record { parts = parts; reserved = is.reserved; is = refl };
   })
 
-  pub held : ClockIsAhead log.run moment old log.facts → IsHeld new core
+  held : ClockIsAhead log.run moment old log.facts → IsHeld new core
   held clock = if_told new.media (λ media. HoldsCommitted (image_of new.sizes media) core.descriptor core.status.committed (is_there core) core.status.stamp core.homes) (λ now told_now.
       let before = told_before is.written.writes.read.media new.media _ now told_now is.written.writes.how.keeps.media in
       let told : old.media ≡ Some before.0 = sym is.written.writes.unwritten.media ∙ before.1 in
       holds old new name moment room parts homes is (ahead_of log.run moment old log.facts clock) before.0 now told told_now core log core_is (clock is.written.chosen.early).behind)
+
+  pub starts_held : ClockIsAhead log.run moment old log.facts → StartsHeld new core
+  starts_held clock = record {
+    held = held clock;
+    notes = λ quiet. if_told new.media (λ media. (d lv track_group : ℕ) → IsTrue (is_there core d) → is_named (contents_of (image_of new.sizes media)) d lv track_group ≡ is_named_by core.cache d lv track_group) (λ now told_now.
+        let before = told_before is.written.writes.read.media new.media _ now told_now is.written.writes.how.keeps.media in
+        let told : old.media ≡ Some before.0 = sym is.written.writes.unwritten.media ∙ before.1 in
+        forgotten old new name moment room parts homes is (ahead_of log.run moment old log.facts clock) before.0 now told told_now core log core_is quiet);
+  }
 
   -- no copy is left behind, since the next status calls them stale
   pub none_left : NoneIsLeft core.descriptor core.status

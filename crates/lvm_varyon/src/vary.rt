@@ -8,12 +8,11 @@ ghost use Rattle.lvm_change.specs.Moments.{StaysKept};
 ghost use Rattle.lvm_change.specs.Requests.{at};
 ghost use Rattle.lvm_stamps.specs.Behind.{ClockIsAhead, IsBehind};
 ghost use Rattle.lvm_commit.specs.Settling.{NoneIsLeft};
-ghost use Rattle.lvm_core.specs.Held.{IsHeld};
 ghost use Rattle.lvm_core.specs.Settled.{IsSettled, HasNumbers};
 ghost use Rattle.lvm_core.specs.Sound.{HaveAllLanded};
 ghost use Rattle.lvm_core.specs.Starting.{IsRoom};
 ghost use Rattle.lvm_varyon.specs.Restated.{HasNoConsistency};
-ghost use Rattle.lvm_varyon.specs.Varied.{ComesOn, IsRestated, IsRecovered, Refuses, BringGives, IsAheadOfDisks, log_after, KeepsAll, StaysBehind};
+ghost use Rattle.lvm_varyon.specs.Varied.{ComesOn, StartsHeld, IsRestated, IsRecovered, Refuses, BringGives, IsAheadOfDisks, log_after, KeepsAll, StaysBehind};
 
 use crate::plan::{Plan, plan_of};
 use crate::writes::{read_disks, write_records};
@@ -53,7 +52,7 @@ pub fn varyon<S: Shelf>(
     // the group is on
     ensures on { IfOk result (λ driver. ComesOn (S.device shelf) (S.device driver.0) history name moment room driver.1) }
     ensures settled { IfOk result (λ driver. IsSettled driver.1 × HasNumbers driver.1) }
-    ensures held { IfOk result (λ driver. ClockIsAhead history.run moment (S.device shelf) history.facts → IsHeld (S.device driver.0) driver.1) }
+    ensures held { IfOk result (λ driver. ClockIsAhead history.run moment (S.device shelf) history.facts → StartsHeld (S.device driver.0) driver.1) }
     ensures left { IfOk result (λ driver. NoneIsLeft driver.1.descriptor driver.1.status) }
     ensures restated { IfOk result (λ driver. ClockIsAhead history.run moment (S.device shelf) history.facts → IsRestated (S.device shelf) (S.device driver.0) driver.1.descriptor) }
     ensures recovered { IfOk result (λ driver. ClockIsAhead history.run moment (S.device shelf) history.facts → HasNoConsistency driver.1.descriptor → IsRecovered (S.device shelf) (S.device driver.0) driver.1.descriptor) }

@@ -7,10 +7,9 @@ use Rattle.lvm_change.specs.Moments.{Keeps}
 use Rattle.lvm_change.specs.Requests.{at}
 use Rattle.lvm_stamps.specs.Behind.{IsBehind}
 use Rattle.lvm_stamps.proofs.Clock.{all_is_behind_next}
-use Rattle.lvm_core.specs.Held.{IsHeld}
 use Rattle.lvm_core.specs.declared.refused.Cause.TheVariants as cause
-use Rattle.lvm_varyon.specs.Varied.{ComesOn, IsRestated, IsRecovered}
-use Rattle.lvm_varyon.proofs.Spanning.{ahead_of, refused_keeps, refused_calm, comes_on, held, none_left, settles, is_restated, is_recovered, on_keeps, on_calm}
+use Rattle.lvm_varyon.specs.Varied.{ComesOn, StartsHeld, IsRestated, IsRecovered}
+use Rattle.lvm_varyon.proofs.Spanning.{ahead_of, refused_keeps, refused_calm, comes_on, starts_held, none_left, settles, is_restated, is_recovered, on_keeps, on_calm}
 use Rattle.lvm_varyon.proofs.vary.varyon.Goals as goal
 
 pub start-requires-clause-placed : goal.start-requires-clause-placed
@@ -41,8 +40,8 @@ returns-in-Ok-clause-settled g c =
 
 pub returns-in-Ok-clause-held : goal.returns-in-Ok-clause-held
 returns-in-Ok-clause-held g c = λ clock.
-    subst (λ (d : Device). IsHeld d c.start.result.1) (sym (ap g.S.Shelf.device c.start.ensures.shelf))
-    (held _ _ c.args.history c.args.name c.args.moment c.args.room c.in-Ok.parts c.in-Ok.homes c.start.result.1 c.in-Ok.ensures.gives c.start.ensures.core clock)
+    subst (λ (d : Device). StartsHeld d c.start.result.1) (sym (ap g.S.Shelf.device c.start.ensures.shelf))
+    (starts_held _ _ c.args.history c.args.name c.args.moment c.args.room c.in-Ok.parts c.in-Ok.homes c.start.result.1 c.in-Ok.ensures.gives c.start.ensures.core clock)
 
 pub returns-in-Ok-clause-left : goal.returns-in-Ok-clause-left
 returns-in-Ok-clause-left g c =
