@@ -75,11 +75,11 @@ unfolding descriptor_on status_on note_on
 area_is_read image d area row has is says =
     let sectors = image.sector d in
     record {
-      descriptor = says.descriptor ∙ held_twice descriptor_of kind.Descriptor area.descriptors.first.items area.descriptors.second.items sectors is.descriptors.0 is.descriptors.1 ∙ where_it_has (has_records image d) (newest_on descriptor_of kind.Descriptor sectors) None has;
+      descriptor = says.descriptor ∙ is.descriptor ∙ where_it_has (has_records image d) (newest_on descriptor_of kind.Descriptor sectors) None has;
       status = says.status ∙ held_twice status_of kind.Status area.statuses.first.items area.statuses.second.items sectors is.statuses.0 is.statuses.1 ∙ where_it_has (has_records image d) (newest_on status_of kind.Status sectors) None has;
       note = says.note ∙ ap note_in is.note ∙ where_it_has (has_records image d) (note_in (sectors 8)) None has;
-      homes = says.homes ∙ pair_of (home_of (held descriptor_of kind.Descriptor area.descriptors.first.items) (held descriptor_of kind.Descriptor area.descriptors.second.items)) (home_of (held status_of kind.Status area.statuses.first.items) (held status_of kind.Status area.statuses.second.items)) (home_on descriptor_of kind.Descriptor image d) (home_on status_of kind.Status image d)
-          (home_twice descriptor_of kind.Descriptor area.descriptors.first.items area.descriptors.second.items sectors is.descriptors.0 is.descriptors.1
+      homes = says.homes ∙ pair_of area.descriptor.home (home_of (held status_of kind.Status area.statuses.first.items) (held status_of kind.Status area.statuses.second.items)) (home_on descriptor_of kind.Descriptor image d) (home_on status_of kind.Status image d)
+          (is.home
           ∙ where_it_has (has_records image d) (home_of (held descriptor_of kind.Descriptor (slot_of kind.Descriptor 0 sectors)) (held descriptor_of kind.Descriptor (slot_of kind.Descriptor 1 sectors))) 2 has)
           (home_twice status_of kind.Status area.statuses.first.items area.statuses.second.items sectors is.statuses.0 is.statuses.1
           ∙ where_it_has (has_records image d) (home_of (held status_of kind.Status (slot_of kind.Status 0 sectors)) (held status_of kind.Status (slot_of kind.Status 1 sectors))) 2 has);
@@ -91,15 +91,13 @@ value_under : {X : Type 0} (value : Option X) (stamp : Stamp) → value ≡ opti
 value_under None stamp = refl
 value_under (Some x) stamp = refl
 
--- the newest of what both slots hold is what the disk shows
-pub slots_show : (o : Option Media) (sizes : List ℕ) (d : ℕ) (first second : List ℕ) (value : Option Descriptor) (stamp : Stamp) → d < length sizes → 4096 ≤ slice_index_or sizes d 0
-    → IfSome o (λ m. first ≡ slot_of kind.Descriptor 0 (m d)) → IfSome o (λ m. second ≡ slot_of kind.Descriptor 1 (m d)) → under value stamp ≡ newer (held descriptor_of kind.Descriptor first) (held descriptor_of kind.Descriptor second)
-    → IfSome o (λ m. value ≡ descriptor_shown (image_of sizes m) d)
+-- the newest on the disk is what it shows
+pub newest_shows : (o : Option Media) (sizes : List ℕ) (d : ℕ) (value : Option Descriptor) (stamp : Stamp) → d < length sizes → 4096 ≤ slice_index_or sizes d 0
+    → IfSome o (λ m. under value stamp ≡ newest_on descriptor_of kind.Descriptor (m d)) → IfSome o (λ m. value ≡ descriptor_shown (image_of sizes m) d)
 unfolding descriptor_on
-slots_show None sizes d first second value stamp there large a b is = tt
-slots_show (Some m) sizes d first second value stamp there large a b is =
-    value_under value stamp
-    ∙ ap (λ o. option_map (λ r. r.value) o) (is ∙ held_twice descriptor_of kind.Descriptor first second (m d) a b ∙ where_it_has (has_records (image_of sizes m) d) (newest_on descriptor_of kind.Descriptor (m d)) None (index_has sizes m d there large))
+newest_shows None sizes d value stamp there large is = tt
+newest_shows (Some m) sizes d value stamp there large is =
+    value_under value stamp ∙ ap (λ o. option_map (λ r. r.value) o) (is ∙ where_it_has (has_records (image_of sizes m) d) (newest_on descriptor_of kind.Descriptor (m d)) None (index_has sizes m d there large))
 
 -- ---- places in lists
 

@@ -11,7 +11,7 @@ use Rattle.lvm_num.specs.Record.{Stamped, newer}
 use Rattle.lvm_num.specs.StatusBytes.{status_of}
 use Rattle.lvm_num.specs.Torn.{Sectors}
 use Rattle.lvm_rec.specs.Note.{noted_of}
-use Rattle.lvm_rec.specs.Slots.{held, slot_of}
+use Rattle.lvm_rec.specs.Slots.{held, newest_on, slot_of}
 use Rattle.lvm_disk.specs.Counts.{RoseBy, Rose}
 use Rattle.lvm_disk.specs.Device.{Flight, Device, IsReady, image_of}
 use Rattle.lvm_disk.specs.Images.{LeavesNoMore}
@@ -101,9 +101,10 @@ ReadGives disk number patience old new (Err why) = UnreadGives disk number patie
 
 -- ---- what is read
 
--- the bytes are those of the slots and of the note on a disk with these sectors
+-- the newest descriptor, the bytes of the slots of statuses and those of the note on a disk with these sectors
 pub record IsArea (sectors : Sectors) (area : RecordArea) : Type 0 where
-  pub descriptors : (area.descriptors.first.items ≡ slot_of kind.Descriptor 0 sectors) × (area.descriptors.second.items ≡ slot_of kind.Descriptor 1 sectors)
+  pub descriptor : under area.descriptor.value area.descriptor.stamp ≡ newest_on descriptor_of kind.Descriptor sectors
+  pub home : area.descriptor.home ≡ home_of (held descriptor_of kind.Descriptor (slot_of kind.Descriptor 0 sectors)) (held descriptor_of kind.Descriptor (slot_of kind.Descriptor 1 sectors))
   pub statuses : (area.statuses.first.items ≡ slot_of kind.Status 0 sectors) × (area.statuses.second.items ≡ slot_of kind.Status 1 sectors)
   pub note : area.note ≡ sectors 8
 
@@ -123,13 +124,13 @@ pub record AreHomes (row : SurveyRow) : Type 0 where
   pub descriptor : IsHome row.descriptor row.descriptor_stamp (slice_index row.homes 0)
   pub status : IsHome row.status row.status_stamp (slice_index row.homes 1)
 
--- the row says what the bytes hold
+-- the row says what the records hold
 pub record IsRowOf (area : RecordArea) (row : SurveyRow) : Type 0 where
-  pub descriptor : under row.descriptor row.descriptor_stamp ≡ newer (held descriptor_of kind.Descriptor area.descriptors.first.items) (held descriptor_of kind.Descriptor area.descriptors.second.items)
+  pub descriptor : under row.descriptor row.descriptor_stamp ≡ under area.descriptor.value area.descriptor.stamp
   pub status : under row.status row.status_stamp ≡ newer (held status_of kind.Status area.statuses.first.items) (held status_of kind.Status area.statuses.second.items)
   pub note : option_map noted_of row.note ≡ note_in area.note
   pub homes : row.homes
-      ≡ home_of (held descriptor_of kind.Descriptor area.descriptors.first.items) (held descriptor_of kind.Descriptor area.descriptors.second.items)
+      ≡ area.descriptor.home
       ∷ home_of (held status_of kind.Status area.statuses.first.items) (held status_of kind.Status area.statuses.second.items) ∷ []
 
 -- ---- the row of a disk

@@ -1,15 +1,19 @@
 //! Reading the records of a disk: two slots of each kind, and the note.
 ghost use Rattle.std.specs.Prelude.{◌≡◌, ℕ, ◌+◌, ◌*◌, ◌++◌, ◌<◌, ◌≤◌, length, slice_index_or, [], IfSome, IfOk, OnOk};
 ghost use Rattle.lvm_num.specs.declared.record.Kind.TheVariants as kind_is;
+ghost use Rattle.lvm_num.specs.Descriptor.{IsValid};
+ghost use Rattle.lvm_num.specs.DescriptorBytes.{descriptor_of};
 ghost use Rattle.lvm_num.specs.Record.{joined};
-ghost use Rattle.lvm_rec.specs.Slots.{slot_of};
+ghost use Rattle.lvm_rec.specs.Slots.{held, newest_on, slot_of};
 ghost use Rattle.lvm_disk.specs.Device.{IsReady};
 ghost use Rattle.lvm_disk.specs.Steps.{IsRange};
-ghost use Rattle.lvm_survey.specs.Surveying.{OnlyReads, IsUntouched, ReadGives, IsArea};
+ghost use Rattle.lvm_survey.specs.Surveyed.{home_of, under};
+ghost use Rattle.lvm_survey.specs.Surveying.{stamped_if, OnlyReads, IsHome, IsUntouched, ReadGives, IsArea};
 
+use crate::found::{Found, Latest, descriptor_in, newest};
 use lvm_disk::Shelf;
 use lvm_move::{Moved, Patience, transfer};
-use lvm_num::Pbuf;
+use lvm_num::{Descriptor, Memory, Pbuf};
 use std::alloc::{AllocError, Global};
 
 const SECTOR: usize = 512;
@@ -23,7 +27,9 @@ const STATUSES: u64 = 64;
 
 const STATUS_SECTORS: u32 = 64;
 
-const DESCRIPTORS: u64 = 512;
+const FIRST_DESCRIPTOR: u64 = 512;
+
+const SECOND_DESCRIPTOR: u64 = 1664;
 
 const DESCRIPTOR_SECTORS: u32 = 1152;
 
@@ -34,10 +40,10 @@ pub struct Slots {
     pub second: Vec<u8>,
 }
 
-/// The bytes of all records of a disk.
+/// The newest descriptor of a disk, and the bytes of its other records.
 #[derive(Drop)]
 pub struct RecordArea {
-    pub descriptors: Slots,
+    pub descriptor: Latest<Descriptor>,
     pub statuses: Slots,
     pub note: [u8; 512],
 }
@@ -78,28 +84,31 @@ pub fn read_area<S: Shelf>(
     ensures gives { ReadGives disk buf.number patience.old.left (S.device shelf.old) (S.device shelf.new) result }
     ensures back { IfOk result (λ got. got.1.number ≡ buf.number) }
     ensures area { IfOk result (λ got. IfSome (S.device shelf.old).media (λ media. IsArea (media disk) got.0)) }
+    ensures valid { IfOk result (λ got. IfSome got.0.descriptor.value IsValid) }
+    ensures home { IfOk result (λ got. IsHome got.0.descriptor.value got.0.descriptor.stamp got.0.descriptor.home) }
 {
-    let (descriptors, buf) = read_descriptors(alloc, shelf, disk, buf, patience)?;
+    let (descriptor, buf) = read_descriptors(alloc, shelf, disk, buf, patience)?;
     let (statuses, buf) = read_slots(alloc, shelf, disk, STATUSES, STATUS_SECTORS, buf, patience)?;
     let (bytes, buf) = read_sectors(alloc, shelf, disk, NOTE, 1, buf, patience)?;
     let mut note = [0; SECTOR];
     note.copy_from_slice(&bytes);
     let area = RecordArea {
-        descriptors,
+        descriptor,
         statuses,
         note,
     };
     Ok((area, buf))
 }
 
-/// Reads both slots of descriptors of a disk, in pieces of 256 sectors. After a read that failed the rest is left out.
+/// Reads both slots of descriptors of a disk, one after the other, in pieces of 256 sectors, and answers the newest
+/// descriptor. After a read that failed the rest is left out.
 pub fn read_descriptors<S: Shelf>(
     alloc: Global,
     shelf: &mut S,
     disk: u16,
     buf: Pbuf,
     patience: &mut Patience,
-) -> Result<(Slots, Pbuf), Unread>
+) -> Result<(Latest<Descriptor>, Pbuf), Unread>
     requires ready { IsReady (S.device shelf.old) }
     requires there { disk < length (S.device shelf.old).sizes }
     requires large { 4096 ≤ slice_index_or (S.device shelf.old).sizes disk 0 }
@@ -107,18 +116,42 @@ pub fn read_descriptors<S: Shelf>(
     ensures elsewhere { (d : ℕ) → (d ≡ disk → ⊥) → IsUntouched d (S.device shelf.old) (S.device shelf.new) }
     ensures gives { ReadGives disk buf.number patience.old.left (S.device shelf.old) (S.device shelf.new) result }
     ensures back { IfOk result (λ got. got.1.number ≡ buf.number) }
-    ensures first { IfOk result (λ got. IfSome (S.device shelf.old).media (λ media. got.0.first.items ≡ slot_of kind_is.Descriptor 0 (media disk))) }
-    ensures second { IfOk result (λ got. IfSome (S.device shelf.old).media (λ media. got.0.second.items ≡ slot_of kind_is.Descriptor 1 (media disk))) }
+    ensures newest { IfOk result (λ got. IfSome (S.device shelf.old).media (λ media. under got.0.value got.0.stamp ≡ newest_on descriptor_of kind_is.Descriptor (media disk))) }
+    ensures slot { IfOk result (λ got. IfSome (S.device shelf.old).media (λ media. got.0.home ≡ home_of (held descriptor_of kind_is.Descriptor (slot_of kind_is.Descriptor 0 (media disk))) (held descriptor_of kind_is.Descriptor (slot_of kind_is.Descriptor 1 (media disk))))) }
+    ensures home { IfOk result (λ got. IsHome got.0.value got.0.stamp got.0.home) }
+    ensures valid { IfOk result (λ got. IfSome got.0.value IsValid) }
 {
-    read_slots(
-        alloc,
-        shelf,
-        disk,
-        DESCRIPTORS,
-        DESCRIPTOR_SECTORS,
-        buf,
-        patience,
-    )
+    let (first, buf) = read_descriptor_slot(alloc, shelf, disk, FIRST_DESCRIPTOR, buf, patience)?;
+    let (second, buf) = read_descriptor_slot(alloc, shelf, disk, SECOND_DESCRIPTOR, buf, patience)?;
+    Ok((newest(first, second), buf))
+}
+
+// Reads a slot of descriptors of a disk, and answers the descriptor that it holds. The bytes are given back before
+// the next slot is read.
+fn read_descriptor_slot<S: Shelf>(
+    alloc: Global,
+    shelf: &mut S,
+    disk: u16,
+    first: u64,
+    buf: Pbuf,
+    patience: &mut Patience,
+) -> Result<(Option<Found<Descriptor>>, Pbuf), Unread>
+    requires ready { IsReady (S.device shelf.old) }
+    requires there { disk < length (S.device shelf.old).sizes }
+    requires within { first + 1152 ≤ slice_index_or (S.device shelf.old).sizes disk 0 }
+    requires records { first + 1152 ≤ 4096 }
+    ensures only { OnlyReads patience.old.left patience.new.left (S.device shelf.old) (S.device shelf.new) }
+    ensures elsewhere { (d : ℕ) → (d ≡ disk → ⊥) → IsUntouched d (S.device shelf.old) (S.device shelf.new) }
+    ensures gives { ReadGives disk buf.number patience.old.left (S.device shelf.old) (S.device shelf.new) result }
+    ensures back { IfOk result (λ got. got.1.number ≡ buf.number) }
+    ensures held { IfOk result (λ got. IfSome (S.device shelf.old).media (λ media. stamped_if got.0 ≡ held descriptor_of kind_is.Descriptor (joined (media disk) first 1152))) }
+    ensures valid { IfOk result (λ got. IfSome got.0 (λ it. IsValid it.value)) }
+{
+    let (bytes, back) = read_sectors(alloc, shelf, disk, first, DESCRIPTOR_SECTORS, buf, patience)?;
+    match descriptor_in(alloc, &bytes) {
+        Ok(found) => Ok((found, back)),
+        Err(Memory) => Err(Unread::Stopped(Stop::Memory(back))),
+    }
 }
 
 // Reads two slots of so many sectors, the second of which follows the first.

@@ -16,7 +16,7 @@ ghost use Rattle.lvm_survey.specs.Surveyed.{home_of, under, IsEmpty, IsRead, IsR
 ghost use Rattle.lvm_survey.specs.Surveying.{AreHomes, DiskGives, EachRow, IfEnded, IsHome, IsRowOf, IsSmall, IsUntouched, IsUnwritten, OnlyReads, ReadGives, RowsGive, SurveyEnds};
 
 use crate::area::{RecordArea, Slots, Stop, Unread, read_area, read_descriptors};
-use crate::found::{Latest, descriptor_in, newest, status_in};
+use crate::found::{Latest, newest, status_in};
 use crate::row::{Survey, SurveyRow};
 use lvm_disk::Shelf;
 use lvm_move::Patience;
@@ -105,11 +105,8 @@ pub fn read_descriptor<S: Shelf>(
     ensures elsewhere { (d : ℕ) → (d ≡ disk → ⊥) → IsUntouched d (S.device shelf.old) (S.device shelf.new) }
     ensures only { OnlyReads patience.old.left patience.new.left (S.device shelf.old) (S.device shelf.new) }
 {
-    let (slots, back) = read_descriptors(alloc, shelf, disk, buf, patience)?;
-    match newest_descriptor(alloc, &slots) {
-        Ok(latest) => Ok((latest.value, back)),
-        Err(Memory) => Err(Unread::Stopped(Stop::Memory(back))),
-    }
+    let (latest, back) = read_descriptors(alloc, shelf, disk, buf, patience)?;
+    Ok((latest.value, back))
 }
 
 // The rows of all disks.
@@ -155,7 +152,7 @@ fn survey_disk<S: Shelf>(
         return Ok((empty_row(disk, sectors, false), buf));
     }
     match read_area(alloc, shelf, disk, buf, patience) {
-        Ok((area, back)) => match row_of(alloc, disk, sectors, &area) {
+        Ok((area, back)) => match row_of(alloc, disk, sectors, area) {
             Ok(row) => Ok((row, back)),
             Err(Memory) => Err(Stop::Memory(back)),
         },
@@ -184,15 +181,17 @@ fn empty_row(disk: u16, sectors: u64, failed: bool) -> SurveyRow
     }
 }
 
-// The row of a disk on which these bytes stand.
-fn row_of(alloc: Global, disk: u16, sectors: u64, area: &RecordArea) -> Result<SurveyRow, Memory>
+// The row of a disk on which these records stand.
+fn row_of(alloc: Global, disk: u16, sectors: u64, area: RecordArea) -> Result<SurveyRow, Memory>
+    requires valid { IfSome area.descriptor.value IsValid }
+    requires home { IsHome area.descriptor.value area.descriptor.stamp area.descriptor.home }
     ensures is { IfOk result (λ row. (row.disk ≡ disk) × (row.sectors ≡ sectors) × (row.failed ≡ false)) }
-    ensures found { IfOk result (IsRowOf area.now) }
+    ensures found { IfOk result (IsRowOf area) }
     ensures valid { IfOk result IsRowValid }
     ensures homes { IfOk result AreHomes }
 {
-    let descriptor = newest_descriptor(alloc, &area.descriptors)?;
     let status = newest_status(alloc, &area.statuses)?;
+    let descriptor = area.descriptor;
     Ok(SurveyRow {
         disk,
         failed: false,
@@ -204,17 +203,6 @@ fn row_of(alloc: Global, disk: u16, sectors: u64, area: &RecordArea) -> Result<S
         note: read_note(&area.note),
         homes: [descriptor.home, status.home],
     })
-}
-
-fn newest_descriptor(alloc: Global, slots: &Slots) -> Result<Latest<Descriptor>, Memory>
-    ensures newest { IfOk result (λ found. under found.value found.stamp ≡ newer (held descriptor_of kind_is.Descriptor slots.now.first.items) (held descriptor_of kind_is.Descriptor slots.now.second.items)) }
-    ensures home { IfOk result (λ found. found.home ≡ home_of (held descriptor_of kind_is.Descriptor slots.now.first.items) (held descriptor_of kind_is.Descriptor slots.now.second.items)) }
-    ensures found { IfOk result (λ found. IsHome found.value found.stamp found.home) }
-    ensures valid { IfOk result (λ found. IfSome found.value IsValid) }
-{
-    let first = descriptor_in(alloc, &slots.first)?;
-    let second = descriptor_in(alloc, &slots.second)?;
-    Ok(newest(first, second))
 }
 
 fn newest_status(alloc: Global, slots: &Slots) -> Result<Latest<Status>, Memory>

@@ -58,11 +58,11 @@ returns-in-Ok-row_of-clause-gives g c =
       c.in-Ok.ensures.back,
     )
 
-pub returns-in-Ok-clause-elsewhere : goal.returns-in-Ok-clause-elsewhere
-returns-in-Ok-clause-elsewhere g c d small = c.in-Ok.ensures.elsewhere d (not_small (g.S.Shelf.device c.args.shelf.now) c.args.disk c.sectors-sectors.result d c.sectors-sectors.ensures c.if-sectors-lt-DATA.false small)
+pub returns-in-Err-clause-elsewhere : goal.returns-in-Err-clause-elsewhere
+returns-in-Err-clause-elsewhere g c d small = c.in-Ok.ensures.elsewhere d (not_small (g.S.Shelf.device c.args.shelf.now) c.args.disk c.sectors-sectors.result d c.sectors-sectors.ensures c.if-sectors-lt-DATA.false small)
 
 pub returns-in-Err-Failed-clause-elsewhere : goal.returns-in-Err-Failed-clause-elsewhere
 returns-in-Err-Failed-clause-elsewhere g c d small = c.in-Err-Failed.ensures.elsewhere d (not_small (g.S.Shelf.device c.args.shelf.now) c.args.disk c.sectors-sectors.result d c.sectors-sectors.ensures c.if-sectors-lt-DATA.false small)
 
-pub returns-clause-elsewhere : goal.returns-clause-elsewhere
-returns-clause-elsewhere g c d small = c.in-Err-Stopped.ensures.elsewhere d (not_small (g.S.Shelf.device c.args.shelf.now) c.args.disk c.sectors-sectors.result d c.sectors-sectors.ensures c.if-sectors-lt-DATA.false small)
+pub returns-in-Err-Stopped-clause-elsewhere : goal.returns-in-Err-Stopped-clause-elsewhere
+returns-in-Err-Stopped-clause-elsewhere g c d small = c.in-Err-Stopped.ensures.elsewhere d (not_small (g.S.Shelf.device c.args.shelf.now) c.args.disk c.sectors-sectors.result d c.sectors-sectors.ensures c.if-sectors-lt-DATA.false small)
