@@ -1,5 +1,5 @@
 //! A buffer of 256 sectors, which moves from hand to hand.
-ghost use Rattle.std.specs.Prelude.{◌≡◌, ◌*◌, ◌<◌, ◌≤◌, length, take, IfOk, slice_get, slice_set, replicate};
+ghost use Rattle.std.specs.Prelude.{◌≡◌, ◌<◌, ◌≤◌, length, take, IfOk, slice_get, slice_set, replicate};
 ghost use Rattle.std.specs.List.{flat_map};
 ghost use Rattle.lvm_num.specs.Buffer.{zero_sector};
 
@@ -68,9 +68,7 @@ impl Pbuf {
     /// The bytes of its first `count` sectors.
     pub fn front(&self, count: u32) -> &[u8]
         requires { count ≤ 256 }
-        ensures bytes { result.now ≡ flat_map (λ sector. sector) (take count self.now.sectors) }
-        ensures size { length result.now ≡ 512 * count }
-        ensures long { count ≤ length self.now.sectors }
+        ensures { result.now ≡ flat_map (λ sector. sector) (take count self.now.sectors) }
     {
         self.sectors[..count as usize].as_flattened()
     }

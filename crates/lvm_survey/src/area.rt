@@ -253,5 +253,8 @@ fn append(bytes: &mut Vec<u8>, buf: &Pbuf, count: u32) -> Result<(), AllocError>
     ensures size { OnOk result (length bytes.new.items ≡ length bytes.old.items + 512 * count) }
     ensures bytes { OnOk result (bytes.new.items ≡ bytes.old.items ++ joined (λ i. slice_index_or buf.now.sectors i []) 0 count) }
 {
-    bytes.extend_from_slice(buf.front(count))
+    for k in 0..count {
+        bytes.extend_from_slice(buf.sector(k))?;
+    }
+    Ok(())
 }
