@@ -1,5 +1,5 @@
 //! A buffer of 256 sectors, which moves from hand to hand.
-ghost use Rattle.std.specs.Prelude.{◌≡◌, ◌<◌, ◌≤◌, length, take, IfOk, slice_get, slice_set, replicate};
+ghost use Rattle.std.specs.Prelude.{◌≡◌, ◌*◌, ◌<◌, ◌≤◌, length, take, IfOk, slice_get, slice_set, replicate};
 ghost use Rattle.std.specs.List.{flat_map};
 ghost use Rattle.lvm_num.specs.Buffer.{zero_sector};
 
@@ -33,11 +33,7 @@ impl Pbuf {
         ensures { IfOk result (λ buf. buf ≡ record { number = number; sectors = replicate 256 zero_sector }) }
     {
         let mut sectors = Vec::new(alloc);
-        for _ in 0..SECTORS {
-            let Ok(()) = sectors.push([0; 512]) else {
-                return Err(Memory);
-            };
-        }
+        sectors.resize(SECTORS, [0; 512])?;
         Ok(Pbuf { number, sectors })
     }
 
@@ -68,7 +64,8 @@ impl Pbuf {
     /// The bytes of its first `count` sectors.
     pub fn front(&self, count: u32) -> &[u8]
         requires { count ≤ 256 }
-        ensures { result.now ≡ flat_map (λ sector. sector) (take count self.now.sectors) }
+        ensures bytes { result.now ≡ flat_map (λ sector. sector) (take count self.now.sectors) }
+        ensures size { length result.now ≡ 512 * count }
     {
         self.sectors[..count as usize].as_flattened()
     }

@@ -1,4 +1,6 @@
 //! The records that a disk has below its data.
+ghost use Rattle.std.specs.Prelude.{◌≡◌};
+ghost use Rattle.lvm_num.specs.Record.{stamp_lt};
 
 use crate::Rows;
 
@@ -10,6 +12,15 @@ pub struct Stamp {
     pub epoch: u64,
     /// Rises by one from 1 at each record write of a session.
     pub seq: u32,
+}
+
+impl Stamp {
+    /// Whether it is earlier than the other one: `<`, which is what all laws of stamps speak of.
+    pub fn is_before(self, other: Stamp) -> bool
+        ensures { result ≡ stamp_lt self other }
+    {
+        self < other
+    }
 }
 
 /// The two kinds of framed record, each with two slots on a disk.
