@@ -17,12 +17,13 @@ use Rattle.lvm_num.specs.Record.{Stamped, stamp_lt}
 use Rattle.lvm_vol.specs.declared.entry.Vol.TheVariants.{Lv}
 use Rattle.lvm_vol.specs.Facts.{Fact, Cut}
 use Rattle.lvm_vol.specs.May.{Known, known}
-use Rattle.lvm_vol.specs.Standing.{Standing, Open, volumes_in}
+use Rattle.lvm_vol.specs.Standing.{volumes_in}
 use Rattle.lvm_kept.specs.Contents.{Contents}
 use Rattle.lvm_kept.specs.Group.{passes, is_of, has_room, is_voter, status_among, Finds, IsFound, members_in, status_by, Reads, ReadsBy, fresh_on, IsBlockOf, IsOneOf, IsSome}
 use Rattle.lvm_kept.specs.Committed.{IsWithinDisks}
 use Rattle.lvm_kept.specs.Kept.{StandsAs, HasStatus, MayDiffer, IsBlockKept, BlocksKept, IsSettledIn, IsAvailable, Kept}
 use Rattle.lvm_kept.proofs.Finding.{some_same, finding_reads}
+use Rattle.lvm_kept.proofs.Alike.{like_found, alike_stays}
 use Rattle.lvm_kept.proofs.Restamping.{fewer_blocks}
 use Rattle.lvm_kept.proofs.Entries.{volume_is_row}
 use Rattle.lvm_change.specs.Committing.{IsServed, CommitKeeps}
@@ -283,6 +284,7 @@ module _ (old : Contents) (shown : ℕ → Option (Stamped Descriptor)) (g : Des
       partitions = partitions;
       descriptors = one_of;
       statuses = kept.lasting.statuses;
+      alike = alike_stays old now written (λ d. ⊎_elim (λ same. inl same) (λ put. inr put.0) (own d)) (like_found old kept.lasting.alike g.id g found) kept.lasting.alike;
     };
   }
 

@@ -126,9 +126,10 @@ pub span_upholds : SpanUpholds
 span_upholds run entry exit facts span =
     let holds : (past : List Fact) → IsEarlier run entry past → Holds (past ++ Cut ∷ []) (at_moment exit facts) = λ past earlier. last-path span (past ++ Cut ∷ []) (begins_run run entry past earlier) in
     record {
+      told = λ told. span_told span told;
       legal = λ past earlier. subst Legal (append_assoc past (Cut ∷ []) facts) (holds past earlier).legal;
       kept = λ past earlier image may. subst (Kept (contents_of image)) (append_assoc past (Cut ∷ []) facts) ((holds past earlier).kept image may);
     }
 
 pub runs_follow : RunsFollow
-runs_follow run next entry exit past facts earlier upheld told own later = record { told = told; legal = upheld.legal past earlier; own = own; moments = later; kept = upheld.kept past earlier }
+runs_follow run next entry exit past facts earlier upheld own later = record { told = upheld.told earlier.told; legal = upheld.legal past earlier; own = own; moments = later; kept = upheld.kept past earlier }

@@ -25,6 +25,7 @@ use Rattle.lvm_kept.specs.Committed.{IsWithinDisks}
 use Rattle.lvm_kept.specs.Kept.{Kept}
 use Rattle.lvm_kept.specs.Changes.{IsFoundByNone}
 use Rattle.lvm_kept.specs.Examples.{stamped, three, only, either_of}
+use Rattle.lvm_kept.proofs.Alike.{one_shown_is_one}
 use Rattle.lvm_kept.proofs.Finding.{some_same, offered, is_offered, offers}
 use Rattle.lvm_change.specs.Committing.{IsServed}
 use Rattle.lvm_change.specs.VaryingOn.{HasNewest}
@@ -232,4 +233,13 @@ half_made = commit_keeps three 1 (only 1) (stamped 3 with_volume) of_three half_
     other number false is isnt = refl
 
 pub worked_session : WorkedSession
-worked_session = record { settled = settled; half_on = half_on; stamped_anew = stamped_anew; stated_anew = stated_anew; begun = begun; half_made = half_made }
+worked_session = record {
+  settled = settled;
+  one = one_shown_is_one of_three (λ d e r s shows also. ap (λ (x : Stamped Descriptor). x.value.id)
+      ((written (stamped 2 three) (first_three d) r shows).1 ∙ sym (written (stamped 2 three) (first_three e) s also).1));
+  half_on = half_on;
+  stamped_anew = stamped_anew;
+  stated_anew = stated_anew;
+  begun = begun;
+  half_made = half_made;
+}

@@ -51,8 +51,10 @@ pub record IsEarlier (run : ℕ) (device : Device) (past : List Fact) : Type 0 w
   pub moments : IsLater past run
   pub kept : ImagesKept device past
 
--- A run from this entry to this exit: whatever was told before, the joined history is legal, and each crash image at the exit is kept with it.
+-- A run from this entry to this exit: whatever was told before, the joined history is legal, and each crash image at the exit is kept with it. The exit tells
+-- its media where the entry did.
 pub record IsUpheld (run : ℕ) (entry exit : Device) (facts : List Fact) : Type 0 where
+  pub told : IsSome entry.media → IsSome exit.media
   pub legal : (past : List Fact) → IsEarlier run entry past → Legal (joined past facts)
   pub kept : (past : List Fact) → IsEarlier run entry past → ImagesKept exit (joined past facts)
 
@@ -94,7 +96,7 @@ SpanUpholds = (run : ℕ) (entry exit : Device) (facts : List Fact) → Keeps ru
 
 -- What a run leaves may stand before the next run, where that has a name of its own, later than all moments at which a group was varied on,
 abbrev pub RunsFollow : Type 0
-RunsFollow = (run next : ℕ) (entry exit : Device) (past facts : List Fact) → IsEarlier run entry past → IsUpheld run entry exit facts → IsSome exit.media → count_by (begins_in next) (joined past facts) ≡ 0 → IsLater (joined past facts) next
+RunsFollow = (run next : ℕ) (entry exit : Device) (past facts : List Fact) → IsEarlier run entry past → IsUpheld run entry exit facts → count_by (begins_in next) (joined past facts) ≡ 0 → IsLater (joined past facts) next
     → IsEarlier next exit (joined past facts)
 
 -- and before any run on still disks of zeros the empty history may stand.

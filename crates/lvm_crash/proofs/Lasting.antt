@@ -247,6 +247,7 @@ module _ (old : Contents) (status : ℕ → Option (Stamped Status)) (note : ℕ
     only = λ disks g f. stands.only disks g (before old status note block disks group.id g f);
     others = others_last old status note block group.id stands.others;
     once = stands.once;
+    alike = stands.alike;
   }
 
   description_lasts_here : (votes : Votes) (event : Event) (s new : State) (group : Descriptor) (in_flight next : Option (Stamped Status))

@@ -252,6 +252,7 @@ module _ (old : Contents) (status : ℕ → Option (Stamped Status)) (note : ℕ
         partitions = partitions;
         descriptors = describes.stands.once;
         statuses = statuses.once;
+        alike = describes.stands.alike;
       };
     }
 

@@ -101,6 +101,7 @@ module _ (mode : Mode) where
       partitions = λ other g h apart is also. absurd (apart (one_id other g is));
     };
     once = λ d e r t is also ids stamps. the_descriptor d r is ∙ sym (the_descriptor e t also);
+    alike = λ d e r t is also ids. ap (λ (x : Stamped Descriptor). record x.value { lvs = [] }) (the_descriptor d r is ∙ sym (the_descriptor e t also));
   }
 
   -- ---- its volume

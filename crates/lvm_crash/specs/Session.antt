@@ -15,7 +15,7 @@ use Rattle.lvm_vol.specs.Facts.{Fact}
 use Rattle.lvm_vol.specs.May.{known}
 use Rattle.lvm_vol.specs.Standing.{volumes_in}
 use Rattle.lvm_kept.specs.Contents.{Contents}
-use Rattle.lvm_kept.specs.Group.{if_passes, is_status_of, Finds, IsFound, members_in, Reads, block_at, IsBlockOf, is_named, IsOneOf}
+use Rattle.lvm_kept.specs.Group.{if_passes, is_status_of, Finds, IsFound, members_in, Reads, AreAlike, block_at, IsBlockOf, is_named, IsOneOf}
 use Rattle.lvm_kept.specs.Kept.{StandsAs, RawAgrees}
 use Rattle.lvm_good.specs.State.{Marks, View, State}
 pub use Rattle.lvm_good.specs.State.{has_notes, has_mark}
@@ -66,6 +66,8 @@ pub record GroupStands (c : Contents) (group : Descriptor) : Type 0 where
   pub others : OthersStand c group.id
   -- descriptors of a group under one stamp are one
   pub once : (d e : ℕ) (r t : Stamped Descriptor) → c.descriptor d ≡ Some r → c.descriptor e ≡ Some t → r.value.id ≡ t.value.id → r.stamp ≡ t.stamp → r ≡ t
+  -- and those of a group differ in its volumes alone
+  pub alike : AreAlike c
 
 -- ---- its volumes
 

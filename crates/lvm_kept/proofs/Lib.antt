@@ -12,6 +12,7 @@ pub mod Planned
 pub mod Records
 pub mod Standing
 pub mod Finding
+pub mod Alike
 pub mod Blank
 pub mod Changing
 pub mod Entries

@@ -4,10 +4,10 @@ use Rattle.lvm_num.specs.declared.descriptor.Descriptor.{Descriptor}
 use Rattle.lvm_num.specs.declared.status.Status.{Status}
 use Rattle.lvm_num.specs.Disks.{Disks}
 use Rattle.lvm_num.specs.Record.{Stamped, stamp_lt}
-use Rattle.lvm_num.specs.Votes.{CanWrite}
+use Rattle.lvm_num.specs.Votes.{all_disks, CanWrite}
 use Rattle.lvm_disk.specs.Device.{Image}
 use Rattle.lvm_kept.specs.Contents.{Contents, contents_of}
-use Rattle.lvm_kept.specs.Group.{is_of, is_status_of, is_voter, status_among, Finds}
+use Rattle.lvm_kept.specs.Group.{is_of, is_status_of, is_voter, has_quorum, status_among, Finds, IsAlike, AreAlike, IsOneByAll, IsOnlyGroup}
 
 -- the two give each set of disks the same votes
 pub record SameVotes (a b : Descriptor) : Type 0 where
@@ -74,3 +74,25 @@ abbrev pub NextIsCommitted : Type 0 → Type 0
 NextIsCommitted X =
     (of : X → Bool) (on : ℕ → Option (Stamped X)) (set reached : Disks) (now next : Stamped X)
     → Stands of on set now next → stamp_lt now.stamp next.stamp ≡ true → ((d : ℕ) → IsTrue (reached d) → on d ≡ Some next) → Stands of on reached next next
+
+-- ---- descriptors of one group
+
+-- What some disks find all disks find, where descriptors of a group differ in its volumes alone.
+abbrev pub FoundByAll : Type 0
+FoundByAll = (c : Contents) (disks : Disks) (id : ℕ) (g : Descriptor) → IsWithinDisks c → AreAlike c → Finds c disks id g → IsTrue (has_quorum c all_disks id)
+
+-- So where at most one group has a quorum among all disks, no set of disks finds another one than that.
+abbrev pub OneByAllIsOnly : Type 0
+OneByAllIsOnly = (c : Contents) (disks : Disks) (g : Descriptor) → IsWithinDisks c → AreAlike c → IsOneByAll c → Finds c disks g.id g → IsOnlyGroup c g.id
+
+-- It is so where all that disks show is of one group.
+abbrev pub OneShownIsOne : Type 0
+OneShownIsOne = (c : Contents) → ((d e : ℕ) (r s : Stamped Descriptor) → c.descriptor d ≡ Some r → c.descriptor e ≡ Some s → r.value.id ≡ s.value.id) → IsOneByAll c
+
+-- A record that is written to some disks leaves descriptors alike, where all that are shown of its group differ from it in their volumes alone.
+abbrev pub AlikeStays : Type 0
+AlikeStays =
+    (old new : Contents) (next : Stamped Descriptor)
+    → ((d : ℕ) → (new.descriptor d ≡ old.descriptor d) ⊎ (new.descriptor d ≡ Some next))
+    → ((d : ℕ) (r : Stamped Descriptor) → old.descriptor d ≡ Some r → r.value.id ≡ next.value.id → IsAlike r.value next.value)
+    → AreAlike old → AreAlike new

@@ -85,11 +85,23 @@ pub record ReadsBy (c : Contents) (disks : Disks) (id : ℕ) (group : Descriptor
 abbrev pub FindingReads : Type 0
 FindingReads = (c : Contents) (disks : Disks) (id : ℕ) (group : Descriptor) → Finds c disks id group → ReadsBy c disks id group
 
--- no disk's descriptor names a volume, or at most one group has a quorum
-abbrev pub IsLone : Contents → Type 0
-IsLone c =
-    ((d : ℕ) (r : Stamped Descriptor) → c.descriptor d ≡ Some r → r.value.lvs ≡ [])
-    ⊎ ((v w : ℕ) → IsTrue (has_quorum c all_disks v) → IsTrue (has_quorum c all_disks w) → v ≡ w)
+-- ---- one group, and others
+
+-- the two are one group, but for their volumes
+abbrev pub IsAlike : Descriptor → Descriptor → Type 0
+IsAlike a b = record a { lvs = [] } ≡ record b { lvs = [] }
+
+-- whichever disks show descriptors of one group, these differ in their volumes alone
+abbrev pub AreAlike : Contents → Type 0
+AreAlike c = (d e : ℕ) (r s : Stamped Descriptor) → c.descriptor d ≡ Some r → c.descriptor e ≡ Some s → r.value.id ≡ s.value.id → IsAlike r.value s.value
+
+-- at most one group has a quorum among all disks
+abbrev pub IsOneByAll : Contents → Type 0
+IsOneByAll c = (v w : ℕ) → IsTrue (has_quorum c all_disks v) → IsTrue (has_quorum c all_disks w) → v ≡ w
+
+-- no set of disks finds another group
+abbrev pub IsOnlyGroup : Contents → ℕ → Type 0
+IsOnlyGroup c id = (other : ℕ) (k : Descriptor) → IsFound c other k → other ≡ id
 
 -- ---- copies
 

@@ -3,7 +3,7 @@ ghost use Rattle.lvm_kept.specs.Laws.{WriteDoneLaw, WriteLostLaw, RunsLaw};
 ghost use Rattle.lvm_kept.specs.Places.{DataWritesKeepRecords, RecordWritesKeepData, BlocksAreSectors};
 ghost use Rattle.lvm_kept.specs.Torn.{NewestStays, WritingBegins, StepKeepsWriting, AloneIsAmongOthers, NewestIsOldOrNew, WholeIsNew, DescriptorWriteShows, StatusWriteShows, EndedPartStands, StandingPartStays, NoteWriteShows, EarlierStaysBefore, ZerosAreBefore};
 ghost use Rattle.lvm_kept.specs.Group.{FindingReads};
-ghost use Rattle.lvm_kept.specs.Committed.{ImagesAreWithin, QuorumMeetsWriters, QuorumsMeet, QuorumFindsStatus, QuorumFindsDescriptor, NextIsWritten, NextIsCommitted};
+ghost use Rattle.lvm_kept.specs.Committed.{ImagesAreWithin, QuorumMeetsWriters, QuorumsMeet, QuorumFindsStatus, QuorumFindsDescriptor, NextIsWritten, NextIsCommitted, FoundByAll, OneByAllIsOnly, OneShownIsOne, AlikeStays};
 ghost use Rattle.lvm_kept.specs.Examples.{FreshThree, SecondAway, StaleCopy, NamedDifference, HalfMade};
 ghost use Rattle.lvm_kept.specs.Changes.{BlankIsKept, DataChangeKeeps, NoteChangeKeeps, StatusChangeKeeps, RestampingKeeps, EntryKeeps, MoreIsKept, BeginningAllowsMore, BeginningStands};
 
@@ -61,6 +61,15 @@ pub fn quorums_find()
     ensures voters { QuorumsMeet }
     ensures status { QuorumFindsStatus }
     ensures descriptor { QuorumFindsDescriptor }
+{}
+
+/// Where descriptors of a group differ in its volumes alone, what some disks find of groups all disks find: so with at most one group
+/// that has a quorum among all of them no set of disks finds another one. And they go on differing in volumes alone as records are written.
+pub fn groups_are_alike()
+    ensures all { FoundByAll }
+    ensures only { OneByAllIsOnly }
+    ensures one { OneShownIsOne }
+    ensures stays { AlikeStays }
 {}
 
 /// A later record that is being written stands beside the committed one, and alone on the disks that have it.

@@ -4,7 +4,7 @@
 mod laws;
 
 pub use laws::{
-    blank_is_kept, changes_keep, entries_keep, parts_stand, places, quorums_find, raw_writes_keep,
-    record_writes, records_are_committed, runs_follow, stamps_rise, worked_groups, writes_show,
-    writing,
+    blank_is_kept, changes_keep, entries_keep, groups_are_alike, parts_stand, places, quorums_find,
+    raw_writes_keep, record_writes, records_are_committed, runs_follow, stamps_rise, worked_groups,
+    writes_show, writing,
 };
