@@ -3,12 +3,3 @@ pub mod Device
 pub mod Steps
 pub mod Paths
 pub mod Images
-pub mod Media
-pub mod Flights
-pub mod Tickets
-pub mod Injection
-pub mod Tally
-pub mod Bench
-pub mod Memory
-pub mod Sound
-pub mod Log

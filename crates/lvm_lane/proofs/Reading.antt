@@ -2,7 +2,7 @@
 use Rattle.std.proofs.Common.{◌≡◌, ◌<◌, ℕ, slice_set, sym, ◌∙◌, subst, length-set}
 use Rattle.lvm_num.specs.Buffer.{Buffer, Sector}
 use Rattle.lvm_disk.specs.Steps.{ChangedAtMost}
-use Rattle.lvm_disk.proofs.Filling.{set_drop}
+use Rattle.lvm_flights.proofs.Ending.{set_drop}
 
 -- one more of the first sectors is written over
 pub one_read : (count : ℕ) (old now new : Buffer) (i : ℕ) (x : Sector) → ChangedAtMost count old now → i < count → new ≡ record now { sectors = slice_set now.sectors i x } → ChangedAtMost count old new

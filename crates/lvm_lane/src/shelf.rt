@@ -1,7 +1,7 @@
 //! Image files as a shelf of disks.
 ghost use Rattle.std.specs.Prelude.{◌≡◌, ◌≤◌, ◌<◌, true, length, vec_capacity};
-ghost use Rattle.lvm_disk.specs.Flights.{flight_of, flights_of};
-ghost use Rattle.lvm_disk.specs.Media.{Lies};
+ghost use Rattle.lvm_flights.specs.Flights.{flight_of, flights_of};
+ghost use Rattle.lvm_flights.specs.Flights.{Lies};
 ghost use Rattle.lvm_disk.specs.Steps.{ChangedAtMost};
 ghost use Rattle.lvm_lane.specs.Sound.{IsSound};
 
@@ -9,7 +9,8 @@ use crate::exclusive::Exclusive;
 use crate::image::{Image, ImageFault, has_image};
 use crate::name::image_name;
 use crate::read_buffer::ReadBuffer;
-use lvm_disk::{Arrange, Flying, Reaped, Shelf, Started, Tally, free_ticket, take_flight};
+use lvm_disk::{Arrange, Reaped, Shelf, Started};
+use lvm_flights::{Flying, Tally, free_ticket, take_flight};
 use lvm_io::{Sink, write_all};
 use lvm_num::{Memory, Pbuf};
 use std::alloc::Global;

@@ -1,7 +1,7 @@
 //! A case, line by line.
 ghost use Rattle.std.specs.Prelude.{IfOk};
 ghost use Rattle.lvm_disk.specs.Device.{IsReady};
-ghost use Rattle.lvm_disk.specs.Memory.{device_of};
+ghost use Rattle.lvm_memory.specs.Memory.{device_of};
 
 use crate::fault::Fault;
 use crate::outside::Outside;
@@ -11,8 +11,8 @@ use crate::run::{Ran, Sizes, blank, restarted, run};
 use crate::script::Script;
 use crate::sweep::{Swept, Swing, sweep};
 use crate::words::{Answered, answer};
-use lvm_disk::MemShelf;
 use lvm_io::{MemClock, Sink};
+use lvm_memory::MemShelf;
 use lvm_num::Text;
 use std::alloc::Global;
 

@@ -1,12 +1,13 @@
 //! Runs over disks in memory.
 ghost use Rattle.std.specs.Prelude.{◌≡◌, ◌%◌, ◌≤◌, length, All, IfOk, IsTrue};
 ghost use Rattle.lvm_disk.specs.Device.{IsReady};
-ghost use Rattle.lvm_disk.specs.Memory.{device_of};
+ghost use Rattle.lvm_memory.specs.Memory.{device_of};
 
 use crate::fault::Fault;
 use crate::outside::Streams;
-use lvm_disk::{MemShelf, Planned, Shelf, names_disks};
+use lvm_disk::Shelf;
 use lvm_io::{MemClock, MemSink};
+use lvm_memory::{MemShelf, Planned, names_disks};
 use lvm_num::Rows;
 use lvm_top::{Ended, Room, run_script};
 use lvm_vol::Vol;

@@ -1,12 +1,12 @@
 //! The program by words, over files in memory.
 
 ghost use Rattle.lvm_disk.specs.Device.{IsReady};
-ghost use Rattle.lvm_disk.specs.Memory.{device_of};
+ghost use Rattle.lvm_memory.specs.Memory.{device_of};
 
 use crate::fault::Fault;
 use crate::outside::ample;
-use lvm_disk::MemShelf;
 use lvm_io::{MemClock, MemSink, MemSource};
+use lvm_memory::MemShelf;
 use lvm_num::Text;
 use lvm_top::run_words;
 use std::alloc::Global;

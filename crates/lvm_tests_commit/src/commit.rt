@@ -8,7 +8,8 @@ use crate::fixtures::{
     blank_shelf, check, first_homes, group, has_room, row, stamp, status, survey, volume,
 };
 use lvm_commit::{Settled, commit_descriptor, commit_status};
-use lvm_disk::{Act, MemShelf, Planned, Shelf};
+use lvm_disk::Shelf;
+use lvm_memory::{Act, MemShelf, Planned};
 use lvm_move::{Patience, relight};
 use lvm_num::{Descriptor, Pbuf, Pp, Rows, Stamp};
 use lvm_quorum::Homes;

@@ -3,7 +3,8 @@
 use crate::fixtures::{blank_shelf, check, plan_of, start};
 use Answer::*;
 use Step::*;
-use lvm_disk::{Act, Arrange, MemShelf, Planned, Reaped, Shelf, Started, names_disks};
+use lvm_disk::{Arrange, Reaped, Shelf, Started};
+use lvm_memory::{Act, MemShelf, Planned, names_disks};
 use lvm_num::Pbuf;
 use std::process::Abort;
 

@@ -1,8 +1,9 @@
 //! What the tests share: one assertion, disks and sinks in memory, plans of faults, and the start of a transfer.
 ghost use Rattle.std.specs.Prelude.{◌≡◌};
 
-use lvm_disk::{MemShelf, Planned, Shelf, Started, names_disks};
+use lvm_disk::{Shelf, Started};
 use lvm_io::MemSink;
+use lvm_memory::{MemShelf, Planned, names_disks};
 use lvm_num::{Pbuf, Rows};
 use std::process::Abort;
 

@@ -2,7 +2,8 @@
 use crate::fixtures::{blank_shelf, check};
 use Answer::*;
 use Ask::*;
-use lvm_disk::{Act, MemShelf, Planned, Shelf};
+use lvm_disk::Shelf;
+use lvm_memory::{Act, MemShelf, Planned};
 use lvm_move::{Patience, relight};
 use lvm_num::{Rows, fill};
 use lvm_raw::{RawFault, read_disk, write_disk};

@@ -3,7 +3,8 @@ use crate::fixtures::{
     Begin, begin_first, begin_next, blank_shelf, first_three, group, image_shelf, images_of,
     name_of, row, stamp, status, survey,
 };
-use lvm_disk::{Act, MemShelf, Planned, Shelf};
+use lvm_disk::Shelf;
+use lvm_memory::{Act, MemShelf, Planned};
 use lvm_num::Stamp;
 use lvm_quorum::{Choice, ChooseFault, choose};
 use lvm_survey::{Survey, SurveyRow};

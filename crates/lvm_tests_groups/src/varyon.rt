@@ -1,7 +1,8 @@
 //! Groups of two disks that come on, and that don't.
 use crate::fixtures::{Begin, begin_first, blank_shelf, group, images_of, name_of, volume};
 use lvm_core::{Cause, Driver, Room};
-use lvm_disk::{Act, Arrange, MemShelf, Planned, Shelf};
+use lvm_disk::{Arrange, Shelf};
+use lvm_memory::{Act, MemShelf, Planned};
 use lvm_move::{Patience, relight};
 use lvm_num::Pp;
 use lvm_varyon::varyon;

@@ -5,7 +5,8 @@ ghost use Rattle.std.specs.List.{All};
 ghost use Rattle.lvm_num.specs.Disks.{has};
 ghost use Rattle.lvm_quorum.specs.Written.{HasRoom};
 
-use lvm_disk::{MemShelf, Planned, Shelf, names_disks};
+use lvm_disk::Shelf;
+use lvm_memory::{MemShelf, Planned, names_disks};
 use lvm_num::{Descriptor, DiskSet, Name, PvRow, Rows, Stamp, Status, StatusRow, VolumeNumbers};
 use std::process::Abort;
 

@@ -1,6 +1,7 @@
 //! What the records of disks in memory are found to be.
 use crate::fixtures::{DATA, FIRST, LATER, NAMESAKE, NONE, group, image_shelf, status};
-use lvm_disk::{Act, MemShelf, Planned, Shelf};
+use lvm_disk::Shelf;
+use lvm_memory::{Act, MemShelf, Planned};
 use lvm_move::{Patience, relight};
 use lvm_num::{Kind, Pbuf, Rows, Stamp};
 use lvm_rec::{frame, slot_sectors, write_note};

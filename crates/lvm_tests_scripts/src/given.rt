@@ -1,8 +1,9 @@
 // What a run by words gives back, and the images that it makes.
 
 use crate::outside::{sink, source, texts};
-use lvm_disk::{MemShelf, Shelf};
+use lvm_disk::Shelf;
 use lvm_io::{MemClock, MemSink};
+use lvm_memory::MemShelf;
 use lvm_num::Rows;
 use lvm_top::{Ended, run_words};
 use std::process::Abort;

@@ -1,7 +1,7 @@
 -- Runs that the words of the command line ask for.
 use Rattle.std.proofs.Common.{◌≡◌, ℕ, Option, None, Result, Ok, Err, refl, sym, subst, arith}
 use Rattle.lvm_disk.specs.Device.{Device, IsReady}
-use Rattle.lvm_disk.specs.declared.memory.MemShelf.{MemShelf}
+use Rattle.lvm_memory.specs.declared.memory.MemShelf.{MemShelf}
 use Rattle.lvm_vol.specs.Log.{Log}
 use Rattle.lvm_core.specs.declared.parts.Room.{Room}
 use Rattle.lvm_top.specs.Program.{OnScript, OnSim, IsUnrun}

@@ -2,7 +2,7 @@
 use Rattle.std.specs.Prelude.{◌≡◌, ◌⊎◌, ◌++◌, ℕ, List, [], Option, Some, None, Result, Ok, Err, codes}
 use Rattle.lvm_io.specs.Count.{Rose, next_count}
 use Rattle.lvm_io.specs.Stream.{WhereTold, WritesFront}
-use Rattle.lvm_disk.specs.declared.memory.MemShelf.{MemShelf}
+use Rattle.lvm_memory.specs.declared.memory.MemShelf.{MemShelf}
 use Rattle.lvm_vol.specs.Log.{Log}
 use Rattle.lvm_top.specs.Blank.{blank_image}
 use Rattle.lvm_change.specs.Moments.{ImagesKept, IsUpheld}

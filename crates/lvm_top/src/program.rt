@@ -1,7 +1,7 @@
 //! The program by the words of its command line.
 ghost use Rattle.std.specs.Prelude.{◌≡◌, ◌⊎◌, ◌≤◌, ◌<◌, length, [], None, IfOk, IfErr, IfSome, IfNone};
 ghost use Rattle.lvm_disk.specs.Device.{IsReady};
-ghost use Rattle.lvm_disk.specs.Memory.{device_of};
+ghost use Rattle.lvm_memory.specs.Memory.{device_of};
 ghost use Rattle.lvm_top.specs.Program.{OnScript, OnSim, OnImage, OnText, help_text, version_line, usage_line, IsTold, IsSaid, IsUnrun, IsUsage, IsImaged, PromisesBlank};
 ghost use Rattle.lvm_top.specs.Run.{Promises};
 ghost use Rattle.lvm_top.specs.Script.{run_of};
@@ -11,8 +11,9 @@ ghost use Rattle.lvm_words.specs.Words.{job_of};
 use crate::image::run_image;
 use crate::run::{Ended, run_script};
 use lvm_core::Room;
-use lvm_disk::{MemShelf, Shelf};
+use lvm_disk::Shelf;
 use lvm_io::{Clock, Images, Sink, SinkFault, Source, write_all};
+use lvm_memory::MemShelf;
 use lvm_num::{Memory, Rows, Text};
 use lvm_words::{Job, WordsFault, read_words};
 use std::alloc::Global;

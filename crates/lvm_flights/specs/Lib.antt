@@ -1,0 +1,4 @@
+pub mod Flights
+pub mod Tickets
+pub mod Tally
+pub mod Log

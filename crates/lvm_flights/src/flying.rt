@@ -1,0 +1,29 @@
+//! Transfers that are under way in memory.
+ghost use Rattle.std.specs.Prelude.{◌≡◌};
+
+use lvm_num::Pbuf;
+
+/// A transfer that was started and has not ended.
+#[derive(Drop)]
+pub struct Flying {
+    pub ticket: u64,
+    pub disk: u16,
+    pub first: u64,
+    pub count: u32,
+    pub write: bool,
+    pub buf: Pbuf,
+    /// How many reaps still pass it over.
+    pub delay: u32,
+}
+
+impl Flying {
+    ghost use Rattle.lvm_flights.specs.Flights.{writes};
+    ghost use Rattle.lvm_flights.specs.Flights.{flight_of};
+
+    /// How many sectors it writes.
+    pub fn writes(&self) -> u32
+        ensures { result ≡ writes (flight_of self.now) }
+    {
+        if self.write { self.count } else { 0 }
+    }
+}

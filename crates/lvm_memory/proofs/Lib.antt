@@ -1,0 +1,10 @@
+mod Acting
+mod GivingUp
+mod Darkening
+mod Departing
+mod Arriving
+mod Making
+mod Filling
+mod Laying
+mod Prompt
+mod Putting

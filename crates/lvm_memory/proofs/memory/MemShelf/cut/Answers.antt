@@ -1,0 +1,19 @@
+use Rattle.std.proofs.Common.{inr, ap}
+use Rattle.lvm_flights.specs.Flights.{flights_of}
+use Rattle.lvm_memory.specs.Media.{media_of}
+use Rattle.lvm_flights.specs.Tally.{counts_of}
+use Rattle.lvm_memory.specs.Memory.{device_of}
+use Rattle.lvm_memory.proofs.Darkening.{torn_like, darkened}
+use Rattle.lvm_memory.proofs.memory.MemShelf.cut.Goals as goal
+
+pub returns-then-self-clause-dark : goal.returns-then-self-clause-dark
+returns-then-self-clause-dark c = inr (record {
+  cuts = record {
+    power = c.if-self.true;
+    media = torn_like c.args.word (flights_of c.args.self.now.flights.items) (media_of c.args.self.now.disks.items) (media_of c.cut_flights.new.disks.items) c.cut_flights.ensures.cut;
+    cuts = c.count_cut.ensures.rose;
+    new_is = darkened (device_of c.args.self.now) _ (media_of c.cut_flights.new.disks.items) _ _ _ _ c.cut_flights.ensures.sizes (ap flights_of c.cut_flights.ensures.flights) c.cut_flights.ensures.freed
+        (ap counts_of c.count_cut.ensures.same);
+  };
+  picked = c.cut_flights.ensures.cut;
+})
