@@ -1,4 +1,2 @@
-pub mod Names
 pub mod Sound
 pub mod Files
-pub mod Sink

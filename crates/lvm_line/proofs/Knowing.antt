@@ -1,7 +1,7 @@
 -- What is known where a line is refused.
 use Rattle.std.proofs.Common.{◌≡◌, ℕ, Option, None, Result, subst}
 use Rattle.lvm_parse.specs.declared.command.Command.{Command}
-use Rattle.lvm_parse.specs.declared.rest.Misfit.{Misfit}
+use Rattle.lvm_operands.specs.declared.rest.Misfit.{Misfit}
 use Rattle.lvm_line.specs.Causes.{HasCause}
 use Rattle.lvm_line.specs.State.{State}
 use Rattle.lvm_line.specs.declared.reply.Refusal.{Refusal}

@@ -1,9 +1,9 @@
 -- What options keep that are read one after another.
 use Rattle.std.proofs.Common.{◌≡◌, ◌∷◌, [], ℕ, List, Bool, true, false, Option, Some, None, Result, Ok, if◌then◌else◌, refl, subst}
 use Rattle.std.specs.Option.{option_map}
-use Rattle.lvm_parse.specs.declared.rest.Misfit.{Misfit}
-use Rattle.lvm_parse.specs.Line.{WordAt, Left}
-use Rattle.lvm_parse.specs.Reading.{misfit, then_, or_misfit, Choice, NoOption, Alone, Valued, options_of}
+use Rattle.lvm_operands.specs.declared.rest.Misfit.{Misfit}
+use Rattle.lvm_operands.specs.Line.{WordAt, Left}
+use Rattle.lvm_operands.specs.Reading.{misfit, then_, or_misfit, Choice, NoOption, Alone, Valued, options_of}
 
 -- a value that is made of what was found
 pub mapped : {X Y : Type 0} (P : Y → Type 0) (f : X → Y) (found : Option X) (after : Y) → ((x : X) → found ≡ Some x → P (f x)) → option_map f found ≡ Some after → P after

@@ -1,6 +1,3 @@
+pub mod Answering
 pub mod Grammar
-pub mod Line
-pub mod Reading
-pub mod Rests
 pub mod Within
-pub mod Words

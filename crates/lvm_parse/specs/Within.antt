@@ -1,6 +1,6 @@
 -- Where a line may be refused.
 use Rattle.std.specs.Prelude.{◌≡◌, ℕ, ◌+◌, ◌≤◌, List, length}
-use Rattle.lvm_parse.specs.Reading.{misfit}
+use Rattle.lvm_operands.specs.Reading.{misfit}
 use Rattle.lvm_parse.specs.Grammar.{line_of}
 
 -- at one of its columns, counted from 1, or behind its last byte

@@ -57,16 +57,10 @@
 
 mod chosen;
 mod command;
-mod disks;
 pub mod laws;
 mod line;
-mod operands;
 mod options;
-mod rest;
 mod rules;
-mod scan;
-mod words;
 
 pub use command::{Command, ParseFault};
 pub use line::parse;
-pub use words::number_of;

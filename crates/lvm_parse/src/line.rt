@@ -1,16 +1,15 @@
 //! A line as a whole.
 ghost use Rattle.std.specs.Prelude.{◌≡◌, ◌↔◌, ℕ, false, bytes_eq, codes, IfOk, Ok, Err};
-ghost use Rattle.lvm_parse.specs.Reading.{misfit};
+ghost use Rattle.lvm_operands.specs.Reading.{misfit};
 ghost use Rattle.lvm_parse.specs.Grammar.{rule, line_of_words, line_of};
-ghost use Rattle.lvm_parse.specs.Rests.{left, Answers, AnswersLine, IsMkvgLine};
+ghost use Rattle.lvm_operands.specs.Rests.{left};
+ghost use Rattle.lvm_parse.specs.Answering.{Answers, AnswersLine, IsMkvgLine};
 
 use crate::command::{Command, ParseFault};
-use crate::operands::misfit;
-use crate::rest::{Misfit, Rest, Word};
 use crate::rules::{
     cut, fail, heal, lslv, lspv, lsvg, mklv, mkvg, rd, rmlv, varyoffvg, varyonvg, wr,
 };
-use crate::scan::{is_remark, next_word, unreadable_at};
+use lvm_operands::{Misfit, Rest, Word, is_remark, misfit, next_word, unreadable_at};
 use std::alloc::Global;
 
 // What a line asks for whose first word this is; it isn't `mkvg`.

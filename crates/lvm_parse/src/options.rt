@@ -1,16 +1,14 @@
 //! Options in any order, each at most once.
 ghost use Rattle.std.specs.Prelude.{◌≡◌, ◌<◌, length, MatchResult, MatchOption, Ok, Err};
-ghost use Rattle.lvm_parse.specs.Reading.{is_new, options};
+ghost use Rattle.lvm_operands.specs.Reading.{is_new, options};
 ghost use Rattle.lvm_parse.specs.Grammar.{mkvg_choice, no_mkvg_options, mklv_choice, no_mklv_options};
-ghost use Rattle.lvm_parse.specs.Rests.{left, ReadsOption, ReadsOptions};
+ghost use Rattle.lvm_operands.specs.Rests.{left, ReadsOption, ReadsOptions};
 
 use crate::chosen::{MklvOptions, MkvgOptions};
-use crate::operands::{copies, mode, name, policy, size};
-use crate::rest::{Misfit, Rest};
-use crate::scan::next_word;
+use lvm_operands::{Misfit, Rest, copies, mode, name, next_word, policy, size};
 
 // The word is this option, which didn't stand before.
-#[tactic(auto, unfolding(crate::specs::Reading::is_new))]
+#[tactic(auto, unfolding(lvm_operands::specs::Reading::is_new))]
 fn is_new(word: &[u8], name: &[u8], stood: bool) -> bool
     ensures { result ≡ is_new word.now name.now stood }
 {

@@ -1,19 +1,17 @@
 //! The lines of the language: each rule reads what follows the line's first word.
 ghost use Rattle.std.specs.Prelude.{◌≡◌};
 ghost use Rattle.lvm_parse.specs.Grammar.{rd, wr, fail, heal, lspv, cut, mkvg, varyonvg, varyoffvg, lsvg, mklv, rmlv, lslv};
-ghost use Rattle.lvm_parse.specs.Rests.{left, Answers};
+ghost use Rattle.lvm_operands.specs.Rests.{left};
+ghost use Rattle.lvm_parse.specs.Answering.{Answers};
 
 use crate::chosen::{MklvOptions, MkvgOptions};
 use crate::command::{Command, ParseFault};
-use crate::disks::disks;
-use crate::operands::{
-    count, disk, ends, last_disk, last_name, last_partitions, last_pattern, misfit, name,
-    next_column, number, option, pattern,
-};
 use crate::options::{mklv_options, mkvg_options};
-use crate::rest::{Misfit, Rest};
-use crate::scan::next_word;
 use lvm_num::{Policy, Rows};
+use lvm_operands::{
+    Misfit, Rest, count, disk, disks, ends, last_disk, last_name, last_partitions, last_pattern,
+    misfit, name, next_column, next_word, number, option, pattern,
+};
 use std::alloc::Global;
 
 /// `rd DISK BLOCK COUNT`

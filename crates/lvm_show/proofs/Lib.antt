@@ -3,6 +3,4 @@ pub mod Names
 pub mod Digits
 pub mod Appending
 pub mod Found
-pub mod FreeCount
 pub mod Rows
-pub mod Counting

@@ -2,7 +2,6 @@
 #![tactic(auto)]
 
 mod block;
-mod counts;
 mod group;
 mod map;
 mod member;

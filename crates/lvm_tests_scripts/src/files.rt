@@ -1,8 +1,9 @@
 // The program over image files of the folder in which the test runs.
 
 use crate::outside::{sink, source, texts};
+use lvm_image::ImageSink;
 use lvm_io::MemClock;
-use lvm_lane::{FileShelf, ImageSink};
+use lvm_lane::FileShelf;
 use lvm_top::run_words;
 use std::fs;
 use std::fs::File;

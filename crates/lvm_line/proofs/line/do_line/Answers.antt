@@ -1,6 +1,6 @@
 use Rattle.std.proofs.Common.{◌≡◌, ◌∙◌, ap, refl, None, Some, Ok, Option}
 use Rattle.lvm_parse.specs.declared.command.Command.{Command}
-use Rattle.lvm_parse.specs.Reading.{misfit}
+use Rattle.lvm_operands.specs.Reading.{misfit}
 use Rattle.lvm_line.specs.Stages.{shelf_in, history_in, state_in}
 use Rattle.lvm_line.specs.State.{without_facts}
 use Rattle.lvm_line.specs.declared.reply.Refusal.TheVariants as refusal

@@ -1,7 +1,7 @@
 use Rattle.std.proofs.Common.{◌≡◌, length}
-use Rattle.lvm_parse.specs.Reading.{options}
+use Rattle.lvm_operands.specs.Reading.{options}
 use Rattle.lvm_parse.specs.Grammar.{mkvg_choice}
-use Rattle.lvm_parse.specs.Rests.{left}
+use Rattle.lvm_operands.specs.Rests.{left}
 use Rattle.lvm_parse.proofs.options.mkvg_options.Given as goal
 
 abbrev pub invariant-options : goal.invariant-options

@@ -1,0 +1,2 @@
+mod FreeCount
+mod Counting

@@ -1,0 +1,15 @@
+//! Image files of the current folder: one that is read and written sector by sector, and a sink that makes
+//! new ones. Here the program meets real files; no clause says what they hold.
+#![tactic(auto)]
+
+mod exclusive;
+mod image;
+mod name;
+mod read_buffer;
+mod sink;
+
+pub use exclusive::Exclusive;
+pub use image::{Image, ImageFault, has_image};
+pub use name::image_name;
+pub use read_buffer::ReadBuffer;
+pub use sink::ImageSink;

@@ -1,0 +1,4 @@
+pub mod Numbers
+pub mod ManyWords
+pub mod NextWord
+pub mod Scanning

@@ -1,0 +1,11 @@
+use Rattle.std.proofs.Common.{Err, ap, sym, ◌∙◌}
+use Rattle.lvm_operands.specs.Words.{policy_in}
+use Rattle.lvm_operands.specs.Rests.{left, word_at}
+use Rattle.lvm_operands.proofs.NextWord.{operand_fits, operand_misfits}
+use Rattle.lvm_operands.proofs.operands.policy.Goals as goal
+
+pub returns-in-Some : goal.returns-in-Some
+returns-in-Some c = operand_fits policy_in (left c.args.rest) (word_at c.in_ok-word.word) (left c.in_ok-word.rest) c.in-Some.policy c.in_ok-word.ensures (sym c.in-Some.ensures)
+
+pub returns-in-None : goal.returns-in-None
+returns-in-None c = operand_misfits policy_in (left c.args.rest) (word_at c.in_ok-word.word) (left c.in_ok-word.rest) c.in_ok-word.ensures (sym c.in-None.ensures) ∙ sym (ap Err c.misfit.ensures)

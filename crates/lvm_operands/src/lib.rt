@@ -1,0 +1,18 @@
+//! The words of a line, read from the left: what a single word means, and the next operand of a line, or
+//! the column at which it doesn't fit.
+#![tactic(auto)]
+
+mod disk_list;
+mod operands;
+mod rest;
+mod scan;
+mod words;
+
+pub use disk_list::disks;
+pub use operands::{
+    copies, count, disk, ends, last_disk, last_name, last_partitions, last_pattern, misfit, mode,
+    name, next_column, number, option, partitions, pattern, policy, size,
+};
+pub use rest::{Misfit, Rest, Word};
+pub use scan::{is_remark, next_word, unreadable_at};
+pub use words::number_of;

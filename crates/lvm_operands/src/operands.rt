@@ -1,0 +1,222 @@
+//! The next word of a line: an operand, an option that stands alone, or none.
+ghost use Rattle.std.specs.Prelude.{◌≡◌, [], MatchResult};
+ghost use Rattle.lvm_operands.specs.Words.{disk_in, number_in, count_in, word_in, name_in, partitions_in, size_in, copies_in, mode_in, policy_in};
+ghost use Rattle.lvm_operands.specs.Reading.{next_column, operand, option, ends, last};
+ghost use Rattle.lvm_operands.specs.Rests.{left, word_at, with_word, Reads};
+
+use crate::rest::{Misfit, Rest, Word};
+use crate::scan::next_word;
+use crate::words::{
+    copies_of, count_of, disk_of, hex_word, mode_of, name_of, number_of, partitions_of, policy_of,
+    size_of,
+};
+use lvm_num::{Mode, Name, Policy};
+
+/// The words from a column on don't fit.
+pub fn misfit(column: u32) -> Misfit
+    ensures { result ≡ record { column = column } }
+{
+    Misfit { column }
+}
+
+/// The next word and what follows it.
+pub fn word(rest: Rest<'_>) -> Result<(Word<'_>, Rest<'_>), Misfit>
+    ensures { MatchResult result (λ r. left rest.entry ≡ with_word (word_at r.0) (left r.1)) (λ misfit. ((left rest.entry).words ≡ []) × (misfit ≡ record { column = (left rest.entry).end })) }
+{
+    match next_word(rest) {
+        Some(split) => Ok(split),
+        None => Err(misfit(rest.end())),
+    }
+}
+
+/// DISK: the number of a disk.
+#[tactic(auto, using(crate::proofs::NextWord::operand_lacks))]
+pub fn disk(rest: Rest<'_>) -> Result<(u16, Rest<'_>), Misfit>
+    ensures { Reads (operand disk_in (left rest.entry)) result }
+{
+    let (word, rest) = word(rest)?;
+    match disk_of(word.bytes) {
+        Some(disk) => Ok((disk, rest)),
+        None => Err(misfit(word.column)),
+    }
+}
+
+/// BLOCK: a number.
+#[tactic(auto, using(crate::proofs::NextWord::operand_lacks))]
+pub fn number(rest: Rest<'_>) -> Result<(u64, Rest<'_>), Misfit>
+    ensures { Reads (operand number_in (left rest.entry)) result }
+{
+    let (word, rest) = word(rest)?;
+    match number_of(word.bytes) {
+        Some(number) => Ok((number, rest)),
+        None => Err(misfit(word.column)),
+    }
+}
+
+/// COUNT: how many blocks.
+#[tactic(auto, using(crate::proofs::NextWord::operand_lacks))]
+pub fn count(rest: Rest<'_>) -> Result<(u32, Rest<'_>), Misfit>
+    ensures { Reads (operand count_in (left rest.entry)) result }
+{
+    let (word, rest) = word(rest)?;
+    match count_of(word.bytes) {
+        Some(count) => Ok((count, rest)),
+        None => Err(misfit(word.column)),
+    }
+}
+
+/// WORD: what blocks are filled with, or which sectors a cut keeps.
+#[tactic(auto, using(crate::proofs::NextWord::operand_lacks))]
+pub fn pattern(rest: Rest<'_>) -> Result<(u64, Rest<'_>), Misfit>
+    ensures { Reads (operand word_in (left rest.entry)) result }
+{
+    let (word, rest) = word(rest)?;
+    match hex_word(word.bytes) {
+        Some(pattern) => Ok((pattern, rest)),
+        None => Err(misfit(word.column)),
+    }
+}
+
+/// NAME: the name of a group or of a volume.
+#[tactic(auto, using(crate::proofs::NextWord::operand_lacks))]
+pub fn name(rest: Rest<'_>) -> Result<(Name, Rest<'_>), Misfit>
+    ensures { Reads (operand name_in (left rest.entry)) result }
+{
+    let (word, rest) = word(rest)?;
+    match name_of(word.bytes) {
+        Some(name) => Ok((name, rest)),
+        None => Err(misfit(word.column)),
+    }
+}
+
+/// LPS: how many logical partitions.
+#[tactic(auto, using(crate::proofs::NextWord::operand_lacks))]
+pub fn partitions(rest: Rest<'_>) -> Result<(u32, Rest<'_>), Misfit>
+    ensures { Reads (operand partitions_in (left rest.entry)) result }
+{
+    let (word, rest) = word(rest)?;
+    match partitions_of(word.bytes) {
+        Some(partitions) => Ok((partitions, rest)),
+        None => Err(misfit(word.column)),
+    }
+}
+
+/// MIB: the size of a partition.
+#[tactic(auto, using(crate::proofs::NextWord::operand_lacks))]
+pub fn size(rest: Rest<'_>) -> Result<(u16, Rest<'_>), Misfit>
+    ensures { Reads (operand size_in (left rest.entry)) result }
+{
+    let (word, rest) = word(rest)?;
+    match size_of(word.bytes) {
+        Some(size) => Ok((size, rest)),
+        None => Err(misfit(word.column)),
+    }
+}
+
+/// N: how many copies.
+#[tactic(auto, using(crate::proofs::NextWord::operand_lacks))]
+pub fn copies(rest: Rest<'_>) -> Result<(u8, Rest<'_>), Misfit>
+    ensures { Reads (operand copies_in (left rest.entry)) result }
+{
+    let (word, rest) = word(rest)?;
+    match copies_of(word.bytes) {
+        Some(copies) => Ok((copies, rest)),
+        None => Err(misfit(word.column)),
+    }
+}
+
+/// The mode of a volume.
+#[tactic(auto, using(crate::proofs::NextWord::operand_lacks))]
+pub fn mode(rest: Rest<'_>) -> Result<(Mode, Rest<'_>), Misfit>
+    ensures { Reads (operand mode_in (left rest.entry)) result }
+{
+    let (word, rest) = word(rest)?;
+    match mode_of(word.bytes) {
+        Some(mode) => Ok((mode, rest)),
+        None => Err(misfit(word.column)),
+    }
+}
+
+/// The policy of a volume.
+#[tactic(auto, using(crate::proofs::NextWord::operand_lacks))]
+pub fn policy(rest: Rest<'_>) -> Result<(Policy, Rest<'_>), Misfit>
+    ensures { Reads (operand policy_in (left rest.entry)) result }
+{
+    let (word, rest) = word(rest)?;
+    match policy_of(word.bytes) {
+        Some(policy) => Ok((policy, rest)),
+        None => Err(misfit(word.column)),
+    }
+}
+
+/// Whether this option is the next word, and what follows it.
+#[tactic(auto, using(crate::proofs::NextWord::option_lacks))]
+pub fn option<'a>(rest: Rest<'a>, name: &[u8]) -> (bool, Rest<'a>)
+    ensures { (result.0, left result.1) ≡ option name.now (left rest.entry) }
+{
+    match next_word(rest) {
+        Some((word, behind)) => {
+            if word.bytes == name {
+                (true, behind)
+            } else {
+                (false, rest)
+            }
+        }
+        None => (false, rest),
+    }
+}
+
+/// The line ends here, so that it is this.
+#[tactic(auto, using(crate::proofs::NextWord::ends_here))]
+pub fn ends<T: Drop>(rest: Rest<'_>, value: T) -> Result<T, Misfit>
+    ensures { result ≡ ends (left rest.entry) value }
+{
+    match next_word(rest) {
+        None => Ok(value),
+        Some((word, _)) => Err(misfit(word.column)),
+    }
+}
+
+/// DISK, and the line ends.
+pub fn last_disk(rest: Rest<'_>) -> Result<u16, Misfit>
+    ensures { result ≡ last disk_in (left rest.entry) }
+{
+    let (disk, rest) = disk(rest)?;
+    ends(rest, disk)
+}
+
+/// NAME, and the line ends.
+pub fn last_name(rest: Rest<'_>) -> Result<Name, Misfit>
+    ensures { result ≡ last name_in (left rest.entry) }
+{
+    match name(rest) {
+        Ok((name, rest)) => ends(rest, name),
+        Err(misfit) => Err(misfit),
+    }
+}
+
+/// LPS, and the line ends.
+pub fn last_partitions(rest: Rest<'_>) -> Result<u32, Misfit>
+    ensures { result ≡ last partitions_in (left rest.entry) }
+{
+    let (partitions, rest) = partitions(rest)?;
+    ends(rest, partitions)
+}
+
+/// WORD, and the line ends.
+pub fn last_pattern(rest: Rest<'_>) -> Result<u64, Misfit>
+    ensures { result ≡ last word_in (left rest.entry) }
+{
+    let (pattern, rest) = pattern(rest)?;
+    ends(rest, pattern)
+}
+
+/// The column of the next word, or behind the line where none is left.
+pub fn next_column(rest: Rest<'_>) -> u32
+    ensures { result ≡ next_column (left rest.entry) }
+{
+    match next_word(rest) {
+        Some((word, _)) => word.column,
+        None => rest.end(),
+    }
+}
