@@ -53,7 +53,7 @@ impl Plan {
         let targets = set_of(disks);
         let descriptor = descriptor_of(alloc, shelf, name, mib, disks, moment)?;
         let status = status_of(alloc, targets, moment)?;
-        let descriptor_bytes = lvm_vgda::encode(alloc, &descriptor)?;
+        let descriptor_bytes = lvm_spelling::encode(alloc, &descriptor)?;
         let status_bytes = lvm_vgsa::encode(alloc, &status)?;
         let choice = Choice {
             descriptor,

@@ -378,7 +378,7 @@ fn content_of(rt: &(impl Abort + AllocGlobal), d: &Descriptor) -> Rows<u8>
     if !d.is_valid() {
         panic!(rt; "no group");
     }
-    let content = lvm_vgda::encode(rt.alloc(), d).expect(rt, "memory");
+    let content = lvm_spelling::encode(rt.alloc(), d).expect(rt, "memory");
     assert!(rt; content.len() <= 571_388);
     content
 }

@@ -180,7 +180,7 @@ pub fn status(rt: &(impl Abort + AllocGlobal), id: u64, count: u16) -> Status {
 
 fn descriptor_bytes(rt: &(impl Abort + AllocGlobal), group: &Descriptor) -> Rows<u8> {
     assert!(rt; group.is_valid());
-    lvm_vgda::encode(rt.alloc(), group).expect(rt, "memory")
+    lvm_spelling::encode(rt.alloc(), group).expect(rt, "memory")
 }
 
 fn status_bytes(rt: &(impl Abort + AllocGlobal), status: &Status) -> Rows<u8> {

@@ -357,7 +357,7 @@ fn record(rt: &(impl Abort + AllocGlobal), kind: Kind, stamp: Stamp, content: &[
 fn descriptor_content(rt: &(impl Abort + AllocGlobal), id: u64, stamp: Stamp) -> Rows<u8> {
     let group = group(rt, 2, id, stamp);
     assert!(rt; group.is_valid());
-    lvm_vgda::encode(rt.alloc(), &group).expect(rt, "memory")
+    lvm_spelling::encode(rt.alloc(), &group).expect(rt, "memory")
 }
 
 fn status_content(rt: &(impl Abort + AllocGlobal), id: u64, stamp: Stamp) -> Rows<u8> {

@@ -1,6 +1,7 @@
 use crate::fixtures::{Member, check, check_at, group, members};
 use lvm_num::{Descriptor, LvRow, Mode, Name, Policy, Pp, PvRow, Rows};
-use lvm_vgda::{VgdaFault, decode, encode};
+use lvm_spelling::encode;
+use lvm_vgda::{VgdaFault, decode};
 use std::process::Abort;
 
 // A group of three disks without a volume.

@@ -80,7 +80,7 @@ fn plan_for(alloc: Global, choice: Choice, homes: Homes, room: Room) -> Result<P
     ensures { IfOk result (IsPlanFor choice homes room) }
 {
     let next = next_status(alloc, &choice.descriptor, &choice.status, choice.answering)?;
-    let descriptor = lvm_vgda::encode(alloc, &choice.descriptor)?;
+    let descriptor = lvm_spelling::encode(alloc, &choice.descriptor)?;
     let status = lvm_vgsa::encode(alloc, &next)?;
     let forget = !has_active(&choice.descriptor);
     let Choice {

@@ -5,9 +5,9 @@ use Rattle.lvm_num.specs.declared.descriptor.PvRow.{PvRow}
 use Rattle.lvm_num.specs.declared.descriptor.LvRow.{LvRow}
 use Rattle.lvm_num.specs.DescriptorBytes.{member_at, members_at, volume_at, volumes_at, partition_at, partitions_at}
 use Rattle.lvm_num.specs.Reading.{◌>>=◌, Rest}
-use Rattle.lvm_vgda.specs.declared.fault.Fault.{Fault}
-use Rattle.lvm_vgda.specs.declared.fault.Fault.TheVariants as faults
-use Rattle.lvm_vgda.specs.Reading.{Fails}
+use Rattle.lvm_fields.specs.declared.fault.Fault.{Fault}
+use Rattle.lvm_fields.specs.declared.fault.Fault.TheVariants as faults
+use Rattle.lvm_fields.specs.Reading.{Fails}
 
 -- how many items are read by how one is
 pub record Repeats (X : Type 0) (step : List X → Rest → Result (X × Rest) ℕ) (run : ℕ → List X → Rest → Result (List X × Rest) ℕ) : Type 0 where

@@ -8,8 +8,7 @@ use Rattle.lvm_num.specs.declared.descriptor.Mode.{Mode}
 use Rattle.lvm_num.specs.declared.descriptor.Policy.{Policy}
 use Rattle.lvm_num.specs.declared.descriptor.Descriptor.{Descriptor}
 use Rattle.lvm_num.specs.Descriptor.{is_size, most_volumes}
-use Rattle.lvm_num.specs.Name.{padded}
-use Rattle.lvm_num.specs.DescriptorBytes.{flag, descriptor_magic, member_bytes, volume_bytes, partition_bytes, is_flag, mode_named, policy_named, name_at, version_at, member_count_at, members_at, volumes_at, maps_at}
+use Rattle.lvm_num.specs.DescriptorBytes.{is_flag, mode_named, policy_named, name_at, version_at, member_count_at, members_at, volumes_at, maps_at}
 use Rattle.lvm_num.specs.Reading.{◌>>=◌, Rest, number_at, zeros_at, end_at}
 
 -- whether the group is big, and its id
@@ -77,13 +76,3 @@ volume_by_parts big earlier rest = do
   name ← name_at (λ bytes. not (list_any (λ row. bytes_eq row.name bytes) earlier)) lps.1
   after ← zeros_at 4 name.1
   Ok (record { number = begin.0.0; name = name.0; copies = begin.0.1; mode = ways.0.0; policy = ways.0.1; lps = lps.0; map = [] }, after)
-
--- the bytes of a descriptor before its rows
-abbrev pub head_bytes : Descriptor → List ℕ
-head_bytes d =
-    descriptor_magic d.big ++ to_be_bytes w64 d.id ++ padded d.name ++ to_be_bytes w16 d.mib ++ flag d.quorum ∷ flag d.even ∷ []
-    ++ to_be_bytes w16 (length d.pvs) ++ to_be_bytes w16 (length d.lvs) ++ replicate 12 0
-
--- the bytes of the rows, and then those of the partitions
-abbrev pub row_bytes : Descriptor → List ℕ
-row_bytes d = flat_map member_bytes d.pvs ++ flat_map volume_bytes d.lvs ++ flat_map (λ row. flat_map partition_bytes row.map) d.lvs

@@ -8,12 +8,12 @@ ghost use Rattle.lvm_num.specs.Name.{unpadded};
 ghost use Rattle.lvm_num.specs.Descriptor.{is_size, most_members, most_volumes};
 ghost use Rattle.lvm_num.specs.DescriptorBytes.{is_name_field, name_at, version_at, member_count_at};
 ghost use Rattle.lvm_num.specs.Reading.{number_at};
-ghost use Rattle.lvm_vgda.specs.Reading.{Gives, rest_of, skipped};
+ghost use Rattle.lvm_fields.specs.Reading.{Gives, rest_of, skipped};
 ghost use Rattle.lvm_vgda.specs.Parts.{begin_at, rules_at, counts_at};
 
-use crate::fault::Fault;
-use crate::fields::{bytes_at, u8_up_to, u16_at, u16_from_1, u16_up_to, u64_at, zeros_at};
-use crate::unread::Unread;
+use lvm_fields::{
+    Fault, Unread, bytes_at, u8_up_to, u16_at, u16_from_1, u16_up_to, u64_at, zeros_at,
+};
 use lvm_num::{LvRow, Name};
 
 const SIZES: [u16; 11] = [1, 2, 4, 8, 16, 32, 64, 128, 256, 512, 1024];

@@ -8,14 +8,12 @@ ghost use Rattle.lvm_num.specs.declared.descriptor.LvRow.{LvRow};
 ghost use Rattle.lvm_num.specs.Descriptor.{IsMember};
 ghost use Rattle.lvm_num.specs.DescriptorBytes.{unfinished, is_at, partition_at, partitions_at, maps_at};
 ghost use Rattle.lvm_num.specs.Reading.{number_at};
-ghost use Rattle.lvm_vgda.specs.Reading.{Gives, rest_of};
+ghost use Rattle.lvm_fields.specs.Reading.{Gives, rest_of};
 ghost use Rattle.lvm_vgda.specs.Used.{Uses, is_free, free_at};
 
-use crate::fault::Fault;
-use crate::fields::u16_at;
 use crate::rows::has_member;
-use crate::unread::Unread;
 use crate::used::UsedPps;
+use lvm_fields::{Fault, Unread, u16_at};
 use lvm_num::{LvRow, Pp, PvRow, Rows};
 use std::alloc::Global;
 

@@ -2,15 +2,15 @@
 ghost use Rattle.std.specs.Prelude.{IfOk, Ok};
 ghost use Rattle.lvm_num.specs.declared.descriptor.Descriptor.{Descriptor as descriptor};
 ghost use Rattle.lvm_num.specs.DescriptorBytes.{IsDescriptor, descriptor_of};
-ghost use Rattle.lvm_vgda.specs.Reading.{Gives, Answers, rest_of};
+ghost use Rattle.lvm_fields.specs.Reading.{Gives, rest_of};
+ghost use Rattle.lvm_vgda.specs.Reading.{Answers};
 ghost use Rattle.lvm_vgda.specs.Parts.{descriptor_by_parts, rows_at};
 
-use crate::fault::{Fault, VgdaFault};
-use crate::fields::{all, behind};
+use crate::fault::VgdaFault;
 use crate::head::{begin_at, counts_at, name_at, rules_at};
 use crate::maps::maps_at;
 use crate::rows::{members_at, volumes_at};
-use crate::unread::Unread;
+use lvm_fields::{Fault, Unread, all, behind};
 use lvm_num::{Descriptor, LvRow, PvRow, Rows};
 use std::alloc::Global;
 

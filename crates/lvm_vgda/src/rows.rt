@@ -7,13 +7,13 @@ ghost use Rattle.lvm_num.specs.declared.descriptor.LvRow.{LvRow};
 ghost use Rattle.lvm_num.specs.Descriptor.{most_volumes};
 ghost use Rattle.lvm_num.specs.DescriptorBytes.{mode_named, policy_named, member_at, members_at, volumes_at};
 ghost use Rattle.lvm_num.specs.Reading.{number_at};
-ghost use Rattle.lvm_vgda.specs.Reading.{Gives, rest_of};
+ghost use Rattle.lvm_fields.specs.Reading.{Gives, rest_of};
 ghost use Rattle.lvm_vgda.specs.Parts.{number_and_copies_at, mode_and_policy_at, volume_by_parts};
 
-use crate::fault::Fault;
-use crate::fields::{behind, u8_from_1, u8_up_to, u16_at, u16_from_1, u32_at, zeros_at};
 use crate::head::{most_volumes, name_at};
-use crate::unread::Unread;
+use lvm_fields::{
+    Fault, Unread, behind, u8_from_1, u8_up_to, u16_at, u16_from_1, u32_at, zeros_at,
+};
 use lvm_num::{LvRow, Mode, Policy, PvRow, Rows};
 use std::alloc::Global;
 

@@ -2,7 +2,7 @@ use Rattle.std.proofs.Common.{◌≡◌, [], List, Ok, subst}
 use Rattle.std.proofs.lemmas.Result.{err_from_is_err_and}
 use Rattle.lvm_num.specs.declared.descriptor.PvRow.{PvRow}
 use Rattle.lvm_num.specs.DescriptorBytes.{member_at, members_at}
-use Rattle.lvm_vgda.specs.Reading.{rest_of, Fails}
+use Rattle.lvm_fields.specs.Reading.{rest_of, Fails}
 use Rattle.lvm_vgda.proofs.Loops.{goes_on, ends, is_done, members_repeat}
 use Rattle.lvm_vgda.proofs.rows.members_at.Goals as goal
 

@@ -1,6 +1,6 @@
 use Rattle.std.proofs.Common.{◌≡◌, ◌-◌, []}
 use Rattle.lvm_num.specs.DescriptorBytes.{members_at}
-use Rattle.lvm_vgda.specs.Reading.{rest_of}
+use Rattle.lvm_fields.specs.Reading.{rest_of}
 use Rattle.lvm_vgda.proofs.rows.members_at.Given as goal
 
 abbrev pub invariant-loop : goal.invariant-loop

@@ -3,7 +3,7 @@ use Rattle.std.proofs.lemmas.Result.{err_from_is_err_and}
 use Rattle.lvm_num.specs.declared.descriptor.LvRow.{LvRow}
 use Rattle.lvm_num.specs.DescriptorBytes.{volume_at, volumes_at}
 use Rattle.lvm_num.specs.Reading.{Rest}
-use Rattle.lvm_vgda.specs.Reading.{rest_of, Fails}
+use Rattle.lvm_fields.specs.Reading.{rest_of, Fails}
 use Rattle.lvm_vgda.specs.Parts.{volume_by_parts}
 use Rattle.lvm_vgda.proofs.Loops.{goes_on, ends, is_done, volumes_repeat}
 use Rattle.lvm_vgda.proofs.PartLaws.{volume_is}

@@ -5,7 +5,7 @@ ghost use Rattle.lvm_num.specs.declared.descriptor.LvRow.{LvRow};
 ghost use Rattle.lvm_num.specs.Name.{padded};
 ghost use Rattle.lvm_num.specs.Descriptor.{IsValid};
 ghost use Rattle.lvm_num.specs.DescriptorBytes.{flag, mode_code, policy_code, descriptor_magic, member_bytes, volume_bytes, partition_bytes, descriptor_bytes};
-ghost use Rattle.lvm_vgda.specs.Parts.{head_bytes, row_bytes};
+ghost use Rattle.lvm_spelling.specs.Parts.{head_bytes, row_bytes};
 
 use byteorder::{BigEndian, ByteOrder};
 use lvm_num::{Descriptor, LvRow, Memory, Mode, Policy, Pp, PvRow, Rows};

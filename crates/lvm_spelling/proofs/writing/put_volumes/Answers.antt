@@ -1,6 +1,6 @@
 use Rattle.lvm_num.specs.DescriptorBytes.{volume_bytes}
-use Rattle.lvm_vgda.proofs.Pieces.{written-more}
-use Rattle.lvm_vgda.proofs.writing.put_volumes.Goals as goal
+use Rattle.lvm_spelling.proofs.Pieces.{written-more}
+use Rattle.lvm_spelling.proofs.writing.put_volumes.Goals as goal
 
 pub loop-row-preserved : goal.loop-row-preserved
 loop-row-preserved c =

@@ -3,7 +3,7 @@ ghost use Rattle.std.specs.Prelude.{◌≡◌, ℕ, true, ◌≤◌, ◌==◌, �
 ghost use Rattle.std.specs.List.{list_all};
 ghost use Rattle.std.specs.Int.{w8, w16, w32, w64};
 ghost use Rattle.lvm_num.specs.Reading.{bytes_at, number_at, zeros_at};
-ghost use Rattle.lvm_vgda.specs.Reading.{Gives, rest_of, skipped};
+ghost use Rattle.lvm_fields.specs.Reading.{Gives, rest_of, skipped};
 
 use crate::fault::Fault;
 use crate::unread::Unread;

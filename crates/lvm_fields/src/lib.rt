@@ -1,0 +1,14 @@
+//! Fields that are read from the front of some bytes, each with its rule, and the place of the first that
+//! doesn't fit.
+#![tactic(auto)]
+
+mod fault;
+mod fields;
+mod unread;
+
+pub use fault::Fault;
+pub use fields::{
+    all, behind, bytes_at, u8_at, u8_from_1, u8_up_to, u16_at, u16_from_1, u16_up_to, u32_at,
+    u64_at, zeros_at,
+};
+pub use unread::Unread;

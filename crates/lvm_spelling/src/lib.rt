@@ -1,0 +1,6 @@
+//! The bytes of a descriptor, written.
+#![tactic(auto)]
+
+mod writing;
+
+pub use writing::encode;
