@@ -2,10 +2,10 @@
 use Rattle.std.proofs.Common.{◌≡◌, ◌<◌, ◌≤◌, [], ◌∷◌, ◌++◌, ℕ, List, Bool, true, length, sym, ◌∙◌, ap, subst, arith, length-append}
 use Rattle.lvm_num.specs.Buffer.{Sector}
 use Rattle.lvm_disk.specs.Device.{Flight}
-use Rattle.lvm_memory.specs.Media.{sizes_of}
+use Rattle.lvm_media.specs.Media.{sizes_of}
 use Rattle.lvm_flights.specs.Flights.{Lies, AllLie}
 use Rattle.lvm_flights.specs.Tally.{Tallied}
-use Rattle.lvm_memory.specs.Injection.{Injection}
+use Rattle.lvm_faults.specs.Injection.{Injection}
 use Rattle.lvm_memory.specs.Sound.{IsSound}
 use Rattle.lvm_flights.proofs.Starting.{lie_more}
 

@@ -1,10 +1,6 @@
-mod Acting
-mod GivingUp
+mod Beginning
 mod Darkening
 mod Departing
 mod Arriving
 mod Making
-mod Filling
-mod Laying
 mod Prompt
-mod Putting

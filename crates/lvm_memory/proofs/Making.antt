@@ -2,7 +2,7 @@
 use Rattle.std.proofs.Common.{◌≡◌, [], ◌∷◌, ◌++◌, ℕ, zero, suc, List, map, take, arith}
 use Rattle.lvm_num.specs.Buffer.{Sector}
 use Rattle.lvm_disk.specs.Device.{AreSectors}
-use Rattle.lvm_memory.specs.Media.{media_of, sizes_of, AllSectors}
+use Rattle.lvm_media.specs.Media.{media_of, sizes_of, AllSectors}
 
 -- the disks that were made so far, each from one of some items
 pub record MadeSoFar {X : Type 0} (f : X → List Sector) (items : List X) (disks : List (List Sector)) (i : ℕ) : Type 0 where

@@ -1,16 +1,14 @@
 //! A shelf of disks in memory, with faults by plan.
-ghost use Rattle.std.specs.Prelude.{◌≡◌, ◌≤◌, ◌++◌, [], ◌∷◌, length, map, replicate, vec_capacity, IfOk, OnOk};
+ghost use Rattle.std.specs.Prelude.{◌≡◌, ◌≤◌, ◌++◌, [], ◌∷◌, length, map, replicate, vec_capacity, Some, IfOk, OnOk};
 ghost use Rattle.lvm_disk.specs.Device.{AreSectors};
-ghost use Rattle.lvm_memory.specs.Media.{AllSectors, media_of, sizes_of, blank_disks_of, sectors_in};
+ghost use Rattle.lvm_media.specs.Media.{AllSectors, media_of, sizes_of, blank_disks_of, sectors_in};
 ghost use Rattle.lvm_flights.specs.Flights.{flights_of};
 ghost use Rattle.lvm_memory.specs.Sound.{IsSound};
 
-use crate::cutting::cut_flights;
-use crate::disk::Disk;
-use crate::injector::{Injector, Planned};
-use crate::row::{finish_flight, tear_flight};
 use lvm_disk::{Arrange, Reaped, Shelf, Started};
+use lvm_faults::{Injector, Planned};
 use lvm_flights::{Flying, Tally, WriteLog, first_due, free_ticket, pass_over, take_flight};
+use lvm_media::{Disk, cut_flights, finish_flight, tear_flight};
 use lvm_num::{Memory, Pbuf, Rows};
 use std::alloc::Global;
 
@@ -37,8 +35,8 @@ impl MemShelf {
     ghost use Rattle.std.specs.Prelude.{◌≡◌, ◌⊎◌, ◌<◌, ◌≤◌, ◌%◌, ◌==◌, true, false, [], length, map, replicate, slice_index_or, Some, None, IfOk};
     ghost use Rattle.std.specs.List.{All, flat_map, position};
     ghost use Rattle.lvm_disk.specs.Device.{AreSectors};
-    ghost use Rattle.lvm_memory.specs.Media.{media_of, sizes_of, blank_disks_of, sectors_in};
-    ghost use Rattle.lvm_memory.specs.Injection.{NamesDisks};
+    ghost use Rattle.lvm_media.specs.Media.{media_of, sizes_of, blank_disks_of, sectors_in};
+    ghost use Rattle.lvm_faults.specs.Injection.{NamesDisks};
     ghost use Rattle.lvm_memory.specs.Memory.{disks_of, device_of, bench_of};
     ghost use Rattle.lvm_disk.specs.Steps.{IsRange, Starts, StartGives, Waits, ReapGives};
     ghost use Rattle.lvm_memory.specs.Bench.{fresh_bench, with_plan, DarkensBy, Begins, Departs, StartsAsPlanned, Passes, ReapsThen, ReapsAsPlanned};
@@ -88,14 +86,17 @@ impl MemShelf {
         ensures disks { IfOk result (λ shelf. disks_of shelf ≡ disks.items) }
     {
         let count = disks.len();
+        let (flights, freed, log) = rooms(alloc, log)?;
+        let tally = Tally::new(alloc, count)?;
+        let injector = Injector::new(alloc, count, plan)?;
         Ok(MemShelf {
             disks,
-            flights: room(alloc)?,
-            freed: room(alloc)?,
+            flights,
+            freed,
             power: true,
-            tally: Tally::new(alloc, count)?,
-            injector: Injector::new(alloc, count, plan)?,
-            log: WriteLog::new(alloc, log)?,
+            tally,
+            injector,
+            log,
             orders: 0,
             last: None,
         })
@@ -336,6 +337,18 @@ impl Shelf for MemShelf {
         }
         true
     }
+}
+
+// Room for the transfers that are out, for the buffers that a cut gives up, and for the ranges of the log.
+fn rooms(alloc: Global, log: u32) -> Result<(Vec<Flying>, Vec<Pbuf>, WriteLog), Memory>
+    ensures flights { IfOk result (λ made. (made.0.items ≡ []) × (1024 ≤ vec_capacity made.0)) }
+    ensures freed { IfOk result (λ made. (made.1.items ≡ []) × (1024 ≤ vec_capacity made.1)) }
+    ensures log { IfOk result (λ made. made.2 ≡ record { wrote = Some []; room = log }) }
+{
+    let flights = room(alloc)?;
+    let freed = room(alloc)?;
+    let log = WriteLog::new(alloc, log)?;
+    Ok((flights, freed, log))
 }
 
 // Room for each transfer that may be out.

@@ -4,8 +4,8 @@ use crate::fault::Fault;
 use crate::outside::Outside;
 use crate::run::{Ran, Sizes, blank, judged, run};
 use crate::script::Script;
+use lvm_faults::{Act, Planned};
 use lvm_io::MemClock;
-use lvm_memory::{Act, Planned};
 use std::alloc::Global;
 use std::collections::BTreeSet;
 

@@ -4,7 +4,8 @@ use crate::fixtures::{
     name_of, row, stamp, status, survey,
 };
 use lvm_disk::Shelf;
-use lvm_memory::{Act, MemShelf, Planned};
+use lvm_faults::{Act, Planned};
+use lvm_memory::MemShelf;
 use lvm_num::Stamp;
 use lvm_quorum::{Choice, ChooseFault, choose};
 use lvm_survey::{Survey, SurveyRow};

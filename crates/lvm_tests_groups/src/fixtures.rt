@@ -9,7 +9,8 @@ ghost use Rattle.lvm_survey.specs.Surveyed.{IsSurveyValid};
 
 use lvm_begin::{Begun, begin_again, begin_new};
 use lvm_disk::Shelf;
-use lvm_memory::{MemShelf, Planned, names_disks};
+use lvm_faults::{Planned, names_disks};
+use lvm_memory::MemShelf;
 use lvm_move::{Patience, relight};
 use lvm_num::{
     Descriptor, DiskSet, LvRow, Mode, Name, Pbuf, Policy, Pp, PvRow, Rows, Stamp, Status,

@@ -2,7 +2,8 @@
 use crate::fixtures::{Begin, begin_first, blank_shelf, group, images_of, name_of, volume};
 use lvm_core::{Cause, Driver, Room};
 use lvm_disk::{Arrange, Shelf};
-use lvm_memory::{Act, MemShelf, Planned};
+use lvm_faults::{Act, Planned};
+use lvm_memory::MemShelf;
 use lvm_move::{Patience, relight};
 use lvm_num::Pp;
 use lvm_varyon::varyon;

@@ -6,7 +6,8 @@ ghost use Rattle.lvm_num.specs.Disks.{has};
 ghost use Rattle.lvm_quorum.specs.Written.{HasRoom};
 
 use lvm_disk::Shelf;
-use lvm_memory::{MemShelf, Planned, names_disks};
+use lvm_faults::{Planned, names_disks};
+use lvm_memory::MemShelf;
 use lvm_num::{Descriptor, DiskSet, Name, PvRow, Rows, Stamp, Status, StatusRow, VolumeNumbers};
 use std::process::Abort;
 

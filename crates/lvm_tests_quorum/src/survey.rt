@@ -1,7 +1,8 @@
 //! What the records of disks in memory are found to be.
 use crate::fixtures::{DATA, FIRST, LATER, NAMESAKE, NONE, group, image_shelf, status};
 use lvm_disk::Shelf;
-use lvm_memory::{Act, MemShelf, Planned};
+use lvm_faults::{Act, Planned};
+use lvm_memory::MemShelf;
 use lvm_move::{Patience, relight};
 use lvm_num::{Kind, Pbuf, Rows, Stamp};
 use lvm_rec::{frame, slot_sectors, write_note};

@@ -4,7 +4,7 @@ use Rattle.std.proofs.lemmas.List.{append-nil, replicate-append-replicate, get_o
 use Rattle.std.specs.Prelude.{slice_index_or}
 use Rattle.lvm_num.specs.Buffer.{Sector, zero_sector}
 use Rattle.lvm_disk.specs.Device.{Media, Device, image_of}
-use Rattle.lvm_memory.specs.Media.{media_of, sizes_of, blank_disks_of}
+use Rattle.lvm_media.specs.Media.{media_of, sizes_of, blank_disks_of}
 use Rattle.lvm_kept.specs.Changes.{IsBlank}
 use Rattle.lvm_change.specs.Moments.{IsEarlier}
 use Rattle.lvm_change.proofs.Zeros.{blank_is_earlier}

@@ -1,4 +1,4 @@
-use Rattle.lvm_memory.specs.Media.{sectors_in}
+use Rattle.lvm_media.specs.Media.{sectors_in}
 use Rattle.lvm_memory.proofs.Making.{MadeSoFar}
 use Rattle.lvm_memory.proofs.memory.image_disks.Given as goal
 

@@ -1,0 +1,4 @@
+mod Filling
+mod Putting
+pub mod Laying
+mod GivingUp

@@ -1,0 +1,5 @@
+use Rattle.lvm_media.proofs.Filling.{FillSoFar}
+use Rattle.lvm_media.proofs.disk.Disk.fill.Given as goal
+
+abbrev pub invariant-loop-i : goal.invariant-loop-i
+invariant-loop-i l = FillSoFar l.self-inside.sectors.items l.first l.count l.initial.buf l.buf l.i

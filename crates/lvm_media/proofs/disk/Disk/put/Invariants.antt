@@ -1,0 +1,6 @@
+use Rattle.std.proofs.Common.{true}
+use Rattle.lvm_media.proofs.Putting.{PutSoFar}
+use Rattle.lvm_media.proofs.disk.Disk.put.Given as goal
+
+abbrev pub invariant-loop-i : goal.invariant-loop-i
+invariant-loop-i l = PutSoFar (λ _. true) l.initial.self-inside.sectors.items l.self-inside.sectors.items l.buf.sectors l.first l.i

@@ -1,5 +1,0 @@
-use Rattle.lvm_memory.proofs.Filling.{FillSoFar}
-use Rattle.lvm_memory.proofs.disk.Disk.fill.Given as goal
-
-abbrev pub invariant-loop-i : goal.invariant-loop-i
-invariant-loop-i l = FillSoFar l.self-inside.sectors.items l.first l.count l.initial.buf l.buf l.i
