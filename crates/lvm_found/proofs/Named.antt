@@ -10,7 +10,7 @@ use Rattle.lvm_operands.specs.declared.rest.Misfit.{Misfit}
 use Rattle.lvm_parse.specs.Grammar.{line_of, line_of_words, readable, rule, rd, wr, cut_of, mkvg, mkvg_choice, no_mkvg_options, mklv, mklv_choice, no_mklv_options, lslv}
 use Rattle.lvm_operands.specs.Line.{WordAt, Left, left_at, unreadable_at, is_remark}
 use Rattle.lvm_operands.specs.Reading.{then_, or_misfit, operand, option, ends_of, ends, last, is_new, options, required, disks, next_column}
-use Rattle.lvm_operands.specs.Words.{number_in, count_in, size_in, name_in, disk_in, word_in, partitions_in}
+use Rattle.lvm_literals.specs.Words.{number_in, count_in, size_in, name_in, disk_in, word_in, partitions_in}
 use Rattle.lvm_line.proofs.Options.{mapped, Keeping, keeping_if, options_keep}
 
 -- what is said of a command: where it makes a group, the group has a name

@@ -16,7 +16,7 @@ use Rattle.lvm_operands.specs.declared.rest.Misfit.{Misfit}
 use Rattle.lvm_parse.specs.Grammar.{line_of, line_of_words, readable, rule, rd, wr, cut_of, mkvg, mkvg_choice, no_mkvg_options, mklv, mklv_choice, no_mklv_options, lslv}
 use Rattle.lvm_operands.specs.Line.{WordAt, Left, left_at, unreadable_at, is_remark}
 use Rattle.lvm_operands.specs.Reading.{then_, or_misfit, operand_of, operand, option, ends_of, ends, last, is_new, options, required, is_further, further_disk, disks_of, disks, next_column}
-use Rattle.lvm_operands.specs.Words.{only, number_in, number_within, count_in, size_in, name_in, disk_in, word_in, mode_in, partitions_in, copies_in, policy_in}
+use Rattle.lvm_literals.specs.Words.{only, number_in, number_within, count_in, size_in, name_in, disk_in, word_in, mode_in, partitions_in, copies_in, policy_in}
 use Rattle.lvm_line.specs.Lines.{IsWithin}
 use Rattle.lvm_line.proofs.Options.{mapped, Keeping, keeping_if, options_keep}
 

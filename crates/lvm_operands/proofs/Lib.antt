@@ -1,4 +1,3 @@
-pub mod Numbers
 pub mod ManyWords
 pub mod NextWord
 pub mod Scanning

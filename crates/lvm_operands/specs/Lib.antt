@@ -1,4 +1,3 @@
 pub mod Line
 pub mod Reading
 pub mod Rests
-pub mod Words

@@ -3,7 +3,7 @@ use Rattle.std.specs.Prelude.{ℕ, ◌==◌, nat_lt, Bool, true, false, ◌&&◌
 use Rattle.std.specs.List.{list_any}
 use Rattle.lvm_operands.specs.declared.rest.Misfit.{Misfit}
 use Rattle.lvm_operands.specs.Line.{WordAt, Left}
-use Rattle.lvm_operands.specs.Words.{only, disk_in}
+use Rattle.lvm_literals.specs.Words.{only, disk_in}
 
 -- the words from a column on don't fit
 abbrev pub misfit : {T : Type 0} → ℕ → Result T Misfit

@@ -1,12 +1,11 @@
-//! The words of a line, read from the left: what a single word means, and the next operand of a line, or
-//! the column at which it doesn't fit.
+//! The words of a line, read from the left: the next word with its column, and the next operand, or the
+//! column at which it doesn't fit.
 #![tactic(auto)]
 
 mod disk_list;
 mod operands;
 mod rest;
 mod scan;
-mod words;
 
 pub use disk_list::disks;
 pub use operands::{
@@ -15,4 +14,3 @@ pub use operands::{
 };
 pub use rest::{Misfit, Rest, Word};
 pub use scan::{is_remark, next_word, unreadable_at};
-pub use words::number_of;

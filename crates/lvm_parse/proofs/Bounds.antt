@@ -9,7 +9,7 @@ use Rattle.lvm_parse.specs.declared.command.Command.{Command}
 use Rattle.lvm_parse.specs.declared.command.Command.TheVariants as command
 use Rattle.lvm_operands.specs.declared.rest.Misfit.{Misfit}
 use Rattle.lvm_operands.specs.Line.{WordAt, Left, finished, words_from, left_at, is_plain, is_remark, too_long_or, unreadable_at}
-use Rattle.lvm_operands.specs.Words.{number_in, count_in, partitions_in, word_in, name_in, disk_in}
+use Rattle.lvm_literals.specs.Words.{number_in, count_in, partitions_in, word_in, name_in, disk_in}
 use Rattle.lvm_operands.specs.Reading.{misfit, then_, or_misfit, column_of, next_column, operand_of, operand, option_of, option, ends_of, ends, last, Choice, NoOption, Alone, Valued, options_of, options, required, further_disk, one_or_more, disks_of, disks}
 use Rattle.lvm_parse.specs.Grammar.{rd, wr, fail, heal, lspv, cut_of, cut, mkvg_choice, no_mkvg_options, mkvg, varyonvg, varyoffvg, lsvg, mklv_choice, no_mklv_options, mklv, rmlv, lslv, rule, line_of_words, readable, line_of}
 

@@ -4,7 +4,7 @@ use Rattle.std.specs.Prelude.{codes, is_some}
 use Rattle.std.specs.Option.{option_map}
 use Rattle.lvm_parse.specs.declared.chosen.MkvgOptions.{MkvgOptions}
 use Rattle.lvm_parse.specs.declared.chosen.MklvOptions.{MklvOptions}
-use Rattle.lvm_operands.specs.Words.{size_in, name_in, copies_in, mode_in, policy_in}
+use Rattle.lvm_literals.specs.Words.{size_in, name_in, copies_in, mode_in, policy_in}
 use Rattle.lvm_operands.specs.Reading.{NoOption, Alone, Valued, is_new}
 use Rattle.lvm_parse.specs.Grammar.{mkvg_choice, mklv_choice}
 

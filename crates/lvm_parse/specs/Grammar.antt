@@ -8,7 +8,7 @@ use Rattle.lvm_operands.specs.declared.rest.Misfit.{Misfit}
 use Rattle.lvm_parse.specs.declared.chosen.MkvgOptions.{MkvgOptions}
 use Rattle.lvm_parse.specs.declared.chosen.MklvOptions.{MklvOptions}
 use Rattle.lvm_operands.specs.Line.{WordAt, Left, left_at, unreadable_at, is_remark}
-use Rattle.lvm_operands.specs.Words.{number_in, count_in, partitions_in, copies_in, size_in, word_in, name_in, disk_in, mode_in, policy_in}
+use Rattle.lvm_literals.specs.Words.{number_in, count_in, partitions_in, copies_in, size_in, word_in, name_in, disk_in, mode_in, policy_in}
 use Rattle.lvm_operands.specs.Reading.{misfit, then_, next_column, operand, option, ends, last, Choice, NoOption, Alone, Valued, is_new, options, required, disks}
 
 -- ---- disks

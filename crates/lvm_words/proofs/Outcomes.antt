@@ -10,7 +10,7 @@ use Rattle.clap.specs.ValueTests.{accepts}
 use Rattle.clap.specs.Words.{Kinds, Text, fault_of, subcommand_of}
 use Rattle.clap.specs.declared.error.kind.ErrorKind.TheVariants as kind
 use Rattle.clap.proofs.OnLiterals.{clap_on_literals}
-use Rattle.lvm_operands.specs.Words.{number_in}
+use Rattle.lvm_literals.specs.Words.{number_in}
 use Rattle.lvm_words.specs.CommandLine.{is_plain, is_signed, lvm_app, script_app}
 use Rattle.lvm_words.specs.Matched.{job_matched, with_both}
 use Rattle.lvm_words.specs.Words.{IsWithin, image_of, work_of, sim_of, with_two}

@@ -1,5 +1,5 @@
 use Rattle.std.proofs.Common.{Err, ap, sym, ◌∙◌}
-use Rattle.lvm_operands.specs.Words.{number_in}
+use Rattle.lvm_literals.specs.Words.{number_in}
 use Rattle.lvm_operands.specs.Rests.{left, word_at}
 use Rattle.lvm_operands.proofs.NextWord.{operand_fits, operand_misfits}
 use Rattle.lvm_operands.proofs.operands.number.Goals as goal

@@ -1,5 +1,5 @@
 use Rattle.std.proofs.Common.{Err, ap, sym, ◌∙◌}
-use Rattle.lvm_operands.specs.Words.{policy_in}
+use Rattle.lvm_literals.specs.Words.{policy_in}
 use Rattle.lvm_operands.specs.Rests.{left, word_at}
 use Rattle.lvm_operands.proofs.NextWord.{operand_fits, operand_misfits}
 use Rattle.lvm_operands.proofs.operands.policy.Goals as goal

@@ -1,6 +1,6 @@
 use Rattle.std.proofs.Common.{rules, ◌≡◌, true, false, Some, refl, ap, sym, ◌∙◌}
 use Rattle.std.specs.Prelude.{codes, is_some}
-use Rattle.lvm_operands.specs.Words.{name_in, size_in}
+use Rattle.lvm_literals.specs.Words.{name_in, size_in}
 use Rattle.lvm_operands.specs.Reading.{is_new}
 use Rattle.lvm_parse.specs.Grammar.{mkvg_choice}
 use Rattle.lvm_operands.specs.Rests.{left, word_at}
