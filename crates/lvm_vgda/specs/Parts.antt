@@ -1,7 +1,7 @@
 -- A descriptor and its rows, read part by part.
-use Rattle.std.specs.Prelude.{ℕ, Bool, true, not, nat_le, ◌==◌, List, [], ◌&&◌, nat_lt, bytes_eq, Result, Ok, ◌++◌, ◌∷◌, length, replicate, flat_map}
+use Rattle.std.specs.Prelude.{ℕ, Bool, true, not, nat_le, ◌==◌, List, [], ◌&&◌, nat_lt, bytes_eq, Result, Ok}
 use Rattle.std.specs.List.{list_any, list_all}
-use Rattle.std.specs.Int.{w8, w16, w32, w64, to_be_bytes}
+use Rattle.std.specs.Int.{w8, w16, w32, w64}
 use Rattle.lvm_num.specs.declared.descriptor.PvRow.{PvRow}
 use Rattle.lvm_num.specs.declared.descriptor.LvRow.{LvRow}
 use Rattle.lvm_num.specs.declared.descriptor.Mode.{Mode}

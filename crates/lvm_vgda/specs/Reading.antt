@@ -1,5 +1,5 @@
 -- What reading a descriptor answers.
-use Rattle.std.specs.Prelude.{◌≡◌, ℕ, ◌+◌, drop, Result, Ok, Err}
+use Rattle.std.specs.Prelude.{◌≡◌, ℕ, Result, Ok, Err}
 use Rattle.lvm_vgda.specs.declared.fault.VgdaFault.{VgdaFault}
 use Rattle.lvm_vgda.specs.declared.fault.VgdaFault.TheVariants as refusals
 
