@@ -1,4 +1,3 @@
 pub mod Reading
-pub mod Parts
 pub mod Used
 pub mod Laws

@@ -2,11 +2,9 @@
 #![tactic(auto)]
 
 mod fault;
-mod head;
 mod laws;
 mod maps;
 mod reading;
-mod rows;
 mod used;
 
 pub use fault::VgdaFault;

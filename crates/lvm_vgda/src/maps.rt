@@ -11,8 +11,8 @@ ghost use Rattle.lvm_num.specs.Reading.{number_at};
 ghost use Rattle.lvm_fields.specs.Reading.{Gives, rest_of};
 ghost use Rattle.lvm_vgda.specs.Used.{Uses, is_free, free_at};
 
-use crate::rows::has_member;
 use crate::used::UsedPps;
+use lvm_descriptor::has_member;
 use lvm_fields::{Fault, Unread, u16_at};
 use lvm_num::{LvRow, Pp, PvRow, Rows};
 use std::alloc::Global;

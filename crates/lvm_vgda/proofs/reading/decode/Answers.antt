@@ -2,7 +2,7 @@ use Rattle.std.proofs.Common.{sym, ap, ◌∙◌, arith}
 use Rattle.lvm_num.specs.DescriptorBytes.{descriptor_of}
 use Rattle.lvm_vgda.proofs.FieldLaws.{ok_isnt}
 use Rattle.lvm_vgda.proofs.BoundLaws.{faults_are_near}
-use Rattle.lvm_vgda.proofs.PartLaws.{descriptor_is}
+use Rattle.lvm_descriptor.proofs.PartLaws.{descriptor_is}
 use Rattle.lvm_vgda.proofs.Whole.{spelled_is_read, read_is_spelled}
 use Rattle.lvm_vgda.proofs.reading.decode.Goals as goal
 

@@ -9,7 +9,7 @@ ghost use Rattle.lvm_num.specs.Descriptor.{is_size, most_members, most_volumes};
 ghost use Rattle.lvm_num.specs.DescriptorBytes.{is_name_field, name_at, version_at, member_count_at};
 ghost use Rattle.lvm_num.specs.Reading.{number_at};
 ghost use Rattle.lvm_fields.specs.Reading.{Gives, rest_of, skipped};
-ghost use Rattle.lvm_vgda.specs.Parts.{begin_at, rules_at, counts_at};
+ghost use Rattle.lvm_descriptor.specs.Parts.{begin_at, rules_at, counts_at};
 
 use lvm_fields::{
     Fault, Unread, bytes_at, u8_up_to, u16_at, u16_from_1, u16_up_to, u64_at, zeros_at,

@@ -8,7 +8,7 @@ ghost use Rattle.lvm_num.specs.Descriptor.{most_volumes};
 ghost use Rattle.lvm_num.specs.DescriptorBytes.{mode_named, policy_named, member_at, members_at, volumes_at};
 ghost use Rattle.lvm_num.specs.Reading.{number_at};
 ghost use Rattle.lvm_fields.specs.Reading.{Gives, rest_of};
-ghost use Rattle.lvm_vgda.specs.Parts.{number_and_copies_at, mode_and_policy_at, volume_by_parts};
+ghost use Rattle.lvm_descriptor.specs.Parts.{number_and_copies_at, mode_and_policy_at, volume_by_parts};
 
 use crate::head::{most_volumes, name_at};
 use lvm_fields::{

@@ -3,8 +3,8 @@ use Rattle.std.proofs.lemmas.Result.{err_from_is_err_and}
 use Rattle.lvm_num.specs.declared.descriptor.PvRow.{PvRow}
 use Rattle.lvm_num.specs.DescriptorBytes.{member_at, members_at}
 use Rattle.lvm_fields.specs.Reading.{rest_of, Fails}
-use Rattle.lvm_vgda.proofs.Loops.{goes_on, ends, is_done, members_repeat}
-use Rattle.lvm_vgda.proofs.rows.members_at.Goals as goal
+use Rattle.lvm_descriptor.proofs.Loops.{goes_on, ends, is_done, members_repeat}
+use Rattle.lvm_descriptor.proofs.rows.members_at.Goals as goal
 
 pub returns-in_err-row : goal.returns-in_err-row
 returns-in_err-row c =

@@ -4,10 +4,10 @@ use Rattle.lvm_num.specs.declared.descriptor.LvRow.{LvRow}
 use Rattle.lvm_num.specs.DescriptorBytes.{volume_at, volumes_at}
 use Rattle.lvm_num.specs.Reading.{Rest}
 use Rattle.lvm_fields.specs.Reading.{rest_of, Fails}
-use Rattle.lvm_vgda.specs.Parts.{volume_by_parts}
-use Rattle.lvm_vgda.proofs.Loops.{goes_on, ends, is_done, volumes_repeat}
-use Rattle.lvm_vgda.proofs.PartLaws.{volume_is}
-use Rattle.lvm_vgda.proofs.rows.volumes_at.Goals as goal
+use Rattle.lvm_descriptor.specs.Parts.{volume_by_parts}
+use Rattle.lvm_descriptor.proofs.Loops.{goes_on, ends, is_done, volumes_repeat}
+use Rattle.lvm_descriptor.proofs.PartLaws.{volume_is}
+use Rattle.lvm_descriptor.proofs.rows.volumes_at.Goals as goal
 
 pub returns-in_err-row : goal.returns-in_err-row
 returns-in_err-row c =

@@ -9,7 +9,7 @@ use Rattle.lvm_num.specs.declared.descriptor.Policy.{Policy}
 use Rattle.lvm_num.specs.Descriptor.{is_size, most_volumes}
 use Rattle.lvm_num.specs.DescriptorBytes.{is_flag, mode_named, policy_named, name_at, version_at, member_count_at, members_at, volume_at, volumes_at, maps_at, descriptor_of}
 use Rattle.lvm_num.specs.Reading.{◌>>=◌, Rest, number_at, zeros_at}
-use Rattle.lvm_vgda.specs.Parts.{begin_at, rules_at, counts_at, rows_at, descriptor_by_parts, number_and_copies_at, mode_and_policy_at, volume_by_parts}
+use Rattle.lvm_descriptor.specs.Parts.{begin_at, rules_at, counts_at, rows_at, descriptor_by_parts, number_and_copies_at, mode_and_policy_at, volume_by_parts}
 
 -- two steps in one part
 two_in_one : {A B C D : Type 0} (m : Result A ℕ) (f : A → Result B ℕ) (h : A → B → C) (g : C → Result D ℕ)

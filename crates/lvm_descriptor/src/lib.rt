@@ -1,0 +1,8 @@
+//! The head of a descriptor, and the rows of its members and volumes, read from their bytes.
+#![tactic(auto)]
+
+mod head;
+mod rows;
+
+pub use head::{begin_at, counts_at, name_at, rules_at};
+pub use rows::{has_member, members_at, volumes_at};
