@@ -10,7 +10,7 @@ use Rattle.lvm_top.specs.Script.{Stream, run_of}
 use Rattle.lvm_top.proofs.Stopping.{nothing_promised}
 use Rattle.lvm_words.specs.declared.job.Job.{Job}
 use Rattle.lvm_words.specs.declared.job.Job.TheVariants.{Script, Sim, Image, Help, Version}
-use Rattle.lvm_words.specs.declared.job.WordsFault.{WordsFault}
+use Rattle.lvm_language.specs.declared.fault.WordsFault.{WordsFault}
 
 -- what always holds, holds where the words ask for a script over the files
 pub on_script : (asked : Result Job WordsFault) (P : Type 0) → P → OnScript asked P

@@ -12,7 +12,7 @@ use Rattle.lvm_top.specs.Run.{Run, Promises, WhereAlone}
 use Rattle.lvm_top.specs.Script.{Stream, facts_of}
 use Rattle.lvm_words.specs.declared.job.Job.{Job}
 use Rattle.lvm_words.specs.declared.job.Job.TheVariants.{Script, Sim, Image, Help, Version}
-use Rattle.lvm_words.specs.declared.job.WordsFault.{WordsFault}
+use Rattle.lvm_language.specs.declared.fault.WordsFault.{WordsFault}
 
 -- what holds where the words ask for a script over the files
 abbrev pub OnScript : Result Job WordsFault → Type 0 → Type 0

@@ -1,3 +1,2 @@
-pub mod Parses
 pub mod Digits
 pub mod Outcomes

@@ -11,15 +11,15 @@ use Rattle.clap.specs.Words.{Kinds, Text, fault_of, subcommand_of}
 use Rattle.clap.specs.declared.error.kind.ErrorKind.TheVariants as kind
 use Rattle.clap.proofs.OnLiterals.{clap_on_literals}
 use Rattle.lvm_literals.specs.Words.{number_in}
-use Rattle.lvm_words.specs.CommandLine.{is_plain, is_signed, lvm_app, script_app}
+use Rattle.lvm_language.specs.CommandLine.{is_plain, is_signed, lvm_app, script_app}
 use Rattle.lvm_words.specs.Matched.{job_matched, with_both}
 use Rattle.lvm_words.specs.Words.{IsWithin, image_of, work_of, sim_of, with_two}
 use Rattle.lvm_words.specs.declared.job.Job.{Job}
 use Rattle.lvm_words.specs.declared.job.Job.TheVariants as job
-use Rattle.lvm_words.specs.declared.job.WordsFault.{WordsFault}
-use Rattle.lvm_words.specs.declared.job.WordsFault.TheVariants.{Usage}
+use Rattle.lvm_language.specs.declared.fault.WordsFault.{WordsFault}
+use Rattle.lvm_language.specs.declared.fault.WordsFault.TheVariants.{Usage}
 use Rattle.lvm_words.proofs.Digits.{accepted_number, both_true, number_accepted, number_is_plain, number_read, plain_parts}
-use Rattle.lvm_words.proofs.Parses.{Numbered, app_for, fails, fails_first, first_parser, image, level, level_more, level_none, level_one, level_two, none_fault, numbered_entered, numbered_fault, script_alone, script_fault, script_more, second_parser, sim, two_kinds, unknown_fault}
+use Rattle.lvm_language.proofs.Parses.{Numbered, app_for, fails, fails_first, first_parser, image, level, level_more, level_none, level_one, level_two, none_fault, numbered_entered, numbered_fault, script_alone, script_fault, script_more, second_parser, sim, two_kinds, unknown_fault}
 
 pub data Outcome (words : List Text) : Type 0 where
   asks : (j : Job) → work_of words ≡ Ok j → IsWithin j → fault_of lvm_app words ≡ [] → job_matched (subcommand_of lvm_app words) ≡ Some j → Outcome words

@@ -15,12 +15,3 @@ pub enum Job {
     /// `--version`: which program this is.
     Version,
 }
-
-/// Why words were not read.
-#[derive(Clone, Copy, Debug, PartialEq, Eq)]
-pub enum WordsFault {
-    /// They are not in the language of the command line.
-    Usage,
-    /// No memory was found for them.
-    Memory,
-}

@@ -5,10 +5,10 @@
 #![tactic(auto)]
 
 mod job;
-mod language;
 mod matched;
 mod plain;
 mod read;
 
-pub use job::{Job, WordsFault};
+pub use job::Job;
+pub use lvm_language::WordsFault;
 pub use read::read_words;

@@ -2,8 +2,8 @@ use Rattle.std.proofs.Common.{◌≡◌, ◌∙◌, ap, ap₂, codes, true}
 use Rattle.std.proofs.lemmas.Result.{IfOk-weaker}
 use Rattle.clap.specs.Words.{App, app_of, new_app, with_subcommand}
 use Rattle.clap.specs.Simple.{app_of_fields, on_top}
-use Rattle.lvm_words.specs.CommandLine.{with_numbers, lvm_settings, script_app, sim_app, image_app}
-use Rattle.lvm_words.proofs.language.command_line.Goals as goal
+use Rattle.lvm_language.specs.CommandLine.{with_numbers, lvm_settings, script_app, sim_app, image_app}
+use Rattle.lvm_language.proofs.language.command_line.Goals as goal
 
 pub returns : goal.returns
 returns c =

@@ -2,9 +2,9 @@
 ghost use Rattle.std.specs.Prelude.{◌≡◌, IfOk, Err, true, false, [], map};
 ghost use Rattle.clap.specs.Words.{app_of, rule_of, fault_of, subcommand_of, subcommand_rows_of};
 ghost use Rattle.clap.specs.declared.builder.Command.TheViews.{out-Command};
-ghost use Rattle.lvm_words.specs.CommandLine.{number_rule, with_numbers, script_app, lvm_app};
+ghost use Rattle.lvm_language.specs.CommandLine.{number_rule, with_numbers, script_app, lvm_app};
 
-use crate::job::WordsFault;
+use crate::fault::WordsFault;
 use clap::builder::ValueParser;
 use clap::error::ErrorKind;
 use clap::{Arg, ArgMatches, Command};
@@ -63,7 +63,7 @@ fn command_line<'a>(alloc: Global) -> Result<Command<'a>, AllocError>
 
 /// What `clap` finds in the words. Usage comes exactly where there is a fault in them, by the language that
 /// it was told.
-pub(crate) fn parse<'a>(alloc: Global, words: &'a [&'a str]) -> Result<ArgMatches<'a>, WordsFault>
+pub fn parse<'a>(alloc: Global, words: &'a [&'a str]) -> Result<ArgMatches<'a>, WordsFault>
     ensures faultless { IfOk result (λ _. fault_of lvm_app (map (λ word. word.now) words.now) ≡ []) }
     ensures found { IfOk result (λ matches. subcommand_rows_of matches ≡ subcommand_of lvm_app (map (λ word. word.now) words.now)) }
     ensures usage { result ≡ Err WordsFault.Usage → fault_of lvm_app (map (λ word. word.now) words.now) ≡ [] → ⊥ }
