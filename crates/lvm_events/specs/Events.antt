@@ -75,10 +75,9 @@ after_landing core place o how = record (with_open core place (landed_as how o))
 }
 
 -- A request lands as it does next.
-pub record Lands (old new : State) (place : ℕ) : Type 0 where
+pub record Lands (old new : State) (place : ℕ) (how : Outcome) : Type 0 where
   pub request : Open
   pub there : slice_get old.core.requests place ≡ Some request
-  pub how : Outcome
   pub lands : next_for old.core request ≡ next.Land how
   pub is : new ≡ state old.device (after_landing old.core place request how)
 

@@ -1,5 +1,5 @@
 -- A turn: the first event that may be made, else the end of a transfer, else the end of the session.
-use Rattle.std.specs.Prelude.{◌≡◌, ◌⊎◌, ℕ, Bool, true, false, [], Some, None, MatchOption}
+use Rattle.std.specs.Prelude.{◌≡◌, ◌⊎◌, ℕ, Bool, true, false, [], Some, None}
 use Rattle.lvm_disk.specs.Steps.{GoesDark, Waits}
 use Rattle.lvm_status.specs.Update.{Stored}
 use Rattle.lvm_mwc.specs.Cache.{has_disk}
@@ -8,37 +8,33 @@ use Rattle.lvm_events.specs.declared.answers.Turned.{Turned}
 use Rattle.lvm_events.specs.declared.answers.Turned.TheVariants as turned
 use Rattle.lvm_session.specs.State.{State, state}
 use Rattle.lvm_events.specs.Dark.{all_dark, all_off}
-use Rattle.lvm_events.specs.declared.tried.Tried.{Tried}
-use Rattle.lvm_events.specs.declared.tried.Tried.TheVariants as tried
-use Rattle.lvm_session.specs.Enabled.{Part, Event, Land, Admit, Pin, StartStatus, StartNote, StartData, ReadCopy, WriteCopy, first_event, is_lost}
+use Rattle.lvm_session.specs.declared.event.Event.{Event}
+use Rattle.lvm_session.specs.declared.event.Event.TheVariants as event
+use Rattle.lvm_session.specs.Enabled.{first_event, is_lost}
 use Rattle.lvm_events.specs.Events.{Lands, Admits, Pins, StartsStatus, StartsNote, StartsData, ReadsCopy, WritesCopy}
 use Rattle.lvm_events.specs.Ends.{Ends}
 
--- what each event makes
+-- What each event makes.
 abbrev pub Makes : Event → State → State → Type 0
-Makes (Land place) old new = Lands old new place
-Makes (Admit place) old new = Admits old new place
-Makes (Pin place) old new = Pins old new place
-Makes StartStatus old new = StartsStatus old new
-Makes (StartNote place disk) old new = StartsNote old new place disk
-Makes (StartData place target) old new = StartsData old new place target
-Makes ReadCopy old new = ReadsCopy old new
-Makes WriteCopy old new = WritesCopy old new
+Makes (event.Land place how) old new = Lands old new place how
+Makes (event.Admit place) old new = Admits old new place
+Makes (event.Pin place) old new = Pins old new place
+Makes event.StartStatus old new = StartsStatus old new
+Makes (event.StartNote place disk) old new = StartsNote old new place disk
+Makes (event.StartData place target) old new = StartsData old new place target
+Makes event.ReadCopy old new = ReadsCopy old new
+Makes event.WriteCopy old new = WritesCopy old new
 
 -- it starts a transfer
 abbrev pub is_start : Event → Bool
-is_start (Land place) = false
-is_start (Admit place) = false
-is_start (Pin place) = false
-is_start StartStatus = true
-is_start (StartNote place disk) = true
-is_start (StartData place target) = true
-is_start ReadCopy = true
-is_start WriteCopy = true
-
--- what a part of a turn makes: its event, where it finds one
-abbrev pub PartGives : Part → State → State → Bool → Type 0
-PartGives part old new moved = MatchOption (part old.core) ((moved ≡ false) × (new ≡ old)) (λ (event : Event). (moved ≡ true) × Makes event old new)
+is_start (event.Land place how) = false
+is_start (event.Admit place) = false
+is_start (event.Pin place) = false
+is_start event.StartStatus = true
+is_start (event.StartNote place disk) = true
+is_start (event.StartData place target) = true
+is_start event.ReadCopy = true
+is_start event.WriteCopy = true
 
 -- a status that was put in flight by a start to which the power didn't last says the same
 pub record SaysTheSame (old new : Stored) : Type 0 where
@@ -55,17 +51,12 @@ pub record Darkens (old new : State) : Type 0 where
   pub notes : (disk : ℕ) → has_disk new.core.cache disk ≡ has_disk old.core.cache disk
   pub is : new.core ≡ all_dark (record old.core { status = new.core.status; cache = new.core.cache })
 
--- What a part makes that starts a transfer, unless the power is found off.
-abbrev pub PartTries : Part → State → State → Tried → Type 0
-PartTries part old new tried.Not = (part old.core ≡ None) × (new ≡ old)
-PartTries part old new tried.Moved = (event : Event) × (part old.core ≡ Some event) × Makes event old new
-PartTries part old new tried.Dark = (event : Event) × (part old.core ≡ Some event) × (is_start event ≡ true) × Darkens old new
-
--- the start of a target's transfer, unless the power is found off
-abbrev pub StartsAs : ℕ → ℕ → State → State → Tried → Type 0
-StartsAs place target old new tried.Not = ⊥
-StartsAs place target old new tried.Moved = StartsData old new place target
-StartsAs place target old new tried.Dark = Darkens old new
+-- A start is made, unless the power is found off.
+abbrev pub StartGives : Event → State → State → Turned → Type 0
+StartGives start old new turned.Moved = Makes start old new
+StartGives start old new turned.Dark = Darkens old new
+StartGives start old new turned.Idle = ⊥
+StartGives start old new turned.Off = ⊥
 
 -- The votes are lost and nothing is out: the session is over.
 pub record GoesOff (old new : State) : Type 0 where
@@ -94,8 +85,8 @@ FinishMakes old new turned.Off = GoesOff old new
 -- What a turn of a session that is on makes, and its answer: the first event that may be made, unless the power is found off; and where there is none,
 -- what ends.
 pub data OnMakes (old new : State) (answer : Turned) : Type 0 where
-  Moves : (event : Event) → first_event old.core ≡ Some event → Makes event old new → answer ≡ turned.Moved → OnMakes old new answer
-  NoStart : (event : Event) → first_event old.core ≡ Some event → is_start event ≡ true → Darkens old new → answer ≡ turned.Dark → OnMakes old new answer
+  Moves : (it : Event) → first_event old.core ≡ Some it → Makes it old new → answer ≡ turned.Moved → OnMakes old new answer
+  NoStart : (it : Event) → first_event old.core ≡ Some it → is_start it ≡ true → Darkens old new → answer ≡ turned.Dark → OnMakes old new answer
   Finishes : first_event old.core ≡ None → FinishMakes old new answer → OnMakes old new answer
 
 -- What a turn makes of a session to which nothing is out that nobody owns.

@@ -3,7 +3,5 @@
 #![tactic(auto)]
 
 mod answers;
-mod tried;
 
 pub use answers::{AskFault, CopyFault, CopyState, Taken, Turned};
-pub use tried::Tried;

@@ -1,5 +1,5 @@
 -- Which events of a turn may be made, and which comes first.
-use Rattle.std.specs.Prelude.{ℕ, Bool, true, false, ◌&&◌, ◌==◌, not, if◌then◌else◌, List, [], ◌∷◌, find, position, Option, Some, None, is_some, is_none, bytes_eq, slice_get}
+use Rattle.std.specs.Prelude.{ℕ, ◌+◌, Bool, true, false, ◌&&◌, ◌==◌, not, if◌then◌else◌, List, [], ◌∷◌, find, Option, Some, None, is_some, is_none, bytes_eq}
 use Rattle.std.specs.List.{list_any}
 use Rattle.std.specs.Option.{option_map, option_map_or}
 use Rattle.lvm_num.specs.declared.descriptor.PvRow.{PvRow}
@@ -7,6 +7,7 @@ use Rattle.lvm_num.specs.declared.status.Status.{Status}
 use Rattle.lvm_num.specs.declared.status.StatusRow.{StatusRow}
 use Rattle.lvm_num.specs.Disks.{has}
 use Rattle.lvm_num.specs.Votes.{is_enough_to_write}
+use Rattle.lvm_vol.specs.declared.entry.Outcome.{Outcome}
 use Rattle.lvm_hold.specs.Waiting.{is_blocked}
 use Rattle.lvm_mwc.specs.Entries.{are_all_pinned}
 use Rattle.lvm_mwc.specs.Cache.{Cached, flight_on, is_named}
@@ -17,6 +18,8 @@ use Rattle.lvm_path.specs.declared.request.Phase.{Phase}
 use Rattle.lvm_path.specs.declared.request.Phase.TheVariants as phase
 use Rattle.lvm_path.specs.declared.target.Target.{Target}
 use Rattle.lvm_path.specs.Asks.{lv_of}
+use Rattle.lvm_session.specs.declared.event.Event.{Event}
+use Rattle.lvm_session.specs.declared.event.Event.TheVariants as event
 use Rattle.lvm_session.specs.declared.open.Open.{Open}
 use Rattle.lvm_session.specs.declared.bringing.OpenCopy.{OpenCopy}
 use Rattle.lvm_session.specs.State.{Core, votes_there}
@@ -25,13 +28,13 @@ use Rattle.lvm_session.specs.Bringing.{is_idle, is_whole, next_source, hand_of, 
 
 -- ---- what a request may do next
 
--- it lands
-abbrev pub is_land : Next → Bool
-is_land next.Wait = false
-is_land next.Admit = false
-is_land next.Pin = false
-is_land (next.Start target) = false
-is_land (next.Land how) = true
+-- how it lands
+abbrev pub outcome_next : Next → Option Outcome
+outcome_next next.Wait = None
+outcome_next next.Admit = None
+outcome_next next.Pin = None
+outcome_next (next.Start target) = None
+outcome_next (next.Land how) = Some how
 
 -- it is admitted, or admitted again
 abbrev pub is_admit : Next → Bool
@@ -57,9 +60,9 @@ target_next next.Pin = None
 target_next (next.Start target) = Some target
 target_next (next.Land how) = None
 
--- the request may land
-abbrev pub may_land : Core → Open → Bool
-may_land core o = is_land (next_for core o)
+-- how the request lands, where it may
+abbrev pub landing_due : Core → Open → Option Outcome
+landing_due core o = outcome_next (next_for core o)
 
 -- it may be admitted
 abbrev pub may_be_admitted : Core → Open → Bool
@@ -140,36 +143,47 @@ has_buffer core = list_any not core.pool
 
 -- ---- the first event
 
--- an event of a turn, with the place of its request in the table
-pub data Event : Type 0 where
-  Land : (place : ℕ) → Event
-  Admit : (place : ℕ) → Event
-  Pin : (place : ℕ) → Event
-  StartStatus : Event
-  StartNote : (place disk : ℕ) → Event
-  StartData : (place target : ℕ) → Event
-  ReadCopy : Event
-  WriteCopy : Event
-
 -- where a kind of event is looked for
 abbrev pub Part : Type 0
 Part = Core → Option Event
 
--- the first request of which this is found, with what is found
-abbrev pub first_with : {X : Type 0} → (Open → Option X) → (ℕ → X → Event) → List Open → Option Event
-first_with {X} due make os = option_map_or (λ (place : ℕ). option_map_or (λ (o : Open). option_map (make place) (due o)) (slice_get os place) None) (position (λ (o : Open). is_some (due o)) os) None
+-- this event, or else that one
+abbrev pub or_next : Option Event → Option Event → Option Event
+or_next None other = other
+or_next (Some it) other = Some it
+
+-- what the first request makes of which there is an event, from a place of the table on
+abbrev pub first_from : (ℕ → Open → Option Event) → ℕ → List Open → Option Event
+first_from make place [] = None
+first_from make place (o ∷ os) = or_next (make place o) (first_from make (place + 1) os)
+
+-- the event by which the request at a place lands, is admitted, pins its track group, starts a note or a transfer, where it may
+abbrev pub landing_at : Core → ℕ → Open → Option Event
+landing_at core place o = option_map (event.Land place) (landing_due core o)
+
+abbrev pub admission_at : Core → ℕ → Open → Option Event
+admission_at core place o = if may_be_admitted core o then Some (event.Admit place) else None
+
+abbrev pub pinning_at : Core → ℕ → Open → Option Event
+pinning_at core place o = if may_pin core o then Some (event.Pin place) else None
+
+abbrev pub note_at : Core → ℕ → Open → Option Event
+note_at core place o = option_map (event.StartNote place) (note_due core o)
+
+abbrev pub data_at : Core → ℕ → Open → Option Event
+data_at core place o = option_map (event.StartData place) (target_due core o)
 
 -- the first request that may land
 abbrev pub landing : Part
-landing core = option_map Land (position (may_land core) core.requests)
+landing core = first_from (landing_at core) 0 core.requests
 
 -- the first that may be admitted
 abbrev pub admission : Part
-admission core = option_map Admit (position (may_be_admitted core) core.requests)
+admission core = first_from (admission_at core) 0 core.requests
 
 -- the first whose track group may be pinned
 abbrev pub pinning : Part
-pinning core = option_map Pin (position (may_pin core) core.requests)
+pinning core = first_from (pinning_at core) 0 core.requests
 
 -- nothing is started for which no buffer is there
 abbrev pub with_buffer : Part → Part
@@ -177,28 +191,23 @@ with_buffer part core = if has_buffer core then part core else None
 
 -- a write of the status
 abbrev pub status_start : Part
-status_start = with_buffer (λ core. if is_status_due core then Some StartStatus else None)
+status_start = with_buffer (λ core. if is_status_due core then Some event.StartStatus else None)
 
 -- the first note that is due
 abbrev pub note_start : Part
-note_start = with_buffer (λ core. first_with (note_due core) StartNote core.requests)
+note_start = with_buffer (λ core. first_from (note_at core) 0 core.requests)
 
 -- the first transfer of a request that is due
 abbrev pub data_start : Part
-data_start = with_buffer (λ core. first_with (target_due core) StartData core.requests)
+data_start = with_buffer (λ core. first_from (data_at core) 0 core.requests)
 
 -- the read of the copy that is open
 abbrev pub copy_read : Part
-copy_read = with_buffer (λ core. if option_map_or (may_read core) core.copy false then Some ReadCopy else None)
+copy_read = with_buffer (λ core. if option_map_or (may_read core) core.copy false then Some event.ReadCopy else None)
 
 -- its write
 abbrev pub copy_write : Part
-copy_write core = if option_map_or may_write core.copy false then Some WriteCopy else None
-
--- this event, or else that one
-abbrev pub or_next : Option Event → Option Event → Option Event
-or_next None other = other
-or_next (Some event) other = Some event
+copy_write core = if option_map_or may_write core.copy false then Some event.WriteCopy else None
 
 -- the first event of these parts
 abbrev pub first_of : List Part → Part

@@ -3,12 +3,14 @@
 #![tactic(auto)]
 
 mod bringing;
+mod event;
 mod flown;
 mod open;
 mod origin;
 mod session;
 
 pub use bringing::{CopyEnd, OpenCopy, Step};
+pub use event::Event;
 pub use flown::{Flown, Owner};
 pub use open::{Open, Power};
 pub use origin::Origin;

@@ -26,8 +26,9 @@ pub struct Session {
     pub queue: Queue,
     /// The copy that is being brought up.
     pub copy: Option<OpenCopy>,
-    /// The transfer buffers.
+    /// The transfer buffers, and how many there are.
     pub pool: Pool,
+    pub buffers: u32,
     /// Whose transfers are out, in the order of their starts.
     pub flying: Vec<Flown>,
     /// The committed status, the one in flight and the wanted one.
