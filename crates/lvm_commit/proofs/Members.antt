@@ -1,5 +1,5 @@
 -- Disks that show a group, and the members among them.
-use Rattle.std.proofs.Common.{◌≡◌, ℕ, ◌&&◌, Bool, true, Option, Some, None, refl, sym, ap, ◌∙◌}
+use Rattle.std.proofs.Common.{◌≡◌, ℕ, ◌&&◌, Bool, true, Option, Some, None, refl, sym, ◌∙◌}
 use Rattle.std.specs.Prelude.{IsTrue}
 use Rattle.std.proofs.lemmas.Bool.{eqb-true}
 use Rattle.lvm_num.specs.declared.descriptor.Descriptor.{Descriptor}
@@ -8,8 +8,7 @@ use Rattle.lvm_num.specs.Record.{Stamped}
 use Rattle.lvm_num.specs.Votes.{all_disks}
 use Rattle.lvm_kept.specs.Contents.{Contents}
 use Rattle.lvm_kept.specs.Group.{passes, is_of, has_room, members_in}
-use Rattle.lvm_kept.specs.Committed.{SameVotes}
-use Rattle.lvm_commit.specs.Committed.{IsAlike}
+pub use Rattle.lvm_kept.proofs.Alike.{same_id, same_votes, same_room}
 use Rattle.lvm_change.proofs.Booleans.{split, join}
 
 -- a record that is shown passes where the test does
@@ -36,13 +35,3 @@ module _ (c : Contents) (set : Disks) (id : ℕ) (g : Descriptor) (d : ℕ) wher
   -- one among all disks
   pub among_all : IsTrue (members_in c set id g d) → IsTrue (members_in c all_disks id g d)
   among_all is = let parts = parts_of is in join (passes (is_of id) (c.descriptor d)) (has_room c d g) parts.1 parts.2
-
--- groups that differ in their volumes alone
-pub same_id : (a b : Descriptor) → IsAlike a b → a.id ≡ b.id
-same_id a b alike = ap (λ (g : Descriptor). g.id) alike
-
-pub same_votes : (a b : Descriptor) → IsAlike a b → SameVotes a b
-same_votes a b alike = record { members = ap (λ (g : Descriptor). g.pvs) alike; even = ap (λ (g : Descriptor). g.even) alike; quorum = ap (λ (g : Descriptor). g.quorum) alike }
-
-pub same_room : (c : Contents) (d : ℕ) (a b : Descriptor) → IsAlike a b → has_room c d a ≡ has_room c d b
-same_room c d a b alike = ap (λ (g : Descriptor). has_room c d g) alike

@@ -2,14 +2,18 @@
 use Rattle.std.proofs.Common.{◌≡◌, ⊎_elim, ℕ, true, false, Option, Some, None, refl, sym, subst, ◌∙◌, eq-eqb}
 use Rattle.std.specs.Prelude.{IsSomeAnd, ◌==◌}
 use Rattle.std.proofs.lemmas.Bool.{eqb-true}
+use Rattle.lvm_num.specs.Votes.{all_disks}
 use Rattle.lvm_disk.specs.Device.{Media, Image, Device, image_of, IsCrashImage, MayLeave}
+use Rattle.lvm_disk.proofs.Paths.{last-path}
 use Rattle.lvm_kept.specs.Contents.{Contents, contents_of}
 use Rattle.lvm_kept.specs.Group.{is_of, Finds}
 use Rattle.lvm_kept.specs.Places.{SameRecords}
+use Rattle.lvm_kept.proofs.Alike.{one_is_only}
+use Rattle.lvm_kept.proofs.Finding.{images_within}
 use Rattle.lvm_change.proofs.Booleans.{either, clash}
 use Rattle.lvm_change.proofs.Making.{media_may}
 use Rattle.lvm_quorum.proofs.Writing.{both_from}
-use Rattle.lvm_commit.specs.LawsOfVolumes.{LeavesOthers, DescriptorLeavesOthers, RestLeavesOthers, OnlyGroupStays, OnlyGroupStaysByData, OnlyGroupStaysOn}
+use Rattle.lvm_commit.specs.LawsOfVolumes.{LeavesOthers, DescriptorLeavesOthers, RestLeavesOthers, OnlyGroupStays, OnlyGroupStaysByData, OnlyGroupStaysOn, OneByAllIsOnlySince}
 use Rattle.lvm_commit.proofs.NoMore.{was_found, rest_finds_nothing_new, data_finds_nothing_new}
 use Rattle.lvm_commit.proofs.Still.{still_image, data_differs}
 
@@ -40,6 +44,11 @@ pub only_group_stays_by_data : OnlyGroupStaysByData
 only_group_stays_by_data id f old new its adds only image may =
     let from = adds image may in
     only_group_stays id (contents_of from.0) (contents_of image) (data_leaves id from.0 image (data_differs f its from.0 image from.2)) (only from.0 from.1)
+
+-- what is kept on each crash image has descriptors of one group that are alike
+pub one_by_all_is_only_since : OneByAllIsOnlySince
+one_by_all_is_only_since run first device facts group span finds one past begins image may =
+    one_is_only (contents_of image) all_disks group (images_within image) ((last-path span past begins).kept image may).lasting.alike (one image may) (finds image may)
 
 -- where something may be left, the media is told
 told_of : (device : Device) (image : Image) → MayLeave device image → (media : Media) × (device.media ≡ Some media)

@@ -1,5 +1,5 @@
 -- What stands on the disks of a session at which nothing is under way: they hold what the session says is committed.
-use Rattle.std.specs.Prelude.{◌≡◌, ◌⊎◌, ℕ, ◌+◌, ◌<◌, [], true, Some, IsTrue, IsFalse}
+use Rattle.std.specs.Prelude.{◌≡◌, ◌⊎◌, ℕ, ◌+◌, ◌<◌, true, Some, IsTrue, IsFalse}
 use Rattle.lvm_num.specs.declared.place.Pp.{Pp}
 use Rattle.lvm_num.specs.declared.record.Stamp.{Stamp}
 use Rattle.lvm_num.specs.declared.descriptor.Mode.TheVariants.{Passive}
@@ -14,6 +14,7 @@ use Rattle.lvm_num.specs.Votes.{all_disks, CanRead}
 use Rattle.lvm_disk.specs.Device.{Image}
 use Rattle.lvm_kept.specs.Contents.{Contents, contents_of, has_records}
 use Rattle.lvm_kept.specs.Group.{has_room, Finds, members_in, IsOneOf}
+pub use Rattle.lvm_kept.specs.Group.{IsAlike}
 use Rattle.lvm_quorum.specs.declared.homes.Homes.{Homes}
 use Rattle.lvm_quorum.specs.Homes.{SparesNewest}
 use Rattle.lvm_stamps.specs.Behind.{StampsBefore}
@@ -21,10 +22,6 @@ use Rattle.lvm_stamps.specs.Behind.{StampsBefore}
 -- the stamp after this one in its session
 abbrev pub next_stamp : Stamp → Stamp
 next_stamp stamp = record stamp { seq = stamp.seq + 1 }
-
--- the two are one group, but for their volumes
-abbrev pub IsAlike : Descriptor → Descriptor → Type 0
-IsAlike a b = record a { lvs = [] } ≡ record b { lvs = [] }
 
 -- The next status has the marks of the one before on the group's copies and its volumes in mode passive, and calls further copies stale only where another
 -- one of the logical partition stays fresh on a member that shows the group.

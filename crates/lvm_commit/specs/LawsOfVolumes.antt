@@ -11,7 +11,7 @@ use Rattle.lvm_num.specs.Disks.{Disks}
 use Rattle.lvm_num.specs.Descriptor.{copies_of, volume_of}
 use Rattle.lvm_num.specs.Record.{Stamped}
 use Rattle.lvm_num.specs.Status.{calls_stale}
-use Rattle.lvm_num.specs.Votes.{CanWrite}
+use Rattle.lvm_num.specs.Votes.{all_disks, CanWrite}
 use Rattle.lvm_vol.specs.declared.entry.Vol.TheVariants.{Lv}
 use Rattle.lvm_vol.specs.Facts.{Fact, Making, Made, Removed, Cut}
 use Rattle.lvm_vol.specs.May.{known, IsValue}
@@ -19,14 +19,15 @@ use Rattle.lvm_vol.specs.Standing.{Open, volumes_in}
 use Rattle.lvm_disk.specs.Device.{Image, Flight, Device, image_of, MayLeave}
 use Rattle.lvm_disk.specs.Steps.{BothTold}
 use Rattle.lvm_kept.specs.Contents.{Contents, contents_of}
-use Rattle.lvm_kept.specs.Group.{IsFound, block_at, IsBlockOf, IsOneOf}
+use Rattle.lvm_kept.specs.Group.{Finds, IsFound, IsOneByAll, block_at, IsBlockOf, IsOneOf}
+pub use Rattle.lvm_kept.specs.Group.{IsOnlyGroup}
 use Rattle.lvm_kept.specs.Committed.{IsWithinDisks}
 use Rattle.lvm_kept.specs.Kept.{StandsAs, Kept}
 use Rattle.lvm_kept.specs.Changes.{IsFoundByAll, IsFoundByNone}
 use Rattle.lvm_kept.specs.Moments.{Moment}
 use Rattle.lvm_kept.specs.Raw.{OnlyAdds}
 use Rattle.lvm_kept.specs.Torn.{DescriptorsChange}
-use Rattle.lvm_change.specs.Moments.{Keeps}
+use Rattle.lvm_change.specs.Moments.{Begins, Keeps}
 use Rattle.lvm_change.specs.Requests.{IsOfData, at}
 use Rattle.lvm_change.specs.Committing.{DiffersInVolume, IsServed, MayCommit}
 use Rattle.lvm_change.specs.VolumeEntries.{AreZeros}
@@ -69,10 +70,6 @@ ZerosAreFound = (c : Contents) (group : Descriptor) (status : Status) (there : D
 
 -- ---- its entries
 
--- no other group is found
-abbrev pub IsOnlyGroup : Contents → ℕ → Type 0
-IsOnlyGroup c id = (other : ℕ) (k : Descriptor) → IsFound c other k → other ≡ id
-
 -- whatever is found of another group was found before
 abbrev pub LeavesOthers : Contents → Contents → ℕ → Type 0
 LeavesOthers old new id = (other : ℕ) (k : Descriptor) → (other ≡ id → ⊥) → IsFound new other k → IsFound old other k
@@ -103,6 +100,20 @@ abbrev pub OnlyGroupStaysOn : Type 0
 OnlyGroupStaysOn = (id : ℕ) (old new : Device)
     → new.flights ≡ [] → BothTold old.media new.media (λ was is. LeavesOthers (contents_of (image_of old.sizes was)) (contents_of (image_of new.sizes is)) id) → IsOnlyGroupOn old id → IsOnlyGroupOn new id
 
+-- on no crash image have two groups a quorum among all disks
+abbrev pub IsOneByAllOn : Device → Type 0
+IsOneByAllOn device = (image : Image) → MayLeave device image → IsOneByAll (contents_of image)
+
+-- by whatever was told before a span, no crash image finds another group
+abbrev pub IsOnlyGroupSince : ℕ → Moment → Device → ℕ → Type 0
+IsOnlyGroupSince run first device id = (past : List Fact) → Begins run past first → IsOnlyGroupOn device id
+
+-- The first is enough for the second at the end of a span, where each crash image finds the group.
+abbrev pub OneByAllIsOnlySince : Type 0
+OneByAllIsOnlySince = (run : ℕ) (first : Moment) (device : Device) (facts : List Fact) (group : Descriptor)
+    → Keeps run first (at device facts) → ((image : Image) → MayLeave device image → Finds (contents_of image) all_disks group.id group) → IsOneByAllOn device
+    → IsOnlyGroupSince run first device group.id
+
 -- A volume that the committed descriptor names is found by all,
 abbrev pub NamedIsFound : Type 0
 NamedIsFound = (c : Contents) (group : Descriptor) (status : Status) (there : Disks) (facts : List Fact) (lv : ℕ)
@@ -113,25 +124,25 @@ abbrev pub UnnamedIsNotFound : Type 0
 UnnamedIsNotFound = (c : Contents) (group : Descriptor) (status : Status) (there : Disks) (facts : List Fact) (lv : ℕ)
     → IsWithinDisks c → CanWrite group there → ShowsCommitted c group status there → Kept c facts → IsOnlyGroup c group.id → volume_of group lv ≡ None → IsFoundByNone c lv
 
--- each crash image shows what is committed, and no other group is found in it
-pub record LeavesCommitted (device : Device) (group : Descriptor) (status : Status) (there : Disks) : Type 0 where
+-- each crash image shows what is committed, and by whatever was told before the span no other group is found in it
+pub record LeavesCommitted (run : ℕ) (first : Moment) (device : Device) (group : Descriptor) (status : Status) (there : Disks) : Type 0 where
   pub shows : (image : Image) → MayLeave device image → ShowsCommitted (contents_of image) group status there
-  pub only : IsOnlyGroupOn device group.id
+  pub only : IsOnlyGroupSince run first device group.id
 
 -- So a volume that isn't named may be in the making,
 abbrev pub VolumeBeginsInSession : Type 0
 VolumeBeginsInSession = (run : ℕ) (first : Moment) (device : Device) (facts : List Fact) (group : Descriptor) (status : Status) (there : Disks) (lv blocks : ℕ) (mode : Mode)
-    → Keeps run first (at device facts) → CanWrite group there → LeavesCommitted device group status there → volume_of group lv ≡ None
+    → Keeps run first (at device facts) → CanWrite group there → LeavesCommitted run first device group status there → volume_of group lv ≡ None
     → Keeps run first (at device (facts ++ Making lv blocks mode ∷ []))
 
 -- is made once it is named,
 abbrev pub VolumeIsMadeInSession : Type 0
 VolumeIsMadeInSession = (run : ℕ) (first : Moment) (device : Device) (facts : List Fact) (group : Descriptor) (status : Status) (there : Disks) (lv : ℕ)
-    → Keeps run first (at device facts) → CanWrite group there → LeavesCommitted device group status there → IsTrue (is_some (volume_of group lv))
+    → Keeps run first (at device facts) → CanWrite group there → LeavesCommitted run first device group status there → IsTrue (is_some (volume_of group lv))
     → ((past : List Fact) → (volumes_in (past ++ facts) lv).standing ≡ Open) → Keeps run first (at device (facts ++ Made lv ∷ []))
 
 -- and is gone once it isn't named any more.
 abbrev pub VolumeIsGoneInSession : Type 0
 VolumeIsGoneInSession = (run : ℕ) (first : Moment) (device : Device) (facts : List Fact) (group : Descriptor) (status : Status) (there : Disks) (lv : ℕ)
-    → Keeps run first (at device facts) → CanWrite group there → LeavesCommitted device group status there → volume_of group lv ≡ None
+    → Keeps run first (at device facts) → CanWrite group there → LeavesCommitted run first device group status there → volume_of group lv ≡ None
     → Keeps run first (at device (facts ++ Removed (Lv lv) ∷ []))

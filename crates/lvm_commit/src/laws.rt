@@ -1,7 +1,7 @@
 //! Laws of the commits of a session. Each call does nothing: its contract is the law.
 ghost use Rattle.lvm_commit.specs.Laws.{OnlyCommittedIsFound, CommittedStatusIsRead, NewestIsBeginning, StatusFollows, StatusGoesOn, StatusIsCommitted, DescriptorIsCommitted};
 ghost use Rattle.lvm_commit.specs.LawsOfData.{FreeDataKeeps, FreeDataGoesOn, DataKeepsCommitted, StillHoldsCommitted, TransferHoldsCommitted};
-ghost use Rattle.lvm_commit.specs.LawsOfVolumes.{NextIsLater, CommittedMayCommit, ZerosAreFound, DescriptorLeavesOthers, RestLeavesOthers, OnlyGroupStays, OnlyGroupStaysByData, OnlyGroupStaysOn, NamedIsFound, UnnamedIsNotFound, VolumeBeginsInSession, VolumeIsMadeInSession, VolumeIsGoneInSession};
+ghost use Rattle.lvm_commit.specs.LawsOfVolumes.{NextIsLater, CommittedMayCommit, ZerosAreFound, DescriptorLeavesOthers, RestLeavesOthers, OnlyGroupStays, OnlyGroupStaysByData, OnlyGroupStaysOn, OneByAllIsOnlySince, NamedIsFound, UnnamedIsNotFound, VolumeBeginsInSession, VolumeIsMadeInSession, VolumeIsGoneInSession};
 ghost use Rattle.lvm_commit.specs.LawsOfFinding.{DescriptorFindsNoMore, RestFindsNothingNew, StatusWriteFindsNothingNew, DescriptorWriteFindsNoMore, TransferFindsNothingNew};
 ghost use Rattle.lvm_commit.specs.LawsOfWrites.{StatusMayGo, DescriptorMayGo, StatusWriteKeeps, DescriptorWriteKeeps, StatusIsHeld, DescriptorIsHeld, StatusWriteLeavesOthers, DescriptorWriteLeavesOthers};
 
@@ -39,13 +39,15 @@ pub fn volume_may_be_committed()
     ensures zeros { ZerosAreFound }
 {}
 
-/// Nothing that a session writes makes another group found, so the only group stays the only one.
+/// Nothing that a session writes makes another group found, so the only group stays the only one. It is the only one where it alone has a quorum among all
+/// disks, since of what is kept any disks find only what all find.
 pub fn only_group_stays()
     ensures descriptor { DescriptorLeavesOthers }
     ensures rest { RestLeavesOthers }
     ensures only { OnlyGroupStays }
     ensures blocks { OnlyGroupStaysByData }
     ensures on { OnlyGroupStaysOn }
+    ensures since { OneByAllIsOnlySince }
 {}
 
 /// Where no other group is found, a volume is found by all as soon as the committed descriptor names it, and by none where it doesn't.

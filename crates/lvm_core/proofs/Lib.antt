@@ -18,3 +18,4 @@ pub mod Sizes
 pub mod Ends
 pub mod Marking
 pub mod Settled
+pub mod Held

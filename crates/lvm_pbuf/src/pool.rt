@@ -41,7 +41,7 @@ impl Pool {
         Ok(Pool { places })
     }
 
-    /// The buffer of the lowest number that isn't out. Its sectors are as they were given back.
+    /// The buffer of the lowest number that isn't out, None where all are. Nothing is said of its sectors.
     pub fn take(&mut self) -> Option<Pbuf>
         ensures number { IfSome result (λ buf. TakesLowest self.old self.new buf.number) }
         ensures none { IsNone result ↔ AreAllOut self.old }

@@ -86,7 +86,15 @@ unread_more disk number n a b old mid new (unread.Failed buf) so_far same gives 
   record { rested = rested_more old mid new so_far.all.rested gives.0.rested; misses = subst (λ m. Rose m (new.counts.misses disk)) so_far.all.misses gives.0.misses },
   gives.1 ∙ same,
 )
-unread_more disk number n a b old mid new (unread.Stopped how) so_far same gives = subst (λ k. StopGives k a old new how) same (stop_more n a b old mid new how so_far.only so_far.all.rested gives)
+unread_more disk number n a b old mid new (unread.Stopped (stop.Memory buf)) so_far same gives = (all_more disk a b old mid new so_far gives.0, gives.1 ∙ same)
+unread_more disk number n a b old mid new (unread.Stopped stop.Dark) so_far same gives = stop_more n a b old mid new stop.Dark so_far.only so_far.all.rested gives
+unread_more disk number n a b old mid new (unread.Stopped stop.Stuck) so_far same gives = subst (λ k. IsStuck k a old new) same (stop_more n a b old mid new stop.Stuck so_far.only so_far.all.rested gives)
+
+-- why the reads of a disk stopped the survey
+pub stop_of : (disk number a : ℕ) (old new : Device) (how : Stop) → UnreadGives disk number a old new (unread.Stopped how) → StopGives number a old new how
+stop_of disk number a old new (stop.Memory buf) gives = (gives.0.rested, gives.1)
+stop_of disk number a old new stop.Dark gives = gives
+stop_of disk number a old new stop.Stuck gives = gives
 
 -- more of them succeeded
 pub so_far_more : (disk a b c : ℕ) (old mid new : Device) → SoFar disk a b old mid → OnlyReads b c mid new → ((d : ℕ) → (d ≡ disk → ⊥) → IsUntouched d mid new) → AllWereRead disk mid new → SoFar disk a c old new

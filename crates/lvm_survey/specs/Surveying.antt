@@ -79,7 +79,7 @@ StopGives number patience old new (stop.Memory buf) = IsRested old new × (buf.n
 StopGives number patience old new stop.Dark = IsCutOff old new
 StopGives number patience old new stop.Stuck = IsStuck number patience old new
 
--- all reads of a disk's records succeeded
+-- all reads of a disk's records that were made succeeded
 pub record AllWereRead (disk : ℕ) (old new : Device) : Type 0 where
   pub rested : IsRested old new
   pub misses : new.counts.misses disk ≡ old.counts.misses disk
@@ -89,10 +89,12 @@ pub record OneFailed (disk : ℕ) (old new : Device) : Type 0 where
   pub rested : IsRested old new
   pub misses : Rose (old.counts.misses disk) (new.counts.misses disk)
 
--- why they weren't all read
+-- why they weren't all read; where memory was wanting none had failed
 abbrev pub UnreadGives : ℕ → ℕ → ℕ → Device → Device → Unread → Type 0
 UnreadGives disk number patience old new (unread.Failed buf) = OneFailed disk old new × (buf.number ≡ number)
-UnreadGives disk number patience old new (unread.Stopped how) = StopGives number patience old new how
+UnreadGives disk number patience old new (unread.Stopped (stop.Memory buf)) = AllWereRead disk old new × (buf.number ≡ number)
+UnreadGives disk number patience old new (unread.Stopped stop.Dark) = IsCutOff old new
+UnreadGives disk number patience old new (unread.Stopped stop.Stuck) = IsStuck number patience old new
 
 -- how reads of a disk's records ended
 abbrev pub ReadGives : {X : Type 0} → ℕ → ℕ → ℕ → Device → Device → Result X Unread → Type 0

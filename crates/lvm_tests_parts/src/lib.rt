@@ -8,6 +8,8 @@ mod hold;
 #[cfg(test)]
 mod mwc;
 #[cfg(test)]
+mod path;
+#[cfg(test)]
 mod pbuf;
 #[cfg(test)]
 mod sched;

@@ -105,12 +105,11 @@ impl<V: Shown> Turn<V> {
         pass.length = pass.length.max(length);
     }
 
-    /// Takes the turn if it is free, in at most two tries, and never waits. The value's history begins
-    /// with all that the pass had seen, and each of its clients has there exactly its own entries.
+    /// Tries to take the turn, and never waits. The value's history begins with all that the pass had seen,
+    /// and each of its clients has there exactly its own entries.
     ///
     /// None comes only where another pass held the turn when this one last looked, or has entered since
-    /// this one looked before, or where the turn was taken 2^63 - 2 times, after which
-    /// nobody takes it any more.
+    /// this one looked before, or where the turn was taken 2^63 - 2 times.
     pub fn try_enter(&self, pass: &mut Pass) -> Option<V>
         requires at { pass.old.table ≡ self.now.table }
         requires outside { pass.old.knows.inside ≡ false }
@@ -130,9 +129,8 @@ impl<V: Shown> Turn<V> {
         value
     }
 
-    /// Waits until the pass has the turn, with the value as `try_enter` answers it. Between two tries it
-    /// parks while another pass holds the turn. It waits forever once the turn was taken 2^63 - 2
-    /// times.
+    /// The value as `try_enter` answers it, once the pass has the turn. Nothing says when that is, nor that
+    /// it comes.
     pub fn enter<R: Wait>(&self, rt: &R, pass: &mut Pass) -> V
         requires at { pass.old.table ≡ self.now.table }
         requires outside { pass.old.knows.inside ≡ false }

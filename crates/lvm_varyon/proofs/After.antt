@@ -1,10 +1,12 @@
 -- What the disks show once a varyon has written its records.
-use Rattle.std.proofs.Common.{◌≡◌, ℕ, Bool, true, false, ◌&&◌, ◌==◌, ◌||◌, List, [], ◌∷◌, ◌++◌, get_or, Option, Some, None, refl, sym, ap, subst, ◌∙◌, arith}
-use Rattle.std.specs.Prelude.{IsTrue, IsFalse, not, nat_le, option_map, if◌then◌else◌, IfSome, All}
-use Rattle.std.specs.Option.{option_map_or}
+use Rattle.std.proofs.Common.{◌≡◌, inl, inr, ℕ, Bool, true, false, ◌&&◌, ◌==◌, ◌||◌, List, [], ◌∷◌, ◌++◌, get_or, Option, Some, None, refl, sym, ap, subst, ◌∙◌, arith}
+use Rattle.std.specs.Prelude.{IsTrue, not, nat_le, option_map, IfSome, All}
 use Rattle.std.specs.List.{list_any}
 use Rattle.std.proofs.lemmas.List.{append_cancel_left}
 use Rattle.lvm_num.specs.declared.record.Stamp.{Stamp}
+use Rattle.lvm_num.specs.declared.descriptor.Mode.{Mode}
+use Rattle.lvm_num.specs.declared.descriptor.Mode.TheVariants.{Active, Passive, Off}
+use Rattle.lvm_num.specs.declared.descriptor.LvRow.{LvRow}
 use Rattle.lvm_num.specs.declared.descriptor.PvRow.{PvRow}
 use Rattle.lvm_num.specs.declared.descriptor.Descriptor.{Descriptor}
 use Rattle.lvm_num.specs.declared.status.Status.{Status}
@@ -17,7 +19,7 @@ use Rattle.lvm_num.specs.Votes.{all_disks}
 use Rattle.lvm_disk.specs.Device.{Media, Range, Device, image_of}
 use Rattle.lvm_disk.specs.Steps.{BothTold}
 use Rattle.lvm_kept.specs.Contents.{Contents, contents_of, has_records}
-use Rattle.lvm_kept.specs.Group.{passes, is_of, has_room, descriptor_among, is_voter, is_named, Finds}
+use Rattle.lvm_kept.specs.Group.{passes, is_of, has_room, descriptor_among, is_voter, Finds, IsOneOf}
 use Rattle.lvm_kept.specs.Torn.{written as as_read}
 use Rattle.lvm_kept.proofs.Finding.{images_within}
 use Rattle.lvm_stamps.specs.Behind.{StampsBefore, beginning_at, IsBehind}
@@ -30,10 +32,11 @@ use Rattle.lvm_quorum.specs.Written.{LogsPlan, IsInPlan}
 use Rattle.lvm_core.specs.declared.parts.Room.{Room}
 use Rattle.lvm_commit.specs.Committed.{next_stamp, Began, ShowsCommitted, HoldsCommitted}
 use Rattle.lvm_commit.proofs.Found.{newest_is_beginning}
-use Rattle.lvm_mwc.specs.Cache.{Cached, no_notes, is_named as is_named_by}
-use Rattle.lvm_mwc.specs.Notes.{both_name}
-use Rattle.lvm_mwc.specs.declared.notes.DiskNotes.{DiskNotes}
-use Rattle.lvm_core.specs.Starting.{Reserved, IsEmptyCache, first_core}
+use Rattle.lvm_change.specs.VaryingOn.{HasNoActive}
+use Rattle.lvm_mwc.specs.Cache.{is_named as is_named_by}
+use Rattle.lvm_core.specs.Held.{NotesAreHome}
+use Rattle.lvm_core.specs.Starting.{Reserved, first_core}
+use Rattle.lvm_core.proofs.Held.{empty_names_none}
 use Rattle.lvm_core.specs.State.{Core, is_there}
 use Rattle.lvm_begin.specs.Beginning.{Beginning, describes, states, MayBeginAgain, IsOfParts}
 use Rattle.lvm_begin.specs.Newest.{FindsBeginning}
@@ -41,7 +44,7 @@ use Rattle.lvm_begin.specs.Shown.{HasBegun}
 use Rattle.lvm_begin.proofs.Following.{targets_spare_newest, ranges_are_of_records, stamps_are_of_beginning}
 use Rattle.lvm_begin.proofs.Newest.{all_find_newest, again_is_found, status_is_last}
 use Rattle.lvm_begin.proofs.Shown.{again_is_shown}
-use Rattle.lvm_next.specs.Next.{IsNextStatus, has_active}
+use Rattle.lvm_next.specs.Next.{IsNextStatus, is_active, has_active}
 use Rattle.lvm_varyon.specs.Found.{records_on}
 use Rattle.lvm_varyon.specs.Chosen.{answering}
 use Rattle.lvm_next.specs.Restated.{Restated}
@@ -75,13 +78,15 @@ voter_room c disks group f d e =
     third true false e is = absurd cc
     third false b e is = absurd cc
 
--- an empty cache names nothing on any disk
-empty_names_none : (d : Descriptor) (c : Cached) → IsEmptyCache d c → (disk lv track_group : ℕ) → is_named_by c disk lv track_group ≡ false
-empty_names_none d c empty disk lv track_group = ap (λ (o : Option DiskNotes). option_map_or (both_name lv track_group) o false) (empty.notes disk) ∙ by_member (is_member d disk)
+-- without such a volume the notes are emptied
+none_active : (rows : List LvRow) → ((row : LvRow) → IsOneOf rows row → row.mode ≡ Active → ⊥) → list_any (λ (row : LvRow). is_active row.mode) rows ≡ false
+none_active [] none = refl
+none_active (row ∷ rows) none = ap (λ (b : Bool). b || list_any (λ (r : LvRow). is_active r.mode) rows) (not_on row.mode (none row (inl refl))) ∙ none_active rows (λ r one. none r (inr one))
   where
-    by_member : (m : Bool) → option_map_or (both_name lv track_group) (if m then Some (no_notes disk) else None) false ≡ false
-    by_member true = refl
-    by_member false = refl
+    not_on : (mode : Mode) → (mode ≡ Active → ⊥) → is_active mode ≡ false
+    not_on Active isnt = absurd (isnt refl)
+    not_on Passive isnt = refl
+    not_on Off isnt = refl
 
 module _ (old new : Device) (name : List ℕ) (moment : ℕ) (room : Room) (parts : Reserved) (homes : Homes) (is : IsBrought old new name moment room parts homes) (ahead : IsAheadOfDisks moment old) (was now : Media) (told : old.media ≡ Some was) (told_now : new.media ≡ Some now) where
   group : Descriptor
@@ -203,9 +208,9 @@ module _ (old new : Device) (name : List ℕ) (moment : ℕ) (room : Room) (part
         target_member d target = room_member is.written.group.pvs d (λ (row : PvRow). nat_le (sectors_needed is.written.group.mib row.pps) (after.size d)) (target_room d target)
 
     -- without a volume in mode active the notes name nothing, and no more does the cache
-    pub forgotten : IsFalse (has_active core.descriptor) → (d lv track_group : ℕ) → IsTrue (is_there core d) → is_named after d lv track_group ≡ is_named_by core.cache d lv track_group
+    pub forgotten : HasNoActive core.descriptor → NotesAreHome core (image_of new.sizes now)
     forgotten quiet d lv track_group present =
-        begun.forgotten (true_not (has_active is.written.group) (sym (ap has_active group_is) ∙ quiet)) d (sym (ap (λ (v : Disks). v d) there_are) ∙ present) lv track_group
+        begun.forgotten (true_not (has_active is.written.group) (none_active is.written.group.lvs (subst HasNoActive group_is quiet))) d (sym (ap (λ (v : Disks). v d) there_are) ∙ present) lv track_group
         ∙ sym (ap (λ (c : Core). is_named_by c.cache d lv track_group) core_is ∙ empty_names_none is.written.group parts.cache is.reserved.cache d lv track_group)
 
     shows : ShowsCommitted after core.descriptor core.status.committed (is_there core)

@@ -13,8 +13,7 @@ use Rattle.lvm_vol.specs.Facts.{Fact, Cut, On}
 use Rattle.lvm_vol.specs.Log.{Log, spare_entries, is_uncut, with_fact, cut_log}
 use Rattle.lvm_kept.specs.Moments.{StaysCalm}
 use Rattle.lvm_kept.specs.Contents.{contents_of}
-use Rattle.lvm_kept.specs.Group.{ReadsBy, is_named}
-use Rattle.lvm_mwc.specs.Cache.{is_named as is_named_by}
+use Rattle.lvm_kept.specs.Group.{ReadsBy}
 use Rattle.lvm_kept.proofs.Finding.{finding_reads}
 use Rattle.lvm_change.specs.Moments.{Keeps, StaysKept}
 use Rattle.lvm_change.specs.Requests.{at}
@@ -28,12 +27,12 @@ use Rattle.lvm_core.specs.declared.refused.Cause.{Cause}
 use Rattle.lvm_core.specs.declared.refused.Cause.TheVariants as cause
 use Rattle.lvm_commit.specs.Committed.{HoldsCommitted}
 use Rattle.lvm_commit.specs.Settling.{NoneIsLeft}
-use Rattle.lvm_core.specs.Held.{IsHeld}
+use Rattle.lvm_core.specs.Held.{IsHeld, NotesAreHome, StartsHeld}
 use Rattle.lvm_core.specs.Settled.{IsSettled, HasNumbers}
 use Rattle.lvm_core.proofs.Settling.{starts_settled, starts_numbered}
 use Rattle.lvm_core.specs.Starting.{Reserved, first_core}
 use Rattle.lvm_core.specs.State.{Core, is_there}
-use Rattle.lvm_varyon.specs.Varied.{IsRecovered, ComesOn, IsRestated, StartsHeld, IsAheadOfDisks, IsBrought, last_stamp, log_after}
+use Rattle.lvm_varyon.specs.Varied.{IsRecovered, ComesOn, IsRestated, IsAheadOfDisks, IsBrought, last_stamp, log_after}
 use Rattle.lvm_varyon.specs.Chosen.{answering}
 use Rattle.lvm_varyon.specs.Restated.{HasNoConsistency}
 use Rattle.lvm_varyon.proofs.Left.{next_leaves_none}
@@ -127,7 +126,7 @@ module _ (old new : Device) (log : Log) (name : List ℕ) (moment : ℕ) (room :
   pub starts_held : ClockIsAhead log.run moment old log.facts → StartsHeld new core
   starts_held clock = record {
     held = held clock;
-    notes = λ quiet. if_told new.media (λ media. (d lv track_group : ℕ) → IsTrue (is_there core d) → is_named (contents_of (image_of new.sizes media)) d lv track_group ≡ is_named_by core.cache d lv track_group) (λ now told_now.
+    notes = λ quiet. if_told new.media (λ media. NotesAreHome core (image_of new.sizes media)) (λ now told_now.
         let before = told_before is.written.writes.read.media new.media _ now told_now is.written.writes.how.keeps.media in
         let told : old.media ≡ Some before.0 = sym is.written.writes.unwritten.media ∙ before.1 in
         forgotten old new name moment room parts homes is (ahead_of log.run moment old log.facts clock) before.0 now told told_now core log core_is quiet);

@@ -1,5 +1,5 @@
 -- How a varyon ends.
-use Rattle.std.specs.Prelude.{◌≡◌, ◌⊎◌, ◌+◌, ◌<◌, ◌≤◌, ◌++◌, ℕ, not, List, Some, IfSome, IsTrue, IsFalse, Result, Ok, Err}
+use Rattle.std.specs.Prelude.{◌≡◌, ◌⊎◌, ◌+◌, ◌<◌, ◌≤◌, ◌++◌, ℕ, not, List, Some, IsTrue, Result, Ok, Err}
 use Rattle.lvm_num.specs.declared.record.Stamp.{Stamp}
 use Rattle.lvm_num.specs.declared.descriptor.Descriptor.{Descriptor}
 use Rattle.lvm_num.specs.declared.status.Status.{Status}
@@ -20,10 +20,7 @@ use Rattle.lvm_core.specs.declared.parts.Room.{Room}
 use Rattle.lvm_core.specs.declared.refused.Cause.{Cause}
 use Rattle.lvm_core.specs.declared.refused.Cause.TheVariants as cause
 use Rattle.lvm_core.specs.Starting.{Reserved, IsReservedFor, ArePlaced, first_core}
-use Rattle.lvm_core.specs.State.{Core, is_there}
-use Rattle.lvm_core.specs.Held.{IsHeld}
-use Rattle.lvm_kept.specs.Group.{is_named}
-use Rattle.lvm_mwc.specs.Cache.{is_named as is_named_by}
+use Rattle.lvm_core.specs.State.{Core}
 use Rattle.lvm_begin.specs.Beginning.{Beginning, MayBeginAgain}
 use Rattle.lvm_varyon.specs.Found.{Found, HaveAnswered}
 use Rattle.lvm_next.specs.Next.{IsNextStatus, has_active}
@@ -72,16 +69,6 @@ pub record IsRecovered (old new : Device) (group : Descriptor) : Type 0 where
   pub disks : Disks
   pub answered : HaveAnswered old new disks
   pub recovered : WhereTold old new (λ before ranges after. Recovered before ranges after disks group.id group)
-
--- the note of each member that isn't missing names the track groups that the session's cache says it does, where the media is told
-abbrev pub AreNotesHome : Device → Core → Type 0
-AreNotesHome device core = IfSome device.media (λ media.
-    (d lv group : ℕ) → IsTrue (is_there core d) → is_named (contents_of (image_of device.sizes media)) d lv group ≡ is_named_by core.cache d lv group)
-
--- The disks hold what the session says is committed, and the notes that its cache says, unless a volume is in mode active: those of such a group are left.
-pub record StartsHeld (device : Device) (core : Core) : Type 0 where
-  pub held : IsHeld device core
-  pub notes : IsFalse (has_active core.descriptor) → AreNotesHome device core
 
 -- ---- the refusals
 

@@ -8,11 +8,12 @@ ghost use Rattle.lvm_change.specs.Moments.{StaysKept};
 ghost use Rattle.lvm_change.specs.Requests.{at};
 ghost use Rattle.lvm_stamps.specs.Behind.{ClockIsAhead, IsBehind};
 ghost use Rattle.lvm_commit.specs.Settling.{NoneIsLeft};
+ghost use Rattle.lvm_core.specs.Held.{StartsHeld};
 ghost use Rattle.lvm_core.specs.Settled.{IsSettled, HasNumbers};
 ghost use Rattle.lvm_core.specs.Sound.{HaveAllLanded};
 ghost use Rattle.lvm_core.specs.Starting.{IsRoom};
 ghost use Rattle.lvm_varyon.specs.Restated.{HasNoConsistency};
-ghost use Rattle.lvm_varyon.specs.Varied.{ComesOn, StartsHeld, IsRestated, IsRecovered, Refuses, BringGives, IsAheadOfDisks, log_after, KeepsAll, StaysBehind};
+ghost use Rattle.lvm_varyon.specs.Varied.{ComesOn, IsRestated, IsRecovered, Refuses, BringGives, IsAheadOfDisks, log_after, KeepsAll, StaysBehind};
 
 use crate::plan::{Plan, plan_of};
 use crate::writes::{read_disks, write_records};

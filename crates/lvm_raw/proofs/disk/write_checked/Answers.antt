@@ -14,7 +14,7 @@ use Rattle.lvm_raw.proofs.disk.write_checked.Goals as goal
 
 pub returns-in_default-clause-does : goal.returns-in_default-clause-does
 returns-in_default-clause-does g c = let old = g.S.Shelf.device c.args.shelf.now in
-    Unasked fault.Memory refl c.requires.may (record { left = c.args.patience.now.left; only = only_none c.args.patience.now.left old; elsewhere = λ d other. untouched_none d old }, rested_none old c.requires.ready) refl
+    Unasked fault.Memory refl c.requires.may (record { left = c.args.patience.now.left; only = only_none c.args.patience.now.left old; elsewhere = λ d other. untouched_none d old }, record { rested = rested_none old c.requires.ready; misses = refl }) refl
 
 pub returns-in_default-clause-keeps : goal.returns-in_default-clause-keeps
 returns-in_default-clause-keeps g c = range_none c.args.history.now.run c.args.disk c.args.patience.now.left (moment_of (g.S.Shelf.device c.args.shelf.now) c.args.history.now.facts) (Err fault.Memory) c.requires.ready tt

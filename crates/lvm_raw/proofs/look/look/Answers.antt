@@ -8,7 +8,7 @@ use Rattle.lvm_raw.proofs.Looking.{looked, looked_dark, none_here, shown_none, s
 use Rattle.lvm_raw.proofs.look.look.Goals as goal
 
 pub returns-in_default-clause-fails : goal.returns-in_default-clause-fails
-returns-in_default-clause-fails g c = let old = g.S.Shelf.device c.args.shelf.now in (record { left = c.args.patience.now.left; only = only_none c.args.patience.now.left old; elsewhere = λ d other. untouched_none d old }, rested_none old c.requires.ready)
+returns-in_default-clause-fails g c = let old = g.S.Shelf.device c.args.shelf.now in (record { left = c.args.patience.now.left; only = only_none c.args.patience.now.left old; elsewhere = λ d other. untouched_none d old }, record { rested = rested_none old c.requires.ready; misses = refl })
 
 pub returns-in_default-clause-keeps : goal.returns-in_default-clause-keeps
 returns-in_default-clause-keeps g c =
@@ -35,7 +35,7 @@ pub returns-in-Err-Stopped-Memory-clause-keeps : goal.returns-in-Err-Stopped-Mem
 returns-in-Err-Stopped-Memory-clause-keeps g c =
     let old = g.S.Shelf.device c.args.shelf.now in
     let gives = rw (c.in-Err-Stopped-Memory.field-0-is, c.in-Err-Stopped-Memory.field-0-0-is) at c.in-Err-Stopped-Memory.ensures.gives in
-    looked c.args.patience.now.left c.read_descriptor.new.patience.left old (g.S.Shelf.device c.read_descriptor.new.shelf) c.in-Err-Stopped-Memory.ensures.only c.args.history.now.run c.args.disk c.args.history.now.facts (Err fault.Memory) gives.0.ready.power (λ unstuck. gives.0.ready) tt
+    looked c.args.patience.now.left c.read_descriptor.new.patience.left old (g.S.Shelf.device c.read_descriptor.new.shelf) c.in-Err-Stopped-Memory.ensures.only c.args.history.now.run c.args.disk c.args.history.now.facts (Err fault.Memory) gives.0.rested.ready.power (λ unstuck. gives.0.rested.ready) tt
 
 pub returns-in-Err-Stopped-Stuck-clause-keeps : goal.returns-in-Err-Stopped-Stuck-clause-keeps
 returns-in-Err-Stopped-Stuck-clause-keeps g c =

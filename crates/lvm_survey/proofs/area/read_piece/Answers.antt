@@ -51,7 +51,7 @@ returns-in-Ok-clause-bytes g c =
     (done_bytes c.args.patience.now.left c.in-Done.ensures.gives.0 c.args.disk c.args.first c.args.count c.args.buf (g.S.Shelf.device c.args.shelf.now) c.requires.ready (g.S.Shelf.device c.transfer.new.shelf) c.in-Done.back c.in-Done.ensures.gives.1)
 
 pub returns-in-Err-clause-gives : goal.returns-in-Err-clause-gives
-returns-in-Err-clause-gives g c = ((done_all c.args.patience.now.left c.in-Done.ensures.gives.0 c.args.disk c.args.first c.args.count c.args.buf (g.S.Shelf.device c.args.shelf.now) c.requires.ready (g.S.Shelf.device c.transfer.new.shelf) c.in-Done.back c.in-Done.ensures.gives.1 c.in-Done.ensures.rests).rested, done_number c.args.patience.now.left c.in-Done.ensures.gives.0 c.args.disk c.args.first c.args.count c.args.buf (g.S.Shelf.device c.args.shelf.now) c.requires.ready (g.S.Shelf.device c.transfer.new.shelf) c.in-Done.back c.in-Done.ensures.gives.1)
+returns-in-Err-clause-gives g c = (done_all c.args.patience.now.left c.in-Done.ensures.gives.0 c.args.disk c.args.first c.args.count c.args.buf (g.S.Shelf.device c.args.shelf.now) c.requires.ready (g.S.Shelf.device c.transfer.new.shelf) c.in-Done.back c.in-Done.ensures.gives.1 c.in-Done.ensures.rests, done_number c.args.patience.now.left c.in-Done.ensures.gives.0 c.args.disk c.args.first c.args.count c.args.buf (g.S.Shelf.device c.args.shelf.now) c.requires.ready (g.S.Shelf.device c.transfer.new.shelf) c.in-Done.back c.in-Done.ensures.gives.1)
 
 pub returns-in-Failed-clause-gives : goal.returns-in-Failed-clause-gives
 returns-in-Failed-clause-gives g c = (failed_one c.args.patience.now.left c.in-Failed.ensures.gives.0 c.args.disk c.args.first c.args.count c.args.buf (g.S.Shelf.device c.args.shelf.now) c.requires.ready (g.S.Shelf.device c.transfer.new.shelf) c.in-Failed.back c.in-Failed.ensures.gives.1 c.requires.records c.in-Failed.ensures.rests, failed_number c.args.patience.now.left c.in-Failed.ensures.gives.0 c.args.disk c.args.first c.args.count c.args.buf (g.S.Shelf.device c.args.shelf.now) c.requires.ready (g.S.Shelf.device c.transfer.new.shelf) c.in-Failed.back c.in-Failed.ensures.gives.1)

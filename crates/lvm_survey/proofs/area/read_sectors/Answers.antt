@@ -14,7 +14,7 @@ pub returns-in_default-clause-elsewhere : goal.returns-in_default-clause-elsewhe
 returns-in_default-clause-elsewhere g c d other = untouched_none d (g.S.Shelf.device c.args.shelf.now)
 
 pub returns-in_default-clause-gives : goal.returns-in_default-clause-gives
-returns-in_default-clause-gives g c = (rested_none (g.S.Shelf.device c.args.shelf.now) c.requires.ready, refl)
+returns-in_default-clause-gives g c = (record { rested = rested_none (g.S.Shelf.device c.args.shelf.now) c.requires.ready; misses = refl }, refl)
 
 pub loop-done-init : goal.loop-done-init
 loop-done-init g c = record {

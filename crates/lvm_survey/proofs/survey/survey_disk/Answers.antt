@@ -3,7 +3,7 @@ use Rattle.lvm_disk.specs.Device.{Media, image_of}
 use Rattle.lvm_survey.specs.Surveyed.{IsRead}
 use Rattle.lvm_survey.specs.Surveying.{IsArea}
 use Rattle.lvm_survey.proofs.Joining.{or_got, told-always, told-more}
-use Rattle.lvm_survey.proofs.Following.{only_none, rested_none}
+use Rattle.lvm_survey.proofs.Following.{only_none, rested_none, stop_of}
 use Rattle.lvm_survey.proofs.DiskRows.{empty_is_read, small_has_none, area_is_read, large_has, not_small}
 use Rattle.lvm_survey.proofs.survey.survey_disk.Goals as goal
 
@@ -66,3 +66,8 @@ returns-in-Err-Failed-clause-elsewhere g c d small = c.in-Err-Failed.ensures.els
 
 pub returns-in-Err-Stopped-clause-elsewhere : goal.returns-in-Err-Stopped-clause-elsewhere
 returns-in-Err-Stopped-clause-elsewhere g c d small = c.in-Err-Stopped.ensures.elsewhere d (not_small (g.S.Shelf.device c.args.shelf.now) c.args.disk c.sectors-sectors.result d c.sectors-sectors.ensures c.if-sectors-lt-DATA.false small)
+
+pub returns-in-Err-Stopped-clause-gives : goal.returns-in-Err-Stopped-clause-gives
+returns-in-Err-Stopped-clause-gives g c =
+    let gives = rw c.in-Err-Stopped.field-0-is at c.in-Err-Stopped.ensures.gives in
+    rw c.in-Err-Stopped.field-0-is (stop_of c.args.disk c.args.buf.number c.args.patience.now.left (g.S.Shelf.device c.args.shelf.now) (g.S.Shelf.device c.read_area.new.shelf) c.in-Err-Stopped.why gives)

@@ -7,8 +7,9 @@ use Rattle.lvm_change.specs.Moments.{Keeps}
 use Rattle.lvm_change.specs.Requests.{at}
 use Rattle.lvm_stamps.specs.Behind.{IsBehind}
 use Rattle.lvm_stamps.proofs.Clock.{all_is_behind_next}
+use Rattle.lvm_core.specs.Held.{StartsHeld}
 use Rattle.lvm_core.specs.declared.refused.Cause.TheVariants as cause
-use Rattle.lvm_varyon.specs.Varied.{ComesOn, StartsHeld, IsRestated, IsRecovered}
+use Rattle.lvm_varyon.specs.Varied.{ComesOn, IsRestated, IsRecovered}
 use Rattle.lvm_varyon.proofs.Spanning.{ahead_of, refused_keeps, refused_calm, comes_on, starts_held, none_left, settles, is_restated, is_recovered, on_keeps, on_calm}
 use Rattle.lvm_varyon.proofs.vary.varyon.Goals as goal
 

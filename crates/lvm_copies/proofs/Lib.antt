@@ -1,0 +1,2 @@
+mod Aiming
+pub mod Laid

@@ -1,0 +1,6 @@
+pub mod Marks
+pub mod Dark
+pub mod Events
+pub mod Ends
+pub mod Turns
+pub mod Calls

@@ -1,0 +1,79 @@
+//! What is pending on a logical partition.
+ghost use Rattle.std.specs.Prelude.{◌≡◌, ◌&&◌, ◌==◌, not};
+ghost use Rattle.std.specs.List.{list_any};
+ghost use Rattle.lvm_num.specs.declared.place.Pp.{Pp};
+ghost use Rattle.lvm_num.specs.Descriptor.{IsValid};
+ghost use Rattle.lvm_path.specs.declared.target.Target.{Target};
+ghost use Rattle.lvm_session.specs.declared.open.Open.{Open};
+ghost use Rattle.lvm_session.specs.Fields.{core_of};
+ghost use Rattle.lvm_session.specs.Judging.{IsWithin, counts_failed, is_beside, is_failing, is_pending, is_settled, is_waiting, is_wanted_stale};
+
+use crate::judged::counts_failed;
+use lvm_copies::{copies_for, is_settled, is_wanted_stale, lp_of};
+use lvm_num::Pp;
+use lvm_path::{Ask, Request, Target};
+use lvm_session::{Open, Session};
+
+/// Whether a request hasn't landed.
+pub fn is_waiting(open: &Open) -> bool
+    ensures { result ≡ is_waiting open.now }
+{
+    open.landed.is_none()
+}
+
+fn any_counts_failed(session: &Session, targets: &[Target]) -> bool
+    ensures { result ≡ list_any (counts_failed (core_of session.now)) targets.now }
+{
+    targets.iter().any(|target| counts_failed(session, target))
+}
+
+/// Whether it is a write that has started its data, has a target that counts as failed, and hasn't landed.
+pub fn is_failing(session: &Session, open: &Open) -> bool
+    ensures { result ≡ is_failing (core_of session.now) open.now }
+{
+    is_waiting(open)
+        && open.request.ask.is_write()
+        && open.request.has_started()
+        && any_counts_failed(session, &open.request.targets)
+}
+
+fn any_is_unsettled(session: &Session, pps: &[Pp]) -> bool
+    ensures { result ≡ list_any (λ (p : Pp). is_wanted_stale (core_of session.now) p && not (is_settled (core_of session.now) p)) pps.now }
+{
+    pps.iter().any(|pp| is_wanted_stale(session, *pp) && !is_settled(session, *pp))
+}
+
+// Whether two requests lie in one logical partition.
+fn is_beside(session: &Session, a: &Ask, b: &Ask) -> bool
+    requires { IsValid session.now.descriptor }
+    ensures { result ≡ is_beside (core_of session.now) a.now b.now }
+{
+    a.lv() == b.lv() && lp_of(session, a) == lp_of(session, b)
+}
+
+// Whether another write in its logical partition is failing.
+fn any_fails_beside(session: &Session, request: &Request) -> bool
+    requires { IsValid session.now.descriptor }
+    ensures { result ≡ list_any (λ (e : Open). not (e.request.id == request.now.id) && is_beside (core_of session.now) e.request.ask request.now.ask && is_failing (core_of session.now) e) session.now.requests.items }
+{
+    for other in &session.requests {
+        if other.request.id != request.id
+            && is_beside(session, &other.request.ask, &request.ask)
+            && is_failing(session, other)
+        {
+            return true;
+        }
+    }
+    false
+}
+
+/// Whether staleness of a copy of its logical partition is wanted and not settled, or another write there is
+/// failing.
+pub fn is_pending(session: &Session, request: &Request) -> bool
+    requires valid { IsValid session.now.descriptor }
+    requires within { IsWithin session.now.descriptor request.now.ask }
+    ensures { result ≡ is_pending (core_of session.now) request.now }
+{
+    any_is_unsettled(session, copies_for(session, &request.ask))
+        || any_fails_beside(session, request)
+}

@@ -1,0 +1,113 @@
+-- The sessions that are written out.
+use Rattle.std.proofs.Common.{◌≡◌, ◌⊎◌, inl, inr, ℕ, zero, suc, ◌<◌, ◌≤◌, Bool, true, false, [], ◌∷◌, Option, Some, None, refl, sym, ap, ◌∙◌, arith}
+use Rattle.std.specs.Prelude.{◌≢◌, slice_index_or}
+use Rattle.lvm_num.specs.Bits.{has_bit}
+use Rattle.lvm_num.specs.Disks.{has}
+use Rattle.lvm_num.specs.Votes.{votes_by}
+use Rattle.lvm_num.specs.Descriptor.{is_member}
+use Rattle.lvm_num.specs.declared.place.Pp.{Pp}
+use Rattle.lvm_mwc.specs.Cache.{has_disk}
+use Rattle.lvm_vol.specs.declared.entry.Outcome.TheVariants as outcome
+use Rattle.lvm_sched.specs.declared.writes.TargetState.TheVariants as stage
+use Rattle.lvm_path.specs.declared.request.Phase.TheVariants as phase
+use Rattle.lvm_path.specs.declared.target.Target.{Target}
+use Rattle.lvm_session.specs.declared.open.Power.TheVariants as power
+use Rattle.lvm_session.specs.State.{Core, State}
+use Rattle.lvm_sound.specs.Worked.{AdmissionMarks, CommitLowersWork, UnsettledIsFresh, ReadsMayLag, StandingStillIsUnsound, BlameNeedsFaults, AnswersAreTold, DarknessKeepsNotes, read_targets}
+use Rattle.lvm_sound.proofs.Small.{not_so, not_either, not_risen}
+
+pub admission_marks : AdmissionMarks
+unfolding votes_by has_bit has
+admission_marks = record {
+  may = refl;
+  lacks = refl;
+  waits = refl;
+  unsound = λ r. not_so (r.marked refl refl);
+  goes_on = refl;
+  falls = refl;
+}
+
+pub commit_lowers_work : CommitLowersWork
+unfolding votes_by has_bit has
+commit_lowers_work = record { before = refl; after = refl; falls = refl }
+
+pub unsettled_is_fresh : UnsettledIsFresh
+unfolding votes_by has_bit has
+unsettled_is_fresh = record { unsettled = refl; settled = refl }
+
+pub standing_still_is_unsound : StandingStillIsUnsound
+unfolding votes_by has_bit has
+standing_still_is_unsound = record {
+  no_event = refl;
+  no_end = refl;
+  stale = λ c. not_either ((c.clearing refl refl).1);
+  waits = refl;
+  unmarked = λ r. not_so (r.due refl);
+  overtakes = λ r. not_either (r.free refl);
+  passes = λ r. not_either ((r.uncaught refl).1.0);
+}
+
+-- neither did the session begin so, nor is there a fault
+of_origin : {F : Type 0} → (F → ⊥) → (false ≡ true) ⊎ F → ⊥
+of_origin none (inl e) = not_so e
+of_origin none (inr f) = none f
+
+of_origin_or_missing : {F : Type 0} → (F → ⊥) → (false ≡ true) ⊎ (false ≡ true) ⊎ F → ⊥
+of_origin_or_missing none (inl e) = not_so e
+of_origin_or_missing none (inr (inl e)) = not_so e
+of_origin_or_missing none (inr (inr f)) = none f
+
+pub blame_needs_faults : BlameNeedsFaults
+unfolding votes_by has_bit has
+blame_needs_faults = record {
+  missing = λ c. not_risen (c.failed refl);
+  lost = λ o. of_origin (λ rose. not_risen rose) (o.missing 0 refl);
+  stale = λ o. of_origin_or_missing (λ rose. not_risen rose) (o.stale (record { disk = 1; pp = 0 }) refl);
+  behind = λ g. not_so (g.behind (record { disk = 0; pp = 0 }) refl);
+}
+
+pub answers_are_told : AnswersAreTold
+answers_are_told = record {
+  otherwise = λ a. other a.outcome;
+  off = λ e. going e;
+  dark = λ e. lit e;
+  stuck = λ core ask. refl;
+}
+  where
+    other : Some outcome.Done ≡ Some outcome.Lost → ⊥
+    other e = absurd cc
+
+    going : power.On ≡ power.Off → ⊥
+    going e = absurd cc
+
+    lit : power.On ≡ power.Dark → ⊥
+    lit e = absurd cc
+
+pub darkness_keeps_notes : DarknessKeepsNotes
+darkness_keeps_notes old new dark same disk = dark.notes disk ∙ same disk ∙ ap (λ (core : Core). is_member core.descriptor disk) (sym dark.is)
+
+-- the two targets of the read differ
+differ : (i j : ℕ) (d : Target) → i < j → j < 2 → (slice_index_or read_targets i d).pp ≢ (slice_index_or read_targets j d).pp
+differ zero zero d below within e = absurd (omega (arith, below))
+differ zero (suc zero) d below within e = let disks : 0 ≡ 1 = ap (λ (p : Pp). p.disk) e in absurd (omega (arith, disks))
+differ zero (suc (suc j)) d below within e = absurd (omega (arith, within))
+differ (suc i) j d below within e = absurd (omega (arith, below, within))
+
+pub reads_may_lag : ReadsMayLag
+unfolding votes_by has_bit has
+reads_may_lag = record {
+  caught = refl;
+  sound = record {
+    targets = (record { copy = refl; sector = refl }, (record { copy = refl; sector = refl }, tt));
+    shape = (omega arith, λ write. not_so write);
+    hand = refl;
+    room = tt;
+    differ = differ;
+    free = λ past. refl;
+    noted = λ m write. not_so write;
+    marked = λ m waits. not_so waits;
+    uncaught = λ write. not_so write;
+    due = λ waits. not_so waits;
+    one = λ read. omega arith;
+  };
+}

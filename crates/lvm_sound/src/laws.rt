@@ -1,0 +1,43 @@
+//! Laws: what the definitions say of sessions that are written out.
+ghost use Rattle.lvm_sound.specs.Worked.{AdmissionMarks, CommitLowersWork, UnsettledIsFresh, ReadsMayLag, StandingStillIsUnsound, BlameNeedsFaults, AnswersAreTold, DarknessKeepsNotes};
+
+/// A write to several copies of a passive volume wants the volume dirty when it is admitted.
+pub fn admission_marks()
+    ensures { AdmissionMarks }
+{}
+
+/// The commit of an update that calls a copy fresh which ended since leaves less work, though the copy is usable
+/// by it until the next update.
+pub fn commit_lowers_work()
+    ensures { CommitLowersWork }
+{}
+
+/// A copy that the update in flight calls fresh isn't opened.
+pub fn unsettled_is_fresh()
+    ensures { UnsettledIsFresh }
+{}
+
+/// The copy that is being brought up may pass blocks whose read of it has failed.
+pub fn reads_may_lag()
+    ensures { ReadsMayLag }
+{}
+
+/// Sessions in which nothing could ever be done about what waits aren't sound.
+pub fn standing_still_is_unsound()
+    ensures { StandingStillIsUnsound }
+{}
+
+/// Without a fault nothing is held against a copy or a disk.
+pub fn blame_needs_faults()
+    ensures { BlameNeedsFaults }
+{}
+
+/// What a request is answered is what the history tells.
+pub fn answers_are_told()
+    ensures { AnswersAreTold }
+{}
+
+/// A power cut leaves the notes of exactly the members.
+pub fn darkness_keeps_notes()
+    ensures { DarknessKeepsNotes }
+{}

@@ -1,0 +1,9 @@
+//! What holds of a session at every moment, and how much work is left in it.
+#![tactic(auto)]
+
+mod laws;
+
+pub use laws::{
+    admission_marks, answers_are_told, blame_needs_faults, commit_lowers_work,
+    darkness_keeps_notes, reads_may_lag, standing_still_is_unsound, unsettled_is_fresh,
+};
