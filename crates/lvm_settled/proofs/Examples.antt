@@ -41,7 +41,7 @@ use Rattle.lvm_settled.specs.Examples.{core_of, session_of, PairsSettle}
 -- ---- who is there
 
 -- the members that aren't missing are those of the pair
-there_at : (lost : Bool) (x : Pair) (d : ℕ) → is_there (core_of (record x { lost = lost })) d ≡ there_by (record x { lost = lost }) d
+pub there_at : (lost : Bool) (x : Pair) (d : ℕ) → is_there (core_of (record x { lost = lost })) d ≡ there_by (record x { lost = lost }) d
 there_at lost x d = by (d == 0) (d == 1) refl refl
   where
     at : Bool → ℕ → Type 0
