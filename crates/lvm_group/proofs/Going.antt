@@ -96,10 +96,10 @@ only_still N a b id its held finds only image may other k is = ⊎_elim
 -- ---- one stage after another
 
 pub still_then : (a b c : State) → StillHeld a b → StillHeld b c → StillHeld a c
-still_then a b c one two = record { held = λ held. two.held (one.held held); only = λ held only. two.only (one.held held) (one.only held only); left = λ none. two.left (one.left none) }
+still_then a b c one two = record { held = λ held. two.held (one.held held); notes = λ home. two.notes (one.notes home); only = λ held only. two.only (one.held held) (one.only held only); left = λ none. two.left (one.left none) }
 
 pub still_none : (a : State) → StillHeld a a
-still_none a = record { held = λ held. held; only = λ held only. only; left = λ none. none }
+still_none a = record { held = λ held. held; notes = λ home. home; only = λ held only. only; left = λ none. none }
 
 falls_then : (a b c : Device) → NoneFalls a.counts b.counts → NoneFalls b.counts c.counts → NoneFalls a.counts c.counts
 falls_then a b c one two = record {

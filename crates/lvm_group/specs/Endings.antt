@@ -19,7 +19,7 @@ use Rattle.lvm_core.specs.declared.fault.CommitFault.{CommitFault}
 use Rattle.lvm_core.specs.declared.fault.CommitFault.TheVariants as commit
 use Rattle.lvm_core.specs.declared.request.Power.TheVariants as power
 use Rattle.lvm_core.specs.State.{Core, State, is_there}
-use Rattle.lvm_core.specs.Held.{IsHeld}
+use Rattle.lvm_core.specs.Held.{IsHeld, AreNotesHome}
 use Rattle.lvm_core.specs.Committing.{moment_of, SpanGoesOn, StaysBehind}
 use Rattle.lvm_core.specs.Zeros.{IsZeroOf}
 use Rattle.lvm_group.specs.declared.fault.GroupFault.{GroupFault}
@@ -90,10 +90,11 @@ IfOn (Err fault.HistoryFull) P = P
 IfOn (Err (fault.DiskFailed disk)) P = P
 IfOn (Err fault.Memory) P = P
 
--- The disks hold what the session says, where they did, no group but this one is found on them, where none was, and no copy is left behind on a member that
--- is missing, where none was.
+-- The disks hold what the session says, where they did, and their notes name what its cache does, where they did; no group but this one is found on them,
+-- where none was, and no copy is left behind on a member that is missing, where none was.
 pub record StillHeld (old new : State) : Type 0 where
   pub held : IsHeld old.device old.core → IsHeld new.device new.core
+  pub notes : AreNotesHome old.device old.core → AreNotesHome new.device new.core
   pub only : IsHeld old.device old.core → IsOnlyGroupOn old.device old.core.descriptor.id → IsOnlyGroupOn new.device new.core.descriptor.id
   pub left : NoneIsLeft old.core.descriptor old.core.status → NoneIsLeft new.core.descriptor new.core.status
 

@@ -9,7 +9,7 @@ ghost use Rattle.lvm_kept.specs.Moments.{StaysCalm};
 ghost use Rattle.lvm_change.specs.Moments.{Keeps};
 ghost use Rattle.lvm_change.specs.Requests.{at};
 ghost use Rattle.lvm_commit.specs.Settling.{NoneIsLeft};
-ghost use Rattle.lvm_core.specs.Held.{IsHeld};
+ghost use Rattle.lvm_core.specs.Held.{StartsHeld};
 ghost use Rattle.lvm_core.specs.Settled.{IsSettled, HasNumbers};
 ghost use Rattle.lvm_core.specs.Sound.{HaveAllLanded};
 ghost use Rattle.lvm_core.specs.Starting.{IsRoom};
@@ -55,7 +55,7 @@ pub fn mkvg<S: Shelf>(
     requires room { IsRoom room }
     ensures gives { MkvgGives S.device (record { name = name; mib = mib; disks = disks.now; force = force; moment = moment }) room patience.old.left history (S.device shelf) result }
     ensures settled { IfOk result (λ driver. IsSettled driver.1 × HasNumbers driver.1) }
-    ensures held { ClockIsAhead history.run moment (S.device shelf) history.facts → IfOk result (λ driver. IsHeld (S.device driver.0) driver.1) }
+    ensures held { ClockIsAhead history.run moment (S.device shelf) history.facts → IfOk result (λ driver. StartsHeld (S.device driver.0) driver.1) }
     ensures left { IfOk result (λ driver. NoneIsLeft driver.1.descriptor driver.1.status) }
     // whatever the answer
     ensures keeps { ClockIsAhead history.run moment (S.device shelf) history.facts → Keeps history.run (at (S.device shelf) history.facts) (at (S.device (shelf_left result)) (history_left result).facts) }

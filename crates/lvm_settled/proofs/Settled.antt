@@ -1,5 +1,5 @@
 -- A settled session is in a good state.
-use Rattle.std.proofs.Common.{◌≡◌, inl, List, ◌++◌, Some, sym, ap, subst, ◌∙◌}
+use Rattle.std.proofs.Common.{inl, List, ◌++◌, Some, sym, ap, subst, ◌∙◌}
 use Rattle.lvm_num.specs.declared.descriptor.Descriptor.{Descriptor}
 use Rattle.lvm_num.specs.Disks.{Disks}
 use Rattle.lvm_vol.specs.Facts.{Fact}
@@ -16,7 +16,7 @@ use Rattle.lvm_rest.proofs.Rest.{good_is_rest}
 use Rattle.lvm_rest.proofs.Closed.{calm_is_closed}
 use Rattle.lvm_rest.proofs.Good.{rest_matches}
 use Rattle.lvm_rest.proofs.Marking.{none_is_left_behind as none_is_behind}
-use Rattle.lvm_settled.specs.Settled.{SettledIsGood, GoodIsSettled, NoneLeftIsBehind}
+use Rattle.lvm_settled.specs.Settled.{CacheIsSeen, SettledIsGood, GoodIsSettled, NoneLeftIsBehind}
 use Rattle.lvm_rest.specs.Rest.{NoneIsBehind}
 
 pub settled_is_good : SettledIsGood
@@ -41,4 +41,7 @@ pub none_left_is_behind : NoneLeftIsBehind
 none_left_is_behind past s media known none =
     let c : Contents = contents_of (image_of s.device.sizes media) in
     subst (λ (set : Disks). NoneIsBehind c s.core.descriptor (Some known.held.shows.stands) set) (ap (λ (g : Descriptor). members_there g s.core.status.wanted) known.sound.fitting.group)
-    (none_is_left_behind c s.core.descriptor s.core.status known.held.shows.stands (known.held.shows.committed ∙ known.settled.committed) none)
+    (none_is_behind c s.core.descriptor s.core.status known.held.shows.stands (known.held.shows.committed ∙ known.settled.committed) none)
+
+pub cache_is_seen : CacheIsSeen
+cache_is_seen past s media known v view home d lv group there = view.sees.notes d lv group there ∙ home d lv group there

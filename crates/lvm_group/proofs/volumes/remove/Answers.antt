@@ -1,12 +1,13 @@
 use Rattle.std.proofs.Common.{◌≡◌, ℕ, [], Err, refl, sym, ap, subst, ◌∙◌, arith}
 use Rattle.std.proofs.lemmas.Result.{err_from_is_err_and}
 use Rattle.lvm_num.specs.declared.descriptor.Descriptor.{Descriptor}
+use Rattle.lvm_num.specs.Descriptor.{is_member}
 use Rattle.lvm_vol.specs.declared.entry.Vol.TheVariants.{Lv}
 use Rattle.lvm_vol.specs.Facts.{Fact, Removing, Removed}
 use Rattle.lvm_kept.specs.Moments.{Moment}
 use Rattle.lvm_commit.specs.Settling.{NoneIsLeft}
 use Rattle.lvm_core.specs.declared.fault.CommitFault.{CommitFault}
-use Rattle.lvm_core.specs.State.{Core, State, state}
+use Rattle.lvm_core.specs.State.{State, state}
 use Rattle.lvm_core.specs.Settled.{IsSettled, HasNumbers}
 use Rattle.lvm_core.specs.Committing.{LetsCommit, HasCommitted, CommitEnds}
 use Rattle.lvm_group.specs.Endings.{StillHeld}
@@ -118,7 +119,8 @@ returns-clause-ends g c =
     let done : HasCommitted next (entered a f) b = subst (λ (x : State). HasCommitted next x b) same c.in_ok-commit.ensures.ends in
     let still_m : StillHeld m b =
     commit_still N NoZeros next refl p q m b c.commit.result settled_m group_m s.ends s.finds s.marks s.left s.numbers s.writes (λ held. c.in_ok-commit.ensures.held held)
-    (ap (λ (x : Core). x.descriptor) c.in_ok-commit.ensures.ends.is) (λ k is. ap (λ (d : Descriptor). d.id) (is ∙ without.is) ∙ ap (λ (x : State). x.core.descriptor.id) (sym same))
+    c.in_ok-commit.ensures.ends (λ k is. ap (λ (d : Descriptor). d.id) (is ∙ without.is) ∙ ap (λ (x : State). x.core.descriptor.id) (sym same))
+    (λ e. ap (λ (d : Descriptor). is_member d e) without.is ∙ ap (λ (x : State). is_member x.core.descriptor e) (sym same))
     (subst (λ (x : State). NoneIsLeft x.core.descriptor x.core.status → NoneIsLeft next x.core.status) (sym same) (none_unnamed c.args.lv next a settled without)) in
     let still : StillHeld (entered a f) b = subst (λ (x : State). StillHeld x b) same still_m in
     let same_b : state (g.S.Shelf.device c.enter-2.new.self.0) c.enter-2.new.self.1 ≡ entered b (Removed (Lv c.args.lv)) = λ t. state (g.S.Shelf.device (c.enter-2.ensures.shelf t)) (c.enter-2.ensures.core t) in
@@ -148,7 +150,8 @@ returns-clause-goes g c =
     let done : HasCommitted next (entered a f) b = subst (λ (x : State). HasCommitted next x b) same c.in_ok-commit.ensures.ends in
     let still_m : StillHeld m b =
     commit_still N NoZeros next refl p q m b c.commit.result settled_m group_m s.ends s.finds s.marks s.left s.numbers s.writes (λ held. c.in_ok-commit.ensures.held held)
-    (ap (λ (x : Core). x.descriptor) c.in_ok-commit.ensures.ends.is) (λ k is. ap (λ (d : Descriptor). d.id) (is ∙ without.is) ∙ ap (λ (x : State). x.core.descriptor.id) (sym same))
+    c.in_ok-commit.ensures.ends (λ k is. ap (λ (d : Descriptor). d.id) (is ∙ without.is) ∙ ap (λ (x : State). x.core.descriptor.id) (sym same))
+    (λ e. ap (λ (d : Descriptor). is_member d e) without.is ∙ ap (λ (x : State). is_member x.core.descriptor e) (sym same))
     (subst (λ (x : State). NoneIsLeft x.core.descriptor x.core.status → NoneIsLeft next x.core.status) (sym same) (none_unnamed c.args.lv next a settled without)) in
     let still : StillHeld (entered a f) b = subst (λ (x : State). StillHeld x b) same still_m in
     let same_b : state (g.S.Shelf.device c.enter-2.new.self.0) c.enter-2.new.self.1 ≡ entered b (Removed (Lv c.args.lv)) = λ t. state (g.S.Shelf.device (c.enter-2.ensures.shelf t)) (c.enter-2.ensures.core t) in
@@ -178,7 +181,8 @@ returns-clause-held g c =
     let done : HasCommitted next (entered a f) b = subst (λ (x : State). HasCommitted next x b) same c.in_ok-commit.ensures.ends in
     let still_m : StillHeld m b =
     commit_still N NoZeros next refl p q m b c.commit.result settled_m group_m s.ends s.finds s.marks s.left s.numbers s.writes (λ held. c.in_ok-commit.ensures.held held)
-    (ap (λ (x : Core). x.descriptor) c.in_ok-commit.ensures.ends.is) (λ k is. ap (λ (d : Descriptor). d.id) (is ∙ without.is) ∙ ap (λ (x : State). x.core.descriptor.id) (sym same))
+    c.in_ok-commit.ensures.ends (λ k is. ap (λ (d : Descriptor). d.id) (is ∙ without.is) ∙ ap (λ (x : State). x.core.descriptor.id) (sym same))
+    (λ e. ap (λ (d : Descriptor). is_member d e) without.is ∙ ap (λ (x : State). is_member x.core.descriptor e) (sym same))
     (subst (λ (x : State). NoneIsLeft x.core.descriptor x.core.status → NoneIsLeft next x.core.status) (sym same) (none_unnamed c.args.lv next a settled without)) in
     let still : StillHeld (entered a f) b = subst (λ (x : State). StillHeld x b) same still_m in
     let same_b : state (g.S.Shelf.device c.enter-2.new.self.0) c.enter-2.new.self.1 ≡ entered b (Removed (Lv c.args.lv)) = λ t. state (g.S.Shelf.device (c.enter-2.ensures.shelf t)) (c.enter-2.ensures.core t) in
