@@ -121,7 +121,7 @@ module _ (map : List Pp) (p q : ℕ) (a b : State) (answer : Result (Unit {0}) C
       behind = behind;
     };
     spends = record { falls = fewer; waits = waited };
-    spans = λ held only run first. keeps held run first;
+    spans = λ held run first only. keeps held run first;
     finds = fresh_finds;
     falls = falls;
   }

@@ -20,9 +20,9 @@ use Rattle.lvm_change.proofs.Entering.{calm_goes_on}
 use Rattle.lvm_status.specs.Update.{members_there}
 use Rattle.lvm_quorum.specs.Written.{KeepsShelf}
 use Rattle.lvm_quorum.proofs.Transfers.{keeps_here, spends_none}
-use Rattle.lvm_commit.specs.Committed.{HoldsCommitted, IsAlike}
+use Rattle.lvm_commit.specs.Committed.{HoldsCommitted, ShowsCommitted}
 use Rattle.lvm_commit.specs.LawsOfFinding.{FindsNoMoreOn}
-use Rattle.lvm_commit.specs.LawsOfVolumes.{IsOnlyGroupOn, LeavesCommitted}
+use Rattle.lvm_commit.specs.LawsOfVolumes.{IsOnlyGroupOn, IsOnlyGroupSince, LeavesCommitted}
 use Rattle.lvm_commit.specs.Settling.{many_there, OnlyLoses, NoneIsLeft, MarksLeft, SpendsNumbers, IsOfCommit}
 use Rattle.lvm_commit.proofs.Still.{still_holds_committed}
 use Rattle.lvm_core.specs.declared.fault.CommitFault.{CommitFault}
@@ -31,7 +31,7 @@ use Rattle.lvm_core.specs.State.{Core, State, is_there}
 use Rattle.lvm_core.specs.Held.{IsHeld}
 use Rattle.lvm_core.specs.Settled.{IsSettled, HasNumbers}
 use Rattle.lvm_core.specs.Committing.{moment_of, SpanGoesOn, StaysBehind, HasCommitted, CommitEnds}
-use Rattle.lvm_group.specs.Endings.{IsOfCommand, KeepsHistory, FindsOnly, StillHeld}
+use Rattle.lvm_group.specs.Endings.{IsOfCommand, KeepsHistory, KeepsSpans, FindsOnly, StillHeld}
 use Rattle.lvm_group.specs.PlannedVolume.{IsOneGroup}
 use Rattle.lvm_group.specs.Stages.{Goes}
 use Rattle.lvm_group.specs.Volumes.{HasRoom}
@@ -59,7 +59,7 @@ settled_entered s f settled = record {
 module _ (N : Descriptor → Type 0) (Z : Pp → Type 0) where
   -- an entry that is no varyon and opens no write
   pub entry_goes : (p : ℕ) (s : State) (f : Fact) → ((moment : ℕ) → IsLater (f ∷ []) moment) → OpensNone f
-      → (IsHeld s.device s.core → IsOnlyGroupOn s.device s.core.descriptor.id → (run : ℕ) (first : Moment) → SpanGoesOn run first s (entered s f)) → Goes N Z p p s (entered s f)
+      → KeepsSpans s (entered s f) → Goes N Z p p s (entered s f)
   entry_goes p s f later opens spans =
       record {
         leaves = record {
@@ -81,17 +81,17 @@ module _ (N : Descriptor → Type 0) (Z : Pp → Type 0) where
 
 -- ---- what a held session's crash images show
 
-pub leaves_committed : (s : State) → IsReady s.device → IsHeld s.device s.core → IsOnlyGroupOn s.device s.core.descriptor.id → LeavesCommitted s.device s.core.descriptor s.core.status.committed (is_there s.core)
-leaves_committed s ready held only = record {
-  shows = λ image may. by_media s.device.media refl held image may;
-  only = only;
-}
+pub shows_committed : (s : State) → IsReady s.device → IsHeld s.device s.core → (image : Image) → MayLeave s.device image → ShowsCommitted (contents_of image) s.core.descriptor s.core.status.committed (is_there s.core)
+shows_committed s ready held image may = by_media s.device.media refl held
   where
     by_media : (o : Option Media) → s.device.media ≡ o → IfSome o (λ media. HoldsCommitted (image_of s.device.sizes media) s.core.descriptor s.core.status.committed (is_there s.core) s.core.status.stamp s.core.homes)
-        → (image : Image) → MayLeave s.device image → Rattle.lvm_commit.specs.Committed.ShowsCommitted (contents_of image) s.core.descriptor s.core.status.committed (is_there s.core)
-    by_media None told held image may = absurd (subst (λ (o : Option Media). MayLeave (record s.device { media = o }) image) told may)
-    by_media (Some m) told held image may =
-        (still_holds_committed s.core.descriptor s.core.status.committed (is_there s.core) s.core.status.stamp s.core.homes s.device m told ready.flights held image may).shows
+        → ShowsCommitted (contents_of image) s.core.descriptor s.core.status.committed (is_there s.core)
+    by_media None told held = absurd (subst (λ (o : Option Media). MayLeave (record s.device { media = o }) image) told may)
+    by_media (Some m) told held = (still_holds_committed s.core.descriptor s.core.status.committed (is_there s.core) s.core.status.stamp s.core.homes s.device m told ready.flights held image may).shows
+
+pub leaves_committed : (s : State) → IsReady s.device → IsHeld s.device s.core → (run : ℕ) (first : Moment) → IsOnlyGroupSince run first s.device s.core.descriptor.id
+    → LeavesCommitted run first s.device s.core.descriptor s.core.status.committed (is_there s.core)
+leaves_committed s ready held run first only = record { shows = shows_committed s ready held; only = only }
 
 -- ---- the commit
 
@@ -111,7 +111,7 @@ module _ (N : Descriptor → Type 0) (Z : Pp → Type 0) (next : Descriptor) (it
   commit_finds : FindsOnly N a b
   commit_finds held id k is = finds_next N a b _ writes.media next its (finds held) held id k is
 
-  pub commit_goes : (IsHeld a.device a.core → IsOnlyGroupOn a.device a.core.descriptor.id → (run : ℕ) (first : Moment) → SpanGoesOn run first a b) → NoneFalls a.device.counts b.device.counts → StaysCalm (moment_of a) (moment_of b) → StaysBehind a b
+  pub commit_goes : KeepsSpans a b → NoneFalls a.device.counts b.device.counts → StaysCalm (moment_of a) (moment_of b) → StaysBehind a b
       → q ≤ p → RoseBy (p - q) a.device.counts.waits b.device.counts.waits → Goes N Z p q a b
   commit_goes spans falls calm behind fewer waited = record {
     leaves = record {

@@ -72,7 +72,7 @@ module _ (map : List Pp) (pp : Pp) (inside : Contains map pp) (p q : ℕ) (a b :
       behind = behind;
     };
     spends = record { falls = fewer; waits = waited };
-    spans = λ held only run first. keeps held run first;
+    spans = λ held run first only. keeps held run first;
     finds = finds_nothing NoNext a b _ writes.media finds;
     falls = falls;
   }

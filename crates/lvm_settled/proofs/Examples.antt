@@ -10,7 +10,8 @@ use Rattle.lvm_num.specs.Buffer.{Sector, zero_sector}
 use Rattle.lvm_num.specs.DescriptorBytes.{descriptor_of}
 use Rattle.lvm_num.specs.StatusBytes.{status_of as read_status}
 use Rattle.lvm_num.specs.Disks.{Disks, has}
-use Rattle.lvm_num.specs.Record.{slot_start, slot_size, kind_magic, stamp_lt}
+use Rattle.lvm_num.specs.declared.descriptor.Descriptor.{Descriptor}
+use Rattle.lvm_num.specs.Record.{Stamped, slot_start, slot_size, kind_magic, stamp_lt}
 use Rattle.lvm_num.specs.Torn.{stamp_of}
 use Rattle.lvm_num.specs.Votes.{CanWrite}
 use Rattle.lvm_num.specs.declared.record.Framed.{Framed}
@@ -18,7 +19,8 @@ use Rattle.lvm_rec.specs.Slots.{held, slot_of, read_under, slot_to_write}
 use Rattle.lvm_disk.specs.Device.{Image, image_of, MayLeave}
 use Rattle.lvm_kept.specs.Contents.{Contents, contents_of}
 use Rattle.lvm_kept.specs.Examples.{stamped, member, two, either_of}
-use Rattle.lvm_kept.specs.Group.{IsFound}
+use Rattle.lvm_kept.specs.Group.{IsOneByAll}
+use Rattle.lvm_kept.proofs.Alike.{one_shown_is_one}
 use Rattle.lvm_kept.proofs.Finding.{some_same}
 use Rattle.lvm_kept.specs.Kept.{Kept}
 use Rattle.lvm_kept.specs.Moments.{Calm}
@@ -32,8 +34,8 @@ use Rattle.lvm_core.specs.Sound.{IsQuiet, IsSound}
 use Rattle.lvm_core.specs.Starting.{Reserved, AreReserved, IsPlaced}
 use Rattle.lvm_core.proofs.Beginning.{sound_first}
 use Rattle.lvm_rest.specs.Rest.{IsEven, NoneIsBehind}
-use Rattle.lvm_rest.specs.Examples.{Pair, status_of, pair_sizes, framed_group, framed_status, media_of, device_of, there_by, history_of, even_pair, naming_note}
-use Rattle.lvm_rest.proofs.Pairs.{id_is}
+use Rattle.lvm_rest.specs.Examples.{Pair, status_of, pair_sizes, framed_group, framed_status, shown_by, media_of, device_of, there_by, history_of, even_pair, naming_note}
+use Rattle.lvm_rest.proofs.Pairs.{the_descriptor}
 use Rattle.lvm_rest.proofs.Sectors.{group_read, status_read, group_first, status_first, no-magic, not-equal, stands_else, second_zero, second_none, room, told}
 use Rattle.lvm_rest.proofs.Examples.{valid, there_in, at_both, enough, shows, behind, zeros_even, pairs_rest}
 use Rattle.lvm_settled.specs.Examples.{core_of, noted_cache, noted_core, IsSettledPair, PairsSettle}
@@ -257,7 +259,8 @@ module _ (mode : Mode) (dirty lost cut : Bool) (note : Sector) (cache : Cached) 
             legal = rests.at_rest.legal;
             kept = λ i crash. subst (λ (j : Image). Kept (contents_of j) (history_of mode cut)) (sym (left_is x below i crash)) (subst (λ (c : Contents). Kept c (history_of mode cut)) (sym (told x below)) rests.at_rest.kept);
           };
-          only = λ i crash other k found. id_is x other k (subst (λ (c : Contents). IsFound c other k) (told x below) (subst (λ (j : Image). IsFound (contents_of j) other k) (left_is x below i crash) found));
+          only = λ i crash. subst (λ (j : Image). IsOneByAll (contents_of j)) (sym (left_is x below i crash)) (subst (λ (c : Contents). IsOneByAll c) (sym (told x below))
+              (one_shown_is_one (shown_by x) (λ d e r s is also. ap (λ (t : Stamped Descriptor). t.value.id) (the_descriptor x d r is ∙ sym (the_descriptor x e s also)))));
         };
         carried = record {
           calm = no_write mode cut;

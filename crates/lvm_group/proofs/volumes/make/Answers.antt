@@ -176,7 +176,7 @@ returns-in_err-commit-clause-ends g c =
     (lets_make v plan a settled planned p q b goes_ab cleared still_ab (subst (λ (x : State). IsHeld x.device x.core) same held) run first) in
     let goes_m : Goes N (Contains plan.map) q r m d =
     commit_goes N (Contains plan.map) next refl q r m d c.commit.result settled_m group_m s.ends s.finds s.marks s.left s.numbers s.writes
-    (λ held only run first. s.keeps held plan.number run first (lets held run first)) s.falls s.calm s.behind s.patience s.waited in
+    (λ held run first only. s.keeps held plan.number run first (lets held run first)) s.falls s.calm s.behind s.patience s.waited in
     let goes : Goes N (Contains plan.map) q r (entered b f) d = subst (λ (x : State). Goes N (Contains plan.map) q r x d) same goes_m in
     let left : MarksLeft next b.core.status d.core.status = subst (λ (x : State). MarksLeft next x.core.status d.core.status) same s.left in
     let writes : KeepsShelf (is_there b.core) (IsOfCommit (descriptor_bytes next) b.core.status d.core.status) b.device d.device =
@@ -216,7 +216,7 @@ returns-in_err-commit-clause-goes g c =
     (lets_make v plan a settled planned p q b goes_ab cleared still_ab (subst (λ (x : State). IsHeld x.device x.core) same held) run first) in
     let goes_m : Goes N (Contains plan.map) q r m d =
     commit_goes N (Contains plan.map) next refl q r m d c.commit.result settled_m group_m s.ends s.finds s.marks s.left s.numbers s.writes
-    (λ held only run first. s.keeps held plan.number run first (lets held run first)) s.falls s.calm s.behind s.patience s.waited in
+    (λ held run first only. s.keeps held plan.number run first (lets held run first)) s.falls s.calm s.behind s.patience s.waited in
     let goes : Goes N (Contains plan.map) q r (entered b f) d = subst (λ (x : State). Goes N (Contains plan.map) q r x d) same goes_m in
     let left : MarksLeft next b.core.status d.core.status = subst (λ (x : State). MarksLeft next x.core.status d.core.status) same s.left in
     let writes : KeepsShelf (is_there b.core) (IsOfCommit (descriptor_bytes next) b.core.status d.core.status) b.device d.device =
@@ -254,7 +254,7 @@ returns-clause-ends g c =
     (lets_make v plan a settled planned p q b goes_ab cleared still_ab (subst (λ (x : State). IsHeld x.device x.core) same held) run first) in
     let goes_m : Goes N (Contains plan.map) q r m d =
     commit_goes N (Contains plan.map) next refl q r m d c.commit.result settled_m group_m s.ends s.finds s.marks s.left s.numbers s.writes
-    (λ held only run first. s.keeps held plan.number run first (lets held run first)) s.falls s.calm s.behind s.patience s.waited in
+    (λ held run first only. s.keeps held plan.number run first (lets held run first)) s.falls s.calm s.behind s.patience s.waited in
     let goes : Goes N (Contains plan.map) q r (entered b f) d = subst (λ (x : State). Goes N (Contains plan.map) q r x d) same goes_m in
     let left : MarksLeft next b.core.status d.core.status = subst (λ (x : State). MarksLeft next x.core.status d.core.status) same s.left in
     let writes : KeepsShelf (is_there b.core) (IsOfCommit (descriptor_bytes next) b.core.status d.core.status) b.device d.device =
@@ -301,7 +301,7 @@ returns-clause-goes g c =
     (lets_make v plan a settled planned p q b goes_ab cleared still_ab (subst (λ (x : State). IsHeld x.device x.core) same held) run first) in
     let goes_m : Goes N (Contains plan.map) q r m d =
     commit_goes N (Contains plan.map) next refl q r m d c.commit.result settled_m group_m s.ends s.finds s.marks s.left s.numbers s.writes
-    (λ held only run first. s.keeps held plan.number run first (lets held run first)) s.falls s.calm s.behind s.patience s.waited in
+    (λ held run first only. s.keeps held plan.number run first (lets held run first)) s.falls s.calm s.behind s.patience s.waited in
     let goes : Goes N (Contains plan.map) q r (entered b f) d = subst (λ (x : State). Goes N (Contains plan.map) q r x d) same goes_m in
     let left : MarksLeft next b.core.status d.core.status = subst (λ (x : State). MarksLeft next x.core.status d.core.status) same s.left in
     let writes : KeepsShelf (is_there b.core) (IsOfCommit (descriptor_bytes next) b.core.status d.core.status) b.device d.device =
@@ -348,7 +348,7 @@ returns-clause-held g c =
     (lets_make v plan a settled planned p q b goes_ab cleared still_ab (subst (λ (x : State). IsHeld x.device x.core) same held) run first) in
     let goes_m : Goes N (Contains plan.map) q r m d =
     commit_goes N (Contains plan.map) next refl q r m d c.commit.result settled_m group_m s.ends s.finds s.marks s.left s.numbers s.writes
-    (λ held only run first. s.keeps held plan.number run first (lets held run first)) s.falls s.calm s.behind s.patience s.waited in
+    (λ held run first only. s.keeps held plan.number run first (lets held run first)) s.falls s.calm s.behind s.patience s.waited in
     let goes : Goes N (Contains plan.map) q r (entered b f) d = subst (λ (x : State). Goes N (Contains plan.map) q r x d) same goes_m in
     let left : MarksLeft next b.core.status d.core.status = subst (λ (x : State). MarksLeft next x.core.status d.core.status) same s.left in
     let writes : KeepsShelf (is_there b.core) (IsOfCommit (descriptor_bytes next) b.core.status d.core.status) b.device d.device =

@@ -66,7 +66,7 @@ returns-in_err-commit-clause-ends g c =
     let lets = λ (run : ℕ) (first : Moment). subst (λ (x : State). LetsCommit c.args.lv next run first x) (sym same) (lets_remove c.args.lv next a settled without run first) in
     let goes : Goes N NoZeros p q m b =
     commit_goes N NoZeros next refl p q m b c.commit.result settled_m group_m s.ends s.finds s.marks s.left s.numbers s.writes
-    (λ held only run first. s.keeps held c.args.lv run first (lets run first)) s.falls s.calm s.behind s.patience s.waited in
+    (λ held run first only. s.keeps held c.args.lv run first (lets run first)) s.falls s.calm s.behind s.patience s.waited in
     let goes_a : Goes N NoZeros p q (entered a f) b = subst (λ (x : State). Goes N NoZeros p q x b) same goes in
     let why : CommitFault = c.in_err-commit.field-0.0 in
     let e = err_from_is_err_and c.from_residual.result c.from_residual.ensures.1 in
@@ -91,7 +91,7 @@ returns-in_err-commit-clause-goes g c =
     let lets = λ (run : ℕ) (first : Moment). subst (λ (x : State). LetsCommit c.args.lv next run first x) (sym same) (lets_remove c.args.lv next a settled without run first) in
     let goes : Goes N NoZeros p q m b =
     commit_goes N NoZeros next refl p q m b c.commit.result settled_m group_m s.ends s.finds s.marks s.left s.numbers s.writes
-    (λ held only run first. s.keeps held c.args.lv run first (lets run first)) s.falls s.calm s.behind s.patience s.waited in
+    (λ held run first only. s.keeps held c.args.lv run first (lets run first)) s.falls s.calm s.behind s.patience s.waited in
     let goes_a : Goes N NoZeros p q (entered a f) b = subst (λ (x : State). Goes N NoZeros p q x b) same goes in
     break_goes c.args.lv next a settled without p q b goes_a
 
@@ -114,7 +114,7 @@ returns-clause-ends g c =
     let lets = λ (run : ℕ) (first : Moment). subst (λ (x : State). LetsCommit c.args.lv next run first x) (sym same) (lets_remove c.args.lv next a settled without run first) in
     let goes : Goes N NoZeros p q m b =
     commit_goes N NoZeros next refl p q m b c.commit.result settled_m group_m s.ends s.finds s.marks s.left s.numbers s.writes
-    (λ held only run first. s.keeps held c.args.lv run first (lets run first)) s.falls s.calm s.behind s.patience s.waited in
+    (λ held run first only. s.keeps held c.args.lv run first (lets run first)) s.falls s.calm s.behind s.patience s.waited in
     let goes_a : Goes N NoZeros p q (entered a f) b = subst (λ (x : State). Goes N NoZeros p q x b) same goes in
     let done : HasCommitted next (entered a f) b = subst (λ (x : State). HasCommitted next x b) same c.in_ok-commit.ensures.ends in
     let still_m : StillHeld m b =
@@ -145,7 +145,7 @@ returns-clause-goes g c =
     let lets = λ (run : ℕ) (first : Moment). subst (λ (x : State). LetsCommit c.args.lv next run first x) (sym same) (lets_remove c.args.lv next a settled without run first) in
     let goes : Goes N NoZeros p q m b =
     commit_goes N NoZeros next refl p q m b c.commit.result settled_m group_m s.ends s.finds s.marks s.left s.numbers s.writes
-    (λ held only run first. s.keeps held c.args.lv run first (lets run first)) s.falls s.calm s.behind s.patience s.waited in
+    (λ held run first only. s.keeps held c.args.lv run first (lets run first)) s.falls s.calm s.behind s.patience s.waited in
     let goes_a : Goes N NoZeros p q (entered a f) b = subst (λ (x : State). Goes N NoZeros p q x b) same goes in
     let done : HasCommitted next (entered a f) b = subst (λ (x : State). HasCommitted next x b) same c.in_ok-commit.ensures.ends in
     let still_m : StillHeld m b =
@@ -176,7 +176,7 @@ returns-clause-held g c =
     let lets = λ (run : ℕ) (first : Moment). subst (λ (x : State). LetsCommit c.args.lv next run first x) (sym same) (lets_remove c.args.lv next a settled without run first) in
     let goes : Goes N NoZeros p q m b =
     commit_goes N NoZeros next refl p q m b c.commit.result settled_m group_m s.ends s.finds s.marks s.left s.numbers s.writes
-    (λ held only run first. s.keeps held c.args.lv run first (lets run first)) s.falls s.calm s.behind s.patience s.waited in
+    (λ held run first only. s.keeps held c.args.lv run first (lets run first)) s.falls s.calm s.behind s.patience s.waited in
     let goes_a : Goes N NoZeros p q (entered a f) b = subst (λ (x : State). Goes N NoZeros p q x b) same goes in
     let done : HasCommitted next (entered a f) b = subst (λ (x : State). HasCommitted next x b) same c.in_ok-commit.ensures.ends in
     let still_m : StillHeld m b =
