@@ -33,7 +33,7 @@ use std::alloc::Global;
 /// `Dark`, `Stuck`, and `DiskFailed`, the lowest that couldn't be read; `GroupExists`, where a disk shows a group, or with
 /// force one that has a volume; `ClockBack`, where the moment isn't later than the last that the disks show, or is the last
 /// that there is; and from the first write on `Dark`, `Stuck`, and `DiskFailed`, the lowest that couldn't be written.
-/// `Memory` may come before the first write.
+/// `Memory` may come before the first write, where none of the causes before the survey holds.
 pub fn mkvg<S: Shelf>(
     alloc: Global,
     shelf: S,
