@@ -1,3 +1,2 @@
 pub mod Even
-mod Notes
 mod OffLemmas

@@ -1,6 +1,5 @@
 //! Laws of group commands at rest. Each call does nothing: its contract is the law.
 ghost use Rattle.lvm_even.specs.Even.{MklvKeepsEven, RmlvKeepsEven, OffIsEven, OffVolumeIsEven, FewerAreEven};
-ghost use Rattle.lvm_even.specs.Notes.{MklvKeepsNotes, RmlvKeepsNotes};
 
 /// What `mklv` writes, whatever its answer, keeps the usable copies of the volumes that were there even.
 pub fn mklv_keeps_even()
@@ -25,14 +24,4 @@ pub fn off_volume_is_even()
 /// Any group stays even with a volume less.
 pub fn fewer_are_even()
     ensures { FewerAreEven }
-{}
-
-/// What `mklv` writes leaves the notes of the disks as they were.
-pub fn mklv_keeps_notes()
-    ensures { MklvKeepsNotes }
-{}
-
-/// So does what `rmlv` writes.
-pub fn rmlv_keeps_notes()
-    ensures { RmlvKeepsNotes }
 {}

@@ -1,9 +1,6 @@
-//! What group commands leave of a settled session: even copies, and the notes as they were.
+//! What group commands leave of a settled session: even copies.
 #![tactic(auto)]
 
 mod laws;
 
-pub use laws::{
-    fewer_are_even, mklv_keeps_even, mklv_keeps_notes, off_is_even, off_volume_is_even,
-    rmlv_keeps_even, rmlv_keeps_notes,
-};
+pub use laws::{fewer_are_even, mklv_keeps_even, off_is_even, off_volume_is_even, rmlv_keeps_even};

@@ -36,6 +36,7 @@ use Rattle.lvm_group.specs.Stages.{Goes, IfOn, AreUnusedOn, IsLowestMissing, Fai
 use Rattle.lvm_group.specs.Volumes.{AreZeroed}
 use Rattle.lvm_group.proofs.Leaving.{wider}
 use Rattle.lvm_group.proofs.Left.{itself, is_used}
+use Rattle.lvm_group.proofs.Notes.{status_spares, still_missing, notes_stay}
 use Rattle.lvm_group.proofs.Going.{keeps_same, keeps_cut, finds_nothing, only_still, goes_then, still_then}
 use Rattle.lvm_group.proofs.Zeroing.{NoNext, dark_history}
 
@@ -120,17 +121,22 @@ module _ (map : List Pp) (p q : ℕ) (a b : State) (answer : Result (Unit {0}) C
       behind = behind;
     };
     spends = record { falls = fewer; waits = waited };
-    spans = λ held only run first. keeps held run first;
+    spans = λ held run first only. keeps held run first;
     finds = fresh_finds;
     falls = falls;
   }
 
-  pub fresh_still : (IsHeld a.device a.core → IsHeld b.device b.core) → b.core.descriptor ≡ a.core.descriptor → StillHeld a b
-  fresh_still held same = record {
+  pub fresh_still : (IsHeld a.device a.core → IsHeld b.device b.core) → HasCommitted a.core.descriptor a b → StillHeld a b
+  fresh_still held done = record {
     held = held;
+    notes = notes_stay (is_there a.core) (IsOfStatus a.core.status b.core.status) (status_spares a.core.status b.core.status) a b writes
+        (still_missing a b (λ d. ap (λ (g : Descriptor). is_member g d) same) marks.stays) (ap (λ (c : Core). c.cache) done.is);
     only = λ h only. subst (λ (d : Descriptor). IsOnlyGroupOn b.device d.id) (sym same) (only_still NoNext a b a.core.descriptor.id (λ k none. absurd none) h fresh_finds only);
     left = λ none. subst (λ (d : Descriptor). NoneIsLeft d b.core.status) (sym same) (marks.none none);
   }
+    where
+      same : b.core.descriptor ≡ a.core.descriptor
+      same = ap (λ (c : Core). c.descriptor) done.is
 
   -- where it wasn't committed
   pub fresh_break : (r : Result (Unit {0}) CommitFault) → ((done : Unit {0}) → r ≡ Ok done → ⊥) → CommitEnds a.core.descriptor p a b r → ClearEnds map p a b r

@@ -49,7 +49,8 @@ refuses_first w patience log device cause.Ambiguous refuses = refuses
 refuses_first w patience log device (cause.NoQuorum have total) refuses = refuses
 
 pub refuses_plan : (w : NewGroup) (patience : ℕ) (log : Log) (device : Device) (why : Cause) → IsReady device → RefusesPlan w (spare_entries log) device.sizes why → Refuses w patience log log device device why
-refuses_plan w patience log device why ready (inl memory) = subst (Refuses w patience log log device device) (sym memory) (record {
+refuses_plan w patience log device why ready (inl memory) = subst (Refuses w patience log log device device) (sym memory.0) (record {
+  may = memory.1;
   unwritten = record { sizes = refl; media = refl; wrote = refl; arranges = refl; orders = refl; faults = refl };
   rested = record { ready = ready; cuts = refl };
   history = refl;
@@ -63,7 +64,7 @@ refuses_reading w patience was is old new cause.GroupExists may same refuses = (
 refuses_reading w patience was is old new (cause.ClockBack seen) may same refuses = (has_read was is old new refuses.0 same, record { may = may; read = refuses.1; free = refuses.2 }, refuses.3)
 refuses_reading w patience was is old new cause.Dark may same refuses = inl (record { may = may; unwritten = refuses.0; cut = refuses.1; entered = same })
 refuses_reading w patience was is old new cause.Stuck may same refuses = inl (record { may = may; unwritten = refuses.0; stuck = refuses.1; entered = same })
-refuses_reading w patience was is old new cause.Memory may same refuses = has_read was is old new refuses same
+refuses_reading w patience was is old new cause.Memory may same refuses = record { may = may; unwritten = refuses.unwritten; rested = refuses.rested; history = same }
 refuses_reading w patience was is old new (cause.NoDisk disk) may same refuses = absurd refuses
 refuses_reading w patience was is old new (cause.TooMany limit) may same refuses = absurd refuses
 refuses_reading w patience was is old new (cause.TooSmall disk) may same refuses = absurd refuses

@@ -1,12 +1,12 @@
 -- The entries of a volume in a session, and the commit between them.
-use Rattle.std.proofs.Common.{◌≡◌, inl, inr, ⊎_elim, ℕ, ◌-◌, ◌≤◌, Bool, true, false, [], ◌∷◌, Option, Some, None, Result, Ok, Err, refl, sym, ap, subst, arith}
+use Rattle.std.proofs.Common.{◌≡◌, inl, inr, ⊎_elim, ℕ, ◌-◌, ◌≤◌, Bool, true, false, [], ◌∷◌, Option, Some, None, Result, Ok, Err, refl, sym, ap, subst, ◌∙◌, arith}
 use Rattle.std.specs.Prelude.{IsTrue, IfSome, not, length}
 use Rattle.std.proofs.lemmas.List.Sums.{sum_by-append, count_by-le-length}
 use Rattle.lvm_num.specs.declared.place.Pp.{Pp}
 use Rattle.lvm_num.specs.declared.descriptor.Descriptor.{Descriptor}
 use Rattle.lvm_num.specs.DescriptorBytes.{descriptor_bytes}
 use Rattle.lvm_num.specs.declared.descriptor.PvRow.{PvRow}
-use Rattle.lvm_num.specs.Descriptor.{IsValid, most_members}
+use Rattle.lvm_num.specs.Descriptor.{IsValid, is_member, most_members}
 use Rattle.lvm_num.specs.Status.{calls_missing}
 use Rattle.lvm_disk.specs.Counts.{RoseBy, NoneFalls}
 use Rattle.lvm_disk.specs.Device.{Media, Image, IsReady, image_of, MayLeave}
@@ -20,9 +20,9 @@ use Rattle.lvm_change.proofs.Entering.{calm_goes_on}
 use Rattle.lvm_status.specs.Update.{members_there}
 use Rattle.lvm_quorum.specs.Written.{KeepsShelf}
 use Rattle.lvm_quorum.proofs.Transfers.{keeps_here, spends_none}
-use Rattle.lvm_commit.specs.Committed.{HoldsCommitted, IsAlike}
+use Rattle.lvm_commit.specs.Committed.{HoldsCommitted, ShowsCommitted}
 use Rattle.lvm_commit.specs.LawsOfFinding.{FindsNoMoreOn}
-use Rattle.lvm_commit.specs.LawsOfVolumes.{IsOnlyGroupOn, LeavesCommitted}
+use Rattle.lvm_commit.specs.LawsOfVolumes.{IsOnlyGroupOn, IsOnlyGroupSince, LeavesCommitted}
 use Rattle.lvm_commit.specs.Settling.{many_there, OnlyLoses, NoneIsLeft, MarksLeft, SpendsNumbers, IsOfCommit}
 use Rattle.lvm_commit.proofs.Still.{still_holds_committed}
 use Rattle.lvm_core.specs.declared.fault.CommitFault.{CommitFault}
@@ -30,12 +30,13 @@ use Rattle.lvm_core.specs.declared.fault.CommitFault.TheVariants as commit
 use Rattle.lvm_core.specs.State.{Core, State, is_there}
 use Rattle.lvm_core.specs.Held.{IsHeld}
 use Rattle.lvm_core.specs.Settled.{IsSettled, HasNumbers}
-use Rattle.lvm_core.specs.Committing.{moment_of, SpanGoesOn, StaysBehind, CommitEnds}
-use Rattle.lvm_group.specs.Endings.{IsOfCommand, KeepsHistory, FindsOnly, StillHeld}
+use Rattle.lvm_core.specs.Committing.{moment_of, SpanGoesOn, StaysBehind, HasCommitted, CommitEnds}
+use Rattle.lvm_group.specs.Endings.{IsOfCommand, KeepsHistory, KeepsSpans, FindsOnly, StillHeld}
 use Rattle.lvm_group.specs.PlannedVolume.{IsOneGroup}
 use Rattle.lvm_group.specs.Stages.{Goes}
 use Rattle.lvm_group.specs.Volumes.{HasRoom}
 use Rattle.lvm_group.proofs.Leaving.{wider}
+use Rattle.lvm_group.proofs.Notes.{commit_spares, still_missing, notes_stay}
 use Rattle.lvm_group.proofs.Going.{keeps_same, keeps_fact, keeps_cut, finds_next, only_still}
 use Rattle.lvm_group.proofs.Zeroing.{same_status, dark_history}
 
@@ -58,7 +59,7 @@ settled_entered s f settled = record {
 module _ (N : Descriptor → Type 0) (Z : Pp → Type 0) where
   -- an entry that is no varyon and opens no write
   pub entry_goes : (p : ℕ) (s : State) (f : Fact) → ((moment : ℕ) → IsLater (f ∷ []) moment) → OpensNone f
-      → (IsHeld s.device s.core → IsOnlyGroupOn s.device s.core.descriptor.id → (run : ℕ) (first : Moment) → SpanGoesOn run first s (entered s f)) → Goes N Z p p s (entered s f)
+      → KeepsSpans s (entered s f) → Goes N Z p p s (entered s f)
   entry_goes p s f later opens spans =
       record {
         leaves = record {
@@ -76,21 +77,21 @@ module _ (N : Descriptor → Type 0) (Z : Pp → Type 0) where
       }
 
   pub entry_still : (s : State) (f : Fact) → StillHeld s (entered s f)
-  entry_still s f = record { held = λ held. held; only = λ held only. only; left = λ none. none }
+  entry_still s f = record { held = λ held. held; notes = λ home. home; only = λ held only. only; left = λ none. none }
 
 -- ---- what a held session's crash images show
 
-pub leaves_committed : (s : State) → IsReady s.device → IsHeld s.device s.core → IsOnlyGroupOn s.device s.core.descriptor.id → LeavesCommitted s.device s.core.descriptor s.core.status.committed (is_there s.core)
-leaves_committed s ready held only = record {
-  shows = λ image may. by_media s.device.media refl held image may;
-  only = only;
-}
+pub shows_committed : (s : State) → IsReady s.device → IsHeld s.device s.core → (image : Image) → MayLeave s.device image → ShowsCommitted (contents_of image) s.core.descriptor s.core.status.committed (is_there s.core)
+shows_committed s ready held image may = by_media s.device.media refl held
   where
     by_media : (o : Option Media) → s.device.media ≡ o → IfSome o (λ media. HoldsCommitted (image_of s.device.sizes media) s.core.descriptor s.core.status.committed (is_there s.core) s.core.status.stamp s.core.homes)
-        → (image : Image) → MayLeave s.device image → Rattle.lvm_commit.specs.Committed.ShowsCommitted (contents_of image) s.core.descriptor s.core.status.committed (is_there s.core)
-    by_media None told held image may = absurd (subst (λ (o : Option Media). MayLeave (record s.device { media = o }) image) told may)
-    by_media (Some m) told held image may =
-        (still_holds_committed s.core.descriptor s.core.status.committed (is_there s.core) s.core.status.stamp s.core.homes s.device m told ready.flights held image may).shows
+        → ShowsCommitted (contents_of image) s.core.descriptor s.core.status.committed (is_there s.core)
+    by_media None told held = absurd (subst (λ (o : Option Media). MayLeave (record s.device { media = o }) image) told may)
+    by_media (Some m) told held = (still_holds_committed s.core.descriptor s.core.status.committed (is_there s.core) s.core.status.stamp s.core.homes s.device m told ready.flights held image may).shows
+
+pub leaves_committed : (s : State) → IsReady s.device → IsHeld s.device s.core → (run : ℕ) (first : Moment) → IsOnlyGroupSince run first s.device s.core.descriptor.id
+    → LeavesCommitted run first s.device s.core.descriptor s.core.status.committed (is_there s.core)
+leaves_committed s ready held run first only = record { shows = shows_committed s ready held; only = only }
 
 -- ---- the commit
 
@@ -110,7 +111,7 @@ module _ (N : Descriptor → Type 0) (Z : Pp → Type 0) (next : Descriptor) (it
   commit_finds : FindsOnly N a b
   commit_finds held id k is = finds_next N a b _ writes.media next its (finds held) held id k is
 
-  pub commit_goes : (IsHeld a.device a.core → IsOnlyGroupOn a.device a.core.descriptor.id → (run : ℕ) (first : Moment) → SpanGoesOn run first a b) → NoneFalls a.device.counts b.device.counts → StaysCalm (moment_of a) (moment_of b) → StaysBehind a b
+  pub commit_goes : KeepsSpans a b → NoneFalls a.device.counts b.device.counts → StaysCalm (moment_of a) (moment_of b) → StaysBehind a b
       → q ≤ p → RoseBy (p - q) a.device.counts.waits b.device.counts.waits → Goes N Z p q a b
   commit_goes spans falls calm behind fewer waited = record {
     leaves = record {
@@ -135,14 +136,19 @@ module _ (N : Descriptor → Type 0) (Z : Pp → Type 0) (next : Descriptor) (it
     falls = falls;
   }
 
-  pub commit_still : (IsHeld a.device a.core → IsHeld b.device b.core) → b.core.descriptor ≡ next → ((k : Descriptor) → N k → k.id ≡ a.core.descriptor.id)
+  pub commit_still : (IsHeld a.device a.core → IsHeld b.device b.core) → HasCommitted next a b → ((k : Descriptor) → N k → k.id ≡ a.core.descriptor.id) → ((d : ℕ) → is_member next d ≡ is_member a.core.descriptor d)
       → (NoneIsLeft a.core.descriptor a.core.status → NoneIsLeft next a.core.status) → StillHeld a b
-  commit_still held same ids none_next = record {
+  commit_still held done ids members none_next = record {
     held = held;
+    notes = notes_stay (is_there a.core) (IsOfCommit (descriptor_bytes next) a.core.status b.core.status) (commit_spares (descriptor_bytes next) a.core.status b.core.status) a b writes
+        (still_missing a b (λ d. ap (λ (g : Descriptor). is_member g d) same ∙ members d) marks.stays) (ap (λ (c : Core). c.cache) done.is);
     only = λ h only. subst (λ (d : Descriptor). IsOnlyGroupOn b.device d.id) (sym same)
         (subst (λ (n : ℕ). IsOnlyGroupOn b.device n) (sym (ids next its)) (only_still N a b a.core.descriptor.id ids h commit_finds only));
     left = λ none. subst (λ (d : Descriptor). NoneIsLeft d b.core.status) (sym same) (left.none (none_next none));
   }
+    where
+      same : b.core.descriptor ≡ next
+      same = ap (λ (c : Core). c.descriptor) done.is
 
 -- ---- sequence numbers
 

@@ -1,7 +1,8 @@
 -- Stages of a command, one after another.
-use Rattle.std.proofs.Common.{◌≡◌, ◌⊎◌, inl, inr, ⊎_elim, ℕ, Bool, true, false, List, [], ◌∷◌, Option, Some, None, refl, sym, ap, subst, ◌∙◌, arith}
+use Rattle.std.proofs.Common.{◌≡◌, ◌⊎◌, inl, inr, ⊎_elim, ℕ, ◌+◌, Bool, true, false, cond, List, [], ◌∷◌, ◌++◌, count_by, Option, Some, None, refl, sym, ap, subst, ◌∙◌, arith}
 use Rattle.std.specs.Prelude.{IfSome, IsSomeAnd, if◌then◌else◌}
 use Rattle.std.proofs.lemmas.List.{append-nil}
+use Rattle.std.proofs.lemmas.List.Sums.{sum_by-append}
 use Rattle.lvm_num.specs.declared.place.Pp.{Pp}
 use Rattle.lvm_num.specs.declared.descriptor.Descriptor.{Descriptor}
 use Rattle.lvm_num.specs.Descriptor.{is_member}
@@ -22,7 +23,7 @@ use Rattle.lvm_core.specs.declared.request.Open.{Open}
 use Rattle.lvm_core.specs.Dark.{dark_log}
 use Rattle.lvm_core.specs.State.{State}
 use Rattle.lvm_core.specs.Held.{IsHeld}
-use Rattle.lvm_group.specs.Endings.{KeepsHistory, MayBeFound, FindsOnly, StillHeld}
+use Rattle.lvm_group.specs.Endings.{is_of_volume, EntersVolumes, KeepsHistory, MayBeFound, FindsOnly, StillHeld}
 use Rattle.lvm_group.specs.Stages.{Goes}
 use Rattle.lvm_group.proofs.Leaving.{leaves_none, leaves_then}
 
@@ -48,19 +49,29 @@ at_media o P m is holds = subst (λ (x : Option Media). IfSome x P) is holds
 
 -- ---- histories
 
+-- a volume's entries
+entries_with : (facts : List Fact) (f : Fact) → count_by is_of_volume (facts ++ f ∷ []) ≡ count_by is_of_volume facts + count_by is_of_volume (f ∷ [])
+entries_with facts f = sum_by-append (λ x. cond (is_of_volume x) 1 0) facts (f ∷ [])
+
+pub enters_one : (facts : List Fact) (f : Fact) → is_of_volume f ≡ true → EntersVolumes facts (facts ++ f ∷ [])
+enters_one facts f is =
+    let sum = entries_with facts f in
+    let one : count_by is_of_volume (f ∷ []) ≡ 1 = ap (λ (b : Bool). 0 + cond b 1 0) is in
+    omega (arith, sum, one)
+
 pub keeps_same : (was is : Log) → is ≡ was → KeepsHistory was is
-keeps_same was is same = subst (λ (l : Log). KeepsHistory was l) (sym same) (record { room = refl; later = λ moment later. later })
+keeps_same was is same = subst (λ (l : Log). KeepsHistory was l) (sym same) (record { room = refl; volumes = omega arith; later = λ moment later. later })
 
 -- with an entry that isn't a varyon
 pub keeps_fact : (was : Log) (f : Fact) → ((moment : ℕ) → IsLater (f ∷ []) moment) → KeepsHistory was (with_fact was f)
-keeps_fact was f later = record { room = refl; later = λ moment is. later_append was.facts (f ∷ []) moment is (later moment) }
+keeps_fact was f later = record { room = refl; volumes = let sum = entries_with was.facts f in omega (arith, sum); later = λ moment is. later_append was.facts (f ∷ []) moment is (later moment) }
 
 pub keeps_cut : (was : Log) → KeepsHistory was (cut_log was)
 keeps_cut was = by_test (is_uncut was.facts)
   where
     by_test : (t : Bool) → KeepsHistory was (if t then with_fact was Cut else was)
     by_test true = keeps_fact was Cut (λ moment. tt)
-    by_test false = record { room = refl; later = λ moment is. is }
+    by_test false = record { room = refl; volumes = omega arith; later = λ moment is. is }
 
 -- with no request open, a cut is all that is entered
 pub dark_is_cut : (log : Log) (requests : List Open) → requests ≡ [] → dark_log log requests ≡ cut_log log
@@ -96,10 +107,10 @@ only_still N a b id its held finds only image may other k is = ⊎_elim
 -- ---- one stage after another
 
 pub still_then : (a b c : State) → StillHeld a b → StillHeld b c → StillHeld a c
-still_then a b c one two = record { held = λ held. two.held (one.held held); only = λ held only. two.only (one.held held) (one.only held only); left = λ none. two.left (one.left none) }
+still_then a b c one two = record { held = λ held. two.held (one.held held); notes = λ home. two.notes (one.notes home); only = λ held only. two.only (one.held held) (one.only held only); left = λ none. two.left (one.left none) }
 
 pub still_none : (a : State) → StillHeld a a
-still_none a = record { held = λ held. held; only = λ held only. only; left = λ none. none }
+still_none a = record { held = λ held. held; notes = λ home. home; only = λ held only. only; left = λ none. none }
 
 falls_then : (a b c : Device) → NoneFalls a.counts b.counts → NoneFalls b.counts c.counts → NoneFalls a.counts c.counts
 falls_then a b c one two = record {
@@ -115,7 +126,7 @@ module _ (N : Descriptor → Type 0) (Z : Pp → Type 0) where
   goes_none p a = record {
     leaves = leaves_none N Z a;
     spends = spends_none p a.device;
-    spans = λ held only run first span. span;
+    spans = λ held run first only span. span;
     finds = λ held id k is. inl is;
     falls = record { starts = λ d. omega arith; misses = λ d. omega arith; faults = λ d. omega arith; cuts = omega arith; waits = omega arith };
   }
@@ -125,7 +136,11 @@ module _ (N : Descriptor → Type 0) (Z : Pp → Type 0) where
   goes_then p q r a b c mib members one still two = record {
     leaves = leaves_then N Z a b c mib members one.falls two.falls one.leaves two.leaves;
     spends = spends_then p q r a.device b.device c.device one.spends two.spends;
-    spans = λ held only run first span. two.spans (still.held held) (still.only held only) run first (one.spans held only run first span);
+    spans = λ held run first only span.
+        let before = one.leaves.history.volumes in
+        let after = two.leaves.history.volumes in
+        two.spans (still.held held) run first (λ enters past begins. still.only held (only (omega (arith, before, enters)) past begins))
+        (one.spans held run first (λ enters. only (omega (arith, after, enters))) span);
     finds = λ held id k is. ⊎_elim (λ (was : MayBeFound b.device id k). one.finds held id k was) (λ (new : (id ≡ k.id) × N k). inr new) (two.finds (still.held held) id k is);
     falls = falls_then a.device b.device c.device one.falls two.falls;
   }

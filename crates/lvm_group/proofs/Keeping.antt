@@ -53,9 +53,10 @@ use Rattle.lvm_status.specs.Update.{Updates}
 use Rattle.lvm_core.specs.declared.parts.Room.{Room}
 use Rattle.lvm_commit.specs.Committed.{Began, ShowsCommitted, HoldsCommitted}
 use Rattle.lvm_commit.proofs.Found.{newest_is_beginning}
-use Rattle.lvm_core.specs.Held.{IsHeld}
+use Rattle.lvm_core.specs.Held.{NotesAreHome, StartsHeld}
 use Rattle.lvm_core.specs.Starting.{Reserved, IsReservedFor, first_core}
 use Rattle.lvm_core.specs.State.{Core, is_there}
+use Rattle.lvm_core.proofs.Held.{empty_names_none}
 use Rattle.lvm_group.specs.NewGroup.{NewGroup, among, sectors_on, size_for, member_for, new_group, new_status, first_absent, first_too_small}
 use Rattle.lvm_group.specs.Shown.{IfShown, HasGroup, ShowsEarlier, SparesTold}
 use Rattle.lvm_group.specs.Made.{beginning_for}
@@ -326,6 +327,10 @@ module _ (w : NewGroup) (device : Device) (homes : Homes) (its : IsBeginning w d
           (own ∙ ap (λ (g : Descriptor). g.id) parts.descriptor);
     }
 
+    -- the notes are emptied, and the cache is empty
+    pub forgotten : NotesAreHome core (image_of new.sizes is)
+    forgotten d lv track_group on = begun.forgotten refl d (target d on) lv track_group ∙ sym (empty_names_none (new_group device.sizes w) r.cache parts.cache d lv track_group)
+
     pub holds : HoldsCommitted (image_of new.sizes is) core.descriptor core.status.committed (is_there core) core.status.stamp core.homes
     holds = record {
       shows = shows;
@@ -334,7 +339,15 @@ module _ (w : NewGroup) (device : Device) (homes : Homes) (its : IsBeginning w d
       homes = λ d on. targets_spare_newest started (new_group device.sizes w) (new_status w) new_order next device new media is told told_new may.describe may.state keeps flips d (target d on) (stand.1.1.0 d (target d on)) (stand.1.0 d (target d on));
     }
 
-  pub is_held : IsHeld new core
-  is_held = if_told new.media (λ is. HoldsCommitted (image_of new.sizes is) core.descriptor core.status.committed (is_there core) core.status.stamp core.homes) (λ is told_new.
-      let was = was_told device.media new.media (λ m n. ChangesBy (IsOfParts (beginning_for device.sizes w homes) new_order) (image_of device.sizes m) (image_of new.sizes n)) is keeps.media told_new in
-      holds was.0 is was.1 told_new)
+  pub starts_held : StartsHeld new core
+  starts_held = record {
+    held = if_told new.media (λ is. HoldsCommitted (image_of new.sizes is) core.descriptor core.status.committed (is_there core) core.status.stamp core.homes) (λ is told_new.
+        let was = before is told_new in
+        holds was.0 is was.1 told_new);
+    notes = λ quiet. if_told new.media (λ is. NotesAreHome core (image_of new.sizes is)) (λ is told_new.
+        let was = before is told_new in
+        forgotten was.0 is was.1 told_new);
+  }
+    where
+      before : (is : Media) → new.media ≡ Some is → (m : Media) × (device.media ≡ Some m)
+      before is told_new = was_told device.media new.media (λ m n. ChangesBy (IsOfParts (beginning_for device.sizes w homes) new_order) (image_of device.sizes m) (image_of new.sizes n)) is keeps.media told_new

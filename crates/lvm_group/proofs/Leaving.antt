@@ -81,7 +81,7 @@ module _ (N : Descriptor → Type 0) (Z : Pp → Type 0) where
       lost = λ d is isnt. absurd (false≢true (sym isnt ∙ is));
     };
     stamps = record { epoch = refl; rises = omega arith };
-    history = record { room = refl; later = λ moment is. is };
+    history = record { room = refl; volumes = omega arith; later = λ moment is. is };
     calm = λ past calm. calm;
     behind = λ moment lt is. is;
   }
@@ -158,7 +158,7 @@ module _ (N : Descriptor → Type 0) (Z : Pp → Type 0) where
       lost = λ d is isnt. lost d (calls_missing b.core.status.wanted d) refl is isnt;
     };
     stamps = record { epoch = two.stamps.epoch ∙ one.stamps.epoch; rises = omega (arith, one.stamps.rises, two.stamps.rises) };
-    history = record { room = two.history.room ∙ one.history.room; later = λ moment is. two.history.later moment (one.history.later moment is) };
+    history = record { room = two.history.room ∙ one.history.room; volumes = omega (arith, one.history.volumes, two.history.volumes); later = λ moment is. two.history.later moment (one.history.later moment is) };
     calm = λ past calm. two.calm past (one.calm past calm);
     behind = λ moment lt is. two.behind moment (subst (λ (n : ℕ). n < moment) (sym one.stamps.epoch) lt) (one.behind moment lt is);
   }

@@ -16,6 +16,7 @@ pub mod OldDescriptor
 pub mod Places
 pub mod Refusals
 pub mod Leaving
+pub mod Notes
 pub mod Going
 pub mod Zeroing
 pub mod Zeros

@@ -28,7 +28,7 @@ use Rattle.lvm_begin.specs.Ends.{BothFlip}
 use Rattle.lvm_begin.specs.Kept.{NewStaysKept}
 use Rattle.lvm_core.specs.declared.parts.Room.{Room}
 use Rattle.lvm_core.specs.declared.refused.Cause.{Cause}
-use Rattle.lvm_core.specs.Held.{IsHeld}
+use Rattle.lvm_core.specs.Held.{StartsHeld}
 use Rattle.lvm_core.specs.Starting.{IsReservedFor, first_core}
 use Rattle.lvm_group.specs.NewGroup.{NewGroup, among, sectors_on, size_for, new_group, new_status, given_up, first_absent, first_too_small, MayBegin}
 use Rattle.lvm_group.specs.Shown.{IfShown, HasGroup, ShowsEarlier, SparesTold}
@@ -40,7 +40,7 @@ use Rattle.lvm_group.specs.declared.plan.Plan.{Plan}
 use Rattle.lvm_group.proofs.Composing.{cut_where, same_beginning, refuses_writing, stands}
 use Rattle.lvm_group.proofs.Entries.{keeps_cut, calm_cut}
 use Rattle.lvm_group.proofs.Groups.{room_among}
-use Rattle.lvm_group.proofs.Keeping.{IsBeginning, descriptor_fits, status_fits, path_kept, then_behind, is_held}
+use Rattle.lvm_group.proofs.Keeping.{IsBeginning, descriptor_fits, status_fits, path_kept, then_behind, starts_held}
 
 -- ---- entries after a cut
 
@@ -155,7 +155,7 @@ module _ (w : NewGroup) (room : Room) (was : Log) (old mid : Device) (free : Fre
       pub written_behind : IsBehind (w.moment + 1) new
       written_behind = then_behind w mid free.homes known new keeps_mid
 
-      pub written_held : (next : Homes) (is : Log) → AreWritten bytes_written mid new → BothFlip (has plan.targets) free.homes next → IsHeld new (first_core plan.parts is (record { epoch = w.moment; seq = 2 }) next)
+      pub written_held : (next : Homes) (is : Log) → AreWritten bytes_written mid new → BothFlip (has plan.targets) free.homes next → StartsHeld new (first_core plan.parts is (record { epoch = w.moment; seq = 2 }) next)
       written_held next is written flips =
-          is_held w mid free.homes known new keeps_mid (subst (λ (b : Beginning). AllStand b new_order new) as_mid written.stand) room plan.parts
+          starts_held w mid free.homes known new keeps_mid (subst (λ (b : Beginning). AllStand b new_order new) as_mid written.stand) room plan.parts
           (subst (λ (l : List ℕ). IsReservedFor (new_group l w) (new_status w) room plan.parts) (sym un.sizes) planned.parts) next (subst (λ (b : Beginning). BothFlip b.targets free.homes next) as_mid flips) is

@@ -48,7 +48,7 @@ use Rattle.lvm_group.specs.Volumes.{AreZeroed}
 use Rattle.lvm_group.proofs.Groups.{size_positive}
 use Rattle.lvm_group.proofs.Leaving.{rose_from, there_before, wider}
 use Rattle.lvm_group.proofs.Left.{none_with, fresh_with}
-use Rattle.lvm_group.proofs.Going.{goes_then, still_then}
+use Rattle.lvm_group.proofs.Going.{enters_one, goes_then, still_then}
 use Rattle.lvm_group.proofs.Zeroing.{NoNext, dark_history}
 use Rattle.lvm_group.proofs.Zeros.{zeros_stay}
 use Rattle.lvm_group.proofs.Places.{places_of, usable_of, free_of, once_of}
@@ -152,9 +152,9 @@ module _ (v : NewVolume) (plan : VolumePlan) (a : State) (settled : IsSettled a.
       -- the volume may be in the making
       pub begun_goes : Goes N Z p q a begun
       begun_goes = goes_then N Z p q q a b begun (ap (λ (d : Descriptor). d.mib) same) (λ d. ap (λ (x : Descriptor). is_member x d) same) clear_break_goes still
-          (entry_goes N Z q b f (λ moment. tt) tt (λ held only run first span.
+          (entry_goes N Z q b f (λ moment. tt) tt (λ held run first only span.
           volume_begins_in_session run first b.device b.core.history.facts b.core.descriptor b.core.status.committed (is_there b.core) plan.number plan.blocks plan.mode span cleared.settled.votes
-          (leaves_committed b cleared.ready held only) (subst (λ (d : Descriptor). volume_of d plan.number ≡ None) (sym same) planned.lowest.free)))
+          (leaves_committed b cleared.ready held run first (only (enters_one b.core.history.facts f refl))) (subst (λ (d : Descriptor). volume_of d plan.number ≡ None) (sym same) planned.lowest.free)))
 
       -- and the descriptor with it may be committed
       same_f : f ≡ Making plan.number (volume_blocks a.core.descriptor.mib v.lps) v.mode
@@ -280,9 +280,9 @@ module _ (v : NewVolume) (plan : VolumePlan) (a : State) (settled : IsSettled a.
               ∙ ap (λ (x : Volume). x.standing) (making_open (past ++ b.core.history.facts) plan.number plan.blocks plan.mode)
 
           ends_goes : Goes N Z r r c made
-          ends_goes = entry_goes N Z r c (Made plan.number) (λ moment. tt) tt (λ held only run first span.
+          ends_goes = entry_goes N Z r c (Made plan.number) (λ moment. tt) tt (λ held run first only span.
               volume_is_made_in_session run first c.device c.core.history.facts c.core.descriptor c.core.status.committed (is_there c.core) plan.number span done.settled.votes
-              (leaves_committed c done.ready held only) there_now is_open)
+              (leaves_committed c done.ready held run first (only (enters_one c.core.history.facts (Made plan.number) refl))) there_now is_open)
 
           still_all : StillHeld a c
           still_all = still_then a begun c still_begun still_c

@@ -23,7 +23,7 @@ use Rattle.lvm_group.specs.NewVolume.{without_volume}
 use Rattle.lvm_group.specs.Endings.{StillHeld}
 use Rattle.lvm_group.specs.PlannedVolume.{IsWithout}
 use Rattle.lvm_group.specs.Stages.{Goes, IsUnnamed, RemoveEnds}
-use Rattle.lvm_group.proofs.Going.{goes_then, still_then}
+use Rattle.lvm_group.proofs.Going.{enters_one, goes_then, still_then}
 use Rattle.lvm_group.proofs.Zeroing.{dark_history}
 use Rattle.lvm_group.proofs.Serving.{old_serves}
 use Rattle.lvm_group.proofs.OldDescriptor.{unnamed_without}
@@ -43,7 +43,7 @@ module _ (lv : ℕ) (next : Descriptor) (a : State) (settled : IsSettled a.core)
   N d = d ≡ next
 
   pub begins_goes : (p : ℕ) → Goes N NoZeros p p a begun
-  begins_goes p = entry_goes N NoZeros p a (Removing (Lv lv)) (λ moment. tt) tt (λ held only run first span. goes_in_span run first a.device a.core.history.facts lv span)
+  begins_goes p = entry_goes N NoZeros p a (Removing (Lv lv)) (λ moment. tt) tt (λ held run first only span. goes_in_span run first a.device a.core.history.facts lv span)
 
   -- the descriptor may be committed
   pub lets_remove : (run : ℕ) (first : Moment) → LetsCommit lv next run first begun
@@ -102,8 +102,8 @@ module _ (lv : ℕ) (next : Descriptor) (a : State) (settled : IsSettled a.core)
       named = ap (λ (x : Core). x.descriptor) done.is
 
       ends_goes : Goes N NoZeros q q b gone
-      ends_goes = entry_goes N NoZeros q b (Removed (Lv lv)) (λ moment. tt) tt (λ held only run first span.
-          volume_is_gone_in_session run first b.device b.core.history.facts b.core.descriptor b.core.status.committed (is_there b.core) lv span done.settled.votes (leaves_committed b done.ready held only)
+      ends_goes = entry_goes N NoZeros q b (Removed (Lv lv)) (λ moment. tt) tt (λ held run first only span.
+          volume_is_gone_in_session run first b.device b.core.history.facts b.core.descriptor b.core.status.committed (is_there b.core) lv span done.settled.votes (leaves_committed b done.ready held run first (only (enters_one b.core.history.facts (Removed (Lv lv)) refl)))
           (subst (λ (d : Descriptor). Rattle.lvm_num.specs.Descriptor.volume_of d lv ≡ None) (sym (named ∙ without.is)) (unnamed_without a.core.descriptor lv)))
 
       same_members : (d : ℕ) → is_member b.core.descriptor d ≡ is_member a.core.descriptor d

@@ -23,6 +23,7 @@ use Rattle.lvm_core.specs.Zeros.{IsZeroOf, ZeroEnds}
 use Rattle.lvm_group.specs.Endings.{IsOfCommand, KeepsStatus, KeepsHistory, StillHeld}
 use Rattle.lvm_group.specs.Stages.{Goes}
 use Rattle.lvm_group.proofs.Leaving.{wider}
+use Rattle.lvm_group.proofs.Notes.{zero_spares, notes_stay}
 use Rattle.lvm_group.proofs.Going.{keeps_same, keeps_cut, dark_is_cut, finds_nothing, only_still}
 
 -- the history after a power cut
@@ -71,7 +72,7 @@ module _ (map : List Pp) (pp : Pp) (inside : Contains map pp) (p q : ℕ) (a b :
       behind = behind;
     };
     spends = record { falls = fewer; waits = waited };
-    spans = λ held only run first. keeps held run first;
+    spans = λ held run first only. keeps held run first;
     finds = finds_nothing NoNext a b _ writes.media finds;
     falls = falls;
   }
@@ -79,6 +80,8 @@ module _ (map : List Pp) (pp : Pp) (inside : Contains map pp) (p q : ℕ) (a b :
   pub zero_still : (IsHeld a.device a.core → IsHeld b.device b.core) → b.core ≡ a.core → StillHeld a b
   zero_still held core = record {
     held = held;
+    notes = notes_stay (λ d. d == pp.disk) (IsZeroOf a.core.descriptor.mib pp) (zero_spares a.core.descriptor.mib pp) a b writes
+        (λ d. subst (λ (c : Core). IsTrue (is_there c d) → IsTrue (is_there a.core d)) (sym core) (λ is. is)) (ap (λ (c : Core). c.cache) core);
     only = λ h only. subst (λ (c : Core). IsOnlyGroupOn b.device c.descriptor.id) (sym core)
         (only_still NoNext a b a.core.descriptor.id (λ k none. absurd none) h (finds_nothing NoNext a b _ writes.media finds) only);
     left = λ none. subst (λ (c : Core). NoneIsLeft c.descriptor c.status) (sym core) none;

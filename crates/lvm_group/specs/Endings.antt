@@ -1,11 +1,13 @@
 -- How a command on a session ends, and what it leaves whatever its answer.
-use Rattle.std.specs.Prelude.{◌≡◌, ◌⊎◌, ℕ, ◌≤◌, [], Result, Ok, Err, IsTrue, IsFalse}
+use Rattle.std.specs.Prelude.{◌≡◌, ◌⊎◌, ℕ, ◌<◌, ◌≤◌, Bool, true, false, List, [], count_by, Result, Ok, Err, IsTrue, IsFalse}
 use Rattle.lvm_num.specs.declared.place.Pp.{Pp}
 use Rattle.lvm_num.specs.declared.descriptor.Descriptor.{Descriptor}
 use Rattle.lvm_num.specs.DescriptorBytes.{descriptor_bytes}
 use Rattle.lvm_num.specs.Status.{calls_stale, calls_missing}
 use Rattle.lvm_disk.specs.Counts.{Rose}
 use Rattle.lvm_disk.specs.Device.{IsReady, Image, Device, MayLeave}
+use Rattle.lvm_vol.specs.declared.entry.Vol.TheVariants.{Lv}
+use Rattle.lvm_vol.specs.Facts.{Fact, Making, Made, Split, Removing, Removed}
 use Rattle.lvm_vol.specs.Legal.{IsLater}
 use Rattle.lvm_vol.specs.Log.{Log, cut_log}
 use Rattle.lvm_kept.specs.Contents.{contents_of}
@@ -13,13 +15,13 @@ use Rattle.lvm_kept.specs.Group.{IsFound}
 use Rattle.lvm_kept.specs.Moments.{Moment, StaysCalm}
 use Rattle.lvm_kept.specs.Plans.{Plan}
 use Rattle.lvm_quorum.specs.Written.{KeepsShelf, IsDarkened, IsGivenUp}
-use Rattle.lvm_commit.specs.LawsOfVolumes.{IsOnlyGroupOn}
+use Rattle.lvm_commit.specs.LawsOfVolumes.{IsOnlyGroupOn, IsOnlyGroupSince}
 use Rattle.lvm_commit.specs.Settling.{there, HasSameRows, NoneIsLeft, HasLostQuorum, IsOfStatus, IsOfCommit}
 use Rattle.lvm_core.specs.declared.fault.CommitFault.{CommitFault}
 use Rattle.lvm_core.specs.declared.fault.CommitFault.TheVariants as commit
 use Rattle.lvm_core.specs.declared.request.Power.TheVariants as power
 use Rattle.lvm_core.specs.State.{Core, State, is_there}
-use Rattle.lvm_core.specs.Held.{IsHeld}
+use Rattle.lvm_core.specs.Held.{IsHeld, AreNotesHome}
 use Rattle.lvm_core.specs.Committing.{moment_of, SpanGoesOn, StaysBehind}
 use Rattle.lvm_core.specs.Zeros.{IsZeroOf}
 use Rattle.lvm_group.specs.declared.fault.GroupFault.{GroupFault}
@@ -90,10 +92,11 @@ IfOn (Err fault.HistoryFull) P = P
 IfOn (Err (fault.DiskFailed disk)) P = P
 IfOn (Err fault.Memory) P = P
 
--- The disks hold what the session says, where they did, no group but this one is found on them, where none was, and no copy is left behind on a member that
--- is missing, where none was.
+-- The disks hold what the session says, where they did, and their notes name what its cache does, where they did; no group but this one is found on them,
+-- where none was, and no copy is left behind on a member that is missing, where none was.
 pub record StillHeld (old new : State) : Type 0 where
   pub held : IsHeld old.device old.core → IsHeld new.device new.core
+  pub notes : AreNotesHome old.device old.core → AreNotesHome new.device new.core
   pub only : IsHeld old.device old.core → IsOnlyGroupOn old.device old.core.descriptor.id → IsOnlyGroupOn new.device new.core.descriptor.id
   pub left : NoneIsLeft old.core.descriptor old.core.status → NoneIsLeft new.core.descriptor new.core.status
 
@@ -123,9 +126,23 @@ pub record StampsRise (old new : State) : Type 0 where
   pub epoch : new.core.status.stamp.epoch ≡ old.core.status.stamp.epoch
   pub rises : old.core.status.stamp.seq ≤ new.core.status.stamp.seq
 
--- the history has the room that it had, and no moment at which a group was varied on was entered
+-- the entry says that a volume is made or removed
+abbrev pub is_of_volume : Fact → Bool
+is_of_volume (Making lv blocks mode) = true
+is_of_volume (Made lv) = true
+is_of_volume (Split from lv) = true
+is_of_volume (Removing (Lv lv)) = true
+is_of_volume (Removed (Lv lv)) = true
+is_of_volume other = false
+
+-- such entries were entered
+abbrev pub EntersVolumes : List Fact → List Fact → Type 0
+EntersVolumes old new = count_by is_of_volume old < count_by is_of_volume new
+
+-- the history has the room and the volumes' entries that it had, and no moment at which a group was varied on was entered
 pub record KeepsHistory (was is : Log) : Type 0 where
   pub room : record is { facts = [] } ≡ record was { facts = [] }
+  pub volumes : count_by is_of_volume was.facts ≤ count_by is_of_volume is.facts
   pub later : (moment : ℕ) → IsLater was.facts moment → IsLater is.facts moment
 
 -- what a command leaves that writes such descriptors, and zeros to such partitions
@@ -137,9 +154,11 @@ pub record Leaves (N : Descriptor → Type 0) (Z : Pp → Type 0) (old new : Sta
   pub calm : StaysCalm (moment_of old) (moment_of new)
   pub behind : StaysBehind old new
 
--- A span that leads to the command goes on, where the disks hold what the session says, and no group but this one is found on them.
+-- A span that leads to the command goes on, where the disks hold what the session says, and, if a volume's making or removal is entered, no group but this
+-- one is found on them.
 abbrev pub KeepsSpans : State → State → Type 0
-KeepsSpans old new = IsHeld old.device old.core → IsOnlyGroupOn old.device old.core.descriptor.id → (run : ℕ) (first : Moment) → SpanGoesOn run first old new
+KeepsSpans old new = IsHeld old.device old.core → (run : ℕ) (first : Moment)
+    → (EntersVolumes old.core.history.facts new.core.history.facts → IsOnlyGroupSince run first old.device old.core.descriptor.id) → SpanGoesOn run first old new
 
 -- a quorum of some crash image finds this descriptor
 abbrev pub MayBeFound : Device → ℕ → Descriptor → Type 0

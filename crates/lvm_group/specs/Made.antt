@@ -113,13 +113,20 @@ pub record HasUnread (w : NewGroup) (was is : Log) (old new : Device) (disk : �
   pub read : HasRead was is old new
   pub unread : IsUnread old new disk
 
+-- memory was wanting before the first write, where nothing stood against the group before any disk was read
+pub record LacksMemory (w : NewGroup) (was is : Log) (old new : Device) : Type 0 where
+  pub may : MayBegin old.sizes (spare_entries was) w.disks w.mib
+  pub unwritten : IsUnwritten old new
+  pub rested : IsRested old new
+  pub history : is ≡ was
+
 -- a disk couldn't be written, and none of those named below it
 pub record HasUnwritten (w : NewGroup) (was is : Log) (old new : Device) (disk : ℕ) : Type 0 where
   pub breaks : Breaks w was is old new (λ b. WasTried b old new)
   pub failed : IsFirstFailed (among w.disks) old new disk
   pub rested : IsRested old new
 
--- Why no group was made: each cause that a clause of its own gives comes exactly where it holds and those before it don't; want of memory is free.
+-- Why no group was made: each cause that a clause of its own gives comes exactly where it holds and those before it don't; want of memory, which is free, only where none holds that is judged before any disk is read.
 abbrev pub Refuses : NewGroup → ℕ → Log → Log → Device → Device → Cause → Type 0
 Refuses w patience was is old new (cause.NoDisk disk) = IsIdle was is old new × RefusesFirst old.sizes (spare_entries was) w.disks w.mib (cause.NoDisk disk)
 Refuses w patience was is old new (cause.TooMany limit) = IsIdle was is old new × RefusesFirst old.sizes (spare_entries was) w.disks w.mib (cause.TooMany limit)
@@ -130,7 +137,7 @@ Refuses w patience was is old new cause.GroupExists = HasRead was is old new × 
 Refuses w patience was is old new (cause.ClockBack seen) = HasRead was is old new × AreFree w was old new × IsClockBack old w.moment seen
 Refuses w patience was is old new cause.Dark = IsCutReading w was is old new ⊎ IsCutWriting w was is old new
 Refuses w patience was is old new cause.Stuck = IsStuckReading w patience was is old new ⊎ IsStuckWriting w patience was is old new
-Refuses w patience was is old new cause.Memory = HasRead was is old new
+Refuses w patience was is old new cause.Memory = LacksMemory w was is old new
 Refuses w patience was is old new cause.NoRecord = ⊥
 Refuses w patience was is old new cause.Ambiguous = ⊥
 Refuses w patience was is old new (cause.NoQuorum have total) = ⊥

@@ -32,6 +32,6 @@ pub record IsPlannedFor (w : NewGroup) (room : Room) (spare : ℕ) (sizes : List
   pub size : 1 ≤ size_for sizes w.disks w.mib
   pub planned : IsPlanned sizes w.name (size_for sizes w.disks w.mib) w.disks w.moment room plan
 
--- Why there is none: something stands against the group before any disk is read, or memory is wanting.
+-- Why there is none: something stands against the group before any disk is read, or nothing does and memory is wanting.
 abbrev pub RefusesPlan : NewGroup → ℕ → List ℕ → Cause → Type 0
-RefusesPlan w spare sizes why = (why ≡ cause.Memory) ⊎ RefusesFirst sizes spare w.disks w.mib why
+RefusesPlan w spare sizes why = ((why ≡ cause.Memory) × MayBegin sizes spare w.disks w.mib) ⊎ RefusesFirst sizes spare w.disks w.mib why

@@ -73,14 +73,14 @@ RefusesAll core (fault.DiskFailed disk) = ⊥
 RefusesAll core fault.Stuck = ⊥
 RefusesAll core fault.Memory = ⊥
 
--- why no volume is made, each cause exactly where it holds and those before it don't; want of memory is free
+-- why no volume is made, each cause exactly where it holds and those before it don't; want of memory, which is free, only where none holds that comes before places are looked for
 abbrev pub RefusesMklv : NewVolume → Core → GroupFault → Type 0
 RefusesMklv v core fault.VolumeExists = TakesCommands core × ((number : ℕ) × IsNumberOf core.descriptor.lvs v.name number)
 RefusesMklv v core (fault.CopyLimit now) = HasNewName v core × (v.copies ≡ 1 → ⊥) × (now ≡ 0)
 RefusesMklv v core (fault.TooMany limit) = HasOneCopy v core × (limit ≡ most_volumes core.descriptor.big) × (limit ≤ length core.descriptor.lvs)
 RefusesMklv v core (fault.NoRoom free) = HasNumber v core × HasNoPlace core.descriptor (is_there core) (new_volume v.lps v.copies) × (free ≡ free_count core.descriptor (is_there core))
 RefusesMklv v core fault.HistoryFull = ((map : List Pp) × HasPlaces v core map) × (HasRoom core → ⊥)
-RefusesMklv v core fault.Memory = Unit {0}
+RefusesMklv v core fault.Memory = HasNumber v core
 RefusesMklv v core fault.Dark = RefusesAll core fault.Dark
 RefusesMklv v core (fault.WentOff have total) = RefusesAll core (fault.WentOff have total)
 RefusesMklv v core fault.Busy = RefusesAll core fault.Busy
@@ -89,11 +89,17 @@ RefusesMklv v core (fault.LastFresh lp) = ⊥
 RefusesMklv v core (fault.DiskFailed disk) = ⊥
 RefusesMklv v core fault.Stuck = ⊥
 
--- why none is removed
+-- nothing stands against a removal
+pub record MayBeRemoved (lv : ℕ) (core : Core) : Type 0 where
+  pub takes : TakesCommands core
+  pub there : IsSome (volume_of core.descriptor lv)
+  pub room : HasRoom core
+
+-- why none is removed; want of memory, which is free, only where nothing else stands against it
 abbrev pub RefusesRmlv : ℕ → Core → GroupFault → Type 0
 RefusesRmlv lv core fault.NoVolume = TakesCommands core × (volume_of core.descriptor lv ≡ None)
 RefusesRmlv lv core fault.HistoryFull = TakesCommands core × IsSome (volume_of core.descriptor lv) × (HasRoom core → ⊥)
-RefusesRmlv lv core fault.Memory = Unit {0}
+RefusesRmlv lv core fault.Memory = MayBeRemoved lv core
 RefusesRmlv lv core fault.Dark = RefusesAll core fault.Dark
 RefusesRmlv lv core (fault.WentOff have total) = RefusesAll core (fault.WentOff have total)
 RefusesRmlv lv core fault.Busy = RefusesAll core fault.Busy
@@ -187,12 +193,6 @@ MklvGives v patience old new (Err fault.Memory) = IsRefused (RefusesMklv v) faul
 -- the history with the entry that the volume is being removed
 abbrev pub removing : ℕ → State → Log
 removing lv s = with_fact s.core.history (Removing (Lv lv))
-
--- nothing stood against it
-pub record MayBeRemoved (lv : ℕ) (core : Core) : Type 0 where
-  pub takes : TakesCommands core
-  pub there : IsSome (volume_of core.descriptor lv)
-  pub room : HasRoom core
 
 -- The volume is removed: the descriptor names it no more, and the history says so; members that became missing aside, and the copies that they left behind,
 -- nothing else of the session has changed.

@@ -9,7 +9,7 @@ ghost use Rattle.lvm_stamps.specs.Behind.{IsBehind, ClockIsAhead};
 ghost use Rattle.lvm_kept.specs.Moments.{StaysCalm};
 ghost use Rattle.lvm_change.specs.Moments.{Keeps};
 ghost use Rattle.lvm_change.specs.Requests.{at};
-ghost use Rattle.lvm_core.specs.Held.{IsHeld};
+ghost use Rattle.lvm_core.specs.Held.{StartsHeld};
 ghost use Rattle.lvm_core.specs.Sound.{HaveAllLanded};
 ghost use Rattle.lvm_core.specs.Starting.{IsRoom, first_core};
 ghost use Rattle.lvm_group.specs.NewGroup.{given_up};
@@ -64,7 +64,7 @@ pub fn make<S: Shelf>(
     requires room { IsRoom asked.now.room }
     ensures made { IfOk result (Stands (group_of asked.now disks.now moment) asked.now.room history.old history.new (S.device shelf.old) (S.device shelf.new)) }
     ensures refused { IfErr result (Refuses (group_of asked.now disks.now moment) patience.old.left history.old history.new (S.device shelf.old) (S.device shelf.new)) }
-    ensures held { ClockIsAhead history.old.run moment (S.device shelf.old) history.old.facts → IfOk result (λ standing. IsHeld (S.device shelf.new) (first_core standing.parts history.new (record { epoch = moment; seq = 2 }) standing.homes)) }
+    ensures held { ClockIsAhead history.old.run moment (S.device shelf.old) history.old.facts → IfOk result (λ standing. StartsHeld (S.device shelf.new) (first_core standing.parts history.new (record { epoch = moment; seq = 2 }) standing.homes)) }
     // whatever the answer
     ensures keeps { ClockIsAhead history.old.run moment (S.device shelf.old) history.old.facts → Keeps history.old.run (at (S.device shelf.old) history.old.facts) (at (S.device shelf.new) history.new.facts) }
     ensures calm { StaysCalm (at (S.device shelf.old) history.old.facts) (at (S.device shelf.new) history.new.facts) }
@@ -131,7 +131,7 @@ fn bring<S: Shelf>(
     requires planned { IsPlannedFor (group_of asked.now disks.now moment) asked.now.room (spare_entries history.old) (S.device shelf.old).sizes plan.now }
     ensures made { IfOk result (λ homes. Stands (group_of asked.now disks.now moment) asked.now.room history.old history.new (S.device shelf.old) (S.device shelf.new) (record { parts = plan.now.parts; homes = homes })) }
     ensures refused { IfErr result (Refuses (group_of asked.now disks.now moment) patience.old.left history.old history.new (S.device shelf.old) (S.device shelf.new)) }
-    ensures held { ClockIsAhead history.old.run moment (S.device shelf.old) history.old.facts → IfOk result (λ homes. IsHeld (S.device shelf.new) (first_core plan.now.parts history.new (record { epoch = moment; seq = 2 }) homes)) }
+    ensures held { ClockIsAhead history.old.run moment (S.device shelf.old) history.old.facts → IfOk result (λ homes. StartsHeld (S.device shelf.new) (first_core plan.now.parts history.new (record { epoch = moment; seq = 2 }) homes)) }
     // whatever the answer
     ensures keeps { ClockIsAhead history.old.run moment (S.device shelf.old) history.old.facts → Keeps history.old.run (at (S.device shelf.old) history.old.facts) (at (S.device shelf.new) history.new.facts) }
     ensures calm { StaysCalm (at (S.device shelf.old) history.old.facts) (at (S.device shelf.new) history.new.facts) }

@@ -9,7 +9,7 @@ ghost use Rattle.lvm_kept.specs.Moments.{StaysCalm};
 ghost use Rattle.lvm_change.specs.Moments.{Keeps};
 ghost use Rattle.lvm_change.specs.Requests.{at};
 ghost use Rattle.lvm_commit.specs.Settling.{NoneIsLeft};
-ghost use Rattle.lvm_core.specs.Held.{IsHeld};
+ghost use Rattle.lvm_core.specs.Held.{StartsHeld};
 ghost use Rattle.lvm_core.specs.Settled.{IsSettled, HasNumbers};
 ghost use Rattle.lvm_core.specs.Sound.{HaveAllLanded};
 ghost use Rattle.lvm_core.specs.Starting.{IsRoom};
@@ -33,7 +33,7 @@ use std::alloc::Global;
 /// `Dark`, `Stuck`, and `DiskFailed`, the lowest that couldn't be read; `GroupExists`, where a disk shows a group, or with
 /// force one that has a volume; `ClockBack`, where the moment isn't later than the last that the disks show, or is the last
 /// that there is; and from the first write on `Dark`, `Stuck`, and `DiskFailed`, the lowest that couldn't be written.
-/// `Memory` may come before the first write.
+/// `Memory` may come before the first write, where none of the causes before the survey holds.
 pub fn mkvg<S: Shelf>(
     alloc: Global,
     shelf: S,
@@ -55,7 +55,7 @@ pub fn mkvg<S: Shelf>(
     requires room { IsRoom room }
     ensures gives { MkvgGives S.device (record { name = name; mib = mib; disks = disks.now; force = force; moment = moment }) room patience.old.left history (S.device shelf) result }
     ensures settled { IfOk result (λ driver. IsSettled driver.1 × HasNumbers driver.1) }
-    ensures held { ClockIsAhead history.run moment (S.device shelf) history.facts → IfOk result (λ driver. IsHeld (S.device driver.0) driver.1) }
+    ensures held { ClockIsAhead history.run moment (S.device shelf) history.facts → IfOk result (λ driver. StartsHeld (S.device driver.0) driver.1) }
     ensures left { IfOk result (λ driver. NoneIsLeft driver.1.descriptor driver.1.status) }
     // whatever the answer
     ensures keeps { ClockIsAhead history.run moment (S.device shelf) history.facts → Keeps history.run (at (S.device shelf) history.facts) (at (S.device (shelf_left result)) (history_left result).facts) }

@@ -31,9 +31,9 @@ use std::alloc::Global;
 const DISKS: u16 = 128;
 
 /// Makes a volume of the group that is on, and answers its number, the lowest that is free. Its partitions are
-/// those of first fit on the members that aren't missing. They become fresh, then zeros are written to them, and
-/// then the descriptor that names the volume is committed, between the two entries of it. All memory is taken
-/// before the first write. Volumes of several copies, or whose copies are made equal after a crash, aren't made
+/// those of first fit on the members that aren't missing. They become fresh, and zeros are written to them; then
+/// the descriptor that names the volume is committed, between the two entries of it. All memory is taken before
+/// the first write. Volumes of several copies, or whose copies are made equal after a crash, aren't made
 /// yet.
 ///
 /// The causes, in their order: `Dark` and `WentOff`, where the session is over; `Busy`, where a request is open;
@@ -41,7 +41,7 @@ const DISKS: u16 = 128;
 /// group has as many volumes as it may; `NoRoom`, where first fit finds no place; `HistoryFull`, with fewer than
 /// two entries to spare or than 65,536 sequence numbers; and from the first write on `Dark`, `WentOff`, `Stuck`,
 /// and `DiskFailed`, where a disk failed on which the volume was to have a partition: the volume isn't made then.
-/// `Memory` may come before the first write.
+/// `Memory` may come before the first write, where none of the causes before `NoRoom` holds.
 ///
 /// A member to which a record can't be written becomes missing; its fresh copies become stale where another copy of
 /// their logical partition is usable.
@@ -93,7 +93,7 @@ pub fn mklv<S: Shelf>(
 /// The causes, in their order: `Dark` and `WentOff`, where the session is over; `Busy`, where a request is open;
 /// `NoVolume`, where the group has none of the number; `HistoryFull`, with fewer than two entries to spare or than
 /// 65,536 sequence numbers; and from the first write on `Dark`, `WentOff` and `Stuck`. `Memory` may come before the
-/// first write. Members become missing, and copies stale, as by `mklv`.
+/// first write, where none of the causes before it holds. Members become missing, and copies stale, as by `mklv`.
 pub fn rmlv<S: Shelf>(
     alloc: Global,
     driver: &mut Driver<S>,

@@ -1,5 +1,6 @@
 -- Lines that are being read.
-use Rattle.std.proofs.Common.{◌≡◌, ◌≤◌, ◌++◌, ◌∷◌, [], ℕ, List, Option, Some, None, Ok, false, sym, ◌∙◌, ap, append_assoc}
+use Rattle.std.proofs.Common.{◌≡◌, ◌≤◌, ◌++◌, ◌∷◌, [], ℕ, List, Option, Some, None, Ok, Err, false, refl, sym, ◌∙◌, ap, append_assoc}
+use Rattle.lvm_num.specs.declared.Memory.{Memory}
 use Rattle.std.proofs.lemmas.List.{append-nil}
 use Rattle.lvm_io.specs.Stream.{WhereTold}
 use Rattle.lvm_io.specs.Lines.{lines_of, has_feed}
@@ -31,6 +32,20 @@ line_given first old new (Some before) (Some left) line same (tail, split, is, c
     ∙ ap (λ (l : List ℕ). line ∷ lines_of (l ++ (new.block ++ left))) (sym (ap (λ (r : Reading). r.front) after))
 line_given first old new None (Some left) line same takes = absurd same
 line_given first old new (Some before) None line same takes = absurd same
+
+-- no line feed and no other byte stands in the block of a reading of which nothing is to come
+block_of_none : (front block left : List ℕ) → front ++ (block ++ left) ≡ [] → block ≡ []
+block_of_none [] [] left is = refl
+block_of_none [] (byte ∷ block) left is = absurd (cc (is))
+block_of_none (byte ∷ front) block left is = absurd (cc (is))
+
+-- memory was wanting for a line that has begun
+pub line_wanted : (first old new : Reading) (before left : Option (List ℕ)) (want : Memory) → WhereTold (to_come first before) (to_come old left) (λ a b. b ≡ a) → TakesLine old new (Err want) → NextGives (to_come first before) (to_come new left) next.Memory
+line_wanted first old new None None want same takes = tt
+line_wanted first old new (Some before) (Some left) want same (stays, some) =
+    (ap (λ (r : Reading). r.front ++ (r.block ++ left)) stays ∙ same, λ none. some (block_of_none old.front old.block left (same ∙ none)))
+line_wanted first old new None (Some left) want same takes = absurd same
+line_wanted first old new (Some before) None want same takes = absurd same
 
 -- what is left at the end of the source
 none_left : (front block left whole : List ℕ) → left ≡ [] → whole ≡ front ++ block → front ++ (block ++ left) ≡ whole

@@ -1,5 +1,5 @@
 -- A text that is being written.
-use Rattle.std.proofs.Common.{◌≡◌, ◌≤◌, ◌++◌, ℕ, List, Option, take, drop, sym, ◌∙◌, ap, append_assoc, take-append-drop}
+use Rattle.std.proofs.Common.{◌≡◌, ◌++◌, ℕ, List, Option, take, drop, sym, ◌∙◌, ap, append_assoc, take-append-drop}
 use Rattle.lvm_io.specs.Stream.{WhereTold}
 use Rattle.lvm_io.proofs.Told.{told_on}
 

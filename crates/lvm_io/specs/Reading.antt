@@ -19,13 +19,13 @@ abbrev pub to_come : Reading → Option (List ℕ) → Option (List ℕ)
 to_come reading None = None
 to_come reading (Some left) = Some (reading.front ++ (reading.block ++ left))
 
--- the first line of the bytes that are to come, or nothing is taken of them
+-- the first line of the bytes that are to come, or nothing is taken of them; memory is wanted only where there are some
 abbrev pub NextGives : Option (List ℕ) → Option (List ℕ) → NextLine → Type 0
 NextGives old new (next.Line line) = WhereTold old new (λ a b. lines_of a ≡ line ∷ lines_of b)
 NextGives old new next.End = WhereTold old new (λ a b. (a ≡ []) × (b ≡ []))
 NextGives old new next.Failed = WhereTold old new (λ a b. b ≡ a)
 NextGives old new next.TooLong = WhereTold old new (λ a b. b ≡ a)
-NextGives old new next.Memory = WhereTold old new (λ a b. b ≡ a)
+NextGives old new next.Memory = WhereTold old new (λ a b. (b ≡ a) × (a ≡ [] → ⊥))
 
 -- a line that has begun counts once
 abbrev pub begun : List ℕ → ℕ
@@ -52,7 +52,7 @@ CountsGiven old new before left = WhereTold before left (λ a b. length a + old.
 abbrev pub TakesLine : Reading → Reading → Result (Option (List ℕ)) Memory → Type 0
 TakesLine old new (Ok (Some line)) = (tail : List ℕ) × (old.block ≡ tail ++ 10 ∷ new.block) × (line ≡ old.front ++ tail) × (has_feed line ≡ false) × (new ≡ record { front = []; block = new.block; given = old.given })
 TakesLine old new (Ok None) = (has_feed new.front ≡ false) × (new ≡ record { front = old.front ++ old.block; block = []; given = old.given })
-TakesLine old new (Err want) = new ≡ old
+TakesLine old new (Err want) = (new ≡ old) × (old.block ≡ [] → ⊥)
 
 -- the next block is read
 abbrev pub Refills : Reading → Reading → Option (List ℕ) → Option (List ℕ) → Got → Type 0

@@ -28,7 +28,7 @@ pub enum NextLine {
     Failed,
     /// The source gave more than `MOST_BYTES`.
     TooLong,
-    /// No memory for the line. Nothing was lost.
+    /// No memory for a line that has begun. Nothing was lost.
     Memory,
 }
 
@@ -116,7 +116,12 @@ impl Lines {
             }
             None => {
                 if self.front.extend_from_slice(block).is_err() {
-                    return Err(Memory);
+                    // Where there are no bytes nothing is wanted.
+                    return if block.is_empty() {
+                        Ok(None)
+                    } else {
+                        Err(Memory)
+                    };
                 }
                 self.start = self.end;
                 Ok(None)

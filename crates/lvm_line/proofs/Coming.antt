@@ -1,5 +1,6 @@
 -- How a group comes on, or doesn't.
 use Rattle.std.proofs.Common.{◌≡◌, ◌+◌, ◌<◌, ◌≤◌, [], ℕ, List, Option, Some, None, true, refl, sym, ◌∙◌, ap, subst, arith}
+use Rattle.std.specs.Prelude.{IfNone}
 use Rattle.lvm_disk.specs.Device.{Device, IsReady}
 use Rattle.lvm_disk.specs.Images.{LeavesNoMore}
 use Rattle.lvm_disk.proofs.Paths.{last-path}
@@ -10,13 +11,14 @@ use Rattle.lvm_vol.specs.Log.{Log}
 use Rattle.lvm_kept.specs.Moments.{Moment, StaysCalm}
 use Rattle.lvm_change.specs.Moments.{Keeps}
 use Rattle.lvm_change.specs.Requests.{at}
+use Rattle.lvm_change.specs.VaryingOn.{HasNoActive}
 use Rattle.lvm_change.proofs.Spans.{keeps_steps}
 use Rattle.lvm_stamps.specs.Behind.{IsBehind, IsAhead, ClockIsAhead}
 use Rattle.lvm_stamps.proofs.Shelves.{no_more_stays_behind}
 use Rattle.lvm_core.specs.declared.refused.Cause.{Cause}
 use Rattle.lvm_core.specs.declared.refused.Cause.TheVariants as cause
 use Rattle.lvm_commit.specs.Settling.{NoneIsLeft}
-use Rattle.lvm_core.specs.Held.{IsHeld}
+use Rattle.lvm_core.specs.Held.{StartsHeld}
 use Rattle.lvm_core.specs.Sound.{HaveAllLanded}
 use Rattle.lvm_core.specs.Settled.{IsSettled as IsSettledCore}
 use Rattle.lvm_core.specs.State.{Core}
@@ -144,6 +146,7 @@ module _ (run : ℕ) (old : State) (settled : IsSettled old.moment old.session) 
           session = tt;
         };
         held = λ timely held. tt;
+        notes = λ timely quiet home. tt;
         left = λ none. tt;
         calm = λ goes. promises.calm;
         settled = λ goes. record { ready = up.ready goes; landed = landed; session = tt };
@@ -153,16 +156,18 @@ module _ (run : ℕ) (old : State) (settled : IsSettled old.moment old.session) 
       }
 
   -- the group is on
-  pub left_on : (core : Core) (new : Device) → Promises run moment old.moment (at new core.history.facts) → IsReady new → IsSettledCore core → core.status.stamp.epoch ≡ moment → HaveAllLanded core.history.facts
-      → (ClockIsAhead run moment old.moment.device old.moment.facts → IsHeld new core) → NoneIsLeft core.descriptor core.status → GoesOn run reply.Ok old (record { moment = at new core.history.facts; session = Some core; last = moment })
-  left_on core new promises ready idle epoch landed held none = record {
+  pub left_on : old.session ≡ None → (core : Core) (new : Device) → Promises run moment old.moment (at new core.history.facts) → IsReady new → IsSettledCore core → core.status.stamp.epoch ≡ moment → HaveAllLanded core.history.facts
+      → (ClockIsAhead run moment old.moment.device old.moment.facts → StartsHeld new core) → NoneIsLeft core.descriptor core.status → GoesOn run reply.Ok old (record { moment = at new core.history.facts; session = Some core; last = moment })
+  left_on off core new promises ready idle epoch landed held none = record {
     keeps = λ timely held alone. promises.keeps (clock_is_ahead run old.last moment old.moment.device old.moment.facts rose timely.ahead);
     timely = λ timely. record {
       ahead = ahead core.history.facts new timely.ahead (promises.later (moment + 1) (omega arith) (earlier (moment + 1) timely.ahead (let e = rose.later in omega (arith, e))))
           (promises.behind (clock_is_ahead run old.last moment old.moment.device old.moment.facts rose timely.ahead));
       session = omega (arith, epoch);
     };
-    held = λ timely before. held (clock_is_ahead run old.last moment old.moment.device old.moment.facts rose timely.ahead);
+    held = λ timely before. (held (clock_is_ahead run old.last moment old.moment.device old.moment.facts rose timely.ahead)).held;
+    notes = λ timely quiet home. (held (clock_is_ahead run old.last moment old.moment.device old.moment.facts rose timely.ahead)).notes
+        (subst (λ (s : Option Core). IfNone s (HasNoActive core.descriptor)) off quiet);
     left = λ before. none;
     calm = λ goes. promises.calm;
     settled = λ goes. record { ready = ready; landed = landed; session = idle };

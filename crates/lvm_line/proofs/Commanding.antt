@@ -68,6 +68,7 @@ module _ {S : Type 0} (device : S → Device) (was is : S × Core) (answer : Rep
       session = let e = timely.session in let same = promised.epoch in omega (arith, e, same);
     };
     held = λ timely held. continues.held.held held;
+    notes = λ timely quiet home. continues.held.notes home;
     left = continues.held.left;
     calm = λ goes. promised.calm;
     settled = λ goes. record { ready = continues.ready; landed = continues.landed; session = continues.settled };
@@ -91,6 +92,7 @@ module _ {S : Type 0} (device : S → Device) (was is : S × Core) (answer : Rep
       session = tt;
     };
     held = λ timely held. tt;
+    notes = λ timely quiet home. tt;
     left = λ none. tt;
     calm = λ goes. promised.calm;
     settled = λ goes. record { ready = up.ready goes; landed = landed goes; session = tt };

@@ -25,7 +25,7 @@ use Rattle.lvm_core.specs.Dark.{dark_log}
 use Rattle.lvm_core.specs.Settled.{IsSettled as IsSettledCore}
 use Rattle.lvm_core.specs.State.{Core}
 use Rattle.lvm_commit.specs.Settling.{NoneIsLeft}
-use Rattle.lvm_core.specs.Held.{IsHeld}
+use Rattle.lvm_core.specs.Held.{IsHeld, AreNotesHome}
 use Rattle.lvm_core.proofs.Telling.{open_cut}
 use Rattle.lvm_line.specs.Moments.{GoesOn}
 use Rattle.lvm_line.specs.Shelves.{IsCut, CutDoes, PowerIsCut}
@@ -90,6 +90,7 @@ module _ (log : Log) (word : ℕ) (old new : State) (settled : IsSettled old.mom
       session = subst (λ (s : Option Core). IfSome s (λ core. core.status.stamp.epoch ≤ new.last)) (sym cut.session) tt;
     };
     held = λ timely held. subst (λ (s : Option Core). IfSome s (λ core. IsHeld new.moment.device core)) (sym cut.session) tt;
+    notes = λ timely quiet home. subst (λ (s : Option Core). IfSome s (λ core. AreNotesHome new.moment.device core)) (sym cut.session) tt;
     left = λ none. subst (λ (s : Option Core). IfSome s (λ core. NoneIsLeft core.descriptor core.status)) (sym cut.session) tt;
     calm = λ goes. subst (λ (facts : List Fact). StaysCalm old.moment (at new.moment.device facts)) (sym cut.facts) (cut_calm old.moment new.moment.device (log_with log old.moment.facts) (λ past calm. calm));
     settled = λ goes. record {

@@ -28,6 +28,7 @@ still_goes run answer s settled = record {
   keeps = λ timely held alone. keeps_still run s.moment;
   timely = λ timely. timely;
   held = λ timely held. held;
+  notes = λ timely quiet home. home;
   left = λ none. none;
   calm = λ goes past calm. calm;
   settled = λ goes. settled;
@@ -61,6 +62,7 @@ asked_goes run answer old new settled asked = subst (λ (s : State). GoesOn run 
     session = session_later old.session old.last new.last later timely.session;
   };
   held = λ timely held. held;
+  notes = λ timely quiet home. home;
   left = λ none. none;
   calm = λ goes past calm. calm;
   settled = λ goes. settled;
@@ -78,6 +80,7 @@ ended_goes run answer old new settled ends = subst (λ (s : State). GoesOn run a
   keeps = λ timely held alone. keeps_still run old.moment;
   timely = λ timely. record { ahead = timely.ahead; session = tt };
   held = λ timely held. tt;
+  notes = λ timely quiet home. tt;
   left = λ none. tt;
   calm = λ goes past calm. calm;
   settled = λ goes. record { ready = settled.ready; landed = settled.landed; session = tt };
@@ -112,6 +115,7 @@ ranges_go run answer old new last stuck says ranges = record {
     session = tt;
   };
   held = λ timely held. tt;
+  notes = λ timely quiet home. tt;
   left = λ none. tt;
   calm = λ goes. ranges.calm (λ is. goes (says is));
   settled = λ goes. record { ready = ranges.ready (λ is. goes (says is)); landed = ranges.landed (λ is. goes (says is)); session = tt };

@@ -15,7 +15,7 @@ use Rattle.lvm_core.specs.declared.refused.Cause.{Cause}
 use Rattle.lvm_core.specs.declared.refused.Cause.TheVariants as cause
 use Rattle.lvm_core.specs.declared.refused.Refused.{Refused}
 use Rattle.lvm_commit.specs.Settling.{NoneIsLeft}
-use Rattle.lvm_core.specs.Held.{IsHeld}
+use Rattle.lvm_core.specs.Held.{StartsHeld}
 use Rattle.lvm_core.specs.Sound.{HaveAllLanded}
 use Rattle.lvm_core.specs.Settled.{IsSettled as IsSettledCore, HasNumbers}
 use Rattle.lvm_core.specs.State.{Core}
@@ -100,7 +100,7 @@ module _ (w : NewGroup) (patience : ℕ) (was is : Log) (old left : Device) (rea
 
 pub record Called {S : Type 0} (device : S → Device) (shelf : S) (log : Log) (w : NewGroup) (room : Room) (outcome : Result (S × Core) (Refused S)) : Type 0 where
   pub gives : MkvgGives device w room patience_of_line log (device shelf) outcome
-  pub held : ClockIsAhead log.run w.moment (device shelf) log.facts → IfOk outcome (λ driver. IsHeld (device driver.0) driver.1)
+  pub held : ClockIsAhead log.run w.moment (device shelf) log.facts → IfOk outcome (λ driver. StartsHeld (device driver.0) driver.1)
   pub left : IfOk outcome (λ driver. NoneIsLeft driver.1.descriptor driver.1.status)
   pub settled : IfOk outcome (λ driver. IsSettledCore driver.1 × HasNumbers driver.1)
   pub waited : (device shelf).counts.waits ≤ (device (shelf_left outcome)).counts.waits
@@ -131,7 +131,7 @@ module _ {S : Type 0} (device : S → Device) (shelf : S) (log : Log) (force : B
       let facts : driver.1.history.facts ≡ (given_up log disks).facts ++ On moment ∷ [] = ap (λ (c : Core). c.history.facts) is in
       subst (λ (s : Stage S). GoesOn log.run answer (state_in device (stage.Off shelf log) last) (state_in device s moment)) (sym left.on.0)
       (subst (λ (a : Reply). GoesOn log.run a (state_in device (stage.Off shelf log) last) (state_in device (stage.On driver) moment)) (sym left.on.1)
-      (left_on log.run (state_in device (stage.Off shelf log) last) settled moment rose driver.1 (device driver.0)
+      (left_on log.run (state_in device (stage.Off shelf log) last) settled moment rose refl driver.1 (device driver.0)
       (record {
         keeps = called.keeps;
         behind = called.behind;

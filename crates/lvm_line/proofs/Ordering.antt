@@ -74,6 +74,7 @@ module _ {S : Type 0} (device : S → Device) (old new : Stage S) (disk : ℕ) (
     keeps = λ timely held alone. keeps_steps run (moment_in device old) (device (shelf_in old)) (with_order (device (shelf_in old)) what) (history_in old).facts (keeps_still run (moment_in device old)) path;
     timely = λ timely. record { ahead = record { run_is = timely.ahead.run_is; later = timely.ahead.later; behind = timely.ahead.behind }; session = timely.session };
     held = λ timely held. held;
+    notes = λ timely quiet home. home;
     left = λ none. none;
     calm = λ goes past calm. calm;
     settled = λ goes. record { ready = record { flights = settled.ready.flights; freed = settled.ready.freed; power = settled.ready.power }; landed = settled.landed; session = settled.session };

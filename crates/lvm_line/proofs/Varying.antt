@@ -15,6 +15,7 @@ use Rattle.lvm_core.specs.declared.refused.Cause.{Cause}
 use Rattle.lvm_core.specs.declared.refused.Cause.TheVariants as cause
 use Rattle.lvm_core.specs.declared.refused.Refused.{Refused}
 use Rattle.lvm_commit.specs.Settling.{NoneIsLeft}
+use Rattle.lvm_core.specs.Held.{StartsHeld}
 use Rattle.lvm_core.specs.Sound.{HaveAllLanded}
 use Rattle.lvm_core.specs.Settled.{IsSettled as IsSettledCore, HasNumbers}
 use Rattle.lvm_core.specs.State.{Core}
@@ -31,7 +32,7 @@ use Rattle.lvm_line.proofs.Coming.{Rests, Leaves, lit_up, left_off, left_on, off
 use Rattle.lvm_line.proofs.Passive.{Bears, bears_cut, landed_bears, later_bears, open_more}
 use Rattle.lvm_line.proofs.Cutting.{cut_rooms}
 use Rattle.lvm_varyon.specs.Restated.{HasNoConsistency}
-use Rattle.lvm_varyon.specs.Varied.{ComesOn, StartsHeld, IsRestated, IsRecovered, Refuses, KeepsAll, StaysBehind, log_after}
+use Rattle.lvm_varyon.specs.Varied.{ComesOn, IsRestated, IsRecovered, Refuses, KeepsAll, StaysBehind, log_after}
 
 -- ---- a refusal
 
@@ -116,7 +117,7 @@ module _ {S : Type 0} (device : S → Device) (shelf : S) (log : Log) (name : Li
       let facts : driver.1.history.facts ≡ log.facts ++ On moment ∷ [] = ap (λ (c : Core). c.history.facts) is in
       subst (λ (s : Stage S). GoesOn log.run answer (state_in device (stage.Off shelf log) last) (state_in device s moment)) (sym left.on.0)
       (subst (λ (a : Reply). GoesOn log.run a (state_in device (stage.Off shelf log) last) (state_in device (stage.On driver) moment)) (sym left.on.1)
-      (left_on log.run (state_in device (stage.Off shelf log) last) settled moment rose driver.1 (device driver.0)
+      (left_on log.run (state_in device (stage.Off shelf log) last) settled moment rose refl driver.1 (device driver.0)
       (record {
         keeps = called.keeps;
         behind = called.behind;
@@ -128,7 +129,7 @@ module _ {S : Type 0} (device : S → Device) (shelf : S) (log : Log) (name : Li
       called.settled.0
       (ap (λ (c : Core). c.status.stamp.epoch) is)
       (λ id. subst (λ (l : List Fact). is_open l id ≡ false) (sym facts) (open_more log.facts (On moment) id refl refl ∙ settled.landed id))
-      (λ ahead. (called.held ahead).held) called.left))
+      called.held called.left))
   goes (Err refused) called left =
       subst (λ (s : State). GoesOn log.run answer (state_in device (stage.Off shelf log) last) s) (sym (off_is device it refused.history moment left.off.0 left.off.1))
       (subst (λ (a : Reply). GoesOn log.run a (state_in device (stage.Off shelf log) last) (record { moment = at (device (shelf_in it)) refused.history.facts; session = None; last = moment })) (sym left.off.2)

@@ -3,7 +3,7 @@ use Rattle.std.specs.Prelude.{◌≡◌, ◌⊎◌, ◌≤◌, ℕ, true, IfSome
 use Rattle.lvm_kept.specs.Moments.{StaysCalm}
 use Rattle.lvm_change.specs.Moments.{Keeps}
 use Rattle.lvm_commit.specs.LawsOfVolumes.{IsOnlyGroupOn}
-use Rattle.lvm_line.specs.State.{State, IsSettled, IsTimely, AreHeld, HaveNoneLeft, EntersVolumes}
+use Rattle.lvm_line.specs.State.{State, IsSettled, IsTimely, AreHeld, HaveNotesHome, ComesOnQuiet, HaveNoneLeft, EntersVolumes}
 use Rattle.lvm_line.specs.Replies.{IsStuck}
 use Rattle.lvm_line.specs.declared.reply.Refusal.TheVariants as refusal
 use Rattle.lvm_line.specs.declared.reply.Reply.{Reply}
@@ -23,12 +23,13 @@ IsAlone answer old new = EntersVolumes old.moment.facts new.moment.facts ⊎ IsB
 
 -- From one state to the next, where this is answered. While the clock is ahead of the disks, these hold what the session says, and no other group is found
 -- on them where a volume is made or removed, the history is legal at each moment between and each crash image is kept with it. While the clock is ahead it
--- stays so, and the disks go on holding what a session says. No copy is left behind where none was. Unless nothing was heard of a transfer, nothing is
--- under way and no write is open where none was.
+-- stays so, the disks go on holding what a session says, and their notes go on naming what its cache does. No copy is left behind where none was. Unless
+-- nothing was heard of a transfer, nothing is under way and no write is open where none was.
 pub record GoesOn (run : ℕ) (answer : Reply) (old new : State) : Type 0 where
   pub keeps : IsTimely run old → AreHeld old → IsAlone answer old new → Keeps run old.moment new.moment
   pub timely : IsTimely run old → IsTimely run new
   pub held : IsTimely run old → AreHeld old → AreHeld new
+  pub notes : IsTimely run old → ComesOnQuiet old new → HaveNotesHome old → HaveNotesHome new
   pub left : HaveNoneLeft old → HaveNoneLeft new
   pub calm : (IsStuck answer → ⊥) → StaysCalm old.moment new.moment
   pub settled : (IsStuck answer → ⊥) → IsSettled new.moment new.session

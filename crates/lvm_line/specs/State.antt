@@ -1,15 +1,16 @@
 -- What stands between two lines of a script.
-use Rattle.std.specs.Prelude.{◌+◌, ◌≤◌, ◌<◌, ℕ, Bool, true, false, [], List, Option, IfSome, count_by}
+use Rattle.std.specs.Prelude.{◌+◌, ◌≤◌, ◌<◌, ℕ, Bool, true, false, [], List, Option, IfSome, IfNone, count_by}
 use Rattle.lvm_disk.specs.Device.{IsReady}
 use Rattle.lvm_vol.specs.declared.entry.Vol.TheVariants.{Lv}
 use Rattle.lvm_vol.specs.Facts.{Fact, Making, Made, Split, Removing, Removed}
 use Rattle.lvm_vol.specs.Log.{Log}
 use Rattle.lvm_kept.specs.Moments.{Moment}
+use Rattle.lvm_change.specs.VaryingOn.{HasNoActive}
 use Rattle.lvm_stamps.specs.Behind.{IsAhead}
 use Rattle.lvm_commit.specs.Settling.{NoneIsLeft}
 use Rattle.lvm_core.specs.State.{Core}
 use Rattle.lvm_core.specs.Sound.{HaveAllLanded}
-use Rattle.lvm_core.specs.Held.{IsHeld}
+use Rattle.lvm_core.specs.Held.{IsHeld, AreNotesHome}
 use Rattle.lvm_core.specs.Settled.{IsSettled as IsSettledCore}
 
 -- The shelf, what the history has so far, the session of the group that is on, if one is, and the clock's last moment.
@@ -41,6 +42,14 @@ pub record IsTimely (run : ℕ) (s : State) : Type 0 where
 -- the disks of a session hold what it says is committed
 abbrev pub AreHeld : State → Type 0
 AreHeld s = IfSome s.session (λ core. IsHeld s.moment.device core)
+
+-- their notes name what its cache does
+abbrev pub HaveNotesHome : State → Type 0
+HaveNotesHome s = IfSome s.session (λ core. AreNotesHome s.moment.device core)
+
+-- no volume of a group that comes on is in mode active: the notes of such a group are left as they were found
+abbrev pub ComesOnQuiet : State → State → Type 0
+ComesOnQuiet old new = IfNone old.session (IfSome new.session (λ core. HasNoActive core.descriptor))
 
 -- no copy of a session's volumes is left behind on a member that is missing
 abbrev pub HaveNoneLeft : State → Type 0

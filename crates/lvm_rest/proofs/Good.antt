@@ -410,6 +410,7 @@ module _ (votes : Votes) (s : State) (group : Descriptor) (status : Status) (the
       partitions = λ other g h apart is also. rest.kept.lasting.partitions other g h is also;
     };
     once = rest.kept.lasting.descriptors;
+    alike = rest.kept.lasting.alike;
   }
 
   volumes : HasVolumes s s.facts group members

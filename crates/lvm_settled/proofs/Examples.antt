@@ -1,5 +1,5 @@
 -- The sessions that are worked by hand are settled.
-use Rattle.std.proofs.Common.{◌≡◌, ⊎_elim, ℕ, zero, suc, ◌+◌, ◌<◌, Bool, true, false, ◌&&◌, ◌||◌, not, [], ◌∷◌, take, Option, Some, None, refl, sym, ap, subst, ◌∙◌, arith}
+use Rattle.std.proofs.Common.{◌≡◌, ⊎_elim, ℕ, zero, suc, ◌+◌, ◌<◌, Bool, true, false, ◌&&◌, ◌||◌, not, [], ◌∷◌, take, is_some, Option, Some, None, refl, sym, ap, subst, ◌∙◌, arith}
 use Rattle.std.specs.Prelude.{IsTrue, IsFalse, ◌==◌, if◌then◌else◌, option_and_then, slice_index_or}
 use Rattle.std.proofs.lemmas.Bool.{eqb-true}
 use Rattle.lvm_num.specs.declared.descriptor.Mode.{Mode}
@@ -10,7 +10,8 @@ use Rattle.lvm_num.specs.Buffer.{Sector, zero_sector}
 use Rattle.lvm_num.specs.DescriptorBytes.{descriptor_of}
 use Rattle.lvm_num.specs.StatusBytes.{status_of as read_status}
 use Rattle.lvm_num.specs.Disks.{Disks, has}
-use Rattle.lvm_num.specs.Record.{slot_start, slot_size, kind_magic, stamp_lt}
+use Rattle.lvm_num.specs.declared.descriptor.Descriptor.{Descriptor}
+use Rattle.lvm_num.specs.Record.{Stamped, slot_start, slot_size, kind_magic, stamp_lt}
 use Rattle.lvm_num.specs.Torn.{stamp_of}
 use Rattle.lvm_num.specs.Votes.{CanWrite}
 use Rattle.lvm_num.specs.declared.record.Framed.{Framed}
@@ -18,30 +19,31 @@ use Rattle.lvm_rec.specs.Slots.{held, slot_of, read_under, slot_to_write}
 use Rattle.lvm_disk.specs.Device.{Image, image_of, MayLeave}
 use Rattle.lvm_kept.specs.Contents.{Contents, contents_of}
 use Rattle.lvm_kept.specs.Examples.{stamped, member, two, either_of}
-use Rattle.lvm_kept.specs.Group.{IsFound}
+use Rattle.lvm_kept.specs.Group.{IsOneByAll}
+use Rattle.lvm_kept.proofs.Alike.{one_shown_is_one}
 use Rattle.lvm_kept.proofs.Finding.{some_same}
 use Rattle.lvm_kept.specs.Kept.{Kept}
 use Rattle.lvm_kept.specs.Moments.{Calm}
 use Rattle.lvm_stamps.specs.Behind.{StampsBefore}
 use Rattle.lvm_quorum.specs.Homes.{SparesNewest}
 use Rattle.lvm_commit.specs.Committed.{ShowsCommitted, HoldsCommitted}
-use Rattle.lvm_mwc.specs.Cache.{no_notes}
+use Rattle.lvm_mwc.specs.Cache.{Cached, has_disk, no_notes}
 use Rattle.lvm_mwc.specs.declared.notes.DiskNotes.{DiskNotes}
-use Rattle.lvm_core.specs.State.{is_there}
+use Rattle.lvm_core.specs.State.{Core, state, is_there}
 use Rattle.lvm_core.specs.Sound.{IsQuiet, IsSound}
 use Rattle.lvm_core.specs.Starting.{Reserved, AreReserved, IsPlaced}
 use Rattle.lvm_core.proofs.Beginning.{sound_first}
 use Rattle.lvm_rest.specs.Rest.{IsEven, NoneIsBehind}
-use Rattle.lvm_rest.specs.Examples.{Pair, status_of, pair_sizes, framed_group, framed_status, media_of, device_of, there_by, history_of, even_pair}
-use Rattle.lvm_rest.proofs.Pairs.{id_is}
+use Rattle.lvm_rest.specs.Examples.{Pair, status_of, pair_sizes, framed_group, framed_status, shown_by, media_of, device_of, there_by, history_of, even_pair, naming_note}
+use Rattle.lvm_rest.proofs.Pairs.{the_descriptor}
 use Rattle.lvm_rest.proofs.Sectors.{group_read, status_read, group_first, status_first, no-magic, not-equal, stands_else, second_zero, second_none, room, told}
 use Rattle.lvm_rest.proofs.Examples.{valid, there_in, at_both, enough, shows, behind, zeros_even, pairs_rest}
-use Rattle.lvm_settled.specs.Examples.{core_of, session_of, PairsSettle}
+use Rattle.lvm_settled.specs.Examples.{core_of, noted_cache, noted_core, IsSettledPair, PairsSettle}
 
 -- ---- who is there
 
 -- the members that aren't missing are those of the pair
-there_at : (lost : Bool) (x : Pair) (d : ℕ) → is_there (core_of (record x { lost = lost })) d ≡ there_by (record x { lost = lost }) d
+pub there_at : (lost : Bool) (x : Pair) (d : ℕ) → is_there (core_of (record x { lost = lost })) d ≡ there_by (record x { lost = lost }) d
 there_at lost x d = by (d == 0) (d == 1) refl refl
   where
     at : Bool → ℕ → Type 0
@@ -156,7 +158,7 @@ of_two zero row low is = subst (IsPlaced pair_sizes 1) is (record { there = omeg
 of_two (suc zero) row low is = subst (IsPlaced pair_sizes 1) is (record { there = omega arith; within = λ size e. let same : 16384 ≡ size = some_same 16384 size e in omega (arith, same) })
 of_two (suc (suc k)) row low is = absurd (omega (arith, low))
 
-sound : (x : Pair) → IsSound (session_of x)
+sound : (x : Pair) → IsSound (state (device_of x) (core_of x))
 sound x = sound_first (device_of x) (reserved_of x) (record { run = 50; facts = []; room = 65536; bytes = 0 }) (record { epoch = 50; seq = 2 }) (record { descriptor = 3; status = 3 }) (parts x)
     (λ id. refl) (record { flights = refl; freed = refl; power = refl }) (λ row one there. of_two one.0 row one.1 one.2)
 
@@ -167,6 +169,53 @@ quiet x = record { requests = refl; copy = refl; status = refl; notes = λ disk.
     none true t = refl
     none false true = refl
     none false false = refl
+
+-- the note of a disk after a write
+abbrev written_note : ℕ → DiskNotes
+written_note disk = record (no_notes disk) { written = record { items = naming_note.entries } }
+
+-- after a write it has the same disks' notes, and none in flight
+noted_disk : (x : Pair) (disk : ℕ) → has_disk noted_cache disk ≡ has_disk (core_of x).cache disk
+noted_disk x disk = by (0 == disk) (1 == disk)
+  where
+    by : (s t : Bool) → is_some (if s then Some (written_note 0) else if t then Some (written_note 1) else None) ≡ is_some (if s then Some (no_notes 0) else if t then Some (no_notes 1) else None)
+    by true t = refl
+    by false true = refl
+    by false false = refl
+
+noted_quiet : (x : Pair) → IsQuiet (noted_core x)
+noted_quiet x = record { requests = refl; copy = refl; status = refl; notes = λ disk. none (0 == disk) (1 == disk); buffers = refl }
+  where
+    none : (s t : Bool) → option_and_then (λ (n : DiskNotes). n.flight) (if s then Some (written_note 0) else if t then Some (written_note 1) else None) ≡ None
+    none true t = refl
+    none false true = refl
+    none false false = refl
+
+noted_sound : (x : Pair) → IsSound (state (device_of x) (noted_core x))
+noted_sound x =
+    let first = sound x in
+    record {
+      fitting = record {
+        valid = first.fitting.valid;
+        id = first.fitting.id;
+        rows = first.fitting.rows;
+        group = first.fitting.group;
+        notes = λ disk. noted_disk x disk ∙ first.fitting.notes disk;
+        table = first.fitting.table;
+        most = first.fitting.most;
+        queue = first.fitting.queue;
+        a_buffer = first.fitting.a_buffer;
+        buffers = first.fitting.buffers;
+      };
+      told = record { table = first.told.table; each = first.told.each };
+      placed = first.placed;
+      buffers = first.buffers;
+      none_lost = first.none_lost;
+      quiet = λ none. refl;
+      lit = first.lit;
+      dark = first.dark;
+      off = first.off;
+    }
 
 -- ---- the history
 
@@ -183,29 +232,45 @@ abbrev IsHeldEven : Pair → Disks → Type 0
 IsHeldEven x set = (h : HoldsCommitted (image_of pair_sizes (media_of x)) (two x.mode) (status_of x).value set (record { epoch = 50; seq = 2 }) (record { descriptor = 3; status = 3 }))
     × IsEven (contents_of (image_of pair_sizes (media_of x))) (two x.mode) (Some h.shows.stands) set × NoneIsBehind (contents_of (image_of pair_sizes (media_of x))) (two x.mode) (Some h.shows.stands) set
 
-pub pairs_settle : PairsSettle
-pairs_settle mode dirty lost cut note =
-    let x : Pair = even_pair mode dirty lost note in
-    let below : (d s : ℕ) → s < 4096 → x.stands d s ≡ zero_sector = λ d s low. refl in
-    let rests = pairs_rest.even mode dirty lost cut note in
-    let shown : IsShownEven x (there_by x) (contents_of (image_of pair_sizes (media_of x))) = subst (IsShownEven x (there_by x)) (sym (told x below)) (shows x, zeros_even mode dirty lost note (there_by x), behind x) in
-    let held_even : IsHeldEven x (is_there (core_of x)) = subst (IsHeldEven x) (sym (same_there x))
-    (record { shows = shown.0; stamps = stamps x below; there = λ d is. room x below d ∙ there_in x d is; homes = λ d is. spares x below d (there_in x d is) }, shown.1, shown.2) in
-    record {
-      known = record {
-        told = refl;
-        sound = sound x;
-        settled = record { power = refl; quiet = quiet x; committed = refl; epoch = λ e. omega (arith, e); votes = subst (CanWrite (two mode)) (sym (same_there x)) (enough x) };
-        held = held_even.0;
-        holds = record {
-          legal = rests.at_rest.legal;
-          kept = λ i crash. subst (λ (j : Image). Kept (contents_of j) (history_of mode cut)) (sym (left_is x below i crash)) (subst (λ (c : Contents). Kept c (history_of mode cut)) (sym (told x below)) rests.at_rest.kept);
+-- a session with this cache
+module _ (mode : Mode) (dirty lost cut : Bool) (note : Sector) (cache : Cached) where
+  abbrev x : Pair
+  x = even_pair mode dirty lost note
+
+  abbrev core : Core
+  core = record (core_of x) { cache = cache }
+
+  below : (d s : ℕ) → s < 4096 → x.stands d s ≡ zero_sector
+  below d s low = refl
+
+  settles : IsSound (state (device_of x) core) → IsQuiet core → IsSettledPair core x mode cut
+  settles sound quiet =
+      let rests = pairs_rest.even mode dirty lost cut note in
+      let shown : IsShownEven x (there_by x) (contents_of (image_of pair_sizes (media_of x))) = subst (IsShownEven x (there_by x)) (sym (told x below)) (shows x, zeros_even mode dirty lost note (there_by x), behind x) in
+      let held_even : IsHeldEven x (is_there core) = subst (IsHeldEven x) (sym (same_there x))
+      (record { shows = shown.0; stamps = stamps x below; there = λ d is. room x below d ∙ there_in x d is; homes = λ d is. spares x below d (there_in x d is) }, shown.1, shown.2) in
+      record {
+        known = record {
+          told = refl;
+          sound = sound;
+          settled = record { power = refl; quiet = quiet; committed = refl; epoch = λ e. omega (arith, e); votes = subst (CanWrite (two mode)) (sym (same_there x)) (enough x) };
+          held = held_even.0;
+          holds = record {
+            legal = rests.at_rest.legal;
+            kept = λ i crash. subst (λ (j : Image). Kept (contents_of j) (history_of mode cut)) (sym (left_is x below i crash)) (subst (λ (c : Contents). Kept c (history_of mode cut)) (sym (told x below)) rests.at_rest.kept);
+          };
+          only = λ i crash. subst (λ (j : Image). IsOneByAll (contents_of j)) (sym (left_is x below i crash)) (subst (λ (c : Contents). IsOneByAll c) (sym (told x below))
+              (one_shown_is_one (shown_by x) (λ d e r s is also. ap (λ (t : Stamped Descriptor). t.value.id) (the_descriptor x d r is ∙ sym (the_descriptor x e s also)))));
         };
-        only = λ i crash other k found. id_is x other k (subst (λ (c : Contents). IsFound c other k) (told x below) (subst (λ (j : Image). IsFound (contents_of j) other k) (left_is x below i crash) found));
-      };
-      carried = record {
-        calm = no_write mode cut;
-        even = held_even.1;
-        behind = held_even.2;
-      };
-    }
+        carried = record {
+          calm = no_write mode cut;
+          even = held_even.1;
+          behind = held_even.2;
+        };
+      }
+
+pub pairs_settle : PairsSettle
+pairs_settle = record {
+  first = λ mode dirty lost cut note. let x : Pair = even_pair mode dirty lost note in settles mode dirty lost cut note (core_of x).cache (sound x) (quiet x);
+  noted = λ mode dirty lost cut note. let x : Pair = even_pair mode dirty lost note in settles mode dirty lost cut note noted_cache (noted_sound x) (noted_quiet x);
+}

@@ -1,12 +1,14 @@
 -- A settled session, worked by hand: of the two disks that mirror a volume.
-use Rattle.std.specs.Prelude.{false, [], ◌∷◌, None, Bool}
+use Rattle.std.specs.Prelude.{false, [], ◌∷◌, None, Bool, map}
 use Rattle.lvm_num.specs.declared.descriptor.Mode.{Mode}
-use Rattle.lvm_num.specs.Buffer.{Sector}
+use Rattle.lvm_num.specs.Buffer.{Sector, zero_sector}
+use Rattle.lvm_disk.specs.Device.{image_of}
 use Rattle.lvm_kept.specs.Examples.{two}
-use Rattle.lvm_mwc.specs.Cache.{no_notes}
+use Rattle.lvm_mwc.specs.Cache.{Cached, no_notes}
 use Rattle.lvm_core.specs.declared.request.Power.TheVariants as power
-use Rattle.lvm_core.specs.State.{Core, State, state}
-use Rattle.lvm_rest.specs.Examples.{Pair, status_of, media_of, device_of, past_of, now_on, even_pair}
+use Rattle.lvm_core.specs.Held.{NotesAreHome}
+use Rattle.lvm_core.specs.State.{Core, state}
+use Rattle.lvm_rest.specs.Examples.{Pair, status_of, pair_sizes, media_of, device_of, past_of, now_on, even_pair, naming_note, naming}
 use Rattle.lvm_settled.specs.Settled.{IsKnown, IsCarried}
 
 -- The session has come on with this status, and nothing has happened since; there is room for a request, and one buffer.
@@ -33,14 +35,35 @@ core_of pair = record {
   power = power.On;
 }
 
-abbrev pub session_of : Pair → State
-session_of pair = state (device_of pair) (core_of pair)
+-- The session after a write of the volume's first track group: its cache has that, and the note that was written to both disks names it.
+abbrev pub noted_cache : Cached
+noted_cache = record {
+  entries = record { lv = 1; group = 0; pins = 0 } ∷ [];
+  notes = map (λ disk. record (no_notes disk) { written = record { items = naming_note.entries } }) (0 ∷ 1 ∷ []);
+}
+
+abbrev pub noted_core : Pair → Core
+noted_core pair = record (core_of pair) { cache = noted_cache }
 
 -- What is known of a settled session and what it must carry, with this earlier history.
-pub record IsSettledPair (pair : Pair) (mode : Mode) (cut : Bool) : Type 0 where
-  pub known : IsKnown (past_of mode cut) (session_of pair) (media_of pair)
-  pub carried : IsCarried (past_of mode cut) (session_of pair) (media_of pair) known
+pub record IsSettledPair (core : Core) (pair : Pair) (mode : Mode) (cut : Bool) : Type 0 where
+  pub known : IsKnown (past_of mode cut) (state (device_of pair) core) (media_of pair)
+  pub carried : IsCarried (past_of mode cut) (state (device_of pair) core) (media_of pair) known
 
--- So it is in each mode, dirty or not, whatever stands in the notes' sectors, also where a member is lost, and after a cut while the first block was written.
-abbrev pub PairsSettle : Type 0
-PairsSettle = (mode : Mode) (dirty lost cut : Bool) (note : Sector) → IsSettledPair (even_pair mode dirty lost note) mode cut
+-- So it is in each mode, dirty or not, whatever stands in the notes' sectors, also where a member is lost, after a cut while the first block was written, and
+-- after a write.
+pub record PairsSettle : Type 0 where
+  pub first : (mode : Mode) (dirty lost cut : Bool) (note : Sector) → IsSettledPair (core_of (even_pair mode dirty lost note)) (even_pair mode dirty lost note) mode cut
+  pub noted : (mode : Mode) (dirty lost cut : Bool) (note : Sector) → IsSettledPair (noted_core (even_pair mode dirty lost note)) (even_pair mode dirty lost note) mode cut
+
+-- this session's notes are home, on the disks of this pair
+abbrev pub HasNotesHome : (Pair → Core) → Pair → Type 0
+HasNotesHome core pair = NotesAreHome (core pair) (image_of pair_sizes (media_of pair))
+
+-- The notes are home in each mode, with both members or the first: at first, where they name nothing, and after that write, where they name its track
+-- group. They aren't where they name what the cache doesn't, as those of an earlier session do, nor where they were emptied behind the cache.
+pub record PairsHaveNotesHome : Type 0 where
+  pub first : (mode : Mode) (dirty lost : Bool) → HasNotesHome core_of (even_pair mode dirty lost zero_sector)
+  pub noted : (mode : Mode) (dirty lost : Bool) → HasNotesHome noted_core (even_pair mode dirty lost naming)
+  pub left : (mode : Mode) (dirty lost : Bool) → HasNotesHome core_of (even_pair mode dirty lost naming) → ⊥
+  pub gone : (mode : Mode) (dirty lost : Bool) → HasNotesHome noted_core (even_pair mode dirty lost zero_sector) → ⊥

@@ -1,6 +1,6 @@
 //! Laws of settled sessions. Each call does nothing: its contract is the law.
-ghost use Rattle.lvm_settled.specs.Settled.{SettledIsGood, GoodIsSettled, NoneLeftIsBehind};
-ghost use Rattle.lvm_settled.specs.Examples.{PairsSettle};
+ghost use Rattle.lvm_settled.specs.Settled.{CacheIsSeen, SettledIsGood, GoodIsSettled, NoneLeftIsBehind};
+ghost use Rattle.lvm_settled.specs.Examples.{PairsSettle, PairsHaveNotesHome};
 
 /// A session may begin: where it is settled and its disks hold what it says, no write is open in its history and the
 /// earlier one, its usable copies are even and none is left behind, its state is good and matches the shelf.
@@ -19,8 +19,19 @@ pub fn none_left_is_behind()
     ensures { NoneLeftIsBehind }
 {}
 
+/// Where the notes name what the session's cache does, its state knows just these.
+pub fn cache_is_seen()
+    ensures { CacheIsSeen }
+{}
+
 /// There are such sessions: of two disks that mirror a volume, in each mode, with both members or one that is lost,
-/// and after a power cut during a write.
+/// after a power cut during a write, and after a write of their own.
 pub fn pairs_settle()
     ensures { PairsSettle }
+{}
+
+/// Their notes name what the cache does, in each mode, when they begin and after a write; not so where they were left
+/// of an earlier session, or emptied behind the cache.
+pub fn pairs_have_notes_home()
+    ensures { PairsHaveNotesHome }
 {}

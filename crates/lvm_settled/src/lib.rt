@@ -3,4 +3,7 @@
 
 mod laws;
 
-pub use laws::{good_is_settled, none_left_is_behind, pairs_settle, settled_is_good};
+pub use laws::{
+    cache_is_seen, good_is_settled, none_left_is_behind, pairs_have_notes_home, pairs_settle,
+    settled_is_good,
+};

@@ -6,7 +6,7 @@ use Rattle.lvm_change.proofs.Spans.{keeps_still}
 use Rattle.lvm_stamps.proofs.Clock.{all_is_behind_next}
 use Rattle.lvm_quorum.specs.declared.homes.Homes.{Homes}
 use Rattle.lvm_core.specs.declared.refused.Cause.{Cause}
-use Rattle.lvm_core.specs.Held.{IsHeld}
+use Rattle.lvm_core.specs.Held.{StartsHeld}
 use Rattle.lvm_core.specs.Starting.{Reserved, first_core}
 use Rattle.lvm_group.specs.declared.make.Standing.{Standing}
 use Rattle.lvm_group.specs.NewGroup.{NewGroup}
@@ -63,5 +63,5 @@ returns-clause-refused g c =
 
 pub returns-clause-held : goal.returns-clause-held
 returns-clause-held g c = λ clock.
-    let P : Standing → Type 0 = λ standing. IsHeld (g.S.Shelf.device c.bring-brought.new.shelf) (first_core standing.parts c.bring-brought.new.history (record { epoch = c.args.moment; seq = 2 }) standing.homes) in
+    let P : Standing → Type 0 = λ standing. StartsHeld (g.S.Shelf.device c.bring-brought.new.shelf) (first_core standing.parts c.bring-brought.new.history (record { epoch = c.args.moment; seq = 2 }) standing.homes) in
     subst (λ (r : Result Standing Cause). IfOk r P) (sym c.start_with.ensures) (ok_standing c.in_ok-plan.plan.parts c.bring-brought.result P (c.bring-brought.ensures.held clock))

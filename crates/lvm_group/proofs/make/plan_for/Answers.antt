@@ -25,4 +25,4 @@ returns-in-Ok-clause-planned g c =
     }
 
 pub returns-in-Err-clause-refused : goal.returns-in-Err-clause-refused
-returns-in-Err-clause-refused g c = inl refl
+returns-in-Err-clause-refused g c = inl (refl, c.in_ok-size.ensures.may)

@@ -1,11 +1,11 @@
-use Rattle.std.proofs.Common.{◌≡◌, false, Err, ap, subst}
+use Rattle.std.proofs.Common.{◌≡◌, false, Err, subst}
 use Rattle.std.specs.Prelude.{All, Contains}
 use Rattle.std.proofs.lemmas.Result.{err_from_is_err_and}
 use Rattle.lvm_num.specs.declared.place.Pp.{Pp}
 use Rattle.lvm_num.specs.declared.status.Status.{Status}
 use Rattle.lvm_num.specs.Status.{calls_missing}
 use Rattle.lvm_core.specs.declared.fault.CommitFault.{CommitFault}
-use Rattle.lvm_core.specs.State.{Core, State, state}
+use Rattle.lvm_core.specs.State.{State, state}
 use Rattle.lvm_core.specs.Committing.{HasCommitted}
 use Rattle.lvm_group.specs.Endings.{StillHeld}
 use Rattle.lvm_group.specs.Stages.{Goes, IsLowestMissing}
@@ -48,7 +48,7 @@ returns-in-Some-clause-ends g c =
     let q = c.set_status.new.patience.left in
     let s = c.set_status.ensures in
     let done : HasCommitted a.core.descriptor a b = c.in_ok-set_status.ensures.ends in
-    let still : StillHeld a b = fresh_still map p q a b c.set_status.result c.requires.settled s.ends s.finds s.marks s.numbers s.writes (λ held. c.in_ok-set_status.ensures.held held) (ap (λ (x : Core). x.descriptor) done.is) in
+    let still : StillHeld a b = fresh_still map p q a b c.set_status.result c.requires.settled s.ends s.finds s.marks s.numbers s.writes (λ held. c.in_ok-set_status.ensures.held held) done in
     let table : c.table.result.now ≡ b.core.status.committed = c.table.ensures in
     let low : IsLowestMissing b.core.status.committed map c.in-Some.disk = subst (λ (t : Status). IsLowestMissing t map c.in-Some.disk) table c.in-Some.ensures.some in
     missing_fails map p q a b c.requires.settled c.requires.unused c.requires.group done s.marks c.in-Some.disk low
@@ -73,7 +73,7 @@ returns-in-Some-clause-held g c =
     let q = c.set_status.new.patience.left in
     let s = c.set_status.ensures in
     let done : HasCommitted a.core.descriptor a b = c.in_ok-set_status.ensures.ends in
-    let still : StillHeld a b = fresh_still map p q a b c.set_status.result c.requires.settled s.ends s.finds s.marks s.numbers s.writes (λ held. c.in_ok-set_status.ensures.held held) (ap (λ (x : Core). x.descriptor) done.is) in
+    let still : StillHeld a b = fresh_still map p q a b c.set_status.result c.requires.settled s.ends s.finds s.marks s.numbers s.writes (λ held. c.in_ok-set_status.ensures.held held) done in
     still
 
 pub zero_all-requires-clause-unused : goal.zero_all-requires-clause-unused
@@ -85,7 +85,7 @@ zero_all-requires-clause-unused g c =
     let q = c.set_status.new.patience.left in
     let s = c.set_status.ensures in
     let done : HasCommitted a.core.descriptor a b = c.in_ok-set_status.ensures.ends in
-    let still : StillHeld a b = fresh_still map p q a b c.set_status.result c.requires.settled s.ends s.finds s.marks s.numbers s.writes (λ held. c.in_ok-set_status.ensures.held held) (ap (λ (x : Core). x.descriptor) done.is) in
+    let still : StillHeld a b = fresh_still map p q a b c.set_status.result c.requires.settled s.ends s.finds s.marks s.numbers s.writes (λ held. c.in_ok-set_status.ensures.held held) done in
     let table : c.table.result.now ≡ b.core.status.committed = c.table.ensures in
     let none : All (λ (pp : Pp). calls_missing b.core.status.committed pp.disk ≡ false) map = subst (λ (t : Status). All (λ (pp : Pp). calls_missing t pp.disk ≡ false) map) table c.in_default.ensures.none in
     still_unused map p q a b c.requires.settled c.requires.unused c.requires.group done s.marks none
@@ -100,7 +100,7 @@ returns-clause-ends g c =
     let s = c.set_status.ensures in
     let goes : Goes NoNext (Contains map) p q a b = fresh_goes map p q a b c.set_status.result c.requires.settled s.ends s.finds s.marks s.numbers s.writes s.keeps s.falls s.calm s.behind s.patience s.waited in
     let done : HasCommitted a.core.descriptor a b = c.in_ok-set_status.ensures.ends in
-    let still : StillHeld a b = fresh_still map p q a b c.set_status.result c.requires.settled s.ends s.finds s.marks s.numbers s.writes (λ held. c.in_ok-set_status.ensures.held held) (ap (λ (x : Core). x.descriptor) done.is) in
+    let still : StillHeld a b = fresh_still map p q a b c.set_status.result c.requires.settled s.ends s.finds s.marks s.numbers s.writes (λ held. c.in_ok-set_status.ensures.held held) done in
     let table : c.table.result.now ≡ b.core.status.committed = c.table.ensures in
     let none : All (λ (pp : Pp). calls_missing b.core.status.committed pp.disk ≡ false) map = subst (λ (t : Status). All (λ (pp : Pp). calls_missing t pp.disk ≡ false) map) table c.in_default.ensures.none in
     let n : State = state (g.S.Shelf.device c.zero_all.new.driver.0) c.zero_all.new.driver.1 in
@@ -118,7 +118,7 @@ returns-clause-goes g c =
     let s = c.set_status.ensures in
     let goes : Goes NoNext (Contains map) p q a b = fresh_goes map p q a b c.set_status.result c.requires.settled s.ends s.finds s.marks s.numbers s.writes s.keeps s.falls s.calm s.behind s.patience s.waited in
     let done : HasCommitted a.core.descriptor a b = c.in_ok-set_status.ensures.ends in
-    let still : StillHeld a b = fresh_still map p q a b c.set_status.result c.requires.settled s.ends s.finds s.marks s.numbers s.writes (λ held. c.in_ok-set_status.ensures.held held) (ap (λ (x : Core). x.descriptor) done.is) in
+    let still : StillHeld a b = fresh_still map p q a b c.set_status.result c.requires.settled s.ends s.finds s.marks s.numbers s.writes (λ held. c.in_ok-set_status.ensures.held held) done in
     let table : c.table.result.now ≡ b.core.status.committed = c.table.ensures in
     let none : All (λ (pp : Pp). calls_missing b.core.status.committed pp.disk ≡ false) map = subst (λ (t : Status). All (λ (pp : Pp). calls_missing t pp.disk ≡ false) map) table c.in_default.ensures.none in
     let n : State = state (g.S.Shelf.device c.zero_all.new.driver.0) c.zero_all.new.driver.1 in
@@ -136,7 +136,7 @@ returns-clause-held g c =
     let s = c.set_status.ensures in
     let goes : Goes NoNext (Contains map) p q a b = fresh_goes map p q a b c.set_status.result c.requires.settled s.ends s.finds s.marks s.numbers s.writes s.keeps s.falls s.calm s.behind s.patience s.waited in
     let done : HasCommitted a.core.descriptor a b = c.in_ok-set_status.ensures.ends in
-    let still : StillHeld a b = fresh_still map p q a b c.set_status.result c.requires.settled s.ends s.finds s.marks s.numbers s.writes (λ held. c.in_ok-set_status.ensures.held held) (ap (λ (x : Core). x.descriptor) done.is) in
+    let still : StillHeld a b = fresh_still map p q a b c.set_status.result c.requires.settled s.ends s.finds s.marks s.numbers s.writes (λ held. c.in_ok-set_status.ensures.held held) done in
     let table : c.table.result.now ≡ b.core.status.committed = c.table.ensures in
     let none : All (λ (pp : Pp). calls_missing b.core.status.committed pp.disk ≡ false) map = subst (λ (t : Status). All (λ (pp : Pp). calls_missing t pp.disk ≡ false) map) table c.in_default.ensures.none in
     let n : State = state (g.S.Shelf.device c.zero_all.new.driver.0) c.zero_all.new.driver.1 in
@@ -154,7 +154,7 @@ returns-clause-numbers g c =
     let s = c.set_status.ensures in
     let goes : Goes NoNext (Contains map) p q a b = fresh_goes map p q a b c.set_status.result c.requires.settled s.ends s.finds s.marks s.numbers s.writes s.keeps s.falls s.calm s.behind s.patience s.waited in
     let done : HasCommitted a.core.descriptor a b = c.in_ok-set_status.ensures.ends in
-    let still : StillHeld a b = fresh_still map p q a b c.set_status.result c.requires.settled s.ends s.finds s.marks s.numbers s.writes (λ held. c.in_ok-set_status.ensures.held held) (ap (λ (x : Core). x.descriptor) done.is) in
+    let still : StillHeld a b = fresh_still map p q a b c.set_status.result c.requires.settled s.ends s.finds s.marks s.numbers s.writes (λ held. c.in_ok-set_status.ensures.held held) done in
     let table : c.table.result.now ≡ b.core.status.committed = c.table.ensures in
     let none : All (λ (pp : Pp). calls_missing b.core.status.committed pp.disk ≡ false) map = subst (λ (t : Status). All (λ (pp : Pp). calls_missing t pp.disk ≡ false) map) table c.in_default.ensures.none in
     let n : State = state (g.S.Shelf.device c.zero_all.new.driver.0) c.zero_all.new.driver.1 in

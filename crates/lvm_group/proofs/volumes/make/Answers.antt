@@ -3,6 +3,7 @@ use Rattle.std.specs.Prelude.{Contains}
 use Rattle.std.proofs.lemmas.Result.{err_from_is_err_and}
 use Rattle.lvm_num.specs.declared.place.Pp.{Pp}
 use Rattle.lvm_num.specs.declared.descriptor.Descriptor.{Descriptor}
+use Rattle.lvm_num.specs.Descriptor.{is_member}
 use Rattle.lvm_num.specs.DescriptorBytes.{descriptor_bytes}
 use Rattle.lvm_vol.specs.Facts.{Fact, Making, Made}
 use Rattle.lvm_kept.specs.Moments.{Moment}
@@ -175,7 +176,7 @@ returns-in_err-commit-clause-ends g c =
     (lets_make v plan a settled planned p q b goes_ab cleared still_ab (subst (λ (x : State). IsHeld x.device x.core) same held) run first) in
     let goes_m : Goes N (Contains plan.map) q r m d =
     commit_goes N (Contains plan.map) next refl q r m d c.commit.result settled_m group_m s.ends s.finds s.marks s.left s.numbers s.writes
-    (λ held only run first. s.keeps held plan.number run first (lets held run first)) s.falls s.calm s.behind s.patience s.waited in
+    (λ held run first only. s.keeps held plan.number run first (lets held run first)) s.falls s.calm s.behind s.patience s.waited in
     let goes : Goes N (Contains plan.map) q r (entered b f) d = subst (λ (x : State). Goes N (Contains plan.map) q r x d) same goes_m in
     let left : MarksLeft next b.core.status d.core.status = subst (λ (x : State). MarksLeft next x.core.status d.core.status) same s.left in
     let writes : KeepsShelf (is_there b.core) (IsOfCommit (descriptor_bytes next) b.core.status d.core.status) b.device d.device =
@@ -215,7 +216,7 @@ returns-in_err-commit-clause-goes g c =
     (lets_make v plan a settled planned p q b goes_ab cleared still_ab (subst (λ (x : State). IsHeld x.device x.core) same held) run first) in
     let goes_m : Goes N (Contains plan.map) q r m d =
     commit_goes N (Contains plan.map) next refl q r m d c.commit.result settled_m group_m s.ends s.finds s.marks s.left s.numbers s.writes
-    (λ held only run first. s.keeps held plan.number run first (lets held run first)) s.falls s.calm s.behind s.patience s.waited in
+    (λ held run first only. s.keeps held plan.number run first (lets held run first)) s.falls s.calm s.behind s.patience s.waited in
     let goes : Goes N (Contains plan.map) q r (entered b f) d = subst (λ (x : State). Goes N (Contains plan.map) q r x d) same goes_m in
     let left : MarksLeft next b.core.status d.core.status = subst (λ (x : State). MarksLeft next x.core.status d.core.status) same s.left in
     let writes : KeepsShelf (is_there b.core) (IsOfCommit (descriptor_bytes next) b.core.status d.core.status) b.device d.device =
@@ -253,7 +254,7 @@ returns-clause-ends g c =
     (lets_make v plan a settled planned p q b goes_ab cleared still_ab (subst (λ (x : State). IsHeld x.device x.core) same held) run first) in
     let goes_m : Goes N (Contains plan.map) q r m d =
     commit_goes N (Contains plan.map) next refl q r m d c.commit.result settled_m group_m s.ends s.finds s.marks s.left s.numbers s.writes
-    (λ held only run first. s.keeps held plan.number run first (lets held run first)) s.falls s.calm s.behind s.patience s.waited in
+    (λ held run first only. s.keeps held plan.number run first (lets held run first)) s.falls s.calm s.behind s.patience s.waited in
     let goes : Goes N (Contains plan.map) q r (entered b f) d = subst (λ (x : State). Goes N (Contains plan.map) q r x d) same goes_m in
     let left : MarksLeft next b.core.status d.core.status = subst (λ (x : State). MarksLeft next x.core.status d.core.status) same s.left in
     let writes : KeepsShelf (is_there b.core) (IsOfCommit (descriptor_bytes next) b.core.status d.core.status) b.device d.device =
@@ -261,8 +262,9 @@ returns-clause-ends g c =
     let done : HasCommitted next (entered b f) d = subst (λ (x : State). HasCommitted next x d) same c.in_ok-commit.ensures.ends in
     let still_m : StillHeld m d =
     commit_still N (Contains plan.map) next refl q r m d c.commit.result settled_m group_m s.ends s.finds s.marks s.left s.numbers s.writes (λ held. c.in_ok-commit.ensures.held held)
-    (ap (λ (x : Core). x.descriptor) c.in_ok-commit.ensures.ends.is)
+    c.in_ok-commit.ensures.ends
     (λ k is. ap (λ (x : Descriptor). x.id) (is ∙ planned.next) ∙ ap (λ (x : Descriptor). x.id) (sym same_d) ∙ ap (λ (x : State). x.core.descriptor.id) (sym same))
+    (λ e. ap (λ (x : Descriptor). is_member x e) planned.next ∙ ap (λ (x : Descriptor). is_member x e) (sym same_d) ∙ ap (λ (x : State). is_member x.core.descriptor e) (sym same))
     (subst (λ (x : State). NoneIsLeft x.core.descriptor x.core.status → NoneIsLeft next x.core.status) (sym same) (none_named v plan a settled planned p q b goes_ab cleared still_ab)) in
     let still_d : StillHeld (entered b f) d = subst (λ (x : State). StillHeld x d) same still_m in
     let same_e : state (g.S.Shelf.device c.enter-2.new.self.0) c.enter-2.new.self.1 ≡ entered d (Made plan.number) = λ t. state (g.S.Shelf.device (c.enter-2.ensures.shelf t)) (c.enter-2.ensures.core t) in
@@ -299,7 +301,7 @@ returns-clause-goes g c =
     (lets_make v plan a settled planned p q b goes_ab cleared still_ab (subst (λ (x : State). IsHeld x.device x.core) same held) run first) in
     let goes_m : Goes N (Contains plan.map) q r m d =
     commit_goes N (Contains plan.map) next refl q r m d c.commit.result settled_m group_m s.ends s.finds s.marks s.left s.numbers s.writes
-    (λ held only run first. s.keeps held plan.number run first (lets held run first)) s.falls s.calm s.behind s.patience s.waited in
+    (λ held run first only. s.keeps held plan.number run first (lets held run first)) s.falls s.calm s.behind s.patience s.waited in
     let goes : Goes N (Contains plan.map) q r (entered b f) d = subst (λ (x : State). Goes N (Contains plan.map) q r x d) same goes_m in
     let left : MarksLeft next b.core.status d.core.status = subst (λ (x : State). MarksLeft next x.core.status d.core.status) same s.left in
     let writes : KeepsShelf (is_there b.core) (IsOfCommit (descriptor_bytes next) b.core.status d.core.status) b.device d.device =
@@ -307,8 +309,9 @@ returns-clause-goes g c =
     let done : HasCommitted next (entered b f) d = subst (λ (x : State). HasCommitted next x d) same c.in_ok-commit.ensures.ends in
     let still_m : StillHeld m d =
     commit_still N (Contains plan.map) next refl q r m d c.commit.result settled_m group_m s.ends s.finds s.marks s.left s.numbers s.writes (λ held. c.in_ok-commit.ensures.held held)
-    (ap (λ (x : Core). x.descriptor) c.in_ok-commit.ensures.ends.is)
+    c.in_ok-commit.ensures.ends
     (λ k is. ap (λ (x : Descriptor). x.id) (is ∙ planned.next) ∙ ap (λ (x : Descriptor). x.id) (sym same_d) ∙ ap (λ (x : State). x.core.descriptor.id) (sym same))
+    (λ e. ap (λ (x : Descriptor). is_member x e) planned.next ∙ ap (λ (x : Descriptor). is_member x e) (sym same_d) ∙ ap (λ (x : State). is_member x.core.descriptor e) (sym same))
     (subst (λ (x : State). NoneIsLeft x.core.descriptor x.core.status → NoneIsLeft next x.core.status) (sym same) (none_named v plan a settled planned p q b goes_ab cleared still_ab)) in
     let still_d : StillHeld (entered b f) d = subst (λ (x : State). StillHeld x d) same still_m in
     let same_e : state (g.S.Shelf.device c.enter-2.new.self.0) c.enter-2.new.self.1 ≡ entered d (Made plan.number) = λ t. state (g.S.Shelf.device (c.enter-2.ensures.shelf t)) (c.enter-2.ensures.core t) in
@@ -345,7 +348,7 @@ returns-clause-held g c =
     (lets_make v plan a settled planned p q b goes_ab cleared still_ab (subst (λ (x : State). IsHeld x.device x.core) same held) run first) in
     let goes_m : Goes N (Contains plan.map) q r m d =
     commit_goes N (Contains plan.map) next refl q r m d c.commit.result settled_m group_m s.ends s.finds s.marks s.left s.numbers s.writes
-    (λ held only run first. s.keeps held plan.number run first (lets held run first)) s.falls s.calm s.behind s.patience s.waited in
+    (λ held run first only. s.keeps held plan.number run first (lets held run first)) s.falls s.calm s.behind s.patience s.waited in
     let goes : Goes N (Contains plan.map) q r (entered b f) d = subst (λ (x : State). Goes N (Contains plan.map) q r x d) same goes_m in
     let left : MarksLeft next b.core.status d.core.status = subst (λ (x : State). MarksLeft next x.core.status d.core.status) same s.left in
     let writes : KeepsShelf (is_there b.core) (IsOfCommit (descriptor_bytes next) b.core.status d.core.status) b.device d.device =
@@ -353,8 +356,9 @@ returns-clause-held g c =
     let done : HasCommitted next (entered b f) d = subst (λ (x : State). HasCommitted next x d) same c.in_ok-commit.ensures.ends in
     let still_m : StillHeld m d =
     commit_still N (Contains plan.map) next refl q r m d c.commit.result settled_m group_m s.ends s.finds s.marks s.left s.numbers s.writes (λ held. c.in_ok-commit.ensures.held held)
-    (ap (λ (x : Core). x.descriptor) c.in_ok-commit.ensures.ends.is)
+    c.in_ok-commit.ensures.ends
     (λ k is. ap (λ (x : Descriptor). x.id) (is ∙ planned.next) ∙ ap (λ (x : Descriptor). x.id) (sym same_d) ∙ ap (λ (x : State). x.core.descriptor.id) (sym same))
+    (λ e. ap (λ (x : Descriptor). is_member x e) planned.next ∙ ap (λ (x : Descriptor). is_member x e) (sym same_d) ∙ ap (λ (x : State). is_member x.core.descriptor e) (sym same))
     (subst (λ (x : State). NoneIsLeft x.core.descriptor x.core.status → NoneIsLeft next x.core.status) (sym same) (none_named v plan a settled planned p q b goes_ab cleared still_ab)) in
     let still_d : StillHeld (entered b f) d = subst (λ (x : State). StillHeld x d) same still_m in
     let same_e : state (g.S.Shelf.device c.enter-2.new.self.0) c.enter-2.new.self.1 ≡ entered d (Made plan.number) = λ t. state (g.S.Shelf.device (c.enter-2.ensures.shelf t)) (c.enter-2.ensures.core t) in

@@ -1,12 +1,13 @@
 use Rattle.std.proofs.Common.{◌≡◌, ℕ, [], Err, refl, sym, ap, subst, ◌∙◌, arith}
 use Rattle.std.proofs.lemmas.Result.{err_from_is_err_and}
 use Rattle.lvm_num.specs.declared.descriptor.Descriptor.{Descriptor}
+use Rattle.lvm_num.specs.Descriptor.{is_member}
 use Rattle.lvm_vol.specs.declared.entry.Vol.TheVariants.{Lv}
 use Rattle.lvm_vol.specs.Facts.{Fact, Removing, Removed}
 use Rattle.lvm_kept.specs.Moments.{Moment}
 use Rattle.lvm_commit.specs.Settling.{NoneIsLeft}
 use Rattle.lvm_core.specs.declared.fault.CommitFault.{CommitFault}
-use Rattle.lvm_core.specs.State.{Core, State, state}
+use Rattle.lvm_core.specs.State.{State, state}
 use Rattle.lvm_core.specs.Settled.{IsSettled, HasNumbers}
 use Rattle.lvm_core.specs.Committing.{LetsCommit, HasCommitted, CommitEnds}
 use Rattle.lvm_group.specs.Endings.{StillHeld}
@@ -65,7 +66,7 @@ returns-in_err-commit-clause-ends g c =
     let lets = λ (run : ℕ) (first : Moment). subst (λ (x : State). LetsCommit c.args.lv next run first x) (sym same) (lets_remove c.args.lv next a settled without run first) in
     let goes : Goes N NoZeros p q m b =
     commit_goes N NoZeros next refl p q m b c.commit.result settled_m group_m s.ends s.finds s.marks s.left s.numbers s.writes
-    (λ held only run first. s.keeps held c.args.lv run first (lets run first)) s.falls s.calm s.behind s.patience s.waited in
+    (λ held run first only. s.keeps held c.args.lv run first (lets run first)) s.falls s.calm s.behind s.patience s.waited in
     let goes_a : Goes N NoZeros p q (entered a f) b = subst (λ (x : State). Goes N NoZeros p q x b) same goes in
     let why : CommitFault = c.in_err-commit.field-0.0 in
     let e = err_from_is_err_and c.from_residual.result c.from_residual.ensures.1 in
@@ -90,7 +91,7 @@ returns-in_err-commit-clause-goes g c =
     let lets = λ (run : ℕ) (first : Moment). subst (λ (x : State). LetsCommit c.args.lv next run first x) (sym same) (lets_remove c.args.lv next a settled without run first) in
     let goes : Goes N NoZeros p q m b =
     commit_goes N NoZeros next refl p q m b c.commit.result settled_m group_m s.ends s.finds s.marks s.left s.numbers s.writes
-    (λ held only run first. s.keeps held c.args.lv run first (lets run first)) s.falls s.calm s.behind s.patience s.waited in
+    (λ held run first only. s.keeps held c.args.lv run first (lets run first)) s.falls s.calm s.behind s.patience s.waited in
     let goes_a : Goes N NoZeros p q (entered a f) b = subst (λ (x : State). Goes N NoZeros p q x b) same goes in
     break_goes c.args.lv next a settled without p q b goes_a
 
@@ -113,12 +114,13 @@ returns-clause-ends g c =
     let lets = λ (run : ℕ) (first : Moment). subst (λ (x : State). LetsCommit c.args.lv next run first x) (sym same) (lets_remove c.args.lv next a settled without run first) in
     let goes : Goes N NoZeros p q m b =
     commit_goes N NoZeros next refl p q m b c.commit.result settled_m group_m s.ends s.finds s.marks s.left s.numbers s.writes
-    (λ held only run first. s.keeps held c.args.lv run first (lets run first)) s.falls s.calm s.behind s.patience s.waited in
+    (λ held run first only. s.keeps held c.args.lv run first (lets run first)) s.falls s.calm s.behind s.patience s.waited in
     let goes_a : Goes N NoZeros p q (entered a f) b = subst (λ (x : State). Goes N NoZeros p q x b) same goes in
     let done : HasCommitted next (entered a f) b = subst (λ (x : State). HasCommitted next x b) same c.in_ok-commit.ensures.ends in
     let still_m : StillHeld m b =
     commit_still N NoZeros next refl p q m b c.commit.result settled_m group_m s.ends s.finds s.marks s.left s.numbers s.writes (λ held. c.in_ok-commit.ensures.held held)
-    (ap (λ (x : Core). x.descriptor) c.in_ok-commit.ensures.ends.is) (λ k is. ap (λ (d : Descriptor). d.id) (is ∙ without.is) ∙ ap (λ (x : State). x.core.descriptor.id) (sym same))
+    c.in_ok-commit.ensures.ends (λ k is. ap (λ (d : Descriptor). d.id) (is ∙ without.is) ∙ ap (λ (x : State). x.core.descriptor.id) (sym same))
+    (λ e. ap (λ (d : Descriptor). is_member d e) without.is ∙ ap (λ (x : State). is_member x.core.descriptor e) (sym same))
     (subst (λ (x : State). NoneIsLeft x.core.descriptor x.core.status → NoneIsLeft next x.core.status) (sym same) (none_unnamed c.args.lv next a settled without)) in
     let still : StillHeld (entered a f) b = subst (λ (x : State). StillHeld x b) same still_m in
     let same_b : state (g.S.Shelf.device c.enter-2.new.self.0) c.enter-2.new.self.1 ≡ entered b (Removed (Lv c.args.lv)) = λ t. state (g.S.Shelf.device (c.enter-2.ensures.shelf t)) (c.enter-2.ensures.core t) in
@@ -143,12 +145,13 @@ returns-clause-goes g c =
     let lets = λ (run : ℕ) (first : Moment). subst (λ (x : State). LetsCommit c.args.lv next run first x) (sym same) (lets_remove c.args.lv next a settled without run first) in
     let goes : Goes N NoZeros p q m b =
     commit_goes N NoZeros next refl p q m b c.commit.result settled_m group_m s.ends s.finds s.marks s.left s.numbers s.writes
-    (λ held only run first. s.keeps held c.args.lv run first (lets run first)) s.falls s.calm s.behind s.patience s.waited in
+    (λ held run first only. s.keeps held c.args.lv run first (lets run first)) s.falls s.calm s.behind s.patience s.waited in
     let goes_a : Goes N NoZeros p q (entered a f) b = subst (λ (x : State). Goes N NoZeros p q x b) same goes in
     let done : HasCommitted next (entered a f) b = subst (λ (x : State). HasCommitted next x b) same c.in_ok-commit.ensures.ends in
     let still_m : StillHeld m b =
     commit_still N NoZeros next refl p q m b c.commit.result settled_m group_m s.ends s.finds s.marks s.left s.numbers s.writes (λ held. c.in_ok-commit.ensures.held held)
-    (ap (λ (x : Core). x.descriptor) c.in_ok-commit.ensures.ends.is) (λ k is. ap (λ (d : Descriptor). d.id) (is ∙ without.is) ∙ ap (λ (x : State). x.core.descriptor.id) (sym same))
+    c.in_ok-commit.ensures.ends (λ k is. ap (λ (d : Descriptor). d.id) (is ∙ without.is) ∙ ap (λ (x : State). x.core.descriptor.id) (sym same))
+    (λ e. ap (λ (d : Descriptor). is_member d e) without.is ∙ ap (λ (x : State). is_member x.core.descriptor e) (sym same))
     (subst (λ (x : State). NoneIsLeft x.core.descriptor x.core.status → NoneIsLeft next x.core.status) (sym same) (none_unnamed c.args.lv next a settled without)) in
     let still : StillHeld (entered a f) b = subst (λ (x : State). StillHeld x b) same still_m in
     let same_b : state (g.S.Shelf.device c.enter-2.new.self.0) c.enter-2.new.self.1 ≡ entered b (Removed (Lv c.args.lv)) = λ t. state (g.S.Shelf.device (c.enter-2.ensures.shelf t)) (c.enter-2.ensures.core t) in
@@ -173,12 +176,13 @@ returns-clause-held g c =
     let lets = λ (run : ℕ) (first : Moment). subst (λ (x : State). LetsCommit c.args.lv next run first x) (sym same) (lets_remove c.args.lv next a settled without run first) in
     let goes : Goes N NoZeros p q m b =
     commit_goes N NoZeros next refl p q m b c.commit.result settled_m group_m s.ends s.finds s.marks s.left s.numbers s.writes
-    (λ held only run first. s.keeps held c.args.lv run first (lets run first)) s.falls s.calm s.behind s.patience s.waited in
+    (λ held run first only. s.keeps held c.args.lv run first (lets run first)) s.falls s.calm s.behind s.patience s.waited in
     let goes_a : Goes N NoZeros p q (entered a f) b = subst (λ (x : State). Goes N NoZeros p q x b) same goes in
     let done : HasCommitted next (entered a f) b = subst (λ (x : State). HasCommitted next x b) same c.in_ok-commit.ensures.ends in
     let still_m : StillHeld m b =
     commit_still N NoZeros next refl p q m b c.commit.result settled_m group_m s.ends s.finds s.marks s.left s.numbers s.writes (λ held. c.in_ok-commit.ensures.held held)
-    (ap (λ (x : Core). x.descriptor) c.in_ok-commit.ensures.ends.is) (λ k is. ap (λ (d : Descriptor). d.id) (is ∙ without.is) ∙ ap (λ (x : State). x.core.descriptor.id) (sym same))
+    c.in_ok-commit.ensures.ends (λ k is. ap (λ (d : Descriptor). d.id) (is ∙ without.is) ∙ ap (λ (x : State). x.core.descriptor.id) (sym same))
+    (λ e. ap (λ (d : Descriptor). is_member d e) without.is ∙ ap (λ (x : State). is_member x.core.descriptor e) (sym same))
     (subst (λ (x : State). NoneIsLeft x.core.descriptor x.core.status → NoneIsLeft next x.core.status) (sym same) (none_unnamed c.args.lv next a settled without)) in
     let still : StillHeld (entered a f) b = subst (λ (x : State). StillHeld x b) same still_m in
     let same_b : state (g.S.Shelf.device c.enter-2.new.self.0) c.enter-2.new.self.1 ≡ entered b (Removed (Lv c.args.lv)) = λ t. state (g.S.Shelf.device (c.enter-2.ensures.shelf t)) (c.enter-2.ensures.core t) in

@@ -1,4 +1,4 @@
-use Rattle.lvm_io.proofs.Coming.{line_given, last_given}
+use Rattle.lvm_io.proofs.Coming.{line_given, line_wanted, last_given}
 use Rattle.lvm_io.proofs.lines.Lines.next_line.Goals as goal
 
 pub returns-in-Ok-Some-clause-line : goal.returns-in-Ok-Some-clause-line
@@ -9,3 +9,7 @@ pub returns-in-End-clause-line : goal.returns-in-End-clause-line
 returns-in-End-clause-line g c =
     last_given c.args.self.now c.loop-self.self c.take_line.new.self c.refill.new.self c.last_line.new.self (g.I.Source.left c.args.input.now) (g.I.Source.left c.loop-self.input) (g.I.Source.left c.refill.new.input)
     c.last_line.result c.loop-self.invariant.same (rw c.in-Ok-None.field-0-is at c.in-Ok-None.ensures) c.in-End.ensures.block.0 c.in-End.ensures.block.1 c.last_line.ensures
+
+pub returns-in-Err-clause-line : goal.returns-in-Err-clause-line
+returns-in-Err-clause-line g c =
+    line_wanted c.args.self.now c.loop-self.self c.take_line.new.self (g.I.Source.left c.args.input.now) (g.I.Source.left c.loop-self.input) _ c.loop-self.invariant.same c.in-Err.ensures

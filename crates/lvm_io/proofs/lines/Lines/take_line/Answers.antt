@@ -23,7 +23,8 @@ returns-else-is_err c =
     let line_is : c.new-in-Some.result ≡ c.self.inside.front.items ++ take at block = grind (arith, common_steps) in
     let front_is : c.args.self.now.front ≡ c.self.inside.front.items = cc in
     let block_is : c.args.self.now.block ≡ block = cc in
-    (take at block, block_is ∙ it.split, line_is ∙ ap (λ (l : List ℕ). l ++ take at block) (sym front_is), rw line_is (no_feed c.self.inside.front.items (take at block) c.self.invariant.0 it.clean), same_reading _ _ _ _ _ _ (cc) refl (cc))
+    let given_is : c.self.inside.given ≡ c.args.self.now.given = rw (← c.self.view_is) refl in
+    (take at block, block_is ∙ it.split, line_is ∙ ap (λ (l : List ℕ). l ++ take at block) (sym front_is), rw line_is (no_feed c.self.inside.front.items (take at block) c.self.invariant.0 it.clean), same_reading _ _ _ _ _ _ (cc) refl given_is)
 
 pub returns-else-is_err-2 : goal.returns-else-is_err-2
 returns-else-is_err-2 c =

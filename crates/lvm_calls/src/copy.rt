@@ -1,0 +1,133 @@
+//! The copy that is open, to a client.
+ghost use Rattle.std.specs.Prelude.{◌≡◌, ◌&&◌, not};
+ghost use Rattle.std.specs.List.{list_any};
+ghost use Rattle.lvm_num.specs.declared.place.Pp.{Pp};
+ghost use Rattle.lvm_num.specs.Descriptor.{IsLaidOut, IsValid};
+ghost use Rattle.lvm_stale.specs.Table.{is_pp};
+ghost use Rattle.lvm_session.specs.Fields.{core_of};
+ghost use Rattle.lvm_session.specs.Bringing.{is_out};
+ghost use Rattle.lvm_session.specs.Judging.{is_usable};
+ghost use Rattle.lvm_events.specs.Calls.{closed, copy_at, copy_fault, copy_state, refusal_at, refusal_in, refusal_on, state_of_copy};
+
+use crate::ask::has_numbers;
+use lvm_copies::{copies_of, is_missing, is_pp, is_settled, is_usable, volume_of};
+use lvm_events::{CopyFault, CopyState};
+use lvm_num::{LvRow, Pp};
+use lvm_session::{CopyEnd, OpenCopy, Power, Session, Step};
+
+fn is_out(step: &Step) -> bool
+    ensures { result ≡ is_out step.now }
+{
+    matches!(step, Step::Reading { .. } | Step::Writing)
+}
+
+fn state_of_copy(copy: &OpenCopy) -> CopyState
+    ensures { result ≡ state_of_copy copy.now }
+{
+    if is_out(&copy.step) {
+        return CopyState::Running {
+            cursor: copy.cursor,
+        };
+    }
+    match copy.end {
+        None => CopyState::Running {
+            cursor: copy.cursor,
+        },
+        Some(CopyEnd::Done) => CopyState::Done,
+        Some(CopyEnd::SyncFailed) => CopyState::SyncFailed { disk: copy.pp.disk },
+        Some(CopyEnd::NoFresh) => CopyState::NoFresh,
+        Some(CopyEnd::Ended) => CopyState::Ended,
+    }
+}
+
+/// How far the copy is that is open.
+pub fn copy_state(session: &Session) -> CopyState
+    ensures { result ≡ copy_state (core_of session.now) }
+{
+    match &session.copy {
+        None => CopyState::Closed,
+        Some(copy) => state_of_copy(copy),
+    }
+}
+
+/// The copy that is open is closed. It isn't to be one that is running.
+pub fn close_copy(session: &mut Session)
+    ensures { core_of session.new ≡ closed (core_of session.old) }
+{
+    session.copy = None;
+}
+
+fn copy_at(copies: &[Pp], number: u8) -> Option<Pp>
+    ensures { result ≡ copy_at copies.now number }
+{
+    if number == 0 {
+        None
+    } else {
+        copies.get(usize::from(number) - 1).copied()
+    }
+}
+
+// Whether another copy is usable.
+fn any_other_is_usable(session: &Session, copies: &[Pp], pp: Pp) -> bool
+    ensures { result ≡ list_any (λ (q : Pp). not (is_pp q pp) && is_usable (core_of session.now) q) copies.now }
+{
+    copies
+        .iter()
+        .any(|other| !is_pp(*other, pp) && is_usable(session, *other))
+}
+
+fn refusal_at(session: &Session, copies: &[Pp], pp: Pp) -> Option<CopyFault>
+    ensures { result ≡ refusal_at (core_of session.now) copies.now pp }
+{
+    if !is_settled(session, pp) {
+        Some(CopyFault::AlreadyFresh)
+    } else if is_missing(session, pp.disk) {
+        Some(CopyFault::Missing { disk: pp.disk })
+    } else if !any_other_is_usable(session, copies, pp) {
+        Some(CopyFault::NoFresh)
+    } else if has_numbers(session) {
+        None
+    } else {
+        Some(CopyFault::HistoryFull)
+    }
+}
+
+fn refusal_in(session: &Session, row: &LvRow, lp: u32, number: u8) -> Option<CopyFault>
+    requires { IsLaidOut row.now }
+    ensures { result ≡ refusal_in (core_of session.now) row.now lp number }
+{
+    if lp >= row.lps {
+        return Some(CopyFault::OutOfRange);
+    }
+    let copies = copies_of(row, lp);
+    match copy_at(copies, number) {
+        None => Some(CopyFault::OutOfRange),
+        Some(pp) => refusal_at(session, copies, pp),
+    }
+}
+
+fn refusal_on(session: &Session, lv: u16, lp: u32, number: u8) -> Option<CopyFault>
+    requires { IsValid session.now.descriptor }
+    ensures { result ≡ refusal_on (core_of session.now) lv lp number }
+{
+    if session.copy.is_some() {
+        return Some(CopyFault::Busy);
+    }
+    match volume_of(&session.descriptor, lv) {
+        None => Some(CopyFault::NoVolume),
+        Some(row) => refusal_in(session, row, lp, number),
+    }
+}
+
+/// Why a copy, from 1, of a logical partition, from 0, of a volume isn't brought up, in the order of
+/// `CopyFault`; None where it may be.
+pub fn copy_fault(session: &Session, lv: u16, lp: u32, number: u8) -> Option<CopyFault>
+    requires { IsValid session.now.descriptor }
+    ensures { result ≡ copy_fault (core_of session.now) lv lp number }
+{
+    match session.power {
+        Power::Dark => Some(CopyFault::Dark),
+        Power::Off => Some(CopyFault::Off),
+        Power::On | Power::Stuck => refusal_on(session, lv, lp, number),
+    }
+}

@@ -1,0 +1,5 @@
+mod Finding
+mod Nexts
+mod Places
+mod Queue
+mod Rest

@@ -1,0 +1,10 @@
+//! Which events of a turn may be made, kind by kind, the first request first.
+#![tactic(auto)]
+
+mod firsts;
+mod next;
+mod starts;
+
+pub use firsts::{first_admission, first_data, first_landing};
+pub use next::next_at;
+pub use starts::{copy_write, has_buffer, is_lost};

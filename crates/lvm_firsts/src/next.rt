@@ -1,0 +1,23 @@
+//! What the request at a place of the table does next.
+ghost use Rattle.std.specs.Prelude.{◌≡◌, ◌<◌, length, slice_get, Some};
+ghost use Rattle.lvm_session.specs.declared.open.Open.{Open};
+ghost use Rattle.lvm_session.specs.Fields.{core_of};
+ghost use Rattle.lvm_session.specs.Judging.{next_for};
+ghost use Rattle.lvm_sound.specs.Sound.{IsGoing};
+
+use lvm_facts::{is_waiting, next_of};
+use lvm_path::Next;
+use lvm_session::Session;
+
+/// What the request at a place of the table, from 0, does next; one that has landed waits.
+pub fn next_at(session: &Session, place: usize) -> Next
+    requires going { IsGoing (core_of session.now) }
+    requires there { place < length session.now.requests.items }
+    ensures { (o : Open) → slice_get session.now.requests.items place ≡ Some o → result ≡ next_for (core_of session.now) o }
+{
+    let open = &session.requests[place];
+    if !is_waiting(open) {
+        return Next::Wait;
+    }
+    next_of(session, open)
+}

@@ -1,0 +1,7 @@
+//! The end of a session: what was open lands, and what was in hand goes back.
+#![tactic(auto)]
+
+mod ends;
+mod landings;
+
+pub use ends::{darken, go_off};
