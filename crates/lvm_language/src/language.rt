@@ -1,8 +1,8 @@
 //! The command line as `clap` is told it.
 ghost use Rattle.std.specs.Prelude.{◌≡◌, IfOk, Err, true, false, [], map};
-ghost use Rattle.clap.specs.Words.{app_of, rule_of, fault_of, subcommand_of, subcommand_rows_of};
+ghost use Rattle.clap.specs.Words.{app_of, rule_of, with_rule, fault_of, subcommand_of, subcommand_rows_of};
 ghost use Rattle.clap.specs.declared.builder.Command.TheViews.{out-Command};
-ghost use Rattle.lvm_language.specs.CommandLine.{number_rule, with_numbers, script_app, lvm_app};
+ghost use Rattle.lvm_language.specs.CommandLine.{number_rule, sim_app, image_app, lvm_app};
 
 use crate::fault::WordsFault;
 use clap::builder::ValueParser;
@@ -20,18 +20,37 @@ fn number<'a>(alloc: Global, id: &'a str, low: u64, high: u64) -> Arg<'a>
         .value_parser(ValueParser::unsigned(low, high))
 }
 
-// A job with two numbers behind its name.
-fn numbered<'a>(
+// A job with one number more behind those that it has, within these bounds.
+fn with_number<'a>(
+    job: Command<'a>,
     alloc: Global,
-    name: &'a str,
-    first: Arg<'a>,
-    second: Arg<'a>,
+    id: &'a str,
+    low: u64,
+    high: u64,
 ) -> Result<Command<'a>, AllocError>
-    requires local { (first.global ≡ false) × (second.global ≡ false) }
-    ensures app { IfOk result (λ job. app_of job ≡ with_numbers name.entry.now (rule_of first.entry) (rule_of second.entry)) }
+    requires local { (out-Command job).has_globals ≡ false }
+    ensures app { IfOk result (λ more. app_of more ≡ with_rule (app_of job.entry) (number_rule id.entry.now low high)) }
+    ensures local { IfOk result (λ more. (out-Command more).has_globals ≡ false) }
+{
+    job.arg(number(alloc, id, low, high))
+}
+
+// `sim DISKS MIB`
+fn sim<'a>(alloc: Global) -> Result<Command<'a>, AllocError>
+    ensures app { IfOk result (λ job. app_of job ≡ sim_app) }
     ensures local { IfOk result (λ job. (out-Command job).has_globals ≡ false) }
 {
-    Command::new(alloc, name).arg(first)?.arg(second)
+    let job = with_number(Command::new(alloc, "sim"), alloc, "DISKS", 1, 32)?;
+    with_number(job, alloc, "MIB", 1, 64)
+}
+
+// `image N MIB`
+fn image<'a>(alloc: Global) -> Result<Command<'a>, AllocError>
+    ensures app { IfOk result (λ job. app_of job ≡ image_app) }
+    ensures local { IfOk result (λ job. (out-Command job).has_globals ≡ false) }
+{
+    let job = with_number(Command::new(alloc, "image"), alloc, "N", 0, 127)?;
+    with_number(job, alloc, "MIB", 1, 4_096)
 }
 
 // The program, which is asked for one of its jobs.
@@ -39,18 +58,8 @@ fn command_line<'a>(alloc: Global) -> Result<Command<'a>, AllocError>
     ensures { IfOk result (λ line. app_of line ≡ lvm_app) }
 {
     let script = Command::new(alloc, "script");
-    let sim = numbered(
-        alloc,
-        "sim",
-        number(alloc, "DISKS", 1, 32),
-        number(alloc, "MIB", 1, 64),
-    )?;
-    let image = numbered(
-        alloc,
-        "image",
-        number(alloc, "N", 0, 127),
-        number(alloc, "MIB", 1, 4_096),
-    )?;
+    let sim = sim(alloc)?;
+    let image = image(alloc)?;
     Command::new(alloc, "lvm")
         .no_binary_name(true)
         .disable_help_flag(true)

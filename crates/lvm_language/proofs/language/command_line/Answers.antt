@@ -2,14 +2,14 @@ use Rattle.std.proofs.Common.{◌≡◌, ◌∙◌, ap, ap₂, codes, true}
 use Rattle.std.proofs.lemmas.Result.{IfOk-weaker}
 use Rattle.clap.specs.Words.{App, app_of, new_app, with_subcommand}
 use Rattle.clap.specs.Simple.{app_of_fields, on_top}
-use Rattle.lvm_language.specs.CommandLine.{with_numbers, lvm_settings, script_app, sim_app, image_app}
+use Rattle.lvm_language.specs.CommandLine.{lvm_settings, script_app, sim_app, image_app}
 use Rattle.lvm_language.proofs.language.command_line.Goals as goal
 
 pub returns : goal.returns
 returns c =
     let script_is : app_of c.new-script.result ≡ script_app = c.new-script.ensures.app in
-    let sim_is : app_of c.in_ok-sim.sim ≡ sim_app = c.in_ok-sim.ensures.app ∙ ap₂ (with_numbers (codes "sim")) c.number.ensures.rule c.number-2.ensures.rule in
-    let image_is : app_of c.in_ok-image.image ≡ image_app = c.in_ok-image.ensures.app ∙ ap₂ (with_numbers (codes "image")) c.number-3.ensures.rule c.number-4.ensures.rule in
+    let sim_is : app_of c.in_ok-sim.sim ≡ sim_app = c.in_ok-sim.ensures.app in
+    let image_is : app_of c.in_ok-image.image ≡ image_app = c.in_ok-image.ensures.app in
     let set : app_of c.subcommand_required.result ≡ on_top lvm_settings (new_app (codes "lvm")) =
     ap app_of_fields c.subcommand_required.ensures
     ∙ ap (on_top (λ s. record s { subcommand_required = true })) (ap app_of_fields c.disable_help_subcommand.ensures
