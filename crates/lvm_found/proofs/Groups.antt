@@ -76,7 +76,7 @@ module _ (log : Log) (old new : State) (answer : Reply) (shelf : IsShelf old.mom
     committed tried id k its = record { tried = tried; own = its.0 ∙ sym (ap (λ (d : Descriptor). d.id) its.1); is = its.1 }
 
     pub mkvg_finds : (room : Room) → MkvgDoes log room force name mib disks old new answer → Found new.moment.device
-    mkvg_finds room (NoMemoryForLine says same) id k it = inl (asked_nothing old new same id k it)
+    mkvg_finds room (NoMemoryForLine off says same) id k it = inl (asked_nothing old new same id k it)
     mkvg_finds room (NoMkvgWhileOn on says same) id k it = inl (asked_nothing old new same id k it)
     mkvg_finds room (MakesGroup core asks before made left) id k it = ⊎_elim
         (λ was. inl was)
