@@ -1,5 +1,5 @@
-mod Finding
-mod Nexts
-mod Places
+pub mod Finding
+pub mod Nexts
+pub mod Places
 mod Queue
 mod Rest

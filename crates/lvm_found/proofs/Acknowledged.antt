@@ -58,7 +58,7 @@ pub record LeavesOn (read : Result (Option Command) Misfit) (old new : State) : 
 
 module _ (log : Log) (room : Room) (old new : State) where
   by_command : (c : Command) → is_group_command c ≡ true → CommandDoes log room c old new reply.Ok → LeavesOn (Ok (Some c)) old new
-  by_command (command.Mkvg force name mib disks) acked (NoMemoryForLine says asked) = absurd (cc (says))
+  by_command (command.Mkvg force name mib disks) acked (NoMemoryForLine off says asked) = absurd (cc (says))
   by_command (command.Mkvg force name mib disks) acked (NoMkvgWhileOn on says asked) = absurd (cc (says))
   by_command (command.Mkvg force name mib disks) acked (MakesGroup core asks before made left) = record {
     core = core;

@@ -154,7 +154,7 @@ of_shows read text why old new (WithoutMemory is) = by_reply read why refusal.Me
 pub known : (log : Log) (room : Room) (read : Result (Option Command) Misfit) (why : Refusal) (old new : State) → LineDoes log room read old new (reply.Refused why) → Known read why old new
 known log room (Err misfit) why old new does = by_reply _ why (refusal.BadLine misfit.column) old new does.0 (easy _ (refusal.BadLine misfit.column) old new tt (λ e. cc) (λ h t e. cc))
 known log room (Ok None) why old new does = absurd (let e = does.0 in cc (e))
-known log room (Ok (Some (command.Mkvg force name mib disks))) why old new (NoMemoryForLine is asked) = by_reply _ why refusal.Memory old new is (easy _ refusal.Memory old new tt (λ e. cc) (λ h t e. cc))
+known log room (Ok (Some (command.Mkvg force name mib disks))) why old new (NoMemoryForLine off is asked) = by_reply _ why refusal.Memory old new is (easy _ refusal.Memory old new tt (λ e. cc) (λ h t e. cc))
 known log room (Ok (Some (command.Mkvg force name mib disks))) why old new (NoMkvgWhileOn some is asked) = by_reply _ why refusal.GroupOn old new is (easy _ refusal.GroupOn old new tt (λ e. cc) (λ h t e. cc))
 known log room (Ok (Some (command.Mkvg force name mib disks))) why old new (MakesGroup core asks before made left) = absurd (let e = left.answered in cc (e))
 known log room (Ok (Some (command.Mkvg force name mib disks))) why old new (MkvgFails reason gone is asks before refuses left) = by_reply _ why (refusal_of reason) old new left.answered (known_by _ reason old new gone (mkvg_stopped force name mib disks (asked_for name mib disks force new.last) (log_with log old.moment.facts) is old.moment.device gone reason refuses) (counts_lit reason gone new.moment.device left.lit) (wrote_lit reason gone new.moment.device left.lit) left.after)

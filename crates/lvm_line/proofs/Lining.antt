@@ -1,5 +1,5 @@
 -- Lines, by how they are read.
-use Rattle.std.proofs.Common.{◌≡◌, ℕ, List, Option, Some, Result, Ok, sym, ap, subst}
+use Rattle.std.proofs.Common.{◌≡◌, ℕ, List, Bool, Option, Some, None, IsSome, Result, Ok, refl, sym, ap, subst}
 use Rattle.lvm_disk.specs.Device.{HasSectors}
 use Rattle.lvm_io.specs.Count.{next_count}
 use Rattle.lvm_vol.specs.Log.{Log}
@@ -9,7 +9,8 @@ use Rattle.lvm_operands.specs.declared.rest.Misfit.{Misfit}
 use Rattle.lvm_parse.specs.Grammar.{line_of}
 use Rattle.lvm_parse.specs.Answering.{IsMkvgLine}
 use Rattle.lvm_core.specs.declared.parts.Room.{Room}
-use Rattle.lvm_line.specs.Groups.{IsAsked, NoMemoryForLine}
+use Rattle.lvm_core.specs.State.{Core}
+use Rattle.lvm_line.specs.Groups.{IsAsked, MkvgDoes, NoMemoryForLine, NoMkvgWhileOn}
 use Rattle.lvm_line.specs.Lines.{CommandDoes, LineDoes, IsLine, IsOrder, asked_after}
 use Rattle.lvm_line.specs.Moments.{GoesOn}
 use Rattle.lvm_line.specs.State.{State, IsSettled}
@@ -36,18 +37,23 @@ pub line_still :
 line_still log room line read answer old new is does settled same whole =
     line_read log room line read answer old new is does (same_goes log.run answer old new settled same) (λ no_order. ap (λ (s : State). s.moment.device.orders) same) whole
 
--- a line for which no memory was found
-pub line_unread : (log : Log) (room : Room) (line : List ℕ) (answer : Reply) (old new : State) → IsMkvgLine (line_of line) → answer ≡ reply.Refused refusal.Memory → IsAsked old new → IsSettled old.moment old.session
-    → HasSectors old.moment.device → IsLine log room line answer old new
-line_unread log room line answer old new mkvg says asked settled whole = record {
+-- a line for which no memory was found, while a group is on or none is
+pub line_unread :
+    (log : Log) (room : Room) (line : List ℕ) (answer : Reply) (old new : State) → IsMkvgLine (line_of line) → (IsSome old.session → answer ≡ reply.Refused refusal.GroupOn) → (old.session ≡ None → answer ≡ reply.Refused refusal.Memory) → IsAsked old new
+    → IsSettled old.moment old.session → HasSectors old.moment.device → IsLine log room line answer old new
+line_unread log room line answer old new mkvg on off asked settled whole = record {
   does = of_mkvg (line_of line) mkvg;
   goes = asked_goes log.run answer old new settled asked;
   orders = λ no_order. ap (λ (s : State). s.moment.device.orders) asked.same;
   whole = whole;
 }
   where
+    by_session : (force : Bool) (name : List ℕ) (mib : Option ℕ) (disks : List ℕ) (session : Option Core) → old.session ≡ session → MkvgDoes log room force name mib disks old new answer
+    by_session force name mib disks None is = NoMemoryForLine is (off is) asked
+    by_session force name mib disks (Some core) is = let some : IsSome old.session = subst IsSome (sym is) refl in NoMkvgWhileOn some (on some) asked
+
     of_mkvg : (read : Result (Option Command) Misfit) → IsMkvgLine read → LineDoes log room read old new answer
-    of_mkvg (Ok (Some (command.Mkvg force name mib disks))) is = NoMemoryForLine says asked
+    of_mkvg (Ok (Some (command.Mkvg force name mib disks))) is = by_session force name mib disks old.session refl
     of_mkvg read is = absurd is
 
 -- the clock was asked once more, as by a `mkvg`

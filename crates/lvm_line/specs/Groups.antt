@@ -83,9 +83,9 @@ pub data VaryonDoes (log : Log) (room : Room) (name : List ℕ) (old new : State
 abbrev pub asked_for : List ℕ → Option ℕ → List ℕ → Bool → ℕ → NewGroup
 asked_for name mib disks force moment = record { name = name; mib = mib; disks = disks; force = force; moment = moment }
 
--- `mkvg`, at the moment that the clock has answered; where the line itself finds no memory, that is answered
+-- `mkvg`, at the moment that the clock has answered; where no group is on and the line itself finds no memory, that is answered
 pub data MkvgDoes (log : Log) (room : Room) (force : Bool) (name : List ℕ) (mib : Option ℕ) (disks : List ℕ) (old new : State) (answer : Reply) : Type 0 where
-  NoMemoryForLine : answer ≡ reply.Refused refusal.Memory → IsAsked old new → MkvgDoes log room force name mib disks old new answer
+  NoMemoryForLine : old.session ≡ None → answer ≡ reply.Refused refusal.Memory → IsAsked old new → MkvgDoes log room force name mib disks old new answer
   NoMkvgWhileOn : IsSome old.session → answer ≡ reply.Refused refusal.GroupOn → IsAsked old new → MkvgDoes log room force name mib disks old new answer
   MakesGroup : (core : Core) → Asks old new → old.session ≡ None → IsMade (asked_for name mib disks force new.last) room (log_with log old.moment.facts) old.moment.device new.moment.device core → IsLeftOn core new answer
       → MkvgDoes log room force name mib disks old new answer

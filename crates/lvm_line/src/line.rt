@@ -1,10 +1,10 @@
 //! One line of a script.
-ghost use Rattle.std.specs.Prelude.{◌≡◌};
+ghost use Rattle.std.specs.Prelude.{◌≡◌, None, IsSome};
 ghost use Rattle.lvm_core.specs.Starting.{IsRoom};
 ghost use Rattle.lvm_parse.specs.Grammar.{line_of};
 ghost use Rattle.lvm_line.specs.Lines.{IsWithin, CommandDoes, IsLine, IsOrder, asked_after};
 ghost use Rattle.lvm_line.specs.Moments.{GoesOn};
-ghost use Rattle.lvm_line.specs.Stages.{shelf_in, history_in, state_in, IsSettledStage};
+ghost use Rattle.lvm_line.specs.Stages.{shelf_in, history_in, session_in, state_in, IsSettledStage};
 ghost use Rattle.lvm_line.specs.State.{without_facts};
 
 use crate::disks::{do_read, do_write};
@@ -89,8 +89,21 @@ fn do_command<S: Shelf, C: Clock>(
     }
 }
 
+// Refuses a line for which no memory was found. Of the lines of the language a `mkvg` alone wants memory, and a group
+// that is on is named first.
+fn refuse_unread<S: Shelf>(stage: Stage<S>) -> Answered<S>
+    ensures stage { result.stage ≡ stage }
+    ensures on { IsSome (session_in stage) → result.reply ≡ Reply.Refused Refusal.GroupOn }
+    ensures off { session_in stage ≡ None → result.reply ≡ Reply.Refused Refusal.Memory }
+{
+    match stage {
+        Stage::On { driver } => Stage::On { driver }.refused(Refusal::GroupOn),
+        Stage::Off { shelf, history } => Stage::Off { shelf, history }.refused(Refusal::Memory),
+    }
+}
+
 /// Does what a line, without its line feed, asks for. A `mkvg` or a `varyonvg` of the language asks the
-/// clock once, before all else.
+/// clock once, also where it is refused.
 pub fn do_line<S: Shelf, C: Clock>(
     alloc: Global,
     stage: Stage<S>,
@@ -108,10 +121,9 @@ pub fn do_line<S: Shelf, C: Clock>(
         Ok(None) => stage.answered(Reply::Silent),
         Ok(Some(command)) => do_command(alloc, stage, clock, room, command),
         Err(ParseFault::BadLine { column }) => stage.refused(Refusal::BadLine { column }),
-        // Of the lines of the language a `mkvg` alone wants memory.
         Err(ParseFault::Memory) => {
             let _ = clock.now();
-            stage.refused(Refusal::Memory)
+            refuse_unread(stage)
         }
     }
 }

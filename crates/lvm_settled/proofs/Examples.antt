@@ -17,6 +17,7 @@ use Rattle.lvm_num.specs.Votes.{CanWrite}
 use Rattle.lvm_num.specs.declared.record.Framed.{Framed}
 use Rattle.lvm_rec.specs.Slots.{held, slot_of, read_under, slot_to_write}
 use Rattle.lvm_disk.specs.Device.{Image, image_of, MayLeave}
+use Rattle.lvm_vol.specs.declared.entry.Vol.TheVariants.{Lv}
 use Rattle.lvm_kept.specs.Contents.{Contents, contents_of}
 use Rattle.lvm_kept.specs.Examples.{stamped, member, two, either_of}
 use Rattle.lvm_kept.specs.Group.{IsOneByAll}
@@ -273,4 +274,5 @@ pub pairs_settle : PairsSettle
 pairs_settle = record {
   first = λ mode dirty lost cut note. let x : Pair = even_pair mode dirty lost note in settles mode dirty lost cut note (core_of x).cache (sound x) (quiet x);
   noted = λ mode dirty lost cut note. let x : Pair = even_pair mode dirty lost note in settles mode dirty lost cut note noted_cache (noted_sound x) (noted_quiet x);
+  begun = λ mode calm. absurd (cc (calm (Lv 1) 0));
 }

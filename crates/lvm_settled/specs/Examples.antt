@@ -1,14 +1,16 @@
 -- A settled session, worked by hand: of the two disks that mirror a volume.
-use Rattle.std.specs.Prelude.{false, [], ◌∷◌, None, Bool, map}
+use Rattle.std.specs.Prelude.{false, [], ◌∷◌, ◌++◌, None, Bool, map}
 use Rattle.lvm_num.specs.declared.descriptor.Mode.{Mode}
 use Rattle.lvm_num.specs.Buffer.{Sector, zero_sector}
 use Rattle.lvm_disk.specs.Device.{image_of}
+use Rattle.lvm_vol.specs.Facts.{Begun}
 use Rattle.lvm_kept.specs.Examples.{two}
+use Rattle.lvm_kept.specs.Moments.{Calm}
 use Rattle.lvm_mwc.specs.Cache.{Cached, no_notes}
 use Rattle.lvm_core.specs.declared.request.Power.TheVariants as power
 use Rattle.lvm_core.specs.Held.{NotesAreHome}
 use Rattle.lvm_core.specs.State.{Core, state}
-use Rattle.lvm_rest.specs.Examples.{Pair, status_of, pair_sizes, media_of, device_of, past_of, now_on, even_pair, naming_note, naming}
+use Rattle.lvm_rest.specs.Examples.{Pair, status_of, pair_sizes, media_of, device_of, first_write, past_of, now_on, history_of, even_pair, naming_note, naming}
 use Rattle.lvm_settled.specs.Settled.{IsKnown, IsCarried}
 
 -- The session has come on with this status, and nothing has happened since; there is room for a request, and one buffer.
@@ -51,10 +53,11 @@ pub record IsSettledPair (core : Core) (pair : Pair) (mode : Mode) (cut : Bool) 
   pub carried : IsCarried (past_of mode cut) (state (device_of pair) core) (media_of pair) known
 
 -- So it is in each mode, dirty or not, whatever stands in the notes' sectors, also where a member is lost, after a cut while the first block was written, and
--- after a write.
+-- after a write; not while a write of the volume is open.
 pub record PairsSettle : Type 0 where
   pub first : (mode : Mode) (dirty lost cut : Bool) (note : Sector) → IsSettledPair (core_of (even_pair mode dirty lost note)) (even_pair mode dirty lost note) mode cut
   pub noted : (mode : Mode) (dirty lost cut : Bool) (note : Sector) → IsSettledPair (noted_core (even_pair mode dirty lost note)) (even_pair mode dirty lost note) mode cut
+  pub begun : (mode : Mode) → Calm (history_of mode false ++ Begun first_write ∷ []) → ⊥
 
 -- this session's notes are home, on the disks of this pair
 abbrev pub HasNotesHome : (Pair → Core) → Pair → Type 0

@@ -25,7 +25,7 @@ pub fn cache_is_seen()
 {}
 
 /// There are such sessions: of two disks that mirror a volume, in each mode, with both members or one that is lost,
-/// after a power cut during a write, and after a write of their own.
+/// after a power cut during a write, and after a write of their own; not while a write is open.
 pub fn pairs_settle()
     ensures { PairsSettle }
 {}

@@ -34,8 +34,8 @@ returns-in-Err-BadLine-clause-line g c =
 
 pub returns-in-Err-Memory-clause-line : goal.returns-in-Err-Memory-clause-line
 returns-in-Err-Memory-clause-line g c =
-    line_unread (without_facts (history_in c.args.stage)) c.args.room c.args.line.now c.refused-in-Err-Memory.result.reply _ _ (c.parse.ensures.memory (cc)) c.refused-in-Err-Memory.ensures.reply
-    (asked_stays g.S.Shelf.device c.args.stage c.refused-in-Err-Memory.result.stage (g.C.Clock.last c.args.clock.now) (g.C.Clock.last c.now.new.self) c.now.result c.now.ensures.later c.now.ensures.last c.refused-in-Err-Memory.ensures.stage)
+    line_unread (without_facts (history_in c.args.stage)) c.args.room c.args.line.now c.refuse_unread.result.reply _ _ (c.parse.ensures.memory (cc)) c.refuse_unread.ensures.on c.refuse_unread.ensures.off
+    (asked_stays g.S.Shelf.device c.args.stage c.refuse_unread.result.stage (g.C.Clock.last c.args.clock.now) (g.C.Clock.last c.now.new.self) c.now.result c.now.ensures.later c.now.ensures.last c.refuse_unread.ensures.stage)
     c.requires.settled (g.met.S.Shelf.sectors_are_whole (shelf_in c.args.stage))
 
 pub returns-in-Ok-None-clause-asked : goal.returns-in-Ok-None-clause-asked

@@ -1,0 +1,6 @@
+//! Requests pin their track groups in the cache.
+#![tactic(auto)]
+
+mod pins;
+
+pub use pins::pin_first;
