@@ -34,7 +34,7 @@ use Rattle.lvm_found.proofs.Varying.{written_nothing}
 
 -- ---- the clock
 
-asked_nothing : (old new : State) → IsAsked old new → NothingNew old.moment.device new.moment.device
+pub asked_nothing : (old new : State) → IsAsked old new → NothingNew old.moment.device new.moment.device
 asked_nothing old new asked = same_nothing old.moment.device new.moment.device (ap (λ (s : State). s.moment.device) asked.same)
 
 -- no moment that a clock answers is the first of all
@@ -46,7 +46,7 @@ module _ (log : Log) (old new : State) (answer : Reply) (shelf : IsShelf old.mom
   behind asks early = (clock_is_ahead log.run old.last new.last old.moment.device old.moment.facts asks timely.ahead early).behind
 
   -- where nothing was heard of a transfer the shelf is left as it was
-  left_still : (why : Cause) (left : Device) → IsLit why left new.moment.device → why ≡ cause.Stuck → left.flights ≡ []
+  pub left_still : (why : Cause) (left : Device) → IsLit why left new.moment.device → why ≡ cause.Stuck → left.flights ≡ []
   left_still why left lit stuck = let same : new.moment.device ≡ left = subst (λ (c : Cause). IsLit c left new.moment.device) stuck lit in sym (ap (λ (d : Device). d.flights) same) ∙ after.flights
 
   -- ---- `mkvg`
@@ -58,7 +58,7 @@ module _ (log : Log) (old new : State) (answer : Reply) (shelf : IsShelf old.mom
     abbrev Found : Device → Type 0
     Found device = (id : ℕ) (k : Descriptor) → MayBeFound device id k → MayBeFound old.moment.device id k ⊎ MayHaveCommitted (Ok (Some (command.Mkvg force name mib disks))) answer old new id k
 
-    asked : Asks old new → IsAskedFor (asked_for name mib disks force new.last) old.moment.device
+    pub asked : Asks old new → IsAskedFor (asked_for name mib disks force new.last) old.moment.device
     asked asks =
         let within = line_is_within line (command.Mkvg force name mib disks) read in
         record {

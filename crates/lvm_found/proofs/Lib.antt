@@ -9,3 +9,4 @@ pub mod Groups
 pub mod Lines
 pub mod Acknowledged
 pub mod Scripts
+pub mod OneGroup

@@ -59,7 +59,7 @@ module _ (log : Log) (old new : State) (answer : Reply) where
       then_nothing old.moment.device cut.dark new.moment.device (fewer_nothing old.moment.device cut.dark (arrange_leaves old.moment.device cut.dark (arrange.Cut word) cut.cut)) (relit_nothing cut.dark new.moment.device cut.lit)
 
 module _ (log : Log) (room : Room) (line : List ℕ) (answer : Reply) (old new : State) (shelf : IsShelf old.moment.device) (ready : IsReady old.moment.device) (after : IsReady new.moment.device) (timely : IsTimely log.run old) (held : AreHeld old) where
-  by_reading : (read : Result (Option Command) Misfit) → line_of line ≡ read → LineDoes log room read old new answer
+  pub by_reading : (read : Result (Option Command) Misfit) → line_of line ≡ read → LineDoes log room read old new answer
       → (id : ℕ) (k : Descriptor) → MayBeFound new.moment.device id k → MayBeFound old.moment.device id k ⊎ MayHaveCommitted read answer old new id k
   by_reading (Err misfit) is does id k it = inl (same_state log old new answer does.1 id k it)
   by_reading (Ok None) is does id k it = inl (same_state log old new answer does.1 id k it)

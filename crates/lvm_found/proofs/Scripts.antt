@@ -45,12 +45,12 @@ use Rattle.lvm_found.proofs.Varying.{was_found}
 -- ---- the lines
 
 -- nothing is under way after lines of which something was heard
-script_ready : (log : Log) (room : Room) (first : State) {lines : List (List ℕ)} {replies : List Reply} {last : State} → Script log room first lines replies last → IsReady first.moment.device → IsReady last.moment.device
+pub script_ready : (log : Log) (room : Room) (first : State) {lines : List (List ℕ)} {replies : List Reply} {last : State} → Script log room first lines replies last → IsReady first.moment.device → IsReady last.moment.device
 script_ready log room first NoLine ready = ready
 script_ready log room first (NextLine line answer said heard says before it) ready = (it.goes.settled heard).ready
 
 module _ (log : Log) (room : Room) (past : List Fact) (first : State) (begin : MayStart log.run past first) where
-  first_held : AreHeld first
+  pub first_held : AreHeld first
   first_held = subst (λ (s : Option Core). IfSome s (λ core. IsHeld first.moment.device core)) (sym begin.off) tt
 
   -- each crash image is kept with the history
@@ -76,7 +76,7 @@ module _ (log : Log) (room : Room) (past : List Fact) (first : State) (begin : M
 
   -- what a line leaves after which nothing is under way
   line_stands : {lines : List (List ℕ)} {replies : List Reply} {mid new : State} (line : List ℕ) (answer said : Reply) (says : Says answer said) (before : Script log room first lines replies mid) (it : IsLine log room line answer mid new)
-      → IsReady new.moment.device → StaysAlone before × IsAlone answer mid new → ((id : ℕ) (k : Descriptor) → MayBeFound mid.moment.device id k → MayStand before id k)
+      → IsReady new.moment.device → StaysAlone before × IsAlone mid new → ((id : ℕ) (k : Descriptor) → MayBeFound mid.moment.device id k → MayStand before id k)
       → (id : ℕ) (k : Descriptor) → MayBeFound new.moment.device id k → StandsAfter (is_acknowledged (line_of line) answer) (line_of line) answer mid new (MayStand before) id k
   line_stands {mid = mid} {new = new} line answer said says before it after alone stood id k found =
       let went = script_went log room first before in
@@ -98,7 +98,7 @@ module _ (log : Log) (room : Room) (past : List Fact) (first : State) (begin : M
       line_stands line answer said says before it (it.goes.settled heard).ready alone (stands before alone.0) id k found
 
   -- what is told at first is told after the lines
-  last_told : {lines : List (List ℕ)} {replies : List Reply} {last : State} (script : Script log room first lines replies last) → StaysAlone script → IsSome last.moment.device.media
+  pub last_told : {lines : List (List ℕ)} {replies : List Reply} {last : State} (script : Script log room first lines replies last) → StaysAlone script → IsSome last.moment.device.media
   last_told script alone = span_told ((script_went log room first script).keeps begin.timely first_held alone) begin.begins.told
 
 pub script_finds : ScriptFindsWhatStands
@@ -106,7 +106,7 @@ script_finds log room past first lines replies last script begin alone = stands 
 
 -- ---- a varyon after them
 
-some_of : {X : Type 0} (o : Option X) → IsSome o → (x : X) × (o ≡ Some x)
+pub some_of : {X : Type 0} (o : Option X) → IsSome o → (x : X) × (o ≡ Some x)
 some_of (Some x) some = (x, refl)
 some_of None some = absurd (cc (some))
 

@@ -1,5 +1,6 @@
 //! Laws of what quorums find. Each call does nothing: its contract is the law.
 ghost use Rattle.lvm_found.specs.Laws.{LineFindsNoMore, ScriptFindsWhatStands, VaryonFindsWhatStands, RunMayStart, RunFindsWhatStands};
+ghost use Rattle.lvm_found.specs.OneGroup.{UnforcedStaysAlone, UnforcedRunsAlone, BlankFindsOneGroup};
 
 /// After a line no descriptor may be found that might not be before, but the one that the line was to commit.
 pub fn lines_find_no_more()
@@ -13,4 +14,12 @@ pub fn scripts_find_what_stands()
     ensures varyon { VaryonFindsWhatStands }
     ensures start { RunMayStart }
     ensures run { RunFindsWhatStands }
+{}
+
+/// Lines without a `mkvg -f`, over disks on which at most one group is found as over such of zeros, make and remove volumes of the only
+/// group.
+pub fn unforced_scripts_stay_alone()
+    ensures lines { UnforcedStaysAlone }
+    ensures run { UnforcedRunsAlone }
+    ensures blank { BlankFindsOneGroup }
 {}

@@ -3,4 +3,4 @@
 
 mod laws;
 
-pub use laws::{lines_find_no_more, scripts_find_what_stands};
+pub use laws::{lines_find_no_more, scripts_find_what_stands, unforced_scripts_stay_alone};

@@ -1,26 +1,29 @@
 -- Commands on the session that is on.
-use Rattle.std.proofs.Common.{◌≡◌, ◌⊎◌, ◌+◌, ◌≤◌, [], ℕ, List, Bool, true, Option, None, refl, sym, ◌∙◌, ap, subst, arith}
+use Rattle.std.proofs.Common.{◌≡◌, ◌+◌, ◌≤◌, [], ℕ, List, Bool, true, Option, None, refl, sym, ◌∙◌, ap, subst, arith}
 use Rattle.lvm_num.specs.Buffer.{Buffer}
 use Rattle.lvm_disk.specs.Device.{Device, IsReady}
 use Rattle.lvm_vol.specs.Log.{Log}
 use Rattle.lvm_kept.specs.Moments.{Moment, StaysCalm}
+use Rattle.lvm_change.specs.Moments.{Keeps}
 use Rattle.lvm_change.specs.Requests.{at}
 use Rattle.lvm_change.proofs.Spans.{keeps_still}
 use Rattle.lvm_move.specs.Transfer.{Relights}
 use Rattle.lvm_core.specs.declared.refused.Cause.TheVariants as cause
-use Rattle.lvm_core.specs.Committing.{moment_of, SpanGoesOn, StaysBehind}
-use Rattle.lvm_commit.specs.LawsOfVolumes.{IsOnlyGroupOn}
+use Rattle.lvm_core.specs.Committing.{moment_of, StaysBehind}
+use Rattle.lvm_commit.specs.LawsOfVolumes.{IsOneByAllOn}
+use Rattle.lvm_commit.proofs.Others.{one_by_all_is_only_since}
 use Rattle.lvm_core.specs.Held.{IsHeld}
 use Rattle.lvm_core.specs.Settled.{IsSettled as IsSettledCore}
 use Rattle.lvm_core.specs.Sound.{HaveAllLanded}
 use Rattle.lvm_core.specs.State.{Core, State as Session, state}
 use Rattle.lvm_group.specs.declared.fault.GroupFault.{GroupFault}
 use Rattle.lvm_group.specs.declared.fault.GroupFault.TheVariants as fault
-use Rattle.lvm_group.specs.Endings.{KeepsHistory, StillHeld}
-use Rattle.lvm_line.specs.Moments.{GoesOn, IsBrokenOff}
+use Rattle.lvm_group.specs.Endings.{EntersVolumes, KeepsHistory, KeepsSpans, StillHeld}
+use Rattle.lvm_group.proofs.Entering.{shows_committed}
+use Rattle.lvm_line.specs.Moments.{GoesOn}
 use Rattle.lvm_line.specs.Replies.{IsStuck}
 use Rattle.lvm_line.specs.Stages.{shelf_in, history_in, session_in, state_in, Between}
-use Rattle.lvm_line.specs.State.{State, EntersVolumes, without_facts}
+use Rattle.lvm_line.specs.State.{State, without_facts}
 use Rattle.lvm_line.specs.declared.reply.Refusal.TheVariants as refusal
 use Rattle.lvm_line.specs.declared.reply.Reply.{Reply}
 use Rattle.lvm_line.specs.declared.reply.Reply.TheVariants as reply
@@ -30,13 +33,8 @@ use Rattle.lvm_line.proofs.Coming.{LitUp, lit_up, at_rest}
 
 -- ---- what a command promises, whatever its answer
 
--- a span that leads to the command goes on, where no other group is found on the disks as it is asked
-abbrev pub KeepsAlone : Reply → Session → Session → Type 0
-KeepsAlone answer old new =
-    IsHeld old.device old.core → (EntersVolumes old.core.history.facts new.core.history.facts ⊎ IsBrokenOff answer → IsOnlyGroupOn old.device old.core.descriptor.id) → (run : ℕ) (first : Moment) → SpanGoesOn run first old new
-
-pub record Promised (answer : Reply) (old new : Session) : Type 0 where
-  pub keeps : KeepsAlone answer old new
+pub record Promised (old new : Session) : Type 0 where
+  pub keeps : KeepsSpans old new
   pub orders : new.device.orders ≡ old.device.orders
   pub epoch : new.core.status.stamp.epoch ≡ old.core.status.stamp.epoch
   pub history : KeepsHistory old.core.history new.core.history
@@ -54,11 +52,21 @@ pub record Continues (old new : Session) : Type 0 where
 abbrev pub session_of : {S : Type 0} → (S → Device) → S × Core → Session
 session_of device driver = state (device driver.0) driver.1
 
-module _ {S : Type 0} (device : S → Device) (was is : S × Core) (answer : Reply) (promised : Promised answer (session_of device was) (session_of device is)) where
+module _ {S : Type 0} (device : S → Device) (was is : S × Core) (answer : Reply) (ready : IsReady (device was.0)) (promised : Promised (session_of device was) (session_of device is)) where
+  -- At most one group has a quorum among all disks, so the session's, which they find, is the only one.
+  spans : IsHeld (device was.0) was.1 → (EntersVolumes was.1.history.facts is.1.history.facts → IsOneByAllOn (device was.0))
+      → Keeps was.1.history.run (moment_of (session_of device was)) (moment_of (session_of device is))
+  spans held alone =
+      let run = was.1.history.run in
+      let first : Moment = moment_of (session_of device was) in
+      promised.keeps held run first
+      (λ enters. one_by_all_is_only_since run first (device was.0) was.1.history.facts was.1.descriptor (keeps_still run first) (λ image may. (shows_committed (session_of device was) ready held image may).found) (alone enters))
+      (keeps_still run first)
+
   -- the session goes on
   pub goes_on : Continues (session_of device was) (session_of device is) → Between device (stage.On was) (stage.On is) (GoesOn was.1.history.run answer)
   goes_on continues = λ last. record {
-    keeps = λ timely held alone. promised.keeps held alone was.1.history.run (moment_of (session_of device was)) (keeps_still was.1.history.run (moment_of (session_of device was)));
+    keeps = λ timely held alone. spans held alone;
     timely = λ timely. record {
       ahead = record {
         run_is = timely.ahead.run_is;
@@ -82,7 +90,7 @@ module _ {S : Type 0} (device : S → Device) (was is : S × Core) (answer : Rep
       → Between device (stage.On was) it (GoesOn was.1.history.run answer)
   goes_off it off same up landed = λ last. subst (λ (s : State). GoesOn was.1.history.run answer (state_in device (stage.On was) last) s) (sym (over last)) (record {
     keeps = λ timely held alone. up.keeps was.1.history.run (moment_of (session_of device was)) is.1.history.facts
-        (promised.keeps held alone was.1.history.run (moment_of (session_of device was)) (keeps_still was.1.history.run (moment_of (session_of device was))));
+        (spans held alone);
     timely = λ timely. record {
       ahead = record {
         run_is = timely.ahead.run_is;

@@ -1,31 +1,21 @@
 -- How `mklv` and `rmlv` end.
-use Rattle.std.proofs.Common.{◌≡◌, inl, inr, [], ℕ, true, false, Err, refl, sym, subst, ◌+◌, ◌∷◌, ◌++◌, List, Bool, cond, zero-add, ap, ◌∙◌, arith}
-use Rattle.std.specs.Prelude.{count_by}
-use Rattle.std.proofs.lemmas.List.Sums.{sum_by-append}
-use Rattle.lvm_num.specs.Geometry.{volume_blocks}
-use Rattle.lvm_vol.specs.declared.entry.Vol.TheVariants.{Lv}
-use Rattle.lvm_vol.specs.Facts.{Fact, Making, Made, Removing, Removed}
-use Rattle.lvm_kept.specs.Moments.{Moment}
-use Rattle.lvm_change.specs.Moments.{Keeps}
-use Rattle.lvm_core.specs.Committing.{moment_of, SpanGoesOn}
+use Rattle.std.proofs.Common.{◌≡◌, inl, inr, [], ℕ, true, false, Err, refl, sym, subst}
 use Rattle.lvm_disk.specs.Counts.{Rose}
 use Rattle.lvm_disk.specs.Device.{Device, IsReady}
 use Rattle.lvm_move.specs.Transfer.{Relights}
 use Rattle.lvm_quorum.specs.Written.{IsGivenUp}
 use Rattle.lvm_commit.specs.Settling.{HasLostQuorum}
 use Rattle.lvm_core.specs.declared.request.Power.TheVariants as power
-use Rattle.lvm_core.specs.State.{Core, State as Session}
+use Rattle.lvm_core.specs.State.{State as Session}
 use Rattle.lvm_group.specs.declared.fault.GroupFault.{GroupFault}
 use Rattle.lvm_group.specs.declared.fault.GroupFault.TheVariants as fault
 use Rattle.lvm_group.specs.declared.new_volume.NewVolume.{NewVolume}
-use Rattle.lvm_group.specs.Endings.{KeepsSpans}
-use Rattle.lvm_group.specs.Volumes.{IsVolumeMade, IsVolumeRemoved, MklvGives, RmlvGives}
-use Rattle.lvm_line.specs.State.{is_of_volume, EntersVolumes}
+use Rattle.lvm_group.specs.Volumes.{MklvGives, RmlvGives}
 use Rattle.lvm_line.specs.Volumes.{ends_session, refusal_for}
 use Rattle.lvm_line.specs.declared.reply.Refusal.TheVariants as refusal
 use Rattle.lvm_line.specs.declared.reply.Reply.TheVariants as reply
 use Rattle.lvm_line.proofs.Coming.{LitUp}
-use Rattle.lvm_line.proofs.Commanding.{KeepsAlone, lit_rest, lit_dark, lit_stuck}
+use Rattle.lvm_line.proofs.Commanding.{lit_rest, lit_dark, lit_stuck}
 
 -- ---- what is known by the fault
 
@@ -135,38 +125,3 @@ module _ (patience : ℕ) (old new : Session) where
   lit_after (fault.NoRoom free) shelf facts ends lit = absurd (cc (ends))
   lit_after fault.HistoryFull shelf facts ends lit = absurd (cc (ends))
   lit_after fault.Memory shelf facts ends lit = absurd (cc (ends))
-
--- ---- what follows for spans
-
-module _ (patience : ℕ) (old new : Session) (spans : KeepsSpans old new) where
-  stays : new ≡ old → (run : ℕ) (first : Moment) → SpanGoesOn run first old new
-  stays same run first keeps = subst (λ (s : Session). Keeps run first (moment_of s)) (sym same) keeps
-
-  -- where it was refused before its first write nothing is asked of other groups
-  pub failed_keeps : (why : GroupFault) → Facts why patience old new → KeepsAlone (reply.Refused (refusal_for why)) old new
-  failed_keeps fault.Dark facts = λ held alone. spans held (alone (inr tt))
-  failed_keeps (fault.WentOff have total) facts = λ held alone. spans held (alone (inr tt))
-  failed_keeps fault.Stuck facts = λ held alone. spans held (alone (inr tt))
-  failed_keeps (fault.DiskFailed disk) facts = λ held alone. spans held (alone (inr tt))
-  failed_keeps fault.Busy facts = λ held alone run first. stays facts run first
-  failed_keeps fault.NoVolume facts = λ held alone run first. stays facts run first
-  failed_keeps fault.VolumeExists facts = λ held alone run first. stays facts run first
-  failed_keeps (fault.CopyLimit now) facts = λ held alone run first. stays facts run first
-  failed_keeps (fault.LastFresh lp) facts = λ held alone run first. stays facts run first
-  failed_keeps (fault.TooMany limit) facts = λ held alone run first. stays facts run first
-  failed_keeps (fault.NoRoom free) facts = λ held alone run first. stays facts run first
-  failed_keeps fault.HistoryFull facts = λ held alone run first. stays facts run first
-  failed_keeps fault.Memory facts = λ held alone run first. stays facts run first
-
--- a volume's entries
-more : (facts : List Fact) (f : Fact) → is_of_volume f ≡ true → count_by is_of_volume (facts ++ f ∷ []) ≡ count_by is_of_volume facts + 1
-more facts f is = sum_by-append (λ x. cond (is_of_volume x) 1 0) facts (f ∷ []) ∙ ap (λ (n : ℕ). count_by is_of_volume facts + n) (zero-add (cond (is_of_volume f) 1 0) ∙ ap (λ (b : Bool). cond b 1 0) is)
-
-enters_two : (facts : List Fact) (f g : Fact) → is_of_volume f ≡ true → is_of_volume g ≡ true → EntersVolumes facts ((facts ++ f ∷ []) ++ g ∷ [])
-enters_two facts f g one two = let a = more facts f one in let b = more (facts ++ f ∷ []) g two in omega (arith, a, b)
-
-pub made_keeps : (v : NewVolume) (lv : ℕ) (old new : Session) → KeepsSpans old new → IsVolumeMade v lv old new → KeepsAlone reply.Ok old new
-made_keeps v lv old new spans made = λ held alone. spans held (alone (inl (subst (λ (c : Core). EntersVolumes old.core.history.facts c.history.facts) (sym made.is) (enters_two old.core.history.facts (Making lv (volume_blocks old.core.descriptor.mib v.lps) v.mode) (Made lv) refl refl))))
-
-pub removed_keeps : (lv : ℕ) (old new : Session) → KeepsSpans old new → IsVolumeRemoved lv old new → KeepsAlone reply.Ok old new
-removed_keeps lv old new spans removed = λ held alone. spans held (alone (inl (subst (λ (c : Core). EntersVolumes old.core.history.facts c.history.facts) (sym removed.is) (enters_two old.core.history.facts (Removing (Lv lv)) (Removed (Lv lv)) refl refl))))

@@ -82,11 +82,11 @@ module _ {S : Type 0} (device : S → Device) (was is : S × Core) (settled : Is
             }
         go false goes = answered_done it (so.on goes) last
 
-  module _ (answer : Reply) (promised : Promised answer (session_of device was) (session_of device is)) (landed : HaveAllLanded is.1.history.facts) where
+  module _ (answer : Reply) (promised : Promised (session_of device was) (session_of device is)) (landed : HaveAllLanded is.1.history.facts) where
     pub answered_goes : (it : Stage S) → it ≡ stage.On is → Continues (session_of device was) (session_of device is) → Between device (stage.On was) it (GoesOn was.1.history.run answer)
-    answered_goes it same continues = λ last. subst (λ (s : Stage S). GoesOn was.1.history.run answer (state_in device (stage.On was) last) (state_in device s last)) (sym same) (goes_on device was is answer promised continues last)
+    answered_goes it same continues = λ last. subst (λ (s : Stage S). GoesOn was.1.history.run answer (state_in device (stage.On was) last) (state_in device s last)) (sym same) (goes_on device was is answer settled.ready promised continues last)
 
-  module _ (why : GroupFault) (promised : Promised (reply.Refused (refusal_for why)) (session_of device was) (session_of device is)) (landed : HaveAllLanded is.1.history.facts) (it : Stage S) (so : LeftSo device is why it)
+  module _ (why : GroupFault) (promised : Promised (session_of device was) (session_of device is)) (landed : HaveAllLanded is.1.history.facts) (it : Stage S) (so : LeftSo device is why it)
       (facts : Facts why patience_of_line (session_of device was) (session_of device is)) where
     pub failed_goes : IfOn {A = ℕ} (Err why) (IsSettledCore is.1) → IfOn {A = ℕ} (Err why) (StillHeld (session_of device was) (session_of device is)) → Between device (stage.On was) it (GoesOn was.1.history.run (reply.Refused (refusal_for why)))
     failed_goes still held = go (ends_session why) refl
@@ -94,7 +94,7 @@ module _ {S : Type 0} (device : S → Device) (was is : S × Core) (settled : Is
         go : (b : Bool) → ends_session why ≡ b → Between device (stage.On was) it (GoesOn was.1.history.run (reply.Refused (refusal_for why)))
         go true ends =
             let over = so.over ends 0 in
-            goes_off device was is (reply.Refused (refusal_for why)) promised it over.session so.history (lit_after patience_of_line (session_of device was) (session_of device is) why (device (shelf_in it)) facts ends over.lit) (λ goes. landed)
+            goes_off device was is (reply.Refused (refusal_for why)) settled.ready promised it over.session so.history (lit_after patience_of_line (session_of device was) (session_of device is) why (device (shelf_in it)) facts ends over.lit) (λ goes. landed)
         go false goes = answered_goes (reply.Refused (refusal_for why)) promised landed it (so.on goes) (record {
           settled = if_on why (IsSettledCore is.1) still goes;
           ready = ready_still patience_of_line (session_of device was) (session_of device is) why settled.ready facts goes;

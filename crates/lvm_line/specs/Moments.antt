@@ -1,9 +1,10 @@
 -- What holds of the moments of each line.
-use Rattle.std.specs.Prelude.{◌≡◌, ◌⊎◌, ◌≤◌, ℕ, true, IfSome}
+use Rattle.std.specs.Prelude.{◌≡◌, ◌≤◌, ℕ, true}
 use Rattle.lvm_kept.specs.Moments.{StaysCalm}
 use Rattle.lvm_change.specs.Moments.{Keeps}
-use Rattle.lvm_commit.specs.LawsOfVolumes.{IsOnlyGroupOn}
-use Rattle.lvm_line.specs.State.{State, IsSettled, IsTimely, AreHeld, HaveNotesHome, ComesOnQuiet, HaveNoneLeft, EntersVolumes}
+use Rattle.lvm_commit.specs.LawsOfVolumes.{IsOneByAllOn}
+use Rattle.lvm_group.specs.Endings.{EntersVolumes}
+use Rattle.lvm_line.specs.State.{State, IsSettled, IsTimely, AreHeld, HaveNotesHome, ComesOnQuiet, HaveNoneLeft}
 use Rattle.lvm_line.specs.Replies.{IsStuck}
 use Rattle.lvm_line.specs.declared.reply.Refusal.TheVariants as refusal
 use Rattle.lvm_line.specs.declared.reply.Reply.{Reply}
@@ -17,16 +18,16 @@ IsBrokenOff (reply.Refused refusal.Stuck) = Unit {0}
 IsBrokenOff (reply.Refused (refusal.DiskFailed disk)) = Unit {0}
 IsBrokenOff other = ⊥
 
--- No disks find a group but that of the session that is on, where a volume of it is made or removed meanwhile, or that is broken off.
-abbrev pub IsAlone : Reply → State → State → Type 0
-IsAlone answer old new = EntersVolumes old.moment.facts new.moment.facts ⊎ IsBrokenOff answer → IfSome old.session (λ core. IsOnlyGroupOn old.moment.device core.descriptor.id)
+-- At most one group has a quorum among all disks, where a volume's making or removal is entered meanwhile.
+abbrev pub IsAlone : State → State → Type 0
+IsAlone old new = EntersVolumes old.moment.facts new.moment.facts → IsOneByAllOn old.moment.device
 
--- From one state to the next, where this is answered. While the clock is ahead of the disks, these hold what the session says, and no other group is found
--- on them where a volume is made or removed, the history is legal at each moment between and each crash image is kept with it. While the clock is ahead it
--- stays so, the disks go on holding what a session says, and their notes go on naming what its cache does. No copy is left behind where none was. Unless
--- nothing was heard of a transfer, nothing is under way and no write is open where none was.
+-- From one state to the next, where this is answered. While the clock is ahead of the disks, these hold what the session says, and no other group has a
+-- quorum among them where a volume is made or removed, the history is legal at each moment between and each crash image is kept with it. While the clock is
+-- ahead it stays so, the disks go on holding what a session says, and their notes go on naming what its cache does. No copy is left behind where none was.
+-- Unless nothing was heard of a transfer, nothing is under way and no write is open where none was.
 pub record GoesOn (run : ℕ) (answer : Reply) (old new : State) : Type 0 where
-  pub keeps : IsTimely run old → AreHeld old → IsAlone answer old new → Keeps run old.moment new.moment
+  pub keeps : IsTimely run old → AreHeld old → IsAlone old new → Keeps run old.moment new.moment
   pub timely : IsTimely run old → IsTimely run new
   pub held : IsTimely run old → AreHeld old → AreHeld new
   pub notes : IsTimely run old → ComesOnQuiet old new → HaveNotesHome old → HaveNotesHome new

@@ -1,8 +1,7 @@
 -- What stands between two lines of a script.
-use Rattle.std.specs.Prelude.{◌+◌, ◌≤◌, ◌<◌, ℕ, Bool, true, false, [], List, Option, IfSome, IfNone, count_by}
+use Rattle.std.specs.Prelude.{◌+◌, ◌≤◌, ℕ, [], List, Option, IfSome, IfNone}
 use Rattle.lvm_disk.specs.Device.{IsReady}
-use Rattle.lvm_vol.specs.declared.entry.Vol.TheVariants.{Lv}
-use Rattle.lvm_vol.specs.Facts.{Fact, Making, Made, Split, Removing, Removed}
+use Rattle.lvm_vol.specs.Facts.{Fact}
 use Rattle.lvm_vol.specs.Log.{Log}
 use Rattle.lvm_kept.specs.Moments.{Moment}
 use Rattle.lvm_change.specs.VaryingOn.{HasNoActive}
@@ -54,16 +53,3 @@ ComesOnQuiet old new = IfNone old.session (IfSome new.session (λ core. HasNoAct
 -- no copy of a session's volumes is left behind on a member that is missing
 abbrev pub HaveNoneLeft : State → Type 0
 HaveNoneLeft s = IfSome s.session (λ core. NoneIsLeft core.descriptor core.status)
-
--- the entry says that a volume is made or removed
-abbrev pub is_of_volume : Fact → Bool
-is_of_volume (Making lv blocks mode) = true
-is_of_volume (Made lv) = true
-is_of_volume (Split from lv) = true
-is_of_volume (Removing (Lv lv)) = true
-is_of_volume (Removed (Lv lv)) = true
-is_of_volume other = false
-
--- such entries were entered
-abbrev pub EntersVolumes : List Fact → List Fact → Type 0
-EntersVolumes old new = count_by is_of_volume old < count_by is_of_volume new

@@ -3,4 +3,5 @@ pub mod Program
 pub mod Script
 pub mod Statuses
 pub mod Run
+pub mod Runs
 pub mod Sim

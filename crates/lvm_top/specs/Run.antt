@@ -58,7 +58,7 @@ pub record IsRun (r : Run) : Type 0 where
   pub ready : (r.status ≡ 6 → ⊥) → IsReady r.exit
   pub power : r.exit.power ≡ true
 
--- In each line of the run that made or removed a volume, or was broken off at it, no disks found a group but the one that was on.
+-- In each line of the run that entered a volume's making or removal at most one group had a quorum among all disks.
 abbrev pub RanAlone : {r : Run} → IsRun r → Type 0
 RanAlone ran = StaysAlone ran.lines.script × EndsAlone ran.lines.ends
 
@@ -67,7 +67,7 @@ abbrev pub WhereAlone : Run → Type 0 → Type 0
 WhereAlone r Holds = (ran : IsRun r) → RanAlone ran → Holds
 
 -- What every run promises. Its moment was answered by the clock in this call. Its lines are as they should be. Where its moment is later than what stands on
--- the disks, and no line made or removed a volume of one group among several, the history is legal with what was told before, and each crash image that the
+-- the disks, and no line made or removed a volume of one group among several with a quorum, the history is legal with what was told before, and each crash image that the
 -- disks may leave is kept with it; over disks that hold nothing so it is without anything told before. The clock stays ahead of the disks.
 pub record Promises (asked : ℕ) (r : Run) : Type 0 where
   pub clock : IfSome r.history (λ log. Rose asked log.run × (log.run ≤ r.last))

@@ -26,10 +26,10 @@ pub data Script (log : Log) (room : Room) (first : State) : List (List ℕ) → 
   NextLine : {lines : List (List ℕ)} {replies : List Reply} {mid new : State} (line : List ℕ) (answer said : Reply) → (IsStuck answer → ⊥) → Says answer said
       → Script log room first lines replies mid → IsLine log room line answer mid new → Script log room first (lines ++ line ∷ []) (replies ++ said ∷ []) new
 
--- In each of the lines that makes or removes a volume, or is broken off at it, no disks find a group but the one that is on.
+-- In each of the lines that enters a volume's making or removal at most one group has a quorum among all disks.
 abbrev pub StaysAlone : {log : Log} {room : Room} {first : State} {lines : List (List ℕ)} {replies : List Reply} {last : State} → Script log room first lines replies last → Type 0
 StaysAlone NoLine = Unit {0}
-StaysAlone (NextLine {mid = mid} {new = new} line answer said goes says before does) = StaysAlone before × IsAlone answer mid new
+StaysAlone (NextLine {mid = mid} {new = new} line answer said goes says before does) = StaysAlone before × IsAlone mid new
 
 -- the texts of the replies
 abbrev pub texts_of : List Reply → List ℕ
@@ -51,7 +51,7 @@ pub data Ends (log : Log) (room : Room) (mid last : State) : List (List ℕ) →
 
 abbrev pub EndsAlone : {log : Log} {room : Room} {mid last : State} {done : List (List ℕ)} {said : List Reply} {front : List ℕ} → Ends log room mid last done said front → Type 0
 EndsAlone (AtLine same) = Unit {0}
-EndsAlone {mid = mid} {last = last} (InLine line answer said front rest says split does) = IsAlone answer mid last
+EndsAlone {mid = mid} {last = last} (InLine line answer said front rest says split does) = IsAlone mid last
 
 -- nothing was heard of a transfer in the line after which no more were done
 abbrev pub EndsStuck : {log : Log} {room : Room} {mid last : State} {done : List (List ℕ)} {said : List Reply} {front : List ℕ} → Ends log room mid last done said front → Type 0

@@ -2,11 +2,13 @@
 #![tactic(auto)]
 
 mod image;
+mod laws;
 mod program;
 mod run;
 mod script;
 
 pub use image::run_image;
+pub use laws::runs_follow;
 pub use lvm_core::Room;
 pub use lvm_line::{Refusal, Reply};
 pub use lvm_words::{Job, WordsFault, read_words};

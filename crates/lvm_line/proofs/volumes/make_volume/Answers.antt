@@ -11,7 +11,7 @@ use Rattle.lvm_line.specs.declared.reply.Reply.TheVariants as reply
 use Rattle.lvm_line.specs.declared.stage.Stage.{Stage}
 use Rattle.lvm_line.specs.declared.stage.Stage.TheVariants as stage
 use Rattle.lvm_line.proofs.Commanding.{Promised, session_of}
-use Rattle.lvm_line.proofs.Ending.{mklv_facts, dark_still, lit_still, failed_keeps, made_keeps}
+use Rattle.lvm_line.proofs.Ending.{mklv_facts, dark_still, lit_still}
 use Rattle.lvm_line.proofs.Landing.{mklv_landed}
 use Rattle.lvm_line.proofs.OfVolumes.{LeftSo, answered_done, failed_done, answered_goes, failed_goes, failed_orders}
 use Rattle.lvm_line.proofs.volumes.make_volume.Goals as goal
@@ -35,8 +35,8 @@ returns-in-Ok-clause-does g c = λ group on last.
 
 pub returns-in-Ok-clause-goes : goal.returns-in-Ok-clause-goes
 returns-in-Ok-clause-goes g c =
-    let promised : Promised reply.Ok (session_of g.S.Shelf.device c.args.driver) (session_of g.S.Shelf.device c.mklv.new.driver) = record {
-      keeps = made_keeps (wanted c.args.name c.args.copies c.args.mode c.args.policy c.args.lps) c.in-Ok.field-0 (session_of g.S.Shelf.device c.args.driver) (session_of g.S.Shelf.device c.mklv.new.driver) c.mklv.ensures.keeps (subst (λ (n : ℕ). MklvGives (wanted c.args.name c.args.copies c.args.mode c.args.policy c.args.lps) n (session_of g.S.Shelf.device c.args.driver) (session_of g.S.Shelf.device c.mklv.new.driver) (Ok c.in-Ok.field-0)) c.whole-patience.ensures c.in-Ok.ensures.gives);
+    let promised : Promised (session_of g.S.Shelf.device c.args.driver) (session_of g.S.Shelf.device c.mklv.new.driver) = record {
+      keeps = c.mklv.ensures.keeps;
       orders = c.mklv.ensures.writes.orders;
       epoch = c.mklv.ensures.stamps.epoch;
       history = c.mklv.ensures.history;
@@ -79,8 +79,8 @@ returns-in-Err-clause-goes g c =
       on = λ goes. c.refused.ensures.stage ∙ c.after.ensures.on goes;
       history = ap (λ (s : Stage g.row.S.Denot). history_in s) c.refused.ensures.stage ∙ c.after.ensures.history;
     } in
-    let promised : Promised (reply.Refused (refusal_for c.in-Err.why)) (session_of g.S.Shelf.device c.args.driver) (session_of g.S.Shelf.device c.mklv.new.driver) = record {
-      keeps = failed_keeps patience_of_line (session_of g.S.Shelf.device c.args.driver) (session_of g.S.Shelf.device c.mklv.new.driver) c.mklv.ensures.keeps c.in-Err.why (mklv_facts (wanted c.args.name c.args.copies c.args.mode c.args.policy c.args.lps) patience_of_line (session_of g.S.Shelf.device c.args.driver) (session_of g.S.Shelf.device c.mklv.new.driver) c.requires.settled.session.power c.in-Err.why (subst (λ (n : ℕ). MklvGives (wanted c.args.name c.args.copies c.args.mode c.args.policy c.args.lps) n (session_of g.S.Shelf.device c.args.driver) (session_of g.S.Shelf.device c.mklv.new.driver) (Err c.in-Err.why)) c.whole-patience.ensures c.in-Err.ensures.gives));
+    let promised : Promised (session_of g.S.Shelf.device c.args.driver) (session_of g.S.Shelf.device c.mklv.new.driver) = record {
+      keeps = c.mklv.ensures.keeps;
       orders = c.mklv.ensures.writes.orders;
       epoch = c.mklv.ensures.stamps.epoch;
       history = c.mklv.ensures.history;
@@ -103,8 +103,8 @@ returns-in-Err-clause-orders g c =
       on = λ goes. c.refused.ensures.stage ∙ c.after.ensures.on goes;
       history = ap (λ (s : Stage g.row.S.Denot). history_in s) c.refused.ensures.stage ∙ c.after.ensures.history;
     } in
-    let promised : Promised (reply.Refused (refusal_for c.in-Err.why)) (session_of g.S.Shelf.device c.args.driver) (session_of g.S.Shelf.device c.mklv.new.driver) = record {
-      keeps = failed_keeps patience_of_line (session_of g.S.Shelf.device c.args.driver) (session_of g.S.Shelf.device c.mklv.new.driver) c.mklv.ensures.keeps c.in-Err.why (mklv_facts (wanted c.args.name c.args.copies c.args.mode c.args.policy c.args.lps) patience_of_line (session_of g.S.Shelf.device c.args.driver) (session_of g.S.Shelf.device c.mklv.new.driver) c.requires.settled.session.power c.in-Err.why (subst (λ (n : ℕ). MklvGives (wanted c.args.name c.args.copies c.args.mode c.args.policy c.args.lps) n (session_of g.S.Shelf.device c.args.driver) (session_of g.S.Shelf.device c.mklv.new.driver) (Err c.in-Err.why)) c.whole-patience.ensures c.in-Err.ensures.gives));
+    let promised : Promised (session_of g.S.Shelf.device c.args.driver) (session_of g.S.Shelf.device c.mklv.new.driver) = record {
+      keeps = c.mklv.ensures.keeps;
       orders = c.mklv.ensures.writes.orders;
       epoch = c.mklv.ensures.stamps.epoch;
       history = c.mklv.ensures.history;

@@ -12,7 +12,7 @@ use Rattle.lvm_line.specs.declared.reply.Reply.TheVariants as reply
 use Rattle.lvm_line.specs.declared.stage.Stage.{Stage}
 use Rattle.lvm_line.specs.declared.stage.Stage.TheVariants as stage
 use Rattle.lvm_line.proofs.Commanding.{Promised, session_of}
-use Rattle.lvm_line.proofs.Ending.{rmlv_facts, dark_still, lit_still, failed_keeps, removed_keeps}
+use Rattle.lvm_line.proofs.Ending.{rmlv_facts, dark_still, lit_still}
 use Rattle.lvm_line.proofs.Landing.{rmlv_landed}
 use Rattle.lvm_line.proofs.OfVolumes.{LeftSo, answered_done, failed_done, answered_goes, failed_goes, failed_orders}
 use Rattle.lvm_line.proofs.volumes.remove_volume.Goals as goal
@@ -36,8 +36,8 @@ returns-in-Ok-clause-does g c = λ name its last.
 
 pub returns-in-Ok-clause-goes : goal.returns-in-Ok-clause-goes
 returns-in-Ok-clause-goes g c =
-    let promised : Promised reply.Ok (session_of g.S.Shelf.device c.args.driver) (session_of g.S.Shelf.device c.rmlv.new.driver) = record {
-      keeps = removed_keeps c.args.lv (session_of g.S.Shelf.device c.args.driver) (session_of g.S.Shelf.device c.rmlv.new.driver) c.rmlv.ensures.keeps (subst (λ (n : ℕ). RmlvGives c.args.lv n (session_of g.S.Shelf.device c.args.driver) (session_of g.S.Shelf.device c.rmlv.new.driver) (Ok tt)) c.whole-patience.ensures c.in-Ok.ensures.gives);
+    let promised : Promised (session_of g.S.Shelf.device c.args.driver) (session_of g.S.Shelf.device c.rmlv.new.driver) = record {
+      keeps = c.rmlv.ensures.keeps;
       orders = c.rmlv.ensures.writes.orders;
       epoch = c.rmlv.ensures.stamps.epoch;
       history = c.rmlv.ensures.history;
@@ -80,8 +80,8 @@ returns-in-Err-clause-goes g c =
       on = λ goes. c.refused.ensures.stage ∙ c.after.ensures.on goes;
       history = ap (λ (s : Stage g.row.S.Denot). history_in s) c.refused.ensures.stage ∙ c.after.ensures.history;
     } in
-    let promised : Promised (reply.Refused (refusal_for c.in-Err.fault)) (session_of g.S.Shelf.device c.args.driver) (session_of g.S.Shelf.device c.rmlv.new.driver) = record {
-      keeps = failed_keeps patience_of_line (session_of g.S.Shelf.device c.args.driver) (session_of g.S.Shelf.device c.rmlv.new.driver) c.rmlv.ensures.keeps c.in-Err.fault (rmlv_facts c.args.lv patience_of_line (session_of g.S.Shelf.device c.args.driver) (session_of g.S.Shelf.device c.rmlv.new.driver) c.requires.settled.session.power c.in-Err.fault (subst (λ (n : ℕ). RmlvGives c.args.lv n (session_of g.S.Shelf.device c.args.driver) (session_of g.S.Shelf.device c.rmlv.new.driver) (Err c.in-Err.fault)) c.whole-patience.ensures c.in-Err.ensures.gives));
+    let promised : Promised (session_of g.S.Shelf.device c.args.driver) (session_of g.S.Shelf.device c.rmlv.new.driver) = record {
+      keeps = c.rmlv.ensures.keeps;
       orders = c.rmlv.ensures.writes.orders;
       epoch = c.rmlv.ensures.stamps.epoch;
       history = c.rmlv.ensures.history;
@@ -104,8 +104,8 @@ returns-in-Err-clause-orders g c =
       on = λ goes. c.refused.ensures.stage ∙ c.after.ensures.on goes;
       history = ap (λ (s : Stage g.row.S.Denot). history_in s) c.refused.ensures.stage ∙ c.after.ensures.history;
     } in
-    let promised : Promised (reply.Refused (refusal_for c.in-Err.fault)) (session_of g.S.Shelf.device c.args.driver) (session_of g.S.Shelf.device c.rmlv.new.driver) = record {
-      keeps = failed_keeps patience_of_line (session_of g.S.Shelf.device c.args.driver) (session_of g.S.Shelf.device c.rmlv.new.driver) c.rmlv.ensures.keeps c.in-Err.fault (rmlv_facts c.args.lv patience_of_line (session_of g.S.Shelf.device c.args.driver) (session_of g.S.Shelf.device c.rmlv.new.driver) c.requires.settled.session.power c.in-Err.fault (subst (λ (n : ℕ). RmlvGives c.args.lv n (session_of g.S.Shelf.device c.args.driver) (session_of g.S.Shelf.device c.rmlv.new.driver) (Err c.in-Err.fault)) c.whole-patience.ensures c.in-Err.ensures.gives));
+    let promised : Promised (session_of g.S.Shelf.device c.args.driver) (session_of g.S.Shelf.device c.rmlv.new.driver) = record {
+      keeps = c.rmlv.ensures.keeps;
       orders = c.rmlv.ensures.writes.orders;
       epoch = c.rmlv.ensures.stamps.epoch;
       history = c.rmlv.ensures.history;
