@@ -74,9 +74,10 @@ pub record-kept : (kind : Kind) (f : ℕ → List ℕ) (first some more count : 
     → bytes ≡ joined f first some → later ≡ joined f (first + some) more → all ≡ bytes ++ later → length bytes ≡ 512 * some → length later ≡ 512 * more
     → 1 ≤ some → some ≤ count → some + more ≡ max some (min (record_sectors (length_at bytes)) count)
     → record_in kind all ≡ record_in kind (joined f first count)
-record-kept kind f first some more count bytes later all is next whole size size_later one most kept = elim (cases_lt count (record_sectors (length_at bytes))) [ inl high ↦
+record-kept kind f first some more count bytes later all is next whole size size_later one most kept = elim (cases_lt count (record_sectors (length_at bytes))) [
+  | inl high ↦
       record-whole kind f first some more count bytes later all is next whole (omega (arith, kept, high, most))
-    | inr low ↦
+  | inr low ↦
       let long : length all ≡ 512 * some + 512 * more = ap (length {A = ℕ}) whole ∙ length-append bytes later ∙ omega (arith, size, size_later) in
       record-read kind f first some more count bytes later all is next whole (omega (arith, kept, low, most)) (omega (arith, long, kept, low)) (omega (arith, size, one))
-    ]
+]

@@ -57,10 +57,10 @@ joined-front xs zero = refl
 joined-front [] (suc n) = sym (joined-nothing (λ i. slice_index_or {A = Sector} [] i []) 0 (suc n) (λ k. refl))
 joined-front (x ∷ xs) (suc n) =
     ap (λ (l : List ℕ). x ++ l) (joined-front xs n ∙ joined-shifted (λ i. slice_index_or xs i []) (λ i. slice_index_or (x ∷ xs) i []) 0 1 n (λ k lt.
-        let here : 0 + k ≡ k = omega arith in
-        let next : suc k ≡ 1 + k = omega arith in
-        ap (λ j. slice_index_or xs j []) here ∙ ap (λ j. slice_index_or (x ∷ xs) j []) next
-      ))
+    let here : 0 + k ≡ k = omega arith in
+    let next : suc k ≡ 1 + k = omega arith in
+    ap (λ j. slice_index_or xs j []) here ∙ ap (λ j. slice_index_or (x ∷ xs) j []) next
+    ))
 
 -- bytes so far, and one piece more
 pub joined-so-far : (f : ℕ → List ℕ) (first done piece : ℕ) (bytes more : List ℕ) → bytes ≡ joined f first done → more ≡ bytes ++ joined f (first + done) piece → more ≡ joined f first (done + piece)
@@ -69,15 +69,16 @@ joined-so-far f first done piece bytes more is next = next ∙ ap (λ (l : List 
 -- the first of them are kept, so many
 pub kept-so-far : (f : ℕ → List ℕ) (first done piece keep part : ℕ) (bytes more : List ℕ) → part ≡ min piece (keep - done)
     → bytes ≡ joined f first (min done keep) → more ≡ bytes ++ joined f (first + done) part → more ≡ joined f first (min (done + piece) keep)
-kept-so-far f first done piece keep part bytes more cut is next = elim (cases_lt keep done) [ inl high ↦
+kept-so-far f first done piece keep part bytes more cut is next = elim (cases_lt keep done) [
+  | inl high ↦
       let was : min done keep ≡ min (done + piece) keep = omega (arith, high) in
       let none : part ≡ 0 = omega (arith, high, cut) in
       next ∙ ap (λ k. bytes ++ joined f (first + done) k) none ∙ ap (λ (l : List ℕ). bytes ++ l) (joined-none f (first + done)) ∙ append-nil bytes ∙ is ∙ ap (joined f first) was
-    | inr low ↦
+  | inr low ↦
       let was : min done keep ≡ done = omega (arith, low) in
       let now : done + part ≡ min (done + piece) keep = omega (arith, low, cut) in
       joined-so-far f first done part bytes more (is ∙ ap (joined f first) was) next ∙ ap (joined f first) now
-    ]
+]
 
 pub joined-one : (f : ℕ → List ℕ) (i : ℕ) → joined f i 1 ≡ f i
 unfolding joined

@@ -28,6 +28,6 @@ returns-in-Ok-clause-record g c =
     let whole = c.in-Ok.ensures.items ∙ ap (λ (l : List ℕ). bytes ++ l) c.deref-2.ensures.value in
     told-both (λ (m : Media). bytes ≡ joined (m disk) first 256) (λ (m : Media). later ≡ joined (m disk) (first + c.from.result) more) (λ (m : Media). record_in kind.Descriptor all ≡ record_in kind.Descriptor (joined (m disk) first 1152)) (g.S.Shelf.device c.args.shelf.now).media
     (λ m is next. record-kept kind.Descriptor (m disk) first 256 more 1152 bytes later all is (next ∙ ap (λ (k : ℕ). joined (m disk) (first + k) more) c.from.ensures) whole c.in_ok-bytes.ensures.size c.in_ok-later.ensures.size (omega arith) (omega arith)
-      (omega (arith, c.clamp-more.ensures, announced)))
+    (omega (arith, c.clamp-more.ensures, announced)))
     c.in_ok-bytes.ensures.bytes
     (told_before (λ (m : Media). later ≡ joined (m disk) (first + c.from.result) more) (g.S.Shelf.device c.args.shelf.now) (g.S.Shelf.device c.read_sectors.new.shelf) c.in_ok-bytes.ensures.only.unwritten.media c.in_ok-later.ensures.bytes)
