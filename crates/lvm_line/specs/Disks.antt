@@ -4,7 +4,7 @@ use Rattle.lvm_num.specs.Buffer.{Sector}
 use Rattle.lvm_disk.specs.Counts.{Rose, RoseBy}
 use Rattle.lvm_disk.specs.Device.{Device}
 use Rattle.lvm_vol.specs.Log.{Log}
-use Rattle.lvm_show.specs.Blocks.{block_text}
+use Rattle.lvm_replies.specs.Blocks.{block_text}
 use Rattle.lvm_raw.specs.declared.fault.RawFault.{RawFault}
 use Rattle.lvm_raw.specs.declared.fault.RawFault.TheVariants as fault
 use Rattle.lvm_raw.specs.Raw.{WriteGives, ReadGives}

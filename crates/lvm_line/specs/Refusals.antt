@@ -1,6 +1,6 @@
 -- The refusals of a script's lines, by their numbers and what they carry.
-use Rattle.lvm_show.specs.declared.refusal.Carried.TheVariants as carried
-use Rattle.lvm_show.specs.declared.refusal.Refusal.{Refusal as Shown}
+use Rattle.lvm_replies.specs.declared.refusal.Carried.TheVariants as carried
+use Rattle.lvm_replies.specs.declared.refusal.Refusal.{Refusal as Shown}
 use Rattle.lvm_line.specs.declared.reply.Refusal.{Refusal}
 use Rattle.lvm_line.specs.declared.reply.Refusal.TheVariants as refusal
 

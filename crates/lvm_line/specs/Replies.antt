@@ -1,6 +1,6 @@
 -- The texts of replies.
 use Rattle.std.specs.Prelude.{◌≡◌, ℕ, List, [], codes}
-use Rattle.lvm_show.specs.Refusals.{refusal_text}
+use Rattle.lvm_replies.specs.Refusals.{refusal_text}
 use Rattle.lvm_line.specs.Refusals.{shown}
 use Rattle.lvm_line.specs.State.{State}
 use Rattle.lvm_line.specs.declared.reply.Refusal.{Refusal}

@@ -12,7 +12,7 @@ use lvm_disk::Shelf;
 use lvm_move::Patience;
 use lvm_num::{Memory, Rows, Text};
 use lvm_raw::{RawFault, read_disk, write_disk};
-use lvm_show::show_block;
+use lvm_replies::show_block;
 use std::alloc::Global;
 
 // A fault of a range, as the refusal of its line.

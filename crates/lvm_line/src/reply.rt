@@ -1,11 +1,11 @@
 //! What a line is answered.
 ghost use Rattle.std.specs.Prelude.{◌≡◌, IsTrue, IfOk};
-ghost use Rattle.lvm_show.specs.Refusals.{is_refusal};
+ghost use Rattle.lvm_replies.specs.Refusals.{is_refusal};
 ghost use Rattle.lvm_line.specs.Refusals.{shown};
 ghost use Rattle.lvm_line.specs.Replies.{reply_text};
 
 use lvm_num::{Memory, Text};
-use lvm_show::{Carried, show_refusal};
+use lvm_replies::{Carried, show_refusal};
 use std::alloc::Global;
 
 /// Why a line was not carried out, or how it failed. Each has a number and a name of this project's own.
@@ -84,7 +84,7 @@ pub enum Reply {
 }
 
 // A refusal by its number and what it carries.
-fn shown(refusal: &Refusal) -> lvm_show::Refusal
+fn shown(refusal: &Refusal) -> lvm_replies::Refusal
     ensures same { result ≡ shown refusal.now }
     ensures refusal { IsTrue (is_refusal result) }
 {
@@ -130,7 +130,7 @@ fn shown(refusal: &Refusal) -> lvm_show::Refusal
         Refusal::Memory => (29, Carried::Nothing),
         Refusal::Busy => (30, Carried::Nothing),
     };
-    lvm_show::Refusal { number, carried }
+    lvm_replies::Refusal { number, carried }
 }
 
 /// What is written for a reply, and nothing for a silent one.

@@ -1,6 +1,4 @@
-pub mod Filled
 pub mod Names
 pub mod Digits
 pub mod Appending
 pub mod Found
-pub mod Rows

@@ -1,4 +1,2 @@
 pub mod Texts
 pub mod Listings
-pub mod Blocks
-pub mod Refusals

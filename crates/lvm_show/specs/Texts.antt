@@ -2,10 +2,6 @@
 use Rattle.std.specs.Prelude.{ℕ, ◌-◌, List, ◌++◌, length, replicate, codes}
 use Rattle.std.specs.Fmt.{decimal}
 
--- the name of a disk
-abbrev pub disk_name : ℕ → List ℕ
-disk_name disk = codes "hdisk" ++ decimal disk
-
 -- a line of a listing: what is counted, and how many there are
 unfoldable pub counted : List ℕ → ℕ → List ℕ
 counted label n = label ++ codes " " ++ decimal n ++ codes "\n"

@@ -1,9 +1,9 @@
 ghost use Rattle.std.specs.Prelude.{IsTrue};
-ghost use Rattle.lvm_show.specs.Refusals.{is_refusal};
+ghost use Rattle.lvm_replies.specs.Refusals.{is_refusal};
 
 use crate::fixtures::{check, check_at};
 use lvm_num::{Text, fill};
-use lvm_show::{Carried, Refusal, show_block, show_refusal};
+use lvm_replies::{Carried, Refusal, show_block, show_refusal};
 use std::process::Abort;
 
 // Whether a refusal has this text.

@@ -1,8 +1,8 @@
 use Rattle.std.proofs.Common.{arith, ◌≡◌, ◌<◌, length, ℕ, take, get_or, ◌∙◌}
 use Rattle.std.proofs.lemmas.Grind.{common_steps}
 use Rattle.std.specs.Int.{w64, from_be_bytes}
-use Rattle.lvm_show.proofs.Filled.{filled_repeats, repeats_filled, shown_whole, shown_short, word_fits, front_bytes}
-use Rattle.lvm_show.proofs.block.shown.Goals as goal
+use Rattle.lvm_replies.proofs.Filled.{filled_repeats, repeats_filled, shown_whole, shown_short, word_fits, front_bytes}
+use Rattle.lvm_replies.proofs.block.shown.Goals as goal
 
 pub returns-in-Some : goal.returns-in-Some
 returns-in-Some c = c.split_at.ensures.front ∙ shown_short c.args.block.now (filled_repeats c.in-Some.field-0 c.args.block.now c.in-Some.ensures.filled)

@@ -1,10 +1,10 @@
 -- The texts of refusals.
 use Rattle.std.specs.Prelude.{ℕ, ◌+◌, ◌-◌, ◌==◌, Bool, true, false, if◌then◌else◌, List, [], ◌∷◌, ◌++◌, slice_get, Option, Some, None, codes}
 use Rattle.std.specs.Fmt.{decimal}
-use Rattle.lvm_show.specs.declared.refusal.Carried.{Carried}
-use Rattle.lvm_show.specs.declared.refusal.Carried.TheVariants as carried
-use Rattle.lvm_show.specs.declared.refusal.Refusal.{Refusal}
-use Rattle.lvm_show.specs.Texts.{disk_name}
+use Rattle.lvm_replies.specs.declared.refusal.Carried.{Carried}
+use Rattle.lvm_replies.specs.declared.refusal.Carried.TheVariants as carried
+use Rattle.lvm_replies.specs.declared.refusal.Refusal.{Refusal}
+use Rattle.lvm_replies.specs.Texts.{disk_name}
 
 -- what a refusal carries
 pub data Kind : Type 0 where

@@ -2,7 +2,7 @@
 use Rattle.std.proofs.Common.{◌≡◌, ℕ, ◌-◌, ◌≤◌, [], Bool, true, false, if◌then◌else◌, Option, None, length, refl, sym, ap, arith}
 use Rattle.std.specs.Prelude.{slice_get, ◌==◌}
 use Rattle.std.proofs.lemmas.Option.{slice_get_past}
-use Rattle.lvm_show.specs.Refusals.{Row, rows, name_in, name_of}
+use Rattle.lvm_replies.specs.Refusals.{Row, rows, name_in, name_of}
 
 size : length rows ≡ 32
 size = refl

@@ -7,7 +7,7 @@ use Rattle.std.proofs.lemmas.Nat.{be_bytes_8}
 use Rattle.std.specs.Bool.{Decides}
 use Rattle.lvm_num.specs.Word.{fill_of}
 use Rattle.lvm_num.proofs.WordLemmas.{take-fill_of}
-use Rattle.lvm_show.specs.Blocks.{is_filled}
+use Rattle.lvm_replies.specs.Blocks.{is_filled}
 
 -- a block that a word fills repeats its first eight bytes
 pub filled_repeats : (word : ℕ) (block : List ℕ) → block ≡ fill_of word → block ≡ concat (replicate 64 (take 8 block))

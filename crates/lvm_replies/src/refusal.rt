@@ -1,6 +1,6 @@
 //! The lines of refusals.
 ghost use Rattle.std.specs.Prelude.{◌≡◌, IsTrue, IfOk};
-ghost use Rattle.lvm_show.specs.Refusals.{is_refusal, name_of, refusal_text};
+ghost use Rattle.lvm_replies.specs.Refusals.{is_refusal, name_of, refusal_text};
 
 use lvm_num::{Memory, Text};
 use std::alloc::Global;
@@ -84,7 +84,7 @@ fn name_of(number: u8) -> &'static str
 
 impl fmt::Display for Carried {
     ghost use Rattle.std.specs.Prelude.{Some};
-    ghost use Rattle.lvm_show.specs.Refusals.{carried_text};
+    ghost use Rattle.lvm_replies.specs.Refusals.{carried_text};
 
     ghost output = { λ c. Some (carried_text c) };
 

@@ -1,7 +1,7 @@
 //! The line of a block.
 ghost use Rattle.std.specs.Prelude.{◌≡◌, ◌++◌, ◌<◌, OnOk, IfOk, if◌then◌else◌, take};
 ghost use Rattle.std.specs.String.{string_bytes};
-ghost use Rattle.lvm_show.specs.Blocks.{hex_digit, hex_text, is_filled, block_text};
+ghost use Rattle.lvm_replies.specs.Blocks.{hex_digit, hex_text, is_filled, block_text};
 
 use lvm_num::{Memory, Text, word_of};
 use std::alloc::{AllocError, Global};
