@@ -1,5 +1,5 @@
 -- A record that the front of a slot holds.
-use Rattle.std.proofs.Common.{◌≡◌, ◌+◌, ◌-◌, ◌*◌, ◌<◌, ◌≤◌, ◌++◌, ◌&&◌, [], ℕ, List, Bool, length, take, drop, min, max, inl, inr, not, nat_le, ◌==◌, bytes_eq, sym, ◌∙◌, ap, arith}
+use Rattle.std.proofs.Common.{◌≡◌, ◌+◌, ◌-◌, ◌*◌, ◌≤◌, ◌++◌, ◌&&◌, ℕ, List, Bool, length, take, drop, min, max, inl, inr, not, nat_le, ◌==◌, bytes_eq, sym, ◌∙◌, ap, arith}
 use Rattle.std.specs.Int.{w32, w64, from_be_bytes}
 use Rattle.std.specs.Bool.{then_some}
 use Rattle.std.proofs.lemmas.Bool.{cases_lt}

@@ -1,4 +1,4 @@
-use Rattle.std.proofs.Common.{◌≡◌, ◌++◌, ℕ, List, length, sym, ◌∙◌, ap, arith}
+use Rattle.std.proofs.Common.{◌++◌, ℕ, List, length, ◌∙◌, ap, arith}
 use Rattle.std.proofs.lemmas.List.{length-append}
 use Rattle.lvm_survey.proofs.Joining.{joined-front}
 use Rattle.lvm_survey.proofs.area.append.Goals as goal
