@@ -1,5 +1,5 @@
 -- The descriptor that a later `varyonvg` finds is that of the last acknowledged command on its group, or one that was being committed since.
-use Rattle.std.specs.Prelude.{◌≡◌, ◌⊎◌, ◌++◌, ◌∷◌, ℕ, [], List, Option, Some, None, Ok, IsSomeAnd}
+use Rattle.std.specs.Prelude.{◌≡◌, ◌⊎◌, ◌++◌, ◌∷◌, ℕ, [], List, Some, None, Ok, IsSomeAnd}
 use Rattle.lvm_num.specs.declared.descriptor.Descriptor.{Descriptor}
 use Rattle.lvm_disk.specs.Device.{Device, IsReady}
 use Rattle.lvm_vol.specs.Facts.{Fact, Cut}
