@@ -1,2 +1,4 @@
 mod Small
+mod Parts
+mod Whole
 mod Worked

@@ -42,7 +42,7 @@ use Rattle.lvm_events.specs.Events.{lacks_mark}
 use Rattle.lvm_events.specs.Turns.{Darkens}
 use Rattle.lvm_events.specs.Calls.{ask_fault, fault_on, copy_fault}
 use Rattle.lvm_sound.specs.Left.{left_of}
-use Rattle.lvm_sound.specs.Sound.{IsAsked, IsRequest, IsCopy, IsCaused, IsAnswered, IsTrueToOrigin, IsGoing}
+use Rattle.lvm_sound.specs.Sound.{IsAsked, IsRequest, IsCopy, IsCaused, IsAnswered, IsTrueToOrigin, IsGoing, IsSound}
 
 -- ---- three disks, on two of which a volume of one logical partition of 8 track groups is mirrored
 
@@ -311,3 +311,9 @@ pub record AnswersAreTold : Type 0 where
 abbrev pub DarknessKeepsNotes : Type 0
 DarknessKeepsNotes = (old new : State) → Darkens old new → ((disk : ℕ) → has_disk old.core.cache disk ≡ is_member old.core.descriptor disk)
     → (disk : ℕ) → has_disk new.core.cache disk ≡ is_member new.core.descriptor disk
+
+-- ---- what is sound
+
+-- A session as it begins is sound, in whatever mode its volume is.
+abbrev pub BeginningsAreSound : Type 0
+BeginningsAreSound = (m : Mode) → IsSound (state faultless (core_of (calm m)))
