@@ -15,7 +15,7 @@ use Rattle.lvm_vol.specs.declared.entry.Vol.TheVariants.{Lv}
 use Rattle.lvm_vol.specs.Facts.{Fact, Begun, Landed, Request as Asked}
 use Rattle.lvm_hold.specs.declared.queue.Row.{Row}
 use Rattle.lvm_kept.specs.Examples.{member, mirror, group_of, row_of, status_of_rows}
-use Rattle.lvm_mwc.specs.Cache.{has_disk, no_notes}
+use Rattle.lvm_mwc.specs.Cache.{Cached, has_disk, no_notes}
 use Rattle.lvm_status.specs.declared.writes.Writes.{Writes}
 use Rattle.lvm_sched.specs.declared.writes.TargetState.{TargetState}
 use Rattle.lvm_sched.specs.declared.writes.TargetState.TheVariants as stage
@@ -74,10 +74,11 @@ behind = record fresh { stale = true }
 
 -- ---- sessions
 
--- What differs from one worked session to the next: what is committed and wanted, the update in flight with its writes, the requests with their rows in the
--- queue, the copy that is open, and what is out.
+-- What differs from one worked session to the next: the history, what is committed and wanted, the update in flight with its writes, the requests with their
+-- rows in the queue, the copy that is open, what the cache has, what is out, and how the session began.
 pub record Moment : Type 0 where
   pub mode : Mode
+  pub facts : List Fact
   pub committed : Says
   pub wanted : Says
   pub flies : Option Says
@@ -85,12 +86,16 @@ pub record Moment : Type 0 where
   pub requests : List Open
   pub rows : List Row
   pub copy : Option OpenCopy
+  pub cache : Cached
+  pub pool : List Bool
   pub flying : List Flown
+  pub origin : Says
 
 -- nothing is under way, and both copies are fresh
 abbrev pub calm : Mode → Moment
 calm m = record {
   mode = m;
+  facts = [];
   committed = fresh;
   wanted = fresh;
   flies = None;
@@ -98,18 +103,21 @@ calm m = record {
   requests = [];
   rows = [];
   copy = None;
+  cache = record { entries = []; notes = no_notes 0 ∷ no_notes 1 ∷ no_notes 2 ∷ [] };
+  pool = false ∷ [];
   flying = [];
+  origin = fresh;
 }
 
 abbrev pub core_of : Moment → Core
 core_of w = record {
   descriptor = mirrored w.mode;
-  history = record { run = 50; facts = []; room = 65536; bytes = 65536 };
+  history = record { run = 50; facts = w.facts; room = 65536; bytes = 65536 };
   requests = w.requests;
   most = 4;
   queue = record { room = 5; rows = w.rows };
   copy = w.copy;
-  pool = false ∷ [];
+  pool = w.pool;
   flying = w.flying;
   status = record {
     group = record (mirrored w.mode) { lvs = [] };
@@ -119,10 +127,10 @@ core_of w = record {
     writes = w.writes;
     stamp = record { epoch = 50; seq = 3 };
   };
-  cache = record { entries = []; notes = no_notes 0 ∷ no_notes 1 ∷ no_notes 2 ∷ [] };
+  cache = w.cache;
   homes = record { descriptor = 0; status = 0 };
   last = replicate 512 0;
-  origin = record { faults = replicate 128 0; table = status_of fresh };
+  origin = record { faults = replicate 128 0; table = status_of w.origin };
   power = power.On;
 }
 
@@ -317,3 +325,11 @@ DarknessKeepsNotes = (old new : State) → Darkens old new → ((disk : ℕ) →
 -- A session as it begins is sound, in whatever mode its volume is.
 abbrev pub BeginningsAreSound : Type 0
 BeginningsAreSound = (m : Mode) → IsSound (state faultless (core_of (calm m)))
+
+-- a write that has begun, and isn't admitted yet
+abbrev pub held_write : Mode → Moment
+held_write m = record (calm m) { facts = Begun begun_write ∷ []; requests = asking 1 a_write phase.Held [] ∷ []; rows = row_for 1 a_write ∷ [] }
+
+-- So is one with a write that is held.
+abbrev pub HeldWritesAreSound : Type 0
+HeldWritesAreSound = (m : Mode) → IsSound (state faultless (core_of (held_write m)))

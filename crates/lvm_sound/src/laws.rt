@@ -1,5 +1,5 @@
 //! Laws: what the definitions say of sessions that are written out.
-ghost use Rattle.lvm_sound.specs.Worked.{AdmissionMarks, CommitLowersWork, UnsettledIsFresh, ReadsMayLag, StandingStillIsUnsound, BlameNeedsFaults, AnswersAreTold, DarknessKeepsNotes, BeginningsAreSound};
+ghost use Rattle.lvm_sound.specs.Worked.{AdmissionMarks, CommitLowersWork, UnsettledIsFresh, ReadsMayLag, StandingStillIsUnsound, BlameNeedsFaults, AnswersAreTold, DarknessKeepsNotes, BeginningsAreSound, HeldWritesAreSound};
 
 /// A write to several copies of a passive volume wants the volume dirty when it is admitted.
 pub fn admission_marks()
@@ -45,4 +45,9 @@ pub fn darkness_keeps_notes()
 /// A session as it begins is sound, in whatever mode its volume is.
 pub fn beginnings_are_sound()
     ensures { BeginningsAreSound }
+{}
+
+/// A session with a write that is held is sound, in whatever mode its volume is.
+pub fn held_writes_are_sound()
+    ensures { HeldWritesAreSound }
 {}
