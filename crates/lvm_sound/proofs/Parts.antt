@@ -154,7 +154,7 @@ pub none_out : (n : ℕ) → 0 ≡ count_if (slice_index_or (false ∷ []) n fal
 none_out zero = refl
 none_out (suc n) = refl
 
-zeros_at : (many k : ℕ) → ◌≡◌ {A = ℕ} (slice_index_or (replicate many 0) k 0) 0
+pub zeros_at : (many k : ℕ) → ◌≡◌ {A = ℕ} (slice_index_or (replicate many 0) k 0) 0
 zeros_at zero k = refl
 zeros_at (suc many) zero = refl
 zeros_at (suc many) (suc k) = zeros_at many k

@@ -23,12 +23,12 @@ use Rattle.lvm_sound.specs.Worked.{Moment, mirrored, calm, held_write, asking, a
 use Rattle.lvm_sound.proofs.Small.{not_so, not_either}
 use Rattle.lvm_sound.proofs.Parts.{valid, placed, notes_fit, no_note_flies, status_is_sound, none_behind, one_stale, none_out, no_fault}
 
-on_is_not_off : {X : Type 0} → power.On ≡ power.Off → X
+pub on_is_not_off : {X : Type 0} → power.On ≡ power.Off → X
 on_is_not_off e = absurd cc
 
 -- ---- as it begins
 
-fitting : (w : Moment) → length w.requests ≤ 4 → 1 ≤ length w.pool → length w.pool ≤ 1024 → ((disk : ℕ) → has_disk w.cache disk ≡ is_member (mirrored w.mode) disk) → IsFitting (core_of w)
+pub fitting : (w : Moment) → length w.requests ≤ 4 → 1 ≤ length w.pool → length w.pool ≤ 1024 → ((disk : ℕ) → has_disk w.cache disk ≡ is_member (mirrored w.mode) disk) → IsFitting (core_of w)
 fitting w table a_buffer buffers notes = record {
   valid = valid w.mode;
   id = refl;
@@ -50,14 +50,14 @@ module _ (m : Mode) where
   told : IsTold (core_of (calm m))
   told = record { table = record { ascending = tt; still = tt }; each = λ id. refl; requests = tt }
 
-  owned : AreOwned (core_of (calm m))
+  pub owned : AreOwned (core_of (calm m))
   owned (owner.Data id target) = refl
   owned (owner.Status disk) = sym (ap (λ (t : Bool). if t then 1 else 0) (has-zero disk))
   owned (owner.Note disk) = sym (ap (λ n. if is_some n then 1 else 0) (no_note_flies m disk))
   owned owner.Copy = refl
 
 -- what is stale isn't wanted fresh
-none_cleared : (p : Pp) {X : Type 0} → calls_stale (status_of fresh) p || calls_stale (status_of fresh) p ≡ true → calls_stale (status_of fresh) p ≡ false → X
+pub none_cleared : (p : Pp) {X : Type 0} → calls_stale (status_of fresh) p || calls_stale (status_of fresh) p ≡ true → calls_stale (status_of fresh) p ≡ false → X
 none_cleared p held clear = by (calls_stale (status_of fresh) p) held clear
   where
     by : (a : Bool) {X : Type 0} → a || a ≡ true → a ≡ false → X
@@ -88,7 +88,7 @@ goes_on m = record {
   numbers = numbers m;
 }
 
-true_to_origin : (m : Mode) → IsTrueToOrigin (state faultless (core_of (calm m)))
+pub true_to_origin : (m : Mode) → IsTrueToOrigin (state faultless (core_of (calm m)))
 true_to_origin m = record {
   since = no_fault m;
   missing = λ disk is. inl is;
@@ -120,7 +120,7 @@ none_there : (target : ℕ) → target_flies target (asking 1 a_write phase.Held
 none_there zero = refl
 none_there (suc target) = refl
 
-one_is_asked : IsAsked (Begun begun_write ∷ []) (asking 1 a_write phase.Held [])
+pub one_is_asked : IsAsked (Begun begun_write ∷ []) (asking 1 a_write phase.Held [])
 one_is_asked = record {
   request = begun_write;
   told = refl;

@@ -8,13 +8,14 @@ use Rattle.lvm_num.specs.declared.descriptor.Mode.TheVariants as mode
 use Rattle.lvm_num.specs.declared.descriptor.Policy.TheVariants as policy
 use Rattle.lvm_num.specs.declared.status.Status.{Status}
 use Rattle.lvm_num.specs.Descriptor.{is_member}
-use Rattle.lvm_disk.specs.Device.{Device}
+use Rattle.lvm_disk.specs.Device.{Device, Flight}
 use Rattle.lvm_vol.specs.declared.entry.Outcome.{Outcome}
 use Rattle.lvm_vol.specs.declared.entry.Outcome.TheVariants as outcome
 use Rattle.lvm_vol.specs.declared.entry.Vol.TheVariants.{Lv}
 use Rattle.lvm_vol.specs.Facts.{Fact, Begun, Landed, Request as Asked}
 use Rattle.lvm_hold.specs.declared.queue.Row.{Row}
 use Rattle.lvm_kept.specs.Examples.{member, mirror, group_of, row_of, status_of_rows}
+use Rattle.lvm_mwc.specs.declared.notes.DiskNotes.{DiskNotes}
 use Rattle.lvm_mwc.specs.Cache.{Cached, has_disk, no_notes}
 use Rattle.lvm_status.specs.declared.writes.Writes.{Writes}
 use Rattle.lvm_sched.specs.declared.writes.TargetState.{TargetState}
@@ -333,3 +334,41 @@ held_write m = record (calm m) { facts = Begun begun_write ∷ []; requests = as
 -- So is one with a write that is held.
 abbrev pub HeldWritesAreSound : Type 0
 HeldWritesAreSound = (m : Mode) → IsSound (state faultless (core_of (held_write m)))
+
+-- A write of both copies of an active volume: its track group is pinned, both disks' notes name it, and the transfer to the first copy is out.
+abbrev pub flying_write : Open
+flying_write =
+    let o = asking 1 a_write phase.Data (target_on first_copy stage.Flying ∷ target_on second_copy stage.Waiting ∷ []) in
+    record o { request = record o.request { pinned = true } }
+
+-- a disk whose note names the first track group of the volume
+abbrev pub naming : ℕ → DiskNotes
+naming disk = record { disk = disk; written = record { items = record { lv = 1; group = 0 } ∷ [] }; flight = None }
+
+abbrev pub flying : Moment
+flying = record (calm mode.Active) {
+  facts = Begun begun_write ∷ [];
+  requests = flying_write ∷ [];
+  rows = row_for 1 a_write ∷ [];
+  cache = record { entries = record { lv = 1; group = 0; pins = 1 } ∷ []; notes = naming 0 ∷ naming 1 ∷ no_notes 2 ∷ [] };
+  pool = true ∷ [];
+  flying = record { ticket = 1; disk = 0; owner = owner.Data 1 0 } ∷ [];
+}
+
+-- the transfer that is out
+abbrev pub first_flight : Flight
+first_flight = record { ticket = 1; disk = 0; first = 4096; count = 1; write = true; buf = record { number = 0; sectors = replicate 256 (replicate 512 0) } }
+
+-- So is one with such a write.
+abbrev pub FlyingWritesAreSound : Type 0
+FlyingWritesAreSound = IsSound (state (record faultless { flights = first_flight ∷ [] }) (core_of flying))
+
+-- the second copy was stale when the session began, and three of its track groups are copied
+abbrev pub bringing : Mode → Moment
+bringing m =
+    let c = bringing_up 3 None in
+    record (calm m) { committed = behind; wanted = behind; rows = record { id = c.place; ask = record { lv = 1; at = 768; count = 256; write = false; copy = true } } ∷ []; copy = Some c; origin = behind }
+
+-- So is one whose copy is being brought up.
+abbrev pub CopiesAreSound : Type 0
+CopiesAreSound = (m : Mode) → IsSound (state faultless (core_of (bringing m)))

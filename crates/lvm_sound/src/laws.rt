@@ -1,5 +1,5 @@
 //! Laws: what the definitions say of sessions that are written out.
-ghost use Rattle.lvm_sound.specs.Worked.{AdmissionMarks, CommitLowersWork, UnsettledIsFresh, ReadsMayLag, StandingStillIsUnsound, BlameNeedsFaults, AnswersAreTold, DarknessKeepsNotes, BeginningsAreSound, HeldWritesAreSound};
+ghost use Rattle.lvm_sound.specs.Worked.{AdmissionMarks, CommitLowersWork, UnsettledIsFresh, ReadsMayLag, StandingStillIsUnsound, BlameNeedsFaults, AnswersAreTold, DarknessKeepsNotes, BeginningsAreSound, HeldWritesAreSound, FlyingWritesAreSound, CopiesAreSound};
 
 /// A write to several copies of a passive volume wants the volume dirty when it is admitted.
 pub fn admission_marks()
@@ -50,4 +50,14 @@ pub fn beginnings_are_sound()
 /// A session with a write that is held is sound, in whatever mode its volume is.
 pub fn held_writes_are_sound()
     ensures { HeldWritesAreSound }
+{}
+
+/// A session with a write of both copies of an active volume, of which the first transfer is out, is sound.
+pub fn flying_writes_are_sound()
+    ensures { FlyingWritesAreSound }
+{}
+
+/// A session whose copy is being brought up is sound, in whatever mode its volume is.
+pub fn copies_are_sound()
+    ensures { CopiesAreSound }
 {}
