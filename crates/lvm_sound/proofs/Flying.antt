@@ -1,41 +1,30 @@
 -- A write whose first transfer is out.
-use Rattle.std.proofs.Common.{◌≡◌, inl, inr, ℕ, zero, suc, ◌<◌, ◌≤◌, ◌+◌, ◌-◌, ◌^◌, Bool, true, false, ◌&&◌, ◌||◌, not, List, [], ◌∷◌, Option, Some, None, length, replicate, refl, sym, ap, ◌∙◌, arith}
-use Rattle.std.specs.Prelude.{◌≢◌, ◌==◌, is_some, count_by, slice_get, slice_index_or, option_and_then, if◌then◌else◌}
-use Rattle.std.specs.List.{list_any}
+use Rattle.std.proofs.Common.{◌≡◌, inl, ℕ, zero, suc, ◌<◌, ◌+◌, ◌^◌, Bool, true, false, ◌&&◌, ◌||◌, List, [], ◌∷◌, Some, None, refl, sym, ap, ◌∙◌, arith}
+use Rattle.std.specs.Prelude.{◌≢◌, ◌==◌, is_some, slice_get, slice_index_or, option_and_then, if◌then◌else◌}
 use Rattle.std.specs.Option.{option_map_or}
 use Rattle.std.proofs.lemmas.Bool.Decides.{nat_tests}
 use Rattle.lvm_num.specs.Bits.{has_bit}
 use Rattle.lvm_num.specs.Disks.{has}
-use Rattle.lvm_num.specs.Votes.{votes_by}
 use Rattle.lvm_num.specs.declared.place.Pp.{Pp}
-use Rattle.lvm_num.specs.declared.descriptor.Mode.{Mode}
 use Rattle.lvm_num.specs.declared.descriptor.Mode.TheVariants as mode
-use Rattle.lvm_num.specs.Descriptor.{is_member, copies_of}
-use Rattle.lvm_num.specs.Status.{calls_stale, calls_missing}
+use Rattle.lvm_num.specs.Descriptor.{is_member}
+use Rattle.lvm_num.specs.Status.{calls_stale}
 use Rattle.lvm_num.proofs.DisksLemmas.{has-zero}
 use Rattle.lvm_kept.specs.Examples.{mirror}
 use Rattle.lvm_vol.specs.Facts.{Begun}
 use Rattle.lvm_mwc.specs.declared.entries.CacheEntry.{CacheEntry}
 use Rattle.lvm_mwc.specs.declared.notes.DiskNotes.{DiskNotes}
 use Rattle.lvm_mwc.specs.Cache.{has_disk, flight_on, no_notes}
-use Rattle.lvm_status.specs.Update.{seen}
-use Rattle.lvm_status.specs.Runs.{IsSound as IsSoundStatus}
 use Rattle.lvm_sched.specs.declared.writes.TargetState.TheVariants as stage
 use Rattle.lvm_path.specs.declared.target.Target.{Target}
-use Rattle.lvm_path.specs.declared.request.Phase.TheVariants as phase
 use Rattle.lvm_session.specs.declared.flown.Owner.TheVariants as owner
-use Rattle.lvm_session.specs.State.{Core, state}
-use Rattle.lvm_session.specs.Judging.{is_stale, is_missing}
-use Rattle.lvm_session.specs.Bringing.{copy_ends}
-use Rattle.lvm_events.specs.Calls.{copy_at}
-use Rattle.lvm_events.specs.Marks.{is_among, can_replace, is_entailed}
-use Rattle.lvm_sound.specs.Owners.{AreOwned, AreRows, IsDataOf, target_flies}
+use Rattle.lvm_sound.specs.Owners.{AreOwned, IsDataOf, target_flies}
 use Rattle.lvm_sound.specs.Left.{updates_left}
-use Rattle.lvm_sound.specs.Sound.{count_if, out_with, IsAsked, IsCaused, IsOpenOne, IsFitting, IsTold, IsGoing, IsSound}
-use Rattle.lvm_sound.specs.Worked.{mirrored, first_copy, second_copy, target_on, flying_write, naming, flying, first_flight, a_write, begun_write, core_of, status_of, fresh, faultless, FlyingWritesAreSound}
+use Rattle.lvm_sound.specs.Sound.{count_if, out_with, IsAsked, IsCaused, IsOpenOne, IsFitting, IsTold, IsGoing}
+use Rattle.lvm_sound.specs.Worked.{mirrored, first_copy, second_copy, target_on, flying_write, naming, flying, first_flight, begun_write, core_of, status_of, fresh, faultless, FlyingWritesAreSound}
 use Rattle.lvm_sound.proofs.Small.{not_so, not_either}
-use Rattle.lvm_sound.proofs.Parts.{placed, status_is_sound, none_behind}
-use Rattle.lvm_sound.proofs.Whole.{on_is_not_off, fitting, none_cleared, true_to_origin}
+use Rattle.lvm_sound.proofs.Parts.{none_cleared, placed, status_is_sound, none_behind}
+use Rattle.lvm_sound.proofs.Whole.{on_is_not_off, fitting, true_to_origin}
 
 -- ---- its notes
 
@@ -174,7 +163,7 @@ goes_on : IsGoing (core_of flying)
 goes_on = record {
   fitting = fits;
   told = told;
-  status = status_is_sound mode.Active;
+  status = status_is_sound mode.Active fresh;
   owned = owned;
   tickets = (refl, tt);
   queue = refl;
@@ -182,9 +171,9 @@ goes_on = record {
   requests = (request, tt);
   copy = tt;
   hands = λ n. omega arith;
-  behind = λ p is. none_behind mode.Active p is;
+  behind = λ p is. none_behind mode.Active false p is;
   reviewed = refl;
-  clearings = λ p held clear. none_cleared p held clear;
+  clearings = λ p held clear. none_cleared (calls_stale (status_of fresh) p) held clear;
   numbers = numbers;
 }
 

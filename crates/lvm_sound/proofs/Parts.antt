@@ -1,4 +1,4 @@
--- The parts of a worked session of which no disk is missing and no copy stale.
+-- The parts of a worked session of which no disk is missing.
 use Rattle.std.proofs.Common.{◌≡◌, ℕ, zero, suc, ◌<◌, ◌≤◌, Bool, true, false, ◌&&◌, ◌||◌, not, List, [], ◌∷◌, replicate, Some, None, refl, sym, ap, subst, ◌∙◌, arith}
 use Rattle.std.specs.Prelude.{◌≢◌, ◌==◌, AllPairs, is_some, slice_index_or, option_and_then, if◌then◌else◌}
 use Rattle.std.specs.List.{list_any}
@@ -26,7 +26,7 @@ use Rattle.lvm_session.specs.Judging.{is_stale, is_missing}
 use Rattle.lvm_events.specs.Marks.{is_among, can_replace, is_entailed}
 use Rattle.lvm_sound.specs.Placed.{IsPlaced, ArePlaced}
 use Rattle.lvm_sound.specs.Sound.{count_if, faults_at_first}
-use Rattle.lvm_sound.specs.Worked.{mirrored, status_of, fresh, calm, core_of, faultless}
+use Rattle.lvm_sound.specs.Worked.{Says, Moment, mirrored, status_of, fresh, calm, core_of, faultless}
 use Rattle.lvm_sound.proofs.Small.{not_so, not_either, not_none}
 
 -- ---- the group
@@ -103,12 +103,13 @@ no_note_flies m disk = by (0 == disk) (1 == disk) (2 == disk)
 
 -- ---- its status
 
-not_marked : (disk : ℕ) {X : Type 0} → has 0 disk ≡ true → X
+pub not_marked : (disk : ℕ) {X : Type 0} → has 0 disk ≡ true → X
 not_marked disk is = not_so (sym (has-zero disk) ∙ is)
 
-pub status_is_sound : (m : Mode) → IsSoundStatus (seen (core_of (calm m)).status)
+-- while nothing is in flight, and what is wanted is committed
+pub status_is_sound : (m : Mode) (says : Says) → IsSoundStatus (seen (core_of (record (calm m) { committed = says; wanted = says })).status)
 unfolding votes_by has_bit has
-status_is_sound m = record {
+status_is_sound m says = record {
   unstarted = λ disk is. not_marked disk is;
   started = λ disk is. not_marked disk is;
   failed = λ disk is. not_marked disk is;
@@ -120,8 +121,8 @@ status_is_sound m = record {
   in_flight_missing = λ t e. not_none e;
 }
 
-pub none_missing : (disk : ℕ) → calls_missing (status_of fresh) disk ≡ false
-none_missing disk = by (0 == disk) (1 == disk) (2 == disk)
+pub none_missing : (stale : Bool) (disk : ℕ) → calls_missing (status_of (record fresh { stale = stale })) disk ≡ false
+none_missing stale disk = by (0 == disk) (1 == disk) (2 == disk)
   where
     by : (a b c : Bool) → (a && false) || ((b && false) || ((c && false) || false)) ≡ false
     by true true true = refl
@@ -133,9 +134,13 @@ none_missing disk = by (0 == disk) (1 == disk) (2 == disk)
     by false false true = refl
     by false false false = refl
 
+-- a session that begins with the second copy stale, or with both fresh
+abbrev begun_with : Mode → Bool → Moment
+begun_with m stale = record (calm m) { committed = record fresh { stale = stale }; wanted = record fresh { stale = stale } }
+
 -- nothing is left to be wanted
-pub none_behind : (m : Mode) (p : Pp) {X : Type 0} → is_entailed (core_of (calm m)) p ≡ true → X
-none_behind m p is = not_so (by (is_among both_copies p) (not (is_stale (core_of (calm m)) p)) (is_missing (core_of (calm m)) p.disk) (list_any (can_replace (core_of (calm m))) both_copies) (none_missing p.disk) is)
+pub none_behind : (m : Mode) (stale : Bool) (p : Pp) {X : Type 0} → is_entailed (core_of (begun_with m stale)) p ≡ true → X
+none_behind m stale p is = not_so (by (is_among both_copies p) (not (is_stale (core_of (begun_with m stale)) p)) (is_missing (core_of (begun_with m stale)) p.disk) (list_any (can_replace (core_of (begun_with m stale))) both_copies) (none_missing stale p.disk) is)
   where
     by : (a b c d : Bool) → c ≡ false → a && b && c && d || false || false ≡ true → false ≡ true
     by true true true d e is = not_either e
@@ -147,6 +152,11 @@ none_behind m p is = not_so (by (is_among both_copies p) (not (is_stale (core_of
 pub one_stale : (a : Bool) → (a || a) || a ≡ true → a ≡ true
 one_stale true is = refl
 one_stale false is = is
+
+-- and isn't wanted fresh
+pub none_cleared : (a : Bool) {X : Type 0} → a || a ≡ true → a ≡ false → X
+none_cleared true held clear = not_either clear
+none_cleared false held clear = not_so held
 
 -- ---- its room
 

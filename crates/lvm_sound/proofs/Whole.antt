@@ -3,7 +3,6 @@ use Rattle.std.proofs.Common.{◌≡◌, inl, ℕ, zero, suc, ◌<◌, ◌≤◌
 use Rattle.std.specs.Prelude.{◌==◌, is_some, if◌then◌else◌}
 use Rattle.lvm_num.specs.Bits.{has_bit}
 use Rattle.lvm_num.specs.Disks.{has}
-use Rattle.lvm_num.specs.declared.place.Pp.{Pp}
 use Rattle.lvm_num.specs.declared.descriptor.Mode.{Mode}
 use Rattle.lvm_num.specs.declared.descriptor.Mode.TheVariants as mode
 use Rattle.lvm_num.specs.Descriptor.{is_member}
@@ -21,7 +20,7 @@ use Rattle.lvm_sound.specs.Left.{updates_left}
 use Rattle.lvm_sound.specs.Sound.{count_if, IsAsked, IsOpenOne, IsFitting, IsTold, IsGoing, IsTrueToOrigin}
 use Rattle.lvm_sound.specs.Worked.{Moment, mirrored, calm, held_write, asking, a_write, begun_write, core_of, status_of, fresh, faultless, BeginningsAreSound, HeldWritesAreSound}
 use Rattle.lvm_sound.proofs.Small.{not_so, not_either}
-use Rattle.lvm_sound.proofs.Parts.{valid, placed, notes_fit, no_note_flies, status_is_sound, none_behind, one_stale, none_out, no_fault}
+use Rattle.lvm_sound.proofs.Parts.{none_cleared, valid, placed, notes_fit, no_note_flies, status_is_sound, none_behind, one_stale, none_out, no_fault}
 
 pub on_is_not_off : {X : Type 0} → power.On ≡ power.Off → X
 on_is_not_off e = absurd cc
@@ -56,14 +55,6 @@ module _ (m : Mode) where
   owned (owner.Note disk) = sym (ap (λ n. if is_some n then 1 else 0) (no_note_flies m disk))
   owned owner.Copy = refl
 
--- what is stale isn't wanted fresh
-pub none_cleared : (p : Pp) {X : Type 0} → calls_stale (status_of fresh) p || calls_stale (status_of fresh) p ≡ true → calls_stale (status_of fresh) p ≡ false → X
-none_cleared p held clear = by (calls_stale (status_of fresh) p) held clear
-  where
-    by : (a : Bool) {X : Type 0} → a || a ≡ true → a ≡ false → X
-    by true held clear = not_either clear
-    by false held clear = not_so held
-
 numbers : (m : Mode) → 3 + updates_left (core_of (calm m)) < 2 ^ 32
 unfolding has_bit has
 numbers mode.Active = omega arith
@@ -74,7 +65,7 @@ goes_on : (m : Mode) → IsGoing (core_of (calm m))
 goes_on m = record {
   fitting = fits m;
   told = told m;
-  status = status_is_sound m;
+  status = status_is_sound m fresh;
   owned = owned m;
   tickets = tt;
   queue = refl;
@@ -82,9 +73,9 @@ goes_on m = record {
   requests = tt;
   copy = tt;
   hands = λ n. omega arith;
-  behind = λ p is. none_behind m p is;
+  behind = λ p is. none_behind m false p is;
   reviewed = refl;
-  clearings = λ p held clear. none_cleared p held clear;
+  clearings = λ p held clear. none_cleared (calls_stale (status_of fresh) p) held clear;
   numbers = numbers m;
 }
 
@@ -191,7 +182,7 @@ held_goes_on : (m : Mode) → IsGoing (core_of (held_write m))
 held_goes_on m = record {
   fitting = held_fits m;
   told = held_is_told m;
-  status = status_is_sound m;
+  status = status_is_sound m fresh;
   owned = held_owns m;
   tickets = tt;
   queue = refl;
@@ -199,9 +190,9 @@ held_goes_on m = record {
   requests = (held_request m, tt);
   copy = tt;
   hands = λ n. omega arith;
-  behind = λ p is. none_behind m p is;
+  behind = λ p is. none_behind m false p is;
   reviewed = refl;
-  clearings = λ p held clear. none_cleared p held clear;
+  clearings = λ p held clear. none_cleared (calls_stale (status_of fresh) p) held clear;
   numbers = held_numbers m;
 }
 
