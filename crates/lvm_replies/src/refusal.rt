@@ -6,6 +6,9 @@ use lvm_num::{Memory, Text};
 use std::alloc::Global;
 use std::fmt;
 
+// The bytes of the longest lines of refusals, but for large numbers.
+const LINE: usize = 32;
+
 /// What a refusal carries.
 #[derive(Clone, Copy, Debug, PartialEq, Eq, Drop)]
 pub enum Carried {
@@ -36,7 +39,8 @@ pub fn show_refusal(alloc: Global, r: &Refusal) -> Result<Text, Memory>
     let number = r.number;
     let name = name_of(number);
     let carried = r.carried;
-    let text = format!(in alloc; "refused {number} {name}{carried}\n")?;
+    let mut text = String::with_capacity(alloc, LINE)?;
+    write!(text, "refused {number} {name}{carried}\n")?;
     Ok(Text::new(text))
 }
 

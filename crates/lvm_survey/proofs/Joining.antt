@@ -1,5 +1,7 @@
 -- Bytes of sectors that follow each other.
-use Rattle.std.proofs.Common.{◌≡◌, ◌+◌, ◌<◌, ◌++◌, [], ◌∷◌, ℕ, zero, suc, List, Option, Some, None, IfSome, slice_get, slice_index_or, append-nil, append_assoc, sym, ◌∙◌, ap, arith}
+use Rattle.std.proofs.Common.{◌≡◌, ◌+◌, ◌<◌, ◌++◌, [], ◌∷◌, ℕ, zero, suc, List, Option, Some, None, IfSome, take, slice_get, slice_index_or, min, ◌-◌, inl, inr, append-nil, append_assoc, refl, sym, ◌∙◌, ap, arith}
+use Rattle.std.specs.List.{flat_map}
+use Rattle.std.proofs.lemmas.Bool.{cases_lt}
 use Rattle.lvm_num.specs.Buffer.{Sector}
 use Rattle.lvm_num.specs.Record.{joined}
 use Rattle.lvm_rec.proofs.SlotLemmas.{joined-more, joined-none}
@@ -42,9 +44,41 @@ joined-read xs f first n has = joined-shifted (λ i. slice_index_or xs i []) f 0
     ap (λ j. slice_index_or xs j []) place ∙ or_got xs k [] (f (first + k)) (has k lt)
     )
 
+-- pieces without bytes
+joined-nothing : (f : ℕ → List ℕ) (i n : ℕ) → ((k : ℕ) → f k ≡ []) → joined f i n ≡ []
+unfolding joined
+joined-nothing f i zero none = refl
+joined-nothing f i (suc n) none = ap (λ (l : List ℕ). l ++ joined f (suc i) n) (none i) ∙ joined-nothing f (suc i) n none
+
+-- the sectors that a list begins with
+pub joined-front : (xs : List Sector) (n : ℕ) → flat_map (λ (x : Sector). x) (take n xs) ≡ joined (λ i. slice_index_or xs i []) 0 n
+unfolding joined
+joined-front xs zero = refl
+joined-front [] (suc n) = sym (joined-nothing (λ i. slice_index_or {A = Sector} [] i []) 0 (suc n) (λ k. refl))
+joined-front (x ∷ xs) (suc n) =
+    ap (λ (l : List ℕ). x ++ l) (joined-front xs n ∙ joined-shifted (λ i. slice_index_or xs i []) (λ i. slice_index_or (x ∷ xs) i []) 0 1 n (λ k lt.
+    let here : 0 + k ≡ k = omega arith in
+    let next : suc k ≡ 1 + k = omega arith in
+    ap (λ j. slice_index_or xs j []) here ∙ ap (λ j. slice_index_or (x ∷ xs) j []) next
+    ))
+
 -- bytes so far, and one piece more
 pub joined-so-far : (f : ℕ → List ℕ) (first done piece : ℕ) (bytes more : List ℕ) → bytes ≡ joined f first done → more ≡ bytes ++ joined f (first + done) piece → more ≡ joined f first (done + piece)
 joined-so-far f first done piece bytes more is next = next ∙ ap (λ (l : List ℕ). l ++ joined f (first + done) piece) is ∙ sym (joined-add f first done piece)
+
+-- the first of them are kept, so many
+pub kept-so-far : (f : ℕ → List ℕ) (first done piece keep part : ℕ) (bytes more : List ℕ) → part ≡ min piece (keep - done)
+    → bytes ≡ joined f first (min done keep) → more ≡ bytes ++ joined f (first + done) part → more ≡ joined f first (min (done + piece) keep)
+kept-so-far f first done piece keep part bytes more cut is next = elim (cases_lt keep done) [
+  | inl high ↦
+      let was : min done keep ≡ min (done + piece) keep = omega (arith, high) in
+      let none : part ≡ 0 = omega (arith, high, cut) in
+      next ∙ ap (λ k. bytes ++ joined f (first + done) k) none ∙ ap (λ (l : List ℕ). bytes ++ l) (joined-none f (first + done)) ∙ append-nil bytes ∙ is ∙ ap (joined f first) was
+  | inr low ↦
+      let was : min done keep ≡ done = omega (arith, low) in
+      let now : done + part ≡ min (done + piece) keep = omega (arith, low, cut) in
+      joined-so-far f first done part bytes more (is ∙ ap (joined f first) was) next ∙ ap (joined f first) now
+]
 
 pub joined-one : (f : ℕ → List ℕ) (i : ℕ) → joined f i 1 ≡ f i
 unfolding joined

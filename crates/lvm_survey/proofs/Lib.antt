@@ -1,4 +1,5 @@
 pub mod Joining
+pub mod Fronts
 pub mod Transferring
 pub mod Following
 pub mod Areas

@@ -1,5 +1,5 @@
 -- One read of a disk's records on a shelf at rest.
-use Rattle.std.proofs.Common.{◌≡◌, ◌⊎◌, inl, inr, ⊎_elim, ◌-◌, ◌<◌, ◌≤◌, ◌++◌, [], ◌∷◌, ℕ, List, Bool, Option, true, false, Some, None, IfSome, slice_index_or, refl, sym, ◌∙◌, ap, subst}
+use Rattle.std.proofs.Common.{◌≡◌, ◌⊎◌, inl, inr, ⊎_elim, ◌-◌, ◌<◌, ◌≤◌, ◌++◌, [], ◌∷◌, ℕ, List, Bool, Option, true, false, Some, None, IfSome, slice_index_or, refl, sym, ◌∙◌, ap, subst, arith}
 use Rattle.lvm_num.specs.Buffer.{Buffer, Sector}
 use Rattle.lvm_num.specs.Record.{joined}
 use Rattle.lvm_disk.specs.Counts.{Rose, RoseBy, Counts}
@@ -137,12 +137,12 @@ module _ (patience ticket disk first count : ℕ) (buf : Buffer) (old : Device) 
     pub done_number : back.number ≡ buf.number
     done_number = done_effects.rest.number
 
-    pub done_bytes : IfSome old.media (λ m. joined (λ i. slice_index_or back.sectors i []) 0 count ≡ joined (m disk) first count)
-    done_bytes = told old.media (done_effects.reads refl)
+    pub done_bytes : (keep : ℕ) → keep ≤ count → IfSome old.media (λ m. joined (λ i. slice_index_or back.sectors i []) 0 keep ≡ joined (m disk) first keep)
+    done_bytes keep most = told old.media (done_effects.reads refl)
       where
-        told : (media : Option Media) → IfSome media (λ m. Reads m f back) → IfSome media (λ m. joined (λ i. slice_index_or back.sectors i []) 0 count ≡ joined (m disk) first count)
+        told : (media : Option Media) → IfSome media (λ m. Reads m f back) → IfSome media (λ m. joined (λ i. slice_index_or back.sectors i []) 0 keep ≡ joined (m disk) first keep)
         told None reads = tt
-        told (Some m) reads = joined-read back.sectors (m disk) first count reads
+        told (Some m) reads = joined-read back.sectors (m disk) first keep (λ i lt. reads i (omega (arith, lt, most)))
 
   -- ---- it failed
   module _ (new : Device) (back : Buffer) (gives : TransferGives patience old new f (moved.Failed back)) where

@@ -1,9 +1,10 @@
 //! Reading the records of a disk: two slots of each kind, and the note.
-ghost use Rattle.std.specs.Prelude.{◌≡◌, ℕ, ◌+◌, ◌*◌, ◌++◌, ◌<◌, ◌≤◌, length, slice_index_or, [], IfSome, IfOk, OnOk};
+ghost use Rattle.std.specs.Prelude.{◌≡◌, ℕ, ◌+◌, ◌*◌, ◌++◌, ◌<◌, ◌≤◌, length, take, drop, slice_index_or, [], IfSome, IfOk, OnOk};
+ghost use Rattle.std.specs.Int.{w32, from_be_bytes};
 ghost use Rattle.lvm_num.specs.declared.record.Kind.TheVariants as kind_is;
 ghost use Rattle.lvm_num.specs.Descriptor.{IsValid};
 ghost use Rattle.lvm_num.specs.DescriptorBytes.{descriptor_of};
-ghost use Rattle.lvm_num.specs.Record.{joined};
+ghost use Rattle.lvm_num.specs.Record.{joined, record_in, record_sectors};
 ghost use Rattle.lvm_rec.specs.Slots.{held, newest_on, slot_of};
 ghost use Rattle.lvm_disk.specs.Device.{IsReady};
 ghost use Rattle.lvm_disk.specs.Steps.{IsRange};
@@ -17,6 +18,11 @@ use lvm_num::{Descriptor, Memory, Pbuf};
 use std::alloc::{AllocError, Global};
 
 const SECTOR: usize = 512;
+
+// The bytes of a record's part in each sector, and those of its length before it.
+const PART: usize = 496;
+
+const LENGTH: usize = 4;
 
 // As many sectors as one transfer may have.
 const PIECE: u32 = 256;
@@ -89,7 +95,7 @@ pub fn read_area<S: Shelf>(
 {
     let (descriptor, buf) = read_descriptors(alloc, shelf, disk, buf, patience)?;
     let (statuses, buf) = read_slots(alloc, shelf, disk, STATUSES, STATUS_SECTORS, buf, patience)?;
-    let (bytes, buf) = read_sectors(alloc, shelf, disk, NOTE, 1, buf, patience)?;
+    let (bytes, buf) = read_sectors(alloc, shelf, disk, NOTE, 1, 1, buf, patience)?;
     let mut note = [0; SECTOR];
     note.copy_from_slice(&bytes);
     let area = RecordArea {
@@ -147,11 +153,51 @@ fn read_descriptor_slot<S: Shelf>(
     ensures held { IfOk result (λ got. IfSome (S.device shelf.old).media (λ media. stamped_if got.0 ≡ held descriptor_of kind_is.Descriptor (joined (media disk) first 1152))) }
     ensures valid { IfOk result (λ got. IfSome got.0 (λ it. IsValid it.value)) }
 {
-    let (bytes, back) = read_sectors(alloc, shelf, disk, first, DESCRIPTOR_SECTORS, buf, patience)?;
+    let (bytes, back) = read_record(alloc, shelf, disk, first, buf, patience)?;
     match descriptor_in(alloc, &bytes) {
         Ok(found) => Ok((found, back)),
         Err(Memory) => Err(Unread::Stopped(Stop::Memory(back))),
     }
+}
+
+// Reads all sectors of a slot of descriptors, and keeps those of the first read and all of the record that the first
+// sector announces: of a slot of zeros nearly nothing is copied.
+fn read_record<S: Shelf>(
+    alloc: Global,
+    shelf: &mut S,
+    disk: u16,
+    first: u64,
+    buf: Pbuf,
+    patience: &mut Patience,
+) -> Result<(Vec<u8>, Pbuf), Unread>
+    requires ready { IsReady (S.device shelf.old) }
+    requires there { disk < length (S.device shelf.old).sizes }
+    requires within { first + 1152 ≤ slice_index_or (S.device shelf.old).sizes disk 0 }
+    requires records { first + 1152 ≤ 4096 }
+    ensures only { OnlyReads patience.old.left patience.new.left (S.device shelf.old) (S.device shelf.new) }
+    ensures elsewhere { (d : ℕ) → (d ≡ disk → ⊥) → IsUntouched d (S.device shelf.old) (S.device shelf.new) }
+    ensures gives { ReadGives disk buf.number patience.old.left (S.device shelf.old) (S.device shelf.new) result }
+    ensures back { IfOk result (λ got. got.1.number ≡ buf.number) }
+    ensures record { IfOk result (λ got. IfSome (S.device shelf.old).media (λ media. record_in kind_is.Descriptor got.0.items ≡ record_in kind_is.Descriptor (joined (media disk) first 1152))) }
+{
+    let next = first + u64::from(PIECE);
+    let (mut bytes, buf) = read_sectors(alloc, shelf, disk, first, PIECE, PIECE, buf, patience)?;
+    let more = announced_sectors(&bytes).clamp(PIECE, DESCRIPTOR_SECTORS) - PIECE;
+    let rest = DESCRIPTOR_SECTORS - PIECE;
+    let (later, back) = read_sectors(alloc, shelf, disk, next, rest, more, buf, patience)?;
+    match bytes.extend_from_slice(&later) {
+        Ok(()) => Ok((bytes, back)),
+        Err(_) => Err(Unread::Stopped(Stop::Memory(back))),
+    }
+}
+
+// How many sectors the record has that the first sector of a slot announces, if it holds one.
+fn announced_sectors(slot: &[u8]) -> u32
+    requires { 512 ≤ length slot.now }
+    ensures { result ≡ record_sectors (from_be_bytes w32 (take 4 (drop 16 slot.now))) }
+{
+    let length = u32::from_be_bytes([slot[16], slot[17], slot[18], slot[19]]);
+    (length as usize + LENGTH).div_ceil(PART) as u32
 }
 
 // Reads two slots of so many sectors, the second of which follows the first.
@@ -176,18 +222,19 @@ fn read_slots<S: Shelf>(
     ensures second { IfOk result (λ got. IfSome (S.device shelf.old).media (λ media. got.0.second.items ≡ joined (media disk) (first + count) count)) }
 {
     let next = first + u64::from(count);
-    let (first, buf) = read_sectors(alloc, shelf, disk, first, count, buf, patience)?;
-    let (second, buf) = read_sectors(alloc, shelf, disk, next, count, buf, patience)?;
+    let (first, buf) = read_sectors(alloc, shelf, disk, first, count, count, buf, patience)?;
+    let (second, buf) = read_sectors(alloc, shelf, disk, next, count, count, buf, patience)?;
     Ok((Slots { first, second }, buf))
 }
 
-// The bytes of sectors of a disk's record area.
+// Reads sectors of a disk's record area, and answers the bytes of the first of them, so many.
 fn read_sectors<S: Shelf>(
     alloc: Global,
     shelf: &mut S,
     disk: u16,
     first: u64,
     count: u32,
+    keep: u32,
     buf: Pbuf,
     patience: &mut Patience,
 ) -> Result<(Vec<u8>, Pbuf), Unread>
@@ -195,14 +242,15 @@ fn read_sectors<S: Shelf>(
     requires there { disk < length (S.device shelf.old).sizes }
     requires within { first + count ≤ slice_index_or (S.device shelf.old).sizes disk 0 }
     requires records { first + count ≤ 4096 }
+    requires kept { keep ≤ count }
     ensures only { OnlyReads patience.old.left patience.new.left (S.device shelf.old) (S.device shelf.new) }
     ensures elsewhere { (d : ℕ) → (d ≡ disk → ⊥) → IsUntouched d (S.device shelf.old) (S.device shelf.new) }
     ensures gives { ReadGives disk buf.number patience.old.left (S.device shelf.old) (S.device shelf.new) result }
     ensures back { IfOk result (λ got. got.1.number ≡ buf.number) }
-    ensures size { IfOk result (λ got. length got.0.items ≡ 512 * count) }
-    ensures bytes { IfOk result (λ got. IfSome (S.device shelf.old).media (λ media. got.0.items ≡ joined (media disk) first count)) }
+    ensures size { IfOk result (λ got. length got.0.items ≡ 512 * keep) }
+    ensures bytes { IfOk result (λ got. IfSome (S.device shelf.old).media (λ media. got.0.items ≡ joined (media disk) first keep)) }
 {
-    let Ok(mut bytes) = Vec::with_capacity(alloc, SECTOR * count as usize) else {
+    let Ok(mut bytes) = Vec::with_capacity(alloc, SECTOR * keep as usize) else {
         return Err(Unread::Stopped(Stop::Memory(buf)));
     };
     let mut back = buf;
@@ -210,18 +258,20 @@ fn read_sectors<S: Shelf>(
     while done < count {
         let piece = PIECE.min(count - done);
         let from = first + u64::from(done);
-        back = read_piece(shelf, disk, from, piece, &mut bytes, back, patience)?;
+        let part = piece.min(keep.saturating_sub(done));
+        back = read_piece(shelf, disk, from, piece, part, &mut bytes, back, patience)?;
         done += piece;
     }
     Ok((bytes, back))
 }
 
-// Reads sectors of a disk by one transfer, and appends them.
+// Reads sectors of a disk by one transfer, and appends the first of them, so many.
 fn read_piece<S: Shelf>(
     shelf: &mut S,
     disk: u16,
     first: u64,
     count: u32,
+    keep: u32,
     bytes: &mut Vec<u8>,
     buf: Pbuf,
     patience: &mut Patience,
@@ -229,15 +279,16 @@ fn read_piece<S: Shelf>(
     requires ready { IsReady (S.device shelf.old) }
     requires range { IsRange (S.device shelf.old) disk first count }
     requires records { first < 4096 }
+    requires kept { keep ≤ count }
     ensures only { OnlyReads patience.old.left patience.new.left (S.device shelf.old) (S.device shelf.new) }
     ensures elsewhere { (d : ℕ) → (d ≡ disk → ⊥) → IsUntouched d (S.device shelf.old) (S.device shelf.new) }
     ensures gives { ReadGives disk buf.number patience.old.left (S.device shelf.old) (S.device shelf.new) result }
     ensures back { IfOk result (λ back. back.number ≡ buf.number) }
-    ensures size { OnOk result (length bytes.new.items ≡ length bytes.old.items + 512 * count) }
-    ensures bytes { OnOk result (IfSome (S.device shelf.old).media (λ media. bytes.new.items ≡ bytes.old.items ++ joined (media disk) first count)) }
+    ensures size { OnOk result (length bytes.new.items ≡ length bytes.old.items + 512 * keep) }
+    ensures bytes { OnOk result (IfSome (S.device shelf.old).media (λ media. bytes.new.items ≡ bytes.old.items ++ joined (media disk) first keep)) }
 {
     match transfer(shelf, false, disk, first, count, buf, patience) {
-        Moved::Done(back) => match append(bytes, &back, count) {
+        Moved::Done(back) => match append(bytes, &back, keep) {
             Ok(()) => Ok(back),
             Err(_) => Err(Unread::Stopped(Stop::Memory(back))),
         },
@@ -253,8 +304,6 @@ fn append(bytes: &mut Vec<u8>, buf: &Pbuf, count: u32) -> Result<(), AllocError>
     ensures size { OnOk result (length bytes.new.items ≡ length bytes.old.items + 512 * count) }
     ensures bytes { OnOk result (bytes.new.items ≡ bytes.old.items ++ joined (λ i. slice_index_or buf.now.sectors i []) 0 count) }
 {
-    for k in 0..count {
-        bytes.extend_from_slice(buf.sector(k))?;
-    }
+    bytes.extend_from_slice(buf.front(count))?;
     Ok(())
 }

@@ -82,7 +82,7 @@ pub fn newest<T: Drop>(first: Option<Found<T>>, second: Option<Found<T>>) -> Lat
         (Some(first), None) => of_slot(first, 0),
         (None, Some(second)) => of_slot(second, 1),
         (Some(first), Some(second)) => {
-            if first.stamp < second.stamp {
+            if first.stamp.is_before(second.stamp) {
                 of_slot(second, 1)
             } else {
                 of_slot(first, 0)

@@ -12,7 +12,7 @@ ghost use Rattle.lvm_top.specs.Statuses.{GoesUntil};
 use lvm_core::Room;
 use lvm_disk::Shelf;
 use lvm_io::{Clock, Lines, NextLine, Sink, SinkFault, Source, write_all};
-use lvm_line::{Refusal, Reply, Stage, do_line, memory_text, text_of};
+use lvm_line::{Refusal, Reply, Stage, answer_line, do_line, memory_text, text_of};
 use lvm_num::Memory;
 use std::alloc::Global;
 
@@ -131,6 +131,19 @@ pub fn do_lines<S: Shelf, I: Source, O: Sink, C: Clock>(
             }
             NextLine::Line(line) => line,
         };
+        // Such lines are many in long scripts, and a stage is large to move.
+        if let Some(reply) = answer_line(alloc, &stage, line.as_slice()) {
+            let (said, wrote) = say(alloc, out, reply);
+            refused = with_refusal(refused, &said);
+            if wrote.is_err() {
+                return Done {
+                    stage,
+                    refused,
+                    stop: Some(Stop::SinkFault),
+                };
+            }
+            continue;
+        }
         let answered = do_line(alloc, stage, clock, room, line.as_slice());
         stage = answered.stage;
         let stuck = is_stuck(&answered.reply);

@@ -46,9 +46,9 @@ pub returns-in-Ok-clause-bytes : goal.returns-in-Ok-clause-bytes
 returns-in-Ok-clause-bytes g c =
     let was = c.args.bytes.now.items in
     let disk = c.args.disk in
-    told-more (λ (m : Media). joined (λ i. slice_index_or c.in-Done.back.sectors i []) 0 c.args.count ≡ joined (m disk) c.args.first c.args.count) (λ (m : Media). c.append.new.bytes.items ≡ was ++ joined (m disk) c.args.first c.args.count) (g.S.Shelf.device c.args.shelf.now).media
+    told-more (λ (m : Media). joined (λ i. slice_index_or c.in-Done.back.sectors i []) 0 c.args.keep ≡ joined (m disk) c.args.first c.args.keep) (λ (m : Media). c.append.new.bytes.items ≡ was ++ joined (m disk) c.args.first c.args.keep) (g.S.Shelf.device c.args.shelf.now).media
     (λ m same. c.in-Ok.ensures.bytes ∙ ap (λ (l : List ℕ). was ++ l) same)
-    (done_bytes c.args.patience.now.left c.in-Done.ensures.gives.0 c.args.disk c.args.first c.args.count c.args.buf (g.S.Shelf.device c.args.shelf.now) c.requires.ready (g.S.Shelf.device c.transfer.new.shelf) c.in-Done.back c.in-Done.ensures.gives.1)
+    (done_bytes c.args.patience.now.left c.in-Done.ensures.gives.0 c.args.disk c.args.first c.args.count c.args.buf (g.S.Shelf.device c.args.shelf.now) c.requires.ready (g.S.Shelf.device c.transfer.new.shelf) c.in-Done.back c.in-Done.ensures.gives.1 c.args.keep c.requires.kept)
 
 pub returns-in-Err-clause-gives : goal.returns-in-Err-clause-gives
 returns-in-Err-clause-gives g c = (done_all c.args.patience.now.left c.in-Done.ensures.gives.0 c.args.disk c.args.first c.args.count c.args.buf (g.S.Shelf.device c.args.shelf.now) c.requires.ready (g.S.Shelf.device c.transfer.new.shelf) c.in-Done.back c.in-Done.ensures.gives.1 c.in-Done.ensures.rests, done_number c.args.patience.now.left c.in-Done.ensures.gives.0 c.args.disk c.args.first c.args.count c.args.buf (g.S.Shelf.device c.args.shelf.now) c.requires.ready (g.S.Shelf.device c.transfer.new.shelf) c.in-Done.back c.in-Done.ensures.gives.1)

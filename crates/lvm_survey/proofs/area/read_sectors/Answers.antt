@@ -1,9 +1,9 @@
-use Rattle.std.proofs.Common.{◌≡◌, ◌+◌, ◌++◌, ℕ, IfSome, length, refl, sym, ◌∙◌, ap, subst, arith}
+use Rattle.std.proofs.Common.{◌≡◌, ◌+◌, ◌++◌, ℕ, IfSome, length, min, refl, sym, ◌∙◌, ap, subst, arith}
 use Rattle.lvm_num.specs.Record.{joined}
 use Rattle.lvm_rec.proofs.SlotLemmas.{joined-none}
 use Rattle.lvm_disk.specs.Device.{Media}
 use Rattle.std.proofs.lemmas.Result.{err_from_is_err_and}
-use Rattle.lvm_survey.proofs.Joining.{joined-so-far, told-both, told-always}
+use Rattle.lvm_survey.proofs.Joining.{kept-so-far, told-both, told-always}
 use Rattle.lvm_survey.proofs.Following.{only_none, untouched_none, rested_none, none_so_far, so_far_more, only_more, elsewhere_more, unread_more, in_range}
 use Rattle.lvm_survey.proofs.area.read_sectors.Goals as goal
 
@@ -22,7 +22,7 @@ loop-done-init g c = record {
   number = refl;
   within = omega arith;
   size = omega (arith, ap (length {A = ℕ}) c.in-Ok.ensures.items);
-  bytes = told-always (λ (m : Media). c.in-Ok.bytes.items ≡ joined (m c.args.disk) c.args.first 0) (g.S.Shelf.device c.args.shelf.now).media (λ m. c.in-Ok.ensures.items ∙ sym (joined-none (m c.args.disk) c.args.first));
+  bytes = told-always (λ (m : Media). c.in-Ok.bytes.items ≡ joined (m c.args.disk) c.args.first (min 0 c.args.keep)) (g.S.Shelf.device c.args.shelf.now).media (λ m. c.in-Ok.ensures.items ∙ sym (joined-none (m c.args.disk) c.args.first) ∙ ap (joined (m c.args.disk) c.args.first) (omega arith));
 }
 
 pub read_piece-requires-clause-range : goal.read_piece-requires-clause-range
@@ -55,8 +55,8 @@ loop-done-preserved g c =
       so_far = so_far_more disk c.args.patience.now.left c.loop-done.patience.left c.read_piece.new.patience.left old mid new inv.so_far c.in_ok-back.ensures.only c.in_ok-back.ensures.elsewhere c.in_ok-back.ensures.gives;
       number = c.in_ok-back.ensures.back ∙ inv.number;
       within = omega (arith, c.min-piece.ensures);
-      size = omega (arith, c.in_ok-back.ensures.size, inv.size);
-      bytes = told-both (λ (m : Media). c.loop-done.bytes.items ≡ joined (m disk) c.args.first c.loop-done.done) (λ (m : Media). c.read_piece.new.bytes.items ≡ c.loop-done.bytes.items ++ joined (m disk) (c.args.first + c.from.result) c.min-piece.result) (λ (m : Media). c.read_piece.new.bytes.items ≡ joined (m disk) c.args.first (c.loop-done.done + c.min-piece.result)) old.media
-          (λ m is next. joined-so-far (m disk) c.args.first c.loop-done.done c.min-piece.result c.loop-done.bytes.items c.read_piece.new.bytes.items is (next ∙ ap (λ (k : ℕ). c.loop-done.bytes.items ++ joined (m disk) (c.args.first + k) c.min-piece.result) c.from.ensures))
-          inv.bytes (subst (λ o. IfSome o (λ (m : Media). c.read_piece.new.bytes.items ≡ c.loop-done.bytes.items ++ joined (m disk) (c.args.first + c.from.result) c.min-piece.result)) told c.in_ok-back.ensures.bytes);
+      size = omega (arith, c.in_ok-back.ensures.size, inv.size, c.min-part.ensures, c.saturating_sub.ensures);
+      bytes = told-both (λ (m : Media). c.loop-done.bytes.items ≡ joined (m disk) c.args.first (min c.loop-done.done c.args.keep)) (λ (m : Media). c.read_piece.new.bytes.items ≡ c.loop-done.bytes.items ++ joined (m disk) (c.args.first + c.from.result) c.min-part.result) (λ (m : Media). c.read_piece.new.bytes.items ≡ joined (m disk) c.args.first (min (c.loop-done.done + c.min-piece.result) c.args.keep)) old.media
+          (λ m is next. kept-so-far (m disk) c.args.first c.loop-done.done c.min-piece.result c.args.keep c.min-part.result c.loop-done.bytes.items c.read_piece.new.bytes.items (c.min-part.ensures ∙ ap (min c.min-piece.result) c.saturating_sub.ensures) is (next ∙ ap (λ (k : ℕ). c.loop-done.bytes.items ++ joined (m disk) (c.args.first + k) c.min-part.result) c.from.ensures))
+          inv.bytes (subst (λ o. IfSome o (λ (m : Media). c.read_piece.new.bytes.items ≡ c.loop-done.bytes.items ++ joined (m disk) (c.args.first + c.from.result) c.min-part.result)) told c.in_ok-back.ensures.bytes);
     }
