@@ -1,12 +1,14 @@
 //! The copy that is open, to a client.
-ghost use Rattle.std.specs.Prelude.{◌≡◌, ◌&&◌, not};
+ghost use Rattle.std.specs.Prelude.{◌≡◌, ◌&&◌, ℕ, not};
 ghost use Rattle.std.specs.List.{list_any};
 ghost use Rattle.lvm_num.specs.declared.place.Pp.{Pp};
 ghost use Rattle.lvm_num.specs.Descriptor.{IsLaidOut, IsValid};
 ghost use Rattle.lvm_stale.specs.Table.{is_pp};
 ghost use Rattle.lvm_session.specs.Fields.{core_of};
+ghost use Rattle.lvm_session.specs.Rooms.{SameRooms};
 ghost use Rattle.lvm_session.specs.Bringing.{is_out};
 ghost use Rattle.lvm_session.specs.Judging.{is_usable};
+ghost use Rattle.lvm_events.specs.declared.answers.CopyState.TheVariants as state;
 ghost use Rattle.lvm_events.specs.Calls.{closed, copy_at, copy_fault, copy_state, refusal_at, refusal_in, refusal_on, state_of_copy};
 
 use crate::ask::has_numbers;
@@ -50,9 +52,12 @@ pub fn copy_state(session: &Session) -> CopyState
     }
 }
 
-/// The copy that is open is closed. It isn't to be one that is running.
+/// The copy that is open is closed. It isn't one that is running, whose place in the queue and whose buffer
+/// would be lost.
 pub fn close_copy(session: &mut Session)
-    ensures { core_of session.new ≡ closed (core_of session.old) }
+    requires ended { (cursor : ℕ) → copy_state (core_of session.old) ≡ state.Running cursor → ⊥ }
+    ensures closed { core_of session.new ≡ closed (core_of session.old) }
+    ensures rooms { SameRooms session.old session.new }
 {
     session.copy = None;
 }

@@ -140,7 +140,7 @@ module _ (log : Log) (old new : State) (answer : Reply) (shelf : IsShelf old.mom
   now = new.moment.device
 
   mkvg_one : (room : Room) (line : List ℕ) (name : List ℕ) (mib : Option ℕ) (disks : List ℕ) → line_of line ≡ Ok (Some (command.Mkvg false name mib disks)) → MkvgDoes log room false name mib disks old new answer → FindsOneGroup now
-  mkvg_one room line name mib disks read (NoMemoryForLine says same) = nothing_one was now (asked_nothing old new same) one
+  mkvg_one room line name mib disks read (NoMemoryForLine off says same) = nothing_one was now (asked_nothing old new same) one
   mkvg_one room line name mib disks read (NoMkvgWhileOn on says same) = nothing_one was now (asked_nothing old new same) one
   mkvg_one room line name mib disks read (MakesGroup core asks before made left) =
       let w : NewGroup = asked_for name mib disks false new.last in

@@ -13,5 +13,5 @@ mod volumes;
 
 pub use laws::{refusals_have_causes, varyons_restate};
 pub use line::{answer_line, do_line};
-pub use reply::{Refusal, Reply, memory_text, text_of};
+pub use reply::{Refusal, Reply, memory_text, refusal_line};
 pub use stage::{Answered, Stage};

@@ -133,19 +133,14 @@ fn shown(refusal: &Refusal) -> lvm_replies::Refusal
     lvm_replies::Refusal { number, carried }
 }
 
-/// What is written for a reply, and nothing for a silent one.
-pub fn text_of(alloc: Global, reply: &Reply) -> Result<Text, Memory>
-    ensures { IfOk result (λ text. text ≡ reply_text reply.now) }
+/// The line of a refusal.
+pub fn refusal_line(alloc: Global, why: &Refusal) -> Result<Text, Memory>
+    ensures { IfOk result (λ text. text ≡ reply_text (Reply.Refused why.now)) }
 {
-    match reply {
-        Reply::Silent => Ok(Text::new(String::new(alloc))),
-        Reply::Ok => Ok(Text::new(String::from_str(alloc, "ok\n")?)),
-        Reply::Lines(text) => Ok(Text::new(String::from_str(alloc, text.as_str())?)),
-        Reply::Refused(refusal) => show_refusal(alloc, &shown(refusal)),
-    }
+    show_refusal(alloc, &shown(why))
 }
 
-/// The line that is written where that of a reply finds no memory.
+/// The line that is written where that of a refusal finds no memory.
 pub fn memory_text() -> &'static [u8]
     ensures { result.now ≡ reply_text (Reply.Refused Refusal.Memory) }
 {

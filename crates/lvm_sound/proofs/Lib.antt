@@ -1,2 +1,6 @@
 mod Small
+mod Parts
+mod Whole
+mod Flying
+mod Bringing
 mod Worked

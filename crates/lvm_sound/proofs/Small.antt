@@ -1,5 +1,5 @@
 -- What is never so.
-use Rattle.std.proofs.Common.{◌≡◌, ℕ, Bool, true, false, Option, Some, None, refl, ap, arith}
+use Rattle.std.proofs.Common.{◌≡◌, true, false, Some, None, arith}
 use Rattle.lvm_disk.specs.Counts.{Rose}
 
 pub not_so : {X : Type 0} → false ≡ true → X
@@ -11,3 +11,6 @@ not_either e = absurd cc
 -- a count that stands at 0 hasn't risen
 pub not_risen : {X : Type 0} → Rose 0 0 → X
 not_risen rose = let risen = rose.risen in absurd (omega (arith, risen))
+
+pub not_none : {A : Type 0} {X : Type 0} {a : A} → None ≡ Some a → X
+not_none e = absurd cc

@@ -8,14 +8,15 @@ use Rattle.lvm_num.specs.declared.descriptor.Mode.TheVariants as mode
 use Rattle.lvm_num.specs.declared.descriptor.Policy.TheVariants as policy
 use Rattle.lvm_num.specs.declared.status.Status.{Status}
 use Rattle.lvm_num.specs.Descriptor.{is_member}
-use Rattle.lvm_disk.specs.Device.{Device}
+use Rattle.lvm_disk.specs.Device.{Device, Flight}
 use Rattle.lvm_vol.specs.declared.entry.Outcome.{Outcome}
 use Rattle.lvm_vol.specs.declared.entry.Outcome.TheVariants as outcome
 use Rattle.lvm_vol.specs.declared.entry.Vol.TheVariants.{Lv}
 use Rattle.lvm_vol.specs.Facts.{Fact, Begun, Landed, Request as Asked}
 use Rattle.lvm_hold.specs.declared.queue.Row.{Row}
 use Rattle.lvm_kept.specs.Examples.{member, mirror, group_of, row_of, status_of_rows}
-use Rattle.lvm_mwc.specs.Cache.{has_disk, no_notes}
+use Rattle.lvm_mwc.specs.declared.notes.DiskNotes.{DiskNotes}
+use Rattle.lvm_mwc.specs.Cache.{Cached, has_disk, no_notes}
 use Rattle.lvm_status.specs.declared.writes.Writes.{Writes}
 use Rattle.lvm_sched.specs.declared.writes.TargetState.{TargetState}
 use Rattle.lvm_sched.specs.declared.writes.TargetState.TheVariants as stage
@@ -42,7 +43,7 @@ use Rattle.lvm_events.specs.Events.{lacks_mark}
 use Rattle.lvm_events.specs.Turns.{Darkens}
 use Rattle.lvm_events.specs.Calls.{ask_fault, fault_on, copy_fault}
 use Rattle.lvm_sound.specs.Left.{left_of}
-use Rattle.lvm_sound.specs.Sound.{IsAsked, IsRequest, IsCopy, IsCaused, IsAnswered, IsTrueToOrigin, IsGoing}
+use Rattle.lvm_sound.specs.Sound.{IsAsked, IsRequest, IsCopy, IsCaused, IsAnswered, IsTrueToOrigin, IsGoing, IsSound}
 
 -- ---- three disks, on two of which a volume of one logical partition of 8 track groups is mirrored
 
@@ -74,10 +75,11 @@ behind = record fresh { stale = true }
 
 -- ---- sessions
 
--- What differs from one worked session to the next: what is committed and wanted, the update in flight with its writes, the requests with their rows in the
--- queue, the copy that is open, and what is out.
+-- What differs from one worked session to the next: the history, what is committed and wanted, the update in flight with its writes, the requests with their
+-- rows in the queue, the copy that is open, what the cache has, what is out, and how the session began.
 pub record Moment : Type 0 where
   pub mode : Mode
+  pub facts : List Fact
   pub committed : Says
   pub wanted : Says
   pub flies : Option Says
@@ -85,12 +87,16 @@ pub record Moment : Type 0 where
   pub requests : List Open
   pub rows : List Row
   pub copy : Option OpenCopy
+  pub cache : Cached
+  pub pool : List Bool
   pub flying : List Flown
+  pub origin : Says
 
 -- nothing is under way, and both copies are fresh
 abbrev pub calm : Mode → Moment
 calm m = record {
   mode = m;
+  facts = [];
   committed = fresh;
   wanted = fresh;
   flies = None;
@@ -98,18 +104,21 @@ calm m = record {
   requests = [];
   rows = [];
   copy = None;
+  cache = record { entries = []; notes = no_notes 0 ∷ no_notes 1 ∷ no_notes 2 ∷ [] };
+  pool = false ∷ [];
   flying = [];
+  origin = fresh;
 }
 
 abbrev pub core_of : Moment → Core
 core_of w = record {
   descriptor = mirrored w.mode;
-  history = record { run = 50; facts = []; room = 65536; bytes = 65536 };
+  history = record { run = 50; facts = w.facts; room = 65536; bytes = 65536 };
   requests = w.requests;
   most = 4;
   queue = record { room = 5; rows = w.rows };
   copy = w.copy;
-  pool = false ∷ [];
+  pool = w.pool;
   flying = w.flying;
   status = record {
     group = record (mirrored w.mode) { lvs = [] };
@@ -119,10 +128,10 @@ core_of w = record {
     writes = w.writes;
     stamp = record { epoch = 50; seq = 3 };
   };
-  cache = record { entries = []; notes = no_notes 0 ∷ no_notes 1 ∷ no_notes 2 ∷ [] };
+  cache = w.cache;
   homes = record { descriptor = 0; status = 0 };
   last = replicate 512 0;
-  origin = record { faults = replicate 128 0; table = status_of fresh };
+  origin = record { faults = replicate 128 0; table = status_of w.origin };
   power = power.On;
 }
 
@@ -311,3 +320,55 @@ pub record AnswersAreTold : Type 0 where
 abbrev pub DarknessKeepsNotes : Type 0
 DarknessKeepsNotes = (old new : State) → Darkens old new → ((disk : ℕ) → has_disk old.core.cache disk ≡ is_member old.core.descriptor disk)
     → (disk : ℕ) → has_disk new.core.cache disk ≡ is_member new.core.descriptor disk
+
+-- ---- what is sound
+
+-- A session as it begins is sound, in whatever mode its volume is.
+abbrev pub BeginningsAreSound : Type 0
+BeginningsAreSound = (m : Mode) → IsSound (state faultless (core_of (calm m)))
+
+-- a write that has begun, and isn't admitted yet
+abbrev pub held_write : Mode → Moment
+held_write m = record (calm m) { facts = Begun begun_write ∷ []; requests = asking 1 a_write phase.Held [] ∷ []; rows = row_for 1 a_write ∷ [] }
+
+-- So is one with a write that is held.
+abbrev pub HeldWritesAreSound : Type 0
+HeldWritesAreSound = (m : Mode) → IsSound (state faultless (core_of (held_write m)))
+
+-- A write of both copies of an active volume: its track group is pinned, both disks' notes name it, and the transfer to the first copy is out.
+abbrev pub flying_write : Open
+flying_write =
+    let o = asking 1 a_write phase.Data (target_on first_copy stage.Flying ∷ target_on second_copy stage.Waiting ∷ []) in
+    record o { request = record o.request { pinned = true } }
+
+-- a disk whose note names the first track group of the volume
+abbrev pub naming : ℕ → DiskNotes
+naming disk = record { disk = disk; written = record { items = record { lv = 1; group = 0 } ∷ [] }; flight = None }
+
+abbrev pub flying : Moment
+flying = record (calm mode.Active) {
+  facts = Begun begun_write ∷ [];
+  requests = flying_write ∷ [];
+  rows = row_for 1 a_write ∷ [];
+  cache = record { entries = record { lv = 1; group = 0; pins = 1 } ∷ []; notes = naming 0 ∷ naming 1 ∷ no_notes 2 ∷ [] };
+  pool = true ∷ [];
+  flying = record { ticket = 1; disk = 0; owner = owner.Data 1 0 } ∷ [];
+}
+
+-- the transfer that is out
+abbrev pub first_flight : Flight
+first_flight = record { ticket = 1; disk = 0; first = 4096; count = 1; write = true; buf = record { number = 0; sectors = replicate 256 (replicate 512 0) } }
+
+-- So is one with such a write.
+abbrev pub FlyingWritesAreSound : Type 0
+FlyingWritesAreSound = IsSound (state (record faultless { flights = first_flight ∷ [] }) (core_of flying))
+
+-- the second copy was stale when the session began, and three of its track groups are copied
+abbrev pub bringing : Mode → Moment
+bringing m =
+    let c = bringing_up 3 None in
+    record (calm m) { committed = behind; wanted = behind; rows = record { id = c.place; ask = record { lv = 1; at = 768; count = 256; write = false; copy = true } } ∷ []; copy = Some c; origin = behind }
+
+-- So is one whose copy is being brought up.
+abbrev pub CopiesAreSound : Type 0
+CopiesAreSound = (m : Mode) → IsSound (state faultless (core_of (bringing m)))

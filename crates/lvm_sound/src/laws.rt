@@ -1,5 +1,5 @@
 //! Laws: what the definitions say of sessions that are written out.
-ghost use Rattle.lvm_sound.specs.Worked.{AdmissionMarks, CommitLowersWork, UnsettledIsFresh, ReadsMayLag, StandingStillIsUnsound, BlameNeedsFaults, AnswersAreTold, DarknessKeepsNotes};
+ghost use Rattle.lvm_sound.specs.Worked.{AdmissionMarks, CommitLowersWork, UnsettledIsFresh, ReadsMayLag, StandingStillIsUnsound, BlameNeedsFaults, AnswersAreTold, DarknessKeepsNotes, BeginningsAreSound, HeldWritesAreSound, FlyingWritesAreSound, CopiesAreSound};
 
 /// A write to several copies of a passive volume wants the volume dirty when it is admitted.
 pub fn admission_marks()
@@ -40,4 +40,24 @@ pub fn answers_are_told()
 /// A power cut leaves the notes of exactly the members.
 pub fn darkness_keeps_notes()
     ensures { DarknessKeepsNotes }
+{}
+
+/// A session as it begins is sound, in whatever mode its volume is.
+pub fn beginnings_are_sound()
+    ensures { BeginningsAreSound }
+{}
+
+/// A session with a write that is held is sound, in whatever mode its volume is.
+pub fn held_writes_are_sound()
+    ensures { HeldWritesAreSound }
+{}
+
+/// A session with a write of both copies of an active volume, of which the first transfer is out, is sound.
+pub fn flying_writes_are_sound()
+    ensures { FlyingWritesAreSound }
+{}
+
+/// A session whose copy is being brought up is sound, in whatever mode its volume is.
+pub fn copies_are_sound()
+    ensures { CopiesAreSound }
 {}

@@ -1,5 +1,5 @@
 -- Runs that the words of the command line ask for.
-use Rattle.std.proofs.Common.{◌≡◌, ℕ, Option, None, Result, Ok, Err, refl, sym, subst, arith}
+use Rattle.std.proofs.Common.{◌≡◌, ℕ, Option, Result, Ok, Err, sym, subst}
 use Rattle.lvm_disk.specs.Device.{Device, IsReady}
 use Rattle.lvm_memory.specs.declared.memory.MemShelf.{MemShelf}
 use Rattle.lvm_vol.specs.Log.{Log}
@@ -39,4 +39,4 @@ pub unread_promises : (asked : Result Job WordsFault) (clock : ℕ) (entry exit 
     → IsUnrun status refused history sim 5
     → OnScript asked (Promises clock (record { named = run_of history; last = clock; room = room; entry = entry; exit = exit; input = record { before = input; after = input }; output = record { before = output; after = output }; history = history; status = status; refused = refused }))
 unread_promises asked clock entry exit same ready room input output status refused history sim unrun =
-    on_script asked _ (rw (same, unrun.history_is, unrun.status_is, unrun.refused_is) (nothing_promised clock 0 clock room entry input output None ready refl tt tt (omega arith) tt))
+    on_script asked _ (rw (same, unrun.history_is, unrun.status_is, unrun.refused_is) (nothing_promised clock clock room entry input output ready))

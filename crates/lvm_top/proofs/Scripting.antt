@@ -1,12 +1,12 @@
 -- Runs of lines.
-use Rattle.std.proofs.Common.{◌≡◌, inl, inr, ⊎_elim, ◌↔◌, ◌+◌, ◌≤◌, ◌<◌, ℕ, List, [], ◌∷◌, ◌++◌, Option, Some, None, Bool, true, false, cond, length, refl, sym, ◌∙◌, ap, subst, arith, zero-add, append_assoc}
+use Rattle.std.proofs.Common.{◌≡◌, inl, inr, ⊎_elim, ◌↔◌, ◌+◌, ◌≤◌, ◌<◌, ℕ, List, [], ◌∷◌, ◌++◌, Option, Some, None, Bool, true, false, cond, if◌then◌else◌, length, refl, sym, ◌∙◌, ap, subst, arith, zero-add, append_assoc}
 use Rattle.std.proofs.lemmas.Bool.{cases_lt}
 use Rattle.std.proofs.lemmas.List.{append-nil}
 use Rattle.std.proofs.lemmas.List.Sums.{sum_by-append}
 use Rattle.lvm_disk.specs.Device.{Device}
 use Rattle.lvm_io.specs.Count.{Rose}
 use Rattle.lvm_io.specs.Stream.{WhereTold}
-use Rattle.lvm_io.specs.Lines.{lines_of}
+use Rattle.lvm_io.specs.Lines.{is_feed, lines_from, lines_of}
 use Rattle.lvm_io.specs.Reading.{Reading, to_come, lines_left, CountsGiven}
 use Rattle.lvm_vol.specs.Facts.{Fact}
 use Rattle.lvm_vol.specs.Log.{Log}
@@ -20,7 +20,7 @@ use Rattle.lvm_line.specs.Lines.{IsLine}
 use Rattle.lvm_line.specs.Replies.{reply_text, IsStuck}
 use Rattle.lvm_line.specs.State.{State, IsTimely, AreHeld}
 use Rattle.lvm_top.specs.Run.{Run, WhereAlone}
-use Rattle.lvm_top.specs.Script.{Stream, Passage, Says, Script, NoLine, NextLine, StaysAlone, Ends, AtLine, InLine, EndsAlone, AreDone, AreAllRead, texts_of, is_refused, refusals_in, entry_state, empty_log, facts_of}
+use Rattle.lvm_top.specs.Script.{Stream, Passage, Says, Script, NoLine, NextLine, StaysAlone, Ends, AtLine, InLine, EndsAlone, AreDone, AreAllRead, IsLineLeft, texts_of, is_refused, refusals_in, entry_state, empty_log, facts_of}
 use Rattle.lvm_top.specs.Statuses.{GoesUntil}
 use Rattle.lvm_top.specs.declared.script.Stop.{Stop}
 use Rattle.lvm_top.specs.declared.script.Stop.TheVariants as stop
@@ -95,6 +95,28 @@ one_more refused refused' lines_done said is few = bounded (is_refused said) is
     bounded true is = omega (arith, is, few)
     bounded false is = omega (arith, is, few)
 
+-- bytes that have no lines are none
+some_lines : (front bytes : List ℕ) → (front ≡ [] → ⊥) → lines_from front bytes ≡ [] → ⊥
+some_lines [] bytes some none = some refl
+some_lines (f ∷ front) [] some none = cc (none)
+some_lines (f ∷ front) (byte ∷ bytes) some none = by_feed (is_feed byte) (some_lines ((f ∷ front) ++ byte ∷ []) bytes (λ e. cc (e))) none
+  where
+    by_feed : (t : Bool) → (lines_from ((f ∷ front) ++ byte ∷ []) bytes ≡ [] → ⊥) → (if t then (f ∷ front) ∷ lines_from [] bytes else lines_from ((f ∷ front) ++ byte ∷ []) bytes) ≡ [] → ⊥
+    by_feed true more none = cc (none)
+    by_feed false more none = more none
+
+no_lines : (bytes : List ℕ) → lines_of bytes ≡ [] → bytes ≡ []
+no_lines [] none = refl
+no_lines (byte ∷ bytes) none = absurd (by_feed (is_feed byte) none)
+  where
+    by_feed : (t : Bool) → (if t then [] ∷ lines_from [] bytes else lines_from (byte ∷ []) bytes) ≡ [] → ⊥
+    by_feed true none = cc (none)
+    by_feed false none = some_lines (byte ∷ []) bytes (λ e. cc (e)) none
+
+no_more : {X : Type 0} (xs ys : List X) → xs ++ ys ≡ xs → ys ≡ []
+no_more [] ys is = is
+no_more (x ∷ xs) ys is = no_more xs ys (cc (is))
+
 module _ (log : Log) (room : Room) (first now : State) (reading : Reading) (input left before after : Option (List ℕ)) (refused lines_done : ℕ) (so_far : RunSoFar log room first now reading input left before after refused lines_done) where
   -- one line more was read, done and answered
   pub line_answered :
@@ -162,16 +184,31 @@ module _ (log : Log) (room : Room) (first now : State) (reading : Reading) (inpu
       go (Some a) y None read ends count = absurd count
       go (Some a) None (Some c) read ends count = absurd read
 
+  -- memory was wanting for a line that has begun
+  line_left : (reading' : Reading) (left' : Option (List ℕ)) (f g h k : ℕ) → WhereTold (to_come reading left) (to_come reading' left') (λ a b. (b ≡ a) × (a ≡ [] → ⊥)) → CountsGiven reading reading' left left' → IsLineLeft (lines_so_far (record { content = left'; faults = g }) f h k) (passage input f left' g)
+  unfolding lines_so_far
+  line_left reading' left' f g h k some given = go input left left' so_far.read some (all_given reading' left' given)
+    where
+      go : (x y z : Option (List ℕ)) → WhereTold (to_come nothing_read x) (to_come reading y) (λ a b. lines_of a ≡ so_far.lines ++ lines_of b) → WhereTold (to_come reading y) (to_come reading' z) (λ a b. (b ≡ a) × (a ≡ [] → ⊥)) → WhereTold x z (λ a b. length a + 0 ≡ length b + reading'.given)
+          → WhereTold x z (λ a b. lines_of a ≡ so_far.lines → ⊥)
+      go None y None read some count = tt
+      go (Some a) (Some b) (Some c) read some count = λ all. some.1 (no_lines (reading.front ++ (reading.block ++ b)) (no_more so_far.lines (lines_of (reading.front ++ (reading.block ++ b))) (sym read ∙ all)))
+      go None y (Some c) read some count = absurd count
+      go (Some a) y None read some count = absurd count
+      go (Some a) None (Some c) read some count = absurd read
+
   -- the run stops between two lines
   pub stops_between :
       (why : Option Stop) (reading' : Reading) (left' : Option (List ℕ)) (f g h k : ℕ) → CountsGiven reading reading' left left' → (why ≡ Some stop.TooLong) ↔ (16777216 < reading'.given) → (why ≡ Some stop.SinkFault → ⊥) → (why ≡ Some stop.Stuck → ⊥)
       → (why ≡ None → WhereTold (to_come reading left) (to_come reading' left') (λ a b. (a ≡ []) × (b ≡ []))) → (why ≡ Some stop.SourceFault → Rose f g) → ((why ≡ Some stop.SourceFault → ⊥) → g ≡ f) → k ≡ h
+      → (why ≡ Some stop.Memory → WhereTold (to_come reading left) (to_come reading' left') (λ a b. (b ≡ a) × (a ≡ [] → ⊥)))
       → GoesUntil why log room first now (passage input f left' g) (passage before h after k) refused
   unfolding lines_so_far
-  stops_between why reading' left' f g h k given too_long no_sink no_stuck ends source read_well written_well = record {
+  stops_between why reading' left' f g h k given too_long no_sink no_stuck ends source read_well written_well some = record {
     lines = lines_so_far (record { content = left'; faults = g }) f h k;
     whole = λ is. all_read reading' left' f g h k (ends is) given (within (λ long. cc (is, long)));
     between = λ no_sink no_stuck. refl;
+    wanting = λ is. line_left reading' left' f g h k (some is) given;
     source = source;
     sink = λ is. absurd (no_sink is);
     read_well = read_well;
@@ -207,6 +244,7 @@ module _ (log : Log) (room : Room) (first now : State) (reading : Reading) (inpu
     };
     whole = λ is. absurd (not_end is);
     between = λ no_sink no_stuck. absurd (no_stuck (either no_sink));
+    wanting = λ is. absurd (let stuck_too = either (λ sink_too. cc (is, sink_too)) in cc (is, stuck_too));
     source = λ is. absurd (no_source is);
     sink = sink;
     read_well = λ no_source. well;

@@ -1,5 +1,5 @@
 -- Why a run ended, by its status.
-use Rattle.std.proofs.Common.{◌≡◌, ◌⊎◌, inl, inr, ◌≤◌, ◌<◌, ◌+◌, ◌==◌, if◌then◌else◌, ℕ, List, [], length, Option, Some, None, true, IfNone, IfSome, refl, sym, ◌∙◌, ap, subst, arith}
+use Rattle.std.proofs.Common.{◌≡◌, ◌⊎◌, inl, inr, ◌≤◌, ◌<◌, ◌+◌, ◌==◌, if◌then◌else◌, ℕ, List, [], length, Option, Some, None, true, refl, sym, ◌∙◌, ap, subst, arith}
 use Rattle.lvm_disk.specs.Device.{Device, IsReady}
 use Rattle.lvm_io.specs.Count.{Rose}
 use Rattle.lvm_vol.specs.Facts.{Fact}
@@ -13,7 +13,7 @@ use Rattle.lvm_line.specs.declared.stage.Stage.{Stage}
 use Rattle.lvm_line.specs.declared.stage.Stage.TheVariants as stage
 use Rattle.lvm_line.specs.State.{State, without_facts}
 use Rattle.lvm_top.specs.Run.{Run, IsClosed, IsRun, Promises}
-use Rattle.lvm_top.specs.Script.{Stream, Passage, StaysAlone, EndsAlone, empty_log, entry_state, facts_of}
+use Rattle.lvm_top.specs.Script.{Stream, Passage, StaysAlone, EndsAlone, empty_log, entry_state}
 use Rattle.lvm_top.proofs.Firsts.{first_upheld}
 use Rattle.lvm_top.proofs.Scripting.{Ended, told_same, nothing_done, nothing_broken, lines_ended, run_upheld, run_ahead}
 use Rattle.lvm_top.specs.Statuses.{status_of, GoesUntil}
@@ -61,23 +61,20 @@ why_at why refused n high is = sym (reason_back why refused (omega (arith, high,
 
 -- ---- runs
 
-always : (h : Option Log) (P : Type 0) → P → IfNone h P
-always None P p = p
-always (Some log) P p = tt
-
 -- no memory was found for a run, and nothing was done
-pub nothing_ran : (run last : ℕ) (room : Room) (device : Device) (input output : Stream) (history : Option Log) → IsReady device → facts_of history ≡ [] → IfSome history (λ log. log ≡ record (empty_log run room) { facts = log.facts }) → IfSome history (λ log. run ≡ last)
-    → IsRun (record { named = run; last = last; room = room; entry = device; exit = device; input = record { before = input; after = input }; output = record { before = output; after = output }; history = history; status = 5; refused = 0 })
-nothing_ran run last room device input output history ready none is named = record {
-  history_is = is;
-  none = always history ((◌≡◌ {A = ℕ} 5 5) × (◌≡◌ {A = ℕ} 0 0) × (device ≡ device)) (refl, refl, refl);
+pub nothing_ran : (last : ℕ) (room : Room) (device : Device) (input output : Stream) → IsReady device
+    → IsRun (record { named = 0; last = last; room = room; entry = device; exit = device; input = record { before = input; after = input }; output = record { before = output; after = output }; history = None; status = 5; refused = 0 })
+nothing_ran last room device input output ready = record {
+  history_is = tt;
+  none = (refl, refl, refl);
   status_is = (omega arith, λ two. omega (arith, two));
   counted = λ low. absurd (omega (arith, low));
-  end = entry_state device run;
-  closed = record { moment = ap (λ (facts : List Fact). record { device = device; facts = facts }) (sym none); clock = named };
-  lines = nothing_done (empty_log run room) room (entry_state device run) input output;
+  end = entry_state device 0;
+  closed = record { moment = refl; clock = tt };
+  lines = nothing_done (empty_log 0 room) room (entry_state device 0) input output;
   whole = λ low. absurd (omega (arith, low));
-  between = λ no_sink no_stuck. nothing_broken (empty_log run room) room (entry_state device run) input output;
+  between = λ no_sink no_stuck. nothing_broken (empty_log 0 room) room (entry_state device 0) input output;
+  wanting = λ is. tt;
   source = λ is. absurd (omega (arith, is));
   sink = λ is. absurd (omega (arith, is));
   read_well = λ no. refl;
@@ -110,6 +107,7 @@ module _ (run last : ℕ) (room : Room) (entry exit : Device) (input output : Pa
     lines = goes.lines;
     whole = λ low. goes.whole (at_end why refused low);
     between = λ no_sink no_stuck. goes.between (λ is. no_sink (says_so is)) (λ is. no_stuck (says_so is));
+    wanting = λ is. goes.wanting (why_at why refused 5 (omega arith) is);
     source = λ is. goes.source (why_at why refused 3 (omega arith) is);
     sink = λ is. goes.sink (why_at why refused 4 (omega arith) is);
     read_well = λ no. goes.read_well (λ is. no (says_so is));
@@ -207,13 +205,12 @@ module _ {S : Type 0} (device : S → Device) (shelf : S) (history : Log) (run b
     }
 
 -- and of one for which no memory was found
-pub nothing_promised : (asked run last : ℕ) (room : Room) (device : Device) (input output : Stream) (history : Option Log) → IsReady device → facts_of history ≡ [] → IfSome history (λ log. log ≡ record (empty_log run room) { facts = log.facts }) → IfSome history (λ log. run ≡ last)
-    → run ≤ last → IfSome history (λ log. Rose asked log.run × (log.run ≤ last))
-    → Promises asked (record { named = run; last = last; room = room; entry = device; exit = device; input = record { before = input; after = input }; output = record { before = output; after = output }; history = history; status = 5; refused = 0 })
-nothing_promised asked run last room device input output history ready none is named le clock = record {
-  clock = clock;
-  does = nothing_ran run last room device input output history ready none is named;
+pub nothing_promised : (asked last : ℕ) (room : Room) (device : Device) (input output : Stream) → IsReady device
+    → Promises asked (record { named = 0; last = last; room = room; entry = device; exit = device; input = record { before = input; after = input }; output = record { before = output; after = output }; history = None; status = 5; refused = 0 })
+nothing_promised asked last room device input output ready = record {
+  clock = tt;
+  does = nothing_ran last room device input output ready;
   upheld = run_upheld _;
   first = first_upheld _;
-  ahead = nothing_ahead run last device (facts_of history) none le;
+  ahead = nothing_ahead 0 last device [] refl (omega arith);
 }

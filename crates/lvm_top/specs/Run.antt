@@ -10,7 +10,7 @@ use Rattle.lvm_vol.specs.Log.{Log}
 use Rattle.lvm_stamps.specs.Behind.{IsBehind, IsAhead}
 use Rattle.lvm_core.specs.declared.parts.Room.{Room}
 use Rattle.lvm_line.specs.State.{State}
-use Rattle.lvm_top.specs.Script.{Passage, AreDone, AreAllRead, EndsStuck, StaysAlone, EndsAlone, empty_log, entry_state, facts_of}
+use Rattle.lvm_top.specs.Script.{Passage, AreDone, AreAllRead, IsLineLeft, EndsStuck, StaysAlone, EndsAlone, empty_log, entry_state, facts_of}
 use Rattle.lvm_top.specs.Sim.{IsToldBlank}
 
 -- What a run was given and what came of it: the moment that names it and the clock's last one, its rooms, the shelf before and after, what was read and written, its history, its status, and how many lines were refused.
@@ -37,7 +37,8 @@ LinesOf r end = AreDone (empty_log r.named r.room) r.room (entry_state r.entry r
 
 -- The lines that were done are the input's first, each as it should be. Status 0 or 1: all of the input was read and done; 1 where a line was refused. Any
 -- other status has its cause: 3 that a read failed and 4 that a write did, which come at no other status but a write's at 6; 6 that the last line was answered
--- Stuck; 7 exactly that too much was read. At 3, 5 and 7 the run ended between two lines. Without a history nothing was done.
+-- Stuck; 7 exactly that too much was read; 5, which is free, that a line was left. At 3, 5 and 7 the run ended between two lines. Without a history no memory
+-- was found for a run, and nothing was done.
 pub record IsRun (r : Run) : Type 0 where
   pub history_is : IfSome r.history (λ log. log ≡ record (empty_log r.named r.room) { facts = log.facts })
   pub none : IfNone r.history ((r.status ≡ 5) × (r.refused ≡ 0) × (r.exit ≡ r.entry))
@@ -48,6 +49,7 @@ pub record IsRun (r : Run) : Type 0 where
   pub lines : LinesOf r end
   pub whole : r.status < 2 → AreAllRead lines r.input
   pub between : (r.status ≡ 4 → ⊥) → (r.status ≡ 6 → ⊥) → lines.done ≡ []
+  pub wanting : r.status ≡ 5 → IfSome r.history (λ log. IsLineLeft lines r.input)
   pub source : r.status ≡ 3 → Rose r.input.before.faults r.input.after.faults
   pub sink : r.status ≡ 4 → Rose r.output.before.faults r.output.after.faults
   pub read_well : (r.status ≡ 3 → ⊥) → r.input.after.faults ≡ r.input.before.faults

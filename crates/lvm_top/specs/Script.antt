@@ -1,5 +1,5 @@
 -- A script line by line, and what it is answered.
-use Rattle.std.specs.Prelude.{◌≡◌, ◌⊎◌, ◌≤◌, ◌++◌, ℕ, [], ◌∷◌, List, Option, Some, None, Bool, true, false, count_by, length}
+use Rattle.std.specs.Prelude.{◌≡◌, ◌⊎◌, ◌≤◌, ◌++◌, ℕ, [], ◌∷◌, List, Option, Some, None, Bool, true, false, IsTrue, count_by, length}
 use Rattle.std.specs.List.{flat_map}
 use Rattle.lvm_disk.specs.Device.{Device}
 use Rattle.lvm_io.specs.Count.{Rose}
@@ -16,9 +16,15 @@ use Rattle.lvm_line.specs.declared.reply.Refusal.TheVariants as refusal
 use Rattle.lvm_line.specs.declared.reply.Reply.{Reply}
 use Rattle.lvm_line.specs.declared.reply.Reply.TheVariants as reply
 
--- the reply that is written: the answer, or where its text found no memory that it didn't
+abbrev pub is_refused : Reply → Bool
+is_refused (reply.Refused why) = true
+is_refused reply.Silent = false
+is_refused reply.Ok = false
+is_refused (reply.Lines text) = false
+
+-- the reply that is written: the answer, or where the line of a refusal found no memory that it didn't
 abbrev pub Says : Reply → Reply → Type 0
-Says answer said = (said ≡ answer) ⊎ (said ≡ reply.Refused refusal.Memory)
+Says answer said = (said ≡ answer) ⊎ (IsTrue (is_refused answer) × (said ≡ reply.Refused refusal.Memory))
 
 -- these lines have these replies, one after another
 pub data Script (log : Log) (room : Room) (first : State) : List (List ℕ) → List Reply → State → Type 0 where
@@ -34,12 +40,6 @@ StaysAlone (NextLine {mid = mid} {new = new} line answer said goes says before d
 -- the texts of the replies
 abbrev pub texts_of : List Reply → List ℕ
 texts_of replies = flat_map reply_text replies
-
-abbrev pub is_refused : Reply → Bool
-is_refused (reply.Refused why) = true
-is_refused reply.Silent = false
-is_refused reply.Ok = false
-is_refused (reply.Lines text) = false
 
 abbrev pub refusals_in : List Reply → ℕ
 refusals_in replies = count_by is_refused replies
@@ -87,6 +87,10 @@ pub record AreDone (log : Log) (room : Room) (first last : State) (input output 
 -- All that the source had was read, at most 16 MiB, and done.
 abbrev pub AreAllRead : {log : Log} {room : Room} {first last : State} {input output : Passage} {refused : ℕ} → AreDone log room first last input output refused → Passage → Type 0
 AreAllRead lines input = (lines.done ≡ []) × WhereTold input.before.content input.after.content (λ a b. (lines_of a ≡ lines.lines) × (b ≡ []) × (length a ≤ 16777216))
+
+-- A line of the source was left, where its lines are told.
+abbrev pub IsLineLeft : {log : Log} {room : Room} {first last : State} {input output : Passage} {refused : ℕ} → AreDone log room first last input output refused → Passage → Type 0
+IsLineLeft lines input = WhereTold input.before.content input.after.content (λ a b. lines_of a ≡ lines.lines → ⊥)
 
 -- the entries of a history, if there is one
 abbrev pub facts_of : Option Log → List Fact

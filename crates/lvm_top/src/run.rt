@@ -21,12 +21,12 @@ use std::alloc::Global;
 pub struct Ended<S> {
     /// 0: the input was read to its end and nothing was refused. 1: the same, but something was.
     /// 2: the words of the command line ask for nothing. 3: the source failed. 4: the sink failed.
-    /// 5: memory ran out. 6: the shelf had nothing to tell a million times in one command. 7: the source
+    /// 5: memory ran out for a run, or for a further line. 6: the shelf had nothing to tell a million times in one command. 7: the source
     /// gave more than 16,777,216 bytes.
     pub status: u8,
     /// How many lines were refused.
     pub refused: u32,
-    /// What was asked and answered; None where no memory was found for it.
+    /// What was asked and answered; None where no memory was found for a run.
     pub history: Option<History>,
     /// The disks as the run leaves them.
     pub shelf: S,
@@ -49,6 +49,19 @@ fn status_of(stop: Option<Stop>, refused: u32) -> u8
     }
 }
 
+// The end of a run for which no memory was found.
+fn unbegun<S>(shelf: S) -> Ended<S>
+    ensures { result ≡ record { status = 5; refused = 0; history = None; shelf = shelf; sim = None } }
+{
+    Ended {
+        status: 5,
+        refused: 0,
+        history: None,
+        shelf,
+        sim: None,
+    }
+}
+
 /// Runs a script: reads a line, does it, writes its reply, and goes on. The moment at which the run begins
 /// names it in its history. The clock is asked for it, and once in each line that varies a group on. A group
 /// that is on at the end is varied off without a write.
@@ -67,23 +80,11 @@ pub fn run_script<S: Shelf, I: Source, O: Sink, C: Clock>(
     ensures sim { result.sim ≡ None }
 {
     let run = clock.now();
-    let Ok(history) = History::new(alloc, run, room.entries, room.bytes) else {
-        return Ended {
-            status: 5,
-            refused: 0,
-            history: None,
-            shelf,
-            sim: None,
-        };
-    };
     let Ok(mut lines) = Lines::new(alloc) else {
-        return Ended {
-            status: 5,
-            refused: 0,
-            history: Some(history),
-            shelf,
-            sim: None,
-        };
+        return unbegun(shelf);
+    };
+    let Ok(history) = History::new(alloc, run, room.entries, room.bytes) else {
+        return unbegun(shelf);
     };
     let stage = Stage::Off { shelf, history };
     let done = do_lines(alloc, &mut lines, input, out, stage, clock, room);

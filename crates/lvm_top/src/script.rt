@@ -12,7 +12,7 @@ ghost use Rattle.lvm_top.specs.Statuses.{GoesUntil};
 use lvm_core::Room;
 use lvm_disk::Shelf;
 use lvm_io::{Clock, Lines, NextLine, Sink, SinkFault, Source, write_all};
-use lvm_line::{Refusal, Reply, Stage, answer_line, do_line, memory_text, text_of};
+use lvm_line::{Refusal, Reply, Stage, answer_line, do_line, memory_text, refusal_line};
 use lvm_num::Memory;
 use std::alloc::Global;
 
@@ -26,8 +26,27 @@ pub enum Stop {
     TooLong,
 }
 
-// Writes the reply to a line, or where its text finds no memory that it didn't. Answers which, and
-// whether the sink took it all.
+// Writes why a line is refused, or where that finds no memory that it didn't. Answers which, and whether
+// the sink took it all.
+fn say_refusal<O: Sink>(alloc: Global, out: &mut O, why: Refusal) -> (Reply, Result<(), SinkFault>)
+    ensures says { Says (Reply.Refused why) result.0 }
+    ensures whole { OnOk result.1 (WhereTold (O.held out.old) (O.held out.new) (λ a b. b ≡ a ++ reply_text result.0)) }
+    ensures front { OnErr result.1 (WhereTold (O.held out.old) (O.held out.new) (λ a b. WritesFront (reply_text result.0) a b)) }
+    ensures later { O.faults out.old ≤ O.faults out.new }
+    ensures cause { OnErr result.1 (Rose (O.faults out.old) (O.faults out.new)) }
+    ensures well { OnOk result.1 (O.faults out.new ≡ O.faults out.old) }
+{
+    match refusal_line(alloc, &why) {
+        Ok(line) => (Reply::Refused(why), write_all(out, line.as_bytes())),
+        Err(Memory) => (
+            Reply::Refused(Refusal::Memory),
+            write_all(out, memory_text()),
+        ),
+    }
+}
+
+// Writes the reply to a line, and nothing for a silent one. Answers what was written, and whether the sink
+// took it all.
 fn say<O: Sink>(alloc: Global, out: &mut O, answer: Reply) -> (Reply, Result<(), SinkFault>)
     ensures says { Says answer result.0 }
     ensures whole { OnOk result.1 (WhereTold (O.held out.old) (O.held out.new) (λ a b. b ≡ a ++ reply_text result.0)) }
@@ -36,12 +55,14 @@ fn say<O: Sink>(alloc: Global, out: &mut O, answer: Reply) -> (Reply, Result<(),
     ensures cause { OnErr result.1 (Rose (O.faults out.old) (O.faults out.new)) }
     ensures well { OnOk result.1 (O.faults out.new ≡ O.faults out.old) }
 {
-    match text_of(alloc, &answer) {
-        Ok(text) => (answer, write_all(out, text.as_bytes())),
-        Err(Memory) => (
-            Reply::Refused(Refusal::Memory),
-            write_all(out, memory_text()),
-        ),
+    match answer {
+        Reply::Silent => (Reply::Silent, write_all(out, b"")),
+        Reply::Ok => (Reply::Ok, write_all(out, b"ok\n")),
+        Reply::Lines(text) => {
+            let wrote = write_all(out, text.as_bytes());
+            (Reply::Lines(text), wrote)
+        }
+        Reply::Refused(why) => say_refusal(alloc, out, why),
     }
 }
 

@@ -1,22 +1,18 @@
-use Rattle.std.proofs.Common.{◌≡◌, ◌≤◌, ◌∙◌, ap, sym, subst, refl, ℕ, None, Some, arith}
-use Rattle.lvm_io.specs.Count.{Rose}
-use Rattle.lvm_vol.specs.Log.{Log}
-use Rattle.lvm_top.proofs.Stopping.{nothing_promised, first_is, later, the_promises}
+use Rattle.std.proofs.Common.{◌≤◌, arith}
+use Rattle.lvm_top.proofs.Stopping.{nothing_promised, later, the_promises}
 use Rattle.lvm_top.proofs.run.run_script.Goals as goal
 
 pub returns-in_default-clause-run : goal.returns-in_default-clause-run
 returns-in_default-clause-run g c =
-    nothing_promised (g.C.Clock.last c.args.clock.now) 0 (g.C.Clock.last c.now-run.new.self) c.args.room (g.S.Shelf.device c.args.shelf) (record { content = g.I.Source.left c.args.input.now; faults = g.I.Source.faults c.args.input.now }) (record { content = g.O.Sink.held c.args.out.now; faults = g.O.Sink.faults c.args.out.now }) None c.requires.ready refl tt tt (omega arith) tt
+    rw c.unbegun.ensures (nothing_promised (g.C.Clock.last c.args.clock.now) (g.C.Clock.last c.now-run.new.self) c.args.room (g.S.Shelf.device c.args.shelf) (record { content = g.I.Source.left c.args.input.now; faults = g.I.Source.faults c.args.input.now }) (record { content = g.O.Sink.held c.args.out.now; faults = g.O.Sink.faults c.args.out.now }) c.requires.ready)
 
 pub returns-in_default-new-clause-run : goal.returns-in_default-new-clause-run
 returns-in_default-new-clause-run g c =
-    let named : c.in-Ok.history.run ≡ g.C.Clock.last c.now-run.new.self = ap (λ (l : Log). l.run) c.in-Ok.ensures ∙ sym c.now-run.ensures.last in
-    nothing_promised (g.C.Clock.last c.args.clock.now) c.in-Ok.history.run (g.C.Clock.last c.now-run.new.self) c.args.room (g.S.Shelf.device c.args.shelf) (record { content = g.I.Source.left c.args.input.now; faults = g.I.Source.faults c.args.input.now }) (record { content = g.O.Sink.held c.args.out.now; faults = g.O.Sink.faults c.args.out.now }) (Some c.in-Ok.history) c.requires.ready (ap (λ (l : Log). l.facts) c.in-Ok.ensures)
-    (first_is c.in-Ok.history c.now-run.result c.args.room c.in-Ok.ensures) named (omega (arith, named)) (subst (λ (n : ℕ). Rose (g.C.Clock.last c.args.clock.now) n) (sym (ap (λ (l : Log). l.run) c.in-Ok.ensures)) c.now-run.ensures.later, omega (arith, named))
+    rw c.unbegun-in_default-new.ensures (nothing_promised (g.C.Clock.last c.args.clock.now) (g.C.Clock.last c.now-run.new.self) c.args.room (g.S.Shelf.device c.args.shelf) (record { content = g.I.Source.left c.args.input.now; faults = g.I.Source.faults c.args.input.now }) (record { content = g.O.Sink.held c.args.out.now; faults = g.O.Sink.faults c.args.out.now }) c.requires.ready)
 
 pub returns-clause-run : goal.returns-clause-run
 returns-clause-run g c =
-    the_promises g.S.Shelf.device c.args.shelf c.in-Ok.history c.now-run.result (g.C.Clock.last c.now-run.new.self) (g.C.Clock.last c.do_lines-done.new.clock) c.args.room c.in-Ok.ensures c.now-run.ensures.last
+    the_promises g.S.Shelf.device c.args.shelf c.in-Ok-new.history c.now-run.result (g.C.Clock.last c.now-run.new.self) (g.C.Clock.last c.do_lines-done.new.clock) c.args.room c.in-Ok-new.ensures c.now-run.ensures.last
     c.do_lines-done.result.stage c.close-shelf.result.shelf c.close-shelf.result.history c.close-shelf.ensures.shelf c.close-shelf.ensures.off c.close-shelf.ensures.history c.do_lines-done.ensures.rooms c.do_lines-done.result.stop c.do_lines-done.ensures.settled c.do_lines-done.ensures.off
     (record { before = record { content = g.I.Source.left c.args.input.now; faults = g.I.Source.faults c.args.input.now }; after = record { content = g.I.Source.left c.do_lines-done.new.input; faults = g.I.Source.faults c.do_lines-done.new.input } }) (record { before = record { content = g.O.Sink.held c.args.out.now; faults = g.O.Sink.faults c.args.out.now }; after = record { content = g.O.Sink.held c.do_lines-done.new.out; faults = g.O.Sink.faults c.do_lines-done.new.out } }) c.do_lines-done.result.refused c.do_lines-done.ensures.goes
     (g.C.Clock.last c.args.clock.now) c.status_of.result c.status_of.ensures c.requires.ready c.now-run.ensures.later
@@ -24,7 +20,7 @@ returns-clause-run g c =
 pub returns-clause-clock : goal.returns-clause-clock
 returns-clause-clock g c =
     let first = c.now-run.ensures.later in
-    let later : c.now-run.result ≤ g.C.Clock.last c.do_lines-done.new.clock = later g.S.Shelf.device c.args.shelf c.in-Ok.history c.now-run.result (g.C.Clock.last c.now-run.new.self) (g.C.Clock.last c.do_lines-done.new.clock) c.args.room c.in-Ok.ensures c.now-run.ensures.last
+    let later : c.now-run.result ≤ g.C.Clock.last c.do_lines-done.new.clock = later g.S.Shelf.device c.args.shelf c.in-Ok-new.history c.now-run.result (g.C.Clock.last c.now-run.new.self) (g.C.Clock.last c.do_lines-done.new.clock) c.args.room c.in-Ok-new.ensures c.now-run.ensures.last
     c.do_lines-done.result.stage c.close-shelf.result.shelf c.close-shelf.result.history c.close-shelf.ensures.shelf c.close-shelf.ensures.off c.close-shelf.ensures.history c.do_lines-done.ensures.rooms c.do_lines-done.result.stop c.do_lines-done.ensures.settled c.do_lines-done.ensures.off
     (record { before = record { content = g.I.Source.left c.args.input.now; faults = g.I.Source.faults c.args.input.now }; after = record { content = g.I.Source.left c.do_lines-done.new.input; faults = g.I.Source.faults c.do_lines-done.new.input } }) (record { before = record { content = g.O.Sink.held c.args.out.now; faults = g.O.Sink.faults c.args.out.now }; after = record { content = g.O.Sink.held c.do_lines-done.new.out; faults = g.O.Sink.faults c.do_lines-done.new.out } }) c.do_lines-done.result.refused c.do_lines-done.ensures.goes in
     record { later = let a = first.later in omega (arith, a, later); risen = let a = first.risen in omega (arith, a, later) }

@@ -26,28 +26,28 @@ returns-in-End-clause-goes g c =
     stops_between (without_facts (history_in c.args.stage)) c.args.room (state_in g.S.Shelf.device c.args.stage (g.C.Clock.last c.args.clock.now)) (state_in g.S.Shelf.device c.loop.stage (g.C.Clock.last c.loop.clock)) c.loop.lines (g.I.Source.left c.args.input.now) (g.I.Source.left c.loop.input) (g.O.Sink.held c.args.out.now) (g.O.Sink.held c.loop.out) c.loop.refused c.loop.counter c.loop.invariant.done
     (None) c.next_line.new.self (g.I.Source.left c.next_line.new.input) (g.I.Source.faults c.args.input.now) (g.I.Source.faults c.next_line.new.input) (g.O.Sink.faults c.args.out.now) (g.O.Sink.faults c.loop.out) c.in-End.ensures.given
     (λ is. absurd (cc (is)), λ over. absurd (let no = c.in-End.ensures.too_long.1 over in cc (no))) (λ is. cc (is)) (λ is. cc (is))
-    (λ is. c.in-End.ensures.line) (λ is. absurd (cc (is))) (λ no. c.in-End.ensures.well (λ is. (cc (is))) ∙ c.loop.invariant.source) c.loop.invariant.sink
+    (λ is. c.in-End.ensures.line) (λ is. absurd (cc (is))) (λ no. c.in-End.ensures.well (λ is. (cc (is))) ∙ c.loop.invariant.source) c.loop.invariant.sink (λ is. absurd (cc (is)))
 
 pub returns-in-Failed-clause-goes : goal.returns-in-Failed-clause-goes
 returns-in-Failed-clause-goes g c =
     stops_between (without_facts (history_in c.args.stage)) c.args.room (state_in g.S.Shelf.device c.args.stage (g.C.Clock.last c.args.clock.now)) (state_in g.S.Shelf.device c.loop.stage (g.C.Clock.last c.loop.clock)) c.loop.lines (g.I.Source.left c.args.input.now) (g.I.Source.left c.loop.input) (g.O.Sink.held c.args.out.now) (g.O.Sink.held c.loop.out) c.loop.refused c.loop.counter c.loop.invariant.done
     (Some stop.SourceFault) c.next_line.new.self (g.I.Source.left c.next_line.new.input) (g.I.Source.faults c.args.input.now) (g.I.Source.faults c.next_line.new.input) (g.O.Sink.faults c.args.out.now) (g.O.Sink.faults c.loop.out) c.in-Failed.ensures.given
     (λ is. absurd (cc (is)), λ over. absurd (let no = c.in-Failed.ensures.too_long.1 over in cc (no))) (λ is. cc (is)) (λ is. cc (is))
-    (λ is. absurd (cc (is))) (λ is. subst (λ (n : ℕ). Rose n (g.I.Source.faults c.next_line.new.input)) c.loop.invariant.source (c.in-Failed.ensures.cause refl)) (λ no. absurd (no refl)) c.loop.invariant.sink
+    (λ is. absurd (cc (is))) (λ is. subst (λ (n : ℕ). Rose n (g.I.Source.faults c.next_line.new.input)) c.loop.invariant.source (c.in-Failed.ensures.cause refl)) (λ no. absurd (no refl)) c.loop.invariant.sink (λ is. absurd (cc (is)))
 
 pub returns-in-TooLong-clause-goes : goal.returns-in-TooLong-clause-goes
 returns-in-TooLong-clause-goes g c =
     stops_between (without_facts (history_in c.args.stage)) c.args.room (state_in g.S.Shelf.device c.args.stage (g.C.Clock.last c.args.clock.now)) (state_in g.S.Shelf.device c.loop.stage (g.C.Clock.last c.loop.clock)) c.loop.lines (g.I.Source.left c.args.input.now) (g.I.Source.left c.loop.input) (g.O.Sink.held c.args.out.now) (g.O.Sink.held c.loop.out) c.loop.refused c.loop.counter c.loop.invariant.done
     (Some stop.TooLong) c.next_line.new.self (g.I.Source.left c.next_line.new.input) (g.I.Source.faults c.args.input.now) (g.I.Source.faults c.next_line.new.input) (g.O.Sink.faults c.args.out.now) (g.O.Sink.faults c.loop.out) c.in-TooLong.ensures.given
     (λ is. c.in-TooLong.ensures.too_long.0 refl, λ over. refl) (λ is. cc (is)) (λ is. cc (is))
-    (λ is. absurd (cc (is))) (λ is. absurd (cc (is))) (λ no. c.in-TooLong.ensures.well (λ is. (cc (is))) ∙ c.loop.invariant.source) c.loop.invariant.sink
+    (λ is. absurd (cc (is))) (λ is. absurd (cc (is))) (λ no. c.in-TooLong.ensures.well (λ is. (cc (is))) ∙ c.loop.invariant.source) c.loop.invariant.sink (λ is. absurd (cc (is)))
 
 pub returns-in-Memory-clause-goes : goal.returns-in-Memory-clause-goes
 returns-in-Memory-clause-goes g c =
     stops_between (without_facts (history_in c.args.stage)) c.args.room (state_in g.S.Shelf.device c.args.stage (g.C.Clock.last c.args.clock.now)) (state_in g.S.Shelf.device c.loop.stage (g.C.Clock.last c.loop.clock)) c.loop.lines (g.I.Source.left c.args.input.now) (g.I.Source.left c.loop.input) (g.O.Sink.held c.args.out.now) (g.O.Sink.held c.loop.out) c.loop.refused c.loop.counter c.loop.invariant.done
     (Some stop.Memory) c.next_line.new.self (g.I.Source.left c.next_line.new.input) (g.I.Source.faults c.args.input.now) (g.I.Source.faults c.next_line.new.input) (g.O.Sink.faults c.args.out.now) (g.O.Sink.faults c.loop.out) c.in-Memory.ensures.given
     (λ is. absurd (cc (is)), λ over. absurd (let no = c.in-Memory.ensures.too_long.1 over in cc (no))) (λ is. cc (is)) (λ is. cc (is))
-    (λ is. absurd (cc (is))) (λ is. absurd (cc (is))) (λ no. c.in-Memory.ensures.well (λ is. (cc (is))) ∙ c.loop.invariant.source) c.loop.invariant.sink
+    (λ is. absurd (cc (is))) (λ is. absurd (cc (is))) (λ no. c.in-Memory.ensures.well (λ is. (cc (is))) ∙ c.loop.invariant.source) c.loop.invariant.sink (λ is. c.in-Memory.ensures.line)
 
 -- the limit isn't passed where a line is given out
 within : (line : List ℕ) (given : ℕ) → (next.Line line ≡ next.TooLong) ↔ (16777216 < given) → given ≤ 16777216

@@ -1,0 +1,215 @@
+-- The sessions that are sound.
+use Rattle.std.proofs.Common.{◌≡◌, inl, ℕ, zero, suc, ◌<◌, ◌≤◌, ◌+◌, ◌^◌, Bool, true, false, ◌&&◌, ◌||◌, [], ◌∷◌, Some, None, length, refl, sym, ap, arith}
+use Rattle.std.specs.Prelude.{◌==◌, is_some, if◌then◌else◌}
+use Rattle.lvm_num.specs.Bits.{has_bit}
+use Rattle.lvm_num.specs.Disks.{has}
+use Rattle.lvm_num.specs.declared.descriptor.Mode.{Mode}
+use Rattle.lvm_num.specs.declared.descriptor.Mode.TheVariants as mode
+use Rattle.lvm_num.specs.Descriptor.{is_member}
+use Rattle.lvm_num.specs.Status.{calls_stale}
+use Rattle.lvm_num.proofs.DisksLemmas.{has-zero}
+use Rattle.lvm_kept.specs.Examples.{mirror}
+use Rattle.lvm_vol.specs.Facts.{Begun}
+use Rattle.lvm_mwc.specs.Cache.{has_disk}
+use Rattle.lvm_path.specs.declared.request.Phase.TheVariants as phase
+use Rattle.lvm_session.specs.declared.flown.Owner.TheVariants as owner
+use Rattle.lvm_session.specs.declared.open.Power.TheVariants as power
+use Rattle.lvm_session.specs.State.{state}
+use Rattle.lvm_sound.specs.Owners.{AreOwned, target_flies}
+use Rattle.lvm_sound.specs.Left.{updates_left}
+use Rattle.lvm_sound.specs.Sound.{count_if, IsAsked, IsOpenOne, IsFitting, IsTold, IsGoing, IsTrueToOrigin}
+use Rattle.lvm_sound.specs.Worked.{Moment, mirrored, calm, held_write, asking, a_write, begun_write, core_of, status_of, fresh, faultless, BeginningsAreSound, HeldWritesAreSound}
+use Rattle.lvm_sound.proofs.Small.{not_so, not_either}
+use Rattle.lvm_sound.proofs.Parts.{none_cleared, valid, placed, notes_fit, no_note_flies, status_is_sound, none_behind, one_stale, none_out, no_fault}
+
+pub on_is_not_off : {X : Type 0} → power.On ≡ power.Off → X
+on_is_not_off e = absurd cc
+
+-- ---- as it begins
+
+pub fitting : (w : Moment) → length w.requests ≤ 4 → 1 ≤ length w.pool → length w.pool ≤ 1024 → ((disk : ℕ) → has_disk w.cache disk ≡ is_member (mirrored w.mode) disk) → IsFitting (core_of w)
+fitting w table a_buffer buffers notes = record {
+  valid = valid w.mode;
+  id = refl;
+  rows = λ disk. refl;
+  group = refl;
+  notes = notes;
+  table = table;
+  most = omega arith;
+  queue = refl;
+  a_buffer = a_buffer;
+  buffers = buffers;
+  last = refl;
+}
+
+module _ (m : Mode) where
+  fits : IsFitting (core_of (calm m))
+  fits = fitting (calm m) (omega arith) (omega arith) (omega arith) (notes_fit m)
+
+  told : IsTold (core_of (calm m))
+  told = record { table = record { ascending = tt; still = tt }; each = λ id. refl; requests = tt }
+
+  pub owned : AreOwned (core_of (calm m))
+  owned (owner.Data id target) = refl
+  owned (owner.Status disk) = sym (ap (λ (t : Bool). if t then 1 else 0) (has-zero disk))
+  owned (owner.Note disk) = sym (ap (λ n. if is_some n then 1 else 0) (no_note_flies m disk))
+  owned owner.Copy = refl
+
+numbers : (m : Mode) → 3 + updates_left (core_of (calm m)) < 2 ^ 32
+unfolding has_bit has
+numbers mode.Active = omega arith
+numbers mode.Passive = omega arith
+numbers mode.Off = omega arith
+
+goes_on : (m : Mode) → IsGoing (core_of (calm m))
+goes_on m = record {
+  fitting = fits m;
+  told = told m;
+  status = status_is_sound m fresh;
+  owned = owned m;
+  tickets = tt;
+  queue = refl;
+  pinned = λ lv group. refl;
+  requests = tt;
+  copy = tt;
+  hands = λ n. omega arith;
+  behind = λ p is. none_behind m false p is;
+  reviewed = refl;
+  clearings = λ p held clear. none_cleared (calls_stale (status_of fresh) p) held clear;
+  numbers = numbers m;
+}
+
+pub true_to_origin : (m : Mode) → IsTrueToOrigin (state faultless (core_of (calm m)))
+true_to_origin m = record {
+  since = no_fault m;
+  missing = λ disk is. inl is;
+  stale = λ p is. inl (one_stale (calls_stale (status_of fresh) p) is);
+}
+
+pub beginnings_are_sound : BeginningsAreSound
+beginnings_are_sound m = record {
+  fitting = fits m;
+  told = told m;
+  placed = placed m (status_of fresh);
+  buffers = λ n. omega arith;
+  none_lost = λ lit n. none_out n;
+  quiet = λ none. refl;
+  on = λ e. record { going = goes_on m; rows = tt; caused = tt };
+  lit = λ e. record { power = refl; freed = refl };
+  dark = λ e. not_so e;
+  off = λ e. on_is_not_off e;
+  over = λ e. not_so e;
+  answered = tt;
+  copy = tt;
+  origin = true_to_origin m;
+}
+
+-- ---- with a write that is held
+
+-- none of its targets, of which there are none, has a transfer out
+none_there : (target : ℕ) → target_flies target (asking 1 a_write phase.Held []) ≡ false
+none_there zero = refl
+none_there (suc target) = refl
+
+pub one_is_asked : IsAsked (Begun begun_write ∷ []) (asking 1 a_write phase.Held [])
+one_is_asked = record {
+  request = begun_write;
+  told = refl;
+  client = refl;
+  vol = refl;
+  at = refl;
+  count = refl;
+  write = refl;
+  length = λ e. refl;
+  place = refl;
+  outcome = refl;
+  answered = λ e. not_either e;
+}
+
+module _ (m : Mode) where
+  held_fits : IsFitting (core_of (held_write m))
+  held_fits = fitting (held_write m) (omega arith) (omega arith) (omega arith) (notes_fit m)
+
+  held_is_told : IsTold (core_of (held_write m))
+  held_is_told = record { table = record { ascending = (tt, tt); still = (λ e. refl, tt) }; each = λ id. by (1 == id); requests = (one_is_asked, tt) }
+    where
+      by : (t : Bool) → is_some (if t then Some begun_write else None) && true ≡ t || false
+      by true = refl
+      by false = refl
+
+  held_owns : AreOwned (core_of (held_write m))
+  held_owns (owner.Data id target) = by (1 == id) (target_flies target (asking 1 a_write phase.Held [])) (none_there target)
+    where
+      by : (s t : Bool) → t ≡ false → ◌≡◌ {A = ℕ} 0 (count_if (s && t || false))
+      by true t e = sym (ap (λ (u : Bool). count_if (u || false)) e)
+      by false t e = refl
+  held_owns (owner.Status disk) = owned m (owner.Status disk)
+  held_owns (owner.Note disk) = owned m (owner.Note disk)
+  held_owns owner.Copy = refl
+
+  held_request : IsOpenOne (core_of (held_write m)) (asking 1 a_write phase.Held [])
+  held_request = record {
+    laid = record {
+      within = record { row = mirror m; volume = refl; within = omega arith; some = omega arith; fits = omega arith };
+      blocks = record { some = omega arith; end = omega arith; group = omega arith; whole = λ e. not_so e };
+      most = omega arith;
+      id = omega arith;
+    };
+    waits = λ e. record {
+      targets = tt;
+      shape = (refl, refl);
+      hand = refl;
+      room = tt;
+      differ = λ i j d below within. absurd (omega (arith, below, within));
+      free = λ past. not_so past;
+      noted = λ active write. tt;
+      marked = λ passive waits. not_so waits;
+      uncaught = λ write. tt;
+      due = λ waits. not_so waits;
+      one = λ read. not_either read;
+    };
+    over = λ e. not_either e;
+    still = λ e. not_either e;
+  }
+
+held_numbers : (m : Mode) → 3 + updates_left (core_of (held_write m)) < 2 ^ 32
+unfolding has_bit has
+held_numbers mode.Active = omega arith
+held_numbers mode.Passive = omega arith
+held_numbers mode.Off = omega arith
+
+held_goes_on : (m : Mode) → IsGoing (core_of (held_write m))
+held_goes_on m = record {
+  fitting = held_fits m;
+  told = held_is_told m;
+  status = status_is_sound m fresh;
+  owned = held_owns m;
+  tickets = tt;
+  queue = refl;
+  pinned = λ lv group. refl;
+  requests = (held_request m, tt);
+  copy = tt;
+  hands = λ n. omega arith;
+  behind = λ p is. none_behind m false p is;
+  reviewed = refl;
+  clearings = λ p held clear. none_cleared (calls_stale (status_of fresh) p) held clear;
+  numbers = held_numbers m;
+}
+
+pub held_writes_are_sound : HeldWritesAreSound
+held_writes_are_sound m = record {
+  fitting = held_fits m;
+  told = held_is_told m;
+  placed = placed m (status_of fresh);
+  buffers = λ n. omega arith;
+  none_lost = λ lit n. none_out n;
+  quiet = λ none. refl;
+  on = λ e. record { going = held_goes_on m; rows = tt; caused = (λ waits. tt, tt) };
+  lit = λ e. record { power = refl; freed = refl };
+  dark = λ e. not_so e;
+  off = λ e. on_is_not_off e;
+  over = λ e. not_so e;
+  answered = (tt, tt);
+  copy = tt;
+  origin = record { since = (true_to_origin m).since; missing = (true_to_origin m).missing; stale = (true_to_origin m).stale };
+}
