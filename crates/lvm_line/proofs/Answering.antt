@@ -2,8 +2,8 @@
 use Rattle.std.proofs.Common.{Option, Some, None, Result, Ok, IfSome}
 use Rattle.lvm_parse.specs.declared.command.Command.{Command}
 use Rattle.lvm_parse.specs.declared.command.Command.TheVariants as command
-use Rattle.lvm_parse.specs.declared.rest.Misfit.{Misfit}
-use Rattle.lvm_parse.specs.Rests.{IsMkvgLine}
+use Rattle.lvm_operands.specs.declared.rest.Misfit.{Misfit}
+use Rattle.lvm_operands.specs.Rests.{IsMkvgLine}
 use Rattle.lvm_line.specs.Lines.{IsChange}
 
 -- what holds of an answer that there is

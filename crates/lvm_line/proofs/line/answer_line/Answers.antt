@@ -2,9 +2,9 @@ use Rattle.std.proofs.Common.{◌≡◌, ◌∙◌, ap, subst, sym, refl, None, 
 use Rattle.lvm_core.specs.declared.parts.Room.{Room}
 use Rattle.lvm_vol.specs.Log.{Log}
 use Rattle.lvm_parse.specs.declared.command.Command.{Command}
-use Rattle.lvm_parse.specs.declared.rest.Misfit.{Misfit}
+use Rattle.lvm_operands.specs.declared.rest.Misfit.{Misfit}
 use Rattle.lvm_parse.specs.Grammar.{line_of}
-use Rattle.lvm_parse.specs.Reading.{misfit}
+use Rattle.lvm_operands.specs.Reading.{misfit}
 use Rattle.lvm_line.specs.Lines.{CommandDoes, IsLine, IsChange}
 use Rattle.lvm_line.specs.Stages.{shelf_in, history_in, state_in}
 use Rattle.lvm_line.specs.State.{without_facts}
