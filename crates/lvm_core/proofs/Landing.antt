@@ -10,7 +10,7 @@ use Rattle.std.proofs.lemmas.Bool.{ne_eqb}
 use Rattle.lvm_vol.specs.declared.entry.Outcome.TheVariants as outcome
 use Rattle.lvm_vol.specs.Facts.{Fact, Landed, begun}
 use Rattle.lvm_vol.specs.Log.{Log, asked, is_open, lands_id, with_fact, landed_fact, no_request, request_of, cut_log}
-use Rattle.lvm_vol.proofs.Entering.{found_of, and_left}
+use Rattle.lvm_vol.proofs.Asking.{found_of, and_left}
 use Rattle.lvm_core.specs.declared.request.Open.{Open}
 use Rattle.lvm_core.specs.Dark.{is_waiting, darkened, dark_facts, IsAscending, AreOpen, AreTold, dark_log}
 use Rattle.lvm_core.specs.Sound.{waits}

@@ -34,11 +34,12 @@ use crate::prepared::Prepared;
 use crate::request::Power;
 use crate::session::Session;
 use lvm_disk::{Arrange, Shelf};
+use lvm_history::History;
 use lvm_move::Patience;
 use lvm_num::{Descriptor, Memory, Name, Pp, Stamp};
 use lvm_quorum::Homes;
 use lvm_stale::StaleTable;
-use lvm_vol::{Entry, History};
+use lvm_vol::Entry;
 use std::alloc::Global;
 use std::marker::Model;
 

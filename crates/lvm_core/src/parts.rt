@@ -16,6 +16,7 @@ use crate::look::are_placed;
 use crate::request::{Open, Power};
 use crate::session::Session;
 use lvm_disk::Shelf;
+use lvm_history::History;
 use lvm_hold::Queue;
 use lvm_mwc::Cache;
 use lvm_num::{Descriptor, DiskSet, Memory, Stamp, Status};
@@ -23,7 +24,7 @@ use lvm_pbuf::Pool;
 use lvm_quorum::{Choice, Homes};
 use lvm_stale::StaleTable;
 use lvm_status::Updater;
-use lvm_vol::{Entry, History};
+use lvm_vol::Entry;
 use std::alloc::Global;
 use std::marker::Model;
 

@@ -5,13 +5,14 @@ ghost use Rattle.lvm_core.specs.Fields.{core_of};
 
 use crate::request::{Open, OpenCopy, Power};
 use lvm_disk::Arrange;
+use lvm_history::History;
 use lvm_hold::Queue;
 use lvm_mwc::Cache;
 use lvm_num::Descriptor;
 use lvm_pbuf::Pool;
 use lvm_quorum::Homes;
 use lvm_status::Updater;
-use lvm_vol::{History, Outcome};
+use lvm_vol::Outcome;
 
 // What a driver has beside its shelf.
 #[derive(Drop)]

@@ -23,10 +23,11 @@ use crate::plan::Plan;
 use crate::write::write;
 use lvm_core::{Cause, Parts, Room};
 use lvm_disk::Shelf;
+use lvm_history::History;
 use lvm_move::Patience;
 use lvm_num::{Memory, Name};
 use lvm_quorum::Homes;
-use lvm_vol::{Entry, History, Vol};
+use lvm_vol::{Entry, Vol};
 use std::alloc::Global;
 
 /// What is asked of a new group beside its disks and its moment.

@@ -19,9 +19,9 @@ ghost use Rattle.lvm_group.specs.Made.{MkvgGives, shelf_left, history_left};
 use crate::make::{Asked, make};
 use lvm_core::{Driver, Refused, Room};
 use lvm_disk::Shelf;
+use lvm_history::History;
 use lvm_move::Patience;
 use lvm_num::{Name, Stamp};
-use lvm_vol::History;
 use std::alloc::Global;
 
 /// Makes a group of the disks named, in their order, and varies it on at the moment, which is its id too. Without a size

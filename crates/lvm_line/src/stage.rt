@@ -9,8 +9,8 @@ ghost use Rattle.lvm_line.specs.Stages.{shelf_in, history_in, session_in, histor
 use crate::reply::{Refusal, Reply};
 use lvm_core::{Closed, Driver};
 use lvm_disk::{Arrange, Shelf};
+use lvm_history::History;
 use lvm_num::Name;
-use lvm_vol::History;
 
 /// What stands between two lines: no group is on, or one is.
 #[derive(Drop)]

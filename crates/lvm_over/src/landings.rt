@@ -9,7 +9,8 @@ ghost use Rattle.lvm_over.specs.Hands.{AreInHand, IsOutIf, back_if};
 use lvm_num::Pbuf;
 use lvm_pbuf::Pool;
 use lvm_session::Open;
-use lvm_vol::{History, Outcome};
+use lvm_history::History;
+use lvm_vol::Outcome;
 
 // Whether it hasn't landed.
 fn is_waiting(open: &Open) -> bool

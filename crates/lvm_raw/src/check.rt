@@ -5,7 +5,7 @@ ghost use Rattle.lvm_raw.specs.Pieces.{piece_count, piece_end};
 
 use crate::fault::RawFault;
 use lvm_disk::Shelf;
-use lvm_vol::History;
+use lvm_history::History;
 
 // The first sector of a disk's data.
 const DATA: u64 = 4096;

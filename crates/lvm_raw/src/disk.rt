@@ -15,9 +15,9 @@ use crate::fault::RawFault;
 use crate::look::look;
 use crate::pieces::{read_pieces, write_pieces};
 use lvm_disk::Shelf;
+use lvm_history::History;
 use lvm_move::Patience;
 use lvm_num::Rows;
-use lvm_vol::History;
 use std::alloc::Global;
 
 // The bytes of a whole buffer.

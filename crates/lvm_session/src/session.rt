@@ -10,7 +10,7 @@ use lvm_num::Descriptor;
 use lvm_pbuf::Pool;
 use lvm_quorum::Homes;
 use lvm_status::Updater;
-use lvm_vol::History;
+use lvm_history::History;
 
 /// What a driver has beside its shelf.
 #[derive(Drop)]

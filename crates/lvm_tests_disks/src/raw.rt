@@ -4,11 +4,12 @@ use Answer::*;
 use Ask::*;
 use lvm_disk::Shelf;
 use lvm_faults::{Act, Planned};
+use lvm_history::History;
 use lvm_memory::MemShelf;
 use lvm_move::{Patience, relight};
 use lvm_num::{Rows, fill};
 use lvm_raw::{RawFault, read_disk, write_disk};
-use lvm_vol::{Entry, History, Outcome};
+use lvm_vol::{Entry, Outcome};
 use std::process::Abort;
 
 // Blocks of a disk from one on, so many, the first of which is filled with the word, and each other with

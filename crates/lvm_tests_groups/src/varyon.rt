@@ -3,11 +3,11 @@ use crate::fixtures::{Begin, begin_first, blank_shelf, group, images_of, name_of
 use lvm_core::{Cause, Driver, Room};
 use lvm_disk::{Arrange, Shelf};
 use lvm_faults::{Act, Planned};
+use lvm_history::History;
 use lvm_memory::MemShelf;
 use lvm_move::{Patience, relight};
 use lvm_num::Pp;
 use lvm_varyon::varyon;
-use lvm_vol::History;
 use std::process::Abort;
 
 const GROUP: u64 = 50;

@@ -5,9 +5,10 @@ ghost use Rattle.lvm_turn.specs.Views.{numbers, up_to};
 ghost use Rattle.lvm_turn.specs.Calls.{IsIdle};
 
 use crate::fixtures::check;
+use lvm_history::History;
 use lvm_num::Memory;
 use lvm_turn::{Pass, Turn};
-use lvm_vol::{Entry, History, Past, Shown, Vol};
+use lvm_vol::{Entry, Past, Shown, Vol};
 use std::alloc::Global;
 use std::process::Abort;
 use std::sync::Wait;

@@ -2,8 +2,9 @@ ghost use Rattle.std.specs.Prelude.{◌≤◌};
 ghost use Rattle.lvm_vol.specs.Log.{spare_entries};
 
 use crate::fixtures::check;
+use lvm_history::History;
 use lvm_num::Mode;
-use lvm_vol::{Entry, History, Outcome, Vol};
+use lvm_vol::{Entry, Outcome, Vol};
 use std::process::Abort;
 
 // What is entered, about block 5 of a volume; ids count the requests from 1.

@@ -14,7 +14,7 @@ use Rattle.lvm_vol.specs.Laws.{LegalPrefix, LegalPush, LegalThrough}
 use Rattle.lvm_vol.specs.Log.{Log, next_request, request_of, lands_id, takes_id, is_open, is_answered}
 use Rattle.lvm_vol.specs.Order.{Ordered}
 use Rattle.lvm_vol.proofs.Order.{stands-push, stands_last, stands_left, stands_begun, any-push, IsNumbered, numbered}
-use Rattle.lvm_vol.proofs.Entering.{open_of, follows_taken}
+use Rattle.lvm_vol.proofs.Asking.{open_of, follows_taken}
 
 legal_more : (past facts : List Fact) (f : Fact) → LegalFrom past facts → Fits (past ++ facts) f → LegalFrom past (facts ++ f ∷ [])
 legal_more past [] f legal fits = (subst (λ (l : List Fact). Fits l f) (append-nil past) fits, tt)

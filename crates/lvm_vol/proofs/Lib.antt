@@ -1,10 +1,5 @@
 pub mod Order
-pub mod Keeping
-pub mod Counting
-pub mod Entering
+pub mod Asking
 pub mod Knowing
 pub mod Legality
-pub mod Looking
-pub mod Judging
-pub mod Staying
 pub mod Growing

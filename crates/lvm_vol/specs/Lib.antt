@@ -5,8 +5,4 @@ pub mod Standing
 pub mod Laws
 pub mod Log
 pub mod Order
-pub mod Rows
-pub mod Seen
-pub mod Fitting
-pub mod Opened
 pub mod Fronts

@@ -1,0 +1,6 @@
+pub mod Keeping
+pub mod Counting
+pub mod Entering
+pub mod Looking
+pub mod Judging
+pub mod Staying

@@ -1,0 +1,85 @@
+use Rattle.std.proofs.Common.{◌≡◌, ℕ, ◌-◌, ◌≤◌, ◌+◌, ◌/◌, ◌++◌, List, length, take, drop, true, refl, ◌∙◌, ap, arith}
+use Rattle.std.proofs.lemmas.List.{get_or_default}
+use Rattle.std.specs.Simd.{first_chunks}
+use Rattle.lvm_vol.specs.declared.entry.Outcome.TheVariants as outcome
+use Rattle.lvm_history.specs.declared.row.Ask.{Ask}
+use Rattle.lvm_history.specs.Opened.{kept_of}
+use Rattle.lvm_history.specs.Rows.{Kept, no_ask, ask_of}
+use Rattle.lvm_vol.specs.Facts.{Landed}
+use Rattle.lvm_vol.specs.Log.{request_of}
+use Rattle.lvm_history.proofs.Entering.{Adds, read_adds, landed_answered, landed_room, awaited_of, chunks_count, length-first_chunks_of, log_ask, open_some}
+use Rattle.lvm_history.proofs.history.History.land_read.Goals as goal
+
+pub overflow_sub-id : goal.overflow_sub-id
+overflow_sub-id c =
+    let waits = awaited_of c.args.self.now.facts c.args.id c.requires.read in
+    let its = log_ask (kept_of c.self.inside) c.args.self.now c.args.id c.self.invariant c.self.view_is (open_some c.args.self.now.facts c.args.id waits.still) in
+    its.low
+
+pub index-requires : goal.index-requires
+index-requires c =
+    let waits = awaited_of c.args.self.now.facts c.args.id c.requires.read in
+    let its = log_ask (kept_of c.self.inside) c.args.self.now c.args.id c.self.invariant c.self.view_is (open_some c.args.self.now.facts c.args.id waits.still) in
+    let high = its.high in
+    omega (arith, high, c.self.inside.asks.ok.0)
+
+-- the request's place, and how many blocks there are
+record Read (c : goal.After-overwrite-arg-2-1) : Type 0 where
+  place : c.index.result.now.place ≡ (ask_of c.self.inside.asks.items c.args.id).place
+  size : length c.args.bytes.now / 512 ≡ (request_of c.args.self.now.facts c.args.id).count
+  within : (ask_of c.self.inside.asks.items c.args.id).place + (request_of c.args.self.now.facts c.args.id).count ≤ length c.self.inside.blocks.items
+
+read : (c : goal.After-overwrite-arg-2-1) → Read c
+read c =
+    let waits = awaited_of c.args.self.now.facts c.args.id c.requires.read in
+    let its = log_ask (kept_of c.self.inside) c.args.self.now c.args.id c.self.invariant c.self.view_is (open_some c.args.self.now.facts c.args.id waits.still) in
+    record {
+      place = ap (λ (a : Ask). a.place) (c.index.ensures ∙ get_or_default c.self.inside.asks.items (c.args.id - 1) c.index.result.now no_ask its.high);
+      size = chunks_count (length c.args.bytes.now) (request_of c.args.self.now.facts c.args.id).count (c.requires.length (request_of c.args.self.now.facts c.args.id).count waits.size);
+      within = its.within;
+    }
+
+pub overwrite-requires : goal.overwrite-requires
+overwrite-requires c =
+    let its = read c in let place = its.place in let size = its.size in let within = its.within in
+    omega (arith, place, size, within, c.as_chunks.ensures.front_len, c.self.inside.blocks.ok.0)
+
+pub append-requires : goal.append-requires
+append-requires c =
+    let waits = awaited_of c.args.self.now.facts c.args.id c.requires.read in
+    omega (arith, landed_room (kept_of c.self.inside) c.args.self.now c.args.id outcome.Got true c.self.invariant c.self.view_is waits.still, c.self.inside.rows.ok.0)
+
+abbrev new : goal.After-append → Kept
+new c = kept_of (record c.self.inside { rows = c.append.new.items; blocks = c.overwrite.new.blocks })
+
+adds : (c : goal.After-append) → Adds c.args.self.now (new c) (Landed (request_of c.args.self.now.facts c.args.id) outcome.Got true (first_chunks 512 (request_of c.args.self.now.facts c.args.id).count c.args.bytes.now))
+adds c =
+    let waits = awaited_of c.args.self.now.facts c.args.id c.requires.read in
+    let count : ℕ = (request_of c.args.self.now.facts c.args.id).count in
+    let its = log_ask (kept_of c.self.inside) c.args.self.now c.args.id c.self.invariant c.self.view_is (open_some c.args.self.now.facts c.args.id waits.still) in
+    let size = chunks_count (length c.args.bytes.now) (request_of c.args.self.now.facts c.args.id).count (c.requires.length (request_of c.args.self.now.facts c.args.id).count waits.size) in
+    let place : c.index.result.now.place ≡ (ask_of c.self.inside.asks.items c.args.id).place = ap (λ (a : Ask). a.place) (c.index.ensures ∙ get_or_default c.self.inside.asks.items (c.args.id - 1) c.index.result.now no_ask its.high) in
+    let chunks : c.as_chunks.result.0.now ≡ first_chunks 512 (request_of c.args.self.now.facts c.args.id).count c.args.bytes.now =
+    c.as_chunks.ensures.front ∙ ap (λ (n : ℕ). first_chunks 512 n c.args.bytes.now) size in
+    read_adds (kept_of c.self.inside) (new c) c.args.self.now c.args.id (first_chunks 512 (request_of c.args.self.now.facts c.args.id).count c.args.bytes.now) c.self.invariant c.self.view_is c.requires.read
+    (length-first_chunks_of 512 (request_of c.args.self.now.facts c.args.id).count c.args.bytes.now)
+    (record {
+      its_rows = c.append.ensures.items;
+      its_blocks = c.overwrite.ensures.items
+          ∙ ap (λ (n : ℕ). take n c.self.inside.blocks.items ++ c.as_chunks.result.0.now ++ drop (n + length c.as_chunks.result.0.now) c.self.inside.blocks.items) place
+          ∙ ap (λ (l : List (List ℕ)). take (ask_of c.self.inside.asks.items c.args.id).place c.self.inside.blocks.items ++ l ++ drop ((ask_of c.self.inside.asks.items c.args.id).place + length l) c.self.inside.blocks.items) chunks;
+      rest = refl;
+      more_rows = c.append.ensures.capacity;
+      more_blocks = let same = c.overwrite.ensures.capacity in omega (arith, same);
+    })
+
+pub invariant_of-self : goal.invariant_of-self
+invariant_of-self c = (adds c).sound
+
+pub returns-clause-entered : goal.returns-clause-entered
+returns-clause-entered c = (adds c).shown
+
+pub returns-clause-answered : goal.returns-clause-answered
+returns-clause-answered c =
+    let waits = awaited_of c.args.self.now.facts c.args.id c.requires.read in
+    landed_answered (kept_of c.self.inside) (new c) c.args.self.now c.args.id outcome.Got true _ c.self.invariant c.self.view_is waits.still (adds c)

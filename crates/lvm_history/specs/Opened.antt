@@ -1,0 +1,26 @@
+-- A history's fields as what it keeps.
+use Rattle.std.specs.Prelude.{vec_capacity}
+use Rattle.lvm_history.specs.declared.history.History.TheInside.{Inside}
+use Rattle.lvm_vol.specs.Log.{Log}
+use Rattle.lvm_history.specs.Rows.{Kept, log_of, IsSound}
+
+abbrev pub kept_of : Inside → Kept
+kept_of h = record {
+  run = h.run;
+  room = h.room;
+  bytes = h.bytes;
+  rows = h.rows.items;
+  asks = h.asks.items;
+  blocks = h.blocks.items;
+  need_now = h.needed;
+  uncut = h.uncut;
+  rows_room = vec_capacity h.rows;
+  asks_room = vec_capacity h.asks;
+  blocks_room = vec_capacity h.blocks;
+}
+
+abbrev pub log_shown : Inside → Log
+log_shown h = log_of (kept_of h)
+
+abbrev pub IsInOrder : Inside → Type 0
+IsInOrder h = IsSound (kept_of h)
