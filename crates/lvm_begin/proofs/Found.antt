@@ -9,7 +9,7 @@ use Rattle.lvm_kept.specs.Contents.{Contents}
 use Rattle.lvm_kept.specs.Group.{if_passes, passes, is_of, is_status_of, has_room, is_voter, status_among, Finds, members_in, fresh_on, fresh, IsSome}
 use Rattle.lvm_kept.specs.Torn.{DescriptorsChange}
 use Rattle.lvm_kept.proofs.Finding.{finding_reads}
-use Rattle.lvm_change.specs.VaryingOn.{AreShowing, MayRestamp, HasNewest, Carries, MayRestate}
+use Rattle.lvm_steps.specs.VaryingOn.{AreShowing, MayRestamp, HasNewest, Carries, MayRestate}
 
 module _ (old : Contents) (shown : ℕ → Option (Stamped Descriptor)) (group : Descriptor) (disks targets : Disks) (next : Stamped Descriptor)
     (own : (d : ℕ) → (shown d ≡ old.descriptor d) ⊎ (IsTrue (targets d) × (shown d ≡ Some next))) (value : next.value ≡ group) (showing : AreShowing old group.id targets) (found : Finds old disks group.id group) where

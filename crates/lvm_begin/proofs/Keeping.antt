@@ -5,8 +5,8 @@ use Rattle.lvm_disk.specs.Paths.{DeviceStep, Path}
 use Rattle.lvm_disk.proofs.Paths.{append-path, map-path, last-path}
 use Rattle.lvm_kept.specs.Plans.{ChangesBy}
 use Rattle.lvm_kept.specs.Torn.{Writing, brings}
-use Rattle.lvm_change.specs.Moments.{StaysKept}
-use Rattle.lvm_change.specs.Making.{IsWritten, LeavesOnly}
+use Rattle.lvm_steps.specs.Moments.{StaysKept}
+use Rattle.lvm_steps.specs.Making.{IsWritten, LeavesOnly}
 use Rattle.lvm_quorum.specs.Written.{IsWriting}
 use Rattle.lvm_quorum.proofs.Writing.{told_at}
 

@@ -14,10 +14,10 @@ use Rattle.lvm_kept.specs.Plans.{ChangesBy}
 use Rattle.lvm_kept.specs.Torn.{MayWriteAll, StandsOn, DescriptorsChange, StatusesChange, written as as_read, Alone, Note}
 use Rattle.lvm_kept.proofs.Finding.{images_within}
 use Rattle.lvm_kept.proofs.Records.{descriptor_shows, status_shows}
-use Rattle.lvm_change.specs.Moments.{StaysKept}
-use Rattle.lvm_change.specs.VaryingOn.{AreShowing, HasNewest, MayRestate}
-use Rattle.lvm_change.proofs.Following.{restamp_is_newest, newest_stays_newest, descriptor_varies_on, status_varies_on, notes_vary_on}
-use Rattle.lvm_change.proofs.Writable.{writable_stays, records_are_outside}
+use Rattle.lvm_steps.specs.Moments.{StaysKept}
+use Rattle.lvm_steps.specs.VaryingOn.{AreShowing, HasNewest, MayRestate}
+use Rattle.lvm_steps.proofs.Following.{restamp_is_newest, newest_stays_newest, descriptor_varies_on, status_varies_on, notes_vary_on}
+use Rattle.lvm_steps.proofs.Writable.{writable_stays, records_are_outside}
 use Rattle.lvm_quorum.specs.Notes.{empty_note}
 use Rattle.lvm_quorum.proofs.Writing.{both_at, told_at}
 use Rattle.lvm_begin.specs.Beginning.{Beginning, Part, TheDescriptor, TheStatus, TheNotes, describes, states, brought, again_order, IsOfParts, MayBeginAgain}
@@ -38,7 +38,7 @@ module _ (b : Beginning) (forget : Bool) (group : Descriptor) (status : Status) 
 
   -- ---- the notes
 
-  module _ (stated : Device) (media : Media) (told : stated.media ≡ Some media) (still : stated.flights ≡ []) (quiet : IsTrue forget → Rattle.lvm_change.specs.VaryingOn.HasNoActive group)
+  module _ (stated : Device) (media : Media) (told : stated.media ≡ Some media) (still : stated.flights ≡ []) (quiet : IsTrue forget → Rattle.lvm_steps.specs.VaryingOn.HasNoActive group)
       (has : HasNewest (contents_of (image_of stated.sizes media)) group disks newest) (showing : AreShowing (contents_of (image_of stated.sizes media)) group.id b.targets) (new : Device) where
     notes_kept : AreBegun b (if forget then TheNotes ∷ [] else []) stated new → Path DeviceStep (StaysKept stated) stated new
     notes_kept begun = by_forget forget refl begun
@@ -50,7 +50,7 @@ module _ (b : Beginning) (forget : Bool) (group : Descriptor) (status : Status) 
 
   -- ---- the status
 
-  module _ (described : Device) (media : Media) (told : described.media ≡ Some media) (still : described.flights ≡ []) (quiet : IsTrue forget → Rattle.lvm_change.specs.VaryingOn.HasNoActive group)
+  module _ (described : Device) (media : Media) (told : described.media ≡ Some media) (still : described.flights ≡ []) (quiet : IsTrue forget → Rattle.lvm_steps.specs.VaryingOn.HasNoActive group)
       (state : MayWriteAll Status status_of (states b) status (image_of described.sizes media))
       (restate : MayRestate (contents_of (image_of described.sizes media)) group disks b.targets newest was (as_read (states b) status)) (new : Device) where
     state_path : (next : Device) → Path DeviceStep (Rattle.lvm_quorum.specs.Written.IsWriting (brought b TheStatus) described) described next → Path DeviceStep (StaysKept described) described next

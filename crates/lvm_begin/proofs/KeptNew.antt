@@ -13,10 +13,10 @@ use Rattle.lvm_kept.specs.Contents.{Contents, contents_of}
 use Rattle.lvm_kept.specs.Kept.{Kept}
 use Rattle.lvm_kept.specs.Plans.{ChangesBy}
 use Rattle.lvm_kept.specs.Torn.{written as as_read}
-use Rattle.lvm_change.specs.Moments.{StaysKept}
-use Rattle.lvm_change.specs.Making.{MayMake}
-use Rattle.lvm_change.proofs.Making.{media_may}
-use Rattle.lvm_change.proofs.NoVolumes.{notes_may_change, statuses_may_change, descriptors_may_change}
+use Rattle.lvm_steps.specs.Moments.{StaysKept}
+use Rattle.lvm_steps.specs.Making.{MayMake}
+use Rattle.lvm_steps.proofs.Making.{media_may}
+use Rattle.lvm_steps.proofs.NoVolumes.{notes_may_change, statuses_may_change, descriptors_may_change}
 use Rattle.lvm_quorum.specs.Written.{IsWriting}
 use Rattle.lvm_quorum.proofs.Writing.{told_at}
 use Rattle.lvm_begin.specs.Beginning.{Beginning, describes, states, new_order, IsOfParts, MayBeginNew}

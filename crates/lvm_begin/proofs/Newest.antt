@@ -18,8 +18,8 @@ use Rattle.lvm_kept.specs.Group.{if_passes, passes, is_of, is_status_of, has_roo
 use Rattle.lvm_kept.specs.Committed.{IsWithinDisks}
 use Rattle.lvm_kept.specs.Torn.{written as as_read, DescriptorsChange}
 use Rattle.lvm_kept.proofs.Finding.{some_same, offered, offers, is_offered, finding_reads, finds_from, images_within}
-use Rattle.lvm_change.specs.VaryingOn.{HasNewest}
-use Rattle.lvm_change.proofs.Following.{restamp_is_newest, newest_stays_newest}
+use Rattle.lvm_steps.specs.VaryingOn.{HasNewest}
+use Rattle.lvm_steps.proofs.Following.{restamp_is_newest, newest_stays_newest}
 use Rattle.lvm_begin.specs.Beginning.{Beginning, describes, states, MayBeginNew, MayBeginAgain}
 use Rattle.lvm_begin.specs.Shown.{HasBegun}
 use Rattle.lvm_begin.specs.Newest.{FindsBeginning, AllFindNewest, NewIsFound, AgainIsFound, StatusIsLast}

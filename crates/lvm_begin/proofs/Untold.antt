@@ -7,7 +7,7 @@ use Rattle.lvm_disk.specs.Device.{Media, Device, image_of, IsCrashImage}
 use Rattle.lvm_disk.specs.Steps.{BothTold, Cuts, Arranges, with_order}
 use Rattle.lvm_disk.specs.Paths.{DeviceStep, Started, WasCut, Ended, Broke, Waited, Freed, Lit, Arranged, Path, Here, Then}
 use Rattle.lvm_disk.proofs.Paths.{map-path, last-path}
-use Rattle.lvm_change.specs.Moments.{StaysKept}
+use Rattle.lvm_steps.specs.Moments.{StaysKept}
 
 both_none : (o n : Option Media) (R : Media → Media → Type 0) → BothTold o n R → o ≡ None → n ≡ None
 both_none None None R both none = refl

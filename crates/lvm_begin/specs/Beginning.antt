@@ -13,8 +13,8 @@ use Rattle.lvm_kept.specs.Contents.{contents_of}
 use Rattle.lvm_kept.specs.Group.{is_voter, status_among, Finds}
 use Rattle.lvm_kept.specs.Plans.{Plan}
 use Rattle.lvm_kept.specs.Torn.{RecordWrite, MayWriteAll, written as as_read, IsOfRecord, IsOfNote}
-use Rattle.lvm_change.specs.Making.{MayMake, IsUnused}
-use Rattle.lvm_change.specs.VaryingOn.{MayRestamp, Carries, HasNoActive}
+use Rattle.lvm_steps.specs.Making.{MayMake, IsUnused}
+use Rattle.lvm_steps.specs.VaryingOn.{MayRestamp, Carries, HasNoActive}
 use Rattle.lvm_quorum.specs.declared.homes.Homes.{Homes}
 use Rattle.lvm_quorum.specs.Notes.{empty_note, NoteTold}
 use Rattle.lvm_quorum.specs.Written.{write_of, StandsTold}

@@ -6,7 +6,7 @@ use Rattle.lvm_num.specs.Disks.{Disks}
 use Rattle.lvm_num.specs.Record.{Stamped}
 use Rattle.lvm_disk.specs.Device.{Device, image_of}
 use Rattle.lvm_disk.specs.Paths.{DeviceStep, Path}
-use Rattle.lvm_change.specs.Moments.{StaysKept}
+use Rattle.lvm_steps.specs.Moments.{StaysKept}
 use Rattle.lvm_begin.specs.Beginning.{Beginning, MayBeginNew, MayBeginAgain}
 
 -- a new group's, where what stands on the media lets them be made

@@ -11,7 +11,7 @@ use Rattle.lvm_kept.specs.Contents.{Contents, contents_of}
 use Rattle.lvm_kept.specs.Group.{has_room, is_voter, status_among, Finds}
 use Rattle.lvm_kept.specs.Committed.{IsWithinDisks}
 use Rattle.lvm_kept.specs.Torn.{written as as_read}
-use Rattle.lvm_change.specs.VaryingOn.{HasNewest}
+use Rattle.lvm_steps.specs.VaryingOn.{HasNewest}
 use Rattle.lvm_begin.specs.Beginning.{Beginning, describes, states, MayBeginNew, MayBeginAgain}
 use Rattle.lvm_begin.specs.Shown.{HasBegun}
 

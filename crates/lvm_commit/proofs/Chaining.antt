@@ -16,7 +16,7 @@ use Rattle.lvm_disk.proofs.Stepping.{step_counts}
 use Rattle.lvm_kept.specs.Plans.{Plan, ChangesBy}
 use Rattle.lvm_kept.specs.Torn.{RecordWrite}
 use Rattle.lvm_status.specs.Update.{Stored}
-use Rattle.lvm_change.proofs.Booleans.{either, clash}
+use Rattle.lvm_steps.proofs.Booleans.{either, clash}
 use Rattle.lvm_quorum.specs.declared.homes.Homes.{Homes}
 use Rattle.lvm_quorum.specs.Parts.{Spends}
 use Rattle.lvm_quorum.specs.Written.{KeepsShelf}

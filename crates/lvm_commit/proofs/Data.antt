@@ -17,7 +17,7 @@ use Rattle.lvm_kept.specs.Kept.{Kept}
 use Rattle.lvm_kept.specs.Changes.{BlocksChange}
 use Rattle.lvm_kept.proofs.Changing.{data_keeps}
 use Rattle.lvm_kept.proofs.Finding.{finding_reads}
-use Rattle.lvm_change.proofs.Booleans.{split, no_some}
+use Rattle.lvm_steps.proofs.Booleans.{split, no_some}
 use Rattle.lvm_commit.specs.Committed.{ShowsCommitted}
 use Rattle.lvm_commit.specs.LawsOfData.{IsFree, IsSectorOf, PartitionChange, FreeDataKeeps}
 use Rattle.lvm_commit.proofs.Found.{shows_group, only_found}

@@ -18,9 +18,9 @@ use Rattle.lvm_kept.specs.Plans.{ChangesBy}
 use Rattle.lvm_kept.specs.Torn.{RecordWrite, IsOfRecord}
 use Rattle.lvm_stale.specs.Table.{SameMissing}
 use Rattle.lvm_status.specs.Update.{Stored}
-use Rattle.lvm_change.specs.Moments.{ImagesKept, StaysKept}
-use Rattle.lvm_change.proofs.Booleans.{clash}
-use Rattle.lvm_change.proofs.Making.{media_may}
+use Rattle.lvm_steps.specs.Moments.{ImagesKept, StaysKept}
+use Rattle.lvm_steps.proofs.Booleans.{clash}
+use Rattle.lvm_steps.proofs.Making.{media_may}
 use Rattle.lvm_quorum.specs.declared.homes.Homes.{Homes}
 use Rattle.lvm_quorum.specs.Written.{KeepsShelf, IsDarkened, IsGivenUp}
 use Rattle.lvm_quorum.proofs.Transfers.{keeps_then, darkened_then, given_up_then}

@@ -13,7 +13,7 @@ use Rattle.lvm_disk.proofs.Paths.{map-path, last-path}
 use Rattle.lvm_kept.specs.Contents.{contents_of}
 use Rattle.lvm_kept.specs.Torn.{RecordWrite, IsOfRecord}
 use Rattle.lvm_status.specs.Update.{Stored}
-use Rattle.lvm_change.specs.Moments.{ImagesKept}
+use Rattle.lvm_steps.specs.Moments.{ImagesKept}
 use Rattle.lvm_quorum.specs.declared.homes.Homes.{Homes}
 use Rattle.lvm_quorum.specs.Homes.{second_slots}
 use Rattle.lvm_quorum.specs.Written.{IsDarkened, IsGivenUp}

@@ -15,7 +15,7 @@ use Rattle.lvm_kept.specs.Group.{passes, is_of, is_status_of, descriptor_among, 
 use Rattle.lvm_kept.specs.Committed.{DescriptorStands, StatusStands, IsWithinDisks}
 use Rattle.lvm_kept.specs.Kept.{Kept}
 use Rattle.lvm_kept.proofs.Finding.{some_same, offered, is_offered, offers, finding_reads, finds_descriptor, meets_writers, newest_among}
-use Rattle.lvm_change.proofs.Booleans.{clash}
+use Rattle.lvm_steps.proofs.Booleans.{clash}
 use Rattle.lvm_commit.specs.Committed.{IsAlike, ShowsCommitted}
 use Rattle.lvm_commit.specs.Laws.{OnlyCommittedIsFound, CommittedStatusIsRead, NewestIsBeginning}
 use Rattle.lvm_commit.proofs.Members.{shows_of, parts_of, same_votes}

@@ -16,8 +16,8 @@ use Rattle.lvm_kept.specs.Contents.{contents_of}
 use Rattle.lvm_kept.specs.Plans.{ChangesBy}
 use Rattle.lvm_kept.specs.Torn.{RecordWrite, IsOfRecord}
 use Rattle.lvm_status.specs.Update.{Stored}
-use Rattle.lvm_change.specs.Moments.{ImagesKept}
-use Rattle.lvm_change.proofs.Making.{media_may}
+use Rattle.lvm_steps.specs.Moments.{ImagesKept}
+use Rattle.lvm_steps.proofs.Making.{media_may}
 use Rattle.lvm_quorum.specs.declared.homes.Homes.{Homes}
 use Rattle.lvm_quorum.specs.Written.{KeepsShelf, IsWriting}
 use Rattle.lvm_quorum.proofs.Writing.{if_told, told_at, both_from}

@@ -11,7 +11,7 @@ use Rattle.lvm_disk.specs.Steps.{BothTold}
 use Rattle.lvm_kept.specs.Contents.{contents_of}
 use Rattle.lvm_kept.specs.Plans.{ChangesBy}
 use Rattle.lvm_status.specs.Update.{Stored}
-use Rattle.lvm_change.proofs.Making.{media_may}
+use Rattle.lvm_steps.proofs.Making.{media_may}
 use Rattle.lvm_quorum.specs.declared.homes.Homes.{Homes}
 use Rattle.lvm_quorum.proofs.Transfers.{darkened_then, given_up_then}
 use Rattle.lvm_quorum.proofs.Writing.{told_at, both_map}

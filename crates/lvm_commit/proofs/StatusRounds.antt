@@ -17,9 +17,9 @@ use Rattle.lvm_kept.specs.Plans.{ChangesBy}
 use Rattle.lvm_kept.specs.Contents.{contents_of}
 use Rattle.lvm_status.specs.Update.{Stored, members_there}
 use Rattle.lvm_stale.specs.Table.{SameMissing}
-use Rattle.lvm_change.specs.Moments.{StaysKept}
+use Rattle.lvm_steps.specs.Moments.{StaysKept}
 use Rattle.lvm_status.proofs.Sound.{not_false}
-use Rattle.lvm_change.proofs.Booleans.{clash, second}
+use Rattle.lvm_steps.proofs.Booleans.{clash, second}
 use Rattle.lvm_quorum.specs.declared.homes.Homes.{Homes}
 use Rattle.lvm_quorum.proofs.Transfers.{keeps_here, spends_none as none_waited}
 use Rattle.lvm_quorum.proofs.Writing.{if_told}

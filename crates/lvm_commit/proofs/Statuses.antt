@@ -30,9 +30,9 @@ use Rattle.lvm_kept.proofs.Finding.{finding_reads, images_within}
 use Rattle.lvm_kept.proofs.Records.{status_shows}
 use Rattle.lvm_kept.proofs.Restamping.{fewer_blocks}
 use Rattle.lvm_kept.proofs.Restating.{statuses_keep}
-use Rattle.lvm_change.proofs.Booleans.{either, clash, split, not-itself}
-use Rattle.lvm_change.proofs.Making.{stays_by}
-use Rattle.lvm_change.proofs.VaryingOn.{old_or_next}
+use Rattle.lvm_steps.proofs.Booleans.{either, clash, split, not-itself}
+use Rattle.lvm_steps.proofs.Making.{stays_by}
+use Rattle.lvm_steps.proofs.VaryingOn.{old_or_next}
 use Rattle.lvm_commit.specs.Committed.{MayMark}
 use Rattle.lvm_commit.proofs.Free.{all_that_pass}
 use Rattle.lvm_commit.specs.Laws.{MayFollow, StatusFollows, StatusGoesOn}

@@ -22,9 +22,9 @@ use Rattle.lvm_kept.specs.Kept.{Kept}
 use Rattle.lvm_kept.specs.Places.{SameRecords}
 use Rattle.lvm_kept.proofs.Contained.{room-same, data_writes}
 use Rattle.lvm_kept.proofs.Finding.{images_within}
-use Rattle.lvm_change.specs.Moments.{ImagesKept, StaysKept}
-use Rattle.lvm_change.specs.Requests.{IsOfData}
-use Rattle.lvm_change.proofs.Booleans.{no_some}
+use Rattle.lvm_steps.specs.Moments.{ImagesKept, StaysKept}
+use Rattle.lvm_steps.specs.Requests.{IsOfData}
+use Rattle.lvm_steps.proofs.Booleans.{no_some}
 use Rattle.lvm_stamps.proofs.Writes.{data_keeps_before}
 use Rattle.lvm_commit.specs.Committed.{next_stamp, ShowsCommitted}
 use Rattle.lvm_commit.specs.LawsOfData.{IsSectorOf, PartitionChange, IsFlightOf, FreeDataGoesOn, DataKeepsCommitted, StillHoldsCommitted, TransferHoldsCommitted}

@@ -14,8 +14,8 @@ use Rattle.lvm_kept.specs.Group.{IsFound, members_in}
 use Rattle.lvm_kept.specs.Committed.{IsWithinDisks}
 use Rattle.lvm_kept.specs.Kept.{Kept}
 use Rattle.lvm_kept.proofs.Finding.{images_within}
-use Rattle.lvm_change.proofs.Spans.{entry_goes_on}
-use Rattle.lvm_change.proofs.VolumeEntries.{volume_begins, volume_is_made, volume_is_gone}
+use Rattle.lvm_steps.proofs.Spans.{entry_goes_on}
+use Rattle.lvm_steps.proofs.VolumeEntries.{volume_begins, volume_is_made, volume_is_gone}
 use Rattle.lvm_stamps.proofs.Records.{shown_is_before}
 use Rattle.lvm_stamps.proofs.Stamps.{later_is_after_too}
 use Rattle.lvm_commit.specs.Committed.{next_stamp, ShowsCommitted}

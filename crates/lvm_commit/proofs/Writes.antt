@@ -20,7 +20,7 @@ use Rattle.lvm_kept.specs.Torn.{RecordWrite, on_disk, IsOfRecord, StandsOn, MayW
 use Rattle.lvm_kept.proofs.Contained.{room-same}
 use Rattle.lvm_kept.proofs.Finding.{images_within}
 use Rattle.lvm_kept.proofs.Records.{descriptor_shows, status_shows, wider, whole_is_new}
-use Rattle.lvm_change.proofs.Committing.{commit_keeps}
+use Rattle.lvm_steps.proofs.Committing.{commit_keeps}
 use Rattle.lvm_quorum.specs.declared.homes.Homes.{Homes}
 use Rattle.lvm_quorum.specs.Homes.{second_slots, next_slot}
 use Rattle.lvm_quorum.specs.Written.{write_of}

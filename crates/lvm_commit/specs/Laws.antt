@@ -15,9 +15,9 @@ use Rattle.lvm_kept.specs.Group.{IsFound, status_by, Reads}
 use Rattle.lvm_kept.specs.Committed.{IsWithinDisks}
 use Rattle.lvm_kept.specs.Kept.{Kept}
 use Rattle.lvm_kept.specs.Torn.{RecordWrite, MayWriteAll, written as as_read, StatusesChange, DescriptorsChange, Alone}
-use Rattle.lvm_change.specs.Moments.{StaysKept}
-use Rattle.lvm_change.specs.Making.{IsWritten}
-use Rattle.lvm_change.specs.VaryingOn.{HasNewest}
+use Rattle.lvm_steps.specs.Moments.{StaysKept}
+use Rattle.lvm_steps.specs.Making.{IsWritten}
+use Rattle.lvm_steps.specs.VaryingOn.{HasNewest}
 use Rattle.lvm_commit.specs.Committed.{IsAlike, MayMark, Began, ShowsCommitted}
 
 -- ---- what is found

@@ -17,8 +17,8 @@ use Rattle.lvm_kept.specs.Committed.{IsWithinDisks}
 use Rattle.lvm_kept.specs.Kept.{Kept}
 use Rattle.lvm_kept.specs.Places.{SameRecords}
 use Rattle.lvm_kept.specs.Raw.{OnlyAdds}
-use Rattle.lvm_change.specs.Moments.{StaysKept}
-use Rattle.lvm_change.specs.Requests.{IsOfData}
+use Rattle.lvm_steps.specs.Moments.{StaysKept}
+use Rattle.lvm_steps.specs.Requests.{IsOfData}
 use Rattle.lvm_quorum.specs.declared.homes.Homes.{Homes}
 use Rattle.lvm_commit.specs.Committed.{ShowsCommitted, HoldsCommitted}
 

@@ -16,7 +16,7 @@ use Rattle.lvm_kept.specs.Group.{IsFound}
 use Rattle.lvm_kept.specs.Plans.{ChangesBy}
 use Rattle.lvm_kept.specs.Raw.{OnlyAdds}
 use Rattle.lvm_kept.specs.Torn.{IsOfRecord, DescriptorsChange}
-use Rattle.lvm_change.specs.Requests.{IsOfData}
+use Rattle.lvm_steps.specs.Requests.{IsOfData}
 use Rattle.lvm_quorum.specs.declared.homes.Homes.{Homes}
 use Rattle.lvm_quorum.specs.Written.{write_of}
 use Rattle.lvm_stamps.specs.Laws.{IsNoLater, IsWhole}

@@ -27,10 +27,10 @@ use Rattle.lvm_kept.specs.Changes.{IsFoundByAll, IsFoundByNone}
 use Rattle.lvm_kept.specs.Moments.{Moment}
 use Rattle.lvm_kept.specs.Raw.{OnlyAdds}
 use Rattle.lvm_kept.specs.Torn.{DescriptorsChange}
-use Rattle.lvm_change.specs.Moments.{Begins, Keeps}
-use Rattle.lvm_change.specs.Requests.{IsOfData, at}
-use Rattle.lvm_change.specs.Committing.{DiffersInVolume, IsServed, MayCommit}
-use Rattle.lvm_change.specs.VolumeEntries.{AreZeros}
+use Rattle.lvm_steps.specs.Moments.{Begins, Keeps}
+use Rattle.lvm_steps.specs.Requests.{IsOfData, at}
+use Rattle.lvm_steps.specs.Committing.{DiffersInVolume, IsServed, MayCommit}
+use Rattle.lvm_steps.specs.VolumeEntries.{AreZeros}
 use Rattle.lvm_quorum.specs.declared.homes.Homes.{Homes}
 use Rattle.lvm_stamps.specs.Laws.{IsNoLater, IsWhole, ShowsBefore}
 use Rattle.lvm_commit.specs.Committed.{next_stamp, ShowsCommitted, HoldsCommitted}

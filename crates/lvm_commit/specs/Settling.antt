@@ -29,7 +29,7 @@ use Rattle.lvm_stale.specs.Table.{SameMissing}
 use Rattle.lvm_left.specs.Marking.{IsLeftIn}
 use Rattle.lvm_status.specs.Members.{HasItsRows}
 use Rattle.lvm_status.specs.Update.{Stored, members_there}
-use Rattle.lvm_change.specs.Moments.{StaysKept, ImagesKept}
+use Rattle.lvm_steps.specs.Moments.{StaysKept, ImagesKept}
 use Rattle.lvm_quorum.specs.declared.homes.Homes.{Homes}
 use Rattle.lvm_quorum.specs.Written.{write_of, HaveRoom, KeepsShelf}
 use Rattle.lvm_commit.specs.declared.commit.Settled.{Settled}

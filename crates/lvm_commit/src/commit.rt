@@ -12,7 +12,7 @@ ghost use Rattle.lvm_commit.specs.Settling.{IfDone, IfWentOff, IfBack, OnDark, O
 
 use crate::write::{is_committed, write_descriptor, write_wanted};
 use lvm_disk::Shelf;
-use lvm_move::Patience;
+use lvm_transfer::Patience;
 use lvm_num::{Descriptor, Pbuf};
 use lvm_quorum::Homes;
 use lvm_status::Updater;

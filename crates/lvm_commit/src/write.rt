@@ -18,7 +18,7 @@ ghost use Rattle.lvm_commit.specs.Rounds.{IsStarted, HasEnded, HasLost, HasMarke
 
 use crate::commit::Settled;
 use lvm_disk::Shelf;
-use lvm_move::Patience;
+use lvm_transfer::Patience;
 use lvm_num::{Descriptor, DiskSet, Kind, Pbuf, Stamp};
 use lvm_quorum::{Homes, Wrote, write_record};
 use lvm_status::{Change, Updater};

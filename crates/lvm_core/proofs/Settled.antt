@@ -16,9 +16,9 @@ use Rattle.lvm_vol.specs.Log.{Log}
 use Rattle.lvm_kept.specs.Moments.{Moment, StaysCalm}
 use Rattle.lvm_kept.specs.Plans.{Plan, ChangesBy}
 use Rattle.lvm_kept.specs.Torn.{RecordWrite}
-use Rattle.lvm_change.specs.Moments.{ImagesKept, Begins, Holds, Keeps}
-use Rattle.lvm_change.specs.Requests.{at}
-use Rattle.lvm_change.proofs.Spans.{keeps_path}
+use Rattle.lvm_steps.specs.Moments.{ImagesKept, Begins, Holds, Keeps}
+use Rattle.lvm_steps.specs.Requests.{at}
+use Rattle.lvm_steps.proofs.Spans.{keeps_path}
 use Rattle.lvm_stale.specs.Table.{SameMissing}
 use Rattle.lvm_stamps.specs.Behind.{beginning_at}
 use Rattle.lvm_stamps.specs.Laws.{IsOtherOrEarlier}

@@ -10,9 +10,9 @@ use Rattle.lvm_vol.specs.Facts.{Fact, Cut}
 use Rattle.lvm_vol.specs.Log.{Log, with_fact, is_uncut, cut_log}
 use Rattle.lvm_kept.specs.Moments.{Moment, Step, Moves, StaysCalm}
 use Rattle.lvm_kept.proofs.Chaining.{span_counts, span_told}
-use Rattle.lvm_change.specs.Moments.{Begins, Keeps}
-use Rattle.lvm_change.specs.Requests.{at}
-use Rattle.lvm_change.proofs.Entering.{quiet_goes_on, calm_goes_on}
+use Rattle.lvm_steps.specs.Moments.{Begins, Keeps}
+use Rattle.lvm_steps.specs.Requests.{at}
+use Rattle.lvm_steps.proofs.Entering.{quiet_goes_on, calm_goes_on}
 use Rattle.lvm_core.specs.declared.request.Open.{Open}
 use Rattle.lvm_core.specs.Dark.{dark_log}
 

@@ -8,7 +8,7 @@ use Rattle.lvm_num.specs.Disks.{Disks}
 use Rattle.lvm_disk.specs.Counts.{NoneFalls}
 use Rattle.lvm_kept.specs.Moments.{Moment, StaysCalm}
 use Rattle.lvm_kept.specs.Plans.{Plan}
-use Rattle.lvm_change.specs.Moments.{StaysKept}
+use Rattle.lvm_steps.specs.Moments.{StaysKept}
 use Rattle.lvm_status.specs.Update.{Stored}
 use Rattle.lvm_quorum.specs.Written.{KeepsShelf}
 use Rattle.lvm_commit.specs.declared.commit.Settled.{Settled}

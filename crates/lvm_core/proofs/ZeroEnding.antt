@@ -6,8 +6,8 @@ use Rattle.lvm_num.specs.Geometry.{data_start}
 use Rattle.lvm_disk.specs.Device.{Media, Image, image_of, MayLeave}
 use Rattle.lvm_kept.specs.Places.{SameRecords}
 use Rattle.lvm_kept.specs.Plans.{ChangesBy}
-use Rattle.lvm_move.specs.declared.moves.Moved.{Moved}
-use Rattle.lvm_move.specs.declared.moves.Moved.TheVariants as moved
+use Rattle.lvm_transfer.specs.declared.moves.Moved.{Moved}
+use Rattle.lvm_transfer.specs.declared.moves.Moved.TheVariants as moved
 use Rattle.lvm_quorum.specs.Parts.{DoesPart}
 use Rattle.lvm_quorum.proofs.Writing.{if_told, told_at, both_from}
 use Rattle.lvm_stamps.proofs.Shelves.{data_stays_behind}

@@ -11,11 +11,11 @@ use Rattle.lvm_num.specs.Geometry.{data_start, partition_blocks}
 use Rattle.lvm_disk.specs.Device.{Media, Flight, Device, IsReady, image_of, written}
 use Rattle.lvm_disk.specs.Steps.{Puts}
 use Rattle.lvm_kept.specs.Plans.{ChangesBy, IsPlanned}
-use Rattle.lvm_move.specs.Transfer.{TransferGives, flight_of}
-use Rattle.lvm_move.specs.declared.moves.Moved.{Moved}
-use Rattle.lvm_move.specs.declared.moves.Moved.TheVariants as moved
-use Rattle.lvm_move.proofs.Ending.{one_left}
-use Rattle.lvm_move.proofs.Effects.{out_flights}
+use Rattle.lvm_transfer.specs.Transfer.{TransferGives, flight_of}
+use Rattle.lvm_transfer.specs.declared.moves.Moved.{Moved}
+use Rattle.lvm_transfer.specs.declared.moves.Moved.TheVariants as moved
+use Rattle.lvm_transfer.proofs.Ending.{one_left}
+use Rattle.lvm_transfer.proofs.Effects.{out_flights}
 use Rattle.lvm_quorum.specs.Parts.{IfDone}
 use Rattle.lvm_quorum.specs.Written.{IsInPlan, KeepsShelf}
 use Rattle.lvm_quorum.proofs.Writing.{if_told, told_at, both_from, stand_told}

@@ -11,8 +11,8 @@ use Rattle.lvm_disk.specs.Device.{IsReady, image_of}
 use Rattle.lvm_vol.specs.Facts.{Fact}
 use Rattle.lvm_kept.specs.Contents.{contents_of}
 use Rattle.lvm_kept.specs.Moments.{Moment}
-use Rattle.lvm_change.specs.Moments.{Begins, Holds, Keeps}
-use Rattle.lvm_change.specs.Requests.{at}
+use Rattle.lvm_steps.specs.Moments.{Begins, Holds, Keeps}
+use Rattle.lvm_steps.specs.Requests.{at}
 use Rattle.lvm_stale.specs.Table.{is_pp}
 use Rattle.lvm_stamps.specs.Behind.{IsBehind}
 use Rattle.lvm_quorum.specs.Written.{IsDarkened, IsGivenUp}

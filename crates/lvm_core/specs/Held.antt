@@ -3,7 +3,7 @@ use Rattle.std.specs.Prelude.{◌≡◌, ℕ, IfSome, IsTrue}
 use Rattle.lvm_disk.specs.Device.{Image, Device, image_of}
 use Rattle.lvm_kept.specs.Contents.{contents_of}
 use Rattle.lvm_kept.specs.Group.{is_named}
-use Rattle.lvm_change.specs.VaryingOn.{HasNoActive}
+use Rattle.lvm_steps.specs.VaryingOn.{HasNoActive}
 use Rattle.lvm_mwc.specs.Cache.{is_named as is_named_by}
 use Rattle.lvm_commit.specs.Committed.{HoldsCommitted}
 use Rattle.lvm_core.specs.State.{Core, is_there}

@@ -6,8 +6,8 @@ use Rattle.lvm_num.specs.Geometry.{data_start, partition_blocks}
 use Rattle.lvm_disk.specs.Counts.{Rose}
 use Rattle.lvm_disk.specs.Device.{Device, IsReady}
 use Rattle.lvm_kept.specs.Plans.{Plan}
-use Rattle.lvm_move.specs.declared.moves.Moved.{Moved}
-use Rattle.lvm_move.specs.declared.moves.Moved.TheVariants as moved
+use Rattle.lvm_transfer.specs.declared.moves.Moved.{Moved}
+use Rattle.lvm_transfer.specs.declared.moves.Moved.TheVariants as moved
 use Rattle.lvm_quorum.specs.Parts.{DoesPart, IfDone}
 use Rattle.lvm_commit.specs.LawsOfData.{IsSectorOf}
 use Rattle.lvm_core.specs.declared.fault.CommitFault.{CommitFault}

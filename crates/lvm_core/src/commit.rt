@@ -23,7 +23,7 @@ use crate::session::Session;
 use crate::zero::write_zeros;
 use lvm_commit::{Settled, commit_descriptor, commit_status};
 use lvm_disk::Shelf;
-use lvm_move::{Moved, Patience};
+use lvm_transfer::{Moved, Patience};
 use lvm_num::{Pbuf, Pp};
 
 impl Session {

@@ -35,7 +35,7 @@ use crate::request::Power;
 use crate::session::Session;
 use lvm_disk::{Arrange, Shelf};
 use lvm_history::History;
-use lvm_move::Patience;
+use lvm_transfer::Patience;
 use lvm_num::{Descriptor, Memory, Name, Pp, Stamp};
 use lvm_quorum::Homes;
 use lvm_stale::StaleTable;

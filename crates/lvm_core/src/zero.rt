@@ -7,7 +7,7 @@ ghost use Rattle.lvm_quorum.specs.Parts.{DoesPart, IfDone};
 ghost use Rattle.lvm_core.specs.Zeros.{IsZeroOf, IsZeroed, AreZeroed, HasSectorsOf, IsClear};
 
 use lvm_disk::Shelf;
-use lvm_move::{Moved, Patience, transfer};
+use lvm_transfer::{Moved, Patience, transfer};
 use lvm_num::{Pbuf, Pp};
 
 // The sectors of a transfer, and how many transfers a MiB has.

@@ -19,8 +19,8 @@ use Rattle.lvm_vol.specs.May.{known, IsValue, cut, is_off}
 use Rattle.lvm_kept.specs.Contents.{Contents}
 use Rattle.lvm_kept.specs.Group.{passes, is_of, has_room, members_in, is_stale_by, fresh_on, block_at, IsBlockOf, is_named, IsOneOf, IsSome}
 use Rattle.lvm_kept.specs.Kept.{MayDiffer, IsBlockKept}
-use Rattle.lvm_good.specs.State.{State}
-use Rattle.lvm_good.specs.Crash.{Fresh, MayDifferAfter, BlockKept}
+use Rattle.lvm_invariant.specs.State.{State}
+use Rattle.lvm_invariant.specs.Crash.{Fresh, MayDifferAfter, BlockKept}
 use Rattle.lvm_crash.specs.Session.{marks_of, view_of, members_there, has_notes, has_mark, HasVolumes}
 use Rattle.lvm_crash.proofs.Lists.{left_of, right_of, both_of, not_so, so_not, of_passing, one_passes}
 

@@ -14,11 +14,11 @@ use Rattle.lvm_vol.specs.Standing.{Volume, no_volumes}
 use Rattle.lvm_vol.proofs.Knowing.{known-push}
 use Rattle.lvm_kept.specs.Contents.{Contents}
 use Rattle.lvm_kept.specs.Kept.{StandsAs}
-use Rattle.lvm_good.specs.State.{State}
-use Rattle.lvm_good.specs.Found.{Votes}
-use Rattle.lvm_good.specs.Good.{Good}
-use Rattle.lvm_good.specs.Over.{IsUnlanded, landings}
-use Rattle.lvm_good.proofs.Ending.{off_keeps, cut_keeps}
+use Rattle.lvm_invariant.specs.State.{State}
+use Rattle.lvm_invariant.specs.Found.{Votes}
+use Rattle.lvm_invariant.specs.Good.{Good}
+use Rattle.lvm_invariant.specs.Over.{IsUnlanded, landings}
+use Rattle.lvm_invariant.proofs.Ending.{off_keeps, cut_keeps}
 use Rattle.lvm_crash.specs.Session.{Describes}
 use Rattle.lvm_crash.specs.Laws.{CutIsKept, OffIsKept}
 use Rattle.lvm_crash.proofs.Lasting.{IsOfSession, volumes-append, volumes_stand, modes_stay, raw_stays, on_volume}

@@ -12,10 +12,10 @@ use Rattle.lvm_kept.specs.Contents.{Contents}
 use Rattle.lvm_kept.specs.Group.{if_passes, is_status_of, members_in, status_by}
 use Rattle.lvm_kept.specs.Committed.{IsWithinDisks}
 use Rattle.lvm_kept.proofs.Finding.{passed, some_same, offered, is_offered}
-use Rattle.lvm_good.specs.State.{Marks, State}
-use Rattle.lvm_good.specs.Found.{Votes, Found, HasIt}
-use Rattle.lvm_good.specs.Crash.{IsCrash, IsPossible}
-use Rattle.lvm_good.proofs.Finding.{quorum_finds}
+use Rattle.lvm_invariant.specs.State.{Marks, State}
+use Rattle.lvm_invariant.specs.Found.{Votes, Found, HasIt}
+use Rattle.lvm_invariant.specs.Crash.{IsCrash, IsPossible}
+use Rattle.lvm_invariant.proofs.Finding.{quorum_finds}
 use Rattle.lvm_crash.specs.Session.{marks_of, as_marks, marks_shown, view_of, AreVotesOf}
 
 -- marks are shown by a record

@@ -18,12 +18,12 @@ use Rattle.lvm_kept.specs.Plans.{ChangesBy}
 use Rattle.lvm_kept.specs.Torn.{IsOfRecord, IsOtherOrRecord, StandsOn, written}
 use Rattle.lvm_kept.proofs.Contained.{room-same, newest-same, at-same, note-same, blocks_are_sectors}
 use Rattle.lvm_kept.proofs.Records.{never, part_is, newest_is, whole_is_new, newest_stays}
-use Rattle.lvm_good.specs.State.{Groups, State}
-use Rattle.lvm_good.specs.Crash.{Brings, CopyBrings}
+use Rattle.lvm_invariant.specs.State.{Groups, State}
+use Rattle.lvm_invariant.specs.Crash.{Brings, CopyBrings}
 use Rattle.lvm_vol.specs.Facts.{Fact}
 use Rattle.lvm_kept.specs.Kept.{Kept}
-use Rattle.lvm_good.specs.Found.{Votes, Found}
-use Rattle.lvm_good.proofs.CrashLemmas.{core_kept}
+use Rattle.lvm_invariant.specs.Found.{Votes, Found}
+use Rattle.lvm_invariant.proofs.CrashLemmas.{core_kept}
 use Rattle.lvm_crash.specs.Session.{AreVotesOf}
 use Rattle.lvm_crash.specs.Left.{MayRemain}
 use Rattle.lvm_crash.specs.Flights.{UpdateIsOut, OnlyUpdateIsOut, HasOut, Matches}

@@ -23,10 +23,10 @@ use Rattle.lvm_vol.specs.Standing.{Standing, Absent, Open, Settled, Shape, Volum
 use Rattle.lvm_vol.proofs.Knowing.{known-push, others_stay}
 use Rattle.lvm_kept.specs.Contents.{Contents}
 use Rattle.lvm_kept.specs.Kept.{StandsAs, RawAgrees}
-use Rattle.lvm_good.specs.State.{State, Queued}
-use Rattle.lvm_good.specs.Found.{Votes}
-use Rattle.lvm_good.specs.Good.{Good}
-use Rattle.lvm_good.specs.Events.{Event, Submit, EnterStep, Admit, Pin, Read, StartWrite, Transfer, LandDone, LandLost, LandGot, LandReadFailed, LandNoFresh, EndStep, Take, TakeEarlier, Want, BeginUpdate, MoveStatus, CommitUpdate, EndUpdate, StartNote, EndNote, Open as OpenCopy, CopyWrite, Clear, Step}
+use Rattle.lvm_invariant.specs.State.{State, Queued}
+use Rattle.lvm_invariant.specs.Found.{Votes}
+use Rattle.lvm_invariant.specs.Good.{Good}
+use Rattle.lvm_invariant.specs.Events.{Event, Submit, EnterStep, Admit, Pin, Read, StartWrite, Transfer, LandDone, LandLost, LandGot, LandReadFailed, LandNoFresh, EndStep, Take, TakeEarlier, Want, BeginUpdate, MoveStatus, CommitUpdate, EndUpdate, StartNote, EndNote, Open as OpenCopy, CopyWrite, Clear, Step}
 use Rattle.lvm_crash.specs.Session.{members_there, GroupStands, HasVolumes, Shows, Describes}
 use Rattle.lvm_crash.specs.Left.{KeepsGroup}
 use Rattle.lvm_crash.specs.Lasting.{AsksOf, DescriptionLasts}

@@ -25,9 +25,9 @@ use Rattle.lvm_kept.specs.Kept.{HasStatus, IsBlockKept, BlocksKept, RawAgrees, I
 use Rattle.lvm_kept.specs.Committed.{IsWithinDisks}
 use Rattle.lvm_kept.proofs.Finding.{some_same, finding_reads}
 use Rattle.lvm_kept.proofs.Entries.{volume_is_row}
-use Rattle.lvm_good.specs.State.{State}
-use Rattle.lvm_good.specs.Found.{Votes, Found}
-use Rattle.lvm_good.specs.Crash.{IsCrash, BlockKept}
+use Rattle.lvm_invariant.specs.State.{State}
+use Rattle.lvm_invariant.specs.Found.{Votes, Found}
+use Rattle.lvm_invariant.specs.Crash.{IsCrash, BlockKept}
 use Rattle.lvm_crash.specs.Session.{marks_of, as_marks, marks_shown, view_of, AreVotesOf, members_there, OthersStand, HasStatuses, Describes}
 use Rattle.lvm_crash.specs.Left.{MayRemain}
 use Rattle.lvm_crash.specs.Laws.{EachViewAgrees, WhatRemainsIsKept}

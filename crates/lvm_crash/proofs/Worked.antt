@@ -22,9 +22,9 @@ use Rattle.lvm_kept.specs.Contents.{Contents}
 use Rattle.lvm_kept.specs.Examples.{stamped, row_of, mirror, two, of_two, either_of, no_note, zeros}
 use Rattle.lvm_kept.specs.Group.{descriptor_among, is_voter, has_quorum, Finds, IsFound, IsOneOf}
 use Rattle.lvm_kept.specs.Kept.{StandsAs}
-use Rattle.lvm_good.specs.State.{has_notes, has_mark}
-use Rattle.lvm_good.specs.Updates.{is_pp}
-use Rattle.lvm_good.specs.First.{two_disks, first_copy, second_copy, is_either, marks_with, at_rest}
+use Rattle.lvm_invariant.specs.State.{has_notes, has_mark}
+use Rattle.lvm_invariant.specs.Updates.{is_pp}
+use Rattle.lvm_invariant.specs.First.{two_disks, first_copy, second_copy, is_either, marks_with, at_rest}
 use Rattle.lvm_crash.specs.Session.{as_marks, members_there, GroupStands, HasVolumes}
 use Rattle.lvm_crash.specs.Worked.{Shown, sizes, status_shown, GroupsHaveVotes}
 use Rattle.lvm_crash.proofs.Standing.{shown}

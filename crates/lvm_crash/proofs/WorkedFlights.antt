@@ -13,13 +13,13 @@ use Rattle.lvm_disk.specs.Device.{Flight, IsInFlight, written, image_of}
 use Rattle.lvm_vol.specs.Facts.{Begun}
 use Rattle.lvm_kept.specs.Contents.{contents_of}
 use Rattle.lvm_kept.specs.Examples.{two}
-use Rattle.lvm_good.specs.State.{has_notes, has_mark, State, covers, Started}
-use Rattle.lvm_good.specs.Crash.{Brings, CopyBrings}
-use Rattle.lvm_good.specs.First.{two_disks, first_copy, second_copy, is_either, at_rest}
-use Rattle.lvm_good.specs.Worked.{ones, asked, both_out, step_read, zero_blocks, writing, stepping}
-use Rattle.lvm_good.proofs.First.{first_is_good}
-use Rattle.lvm_good.proofs.WorkedWrites.{each_mode_writes}
-use Rattle.lvm_good.proofs.WorkedReads.{copy_is_brought_up}
+use Rattle.lvm_invariant.specs.State.{has_notes, has_mark, State, covers, Started}
+use Rattle.lvm_invariant.specs.Crash.{Brings, CopyBrings}
+use Rattle.lvm_invariant.specs.First.{two_disks, first_copy, second_copy, is_either, at_rest}
+use Rattle.lvm_invariant.specs.Worked.{ones, asked, both_out, step_read, zero_blocks, writing, stepping}
+use Rattle.lvm_invariant.proofs.First.{first_is_good}
+use Rattle.lvm_invariant.proofs.WorkedWrites.{each_mode_writes}
+use Rattle.lvm_invariant.proofs.WorkedReads.{copy_is_brought_up}
 use Rattle.lvm_crash.specs.Session.{Describes}
 use Rattle.lvm_crash.specs.Flights.{HasOut}
 use Rattle.lvm_crash.specs.Worked.{Shown, to_disk, device_of, media_of, RestMatches, WritingMatches, SteppingMatches}

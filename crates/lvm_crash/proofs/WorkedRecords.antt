@@ -21,10 +21,10 @@ use Rattle.lvm_kept.specs.Group.{names_if}
 use Rattle.lvm_kept.specs.Plans.{IsUnderWay}
 use Rattle.lvm_kept.specs.Torn.{RecordWrite, on_disk, IsOfRecord, IsOtherOrRecord}
 use Rattle.lvm_kept.proofs.Standing.{zeros-sector}
-use Rattle.lvm_good.specs.State.{Marks}
-use Rattle.lvm_good.specs.First.{two_disks, at_rest}
-use Rattle.lvm_good.specs.Worked.{asked, first_group, updating, noting}
-use Rattle.lvm_good.proofs.WorkedWrites.{records_go_out}
+use Rattle.lvm_invariant.specs.State.{Marks}
+use Rattle.lvm_invariant.specs.First.{two_disks, at_rest}
+use Rattle.lvm_invariant.specs.Worked.{asked, first_group, updating, noting}
+use Rattle.lvm_invariant.proofs.WorkedWrites.{records_go_out}
 use Rattle.lvm_crash.specs.Session.{HasStatuses}
 use Rattle.lvm_crash.specs.Flights.{UpdateIsOut}
 use Rattle.lvm_crash.specs.Worked.{Shown, status_shown, sector_to, next_status, framed_next, next_sector, note_shown, device_of, media_of, UpdatingMatches, NotingMatches}

@@ -29,9 +29,9 @@ use Rattle.lvm_kept.specs.Examples.{stamped, either_of, two}
 use Rattle.lvm_kept.specs.Group.{names_if, is_named, block_at}
 use Rattle.lvm_kept.proofs.Contained.{blocks_are_sectors}
 use Rattle.lvm_kept.proofs.Standing.{zeros-sector}
-use Rattle.lvm_good.specs.State.{Marks, State}
-use Rattle.lvm_good.specs.First.{two_disks, marks_with, on_both, at_rest}
-use Rattle.lvm_good.specs.Worked.{first_group}
+use Rattle.lvm_invariant.specs.State.{Marks, State}
+use Rattle.lvm_invariant.specs.First.{two_disks, marks_with, on_both, at_rest}
+use Rattle.lvm_invariant.specs.Worked.{first_group}
 use Rattle.lvm_crash.specs.Session.{marks_shown, members_there, HasVolumes, HasStatuses, Shows, Describes}
 use Rattle.lvm_crash.specs.Worked.{Shown, sizes, status_shown, note_shown, framed_group, framed_status, media_of}
 use Rattle.lvm_crash.proofs.Worked.{base, behind, stands, volumes, its_marks}

@@ -15,8 +15,8 @@ use Rattle.lvm_kept.specs.Contents.{note_sector, contents_of}
 use Rattle.lvm_kept.specs.Group.{names_if}
 use Rattle.lvm_kept.specs.Plans.{IsUnderWay}
 use Rattle.lvm_kept.specs.Torn.{RecordWrite, IsOfRecord, IsOtherOrRecord, IsOutside, MayWriteAll}
-use Rattle.lvm_good.specs.State.{Groups, State}
-use Rattle.lvm_good.specs.Crash.{Brings, CopyBrings}
+use Rattle.lvm_invariant.specs.State.{Groups, State}
+use Rattle.lvm_invariant.specs.Crash.{Brings, CopyBrings}
 use Rattle.lvm_crash.specs.Session.{Describes}
 
 -- An update of the status is being written. Since it began, on what stood then, nothing else has gone to the slots of statuses; and where a

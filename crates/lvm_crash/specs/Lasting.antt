@@ -5,10 +5,10 @@ use Rattle.lvm_num.specs.declared.status.Status.{Status}
 use Rattle.lvm_num.specs.Descriptor.{volume_of}
 use Rattle.lvm_num.specs.Record.{Stamped, stamp_lt}
 use Rattle.lvm_kept.specs.Contents.{Contents}
-use Rattle.lvm_good.specs.State.{State}
-use Rattle.lvm_good.specs.Found.{Votes}
-use Rattle.lvm_good.specs.Good.{Good}
-use Rattle.lvm_good.specs.Events.{Event, Submit, Step}
+use Rattle.lvm_invariant.specs.State.{State}
+use Rattle.lvm_invariant.specs.Found.{Votes}
+use Rattle.lvm_invariant.specs.Good.{Good}
+use Rattle.lvm_invariant.specs.Events.{Event, Submit, Step}
 use Rattle.lvm_crash.specs.Session.{as_marks, HasStatuses, Shows, Describes}
 use Rattle.lvm_crash.specs.Left.{KeepsGroup}
 

@@ -11,12 +11,12 @@ use Rattle.lvm_disk.specs.Device.{Media, Image, Device, image_of, MayLeave}
 use Rattle.lvm_kept.specs.Contents.{Contents, contents_of}
 use Rattle.lvm_kept.specs.Committed.{IsWithinDisks}
 use Rattle.lvm_kept.specs.Kept.{Kept}
-use Rattle.lvm_good.specs.State.{Marks, View, State}
-use Rattle.lvm_good.specs.Found.{Votes, Found}
-use Rattle.lvm_good.specs.Crash.{IsCrash, IsPossible, BlockKept}
-use Rattle.lvm_good.specs.Good.{Good}
-use Rattle.lvm_good.specs.Off.{GoesOff}
-use Rattle.lvm_good.specs.Over.{AreOpen, landings, IsOver}
+use Rattle.lvm_invariant.specs.State.{Marks, View, State}
+use Rattle.lvm_invariant.specs.Found.{Votes, Found}
+use Rattle.lvm_invariant.specs.Crash.{IsCrash, IsPossible, BlockKept}
+use Rattle.lvm_invariant.specs.Good.{Good}
+use Rattle.lvm_invariant.specs.Off.{GoesOff}
+use Rattle.lvm_invariant.specs.Over.{AreOpen, landings, IsOver}
 use Rattle.lvm_crash.specs.Session.{AreVotesOf, Describes}
 use Rattle.lvm_crash.specs.Left.{MayRemain}
 use Rattle.lvm_crash.specs.Flights.{Matches}

@@ -7,8 +7,8 @@ use Rattle.lvm_num.specs.Geometry.{data_start}
 use Rattle.lvm_num.specs.Record.{Stamped}
 use Rattle.lvm_kept.specs.Contents.{Contents}
 use Rattle.lvm_kept.specs.Group.{block_at, is_named}
-use Rattle.lvm_good.specs.State.{Groups, State}
-use Rattle.lvm_good.specs.Crash.{Brings, CopyBrings}
+use Rattle.lvm_invariant.specs.State.{Groups, State}
+use Rattle.lvm_invariant.specs.Crash.{Brings, CopyBrings}
 
 -- Nothing has changed but statuses, notes, and data of disks that show a descriptor.
 pub record KeepsGroup (old new : Contents) : Type 0 where

@@ -17,9 +17,9 @@ use Rattle.lvm_vol.specs.Standing.{volumes_in}
 use Rattle.lvm_kept.specs.Contents.{Contents}
 use Rattle.lvm_kept.specs.Group.{if_passes, is_status_of, Finds, IsFound, members_in, Reads, AreAlike, block_at, IsBlockOf, is_named, IsOneOf}
 use Rattle.lvm_kept.specs.Kept.{StandsAs, RawAgrees}
-use Rattle.lvm_good.specs.State.{Marks, View, State}
-pub use Rattle.lvm_good.specs.State.{has_notes, has_mark}
-use Rattle.lvm_good.specs.Found.{Votes}
+use Rattle.lvm_invariant.specs.State.{Marks, View, State}
+pub use Rattle.lvm_invariant.specs.State.{has_notes, has_mark}
+use Rattle.lvm_invariant.specs.Found.{Votes}
 
 -- ---- what a session sees of the disks
 

@@ -15,11 +15,11 @@ use Rattle.lvm_num.specs.Record.{Stamped, frame, slot_start}
 use Rattle.lvm_disk.specs.Device.{Media, Flight, Device}
 use Rattle.lvm_kept.specs.Contents.{note_sector}
 use Rattle.lvm_kept.specs.Examples.{row_of, status_of_rows, two}
-use Rattle.lvm_good.specs.State.{has_notes, has_mark, State}
-use Rattle.lvm_good.specs.Found.{Votes}
-use Rattle.lvm_good.specs.Good.{Good}
-use Rattle.lvm_good.specs.First.{at_rest}
-use Rattle.lvm_good.specs.Worked.{ones, writing, stepping, updating, noting}
+use Rattle.lvm_invariant.specs.State.{has_notes, has_mark, State}
+use Rattle.lvm_invariant.specs.Found.{Votes}
+use Rattle.lvm_invariant.specs.Good.{Good}
+use Rattle.lvm_invariant.specs.First.{at_rest}
+use Rattle.lvm_invariant.specs.Worked.{ones, writing, stepping, updating, noting}
 use Rattle.lvm_crash.specs.Session.{AreVotesOf}
 use Rattle.lvm_crash.specs.Flights.{Matches}
 

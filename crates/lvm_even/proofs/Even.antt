@@ -28,7 +28,7 @@ use Rattle.lvm_group.specs.Endings.{IsOfCommand, Leaves}
 use Rattle.lvm_rest.specs.Rest.{IsEven}
 use Rattle.lvm_rest.specs.Commands.{IsUsable}
 use Rattle.lvm_commit.proofs.Copies.{contains, of_map, of_rows}
-use Rattle.lvm_change.proofs.Booleans.{clash}
+use Rattle.lvm_steps.proofs.Booleans.{clash}
 use Rattle.lvm_rest.proofs.Rows.{tested}
 use Rattle.lvm_rest.proofs.Commands.{free_keeps_even}
 use Rattle.lvm_even.specs.Even.{AreWanted, MklvKeepsEven, RmlvKeepsEven}

@@ -5,7 +5,7 @@ use Rattle.lvm_num.specs.declared.descriptor.Descriptor.{Descriptor}
 use Rattle.lvm_disk.specs.Device.{Media, Image, Flight, Device, image_of, IsCrashImage, HasSectors}
 use Rattle.lvm_disk.specs.Images.{LeavesNoMore}
 use Rattle.lvm_kept.specs.Raw.{OnlyAdds}
-use Rattle.lvm_change.specs.Requests.{IsOfData}
+use Rattle.lvm_steps.specs.Requests.{IsOfData}
 use Rattle.lvm_commit.proofs.NoMore.{data_finds_nothing_new}
 use Rattle.lvm_commit.proofs.Still.{data_differs}
 use Rattle.lvm_survey.specs.Surveying.{IsUnwritten}

@@ -18,7 +18,7 @@ use Rattle.lvm_kept.specs.Group.{passes, is_of, descriptor_among, is_voter, has_
 use Rattle.lvm_kept.proofs.Blank.{no_descriptor}
 use Rattle.lvm_kept.proofs.Chaining.{span_sizes}
 use Rattle.lvm_kept.proofs.Finding.{offered, is_offered}
-use Rattle.lvm_change.proofs.Making.{media_may}
+use Rattle.lvm_steps.proofs.Making.{media_may}
 use Rattle.lvm_begin.specs.Beginning.{new_order}
 use Rattle.lvm_quorum.proofs.Writing.{told_at}
 use Rattle.lvm_commit.specs.Committed.{HoldsCommitted}

@@ -18,9 +18,9 @@ use Rattle.lvm_kept.specs.Moments.{Moment, Calm}
 use Rattle.lvm_kept.proofs.Chaining.{span_told, span_sizes}
 use Rattle.lvm_kept.proofs.Keeping.{cut_calm}
 use Rattle.lvm_kept.proofs.Landing.{legal_more}
-use Rattle.lvm_change.specs.Moments.{Begins, ImagesKept, IsEarlier}
-use Rattle.lvm_change.proofs.Entries.{cut_keeps}
-use Rattle.lvm_change.proofs.Spans.{later_append}
+use Rattle.lvm_steps.specs.Moments.{Begins, ImagesKept, IsEarlier}
+use Rattle.lvm_steps.proofs.Entries.{cut_keeps}
+use Rattle.lvm_steps.proofs.Spans.{later_append}
 use Rattle.lvm_quorum.proofs.Writing.{told_at}
 use Rattle.lvm_core.specs.declared.parts.Room.{Room}
 use Rattle.lvm_core.specs.Held.{IsHeld}

@@ -7,9 +7,9 @@ use Rattle.lvm_disk.proofs.CrashImages.{done_leaves, failed_leaves, cut_leaves, 
 use Rattle.lvm_disk.proofs.Paths.{last-path}
 use Rattle.lvm_vol.specs.Log.{Log}
 use Rattle.lvm_kept.specs.Moments.{Moment}
-use Rattle.lvm_move.specs.declared.moves.Moved.{Moved}
-use Rattle.lvm_move.specs.declared.moves.Moved.TheVariants as moved
-use Rattle.lvm_move.specs.Transfer.{WaitsOnly, IsOut, TransferGives, Relights, flight_of}
+use Rattle.lvm_transfer.specs.declared.moves.Moved.{Moved}
+use Rattle.lvm_transfer.specs.declared.moves.Moved.TheVariants as moved
+use Rattle.lvm_transfer.specs.Transfer.{WaitsOnly, IsOut, TransferGives, Relights, flight_of}
 use Rattle.lvm_raw.specs.declared.fault.RawFault.{RawFault}
 use Rattle.lvm_raw.specs.declared.fault.RawFault.TheVariants as fault
 use Rattle.lvm_raw.specs.Looking.{LookFails}

@@ -22,7 +22,7 @@ use Rattle.lvm_kept.specs.Group.{is_of, descriptor_among, Finds}
 use Rattle.lvm_kept.specs.Plans.{ChangesBy}
 use Rattle.lvm_kept.specs.Torn.{MayWriteAll}
 use Rattle.lvm_kept.proofs.Finding.{offered, is_offered}
-use Rattle.lvm_change.proofs.Making.{media_may}
+use Rattle.lvm_steps.proofs.Making.{media_may}
 use Rattle.lvm_stamps.specs.Behind.{StampsBefore, IsBehind}
 use Rattle.lvm_stamps.specs.Laws.{IsWhole, ShowsBefore}
 use Rattle.lvm_stamps.proofs.Records.{session_may_go, shown_is_before}

@@ -12,7 +12,7 @@ use Rattle.lvm_num.specs.Status.{calls_stale, calls_missing}
 use Rattle.lvm_disk.specs.Counts.{RoseBy, NoneFalls}
 use Rattle.lvm_vol.specs.Log.{Log, cut_log}
 use Rattle.lvm_kept.specs.Moments.{Moment, StaysCalm}
-use Rattle.lvm_change.proofs.Booleans.{split, either}
+use Rattle.lvm_steps.proofs.Booleans.{split, either}
 use Rattle.lvm_stale.specs.Table.{is_pp}
 use Rattle.lvm_quorum.specs.Written.{KeepsShelf}
 use Rattle.lvm_commit.specs.LawsOfFinding.{FindsNothingNewOn}

@@ -15,8 +15,8 @@ use Rattle.lvm_vol.specs.Legal.{IsLater}
 use Rattle.lvm_vol.specs.Log.{Log, with_fact, need, spare_entries}
 use Rattle.lvm_kept.specs.Contents.{contents_of}
 use Rattle.lvm_kept.specs.Moments.{Moment, StaysCalm}
-use Rattle.lvm_change.specs.Entering.{OpensNone}
-use Rattle.lvm_change.proofs.Entering.{calm_goes_on}
+use Rattle.lvm_steps.specs.Entering.{OpensNone}
+use Rattle.lvm_steps.proofs.Entering.{calm_goes_on}
 use Rattle.lvm_status.specs.Update.{members_there}
 use Rattle.lvm_quorum.specs.Written.{KeepsShelf}
 use Rattle.lvm_quorum.proofs.Transfers.{keeps_here, spends_none}

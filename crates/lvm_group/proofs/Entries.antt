@@ -10,9 +10,9 @@ use Rattle.lvm_vol.specs.Facts.{Fact, Removed, Cut}
 use Rattle.lvm_vol.specs.Legal.{IsLater}
 use Rattle.lvm_vol.specs.Log.{Log, with_fact, cut_log, is_uncut, is_open, lands_id, need, needed, spare_entries}
 use Rattle.lvm_kept.specs.Moments.{Moment, StaysCalm}
-use Rattle.lvm_change.specs.Moments.{Keeps}
-use Rattle.lvm_change.specs.Requests.{at}
-use Rattle.lvm_change.proofs.Entering.{quiet_goes_on, calm_goes_on}
+use Rattle.lvm_steps.specs.Moments.{Keeps}
+use Rattle.lvm_steps.specs.Requests.{at}
+use Rattle.lvm_steps.proofs.Entering.{quiet_goes_on, calm_goes_on}
 use Rattle.lvm_core.specs.Sound.{HaveAllLanded}
 use Rattle.lvm_core.proofs.Telling.{BeginNone, open_still}
 use Rattle.lvm_stamps.proofs.Clock.{later_joins}

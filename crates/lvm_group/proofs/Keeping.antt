@@ -27,7 +27,7 @@ use Rattle.lvm_kept.specs.Contents.{Contents, contents_of, has_records}
 use Rattle.lvm_disk.specs.Steps.{BothTold}
 use Rattle.lvm_disk.specs.Paths.{DeviceStep, Path}
 use Rattle.lvm_kept.specs.Plans.{ChangesBy}
-use Rattle.lvm_change.specs.Moments.{StaysKept}
+use Rattle.lvm_steps.specs.Moments.{StaysKept}
 use Rattle.lvm_stamps.specs.Behind.{StampsBefore, beginning_at, IsBehind}
 use Rattle.lvm_stamps.proofs.Records.{session_may_go}
 use Rattle.lvm_stamps.proofs.Stamps.{before_is_behind}

@@ -10,7 +10,7 @@ use Rattle.lvm_num.specs.Status.{calls_stale}
 use Rattle.lvm_kept.specs.Group.{IsOneOf}
 use Rattle.lvm_stale.specs.Table.{is_pp}
 use Rattle.lvm_status.specs.Update.{Stored}
-use Rattle.lvm_change.proofs.Booleans.{either, clash}
+use Rattle.lvm_steps.proofs.Booleans.{either, clash}
 use Rattle.lvm_commit.specs.LawsOfData.{IsFree}
 use Rattle.lvm_commit.specs.Settling.{there, NoneIsLeft, IsPassed, MarksLeft}
 use Rattle.lvm_commit.proofs.Copies.{contains, of_map, of_rows}

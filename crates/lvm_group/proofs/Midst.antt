@@ -13,9 +13,9 @@ use Rattle.lvm_disk.specs.Paths.{DeviceStep, Path}
 use Rattle.lvm_vol.specs.Log.{Log, cut_log, spare_entries}
 use Rattle.lvm_kept.specs.Contents.{Contents, contents_of, has_records}
 use Rattle.lvm_kept.specs.Moments.{Moment, StaysCalm}
-use Rattle.lvm_change.specs.Moments.{Keeps}
-use Rattle.lvm_change.specs.Requests.{at}
-use Rattle.lvm_change.proofs.Spans.{keeps_still, keeps_steps, steps_go_on, disks_go_out}
+use Rattle.lvm_steps.specs.Moments.{Keeps}
+use Rattle.lvm_steps.specs.Requests.{at}
+use Rattle.lvm_steps.proofs.Spans.{keeps_still, keeps_steps, steps_go_on, disks_go_out}
 use Rattle.lvm_stamps.specs.Behind.{IsBehind, IsAhead, ClockIsAhead}
 use Rattle.lvm_stamps.proofs.Clock.{all_is_behind_next}
 use Rattle.lvm_stamps.proofs.Shelves.{unwritten_stays_behind}

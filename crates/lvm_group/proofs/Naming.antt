@@ -23,7 +23,7 @@ use Rattle.lvm_kept.specs.Contents.{contents_of}
 use Rattle.lvm_kept.specs.Kept.{Kept}
 use Rattle.lvm_kept.specs.Moments.{Moment}
 use Rattle.lvm_map.specs.FirstFit.{IsAllocated, new_volume}
-use Rattle.lvm_change.proofs.Making.{media_may}
+use Rattle.lvm_steps.proofs.Making.{media_may}
 use Rattle.lvm_status.specs.Update.{members_there}
 use Rattle.lvm_quorum.specs.Written.{KeepsShelf}
 use Rattle.lvm_quorum.proofs.Transfers.{darkened_then, given_up_then}

@@ -9,7 +9,7 @@ use Rattle.lvm_vol.specs.Facts.{Fact, Removing, Removed}
 use Rattle.lvm_vol.specs.Log.{with_fact}
 use Rattle.lvm_kept.specs.Contents.{contents_of}
 use Rattle.lvm_kept.specs.Moments.{Moment}
-use Rattle.lvm_change.proofs.Entering.{goes_in_span}
+use Rattle.lvm_steps.proofs.Entering.{goes_in_span}
 use Rattle.lvm_commit.specs.LawsOfVolumes.{VolumeServes}
 use Rattle.lvm_commit.specs.Settling.{NoneIsLeft}
 use Rattle.lvm_commit.proofs.Volumes.{volume_is_gone_in_session}

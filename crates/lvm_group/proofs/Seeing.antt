@@ -11,7 +11,7 @@ use Rattle.lvm_num.specs.Geometry.{data_start}
 use Rattle.lvm_rec.specs.Slots.{newest_on}
 use Rattle.lvm_disk.specs.Counts.{Rose}
 use Rattle.lvm_disk.specs.Device.{Media, Image, Device, image_of}
-use Rattle.lvm_change.proofs.Booleans.{split}
+use Rattle.lvm_steps.proofs.Booleans.{split}
 use Rattle.lvm_kept.specs.Contents.{Contents, contents_of, has_records, descriptor_on, status_on}
 use Rattle.lvm_survey.specs.declared.row.SurveyRow.{SurveyRow}
 use Rattle.lvm_survey.specs.declared.row.Survey.{Survey}

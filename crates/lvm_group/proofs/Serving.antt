@@ -27,9 +27,9 @@ use Rattle.lvm_kept.specs.Kept.{StandsAs, Kept}
 use Rattle.lvm_kept.proofs.Contained.{blocks_are_sectors}
 use Rattle.lvm_kept.proofs.Finding.{images_within}
 use Rattle.lvm_kept.proofs.Values.{known_more}
-use Rattle.lvm_change.specs.Committing.{IsServed}
-use Rattle.lvm_change.proofs.Entries.{volumes-append}
-use Rattle.lvm_change.proofs.VolumeEntries.{zeros_serve}
+use Rattle.lvm_steps.specs.Committing.{IsServed}
+use Rattle.lvm_steps.proofs.Entries.{volumes-append}
+use Rattle.lvm_steps.proofs.VolumeEntries.{zeros_serve}
 use Rattle.lvm_commit.specs.Committed.{ShowsCommitted}
 use Rattle.lvm_commit.specs.LawsOfData.{IsSectorOf}
 use Rattle.lvm_commit.specs.LawsOfVolumes.{VolumeServes, HasFreshCopies}

@@ -12,10 +12,10 @@ use Rattle.lvm_vol.specs.Facts.{On}
 use Rattle.lvm_vol.specs.Legal.{IsLater}
 use Rattle.lvm_vol.specs.Log.{Log, spare_entries}
 use Rattle.lvm_kept.specs.Moments.{Moment, StaysCalm}
-use Rattle.lvm_change.specs.Moments.{Keeps}
-use Rattle.lvm_change.specs.Requests.{at}
-use Rattle.lvm_change.proofs.Entering.{calm_goes_on}
-use Rattle.lvm_change.proofs.Spans.{group_goes_on}
+use Rattle.lvm_steps.specs.Moments.{Keeps}
+use Rattle.lvm_steps.specs.Requests.{at}
+use Rattle.lvm_steps.proofs.Entering.{calm_goes_on}
+use Rattle.lvm_steps.proofs.Spans.{group_goes_on}
 use Rattle.lvm_status.specs.Update.{Updates, members_there}
 use Rattle.lvm_stamps.specs.Behind.{IsAhead, ClockIsAhead}
 use Rattle.lvm_commit.specs.Settling.{NoneIsLeft}

@@ -10,7 +10,7 @@ ghost use Rattle.lvm_group.specs.Steps.{LookGives};
 use crate::judge::judge;
 use lvm_core::Cause;
 use lvm_disk::Shelf;
-use lvm_move::Patience;
+use lvm_transfer::Patience;
 use lvm_num::Pbuf;
 use lvm_quorum::{Homes, Surveyed, survey_disks};
 use std::alloc::Global;

@@ -14,7 +14,7 @@ use crate::plan::Plan;
 use lvm_begin::{Begun, begin_new};
 use lvm_core::Cause;
 use lvm_disk::Shelf;
-use lvm_move::Patience;
+use lvm_transfer::Patience;
 use lvm_num::Pbuf;
 use lvm_quorum::Homes;
 

@@ -1,10 +1,11 @@
 -- Disks that are in no group, and requests on them.
-use Rattle.std.specs.Prelude.{◌≡◌, ◌<◌, ◌≤◌, ◌++◌, ◌∷◌, ℕ, Bool, true, false, List, [], Some, None}
+use Rattle.std.specs.Prelude.{◌≡◌, ◌<◌, ◌≤◌, ◌++◌, ◌∷◌, ◌+◌, ℕ, Bool, true, false, List, [], Some, None, count_by}
 use Rattle.lvm_num.specs.Geometry.{data_start}
 use Rattle.lvm_disk.specs.Device.{Image, Flight, Device, written, MayLeave}
 use Rattle.lvm_disk.specs.Images.{DiffersBy}
 use Rattle.lvm_vol.specs.declared.entry.Vol.TheVariants.{Disk}
 use Rattle.lvm_vol.specs.Facts.{Request, Fact, Cut, is_over, block_of}
+use Rattle.lvm_vol.specs.Legal.{begins_in}
 use Rattle.lvm_vol.specs.May.{known, May}
 
 -- Each block of each disk has a value that it may have once the power has gone off, whatever group the disk may be in.
@@ -18,6 +19,10 @@ RawImagesKept device facts = (image : Image) → MayLeave device image → RawKe
 -- a request of client 1 on a raw disk
 abbrev pub raw_request : ℕ → ℕ → ℕ → ℕ → ℕ → Bool → List (List ℕ) → Request
 raw_request run id disk at count write blocks = record { run = run; id = id; client = 1; vol = Disk disk; at = at; count = count; write = write; blocks = blocks }
+
+-- a write with the next number of its run
+abbrev pub next_write : ℕ → List Fact → ℕ → ℕ → ℕ → List (List ℕ) → Request
+next_write run facts disk at count blocks = raw_request run (count_by (begins_in run) facts + 1) disk at count true blocks
 
 -- the flight writes the request's blocks at their sectors, and nothing else
 pub record Carries (r : Request) (f : Flight) : Type 0 where

@@ -1,5 +1,4 @@
-//! Laws of what disks show, of the changes that keep a history, of requests on raw disks, and of runs.
-ghost use Rattle.lvm_kept.specs.Laws.{WriteDoneLaw, WriteLostLaw, RunsLaw};
+//! Laws of what disks show, and of the changes that keep a history.
 ghost use Rattle.lvm_kept.specs.Places.{DataWritesKeepRecords, RecordWritesKeepData, BlocksAreSectors};
 ghost use Rattle.lvm_kept.specs.Torn.{NewestStays, WritingBegins, StepKeepsWriting, AloneIsAmongOthers, NewestIsOldOrNew, WholeIsNew, DescriptorWriteShows, StatusWriteShows, EndedPartStands, StandingPartStays, NoteWriteShows, EarlierStaysBefore, ZerosAreBefore};
 ghost use Rattle.lvm_kept.specs.Group.{FindingReads};
@@ -110,17 +109,4 @@ pub fn entries_keep()
     ensures more { MoreIsKept }
     ensures beginning { BeginningAllowsMore }
     ensures stands { BeginningStands }
-{}
-
-/// A write of a disk that is in no group keeps the history legal and each crash image with it, at each
-/// moment from its beginning until its answer is taken, whether it is done or lost.
-pub fn raw_writes_keep()
-    ensures done { WriteDoneLaw }
-    ensures lost { WriteLostLaw }
-{}
-
-/// What a run leaves may stand before the next one, which has a name of its own: a history that is
-/// legal, with which each crash image is kept.
-pub fn runs_follow()
-    ensures { RunsLaw }
 {}

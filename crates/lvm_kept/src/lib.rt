@@ -5,6 +5,5 @@ mod laws;
 
 pub use laws::{
     blank_is_kept, changes_keep, entries_keep, groups_are_alike, parts_stand, places, quorums_find,
-    raw_writes_keep, record_writes, records_are_committed, runs_follow, stamps_rise, worked_groups,
-    writes_show, writing,
+    record_writes, records_are_committed, stamps_rise, worked_groups, writes_show, writing,
 };

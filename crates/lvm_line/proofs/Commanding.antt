@@ -4,10 +4,10 @@ use Rattle.lvm_num.specs.Buffer.{Buffer}
 use Rattle.lvm_disk.specs.Device.{Device, IsReady}
 use Rattle.lvm_vol.specs.Log.{Log}
 use Rattle.lvm_kept.specs.Moments.{Moment, StaysCalm}
-use Rattle.lvm_change.specs.Moments.{Keeps}
-use Rattle.lvm_change.specs.Requests.{at}
-use Rattle.lvm_change.proofs.Spans.{keeps_still}
-use Rattle.lvm_move.specs.Transfer.{Relights}
+use Rattle.lvm_steps.specs.Moments.{Keeps}
+use Rattle.lvm_steps.specs.Requests.{at}
+use Rattle.lvm_steps.proofs.Spans.{keeps_still}
+use Rattle.lvm_transfer.specs.Transfer.{Relights}
 use Rattle.lvm_core.specs.declared.refused.Cause.TheVariants as cause
 use Rattle.lvm_core.specs.Committing.{moment_of, StaysBehind}
 use Rattle.lvm_commit.specs.LawsOfVolumes.{IsOneByAllOn}

@@ -2,7 +2,7 @@
 use Rattle.std.proofs.Common.{◌≡◌, inl, inr, [], ℕ, true, false, Err, refl, sym, subst}
 use Rattle.lvm_disk.specs.Counts.{Rose}
 use Rattle.lvm_disk.specs.Device.{Device, IsReady}
-use Rattle.lvm_move.specs.Transfer.{Relights}
+use Rattle.lvm_transfer.specs.Transfer.{Relights}
 use Rattle.lvm_quorum.specs.Written.{IsGivenUp}
 use Rattle.lvm_commit.specs.Settling.{HasLostQuorum}
 use Rattle.lvm_core.specs.declared.request.Power.TheVariants as power

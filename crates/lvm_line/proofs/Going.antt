@@ -14,9 +14,9 @@ use Rattle.lvm_stamps.proofs.Clock.{later_is_later_too}
 use Rattle.lvm_core.specs.Sound.{HaveAllLanded}
 use Rattle.lvm_core.specs.State.{Core}
 use Rattle.lvm_line.specs.Groups.{IsAsked, EndsSession}
-use Rattle.lvm_change.specs.Moments.{Keeps}
-use Rattle.lvm_change.proofs.Spans.{keeps_still}
-use Rattle.lvm_move.specs.Transfer.{Relights}
+use Rattle.lvm_steps.specs.Moments.{Keeps}
+use Rattle.lvm_steps.proofs.Spans.{keeps_still}
+use Rattle.lvm_transfer.specs.Transfer.{Relights}
 use Rattle.lvm_line.specs.Moments.{GoesOn}
 use Rattle.lvm_line.specs.Replies.{IsStuck}
 use Rattle.lvm_line.specs.State.{State, IsSettled}

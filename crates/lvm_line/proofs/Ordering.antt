@@ -9,7 +9,7 @@ use Rattle.lvm_disk.specs.declared.shelf.Arrange.{Arrange}
 use Rattle.lvm_disk.specs.declared.shelf.Arrange.TheVariants as arrange
 use Rattle.lvm_disk.proofs.Stepping.{arrange_leaves}
 use Rattle.lvm_vol.specs.Log.{Log}
-use Rattle.lvm_change.proofs.Spans.{keeps_still, keeps_steps}
+use Rattle.lvm_steps.proofs.Spans.{keeps_still, keeps_steps}
 use Rattle.lvm_core.specs.Dark.{after_arrange}
 use Rattle.lvm_core.specs.State.{Core}
 use Rattle.lvm_line.specs.Moments.{GoesOn}

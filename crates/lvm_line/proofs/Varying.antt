@@ -7,7 +7,7 @@ use Rattle.lvm_vol.specs.Facts.{Fact, On}
 use Rattle.lvm_vol.specs.Legal.{IsLater}
 use Rattle.lvm_vol.specs.Log.{Log, is_open}
 use Rattle.lvm_kept.specs.Moments.{StaysCalm}
-use Rattle.lvm_change.specs.Requests.{at}
+use Rattle.lvm_steps.specs.Requests.{at}
 use Rattle.lvm_stamps.specs.Behind.{ClockIsAhead}
 use Rattle.lvm_stamps.proofs.Clock.{later_joins}
 use Rattle.lvm_core.specs.declared.parts.Room.{Room}

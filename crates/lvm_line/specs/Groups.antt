@@ -3,7 +3,7 @@ use Rattle.std.specs.Prelude.{◌≡◌, ℕ, Bool, List, Option, Some, None, Is
 use Rattle.lvm_disk.specs.Device.{Device}
 use Rattle.lvm_io.specs.Count.{Rose}
 use Rattle.lvm_vol.specs.Log.{Log}
-use Rattle.lvm_move.specs.Transfer.{Relights}
+use Rattle.lvm_transfer.specs.Transfer.{Relights}
 use Rattle.lvm_stamps.specs.Behind.{ClockIsAhead}
 use Rattle.lvm_core.specs.declared.parts.Room.{Room}
 use Rattle.lvm_core.specs.declared.refused.Cause.{Cause}

@@ -1,7 +1,7 @@
 -- What holds of the moments of each line.
 use Rattle.std.specs.Prelude.{◌≡◌, ◌≤◌, ℕ, true}
 use Rattle.lvm_kept.specs.Moments.{StaysCalm}
-use Rattle.lvm_change.specs.Moments.{Keeps}
+use Rattle.lvm_steps.specs.Moments.{Keeps}
 use Rattle.lvm_commit.specs.LawsOfVolumes.{IsOneByAllOn}
 use Rattle.lvm_group.specs.Endings.{EntersVolumes}
 use Rattle.lvm_line.specs.State.{State, IsSettled, IsTimely, AreHeld, HaveNotesHome, ComesOnQuiet, HaveNoneLeft}

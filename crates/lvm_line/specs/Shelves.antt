@@ -5,7 +5,7 @@ use Rattle.lvm_disk.specs.Steps.{with_order, Arranges}
 use Rattle.lvm_disk.specs.declared.shelf.Arrange.{Arrange}
 use Rattle.lvm_disk.specs.declared.shelf.Arrange.TheVariants as arrange
 use Rattle.lvm_vol.specs.Log.{Log, cut_log}
-use Rattle.lvm_move.specs.Transfer.{Relights}
+use Rattle.lvm_transfer.specs.Transfer.{Relights}
 use Rattle.lvm_line.specs.State.{State, log_with}
 use Rattle.lvm_line.specs.Replies.{IsRefused}
 use Rattle.lvm_line.specs.declared.reply.Refusal.TheVariants as refusal

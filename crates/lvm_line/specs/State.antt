@@ -4,7 +4,7 @@ use Rattle.lvm_disk.specs.Device.{IsReady}
 use Rattle.lvm_vol.specs.Facts.{Fact}
 use Rattle.lvm_vol.specs.Log.{Log}
 use Rattle.lvm_kept.specs.Moments.{Moment}
-use Rattle.lvm_change.specs.VaryingOn.{HasNoActive}
+use Rattle.lvm_steps.specs.VaryingOn.{HasNoActive}
 use Rattle.lvm_stamps.specs.Behind.{IsAhead}
 use Rattle.lvm_commit.specs.Settling.{NoneIsLeft}
 use Rattle.lvm_core.specs.State.{Core}

@@ -4,7 +4,7 @@ use Rattle.lvm_num.specs.declared.descriptor.Descriptor.{Descriptor}
 use Rattle.lvm_num.specs.declared.descriptor.Mode.{Mode}
 use Rattle.lvm_num.specs.declared.descriptor.Policy.{Policy}
 use Rattle.lvm_num.specs.declared.place.Pp.{Pp}
-use Rattle.lvm_move.specs.Transfer.{Relights}
+use Rattle.lvm_transfer.specs.Transfer.{Relights}
 use Rattle.lvm_quorum.specs.Written.{KeepsShelf}
 use Rattle.lvm_core.specs.Looking.{IsNumberOf, HasNoVolume}
 use Rattle.lvm_core.specs.declared.request.Power.TheVariants as power

@@ -10,7 +10,7 @@ use crate::reply::{Refusal, Reply};
 use crate::stage::{Answered, Stage};
 use lvm_core::Closed;
 use lvm_disk::{Arrange, Shelf};
-use lvm_move::relight;
+use lvm_transfer::relight;
 
 /// Lets a disk fail, or heal.
 pub fn do_arrange<S: Shelf>(stage: Stage<S>, disk: u16, what: Arrange) -> Answered<S>

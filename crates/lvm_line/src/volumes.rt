@@ -1,7 +1,7 @@
 //! The lines that make or remove a volume.
 ghost use Rattle.std.specs.Prelude.{◌≡◌, ◌≤◌, ℕ, [], List, true, IsTrue, IsFalse};
 ghost use Rattle.lvm_num.specs.declared.descriptor.Mode.TheVariants.{Off};
-ghost use Rattle.lvm_move.specs.Transfer.{Relights};
+ghost use Rattle.lvm_transfer.specs.Transfer.{Relights};
 ghost use Rattle.lvm_core.specs.State.{state};
 ghost use Rattle.lvm_core.specs.Looking.{IsNumberOf};
 ghost use Rattle.lvm_line.specs.Listings.{IsOn};
@@ -15,7 +15,7 @@ use crate::stage::{Answered, Stage};
 use lvm_core::{Closed, Driver};
 use lvm_disk::Shelf;
 use lvm_group::{GroupFault, mklv, rmlv};
-use lvm_move::{Patience, relight};
+use lvm_transfer::{Patience, relight};
 use lvm_num::{Mode, Name, Policy};
 use std::alloc::Global;
 

@@ -11,8 +11,8 @@ use Rattle.lvm_disk.specs.Device.{Media, Device, IsReady, image_of}
 use Rattle.lvm_kept.specs.Plans.{ChangesBy}
 use Rattle.lvm_kept.specs.Torn.{RecordWrite, IsOfRecord, StandsOn}
 use Rattle.lvm_kept.proofs.Records.{never}
-use Rattle.lvm_move.specs.declared.moves.Moved.{Moved}
-use Rattle.lvm_move.specs.declared.moves.Moved.TheVariants as moved
+use Rattle.lvm_transfer.specs.declared.moves.Moved.{Moved}
+use Rattle.lvm_transfer.specs.declared.moves.Moved.TheVariants as moved
 use Rattle.lvm_quorum.specs.declared.homes.Homes.{Homes}
 use Rattle.lvm_quorum.specs.declared.write.SlotWrite.{SlotWrite}
 use Rattle.lvm_quorum.specs.Homes.{second_slots, next_slot, Flips}

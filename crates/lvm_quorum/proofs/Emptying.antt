@@ -9,8 +9,8 @@ use Rattle.lvm_disk.specs.Device.{Device, image_of}
 use Rattle.lvm_kept.specs.Contents.{note_sector}
 use Rattle.lvm_kept.specs.Plans.{ChangesBy, IsPlanned}
 use Rattle.lvm_kept.specs.Torn.{IsOfNote}
-use Rattle.lvm_move.specs.Transfer.{flight_of}
-use Rattle.lvm_move.specs.declared.moves.Moved.{Moved}
+use Rattle.lvm_transfer.specs.Transfer.{flight_of}
+use Rattle.lvm_transfer.specs.declared.moves.Moved.{Moved}
 use Rattle.lvm_quorum.specs.Notes.{NoteTold}
 use Rattle.lvm_quorum.specs.Parts.{DoesPart}
 use Rattle.lvm_quorum.specs.Written.{KeepsShelf}

@@ -15,11 +15,11 @@ use Rattle.lvm_kept.specs.Raw.{OnlyAdds}
 use Rattle.lvm_kept.specs.Plans.{Plan, IsPlanned}
 use Rattle.lvm_kept.specs.Torn.{IsOfRecord}
 use Rattle.lvm_kept.proofs.Records.{never}
-use Rattle.lvm_move.specs.Transfer.{IsOut, TransferGives, Rests, flight_of}
-use Rattle.lvm_move.specs.declared.moves.Moved.{Moved}
-use Rattle.lvm_move.specs.declared.moves.Moved.TheVariants as moved
-use Rattle.lvm_move.proofs.Ending.{one_left}
-use Rattle.lvm_move.proofs.Effects.{out_flights}
+use Rattle.lvm_transfer.specs.Transfer.{IsOut, TransferGives, Rests, flight_of}
+use Rattle.lvm_transfer.specs.declared.moves.Moved.{Moved}
+use Rattle.lvm_transfer.specs.declared.moves.Moved.TheVariants as moved
+use Rattle.lvm_transfer.proofs.Ending.{one_left}
+use Rattle.lvm_transfer.proofs.Effects.{out_flights}
 use Rattle.lvm_quorum.specs.declared.write.SlotWrite.{SlotWrite}
 use Rattle.lvm_quorum.specs.Written.{IsWriting, IsInPlan}
 use Rattle.lvm_quorum.specs.Parts.{write_to, CountsEnd, LeavesShelf, IfBack, DoesPart}

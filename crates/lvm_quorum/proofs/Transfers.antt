@@ -7,8 +7,8 @@ use Rattle.lvm_disk.specs.Device.{Device, IsReady, image_of}
 use Rattle.lvm_disk.specs.Paths.{Here}
 use Rattle.lvm_kept.specs.Plans.{Plan, ChangesBy}
 use Rattle.lvm_kept.specs.Torn.{RecordWrite, IsOfRecord}
-use Rattle.lvm_move.specs.declared.moves.Moved.{Moved}
-use Rattle.lvm_move.specs.declared.moves.Moved.TheVariants as moved
+use Rattle.lvm_transfer.specs.declared.moves.Moved.{Moved}
+use Rattle.lvm_transfer.specs.declared.moves.Moved.TheVariants as moved
 use Rattle.lvm_quorum.specs.Written.{HasRoom, KeepsShelf, FreesAtMost, IsDarkened, IsGivenUp}
 use Rattle.lvm_quorum.specs.Parts.{PartsStand, CountsEnd, IfDone, LeavesShelf, IfBack, Spends, DoesPart, WritesPart}
 use Rattle.lvm_quorum.proofs.Writing.{logs_none, logs_then, both_then, both_same, changes_then, changes_none, writing_here, moments_on, parts_stay, no_parts, parts_join}

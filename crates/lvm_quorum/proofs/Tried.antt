@@ -11,7 +11,7 @@ use Rattle.lvm_disk.specs.Device.{Device, IsReady}
 use Rattle.lvm_disk.specs.Paths.{DeviceStep, Path, Here}
 use Rattle.lvm_kept.specs.Plans.{Plan}
 use Rattle.lvm_kept.proofs.Records.{never}
-use Rattle.lvm_move.specs.declared.moves.Moved.TheVariants as moved
+use Rattle.lvm_transfer.specs.declared.moves.Moved.TheVariants as moved
 use Rattle.lvm_quorum.specs.Written.{HasRoom, HaveRoom, KeepsShelf, EndsOn, IsWriting, IsBrokenOff}
 use Rattle.lvm_quorum.specs.Parts.{Spends, DoesPart}
 use Rattle.lvm_quorum.proofs.Writing.{moments_on, writing_here}

@@ -11,7 +11,7 @@ ghost use Rattle.lvm_quorum.specs.Written.{HasRoom, HaveRoom, IsWriting, KeepsSh
 
 use crate::write::Wrote;
 use lvm_disk::Shelf;
-use lvm_move::{Moved, Patience, transfer};
+use lvm_transfer::{Moved, Patience, transfer};
 use lvm_num::{DiskSet, Pbuf};
 use lvm_rec::write_note;
 

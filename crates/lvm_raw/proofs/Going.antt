@@ -5,11 +5,11 @@ use Rattle.lvm_disk.specs.Counts.{Rose, RoseBy, Counts, NoneFalls}
 use Rattle.lvm_disk.specs.Device.{Device, IsReady}
 use Rattle.lvm_kept.specs.Moments.{Moment, StaysCalm}
 use Rattle.lvm_kept.proofs.Chaining.{span_counts}
-use Rattle.lvm_change.specs.Moments.{Keeps}
-use Rattle.lvm_change.specs.Requests.{IsInNoGroup}
-use Rattle.lvm_change.proofs.Spans.{keeps_still, spans_join}
-use Rattle.lvm_move.specs.declared.moves.Moved.{Moved}
-use Rattle.lvm_move.specs.declared.moves.Moved.TheVariants as moved
+use Rattle.lvm_steps.specs.Moments.{Keeps}
+use Rattle.lvm_steps.specs.Requests.{IsInNoGroup}
+use Rattle.lvm_steps.proofs.Spans.{keeps_still, spans_join}
+use Rattle.lvm_transfer.specs.declared.moves.Moved.{Moved}
+use Rattle.lvm_transfer.specs.declared.moves.Moved.TheVariants as moved
 use Rattle.lvm_raw.specs.declared.fault.RawFault.{RawFault}
 use Rattle.lvm_raw.specs.declared.fault.RawFault.TheVariants as fault
 use Rattle.lvm_raw.specs.Requests.{HasEnded, HasFront, IsHeard}

@@ -6,19 +6,19 @@ use Rattle.std.proofs.lemmas.List.{append-nil}
 use Rattle.std.proofs.lemmas.List.Sums.{sum_by-append}
 use Rattle.std.proofs.lemmas.List.Folds.{list_any-append, find-append}
 use Rattle.std.specs.Option.{option_or}
-use Rattle.lvm_change.proofs.Spans.{later_append}
+use Rattle.lvm_steps.proofs.Spans.{later_append}
 use Rattle.lvm_raw.specs.Keeping.{HaveLanded, NoneComesOn}
 use Rattle.lvm_num.specs.Buffer.{Sector}
 use Rattle.lvm_vol.specs.declared.entry.Outcome.{Outcome}
 use Rattle.lvm_vol.specs.Facts.{Request, Fact, Begun, Landed, Taken, Cut, begun, begun_by}
 use Rattle.lvm_vol.specs.declared.entry.Vol.TheVariants.{Disk}
-use Rattle.lvm_kept.specs.Laws.{next_write}
-use Rattle.lvm_change.specs.Requests.{next_read}
+use Rattle.lvm_kept.specs.Raw.{next_write}
+use Rattle.lvm_steps.specs.Requests.{next_read}
 use Rattle.std.specs.Simd.{first_chunks}
 use Rattle.lvm_vol.specs.Log.{with_fact, next_request, asked, request_of, has_id, lands_id, is_open, is_uncut, is_uncut_from, is_uncut_after, Log, cut_log, no_request, awaited, need, needed, blocks_begun, spare_entries, spare_bytes}
 use Rattle.lvm_vol.specs.declared.entry.Outcome.TheVariants as outcome
-use Rattle.lvm_move.specs.declared.moves.Moved.{Moved}
-use Rattle.lvm_move.specs.declared.moves.Moved.TheVariants as moved
+use Rattle.lvm_transfer.specs.declared.moves.Moved.{Moved}
+use Rattle.lvm_transfer.specs.declared.moves.Moved.TheVariants as moved
 use Rattle.lvm_raw.specs.Requests.{landing_ends, cut_ends, write_ends, read_ends, HasEnded, IsHeard}
 
 -- an entry that begins no request leaves those that began

@@ -9,19 +9,19 @@ use Rattle.lvm_vol.specs.Facts.{Fact, Cut}
 use Rattle.lvm_vol.specs.Log.{Log, cut_log, is_uncut}
 use Rattle.lvm_kept.specs.Contents.{descriptor_on}
 use Rattle.lvm_kept.specs.Moments.{Moment, StaysCalm}
-use Rattle.lvm_change.specs.Moments.{Keeps}
-use Rattle.lvm_change.specs.Requests.{IsInNoGroup, at as moment_of}
-use Rattle.lvm_change.proofs.Spans.{keeps_still, keeps_steps}
-use Rattle.lvm_change.proofs.Entering.{quiet_goes_on, calm_goes_on}
-use Rattle.lvm_change.proofs.Writing.{still_shows_none}
+use Rattle.lvm_steps.specs.Moments.{Keeps}
+use Rattle.lvm_steps.specs.Requests.{IsInNoGroup, at as moment_of}
+use Rattle.lvm_steps.proofs.Spans.{keeps_still, keeps_steps}
+use Rattle.lvm_steps.proofs.Entering.{quiet_goes_on, calm_goes_on}
+use Rattle.lvm_steps.proofs.Writing.{still_shows_none}
 use Rattle.lvm_stamps.proofs.Shelves.{unwritten_stays_behind}
-use Rattle.lvm_move.specs.Transfer.{Relights}
+use Rattle.lvm_transfer.specs.Transfer.{Relights}
 use Rattle.lvm_survey.specs.Surveying.{OnlyReads, IsCutOff}
 use Rattle.lvm_survey.specs.Surveyed.{descriptor_shown}
 use Rattle.lvm_raw.specs.declared.fault.RawFault.{RawFault}
 use Rattle.lvm_raw.specs.declared.fault.RawFault.TheVariants as fault
 use Rattle.lvm_vol.specs.Legal.{IsLater}
-use Rattle.lvm_change.proofs.Spans.{later_append}
+use Rattle.lvm_steps.proofs.Spans.{later_append}
 use Rattle.lvm_raw.proofs.Logs.{cut_lands}
 use Rattle.lvm_raw.specs.Keeping.{HaveLanded, NoneComesOn, KeepsShelf, StaysBehind, AnswerHasCause, IsUnstuck, RangeKeeps}
 use Rattle.lvm_raw.specs.Looking.{ShowsDescriptor, FindsNone, LookFails, look_ends}

@@ -10,14 +10,14 @@ use Rattle.lvm_disk.specs.Images.{LeavesNoMore}
 use Rattle.lvm_disk.specs.Paths.{DeviceStep, Path}
 use Rattle.lvm_disk.proofs.Paths.{last-path}
 use Rattle.lvm_kept.specs.Raw.{OnlyAdds}
-use Rattle.lvm_change.specs.Requests.{IsInNoGroup, IsOfData}
-use Rattle.lvm_change.proofs.Writing.{stays_in_no_group}
+use Rattle.lvm_steps.specs.Requests.{IsInNoGroup, IsOfData}
+use Rattle.lvm_steps.proofs.Writing.{stays_in_no_group}
 use Rattle.lvm_stamps.proofs.Shelves.{transfer_stays_behind, no_more_stays_behind}
 use Rattle.lvm_stamps.specs.Behind.{IsBehind}
-use Rattle.lvm_move.specs.Transfer.{IsOut, TransferGives, Rests, flight_of}
-use Rattle.lvm_move.specs.declared.moves.Moved.{Moved}
-use Rattle.lvm_move.specs.declared.moves.Moved.TheVariants as moved
-use Rattle.lvm_move.proofs.Ending.{one_left}
+use Rattle.lvm_transfer.specs.Transfer.{IsOut, TransferGives, Rests, flight_of}
+use Rattle.lvm_transfer.specs.declared.moves.Moved.{Moved}
+use Rattle.lvm_transfer.specs.declared.moves.Moved.TheVariants as moved
+use Rattle.lvm_transfer.proofs.Ending.{one_left}
 use Rattle.lvm_raw.specs.Keeping.{KeepsShelf, StaysBehind, HasCause}
 use Rattle.lvm_raw.specs.Requests.{RelightsAfter, IsHeard}
 

@@ -4,8 +4,8 @@ use Rattle.lvm_num.specs.Buffer.{Buffer, Sector}
 use Rattle.lvm_disk.specs.Device.{Device}
 use Rattle.lvm_vol.specs.Log.{Log}
 use Rattle.lvm_kept.specs.Moments.{Moment}
-use Rattle.lvm_move.specs.declared.moves.Moved.{Moved}
-use Rattle.lvm_move.specs.declared.moves.Moved.TheVariants as moved
+use Rattle.lvm_transfer.specs.declared.moves.Moved.{Moved}
+use Rattle.lvm_transfer.specs.declared.moves.Moved.TheVariants as moved
 use Rattle.lvm_survey.proofs.DiskRows.{got_within}
 use Rattle.lvm_raw.specs.declared.fault.RawFault.{RawFault}
 use Rattle.lvm_raw.specs.declared.fault.RawFault.TheVariants as fault

@@ -10,18 +10,17 @@ use Rattle.lvm_vol.specs.declared.entry.Outcome.TheVariants as outcome
 use Rattle.lvm_vol.specs.Facts.{Fact, Request, Begun}
 use Rattle.lvm_vol.specs.Legal.{begins_in}
 use Rattle.lvm_kept.specs.Moments.{StaysCalm}
-use Rattle.lvm_kept.specs.Raw.{OnlyAdds}
-use Rattle.lvm_kept.specs.Laws.{next_write}
+use Rattle.lvm_kept.specs.Raw.{OnlyAdds, next_write}
 use Rattle.lvm_kept.proofs.Carrying.{carries_front}
-use Rattle.lvm_change.specs.Moments.{Keeps}
-use Rattle.lvm_change.specs.Requests.{IsInNoGroup, IsRawWrite, next_read, at as moment_of}
-use Rattle.lvm_change.proofs.Writing.{write_done_keeps, write_lost_keeps, write_dark_keeps, write_stuck_keeps}
-use Rattle.lvm_change.proofs.Reading.{read_got_keeps, read_failed_keeps, read_dark_keeps, read_stuck_keeps}
-use Rattle.lvm_change.proofs.Entering.{answered_stays_calm, darkened_stays_calm}
-use Rattle.lvm_move.specs.Transfer.{TransferGives, flight_of}
-use Rattle.lvm_move.specs.declared.moves.Moved.{Moved}
-use Rattle.lvm_move.specs.declared.moves.Moved.TheVariants as moved
-use Rattle.lvm_move.proofs.Effects.{done_effect, failed_effect}
+use Rattle.lvm_steps.specs.Moments.{Keeps}
+use Rattle.lvm_steps.specs.Requests.{IsInNoGroup, IsRawWrite, next_read, at as moment_of}
+use Rattle.lvm_steps.proofs.Writing.{write_done_keeps, write_lost_keeps, write_dark_keeps, write_stuck_keeps}
+use Rattle.lvm_steps.proofs.Reading.{read_got_keeps, read_failed_keeps, read_dark_keeps, read_stuck_keeps}
+use Rattle.lvm_steps.proofs.Entering.{answered_stays_calm, darkened_stays_calm}
+use Rattle.lvm_transfer.specs.Transfer.{TransferGives, flight_of}
+use Rattle.lvm_transfer.specs.declared.moves.Moved.{Moved}
+use Rattle.lvm_transfer.specs.declared.moves.Moved.TheVariants as moved
+use Rattle.lvm_transfer.proofs.Effects.{done_effect, failed_effect}
 use Rattle.lvm_raw.specs.Requests.{write_ends, read_ends, RelightsAfter, IsHeard, HasFront}
 
 module _ (run disk from count : ℕ) (buf : Buffer) (old mid new : Device) (facts : List Fact) (still : old.flights ≡ []) (none : IsInNoGroup old disk) (low : data_start ≤ from) (lit : Path DeviceStep (LeavesNoMore mid) mid new) where

@@ -3,8 +3,8 @@ use Rattle.std.specs.Prelude.{◌≡◌, ℕ, IsSome, IfSome}
 use Rattle.lvm_disk.specs.Device.{Device, image_of}
 use Rattle.lvm_vol.specs.Log.{Log, cut_log}
 use Rattle.lvm_kept.specs.Contents.{descriptor_on}
-use Rattle.lvm_change.specs.Requests.{IsInNoGroup}
-use Rattle.lvm_move.specs.Transfer.{Relights}
+use Rattle.lvm_steps.specs.Requests.{IsInNoGroup}
+use Rattle.lvm_transfer.specs.Transfer.{Relights}
 use Rattle.lvm_survey.specs.Surveying.{OnlyReads, IsUntouched, IsCutOff, IsStuck, AllWereRead, OneFailed}
 use Rattle.lvm_raw.specs.declared.fault.RawFault.{RawFault}
 use Rattle.lvm_raw.specs.declared.fault.RawFault.TheVariants as fault

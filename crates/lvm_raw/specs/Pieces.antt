@@ -4,11 +4,11 @@ use Rattle.lvm_num.specs.Buffer.{Buffer, Sector}
 use Rattle.lvm_num.specs.Word.{fill_of}
 use Rattle.lvm_vol.specs.Facts.{Begun}
 use Rattle.lvm_kept.specs.Moments.{Moment}
-use Rattle.lvm_kept.specs.Laws.{next_write}
-use Rattle.lvm_change.specs.Requests.{next_read}
-use Rattle.lvm_move.specs.Transfer.{flight_of}
-use Rattle.lvm_move.specs.declared.moves.Moved.{Moved}
-use Rattle.lvm_move.specs.declared.moves.Moved.TheVariants as moved
+use Rattle.lvm_kept.specs.Raw.{next_write}
+use Rattle.lvm_steps.specs.Requests.{next_read}
+use Rattle.lvm_transfer.specs.Transfer.{flight_of}
+use Rattle.lvm_transfer.specs.declared.moves.Moved.{Moved}
+use Rattle.lvm_transfer.specs.declared.moves.Moved.TheVariants as moved
 use Rattle.lvm_raw.specs.declared.fault.RawFault.{RawFault}
 use Rattle.lvm_raw.specs.declared.fault.RawFault.TheVariants as fault
 use Rattle.lvm_raw.specs.Requests.{write_ends, read_ends, ShelfAfter, HasEnded}

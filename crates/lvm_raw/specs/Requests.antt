@@ -3,9 +3,9 @@ use Rattle.std.specs.Prelude.{◌≡◌, ◌≤◌, length, ℕ, ◌++◌, [], �
 use Rattle.lvm_disk.specs.Device.{Flight, Device}
 use Rattle.lvm_vol.specs.declared.entry.Outcome.TheVariants as outcome
 use Rattle.lvm_vol.specs.Facts.{Request, Fact, Landed, Taken, Cut}
-use Rattle.lvm_move.specs.Transfer.{TransferGives, Relights}
-use Rattle.lvm_move.specs.declared.moves.Moved.{Moved}
-use Rattle.lvm_move.specs.declared.moves.Moved.TheVariants as moved
+use Rattle.lvm_transfer.specs.Transfer.{TransferGives, Relights}
+use Rattle.lvm_transfer.specs.declared.moves.Moved.{Moved}
+use Rattle.lvm_transfer.specs.declared.moves.Moved.TheVariants as moved
 
 -- the request lands, and its answer is taken
 abbrev pub landing_ends : List Fact → Request → Fact → List Fact

@@ -2,8 +2,8 @@
 ghost use Rattle.std.specs.Prelude.{◌≡◌, ◌↔◌, ℕ, ◌+◌, ◌-◌, ◌^◌, ◌<◌, ◌≤◌, length, true, IfOk};
 ghost use Rattle.lvm_disk.specs.Counts.{Rose, RoseBy};
 ghost use Rattle.lvm_disk.specs.Device.{IsReady};
-ghost use Rattle.lvm_change.specs.Moments.{Keeps};
-ghost use Rattle.lvm_change.specs.Requests.{IsInNoGroup, at as moment_of};
+ghost use Rattle.lvm_steps.specs.Moments.{Keeps};
+ghost use Rattle.lvm_steps.specs.Requests.{IsInNoGroup, at as moment_of};
 ghost use Rattle.lvm_kept.specs.Moments.{StaysCalm};
 ghost use Rattle.lvm_raw.specs.Asking.{IsNoDisk, IsInData, IsOutside, IsFull, MayAsk};
 ghost use Rattle.lvm_raw.specs.Keeping.{HaveLanded, KeepsShelf, NoneComesOn, StaysBehind, RangeKeeps};
@@ -16,7 +16,7 @@ use crate::look::look;
 use crate::pieces::{read_pieces, write_pieces};
 use lvm_disk::Shelf;
 use lvm_history::History;
-use lvm_move::Patience;
+use lvm_transfer::Patience;
 use lvm_num::Rows;
 use std::alloc::Global;
 

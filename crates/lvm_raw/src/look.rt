@@ -1,14 +1,14 @@
 //! Whether a disk is in a group.
 ghost use Rattle.std.specs.Prelude.{◌≡◌, ◌<◌, ◌≤◌, length, slice_index_or, OnOk, IfErr};
 ghost use Rattle.lvm_disk.specs.Device.{IsReady};
-ghost use Rattle.lvm_change.specs.Requests.{at as moment_of};
+ghost use Rattle.lvm_steps.specs.Requests.{at as moment_of};
 ghost use Rattle.lvm_raw.specs.Keeping.{RangeKeeps};
 ghost use Rattle.lvm_raw.specs.Looking.{FindsNone, LookFails, look_ends};
 
 use crate::fault::RawFault;
 use lvm_disk::Shelf;
 use lvm_history::History;
-use lvm_move::{Patience, relight};
+use lvm_transfer::{Patience, relight};
 use lvm_num::Pbuf;
 use lvm_survey::{Stop, Unread, read_descriptor};
 use std::alloc::Global;

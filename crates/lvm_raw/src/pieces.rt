@@ -1,7 +1,7 @@
 //! The pieces of a range of a disk in no group, one after the other.
 ghost use Rattle.std.specs.Prelude.{◌≡◌, ◌≤◌, ◌<◌, ◌^◌, ◌+◌, [], length, vec_len, vec_capacity, Ok, IfOk};
 ghost use Rattle.lvm_disk.specs.Device.{IsReady};
-ghost use Rattle.lvm_change.specs.Requests.{IsInNoGroup, at as moment_of};
+ghost use Rattle.lvm_steps.specs.Requests.{IsInNoGroup, at as moment_of};
 ghost use Rattle.lvm_raw.specs.Asking.{MayAsk};
 ghost use Rattle.lvm_raw.specs.Keeping.{RangeKeeps};
 ghost use Rattle.lvm_raw.specs.Requests.{HasFront};
@@ -13,7 +13,7 @@ use crate::fault::RawFault;
 use crate::request::{read_piece, write_piece};
 use lvm_disk::Shelf;
 use lvm_history::History;
-use lvm_move::{Moved, Patience};
+use lvm_transfer::{Moved, Patience};
 use lvm_num::{Pbuf, Rows};
 
 // Notes the first failure, and hands the buffer of a transfer back that the disk answered.

@@ -9,8 +9,8 @@ ghost use Rattle.lvm_disk.specs.Images.{LeavesNoMore};
 ghost use Rattle.lvm_disk.specs.Paths.{DeviceStep, Path};
 ghost use Rattle.lvm_vol.specs.Facts.{Landed};
 ghost use Rattle.lvm_vol.specs.Log.{request_of, is_open, is_uncut, awaited, got_without_bytes, spare_entries, spare_bytes};
-ghost use Rattle.lvm_change.specs.Requests.{IsInNoGroup, at as moment_of};
-ghost use Rattle.lvm_move.specs.Transfer.{Rests};
+ghost use Rattle.lvm_steps.specs.Requests.{IsInNoGroup, at as moment_of};
+ghost use Rattle.lvm_transfer.specs.Transfer.{Rests};
 ghost use Rattle.lvm_raw.specs.Keeping.{PieceKeeps};
 ghost use Rattle.lvm_raw.specs.Pieces.{WritesPiece, ReadsPiece};
 ghost use Rattle.lvm_raw.specs.Requests.{landing_ends, cut_ends, write_ends, read_ends, RelightsAfter, HasEnded, HasFront};
@@ -18,7 +18,7 @@ ghost use Rattle.lvm_raw.specs.Requests.{landing_ends, cut_ends, write_ends, rea
 use crate::blocks::{copy_front, fill_front};
 use lvm_disk::Shelf;
 use lvm_history::History;
-use lvm_move::{Moved, Patience, relight, transfer};
+use lvm_transfer::{Moved, Patience, relight, transfer};
 use lvm_num::Pbuf;
 use lvm_vol::{Outcome, Vol};
 

@@ -27,7 +27,7 @@ use Rattle.lvm_recover.specs.Recopied.{IsToEqual, IsFromFirst, IsRecopied, HoldF
 use Rattle.lvm_recover.proofs.Beginning.{usable_same}
 use Rattle.lvm_recover.proofs.Equalling.{even_there}
 use Rattle.lvm_recover.specs.Recovered.{HasNoPassive, Recovers, RecoveredByCopying}
-use Rattle.lvm_change.proofs.Booleans.{split, join}
+use Rattle.lvm_steps.proofs.Booleans.{split, join}
 use Rattle.lvm_crash.proofs.Lists.{not_so, so_not}
 use Rattle.lvm_rest.proofs.Rows.{clash}
 

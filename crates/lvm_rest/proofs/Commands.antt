@@ -27,9 +27,9 @@ use Rattle.lvm_kept.specs.Torn.{StatusesChange}
 use Rattle.lvm_kept.proofs.Finding.{finding_reads}
 use Rattle.lvm_kept.proofs.Restamping.{fewer_blocks}
 use Rattle.lvm_kept.proofs.Restating.{statuses_keep}
-use Rattle.lvm_change.proofs.Booleans.{either, clash, not-itself}
-use Rattle.lvm_change.proofs.VaryingOn.{old_or_next}
-use Rattle.lvm_change.specs.Committing.{IsServed}
+use Rattle.lvm_steps.proofs.Booleans.{either, clash, not-itself}
+use Rattle.lvm_steps.proofs.VaryingOn.{old_or_next}
+use Rattle.lvm_steps.specs.Committing.{IsServed}
 use Rattle.lvm_commit.specs.Committed.{ShowsCommitted}
 use Rattle.lvm_commit.specs.Laws.{IsLaterStatus}
 use Rattle.lvm_commit.proofs.Free.{none_stands}

@@ -25,10 +25,10 @@ use Rattle.lvm_kept.specs.Committed.{IsWithinDisks}
 use Rattle.lvm_kept.proofs.Finding.{some_same, finding_reads, images_within}
 use Rattle.lvm_commit.specs.Committed.{ShowsCommitted}
 use Rattle.lvm_commit.proofs.Found.{only_found, status_read}
-use Rattle.lvm_good.specs.State.{has_notes, has_mark, Marks, Queued, OpenCopy, State, Live, stale_in, told}
-use Rattle.lvm_good.specs.Sound.{MayDiffer, Agree, Settled, Sound}
-use Rattle.lvm_good.specs.Found.{Votes, Found}
-use Rattle.lvm_good.specs.Good.{Good}
+use Rattle.lvm_invariant.specs.State.{has_notes, has_mark, Marks, Queued, OpenCopy, State, Live, stale_in, told}
+use Rattle.lvm_invariant.specs.Sound.{MayDiffer, Agree, Settled, Sound}
+use Rattle.lvm_invariant.specs.Found.{Votes, Found}
+use Rattle.lvm_invariant.specs.Good.{Good}
 use Rattle.lvm_crash.specs.Session.{as_marks, marks_shown, AreVotesOf, members_there, GroupStands, HasVolumes, Describes}
 use Rattle.lvm_crash.proofs.Loose.{loose_is_off}
 use Rattle.lvm_crash.proofs.Lists.{left_of, right_of, both_of, not_so, so_not}

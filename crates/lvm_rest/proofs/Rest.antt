@@ -19,11 +19,11 @@ use Rattle.lvm_kept.specs.Committed.{IsWithinDisks}
 use Rattle.lvm_commit.specs.Committed.{ShowsCommitted}
 use Rattle.lvm_commit.proofs.Found.{shows_group}
 use Rattle.lvm_commit.proofs.Members.{member_of_parts}
-use Rattle.lvm_good.specs.State.{has_notes, has_mark, Marks, State, Live, stale_in, told}
-use Rattle.lvm_good.specs.Sound.{MayDiffer, Agree}
-use Rattle.lvm_good.specs.Found.{Votes}
-use Rattle.lvm_good.specs.Good.{Good}
-use Rattle.lvm_good.proofs.CrashLemmas.{core_kept}
+use Rattle.lvm_invariant.specs.State.{has_notes, has_mark, Marks, State, Live, stale_in, told}
+use Rattle.lvm_invariant.specs.Sound.{MayDiffer, Agree}
+use Rattle.lvm_invariant.specs.Found.{Votes}
+use Rattle.lvm_invariant.specs.Good.{Good}
+use Rattle.lvm_invariant.proofs.CrashLemmas.{core_kept}
 use Rattle.lvm_crash.specs.Session.{AreVotesOf, members_there, Describes}
 use Rattle.lvm_crash.proofs.Blocks.{block_of}
 use Rattle.lvm_crash.proofs.Lists.{left_of, right_of, both_of, not_so, so_not, of_passing}

@@ -17,7 +17,7 @@ use Rattle.lvm_vol.specs.Facts.{Fact}
 use Rattle.lvm_kept.specs.Contents.{Contents}
 use Rattle.lvm_kept.specs.Group.{is_named, IsBlockOf, IsOneOf}
 use Rattle.lvm_kept.proofs.Finding.{some_same}
-use Rattle.lvm_good.specs.State.{has_notes, has_mark, State}
+use Rattle.lvm_invariant.specs.State.{has_notes, has_mark, State}
 use Rattle.lvm_crash.specs.Session.{as_marks, marks_of, view_of, members_there, IsBlockIn}
 use Rattle.lvm_crash.proofs.Lists.{left_of, right_of, both_of}
 use Rattle.lvm_rest.specs.Good.{RestIsSeen}

@@ -20,9 +20,9 @@ use Rattle.lvm_disk.specs.Device.{Media, Device, image_of}
 use Rattle.lvm_kept.specs.Contents.{note_sector, Contents, contents_of}
 use Rattle.lvm_kept.specs.Examples.{stamped, row_of, status_of_rows, zeros, only, either_of, two, ones, torn_mirror}
 use Rattle.lvm_commit.specs.Committed.{ShowsCommitted}
-use Rattle.lvm_good.specs.State.{State}
-use Rattle.lvm_good.specs.Found.{Votes}
-use Rattle.lvm_good.specs.Good.{Good}
+use Rattle.lvm_invariant.specs.State.{State}
+use Rattle.lvm_invariant.specs.Found.{Votes}
+use Rattle.lvm_invariant.specs.Good.{Good}
 use Rattle.lvm_crash.specs.Session.{AreVotesOf}
 use Rattle.lvm_crash.specs.Flights.{Matches}
 use Rattle.lvm_rest.specs.Rest.{AreClosed, IsAtRest}

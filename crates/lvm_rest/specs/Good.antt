@@ -11,9 +11,9 @@ use Rattle.lvm_disk.specs.Device.{Media, Device, image_of}
 use Rattle.lvm_kept.specs.Contents.{Contents, contents_of}
 use Rattle.lvm_kept.specs.Committed.{IsWithinDisks}
 use Rattle.lvm_commit.specs.Committed.{ShowsCommitted}
-use Rattle.lvm_good.specs.State.{State}
-use Rattle.lvm_good.specs.Found.{Votes}
-use Rattle.lvm_good.specs.Good.{Good}
+use Rattle.lvm_invariant.specs.State.{State}
+use Rattle.lvm_invariant.specs.Found.{Votes}
+use Rattle.lvm_invariant.specs.Good.{Good}
 use Rattle.lvm_crash.specs.Session.{AreVotesOf, Describes}
 use Rattle.lvm_crash.specs.Flights.{Matches}
 use Rattle.lvm_rest.specs.Rest.{IsIdle, SeesThat, AreClosed, IsAtRest}

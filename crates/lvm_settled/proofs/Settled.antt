@@ -11,7 +11,7 @@ use Rattle.lvm_kept.specs.Kept.{Kept}
 use Rattle.lvm_kept.specs.Moments.{Calm}
 use Rattle.lvm_kept.proofs.Alike.{one_is_only}
 use Rattle.lvm_kept.proofs.Finding.{images_within}
-use Rattle.lvm_change.proofs.Making.{media_may}
+use Rattle.lvm_steps.proofs.Making.{media_may}
 use Rattle.lvm_status.specs.Update.{members_there}
 use Rattle.lvm_core.specs.State.{is_there}
 use Rattle.lvm_rest.proofs.Rest.{good_is_rest}

@@ -9,11 +9,11 @@ use Rattle.lvm_disk.specs.Images.{LeavesNoMore, DiffersBy}
 use Rattle.lvm_disk.specs.Paths.{DeviceStep, Path}
 use Rattle.lvm_disk.proofs.Paths.{map-path}
 use Rattle.lvm_kept.specs.Raw.{OnlyAdds}
-use Rattle.lvm_move.specs.declared.moves.Moved.{Moved}
-use Rattle.lvm_move.specs.declared.moves.Moved.TheVariants as moved
-use Rattle.lvm_move.specs.Transfer.{IsOut, TransferGives, flight_of}
-use Rattle.lvm_move.proofs.Effects.{DoneEffect, done_effect, out_flights}
-use Rattle.lvm_move.proofs.Ending.{one_left}
+use Rattle.lvm_transfer.specs.declared.moves.Moved.{Moved}
+use Rattle.lvm_transfer.specs.declared.moves.Moved.TheVariants as moved
+use Rattle.lvm_transfer.specs.Transfer.{IsOut, TransferGives, flight_of}
+use Rattle.lvm_transfer.proofs.Effects.{DoneEffect, done_effect, out_flights}
+use Rattle.lvm_transfer.proofs.Ending.{one_left}
 use Rattle.lvm_survey.specs.Surveying.{IsUnwritten, IsUntouched, IsCutOff, IsStuck, AllWereRead, OneFailed, OnlyReads}
 use Rattle.lvm_survey.proofs.Joining.{joined-read}
 

@@ -13,7 +13,7 @@ ghost use Rattle.lvm_survey.specs.Surveying.{stamped_if, OnlyReads, IsHome, IsUn
 
 use crate::found::{Found, Latest, descriptor_in, newest};
 use lvm_disk::Shelf;
-use lvm_move::{Moved, Patience, transfer};
+use lvm_transfer::{Moved, Patience, transfer};
 use lvm_num::{Descriptor, Memory, Pbuf};
 use std::alloc::{AllocError, Global};
 

@@ -11,7 +11,7 @@ use lvm_commit::{Settled, commit_descriptor, commit_status};
 use lvm_disk::Shelf;
 use lvm_faults::{Act, Planned};
 use lvm_memory::MemShelf;
-use lvm_move::{Patience, relight};
+use lvm_transfer::{Patience, relight};
 use lvm_num::{Descriptor, Pbuf, Pp, Rows, Stamp};
 use lvm_quorum::Homes;
 use lvm_stale::StaleTable;

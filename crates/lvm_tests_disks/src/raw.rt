@@ -6,7 +6,7 @@ use lvm_disk::Shelf;
 use lvm_faults::{Act, Planned};
 use lvm_history::History;
 use lvm_memory::MemShelf;
-use lvm_move::{Patience, relight};
+use lvm_transfer::{Patience, relight};
 use lvm_num::{Rows, fill};
 use lvm_raw::{RawFault, read_disk, write_disk};
 use lvm_vol::{Entry, Outcome};

@@ -11,7 +11,7 @@ use lvm_begin::{Begun, begin_again, begin_new};
 use lvm_disk::Shelf;
 use lvm_faults::{Planned, names_disks};
 use lvm_memory::MemShelf;
-use lvm_move::{Patience, relight};
+use lvm_transfer::{Patience, relight};
 use lvm_num::{
     Descriptor, DiskSet, LvRow, Mode, Name, Pbuf, Policy, Pp, PvRow, Rows, Stamp, Status,
     StatusRow, VolumeNumbers,

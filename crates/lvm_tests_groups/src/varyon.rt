@@ -5,7 +5,7 @@ use lvm_disk::{Arrange, Shelf};
 use lvm_faults::{Act, Planned};
 use lvm_history::History;
 use lvm_memory::MemShelf;
-use lvm_move::{Patience, relight};
+use lvm_transfer::{Patience, relight};
 use lvm_num::Pp;
 use lvm_varyon::varyon;
 use std::process::Abort;

@@ -8,7 +8,7 @@ use Step::*;
 use lvm_disk::Shelf;
 use lvm_faults::{Act, Planned, names_disks};
 use lvm_memory::MemShelf;
-use lvm_move::{Patience, relight};
+use lvm_transfer::{Patience, relight};
 use lvm_num::{DiskSet, Kind, Pbuf, Stamp};
 use lvm_quorum::{Homes, Wrote, empty_notes, write_record};
 use lvm_rec::{read_note, read_slot};

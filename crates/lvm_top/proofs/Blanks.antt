@@ -6,8 +6,8 @@ use Rattle.lvm_num.specs.Buffer.{Sector, zero_sector}
 use Rattle.lvm_disk.specs.Device.{Media, Device, image_of}
 use Rattle.lvm_media.specs.Media.{media_of, sizes_of, blank_disks_of}
 use Rattle.lvm_kept.specs.Changes.{IsBlank}
-use Rattle.lvm_change.specs.Moments.{IsEarlier}
-use Rattle.lvm_change.proofs.Zeros.{blank_is_earlier}
+use Rattle.lvm_steps.specs.Moments.{IsEarlier}
+use Rattle.lvm_steps.proofs.Zeros.{blank_is_earlier}
 use Rattle.lvm_stamps.specs.Behind.{IsBehind}
 use Rattle.lvm_stamps.proofs.Records.{blank_is_behind}
 use Rattle.lvm_top.specs.Sim.{sim_device, IsToldBlank}

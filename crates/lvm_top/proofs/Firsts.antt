@@ -1,7 +1,7 @@
 -- Runs over disks that hold nothing.
 use Rattle.std.proofs.Common.{◌≡◌, ℕ, List, [], sym, subst}
 use Rattle.lvm_disk.specs.Device.{Device}
-use Rattle.lvm_change.specs.Moments.{ImagesKept, IsEarlier, IsUpheld}
+use Rattle.lvm_steps.specs.Moments.{ImagesKept, IsEarlier, IsUpheld}
 use Rattle.lvm_stamps.specs.Behind.{IsBehind}
 use Rattle.lvm_vol.specs.Facts.{Fact, joined}
 use Rattle.lvm_vol.specs.Legal.{Legal}

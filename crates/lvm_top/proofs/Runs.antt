@@ -9,8 +9,8 @@ use Rattle.lvm_vol.specs.Facts.{Fact, Making, Made, Split, Removing, Removed, Be
 use Rattle.lvm_vol.specs.Legal.{begins_in}
 use Rattle.lvm_vol.specs.Log.{Log}
 use Rattle.lvm_vol.specs.Order.{Ordered}
-use Rattle.lvm_change.specs.Moments.{IsEarlier}
-use Rattle.lvm_change.proofs.Spans.{runs_follow}
+use Rattle.lvm_steps.specs.Moments.{IsEarlier}
+use Rattle.lvm_steps.proofs.Spans.{runs_follow}
 use Rattle.lvm_stamps.specs.Behind.{IsBehind, IsAhead}
 use Rattle.lvm_stamps.proofs.Clock.{later_is_later_too, joined_is_later}
 use Rattle.lvm_stamps.proofs.Stamps.{later_is_ahead_too}

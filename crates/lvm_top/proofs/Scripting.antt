@@ -11,8 +11,8 @@ use Rattle.lvm_io.specs.Reading.{Reading, to_come, lines_left, CountsGiven}
 use Rattle.lvm_vol.specs.Facts.{Fact}
 use Rattle.lvm_vol.specs.Log.{Log}
 use Rattle.lvm_kept.specs.Moments.{Moment, StaysCalm}
-use Rattle.lvm_change.specs.Moments.{Keeps, IsUpheld}
-use Rattle.lvm_change.proofs.Spans.{keeps_still, spans_join, span_upholds}
+use Rattle.lvm_steps.specs.Moments.{Keeps, IsUpheld}
+use Rattle.lvm_steps.proofs.Spans.{keeps_still, spans_join, span_upholds}
 use Rattle.lvm_stamps.specs.Behind.{IsBehind, IsAhead}
 use Rattle.lvm_stamps.proofs.Stamps.{later_is_ahead_too}
 use Rattle.lvm_core.specs.declared.parts.Room.{Room}

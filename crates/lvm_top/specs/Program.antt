@@ -5,7 +5,7 @@ use Rattle.lvm_io.specs.Stream.{WhereTold, WritesFront}
 use Rattle.lvm_memory.specs.declared.memory.MemShelf.{MemShelf}
 use Rattle.lvm_vol.specs.Log.{Log}
 use Rattle.lvm_top.specs.Blank.{blank_image}
-use Rattle.lvm_change.specs.Moments.{ImagesKept, IsUpheld}
+use Rattle.lvm_steps.specs.Moments.{ImagesKept, IsUpheld}
 use Rattle.lvm_vol.specs.Facts.{joined}
 use Rattle.lvm_vol.specs.Legal.{Legal}
 use Rattle.lvm_top.specs.Run.{Run, Promises, WhereAlone}

@@ -1,6 +1,6 @@
 -- A run of a script: how it ends, and why.
 use Rattle.std.specs.Prelude.{◌≡◌, ◌<◌, ◌≤◌, ◌+◌, ℕ, [], length, Option, IfNone, IfSome, true, min}
-use Rattle.lvm_change.specs.Moments.{ImagesKept, IsUpheld}
+use Rattle.lvm_steps.specs.Moments.{ImagesKept, IsUpheld}
 use Rattle.lvm_disk.specs.Device.{Device, IsReady}
 use Rattle.lvm_io.specs.Count.{Rose}
 use Rattle.lvm_io.specs.Stream.{WhereTold}

@@ -1,6 +1,6 @@
 -- One run after another.
 use Rattle.std.specs.Prelude.{◌≡◌, ◌<◌, ℕ, [], List, count_by}
-use Rattle.lvm_change.specs.Moments.{ImagesKept, IsEarlier}
+use Rattle.lvm_steps.specs.Moments.{ImagesKept, IsEarlier}
 use Rattle.lvm_vol.specs.Facts.{Fact, joined}
 use Rattle.lvm_vol.specs.Legal.{Legal, begins_in}
 use Rattle.lvm_vol.specs.Order.{Ordered}

@@ -32,7 +32,7 @@ use Rattle.lvm_quorum.specs.Written.{LogsPlan, IsInPlan}
 use Rattle.lvm_core.specs.declared.parts.Room.{Room}
 use Rattle.lvm_commit.specs.Committed.{next_stamp, Began, ShowsCommitted, HoldsCommitted}
 use Rattle.lvm_commit.proofs.Found.{newest_is_beginning}
-use Rattle.lvm_change.specs.VaryingOn.{HasNoActive}
+use Rattle.lvm_steps.specs.VaryingOn.{HasNoActive}
 use Rattle.lvm_mwc.specs.Cache.{is_named as is_named_by}
 use Rattle.lvm_core.specs.Held.{NotesAreHome}
 use Rattle.lvm_core.specs.Starting.{Reserved, first_core}

@@ -24,7 +24,7 @@ use Rattle.lvm_disk.specs.Device.{Media, Image, Device, image_of, HasSectors}
 use Rattle.lvm_kept.specs.Contents.{Contents, contents_of, has_records}
 use Rattle.lvm_kept.specs.Group.{passes, is_of, has_room, descriptor_among, is_voter, status_among, Finds, fresh_on, IsOneOf, IsSome}
 use Rattle.lvm_kept.specs.Torn.{MayWriteAll}
-use Rattle.lvm_change.specs.VaryingOn.{Carries}
+use Rattle.lvm_steps.specs.VaryingOn.{Carries}
 use Rattle.lvm_stamps.specs.Behind.{StampsBefore, IsBehind}
 use Rattle.lvm_stamps.specs.Laws.{IsWhole, ShowsBefore}
 use Rattle.lvm_stamps.proofs.Stamps.{behind_is_before}

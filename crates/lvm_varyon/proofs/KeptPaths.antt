@@ -6,8 +6,8 @@ use Rattle.lvm_disk.specs.Device.{Device, image_of, HasSectors}
 use Rattle.lvm_disk.specs.Images.{LeavesNoMore}
 use Rattle.lvm_disk.specs.Paths.{DeviceStep, Path}
 use Rattle.lvm_disk.proofs.Paths.{map-path}
-use Rattle.lvm_change.specs.Moments.{StaysKept}
-use Rattle.lvm_change.proofs.Spans.{fewer_stay_kept}
+use Rattle.lvm_steps.specs.Moments.{StaysKept}
+use Rattle.lvm_steps.proofs.Spans.{fewer_stay_kept}
 use Rattle.lvm_survey.specs.declared.row.Survey.{Survey}
 use Rattle.lvm_core.specs.declared.parts.Room.{Room}
 use Rattle.lvm_begin.specs.Beginning.{Beginning, again_beginning, MayBeginAgain}

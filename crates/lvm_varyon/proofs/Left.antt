@@ -10,7 +10,7 @@ use Rattle.lvm_num.specs.Descriptor.{IsValid, is_member, copies_of}
 use Rattle.lvm_num.specs.Record.{Stamped}
 use Rattle.lvm_num.specs.Status.{calls_stale, calls_missing}
 use Rattle.lvm_kept.specs.Group.{IsOneOf, IsSome}
-use Rattle.lvm_change.proofs.Booleans.{either, clash, first, second, join}
+use Rattle.lvm_steps.proofs.Booleans.{either, clash, first, second, join}
 use Rattle.lvm_left.specs.Marking.{IsLeftIn}
 use Rattle.lvm_status.specs.Update.{Stored, members_there}
 use Rattle.lvm_commit.specs.Settling.{there, NoneIsLeft}

@@ -15,10 +15,10 @@ use Rattle.lvm_kept.specs.Moments.{StaysCalm}
 use Rattle.lvm_kept.specs.Contents.{contents_of}
 use Rattle.lvm_kept.specs.Group.{ReadsBy}
 use Rattle.lvm_kept.proofs.Finding.{finding_reads}
-use Rattle.lvm_change.specs.Moments.{Keeps, StaysKept}
-use Rattle.lvm_change.specs.Requests.{at}
-use Rattle.lvm_change.proofs.Entering.{quiet_goes_on, calm_goes_on}
-use Rattle.lvm_change.proofs.Spans.{keeps_still, steps_go_on, group_goes_on}
+use Rattle.lvm_steps.specs.Moments.{Keeps, StaysKept}
+use Rattle.lvm_steps.specs.Requests.{at}
+use Rattle.lvm_steps.proofs.Entering.{quiet_goes_on, calm_goes_on}
+use Rattle.lvm_steps.proofs.Spans.{keeps_still, steps_go_on, group_goes_on}
 use Rattle.lvm_stamps.specs.Behind.{ClockIsAhead}
 use Rattle.lvm_status.specs.Update.{Updates, members_there}
 use Rattle.lvm_quorum.specs.declared.homes.Homes.{Homes}

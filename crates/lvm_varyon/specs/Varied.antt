@@ -10,8 +10,8 @@ use Rattle.lvm_disk.specs.Device.{Media, Range, Device, image_of}
 use Rattle.lvm_vol.specs.Log.{Log, spare_entries, cut_log}
 use Rattle.lvm_kept.specs.Contents.{Contents, contents_of}
 use Rattle.lvm_kept.specs.Recovered.{Recovered}
-use Rattle.lvm_change.specs.Moments.{Keeps}
-use Rattle.lvm_change.specs.Requests.{at}
+use Rattle.lvm_steps.specs.Moments.{Keeps}
+use Rattle.lvm_steps.specs.Requests.{at}
 use Rattle.lvm_stamps.specs.Behind.{ClockIsAhead, IsBehind}
 use Rattle.lvm_quorum.specs.declared.homes.Homes.{Homes}
 use Rattle.lvm_quorum.specs.Choosing.{HasNoRecord, HasRecord, IsAmbiguous, LacksQuorum}

@@ -16,7 +16,7 @@ ghost use Rattle.lvm_varyon.specs.Parts.{ReadGives, WriteGives};
 use lvm_begin::{Begun, begin_again};
 use lvm_core::Cause;
 use lvm_disk::Shelf;
-use lvm_move::Patience;
+use lvm_transfer::Patience;
 use lvm_num::{DiskSet, Pbuf};
 use lvm_quorum::{Homes, Survey, Surveyed, survey_disks};
 use std::alloc::Global;

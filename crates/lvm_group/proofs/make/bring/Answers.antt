@@ -2,8 +2,8 @@ use Rattle.std.proofs.Common.{◌≡◌, Result, sym, ap, subst, ◌∙◌}
 use Rattle.std.proofs.lemmas.Result.{err_from_is_err_and}
 use Rattle.lvm_vol.specs.Log.{Log, spare_entries}
 use Rattle.lvm_kept.specs.Moments.{StaysCalm}
-use Rattle.lvm_change.specs.Moments.{Keeps}
-use Rattle.lvm_change.specs.Requests.{at}
+use Rattle.lvm_steps.specs.Moments.{Keeps}
+use Rattle.lvm_steps.specs.Requests.{at}
 use Rattle.lvm_core.specs.declared.refused.Cause.{Cause}
 use Rattle.lvm_group.specs.NewGroup.{NewGroup, given_up}
 use Rattle.lvm_group.specs.Planned.{group_of, IsPlannedFor}

@@ -1,6 +1,6 @@
 use Rattle.std.proofs.Common.{◌≡◌, ◌∙◌, ap, sym, subst, refl, ℕ, Err}
 use Rattle.lvm_disk.specs.Counts.{RoseBy}
-use Rattle.lvm_change.specs.Requests.{at}
+use Rattle.lvm_steps.specs.Requests.{at}
 use Rattle.lvm_raw.specs.declared.fault.RawFault.TheVariants as fault
 use Rattle.lvm_raw.specs.Raw.{WriteGives}
 use Rattle.lvm_line.specs.Disks.{WriteDoes}

@@ -2,7 +2,7 @@ use Rattle.std.proofs.Common.{◌+◌, ℕ, arith, sym, subst, ◌∙◌}
 use Rattle.lvm_num.specs.Buffer.{Sector}
 use Rattle.lvm_num.specs.Disks.{Disks, has}
 use Rattle.lvm_kept.specs.Torn.{IsOfNote}
-use Rattle.lvm_move.specs.declared.moves.Moved.TheVariants as moved
+use Rattle.lvm_transfer.specs.declared.moves.Moved.TheVariants as moved
 use Rattle.lvm_quorum.specs.Notes.{empty_note, NoteTold}
 use Rattle.lvm_quorum.proofs.Writing.{moments_on}
 use Rattle.lvm_quorum.proofs.Transfers.{keeps_then, spends_then, darkened_then, given_up_then}

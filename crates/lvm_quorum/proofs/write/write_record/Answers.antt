@@ -1,6 +1,6 @@
 use Rattle.std.proofs.Common.{◌+◌, arith, sym, ◌∙◌}
 use Rattle.lvm_num.specs.Disks.{has}
-use Rattle.lvm_move.specs.declared.moves.Moved.TheVariants as moved
+use Rattle.lvm_transfer.specs.declared.moves.Moved.TheVariants as moved
 use Rattle.lvm_quorum.specs.declared.write.SlotWrite.{SlotWrite}
 use Rattle.lvm_kept.specs.Torn.{IsOfRecord}
 use Rattle.lvm_quorum.specs.Written.{write_of}

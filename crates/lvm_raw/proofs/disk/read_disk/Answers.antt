@@ -1,10 +1,10 @@
 use Rattle.std.proofs.Common.{List, Err, refl}
 use Rattle.lvm_num.specs.Buffer.{Sector}
-use Rattle.lvm_change.specs.Requests.{at as moment_of}
+use Rattle.lvm_steps.specs.Requests.{at as moment_of}
 use Rattle.lvm_raw.specs.declared.fault.RawFault.TheVariants as fault
 use Rattle.lvm_raw.specs.Pieces.{ReadsGo}
 use Rattle.lvm_raw.specs.Raw.{Rejected, without_facts}
-use Rattle.lvm_change.proofs.Spans.{keeps_still}
+use Rattle.lvm_steps.proofs.Spans.{keeps_still}
 use Rattle.lvm_raw.proofs.Refusing.{no_disk_exactly, out_of_range_exactly, history_full_exactly, disk_failed_only, in_group_only, other_never, reads_of, not_read_failed}
 use Rattle.lvm_raw.proofs.disk.read_disk.Goals as goal
 

@@ -1,6 +1,6 @@
 use Rattle.std.proofs.Common.{◌≡◌, ℕ, slice_index_or, Err, refl, sym, ◌∙◌, ap, subst, arith}
 use Rattle.lvm_vol.specs.Log.{Log}
-use Rattle.lvm_change.specs.Requests.{at as moment_of}
+use Rattle.lvm_steps.specs.Requests.{at as moment_of}
 use Rattle.lvm_survey.proofs.Following.{only_none, rested_none, untouched_none}
 use Rattle.lvm_survey.proofs.DiskRows.{got_within}
 use Rattle.lvm_survey.proofs.Joining.{or_got}

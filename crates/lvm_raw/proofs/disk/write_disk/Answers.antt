@@ -1,9 +1,9 @@
 use Rattle.std.proofs.Common.{Err, refl}
-use Rattle.lvm_change.specs.Requests.{at as moment_of}
+use Rattle.lvm_steps.specs.Requests.{at as moment_of}
 use Rattle.lvm_raw.specs.declared.fault.RawFault.TheVariants as fault
 use Rattle.lvm_raw.specs.Pieces.{WritesGo}
 use Rattle.lvm_raw.specs.Raw.{Rejected, without_facts}
-use Rattle.lvm_change.proofs.Spans.{keeps_still}
+use Rattle.lvm_steps.proofs.Spans.{keeps_still}
 use Rattle.lvm_raw.proofs.Refusing.{no_disk_exactly, out_of_range_exactly, history_full_exactly, disk_failed_only, in_group_only, other_never, writes_of, not_lost}
 use Rattle.lvm_raw.proofs.disk.write_disk.Goals as goal
 

@@ -1,5 +1,5 @@
 use Rattle.std.proofs.Common.{◌≡◌, ◌≤◌, ◌<◌, ◌+◌, ◌-◌, vec_capacity}
-use Rattle.lvm_change.specs.Requests.{at as moment_of}
+use Rattle.lvm_steps.specs.Requests.{at as moment_of}
 use Rattle.lvm_raw.specs.declared.fault.RawFault.TheVariants as fault
 use Rattle.lvm_raw.specs.Asking.{HasRoom}
 use Rattle.lvm_raw.specs.Pieces.{WritesPiece}

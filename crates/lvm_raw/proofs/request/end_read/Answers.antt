@@ -3,7 +3,7 @@ use Rattle.std.specs.Simd.{first_chunks}
 use Rattle.lvm_vol.specs.Facts.{Landed}
 use Rattle.lvm_vol.specs.Log.{request_of}
 use Rattle.lvm_vol.specs.declared.entry.Outcome.TheVariants as outcome
-use Rattle.lvm_move.specs.declared.moves.Moved.{Moved}
+use Rattle.lvm_transfer.specs.declared.moves.Moved.{Moved}
 use Rattle.lvm_raw.specs.Requests.{read_ends, landing_ends}
 use Rattle.lvm_raw.proofs.Logs.{count_is}
 use Rattle.lvm_raw.proofs.request.end_read.Goals as goal

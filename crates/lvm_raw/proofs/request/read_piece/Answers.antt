@@ -2,8 +2,8 @@ use Rattle.std.proofs.Common.{◌≡◌, ◌+◌, ◌*◌, ◌∙◌, ap, subst,
 use Rattle.lvm_vol.specs.Log.{Log, is_uncut, spare_bytes}
 use Rattle.lvm_vol.specs.Facts.{Fact}
 use Rattle.lvm_kept.specs.Moments.{StaysCalm}
-use Rattle.lvm_change.specs.Moments.{Keeps}
-use Rattle.lvm_change.specs.Requests.{next_read, at as moment_of}
+use Rattle.lvm_steps.specs.Moments.{Keeps}
+use Rattle.lvm_steps.specs.Requests.{next_read, at as moment_of}
 use Rattle.lvm_raw.specs.Keeping.{HaveLanded, NoneComesOn}
 use Rattle.lvm_raw.proofs.Logs.{uncut_begun, read_ended, read_bytes, read_lands, read_later}
 use Rattle.lvm_raw.proofs.Moving.{power_after, ready_after, none_after, behind_after, shelf_after, cause_after}

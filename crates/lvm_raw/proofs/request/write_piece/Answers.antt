@@ -3,9 +3,9 @@ use Rattle.std.specs.Simd.{first_chunks}
 use Rattle.lvm_vol.specs.Log.{Log, is_uncut, spare_bytes}
 use Rattle.lvm_vol.specs.Facts.{Fact}
 use Rattle.lvm_kept.specs.Moments.{StaysCalm}
-use Rattle.lvm_kept.specs.Laws.{next_write}
-use Rattle.lvm_change.specs.Moments.{Keeps}
-use Rattle.lvm_change.specs.Requests.{at as moment_of}
+use Rattle.lvm_kept.specs.Raw.{next_write}
+use Rattle.lvm_steps.specs.Moments.{Keeps}
+use Rattle.lvm_steps.specs.Requests.{at as moment_of}
 use Rattle.lvm_raw.specs.Keeping.{HaveLanded, NoneComesOn}
 use Rattle.lvm_raw.proofs.Logs.{uncut_begun, write_ended, write_bytes, write_lands, write_later}
 use Rattle.lvm_raw.proofs.Moving.{power_after, ready_after, none_after, behind_after, shelf_after, cause_after}

@@ -1,7 +1,7 @@
 use Rattle.std.proofs.Common.{◌≡◌, ℕ, List, ◌++◌, slice_index_or, [], ◌∙◌, ap}
 use Rattle.lvm_num.specs.Record.{joined}
 use Rattle.lvm_disk.specs.Device.{Media}
-use Rattle.lvm_move.specs.declared.moves.Moved.TheVariants as moved
+use Rattle.lvm_transfer.specs.declared.moves.Moved.TheVariants as moved
 use Rattle.lvm_survey.proofs.Joining.{told-more}
 use Rattle.lvm_survey.proofs.Transferring.{only_reads, read_untouched, done_all, done_number, done_bytes, failed_one, failed_number, read_cut_off, read_stuck}
 use Rattle.lvm_survey.proofs.area.read_piece.Goals as goal

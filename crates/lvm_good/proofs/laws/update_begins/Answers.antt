@@ -1,5 +1,0 @@
-use Rattle.lvm_good.proofs.Each.{begin_update_keeps as lemma_of}
-use Rattle.lvm_good.proofs.laws.update_begins.Goals as goal
-
-pub returns : goal.returns
-returns c = lemma_of

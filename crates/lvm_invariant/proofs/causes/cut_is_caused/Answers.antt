@@ -1,0 +1,5 @@
+use Rattle.lvm_invariant.proofs.WholeCauses.{cut_caused}
+use Rattle.lvm_invariant.proofs.causes.cut_is_caused.Goals as goal
+
+pub returns : goal.returns
+returns c = cut_caused

@@ -1,0 +1,405 @@
+-- The varying on of a group, by what the disks show.
+use Rattle.std.proofs.Common.{◌≡◌, ◌⊎◌, inl, inr, ⊎_elim, ℕ, zero, suc, ◌<◌, Bool, true, false, ◌&&◌, List, [], ◌∷◌, ◌++◌, Option, Some, None, refl, sym, ap, subst, ◌∙◌, eq-eqb, arith}
+use Rattle.std.specs.Prelude.{IsTrue, IsFalse, ◌==◌, not, if◌then◌else◌, filter}
+use Rattle.std.specs.List.{AllByRecursion}
+use Rattle.std.proofs.lemmas.Bool.{eqb-true, cases_lt}
+use Rattle.lvm_num.specs.declared.place.Pp.{Pp}
+use Rattle.lvm_num.specs.declared.record.Stamp.{Stamp}
+use Rattle.lvm_num.specs.declared.descriptor.Mode.{Mode}
+use Rattle.lvm_num.specs.declared.descriptor.Mode.TheVariants.{Active, Passive, Off}
+use Rattle.lvm_num.specs.declared.descriptor.LvRow.{LvRow}
+use Rattle.lvm_num.specs.declared.descriptor.Descriptor.{Descriptor}
+use Rattle.lvm_num.specs.declared.status.Status.{Status}
+use Rattle.lvm_num.specs.Disks.{Disks}
+use Rattle.lvm_num.specs.Geometry.{track_group_of}
+use Rattle.lvm_num.specs.Descriptor.{copies_of}
+use Rattle.lvm_num.specs.Votes.{all_disks}
+use Rattle.lvm_num.specs.Record.{Stamped, stamp_lt, newer, newest_below}
+use Rattle.lvm_num.specs.Note.{Noted}
+use Rattle.lvm_num.specs.Status.{calls_stale, calls_dirty}
+use Rattle.lvm_num.proofs.Newest.{is_one, is_last}
+use Rattle.lvm_vol.specs.declared.entry.Vol.TheVariants.{Lv}
+use Rattle.lvm_vol.specs.Facts.{Fact, Cut}
+use Rattle.lvm_vol.specs.May.{Known, known, IsValue}
+use Rattle.lvm_kept.specs.Contents.{Contents}
+use Rattle.lvm_kept.specs.Group.{if_passes, passes, is_of, is_status_of, has_room, descriptor_among, is_voter, status_among, Finds, IsFound, members_in, status_by, Reads, ReadsBy, is_stale_by, fresh_on, fresh, block_at, is_named, names_if, IsOneOf, IsSome, HoldOne}
+use Rattle.lvm_kept.specs.Committed.{IsWithinDisks}
+use Rattle.lvm_kept.specs.Kept.{MayDiffer, BlocksKept, Kept}
+use Rattle.lvm_kept.specs.Changes.{Serves, HasNoVolume, StayExcused}
+use Rattle.lvm_kept.specs.Torn.{StatusesChange}
+use Rattle.lvm_kept.proofs.Finding.{some_same, offered, is_offered, offers, finding_reads}
+use Rattle.lvm_kept.proofs.Restamping.{fewer_blocks, restamping_keeps}
+use Rattle.lvm_kept.proofs.Restating.{statuses_keep}
+use Rattle.lvm_kept.proofs.Changing.{notes_keep}
+use Rattle.lvm_steps.specs.VaryingOn.{AreShowing, RestampKeeps, HasNewest, OnlyNewestIsFound, MayRestate, RestateKeeps, HasNoActive, NotesOf, ForgettingKeeps}
+use Rattle.lvm_steps.proofs.Booleans.{split, join, either, clash, not-itself}
+
+-- ---- tests
+
+-- a record that is shown passes where the test does
+shows_of : {X : Type 0} (of : X → Bool) (o : Option (Stamped X)) → passes of o ≡ true → (r : Stamped X) × (o ≡ Some r) × (of r.value ≡ true)
+shows_of of None e = absurd cc
+shows_of of (Some r) e = (r, refl, e)
+
+-- a disk shows the descriptor of one group
+one_group : (o : Option (Stamped Descriptor)) (a b : ℕ) → passes (is_of a) o ≡ true → passes (is_of b) o ≡ true → a ≡ b
+one_group None a b p q = absurd cc
+one_group (Some r) a b p q = sym (eqb-true r.value.id a p) ∙ eqb-true r.value.id b q
+
+-- ---- the descriptor
+
+pub restamp_keeps : RestampKeeps
+restamp_keeps group targets next old new facts within may change kept =
+    let id_is : next.value.id ≡ group.id = ap (λ (g : Descriptor). g.id) may.value in
+    restamping_keeps old new facts next within
+    (record {
+      rest = change.rest;
+      own = λ d. ⊎_elim
+          (λ same. inl same)
+          (λ (is : IsTrue (targets d) × (new.descriptor d ≡ Some next)).
+          let shows = shows_of (is_of group.id) (old.descriptor d) (may.showing d is.0) in
+          inr (is.1, (shows.0, shows.1, eqb-true shows.0.value.id group.id shows.2 ∙ sym id_is)))
+          (change.own d);
+      later = λ d r shows same. may.later d r shows (same ∙ id_is);
+      found = subst (λ (g : Descriptor). IsFound old g.id g) (sym may.value) may.found;
+    })
+    kept
+
+module _ (c : Contents) (group : Descriptor) (disks : Disks) (newest : Stamped Descriptor) (facts : List Fact) (within : IsWithinDisks c) (has : HasNewest c group disks newest) (kept : Kept c facts) where
+  reads : ReadsBy c disks group.id group
+  reads = finding_reads c disks group.id group has.found
+
+  pub only_found : (k : Descriptor) → IsFound c group.id k → k ≡ group
+  unfolding descriptor_among
+  only_found k is =
+      let id : ℕ = group.id in
+      let b : Disks = is.0 in
+      let f : Finds c b id k = is.1 in
+      let both = kept.lasting.common disks b id group k reads.reads (finding_reads c b id k f).reads in
+      let d : ℕ = both.0 in
+      let shows : c.descriptor d ≡ Some newest = has.have d both.1 in
+      let in_b = split (b d && passes (is_of id) (c.descriptor d)) (has_room c d k) both.2 in
+      let in_set : b d ≡ true = (split (b d) (passes (is_of id) (c.descriptor d)) in_b.0).0 in
+      let own : is_of id newest.value ≡ true = eq-eqb newest.value.id id (ap (λ (g : Descriptor). g.id) has.value) in
+      let last = is_last Descriptor (offered (is_of id) c.descriptor b) c.disks d newest (within.descriptors d newest shows) (offers (is_of id) c.descriptor b d newest in_set shows own) in
+      let one = is_one Descriptor (offered (is_of id) c.descriptor b) c.disks f.newest f.found in
+      let from = is_offered (is_of id) c.descriptor b one.0 f.newest one.2 in
+      let same : f.newest ≡ last.0 = some_same f.newest last.0 (sym f.found ∙ last.1) in
+      ⊎_elim
+      (λ (low : stamp_lt f.newest.stamp newest.stamp ≡ true). absurd (clash (stamp_lt f.newest.stamp newest.stamp) low (ap (λ (r : Stamped Descriptor). stamp_lt r.stamp newest.stamp) same ∙ last.2)))
+      (λ (it : f.newest ≡ newest). sym f.is ∙ ap (λ (r : Stamped Descriptor). r.value) it ∙ has.value)
+      (has.last one.0 f.newest from.0 (eqb-true f.newest.value.id id from.1))
+
+pub only_newest_is_found : OnlyNewestIsFound
+only_newest_is_found c group disks newest facts within has kept k is = only_found c group disks newest facts within has kept k is
+
+-- ---- the newest where a later one comes
+
+below_same : {X : Type 0} (f g : ℕ → Option (Stamped X)) (n : ℕ) → ((d : ℕ) → d < n → f d ≡ g d) → newest_below f n ≡ newest_below g n
+unfolding newest_below
+below_same f g zero same = refl
+below_same f g (suc n) same =
+    let rest = below_same f g n (λ d lt. same d (omega (arith, lt))) in
+    let here = same n (omega arith) in
+    λ t. newer (rest t) (here t)
+
+module _ (X : Type 0) (of : X → Bool) (old new : ℕ → Option (Stamped X)) (set : Disks) (next : Stamped X) (its : of next.value ≡ true)
+    (own : (d : ℕ) → (new d ≡ old d) ⊎ (new d ≡ Some next)) (later : (d : ℕ) (r : Stamped X) → old d ≡ Some r → of r.value ≡ true → stamp_lt r.stamp next.stamp ≡ true) where
+  -- one of the disks offers the next record, or each offers what it did
+  abbrev Offers : ℕ → Type 0
+  Offers n = ((d : ℕ) × (d < n) × (offered of new set d ≡ Some next)) ⊎ ((d : ℕ) → d < n → offered of new set d ≡ offered of old set d)
+
+  at_one : (d : ℕ) → (offered of new set d ≡ Some next) ⊎ (offered of new set d ≡ offered of old set d)
+  at_one d = ⊎_elim
+      (λ same. inr (ap (λ (o : Option (Stamped X)). if set d then if_passes of o else None) same))
+      (λ is. by_set (set d) is)
+      (own d)
+    where
+      by_set : (t : Bool) → new d ≡ Some next → ((if t then if_passes of (new d) else None) ≡ Some next) ⊎ ((if t then if_passes of (new d) else None) ≡ (if t then if_passes of (old d) else None))
+      by_set false is = inr refl
+      by_set true is = inl (ap (if_passes of) is ∙ ap (λ (t : Bool). if t then Some next else None) its)
+
+  some_offers : (n : ℕ) → Offers n
+  some_offers zero = inr (λ d lt. absurd (omega (arith, lt)))
+  some_offers (suc n) = ⊎_elim
+      (λ one. inl (one.0, (let lt = one.1 in omega (arith, lt)), one.2))
+      (λ (none : (d : ℕ) → d < n → offered of new set d ≡ offered of old set d). ⊎_elim
+      (λ here. inl (n, omega arith, here))
+      (λ (same : offered of new set n ≡ offered of old set n). inr (λ d lt. at_last d n lt none same))
+      (at_one n))
+      (some_offers n)
+    where
+      at_last : (d n : ℕ) → d < suc n → ((d : ℕ) → d < n → offered of new set d ≡ offered of old set d) → offered of new set n ≡ offered of old set n → offered of new set d ≡ offered of old set d
+      at_last d n lt none same = ⊎_elim
+          (λ less. none d less)
+          (λ most. let e : d ≡ n = omega (arith, lt, most) in subst (λ (m : ℕ). offered of new set m ≡ offered of old set m) (sym e) same)
+          (cases_lt d n)
+
+  pub old_or_next : (n : ℕ) → (newest_below (offered of new set) n ≡ newest_below (offered of old set) n) ⊎ (newest_below (offered of new set) n ≡ Some next)
+  old_or_next n = ⊎_elim
+      (λ (one : (d : ℕ) × (d < n) × (offered of new set d ≡ Some next)). inr (is_next one.0 one.1 one.2))
+      (λ same. inl (below_same (offered of new set) (offered of old set) n same))
+      (some_offers n)
+    where
+      is_next : (d : ℕ) → d < n → offered of new set d ≡ Some next → newest_below (offered of new set) n ≡ Some next
+      is_next d lt here =
+          let last = is_last X (offered of new set) n d next lt here in
+          let one = is_one X (offered of new set) n last.0 last.1 in
+          let from = is_offered of new set one.0 last.0 one.2 in
+          ⊎_elim
+          (λ (same : new one.0 ≡ old one.0). absurd (clash (stamp_lt last.0.stamp next.stamp) (later one.0 last.0 (sym same ∙ from.0) from.1) last.2))
+          (λ (it : new one.0 ≡ Some next). last.1 ∙ sym from.0 ∙ it)
+          (own one.0)
+
+-- ---- the status
+
+-- what is found
+kept_in : {X : Type 0} (q : X → Bool) (xs : List X) (x : X) → IsOneOf (filter q xs) x → IsOneOf xs x × (q x ≡ true)
+kept_in q [] x is = absurd is
+kept_in q (y ∷ ys) x is = by_test (q y) refl (kept_in q ys x) is
+  where
+    by_test : (t : Bool) → q y ≡ t → (IsOneOf (filter q ys) x → IsOneOf ys x × (q x ≡ true)) → IsOneOf (if t then y ∷ filter q ys else filter q ys) x → IsOneOf (y ∷ ys) x × (q x ≡ true)
+    by_test true passed rest (inl here) = (inl here, ap q here ∙ passed)
+    by_test true passed rest (inr there) = let r = rest there in (inr r.0, r.1)
+    by_test false passed rest is = let r = rest is in (inr r.0, r.1)
+
+pub goes_in : {X : Type 0} (q : X → Bool) (xs : List X) (x : X) → IsOneOf xs x → q x ≡ true → IsSome (filter q xs)
+goes_in q [] x is passed = is
+goes_in q (y ∷ ys) x is passed = by_test (q y) refl (goes_in q ys x) is
+  where
+    by_test : (t : Bool) → q y ≡ t → (IsOneOf ys x → q x ≡ true → IsSome (filter q ys)) → IsOneOf (y ∷ ys) x → IsSome (if t then y ∷ filter q ys else filter q ys)
+    by_test true test rest is = tt
+    by_test false test rest (inl here) = absurd (clash (q y) (ap q (sym here) ∙ passed) test)
+    by_test false test rest (inr there) = rest there passed
+
+one_of_some : {X : Type 0} (xs : List X) → IsSome xs → (x : X) × IsOneOf xs x
+one_of_some [] some = absurd some
+one_of_some (x ∷ xs) some = (x, inl refl)
+
+not_true : (b : Bool) → not b ≡ true → b ≡ false
+not_true true e = absurd cc
+not_true false e = refl
+
+true_not : (b : Bool) → b ≡ false → not b ≡ true
+true_not true e = absurd cc
+true_not false e = refl
+
+-- what holds of all that pass one test holds of all that pass another one which is narrower on them
+narrower_on : {X : Type 0} (P : X → Type 0) (p q : X → Bool) (xs : List X) → ((x : X) → IsOneOf xs x → q x ≡ true → p x ≡ true) → AllByRecursion P (filter p xs) → AllByRecursion P (filter q xs)
+narrower_on P p q [] more all = tt
+narrower_on P p q (x ∷ xs) more all = by_tests (p x) (q x) (more x (inl refl)) (narrower_on P p q xs (λ y one. more y (inr one))) all
+  where
+    by_tests : (s t : Bool) → (t ≡ true → s ≡ true) → (AllByRecursion P (filter p xs) → AllByRecursion P (filter q xs))
+        → AllByRecursion P (if s then x ∷ filter p xs else filter p xs) → AllByRecursion P (if t then x ∷ filter q xs else filter q xs)
+    by_tests true true m rest all = (all.0, rest all.1)
+    by_tests true false m rest all = rest all.1
+    by_tests false true m rest all = absurd (let e = m refl in cc)
+    by_tests false false m rest all = rest all
+
+-- a status that calls more copies of the group stale, and as many of its volumes in mode passive dirty
+module _ (c : Contents) (group : Descriptor) (was next : Stamped Status)
+    (stale : (row : LvRow) (lp : ℕ) (p : Pp) → IsOneOf group.lvs row → IsOneOf (copies_of row lp) p → IsTrue (calls_stale was.value p) → IsTrue (calls_stale next.value p))
+    (dirty : (row : LvRow) → IsOneOf group.lvs row → row.mode ≡ Passive → IsTrue (calls_dirty was.value row.number) → IsTrue (calls_dirty next.value row.number)) where
+  module _ (row : LvRow) (volume : IsOneOf group.lvs row) (lp : ℕ) where
+    staler : (p : Pp) → IsOneOf (copies_of row lp) p → not (calls_stale next.value p) ≡ true → not (calls_stale was.value p) ≡ true
+    staler p one e = by_test (calls_stale was.value p) refl
+      where
+        by_test : (t : Bool) → calls_stale was.value p ≡ t → not t ≡ true
+        by_test true is = absurd (clash (calls_stale next.value p) (stale row lp p volume one is) (not_true (calls_stale next.value p) e))
+        by_test false is = refl
+
+    fewer : (P : Pp → Type 0) (set : Disks) → AllByRecursion P (fresh_on set (Some was) row lp) → AllByRecursion P (fresh_on set (Some next) row lp)
+    fewer P set all = narrower_on P (λ (p : Pp). set p.disk && not (is_stale_by (Some was) p)) (λ (p : Pp). set p.disk && not (is_stale_by (Some next) p)) (copies_of row lp)
+        (λ p one e. let parts = split (set p.disk) (not (is_stale_by (Some next) p)) e in join (set p.disk) (not (is_stale_by (Some was) p)) parts.0 (staler p one parts.1))
+        all
+
+    differ : (set : Disks) (mode : Mode) (k : Known) (b : ℕ) → row.mode ≡ mode → MayDiffer c (Some was) row.number mode (fresh_on set (Some was) row lp) k b → MayDiffer c (Some next) row.number mode (fresh_on set (Some next) row lp) k b
+    differ set Active k b mode_is m = fewer (λ (p : Pp). IsTrue (is_named c p.disk row.number (track_group_of b))) set m
+    differ set Passive k b mode_is m = dirty row volume mode_is m
+    differ set Off k b mode_is m = m
+
+  staler_blocks : (facts : List Fact) (set : Disks) → BlocksKept c facts group set (Some was) → BlocksKept c facts group set (Some next)
+  staler_blocks facts set blocks row lp b one inside =
+      let kept = blocks row lp b one inside in
+      let k : Known = known (facts ++ Cut ∷ []) (Lv row.number) b in
+      record {
+        allowed = fewer row one lp (λ (p : Pp). IsValue k (block_at c group.mib p b)) set kept.allowed;
+        equal = ⊎_elim
+            (λ (held : HoldOne c group.mib (fresh_on set (Some was) row lp) b). inl (held.0, fewer row one lp (λ (p : Pp). block_at c group.mib p b ≡ held.0) set held.1))
+            (λ (m : MayDiffer c (Some was) row.number row.mode (fresh_on set (Some was) row lp) k b). inr (differ row one lp set row.mode k b refl m))
+            kept.equal;
+      }
+
+module _ (c : Contents) (group : Descriptor) (disks targets : Disks) (newest : Stamped Descriptor) (was next : Stamped Status) (facts : List Fact) (within : IsWithinDisks c) (may : MayRestate c group disks targets newest was next) (kept : Kept c facts) where
+  abbrev id : ℕ
+  id = group.id
+
+  by_found : ReadsBy c disks id group
+  by_found = finding_reads c disks id group may.newest_is.found
+
+  was_read : status_by c disks id group ≡ Some was
+  was_read = sym by_found.status ∙ may.status
+
+  among_all : (set : Disks) (g : Descriptor) (d : ℕ) → IsTrue (members_in c set id g d) → IsTrue (members_in c all_disks id g d)
+  among_all set g d is =
+      let two = split (set d && passes (is_of id) (c.descriptor d)) (has_room c d g) is in
+      join (passes (is_of id) (c.descriptor d)) (has_room c d g) (split (set d) (passes (is_of id) (c.descriptor d)) two.0).1 two.1
+
+  across : (k : Descriptor) → IsFound c id k → BlocksKept c facts k (members_in c all_disks id k) (Some next)
+  across k is = subst (λ (g : Descriptor). BlocksKept c facts g (members_in c all_disks id g) (Some next)) (sym (only_found c group disks newest facts within may.newest_is kept k is))
+      (staler_blocks c group was next may.marks.stale may.marks.dirty facts (members_in c all_disks id group)
+      (subst (λ (s : Option (Stamped Status)). BlocksKept c facts group (members_in c all_disks id group) s) was_read (kept.lasting.across disks id group group by_found.reads (disks, may.newest_is.found))))
+
+  abbrev tests : Disks → Stamped Status → Pp → Bool
+  tests set s p = set p.disk && not (is_stale_by (Some s) p)
+
+  -- a copy on a voter that the old status doesn't call stale, the next one doesn't either
+  voter_stays : (row : LvRow) (lp : ℕ) (p : Pp) → IsOneOf group.lvs row → IsOneOf (copies_of row lp) p → tests (members_in c disks id group) was p ≡ true → tests (members_in c all_disks id group) next p ≡ true
+  voter_stays row lp p volume one passed =
+      let parts = split (members_in c disks id group p.disk) (not (is_stale_by (Some was) p)) passed in
+      join (members_in c all_disks id group p.disk) (not (is_stale_by (Some next) p)) (among_all disks group p.disk parts.0) (true_not (calls_stale next.value p) (⊎_elim
+      (λ (called : calls_stale next.value p ≡ true). absurd (⊎_elim
+      (λ (before : IsTrue (calls_stale was.value p)). clash (calls_stale was.value p) before (not_true (calls_stale was.value p) parts.1))
+      (λ (left : IsFalse (is_voter c disks id p.disk) × IsSome (fresh c disks id row lp)). clash (is_voter c disks id p.disk) (ap (λ (v : Disks). v p.disk) by_found.voters ∙ parts.0) left.0)
+      (may.marks.only row lp p volume one called)))
+      (λ (free : calls_stale next.value p ≡ false). free)
+      (either (calls_stale next.value p))))
+
+  -- so each logical partition keeps a fresh copy
+  still_fresh : (row : LvRow) (lp : ℕ) (p : Pp) → IsOneOf group.lvs row → IsOneOf (copies_of row lp) p × (tests (members_in c all_disks id group) was p ≡ true) → IsSome (fresh_on (members_in c all_disks id group) (Some next) row lp)
+  still_fresh row lp p volume is =
+      let parts = split (members_in c all_disks id group p.disk) (not (is_stale_by (Some was) p)) is.1 in
+      ⊎_elim
+      (λ (called : calls_stale next.value p ≡ true). ⊎_elim
+      (λ (before : IsTrue (calls_stale was.value p)). absurd (clash (calls_stale was.value p) before (not_true (calls_stale was.value p) parts.1)))
+      (λ (left : IsFalse (is_voter c disks id p.disk) × IsSome (fresh c disks id row lp)). from_voter left.1)
+      (may.marks.only row lp p volume is.0 called))
+      (λ (free : calls_stale next.value p ≡ false). goes_in (tests (members_in c all_disks id group) next) (copies_of row lp) p is.0
+      (join (members_in c all_disks id group p.disk) (not (is_stale_by (Some next) p)) parts.0 (true_not (calls_stale next.value p) free)))
+      (either (calls_stale next.value p))
+    where
+      from_voter : IsSome (fresh c disks id row lp) → IsSome (fresh_on (members_in c all_disks id group) (Some next) row lp)
+      from_voter some =
+          let found : IsSome (fresh_on (members_in c disks id group) (Some was) row lp) =
+          subst (λ (s : Option (Stamped Status)). IsSome (fresh_on (members_in c disks id group) s row lp)) may.status (subst (λ (v : Disks). IsSome (fresh_on v (status_among c disks id) row lp)) by_found.voters some) in
+          let q = one_of_some (fresh_on (members_in c disks id group) (Some was) row lp) found in
+          let is = kept_in (tests (members_in c disks id group) was) (copies_of row lp) q.0 q.1 in
+          goes_in (tests (members_in c all_disks id group) next) (copies_of row lp) q.0 is.0 (voter_stays row lp q.0 volume is.0 is.1)
+
+  some_of_group : (row : LvRow) (lp : ℕ) → IsOneOf group.lvs row → lp < row.lps → IsSome (fresh_on (members_in c all_disks id group) (Some next) row lp)
+  some_of_group row lp volume inside =
+      let found : IsSome (fresh_on (members_in c all_disks id group) (Some was) row lp) =
+      subst (λ (s : Option (Stamped Status)). IsSome (fresh_on (members_in c all_disks id group) s row lp)) was_read (kept.lasting.some disks id group group by_found.reads (disks, may.newest_is.found) row lp volume inside) in
+      let p = one_of_some (fresh_on (members_in c all_disks id group) (Some was) row lp) found in
+      still_fresh row lp p.0 volume (kept_in (tests (members_in c all_disks id group) was) (copies_of row lp) p.0 p.1)
+
+  pub serves : Serves c facts id next
+  serves = record {
+    copies = λ set g f.
+        let reads : ReadsBy c set id g = finding_reads c set id g f in
+        subst (λ (v : Disks). BlocksKept c facts g v (Some next)) (sym reads.voters)
+        (fewer_blocks c (members_in c set id g) (members_in c all_disks id g) (λ d is. among_all set g d is) facts g (Some next) (across g (set, f)));
+    across = across;
+    some = λ k is row lp volume inside.
+        let same : k ≡ group = only_found c group disks newest facts within may.newest_is kept k is in
+        subst (λ (g : Descriptor). IsSome (fresh_on (members_in c all_disks id g) (Some next) row lp)) (sym same) (some_of_group row lp (subst (λ (g : Descriptor). IsOneOf g.lvs row) same volume) inside);
+  }
+
+  module _ (new : Contents) (change : StatusesChange targets next c new) where
+    abbrev now : Contents
+    now = record c { status = new.status }
+
+    either_own : (d : ℕ) → (new.status d ≡ c.status d) ⊎ (new.status d ≡ Some next)
+    either_own d = ⊎_elim (λ same. inl same) (λ (is : IsTrue (targets d) × (new.status d ≡ Some next)). inr is.1) (change.own d)
+
+    -- of another group each set finds what it found
+    of_other : (b : Disks) (other : ℕ) (h : Descriptor) → (other ≡ id → ⊥) → status_by now b other h ≡ status_by c b other h
+    of_other b other h apart = λ t. newest_below (λ d. at d t) c.disks
+      where
+        at_test : (d : ℕ) (t : Bool) → members_in c b other h d ≡ t → (if t then if_passes (is_status_of other) (new.status d) else None) ≡ (if t then if_passes (is_status_of other) (c.status d) else None)
+        at_test d false is = refl
+        at_test d true is = ⊎_elim
+            (λ same. ap (if_passes (is_status_of other)) same)
+            (λ (put : IsTrue (targets d) × (new.status d ≡ Some next)).
+            let two = split (b d && passes (is_of other) (c.descriptor d)) (has_room c d h) is in
+            absurd (apart (one_group (c.descriptor d) other id (split (b d) (passes (is_of other) (c.descriptor d)) two.0).1 (may.showing d put.0))))
+            (change.own d)
+
+        at : (d : ℕ) → (if members_in c b other h d then if_passes (is_status_of other) (new.status d) else None) ≡ (if members_in c b other h d then if_passes (is_status_of other) (c.status d) else None)
+        at d = at_test d (members_in c b other h d) refl
+
+    found_by : (b : Disks) (other : ℕ) (h : Descriptor) → Reads c b other h → (status_by now b other h ≡ status_by c b other h) ⊎ ((status_by now b other h ≡ Some next) × Serves c facts other next)
+    found_by b other h reading = ⊎_elim
+        (λ (test : (other == id) ≡ true). let same : other ≡ id = eqb-true other id test in
+        subst (λ (n : ℕ). (status_by now b n h ≡ status_by c b n h) ⊎ ((status_by now b n h ≡ Some next) × Serves c facts n next)) (sym same) (⊎_elim
+        (λ (old_is : status_by now b id h ≡ status_by c b id h). inl old_is)
+        (λ (next_is : status_by now b id h ≡ Some next). inr (next_is, serves))
+        (old_or_next Status (is_status_of id) c.status new.status (members_in c b id h) next (eq-eqb next.value.id id may.own) either_own (λ d r shows own. may.later d r shows (eqb-true r.value.id id own)) c.disks)))
+        (λ (test : (other == id) ≡ false). inl (of_other b other h (λ same. clash (other == id) (eq-eqb other id same) test)))
+        (either (other == id))
+
+    pub restated : Kept new facts
+    restated = statuses_keep c new facts next (record {
+      rest = change.rest;
+      own = either_own;
+      stamp = λ d r shows ids stamps. absurd (not-itself next.stamp (ap (λ (x : Stamp). stamp_lt x next.stamp) (sym stamps) ∙ may.later d r shows (ids ∙ may.own)));
+      found = λ b other h reading. subst (λ (x : Contents). (status_by x b other h ≡ status_by c b other h) ⊎ ((status_by x b other h ≡ Some next) × Serves c facts other next) ⊎ HasNoVolume c other) (sym change.rest)
+          (⊎_elim (λ same. inl same) (λ is. inr (inl is)) (found_by b other h reading));
+    }) kept
+
+pub restate_keeps : RestateKeeps
+restate_keeps group disks targets newest was next old new facts within may change kept = restated old group disks targets newest was next facts within may kept new change
+
+-- ---- the notes
+
+-- what holds of those that pass, and more by the test
+refined : {X : Type 0} (P R : X → Type 0) (q : X → Bool) → ((x : X) → q x ≡ true → P x → R x) → (xs : List X) → AllByRecursion P (filter q xs) → AllByRecursion R (filter q xs)
+refined P R q each [] all = tt
+refined P R q each (x ∷ xs) all = by_test (q x) refl (refined P R q each xs) all
+  where
+    by_test : (t : Bool) → q x ≡ t → (AllByRecursion P (filter q xs) → AllByRecursion R (filter q xs)) → AllByRecursion P (if t then x ∷ filter q xs else filter q xs) → AllByRecursion R (if t then x ∷ filter q xs else filter q xs)
+    by_test true passed rest all = (each x passed all.0, rest all.1)
+    by_test false passed rest all = rest all
+
+module _ (old new : Contents) (group : Descriptor) (disks targets : Disks) (newest : Stamped Descriptor) (facts : List Fact) (within : IsWithinDisks old) (has : HasNewest old group disks newest) (quiet : HasNoActive group)
+    (showing : AreShowing old group.id targets) (change : NotesOf targets old new) (kept : Kept old facts) where
+  -- the disks of a set show a group
+  abbrev Show : Disks → ℕ → Type 0
+  Show set other = (d : ℕ) → IsTrue (set d) → passes (is_of other) (old.descriptor d) ≡ true
+
+  module _ (other : ℕ) (k : Descriptor) (is : IsFound old other k) (set : Disks) (show : Show set other) (status : Option (Stamped Status)) where
+    excuse : (row : LvRow) (lp b : ℕ) (known_now : Known) (mode : Mode) → row.mode ≡ mode → IsOneOf k.lvs row → MayDiffer old status row.number mode (fresh_on set status row lp) known_now b → MayDiffer new status row.number mode (fresh_on set status row lp) known_now b
+    excuse row lp b known_now Passive mode_is volume m = m
+    excuse row lp b known_now Off mode_is volume m = m
+    excuse row lp b known_now Active mode_is volume m = refined (λ (p : Pp). IsTrue (is_named old p.disk row.number (track_group_of b))) (λ (p : Pp). IsTrue (is_named new p.disk row.number (track_group_of b))) (λ (p : Pp). set p.disk && not (is_stale_by status p))
+        (λ p passed named. ⊎_elim
+        (λ (same : new.note p.disk ≡ old.note p.disk). ap (λ (n : Option Noted). names_if n row.number (track_group_of b)) same ∙ named)
+        (λ (target : IsTrue (targets p.disk)).
+        let its : other ≡ group.id = one_group (old.descriptor p.disk) other group.id (show p.disk (split (set p.disk) (not (is_stale_by status p)) passed).0) (showing p.disk target) in
+        absurd (quiet row (subst (λ (g : Descriptor). IsOneOf g.lvs row) (only_found old group disks newest facts within has kept k (subst (λ (n : ℕ). IsFound old n k) its is)) volume) mode_is))
+        (change.own p.disk))
+        (copies_of row lp) m
+
+    excused : BlocksKept old facts k set status → StayExcused old new facts k set status
+    excused blocks row lp b volume inside = ⊎_elim
+        (λ held. inl held)
+        (λ (m : MayDiffer old status row.number row.mode (fresh_on set status row lp) (known (facts ++ Cut ∷ []) (Lv row.number) b) b). inr (excuse row lp b (known (facts ++ Cut ∷ []) (Lv row.number) b) row.mode refl volume m))
+        (blocks row lp b volume inside).equal
+
+  voters_show : (set : Disks) (other : ℕ) (k : Descriptor) → Finds old set other k → Show (is_voter old set other) other
+  voters_show set other k f d is =
+      let reads : ReadsBy old set other k = finding_reads old set other k f in
+      members_show set other k d (subst (λ (v : Disks). IsTrue (v d)) reads.voters is)
+    where
+      members_show : (set : Disks) (other : ℕ) (k : Descriptor) (d : ℕ) → IsTrue (members_in old set other k d) → passes (is_of other) (old.descriptor d) ≡ true
+      members_show set other k d is = (split (set d) (passes (is_of other) (old.descriptor d)) (split (set d && passes (is_of other) (old.descriptor d)) (has_room old d k) is).0).1
+
+  pub forgotten : Kept new facts
+  forgotten = notes_keep old new facts (record {
+    rest = change.rest;
+    copies = λ set other k f. excused other k (set, f) (is_voter old set other) (voters_show set other k f) (status_among old set other) (kept.agrees.copies set other k f);
+    across = λ b other h k reads is. excused other k is (members_in old all_disks other k) (λ d member. (split (passes (is_of other) (old.descriptor d)) (has_room old d k) member).0) (status_by old b other h) (kept.lasting.across b other h k reads is);
+  }) kept
+
+pub forgetting_keeps : ForgettingKeeps
+forgetting_keeps group disks targets newest old new facts within has quiet showing change kept = forgotten old new group disks targets newest facts within has quiet showing change kept
