@@ -10,4 +10,3 @@ pub mod Recovered
 pub mod Examples
 pub mod Raw
 pub mod Moments
-pub mod Laws
