@@ -1,12 +1,12 @@
 -- Events that touch no block.
-use Rattle.std.proofs.Common.{◌≡◌, ◌⊎◌, inl, inr, ⊎_elim, ℕ, Bool, true, false, List, Option, sym, ap, subst, ◌∙◌}
-use Rattle.std.specs.Prelude.{IsTrue}
+use Rattle.std.proofs.Common.{◌≡◌, ◌⊎◌, inl, inr, ⊎_elim, ℕ, Bool, true, false, List, Option, refl, sym, ap, subst, ◌∙◌}
 use Rattle.lvm_num.specs.declared.place.Pp.{Pp}
 use Rattle.lvm_num.specs.Geometry.{track_group_of}
 use Rattle.lvm_invariant.proofs.Small.{IsIn}
-use Rattle.lvm_invariant.specs.State.{Queued, State, covers, Started, told}
+use Rattle.lvm_invariant.specs.State.{Queued, State, Started, told}
 use Rattle.lvm_invariant.specs.Sound.{MayDiffer, Agree, Settled, Blocks}
-use Rattle.lvm_invariant.proofs.Claims.{Calmer, CalmerKeepsBlocks}
+use Rattle.lvm_invariant.proofs.Claims.{Calmer, keeping_blocks, with_requests}
+use Rattle.lvm_invariant.proofs.SoundLemmas.{keeping_live, keeping_notes, live_same, named_same, each_same}
 
 module _ (old new : State) (calmer : Calmer old new) (blocks : Blocks old) where
   same_block : (lv b : ℕ) (c : Pp) → new.media.block lv b c ≡ old.media.block lv b c
@@ -39,10 +39,7 @@ module _ (old new : State) (calmer : Calmer old new) (blocks : Blocks old) where
 
   pub calm_blocks : Blocks new
   calm_blocks = record {
-    each = λ lv b. ⊎_elim
-        (λ (settled : Settled old lv b). inl (settled_now lv b settled))
-        (λ (by : (i : ℕ) × (r : Queued) × Started old i r × IsTrue (covers r lv b)). inr (by.0, by.1, calmer.started_still by.0 by.1 by.2, by.3))
-        (blocks.each lv b);
+    each = each_same old new calmer.started_still settled_now blocks;
     busy = λ i lv b r started over.
         let busy = blocks.busy i lv b r (calmer.started i r started) over in
         record {
@@ -64,5 +61,20 @@ module _ (old new : State) (calmer : Calmer old new) (blocks : Blocks old) where
         };
   }
 
-pub calmer_blocks : CalmerKeepsBlocks
-calmer_blocks old new calmer blocks = calm_blocks old new calmer blocks
+-- an event of requests alone, by which no write starts or lands
+pub calmer_of : (old new : State) → with_requests old new ≡ new → ((i : ℕ) (r : Queued) → Started new i r → Started old i r) → ((i : ℕ) (r : Queued) → Started old i r → Started new i r)
+    → ((lv b : ℕ) → (told new lv b).values ≡ (told old lv b).values) → ((lv b : ℕ) → (told new lv b).loose ≡ (told old lv b).loose) → Calmer old new
+calmer_of old new same started still values loose =
+    let noted : keeping_notes old new ≡ new = subst (λ (s : State). keeping_notes old s ≡ s) same refl in
+    record {
+      started = started;
+      started_still = still;
+      may = values;
+      loose = λ lv b h. loose lv b ∙ h;
+      same = subst (λ (s : State). keeping_blocks old s ≡ s) same refl;
+      live = live_same old new (subst (λ (s : State). keeping_live old s ≡ s) same refl);
+      dirty = λ lv h. ap (λ (s : State). s.committed.value.dirty lv) (sym same) ∙ h;
+      missing_still = λ d h. ap (λ (s : State). s.missing d) (sym same) ∙ h;
+      named_missing = λ d lv g gone named. named_same old new noted d lv g named;
+      named_started = λ i lv b d r started over on several named. named_same old new noted d lv (track_group_of b) named;
+    }

@@ -6,7 +6,7 @@ use Rattle.lvm_num.specs.Geometry.{track_group_of}
 use Rattle.lvm_num.specs.Record.{Stamped, stamp_lt}
 use Rattle.lvm_vol.specs.May.{IsValue}
 use Rattle.lvm_invariant.specs.State.{write_of, Marks, Groups, OpenCopy, StepWrite, Phase, Stage, Queued, State, covers, request_of, is_past, has_landed, is_pinning, Live, Named, Started, told}
-use Rattle.lvm_invariant.specs.Sound.{StaysFresh, Blocks, Tied, Statuses, Holds, Sound, Nearly}
+use Rattle.lvm_invariant.specs.Sound.{StaysFresh, Tied, Statuses, Holds, Sound, Nearly}
 use Rattle.lvm_invariant.proofs.Effects.{DoneEffect, LostEffect, ChangeEffect, GotEffect, JoinEffect}
 use Rattle.lvm_vol.specs.Facts.{Fact, Request}
 use Rattle.lvm_invariant.specs.EndNote.{EndsNote}
@@ -20,18 +20,6 @@ use Rattle.lvm_invariant.specs.Open.{Opens}
 use Rattle.lvm_invariant.specs.Want.{Replaced, Wants, after_wants}
 use Rattle.lvm_invariant.specs.StartNote.{StartsNote}
 use Rattle.lvm_invariant.specs.Clear.{Clears}
-
-abbrev pub FirstKeepsBlocks : Type 0
-FirstKeepsBlocks = (s : State) (i : ℕ) (r : Queued) (c : Pp) → MayStart s i r c → Sound s → Blocks (started_first s i r c)
-
-abbrev pub RestagingKeepsBlocks : Type 0
-RestagingKeepsBlocks = (s : State) (i : ℕ) (r : Queued) (c : Pp) (stage : Stage) (block : ℕ → ℕ → Pp → List ℕ) → Restages s i r c stage block → Sound s → Blocks (restaged s i r c stage block)
-
-abbrev pub DoneKeepsBlocks : Type 0
-DoneKeepsBlocks = (s : State) (i : ℕ) (r : Queued) (facts : List Fact) → DoneEffect s i r facts → Sound s → Blocks (landed s i r facts)
-
-abbrev pub LostKeepsBlocks : Type 0
-LostKeepsBlocks = (s : State) (i : ℕ) (r : Queued) (facts : List Fact) → LostEffect s i r facts → Sound s → Blocks (landed s i r facts)
 
 -- with the blocks of copies, and with the modes of volumes, as they were
 abbrev pub keeping_blocks : State → State → State
@@ -50,8 +38,9 @@ pub record Calmer (old new : State) : Type 0 where
   pub named_missing : (d lv g : ℕ) → IsTrue (old.missing d) → Named old d lv g → Named new d lv g
   pub named_started : (i lv b d : ℕ) (r : Queued) → Started old i r → IsTrue (covers r lv b) → IsTrue (old.is_active lv) → IsTrue r.several → Named old d lv (track_group_of b) → Named new d lv (track_group_of b)
 
-abbrev pub CalmerKeepsBlocks : Type 0
-CalmerKeepsBlocks = (old new : State) → Calmer old new → Blocks old → Blocks new
+-- the old state, with the requests, the history and the cache as they are now
+abbrev pub with_requests : State → State → State
+with_requests old new = record old { queue = new.queue; facts = new.facts; name = new.name; cache = new.cache }
 
 -- a request and what an event makes of it: it asks the same, and at most goes on or lands
 pub record Alike (r n : Queued) : Type 0 where

@@ -6,10 +6,10 @@ use Rattle.lvm_num.specs.Geometry.{track_group_of}
 use Rattle.lvm_invariant.proofs.Small.{IsIn, never, false_by, and_left_false}
 use Rattle.lvm_invariant.specs.State.{Marks, OpenCopy, StepWrite, Going, Queued, State, covers, stale_in, is_settled_stale, HasPassed, Live, Started, told}
 use Rattle.lvm_invariant.specs.Sound.{Complete, Statuses, MayDiffer, Agree, Settled, Blocks, Holds, Sound}
-use Rattle.lvm_invariant.proofs.SoundLemmas.{complete_same, live_same, named_same}
+use Rattle.lvm_invariant.proofs.SoundLemmas.{complete_same, live_same, equal_same, recorded_same, each_same}
 use Rattle.lvm_invariant.proofs.Claims.{Quiet, CopyWriteKeepsCore, OpenKeepsCore, ClearKeepsCore}
-use Rattle.lvm_invariant.proofs.Requests.{decided, alone, past_of}
-use Rattle.lvm_invariant.proofs.Quieting.{one_req, quiet_of, quiet_sound}
+use Rattle.lvm_invariant.proofs.Requests.{decided, alone, past_of, one_req}
+use Rattle.lvm_invariant.proofs.Quieting.{quiet_of, quiet_sound}
 use Rattle.lvm_invariant.specs.CopyWrite.{Passes, CopyWrites}
 use Rattle.lvm_invariant.specs.Updates.{with_block}
 use Rattle.lvm_invariant.specs.Open.{Opens}
@@ -99,15 +99,9 @@ module _ (s : State) (i : ℕ) (r : Queued) (value : ℕ → List ℕ) (target :
         (decided (covers r lv b));
     equal = ⊎_elim
         (λ (over : IsTrue (covers r lv b)). equal_on lv b over (s.is_active lv) refl)
-        (λ (off : IsFalse (covers r lv b)). equal_off off (s.is_active lv) settled.equal)
+        (λ (off : IsFalse (covers r lv b)). equal_same s new refl lv b (λ h. h) (λ c live. (off_live lv b off c live, off_block lv b off c)) (s.is_active lv) settled.equal)
         (decided (covers r lv b));
   }
-    where
-      equal_off : IsFalse (covers r lv b) → (active : Bool) → Agree s lv b ⊎ MayDiffer s lv b active → Agree new lv b ⊎ MayDiffer new lv b active
-      equal_off off active (inl agree) = inl (agree.0, λ c live. off_block lv b off c ∙ agree.1 c (off_live lv b off c live))
-      equal_off off true (inr differ) = inr (λ c live. let d = differ c (off_live lv b off c live) in (d.0, named_same s new refl c.disk lv (track_group_of b) d.1))
-      equal_off off false (inr (inl loose)) = inr (inl loose)
-      equal_off off false (inr (inr d)) = inr (inr (record { passive = d.passive; missing = λ e live. d.missing e (off_live lv b off e live); dirty = d.dirty }))
 
   was_started : (j : ℕ) (e : Queued) → Started new j e → Started s j e
   was_started j e started = record { there = started.there; write = started.write; going = started.going }
@@ -117,10 +111,7 @@ module _ (s : State) (i : ℕ) (r : Queued) (value : ℕ → List ℕ) (target :
 
   copy_blocks : Blocks new
   copy_blocks = record {
-    each = λ lv b. ⊎_elim
-        (λ (settled : Settled s lv b). inl (settled_now lv b settled))
-        (λ (by : (j : ℕ) × (e : Queued) × Started s j e × IsTrue (covers e lv b)). inr (by.0, by.1, record { there = by.2.there; write = by.2.write; going = by.2.going }, by.3))
-        (sound.blocks.each lv b);
+    each = each_same s new (λ j e started. record { there = started.there; write = started.write; going = started.going }) settled_now sound.blocks;
     busy = λ j lv b e started over.
         let was = was_started j e started in
         let busy = sound.blocks.busy j lv b e was over in
@@ -132,8 +123,7 @@ module _ (s : State) (i : ℕ) (r : Queued) (value : ℕ → List ℕ) (target :
           well = λ c at. off_block lv b off c ∙ busy.well c at;
         };
     recorded = λ j lv b e started over.
-        let recorded = sound.blocks.recorded j lv b e (was_started j e started) over in
-        record { named = λ on several c x at. named_same s new refl c.disk lv (track_group_of b) (recorded.named on several c x at); dirty = recorded.dirty; one = recorded.one; single = recorded.single };
+        recorded_same s new refl lv b e (sound.blocks.recorded j lv b e (was_started j e started) over);
   }
 
   -- a live copy of the block of a request

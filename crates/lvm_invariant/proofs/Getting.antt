@@ -1,18 +1,17 @@
 -- A read lands with what it got; a request begins.
 use Rattle.std.specs.Prelude.{if◌then◌else◌, IsTrue, IsFalse, ◌==◌}
-use Rattle.std.proofs.Common.{◌≡◌, ◌⊎◌, inl, inr, ⊎_elim, ℕ, ◌<◌, Bool, true, false, List, [], ◌∷◌, Option, Some, refl, sym, ap, subst, ◌∙◌, eqb-true, arith, eq-eqb}
+use Rattle.std.proofs.Common.{◌≡◌, ◌⊎◌, inl, inr, ⊎_elim, ℕ, ◌<◌, Bool, false, List, [], ◌∷◌, Option, Some, refl, sym, ap, subst, ◌∙◌, eqb-true, arith, eq-eqb}
 use Rattle.lvm_num.specs.declared.place.Pp.{Pp}
 use Rattle.lvm_num.specs.Geometry.{track_group_of}
 use Rattle.lvm_vol.specs.May.{Known, is_off, known}
 use Rattle.lvm_invariant.specs.State.{write_of, Phase, Held, Going, Landed, Queued, State, covers, is_past, has_landed, is_pinning, stale_in, Live, Started, told}
 use Rattle.lvm_invariant.proofs.Small.{IsIn, never, and_left_false}
-use Rattle.lvm_invariant.specs.Sound.{MayDiffer, Agree, Settled, Blocks, Tied, Holds, Sound, the_write}
-use Rattle.lvm_invariant.proofs.SoundLemmas.{live_same, named_same, same_behind, same_statuses}
+use Rattle.lvm_invariant.specs.Sound.{Settled, Blocks, Tied, Holds, Sound, the_write}
+use Rattle.lvm_invariant.proofs.SoundLemmas.{live_same, same_behind, same_statuses, equal_same, recorded_same, each_same}
 use Rattle.lvm_invariant.proofs.Effects.{GotEffect, JoinEffect}
 use Rattle.lvm_invariant.proofs.Claims.{Frame, Calmer, GotKeeps, GotIsAllowed, SubmitKeepsCore}
-use Rattle.lvm_invariant.proofs.Requests.{decided, put_cases, put_other, alone, past_of, past_not_landed}
-use Rattle.lvm_invariant.proofs.Calm.{calm_blocks}
-use Rattle.lvm_invariant.proofs.Quieting.{one_req}
+use Rattle.lvm_invariant.proofs.Requests.{decided, put_cases, put_other, alone, past_of, past_not_landed, one_req}
+use Rattle.lvm_invariant.proofs.Calm.{calm_blocks, calmer_of}
 use Rattle.lvm_invariant.proofs.Writes.{from_put, got_put, pins_put, land_alike}
 use Rattle.lvm_vol.specs.Facts.{Fact, Request}
 use Rattle.lvm_vol.specs.declared.entry.Vol.TheVariants.{Lv}
@@ -81,26 +80,17 @@ module _ (s : State) (i : ℕ) (r : Queued) (value : ℕ → List ℕ) (facts : 
         subst (λ (m : Option (List (List ℕ))). IsIn m (s.media.block lv b c)) (sym one.0) (inl (sym (one.2 c (live_same s new refl lv b c live)))))
         (known_now lv b);
     equal = ⊎_elim
-        (λ (same : known facts (Lv lv) b ≡ told s lv b). equal_now (ap (λ (k : Known). k.loose) same) (s.is_active lv) settled.equal)
+        (λ (same : known facts (Lv lv) b ≡ told s lv b). equal_same s new refl lv b (λ h. ap (λ (k : Known). k.loose) same ∙ h) (λ e live. (live_same s new refl lv b e live, refl)) (s.is_active lv) settled.equal)
         (λ (one : ((known facts (Lv lv) b).values ≡ Some (value b ∷ [])) × IsTrue (covers r lv b) × ((e : Pp) → Live s lv b e → s.media.block lv b e ≡ value b)). inl (value b, λ e live. one.2 e (live_same s new refl lv b e live)))
         (known_now lv b);
   }
-    where
-      equal_now : (known facts (Lv lv) b).loose ≡ (told s lv b).loose → (active : Bool) → Agree s lv b ⊎ MayDiffer s lv b active → Agree new lv b ⊎ MayDiffer new lv b active
-      equal_now same active (inl agree) = inl (agree.0, λ e live. agree.1 e (live_same s new refl lv b e live))
-      equal_now same true (inr differ) = inr (λ e live. let d = differ e (live_same s new refl lv b e live) in (d.0, named_same s new refl e.disk lv (track_group_of b) d.1))
-      equal_now same false (inr (inl loose)) = inr (inl (same ∙ loose))
-      equal_now same false (inr (inr d)) = inr (inr (record { passive = d.passive; missing = λ e live. d.missing e (live_same s new refl lv b e live); dirty = d.dirty }))
 
   off_if_started : (j lv b : ℕ) (e : Queued) → Started s j e → IsTrue (covers e lv b) → known facts (Lv lv) b ≡ told s lv b
   off_if_started j lv b e started over = step.closes.outside lv b (⊎_elim (λ (h : IsTrue (covers r lv b)). absurd (elsewhere j lv b e started over h)) (λ (f : IsFalse (covers r lv b)). f) (decided (covers r lv b)))
 
   got_blocks : Blocks new
   got_blocks = record {
-    each = λ lv b. ⊎_elim
-        (λ (settled : Settled s lv b). inl (settled_now lv b settled))
-        (λ (by : (j : ℕ) × (e : Queued) × Started s j e × IsTrue (covers e lv b)). inr (by.0, by.1, started_still by.0 by.1 by.2, by.3))
-        (sound.blocks.each lv b);
+    each = each_same s new started_still settled_now sound.blocks;
     busy = λ j lv b e started over.
         let was = started_was j e started in
         let busy = sound.blocks.busy j lv b e was over in
@@ -112,8 +102,7 @@ module _ (s : State) (i : ℕ) (r : Queued) (value : ℕ → List ℕ) (facts : 
           well = busy.well;
         };
     recorded = λ j lv b e started over.
-        let recorded = sound.blocks.recorded j lv b e (started_was j e started) over in
-        record { named = λ on several c x at. named_same s new refl c.disk lv (track_group_of b) (recorded.named on several c x at); dirty = recorded.dirty; one = recorded.one; single = recorded.single };
+        recorded_same s new refl lv b e (sound.blocks.recorded j lv b e (started_was j e started) over);
   }
 
   got_frame : Frame s new
@@ -183,21 +172,12 @@ module _ (s : State) (i : ℕ) (given : Request) (r : Queued) (facts : List Fact
   held_not_past p e h = never (is_past p) h (ap is_past e)
 
   calmer_next : Calmer s next
-  calmer_next = record {
-    started = λ j e started. ⊎_elim
-        (λ (is : (j ≡ i) × (r ≡ e)). held_not_past e.phase (ap (λ (q : Queued). q.phase) (sym is.1) ∙ step.held) (past_of e.phase Going started.going refl))
-        (λ (other : IsFalse (j == i) × (s.queue j ≡ Some e)). record { there = other.1; write = started.write; going = started.going })
-        (put_cases s.queue i j r e started.there);
-    started_still = λ j e started. record { write = started.write; going = started.going; there = put_other s.queue i j r (fresh_number j e started.there) ∙ started.there };
-    may = step.may;
-    loose = λ lv b h. step.loose lv b ∙ h;
-    same = refl;
-    live = live_same s next refl;
-    dirty = λ lv h. h;
-    missing_still = λ d h. h;
-    named_missing = λ d lv g gone. named_same s next refl d lv g;
-    named_started = λ j lv b d e started over on several. named_same s next refl d lv (track_group_of b);
-  }
+  calmer_next = calmer_of s next refl
+      (λ j e started. ⊎_elim
+      (λ (is : (j ≡ i) × (r ≡ e)). held_not_past e.phase (ap (λ (q : Queued). q.phase) (sym is.1) ∙ step.held) (past_of e.phase Going started.going refl))
+      (λ (other : IsFalse (j == i) × (s.queue j ≡ Some e)). record { there = other.1; write = started.write; going = started.going })
+      (put_cases s.queue i j r e started.there))
+      (λ j e started. record { write = started.write; going = started.going; there = put_other s.queue i j r (fresh_number j e started.there) ∙ started.there }) step.may step.loose
 
   submit_tied : Tied next
   submit_tied = record {

@@ -7,11 +7,10 @@ use Rattle.lvm_num.specs.Geometry.{track_group_of}
 use Rattle.lvm_invariant.specs.State.{write_of, Groups, Stage, Phase, Held, WantEntry, Ready, Going, Queued, State, covers, request_of, is_held, is_past, has_landed, is_pinning, stale_in, Live, Started, told}
 use Rattle.lvm_invariant.proofs.Small.{IsIn, never, and_left_false}
 use Rattle.lvm_invariant.specs.Sound.{Conflict, MayDiffer, Agree, Settled, Tied, Holds, Sound, the_write}
-use Rattle.lvm_invariant.proofs.SoundLemmas.{live_same, named_same, same_statuses, same_behind}
+use Rattle.lvm_invariant.proofs.SoundLemmas.{live_same, same_statuses, same_behind}
 use Rattle.lvm_invariant.proofs.Claims.{Frame, Calmer, PlainKeeps, AdmitKeepsCore}
-use Rattle.lvm_invariant.proofs.Requests.{decided, put_cases, put_other, past_of, past_not_landed}
-use Rattle.lvm_invariant.proofs.Calm.{calm_blocks}
-use Rattle.lvm_invariant.proofs.Quieting.{one_req}
+use Rattle.lvm_invariant.proofs.Requests.{decided, put_cases, put_other, past_of, past_not_landed, one_req}
+use Rattle.lvm_invariant.proofs.Calm.{calm_blocks, calmer_of}
 use Rattle.lvm_invariant.proofs.Writes.{from_put}
 use Rattle.lvm_vol.specs.declared.entry.Vol.TheVariants.{Lv}
 use Rattle.lvm_vol.specs.May.{known}
@@ -47,18 +46,7 @@ module _ (s : State) (i : ℕ) (r n : Queued) (facts : List Fact) (cache : Group
   }
 
   pub calmer_plain : Calmer s plain
-  calmer_plain = record {
-    started = started_was;
-    started_still = started_still;
-    may = may;
-    loose = λ lv b h. loose lv b ∙ h;
-    same = refl;
-    live = live_same s plain refl;
-    dirty = λ lv h. h;
-    missing_still = λ d h. h;
-    named_missing = λ d lv g gone. named_same s plain refl d lv g;
-    named_started = λ j lv b d e started over on several. named_same s plain refl d lv (track_group_of b);
-  }
+  calmer_plain = calmer_of s plain refl started_was started_still may loose
 
 pub plain_keeps : PlainKeeps
 plain_keeps s i r n facts cache step alike sound =

@@ -1,22 +1,42 @@
 -- Events that change neither requests nor blocks.
 use Rattle.std.proofs.Common.{◌≡◌, inl, inr, ⊎_elim, ℕ, Some, refl, sym, ap, subst, ◌∙◌}
-use Rattle.std.specs.Prelude.{IsTrue}
+use Rattle.std.specs.Prelude.{IsTrue, IsFalse}
 use Rattle.lvm_num.specs.declared.place.Pp.{Pp}
 use Rattle.lvm_num.specs.Geometry.{track_group_of}
 use Rattle.lvm_vol.specs.May.{Known}
-use Rattle.lvm_invariant.specs.State.{write_of, Queued, State, is_pinning, request_of, Live, Started, told}
+use Rattle.lvm_invariant.specs.State.{write_of, Stage, Queued, State, covers, is_past, has_landed, is_pinning, request_of, Live, Started, told}
 use Rattle.lvm_invariant.proofs.Small.{IsIn}
 use Rattle.lvm_invariant.specs.Sound.{Behind, Sound, Nearly}
+use Rattle.lvm_invariant.proofs.Requests.{one_req}
 use Rattle.lvm_invariant.proofs.Claims.{Alike, Frame, Calmer, Quiet, Rest, keeping_blocks, keeping_volumes, keeping_requests}
 use Rattle.lvm_invariant.proofs.SoundLemmas.{keeping_notes, named_same}
 use Rattle.lvm_invariant.proofs.Calm.{calm_blocks}
 use Rattle.lvm_invariant.proofs.Framing.{frame_keeps}
 
-pub one_req : {a b : Queued} → Some a ≡ Some b → a ≡ b
-one_req h = cc
+-- with what it asks as it was, and whether it has more than one target
+abbrev pub keeping_asked : Queued → Queued → Queued
+keeping_asked r n = record n { lv = r.lv; first = r.first; count = r.count; write = r.write; value = r.value; several = r.several }
+
+-- a request that at most goes on or lands
+pub alike_by : (r n : Queued) → keeping_asked r n ≡ n → (IsTrue (is_past n.phase) → IsTrue (is_past r.phase)) → (IsFalse (has_landed n.phase) → IsFalse (has_landed r.phase))
+    → (IsTrue (has_landed r.phase) → IsTrue (has_landed n.phase)) → ((c : Pp) (x : Stage) → n.targets c ≡ Some x → (y : Stage) × (r.targets c ≡ Some y))
+    → ((c : Pp) (x : Stage) → r.targets c ≡ Some x → (y : Stage) × (n.targets c ≡ Some y)) → Alike r n
+alike_by r n same past unlanded landed aimed aimed_still = record {
+  lv = ap (λ (q : Queued). q.lv) (sym same);
+  first = ap (λ (q : Queued). q.first) (sym same);
+  over = λ lv b. ap (λ (q : Queued). covers q lv b) (sym same);
+  write = ap (λ (q : Queued). q.write) (sym same);
+  value = λ b. ap (λ (q : Queued). q.value b) (sym same);
+  past = past;
+  unlanded = unlanded;
+  landed = landed;
+  several = λ h. ap (λ (q : Queued). q.several) same ∙ h;
+  aimed = aimed;
+  aimed_still = aimed_still;
+}
 
 pub alike_same : (r : Queued) → Alike r r
-alike_same r = record { lv = refl; first = refl; over = λ lv b. refl; write = refl; value = λ b. refl; past = λ h. h; unlanded = λ h. h; landed = λ h. h; several = λ h. h; aimed = λ c x h. (x, h); aimed_still = λ c x h. (x, h) }
+alike_same r = alike_by r r refl (λ h. h) (λ h. h) (λ h. h) (λ c x h. (x, h)) (λ c x h. (x, h))
 
 pub nearly : (s : State) → Sound s → Nearly s
 nearly s sound = record { blocks = sound.blocks; tied = sound.tied; statuses = sound.statuses; notes = sound.notes; holds = sound.holds }

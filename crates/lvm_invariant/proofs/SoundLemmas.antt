@@ -1,10 +1,10 @@
 -- What is true of a session stays true where an event changes nothing that it speaks of: each lemma takes the new state with those parts as they were, and that this is the new state.
-use Rattle.std.proofs.Common.{◌≡◌, inl, inr, ⊎_elim, ℕ, refl, sym, subst}
+use Rattle.std.proofs.Common.{◌≡◌, ◌⊎◌, inl, inr, ⊎_elim, ℕ, Bool, true, false, refl, sym, ap, subst, ◌∙◌}
 use Rattle.std.specs.Prelude.{IsTrue, IsFalse}
 use Rattle.lvm_num.specs.declared.place.Pp.{Pp}
 use Rattle.lvm_num.specs.Geometry.{track_group_of}
-use Rattle.lvm_invariant.specs.State.{State, is_settled_stale, HasPassed, Live, Named}
-use Rattle.lvm_invariant.specs.Sound.{Complete, Statuses, Behind}
+use Rattle.lvm_invariant.specs.State.{Queued, State, covers, is_settled_stale, HasPassed, Live, Named, Started, told}
+use Rattle.lvm_invariant.specs.Sound.{MayDiffer, Agree, Settled, Recorded, Blocks, Complete, Statuses, Behind}
 
 -- with the copies, and the one that is brought up, as they were
 abbrev pub keeping_open : State → State → State
@@ -26,6 +26,10 @@ keeping_records old new = record (keeping_statuses old new) { media = record new
 abbrev pub keeping_notes : State → State → State
 keeping_notes old new = record new { media = record new.media { names = old.media.names }; flying_note = old.flying_note }
 
+-- also with what else says why live copies may differ: missing disks, the committed status, modes
+abbrev pub keeping_reasons : State → State → State
+keeping_reasons old new = record (keeping_notes old new) { missing = old.missing; committed = old.committed; is_active = old.is_active; is_passive = old.is_passive }
+
 pub complete_same : (old new : State) → keeping_open old new ≡ new → (c : Pp) → Complete old c → Complete new c
 complete_same old new same c k = subst (λ (s : State). Complete s c) same (record { copy = k.copy; is_open = k.is_open; target = k.target; passed = k.passed })
 
@@ -43,6 +47,38 @@ live_same old new same lv b c live = as_it_was (subst (λ (s : State). Live s lv
 
 pub named_same : (old new : State) → keeping_notes old new ≡ new → (d lv g : ℕ) → Named old d lv g → Named new d lv g
 named_same old new same d lv g named = subst (λ (s : State). Named s d lv g) same (record { home = named.home; flying = named.flying })
+
+module _ (old new : State) (same : keeping_reasons old new ≡ new) where
+  still_named : (d lv g : ℕ) → Named old d lv g → Named new d lv g
+  still_named = named_same old new (subst (λ (s : State). keeping_notes old s ≡ s) same refl)
+
+  -- copies that are live now were, and the block on them is as it was
+  pub equal_same : (lv b : ℕ) → (IsTrue (told old lv b).loose → IsTrue (told new lv b).loose) → ((c : Pp) → Live new lv b c → Live old lv b c × (new.media.block lv b c ≡ old.media.block lv b c))
+      → (active : Bool) → Agree old lv b ⊎ MayDiffer old lv b active → Agree new lv b ⊎ MayDiffer new lv b active
+  equal_same lv b loose was active (inl agree) = inl (agree.0, λ c live. (was c live).1 ∙ agree.1 c (was c live).0)
+  equal_same lv b loose was true (inr differ) = inr (λ c live. let d = differ c (was c live).0 in (ap (λ (s : State). s.missing c.disk) (sym same) ∙ d.0, still_named c.disk lv (track_group_of b) d.1))
+  equal_same lv b loose was false (inr (inl h)) = inr (inl (loose h))
+  equal_same lv b loose was false (inr (inr d)) = inr (inr (record {
+    passive = ap (λ (s : State). s.is_passive lv) (sym same) ∙ d.passive;
+    missing = λ c live. ap (λ (s : State). s.missing c.disk) (sym same) ∙ d.missing c (was c live).0;
+    dirty = ap (λ (s : State). s.committed.value.dirty lv) (sym same) ∙ d.dirty;
+  }))
+
+  pub recorded_same : (lv b : ℕ) (r : Queued) → Recorded old r lv b → Recorded new r lv b
+  recorded_same lv b r recorded = record {
+    named = λ on several c stage at. still_named c.disk lv (track_group_of b) (recorded.named (ap (λ (s : State). s.is_active lv) same ∙ on) several c stage at);
+    dirty = λ soft several. ap (λ (s : State). s.committed.value.dirty lv) (sym same) ∙ recorded.dirty (ap (λ (s : State). s.is_passive lv) same ∙ soft) several;
+    one = recorded.one;
+    single = recorded.single;
+  }
+
+-- where each write that had started still has, and each block that was settled still is
+pub each_same : (old new : State) → ((i : ℕ) (r : Queued) → Started old i r → Started new i r) → ((lv b : ℕ) → Settled old lv b → Settled new lv b) → Blocks old
+    → (lv b : ℕ) → Settled new lv b ⊎ ((i : ℕ) × (r : Queued) × Started new i r × IsTrue (covers r lv b))
+each_same old new started settled blocks lv b = ⊎_elim
+    (λ (h : Settled old lv b). inl (settled lv b h))
+    (λ (by : (i : ℕ) × (r : Queued) × Started old i r × IsTrue (covers r lv b)). inr (by.0, by.1, started by.0 by.1 by.2, by.3))
+    (blocks.each lv b)
 
 module _ (old new : State) (same : keeping_statuses old new ≡ new) where
   pub same_statuses : Statuses old → Statuses new

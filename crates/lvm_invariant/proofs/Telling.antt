@@ -1,8 +1,8 @@
 -- What an entry changes of what is known of a block, seen by the requests that are open there.
-use Rattle.std.proofs.Common.{◌≡◌, ◌⊎◌, inl, inr, ⊎_elim, ℕ, ◌<◌, Bool, true, false, ◌&&◌, ◌||◌, not, List, [], ◌∷◌, ◌++◌, Some, None, refl, sym, ap, subst, ◌∙◌, eqb-true, eq-eqb, arith, count_by}
-use Rattle.std.specs.Prelude.{IsTrue, IsFalse, ◌==◌, if◌then◌else◌, option_map, filter, nat_lt, nat_lt}
+use Rattle.std.proofs.Common.{◌≡◌, ◌⊎◌, inl, inr, ⊎_elim, ℕ, ◌<◌, Bool, true, false, ◌&&◌, ◌||◌, not, List, [], ◌∷◌, ◌++◌, Option, Some, None, refl, sym, ap, subst, ◌∙◌, eqb-true, eq-eqb, arith, count_by}
+use Rattle.std.specs.Prelude.{IsTrue, IsFalse, ◌==◌, if◌then◌else◌, option_map, filter, nat_lt}
 use Rattle.std.specs.List.{find}
-use Rattle.lvm_num.specs.Buffer.{Sector, zero_sector, zero_sector}
+use Rattle.lvm_num.specs.Buffer.{Sector, zero_sector}
 use Rattle.lvm_vol.specs.declared.entry.Vol.{Vol}
 use Rattle.lvm_vol.specs.declared.entry.Vol.TheVariants.{Lv}
 use Rattle.lvm_vol.specs.declared.entry.Outcome.{Outcome}
@@ -115,31 +115,25 @@ ended_tight r outcome.Got started x k calm tight = tight
 ended_tight r outcome.ReadFailed started x k calm tight = tight
 ended_tight r outcome.NoFresh started x k calm tight = tight
 
-read_mode : (how : Outcome) (x : Sector) (k : Known) → (read how x k).mode ≡ k.mode
-read_mode outcome.Got x k = by_loose k.loose
+-- a read changes at most the values
+read_still : {X : Type 0} (part : Known → X) → ((values : Option (List Sector)) (k : Known) → part (record k { values = values }) ≡ part k) → (how : Outcome) (x : Sector) (k : Known) → part (read how x k) ≡ part k
+read_still part same outcome.Got x k = by_loose k.loose
   where
-    by_loose : (t : Bool) → (if t then k else record k { values = Some (x ∷ []) }).mode ≡ k.mode
+    by_loose : (t : Bool) → part (if t then k else record k { values = Some (x ∷ []) }) ≡ part k
     by_loose true = refl
-    by_loose false = refl
-read_mode outcome.Done x k = refl
-read_mode outcome.Lost x k = refl
-read_mode outcome.ReadFailed x k = refl
-read_mode outcome.NoFresh x k = refl
-read_mode outcome.Off x k = refl
-read_mode outcome.Dark x k = refl
+    by_loose false = same (Some (x ∷ [])) k
+read_still part same outcome.Done x k = refl
+read_still part same outcome.Lost x k = refl
+read_still part same outcome.ReadFailed x k = refl
+read_still part same outcome.NoFresh x k = refl
+read_still part same outcome.Off x k = refl
+read_still part same outcome.Dark x k = refl
+
+read_mode : (how : Outcome) (x : Sector) (k : Known) → (read how x k).mode ≡ k.mode
+read_mode how x k = read_still (λ (k : Known). k.mode) (λ values k. refl) how x k
 
 read_loose : (how : Outcome) (x : Sector) (k : Known) → (read how x k).loose ≡ k.loose
-read_loose outcome.Got x k = by_loose k.loose
-  where
-    by_loose : (t : Bool) → (if t then k else record k { values = Some (x ∷ []) }).loose ≡ k.loose
-    by_loose true = refl
-    by_loose false = refl
-read_loose outcome.Done x k = refl
-read_loose outcome.Lost x k = refl
-read_loose outcome.ReadFailed x k = refl
-read_loose outcome.NoFresh x k = refl
-read_loose outcome.Off x k = refl
-read_loose outcome.Dark x k = refl
+read_loose how x k = read_still (λ (k : Known). k.loose) (λ values k. refl) how x k
 
 -- what is so however the request ends is so after it has
 pub by_landing : (P : Known → Type 0) (r : Request) (how : Outcome) (started over write still : Bool) (x y : Sector) (k : Known)

@@ -2,16 +2,15 @@
 use Rattle.std.proofs.Common.{◌≡◌, inl, inr, ⊎_elim, ℕ, Bool, true, false, Option, Some, None, refl, sym, ap, subst, ◌∙◌, eqb-true}
 use Rattle.std.specs.Prelude.{IsTrue, IsFalse, ◌==◌, if◌then◌else◌, List}
 use Rattle.lvm_num.specs.declared.place.Pp.{Pp}
-use Rattle.lvm_num.specs.Geometry.{track_group_of}
 use Rattle.lvm_num.specs.Record.{Stamped}
 use Rattle.lvm_invariant.specs.State.{Marks, Queued, State, has_landed, is_pinning, Live, Started, told, write_of}
 use Rattle.lvm_invariant.specs.Sound.{Sound}
-use Rattle.lvm_invariant.proofs.SoundLemmas.{live_same, named_same, same_behind, same_statuses}
+use Rattle.lvm_invariant.proofs.SoundLemmas.{live_same, same_behind, same_statuses}
 use Rattle.lvm_invariant.proofs.Claims.{Frame, Calmer}
 use Rattle.lvm_invariant.proofs.Small.{never, IsIn}
-use Rattle.lvm_invariant.proofs.Requests.{decided}
-use Rattle.lvm_invariant.proofs.Calm.{calm_blocks}
-use Rattle.lvm_invariant.proofs.Quieting.{one_req, alike_same, quiet_of, quiet_sound}
+use Rattle.lvm_invariant.proofs.Requests.{decided, one_req}
+use Rattle.lvm_invariant.proofs.Calm.{calm_blocks, calmer_of}
+use Rattle.lvm_invariant.proofs.Quieting.{alike_same, quiet_of, quiet_sound}
 use Rattle.lvm_invariant.specs.Take.{Takes}
 use Rattle.lvm_invariant.specs.Updates.{without, with_status}
 use Rattle.lvm_vol.specs.declared.entry.Vol.TheVariants.{Lv}
@@ -39,18 +38,8 @@ module _ (s : State) (queue : ℕ → Option Queued) (before : (j : ℕ) (e : Qu
 
   pub left_core : Sound taken
   left_core =
-      let calmer : Calmer s taken = record {
-        started = λ j e started. record { there = before j e started.there; write = started.write; going = started.going };
-        started_still = λ j e started. record { there = stays j e started; write = started.write; going = started.going };
-        may = λ lv b. ap (λ (k : Known). k.values) (same_known lv b);
-        loose = λ lv b h. ap (λ (k : Known). k.loose) (same_known lv b) ∙ h;
-        same = refl;
-        live = live_same s taken refl;
-        dirty = λ lv h. h;
-        missing_still = λ d h. h;
-        named_missing = λ d lv g gone. named_same s taken refl d lv g;
-        named_started = λ j lv b d e started over on several. named_same s taken refl d lv (track_group_of b);
-      } in
+      let calmer : Calmer s taken = calmer_of s taken refl (λ j e started. record { there = before j e started.there; write = started.write; going = started.going }) (λ j e started. record { there = stays j e started; write = started.write; going = started.going })
+      (λ lv b. ap (λ (k : Known). k.values) (same_known lv b)) (λ lv b. ap (λ (k : Known). k.loose) (same_known lv b)) in
       let frame : Frame s taken = record {
         from = λ j n h. (n, before j n h, alike_same n);
         writes = λ j n h write unlanded lv b. ap (λ (k : Known). write_of b k (s.name j)) (same_known lv b);

@@ -1,30 +1,23 @@
 -- What is true of a session is kept by the events of a write's data.
-use Rattle.std.proofs.Common.{◌≡◌, ◌⊎◌, inl, inr, ⊎_elim, ℕ, Bool, true, false, List, Some, refl, sym, ap, subst, ◌∙◌}
+use Rattle.std.proofs.Common.{◌≡◌, ◌⊎◌, inl, inr, ⊎_elim, ℕ, true, false, List, Some, refl, sym, ap, subst, ◌∙◌}
 use Rattle.std.specs.Prelude.{IsTrue, IsFalse, ◌==◌}
 use Rattle.lvm_num.specs.declared.place.Pp.{Pp}
 use Rattle.lvm_vol.specs.May.{Known}
 use Rattle.lvm_invariant.proofs.Small.{IsIn, never}
 use Rattle.lvm_invariant.specs.State.{Stage, Todo, Flying, Ready, Going, Landed, Queued, State, covers, is_past, has_landed, is_pinning, Live, Started, told}
-use Rattle.lvm_invariant.specs.Sound.{Sound}
+use Rattle.lvm_invariant.specs.Sound.{Sound, Blocks}
 use Rattle.lvm_invariant.proofs.SoundLemmas.{live_same}
 use Rattle.lvm_invariant.proofs.Effects.{ClosesOnly}
 use Rattle.lvm_invariant.proofs.Claims.{Alike, Seen, Frame, FirstKeeps, RestagingKeeps, DoneKeeps, LostKeeps}
-use Rattle.lvm_invariant.proofs.Requests.{decided, put_cases, staged_was, staged_is, alone, past_of}
+use Rattle.lvm_invariant.proofs.Requests.{decided, put_cases, staged_was, staged_is, alone, past_of, one_req}
 use Rattle.lvm_invariant.proofs.StartFirst.{first_blocks}
 use Rattle.lvm_invariant.proofs.Restage.{restaged_blocks}
 use Rattle.lvm_invariant.proofs.Landing.{done_blocks, lost_blocks}
-use Rattle.lvm_invariant.proofs.Quieting.{alike_same}
+use Rattle.lvm_invariant.proofs.Quieting.{alike_by, alike_same}
 use Rattle.lvm_vol.specs.Facts.{Fact}
-use Rattle.lvm_invariant.specs.StartWrite.{MayStart, going, started_first}
-use Rattle.lvm_invariant.specs.Transfer.{restaged}
+use Rattle.lvm_invariant.specs.StartWrite.{MayStart, going}
 use Rattle.lvm_invariant.specs.Updates.{put, staged, land, landed}
 use Rattle.lvm_invariant.proofs.Framing.{framed}
-
-same_req : {a b : Queued} → Some a ≡ Some b → a ≡ b
-same_req h = cc
-
-not_true_false : {X : Type 0} (a : Bool) → IsTrue a → IsFalse a → X
-not_true_false a t f = never a t f
 
 module _ (s : State) (sound : Sound s) (i : ℕ) (r n : Queued) (there : s.queue i ≡ Some r) (alike : Alike r n) where
   -- the requests afterwards, each with what it was
@@ -37,122 +30,79 @@ module _ (s : State) (sound : Sound s) (i : ℕ) (r n : Queued) (there : s.queue
   -- what a request got, and whether it pins its entry, is as before if the changed one's is
   pub got_put : ((value : ℕ → List ℕ) → n.got ≡ Some value → r.got ≡ Some value) → (j : ℕ) (e m : Queued) (value : ℕ → List ℕ) → s.queue j ≡ Some e → put s.queue i n j ≡ Some m → m.got ≡ Some value → e.got ≡ Some value
   got_put back j e m value was is got = ⊎_elim
-      (λ (k : (j ≡ i) × (n ≡ m)). ap (λ (q : Queued). q.got) (same_req (sym was ∙ ap s.queue k.0 ∙ there)) ∙ back value (ap (λ (q : Queued). q.got) k.1 ∙ got))
-      (λ (other : IsFalse (j == i) × (s.queue j ≡ Some m)). ap (λ (q : Queued). q.got) (same_req (sym was ∙ other.1)) ∙ got)
+      (λ (k : (j ≡ i) × (n ≡ m)). ap (λ (q : Queued). q.got) (one_req (sym was ∙ ap s.queue k.0 ∙ there)) ∙ back value (ap (λ (q : Queued). q.got) k.1 ∙ got))
+      (λ (other : IsFalse (j == i) × (s.queue j ≡ Some m)). ap (λ (q : Queued). q.got) (one_req (sym was ∙ other.1)) ∙ got)
       (put_cases s.queue i j n m is)
 
   pub pins_put : (IsTrue (is_pinning n.phase) → IsTrue (is_pinning r.phase)) → (j : ℕ) (e m : Queued) → s.queue j ≡ Some e → put s.queue i n j ≡ Some m → IsTrue (is_pinning m.phase) → IsTrue (is_pinning e.phase)
   pins_put back j e m was is pins = ⊎_elim
-      (λ (k : (j ≡ i) × (n ≡ m)). ap (λ (q : Queued). is_pinning q.phase) (same_req (sym was ∙ ap s.queue k.0 ∙ there)) ∙ back (ap (λ (q : Queued). is_pinning q.phase) k.1 ∙ pins))
-      (λ (other : IsFalse (j == i) × (s.queue j ≡ Some m)). ap (λ (q : Queued). is_pinning q.phase) (same_req (sym was ∙ other.1)) ∙ pins)
+      (λ (k : (j ≡ i) × (n ≡ m)). ap (λ (q : Queued). is_pinning q.phase) (one_req (sym was ∙ ap s.queue k.0 ∙ there)) ∙ back (ap (λ (q : Queued). is_pinning q.phase) k.1 ∙ pins))
+      (λ (other : IsFalse (j == i) × (s.queue j ≡ Some m)). ap (λ (q : Queued). is_pinning q.phase) (one_req (sym was ∙ other.1)) ∙ pins)
       (put_cases s.queue i j n m is)
 
   -- a write that is past Held and a read don't go over one block
   pub not_read : IsTrue r.write → IsTrue (is_past r.phase) → (j lv b : ℕ) (e : Queued) (v : List ℕ) → Seen s j e lv b v → IsTrue (covers r lv b) → ⊥
   not_read write past j lv b e v seen over =
       let same : i ≡ j = alone s sound i j r e there seen.there past seen.past (record { lv = lv; block = b; first = over; second = seen.over; writes = inl write }) in
-      let is : r ≡ e = same_req (sym there ∙ ap s.queue same ∙ seen.there) in
+      let is : r ≡ e = one_req (sym there ∙ ap s.queue same ∙ seen.there) in
       never r.write write (ap (λ (q : Queued). q.write) is ∙ seen.read)
 
 -- ---- a transfer starts or ends
 
 staged_alike : (r : Queued) (c : Pp) (stage x : Stage) → r.targets c ≡ Some x → Alike r (record r { targets = staged r.targets c stage })
-staged_alike r c stage x was = record {
-  lv = refl;
-  first = refl;
-  over = λ lv b. refl;
-  write = refl;
-  value = λ b. refl;
-  past = λ h. h;
-  unlanded = λ h. h;
-  landed = λ h. h;
-  several = λ h. h;
-  aimed = λ e y at. staged_was r.targets c e stage y at x was;
-  aimed_still = λ e y at. staged_is r.targets c e stage y at;
-}
+staged_alike r c stage x was = alike_by r (record r { targets = staged r.targets c stage }) refl (λ h. h) (λ h. h) (λ h. h)
+    (λ e y at. staged_was r.targets c e stage y at x was) (λ e y at. staged_is r.targets c e stage y at)
+
+-- the write goes on: where it doesn't go, the blocks are as before
+module _ (s : State) (sound : Sound s) (i : ℕ) (r n : Queued) (block : ℕ → ℕ → Pp → List ℕ) (there : s.queue i ≡ Some r) (alike : Alike r n) (write : IsTrue r.write) (past : IsTrue (is_past r.phase))
+    (got : n.got ≡ r.got) (pinning : IsTrue (is_pinning r.phase)) (media : (lv b : ℕ) (g : Pp) → (block lv b g ≡ s.media.block lv b g) ⊎ IsTrue (covers r lv b)) where
+  abbrev gone_on : State
+  gone_on = record s { media = record s.media { block = block }; queue = put s.queue i n }
+
+  unread : (j lv b : ℕ) (e : Queued) (v : List ℕ) → Seen s j e lv b v → (g : Pp) → block lv b g ≡ s.media.block lv b g
+  unread j lv b e v seen g = ⊎_elim
+      (λ (k : block lv b g ≡ s.media.block lv b g). k)
+      (λ (over : IsTrue (covers r lv b)). absurd (not_read s sound i r n there alike write past j lv b e v seen over))
+      (media lv b g)
+
+  pub goes_on : Blocks gone_on → Sound gone_on
+  goes_on blocks = framed s gone_on (record {
+    from = λ j m h. from_put s sound i r n there alike j m h;
+    writes = λ j m h write unlanded lv b. refl;
+    same = refl;
+    modes = λ lv b. refl;
+    tight = sound.tied.tight;
+    seen = λ j lv b e m v seen h past. (
+      seen.allowed,
+      ⊎_elim
+          (λ (loose : IsTrue (told s lv b).loose). inl loose)
+          (λ (equal : (g : Pp) → Live s lv b g → s.media.block lv b g ≡ v). inr (λ g live. unread j lv b e v seen g ∙ equal g (live_same s gone_on refl lv b g live)))
+          seen.equal,
+    );
+    still = λ j lv b e m f seen h past. unread j lv b e (s.media.block lv b f) seen f;
+    got = λ j e m value was is h. inl (got_put s sound i r n there alike (λ v k. sym got ∙ k) j e m value was is h);
+    pinning = λ j e m was is write pins on several. inl (pins_put s sound i r n there alike (λ h. pinning) j e m was is pins);
+    cache = λ j e h write pinning on several cached. cached;
+  }) refl blocks sound
 
 pub restaging_keeps : RestagingKeeps
 restaging_keeps s i r c stage block step sound =
-    let new = restaged s i r c stage block in
-    let alike = staged_alike r c stage step.was.0 step.was.1 in
-    let same_block : (j lv b : ℕ) (e : Queued) (v : List ℕ) → Seen s j e lv b v → (g : Pp) → block lv b g ≡ s.media.block lv b g = λ j lv b e v seen g. ⊎_elim
-    (λ (k : block lv b g ≡ s.media.block lv b g). k)
-    (λ (k : IsTrue (covers r lv b) × (g ≡ c) × (block lv b g ≡ r.value b)). absurd (not_read s sound i r (record r { targets = staged r.targets c stage }) step.started.there alike step.started.write (past_of r.phase Going step.started.going refl) j lv b e v seen k.0))
-    (step.media lv b g) in
-    let frame : Frame s (restaged s i r c stage block) = record {
-      from = λ j m h. from_put s sound i r (record r { targets = staged r.targets c stage }) step.started.there alike j m h;
-      writes = λ j m h write unlanded lv b. refl;
-      same = refl;
-      modes = λ lv b. refl;
-      tight = sound.tied.tight;
-      seen = λ j lv b e m v seen h past.
-          let same = same_block j lv b e v seen in (
-            seen.allowed,
-            ⊎_elim
-                (λ (loose : IsTrue (told s lv b).loose). inl loose)
-                (λ (equal : (g : Pp) → Live s lv b g → s.media.block lv b g ≡ v). inr (λ g live. same g ∙ equal g (live_same s (restaged s i r c stage block) refl lv b g live)))
-                seen.equal,
-          );
-      still = λ j lv b e m f seen h past. same_block j lv b e (s.media.block lv b f) seen f;
-      got = λ j e m value was is got. inl (got_put s sound i r (record r { targets = staged r.targets c stage }) step.started.there alike (λ v h. h) j e m value was is got);
-      pinning = λ j e m was is write pins on several. inl (pins_put s sound i r (record r { targets = staged r.targets c stage }) step.started.there alike (λ h. h) j e m was is pins);
-      cache = λ j e h write pinning on several cached. cached;
-    } in
-    framed s (restaged s i r c stage block) frame refl (restaged_blocks s sound i r c stage block step) sound
+    goes_on s sound i r (record r { targets = staged r.targets c stage }) block step.started.there (staged_alike r c stage step.was.0 step.was.1) step.started.write (past_of r.phase Going step.started.going refl)
+    refl (ap is_pinning step.started.going) (λ lv b g. ⊎_elim (λ (k : block lv b g ≡ s.media.block lv b g). inl k) (λ (k : IsTrue (covers r lv b) × (g ≡ c) × (block lv b g ≡ r.value b)). inr k.0) (step.media lv b g))
+    (restaged_blocks s sound i r c stage block step)
 
 going_alike : (s : State) (i : ℕ) (r : Queued) (c : Pp) → MayStart s i r c → Alike r (going r c)
-going_alike s i r c may = record {
-  lv = refl;
-  first = refl;
-  over = λ lv b. refl;
-  write = refl;
-  value = λ b. refl;
-  past = λ h. past_of r.phase Ready may.ready refl;
-  unlanded = λ h. ap has_landed may.ready;
-  landed = λ h. never (has_landed r.phase) h (ap has_landed may.ready);
-  several = λ h. h;
-  aimed = λ e y at. staged_was r.targets c e Flying y at Todo may.target;
-  aimed_still = λ e y at. staged_is r.targets c e Flying y at;
-}
+going_alike s i r c may = alike_by r (going r c) refl (λ h. past_of r.phase Ready may.ready refl) (λ h. ap has_landed may.ready) (λ h. never (has_landed r.phase) h (ap has_landed may.ready))
+    (λ e y at. staged_was r.targets c e Flying y at Todo may.target) (λ e y at. staged_is r.targets c e Flying y at)
 
 pub first_keeps : FirstKeeps
-first_keeps s i r c may sound =
-    let frame : Frame s (started_first s i r c) = record {
-      from = λ j m h. from_put s sound i r (going r c) may.there (going_alike s i r c may) j m h;
-      writes = λ j m h write unlanded lv b. refl;
-      same = refl;
-      modes = λ lv b. refl;
-      tight = sound.tied.tight;
-      seen = λ j lv b e m v seen h past. (
-        seen.allowed,
-        ⊎_elim
-            (λ (loose : IsTrue (told s lv b).loose). inl loose)
-            (λ (equal : (g : Pp) → Live s lv b g → s.media.block lv b g ≡ v). inr (λ g live. equal g (live_same s (started_first s i r c) refl lv b g live)))
-            seen.equal,
-      );
-      still = λ j lv b e m f seen h past. refl;
-      got = λ j e m value was is got. inl (got_put s sound i r (going r c) may.there (going_alike s i r c may) (λ v h. h) j e m value was is got);
-      pinning = λ j e m was is write pins on several. inl (pins_put s sound i r (going r c) may.there (going_alike s i r c may) (λ h. ap is_pinning may.ready) j e m was is pins);
-      cache = λ j e h write pinning on several cached. cached;
-    } in
-    framed s (started_first s i r c) frame refl (first_blocks s sound i r c may) sound
+first_keeps s i r c may sound = goes_on s sound i r (going r c) s.media.block may.there (going_alike s i r c may) may.write (past_of r.phase Ready may.ready refl)
+    refl (ap is_pinning may.ready) (λ lv b g. inl refl) (first_blocks s sound i r c may)
 
 -- ---- landing
 
 pub land_alike : (r : Queued) → IsFalse (has_landed r.phase) → Alike r (land r)
-land_alike r un = record {
-  lv = refl;
-  first = refl;
-  over = λ lv b. refl;
-  write = refl;
-  value = λ b. refl;
-  past = λ h. off h;
-  unlanded = λ h. never true refl h;
-  landed = λ h. refl;
-  several = λ h. h;
-  aimed = λ e y at. (y, at);
-  aimed_still = λ e y at. (y, at);
-}
+land_alike r un = alike_by r (land r) refl (λ h. off h) (λ h. never true refl h) (λ h. refl) (λ e y at. (y, at)) (λ e y at. (y, at))
   where
     off : {X : Type 0} → IsTrue (is_past Landed) → X
     off h = absurd cc
