@@ -1,10 +1,10 @@
 -- Notes start and end.
-use Rattle.std.proofs.Common.{◌≡◌, ⊎_elim, ℕ, Option, Some, None, refl, sym, ap, subst, ◌∙◌}
+use Rattle.std.proofs.Common.{◌≡◌, ◌⊎◌, inl, inr, ⊎_elim, ℕ, Option, Some, None, refl, sym, ap, subst, ◌∙◌}
 use Rattle.std.specs.Prelude.{IsTrue, IsFalse}
 use Rattle.lvm_invariant.specs.State.{Groups, State, Named}
 use Rattle.lvm_invariant.specs.Sound.{Sound}
-use Rattle.lvm_invariant.proofs.SoundLemmas.{live_same, same_statuses, same_behind}
-use Rattle.lvm_invariant.proofs.Claims.{Quiet, StartNoteKeepsCore, EndNoteKeepsCore}
+use Rattle.lvm_invariant.proofs.SoundLemmas.{live_same, same_statuses, same_behind, keeping_live, keeping_statuses}
+use Rattle.lvm_invariant.proofs.Claims.{Quiet, StartNoteKeepsCore, EndNoteKeepsCore, keeping_requests}
 use Rattle.lvm_invariant.proofs.Small.{never}
 use Rattle.lvm_invariant.specs.EndNote.{EndsNote}
 use Rattle.lvm_invariant.specs.Updates.{with_names}
@@ -16,6 +16,21 @@ same_note a b e = cc
 
 no_note : {X : Type 0} (o : Option Groups) (n : Groups) → o ≡ None → o ≡ Some n → X
 no_note o n a b = absurd cc
+
+-- an event of notes alone: what missing disks noted, and what is in the cache, stays named
+noted : (s new : State) → keeping_requests s new ≡ new → keeping_statuses s new ≡ new → ((d lv g : ℕ) → IsTrue (s.missing d) ⊎ IsTrue (s.cache lv g) → Named s d lv g → Named new d lv g)
+    → ((d lv g : ℕ) → IsFalse (new.missing d) → new.media.names d lv g ≡ new.home_note d lv g) → Sound s → Sound new
+noted s new same statuses named home sound = quiet_sound s new quiet sound (record { statuses = same_statuses s new statuses sound.statuses; home = home }) (same_behind s new statuses sound.behind)
+  where
+    quiet : Quiet s new
+    quiet = record {
+      same = same;
+      dirty = λ lv h. ap (λ (x : State). x.committed.value.dirty lv) (sym statuses) ∙ h;
+      live = live_same s new (subst (λ (x : State). keeping_live s x ≡ x) statuses refl);
+      missing_still = λ d h. ap (λ (x : State). x.missing d) (sym statuses) ∙ h;
+      named_missing = λ d lv g gone. named d lv g (inl gone);
+      named_pinned = λ d lv g cached. named d lv g (inr cached);
+    }
 
 module _ (s : State) (flying : ℕ → Option Groups) (step : StartsNote s flying) (sound : Sound s) where
   abbrev new : State
@@ -30,20 +45,12 @@ module _ (s : State) (flying : ℕ → Option Groups) (step : StartsNote s flyin
         (step.each d);
   }
 
-  note_core : Sound new
-  note_core =
-      let quiet : Quiet s new = record {
-        same = refl;
-        dirty = λ lv h. h;
-        live = live_same s new refl;
-        missing_still = λ d h. h;
-        named_missing = λ d lv g gone named. named_then d lv g (λ is. never (s.missing d) gone (subst (λ (e : ℕ). IsFalse (s.missing e)) (sym is) step.there)) named;
-        named_pinned = λ d lv g cached named. named_then d lv g (λ is. cached) named;
-      } in
-      quiet_sound s new quiet sound (record { statuses = same_statuses s new refl sound.statuses; home = sound.notes.home }) (same_behind s new refl sound.behind)
+  named_now : (d lv g : ℕ) → IsTrue (s.missing d) ⊎ IsTrue (s.cache lv g) → Named s d lv g → Named new d lv g
+  named_now d lv g (inl gone) named = named_then d lv g (λ is. never (s.missing d) gone (subst (λ (e : ℕ). IsFalse (s.missing e)) (sym is) step.there)) named
+  named_now d lv g (inr cached) named = named_then d lv g (λ is. cached) named
 
 pub start_note_keeps : StartNoteKeepsCore
-start_note_keeps s flying step sound = note_core s flying step sound
+start_note_keeps s flying step sound = noted s (record s { flying_note = flying }) refl refl (named_now s flying step sound) sound.notes.home sound
 
 module _ (s : State) (d : ℕ) (names home : ℕ → Groups) (flying : ℕ → Option Groups) (step : EndsNote s d names home flying) (sound : Sound s) where
   abbrev after : State
@@ -61,23 +68,12 @@ module _ (s : State) (d : ℕ) (names home : ℕ → Groups) (flying : ℕ → O
         (step.flying_now e);
   }
 
-  end_core : Sound after
-  end_core =
-      let quiet : Quiet s after = record {
-        same = refl;
-        dirty = λ lv h. h;
-        live = live_same s after refl;
-        missing_still = λ e h. h;
-        named_missing = λ e lv g gone named. named_end e lv g named;
-        named_pinned = λ e lv g cached named. named_end e lv g named;
-      } in
-      quiet_sound s after quiet sound (record {
-        statuses = same_statuses s after refl sound.statuses;
-        home = λ e lv g there. ⊎_elim
-            (λ (same : (names e ≡ s.media.names e) × (home e ≡ s.home_note e)). ap (λ (x : Groups). x lv g) same.0 ∙ sound.notes.home e lv g there ∙ ap (λ (x : Groups). x lv g) (sym same.1))
-            (λ (new : (names e ≡ step.note) × (home e ≡ step.note)). ap (λ (x : Groups). x lv g) (new.0 ∙ sym new.1))
-            (step.home_now e there);
-      }) (same_behind s after refl sound.behind)
+  home_now : (e lv g : ℕ) → IsFalse (s.missing e) → names e lv g ≡ home e lv g
+  home_now e lv g there = ⊎_elim
+      (λ (same : (names e ≡ s.media.names e) × (home e ≡ s.home_note e)). ap (λ (x : Groups). x lv g) same.0 ∙ sound.notes.home e lv g there ∙ ap (λ (x : Groups). x lv g) (sym same.1))
+      (λ (new : (names e ≡ step.note) × (home e ≡ step.note)). ap (λ (x : Groups). x lv g) (new.0 ∙ sym new.1))
+      (step.home_now e there)
 
 pub end_note_keeps : EndNoteKeepsCore
-end_note_keeps s d names home flying step sound = end_core s d names home flying step sound
+end_note_keeps s d names home flying step sound = noted s (record s { media = with_names s.media names; home_note = home; flying_note = flying }) refl refl
+    (λ e lv g why. named_end s d names home flying step sound e lv g) (home_now s d names home flying step sound) sound
