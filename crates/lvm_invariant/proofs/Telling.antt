@@ -18,15 +18,15 @@ use Rattle.lvm_invariant.proofs.Small.{never}
 
 -- ---- names
 
-and_left : (a b : Bool) → IsTrue (a && b) → IsTrue a
+pub and_left : (a b : Bool) → IsTrue (a && b) → IsTrue a
 and_left true b h = refl
 and_left false b h = absurd cc
 
-and_right : (a b : Bool) → IsTrue (a && b) → IsTrue b
+pub and_right : (a b : Bool) → IsTrue (a && b) → IsTrue b
 and_right true b h = h
 and_right false b h = absurd cc
 
-both : (a b : Bool) → IsTrue a → IsTrue b → IsTrue (a && b)
+pub both : (a b : Bool) → IsTrue a → IsTrue b → IsTrue (a && b)
 both true b h k = k
 both false b h k = absurd cc
 
@@ -143,6 +143,11 @@ by_landing P r how started false write still x y k same e g = same
 by_landing P r how started true true true x y k same e g = e refl refl refl
 by_landing P r how started true true false x y k same e g = same
 by_landing P r how started true false still x y k same e g = g refl refl
+
+-- the mode of a block stays, however a request lands there
+pub landed_mode : (r : Request) (how : Outcome) (started over : Bool) (x y : Sector) (k : Known) → (if over then landed r how started x y k else k).mode ≡ k.mode
+landed_mode r how started over x y k = by_landing (λ (m : Known). m.mode ≡ k.mode) r how started over r.write (is_open_in r k.open_writes) x y k refl
+    (λ is write still. ended_mode r how started x k) (λ is is_read. read_mode how y k)
 
 module _ (facts : List Fact) (r : Request) (how : Outcome) (started : Bool) (got : List (List ℕ)) (lv b : ℕ) where
   abbrev was : Known
