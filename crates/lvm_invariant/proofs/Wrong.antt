@@ -12,10 +12,10 @@ use Rattle.lvm_vol.specs.May.{Known, unknown, cut, IsValue}
 use Rattle.std.proofs.lemmas.Bool.Decides.{nat_tests}
 use Rattle.lvm_invariant.specs.Updates.{is_pp}
 use Rattle.lvm_invariant.proofs.Small.{never}
-use Rattle.lvm_invariant.specs.State.{Marks, Groups, View, Flying, State, covers, told}
+use Rattle.lvm_invariant.specs.State.{Marks, Groups, View, Flying, State, covers, told, Started}
 use Rattle.lvm_invariant.specs.Found.{Votes}
 use Rattle.lvm_invariant.specs.Good.{Good}
-use Rattle.lvm_invariant.specs.Crash.{IsCrash, IsPossible, Fresh, MayDifferAfter, EachKept}
+use Rattle.lvm_invariant.specs.Crash.{IsCrash, IsPossible, Fresh, MayDifferAfter, EachKept, Brings, CopyBrings}
 use Rattle.lvm_invariant.specs.Events.{AllowsAll, after_all}
 use Rattle.lvm_invariant.specs.First.{two_disks, first_copy, second_copy, is_either, marks_with, stamped, on_both, at_rest}
 use Rattle.lvm_invariant.specs.Worked.{ones, held, both_out, only, recording, written, writing, all_passed, asked, first_group}
@@ -33,19 +33,18 @@ ones_differ e = absurd (omega (arith, ap (λ (l : List ℕ). get_or l 0 0) e))
 abbrev half_there : State → View
 half_there s = record s.media { block = written }
 
+-- it flies to the first copy
+half_comes : (s : State) → ((lv b : ℕ) (c : Pp) → zero_sector ≡ s.media.block lv b c) → Started s 1 both_out → (lv b : ℕ) (c : Pp)
+    → (written lv b c ≡ s.media.block lv b c) ⊎ Brings s lv b c (written lv b c) ⊎ CopyBrings s lv b c (written lv b c)
+half_comes s zeros started lv b c = ⊎_elim
+    (λ (same : written lv b c ≡ zero_sector). inl (same ∙ zeros lv b c))
+    (λ (by : IsTrue (covers held lv b) × (c ≡ first_copy) × (written lv b c ≡ held.value b)).
+    inr (inl (record { id = 1; req = both_out; started = started; over = by.0; flies = ap both_out.targets by.1; is = by.2 })))
+    (brought lv b c)
+
 comes_there : (mode : Mode) → IsCrash (after_all going_out (after_all (asking mode) (at_rest mode false))) (half_there (after_all going_out (after_all (asking mode) (at_rest mode false))))
 comes_there mode = record {
-  block = λ lv b c copy. ⊎_elim
-      (λ (same : written lv b c ≡ zero_sector). inl same)
-      (λ (by : IsTrue (covers held lv b) × (c ≡ first_copy) × (written lv b c ≡ held.value b)). inr (inl (record {
-        id = 1;
-        req = both_out;
-        started = record { there = refl; write = refl; going = refl };
-        over = by.0;
-        flies = ap both_out.targets by.1;
-        is = by.2;
-      })))
-      (brought lv b c);
+  block = λ lv b c copy. half_comes _ (λ lv b c. refl) (record { there = refl; write = refl; going = refl }) lv b c;
   names = λ d. inl refl;
   status = λ d. inl refl;
 }
@@ -81,17 +80,7 @@ unnamed = record without_entry.media { block = written; names = λ d. if d == 1 
 
 note_comes : IsCrash without_entry unnamed
 note_comes = record {
-  block = λ lv b c copy. ⊎_elim
-      (λ (same : written lv b c ≡ zero_sector). inl same)
-      (λ (by : IsTrue (covers held lv b) × (c ≡ first_copy) × (written lv b c ≡ held.value b)). inr (inl (record {
-        id = 1;
-        req = both_out;
-        started = record { there = refl; write = refl; going = refl };
-        over = by.0;
-        flies = ap both_out.targets by.1;
-        is = by.2;
-      })))
-      (brought lv b c);
+  block = λ lv b c copy. half_comes _ (λ lv b c. refl) (record { there = refl; write = refl; going = refl }) lv b c;
   names = λ d. by d (d == 1) refl;
   status = λ d. inl refl;
 }
