@@ -7,3 +7,4 @@ mod Tables
 mod Rows
 pub mod Pin
 pub mod Close
+pub mod Begin

@@ -1,1 +1,3 @@
 pub mod Keeps
+pub mod Falls
+pub mod Begins

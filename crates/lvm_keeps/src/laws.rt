@@ -1,5 +1,11 @@
 //! Laws: what each event of a sound session leaves is sound.
+ghost use Rattle.lvm_keeps.specs.Begins.{BeginningIsSound};
 ghost use Rattle.lvm_keeps.specs.Keeps.{CloseKeeps, PinKeeps};
+
+/// A session is sound as it begins.
+pub fn beginning_is_sound()
+    ensures { BeginningIsSound }
+{}
 
 /// A request that pins its track group leaves the session sound.
 pub fn pin_keeps()
