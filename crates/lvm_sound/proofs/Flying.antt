@@ -18,13 +18,16 @@ use Rattle.lvm_mwc.specs.Cache.{has_disk, flight_on, no_notes}
 use Rattle.lvm_sched.specs.declared.writes.TargetState.TheVariants as stage
 use Rattle.lvm_path.specs.declared.target.Target.{Target}
 use Rattle.lvm_session.specs.declared.flown.Owner.TheVariants as owner
+use Rattle.lvm_session.specs.State.{state}
 use Rattle.lvm_sound.specs.Owners.{AreOwned, IsDataOf, target_flies}
 use Rattle.lvm_sound.specs.Left.{updates_left}
-use Rattle.lvm_sound.specs.Sound.{count_if, out_with, IsAsked, IsCaused, IsOpenOne, IsFitting, IsTold, IsGoing}
+use Rattle.lvm_sound.specs.Requests.{IsOpenOne}
+use Rattle.lvm_sound.specs.Causes.{IsCaused, IsCounted}
+use Rattle.lvm_sound.specs.Sound.{count_if, out_with, IsAsked, IsFitting, IsTold, IsGoing}
 use Rattle.lvm_sound.specs.Worked.{mirrored, first_copy, second_copy, target_on, flying_write, naming, flying, first_flight, begun_write, core_of, status_of, fresh, faultless, FlyingWritesAreSound}
-use Rattle.lvm_sound.proofs.Small.{not_so, not_either}
-use Rattle.lvm_sound.proofs.Parts.{none_cleared, placed, status_is_sound, none_behind}
-use Rattle.lvm_sound.proofs.Whole.{on_is_not_off, fitting, true_to_origin}
+use Rattle.lvm_sound.proofs.Small.{not_so, not_either, or_left}
+use Rattle.lvm_sound.proofs.Parts.{none_cleared, has_fresh, placed, status_is_sound, none_behind}
+use Rattle.lvm_sound.proofs.Whole.{on_is_not_off, on_is_not_stuck, first_stays, fitting, true_to_origin}
 
 -- ---- its notes
 
@@ -121,17 +124,17 @@ request = record {
     id = omega arith;
   };
   waits = λ e. record {
-    targets = (record { copy = refl; sector = refl }, (record { copy = refl; sector = refl }, tt));
-    shape = (omega arith, λ write. refl);
-    hand = refl;
-    room = tt;
-    differ = differ;
-    free = λ past. refl;
-    noted = λ active write. inl refl;
-    marked = λ passive waits. not_so waits;
-    uncaught = λ write. (refl, (refl, tt));
-    due = λ waits. not_so waits;
-    one = λ read. not_either read;
+    shape = record {
+      targets = (record { copy = refl; sector = refl; there = refl }, (record { copy = refl; sector = refl; there = refl }, tt));
+      phase_is = (omega arith, λ write. refl);
+      hand = refl;
+      room = tt;
+      differ = differ;
+      usable = λ past. refl;
+      one = λ read. not_either read;
+    };
+    ready = record { free = λ past. refl; recorded = inl refl; wanted = λ past two. refl; named = λ has two. refl; dirty = λ has two. refl };
+    judged = λ write. record { uncaught = (refl, (refl, tt)); due = λ waits. not_so waits; all = λ begun p among. or_left _ among };
   };
   over = λ e. not_either e;
   still = λ e. not_either e;
@@ -139,11 +142,17 @@ request = record {
 
 first_caused : IsCaused faultless (core_of flying) (target_on first_copy stage.Flying)
 unfolding has_bit
-first_caused = record { since = omega arith; failed = λ e. not_so e }
+first_caused e = not_so e
 
 second_caused : IsCaused faultless (core_of flying) (target_on second_copy stage.Waiting)
 unfolding has_bit
-second_caused = record { since = omega arith; failed = λ e. not_so e }
+second_caused e = not_so e
+
+first_counted : IsCounted (state faultless (core_of flying)) (target_on first_copy stage.Flying)
+first_counted = record { began = omega arith; since = omega arith }
+
+second_counted : IsCounted (state faultless (core_of flying)) (target_on second_copy stage.Waiting)
+second_counted = record { began = omega arith; since = omega arith }
 
 numbers : 3 + updates_left (core_of flying) < 2 ^ 32
 unfolding has_bit has
@@ -173,27 +182,26 @@ goes_on = record {
   hands = λ n. omega arith;
   behind = λ p is. none_behind mode.Active false p is;
   reviewed = refl;
+  fresh = λ lv lp some. has_fresh flying (first_stays mode.Active) lv lp some;
   clearings = λ p held clear. none_cleared (calls_stale (status_of fresh) p) held clear;
   numbers = numbers;
 }
 
 pub flying_writes_are_sound : FlyingWritesAreSound
-flying_writes_are_sound = record {
+flying_writes_are_sound = let origin = true_to_origin mode.Active in record {
   fitting = fits;
   told = told;
   placed = placed mode.Active (status_of fresh);
   buffers = λ n. let same = out n in omega (arith, same);
   none_lost = λ lit n. out n;
-  quiet = λ none. not_empty none.requests;
-  on = λ e. record { going = goes_on; rows = (record { ticket = refl; long = refl; disk = refl; own = its }, tt); caused = (λ waits. (record { since = first_caused.since; failed = first_caused.failed }, (record { since = second_caused.since; failed = second_caused.failed }, tt)), tt) };
+  on = λ e. record { going = goes_on; rows = (record { ticket = refl; long = refl; disk = refl; own = its }, tt); caused = (λ waits. (first_caused, (second_caused, tt)), tt); chosen = tt };
   lit = λ e. record { power = refl; freed = refl };
   dark = λ e. not_so e;
   off = λ e. on_is_not_off e;
   over = λ e. not_so e;
+  stuck = λ e. on_is_not_stuck e;
+  counted = ((record { began = first_counted.began; since = first_counted.since }, (record { began = second_counted.began; since = second_counted.since }, tt)), tt);
   answered = (tt, tt);
   copy = tt;
-  origin = record { since = (true_to_origin mode.Active).since; missing = (true_to_origin mode.Active).missing; stale = (true_to_origin mode.Active).stale };
+  origin = record { since = origin.since; votes = origin.votes; still_missing = origin.still_missing; missing = origin.missing; stale = origin.stale };
 }
-  where
-    not_empty : {A X : Type 0} {a : A} {more : List A} → a ∷ more ≡ [] → X
-    not_empty e = absurd cc

@@ -3,6 +3,7 @@ use Rattle.std.proofs.Common.{◌≡◌, inl, ℕ, zero, suc, ◌<◌, ◌≤◌
 use Rattle.std.specs.Prelude.{◌==◌, is_some, if◌then◌else◌}
 use Rattle.lvm_num.specs.Bits.{has_bit}
 use Rattle.lvm_num.specs.Disks.{has}
+use Rattle.lvm_num.specs.Votes.{votes_by}
 use Rattle.lvm_num.specs.declared.descriptor.Mode.{Mode}
 use Rattle.lvm_num.specs.declared.descriptor.Mode.TheVariants as mode
 use Rattle.lvm_num.specs.Descriptor.{is_member}
@@ -17,13 +18,18 @@ use Rattle.lvm_session.specs.declared.open.Power.TheVariants as power
 use Rattle.lvm_session.specs.State.{state}
 use Rattle.lvm_sound.specs.Owners.{AreOwned, target_flies}
 use Rattle.lvm_sound.specs.Left.{updates_left}
-use Rattle.lvm_sound.specs.Sound.{count_if, IsAsked, IsOpenOne, IsFitting, IsTold, IsGoing, IsTrueToOrigin}
-use Rattle.lvm_sound.specs.Worked.{Moment, mirrored, calm, held_write, asking, a_write, begun_write, core_of, status_of, fresh, faultless, BeginningsAreSound, HeldWritesAreSound}
+use Rattle.lvm_sound.specs.Requests.{IsOpenOne, IsRecorded}
+use Rattle.lvm_sound.specs.Causes.{IsTrueToOrigin}
+use Rattle.lvm_sound.specs.Sound.{count_if, stays_fresh, IsAsked, IsFitting, IsTold, IsGoing}
+use Rattle.lvm_sound.specs.Worked.{Moment, mirrored, first_copy, calm, held_write, asking, a_write, begun_write, core_of, status_of, fresh, faultless, BeginningsAreSound, HeldWritesAreSound}
 use Rattle.lvm_sound.proofs.Small.{not_so, not_either}
-use Rattle.lvm_sound.proofs.Parts.{none_cleared, valid, placed, notes_fit, no_note_flies, status_is_sound, none_behind, one_stale, none_out, no_fault}
+use Rattle.lvm_sound.proofs.Parts.{none_cleared, valid, placed, notes_fit, no_note_flies, status_is_sound, none_behind, none_missing_at_first, has_fresh, one_stale, none_out, no_fault}
 
 pub on_is_not_off : {X : Type 0} → power.On ≡ power.Off → X
 on_is_not_off e = absurd cc
+
+pub on_is_not_stuck : {X : Type 0} → power.On ≡ power.Stuck → X
+on_is_not_stuck e = absurd cc
 
 -- ---- as it begins
 
@@ -55,6 +61,10 @@ module _ (m : Mode) where
   owned (owner.Note disk) = sym (ap (λ n. if is_some n then 1 else 0) (no_note_flies m disk))
   owned owner.Copy = refl
 
+pub first_stays : (m : Mode) → stays_fresh (core_of (calm m)) first_copy ≡ true
+unfolding has_bit
+first_stays m = refl
+
 numbers : (m : Mode) → 3 + updates_left (core_of (calm m)) < 2 ^ 32
 unfolding has_bit has
 numbers mode.Active = omega arith
@@ -75,13 +85,17 @@ goes_on m = record {
   hands = λ n. omega arith;
   behind = λ p is. none_behind m false p is;
   reviewed = refl;
+  fresh = λ lv lp some. has_fresh (calm m) (first_stays m) lv lp some;
   clearings = λ p held clear. none_cleared (calls_stale (status_of fresh) p) held clear;
   numbers = numbers m;
 }
 
 pub true_to_origin : (m : Mode) → IsTrueToOrigin (state faultless (core_of (calm m)))
+unfolding votes_by has_bit has
 true_to_origin m = record {
   since = no_fault m;
+  votes = refl;
+  still_missing = λ disk is. none_missing_at_first disk is;
   missing = λ disk is. inl is;
   stale = λ p is. inl (one_stale (calls_stale (status_of fresh) p) is);
 }
@@ -93,12 +107,13 @@ beginnings_are_sound m = record {
   placed = placed m (status_of fresh);
   buffers = λ n. omega arith;
   none_lost = λ lit n. none_out n;
-  quiet = λ none. refl;
-  on = λ e. record { going = goes_on m; rows = tt; caused = tt };
+  on = λ e. record { going = goes_on m; rows = tt; caused = tt; chosen = tt };
   lit = λ e. record { power = refl; freed = refl };
   dark = λ e. not_so e;
   off = λ e. on_is_not_off e;
   over = λ e. not_so e;
+  stuck = λ e. on_is_not_stuck e;
+  counted = tt;
   answered = tt;
   copy = tt;
   origin = true_to_origin m;
@@ -147,6 +162,11 @@ module _ (m : Mode) where
   held_owns (owner.Note disk) = owned m (owner.Note disk)
   held_owns owner.Copy = refl
 
+  unrecorded : (k : Mode) → IsRecorded k phase.Held (asking 1 a_write phase.Held []).request
+  unrecorded mode.Active = tt
+  unrecorded mode.Passive = (refl, refl)
+  unrecorded mode.Off = (refl, refl, refl)
+
   held_request : IsOpenOne (core_of (held_write m)) (asking 1 a_write phase.Held [])
   held_request = record {
     laid = record {
@@ -156,17 +176,17 @@ module _ (m : Mode) where
       id = omega arith;
     };
     waits = λ e. record {
-      targets = tt;
-      shape = (refl, refl);
-      hand = refl;
-      room = tt;
-      differ = λ i j d below within. absurd (omega (arith, below, within));
-      free = λ past. not_so past;
-      noted = λ active write. tt;
-      marked = λ passive waits. not_so waits;
-      uncaught = λ write. tt;
-      due = λ waits. not_so waits;
-      one = λ read. not_either read;
+      shape = record {
+        targets = tt;
+        phase_is = (refl, refl);
+        hand = refl;
+        room = tt;
+        differ = λ i j d below within. absurd (omega (arith, below, within));
+        usable = λ past. not_so past;
+        one = λ read. not_either read;
+      };
+      ready = record { free = λ past. not_so past; recorded = unrecorded m; wanted = λ past two. not_so past; named = λ has two. not_so has; dirty = λ has two. not_so has };
+      judged = λ write. record { uncaught = tt; due = λ waits. not_so waits; all = λ begun. not_so begun };
     };
     over = λ e. not_either e;
     still = λ e. not_either e;
@@ -192,24 +212,26 @@ held_goes_on m = record {
   hands = λ n. omega arith;
   behind = λ p is. none_behind m false p is;
   reviewed = refl;
+  fresh = λ lv lp some. has_fresh (held_write m) (first_stays m) lv lp some;
   clearings = λ p held clear. none_cleared (calls_stale (status_of fresh) p) held clear;
   numbers = held_numbers m;
 }
 
 pub held_writes_are_sound : HeldWritesAreSound
-held_writes_are_sound m = record {
+held_writes_are_sound m = let origin = true_to_origin m in record {
   fitting = held_fits m;
   told = held_is_told m;
   placed = placed m (status_of fresh);
   buffers = λ n. omega arith;
   none_lost = λ lit n. none_out n;
-  quiet = λ none. refl;
-  on = λ e. record { going = held_goes_on m; rows = tt; caused = (λ waits. tt, tt) };
+  on = λ e. record { going = held_goes_on m; rows = tt; caused = (λ waits. tt, tt); chosen = tt };
   lit = λ e. record { power = refl; freed = refl };
   dark = λ e. not_so e;
   off = λ e. on_is_not_off e;
   over = λ e. not_so e;
+  stuck = λ e. on_is_not_stuck e;
+  counted = (tt, tt);
   answered = (tt, tt);
   copy = tt;
-  origin = record { since = (true_to_origin m).since; missing = (true_to_origin m).missing; stale = (true_to_origin m).stale };
+  origin = record { since = origin.since; votes = origin.votes; still_missing = origin.still_missing; missing = origin.missing; stale = origin.stale };
 }

@@ -17,9 +17,9 @@ pub admission_marks : AdmissionMarks
 unfolding votes_by has_bit has
 admission_marks = record {
   may = refl;
-  lacks = refl;
+  makes = refl;
   waits = refl;
-  unsound = λ r. not_so (r.marked refl refl);
+  unsound = λ r. not_so (r.ready.wanted refl (omega arith));
   goes_on = refl;
   falls = refl;
 }
@@ -39,9 +39,9 @@ standing_still_is_unsound = record {
   no_end = refl;
   stale = λ c. not_either ((c.clearing refl refl).1);
   waits = refl;
-  unmarked = λ r. not_so (r.due refl);
-  overtakes = λ r. not_either (r.free refl);
-  passes = λ r. not_either ((r.uncaught refl).1.0);
+  unmarked = λ r. not_so ((r.judged refl).due refl);
+  overtakes = λ r. not_either (r.ready.free refl);
+  passes = λ r. not_either ((r.judged refl).uncaught.1.0);
 }
 
 -- neither did the session begin so, nor is there a fault
@@ -57,7 +57,7 @@ of_origin_or_missing none (inr (inr f)) = none f
 pub blame_needs_faults : BlameNeedsFaults
 unfolding votes_by has_bit has
 blame_needs_faults = record {
-  missing = λ c. not_risen (c.failed refl);
+  missing = λ c. not_risen (c refl);
   lost = λ o. of_origin (λ rose. not_risen rose) (o.missing 0 refl);
   stale = λ o. of_origin_or_missing (λ rose. not_risen rose) (o.stale (record { disk = 1; pp = 0 }) refl);
   behind = λ g. not_so (g.behind (record { disk = 0; pp = 0 }) refl);
@@ -66,16 +66,13 @@ blame_needs_faults = record {
 pub answers_are_told : AnswersAreTold
 answers_are_told = record {
   otherwise = λ a. other a.outcome;
-  off = λ e. going e;
+  off = λ e. not_so e.0;
   dark = λ e. lit e;
   stuck = λ core ask. refl;
 }
   where
     other : Some outcome.Done ≡ Some outcome.Lost → ⊥
     other e = absurd cc
-
-    going : power.On ≡ power.Off → ⊥
-    going e = absurd cc
 
     lit : power.On ≡ power.Dark → ⊥
     lit e = absurd cc
@@ -95,16 +92,16 @@ unfolding votes_by has_bit has
 reads_may_lag = record {
   caught = refl;
   sound = record {
-    targets = (record { copy = refl; sector = refl }, (record { copy = refl; sector = refl }, tt));
-    shape = (omega arith, λ write. not_so write);
-    hand = refl;
-    room = tt;
-    differ = differ;
-    free = λ past. refl;
-    noted = λ m write. not_so write;
-    marked = λ m waits. not_so waits;
-    uncaught = λ write. not_so write;
-    due = λ waits. not_so waits;
-    one = λ read. omega arith;
+    shape = record {
+      targets = (record { copy = refl; sector = refl; there = refl }, (record { copy = refl; sector = refl; there = refl }, tt));
+      phase_is = (omega arith, λ write. not_so write);
+      hand = refl;
+      room = tt;
+      differ = differ;
+      usable = λ past. refl;
+      one = λ read. omega arith;
+    };
+    ready = record { free = λ past. refl; recorded = (refl, refl, refl); wanted = λ past two. refl; named = λ has two. refl; dirty = λ has two. refl };
+    judged = λ write. not_so write;
   };
 }

@@ -39,11 +39,13 @@ use Rattle.lvm_session.specs.Bringing.{copy_ends}
 use Rattle.lvm_session.specs.declared.event.Event.TheVariants as event
 use Rattle.lvm_session.specs.Enabled.{first_event}
 use Rattle.lvm_events.specs.declared.answers.CopyFault.TheVariants as refusal
-use Rattle.lvm_events.specs.Events.{lacks_mark}
+use Rattle.lvm_events.specs.Events.{makes_dirty}
 use Rattle.lvm_events.specs.Turns.{Darkens}
 use Rattle.lvm_events.specs.Calls.{ask_fault, fault_on, copy_fault}
 use Rattle.lvm_sound.specs.Left.{left_of}
-use Rattle.lvm_sound.specs.Sound.{IsAsked, IsRequest, IsCopy, IsCaused, IsAnswered, IsTrueToOrigin, IsGoing, IsSound}
+use Rattle.lvm_sound.specs.Requests.{IsRequest}
+use Rattle.lvm_sound.specs.Causes.{IsCaused, IsAnswered, IsTrueToOrigin}
+use Rattle.lvm_sound.specs.Sound.{IsAsked, IsCopy, IsGoing, IsSound}
 
 -- ---- three disks, on two of which a volume of one logical partition of 8 track groups is mirrored
 
@@ -176,7 +178,7 @@ passive phase targets dirty = record (calm mode.Passive) { wanted = record fresh
 -- sound; with it the status is written, and less work is left.
 pub record AdmissionMarks : Type 0 where
   pub may : first_event (core_of (passive phase.Held [] false)) ≡ Some (event.Admit 0)
-  pub lacks : lacks_mark (core_of (passive phase.Held [] false)) a_write two_targets ≡ true
+  pub makes : makes_dirty (core_of (passive phase.Held [] false)) a_write two_targets ≡ true
   pub waits : first_event (core_of (passive phase.WantRecord two_targets false)) ≡ None
   pub unsound : IsRequest (core_of (passive phase.WantRecord two_targets false)) (asking 1 a_write phase.WantRecord two_targets) → ⊥
   pub goes_on : first_event (core_of (passive phase.WantRecord two_targets true)) ≡ Some event.StartStatus
