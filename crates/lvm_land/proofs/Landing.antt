@@ -20,7 +20,10 @@ use Rattle.lvm_session.specs.State.{Core, State, state}
 use Rattle.lvm_session.specs.Judging.{facts_of, group_of, is_waiting, next_for, place_of}
 use Rattle.lvm_session.specs.Bringing.{with_back}
 use Rattle.lvm_events.specs.Events.{after_landing, got_blocks, landed_as}
-use Rattle.lvm_sound.specs.Sound.{IsAsked, IsEntered, IsGoing, IsOutIf, IsRequest, count_if, hands_with, has_number, is_hand, pins}
+use Rattle.lvm_over.specs.Hands.{IsOutIf}
+use Rattle.lvm_sound.specs.Requests.{IsRequest}
+use Rattle.lvm_sound.specs.Sound.{IsAsked, IsGoing, count_if, is_hand, pins}
+use Rattle.lvm_land.specs.Entered.{IsEntered}
 use Rattle.lvm_firsts.proofs.Nexts.{landed_waits, one, queued}
 use Rattle.lvm_firsts.proofs.Places.{at_place}
 use Rattle.lvm_land.proofs.Outcomes.{done_begun, got_is, has_done, is_the_got}
@@ -87,7 +90,7 @@ module _ (core : Core) (going : IsGoing core) (place : ℕ) (o : Open) (there : 
     its = (one core going place o there).waits waits
 
     got_so : is_got how ≡ is_some o.got
-    got_so = got_is o (facts_of core o.request) (is_some o.got) its.hand how its.shape lands
+    got_so = got_is o (facts_of core o.request) (is_some o.got) its.shape.hand how its.shape.phase_is lands
 
     told : IsAsked core.history.facts o
     told = at_place (IsAsked core.history.facts) core.requests place o going.told.requests there
@@ -96,14 +99,14 @@ module _ (core : Core) (going : IsGoing core) (place : ℕ) (o : Open) (there : 
     its_request = ap (λ (r : Option Asked). unwrap_or r no_request) told.told
 
     is_read : is_some o.got ≡ true → is_write o.request.ask ≡ false
-    is_read some = front (is_write o.request.ask) (has_done o.request.targets.items) (sym its.hand ∙ some)
+    is_read some = front (is_write o.request.ask) (has_done o.request.targets.items) (sym its.shape.hand ∙ some)
       where
         front : (a b : Bool) → (not a && b) ≡ true → a ≡ false
         front true b is = absurd cc
         front false b is = refl
 
     is_done : is_some o.got ≡ true → has_done o.request.targets.items ≡ true
-    is_done some = back (is_write o.request.ask) (has_done o.request.targets.items) (sym its.hand ∙ some)
+    is_done some = back (is_write o.request.ask) (has_done o.request.targets.items) (sym its.shape.hand ∙ some)
       where
         back : (a b : Bool) → (not a && b) ≡ true → b ≡ true
         back true b is = absurd cc
@@ -114,7 +117,7 @@ module _ (core : Core) (going : IsGoing core) (place : ℕ) (o : Open) (there : 
     entered (Some buf) started count is begun counts =
         let some : is_some o.got ≡ true = ap is_some (sym is) in
         let in_group = (one core going place o there).laid.blocks.group in
-        let room : length buf.sectors ≡ 256 = subst (λ (g : Option Buffer). IfSome g (λ (b : Buffer). length b.sectors ≡ 256)) (sym is) its.room in
+        let room : length buf.sectors ≡ 256 = subst (λ (g : Option Buffer). IfSome g (λ (b : Buffer). length b.sectors ≡ 256)) (sym is) its.shape.room in
         let reads : told.request.write ≡ false = told.write ∙ is_read some in
         let counted : told.request.count ≡ count = told.count ∙ sym counts in (
           is_the_got how (got_so ∙ some),

@@ -11,12 +11,14 @@ ghost use Rattle.lvm_session.specs.Judging.{next_for};
 ghost use Rattle.lvm_session.specs.Rooms.{SameRooms};
 ghost use Rattle.lvm_session.specs.State.{state};
 ghost use Rattle.lvm_events.specs.Events.{Lands, got_blocks, landed_as};
-ghost use Rattle.lvm_sound.specs.Sound.{IsEntered, IsGoing};
+ghost use Rattle.lvm_sound.specs.Sound.{IsGoing};
+ghost use Rattle.lvm_land.specs.Entered.{IsEntered};
 
 use crate::front::copy_front;
-use crate::giving::{give_back, unpin};
+use crate::pinned::unpin;
 use lvm_history::History;
 use lvm_num::Pbuf;
+use lvm_over::give_back;
 use lvm_session::{Open, Session};
 use lvm_vol::Outcome;
 

@@ -2,8 +2,8 @@
 #![tactic(auto)]
 
 mod front;
-mod giving;
 mod land;
+mod pinned;
 
-pub use giving::{give_back, unpin};
 pub use land::land_at;
+pub use pinned::unpin;

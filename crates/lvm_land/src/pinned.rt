@@ -1,17 +1,13 @@
-//! What a request gives up: its pin and its buffer.
+//! A request gives up its pin.
 ghost use Rattle.std.specs.Prelude.{◌≡◌, ◌≤◌, ◌<◌, ◌^◌, true, if◌then◌else◌};
 ghost use Rattle.lvm_mwc.specs.Cache.{after_unpin};
 ghost use Rattle.lvm_mwc.specs.Entries.{pins_of};
 ghost use Rattle.lvm_path.specs.Asks.{at_of, lv_of};
-ghost use Rattle.lvm_session.specs.Bringing.{with_back};
 ghost use Rattle.lvm_session.specs.Judging.{group_of};
-ghost use Rattle.lvm_sound.specs.Sound.{IsOutIf};
 
 use lvm_copies::group_of;
 use lvm_mwc::Cache;
-use lvm_num::Pbuf;
 use lvm_path::Ask;
-use lvm_pbuf::Pool;
 
 /// Gives up a pin of the track group of a request, where it holds one.
 pub fn unpin(cache: &mut Cache, pinned: bool, ask: &Ask)
@@ -21,15 +17,5 @@ pub fn unpin(cache: &mut Cache, pinned: bool, ask: &Ask)
 {
     if pinned {
         cache.unpin(ask.lv(), group_of(ask));
-    }
-}
-
-/// Takes a buffer back, where there is one.
-pub fn give_back(pool: &mut Pool, buf: Option<Pbuf>)
-    requires { IsOutIf pool.old buf }
-    ensures { pool.new ≡ with_back pool.old buf }
-{
-    if let Some(buf) = buf {
-        pool.give(buf);
     }
 }
