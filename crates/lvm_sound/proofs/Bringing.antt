@@ -19,14 +19,14 @@ use Rattle.lvm_sound.specs.Sound.{stays_fresh, IsCopy, IsFitting, IsTold, IsGoin
 use Rattle.lvm_sound.specs.Worked.{mirrored, first_copy, bringing_up, bringing, core_of, status_of, behind, faultless, CopiesAreSound}
 use Rattle.lvm_sound.proofs.Small.{not_so, not_either, not_none}
 use Rattle.lvm_sound.proofs.Parts.{placed, not_marked, status_is_sound, none_behind, none_cleared, none_missing, has_fresh, notes_fit, one_stale, none_out, no_fault, zeros_at}
-use Rattle.lvm_sound.proofs.Whole.{on_is_not_off, on_is_not_stuck, fitting, owned}
+use Rattle.lvm_sound.proofs.Whole.{on_is_not_off, on_is_not_stuck, no_entries, fitting, owned}
 
 module _ (m : Mode) where
   fits : IsFitting (core_of (bringing m))
-  fits = fitting (bringing m) (omega arith) (omega arith) (omega arith) (notes_fit m)
+  fits = fitting (bringing m) (omega arith) (omega arith) (omega arith) no_entries (notes_fit m)
 
   told : IsTold (core_of (bringing m))
-  told = record { table = record { ascending = tt; still = tt }; each = λ id. refl; requests = tt }
+  told = record { ordered = tt; table = record { ascending = tt; still = tt }; each = λ id. refl; requests = tt }
 
   owns : AreOwned (core_of (bringing m))
   owns (owner.Data id target) = refl

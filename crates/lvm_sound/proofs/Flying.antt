@@ -3,7 +3,10 @@ use Rattle.std.proofs.Common.{◌≡◌, inl, ℕ, zero, suc, ◌<◌, ◌+◌, 
 use Rattle.std.specs.Prelude.{◌≢◌, ◌==◌, is_some, slice_get, slice_index_or, option_and_then, if◌then◌else◌}
 use Rattle.std.specs.Option.{option_map_or}
 use Rattle.std.proofs.lemmas.Bool.Decides.{nat_tests}
+use Rattle.std.proofs.lemmas.List.Elements.{All-nil, All-cons}
 use Rattle.lvm_num.specs.Bits.{has_bit}
+use Rattle.lvm_num.specs.Note.{IsEntry}
+use Rattle.lvm_mwc.specs.Entries.{AreEntries}
 use Rattle.lvm_num.specs.Disks.{has}
 use Rattle.lvm_num.specs.declared.place.Pp.{Pp}
 use Rattle.lvm_num.specs.declared.descriptor.Mode.TheVariants as mode
@@ -27,7 +30,7 @@ use Rattle.lvm_sound.specs.Sound.{count_if, out_with, IsAsked, IsFitting, IsTold
 use Rattle.lvm_sound.specs.Worked.{mirrored, first_copy, second_copy, target_on, flying_write, naming, flying, first_flight, begun_write, core_of, status_of, fresh, faultless, FlyingWritesAreSound}
 use Rattle.lvm_sound.proofs.Small.{not_so, not_either, or_left}
 use Rattle.lvm_sound.proofs.Parts.{none_cleared, has_fresh, placed, status_is_sound, none_behind}
-use Rattle.lvm_sound.proofs.Whole.{on_is_not_off, on_is_not_stuck, first_stays, fitting, true_to_origin}
+use Rattle.lvm_sound.proofs.Whole.{on_is_not_off, on_is_not_stuck, begun_so, first_stays, fitting, true_to_origin}
 
 -- ---- its notes
 
@@ -102,7 +105,7 @@ asked_so : IsAsked (Begun begun_write ∷ []) flying_write
 asked_so = record { request = begun_write; told = refl; client = refl; vol = refl; at = refl; count = refl; write = refl; length = λ e. refl; place = refl; outcome = refl; answered = λ e. not_either e }
 
 told : IsTold (core_of flying)
-told = record { table = record { ascending = (tt, tt); still = (λ e. refl, tt) }; each = λ id. by (1 == id); requests = (asked_so, tt) }
+told = record { ordered = begun_so; table = record { ascending = (tt, tt); still = (λ e. refl, tt) }; each = λ id. by (1 == id); requests = (asked_so, tt) }
   where
     by : (t : Bool) → is_some (if t then Some begun_write else None) && true ≡ t || false
     by true = refl
@@ -158,8 +161,11 @@ numbers : 3 + updates_left (core_of flying) < 2 ^ 32
 unfolding has_bit has
 numbers = omega arith
 
+one_entry : AreEntries (core_of flying).cache.entries
+one_entry = record { most = omega arith; differ = (refl, tt); counting = All-cons IsEntry (record { lv = 1; group = 0 }) [] (record { some_lv = λ e. omega (arith, e); lv = omega arith; group = omega arith }) (All-nil IsEntry) }
+
 fits : IsFitting (core_of flying)
-fits = fitting flying (omega arith) (omega arith) (omega arith) notes_named
+fits = fitting flying (omega arith) (omega arith) (omega arith) one_entry notes_named
 
 one_pin : (lv group : ℕ) → option_map_or (λ (e : CacheEntry). e.pins) (if 1 == lv && 0 == group then Some (record { lv = 1; group = 0; pins = 1 }) else None) 0 ≡ 0 + count_if (1 == lv && 0 == group)
 one_pin lv group = by (1 == lv && 0 == group)

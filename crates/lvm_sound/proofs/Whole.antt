@@ -6,11 +6,15 @@ use Rattle.lvm_num.specs.Disks.{has}
 use Rattle.lvm_num.specs.Votes.{votes_by}
 use Rattle.lvm_num.specs.declared.descriptor.Mode.{Mode}
 use Rattle.lvm_num.specs.declared.descriptor.Mode.TheVariants as mode
+use Rattle.std.proofs.lemmas.List.Elements.{All-nil}
+use Rattle.lvm_num.specs.Note.{IsEntry}
 use Rattle.lvm_num.specs.Descriptor.{is_member}
 use Rattle.lvm_num.specs.Status.{calls_stale}
 use Rattle.lvm_num.proofs.DisksLemmas.{has-zero}
 use Rattle.lvm_kept.specs.Examples.{mirror}
 use Rattle.lvm_vol.specs.Facts.{Begun}
+use Rattle.lvm_vol.specs.Order.{Ordered}
+use Rattle.lvm_mwc.specs.Entries.{AreEntries}
 use Rattle.lvm_mwc.specs.Cache.{has_disk}
 use Rattle.lvm_path.specs.declared.request.Phase.TheVariants as phase
 use Rattle.lvm_session.specs.declared.flown.Owner.TheVariants as owner
@@ -31,14 +35,18 @@ on_is_not_off e = absurd cc
 pub on_is_not_stuck : {X : Type 0} → power.On ≡ power.Stuck → X
 on_is_not_stuck e = absurd cc
 
+pub no_entries : AreEntries []
+no_entries = record { most = omega arith; differ = tt; counting = All-nil IsEntry }
+
 -- ---- as it begins
 
-pub fitting : (w : Moment) → length w.requests ≤ 4 → 1 ≤ length w.pool → length w.pool ≤ 1024 → ((disk : ℕ) → has_disk w.cache disk ≡ is_member (mirrored w.mode) disk) → IsFitting (core_of w)
-fitting w table a_buffer buffers notes = record {
+pub fitting : (w : Moment) → length w.requests ≤ 4 → 1 ≤ length w.pool → length w.pool ≤ 1024 → AreEntries w.cache.entries → ((disk : ℕ) → has_disk w.cache disk ≡ is_member (mirrored w.mode) disk) → IsFitting (core_of w)
+fitting w table a_buffer buffers entries notes = record {
   valid = valid w.mode;
   id = refl;
   rows = λ disk. refl;
   group = refl;
+  entries = entries;
   notes = notes;
   table = table;
   most = omega arith;
@@ -50,10 +58,10 @@ fitting w table a_buffer buffers notes = record {
 
 module _ (m : Mode) where
   fits : IsFitting (core_of (calm m))
-  fits = fitting (calm m) (omega arith) (omega arith) (omega arith) (notes_fit m)
+  fits = fitting (calm m) (omega arith) (omega arith) (omega arith) no_entries (notes_fit m)
 
   told : IsTold (core_of (calm m))
-  told = record { table = record { ascending = tt; still = tt }; each = λ id. refl; requests = tt }
+  told = record { ordered = tt; table = record { ascending = tt; still = tt }; each = λ id. refl; requests = tt }
 
   pub owned : AreOwned (core_of (calm m))
   owned (owner.Data id target) = refl
@@ -126,6 +134,10 @@ none_there : (target : ℕ) → target_flies target (asking 1 a_write phase.Held
 none_there zero = refl
 none_there (suc target) = refl
 
+-- it is the first request of its run
+pub begun_so : Ordered 50 [] (Begun begun_write ∷ [])
+begun_so = ((refl, refl, (refl, omega arith)), tt)
+
 pub one_is_asked : IsAsked (Begun begun_write ∷ []) (asking 1 a_write phase.Held [])
 one_is_asked = record {
   request = begun_write;
@@ -143,10 +155,10 @@ one_is_asked = record {
 
 module _ (m : Mode) where
   held_fits : IsFitting (core_of (held_write m))
-  held_fits = fitting (held_write m) (omega arith) (omega arith) (omega arith) (notes_fit m)
+  held_fits = fitting (held_write m) (omega arith) (omega arith) (omega arith) no_entries (notes_fit m)
 
   held_is_told : IsTold (core_of (held_write m))
-  held_is_told = record { table = record { ascending = (tt, tt); still = (λ e. refl, tt) }; each = λ id. by (1 == id); requests = (one_is_asked, tt) }
+  held_is_told = record { ordered = begun_so; table = record { ascending = (tt, tt); still = (λ e. refl, tt) }; each = λ id. by (1 == id); requests = (one_is_asked, tt) }
     where
       by : (t : Bool) → is_some (if t then Some begun_write else None) && true ≡ t || false
       by true = refl

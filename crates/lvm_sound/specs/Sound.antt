@@ -13,8 +13,9 @@ use Rattle.lvm_vol.specs.declared.entry.Vol.TheVariants.{Lv}
 use Rattle.lvm_vol.specs.Facts.{Request as Asked, Fact, Making, Made, Split, Removing, Removed, Begun, Landed, Taken, Cut, On, begun}
 use Rattle.lvm_vol.specs.declared.entry.Outcome.{Outcome}
 use Rattle.lvm_vol.specs.Log.{asked, next_id, is_open, lands_id, is_answered}
+use Rattle.lvm_vol.specs.Order.{Ordered}
 use Rattle.lvm_hold.specs.declared.queue.Row.{Row}
-use Rattle.lvm_mwc.specs.Entries.{pins_of}
+use Rattle.lvm_mwc.specs.Entries.{AreEntries, pins_of}
 use Rattle.lvm_mwc.specs.Cache.{has_disk}
 use Rattle.lvm_status.specs.Members.{HasItsRows}
 use Rattle.lvm_status.specs.Update.{seen}
@@ -84,6 +85,7 @@ pub record IsAsked (facts : List Fact) (o : Open) : Type 0 where
 
 -- The table has the requests that the history tells of, by rising numbers.
 pub record IsTold (core : Core) : Type 0 where
+  pub ordered : Ordered core.history.run [] core.history.facts
   pub table : AreTold core.history.facts core.requests
   pub each : (id : ℕ) → is_open core.history.facts id ≡ waits core.requests id
   pub requests : AllByRecursion (IsAsked core.history.facts) core.requests
@@ -96,6 +98,7 @@ pub record IsFitting (core : Core) : Type 0 where
   pub id : core.status.wanted.id ≡ core.descriptor.id
   pub rows : HasItsRows core.descriptor core.status.wanted
   pub group : core.status.group ≡ record core.descriptor { lvs = [] }
+  pub entries : AreEntries core.cache.entries
   pub notes : (disk : ℕ) → has_disk core.cache disk ≡ is_member core.descriptor disk
   pub table : length core.requests ≤ core.most
   pub most : core.most ≤ 1024
