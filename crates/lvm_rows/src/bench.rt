@@ -4,7 +4,7 @@ ghost use Rattle.lvm_disk.specs.Device.{IsReady};
 ghost use Rattle.lvm_memory.specs.Memory.{device_of};
 
 use crate::fault::Fault;
-use crate::outside::Outside;
+use crate::outside::{Outside, Streams};
 use crate::parse;
 use crate::print::{print_line, print_lines, print_run, print_words};
 use crate::run::{Sizes, blank, images_of, restarted, run};
@@ -14,6 +14,7 @@ use crate::words::{Answered, answer};
 use lvm_io::{MemClock, Sink};
 use lvm_memory::MemShelf;
 use lvm_num::{Rows, Text};
+use lvm_top::Ended;
 use std::alloc::Global;
 
 /// How many entries the history of a run has room for where nothing else is said.
@@ -129,15 +130,23 @@ impl Bench {
     // The next run.
     fn run<O: Sink>(&mut self, alloc: Global, out: &mut O) -> Result<(), Fault> {
         let mut streams = self.outside.streams(alloc, self.script.text())?;
+        let ended = self.next_run(alloc, &mut streams)?;
+        self.end_run(alloc, streams.out.bytes(), &ended, out)
+    }
+
+    fn next_run(&mut self, alloc: Global, streams: &mut Streams) -> Result<Ended<MemShelf>, Fault> {
         let shelf = self.shelf(alloc)?;
-        let ended = run(
-            alloc,
-            &mut streams,
-            shelf,
-            &mut self.clock,
-            self.sizes.entries,
-        );
-        print_run(alloc, streams.out.bytes(), &ended, self.watched, out)?;
+        Ok(run(alloc, streams, shelf, &mut self.clock, self.sizes.entries))
+    }
+
+    fn end_run<O: Sink>(
+        &mut self,
+        alloc: Global,
+        text: &[u8],
+        ended: &Ended<MemShelf>,
+        out: &mut O,
+    ) -> Result<(), Fault> {
+        print_run(alloc, text, ended, self.watched, out)?;
         self.leave(alloc, &ended.shelf)
     }
 
