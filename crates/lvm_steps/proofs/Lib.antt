@@ -9,6 +9,8 @@ pub mod NoVolumes
 pub mod Making
 pub mod WorkedMaking
 pub mod Writable
+pub mod Members
+pub mod ServesLemmas
 pub mod VaryingOn
 pub mod Revaluing
 pub mod Committing
