@@ -1,7 +1,6 @@
 -- The next status of a session keeps the history.
-use Rattle.std.proofs.Common.{◌≡◌, inl, inr, ⊎_elim, ℕ, ◌<◌, Bool, true, false, ◌&&◌, List, [], ◌∷◌, ◌++◌, Option, Some, refl, sym, ap, subst, ◌∙◌}
-use Rattle.std.specs.Prelude.{IsTrue, not, if◌then◌else◌, filter}
-use Rattle.std.specs.List.{AllByRecursion}
+use Rattle.std.proofs.Common.{◌≡◌, inl, inr, ⊎_elim, ℕ, ◌<◌, Bool, true, false, ◌&&◌, List, [], ◌∷◌, ◌++◌, Option, Some, refl, sym, subst, ◌∙◌}
+use Rattle.std.specs.Prelude.{IsTrue, not}
 use Rattle.lvm_num.specs.Geometry.{track_group_of}
 use Rattle.lvm_num.specs.Status.{calls_stale, calls_dirty}
 use Rattle.lvm_num.specs.declared.place.Pp.{Pp}
@@ -33,6 +32,7 @@ use Rattle.lvm_commit.specs.Committed.{MayMark}
 use Rattle.lvm_commit.proofs.Free.{all_that_pass}
 use Rattle.lvm_commit.specs.Laws.{MayFollow, StatusFollows, StatusGoesOn}
 use Rattle.lvm_commit.proofs.Found.{shows_group, only_found, status_read}
+use Rattle.lvm_steps.proofs.PassingLemmas.{at_passing, some_passing, one_passes}
 
 -- statuses that say the same may follow one another
 pub same_marks : (c : Contents) (group : Descriptor) (was next : Status) → ((p : Pp) → calls_stale next p ≡ calls_stale was p) → ((n : ℕ) → calls_dirty next n ≡ calls_dirty was n) → MayMark c group was next
@@ -59,34 +59,6 @@ not_so false h = refl
 so_not : (b : Bool) → b ≡ false → not b ≡ true
 so_not true h = absurd cc
 so_not false h = refl
-
--- what holds of all that pass holds of one that does
-at_passing : {X : Type 0} (P : X → Type 0) (test : X → Bool) (xs : List X) → AllByRecursion P (filter test xs) → (x : X) → IsOneOf xs x → test x ≡ true → P x
-at_passing P test [] all x one passes = absurd one
-at_passing P test (y ∷ ys) all x one passes = by (test y) refl (λ rest there. at_passing P test ys rest x there passes) all one
-  where
-    by : (t : Bool) → test y ≡ t → (AllByRecursion P (filter test ys) → IsOneOf ys x → P x) → AllByRecursion P (if t then y ∷ filter test ys else filter test ys) → IsOneOf (y ∷ ys) x → P x
-    by true is further all (inl here) = subst P (sym here) all.0
-    by true is further all (inr there) = further all.1 there
-    by false is further all (inl here) = absurd (let p = passes in let q = ap test here in cc)
-    by false is further all (inr there) = further all there
-
-some_passing : {X : Type 0} (test : X → Bool) (xs : List X) → IsSome (filter test xs) → (x : X) × IsOneOf xs x × (test x ≡ true)
-some_passing test [] some = absurd some
-some_passing test (y ∷ ys) some = by (test y) refl (λ s. some_passing test ys s) some
-  where
-    by : (t : Bool) → test y ≡ t → (IsSome (filter test ys) → (x : _) × IsOneOf ys x × (test x ≡ true)) → IsSome (if t then y ∷ filter test ys else filter test ys) → (x : _) × IsOneOf (y ∷ ys) x × (test x ≡ true)
-    by true is further some = (y, inl refl, is)
-    by false is further some = let rest = further some in (rest.0, inr rest.1, rest.2)
-
-one_passes : {X : Type 0} (test : X → Bool) (xs : List X) (x : X) → IsOneOf xs x → test x ≡ true → IsSome (filter test xs)
-one_passes test [] x one passes = absurd one
-one_passes test (y ∷ ys) x one passes = by (test y) refl (λ there. one_passes test ys x there passes) one
-  where
-    by : (t : Bool) → test y ≡ t → (IsOneOf ys x → IsSome (filter test ys)) → IsOneOf (y ∷ ys) x → IsSome (if t then y ∷ filter test ys else filter test ys)
-    by true is further one = tt
-    by false is further (inl here) = absurd (let p = passes in let q = ap test here in cc)
-    by false is further (inr there) = further there
 
 -- ---- a status with the marks of another, and further ones
 

@@ -14,21 +14,9 @@ use Rattle.lvm_vol.proofs.Knowing.{known-push, ended_open, read_open}
 use Rattle.lvm_vol.proofs.Legality.{grow_legal, counted_well, same_self}
 use Rattle.lvm_vol.proofs.Order.{stands_left, stands_last}
 use Rattle.lvm_invariant.specs.State.{write_in, write_of}
-use Rattle.lvm_invariant.proofs.Small.{never}
+use Rattle.lvm_invariant.proofs.Small.{never, left_of as and_left, right_of as and_right, both_of as both}
 
 -- ---- names
-
-pub and_left : (a b : Bool) → IsTrue (a && b) → IsTrue a
-and_left true b h = refl
-and_left false b h = absurd cc
-
-pub and_right : (a b : Bool) → IsTrue (a && b) → IsTrue b
-and_right true b h = h
-and_right false b h = absurd cc
-
-pub both : (a b : Bool) → IsTrue a → IsTrue b → IsTrue (a && b)
-both true b h k = k
-both false b h k = absurd cc
 
 pub same_run : (r s : Request) → IsTrue (same_request r s) → r.run ≡ s.run
 same_run r s h = eqb-true _ _ (and_left (r.run == s.run) (r.id == s.id) h)

@@ -144,6 +144,11 @@ halfway_good : (votes : Votes) (mode : Mode) → votes.writes ≡ both_write →
 halfway_good votes mode two =
     (leads votes halfway (at_rest mode false) (first_is_good votes mode false (ap (λ (f : (ℕ → Bool) → Bool). f two_disks) two)) (halfway_allowed votes mode)).reached.good
 
+-- what the one disk shows is the newest there
+alone_is_newest : (s : State) (disk : ℕ) (r : Stamped Marks) → s.media.status disk ≡ Some r → stamp_lt r.stamp r.stamp ≡ false → (d : ℕ) (other : Stamped Marks) → d ≡ disk → s.media.status d ≡ Some other
+    → stamp_lt r.stamp other.stamp ≡ false
+alone_is_newest s disk r shows same d other is there = ap (λ (o : Option (Stamped Marks)). option_map_or (λ x. stamp_lt r.stamp x.stamp) o false) (sym there ∙ ap s.media.status is ∙ shows) ∙ same
+
 pub committed_early : CommittedEarly
 committed_early votes mode one two = record {
   good = halfway_good votes mode two;
@@ -152,15 +157,9 @@ committed_early votes mode one two = record {
   set = only 1;
   reads = ap (λ (f : (ℕ → Bool) → Bool). f (only 1)) one;
   found = stamped 1 (marks_with false false);
-  newest = record { disk = 1; inside = refl; shown = refl; last = λ d other inside there. same_stamp d other (eqb-true d 1 inside) there };
+  newest = record { disk = 1; inside = refl; shown = refl; last = λ d other inside there. alone_is_newest (after_all halfway (at_rest mode false)) 1 (stamped 1 (marks_with false false)) refl refl d other (eqb-true d 1 inside) there };
   other = λ possible. ⊎_elim (λ (is : marks_with false false ≡ marks_with true false). marks_differ (sym is)) (λ u. nothing u.0 u.1) possible;
 }
-  where
-    same_stamp : (d : ℕ) (other : Stamped Marks) → d ≡ 1 → (after_all halfway (at_rest mode false)).media.status d ≡ Some other → stamp_lt (stamped 1 (marks_with false false)).stamp other.stamp ≡ false
-    same_stamp d other is there = by other (sym (ap (after_all halfway (at_rest mode false)).media.status is) ∙ there)
-      where
-        by : (other : Stamped Marks) → Some (stamped 1 (marks_with false false)) ≡ Some other → stamp_lt (stamped 1 (marks_with false false)).stamp other.stamp ≡ false
-        by other e = ap (λ (o : Option (Stamped Marks)). option_map_or (λ r. stamp_lt (stamped 1 (marks_with false false)).stamp r.stamp) o false) (sym e)
 
 pub ended_uncommitted : EndedUncommitted
 ended_uncommitted votes mode one two = record {
@@ -170,15 +169,9 @@ ended_uncommitted votes mode one two = record {
   set = only 0;
   reads = ap (λ (f : (ℕ → Bool) → Bool). f (only 0)) one;
   found = stamped 2 (marks_with true false);
-  newest = record { disk = 0; inside = refl; shown = refl; last = λ d other inside there. same_stamp d other (eqb-true d 0 inside) there };
+  newest = record { disk = 0; inside = refl; shown = refl; last = λ d other inside there. alone_is_newest (after_all halfway (at_rest mode false)) 0 (stamped 2 (marks_with true false)) refl refl d other (eqb-true d 0 inside) there };
   other = λ possible. ⊎_elim (λ (is : marks_with true false ≡ marks_with false false). marks_differ is) (λ u. nothing u.0 u.1) possible;
 }
-  where
-    same_stamp : (d : ℕ) (other : Stamped Marks) → d ≡ 0 → (after_all halfway (at_rest mode false)).media.status d ≡ Some other → stamp_lt (stamped 2 (marks_with true false)).stamp other.stamp ≡ false
-    same_stamp d other is there = by other (sym (ap (after_all halfway (at_rest mode false)).media.status is) ∙ there)
-      where
-        by : (other : Stamped Marks) → Some (stamped 2 (marks_with true false)) ≡ Some other → stamp_lt (stamped 2 (marks_with true false)).stamp other.stamp ≡ false
-        by other e = ap (λ (o : Option (Stamped Marks)). option_map_or (λ r. stamp_lt (stamped 2 (marks_with true false)).stamp r.stamp) o false) (sym e)
 
 pub two_votes : TwoVotes
 two_votes = record { votes = record { reads = one_reads; writes = both_write; meet = λ a b read write. meet a b read write }; one = refl; two = refl }

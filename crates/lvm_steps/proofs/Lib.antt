@@ -10,6 +10,8 @@ pub mod Making
 pub mod WorkedMaking
 pub mod Writable
 pub mod Members
+pub mod PassingLemmas
+pub mod FindsLemmas
 pub mod ServesLemmas
 pub mod VaryingOn
 pub mod Revaluing

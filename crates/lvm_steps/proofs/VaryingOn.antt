@@ -32,6 +32,7 @@ use Rattle.lvm_steps.specs.VaryingOn.{AreShowing, RestampKeeps, HasNewest, OnlyN
 use Rattle.lvm_steps.proofs.Booleans.{split, join, either, clash}
 use Rattle.lvm_steps.proofs.Members.{shows_of, one_group, among_all}
 use Rattle.lvm_steps.proofs.ServesLemmas.{serving, put_keeps}
+pub use Rattle.lvm_steps.proofs.PassingLemmas.{one_passes as goes_in}
 
 -- ---- the descriptor
 
@@ -91,15 +92,6 @@ kept_in q (y ∷ ys) x is = by_test (q y) refl (kept_in q ys x) is
     by_test true passed rest (inl here) = (inl here, ap q here ∙ passed)
     by_test true passed rest (inr there) = let r = rest there in (inr r.0, r.1)
     by_test false passed rest is = let r = rest is in (inr r.0, r.1)
-
-pub goes_in : {X : Type 0} (q : X → Bool) (xs : List X) (x : X) → IsOneOf xs x → q x ≡ true → IsSome (filter q xs)
-goes_in q [] x is passed = is
-goes_in q (y ∷ ys) x is passed = by_test (q y) refl (goes_in q ys x) is
-  where
-    by_test : (t : Bool) → q y ≡ t → (IsOneOf ys x → q x ≡ true → IsSome (filter q ys)) → IsOneOf (y ∷ ys) x → IsSome (if t then y ∷ filter q ys else filter q ys)
-    by_test true test rest is = tt
-    by_test false test rest (inl here) = absurd (clash (q y) (ap q (sym here) ∙ passed) test)
-    by_test false test rest (inr there) = rest there passed
 
 one_of_some : {X : Type 0} (xs : List X) → IsSome xs → (x : X) × IsOneOf xs x
 one_of_some [] some = absurd some
