@@ -3,8 +3,11 @@ mod Small
 mod Still
 mod Nexts
 mod Numbers
+mod Telling
 mod Tables
 mod Rows
 pub mod Pin
 pub mod Close
+pub mod Take
+pub mod Wait
 pub mod Begin

@@ -3,4 +3,4 @@
 
 mod laws;
 
-pub use laws::{beginning_is_sound, close_keeps, pin_keeps};
+pub use laws::{beginning_is_sound, close_keeps, pin_keeps, take_keeps, wait_keeps};
