@@ -9,5 +9,6 @@ mod Rows
 pub mod Pin
 pub mod Close
 pub mod Take
+pub mod Landing
 pub mod Wait
 pub mod Begin

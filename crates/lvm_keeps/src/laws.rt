@@ -1,6 +1,6 @@
 //! Laws: what each event of a sound session leaves is sound.
 ghost use Rattle.lvm_keeps.specs.Begins.{BeginningIsSound};
-ghost use Rattle.lvm_keeps.specs.Keeps.{CloseKeeps, PinKeeps, TakeKeeps, WaitKeeps};
+ghost use Rattle.lvm_keeps.specs.Keeps.{CloseKeeps, LandingIsCaused, PinKeeps, TakeKeeps, WaitKeeps};
 
 /// A session is sound as it begins.
 pub fn beginning_is_sound()
@@ -25,4 +25,10 @@ pub fn wait_keeps()
 /// So does a request whose answer is taken, also in a session that is over.
 pub fn take_keeps()
     ensures { TakeKeeps }
+{}
+
+/// A request that lands as lost, as a read that failed or as one without a copy does so since disks have failed, or
+/// no copy could be used when the session began.
+pub fn landing_is_caused()
+    ensures { LandingIsCaused }
 {}
