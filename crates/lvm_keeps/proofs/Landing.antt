@@ -67,7 +67,7 @@ or_parts true b is = absurd (not_so (sym is))
 or_parts false b is = (refl, is)
 
 -- one that passes the first test, where none passes the second
-witness : {A : Type 0} (t u : A → Bool) (xs : List A) → list_any t xs ≡ true → list_any u xs ≡ false → (x : A) × (t x ≡ true) × (u x ≡ false)
+pub witness : {A : Type 0} (t u : A → Bool) (xs : List A) → list_any t xs ≡ true → list_any u xs ≡ false → (x : A) × (t x ≡ true) × (u x ≡ false)
 witness t u [] some none = absurd cc
 witness {A} t u (x ∷ xs) some none = let parts = or_parts (u x) (list_any u xs) none in by (t x) refl parts.0 (λ e. witness t u xs e parts.1)
   where

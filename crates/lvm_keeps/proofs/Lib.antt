@@ -10,5 +10,6 @@ pub mod Pin
 pub mod Close
 pub mod Take
 pub mod Landing
+pub mod Losing
 pub mod Wait
 pub mod Begin

@@ -1,6 +1,6 @@
 //! Laws: what each event of a sound session leaves is sound.
 ghost use Rattle.lvm_keeps.specs.Begins.{BeginningIsSound};
-ghost use Rattle.lvm_keeps.specs.Keeps.{CloseKeeps, LandingIsCaused, PinKeeps, TakeKeeps, WaitKeeps};
+ghost use Rattle.lvm_keeps.specs.Keeps.{CloseKeeps, LandingIsCaused, LossIsCaused, PinKeeps, TakeKeeps, WaitKeeps};
 
 /// A session is sound as it begins.
 pub fn beginning_is_sound()
@@ -31,4 +31,9 @@ pub fn take_keeps()
 /// no copy could be used when the session began.
 pub fn landing_is_caused()
     ensures { LandingIsCaused }
+{}
+
+/// The votes of a session are lost only where some disk has failed since it began.
+pub fn loss_is_caused()
+    ensures { LossIsCaused }
 {}
