@@ -46,6 +46,7 @@ module _ (m : Mode) where
     place = (0, omega arith, refl);
     room = tt;
     free = λ idle. not_either idle;
+    hand = λ ended. not_either ended;
     tried = λ disk is. not_marked disk is;
     source = tt;
     stale = λ runs part. (refl, refl);

@@ -1,5 +1,5 @@
 -- A write whose first transfer is out.
-use Rattle.std.proofs.Common.{◌≡◌, inl, ℕ, zero, suc, ◌<◌, ◌+◌, ◌^◌, Bool, true, false, ◌&&◌, ◌||◌, List, [], ◌∷◌, Some, None, refl, sym, ap, ◌∙◌, arith}
+use Rattle.std.proofs.Common.{◌≡◌, inl, ℕ, zero, suc, ◌<◌, ◌+◌, ◌^◌, Bool, true, false, ◌&&◌, ◌||◌, [], ◌∷◌, Some, None, refl, sym, ap, ◌∙◌, arith}
 use Rattle.std.specs.Prelude.{◌≢◌, ◌==◌, is_some, slice_get, slice_index_or, option_and_then, if◌then◌else◌}
 use Rattle.std.specs.Option.{option_map_or}
 use Rattle.std.proofs.lemmas.Bool.Decides.{nat_tests}
@@ -34,7 +34,7 @@ use Rattle.lvm_sound.proofs.Whole.{on_is_not_off, on_is_not_stuck, begun_so, fir
 
 -- ---- its notes
 
-notes_named : (disk : ℕ) → has_disk (core_of flying).cache disk ≡ is_member (mirrored mode.Active) disk
+pub notes_named : (disk : ℕ) → has_disk (core_of flying).cache disk ≡ is_member (mirrored mode.Active) disk
 notes_named disk = by (0 == disk) (1 == disk) (2 == disk)
   where
     by : (a b c : Bool) → is_some (if a then Some (naming 0) else if b then Some (naming 1) else if c then Some (no_notes 2) else None) ≡ a || (b || (c || false))
@@ -43,7 +43,7 @@ notes_named disk = by (0 == disk) (1 == disk) (2 == disk)
     by false false true = refl
     by false false false = refl
 
-no_note_flies : (disk : ℕ) → flight_on (core_of flying).cache disk ≡ None
+pub no_note_flies : (disk : ℕ) → flight_on (core_of flying).cache disk ≡ None
 no_note_flies disk = by (0 == disk) (1 == disk) (2 == disk)
   where
     by : (a b c : Bool) → option_and_then (λ (n : DiskNotes). n.flight) (if a then Some (naming 0) else if b then Some (naming 1) else if c then Some (no_notes 2) else None) ≡ None
@@ -54,7 +54,7 @@ no_note_flies disk = by (0 == disk) (1 == disk) (2 == disk)
 
 -- ---- its transfer
 
-turned : (a b : ℕ) → (a == b) ≡ (b == a)
+pub turned : (a b : ℕ) → (a == b) ≡ (b == a)
 turned a b = grind (arith, nat_tests)
 
 not_first : (k : ℕ) → (suc k == 0) ≡ false
@@ -161,13 +161,13 @@ numbers : 3 + updates_left (core_of flying) < 2 ^ 32
 unfolding has_bit has
 numbers = omega arith
 
-one_entry : AreEntries (core_of flying).cache.entries
+pub one_entry : AreEntries (core_of flying).cache.entries
 one_entry = record { most = omega arith; differ = (refl, tt); counting = All-cons IsEntry (record { lv = 1; group = 0 }) [] (record { some_lv = λ e. omega (arith, e); lv = omega arith; group = omega arith }) (All-nil IsEntry) }
 
 fits : IsFitting (core_of flying)
 fits = fitting flying (omega arith) (omega arith) (omega arith) one_entry notes_named
 
-one_pin : (lv group : ℕ) → option_map_or (λ (e : CacheEntry). e.pins) (if 1 == lv && 0 == group then Some (record { lv = 1; group = 0; pins = 1 }) else None) 0 ≡ 0 + count_if (1 == lv && 0 == group)
+pub one_pin : (lv group : ℕ) → option_map_or (λ (e : CacheEntry). e.pins) (if 1 == lv && 0 == group then Some (record { lv = 1; group = 0; pins = 1 }) else None) 0 ≡ 0 + count_if (1 == lv && 0 == group)
 one_pin lv group = by (1 == lv && 0 == group)
   where
     by : (t : Bool) → option_map_or (λ (e : CacheEntry). e.pins) (if t then Some (record { lv = 1; group = 0; pins = 1 }) else None) 0 ≡ 0 + count_if t

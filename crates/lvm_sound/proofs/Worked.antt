@@ -10,8 +10,8 @@ use Rattle.lvm_vol.specs.declared.entry.Outcome.TheVariants as outcome
 use Rattle.lvm_path.specs.declared.target.Target.{Target}
 use Rattle.lvm_session.specs.declared.open.Power.TheVariants as power
 use Rattle.lvm_session.specs.State.{Core}
-use Rattle.lvm_sound.specs.Worked.{AdmissionMarks, CommitLowersWork, UnsettledIsFresh, ReadsMayLag, StandingStillIsUnsound, BlameNeedsFaults, AnswersAreTold, DarknessKeepsNotes, read_targets}
-use Rattle.lvm_sound.proofs.Small.{not_so, not_either, not_risen}
+use Rattle.lvm_sound.specs.Worked.{AdmissionMarks, CommitLowersWork, UnsettledIsFresh, ReadsMayLag, StandingStillIsUnsound, BlameNeedsFaults, AnswersAreTold, DarknessKeepsNotes, UnpinnedWritesMove, read_targets, unpinned_write}
+use Rattle.lvm_sound.proofs.Small.{not_so, not_either, not_risen, or_left}
 
 pub admission_marks : AdmissionMarks
 unfolding votes_by has_bit has
@@ -105,3 +105,40 @@ reads_may_lag = record {
     judged = λ write. not_so write;
   };
 }
+
+pub unpinned_writes_move : UnpinnedWritesMove
+unfolding votes_by has_bit has
+unpinned_writes_move = record {
+  passive = record {
+    shape = record {
+      targets = (record { copy = refl; sector = refl; there = refl }, (record { copy = refl; sector = refl; there = refl }, tt));
+      phase_is = (omega arith, λ write. refl);
+      hand = refl;
+      room = tt;
+      differ = differ_so;
+      usable = λ past. refl;
+      one = λ read. not_either read;
+    };
+    ready = record { free = λ past. refl; recorded = (refl, refl); wanted = λ past two. refl; named = λ has two. refl; dirty = λ has two. refl };
+    judged = λ write. record { uncaught = (refl, (refl, tt)); due = λ waits. not_so waits; all = λ begun p among. or_left _ among };
+  };
+  off = record {
+    shape = record {
+      targets = (record { copy = refl; sector = refl; there = refl }, (record { copy = refl; sector = refl; there = refl }, tt));
+      phase_is = (omega arith, λ write. refl);
+      hand = refl;
+      room = tt;
+      differ = differ_so;
+      usable = λ past. refl;
+      one = λ read. not_either read;
+    };
+    ready = record { free = λ past. refl; recorded = (refl, refl, refl); wanted = λ past two. refl; named = λ has two. refl; dirty = λ has two. refl };
+    judged = λ write. record { uncaught = (refl, (refl, tt)); due = λ waits. not_so waits; all = λ begun p among. or_left _ among };
+  };
+}
+  where
+    differ_so : (i j : ℕ) (d : Target) → i < j → j < 2 → (slice_index_or unpinned_write.request.targets.items i d).pp ≢ (slice_index_or unpinned_write.request.targets.items j d).pp
+    differ_so zero zero d below within e = absurd (omega (arith, below))
+    differ_so zero (suc zero) d below within e = let disks : 0 ≡ 1 = ap (λ (p : Pp). p.disk) e in absurd (omega (arith, disks))
+    differ_so zero (suc (suc j)) d below within e = absurd (omega (arith, within))
+    differ_so (suc i) j d below within e = absurd (omega (arith, below, within))

@@ -5,3 +5,4 @@ pub mod Requests
 pub mod Causes
 pub mod Sound
 pub mod Worked
+pub mod Busy

@@ -110,16 +110,16 @@ IsRecorded mode.Passive phase r = (r.pinned ≡ false) × (wants_entry phase ≡
 IsRecorded mode.Off phase r = (r.pinned ≡ false) × (wants_entry phase ≡ false) × (wants_record phase ≡ false)
 
 -- its volume is wanted dirty, where it is passive
-abbrev pub is_wanted_dirty : Core → Mode → Request → Bool
-is_wanted_dirty core mode.Active r = true
-is_wanted_dirty core mode.Passive r = calls_dirty core.status.wanted (lv_of r.ask)
-is_wanted_dirty core mode.Off r = true
+abbrev pub is_wanted_dirty : Core → Mode → Ask → Bool
+is_wanted_dirty core mode.Active ask = true
+is_wanted_dirty core mode.Passive ask = calls_dirty core.status.wanted (lv_of ask)
+is_wanted_dirty core mode.Off ask = true
 
 -- Once it is admitted no earlier request is in its way, and with two targets or more it has the records that its volume keeps.
 pub record IsReady (core : Core) (r : Request) : Type 0 where
   pub free : is_past_held r.phase ≡ true → is_held_back core r ≡ false
   pub recorded : IsRecorded (mode_for core r.ask) r.phase r
-  pub wanted : is_past_held r.phase ≡ true → 2 ≤ length r.targets.items → is_wanted_dirty core (mode_for core r.ask) r ≡ true
+  pub wanted : is_past_held r.phase ≡ true → 2 ≤ length r.targets.items → is_wanted_dirty core (mode_for core r.ask) r.ask ≡ true
   -- before its data goes out the notes of all its targets name its track group, or its volume is settled as dirty
   pub named : has_record r.phase ≡ true → 2 ≤ length r.targets.items → has_names core (mode_for core r.ask) r ≡ true
   pub dirty : has_record r.phase ≡ true → 2 ≤ length r.targets.items → has_dirty_mark core (mode_for core r.ask) r ≡ true

@@ -171,6 +171,8 @@ pub record IsCopy (core : Core) (c : OpenCopy) : Type 0 where
   pub place : (id : ℕ) × (id < next_id core.history) × (c.place ≡ place_of id + 1)
   pub room : IfSome (hand_of c.step) (λ (buf : Buffer). length buf.sectors ≡ 256)
   pub free : is_idle c.step ≡ false → is_free_step core c ≡ true
+  -- one that has ended has nothing in hand
+  pub hand : is_running c ≡ false → hand_of c.step ≡ None
   -- only other copies of the logical partition are tried, and read
   pub tried : (disk : ℕ) → has c.tried disk ≡ true → list_any (λ (p : Pp). not (is_pp p c.pp) && p.disk == disk) (copies_in core.descriptor c.lv c.lp) ≡ true
   pub source : IsReadFrom c.step (copies_in core.descriptor c.lv c.lp) c
