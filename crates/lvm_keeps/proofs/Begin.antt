@@ -1,5 +1,5 @@
 -- A session as it begins.
-use Rattle.std.proofs.Common.{◌≡◌, inl, ℕ, zero, suc, ◌≤◌, ◌+◌, Bool, true, false, ◌&&◌, ◌||◌, not, List, [], ◌∷◌, replicate, Option, Some, None, length, refl, sym, ◌∙◌, ap, subst, arith}
+use Rattle.std.proofs.Common.{◌≡◌, inl, ℕ, zero, suc, ◌+◌, Bool, true, false, ◌&&◌, ◌||◌, not, List, [], ◌∷◌, replicate, Option, None, length, refl, sym, ◌∙◌, ap, subst, arith}
 use Rattle.std.specs.Prelude.{IfSome, count_by, is_some, slice_index_or, unwrap_or}
 use Rattle.std.specs.List.{list_any, AllByRecursion}
 use Rattle.std.specs.Option.{option_map_or}
@@ -15,15 +15,15 @@ use Rattle.lvm_session.specs.declared.flown.Owner.TheVariants as owner
 use Rattle.lvm_session.specs.declared.open.Open.{Open}
 use Rattle.lvm_session.specs.declared.open.Power.TheVariants as power
 use Rattle.lvm_session.specs.State.{Core, State}
-use Rattle.lvm_session.specs.Judging.{copies_in, is_stale, is_wanted_stale, is_settled}
-use Rattle.lvm_session.specs.Bringing.{copy_ends, end_of, has_row, is_out, step_row}
+use Rattle.lvm_session.specs.Judging.{copies_in, is_stale, is_wanted_stale}
+use Rattle.lvm_session.specs.Bringing.{end_of, has_row, is_out, step_row}
 use Rattle.lvm_events.specs.Dark.{AreTold, hand_of_copy}
 use Rattle.lvm_sound.specs.Owners.{AreOwned, AreRows, HaveTickets, same_owner, target_flies}
 use Rattle.lvm_sound.specs.Requests.{IsOpenOne}
 use Rattle.lvm_sound.specs.Causes.{AreCaused, AreCounted, IsAnswered, IsChosenSince, IsCopyCaused, is_held_stale, is_over}
 use Rattle.lvm_sound.specs.Sound.{IsAsked, IsCopy, IsGoing, IsOn, IsSound, IsTold, count_if, hands_with, is_dark, is_hand, may_be_fresh, out_with, pins, rows_of, stays_fresh, waiting_rows, waits, with_row}
 use Rattle.lvm_keeps.specs.Begins.{Begins, BeginningIsSound}
-use Rattle.lvm_keeps.proofs.Small.{not_so, not_either}
+use Rattle.lvm_keeps.proofs.Small.{not_so}
 
 -- ---- what holds of nothing
 

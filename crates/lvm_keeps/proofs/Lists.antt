@@ -1,5 +1,5 @@
 -- What holds of each element of a list as one is set, added or goes.
-use Rattle.std.proofs.Common.{◌≡◌, ◌+◌, ℕ, zero, suc, Bool, false, ◌||◌, List, [], ◌∷◌, ◌++◌, Some, length, map, slice_get, slice_set, refl, sym, ◌∙◌, ap, subst, arith}
+use Rattle.std.proofs.Common.{◌≡◌, ◌≤◌, ◌+◌, ℕ, zero, suc, Bool, false, ◌||◌, List, [], ◌∷◌, ◌++◌, Some, length, map, slice_get, slice_set, refl, sym, ◌∙◌, ap, subst, arith}
 use Rattle.std.specs.Prelude.{count_by}
 use Rattle.std.specs.List.{list_any, remove, AllByRecursion}
 use Rattle.std.proofs.lemmas.List.Sums.{sum_by-cons}
@@ -77,6 +77,20 @@ module _ {A : Type 0} where
   all_removed P [] (suc k) all = tt
   all_removed P (x ∷ xs) zero all = all.1
   all_removed P (x ∷ xs) (suc k) all = (all.0, all_removed P xs k all.1)
+
+  pub length_removed : (xs : List A) (k : ℕ) → length (remove xs k) ≤ length xs
+  length_removed [] zero = omega arith
+  length_removed [] (suc k) = omega arith
+  length_removed (x ∷ xs) zero = omega arith
+  length_removed (x ∷ xs) (suc k) = let rest = length_removed xs k in omega (arith, rest)
+
+  -- each of the others has a place
+  pub get_removed : (xs : List A) (k j : ℕ) (x : A) → (j ≡ k → ⊥) → slice_get xs j ≡ Some x → (i : ℕ) × (slice_get (remove xs k) i ≡ Some x)
+  get_removed [] k j x other there = absurd (cc there)
+  get_removed (z ∷ xs) zero zero x other there = absurd (other refl)
+  get_removed (z ∷ xs) zero (suc j) x other there = (j, there)
+  get_removed (z ∷ xs) (suc k) zero x other there = (zero, there)
+  get_removed (z ∷ xs) (suc k) (suc j) x other there = let rest = get_removed xs k j x (λ e. other (ap suc e)) there in (suc rest.0, rest.1)
 
   pub any_removed : (t : A → Bool) (xs : List A) (k : ℕ) (x : A) → slice_get xs k ≡ Some x → t x ≡ false → list_any t (remove xs k) ≡ list_any t xs
   any_removed t [] k x there none = absurd (cc there)

@@ -35,7 +35,7 @@ use Rattle.lvm_keeps.proofs.Lists.{all_at, all_on, all_set, any_set, count_same,
 use Rattle.lvm_keeps.proofs.Tables.{ascending_set, rows_set}
 use Rattle.lvm_keeps.proofs.Nexts.{pins_entry}
 use Rattle.lvm_keeps.proofs.Numbers.{numbered}
-use Rattle.lvm_keeps.proofs.Rows.{rows_on}
+use Rattle.lvm_keeps.proofs.Rows.{all_fly, rows_on}
 use Rattle.lvm_keeps.proofs.Small.{both, is_false, not_so}
 use Rattle.lvm_keeps.proofs.Still.{moved, open_on, bring_on, landed_on, counted_on, origin_on, copy_on, if_on, no_cause}
 
@@ -228,8 +228,8 @@ module _ (s : State) (sound : IsSound s) (on : s.core.power ≡ power.On) (place
 
   -- ---- the shelf
 
-  data_on : (id target : ℕ) (f : Flight) → IsDataOf core id target f → IsDataOf now.core id target f
-  data_on id target f of = by (of.place == place) refl
+  data_on : (id target : ℕ) (f : Flight) → Rattle.lvm_sound.specs.Owners.flies core (owner.Data id target) ≡ true → IsDataOf core id target f → IsDataOf now.core id target f
+  data_on id target f fly of = by (of.place == place) refl
     where
       by : (b : Bool) → (of.place == place) ≡ b → IsDataOf now.core id target f
       by true is = record { place = place; request = pinned; there = set_here core.requests place o pinned there; own = ap (λ (x : Open). x.request.id) same ∙ of.own; aim = of.aim; aim_is = ap (λ (x : Open). slice_get x.request.targets.items target) same ∙ of.aim_is; moves = its_move }
@@ -256,7 +256,7 @@ module _ (s : State) (sound : IsSound s) (on : s.core.power ≡ power.On) (place
   keeps_on : IsOn now
   keeps_on = let was = sound.on on in record {
     going = keeps_going;
-    rows = rows_on core core.history (slice_set core.requests place pinned) core.queue core.pool core.flying (with_entry core.cache.entries lv group) core.last data_on core.flying s.device.flights was.rows;
+    rows = rows_on core core.history (slice_set core.requests place pinned) core.queue core.pool core.flying (with_entry core.cache.entries lv group) core.last data_on core.flying s.device.flights (all_fly core going.owned) was.rows;
     caused = all_set (AreCaused s.device core) (AreCaused s.device now.core) caused core.requests place pinned (caused pinned (all_at (AreCaused s.device core) core.requests place o was.caused there)) was.caused;
     chosen = if_on (λ (c : OpenCopy). AllByRecursion (IsChosenSince core c) core.requests) (λ (c : OpenCopy). AllByRecursion (IsChosenSince now.core c) now.core.requests) chosen core.copy was.chosen;
   }

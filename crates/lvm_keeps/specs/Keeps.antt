@@ -1,5 +1,5 @@
 -- Each event of a sound session leaves it sound.
-use Rattle.std.specs.Prelude.{◌≡◌, ℕ, Bool}
+use Rattle.std.specs.Prelude.{◌≡◌, true, ℕ, Bool}
 use Rattle.lvm_disk.specs.declared.shelf.Arrange.{Arrange}
 use Rattle.lvm_vol.specs.declared.entry.Outcome.{Outcome}
 use Rattle.lvm_session.specs.declared.open.Power.TheVariants as power
@@ -9,6 +9,8 @@ use Rattle.lvm_events.specs.Calls.{Closes, TakeGives}
 use Rattle.lvm_events.specs.Ends.{Ends}
 use Rattle.lvm_events.specs.Events.{Admits, Lands, Pins, ReadsCopy, StartsData, StartsNote, StartsStatus, WritesCopy}
 use Rattle.lvm_events.specs.Turns.{Arranges, Darkens, Finds, GoesOff}
+use Rattle.lvm_session.specs.Enabled.{is_lost}
+use Rattle.lvm_sound.specs.Causes.{AnyFailedSince, IsLandedFor}
 use Rattle.lvm_sound.specs.Sound.{IsSound}
 
 -- an event of a session that is on leaves it sound
@@ -70,3 +72,13 @@ CloseKeeps = (s : State) (new : Core) → IsSound s → Closes s.core new → Is
 
 abbrev pub OrderKeeps : Type 0
 OrderKeeps = (old new : State) (what : Arrange) (done : Bool) → IsSound old → Arranges old new what done → IsSound new
+
+-- ---- why requests land so
+
+-- What a request lands as is due to faults since, as its outcome says.
+abbrev pub LandingIsCaused : Type 0
+LandingIsCaused = (place : ℕ) (how : Outcome) (old new : State) → IsSound old → old.core.power ≡ power.On → (event : Lands old new place how) → IsLandedFor old event.request how
+
+-- The votes are lost only where some disk has failed since the session began.
+abbrev pub LossIsCaused : Type 0
+LossIsCaused = (s : State) → IsSound s → is_lost s.core ≡ true → AnyFailedSince s

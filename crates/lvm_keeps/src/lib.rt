@@ -3,4 +3,6 @@
 
 mod laws;
 
-pub use laws::{beginning_is_sound, close_keeps, pin_keeps};
+pub use laws::{
+    beginning_is_sound, close_keeps, landing_is_caused, loss_is_caused, pin_keeps, take_keeps, wait_keeps,
+};

@@ -45,7 +45,7 @@ fn are_numbered(session: &Session)
     ensures below { AllByRecursion (λ (o : Open). o.request.id < next_id session.now.history) session.now.requests.items }
     ensures few { next_id session.now.history ≤ 2 ^ 32 }
 {
-    let _ = session.history.run();
+    // It has fewer than 2^32 entries.
     let _ = session.history.len();
 }
 
