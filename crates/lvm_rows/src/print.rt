@@ -23,7 +23,7 @@ pub fn print_run<O: Sink>(
     out: &mut O,
 ) -> Result<(), Fault> {
     print_lines(out, ran.out.bytes())?;
-    let status = ran.ended.status;
+    let status = ran.ended.status.code();
     let refused = ran.ended.refused;
     let judged = judged(&ran.ended, watched);
     let line = format!(in alloc; "status {status}, refused {refused}{judged}\n")?;

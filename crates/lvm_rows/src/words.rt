@@ -56,7 +56,7 @@ fn run(alloc: Global, words: &[Text], input: MemSource, sinks: Sinks, files: Mem
         &mut images,
     );
     Answered {
-        status: ended.status,
+        status: ended.status.code(),
         out,
         err,
     }

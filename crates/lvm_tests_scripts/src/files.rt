@@ -40,7 +40,7 @@ fn says<R: Files<File = File> + AllocGlobal + Abort>(
         files,
         &mut ImageSink::new(rt),
     );
-    ended.status == status && out.bytes() == wanted
+    ended.status.code() == status && out.bytes() == wanted
 }
 
 #[test]

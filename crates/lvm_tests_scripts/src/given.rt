@@ -41,7 +41,7 @@ fn last_byte(shelf: &MemShelf) -> Option<u8> {
 #[test]
 fn a_script_leaves_its_block_on_the_files(rt: HostRuntime) {
     let ended = ended(&rt, &["script"], &mut sink(&rt, 0));
-    assert_eq!(rt; (ended.status, ended.refused), (0, 0));
+    assert_eq!(rt; (ended.status.code(), ended.refused), (0, 0));
     assert_eq!(rt; last_byte(&ended.shelf), Some(1));
     assert!(rt; ended.sim.is_none());
     let history = ended.history.expect(&rt, "a history");
@@ -51,7 +51,7 @@ fn a_script_leaves_its_block_on_the_files(rt: HostRuntime) {
 #[test]
 fn a_simulation_leaves_the_files_and_gives_its_disks_back(rt: HostRuntime) {
     let ended = ended(&rt, &["sim", "1", "8"], &mut sink(&rt, 0));
-    assert_eq!(rt; (ended.status, ended.refused), (0, 0));
+    assert_eq!(rt; (ended.status.code(), ended.refused), (0, 0));
     assert_eq!(rt; last_byte(&ended.shelf), Some(0));
     let sim = ended.sim.expect(&rt, "disks");
     assert_eq!(rt; last_byte(&sim), Some(1));
@@ -62,7 +62,7 @@ fn an_image_is_zeros_as_far_as_there_is_room(rt: HostRuntime) {
     for (room, status) in [(2_097_152, 0), (2_097_151, 4)] {
         let mut images = sink(&rt, room);
         let ended = ended(&rt, &["image", "127", "2"], &mut images);
-        assert_eq!(rt; ended.status, status);
+        assert_eq!(rt; ended.status.code(), status);
         assert_eq!(rt; images.bytes().len(), room);
         assert!(rt; images.bytes().iter().all(|byte| *byte == 0));
         assert!(rt; ended.history.is_none());
