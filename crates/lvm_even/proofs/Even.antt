@@ -22,9 +22,9 @@ use Rattle.lvm_kept.specs.Plans.{ChangesBy}
 use Rattle.lvm_commit.specs.LawsOfData.{IsFree, IsSectorOf}
 use Rattle.lvm_commit.specs.Settling.{IsOfStatus, IsOfCommit}
 use Rattle.lvm_core.specs.State.{State, is_there}
-use Rattle.lvm_group.specs.NewVolume.{without_volume}
-use Rattle.lvm_group.specs.Volumes.{IsWith, IsChosen}
-use Rattle.lvm_group.specs.Endings.{IsOfCommand, Leaves}
+use Rattle.lvm_volumes.specs.NewVolume.{without_volume}
+use Rattle.lvm_volumes.specs.Volumes.{IsWith, IsChosen}
+use Rattle.lvm_volumes.specs.Endings.{IsOfCommand, Leaves}
 use Rattle.lvm_rest.specs.Rest.{IsEven}
 use Rattle.lvm_rest.specs.Commands.{IsUsable}
 use Rattle.lvm_commit.proofs.Copies.{contains, of_map, of_rows}

@@ -16,10 +16,10 @@ use Rattle.lvm_core.specs.Held.{IsHeld}
 use Rattle.lvm_core.specs.Settled.{IsSettled as IsSettledCore}
 use Rattle.lvm_core.specs.Sound.{HaveAllLanded}
 use Rattle.lvm_core.specs.State.{Core, State as Session, state}
-use Rattle.lvm_group.specs.declared.fault.GroupFault.{GroupFault}
-use Rattle.lvm_group.specs.declared.fault.GroupFault.TheVariants as fault
-use Rattle.lvm_group.specs.Endings.{EntersVolumes, KeepsHistory, KeepsSpans, StillHeld}
-use Rattle.lvm_group.proofs.Entering.{shows_committed}
+use Rattle.lvm_volumes.specs.declared.fault.GroupFault.{GroupFault}
+use Rattle.lvm_volumes.specs.declared.fault.GroupFault.TheVariants as fault
+use Rattle.lvm_volumes.specs.Endings.{EntersVolumes, KeepsHistory, KeepsSpans, StillHeld}
+use Rattle.lvm_volumes.proofs.Entering.{shows_committed}
 use Rattle.lvm_line.specs.Moments.{GoesOn}
 use Rattle.lvm_line.specs.Replies.{IsStuck}
 use Rattle.lvm_line.specs.Stages.{shelf_in, history_in, session_in, state_in, Between}

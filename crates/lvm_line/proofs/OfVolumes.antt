@@ -7,9 +7,9 @@ use Rattle.lvm_quorum.specs.Written.{KeepsShelf}
 use Rattle.lvm_core.specs.Settled.{IsSettled as IsSettledCore}
 use Rattle.lvm_core.specs.Sound.{HaveAllLanded}
 use Rattle.lvm_core.specs.State.{Core, State as Session, state, is_there}
-use Rattle.lvm_group.specs.declared.fault.GroupFault.{GroupFault}
-use Rattle.lvm_group.specs.declared.fault.GroupFault.TheVariants as fault
-use Rattle.lvm_group.specs.Endings.{IfOn, StillHeld, FindsOnly, IsOfCommand, KeepsStatus}
+use Rattle.lvm_volumes.specs.declared.fault.GroupFault.{GroupFault}
+use Rattle.lvm_volumes.specs.declared.fault.GroupFault.TheVariants as fault
+use Rattle.lvm_volumes.specs.Endings.{IfOn, StillHeld, FindsOnly, IsOfCommand, KeepsStatus}
 use Rattle.lvm_line.specs.Disks.{patience_of_line}
 use Rattle.lvm_line.specs.Moments.{GoesOn}
 use Rattle.lvm_line.specs.Stages.{shelf_in, history_in, state_in, IsSettledStage, Between}

@@ -14,7 +14,7 @@ use crate::reply::{Refusal, Reply};
 use crate::stage::{Answered, Stage};
 use lvm_core::{Closed, Driver};
 use lvm_disk::Shelf;
-use lvm_group::{GroupFault, mklv, rmlv};
+use lvm_volumes::{GroupFault, mklv, rmlv};
 use lvm_transfer::{Patience, relight};
 use lvm_num::{Mode, Name, Policy};
 use std::alloc::Global;
