@@ -16,9 +16,9 @@ ghost use Rattle.lvm_begin.specs.Kept.{NewStaysKept, AgainStaysKept};
 ghost use Rattle.lvm_begin.specs.Runs.{IsAnswer, OneGives, ManyGives};
 
 use lvm_disk::Shelf;
-use lvm_transfer::Patience;
 use lvm_num::{DiskSet, Kind, Pbuf, Stamp};
 use lvm_quorum::{Homes, Wrote, empty_notes, write_record};
+use lvm_transfer::Patience;
 
 /// How the writes with which a group comes on ended.
 #[derive(Drop)]

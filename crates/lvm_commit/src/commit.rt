@@ -12,10 +12,10 @@ ghost use Rattle.lvm_commit.specs.Settling.{IfDone, IfWentOff, IfBack, OnDark, O
 
 use crate::write::{is_committed, write_descriptor, write_wanted};
 use lvm_disk::Shelf;
-use lvm_transfer::Patience;
 use lvm_num::{Descriptor, Pbuf};
 use lvm_quorum::Homes;
 use lvm_status::Updater;
+use lvm_transfer::Patience;
 
 /// How a commit ended.
 #[derive(Drop)]

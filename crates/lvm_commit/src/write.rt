@@ -18,10 +18,10 @@ ghost use Rattle.lvm_commit.specs.Rounds.{IsStarted, HasEnded, HasLost, HasMarke
 
 use crate::commit::Settled;
 use lvm_disk::Shelf;
-use lvm_transfer::Patience;
 use lvm_num::{Descriptor, DiskSet, Kind, Pbuf, Stamp};
 use lvm_quorum::{Homes, Wrote, write_record};
 use lvm_status::{Change, Updater};
+use lvm_transfer::Patience;
 use lvm_vgsa::encode_into;
 
 /// Writes what is wanted of the status to each member that isn't missing, under the next stamp. The members on which

@@ -23,8 +23,8 @@ use crate::session::Session;
 use crate::zero::write_zeros;
 use lvm_commit::{Settled, commit_descriptor, commit_status};
 use lvm_disk::Shelf;
-use lvm_transfer::{Moved, Patience};
 use lvm_num::{Pbuf, Pp};
+use lvm_transfer::{Moved, Patience};
 
 impl Session {
     // The first buffer, where all are in.

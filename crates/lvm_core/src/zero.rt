@@ -7,8 +7,8 @@ ghost use Rattle.lvm_quorum.specs.Parts.{DoesPart, IfDone};
 ghost use Rattle.lvm_core.specs.Zeros.{IsZeroOf, IsZeroed, AreZeroed, HasSectorsOf, IsClear};
 
 use lvm_disk::Shelf;
-use lvm_transfer::{Moved, Patience, transfer};
 use lvm_num::{Pbuf, Pp};
+use lvm_transfer::{Moved, Patience, transfer};
 
 // The sectors of a transfer, and how many transfers a MiB has.
 const PIECE: u32 = 256;

@@ -10,9 +10,9 @@ ghost use Rattle.lvm_group.specs.Steps.{LookGives};
 use crate::judge::judge;
 use lvm_core::Cause;
 use lvm_disk::Shelf;
-use lvm_transfer::Patience;
 use lvm_num::Pbuf;
 use lvm_quorum::{Homes, Surveyed, survey_disks};
+use lvm_transfer::Patience;
 use std::alloc::Global;
 
 // The number of the buffer in which records are read and written.

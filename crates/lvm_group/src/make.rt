@@ -24,9 +24,9 @@ use crate::write::write;
 use lvm_core::{Cause, Parts, Room};
 use lvm_disk::Shelf;
 use lvm_history::History;
-use lvm_transfer::Patience;
 use lvm_num::{Memory, Name};
 use lvm_quorum::Homes;
+use lvm_transfer::Patience;
 use lvm_vol::{Entry, Vol};
 use std::alloc::Global;
 

@@ -20,8 +20,8 @@ use crate::make::{Asked, make};
 use lvm_core::{Driver, Refused, Room};
 use lvm_disk::Shelf;
 use lvm_history::History;
-use lvm_transfer::Patience;
 use lvm_num::{Name, Stamp};
+use lvm_transfer::Patience;
 use std::alloc::Global;
 
 /// Makes a group of the disks named, in their order, and varies it on at the moment, which is its id too. Without a size

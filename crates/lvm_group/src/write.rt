@@ -14,9 +14,9 @@ use crate::plan::Plan;
 use lvm_begin::{Begun, begin_new};
 use lvm_core::Cause;
 use lvm_disk::Shelf;
-use lvm_transfer::Patience;
 use lvm_num::Pbuf;
 use lvm_quorum::Homes;
+use lvm_transfer::Patience;
 
 /// Writes the records of a new group to its disks.
 pub fn write<S: Shelf>(

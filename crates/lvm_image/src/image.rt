@@ -106,7 +106,9 @@ impl<F: Read + Write + Seek + OpenFile + Exclusive + Drop> Image<F> {
     }
 
     /// The image of a disk without a file. It has no sectors.
-    pub fn absent() -> Image<F> {
+    pub fn absent() -> Image<F>
+        ensures { result ≡ 0 }
+    {
         Image {
             file: None,
             sectors: 0,

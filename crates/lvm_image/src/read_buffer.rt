@@ -1,5 +1,6 @@
 //! Room for what a transfer reads.
-ghost use Rattle.std.specs.Prelude.{◌<◌, ◌≤◌, length};
+ghost use Rattle.std.specs.Prelude.{◌≡◌, ◌<◌, ◌≤◌, ◌*◌, length, replicate, [], IfOk, slice_index_or};
+ghost use Rattle.std.specs.Simd.{first_chunks};
 
 use lvm_num::Memory;
 use std::alloc::Global;
@@ -10,18 +11,18 @@ use std::marker::Model;
 // The bytes of 256 sectors.
 const BYTES: usize = 131_072;
 
-/// Room for the 256 sectors that a transfer has at most. Contracts see nothing of it.
+/// Room for the 256 sectors that a transfer has at most. Contracts see its bytes.
 #[derive(Drop)]
 pub struct ReadBuffer {
     bytes: Vec<u8>,
 }
 
 impl Model for ReadBuffer {
-    ghost use Rattle.std.specs.Prelude.{◌≡◌, length};
+    ghost use Rattle.std.specs.Prelude.{◌≡◌, ℕ, List, length};
 
-    ghost Value = { Unit {0} };
+    ghost Value = { List ℕ };
 
-    ghost view = { λ _. tt };
+    ghost view = { λ b. b.bytes.items };
 
     ghost invariant = { λ b. length b.bytes.items ≡ 131072 };
 }
@@ -35,7 +36,9 @@ fn read_bytes<F: Read>(bytes: &mut [u8], file: &mut F, count: usize) -> io::Resu
 
 impl ReadBuffer {
     /// Room full of zeros.
-    pub fn new(alloc: Global) -> Result<ReadBuffer, Memory> {
+    pub fn new(alloc: Global) -> Result<ReadBuffer, Memory>
+        ensures { IfOk result (λ room. room ≡ replicate 131072 0) }
+    {
         match vec![in alloc; 0; BYTES] {
             Ok(bytes) => Ok(ReadBuffer { bytes }),
             Err(_) => Err(Memory),
@@ -43,15 +46,16 @@ impl ReadBuffer {
     }
 
     /// Reads the next `count` sectors of a file to its front.
-    pub fn read_front<F: Read>(&mut self, file: &mut F, count: u32) -> io::Result<()>
+    pub(crate) fn read_front<F: Read>(&mut self, file: &mut F, count: u32) -> io::Result<()>
         requires { count ≤ 256 }
     {
         read_bytes(&mut self.bytes, file, 512 * count as usize)
     }
 
     /// Its sector `k`, from 0.
-    pub fn sector(&self, k: u32) -> &[u8; 512]
+    pub(crate) fn sector(&self, k: u32) -> &[u8; 512]
         requires { k < 256 }
+        ensures { result.now ≡ slice_index_or (first_chunks 512 256 self.now) k [] }
     {
         &self.bytes.as_chunks::<512>().0[k as usize]
     }

@@ -9,10 +9,10 @@ ghost use Rattle.lvm_line.specs.State.{without_facts};
 use crate::reply::{Refusal, Reply};
 use crate::stage::{Answered, Stage};
 use lvm_disk::Shelf;
-use lvm_transfer::Patience;
 use lvm_num::{Memory, Rows, Text};
 use lvm_raw::{RawFault, read_disk, write_disk};
 use lvm_replies::show_block;
+use lvm_transfer::Patience;
 use std::alloc::Global;
 
 // A fault of a range, as the refusal of its line.

@@ -15,8 +15,8 @@ use lvm_core::{Cause, Closed, Driver, Refused, Room};
 use lvm_disk::Shelf;
 use lvm_group::mkvg;
 use lvm_io::Clock;
-use lvm_transfer::{Patience, relight};
 use lvm_num::Name;
+use lvm_transfer::{Patience, relight};
 use lvm_varyon::varyon;
 use std::alloc::Global;
 

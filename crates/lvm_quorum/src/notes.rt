@@ -11,9 +11,9 @@ ghost use Rattle.lvm_quorum.specs.Written.{HasRoom, HaveRoom, IsWriting, KeepsSh
 
 use crate::write::Wrote;
 use lvm_disk::Shelf;
-use lvm_transfer::{Moved, Patience, transfer};
 use lvm_num::{DiskSet, Pbuf};
 use lvm_rec::write_note;
+use lvm_transfer::{Moved, Patience, transfer};
 
 // The sector of a disk's consistency record.
 const NOTE: u64 = 8;

@@ -12,9 +12,9 @@ ghost use Rattle.lvm_quorum.specs.Parts.{write_to, PartsStand, IfDone, WritesPar
 
 use crate::homes::Homes;
 use lvm_disk::Shelf;
-use lvm_transfer::{Moved, Patience, transfer};
 use lvm_num::{DiskSet, Kind, Pbuf, Stamp};
 use lvm_rec::{frame, slot_sectors};
+use lvm_transfer::{Moved, Patience, transfer};
 
 const PIECE: u32 = 256;
 

@@ -16,8 +16,8 @@ use crate::look::look;
 use crate::pieces::{read_pieces, write_pieces};
 use lvm_disk::Shelf;
 use lvm_history::History;
-use lvm_transfer::Patience;
 use lvm_num::Rows;
+use lvm_transfer::Patience;
 use std::alloc::Global;
 
 // The bytes of a whole buffer.

@@ -8,9 +8,9 @@ ghost use Rattle.lvm_raw.specs.Looking.{FindsNone, LookFails, look_ends};
 use crate::fault::RawFault;
 use lvm_disk::Shelf;
 use lvm_history::History;
-use lvm_transfer::{Patience, relight};
 use lvm_num::Pbuf;
 use lvm_survey::{Stop, Unread, read_descriptor};
+use lvm_transfer::{Patience, relight};
 use std::alloc::Global;
 
 /// Reads the descriptor slots of a disk that has them, and answers a buffer where the disk is in no group. After a

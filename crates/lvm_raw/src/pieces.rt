@@ -13,8 +13,8 @@ use crate::fault::RawFault;
 use crate::request::{read_piece, write_piece};
 use lvm_disk::Shelf;
 use lvm_history::History;
-use lvm_transfer::{Moved, Patience};
 use lvm_num::{Pbuf, Rows};
+use lvm_transfer::{Moved, Patience};
 
 // Notes the first failure, and hands the buffer of a transfer back that the disk answered.
 fn settle(how: Moved, failed: RawFault, fault: &mut Option<RawFault>) -> Result<Pbuf, RawFault>

@@ -18,8 +18,8 @@ ghost use Rattle.lvm_raw.specs.Requests.{landing_ends, cut_ends, write_ends, rea
 use crate::blocks::{copy_front, fill_front};
 use lvm_disk::Shelf;
 use lvm_history::History;
-use lvm_transfer::{Moved, Patience, relight, transfer};
 use lvm_num::Pbuf;
+use lvm_transfer::{Moved, Patience, relight, transfer};
 use lvm_vol::{Outcome, Vol};
 
 // The client whose requests these are.

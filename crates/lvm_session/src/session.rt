@@ -4,13 +4,13 @@ use crate::bringing::OpenCopy;
 use crate::flown::Flown;
 use crate::open::{Open, Power};
 use crate::origin::Origin;
+use lvm_history::History;
 use lvm_hold::Queue;
 use lvm_mwc::Cache;
 use lvm_num::Descriptor;
 use lvm_pbuf::Pool;
 use lvm_quorum::Homes;
 use lvm_status::Updater;
-use lvm_history::History;
 
 /// What a driver has beside its shelf.
 #[derive(Drop)]

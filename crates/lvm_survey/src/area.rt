@@ -13,8 +13,8 @@ ghost use Rattle.lvm_survey.specs.Surveying.{stamped_if, OnlyReads, IsHome, IsUn
 
 use crate::found::{Found, Latest, descriptor_in, newest};
 use lvm_disk::Shelf;
-use lvm_transfer::{Moved, Patience, transfer};
 use lvm_num::{Descriptor, Memory, Pbuf};
+use lvm_transfer::{Moved, Patience, transfer};
 use std::alloc::{AllocError, Global};
 
 const SECTOR: usize = 512;

@@ -19,9 +19,9 @@ use crate::area::{RecordArea, Slots, Stop, Unread, read_area, read_descriptors};
 use crate::found::{Latest, newest, status_in};
 use crate::row::{Survey, SurveyRow};
 use lvm_disk::Shelf;
-use lvm_transfer::Patience;
 use lvm_num::{Descriptor, Memory, Pbuf, Rows, Stamp, Status};
 use lvm_rec::read_note;
+use lvm_transfer::Patience;
 use std::alloc::Global;
 
 // Where the data of a disk begins. The records stand below.

@@ -11,12 +11,12 @@ use lvm_commit::{Settled, commit_descriptor, commit_status};
 use lvm_disk::Shelf;
 use lvm_faults::{Act, Planned};
 use lvm_memory::MemShelf;
-use lvm_transfer::{Patience, relight};
 use lvm_num::{Descriptor, Pbuf, Pp, Rows, Stamp};
 use lvm_quorum::Homes;
 use lvm_stale::StaleTable;
 use lvm_status::{Change, Updater};
 use lvm_survey::Survey;
+use lvm_transfer::{Patience, relight};
 use std::process::Abort;
 
 const ID: u64 = 50;

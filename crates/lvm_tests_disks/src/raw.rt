@@ -6,9 +6,9 @@ use lvm_disk::Shelf;
 use lvm_faults::{Act, Planned};
 use lvm_history::History;
 use lvm_memory::MemShelf;
-use lvm_transfer::{Patience, relight};
 use lvm_num::{Rows, fill};
 use lvm_raw::{RawFault, read_disk, write_disk};
+use lvm_transfer::{Patience, relight};
 use lvm_vol::{Entry, Outcome};
 use std::process::Abort;
 

@@ -11,13 +11,13 @@ use lvm_begin::{Begun, begin_again, begin_new};
 use lvm_disk::Shelf;
 use lvm_faults::{Planned, names_disks};
 use lvm_memory::MemShelf;
-use lvm_transfer::{Patience, relight};
 use lvm_num::{
     Descriptor, DiskSet, LvRow, Mode, Name, Pbuf, Policy, Pp, PvRow, Rows, Stamp, Status,
     StatusRow, VolumeNumbers,
 };
 use lvm_quorum::Homes;
 use lvm_survey::{Survey, SurveyRow, Surveyed, survey_disks};
+use lvm_transfer::{Patience, relight};
 use std::process::Abort;
 
 pub fn stamp(epoch: u64, seq: u32) -> Stamp {

@@ -5,8 +5,8 @@ use lvm_disk::{Arrange, Shelf};
 use lvm_faults::{Act, Planned};
 use lvm_history::History;
 use lvm_memory::MemShelf;
-use lvm_transfer::{Patience, relight};
 use lvm_num::Pp;
+use lvm_transfer::{Patience, relight};
 use lvm_varyon::varyon;
 use std::process::Abort;
 

@@ -3,10 +3,10 @@ use crate::fixtures::{DATA, FIRST, LATER, NAMESAKE, NONE, group, image_shelf, st
 use lvm_disk::Shelf;
 use lvm_faults::{Act, Planned};
 use lvm_memory::MemShelf;
-use lvm_transfer::{Patience, relight};
 use lvm_num::{Kind, Pbuf, Rows, Stamp};
 use lvm_rec::{frame, slot_sectors, write_note};
 use lvm_survey::{Survey, SurveyRow, Surveyed, survey_disks};
+use lvm_transfer::{Patience, relight};
 use std::process::Abort;
 
 const SECTOR: usize = 512;

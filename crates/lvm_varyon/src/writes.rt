@@ -16,9 +16,9 @@ ghost use Rattle.lvm_varyon.specs.Parts.{ReadGives, WriteGives};
 use lvm_begin::{Begun, begin_again};
 use lvm_core::Cause;
 use lvm_disk::Shelf;
-use lvm_transfer::Patience;
 use lvm_num::{DiskSet, Pbuf};
 use lvm_quorum::{Homes, Survey, Surveyed, survey_disks};
+use lvm_transfer::Patience;
 use std::alloc::Global;
 
 /// Reads the records of all disks. The buffer that it read with comes back for the writes.

@@ -21,9 +21,9 @@ use crate::fault::GroupFault;
 use crate::new_volume::{NewVolume, VolumePlan, prepare_without};
 use lvm_core::{CommitFault, Driver, Prepared};
 use lvm_disk::Shelf;
-use lvm_transfer::Patience;
 use lvm_num::{Mode, Name, Policy, Pp};
 use lvm_stale::StaleTable;
+use lvm_transfer::Patience;
 use lvm_vol::{Entry, Vol};
 use std::alloc::Global;
 
