@@ -12,7 +12,7 @@ use Rattle.lvm_core.specs.Looking.{IsNumberOf}
 use Rattle.lvm_core.specs.State.{Core, State as Session, state}
 use Rattle.lvm_volumes.specs.declared.fault.GroupFault.{GroupFault}
 use Rattle.lvm_volumes.specs.declared.fault.GroupFault.TheVariants as fault
-use Rattle.lvm_volumes.specs.Endings.{MayBeFound}
+use Rattle.lvm_core.specs.Leaves.{MayBeFound}
 use Rattle.lvm_volumes.specs.NewVolume.{without_volume}
 use Rattle.lvm_volumes.specs.Volumes.{IsWith, IsChosen, MklvGives, RmlvGives}
 use Rattle.lvm_line.specs.Disks.{patience_of_line}

@@ -1,5 +1,5 @@
 -- What the making and the removal of a volume answer.
-use Rattle.std.proofs.Common.{◌≡◌, inl, inr, ⊎_elim, ℕ, Result, Ok, Err, refl, ◌∙◌}
+use Rattle.std.proofs.Common.{◌≡◌, inl, inr, ⊎_elim, ℕ, Result, Ok, Err, refl, ◌∙◌, arith}
 use Rattle.std.specs.Prelude.{Contains}
 use Rattle.lvm_num.specs.declared.place.Pp.{Pp}
 use Rattle.lvm_num.specs.declared.descriptor.Descriptor.{Descriptor}
@@ -8,18 +8,19 @@ use Rattle.lvm_vol.specs.Facts.{Making, Made, Removed}
 use Rattle.lvm_vol.specs.Log.{Log, with_fact}
 use Rattle.lvm_core.specs.declared.fault.CommitFault.{CommitFault}
 use Rattle.lvm_core.specs.declared.fault.CommitFault.TheVariants as commit
-use Rattle.lvm_core.specs.State.{State, is_there}
+use Rattle.lvm_core.specs.State.{State}
 use Rattle.lvm_core.specs.Settled.{IsSettled}
 use Rattle.lvm_volumes.specs.declared.fault.GroupFault.{GroupFault}
 use Rattle.lvm_volumes.specs.declared.fault.GroupFault.TheVariants as fault
 use Rattle.lvm_volumes.specs.declared.new_volume.NewVolume.{NewVolume}
 use Rattle.lvm_volumes.specs.declared.new_volume.VolumePlan.{VolumePlan}
 use Rattle.lvm_volumes.specs.NewVolume.{without_volume}
-use Rattle.lvm_volumes.specs.Endings.{fault_of, IfOn, Leaves, FindsOnly}
+use Rattle.lvm_core.specs.Leaves.{NoPartition, Leaves}
+use Rattle.lvm_volumes.specs.Endings.{fault_of, IfOn, commanding}
 use Rattle.lvm_volumes.specs.PlannedVolume.{IsPlannedVolume, IsWithout}
-use Rattle.lvm_volumes.specs.Stages.{IfOn as IfStays, making_of, BreaksOff, MakeEnds, IsNamed, RemoveEnds, IsUnnamed}
-use Rattle.lvm_volumes.specs.Volumes.{RefusesMklv, RefusesRmlv, IsWith, IsChosen, making, HasEntered, MakingEnds, IsVolumeMade, MklvGives, IsVolumeRemoved, RmlvGives}
-use Rattle.lvm_volumes.proofs.Leaving.{wider}
+use Rattle.lvm_volumes.specs.Stages.{IfGoesOn, making_of, BreaksOff, MakeEnds, IsNamed, RemoveEnds, IsUnnamed}
+use Rattle.lvm_volumes.specs.Volumes.{RefusesMklv, RefusesRmlv, IsWith, IsChosen, making, HasEntered, MakingEnds, IsVolumeMade, MklvGives, to_make, IsVolumeRemoved, RmlvGives, to_remove}
+use Rattle.lvm_volumes.proofs.Leaving.{leaves_wider}
 
 -- ---- refusals
 
@@ -69,45 +70,23 @@ always_on (Err fault.HistoryFull) P holds = holds
 always_on (Err (fault.DiskFailed disk)) P holds = holds
 always_on (Err fault.Memory) P holds = holds
 
-pub on_fault : (A : Type 0) (why : CommitFault) (P : Type 0) → IfStays (Err why) P → IfOn {A = A} (Err (fault_of why)) P
+pub on_fault : (A : Type 0) (why : CommitFault) (P : Type 0) → IfGoesOn (Err why) P → IfOn {A = A} (Err (fault_of why)) P
 on_fault A commit.Dark P holds = tt
 on_fault A (commit.WentOff have total) P holds = tt
 on_fault A (commit.DiskFailed disk) P holds = holds
 on_fault A commit.Stuck P holds = tt
 
--- ---- wider
-
-module _ (N M : Descriptor → Type 0) (Z Y : Pp → Type 0) (names : (d : Descriptor) → N d → M d) (zeros : (pp : Pp) → Z pp → Y pp) (a b : State) where
-  pub leaves_wider : Leaves N Z a b → Leaves M Y a b
-  leaves_wider leaves = record {
-    writes = wider (is_there a.core) (is_there a.core) _ _ a.device b.device (λ d is. is)
-        (λ d s value is. ⊎_elim (λ x. inl x) (⊎_elim (λ y. inr (inl (y.0, names y.0 y.1, y.2))) (λ z. inr (inr (z.0, zeros z.0 z.1, z.2)))) is) leaves.writes;
-    status = record {
-      group = leaves.status.group;
-      rows = leaves.status.rows;
-      stale = λ pp out. leaves.status.stale pp (λ z. out (zeros pp z));
-      further = leaves.status.further;
-      dirty = leaves.status.dirty;
-      stays = leaves.status.stays;
-      lost = leaves.status.lost;
-    };
-    stamps = leaves.stamps;
-    history = leaves.history;
-    calm = leaves.calm;
-    behind = leaves.behind;
-  }
-
-  pub finds_wider : FindsOnly N a b → FindsOnly M a b
-  finds_wider finds held id k is = ⊎_elim (λ was. inl was) (λ new. inr (new.0, names k new.1)) (finds held id k is)
-
 -- ---- the making
 
 module _ (v : NewVolume) (plan : VolumePlan) (a : State) (planned : IsPlannedVolume v a.core plan) where
-  pub its_next : (d : Descriptor) → d ≡ plan.next → IsWith v a.core d
+  its_next : (d : Descriptor) → d ≡ plan.next → IsWith v a.core d
   its_next d is = (plan.map, planned.may.places, (plan.number, planned.lowest, is ∙ planned.next))
 
-  pub its_places : (pp : Pp) → Contains plan.map pp → IsChosen v a.core pp
+  its_places : (pp : Pp) → Contains plan.map pp → IsChosen v a.core pp
   its_places pp inside = (plan.map, planned.may.places, inside)
+
+  pub made_leaves : (p q : ℕ) (b : State) → Leaves (commanding (λ d. d ≡ plan.next) (Contains plan.map) 2) p q a b → Leaves (to_make v a.core) p q a b
+  made_leaves p q b = leaves_wider (commanding (λ d. d ≡ plan.next) (Contains plan.map) 2) (to_make v a.core) its_next its_places (λ pp none. none) its_places (omega arith) p q a b (λ held run first only. only)
 
   same_making : making_of plan a ≡ making v plan.number a
   same_making = λ t. with_fact a.core.history (Making plan.number (planned.blocks t) (planned.mode t))
@@ -127,7 +106,7 @@ module _ (v : NewVolume) (plan : VolumePlan) (a : State) (planned : IsPlannedVol
   make_fails p b (commit.DiskFailed disk) ends = record { map = plan.map; may = planned.may; its = ends.its; lowest = ends.lowest; ends = ends.ends }
   make_fails p b commit.Stuck ends = broke b _ ends
 
-  pub make_settled : (p : ℕ) (b : State) (why : CommitFault) → MakeEnds plan p a b (Err why) → IfStays (Err why) (IsSettled b.core)
+  pub make_settled : (p : ℕ) (b : State) (why : CommitFault) → MakeEnds plan p a b (Err why) → IfGoesOn (Err why) (IsSettled b.core)
   make_settled p b commit.Dark ends = tt
   make_settled p b (commit.WentOff have total) ends = tt
   make_settled p b (commit.DiskFailed disk) ends = ends.settled
@@ -148,8 +127,11 @@ module _ (v : NewVolume) (plan : VolumePlan) (a : State) (planned : IsPlannedVol
 -- ---- the removal
 
 module _ (lv : ℕ) (next : Descriptor) (a : State) (without : IsWithout lv a.core next) where
-  pub its_rest : (d : Descriptor) → d ≡ next → d ≡ without_volume a.core.descriptor lv
+  its_rest : (d : Descriptor) → d ≡ next → d ≡ without_volume a.core.descriptor lv
   its_rest d is = is ∙ without.is
+
+  pub removed_leaves : (p q : ℕ) (b : State) → Leaves (commanding (λ d. d ≡ next) NoPartition 1) p q a b → Leaves (to_remove lv a.core) p q a b
+  removed_leaves p q b = leaves_wider (commanding (λ d. d ≡ next) NoPartition 1) (to_remove lv a.core) its_rest (λ pp none. none) (λ pp none. none) (λ pp none. none) (omega arith) p q a b (λ held run first only. only)
 
   pub remove_fails : (p : ℕ) (b : State) (why : CommitFault) → RemoveEnds lv next p a b (Err why) → RmlvGives lv p a b (Err (fault_of why))
   remove_fails p b commit.Dark ends = inr (record { may = without.may; ends = ends })
@@ -157,7 +139,7 @@ module _ (lv : ℕ) (next : Descriptor) (a : State) (without : IsWithout lv a.co
   remove_fails p b (commit.DiskFailed disk) ends = ends
   remove_fails p b commit.Stuck ends = record { may = without.may; ends = ends }
 
-  pub remove_settled : (p : ℕ) (b : State) (why : CommitFault) → RemoveEnds lv next p a b (Err why) → IfStays (Err why) (IsSettled b.core)
+  pub remove_settled : (p : ℕ) (b : State) (why : CommitFault) → RemoveEnds lv next p a b (Err why) → IfGoesOn (Err why) (IsSettled b.core)
   remove_settled p b commit.Dark ends = tt
   remove_settled p b (commit.WentOff have total) ends = tt
   remove_settled p b (commit.DiskFailed disk) ends = absurd ends

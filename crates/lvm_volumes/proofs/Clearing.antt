@@ -1,72 +1,38 @@
 -- Partitions become fresh, and then zeros.
-use Rattle.std.proofs.Common.{◌≡◌, inl, inr, ⊎_elim, ℕ, suc, ◌-◌, ◌≤◌, Bool, true, false, ◌&&◌, ◌||◌, List, [], ◌∷◌, Result, Ok, Err, get_or, refl, sym, ap, subst, ◌∙◌, arith}
+use Rattle.std.proofs.Common.{◌≡◌, ⊎_elim, ℕ, suc, Bool, true, false, ◌&&◌, ◌||◌, List, [], ◌∷◌, Result, Ok, Err, get_or, refl, sym, ap, subst, ◌∙◌, arith}
 use Rattle.std.specs.Prelude.{◌==◌, not, IsTrue, IsFalse, All, Contains}
-use Rattle.std.specs.List.{list_any}
 use Rattle.std.proofs.lemmas.Bool.{eqb-true, false≢true}
 use Rattle.std.proofs.lemmas.List.Folds.{list_any_at}
 use Rattle.lvm_num.specs.declared.place.Pp.{Pp}
 use Rattle.lvm_num.specs.declared.descriptor.Descriptor.{Descriptor}
 use Rattle.lvm_num.specs.declared.status.Status.{Status}
-use Rattle.lvm_num.specs.Descriptor.{is_member}
+use Rattle.lvm_num.specs.Descriptor.{IsPartitionOf, is_member}
 use Rattle.lvm_num.specs.Status.{calls_stale, calls_missing}
-use Rattle.lvm_disk.specs.Counts.{RoseBy, NoneFalls}
-use Rattle.lvm_vol.specs.Log.{Log, cut_log}
-use Rattle.lvm_kept.specs.Moments.{Moment, StaysCalm}
-use Rattle.lvm_steps.proofs.Booleans.{split, either}
-use Rattle.lvm_stale.specs.Table.{is_pp}
-use Rattle.lvm_quorum.specs.Written.{KeepsShelf}
-use Rattle.lvm_commit.specs.LawsOfFinding.{FindsNothingNewOn}
-use Rattle.lvm_commit.specs.LawsOfVolumes.{IsOnlyGroupOn}
-use Rattle.lvm_commit.specs.Settling.{NoneIsLeft, SpendsNumbers, IsOfStatus}
-use Rattle.lvm_core.specs.declared.fault.CommitFault.{CommitFault}
-use Rattle.lvm_core.specs.declared.fault.CommitFault.TheVariants as commit
-use Rattle.lvm_core.specs.State.{Core, State, is_there}
-use Rattle.lvm_core.specs.Held.{IsHeld}
-use Rattle.lvm_core.specs.Settled.{IsSettled}
-use Rattle.lvm_core.specs.Committing.{is_among, moment_of, SpanGoesOn, StaysBehind, Restates, HasCommitted, CommitEnds}
-use Rattle.lvm_volumes.specs.Endings.{IsOfCommand, KeepsHistory, FindsOnly, StillHeld}
+use Rattle.lvm_disk.specs.Counts.{Rose}
+use Rattle.lvm_vol.specs.Log.{cut_log}
 use Rattle.lvm_map.specs.FirstFit.{is_on}
+use Rattle.lvm_steps.proofs.Booleans.{either}
+use Rattle.lvm_stale.specs.Table.{is_pp}
 use Rattle.lvm_status.specs.Update.{members_there}
 use Rattle.lvm_quorum.proofs.Transfers.{darkened_then, given_up_then}
 use Rattle.lvm_commit.specs.LawsOfData.{IsFree}
-use Rattle.lvm_num.specs.Descriptor.{IsPartitionOf}
-use Rattle.lvm_disk.specs.Counts.{Rose}
+use Rattle.lvm_commit.specs.Settling.{NoneIsLeft}
+use Rattle.lvm_core.specs.declared.fault.CommitFault.{CommitFault}
+use Rattle.lvm_core.specs.declared.fault.CommitFault.TheVariants as commit
+use Rattle.lvm_core.specs.State.{Core, State, is_there}
+use Rattle.lvm_core.specs.Settled.{IsSettled}
+use Rattle.lvm_core.specs.Committing.{is_among, Restates, HasStated, StatusEnds}
+use Rattle.lvm_core.specs.Leaves.{NoDescriptor, Leaves, marking}
+use Rattle.lvm_volumes.specs.Endings.{StillHeld, commanding}
 use Rattle.lvm_volumes.specs.PlannedVolume.{IsOneGroup}
-use Rattle.lvm_volumes.specs.Stages.{Goes, IfOn, AreUnusedOn, IsLowestMissing, FailsOn, ZerosEnd, ClearEnds}
+use Rattle.lvm_volumes.specs.Stages.{IfGoesOn, AreUnusedOn, IsLowestMissing, FailsOn, ZerosEnd, ClearEnds}
 use Rattle.lvm_volumes.specs.Volumes.{AreZeroed}
-use Rattle.lvm_volumes.proofs.Leaving.{wider}
+use Rattle.lvm_volumes.proofs.Holding.{still_by, still_then}
+use Rattle.lvm_volumes.proofs.Leaving.{leaves_wider, leaves_then}
 use Rattle.lvm_volumes.proofs.Left.{itself, is_used}
-use Rattle.lvm_volumes.proofs.Notes.{status_spares, still_missing, notes_stay}
-use Rattle.lvm_volumes.proofs.Going.{keeps_same, keeps_cut, finds_nothing, only_still, goes_then, still_then}
-use Rattle.lvm_volumes.proofs.Zeroing.{NoNext, dark_history}
+use Rattle.lvm_volumes.proofs.Zeroing.{dark_history}
 
 -- ---- marks
-
-same_pp : (p q : Pp) → is_pp p q ≡ true → q ≡ p
-same_pp p q is = let two = split (p.disk == q.disk) (p.pp == q.pp) is in λ t. record { disk = sym (eqb-true p.disk q.disk two.0) t; pp = sym (eqb-true p.pp q.pp two.1) t }
-
-among_contains : (xs : List Pp) (p : Pp) → is_among xs p ≡ true → Contains xs p
-among_contains [] p is = absurd cc
-among_contains (x ∷ xs) p is = by_test (is_pp p x) refl (among_contains xs p) is
-  where
-    by_test : (t : Bool) → is_pp p x ≡ t → (is_among xs p ≡ true → Contains xs p) → t || is_among xs p ≡ true → Contains (x ∷ xs) p
-    by_test true here rest is = (0, omega arith, same_pp p x here)
-    by_test false here rest is = let at = rest is in (suc at.0, omega (arith, at.1), at.2)
-
-not_among : (xs : List Pp) (p : Pp) → (Contains xs p → ⊥) → is_among xs p ≡ false
-not_among xs p out = by_test (is_among xs p) refl
-  where
-    by_test : (t : Bool) → is_among xs p ≡ t → t ≡ false
-    by_test true is = absurd (out (among_contains xs p is))
-    by_test false is = refl
-
-kept : (a b : Bool) → b ≡ false → (a || false) && not b ≡ a
-kept true b is = ap not is
-kept false b is = refl
-
-was : (a b : Bool) → IsTrue ((a || false) && not b) → IsTrue a
-was true b is = refl
-was false b is = is
 
 -- what is to be fresh isn't stale,
 not_marked : (a b : Bool) → b ≡ true → IsTrue ((a || false) && not b) → ⊥
@@ -85,61 +51,19 @@ fresh_of map a b free marks k e lt = ⊎_elim
 
 -- ---- the status with fresh marks
 
-module _ (map : List Pp) (p q : ℕ) (a b : State) (answer : Result (Unit {0}) CommitFault) (settled : IsSettled a.core) (ends : CommitEnds a.core.descriptor p a b answer)
-    (finds : IsHeld a.device a.core → FindsNothingNewOn a.device b.device) (marks : Restates [] map a b) (numbers : SpendsNumbers 1 a.core.status b.core.status)
-    (writes : KeepsShelf (is_there a.core) (IsOfStatus a.core.status b.core.status) a.device b.device) where
-  fresh_history : KeepsHistory a.core.history b.core.history
-  fresh_history = by_answer answer ends
-    where
-      by_answer : (r : Result (Unit {0}) CommitFault) → CommitEnds a.core.descriptor p a b r → KeepsHistory a.core.history b.core.history
-      by_answer (Ok done) ends = keeps_same a.core.history b.core.history (ap (λ (c : Core). c.history) ends.is)
-      by_answer (Err (commit.WentOff have total)) ends = keeps_same a.core.history b.core.history (ap (λ (c : Core). c.history) ends.is)
-      by_answer (Err commit.Dark) ends = subst (λ (l : Log). KeepsHistory a.core.history l) (sym (dark_history a b settled ends)) (keeps_cut a.core.history)
-      by_answer (Err commit.Stuck) ends = keeps_same a.core.history b.core.history (ap (λ (c : Core). c.history) ends.is)
-      by_answer (Err (commit.DiskFailed disk)) ends = absurd ends
+module _ (map : List Pp) (p q : ℕ) (a b : State) (settled : IsSettled a.core) (leaves : Leaves (marking [] map) p q a b) where
+  pub fresh_among : Leaves (commanding NoDescriptor (Contains map) 1) p q a b
+  fresh_among = leaves_wider (marking [] map) (commanding NoDescriptor (Contains map) 1) (λ d none. none) (λ pp none. absurd none) (λ pp none. absurd (omega (arith, none.1))) (λ pp its. its) (omega arith) p q a b
+      (λ held run first only. tt) leaves
 
-  fresh_finds : FindsOnly NoNext a b
-  fresh_finds held id k is = finds_nothing NoNext a b _ writes.media (finds held) held id k is
-
-  pub fresh_goes : (IsHeld a.device a.core → (run : ℕ) (first : Moment) → SpanGoesOn run first a b) → NoneFalls a.device.counts b.device.counts → StaysCalm (moment_of a) (moment_of b) → StaysBehind a b
-      → q ≤ p → RoseBy (p - q) a.device.counts.waits b.device.counts.waits → Goes NoNext (Contains map) p q a b
-  fresh_goes keeps falls calm behind fewer waited = record {
-    leaves = record {
-      writes = wider (is_there a.core) (is_there a.core) (IsOfStatus a.core.status b.core.status) (IsOfCommand NoNext (Contains map) a b) a.device b.device (λ d is. is) (λ d s value is. inl is) writes;
-      status = record {
-        group = marks.group;
-        rows = marks.rows;
-        stale = λ pp out is. marks.kept pp (kept (calls_stale a.core.status.wanted pp) (is_among map pp) (not_among map pp out) ∙ is);
-        further = λ pp is. ⊎_elim (λ marked. inl (was (calls_stale a.core.status.wanted pp) (is_among map pp) marked)) (λ passed. inr passed.absent) (marks.only pp is);
-        dirty = marks.dirty;
-        stays = marks.stays;
-        lost = marks.lost;
-      };
-      stamps = record { epoch = numbers.epoch; rises = numbers.rises };
-      history = fresh_history;
-      calm = calm;
-      behind = behind;
-    };
-    spends = record { falls = fewer; waits = waited };
-    spans = λ held run first only. keeps held run first;
-    finds = fresh_finds;
-    falls = falls;
-  }
-
-  pub fresh_still : (IsHeld a.device a.core → IsHeld b.device b.core) → HasCommitted a.core.descriptor a b → StillHeld a b
-  fresh_still held done = record {
-    held = held;
-    notes = notes_stay (is_there a.core) (IsOfStatus a.core.status b.core.status) (status_spares a.core.status b.core.status) a b writes
-        (still_missing a b (λ d. ap (λ (g : Descriptor). is_member g d) same) marks.stays) (ap (λ (c : Core). c.cache) done.is);
-    only = λ h only. subst (λ (d : Descriptor). IsOnlyGroupOn b.device d.id) (sym same) (only_still NoNext a b a.core.descriptor.id (λ k none. absurd none) h fresh_finds only);
-    left = λ none. subst (λ (d : Descriptor). NoneIsLeft d b.core.status) (sym same) (marks.none none);
-  }
-    where
-      same : b.core.descriptor ≡ a.core.descriptor
-      same = ap (λ (c : Core). c.descriptor) done.is
+  pub fresh_still : HasStated a.core.descriptor a b → Restates [] map a b → StillHeld a b
+  fresh_still done marks =
+      let same : b.core.descriptor ≡ a.core.descriptor = ap (λ (c : Core). c.descriptor) done.is in
+      still_by (marking [] map) p q a b leaves (λ k none. absurd none) (ap (λ (d : Descriptor). d.id) same) (λ d. ap (λ (g : Descriptor). is_member g d) same) (ap (λ (c : Core). c.cache) done.is)
+      done.held (λ none. subst (λ (d : Descriptor). NoneIsLeft d b.core.status) (sym same) (marks.none none))
 
   -- where it wasn't committed
-  pub fresh_break : (r : Result (Unit {0}) CommitFault) → ((done : Unit {0}) → r ≡ Ok done → ⊥) → CommitEnds a.core.descriptor p a b r → ClearEnds map p a b r
+  pub fresh_break : (r : Result (Unit {0}) CommitFault) → ((done : Unit {0}) → r ≡ Ok done → ⊥) → StatusEnds p a b r → ClearEnds map p a b r
   fresh_break (Ok done) broke ends = absurd (broke done refl)
   fresh_break (Err (commit.WentOff have total)) broke ends = record {
     lost = ends.lost;
@@ -185,7 +109,7 @@ is_present true false member isnt = refl
 is_present true true member isnt = absurd (false≢true (sym isnt))
 is_present false b member isnt = absurd (false≢true member)
 
-module _ (map : List Pp) (p q : ℕ) (a b : State) (settled : IsSettled a.core) (unused : AreUnusedOn a.core map) (group : IsOneGroup a.core) (done : HasCommitted a.core.descriptor a b) (marks : Restates [] map a b) where
+module _ (map : List Pp) (p q : ℕ) (a b : State) (settled : IsSettled a.core) (unused : AreUnusedOn a.core map) (group : IsOneGroup a.core) (done : HasStated a.core.descriptor a b) (marks : Restates [] map a b) (leaves : Leaves (marking [] map) p q a b) where
   abbrev gone : ℕ → Bool
   gone = calls_missing b.core.status.wanted
 
@@ -197,7 +121,7 @@ module _ (map : List Pp) (p q : ℕ) (a b : State) (settled : IsSettled a.core) 
 
   -- a disk that isn't missing had no fault
   unhurt : (d : ℕ) → IsTrue (is_on map d) → IsFalse (gone d) → b.device.counts.faults d ≡ a.device.counts.faults d
-  unhurt d on isnt = done.well d (subst (λ (g : Descriptor). IsTrue (members_there g b.core.status.wanted d)) (sym (marks.group ∙ group.status))
+  unhurt d on isnt = done.well d (subst (λ (g : Descriptor). IsTrue (members_there g b.core.status.wanted d)) (sym (leaves.status.group ∙ group.status))
       (is_present (is_member a.core.descriptor d) (gone d) (present (is_member a.core.descriptor d) (calls_missing a.core.status.wanted d) (member d on)).0 isnt))
 
   pub missing_fails : (disk : ℕ) → IsLowestMissing b.core.status.committed map disk → FailsOn map disk a b
@@ -205,7 +129,7 @@ module _ (map : List Pp) (p q : ℕ) (a b : State) (settled : IsSettled a.core) 
     its = low.its;
     lowest = λ d lt on. unhurt d on (subst (λ (s : Status). IsFalse (calls_missing s d)) done.settled.committed (low.lowest d lt on));
     ends = record {
-      fault = (marks.lost disk (subst (λ (s : Status). IsTrue (calls_missing s disk)) done.settled.committed low.missing) (present (is_member a.core.descriptor disk) (calls_missing a.core.status.wanted disk) (member disk low.its)).1).1;
+      fault = (leaves.status.lost disk (subst (λ (s : Status). IsTrue (calls_missing s disk)) done.settled.committed low.missing) (present (is_member a.core.descriptor disk) (calls_missing a.core.status.wanted disk) (member disk low.its)).1).1;
       is = done.is;
       ready = done.ready;
       cuts = done.cuts;
@@ -231,7 +155,7 @@ module _ (map : List Pp) (p q : ℕ) (a b : State) (settled : IsSettled a.core) 
     unhurt_here : (d : ℕ) → IsTrue (is_on map d) → b.device.counts.faults d ≡ a.device.counts.faults d
     unhurt_here d on = unhurt d on (present (is_member b.core.descriptor d) (gone d) (on_all (λ n. IsTrue (is_there b.core n)) map d here on)).1
 
-    module _ (c : State) (goes : Goes NoNext (Contains map) p q a b) where
+    module _ (c : State) where
       history : b.core.history ≡ a.core.history
       history = ap (λ (x : Core). x.history) done.is
 
@@ -265,24 +189,17 @@ module _ (map : List Pp) (p q : ℕ) (a b : State) (settled : IsSettled a.core) 
         requests = ap (λ (x : Core). x.requests) ends.is ∙ ap (Rattle.std.specs.Prelude.map Rattle.lvm_core.specs.Dark.darkened) done.settled.quiet.requests;
       }
       clear_end (Err commit.Stuck) ends = record {
-        out = given_up_then 0 0 p q a.device b.device c.device refl done.cuts goes.spends ends.out;
+        out = given_up_then 0 0 p q a.device b.device c.device refl done.cuts leaves.spends ends.out;
         history = ap (λ (x : Core). x.history) ends.is ∙ history;
         descriptor = ap (λ (x : Core). x.descriptor) ends.is ∙ same;
         requests = ap (λ (x : Core). x.requests) ends.is ∙ done.settled.quiet.requests;
       }
       clear_end (Err (commit.WentOff have total)) ends = absurd ends
 
-      pub clear_goes : (r : ℕ) → StillHeld a b → Goes NoNext (Contains map) q r b c → Goes NoNext (Contains map) p r a c
-      clear_goes r still two = goes_then NoNext (Contains map) p q r a b c (ap (λ (d : Descriptor). d.mib) same) (λ d. ap (λ (x : Descriptor). is_member x d) same) goes still two
+      pub clear_leaves : (r : ℕ) → StillHeld a b → Leaves (commanding NoDescriptor (Contains map) 0) q r b c → Leaves (commanding NoDescriptor (Contains map) 1) p r a c
+      clear_leaves r still two = leaves_then NoDescriptor (Contains map) 1 0 p q r a b c (ap (λ (d : Descriptor). d.mib) same) (λ d. ap (λ (x : Descriptor). is_member x d) same) (fresh_among map p q a b settled leaves) still two
 
-      pub clear_numbers : SpendsNumbers 1 a.core.status b.core.status → (r : Result (Unit {0}) CommitFault) → ZerosEnd map q b c r → IfOn r (SpendsNumbers 1 a.core.status c.core.status)
-      clear_numbers numbers (Ok ok) ends = subst (λ (x : Core). SpendsNumbers 1 a.core.status x.status) (sym ends.same.core) numbers
-      clear_numbers numbers (Err (commit.DiskFailed disk)) ends = subst (λ (x : Core). SpendsNumbers 1 a.core.status x.status) (sym ends.same.core) numbers
-      clear_numbers numbers (Err commit.Dark) ends = tt
-      clear_numbers numbers (Err commit.Stuck) ends = tt
-      clear_numbers numbers (Err (commit.WentOff have total)) ends = tt
-
-      pub clear_still : StillHeld a b → (r : Result (Unit {0}) CommitFault) → IfOn r (StillHeld b c) → IfOn r (StillHeld a c)
+      pub clear_still : StillHeld a b → (r : Result (Unit {0}) CommitFault) → IfGoesOn r (StillHeld b c) → IfGoesOn r (StillHeld a c)
       clear_still still (Ok ok) two = still_then a b c still two
       clear_still still (Err (commit.DiskFailed disk)) two = still_then a b c still two
       clear_still still (Err commit.Dark) two = tt

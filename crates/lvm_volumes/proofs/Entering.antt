@@ -1,44 +1,36 @@
 -- The entries of a volume in a session, and the commit between them.
-use Rattle.std.proofs.Common.{◌≡◌, inl, inr, ⊎_elim, ℕ, ◌-◌, ◌≤◌, Bool, true, false, [], ◌∷◌, Option, Some, None, Result, Ok, Err, refl, sym, ap, subst, ◌∙◌, arith}
-use Rattle.std.specs.Prelude.{IsTrue, IfSome, not, length}
+use Rattle.std.proofs.Common.{◌≡◌, inl, ℕ, ◌≤◌, Bool, true, false, [], ◌∷◌, Option, Some, None, refl, sym, ap, subst, ◌∙◌, arith}
+use Rattle.std.specs.Prelude.{IfSome, not, length}
 use Rattle.std.proofs.lemmas.List.Sums.{sum_by-append, count_by-le-length}
 use Rattle.lvm_num.specs.declared.place.Pp.{Pp}
 use Rattle.lvm_num.specs.declared.descriptor.Descriptor.{Descriptor}
-use Rattle.lvm_num.specs.DescriptorBytes.{descriptor_bytes}
 use Rattle.lvm_num.specs.declared.descriptor.PvRow.{PvRow}
 use Rattle.lvm_num.specs.Descriptor.{IsValid, is_member, most_members}
 use Rattle.lvm_num.specs.Status.{calls_missing}
-use Rattle.lvm_disk.specs.Counts.{RoseBy, NoneFalls}
 use Rattle.lvm_disk.specs.Device.{Media, Image, IsReady, image_of, MayLeave}
 use Rattle.lvm_vol.specs.Facts.{Fact}
 use Rattle.lvm_vol.specs.Legal.{IsLater}
 use Rattle.lvm_vol.specs.Log.{Log, with_fact, need, spare_entries}
 use Rattle.lvm_kept.specs.Contents.{contents_of}
-use Rattle.lvm_kept.specs.Moments.{Moment, StaysCalm}
+use Rattle.lvm_kept.specs.Moments.{Moment}
 use Rattle.lvm_steps.specs.Entering.{OpensNone}
 use Rattle.lvm_steps.proofs.Entering.{calm_goes_on}
-use Rattle.lvm_status.specs.Update.{members_there}
-use Rattle.lvm_quorum.specs.Written.{KeepsShelf}
 use Rattle.lvm_quorum.proofs.Transfers.{keeps_here, spends_none}
 use Rattle.lvm_commit.specs.Committed.{HoldsCommitted, ShowsCommitted}
-use Rattle.lvm_commit.specs.LawsOfFinding.{FindsNoMoreOn}
-use Rattle.lvm_commit.specs.LawsOfVolumes.{IsOnlyGroupOn, IsOnlyGroupSince, LeavesCommitted}
-use Rattle.lvm_commit.specs.Settling.{many_there, OnlyLoses, NoneIsLeft, MarksLeft, SpendsNumbers, IsOfCommit}
+use Rattle.lvm_commit.specs.LawsOfVolumes.{IsOnlyGroupSince, LeavesCommitted}
+use Rattle.lvm_commit.specs.Settling.{many_there, NoneIsLeft, MarksLeft}
 use Rattle.lvm_commit.proofs.Still.{still_holds_committed}
-use Rattle.lvm_core.specs.declared.fault.CommitFault.{CommitFault}
-use Rattle.lvm_core.specs.declared.fault.CommitFault.TheVariants as commit
 use Rattle.lvm_core.specs.State.{Core, State, is_there}
 use Rattle.lvm_core.specs.Held.{IsHeld}
 use Rattle.lvm_core.specs.Settled.{IsSettled, HasNumbers}
-use Rattle.lvm_core.specs.Committing.{moment_of, SpanGoesOn, StaysBehind, HasCommitted, CommitEnds}
-use Rattle.lvm_volumes.specs.Endings.{IsOfCommand, KeepsHistory, KeepsSpans, FindsOnly, StillHeld}
+use Rattle.lvm_core.specs.Committing.{moment_of, SpanGoesOn, LetsCommit, HasStated}
+use Rattle.lvm_core.specs.Leaves.{NoPartition, IsOfCommand, Leaves, committing}
+use Rattle.lvm_core.proofs.LeavesLemmas.{keeps_fact, same_status}
+use Rattle.lvm_volumes.specs.Endings.{StillHeld, IfAlone, commanding}
 use Rattle.lvm_volumes.specs.PlannedVolume.{IsOneGroup}
-use Rattle.lvm_volumes.specs.Stages.{Goes}
 use Rattle.lvm_volumes.specs.Volumes.{HasRoom}
-use Rattle.lvm_volumes.proofs.Leaving.{wider}
-use Rattle.lvm_volumes.proofs.Notes.{commit_spares, still_missing, notes_stay}
-use Rattle.lvm_volumes.proofs.Going.{keeps_same, keeps_fact, keeps_cut, finds_next, only_still}
-use Rattle.lvm_volumes.proofs.Zeroing.{same_status, dark_history}
+use Rattle.lvm_volumes.proofs.Holding.{still_by}
+use Rattle.lvm_volumes.proofs.Leaving.{falls_none, leaves_wider}
 
 -- the session with one entry more
 abbrev pub entered : State → Fact → State
@@ -58,26 +50,23 @@ settled_entered s f settled = record {
 
 module _ (N : Descriptor → Type 0) (Z : Pp → Type 0) where
   -- an entry that is no varyon and opens no write
-  pub entry_goes : (p : ℕ) (s : State) (f : Fact) → ((moment : ℕ) → IsLater (f ∷ []) moment) → OpensNone f
-      → KeepsSpans s (entered s f) → Goes N Z p p s (entered s f)
-  entry_goes p s f later opens spans =
-      record {
-        leaves = record {
-          writes = keeps_here (is_there s.core) (IsOfCommand N Z s (entered s f)) s.device;
-          status = same_status Z s (entered s f) refl;
-          stamps = record { epoch = refl; rises = omega arith };
-          history = keeps_fact s.core.history f later;
-          calm = calm_goes_on (moment_of s) s.device s.core.history.facts f (λ past calm. calm) opens;
-          behind = λ moment lt is. is;
-        };
-        spends = spends_none p s.device;
-        spans = spans;
-        finds = λ held id k is. inl is;
-        falls = record { starts = λ d. omega arith; misses = λ d. omega arith; faults = λ d. omega arith; cuts = omega arith; waits = omega arith };
-      }
+  pub entry_leaves : (p : ℕ) (s : State) (f : Fact) → ((moment : ℕ) → IsLater (f ∷ []) moment) → OpensNone f
+      → (IsHeld s.device s.core → (run : ℕ) (first : Moment) → IfAlone s (entered s f) run first → SpanGoesOn run first s (entered s f)) → Leaves (commanding N Z 0) p p s (entered s f)
+  entry_leaves p s f later opens spans = record {
+    writes = keeps_here (is_there s.core) (IsOfCommand N Z s (entered s f)) s.device;
+    status = same_status NoPartition Z s (entered s f) refl;
+    numbers = record { epoch = refl; rises = omega arith; most = omega arith };
+    history = keeps_fact s.core.history f later;
+    spans = spans;
+    finds = λ held id k is. inl is;
+    calm = calm_goes_on (moment_of s) s.device s.core.history.facts f (λ past calm. calm) opens;
+    behind = λ moment lt is. is;
+    falls = falls_none s.device;
+    spends = spends_none p s.device;
+  }
 
-  pub entry_still : (s : State) (f : Fact) → StillHeld s (entered s f)
-  entry_still s f = record { held = λ held. held; notes = λ home. home; only = λ held only. only; left = λ none. none }
+pub entry_still : (s : State) (f : Fact) → StillHeld s (entered s f)
+entry_still s f = record { held = λ held. held; notes = λ home. home; only = λ held only. only; left = λ none. none }
 
 -- ---- what a held session's crash images show
 
@@ -95,60 +84,18 @@ leaves_committed s ready held run first only = record { shows = shows_committed 
 
 -- ---- the commit
 
-module _ (N : Descriptor → Type 0) (Z : Pp → Type 0) (next : Descriptor) (its : N next) (p q : ℕ) (a b : State) (answer : Result (Unit {0}) CommitFault) (settled : IsSettled a.core) (group : a.core.status.group ≡ record a.core.descriptor { lvs = [] }) (ends : CommitEnds next p a b answer)
-    (finds : IsHeld a.device a.core → FindsNoMoreOn next a.device b.device) (marks : OnlyLoses a.core.status b.core.status a.device b.device) (left : MarksLeft next a.core.status b.core.status) (numbers : SpendsNumbers 1 a.core.status b.core.status)
-    (writes : KeepsShelf (is_there a.core) (IsOfCommit (descriptor_bytes next) a.core.status b.core.status) a.device b.device) where
-  commit_history : KeepsHistory a.core.history b.core.history
-  commit_history = by_answer answer ends
-    where
-      by_answer : (r : Result (Unit {0}) CommitFault) → CommitEnds next p a b r → KeepsHistory a.core.history b.core.history
-      by_answer (Ok done) ends = keeps_same a.core.history b.core.history (ap (λ (c : Core). c.history) ends.is)
-      by_answer (Err (commit.WentOff have total)) ends = keeps_same a.core.history b.core.history (ap (λ (c : Core). c.history) ends.is)
-      by_answer (Err commit.Dark) ends = subst (λ (l : Log). KeepsHistory a.core.history l) (sym (dark_history a b settled ends)) (keeps_cut a.core.history)
-      by_answer (Err commit.Stuck) ends = keeps_same a.core.history b.core.history (ap (λ (c : Core). c.history) ends.is)
-      by_answer (Err (commit.DiskFailed disk)) ends = absurd ends
+module _ (N : Descriptor → Type 0) (Z : Pp → Type 0) (next : Descriptor) (its : N next) (p q : ℕ) (a b : State) (leaves : Leaves (committing next) p q a b) where
+  -- it is one of the command, where the history lets it be
+  pub commit_among : (lv : ℕ) → (IsHeld a.device a.core → (run : ℕ) (first : Moment) → LetsCommit lv next run first a) → Leaves (commanding N Z 1) p q a b
+  commit_among lv lets = leaves_wider (committing next) (commanding N Z 1) (λ d is. subst N (sym is) its) (λ pp none. absurd none) (λ pp none. none) (λ pp none. absurd none) (omega arith) p q a b
+      (λ held run first only. (lv, lets held run first)) leaves
 
-  commit_finds : FindsOnly N a b
-  commit_finds held id k is = finds_next N a b _ writes.media next its (finds held) held id k is
-
-  pub commit_goes : KeepsSpans a b → NoneFalls a.device.counts b.device.counts → StaysCalm (moment_of a) (moment_of b) → StaysBehind a b
-      → q ≤ p → RoseBy (p - q) a.device.counts.waits b.device.counts.waits → Goes N Z p q a b
-  commit_goes spans falls calm behind fewer waited = record {
-    leaves = record {
-      writes = wider (is_there a.core) (is_there a.core) (IsOfCommit (descriptor_bytes next) a.core.status b.core.status) (IsOfCommand N Z a b) a.device b.device (λ d is. is) (λ d s value is. inr (inl (next, its, is))) writes;
-      status = record {
-        group = marks.group;
-        rows = marks.rows;
-        stale = λ pp out. marks.stale pp;
-        further = λ pp is. ⊎_elim (λ before. inl before) (λ passed. inr passed.absent) (left.only pp is);
-        dirty = marks.dirty;
-        stays = marks.stays;
-        lost = λ d is isnt. let two = marks.lost d is isnt in (subst (λ (g : Descriptor). IsTrue (members_there g a.core.status.wanted d)) group two.0, two.1);
-      };
-      stamps = record { epoch = numbers.epoch; rises = numbers.rises };
-      history = commit_history;
-      calm = calm;
-      behind = behind;
-    };
-    spends = record { falls = fewer; waits = waited };
-    spans = spans;
-    finds = commit_finds;
-    falls = falls;
-  }
-
-  pub commit_still : (IsHeld a.device a.core → IsHeld b.device b.core) → HasCommitted next a b → ((k : Descriptor) → N k → k.id ≡ a.core.descriptor.id) → ((d : ℕ) → is_member next d ≡ is_member a.core.descriptor d)
-      → (NoneIsLeft a.core.descriptor a.core.status → NoneIsLeft next a.core.status) → StillHeld a b
-  commit_still held done ids members none_next = record {
-    held = held;
-    notes = notes_stay (is_there a.core) (IsOfCommit (descriptor_bytes next) a.core.status b.core.status) (commit_spares (descriptor_bytes next) a.core.status b.core.status) a b writes
-        (still_missing a b (λ d. ap (λ (g : Descriptor). is_member g d) same ∙ members d) marks.stays) (ap (λ (c : Core). c.cache) done.is);
-    only = λ h only. subst (λ (d : Descriptor). IsOnlyGroupOn b.device d.id) (sym same)
-        (subst (λ (n : ℕ). IsOnlyGroupOn b.device n) (sym (ids next its)) (only_still N a b a.core.descriptor.id ids h commit_finds only));
-    left = λ none. subst (λ (d : Descriptor). NoneIsLeft d b.core.status) (sym same) (left.none (none_next none));
-  }
-    where
-      same : b.core.descriptor ≡ next
-      same = ap (λ (c : Core). c.descriptor) done.is
+pub commit_still : (next : Descriptor) (p q : ℕ) (a b : State) → Leaves (committing next) p q a b → MarksLeft next a.core.status b.core.status → HasStated next a b → next.id ≡ a.core.descriptor.id
+    → ((d : ℕ) → is_member next d ≡ is_member a.core.descriptor d) → (NoneIsLeft a.core.descriptor a.core.status → NoneIsLeft next a.core.status) → StillHeld a b
+commit_still next p q a b leaves left done id members none_next =
+    let same : b.core.descriptor ≡ next = ap (λ (c : Core). c.descriptor) done.is in
+    still_by (committing next) p q a b leaves (λ k is. ap (λ (d : Descriptor). d.id) is ∙ id) (ap (λ (d : Descriptor). d.id) same ∙ id) (λ d. ap (λ (g : Descriptor). is_member g d) same ∙ members d) (ap (λ (c : Core). c.cache) done.is)
+    done.held (λ none. subst (λ (d : Descriptor). NoneIsLeft d b.core.status) (sym same) (left.none (none_next none)))
 
 -- ---- sequence numbers
 

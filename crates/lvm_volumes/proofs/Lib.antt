@@ -6,7 +6,7 @@ pub mod OldDescriptor
 pub mod Places
 pub mod Refusals
 pub mod Leaving
-pub mod Going
+pub mod Holding
 pub mod Zeroing
 pub mod Zeros
 pub mod Clearing

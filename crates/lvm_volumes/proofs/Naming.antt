@@ -12,7 +12,6 @@ use Rattle.lvm_num.specs.Buffer.{Sector, zero_sector}
 use Rattle.lvm_num.specs.Geometry.{data_start, volume_blocks}
 use Rattle.lvm_num.specs.Record.{record_sectors, slot_start, longest_content}
 use Rattle.lvm_num.specs.Descriptor.{IsMember, is_member, volume_of}
-use Rattle.lvm_num.specs.DescriptorBytes.{descriptor_bytes}
 use Rattle.lvm_num.specs.Status.{calls_stale}
 use Rattle.lvm_num.specs.Votes.{CanWrite}
 use Rattle.lvm_disk.specs.Device.{Media, image_of}
@@ -25,36 +24,37 @@ use Rattle.lvm_kept.specs.Moments.{Moment}
 use Rattle.lvm_map.specs.FirstFit.{IsAllocated, new_volume}
 use Rattle.lvm_steps.proofs.Making.{media_may}
 use Rattle.lvm_status.specs.Update.{members_there}
-use Rattle.lvm_quorum.specs.Written.{KeepsShelf}
 use Rattle.lvm_quorum.proofs.Transfers.{darkened_then, given_up_then}
 use Rattle.lvm_commit.specs.Committed.{ShowsCommitted, HoldsCommitted}
 use Rattle.lvm_commit.specs.LawsOfData.{IsSectorOf}
 use Rattle.lvm_commit.specs.LawsOfVolumes.{VolumeServes}
-use Rattle.lvm_commit.specs.Settling.{NoneIsLeft, MarksLeft, IsOfCommit}
+use Rattle.lvm_commit.specs.Settling.{NoneIsLeft, MarksLeft}
 use Rattle.lvm_commit.proofs.Volumes.{volume_begins_in_session, volume_is_made_in_session}
 use Rattle.lvm_core.specs.declared.fault.CommitFault.{CommitFault}
 use Rattle.lvm_core.specs.declared.fault.CommitFault.TheVariants as commit
 use Rattle.lvm_core.specs.State.{Core, State, is_there}
 use Rattle.lvm_core.specs.Held.{IsHeld}
 use Rattle.lvm_core.specs.Settled.{IsSettled}
-use Rattle.lvm_core.specs.Committing.{LetsCommit, HasCommitted, CommitEnds}
+use Rattle.lvm_core.specs.Committing.{LetsCommit, HasStated, HasCommitted, CommitEnds}
+use Rattle.lvm_core.specs.Leaves.{NoDescriptor, NoPartition, IsOfCommand, Leaves, committing}
+use Rattle.lvm_core.proofs.LeavesLemmas.{enters_one}
 use Rattle.lvm_volumes.specs.declared.new_volume.NewVolume.{NewVolume}
 use Rattle.lvm_volumes.specs.declared.new_volume.VolumePlan.{VolumePlan}
 use Rattle.lvm_volumes.specs.NewVolume.{row_for, with_volume}
-use Rattle.lvm_volumes.specs.Endings.{StillHeld}
+use Rattle.lvm_volumes.specs.Endings.{StillHeld, commanding}
 use Rattle.lvm_volumes.specs.PlannedVolume.{IsPlannedVolume}
-use Rattle.lvm_volumes.specs.Stages.{Goes, AreUnusedOn, AreCleared, ClearEnds, making_of, IsNamed, MakeEnds}
+use Rattle.lvm_volumes.specs.Stages.{AreUnusedOn, AreCleared, ClearEnds, making_of, IsNamed, MakeEnds}
 use Rattle.lvm_volumes.specs.Volumes.{AreZeroed}
 use Rattle.lvm_map.proofs.PlaceLemmas.{mib_positive}
-use Rattle.lvm_volumes.proofs.Leaving.{rose_from, there_before, wider}
+use Rattle.lvm_volumes.proofs.Leaving.{rose_from, there_before, leaves_wider, leaves_then}
 use Rattle.lvm_volumes.proofs.Left.{none_with, fresh_with}
-use Rattle.lvm_volumes.proofs.Going.{enters_one, goes_then, still_then}
-use Rattle.lvm_volumes.proofs.Zeroing.{NoNext, dark_history}
+use Rattle.lvm_volumes.proofs.Holding.{still_then}
+use Rattle.lvm_volumes.proofs.Zeroing.{dark_history}
 use Rattle.lvm_volumes.proofs.Zeros.{zeros_stay}
 use Rattle.lvm_volumes.proofs.Places.{places_of, usable_of, free_of, once_of}
 use Rattle.lvm_volumes.proofs.NewDescriptor.{named_with}
 use Rattle.lvm_volumes.proofs.Serving.{making_open, new_serves}
-use Rattle.lvm_volumes.proofs.Entering.{entered, settled_entered, entry_goes, entry_still, leaves_committed}
+use Rattle.lvm_volumes.proofs.Entering.{entered, settled_entered, entry_leaves, entry_still, commit_among, commit_still, leaves_committed}
 
 -- ---- records stand below the data
 
@@ -65,25 +65,6 @@ record_low kind.Descriptor (suc (suc slot)) part len s two fits inside place = a
 record_low kind.Status zero part len s two fits inside place = omega (arith, fits, inside, place)
 record_low kind.Status (suc zero) part len s two fits inside place = omega (arith, fits, inside, place)
 record_low kind.Status (suc (suc slot)) part len s two fits inside place = absurd (omega (arith, two))
-
--- ---- a stage that writes no descriptor is one that writes such
-
-module _ (N : Descriptor → Type 0) (Z : Pp → Type 0) where
-  pub goes_named : (p q : ℕ) (a b : State) → Goes NoNext Z p q a b → Goes N Z p q a b
-  goes_named p q a b goes = record {
-    leaves = record {
-      writes = wider (is_there a.core) (is_there a.core) _ _ a.device b.device (λ d is. is) (λ d s value is. ⊎_elim (λ x. inl x) (⊎_elim (λ y. absurd y.1) (λ z. inr (inr z))) is) goes.leaves.writes;
-      status = goes.leaves.status;
-      stamps = goes.leaves.stamps;
-      history = goes.leaves.history;
-      calm = goes.leaves.calm;
-      behind = goes.leaves.behind;
-    };
-    spends = goes.spends;
-    spans = goes.spans;
-    finds = λ held id k is. ⊎_elim (λ x. inl x) (λ y. absurd y.1) (goes.finds held id k is);
-    falls = goes.falls;
-  }
 
 -- ---- the plan's partitions
 
@@ -121,9 +102,13 @@ module _ (v : NewVolume) (plan : VolumePlan) (a : State) (settled : IsSettled a.
   abbrev f : Fact
   f = Making plan.number plan.blocks plan.mode
 
-  module _ (p q : ℕ) (b : State) (clear_goes : Goes NoNext Z p q a b) where
-    pub clear_break_goes : Goes N Z p q a b
-    clear_break_goes = goes_named N Z p q a b clear_goes
+  module _ (p q : ℕ) (b : State) (clear_leaves : Leaves (commanding NoDescriptor Z 1) p q a b) where
+    -- a stage that commits no descriptor
+    as_named : (n : ℕ) → 1 ≤ n → Leaves (commanding N Z n) p q a b
+    as_named n le = leaves_wider (commanding NoDescriptor Z 1) (commanding N Z n) (λ d none. absurd none) (λ pp its. its) (λ pp none. none) (λ pp its. its) le p q a b (λ held run first only. only) clear_leaves
+
+    pub clear_break_leaves : Leaves (commanding N Z 2) p q a b
+    clear_break_leaves = as_named 2 (omega arith)
 
     -- where the partitions weren't cleared
     pub clear_break : (r : Result (Unit {0}) CommitFault) → ((done : Unit {0}) → r ≡ Ok done → ⊥) → ClearEnds plan.map p a b r → MakeEnds plan p a b r
@@ -147,12 +132,12 @@ module _ (v : NewVolume) (plan : VolumePlan) (a : State) (settled : IsSettled a.
       is_making = ap (λ (l : Log). with_fact l f) same_history
 
       still_begun : StillHeld a begun
-      still_begun = still_then a b begun still (entry_still N Z b f)
+      still_begun = still_then a b begun still (entry_still b f)
 
       -- the volume may be in the making
-      pub begun_goes : Goes N Z p q a begun
-      begun_goes = goes_then N Z p q q a b begun (ap (λ (d : Descriptor). d.mib) same) (λ d. ap (λ (x : Descriptor). is_member x d) same) clear_break_goes still
-          (entry_goes N Z q b f (λ moment. tt) tt (λ held run first only span.
+      begun_leaves : Leaves (commanding N Z 1) p q a begun
+      begun_leaves = leaves_then N Z 1 0 p q q a b begun (ap (λ (d : Descriptor). d.mib) same) (λ d. ap (λ (x : Descriptor). is_member x d) same) (as_named 1 (omega arith)) still
+          (entry_leaves N Z q b f (λ moment. tt) tt (λ held run first only span.
           volume_begins_in_session run first b.device b.core.history.facts b.core.descriptor b.core.status.committed (is_there b.core) plan.number plan.blocks plan.mode span cleared.settled.votes
           (leaves_committed b cleared.ready held run first (only (enters_one b.core.history.facts f refl))) (subst (λ (d : Descriptor). volume_of d plan.number ≡ None) (sym same) planned.lowest.free)))
 
@@ -163,7 +148,7 @@ module _ (v : NewVolume) (plan : VolumePlan) (a : State) (settled : IsSettled a.
       whole : length plan.map ≡ v.lps * 1
       whole = placed.whole
 
-      pub lets_make : IsHeld b.device b.core → (run : ℕ) (first : Moment) → LetsCommit plan.number plan.next run first begun
+      lets_make : IsHeld b.device b.core → (run : ℕ) (first : Moment) → LetsCommit plan.number plan.next run first begun
       lets_make held run first past begins holds = by_media b.device.media refl held
         where
           serves : (m : Media) → b.device.media ≡ Some m → HoldsCommitted (image_of b.device.sizes m) b.core.descriptor b.core.status.committed (is_there b.core) b.core.status.stamp b.core.homes
@@ -193,30 +178,38 @@ module _ (v : NewVolume) (plan : VolumePlan) (a : State) (settled : IsSettled a.
           by_media (Some m) told shown = serves m told shown
 
       -- none of its copies is left behind
-      pub none_named : NoneIsLeft begun.core.descriptor begun.core.status → NoneIsLeft plan.next begun.core.status
+      none_named : NoneIsLeft begun.core.descriptor begun.core.status → NoneIsLeft plan.next begun.core.status
       none_named none = subst (λ (d : Descriptor). NoneIsLeft d b.core.status) (sym planned.next)
-          (none_with a.core.descriptor v plan.number plan.map b.core.status (λ k e lt. subst (λ (g : Descriptor). IsTrue (members_there g b.core.status.wanted (get_or plan.map k e).disk)) (sym (clear_goes.leaves.status.group ∙ planned.group.status))
+          (none_with a.core.descriptor v plan.number plan.map b.core.status (λ k e lt. subst (λ (g : Descriptor). IsTrue (members_there g b.core.status.wanted (get_or plan.map k e).disk)) (sym (clear_leaves.status.group ∙ planned.group.status))
           (subst (λ (d : Descriptor). IsTrue (members_there d b.core.status.wanted (get_or plan.map k e).disk)) same (cleared.there k e lt)))
           (subst (λ (d : Descriptor). NoneIsLeft d b.core.status) same none))
 
       -- ---- the commit
 
-      module _ (r : ℕ) (c : State) (goes : Goes N Z q r begun c) (left : MarksLeft plan.next b.core.status c.core.status)
-          (writes : KeepsShelf (is_there b.core) (IsOfCommit (descriptor_bytes plan.next) b.core.status c.core.status) b.device c.device) where
-        pub break_goes : Goes N Z p r a c
-        break_goes = goes_then N Z p q r a begun c (ap (λ (d : Descriptor). d.mib) same) (λ d. ap (λ (x : Descriptor). is_member x d) same) begun_goes still_begun goes
+      module _ (r : ℕ) (m c : State) (entered_is : m ≡ begun) (leaves_m : Leaves (committing plan.next) q r m c) (left_m : MarksLeft plan.next m.core.status c.core.status) where
+        leaves : Leaves (committing plan.next) q r begun c
+        leaves = subst (λ (x : State). Leaves (committing plan.next) q r x c) entered_is leaves_m
 
-        low : (d s : ℕ) (value : Sector) → IsOfCommit (descriptor_bytes plan.next) b.core.status c.core.status d s value → s < data_start
-        low d s value is = let w = is.0 in record_low w.kind (w.slots d) is.2.its.its.part (length w.framed.content) s (is.2.slots d) is.2.frames.content is.2.its.its.inside is.2.its.its.place
+        left : MarksLeft plan.next b.core.status c.core.status
+        left = subst (λ (x : State). MarksLeft plan.next x.core.status c.core.status) entered_is left_m
+
+        pub break_leaves : Leaves (commanding N Z 2) p r a c
+        break_leaves = leaves_then N Z 1 1 p q r a begun c (ap (λ (d : Descriptor). d.mib) same) (λ d. ap (λ (x : Descriptor). is_member x d) same) begun_leaves still_begun
+            (commit_among N Z plan.next refl q r begun c leaves plan.number lets_make)
+
+        low : (d s : ℕ) (value : Sector) → IsOfCommand (λ x. x ≡ plan.next) NoPartition begun c d s value → s < data_start
+        low d s value (inl is) = let w = is.0 in record_low w.kind (w.slots d) is.2.its.its.part (length w.framed.content) s (is.2.slots d) is.2.frames.content is.2.its.its.inside is.2.its.its.place
+        low d s value (inr (inl of)) = let is = of.2 in let w = is.0 in record_low w.kind (w.slots d) is.2.its.its.part (length w.framed.content) s (is.2.slots d) is.2.frames.content is.2.its.its.inside is.2.its.its.place
+        low d s value (inr (inr of)) = absurd of.1
 
         zeros_then : AreZeroed a.core.descriptor.mib plan.map c.device
-        zeros_then k e lt = zeros_stay (is_there b.core) (IsOfCommit (descriptor_bytes plan.next) b.core.status c.core.status) a.core.descriptor.mib (get_or plan.map k e) b.device c.device
-            (λ d s value brought inside. absurd (let below = low d s value brought in let above = inside.low in omega (arith, below, above))) writes (cleared.zeros k e lt)
+        zeros_then k e lt = zeros_stay (is_there b.core) (IsOfCommand (λ x. x ≡ plan.next) NoPartition begun c) a.core.descriptor.mib (get_or plan.map k e) b.device c.device
+            (λ d s value brought inside. absurd (let below = low d s value brought in let above = inside.low in omega (arith, below, above))) leaves.writes (cleared.zeros k e lt)
 
         -- where it failed
-        pub make_break : (x : Result (Unit {0}) CommitFault) → ((done : Unit {0}) → x ≡ Ok done → ⊥) → CommitEnds plan.next q begun c x → MakeEnds plan p a c x
-        make_break (Ok done) broke ends = absurd (broke done refl)
-        make_break (Err (commit.WentOff have total)) broke ends = record {
+        broken : (x : Result (Unit {0}) CommitFault) → ((done : Unit {0}) → x ≡ Ok done → ⊥) → CommitEnds plan.next q begun c x → MakeEnds plan p a c x
+        broken (Ok done) broke ends = absurd (broke done refl)
+        broken (Err (commit.WentOff have total)) broke ends = record {
           entered = making_of plan a;
           so_far = inr (refl, zeros_then);
           ends = record {
@@ -225,9 +218,9 @@ module _ (v : NewVolume) (plan : VolumePlan) (a : State) (settled : IsSettled a.
               total_is = ends.lost.total_is;
               few = ends.lost.few;
               disk = ends.lost.disk;
-              was = there_before a.core.status.group a.core.status.wanted b.core.status.wanted ends.lost.disk (clear_goes.leaves.status.stays ends.lost.disk)
-                  (subst (λ (g : Descriptor). IsTrue (Rattle.lvm_status.specs.Update.members_there g b.core.status.wanted ends.lost.disk)) clear_goes.leaves.status.group ends.lost.was);
-              failed = rose_from (a.device.counts.faults ends.lost.disk) (b.device.counts.faults ends.lost.disk) (c.device.counts.faults ends.lost.disk) (clear_goes.falls.faults ends.lost.disk) ends.lost.failed;
+              was = there_before a.core.status.group a.core.status.wanted b.core.status.wanted ends.lost.disk (clear_leaves.status.stays ends.lost.disk)
+                  (subst (λ (g : Descriptor). IsTrue (Rattle.lvm_status.specs.Update.members_there g b.core.status.wanted ends.lost.disk)) clear_leaves.status.group ends.lost.was);
+              failed = rose_from (a.device.counts.faults ends.lost.disk) (b.device.counts.faults ends.lost.disk) (c.device.counts.faults ends.lost.disk) (clear_leaves.falls.faults ends.lost.disk) ends.lost.failed;
             };
             power = ap (λ (x : Core). x.power) ends.is;
             history = ap (λ (x : Core). x.history) ends.is ∙ is_making;
@@ -237,7 +230,7 @@ module _ (v : NewVolume) (plan : VolumePlan) (a : State) (settled : IsSettled a.
             cuts = ends.cuts ∙ cleared.cuts;
           };
         }
-        make_break (Err commit.Dark) broke ends = record {
+        broken (Err commit.Dark) broke ends = record {
           entered = making_of plan a;
           so_far = inr (refl, zeros_then);
           ends = record {
@@ -248,21 +241,27 @@ module _ (v : NewVolume) (plan : VolumePlan) (a : State) (settled : IsSettled a.
             requests = ap (λ (x : Core). x.requests) ends.is ∙ ap (Rattle.std.specs.Prelude.map Rattle.lvm_core.specs.Dark.darkened) cleared.settled.quiet.requests;
           };
         }
-        make_break (Err commit.Stuck) broke ends = record {
+        broken (Err commit.Stuck) broke ends = record {
           entered = making_of plan a;
           so_far = inr (refl, zeros_then);
           ends = record {
-            out = given_up_then 0 0 p q a.device b.device c.device refl cleared.cuts clear_goes.spends ends.out;
+            out = given_up_then 0 0 p q a.device b.device c.device refl cleared.cuts clear_leaves.spends ends.out;
             history = ap (λ (x : Core). x.history) ends.is ∙ is_making;
             descriptor = ap (λ (x : Core). x.descriptor) ends.is ∙ same;
             requests = ap (λ (x : Core). x.requests) ends.is ∙ cleared.settled.quiet.requests;
           };
         }
-        make_break (Err (commit.DiskFailed disk)) broke ends = absurd ends
+        broken (Err (commit.DiskFailed disk)) broke ends = absurd ends
+
+        pub make_break : (x : Result (Unit {0}) CommitFault) → ((done : Unit {0}) → x ≡ Ok done → ⊥) → CommitEnds plan.next q m c x → MakeEnds plan p a c x
+        make_break x broke ends = broken x broke (subst (λ (y : State). CommitEnds plan.next q y c x) entered_is ends)
 
         -- where it was committed
-        module _ (done : HasCommitted plan.next begun c) (still_c : StillHeld begun c) where
-          abbrev pub made : State
+        module _ (e : State) (committed : HasCommitted plan.next m c) (made_is : e ≡ entered c (Made plan.number)) where
+          done : HasStated plan.next begun c
+          done = subst (λ (x : State). HasStated plan.next x c) entered_is committed.stated
+
+          abbrev made : State
           made = entered c (Made plan.number)
 
           named : c.core.descriptor ≡ with_volume a.core.descriptor (row_for v plan.number plan.map)
@@ -279,22 +278,25 @@ module _ (v : NewVolume) (plan : VolumePlan) (a : State) (settled : IsSettled a.
               ap (λ (l : List Fact). (volumes_in l plan.number).standing) (ap (λ (l : List Fact). past ++ l) facts_now ∙ sym (append_assoc past b.core.history.facts (f ∷ [])))
               ∙ ap (λ (x : Volume). x.standing) (making_open (past ++ b.core.history.facts) plan.number plan.blocks plan.mode)
 
-          ends_goes : Goes N Z r r c made
-          ends_goes = entry_goes N Z r c (Made plan.number) (λ moment. tt) tt (λ held run first only span.
+          ends_leaves : Leaves (commanding N Z 0) r r c made
+          ends_leaves = entry_leaves N Z r c (Made plan.number) (λ moment. tt) tt (λ held run first only span.
               volume_is_made_in_session run first c.device c.core.history.facts c.core.descriptor c.core.status.committed (is_there c.core) plan.number span done.settled.votes
               (leaves_committed c done.ready held run first (only (enters_one c.core.history.facts (Made plan.number) refl))) there_now is_open)
 
           still_all : StillHeld a c
-          still_all = still_then a begun c still_begun still_c
+          still_all = still_then a begun c still_begun
+              (commit_still plan.next q r begun c leaves left done (ap (λ (d : Descriptor). d.id) planned.next ∙ sym (ap (λ (d : Descriptor). d.id) same))
+              (λ d. ap (λ (x : Descriptor). is_member x d) planned.next ∙ sym (ap (λ (x : Descriptor). is_member x d) same)) none_named)
 
-          pub make_goes : Goes N Z p r a made
-          make_goes = goes_then N Z p r r a c made (ap (λ (d : Descriptor). d.mib) named) (λ d. ap (λ (x : Descriptor). is_member x d) named) break_goes still_all ends_goes
+          pub make_leaves : Leaves (commanding N Z 2) p r a e
+          make_leaves = subst (λ (x : State). Leaves (commanding N Z 2) p r a x) (sym made_is)
+              (leaves_then N Z 2 0 p r r a c made (ap (λ (d : Descriptor). d.mib) named) (λ d. ap (λ (x : Descriptor). is_member x d) named) break_leaves still_all ends_leaves)
 
-          pub make_still : StillHeld a made
-          make_still = still_then a c made still_all (entry_still N Z c (Made plan.number))
+          pub make_still : StillHeld a e
+          make_still = subst (λ (x : State). StillHeld a x) (sym made_is) (still_then a c made still_all (entry_still c (Made plan.number)))
 
-          pub make_named : IsNamed plan a made
-          make_named = record {
+          pub make_named : IsNamed plan a e
+          make_named = subst (λ (x : State). IsNamed plan a x) (sym made_is) (record {
             settled = settled_entered c (Made plan.number) done.settled;
             is = ap (λ (x : Core). record x { history = with_fact x.history (Made plan.number) }) done.is
                 ∙ ap (λ (x : Core). record x { descriptor = plan.next; history = with_fact (with_fact x.history f) (Made plan.number); status = c.core.status; homes = c.core.homes }) cleared.is;
@@ -304,4 +306,4 @@ module _ (v : NewVolume) (plan : VolumePlan) (a : State) (settled : IsSettled a.
             zeros = zeros_then;
             ready = done.ready;
             cuts = done.cuts ∙ cleared.cuts;
-          }
+          })

@@ -1,7 +1,8 @@
 -- Group commands leave the notes of the disks as they were, by what they may write.
-use Rattle.std.proofs.Common.{◌≡◌, ⊎_elim, ℕ, ◌+◌, ◌<◌, Bool, List, Option, Some, None, ap, subst, sym, ◌∙◌, arith}
+use Rattle.std.proofs.Common.{◌≡◌, inl, inr, ⊎_elim, ℕ, ◌+◌, ◌<◌, Bool, List, Option, Some, None, ap, subst, sym, ◌∙◌, arith}
 use Rattle.std.specs.Prelude.{◌&&◌, not, IsTrue, IfSome}
 use Rattle.lvm_num.specs.declared.place.Pp.{Pp}
+use Rattle.lvm_num.specs.declared.descriptor.Descriptor.{Descriptor}
 use Rattle.lvm_num.specs.Buffer.{Sector}
 use Rattle.lvm_num.specs.Descriptor.{is_member}
 use Rattle.lvm_num.specs.Disks.{Disks}
@@ -22,6 +23,7 @@ use Rattle.lvm_commit.specs.Settling.{IsOfStatus, IsOfCommit}
 use Rattle.lvm_core.specs.State.{State, is_there}
 use Rattle.lvm_core.specs.Held.{NotesAreHome, AreNotesHome}
 use Rattle.lvm_core.specs.Zeros.{IsZeroOf}
+use Rattle.lvm_core.specs.Leaves.{IsOfCommand}
 use Rattle.lvm_volumes.proofs.Leaving.{there_before}
 
 -- ---- nothing comes to a note
@@ -33,15 +35,21 @@ not_there : (p : ℕ) → note_sector < p → note_sector ≡ p → ⊥
 not_there p low same = omega (arith, low, same)
 
 -- records stand above the notes,
-pub status_spares : (first last : Stored) → SparesNotes (IsOfStatus first last)
+status_spares : (first last : Stored) → SparesNotes (IsOfStatus first last)
 status_spares first last d value of = let w = of.0 in not_there (slot_start w.kind (w.slots d) + of.2.its.its.part) (slot-above w.kind (w.slots d) of.2.its.its.part) of.2.its.its.place
 
-pub commit_spares : (content : List ℕ) (first last : Stored) → SparesNotes (IsOfCommit content first last)
+commit_spares : (content : List ℕ) (first last : Stored) → SparesNotes (IsOfCommit content first last)
 commit_spares content first last d value of = let w = of.0 in not_there (slot_start w.kind (w.slots d) + of.2.its.its.part) (slot-above w.kind (w.slots d) of.2.its.its.part) of.2.its.its.place
 
 -- and so does data
-pub zero_spares : (mib : ℕ) (pp : Pp) → SparesNotes (IsZeroOf mib pp)
+zero_spares : (mib : ℕ) (pp : Pp) → SparesNotes (IsZeroOf mib pp)
 zero_spares mib pp d value of = let low = of.0.low in omega (arith, low)
+
+-- so no command comes to a note
+pub command_spares : (N : Descriptor → Type 0) (Z : Pp → Type 0) (old new : State) → SparesNotes (IsOfCommand N Z old new)
+command_spares N Z old new d value (inl is) = status_spares old.core.status new.core.status d value is
+command_spares N Z old new d value (inr (inl is)) = commit_spares _ old.core.status new.core.status d value is.2
+command_spares N Z old new d value (inr (inr is)) = zero_spares old.core.descriptor.mib is.0 d value is.2
 
 -- ---- so the notes stay
 

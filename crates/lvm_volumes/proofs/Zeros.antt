@@ -7,6 +7,7 @@ use Rattle.std.proofs.lemmas.List.Elements.{All-nil, All-weaker, All-more}
 use Rattle.std.proofs.lemmas.List.Folds.{list_any_at}
 use Rattle.lvm_num.specs.declared.place.Pp.{Pp}
 use Rattle.lvm_num.specs.Buffer.{Sector, zero_sector}
+use Rattle.lvm_num.specs.Descriptor.{is_member}
 use Rattle.lvm_num.specs.Disks.{Disks}
 use Rattle.lvm_disk.specs.Counts.{Rose}
 use Rattle.lvm_disk.specs.Device.{Media, Device, IsReady, image_of}
@@ -22,11 +23,12 @@ use Rattle.lvm_core.specs.State.{Core, State}
 use Rattle.lvm_core.specs.Dark.{all_dark}
 use Rattle.lvm_core.specs.Committing.{with_one_out}
 use Rattle.lvm_core.specs.Zeros.{IsZeroOf, IsZeroed, IsAsBefore, HasZeroed, ZeroEnds}
-use Rattle.lvm_volumes.specs.Endings.{StillHeld}
-use Rattle.lvm_volumes.specs.Stages.{Goes, IfOn, HasZeroedAll, ZerosEnd}
+use Rattle.lvm_core.specs.Leaves.{NoDescriptor, Leaves}
+use Rattle.lvm_volumes.specs.Endings.{StillHeld, commanding}
+use Rattle.lvm_volumes.specs.Stages.{IfGoesOn, HasZeroedAll, ZerosEnd}
 use Rattle.lvm_volumes.specs.Volumes.{AreZeroed}
-use Rattle.lvm_volumes.proofs.Going.{goes_none, goes_then, still_none, still_then}
-use Rattle.lvm_volumes.proofs.Zeroing.{NoNext}
+use Rattle.lvm_volumes.proofs.Holding.{still_none, still_then}
+use Rattle.lvm_volumes.proofs.Leaving.{leaves_none, leaves_then}
 
 -- zeros stay where nothing else may come to the partition
 pub zeros_stay : (T : Disks) (P : Plan) (mib : ℕ) (pp : Pp) (old new : Device) → ((d s : ℕ) (value : Sector) → P d s value → IsSectorOf mib pp d s → value ≡ zero_sector) → KeepsShelf T P old new → IsZeroed mib pp old → IsZeroed mib pp new
@@ -43,7 +45,7 @@ zeros_stay T P mib pp old new zero keeps is = by_media old.media new.media keeps
 pub record IsZeroing (map : List Pp) (p k q : ℕ) (old now : State) : Type 0 where
   pub same : IsAsBefore old now
   pub zeros : AreZeroed old.core.descriptor.mib (take k map) now.device
-  pub goes : Goes NoNext (Contains map) p q old now
+  pub leaves : Leaves (commanding NoDescriptor (Contains map) 0) p q old now
   pub still : StillHeld old now
   pub well : (d : ℕ) → now.device.counts.faults d ≡ old.device.counts.faults d
 
@@ -51,7 +53,7 @@ pub zeroing_none : (map : List Pp) (p : ℕ) (old : State) → IsReady old.devic
 zeroing_none map p old ready = record {
   same = record { core = refl; ready = ready; cuts = refl };
   zeros = All-nil (λ (pp : Pp). IsZeroed old.core.descriptor.mib pp old.device);
-  goes = goes_none NoNext (Contains map) p old;
+  leaves = leaves_none (commanding NoDescriptor (Contains map) 0) p old;
   still = still_none old;
   well = λ d. refl;
 }
@@ -59,13 +61,13 @@ zeroing_none map p old ready = record {
 on_disk : (map : List Pp) (k : ℕ) (e : Pp) → k < length map → is_on map (get_or map k e).disk ≡ true
 on_disk map k e lt = list_any_at (λ (pp : Pp). pp.disk == (get_or map k e).disk) map k e lt (eq-eqb (get_or map k e).disk (get_or map k e).disk refl)
 
-module _ (map : List Pp) (p k q r : ℕ) (e : Pp) (old mid new : State) (lt : k < length map) (so_far : IsZeroing map p k q old mid) (goes : Goes NoNext (Contains map) q r mid new)
+module _ (map : List Pp) (p k q r : ℕ) (e : Pp) (old mid new : State) (lt : k < length map) (so_far : IsZeroing map p k q old mid) (leaves : Leaves (commanding NoDescriptor (Contains map) 0) q r mid new)
     (writes : KeepsShelf (λ d. d == (get_or map k e).disk) (IsZeroOf mid.core.descriptor.mib (get_or map k e)) mid.device new.device) where
   abbrev its : Pp
   its = get_or map k e
 
-  pub then : Goes NoNext (Contains map) p r old new
-  then = goes_then NoNext (Contains map) p q r old mid new (ap (λ (c : Core). c.descriptor.mib) so_far.same.core) (λ d. ap (λ (c : Core). Rattle.lvm_num.specs.Descriptor.is_member c.descriptor d) so_far.same.core) so_far.goes so_far.still goes
+  pub then : Leaves (commanding NoDescriptor (Contains map) 0) p r old new
+  then = leaves_then NoDescriptor (Contains map) 0 0 p q r old mid new (ap (λ (c : Core). c.descriptor.mib) so_far.same.core) (λ d. ap (λ (c : Core). is_member c.descriptor d) so_far.same.core) so_far.leaves so_far.still leaves
 
   others : (d : ℕ) → (d ≡ its.disk → ⊥) → new.device.counts.faults d ≡ old.device.counts.faults d
   others d other = writes.faults d (by_test (d == its.disk) refl) ∙ so_far.well d
@@ -81,7 +83,7 @@ module _ (map : List Pp) (p k q r : ℕ) (e : Pp) (old mid new : State) (lt : k 
         (All-weaker (λ (pp : Pp). IsZeroed old.core.descriptor.mib pp mid.device) (λ (pp : Pp). IsZeroed old.core.descriptor.mib pp new.device)
         (λ pp is. zeros_stay (λ d. d == its.disk) (IsZeroOf mid.core.descriptor.mib its) old.core.descriptor.mib pp mid.device new.device (λ d s value brought inside. brought.1) writes is) (take k map) so_far.zeros)
         (subst (λ (n : ℕ). IsZeroed n its new.device) (ap (λ (c : Core). c.descriptor.mib) so_far.same.core) done.zeros);
-    goes = then;
+    leaves = then;
     still = still_then old mid new so_far.still still;
     well = λ d. ⊎_elim (λ (is : d ≡ its.disk). subst (λ (n : ℕ). new.device.counts.faults n ≡ old.device.counts.faults n) (sym is) (done.well ∙ so_far.well its.disk)) (λ other. others d other) (cases d);
   }
@@ -103,7 +105,7 @@ module _ (map : List Pp) (p k q r : ℕ) (e : Pp) (old mid new : State) (lt : k 
     is = subst (λ (c : Core). new.core ≡ all_dark (record c { pool = with_one_out c.pool; status = new.core.status; homes = new.core.homes })) so_far.same.core ends.is;
   }
   zeros_break (Err commit.Stuck) broke ends = record {
-    out = given_up_then 0 0 p q old.device mid.device new.device refl so_far.same.cuts so_far.goes.spends ends.out;
+    out = given_up_then 0 0 p q old.device mid.device new.device refl so_far.same.cuts so_far.leaves.spends ends.out;
     is = subst (λ (c : Core). new.core ≡ record c { pool = with_one_out c.pool; status = new.core.status; homes = new.core.homes }) so_far.same.core ends.is;
   }
   zeros_break (Err (commit.WentOff have total)) broke ends = absurd ends
@@ -113,7 +115,7 @@ zeros_end map p k q old new all is = record { same = is.same; zeros = subst (λ 
 
 -- where a disk failed the session goes on, and the disks hold what it says
 pub zeros_fail_still : (map : List Pp) (its : Pp) (p q k : ℕ) (old mid new : State) (answer : Result (Unit {0}) CommitFault) → IsZeroing map p k q old mid → ZeroEnds its q mid new answer → (new.core ≡ mid.core → StillHeld mid new)
-    → IfOn answer (StillHeld old new)
+    → IfGoesOn answer (StillHeld old new)
 zeros_fail_still map its p q k old mid new (Ok done) so_far ends still = still_then old mid new so_far.still (still ends.same.core)
 zeros_fail_still map its p q k old mid new (Err (commit.DiskFailed disk)) so_far ends still = still_then old mid new so_far.still (still ends.same.core)
 zeros_fail_still map its p q k old mid new (Err commit.Dark) so_far ends still = tt

@@ -5,13 +5,12 @@ use Rattle.lvm_num.specs.declared.descriptor.Descriptor.{Descriptor}
 use Rattle.lvm_num.specs.declared.status.Status.{Status}
 use Rattle.lvm_num.specs.Descriptor.{IsPartitionOf}
 use Rattle.lvm_num.specs.Status.{calls_stale, calls_missing}
-use Rattle.lvm_disk.specs.Counts.{Rose, NoneFalls}
+use Rattle.lvm_disk.specs.Counts.{Rose}
 use Rattle.lvm_disk.specs.Device.{IsReady}
 use Rattle.lvm_vol.specs.declared.entry.Vol.TheVariants.{Lv}
 use Rattle.lvm_vol.specs.Facts.{Making, Made, Removed}
 use Rattle.lvm_vol.specs.Log.{Log, with_fact}
 use Rattle.lvm_map.specs.FirstFit.{is_on}
-use Rattle.lvm_quorum.specs.Parts.{Spends}
 use Rattle.lvm_commit.specs.LawsOfData.{IsFree}
 use Rattle.lvm_core.specs.declared.fault.CommitFault.{CommitFault}
 use Rattle.lvm_core.specs.declared.fault.CommitFault.TheVariants as commit
@@ -21,27 +20,19 @@ use Rattle.lvm_core.specs.Committing.{HasGoneDark, IsLeftOut}
 use Rattle.lvm_core.specs.Zeros.{IsAsBefore}
 use Rattle.lvm_volumes.specs.declared.new_volume.NewVolume.{NewVolume}
 use Rattle.lvm_volumes.specs.declared.new_volume.VolumePlan.{VolumePlan}
-use Rattle.lvm_volumes.specs.Endings.{EndsDark, EndsOff, EndsStuck, EndsFailed, Leaves, KeepsSpans, FindsOnly}
+use Rattle.lvm_volumes.specs.Endings.{EndsDark, EndsOff, EndsStuck, EndsFailed}
 use Rattle.lvm_volumes.specs.PlannedVolume.{IsPlannedVolume}
 use Rattle.lvm_volumes.specs.Volumes.{AreZeroed, removing}
 
 -- ---- whatever comes of it
 
--- what a stage leaves, what patience it takes, what is found after it, and that spans go on with it
-pub record Goes (N : Descriptor → Type 0) (Z : Pp → Type 0) (before after : ℕ) (old new : State) : Type 0 where
-  pub leaves : Leaves N Z old new
-  pub spends : Spends before after old.device new.device
-  pub spans : KeepsSpans old new
-  pub finds : FindsOnly N old new
-  pub falls : NoneFalls old.device.counts new.device.counts
-
 -- the stage ended well, or a disk failed, and the session is on
-abbrev pub IfOn : Result (Unit {0}) CommitFault → Type 0 → Type 0
-IfOn (Ok done) P = P
-IfOn (Err (commit.DiskFailed disk)) P = P
-IfOn (Err commit.Dark) P = Unit {0}
-IfOn (Err (commit.WentOff have total)) P = Unit {0}
-IfOn (Err commit.Stuck) P = Unit {0}
+abbrev pub IfGoesOn : Result (Unit {0}) CommitFault → Type 0 → Type 0
+IfGoesOn (Ok done) P = P
+IfGoesOn (Err (commit.DiskFailed disk)) P = P
+IfGoesOn (Err commit.Dark) P = Unit {0}
+IfGoesOn (Err (commit.WentOff have total)) P = Unit {0}
+IfGoesOn (Err commit.Stuck) P = Unit {0}
 
 -- ---- zeros
 

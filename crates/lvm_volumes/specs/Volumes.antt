@@ -19,7 +19,8 @@ use Rattle.lvm_volumes.specs.declared.fault.GroupFault.{GroupFault}
 use Rattle.lvm_volumes.specs.declared.fault.GroupFault.TheVariants as fault
 use Rattle.lvm_volumes.specs.declared.new_volume.NewVolume.{NewVolume}
 use Rattle.lvm_volumes.specs.NewVolume.{IsLowestFree, row_for, with_volume, without_volume}
-use Rattle.lvm_volumes.specs.Endings.{TakesCommands, EndsDark, EndsOff, EndsStuck, EndsFailed}
+use Rattle.lvm_core.specs.Leaves.{Scope, NoPartition}
+use Rattle.lvm_volumes.specs.Endings.{TakesCommands, EndsDark, EndsOff, EndsStuck, EndsFailed, commanding}
 
 -- ---- what is refused before the first write
 
@@ -171,6 +172,10 @@ pub record MakingFails (v : NewVolume) (disk : ℕ) (old new : State) : Type 0 w
   pub lowest : (d : ℕ) → d < disk → IsTrue (is_on map d) → new.device.counts.faults d ≡ old.device.counts.faults d
   pub ends : EndsFailed disk old new
 
+-- what it may do: commit the descriptor with the volume, and write zeros to its partitions and make them fresh
+abbrev pub to_make : NewVolume → Core → Scope
+to_make v core = commanding (IsWith v core) (IsChosen v core) 2
+
 -- the volume's number, or why it wasn't made
 abbrev pub MklvGives : NewVolume → ℕ → State → State → Result ℕ GroupFault → Type 0
 MklvGives v patience old new (Ok lv) = IsVolumeMade v lv old new
@@ -211,6 +216,10 @@ pub record IsVolumeRemoved (lv : ℕ) (old new : State) : Type 0 where
 pub record RemovalEnds (lv : ℕ) (old : State) (Ends : Log → Type 0) : Type 0 where
   pub may : MayBeRemoved lv old.core
   pub ends : Ends (removing lv old)
+
+-- what it may do: commit the descriptor without the volume
+abbrev pub to_remove : ℕ → Core → Scope
+to_remove lv core = commanding (λ next. next ≡ without_volume core.descriptor lv) NoPartition 1
 
 -- that it is removed, or why it isn't
 abbrev pub RmlvGives : ℕ → ℕ → State → State → Result (Unit {0}) GroupFault → Type 0

@@ -1,21 +1,16 @@
 //! The making and the removal of volumes.
-ghost use Rattle.std.specs.Prelude.{◌≡◌, ◌<◌, ◌-◌, ◌≤◌, false, IfSome, IfNone, IsTrue, All, Contains};
+ghost use Rattle.std.specs.Prelude.{◌≡◌, ◌<◌, ◌-◌, ◌≤◌, false, IfSome, IfNone, All, Contains};
 ghost use Rattle.lvm_num.specs.declared.place.Pp.{Pp};
 ghost use Rattle.lvm_num.specs.Status.{calls_missing};
-ghost use Rattle.lvm_disk.specs.Counts.{RoseBy};
 ghost use Rattle.lvm_disk.specs.Device.{IsReady};
-ghost use Rattle.lvm_kept.specs.Moments.{StaysCalm};
 ghost use Rattle.lvm_map.specs.FirstFit.{is_on};
-ghost use Rattle.lvm_quorum.specs.Written.{KeepsShelf};
-ghost use Rattle.lvm_core.specs.State.{state, is_there};
-ghost use Rattle.lvm_commit.specs.Settling.{SpendsNumbers};
+ghost use Rattle.lvm_core.specs.State.{state_of};
+ghost use Rattle.lvm_core.specs.Leaves.{Leaves, NoDescriptor, NoPartition};
 ghost use Rattle.lvm_core.specs.Settled.{IsSettled, HasNumbers};
-ghost use Rattle.lvm_core.specs.Committing.{moment_of, StaysBehind};
-ghost use Rattle.lvm_volumes.specs.Endings.{TakesCommands, IfOn, StillHeld, IsOfCommand, KeepsStatus, StampsRise, KeepsHistory, KeepsSpans, FindsOnly};
+ghost use Rattle.lvm_volumes.specs.Endings.{TakesCommands, IfOn, StillHeld, commanding};
 ghost use Rattle.lvm_volumes.specs.PlannedVolume.{IsOneGroup, IsWithout};
-ghost use Rattle.lvm_volumes.specs.Stages.{Goes, IfOn as IfStays, AreUnusedOn, IsLowestMissing, ZerosEnd, ClearEnds, MakeEnds, MayMake, RemoveEnds};
-ghost use Rattle.lvm_volumes.specs.NewVolume.{without_volume};
-ghost use Rattle.lvm_volumes.specs.Volumes.{IsWith, IsChosen, MklvGives, RmlvGives};
+ghost use Rattle.lvm_volumes.specs.Stages.{IfGoesOn, AreUnusedOn, IsLowestMissing, ZerosEnd, ClearEnds, MakeEnds, MayMake, RemoveEnds};
+ghost use Rattle.lvm_volumes.specs.Volumes.{MklvGives, RmlvGives, to_make, to_remove};
 
 use crate::fault::GroupFault;
 use crate::new_volume::{NewVolume, VolumePlan, prepare_without};
@@ -59,20 +54,11 @@ pub fn mklv<S: Shelf>(
     requires settled { TakesCommands driver.old.1 → IsSettled driver.old.1 }
     requires off { mode ≡ Mode.Off }
     requires some { 1 ≤ lps }
-    ensures gives { MklvGives (record { name = name; copies = copies; mode = mode; policy = policy; lps = lps }) patience.old.left (state (S.device driver.old.0) driver.old.1) (state (S.device driver.new.0) driver.new.1) result }
+    ensures gives { MklvGives (record { name = name; copies = copies; mode = mode; policy = policy; lps = lps }) patience.old.left (state_of S.device driver.old) (state_of S.device driver.new) result }
     ensures settled { TakesCommands driver.old.1 → IfOn result (IsSettled driver.new.1) }
-    ensures held { IfOn result (StillHeld (state (S.device driver.old.0) driver.old.1) (state (S.device driver.new.0) driver.new.1)) }
+    ensures held { IfOn result (StillHeld (state_of S.device driver.old) (state_of S.device driver.new)) }
     // whatever the answer
-    ensures keeps { KeepsSpans (state (S.device driver.old.0) driver.old.1) (state (S.device driver.new.0) driver.new.1) }
-    ensures finds { FindsOnly (IsWith (record { name = name; copies = copies; mode = mode; policy = policy; lps = lps }) driver.old.1) (state (S.device driver.old.0) driver.old.1) (state (S.device driver.new.0) driver.new.1) }
-    ensures writes { KeepsShelf (is_there driver.old.1) (IsOfCommand (IsWith (record { name = name; copies = copies; mode = mode; policy = policy; lps = lps }) driver.old.1) (IsChosen (record { name = name; copies = copies; mode = mode; policy = policy; lps = lps }) driver.old.1) (state (S.device driver.old.0) driver.old.1) (state (S.device driver.new.0) driver.new.1)) (S.device driver.old.0) (S.device driver.new.0) }
-    ensures status { KeepsStatus (IsChosen (record { name = name; copies = copies; mode = mode; policy = policy; lps = lps }) driver.old.1) (state (S.device driver.old.0) driver.old.1) (state (S.device driver.new.0) driver.new.1) }
-    ensures stamps { StampsRise (state (S.device driver.old.0) driver.old.1) (state (S.device driver.new.0) driver.new.1) }
-    ensures history { KeepsHistory driver.old.1.history driver.new.1.history }
-    ensures calm { StaysCalm (moment_of (state (S.device driver.old.0) driver.old.1)) (moment_of (state (S.device driver.new.0) driver.new.1)) }
-    ensures behind { StaysBehind (state (S.device driver.old.0) driver.old.1) (state (S.device driver.new.0) driver.new.1) }
-    ensures patience { patience.new.left ≤ patience.old.left }
-    ensures waited { RoseBy (patience.old.left - patience.new.left) (S.device driver.old.0).counts.waits (S.device driver.new.0).counts.waits }
+    ensures leaves { Leaves (to_make (record { name = name; copies = copies; mode = mode; policy = policy; lps = lps }) driver.old.1) patience.old.left patience.new.left (state_of S.device driver.old) (state_of S.device driver.new) }
 {
     let v = NewVolume {
         name,
@@ -102,20 +88,11 @@ pub fn rmlv<S: Shelf>(
 ) -> Result<(), GroupFault>
     // where nothing is open, nothing is under way
     requires settled { TakesCommands driver.old.1 → IsSettled driver.old.1 }
-    ensures gives { RmlvGives lv patience.old.left (state (S.device driver.old.0) driver.old.1) (state (S.device driver.new.0) driver.new.1) result }
+    ensures gives { RmlvGives lv patience.old.left (state_of S.device driver.old) (state_of S.device driver.new) result }
     ensures settled { TakesCommands driver.old.1 → IfOn result (IsSettled driver.new.1) }
-    ensures held { IfOn result (StillHeld (state (S.device driver.old.0) driver.old.1) (state (S.device driver.new.0) driver.new.1)) }
+    ensures held { IfOn result (StillHeld (state_of S.device driver.old) (state_of S.device driver.new)) }
     // whatever the answer
-    ensures keeps { KeepsSpans (state (S.device driver.old.0) driver.old.1) (state (S.device driver.new.0) driver.new.1) }
-    ensures finds { FindsOnly (λ next. next ≡ without_volume driver.old.1.descriptor lv) (state (S.device driver.old.0) driver.old.1) (state (S.device driver.new.0) driver.new.1) }
-    ensures writes { KeepsShelf (is_there driver.old.1) (IsOfCommand (λ next. next ≡ without_volume driver.old.1.descriptor lv) (λ pp. ⊥) (state (S.device driver.old.0) driver.old.1) (state (S.device driver.new.0) driver.new.1)) (S.device driver.old.0) (S.device driver.new.0) }
-    ensures status { KeepsStatus (λ pp. ⊥) (state (S.device driver.old.0) driver.old.1) (state (S.device driver.new.0) driver.new.1) }
-    ensures stamps { StampsRise (state (S.device driver.old.0) driver.old.1) (state (S.device driver.new.0) driver.new.1) }
-    ensures history { KeepsHistory driver.old.1.history driver.new.1.history }
-    ensures calm { StaysCalm (moment_of (state (S.device driver.old.0) driver.old.1)) (moment_of (state (S.device driver.new.0) driver.new.1)) }
-    ensures behind { StaysBehind (state (S.device driver.old.0) driver.old.1) (state (S.device driver.new.0) driver.new.1) }
-    ensures patience { patience.new.left ≤ patience.old.left }
-    ensures waited { RoseBy (patience.old.left - patience.new.left) (S.device driver.old.0).counts.waits (S.device driver.new.0).counts.waits }
+    ensures leaves { Leaves (to_remove lv driver.old.1) patience.old.left patience.new.left (state_of S.device driver.old) (state_of S.device driver.new) }
 {
     let next = prepare_without(alloc, driver, lv)?;
     remove(driver, lv, next, patience)?;
@@ -130,9 +107,9 @@ fn make<S: Shelf>(
 ) -> Result<(), CommitFault>
     requires settled { IsSettled driver.old.1 }
     requires may { MayMake driver.old.1 plan }
-    ensures ends { MakeEnds plan patience.old.left (state (S.device driver.old.0) driver.old.1) (state (S.device driver.new.0) driver.new.1) result }
-    ensures goes { Goes (λ next. next ≡ plan.next) (Contains plan.map) patience.old.left patience.new.left (state (S.device driver.old.0) driver.old.1) (state (S.device driver.new.0) driver.new.1) }
-    ensures held { IfStays result (StillHeld (state (S.device driver.old.0) driver.old.1) (state (S.device driver.new.0) driver.new.1)) }
+    ensures ends { MakeEnds plan patience.old.left (state_of S.device driver.old) (state_of S.device driver.new) result }
+    ensures held { IfGoesOn result (StillHeld (state_of S.device driver.old) (state_of S.device driver.new)) }
+    ensures leaves { Leaves (commanding (λ next. next ≡ plan.next) (Contains plan.map) 2) patience.old.left patience.new.left (state_of S.device driver.old) (state_of S.device driver.new) }
 {
     clear(driver, plan.map.as_slice(), patience)?;
     let lv = plan.number;
@@ -155,9 +132,9 @@ fn remove<S: Shelf>(
 ) -> Result<(), CommitFault>
     requires settled { IsSettled driver.old.1 }
     requires without { IsWithout lv driver.old.1 next }
-    ensures ends { RemoveEnds lv next patience.old.left (state (S.device driver.old.0) driver.old.1) (state (S.device driver.new.0) driver.new.1) result }
-    ensures goes { Goes (λ d. d ≡ next) (λ pp. ⊥) patience.old.left patience.new.left (state (S.device driver.old.0) driver.old.1) (state (S.device driver.new.0) driver.new.1) }
-    ensures held { IfStays result (StillHeld (state (S.device driver.old.0) driver.old.1) (state (S.device driver.new.0) driver.new.1)) }
+    ensures ends { RemoveEnds lv next patience.old.left (state_of S.device driver.old) (state_of S.device driver.new) result }
+    ensures held { IfGoesOn result (StillHeld (state_of S.device driver.old) (state_of S.device driver.new)) }
+    ensures leaves { Leaves (commanding (λ d. d ≡ next) NoPartition 1) patience.old.left patience.new.left (state_of S.device driver.old) (state_of S.device driver.new) }
 {
     let vol = Vol::Lv(lv);
     driver.enter(Entry::Removing { vol });
@@ -176,10 +153,9 @@ fn clear<S: Shelf>(
     requires numbers { HasNumbers driver.old.1 }
     requires group { IsOneGroup driver.old.1 }
     requires unused { AreUnusedOn driver.old.1 map.now }
-    ensures ends { ClearEnds map.now patience.old.left (state (S.device driver.old.0) driver.old.1) (state (S.device driver.new.0) driver.new.1) result }
-    ensures goes { Goes (λ next. ⊥) (Contains map.now) patience.old.left patience.new.left (state (S.device driver.old.0) driver.old.1) (state (S.device driver.new.0) driver.new.1) }
-    ensures held { IfStays result (StillHeld (state (S.device driver.old.0) driver.old.1) (state (S.device driver.new.0) driver.new.1)) }
-    ensures numbers { IfStays result (SpendsNumbers 1 driver.old.1.status driver.new.1.status) }
+    ensures ends { ClearEnds map.now patience.old.left (state_of S.device driver.old) (state_of S.device driver.new) result }
+    ensures held { IfGoesOn result (StillHeld (state_of S.device driver.old) (state_of S.device driver.new)) }
+    ensures leaves { Leaves (commanding NoDescriptor (Contains map.now) 1) patience.old.left patience.new.left (state_of S.device driver.old) (state_of S.device driver.new) }
 {
     driver.set_status(&[], map, patience)?;
     if let Some(disk) = lowest_missing(driver.table(), map) {
@@ -218,9 +194,9 @@ fn zero_all<S: Shelf>(
     requires settled { IsSettled driver.old.1 }
     requires ready { IsReady (S.device driver.old.0) }
     requires unused { AreUnusedOn driver.old.1 map.now }
-    ensures ends { ZerosEnd map.now patience.old.left (state (S.device driver.old.0) driver.old.1) (state (S.device driver.new.0) driver.new.1) result }
-    ensures goes { Goes (λ next. ⊥) (Contains map.now) patience.old.left patience.new.left (state (S.device driver.old.0) driver.old.1) (state (S.device driver.new.0) driver.new.1) }
-    ensures held { IfStays result (StillHeld (state (S.device driver.old.0) driver.old.1) (state (S.device driver.new.0) driver.new.1)) }
+    ensures ends { ZerosEnd map.now patience.old.left (state_of S.device driver.old) (state_of S.device driver.new) result }
+    ensures held { IfGoesOn result (StillHeld (state_of S.device driver.old) (state_of S.device driver.new)) }
+    ensures leaves { Leaves (commanding NoDescriptor (Contains map.now) 0) patience.old.left patience.new.left (state_of S.device driver.old) (state_of S.device driver.new) }
 {
     for pp in map {
         driver.zero(*pp, patience)?;
