@@ -28,7 +28,6 @@ pub mod HoldingStatus
 pub mod HoldingDescriptor
 pub mod Describing
 pub mod Described
-pub mod Ends
 pub mod StatusRound
 pub mod StatusRounds
 pub mod StatusEnding
