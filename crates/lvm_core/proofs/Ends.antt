@@ -31,7 +31,7 @@ pub record AtEnd (Held Plain : Type 0) (number before : ℕ) (first last : Store
   pub plain : IfDone how (λ back. Plain)
   pub off : IfWentOff how (λ have total back. HasLostQuorum first last old new have total)
   pub spent : IfWentOff how (λ have total back. SpendsNumbers 0 first last)
-  pub number : IfBack how (λ back. back.number ≡ number)
+  pub number_is : IfBack how (λ back. back.number ≡ number)
   pub ready : IfBack how (λ back. IsReady new × (new.counts.cuts ≡ old.counts.cuts))
   pub well : IfBack how (λ back. AreWell last old new)
   pub dark : OnDark how (IsDarkened number old new)
@@ -45,7 +45,7 @@ at_end Held Plain number before first last old new (settled.Done buf) ends = rec
   plain = ends.plain;
   off = tt;
   spent = tt;
-  number = ends.back.number_is;
+  number_is = ends.back.number_is;
   ready = (ends.back.ready, ends.back.cuts);
   well = ends.back.well;
   dark = tt;
@@ -57,25 +57,25 @@ at_end Held Plain number before first last old new (settled.WentOff have total b
   plain = tt;
   off = ends.lost;
   spent = ends.spent;
-  number = ends.back.number_is;
+  number_is = ends.back.number_is;
   ready = (ends.back.ready, ends.back.cuts);
   well = ends.back.well;
   dark = tt;
   stuck = tt;
 }
-at_end Held Plain number before first last old new settled.Dark ends = record { done = tt; held = tt; plain = tt; off = tt; spent = tt; number = tt; ready = tt; well = tt; dark = ends; stuck = tt }
-at_end Held Plain number before first last old new settled.Stuck ends = record { done = tt; held = tt; plain = tt; off = tt; spent = tt; number = tt; ready = tt; well = tt; dark = tt; stuck = ends }
+at_end Held Plain number before first last old new settled.Dark ends = record { done = tt; held = tt; plain = tt; off = tt; spent = tt; number_is = tt; ready = tt; well = tt; dark = ends; stuck = tt }
+at_end Held Plain number before first last old new settled.Stuck ends = record { done = tt; held = tt; plain = tt; off = tt; spent = tt; number_is = tt; ready = tt; well = tt; dark = tt; stuck = ends }
 
 -- ---- the buffer
 
 pub status_numbered :
     (n before : ℕ) (first last : Stored) (homes next : Homes) (old new : Device) (how : Settled) → n ≡ 0 → StatusEnds n before first last homes next old new how → IfBack how (λ back. back.number ≡ 0)
-status_numbered n before first last homes next old new how is ends = subst (λ (k : ℕ). IfBack how (λ back. back.number ≡ k)) is (at_end _ _ n before first last old new how ends).number
+status_numbered n before first last homes next old new how is ends = subst (λ (k : ℕ). IfBack how (λ back. back.number ≡ k)) is (at_end _ _ n before first last old new how ends).number_is
 
 pub descriptor_numbered :
     (content : List ℕ) (n before : ℕ) (first last : Stored) (homes next : Homes) (old new : Device) (how : Settled) → n ≡ 0 → DescriptorEnds content n before first last homes next old new how
     → IfBack how (λ back. back.number ≡ 0)
-descriptor_numbered content n before first last homes next old new how is ends = subst (λ (k : ℕ). IfBack how (λ back. back.number ≡ k)) is (at_end _ _ n before first last old new how ends).number
+descriptor_numbered content n before first last homes next old new how is ends = subst (λ (k : ℕ). IfBack how (λ back. back.number ≡ k)) is (at_end _ _ n before first last old new how ends).number_is
 
 -- it is out until it is taken back
 pub is_out : (how : Settled) (pool taken : List Bool) → taken ≡ with_one_out pool → 1 ≤ length pool → IfBack how (λ back. back.number ≡ 0) → IfBack how (λ back. IsOut taken back.number)
