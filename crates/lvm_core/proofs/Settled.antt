@@ -30,7 +30,7 @@ use Rattle.lvm_quorum.proofs.Writing.{both_map, changes_more}
 use Rattle.lvm_commit.specs.declared.commit.Settled.{Settled}
 use Rattle.lvm_commit.specs.declared.commit.Settled.TheVariants as settled
 use Rattle.lvm_commit.specs.Committed.{IsAlike}
-use Rattle.lvm_commit.specs.Settling.{HasSameRows, IfDone, IfWentOff, IfBack, OnDark, OnStuck, there, many_there, IsOf, IsCommitted, HasLostQuorum, AreWell, SpendsNumbers, IsOfSession}
+use Rattle.lvm_commit.specs.Settling.{HasSameRows, IfDone, IfWentOff, IfBack, OnDark, OnStuck, there, many_there, IsCommitted, HasLostQuorum, AreWell, SpendsNumbers, IsOfSession}
 use Rattle.lvm_commit.proofs.Wanting.{row_stays}
 use Rattle.lvm_core.specs.declared.fault.CommitFault.{CommitFault}
 use Rattle.lvm_core.specs.declared.request.Power.TheVariants as power

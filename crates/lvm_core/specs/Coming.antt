@@ -11,7 +11,7 @@ use Rattle.lvm_commit.specs.Settling.{NoneIsLeft}
 use Rattle.lvm_core.specs.declared.refused.Refused.{Refused}
 use Rattle.lvm_core.specs.State.{Core, State}
 use Rattle.lvm_core.specs.Held.{StartsHeld}
-use Rattle.lvm_core.specs.Settled.{IsSettled, HasNumbers}
+use Rattle.lvm_core.specs.Settled.{IsSettled, HasSpareNumbers}
 
 -- ---- the shelf and the history, by the answer
 
@@ -38,6 +38,6 @@ pub record BringsOn (run moment before after : ℕ) (old new : Device) (was is :
 -- The session that begins is settled, with numbers enough for its records, and leaves no copy behind; where the clock is ahead its disks hold what it says.
 pub record IsStarted (run moment : ℕ) (old : Device) (was : Log) (new : State) : Type 0 where
   pub settled : IsSettled new.core
-  pub numbers : HasNumbers new.core
+  pub numbers : HasSpareNumbers new.core
   pub left : NoneIsLeft new.core.descriptor new.core.status
   pub held : ClockIsAhead run moment old was.facts → StartsHeld new.device new.core

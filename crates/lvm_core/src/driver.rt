@@ -15,7 +15,7 @@ ghost use Rattle.lvm_core.specs.Dark.{is_waiting, after_arrange};
 ghost use Rattle.lvm_core.specs.Looking.{IsNumberOf, HasNoVolume};
 ghost use Rattle.lvm_core.specs.Sound.{IsSound, HaveAllLanded};
 ghost use Rattle.lvm_core.specs.Starting.{ArePlaced, first_core};
-ghost use Rattle.lvm_core.specs.Settled.{IsSettled, HasNumbers};
+ghost use Rattle.lvm_core.specs.Settled.{IsSettled, HasSpareNumbers};
 ghost use Rattle.lvm_core.specs.Committing.{CommitEnds, StatusEnds, AreUnused, AreMarked, Restates};
 ghost use Rattle.lvm_core.specs.Zeros.{ZeroEnds, KeepsRecords, IsZeroOf};
 ghost use Rattle.lvm_core.specs.Leaves.{Leaves, committing, marking, zeroing};
@@ -131,7 +131,7 @@ impl<S: Shelf> Driver<S> {
     /// nothing can be committed any more, only looked at, and the session closed.
     pub fn commit(&mut self, next: Prepared, patience: &mut Patience) -> Result<(), CommitFault>
         requires settled { IsSettled self.old.1 }
-        requires numbers { HasNumbers self.old.1 }
+        requires numbers { HasSpareNumbers self.old.1 }
         requires alike { IsAlike next self.old.1.descriptor }
         ensures ends { CommitEnds next patience.old.left (state_of S.device self.old) (state_of S.device self.new) result }
         // whatever the answer
@@ -155,7 +155,7 @@ impl<S: Shelf> Driver<S> {
         patience: &mut Patience,
     ) -> Result<(), CommitFault>
         requires settled { IsSettled self.old.1 }
-        requires numbers { HasNumbers self.old.1 }
+        requires numbers { HasSpareNumbers self.old.1 }
         requires unused { AreUnused self.old.1.descriptor (stale.now ++ fresh.now) }
         requires once { AllPairs (λ a b. a ≢ b) (stale.now ++ fresh.now) }
         ensures ends { StatusEnds patience.old.left (state_of S.device self.old) (state_of S.device self.new) result }

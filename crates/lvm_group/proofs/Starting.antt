@@ -23,7 +23,7 @@ use Rattle.lvm_stamps.specs.Behind.{IsAhead, ClockIsAhead}
 use Rattle.lvm_commit.specs.Settling.{NoneIsLeft}
 use Rattle.lvm_core.specs.declared.parts.Room.{Room}
 use Rattle.lvm_core.specs.Sound.{HaveAllLanded}
-use Rattle.lvm_core.specs.Settled.{IsSettled, HasNumbers}
+use Rattle.lvm_core.specs.Settled.{IsSettled, HasSpareNumbers}
 use Rattle.lvm_core.proofs.Settling.{starts_settled, starts_numbered}
 use Rattle.lvm_core.specs.Starting.{ArePlaced, first_core}
 use Rattle.lvm_core.specs.State.{Core}
@@ -93,8 +93,8 @@ module _ (w : NewGroup) (room : Room) (was is : Log) (old new : Device) (standin
       all_enough true total some = grind (arith, nat_tests)
       all_enough false total some = grind (arith, nat_tests)
 
-  pub settles : w.moment ≢ 0 → (core : Core) → core ≡ first_core standing.parts is (record { epoch = w.moment; seq = 2 }) standing.homes → IsSettled core × HasNumbers core
-  settles some core core_is = subst (λ (c : Core). IsSettled c × HasNumbers c) (sym core_is) (
+  pub settles : w.moment ≢ 0 → (core : Core) → core ≡ first_core standing.parts is (record { epoch = w.moment; seq = 2 }) standing.homes → IsSettled core × HasSpareNumbers core
+  settles some core core_is = subst (λ (c : Core). IsSettled c × HasSpareNumbers c) (sym core_is) (
     starts_settled (new_group old.sizes w) (new_status w) room standing.parts is (record { epoch = w.moment; seq = 2 }) standing.homes stands.parts some votes,
     starts_numbered (new_group old.sizes w) (new_status w) room standing.parts is (record { epoch = w.moment; seq = 2 }) standing.homes stands.parts stands.valid (omega arith),
   )

@@ -18,7 +18,7 @@ use Rattle.lvm_commit.specs.Settling.{NoneIsLeft}
 use Rattle.lvm_core.specs.Coming.{BringsOn, IsStarted, shelf_left, history_left}
 use Rattle.lvm_core.specs.Held.{StartsHeld}
 use Rattle.lvm_core.specs.Sound.{HaveAllLanded}
-use Rattle.lvm_core.specs.Settled.{IsSettled as IsSettledCore, HasNumbers}
+use Rattle.lvm_core.specs.Settled.{IsSettled as IsSettledCore, HasSpareNumbers}
 use Rattle.lvm_core.specs.State.{Core, state_of}
 use Rattle.lvm_line.specs.Disks.{patience_of_line}
 use Rattle.lvm_line.specs.Groups.{MkvgDoes, MakesGroup, MkvgFails, asked_for}
@@ -103,7 +103,7 @@ pub record Called {S : Type 0} (device : S → Device) (shelf : S) (log : Log) (
   pub gives : MkvgGives device w room patience_of_line log (device shelf) outcome
   pub held : ClockIsAhead log.run w.moment (device shelf) log.facts → IfOk outcome (λ driver. StartsHeld (device driver.0) driver.1)
   pub left : IfOk outcome (λ driver. NoneIsLeft driver.1.descriptor driver.1.status)
-  pub settled : IfOk outcome (λ driver. IsSettledCore driver.1 × HasNumbers driver.1)
+  pub settled : IfOk outcome (λ driver. IsSettledCore driver.1 × HasSpareNumbers driver.1)
   pub waited : (device shelf).counts.waits ≤ (device (shelf_left outcome)).counts.waits
   pub keeps : ClockIsAhead log.run w.moment (device shelf) log.facts → Keeps log.run (at (device shelf) log.facts) (at (device (shelf_left outcome)) (history_left outcome).facts)
   pub calm : StaysCalm (at (device shelf) log.facts) (at (device (shelf_left outcome)) (history_left outcome).facts)

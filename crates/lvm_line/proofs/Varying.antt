@@ -18,7 +18,7 @@ use Rattle.lvm_commit.specs.Settling.{NoneIsLeft}
 use Rattle.lvm_core.specs.Coming.{BringsOn, IsStarted, shelf_left, history_left}
 use Rattle.lvm_core.specs.Held.{StartsHeld}
 use Rattle.lvm_core.specs.Sound.{HaveAllLanded}
-use Rattle.lvm_core.specs.Settled.{IsSettled as IsSettledCore, HasNumbers}
+use Rattle.lvm_core.specs.Settled.{IsSettled as IsSettledCore, HasSpareNumbers}
 use Rattle.lvm_core.specs.State.{Core, state_of}
 use Rattle.lvm_line.specs.Disks.{patience_of_line}
 use Rattle.lvm_line.specs.Groups.{IsLit, refusal_of, VaryonDoes, VariesOn, VaryonFails}
@@ -75,7 +75,7 @@ pub record Called {S : Type 0} (device : S → Device) (shelf : S) (log : Log) (
   pub on : IfOk outcome (λ driver. ComesOn (device shelf) (device driver.0) log name moment room driver.1)
   pub held : IfOk outcome (λ driver. ClockIsAhead log.run moment (device shelf) log.facts → StartsHeld (device driver.0) driver.1)
   pub left : IfOk outcome (λ driver. NoneIsLeft driver.1.descriptor driver.1.status)
-  pub settled : IfOk outcome (λ driver. IsSettledCore driver.1 × HasNumbers driver.1)
+  pub settled : IfOk outcome (λ driver. IsSettledCore driver.1 × HasSpareNumbers driver.1)
   pub restated : IfOk outcome (λ driver. ClockIsAhead log.run moment (device shelf) log.facts → IsRestated (device shelf) (device driver.0) driver.1.descriptor)
   pub recovered : IfOk outcome (λ driver. ClockIsAhead log.run moment (device shelf) log.facts → HasNoConsistency driver.1.descriptor → IsRecovered (device shelf) (device driver.0) driver.1.descriptor)
   pub refused : IfErr outcome (λ refused. Refuses (device shelf) (device refused.shelf) name moment patience_of_line log refused.cause)

@@ -22,7 +22,7 @@ use Rattle.lvm_commit.specs.Settling.{many_there, NoneIsLeft, MarksLeft}
 use Rattle.lvm_commit.proofs.Still.{still_holds_committed}
 use Rattle.lvm_core.specs.State.{Core, State, is_there}
 use Rattle.lvm_core.specs.Held.{IsHeld}
-use Rattle.lvm_core.specs.Settled.{IsSettled, HasNumbers}
+use Rattle.lvm_core.specs.Settled.{IsSettled, HasSpareNumbers}
 use Rattle.lvm_core.specs.Committing.{moment_of, SpanGoesOn, LetsCommit, HasStated}
 use Rattle.lvm_core.specs.Leaves.{NoPartition, IsOfCommand, Leaves, committing}
 use Rattle.lvm_core.proofs.LeavesLemmas.{keeps_fact, same_status}
@@ -109,5 +109,5 @@ many_bound core valid group =
     let same : length core.status.group.pvs ≡ length core.descriptor.pvs = ap (λ (d : Descriptor). length d.pvs) group in
     omega (arith, all, same, valid.head.members, most core.descriptor.big)
 
-pub has_numbers : (core : Core) → IsOneGroup core → HasRoom core → HasNumbers core
+pub has_numbers : (core : Core) → IsOneGroup core → HasRoom core → HasSpareNumbers core
 has_numbers core group room = let many = many_bound core group.valid group.status in omega (arith, many, room.numbers)

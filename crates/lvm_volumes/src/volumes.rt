@@ -6,7 +6,7 @@ ghost use Rattle.lvm_disk.specs.Device.{IsReady};
 ghost use Rattle.lvm_map.specs.FirstFit.{is_on};
 ghost use Rattle.lvm_core.specs.State.{state_of};
 ghost use Rattle.lvm_core.specs.Leaves.{Leaves, NoDescriptor, NoPartition};
-ghost use Rattle.lvm_core.specs.Settled.{IsSettled, HasNumbers};
+ghost use Rattle.lvm_core.specs.Settled.{IsSettled, HasSpareNumbers};
 ghost use Rattle.lvm_volumes.specs.Endings.{TakesCommands, IfOn, StillHeld, commanding};
 ghost use Rattle.lvm_volumes.specs.PlannedVolume.{IsOneGroup, IsWithout};
 ghost use Rattle.lvm_volumes.specs.Stages.{IfGoesOn, AreUnusedOn, IsLowestMissing, ZerosEnd, ClearEnds, MakeEnds, MayMake, RemoveEnds};
@@ -150,7 +150,7 @@ fn clear<S: Shelf>(
     patience: &mut Patience,
 ) -> Result<(), CommitFault>
     requires settled { IsSettled driver.old.1 }
-    requires numbers { HasNumbers driver.old.1 }
+    requires numbers { HasSpareNumbers driver.old.1 }
     requires group { IsOneGroup driver.old.1 }
     requires unused { AreUnusedOn driver.old.1 map.now }
     ensures ends { ClearEnds map.now patience.old.left (state_of S.device driver.old) (state_of S.device driver.new) result }

@@ -7,7 +7,7 @@ use Rattle.lvm_vol.specs.Facts.{Fact, Making, Made}
 use Rattle.lvm_commit.specs.Settling.{many_there}
 use Rattle.lvm_core.specs.declared.fault.CommitFault.{CommitFault}
 use Rattle.lvm_core.specs.State.{Core, State, state_of}
-use Rattle.lvm_core.specs.Settled.{IsSettled, HasNumbers}
+use Rattle.lvm_core.specs.Settled.{IsSettled, HasSpareNumbers}
 use Rattle.lvm_core.specs.Leaves.{NoDescriptor, Leaves}
 use Rattle.lvm_volumes.specs.declared.new_volume.NewVolume.{NewVolume}
 use Rattle.lvm_volumes.specs.declared.new_volume.VolumePlan.{VolumePlan}
@@ -90,8 +90,8 @@ commit-requires-clause-numbers g c =
     let same : m ≡ entered b (Making plan.number plan.blocks plan.mode) = λ t. record { device = g.S.Shelf.device (c.enter.ensures.shelf t); core = c.enter.ensures.core t } in
     let many_a = many_bound a.core planned.group.valid planned.group.status in
     let many_b : many_there b.core.status ≤ 128 = many_bound (record b.core { descriptor = a.core.descriptor }) planned.group.valid (leaves_ab.status.group ∙ planned.group.status) in
-    let enough : HasNumbers b.core = omega (arith, leaves_ab.numbers.most, many_a, many_b, planned.may.room.numbers) in
-    subst (λ (x : State). HasNumbers x.core) (sym same) enough
+    let enough : HasSpareNumbers b.core = omega (arith, leaves_ab.numbers.most, many_a, many_b, planned.may.room.numbers) in
+    subst (λ (x : State). HasSpareNumbers x.core) (sym same) enough
 
 pub commit-requires-clause-alike : goal.commit-requires-clause-alike
 commit-requires-clause-alike g c =

@@ -5,7 +5,7 @@ use Rattle.lvm_vol.specs.declared.entry.Vol.TheVariants.{Lv}
 use Rattle.lvm_vol.specs.Facts.{Removing, Removed}
 use Rattle.lvm_core.specs.declared.fault.CommitFault.{CommitFault}
 use Rattle.lvm_core.specs.State.{State, state_of}
-use Rattle.lvm_core.specs.Settled.{IsSettled, HasNumbers}
+use Rattle.lvm_core.specs.Settled.{IsSettled, HasSpareNumbers}
 use Rattle.lvm_volumes.specs.PlannedVolume.{IsWithout}
 use Rattle.lvm_volumes.proofs.Entering.{entered, settled_entered, has_numbers}
 use Rattle.lvm_volumes.proofs.Removing.{break_leaves, remove_break, remove_leaves, remove_still, removed}
@@ -28,7 +28,7 @@ commit-requires-clause-numbers g c =
     let m : State = state_of g.S.Shelf.device c.enter.new.self in
     let same : m ≡ entered a (Removing (Lv c.args.lv)) = λ t. record { device = g.S.Shelf.device (c.enter.ensures.shelf t); core = c.enter.ensures.core t } in
     let without : IsWithout c.args.lv a.core c.args.next = c.requires.without in
-    subst (λ (x : State). HasNumbers x.core) (sym same) (has_numbers a.core without.group without.may.room)
+    subst (λ (x : State). HasSpareNumbers x.core) (sym same) (has_numbers a.core without.group without.may.room)
 
 pub commit-requires-clause-alike : goal.commit-requires-clause-alike
 commit-requires-clause-alike g c =
