@@ -4,7 +4,7 @@ use Rattle.lvm_line.specs.Disks.{patience_of_line}
 use Rattle.lvm_line.specs.Moments.{GoesOn}
 use Rattle.lvm_line.specs.Stages.{shelf_in, history_in, state_in, Between}
 use Rattle.lvm_line.specs.State.{without_facts}
-use Rattle.lvm_line.specs.Volumes.{IsOver, MakesVolume, MklvFails, refusal_for, wanted}
+use Rattle.lvm_line.specs.Volumes.{IsOver, MakesVolume, MklvFails, wanted}
 use Rattle.lvm_line.specs.declared.reply.Refusal.{Refusal}
 use Rattle.lvm_line.specs.declared.reply.Reply.{Reply}
 use Rattle.lvm_line.specs.declared.reply.Reply.TheVariants as reply
