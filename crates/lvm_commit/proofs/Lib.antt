@@ -1,4 +1,3 @@
-pub mod Members
 pub mod Found
 pub mod Copies
 pub mod Leaving

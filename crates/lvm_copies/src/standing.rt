@@ -11,7 +11,7 @@ use lvm_num::{Mode, Policy, Pp};
 use lvm_path::{Ask, Target};
 use lvm_session::{OpenCopy, Session};
 
-/// Whether a write of a record on the disk has failed, in this session or before it.
+/// Whether the disk didn't answer when the session began, or a write of a record on it has failed since.
 pub fn is_missing(session: &Session, disk: u16) -> bool
     ensures { result ≡ is_missing (core_of session.now) disk }
 {

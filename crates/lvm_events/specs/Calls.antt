@@ -191,10 +191,6 @@ abbrev pub OpenGives : Counts → Core → Core → ℕ → ℕ → ℕ → Resu
 OpenGives counts old new lv lp number answer =
     MatchOption (copy_fault old lv lp number) ((answer ≡ Ok tt) × Opens counts old new lv lp number) (λ (why : CopyFault). (answer ≡ Err why) × (new ≡ old))
 
--- no copy is open
-abbrev pub closed : Core → Core
-closed core = record core { copy = None }
-
 -- ---- what a caller sees of it
 
 -- how one stands that has ended so
@@ -211,3 +207,12 @@ state_of_copy c = if is_out c.step then copy.Running c.cursor else option_map_or
 -- how far the copy is that is open
 abbrev pub copy_state : Core → CopyState
 copy_state core = option_map_or state_of_copy core.copy copy.Closed
+
+-- no copy is open
+abbrev pub closed : Core → Core
+closed core = record core { copy = None }
+
+-- The copy that is open is closed, which isn't running.
+pub record Closes (old new : Core) : Type 0 where
+  pub ended : (cursor : ℕ) → copy_state old ≡ copy.Running cursor → ⊥
+  pub is : new ≡ closed old

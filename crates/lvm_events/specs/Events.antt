@@ -16,7 +16,7 @@ use Rattle.lvm_num.specs.StatusBytes.{status_bytes}
 use Rattle.lvm_disk.specs.Device.{Flight}
 use Rattle.lvm_disk.specs.Steps.{Starts}
 use Rattle.lvm_vol.specs.declared.entry.Outcome.{Outcome}
-use Rattle.lvm_vol.specs.Facts.{Landed, Request as Asked}
+use Rattle.lvm_vol.specs.Facts.{Landed}
 use Rattle.lvm_vol.specs.Log.{with_fact, request_of}
 use Rattle.lvm_pbuf.specs.Out.{TakesLowest}
 use Rattle.lvm_hold.specs.Waiting.{without}
@@ -44,7 +44,7 @@ use Rattle.lvm_session.specs.declared.bringing.Step.TheVariants as step
 use Rattle.lvm_session.specs.State.{Core, State, state}
 use Rattle.lvm_session.specs.Judging.{copies_for, mode_of, policy_of, group_of, is_usable, aims, place_of, next_for}
 use Rattle.lvm_session.specs.Bringing.{with_back, next_source, block_at}
-use Rattle.lvm_events.specs.Marks.{MarksIf}
+use Rattle.lvm_events.specs.Marks.{WantsDirtyIf}
 use Rattle.lvm_session.specs.Enabled.{target_due, note_due, may_pin, may_read, may_write, is_status_due}
 
 -- the request of a place is now this one
@@ -133,8 +133,8 @@ is_passive mode.Passive = true
 is_passive mode.Off = false
 
 -- A write goes to several copies of a passive volume that isn't wanted dirty yet.
-abbrev pub lacks_mark : Core → Ask → List Target → Bool
-lacks_mark core ask targets = is_passive (mode_of core ask) && is_write ask && nat_le 2 (length targets) && not (calls_dirty core.status.wanted (lv_of ask))
+abbrev pub makes_dirty : Core → Ask → List Target → Bool
+makes_dirty core ask targets = is_passive (mode_of core ask) && is_write ask && nat_le 2 (length targets) && not (calls_dirty core.status.wanted (lv_of ask))
 
 -- it has its targets, a pin that it held is given up, and its volume's last read began at the first copy of the order
 abbrev pub after_admission : Core → ℕ → Open → List Target → List ℕ → Core
@@ -151,7 +151,7 @@ pub record Admits (old new : State) (place : ℕ) : Type 0 where
   pub targets : List Target
   pub order : List ℕ
   pub chosen : Chooses old request.request.ask targets order
-  pub marks : MarksIf (lacks_mark old.core request.request.ask targets) (lv_of request.request.ask) old.core.status new.core.status
+  pub dirty : WantsDirtyIf (makes_dirty old.core request.request.ask targets) (lv_of request.request.ask) old.core.status new.core.status
   pub is : new ≡ state old.device (record (after_admission old.core place request targets order) { status = new.core.status })
 
 -- ---- Pin
@@ -241,10 +241,6 @@ pub record IsDataTransfer (core : Core) (r : Request) (t : Target) (f : Flight) 
 -- a target's transfer has started
 abbrev pub begun_as : ℕ → Open → Open
 begun_as target o = record o { request = with_start o.request target }
-
--- the buffer carries the blocks of a write
-abbrev pub IsLoaded : Asked → Ask → Buffer → Type 0
-IsLoaded asked ask buf = is_write ask ≡ true → (k : ℕ) → k < count_of ask → slice_get buf.sectors k ≡ slice_get asked.blocks k
 
 -- it is the turn of this target of the request at a place
 pub record IsDueAt (core : Core) (place target : ℕ) : Type 0 where

@@ -56,9 +56,9 @@ pub record WantsDirty (lv : ℕ) (old new : Stored) : Type 0 where
   pub rest : seen new ≡ with_wanted (seen old) (change.Dirty lv) new.wanted
 
 -- it is wanted dirty, where this is so
-abbrev pub MarksIf : Bool → ℕ → Stored → Stored → Type 0
-MarksIf false lv old new = new ≡ old
-MarksIf true lv old new = WantsDirty lv old new
+abbrev pub WantsDirtyIf : Bool → ℕ → Stored → Stored → Type 0
+WantsDirtyIf false lv old new = new ≡ old
+WantsDirtyIf true lv old new = WantsDirty lv old new
 
 -- ---- what missing disks entail
 

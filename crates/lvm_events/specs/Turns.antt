@@ -1,13 +1,14 @@
 -- A turn: the first event that may be made, else the end of a transfer, else the end of the session.
 use Rattle.std.specs.Prelude.{◌≡◌, ◌⊎◌, ℕ, Bool, true, false, [], Some, None}
-use Rattle.lvm_disk.specs.Steps.{GoesDark, Waits}
+use Rattle.lvm_disk.specs.declared.shelf.Arrange.{Arrange}
+use Rattle.lvm_disk.specs.Steps.{ArrangeGives, GoesDark, Waits}
 use Rattle.lvm_status.specs.Update.{Stored}
 use Rattle.lvm_mwc.specs.Cache.{has_disk}
 use Rattle.lvm_session.specs.declared.open.Power.TheVariants as power
 use Rattle.lvm_events.specs.declared.answers.Turned.{Turned}
 use Rattle.lvm_events.specs.declared.answers.Turned.TheVariants as turned
 use Rattle.lvm_session.specs.State.{State, state}
-use Rattle.lvm_events.specs.Dark.{all_dark, all_off}
+use Rattle.lvm_events.specs.Dark.{after_arrange, all_dark, all_off}
 use Rattle.lvm_session.specs.declared.event.Event.{Event}
 use Rattle.lvm_session.specs.declared.event.Event.TheVariants as event
 use Rattle.lvm_session.specs.Enabled.{first_event, is_lost}
@@ -36,11 +37,12 @@ is_start (event.StartData place target) = true
 is_start event.ReadCopy = true
 is_start event.WriteCopy = true
 
--- a status that was put in flight by a start to which the power didn't last says the same
+-- the same is committed and wanted, and in flight too, unless a start to which the power didn't last put in flight what is wanted
 pub record SaysTheSame (old new : Stored) : Type 0 where
   pub group : new.group ≡ old.group
   pub committed : new.committed ≡ old.committed
   pub wanted : new.wanted ≡ old.wanted
+  pub in_flight : (new.in_flight ≡ old.in_flight) ⊎ ((old.in_flight ≡ None) × (new.in_flight ≡ Some old.wanted))
 
 -- The power is found off, or cut: the session is over.
 pub record Darkens (old new : State) : Type 0 where
@@ -51,18 +53,16 @@ pub record Darkens (old new : State) : Type 0 where
   pub notes : (disk : ℕ) → has_disk new.core.cache disk ≡ has_disk old.core.cache disk
   pub is : new.core ≡ all_dark (record old.core { status = new.core.status; cache = new.core.cache })
 
--- A start is made, unless the power is found off.
-abbrev pub StartGives : Event → State → State → Turned → Type 0
-StartGives start old new turned.Moved = Makes start old new
-StartGives start old new turned.Dark = Darkens old new
-StartGives start old new turned.Idle = ⊥
-StartGives start old new turned.Off = ⊥
-
 -- The votes are lost and nothing is out: the session is over.
 pub record GoesOff (old new : State) : Type 0 where
   pub lost : is_lost old.core ≡ true
   pub idle : old.device.flights ≡ []
   pub is : new ≡ state old.device (all_off old.core)
+
+-- A client gives an order to the shelf; a power cut ends the session.
+pub record Arranges (old new : State) (what : Arrange) (done : Bool) : Type 0 where
+  pub device : ArrangeGives old.device new.device what done
+  pub is : new.core ≡ after_arrange what done old.core
 
 -- nothing is out, and the votes aren't lost
 pub record FindsNothing (old new : State) : Type 0 where

@@ -34,7 +34,7 @@ pub enum Turned {
 /// The answer of a request.
 #[derive(Clone, Copy, Debug, PartialEq, Eq)]
 pub enum Taken {
-    /// The blocks of the write stand on each fresh copy.
+    /// The blocks of the write stood on each fresh copy when it landed.
     Done,
     /// The blocks of the read stand in the history, so many from the block `place` on.
     Got { place: u64, count: u32 },

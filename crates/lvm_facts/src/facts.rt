@@ -7,7 +7,7 @@ ghost use Rattle.lvm_mwc.specs.Cache.{is_named};
 ghost use Rattle.lvm_path.specs.declared.target.Target.{Target};
 ghost use Rattle.lvm_path.specs.Asks.{at_of};
 ghost use Rattle.lvm_session.specs.Fields.{core_of};
-ghost use Rattle.lvm_session.specs.Judging.{IsWithin, facts_of, has_mark, has_names, is_changed, is_usable, mode_of, next_for};
+ghost use Rattle.lvm_session.specs.Judging.{IsWithin, facts_of, has_dirty_mark, has_names, is_changed, is_usable, mode_of, next_for};
 ghost use Rattle.lvm_facts.specs.Queued.{IsQueued};
 
 use crate::held::is_held_back;
@@ -47,8 +47,8 @@ fn are_named(session: &Session, lv: u16, group: u32, targets: &[Target]) -> bool
         .all(|target| session.cache.is_named(target.pp.disk, lv, group))
 }
 
-fn has_mark(session: &Session, request: &Request) -> bool
-    ensures { result ≡ has_mark (core_of session.now) (mode_of (core_of session.now) request.now.ask) request.now }
+fn has_dirty_mark(session: &Session, request: &Request) -> bool
+    ensures { result ≡ has_dirty_mark (core_of session.now) (mode_of (core_of session.now) request.now.ask) request.now }
 {
     match mode_of(session, &request.ask) {
         Mode::Passive => is_settled_dirty(session, request.ask.lv()),
@@ -92,7 +92,7 @@ pub fn facts_of(session: &Session, request: &Request) -> Facts
         pending: is_pending(session, request),
         pinned: request.pinned,
         named: has_names(session, request),
-        dirty: has_mark(session, request),
+        dirty: has_dirty_mark(session, request),
         marked: is_marked(session, request),
         usable: any_is_usable(session, copies_for(session, &request.ask)),
         changed: is_changed(session, request),

@@ -73,7 +73,7 @@ is_waiting o = is_none o.landed
 
 -- ---- how a copy stands
 
--- A disk is missing from the first write of a record on it on that failed.
+-- A disk is missing that didn't answer when the session began, and from the first write of a record on it on that failed.
 abbrev pub is_missing : Core → ℕ → Bool
 is_missing core disk = calls_missing core.status.wanted disk
 
@@ -170,10 +170,10 @@ has_names core mode.Passive r = true
 has_names core mode.Off r = true
 
 -- its volume is dirty by the committed status and by the one in flight, where it is passive
-abbrev pub has_mark : Core → Mode → Request → Bool
-has_mark core mode.Active r = true
-has_mark core mode.Passive r = calls_dirty core.status.committed (lv_of r.ask) && calls_dirty (unwrap_or core.status.in_flight core.status.committed) (lv_of r.ask)
-has_mark core mode.Off r = true
+abbrev pub has_dirty_mark : Core → Mode → Request → Bool
+has_dirty_mark core mode.Active r = true
+has_dirty_mark core mode.Passive r = calls_dirty core.status.committed (lv_of r.ask) && calls_dirty (unwrap_or core.status.in_flight core.status.committed) (lv_of r.ask)
+has_dirty_mark core mode.Off r = true
 
 -- ---- who waits
 
@@ -198,7 +198,7 @@ facts_of core r = record {
   pending = is_pending core r;
   pinned = r.pinned;
   named = has_names core (mode_of core r.ask) r;
-  dirty = has_mark core (mode_of core r.ask) r;
+  dirty = has_dirty_mark core (mode_of core r.ask) r;
   marked = is_marked core r;
   usable = list_any (is_usable core) (copies_for core r.ask);
   changed = is_changed core r;

@@ -1,28 +1,32 @@
 -- A copy that is brought up.
-use Rattle.std.proofs.Common.{◌≡◌, inl, ◌<◌, ◌+◌, ◌-◌, ◌^◌, true, None, refl, arith}
+use Rattle.std.proofs.Common.{◌≡◌, inl, ◌<◌, ◌+◌, ◌-◌, ◌^◌, true, None, refl, sym, ◌∙◌, arith}
 use Rattle.lvm_num.specs.Bits.{has_bit}
 use Rattle.lvm_num.specs.Disks.{has}
 use Rattle.lvm_num.specs.declared.descriptor.Mode.{Mode}
 use Rattle.lvm_num.specs.declared.descriptor.Mode.TheVariants as mode
 use Rattle.lvm_num.specs.Descriptor.{copies_of}
 use Rattle.lvm_num.specs.Status.{calls_stale}
+use Rattle.lvm_num.specs.Votes.{votes_by, votes_in, is_enough_to_write}
 use Rattle.lvm_kept.specs.Examples.{mirror}
+use Rattle.lvm_status.specs.Update.{members_there}
+use Rattle.lvm_session.specs.State.{state}
 use Rattle.lvm_session.specs.declared.flown.Owner.TheVariants as owner
 use Rattle.lvm_session.specs.Bringing.{copy_ends}
 use Rattle.lvm_sound.specs.Owners.{AreOwned}
 use Rattle.lvm_sound.specs.Left.{updates_left}
-use Rattle.lvm_sound.specs.Sound.{IsCopy, IsCopyCaused, IsFitting, IsTold, IsGoing}
-use Rattle.lvm_sound.specs.Worked.{bringing_up, bringing, core_of, status_of, behind, faultless, CopiesAreSound}
+use Rattle.lvm_sound.specs.Causes.{IsCopyCaused}
+use Rattle.lvm_sound.specs.Sound.{stays_fresh, IsCopy, IsFitting, IsTold, IsGoing}
+use Rattle.lvm_sound.specs.Worked.{mirrored, first_copy, bringing_up, bringing, core_of, status_of, behind, faultless, CopiesAreSound}
 use Rattle.lvm_sound.proofs.Small.{not_so, not_either, not_none}
-use Rattle.lvm_sound.proofs.Parts.{placed, not_marked, status_is_sound, none_behind, none_cleared, notes_fit, one_stale, none_out, no_fault, zeros_at}
-use Rattle.lvm_sound.proofs.Whole.{on_is_not_off, fitting, owned}
+use Rattle.lvm_sound.proofs.Parts.{placed, not_marked, status_is_sound, none_behind, none_cleared, none_missing, has_fresh, notes_fit, one_stale, none_out, no_fault, zeros_at}
+use Rattle.lvm_sound.proofs.Whole.{on_is_not_off, on_is_not_stuck, no_entries, fitting, owned}
 
 module _ (m : Mode) where
   fits : IsFitting (core_of (bringing m))
-  fits = fitting (bringing m) (omega arith) (omega arith) (omega arith) (notes_fit m)
+  fits = fitting (bringing m) (omega arith) (omega arith) (omega arith) no_entries (notes_fit m)
 
   told : IsTold (core_of (bringing m))
-  told = record { table = record { ascending = tt; still = tt }; each = λ id. refl; requests = tt }
+  told = record { ordered = tt; table = record { ascending = tt; still = tt }; each = λ id. refl; requests = tt }
 
   owns : AreOwned (core_of (bringing m))
   owns (owner.Data id target) = refl
@@ -42,12 +46,16 @@ module _ (m : Mode) where
     place = (0, omega arith, refl);
     room = tt;
     free = λ idle. not_either idle;
+    hand = λ ended. not_either ended;
+    tried = λ disk is. not_marked disk is;
+    source = tt;
     stale = λ runs part. (refl, refl);
     clearing = λ runs whole. not_so whole;
   }
 
-  caused : IsCopyCaused faultless (copies_of (mirror m) 0) (bringing_up 3 None)
+  caused : IsCopyCaused (state faultless (core_of (bringing m))) (copies_of (mirror m) 0) (bringing_up 3 None)
   caused = record {
+    began = λ number p is. let first = zeros_at 128 p.disk in omega (arith, first);
     since = λ number p is. let none = zeros_at 3 (number - 1) in omega (arith, none);
     tried = λ number p is tried. not_marked p.disk tried;
     failed = λ e. not_none e;
@@ -56,6 +64,10 @@ module _ (m : Mode) where
   runs_on : copy_ends (core_of (bringing m)) ≡ None
   unfolding has_bit has
   runs_on = refl
+
+first_stays : (m : Mode) → stays_fresh (core_of (bringing m)) first_copy ≡ true
+unfolding has_bit
+first_stays m = refl
 
 numbers : (m : Mode) → 3 + updates_left (core_of (bringing m)) < 2 ^ 32
 unfolding has_bit has
@@ -77,9 +89,14 @@ goes_on m = record {
   hands = λ n. omega arith;
   behind = λ p is. none_behind m true p is;
   reviewed = runs_on m;
+  fresh = λ lv lp some. has_fresh (bringing m) (first_stays m) lv lp some;
   clearings = λ p held clear. none_cleared (calls_stale (status_of behind) p) held clear;
   numbers = numbers m;
 }
+
+votes : (m : Mode) → is_enough_to_write (mirrored m) (votes_in (mirrored m) (members_there (mirrored m) (status_of behind))) ≡ true
+unfolding votes_by has_bit has
+votes m = refl
 
 pub copies_are_sound : CopiesAreSound
 copies_are_sound m = record {
@@ -88,16 +105,19 @@ copies_are_sound m = record {
   placed = placed m (status_of behind);
   buffers = λ n. omega arith;
   none_lost = λ lit n. none_out n;
-  quiet = λ none. refl;
-  on = λ e. record { going = goes_on m; rows = tt; caused = tt };
+  on = λ e. record { going = goes_on m; rows = tt; caused = tt; chosen = tt };
   lit = λ e. record { power = refl; freed = refl };
   dark = λ e. not_so e;
   off = λ e. on_is_not_off e;
   over = λ e. not_so e;
+  stuck = λ e. on_is_not_stuck e;
+  counted = tt;
   answered = tt;
   copy = caused m;
   origin = record {
     since = no_fault m;
+    votes = votes m;
+    still_missing = λ disk is. not_so (sym (none_missing true disk) ∙ is);
     missing = λ disk is. inl is;
     stale = λ p is. inl (one_stale (calls_stale (status_of behind) p) is);
   };

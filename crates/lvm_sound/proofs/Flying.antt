@@ -1,9 +1,12 @@
 -- A write whose first transfer is out.
-use Rattle.std.proofs.Common.{◌≡◌, inl, ℕ, zero, suc, ◌<◌, ◌+◌, ◌^◌, Bool, true, false, ◌&&◌, ◌||◌, List, [], ◌∷◌, Some, None, refl, sym, ap, ◌∙◌, arith}
+use Rattle.std.proofs.Common.{◌≡◌, inl, ℕ, zero, suc, ◌<◌, ◌+◌, ◌^◌, Bool, true, false, ◌&&◌, ◌||◌, [], ◌∷◌, Some, None, refl, sym, ap, ◌∙◌, arith}
 use Rattle.std.specs.Prelude.{◌≢◌, ◌==◌, is_some, slice_get, slice_index_or, option_and_then, if◌then◌else◌}
 use Rattle.std.specs.Option.{option_map_or}
 use Rattle.std.proofs.lemmas.Bool.Decides.{nat_tests}
+use Rattle.std.proofs.lemmas.List.Elements.{All-nil, All-cons}
 use Rattle.lvm_num.specs.Bits.{has_bit}
+use Rattle.lvm_num.specs.Note.{IsEntry}
+use Rattle.lvm_mwc.specs.Entries.{AreEntries}
 use Rattle.lvm_num.specs.Disks.{has}
 use Rattle.lvm_num.specs.declared.place.Pp.{Pp}
 use Rattle.lvm_num.specs.declared.descriptor.Mode.TheVariants as mode
@@ -18,17 +21,20 @@ use Rattle.lvm_mwc.specs.Cache.{has_disk, flight_on, no_notes}
 use Rattle.lvm_sched.specs.declared.writes.TargetState.TheVariants as stage
 use Rattle.lvm_path.specs.declared.target.Target.{Target}
 use Rattle.lvm_session.specs.declared.flown.Owner.TheVariants as owner
+use Rattle.lvm_session.specs.State.{state}
 use Rattle.lvm_sound.specs.Owners.{AreOwned, IsDataOf, target_flies}
 use Rattle.lvm_sound.specs.Left.{updates_left}
-use Rattle.lvm_sound.specs.Sound.{count_if, out_with, IsAsked, IsCaused, IsOpenOne, IsFitting, IsTold, IsGoing}
+use Rattle.lvm_sound.specs.Requests.{IsOpenOne}
+use Rattle.lvm_sound.specs.Causes.{IsCaused, IsCounted}
+use Rattle.lvm_sound.specs.Sound.{count_if, out_with, IsAsked, IsFitting, IsTold, IsGoing}
 use Rattle.lvm_sound.specs.Worked.{mirrored, first_copy, second_copy, target_on, flying_write, naming, flying, first_flight, begun_write, core_of, status_of, fresh, faultless, FlyingWritesAreSound}
-use Rattle.lvm_sound.proofs.Small.{not_so, not_either}
-use Rattle.lvm_sound.proofs.Parts.{none_cleared, placed, status_is_sound, none_behind}
-use Rattle.lvm_sound.proofs.Whole.{on_is_not_off, fitting, true_to_origin}
+use Rattle.lvm_sound.proofs.Small.{not_so, not_either, or_left}
+use Rattle.lvm_sound.proofs.Parts.{none_cleared, has_fresh, placed, status_is_sound, none_behind}
+use Rattle.lvm_sound.proofs.Whole.{on_is_not_off, on_is_not_stuck, begun_so, first_stays, fitting, true_to_origin}
 
 -- ---- its notes
 
-notes_named : (disk : ℕ) → has_disk (core_of flying).cache disk ≡ is_member (mirrored mode.Active) disk
+pub notes_named : (disk : ℕ) → has_disk (core_of flying).cache disk ≡ is_member (mirrored mode.Active) disk
 notes_named disk = by (0 == disk) (1 == disk) (2 == disk)
   where
     by : (a b c : Bool) → is_some (if a then Some (naming 0) else if b then Some (naming 1) else if c then Some (no_notes 2) else None) ≡ a || (b || (c || false))
@@ -37,7 +43,7 @@ notes_named disk = by (0 == disk) (1 == disk) (2 == disk)
     by false false true = refl
     by false false false = refl
 
-no_note_flies : (disk : ℕ) → flight_on (core_of flying).cache disk ≡ None
+pub no_note_flies : (disk : ℕ) → flight_on (core_of flying).cache disk ≡ None
 no_note_flies disk = by (0 == disk) (1 == disk) (2 == disk)
   where
     by : (a b c : Bool) → option_and_then (λ (n : DiskNotes). n.flight) (if a then Some (naming 0) else if b then Some (naming 1) else if c then Some (no_notes 2) else None) ≡ None
@@ -48,7 +54,7 @@ no_note_flies disk = by (0 == disk) (1 == disk) (2 == disk)
 
 -- ---- its transfer
 
-turned : (a b : ℕ) → (a == b) ≡ (b == a)
+pub turned : (a b : ℕ) → (a == b) ≡ (b == a)
 turned a b = grind (arith, nat_tests)
 
 not_first : (k : ℕ) → (suc k == 0) ≡ false
@@ -99,7 +105,7 @@ asked_so : IsAsked (Begun begun_write ∷ []) flying_write
 asked_so = record { request = begun_write; told = refl; client = refl; vol = refl; at = refl; count = refl; write = refl; length = λ e. refl; place = refl; outcome = refl; answered = λ e. not_either e }
 
 told : IsTold (core_of flying)
-told = record { table = record { ascending = (tt, tt); still = (λ e. refl, tt) }; each = λ id. by (1 == id); requests = (asked_so, tt) }
+told = record { ordered = begun_so; table = record { ascending = (tt, tt); still = (λ e. refl, tt) }; each = λ id. by (1 == id); requests = (asked_so, tt) }
   where
     by : (t : Bool) → is_some (if t then Some begun_write else None) && true ≡ t || false
     by true = refl
@@ -121,17 +127,17 @@ request = record {
     id = omega arith;
   };
   waits = λ e. record {
-    targets = (record { copy = refl; sector = refl }, (record { copy = refl; sector = refl }, tt));
-    shape = (omega arith, λ write. refl);
-    hand = refl;
-    room = tt;
-    differ = differ;
-    free = λ past. refl;
-    noted = λ active write. inl refl;
-    marked = λ passive waits. not_so waits;
-    uncaught = λ write. (refl, (refl, tt));
-    due = λ waits. not_so waits;
-    one = λ read. not_either read;
+    shape = record {
+      targets = (record { copy = refl; sector = refl; there = refl }, (record { copy = refl; sector = refl; there = refl }, tt));
+      phase_is = (omega arith, λ write. refl);
+      hand = refl;
+      room = tt;
+      differ = differ;
+      usable = λ past. refl;
+      one = λ read. not_either read;
+    };
+    ready = record { free = λ past. refl; recorded = inl refl; wanted = λ past two. refl; named = λ has two. refl; dirty = λ has two. refl };
+    judged = λ write. record { uncaught = (refl, (refl, tt)); due = λ waits. not_so waits; all = λ begun p among. or_left _ among };
   };
   over = λ e. not_either e;
   still = λ e. not_either e;
@@ -139,20 +145,29 @@ request = record {
 
 first_caused : IsCaused faultless (core_of flying) (target_on first_copy stage.Flying)
 unfolding has_bit
-first_caused = record { since = omega arith; failed = λ e. not_so e }
+first_caused e = not_so e
 
 second_caused : IsCaused faultless (core_of flying) (target_on second_copy stage.Waiting)
 unfolding has_bit
-second_caused = record { since = omega arith; failed = λ e. not_so e }
+second_caused e = not_so e
+
+first_counted : IsCounted (state faultless (core_of flying)) (target_on first_copy stage.Flying)
+first_counted = record { began = omega arith; since = omega arith }
+
+second_counted : IsCounted (state faultless (core_of flying)) (target_on second_copy stage.Waiting)
+second_counted = record { began = omega arith; since = omega arith }
 
 numbers : 3 + updates_left (core_of flying) < 2 ^ 32
 unfolding has_bit has
 numbers = omega arith
 
-fits : IsFitting (core_of flying)
-fits = fitting flying (omega arith) (omega arith) (omega arith) notes_named
+pub one_entry : AreEntries (core_of flying).cache.entries
+one_entry = record { most = omega arith; differ = (refl, tt); counting = All-cons IsEntry (record { lv = 1; group = 0 }) [] (record { some_lv = λ e. omega (arith, e); lv = omega arith; group = omega arith }) (All-nil IsEntry) }
 
-one_pin : (lv group : ℕ) → option_map_or (λ (e : CacheEntry). e.pins) (if 1 == lv && 0 == group then Some (record { lv = 1; group = 0; pins = 1 }) else None) 0 ≡ 0 + count_if (1 == lv && 0 == group)
+fits : IsFitting (core_of flying)
+fits = fitting flying (omega arith) (omega arith) (omega arith) one_entry notes_named
+
+pub one_pin : (lv group : ℕ) → option_map_or (λ (e : CacheEntry). e.pins) (if 1 == lv && 0 == group then Some (record { lv = 1; group = 0; pins = 1 }) else None) 0 ≡ 0 + count_if (1 == lv && 0 == group)
 one_pin lv group = by (1 == lv && 0 == group)
   where
     by : (t : Bool) → option_map_or (λ (e : CacheEntry). e.pins) (if t then Some (record { lv = 1; group = 0; pins = 1 }) else None) 0 ≡ 0 + count_if t
@@ -173,27 +188,26 @@ goes_on = record {
   hands = λ n. omega arith;
   behind = λ p is. none_behind mode.Active false p is;
   reviewed = refl;
+  fresh = λ lv lp some. has_fresh flying (first_stays mode.Active) lv lp some;
   clearings = λ p held clear. none_cleared (calls_stale (status_of fresh) p) held clear;
   numbers = numbers;
 }
 
 pub flying_writes_are_sound : FlyingWritesAreSound
-flying_writes_are_sound = record {
+flying_writes_are_sound = let origin = true_to_origin mode.Active in record {
   fitting = fits;
   told = told;
   placed = placed mode.Active (status_of fresh);
   buffers = λ n. let same = out n in omega (arith, same);
   none_lost = λ lit n. out n;
-  quiet = λ none. not_empty none.requests;
-  on = λ e. record { going = goes_on; rows = (record { ticket = refl; long = refl; disk = refl; own = its }, tt); caused = (λ waits. (record { since = first_caused.since; failed = first_caused.failed }, (record { since = second_caused.since; failed = second_caused.failed }, tt)), tt) };
+  on = λ e. record { going = goes_on; rows = (record { ticket = refl; long = refl; disk = refl; own = its }, tt); caused = (λ waits. (first_caused, (second_caused, tt)), tt); chosen = tt };
   lit = λ e. record { power = refl; freed = refl };
   dark = λ e. not_so e;
   off = λ e. on_is_not_off e;
   over = λ e. not_so e;
+  stuck = λ e. on_is_not_stuck e;
+  counted = ((record { began = first_counted.began; since = first_counted.since }, (record { began = second_counted.began; since = second_counted.since }, tt)), tt);
   answered = (tt, tt);
   copy = tt;
-  origin = record { since = (true_to_origin mode.Active).since; missing = (true_to_origin mode.Active).missing; stale = (true_to_origin mode.Active).stale };
+  origin = record { since = origin.since; votes = origin.votes; still_missing = origin.still_missing; missing = origin.missing; stale = origin.stale };
 }
-  where
-    not_empty : {A X : Type 0} {a : A} {more : List A} → a ∷ more ≡ [] → X
-    not_empty e = absurd cc

@@ -4,3 +4,5 @@ mod Whole
 mod Flying
 mod Bringing
 mod Worked
+mod Waiting
+mod Busy

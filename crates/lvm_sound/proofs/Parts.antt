@@ -1,7 +1,9 @@
 -- The parts of a worked session of which no disk is missing.
-use Rattle.std.proofs.Common.{◌≡◌, ℕ, zero, suc, ◌<◌, ◌≤◌, Bool, true, false, ◌&&◌, ◌||◌, not, List, [], ◌∷◌, replicate, Some, None, refl, sym, ap, subst, ◌∙◌, arith}
+use Rattle.std.proofs.Common.{◌≡◌, ℕ, zero, suc, ◌<◌, ◌≤◌, ◌*◌, Bool, true, false, ◌&&◌, ◌||◌, not, List, [], ◌∷◌, replicate, take, Some, None, refl, sym, ap, subst, ◌∙◌, arith}
 use Rattle.std.specs.Prelude.{◌≢◌, ◌==◌, AllPairs, is_some, slice_index_or, option_and_then, if◌then◌else◌}
 use Rattle.std.specs.List.{list_any}
+use Rattle.std.specs.Option.{option_map_or}
+use Rattle.std.proofs.lemmas.List.{drop_all}
 use Rattle.std.proofs.lemmas.List.Elements.{All-nil, All-cons}
 use Rattle.std.proofs.lemmas.List.Kept.{AllPairs-cons}
 use Rattle.lvm_num.specs.declared.place.Pp.{Pp}
@@ -22,11 +24,13 @@ use Rattle.lvm_mwc.specs.declared.notes.DiskNotes.{DiskNotes}
 use Rattle.lvm_mwc.specs.Cache.{has_disk, flight_on, no_notes}
 use Rattle.lvm_status.specs.Update.{seen}
 use Rattle.lvm_status.specs.Runs.{IsSound as IsSoundStatus}
-use Rattle.lvm_session.specs.Judging.{is_stale, is_missing}
+use Rattle.lvm_num.specs.declared.descriptor.LvRow.{LvRow}
+use Rattle.lvm_session.specs.Judging.{copies_in, is_stale, is_missing}
 use Rattle.lvm_events.specs.Marks.{is_among, can_replace, is_entailed}
 use Rattle.lvm_sound.specs.Placed.{IsPlaced, ArePlaced}
-use Rattle.lvm_sound.specs.Sound.{count_if, faults_at_first}
-use Rattle.lvm_sound.specs.Worked.{Says, Moment, mirrored, status_of, fresh, calm, core_of, faultless}
+use Rattle.lvm_sound.specs.Causes.{faults_at_first}
+use Rattle.lvm_sound.specs.Sound.{count_if, may_be_fresh, stays_fresh}
+use Rattle.lvm_sound.specs.Worked.{Says, Moment, mirrored, first_copy, second_copy, status_of, fresh, calm, core_of, faultless}
 use Rattle.lvm_sound.proofs.Small.{not_so, not_either, not_none}
 
 -- ---- the group
@@ -147,6 +151,21 @@ none_behind m stale p is = not_so (by (is_among both_copies p) (not (is_stale (c
     by true true false d e is = is
     by true false c d e is = is
     by false b c d e is = is
+
+-- each logical partition has a fresh copy where the first copy stays fresh
+pub has_fresh : (w : Moment) → stays_fresh (core_of w) first_copy ≡ true → (lv lp : ℕ) → list_any (may_be_fresh (core_of w)) (copies_in (mirrored w.mode) lv lp) ≡ true → list_any (stays_fresh (core_of w)) (copies_in (mirrored w.mode) lv lp) ≡ true
+has_fresh w stays lv lp = by_volume (1 == lv) lp
+  where
+    copies : Bool → ℕ → List Pp
+    copies is n = option_map_or (λ (row : LvRow). copies_of row n) (if is then Some (mirror w.mode) else None) []
+
+    by_volume : (is : Bool) (n : ℕ) → list_any (may_be_fresh (core_of w)) (copies is n) ≡ true → list_any (stays_fresh (core_of w)) (copies is n) ≡ true
+    by_volume false n some = not_so some
+    by_volume true zero some = ap (λ t. t || (stays_fresh (core_of w) second_copy || false)) stays
+    by_volume true (suc n) some = not_so (sym (ap (λ (ps : List Pp). list_any (may_be_fresh (core_of w)) (take 2 ps)) (drop_all (suc n * 2) both_copies (omega arith))) ∙ some)
+
+pub none_missing_at_first : {X : Type 0} (disk : ℕ) → calls_missing (status_of fresh) disk ≡ true → X
+none_missing_at_first disk is = not_so (sym (none_missing false disk) ∙ is)
 
 -- what is stale is stale by the one status
 pub one_stale : (a : Bool) → (a || a) || a ≡ true → a ≡ true

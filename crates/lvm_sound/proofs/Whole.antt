@@ -3,13 +3,18 @@ use Rattle.std.proofs.Common.{◌≡◌, inl, ℕ, zero, suc, ◌<◌, ◌≤◌
 use Rattle.std.specs.Prelude.{◌==◌, is_some, if◌then◌else◌}
 use Rattle.lvm_num.specs.Bits.{has_bit}
 use Rattle.lvm_num.specs.Disks.{has}
+use Rattle.lvm_num.specs.Votes.{votes_by}
 use Rattle.lvm_num.specs.declared.descriptor.Mode.{Mode}
 use Rattle.lvm_num.specs.declared.descriptor.Mode.TheVariants as mode
+use Rattle.std.proofs.lemmas.List.Elements.{All-nil}
+use Rattle.lvm_num.specs.Note.{IsEntry}
 use Rattle.lvm_num.specs.Descriptor.{is_member}
 use Rattle.lvm_num.specs.Status.{calls_stale}
 use Rattle.lvm_num.proofs.DisksLemmas.{has-zero}
 use Rattle.lvm_kept.specs.Examples.{mirror}
 use Rattle.lvm_vol.specs.Facts.{Begun}
+use Rattle.lvm_vol.specs.Order.{Ordered}
+use Rattle.lvm_mwc.specs.Entries.{AreEntries}
 use Rattle.lvm_mwc.specs.Cache.{has_disk}
 use Rattle.lvm_path.specs.declared.request.Phase.TheVariants as phase
 use Rattle.lvm_session.specs.declared.flown.Owner.TheVariants as owner
@@ -17,22 +22,31 @@ use Rattle.lvm_session.specs.declared.open.Power.TheVariants as power
 use Rattle.lvm_session.specs.State.{state}
 use Rattle.lvm_sound.specs.Owners.{AreOwned, target_flies}
 use Rattle.lvm_sound.specs.Left.{updates_left}
-use Rattle.lvm_sound.specs.Sound.{count_if, IsAsked, IsOpenOne, IsFitting, IsTold, IsGoing, IsTrueToOrigin}
-use Rattle.lvm_sound.specs.Worked.{Moment, mirrored, calm, held_write, asking, a_write, begun_write, core_of, status_of, fresh, faultless, BeginningsAreSound, HeldWritesAreSound}
+use Rattle.lvm_sound.specs.Requests.{IsOpenOne, IsRecorded}
+use Rattle.lvm_sound.specs.Causes.{IsTrueToOrigin}
+use Rattle.lvm_sound.specs.Sound.{count_if, stays_fresh, IsAsked, IsFitting, IsTold, IsGoing}
+use Rattle.lvm_sound.specs.Worked.{Moment, mirrored, first_copy, calm, held_write, asking, a_write, begun_write, core_of, status_of, fresh, faultless, BeginningsAreSound, HeldWritesAreSound}
 use Rattle.lvm_sound.proofs.Small.{not_so, not_either}
-use Rattle.lvm_sound.proofs.Parts.{none_cleared, valid, placed, notes_fit, no_note_flies, status_is_sound, none_behind, one_stale, none_out, no_fault}
+use Rattle.lvm_sound.proofs.Parts.{none_cleared, valid, placed, notes_fit, no_note_flies, status_is_sound, none_behind, none_missing_at_first, has_fresh, one_stale, none_out, no_fault}
 
 pub on_is_not_off : {X : Type 0} → power.On ≡ power.Off → X
 on_is_not_off e = absurd cc
 
+pub on_is_not_stuck : {X : Type 0} → power.On ≡ power.Stuck → X
+on_is_not_stuck e = absurd cc
+
+pub no_entries : AreEntries []
+no_entries = record { most = omega arith; differ = tt; counting = All-nil IsEntry }
+
 -- ---- as it begins
 
-pub fitting : (w : Moment) → length w.requests ≤ 4 → 1 ≤ length w.pool → length w.pool ≤ 1024 → ((disk : ℕ) → has_disk w.cache disk ≡ is_member (mirrored w.mode) disk) → IsFitting (core_of w)
-fitting w table a_buffer buffers notes = record {
+pub fitting : (w : Moment) → length w.requests ≤ 4 → 1 ≤ length w.pool → length w.pool ≤ 1024 → AreEntries w.cache.entries → ((disk : ℕ) → has_disk w.cache disk ≡ is_member (mirrored w.mode) disk) → IsFitting (core_of w)
+fitting w table a_buffer buffers entries notes = record {
   valid = valid w.mode;
   id = refl;
   rows = λ disk. refl;
   group = refl;
+  entries = entries;
   notes = notes;
   table = table;
   most = omega arith;
@@ -44,16 +58,20 @@ fitting w table a_buffer buffers notes = record {
 
 module _ (m : Mode) where
   fits : IsFitting (core_of (calm m))
-  fits = fitting (calm m) (omega arith) (omega arith) (omega arith) (notes_fit m)
+  fits = fitting (calm m) (omega arith) (omega arith) (omega arith) no_entries (notes_fit m)
 
   told : IsTold (core_of (calm m))
-  told = record { table = record { ascending = tt; still = tt }; each = λ id. refl; requests = tt }
+  told = record { ordered = tt; table = record { ascending = tt; still = tt }; each = λ id. refl; requests = tt }
 
   pub owned : AreOwned (core_of (calm m))
   owned (owner.Data id target) = refl
   owned (owner.Status disk) = sym (ap (λ (t : Bool). if t then 1 else 0) (has-zero disk))
   owned (owner.Note disk) = sym (ap (λ n. if is_some n then 1 else 0) (no_note_flies m disk))
   owned owner.Copy = refl
+
+pub first_stays : (m : Mode) → stays_fresh (core_of (calm m)) first_copy ≡ true
+unfolding has_bit
+first_stays m = refl
 
 numbers : (m : Mode) → 3 + updates_left (core_of (calm m)) < 2 ^ 32
 unfolding has_bit has
@@ -75,13 +93,17 @@ goes_on m = record {
   hands = λ n. omega arith;
   behind = λ p is. none_behind m false p is;
   reviewed = refl;
+  fresh = λ lv lp some. has_fresh (calm m) (first_stays m) lv lp some;
   clearings = λ p held clear. none_cleared (calls_stale (status_of fresh) p) held clear;
   numbers = numbers m;
 }
 
 pub true_to_origin : (m : Mode) → IsTrueToOrigin (state faultless (core_of (calm m)))
+unfolding votes_by has_bit has
 true_to_origin m = record {
   since = no_fault m;
+  votes = refl;
+  still_missing = λ disk is. none_missing_at_first disk is;
   missing = λ disk is. inl is;
   stale = λ p is. inl (one_stale (calls_stale (status_of fresh) p) is);
 }
@@ -93,12 +115,13 @@ beginnings_are_sound m = record {
   placed = placed m (status_of fresh);
   buffers = λ n. omega arith;
   none_lost = λ lit n. none_out n;
-  quiet = λ none. refl;
-  on = λ e. record { going = goes_on m; rows = tt; caused = tt };
+  on = λ e. record { going = goes_on m; rows = tt; caused = tt; chosen = tt };
   lit = λ e. record { power = refl; freed = refl };
   dark = λ e. not_so e;
   off = λ e. on_is_not_off e;
   over = λ e. not_so e;
+  stuck = λ e. on_is_not_stuck e;
+  counted = tt;
   answered = tt;
   copy = tt;
   origin = true_to_origin m;
@@ -110,6 +133,10 @@ beginnings_are_sound m = record {
 none_there : (target : ℕ) → target_flies target (asking 1 a_write phase.Held []) ≡ false
 none_there zero = refl
 none_there (suc target) = refl
+
+-- it is the first request of its run
+pub begun_so : Ordered 50 [] (Begun begun_write ∷ [])
+begun_so = ((refl, refl, (refl, omega arith)), tt)
 
 pub one_is_asked : IsAsked (Begun begun_write ∷ []) (asking 1 a_write phase.Held [])
 one_is_asked = record {
@@ -128,10 +155,10 @@ one_is_asked = record {
 
 module _ (m : Mode) where
   held_fits : IsFitting (core_of (held_write m))
-  held_fits = fitting (held_write m) (omega arith) (omega arith) (omega arith) (notes_fit m)
+  held_fits = fitting (held_write m) (omega arith) (omega arith) (omega arith) no_entries (notes_fit m)
 
   held_is_told : IsTold (core_of (held_write m))
-  held_is_told = record { table = record { ascending = (tt, tt); still = (λ e. refl, tt) }; each = λ id. by (1 == id); requests = (one_is_asked, tt) }
+  held_is_told = record { ordered = begun_so; table = record { ascending = (tt, tt); still = (λ e. refl, tt) }; each = λ id. by (1 == id); requests = (one_is_asked, tt) }
     where
       by : (t : Bool) → is_some (if t then Some begun_write else None) && true ≡ t || false
       by true = refl
@@ -147,6 +174,11 @@ module _ (m : Mode) where
   held_owns (owner.Note disk) = owned m (owner.Note disk)
   held_owns owner.Copy = refl
 
+  unrecorded : (k : Mode) → IsRecorded k phase.Held (asking 1 a_write phase.Held []).request
+  unrecorded mode.Active = tt
+  unrecorded mode.Passive = (refl, refl)
+  unrecorded mode.Off = (refl, refl, refl)
+
   held_request : IsOpenOne (core_of (held_write m)) (asking 1 a_write phase.Held [])
   held_request = record {
     laid = record {
@@ -156,17 +188,17 @@ module _ (m : Mode) where
       id = omega arith;
     };
     waits = λ e. record {
-      targets = tt;
-      shape = (refl, refl);
-      hand = refl;
-      room = tt;
-      differ = λ i j d below within. absurd (omega (arith, below, within));
-      free = λ past. not_so past;
-      noted = λ active write. tt;
-      marked = λ passive waits. not_so waits;
-      uncaught = λ write. tt;
-      due = λ waits. not_so waits;
-      one = λ read. not_either read;
+      shape = record {
+        targets = tt;
+        phase_is = (refl, refl);
+        hand = refl;
+        room = tt;
+        differ = λ i j d below within. absurd (omega (arith, below, within));
+        usable = λ past. not_so past;
+        one = λ read. not_either read;
+      };
+      ready = record { free = λ past. not_so past; recorded = unrecorded m; wanted = λ past two. not_so past; named = λ has two. not_so has; dirty = λ has two. not_so has };
+      judged = λ write. record { uncaught = tt; due = λ waits. not_so waits; all = λ begun. not_so begun };
     };
     over = λ e. not_either e;
     still = λ e. not_either e;
@@ -192,24 +224,26 @@ held_goes_on m = record {
   hands = λ n. omega arith;
   behind = λ p is. none_behind m false p is;
   reviewed = refl;
+  fresh = λ lv lp some. has_fresh (held_write m) (first_stays m) lv lp some;
   clearings = λ p held clear. none_cleared (calls_stale (status_of fresh) p) held clear;
   numbers = held_numbers m;
 }
 
 pub held_writes_are_sound : HeldWritesAreSound
-held_writes_are_sound m = record {
+held_writes_are_sound m = let origin = true_to_origin m in record {
   fitting = held_fits m;
   told = held_is_told m;
   placed = placed m (status_of fresh);
   buffers = λ n. omega arith;
   none_lost = λ lit n. none_out n;
-  quiet = λ none. refl;
-  on = λ e. record { going = held_goes_on m; rows = tt; caused = (λ waits. tt, tt) };
+  on = λ e. record { going = held_goes_on m; rows = tt; caused = (λ waits. tt, tt); chosen = tt };
   lit = λ e. record { power = refl; freed = refl };
   dark = λ e. not_so e;
   off = λ e. on_is_not_off e;
   over = λ e. not_so e;
+  stuck = λ e. on_is_not_stuck e;
+  counted = (tt, tt);
   answered = (tt, tt);
   copy = tt;
-  origin = record { since = (true_to_origin m).since; missing = (true_to_origin m).missing; stale = (true_to_origin m).stale };
+  origin = record { since = origin.since; votes = origin.votes; still_missing = origin.still_missing; missing = origin.missing; stale = origin.stale };
 }

@@ -10,16 +10,16 @@ use Rattle.lvm_vol.specs.declared.entry.Outcome.TheVariants as outcome
 use Rattle.lvm_path.specs.declared.target.Target.{Target}
 use Rattle.lvm_session.specs.declared.open.Power.TheVariants as power
 use Rattle.lvm_session.specs.State.{Core}
-use Rattle.lvm_sound.specs.Worked.{AdmissionMarks, CommitLowersWork, UnsettledIsFresh, ReadsMayLag, StandingStillIsUnsound, BlameNeedsFaults, AnswersAreTold, DarknessKeepsNotes, read_targets}
-use Rattle.lvm_sound.proofs.Small.{not_so, not_either, not_risen}
+use Rattle.lvm_sound.specs.Worked.{AdmissionMarks, CommitLowersWork, UnsettledIsFresh, ReadsMayLag, StandingStillIsUnsound, BlameNeedsFaults, AnswersAreTold, DarknessKeepsNotes, UnpinnedWritesMove, read_targets, unpinned_write}
+use Rattle.lvm_sound.proofs.Small.{not_so, not_either, not_risen, or_left}
 
 pub admission_marks : AdmissionMarks
 unfolding votes_by has_bit has
 admission_marks = record {
   may = refl;
-  lacks = refl;
+  makes = refl;
   waits = refl;
-  unsound = λ r. not_so (r.marked refl refl);
+  unsound = λ r. not_so (r.ready.wanted refl (omega arith));
   goes_on = refl;
   falls = refl;
 }
@@ -39,9 +39,9 @@ standing_still_is_unsound = record {
   no_end = refl;
   stale = λ c. not_either ((c.clearing refl refl).1);
   waits = refl;
-  unmarked = λ r. not_so (r.due refl);
-  overtakes = λ r. not_either (r.free refl);
-  passes = λ r. not_either ((r.uncaught refl).1.0);
+  unmarked = λ r. not_so ((r.judged refl).due refl);
+  overtakes = λ r. not_either (r.ready.free refl);
+  passes = λ r. not_either ((r.judged refl).uncaught.1.0);
 }
 
 -- neither did the session begin so, nor is there a fault
@@ -57,7 +57,7 @@ of_origin_or_missing none (inr (inr f)) = none f
 pub blame_needs_faults : BlameNeedsFaults
 unfolding votes_by has_bit has
 blame_needs_faults = record {
-  missing = λ c. not_risen (c.failed refl);
+  missing = λ c. not_risen (c refl);
   lost = λ o. of_origin (λ rose. not_risen rose) (o.missing 0 refl);
   stale = λ o. of_origin_or_missing (λ rose. not_risen rose) (o.stale (record { disk = 1; pp = 0 }) refl);
   behind = λ g. not_so (g.behind (record { disk = 0; pp = 0 }) refl);
@@ -66,16 +66,13 @@ blame_needs_faults = record {
 pub answers_are_told : AnswersAreTold
 answers_are_told = record {
   otherwise = λ a. other a.outcome;
-  off = λ e. going e;
+  off = λ e. not_so e.0;
   dark = λ e. lit e;
   stuck = λ core ask. refl;
 }
   where
     other : Some outcome.Done ≡ Some outcome.Lost → ⊥
     other e = absurd cc
-
-    going : power.On ≡ power.Off → ⊥
-    going e = absurd cc
 
     lit : power.On ≡ power.Dark → ⊥
     lit e = absurd cc
@@ -95,16 +92,53 @@ unfolding votes_by has_bit has
 reads_may_lag = record {
   caught = refl;
   sound = record {
-    targets = (record { copy = refl; sector = refl }, (record { copy = refl; sector = refl }, tt));
-    shape = (omega arith, λ write. not_so write);
-    hand = refl;
-    room = tt;
-    differ = differ;
-    free = λ past. refl;
-    noted = λ m write. not_so write;
-    marked = λ m waits. not_so waits;
-    uncaught = λ write. not_so write;
-    due = λ waits. not_so waits;
-    one = λ read. omega arith;
+    shape = record {
+      targets = (record { copy = refl; sector = refl; there = refl }, (record { copy = refl; sector = refl; there = refl }, tt));
+      phase_is = (omega arith, λ write. not_so write);
+      hand = refl;
+      room = tt;
+      differ = differ;
+      usable = λ past. refl;
+      one = λ read. omega arith;
+    };
+    ready = record { free = λ past. refl; recorded = (refl, refl, refl); wanted = λ past two. refl; named = λ has two. refl; dirty = λ has two. refl };
+    judged = λ write. not_so write;
   };
 }
+
+pub unpinned_writes_move : UnpinnedWritesMove
+unfolding votes_by has_bit has
+unpinned_writes_move = record {
+  passive = record {
+    shape = record {
+      targets = (record { copy = refl; sector = refl; there = refl }, (record { copy = refl; sector = refl; there = refl }, tt));
+      phase_is = (omega arith, λ write. refl);
+      hand = refl;
+      room = tt;
+      differ = differ_so;
+      usable = λ past. refl;
+      one = λ read. not_either read;
+    };
+    ready = record { free = λ past. refl; recorded = (refl, refl); wanted = λ past two. refl; named = λ has two. refl; dirty = λ has two. refl };
+    judged = λ write. record { uncaught = (refl, (refl, tt)); due = λ waits. not_so waits; all = λ begun p among. or_left _ among };
+  };
+  off = record {
+    shape = record {
+      targets = (record { copy = refl; sector = refl; there = refl }, (record { copy = refl; sector = refl; there = refl }, tt));
+      phase_is = (omega arith, λ write. refl);
+      hand = refl;
+      room = tt;
+      differ = differ_so;
+      usable = λ past. refl;
+      one = λ read. not_either read;
+    };
+    ready = record { free = λ past. refl; recorded = (refl, refl, refl); wanted = λ past two. refl; named = λ has two. refl; dirty = λ has two. refl };
+    judged = λ write. record { uncaught = (refl, (refl, tt)); due = λ waits. not_so waits; all = λ begun p among. or_left _ among };
+  };
+}
+  where
+    differ_so : (i j : ℕ) (d : Target) → i < j → j < 2 → (slice_index_or unpinned_write.request.targets.items i d).pp ≢ (slice_index_or unpinned_write.request.targets.items j d).pp
+    differ_so zero zero d below within e = absurd (omega (arith, below))
+    differ_so zero (suc zero) d below within e = let disks : 0 ≡ 1 = ap (λ (p : Pp). p.disk) e in absurd (omega (arith, disks))
+    differ_so zero (suc (suc j)) d below within e = absurd (omega (arith, within))
+    differ_so (suc i) j d below within e = absurd (omega (arith, below, within))

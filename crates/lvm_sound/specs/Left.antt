@@ -174,12 +174,12 @@ abbrev pub copy_updates : Core → OpenCopy → ℕ
 copy_updates core c = if not (is_running c) then 0 else if is_whole core c then 1 else 2
 
 -- the passive volumes that aren't wanted dirty yet
-abbrev pub unmarked_volumes : Core → ℕ
-unmarked_volumes core = count_by (λ (row : LvRow). is_passive row.mode && not (calls_dirty core.status.wanted row.number)) core.descriptor.lvs
+abbrev pub clean_volumes : Core → ℕ
+clean_volumes core = count_by (λ (row : LvRow). is_passive row.mode && not (calls_dirty core.status.wanted row.number)) core.descriptor.lvs
 
 -- How many updates may still be begun: one for what is wanted now, and one for each thing by which more may come to be wanted, which are the writes
 -- whose transfers haven't all ended, the members that may become missing, the passive volumes that may be marked, and the copy's clearing and end.
 abbrev pub updates_left : Core → ℕ
 updates_left core =
     if_so (not (same_status core.status.wanted (unwrap_or core.status.in_flight core.status.committed))) 1
-    + count_by marks_later core.requests + unmarked_volumes core + count_by (λ (row : PvRow). is_there core row.disk) core.descriptor.pvs + option_map_or (copy_updates core) core.copy 0
+    + count_by marks_later core.requests + clean_volumes core + count_by (λ (row : PvRow). is_there core row.disk) core.descriptor.pvs + option_map_or (copy_updates core) core.copy 0

@@ -37,13 +37,15 @@ use Rattle.lvm_session.specs.State.{Core, State, state}
 use Rattle.lvm_session.specs.Judging.{is_usable, is_caught, held_of, place_of}
 use Rattle.lvm_session.specs.Bringing.{copy_ends}
 use Rattle.lvm_session.specs.declared.event.Event.TheVariants as event
-use Rattle.lvm_session.specs.Enabled.{first_event}
+use Rattle.lvm_session.specs.Enabled.{first_event, pinning}
 use Rattle.lvm_events.specs.declared.answers.CopyFault.TheVariants as refusal
-use Rattle.lvm_events.specs.Events.{lacks_mark}
+use Rattle.lvm_events.specs.Events.{makes_dirty}
 use Rattle.lvm_events.specs.Turns.{Darkens}
 use Rattle.lvm_events.specs.Calls.{ask_fault, fault_on, copy_fault}
 use Rattle.lvm_sound.specs.Left.{left_of}
-use Rattle.lvm_sound.specs.Sound.{IsAsked, IsRequest, IsCopy, IsCaused, IsAnswered, IsTrueToOrigin, IsGoing, IsSound}
+use Rattle.lvm_sound.specs.Requests.{IsRequest}
+use Rattle.lvm_sound.specs.Causes.{IsCaused, IsAnswered, IsTrueToOrigin}
+use Rattle.lvm_sound.specs.Sound.{IsAsked, IsCopy, IsGoing, IsSound}
 
 -- ---- three disks, on two of which a volume of one logical partition of 8 track groups is mirrored
 
@@ -176,7 +178,7 @@ passive phase targets dirty = record (calm mode.Passive) { wanted = record fresh
 -- sound; with it the status is written, and less work is left.
 pub record AdmissionMarks : Type 0 where
   pub may : first_event (core_of (passive phase.Held [] false)) ≡ Some (event.Admit 0)
-  pub lacks : lacks_mark (core_of (passive phase.Held [] false)) a_write two_targets ≡ true
+  pub makes : makes_dirty (core_of (passive phase.Held [] false)) a_write two_targets ≡ true
   pub waits : first_event (core_of (passive phase.WantRecord two_targets false)) ≡ None
   pub unsound : IsRequest (core_of (passive phase.WantRecord two_targets false)) (asking 1 a_write phase.WantRecord two_targets) → ⊥
   pub goes_on : first_event (core_of (passive phase.WantRecord two_targets true)) ≡ Some event.StartStatus
@@ -372,3 +374,28 @@ bringing m =
 -- So is one whose copy is being brought up.
 abbrev pub CopiesAreSound : Type 0
 CopiesAreSound = (m : Mode) → IsSound (state faultless (core_of (bringing m)))
+
+-- ---- what is to be pinned
+
+-- a write of both copies of an active volume that waits for its entry in the cache
+abbrev pub waiting : Moment
+waiting = record (calm mode.Active) { facts = Begun begun_write ∷ []; requests = asking 1 a_write phase.WantEntry two_targets ∷ []; rows = row_for 1 a_write ∷ [] }
+
+-- A session with such a write is sound, and its track group is pinned next.
+pub record WaitingWritesPin : Type 0 where
+  pub sound : IsSound (state faultless (core_of waiting))
+  pub pins : pinning (core_of waiting) ≡ Some (event.Pin 0)
+
+-- ---- writes that hold no pin
+
+abbrev pub unpinned_write : Open
+unpinned_write = asking 1 a_write phase.Data (target_on first_copy stage.Flying ∷ target_on second_copy stage.Waiting ∷ [])
+
+-- the first transfer of a write of both copies is out, and its volume is dirty
+abbrev pub moving : Mode → Moment
+moving m = record (calm m) { committed = record fresh { dirty = true }; wanted = record fresh { dirty = true }; requests = unpinned_write ∷ []; rows = row_for 1 a_write ∷ [] }
+
+-- Such a request is sound where its volume is passive or keeps no records.
+pub record UnpinnedWritesMove : Type 0 where
+  pub passive : IsRequest (core_of (moving mode.Passive)) unpinned_write
+  pub off : IsRequest (core_of (moving mode.Off)) unpinned_write

@@ -1,5 +1,6 @@
 //! Laws: what the definitions say of sessions that are written out.
-ghost use Rattle.lvm_sound.specs.Worked.{AdmissionMarks, CommitLowersWork, UnsettledIsFresh, ReadsMayLag, StandingStillIsUnsound, BlameNeedsFaults, AnswersAreTold, DarknessKeepsNotes, BeginningsAreSound, HeldWritesAreSound, FlyingWritesAreSound, CopiesAreSound};
+ghost use Rattle.lvm_sound.specs.Busy.{BusyIsSound};
+ghost use Rattle.lvm_sound.specs.Worked.{AdmissionMarks, CommitLowersWork, UnsettledIsFresh, ReadsMayLag, StandingStillIsUnsound, BlameNeedsFaults, AnswersAreTold, DarknessKeepsNotes, BeginningsAreSound, HeldWritesAreSound, FlyingWritesAreSound, CopiesAreSound, WaitingWritesPin, UnpinnedWritesMove};
 
 /// A write to several copies of a passive volume wants the volume dirty when it is admitted.
 pub fn admission_marks()
@@ -60,4 +61,20 @@ pub fn flying_writes_are_sound()
 /// A session whose copy is being brought up is sound, in whatever mode its volume is.
 pub fn copies_are_sound()
     ensures { CopiesAreSound }
+{}
+
+/// A session with a write that waits for its entry in the cache is sound, and its track group is pinned next.
+pub fn waiting_writes_pin()
+    ensures { WaitingWritesPin }
+{}
+
+/// A session with each of its parts in use is sound: a write that is done on one copy and out to the other, a read
+/// that has got its blocks, a copy that is being brought up, and an update of the status in flight.
+pub fn busy_is_sound()
+    ensures { BusyIsSound }
+{}
+
+/// A write under way is sound also where its volume is passive or keeps no records.
+pub fn unpinned_writes_move()
+    ensures { UnpinnedWritesMove }
 {}

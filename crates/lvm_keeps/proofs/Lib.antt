@@ -1,0 +1,15 @@
+mod Lists
+mod Small
+mod Still
+mod Nexts
+mod Numbers
+mod Telling
+mod Tables
+mod Rows
+pub mod Pin
+pub mod Close
+pub mod Take
+pub mod Landing
+pub mod Losing
+pub mod Wait
+pub mod Begin

@@ -1,0 +1,123 @@
+-- What one request is judged by stays where other parts of a session change.
+use Rattle.std.proofs.Common.{◌≡◌, ◌≤◌, ◌⊎◌, inl, inr, ℕ, Bool, true, false, ◌&&◌, List, Option, Some, None, arith}
+use Rattle.std.specs.Prelude.{IfSome, is_none}
+use Rattle.lvm_num.specs.declared.place.Pp.{Pp}
+use Rattle.lvm_vol.specs.declared.entry.Outcome.{Outcome}
+use Rattle.lvm_vol.specs.declared.entry.Outcome.TheVariants as outcome
+use Rattle.lvm_vol.specs.Log.{Log, next_id}
+use Rattle.lvm_hold.specs.Waiting.{Waiting}
+use Rattle.lvm_mwc.specs.declared.entries.CacheEntry.{CacheEntry}
+use Rattle.lvm_path.specs.declared.request.Request.{Request}
+use Rattle.lvm_path.specs.declared.target.Target.{Target}
+use Rattle.lvm_session.specs.declared.bringing.OpenCopy.{OpenCopy}
+use Rattle.lvm_session.specs.declared.flown.Flown.{Flown}
+use Rattle.lvm_session.specs.declared.open.Open.{Open}
+use Rattle.lvm_session.specs.State.{Core, State, state}
+use Rattle.lvm_session.specs.Judging.{is_caught, is_held_back, group_in, is_settled, is_wanted_stale, pps_of}
+use Rattle.lvm_session.specs.Enabled.{is_free_step}
+use Rattle.lvm_events.specs.Marks.{is_among}
+use Rattle.lvm_sound.specs.Requests.{IsTarget, IsShaped, IsReady, IsJudged, IsLaid, IsOpenOne, may_lack}
+use Rattle.lvm_sound.specs.Causes.{IsCounted, IsLandedFor, IsCopyCaused, IsTrueToOrigin, HaveSourcesFailed}
+use Rattle.lvm_sound.specs.Sound.{IsCopy}
+use Rattle.lvm_keeps.proofs.Lists.{all_on}
+use Rattle.lvm_keeps.proofs.Small.{and_on, left_on}
+
+-- A core in which these parts have changed: the statuses, the notes, the descriptor and the origin stay.
+module _ (core : Core) (history : Log) (requests : List Open) (queue : Waiting) (copy : Option OpenCopy) (pool : List Bool) (flying : List Flown) (entries : List CacheEntry) (last : List ℕ) where
+  abbrev pub changed : Core
+  changed = record core { history = history; requests = requests; queue = queue; copy = copy; pool = pool; flying = flying; cache = record core.cache { entries = entries }; last = last }
+
+  target_on : (o : Open) (t : Target) → IsTarget core o.request.ask t → IsTarget changed o.request.ask t
+  target_on o t its = record { copy = its.copy; sector = its.sector; there = its.there }
+
+  pub shape_on : (o : Open) → IsShaped core o → IsShaped changed o
+  shape_on o s = record {
+    targets = all_on (IsTarget core o.request.ask) (IsTarget changed o.request.ask) (target_on o) o.request.targets.items s.targets;
+    phase_is = s.phase_is;
+    hand = s.hand;
+    room = s.room;
+    differ = s.differ;
+    usable = s.usable;
+    one = s.one;
+  }
+
+  pub laid_on : (r : Request) → IsLaid core r → IsLaid changed r
+  laid_on r l = record { within = l.within; blocks = l.blocks; most = l.most; id = l.id }
+
+  module _ (o : Open) (free : is_held_back core o.request ≡ false → is_held_back changed o.request ≡ false) (caught : (p : Pp) → is_caught core (group_in core o.request.ask) p ≡ false → is_caught changed (group_in core o.request.ask) p ≡ false) where
+    pub ready_on : IsReady core o.request → IsReady changed o.request
+    ready_on r = record { free = λ past. free (r.free past); recorded = r.recorded; wanted = r.wanted; named = r.named; dirty = r.dirty }
+
+    pub judged_on : IsJudged core o → IsJudged changed o
+    judged_on j = record {
+      uncaught = all_on (λ (t : Target). may_lack o t && is_caught core (group_in core o.request.ask) t.pp ≡ false) (λ (t : Target). may_lack o t && is_caught changed (group_in core o.request.ask) t.pp ≡ false)
+          (λ t is. and_on (may_lack o t) (is_caught core (group_in core o.request.ask) t.pp) (is_caught changed (group_in core o.request.ask) t.pp) (caught t.pp) is) o.request.targets.items j.uncaught;
+      due = j.due;
+      all = λ begun p among. left_on (is_among (pps_of o.request.targets.items) p) (is_settled core p) (is_wanted_stale core p) (is_caught core (group_in core o.request.ask) p) (is_caught changed (group_in core o.request.ask) p) (caught p) (j.all begun p among);
+    }
+
+    pub open_on : IsOpenOne core o → IsOpenOne changed o
+    open_on it = record {
+      laid = laid_on o.request it.laid;
+      waits = λ waits. let r = it.waits waits in record { shape = shape_on o r.shape; ready = ready_on r.ready; judged = λ write. judged_on (r.judged write) };
+      over = it.over;
+      still = it.still;
+    }
+
+  -- the copy that is open
+  pub bring_on : (c : OpenCopy) → next_id core.history ≤ next_id history → (is_free_step core c ≡ true → is_free_step changed c ≡ true) → IsCopy core c → IsCopy changed c
+  bring_on c later free its = let low = its.place.1 in record {
+    row = its.row;
+    volume = its.volume;
+    lp = its.lp;
+    its = its.its;
+    cursor = its.cursor;
+    faults = its.faults;
+    place = (its.place.0, omega (arith, low, later), its.place.2);
+    room = its.room;
+    free = λ idle. free (its.free idle);
+    hand = its.hand;
+    tried = its.tried;
+    source = its.source;
+    stale = its.stale;
+    clearing = its.clearing;
+  }
+
+-- ---- causes
+
+module _ (s : State) (history : Log) (requests : List Open) (queue : Waiting) (copy : Option OpenCopy) (pool : List Bool) (flying : List Flown) (entries : List CacheEntry) (last : List ℕ) where
+  abbrev pub moved : State
+  moved = state s.device (changed s.core history requests queue copy pool flying entries last)
+
+  pub landed_on : (o : Open) (how : Outcome) → IsLandedFor s o how → IsLandedFor moved o how
+  landed_on o outcome.Done its = its
+  landed_on o outcome.Got its = its
+  landed_on o outcome.Lost its = its
+  landed_on o outcome.ReadFailed its = its
+  landed_on o outcome.NoFresh its = its
+  landed_on o outcome.Off its = its
+  landed_on o outcome.Dark its = its
+
+  pub counted_on : (t : Target) → IsCounted s t → IsCounted moved t
+  counted_on t its = record { began = its.began; since = its.since }
+
+  pub origin_on : IsTrueToOrigin s → IsTrueToOrigin moved
+  origin_on its = record { since = its.since; votes = its.votes; still_missing = its.still_missing; missing = its.missing; stale = its.stale }
+
+  pub copy_on : (copies : List Pp) (c : OpenCopy) → IsCopyCaused s copies c → IsCopyCaused moved copies c
+  copy_on copies c its = record { began = its.began; since = its.since; tried = its.tried; failed = λ e. sources_on (its.failed e) }
+    where
+      sources_on : {own : Type 0} → own ⊎ HaveSourcesFailed s copies c → own ⊎ HaveSourcesFailed moved copies c
+      sources_on (inl own) = inl own
+      sources_on (inr all) = inr (record { each = all.each; number = all.number; source = all.source; source_is = all.source_is; other = all.other; one = all.one })
+
+-- ---- where one is
+
+pub if_on : {A : Type 0} (P Q : A → Type 0) → ((x : A) → P x → Q x) → (m : Option A) → IfSome m P → IfSome m Q
+if_on P Q on None its = tt
+if_on P Q on (Some x) its = on x its
+
+-- one that hasn't landed needs no cause
+pub no_cause : {A : Type 0} (P : A → Type 0) (m : Option A) → is_none m ≡ true → IfSome m P
+no_cause P None none = tt
+no_cause P (Some x) none = absurd cc

@@ -1,0 +1,84 @@
+-- Each event of a sound session leaves it sound.
+use Rattle.std.specs.Prelude.{◌≡◌, true, ℕ, Bool}
+use Rattle.lvm_disk.specs.declared.shelf.Arrange.{Arrange}
+use Rattle.lvm_vol.specs.declared.entry.Outcome.{Outcome}
+use Rattle.lvm_session.specs.declared.open.Power.TheVariants as power
+use Rattle.lvm_session.specs.State.{Core, State, state}
+use Rattle.lvm_events.specs.declared.answers.Taken.{Taken}
+use Rattle.lvm_events.specs.Calls.{Closes, TakeGives}
+use Rattle.lvm_events.specs.Ends.{Ends}
+use Rattle.lvm_events.specs.Events.{Admits, Lands, Pins, ReadsCopy, StartsData, StartsNote, StartsStatus, WritesCopy}
+use Rattle.lvm_events.specs.Turns.{Arranges, Darkens, Finds, GoesOff}
+use Rattle.lvm_session.specs.Enabled.{is_lost}
+use Rattle.lvm_sound.specs.Causes.{AnyFailedSince, IsLandedFor}
+use Rattle.lvm_sound.specs.Sound.{IsSound}
+
+-- an event of a session that is on leaves it sound
+abbrev pub Keeps : (State → State → Type 0) → Type 0
+Keeps Event = (old new : State) → IsSound old → old.core.power ≡ power.On → Event old new → IsSound new
+
+-- ---- the events of a turn
+
+abbrev pub LandingKeeps : Type 0
+LandingKeeps = (place : ℕ) (how : Outcome) → Keeps (λ old new. Lands old new place how)
+
+abbrev pub AdmissionKeeps : Type 0
+AdmissionKeeps = (place : ℕ) → Keeps (λ old new. Admits old new place)
+
+abbrev pub PinKeeps : Type 0
+PinKeeps = (place : ℕ) → Keeps (λ old new. Pins old new place)
+
+abbrev pub StatusStartKeeps : Type 0
+StatusStartKeeps = Keeps StartsStatus
+
+abbrev pub NoteStartKeeps : Type 0
+NoteStartKeeps = (place disk : ℕ) → Keeps (λ old new. StartsNote old new place disk)
+
+abbrev pub DataStartKeeps : Type 0
+DataStartKeeps = (place target : ℕ) → Keeps (λ old new. StartsData old new place target)
+
+abbrev pub CopyReadKeeps : Type 0
+CopyReadKeeps = Keeps ReadsCopy
+
+abbrev pub CopyWriteKeeps : Type 0
+CopyWriteKeeps = Keeps WritesCopy
+
+abbrev pub EndKeeps : Type 0
+EndKeeps = (at : ℕ) → Keeps (λ old new. Ends old new at)
+
+-- nothing has ended
+abbrev pub WaitKeeps : Type 0
+WaitKeeps = Keeps Finds
+
+-- ---- the end of a session
+
+abbrev pub CutKeeps : Type 0
+CutKeeps = Keeps Darkens
+
+abbrev pub OffKeeps : Type 0
+OffKeeps = Keeps GoesOff
+
+-- ---- the calls of a client, also of a session that is over
+
+-- a session of which the power isn't stuck
+abbrev pub IsAwake : Core → Type 0
+IsAwake core = core.power ≡ power.Stuck → ⊥
+
+abbrev pub TakeKeeps : Type 0
+TakeKeeps = (s : State) (new : Core) (client id : ℕ) (answer : Taken) → IsSound s → TakeGives s.core new client id answer → IsSound (state s.device new)
+
+abbrev pub CloseKeeps : Type 0
+CloseKeeps = (s : State) (new : Core) → IsSound s → Closes s.core new → IsSound (state s.device new)
+
+abbrev pub OrderKeeps : Type 0
+OrderKeeps = (old new : State) (what : Arrange) (done : Bool) → IsSound old → Arranges old new what done → IsSound new
+
+-- ---- why requests land so
+
+-- What a request lands as is due to faults since, as its outcome says.
+abbrev pub LandingIsCaused : Type 0
+LandingIsCaused = (place : ℕ) (how : Outcome) (old new : State) → IsSound old → old.core.power ≡ power.On → (event : Lands old new place how) → IsLandedFor old event.request how
+
+-- The votes are lost only where some disk has failed since the session began.
+abbrev pub LossIsCaused : Type 0
+LossIsCaused = (s : State) → IsSound s → is_lost s.core ≡ true → AnyFailedSince s

@@ -1,0 +1,39 @@
+//! Laws: what each event of a sound session leaves is sound.
+ghost use Rattle.lvm_keeps.specs.Begins.{BeginningIsSound};
+ghost use Rattle.lvm_keeps.specs.Keeps.{CloseKeeps, LandingIsCaused, LossIsCaused, PinKeeps, TakeKeeps, WaitKeeps};
+
+/// A session is sound as it begins.
+pub fn beginning_is_sound()
+    ensures { BeginningIsSound }
+{}
+
+/// A request that pins its track group leaves the session sound.
+pub fn pin_keeps()
+    ensures { PinKeeps }
+{}
+
+/// A copy that is closed leaves the session sound.
+pub fn close_keeps()
+    ensures { CloseKeeps }
+{}
+
+/// So does a turn in which no transfer has ended.
+pub fn wait_keeps()
+    ensures { WaitKeeps }
+{}
+
+/// So does a request whose answer is taken, also in a session that is over.
+pub fn take_keeps()
+    ensures { TakeKeeps }
+{}
+
+/// A request that lands as lost, as a read that failed or as one without a copy does so since disks have failed, or
+/// no copy could be used when the session began.
+pub fn landing_is_caused()
+    ensures { LandingIsCaused }
+{}
+
+/// The votes of a session are lost only where some disk has failed since it began.
+pub fn loss_is_caused()
+    ensures { LossIsCaused }
+{}

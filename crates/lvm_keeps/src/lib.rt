@@ -1,0 +1,8 @@
+//! Each event of a session keeps it sound.
+#![tactic(auto)]
+
+mod laws;
+
+pub use laws::{
+    beginning_is_sound, close_keeps, landing_is_caused, loss_is_caused, pin_keeps, take_keeps, wait_keeps,
+};
