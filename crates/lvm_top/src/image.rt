@@ -7,12 +7,8 @@ ghost use Rattle.lvm_top.specs.Blank.{blank_image};
 use crate::status::Status;
 use lvm_io::{Sink, SinkFault, write_all};
 
-// How many zeros are written at once, and how often for a MiB.
-const PIECE: usize = 65_536;
-
-const PIECES: u64 = 16;
-
-const ZEROS: [u8; PIECE] = [0; PIECE];
+// A MiB of zeros, which are written at once.
+const ZEROS: [u8; 1_048_576] = [0; 1_048_576];
 
 /// Writes so many MiB of zeros: all, or where the sink failed a front of them.
 pub fn run_image<O: Sink>(mib: u32, out: &mut O) -> Status
@@ -23,7 +19,7 @@ pub fn run_image<O: Sink>(mib: u32, out: &mut O) -> Status
     ensures later { O.faults out.old ≤ O.faults out.new }
     ensures cause { result ≡ Status.SinkFault → Rose (O.faults out.old) (O.faults out.new) }
 {
-    for _ in 0..PIECES * u64::from(mib) {
+    for _ in 0..mib {
         match write_all(out, &ZEROS) {
             Ok(()) => {}
             Err(SinkFault) => return Status::SinkFault,
