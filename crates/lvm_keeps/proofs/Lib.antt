@@ -11,5 +11,6 @@ pub mod Close
 pub mod Take
 pub mod Landing
 pub mod Losing
+pub mod Starting
 pub mod Wait
 pub mod Begin

@@ -1,5 +1,6 @@
 -- Each event of a sound session leaves it sound.
-use Rattle.std.specs.Prelude.{◌≡◌, true, ℕ, Bool}
+use Rattle.std.specs.Prelude.{◌≡◌, ◌||◌, true, false, ℕ, Bool, Some, slice_get}
+use Rattle.lvm_num.specs.declared.place.Pp.{Pp}
 use Rattle.lvm_disk.specs.declared.shelf.Arrange.{Arrange}
 use Rattle.lvm_vol.specs.declared.entry.Outcome.{Outcome}
 use Rattle.lvm_session.specs.declared.open.Power.TheVariants as power
@@ -9,7 +10,13 @@ use Rattle.lvm_events.specs.Calls.{Closes, TakeGives}
 use Rattle.lvm_events.specs.Ends.{Ends}
 use Rattle.lvm_events.specs.Events.{Admits, Lands, Pins, ReadsCopy, StartsData, StartsNote, StartsStatus, WritesCopy}
 use Rattle.lvm_events.specs.Turns.{Arranges, Darkens, Finds, GoesOff}
-use Rattle.lvm_session.specs.Enabled.{is_lost}
+use Rattle.lvm_path.specs.Asks.{is_write}
+use Rattle.lvm_path.specs.Targets.{is_begun}
+use Rattle.lvm_session.specs.declared.open.Open.{Open}
+use Rattle.lvm_session.specs.Judging.{copies_for, pps_of}
+use Rattle.lvm_session.specs.Enabled.{is_lost, target_due}
+use Rattle.lvm_events.specs.Marks.{is_among}
+use Rattle.lvm_sound.specs.Requests.{is_left_out}
 use Rattle.lvm_sound.specs.Causes.{AnyFailedSince, IsLandedFor}
 use Rattle.lvm_sound.specs.Sound.{IsSound}
 
@@ -82,3 +89,10 @@ LandingIsCaused = (place : ℕ) (how : Outcome) (old new : State) → IsSound ol
 -- The votes are lost only where some disk has failed since the session began.
 abbrev pub LossIsCaused : Type 0
 LossIsCaused = (s : State) → IsSound s → is_lost s.core ≡ true → AnyFailedSince s
+
+-- ---- where a write goes
+
+-- A write that starts its first transfer goes to each copy that isn't left out: which is stale, and which the copying hasn't passed.
+abbrev pub FirstStartIsWhole : Type 0
+FirstStartIsWhole = (s : State) (place target : ℕ) (o : Open) → IsSound s → s.core.power ≡ power.On → slice_get s.core.requests place ≡ Some o → target_due s.core o ≡ Some target → is_write o.request.ask ≡ true
+    → is_begun o.request.targets.items ≡ false → (p : Pp) → is_among (copies_for s.core o.request.ask) p ≡ true → is_among (pps_of o.request.targets.items) p || is_left_out s.core o.request.ask p ≡ true

@@ -1,6 +1,6 @@
 //! Laws: what each event of a sound session leaves is sound.
 ghost use Rattle.lvm_keeps.specs.Begins.{BeginningIsSound};
-ghost use Rattle.lvm_keeps.specs.Keeps.{CloseKeeps, LandingIsCaused, LossIsCaused, PinKeeps, TakeKeeps, WaitKeeps};
+ghost use Rattle.lvm_keeps.specs.Keeps.{CloseKeeps, FirstStartIsWhole, LandingIsCaused, LossIsCaused, PinKeeps, TakeKeeps, WaitKeeps};
 
 /// A session is sound as it begins.
 pub fn beginning_is_sound()
@@ -36,4 +36,10 @@ pub fn landing_is_caused()
 /// The votes of a session are lost only where some disk has failed since it began.
 pub fn loss_is_caused()
     ensures { LossIsCaused }
+{}
+
+/// A write that starts its first transfer goes to each copy, but for those that are settled as stale and that the
+/// copying hasn't passed.
+pub fn first_start_is_whole()
+    ensures { FirstStartIsWhole }
 {}
