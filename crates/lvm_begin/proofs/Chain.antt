@@ -7,13 +7,15 @@ use Rattle.lvm_disk.specs.Paths.{DeviceStep, Path}
 use Rattle.lvm_kept.specs.Plans.{Plan, ChangesBy}
 use Rattle.lvm_num.specs.Disks.{Disks}
 use Rattle.lvm_quorum.specs.Written.{KeepsShelf, IsWriting, FreesAtMost}
-use Rattle.lvm_quorum.proofs.Writing.{logs_wider, both_map, changes_more, moments_on, moments_wider}
-use Rattle.lvm_quorum.proofs.Transfers.{keeps_then, spends_then, spent_then}
+use Rattle.lvm_quorum.proofs.Writing.{logs_wider, both_map, changes_more, moments_wider}
+use Rattle.lvm_quorum.specs.Writes.{WriteLeaves}
+use Rattle.lvm_quorum.proofs.Transfers.{spent_then}
+use Rattle.lvm_quorum.proofs.Tried.{leaves_then}
 use Rattle.lvm_begin.specs.declared.begin.Begun.{Begun}
 use Rattle.lvm_begin.specs.declared.begin.Begun.TheVariants as begun
 use Rattle.lvm_begin.specs.Beginning.{Beginning, Part, brought, IsOfParts, Stands, AllStand}
 use Rattle.lvm_begin.specs.Ends.{StopsAt, WasTried}
-use Rattle.lvm_begin.specs.Runs.{Does, OneGives, OneWell, HowOne, IsStage, AreDone, AreBegun, HowMany, ManyGives}
+use Rattle.lvm_begin.specs.Runs.{OneGives, OneWell, HowOne, IsStage, AreDone, AreBegun, HowMany, ManyGives}
 
 -- ---- plans
 
@@ -39,18 +41,11 @@ wider_keeps targets P Q old new more keeps = record {
   wrote = logs_wider P Q old.wrote new.wrote more keeps.wrote;
 }
 
-wider : (targets : Disks) (P Q : Plan) (before after : ℕ) (old new : Device) → ((d s : ℕ) (value : Sector) → P d s value → Q d s value) → Does targets P before after old new → Does targets Q before after old new
+wider : (targets : Disks) (P Q : Plan) (before after : ℕ) (old new : Device) → ((d s : ℕ) (value : Sector) → P d s value → Q d s value) → WriteLeaves targets P before after old new → WriteLeaves targets Q before after old new
 wider targets P Q before after old new more does = record {
   keeps = wider_keeps targets P Q old new more does.keeps;
   spends = does.spends;
   moments = moments_wider P Q more old new does.moments;
-}
-
-does_then : (targets : Disks) (P : Plan) (p q r : ℕ) (old mid new : Device) → Does targets P p q old mid → Does targets P q r mid new → Does targets P p r old new
-does_then targets P p q r old mid new one two = record {
-  keeps = keeps_then targets P old mid new one.keeps two.keeps;
-  spends = spends_then p q r old mid new one.spends two.spends;
-  moments = moments_on P old mid one.keeps.media new one.moments two.moments;
 }
 
 -- ---- what stands
@@ -74,7 +69,7 @@ begun_in_front b [] qs old new begun = absurd begun
 begun_in_front b (p ∷ ps) qs old new (inl path) = inl path
 begun_in_front b (p ∷ ps) qs old new (inr stage) = inr (stage.0, stage.1, begun_in_front b ps qs stage.0 new stage.2)
 
-stage_of : (b : Beginning) (p : Part) (number before after : ℕ) (old new : Device) (buf : Buffer) → Does b.targets (brought b p) before after old new → OneWell b.targets (Stands b p) number old new buf → IsStage b p old new
+stage_of : (b : Beginning) (p : Part) (number before after : ℕ) (old new : Device) (buf : Buffer) → WriteLeaves b.targets (brought b p) before after old new → OneWell b.targets (Stands b p) number old new buf → IsStage b p old new
 stage_of b p number before after old new buf does one = record { still = one.back.ready.flights; keeps = does.keeps; path = does.moments; stands = one.stands }
 
 -- ---- the first part
@@ -101,7 +96,7 @@ pub more_gives :
     → ManyGives b (ps ++ p ∷ []) number before after old new result
 more_gives b ps p number before mid_left after old mid new buf result many one stay =
     let P : Plan = IsOfParts b (ps ++ p ∷ []) in
-    let does = does_then b.targets P before mid_left after old mid new
+    let does = leaves_then b.targets P before mid_left after old mid new
     (wider b.targets (IsOfParts b ps) P before mid_left old mid (in_front b ps (p ∷ [])) many.does)
     (wider b.targets (brought b p) P mid_left after mid new (at_end b ps p) one.does) in
     record { does = does; begun = begun_more b ps p old mid new many.how.done one.does.moments; how = how result does.keeps one.how }

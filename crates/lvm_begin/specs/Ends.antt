@@ -7,50 +7,19 @@ use Rattle.lvm_disk.specs.Counts.{Rose}
 use Rattle.lvm_disk.specs.Device.{Device}
 use Rattle.lvm_quorum.specs.declared.homes.Homes.{Homes}
 use Rattle.lvm_quorum.specs.Homes.{second_slots}
-use Rattle.lvm_quorum.specs.Written.{KeepsShelf}
+use Rattle.lvm_quorum.specs.Written.{KeepsShelf, IsDarkened, IsGivenUp}
+use Rattle.lvm_quorum.specs.Writes.{IsBack}
 use Rattle.lvm_begin.specs.Beginning.{Beginning, Part, IsOfParts, Stands, AllStand}
 use Rattle.lvm_begin.specs.declared.begin.Begun.{Begun}
 use Rattle.lvm_begin.specs.declared.begin.Begun.TheVariants as begun
 
--- ---- the answers
+-- ---- the answer
 
 abbrev pub IfEnded : Begun → (Buffer → Type 0) → Type 0
 IfEnded (begun.Ended buf) P = P buf
 IfEnded (begun.DiskFailed disk buf) P = Unit {0}
 IfEnded begun.Dark P = Unit {0}
 IfEnded begun.Stuck P = Unit {0}
-
-abbrev pub IfDiskFailed : Begun → (ℕ → Buffer → Type 0) → Type 0
-IfDiskFailed (begun.Ended buf) P = Unit {0}
-IfDiskFailed (begun.DiskFailed disk buf) P = P disk buf
-IfDiskFailed begun.Dark P = Unit {0}
-IfDiskFailed begun.Stuck P = Unit {0}
-
--- the buffer that comes back: Ended or DiskFailed
-abbrev pub IfBack : Begun → (Buffer → Type 0) → Type 0
-IfBack (begun.Ended buf) P = P buf
-IfBack (begun.DiskFailed disk buf) P = P buf
-IfBack begun.Dark P = Unit {0}
-IfBack begun.Stuck P = Unit {0}
-
-abbrev pub OnDark : Begun → Type 0 → Type 0
-OnDark (begun.Ended buf) P = Unit {0}
-OnDark (begun.DiskFailed disk buf) P = Unit {0}
-OnDark begun.Dark P = P
-OnDark begun.Stuck P = Unit {0}
-
-abbrev pub OnStuck : Begun → Type 0 → Type 0
-OnStuck (begun.Ended buf) P = Unit {0}
-OnStuck (begun.DiskFailed disk buf) P = Unit {0}
-OnStuck begun.Dark P = Unit {0}
-OnStuck begun.Stuck P = P
-
--- Dark or Stuck
-abbrev pub OnBroken : Begun → Type 0 → Type 0
-OnBroken (begun.Ended buf) P = Unit {0}
-OnBroken (begun.DiskFailed disk buf) P = Unit {0}
-OnBroken begun.Dark P = P
-OnBroken begun.Stuck P = P
 
 -- ---- what holds at them
 
@@ -81,3 +50,25 @@ pub record IsFirstFailed (targets : Disks) (old new : Device) (disk : ℕ) : Typ
 -- the part was tried on each target: it stands there, or a transfer failed there
 abbrev pub WasTried : Beginning → Device → Device → Part → Type 0
 WasTried b old new part = (d : ℕ) → IsTrue (b.targets d) → Stands b part new d ⊎ Rose (old.counts.faults d) (new.counts.faults d)
+
+-- ---- how they end
+
+-- all of them stand on each target, no transfer failed, and the slots that come next are the other ones there
+pub record BeginsWell (b : Beginning) (order : List Part) (number : ℕ) (next : Homes) (old new : Device) (buf : Buffer) : Type 0 where
+  pub back : IsBack number old new buf
+  pub stand : AllStand b order new
+  pub well : HasNoFault old new
+  pub flips : BothFlip b.targets b.homes next
+
+-- One of them failed on some disks, of which this is the lowest; it was tried on all, and those behind it weren't begun.
+pub record FailsAtDisk (b : Beginning) (order : List Part) (number : ℕ) (old new : Device) (disk : ℕ) (buf : Buffer) : Type 0 where
+  pub back : IsBack number old new buf
+  pub first : IsFirstFailed b.targets old new disk
+  pub stop : StopsAt b order old new (WasTried b old new)
+
+-- how the writes end, by the answer, with the slots that come next: well, at a disk that failed, or broken off
+abbrev pub BeginEnds : Beginning → List Part → ℕ → ℕ → Homes → Device → Device → Begun → Type 0
+BeginEnds b order number before next old new (begun.Ended buf) = BeginsWell b order number next old new buf
+BeginEnds b order number before next old new (begun.DiskFailed disk buf) = FailsAtDisk b order number old new disk buf
+BeginEnds b order number before next old new begun.Dark = IsDarkened number old new × StopsAt b order old new (λ hand. Unit {0})
+BeginEnds b order number before next old new begun.Stuck = IsGivenUp number before old new × StopsAt b order old new (λ hand. Unit {0})

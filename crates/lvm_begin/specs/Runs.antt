@@ -3,17 +3,17 @@ use Rattle.std.specs.Prelude.{◌≡◌, ◌⊎◌, ℕ, ◌<◌, List, [], ◌�
 use Rattle.lvm_num.specs.Buffer.{Buffer}
 use Rattle.lvm_num.specs.Disks.{Disks, has}
 use Rattle.lvm_disk.specs.Counts.{Rose}
-use Rattle.lvm_disk.specs.Device.{Device, IsReady}
+use Rattle.lvm_disk.specs.Device.{Device}
 use Rattle.lvm_disk.specs.Paths.{DeviceStep, Path}
 use Rattle.lvm_kept.specs.Plans.{Plan}
 use Rattle.lvm_quorum.specs.declared.write.Wrote.{Wrote}
 use Rattle.lvm_quorum.specs.declared.write.Wrote.TheVariants as wrote
-use Rattle.lvm_quorum.specs.Parts.{Spends}
 use Rattle.lvm_quorum.specs.Written.{KeepsShelf, IsWriting, IsDarkened, IsGivenUp}
+use Rattle.lvm_quorum.specs.Writes.{WriteLeaves, IsBack}
 use Rattle.lvm_begin.specs.declared.begin.Begun.{Begun}
 use Rattle.lvm_begin.specs.declared.begin.Begun.TheVariants as begun
 use Rattle.lvm_begin.specs.Beginning.{Beginning, Part, brought, IsOfParts, Stands, AllStand}
-use Rattle.lvm_begin.specs.Ends.{HasNoFault, StopsAt, IsFirstFailed, WasTried}
+use Rattle.lvm_begin.specs.Ends.{HasNoFault, StopsAt, IsFirstFailed, FailsAtDisk}
 
 -- a write to disks as its answer names it: all went well, or this is the lowest that failed
 abbrev pub IsAnswer : Wrote → Begun → Type 0
@@ -29,18 +29,6 @@ IsAnswer wrote.Stuck (begun.Ended back) = ⊥
 IsAnswer wrote.Stuck (begun.DiskFailed disk back) = ⊥
 IsAnswer wrote.Stuck begun.Dark = ⊥
 IsAnswer wrote.Stuck begun.Stuck = Unit {0}
-
--- what is written, whatever the answer
-pub record Does (targets : Disks) (P : Plan) (before after : ℕ) (old new : Device) : Type 0 where
-  pub keeps : KeepsShelf targets P old new
-  pub spends : Spends before after old new
-  pub moments : Path DeviceStep (IsWriting P old) old new
-
--- nothing is out, the power was never off, and the buffer is back
-pub record IsBack (number : ℕ) (old new : Device) (buf : Buffer) : Type 0 where
-  pub ready : IsReady new
-  pub cuts : new.counts.cuts ≡ old.counts.cuts
-  pub number_is : buf.number ≡ number
 
 -- ---- one write
 
@@ -62,7 +50,7 @@ HowOne targets Stands number before old new begun.Stuck = IsGivenUp number befor
 
 -- how a write to these disks ended, which may bring this, and of which this then stands
 pub record OneGives (targets : Disks) (P : Plan) (Stands : Device → ℕ → Type 0) (number before after : ℕ) (old new : Device) (result : Begun) : Type 0 where
-  pub does : Does targets P before after old new
+  pub does : WriteLeaves targets P before after old new
   pub how : HowOne targets Stands number before old new result
 
 -- ---- several
@@ -90,19 +78,14 @@ pub record ManyWell (b : Beginning) (order : List Part) (number : ℕ) (old new 
   pub stand : AllStand b order new
   pub done : AreDone b order old new
 
-pub record ManyBad (b : Beginning) (order : List Part) (number : ℕ) (old new : Device) (disk : ℕ) (buf : Buffer) : Type 0 where
-  pub back : IsBack number old new buf
-  pub first : IsFirstFailed b.targets old new disk
-  pub stop : StopsAt b order old new (WasTried b old new)
-
 abbrev pub HowMany : Beginning → List Part → ℕ → ℕ → Device → Device → Begun → Type 0
 HowMany b order number before old new (begun.Ended buf) = ManyWell b order number old new buf
-HowMany b order number before old new (begun.DiskFailed disk buf) = ManyBad b order number old new disk buf
+HowMany b order number before old new (begun.DiskFailed disk buf) = FailsAtDisk b order number old new disk buf
 HowMany b order number before old new begun.Dark = IsDarkened number old new × StopsAt b order old new (λ hand. Unit {0})
 HowMany b order number before old new begun.Stuck = IsGivenUp number before old new × StopsAt b order old new (λ hand. Unit {0})
 
 -- how the parts ended, in this order
 pub record ManyGives (b : Beginning) (order : List Part) (number before after : ℕ) (old new : Device) (result : Begun) : Type 0 where
-  pub does : Does b.targets (IsOfParts b order) before after old new
+  pub does : WriteLeaves b.targets (IsOfParts b order) before after old new
   pub begun : AreBegun b order old new
   pub how : HowMany b order number before old new result

@@ -1,17 +1,16 @@
 //! The writes with which a group comes on: of its notes, its status and its descriptor.
-ghost use Rattle.std.specs.Prelude.{◌≡◌, ◌≢◌, ◌-◌, ◌<◌, ◌≤◌, ℕ, length, IfSome, IfNone, IsTrue, IsFalse};
+ghost use Rattle.std.specs.Prelude.{◌≢◌, ◌<◌, ◌≤◌, ℕ, length, IfSome, IfNone, IsTrue, IsFalse};
 ghost use Rattle.lvm_num.specs.declared.record.Kind.TheVariants as kind;
 ghost use Rattle.lvm_num.specs.Disks.{has};
 ghost use Rattle.lvm_num.specs.Record.{longest_content};
-ghost use Rattle.lvm_disk.specs.Counts.{RoseBy};
 ghost use Rattle.lvm_disk.specs.Device.{IsReady};
-ghost use Rattle.lvm_disk.specs.Paths.{DeviceStep, Path};
 ghost use Rattle.lvm_kept.specs.Torn.{IsOfNote, IsOfRecord};
 ghost use Rattle.lvm_quorum.specs.Homes.{Flips};
 ghost use Rattle.lvm_quorum.specs.Notes.{empty_note, NoteTold};
-ghost use Rattle.lvm_quorum.specs.Written.{write_of, StandsTold, HaveRoom, IsWriting, KeepsShelf, IsDarkened, IsGivenUp};
-ghost use Rattle.lvm_begin.specs.Beginning.{new_beginning, again_beginning, new_order, again_order, IsOfParts, AllStand};
-ghost use Rattle.lvm_begin.specs.Ends.{IfEnded, IfDiskFailed, IfBack, OnDark, OnStuck, OnBroken, BothFlip, HasNoFault, StopsAt, IsFirstFailed, WasTried};
+ghost use Rattle.lvm_quorum.specs.Written.{write_of, StandsTold, HaveRoom};
+ghost use Rattle.lvm_quorum.specs.Writes.{WriteLeaves};
+ghost use Rattle.lvm_begin.specs.Beginning.{new_beginning, again_beginning, new_order, again_order, IsOfParts};
+ghost use Rattle.lvm_begin.specs.Ends.{IfEnded, BothFlip, BeginEnds};
 ghost use Rattle.lvm_begin.specs.Kept.{NewStaysKept, AgainStaysKept};
 ghost use Rattle.lvm_begin.specs.Runs.{IsAnswer, OneGives, ManyGives};
 
@@ -52,25 +51,8 @@ pub fn begin_new<S: Shelf>(
     requires descriptor { length descriptor.now ≤ longest_content kind.Descriptor }
     requires status { length status.now ≤ longest_content kind.Status }
     requires targets { HaveRoom (S.device shelf.old) (has targets) }
-    // all of it was written well
-    ensures stand { let b = new_beginning epoch descriptor.now status.now (has targets) homes.old in IfEnded result (λ back. AllStand b new_order (S.device shelf.new)) }
-    ensures well { IfEnded result (λ back. HasNoFault (S.device shelf.old) (S.device shelf.new)) }
-    ensures homes { IfEnded result (λ back. BothFlip (has targets) homes.old homes.new) }
-    // a disk failed
-    ensures failed { IfDiskFailed result (λ disk back. IsFirstFailed (has targets) (S.device shelf.old) (S.device shelf.new) disk) }
-    ensures tried { let b = new_beginning epoch descriptor.now status.now (has targets) homes.old in IfDiskFailed result (λ disk back. StopsAt b new_order (S.device shelf.old) (S.device shelf.new) (WasTried b (S.device shelf.old) (S.device shelf.new))) }
-    // the buffer comes back
-    ensures buffer { IfBack result (λ back. back.number ≡ buf.number) }
-    ensures ready { IfBack result (λ back. IsReady (S.device shelf.new) × ((S.device shelf.new).counts.cuts ≡ (S.device shelf.old).counts.cuts)) }
-    // they were broken off
-    ensures dark { OnDark result (IsDarkened buf.number (S.device shelf.old) (S.device shelf.new)) }
-    ensures stuck { OnStuck result (IsGivenUp buf.number patience.old.left (S.device shelf.old) (S.device shelf.new)) }
-    ensures broken { let b = new_beginning epoch descriptor.now status.now (has targets) homes.old in OnBroken result (StopsAt b new_order (S.device shelf.old) (S.device shelf.new) (λ hand. Unit {0})) }
-    // whatever the answer
-    ensures patience { patience.new.left ≤ patience.old.left }
-    ensures waited { RoseBy (patience.old.left - patience.new.left) (S.device shelf.old).counts.waits (S.device shelf.new).counts.waits }
-    ensures keeps { let b = new_beginning epoch descriptor.now status.now (has targets) homes.old in KeepsShelf (has targets) (IsOfParts b new_order) (S.device shelf.old) (S.device shelf.new) }
-    ensures moments { let b = new_beginning epoch descriptor.now status.now (has targets) homes.old in Path DeviceStep (IsWriting (IsOfParts b new_order) (S.device shelf.old)) (S.device shelf.old) (S.device shelf.new) }
+    ensures ends { let b = new_beginning epoch descriptor.now status.now (has targets) homes.old in BeginEnds b new_order buf.number patience.old.left homes.new (S.device shelf.old) (S.device shelf.new) result }
+    ensures leaves { let b = new_beginning epoch descriptor.now status.now (has targets) homes.old in WriteLeaves (has targets) (IsOfParts b new_order) patience.old.left patience.new.left (S.device shelf.old) (S.device shelf.new) }
     ensures kept { let b = new_beginning epoch descriptor.now status.now (has targets) homes.old in NewStaysKept b (S.device shelf.old) (S.device shelf.new) }
 {
     write_new(
@@ -97,25 +79,8 @@ pub fn begin_again<S: Shelf>(
     requires descriptor { length descriptor.now ≤ longest_content kind.Descriptor }
     requires status { length status.now ≤ longest_content kind.Status }
     requires targets { HaveRoom (S.device shelf.old) (has targets) }
-    // all of it was written well
-    ensures stand { let b = again_beginning epoch descriptor.now status.now (has targets) homes.old in IfEnded result (λ back. AllStand b (again_order forget) (S.device shelf.new)) }
-    ensures well { IfEnded result (λ back. HasNoFault (S.device shelf.old) (S.device shelf.new)) }
-    ensures homes { IfEnded result (λ back. BothFlip (has targets) homes.old homes.new) }
-    // a disk failed
-    ensures failed { IfDiskFailed result (λ disk back. IsFirstFailed (has targets) (S.device shelf.old) (S.device shelf.new) disk) }
-    ensures tried { let b = again_beginning epoch descriptor.now status.now (has targets) homes.old in IfDiskFailed result (λ disk back. StopsAt b (again_order forget) (S.device shelf.old) (S.device shelf.new) (WasTried b (S.device shelf.old) (S.device shelf.new))) }
-    // the buffer comes back
-    ensures buffer { IfBack result (λ back. back.number ≡ buf.number) }
-    ensures ready { IfBack result (λ back. IsReady (S.device shelf.new) × ((S.device shelf.new).counts.cuts ≡ (S.device shelf.old).counts.cuts)) }
-    // they were broken off
-    ensures dark { OnDark result (IsDarkened buf.number (S.device shelf.old) (S.device shelf.new)) }
-    ensures stuck { OnStuck result (IsGivenUp buf.number patience.old.left (S.device shelf.old) (S.device shelf.new)) }
-    ensures broken { let b = again_beginning epoch descriptor.now status.now (has targets) homes.old in OnBroken result (StopsAt b (again_order forget) (S.device shelf.old) (S.device shelf.new) (λ hand. Unit {0})) }
-    // whatever the answer
-    ensures patience { patience.new.left ≤ patience.old.left }
-    ensures waited { RoseBy (patience.old.left - patience.new.left) (S.device shelf.old).counts.waits (S.device shelf.new).counts.waits }
-    ensures keeps { let b = again_beginning epoch descriptor.now status.now (has targets) homes.old in KeepsShelf (has targets) (IsOfParts b (again_order forget)) (S.device shelf.old) (S.device shelf.new) }
-    ensures moments { let b = again_beginning epoch descriptor.now status.now (has targets) homes.old in Path DeviceStep (IsWriting (IsOfParts b (again_order forget)) (S.device shelf.old)) (S.device shelf.old) (S.device shelf.new) }
+    ensures ends { let b = again_beginning epoch descriptor.now status.now (has targets) homes.old in BeginEnds b (again_order forget) buf.number patience.old.left homes.new (S.device shelf.old) (S.device shelf.new) result }
+    ensures leaves { let b = again_beginning epoch descriptor.now status.now (has targets) homes.old in WriteLeaves (has targets) (IsOfParts b (again_order forget)) patience.old.left patience.new.left (S.device shelf.old) (S.device shelf.new) }
     ensures kept { let b = again_beginning epoch descriptor.now status.now (has targets) homes.old in AgainStaysKept b forget (S.device shelf.old) (S.device shelf.new) }
 {
     write_again(

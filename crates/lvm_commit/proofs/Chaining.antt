@@ -9,7 +9,7 @@ use Rattle.lvm_num.specs.Disks.{Disks}
 use Rattle.lvm_num.specs.Descriptor.{is_member}
 use Rattle.lvm_num.specs.Status.{calls_missing, calls_stale}
 use Rattle.lvm_disk.specs.Counts.{NoneFalls}
-use Rattle.lvm_disk.specs.Device.{Device, IsReady, image_of}
+use Rattle.lvm_disk.specs.Device.{Device, image_of}
 use Rattle.lvm_disk.specs.Paths.{DeviceStep, Path, Here, Then}
 use Rattle.lvm_disk.proofs.Rising.{rose_before, rose_after, none_falls_at_once, none_falls_on}
 use Rattle.lvm_disk.proofs.Stepping.{step_counts}
@@ -22,7 +22,7 @@ use Rattle.lvm_quorum.specs.Parts.{Spends}
 use Rattle.lvm_quorum.specs.Written.{KeepsShelf}
 use Rattle.lvm_quorum.proofs.Transfers.{keeps_then, spends_then}
 use Rattle.lvm_quorum.proofs.Writing.{logs_wider, both_map, changes_more}
-use Rattle.lvm_commit.specs.Settling.{there, OnlyLoses, AreWell, HasLostQuorum, SpendsNumbers}
+use Rattle.lvm_commit.specs.Settling.{there, OnlyLoses, HasLostQuorum, SpendsNumbers, ComesBack}
 use Rattle.lvm_commit.specs.Rounds.{WasTried}
 
 -- ---- counts
@@ -115,13 +115,7 @@ goes_then P p q r first mid last old m new one two = record {
 
 -- ---- where the buffer comes back
 
-pub record Returns (number : ℕ) (last : Stored) (old new : Device) (buf : Buffer) : Type 0 where
-  pub number_is : buf.number ≡ number
-  pub ready : IsReady new
-  pub cuts : new.counts.cuts ≡ old.counts.cuts
-  pub well : AreWell last old new
-
-pub returns_then : (number : ℕ) (mid last : Stored) (old m new : Device) (back buf : Buffer) → ((d : ℕ) → IsTrue (there last d) → IsTrue (there mid d)) → Returns number mid old m back → Returns back.number last m new buf → Returns number last old new buf
+pub returns_then : (number : ℕ) (mid last : Stored) (old m new : Device) (back buf : Buffer) → ((d : ℕ) → IsTrue (there last d) → IsTrue (there mid d)) → ComesBack number mid old m back → ComesBack back.number last m new buf → ComesBack number last old new buf
 returns_then number mid last old m new back buf less one two = record {
   number_is = two.number_is ∙ one.number_is;
   ready = two.ready;
@@ -176,7 +170,7 @@ module _ (w : RecordWrite) (number : ℕ) (first last : Stored) (slots next : Ho
       parts true false fails = refl
       parts false was fails = refl
 
-  pub record_returns : Returns number last old new buf
+  pub record_returns : ComesBack number last old new buf
   record_returns = record { number_is = tried.number_is; ready = tried.ready; cuts = tried.cuts; well = λ d is. (tried.each d).well (not_failed (w.targets d) (tried.failed d) (sym (there_then d) ∙ is)) }
     where
       not_failed : (t fails : Bool) → t && not fails ≡ true → fails ≡ false

@@ -11,32 +11,37 @@ use Rattle.lvm_num.specs.Votes.{all_disks, votes_in, CanRead, CanWrite}
 use Rattle.lvm_num.specs.Record.{Stamped, stamp_lt}
 use Rattle.lvm_num.proofs.VotesLemmas.{read_meets_write, more_have_more, more_is_enough}
 use Rattle.lvm_kept.specs.Contents.{Contents}
-use Rattle.lvm_kept.specs.Group.{passes, is_of, descriptor_among, has_quorum, is_voter, Finds, members_in}
+use Rattle.lvm_kept.specs.Group.{passes, is_of, descriptor_among, members_in}
 use Rattle.lvm_kept.specs.Committed.{DescriptorStands, IsWithinDisks}
 use Rattle.lvm_kept.proofs.Finding.{some_same, enough-too, finds_from, newest_among}
 use Rattle.lvm_commit.specs.Committed.{IsAlike, Began, ShowsCommitted}
 use Rattle.lvm_commit.specs.Laws.{IsLaterDescriptor, StatusIsCommitted, DescriptorIsCommitted}
-use Rattle.lvm_commit.proofs.Members.{among_all, same_id, same_votes, same_room}
+use Rattle.lvm_steps.proofs.FindsLemmas.{with_others, still_finds}
+use Rattle.lvm_steps.proofs.Members.{among_all, same_id, same_votes, same_room}
 
 -- ---- other statuses, other notes, other data
 
 module _ (c : Contents) (status : ℕ → Option (Stamped Status)) (note : ℕ → Option Noted) (block : ℕ → ℕ → Sector) where
-  abbrev pub with_others : Contents
-  with_others = record c { status = status; note = note; block = block }
-
-  among_same : (set : Disks) (id : ℕ) → descriptor_among with_others set id ≡ descriptor_among c set id
-  unfolding descriptor_among
-  among_same set id = refl
-
-  quorum_same : (set : Disks) (id : ℕ) → has_quorum with_others set id ≡ has_quorum c set id
-  unfolding has_quorum is_voter descriptor_among
-  quorum_same set id = refl
-
-  pub still_finds : (set : Disks) (id : ℕ) (g : Descriptor) → Finds c set id g → Finds with_others set id g
-  still_finds set id g f = record { quorum = quorum_same set id ∙ f.quorum; newest = f.newest; found = among_same set id ∙ f.found; is = f.is }
-
-  pub still_began : (group : Descriptor) (disks : Disks) → Began c group disks → Began with_others group disks
+  pub still_began : (group : Descriptor) (disks : Disks) → Began c group disks → Began (with_others c status note block) group disks
   still_began group disks began = record { enough = began.enough; alike = began.alike; since = began.since }
+
+-- under other notes and other data
+unfoldable pub still_shows : (c : Contents) (note : ℕ → Option Noted) (block : ℕ → ℕ → Sector) (group : Descriptor) (status : Status) (there : Disks) → ShowsCommitted c group status there → ShowsCommitted (record c { note = note; block = block }) group status there
+still_shows c note block group status there shows = record {
+  found = still_finds c c.status note block all_disks group.id group shows.found;
+  disks = shows.disks;
+  began = still_began c c.status note block group shows.disks shows.began;
+  descriptor = shows.descriptor;
+  value = shows.value;
+  latest = shows.latest;
+  described = shows.described;
+  room = shows.room;
+  own = shows.own;
+  stands = shows.stands;
+  committed = shows.committed;
+  stated = shows.stated;
+  last = shows.last;
+}
 
 -- ---- the next status
 

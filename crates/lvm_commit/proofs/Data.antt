@@ -22,7 +22,7 @@ use Rattle.lvm_commit.specs.Committed.{ShowsCommitted}
 use Rattle.lvm_commit.specs.LawsOfData.{IsFree, IsSectorOf, PartitionChange, FreeDataKeeps}
 use Rattle.lvm_commit.proofs.Found.{shows_group, only_found}
 use Rattle.lvm_commit.proofs.Free.{all_that_pass, none_stands}
-use Rattle.lvm_commit.proofs.Members.{one_group, parts_of}
+use Rattle.lvm_steps.proofs.Members.{one_group, parts_of}
 
 module _ (group : Descriptor) (status : Status) (there : Disks) (pp : Pp) (old new : Contents) (facts : List Fact) (within : IsWithinDisks old) (enough : CanWrite group there) (shows : ShowsCommitted old group status there)
     (on_it : IsTrue (there pp.disk)) (free : IsFree group pp) (change : PartitionChange group.mib pp old new) (kept : Kept old facts) where

@@ -23,7 +23,8 @@ use Rattle.lvm_steps.proofs.Booleans.{clash}
 use Rattle.lvm_steps.proofs.Making.{media_may}
 use Rattle.lvm_quorum.specs.declared.homes.Homes.{Homes}
 use Rattle.lvm_quorum.specs.Written.{KeepsShelf, IsDarkened, IsGivenUp}
-use Rattle.lvm_quorum.proofs.Transfers.{keeps_then, darkened_then, given_up_then}
+use Rattle.lvm_quorum.specs.Parts.{Spends}
+use Rattle.lvm_quorum.proofs.Transfers.{keeps_then, spends_then, darkened_then, given_up_then}
 use Rattle.lvm_quorum.proofs.Writing.{told_at, both_map, both_then}
 use Rattle.lvm_commit.specs.declared.commit.Settled.{Settled}
 use Rattle.lvm_commit.specs.declared.commit.Settled.TheVariants as settled
@@ -31,9 +32,9 @@ use Rattle.lvm_commit.specs.Committed.{next_stamp, IsAlike}
 use Rattle.lvm_commit.specs.LawsOfVolumes.{VolumeServes, LeavesOthers}
 use Rattle.lvm_commit.specs.LawsOfFinding.{FindsNoMore, FindsNoMoreOn}
 use Rattle.lvm_commit.proofs.Leaving.{wants_marks, round_left, left_then}
-use Rattle.lvm_commit.specs.Settling.{IfWentOff, EndsAtOnce, MarksLeft, there, IsOf, SessionIsHeld, WantsMarks, OthersAreLeft, OnlyLoses, AreWell, HasLostQuorum, SpendsNumbers, IsOfStatus, IsOfCommit, IsOneRecord, StatusStaysKept, DescriptorStaysKept, StatusFindsNothingNew, StaysHeld}
+use Rattle.lvm_commit.specs.Settling.{EndsAtOnce, MarksLeft, there, IsOf, SessionIsHeld, WantsMarks, OthersAreLeft, OnlyLoses, HasLostQuorum, SpendsNumbers, IsOfStatus, IsOfCommit, IsOneRecord, StatusStaysKept, DescriptorStaysKept, StatusFindsNothingNew, StaysHeld, CommitLeaves, ComesBack, StatusEnds, DescriptorEnds}
 use Rattle.lvm_commit.specs.Rounds.{MarksRound, stamped, session_write, WasTried, RecordGives}
-use Rattle.lvm_commit.proofs.Chaining.{Goes, Returns, path_counts, keeps_wider, loses_less, loses_then, not_there, record_returns, lost_quorum_then, spends_numbers_then}
+use Rattle.lvm_commit.proofs.Chaining.{Goes, path_counts, keeps_wider, loses_less, loses_then, not_there, record_returns, returns_then, lost_quorum_then, spends_numbers_then}
 use Rattle.lvm_commit.proofs.Round.{none_or_some, failed_is_missing, was_there_on}
 use Rattle.lvm_commit.proofs.Ready.{spends_one, spends_none}
 use Rattle.lvm_commit.proofs.NoMore.{then_no_more}
@@ -104,45 +105,31 @@ module _ (d : Descriptor) (first mid last : Stored) (homes after final : Homes) 
       (λ (some : (d : ℕ) × IsTrue (tried.failed d)). inr (some.0, was_there_on w number (stamped first) mid homes after old m refl buf tried some.0 some.1, failed_is_missing w number (stamped first) mid homes after old m refl buf tried some.0 some.1))
       (none_or_some w number (stamped first) mid homes after old m refl buf tried)
 
-  pub commit_loses : OnlyLoses first last old new
+  commit_loses : OnlyLoses first last old new
   commit_loses = loses_then first mid last old m new one.rises (path_counts k.kept) one.loses k.loses
 
-  pub commit_left : MarksLeft d first last
+  commit_left : MarksLeft d first last
   commit_left = left_then d first mid last k.valid (loses_less first mid old m one.loses) (loses_less mid last m new k.loses) (round_left d first mid k.valid k.round (loses_less first mid old m one.loses)) k.left
 
-  returns : Returns number mid old m buf
+  returns : ComesBack number mid old m buf
   returns = record_returns w number (stamped first) mid homes after old m buf refl tried
 
-  pub commit_well : AreWell last m new → AreWell last old new
-  commit_well well d is = well d is ∙ returns.well d (loses_less mid last m new k.loses d is)
-
-  pub commit_dark : IsDarkened buf.number m new → IsDarkened number old new
+  commit_dark : IsDarkened buf.number m new → IsDarkened number old new
   commit_dark dark = darkened_then number buf.number old m new returns.number_is returns.cuts dark
 
-  pub commit_stuck : IsGivenUp buf.number q m new → IsGivenUp number p old new
-  commit_stuck stuck = given_up_then number buf.number p q old m new returns.number_is returns.cuts k.gives.spends stuck
+  commit_stuck : IsGivenUp buf.number q m new → IsGivenUp number p old new
+  commit_stuck stuck = given_up_then number buf.number p q old m new returns.number_is returns.cuts k.gives.leaves.spends stuck
 
-  pub commit_off : (have total : ℕ) → HasLostQuorum mid last m new have total → HasLostQuorum first last old new have total
+  commit_off : (have total : ℕ) → HasLostQuorum mid last m new have total → HasLostQuorum first last old new have total
   commit_off have total lost = lost_quorum_then first mid last old m new have total one.loses one.rises lost
 
-  pub commit_numbers : SpendsNumbers 1 mid last → SpendsNumbers 1 first last
+  commit_numbers : SpendsNumbers 1 mid last → SpendsNumbers 1 first last
   commit_numbers spends = ⊎_elim
       (λ (none : EndsAtOnce r ((new ≡ m) × (last ≡ mid)) × (mid.wanted ≡ first.wanted)). subst (λ (u : Stored). SpendsNumbers 1 first u) (sym (at_once r ((new ≡ m) × (last ≡ mid)) none.0).1) (spends_one first mid old m one.loses stamp))
       (λ (some : (d : ℕ) × IsTrue (there first d) × IsTrue (calls_missing mid.wanted d)). spends_numbers_then 0 1 first mid last (spends_none first mid old m one.loses stamp some.0 some.1 some.2) spends)
       ends_or_loses
 
-  pub commit_spent : IfWentOff r (λ have total back. SpendsNumbers 0 mid last) → IfWentOff r (λ have total back. SpendsNumbers 0 first last)
-  commit_spent spends = by_end r ends_or_loses spends
-    where
-      by_end : (r : Settled) → (EndsAtOnce r ((new ≡ m) × (last ≡ mid)) × (mid.wanted ≡ first.wanted)) ⊎ ((d : ℕ) × IsTrue (there first d) × IsTrue (calls_missing mid.wanted d)) → IfWentOff r (λ have total back. SpendsNumbers 0 mid last)
-          → IfWentOff r (λ have total back. SpendsNumbers 0 first last)
-      by_end (settled.Done buf) either is = tt
-      by_end (settled.WentOff have total buf) (inl none) is = absurd none.0
-      by_end (settled.WentOff have total buf) (inr some) is = spends_numbers_then 0 0 first mid last (spends_none first mid old m one.loses stamp some.0 some.1 some.2) is
-      by_end settled.Dark either is = tt
-      by_end settled.Stuck either is = tt
-
-  pub commit_plain : SameMissing first.wanted last.wanted → IsOneRecord kind.Descriptor content first last homes old new
+  commit_plain : SameMissing first.wanted last.wanted → IsOneRecord kind.Descriptor content first last homes old new
   commit_plain same = ⊎_elim
       (λ (none : EndsAtOnce r ((new ≡ m) × (last ≡ mid)) × (mid.wanted ≡ first.wanted)).
       let as_before = at_once r ((new ≡ m) × (last ≡ mid)) none.0 in
@@ -176,7 +163,7 @@ module _ (d : Descriptor) (first mid last : Stored) (homes after final : Homes) 
     },
   )
 
-  pub commit_keeps : mid.stamp.seq ≤ last.stamp.seq → KeepsShelf (there first) (IsOfCommit content first last) old new
+  commit_keeps : mid.stamp.seq ≤ last.stamp.seq → KeepsShelf (there first) (IsOfCommit content first last) old new
   commit_keeps rises =
       let seq : mid.stamp.seq ≡ first.stamp.seq + 1 = ap (λ (s : Stamp). s.seq) stamp in
       keeps_then (there first) (IsOfCommit content first last) old m new
@@ -209,11 +196,42 @@ module _ (d : Descriptor) (first mid last : Stored) (homes after final : Homes) 
     commit_finds finds = then_no_more old m new (λ was is. ChangesBy (IsOfRecord w) (image_of old.sizes was) (image_of m.sizes is)) one.keeps.media (finds next next_is_of next_held) next
         (descriptor_finds first mid homes after old m content number p q (settled.Done buf) k.gives k.sectors k.frames group next reads held)
 
-    pub commit_held : StatusFindsNothingNew mid after m new → StaysHeld mid last after final m new → SessionIsHeld new next last final × OthersAreLeft group.id old new
+    commit_held : StatusFindsNothingNew mid after m new → StaysHeld mid last after final m new → SessionIsHeld new next last final × OthersAreLeft group.id old new
     commit_held finds stays = (
       (stays next next_is_of next_marks next_held).0,
       leaves_others_on group.id next old new (λ was is. Unit {0}) (ap (λ (g : Descriptor). g.id) alike) both (commit_finds finds),
     )
+
+  -- ---- how it ended
+
+  pub commit_leaves : (s : ℕ) → Spends q s m new → SpendsNumbers 1 mid last → CommitLeaves d (IsOfCommit content first last) p s first last old new
+  commit_leaves s spends numbers = record {
+    loses = commit_loses;
+    left = commit_left;
+    numbers = commit_numbers numbers;
+    keeps = commit_keeps numbers.rises;
+    spends = spends_then p q s old m new k.gives.leaves.spends spends;
+  }
+
+  pub commit_ends : StatusFindsNothingNew mid after m new → StatusEnds buf.number q mid last after final m new r → DescriptorEnds content number p first last homes final old new r
+  commit_ends finds ends = by_end r ends_or_loses ends
+    where
+      by_end : (r : Settled) → (EndsAtOnce r ((new ≡ m) × (last ≡ mid)) × (mid.wanted ≡ first.wanted)) ⊎ ((d : ℕ) × IsTrue (there first d) × IsTrue (calls_missing mid.wanted d)) → StatusEnds buf.number q mid last after final m new r
+          → DescriptorEnds content number p first last homes final old new r
+      by_end (settled.Done back) either is = record {
+        back = returns_then number mid last old m new buf back (loses_less mid last m new k.loses) returns is.back;
+        committed = is.committed;
+        held = λ group next reads own alike held. commit_held group next reads own alike held finds is.held;
+        plain = commit_plain;
+      }
+      by_end (settled.WentOff have total back) (inl none) is = absurd none.0
+      by_end (settled.WentOff have total back) (inr some) is = record {
+        back = returns_then number mid last old m new buf back (loses_less mid last m new k.loses) returns is.back;
+        lost = commit_off have total is.lost;
+        spent = spends_numbers_then 0 0 first mid last (spends_none first mid old m one.loses stamp some.0 some.1 some.2) is.spent;
+      }
+      by_end settled.Dark either is = commit_dark is
+      by_end settled.Stuck either is = commit_stuck is
 
   -- ---- each moment
 
@@ -226,7 +244,7 @@ module _ (d : Descriptor) (first mid last : Stored) (homes after final : Homes) 
 
   then_kept : (e : Device) → (WantsMarks m d mid → SessionIsHeld m d mid after → StaysKept m e) × (is_some e.media ≡ is_some m.media) → CommitStays e
   then_kept e is group next lv facts reads own held serves was image may =
-      let media = told_before old e image (is.1 ∙ told_with k.gives.moments) may in
+      let media = told_before old e image (is.1 ∙ told_with k.gives.leaves.moments) may in
       let served = told_at old.media (λ x. VolumeServes (contents_of (image_of old.sizes x)) facts group lv next) media.0 media.1 serves in
       let alike : IsAlike next group = ap (λ (g : Descriptor). record g { lvs = [] }) served.differs.alone in
       is.0 (subst (λ (g : Descriptor). WantsMarks m g mid) (is_next group next reads own alike held) (next_marks group next reads own alike held))

@@ -3,7 +3,7 @@ use Rattle.std.proofs.Common.{◌≡◌, inl, ℕ, ◌+◌, ◌≤◌, List, IfS
 use Rattle.lvm_num.specs.declared.record.Kind.TheVariants as kind
 use Rattle.lvm_num.specs.declared.record.Stamp.{Stamp}
 use Rattle.lvm_num.specs.declared.descriptor.Descriptor.{Descriptor}
-use Rattle.lvm_num.specs.Buffer.{Sector}
+use Rattle.lvm_num.specs.Buffer.{Buffer, Sector}
 use Rattle.lvm_num.specs.DescriptorBytes.{descriptor_of}
 use Rattle.lvm_num.specs.Record.{Frames}
 use Rattle.lvm_num.specs.Votes.{CanWrite}
@@ -16,15 +16,14 @@ use Rattle.lvm_status.specs.Update.{Stored}
 use Rattle.lvm_steps.specs.Moments.{ImagesKept}
 use Rattle.lvm_quorum.specs.declared.homes.Homes.{Homes}
 use Rattle.lvm_quorum.specs.Homes.{second_slots}
-use Rattle.lvm_quorum.specs.Written.{IsDarkened, IsGivenUp}
 use Rattle.lvm_commit.specs.declared.commit.Settled.{Settled}
 use Rattle.lvm_commit.specs.declared.commit.Settled.TheVariants as settled
 use Rattle.lvm_commit.specs.Committed.{next_stamp}
 use Rattle.lvm_commit.specs.LawsOfVolumes.{VolumeServes}
 use Rattle.lvm_commit.specs.LawsOfFinding.{FindsNoMoreOn}
-use Rattle.lvm_commit.specs.Settling.{IfWentOff, IfBack, OnDark, OnStuck, there, IsOf, SessionIsHeld, HasLostQuorum, SpendsNumbers, IsOfCommit, DescriptorStaysKept}
+use Rattle.lvm_commit.specs.Settling.{there, IsOf, SessionIsHeld, IsOfCommit, DescriptorStaysKept, DescriptorEnds}
 use Rattle.lvm_commit.specs.Rounds.{stamped, session_write, HowRecord, RecordGives}
-use Rattle.lvm_commit.proofs.Chaining.{Goes, goes_from, Returns, record_returns}
+use Rattle.lvm_commit.proofs.Chaining.{Goes, goes_from, record_returns}
 use Rattle.lvm_commit.proofs.Round.{record_goes, quorum_lost, some_failed, failed_is_missing, was_there_on}
 use Rattle.lvm_commit.proofs.Ready.{spends_none}
 use Rattle.lvm_commit.proofs.Writes.{slot_two}
@@ -50,54 +49,23 @@ module _ (first mid : Stored) (homes after : Homes) (old m : Device) (content : 
 
   -- ---- at its end
 
-  pub descriptor_off : CanWrite first.group (there first) → IfWentOff r (λ have total back. HasLostQuorum first mid old m have total)
-  descriptor_off enough = by_end r gives.how
+  -- not all of it was committed
+  pub descriptor_ends : CanWrite first.group (there first) → ((buf : Buffer) → r ≡ settled.Done buf → ⊥) → DescriptorEnds content number p first mid homes after old m r
+  descriptor_ends enough never = by_end r never gives.how
     where
-      by_end : (r : Settled) → HowRecord w number p (stamped first) mid homes after old m r → IfWentOff r (λ have total back. HasLostQuorum first mid old m have total)
-      by_end (settled.Done buf) how = tt
-      by_end (settled.WentOff have total buf) how =
+      by_end : (r : Settled) → ((buf : Buffer) → r ≡ settled.Done buf → ⊥) → HowRecord w number p (stamped first) mid homes after old m r → DescriptorEnds content number p first mid homes after old m r
+      by_end (settled.Done buf) never how = absurd (never buf refl)
+      by_end (settled.WentOff have total buf) never how =
           let lost = quorum_lost w number (stamped first) mid homes after old m refl buf how.0 enough have total how.1 in
-          record { have_is = lost.have_is; total_is = lost.total_is; few = lost.few; disk = lost.disk; was = lost.was; failed = lost.failed }
-      by_end settled.Dark how = tt
-      by_end settled.Stuck how = tt
-
-  pub descriptor_spent : CanWrite first.group (there first) → IfWentOff r (λ have total back. SpendsNumbers 0 first mid)
-  descriptor_spent enough = by_end r gives.how
-    where
-      by_end : (r : Settled) → HowRecord w number p (stamped first) mid homes after old m r → IfWentOff r (λ have total back. SpendsNumbers 0 first mid)
-      by_end (settled.Done buf) how = tt
-      by_end (settled.WentOff have total buf) how =
           let some = some_failed w number (stamped first) mid homes after old m refl buf how.0 enough have total how.1 in
-          spends_none first mid old m describes.loses stamp_is some.0 (was_there_on w number (stamped first) mid homes after old m refl buf how.0 some.0 some.1) (failed_is_missing w number (stamped first) mid homes after old m refl buf how.0 some.0 some.1)
-      by_end settled.Dark how = tt
-      by_end settled.Stuck how = tt
-
-  pub descriptor_back : IfBack r (λ back. Returns number mid old m back)
-  descriptor_back = by_end r gives.how
-    where
-      by_end : (r : Settled) → HowRecord w number p (stamped first) mid homes after old m r → IfBack r (λ back. Returns number mid old m back)
-      by_end (settled.Done buf) how = record_returns w number (stamped first) mid homes after old m buf refl how.0
-      by_end (settled.WentOff have total buf) how = record_returns w number (stamped first) mid homes after old m buf refl how.0
-      by_end settled.Dark how = tt
-      by_end settled.Stuck how = tt
-
-  pub descriptor_dark : OnDark r (IsDarkened number old m)
-  descriptor_dark = by_end r gives.how
-    where
-      by_end : (r : Settled) → HowRecord w number p (stamped first) mid homes after old m r → OnDark r (IsDarkened number old m)
-      by_end (settled.Done buf) how = tt
-      by_end (settled.WentOff have total buf) how = tt
-      by_end settled.Dark how = how.0
-      by_end settled.Stuck how = tt
-
-  pub descriptor_stuck : OnStuck r (IsGivenUp number p old m)
-  descriptor_stuck = by_end r gives.how
-    where
-      by_end : (r : Settled) → HowRecord w number p (stamped first) mid homes after old m r → OnStuck r (IsGivenUp number p old m)
-      by_end (settled.Done buf) how = tt
-      by_end (settled.WentOff have total buf) how = tt
-      by_end settled.Dark how = tt
-      by_end settled.Stuck how = how.0
+          record {
+            back = record_returns w number (stamped first) mid homes after old m buf refl how.0;
+            lost = record { have_is = lost.have_is; total_is = lost.total_is; few = lost.few; disk = lost.disk; was = lost.was; failed = lost.failed };
+            spent = spends_none first mid old m describes.loses stamp_is some.0 (was_there_on w number (stamped first) mid homes after old m refl buf how.0 some.0 some.1)
+                (failed_is_missing w number (stamped first) mid homes after old m refl buf how.0 some.0 some.1);
+          }
+      by_end settled.Dark never how = how.0
+      by_end settled.Stuck never how = how.0
 
   module _ (sectors : HasSectors old) (frames : Frames kind.Descriptor (record { stamp = next_stamp first.stamp; content = content })) where
     -- ---- what it brings
@@ -121,11 +89,11 @@ module _ (first mid : Stored) (homes after : Homes) (old m : Device) (content : 
     -- ---- while it is written
 
     pub descriptor_finds : (group next : Descriptor) → descriptor_of content ≡ Ok next → SessionIsHeld old group first homes → FindsNoMoreOn next old m
-    descriptor_finds group next reads held = descriptor_moment_finds first homes old sectors content next frames reads m (last-path gives.moments) group held
+    descriptor_finds group next reads held = descriptor_moment_finds first homes old sectors content next frames reads m (last-path gives.leaves.moments) group held
 
     pub descriptor_kept : DescriptorStaysKept content first homes old m
     descriptor_kept = map-path
         (λ d. (group next : Descriptor) (lv : ℕ) (facts : List Fact) → descriptor_of content ≡ Ok next → IsOf group first → SessionIsHeld old group first homes
         → IfSome old.media (λ media. VolumeServes (contents_of (image_of old.sizes media)) facts group lv next) → ImagesKept old facts → ImagesKept d facts)
         (λ d is group next lv facts reads own held serves kept. descriptor_moment_kept first homes old sectors content next frames reads d is.0 is.1 group lv facts held serves kept)
-        (with_told gives.moments)
+        (with_told gives.leaves.moments)

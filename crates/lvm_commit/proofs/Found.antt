@@ -18,7 +18,7 @@ use Rattle.lvm_kept.proofs.Finding.{some_same, offered, is_offered, offers, find
 use Rattle.lvm_steps.proofs.Booleans.{clash}
 use Rattle.lvm_commit.specs.Committed.{IsAlike, ShowsCommitted}
 use Rattle.lvm_commit.specs.Laws.{OnlyCommittedIsFound, CommittedStatusIsRead, NewestIsBeginning}
-use Rattle.lvm_commit.proofs.Members.{shows_of, parts_of, same_votes}
+use Rattle.lvm_steps.proofs.Members.{shows_of, parts_of, same_votes}
 
 -- the newest of a set isn't before what one of its disks shows
 not_before : (X : Type 0) (of : X → Bool) (on : ℕ → Option (Stamped X)) (set : Disks) (n d : ℕ) (r newest : Stamped X)

@@ -33,7 +33,7 @@ use Rattle.lvm_commit.specs.Rounds.{Misses, Leaves, HasMarked, MarksRound, IsByV
 use Rattle.lvm_commit.specs.declared.commit.Settled.{Settled}
 use Rattle.lvm_commit.specs.declared.commit.Settled.TheVariants as settled
 use Rattle.lvm_commit.proofs.Copies.{one_place}
-use Rattle.lvm_commit.proofs.Members.{member_of_parts}
+use Rattle.lvm_steps.proofs.Members.{member_of_parts}
 
 -- ---- lists
 

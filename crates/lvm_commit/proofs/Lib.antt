@@ -1,4 +1,3 @@
-pub mod Members
 pub mod Found
 pub mod Copies
 pub mod Leaving
@@ -28,7 +27,6 @@ pub mod HoldingStatus
 pub mod HoldingDescriptor
 pub mod Describing
 pub mod Described
-pub mod Ends
 pub mod StatusRound
 pub mod StatusRounds
 pub mod StatusEnding

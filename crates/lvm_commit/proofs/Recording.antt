@@ -5,49 +5,37 @@ use Rattle.lvm_num.specs.Disks.{Disks}
 use Rattle.lvm_num.specs.declared.record.Kind.{Kind}
 use Rattle.lvm_num.specs.declared.record.Stamp.{Stamp}
 use Rattle.lvm_num.specs.declared.status.Status.{Status}
-use Rattle.lvm_disk.specs.Device.{Device, IsReady}
-use Rattle.lvm_disk.specs.Paths.{DeviceStep, Path}
+use Rattle.lvm_disk.specs.Device.{Device}
 use Rattle.lvm_kept.specs.Torn.{RecordWrite, IsOfRecord}
 use Rattle.lvm_status.specs.Update.{Stored}
 use Rattle.lvm_quorum.specs.declared.homes.Homes.{Homes}
 use Rattle.lvm_quorum.specs.Homes.{Flips}
-use Rattle.lvm_quorum.specs.Parts.{Spends}
-use Rattle.lvm_quorum.specs.Written.{KeepsShelf, IsWriting, EndsOn, StandsTold, written_well, write_of, IsDarkened, IsGivenUp}
+use Rattle.lvm_quorum.specs.Written.{StandsTold, write_of, IsDarkened, IsGivenUp}
+use Rattle.lvm_quorum.specs.Writes.{WriteLeaves, EachTried}
 use Rattle.lvm_commit.specs.declared.commit.Settled.{Settled}
 use Rattle.lvm_commit.specs.declared.commit.Settled.TheVariants as settled
 use Rattle.lvm_commit.specs.Settling.{there}
 use Rattle.lvm_commit.specs.Rounds.{Misses, Leaves, IsByVotes, IsSame, session_write, WasTried, HowRecord, RecordGives}
 use Rattle.lvm_commit.proofs.Losing.{misses_same}
 
--- what is said of the write whatever the answer, and where it was tried on each disk
-pub record Says (w : RecordWrite) (before after : ℕ) (old new : Device) : Type 0 where
-  pub keeps : KeepsShelf w.targets (IsOfRecord w) old new
-  pub spends : Spends before after old new
-  pub moments : Path DeviceStep (IsWriting (IsOfRecord w) old) old new
+-- it was tried on each disk, and the slots come next that then do
+abbrev pub Tries : RecordWrite → ℕ → Homes → Homes → Device → Device → Disks → Buffer → Type 0
+Tries w number slots next old new failed back = EachTried w.targets (StandsTold w) (λ written. Flips w.kind written slots next) number old new failed back
 
-pub record Tries (w : RecordWrite) (number : ℕ) (slots next : Homes) (old new : Device) (failed : Disks) (back : Buffer) : Type 0 where
-  pub each : (d : ℕ) → EndsOn w.targets (StandsTold w) failed old new d
-  pub flips : Flips w.kind (written_well w.targets failed) slots next
-  pub number_is : back.number ≡ number
-  pub ready : IsReady new × (new.counts.cuts ≡ old.counts.cuts)
-
-module _ (w : RecordWrite) (number before after : ℕ) (first last : Stored) (slots next : Homes) (old new : Device) (says : Says w before after old new) where
-  gives : (result : Settled) → HowRecord w number before first last slots next old new result → RecordGives w number before after first last slots next old new result
-  gives result how = record { keeps = says.keeps; spends = says.spends; moments = says.moments; how = how }
-
+module _ (w : RecordWrite) (number before after : ℕ) (first last : Stored) (slots next : Homes) (old new : Device) (leaves : WriteLeaves w.targets (IsOfRecord w) before after old new) where
   pub ended_gives :
       (failed : Disks) (back : Buffer) (result : Settled) → Tries w number slots next old new failed back → last.group ≡ first.group → last.stamp ≡ first.stamp → Leaves failed first.wanted last.wanted → IsByVotes last back result
       → RecordGives w number before after first last slots next old new result
-  ended_gives failed back result tries group stamp misses votes = gives result (how result votes)
+  ended_gives failed back result tries group stamp misses votes = record { leaves = leaves; how = how result votes }
     where
       tried : (buf : Buffer) → buf ≡ back → WasTried w number first last slots next old new buf
       tried buf is = record {
-        ready = tries.ready.0;
-        cuts = tries.ready.1;
-        number_is = ap (λ (b : Buffer). b.number) is ∙ tries.number_is;
+        ready = tries.back.ready;
+        cuts = tries.back.cuts;
+        number_is = ap (λ (b : Buffer). b.number) is ∙ tries.back.number_is;
         failed = failed;
         each = tries.each;
-        flips = tries.flips;
+        flips = tries.next;
         group = group;
         stamp = stamp;
         wanted = misses;
@@ -60,10 +48,10 @@ module _ (w : RecordWrite) (number before after : ℕ) (first last : Stored) (sl
       how settled.Stuck its = absurd its
 
   pub dark_gives : IsSame first last → IsDarkened number old new → RecordGives w number before after first last slots next old new settled.Dark
-  dark_gives same dark = gives settled.Dark (dark, same)
+  dark_gives same dark = record { leaves = leaves; how = (dark, same) }
 
   pub stuck_gives : IsSame first last → IsGivenUp number before old new → RecordGives w number before after first last slots next old new settled.Stuck
-  stuck_gives same stuck = gives settled.Stuck (stuck, same)
+  stuck_gives same stuck = record { leaves = leaves; how = (stuck, same) }
 
 -- the disks on which it failed were members that weren't missing
 pub only_targets : (targets failed : Disks) (a b : Status) → ((d : ℕ) → failed d ≡ true → targets d ≡ true) → Misses (λ d. targets d && failed d) a b → Misses failed a b

@@ -125,9 +125,9 @@ module _ (w : RecordWrite) (number : ℕ) (first last : Stored) (slots next : Ho
   pub record_goes : (before after : ℕ) (result : Settled) → RecordGives w number before after first last slots next old new result → Goes (IsOfRecord w) before after first last old new
   record_goes before after result gives = record {
     loses = by_end result gives.how;
-    keeps = subst (λ (set : Disks). KeepsShelf set (IsOfRecord w) old new) targets gives.keeps;
-    spends = gives.spends;
-    rises = path_counts gives.moments;
+    keeps = subst (λ (set : Disks). KeepsShelf set (IsOfRecord w) old new) targets gives.leaves.keeps;
+    spends = gives.leaves.spends;
+    rises = path_counts gives.leaves.moments;
   }
     where
       by_end : (r : Settled) → HowRecord w number before first last slots next old new r → OnlyLoses first last old new

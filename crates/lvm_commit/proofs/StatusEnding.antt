@@ -20,8 +20,8 @@ use Rattle.lvm_commit.specs.declared.commit.Settled.TheVariants as settled
 use Rattle.lvm_commit.specs.Committed.{next_stamp}
 use Rattle.lvm_commit.specs.LawsOfFinding.{FindsNothingNew, FindsNothingNewOn}
 use Rattle.lvm_commit.specs.LawsOfVolumes.{LeavesOthers}
-use Rattle.lvm_commit.specs.Settling.{IsOfStatus, OthersAreLeft}
-use Rattle.lvm_commit.specs.Rounds.{MarksRound, stamped, session_write, HowRecord, RecordGives, HowStatus, StatusGives}
+use Rattle.lvm_commit.specs.Settling.{IsOfStatus, OthersAreLeft, StatusEnds}
+use Rattle.lvm_commit.specs.Rounds.{MarksRound, stamped, session_write, HowRecord, RecordGives, StatusGives}
 use Rattle.lvm_commit.proofs.StatusRounds.{AreRounds, more_goes, more_left, more_numbers, more_kept, more_finds, more_returns, more_lost, lost_spends}
 
 -- where nothing is found that wasn't, other groups are left as they were
@@ -34,18 +34,11 @@ nothing_new_leaves id old new R both finds =
 module _ (d : Descriptor) (number before left : ℕ) (first now : Stored) (slots next : Homes) (old mid : Device) (buf : Buffer) (rounds : AreRounds d number before left first now slots next old mid buf) where
   pub rounds_end : now.committed ≡ now.wanted → StatusGives d number before left first now slots next old mid (settled.Done buf)
   rounds_end same = record {
-    loses = rounds.goes.loses;
-    left = rounds.leaving;
-    numbers = rounds.numbers;
-    keeps = rounds.goes.keeps;
-    spends = rounds.goes.spends;
+    leaves = record { loses = rounds.goes.loses; left = rounds.leaving; numbers = rounds.numbers; keeps = rounds.goes.keeps; spends = rounds.goes.spends };
     finds = rounds.finds;
     kept = rounds.kept;
-    how = record {
-      number_is = rounds.returns.number_is;
-      ready = rounds.returns.ready;
-      cuts = rounds.returns.cuts;
-      well = rounds.returns.well;
+    ends = record {
+      back = rounds.returns;
       committed = record { idle = rounds.may.idle; same = same; votes = rounds.may.votes };
       held = λ group own marks held. (
         rounds.held group own held,
@@ -62,15 +55,11 @@ module _ (d : Descriptor) (number before left : ℕ) (first now : Stored) (slots
       (gives : RecordGives (session_write kind.Status (status_bytes now.wanted) (stamped now) next) buf.number left after (stamped now) last next then mid new result)
       (frames : Frames kind.Status (record { stamp = next_stamp now.stamp; content = status_bytes now.wanted })) (valid : IsValidStatus now.wanted) (round : MarksRound d now last) where
     how_stopped : (r : Settled) → ((back : Buffer) → r ≡ settled.Done back → ⊥) → HowRecord (session_write kind.Status (status_bytes now.wanted) (stamped now) next) buf.number left (stamped now) last next then mid new r
-        → HowStatus number before first last slots then old new r
+        → StatusEnds number before first last slots then old new r
     how_stopped (settled.Done back) never how = absurd (never back refl)
     how_stopped (settled.WentOff have total back) never how =
-        let returns = more_returns d number before left first now slots next old mid buf rounds differs sectors last then new after result gives frames valid round back how.0 in
         record {
-          number_is = returns.number_is;
-          ready = returns.ready;
-          cuts = returns.cuts;
-          well = returns.well;
+          back = more_returns d number before left first now slots next old mid buf rounds differs sectors last then new after result gives frames valid round back how.0;
           lost = more_lost d number before left first now slots next old mid buf rounds differs sectors last then new after result gives frames valid round back how.0 have total how.1;
           spent = lost_spends d number before left first now slots next old mid buf rounds differs sectors last then new after result gives frames valid round back how.0 have total how.1;
         }
@@ -81,12 +70,14 @@ module _ (d : Descriptor) (number before left : ℕ) (first now : Stored) (slots
     rounds_stop never =
         let goes = more_goes d number before left first now slots next old mid buf rounds differs sectors last then new after result gives frames valid round in
         record {
-          loses = goes.loses;
-          left = more_left d number before left first now slots next old mid buf rounds differs sectors last then new after result gives frames valid round;
-          numbers = more_numbers d number before left first now slots next old mid buf rounds differs sectors last then new after result gives frames valid round;
-          keeps = goes.keeps;
-          spends = goes.spends;
+          leaves = record {
+            loses = goes.loses;
+            left = more_left d number before left first now slots next old mid buf rounds differs sectors last then new after result gives frames valid round;
+            numbers = more_numbers d number before left first now slots next old mid buf rounds differs sectors last then new after result gives frames valid round;
+            keeps = goes.keeps;
+            spends = goes.spends;
+          };
           finds = more_finds d number before left first now slots next old mid buf rounds differs sectors last then new after result gives frames valid round;
           kept = more_kept d number before left first now slots next old mid buf rounds differs sectors last then new after result gives frames valid round;
-          how = how_stopped result never gives.how;
+          ends = how_stopped result never gives.how;
         }

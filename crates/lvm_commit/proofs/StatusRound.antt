@@ -20,9 +20,9 @@ use Rattle.lvm_commit.specs.declared.commit.Settled.{Settled}
 use Rattle.lvm_commit.specs.declared.commit.Settled.TheVariants as settled
 use Rattle.lvm_commit.specs.Committed.{next_stamp}
 use Rattle.lvm_commit.specs.LawsOfFinding.{FindsNothingNewOn}
-use Rattle.lvm_commit.specs.Settling.{there, MaySettle, IsOf, OnlyLoses, IsOfStatus, IsOneRecord, WantsMarks, SessionIsHeld}
+use Rattle.lvm_commit.specs.Settling.{there, MaySettle, IsOf, OnlyLoses, IsOfStatus, IsOneRecord, WantsMarks, SessionIsHeld, ComesBack}
 use Rattle.lvm_commit.specs.Rounds.{WasTried, HowRecord, RecordGives, stamped, session_write}
-use Rattle.lvm_commit.proofs.Chaining.{Goes, Returns, keeps_wider, record_returns, was_there}
+use Rattle.lvm_commit.proofs.Chaining.{Goes, keeps_wider, record_returns, was_there}
 use Rattle.lvm_commit.proofs.Round.{record_goes, none_or_some, failed_is_missing}
 use Rattle.lvm_commit.proofs.Writes.{slot_two}
 use Rattle.lvm_commit.proofs.Holding.{with_told}
@@ -74,15 +74,15 @@ module _ (d : Descriptor) (now last : Stored) (slots next : Homes) (mid new : De
   round_kept = map-path RoundStaysKept
       (λ e (writing, told) marks held.
       status_moment_kept now slots mid sectors (status_bytes now.wanted) now.wanted frames reads e writing told may.votes d may.own (may.id ∙ ap (λ (g : Descriptor). g.id) (sym may.own)) marks held)
-      (with_told gives.moments)
+      (with_told gives.leaves.moments)
 
   pub round_finds : (group : Descriptor) → SessionIsHeld mid group now slots → FindsNothingNewOn mid new
-  round_finds group held = status_moment_finds now slots mid sectors (status_bytes now.wanted) now.wanted frames reads new (last-path gives.moments) group held
+  round_finds group held = status_moment_finds now slots mid sectors (status_bytes now.wanted) now.wanted frames reads new (last-path gives.leaves.moments) group held
 
   -- ---- once it was tried on each disk
 
   module _ (buf : Buffer) (tried : WasTried w number (stamped now) last slots next mid new buf) where
-    pub round_returns : Returns number last mid new buf
+    pub round_returns : ComesBack number last mid new buf
     round_returns = record_returns w number (stamped now) last slots next mid new buf refl tried
 
     pub round_holds : last.committed ≡ now.wanted → (group : Descriptor) → IsOf group now → SessionIsHeld mid group now slots → SessionIsHeld new group last next

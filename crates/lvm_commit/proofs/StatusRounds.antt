@@ -27,11 +27,11 @@ use Rattle.lvm_commit.specs.declared.commit.Settled.{Settled}
 use Rattle.lvm_commit.specs.Committed.{next_stamp}
 use Rattle.lvm_commit.specs.LawsOfFinding.{FindsNothingNew, FindsNothingNewOn}
 use Rattle.lvm_commit.proofs.Leaving.{wants_marks, round_left, left_same_as, left_then}
-use Rattle.lvm_commit.specs.Settling.{there, MarksLeft, MaySettle, HasNumbers, IsOf, HasLostQuorum, SpendsNumbers, IsOfStatus, IsOneRecord, IsPlain, WantsMarks, SessionIsHeld, StatusStaysKept, StatusFindsNothingNew}
+use Rattle.lvm_commit.specs.Settling.{there, MarksLeft, MaySettle, HasNumbers, IsOf, HasLostQuorum, SpendsNumbers, IsOfStatus, IsOneRecord, IsPlain, WantsMarks, SessionIsHeld, StatusStaysKept, StatusFindsNothingNew, ComesBack}
 use Rattle.lvm_commit.specs.Rounds.{MarksRound, stamped, session_write, WasTried, HasFew, RecordGives}
 use Rattle.lvm_commit.proofs.NoMore.{data_finds_nothing_new, then_nothing_new}
 use Rattle.lvm_commit.proofs.Still.{still_image}
-use Rattle.lvm_commit.proofs.Chaining.{Goes, Returns, goes_wider, goes_then, returns_then, loses_same, loses_less, lost_quorum_then, spends_numbers_then}
+use Rattle.lvm_commit.proofs.Chaining.{Goes, goes_wider, goes_then, returns_then, loses_same, loses_less, lost_quorum_then, spends_numbers_then}
 use Rattle.lvm_commit.proofs.Round.{quorum_lost}
 use Rattle.lvm_commit.proofs.Ready.{may_settle_on, spends_one, spends_none}
 use Rattle.lvm_commit.proofs.StatusRound.{stamp_then, round_goes, round_kept, round_finds, round_returns, round_holds, round_loses, round_plain}
@@ -62,7 +62,7 @@ pub record IsOn (first now : Stored) (slots : Homes) (old mid : Device) : Type 0
 pub record AreRounds (d : Descriptor) (number before left : ℕ) (first now : Stored) (slots next : Homes) (old mid : Device) (buf : Buffer) : Type 0 where
   pub may : MaySettle d now mid
   pub goes : Goes (IsOfStatus first now) before left first now old mid
-  pub returns : Returns number now old mid buf
+  pub returns : ComesBack number now old mid buf
   pub numbers : SpendsNumbers 1 first now
   pub stage : IsFresh first now slots next old mid ⊎ IsOn first now slots old mid
   pub leaving : MarksLeft d first now
@@ -169,7 +169,7 @@ module _ (d : Descriptor) (number before left : ℕ) (first now : Stored) (slots
   lost_more lost = spends_numbers_then 0 0 first now last spent (spends_none now last mid new one.loses stamp_is lost.0 lost.1 lost.2)
 
   module _ (back : Buffer) (tried : WasTried (session_write kind.Status (status_bytes now.wanted) (stamped now) next) buf.number (stamped now) last next then mid new back) where
-    pub more_returns : Returns number last old new back
+    pub more_returns : ComesBack number last old new back
     more_returns = returns_then number now last old mid new buf back (loses_less now last mid new one.loses) rounds.returns
         (round_returns d now last next then mid new sectors rounds.may buf.number left after result gives frames valid back tried)
 

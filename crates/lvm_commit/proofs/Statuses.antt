@@ -1,12 +1,9 @@
 -- The next status of a session keeps the history.
-use Rattle.std.proofs.Common.{◌≡◌, ◌⊎◌, inl, inr, ⊎_elim, ℕ, ◌<◌, Bool, true, false, ◌&&◌, List, [], ◌∷◌, ◌++◌, Option, Some, None, refl, sym, ap, subst, ◌∙◌, eq-eqb}
-use Rattle.std.specs.Prelude.{IsTrue, ◌==◌, not, if◌then◌else◌, filter}
-use Rattle.std.specs.List.{AllByRecursion}
-use Rattle.std.proofs.lemmas.Bool.{eqb-true}
+use Rattle.std.proofs.Common.{◌≡◌, inl, inr, ⊎_elim, ℕ, ◌<◌, Bool, true, false, ◌&&◌, List, [], ◌∷◌, ◌++◌, Option, Some, refl, sym, subst, ◌∙◌}
+use Rattle.std.specs.Prelude.{IsTrue, not}
 use Rattle.lvm_num.specs.Geometry.{track_group_of}
 use Rattle.lvm_num.specs.Status.{calls_stale, calls_dirty}
 use Rattle.lvm_num.specs.declared.place.Pp.{Pp}
-use Rattle.lvm_num.specs.declared.record.Stamp.{Stamp}
 use Rattle.lvm_num.specs.declared.descriptor.Mode.{Mode}
 use Rattle.lvm_num.specs.declared.descriptor.Mode.TheVariants.{Active, Passive, Off}
 use Rattle.lvm_num.specs.declared.descriptor.LvRow.{LvRow}
@@ -15,29 +12,27 @@ use Rattle.lvm_num.specs.declared.status.Status.{Status}
 use Rattle.lvm_num.specs.Disks.{Disks}
 use Rattle.lvm_num.specs.Descriptor.{copies_of}
 use Rattle.lvm_num.specs.Votes.{all_disks}
-use Rattle.lvm_num.specs.Record.{Stamped, stamp_lt, newest_below}
+use Rattle.lvm_num.specs.Record.{Stamped}
 use Rattle.lvm_vol.specs.declared.entry.Vol.TheVariants.{Lv}
 use Rattle.lvm_vol.specs.Facts.{Fact, Cut}
 use Rattle.lvm_vol.specs.May.{Known, known, IsValue}
 use Rattle.lvm_disk.specs.Device.{Image, image_of}
 use Rattle.lvm_kept.specs.Contents.{Contents, contents_of}
-use Rattle.lvm_kept.specs.Group.{if_passes, passes, is_of, is_status_of, IsFound, members_in, status_by, Reads, ReadsBy, is_stale_by, fresh_on, block_at, is_named, IsOneOf, IsSome, HoldOne}
+use Rattle.lvm_kept.specs.Group.{passes, is_of, IsFound, members_in, status_by, Reads, is_stale_by, fresh_on, block_at, is_named, IsOneOf, IsSome, HoldOne}
 use Rattle.lvm_kept.specs.Committed.{IsWithinDisks}
 use Rattle.lvm_kept.specs.Kept.{MayDiffer, BlocksKept, Kept}
-use Rattle.lvm_kept.specs.Changes.{Serves, HasNoVolume}
+use Rattle.lvm_kept.specs.Changes.{Serves}
 use Rattle.lvm_kept.specs.Torn.{StatusesChange, written as as_read, Alone}
 use Rattle.lvm_kept.proofs.Finding.{finding_reads, images_within}
 use Rattle.lvm_kept.proofs.Records.{status_shows}
-use Rattle.lvm_kept.proofs.Restamping.{fewer_blocks}
-use Rattle.lvm_kept.proofs.Restating.{statuses_keep}
-use Rattle.lvm_steps.proofs.Booleans.{either, clash, split, not-itself}
+use Rattle.lvm_steps.proofs.Booleans.{either, split}
 use Rattle.lvm_steps.proofs.Making.{stays_by}
-use Rattle.lvm_steps.proofs.VaryingOn.{old_or_next}
+use Rattle.lvm_steps.proofs.ServesLemmas.{serving, put_keeps}
 use Rattle.lvm_commit.specs.Committed.{MayMark}
 use Rattle.lvm_commit.proofs.Free.{all_that_pass}
 use Rattle.lvm_commit.specs.Laws.{MayFollow, StatusFollows, StatusGoesOn}
 use Rattle.lvm_commit.proofs.Found.{shows_group, only_found, status_read}
-use Rattle.lvm_commit.proofs.Members.{one_group, parts_of, among_all}
+use Rattle.lvm_steps.proofs.PassingLemmas.{at_passing, some_passing, one_passes}
 
 -- statuses that say the same may follow one another
 pub same_marks : (c : Contents) (group : Descriptor) (was next : Status) → ((p : Pp) → calls_stale next p ≡ calls_stale was p) → ((n : ℕ) → calls_dirty next n ≡ calls_dirty was n) → MayMark c group was next
@@ -64,34 +59,6 @@ not_so false h = refl
 so_not : (b : Bool) → b ≡ false → not b ≡ true
 so_not true h = absurd cc
 so_not false h = refl
-
--- what holds of all that pass holds of one that does
-at_passing : {X : Type 0} (P : X → Type 0) (test : X → Bool) (xs : List X) → AllByRecursion P (filter test xs) → (x : X) → IsOneOf xs x → test x ≡ true → P x
-at_passing P test [] all x one passes = absurd one
-at_passing P test (y ∷ ys) all x one passes = by (test y) refl (λ rest there. at_passing P test ys rest x there passes) all one
-  where
-    by : (t : Bool) → test y ≡ t → (AllByRecursion P (filter test ys) → IsOneOf ys x → P x) → AllByRecursion P (if t then y ∷ filter test ys else filter test ys) → IsOneOf (y ∷ ys) x → P x
-    by true is further all (inl here) = subst P (sym here) all.0
-    by true is further all (inr there) = further all.1 there
-    by false is further all (inl here) = absurd (let p = passes in let q = ap test here in cc)
-    by false is further all (inr there) = further all there
-
-some_passing : {X : Type 0} (test : X → Bool) (xs : List X) → IsSome (filter test xs) → (x : X) × IsOneOf xs x × (test x ≡ true)
-some_passing test [] some = absurd some
-some_passing test (y ∷ ys) some = by (test y) refl (λ s. some_passing test ys s) some
-  where
-    by : (t : Bool) → test y ≡ t → (IsSome (filter test ys) → (x : _) × IsOneOf ys x × (test x ≡ true)) → IsSome (if t then y ∷ filter test ys else filter test ys) → (x : _) × IsOneOf (y ∷ ys) x × (test x ≡ true)
-    by true is further some = (y, inl refl, is)
-    by false is further some = let rest = further some in (rest.0, inr rest.1, rest.2)
-
-one_passes : {X : Type 0} (test : X → Bool) (xs : List X) (x : X) → IsOneOf xs x → test x ≡ true → IsSome (filter test xs)
-one_passes test [] x one passes = absurd one
-one_passes test (y ∷ ys) x one passes = by (test y) refl (λ there. one_passes test ys x there passes) one
-  where
-    by : (t : Bool) → test y ≡ t → (IsOneOf ys x → IsSome (filter test ys)) → IsOneOf (y ∷ ys) x → IsSome (if t then y ∷ filter test ys else filter test ys)
-    by true is further one = tt
-    by false is further (inl here) = absurd (let p = passes in let q = ap test here in cc)
-    by false is further (inr there) = further there
 
 -- ---- a status with the marks of another, and further ones
 
@@ -179,61 +146,15 @@ module _ (c : Contents) (group : Descriptor) (status : Status) (there targets : 
   some_of_group row lp volume inside = marked_some c group was next marks row lp volume inside
       (subst (λ (s : Option (Stamped Status)). IsSome (fresh_on (members_in c all_disks id group) s row lp)) was_read (kept.lasting.some all_disks id group group reads_group found_group row lp volume inside))
 
-  pub serves : Serves c facts id next
-  serves = record {
-    copies = λ set g f.
-        let reads : ReadsBy c set id g = finding_reads c set id g f in
-        subst (λ (v : Disks). BlocksKept c facts g v (Some next)) (sym reads.voters)
-        (fewer_blocks c (members_in c set id g) (members_in c all_disks id g) (λ d is. among_all c set id g d is) facts g (Some next) (across g (set, f)));
-    across = across;
-    some = λ k is row lp volume inside.
-        let same : k ≡ group = same_group k is in
-        subst (λ (g : Descriptor). IsSome (fresh_on (members_in c all_disks id g) (Some next) row lp)) (sym same) (some_of_group row lp (subst (λ (g : Descriptor). IsOneOf g.lvs row) same volume) inside);
-  }
+  serves : Serves c facts id next
+  serves = serving c id next facts group same_group across some_of_group
 
   -- the disks to which it goes show the group
   showing : (d : ℕ) → IsTrue (targets d) → passes (is_of id) (c.descriptor d) ≡ true
   showing d target = shows_group c group status there may.shows d (may.showing d target)
 
-  module _ (new : Contents) (change : StatusesChange targets next c new) where
-    abbrev now : Contents
-    now = record c { status = new.status }
-
-    either_own : (d : ℕ) → (new.status d ≡ c.status d) ⊎ (new.status d ≡ Some next)
-    either_own d = ⊎_elim (λ same. inl same) (λ (is : IsTrue (targets d) × (new.status d ≡ Some next)). inr is.1) (change.own d)
-
-    -- of another group each set finds what it found
-    of_other : (b : Disks) (other : ℕ) (h : Descriptor) → (other ≡ id → ⊥) → status_by now b other h ≡ status_by c b other h
-    of_other b other h apart = λ t. newest_below (λ d. at d t) c.disks
-      where
-        at_test : (d : ℕ) (t : Bool) → members_in c b other h d ≡ t → (if t then if_passes (is_status_of other) (new.status d) else None) ≡ (if t then if_passes (is_status_of other) (c.status d) else None)
-        at_test d false is = refl
-        at_test d true is = ⊎_elim
-            (λ same. ap (if_passes (is_status_of other)) same)
-            (λ (put : IsTrue (targets d) × (new.status d ≡ Some next)). absurd (apart (one_group (c.descriptor d) other id (parts_of c b other h d is).1 (showing d put.0))))
-            (change.own d)
-
-        at : (d : ℕ) → (if members_in c b other h d then if_passes (is_status_of other) (new.status d) else None) ≡ (if members_in c b other h d then if_passes (is_status_of other) (c.status d) else None)
-        at d = at_test d (members_in c b other h d) refl
-
-    found_by : (b : Disks) (other : ℕ) (h : Descriptor) → Reads c b other h → (status_by now b other h ≡ status_by c b other h) ⊎ ((status_by now b other h ≡ Some next) × Serves c facts other next)
-    found_by b other h reading = ⊎_elim
-        (λ (test : (other == id) ≡ true). let same : other ≡ id = eqb-true other id test in
-        subst (λ (n : ℕ). (status_by now b n h ≡ status_by c b n h) ⊎ ((status_by now b n h ≡ Some next) × Serves c facts n next)) (sym same) (⊎_elim
-        (λ (old_is : status_by now b id h ≡ status_by c b id h). inl old_is)
-        (λ (next_is : status_by now b id h ≡ Some next). inr (next_is, serves))
-        (old_or_next Status (is_status_of id) c.status new.status (members_in c b id h) next (eq-eqb next.value.id id may.own) either_own (λ d r shows own. may.later d r shows (eqb-true r.value.id id own)) c.disks)))
-        (λ (test : (other == id) ≡ false). inl (of_other b other h (λ same. clash (other == id) (eq-eqb other id same) test)))
-        (either (other == id))
-
-    pub followed : Kept new facts
-    followed = statuses_keep c new facts next (record {
-      rest = change.rest;
-      own = either_own;
-      stamp = λ d r shows ids stamps. absurd (not-itself next.stamp (ap (λ (x : Stamp). stamp_lt x next.stamp) (sym stamps) ∙ may.later d r shows (ids ∙ may.own)));
-      found = λ b other h reading. subst (λ (x : Contents). (status_by x b other h ≡ status_by c b other h) ⊎ ((status_by x b other h ≡ Some next) × Serves c facts other next) ⊎ HasNoVolume c other) (sym change.rest)
-          (⊎_elim (λ same. inl same) (λ is. inr (inl is)) (found_by b other h reading));
-    }) kept
+  followed : (new : Contents) → StatusesChange targets next c new → Kept new facts
+  followed new change = put_keeps c id next facts targets new change may.own showing may.later serves kept
 
 pub status_follows : StatusFollows
 status_follows group status there targets next old new facts within may change kept = followed old group status there targets next facts within may kept new change

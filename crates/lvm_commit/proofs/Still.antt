@@ -4,15 +4,11 @@ use Rattle.std.specs.Prelude.{nat_lt, if◌then◌else◌}
 use Rattle.lvm_num.specs.declared.place.Pp.{Pp}
 use Rattle.lvm_num.specs.declared.record.Kind.{Kind}
 use Rattle.lvm_num.specs.declared.record.Kind.TheVariants as kind
-use Rattle.lvm_num.specs.declared.descriptor.Descriptor.{Descriptor}
-use Rattle.lvm_num.specs.declared.status.Status.{Status}
 use Rattle.lvm_num.specs.Buffer.{Sector}
-use Rattle.lvm_num.specs.Disks.{Disks}
 use Rattle.lvm_num.specs.DescriptorBytes.{descriptor_of}
 use Rattle.lvm_num.specs.StatusBytes.{status_of}
 use Rattle.lvm_num.specs.Geometry.{data_start}
 use Rattle.lvm_num.specs.Record.{slot_start, slot_size}
-use Rattle.lvm_num.specs.Votes.{all_disks}
 use Rattle.lvm_vol.specs.Facts.{Fact}
 use Rattle.lvm_disk.specs.Device.{Media, Image, Flight, Device, image_of, written, IsCrashImage, MayLeave}
 use Rattle.lvm_disk.specs.Images.{DiffersBy}
@@ -28,28 +24,11 @@ use Rattle.lvm_steps.proofs.Booleans.{no_some}
 use Rattle.lvm_stamps.proofs.Writes.{data_keeps_before}
 use Rattle.lvm_commit.specs.Committed.{next_stamp, ShowsCommitted}
 use Rattle.lvm_commit.specs.LawsOfData.{IsSectorOf, PartitionChange, IsFlightOf, FreeDataGoesOn, DataKeepsCommitted, StillHoldsCommitted, TransferHoldsCommitted}
-use Rattle.lvm_commit.proofs.Committed.{still_finds, still_began}
+use Rattle.lvm_commit.proofs.Committed.{still_shows}
 use Rattle.lvm_commit.proofs.Data.{free_data_keeps}
 use Rattle.lvm_commit.proofs.Slots.{slot_for_same}
 
 -- ---- other data
-
-pub still_shows : (c : Contents) (block : ℕ → ℕ → Sector) (group : Descriptor) (status : Status) (there : Disks) → ShowsCommitted c group status there → ShowsCommitted (record c { block = block }) group status there
-still_shows c block group status there shows = record {
-  found = still_finds c c.status c.note block all_disks group.id group shows.found;
-  disks = shows.disks;
-  began = still_began c c.status c.note block group shows.disks shows.began;
-  descriptor = shows.descriptor;
-  value = shows.value;
-  latest = shows.latest;
-  described = shows.described;
-  room = shows.room;
-  own = shows.own;
-  stands = shows.stands;
-  committed = shows.committed;
-  stated = shows.stated;
-  last = shows.last;
-}
 
 slot_low : (kind : Kind) (slot s : ℕ) → slot < 2 → s < slot_start kind slot + slot_size kind → s < data_start
 slot_low kind.Descriptor slot s two lt = omega (arith, two, lt)
@@ -57,7 +36,7 @@ slot_low kind.Status slot s two lt = omega (arith, two, lt)
 
 pub data_keeps_committed : DataKeepsCommitted
 data_keeps_committed group status there stamp homes old new same holds = record {
-  shows = subst (λ (c : Contents). ShowsCommitted c group status there) (sym (data_writes old new same)) (still_shows (contents_of old) (data_at new) group status there holds.shows);
+  shows = subst (λ (c : Contents). ShowsCommitted c group status there) (sym (data_writes old new same)) (still_shows (contents_of old) (contents_of old).note (data_at new) group status there holds.shows);
   stamps = data_keeps_before (next_stamp stamp) old new (record { same = same.same; sectors = λ d s room low. same.sectors d s low }) holds.stamps;
   there = λ d is. room-same old new same.same d ∙ holds.there d is;
   homes = λ d is.
@@ -122,5 +101,5 @@ free_data_goes_on group status there pp f media old new told still enough shows 
         let before : Image = from.0 in
         let same : SameRecords (image_of old.sizes media) before = still_image old media told still before from.1 in
         let was : ShowsCommitted (contents_of before) group status there =
-        subst (λ (c : Contents). ShowsCommitted c group status there) (sym (data_writes (image_of old.sizes media) before same)) (still_shows (contents_of (image_of old.sizes media)) (data_at before) group status there shows) in
+        subst (λ (c : Contents). ShowsCommitted c group status there) (sym (data_writes (image_of old.sizes media) before same)) (still_shows (contents_of (image_of old.sizes media)) (contents_of (image_of old.sizes media)).note (data_at before) group status there shows) in
         free_data_keeps group status there pp (contents_of before) (contents_of image) facts (images_within before) enough was on_it free (moves_partition group.mib pp f its before image from.2) (kept before from.1)

@@ -21,7 +21,7 @@ use Rattle.lvm_stamps.proofs.Stamps.{later_is_after_too}
 use Rattle.lvm_commit.specs.Committed.{next_stamp, ShowsCommitted}
 use Rattle.lvm_commit.specs.LawsOfVolumes.{NextIsLater, CommittedMayCommit, ZerosAreFound, IsOnlyGroup, NamedIsFound, UnnamedIsNotFound, VolumeBeginsInSession, VolumeIsMadeInSession, VolumeIsGoneInSession}
 use Rattle.lvm_commit.proofs.Found.{shows_group, only_found, status_read}
-use Rattle.lvm_commit.proofs.Members.{member_of_parts}
+use Rattle.lvm_steps.proofs.Members.{member_of_parts}
 
 -- ---- the descriptor
 

@@ -2,7 +2,6 @@
 use Rattle.std.specs.Prelude.{◌≡◌, ℕ, ◌&&◌, ◌||◌, ◌⊎◌, true, false, List, IsTrue, IsFalse, Some, None}
 use Rattle.std.specs.List.{list_any}
 use Rattle.lvm_num.specs.declared.record.Kind.{Kind}
-use Rattle.lvm_num.specs.declared.record.Kind.TheVariants as kind
 use Rattle.lvm_num.specs.declared.place.Pp.{Pp}
 use Rattle.lvm_num.specs.declared.descriptor.PvRow.{PvRow}
 use Rattle.lvm_num.specs.declared.descriptor.Descriptor.{Descriptor}
@@ -10,22 +9,20 @@ use Rattle.lvm_num.specs.declared.status.Status.{Status}
 use Rattle.lvm_num.specs.Buffer.{Buffer}
 use Rattle.lvm_num.specs.Disks.{Disks, has}
 use Rattle.lvm_num.specs.Status.{calls_stale, calls_missing}
-use Rattle.lvm_num.specs.StatusBytes.{status_bytes}
 use Rattle.lvm_num.specs.Votes.{votes_in, total_votes, is_enough_to_write, CanWrite}
 use Rattle.lvm_disk.specs.Device.{Device, IsReady}
-use Rattle.lvm_disk.specs.Paths.{DeviceStep, Path}
 use Rattle.lvm_kept.specs.Torn.{RecordWrite, IsOfRecord}
 use Rattle.lvm_stale.specs.Table.{SameStale}
 use Rattle.lvm_left.specs.Marking.{IsLeftIn, Marks}
 use Rattle.lvm_status.specs.Update.{Stored, no_disks}
 use Rattle.lvm_quorum.specs.declared.homes.Homes.{Homes}
 use Rattle.lvm_quorum.specs.Homes.{Flips}
-use Rattle.lvm_quorum.specs.Parts.{Spends}
-use Rattle.lvm_quorum.specs.Written.{write_of, KeepsShelf, IsWriting, EndsOn, StandsTold, written_well, IsDarkened, IsGivenUp}
+use Rattle.lvm_quorum.specs.Writes.{WriteLeaves}
+use Rattle.lvm_quorum.specs.Written.{write_of, EndsOn, StandsTold, written_well, IsDarkened, IsGivenUp}
 use Rattle.lvm_commit.specs.declared.commit.Settled.{Settled}
 use Rattle.lvm_commit.specs.declared.commit.Settled.TheVariants as settled
 use Rattle.lvm_commit.specs.Committed.{next_stamp}
-use Rattle.lvm_commit.specs.Settling.{there, NoneIsLeft, MarksLeft, HasSameRows, IsCommitted, HasLostQuorum, OnlyLoses, AreWell, SpendsNumbers, IsOfStatus, IsPlain, StatusFindsNothingNew, StatusStaysKept, StaysHeld}
+use Rattle.lvm_commit.specs.Settling.{there, NoneIsLeft, HasSameRows, IsOfStatus, StatusFindsNothingNew, StatusStaysKept, CommitLeaves, StatusEnds}
 
 -- ---- the session
 
@@ -131,45 +128,14 @@ HowRecord w number before first last slots next old new settled.Stuck = IsGivenU
 
 -- how the write of one record ended, and what it did
 pub record RecordGives (w : RecordWrite) (number before after : ℕ) (first last : Stored) (slots next : Homes) (old new : Device) (result : Settled) : Type 0 where
-  pub keeps : KeepsShelf w.targets (IsOfRecord w) old new
-  pub spends : Spends before after old new
-  pub moments : Path DeviceStep (IsWriting (IsOfRecord w) old) old new
+  pub leaves : WriteLeaves w.targets (IsOfRecord w) before after old new
   pub how : HowRecord w number before first last slots next old new result
 
 -- ---- a status, record by record
 
--- It ended with what is wanted committed.
-pub record StatusEnds (number : ℕ) (first last : Stored) (slots next : Homes) (old new : Device) (buf : Buffer) : Type 0 where
-  pub number_is : buf.number ≡ number
-  pub ready : IsReady new
-  pub cuts : new.counts.cuts ≡ old.counts.cuts
-  pub well : AreWell last old new
-  pub committed : IsCommitted last
-  pub held : StaysHeld first last slots next old new
-  pub plain : (first.wanted ≡ first.committed → ⊥) → IsPlain kind.Status (status_bytes first.wanted) first last slots old new
-
--- It ended with too few votes left, and each record that was written lost a member.
-pub record StatusIsLost (number : ℕ) (first last : Stored) (old new : Device) (have total : ℕ) (buf : Buffer) : Type 0 where
-  pub number_is : buf.number ≡ number
-  pub ready : IsReady new
-  pub cuts : new.counts.cuts ≡ old.counts.cuts
-  pub well : AreWell last old new
-  pub lost : HasLostQuorum first last old new have total
-  pub spent : SpendsNumbers 0 first last
-
-abbrev pub HowStatus : ℕ → ℕ → Stored → Stored → Homes → Homes → Device → Device → Settled → Type 0
-HowStatus number before first last slots next old new (settled.Done buf) = StatusEnds number first last slots next old new buf
-HowStatus number before first last slots next old new (settled.WentOff have total buf) = StatusIsLost number first last old new have total buf
-HowStatus number before first last slots next old new settled.Dark = IsDarkened number old new
-HowStatus number before first last slots next old new settled.Stuck = IsGivenUp number before old new
-
 -- how the commit of a status ended, and what it did
 pub record StatusGives (group : Descriptor) (number before after : ℕ) (first last : Stored) (slots next : Homes) (old new : Device) (result : Settled) : Type 0 where
-  pub loses : OnlyLoses first last old new
-  pub left : MarksLeft group first last
-  pub numbers : SpendsNumbers 1 first last
-  pub keeps : KeepsShelf (there first) (IsOfStatus first last) old new
-  pub spends : Spends before after old new
+  pub ends : StatusEnds number before first last slots next old new result
+  pub leaves : CommitLeaves group (IsOfStatus first last) before after first last old new
   pub finds : StatusFindsNothingNew first slots old new
   pub kept : StatusStaysKept group first slots old new
-  pub how : HowStatus number before first last slots next old new result

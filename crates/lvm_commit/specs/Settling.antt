@@ -17,7 +17,7 @@ use Rattle.lvm_num.specs.Status.{calls_stale, calls_missing}
 use Rattle.lvm_num.specs.StatusBytes.{status_bytes}
 use Rattle.lvm_num.specs.Votes.{votes_in, total_votes, is_enough_to_write, CanWrite}
 use Rattle.lvm_disk.specs.Counts.{Rose}
-use Rattle.lvm_disk.specs.Device.{Device, image_of}
+use Rattle.lvm_disk.specs.Device.{Device, IsReady, image_of}
 use Rattle.lvm_disk.specs.Steps.{BothTold}
 use Rattle.lvm_disk.specs.Paths.{DeviceStep, Path}
 use Rattle.lvm_vol.specs.Facts.{Fact}
@@ -31,7 +31,8 @@ use Rattle.lvm_status.specs.Members.{HasItsRows}
 use Rattle.lvm_status.specs.Update.{Stored, members_there}
 use Rattle.lvm_steps.specs.Moments.{StaysKept, ImagesKept}
 use Rattle.lvm_quorum.specs.declared.homes.Homes.{Homes}
-use Rattle.lvm_quorum.specs.Written.{write_of, HaveRoom, KeepsShelf}
+use Rattle.lvm_quorum.specs.Parts.{Spends}
+use Rattle.lvm_quorum.specs.Written.{write_of, HaveRoom, KeepsShelf, IsDarkened, IsGivenUp}
 use Rattle.lvm_commit.specs.declared.commit.Settled.{Settled}
 use Rattle.lvm_commit.specs.declared.commit.Settled.TheVariants as settled
 use Rattle.lvm_commit.specs.Committed.{next_stamp, IsAlike, MayMark, HoldsCommitted}
@@ -261,3 +262,51 @@ StaysHeld first last homes_old homes_new old new =
 abbrev pub ComesHeld : List ℕ → Stored → Stored → Homes → Homes → Device → Device → Type 0
 ComesHeld content first last homes_old homes_new old new =
     (group next : Descriptor) → descriptor_of content ≡ Ok next → IsOf group first → IsAlike next group → SessionIsHeld old group first homes_old → SessionIsHeld new next last homes_new × OthersAreLeft group.id old new
+
+-- ---- what a commit leaves, and how it ends
+
+-- Whatever the answer: the group stays, members may be lost and the copies stale that they leave behind, numbers are spent for stamps, only this was
+-- brought to the members that weren't missing, and patience fell by what was waited.
+pub record CommitLeaves (group : Descriptor) (P : Plan) (before after : ℕ) (first last : Stored) (old new : Device) : Type 0 where
+  pub loses : OnlyLoses first last old new
+  pub left : MarksLeft group first last
+  pub numbers : SpendsNumbers 1 first last
+  pub keeps : KeepsShelf (there first) P old new
+  pub spends : Spends before after old new
+
+-- The buffer of this number is back, nothing is out, the power was on all the time, and no transfer to a member that isn't missing has failed.
+pub record ComesBack (number : ℕ) (last : Stored) (old new : Device) (buf : Buffer) : Type 0 where
+  pub number_is : buf.number ≡ number
+  pub ready : IsReady new
+  pub cuts : new.counts.cuts ≡ old.counts.cuts
+  pub well : AreWell last old new
+
+-- What is wanted is committed; what was held is held further, and where no member was lost one record was written, or none.
+pub record EndsCommitted (Held Plain : Type 0) (number : ℕ) (last : Stored) (old new : Device) (buf : Buffer) : Type 0 where
+  pub back : ComesBack number last old new buf
+  pub committed : IsCommitted last
+  pub held : Held
+  pub plain : Plain
+
+-- Too few members are left, and each record that was written lost one.
+pub record EndsOff (number : ℕ) (first last : Stored) (old new : Device) (have total : ℕ) (buf : Buffer) : Type 0 where
+  pub back : ComesBack number last old new buf
+  pub lost : HasLostQuorum first last old new have total
+  pub spent : SpendsNumbers 0 first last
+
+-- how a commit ends, by its answer
+abbrev pub SettleEnds : Type 0 → Type 0 → ℕ → ℕ → Stored → Stored → Device → Device → Settled → Type 0
+SettleEnds Held Plain number before first last old new (settled.Done buf) = EndsCommitted Held Plain number last old new buf
+SettleEnds Held Plain number before first last old new (settled.WentOff have total buf) = EndsOff number first last old new have total buf
+SettleEnds Held Plain number before first last old new settled.Dark = IsDarkened number old new
+SettleEnds Held Plain number before first last old new settled.Stuck = IsGivenUp number before old new
+
+-- so ends that of a status, of which nothing is written where nothing else is wanted than is committed
+abbrev pub StatusEnds : ℕ → ℕ → Stored → Stored → Homes → Homes → Device → Device → Settled → Type 0
+StatusEnds number before first last homes next old new result = SettleEnds (StaysHeld first last homes next old new)
+    ((first.wanted ≡ first.committed → ⊥) → IsPlain kind.Status (status_bytes first.wanted) first last homes old new) number before first last old new result
+
+-- and that of the descriptor of these bytes
+abbrev pub DescriptorEnds : List ℕ → ℕ → ℕ → Stored → Stored → Homes → Homes → Device → Device → Settled → Type 0
+DescriptorEnds content number before first last homes next old new result =
+    SettleEnds (ComesHeld content first last homes next old new) (IsPlain kind.Descriptor content first last homes old new) number before first last old new result

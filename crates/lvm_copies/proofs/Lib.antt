@@ -1,2 +1,3 @@
 mod Aiming
 pub mod Laid
+pub mod Members

@@ -3,7 +3,6 @@ use Rattle.std.proofs.Common.{◌≡◌, ℕ, ◌≤◌, Bool, false, List, leng
 use Rattle.std.specs.Prelude.{Result, Ok, Err, slice_set}
 use Rattle.lvm_num.specs.declared.place.Pp.{Pp}
 use Rattle.lvm_num.specs.declared.descriptor.Descriptor.{Descriptor}
-use Rattle.lvm_num.specs.declared.record.Kind.TheVariants as kind
 use Rattle.lvm_num.specs.Descriptor.{IsValid}
 use Rattle.lvm_num.specs.DescriptorBytes.{descriptor_bytes}
 use Rattle.lvm_disk.specs.Device.{Device, IsReady}
@@ -11,11 +10,10 @@ use Rattle.lvm_kept.specs.Plans.{Plan}
 use Rattle.lvm_pbuf.specs.Out.{IsOut}
 use Rattle.lvm_status.specs.Update.{Stored}
 use Rattle.lvm_quorum.specs.declared.homes.Homes.{Homes}
-use Rattle.lvm_quorum.specs.Parts.{Spends}
-use Rattle.lvm_quorum.specs.Written.{IsDarkened, IsGivenUp, KeepsShelf}
+use Rattle.lvm_quorum.specs.Written.{IsDarkened, IsGivenUp}
 use Rattle.lvm_commit.specs.declared.commit.Settled.{Settled}
 use Rattle.lvm_commit.specs.declared.commit.Settled.TheVariants as settled
-use Rattle.lvm_commit.specs.Settling.{MarksLeft, IfDone, IfWentOff, IfBack, OnDark, OnStuck, EndsAtOnce, there, IsCommitted, HasLostQuorum, OnlyLoses, AreWell, SpendsNumbers, IsOfStatus, IsOfCommit, IsPlain, StatusStaysKept, DescriptorStaysKept, StatusFindsNothingNew, CommitFindsNoMore, StaysHeld, ComesHeld}
+use Rattle.lvm_commit.specs.Settling.{IfDone, IfWentOff, IfBack, OnDark, OnStuck, EndsAtOnce, IsCommitted, HasLostQuorum, AreWell, SpendsNumbers, IsOfStatus, IsOfCommit, StatusStaysKept, DescriptorStaysKept, StatusFindsNothingNew, CommitFindsNoMore, CommitLeaves, SettleEnds, StatusEnds, DescriptorEnds}
 use Rattle.lvm_core.specs.declared.fault.CommitFault.{CommitFault}
 use Rattle.lvm_core.specs.declared.request.Power.TheVariants as power
 use Rattle.lvm_core.specs.State.{Core, State}
@@ -24,10 +22,60 @@ use Rattle.lvm_core.specs.Committing.{with_one_out}
 use Rattle.lvm_core.specs.Steps.{IsMarked, EndsAs, CoreEnds, Settles, CommitsDescriptor, CommitsMarks}
 use Rattle.lvm_core.proofs.Buffers.{one_is_out, back_again}
 
+-- ---- the answer of a commit
+
+-- what it says, each by itself
+pub record AtEnd (Held Plain : Type 0) (number before : ℕ) (first last : Stored) (old new : Device) (how : Settled) : Type 0 where
+  pub done : IfDone how (λ back. IsCommitted last)
+  pub held : IfDone how (λ back. Held)
+  pub plain : IfDone how (λ back. Plain)
+  pub off : IfWentOff how (λ have total back. HasLostQuorum first last old new have total)
+  pub spent : IfWentOff how (λ have total back. SpendsNumbers 0 first last)
+  pub number_is : IfBack how (λ back. back.number ≡ number)
+  pub ready : IfBack how (λ back. IsReady new × (new.counts.cuts ≡ old.counts.cuts))
+  pub well : IfBack how (λ back. AreWell last old new)
+  pub dark : OnDark how (IsDarkened number old new)
+  pub stuck : OnStuck how (IsGivenUp number before old new)
+
+pub at_end :
+    (Held Plain : Type 0) (number before : ℕ) (first last : Stored) (old new : Device) (how : Settled) → SettleEnds Held Plain number before first last old new how → AtEnd Held Plain number before first last old new how
+at_end Held Plain number before first last old new (settled.Done buf) ends = record {
+  done = ends.committed;
+  held = ends.held;
+  plain = ends.plain;
+  off = tt;
+  spent = tt;
+  number_is = ends.back.number_is;
+  ready = (ends.back.ready, ends.back.cuts);
+  well = ends.back.well;
+  dark = tt;
+  stuck = tt;
+}
+at_end Held Plain number before first last old new (settled.WentOff have total buf) ends = record {
+  done = tt;
+  held = tt;
+  plain = tt;
+  off = ends.lost;
+  spent = ends.spent;
+  number_is = ends.back.number_is;
+  ready = (ends.back.ready, ends.back.cuts);
+  well = ends.back.well;
+  dark = tt;
+  stuck = tt;
+}
+at_end Held Plain number before first last old new settled.Dark ends = record { done = tt; held = tt; plain = tt; off = tt; spent = tt; number_is = tt; ready = tt; well = tt; dark = ends; stuck = tt }
+at_end Held Plain number before first last old new settled.Stuck ends = record { done = tt; held = tt; plain = tt; off = tt; spent = tt; number_is = tt; ready = tt; well = tt; dark = tt; stuck = ends }
+
 -- ---- the buffer
 
-pub numbered : (how : Settled) (n : ℕ) → n ≡ 0 → IfBack how (λ back. back.number ≡ n) → IfBack how (λ back. back.number ≡ 0)
-numbered how n is back = subst (λ (k : ℕ). IfBack how (λ back. back.number ≡ k)) is back
+pub status_numbered :
+    (n before : ℕ) (first last : Stored) (homes next : Homes) (old new : Device) (how : Settled) → n ≡ 0 → StatusEnds n before first last homes next old new how → IfBack how (λ back. back.number ≡ 0)
+status_numbered n before first last homes next old new how is ends = subst (λ (k : ℕ). IfBack how (λ back. back.number ≡ k)) is (at_end _ _ n before first last old new how ends).number_is
+
+pub descriptor_numbered :
+    (content : List ℕ) (n before : ℕ) (first last : Stored) (homes next : Homes) (old new : Device) (how : Settled) → n ≡ 0 → DescriptorEnds content n before first last homes next old new how
+    → IfBack how (λ back. back.number ≡ 0)
+descriptor_numbered content n before first last homes next old new how is ends = subst (λ (k : ℕ). IfBack how (λ back. back.number ≡ k)) is (at_end _ _ n before first last old new how ends).number_is
 
 -- it is out until it is taken back
 pub is_out : (how : Settled) (pool taken : List Bool) → taken ≡ with_one_out pool → 1 ≤ length pool → IfBack how (λ back. back.number ≡ 0) → IfBack how (λ back. IsOut taken back.number)
@@ -86,47 +134,31 @@ status_ends mid new settled.Stuck answer ends = (ap (λ (c : Core). c.status) en
 
 -- ---- what was written
 
--- what the writes promise, with a buffer of this number
-pub record Promises (plan : Stored → Plan) (first last : Stored) (number before after : ℕ) (old new : Device) (how : Settled) : Type 0 where
-  pub done : IfDone how (λ back. IsCommitted last)
-  pub off : IfWentOff how (λ have total back. HasLostQuorum first last old new have total)
-  pub ready : IfBack how (λ back. IsReady new × (new.counts.cuts ≡ old.counts.cuts))
-  pub well : IfBack how (λ back. AreWell last old new)
-  pub dark : OnDark how (IsDarkened number old new)
-  pub stuck : OnStuck how (IsGivenUp number before old new)
-  pub loses : OnlyLoses first last old new
-  pub spent : IfWentOff how (λ have total back. SpendsNumbers 0 first last)
-  pub numbers : SpendsNumbers 1 first last
-  pub spends : Spends before after old new
-  pub keeps : KeepsShelf (there first) (plan last) old new
-
-module _ (next : Descriptor) (plan : Stored → Plan) (first last : Stored) (before after : ℕ) (old new : State) (how : Settled) (answer : Result (Unit {0}) CommitFault) where
-  pub settles : new.core.status ≡ last → Promises plan first last 0 before after old.device new.device how → CoreEnds next old.core new.core how answer → Settles next (plan new.core.status) first before after old new how answer
-  settles is promises goes =
-      let p = subst (λ (u : Stored). Promises plan first u 0 before after old.device new.device how) (sym is) promises in
-      record {
-        done = p.done;
-        off = p.off;
-        ready = p.ready;
-        well = p.well;
-        dark = p.dark;
-        stuck = p.stuck;
-        loses = p.loses;
-        spent = p.spent;
-        numbers = p.numbers;
-        spends = p.spends;
-        keeps = p.keeps;
-        goes = goes;
-      }
+module _ (next : Descriptor) (plan : Stored → Plan) (first : Stored) (before after : ℕ) (old new : State) (how : Settled) (answer : Result (Unit {0}) CommitFault) where
+  settles :
+      (group : Descriptor) (Held Plain : Type 0) → AtEnd Held Plain 0 before first new.core.status old.device new.device how → CommitLeaves group (plan new.core.status) before after first new.core.status old.device new.device
+      → CoreEnds next old.core new.core how answer → Settles next (plan new.core.status) first before after old new how answer
+  settles group Held Plain ends leaves goes = record {
+    done = ends.done;
+    off = ends.off;
+    ready = ends.ready;
+    well = ends.well;
+    dark = ends.dark;
+    stuck = ends.stuck;
+    loses = leaves.loses;
+    spent = ends.spent;
+    numbers = leaves.numbers;
+    spends = leaves.spends;
+    keeps = leaves.keeps;
+    goes = goes;
+  }
 
 -- ---- a descriptor
 
 pub record DescriptorPromises (next : Descriptor) (content : List ℕ) (first last : Stored) (homes next_homes : Homes) (number before after : ℕ) (old new : Device) (how : Settled) : Type 0 where
-  pub promises : Promises (IsOfCommit content first) first last number before after old new how
-  pub held : IfDone how (λ back. ComesHeld content first last homes next_homes old new)
-  pub plain : IfDone how (λ back. IsPlain kind.Descriptor content first last homes old new)
+  pub ends : DescriptorEnds content number before first last homes next_homes old new how
+  pub leaves : CommitLeaves next (IsOfCommit content first last) before after first last old new
   pub finds : CommitFindsNoMore content first homes old new
-  pub left : MarksLeft next first last
   pub kept : DescriptorStaysKept content first homes old new
 
 pub commits_descriptor :
@@ -140,24 +172,24 @@ commits_descriptor next content first last homes next_homes number before after 
     let e = subst (λ (n : ℕ). DescriptorPromises next (descriptor_bytes next) old.core.status last old.core.homes next_homes n before after old.device new.device how) none d in
     let f = subst (λ (h : Homes). DescriptorPromises next (descriptor_bytes next) old.core.status last old.core.homes h 0 before after old.device new.device how) (sym at_then) e in
     let p = subst (λ (u : Stored). DescriptorPromises next (descriptor_bytes next) old.core.status u old.core.homes new.core.homes 0 before after old.device new.device how) (sym then) f in
+    let ends = at_end _ _ 0 before old.core.status new.core.status old.device new.device how p.ends in
     record {
       how = how;
       valid = valid;
-      settles = settles next (IsOfCommit (descriptor_bytes next) old.core.status) old.core.status new.core.status before after old new how answer refl p.promises goes;
-      held = p.held;
-      plain = p.plain;
+      settles = settles next (IsOfCommit (descriptor_bytes next) old.core.status) old.core.status before after old new how answer next _ _ ends p.leaves goes;
+      held = ends.held;
+      plain = ends.plain;
       finds = p.finds;
-      left = p.left;
+      left = p.leaves.left;
       kept = p.kept;
     }
 
 -- ---- a status
 
 pub record StatusPromises (group : Descriptor) (first last : Stored) (homes next_homes : Homes) (number before after : ℕ) (old new : Device) (how : Settled) : Type 0 where
-  pub promises : Promises (IsOfStatus first) first last number before after old new how
-  pub held : IfDone how (λ back. StaysHeld first last homes next_homes old new)
+  pub ends : StatusEnds number before first last homes next_homes old new how
+  pub leaves : CommitLeaves group (IsOfStatus first last) before after first last old new
   pub finds : StatusFindsNothingNew first homes old new
-  pub left : MarksLeft group first last
   pub kept : StatusStaysKept group first homes old new
 
 pub commits_marks :
@@ -170,14 +202,15 @@ commits_marks to_stale to_fresh first last homes next_homes number before after 
     let b = subst (λ (n : ℕ). StatusPromises old.core.descriptor first last old.core.homes next_homes n before after old.device new.device how) none a in
     let d = subst (λ (h : Homes). StatusPromises old.core.descriptor first last old.core.homes h 0 before after old.device new.device how) (sym at_then) b in
     let p = subst (λ (u : Stored). StatusPromises old.core.descriptor first u old.core.homes new.core.homes 0 before after old.device new.device how) (sym then) d in
+    let ends = at_end _ _ 0 before first new.core.status old.device new.device how p.ends in
     record {
       first = first;
       marked = marked;
       how = how;
-      settles = settles old.core.descriptor (IsOfStatus first) first new.core.status before after old new how answer refl p.promises goes;
-      held = p.held;
+      settles = settles old.core.descriptor (IsOfStatus first) first before after old new how answer old.core.descriptor _ _ ends p.leaves goes;
+      held = ends.held;
       finds = p.finds;
-      left = p.left;
+      left = p.leaves.left;
       kept = p.kept;
       same = same;
     }

@@ -1,5 +1,5 @@
 -- At each moment of the end of a session its state goes on describing the disks.
-use Rattle.std.proofs.Common.{inl, inr, ℕ, Bool, List, [], ◌∷◌, ◌++◌, Option, Some, None, refl, sym, ap, subst, ◌∙◌, append_assoc, append-nil}
+use Rattle.std.proofs.Common.{◌≡◌, inl, inr, ℕ, Bool, List, [], ◌∷◌, ◌++◌, Option, Some, None, refl, sym, ap, subst, ◌∙◌, append_assoc, append-nil}
 use Rattle.lvm_num.specs.declared.descriptor.Descriptor.{Descriptor}
 use Rattle.lvm_num.specs.declared.status.Status.{Status}
 use Rattle.lvm_num.specs.Record.{Stamped}
@@ -10,7 +10,7 @@ use Rattle.lvm_vol.specs.declared.entry.Outcome.{Outcome}
 use Rattle.lvm_vol.specs.declared.entry.Outcome.TheVariants as outcome
 use Rattle.lvm_vol.specs.Facts.{Fact, Landed as HasLanded, Cut, Stands}
 use Rattle.lvm_vol.specs.May.{Known, known, cut, also, May}
-use Rattle.lvm_vol.specs.Standing.{Volume, no_volumes}
+use Rattle.lvm_vol.specs.Standing.{Volume, no_volumes, volumes_in}
 use Rattle.lvm_vol.proofs.Knowing.{known-push}
 use Rattle.lvm_kept.specs.Contents.{Contents}
 use Rattle.lvm_kept.specs.Kept.{StandsAs}
@@ -33,9 +33,11 @@ cut_again b k x may = by_values (cut b k).values may
     by_values (Some vs) h = subst (Stands x) (sym (append-nil vs)) h
 
 module _ (s : State) (group : Descriptor) (in_flight : Option (Stamped Status)) (c : Contents) where
-  -- with an entry of a session more
-  pub entry_more : (facts : List Fact) (f : Fact) → IsOfSession group f → Describes s facts group in_flight c → Describes s (facts ++ f ∷ []) group in_flight c
-  entry_more facts f of old = record {
+  -- with a longer history, by which the modes stay, the volumes stand as they did, and disks in no group may show what they show
+  longer : (facts more : List Fact) → ((lv b : ℕ) → (known more (Lv lv) b).mode ≡ (known facts (Lv lv) b).mode)
+      → ((lv : ℕ) → StandsAs group.mib (volumes_in facts lv).standing (volumes_in facts lv).shape (volume_of group lv) → StandsAs group.mib (volumes_in more lv).standing (volumes_in more lv).shape (volume_of group lv))
+      → ((d b : ℕ) (x : Sector) → May (known (facts ++ Cut ∷ []) (Disk d) b) x → May (known (more ++ Cut ∷ []) (Disk d) b) x) → Describes s facts group in_flight c → Describes s more group in_flight c
+  longer facts more modes stand may old = record {
     stands = old.stands;
     volumes = let v = old.volumes in record {
       copies = v.copies;
@@ -43,32 +45,24 @@ module _ (s : State) (group : Descriptor) (in_flight : Option (Stamped Status)) 
       some = v.some;
       notes = v.notes;
       mark = v.mark;
-      modes = λ row lp b one inside. modes_stay group facts f of (Lv row.number) b ∙ v.modes row lp b one inside;
-      history = λ lv. volumes_stand group facts f of lv (v.history lv);
+      modes = λ row lp b one inside. modes row.number b ∙ v.modes row lp b one inside;
+      history = λ lv. stand lv (v.history lv);
     };
     shown = old.shown;
-    raw = λ d b low none from to. subst (λ (k : Known). May k (c.block d b)) (sym (raw_stays group facts f of d b)) (old.raw d b low none from to);
+    raw = λ d b low none from to. may d b (c.block d b) (old.raw d b low none from to);
   }
+
+  -- with an entry of a session more
+  pub entry_more : (facts : List Fact) (f : Fact) → IsOfSession group f → Describes s facts group in_flight c → Describes s (facts ++ f ∷ []) group in_flight c
+  entry_more facts f of = longer facts (facts ++ f ∷ []) (λ lv b. modes_stay group facts f of (Lv lv) b) (volumes_stand group facts f of)
+      (λ d b x may. subst (λ (k : Known). May k x) (sym (raw_stays group facts f of d b)) may)
 
   -- with a cut more
   cut_more : (facts : List Fact) → Describes s facts group in_flight c → Describes s (facts ++ Cut ∷ []) group in_flight c
-  cut_more facts old = record {
-    stands = old.stands;
-    volumes = let v = old.volumes in record {
-      copies = v.copies;
-      inside = v.inside;
-      some = v.some;
-      notes = v.notes;
-      mark = v.mark;
-      modes = λ row lp b one inside. ap (λ (k : Known). k.mode) (known-push facts Cut (Lv row.number) b) ∙ v.modes row lp b one inside;
-      history = λ lv. subst (λ (v : Volume). StandsAs group.mib v.standing v.shape (volume_of group lv)) (sym (ap (λ (v : ℕ → Volume). v lv) (volumes-append no_volumes facts (Cut ∷ [])))) (v.history lv);
-    };
-    shown = old.shown;
-    raw = λ d b low none from to.
-        let k = known facts (Disk d) b in
-        subst (λ (k : Known). May k (c.block d b)) (sym (known-push (facts ++ Cut ∷ []) Cut (Disk d) b ∙ ap (cut b) (known-push facts Cut (Disk d) b)))
-        (cut_again b k (c.block d b) (subst (λ (k : Known). May k (c.block d b)) (known-push facts Cut (Disk d) b) (old.raw d b low none from to)));
-  }
+  cut_more facts = longer facts (facts ++ Cut ∷ []) (λ lv b. ap (λ (k : Known). k.mode) (known-push facts Cut (Lv lv) b))
+      (λ lv stands. subst (λ (v : Volume). StandsAs group.mib v.standing v.shape (volume_of group lv)) (sym (ap (λ (v : ℕ → Volume). v lv) (volumes-append no_volumes facts (Cut ∷ [])))) stands)
+      (λ d b x may. subst (λ (k : Known). May k x) (sym (known-push (facts ++ Cut ∷ []) Cut (Disk d) b ∙ ap (cut b) (known-push facts Cut (Disk d) b)))
+      (cut_again b (known facts (Disk d) b) x (subst (λ (k : Known). May k x) (known-push facts Cut (Disk d) b) may)))
 
   -- with landings of what was open
   landings_more : (votes : Votes) (how : Outcome) (started : ℕ → Bool) → Good votes s → (places : List ℕ) → ((i : ℕ) → Stands i places → IsUnlanded s i) → (facts : List Fact)

@@ -15,10 +15,9 @@ use Rattle.lvm_num.specs.Record.{Stamped}
 use Rattle.lvm_vol.specs.declared.entry.Vol.{Vol}
 use Rattle.lvm_vol.specs.declared.entry.Vol.TheVariants.{Disk, Lv}
 use Rattle.lvm_vol.specs.declared.entry.Outcome.{Outcome}
-use Rattle.lvm_vol.specs.declared.entry.Outcome.TheVariants as outcome
 use Rattle.lvm_vol.specs.Facts.{Request, Fact, Making, Made, Split, Removing, Removed, Begun, Landed as HasLanded, Taken, Cut, On, same_vol, is_over, block_of}
 use Rattle.lvm_vol.specs.Laws.{is_about}
-use Rattle.lvm_vol.specs.May.{Known, known, cut, ended, read, source, change, is_open_in, May}
+use Rattle.lvm_vol.specs.May.{Known, known, cut, ended, source, change, May}
 use Rattle.lvm_vol.specs.Standing.{Standing, Absent, Open, Settled, Shape, Volume, no_volumes, volumes_after, volumes_after_fact, volumes_in, put}
 use Rattle.lvm_vol.proofs.Knowing.{known-push, others_stay}
 use Rattle.lvm_kept.specs.Contents.{Contents}
@@ -30,6 +29,7 @@ use Rattle.lvm_invariant.specs.Events.{Event, Submit, EnterStep, Admit, Pin, Rea
 use Rattle.lvm_crash.specs.Session.{members_there, GroupStands, HasVolumes, Shows, Describes}
 use Rattle.lvm_crash.specs.Left.{KeepsGroup}
 use Rattle.lvm_crash.specs.Lasting.{AsksOf, DescriptionLasts}
+use Rattle.lvm_invariant.proofs.Telling.{landed_mode}
 use Rattle.lvm_crash.proofs.Remaining.{before, after, others_last}
 
 -- ---- entries of a session
@@ -46,6 +46,20 @@ IsOfSession group (Removing vol) = ⊥
 IsOfSession group (Removed vol) = ⊥
 IsOfSession group Cut = ⊥
 IsOfSession group (On moment) = ⊥
+
+-- what holds of a beginning, a landing and an answer that is taken holds of each such entry
+of_session : (group : Descriptor) (P : Fact → Type 0) → ((q : Request) → (lv : ℕ) × (q.vol ≡ Lv lv) × IsTrue (is_some (volume_of group lv)) → P (Begun q))
+    → ((q : Request) (how : Outcome) (started : Bool) (got : List Sector) → (lv : ℕ) × (q.vol ≡ Lv lv) → P (HasLanded q how started got)) → ((q : Request) → P (Taken q)) → (f : Fact) → IsOfSession group f → P f
+of_session group P begun landed taken (Begun q) of = begun q of
+of_session group P begun landed taken (HasLanded q how started got) of = landed q how started got of
+of_session group P begun landed taken (Taken q) of = taken q
+of_session group P begun landed taken (Making lv blocks mode) of = absurd of
+of_session group P begun landed taken (Made lv) of = absurd of
+of_session group P begun landed taken (Split from lv) of = absurd of
+of_session group P begun landed taken (Removing vol) of = absurd of
+of_session group P begun landed taken (Removed vol) of = absurd of
+of_session group P begun landed taken Cut of = absurd of
+of_session group P begun landed taken (On moment) of = absurd of
 
 pub volumes-append : (volumes : ℕ → Volume) (facts more : List Fact) → volumes_after volumes (facts ++ more) ≡ volumes_after (volumes_after volumes facts) more
 volumes-append volumes [] more = refl
@@ -69,16 +83,9 @@ volumes_stand group facts f of lv stands =
     put_stands n there false is = stands
 
     by : (f : Fact) → IsOfSession group f → StandsAs group.mib (volumes_after_fact f (volumes_in facts) lv).standing (volumes_after_fact f (volumes_in facts) lv).shape (volume_of group lv)
-    by (Begun q) of = subst (λ (vol : Vol). StandsAs group.mib (put vol Settled (volumes_in facts) lv).standing (put vol Settled (volumes_in facts) lv).shape (volume_of group lv)) (sym of.1) (put_stands of.0 of.2 (of.0 == lv) refl)
-    by (HasLanded q how started got) of = stands
-    by (Taken q) of = stands
-    by (Making lv blocks mode) of = absurd of
-    by (Made lv) of = absurd of
-    by (Split from lv) of = absurd of
-    by (Removing vol) of = absurd of
-    by (Removed vol) of = absurd of
-    by Cut of = absurd of
-    by (On moment) of = absurd of
+    by = of_session group (λ (f : Fact). StandsAs group.mib (volumes_after_fact f (volumes_in facts) lv).standing (volumes_after_fact f (volumes_in facts) lv).shape (volume_of group lv))
+        (λ q at. subst (λ (vol : Vol). StandsAs group.mib (put vol Settled (volumes_in facts) lv).standing (put vol Settled (volumes_in facts) lv).shape (volume_of group lv)) (sym at.1) (put_stands at.0 at.2 (at.0 == lv) refl))
+        (λ q how started got at. stands) (λ q. stands)
 
 -- ---- modes
 
@@ -86,43 +93,13 @@ either : (t : Bool) (x y : Known) (m : Mode) → x.mode ≡ m → y.mode ≡ m �
 either true x y m h k = h
 either false x y m h k = k
 
-ended_mode : (r : Request) (how : Outcome) (started : Bool) (x : Sector) (k : Known) → (ended r how started x k).mode ≡ k.mode
-ended_mode r outcome.Done started x k = refl
-ended_mode r outcome.Lost started x k = refl
-ended_mode r outcome.Off true x k = refl
-ended_mode r outcome.Off false x k = refl
-ended_mode r outcome.Dark true x k = refl
-ended_mode r outcome.Dark false x k = refl
-ended_mode r outcome.Got started x k = refl
-ended_mode r outcome.ReadFailed started x k = refl
-ended_mode r outcome.NoFresh started x k = refl
-
-read_mode : (how : Outcome) (x : Sector) (k : Known) → (read how x k).mode ≡ k.mode
-read_mode outcome.Got x k = either k.loose k (record k { values = Some (x ∷ []) }) k.mode refl refl
-read_mode outcome.Done x k = refl
-read_mode outcome.Lost x k = refl
-read_mode outcome.ReadFailed x k = refl
-read_mode outcome.NoFresh x k = refl
-read_mode outcome.Off x k = refl
-read_mode outcome.Dark x k = refl
-
 pub modes_stay : (group : Descriptor) (facts : List Fact) (f : Fact) → IsOfSession group f → (vol : Vol) (b : ℕ) → (known (facts ++ f ∷ []) vol b).mode ≡ (known facts vol b).mode
 modes_stay group facts f of vol b = ap (λ (k : Known). k.mode) (known-push facts f vol b) ∙ by f of
   where
     by : (f : Fact) → IsOfSession group f → (change f vol b (known facts (source f vol) b)).mode ≡ (known facts vol b).mode
-    by (Begun q) of = either (q.write && is_over q vol b) (record (known facts vol b) { open_writes = q ∷ (known facts vol b).open_writes }) (known facts vol b) (known facts vol b).mode refl refl
-    by (HasLanded q how started got) of = either (is_over q vol b) _ (known facts vol b) (known facts vol b).mode
-        (either q.write _ (read how (block_of got q.at b) (known facts vol b)) (known facts vol b).mode
-        (either (is_open_in q (known facts vol b).open_writes) _ (known facts vol b) (known facts vol b).mode (ended_mode q how started (block_of q.blocks q.at b) (known facts vol b)) refl)
-        (read_mode how (block_of got q.at b) (known facts vol b))) refl
-    by (Taken q) of = refl
-    by (Making lv blocks mode) of = absurd of
-    by (Made lv) of = absurd of
-    by (Split from lv) of = absurd of
-    by (Removing vol) of = absurd of
-    by (Removed vol) of = absurd of
-    by Cut of = absurd of
-    by (On moment) of = absurd of
+    by = of_session group (λ (f : Fact). (change f vol b (known facts (source f vol) b)).mode ≡ (known facts vol b).mode)
+        (λ q at. either (q.write && is_over q vol b) (record (known facts vol b) { open_writes = q ∷ (known facts vol b).open_writes }) (known facts vol b) (known facts vol b).mode refl refl)
+        (λ q how started got at. landed_mode q how started (is_over q vol b) (block_of q.blocks q.at b) (block_of got q.at b) (known facts vol b)) (λ q. refl)
 
 -- ---- disks in no group
 
@@ -134,16 +111,8 @@ not_over : (q : Request) (lv d b : ℕ) → q.vol ≡ Lv lv → is_over q (Disk 
 not_over q lv d b is = ap (λ (vol : Vol). same_vol vol (Disk d) && nat_le q.at b && nat_lt b (q.at + q.count)) is
 
 not_about : (group : Descriptor) (f : Fact) → IsOfSession group f → (d b : ℕ) → is_about f (Disk d) b ≡ false
-not_about group (Begun q) of d b = and_none q.write (is_over q (Disk d) b) (not_over q of.0 d b of.1)
-not_about group (HasLanded q how started got) of d b = not_over q of.0 d b of.1
-not_about group (Taken q) of d b = refl
-not_about group (Making lv blocks mode) of d b = absurd of
-not_about group (Made lv) of d b = absurd of
-not_about group (Split from lv) of d b = absurd of
-not_about group (Removing vol) of d b = absurd of
-not_about group (Removed vol) of d b = absurd of
-not_about group Cut of d b = absurd of
-not_about group (On moment) of d b = absurd of
+not_about group f of d b = of_session group (λ (g : Fact). is_about g (Disk d) b ≡ false) (λ q at. and_none q.write (is_over q (Disk d) b) (not_over q at.0 d b at.1))
+    (λ q how started got at. not_over q at.0 d b at.1) (λ q. refl) f of
 
 pub raw_stays : (group : Descriptor) (facts : List Fact) (f : Fact) → IsOfSession group f → (d b : ℕ) → known ((facts ++ f ∷ []) ++ Cut ∷ []) (Disk d) b ≡ known (facts ++ Cut ∷ []) (Disk d) b
 raw_stays group facts f of d b =
@@ -178,42 +147,43 @@ module _ (votes : Votes) (group : Descriptor) (s : State) (good : Good votes s) 
   abbrev Went : State → Type 0
   Went new = Goes group s new
 
-  quiet : (new : State) → new.is_copy ≡ s.is_copy → new.is_active ≡ s.is_active → new.is_passive ≡ s.is_passive → new.facts ≡ s.facts → Went new
-  quiet new copies active passive facts = record { copies = copies; active = active; passive = passive; facts = inl facts }
+  -- the volumes stay
+  went : (new : State) → record new { is_copy = s.is_copy; is_active = s.is_active; is_passive = s.is_passive } ≡ new → (new.facts ≡ s.facts) ⊎ ((f : Fact) × (new.facts ≡ s.facts ++ f ∷ []) × IsOfSession group f) → Went new
+  went new same facts = record { copies = ap (λ (x : State). x.is_copy) (sym same); active = ap (λ (x : State). x.is_active) (sym same); passive = ap (λ (x : State). x.is_passive) (sym same); facts = facts }
 
   goes : (event : Event) (new : State) → Step votes event s new → AsksOf group event → Went new
-  goes (Submit i q r) new step asks = subst Went (sym step.1) (record { copies = refl; active = refl; passive = refl; facts = inr (Begun q, refl, (r.lv, step.0.same.vol, asks)) })
-  goes (EnterStep i q r) new step asks = subst Went (sym step.1) (quiet _ refl refl refl refl)
-  goes (Admit i r phase several targets) new step asks = subst Went (sym step.1) (quiet _ refl refl refl refl)
-  goes (Pin i r cache) new step asks = subst Went (sym step.1) (quiet _ refl refl refl refl)
-  goes (Read i r c stage got) new step asks = subst Went (sym step.1) (quiet _ refl refl refl refl)
-  goes (StartWrite i r c) new step asks = subst Went (sym step.1) (quiet _ refl refl refl refl)
-  goes (Transfer i r c stage block) new step asks = subst Went (sym step.1) (quiet _ refl refl refl refl)
+  goes (Submit i q r) new step asks = subst Went (sym step.1) (went _ refl (inr (Begun q, refl, (r.lv, step.0.same.vol, asks))))
+  goes (EnterStep i q r) new step asks = subst Went (sym step.1) (went _ refl (inl refl))
+  goes (Admit i r phase several targets) new step asks = subst Went (sym step.1) (went _ refl (inl refl))
+  goes (Pin i r cache) new step asks = subst Went (sym step.1) (went _ refl (inl refl))
+  goes (Read i r c stage got) new step asks = subst Went (sym step.1) (went _ refl (inl refl))
+  goes (StartWrite i r c) new step asks = subst Went (sym step.1) (went _ refl (inl refl))
+  goes (Transfer i r c stage block) new step asks = subst Went (sym step.1) (went _ refl (inl refl))
   goes (LandDone i r) new step asks = subst Went (sym step.1)
-      (record { copies = refl; active = refl; passive = refl; facts = inr (_, refl, on_volume i r step.0.started.there (write_asked i r step.0.started.there step.0.started.write)) })
+      (went _ refl (inr (_, refl, on_volume i r step.0.started.there (write_asked i r step.0.started.there step.0.started.write))))
   goes (LandLost i r) new step asks = subst Went (sym step.1)
-      (record { copies = refl; active = refl; passive = refl; facts = inr (_, refl, on_volume i r step.0.started.there (write_asked i r step.0.started.there step.0.started.write)) })
-  goes (LandGot i r got) new step asks = subst Went (sym step.1) (record { copies = refl; active = refl; passive = refl; facts = inr (_, refl, on_volume i r step.0.there step.0.request) })
-  goes (LandReadFailed i r) new step asks = subst Went (sym step.1) (record { copies = refl; active = refl; passive = refl; facts = inr (_, refl, on_volume i r step.0.there step.0.request) })
-  goes (LandNoFresh i r) new step asks = subst Went (sym step.1) (record { copies = refl; active = refl; passive = refl; facts = inr (_, refl, on_volume i r step.0.there step.0.request) })
-  goes (EndStep i r) new step asks = subst Went (sym step.1) (quiet _ refl refl refl refl)
-  goes (Take i r) new step asks = subst Went (sym step.1) (record { copies = refl; active = refl; passive = refl; facts = by_step r.step })
+      (went _ refl (inr (_, refl, on_volume i r step.0.started.there (write_asked i r step.0.started.there step.0.started.write))))
+  goes (LandGot i r got) new step asks = subst Went (sym step.1) (went _ refl (inr (_, refl, on_volume i r step.0.there step.0.request)))
+  goes (LandReadFailed i r) new step asks = subst Went (sym step.1) (went _ refl (inr (_, refl, on_volume i r step.0.there step.0.request)))
+  goes (LandNoFresh i r) new step asks = subst Went (sym step.1) (went _ refl (inr (_, refl, on_volume i r step.0.there step.0.request)))
+  goes (EndStep i r) new step asks = subst Went (sym step.1) (went _ refl (inl refl))
+  goes (Take i r) new step asks = subst Went (sym step.1) (went _ refl (by_step r.step))
     where
       by_step : (t : Bool) → ((if t then s.facts else s.facts ++ Taken (s.name i) ∷ []) ≡ s.facts)
           ⊎ ((f : Fact) × ((if t then s.facts else s.facts ++ Taken (s.name i) ∷ []) ≡ s.facts ++ f ∷ []) × IsOfSession group f)
       by_step true = inl refl
       by_step false = inr (Taken (s.name i), refl, tt)
-  goes (TakeEarlier q) new step asks = subst Went (sym step.1) (record { copies = refl; active = refl; passive = refl; facts = inr (Taken q, refl, tt) })
-  goes (Want wanted missing open_copy) new step asks = subst Went (sym step.1) (quiet _ refl refl refl refl)
-  goes (BeginUpdate u) new step asks = subst Went (sym step.1) (quiet _ refl refl refl refl)
-  goes (MoveStatus u status flying) new step asks = subst Went (sym step.1) (quiet _ refl refl refl refl)
-  goes (CommitUpdate u has_it ended wanted open_copy) new step asks = subst Went (sym step.1) (quiet _ refl refl refl refl)
-  goes EndUpdate new step asks = subst Went (sym step.1) (quiet _ refl refl refl refl)
-  goes (StartNote flying) new step asks = subst Went (sym step.1) (quiet _ refl refl refl refl)
-  goes (EndNote d names home flying) new step asks = subst Went (sym step.1) (quiet _ refl refl refl refl)
-  goes (OpenCopy o) new step asks = subst Went (sym step.1) (quiet _ refl refl refl refl)
-  goes (CopyWrite i r value target open_copy step_write block) new step asks = subst Went (sym step.1) (quiet _ refl refl refl refl)
-  goes (Clear wanted c) new step asks = subst Went (sym step.1) (quiet _ refl refl refl refl)
+  goes (TakeEarlier q) new step asks = subst Went (sym step.1) (went _ refl (inr (Taken q, refl, tt)))
+  goes (Want wanted missing open_copy) new step asks = subst Went (sym step.1) (went _ refl (inl refl))
+  goes (BeginUpdate u) new step asks = subst Went (sym step.1) (went _ refl (inl refl))
+  goes (MoveStatus u status flying) new step asks = subst Went (sym step.1) (went _ refl (inl refl))
+  goes (CommitUpdate u has_it ended wanted open_copy) new step asks = subst Went (sym step.1) (went _ refl (inl refl))
+  goes EndUpdate new step asks = subst Went (sym step.1) (went _ refl (inl refl))
+  goes (StartNote flying) new step asks = subst Went (sym step.1) (went _ refl (inl refl))
+  goes (EndNote d names home flying) new step asks = subst Went (sym step.1) (went _ refl (inl refl))
+  goes (OpenCopy o) new step asks = subst Went (sym step.1) (went _ refl (inl refl))
+  goes (CopyWrite i r value target open_copy step_write block) new step asks = subst Went (sym step.1) (went _ refl (inl refl))
+  goes (Clear wanted c) new step asks = subst Went (sym step.1) (went _ refl (inl refl))
 
 -- ---- all of it
 

@@ -1,20 +1,9 @@
 -- Lists of which those are left that pass a test.
-use Rattle.std.proofs.Common.{◌≡◌, inl, inr, Bool, true, false, ◌&&◌, not, List, [], ◌∷◌, refl, sym, ap, ◌∙◌}
+use Rattle.std.proofs.Common.{◌≡◌, inl, inr, Bool, true, false, not, List, [], ◌∷◌, refl, sym, ap, ◌∙◌}
 use Rattle.std.specs.Prelude.{IsTrue, IsFalse, filter, if◌then◌else◌}
 use Rattle.std.specs.List.{AllByRecursion}
 use Rattle.lvm_kept.specs.Group.{IsOneOf, IsSome}
-
-pub left_of : (a b : Bool) → IsTrue (a && b) → IsTrue a
-left_of true b h = refl
-left_of false b h = absurd cc
-
-pub right_of : (a b : Bool) → IsTrue (a && b) → IsTrue b
-right_of true b h = h
-right_of false b h = absurd cc
-
-pub both_of : (a b : Bool) → IsTrue a → IsTrue b → IsTrue (a && b)
-both_of true b h k = k
-both_of false b h k = absurd cc
+pub use Rattle.lvm_invariant.proofs.Small.{left_of, right_of, both_of}
 
 pub not_so : (b : Bool) → IsTrue (not b) → IsFalse b
 not_so true h = absurd cc

@@ -26,7 +26,7 @@ use Rattle.lvm_crash.specs.Worked.{Shown, to_disk, device_of, media_of, RestMatc
 use Rattle.lvm_crash.proofs.Ends.{entry_more}
 use Rattle.lvm_crash.proofs.Lists.{left_of, right_of, both_of}
 use Rattle.lvm_crash.proofs.Worked.{base, enough, on_either}
-use Rattle.lvm_crash.proofs.WorkedShelf.{descriptors, no_update, Fits, describes}
+use Rattle.lvm_crash.proofs.WorkedShelf.{descriptors, no_update, Fits, describes, fits_still}
 
 -- ---- flights
 
@@ -103,27 +103,9 @@ abbrev two_writes : List Flight
 two_writes = to_disk 0 (ones ∷ []) ∷ to_disk 1 (ones ∷ []) ∷ []
 
 fits_writing : (mode : Mode) → Fits (while_writing mode) (writing mode) None
-fits_writing Active = record {
-  block = λ lv b p. refl;
-  names = λ d lv g. refl;
-  status = λ d. refl;
-  statuses = no_update (while_writing Active) (writing Active) refl;
-  volumes = λ facts v. record { copies = v.copies; inside = v.inside; some = v.some; notes = v.notes; mark = v.mark; modes = v.modes; history = v.history };
-}
-fits_writing Passive = record {
-  block = λ lv b p. refl;
-  names = λ d lv g. refl;
-  status = λ d. refl;
-  statuses = no_update (while_writing Passive) (writing Passive) refl;
-  volumes = λ facts v. record { copies = v.copies; inside = v.inside; some = v.some; notes = v.notes; mark = v.mark; modes = v.modes; history = v.history };
-}
-fits_writing Off = record {
-  block = λ lv b p. refl;
-  names = λ d lv g. refl;
-  status = λ d. refl;
-  statuses = no_update (while_writing Off) (writing Off) refl;
-  volumes = λ facts v. record { copies = v.copies; inside = v.inside; some = v.some; notes = v.notes; mark = v.mark; modes = v.modes; history = v.history };
-}
+fits_writing Active = fits_still (while_writing Active) (writing Active) (λ lv b p. refl) (λ d lv g. refl) (λ d. refl) refl refl
+fits_writing Passive = fits_still (while_writing Passive) (writing Passive) (λ lv b p. refl) (λ d lv g. refl) (λ d. refl) refl refl
+fits_writing Off = fits_still (while_writing Off) (writing Off) (λ lv b p. refl) (λ d lv g. refl) (λ d. refl) refl refl
 
 its_facts : (mode : Mode) → (writing mode).facts ≡ (at_rest mode false).facts ++ Begun asked ∷ []
 its_facts Active = refl
@@ -195,13 +177,7 @@ abbrev step_write : List Flight
 step_write = to_disk 1 (replicate 256 zero_sector) ∷ []
 
 fits_stepping : (mode : Mode) → Fits (while_stepping mode) (stepping mode) None
-fits_stepping mode = record {
-  block = λ lv b p. refl;
-  names = λ d lv g. refl;
-  status = λ d. refl;
-  statuses = no_update (while_stepping mode) (stepping mode) refl;
-  volumes = λ facts v. record { copies = v.copies; inside = v.inside; some = v.some; notes = v.notes; mark = v.mark; modes = v.modes; history = v.history };
-}
+fits_stepping mode = fits_still (while_stepping mode) (stepping mode) (λ lv b p. refl) (λ d lv g. refl) (λ d. refl) refl refl
 
 is_zeros : (k : ℕ) (value : Sector) → k < 256 → slice_get (replicate 256 zero_sector) k ≡ Some value → value ≡ zero_sector
 is_zeros k value low h = sym (get_or_from_slice_get (replicate 256 zero_sector) k value zero_sector h) ∙ get_or-replicate 256 k zero_sector zero_sector low

@@ -31,7 +31,7 @@ use Rattle.lvm_crash.specs.Worked.{Shown, status_shown, sector_to, next_status, 
 use Rattle.lvm_crash.proofs.Ends.{entry_more}
 use Rattle.lvm_crash.proofs.Lists.{left_of, right_of}
 use Rattle.lvm_crash.proofs.Worked.{enough, its_marks}
-use Rattle.lvm_crash.proofs.WorkedShelf.{image, room, if_or, no-magic, second_zero, status_read, status_held, status_none, newest_status, the_status, its_names, no_update, describes}
+use Rattle.lvm_crash.proofs.WorkedShelf.{image, room, if_or, no-magic, second_zero, status_read, status_held, status_none, newest_status, the_status, its_names, describes, fits_still, same_volumes}
 
 -- a write of one sector brings it to its place
 record Went (n first : ℕ) (sector : Sector) (d s : ℕ) (value : Sector) : Type 0 where
@@ -158,7 +158,7 @@ updating_matches mode = record {
       names = λ d lv g. refl;
       status = λ d. refl;
       statuses = its_statuses mode;
-      volumes = λ facts v. record { copies = v.copies; inside = v.inside; some = v.some; notes = v.notes; mark = v.mark; modes = v.modes; history = v.history };
+      volumes = λ facts v. same_volumes (at_rest mode false) (updating mode) refl facts _ _ v;
     });
     out = record {
       blocks = λ lv b p value copy flies. absurd (omega (arith, (of_update p.disk (sector_of 1 p.pp b) value flies).1));
@@ -184,13 +184,7 @@ noting_matches = record {
   good = λ votes are. (records_go_out votes Active (are.writes two_disks ∙ enough Active)).1.reached.good;
   matches = let w = at_rest_in Active in record {
     told = refl;
-    describes = entry_more noting (two Active) None _ (at_rest Active false).facts (Begun asked) (1, refl, refl) (describes w noting None (record {
-      block = λ lv b p. refl;
-      names = λ d lv g. refl;
-      status = λ d. refl;
-      statuses = no_update w noting refl;
-      volumes = λ facts v. record { copies = v.copies; inside = v.inside; some = v.some; notes = v.notes; mark = v.mark; modes = v.modes; history = v.history };
-    }));
+    describes = entry_more noting (two Active) None _ (at_rest Active false).facts (Begun asked) (1, refl, refl) (describes w noting None (fits_still w noting (λ lv b p. refl) (λ d lv g. refl) (λ d. refl) refl refl));
     out = record {
       blocks = λ lv b p value copy flies. absurd (omega (arith, (of_note p.disk (sector_of 1 p.pp b) value flies).place));
       notes = λ d value flies.

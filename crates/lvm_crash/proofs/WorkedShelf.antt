@@ -36,10 +36,12 @@ use Rattle.lvm_crash.specs.Session.{marks_shown, members_there, HasVolumes, HasS
 use Rattle.lvm_crash.specs.Worked.{Shown, sizes, status_shown, note_shown, framed_group, framed_status, media_of}
 use Rattle.lvm_crash.proofs.Worked.{base, behind, stands, volumes, its_marks}
 use Rattle.lvm_crash.proofs.Lasting.{group_stands}
+use Rattle.lvm_num.specs.Disks.{Disks}
+use Rattle.lvm_num.specs.declared.descriptor.Descriptor.{Descriptor}
 
 -- ---- the records are read
 
-group_read : (mode : Mode) → descriptor_of (descriptor_bytes (two mode)) ≡ Ok (two mode)
+pub group_read : (mode : Mode) → descriptor_of (descriptor_bytes (two mode)) ≡ Ok (two mode)
 unfolding is_name version_at member_at members_at volume_at volumes_at partition_at partitions_at maps_at member_count_at descriptor_of
 group_read Active = refl
 group_read Passive = refl
@@ -60,20 +62,20 @@ status_read w stale dirty e f = subst (λ (v : Shown). status_of (status_bytes (
 
 -- ---- slots
 
-one : (k : ℕ) → k < 1 → k ≡ 0
+pub one : (k : ℕ) → k < 1 → k ≡ 0
 one k low = omega arith
 
-not-equal : (a b : ℕ) → (a ≡ b → ⊥) → (a == b) ≡ false
+pub not-equal : (a b : ℕ) → (a ≡ b → ⊥) → (a == b) ≡ false
 not-equal a b differ = grind (arith, nat_tests)
 
 pub no-magic : (kind : Kind) → take 2 zero_sector ≡ kind_magic kind → ⊥
 no-magic kind.Descriptor e = absurd (omega (arith, ap (λ (l : List ℕ). get_or l 0 0) e))
 no-magic kind.Status e = absurd (omega (arith, ap (λ (l : List ℕ). get_or l 0 0) e))
 
-never_before : (epoch seq : ℕ) → stamp_lt (record { epoch = epoch; seq = seq }) (record { epoch = 0; seq = 0 }) ≡ true → ⊥
+pub never_before : (epoch seq : ℕ) → stamp_lt (record { epoch = epoch; seq = seq }) (record { epoch = 0; seq = 0 }) ≡ true → ⊥
 never_before epoch seq h = grind (arith, nat_tests)
 
-none_or : {X : Type 0} (o : Option X) → ((x : X) → o ≡ Some x → ⊥) → o ≡ None
+pub none_or : {X : Type 0} (o : Option X) → ((x : X) → o ≡ Some x → ⊥) → o ≡ None
 none_or None h = refl
 none_or (Some x) h = absurd (h x refl)
 
@@ -94,6 +96,14 @@ room w d = by_first (d == 0) refl
     by_first : (t : Bool) → (d == 0) ≡ t → has_records (image_of sizes (media_of w)) d ≡ either_of 0 1 d
     by_first true is = let e : 0 ≡ d = sym (eqb-true d 0 is) in subst (λ (n : ℕ). has_records (image_of sizes (media_of w)) n ≡ either_of 0 1 n) e refl
     by_first false is = by_second (d == 1) refl is
+
+-- with what the group's volumes are told by as it was
+abbrev pub keeping_volumes : State → State → State
+keeping_volumes old new = record new { is_copy = old.is_copy; is_active = old.is_active; is_passive = old.is_passive }
+
+pub same_volumes : (old new : State) → keeping_volumes old new ≡ new → (facts : List Fact) (group : Descriptor) (members : Disks) → HasVolumes old facts group members → HasVolumes new facts group members
+same_volumes old new same facts group members v = subst (λ (s : State). HasVolumes s facts group members) same
+    (record { copies = v.copies; inside = v.inside; some = v.some; notes = v.notes; mark = v.mark; modes = v.modes; history = v.history })
 
 module _ (w : Shown) where
   abbrev pub image : Image
@@ -258,6 +268,11 @@ module _ (w : Shown) where
     pub status : (d : ℕ) → s.media.status d ≡ on_both (record { stamp = (status_shown w).stamp; value = marks_with w.stale w.dirty }) d
     pub statuses : HasStatuses s (two w.mode) in_flight (contents_of image)
     pub volumes : (facts : List Fact) → HasVolumes (at_rest w.mode w.stale) facts (two w.mode) (members_there (base w.mode) (two w.mode)) → HasVolumes s facts (two w.mode) (members_there (base w.mode) (two w.mode))
+
+  -- one that shows no written block, with no status out and the volumes at rest
+  pub fits_still : (s : State) → ((lv b : ℕ) (p : Pp) → s.media.block lv b p ≡ zero_sector) → ((d lv g : ℕ) → s.media.names d lv g ≡ (w.named && (two_disks d && first_group lv g)))
+      → ((d : ℕ) → s.media.status d ≡ on_both (record { stamp = (status_shown w).stamp; value = marks_with w.stale w.dirty }) d) → s.in_flight ≡ None → keeping_volumes (at_rest w.mode w.stale) s ≡ s → Fits s None
+  fits_still s block names status none same = record { block = block; names = names; status = status; statuses = no_update s none; volumes = λ facts v. same_volumes (at_rest w.mode w.stale) s same facts (two w.mode) _ v }
 
   shows : (s : State) (in_flight : Option (Stamped Status)) → Fits s in_flight → Shows s (two w.mode) in_flight (contents_of image)
   shows s in_flight fits = record {

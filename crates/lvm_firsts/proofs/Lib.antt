@@ -1,5 +1,5 @@
 pub mod Finding
 pub mod Nexts
 pub mod Places
-mod Queue
+pub mod Queue
 mod Rest

@@ -188,3 +188,15 @@ module _ (queue : ℕ → Option Queued) (name : ℕ → Request) (facts : List 
       apart = apart_now (λ a. never r.step step a);
       steps_read = by_place (λ (x : Request) (m : Queued). IsTrue m.step → IsFalse m.write) (λ s. reads) t.steps_read;
     }
+
+-- none is in the queue
+pub told_of_none : (queue : ℕ → Option Queued) (name : ℕ → Request) (facts : List Fact) → ((i : ℕ) (r : Queued) → queue i ≡ Some r → ⊥) → Legal facts → Told queue name facts
+told_of_none queue name facts none legal = record {
+  legal = legal;
+  same = λ i r there asked. absurd (none i r there);
+  began = λ i r there asked. absurd (none i r there);
+  ended = λ i r there asked. absurd (none i r there);
+  untaken = λ i r there asked. absurd (none i r there);
+  apart = λ i j r e there at a b other. absurd (none i r there);
+  steps_read = λ i r there step. absurd (none i r there);
+}

@@ -6,7 +6,7 @@ use Rattle.lvm_num.specs.Geometry.{track_group_of}
 use Rattle.lvm_num.specs.Record.{Stamped, stamp_lt}
 use Rattle.lvm_vol.specs.May.{IsValue}
 use Rattle.lvm_invariant.specs.State.{write_of, Marks, Groups, OpenCopy, StepWrite, Phase, Stage, Queued, State, covers, request_of, is_past, has_landed, is_pinning, Live, Named, Started, told}
-use Rattle.lvm_invariant.specs.Sound.{StaysFresh, Blocks, Tied, Statuses, Holds, Sound, Nearly}
+use Rattle.lvm_invariant.specs.Sound.{StaysFresh, Tied, Statuses, Holds, Sound, Nearly}
 use Rattle.lvm_invariant.proofs.Effects.{DoneEffect, LostEffect, ChangeEffect, GotEffect, JoinEffect}
 use Rattle.lvm_vol.specs.Facts.{Fact, Request}
 use Rattle.lvm_invariant.specs.EndNote.{EndsNote}
@@ -21,17 +21,9 @@ use Rattle.lvm_invariant.specs.Want.{Replaced, Wants, after_wants}
 use Rattle.lvm_invariant.specs.StartNote.{StartsNote}
 use Rattle.lvm_invariant.specs.Clear.{Clears}
 
-abbrev pub FirstKeepsBlocks : Type 0
-FirstKeepsBlocks = (s : State) (i : ℕ) (r : Queued) (c : Pp) → MayStart s i r c → Sound s → Blocks (started_first s i r c)
-
-abbrev pub RestagingKeepsBlocks : Type 0
-RestagingKeepsBlocks = (s : State) (i : ℕ) (r : Queued) (c : Pp) (stage : Stage) (block : ℕ → ℕ → Pp → List ℕ) → Restages s i r c stage block → Sound s → Blocks (restaged s i r c stage block)
-
-abbrev pub DoneKeepsBlocks : Type 0
-DoneKeepsBlocks = (s : State) (i : ℕ) (r : Queued) (facts : List Fact) → DoneEffect s i r facts → Sound s → Blocks (landed s i r facts)
-
-abbrev pub LostKeepsBlocks : Type 0
-LostKeepsBlocks = (s : State) (i : ℕ) (r : Queued) (facts : List Fact) → LostEffect s i r facts → Sound s → Blocks (landed s i r facts)
+-- with the blocks of copies, and with the modes of volumes, as they were
+abbrev pub keeping_blocks : State → State → State
+keeping_blocks old new = record new { media = record new.media { block = old.media.block }; is_active = old.is_active; is_passive = old.is_passive }
 
 -- Seen from the blocks, nothing gets worse: no write starts or ends its life, nothing on the copies changes, no copy becomes live.
 pub record Calmer (old new : State) : Type 0 where
@@ -39,17 +31,16 @@ pub record Calmer (old new : State) : Type 0 where
   pub started_still : (i : ℕ) (r : Queued) → Started old i r → Started new i r
   pub may : (lv b : ℕ) → (told new lv b).values ≡ (told old lv b).values
   pub loose : (lv b : ℕ) → IsTrue (told old lv b).loose → IsTrue (told new lv b).loose
-  pub block : (lv b : ℕ) (c : Pp) → new.media.block lv b c ≡ old.media.block lv b c
+  pub same : keeping_blocks old new ≡ new
   pub live : (lv b : ℕ) (c : Pp) → Live new lv b c → Live old lv b c
-  pub active : (lv : ℕ) → new.is_active lv ≡ old.is_active lv
-  pub passive : (lv : ℕ) → new.is_passive lv ≡ old.is_passive lv
   pub dirty : (lv : ℕ) → IsTrue (old.committed.value.dirty lv) → IsTrue (new.committed.value.dirty lv)
   pub missing_still : (d : ℕ) → IsTrue (old.missing d) → IsTrue (new.missing d)
   pub named_missing : (d lv g : ℕ) → IsTrue (old.missing d) → Named old d lv g → Named new d lv g
   pub named_started : (i lv b d : ℕ) (r : Queued) → Started old i r → IsTrue (covers r lv b) → IsTrue (old.is_active lv) → IsTrue r.several → Named old d lv (track_group_of b) → Named new d lv (track_group_of b)
 
-abbrev pub CalmerKeepsBlocks : Type 0
-CalmerKeepsBlocks = (old new : State) → Calmer old new → Blocks old → Blocks new
+-- the old state, with the requests, the history and the cache as they are now
+abbrev pub with_requests : State → State → State
+with_requests old new = record old { queue = new.queue; facts = new.facts; name = new.name; cache = new.cache }
 
 -- a request and what an event makes of it: it asks the same, and at most goes on or lands
 pub record Alike (r n : Queued) : Type 0 where
@@ -74,16 +65,16 @@ pub record Seen (s : State) (i : ℕ) (r : Queued) (lv b : ℕ) (value : List �
   pub allowed : IsValue (told s lv b) value
   pub equal : IsTrue (told s lv b).loose ⊎ ((e : Pp) → Live s lv b e → s.media.block lv b e ≡ value)
 
+-- with the names of requests, and with the volumes, as they were
+abbrev pub keeping_volumes : State → State → State
+keeping_volumes old new = record new { name = old.name; is_active = old.is_active; is_passive = old.is_passive; is_copy = old.is_copy }
+
 -- what an event leaves of the requests and of what reads see
 pub record Frame (old new : State) : Type 0 where
   pub from : (i : ℕ) (n : Queued) → new.queue i ≡ Some n → (r : Queued) × (old.queue i ≡ Some r) × Alike r n
   pub writes : (i : ℕ) (n : Queued) → new.queue i ≡ Some n → IsTrue n.write → IsFalse (has_landed n.phase) → (lv b : ℕ) → write_of b (told new lv b) (request_of new i) ≡ write_of b (told old lv b) (request_of old i)
-  pub run : new.name ≡ old.name
+  pub same : keeping_volumes old new ≡ new
   pub modes : (lv b : ℕ) → (told new lv b).mode ≡ (told old lv b).mode
-  pub active : (lv : ℕ) → new.is_active lv ≡ old.is_active lv
-  pub passive : (lv : ℕ) → new.is_passive lv ≡ old.is_passive lv
-  pub dirty : (lv : ℕ) → IsTrue (old.committed.value.dirty lv) → IsTrue (new.committed.value.dirty lv)
-  pub copies : (lv b : ℕ) → new.is_copy lv b ≡ old.is_copy lv b
   pub tight : (lv b : ℕ) (c : Pp) → IsTrue (new.is_copy lv b c) → IsTrue (new.is_active lv) ⊎ IsTrue (new.is_passive lv) → IsFalse (told new lv b).loose
   pub seen : (i lv b : ℕ) (r n : Queued) (v : List ℕ) → Seen old i r lv b v → new.queue i ≡ Some n → IsTrue (is_past n.phase)
       → IsValue (told new lv b) v × (IsTrue (told new lv b).loose ⊎ ((e : Pp) → Live new lv b e → new.media.block lv b e ≡ v))
@@ -98,18 +89,15 @@ abbrev pub FrameKeeps : Type 0
 FrameKeeps = (old new : State) → Frame old new → Nearly old → Tied new × Holds new
     × ((i : ℕ) (r : Queued) → new.queue i ≡ Some r → IsTrue r.write → IsTrue (is_pinning r.phase) → IsTrue (new.is_active r.lv) → IsTrue r.several → IsTrue (new.cache r.lv (track_group_of r.first)))
 
+-- with the requests, the history, the volumes, the blocks of copies and the cache as they were
+abbrev pub keeping_requests : State → State → State
+keeping_requests old new = record (keeping_volumes old new) { media = record new.media { block = old.media.block }; queue = old.queue; facts = old.facts; cache = old.cache }
+
 -- Nothing changes of the requests, of the history and on the copies, and no copy becomes live.
 pub record Quiet (old new : State) : Type 0 where
-  pub queue : (i : ℕ) → new.queue i ≡ old.queue i
-  pub known_same : (lv b : ℕ) → told new lv b ≡ told old lv b
-  pub run : new.name ≡ old.name
-  pub active : (lv : ℕ) → new.is_active lv ≡ old.is_active lv
-  pub passive : (lv : ℕ) → new.is_passive lv ≡ old.is_passive lv
+  pub same : keeping_requests old new ≡ new
   pub dirty : (lv : ℕ) → IsTrue (old.committed.value.dirty lv) → IsTrue (new.committed.value.dirty lv)
-  pub copies : (lv b : ℕ) → new.is_copy lv b ≡ old.is_copy lv b
-  pub block : (lv b : ℕ) (c : Pp) → new.media.block lv b c ≡ old.media.block lv b c
   pub live : (lv b : ℕ) (c : Pp) → Live new lv b c → Live old lv b c
-  pub cache : (lv g : ℕ) → new.cache lv g ≡ old.cache lv g
   pub missing_still : (d : ℕ) → IsTrue (old.missing d) → IsTrue (new.missing d)
   pub named_missing : (d lv g : ℕ) → IsTrue (old.missing d) → Named old d lv g → Named new d lv g
   pub named_pinned : (d lv g : ℕ) → IsTrue (old.cache lv g) → Named old d lv g → Named new d lv g
@@ -118,9 +106,6 @@ pub record Quiet (old new : State) : Type 0 where
 pub record Rest (s : State) : Type 0 where
   pub statuses : Statuses s
   pub home : (d lv g : ℕ) → IsFalse (s.missing d) → s.media.names d lv g ≡ s.home_note d lv g
-
-abbrev pub QuietKeeps : Type 0
-QuietKeeps = (old new : State) → Quiet old new → Nearly old → Rest new → Nearly new
 
 abbrev pub WantsKeep : Type 0
 WantsKeep = (s : State) (wanted : Marks) (missing : ℕ → Bool) (open_copy : Option OpenCopy) → Wants s wanted missing open_copy → Nearly s → Sound (after_wants s wanted missing open_copy)

@@ -4,11 +4,12 @@ use Rattle.std.specs.Prelude.{IsTrue, IsFalse}
 use Rattle.lvm_num.specs.declared.place.Pp.{Pp}
 use Rattle.lvm_num.specs.Geometry.{track_group_of}
 use Rattle.lvm_invariant.proofs.Small.{IsIn, never, false_by, and_left_false}
-use Rattle.lvm_invariant.specs.State.{Marks, OpenCopy, StepWrite, Going, Queued, State, covers, stale_in, is_settled_stale, HasPassed, Live, Named, Started, told}
+use Rattle.lvm_invariant.specs.State.{Marks, OpenCopy, StepWrite, Going, Queued, State, covers, stale_in, is_settled_stale, HasPassed, Live, Started, told}
 use Rattle.lvm_invariant.specs.Sound.{Complete, Statuses, MayDiffer, Agree, Settled, Blocks, Holds, Sound}
+use Rattle.lvm_invariant.proofs.SoundLemmas.{complete_same, live_same, equal_same, recorded_same, each_same}
 use Rattle.lvm_invariant.proofs.Claims.{Quiet, CopyWriteKeepsCore, OpenKeepsCore, ClearKeepsCore}
-use Rattle.lvm_invariant.proofs.Requests.{decided, alone, past_of}
-use Rattle.lvm_invariant.proofs.Quieting.{nearly, one_req, quiet_nearly}
+use Rattle.lvm_invariant.proofs.Requests.{decided, alone, past_of, one_req}
+use Rattle.lvm_invariant.proofs.Quieting.{quiet_of, quiet_sound}
 use Rattle.lvm_invariant.specs.CopyWrite.{Passes, CopyWrites}
 use Rattle.lvm_invariant.specs.Updates.{with_block}
 use Rattle.lvm_invariant.specs.Open.{Opens}
@@ -70,9 +71,6 @@ module _ (s : State) (i : ℕ) (r : Queued) (value : ℕ → List ℕ) (target :
       (λ (h : (c ≡ target) × IsTrue (covers r lv b) × (block lv b c ≡ value b)). h.2)
       (live_was lv b c live)
 
-  named_now : (d lv g : ℕ) → Named s d lv g → Named new d lv g
-  named_now d lv g named = record { home = named.home; flying = named.flying }
-
   allowed_on : (lv b : ℕ) → Settled s lv b → IsTrue (covers r lv b) → (c : Pp) → Live new lv b c → IsIn (told s lv b).values (block lv b c)
   allowed_on lv b settled over c live = ⊎_elim
       (λ (l : Live s lv b c). ⊎_elim
@@ -101,15 +99,9 @@ module _ (s : State) (i : ℕ) (r : Queued) (value : ℕ → List ℕ) (target :
         (decided (covers r lv b));
     equal = ⊎_elim
         (λ (over : IsTrue (covers r lv b)). equal_on lv b over (s.is_active lv) refl)
-        (λ (off : IsFalse (covers r lv b)). equal_off off (s.is_active lv) settled.equal)
+        (λ (off : IsFalse (covers r lv b)). equal_same s new refl lv b (λ h. h) (λ c live. (off_live lv b off c live, off_block lv b off c)) (s.is_active lv) settled.equal)
         (decided (covers r lv b));
   }
-    where
-      equal_off : IsFalse (covers r lv b) → (active : Bool) → Agree s lv b ⊎ MayDiffer s lv b active → Agree new lv b ⊎ MayDiffer new lv b active
-      equal_off off active (inl agree) = inl (agree.0, λ c live. off_block lv b off c ∙ agree.1 c (off_live lv b off c live))
-      equal_off off true (inr differ) = inr (λ c live. let d = differ c (off_live lv b off c live) in (d.0, named_now c.disk lv (track_group_of b) d.1))
-      equal_off off false (inr (inl loose)) = inr (inl loose)
-      equal_off off false (inr (inr d)) = inr (inr (record { passive = d.passive; missing = λ e live. d.missing e (off_live lv b off e live); dirty = d.dirty }))
 
   was_started : (j : ℕ) (e : Queued) → Started new j e → Started s j e
   was_started j e started = record { there = started.there; write = started.write; going = started.going }
@@ -119,10 +111,7 @@ module _ (s : State) (i : ℕ) (r : Queued) (value : ℕ → List ℕ) (target :
 
   copy_blocks : Blocks new
   copy_blocks = record {
-    each = λ lv b. ⊎_elim
-        (λ (settled : Settled s lv b). inl (settled_now lv b settled))
-        (λ (by : (j : ℕ) × (e : Queued) × Started s j e × IsTrue (covers e lv b)). inr (by.0, by.1, record { there = by.2.there; write = by.2.write; going = by.2.going }, by.3))
-        (sound.blocks.each lv b);
+    each = each_same s new (λ j e started. record { there = started.there; write = started.write; going = started.going }) settled_now sound.blocks;
     busy = λ j lv b e started over.
         let was = was_started j e started in
         let busy = sound.blocks.busy j lv b e was over in
@@ -134,8 +123,7 @@ module _ (s : State) (i : ℕ) (r : Queued) (value : ℕ → List ℕ) (target :
           well = λ c at. off_block lv b off c ∙ busy.well c at;
         };
     recorded = λ j lv b e started over.
-        let recorded = sound.blocks.recorded j lv b e (was_started j e started) over in
-        record { named = λ on several c x at. named_now c.disk lv (track_group_of b) (recorded.named on several c x at); dirty = recorded.dirty; one = recorded.one; single = recorded.single };
+        recorded_same s new refl lv b e (sound.blocks.recorded j lv b e (was_started j e started) over);
   }
 
   -- a live copy of the block of a request
@@ -234,26 +222,12 @@ module _ (s : State) (o : OpenCopy) (step : Opens s o) (sound : Sound s) where
 
   open_core : Sound opened
   open_core =
-      let quiet : Quiet s opened = record {
-        queue = λ i. refl;
-        known_same = λ lv b. refl;
-        run = refl;
-        active = λ lv. refl;
-        passive = λ lv. refl;
-        dirty = λ lv h. h;
-        copies = λ lv b. refl;
-        block = λ lv b c. refl;
-        live = λ lv b c live. record {
-          copy = live.copy;
-          counts = ⊎_elim (λ (f : IsFalse (is_settled_stale s c)). inl f)
-              (λ (k : HasPassed opened lv (track_group_of b) c). never (o.passed lv (track_group_of b)) (ap (λ (q : OpenCopy). q.passed lv (track_group_of b)) (the_copy o k.copy k.is_open) ∙ k.passed) (step.passed lv (track_group_of b))) live.counts;
-        };
-        cache = λ lv g. refl;
-        missing_still = λ d h. h;
-        named_missing = λ d lv g gone named. record { home = named.home; flying = named.flying };
-        named_pinned = λ d lv g cached named. record { home = named.home; flying = named.flying };
-      } in
-      let n = quiet_nearly s opened quiet (nearly s sound) (record {
+      let quiet : Quiet s opened = quiet_of s opened refl refl (λ lv b c live. record {
+        copy = live.copy;
+        counts = ⊎_elim (λ (f : IsFalse (is_settled_stale s c)). inl f)
+            (λ (k : HasPassed opened lv (track_group_of b) c). never (o.passed lv (track_group_of b)) (ap (λ (q : OpenCopy). q.passed lv (track_group_of b)) (the_copy o k.copy k.is_open) ∙ k.passed) (step.passed lv (track_group_of b))) live.counts;
+      }) (λ lv h. h) (λ d h. h) in
+      quiet_sound s opened quiet sound (record {
         home = sound.notes.home;
         statuses = record {
           stale_flies = λ c u f stale fresh. ⊎_elim (λ (w : IsTrue (s.wanted.stale c)). inl w) (λ (k : Complete s c). none_open k.copy k.is_open) (sound.statuses.stale_flies c u f stale fresh);
@@ -266,8 +240,7 @@ module _ (s : State) (o : OpenCopy) (step : Opens s o) (sound : Sound s) where
           dirty_is_wanted = sound.statuses.dirty_is_wanted;
           dirty_flying_is_wanted = sound.statuses.dirty_flying_is_wanted;
         };
-      }) in
-      record { blocks = n.blocks; tied = n.tied; statuses = n.statuses; behind = record { left_behind = sound.behind.left_behind }; notes = n.notes; holds = n.holds }
+      }) (record { left_behind = sound.behind.left_behind })
 
 pub open_keeps : OpenKeepsCore
 open_keeps s o step sound = open_core s o step sound
@@ -278,46 +251,29 @@ module _ (s : State) (wanted : Marks) (c : Pp) (step : Clears s wanted c) (sound
   abbrev cleared : State
   cleared = record s { wanted = wanted }
 
-  complete_then : (e : Pp) → Complete s e → Complete cleared e
-  complete_then e k = record { copy = k.copy; is_open = k.is_open; target = k.target; passed = k.passed }
-
   complete_if : (e : Pp) → IsTrue (s.wanted.stale e) → IsFalse (wanted.stale e) → Complete cleared e
   complete_if e w m = ⊎_elim
       (λ (h : IsTrue (wanted.stale e)). never (wanted.stale e) h m)
-      (λ (is : e ≡ c). complete_then e (subst (λ (p : Pp). Complete s p) (sym is) step.complete))
+      (λ (is : e ≡ c). complete_same s cleared refl e (subst (λ (p : Pp). Complete s p) (sym is) step.complete))
       (step.still e w)
 
   clear_core : Sound cleared
   clear_core =
-      let quiet : Quiet s cleared = record {
-        queue = λ i. refl;
-        known_same = λ lv b. refl;
-        run = refl;
-        active = λ lv. refl;
-        passive = λ lv. refl;
-        dirty = λ lv h. h;
-        copies = λ lv b. refl;
-        block = λ lv b e. refl;
-        live = λ lv b e live. record { copy = live.copy; counts = ⊎_elim (λ (f : IsFalse (is_settled_stale s e)). inl f) (λ (k : HasPassed cleared lv (track_group_of b) e). inr (record { copy = k.copy; is_open = k.is_open; target = k.target; passed = k.passed })) live.counts };
-        cache = λ lv g. refl;
-        missing_still = λ d h. h;
-        named_missing = λ d lv g gone named. record { home = named.home; flying = named.flying };
-        named_pinned = λ d lv g cached named. record { home = named.home; flying = named.flying };
-      } in
-      let n = quiet_nearly s cleared quiet (nearly s sound) (record {
+      let quiet : Quiet s cleared = quiet_of s cleared refl refl (live_same s cleared refl) (λ lv h. h) (λ d h. h) in
+      quiet_sound s cleared quiet sound (record {
         home = sound.notes.home;
         statuses = record {
           stale_flies = λ e u f stale fresh. ⊎_elim
-              (λ (w : IsTrue (s.wanted.stale e)). ⊎_elim (λ (h : IsTrue (wanted.stale e)). inl h) (λ (is : e ≡ c). inr (complete_then e (subst (λ (p : Pp). Complete s p) (sym is) step.complete))) (step.still e w))
-              (λ (k : Complete s e). inr (complete_then e k))
+              (λ (w : IsTrue (s.wanted.stale e)). ⊎_elim (λ (h : IsTrue (wanted.stale e)). inl h) (λ (is : e ≡ c). inr (complete_same s cleared refl e (subst (λ (p : Pp). Complete s p) (sym is) step.complete))) (step.still e w))
+              (λ (k : Complete s e). inr (complete_same s cleared refl e k))
               (sound.statuses.stale_flies e u f stale fresh);
           stale_is_wanted = λ e stale m. ⊎_elim
               (λ (w : IsTrue (s.wanted.stale e)). complete_if e w m)
-              (λ (f : IsFalse (s.wanted.stale e)). complete_then e (sound.statuses.stale_is_wanted e stale f))
+              (λ (f : IsFalse (s.wanted.stale e)). complete_same s cleared refl e (sound.statuses.stale_is_wanted e stale f))
               (decided (s.wanted.stale e));
           flying_is_wanted = λ e u f stale m. ⊎_elim
               (λ (w : IsTrue (s.wanted.stale e)). complete_if e w m)
-              (λ (h : IsFalse (s.wanted.stale e)). complete_then e (sound.statuses.flying_is_wanted e u f stale h))
+              (λ (h : IsFalse (s.wanted.stale e)). complete_same s cleared refl e (sound.statuses.flying_is_wanted e u f stale h))
               (decided (s.wanted.stale e));
           kept = λ lv b e copy. let k = sound.statuses.kept lv b e copy in (k.0, k.1, record { committed = k.2.committed; flying = k.2.flying; wanted = false_by (wanted.stale k.0) (s.wanted.stale k.0) (step.added k.0) k.2.wanted });
           open_there = sound.statuses.open_there;
@@ -329,8 +285,7 @@ module _ (s : State) (wanted : Marks) (c : Pp) (step : Clears s wanted c) (sound
           dirty_is_wanted = λ lv h. step.still_dirty lv (sound.statuses.dirty_is_wanted lv h);
           dirty_flying_is_wanted = λ lv u f h. step.still_dirty lv (sound.statuses.dirty_flying_is_wanted lv u f h);
         };
-      }) in
-      record { blocks = n.blocks; tied = n.tied; statuses = n.statuses; behind = record { left_behind = step.behind }; notes = n.notes; holds = n.holds }
+      }) (record { left_behind = step.behind })
 
 pub clear_keeps : ClearKeepsCore
 clear_keeps s wanted c step sound = clear_core s wanted c step sound

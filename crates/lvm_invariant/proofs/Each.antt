@@ -22,6 +22,7 @@ use Rattle.lvm_invariant.specs.LandDone.{done, LandDoneKeeps}
 use Rattle.lvm_invariant.specs.StartWrite.{going, StartWriteKeeps}
 use Rattle.lvm_invariant.specs.Commit.{CommitKeeps}
 use Rattle.lvm_invariant.specs.Admit.{admitted, AdmitKeeps}
+use Rattle.lvm_invariant.specs.Found.{Votes}
 use Rattle.lvm_invariant.specs.Told.{Told}
 use Rattle.lvm_invariant.specs.EndStep.{EndStepKeeps}
 use Rattle.lvm_invariant.specs.LandReadFailed.{LandReadFailedKeeps}
@@ -48,8 +49,9 @@ use Rattle.lvm_invariant.specs.Clear.{ClearKeeps}
 use Rattle.lvm_invariant.proofs.Small.{never}
 use Rattle.lvm_invariant.proofs.Quieting.{nearly}
 use Rattle.lvm_invariant.proofs.Requests.{decided}
-use Rattle.lvm_invariant.proofs.Finding.{status_end_keeps_found, begin_keeps_found, commit_keeps_found, update_end_keeps_found}
+use Rattle.lvm_invariant.proofs.Finding.{status_end_keeps_found, begin_keeps_found, commit_keeps_found, update_end_keeps_found, keeping_found, found_same}
 use Rattle.lvm_invariant.proofs.CrashLemmas.{core_kept}
+use Rattle.lvm_invariant.specs.Sound.{Sound}
 
 newest_place : (s : State) (i : ℕ) → ((j : ℕ) (e : Queued) → s.queue j ≡ Some e → j < i) → (j : ℕ) (e : Queued) → s.queue j ≡ Some e → IsFalse (j == i)
 newest_place s i newest j e at = ⊎_elim (λ (same : IsTrue (j == i)). absurd (not_itself (subst (λ (k : ℕ). k < i) (eqb-true _ _ same) (newest j e at)))) (λ (f : IsFalse (j == i)). f) (decided (j == i))
@@ -57,17 +59,25 @@ newest_place s i newest j e at = ⊎_elim (λ (same : IsTrue (j == i)). absurd (
     not_itself : {k : ℕ} → k < k → ⊥
     not_itself h = omega (arith, h)
 
+-- an event that changes neither what quorums find nor what is told
+good_of : {votes : Votes} (old new : State) → record (keeping_found old new) { queue = old.queue; name = old.name; facts = old.facts } ≡ new → Sound new → Good votes old → Good votes new
+good_of {votes} old new same sound good = record {
+  sound = sound;
+  found = found_same old new (subst (λ (s : State). keeping_found old s ≡ s) same refl) good.found;
+  told = subst (λ (s : State). Told s.queue s.name s.facts) same good.told;
+}
+
 pub submit_keeps : SubmitKeeps
 submit_keeps votes s i q r step good = record {
   sound = submit_core s i q r (s.facts ++ Begun q ∷ []) (begun_effect s i q r good.sound good.told step) good.sound;
-  found = let f = good.found in record { set = f.set; enough = f.enough; have = f.have; only = f.only; newer = f.newer };
+  found = found_same _ _ refl good.found;
   told = told_begun s.queue s.name s.facts good.told i q r (newest_place s i step.newest) step.request step.same step.next (ap has_landed step.held);
 }
 
 pub enter_step_keeps : EnterStepKeeps
 enter_step_keeps votes s i q r step good = record {
   sound = submit_core s i q r s.facts (entered_effect s i q r step) good.sound;
-  found = let f = good.found in record { set = f.set; enough = f.enough; have = f.have; only = f.only; newer = f.newer };
+  found = found_same _ _ refl good.found;
   told = told_entered s.queue s.name s.facts good.told i q r (newest_place s i step.newest) step.step step.reads;
 }
 
@@ -80,7 +90,7 @@ early_unlanded r (inr (inr (inr e))) = past_unlanded r.phase e.1
 pub admit_keeps : AdmitKeeps
 admit_keeps votes s i r phase several targets step good = record {
   sound = admit_core s i r phase several targets step good.sound;
-  found = let f = good.found in record { set = f.set; enough = f.enough; have = f.have; only = f.only; newer = f.newer };
+  found = found_same _ _ refl good.found;
   told = told_change s.queue s.name s.facts good.told i r step.there (admitted r phase several targets) (record { lv = refl; over = λ lv b. refl; write = refl; value = λ b. refl; step = refl })
       (λ asked. ⊎_elim (λ (e : phase ≡ WantEntry). ap has_landed e) (λ (e : (phase ≡ Ready) × (IsTrue r.write → IsTrue (s.is_active r.lv) → IsTrue several → ⊥)). ap has_landed e.0) step.phase_now ∙ sym (early_unlanded r step.early));
 }
@@ -97,7 +107,7 @@ pin_keeps votes s i r cache step good = record {
       (silent_effect s i r (record r { phase = Ready }) cache step.there (λ write e. wait_not_going r.phase step.waits e) (λ write e. ready_not_going Ready refl e) (λ value h. inl h)
       (λ write pins on several. inr step.has) step.keeps)
       (pin_alike r step.waits) good.sound;
-  found = let f = good.found in record { set = f.set; enough = f.enough; have = f.have; only = f.only; newer = f.newer };
+  found = found_same _ _ refl good.found;
   told = told_change s.queue s.name s.facts good.told i r step.there (record r { phase = Ready }) (record { lv = refl; over = λ lv b. refl; write = refl; value = λ b. refl; step = refl }) (λ asked. sym (ap has_landed step.waits));
 }
   where
@@ -121,21 +131,21 @@ read_keeps votes s i r c stage got step good = record {
       (step.gets value h))
       (λ write pins on several. never r.write write step.read) (λ j e at write pins on several cached. cached))
       (read_alike r c stage got step.past step.was) good.sound;
-  found = let f = good.found in record { set = f.set; enough = f.enough; have = f.have; only = f.only; newer = f.newer };
+  found = found_same _ _ refl good.found;
   told = told_change s.queue s.name s.facts good.told i r step.there (reading r c stage got) (record { lv = refl; over = λ lv b. refl; write = refl; value = λ b. refl; step = refl }) (λ asked. sym (past_unlanded r.phase step.past));
 }
 
 pub start_write_keeps : StartWriteKeeps
 start_write_keeps votes s i r c step good = record {
   sound = first_core s i r c step good.sound;
-  found = let f = good.found in record { set = f.set; enough = f.enough; have = f.have; only = f.only; newer = f.newer };
+  found = found_same _ _ refl good.found;
   told = told_change s.queue s.name s.facts good.told i r step.there (going r c) (record { lv = refl; over = λ lv b. refl; write = refl; value = λ b. refl; step = refl }) (λ asked. sym (ap has_landed step.ready));
 }
 
 pub transfer_keeps : TransferKeeps
 transfer_keeps votes s i r c stage block step good = record {
   sound = restaging_core s i r c stage block step good.sound;
-  found = let f = good.found in record { set = f.set; enough = f.enough; have = f.have; only = f.only; newer = f.newer };
+  found = found_same _ _ refl good.found;
   told = told_change s.queue s.name s.facts good.told i r step.started.there (record r { targets = staged r.targets c stage }) (record { lv = refl; over = λ lv b. refl; write = refl; value = λ b. refl; step = refl }) (λ asked. refl);
 }
 
@@ -145,7 +155,7 @@ land_done_keeps votes s i r step good =
     let asked = write_asks s good.told i r start.there start.write in
     record {
       sound = done_core s i r (s.facts ++ HasLanded (s.name i) outcome.Done true [] ∷ []) (done_effect s i r good.sound good.told step) good.sound;
-      found = let f = good.found in record { set = f.set; enough = f.enough; have = f.have; only = f.only; newer = f.newer };
+      found = found_same _ _ refl good.found;
       told = told_landed s.queue s.name s.facts good.told i r start.there asked (ap has_landed start.going) outcome.Done true [] ((good.told.same i r start.there asked).write ∙ start.write) tt;
     }
 
@@ -155,14 +165,14 @@ land_lost_keeps votes s i r step good =
     let asked = write_asks s good.told i r start.there start.write in
     record {
       sound = lost_core s i r (s.facts ++ HasLanded (s.name i) outcome.Lost true [] ∷ []) (lost_effect s i r good.sound good.told step) good.sound;
-      found = let f = good.found in record { set = f.set; enough = f.enough; have = f.have; only = f.only; newer = f.newer };
+      found = found_same _ _ refl good.found;
       told = told_landed s.queue s.name s.facts good.told i r start.there asked (ap has_landed start.going) outcome.Lost true [] ((good.told.same i r start.there asked).write ∙ start.write) tt;
     }
 
 pub land_got_keeps : LandGotKeeps
 land_got_keeps votes s i r got step good = record {
   sound = got_core s i r step.value (s.facts ++ HasLanded (s.name i) outcome.Got true got ∷ []) (got_effect s i r got good.sound good.told step) good.sound;
-  found = let f = good.found in record { set = f.set; enough = f.enough; have = f.have; only = f.only; newer = f.newer };
+  found = found_same _ _ refl good.found;
   told = told_landed s.queue s.name s.facts good.told i r step.there step.request (past_unlanded r.phase step.past) outcome.Got true got ((good.told.same i r step.there step.request).write ∙ step.read) (got_may s i r got good.sound good.told step);
 }
 
@@ -171,7 +181,7 @@ land_read_failed_keeps votes s i r step good = record {
   sound = plain_keeps s i r (land r) (s.facts ++ HasLanded (s.name i) outcome.ReadFailed true [] ∷ []) s.cache
       (quiet_effect s i r outcome.ReadFailed true refl good.sound good.told step.there step.request (λ write e. never r.write write step.read))
       (land_alike r (past_unlanded r.phase step.past)) good.sound;
-  found = let f = good.found in record { set = f.set; enough = f.enough; have = f.have; only = f.only; newer = f.newer };
+  found = found_same _ _ refl good.found;
   told = told_landed s.queue s.name s.facts good.told i r step.there step.request (past_unlanded r.phase step.past) outcome.ReadFailed true [] ((good.told.same i r step.there step.request).write ∙ step.read) tt;
 }
 
@@ -180,7 +190,7 @@ land_no_fresh_keeps votes s i r step good = record {
   sound = plain_keeps s i r (land r) (s.facts ++ HasLanded (s.name i) outcome.NoFresh false [] ∷ []) s.cache
       (quiet_effect s i r outcome.NoFresh false refl good.sound good.told step.there step.request (λ write e. unstarted r.phase e step.early))
       (land_alike r unlanded) good.sound;
-  found = let f = good.found in record { set = f.set; enough = f.enough; have = f.have; only = f.only; newer = f.newer };
+  found = found_same _ _ refl good.found;
   told = told_landed s.queue s.name s.facts good.told i r step.there step.request unlanded outcome.NoFresh false [] refl tt;
 }
   where
@@ -207,7 +217,7 @@ end_step_keeps votes s i r step good = record {
       (silent_effect s i r (land r) s.cache step.there (λ write e. never r.write write reads) (λ write e. never r.write write reads) (λ value h. inl h)
       (λ write pins on several. never r.write write reads) (λ j e at write pins on several cached. cached))
       (land_alike r step.unlanded) good.sound;
-  found = let f = good.found in record { set = f.set; enough = f.enough; have = f.have; only = f.only; newer = f.newer };
+  found = found_same _ _ refl good.found;
   told = told_change s.queue s.name s.facts good.told i r step.there (land r) (record { lv = refl; over = λ lv b. refl; write = refl; value = λ b. refl; step = refl }) (λ asked. never r.step step.step asked);
 }
   where
@@ -215,11 +225,7 @@ end_step_keeps votes s i r step good = record {
     reads = good.told.steps_read i r step.there step.step
 
 pub want_keeps : WantKeeps
-want_keeps votes s wanted missing open_copy step good = record {
-  sound = wants_core s wanted missing open_copy step (nearly s good.sound);
-  found = let f = good.found in record { set = f.set; enough = f.enough; have = f.have; only = f.only; newer = f.newer };
-  told = good.told;
-}
+want_keeps votes s wanted missing open_copy step good = good_of _ _ refl (wants_core s wanted missing open_copy step (nearly s good.sound)) good
 
 pub begin_update_keeps : BeginUpdateKeeps
 begin_update_keeps votes s u step good = record { sound = begin_core s u step.none step.value good.sound; found = begin_keeps_found votes s u step.none step.later good.found; told = good.told }
@@ -238,44 +244,24 @@ pub end_update_keeps : EndUpdateKeeps
 end_update_keeps votes s step good = record { sound = update_end_core s step.committed good.sound; found = update_end_keeps_found votes s step.committed good.found; told = good.told }
 
 pub start_note_keeps : StartNoteKeeps
-start_note_keeps votes s flying step good = record {
-  sound = start_note_core s flying step good.sound;
-  found = let f = good.found in record { set = f.set; enough = f.enough; have = f.have; only = f.only; newer = f.newer };
-  told = good.told;
-}
+start_note_keeps votes s flying step good = good_of _ _ refl (start_note_core s flying step good.sound) good
 
 pub end_note_keeps : EndNoteKeeps
-end_note_keeps votes s d names home flying step good = record {
-  sound = end_note_core s d names home flying step good.sound;
-  found = let f = good.found in record { set = f.set; enough = f.enough; have = f.have; only = f.only; newer = f.newer };
-  told = good.told;
-}
+end_note_keeps votes s d names home flying step good = good_of _ _ refl (end_note_core s d names home flying step good.sound) good
 
 pub open_keeps : OpenKeeps
-open_keeps votes s o step good = record {
-  sound = open_core s o step good.sound;
-  found = let f = good.found in record { set = f.set; enough = f.enough; have = f.have; only = f.only; newer = f.newer };
-  told = good.told;
-}
+open_keeps votes s o step good = good_of _ _ refl (open_core s o step good.sound) good
 
 pub copy_write_keeps : CopyWriteKeeps
-copy_write_keeps votes s i r value target open_copy step_write block step good = record {
-  sound = copy_write_core s i r value target open_copy step_write block step good.sound;
-  found = let f = good.found in record { set = f.set; enough = f.enough; have = f.have; only = f.only; newer = f.newer };
-  told = good.told;
-}
+copy_write_keeps votes s i r value target open_copy step_write block step good = good_of _ _ refl (copy_write_core s i r value target open_copy step_write block step good.sound) good
 
 pub clear_keeps : ClearKeeps
-clear_keeps votes s wanted c step good = record {
-  sound = clear_core s wanted c step good.sound;
-  found = let f = good.found in record { set = f.set; enough = f.enough; have = f.have; only = f.only; newer = f.newer };
-  told = good.told;
-}
+clear_keeps votes s wanted c step good = good_of _ _ refl (clear_core s wanted c step good.sound) good
 
 pub take_keeps : TakeKeeps
 take_keeps votes s i r step good = record {
   sound = taken_core s i r step good.sound (if r.step then s.facts else s.facts ++ Taken (s.name i) ∷ []) (λ lv b. by_test lv b r.step);
-  found = let f = good.found in record { set = f.set; enough = f.enough; have = f.have; only = f.only; newer = f.newer };
+  found = found_same _ _ refl good.found;
   told = ⊎_elim
       (λ (is_step : IsTrue r.step). subst (λ (b : Bool). Told (without s.queue i) s.name (if b then s.facts else s.facts ++ Taken (s.name i) ∷ [])) (sym is_step) (told_left s.queue s.name s.facts good.told i r step.there))
       (λ (asked : IsFalse r.step). subst (λ (b : Bool). Told (without s.queue i) s.name (if b then s.facts else s.facts ++ Taken (s.name i) ∷ [])) (sym asked) (told_taken s.queue s.name s.facts good.told i r step.there asked step.landed))
@@ -289,7 +275,7 @@ take_keeps votes s i r step good = record {
 pub take_earlier_keeps : TakeEarlierKeeps
 take_earlier_keeps votes s q step good = record {
   sound = told_core s good.sound (s.facts ++ Taken q ∷ []) (λ lv b. known-push s.facts (Taken q) (Lv lv) b);
-  found = let f = good.found in record { set = f.set; enough = f.enough; have = f.have; only = f.only; newer = f.newer };
+  found = found_same _ _ refl good.found;
   told = told_earlier s.queue s.name s.facts good.told q step.once step.other;
 }
 

@@ -18,6 +18,7 @@ use Rattle.lvm_invariant.specs.Caused.{HadNoCopy, FactIsCaused, Caused}
 use Rattle.lvm_invariant.specs.Why.{WriteFailedOn, IsBroughtUp, IsMarkedFor, MarksAreFor, Why, enters, asked_at}
 use Rattle.lvm_invariant.proofs.Rising.{then_rose}
 use Rattle.lvm_invariant.proofs.CauseChanges.{Change, fails_still, cause_stays}
+use Rattle.lvm_invariant.proofs.SoundLemmas.{keeping_statuses}
 
 some_is : {X : Type 0} (a b : X) → Some a ≡ Some b → a ≡ b
 some_is a b e = cc
@@ -64,20 +65,32 @@ module _ (votes : Votes) (s : State) (w : Faults) (now : ℕ → ℕ) (rises : (
   abbrev LandsAs : Option ℕ → State → Type 0
   LandsAs place new = (new.facts ≡ s.facts) ⊎ ((f : Fact) × (new.facts ≡ s.facts ++ f ∷ []) × FactIsCaused (record w { now = now; asked = asked_at place w }) new f)
 
-  -- nothing is changed but the queue and the history
-  quiet : (place : Option ℕ) (new : State) → new.is_copy ≡ s.is_copy → new.missing ≡ s.missing → new.committed ≡ s.committed → new.in_flight ≡ s.in_flight → new.wanted ≡ s.wanted → new.open_copy ≡ s.open_copy
-      → Failed place new.queue → LandsAs place new → Change w now place rises s new
-  quiet place new copies missing committed in_flight wanted open_copy failed landed = record {
-    copies = copies;
-    missing = λ d h. inl (sym (ap (λ (m : ℕ → Bool). m d) missing) ∙ h);
-    still_missing = λ d h. ap (λ (m : ℕ → Bool). m d) missing ∙ h;
-    committed = λ c h. inl (sym (ap (λ (m : Stamped Marks). m.value.stale c) committed) ∙ h);
-    in_flight = λ c u flies h. inl (sym in_flight ∙ flies);
-    wanted = λ c h. inl (sym (ap (λ (m : Marks). m.stale c) wanted) ∙ h);
-    brought_up = λ o is. inl (o, sym open_copy ∙ is, refl);
+  -- the copy that is brought up is the one that was
+  abbrev IsOneOpen : Option OpenCopy → Type 0
+  IsOneOpen open_copy = (o : OpenCopy) → open_copy ≡ Some o → ((p : OpenCopy) × (s.open_copy ≡ Some p) × (p.target ≡ o.target)) ⊎ HasCause (record w { now = now }) o.target
+
+  same_open : (open_copy : Option OpenCopy) → ((o : OpenCopy) → open_copy ≡ Some o → s.open_copy ≡ Some o) → IsOneOpen open_copy
+  same_open open_copy same o is = inl (o, same o is, refl)
+
+  -- the statuses that are committed and under way, and the missing disks, are as they were
+  still : (place : Option ℕ) (new : State) → record new { is_copy = s.is_copy; missing = s.missing; committed = s.committed; in_flight = s.in_flight } ≡ new
+      → ((c : Pp) → IsTrue (new.wanted.stale c) → IsTrue (s.wanted.stale c) ⊎ HasCause (record w { now = now }) c) → IsOneOpen new.open_copy → Failed place new.queue → LandsAs place new → Change w now place rises s new
+  still place new same wanted brought_up failed landed = record {
+    copies = ap (λ (x : State). x.is_copy) (sym same);
+    missing = λ d h. inl (ap (λ (x : State). x.missing d) same ∙ h);
+    still_missing = λ d h. ap (λ (x : State). x.missing d) (sym same) ∙ h;
+    committed = λ c h. inl (ap (λ (x : State). x.committed.value.stale c) same ∙ h);
+    in_flight = λ c u flies h. inl (ap (λ (x : State). x.in_flight) same ∙ flies);
+    wanted = wanted;
+    brought_up = brought_up;
     failed = failed;
     landed = landed;
   }
+
+  -- nothing is changed of statuses and copies
+  quiet : (place : Option ℕ) (new : State) → keeping_statuses s new ≡ new → Failed place new.queue → LandsAs place new → Change w now place rises s new
+  quiet place new same failed landed = still place new (subst (λ (x : State). record x { is_copy = s.is_copy; missing = s.missing; committed = s.committed; in_flight = s.in_flight } ≡ x) same refl)
+      (λ c h. inl (ap (λ (x : State). x.wanted.stale c) same ∙ h)) (same_open new.open_copy (λ o is. ap (λ (x : State). x.open_copy) same ∙ is)) failed landed
 
   -- the queue stays
   same_queue : Failed None s.queue
@@ -152,13 +165,6 @@ module _ (votes : Votes) (s : State) (w : Faults) (now : ℕ → ℕ) (rises : (
   stale_cause : (c : Pp) → HasCause w c → HasCause (record w { now = now }) c
   stale_cause c h = cause_stays w now None rises c h
 
-  -- the copy that is brought up is the one that was
-  abbrev IsOneOpen : Option OpenCopy → Type 0
-  IsOneOpen open_copy = (o : OpenCopy) → open_copy ≡ Some o → ((p : OpenCopy) × (s.open_copy ≡ Some p) × (p.target ≡ o.target)) ⊎ HasCause (record w { now = now }) o.target
-
-  same_open : (open_copy : Option OpenCopy) → ((o : OpenCopy) → open_copy ≡ Some o → s.open_copy ≡ Some o) → IsOneOpen open_copy
-  same_open open_copy same o is = inl (o, same o is, refl)
-
   no_open : {X : Type 0} (o : OpenCopy) → None ≡ Some o → X
   no_open o e = absurd cc
 
@@ -185,31 +191,31 @@ module _ (votes : Votes) (s : State) (w : Faults) (now : ℕ → ℕ) (rises : (
   Changes event new = Change w now (enters event) rises s new
 
   pub changes : (event : Event) (new : State) → Step votes event s new → Why event s w.now now → Changes event new
-  changes (Submit i q r) new step why = subst (Changes (Submit i q r)) (sym step.1) (quiet (Some i) _ refl refl refl refl refl refl (entered i r why) (inr (Begun q, refl, tt)))
-  changes (EnterStep i q r) new step why = subst (Changes (EnterStep i q r)) (sym step.1) (quiet (Some i) _ refl refl refl refl refl refl (entered i r why) (inl refl))
+  changes (Submit i q r) new step why = subst (Changes (Submit i q r)) (sym step.1) (quiet (Some i) _ refl (entered i r why) (inr (Begun q, refl, tt)))
+  changes (EnterStep i q r) new step why = subst (Changes (EnterStep i q r)) (sym step.1) (quiet (Some i) _ refl (entered i r why) (inl refl))
   changes (Admit i r phase several targets) new step why = subst (Changes (Admit i r phase several targets)) (sym step.1)
-      (quiet None _ refl refl refl refl refl refl (changed i r _ step.0.there (λ c bad. absurd (not_todo Badly (why c Badly bad) refl))) (inl refl))
-  changes (Pin i r cache) new step why = subst (Changes (Pin i r cache)) (sym step.1) (quiet None _ refl refl refl refl refl refl (kept i r _ step.0.there refl) (inl refl))
-  changes (Read i r c stage got) new step why = subst (Changes (Read i r c stage got)) (sym step.1) (quiet None _ refl refl refl refl refl refl (restaged i r _ c stage step.0.there refl why) (inl refl))
-  changes (StartWrite i r c) new step why = subst (Changes (StartWrite i r c)) (sym step.1) (quiet None _ refl refl refl refl refl refl (restaged i r _ c Flying step.0.there refl (λ e. absurd cc)) (inl refl))
-  changes (Transfer i r c stage block) new step why = subst (Changes (Transfer i r c stage block)) (sym step.1) (quiet None _ refl refl refl refl refl refl (restaged i r _ c stage step.0.started.there refl why) (inl refl))
-  changes (LandDone i r) new step why = subst (Changes (LandDone i r)) (sym step.1) (quiet None _ refl refl refl refl refl refl (kept i r _ step.0.started.there refl) (inr (HasLanded (s.name i) outcome.Done true [], refl, tt)))
+      (quiet None _ refl (changed i r _ step.0.there (λ c bad. absurd (not_todo Badly (why c Badly bad) refl))) (inl refl))
+  changes (Pin i r cache) new step why = subst (Changes (Pin i r cache)) (sym step.1) (quiet None _ refl (kept i r _ step.0.there refl) (inl refl))
+  changes (Read i r c stage got) new step why = subst (Changes (Read i r c stage got)) (sym step.1) (quiet None _ refl (restaged i r _ c stage step.0.there refl why) (inl refl))
+  changes (StartWrite i r c) new step why = subst (Changes (StartWrite i r c)) (sym step.1) (quiet None _ refl (restaged i r _ c Flying step.0.there refl (λ e. absurd cc)) (inl refl))
+  changes (Transfer i r c stage block) new step why = subst (Changes (Transfer i r c stage block)) (sym step.1) (quiet None _ refl (restaged i r _ c stage step.0.started.there refl why) (inl refl))
+  changes (LandDone i r) new step why = subst (Changes (LandDone i r)) (sym step.1) (quiet None _ refl (kept i r _ step.0.started.there refl) (inr (HasLanded (s.name i) outcome.Done true [], refl, tt)))
   changes (LandLost i r) new step why = subst (Changes (LandLost i r)) (sym step.1)
-      (quiet None _ refl refl refl refl refl refl (kept i r _ step.0.started.there refl) (inr (HasLanded (s.name i) outcome.Lost true [], refl, some_failed i r why.0 step.0.started.there why.1)))
-  changes (LandGot i r got) new step why = subst (Changes (LandGot i r got)) (sym step.1) (quiet None _ refl refl refl refl refl refl (kept i r _ step.0.there refl) (inr (HasLanded (s.name i) outcome.Got true got, refl, tt)))
+      (quiet None _ refl (kept i r _ step.0.started.there refl) (inr (HasLanded (s.name i) outcome.Lost true [], refl, some_failed i r why.0 step.0.started.there why.1)))
+  changes (LandGot i r got) new step why = subst (Changes (LandGot i r got)) (sym step.1) (quiet None _ refl (kept i r _ step.0.there refl) (inr (HasLanded (s.name i) outcome.Got true got, refl, tt)))
   changes (LandReadFailed i r) new step why = subst (Changes (LandReadFailed i r)) (sym step.1)
-      (quiet None _ refl refl refl refl refl refl (kept i r _ step.0.there refl)
+      (quiet None _ refl (kept i r _ step.0.there refl)
       (inr (HasLanded (s.name i) outcome.ReadFailed true [], refl, some_failed i r why.0 step.0.there (why.2 ∙ ap (λ (x : Stage). Some x) (step.0.failed why.0 why.1 why.2)))))
   changes (LandNoFresh i r) new step why = subst (Changes (LandNoFresh i r)) (sym step.1)
-      (quiet None _ refl refl refl refl refl refl (kept i r _ step.0.there refl) (inr (HasLanded (s.name i) outcome.NoFresh false [], refl, no_copy i r step.0)))
-  changes (EndStep i r) new step why = subst (Changes (EndStep i r)) (sym step.1) (quiet None _ refl refl refl refl refl refl (kept i r _ step.0.there refl) (inl refl))
-  changes (Take i r) new step why = subst (Changes (Take i r)) (sym step.1) (quiet None _ refl refl refl refl refl refl (λ j e c there bad. inl (e, of_without s.queue i j e there, bad, refl)) (by_step r.step))
+      (quiet None _ refl (kept i r _ step.0.there refl) (inr (HasLanded (s.name i) outcome.NoFresh false [], refl, no_copy i r step.0)))
+  changes (EndStep i r) new step why = subst (Changes (EndStep i r)) (sym step.1) (quiet None _ refl (kept i r _ step.0.there refl) (inl refl))
+  changes (Take i r) new step why = subst (Changes (Take i r)) (sym step.1) (quiet None _ refl (λ j e c there bad. inl (e, of_without s.queue i j e there, bad, refl)) (by_step r.step))
     where
       by_step : (t : Bool) → ((if t then s.facts else s.facts ++ Taken (s.name i) ∷ []) ≡ s.facts)
           ⊎ ((f : Fact) × ((if t then s.facts else s.facts ++ Taken (s.name i) ∷ []) ≡ s.facts ++ f ∷ []) × FactIsCaused (record w { now = now }) (record s { queue = without s.queue i; facts = if t then s.facts else s.facts ++ Taken (s.name i) ∷ [] }) f)
       by_step true = inl refl
       by_step false = inr (Taken (s.name i), refl, tt)
-  changes (TakeEarlier q) new step why = subst (Changes (TakeEarlier q)) (sym step.1) (quiet None _ refl refl refl refl refl refl same_queue (inr (Taken q, refl, tt)))
+  changes (TakeEarlier q) new step why = subst (Changes (TakeEarlier q)) (sym step.1) (quiet None _ refl same_queue (inr (Taken q, refl, tt)))
   changes (Want wanted missing open_copy) new step why = subst (Changes (Want wanted missing open_copy)) (sym step.1) (record {
     copies = refl;
     missing = λ d h. ⊎_elim (λ was. inl was) (λ rose. inr (then_rose (w.began d) (w.now d) (now d) (since_began d) rose)) (why.0 d h);
@@ -232,7 +238,7 @@ module _ (votes : Votes) (s : State) (w : Faults) (now : ℕ → ℕ) (rises : (
     failed = same_queue;
     landed = inl refl;
   })
-  changes (MoveStatus u status flying) new step why = subst (Changes (MoveStatus u status flying)) (sym step.1) (quiet None _ refl refl refl refl refl refl same_queue (inl refl))
+  changes (MoveStatus u status flying) new step why = subst (Changes (MoveStatus u status flying)) (sym step.1) (quiet None _ refl same_queue (inl refl))
   changes (CommitUpdate u has_it ended wanted open_copy) new step why = subst (Changes (CommitUpdate u has_it ended wanted open_copy)) (sym step.1) (record {
     copies = refl;
     missing = λ d h. inl h;
@@ -255,41 +261,14 @@ module _ (votes : Votes) (s : State) (w : Faults) (now : ℕ → ℕ) (rises : (
     failed = same_queue;
     landed = inl refl;
   })
-  changes (StartNote flying) new step why = subst (Changes (StartNote flying)) (sym step.1) (quiet None _ refl refl refl refl refl refl same_queue (inl refl))
-  changes (EndNote d names home flying) new step why = subst (Changes (EndNote d names home flying)) (sym step.1) (quiet None _ refl refl refl refl refl refl same_queue (inl refl))
-  changes (Open o) new step why = subst (Changes (Open o)) (sym step.1) (record {
-    copies = refl;
-    missing = λ d h. inl h;
-    still_missing = λ d h. h;
-    committed = λ c h. inl h;
-    in_flight = λ c u flies h. inl flies;
-    wanted = λ c h. inl h;
-    brought_up = λ p is. inr (subst (λ (x : OpenCopy). HasCause (record w { now = now }) x.target) (some_is o p is) (stale_cause o.target (caused.committed o.target step.0.stale)));
-    failed = same_queue;
-    landed = inl refl;
-  })
-  changes (CopyWrite i r value target open_copy step_write block) new step why = subst (Changes (CopyWrite i r value target open_copy step_write block)) (sym step.1) (record {
-    copies = refl;
-    missing = λ d h. inl h;
-    still_missing = λ d h. h;
-    committed = λ c h. inl h;
-    in_flight = λ c u flies h. inl flies;
-    wanted = λ c h. inl h;
-    brought_up = λ o is. ⊎_elim
-        (λ (same : open_copy ≡ s.open_copy). inl (o, sym same ∙ is, refl))
-        (λ (p : Passes s r value target block open_copy). inl (p.old, p.is_open, sym p.same_target ∙ ap (λ (x : OpenCopy). x.target) (some_is p.new o (sym p.is_now ∙ is))))
-        step.0.open_now;
-    failed = same_queue;
-    landed = inl refl;
-  })
-  changes (Clear wanted c) new step why = subst (Changes (Clear wanted c)) (sym step.1) (record {
-    copies = refl;
-    missing = λ d h. inl h;
-    still_missing = λ d h. h;
-    committed = λ e h. inl h;
-    in_flight = λ e u flies h. inl flies;
-    wanted = λ e h. inl (step.0.added e h);
-    brought_up = same_open s.open_copy (λ o is. is);
-    failed = same_queue;
-    landed = inl refl;
-  })
+  changes (StartNote flying) new step why = subst (Changes (StartNote flying)) (sym step.1) (quiet None _ refl same_queue (inl refl))
+  changes (EndNote d names home flying) new step why = subst (Changes (EndNote d names home flying)) (sym step.1) (quiet None _ refl same_queue (inl refl))
+  changes (Open o) new step why = subst (Changes (Open o)) (sym step.1) (still None _ refl (λ c h. inl h)
+      (λ p is. inr (subst (λ (x : OpenCopy). HasCause (record w { now = now }) x.target) (some_is o p is) (stale_cause o.target (caused.committed o.target step.0.stale)))) same_queue (inl refl))
+  changes (CopyWrite i r value target open_copy step_write block) new step why = subst (Changes (CopyWrite i r value target open_copy step_write block)) (sym step.1) (still None _ refl (λ c h. inl h)
+      (λ o is. ⊎_elim
+      (λ (same : open_copy ≡ s.open_copy). inl (o, sym same ∙ is, refl))
+      (λ (p : Passes s r value target block open_copy). inl (p.old, p.is_open, sym p.same_target ∙ ap (λ (x : OpenCopy). x.target) (some_is p.new o (sym p.is_now ∙ is))))
+      step.0.open_now) same_queue (inl refl))
+  changes (Clear wanted c) new step why = subst (Changes (Clear wanted c)) (sym step.1) (still None _ refl (λ e h. inl (step.0.added e h))
+      (same_open s.open_copy (λ o is. is)) same_queue (inl refl))

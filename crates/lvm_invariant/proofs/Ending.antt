@@ -20,49 +20,38 @@ use Rattle.lvm_invariant.specs.Over.{IsDistinct, IsUnlanded, is_going, AreOpen, 
 use Rattle.lvm_invariant.specs.Sound.{Sound}
 use Rattle.lvm_invariant.specs.Cut.{CutKeeps}
 use Rattle.lvm_invariant.specs.Crash.{BlockKept, Widens}
-use Rattle.lvm_invariant.proofs.Small.{IsIn, or_left, or_right, in_more, in_added, brought_in, some_open}
+use Rattle.lvm_invariant.proofs.Small.{never, IsIn, or_left, or_right, in_more, in_added, brought_in, some_open}
 use Rattle.lvm_invariant.proofs.Telling.{is_open_if, is_calm, after_landing, landing_mode, landing_others, landing_ended}
 use Rattle.lvm_invariant.proofs.Requests.{decided}
 use Rattle.lvm_invariant.proofs.CrashLemmas.{is_open, cut_widens, block_kept}
 use Rattle.lvm_invariant.proofs.Entered.{write_asks}
 
+-- where the power or the group goes off, what holds of both ends holds
+off_or_dark : (P : Outcome → Type 0) → P outcome.Off → P outcome.Dark → (how : Outcome) → IsFalse (is_calm how) → P how
+off_or_dark P off dark outcome.Off over = off
+off_or_dark P off dark outcome.Dark over = dark
+off_or_dark P off dark outcome.Done over = never true refl over
+off_or_dark P off dark outcome.Lost over = never true refl over
+off_or_dark P off dark outcome.Got over = never true refl over
+off_or_dark P off dark outcome.ReadFailed over = never true refl over
+off_or_dark P off dark outcome.NoFresh over = never true refl over
+
 kind_over : (how : Outcome) → IsFalse (is_calm how) → (q : Request) (started : Bool) → IsOutcomeOf how q started
-kind_over outcome.Off over q started = tt
-kind_over outcome.Dark over q started = tt
-kind_over outcome.Done over q started = absurd cc
-kind_over outcome.Lost over q started = absurd cc
-kind_over outcome.Got over q started = absurd cc
-kind_over outcome.ReadFailed over q started = absurd cc
-kind_over outcome.NoFresh over q started = absurd cc
+kind_over how over q started = off_or_dark (λ (h : Outcome). IsOutcomeOf h q started) tt tt how over
 
 reads_over : (how : Outcome) → IsFalse (is_calm how) → (past : List Fact) (q : Request) → GotMay past q how []
-reads_over outcome.Off over past q = tt
-reads_over outcome.Dark over past q = tt
-reads_over outcome.Done over past q = tt
-reads_over outcome.Lost over past q = tt
-reads_over outcome.Got over past q = absurd (let e : ◌≡◌ {A = Bool} true false = over in cc)
-reads_over outcome.ReadFailed over past q = tt
-reads_over outcome.NoFresh over past q = tt
+reads_over how over past q = off_or_dark (λ (h : Outcome). GotMay past q h []) tt tt how over
 
 -- what such a landing leaves of a block is what Off does
 ended_over : (how : Outcome) → IsFalse (is_calm how) → (q : Request) (started : Bool) (x : Sector) (k : Known) → ended q how started x k ≡ ended q outcome.Off started x k
-ended_over outcome.Off over q started x k = refl
-ended_over outcome.Dark over q true x k = refl
-ended_over outcome.Dark over q false x k = refl
-ended_over outcome.Done over q started x k = absurd (let e : ◌≡◌ {A = Bool} true false = over in cc)
-ended_over outcome.Lost over q started x k = absurd (let e : ◌≡◌ {A = Bool} true false = over in cc)
-ended_over outcome.Got over q started x k = absurd (let e : ◌≡◌ {A = Bool} true false = over in cc)
-ended_over outcome.ReadFailed over q started x k = absurd (let e : ◌≡◌ {A = Bool} true false = over in cc)
-ended_over outcome.NoFresh over q started x k = absurd (let e : ◌≡◌ {A = Bool} true false = over in cc)
+ended_over how over q started x k = off_or_dark (λ (h : Outcome). ended q h started x k ≡ ended q outcome.Off started x k) refl (dark started) how over
+  where
+    dark : (t : Bool) → ended q outcome.Dark t x k ≡ ended q outcome.Off t x k
+    dark true = refl
+    dark false = refl
 
 read_over : (how : Outcome) → IsFalse (is_calm how) → (x : Sector) (k : Known) → read how x k ≡ k
-read_over outcome.Off over x k = refl
-read_over outcome.Dark over x k = refl
-read_over outcome.Done over x k = refl
-read_over outcome.Lost over x k = refl
-read_over outcome.Got over x k = absurd (let e : ◌≡◌ {A = Bool} true false = over in cc)
-read_over outcome.ReadFailed over x k = refl
-read_over outcome.NoFresh over x k = refl
+read_over how over x k = off_or_dark (λ (h : Outcome). read h x k ≡ k) refl refl how over
 
 off_values : (q : Request) (started : Bool) (x value : Sector) (k : Known) → IsIn k.values value → IsIn (ended q outcome.Off started x k).values value
 off_values q true x value k h = in_more k.values (x ∷ []) value h

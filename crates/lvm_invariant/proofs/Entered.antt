@@ -28,6 +28,7 @@ use Rattle.lvm_invariant.proofs.Requests.{decided, staged_was, staged_is}
 use Rattle.lvm_invariant.proofs.Claims.{Alike}
 use Rattle.lvm_invariant.proofs.CrashLemmas.{the_write_is}
 use Rattle.lvm_invariant.proofs.Getting.{got_is_allowed}
+use Rattle.lvm_invariant.proofs.Quieting.{alike_by}
 
 and_both : (a b : Bool) → IsTrue a → IsTrue b → IsTrue (a && b)
 and_both true b h k = k
@@ -226,34 +227,11 @@ silent_effect s i r n cache there calm calm_now got pinning keeps = record {
 }
 
 pub pin_alike : (r : Queued) → r.phase ≡ WantEntry → Alike r (record r { phase = Ready })
-pin_alike r waits = record {
-  lv = refl;
-  first = refl;
-  over = λ lv b. refl;
-  write = refl;
-  value = λ b. refl;
-  past = λ h. ap is_past waits;
-  unlanded = λ h. ap has_landed waits;
-  landed = λ h. never (has_landed r.phase) h (ap has_landed waits);
-  several = λ h. h;
-  aimed = λ e y at. (y, at);
-  aimed_still = λ e y at. (y, at);
-}
+pin_alike r waits = alike_by r (record r { phase = Ready }) refl (λ h. ap is_past waits) (λ h. ap has_landed waits) (λ h. never (has_landed r.phase) h (ap has_landed waits)) (λ e y at. (y, at)) (λ e y at. (y, at))
 
 pub read_alike : (r : Queued) (c : Pp) (stage : Stage) (got : Option (ℕ → List ℕ)) → IsTrue (is_past r.phase) → (x : Stage) × (r.targets c ≡ Some x) → Alike r (reading r c stage got)
-read_alike r c stage got past was = record {
-  lv = refl;
-  first = refl;
-  over = λ lv b. refl;
-  write = refl;
-  value = λ b. refl;
-  past = λ h. past;
-  unlanded = λ h. past_unlanded r.phase past;
-  landed = λ h. never (has_landed r.phase) h (past_unlanded r.phase past);
-  several = λ h. h;
-  aimed = λ e y at. staged_was r.targets c e stage y at was.0 was.1;
-  aimed_still = λ e y at. staged_is r.targets c e stage y at;
-}
+read_alike r c stage got past was = alike_by r (reading r c stage got) refl (λ h. past) (λ h. past_unlanded r.phase past) (λ h. never (has_landed r.phase) h (past_unlanded r.phase past))
+    (λ e y at. staged_was r.targets c e stage y at was.0 was.1) (λ e y at. staged_is r.targets c e stage y at)
 
 -- ---- beginnings
 

@@ -20,6 +20,13 @@ same_one a b e = cc
 no_one : {X : Type 0} (a : Stamped Marks) → None ≡ Some a → X
 no_one a e = absurd cc
 
+-- with the statuses that disks show, the committed one and the one under way as they were
+abbrev pub keeping_found : State → State → State
+keeping_found old new = record new { media = record new.media { status = old.media.status }; committed = old.committed; in_flight = old.in_flight }
+
+pub found_same : {votes : Votes} (old new : State) → keeping_found old new ≡ new → Found votes old → Found votes new
+found_same {votes} old new same f = subst (Found votes) same (record { set = f.set; enough = f.enough; have = f.have; only = f.only; newer = f.newer })
+
 module _ (votes : Votes) (s : State) (found : Found votes s) (v : View) (crash : IsCrash s v) (set : ℕ → Bool) (r : Stamped Marks) (newest : IsNewest v set r) where
   -- what a disk of the writers shows after the loss isn't older than the committed status
   shows : (d : ℕ) → IsTrue (found.set d) → (x : Stamped Marks) × (v.status d ≡ Some x) × ((x ≡ s.committed) ⊎ (stamp_lt s.committed.stamp x.stamp ≡ true))

@@ -13,24 +13,14 @@ use Rattle.lvm_invariant.specs.Updates.{is_pp}
 use Rattle.lvm_num.specs.Record.{Stamped}
 use Rattle.lvm_invariant.specs.State.{has_notes, has_mark, Marks, OpenCopy, State}
 use Rattle.lvm_invariant.proofs.Small.{never}
+pub use Rattle.lvm_invariant.proofs.Small.{left_of as left, right_of as right, both_of as both}
+use Rattle.lvm_invariant.proofs.Asking.{told_of_none}
 
 pub nothing : {X A : Type 0} (a : A) → None ≡ Some a → X
 nothing a e = absurd cc
 
 pub not_so : {X : Type 0} → false ≡ true → X
 not_so e = absurd cc
-
-pub left : (a b : Bool) → IsTrue (a && b) → IsTrue a
-left true b h = refl
-left false b h = not_so h
-
-pub right : (a b : Bool) → IsTrue (a && b) → IsTrue b
-right true b h = h
-right false b h = not_so h
-
-pub both : (a b : Bool) → IsTrue a → IsTrue b → IsTrue (a && b)
-both true b h k = k
-both false b h k = not_so h
 
 pub and_false : (a : Bool) → IsFalse (a && false)
 and_false true = refl
@@ -111,15 +101,7 @@ module _ (mode : Mode) (stale : Bool) (open_copy : Option OpenCopy) (brought : (
       only = λ d r is. inr (inl (one_status (two_disks d) r is));
       newer = λ u flies. nothing u flies;
     };
-    told = record {
-      legal = (tt, (tt, tt));
-      same = λ i r there asked. nothing r there;
-      began = λ i r there asked. nothing r there;
-      ended = λ i r there asked. nothing r there;
-      untaken = λ i r there asked. nothing r there;
-      apart = λ i j r e there at a b other. nothing r there;
-      steps_read = λ i r there step. nothing r there;
-    };
+    told = told_of_none _ _ _ (λ i r there. nothing r there) (tt, (tt, tt));
   }
     where
       shown : (t : Bool) → IsTrue t → (if t then Some s.committed else None) ≡ Some s.committed

@@ -6,7 +6,8 @@ use Rattle.lvm_num.specs.Geometry.{track_group_of}
 use Rattle.lvm_vol.specs.May.{is_off}
 use Rattle.lvm_invariant.proofs.Small.{IsIn}
 use Rattle.lvm_invariant.specs.State.{Stage, Queued, State, covers, is_pinning, Live, told}
-use Rattle.lvm_invariant.specs.Sound.{Conflict, Tied, Holds, Nearly}
+use Rattle.lvm_invariant.specs.Sound.{Conflict, Blocks, Tied, Holds, Nearly, Sound}
+use Rattle.lvm_invariant.proofs.SoundLemmas.{keeping_records, same_statuses, same_behind, same_records, same_home}
 use Rattle.lvm_invariant.proofs.Claims.{Alike, Seen, Frame, FrameKeeps}
 
 abbrev some_if : Bool → List ℕ → Option (List ℕ)
@@ -16,6 +17,15 @@ same_write : (a b c d : Bool) (v w : List ℕ) → a ≡ b → c ≡ d → v ≡
 same_write a b c d v w p q e = λ t. some_if (p t && q t) (e t)
 
 module _ (old new : State) (frame : Frame old new) (sound : Nearly old) where
+  same_active : (lv : ℕ) → new.is_active lv ≡ old.is_active lv
+  same_active lv = ap (λ (s : State). s.is_active lv) (sym frame.same)
+
+  same_passive : (lv : ℕ) → new.is_passive lv ≡ old.is_passive lv
+  same_passive lv = ap (λ (s : State). s.is_passive lv) (sym frame.same)
+
+  same_copies : (lv b : ℕ) → new.is_copy lv b ≡ old.is_copy lv b
+  same_copies lv b = ap (λ (s : State). s.is_copy lv b) (sym frame.same)
+
   conflict_before : (r n e m : Queued) → Alike r n → Alike e m → Conflict m n → Conflict e r
   conflict_before r n e m a c k = record {
     lv = k.lv;
@@ -31,16 +41,16 @@ module _ (old new : State) (frame : Frame old new) (sound : Nearly old) where
         let f = frame.from i n there in
         frame.writes i n there write unlanded lv b ∙ sound.tied.open_writes i f.0 f.1 (sym f.2.write ∙ write) (f.2.unlanded unlanded) lv b
         ∙ sym (same_write n.write f.0.write (covers n lv b) (covers f.0 lv b) (n.value b) (f.0.value b) f.2.write (f.2.over lv b) (f.2.value b));
-    modes = λ lv b c copy off soft. ap is_off (frame.modes lv b) ∙ sound.tied.modes lv b c (ap (λ (f : Pp → Bool). f c) (sym (frame.copies lv b)) ∙ copy) (sym (frame.active lv) ∙ off) (sym (frame.passive lv) ∙ soft);
+    modes = λ lv b c copy off soft. ap is_off (frame.modes lv b) ∙ sound.tied.modes lv b c (ap (λ (f : Pp → Bool). f c) (sym (same_copies lv b)) ∙ copy) (sym (same_active lv) ∙ off) (sym (same_passive lv) ∙ soft);
     tight = frame.tight;
-    owner = λ lv b l d c e x y z. ap (λ (f : Pp → Bool). f e) (frame.copies lv b) ∙ sound.tied.owner lv b l d c e (ap (λ (f : Pp → Bool). f c) (sym (frame.copies lv b)) ∙ x) (ap (λ (f : Pp → Bool). f c) (sym (frame.copies l d)) ∙ y) (ap (λ (f : Pp → Bool). f e) (sym (frame.copies l d)) ∙ z);
-    inside = λ i n there lv b over. let f = frame.from i n there in let k = sound.tied.inside i f.0 f.1 lv b (sym (f.2.over lv b) ∙ over) in (k.0, ap (λ (g : Pp → Bool). g k.0) (frame.copies lv b) ∙ k.1);
+    owner = λ lv b l d c e x y z. ap (λ (f : Pp → Bool). f e) (same_copies lv b) ∙ sound.tied.owner lv b l d c e (ap (λ (f : Pp → Bool). f c) (sym (same_copies lv b)) ∙ x) (ap (λ (f : Pp → Bool). f c) (sym (same_copies l d)) ∙ y) (ap (λ (f : Pp → Bool). f e) (sym (same_copies l d)) ∙ z);
+    inside = λ i n there lv b over. let f = frame.from i n there in let k = sound.tied.inside i f.0 f.1 lv b (sym (f.2.over lv b) ∙ over) in (k.0, ap (λ (g : Pp → Bool). g k.0) (same_copies lv b) ∙ k.1);
     place = λ i n there lv b over.
         let f = frame.from i n there in
         let p = sound.tied.place i f.0 f.1 lv b (sym (f.2.over lv b) ∙ over) in (
           p.0 ∙ sym f.2.lv,
           p.1 ∙ ap track_group_of (sym f.2.first),
-          ap (λ (v : ℕ). new.is_copy v b) f.2.lv ∙ frame.copies f.0.lv b ∙ p.2 ∙ sym (frame.copies f.0.lv f.0.first) ∙ sym (λ t. new.is_copy (f.2.lv t) (f.2.first t)),
+          ap (λ (v : ℕ). new.is_copy v b) f.2.lv ∙ same_copies f.0.lv b ∙ p.2 ∙ sym (same_copies f.0.lv f.0.first) ∙ sym (λ t. new.is_copy (f.2.lv t) (f.2.first t)),
         );
   }
 
@@ -90,7 +100,7 @@ frame_keeps old new frame sound = (
   holds old new frame sound,
   λ i n there write pinning on several.
       let f = frame.from i n there in
-      let was_on = sym (frame.active f.0.lv) ∙ ap new.is_active (sym f.2.lv) ∙ on in
+      let was_on = sym (same_active old new frame sound f.0.lv) ∙ ap new.is_active (sym f.2.lv) ∙ on in
       ⊎_elim
       (λ (pins : IsTrue (is_pinning f.0.phase)).
       let h = frame.cache i f.0 f.1 (sym f.2.write ∙ write) pins was_on (f.2.several several) (sound.notes.pinned i f.0 f.1 (sym f.2.write ∙ write) pins was_on (f.2.several several)) in
@@ -98,3 +108,16 @@ frame_keeps old new frame sound = (
       (λ (now : IsTrue (new.cache n.lv (track_group_of n.first))). now)
       (frame.pinning i f.0 n f.1 there write pinning on several),
 )
+
+-- an event that leaves the records alone, and of which the blocks are shown
+pub framed : (old new : State) → Frame old new → keeping_records old new ≡ new → Blocks new → Sound old → Sound new
+framed old new frame same blocks sound =
+    let f = frame_keeps old new frame (record { blocks = sound.blocks; tied = sound.tied; statuses = sound.statuses; notes = sound.notes; holds = sound.holds }) in
+    record {
+      blocks = blocks;
+      tied = f.0;
+      statuses = same_statuses old new (same_records old new same) sound.statuses;
+      behind = same_behind old new (same_records old new same) sound.behind;
+      notes = record { home = same_home old new same sound.notes.home; pinned = f.2 };
+      holds = f.1;
+    }

@@ -1,22 +1,22 @@
 -- A read lands with what it got; a request begins.
 use Rattle.std.specs.Prelude.{if◌then◌else◌, IsTrue, IsFalse, ◌==◌}
-use Rattle.std.proofs.Common.{◌≡◌, ◌⊎◌, inl, inr, ⊎_elim, ℕ, ◌<◌, Bool, true, false, List, [], ◌∷◌, Option, Some, refl, sym, ap, subst, ◌∙◌, eqb-true, arith, eq-eqb}
+use Rattle.std.proofs.Common.{◌≡◌, ◌⊎◌, inl, inr, ⊎_elim, ℕ, ◌<◌, Bool, false, List, [], ◌∷◌, Option, Some, refl, sym, ap, subst, ◌∙◌, eqb-true, arith, eq-eqb}
 use Rattle.lvm_num.specs.declared.place.Pp.{Pp}
 use Rattle.lvm_num.specs.Geometry.{track_group_of}
 use Rattle.lvm_vol.specs.May.{Known, is_off, known}
-use Rattle.lvm_invariant.specs.State.{write_of, Phase, Held, Going, Landed, Queued, State, covers, is_past, has_landed, is_pinning, stale_in, is_settled_stale, HasPassed, Live, Named, Started, told}
+use Rattle.lvm_invariant.specs.State.{write_of, Phase, Held, Going, Landed, Queued, State, covers, is_past, has_landed, is_pinning, stale_in, Live, Started, told}
 use Rattle.lvm_invariant.proofs.Small.{IsIn, never, and_left_false}
-use Rattle.lvm_invariant.specs.Sound.{Complete, MayDiffer, Agree, Settled, Blocks, Tied, Holds, Sound, the_write}
+use Rattle.lvm_invariant.specs.Sound.{Settled, Blocks, Tied, Holds, Sound, the_write}
+use Rattle.lvm_invariant.proofs.SoundLemmas.{live_same, same_behind, same_statuses, equal_same, recorded_same, each_same}
 use Rattle.lvm_invariant.proofs.Effects.{GotEffect, JoinEffect}
 use Rattle.lvm_invariant.proofs.Claims.{Frame, Calmer, GotKeeps, GotIsAllowed, SubmitKeepsCore}
-use Rattle.lvm_invariant.proofs.Requests.{decided, put_cases, put_other, alone, past_of, past_not_landed}
-use Rattle.lvm_invariant.proofs.Calm.{calm_blocks}
-use Rattle.lvm_invariant.proofs.Framing.{frame_keeps}
-use Rattle.lvm_invariant.proofs.Quieting.{nearly, one_req}
-use Rattle.lvm_invariant.proofs.Writes.{same_statuses, from_put, got_put, pins_put, land_alike}
+use Rattle.lvm_invariant.proofs.Requests.{decided, put_cases, put_other, alone, past_of, past_not_landed, one_req}
+use Rattle.lvm_invariant.proofs.Calm.{calm_blocks, calmer_of}
+use Rattle.lvm_invariant.proofs.Writes.{from_put, got_put, pins_put, land_alike}
 use Rattle.lvm_vol.specs.Facts.{Fact, Request}
 use Rattle.lvm_vol.specs.declared.entry.Vol.TheVariants.{Lv}
 use Rattle.lvm_invariant.specs.Updates.{put, with_name, land, landed}
+use Rattle.lvm_invariant.proofs.Framing.{framed}
 
 module _ (s : State) (i : ℕ) (r : Queued) (value : ℕ → List ℕ) (facts : List Fact) (step : GotEffect s i r value facts) (sound : Sound s) where
   abbrev new : State
@@ -71,54 +71,38 @@ module _ (s : State) (i : ℕ) (r : Queued) (value : ℕ → List ℕ) (facts : 
       let same : i ≡ j = alone s sound i j r e step.there started.there step.past (past_of e.phase Going started.going refl) (record { lv = lv; block = b; first = over; second = over_e; writes = inr started.write }) in
       never r.write (ap (λ (q : Queued). q.write) (one_req (sym step.there ∙ ap s.queue same ∙ started.there)) ∙ started.write) step.read
 
-  live_was : (lv b : ℕ) (c : Pp) → Live new lv b c → Live s lv b c
-  live_was lv b c live = record { copy = live.copy; counts = ⊎_elim (λ (f : IsFalse (is_settled_stale s c)). inl f) (λ (k : HasPassed new lv (track_group_of b) c). inr (record { copy = k.copy; is_open = k.is_open; target = k.target; passed = k.passed })) live.counts }
-
-  named_now : (d lv g : ℕ) → Named s d lv g → Named new d lv g
-  named_now d lv g named = record { home = named.home; flying = named.flying }
-
   settled_now : (lv b : ℕ) → Settled s lv b → Settled new lv b
   settled_now lv b settled = record {
     calm = λ j e started over. settled.calm j e (started_was j e started) over;
     allowed = λ c live. ⊎_elim
-        (λ (same : known facts (Lv lv) b ≡ told s lv b). subst (λ (k : Known). IsIn k.values (s.media.block lv b c)) (sym same) (settled.allowed c (live_was lv b c live)))
+        (λ (same : known facts (Lv lv) b ≡ told s lv b). subst (λ (k : Known). IsIn k.values (s.media.block lv b c)) (sym same) (settled.allowed c (live_same s new refl lv b c live)))
         (λ (one : ((known facts (Lv lv) b).values ≡ Some (value b ∷ [])) × IsTrue (covers r lv b) × ((e : Pp) → Live s lv b e → s.media.block lv b e ≡ value b)).
-        subst (λ (m : Option (List (List ℕ))). IsIn m (s.media.block lv b c)) (sym one.0) (inl (sym (one.2 c (live_was lv b c live)))))
+        subst (λ (m : Option (List (List ℕ))). IsIn m (s.media.block lv b c)) (sym one.0) (inl (sym (one.2 c (live_same s new refl lv b c live)))))
         (known_now lv b);
     equal = ⊎_elim
-        (λ (same : known facts (Lv lv) b ≡ told s lv b). equal_now (ap (λ (k : Known). k.loose) same) (s.is_active lv) settled.equal)
-        (λ (one : ((known facts (Lv lv) b).values ≡ Some (value b ∷ [])) × IsTrue (covers r lv b) × ((e : Pp) → Live s lv b e → s.media.block lv b e ≡ value b)). inl (value b, λ e live. one.2 e (live_was lv b e live)))
+        (λ (same : known facts (Lv lv) b ≡ told s lv b). equal_same s new refl lv b (λ h. ap (λ (k : Known). k.loose) same ∙ h) (λ e live. (live_same s new refl lv b e live, refl)) (s.is_active lv) settled.equal)
+        (λ (one : ((known facts (Lv lv) b).values ≡ Some (value b ∷ [])) × IsTrue (covers r lv b) × ((e : Pp) → Live s lv b e → s.media.block lv b e ≡ value b)). inl (value b, λ e live. one.2 e (live_same s new refl lv b e live)))
         (known_now lv b);
   }
-    where
-      equal_now : (known facts (Lv lv) b).loose ≡ (told s lv b).loose → (active : Bool) → Agree s lv b ⊎ MayDiffer s lv b active → Agree new lv b ⊎ MayDiffer new lv b active
-      equal_now same active (inl agree) = inl (agree.0, λ e live. agree.1 e (live_was lv b e live))
-      equal_now same true (inr differ) = inr (λ e live. let d = differ e (live_was lv b e live) in (d.0, named_now e.disk lv (track_group_of b) d.1))
-      equal_now same false (inr (inl loose)) = inr (inl (same ∙ loose))
-      equal_now same false (inr (inr d)) = inr (inr (record { passive = d.passive; missing = λ e live. d.missing e (live_was lv b e live); dirty = d.dirty }))
 
   off_if_started : (j lv b : ℕ) (e : Queued) → Started s j e → IsTrue (covers e lv b) → known facts (Lv lv) b ≡ told s lv b
   off_if_started j lv b e started over = step.closes.outside lv b (⊎_elim (λ (h : IsTrue (covers r lv b)). absurd (elsewhere j lv b e started over h)) (λ (f : IsFalse (covers r lv b)). f) (decided (covers r lv b)))
 
   got_blocks : Blocks new
   got_blocks = record {
-    each = λ lv b. ⊎_elim
-        (λ (settled : Settled s lv b). inl (settled_now lv b settled))
-        (λ (by : (j : ℕ) × (e : Queued) × Started s j e × IsTrue (covers e lv b)). inr (by.0, by.1, started_still by.0 by.1 by.2, by.3))
-        (sound.blocks.each lv b);
+    each = each_same s new started_still settled_now sound.blocks;
     busy = λ j lv b e started over.
         let was = started_was j e started in
         let busy = sound.blocks.busy j lv b e was over in
         let same = off_if_started j lv b e was over in
         record {
           known = subst (λ (k : Known). (values : List (List ℕ)) × (k.values ≡ Some values)) (sym same) busy.known;
-          aimed = λ c live. busy.aimed c (live_was lv b c live);
-          value = λ c live. subst (λ (k : Known). IsIn k.values (s.media.block lv b c) ⊎ (s.media.block lv b c ≡ e.value b)) (sym same) (busy.value c (live_was lv b c live));
+          aimed = λ c live. busy.aimed c (live_same s new refl lv b c live);
+          value = λ c live. subst (λ (k : Known). IsIn k.values (s.media.block lv b c) ⊎ (s.media.block lv b c ≡ e.value b)) (sym same) (busy.value c (live_same s new refl lv b c live));
           well = busy.well;
         };
     recorded = λ j lv b e started over.
-        let recorded = sound.blocks.recorded j lv b e (started_was j e started) over in
-        record { named = λ on several c x at. named_now c.disk lv (track_group_of b) (recorded.named on several c x at); dirty = recorded.dirty; one = recorded.one; single = recorded.single };
+        recorded_same s new refl lv b e (sound.blocks.recorded j lv b e (started_was j e started) over);
   }
 
   got_frame : Frame s new
@@ -128,19 +112,15 @@ module _ (s : State) (i : ℕ) (r : Queued) (value : ℕ → List ℕ) (facts : 
         (λ (is : (j ≡ i) × (land r ≡ m)). never (has_landed m.phase) (ap (λ (q : Queued). has_landed q.phase) (sym is.1)) unlanded)
         (λ (other : IsFalse (j == i) × (s.queue j ≡ Some m)). step.closes.others lv b j m other.1 write other.0)
         (put_cases s.queue i j (land r) m h);
-    run = refl;
+    same = refl;
     modes = step.closes.modes;
-    active = λ lv. refl;
-    passive = λ lv. refl;
-    dirty = λ lv h. h;
-    copies = λ lv b. refl;
     tight = step.closes.tight;
     seen = λ j lv b e m v seen h past. ⊎_elim
         (λ (same : known facts (Lv lv) b ≡ told s lv b). (
           subst (λ (k : Known). IsIn k.values v) (sym same) seen.allowed,
           ⊎_elim
               (λ (loose : IsTrue (told s lv b).loose). inl (ap (λ (k : Known). k.loose) same ∙ loose))
-              (λ (equal : (g : Pp) → Live s lv b g → s.media.block lv b g ≡ v). inr (λ g live. equal g (live_was lv b g live)))
+              (λ (equal : (g : Pp) → Live s lv b g → s.media.block lv b g ≡ v). inr (λ g live. equal g (live_same s new refl lv b g live)))
               seen.equal,
         ))
         (λ (one : ((known facts (Lv lv) b).values ≡ Some (value b ∷ [])) × IsTrue (covers r lv b) × ((e : Pp) → Live s lv b e → s.media.block lv b e ≡ value b)).
@@ -152,7 +132,7 @@ module _ (s : State) (i : ℕ) (r : Queued) (value : ℕ → List ℕ) (facts : 
         let same = step.loose lv b loose in
         (subst (λ (k : Known). IsIn k.values v) (sym same) seen.allowed, inl (ap (λ (k : Known). k.loose) same ∙ loose)))
         (λ (equal : (g : Pp) → Live s lv b g → s.media.block lv b g ≡ v).
-        (subst (λ (o : Option (List (List ℕ))). IsIn o v) (sym one.0) (inl (sym (one.2 kept.0 live) ∙ equal kept.0 live)), inr (λ g l. equal g (live_was lv b g l))))
+        (subst (λ (o : Option (List (List ℕ))). IsIn o v) (sym one.0) (inl (sym (one.2 kept.0 live) ∙ equal kept.0 live)), inr (λ g l. equal g (live_same s new refl lv b g l))))
         seen.equal)
         (known_now lv b);
     still = λ j lv b e m f seen h past. refl;
@@ -161,20 +141,8 @@ module _ (s : State) (i : ℕ) (r : Queued) (value : ℕ → List ℕ) (facts : 
     cache = λ j e h write pinning on several cached. cached;
   }
 
-  got_core : Sound new
-  got_core =
-      let f = frame_keeps s new got_frame (nearly s sound) in
-      record {
-        blocks = got_blocks;
-        tied = f.0;
-        statuses = same_statuses s sound s.media.block (put s.queue i (land r)) facts;
-        behind = record { left_behind = sound.behind.left_behind };
-        notes = record { home = sound.notes.home; pinned = f.2 };
-        holds = f.1;
-      }
-
 pub got_keeps : GotKeeps
-got_keeps s i r value facts step sound = got_core s i r value facts step sound
+got_keeps s i r value facts step sound = framed s (landed s i r facts) (got_frame s i r value facts step sound) refl (got_blocks s i r value facts step sound) sound
 
 pub got_is_allowed : GotIsAllowed
 got_is_allowed s i r value facts step sound lv b over = (seen_here s i r value facts step sound lv b over).0
@@ -203,27 +171,13 @@ module _ (s : State) (i : ℕ) (given : Request) (r : Queued) (facts : List Fact
   held_not_past : {X : Type 0} (p : Phase) → p ≡ Held → IsTrue (is_past p) → X
   held_not_past p e h = never (is_past p) h (ap is_past e)
 
-  live_next : (lv b : ℕ) (c : Pp) → Live next lv b c → Live s lv b c
-  live_next lv b c live = record { copy = live.copy; counts = ⊎_elim (λ (f : IsFalse (is_settled_stale s c)). inl f) (λ (k : HasPassed next lv (track_group_of b) c). inr (record { copy = k.copy; is_open = k.is_open; target = k.target; passed = k.passed })) live.counts }
-
   calmer_next : Calmer s next
-  calmer_next = record {
-    started = λ j e started. ⊎_elim
-        (λ (is : (j ≡ i) × (r ≡ e)). held_not_past e.phase (ap (λ (q : Queued). q.phase) (sym is.1) ∙ step.held) (past_of e.phase Going started.going refl))
-        (λ (other : IsFalse (j == i) × (s.queue j ≡ Some e)). record { there = other.1; write = started.write; going = started.going })
-        (put_cases s.queue i j r e started.there);
-    started_still = λ j e started. record { write = started.write; going = started.going; there = put_other s.queue i j r (fresh_number j e started.there) ∙ started.there };
-    may = step.may;
-    loose = λ lv b h. step.loose lv b ∙ h;
-    block = λ lv b c. refl;
-    live = live_next;
-    active = λ lv. refl;
-    passive = λ lv. refl;
-    dirty = λ lv h. h;
-    missing_still = λ d h. h;
-    named_missing = λ d lv g gone named. record { home = named.home; flying = named.flying };
-    named_started = λ j lv b d e started over on several named. record { home = named.home; flying = named.flying };
-  }
+  calmer_next = calmer_of s next refl
+      (λ j e started. ⊎_elim
+      (λ (is : (j ≡ i) × (r ≡ e)). held_not_past e.phase (ap (λ (q : Queued). q.phase) (sym is.1) ∙ step.held) (past_of e.phase Going started.going refl))
+      (λ (other : IsFalse (j == i) × (s.queue j ≡ Some e)). record { there = other.1; write = started.write; going = started.going })
+      (put_cases s.queue i j r e started.there))
+      (λ j e started. record { write = started.write; going = started.going; there = put_other s.queue i j r (fresh_number j e started.there) ∙ started.there }) step.may step.loose
 
   submit_tied : Tied next
   submit_tied = record {
@@ -260,7 +214,7 @@ module _ (s : State) (i : ℕ) (given : Request) (r : Queued) (facts : List Fact
           subst (λ (o : Option (List (List ℕ))). IsIn o (s.media.block lv b c)) (sym (step.may lv b)) h.0,
           ⊎_elim
               (λ (loose : IsTrue (told s lv b).loose). inl (step.loose lv b ∙ loose))
-              (λ (equal : (g : Pp) → Live s lv b g → s.media.block lv b g ≡ s.media.block lv b c). inr (λ g live. equal g (live_next lv b g live)))
+              (λ (equal : (g : Pp) → Live s lv b g → s.media.block lv b g ≡ s.media.block lv b c). inr (λ g live. equal g (live_same s next refl lv b g live)))
               h.1,
         ))
         (put_cases s.queue i j r m h);
@@ -270,31 +224,18 @@ module _ (s : State) (i : ℕ) (given : Request) (r : Queued) (facts : List Fact
           subst (λ (o : Option (List (List ℕ))). IsIn o (value b)) (sym (step.may lv b)) h.0,
           ⊎_elim
               (λ (loose : IsTrue (told s lv b).loose). inl (step.loose lv b ∙ loose))
-              (λ (equal : (g : Pp) → Live s lv b g → s.media.block lv b g ≡ value b). inr (λ g live. equal g (live_next lv b g live)))
+              (λ (equal : (g : Pp) → Live s lv b g → s.media.block lv b g ≡ value b). inr (λ g live. equal g (live_same s next refl lv b g live)))
               h.1,
         ))
         (put_cases s.queue i j r m h);
   }
 
-  complete_next : (c : Pp) → Complete s c → Complete next c
-  complete_next c k = record { copy = k.copy; is_open = k.is_open; target = k.target; passed = k.passed }
-
   submit_core : Sound next
   submit_core = record {
     blocks = calm_blocks s next calmer_next sound.blocks;
     tied = submit_tied;
-    statuses = record {
-      stale_flies = λ c u f stale fresh. ⊎_elim (λ (w : IsTrue (s.wanted.stale c)). inl w) (λ (k : Complete s c). inr (complete_next c k)) (sound.statuses.stale_flies c u f stale fresh);
-      stale_is_wanted = λ c stale m. complete_next c (sound.statuses.stale_is_wanted c stale m);
-      flying_is_wanted = λ c u f stale m. complete_next c (sound.statuses.flying_is_wanted c u f stale m);
-      kept = λ lv b c copy. let k = sound.statuses.kept lv b c copy in (k.0, k.1, record { committed = k.2.committed; flying = k.2.flying; wanted = k.2.wanted });
-      open_there = sound.statuses.open_there;
-      open_stale = sound.statuses.open_stale;
-      dirty_flies = sound.statuses.dirty_flies;
-      dirty_is_wanted = sound.statuses.dirty_is_wanted;
-      dirty_flying_is_wanted = sound.statuses.dirty_flying_is_wanted;
-    };
-    behind = record { left_behind = sound.behind.left_behind };
+    statuses = same_statuses s next refl sound.statuses;
+    behind = same_behind s next refl sound.behind;
     notes = record {
       home = sound.notes.home;
       pinned = λ j m h write pins on several. ⊎_elim

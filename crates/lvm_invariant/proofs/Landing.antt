@@ -1,19 +1,20 @@
 -- A write that has started lands.
-use Rattle.std.proofs.Common.{◌≡◌, ◌⊎◌, inl, inr, ⊎_elim, ℕ, Bool, true, false, List, Option, Some, sym, ap, subst, ◌∙◌, eq-eqb, eqb-true}
+use Rattle.std.proofs.Common.{◌≡◌, ◌⊎◌, inl, inr, ⊎_elim, ℕ, List, Option, Some, sym, ap, subst, ◌∙◌, eq-eqb, eqb-true, refl}
 use Rattle.std.specs.Prelude.{IsTrue, IsFalse, ◌==◌}
 use Rattle.lvm_num.specs.declared.place.Pp.{Pp}
 use Rattle.lvm_num.specs.Geometry.{track_group_of}
 use Rattle.lvm_vol.specs.May.{Known, known}
 use Rattle.lvm_invariant.proofs.Small.{IsIn, never}
-use Rattle.lvm_invariant.specs.State.{Stage, Well, Going, Landed, Phase, Queued, State, covers, is_settled_stale, HasPassed, Live, Named, Started, told}
-use Rattle.lvm_invariant.specs.Sound.{MayDiffer, Agree, Settled, Blocks, Sound}
+use Rattle.lvm_invariant.specs.State.{Stage, Well, Going, Landed, Phase, Queued, State, covers, is_settled_stale, HasPassed, Live, Started, told}
+use Rattle.lvm_invariant.specs.Sound.{Agree, Settled, Blocks, Sound}
 use Rattle.lvm_invariant.proofs.Effects.{ClosesOnly, DoneEffect, LostEffect}
-use Rattle.lvm_invariant.proofs.Requests.{decided, put_cases, put_other, one_write}
+use Rattle.lvm_invariant.proofs.Requests.{decided, put_cases, put_other, one_write, one_req}
 use Rattle.lvm_vol.specs.Legal.{lands}
 use Rattle.lvm_vol.specs.declared.entry.Vol.TheVariants.{Lv}
 use Rattle.lvm_vol.specs.Facts.{Fact}
 use Rattle.lvm_invariant.specs.LandDone.{IsDropped}
 use Rattle.lvm_invariant.specs.Updates.{land, landed}
+use Rattle.lvm_invariant.proofs.SoundLemmas.{live_same, equal_same, recorded_same}
 
 not_going : {X : Type 0} (p : Phase) → Landed ≡ p → p ≡ Going → X
 not_going p a b = absurd cc
@@ -31,24 +32,12 @@ module _ (s : State) (sound : Sound s) (i : ℕ) (r : Queued) (facts : List Fact
   elsewhere : (j lv b : ℕ) (e : Queued) → IsFalse (j == i) → Started s j e → IsTrue (covers e lv b) → IsTrue (covers r lv b) → ⊥
   elsewhere j lv b e other started over over_r = never (j == i) (eq-eqb j i (sym (one_write s sound i j lv b r e started_r started over_r over))) other
 
-  live_before : (lv b : ℕ) (e : Pp) → Live new lv b e → Live s lv b e
-  live_before lv b e live = record { copy = live.copy; counts = ⊎_elim (λ (f : _). inl f) (λ (k : HasPassed new lv (track_group_of b) e). inr (record { copy = k.copy; is_open = k.is_open; target = k.target; passed = k.passed })) live.counts }
-
-  named_now : (d lv g : ℕ) → Named s d lv g → Named new d lv g
-  named_now d lv g named = record { home = named.home; flying = named.flying }
-
   settled_off : (lv b : ℕ) → IsFalse (covers r lv b) → Settled s lv b → Settled new lv b
   settled_off lv b off settled = record {
     calm = λ j e started over. settled.calm j e (started_before j e started).1 over;
-    allowed = λ e live. subst (λ (k : Known). IsIn k.values (s.media.block lv b e)) (sym (closes.outside lv b off)) (settled.allowed e (live_before lv b e live));
-    equal = equal_now (s.is_active lv) settled.equal;
+    allowed = λ e live. subst (λ (k : Known). IsIn k.values (s.media.block lv b e)) (sym (closes.outside lv b off)) (settled.allowed e (live_same s new refl lv b e live));
+    equal = equal_same s new refl lv b (λ h. ap (λ (k : Known). k.loose) (closes.outside lv b off) ∙ h) (λ e live. (live_same s new refl lv b e live, refl)) (s.is_active lv) settled.equal;
   }
-    where
-      equal_now : (active : Bool) → Agree s lv b ⊎ MayDiffer s lv b active → Agree new lv b ⊎ MayDiffer new lv b active
-      equal_now active (inl agree) = inl (agree.0, λ e live. agree.1 e (live_before lv b e live))
-      equal_now true (inr differ) = inr (λ e live. let d = differ e (live_before lv b e live) in (d.0, named_now e.disk lv (track_group_of b) d.1))
-      equal_now false (inr (inl loose)) = inr (inl (subst (λ (k : Known). IsTrue k.loose) (sym (closes.outside lv b off)) loose))
-      equal_now false (inr (inr d)) = inr (inr (record { passive = d.passive; missing = λ e live. d.missing e (live_before lv b e live); dirty = d.dirty }))
 
   -- given that, where it went over, the live copies hold one allowed value now
   pub landed_blocks : ((lv b : ℕ) → IsTrue (covers r lv b) → ((e : Pp) → Live s lv b e → IsIn (known facts (Lv lv) b).values (s.media.block lv b e)) × Agree s lv b) → Blocks new
@@ -56,13 +45,13 @@ module _ (s : State) (sound : Sound s) (i : ℕ) (r : Queued) (facts : List Fact
     each = λ lv b. ⊎_elim
         (λ (over : IsTrue (covers r lv b)). let at = lands lv b over in inl (record {
           calm = λ j e started over_e. let was = started_before j e started in elsewhere j lv b e was.0 was.1 over_e over;
-          allowed = λ e live. at.0 e (live_before lv b e live);
-          equal = inl (at.1.0, λ e live. at.1.1 e (live_before lv b e live));
+          allowed = λ e live. at.0 e (live_same s new refl lv b e live);
+          equal = inl (at.1.0, λ e live. at.1.1 e (live_same s new refl lv b e live));
         }))
         (λ (off : IsFalse (covers r lv b)). ⊎_elim
         (λ (settled : Settled s lv b). inl (settled_off lv b off settled))
         (λ (by : (j : ℕ) × (e : Queued) × Started s j e × IsTrue (covers e lv b)). ⊎_elim
-        (λ (same : IsTrue (by.0 == i)). never (covers r lv b) (ap (λ (q : Queued). covers q lv b) (same_req (sym started_r.there ∙ ap s.queue (sym (eqb-true _ _ same)) ∙ by.2.there)) ∙ by.3) off)
+        (λ (same : IsTrue (by.0 == i)). never (covers r lv b) (ap (λ (q : Queued). covers q lv b) (one_req (sym started_r.there ∙ ap s.queue (sym (eqb-true _ _ same)) ∙ by.2.there)) ∙ by.3) off)
         (λ (other : IsFalse (by.0 == i)). inr (by.0, by.1, record { there = put_other s.queue i by.0 (land r) other ∙ by.2.there; write = by.2.write; going = by.2.going }, by.3))
         (decided (by.0 == i)))
         (sound.blocks.each lv b))
@@ -73,18 +62,14 @@ module _ (s : State) (sound : Sound s) (i : ℕ) (r : Queued) (facts : List Fact
         let off : IsFalse (covers r lv b) = ⊎_elim (λ (over_r : IsTrue (covers r lv b)). absurd (elsewhere j lv b e was.0 was.1 over over_r)) (λ (n : IsFalse (covers r lv b)). n) (decided (covers r lv b)) in
         record {
           known = subst (λ (k : Known). (values : List (List ℕ)) × (k.values ≡ Some values)) (sym (closes.outside lv b off)) busy.known;
-          aimed = λ f live. busy.aimed f (live_before lv b f live);
-          value = λ f live. subst (λ (k : Known). IsIn k.values (s.media.block lv b f) ⊎ (s.media.block lv b f ≡ e.value b)) (sym (closes.outside lv b off)) (busy.value f (live_before lv b f live));
+          aimed = λ f live. busy.aimed f (live_same s new refl lv b f live);
+          value = λ f live. subst (λ (k : Known). IsIn k.values (s.media.block lv b f) ⊎ (s.media.block lv b f ≡ e.value b)) (sym (closes.outside lv b off)) (busy.value f (live_same s new refl lv b f live));
           well = busy.well;
         };
     recorded = λ j lv b e started over.
         let was = started_before j e started in
-        let recorded = sound.blocks.recorded j lv b e was.1 over in
-        record { named = λ on several f x at. named_now f.disk lv (track_group_of b) (recorded.named on several f x at); dirty = recorded.dirty; one = recorded.one; single = recorded.single };
+        recorded_same s new refl lv b e (sound.blocks.recorded j lv b e was.1 over);
   }
-    where
-      same_req : {a b : Queued} → Some a ≡ Some b → a ≡ b
-      same_req h = cc
 
 -- a dropped copy isn't live
 dropped_not_live : (s : State) (sound : Sound s) (i : ℕ) (r : Queued) → Started s i r → (lv b : ℕ) → IsTrue (covers r lv b) → (e : Pp) → IsDropped s r e → Live s lv b e → ⊥

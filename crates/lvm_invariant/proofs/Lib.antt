@@ -3,6 +3,7 @@ pub mod Effects
 pub mod Claims
 pub mod Telling
 pub mod CrashLemmas
+pub mod SoundLemmas
 pub mod Requests
 pub mod StartFirst
 pub mod Restage

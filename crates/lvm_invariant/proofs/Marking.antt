@@ -6,10 +6,11 @@ use Rattle.lvm_num.specs.Geometry.{track_group_of}
 use Rattle.lvm_num.specs.Record.{Stamped}
 use Rattle.lvm_invariant.specs.State.{Marks, OpenCopy, State, stale_in, is_settled_stale, HasPassed, Live}
 use Rattle.lvm_invariant.specs.Sound.{Complete, StaysFresh, Statuses, Sound, Nearly}
+use Rattle.lvm_invariant.proofs.SoundLemmas.{complete_same}
 use Rattle.lvm_invariant.proofs.Claims.{Quiet, WantsKeep, BeginKeeps, CommitKeepsCore, UpdateEndKeeps}
 use Rattle.lvm_invariant.proofs.Small.{never, false_by, and_left_false, and_right_false}
 use Rattle.lvm_invariant.proofs.Requests.{decided}
-use Rattle.lvm_invariant.proofs.Quieting.{nearly, quiet_nearly}
+use Rattle.lvm_invariant.proofs.Quieting.{nearly, quiet_nearly, quiet_of, quiet_sound}
 use Rattle.lvm_invariant.specs.LandDone.{done}
 use Rattle.lvm_invariant.specs.Commit.{Commits}
 use Rattle.lvm_invariant.specs.Want.{Replaced, Wants, after_wants}
@@ -100,21 +101,7 @@ module _ (s : State) (wanted : Marks) (missing : ℕ → Bool) (open_copy : Opti
   }
 
   quiet : Quiet s new
-  quiet = record {
-    queue = λ i. refl;
-    known_same = λ lv b. refl;
-    run = refl;
-    active = λ lv. refl;
-    passive = λ lv. refl;
-    dirty = λ lv h. h;
-    copies = λ lv b. refl;
-    block = λ lv b c. refl;
-    live = λ lv b c live. record { copy = live.copy; counts = ⊎_elim (λ (f : IsFalse (is_settled_stale s c)). inl f) (λ (k : HasPassed new lv (track_group_of b) c). inr (caught_before lv (track_group_of b) c k)) live.counts };
-    cache = λ lv g. refl;
-    missing_still = step.missing_still;
-    named_missing = λ d lv g gone named. record { home = named.home; flying = named.flying };
-    named_pinned = λ d lv g cached named. record { home = named.home; flying = named.flying };
-  }
+  quiet = quiet_of s new refl refl (λ lv b c live. record { copy = live.copy; counts = ⊎_elim (λ (f : IsFalse (is_settled_stale s c)). inl f) (λ (k : HasPassed new lv (track_group_of b) c). inr (caught_before lv (track_group_of b) c k)) live.counts }) (λ lv h. h) step.missing_still
 
   there_before : (d : ℕ) → IsFalse (missing d) → IsFalse (s.missing d)
   there_before d n = false_by (s.missing d) (missing d) (step.missing_still d) n
@@ -137,13 +124,10 @@ module _ (s : State) (u : Stamped Marks) (none : s.in_flight ≡ None) (is : u.v
   is_dirty : (w : Stamped Marks) → Some u ≡ Some w → (lv : ℕ) → w.value.dirty lv ≡ s.wanted.dirty lv
   is_dirty w e lv = ap (λ (x : Stamped Marks). x.value.dirty lv) (sym (same_update u w e)) ∙ ap (λ (m : Marks). m.dirty lv) is
 
-  complete_then : (c : Pp) → Complete s c → Complete begun c
-  complete_then c k = record { copy = k.copy; is_open = k.is_open; target = k.target; passed = k.passed }
-
   begun_statuses : Statuses begun
   begun_statuses = record {
-    stale_flies = λ c w flies stale fresh. inr (complete_then c (sound.statuses.stale_is_wanted c stale (sym (is_wanted w flies c) ∙ fresh)));
-    stale_is_wanted = λ c stale n. complete_then c (sound.statuses.stale_is_wanted c stale n);
+    stale_flies = λ c w flies stale fresh. inr (complete_same s begun refl c (sound.statuses.stale_is_wanted c stale (sym (is_wanted w flies c) ∙ fresh)));
+    stale_is_wanted = λ c stale n. complete_same s begun refl c (sound.statuses.stale_is_wanted c stale n);
     flying_is_wanted = λ c w flies stale n. never (s.wanted.stale c) (sym (is_wanted w flies c) ∙ stale) n;
     kept = λ lv b c copy. let k = sound.statuses.kept lv b c copy in (k.0, k.1, record { committed = k.2.committed; flying = λ w flies. is_wanted w flies k.0 ∙ k.2.wanted; wanted = k.2.wanted });
     open_there = sound.statuses.open_there;
@@ -169,23 +153,8 @@ module _ (s : State) (u : Stamped Marks) (none : s.in_flight ≡ None) (is : u.v
 
   begun_core : Sound begun
   begun_core =
-      let quiet : Quiet s begun = record {
-        queue = λ i. refl;
-        known_same = λ lv b. refl;
-        run = refl;
-        active = λ lv. refl;
-        passive = λ lv. refl;
-        dirty = λ lv h. h;
-        copies = λ lv b. refl;
-        block = λ lv b c. refl;
-        live = live_then;
-        cache = λ lv g. refl;
-        missing_still = λ d h. h;
-        named_missing = λ d lv g gone named. record { home = named.home; flying = named.flying };
-        named_pinned = λ d lv g cached named. record { home = named.home; flying = named.flying };
-      } in
-      let n = quiet_nearly s begun quiet (nearly s sound) (record { statuses = begun_statuses; home = sound.notes.home }) in
-      record { blocks = n.blocks; tied = n.tied; statuses = n.statuses; behind = record { left_behind = sound.behind.left_behind }; notes = n.notes; holds = n.holds }
+      let quiet : Quiet s begun = quiet_of s begun refl refl live_then (λ lv h. h) (λ d h. h) in
+      quiet_sound s begun quiet sound (record { statuses = begun_statuses; home = sound.notes.home }) (record { left_behind = sound.behind.left_behind })
 
 pub begin_keeps : BeginKeeps
 begin_keeps s u none is sound = begun_core s u none is sound
@@ -238,21 +207,7 @@ module _ (s : State) (u : Stamped Marks) (open_copy : Option OpenCopy) (step : C
 
   committed_nearly : Nearly committed
   committed_nearly =
-      let quiet : Quiet s committed = record {
-        queue = λ i. refl;
-        known_same = λ lv b. refl;
-        run = refl;
-        active = λ lv. refl;
-        passive = λ lv. refl;
-        dirty = λ lv h. sound.statuses.dirty_flies lv u step.flies h;
-        copies = λ lv b. refl;
-        block = λ lv b c. refl;
-        live = live_after;
-        cache = λ lv g. refl;
-        missing_still = λ d h. h;
-        named_missing = λ d lv g gone named. record { home = named.home; flying = named.flying };
-        named_pinned = λ d lv g cached named. record { home = named.home; flying = named.flying };
-      } in
+      let quiet : Quiet s committed = quiet_of s committed refl refl live_after (λ lv h. sound.statuses.dirty_flies lv u step.flies h) (λ d h. h) in
       quiet_nearly s committed quiet (nearly s sound) (record { statuses = committed_statuses; home = sound.notes.home })
 
 pub commit_keeps : CommitKeepsCore
@@ -262,16 +217,13 @@ module _ (s : State) (done : s.in_flight ≡ Some s.committed) (sound : Sound s)
   abbrev ended : State
   ended = record s { in_flight = None }
 
-  complete_end : (c : Pp) → Complete s c → Complete ended c
-  complete_end c k = record { copy = k.copy; is_open = k.is_open; target = k.target; passed = k.passed }
-
   none_some : {X : Type 0} (w : Stamped Marks) → None ≡ Some w → X
   none_some w e = absurd cc
 
   ended_statuses : Statuses ended
   ended_statuses = record {
     stale_flies = λ c w flies stale fresh. none_some w flies;
-    stale_is_wanted = λ c stale n. complete_end c (sound.statuses.stale_is_wanted c stale n);
+    stale_is_wanted = λ c stale n. complete_same s ended refl c (sound.statuses.stale_is_wanted c stale n);
     flying_is_wanted = λ c w flies stale n. none_some w flies;
     kept = λ lv b c copy. let k = sound.statuses.kept lv b c copy in (k.0, k.1, record { committed = k.2.committed; flying = λ w flies. none_some w flies; wanted = k.2.wanted });
     open_there = sound.statuses.open_there;
@@ -283,29 +235,14 @@ module _ (s : State) (done : s.in_flight ≡ Some s.committed) (sound : Sound s)
 
   ended_core : Sound ended
   ended_core =
-      let quiet : Quiet s ended = record {
-        queue = λ i. refl;
-        known_same = λ lv b. refl;
-        run = refl;
-        active = λ lv. refl;
-        passive = λ lv. refl;
-        dirty = λ lv h. h;
-        copies = λ lv b. refl;
-        block = λ lv b c. refl;
-        live = λ lv b c live. record {
-          copy = live.copy;
-          counts = ⊎_elim
-              (λ (f : IsFalse (s.committed.value.stale c && true)). inl (and_left_false (s.committed.value.stale c) (stale_in s.in_flight c) (once (s.committed.value.stale c) f)))
-              (λ (k : HasPassed ended lv (track_group_of b) c). inr (record { copy = k.copy; is_open = k.is_open; target = k.target; passed = k.passed }))
-              live.counts;
-        };
-        cache = λ lv g. refl;
-        missing_still = λ d h. h;
-        named_missing = λ d lv g gone named. record { home = named.home; flying = named.flying };
-        named_pinned = λ d lv g cached named. record { home = named.home; flying = named.flying };
-      } in
-      let n = quiet_nearly s ended quiet (nearly s sound) (record { statuses = ended_statuses; home = sound.notes.home }) in
-      record { blocks = n.blocks; tied = n.tied; statuses = n.statuses; behind = record { left_behind = sound.behind.left_behind }; notes = n.notes; holds = n.holds }
+      let quiet : Quiet s ended = quiet_of s ended refl refl (λ lv b c live. record {
+        copy = live.copy;
+        counts = ⊎_elim
+            (λ (f : IsFalse (s.committed.value.stale c && true)). inl (and_left_false (s.committed.value.stale c) (stale_in s.in_flight c) (once (s.committed.value.stale c) f)))
+            (λ (k : HasPassed ended lv (track_group_of b) c). inr (record { copy = k.copy; is_open = k.is_open; target = k.target; passed = k.passed }))
+            live.counts;
+      }) (λ lv h. h) (λ d h. h) in
+      quiet_sound s ended quiet sound (record { statuses = ended_statuses; home = sound.notes.home }) (record { left_behind = sound.behind.left_behind })
     where
       once : (a : Bool) → IsFalse (a && true) → IsFalse a
       once true h = h

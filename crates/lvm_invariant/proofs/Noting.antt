@@ -1,21 +1,36 @@
 -- Notes start and end.
-use Rattle.std.proofs.Common.{◌≡◌, inl, inr, ⊎_elim, ℕ, Option, Some, None, refl, sym, ap, subst, ◌∙◌}
+use Rattle.std.proofs.Common.{◌≡◌, ◌⊎◌, inl, inr, ⊎_elim, ℕ, Option, Some, None, refl, sym, ap, subst, ◌∙◌}
 use Rattle.std.specs.Prelude.{IsTrue, IsFalse}
-use Rattle.lvm_num.specs.Geometry.{track_group_of}
-use Rattle.lvm_invariant.specs.State.{Groups, State, is_settled_stale, HasPassed, Named}
-use Rattle.lvm_invariant.specs.Sound.{Complete, Statuses, Sound}
-use Rattle.lvm_invariant.proofs.Claims.{Quiet, StartNoteKeepsCore, EndNoteKeepsCore}
+use Rattle.lvm_invariant.specs.State.{Groups, State, Named}
+use Rattle.lvm_invariant.specs.Sound.{Sound}
+use Rattle.lvm_invariant.proofs.SoundLemmas.{live_same, same_statuses, same_behind, keeping_live, keeping_statuses}
+use Rattle.lvm_invariant.proofs.Claims.{Quiet, StartNoteKeepsCore, EndNoteKeepsCore, keeping_requests}
 use Rattle.lvm_invariant.proofs.Small.{never}
-use Rattle.lvm_invariant.proofs.Quieting.{nearly, quiet_nearly}
 use Rattle.lvm_invariant.specs.EndNote.{EndsNote}
 use Rattle.lvm_invariant.specs.Updates.{with_names}
 use Rattle.lvm_invariant.specs.StartNote.{StartsNote}
+use Rattle.lvm_invariant.proofs.Quieting.{quiet_sound}
 
 same_note : (a b : Groups) → Some a ≡ Some b → a ≡ b
 same_note a b e = cc
 
 no_note : {X : Type 0} (o : Option Groups) (n : Groups) → o ≡ None → o ≡ Some n → X
 no_note o n a b = absurd cc
+
+-- an event of notes alone: what missing disks noted, and what is in the cache, stays named
+noted : (s new : State) → keeping_requests s new ≡ new → keeping_statuses s new ≡ new → ((d lv g : ℕ) → IsTrue (s.missing d) ⊎ IsTrue (s.cache lv g) → Named s d lv g → Named new d lv g)
+    → ((d lv g : ℕ) → IsFalse (new.missing d) → new.media.names d lv g ≡ new.home_note d lv g) → Sound s → Sound new
+noted s new same statuses named home sound = quiet_sound s new quiet sound (record { statuses = same_statuses s new statuses sound.statuses; home = home }) (same_behind s new statuses sound.behind)
+  where
+    quiet : Quiet s new
+    quiet = record {
+      same = same;
+      dirty = λ lv h. ap (λ (x : State). x.committed.value.dirty lv) (sym statuses) ∙ h;
+      live = live_same s new (subst (λ (x : State). keeping_live s x ≡ x) statuses refl);
+      missing_still = λ d h. ap (λ (x : State). x.missing d) (sym statuses) ∙ h;
+      named_missing = λ d lv g gone. named d lv g (inl gone);
+      named_pinned = λ d lv g cached. named d lv g (inr cached);
+    }
 
 module _ (s : State) (flying : ℕ → Option Groups) (step : StartsNote s flying) (sound : Sound s) where
   abbrev new : State
@@ -30,41 +45,12 @@ module _ (s : State) (flying : ℕ → Option Groups) (step : StartsNote s flyin
         (step.each d);
   }
 
-  note_statuses : Statuses new
-  note_statuses = record {
-    stale_flies = λ c u f stale fresh. ⊎_elim (λ (w : IsTrue (s.wanted.stale c)). inl w) (λ (k : Complete s c). inr (record { copy = k.copy; is_open = k.is_open; target = k.target; passed = k.passed })) (sound.statuses.stale_flies c u f stale fresh);
-    stale_is_wanted = λ c stale n. let k = sound.statuses.stale_is_wanted c stale n in record { copy = k.copy; is_open = k.is_open; target = k.target; passed = k.passed };
-    flying_is_wanted = λ c u f stale n. let k = sound.statuses.flying_is_wanted c u f stale n in record { copy = k.copy; is_open = k.is_open; target = k.target; passed = k.passed };
-    kept = λ lv b c copy. let k = sound.statuses.kept lv b c copy in (k.0, k.1, record { committed = k.2.committed; flying = k.2.flying; wanted = k.2.wanted });
-    open_there = sound.statuses.open_there;
-    open_stale = sound.statuses.open_stale;
-    dirty_flies = sound.statuses.dirty_flies;
-    dirty_is_wanted = sound.statuses.dirty_is_wanted;
-    dirty_flying_is_wanted = sound.statuses.dirty_flying_is_wanted;
-  }
-
-  note_core : Sound new
-  note_core =
-      let quiet : Quiet s new = record {
-        queue = λ i. refl;
-        known_same = λ lv b. refl;
-        run = refl;
-        active = λ lv. refl;
-        passive = λ lv. refl;
-        dirty = λ lv h. h;
-        copies = λ lv b. refl;
-        block = λ lv b c. refl;
-        live = λ lv b c live. record { copy = live.copy; counts = ⊎_elim (λ (f : IsFalse (is_settled_stale s c)). inl f) (λ (k : HasPassed new lv (track_group_of b) c). inr (record { copy = k.copy; is_open = k.is_open; target = k.target; passed = k.passed })) live.counts };
-        cache = λ lv g. refl;
-        missing_still = λ d h. h;
-        named_missing = λ d lv g gone named. named_then d lv g (λ is. never (s.missing d) gone (subst (λ (e : ℕ). IsFalse (s.missing e)) (sym is) step.there)) named;
-        named_pinned = λ d lv g cached named. named_then d lv g (λ is. cached) named;
-      } in
-      let n = quiet_nearly s new quiet (nearly s sound) (record { statuses = note_statuses; home = sound.notes.home }) in
-      record { blocks = n.blocks; tied = n.tied; statuses = n.statuses; behind = record { left_behind = sound.behind.left_behind }; notes = n.notes; holds = n.holds }
+  named_now : (d lv g : ℕ) → IsTrue (s.missing d) ⊎ IsTrue (s.cache lv g) → Named s d lv g → Named new d lv g
+  named_now d lv g (inl gone) named = named_then d lv g (λ is. never (s.missing d) gone (subst (λ (e : ℕ). IsFalse (s.missing e)) (sym is) step.there)) named
+  named_now d lv g (inr cached) named = named_then d lv g (λ is. cached) named
 
 pub start_note_keeps : StartNoteKeepsCore
-start_note_keeps s flying step sound = note_core s flying step sound
+start_note_keeps s flying step sound = noted s (record s { flying_note = flying }) refl refl (named_now s flying step sound) sound.notes.home sound
 
 module _ (s : State) (d : ℕ) (names home : ℕ → Groups) (flying : ℕ → Option Groups) (step : EndsNote s d names home flying) (sound : Sound s) where
   abbrev after : State
@@ -82,44 +68,12 @@ module _ (s : State) (d : ℕ) (names home : ℕ → Groups) (flying : ℕ → O
         (step.flying_now e);
   }
 
-  end_statuses : Statuses after
-  end_statuses = record {
-    stale_flies = λ c u f stale fresh. ⊎_elim (λ (w : IsTrue (s.wanted.stale c)). inl w) (λ (k : Complete s c). inr (record { copy = k.copy; is_open = k.is_open; target = k.target; passed = k.passed })) (sound.statuses.stale_flies c u f stale fresh);
-    stale_is_wanted = λ c stale n. let k = sound.statuses.stale_is_wanted c stale n in record { copy = k.copy; is_open = k.is_open; target = k.target; passed = k.passed };
-    flying_is_wanted = λ c u f stale n. let k = sound.statuses.flying_is_wanted c u f stale n in record { copy = k.copy; is_open = k.is_open; target = k.target; passed = k.passed };
-    kept = λ lv b c copy. let k = sound.statuses.kept lv b c copy in (k.0, k.1, record { committed = k.2.committed; flying = k.2.flying; wanted = k.2.wanted });
-    open_there = sound.statuses.open_there;
-    open_stale = sound.statuses.open_stale;
-    dirty_flies = sound.statuses.dirty_flies;
-    dirty_is_wanted = sound.statuses.dirty_is_wanted;
-    dirty_flying_is_wanted = sound.statuses.dirty_flying_is_wanted;
-  }
-
-  end_core : Sound after
-  end_core =
-      let quiet : Quiet s after = record {
-        queue = λ i. refl;
-        known_same = λ lv b. refl;
-        run = refl;
-        active = λ lv. refl;
-        passive = λ lv. refl;
-        dirty = λ lv h. h;
-        copies = λ lv b. refl;
-        block = λ lv b c. refl;
-        live = λ lv b c live. record { copy = live.copy; counts = ⊎_elim (λ (f : IsFalse (is_settled_stale s c)). inl f) (λ (k : HasPassed after lv (track_group_of b) c). inr (record { copy = k.copy; is_open = k.is_open; target = k.target; passed = k.passed })) live.counts };
-        cache = λ lv g. refl;
-        missing_still = λ e h. h;
-        named_missing = λ e lv g gone named. named_end e lv g named;
-        named_pinned = λ e lv g cached named. named_end e lv g named;
-      } in
-      let n = quiet_nearly s after quiet (nearly s sound) (record {
-        statuses = end_statuses;
-        home = λ e lv g there. ⊎_elim
-            (λ (same : (names e ≡ s.media.names e) × (home e ≡ s.home_note e)). ap (λ (x : Groups). x lv g) same.0 ∙ sound.notes.home e lv g there ∙ ap (λ (x : Groups). x lv g) (sym same.1))
-            (λ (new : (names e ≡ step.note) × (home e ≡ step.note)). ap (λ (x : Groups). x lv g) (new.0 ∙ sym new.1))
-            (step.home_now e there);
-      }) in
-      record { blocks = n.blocks; tied = n.tied; statuses = n.statuses; behind = record { left_behind = sound.behind.left_behind }; notes = n.notes; holds = n.holds }
+  home_now : (e lv g : ℕ) → IsFalse (s.missing e) → names e lv g ≡ home e lv g
+  home_now e lv g there = ⊎_elim
+      (λ (same : (names e ≡ s.media.names e) × (home e ≡ s.home_note e)). ap (λ (x : Groups). x lv g) same.0 ∙ sound.notes.home e lv g there ∙ ap (λ (x : Groups). x lv g) (sym same.1))
+      (λ (new : (names e ≡ step.note) × (home e ≡ step.note)). ap (λ (x : Groups). x lv g) (new.0 ∙ sym new.1))
+      (step.home_now e there)
 
 pub end_note_keeps : EndNoteKeepsCore
-end_note_keeps s d names home flying step sound = end_core s d names home flying step sound
+end_note_keeps s d names home flying step sound = noted s (record s { media = with_names s.media names; home_note = home; flying_note = flying }) refl refl
+    (λ e lv g why. named_end s d names home flying step sound e lv g) (home_now s d names home flying step sound) sound

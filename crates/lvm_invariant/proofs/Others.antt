@@ -4,20 +4,20 @@ use Rattle.std.specs.Prelude.{IsTrue, IsFalse, ◌==◌}
 use Rattle.std.proofs.lemmas.Bool.{cases_lt}
 use Rattle.lvm_num.specs.declared.place.Pp.{Pp}
 use Rattle.lvm_num.specs.Geometry.{track_group_of}
-use Rattle.lvm_invariant.specs.State.{write_of, Groups, Stage, Phase, Held, WantEntry, Ready, Going, Queued, State, covers, request_of, is_held, is_past, has_landed, is_pinning, stale_in, is_settled_stale, HasPassed, Live, Started, told}
+use Rattle.lvm_invariant.specs.State.{write_of, Groups, Stage, Phase, Held, WantEntry, Ready, Going, Queued, State, covers, request_of, is_held, is_past, has_landed, is_pinning, stale_in, Live, Started, told}
 use Rattle.lvm_invariant.proofs.Small.{IsIn, never, and_left_false}
-use Rattle.lvm_invariant.specs.Sound.{Complete, Statuses, Conflict, MayDiffer, Agree, Settled, Tied, Holds, Sound, the_write}
+use Rattle.lvm_invariant.specs.Sound.{Conflict, MayDiffer, Agree, Settled, Tied, Holds, Sound, the_write}
+use Rattle.lvm_invariant.proofs.SoundLemmas.{live_same, same_statuses, same_behind}
 use Rattle.lvm_invariant.proofs.Claims.{Frame, Calmer, PlainKeeps, AdmitKeepsCore}
-use Rattle.lvm_invariant.proofs.Requests.{decided, put_cases, put_other, past_of, past_not_landed}
-use Rattle.lvm_invariant.proofs.Calm.{calm_blocks}
-use Rattle.lvm_invariant.proofs.Framing.{frame_keeps}
-use Rattle.lvm_invariant.proofs.Quieting.{nearly, one_req}
+use Rattle.lvm_invariant.proofs.Requests.{decided, put_cases, put_other, past_of, past_not_landed, one_req}
+use Rattle.lvm_invariant.proofs.Calm.{calm_blocks, calmer_of}
 use Rattle.lvm_invariant.proofs.Writes.{from_put}
 use Rattle.lvm_vol.specs.declared.entry.Vol.TheVariants.{Lv}
 use Rattle.lvm_vol.specs.May.{known}
 use Rattle.lvm_vol.specs.Facts.{Fact}
 use Rattle.lvm_invariant.specs.Admit.{admitted, Admits}
 use Rattle.lvm_invariant.specs.Updates.{put, with_req}
+use Rattle.lvm_invariant.proofs.Framing.{framed}
 
 -- ---- a request that isn't a write under way changes, and no block does
 
@@ -45,40 +45,8 @@ module _ (s : State) (i : ℕ) (r n : Queued) (facts : List Fact) (cache : Group
         (decided (j == i));
   }
 
-  live_plain : (lv b : ℕ) (c : Pp) → Live plain lv b c → Live s lv b c
-  live_plain lv b c live = record { copy = live.copy; counts = ⊎_elim (λ (f : IsFalse (is_settled_stale s c)). inl f) (λ (k : HasPassed plain lv (track_group_of b) c). inr (record { copy = k.copy; is_open = k.is_open; target = k.target; passed = k.passed })) live.counts }
-
   pub calmer_plain : Calmer s plain
-  calmer_plain = record {
-    started = started_was;
-    started_still = started_still;
-    may = may;
-    loose = λ lv b h. loose lv b ∙ h;
-    block = λ lv b c. refl;
-    live = live_plain;
-    active = λ lv. refl;
-    passive = λ lv. refl;
-    dirty = λ lv h. h;
-    missing_still = λ d h. h;
-    named_missing = λ d lv g gone named. record { home = named.home; flying = named.flying };
-    named_started = λ j lv b d e started over on several named. record { home = named.home; flying = named.flying };
-  }
-
-  complete_plain : (c : Pp) → Complete s c → Complete plain c
-  complete_plain c k = record { copy = k.copy; is_open = k.is_open; target = k.target; passed = k.passed }
-
-  pub plain_statuses : Statuses s → Statuses plain
-  plain_statuses st = record {
-    stale_flies = λ c u f stale fresh. ⊎_elim (λ (w : IsTrue (s.wanted.stale c)). inl w) (λ (k : Complete s c). inr (complete_plain c k)) (st.stale_flies c u f stale fresh);
-    stale_is_wanted = λ c stale m. complete_plain c (st.stale_is_wanted c stale m);
-    flying_is_wanted = λ c u f stale m. complete_plain c (st.flying_is_wanted c u f stale m);
-    kept = λ lv b c copy. let k = st.kept lv b c copy in (k.0, k.1, record { committed = k.2.committed; flying = k.2.flying; wanted = k.2.wanted });
-    open_there = st.open_there;
-    open_stale = st.open_stale;
-    dirty_flies = st.dirty_flies;
-    dirty_is_wanted = st.dirty_is_wanted;
-    dirty_flying_is_wanted = st.dirty_flying_is_wanted;
-  }
+  calmer_plain = calmer_of s plain refl started_was started_still may loose
 
 pub plain_keeps : PlainKeeps
 plain_keeps s i r n facts cache step alike sound =
@@ -88,18 +56,14 @@ plain_keeps s i r n facts cache step alike sound =
           (λ (is : (j ≡ i) × (n ≡ m)). step.writes lv b j r (ap s.queue is.0 ∙ step.there) (sym alike.write ∙ ap (λ (q : Queued). q.write) is.1 ∙ write) (inr (ap (λ (q : Queued). has_landed q.phase) is.1 ∙ unlanded)))
           (λ (other : IsFalse (j == i) × (s.queue j ≡ Some m)). step.writes lv b j m other.1 write (inl other.0))
           (put_cases s.queue i j n m h);
-      run = refl;
+      same = refl;
       modes = step.modes;
-      active = λ lv. refl;
-      passive = λ lv. refl;
-      dirty = λ lv h. h;
-      copies = λ lv b. refl;
       tight = λ lv b c copy on. step.loose lv b ∙ sound.tied.tight lv b c copy on;
       seen = λ j lv b e m v seen h past. (
         subst (λ (o : Option (List (List ℕ))). IsIn o v) (sym (step.may lv b)) seen.allowed,
         ⊎_elim
             (λ (loose : IsTrue (told s lv b).loose). inl (step.loose lv b ∙ loose))
-            (λ (equal : (g : Pp) → Live s lv b g → s.media.block lv b g ≡ v). inr (λ g live. equal g (live_plain s i r n facts cache step.there step.calm step.calm_now step.may step.loose lv b g live)))
+            (λ (equal : (g : Pp) → Live s lv b g → s.media.block lv b g ≡ v). inr (λ g live. equal g (live_same s (record s { queue = put s.queue i n; facts = facts; cache = cache }) refl lv b g live)))
             seen.equal,
       );
       still = λ j lv b e m f seen h past. refl;
@@ -124,15 +88,7 @@ plain_keeps s i r n facts cache step alike sound =
           (put_cases s.queue i j n m is);
       cache = λ j e h write pinning on several cached. step.cache_keeps j e h write pinning on several cached;
     } in
-    let f = frame_keeps s (record s { queue = put s.queue i n; facts = facts; cache = cache }) frame (nearly s sound) in
-    record {
-      blocks = calm_blocks s (record s { queue = put s.queue i n; facts = facts; cache = cache }) (calmer_plain s i r n facts cache step.there step.calm step.calm_now step.may step.loose) sound.blocks;
-      tied = f.0;
-      statuses = plain_statuses s i r n facts cache step.there step.calm step.calm_now step.may step.loose sound.statuses;
-      behind = record { left_behind = sound.behind.left_behind };
-      notes = record { home = sound.notes.home; pinned = f.2 };
-      holds = f.1;
-    }
+    framed s (record s { queue = put s.queue i n; facts = facts; cache = cache }) frame refl (calm_blocks s (record s { queue = put s.queue i n; facts = facts; cache = cache }) (calmer_plain s i r n facts cache step.there step.calm step.calm_now step.may step.loose) sound.blocks) sound
 
 -- ---- a request is admitted
 
@@ -220,9 +176,6 @@ module _ (s : State) (i : ℕ) (r : Queued) (phase : Phase) (several : Bool) (ta
       (cases_lt by.0 i)))
       (sound.blocks.each lv b)
 
-  live_new : (lv b : ℕ) (c : Pp) → Live new lv b c → Live s lv b c
-  live_new lv b c live = record { copy = live.copy; counts = ⊎_elim (λ (f : IsFalse (is_settled_stale s c)). inl f) (λ (k : HasPassed new lv (track_group_of b) c). inr (record { copy = k.copy; is_open = k.is_open; target = k.target; passed = k.passed })) live.counts }
-
   read_now : (lv b : ℕ) → IsTrue (covers r lv b) → IsFalse r.write → (c : Pp) (x : Stage) → targets c ≡ Some x
       → IsIn (told s lv b).values (s.media.block lv b c) × (IsTrue (told s lv b).loose ⊎ ((e : Pp) → Live new lv b e → s.media.block lv b e ≡ s.media.block lv b c))
   read_now lv b over read c x at =
@@ -234,7 +187,7 @@ module _ (s : State) (i : ℕ) (r : Queued) (phase : Phase) (several : Bool) (ta
       let settled = quiet_there lv b over in (
         settled.allowed c live,
         ⊎_elim
-            (λ (agree : Agree s lv b). inr (λ e l. agree.1 e (live_new lv b e l) ∙ sym (agree.1 c live)))
+            (λ (agree : Agree s lv b). inr (λ e l. agree.1 e (live_same s new refl lv b e l) ∙ sym (agree.1 c live)))
             (λ (differ : MayDiffer s lv b (s.is_active lv)). inl (by_mode (s.is_active lv) lv b differ c live parts.1))
             settled.equal,
       )
@@ -262,7 +215,7 @@ module _ (s : State) (i : ℕ) (r : Queued) (phase : Phase) (several : Bool) (ta
           h.0,
           ⊎_elim
               (λ (loose : IsTrue (told s lv b).loose). inl loose)
-              (λ (equal : (g : Pp) → Live s lv b g → s.media.block lv b g ≡ s.media.block lv b c). inr (λ g live. equal g (live_new lv b g live)))
+              (λ (equal : (g : Pp) → Live s lv b g → s.media.block lv b g ≡ s.media.block lv b c). inr (λ g live. equal g (live_same s new refl lv b g live)))
               h.1,
         ))
         (put_cases s.queue i j n m h);
@@ -272,7 +225,7 @@ module _ (s : State) (i : ℕ) (r : Queued) (phase : Phase) (several : Bool) (ta
           h.0,
           ⊎_elim
               (λ (loose : IsTrue (told s lv b).loose). inl loose)
-              (λ (equal : (g : Pp) → Live s lv b g → s.media.block lv b g ≡ value b). inr (λ g live. equal g (live_new lv b g live)))
+              (λ (equal : (g : Pp) → Live s lv b g → s.media.block lv b g ≡ value b). inr (λ g live. equal g (live_same s new refl lv b g live)))
               h.1,
         ))
         (put_cases s.queue i j n m h);
@@ -294,8 +247,8 @@ module _ (s : State) (i : ℕ) (r : Queued) (phase : Phase) (several : Bool) (ta
   admit_core = record {
     blocks = calm_blocks s (record s { queue = put s.queue i n; facts = s.facts; cache = s.cache }) (calmer_plain s i r n s.facts s.cache step.there calm calm_now (λ lv b. refl) (λ lv b. refl)) sound.blocks;
     tied = admit_tied;
-    statuses = plain_statuses s i r n s.facts s.cache step.there calm calm_now (λ lv b. refl) (λ lv b. refl) sound.statuses;
-    behind = record { left_behind = sound.behind.left_behind };
+    statuses = same_statuses s new refl sound.statuses;
+    behind = same_behind s new refl sound.behind;
     notes = record {
       home = sound.notes.home;
       pinned = λ j m h write pins on sev. ⊎_elim

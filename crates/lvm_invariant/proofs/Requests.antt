@@ -1,5 +1,5 @@
 -- Requests by their numbers, and which of them conflict.
-use Rattle.std.proofs.Common.{◌≡◌, ◌⊎◌, inl, inr, ⊎_elim, ℕ, ◌<◌, Bool, true, false, ◌&&◌, Option, Some, refl, sym, ap, ◌∙◌, eqb-true, eq-eqb, eq-or-lt_of_le, ◌≤◌}
+use Rattle.std.proofs.Common.{◌≡◌, ◌⊎◌, inl, inr, ⊎_elim, ℕ, ◌<◌, Bool, true, false, ◌&&◌, Option, Some, refl, sym, ap, subst, ◌∙◌, eqb-true, eq-eqb, eq-or-lt_of_le, ◌≤◌}
 use Rattle.std.specs.Prelude.{IsTrue, IsFalse, ◌==◌, if◌then◌else◌}
 use Rattle.std.proofs.lemmas.Bool.{cases_lt}
 use Rattle.lvm_num.specs.declared.place.Pp.{Pp}
@@ -9,6 +9,9 @@ use Rattle.lvm_invariant.specs.Updates.{put, is_pp, staged}
 
 some_is : {X : Type 0} (a b : X) → Some a ≡ Some b → a ≡ b
 some_is a b e = cc
+
+pub one_req : {a b : Queued} → Some a ≡ Some b → a ≡ b
+one_req h = cc
 
 -- a test, with what it found
 pub decided : (t : Bool) → IsTrue t ⊎ IsFalse t
@@ -24,6 +27,21 @@ put_cases queue i j r e h = by_test (j == i) refl h
 
 pub put_same : (queue : ℕ → Option Queued) (i : ℕ) (r : Queued) → put queue i r i ≡ Some r
 put_same queue i r = ap (λ (t : Bool). if t then Some r else queue i) (eq-eqb i i refl)
+
+-- of the writes that have started now, each is the changed request or had started before
+module _ (s new : State) (i : ℕ) (next : Queued) (same : new.queue ≡ put s.queue i next) where
+  pub started_cases : (j : ℕ) (e : Queued) → Started new j e → ((j ≡ i) × (next ≡ e)) ⊎ (IsFalse (j == i) × Started s j e)
+  started_cases j e started = elim (put_cases s.queue i j next e (ap (λ (q : ℕ → Option Queued). q j) (sym same) ∙ started.there)) [
+    | inl is ↦ inl is
+    | inr other ↦ inr (other.0, record { there = other.1; write = started.write; going = started.going })
+  ]
+
+  pub by_started : (P : Queued → ℕ → ℕ → Type 0) → ((lv b : ℕ) → IsTrue (covers next lv b) → P next lv b)
+      → ((j lv b : ℕ) (e : Queued) → IsFalse (j == i) → Started s j e → IsTrue (covers e lv b) → P e lv b) → (j lv b : ℕ) (e : Queued) → Started new j e → IsTrue (covers e lv b) → P e lv b
+  by_started P now before j lv b e started over = ⊎_elim
+      (λ (is : (j ≡ i) × (next ≡ e)). subst (λ (q : Queued). P q lv b) is.1 (now lv b (ap (λ (q : Queued). covers q lv b) is.1 ∙ over)))
+      (λ (old : IsFalse (j == i) × Started s j e). before j lv b e old.0 old.1 over)
+      (started_cases j e started)
 
 pub put_other : (queue : ℕ → Option Queued) (i j : ℕ) (r : Queued) → IsFalse (j == i) → put queue i r j ≡ queue j
 put_other queue i j r h = ap (λ (t : Bool). if t then Some r else queue j) h

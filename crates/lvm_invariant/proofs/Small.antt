@@ -13,6 +13,18 @@ IsIn values value = IsSomeAnd values (λ vs. Stands value vs)
 pub never : {X : Type 0} (a : Bool) → IsTrue a → IsFalse a → X
 never a t f = absurd cc
 
+pub left_of : (a b : Bool) → IsTrue (a && b) → IsTrue a
+left_of true b h = refl
+left_of false b h = absurd cc
+
+pub right_of : (a b : Bool) → IsTrue (a && b) → IsTrue b
+right_of true b h = h
+right_of false b h = absurd cc
+
+pub both_of : (a b : Bool) → IsTrue a → IsTrue b → IsTrue (a && b)
+both_of true b h k = k
+both_of false b h k = absurd cc
+
 pub false_by : (a w : Bool) → (IsTrue a → IsTrue w) → IsFalse w → IsFalse a
 false_by true w f h = never w (f refl) h
 false_by false w f h = refl

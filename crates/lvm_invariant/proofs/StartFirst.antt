@@ -6,9 +6,10 @@ use Rattle.lvm_num.specs.Geometry.{track_group_of}
 use Rattle.lvm_num.specs.Record.{Stamped}
 use Rattle.lvm_invariant.proofs.Small.{IsIn, never}
 use Rattle.lvm_invariant.specs.State.{Marks, Stage, Todo, Flying, Well, Phase, Ready, Going, Queued, State, covers, stale_in, is_settled_stale, is_usable, HasPassed, Live, Named, Started, told}
-use Rattle.lvm_invariant.specs.Sound.{Settled, Busy, Recorded, Blocks, Complete, Sound, Agree, MayDiffer}
-use Rattle.lvm_invariant.proofs.Requests.{decided, put_cases, put_same, put_other, staged_cases, staged_was, staged_is, alone, past_of}
+use Rattle.lvm_invariant.specs.Sound.{Settled, Busy, Recorded, Blocks, Complete, Sound}
+use Rattle.lvm_invariant.proofs.Requests.{decided, put_same, put_other, staged_cases, staged_was, staged_is, alone, past_of, one_req, started_cases, by_started}
 use Rattle.lvm_invariant.specs.StartWrite.{MayStart, going, started_first}
+use Rattle.lvm_invariant.proofs.SoundLemmas.{live_same, equal_same, recorded_same}
 
 -- a phase isn't two
 pub not_both : {X : Type 0} (p : Phase) → p ≡ Ready → p ≡ Going → X
@@ -82,11 +83,8 @@ module _ (s : State) (sound : Sound s) (i : ℕ) (r : Queued) (c : Pp) (may : Ma
   others_elsewhere : (j lv b : ℕ) (e : Queued) → Started s j e → IsTrue (covers r lv b) → IsTrue (covers e lv b) → ⊥
   others_elsewhere j lv b e started over_r over_e =
       let same : i ≡ j = alone s sound i j r e may.there started.there (past_of r.phase Ready may.ready refl) (past_of e.phase Going started.going refl) (record { lv = lv; block = b; first = over_r; second = over_e; writes = inl may.write }) in
-      let is : r ≡ e = same_req (sym may.there ∙ ap s.queue same ∙ started.there) in
+      let is : r ≡ e = one_req (sym may.there ∙ ap s.queue same ∙ started.there) in
       not_both e.phase (ap (λ (q : Queued). q.phase) (sym is) ∙ may.ready) started.going
-    where
-      same_req : {a b : Queued} → Some a ≡ Some b → a ≡ b
-      same_req h = cc
 
   settled_where : (lv b : ℕ) → IsTrue (covers r lv b) → Settled s lv b
   settled_where lv b over = elim (sound.blocks.each lv b) [
@@ -97,46 +95,24 @@ module _ (s : State) (sound : Sound s) (i : ℕ) (r : Queued) (c : Pp) (may : Ma
   is_started : Started new i next
   is_started = record { there = put_same s.queue i next; write = may.write; going = refl }
 
-  -- a write that has started now is this one, or had started before
-  started_cases : (j : ℕ) (e : Queued) → Started new j e → ((j ≡ i) × (next ≡ e)) ⊎ (IsFalse (j == i) × Started s j e)
-  started_cases j e started = elim (put_cases s.queue i j next e started.there) [
-    | inl is ↦ inl is
-    | inr other ↦ inr (other.0, record { there = other.1; write = started.write; going = started.going })
-  ]
-
   -- a write that had started is another
   another : (j : ℕ) (e : Queued) → Started s j e → IsFalse (j == i)
   another j e started = ⊎_elim
       (λ (same : IsTrue (j == i)).
-      let is : r ≡ e = same_req (sym may.there ∙ ap s.queue (sym (eqb-true _ _ same)) ∙ started.there) in
+      let is : r ≡ e = one_req (sym may.there ∙ ap s.queue (sym (eqb-true _ _ same)) ∙ started.there) in
       not_both e.phase (ap (λ (q : Queued). q.phase) (sym is) ∙ may.ready) started.going)
       (λ (n : IsFalse (j == i)). n)
       (decided (j == i))
-    where
-      same_req : {a b : Queued} → Some a ≡ Some b → a ≡ b
-      same_req h = cc
-
-  live_before : (lv b : ℕ) (e : Pp) → Live new lv b e → Live s lv b e
-  live_before lv b e live = record { copy = live.copy; counts = ⊎_elim (λ (f : _). inl f) (λ (k : HasPassed new lv (track_group_of b) e). inr (record { copy = k.copy; is_open = k.is_open; target = k.target; passed = k.passed })) live.counts }
-
-  named_now : (d lv g : ℕ) → Named s d lv g → Named new d lv g
-  named_now d lv g named = record { home = named.home; flying = named.flying }
 
   calm_now : (lv b : ℕ) → IsFalse (covers r lv b) → Settled s lv b → Settled new lv b
   calm_now lv b off settled = record {
     calm = λ j e started over. ⊎_elim
         (λ (is : (j ≡ i) × (next ≡ e)). never (covers r lv b) (ap (λ (q : Queued). covers q lv b) is.1 ∙ over) off)
         (λ (old : IsFalse (j == i) × Started s j e). settled.calm j e old.1 over)
-        (started_cases j e started);
-    allowed = λ e live. settled.allowed e (live_before lv b e live);
-    equal = equal_now (s.is_active lv) settled.equal;
+        (started_cases s new i next refl j e started);
+    allowed = λ e live. settled.allowed e (live_same s new refl lv b e live);
+    equal = equal_same s new refl lv b (λ h. h) (λ e live. (live_same s new refl lv b e live, refl)) (s.is_active lv) settled.equal;
   }
-    where
-      equal_now : (active : Bool) → Agree s lv b ⊎ MayDiffer s lv b active → Agree new lv b ⊎ MayDiffer new lv b active
-      equal_now active (inl agree) = inl (agree.0, λ e live. agree.1 e (live_before lv b e live))
-      equal_now true (inr differ) = inr (λ e live. let d = differ e (live_before lv b e live) in (d.0, named_now e.disk lv (track_group_of b) d.1))
-      equal_now false (inr (inl loose)) = inr (inl loose)
-      equal_now false (inr (inr d)) = inr (inr (record { passive = d.passive; missing = λ e live. d.missing e (live_before lv b e live); dirty = d.dirty }))
 
   busy_now : (lv b : ℕ) → IsTrue (covers r lv b) → Busy new next lv b
   busy_now lv b over =
@@ -148,8 +124,8 @@ module _ (s : State) (sound : Sound s) (i : ℕ) (r : Queued) (c : Pp) (may : Ma
       let at_first : (e : Pp) → IsFalse (is_settled_stale s e) ⊎ HasPassed s lv (track_group_of b) e → IsFalse (is_settled_stale s e) ⊎ HasPassed s r.lv (track_group_of r.first) e = λ e counts. ⊎_elim (λ (f : IsFalse (is_settled_stale s e)). inl f) (λ (k : HasPassed s lv (track_group_of b) e). inr (subst (λ (g : ℕ). HasPassed s r.lv g e) place.1 (subst (λ (v : ℕ). HasPassed s v (track_group_of b) e) place.0 k))) counts in
       record {
         known = known_of (told s lv b).values (s.media.block lv b may.source) (settled.allowed may.source live_one);
-        aimed = λ e live. staged_is r.targets c e Flying Todo (target_if_live e (copy_of e live.copy) (at_first e (live_before lv b e live).counts));
-        value = λ e live. inl (settled.allowed e (live_before lv b e live));
+        aimed = λ e live. staged_is r.targets c e Flying Todo (target_if_live e (copy_of e live.copy) (at_first e (live_same s new refl lv b e live).counts));
+        value = λ e live. inl (settled.allowed e (live_same s new refl lv b e live));
         well = λ e is. ⊎_elim
             (λ (f : Flying ≡ Well). absurd (differ f))
             (λ (t : r.targets e ≡ Some Well). absurd (todo (may.unstarted e Well t)))
@@ -187,12 +163,7 @@ module _ (s : State) (sound : Sound s) (i : ℕ) (r : Queued) (c : Pp) (may : Ma
   busy_kept : (j lv b : ℕ) (e : Queued) → IsFalse (j == i) → Started s j e → IsTrue (covers e lv b) → Busy new e lv b
   busy_kept j lv b e other started over =
       let busy = sound.blocks.busy j lv b e started over in
-      record { known = busy.known; aimed = λ f live. busy.aimed f (live_before lv b f live); value = λ f live. busy.value f (live_before lv b f live); well = busy.well }
-
-  recorded_kept : (j lv b : ℕ) (e : Queued) → Started s j e → IsTrue (covers e lv b) → Recorded new e lv b
-  recorded_kept j lv b e started over =
-      let recorded = sound.blocks.recorded j lv b e started over in
-      record { named = λ on several f stage at. named_now f.disk lv (track_group_of b) (recorded.named on several f stage at); dirty = recorded.dirty; one = recorded.one; single = recorded.single }
+      record { known = busy.known; aimed = λ f live. busy.aimed f (live_same s new refl lv b f live); value = λ f live. busy.value f (live_same s new refl lv b f live); well = busy.well }
 
   pub first_blocks : Blocks new
   first_blocks = record {
@@ -204,12 +175,6 @@ module _ (s : State) (sound : Sound s) (i : ℕ) (r : Queued) (c : Pp) (may : Ma
         inr (by.0, by.1, record { there = put_other s.queue i by.0 next (another by.0 by.1 by.2) ∙ by.2.there; write = by.2.write; going = by.2.going }, by.3))
         (sound.blocks.each lv b))
         (decided (covers r lv b));
-    busy = λ j lv b e started over. ⊎_elim
-        (λ (is : (j ≡ i) × (next ≡ e)). subst (λ (q : Queued). Busy new q lv b) is.1 (busy_now lv b (ap (λ (q : Queued). covers q lv b) is.1 ∙ over)))
-        (λ (old : IsFalse (j == i) × Started s j e). busy_kept j lv b e old.0 old.1 over)
-        (started_cases j e started);
-    recorded = λ j lv b e started over. ⊎_elim
-        (λ (is : (j ≡ i) × (next ≡ e)). subst (λ (q : Queued). Recorded new q lv b) is.1 (recorded_now lv b (ap (λ (q : Queued). covers q lv b) is.1 ∙ over)))
-        (λ (old : IsFalse (j == i) × Started s j e). recorded_kept j lv b e old.1 over)
-        (started_cases j e started);
+    busy = by_started s new i next refl (Busy new) busy_now busy_kept;
+    recorded = by_started s new i next refl (Recorded new) recorded_now (λ j lv b e other started over. recorded_same s new refl lv b e (sound.blocks.recorded j lv b e started over));
   }

@@ -1,8 +1,8 @@
 -- What an entry changes of what is known of a block, seen by the requests that are open there.
-use Rattle.std.proofs.Common.{◌≡◌, ◌⊎◌, inl, inr, ⊎_elim, ℕ, ◌<◌, Bool, true, false, ◌&&◌, ◌||◌, not, List, [], ◌∷◌, ◌++◌, Some, None, refl, sym, ap, subst, ◌∙◌, eqb-true, eq-eqb, arith, count_by}
-use Rattle.std.specs.Prelude.{IsTrue, IsFalse, ◌==◌, if◌then◌else◌, option_map, filter, nat_lt, nat_lt}
+use Rattle.std.proofs.Common.{◌≡◌, ◌⊎◌, inl, inr, ⊎_elim, ℕ, ◌<◌, Bool, true, false, ◌&&◌, ◌||◌, not, List, [], ◌∷◌, ◌++◌, Option, Some, None, refl, sym, ap, subst, ◌∙◌, eqb-true, eq-eqb, arith, count_by}
+use Rattle.std.specs.Prelude.{IsTrue, IsFalse, ◌==◌, if◌then◌else◌, option_map, filter, nat_lt}
 use Rattle.std.specs.List.{find}
-use Rattle.lvm_num.specs.Buffer.{Sector, zero_sector, zero_sector}
+use Rattle.lvm_num.specs.Buffer.{Sector, zero_sector}
 use Rattle.lvm_vol.specs.declared.entry.Vol.{Vol}
 use Rattle.lvm_vol.specs.declared.entry.Vol.TheVariants.{Lv}
 use Rattle.lvm_vol.specs.declared.entry.Outcome.{Outcome}
@@ -14,21 +14,9 @@ use Rattle.lvm_vol.proofs.Knowing.{known-push, ended_open, read_open}
 use Rattle.lvm_vol.proofs.Legality.{grow_legal, counted_well, same_self}
 use Rattle.lvm_vol.proofs.Order.{stands_left, stands_last}
 use Rattle.lvm_invariant.specs.State.{write_in, write_of}
-use Rattle.lvm_invariant.proofs.Small.{never}
+use Rattle.lvm_invariant.proofs.Small.{never, left_of as and_left, right_of as and_right, both_of as both}
 
 -- ---- names
-
-and_left : (a b : Bool) → IsTrue (a && b) → IsTrue a
-and_left true b h = refl
-and_left false b h = absurd cc
-
-and_right : (a b : Bool) → IsTrue (a && b) → IsTrue b
-and_right true b h = h
-and_right false b h = absurd cc
-
-both : (a b : Bool) → IsTrue a → IsTrue b → IsTrue (a && b)
-both true b h k = k
-both false b h k = absurd cc
 
 pub same_run : (r s : Request) → IsTrue (same_request r s) → r.run ≡ s.run
 same_run r s h = eqb-true _ _ (and_left (r.run == s.run) (r.id == s.id) h)
@@ -115,31 +103,25 @@ ended_tight r outcome.Got started x k calm tight = tight
 ended_tight r outcome.ReadFailed started x k calm tight = tight
 ended_tight r outcome.NoFresh started x k calm tight = tight
 
-read_mode : (how : Outcome) (x : Sector) (k : Known) → (read how x k).mode ≡ k.mode
-read_mode outcome.Got x k = by_loose k.loose
+-- a read changes at most the values
+read_still : {X : Type 0} (part : Known → X) → ((values : Option (List Sector)) (k : Known) → part (record k { values = values }) ≡ part k) → (how : Outcome) (x : Sector) (k : Known) → part (read how x k) ≡ part k
+read_still part same outcome.Got x k = by_loose k.loose
   where
-    by_loose : (t : Bool) → (if t then k else record k { values = Some (x ∷ []) }).mode ≡ k.mode
+    by_loose : (t : Bool) → part (if t then k else record k { values = Some (x ∷ []) }) ≡ part k
     by_loose true = refl
-    by_loose false = refl
-read_mode outcome.Done x k = refl
-read_mode outcome.Lost x k = refl
-read_mode outcome.ReadFailed x k = refl
-read_mode outcome.NoFresh x k = refl
-read_mode outcome.Off x k = refl
-read_mode outcome.Dark x k = refl
+    by_loose false = same (Some (x ∷ [])) k
+read_still part same outcome.Done x k = refl
+read_still part same outcome.Lost x k = refl
+read_still part same outcome.ReadFailed x k = refl
+read_still part same outcome.NoFresh x k = refl
+read_still part same outcome.Off x k = refl
+read_still part same outcome.Dark x k = refl
+
+read_mode : (how : Outcome) (x : Sector) (k : Known) → (read how x k).mode ≡ k.mode
+read_mode how x k = read_still (λ (k : Known). k.mode) (λ values k. refl) how x k
 
 read_loose : (how : Outcome) (x : Sector) (k : Known) → (read how x k).loose ≡ k.loose
-read_loose outcome.Got x k = by_loose k.loose
-  where
-    by_loose : (t : Bool) → (if t then k else record k { values = Some (x ∷ []) }).loose ≡ k.loose
-    by_loose true = refl
-    by_loose false = refl
-read_loose outcome.Done x k = refl
-read_loose outcome.Lost x k = refl
-read_loose outcome.ReadFailed x k = refl
-read_loose outcome.NoFresh x k = refl
-read_loose outcome.Off x k = refl
-read_loose outcome.Dark x k = refl
+read_loose how x k = read_still (λ (k : Known). k.loose) (λ values k. refl) how x k
 
 -- what is so however the request ends is so after it has
 pub by_landing : (P : Known → Type 0) (r : Request) (how : Outcome) (started over write still : Bool) (x y : Sector) (k : Known)
@@ -149,6 +131,11 @@ by_landing P r how started false write still x y k same e g = same
 by_landing P r how started true true true x y k same e g = e refl refl refl
 by_landing P r how started true true false x y k same e g = same
 by_landing P r how started true false still x y k same e g = g refl refl
+
+-- the mode of a block stays, however a request lands there
+pub landed_mode : (r : Request) (how : Outcome) (started over : Bool) (x y : Sector) (k : Known) → (if over then landed r how started x y k else k).mode ≡ k.mode
+landed_mode r how started over x y k = by_landing (λ (m : Known). m.mode ≡ k.mode) r how started over r.write (is_open_in r k.open_writes) x y k refl
+    (λ is write still. ended_mode r how started x k) (λ is is_read. read_mode how y k)
 
 module _ (facts : List Fact) (r : Request) (how : Outcome) (started : Bool) (got : List (List ℕ)) (lv b : ℕ) where
   abbrev was : Known

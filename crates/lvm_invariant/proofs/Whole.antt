@@ -2,22 +2,21 @@
 use Rattle.std.proofs.Common.{◌≡◌, inl, inr, ⊎_elim, ℕ, Bool, true, false, Option, Some, None, refl, sym, ap, subst, ◌∙◌, eqb-true}
 use Rattle.std.specs.Prelude.{IsTrue, IsFalse, ◌==◌, if◌then◌else◌, List}
 use Rattle.lvm_num.specs.declared.place.Pp.{Pp}
-use Rattle.lvm_num.specs.Geometry.{track_group_of}
 use Rattle.lvm_num.specs.Record.{Stamped}
-use Rattle.lvm_invariant.specs.State.{Marks, Queued, State, has_landed, is_pinning, is_settled_stale, HasPassed, Live, Started, told, write_of}
-use Rattle.lvm_invariant.specs.Sound.{Complete, Sound}
-use Rattle.lvm_invariant.proofs.Claims.{Frame, Calmer, Quiet}
+use Rattle.lvm_invariant.specs.State.{Marks, Queued, State, has_landed, is_pinning, Live, Started, told, write_of}
+use Rattle.lvm_invariant.specs.Sound.{Sound}
+use Rattle.lvm_invariant.proofs.SoundLemmas.{live_same, same_behind, same_statuses}
+use Rattle.lvm_invariant.proofs.Claims.{Frame, Calmer}
 use Rattle.lvm_invariant.proofs.Small.{never, IsIn}
-use Rattle.lvm_invariant.proofs.Requests.{decided}
-use Rattle.lvm_invariant.proofs.Calm.{calm_blocks}
-use Rattle.lvm_invariant.proofs.Framing.{frame_keeps}
-use Rattle.lvm_invariant.proofs.Quieting.{nearly, one_req, alike_same, quiet_nearly}
-use Rattle.lvm_invariant.proofs.Writes.{same_statuses}
+use Rattle.lvm_invariant.proofs.Requests.{decided, one_req}
+use Rattle.lvm_invariant.proofs.Calm.{calm_blocks, calmer_of}
+use Rattle.lvm_invariant.proofs.Quieting.{alike_same, quiet_of, quiet_sound}
 use Rattle.lvm_invariant.specs.Take.{Takes}
 use Rattle.lvm_invariant.specs.Updates.{without, with_status}
 use Rattle.lvm_vol.specs.declared.entry.Vol.TheVariants.{Lv}
 use Rattle.lvm_vol.specs.Facts.{Fact}
 use Rattle.lvm_vol.specs.May.{Known, known}
+use Rattle.lvm_invariant.proofs.Framing.{framed}
 
 -- ---- a status moves
 
@@ -25,41 +24,9 @@ module _ (s : State) (status : ℕ → Option (Stamped Marks)) (flying : ℕ →
   abbrev moved : State
   moved = record s { media = with_status s.media status; status_flying = flying }
 
-  complete_moved : (c : Pp) → Complete s c → Complete moved c
-  complete_moved c k = record { copy = k.copy; is_open = k.is_open; target = k.target; passed = k.passed }
-
   pub moved_core : Sound moved
-  moved_core =
-      let quiet : Quiet s moved = record {
-        queue = λ i. refl;
-        known_same = λ lv b. refl;
-        run = refl;
-        active = λ lv. refl;
-        passive = λ lv. refl;
-        dirty = λ lv h. h;
-        copies = λ lv b. refl;
-        block = λ lv b e. refl;
-        live = λ lv b e live. record { copy = live.copy; counts = ⊎_elim (λ (f : IsFalse (is_settled_stale s e)). inl f) (λ (k : HasPassed moved lv (track_group_of b) e). inr (record { copy = k.copy; is_open = k.is_open; target = k.target; passed = k.passed })) live.counts };
-        cache = λ lv g. refl;
-        missing_still = λ d h. h;
-        named_missing = λ d lv g gone named. record { home = named.home; flying = named.flying };
-        named_pinned = λ d lv g cached named. record { home = named.home; flying = named.flying };
-      } in
-      let n = quiet_nearly s moved quiet (nearly s sound) (record {
-        home = sound.notes.home;
-        statuses = record {
-          stale_flies = λ e u f stale fresh. ⊎_elim (λ (w : IsTrue (s.wanted.stale e)). inl w) (λ (k : Complete s e). inr (complete_moved e k)) (sound.statuses.stale_flies e u f stale fresh);
-          stale_is_wanted = λ e stale m. complete_moved e (sound.statuses.stale_is_wanted e stale m);
-          flying_is_wanted = λ e u f stale m. complete_moved e (sound.statuses.flying_is_wanted e u f stale m);
-          kept = λ lv b e copy. let k = sound.statuses.kept lv b e copy in (k.0, k.1, record { committed = k.2.committed; flying = k.2.flying; wanted = k.2.wanted });
-          open_there = sound.statuses.open_there;
-          open_stale = sound.statuses.open_stale;
-          dirty_flies = sound.statuses.dirty_flies;
-          dirty_is_wanted = sound.statuses.dirty_is_wanted;
-          dirty_flying_is_wanted = sound.statuses.dirty_flying_is_wanted;
-        };
-      }) in
-      record { blocks = n.blocks; tied = n.tied; statuses = n.statuses; behind = record { left_behind = sound.behind.left_behind }; notes = n.notes; holds = n.holds }
+  moved_core = quiet_sound s moved (quiet_of s moved refl refl (live_same s moved refl) (λ lv h. h) (λ d h. h)) sound
+      (record { home = sound.notes.home; statuses = same_statuses s moved refl sound.statuses }) (same_behind s moved refl sound.behind)
 
 -- ---- a request is taken
 
@@ -69,40 +36,21 @@ module _ (s : State) (queue : ℕ → Option Queued) (before : (j : ℕ) (e : Qu
   abbrev taken : State
   taken = record s { queue = queue; facts = facts }
 
-  live_taken : (lv b : ℕ) (e : Pp) → Live taken lv b e → Live s lv b e
-  live_taken lv b e live = record { copy = live.copy; counts = ⊎_elim (λ (f : IsFalse (is_settled_stale s e)). inl f) (λ (k : HasPassed taken lv (track_group_of b) e). inr (record { copy = k.copy; is_open = k.is_open; target = k.target; passed = k.passed })) live.counts }
-
   pub left_core : Sound taken
   left_core =
-      let calmer : Calmer s taken = record {
-        started = λ j e started. record { there = before j e started.there; write = started.write; going = started.going };
-        started_still = λ j e started. record { there = stays j e started; write = started.write; going = started.going };
-        may = λ lv b. ap (λ (k : Known). k.values) (same_known lv b);
-        loose = λ lv b h. ap (λ (k : Known). k.loose) (same_known lv b) ∙ h;
-        block = λ lv b c. refl;
-        live = live_taken;
-        active = λ lv. refl;
-        passive = λ lv. refl;
-        dirty = λ lv h. h;
-        missing_still = λ d h. h;
-        named_missing = λ d lv g gone named. record { home = named.home; flying = named.flying };
-        named_started = λ j lv b d e started over on several named. record { home = named.home; flying = named.flying };
-      } in
+      let calmer : Calmer s taken = calmer_of s taken refl (λ j e started. record { there = before j e started.there; write = started.write; going = started.going }) (λ j e started. record { there = stays j e started; write = started.write; going = started.going })
+      (λ lv b. ap (λ (k : Known). k.values) (same_known lv b)) (λ lv b. ap (λ (k : Known). k.loose) (same_known lv b)) in
       let frame : Frame s taken = record {
         from = λ j n h. (n, before j n h, alike_same n);
         writes = λ j n h write unlanded lv b. ap (λ (k : Known). write_of b k (s.name j)) (same_known lv b);
-        run = refl;
+        same = refl;
         modes = λ lv b. ap (λ (k : Known). k.mode) (same_known lv b);
-        active = λ lv. refl;
-        passive = λ lv. refl;
-        dirty = λ lv h. h;
-        copies = λ lv b. refl;
         tight = λ lv b c copy on. ap (λ (k : Known). k.loose) (same_known lv b) ∙ sound.tied.tight lv b c copy on;
         seen = λ j lv b e n v seen h past. (
           subst (λ (k : Known). IsIn k.values v) (sym (same_known lv b)) seen.allowed,
           ⊎_elim
               (λ (loose : IsTrue (told s lv b).loose). inl (ap (λ (k : Known). k.loose) (same_known lv b) ∙ loose))
-              (λ (equal : (g : Pp) → Live s lv b g → s.media.block lv b g ≡ v). inr (λ g live. equal g (live_taken lv b g live)))
+              (λ (equal : (g : Pp) → Live s lv b g → s.media.block lv b g ≡ v). inr (λ g live. equal g (live_same s taken refl lv b g live)))
               seen.equal,
         );
         still = λ j lv b e n c seen h past. refl;
@@ -110,15 +58,7 @@ module _ (s : State) (queue : ℕ → Option Queued) (before : (j : ℕ) (e : Qu
         pinning = λ j e n was is write pins on several. inl (ap (λ (q : Queued). is_pinning q.phase) (one_req (sym was ∙ before j n is)) ∙ pins);
         cache = λ j e h write pinning on several cached. cached;
       } in
-      let f = frame_keeps s taken frame (nearly s sound) in
-      record {
-        blocks = calm_blocks s taken calmer sound.blocks;
-        tied = f.0;
-        statuses = same_statuses s sound s.media.block queue facts;
-        behind = record { left_behind = sound.behind.left_behind };
-        notes = record { home = sound.notes.home; pinned = f.2 };
-        holds = f.1;
-      }
+      framed s taken frame refl (calm_blocks s taken calmer sound.blocks) sound
 
 -- a request that has landed leaves the queue
 module _ (s : State) (i : ℕ) (r : Queued) (step : Takes s i r) where

@@ -22,6 +22,8 @@ use Rattle.lvm_invariant.specs.Worked.{held, waiting, ready, one_out, both_out, 
 use Rattle.lvm_invariant.proofs.First.{nothing, not_so, left, right, both, first_is_good, bringing_up_is_good}
 use Rattle.lvm_invariant.proofs.Whole.{told_core}
 use Rattle.lvm_invariant.proofs.Worked.{leads, allows_append, first_put, none_below, pp_is, at_either, placed, update_allowed}
+use Rattle.lvm_invariant.proofs.Asking.{told_of_none}
+use Rattle.lvm_invariant.proofs.WorkedWrites.{submits}
 
 -- ---- a read
 
@@ -196,14 +198,7 @@ copy_is_brought_up votes mode enough =
 
 disks_lost_allowed : (votes : Votes) (mode : Mode) → AllowsAll votes disks_lost (at_rest mode false)
 disks_lost_allowed votes mode = (
-  record {
-    held = refl;
-    newest = λ j e is. nothing e is;
-    placed = placed mode false None 1 true false held.value (omega arith);
-    request = refl;
-    same = record { vol = refl; over = λ lv b. refl; write = refl; value = λ lv b write over. refl };
-    next = refl;
-  },
+  submits mode,
   (
     record {
       missing_still = λ d h. refl;
@@ -278,15 +273,7 @@ earlier_is_good votes mode enough =
     record {
       sound = told_core (at_rest mode false) rest.sound (with_earlier mode).facts (λ lv b. same lv b);
       found = let f = rest.found in record { set = f.set; enough = f.enough; have = f.have; only = f.only; newer = f.newer };
-      told = record {
-        legal = (tt, (tt, (refl, (record { began = inr (inr (inl refl)); first = refl; kind = tt; reads = tt }, tt))));
-        same = λ i r there a. nothing r there;
-        began = λ i r there a. nothing r there;
-        ended = λ i r there a. nothing r there;
-        untaken = λ i r there a. nothing r there;
-        apart = λ i j r e there at a b other. nothing r there;
-        steps_read = λ i r there step. nothing r there;
-      };
+      told = told_of_none _ _ _ (λ i r there. nothing r there) (tt, (tt, (refl, (record { began = inr (inr (inl refl)); first = refl; kind = tt; reads = tt }, tt))));
     }
   where
     by : (t : Bool) (k : Known) → (if t then k else k) ≡ k

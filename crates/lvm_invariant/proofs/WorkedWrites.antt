@@ -6,7 +6,7 @@ use Rattle.lvm_num.specs.declared.descriptor.Mode.{Mode}
 use Rattle.lvm_num.specs.declared.descriptor.Mode.TheVariants.{Active, Passive, Off}
 use Rattle.lvm_num.specs.Buffer.{zero_sector}
 use Rattle.lvm_num.specs.Record.{Stamped}
-use Rattle.lvm_invariant.specs.State.{Marks, Stage, Todo, Flying, Well, Badly, WantEntry, Ready, Queued, State, covers, stale_in}
+use Rattle.lvm_invariant.specs.State.{Marks, Stage, Todo, Flying, Well, Badly, WantEntry, Ready, Queued, State, covers, stale_in, is_usable, Groups}
 use Rattle.lvm_invariant.specs.Updates.{is_pp, land}
 use Rattle.lvm_invariant.specs.Found.{Votes}
 use Rattle.lvm_invariant.specs.Submit.{Submits}
@@ -19,6 +19,7 @@ use Rattle.lvm_invariant.specs.Worked.{asked, held, both_at, phase_in, ready, on
 use Rattle.lvm_invariant.proofs.First.{nothing, not_so, left, right, both, first_is_good}
 use Rattle.lvm_invariant.proofs.Small.{never}
 use Rattle.lvm_invariant.proofs.Worked.{leads, allows_append, not_either, first_put, none_below, pp_is, on_two, at_either, placed, note_ends, update_allowed}
+use Rattle.lvm_invariant.specs.StartWrite.{MayStart}
 
 -- ---- it is asked and admitted
 
@@ -142,62 +143,38 @@ aimed e stage at = at_either Todo (is_either e) stage at
 its_target : (e : Pp) → IsTrue (is_either e) → both_at Todo e ≡ Some Todo
 its_target e is = ap (λ (t : Bool). if t then Some Todo else None) is
 
+-- where both copies are usable and none is wanted stale, a write may start its first transfer, given that it is recorded
+may_go : (s : State) → s.queue 1 ≡ Some ready → ((e : Pp) → s.is_copy 1 0 e ≡ is_either e) → ((e : Pp) → IsTrue (is_usable s e)) → ((e : Pp) → IsFalse (s.wanted.stale e))
+    → (IsTrue (s.is_active 1) → (e : Pp) → IsTrue (is_either e) → IsTrue (s.home_note e.disk 1 0) × ((n : Groups) → s.flying_note e.disk ≡ Some n → IsTrue (n 1 0)))
+    → (IsTrue (s.is_passive 1) → IsTrue (s.committed.value.dirty 1)) → MayStart s 1 ready first_copy
+may_go s there copies usable unwanted named dirty = record {
+  there = there;
+  write = refl;
+  ready = refl;
+  target = refl;
+  unstarted = λ e stage at. (aimed e stage at).1;
+  source = first_copy;
+  source_copy = copies first_copy;
+  source_usable = usable first_copy;
+  usable = λ e stage at. inl (usable e);
+  each = λ e copy is. its_target e (sym (copies e) ∙ copy);
+  quiet = λ e copy stale. never (s.wanted.stale e) stale (unwanted e);
+  named = λ on several e stage at. named on e (aimed e stage at).0;
+  dirty = λ soft several. dirty soft;
+  single = λ one e f x y at_e at_f. not_either one;
+}
+
 goes_out : (votes : Votes) (mode : Mode) → AllowsAll votes (StartWrite 1 ready first_copy ∷ Transfer 1 one_out second_copy Flying zeros ∷ []) (recorded_in mode)
 goes_out votes Active = (
-  record {
-    there = refl;
-    write = refl;
-    ready = refl;
-    target = refl;
-    unstarted = λ e stage at. (aimed e stage at).1;
-    source = first_copy;
-    source_copy = refl;
-    source_usable = refl;
-    usable = λ e stage at. inl refl;
-    each = λ e copy usable. its_target e copy;
-    quiet = λ e copy stale. not_so stale;
-    named = λ on several e stage at. (both (two_disks e.disk) true (on_two e (aimed e stage at).0) refl, λ n flies. nothing n flies);
-    dirty = λ soft several. not_so soft;
-    single = λ one e f x y at_e at_f. not_either one;
-  },
+  may_go _ refl (λ e. refl) (λ e. refl) (λ e. refl) (λ on e is. (both (two_disks e.disk) true (on_two e is) refl, λ n flies. nothing n flies)) (λ soft. not_so soft),
   (record { started = record { there = refl; write = refl; going = refl }; was = (Todo, refl); media = λ lv b e. inl refl; well = λ is. absurd cc }, tt),
 )
 goes_out votes Passive = (
-  record {
-    there = refl;
-    write = refl;
-    ready = refl;
-    target = refl;
-    unstarted = λ e stage at. (aimed e stage at).1;
-    source = first_copy;
-    source_copy = refl;
-    source_usable = refl;
-    usable = λ e stage at. inl refl;
-    each = λ e copy usable. its_target e copy;
-    quiet = λ e copy stale. not_so stale;
-    named = λ on several e stage at. not_so on;
-    dirty = λ soft several. refl;
-    single = λ one e f x y at_e at_f. not_either one;
-  },
+  may_go _ refl (λ e. refl) (λ e. refl) (λ e. refl) (λ on. not_so on) (λ soft. refl),
   (record { started = record { there = refl; write = refl; going = refl }; was = (Todo, refl); media = λ lv b e. inl refl; well = λ is. absurd cc }, tt),
 )
 goes_out votes Off = (
-  record {
-    there = refl;
-    write = refl;
-    ready = refl;
-    target = refl;
-    unstarted = λ e stage at. (aimed e stage at).1;
-    source = first_copy;
-    source_copy = refl;
-    source_usable = refl;
-    usable = λ e stage at. inl refl;
-    each = λ e copy usable. its_target e copy;
-    quiet = λ e copy stale. not_so stale;
-    named = λ on several e stage at. not_so on;
-    dirty = λ soft several. not_so soft;
-    single = λ one e f x y at_e at_f. not_either one;
-  },
+  may_go _ refl (λ e. refl) (λ e. refl) (λ e. refl) (λ on. not_so on) (λ soft. not_so soft),
   (record { started = record { there = refl; write = refl; going = refl }; was = (Todo, refl); media = λ lv b e. inl refl; well = λ is. absurd cc }, tt),
 )
 

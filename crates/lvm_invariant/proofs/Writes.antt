@@ -1,54 +1,23 @@
 -- What is true of a session is kept by the events of a write's data.
-use Rattle.std.proofs.Common.{◌≡◌, ◌⊎◌, inl, inr, ⊎_elim, ℕ, Bool, true, false, List, Option, Some, refl, sym, ap, subst, ◌∙◌}
+use Rattle.std.proofs.Common.{◌≡◌, ◌⊎◌, inl, inr, ⊎_elim, ℕ, true, false, List, Some, refl, sym, ap, subst, ◌∙◌}
 use Rattle.std.specs.Prelude.{IsTrue, IsFalse, ◌==◌}
 use Rattle.lvm_num.specs.declared.place.Pp.{Pp}
-use Rattle.lvm_num.specs.Geometry.{track_group_of}
 use Rattle.lvm_vol.specs.May.{Known}
 use Rattle.lvm_invariant.proofs.Small.{IsIn, never}
-use Rattle.lvm_invariant.specs.State.{Stage, Todo, Flying, Ready, Going, Landed, Queued, State, covers, is_past, has_landed, is_pinning, is_settled_stale, HasPassed, Live, Started, told}
-use Rattle.lvm_invariant.specs.Sound.{Complete, Statuses, Sound}
+use Rattle.lvm_invariant.specs.State.{Stage, Todo, Flying, Ready, Going, Landed, Queued, State, covers, is_past, has_landed, is_pinning, Live, Started, told}
+use Rattle.lvm_invariant.specs.Sound.{Sound, Blocks}
+use Rattle.lvm_invariant.proofs.SoundLemmas.{live_same}
 use Rattle.lvm_invariant.proofs.Effects.{ClosesOnly}
 use Rattle.lvm_invariant.proofs.Claims.{Alike, Seen, Frame, FirstKeeps, RestagingKeeps, DoneKeeps, LostKeeps}
-use Rattle.lvm_invariant.proofs.Requests.{decided, put_cases, staged_was, staged_is, alone, past_of}
+use Rattle.lvm_invariant.proofs.Requests.{decided, put_cases, staged_was, staged_is, alone, past_of, one_req}
 use Rattle.lvm_invariant.proofs.StartFirst.{first_blocks}
 use Rattle.lvm_invariant.proofs.Restage.{restaged_blocks}
 use Rattle.lvm_invariant.proofs.Landing.{done_blocks, lost_blocks}
-use Rattle.lvm_invariant.proofs.Framing.{frame_keeps}
-use Rattle.lvm_invariant.proofs.Quieting.{nearly, alike_same}
+use Rattle.lvm_invariant.proofs.Quieting.{alike_by, alike_same}
 use Rattle.lvm_vol.specs.Facts.{Fact}
-use Rattle.lvm_invariant.specs.StartWrite.{MayStart, going, started_first}
-use Rattle.lvm_invariant.specs.Transfer.{restaged}
+use Rattle.lvm_invariant.specs.StartWrite.{MayStart, going}
 use Rattle.lvm_invariant.specs.Updates.{put, staged, land, landed}
-
--- only requests, blocks and the history change: the statuses and notes are as before
-module _ (s : State) (sound : Sound s) (block : ℕ → ℕ → Pp → List ℕ) (queue : ℕ → Option Queued) (facts : List Fact) where
-  abbrev pub changed : State
-  changed = record s { media = record s.media { block = block }; queue = queue; facts = facts }
-
-  complete_same : (c : Pp) → Complete s c → Complete changed c
-  complete_same c k = record { copy = k.copy; is_open = k.is_open; target = k.target; passed = k.passed }
-
-  pub same_statuses : Statuses changed
-  same_statuses = record {
-    stale_flies = λ c u f stale fresh. ⊎_elim (λ (w : IsTrue (s.wanted.stale c)). inl w) (λ (k : Complete s c). inr (complete_same c k)) (sound.statuses.stale_flies c u f stale fresh);
-    stale_is_wanted = λ c stale n. complete_same c (sound.statuses.stale_is_wanted c stale n);
-    flying_is_wanted = λ c u f stale n. complete_same c (sound.statuses.flying_is_wanted c u f stale n);
-    kept = λ lv b c copy. let k = sound.statuses.kept lv b c copy in (k.0, k.1, record { committed = k.2.committed; flying = k.2.flying; wanted = k.2.wanted });
-    open_there = sound.statuses.open_there;
-    open_stale = sound.statuses.open_stale;
-    dirty_flies = sound.statuses.dirty_flies;
-    dirty_is_wanted = sound.statuses.dirty_is_wanted;
-    dirty_flying_is_wanted = sound.statuses.dirty_flying_is_wanted;
-  }
-
-  pub live_same : (lv b : ℕ) (c : Pp) → Live changed lv b c → Live s lv b c
-  live_same lv b c live = record { copy = live.copy; counts = ⊎_elim (λ (f : IsFalse (is_settled_stale s c)). inl f) (λ (k : HasPassed changed lv (track_group_of b) c). inr (record { copy = k.copy; is_open = k.is_open; target = k.target; passed = k.passed })) live.counts }
-
-same_req : {a b : Queued} → Some a ≡ Some b → a ≡ b
-same_req h = cc
-
-not_true_false : {X : Type 0} (a : Bool) → IsTrue a → IsFalse a → X
-not_true_false a t f = never a t f
+use Rattle.lvm_invariant.proofs.Framing.{framed}
 
 module _ (s : State) (sound : Sound s) (i : ℕ) (r n : Queued) (there : s.queue i ≡ Some r) (alike : Alike r n) where
   -- the requests afterwards, each with what it was
@@ -61,153 +30,79 @@ module _ (s : State) (sound : Sound s) (i : ℕ) (r n : Queued) (there : s.queue
   -- what a request got, and whether it pins its entry, is as before if the changed one's is
   pub got_put : ((value : ℕ → List ℕ) → n.got ≡ Some value → r.got ≡ Some value) → (j : ℕ) (e m : Queued) (value : ℕ → List ℕ) → s.queue j ≡ Some e → put s.queue i n j ≡ Some m → m.got ≡ Some value → e.got ≡ Some value
   got_put back j e m value was is got = ⊎_elim
-      (λ (k : (j ≡ i) × (n ≡ m)). ap (λ (q : Queued). q.got) (same_req (sym was ∙ ap s.queue k.0 ∙ there)) ∙ back value (ap (λ (q : Queued). q.got) k.1 ∙ got))
-      (λ (other : IsFalse (j == i) × (s.queue j ≡ Some m)). ap (λ (q : Queued). q.got) (same_req (sym was ∙ other.1)) ∙ got)
+      (λ (k : (j ≡ i) × (n ≡ m)). ap (λ (q : Queued). q.got) (one_req (sym was ∙ ap s.queue k.0 ∙ there)) ∙ back value (ap (λ (q : Queued). q.got) k.1 ∙ got))
+      (λ (other : IsFalse (j == i) × (s.queue j ≡ Some m)). ap (λ (q : Queued). q.got) (one_req (sym was ∙ other.1)) ∙ got)
       (put_cases s.queue i j n m is)
 
   pub pins_put : (IsTrue (is_pinning n.phase) → IsTrue (is_pinning r.phase)) → (j : ℕ) (e m : Queued) → s.queue j ≡ Some e → put s.queue i n j ≡ Some m → IsTrue (is_pinning m.phase) → IsTrue (is_pinning e.phase)
   pins_put back j e m was is pins = ⊎_elim
-      (λ (k : (j ≡ i) × (n ≡ m)). ap (λ (q : Queued). is_pinning q.phase) (same_req (sym was ∙ ap s.queue k.0 ∙ there)) ∙ back (ap (λ (q : Queued). is_pinning q.phase) k.1 ∙ pins))
-      (λ (other : IsFalse (j == i) × (s.queue j ≡ Some m)). ap (λ (q : Queued). is_pinning q.phase) (same_req (sym was ∙ other.1)) ∙ pins)
+      (λ (k : (j ≡ i) × (n ≡ m)). ap (λ (q : Queued). is_pinning q.phase) (one_req (sym was ∙ ap s.queue k.0 ∙ there)) ∙ back (ap (λ (q : Queued). is_pinning q.phase) k.1 ∙ pins))
+      (λ (other : IsFalse (j == i) × (s.queue j ≡ Some m)). ap (λ (q : Queued). is_pinning q.phase) (one_req (sym was ∙ other.1)) ∙ pins)
       (put_cases s.queue i j n m is)
 
   -- a write that is past Held and a read don't go over one block
   pub not_read : IsTrue r.write → IsTrue (is_past r.phase) → (j lv b : ℕ) (e : Queued) (v : List ℕ) → Seen s j e lv b v → IsTrue (covers r lv b) → ⊥
   not_read write past j lv b e v seen over =
       let same : i ≡ j = alone s sound i j r e there seen.there past seen.past (record { lv = lv; block = b; first = over; second = seen.over; writes = inl write }) in
-      let is : r ≡ e = same_req (sym there ∙ ap s.queue same ∙ seen.there) in
+      let is : r ≡ e = one_req (sym there ∙ ap s.queue same ∙ seen.there) in
       never r.write write (ap (λ (q : Queued). q.write) is ∙ seen.read)
 
 -- ---- a transfer starts or ends
 
 staged_alike : (r : Queued) (c : Pp) (stage x : Stage) → r.targets c ≡ Some x → Alike r (record r { targets = staged r.targets c stage })
-staged_alike r c stage x was = record {
-  lv = refl;
-  first = refl;
-  over = λ lv b. refl;
-  write = refl;
-  value = λ b. refl;
-  past = λ h. h;
-  unlanded = λ h. h;
-  landed = λ h. h;
-  several = λ h. h;
-  aimed = λ e y at. staged_was r.targets c e stage y at x was;
-  aimed_still = λ e y at. staged_is r.targets c e stage y at;
-}
+staged_alike r c stage x was = alike_by r (record r { targets = staged r.targets c stage }) refl (λ h. h) (λ h. h) (λ h. h)
+    (λ e y at. staged_was r.targets c e stage y at x was) (λ e y at. staged_is r.targets c e stage y at)
+
+-- the write goes on: where it doesn't go, the blocks are as before
+module _ (s : State) (sound : Sound s) (i : ℕ) (r n : Queued) (block : ℕ → ℕ → Pp → List ℕ) (there : s.queue i ≡ Some r) (alike : Alike r n) (write : IsTrue r.write) (past : IsTrue (is_past r.phase))
+    (got : n.got ≡ r.got) (pinning : IsTrue (is_pinning r.phase)) (media : (lv b : ℕ) (g : Pp) → (block lv b g ≡ s.media.block lv b g) ⊎ IsTrue (covers r lv b)) where
+  abbrev gone_on : State
+  gone_on = record s { media = record s.media { block = block }; queue = put s.queue i n }
+
+  unread : (j lv b : ℕ) (e : Queued) (v : List ℕ) → Seen s j e lv b v → (g : Pp) → block lv b g ≡ s.media.block lv b g
+  unread j lv b e v seen g = ⊎_elim
+      (λ (k : block lv b g ≡ s.media.block lv b g). k)
+      (λ (over : IsTrue (covers r lv b)). absurd (not_read s sound i r n there alike write past j lv b e v seen over))
+      (media lv b g)
+
+  pub goes_on : Blocks gone_on → Sound gone_on
+  goes_on blocks = framed s gone_on (record {
+    from = λ j m h. from_put s sound i r n there alike j m h;
+    writes = λ j m h write unlanded lv b. refl;
+    same = refl;
+    modes = λ lv b. refl;
+    tight = sound.tied.tight;
+    seen = λ j lv b e m v seen h past. (
+      seen.allowed,
+      ⊎_elim
+          (λ (loose : IsTrue (told s lv b).loose). inl loose)
+          (λ (equal : (g : Pp) → Live s lv b g → s.media.block lv b g ≡ v). inr (λ g live. unread j lv b e v seen g ∙ equal g (live_same s gone_on refl lv b g live)))
+          seen.equal,
+    );
+    still = λ j lv b e m f seen h past. unread j lv b e (s.media.block lv b f) seen f;
+    got = λ j e m value was is h. inl (got_put s sound i r n there alike (λ v k. sym got ∙ k) j e m value was is h);
+    pinning = λ j e m was is write pins on several. inl (pins_put s sound i r n there alike (λ h. pinning) j e m was is pins);
+    cache = λ j e h write pinning on several cached. cached;
+  }) refl blocks sound
 
 pub restaging_keeps : RestagingKeeps
 restaging_keeps s i r c stage block step sound =
-    let new = restaged s i r c stage block in
-    let alike = staged_alike r c stage step.was.0 step.was.1 in
-    let same_block : (j lv b : ℕ) (e : Queued) (v : List ℕ) → Seen s j e lv b v → (g : Pp) → block lv b g ≡ s.media.block lv b g = λ j lv b e v seen g. ⊎_elim
-    (λ (k : block lv b g ≡ s.media.block lv b g). k)
-    (λ (k : IsTrue (covers r lv b) × (g ≡ c) × (block lv b g ≡ r.value b)). absurd (not_read s sound i r (record r { targets = staged r.targets c stage }) step.started.there alike step.started.write (past_of r.phase Going step.started.going refl) j lv b e v seen k.0))
-    (step.media lv b g) in
-    let frame : Frame s (restaged s i r c stage block) = record {
-      from = λ j m h. from_put s sound i r (record r { targets = staged r.targets c stage }) step.started.there alike j m h;
-      writes = λ j m h write unlanded lv b. refl;
-      run = refl;
-      modes = λ lv b. refl;
-      active = λ lv. refl;
-      passive = λ lv. refl;
-      dirty = λ lv h. h;
-      copies = λ lv b. refl;
-      tight = sound.tied.tight;
-      seen = λ j lv b e m v seen h past.
-          let same = same_block j lv b e v seen in (
-            seen.allowed,
-            ⊎_elim
-                (λ (loose : IsTrue (told s lv b).loose). inl loose)
-                (λ (equal : (g : Pp) → Live s lv b g → s.media.block lv b g ≡ v). inr (λ g live. same g ∙ equal g (live_same s sound block (put s.queue i (record r { targets = staged r.targets c stage })) s.facts lv b g live)))
-                seen.equal,
-          );
-      still = λ j lv b e m f seen h past. same_block j lv b e (s.media.block lv b f) seen f;
-      got = λ j e m value was is got. inl (got_put s sound i r (record r { targets = staged r.targets c stage }) step.started.there alike (λ v h. h) j e m value was is got);
-      pinning = λ j e m was is write pins on several. inl (pins_put s sound i r (record r { targets = staged r.targets c stage }) step.started.there alike (λ h. h) j e m was is pins);
-      cache = λ j e h write pinning on several cached. cached;
-    } in
-    let f = frame_keeps s (restaged s i r c stage block) frame (nearly s sound) in
-    record {
-      blocks = restaged_blocks s sound i r c stage block step;
-      tied = f.0;
-      statuses = same_statuses s sound block (put s.queue i (record r { targets = staged r.targets c stage })) s.facts;
-      behind = record { left_behind = sound.behind.left_behind };
-      notes = record { home = sound.notes.home; pinned = f.2 };
-      holds = f.1;
-    }
+    goes_on s sound i r (record r { targets = staged r.targets c stage }) block step.started.there (staged_alike r c stage step.was.0 step.was.1) step.started.write (past_of r.phase Going step.started.going refl)
+    refl (ap is_pinning step.started.going) (λ lv b g. ⊎_elim (λ (k : block lv b g ≡ s.media.block lv b g). inl k) (λ (k : IsTrue (covers r lv b) × (g ≡ c) × (block lv b g ≡ r.value b)). inr k.0) (step.media lv b g))
+    (restaged_blocks s sound i r c stage block step)
 
 going_alike : (s : State) (i : ℕ) (r : Queued) (c : Pp) → MayStart s i r c → Alike r (going r c)
-going_alike s i r c may = record {
-  lv = refl;
-  first = refl;
-  over = λ lv b. refl;
-  write = refl;
-  value = λ b. refl;
-  past = λ h. past_of r.phase Ready may.ready refl;
-  unlanded = λ h. ap has_landed may.ready;
-  landed = λ h. never (has_landed r.phase) h (ap has_landed may.ready);
-  several = λ h. h;
-  aimed = λ e y at. staged_was r.targets c e Flying y at Todo may.target;
-  aimed_still = λ e y at. staged_is r.targets c e Flying y at;
-}
+going_alike s i r c may = alike_by r (going r c) refl (λ h. past_of r.phase Ready may.ready refl) (λ h. ap has_landed may.ready) (λ h. never (has_landed r.phase) h (ap has_landed may.ready))
+    (λ e y at. staged_was r.targets c e Flying y at Todo may.target) (λ e y at. staged_is r.targets c e Flying y at)
 
 pub first_keeps : FirstKeeps
-first_keeps s i r c may sound =
-    let frame : Frame s (started_first s i r c) = record {
-      from = λ j m h. from_put s sound i r (going r c) may.there (going_alike s i r c may) j m h;
-      writes = λ j m h write unlanded lv b. refl;
-      run = refl;
-      modes = λ lv b. refl;
-      active = λ lv. refl;
-      passive = λ lv. refl;
-      dirty = λ lv h. h;
-      copies = λ lv b. refl;
-      tight = sound.tied.tight;
-      seen = λ j lv b e m v seen h past. (
-        seen.allowed,
-        ⊎_elim
-            (λ (loose : IsTrue (told s lv b).loose). inl loose)
-            (λ (equal : (g : Pp) → Live s lv b g → s.media.block lv b g ≡ v). inr (λ g live. equal g (live_same s sound s.media.block (put s.queue i (going r c)) s.facts lv b g (record { copy = live.copy; counts = live_counts s i r c lv b g live }))))
-            seen.equal,
-      );
-      still = λ j lv b e m f seen h past. refl;
-      got = λ j e m value was is got. inl (got_put s sound i r (going r c) may.there (going_alike s i r c may) (λ v h. h) j e m value was is got);
-      pinning = λ j e m was is write pins on several. inl (pins_put s sound i r (going r c) may.there (going_alike s i r c may) (λ h. ap is_pinning may.ready) j e m was is pins);
-      cache = λ j e h write pinning on several cached. cached;
-    } in
-    let f = frame_keeps s (started_first s i r c) frame (nearly s sound) in
-    record {
-      blocks = first_blocks s sound i r c may;
-      tied = f.0;
-      statuses = first_statuses s sound i r c;
-      behind = record { left_behind = sound.behind.left_behind };
-      notes = record { home = sound.notes.home; pinned = f.2 };
-      holds = f.1;
-    }
-  where
-    live_counts : (s : State) (i : ℕ) (r : Queued) (c : Pp) (lv b : ℕ) (g : Pp) → Live (started_first s i r c) lv b g
-        → IsFalse (is_settled_stale s g) ⊎ HasPassed (record s { media = record s.media { block = s.media.block }; queue = put s.queue i (going r c); facts = s.facts }) lv (track_group_of b) g
-    live_counts s i r c lv b g live = ⊎_elim (λ (f : IsFalse (is_settled_stale s g)). inl f) (λ (k : HasPassed (started_first s i r c) lv (track_group_of b) g). inr (record { copy = k.copy; is_open = k.is_open; target = k.target; passed = k.passed })) live.counts
-
-    first_statuses : (s : State) (sound : Sound s) (i : ℕ) (r : Queued) (c : Pp) → Statuses (started_first s i r c)
-    first_statuses s sound i r c = let st = same_statuses s sound s.media.block (put s.queue i (going r c)) s.facts in st
+first_keeps s i r c may sound = goes_on s sound i r (going r c) s.media.block may.there (going_alike s i r c may) may.write (past_of r.phase Ready may.ready refl)
+    refl (ap is_pinning may.ready) (λ lv b g. inl refl) (first_blocks s sound i r c may)
 
 -- ---- landing
 
 pub land_alike : (r : Queued) → IsFalse (has_landed r.phase) → Alike r (land r)
-land_alike r un = record {
-  lv = refl;
-  first = refl;
-  over = λ lv b. refl;
-  write = refl;
-  value = λ b. refl;
-  past = λ h. off h;
-  unlanded = λ h. never true refl h;
-  landed = λ h. refl;
-  several = λ h. h;
-  aimed = λ e y at. (y, at);
-  aimed_still = λ e y at. (y, at);
-}
+land_alike r un = alike_by r (land r) refl (λ h. off h) (λ h. never true refl h) (λ h. refl) (λ e y at. (y, at)) (λ e y at. (y, at))
   where
     off : {X : Type 0} → IsTrue (is_past Landed) → X
     off h = absurd cc
@@ -223,12 +118,8 @@ module _ (s : State) (sound : Sound s) (i : ℕ) (r : Queued) (facts : List Fact
         (λ (is : (j ≡ i) × (land r ≡ m)). never (has_landed m.phase) (ap (λ (q : Queued). has_landed q.phase) (sym is.1)) unlanded)
         (λ (other : IsFalse (j == i) × (s.queue j ≡ Some m)). closes.others lv b j m other.1 write other.0)
         (put_cases s.queue i j (land r) m h);
-    run = refl;
+    same = refl;
     modes = closes.modes;
-    active = λ lv. refl;
-    passive = λ lv. refl;
-    dirty = λ lv h. h;
-    copies = λ lv b. refl;
     tight = closes.tight;
     seen = λ j lv b e m v seen h past.
         let off : IsFalse (covers r lv b) = ⊎_elim
@@ -239,7 +130,7 @@ module _ (s : State) (sound : Sound s) (i : ℕ) (r : Queued) (facts : List Fact
           subst (λ (k : Known). IsIn k.values v) (sym same) seen.allowed,
           ⊎_elim
               (λ (loose : IsTrue (told s lv b).loose). inl (ap (λ (k : Known). k.loose) same ∙ loose))
-              (λ (equal : (g : Pp) → Live s lv b g → s.media.block lv b g ≡ v). inr (λ g live. equal g (live_land lv b g live)))
+              (λ (equal : (g : Pp) → Live s lv b g → s.media.block lv b g ≡ v). inr (λ g live. equal g (live_same s (landed s i r facts) refl lv b g live)))
               seen.equal,
         );
     still = λ j lv b e m f seen h past. refl;
@@ -247,30 +138,11 @@ module _ (s : State) (sound : Sound s) (i : ℕ) (r : Queued) (facts : List Fact
     pinning = λ j e m was is write pins on several. inl (pins_put s sound i r (land r) started.there (land_alike r un) (λ h. never false h refl) j e m was is pins);
     cache = λ j e h write pinning on several cached. cached;
   }
-    where
-      live_land : (lv b : ℕ) (g : Pp) → Live (landed s i r facts) lv b g → Live s lv b g
-      live_land lv b g live = record { copy = live.copy; counts = ⊎_elim (λ (f : IsFalse (is_settled_stale s g)). inl f) (λ (k : HasPassed (landed s i r facts) lv (track_group_of b) g). inr (record { copy = k.copy; is_open = k.is_open; target = k.target; passed = k.passed })) live.counts }
 
 pub done_keeps : DoneKeeps
 done_keeps s i r facts step sound =
-    let f = frame_keeps s (landed s i r facts) (land_frame s sound i r facts step.started step.closes) (nearly s sound) in
-    record {
-      blocks = done_blocks s i r facts step sound;
-      tied = f.0;
-      statuses = same_statuses s sound s.media.block (put s.queue i (land r)) facts;
-      behind = record { left_behind = sound.behind.left_behind };
-      notes = record { home = sound.notes.home; pinned = f.2 };
-      holds = f.1;
-    }
+    framed s (landed s i r facts) (land_frame s sound i r facts step.started step.closes) refl (done_blocks s i r facts step sound) sound
 
 pub lost_keeps : LostKeeps
 lost_keeps s i r facts step sound =
-    let f = frame_keeps s (landed s i r facts) (land_frame s sound i r facts step.started step.closes) (nearly s sound) in
-    record {
-      blocks = lost_blocks s i r facts step sound;
-      tied = f.0;
-      statuses = same_statuses s sound s.media.block (put s.queue i (land r)) facts;
-      behind = record { left_behind = sound.behind.left_behind };
-      notes = record { home = sound.notes.home; pinned = f.2 };
-      holds = f.1;
-    }
+    framed s (landed s i r facts) (land_frame s sound i r facts step.started step.closes) refl (lost_blocks s i r facts step sound) sound

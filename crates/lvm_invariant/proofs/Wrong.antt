@@ -12,10 +12,10 @@ use Rattle.lvm_vol.specs.May.{Known, unknown, cut, IsValue}
 use Rattle.std.proofs.lemmas.Bool.Decides.{nat_tests}
 use Rattle.lvm_invariant.specs.Updates.{is_pp}
 use Rattle.lvm_invariant.proofs.Small.{never}
-use Rattle.lvm_invariant.specs.State.{Marks, Groups, View, Flying, State, covers, told}
+use Rattle.lvm_invariant.specs.State.{Marks, Groups, View, Flying, State, covers, told, Started}
 use Rattle.lvm_invariant.specs.Found.{Votes}
 use Rattle.lvm_invariant.specs.Good.{Good}
-use Rattle.lvm_invariant.specs.Crash.{IsCrash, IsPossible, Fresh, MayDifferAfter, EachKept}
+use Rattle.lvm_invariant.specs.Crash.{IsCrash, IsPossible, Fresh, MayDifferAfter, EachKept, Brings, CopyBrings}
 use Rattle.lvm_invariant.specs.Events.{AllowsAll, after_all}
 use Rattle.lvm_invariant.specs.First.{two_disks, first_copy, second_copy, is_either, marks_with, stamped, on_both, at_rest}
 use Rattle.lvm_invariant.specs.Worked.{ones, held, both_out, only, recording, written, writing, all_passed, asked, first_group}
@@ -33,19 +33,18 @@ ones_differ e = absurd (omega (arith, ap (λ (l : List ℕ). get_or l 0 0) e))
 abbrev half_there : State → View
 half_there s = record s.media { block = written }
 
+-- it flies to the first copy
+half_comes : (s : State) → ((lv b : ℕ) (c : Pp) → zero_sector ≡ s.media.block lv b c) → Started s 1 both_out → (lv b : ℕ) (c : Pp)
+    → (written lv b c ≡ s.media.block lv b c) ⊎ Brings s lv b c (written lv b c) ⊎ CopyBrings s lv b c (written lv b c)
+half_comes s zeros started lv b c = ⊎_elim
+    (λ (same : written lv b c ≡ zero_sector). inl (same ∙ zeros lv b c))
+    (λ (by : IsTrue (covers held lv b) × (c ≡ first_copy) × (written lv b c ≡ held.value b)).
+    inr (inl (record { id = 1; req = both_out; started = started; over = by.0; flies = ap both_out.targets by.1; is = by.2 })))
+    (brought lv b c)
+
 comes_there : (mode : Mode) → IsCrash (after_all going_out (after_all (asking mode) (at_rest mode false))) (half_there (after_all going_out (after_all (asking mode) (at_rest mode false))))
 comes_there mode = record {
-  block = λ lv b c copy. ⊎_elim
-      (λ (same : written lv b c ≡ zero_sector). inl same)
-      (λ (by : IsTrue (covers held lv b) × (c ≡ first_copy) × (written lv b c ≡ held.value b)). inr (inl (record {
-        id = 1;
-        req = both_out;
-        started = record { there = refl; write = refl; going = refl };
-        over = by.0;
-        flies = ap both_out.targets by.1;
-        is = by.2;
-      })))
-      (brought lv b c);
+  block = λ lv b c copy. half_comes _ (λ lv b c. refl) (record { there = refl; write = refl; going = refl }) lv b c;
   names = λ d. inl refl;
   status = λ d. inl refl;
 }
@@ -81,17 +80,7 @@ unnamed = record without_entry.media { block = written; names = λ d. if d == 1 
 
 note_comes : IsCrash without_entry unnamed
 note_comes = record {
-  block = λ lv b c copy. ⊎_elim
-      (λ (same : written lv b c ≡ zero_sector). inl same)
-      (λ (by : IsTrue (covers held lv b) × (c ≡ first_copy) × (written lv b c ≡ held.value b)). inr (inl (record {
-        id = 1;
-        req = both_out;
-        started = record { there = refl; write = refl; going = refl };
-        over = by.0;
-        flies = ap both_out.targets by.1;
-        is = by.2;
-      })))
-      (brought lv b c);
+  block = λ lv b c copy. half_comes _ (λ lv b c. refl) (record { there = refl; write = refl; going = refl }) lv b c;
   names = λ d. by d (d == 1) refl;
   status = λ d. inl refl;
 }
@@ -155,6 +144,11 @@ halfway_good : (votes : Votes) (mode : Mode) → votes.writes ≡ both_write →
 halfway_good votes mode two =
     (leads votes halfway (at_rest mode false) (first_is_good votes mode false (ap (λ (f : (ℕ → Bool) → Bool). f two_disks) two)) (halfway_allowed votes mode)).reached.good
 
+-- what the one disk shows is the newest there
+alone_is_newest : (s : State) (disk : ℕ) (r : Stamped Marks) → s.media.status disk ≡ Some r → stamp_lt r.stamp r.stamp ≡ false → (d : ℕ) (other : Stamped Marks) → d ≡ disk → s.media.status d ≡ Some other
+    → stamp_lt r.stamp other.stamp ≡ false
+alone_is_newest s disk r shows same d other is there = ap (λ (o : Option (Stamped Marks)). option_map_or (λ x. stamp_lt r.stamp x.stamp) o false) (sym there ∙ ap s.media.status is ∙ shows) ∙ same
+
 pub committed_early : CommittedEarly
 committed_early votes mode one two = record {
   good = halfway_good votes mode two;
@@ -163,15 +157,9 @@ committed_early votes mode one two = record {
   set = only 1;
   reads = ap (λ (f : (ℕ → Bool) → Bool). f (only 1)) one;
   found = stamped 1 (marks_with false false);
-  newest = record { disk = 1; inside = refl; shown = refl; last = λ d other inside there. same_stamp d other (eqb-true d 1 inside) there };
+  newest = record { disk = 1; inside = refl; shown = refl; last = λ d other inside there. alone_is_newest (after_all halfway (at_rest mode false)) 1 (stamped 1 (marks_with false false)) refl refl d other (eqb-true d 1 inside) there };
   other = λ possible. ⊎_elim (λ (is : marks_with false false ≡ marks_with true false). marks_differ (sym is)) (λ u. nothing u.0 u.1) possible;
 }
-  where
-    same_stamp : (d : ℕ) (other : Stamped Marks) → d ≡ 1 → (after_all halfway (at_rest mode false)).media.status d ≡ Some other → stamp_lt (stamped 1 (marks_with false false)).stamp other.stamp ≡ false
-    same_stamp d other is there = by other (sym (ap (after_all halfway (at_rest mode false)).media.status is) ∙ there)
-      where
-        by : (other : Stamped Marks) → Some (stamped 1 (marks_with false false)) ≡ Some other → stamp_lt (stamped 1 (marks_with false false)).stamp other.stamp ≡ false
-        by other e = ap (λ (o : Option (Stamped Marks)). option_map_or (λ r. stamp_lt (stamped 1 (marks_with false false)).stamp r.stamp) o false) (sym e)
 
 pub ended_uncommitted : EndedUncommitted
 ended_uncommitted votes mode one two = record {
@@ -181,15 +169,9 @@ ended_uncommitted votes mode one two = record {
   set = only 0;
   reads = ap (λ (f : (ℕ → Bool) → Bool). f (only 0)) one;
   found = stamped 2 (marks_with true false);
-  newest = record { disk = 0; inside = refl; shown = refl; last = λ d other inside there. same_stamp d other (eqb-true d 0 inside) there };
+  newest = record { disk = 0; inside = refl; shown = refl; last = λ d other inside there. alone_is_newest (after_all halfway (at_rest mode false)) 0 (stamped 2 (marks_with true false)) refl refl d other (eqb-true d 0 inside) there };
   other = λ possible. ⊎_elim (λ (is : marks_with true false ≡ marks_with false false). marks_differ is) (λ u. nothing u.0 u.1) possible;
 }
-  where
-    same_stamp : (d : ℕ) (other : Stamped Marks) → d ≡ 0 → (after_all halfway (at_rest mode false)).media.status d ≡ Some other → stamp_lt (stamped 2 (marks_with true false)).stamp other.stamp ≡ false
-    same_stamp d other is there = by other (sym (ap (after_all halfway (at_rest mode false)).media.status is) ∙ there)
-      where
-        by : (other : Stamped Marks) → Some (stamped 2 (marks_with true false)) ≡ Some other → stamp_lt (stamped 2 (marks_with true false)).stamp other.stamp ≡ false
-        by other e = ap (λ (o : Option (Stamped Marks)). option_map_or (λ r. stamp_lt (stamped 2 (marks_with true false)).stamp r.stamp) o false) (sym e)
 
 pub two_votes : TwoVotes
 two_votes = record { votes = record { reads = one_reads; writes = both_write; meet = λ a b read write. meet a b read write }; one = refl; two = refl }

@@ -5,3 +5,4 @@ mod ends;
 mod landings;
 
 pub use ends::{darken, go_off};
+pub use landings::give_back;

@@ -6,7 +6,7 @@ use lvm_num::{Mode, Name, Policy, Rows};
 use lvm_operands::Misfit;
 
 /// What a line asks for. Blocks are of 512 bytes and counted from 0; a disk is its number, 0 to 127.
-#[derive(Debug, Drop, PartialEq, Eq)]
+#[derive(Drop, PartialEq, Eq)]
 pub enum Command {
     /// `mkvg [-f] -y NAME [-s MIB] DISK ..`: make a volume group of these disks, all different, and
     /// vary it on.

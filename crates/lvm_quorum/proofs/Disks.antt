@@ -16,11 +16,13 @@ use Rattle.lvm_transfer.specs.declared.moves.Moved.TheVariants as moved
 use Rattle.lvm_quorum.specs.declared.homes.Homes.{Homes}
 use Rattle.lvm_quorum.specs.declared.write.SlotWrite.{SlotWrite}
 use Rattle.lvm_quorum.specs.Homes.{second_slots, next_slot, Flips}
-use Rattle.lvm_quorum.specs.Written.{write_of, HaveRoom, KeepsShelf, EndsOn, StandsTold, IsBrokenOff, FlipBelow, written_well}
+use Rattle.lvm_quorum.specs.declared.write.Wrote.TheVariants as wrote
+use Rattle.lvm_quorum.specs.Written.{write_of, HaveRoom, KeepsShelf, StandsTold, written_well}
+use Rattle.lvm_quorum.specs.Writes.{WriteLeaves, RecordEnds}
 use Rattle.lvm_quorum.specs.Parts.{write_to, PartsStand, WritesPart}
 use Rattle.lvm_quorum.proofs.Voting.{lt_same, lt_other}
 use Rattle.lvm_quorum.proofs.Writing.{logs_wider, if_told, told_at, both_map, changes_more, moments_wider, parts_stay}
-use Rattle.lvm_quorum.proofs.Tried.{TriedDisks, nothing_tried, none_here, well_here, badly_here, broken_here, no_more, all_tried}
+use Rattle.lvm_quorum.proofs.Tried.{TriedDisks, nothing_tried, none_here, well_here, badly_here, leaves_here, dark_here, stuck_here, no_more, tried_ends}
 
 -- ---- what stands of the record
 
@@ -226,15 +228,19 @@ module _ (w : RecordWrite) (number p q : ℕ) (old now : Device) (first homes : 
         ]
 
   -- it was broken off
-  pub broken_off : (new : Device) → IsTrue (w.targets n) → KeepsShelf w.targets (IsOfRecord w) now new → new.counts.faults ≡ now.counts.faults → ((d : ℕ) → (d ≡ n → ⊥) → new.counts.starts d ≡ now.counts.starts d) → IsBrokenOff w.targets (StandsTold w) old new (FlipBelow w.kind w.targets first homes)
-  broken_off new target keeps faults alone = broken_here w.targets (IsOfRecord w) (StandsTold w) (still_stands w) number p q old now failed buf n so_far.all new (FlipBelow w.kind w.targets first homes) target keeps faults alone so_far.flips
+  module _ (r : ℕ) (new : Device) (target : IsTrue (w.targets n)) (alone : (d : ℕ) → (d ≡ n → ⊥) → new.counts.starts d ≡ now.counts.starts d) where
+    pub disk_leaves : (how : Moved) → WritesPart w n buf.number q r now new how → WriteLeaves w.targets (IsOfRecord w) p r old new
+    disk_leaves how part = leaves_here w.targets (IsOfRecord w) (StandsTold w) (still_stands w) number p q old now failed buf n so_far.all r new (λ written. Flips w.kind written first homes) target alone how part
+
+    pub disk_dark : (started : Bool) → WritesPart w n buf.number q r now new (moved.Dark started) → RecordEnds w first homes number p old new wrote.Dark
+    disk_dark started part = dark_here w.targets (IsOfRecord w) (StandsTold w) (still_stands w) number p q old now failed buf n so_far.all r new (λ written. Flips w.kind written first homes) target alone started part so_far.flips
+
+    pub disk_stuck : WritesPart w n buf.number q r now new moved.Stuck → RecordEnds w first homes number p old new wrote.Stuck
+    disk_stuck part = stuck_here w.targets (IsOfRecord w) (StandsTold w) (still_stands w) number p q old now failed buf n so_far.all r new (λ written. Flips w.kind written first homes) target alone part so_far.flips
 
   -- all disks were tried
   module _ (room : HaveRoom old w.targets) (all : length old.sizes ≤ n) where
-    pub each_tried : (d : ℕ) → EndsOn w.targets (StandsTold w) (has failed) old now d
-    each_tried d = all_tried w.targets (IsOfRecord w) (StandsTold w) number p q old now failed buf n so_far.all room all d
-
-    pub all_flipped : Flips w.kind (written_well w.targets (has failed)) first homes
+    all_flipped : Flips w.kind (written_well w.targets (has failed)) first homes
     all_flipped = flips_same w.kind (well_below w.targets failed n) (written_well w.targets (has failed)) first homes
         (λ d. ⊎_elim
         (λ (below : d < n). ap (λ (b : Bool). b && written_well w.targets (has failed) d) (lt_yes d n below))
@@ -250,6 +256,9 @@ module _ (w : RecordWrite) (number p q : ℕ) (old now : Device) (first homes : 
         and_no : (b : Bool) → (b && false) ≡ false
         and_no true = refl
         and_no false = refl
+
+    pub disks_end : RecordEnds w first homes number p old now (wrote.Ended failed buf)
+    disks_end = tried_ends w.targets (IsOfRecord w) (StandsTold w) (λ written. Flips w.kind written first homes) number p q old now failed buf n so_far.all room all all_flipped
 
 -- the same, by equal homes, disks and buffer
 pub as_joined :

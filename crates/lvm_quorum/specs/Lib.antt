@@ -3,5 +3,6 @@ pub mod Groups
 pub mod Homes
 pub mod Written
 pub mod Parts
+pub mod Writes
 pub mod Shows
 pub mod Notes

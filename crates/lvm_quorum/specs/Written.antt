@@ -1,5 +1,5 @@
 -- What a write of a record or of a note to several disks does, disk by disk.
-use Rattle.std.specs.Prelude.{◌≡◌, ◌⊎◌, ℕ, ◌<◌, ◌≤◌, ◌&&◌, not, nat_lt, true, false, [], ◌∷◌, Some, IfSome, IsTrue, IsFalse, slice_get, ◌+◌, ◌++◌, List, Option, None, All}
+use Rattle.std.specs.Prelude.{◌≡◌, ◌⊎◌, ℕ, ◌<◌, ◌≤◌, ◌&&◌, not, true, false, [], ◌∷◌, Some, IfSome, IsTrue, IsFalse, slice_get, ◌+◌, ◌++◌, List, Option, None, All}
 use Rattle.lvm_num.specs.declared.record.Kind.{Kind}
 use Rattle.lvm_num.specs.declared.record.Framed.{Framed}
 use Rattle.lvm_num.specs.Buffer.{Buffer, Sector}
@@ -11,9 +11,7 @@ use Rattle.lvm_disk.specs.Steps.{BothTold}
 use Rattle.lvm_kept.specs.Plans.{Plan, ChangesBy}
 use Rattle.lvm_kept.specs.Torn.{RecordWrite, StandsOn}
 use Rattle.lvm_quorum.specs.declared.homes.Homes.{Homes}
-use Rattle.lvm_quorum.specs.declared.write.Wrote.{Wrote}
-use Rattle.lvm_quorum.specs.declared.write.Wrote.TheVariants as wrote
-use Rattle.lvm_quorum.specs.Homes.{next_slot, Flips}
+use Rattle.lvm_quorum.specs.Homes.{next_slot}
 
 -- the write of this record to these disks, by the slots that stand next
 abbrev pub write_of : Kind → Framed → Disks → Homes → RecordWrite
@@ -68,31 +66,7 @@ pub record EndsOn (targets : Disks) (Stands : Device → ℕ → Type 0) (failed
 abbrev pub written_well : Disks → Disks → Disks
 written_well targets failed d = targets d && not (failed d)
 
--- ---- the answers
-
--- where it was tried on each disk: what holds of the failed ones and of the buffer
-abbrev pub IfEnded : Wrote → (ℕ → Buffer → Type 0) → Type 0
-IfEnded (wrote.Ended failed buf) P = P failed buf
-IfEnded wrote.Dark P = Unit {0}
-IfEnded wrote.Stuck P = Unit {0}
-
--- where the power was cut
-abbrev pub OnDark : Wrote → Type 0 → Type 0
-OnDark (wrote.Ended failed buf) P = Unit {0}
-OnDark wrote.Dark P = P
-OnDark wrote.Stuck P = Unit {0}
-
--- where nothing was heard of a transfer
-abbrev pub OnStuck : Wrote → Type 0 → Type 0
-OnStuck (wrote.Ended failed buf) P = Unit {0}
-OnStuck wrote.Dark P = Unit {0}
-OnStuck wrote.Stuck P = P
-
--- it was broken off: Dark or Stuck
-abbrev pub OnBroken : Wrote → Type 0 → Type 0
-OnBroken (wrote.Ended failed buf) P = Unit {0}
-OnBroken wrote.Dark P = P
-OnBroken wrote.Stuck P = P
+-- ---- how it was broken off
 
 -- no buffer was given up, or just the one of this number
 abbrev pub FreesAtMost : ℕ → Device → Type 0
@@ -116,16 +90,3 @@ pub record IsGivenUp (number patience : ℕ) (old new : Device) : Type 0 where
   pub power : new.power ≡ true
   pub cuts : new.counts.cuts ≡ old.counts.cuts
   pub waits : RoseBy patience old.counts.waits new.counts.waits
-
--- Where it was broken off: at a target, when those before it had been written or had failed, and nothing had started on those behind it.
-pub record IsBrokenOff (targets : Disks) (Stands : Device → ℕ → Type 0) (old new : Device) (Next : ℕ → Disks → Type 0) : Type 0 where
-  pub disk : ℕ
-  pub failed : Disks
-  pub target : IsTrue (targets disk)
-  pub before : (d : ℕ) → d < disk → EndsOn targets Stands failed old new d
-  pub behind : (d : ℕ) → disk < d → new.counts.starts d ≡ old.counts.starts d
-  pub next : Next disk failed
-
--- the slots that come next, where the disks below one were tried
-abbrev pub FlipBelow : Kind → Disks → Homes → Homes → ℕ → Disks → Type 0
-FlipBelow kind targets first homes disk failed = Flips kind (λ d. nat_lt d disk && written_well targets failed d) first homes

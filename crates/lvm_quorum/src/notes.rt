@@ -1,13 +1,12 @@
 //! The consistency records of several disks are emptied, one transfer at a time.
-ghost use Rattle.std.specs.Prelude.{◌≡◌, ◌-◌, ◌≤◌, ℕ, IsTrue};
+ghost use Rattle.std.specs.Prelude.{ℕ, IsTrue};
 ghost use Rattle.lvm_num.specs.Disks.{Disks, has};
-ghost use Rattle.lvm_disk.specs.Counts.{RoseBy};
 ghost use Rattle.lvm_disk.specs.Device.{IsReady};
-ghost use Rattle.lvm_disk.specs.Paths.{DeviceStep, Path};
 ghost use Rattle.lvm_kept.specs.Torn.{IsOfNote};
 ghost use Rattle.lvm_quorum.specs.Notes.{empty_note, NoteTold};
 ghost use Rattle.lvm_quorum.specs.Parts.{DoesPart, IfDone};
-ghost use Rattle.lvm_quorum.specs.Written.{HasRoom, HaveRoom, IsWriting, KeepsShelf, EndsOn, IfEnded, OnDark, OnStuck, OnBroken, IsDarkened, IsGivenUp, IsBrokenOff};
+ghost use Rattle.lvm_quorum.specs.Written.{HasRoom, HaveRoom};
+ghost use Rattle.lvm_quorum.specs.Writes.{WriteLeaves, WriteEnds};
 
 use crate::write::Wrote;
 use lvm_disk::Shelf;
@@ -29,19 +28,8 @@ pub fn empty_notes<S: Shelf>(
 ) -> Wrote
     requires ready { IsReady (S.device shelf.old) }
     requires targets { HaveRoom (S.device shelf.old) (has targets) }
-    // how each disk's write ended
-    ensures each { IfEnded result (λ failed back. (d : ℕ) → EndsOn (has targets) (NoteTold (empty_note stamp)) (has failed) (S.device shelf.old) (S.device shelf.new) d) }
-    ensures buffer { IfEnded result (λ failed back. back.number ≡ buf.number) }
-    ensures ready { IfEnded result (λ failed back. IsReady (S.device shelf.new) × ((S.device shelf.new).counts.cuts ≡ (S.device shelf.old).counts.cuts)) }
-    // where it was broken off
-    ensures dark { OnDark result (IsDarkened buf.number (S.device shelf.old) (S.device shelf.new)) }
-    ensures stuck { OnStuck result (IsGivenUp buf.number patience.old.left (S.device shelf.old) (S.device shelf.new)) }
-    ensures broken { OnBroken result (IsBrokenOff (has targets) (NoteTold (empty_note stamp)) (S.device shelf.old) (S.device shelf.new) (λ disk failed. Unit {0})) }
-    // whatever the answer
-    ensures patience { patience.new.left ≤ patience.old.left }
-    ensures waited { RoseBy (patience.old.left - patience.new.left) (S.device shelf.old).counts.waits (S.device shelf.new).counts.waits }
-    ensures keeps { KeepsShelf (has targets) (IsOfNote (has targets) (empty_note stamp)) (S.device shelf.old) (S.device shelf.new) }
-    ensures moments { Path DeviceStep (IsWriting (IsOfNote (has targets) (empty_note stamp)) (S.device shelf.old)) (S.device shelf.old) (S.device shelf.new) }
+    ensures ends { WriteEnds (has targets) (NoteTold (empty_note stamp)) (λ written. Unit {0}) buf.number patience.old.left (S.device shelf.old) (S.device shelf.new) result }
+    ensures leaves { WriteLeaves (has targets) (IsOfNote (has targets) (empty_note stamp)) patience.old.left patience.new.left (S.device shelf.old) (S.device shelf.new) }
 {
     let note = write_note(stamp, &[]);
     let mut failed = DiskSet::empty();

@@ -1,14 +1,12 @@
 //! A record is written to several disks, one transfer at a time.
-ghost use Rattle.std.specs.Prelude.{◌≡◌, ◌≢◌, ◌+◌, ◌-◌, ◌<◌, ◌≤◌, ℕ, length, min, Some, slice_get, if◌then◌else◌};
+ghost use Rattle.std.specs.Prelude.{◌≡◌, ◌≢◌, ◌+◌, ◌<◌, ◌≤◌, ℕ, length, Some, slice_get, if◌then◌else◌};
 ghost use Rattle.lvm_num.specs.Disks.{has};
 ghost use Rattle.lvm_num.specs.Record.{frame, longest_content, record_sectors, slot_start};
-ghost use Rattle.lvm_disk.specs.Counts.{RoseBy};
 ghost use Rattle.lvm_disk.specs.Device.{IsReady};
-ghost use Rattle.lvm_disk.specs.Paths.{DeviceStep, Path};
 ghost use Rattle.lvm_kept.specs.Torn.{IsOfRecord};
-ghost use Rattle.lvm_quorum.specs.Homes.{Flips};
-ghost use Rattle.lvm_quorum.specs.Written.{write_of, HasRoom, HaveRoom, IsWriting, KeepsShelf, EndsOn, written_well, IfEnded, OnDark, OnStuck, OnBroken, IsDarkened, IsGivenUp, IsBrokenOff, FlipBelow, StandsTold};
+ghost use Rattle.lvm_quorum.specs.Written.{write_of, HasRoom, HaveRoom};
 ghost use Rattle.lvm_quorum.specs.Parts.{write_to, PartsStand, IfDone, WritesPart};
+ghost use Rattle.lvm_quorum.specs.Writes.{WriteLeaves, RecordEnds};
 
 use crate::homes::Homes;
 use lvm_disk::Shelf;
@@ -46,20 +44,8 @@ pub fn write_record<S: Shelf>(
     requires stamp { (stamp.epoch ≢ 0) × (stamp.seq ≢ 0) }
     requires fits { length content.now ≤ longest_content kind }
     requires targets { HaveRoom (S.device shelf.old) (has targets) }
-    // how each disk's write ended, and which slots come next
-    ensures each { let w = write_of kind (record { stamp = stamp; content = content.now }) (has targets) homes.old in IfEnded result (λ failed back. (d : ℕ) → EndsOn w.targets (StandsTold w) (has failed) (S.device shelf.old) (S.device shelf.new) d) }
-    ensures homes { IfEnded result (λ failed back. Flips kind (written_well (has targets) (has failed)) homes.old homes.new) }
-    ensures buffer { IfEnded result (λ failed back. back.number ≡ buf.number) }
-    ensures ready { IfEnded result (λ failed back. IsReady (S.device shelf.new) × ((S.device shelf.new).counts.cuts ≡ (S.device shelf.old).counts.cuts)) }
-    // where it was broken off
-    ensures dark { OnDark result (IsDarkened buf.number (S.device shelf.old) (S.device shelf.new)) }
-    ensures stuck { OnStuck result (IsGivenUp buf.number patience.old.left (S.device shelf.old) (S.device shelf.new)) }
-    ensures broken { let w = write_of kind (record { stamp = stamp; content = content.now }) (has targets) homes.old in OnBroken result (IsBrokenOff w.targets (StandsTold w) (S.device shelf.old) (S.device shelf.new) (FlipBelow kind w.targets homes.old homes.new)) }
-    // whatever the answer
-    ensures patience { patience.new.left ≤ patience.old.left }
-    ensures waited { RoseBy (patience.old.left - patience.new.left) (S.device shelf.old).counts.waits (S.device shelf.new).counts.waits }
-    ensures keeps { let w = write_of kind (record { stamp = stamp; content = content.now }) (has targets) homes.old in KeepsShelf w.targets (IsOfRecord w) (S.device shelf.old) (S.device shelf.new) }
-    ensures moments { let w = write_of kind (record { stamp = stamp; content = content.now }) (has targets) homes.old in Path DeviceStep (IsWriting (IsOfRecord w) (S.device shelf.old)) (S.device shelf.old) (S.device shelf.new) }
+    ensures ends { RecordEnds (write_of kind (record { stamp = stamp; content = content.now }) (has targets) homes.old) homes.old homes.new buf.number patience.old.left (S.device shelf.old) (S.device shelf.new) result }
+    ensures leaves { let w = write_of kind (record { stamp = stamp; content = content.now }) (has targets) homes.old in WriteLeaves w.targets (IsOfRecord w) patience.old.left patience.new.left (S.device shelf.old) (S.device shelf.new) }
 {
     let mut failed = DiskSet::empty();
     let mut buf = buf;

@@ -1,9 +1,7 @@
 -- What group commands leave at rest.
-use Rattle.std.proofs.Common.{◌≡◌, ◌⊎◌, inl, inr, ⊎_elim, ℕ, ◌<◌, Bool, true, false, ◌&&◌, not, List, [], ◌∷◌, ◌++◌, Option, Some, None, refl, sym, ap, subst, ◌∙◌, eq-eqb}
-use Rattle.std.specs.Prelude.{IsTrue, IsFalse, ◌==◌, if◌then◌else◌, is_some}
-use Rattle.std.proofs.lemmas.Bool.{eqb-true}
+use Rattle.std.proofs.Common.{◌≡◌, inl, inr, ⊎_elim, ℕ, ◌<◌, Bool, true, ◌&&◌, not, List, [], ◌∷◌, ◌++◌, Option, Some, refl, sym, ap, subst, ◌∙◌}
+use Rattle.std.specs.Prelude.{IsTrue, IsFalse, is_some}
 use Rattle.lvm_num.specs.declared.place.Pp.{Pp}
-use Rattle.lvm_num.specs.declared.record.Stamp.{Stamp}
 use Rattle.lvm_num.specs.declared.descriptor.Mode.{Mode}
 use Rattle.lvm_num.specs.declared.descriptor.Mode.TheVariants.{Active, Passive, Off}
 use Rattle.lvm_num.specs.declared.descriptor.LvRow.{LvRow}
@@ -12,29 +10,27 @@ use Rattle.lvm_num.specs.declared.status.Status.{Status}
 use Rattle.lvm_num.specs.Disks.{Disks}
 use Rattle.lvm_num.specs.Descriptor.{copies_of}
 use Rattle.lvm_num.specs.Geometry.{track_group_of, sector_of}
-use Rattle.lvm_num.specs.Record.{Stamped, stamp_lt, newest_below}
+use Rattle.lvm_num.specs.Record.{Stamped}
 use Rattle.lvm_num.specs.Status.{calls_stale, calls_dirty}
 use Rattle.lvm_num.specs.Votes.{all_disks, CanWrite}
 use Rattle.lvm_vol.specs.declared.entry.Vol.TheVariants.{Lv}
 use Rattle.lvm_vol.specs.Facts.{Fact, Cut}
 use Rattle.lvm_vol.specs.May.{known, IsValue}
 use Rattle.lvm_kept.specs.Contents.{Contents}
-use Rattle.lvm_kept.specs.Group.{if_passes, passes, is_of, is_status_of, IsFound, members_in, ReadsBy, Reads, status_by, is_stale_by, fresh_on, block_at, IsBlockOf, is_named, IsOneOf, IsSome, HoldOne}
+use Rattle.lvm_kept.specs.Group.{passes, is_of, IsFound, members_in, ReadsBy, Reads, status_by, is_stale_by, fresh_on, block_at, IsBlockOf, is_named, IsOneOf, IsSome, HoldOne}
 use Rattle.lvm_kept.specs.Kept.{MayDiffer, IsBlockKept, BlocksKept, Kept}
 use Rattle.lvm_kept.specs.Committed.{IsWithinDisks}
-use Rattle.lvm_kept.specs.Changes.{Serves, HasNoVolume}
+use Rattle.lvm_kept.specs.Changes.{Serves}
 use Rattle.lvm_kept.specs.Torn.{StatusesChange}
 use Rattle.lvm_kept.proofs.Finding.{finding_reads}
-use Rattle.lvm_kept.proofs.Restamping.{fewer_blocks}
-use Rattle.lvm_kept.proofs.Restating.{statuses_keep}
-use Rattle.lvm_steps.proofs.Booleans.{either, clash, not-itself}
-use Rattle.lvm_steps.proofs.VaryingOn.{old_or_next}
+use Rattle.lvm_steps.proofs.Booleans.{clash}
+use Rattle.lvm_steps.proofs.ServesLemmas.{serving, put_keeps}
 use Rattle.lvm_steps.specs.Committing.{IsServed}
 use Rattle.lvm_commit.specs.Committed.{ShowsCommitted}
 use Rattle.lvm_commit.specs.Laws.{IsLaterStatus}
 use Rattle.lvm_commit.proofs.Free.{none_stands}
 use Rattle.lvm_commit.proofs.Found.{shows_group, only_found, status_read}
-use Rattle.lvm_commit.proofs.Members.{one_group, parts_of, member_of_parts, among_all}
+use Rattle.lvm_steps.proofs.Members.{member_of_parts}
 use Rattle.lvm_crash.proofs.Lists.{left_of, right_of, both_of, not_so, so_not, of_passing, one_passes}
 use Rattle.lvm_rest.specs.Rest.{IsEven, NoneIsBehind}
 use Rattle.lvm_rest.specs.Commands.{IsUsable, KeepsCopies, IsUniform, EvenStays, FreeKeepsEven, BehindStays, HasCopiesOf, CopiesServe, MayClean, CleaningFollows}
@@ -183,57 +179,13 @@ module _ (c : Contents) (group : Descriptor) (status : Status) (there : Disks) (
     next_across k is = subst (λ (g : Descriptor). BlocksKept c facts g (members_in c all_disks id g) (Some next)) (sym (same_group k is)) next_blocks
 
     serves : Serves c facts id next
-    serves = record {
-      copies = λ set g f.
-          let reads : ReadsBy c set id g = finding_reads c set id g f in
-          subst (λ (v : Disks). BlocksKept c facts g v (Some next)) (sym reads.voters)
-          (fewer_blocks c (members_in c set id g) (members_in c all_disks id g) (λ d is. among_all c set id g d is) facts g (Some next) (next_across g (set, f)));
-      across = next_across;
-      some = λ k is row lp volume inside.
-          let same : k ≡ group = same_group k is in
-          subst (λ (g : Descriptor). IsSome (fresh_on (members_in c all_disks id g) (Some next) row lp)) (sym same) (next_some row lp (subst (λ (g : Descriptor). IsOneOf g.lvs row) same volume) inside);
-    }
+    serves = serving c id next facts group same_group next_across next_some
 
     showing : (d : ℕ) → IsTrue (targets d) → passes (is_of id) (c.descriptor d) ≡ true
     showing d target = shows_group c group status there shows d (in_there d target)
 
-    abbrev now : Contents
-    now = record c { status = new.status }
-
-    either_own : (d : ℕ) → (new.status d ≡ c.status d) ⊎ (new.status d ≡ Some next)
-    either_own d = ⊎_elim (λ same. inl same) (λ (is : IsTrue (targets d) × (new.status d ≡ Some next)). inr is.1) (change.own d)
-
-    of_other : (b : Disks) (other : ℕ) (h : Descriptor) → (other ≡ id → ⊥) → status_by now b other h ≡ status_by c b other h
-    of_other b other h apart = λ t. newest_below (λ d. at d t) c.disks
-      where
-        at_test : (d : ℕ) (t : Bool) → members_in c b other h d ≡ t → (if t then if_passes (is_status_of other) (new.status d) else None) ≡ (if t then if_passes (is_status_of other) (c.status d) else None)
-        at_test d false is = refl
-        at_test d true is = ⊎_elim
-            (λ same. ap (if_passes (is_status_of other)) same)
-            (λ (put : IsTrue (targets d) × (new.status d ≡ Some next)). absurd (apart (one_group (c.descriptor d) other id (parts_of c b other h d is).1 (showing d put.0))))
-            (change.own d)
-
-        at : (d : ℕ) → (if members_in c b other h d then if_passes (is_status_of other) (new.status d) else None) ≡ (if members_in c b other h d then if_passes (is_status_of other) (c.status d) else None)
-        at d = at_test d (members_in c b other h d) refl
-
-    found_by : (b : Disks) (other : ℕ) (h : Descriptor) → Reads c b other h → (status_by now b other h ≡ status_by c b other h) ⊎ ((status_by now b other h ≡ Some next) × Serves c facts other next)
-    found_by b other h reading = ⊎_elim
-        (λ (test : (other == id) ≡ true). let same : other ≡ id = eqb-true other id test in
-        subst (λ (n : ℕ). (status_by now b n h ≡ status_by c b n h) ⊎ ((status_by now b n h ≡ Some next) × Serves c facts n next)) (sym same) (⊎_elim
-        (λ (old_is : status_by now b id h ≡ status_by c b id h). inl old_is)
-        (λ (next_is : status_by now b id h ≡ Some next). inr (next_is, serves))
-        (old_or_next Status (is_status_of id) c.status new.status (members_in c b id h) next (eq-eqb next.value.id id own) either_own (λ d r shown its. later d r shown (eqb-true r.value.id id its)) c.disks)))
-        (λ (test : (other == id) ≡ false). inl (of_other b other h (λ same. clash (other == id) (eq-eqb other id same) test)))
-        (either (other == id))
-
     pub followed : Kept new facts
-    followed = statuses_keep c new facts next (record {
-      rest = change.rest;
-      own = either_own;
-      stamp = λ d r shown ids stamps. absurd (not-itself next.stamp (ap (λ (x : Stamp). stamp_lt x next.stamp) (sym stamps) ∙ later d r shown (ids ∙ own)));
-      found = λ b other h reading. subst (λ (x : Contents). (status_by x b other h ≡ status_by c b other h) ⊎ ((status_by x b other h ≡ Some next) × Serves c facts other next) ⊎ HasNoVolume c other) (sym change.rest)
-          (⊎_elim (λ same. inl same) (λ is. inr (inl is)) (found_by b other h reading));
-    }) kept
+    followed = put_keeps c id next facts targets new change own showing later serves kept
 
   module _ (next : Stamped Status) (may : MayClean group shows.stands there next.value) (even : IsEven c group stands there) (none_behind : NoneIsBehind c group stands there) where
     same_usable : (row : LvRow) (lp : ℕ) (p : Pp) → IsOneOf group.lvs row → IsOneOf (copies_of row lp) p → IsTrue (passing (Some next) members p) → IsTrue (passing stands members p)

@@ -1,19 +1,16 @@
 -- The two disks that are worked by hand, sector by sector.
-use Rattle.std.proofs.Common.{◌≡◌, ℕ, ◌+◌, ◌<◌, Bool, true, false, ◌&&◌, ◌==◌, List, [], length, take, get_or, Option, Some, None, Ok, refl, sym, ap, subst, ◌∙◌, arith, eqb-true}
+use Rattle.std.proofs.Common.{◌≡◌, ℕ, ◌+◌, ◌<◌, Bool, true, false, ◌&&◌, ◌==◌, [], length, take, Option, Some, None, Ok, refl, sym, ap, subst, ◌∙◌, arith, eqb-true}
 use Rattle.std.specs.Prelude.{if◌then◌else◌, nat_lt, nat_le, option_and_then}
 use Rattle.std.proofs.lemmas.Bool.Decides.{nat_tests}
-use Rattle.lvm_num.specs.declared.descriptor.Mode.{Mode}
-use Rattle.lvm_num.specs.declared.descriptor.Mode.TheVariants.{Active, Passive, Off}
 use Rattle.lvm_num.specs.declared.record.Framed.{Framed}
 use Rattle.lvm_num.specs.declared.record.Kind.{Kind}
 use Rattle.lvm_num.specs.declared.record.Kind.TheVariants as kind
-use Rattle.lvm_num.specs.Name.{is_name}
 use Rattle.lvm_num.specs.Buffer.{Sector, zero_sector, IsSector}
-use Rattle.lvm_num.specs.DescriptorBytes.{version_at, member_at, members_at, volume_at, volumes_at, partition_at, partitions_at, maps_at, member_count_at, descriptor_of, descriptor_bytes}
+use Rattle.lvm_num.specs.DescriptorBytes.{descriptor_of}
 use Rattle.lvm_num.specs.StatusBytes.{status_version_at, rows_and_size_at, status_row_at, status_rows_at, numbers_at, dirty_at, status_of as read_status, status_bytes}
 use Rattle.lvm_num.specs.Geometry.{data_start}
 use Rattle.lvm_num.specs.Note.{note_in}
-use Rattle.lvm_num.specs.Record.{Frames, frame, record_in, record_sectors, slot_start, slot_size, kind_magic, newer, stamp_lt}
+use Rattle.lvm_num.specs.Record.{Frames, frame, record_in, record_sectors, slot_start, slot_size, newer}
 use Rattle.lvm_num.specs.Torn.{slot_at}
 use Rattle.lvm_num.proofs.Torn.{whole_is_read}
 use Rattle.lvm_num.proofs.Fresh.{before_is_older}
@@ -22,15 +19,10 @@ use Rattle.lvm_disk.specs.Device.{Image, image_of}
 use Rattle.lvm_kept.specs.Contents.{has_records, descriptor_on, status_on, note_on, data_at, contents_of}
 use Rattle.lvm_kept.specs.Examples.{stamped, either_of, two}
 use Rattle.lvm_kept.proofs.Standing.{zeros-sector}
+use Rattle.lvm_crash.proofs.WorkedShelf.{group_read, one, not-equal, no-magic, never_before, none_or}
 use Rattle.lvm_rest.specs.Examples.{Pair, status_of, framed_group, framed_status, media_of, pair_sizes, in_data, shown_by}
 
 -- ---- the records are read
-
-pub group_read : (mode : Mode) → descriptor_of (descriptor_bytes (two mode)) ≡ Ok (two mode)
-unfolding is_name version_at member_at members_at volume_at volumes_at partition_at partitions_at maps_at member_count_at descriptor_of
-group_read Active = refl
-group_read Passive = refl
-group_read Off = refl
 
 pub status_read : (x : Pair) (dirty lost : Bool) → read_status (status_bytes (status_of (record x { dirty = dirty; lost = lost })).value) ≡ Ok (status_of (record x { dirty = dirty; lost = lost })).value
 unfolding status_version_at rows_and_size_at status_row_at status_rows_at numbers_at dirty_at read_status
@@ -40,23 +32,6 @@ status_read x false true = refl
 status_read x false false = refl
 
 -- ---- slots
-
-pub one : (k : ℕ) → k < 1 → k ≡ 0
-one k low = omega arith
-
-pub not-equal : (a b : ℕ) → (a ≡ b → ⊥) → (a == b) ≡ false
-not-equal a b differ = grind (arith, nat_tests)
-
-pub no-magic : (kind : Kind) → take 2 zero_sector ≡ kind_magic kind → ⊥
-no-magic kind.Descriptor e = absurd (omega (arith, ap (λ (l : List ℕ). get_or l 0 0) e))
-no-magic kind.Status e = absurd (omega (arith, ap (λ (l : List ℕ). get_or l 0 0) e))
-
-never_before : (epoch seq : ℕ) → stamp_lt (record { epoch = epoch; seq = seq }) (record { epoch = 0; seq = 0 }) ≡ true → ⊥
-never_before epoch seq h = grind (arith, nat_tests)
-
-none_or : {X : Type 0} (o : Option X) → ((x : X) → o ≡ Some x → ⊥) → o ≡ None
-none_or None h = refl
-none_or (Some x) h = absurd (h x refl)
 
 status_frames : (x : Pair) (dirty : Bool) → Frames kind.Status (framed_status (record x { dirty = dirty }))
 status_frames x true = record { some_epoch = λ e. omega (arith, e); epoch = omega arith; some_seq = λ e. omega (arith, e); seq = omega arith; content = omega arith }

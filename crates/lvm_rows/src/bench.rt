@@ -4,16 +4,17 @@ ghost use Rattle.lvm_disk.specs.Device.{IsReady};
 ghost use Rattle.lvm_memory.specs.Memory.{device_of};
 
 use crate::fault::Fault;
-use crate::outside::Outside;
+use crate::outside::{Outside, Streams};
 use crate::parse;
-use crate::print::{print_line, print_run, print_words};
-use crate::run::{Ran, Sizes, blank, restarted, run};
+use crate::print::{print_line, print_lines, print_run, print_words};
+use crate::run::{Sizes, blank, images_of, restarted, run};
 use crate::script::Script;
 use crate::sweep::{Swept, Swing, sweep};
 use crate::words::{Answered, answer};
 use lvm_io::{MemClock, Sink};
 use lvm_memory::MemShelf;
-use lvm_num::Text;
+use lvm_num::{Rows, Text};
+use lvm_top::Ended;
 use std::alloc::Global;
 
 /// How many entries the history of a run has room for where nothing else is said.
@@ -22,11 +23,11 @@ const ENTRIES: u32 = 1_024;
 /// The moment that a clock answers first where nothing else is said.
 const FIRST: u64 = 7;
 
-/// The disks of a case, as its runs leave them, and what the next run is given.
+/// What the disks of a case have, as its runs leave them, and what the next run is given.
 #[derive(Drop)]
 pub struct Bench {
     sizes: Sizes,
-    left: Option<MemShelf>,
+    left: Option<Vec<Rows<u8>>>,
     script: Script,
     outside: Outside,
     clock: MemClock,
@@ -35,7 +36,7 @@ pub struct Bench {
 
 impl Bench {
     /// A case of no disks.
-    pub fn new(alloc: Global) -> Bench {
+    pub(crate) fn new(alloc: Global) -> Bench {
         Bench {
             sizes: Sizes {
                 sectors: Vec::new(alloc),
@@ -50,7 +51,7 @@ impl Bench {
     }
 
     /// Does what a line of the cases says.
-    pub fn take_line<O: Sink>(
+    pub(crate) fn take_line<O: Sink>(
         &mut self,
         alloc: Global,
         line: &str,
@@ -59,10 +60,7 @@ impl Bench {
         let (verb, rest) = parse::split(line);
         match verb {
             "" | "#" => Ok(()),
-            "case" => {
-                *self = Bench::new(alloc);
-                print_line(out, line.as_bytes())
-            }
+            "case" => self.begin(alloc, line, out),
             ">" => self.script.push_line(rest),
             "*" => self.script.push_marked(rest),
             "run" => self.run(alloc, out),
@@ -71,6 +69,12 @@ impl Bench {
             "words" => self.words(alloc, rest, out),
             _ => self.set(alloc, verb, rest),
         }
+    }
+
+    // Begins another case.
+    fn begin<O: Sink>(&mut self, alloc: Global, line: &str, out: &mut O) -> Result<(), Fault> {
+        *self = Bench::new(alloc);
+        print_line(out, line.as_bytes())
     }
 
     // Says something of the disks or of the next run.
@@ -114,35 +118,44 @@ impl Bench {
     }
 
     // The disks of the next run.
-    fn shelf(&self, alloc: Global) -> Result<MemShelf, Fault>
+    fn shelf(&mut self, alloc: Global) -> Result<MemShelf, Fault>
         ensures { IfOk result (λ shelf. IsReady (device_of shelf)) }
     {
-        match &self.left {
+        match self.left.take() {
             None => blank(alloc, &self.sizes.sectors, self.outside.plan()),
-            Some(left) => restarted(alloc, left, self.outside.plan()),
+            Some(images) => restarted(alloc, images, self.outside.plan()),
         }
     }
 
     // The next run.
-    fn next_run(&mut self, alloc: Global) -> Result<Ran, Fault> {
-        let streams = self.outside.streams(alloc, self.script.text())?;
+    fn run<O: Sink>(&mut self, alloc: Global, out: &mut O) -> Result<(), Fault> {
+        let mut streams = self.outside.streams(alloc, self.script.text())?;
+        let ended = self.next_run(alloc, &mut streams)?;
+        self.end_run(alloc, streams.out.bytes(), &ended, out)
+    }
+
+    fn next_run(&mut self, alloc: Global, streams: &mut Streams) -> Result<Ended<MemShelf>, Fault> {
         let shelf = self.shelf(alloc)?;
         Ok(run(alloc, streams, shelf, &mut self.clock, self.sizes.entries))
     }
 
-    fn run<O: Sink>(&mut self, alloc: Global, out: &mut O) -> Result<(), Fault> {
-        let ran = self.next_run(alloc)?;
-        print_run(alloc, &ran, self.watched, out)?;
-        self.leave(alloc, ran);
-        Ok(())
+    fn end_run<O: Sink>(
+        &mut self,
+        alloc: Global,
+        text: &[u8],
+        ended: &Ended<MemShelf>,
+        out: &mut O,
+    ) -> Result<(), Fault> {
+        print_run(alloc, text, ended, self.watched, out)?;
+        self.leave(alloc, &ended.shelf)
     }
 
     // Keeps the disks as a run leaves them, and forgets what it was given.
-    fn leave(&mut self, alloc: Global, ran: Ran) {
-        let Ran { ended, out: _ } = ran;
-        self.left = Some(ended.shelf);
+    fn leave(&mut self, alloc: Global, shelf: &MemShelf) -> Result<(), Fault> {
         self.script = Script::new(alloc);
         self.outside = Outside::new(alloc);
+        self.left = Some(images_of(alloc, shelf)?);
+        Ok(())
     }
 
     fn sweep<O: Sink>(
@@ -153,18 +166,19 @@ impl Bench {
         out: &mut O,
     ) -> Result<(), Fault> {
         let acts = parse::acts(alloc, rest)?;
-        let swept = Swept {
+        let swing = Swing { acts: &acts, again };
+        let endings = sweep(alloc, &self.swept(), &swing)?;
+        print_lines(out, &endings)
+    }
+
+    // What a sweep runs.
+    fn swept(&self) -> Swept<'_> {
+        Swept {
             sizes: &self.sizes,
             script: &self.script,
             outside: &self.outside,
             watched: self.watched,
-        };
-        let swing = Swing { acts: &acts, again };
-        let endings = sweep(alloc, &swept, &swing)?;
-        for ending in &endings {
-            print_line(out, ending)?;
         }
-        Ok(())
     }
 
     // A sweep in which the act is done again so many calls later.
@@ -182,8 +196,7 @@ impl Bench {
 
     // What the program answers to words.
     fn answer(&self, alloc: Global, words: &[Text]) -> Result<Answered, Fault> {
-        let input = self.outside.source(alloc, self.script.text())?;
-        let files = blank(alloc, &self.sizes.sectors, &[])?;
-        answer(alloc, words, input, files)
+        let mut input = self.outside.source(alloc, self.script.text())?;
+        answer(alloc, words, &mut input, &self.sizes.sectors)
     }
 }

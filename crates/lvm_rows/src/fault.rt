@@ -4,8 +4,9 @@ use lvm_io::SinkFault;
 use lvm_num::Memory;
 use std::alloc::{AllocError, AllocFailed};
 use std::fmt;
+use std::num::ParseIntError;
 
-#[derive(Clone, Copy, Debug)]
+#[derive(Clone, Copy)]
 pub enum Fault {
     /// The line isn't one of a case, or names what the case doesn't have.
     Line,
@@ -20,6 +21,12 @@ impl fmt::Display for Fault {
             Fault::Memory => "memory ran out",
             Fault::Sink => "the output failed",
         })
+    }
+}
+
+impl From<ParseIntError> for Fault {
+    fn from(_bad: ParseIntError) -> Fault {
+        Fault::Line
     }
 }
 

@@ -35,7 +35,9 @@ mod sweep;
 mod words;
 
 use bench::Bench;
-use lvm_io::StdSink;
+use fault::Fault;
+use lvm_io::{Sink, StdSink};
+use std::alloc::Global;
 use std::io;
 use std::process::ExitCode;
 
@@ -46,11 +48,26 @@ fn main(rt: HostRuntime) -> ExitCode {
     };
     let mut out = StdSink::new(io::writer(&rt));
     let mut bench = Bench::new(alloc);
-    for line in cases.lines() {
-        if let Err(fault) = bench.take_line(alloc, line, &mut out) {
+    match take_lines(alloc, &mut bench, &cases, &mut out) {
+        None => ExitCode::SUCCESS,
+        Some((fault, line)) => {
             let _ = eprintln!(rt; "{fault}: {line}");
-            return ExitCode::FAILURE;
+            ExitCode::FAILURE
         }
     }
-    ExitCode::SUCCESS
+}
+
+// Does what the lines say, up to the first one at which it can't go on: why, and that line.
+fn take_lines<'a, O: Sink>(
+    alloc: Global,
+    bench: &mut Bench,
+    cases: &'a str,
+    out: &mut O,
+) -> Option<(Fault, &'a str)> {
+    for line in cases.lines() {
+        if let Err(fault) = bench.take_line(alloc, line, out) {
+            return Some((fault, line));
+        }
+    }
+    None
 }

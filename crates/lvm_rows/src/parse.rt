@@ -6,29 +6,29 @@ use lvm_num::Text;
 use std::alloc::Global;
 
 /// A number in decimal digits.
-pub fn number(word: &str) -> Result<u64, Fault> {
-    word.parse::<u64>().map_err(|_| Fault::Line)
+pub(crate) fn number(word: &str) -> Result<u64, Fault> {
+    Ok(word.parse::<u64>()?)
 }
 
 // The number of a disk by its name.
 fn disk(word: &str) -> Result<u16, Fault> {
     match word.strip_prefix("hdisk") {
-        Some(digits) => digits.parse::<u16>().map_err(|_| Fault::Line),
+        Some(digits) => Ok(digits.parse::<u16>()?),
         None => Err(Fault::Line),
     }
 }
 
 // A number in hexadecimal digits.
 fn hexadecimal(word: &str) -> Result<u64, Fault> {
-    u64::from_str_radix(word, 16).map_err(|_| Fault::Line)
+    Ok(u64::from_str_radix(word, 16)?)
 }
 
-pub fn small(word: &str) -> Result<u32, Fault> {
-    word.parse::<u32>().map_err(|_| Fault::Line)
+pub(crate) fn small(word: &str) -> Result<u32, Fault> {
+    Ok(word.parse::<u32>()?)
 }
 
 /// A word, and what stands behind it.
-pub fn split(text: &str) -> (&str, &str) {
+pub(crate) fn split(text: &str) -> (&str, &str) {
     match text.split_once(' ') {
         Some(parts) => parts,
         None => (text, ""),
@@ -36,12 +36,12 @@ pub fn split(text: &str) -> (&str, &str) {
 }
 
 /// Numbers between blanks.
-pub fn numbers(alloc: Global, text: &str) -> Result<Vec<u64>, Fault> {
+pub(crate) fn numbers(alloc: Global, text: &str) -> Result<Vec<u64>, Fault> {
     text.split_whitespace().map(number).try_collect(alloc)
 }
 
 /// The sizes in sectors of disks, of which so many have so many MiB.
-pub fn simulated(alloc: Global, text: &str) -> Result<Vec<u64>, Fault> {
+pub(crate) fn simulated(alloc: Global, text: &str) -> Result<Vec<u64>, Fault> {
     let (disks, mib) = split(text);
     let (disks, mib) = (number(disks)?, number(mib)?);
     if disks > 128 || mib > 64 {
@@ -63,7 +63,7 @@ fn act(name: &str, word: &str) -> Result<Act, Fault> {
 }
 
 /// An act at a call: the call's number, the act's name and its word.
-pub fn planned(text: &str) -> Result<Planned, Fault> {
+pub(crate) fn planned(text: &str) -> Result<Planned, Fault> {
     let (call, rest) = split(text);
     let (name, word) = split(rest);
     Ok(Planned {
@@ -73,7 +73,7 @@ pub fn planned(text: &str) -> Result<Planned, Fault> {
 }
 
 /// Acts of one name, one for each word behind it.
-pub fn acts(alloc: Global, text: &str) -> Result<Vec<Act>, Fault> {
+pub(crate) fn acts(alloc: Global, text: &str) -> Result<Vec<Act>, Fault> {
     let (name, words) = split(text);
     words
         .split_whitespace()
@@ -82,22 +82,27 @@ pub fn acts(alloc: Global, text: &str) -> Result<Vec<Act>, Fault> {
 }
 
 /// A disk, and the number of one of its sectors.
-pub fn place(text: &str) -> Result<(u16, u64), Fault> {
+pub(crate) fn place(text: &str) -> Result<(u16, u64), Fault> {
     let (name, at) = split(text);
     Ok((disk(name)?, number(at)?))
 }
 
 /// Words of a command line, each between brackets.
-pub fn bracketed(alloc: Global, text: &str) -> Result<Vec<Text>, Fault> {
-    let mut words = Vec::new(alloc);
-    if text.is_empty() {
-        return Ok(words);
+pub(crate) fn bracketed(alloc: Global, text: &str) -> Result<Vec<Text>, Fault> {
+    match text.strip_prefix('[') {
+        Some(inner) => texts(alloc, inner.strip_suffix(']').unwrap_or(inner)),
+        None if text.is_empty() => Ok(Vec::new(alloc)),
+        None => Err(Fault::Line),
     }
-    let Some(inner) = text.strip_prefix('[') else {
-        return Err(Fault::Line);
-    };
-    for word in inner.strip_suffix(']').unwrap_or(inner).split("] [") {
-        words.push(Text::new(String::from_str(alloc, word)?))?;
-    }
-    Ok(words)
+}
+
+fn texts(alloc: Global, inner: &str) -> Result<Vec<Text>, Fault> {
+    inner
+        .split("] [")
+        .map(|word| text_of(alloc, word))
+        .try_collect(alloc)
+}
+
+fn text_of(alloc: Global, word: &str) -> Result<Text, Fault> {
+    Ok(Text::new(String::from_str(alloc, word)?))
 }

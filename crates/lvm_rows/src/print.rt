@@ -1,13 +1,16 @@
 //! What is printed of a run.
 
 use crate::fault::Fault;
-use crate::run::{Ran, judged};
+use crate::run::judged;
 use crate::words::Answered;
 use lvm_io::{Sink, write_all};
+use lvm_memory::MemShelf;
+use lvm_top::Ended;
 use std::alloc::Global;
+use std::collections::BTreeSet;
 
 // Writes a text, and a line feed where it lacks its last one.
-fn print_lines<O: Sink>(out: &mut O, text: &[u8]) -> Result<(), Fault> {
+fn print_text<O: Sink>(out: &mut O, text: &[u8]) -> Result<(), Fault> {
     write_all(out, text)?;
     if !text.is_empty() && !text.ends_with(b"\n") {
         write_all(out, b"\n")?;
@@ -15,32 +18,59 @@ fn print_lines<O: Sink>(out: &mut O, text: &[u8]) -> Result<(), Fault> {
     Ok(())
 }
 
-/// Prints what a run wrote, and how it ended.
-pub fn print_run<O: Sink>(
+// How a run ended.
+fn ending_of(
     alloc: Global,
-    ran: &Ran,
+    ended: &Ended<MemShelf>,
+    watched: Option<(u16, u64)>,
+) -> Result<String, Fault> {
+    let status = ended.status;
+    let refused = ended.refused;
+    let judged = judged(ended, watched);
+    Ok(format!(in alloc; "status {status}, refused {refused}{judged}")?)
+}
+
+/// Prints what a run wrote, and how it ended.
+pub(crate) fn print_run<O: Sink>(
+    alloc: Global,
+    text: &[u8],
+    ended: &Ended<MemShelf>,
     watched: Option<(u16, u64)>,
     out: &mut O,
 ) -> Result<(), Fault> {
-    print_lines(out, ran.out.bytes())?;
-    let status = ran.ended.status;
-    let refused = ran.ended.refused;
-    let judged = judged(&ran.ended, watched);
-    let line = format!(in alloc; "status {status}, refused {refused}{judged}\n")?;
-    Ok(write_all(out, line.as_bytes())?)
+    print_text(out, text)?;
+    let ending = ending_of(alloc, ended, watched)?;
+    print_line(out, ending.as_bytes())
+}
+
+// How a run by words ended.
+fn status_of(alloc: Global, answered: &Answered) -> Result<String, Fault> {
+    let status = answered.status;
+    Ok(format!(in alloc; "status {status}")?)
 }
 
 /// Prints how a run by words ended, what it wrote, and what it said beside.
-pub fn print_words<O: Sink>(alloc: Global, answered: &Answered, out: &mut O) -> Result<(), Fault> {
-    print_lines(out, answered.out.bytes())?;
-    print_lines(out, answered.err.bytes())?;
-    let status = answered.status;
-    let line = format!(in alloc; "status {status}\n")?;
-    Ok(write_all(out, line.as_bytes())?)
+pub(crate) fn print_words<O: Sink>(
+    alloc: Global,
+    answered: &Answered,
+    out: &mut O,
+) -> Result<(), Fault> {
+    print_text(out, answered.sinks.out.bytes())?;
+    print_text(out, answered.sinks.err.bytes())?;
+    let status = status_of(alloc, answered)?;
+    print_line(out, status.as_bytes())
 }
 
 /// Prints a line.
-pub fn print_line<O: Sink>(out: &mut O, line: &[u8]) -> Result<(), Fault> {
+pub(crate) fn print_line<O: Sink>(out: &mut O, line: &[u8]) -> Result<(), Fault> {
     write_all(out, line)?;
     Ok(write_all(out, b"\n")?)
+}
+
+/// Prints lines.
+pub(crate) fn print_lines<O: Sink>(out: &mut O, lines: &BTreeSet<Vec<u8>>) -> Result<(), Fault> {
+    for line in lines {
+        print_line(out, line)?;
+    }
+    Ok(())
 }

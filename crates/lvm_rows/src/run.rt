@@ -7,7 +7,7 @@ use crate::fault::Fault;
 use crate::outside::Streams;
 use lvm_disk::Shelf;
 use lvm_faults::{Planned, names_disks};
-use lvm_io::{MemClock, MemSink};
+use lvm_io::MemClock;
 use lvm_memory::MemShelf;
 use lvm_num::Rows;
 use lvm_top::{Ended, Room, run_script};
@@ -19,13 +19,6 @@ use std::alloc::Global;
 pub struct Sizes {
     pub sectors: Vec<u64>,
     pub entries: u32,
-}
-
-/// How a run ended, and what it wrote.
-#[derive(Drop)]
-pub struct Ran {
-    pub ended: Ended<MemShelf>,
-    pub out: MemSink,
 }
 
 // How many writes a shelf tells by their ranges.
@@ -42,13 +35,19 @@ pub fn blank(alloc: Global, sectors: &[u64], plan: &[Planned]) -> Result<MemShel
     Ok(MemShelf::new(alloc, sectors, plan, LOG)?)
 }
 
-// What stands on the disks.
-fn images_of(alloc: Global, shelf: &MemShelf) -> Result<Vec<Rows<u8>>, Fault> {
-    let mut images = Vec::new(alloc);
-    for disk in 0..shelf.disks() {
-        images.push(Rows::new(Vec::from_slice(alloc, shelf.image(disk))?))?;
+// What stands on a disk, and nothing where there is no such disk.
+fn image_of(alloc: Global, shelf: &MemShelf, disk: u16) -> Result<Rows<u8>, Fault> {
+    if disk >= shelf.disks() {
+        return Ok(Rows::empty(alloc));
     }
-    Ok(images)
+    Ok(Rows::new(Vec::from_slice(alloc, shelf.image(disk))?))
+}
+
+/// What stands on the disks.
+pub(crate) fn images_of(alloc: Global, shelf: &MemShelf) -> Result<Vec<Rows<u8>>, Fault> {
+    (0..shelf.disks())
+        .map(|disk| image_of(alloc, shelf, disk))
+        .try_collect(alloc)
 }
 
 fn are_whole(images: &[Rows<u8>]) -> bool
@@ -58,28 +57,33 @@ fn are_whole(images: &[Rows<u8>]) -> bool
 }
 
 /// The disks as a run left them, which are started again: none is failing, and calls are counted from 1.
-pub fn restarted(alloc: Global, shelf: &MemShelf, plan: &[Planned]) -> Result<MemShelf, Fault>
-    ensures { IfOk result (λ again. IsReady (device_of again)) }
+pub fn restarted(alloc: Global, images: Vec<Rows<u8>>, plan: &[Planned]) -> Result<MemShelf, Fault>
+    ensures { IfOk result (λ shelf. IsReady (device_of shelf)) }
 {
-    let images = images_of(alloc, shelf)?;
+    let plan = Vec::from_slice(alloc, plan)?;
+    started(alloc, images, plan)
+}
+
+fn started(alloc: Global, images: Vec<Rows<u8>>, plan: Vec<Planned>) -> Result<MemShelf, Fault>
+    ensures { IfOk result (λ shelf. IsReady (device_of shelf)) }
+{
     if images.is_empty() || images.len() > 128 || !are_whole(&images) {
         return Err(Fault::Line);
     }
-    if !names_disks(plan, images.len() as u16) {
+    if !names_disks(&plan, images.len() as u16) {
         return Err(Fault::Line);
     }
-    let plan = Rows::new(Vec::from_slice(alloc, plan)?);
-    Ok(MemShelf::from_images(alloc, Rows::new(images), plan, LOG)?)
+    Ok(MemShelf::from_images(alloc, Rows::new(images), Rows::new(plan), LOG)?)
 }
 
 /// Runs a script.
 pub fn run(
     alloc: Global,
-    streams: Streams,
+    streams: &mut Streams,
     shelf: MemShelf,
     clock: &mut MemClock,
     entries: u32,
-) -> Ran
+) -> Ended<MemShelf>
     requires { IsReady (device_of shelf) }
 {
     let room = Room {
@@ -88,14 +92,19 @@ pub fn run(
         entries: entries.max(4),
         bytes: 1_048_576,
     };
-    let Streams { mut input, mut out } = streams;
-    let ended = run_script(alloc, &mut input, &mut out, shelf, clock, room);
-    Ran { ended, out }
+    run_script(
+        alloc,
+        &mut streams.input,
+        &mut streams.out,
+        shelf,
+        clock,
+        room,
+    )
 }
 
 /// What a run's history says that its status doesn't: whether it is legal, and whether it allows what stands in a
 /// sector of a disk.
-pub fn judged(ended: &Ended<MemShelf>, watched: Option<(u16, u64)>) -> &'static str {
+pub(crate) fn judged(ended: &Ended<MemShelf>, watched: Option<(u16, u64)>) -> &'static str {
     let Some(history) = &ended.history else {
         return ", no history";
     };

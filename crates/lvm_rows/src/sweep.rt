@@ -1,11 +1,15 @@
 //! One script with an act at another call each time.
 
+ghost use Rattle.lvm_disk.specs.Device.{IsReady};
+ghost use Rattle.lvm_memory.specs.Memory.{device_of};
+
 use crate::fault::Fault;
-use crate::outside::Outside;
-use crate::run::{Ran, Sizes, blank, judged, run};
+use crate::outside::{Outside, Streams};
+use crate::run::{Sizes, blank, judged, run};
 use crate::script::Script;
 use lvm_faults::{Act, Planned};
 use lvm_io::MemClock;
+use lvm_memory::MemShelf;
 use std::alloc::Global;
 use std::collections::BTreeSet;
 
@@ -25,12 +29,32 @@ pub struct Swing<'a> {
     pub again: Option<u64>,
 }
 
+// What is kept of a run: where it read and wrote, how many calls of the disks it made, and what its history says.
+#[derive(Drop)]
+struct Tried {
+    streams: Streams,
+    calls: u64,
+    judged: &'static str,
+}
+
 // Runs some of the lines, with a plan.
-fn try_lines(alloc: Global, swept: &Swept, lines: &[u8], plan: &[Planned]) -> Result<Ran, Fault> {
+fn try_lines(alloc: Global, swept: &Swept, lines: &[u8], plan: &[Planned]) -> Result<Tried, Fault> {
     let streams = swept.outside.streams(alloc, lines)?;
     let shelf = blank(alloc, &swept.sizes.sectors, plan)?;
+    Ok(try_run(alloc, swept, streams, shelf))
+}
+
+fn try_run(alloc: Global, swept: &Swept, streams: Streams, shelf: MemShelf) -> Tried
+    requires { IsReady (device_of shelf) }
+{
+    let mut streams = streams;
     let mut clock = MemClock::new(7);
-    Ok(run(alloc, streams, shelf, &mut clock, swept.sizes.entries))
+    let ended = run(alloc, &mut streams, shelf, &mut clock, swept.sizes.entries);
+    Tried {
+        streams,
+        calls: ended.shelf.calls(),
+        judged: judged(&ended, swept.watched),
+    }
 }
 
 // The plan of a sweep with an act at a call.
@@ -41,31 +65,40 @@ fn plan_at(
     act: Act,
     again: Option<u64>,
 ) -> Result<Vec<Planned>, Fault> {
+    let later = call.saturating_add(again.unwrap_or(0));
+    let acts = [Planned { call, act }, Planned { call: later, act }];
+    let count = if again.is_some() { 2 } else { 1 };
     let mut plan = Vec::from_slice(alloc, swept.outside.plan())?;
-    plan.push(Planned { call, act })?;
-    if let Some(later) = again {
-        plan.push(Planned {
-            call: call.saturating_add(later),
-            act,
-        })?;
-    }
+    plan.extend_from_slice(&acts[..count])?;
     Ok(plan)
 }
 
-// The answers behind those before, in one line.
-fn ending(alloc: Global, before: &[u8], ran: &Ran, judged: &str) -> Result<Vec<u8>, Fault> {
-    let text = ran.out.bytes();
+// The answers behind those before, without their last line feed.
+fn answers_behind<'a>(before: &[u8], text: &'a [u8]) -> &'a [u8] {
     let answers = text.strip_prefix(before).unwrap_or(text);
-    let answers = answers.strip_suffix(b"\n").unwrap_or(answers);
+    answers.strip_suffix(b"\n").unwrap_or(answers)
+}
+
+fn put(line: &mut Vec<u8>, byte: u8) -> Result<(), Fault> {
+    match byte {
+        b'\n' => Ok(line.extend_from_slice(b", ")?),
+        _ => Ok(line.push(byte)?),
+    }
+}
+
+// The answers in one line.
+fn joined(alloc: Global, answers: &[u8]) -> Result<Vec<u8>, Fault> {
     let mut line = Vec::new(alloc);
     for byte in answers {
-        if *byte == b'\n' {
-            line.extend_from_slice(b", ")?;
-        } else {
-            line.push(*byte)?;
-        }
+        put(&mut line, *byte)?;
     }
-    line.extend_from_slice(judged.as_bytes())?;
+    Ok(line)
+}
+
+// How a run ended, its answers behind those before.
+fn ending(alloc: Global, before: &[u8], tried: &Tried) -> Result<Vec<u8>, Fault> {
+    let mut line = joined(alloc, answers_behind(before, tried.streams.out.bytes()))?;
+    line.extend_from_slice(tried.judged.as_bytes())?;
     Ok(line)
 }
 
@@ -86,7 +119,21 @@ fn may_differ(act: Act, call: Call) -> bool {
     }
 }
 
-// The answers with each act at a call.
+// The ending with an act at a call.
+fn try_act(
+    alloc: Global,
+    swept: &Swept,
+    again: Option<u64>,
+    call: u64,
+    act: Act,
+    before: &[u8],
+) -> Result<Vec<u8>, Fault> {
+    let plan = plan_at(alloc, swept, call, act, again)?;
+    let tried = try_lines(alloc, swept, swept.script.text(), &plan)?;
+    ending(alloc, before, &tried)
+}
+
+// The endings with each act at a call.
 fn sweep_call(
     alloc: Global,
     swept: &Swept,
@@ -96,29 +143,53 @@ fn sweep_call(
     endings: &mut BTreeSet<Vec<u8>>,
 ) -> Result<(), Fault> {
     for act in swing.acts {
-        if !may_differ(*act, call) {
-            continue;
+        if may_differ(*act, call) {
+            let ending = try_act(alloc, swept, swing.again, call.number, *act, before)?;
+            endings.insert(ending)?;
         }
-        let plan = plan_at(alloc, swept, call.number, *act, swing.again)?;
-        let ran = try_lines(alloc, swept, swept.script.text(), &plan)?;
-        let judged = judged(&ran.ended, swept.watched);
-        endings.insert(ending(alloc, before, &ran, judged)?)?;
     }
     Ok(())
 }
 
-/// The different answers from the marked lines on, where an act is done before one of their calls.
-pub fn sweep(alloc: Global, swept: &Swept, swing: &Swing) -> Result<BTreeSet<Vec<u8>>, Fault> {
-    let before = try_lines(alloc, swept, swept.script.before(), swept.outside.plan())?;
-    let through = try_lines(alloc, swept, swept.script.through(), swept.outside.plan())?;
-    let first = before.ended.shelf.calls().saturating_add(1);
+// How many calls of the disks the lines up to the last marked one make.
+fn calls_through(alloc: Global, swept: &Swept) -> Result<u64, Fault> {
+    let tried = try_lines(alloc, swept, swept.script.through(), swept.outside.plan())?;
+    Ok(tried.calls)
+}
+
+// The endings with each act at each call from the first to the last one.
+fn sweep_calls(
+    alloc: Global,
+    swept: &Swept,
+    swing: &Swing,
+    (first, last): (u64, u64),
+    before: &[u8],
+) -> Result<BTreeSet<Vec<u8>>, Fault> {
     let mut endings = BTreeSet::new(alloc);
-    for number in first..=through.ended.shelf.calls() {
+    for number in first..=last {
         let call = Call {
             number,
             starts: number.abs_diff(first) % 2 == 0,
         };
-        sweep_call(alloc, swept, swing, call, before.out.bytes(), &mut endings)?;
+        sweep_call(alloc, swept, swing, call, before, &mut endings)?;
     }
     Ok(endings)
+}
+
+/// The different answers from the marked lines on, where an act is done before one of their calls.
+pub(crate) fn sweep(
+    alloc: Global,
+    swept: &Swept,
+    swing: &Swing,
+) -> Result<BTreeSet<Vec<u8>>, Fault> {
+    let last = calls_through(alloc, swept)?;
+    let before = try_lines(alloc, swept, swept.script.before(), swept.outside.plan())?;
+    let first = before.calls.saturating_add(1);
+    sweep_calls(
+        alloc,
+        swept,
+        swing,
+        (first, last),
+        before.streams.out.bytes(),
+    )
 }

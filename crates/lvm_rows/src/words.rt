@@ -5,72 +5,83 @@ ghost use Rattle.lvm_memory.specs.Memory.{device_of};
 
 use crate::fault::Fault;
 use crate::outside::ample;
+use crate::run::blank;
 use lvm_io::{MemClock, MemSink, MemSource};
 use lvm_memory::MemShelf;
 use lvm_num::Text;
 use lvm_top::run_words;
 use std::alloc::Global;
 
-/// How a run by words ended, what it wrote, and what it said beside.
+/// How a run by words ended, and what it wrote.
 #[derive(Drop)]
 pub struct Answered {
     pub status: u8,
-    pub out: MemSink,
-    pub err: MemSink,
+    pub sinks: Sinks,
 }
 
-// The sinks of a run by words.
+/// The sinks of a run by words: for replies, for what is said beside, and for images.
 #[derive(Drop)]
-struct Sinks {
-    out: MemSink,
-    err: MemSink,
-    images: MemSink,
+pub struct Sinks {
+    pub out: MemSink,
+    pub err: MemSink,
+    pub images: MemSink,
 }
 
 fn ample_sinks(alloc: Global) -> Result<Sinks, Fault> {
-    let out = ample(alloc)?;
-    let err = ample(alloc)?;
     let images = ample(alloc)?;
+    let (out, err) = two_sinks(alloc)?;
     Ok(Sinks { out, err, images })
 }
 
-// Runs the program.
-fn run(alloc: Global, words: &[Text], input: MemSource, sinks: Sinks, files: MemShelf) -> Answered
+fn two_sinks(alloc: Global) -> Result<(MemSink, MemSink), Fault> {
+    let out = ample(alloc)?;
+    let err = ample(alloc)?;
+    Ok((out, err))
+}
+
+// Runs the program, and answers its status.
+fn run(
+    alloc: Global,
+    words: &[Text],
+    input: &mut MemSource,
+    sinks: &mut Sinks,
+    files: MemShelf,
+) -> u8
     requires { IsReady (device_of files) }
 {
-    let mut input = input;
-    let Sinks {
-        mut out,
-        mut err,
-        mut images,
-    } = sinks;
     let mut clock = MemClock::new(7);
     let ended = run_words(
         alloc,
         words,
-        &mut input,
-        &mut out,
-        &mut err,
+        input,
+        &mut sinks.out,
+        &mut sinks.err,
         &mut clock,
         files,
-        &mut images,
+        &mut sinks.images,
     );
-    Answered {
-        status: ended.status,
-        out,
-        err,
-    }
+    ended.status
 }
 
-/// Lets the program answer words, with a script as its input.
-pub fn answer(
+fn answer_into(
     alloc: Global,
     words: &[Text],
-    input: MemSource,
-    files: MemShelf,
-) -> Result<Answered, Fault>
-    requires { IsReady (device_of files) }
-{
-    let sinks = ample_sinks(alloc)?;
+    input: &mut MemSource,
+    sinks: &mut Sinks,
+    sectors: &[u64],
+) -> Result<u8, Fault> {
+    let files = blank(alloc, sectors, &[])?;
     Ok(run(alloc, words, input, sinks, files))
+}
+
+/// Lets the program answer words, with a script as its input, and over files of zeros of so many sectors each.
+pub(crate) fn answer(
+    alloc: Global,
+    words: &[Text],
+    input: &mut MemSource,
+    sectors: &[u64],
+) -> Result<Answered, Fault> {
+    let mut sinks = ample_sinks(alloc)?;
+    let status = answer_into(alloc, words, input, &mut sinks, sectors)?;
+    Ok(Answered { status, sinks })
 }

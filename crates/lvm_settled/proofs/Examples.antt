@@ -37,7 +37,8 @@ use Rattle.lvm_core.proofs.Beginning.{sound_first}
 use Rattle.lvm_rest.specs.Rest.{IsEven, NoneIsBehind}
 use Rattle.lvm_rest.specs.Examples.{Pair, status_of, pair_sizes, framed_group, framed_status, shown_by, media_of, device_of, there_by, history_of, even_pair, naming_note}
 use Rattle.lvm_rest.proofs.Pairs.{the_descriptor}
-use Rattle.lvm_rest.proofs.Sectors.{group_read, status_read, group_first, status_first, no-magic, not-equal, stands_else, second_zero, second_none, room, told}
+use Rattle.lvm_crash.proofs.WorkedShelf.{group_read, no-magic, not-equal}
+use Rattle.lvm_rest.proofs.Sectors.{status_read, group_first, status_first, stands_else, second_zero, second_none, room, told}
 use Rattle.lvm_rest.proofs.Examples.{valid, there_in, at_both, enough, shows, behind, zeros_even, pairs_rest}
 use Rattle.lvm_settled.specs.Examples.{core_of, noted_cache, noted_core, IsSettledPair, PairsSettle}
 

@@ -13,7 +13,7 @@ use Rattle.lvm_num.proofs.VotesLemmas.{read_meets_read}
 use Rattle.lvm_disk.specs.Device.{Image, image_of}
 use Rattle.lvm_disk.proofs.Paths.{map-path}
 use Rattle.lvm_kept.specs.Contents.{Contents, contents_of}
-use Rattle.lvm_kept.specs.Group.{passes, is_of, has_room, descriptor_among, is_voter, has_quorum, Finds, members_in, ReadsBy}
+use Rattle.lvm_kept.specs.Group.{passes, is_of, has_room, descriptor_among, is_voter, Finds, members_in, ReadsBy}
 use Rattle.lvm_kept.specs.Committed.{IsWithinDisks}
 use Rattle.lvm_kept.specs.Torn.{written as as_read, DescriptorsChange, Alone, Note}
 use Rattle.lvm_kept.proofs.Finding.{some_same, offered, is_offered, offers, finding_reads, finds_from, images_within}
@@ -27,6 +27,7 @@ use Rattle.lvm_steps.proofs.VaryingOn.{restamp_keeps, restate_keeps, forgetting_
 use Rattle.lvm_steps.proofs.Making.{stays_by, media_may}
 use Rattle.lvm_steps.proofs.Spans.{steps_go_on, group_goes_on}
 use Rattle.lvm_steps.proofs.Booleans.{clash, first}
+use Rattle.lvm_steps.proofs.FindsLemmas.{still_finds}
 
 -- ---- the newest
 
@@ -101,17 +102,9 @@ module _ (c : Contents) (status : ℕ → Option (Stamped Status)) (note : ℕ �
   abbrev with : Contents
   with = record c { status = status; note = note }
 
-  group_same : (set : Disks) (v : ℕ) → descriptor_among with set v ≡ descriptor_among c set v
-  unfolding descriptor_among
-  group_same set v = refl
-
-  quorum_same : (set : Disks) (v : ℕ) → has_quorum with set v ≡ has_quorum c set v
-  unfolding has_quorum is_voter descriptor_among
-  quorum_same set v = refl
-
   stays_newest : (group : Descriptor) (disks : Disks) (newest : Stamped Descriptor) → HasNewest c group disks newest → HasNewest with group disks newest
   stays_newest group disks last_one has = record {
-    found = record { quorum = quorum_same disks group.id ∙ has.found.quorum; newest = has.found.newest; found = group_same disks group.id ∙ has.found.found; is = has.found.is };
+    found = still_finds c status note c.block disks group.id group has.found;
     value = has.value;
     have = has.have;
     last = has.last;

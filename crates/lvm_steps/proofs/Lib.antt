@@ -9,6 +9,10 @@ pub mod NoVolumes
 pub mod Making
 pub mod WorkedMaking
 pub mod Writable
+pub mod Members
+pub mod PassingLemmas
+pub mod FindsLemmas
+pub mod ServesLemmas
 pub mod VaryingOn
 pub mod Revaluing
 pub mod Committing

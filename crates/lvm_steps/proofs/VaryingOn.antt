@@ -1,10 +1,9 @@
 -- The varying on of a group, by what the disks show.
-use Rattle.std.proofs.Common.{◌≡◌, ◌⊎◌, inl, inr, ⊎_elim, ℕ, zero, suc, ◌<◌, Bool, true, false, ◌&&◌, List, [], ◌∷◌, ◌++◌, Option, Some, None, refl, sym, ap, subst, ◌∙◌, eq-eqb, arith}
-use Rattle.std.specs.Prelude.{IsTrue, IsFalse, ◌==◌, not, if◌then◌else◌, filter}
+use Rattle.std.proofs.Common.{◌≡◌, inl, inr, ⊎_elim, ℕ, ◌<◌, Bool, true, false, ◌&&◌, List, [], ◌∷◌, ◌++◌, Option, Some, refl, sym, ap, subst, ◌∙◌, eq-eqb}
+use Rattle.std.specs.Prelude.{IsTrue, IsFalse, not, if◌then◌else◌, filter}
 use Rattle.std.specs.List.{AllByRecursion}
-use Rattle.std.proofs.lemmas.Bool.{eqb-true, cases_lt}
+use Rattle.std.proofs.lemmas.Bool.{eqb-true}
 use Rattle.lvm_num.specs.declared.place.Pp.{Pp}
-use Rattle.lvm_num.specs.declared.record.Stamp.{Stamp}
 use Rattle.lvm_num.specs.declared.descriptor.Mode.{Mode}
 use Rattle.lvm_num.specs.declared.descriptor.Mode.TheVariants.{Active, Passive, Off}
 use Rattle.lvm_num.specs.declared.descriptor.LvRow.{LvRow}
@@ -14,7 +13,7 @@ use Rattle.lvm_num.specs.Disks.{Disks}
 use Rattle.lvm_num.specs.Geometry.{track_group_of}
 use Rattle.lvm_num.specs.Descriptor.{copies_of}
 use Rattle.lvm_num.specs.Votes.{all_disks}
-use Rattle.lvm_num.specs.Record.{Stamped, stamp_lt, newer, newest_below}
+use Rattle.lvm_num.specs.Record.{Stamped, stamp_lt}
 use Rattle.lvm_num.specs.Note.{Noted}
 use Rattle.lvm_num.specs.Status.{calls_stale, calls_dirty}
 use Rattle.lvm_num.proofs.Newest.{is_one, is_last}
@@ -22,29 +21,18 @@ use Rattle.lvm_vol.specs.declared.entry.Vol.TheVariants.{Lv}
 use Rattle.lvm_vol.specs.Facts.{Fact, Cut}
 use Rattle.lvm_vol.specs.May.{Known, known, IsValue}
 use Rattle.lvm_kept.specs.Contents.{Contents}
-use Rattle.lvm_kept.specs.Group.{if_passes, passes, is_of, is_status_of, has_room, descriptor_among, is_voter, status_among, Finds, IsFound, members_in, status_by, Reads, ReadsBy, is_stale_by, fresh_on, fresh, block_at, is_named, names_if, IsOneOf, IsSome, HoldOne}
+use Rattle.lvm_kept.specs.Group.{passes, is_of, has_room, descriptor_among, is_voter, status_among, Finds, IsFound, members_in, status_by, ReadsBy, is_stale_by, fresh_on, fresh, block_at, is_named, names_if, IsOneOf, IsSome, HoldOne}
 use Rattle.lvm_kept.specs.Committed.{IsWithinDisks}
 use Rattle.lvm_kept.specs.Kept.{MayDiffer, BlocksKept, Kept}
-use Rattle.lvm_kept.specs.Changes.{Serves, HasNoVolume, StayExcused}
-use Rattle.lvm_kept.specs.Torn.{StatusesChange}
+use Rattle.lvm_kept.specs.Changes.{Serves, StayExcused}
 use Rattle.lvm_kept.proofs.Finding.{some_same, offered, is_offered, offers, finding_reads}
-use Rattle.lvm_kept.proofs.Restamping.{fewer_blocks, restamping_keeps}
-use Rattle.lvm_kept.proofs.Restating.{statuses_keep}
+use Rattle.lvm_kept.proofs.Restamping.{restamping_keeps}
 use Rattle.lvm_kept.proofs.Changing.{notes_keep}
 use Rattle.lvm_steps.specs.VaryingOn.{AreShowing, RestampKeeps, HasNewest, OnlyNewestIsFound, MayRestate, RestateKeeps, HasNoActive, NotesOf, ForgettingKeeps}
-use Rattle.lvm_steps.proofs.Booleans.{split, join, either, clash, not-itself}
-
--- ---- tests
-
--- a record that is shown passes where the test does
-shows_of : {X : Type 0} (of : X → Bool) (o : Option (Stamped X)) → passes of o ≡ true → (r : Stamped X) × (o ≡ Some r) × (of r.value ≡ true)
-shows_of of None e = absurd cc
-shows_of of (Some r) e = (r, refl, e)
-
--- a disk shows the descriptor of one group
-one_group : (o : Option (Stamped Descriptor)) (a b : ℕ) → passes (is_of a) o ≡ true → passes (is_of b) o ≡ true → a ≡ b
-one_group None a b p q = absurd cc
-one_group (Some r) a b p q = sym (eqb-true r.value.id a p) ∙ eqb-true r.value.id b q
+use Rattle.lvm_steps.proofs.Booleans.{split, join, either, clash}
+use Rattle.lvm_steps.proofs.Members.{shows_of, one_group, among_all}
+use Rattle.lvm_steps.proofs.ServesLemmas.{serving, put_keeps}
+pub use Rattle.lvm_steps.proofs.PassingLemmas.{one_passes as goes_in}
 
 -- ---- the descriptor
 
@@ -93,64 +81,6 @@ module _ (c : Contents) (group : Descriptor) (disks : Disks) (newest : Stamped D
 pub only_newest_is_found : OnlyNewestIsFound
 only_newest_is_found c group disks newest facts within has kept k is = only_found c group disks newest facts within has kept k is
 
--- ---- the newest where a later one comes
-
-below_same : {X : Type 0} (f g : ℕ → Option (Stamped X)) (n : ℕ) → ((d : ℕ) → d < n → f d ≡ g d) → newest_below f n ≡ newest_below g n
-unfolding newest_below
-below_same f g zero same = refl
-below_same f g (suc n) same =
-    let rest = below_same f g n (λ d lt. same d (omega (arith, lt))) in
-    let here = same n (omega arith) in
-    λ t. newer (rest t) (here t)
-
-module _ (X : Type 0) (of : X → Bool) (old new : ℕ → Option (Stamped X)) (set : Disks) (next : Stamped X) (its : of next.value ≡ true)
-    (own : (d : ℕ) → (new d ≡ old d) ⊎ (new d ≡ Some next)) (later : (d : ℕ) (r : Stamped X) → old d ≡ Some r → of r.value ≡ true → stamp_lt r.stamp next.stamp ≡ true) where
-  -- one of the disks offers the next record, or each offers what it did
-  abbrev Offers : ℕ → Type 0
-  Offers n = ((d : ℕ) × (d < n) × (offered of new set d ≡ Some next)) ⊎ ((d : ℕ) → d < n → offered of new set d ≡ offered of old set d)
-
-  at_one : (d : ℕ) → (offered of new set d ≡ Some next) ⊎ (offered of new set d ≡ offered of old set d)
-  at_one d = ⊎_elim
-      (λ same. inr (ap (λ (o : Option (Stamped X)). if set d then if_passes of o else None) same))
-      (λ is. by_set (set d) is)
-      (own d)
-    where
-      by_set : (t : Bool) → new d ≡ Some next → ((if t then if_passes of (new d) else None) ≡ Some next) ⊎ ((if t then if_passes of (new d) else None) ≡ (if t then if_passes of (old d) else None))
-      by_set false is = inr refl
-      by_set true is = inl (ap (if_passes of) is ∙ ap (λ (t : Bool). if t then Some next else None) its)
-
-  some_offers : (n : ℕ) → Offers n
-  some_offers zero = inr (λ d lt. absurd (omega (arith, lt)))
-  some_offers (suc n) = ⊎_elim
-      (λ one. inl (one.0, (let lt = one.1 in omega (arith, lt)), one.2))
-      (λ (none : (d : ℕ) → d < n → offered of new set d ≡ offered of old set d). ⊎_elim
-      (λ here. inl (n, omega arith, here))
-      (λ (same : offered of new set n ≡ offered of old set n). inr (λ d lt. at_last d n lt none same))
-      (at_one n))
-      (some_offers n)
-    where
-      at_last : (d n : ℕ) → d < suc n → ((d : ℕ) → d < n → offered of new set d ≡ offered of old set d) → offered of new set n ≡ offered of old set n → offered of new set d ≡ offered of old set d
-      at_last d n lt none same = ⊎_elim
-          (λ less. none d less)
-          (λ most. let e : d ≡ n = omega (arith, lt, most) in subst (λ (m : ℕ). offered of new set m ≡ offered of old set m) (sym e) same)
-          (cases_lt d n)
-
-  pub old_or_next : (n : ℕ) → (newest_below (offered of new set) n ≡ newest_below (offered of old set) n) ⊎ (newest_below (offered of new set) n ≡ Some next)
-  old_or_next n = ⊎_elim
-      (λ (one : (d : ℕ) × (d < n) × (offered of new set d ≡ Some next)). inr (is_next one.0 one.1 one.2))
-      (λ same. inl (below_same (offered of new set) (offered of old set) n same))
-      (some_offers n)
-    where
-      is_next : (d : ℕ) → d < n → offered of new set d ≡ Some next → newest_below (offered of new set) n ≡ Some next
-      is_next d lt here =
-          let last = is_last X (offered of new set) n d next lt here in
-          let one = is_one X (offered of new set) n last.0 last.1 in
-          let from = is_offered of new set one.0 last.0 one.2 in
-          ⊎_elim
-          (λ (same : new one.0 ≡ old one.0). absurd (clash (stamp_lt last.0.stamp next.stamp) (later one.0 last.0 (sym same ∙ from.0) from.1) last.2))
-          (λ (it : new one.0 ≡ Some next). last.1 ∙ sym from.0 ∙ it)
-          (own one.0)
-
 -- ---- the status
 
 -- what is found
@@ -162,15 +92,6 @@ kept_in q (y ∷ ys) x is = by_test (q y) refl (kept_in q ys x) is
     by_test true passed rest (inl here) = (inl here, ap q here ∙ passed)
     by_test true passed rest (inr there) = let r = rest there in (inr r.0, r.1)
     by_test false passed rest is = let r = rest is in (inr r.0, r.1)
-
-pub goes_in : {X : Type 0} (q : X → Bool) (xs : List X) (x : X) → IsOneOf xs x → q x ≡ true → IsSome (filter q xs)
-goes_in q [] x is passed = is
-goes_in q (y ∷ ys) x is passed = by_test (q y) refl (goes_in q ys x) is
-  where
-    by_test : (t : Bool) → q y ≡ t → (IsOneOf ys x → q x ≡ true → IsSome (filter q ys)) → IsOneOf (y ∷ ys) x → IsSome (if t then y ∷ filter q ys else filter q ys)
-    by_test true test rest is = tt
-    by_test false test rest (inl here) = absurd (clash (q y) (ap q (sym here) ∙ passed) test)
-    by_test false test rest (inr there) = rest there passed
 
 one_of_some : {X : Type 0} (xs : List X) → IsSome xs → (x : X) × IsOneOf xs x
 one_of_some [] some = absurd some
@@ -240,11 +161,6 @@ module _ (c : Contents) (group : Descriptor) (disks targets : Disks) (newest : S
   was_read : status_by c disks id group ≡ Some was
   was_read = sym by_found.status ∙ may.status
 
-  among_all : (set : Disks) (g : Descriptor) (d : ℕ) → IsTrue (members_in c set id g d) → IsTrue (members_in c all_disks id g d)
-  among_all set g d is =
-      let two = split (set d && passes (is_of id) (c.descriptor d)) (has_room c d g) is in
-      join (passes (is_of id) (c.descriptor d)) (has_room c d g) (split (set d) (passes (is_of id) (c.descriptor d)) two.0).1 two.1
-
   across : (k : Descriptor) → IsFound c id k → BlocksKept c facts k (members_in c all_disks id k) (Some next)
   across k is = subst (λ (g : Descriptor). BlocksKept c facts g (members_in c all_disks id g) (Some next)) (sym (only_found c group disks newest facts within may.newest_is kept k is))
       (staler_blocks c group was next may.marks.stale may.marks.dirty facts (members_in c all_disks id group)
@@ -257,7 +173,7 @@ module _ (c : Contents) (group : Descriptor) (disks targets : Disks) (newest : S
   voter_stays : (row : LvRow) (lp : ℕ) (p : Pp) → IsOneOf group.lvs row → IsOneOf (copies_of row lp) p → tests (members_in c disks id group) was p ≡ true → tests (members_in c all_disks id group) next p ≡ true
   voter_stays row lp p volume one passed =
       let parts = split (members_in c disks id group p.disk) (not (is_stale_by (Some was) p)) passed in
-      join (members_in c all_disks id group p.disk) (not (is_stale_by (Some next) p)) (among_all disks group p.disk parts.0) (true_not (calls_stale next.value p) (⊎_elim
+      join (members_in c all_disks id group p.disk) (not (is_stale_by (Some next) p)) (among_all c disks id group p.disk parts.0) (true_not (calls_stale next.value p) (⊎_elim
       (λ (called : calls_stale next.value p ≡ true). absurd (⊎_elim
       (λ (before : IsTrue (calls_stale was.value p)). clash (calls_stale was.value p) before (not_true (calls_stale was.value p) parts.1))
       (λ (left : IsFalse (is_voter c disks id p.disk) × IsSome (fresh c disks id row lp)). clash (is_voter c disks id p.disk) (ap (λ (v : Disks). v p.disk) by_found.voters ∙ parts.0) left.0)
@@ -293,62 +209,12 @@ module _ (c : Contents) (group : Descriptor) (disks targets : Disks) (newest : S
       let p = one_of_some (fresh_on (members_in c all_disks id group) (Some was) row lp) found in
       still_fresh row lp p.0 volume (kept_in (tests (members_in c all_disks id group) was) (copies_of row lp) p.0 p.1)
 
-  pub serves : Serves c facts id next
-  serves = record {
-    copies = λ set g f.
-        let reads : ReadsBy c set id g = finding_reads c set id g f in
-        subst (λ (v : Disks). BlocksKept c facts g v (Some next)) (sym reads.voters)
-        (fewer_blocks c (members_in c set id g) (members_in c all_disks id g) (λ d is. among_all set g d is) facts g (Some next) (across g (set, f)));
-    across = across;
-    some = λ k is row lp volume inside.
-        let same : k ≡ group = only_found c group disks newest facts within may.newest_is kept k is in
-        subst (λ (g : Descriptor). IsSome (fresh_on (members_in c all_disks id g) (Some next) row lp)) (sym same) (some_of_group row lp (subst (λ (g : Descriptor). IsOneOf g.lvs row) same volume) inside);
-  }
-
-  module _ (new : Contents) (change : StatusesChange targets next c new) where
-    abbrev now : Contents
-    now = record c { status = new.status }
-
-    either_own : (d : ℕ) → (new.status d ≡ c.status d) ⊎ (new.status d ≡ Some next)
-    either_own d = ⊎_elim (λ same. inl same) (λ (is : IsTrue (targets d) × (new.status d ≡ Some next)). inr is.1) (change.own d)
-
-    -- of another group each set finds what it found
-    of_other : (b : Disks) (other : ℕ) (h : Descriptor) → (other ≡ id → ⊥) → status_by now b other h ≡ status_by c b other h
-    of_other b other h apart = λ t. newest_below (λ d. at d t) c.disks
-      where
-        at_test : (d : ℕ) (t : Bool) → members_in c b other h d ≡ t → (if t then if_passes (is_status_of other) (new.status d) else None) ≡ (if t then if_passes (is_status_of other) (c.status d) else None)
-        at_test d false is = refl
-        at_test d true is = ⊎_elim
-            (λ same. ap (if_passes (is_status_of other)) same)
-            (λ (put : IsTrue (targets d) × (new.status d ≡ Some next)).
-            let two = split (b d && passes (is_of other) (c.descriptor d)) (has_room c d h) is in
-            absurd (apart (one_group (c.descriptor d) other id (split (b d) (passes (is_of other) (c.descriptor d)) two.0).1 (may.showing d put.0))))
-            (change.own d)
-
-        at : (d : ℕ) → (if members_in c b other h d then if_passes (is_status_of other) (new.status d) else None) ≡ (if members_in c b other h d then if_passes (is_status_of other) (c.status d) else None)
-        at d = at_test d (members_in c b other h d) refl
-
-    found_by : (b : Disks) (other : ℕ) (h : Descriptor) → Reads c b other h → (status_by now b other h ≡ status_by c b other h) ⊎ ((status_by now b other h ≡ Some next) × Serves c facts other next)
-    found_by b other h reading = ⊎_elim
-        (λ (test : (other == id) ≡ true). let same : other ≡ id = eqb-true other id test in
-        subst (λ (n : ℕ). (status_by now b n h ≡ status_by c b n h) ⊎ ((status_by now b n h ≡ Some next) × Serves c facts n next)) (sym same) (⊎_elim
-        (λ (old_is : status_by now b id h ≡ status_by c b id h). inl old_is)
-        (λ (next_is : status_by now b id h ≡ Some next). inr (next_is, serves))
-        (old_or_next Status (is_status_of id) c.status new.status (members_in c b id h) next (eq-eqb next.value.id id may.own) either_own (λ d r shows own. may.later d r shows (eqb-true r.value.id id own)) c.disks)))
-        (λ (test : (other == id) ≡ false). inl (of_other b other h (λ same. clash (other == id) (eq-eqb other id same) test)))
-        (either (other == id))
-
-    pub restated : Kept new facts
-    restated = statuses_keep c new facts next (record {
-      rest = change.rest;
-      own = either_own;
-      stamp = λ d r shows ids stamps. absurd (not-itself next.stamp (ap (λ (x : Stamp). stamp_lt x next.stamp) (sym stamps) ∙ may.later d r shows (ids ∙ may.own)));
-      found = λ b other h reading. subst (λ (x : Contents). (status_by x b other h ≡ status_by c b other h) ⊎ ((status_by x b other h ≡ Some next) × Serves c facts other next) ⊎ HasNoVolume c other) (sym change.rest)
-          (⊎_elim (λ same. inl same) (λ is. inr (inl is)) (found_by b other h reading));
-    }) kept
+  serves : Serves c facts id next
+  serves = serving c id next facts group (only_found c group disks newest facts within may.newest_is kept) across some_of_group
 
 pub restate_keeps : RestateKeeps
-restate_keeps group disks targets newest was next old new facts within may change kept = restated old group disks targets newest was next facts within may kept new change
+restate_keeps group disks targets newest was next old new facts within may change kept =
+    put_keeps old group.id next facts targets new change may.own may.showing may.later (serves old group disks targets newest was next facts within may kept) kept
 
 -- ---- the notes
 

@@ -170,13 +170,6 @@ abbrev pub RowsGive : ℕ → ℕ → Device → Device → Result (Vec SurveyRo
 RowsGive number patience old new (Ok got) = IsRested old new × AreSurveyed old new got.0.items × (got.1.number ≡ number)
 RowsGive number patience old new (Err how) = StopGives number patience old new how
 
--- the survey has a row for each disk, and this holds of each of them
-abbrev pub EachRow : Surveyed → (ℕ → SurveyRow → Type 0) → Type 0
-EachRow (surveyed.Ended survey buf) P = (d : ℕ) (row : SurveyRow) → slice_get survey.rows d ≡ Some row → P d row
-EachRow surveyed.Dark P = Unit {0}
-EachRow surveyed.Stuck P = Unit {0}
-EachRow (surveyed.Memory buf) P = Unit {0}
-
 -- this holds of a survey that was made
 abbrev pub IfEnded : Surveyed → (Survey → Type 0) → Type 0
 IfEnded (surveyed.Ended survey buf) P = P survey
@@ -184,9 +177,10 @@ IfEnded surveyed.Dark P = Unit {0}
 IfEnded surveyed.Stuck P = Unit {0}
 IfEnded (surveyed.Memory buf) P = Unit {0}
 
--- how a survey ended: the buffer of this number comes back where nothing is out and the power is on, and is out where nothing was heard of a read
+-- How a survey ended: with a row for each disk, or why not. The buffer of this number comes back where nothing is out and the power is on, and is out
+-- where nothing was heard of a read.
 abbrev pub SurveyEnds : ℕ → ℕ → Device → Device → Surveyed → Type 0
-SurveyEnds number patience old new (surveyed.Ended survey buf) = IsRested old new × (buf.number ≡ number)
+SurveyEnds number patience old new (surveyed.Ended survey buf) = IsRested old new × AreSurveyed old new survey.rows × (buf.number ≡ number)
 SurveyEnds number patience old new surveyed.Dark = IsCutOff old new
 SurveyEnds number patience old new surveyed.Stuck = IsStuck number patience old new
 SurveyEnds number patience old new (surveyed.Memory buf) = IsRested old new × (buf.number ≡ number)

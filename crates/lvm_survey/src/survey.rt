@@ -1,9 +1,6 @@
 //! Reading the records of all disks of a shelf.
-ghost use Rattle.std.specs.Prelude.{◌≡◌, ℕ, ◌-◌, ◌<◌, ◌≤◌, length, slice_get, slice_index_or, Some, true, false, IfOk, IfSome};
-ghost use Rattle.lvm_disk.specs.Counts.{Rose, RoseBy};
+ghost use Rattle.std.specs.Prelude.{◌≡◌, ℕ, ◌<◌, ◌≤◌, length, slice_index_or, false, IfOk, IfSome};
 ghost use Rattle.lvm_disk.specs.Device.{IsReady, image_of};
-ghost use Rattle.lvm_disk.specs.Images.{LeavesNoMore};
-ghost use Rattle.lvm_disk.specs.Paths.{DeviceStep, Path};
 ghost use Rattle.lvm_num.specs.declared.record.Kind.TheVariants as kind_is;
 ghost use Rattle.lvm_num.specs.Descriptor.{IsValid};
 ghost use Rattle.lvm_num.specs.DescriptorBytes.{descriptor_of};
@@ -12,8 +9,8 @@ ghost use Rattle.lvm_num.specs.Status.{IsValidStatus};
 ghost use Rattle.lvm_num.specs.StatusBytes.{status_of};
 ghost use Rattle.lvm_rec.specs.Slots.{held};
 ghost use Rattle.lvm_survey.specs.Rows.{AreRows};
-ghost use Rattle.lvm_survey.specs.Surveyed.{home_of, under, IsEmpty, IsRead, IsRowValid, IsSurveyValid, descriptor_shown};
-ghost use Rattle.lvm_survey.specs.Surveying.{AreHomes, DiskGives, EachRow, IfEnded, IsHome, IsRowOf, IsSmall, IsUntouched, IsUnwritten, OnlyReads, ReadGives, RowsGive, SurveyEnds};
+ghost use Rattle.lvm_survey.specs.Surveyed.{home_of, under, IsEmpty, IsRowValid, IsSurveyValid, descriptor_shown};
+ghost use Rattle.lvm_survey.specs.Surveying.{AreHomes, DiskGives, IfEnded, IsHome, IsRowOf, IsSmall, IsUntouched, OnlyReads, ReadGives, RowsGive, SurveyEnds};
 
 use crate::area::{RecordArea, Slots, Stop, Unread, read_area, read_descriptors};
 use crate::found::{Latest, newest, status_in};
@@ -52,25 +49,12 @@ pub fn survey_disks<S: Shelf>(
     patience: &mut Patience,
 ) -> Surveyed
     requires ready { IsReady (S.device shelf.old) }
+    ensures ends { SurveyEnds buf.number patience.old.left (S.device shelf.old) (S.device shelf.new) result }
     ensures rows { IfEnded result AreRows }
-    ensures all { IfEnded result (λ survey. length survey.rows ≡ length (S.device shelf.old).sizes) }
     ensures valid { IfEnded result IsSurveyValid }
-    ensures sectors { EachRow result (λ d row. slice_get (S.device shelf.old).sizes d ≡ Some row.sectors) }
-    ensures homes { EachRow result (λ d row. AreHomes row) }
-
-    // A row is marked as failed exactly where a read of the disk's records failed, and else has what stands there.
-    ensures failed { EachRow result (λ d row. row.failed ≡ true → Rose ((S.device shelf.old).counts.misses d) ((S.device shelf.new).counts.misses d)) }
-    ensures answered { EachRow result (λ d row. row.failed ≡ false → (S.device shelf.new).counts.misses d ≡ (S.device shelf.old).counts.misses d) }
-    ensures empty { EachRow result (λ d row. row.failed ≡ true → IsEmpty row) }
-    ensures read { EachRow result (λ d row. row.failed ≡ false → IfSome (S.device shelf.old).media (λ media. IsRead (image_of (S.device shelf.old).sizes media) d row)) }
-
     // Disks without records aren't read.
     ensures small { (d : ℕ) → IsSmall (S.device shelf.old) d → IsUntouched d (S.device shelf.old) (S.device shelf.new) }
-    ensures unwritten { IsUnwritten (S.device shelf.old) (S.device shelf.new) }
-    ensures ends { SurveyEnds buf.number patience.old.left (S.device shelf.old) (S.device shelf.new) result }
-    ensures patience { patience.new.left ≤ patience.old.left }
-    ensures waited { RoseBy (patience.old.left - patience.new.left) (S.device shelf.old).counts.waits (S.device shelf.new).counts.waits }
-    ensures moments { Path DeviceStep (LeavesNoMore (S.device shelf.old)) (S.device shelf.old) (S.device shelf.new) }
+    ensures only { OnlyReads patience.old.left patience.new.left (S.device shelf.old) (S.device shelf.new) }
 {
     match survey_rows(alloc, shelf, buf, patience) {
         Ok((rows, buf)) => Surveyed::Ended {

@@ -31,7 +31,7 @@ const FIRST: Pp = Pp { disk: 1, pp: 0 };
 const SECOND: Pp = Pp { disk: 2, pp: 0 };
 
 // How a commit ended.
-#[derive(Clone, Copy, Debug, PartialEq, Eq)]
+#[derive(Clone, Copy, PartialEq, Eq)]
 enum End {
     Done,
     WentOff(u32, u32),
@@ -43,7 +43,7 @@ enum End {
 
 // The group of a session: without volumes, also with quorum checking off, or with a volume of one logical partition
 // that has a copy on disk 1 and one on disk 2.
-#[derive(Clone, Copy, Debug, PartialEq, Eq)]
+#[derive(Clone, Copy, PartialEq, Eq)]
 enum Group {
     Plain,
     NoQuorum,
@@ -52,7 +52,7 @@ enum Group {
 
 // How the commits of a descriptor and then of a status ended, each after how many calls of the shelf, and what they
 // left committed. After a descriptor that wasn't committed no status is tried.
-#[derive(Clone, Copy, Debug, PartialEq, Eq)]
+#[derive(Clone, Copy, PartialEq, Eq)]
 struct Ran {
     described: (End, u64),
     stated: (End, u64),

@@ -1,6 +1,6 @@
 //! Groups that are made, and that come on again.
 use crate::fixtures::{
-    Begin, begin_first, begin_next, blank_shelf, first_three, group, image_shelf, images_of,
+    Begin, begin_first, begin_next, blank_shelf, check, first_three, group, image_shelf, images_of,
     name_of, row, stamp, status, survey,
 };
 use lvm_disk::Shelf;
@@ -21,7 +21,7 @@ const OTHER: u64 = 70;
 const SIZES: [u64; 3] = [6144, 6144, 6144];
 
 // The records of a disk: their stamps, the slots that have them, and the note's stamp, where it has no entries.
-#[derive(Clone, Copy, Debug, PartialEq, Eq)]
+#[derive(Clone, Copy, PartialEq, Eq)]
 struct Shown {
     descriptor: Stamp,
     status: Stamp,
@@ -30,7 +30,7 @@ struct Shown {
 }
 
 // What the name `datavg` chooses.
-#[derive(Clone, Copy, Debug, PartialEq, Eq)]
+#[derive(Clone, Copy, PartialEq, Eq)]
 enum Chosen {
     // The group with nothing missing or stale: its voters, and the greatest epoch.
     Whole([bool; 3], u64),
@@ -39,7 +39,7 @@ enum Chosen {
     Not(ChooseFault),
 }
 
-#[derive(Clone, Copy, Debug, PartialEq, Eq)]
+#[derive(Clone, Copy, PartialEq, Eq)]
 struct Look {
     shown: [Shown; 3],
     chosen: Chosen,
@@ -69,7 +69,7 @@ fn note_of(row: &SurveyRow) -> Option<u64> {
 }
 
 fn shown_on(rt: &impl Abort, row: &SurveyRow) -> Shown {
-    assert!(rt; !row.failed);
+    check(rt, !row.failed, "a disk that is read");
     Shown {
         descriptor: row.descriptor_stamp,
         status: row.status_stamp,
@@ -114,20 +114,21 @@ fn make(rt: &(impl Abort + AllocGlobal), shelf: &mut MemShelf, id: u64) -> (Begi
 fn a_new_group_is_found_and_comes_on_again(rt: HostRuntime) {
     let mut shelf = blank_shelf(&rt, &SIZES, &[]);
     let made = make(&rt, &mut shelf, GROUP);
-    assert_eq!(rt; made, (Begin::Ended, 18));
+    check(&rt, made == (Begin::Ended, 18), "made");
     let first = see(&rt, &mut shelf);
     let wanted = Look {
         shown: [MADE; 3],
         chosen: Chosen::Whole([true; 3], 50),
     };
-    assert_eq!(rt; first, wanted);
-    assert_eq!(rt; come_on(&rt, &mut shelf, 60), Begin::Ended);
+    check(&rt, first == wanted, "the new records");
+    let on = come_on(&rt, &mut shelf, 60);
+    check(&rt, on == Begin::Ended, "on again");
     let again = see(&rt, &mut shelf);
     let wanted = Look {
         shown: [AGAIN; 3],
         chosen: Chosen::Whole([true; 3], 60),
     };
-    assert_eq!(rt; again, wanted);
+    check(&rt, again == wanted, "the next records");
 }
 
 fn come_on<S: Shelf>(rt: &(impl Abort + AllocGlobal), shelf: &mut S, epoch: u64) -> Begin {
@@ -146,10 +147,10 @@ fn is_begun(shown: &Shown) -> bool {
     }
 }
 
-fn see_begun<S: Shelf>(rt: &(impl Abort + AllocGlobal), shelf: &mut S, call: u64) {
+fn see_begun<S: Shelf>(rt: &(impl Abort + AllocGlobal), shelf: &mut S) {
     let survey = survey(rt, shelf);
     for row in survey.rows.as_slice() {
-        assert!(rt; is_begun(&shown_on(rt, row)), "at {call}");
+        check(rt, is_begun(&shown_on(rt, row)), "begun records");
     }
 }
 
@@ -159,8 +160,9 @@ fn a_cut_at_any_call_leaves_old_or_new_records(rt: HostRuntime) {
         for call in 1..=12 {
             let act = Act::Cut(word);
             let mut shelf = blank_shelf(&rt, &[4096; 2], &[Planned { call, act }]);
-            assert_eq!(rt; make(&rt, &mut shelf, GROUP), (Begin::Dark, call));
-            see_begun(&rt, &mut shelf, call);
+            let made = make(&rt, &mut shelf, GROUP);
+            check(&rt, made == (Begin::Dark, call), "a cut");
+            see_begun(&rt, &mut shelf);
         }
     }
 }
@@ -174,7 +176,7 @@ fn the_lowest_disk_that_failed_is_named(rt: HostRuntime) {
     });
     let mut shelf = blank_shelf(&rt, &SIZES, &plan);
     let made = make(&rt, &mut shelf, GROUP);
-    assert_eq!(rt; made, (Begin::DiskFailed(1), 12));
+    check(&rt, made == (Begin::DiskFailed(1), 12), "disk 1");
 }
 
 // Bytes that are changed on the disks of the group, each on a disk at a place, and what is chosen then.
@@ -208,7 +210,8 @@ static CHANGED: [(&str, &[(usize, usize, u8)], Chosen); 4] = [
 // The bytes of the disks after a group of all three was made.
 fn group_images(rt: &(impl Abort + AllocGlobal), id: u64) -> Vec<Vec<u8>> {
     let mut shelf = blank_shelf(rt, &SIZES, &[]);
-    assert_eq!(rt; make(rt, &mut shelf, id), (Begin::Ended, 18));
+    let made = make(rt, &mut shelf, id);
+    check(rt, made == (Begin::Ended, 18), "made");
     images_of(rt, &shelf)
 }
 
@@ -229,7 +232,7 @@ fn bad_images_are_told_apart(rt: HostRuntime) {
     for (name, changes, chosen) in &CHANGED {
         let mut images = group_images(&rt, GROUP);
         change(&rt, &mut images, changes);
-        assert_eq!(rt; chosen_of(&rt, &images), *chosen, "{name}");
+        check(&rt, chosen_of(&rt, &images) == *chosen, name);
     }
 }
 
@@ -237,7 +240,11 @@ fn bad_images_are_told_apart(rt: HostRuntime) {
 fn two_groups_of_one_name_are_ambiguous(rt: HostRuntime) {
     let images = mixed_images(&rt);
     let chosen = chosen_of(&rt, &images);
-    assert_eq!(rt; chosen, Chosen::Not(ChooseFault::Ambiguous));
+    check(
+        &rt,
+        chosen == Chosen::Not(ChooseFault::Ambiguous),
+        "ambiguous",
+    );
 }
 
 // The last disk is of another group of that name.

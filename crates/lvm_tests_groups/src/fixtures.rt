@@ -20,6 +20,11 @@ use lvm_survey::{Survey, SurveyRow, Surveyed, survey_disks};
 use lvm_transfer::{Patience, relight};
 use std::process::Abort;
 
+/// Ends the test where this isn't so, and says of what.
+pub fn check(rt: &impl Abort, is: bool, what: &str) {
+    assert!(rt; is, "{what}");
+}
+
 pub fn stamp(epoch: u64, seq: u32) -> Stamp {
     Stamp { epoch, seq }
 }
@@ -198,7 +203,7 @@ pub fn first_homes() -> Homes {
 }
 
 /// How the writes of a beginning ended.
-#[derive(Clone, Copy, Debug, PartialEq, Eq)]
+#[derive(Clone, Copy, PartialEq, Eq)]
 pub enum Begin {
     Ended,
     DiskFailed(u16),

@@ -1,5 +1,5 @@
 //! Groups of two disks that come on, and that don't.
-use crate::fixtures::{Begin, begin_first, blank_shelf, group, images_of, name_of, volume};
+use crate::fixtures::{Begin, begin_first, blank_shelf, check, group, images_of, name_of, volume};
 use lvm_core::{Cause, Driver, Room};
 use lvm_disk::{Arrange, Shelf};
 use lvm_faults::{Act, Planned};
@@ -23,14 +23,14 @@ const ROOM: Room = Room {
     bytes: 0,
 };
 
-#[derive(Clone, Copy, Debug, PartialEq, Eq)]
+#[derive(Clone, Copy, PartialEq, Eq)]
 enum Answer {
     On(Session),
     Not(Cause),
 }
 
 // The votes, and of the two disks which are missing and whose copy of the volume is stale.
-#[derive(Clone, Copy, Debug, PartialEq, Eq)]
+#[derive(Clone, Copy, PartialEq, Eq)]
 struct Session {
     votes: (u32, u32),
     missing: [bool; 2],
@@ -117,7 +117,8 @@ fn made(rt: &(impl Abort + AllocGlobal), plan: &[Planned]) -> MemShelf {
     let mut shelf = blank_shelf(rt, &[6144, 6144], plan);
     let mut group = group(rt, GROUP, 2);
     group.lvs = volume(rt, [FIRST, SECOND]);
-    assert_eq!(rt; begin_first(rt, &mut shelf, &group), Begin::Ended);
+    let begin = begin_first(rt, &mut shelf, &group);
+    check(rt, begin == Begin::Ended, "the making");
     shelf
 }
 
@@ -158,7 +159,7 @@ fn vary<S: Shelf + Drop>(rt: &(impl Abort + AllocGlobal), shelf: S, moment: u64)
 // The disk fails no more.
 fn heal<S: Shelf>(rt: &impl Abort, shelf: &mut S, disk: u16) {
     assert!(rt; disk < shelf.disks());
-    assert!(rt; shelf.arrange(Arrange::Heal(disk)));
+    check(rt, shelf.arrange(Arrange::Heal(disk)), "it heals");
 }
 
 #[test]
@@ -167,7 +168,7 @@ fn a_group_comes_on_by_its_votes_at_a_later_moment(rt: HostRuntime) {
         let shelf = made(&rt, case.plan);
         let (left, answer) = vary(&rt, shelf, case.moment);
         let later = vary_later(&rt, left, case.moment.saturating_add(10));
-        assert_eq!(rt; (answer, later), (case.answer, case.later), "{}", case.name);
+        check(&rt, answer == case.answer && later == case.later, case.name);
     }
 }
 
@@ -188,7 +189,7 @@ fn nothing_is_written_where_a_group_does_not_come_on(rt: HostRuntime) {
     let shelf = made(&rt, &plan);
     let before = images_of(&rt, &shelf);
     let (unlit, _) = vary(&rt, shelf, 60);
-    assert!(rt; images_of(&rt, &unlit) == before);
+    check(&rt, images_of(&rt, &unlit) == before, "without a disk");
     let (earlier, _) = vary(&rt, unlit, 50);
-    assert!(rt; images_of(&rt, &earlier) == before);
+    check(&rt, images_of(&rt, &earlier) == before, "earlier");
 }

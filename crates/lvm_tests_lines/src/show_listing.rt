@@ -138,12 +138,17 @@ fn empty(rt: &(impl Abort + AllocGlobal), members: &[Member], quorum: bool) -> D
     group
 }
 
+// The listing of a new group of the first so many members.
+fn new_listing(rt: &(impl Abort + AllocGlobal), count: usize, disks: &[u16], quorum: bool) -> Text {
+    let members = DISKS.get(..count).expect(rt, "members");
+    let d = empty(rt, members, quorum);
+    all(rt, &d, &fresh(rt, disks))
+}
+
 #[test]
 fn a_new_group_is_listed(rt: HostRuntime) {
     for (count, disks, quorum, text) in &NEW {
-        let members = DISKS.get(..*count).expect(&rt, "members");
-        let d = empty(&rt, members, *quorum);
-        let shown = all(&rt, &d, &fresh(&rt, disks));
+        let shown = new_listing(&rt, *count, disks, *quorum);
         check(&rt, shown.as_str() == *text, text);
     }
 }
@@ -232,12 +237,21 @@ fn line_at(text: &Text, lp: u16) -> Option<&[u8]> {
     text.as_bytes().get(at..at + 17)
 }
 
+// Its map.
+fn large_map(rt: &(impl Abort + AllocGlobal)) -> Text {
+    map(rt, &large(rt), &fresh(rt, &[0]), 1)
+}
+
+fn check_lines(rt: &impl Abort, shown: &Text) {
+    for (lp, text) in &LINES {
+        check(rt, line_at(shown, *lp) == Some(text.as_bytes()), text);
+    }
+}
+
 #[test]
 fn numbers_have_four_digits_or_more(rt: HostRuntime) {
-    let shown = map(&rt, &large(&rt), &fresh(&rt, &[0]), 1);
-    for (lp, text) in &LINES {
-        check(&rt, line_at(&shown, *lp) == Some(text.as_bytes()), text);
-    }
+    let shown = large_map(&rt);
+    check_lines(&rt, &shown);
     check(
         &rt,
         shown.as_str().ends_with("\n10000 0856 hdisk9\n"),

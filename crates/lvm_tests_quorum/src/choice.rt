@@ -6,7 +6,7 @@ ghost use Rattle.lvm_survey.specs.Rows.{AreRows};
 ghost use Rattle.lvm_survey.specs.Surveyed.{IsRowValid, IsSurveyValid};
 
 use crate::fixtures::{
-    DATA, FIRST, LARGE, LATER, NAMESAKE, NONE, OTHER, first_two, group, name_of, status,
+    DATA, FIRST, LARGE, LATER, NAMESAKE, NONE, OTHER, check, first_two, group, name_of, status,
 };
 use Answer::*;
 use lvm_num::{Descriptor, Rows, Stamp, Status};
@@ -83,7 +83,7 @@ const NAMESAKES: Disk = Disk {
     status: None,
 };
 
-#[derive(Clone, Copy, Debug, PartialEq, Eq)]
+#[derive(Clone, Copy, PartialEq, Eq)]
 enum Answer {
     // The stamps under which the descriptor and the status stand, which of the first four disks are voters, and
     // the greatest epoch.
@@ -341,7 +341,7 @@ fn chosen(rt: &(impl Abort + AllocGlobal), members: u16, survey: &Survey) -> Ans
 fn a_name_chooses_by_what_the_disks_show(rt: HostRuntime) {
     for (name, members, disks, answer) in &CASES {
         let survey = survey_of(&rt, *members, disks);
-        assert_eq!(rt; chosen(&rt, *members, &survey), *answer, "{name}");
+        check(&rt, chosen(&rt, *members, &survey) == *answer, name);
     }
 }
 
@@ -378,6 +378,6 @@ fn next_slots(rt: &impl Abort, survey: &Survey) -> [[bool; 2]; 2] {
 fn the_slot_without_the_newest_record_comes_next(rt: HostRuntime) {
     for (homes, second) in &NEXT {
         let survey = survey_with(&rt, homes);
-        assert_eq!(rt; next_slots(&rt, &survey), *second, "{homes:?}");
+        check(&rt, next_slots(&rt, &survey) == *second, "the next slots");
     }
 }

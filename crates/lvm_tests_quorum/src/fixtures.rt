@@ -27,6 +27,11 @@ pub const OTHER: u64 = 8;
 /// One partition of 1 MiB ends with this many sectors.
 pub const LARGE: u64 = 6144;
 
+/// Ends the test where this isn't so, and says of what.
+pub fn check(rt: &impl Abort, is: bool, what: &str) {
+    assert!(rt; is, "{what}");
+}
+
 pub fn plan_of(rt: &(impl Abort + AllocGlobal), plan: &[Planned]) -> Rows<Planned>
     ensures { result ≡ plan.now }
 {

@@ -1,5 +1,5 @@
 //! What the records of disks in memory are found to be.
-use crate::fixtures::{DATA, FIRST, LATER, NAMESAKE, NONE, group, image_shelf, status};
+use crate::fixtures::{DATA, FIRST, LATER, NAMESAKE, NONE, check, group, image_shelf, status};
 use lvm_disk::Shelf;
 use lvm_faults::{Act, Planned};
 use lvm_memory::MemShelf;
@@ -77,7 +77,7 @@ const TORN: Disk = Disk {
 };
 
 // What is found on a disk: its records by their groups and stamps, and of its note the stamp.
-#[derive(Clone, Copy, Debug, PartialEq, Eq)]
+#[derive(Clone, Copy, PartialEq, Eq)]
 struct Found {
     failed: bool,
     sectors: u64,
@@ -150,7 +150,7 @@ const OF_TORN: Found = Found {
     homes: [0, 2],
 };
 
-#[derive(Clone, Copy, Debug, PartialEq, Eq)]
+#[derive(Clone, Copy, PartialEq, Eq)]
 enum End {
     Ended,
     Dark,
@@ -429,27 +429,29 @@ fn images_of(rt: &(impl Abort + AllocGlobal), disks: &[Disk]) -> Rows<Rows<u8>> 
 fn descriptor_in(rt: &(impl Abort + AllocGlobal), row: &SurveyRow) -> Slot {
     let stamp = row.descriptor_stamp;
     let Some(descriptor) = &row.descriptor else {
-        assert_eq!(rt; stamp, NONE);
+        check(rt, stamp == NONE, "no stamp");
         return None;
     };
-    assert!(rt; *descriptor == group(rt, 2, descriptor.id, stamp));
+    let is = *descriptor == group(rt, 2, descriptor.id, stamp);
+    check(rt, is, "a descriptor");
     Some((descriptor.id, stamp))
 }
 
 fn status_in(rt: &(impl Abort + AllocGlobal), row: &SurveyRow) -> Slot {
     let stamp = row.status_stamp;
-    let Some(is) = &row.status else {
-        assert_eq!(rt; stamp, NONE);
+    let Some(found) = &row.status else {
+        check(rt, stamp == NONE, "no stamp");
         return None;
     };
-    assert!(rt; *is == status(rt, is.id, stamp));
-    Some((is.id, stamp))
+    let is = *found == status(rt, found.id, stamp);
+    check(rt, is, "a status");
+    Some((found.id, stamp))
 }
 
 // The stamp of its note, which has to have no entries.
 fn note_in(rt: &impl Abort, row: &SurveyRow) -> Option<u64> {
     let note = row.note.as_ref()?;
-    assert!(rt; note.entries.is_empty());
+    check(rt, note.entries.is_empty(), "no entries");
     Some(note.stamp)
 }
 
@@ -465,9 +467,9 @@ fn found_in(rt: &(impl Abort + AllocGlobal), row: &SurveyRow) -> Found {
 }
 
 fn see_rows(rt: &(impl Abort + AllocGlobal), survey: &Survey, case: &Case) {
-    assert_eq!(rt; survey.rows.len(), case.found.len(), "{}", case.name);
+    check(rt, survey.rows.len() == case.found.len(), case.name);
     for (row, found) in survey.rows.as_slice().iter().zip(case.found) {
-        assert_eq!(rt; found_in(rt, row), *found, "{}", case.name);
+        check(rt, found_in(rt, row) == *found, case.name);
     }
 }
 
@@ -493,12 +495,8 @@ fn see(rt: &(impl Abort + AllocGlobal), cases: &[Case]) {
     for case in cases {
         let mut shelf = image_shelf(rt, images_of(rt, case.disks), case.plan);
         let end = survey(rt, &mut shelf, case);
-        assert_eq!(rt;
-            (end, shelf.calls()),
-            (case.end, case.calls),
-            "{}",
-            case.name
-        );
+        let is = end == case.end && shelf.calls() == case.calls;
+        check(rt, is, case.name);
     }
 }
 

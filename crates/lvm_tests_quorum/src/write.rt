@@ -2,7 +2,7 @@
 ghost use Rattle.std.specs.Prelude.{◌≡◌};
 ghost use Rattle.lvm_num.specs.Record.{longest_content};
 
-use crate::fixtures::{all_disks, blank_shelf, first_two, has_room, plan_of};
+use crate::fixtures::{all_disks, blank_shelf, check, first_two, has_room, plan_of};
 use End::*;
 use Step::*;
 use lvm_disk::Shelf;
@@ -31,7 +31,7 @@ enum Step {
 }
 
 // How a write to both disks ended.
-#[derive(Clone, Copy, Debug, PartialEq, Eq)]
+#[derive(Clone, Copy, PartialEq, Eq)]
 enum End {
     // On which of them it failed.
     Ended([bool; 2]),
@@ -55,7 +55,7 @@ const TWO: Held = Some((LATER, 2));
 const THREE: Held = Some((LAST, 3));
 
 // What is left after a step.
-#[derive(Clone, Copy, Debug, PartialEq, Eq)]
+#[derive(Clone, Copy, PartialEq, Eq)]
 struct Left {
     calls: u64,
     // The disks whose next descriptor, and whose next status, goes to slot 1.
@@ -412,9 +412,9 @@ fn see_steps(rt: &(impl Abort + AllocGlobal), case: &Case, shelf: &mut MemShelf)
     for (step, end, wanted) in case.steps {
         let ended = take(rt, shelf, *step, &mut homes, &mut patience);
         let is = look(rt, shelf, &homes, case.kind);
-        assert_eq!(rt; (ended, is), (*end, *wanted), "{}", case.name);
+        check(rt, ended == *end && is == *wanted, case.name);
     }
-    assert_eq!(rt; patience.left, case.patience_left, "{}", case.name);
+    check(rt, patience.left == case.patience_left, case.name);
 }
 
 #[test]
@@ -487,6 +487,7 @@ fn notes_are_emptied(rt: HostRuntime) {
         let mut shelf = blank_shelf(&rt, &[4096, 4096], plan);
         let ended = empty(&rt, &mut shelf, 50);
         let notes = [note_on(&rt, &shelf, 0), note_on(&rt, &shelf, 1)];
-        assert_eq!(rt; (ended, notes, shelf.calls()), (*end, *stamps, 4), "{name}");
+        let is = ended == *end && notes == *stamps && shelf.calls() == 4;
+        check(&rt, is, name);
     }
 }

@@ -1,8 +1,8 @@
 // The program over image files of the folder in which the test runs.
 
-use crate::outside::{sink, source, texts};
+use crate::outside::{check, sink, source, texts};
 use lvm_image::ImageSink;
-use lvm_io::MemClock;
+use lvm_io::{MemClock, MemSink};
 use lvm_lane::FileShelf;
 use lvm_top::run_words;
 use std::fs;
@@ -16,22 +16,19 @@ const MAKE: &[u8] = b"mkvg -y datavg -s 1 hdisk0\nfail hdisk0\n";
 
 const COME_ON: &[u8] = b"varyonvg datavg\nlspv hdisk0\n";
 
-// Whether the words, with a script and a first moment, end with the status and write this.
-fn says<R: Files<File = File> + AllocGlobal + Abort>(
+// How the words end, with a script and a first moment, and what they write.
+fn run<R: Files<File = File> + AllocGlobal + Abort>(
     rt: &R,
     words: &[&str],
     script: &[u8],
     moment: u32,
-    status: u8,
-    wanted: &[u8],
-) -> bool {
-    let alloc = rt.alloc();
+) -> (u8, MemSink) {
     let texts = texts(rt, words);
-    let files = FileShelf::open(rt, alloc, &mut sink(rt, 64)).expect(rt, "files");
     let mut input = source(rt, script);
     let mut out = sink(rt, 4_096);
+    let files = FileShelf::open(rt, rt.alloc(), &mut sink(rt, 64)).expect(rt, "files");
     let ended = run_words(
-        alloc,
+        rt.alloc(),
         &texts,
         &mut input,
         &mut out,
@@ -40,27 +37,41 @@ fn says<R: Files<File = File> + AllocGlobal + Abort>(
         files,
         &mut ImageSink::new(rt),
     );
-    ended.status == status && out.bytes() == wanted
+    (ended.status, out)
+}
+
+// Expects the words to end with this status and to write this.
+fn says<R: Files<File = File> + AllocGlobal + Abort>(
+    rt: &R,
+    words: &[&str],
+    script: &[u8],
+    moment: u32,
+    status: u8,
+    wanted: &str,
+) {
+    let (is, out) = run(rt, words, script, moment);
+    check(rt, is == status, wanted);
+    check(rt, out.bytes() == wanted.as_bytes(), wanted);
 }
 
 #[test]
 fn an_image_is_made_and_scripts_run_over_it(rt: HostRuntime) {
     let _ = fs::remove_file(&rt, "hdisk0.img");
-    let none = b"refused 18 OutOfRange 0\nrefused 18 OutOfRange 0\n";
-    assert!(rt; says(&rt, &["script"], WRITE_AND_READ, 7, 1, none));
-    assert!(rt; says(&rt, &["image", "0", "8"], &[], 7, 0, &[]));
+    let none = "refused 18 OutOfRange 0\nrefused 18 OutOfRange 0\n";
+    says(&rt, &["script"], WRITE_AND_READ, 7, 1, none);
+    says(&rt, &["image", "0", "8"], &[], 7, 0, "");
     let made = fs::metadata(&rt, "hdisk0.img").expect(&rt, "the image");
-    assert_eq!(rt; made.len(), 8_388_608);
-    let read = b"ok\n4096 0000000000000001\n";
-    assert!(rt; says(&rt, &["script"], WRITE_AND_READ, 7, 0, read));
+    check(&rt, made.len() == 8_388_608, "the length");
+    let read = "ok\n4096 0000000000000001\n";
+    says(&rt, &["script"], WRITE_AND_READ, 7, 0, read);
     // The image isn't made again.
-    assert!(rt; says(&rt, &["image", "0", "8"], &[], 7, 4, &[]));
+    says(&rt, &["image", "0", "8"], &[], 7, 4, "");
     // A group is found by a later run, where the clock is ahead of the disk. Files take no orders.
-    let made = b"ok\nrefused 27 NoPlan\n";
-    assert!(rt; says(&rt, &["script"], MAKE, 20, 1, made));
-    let back = b"refused 8 ClockBack 21\nrefused 2 NoGroup\n";
-    assert!(rt; says(&rt, &["script"], COME_ON, 10, 1, back));
-    let on = b"ok\nhdisk0 datavg active pps 6 free 6 stale 0\n";
-    assert!(rt; says(&rt, &["script"], COME_ON, 30, 0, on));
+    let made = "ok\nrefused 27 NoPlan\n";
+    says(&rt, &["script"], MAKE, 20, 1, made);
+    let back = "refused 8 ClockBack 21\nrefused 2 NoGroup\n";
+    says(&rt, &["script"], COME_ON, 10, 1, back);
+    let on = "ok\nhdisk0 datavg active pps 6 free 6 stale 0\n";
+    says(&rt, &["script"], COME_ON, 30, 0, on);
     let _ = fs::remove_file(&rt, "hdisk0.img");
 }

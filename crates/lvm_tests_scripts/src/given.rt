@@ -1,6 +1,6 @@
 // What a run by words gives back, and the images that it makes.
 
-use crate::outside::{sink, source, texts};
+use crate::outside::{check, sink, source, texts};
 use lvm_disk::Shelf;
 use lvm_io::{MemClock, MemSink};
 use lvm_memory::MemShelf;
@@ -41,20 +41,35 @@ fn last_byte(shelf: &MemShelf) -> Option<u8> {
 #[test]
 fn a_script_leaves_its_block_on_the_files(rt: HostRuntime) {
     let ended = ended(&rt, &["script"], &mut sink(&rt, 0));
-    assert_eq!(rt; (ended.status, ended.refused), (0, 0));
-    assert_eq!(rt; last_byte(&ended.shelf), Some(1));
-    assert!(rt; ended.sim.is_none());
-    let history = ended.history.expect(&rt, "a history");
-    assert_eq!(rt; (history.run(), history.len()), (7, 3));
+    check(&rt, is_well(&ended), "the status");
+    check(&rt, last_byte(&ended.shelf) == Some(1), "the block");
+    check(&rt, ended.sim.is_none(), "no disks");
+    check(&rt, told(&ended) == Some((7, 3)), "the history");
+}
+
+fn is_well(ended: &Ended<MemShelf>) -> bool {
+    ended.status == 0 && ended.refused == 0
+}
+
+// The run that a history is of, and how many entries it has.
+fn told(ended: &Ended<MemShelf>) -> Option<(u64, u32)> {
+    ended
+        .history
+        .as_ref()
+        .map(|history| (history.run(), history.len()))
 }
 
 #[test]
 fn a_simulation_leaves_the_files_and_gives_its_disks_back(rt: HostRuntime) {
     let ended = ended(&rt, &["sim", "1", "8"], &mut sink(&rt, 0));
-    assert_eq!(rt; (ended.status, ended.refused), (0, 0));
-    assert_eq!(rt; last_byte(&ended.shelf), Some(0));
-    let sim = ended.sim.expect(&rt, "disks");
-    assert_eq!(rt; last_byte(&sim), Some(1));
+    check(&rt, is_well(&ended), "the status");
+    check(&rt, last_byte(&ended.shelf) == Some(0), "the files");
+    let block = ended.sim.as_ref().and_then(last_byte);
+    check(&rt, block == Some(1), "the disks");
+}
+
+fn are_zeros(bytes: &[u8], len: usize) -> bool {
+    bytes.len() == len && bytes.iter().all(|byte| *byte == 0)
 }
 
 #[test]
@@ -62,9 +77,8 @@ fn an_image_is_zeros_as_far_as_there_is_room(rt: HostRuntime) {
     for (room, status) in [(2_097_152, 0), (2_097_151, 4)] {
         let mut images = sink(&rt, room);
         let ended = ended(&rt, &["image", "127", "2"], &mut images);
-        assert_eq!(rt; ended.status, status);
-        assert_eq!(rt; images.bytes().len(), room);
-        assert!(rt; images.bytes().iter().all(|byte| *byte == 0));
-        assert!(rt; ended.history.is_none());
+        check(&rt, ended.status == status, "the status");
+        check(&rt, ended.history.is_none(), "no history");
+        check(&rt, are_zeros(images.bytes(), room), "the image");
     }
 }

@@ -1,8 +1,13 @@
-// Sources, sinks and words for a run.
+// Sources, sinks and words for a run, and what is wanted of it.
 
 use lvm_io::{MemSink, MemSource};
 use lvm_num::{Rows, Text};
 use std::process::Abort;
+
+/// Ends the test where this isn't so, and says of what.
+pub fn check(rt: &impl Abort, is: bool, what: &str) {
+    assert!(rt; is, "{what}");
+}
 
 pub fn sink(rt: &(impl Abort + AllocGlobal), room: usize) -> MemSink {
     let alloc = rt.alloc();

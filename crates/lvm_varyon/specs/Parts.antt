@@ -1,5 +1,5 @@
 -- The parts of a varyon: the reading of the shelf, the plan by what was read, and its writes.
-use Rattle.std.specs.Prelude.{◌≡◌, ℕ, not, true, false, length, List, Some, Result, Ok, Err, slice_get, IfSome}
+use Rattle.std.specs.Prelude.{◌≡◌, ℕ, not, length, List, Some, Result, Ok, Err, slice_get}
 use Rattle.lvm_num.specs.declared.record.Stamp.{Stamp}
 use Rattle.lvm_num.specs.declared.descriptor.Descriptor.{Descriptor}
 use Rattle.lvm_num.specs.declared.status.Status.{Status}
@@ -9,8 +9,7 @@ use Rattle.lvm_num.specs.DescriptorBytes.{descriptor_bytes}
 use Rattle.lvm_num.specs.Disks.{has}
 use Rattle.lvm_num.specs.Record.{Stamped}
 use Rattle.lvm_num.specs.StatusBytes.{status_bytes}
-use Rattle.lvm_disk.specs.Counts.{Rose}
-use Rattle.lvm_disk.specs.Device.{Device, image_of}
+use Rattle.lvm_disk.specs.Device.{Device}
 use Rattle.lvm_kept.specs.Contents.{Contents}
 use Rattle.lvm_quorum.specs.declared.choice.Choice.{Choice}
 use Rattle.lvm_quorum.specs.declared.choice.ChooseFault.{ChooseFault}
@@ -21,8 +20,8 @@ use Rattle.lvm_quorum.specs.Homes.{SpareNewest}
 use Rattle.lvm_survey.specs.declared.row.Survey.{Survey}
 use Rattle.lvm_survey.specs.declared.row.SurveyRow.{SurveyRow}
 use Rattle.lvm_survey.specs.Rows.{AreRows}
-use Rattle.lvm_survey.specs.Surveyed.{surveyed, IsEmpty, IsRead, IsSurveyValid}
-use Rattle.lvm_survey.specs.Surveying.{IsUnwritten, IsRested, IsCutOff}
+use Rattle.lvm_survey.specs.Surveyed.{surveyed, IsSurveyValid}
+use Rattle.lvm_survey.specs.Surveying.{IsUnwritten, IsRested, IsCutOff, IsSurveyed}
 use Rattle.lvm_core.specs.declared.parts.Room.{Room}
 use Rattle.lvm_core.specs.declared.refused.Cause.{Cause}
 use Rattle.lvm_core.specs.declared.refused.Cause.TheVariants as cause
@@ -35,20 +34,12 @@ use Rattle.lvm_varyon.specs.Writing.{AllWritten, OneFailed, WasBrokenOff, IsLeft
 
 -- ---- the reading
 
--- what a row says of a disk, by the counts of failed reads
-pub record IsRowOf (old new : Device) (d : ℕ) (row : SurveyRow) : Type 0 where
-  pub sectors : slice_get old.sizes d ≡ Some row.sectors
-  pub failed : row.failed ≡ true → Rose (old.counts.misses d) (new.counts.misses d)
-  pub answered : row.failed ≡ false → new.counts.misses d ≡ old.counts.misses d
-  pub empty : row.failed ≡ true → IsEmpty row
-  pub read : row.failed ≡ false → IfSome old.media (λ media. IsRead (image_of old.sizes media) d row)
-
 -- the survey says what the disks of the shelf show, and nothing was written
 pub record IsSurveyOf (old new : Device) (survey : Survey) : Type 0 where
   pub rows : AreRows survey
   pub all : length survey.rows ≡ length old.sizes
   pub valid : IsSurveyValid survey
-  pub each : (d : ℕ) (row : SurveyRow) → slice_get survey.rows d ≡ Some row → IsRowOf old new d row
+  pub each : (d : ℕ) (row : SurveyRow) → slice_get survey.rows d ≡ Some row → IsSurveyed old new d row
   pub unwritten : IsUnwritten old new
   pub rested : IsRested old new
 

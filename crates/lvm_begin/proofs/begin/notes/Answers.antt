@@ -1,4 +1,4 @@
-use Rattle.lvm_num.specs.Disks.{has}
+use Rattle.lvm_num.specs.Disks.{Disks, has}
 use Rattle.lvm_quorum.specs.Notes.{empty_note, NoteTold}
 use Rattle.lvm_begin.proofs.Answering.{how_one}
 use Rattle.lvm_begin.proofs.begin.notes.Goals as goal
@@ -8,8 +8,8 @@ returns g c =
     let e = c.empty_notes-wrote.ensures in
     record {
       gives = record {
-        does = record { keeps = e.keeps; spends = record { falls = e.patience; waits = e.waited }; moments = e.moments };
-        how = how_one (has c.args.targets) (NoteTold (empty_note c.args.epoch)) c.args.buf.number c.args.patience.now.left (g.S.Shelf.device c.args.shelf.now) (g.S.Shelf.device c.empty_notes-wrote.new.shelf) c.empty_notes-wrote.result c.all_or_lowest.result
-            c.all_or_lowest.ensures e.each e.buffer e.ready e.dark e.stuck;
+        does = e.leaves;
+        how = how_one (has c.args.targets) (NoteTold (empty_note c.args.epoch)) (λ (written : Disks). Unit {0}) c.args.buf.number c.args.patience.now.left (g.S.Shelf.device c.args.shelf.now) (g.S.Shelf.device c.empty_notes-wrote.new.shelf) c.empty_notes-wrote.result c.all_or_lowest.result
+            c.all_or_lowest.ensures e.ends;
       };
     }

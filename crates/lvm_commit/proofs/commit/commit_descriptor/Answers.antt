@@ -1,23 +1,20 @@
-use Rattle.std.proofs.Common.{◌≡◌, ℕ, List, ◌∙◌, ap, subst, arith}
+use Rattle.std.proofs.Common.{◌≡◌, ℕ, List, ap, subst, arith}
 use Rattle.lvm_num.specs.declared.record.Kind.TheVariants as kind
 use Rattle.lvm_num.specs.declared.record.Stamp.{Stamp}
 use Rattle.lvm_num.specs.Buffer.{Buffer}
-use Rattle.lvm_disk.specs.Device.{Device, IsReady, HasSectors}
+use Rattle.lvm_disk.specs.Device.{Device, HasSectors}
 use Rattle.lvm_kept.specs.Torn.{RecordWrite, IsOfRecord}
 use Rattle.lvm_status.specs.Update.{Stored}
 use Rattle.lvm_quorum.specs.declared.homes.Homes.{Homes}
-use Rattle.lvm_quorum.specs.Written.{IsDarkened, IsGivenUp}
-use Rattle.lvm_quorum.proofs.Transfers.{spends_then}
 use Rattle.lvm_commit.specs.declared.commit.Settled.{Settled}
 use Rattle.lvm_commit.specs.declared.commit.Settled.TheVariants as settled
-use Rattle.lvm_commit.specs.Settling.{IfBack, IsOfCommit, ComesHeld, StaysHeld, HasLostQuorum, AreWell, IsCommitted, IsPlain, there}
+use Rattle.lvm_commit.specs.Settling.{IsOfCommit, there}
 use Rattle.lvm_commit.specs.Rounds.{stamped, session_write, RecordGives}
-use Rattle.lvm_commit.proofs.Chaining.{Returns, keeps_wider, loses_less}
+use Rattle.lvm_commit.proofs.Chaining.{keeps_wider, loses_less}
 use Rattle.lvm_commit.proofs.Leaving.{round_left}
 use Rattle.lvm_commit.proofs.Ready.{may_settle_on, numbers_left, spends_one}
-use Rattle.lvm_commit.proofs.Ends.{done_map, off_map, back_map, not_done, done_unit, dark_map, stuck_map}
-use Rattle.lvm_commit.proofs.Describing.{describes, stamp_is, is_of_commit, descriptor_off, descriptor_spent, descriptor_back, descriptor_dark, descriptor_stuck, descriptor_finds, descriptor_kept}
-use Rattle.lvm_commit.proofs.Described.{ends_map, commit_left, commit_loses, commit_well, commit_dark, commit_stuck, commit_off, commit_numbers, commit_spent, commit_plain, commit_keeps, commit_finds, commit_held, commit_kept, Described}
+use Rattle.lvm_commit.proofs.Describing.{describes, stamp_is, is_of_commit, descriptor_ends, descriptor_finds, descriptor_kept}
+use Rattle.lvm_commit.proofs.Described.{ends_map, commit_leaves, commit_ends, commit_finds, commit_kept, Described}
 use Rattle.lvm_commit.proofs.commit.commit_descriptor.Goals as goal
 
 -- ---- where the record was written
@@ -69,24 +66,15 @@ returns-in_default g c =
     let frames = c.write_descriptor.ensures.frames in
     let one = describes first mid homes after old m content number p q r gives in
     let stamp = stamp_is first mid homes after old m content number p q r gives in
-    let back : IfBack r (λ back. Returns number mid old m back) = descriptor_back first mid homes after old m content number p q r gives in
     record {
-      done = not_done r (λ back. IsCommitted mid) c.in_default.not-Done;
-      held = not_done r (λ back. ComesHeld content first mid homes after old m) c.in_default.not-Done;
-      plain = not_done r (λ back. IsPlain kind.Descriptor content first mid homes old m) c.in_default.not-Done;
-      off = descriptor_off first mid homes after old m content number p q r gives c.requires.may.votes;
-      spent = descriptor_spent first mid homes after old m content number p q r gives c.requires.may.votes;
-      buffer = back_map r (λ buf. Returns number mid old m buf) (λ buf. buf.number ≡ number) (λ buf is. is.number_is) back;
-      ready = back_map r (λ buf. Returns number mid old m buf) (λ buf. IsReady m × (m.counts.cuts ≡ old.counts.cuts)) (λ buf is. (is.ready, is.cuts)) back;
-      well = back_map r (λ buf. Returns number mid old m buf) (λ buf. AreWell mid old m) (λ buf is. is.well) back;
-      dark = descriptor_dark first mid homes after old m content number p q r gives;
-      stuck = descriptor_stuck first mid homes after old m content number p q r gives;
-      marks = one.loses;
-      left = round_left c.args.d.now first mid c.requires.may.valid c.write_descriptor.ensures.marks (loses_less first mid old m one.loses);
-      numbers = spends_one first mid old m one.loses stamp;
-      patience = one.spends.falls;
-      waited = one.spends.waits;
-      keeps = keeps_wider (there first) (there first) (IsOfRecord w) (IsOfCommit content first mid) old m (λ d off. off) (is_of_commit first mid homes after old m content number p q r gives sectors frames mid (omega arith)) one.keeps;
+      ends = descriptor_ends first mid homes after old m content number p q r gives c.requires.may.votes c.in_default.not-Done;
+      leaves = record {
+        loses = one.loses;
+        left = round_left c.args.d.now first mid c.requires.may.valid c.write_descriptor.ensures.marks (loses_less first mid old m one.loses);
+        numbers = spends_one first mid old m one.loses stamp;
+        keeps = keeps_wider (there first) (there first) (IsOfRecord w) (IsOfCommit content first mid) old m (λ d off. off) (is_of_commit first mid homes after old m content number p q r gives sectors frames mid (omega arith)) one.keeps;
+        spends = one.spends;
+      };
       finds = λ group next reads own alike held. descriptor_finds first mid homes after old m content number p q r gives sectors frames group next reads held;
       kept = descriptor_kept first mid homes after old m content number p q r gives sectors frames;
     }
@@ -119,35 +107,18 @@ returns-in-Done g c =
       gives = gives;
       was_settled = c.requires.settled;
       committed = c.in-Done.ensures.committed.1;
-      loses = e.marks;
-      keeps = e.keeps;
+      loses = e.leaves.loses;
+      keeps = e.leaves.keeps;
       kept = e.kept;
       valid = c.requires.may.valid;
       describes = c.requires.describes;
       round = c.write_descriptor.ensures.marks;
-      left = e.left;
+      left = e.leaves.left;
       unwritten = λ same. ends_map r _ ((new ≡ m) × (last ≡ mid)) (λ is. (ap (λ s. g.S.Shelf.device s) is.0, is.1)) (e.unwritten same);
     } in
-    let spends = spends_then p q c.commit_status.new.patience.left old m new gives.spends (record { falls = e.patience; waits = e.waited }) in
     record {
-      done = e.done;
-      held = done_map r (λ back. StaysHeld mid last after final m new) (λ back. ComesHeld content first last homes final old new)
-          (λ back stays group next reads own alike held. commit_held c.args.d.now first mid last homes after final old m new content number p q buf r k group next reads own alike held e.finds stays) e.held;
-      plain = done_map r (λ back. Unit {0}) (λ back. IsPlain kind.Descriptor content first last homes old new) (λ back is same. commit_plain c.args.d.now first mid last homes after final old m new content number p q buf r k same) (done_unit r);
-      off = off_map r (λ have total back. HasLostQuorum mid last m new have total) (λ have total back. HasLostQuorum first last old new have total)
-          (λ have total back lost. commit_off c.args.d.now first mid last homes after final old m new content number p q buf r k have total lost) e.off;
-      spent = commit_spent c.args.d.now first mid last homes after final old m new content number p q buf r k e.spent;
-      buffer = back_map r (λ back. back.number ≡ buf.number) (λ back. back.number ≡ number) (λ back same. same ∙ gives.how.0.number_is) e.buffer;
-      ready = back_map r (λ back. IsReady new × (new.counts.cuts ≡ m.counts.cuts)) (λ back. IsReady new × (new.counts.cuts ≡ old.counts.cuts)) (λ back is. (is.0, is.1 ∙ gives.how.0.cuts)) e.ready;
-      well = back_map r (λ back. AreWell last m new) (λ back. AreWell last old new) (λ back well. commit_well c.args.d.now first mid last homes after final old m new content number p q buf r k well) e.well;
-      dark = dark_map r (IsDarkened buf.number m new) (IsDarkened number old new) (λ dark. commit_dark c.args.d.now first mid last homes after final old m new content number p q buf r k dark) e.dark;
-      stuck = stuck_map r (IsGivenUp buf.number q m new) (IsGivenUp number p old new) (λ stuck. commit_stuck c.args.d.now first mid last homes after final old m new content number p q buf r k stuck) e.stuck;
-      marks = commit_loses c.args.d.now first mid last homes after final old m new content number p q buf r k;
-      left = commit_left c.args.d.now first mid last homes after final old m new content number p q buf r k;
-      numbers = commit_numbers c.args.d.now first mid last homes after final old m new content number p q buf r k e.numbers;
-      patience = spends.falls;
-      waited = spends.waits;
-      keeps = commit_keeps c.args.d.now first mid last homes after final old m new content number p q buf r k e.numbers.rises;
+      ends = commit_ends c.args.d.now first mid last homes after final old m new content number p q buf r k e.finds e.ends;
+      leaves = commit_leaves c.args.d.now first mid last homes after final old m new content number p q buf r k c.commit_status.new.patience.left e.leaves.spends e.leaves.numbers;
       finds = λ group next reads own alike held. commit_finds c.args.d.now first mid last homes after final old m new content number p q buf r k group next reads own alike held e.finds;
       kept = commit_kept c.args.d.now first mid last homes after final old m new content number p q buf r k;
     }

@@ -6,17 +6,18 @@ use Rattle.lvm_num.specs.Descriptor.{is_member}
 use Rattle.lvm_num.specs.Disks.{Disks, has}
 use Rattle.lvm_num.specs.Status.{calls_missing}
 use Rattle.lvm_disk.specs.Device.{Device}
-use Rattle.lvm_kept.specs.Torn.{RecordWrite}
+use Rattle.lvm_kept.specs.Torn.{RecordWrite, IsOfRecord}
 use Rattle.lvm_status.specs.Update.{Stored, members_there}
 use Rattle.lvm_status.proofs.Sound.{and_left}
 use Rattle.lvm_quorum.specs.declared.homes.Homes.{Homes}
 use Rattle.lvm_quorum.specs.Written.{write_of}
+use Rattle.lvm_quorum.specs.Writes.{WriteLeaves}
 use Rattle.lvm_commit.specs.Committed.{next_stamp}
 use Rattle.lvm_commit.specs.Settling.{IsOf}
 use Rattle.lvm_commit.specs.Rounds.{HasLost, IsSame, stamped, session_write}
 use Rattle.lvm_commit.proofs.Wanting.{row_stays}
 use Rattle.lvm_commit.proofs.Leaving.{leaves, marks_round, round_same}
-use Rattle.lvm_commit.proofs.Recording.{Says, Tries, ended_gives, dark_gives, stuck_gives, as_session}
+use Rattle.lvm_commit.proofs.Recording.{Tries, ended_gives, dark_gives, stuck_gives, as_session}
 use Rattle.lvm_commit.proofs.write.write_descriptor.Goals as goal
 
 -- the session under the next stamp
@@ -36,7 +37,7 @@ same_as u x is = record { group = ap (λ (s : Stored). s.group) is; stamp = ap (
 pub lose-requires-clause-members : goal.lose-requires-clause-members
 lose-requires-clause-members g c disk fails =
     let d : Descriptor = c.args.d.now in
-    let target : has c.members_there-targets.result disk ≡ true = (c.in-Ended.ensures.each disk).target fails in
+    let target : has c.members_there-targets.result disk ≡ true = (c.in-Ended.ensures.ends.each disk).target fails in
     and_left (is_member d disk) (not (calls_missing c.set_stamp.new.self.wanted disk)) (sym (ap (λ (set : Disks). set disk) c.members_there-targets.ensures) ∙ target)
 
 pub returns-in-Ended-clause-gives : goal.returns-in-Ended-clause-gives
@@ -51,16 +52,14 @@ returns-in-Ended-clause-gives g c =
     let w : RecordWrite = session_write kind.Descriptor c.args.content.now (stamped u) homes in
     let is : x ≡ stamped u = stamps u x c.stamp.result c.next_stamp-stamp.result c.stamp.ensures c.next_stamp-stamp.ensures c.set_stamp.ensures in
     let same = named c.args.d.now u x homes c.stamp.result c.next_stamp-stamp.result c.args.content.now (has c.members_there-targets.result) c.requires.own c.stamp.ensures c.next_stamp-stamp.ensures is c.members_there-targets.ensures in
-    let call = c.write_record.ensures in
     let failed : Disks = has c.in-Ended.failed in
-    let says : Says w c.args.patience.now.left c.write_record.new.patience.left old new =
-    subst (λ (r : RecordWrite). Says r c.args.patience.now.left c.write_record.new.patience.left old new) same
-    (record { keeps = call.keeps; spends = record { falls = call.patience; waits = call.waited }; moments = call.moments }) in
+    let leaves_it : WriteLeaves w.targets (IsOfRecord w) c.args.patience.now.left c.write_record.new.patience.left old new =
+    subst (λ (r : RecordWrite). WriteLeaves r.targets (IsOfRecord r) c.args.patience.now.left c.write_record.new.patience.left old new) same c.write_record.ensures.leaves in
     let tries : Tries w c.args.buf.number homes c.write_record.new.homes old new failed c.in-Ended.buf =
     subst (λ (r : RecordWrite). Tries r c.args.buf.number homes c.write_record.new.homes old new failed c.in-Ended.buf) same
-    (record { each = c.in-Ended.ensures.each; flips = c.in-Ended.ensures.homes; number_is = c.in-Ended.ensures.buffer; ready = c.in-Ended.ensures.ready }) in
+    c.in-Ended.ensures.ends in
     let lost : HasLost failed (stamped u) mid = subst (λ (s : Stored). HasLost failed s mid) is c.lose.ensures in
-    ended_gives w c.args.buf.number c.args.patience.now.left c.write_record.new.patience.left (stamped u) last homes c.write_record.new.homes old new says
+    ended_gives w c.args.buf.number c.args.patience.now.left c.write_record.new.patience.left (stamped u) last homes c.write_record.new.homes old new leaves_it
     failed c.in-Ended.buf c.by_votes.result tries
     (ap (λ (s : Stored). s.group) c.mark_left.ensures.rest ∙ lost.group) (ap (λ (s : Stored). s.stamp) c.mark_left.ensures.rest ∙ lost.stamp) (leaves c.args.d.now u mid last failed lost.wanted c.mark_left.ensures) c.by_votes.ensures
 
@@ -83,7 +82,7 @@ returns-in-Ended-clause-marks g c =
     let is : x ≡ stamped u = stamps u x c.stamp.result c.next_stamp-stamp.result c.stamp.ensures c.next_stamp-stamp.ensures c.set_stamp.ensures in
     let lost : HasLost failed (stamped u) mid = subst (λ (s : Stored). HasLost failed s mid) is c.lose.ensures in
     marks_round c.args.d.now u mid last failed lost.wanted c.mark_left.ensures lost.group
-    (λ disk fails. and_left (is_member c.args.d.now disk) (not (calls_missing x.wanted disk)) (sym (ap (λ (set : Disks). set disk) c.members_there-targets.ensures) ∙ (c.in-Ended.ensures.each disk).target fails))
+    (λ disk fails. and_left (is_member c.args.d.now disk) (not (calls_missing x.wanted disk)) (sym (ap (λ (set : Disks). set disk) c.members_there-targets.ensures) ∙ (c.in-Ended.ensures.ends.each disk).target fails))
 
 pub returns-in-Dark-clause-marks : goal.returns-in-Dark-clause-marks
 returns-in-Dark-clause-marks g c =
@@ -105,11 +104,9 @@ returns-in-Dark-clause-gives g c =
     let w : RecordWrite = session_write kind.Descriptor c.args.content.now (stamped u) homes in
     let is : x ≡ stamped u = stamps u x c.stamp.result c.next_stamp-stamp.result c.stamp.ensures c.next_stamp-stamp.ensures c.set_stamp.ensures in
     let same = named c.args.d.now u x homes c.stamp.result c.next_stamp-stamp.result c.args.content.now (has c.members_there-targets.result) c.requires.own c.stamp.ensures c.next_stamp-stamp.ensures is c.members_there-targets.ensures in
-    let call = c.write_record.ensures in
-    let says : Says w c.args.patience.now.left c.write_record.new.patience.left old new =
-    subst (λ (r : RecordWrite). Says r c.args.patience.now.left c.write_record.new.patience.left old new) same
-    (record { keeps = call.keeps; spends = record { falls = call.patience; waits = call.waited }; moments = call.moments }) in
-    dark_gives w c.args.buf.number c.args.patience.now.left c.write_record.new.patience.left (stamped u) x homes c.write_record.new.homes old new says (same_as u x is) c.in-Dark.ensures.dark
+    let leaves_it : WriteLeaves w.targets (IsOfRecord w) c.args.patience.now.left c.write_record.new.patience.left old new =
+    subst (λ (r : RecordWrite). WriteLeaves r.targets (IsOfRecord r) c.args.patience.now.left c.write_record.new.patience.left old new) same c.write_record.ensures.leaves in
+    dark_gives w c.args.buf.number c.args.patience.now.left c.write_record.new.patience.left (stamped u) x homes c.write_record.new.homes old new leaves_it (same_as u x is) c.in-Dark.ensures.ends.0
 
 pub returns-in-Stuck-clause-gives : goal.returns-in-Stuck-clause-gives
 returns-in-Stuck-clause-gives g c =
@@ -121,8 +118,6 @@ returns-in-Stuck-clause-gives g c =
     let w : RecordWrite = session_write kind.Descriptor c.args.content.now (stamped u) homes in
     let is : x ≡ stamped u = stamps u x c.stamp.result c.next_stamp-stamp.result c.stamp.ensures c.next_stamp-stamp.ensures c.set_stamp.ensures in
     let same = named c.args.d.now u x homes c.stamp.result c.next_stamp-stamp.result c.args.content.now (has c.members_there-targets.result) c.requires.own c.stamp.ensures c.next_stamp-stamp.ensures is c.members_there-targets.ensures in
-    let call = c.write_record.ensures in
-    let says : Says w c.args.patience.now.left c.write_record.new.patience.left old new =
-    subst (λ (r : RecordWrite). Says r c.args.patience.now.left c.write_record.new.patience.left old new) same
-    (record { keeps = call.keeps; spends = record { falls = call.patience; waits = call.waited }; moments = call.moments }) in
-    stuck_gives w c.args.buf.number c.args.patience.now.left c.write_record.new.patience.left (stamped u) x homes c.write_record.new.homes old new says (same_as u x is) c.in-Stuck.ensures.stuck
+    let leaves_it : WriteLeaves w.targets (IsOfRecord w) c.args.patience.now.left c.write_record.new.patience.left old new =
+    subst (λ (r : RecordWrite). WriteLeaves r.targets (IsOfRecord r) c.args.patience.now.left c.write_record.new.patience.left old new) same c.write_record.ensures.leaves in
+    stuck_gives w c.args.buf.number c.args.patience.now.left c.write_record.new.patience.left (stamped u) x homes c.write_record.new.homes old new leaves_it (same_as u x is) c.in-Stuck.ensures.ends.0

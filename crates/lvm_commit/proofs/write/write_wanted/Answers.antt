@@ -7,11 +7,12 @@ use Rattle.lvm_num.specs.declared.status.Status.{Status}
 use Rattle.lvm_num.specs.Disks.{Disks, has}
 use Rattle.lvm_num.specs.StatusBytes.{status_bytes}
 use Rattle.lvm_disk.specs.Device.{Device}
-use Rattle.lvm_kept.specs.Torn.{RecordWrite}
+use Rattle.lvm_kept.specs.Torn.{RecordWrite, IsOfRecord}
 use Rattle.lvm_status.specs.declared.writes.Writes.{Writes}
 use Rattle.lvm_status.specs.Update.{Stored, members_there}
 use Rattle.lvm_quorum.specs.declared.homes.Homes.{Homes}
 use Rattle.lvm_quorum.specs.Written.{write_of}
+use Rattle.lvm_quorum.specs.Writes.{WriteLeaves}
 use Rattle.lvm_commit.specs.Settling.{there}
 use Rattle.lvm_commit.specs.Rounds.{IsSame, stamped, session_write}
 use Rattle.lvm_num.specs.Descriptor.{is_member}
@@ -21,7 +22,7 @@ use Rattle.lvm_status.proofs.Sound.{and_left}
 use Rattle.lvm_commit.proofs.Wanting.{row_stays}
 use Rattle.lvm_commit.proofs.Leaving.{done_committed, leaves, marks_round, round_same}
 use Rattle.lvm_commit.proofs.Losing.{misses_at}
-use Rattle.lvm_commit.proofs.Recording.{Says, Tries, ended_gives, dark_gives, stuck_gives, only_targets, as_session}
+use Rattle.lvm_commit.proofs.Recording.{Tries, ended_gives, dark_gives, stuck_gives, only_targets, as_session}
 use Rattle.lvm_commit.proofs.Starting.{Starts, update_starts}
 use Rattle.lvm_commit.proofs.write.write_wanted.Goals as goal
 
@@ -57,16 +58,14 @@ returns-in-Ended-clause-gives g c =
     let put = c.put_wanted-count.ensures in
     let same = named u x homes c.stamp-stamp.result (take c.put_wanted-count.result c.put_wanted-count.new.bytes) c.writes-targets.result starts c.stamp-stamp.ensures
     (front x.wanted c.put_wanted-count.result c.put_wanted-count.new.bytes c.args.bytes.now put.written put.count) c.writes-targets.ensures in
-    let call = c.write_record.ensures in
     let failed : Disks = has c.in-Ended.failed in
-    let says : Says w c.args.patience.now.left c.write_record.new.patience.left old new =
-    subst (λ (r : RecordWrite). Says r c.args.patience.now.left c.write_record.new.patience.left old new) same
-    (record { keeps = call.keeps; spends = record { falls = call.patience; waits = call.waited }; moments = call.moments }) in
+    let leaves_it : WriteLeaves w.targets (IsOfRecord w) c.args.patience.now.left c.write_record.new.patience.left old new =
+    subst (λ (r : RecordWrite). WriteLeaves r.targets (IsOfRecord r) c.args.patience.now.left c.write_record.new.patience.left old new) same c.write_record.ensures.leaves in
     let tries : Tries w c.args.buf.number homes c.write_record.new.homes old new failed c.in-Ended.buf =
     subst (λ (r : RecordWrite). Tries r c.args.buf.number homes c.write_record.new.homes old new failed c.in-Ended.buf) same
-    (record { each = c.in-Ended.ensures.each; flips = c.in-Ended.ensures.homes; number_is = c.in-Ended.ensures.buffer; ready = c.in-Ended.ensures.ready }) in
+    c.in-Ended.ensures.ends in
     let ends = c.end_writes.ensures in
-    ended_gives w c.args.buf.number c.args.patience.now.left c.write_record.new.patience.left (stamped u) last homes c.write_record.new.homes old new says
+    ended_gives w c.args.buf.number c.args.patience.now.left c.write_record.new.patience.left (stamped u) last homes c.write_record.new.homes old new leaves_it
     failed c.in-Ended.buf c.by_votes.result tries
     (ap (λ (s : Stored). s.group) c.mark_left.ensures.rest ∙ ends.group ∙ starts.group) (ap (λ (s : Stored). s.stamp) c.mark_left.ensures.rest ∙ ends.stamp ∙ starts.stamp)
     (leaves c.args.d.now u mid last failed
@@ -97,7 +96,7 @@ returns-in-Ended-clause-marks g c =
     let failed : Disks = has c.in-Ended.failed in
     let starts : Starts u x = update_starts u x c.start.result c.requires.idle c.requires.differs c.start.ensures.starts c.start.ensures.update in
     let ends = c.end_writes.ensures in
-    let on : (d : ℕ) → failed d ≡ true → there x d ≡ true = λ d is. failed_there u x starts failed (has c.writes-targets.result.unstarted) (ap (λ (w : Writes). has w.unstarted) c.writes-targets.ensures) d ((c.in-Ended.ensures.each d).target is) in
+    let on : (d : ℕ) → failed d ≡ true → there x d ≡ true = λ d is. failed_there u x starts failed (has c.writes-targets.result.unstarted) (ap (λ (w : Writes). has w.unstarted) c.writes-targets.ensures) d ((c.in-Ended.ensures.ends.each d).target is) in
     marks_round c.args.d.now u mid last failed
     (misses_at failed x.wanted u.wanted mid.wanted starts.wanted (only_targets (there x) failed x.wanted mid.wanted on ends.wanted))
     c.mark_left.ensures (ends.group ∙ starts.group)
@@ -133,11 +132,9 @@ returns-in-Dark-clause-gives g c =
     let put = c.put_wanted-count.ensures in
     let same = named u x homes c.stamp-stamp.result (take c.put_wanted-count.result c.put_wanted-count.new.bytes) c.writes-targets.result starts c.stamp-stamp.ensures
     (front x.wanted c.put_wanted-count.result c.put_wanted-count.new.bytes c.args.bytes.now put.written put.count) c.writes-targets.ensures in
-    let call = c.write_record.ensures in
-    let says : Says w c.args.patience.now.left c.write_record.new.patience.left old new =
-    subst (λ (r : RecordWrite). Says r c.args.patience.now.left c.write_record.new.patience.left old new) same
-    (record { keeps = call.keeps; spends = record { falls = call.patience; waits = call.waited }; moments = call.moments }) in
-    dark_gives w c.args.buf.number c.args.patience.now.left c.write_record.new.patience.left (stamped u) x homes c.write_record.new.homes old new says (same_as u x starts) c.in-Dark.ensures.dark
+    let leaves_it : WriteLeaves w.targets (IsOfRecord w) c.args.patience.now.left c.write_record.new.patience.left old new =
+    subst (λ (r : RecordWrite). WriteLeaves r.targets (IsOfRecord r) c.args.patience.now.left c.write_record.new.patience.left old new) same c.write_record.ensures.leaves in
+    dark_gives w c.args.buf.number c.args.patience.now.left c.write_record.new.patience.left (stamped u) x homes c.write_record.new.homes old new leaves_it (same_as u x starts) c.in-Dark.ensures.ends.0
 
 pub returns-in-Stuck-clause-gives : goal.returns-in-Stuck-clause-gives
 returns-in-Stuck-clause-gives g c =
@@ -151,8 +148,6 @@ returns-in-Stuck-clause-gives g c =
     let put = c.put_wanted-count.ensures in
     let same = named u x homes c.stamp-stamp.result (take c.put_wanted-count.result c.put_wanted-count.new.bytes) c.writes-targets.result starts c.stamp-stamp.ensures
     (front x.wanted c.put_wanted-count.result c.put_wanted-count.new.bytes c.args.bytes.now put.written put.count) c.writes-targets.ensures in
-    let call = c.write_record.ensures in
-    let says : Says w c.args.patience.now.left c.write_record.new.patience.left old new =
-    subst (λ (r : RecordWrite). Says r c.args.patience.now.left c.write_record.new.patience.left old new) same
-    (record { keeps = call.keeps; spends = record { falls = call.patience; waits = call.waited }; moments = call.moments }) in
-    stuck_gives w c.args.buf.number c.args.patience.now.left c.write_record.new.patience.left (stamped u) x homes c.write_record.new.homes old new says (same_as u x starts) c.in-Stuck.ensures.stuck
+    let leaves_it : WriteLeaves w.targets (IsOfRecord w) c.args.patience.now.left c.write_record.new.patience.left old new =
+    subst (λ (r : RecordWrite). WriteLeaves r.targets (IsOfRecord r) c.args.patience.now.left c.write_record.new.patience.left old new) same c.write_record.ensures.leaves in
+    stuck_gives w c.args.buf.number c.args.patience.now.left c.write_record.new.patience.left (stamped u) x homes c.write_record.new.homes old new leaves_it (same_as u x starts) c.in-Stuck.ensures.ends.0

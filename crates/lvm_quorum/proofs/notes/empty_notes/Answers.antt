@@ -1,12 +1,10 @@
-use Rattle.std.proofs.Common.{◌+◌, ℕ, arith, sym, subst, ◌∙◌}
+use Rattle.std.proofs.Common.{◌+◌, arith, sym, subst, ◌∙◌}
 use Rattle.lvm_num.specs.Buffer.{Sector}
 use Rattle.lvm_num.specs.Disks.{Disks, has}
 use Rattle.lvm_kept.specs.Torn.{IsOfNote}
 use Rattle.lvm_transfer.specs.declared.moves.Moved.TheVariants as moved
 use Rattle.lvm_quorum.specs.Notes.{empty_note, NoteTold}
-use Rattle.lvm_quorum.proofs.Writing.{moments_on}
-use Rattle.lvm_quorum.proofs.Transfers.{keeps_then, spends_then, darkened_then, given_up_then}
-use Rattle.lvm_quorum.proofs.Tried.{nothing_tried, none_here, well_here, badly_here, broken_here, all_tried, as_tried}
+use Rattle.lvm_quorum.proofs.Tried.{nothing_tried, none_here, well_here, badly_here, leaves_here, dark_here, stuck_here, tried_ends, as_tried}
 use Rattle.lvm_quorum.proofs.Emptying.{note_stays, note_part, note_alone}
 use Rattle.lvm_quorum.proofs.notes.empty_notes.Goals as goal
 use Rattle.lvm_quorum.proofs.notes.empty_notes.Goals.{in-Done, in-Failed}
@@ -20,113 +18,31 @@ loop-disk-preserved-then-not-has g c =
     let now = g.S.Shelf.device c.loop-disk.shelf in
     none_here (has c.args.targets) (IsOfNote (has c.args.targets) (empty_note c.args.stamp)) (NoteTold (empty_note c.args.stamp)) (note_stays (has c.args.targets) (empty_note c.args.stamp)) c.args.buf.number c.args.patience.now.left c.loop-disk.patience.left old now c.loop-disk.failed c.loop-disk.buf c.loop-disk.disk c.loop-disk.invariant (sym c.has.ensures.member ∙ c.if-not-has.true)
 
-pub returns-in-Dark-clause-dark : goal.returns-in-Dark-clause-dark
-returns-in-Dark-clause-dark g c =
+pub returns-in-Dark : goal.returns-in-Dark
+returns-in-Dark g c =
     let old = g.S.Shelf.device c.args.shelf.now in
     let now = g.S.Shelf.device c.loop-disk.shelf in
     let new = g.S.Shelf.device c.write_sector.new.shelf in
     let target = sym c.has.ensures.member ∙ c.if-not-has.false in
     let part = note_part c.write_note-note.result (empty_note c.args.stamp) c.loop-disk.disk c.loop-disk.buf.number c.loop-disk.patience.left c.write_sector.new.patience.left now new (moved.Dark c.in-Dark.started) c.write_note-note.ensures c.in-Dark.ensures.part (has c.args.targets) target in
-    darkened_then c.args.buf.number c.loop-disk.buf.number old now new c.loop-disk.invariant.buffer c.loop-disk.invariant.cuts part.leaves
+    let alone = note_alone c.write_note-note.result (empty_note c.args.stamp) c.loop-disk.disk c.loop-disk.buf.number c.loop-disk.patience.left c.write_sector.new.patience.left now new (moved.Dark c.in-Dark.started) c.write_note-note.ensures c.in-Dark.ensures.part in
+    record {
+      ends = dark_here (has c.args.targets) (IsOfNote (has c.args.targets) (empty_note c.args.stamp)) (NoteTold (empty_note c.args.stamp)) (note_stays (has c.args.targets) (empty_note c.args.stamp)) c.args.buf.number c.args.patience.now.left c.loop-disk.patience.left old now c.loop-disk.failed c.loop-disk.buf c.loop-disk.disk c.loop-disk.invariant c.write_sector.new.patience.left new (λ (written : Disks). Unit {0}) target alone c.in-Dark.started part tt;
+      leaves = leaves_here (has c.args.targets) (IsOfNote (has c.args.targets) (empty_note c.args.stamp)) (NoteTold (empty_note c.args.stamp)) (note_stays (has c.args.targets) (empty_note c.args.stamp)) c.args.buf.number c.args.patience.now.left c.loop-disk.patience.left old now c.loop-disk.failed c.loop-disk.buf c.loop-disk.disk c.loop-disk.invariant c.write_sector.new.patience.left new (λ (written : Disks). Unit {0}) target alone (moved.Dark c.in-Dark.started) part;
+    }
 
-pub returns-in-Dark-clause-broken : goal.returns-in-Dark-clause-broken
-returns-in-Dark-clause-broken g c =
+pub returns-in-Stuck : goal.returns-in-Stuck
+returns-in-Stuck g c =
     let old = g.S.Shelf.device c.args.shelf.now in
     let now = g.S.Shelf.device c.loop-disk.shelf in
     let new = g.S.Shelf.device c.write_sector.new.shelf in
     let target = sym c.has.ensures.member ∙ c.if-not-has.false in
-    let part = note_part c.write_note-note.result (empty_note c.args.stamp) c.loop-disk.disk c.loop-disk.buf.number c.loop-disk.patience.left c.write_sector.new.patience.left now new (moved.Dark c.in-Dark.started) c.write_note-note.ensures c.in-Dark.ensures.part (has c.args.targets) target in
-    broken_here (has c.args.targets) (IsOfNote (has c.args.targets) (empty_note c.args.stamp)) (NoteTold (empty_note c.args.stamp)) (note_stays (has c.args.targets) (empty_note c.args.stamp)) c.args.buf.number c.args.patience.now.left c.loop-disk.patience.left old now c.loop-disk.failed c.loop-disk.buf c.loop-disk.disk c.loop-disk.invariant new (λ (disk : ℕ) (failed : Disks). Unit {0}) target part.keeps part.counts.0 (note_alone c.write_note-note.result (empty_note c.args.stamp) c.loop-disk.disk c.loop-disk.buf.number c.loop-disk.patience.left c.write_sector.new.patience.left now new (moved.Dark c.in-Dark.started) c.write_note-note.ensures c.in-Dark.ensures.part) tt
-
-pub returns-in-Dark-clause-patience : goal.returns-in-Dark-clause-patience
-returns-in-Dark-clause-patience g c =
-    let old = g.S.Shelf.device c.args.shelf.now in
-    let now = g.S.Shelf.device c.loop-disk.shelf in
-    let new = g.S.Shelf.device c.write_sector.new.shelf in
-    let target = sym c.has.ensures.member ∙ c.if-not-has.false in
-    let part = note_part c.write_note-note.result (empty_note c.args.stamp) c.loop-disk.disk c.loop-disk.buf.number c.loop-disk.patience.left c.write_sector.new.patience.left now new (moved.Dark c.in-Dark.started) c.write_note-note.ensures c.in-Dark.ensures.part (has c.args.targets) target in
-    (spends_then c.args.patience.now.left c.loop-disk.patience.left c.write_sector.new.patience.left old now new c.loop-disk.invariant.spends part.spends).falls
-
-pub returns-in-Dark-clause-waited : goal.returns-in-Dark-clause-waited
-returns-in-Dark-clause-waited g c =
-    let old = g.S.Shelf.device c.args.shelf.now in
-    let now = g.S.Shelf.device c.loop-disk.shelf in
-    let new = g.S.Shelf.device c.write_sector.new.shelf in
-    let target = sym c.has.ensures.member ∙ c.if-not-has.false in
-    let part = note_part c.write_note-note.result (empty_note c.args.stamp) c.loop-disk.disk c.loop-disk.buf.number c.loop-disk.patience.left c.write_sector.new.patience.left now new (moved.Dark c.in-Dark.started) c.write_note-note.ensures c.in-Dark.ensures.part (has c.args.targets) target in
-    (spends_then c.args.patience.now.left c.loop-disk.patience.left c.write_sector.new.patience.left old now new c.loop-disk.invariant.spends part.spends).waits
-
-pub returns-in-Dark-clause-keeps : goal.returns-in-Dark-clause-keeps
-returns-in-Dark-clause-keeps g c =
-    let old = g.S.Shelf.device c.args.shelf.now in
-    let now = g.S.Shelf.device c.loop-disk.shelf in
-    let new = g.S.Shelf.device c.write_sector.new.shelf in
-    let target = sym c.has.ensures.member ∙ c.if-not-has.false in
-    let part = note_part c.write_note-note.result (empty_note c.args.stamp) c.loop-disk.disk c.loop-disk.buf.number c.loop-disk.patience.left c.write_sector.new.patience.left now new (moved.Dark c.in-Dark.started) c.write_note-note.ensures c.in-Dark.ensures.part (has c.args.targets) target in
-    keeps_then (has c.args.targets) (IsOfNote (has c.args.targets) (empty_note c.args.stamp)) old now new c.loop-disk.invariant.keeps part.keeps
-
-pub returns-in-Dark-clause-moments : goal.returns-in-Dark-clause-moments
-returns-in-Dark-clause-moments g c =
-    let old = g.S.Shelf.device c.args.shelf.now in
-    let now = g.S.Shelf.device c.loop-disk.shelf in
-    let new = g.S.Shelf.device c.write_sector.new.shelf in
-    let target = sym c.has.ensures.member ∙ c.if-not-has.false in
-    let part = note_part c.write_note-note.result (empty_note c.args.stamp) c.loop-disk.disk c.loop-disk.buf.number c.loop-disk.patience.left c.write_sector.new.patience.left now new (moved.Dark c.in-Dark.started) c.write_note-note.ensures c.in-Dark.ensures.part (has c.args.targets) target in
-    moments_on (IsOfNote (has c.args.targets) (empty_note c.args.stamp)) old now c.loop-disk.invariant.keeps.media new c.loop-disk.invariant.moments part.moments
-
-pub returns-in-Stuck-clause-stuck : goal.returns-in-Stuck-clause-stuck
-returns-in-Stuck-clause-stuck g c =
-    let old = g.S.Shelf.device c.args.shelf.now in
-    let now = g.S.Shelf.device c.loop-disk.shelf in
-    let new = g.S.Shelf.device c.write_sector.new.shelf in
-    let target = sym c.has.ensures.member ∙ c.if-not-has.false in
-    let part = note_part c.write_note-note.result (empty_note c.args.stamp) c.loop-disk.disk c.loop-disk.buf.number c.loop-disk.patience.left c.write_sector.new.patience.left now new (moved.Stuck) c.write_note-note.ensures c.in-Stuck.ensures.part (has c.args.targets) target in
-    given_up_then c.args.buf.number c.loop-disk.buf.number c.args.patience.now.left c.loop-disk.patience.left old now new c.loop-disk.invariant.buffer c.loop-disk.invariant.cuts c.loop-disk.invariant.spends part.leaves
-
-pub returns-in-Stuck-clause-broken : goal.returns-in-Stuck-clause-broken
-returns-in-Stuck-clause-broken g c =
-    let old = g.S.Shelf.device c.args.shelf.now in
-    let now = g.S.Shelf.device c.loop-disk.shelf in
-    let new = g.S.Shelf.device c.write_sector.new.shelf in
-    let target = sym c.has.ensures.member ∙ c.if-not-has.false in
-    let part = note_part c.write_note-note.result (empty_note c.args.stamp) c.loop-disk.disk c.loop-disk.buf.number c.loop-disk.patience.left c.write_sector.new.patience.left now new (moved.Stuck) c.write_note-note.ensures c.in-Stuck.ensures.part (has c.args.targets) target in
-    broken_here (has c.args.targets) (IsOfNote (has c.args.targets) (empty_note c.args.stamp)) (NoteTold (empty_note c.args.stamp)) (note_stays (has c.args.targets) (empty_note c.args.stamp)) c.args.buf.number c.args.patience.now.left c.loop-disk.patience.left old now c.loop-disk.failed c.loop-disk.buf c.loop-disk.disk c.loop-disk.invariant new (λ (disk : ℕ) (failed : Disks). Unit {0}) target part.keeps part.counts.0 (note_alone c.write_note-note.result (empty_note c.args.stamp) c.loop-disk.disk c.loop-disk.buf.number c.loop-disk.patience.left c.write_sector.new.patience.left now new (moved.Stuck) c.write_note-note.ensures c.in-Stuck.ensures.part) tt
-
-pub returns-in-Stuck-clause-patience : goal.returns-in-Stuck-clause-patience
-returns-in-Stuck-clause-patience g c =
-    let old = g.S.Shelf.device c.args.shelf.now in
-    let now = g.S.Shelf.device c.loop-disk.shelf in
-    let new = g.S.Shelf.device c.write_sector.new.shelf in
-    let target = sym c.has.ensures.member ∙ c.if-not-has.false in
-    let part = note_part c.write_note-note.result (empty_note c.args.stamp) c.loop-disk.disk c.loop-disk.buf.number c.loop-disk.patience.left c.write_sector.new.patience.left now new (moved.Stuck) c.write_note-note.ensures c.in-Stuck.ensures.part (has c.args.targets) target in
-    (spends_then c.args.patience.now.left c.loop-disk.patience.left c.write_sector.new.patience.left old now new c.loop-disk.invariant.spends part.spends).falls
-
-pub returns-in-Stuck-clause-waited : goal.returns-in-Stuck-clause-waited
-returns-in-Stuck-clause-waited g c =
-    let old = g.S.Shelf.device c.args.shelf.now in
-    let now = g.S.Shelf.device c.loop-disk.shelf in
-    let new = g.S.Shelf.device c.write_sector.new.shelf in
-    let target = sym c.has.ensures.member ∙ c.if-not-has.false in
-    let part = note_part c.write_note-note.result (empty_note c.args.stamp) c.loop-disk.disk c.loop-disk.buf.number c.loop-disk.patience.left c.write_sector.new.patience.left now new (moved.Stuck) c.write_note-note.ensures c.in-Stuck.ensures.part (has c.args.targets) target in
-    (spends_then c.args.patience.now.left c.loop-disk.patience.left c.write_sector.new.patience.left old now new c.loop-disk.invariant.spends part.spends).waits
-
-pub returns-in-Stuck-clause-keeps : goal.returns-in-Stuck-clause-keeps
-returns-in-Stuck-clause-keeps g c =
-    let old = g.S.Shelf.device c.args.shelf.now in
-    let now = g.S.Shelf.device c.loop-disk.shelf in
-    let new = g.S.Shelf.device c.write_sector.new.shelf in
-    let target = sym c.has.ensures.member ∙ c.if-not-has.false in
-    let part = note_part c.write_note-note.result (empty_note c.args.stamp) c.loop-disk.disk c.loop-disk.buf.number c.loop-disk.patience.left c.write_sector.new.patience.left now new (moved.Stuck) c.write_note-note.ensures c.in-Stuck.ensures.part (has c.args.targets) target in
-    keeps_then (has c.args.targets) (IsOfNote (has c.args.targets) (empty_note c.args.stamp)) old now new c.loop-disk.invariant.keeps part.keeps
-
-pub returns-in-Stuck-clause-moments : goal.returns-in-Stuck-clause-moments
-returns-in-Stuck-clause-moments g c =
-    let old = g.S.Shelf.device c.args.shelf.now in
-    let now = g.S.Shelf.device c.loop-disk.shelf in
-    let new = g.S.Shelf.device c.write_sector.new.shelf in
-    let target = sym c.has.ensures.member ∙ c.if-not-has.false in
-    let part = note_part c.write_note-note.result (empty_note c.args.stamp) c.loop-disk.disk c.loop-disk.buf.number c.loop-disk.patience.left c.write_sector.new.patience.left now new (moved.Stuck) c.write_note-note.ensures c.in-Stuck.ensures.part (has c.args.targets) target in
-    moments_on (IsOfNote (has c.args.targets) (empty_note c.args.stamp)) old now c.loop-disk.invariant.keeps.media new c.loop-disk.invariant.moments part.moments
+    let part = note_part c.write_note-note.result (empty_note c.args.stamp) c.loop-disk.disk c.loop-disk.buf.number c.loop-disk.patience.left c.write_sector.new.patience.left now new moved.Stuck c.write_note-note.ensures c.in-Stuck.ensures.part (has c.args.targets) target in
+    let alone = note_alone c.write_note-note.result (empty_note c.args.stamp) c.loop-disk.disk c.loop-disk.buf.number c.loop-disk.patience.left c.write_sector.new.patience.left now new moved.Stuck c.write_note-note.ensures c.in-Stuck.ensures.part in
+    record {
+      ends = stuck_here (has c.args.targets) (IsOfNote (has c.args.targets) (empty_note c.args.stamp)) (NoteTold (empty_note c.args.stamp)) (note_stays (has c.args.targets) (empty_note c.args.stamp)) c.args.buf.number c.args.patience.now.left c.loop-disk.patience.left old now c.loop-disk.failed c.loop-disk.buf c.loop-disk.disk c.loop-disk.invariant c.write_sector.new.patience.left new (λ (written : Disks). Unit {0}) target alone part tt;
+      leaves = leaves_here (has c.args.targets) (IsOfNote (has c.args.targets) (empty_note c.args.stamp)) (NoteTold (empty_note c.args.stamp)) (note_stays (has c.args.targets) (empty_note c.args.stamp)) c.args.buf.number c.args.patience.now.left c.loop-disk.patience.left old now c.loop-disk.failed c.loop-disk.buf c.loop-disk.disk c.loop-disk.invariant c.write_sector.new.patience.left new (λ (written : Disks). Unit {0}) target alone moved.Stuck part;
+    }
 
 pub loop-disk-preserved : goal.loop-disk-preserved
 loop-disk-preserved g c =
@@ -149,6 +65,8 @@ loop-disk-preserved g c =
           v.with-failed.ensures)
     ]
 
-pub returns-clause-each : goal.returns-clause-each
-returns-clause-each g c =
-    all_tried (has c.args.targets) (IsOfNote (has c.args.targets) (empty_note c.args.stamp)) (NoteTold (empty_note c.args.stamp)) c.args.buf.number c.args.patience.now.left c.loop-disk.patience.left (g.S.Shelf.device c.args.shelf.now) (g.S.Shelf.device c.loop-disk.shelf) c.loop-disk.failed c.loop-disk.buf c.loop-disk.disk c.loop-disk.invariant c.requires.targets (omega arith)
+pub returns : goal.returns
+returns g c = record {
+  ends = tried_ends (has c.args.targets) (IsOfNote (has c.args.targets) (empty_note c.args.stamp)) (NoteTold (empty_note c.args.stamp)) (λ (written : Disks). Unit {0}) c.args.buf.number c.args.patience.now.left c.loop-disk.patience.left (g.S.Shelf.device c.args.shelf.now) (g.S.Shelf.device c.loop-disk.shelf) c.loop-disk.failed c.loop-disk.buf c.loop-disk.disk c.loop-disk.invariant c.requires.targets (omega arith) tt;
+  leaves = c.loop-disk.invariant.leaves;
+}

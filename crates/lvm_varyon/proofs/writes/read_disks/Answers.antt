@@ -3,3 +3,35 @@ use Rattle.lvm_varyon.proofs.writes.read_disks.Goals as goal
 
 pub returns-in_default-clause-moments : goal.returns-in_default-clause-moments
 returns-in_default-clause-moments g c = Here (λ image may. may)
+
+pub returns-in-Ended : goal.returns-in-Ended
+returns-in-Ended g c =
+    let e = c.in-Ended.ensures in
+    record {
+      gives = record { rows = e.rows; all = e.ends.1.all; valid = e.valid; each = e.ends.1.each; unwritten = e.only.unwritten; rested = e.ends.0 };
+      unwritten = e.only.unwritten;
+      patience = e.only.falls;
+      waited = e.only.waited;
+      moments = e.only.moments;
+    }
+
+pub returns-in-Dark : goal.returns-in-Dark
+returns-in-Dark g c =
+    let e = c.in-Dark.ensures in
+    record { gives = (e.only.unwritten, e.ends); unwritten = e.only.unwritten; patience = e.only.falls; waited = e.only.waited; moments = e.only.moments }
+
+pub returns-in-Stuck : goal.returns-in-Stuck
+returns-in-Stuck g c =
+    let e = c.in-Stuck.ensures in
+    record {
+      gives = (e.only.unwritten, record { flight = e.ends.flight; out = e.ends.out; freed = e.ends.freed; power = e.ends.power; cuts = e.ends.cuts; waited = e.ends.waited });
+      unwritten = e.only.unwritten;
+      patience = e.only.falls;
+      waited = e.only.waited;
+      moments = e.only.moments;
+    }
+
+pub returns : goal.returns
+returns g c =
+    let e = c.in-Memory.ensures in
+    record { gives = (e.only.unwritten, e.ends.0); unwritten = e.only.unwritten; patience = e.only.falls; waited = e.only.waited; moments = e.only.moments }

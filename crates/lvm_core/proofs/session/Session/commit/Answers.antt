@@ -5,12 +5,12 @@ use Rattle.lvm_num.specs.DescriptorBytes.{descriptor_bytes, descriptor_of}
 use Rattle.lvm_num.specs.Record.{longest_content}
 use Rattle.lvm_disk.specs.Device.{Device}
 use Rattle.lvm_vgda.proofs.Whole.{spelled_is_read}
-use Rattle.lvm_commit.specs.Settling.{MaySettle, MarksLeft}
+use Rattle.lvm_commit.specs.Settling.{MaySettle, IsOfCommit, CommitLeaves}
 use Rattle.lvm_core.proofs.Committing.{may_next}
 use Rattle.lvm_core.specs.declared.session.Session.{Session}
 use Rattle.lvm_core.specs.State.{state}
 use Rattle.lvm_core.specs.Fields.{core_of}
-use Rattle.lvm_core.proofs.Ends.{numbered, is_out, core_ends_well, core_ends_badly, status_ends, commits_descriptor}
+use Rattle.lvm_core.proofs.Ends.{descriptor_numbered, is_out, core_ends_well, core_ends_badly, status_ends, commits_descriptor}
 use Rattle.lvm_core.proofs.Sizes.{descriptor_fits}
 use Rattle.lvm_core.proofs.session.Session.commit.Goals as goal
 
@@ -34,7 +34,8 @@ pub go_on-requires-clause-out : goal.go_on-requires-clause-out
 go_on-requires-clause-out g c =
     let how = c.commit_descriptor-settled.result in
     is_out how c.args.self.now.pool c.take_buffer-buf.new.self.pool (ap (λ (s : Session). s.pool) c.take_buffer-buf.ensures.taken) c.requires.fitting.a_buffer
-    (numbered how c.take_buffer-buf.result.number c.take_buffer-buf.ensures.number c.commit_descriptor-settled.ensures.buffer)
+    (descriptor_numbered c.as_slice.result.now c.take_buffer-buf.result.number c.args.patience.now.left c.take_buffer-buf.new.self.updater c.commit_descriptor-settled.new.updater c.take_buffer-buf.new.self.homes c.commit_descriptor-settled.new.homes (g.S.Shelf.device c.args.shelf.now) (g.S.Shelf.device c.commit_descriptor-settled.new.shelf) how
+    c.take_buffer-buf.ensures.number c.commit_descriptor-settled.ensures.ends)
 
 pub returns-in-Ok-clause-does : goal.returns-in-Ok-clause-does
 returns-in-Ok-clause-does g c =
@@ -46,29 +47,18 @@ returns-in-Ok-clause-does g c =
     let mid = core_of (record taken { updater = wrote.new.updater; homes = wrote.new.homes }) in
     let left = core_of c.go_on.new.self in
     let mid_is = ap (λ (s : Session). core_of (record s { updater = wrote.new.updater; homes = wrote.new.homes })) c.take_buffer-buf.ensures.taken in
-    let number = numbered how c.take_buffer-buf.result.number c.take_buffer-buf.ensures.number wrote.ensures.buffer in
+    let before = g.S.Shelf.device c.args.shelf.now in
+    let after = g.S.Shelf.device wrote.new.shelf in
+    let content = c.as_slice.result.now in
+    let number = descriptor_numbered content c.take_buffer-buf.result.number c.args.patience.now.left taken.updater wrote.new.updater taken.homes wrote.new.homes before after how c.take_buffer-buf.ensures.number wrote.ensures.ends in
     let same = status_ends mid left how _ c.in-Ok.ensures.ends in
     commits_descriptor c.args.next c.as_slice.result.now taken.updater wrote.new.updater taken.homes wrote.new.homes c.take_buffer-buf.result.number c.args.patience.now.left wrote.new.patience.left
     (state (g.S.Shelf.device c.args.shelf.now) (core_of self)) (state (g.S.Shelf.device wrote.new.shelf) (record left { descriptor = next })) how _
     c.into_parts-descriptor.ensures.valid (c.as_slice.ensures ∙ c.into_parts-descriptor.ensures.bytes) (ap (λ (s : Session). s.updater) c.take_buffer-buf.ensures.taken) (ap (λ (s : Session). s.homes) c.take_buffer-buf.ensures.taken) c.take_buffer-buf.ensures.number same.0 same.1
     (record {
-      promises = record {
-        done = wrote.ensures.done;
-        off = wrote.ensures.off;
-        ready = wrote.ensures.ready;
-        well = wrote.ensures.well;
-        dark = wrote.ensures.dark;
-        stuck = wrote.ensures.stuck;
-        loses = wrote.ensures.marks;
-        spent = wrote.ensures.spent;
-        numbers = wrote.ensures.numbers;
-        spends = record { falls = wrote.ensures.patience; waits = wrote.ensures.waited };
-        keeps = wrote.ensures.keeps;
-      };
-      held = wrote.ensures.held;
-      plain = wrote.ensures.plain;
+      ends = wrote.ensures.ends;
+      leaves = subst (λ (d : Descriptor). CommitLeaves d (IsOfCommit content taken.updater wrote.new.updater) c.args.patience.now.left wrote.new.patience.left taken.updater wrote.new.updater before after) c.into_parts-descriptor.ensures.descriptor wrote.ensures.leaves;
       finds = wrote.ensures.finds;
-      left = subst (λ (d : Descriptor). MarksLeft d taken.updater wrote.new.updater) c.into_parts-descriptor.ensures.descriptor wrote.ensures.left;
       kept = wrote.ensures.kept;
     })
     (subst (λ d. Rattle.lvm_core.specs.Steps.CoreEnds d (core_of self) (record left { descriptor = next }) how (Rattle.std.specs.Prelude.Ok tt)) c.into_parts-descriptor.ensures.descriptor
@@ -83,29 +73,18 @@ returns-in-Err-clause-does g c =
     let mid = core_of (record taken { updater = wrote.new.updater; homes = wrote.new.homes }) in
     let left = core_of c.go_on.new.self in
     let mid_is = ap (λ (s : Session). core_of (record s { updater = wrote.new.updater; homes = wrote.new.homes })) c.take_buffer-buf.ensures.taken in
-    let number = numbered how c.take_buffer-buf.result.number c.take_buffer-buf.ensures.number wrote.ensures.buffer in
+    let before = g.S.Shelf.device c.args.shelf.now in
+    let after = g.S.Shelf.device wrote.new.shelf in
+    let content = c.as_slice.result.now in
+    let number = descriptor_numbered content c.take_buffer-buf.result.number c.args.patience.now.left taken.updater wrote.new.updater taken.homes wrote.new.homes before after how c.take_buffer-buf.ensures.number wrote.ensures.ends in
     let same = status_ends mid left how _ c.in-Err.ensures.ends in
     commits_descriptor c.args.next c.as_slice.result.now taken.updater wrote.new.updater taken.homes wrote.new.homes c.take_buffer-buf.result.number c.args.patience.now.left wrote.new.patience.left
     (state (g.S.Shelf.device c.args.shelf.now) (core_of self)) (state (g.S.Shelf.device wrote.new.shelf) left) how _
     c.into_parts-descriptor.ensures.valid (c.as_slice.ensures ∙ c.into_parts-descriptor.ensures.bytes) (ap (λ (s : Session). s.updater) c.take_buffer-buf.ensures.taken) (ap (λ (s : Session). s.homes) c.take_buffer-buf.ensures.taken) c.take_buffer-buf.ensures.number same.0 same.1
     (record {
-      promises = record {
-        done = wrote.ensures.done;
-        off = wrote.ensures.off;
-        ready = wrote.ensures.ready;
-        well = wrote.ensures.well;
-        dark = wrote.ensures.dark;
-        stuck = wrote.ensures.stuck;
-        loses = wrote.ensures.marks;
-        spent = wrote.ensures.spent;
-        numbers = wrote.ensures.numbers;
-        spends = record { falls = wrote.ensures.patience; waits = wrote.ensures.waited };
-        keeps = wrote.ensures.keeps;
-      };
-      held = wrote.ensures.held;
-      plain = wrote.ensures.plain;
+      ends = wrote.ensures.ends;
+      leaves = subst (λ (d : Descriptor). CommitLeaves d (IsOfCommit content taken.updater wrote.new.updater) c.args.patience.now.left wrote.new.patience.left taken.updater wrote.new.updater before after) c.into_parts-descriptor.ensures.descriptor wrote.ensures.leaves;
       finds = wrote.ensures.finds;
-      left = subst (λ (d : Descriptor). MarksLeft d taken.updater wrote.new.updater) c.into_parts-descriptor.ensures.descriptor wrote.ensures.left;
       kept = wrote.ensures.kept;
     })
     (core_ends_badly (core_of self) mid left mid_is c.requires.buffers c.args.next c.in-Err.fault how number c.in-Err.ensures.ends)

@@ -1,11 +1,11 @@
 use Rattle.std.proofs.Common.{sym, ◌∙◌, ap, subst}
 use Rattle.lvm_status.specs.Update.{Stored}
-use Rattle.lvm_commit.specs.Settling.{MaySettle, MarksLeft, StatusStaysKept}
+use Rattle.lvm_commit.specs.Settling.{MaySettle, IsOfStatus, StatusStaysKept, CommitLeaves}
 use Rattle.lvm_core.specs.declared.session.Session.{Session}
 use Rattle.lvm_core.specs.State.{state}
 use Rattle.lvm_core.specs.Fields.{core_of}
 use Rattle.lvm_core.specs.Steps.{IsMarked}
-use Rattle.lvm_core.proofs.Ends.{numbered, is_out, core_ends, status_ends, commits_marks, at_once}
+use Rattle.lvm_core.proofs.Ends.{status_numbered, is_out, core_ends, status_ends, commits_marks, at_once}
 use Rattle.lvm_core.proofs.Marking.{may_settle}
 use Rattle.lvm_core.proofs.session.Session.set_status.Goals as goal
 
@@ -18,7 +18,8 @@ pub go_on-requires-clause-out : goal.go_on-requires-clause-out
 go_on-requires-clause-out g c =
     let how = c.commit_status-settled.result in
     is_out how c.args.self.now.pool c.take_buffer-buf.new.self.pool (ap (λ (s : Session). s.pool) c.take_buffer-buf.ensures.taken) c.requires.fitting.a_buffer
-    (numbered how c.take_buffer-buf.result.number c.take_buffer-buf.ensures.number c.commit_status-settled.ensures.buffer)
+    (status_numbered c.take_buffer-buf.result.number c.args.patience.now.left c.take_buffer-buf.new.self.updater c.commit_status-settled.new.updater c.take_buffer-buf.new.self.homes c.commit_status-settled.new.homes (g.S.Shelf.device c.args.shelf.now) (g.S.Shelf.device c.commit_status-settled.new.shelf) how
+    c.take_buffer-buf.ensures.number c.commit_status-settled.ensures.ends)
 
 pub returns-clause-does : goal.returns-clause-does
 returns-clause-does g c =
@@ -29,7 +30,9 @@ returns-clause-does g c =
     let mid = core_of (record taken { updater = wrote.new.updater; homes = wrote.new.homes }) in
     let left = core_of c.go_on.new.self in
     let mid_is = ap (λ (s : Session). core_of (record s { updater = wrote.new.updater; homes = wrote.new.homes })) c.take_buffer-buf.ensures.taken in
-    let number = numbered how c.take_buffer-buf.result.number c.take_buffer-buf.ensures.number wrote.ensures.buffer in
+    let before = g.S.Shelf.device c.args.shelf.now in
+    let after = g.S.Shelf.device wrote.new.shelf in
+    let number = status_numbered c.take_buffer-buf.result.number c.args.patience.now.left taken.updater wrote.new.updater taken.homes wrote.new.homes before after how c.take_buffer-buf.ensures.number wrote.ensures.ends in
     let ends = c.go_on.ensures.ends in
     let same = status_ends mid left how c.go_on.result ends in
     commits_marks c.args.stale.now c.args.fresh.now taken.updater wrote.new.updater taken.homes wrote.new.homes c.take_buffer-buf.result.number c.args.patience.now.left wrote.new.patience.left
@@ -37,22 +40,9 @@ returns-clause-does g c =
     (subst (λ (u : Stored). IsMarked c.args.stale.now c.args.fresh.now self.updater u) (sym (ap (λ (s : Session). s.updater) c.take_buffer-buf.ensures.taken)) c.mark.ensures)
     (ap (λ (s : Session). s.homes) c.take_buffer-buf.ensures.taken) c.take_buffer-buf.ensures.number same.0 same.1
     (record {
-      promises = record {
-        done = wrote.ensures.done;
-        off = wrote.ensures.off;
-        ready = wrote.ensures.ready;
-        well = wrote.ensures.well;
-        dark = wrote.ensures.dark;
-        stuck = wrote.ensures.stuck;
-        loses = wrote.ensures.marks;
-        spent = wrote.ensures.spent;
-        numbers = wrote.ensures.numbers;
-        spends = record { falls = wrote.ensures.patience; waits = wrote.ensures.waited };
-        keeps = wrote.ensures.keeps;
-      };
-      held = wrote.ensures.held;
+      ends = wrote.ensures.ends;
+      leaves = subst (λ (s : Session). CommitLeaves s.descriptor (IsOfStatus taken.updater wrote.new.updater) c.args.patience.now.left wrote.new.patience.left taken.updater wrote.new.updater before after) c.take_buffer-buf.ensures.taken wrote.ensures.leaves;
       finds = wrote.ensures.finds;
-      left = subst (λ (s : Session). MarksLeft s.descriptor taken.updater wrote.new.updater) c.take_buffer-buf.ensures.taken wrote.ensures.left;
       kept = subst (λ (s : Session). StatusStaysKept s.descriptor taken.updater taken.homes (g.S.Shelf.device c.args.shelf.now) (g.S.Shelf.device wrote.new.shelf)) c.take_buffer-buf.ensures.taken wrote.ensures.kept;
     })
     (core_ends (core_of self) mid left mid_is c.requires.buffers how c.go_on.result number ends)

@@ -1,0 +1,57 @@
+//! The first transfer that may be started.
+ghost use Rattle.std.specs.Prelude.{◌≡◌};
+ghost use Rattle.lvm_session.specs.Fields.{core_of};
+ghost use Rattle.lvm_session.specs.Rooms.{HasRooms};
+ghost use Rattle.lvm_session.specs.Enabled.{first_of, parts_to_start};
+ghost use Rattle.lvm_sound.specs.Sound.{IsGoing};
+ghost use Rattle.lvm_enabled.specs.Plain.{data_or_copy, first_started};
+
+use crate::source::copy_read;
+use crate::status::status_start;
+use lvm_firsts::{copy_write, first_data, first_note, has_buffer};
+use lvm_session::{Event, Session};
+
+// Where a buffer is there: a write of the status, a note, a transfer of a request, or one of the copy.
+fn first_with_buffer(session: &Session) -> Option<Event>
+    requires { IsGoing (core_of session.now) }
+    ensures { result ≡ first_started (core_of session.now) }
+{
+    let status = status_start(session);
+    if status.is_some() {
+        return status;
+    }
+    let note = first_note(session);
+    if note.is_some() {
+        return note;
+    }
+    first_of_data(session)
+}
+
+fn first_of_data(session: &Session) -> Option<Event>
+    requires { IsGoing (core_of session.now) }
+    ensures { result ≡ data_or_copy (core_of session.now) }
+{
+    let data = first_data(session);
+    if data.is_some() {
+        return data;
+    }
+    let read = copy_read(session);
+    if read.is_some() {
+        return read;
+    }
+    copy_write(session)
+}
+
+/// The first transfer that may be started: a write of the status, a note, a transfer of a request, a read of the
+/// copy that is open, or its write, which alone needs no buffer of the pool.
+pub fn first_start(session: &Session) -> Option<Event>
+    requires going { IsGoing (core_of session.now) }
+    requires rooms { HasRooms session.now }
+    ensures { result ≡ first_of parts_to_start (core_of session.now) }
+{
+    if has_buffer(session) {
+        first_with_buffer(session)
+    } else {
+        copy_write(session)
+    }
+}

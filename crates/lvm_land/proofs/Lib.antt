@@ -1,0 +1,3 @@
+mod Fronts
+mod Outcomes
+mod Landing
