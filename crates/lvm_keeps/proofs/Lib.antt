@@ -7,6 +7,7 @@ mod Telling
 mod Tables
 mod Rows
 pub mod Pin
+pub mod PinFalls
 pub mod Close
 pub mod Take
 pub mod Landing

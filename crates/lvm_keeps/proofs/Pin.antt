@@ -49,28 +49,28 @@ module _ (s : State) (sound : IsSound s) (on : s.core.power ≡ power.On) (place
   abbrev group : ℕ
   group = group_of o.request.ask
 
-  abbrev pinned : Open
+  abbrev pub pinned : Open
   pinned = record o { request = with_pin o.request }
 
-  abbrev now : State
+  abbrev pub now : State
   now = moved s core.history (slice_set core.requests place pinned) core.queue core.copy core.pool core.flying (with_entry core.cache.entries lv group) core.last
 
   going : IsGoing core
   going = (sound.on on).going
 
-  its : IsOpenOne core o
+  pub its : IsOpenOne core o
   its = all_at (IsOpenOne core) core.requests place o going.requests there
 
   may_both : (is_pin (Rattle.lvm_session.specs.Judging.next_for core o) ≡ true) × (can_pin core.cache o.request.ask ≡ true)
   may_both = both (is_pin (Rattle.lvm_session.specs.Judging.next_for core o)) (can_pin core.cache o.request.ask) may
 
-  entry : o.request.phase ≡ phase.WantEntry
+  pub entry : o.request.phase ≡ phase.WantEntry
   entry = pins_entry o.request.phase (facts_of core o.request) o.request may_both.0
 
   not_full : are_all_pinned core.cache.entries lv group ≡ false
   not_full = is_false (are_all_pinned core.cache.entries lv group) may_both.1
 
-  waits : is_waiting o ≡ true
+  pub waits : is_waiting o ≡ true
   waits = by (is_waiting o) refl
     where
       by : (b : Bool) → is_waiting o ≡ b → b ≡ true
@@ -80,7 +80,7 @@ module _ (s : State) (sound : IsSound s) (on : s.core.power ≡ power.On) (place
   request : IsRequest core o
   request = its.waits waits
 
-  shape : IsPhase phase.WantEntry o
+  pub shape : IsPhase phase.WantEntry o
   shape = subst (λ p. IsPhase p o) entry request.shape.phase_is
 
   -- ---- its pin
@@ -103,7 +103,7 @@ module _ (s : State) (sound : IsSound s) (on : s.core.power ≡ power.On) (place
           let most = sound.fitting.most in
           omega (arith, same, few, table, most)
 
-  full_is : after_pin core.cache lv group ≡ record core.cache { entries = with_entry core.cache.entries lv group }
+  pub full_is : after_pin core.cache lv group ≡ record core.cache { entries = with_entry core.cache.entries lv group }
   full_is = ap (λ b. if b then core.cache else record core.cache { entries = with_entry core.cache.entries lv group }) not_full
 
   entries : AreEntries now.core.cache.entries

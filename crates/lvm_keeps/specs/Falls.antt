@@ -11,6 +11,7 @@ use Rattle.lvm_session.specs.Judging.{is_running, is_waiting}
 use Rattle.lvm_session.specs.Bringing.{groups_of}
 use Rattle.lvm_session.specs.Enabled.{first_event, is_lost}
 use Rattle.lvm_events.specs.Ends.{Ends}
+use Rattle.lvm_events.specs.Events.{Pins}
 use Rattle.lvm_events.specs.Turns.{Makes}
 use Rattle.lvm_sound.specs.Left.{left_of}
 use Rattle.lvm_sound.specs.Sound.{IsSound}
@@ -36,3 +37,7 @@ LeftIsBounded = (s : State) → IsSound s → left_of s.core ≤ most_left s.cor
 abbrev pub NeverStandsStill : Type 0
 NeverStandsStill = (s : State) → IsSound s → s.core.power ≡ power.On → is_lost s.core ≡ false → first_event s.core ≡ None → s.device.flights ≡ []
     → (list_any is_waiting s.core.requests ≡ false) × IfSome s.core.copy (λ (c : OpenCopy). is_running c ≡ false)
+
+-- So does a pin.
+abbrev pub PinFalls : Type 0
+PinFalls = (place : ℕ) (old new : State) → IsSound old → old.core.power ≡ power.On → is_lost old.core ≡ false → Pins old new place → left_of new.core < left_of old.core

@@ -1,16 +1,21 @@
 -- Each event of a sound session leaves it sound.
-use Rattle.std.specs.Prelude.{◌≡◌, ◌||◌, true, false, ℕ, Bool, Some, slice_get}
+use Rattle.std.specs.Prelude.{◌≡◌, ◌≤◌, ◌*◌, ◌||◌, true, false, ℕ, Bool, List, length, Option, Some, IfSome, is_some, Result, slice_get}
 use Rattle.lvm_num.specs.declared.place.Pp.{Pp}
 use Rattle.lvm_disk.specs.declared.shelf.Arrange.{Arrange}
 use Rattle.lvm_vol.specs.declared.entry.Outcome.{Outcome}
 use Rattle.lvm_session.specs.declared.open.Power.TheVariants as power
 use Rattle.lvm_session.specs.State.{Core, State, state}
 use Rattle.lvm_events.specs.declared.answers.Taken.{Taken}
-use Rattle.lvm_events.specs.Calls.{Closes, TakeGives}
+use Rattle.lvm_hold.specs.Conflicts.{IsInGroup}
+use Rattle.lvm_path.specs.declared.ask.Ask.{Ask}
+use Rattle.lvm_session.specs.Judging.{held_of}
+use Rattle.lvm_events.specs.declared.answers.AskFault.{AskFault}
+use Rattle.lvm_events.specs.declared.answers.CopyFault.{CopyFault}
+use Rattle.lvm_events.specs.Calls.{Closes, OpenGives, SubmitGives, TakeGives}
 use Rattle.lvm_events.specs.Ends.{Ends}
 use Rattle.lvm_events.specs.Events.{Admits, Lands, Pins, ReadsCopy, StartsData, StartsNote, StartsStatus, WritesCopy}
 use Rattle.lvm_events.specs.Turns.{Arranges, Darkens, Finds, GoesOff}
-use Rattle.lvm_path.specs.Asks.{is_write}
+use Rattle.lvm_path.specs.Asks.{count_of, is_write}
 use Rattle.lvm_path.specs.Targets.{is_begun}
 use Rattle.lvm_session.specs.declared.open.Open.{Open}
 use Rattle.lvm_session.specs.Judging.{copies_for, pps_of}
@@ -70,6 +75,20 @@ OffKeeps = Keeps GoesOff
 -- a session of which the power isn't stuck
 abbrev pub IsAwake : Core → Type 0
 IsAwake core = core.power ≡ power.Stuck → ⊥
+
+-- what a client may ask for: some blocks of one track group, with the data of a write
+pub record MaySubmit (client : ℕ) (ask : Ask) (bytes : Option (List ℕ)) : Type 0 where
+  pub someone : 1 ≤ client
+  pub blocks : IsInGroup (held_of ask)
+  pub written : is_some bytes ≡ is_write ask
+  pub long : IfSome bytes (λ (given : List ℕ). length given ≡ 512 * count_of ask)
+
+abbrev pub SubmitKeeps : Type 0
+SubmitKeeps = (s : State) (new : Core) (client : ℕ) (ask : Ask) (bytes : Option (List ℕ)) (answer : Result ℕ AskFault) → IsSound s → IsAwake s.core → MaySubmit client ask bytes
+    → SubmitGives s.core new client ask bytes answer → IsSound (state s.device new)
+
+abbrev pub OpenKeeps : Type 0
+OpenKeeps = (s : State) (new : Core) (lv lp number : ℕ) (answer : Result (Unit {0}) CopyFault) → IsSound s → IsAwake s.core → OpenGives s.device.counts s.core new lv lp number answer → IsSound (state s.device new)
 
 abbrev pub TakeKeeps : Type 0
 TakeKeeps = (s : State) (new : Core) (client id : ℕ) (answer : Taken) → IsSound s → TakeGives s.core new client id answer → IsSound (state s.device new)

@@ -1,5 +1,6 @@
 //! Laws: what each event of a sound session leaves is sound.
 ghost use Rattle.lvm_keeps.specs.Begins.{BeginningIsSound};
+ghost use Rattle.lvm_keeps.specs.Falls.{PinFalls};
 ghost use Rattle.lvm_keeps.specs.Keeps.{CloseKeeps, FirstStartIsWhole, LandingIsCaused, LossIsCaused, PinKeeps, TakeKeeps, WaitKeeps};
 
 /// A session is sound as it begins.
@@ -42,4 +43,9 @@ pub fn loss_is_caused()
 /// copying hasn't passed.
 pub fn first_start_is_whole()
     ensures { FirstStartIsWhole }
+{}
+
+/// A request that pins its track group leaves less work.
+pub fn pin_falls()
+    ensures { PinFalls }
 {}

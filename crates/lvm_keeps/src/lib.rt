@@ -5,5 +5,5 @@ mod laws;
 
 pub use laws::{
     beginning_is_sound, close_keeps, first_start_is_whole, landing_is_caused, loss_is_caused,
-    pin_keeps, take_keeps, wait_keeps,
+    pin_falls, pin_keeps, take_keeps, wait_keeps,
 };
