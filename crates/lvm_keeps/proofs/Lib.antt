@@ -15,3 +15,4 @@ pub mod Losing
 pub mod Starting
 pub mod Wait
 pub mod Begin
+pub mod Bounding

@@ -1,6 +1,6 @@
 //! Laws: what each event of a sound session leaves is sound.
 ghost use Rattle.lvm_keeps.specs.Begins.{BeginningIsSound};
-ghost use Rattle.lvm_keeps.specs.Falls.{PinFalls};
+ghost use Rattle.lvm_keeps.specs.Falls.{LeftIsBounded, PinFalls};
 ghost use Rattle.lvm_keeps.specs.Keeps.{CloseKeeps, FirstStartIsWhole, LandingIsCaused, LossIsCaused, PinKeeps, TakeKeeps, WaitKeeps};
 
 /// A session is sound as it begins.
@@ -48,4 +48,10 @@ pub fn first_start_is_whole()
 /// A request that pins its track group leaves less work.
 pub fn pin_falls()
     ensures { PinFalls }
+{}
+
+/// The work that is left is at most 1,024 for each open request, for each member that isn't missing and for a copy
+/// that is open, 16 for each track group that is left of it, and 1 for each transfer that is out.
+pub fn left_is_bounded()
+    ensures { LeftIsBounded }
 {}
