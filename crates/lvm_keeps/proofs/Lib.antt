@@ -16,3 +16,4 @@ pub mod Starting
 pub mod Wait
 pub mod Begin
 pub mod Bounding
+pub mod LandingFalls

@@ -11,7 +11,8 @@ use Rattle.lvm_session.specs.Judging.{is_running, is_waiting}
 use Rattle.lvm_session.specs.Bringing.{groups_of}
 use Rattle.lvm_session.specs.Enabled.{first_event, is_lost}
 use Rattle.lvm_events.specs.Ends.{Ends}
-use Rattle.lvm_events.specs.Events.{Pins}
+use Rattle.lvm_vol.specs.declared.entry.Outcome.{Outcome}
+use Rattle.lvm_events.specs.Events.{Lands, Pins}
 use Rattle.lvm_events.specs.Turns.{Makes}
 use Rattle.lvm_sound.specs.Left.{left_of}
 use Rattle.lvm_sound.specs.Sound.{IsSound}
@@ -41,3 +42,7 @@ NeverStandsStill = (s : State) → IsSound s → s.core.power ≡ power.On → i
 -- So does a pin.
 abbrev pub PinFalls : Type 0
 PinFalls = (place : ℕ) (old new : State) → IsSound old → old.core.power ≡ power.On → is_lost old.core ≡ false → Pins old new place → left_of new.core < left_of old.core
+
+-- And so does a landing.
+abbrev pub LandingFalls : Type 0
+LandingFalls = (place : ℕ) (how : Outcome) (old new : State) → IsSound old → old.core.power ≡ power.On → Lands old new place how → left_of new.core < left_of old.core

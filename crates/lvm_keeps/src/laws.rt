@@ -1,6 +1,6 @@
 //! Laws: what each event of a sound session leaves is sound.
 ghost use Rattle.lvm_keeps.specs.Begins.{BeginningIsSound};
-ghost use Rattle.lvm_keeps.specs.Falls.{LeftIsBounded, PinFalls};
+ghost use Rattle.lvm_keeps.specs.Falls.{LandingFalls, LeftIsBounded, PinFalls};
 ghost use Rattle.lvm_keeps.specs.Keeps.{CloseKeeps, FirstStartIsWhole, LandingIsCaused, LossIsCaused, PinKeeps, TakeKeeps, WaitKeeps};
 
 /// A session is sound as it begins.
@@ -54,4 +54,9 @@ pub fn pin_falls()
 /// that is open, 16 for each track group that is left of it, and 1 for each transfer that is out.
 pub fn left_is_bounded()
     ensures { LeftIsBounded }
+{}
+
+/// A request that lands leaves less work.
+pub fn landing_falls()
+    ensures { LandingFalls }
 {}
