@@ -1,7 +1,7 @@
 -- How much work is left at most.
-use Rattle.std.proofs.Common.{◌≡◌, ◌≤◌, ◌+◌, ◌-◌, ◌*◌, ◌&&◌, ℕ, zero, suc, Bool, true, false, not, nat_lt, if◌then◌else◌, List, [], ◌∷◌, take, Option, Some, None, length, refl, sym, ◌∙◌, ap, subst, arith}
-use Rattle.std.specs.Prelude.{IfSome, count_by}
-use Rattle.std.specs.List.{list_any, sum_by, AllByRecursion}
+use Rattle.std.proofs.Common.{◌≡◌, ◌==◌, ◌≤◌, ◌+◌, ◌-◌, ◌*◌, ◌&&◌, ℕ, zero, suc, Bool, true, false, not, nat_lt, if◌then◌else◌, List, [], ◌∷◌, take, Option, Some, None, length, refl, sym, ◌∙◌, ap, subst, arith}
+use Rattle.std.specs.Prelude.{count_by, drop}
+use Rattle.std.specs.List.{sum_by, AllByRecursion}
 use Rattle.std.specs.Option.{option_map_or}
 use Rattle.std.proofs.lemmas.List.Sums.{sum_by-cons, count_by-le-length, sum_by-le-sum_by}
 use Rattle.lvm_num.specs.declared.place.Pp.{Pp}
@@ -73,10 +73,10 @@ take_few (suc n) (x ∷ xs) = let rest = take_few n xs in omega (arith, rest)
 few_copies : (core : Core) (r : Request) → IsValid core.descriptor → IsLaid core r → length (copies_for core r.ask) ≤ 3
 few_copies core r valid laid =
     let row = laid.within.row in
-    let found = find-Some (λ (x : LvRow). Rattle.std.specs.Prelude.◌==◌ x.number (lv_of r.ask)) core.descriptor.lvs row laid.within.volume in
+    let found = find-Some (λ (x : LvRow). x.number == lv_of r.ask) core.descriptor.lvs row laid.within.volume in
     let volume : IsVolume core.descriptor.big row = subst (IsVolume core.descriptor.big) (found.1.2 row) (valid.volumes.each found.1.0 row found.1.1) in
     let copies : row.copies ≤ 3 = volume.copies in
-    let few = take_few row.copies (Rattle.std.specs.Prelude.drop (lp_of core r.ask * row.copies) row.map) in
+    let few = take_few row.copies (drop (lp_of core r.ask * row.copies) row.map) in
     let same : length (copies_for core r.ask) ≡ length (copies_of row (lp_of core r.ask)) = ap (λ m. length (option_map_or (λ (x : LvRow). copies_of x (lp_of core r.ask)) m [])) laid.within.volume in
     omega (arith, copies, few, same)
 

@@ -26,7 +26,7 @@ use Rattle.lvm_session.specs.Enabled.{is_lost}
 use Rattle.lvm_events.specs.Events.{after_landing, landed_as, without_pin}
 use Rattle.lvm_sound.specs.Left.{begun_left, copy_left, if_so, is_held, lacks_dirty, left_by, left_of, phase_left, read_left, request_left, status_left, turns_of, unbegun_left, update_work, waiting_targets, work_left, write_left}
 use Rattle.lvm_sound.specs.Requests.{IsOpenOne}
-use Rattle.lvm_sound.specs.Sound.{IsSound}
+use Rattle.lvm_sound.specs.Sound.{count_if}
 use Rattle.lvm_keeps.specs.Falls.{LandingFalls}
 use Rattle.lvm_keeps.proofs.Lists.{all_at, count_set}
 use Rattle.lvm_keeps.proofs.PinFalls.{sum_less}
@@ -101,7 +101,7 @@ module _ (core : Core) (place : ℕ) (o : Open) (how : Outcome) (on : core.power
   fewer_wait : count_by is_waiting after.requests < count_by is_waiting core.requests
   fewer_wait =
       let all = count_set is_waiting core.requests place o (landed_as how o) there in
-      let one : Rattle.lvm_sound.specs.Sound.count_if (is_waiting o) ≡ 1 = ap Rattle.lvm_sound.specs.Sound.count_if waits in
+      let one : count_if (is_waiting o) ≡ 1 = ap count_if waits in
       omega (arith, all, one)
 
   falls_so : (b : Bool) → is_lost core ≡ b → left_of after < left_of core

@@ -84,11 +84,12 @@ pub record MaySubmit (client : ℕ) (ask : Ask) (bytes : Option (List ℕ)) : Ty
   pub long : IfSome bytes (λ (given : List ℕ). length given ≡ 512 * count_of ask)
 
 abbrev pub SubmitKeeps : Type 0
-SubmitKeeps = (s : State) (new : Core) (client : ℕ) (ask : Ask) (bytes : Option (List ℕ)) (answer : Result ℕ AskFault) → IsSound s → IsAwake s.core → MaySubmit client ask bytes
-    → SubmitGives s.core new client ask bytes answer → IsSound (state s.device new)
+SubmitKeeps = (s : State) (new : Core) (client : ℕ) (ask : Ask) (bytes : Option (List ℕ)) (answer : Result ℕ AskFault)
+    → IsSound s → IsAwake s.core → MaySubmit client ask bytes → SubmitGives s.core new client ask bytes answer → IsSound (state s.device new)
 
 abbrev pub OpenKeeps : Type 0
-OpenKeeps = (s : State) (new : Core) (lv lp number : ℕ) (answer : Result (Unit {0}) CopyFault) → IsSound s → IsAwake s.core → OpenGives s.device.counts s.core new lv lp number answer → IsSound (state s.device new)
+OpenKeeps = (s : State) (new : Core) (lv lp number : ℕ) (answer : Result (Unit {0}) CopyFault)
+    → IsSound s → IsAwake s.core → OpenGives s.device.counts s.core new lv lp number answer → IsSound (state s.device new)
 
 abbrev pub TakeKeeps : Type 0
 TakeKeeps = (s : State) (new : Core) (client id : ℕ) (answer : Taken) → IsSound s → TakeGives s.core new client id answer → IsSound (state s.device new)
@@ -103,7 +104,8 @@ OrderKeeps = (old new : State) (what : Arrange) (done : Bool) → IsSound old �
 
 -- What a request lands as is due to faults since, as its outcome says.
 abbrev pub LandingIsCaused : Type 0
-LandingIsCaused = (place : ℕ) (how : Outcome) (old new : State) → IsSound old → old.core.power ≡ power.On → (event : Lands old new place how) → IsLandedFor old event.request how
+LandingIsCaused = (place : ℕ) (how : Outcome) (old new : State) → IsSound old → old.core.power ≡ power.On → (event : Lands old new place how)
+    → IsLandedFor old event.request how
 
 -- The votes are lost only where some disk has failed since the session began.
 abbrev pub LossIsCaused : Type 0
@@ -113,5 +115,6 @@ LossIsCaused = (s : State) → IsSound s → is_lost s.core ≡ true → AnyFail
 
 -- A write that starts its first transfer goes to each copy that isn't left out: which is stale, and which the copying hasn't passed.
 abbrev pub FirstStartIsWhole : Type 0
-FirstStartIsWhole = (s : State) (place target : ℕ) (o : Open) → IsSound s → s.core.power ≡ power.On → slice_get s.core.requests place ≡ Some o → target_due s.core o ≡ Some target → is_write o.request.ask ≡ true
-    → is_begun o.request.targets.items ≡ false → (p : Pp) → is_among (copies_for s.core o.request.ask) p ≡ true → is_among (pps_of o.request.targets.items) p || is_left_out s.core o.request.ask p ≡ true
+FirstStartIsWhole = (s : State) (place target : ℕ) (o : Open) → IsSound s → s.core.power ≡ power.On → slice_get s.core.requests place ≡ Some o
+    → target_due s.core o ≡ Some target → is_write o.request.ask ≡ true → is_begun o.request.targets.items ≡ false
+    → (p : Pp) → is_among (copies_for s.core o.request.ask) p ≡ true → is_among (pps_of o.request.targets.items) p || is_left_out s.core o.request.ask p ≡ true
