@@ -17,3 +17,4 @@ pub mod Wait
 pub mod Begin
 pub mod Bounding
 pub mod LandingFalls
+pub mod Noting

@@ -46,7 +46,7 @@ pub record IsClear (k : Facts) : Type 0 where
   pub usable : k.usable ≡ true
   pub changed : k.changed ≡ false
 
-not_starting : {X : Type 0} {target : ℕ} → None ≡ Some target → X
+pub not_starting : {X : Type 0} {target : ℕ} → None ≡ Some target → X
 not_starting e = absurd cc
 
 by_choice : (k : Facts) (on : Next) (target : ℕ) → (k.pending ≡ true → target_next on ≡ None) → target_next (next_chosen k on) ≡ Some target → IsClear k
@@ -58,7 +58,7 @@ by_choice k on target waits starts = by k.pending k.usable k.changed refl refl r
     by false true true p q r e = not_starting e
     by false true false p q r e = record { pending = p; usable = q; changed = r }
 
-starts_clear : (p : Phase) (k : Facts) (r : Request) (target : ℕ) → is_write r.ask ≡ true → is_begun r.targets.items ≡ false → target_next (next_in p k r) ≡ Some target → IsClear k
+pub starts_clear : (p : Phase) (k : Facts) (r : Request) (target : ℕ) → is_write r.ask ≡ true → is_begun r.targets.items ≡ false → target_next (next_in p k r) ≡ Some target → IsClear k
 starts_clear phase.Held k r target write begun starts = not_starting (sym (by (k.blocked || k.pending) k.usable) ∙ starts)
   where
     by : (a b : Bool) → target_next (if a then next.Wait else if b then next.Admit else next.Land outcome.NoFresh) ≡ None

@@ -8,7 +8,6 @@ use Rattle.lvm_session.specs.State.{Core, State, state}
 use Rattle.lvm_events.specs.declared.answers.Taken.{Taken}
 use Rattle.lvm_hold.specs.Conflicts.{IsInGroup}
 use Rattle.lvm_path.specs.declared.ask.Ask.{Ask}
-use Rattle.lvm_session.specs.Judging.{held_of}
 use Rattle.lvm_events.specs.declared.answers.AskFault.{AskFault}
 use Rattle.lvm_events.specs.declared.answers.CopyFault.{CopyFault}
 use Rattle.lvm_events.specs.Calls.{Closes, OpenGives, SubmitGives, TakeGives}
@@ -18,7 +17,7 @@ use Rattle.lvm_events.specs.Turns.{Arranges, Darkens, Finds, GoesOff}
 use Rattle.lvm_path.specs.Asks.{count_of, is_write}
 use Rattle.lvm_path.specs.Targets.{is_begun}
 use Rattle.lvm_session.specs.declared.open.Open.{Open}
-use Rattle.lvm_session.specs.Judging.{copies_for, pps_of}
+use Rattle.lvm_session.specs.Judging.{copies_for, has_dirty_mark, has_names, held_of, mode_of, pps_of}
 use Rattle.lvm_session.specs.Enabled.{is_lost, target_due}
 use Rattle.lvm_events.specs.Marks.{is_among}
 use Rattle.lvm_sound.specs.Requests.{is_left_out}
@@ -118,3 +117,9 @@ abbrev pub FirstStartIsWhole : Type 0
 FirstStartIsWhole = (s : State) (place target : ℕ) (o : Open) → IsSound s → s.core.power ≡ power.On → slice_get s.core.requests place ≡ Some o
     → target_due s.core o ≡ Some target → is_write o.request.ask ≡ true → is_begun o.request.targets.items ≡ false
     → (p : Pp) → is_among (copies_for s.core o.request.ask) p ≡ true → is_among (pps_of o.request.targets.items) p || is_left_out s.core o.request.ask p ≡ true
+
+-- One that starts it at two targets or more has the records that its volume keeps: the notes of all its targets, or a settled dirty mark.
+abbrev pub FirstStartIsNoted : Type 0
+FirstStartIsNoted = (s : State) (place target : ℕ) (o : Open) → IsSound s → s.core.power ≡ power.On → slice_get s.core.requests place ≡ Some o
+    → target_due s.core o ≡ Some target → is_write o.request.ask ≡ true → is_begun o.request.targets.items ≡ false → 2 ≤ length o.request.targets.items
+    → (has_names s.core (mode_of s.core o.request.ask) o.request ≡ true) × (has_dirty_mark s.core (mode_of s.core o.request.ask) o.request ≡ true)

@@ -1,7 +1,7 @@
 //! Laws: what each event of a sound session leaves is sound.
 ghost use Rattle.lvm_keeps.specs.Begins.{BeginningIsSound};
 ghost use Rattle.lvm_keeps.specs.Falls.{LandingFalls, LeftIsBounded, PinFalls};
-ghost use Rattle.lvm_keeps.specs.Keeps.{CloseKeeps, FirstStartIsWhole, LandingIsCaused, LossIsCaused, PinKeeps, TakeKeeps, WaitKeeps};
+ghost use Rattle.lvm_keeps.specs.Keeps.{CloseKeeps, FirstStartIsNoted, FirstStartIsWhole, LandingIsCaused, LossIsCaused, PinKeeps, TakeKeeps, WaitKeeps};
 
 /// A session is sound as it begins.
 pub fn beginning_is_sound()
@@ -59,4 +59,9 @@ pub fn left_is_bounded()
 /// A request that lands leaves less work.
 pub fn landing_falls()
     ensures { LandingFalls }
+{}
+
+/// A write that starts its first transfer at two targets or more has the records that its volume keeps.
+pub fn first_start_is_noted()
+    ensures { FirstStartIsNoted }
 {}
