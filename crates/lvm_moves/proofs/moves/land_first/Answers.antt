@@ -1,0 +1,31 @@
+use Rattle.std.proofs.Common.{◌≡◌, Some, slice_get, refl, sym, ◌∙◌, subst}
+use Rattle.std.proofs.lemmas.Option.{slice_get_within}
+use Rattle.lvm_path.specs.declared.facts.Next.TheVariants as next
+use Rattle.lvm_session.specs.declared.event.Event.TheVariants as event
+use Rattle.lvm_session.specs.declared.open.Open.{Open}
+use Rattle.lvm_session.specs.Fields.{core_of}
+use Rattle.lvm_session.specs.Judging.{next_for}
+use Rattle.lvm_moves.proofs.Found.{due_landing, no_landing}
+use Rattle.lvm_moves.proofs.moves.land_first.Goals as goal
+
+pub land_at-requires-clause-there : goal.land_at-requires-clause-there
+land_at-requires-clause-there c =
+    let core = core_of c.args.session.now in
+    let due = due_landing core c.first_landing.result c.landing_of.result c.first_landing.ensures c.landing_of.ensures.some c.landing_of.ensures.none c.in-Some.place c.in-Some.outcome c.in-Some.is in
+    slice_get_within core.requests c.in-Some.place due.request due.there
+
+pub land_at-requires-clause-lands : goal.land_at-requires-clause-lands
+land_at-requires-clause-lands c o there =
+    let core = core_of c.args.session.now in
+    let due = due_landing core c.first_landing.result c.landing_of.result c.first_landing.ensures c.landing_of.ensures.some c.landing_of.ensures.none c.in-Some.place c.in-Some.outcome c.in-Some.is in
+    let same : due.request ≡ o = cc (there, due.there) in
+    subst (λ (x : Open). next_for core x ≡ next.Land c.in-Some.outcome) same due.lands
+
+pub returns-in-Some-clause-gives : goal.returns-in-Some-clause-gives
+returns-in-Some-clause-gives c device =
+    let core = core_of c.args.session.now in
+    let due = due_landing core c.first_landing.result c.landing_of.result c.first_landing.ensures c.landing_of.ensures.some c.landing_of.ensures.none c.in-Some.place c.in-Some.outcome c.in-Some.is in
+    (event.Land c.in-Some.place c.in-Some.outcome, due.first, c.land_at.ensures.lands device)
+
+pub returns-in-None-clause-gives : goal.returns-in-None-clause-gives
+returns-in-None-clause-gives c device = (no_landing (core_of c.args.session.now) c.first_landing.result c.landing_of.result c.first_landing.ensures c.landing_of.ensures.some c.landing_of.ensures.none c.in-None.is, refl)

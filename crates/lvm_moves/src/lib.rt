@@ -1,0 +1,6 @@
+//! The events of a turn that start no transfer, the first one first.
+#![tactic(auto)]
+
+mod moves;
+
+pub use moves::move_first;
