@@ -13,7 +13,7 @@ use lvm_core::{Closed, Room};
 use lvm_disk::Shelf;
 use lvm_history::History;
 use lvm_io::{Clock, Lines, Sink, Source};
-use lvm_line::Stage;
+use lvm_commands::Stage;
 use lvm_memory::MemShelf;
 use std::alloc::Global;
 
