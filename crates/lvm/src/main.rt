@@ -8,7 +8,7 @@ use lvm_image::ImageSink;
 use lvm_io::{Sink, StdSink, StdSource, SystemClock, write_all};
 use lvm_lane::FileShelf;
 use lvm_num::{Memory, Text};
-use lvm_top::{Job, WordsFault, read_words, run_words};
+use lvm_top::{Job, Status, WordsFault, read_words, run_words};
 use std::alloc::{AllocError, Global};
 use std::fs::{File, OpenOptions};
 use std::io::ErrorKind;
@@ -16,11 +16,6 @@ use std::os::fd::{AsRawFd, IntoRawFd};
 use std::process::ExitCode;
 use std::rt::{Env, Files};
 use std::{env, fs, io};
-
-// The statuses where a standard stream can't be used, and where memory ran out.
-const SINK_FAULT: u8 = 4;
-
-const MEMORY: u8 = 5;
 
 const NULL_DEVICE: &str = "/dev/null";
 
@@ -88,14 +83,14 @@ fn files_for<R: Files<File = File>, E: Sink>(
 }
 
 // Says why the program ends so, where nothing else says it, as far as the sink takes it.
-fn say_why<E: Sink>(err: &mut E, status: u8, image: Option<&str>) {
+fn say_why<E: Sink>(err: &mut E, status: Status, image: Option<&str>) {
     let why = match status {
-        3 => "standard input can't be read",
-        SINK_FAULT => image.unwrap_or("standard output can't be written"),
-        MEMORY => "no memory is left",
-        6 => "the disks don't answer",
-        7 => "the script has more than 16,777,216 bytes",
-        _ => return,
+        Status::Well | Status::Refusals | Status::Usage => return,
+        Status::SourceFault => "standard input can't be read",
+        Status::SinkFault => image.unwrap_or("standard output can't be written"),
+        Status::Memory => "no memory is left",
+        Status::Stuck => "the disks don't answer",
+        Status::TooLong => "the script has more than 16,777,216 bytes",
     };
     for text in ["lvm: ", why, "\n"] {
         if write_all(err, text.as_bytes()).is_err() {
@@ -117,18 +112,18 @@ fn image_fault<R: Files>(images: &ImageSink<'_, R>) -> Option<&'static str> {
 
 fn main(rt: HostRuntime) -> ExitCode {
     if take_standard_descriptors(&rt).is_err() {
-        return ExitCode::from(SINK_FAULT);
+        return ExitCode::from(Status::SinkFault.code());
     }
     let alloc = rt.alloc();
     keep_memory(alloc);
     let mut err = StdSink::new(rt.stderr());
     let Ok(words) = words_of(&rt, alloc) else {
-        say_why(&mut err, MEMORY, None);
-        return ExitCode::from(MEMORY);
+        say_why(&mut err, Status::Memory, None);
+        return ExitCode::from(Status::Memory.code());
     };
     let Ok(files) = files_for(&rt, alloc, words.as_slice(), &mut err) else {
-        say_why(&mut err, MEMORY, None);
-        return ExitCode::from(MEMORY);
+        say_why(&mut err, Status::Memory, None);
+        return ExitCode::from(Status::Memory.code());
     };
     let mut images = ImageSink::new(&rt);
     let mut input = StdSource::new(rt.reader());
@@ -145,11 +140,11 @@ fn main(rt: HostRuntime) -> ExitCode {
         &mut images,
     );
     let settled = images.settle();
-    let status = if ended.status == 0 && settled.is_err() {
-        SINK_FAULT
+    let status = if ended.status == Status::Well && settled.is_err() {
+        Status::SinkFault
     } else {
         ended.status
     };
     say_why(&mut err, status, image_fault(&images));
-    ExitCode::from(status)
+    ExitCode::from(status.code())
 }

@@ -122,7 +122,7 @@ not_free d row lp p valid volume one free =
 unused_at : (d : Descriptor) (pps : List Pp) (p : Pp) → AreUnused d pps → Contains pps p → IsFree d p
 unused_at d pps p unused at = subst (IsFree d) at.2 (unused at.0 p at.1).1
 
-among_at : (pps : List Pp) (p : Pp) → is_among pps p ≡ true → Contains pps p
+pub among_at : (pps : List Pp) (p : Pp) → is_among pps p ≡ true → Contains pps p
 among_at pps p is =
     let found = Any-from_list_any (λ (q : Pp). is_pp p q) pps is in
     subst (Contains pps) (sym (pp_is p found.1 found.4)) (found.0, found.2, found.3)
@@ -132,7 +132,7 @@ any_same : (p q : Pp → Bool) (xs : List Pp) → ((x : Pp) → IsOneOf xs x →
 any_same p q [] same = refl
 any_same p q (x ∷ xs) same = λ i. same x (inl refl) i || any_same p q xs (λ y is. same y (inr is)) i
 
-isnt : (b : Bool) → (b ≡ true → ⊥) → b ≡ false
+pub isnt : (b : Bool) → (b ≡ true → ⊥) → b ≡ false
 isnt true contra = absurd (contra refl)
 isnt false contra = refl
 

@@ -19,3 +19,4 @@ pub mod Ends
 pub mod Marking
 pub mod Settled
 pub mod Held
+pub mod LeavesLemmas

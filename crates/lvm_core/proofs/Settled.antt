@@ -1,6 +1,6 @@
 -- What a session and its shelf are after records were written: it is sound, and goes on as it says.
 use Rattle.std.proofs.Common.{◌≡◌, inr, ℕ, ◌+◌, ◌≤◌, ◌<◌, ◌++◌, Bool, true, false, true≢false, ◌&&◌, not, List, [], refl, sym, ◌∙◌, ap, subst}
-use Rattle.std.specs.Prelude.{IsTrue, IsFalse, Result, Contains, count_by}
+use Rattle.std.specs.Prelude.{IsTrue, IsFalse, IfOk, Result, Contains, count_by}
 use Rattle.lvm_num.specs.declared.descriptor.PvRow.{PvRow}
 use Rattle.lvm_num.specs.declared.descriptor.Descriptor.{Descriptor}
 use Rattle.lvm_num.specs.declared.record.Stamp.{Stamp}
@@ -9,7 +9,7 @@ use Rattle.lvm_num.specs.Buffer.{Sector}
 use Rattle.lvm_num.specs.Descriptor.{IsValid, is_member}
 use Rattle.lvm_num.specs.Status.{calls_missing}
 use Rattle.lvm_num.specs.Votes.{votes_in, is_enough_to_write, CanWrite}
-use Rattle.lvm_disk.specs.Device.{Device, image_of}
+use Rattle.lvm_disk.specs.Device.{Device, IsReady, image_of}
 use Rattle.lvm_disk.specs.Paths.{DeviceStep, Path}
 use Rattle.lvm_vol.specs.Facts.{Fact}
 use Rattle.lvm_vol.specs.Log.{Log}
@@ -25,11 +25,12 @@ use Rattle.lvm_stamps.specs.Laws.{IsOtherOrEarlier}
 use Rattle.lvm_stamps.proofs.Shelves.{earlier_stays_behind}
 use Rattle.lvm_stamps.proofs.Stamps.{session_is_before_later}
 use Rattle.lvm_status.specs.Update.{Stored, members_there}
+use Rattle.lvm_quorum.specs.Written.{IsDarkened, IsGivenUp}
 use Rattle.lvm_quorum.proofs.Writing.{both_map, changes_more}
 use Rattle.lvm_commit.specs.declared.commit.Settled.{Settled}
 use Rattle.lvm_commit.specs.declared.commit.Settled.TheVariants as settled
 use Rattle.lvm_commit.specs.Committed.{IsAlike}
-use Rattle.lvm_commit.specs.Settling.{HasSameRows, IfDone, IfWentOff, IfBack, OnDark, OnStuck, there, many_there, IsOf, IsCommitted, HasLostQuorum, SpendsNumbers, IsOfSession}
+use Rattle.lvm_commit.specs.Settling.{HasSameRows, IfDone, IfWentOff, IfBack, OnDark, OnStuck, there, many_there, IsCommitted, HasLostQuorum, AreWell, SpendsNumbers, IsOfSession}
 use Rattle.lvm_commit.proofs.Wanting.{row_stays}
 use Rattle.lvm_core.specs.declared.fault.CommitFault.{CommitFault}
 use Rattle.lvm_core.specs.declared.request.Power.TheVariants as power
@@ -38,8 +39,10 @@ use Rattle.lvm_core.specs.Dark.{all_dark, dark_log}
 use Rattle.lvm_core.specs.Starting.{IsPlaced, ArePlaced}
 use Rattle.lvm_core.specs.Sound.{is_dark, IsFitting, IsTold, IsSound}
 use Rattle.lvm_core.specs.Settled.{IsSettled}
-use Rattle.lvm_core.specs.Committing.{with_one_out, CommitEnds, moment_of, StaysBehind}
+use Rattle.lvm_core.specs.Committing.{with_one_out, RecordsEnd, moment_of, StaysBehind}
+use Rattle.lvm_core.specs.Leaves.{KeepsHistory}
 use Rattle.lvm_core.specs.Steps.{CoreEnds, Settles}
+use Rattle.lvm_core.proofs.LeavesLemmas.{keeps_same, keeps_dark_log}
 use Rattle.lvm_core.proofs.Own.{fits_pool, one_out_long, sound_ready, sound_dark, sound_stuck}
 use Rattle.lvm_core.proofs.Spanning.{keeps_dark, calm_dark}
 
@@ -148,17 +151,17 @@ module _ (next : Descriptor) (plan : Plan) (first : Stored) (before after : ℕ)
 
       by_how : (h : Settled) → how ≡ h → CoreEnds next old.core new.core h answer → IsSound new
       by_how (settled.Done back) is goes = as_core (base next) goes.1
-          (sound_ready new.device (base next) (fits next valid alike) (told next) (placed next alike) settled_is.quiet.buffers lit not_off (subst (λ (h : Settled). IfBack h (λ b. Rattle.lvm_disk.specs.Device.IsReady new.device × (new.device.counts.cuts ≡ old.device.counts.cuts))) is s.ready).0)
+          (sound_ready new.device (base next) (fits next valid alike) (told next) (placed next alike) settled_is.quiet.buffers lit not_off (subst (λ (h : Settled). IfBack h (λ b. IsReady new.device × (new.device.counts.cuts ≡ old.device.counts.cuts))) is s.ready).0)
       by_how (settled.WentOff have total back) is goes = as_core (record here { power = power.Off }) goes.1
           (sound_ready new.device (record here { power = power.Off }) (fits_power here fits_here) (record { table = sound.told.table; each = sound.told.each }) (placed old.core.descriptor own) settled_is.quiet.buffers refl
           (λ off. few have total (subst (λ (h : Settled). IfWentOff h (λ n m b. HasLostQuorum first new.core.status old.device new.device n m)) is s.off))
-          (subst (λ (h : Settled). IfBack h (λ b. Rattle.lvm_disk.specs.Device.IsReady new.device × (new.device.counts.cuts ≡ old.device.counts.cuts))) is s.ready).0)
+          (subst (λ (h : Settled). IfBack h (λ b. IsReady new.device × (new.device.counts.cuts ≡ old.device.counts.cuts))) is s.ready).0)
       by_how settled.Dark is goes = as_core (all_dark out) goes.1
           (sound_dark old.device new.device out old.core.pool fits_out (record { table = sound.told.table; each = sound.told.each }) (placed old.core.descriptor own) refl settled_is.quiet.buffers sound.fitting.a_buffer
-          (subst (λ (h : Settled). OnDark h (Rattle.lvm_quorum.specs.Written.IsDarkened 0 old.device new.device)) is s.dark))
+          (subst (λ (h : Settled). OnDark h (IsDarkened 0 old.device new.device)) is s.dark))
       by_how settled.Stuck is goes = as_core out goes.1
           (sound_stuck before old.device new.device out old.core.pool fits_out (record { table = sound.told.table; each = sound.told.each }) (placed old.core.descriptor own) refl settled_is.quiet.buffers sound.fitting.a_buffer lit not_off
-          (subst (λ (h : Settled). OnStuck h (Rattle.lvm_quorum.specs.Written.IsGivenUp 0 before old.device new.device)) is s.stuck))
+          (subst (λ (h : Settled). OnStuck h (IsGivenUp 0 before old.device new.device)) is s.stuck))
 
   -- ---- how it ends
 
@@ -194,20 +197,23 @@ module _ (next : Descriptor) (plan : Plan) (first : Stored) (before after : ℕ)
         (subst (λ (t : Stamp). new.core.status.stamp.seq + many_there new.core.status ≤ t.seq + more + many_there first) begins.stamp spends.most);
   }
 
-  pub commit_ends : CommitEnds next before old new answer
-  commit_ends = by_how how s.done s.off s.spent s.ready s.well s.dark s.stuck s.goes
+  -- X is what is known beside where it went well
+  pub records_end : (X Done : Type 0) → IfOk answer (λ done. X)
+      → (IsSettled new.core → new.core ≡ base next → AreWell new.core.status old.device new.device → IsReady new.device → new.device.counts.cuts ≡ old.device.counts.cuts → X → Done)
+      → RecordsEnd Done before old new answer
+  records_end X Done known makes = by_how how s.done s.off s.spent s.ready s.well s.dark s.stuck s.goes
     where
       by_how : (h : Settled) → IfDone h (λ back. IsCommitted new.core.status) → IfWentOff h (λ have total back. HasLostQuorum first new.core.status old.device new.device have total)
           → IfWentOff h (λ have total back. SpendsNumbers 0 first new.core.status)
-          → IfBack h (λ back. Rattle.lvm_disk.specs.Device.IsReady new.device × (new.device.counts.cuts ≡ old.device.counts.cuts)) → IfBack h (λ back. Rattle.lvm_commit.specs.Settling.AreWell new.core.status old.device new.device)
-          → OnDark h (Rattle.lvm_quorum.specs.Written.IsDarkened 0 old.device new.device) → OnStuck h (Rattle.lvm_quorum.specs.Written.IsGivenUp 0 before old.device new.device)
-          → CoreEnds next old.core new.core h answer → CommitEnds next before old new answer
-      by_how (settled.Done back) done off spent ready well dark stuck goes = subst (λ (a : Result (Unit {0}) CommitFault). CommitEnds next before old new a) (sym goes.0)
-          (record { settled = subst IsSettled (sym goes.1) (settled_next done); is = goes.1; well = well; ready = ready.0; cuts = ready.1 })
-      by_how (settled.WentOff have total back) done off spent ready well dark stuck goes = subst (λ (a : Result (Unit {0}) CommitFault). CommitEnds next before old new a) (sym goes.0)
+          → IfBack h (λ back. IsReady new.device × (new.device.counts.cuts ≡ old.device.counts.cuts)) → IfBack h (λ back. AreWell new.core.status old.device new.device)
+          → OnDark h (IsDarkened 0 old.device new.device) → OnStuck h (IsGivenUp 0 before old.device new.device)
+          → CoreEnds next old.core new.core h answer → RecordsEnd Done before old new answer
+      by_how (settled.Done back) done off spent ready well dark stuck goes = subst (λ (a : Result (Unit {0}) CommitFault). RecordsEnd Done before old new a) (sym goes.0)
+          (makes (subst IsSettled (sym goes.1) (settled_next done)) goes.1 well ready.0 ready.1 (subst (λ (a : Result (Unit {0}) CommitFault). IfOk a (λ done. X)) goes.0 known))
+      by_how (settled.WentOff have total back) done off spent ready well dark stuck goes = subst (λ (a : Result (Unit {0}) CommitFault). RecordsEnd Done before old new a) (sym goes.0)
           (record { lost = lost_from have total off; spent = settles_numbers 0 spent; is = goes.1; well = well; ready = ready.0; cuts = ready.1 })
-      by_how settled.Dark done off spent ready well dark stuck goes = subst (λ (a : Result (Unit {0}) CommitFault). CommitEnds next before old new a) (sym goes.0) (record { cut = dark; is = goes.1 })
-      by_how settled.Stuck done off spent ready well dark stuck goes = subst (λ (a : Result (Unit {0}) CommitFault). CommitEnds next before old new a) (sym goes.0) (record { out = stuck; is = goes.1 })
+      by_how settled.Dark done off spent ready well dark stuck goes = subst (λ (a : Result (Unit {0}) CommitFault). RecordsEnd Done before old new a) (sym goes.0) (record { cut = dark; is = goes.1 })
+      by_how settled.Stuck done off spent ready well dark stuck goes = subst (λ (a : Result (Unit {0}) CommitFault). RecordsEnd Done before old new a) (sym goes.0) (record { out = stuck; is = goes.1 })
 
   -- ---- the history
 
@@ -219,6 +225,9 @@ module _ (next : Descriptor) (plan : Plan) (first : Stored) (before after : ℕ)
       by_how (settled.WentOff have total back) goes = subst (λ (c : Core). P c.history) (sym goes.1) same
       by_how settled.Dark goes = subst (λ (c : Core). P c.history) (sym goes.1) dark
       by_how settled.Stuck goes = subst (λ (c : Core). P c.history) (sym goes.1) same
+
+  pub settles_history : KeepsHistory old.core.history new.core.history
+  settles_history = by_history (λ (log : Log). KeepsHistory old.core.history log) (keeps_same old.core.history old.core.history refl) (keeps_dark_log old.core.history old.core.requests settled_is.quiet.requests)
 
   pub most_stays : new.core.most ≡ old.core.most
   most_stays = by_how how s.goes

@@ -17,7 +17,7 @@ use Rattle.lvm_status.specs.Update.{Updates, members_there}
 use Rattle.lvm_quorum.specs.declared.homes.Homes.{Homes}
 use Rattle.lvm_core.specs.declared.parts.Room.{Room}
 use Rattle.lvm_core.specs.Sound.{IsQuiet}
-use Rattle.lvm_core.specs.Settled.{IsSettled, HasNumbers}
+use Rattle.lvm_core.specs.Settled.{IsSettled, HasSpareNumbers}
 use Rattle.lvm_core.specs.Starting.{Reserved, IsReservedFor, first_core}
 
 module _ (d : Descriptor) (s : Status) (room : Room) (r : Reserved) (log : Log) (stamp : Stamp) (homes : Homes) (reserved : IsReservedFor d s room r) where
@@ -46,7 +46,7 @@ module _ (d : Descriptor) (s : Status) (room : Room) (r : Reserved) (log : Log) 
         (subst (λ (t : Status). CanWrite d (members_there d t)) (sym (ap (λ (u : Updates). u.wanted) reserved.status)) votes);
   }
 
-  pub starts_numbered : IsValid d → stamp.seq ≤ 2 → HasNumbers (first_core r log stamp homes)
+  pub starts_numbered : IsValid d → stamp.seq ≤ 2 → HasSpareNumbers (first_core r log stamp homes)
   starts_numbered valid low =
       let few = count_by-le-length (λ (row : PvRow). not (calls_missing r.status.wanted row.disk)) r.status.group.pvs in
       let members : length r.status.group.pvs ≤ most_members d.big = subst (λ (g : Descriptor). length g.pvs ≤ most_members d.big) (sym (ap (λ (u : Updates). u.group) reserved.status)) valid.head.members in

@@ -1,10 +1,12 @@
 -- What a session and its shelf are after a status with marks was committed.
-use Rattle.std.proofs.Common.{◌≡◌, ℕ, ◌<◌, ◌++◌, List, refl, sym, ◌∙◌, ap, subst, ⊎_elim, inl, inr}
-use Rattle.std.specs.Prelude.{IsTrue, Result, IfOk, IsOk}
+use Rattle.std.proofs.Common.{◌≡◌, ◌⊎◌, ℕ, ◌<◌, ◌++◌, Bool, true, false, List, refl, sym, ◌∙◌, ap, subst, ⊎_elim, inl, inr}
+use Rattle.std.specs.Prelude.{◌&&◌, ◌||◌, not, IsTrue, Result, IfOk, IsOk, Contains}
+use Rattle.std.proofs.lemmas.Bool.{false≢true}
 use Rattle.lvm_num.specs.declared.place.Pp.{Pp}
 use Rattle.lvm_num.specs.declared.record.Stamp.{Stamp}
 use Rattle.lvm_num.specs.declared.descriptor.Descriptor.{Descriptor}
 use Rattle.lvm_num.specs.Disks.{Disks}
+use Rattle.lvm_num.specs.Status.{calls_stale}
 use Rattle.lvm_disk.specs.Counts.{NoneFalls}
 use Rattle.lvm_kept.specs.Moments.{Moment, StaysCalm}
 use Rattle.lvm_kept.specs.Plans.{Plan}
@@ -25,11 +27,31 @@ use Rattle.lvm_core.specs.State.{State, is_there}
 use Rattle.lvm_core.specs.Sound.{IsSound}
 use Rattle.lvm_core.specs.Held.{IsHeld}
 use Rattle.lvm_core.specs.Settled.{IsSettled}
-use Rattle.lvm_core.specs.Committing.{CommitEnds, AreUnused, AreMarked, Restates, moment_of, SpanGoesOn, StaysBehind}
+use Rattle.lvm_core.specs.Committing.{StatusEnds, HasStated, is_among, AreUnused, AreMarked, Restates, moment_of, SpanGoesOn, StaysBehind}
+use Rattle.lvm_core.specs.Leaves.{IsOfCommand, NoDescriptor, NoPartition, KeepsStatus, Leaves, marking}
 use Rattle.lvm_core.specs.Steps.{CoreEnds, CommitsMarks}
+use Rattle.lvm_core.proofs.LeavesLemmas.{finds_nothing, ok_then}
 use Rattle.lvm_core.proofs.Spanning.{path_falls}
-use Rattle.lvm_core.proofs.Settled.{IsBegun, there_is, there_first, group_is, settles_sound, settles_numbers, commit_ends, most_stays, settles_keep, settles_calm, settles_behind}
-use Rattle.lvm_core.proofs.Commits.{holds_session, first_is_of, begun, first_held, wants_marks, none_first, first_none}
+use Rattle.lvm_core.proofs.Settled.{IsBegun, there_is, there_first, group_is, settles_sound, settles_numbers, records_end, most_stays, settles_history, settles_keep, settles_calm, settles_behind}
+use Rattle.lvm_core.proofs.Commits.{among_at, isnt, holds_session, first_is_of, begun, first_held, wants_marks, none_first, first_none}
+
+-- ---- marks
+
+not_among : (pps : List Pp) (p : Pp) → (Contains pps p → ⊥) → is_among pps p ≡ false
+not_among pps p out = isnt (is_among pps p) (λ is. out (among_at pps p is))
+
+-- what isn't made fresh stays stale
+stays_marked : (a b c : Bool) → c ≡ false → IsTrue a → IsTrue ((a || b) && not c)
+stays_marked true b c fresh is = ap not fresh
+stays_marked false b c fresh is = absurd (false≢true is)
+
+-- and what is stale was so or is made so
+was_marked : (a b c : Bool) → IsTrue ((a || b) && not c) → IsTrue a ⊎ IsTrue b
+was_marked true b c is = inl refl
+was_marked false true c is = inr refl
+was_marked false false c is = absurd (false≢true is)
+
+-- ---- the call
 
 module _ (stale fresh : List Pp) (before after : ℕ) (old new : State) (answer : Result (Unit {0}) CommitFault) (w : CommitsMarks stale fresh before after old new answer) (settled_is : IsSettled old.core) (sound : IsSound old) where
   abbrev plan : Plan
@@ -57,10 +79,7 @@ module _ (stale fresh : List Pp) (before after : ℕ) (old new : State) (answer 
   pub status_most : new.core.most ≡ old.core.most
   status_most = most_stays old.core.descriptor plan w.first before after old new w.how answer w.settles begins settled_is sound sound.fitting.valid same
 
-  pub status_ends_so : CommitEnds old.core.descriptor before old new answer
-  status_ends_so = commit_ends old.core.descriptor plan w.first before after old new w.how answer w.settles begins settled_is sound sound.fitting.valid same
-
-  pub status_held : AreUnused old.core.descriptor (stale ++ fresh) → IsHeld old.device old.core → IfOk answer (λ done. IsHeld new.device new.core)
+  status_held : AreUnused old.core.descriptor (stale ++ fresh) → IsHeld old.device old.core → IfOk answer (λ done. IsHeld new.device new.core)
   status_held unused held = by_how w.how w.held w.settles.goes
     where
       by_how : (h : Settled) → IfDone h (λ back. StaysHeld w.first new.core.status old.core.homes new.core.homes old.device new.device) → CoreEnds old.core.descriptor old.core new.core h answer → IfOk answer (λ done. IsHeld new.device new.core)
@@ -80,10 +99,10 @@ module _ (stale fresh : List Pp) (before after : ℕ) (old new : State) (answer 
       let unwritten = w.same (ap (λ (u : Stored). u.wanted) none ∙ sym settled_is.committed ∙ sym (ap (λ (u : Stored). u.committed) none)) in
       (subst (λ (a : Result (Unit {0}) CommitFault). IsOk a) (sym unwritten.0) refl, unwritten.1, unwritten.2 ∙ ap (λ (u : Stored). record old.core { status = u }) none)
 
-  pub status_finds : IsHeld old.device old.core → FindsNothingNewOn old.device new.device
+  status_finds : IsHeld old.device old.core → FindsNothingNewOn old.device new.device
   status_finds held = w.finds old.core.descriptor own (held_first held)
 
-  pub status_falls : NoneFalls old.device.counts new.device.counts
+  status_falls : NoneFalls old.device.counts new.device.counts
   status_falls = path_falls old.device new.device w.kept
 
   there_is_so : there w.first ≡ is_there old.core
@@ -104,15 +123,24 @@ module _ (stale fresh : List Pp) (before after : ℕ) (old new : State) (answer 
   }
 
   pub restates : AreUnused old.core.descriptor (stale ++ fresh) → Restates stale fresh old new
-  restates unused =
+  restates unused = record {
+    kept = λ p is. w.settles.loses.stale p (w.marked.marks p ∙ is);
+    only = λ p stale. ⊎_elim (λ was. inl (sym (w.marked.marks p) ∙ was)) (λ (is : IsPassed old.core.descriptor w.first new.core.status p). inr (passed_so p is)) (w.left.only p stale);
+    none = λ none. w.left.none (first_none old.core stale fresh w.first w.marked settled_is sound.fitting.group sound.fitting.valid unused none);
+  }
+
+  marks_kept : KeepsStatus (Contains stale) (Contains fresh) old new
+  marks_kept =
       let loses = w.settles.loses in
       let marked = w.marked in
       record {
         group = loses.group ∙ marked.group;
         rows = record { id = loses.rows.id ∙ marked.rows.id; big = loses.rows.big ∙ marked.rows.big; disks = loses.rows.disks ∙ marked.rows.disks };
-        kept = λ p is. loses.stale p (marked.marks p ∙ is);
-        only = λ p stale. ⊎_elim (λ was. inl (sym (marked.marks p) ∙ was)) (λ (is : IsPassed old.core.descriptor w.first new.core.status p). inr (passed_so p is)) (w.left.only p stale);
-        none = λ none. w.left.none (first_none old.core stale fresh w.first w.marked settled_is sound.fitting.group sound.fitting.valid unused none);
+        stale = λ p out is. loses.stale p (marked.marks p ∙ stays_marked (calls_stale old.core.status.wanted p) (is_among stale p) (is_among fresh p) (not_among fresh p out) is);
+        further = λ p is. ⊎_elim
+            (λ was. ⊎_elim (λ old. inl old) (λ new. inr (inl (among_at stale p new))) (was_marked (calls_stale old.core.status.wanted p) (is_among stale p) (is_among fresh p) (sym (marked.marks p) ∙ was)))
+            (λ (passed : IsPassed old.core.descriptor w.first new.core.status p). inr (inr passed.absent))
+            (w.left.only p is);
         dirty = loses.dirty ∙ marked.dirty;
         stays = λ d is. loses.stays d (marked.missing d ∙ is);
         lost = λ d is isnt.
@@ -120,10 +148,10 @@ module _ (stale fresh : List Pp) (before after : ℕ) (old new : State) (answer 
             (subst (λ (set : Disks). IsTrue (set d)) there_is_so its.0, its.1);
       }
 
-  pub status_numbers : SpendsNumbers 1 old.core.status new.core.status
+  status_numbers : SpendsNumbers 1 old.core.status new.core.status
   status_numbers = settles_numbers old.core.descriptor plan w.first before after old new w.how answer w.settles begins settled_is sound sound.fitting.valid same 1 w.settles.numbers
 
-  pub status_writes : KeepsShelf (is_there old.core) (IsOfStatus old.core.status new.core.status) old.device new.device
+  status_writes : KeepsShelf (is_there old.core) (IsOfStatus old.core.status new.core.status) old.device new.device
   status_writes = keeps_wider (there w.first) (is_there old.core) plan (IsOfStatus old.core.status new.core.status) old.device new.device
       (λ d off. ap (λ (set : Disks). set d) there_is_so ∙ off)
       (λ d s value it. (
@@ -141,15 +169,36 @@ module _ (stale fresh : List Pp) (before after : ℕ) (old new : State) (answer 
       ))
       w.settles.keeps
 
-  pub status_keeps : AreUnused old.core.descriptor (stale ++ fresh) → IsHeld old.device old.core → (run : ℕ) (first : Moment) → SpanGoesOn run first old new
+  status_keeps : AreUnused old.core.descriptor (stale ++ fresh) → IsHeld old.device old.core → (run : ℕ) (first : Moment) → SpanGoesOn run first old new
   status_keeps unused held run first span =
       settles_keep old.core.descriptor plan w.first before after old new w.how answer w.settles begins settled_is sound sound.fitting.valid same
       (λ d. WantsMarks old.device old.core.descriptor w.first → SessionIsHeld old.device old.core.descriptor w.first old.core.homes → StaysKept old.device d)
       w.kept run first span
       (λ past begins holds d its. its (wants unused) (held_first held) (past ++ old.core.history.facts) holds.kept)
 
-  pub status_calm : StaysCalm (moment_of old) (moment_of new)
+  status_calm : StaysCalm (moment_of old) (moment_of new)
   status_calm = settles_calm old.core.descriptor plan w.first before after old new w.how answer w.settles begins settled_is sound sound.fitting.valid same
 
-  pub status_behind : StaysBehind old new
+  status_behind : StaysBehind old new
   status_behind = settles_behind old.core.descriptor plan w.first before after old new w.how answer w.settles begins settled_is sound sound.fitting.valid same (λ d n value it. (it.0, it.2))
+
+  -- ---- all of it
+
+  pub status_ends_so : AreUnused old.core.descriptor (stale ++ fresh) → StatusEnds before old new answer
+  status_ends_so unused = records_end old.core.descriptor plan w.first before after old new w.how answer w.settles begins settled_is sound sound.fitting.valid same
+      (IsHeld old.device old.core → IsHeld new.device new.core) (HasStated old.core.descriptor old new) (ok_then _ _ answer (status_held unused))
+      (λ its is well ready cuts held. record { settled = its; is = is; well = well; ready = ready; cuts = cuts; held = held })
+
+  pub status_leaves : AreUnused old.core.descriptor (stale ++ fresh) → Leaves (marking stale fresh) before after old new
+  status_leaves unused = record {
+    writes = keeps_wider (is_there old.core) (is_there old.core) (IsOfStatus old.core.status new.core.status) (IsOfCommand NoDescriptor NoPartition old new) old.device new.device (λ d off. off) (λ d s value is. inl is) status_writes;
+    status = marks_kept;
+    numbers = status_numbers;
+    history = settles_history old.core.descriptor plan w.first before after old new w.how answer w.settles begins settled_is sound sound.fitting.valid same;
+    spans = λ held run first always. status_keeps unused held run first;
+    finds = λ held id k is. finds_nothing NoDescriptor old new _ status_writes.media (status_finds held) held id k is;
+    calm = status_calm;
+    behind = status_behind;
+    falls = status_falls;
+    spends = w.settles.spends;
+  }

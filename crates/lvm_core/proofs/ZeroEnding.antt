@@ -21,7 +21,7 @@ use Rattle.lvm_core.specs.State.{Core, State, is_there}
 use Rattle.lvm_core.specs.Dark.{all_dark}
 use Rattle.lvm_core.specs.Held.{IsHeld}
 use Rattle.lvm_core.specs.Committing.{with_one_out, StaysBehind}
-use Rattle.lvm_core.specs.Zeros.{IsZeroOf, ZeroEnds, GoesOnAfter, WritesZeros}
+use Rattle.lvm_core.specs.Zeros.{IsZeroOf, KeepsRecords, ZeroEnds, GoesOnAfter, WritesZeros}
 
 -- zeros in a partition change no record
 pub zeros_below : (mib : ℕ) (pp : Pp) (a b : Image) → ChangesBy (IsZeroOf mib pp) a b → SameRecords a b
@@ -69,7 +69,7 @@ module _ (pp : Pp) (before after : ℕ) (old new : State) where
       by_how moved.Stuck goes = subst P (sym goes.1) (stuck is)
 
   module _ (answer : Result (Unit {0}) CommitFault) (w : WritesZeros pp before after old new answer) where
-    pub zero_records : (new.core.status ≡ old.core.status) × (new.core.homes ≡ old.core.homes)
+    zero_records : (new.core.status ≡ old.core.status) × (new.core.homes ≡ old.core.homes)
     zero_records = zero_core (λ (c : Core). (c.status ≡ old.core.status) × (c.homes ≡ old.core.homes)) (λ is. is) (λ is. is) answer w (refl, refl)
 
     told_below : (n : Media) → new.device.media ≡ Some n → (m : Media) × (old.device.media ≡ Some m) × SameRecords (image_of old.device.sizes m) (image_of new.device.sizes n)
@@ -77,17 +77,20 @@ module _ (pp : Pp) (before after : ℕ) (old new : State) where
         let back = both_from old.device.media new.device.media (λ was is. ChangesBy (IsZeroOf old.core.descriptor.mib pp) (image_of old.device.sizes was) (image_of new.device.sizes is)) n w.part.keeps.media is in
         (back.0, back.1, zeros_below old.core.descriptor.mib pp (image_of old.device.sizes back.0) (image_of new.device.sizes n) back.2)
 
-    pub zero_held : IsHeld old.device old.core → IsHeld new.device new.core
+    zero_held : IsHeld old.device old.core → IsHeld new.device new.core
     zero_held held = zero_core (IsHeld new.device) (λ is. is) (λ is. is) answer w (if_told new.device.media (λ media. HoldsCommitted (image_of new.device.sizes media) old.core.descriptor old.core.status.committed (is_there old.core) old.core.status.stamp old.core.homes)
         (λ n is.
         let from = told_below n is in
         data_keeps_committed old.core.descriptor old.core.status.committed (is_there old.core) old.core.status.stamp old.core.homes (image_of old.device.sizes from.0) (image_of new.device.sizes n) from.2
         (told_at old.device.media (λ media. HoldsCommitted (image_of old.device.sizes media) old.core.descriptor old.core.status.committed (is_there old.core) old.core.status.stamp old.core.homes) from.0 from.1 held)))
 
-    pub zero_finds : FindsNothingNewOn old.device new.device
+    zero_finds : FindsNothingNewOn old.device new.device
     zero_finds image may = if_told old.device.media (λ media. FindsNothingNew (contents_of (image_of old.device.sizes media)) (contents_of image)) (λ m is.
         data_finds_nothing_new (image_of old.device.sizes m) image (zeros_below old.core.descriptor.mib pp (image_of old.device.sizes m) image
         (told_at old.device.media (λ media. (i : Image) → MayLeave new.device i → ChangesBy (IsZeroOf old.core.descriptor.mib pp) (image_of old.device.sizes media) i) m is (Rattle.lvm_disk.proofs.Paths.last-path w.part.moments) image may)))
+
+    pub zero_keeps_records : KeepsRecords old new
+    zero_keeps_records = record { status = zero_records.0; homes = zero_records.1; held = zero_held; finds = zero_finds }
 
     pub zero_behind : StaysBehind old new
     zero_behind moment later behind = data_stays_behind moment old.device new.device w.part.keeps.sizes

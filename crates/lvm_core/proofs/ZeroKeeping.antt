@@ -1,7 +1,7 @@
 -- Zeros in a partition that no volume has: where they go, and what they keep.
 use Rattle.std.proofs.Common.{◌≡◌, inl, inr, ⊎_elim, ℕ, suc, ◌<◌, ◌≤◌, ◌*◌, ◌++◌, Bool, true, false, ◌&&◌, not, List, [], Some, length, refl, sym, ◌∙◌, ap, subst, arith}
 use Rattle.std.specs.Prelude.{◌==◌, IsTrue, Result, nat_lt, slice_get, if◌then◌else◌}
-use Rattle.std.proofs.lemmas.Bool.{eqb-true}
+use Rattle.std.proofs.lemmas.Bool.{eqb-true, false≢true}
 use Rattle.std.proofs.Math.Nat.{mul-le-mul_left}
 use Rattle.lvm_num.specs.declared.place.Pp.{Pp}
 use Rattle.lvm_num.specs.declared.descriptor.PvRow.{PvRow}
@@ -23,6 +23,7 @@ use Rattle.lvm_steps.specs.Moments.{ImagesKept, Keeps}
 use Rattle.lvm_steps.specs.Requests.{at}
 use Rattle.lvm_steps.proofs.Making.{media_may}
 use Rattle.lvm_steps.proofs.Spans.{keeps_path}
+use Rattle.lvm_status.specs.Update.{Stored}
 use Rattle.lvm_transfer.specs.declared.moves.Moved.{Moved}
 use Rattle.lvm_transfer.specs.declared.moves.Moved.TheVariants as moved
 use Rattle.lvm_quorum.specs.Parts.{DoesPart}
@@ -30,6 +31,8 @@ use Rattle.lvm_quorum.specs.Written.{IsWriting}
 use Rattle.lvm_quorum.proofs.Writing.{told_at}
 use Rattle.lvm_commit.specs.Committed.{HoldsCommitted}
 use Rattle.lvm_commit.specs.LawsOfData.{IsFree, PartitionChange}
+use Rattle.lvm_commit.specs.Settling.{SpendsNumbers}
+use Rattle.lvm_commit.proofs.Chaining.{keeps_wider}
 use Rattle.lvm_commit.proofs.Data.{free_data_keeps}
 use Rattle.lvm_core.specs.declared.fault.CommitFault.{CommitFault}
 use Rattle.lvm_core.specs.State.{Core, State, state, is_there}
@@ -41,8 +44,10 @@ use Rattle.lvm_core.specs.Settled.{IsSettled}
 use Rattle.lvm_core.specs.Committing.{with_one_out, moment_of, SpanGoesOn}
 use Rattle.lvm_core.specs.Zeros.{IsZeroOf, HasSectorsOf, GoesOnAfter, WritesZeros}
 use Rattle.lvm_core.proofs.Own.{fits_pool, one_out_long, sound_ready, sound_dark, sound_stuck}
-use Rattle.lvm_core.proofs.Spanning.{told_media, keeps_dark, calm_dark}
-use Rattle.lvm_core.proofs.ZeroEnding.{zeros_below, zero_core}
+use Rattle.lvm_core.proofs.Spanning.{path_falls, told_media, keeps_dark, calm_dark}
+use Rattle.lvm_core.specs.Leaves.{IsOfCommand, NoDescriptor, NoPartition, KeepsHistory, Leaves, zeroing}
+use Rattle.lvm_core.proofs.LeavesLemmas.{keeps_same, keeps_dark_log, finds_nothing, same_status}
+use Rattle.lvm_core.proofs.ZeroEnding.{zeros_below, zero_core, zero_keeps_records, zero_behind}
 
 -- ---- where they go
 
@@ -98,7 +103,7 @@ module _ (pp : Pp) (before after : ℕ) (old new : State) (answer : Result (Unit
       free_data_keeps old.core.descriptor old.core.status.committed (is_there old.core) pp (contents_of start) (contents_of image) facts (images_within start) settled.votes holds.shows there free
       (zeros_change old.core.descriptor.mib pp start image by) (kept start (media_may old.device m is))
 
-  pub zero_keeps : IsTrue (is_there old.core pp.disk) → IsFree old.core.descriptor pp → IsHeld old.device old.core → (run : ℕ) (first : Moment) → SpanGoesOn run first old new
+  zero_keeps : IsTrue (is_there old.core pp.disk) → IsFree old.core.descriptor pp → IsHeld old.device old.core → (run : ℕ) (first : Moment) → SpanGoesOn run first old new
   zero_keeps there free held run first span =
       let facts = old.core.history.facts in
       let goes = keeps_path (IsWriting (IsZeroOf old.core.descriptor.mib pp) old.device) run first old.device new.device facts span
@@ -107,9 +112,34 @@ module _ (pp : Pp) (before after : ℕ) (old new : State) (answer : Result (Unit
       still_kept there free held told.0 told.1 (past ++ facts) holds.kept d writing) w.part.moments in
       zero_core pp before after old new (λ (c : Core). Keeps run first (at new.device c.history.facts)) (λ is. is) (λ is. keeps_dark new.device old.core.history old.core.requests settled.quiet.requests run first is) answer w goes
 
-  pub zero_calm : StaysCalm (moment_of old) (moment_of new)
+  zero_calm : StaysCalm (moment_of old) (moment_of new)
   zero_calm = zero_core pp before after old new (λ (c : Core). StaysCalm (moment_of old) (at new.device c.history.facts)) (λ is. is) (λ is. calm_dark new.device old.core.history old.core.requests settled.quiet.requests (moment_of old) is) answer w
       (λ past calm. calm)
+
+  -- ---- all of it
+
+  on_its_disk : IsTrue (is_there old.core pp.disk) → (d : ℕ) → is_there old.core d ≡ false → (d == pp.disk) ≡ false
+  on_its_disk there d off = by_test (d == pp.disk) refl
+    where
+      by_test : (t : Bool) → (d == pp.disk) ≡ t → t ≡ false
+      by_test true is = absurd (false≢true (sym off ∙ ap (is_there old.core) (eqb-true d pp.disk is) ∙ there))
+      by_test false is = refl
+
+  pub zero_leaves : IsTrue (is_there old.core pp.disk) → IsFree old.core.descriptor pp → Leaves (zeroing pp) before after old new
+  zero_leaves there free =
+      let same = (zero_keeps_records pp before after old new answer w).status in
+      record {
+        writes = keeps_wider (λ d. d == pp.disk) (is_there old.core) (IsZeroOf old.core.descriptor.mib pp) (IsOfCommand NoDescriptor (λ p. p ≡ pp) old new) old.device new.device (on_its_disk there) (λ d s value is. inr (inr (pp, refl, is))) w.part.keeps;
+        status = same_status NoPartition NoPartition old new same;
+        numbers = subst (λ (u : Stored). SpendsNumbers 0 old.core.status u) (sym same) (record { epoch = refl; rises = omega arith; most = omega arith });
+        history = zero_core pp before after old new (λ (c : Core). KeepsHistory old.core.history c.history) (λ is. is) (λ is. keeps_dark_log old.core.history old.core.requests settled.quiet.requests) answer w (keeps_same old.core.history old.core.history refl);
+        spans = λ held run first always. zero_keeps there free held run first;
+        finds = finds_nothing NoDescriptor old new _ w.part.keeps.media (zero_keeps_records pp before after old new answer w).finds;
+        calm = zero_calm;
+        behind = zero_behind pp before after old new answer w;
+        falls = path_falls old.device new.device w.part.moments;
+        spends = w.part.spends;
+      }
 
   -- ---- afterwards
 

@@ -1,12 +1,13 @@
 -- How the calls end by which a session commits a descriptor or marks.
-use Rattle.std.specs.Prelude.{◌≡◌, ◌⊎◌, ℕ, ◌<◌, Bool, true, false, ◌&&◌, ◌||◌, ◌++◌, not, List, Result, Ok, Err, IsTrue, IsFalse, IfSome, All, slice_set}
+use Rattle.std.specs.Prelude.{◌≡◌, ◌⊎◌, ℕ, ◌<◌, Bool, true, false, ◌&&◌, ◌||◌, ◌++◌, not, List, Result, Ok, Err, IsTrue, IfSome, All, slice_set}
 use Rattle.std.specs.List.{list_any}
 use Rattle.lvm_num.specs.declared.place.Pp.{Pp}
 use Rattle.lvm_num.specs.declared.descriptor.Descriptor.{Descriptor}
 use Rattle.lvm_num.specs.declared.status.Status.{Status}
+use Rattle.lvm_num.specs.declared.record.Kind.TheVariants as kind
 use Rattle.lvm_num.specs.Descriptor.{IsPartitionOf}
-use Rattle.lvm_num.specs.Status.{calls_stale, calls_missing}
-use Rattle.lvm_disk.specs.Counts.{Rose}
+use Rattle.lvm_num.specs.DescriptorBytes.{descriptor_bytes}
+use Rattle.lvm_num.specs.Status.{calls_stale}
 use Rattle.lvm_disk.specs.Device.{IsReady, image_of}
 use Rattle.lvm_vol.specs.Facts.{Fact}
 use Rattle.lvm_kept.specs.Contents.{contents_of}
@@ -18,12 +19,13 @@ use Rattle.lvm_stamps.specs.Behind.{IsBehind}
 use Rattle.lvm_quorum.specs.Written.{IsDarkened, IsGivenUp}
 use Rattle.lvm_commit.specs.LawsOfData.{IsFree}
 use Rattle.lvm_commit.specs.LawsOfVolumes.{VolumeServes}
-use Rattle.lvm_commit.specs.Settling.{HasSameRows, NoneIsLeft, IsPassed, HasLostQuorum, AreWell, SpendsNumbers}
+use Rattle.lvm_commit.specs.Settling.{NoneIsLeft, IsPassed, HasLostQuorum, AreWell, SpendsNumbers, IsPlain}
 use Rattle.lvm_core.specs.declared.fault.CommitFault.{CommitFault}
 use Rattle.lvm_core.specs.declared.fault.CommitFault.TheVariants as fault
 use Rattle.lvm_core.specs.declared.request.Power.TheVariants as power
-use Rattle.lvm_core.specs.State.{State, is_there}
+use Rattle.lvm_core.specs.State.{State}
 use Rattle.lvm_core.specs.Dark.{all_dark}
+use Rattle.lvm_core.specs.Held.{IsHeld}
 use Rattle.lvm_core.specs.Settled.{IsSettled}
 
 -- ---- how they end
@@ -32,14 +34,20 @@ use Rattle.lvm_core.specs.Settled.{IsSettled}
 abbrev pub with_one_out : List Bool → List Bool
 with_one_out pool = slice_set pool 0 true
 
--- This descriptor is committed, and what is wanted of the status; nothing is under way.
-pub record HasCommitted (next : Descriptor) (old new : State) : Type 0 where
+-- What is wanted of the status is committed, with this descriptor; nothing is under way, and the disks hold both, where they held what was committed.
+pub record HasStated (next : Descriptor) (old new : State) : Type 0 where
   pub settled : IsSettled new.core
   pub is : new.core ≡ record old.core { descriptor = next; status = new.core.status; homes = new.core.homes }
   -- no transfer to a member that isn't missing has failed
   pub well : AreWell new.core.status old.device new.device
   pub ready : IsReady new.device
   pub cuts : new.device.counts.cuts ≡ old.device.counts.cuts
+  pub held : IsHeld old.device old.core → IsHeld new.device new.core
+
+-- This descriptor is committed. Where no member became missing its record is all that was written.
+pub record HasCommitted (next : Descriptor) (old new : State) : Type 0 where
+  pub stated : HasStated next old new
+  pub plain : IsPlain kind.Descriptor (descriptor_bytes next) old.core.status new.core.status old.core.homes old.device new.device
 
 -- The members that aren't missing have so many votes of so many, too few to write: the session has gone off, with its descriptor as it was.
 pub record HasGoneOff (have total : ℕ) (old new : State) : Type 0 where
@@ -61,13 +69,21 @@ pub record IsLeftOut (patience : ℕ) (old new : State) : Type 0 where
   pub out : IsGivenUp 0 patience old.device new.device
   pub is : new.core ≡ record old.core { pool = with_one_out old.core.pool; status = new.core.status; homes = new.core.homes }
 
+-- how the writing of records ends: well, or by a fault with its cause
+abbrev pub RecordsEnd : Type 0 → ℕ → State → State → Result (Unit {0}) CommitFault → Type 0
+RecordsEnd Done patience old new (Ok done) = Done
+RecordsEnd Done patience old new (Err (fault.WentOff have total)) = HasGoneOff have total old new
+RecordsEnd Done patience old new (Err fault.Dark) = HasGoneDark old new
+RecordsEnd Done patience old new (Err fault.Stuck) = IsLeftOut patience old new
+RecordsEnd Done patience old new (Err (fault.DiskFailed disk)) = ⊥
+
 -- what a commit answers
 abbrev pub CommitEnds : Descriptor → ℕ → State → State → Result (Unit {0}) CommitFault → Type 0
-CommitEnds next patience old new (Ok done) = HasCommitted next old new
-CommitEnds next patience old new (Err (fault.WentOff have total)) = HasGoneOff have total old new
-CommitEnds next patience old new (Err fault.Dark) = HasGoneDark old new
-CommitEnds next patience old new (Err fault.Stuck) = IsLeftOut patience old new
-CommitEnds next patience old new (Err (fault.DiskFailed disk)) = ⊥
+CommitEnds next patience old new answer = RecordsEnd (HasCommitted next old new) patience old new answer
+
+-- what it answers when a status alone is committed
+abbrev pub StatusEnds : ℕ → State → State → Result (Unit {0}) CommitFault → Type 0
+StatusEnds patience old new answer = RecordsEnd (HasStated old.core.descriptor old new) patience old new answer
 
 -- ---- marks
 
@@ -91,18 +107,11 @@ pub record AreMarked (to_stale to_fresh : List Pp) (s : Status) : Type 0 where
   pub stale : All (λ (p : Pp). calls_stale s p ≡ true) to_stale
   pub fresh : All (λ (p : Pp). calls_stale s p ≡ false) to_fresh
 
--- What is wanted of the status afterwards: it has these marks, members have become missing, each of them after a transfer to it has failed, and the copies
--- that they leave behind are stale.
+-- What is wanted of the status afterwards has these marks, and the copies are stale that members left behind which became missing.
 pub record Restates (stale fresh : List Pp) (old new : State) : Type 0 where
-  pub group : new.core.status.group ≡ old.core.status.group
-  pub rows : HasSameRows old.core.status.wanted new.core.status.wanted
   pub kept : (p : Pp) → IsTrue (marks_of stale fresh old.core.status.wanted p) → IsTrue (calls_stale new.core.status.wanted p)
   pub only : (p : Pp) → IsTrue (calls_stale new.core.status.wanted p) → IsTrue (marks_of stale fresh old.core.status.wanted p) ⊎ IsPassed old.core.descriptor old.core.status new.core.status p
   pub none : NoneIsLeft old.core.descriptor old.core.status → NoneIsLeft old.core.descriptor new.core.status
-  pub dirty : new.core.status.wanted.dirty ≡ old.core.status.wanted.dirty
-  pub stays : (d : ℕ) → IsTrue (calls_missing old.core.status.wanted d) → IsTrue (calls_missing new.core.status.wanted d)
-  pub lost : (d : ℕ) → IsTrue (calls_missing new.core.status.wanted d) → IsFalse (calls_missing old.core.status.wanted d)
-      → IsTrue (is_there old.core d) × Rose (old.device.counts.faults d) (new.device.counts.faults d)
 
 -- ---- the moments
 

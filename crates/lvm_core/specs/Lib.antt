@@ -8,6 +8,8 @@ pub mod Held
 pub mod Settled
 pub mod Committing
 pub mod Zeros
+pub mod Leaves
+pub mod Coming
 pub mod Entering
 pub mod Preparing
 pub mod Steps

@@ -16,5 +16,5 @@ pub record IsSettled (core : Core) : Type 0 where
   pub votes : CanWrite core.descriptor (is_there core)
 
 -- eight numbers are left for the stamps of its records, and two more for each member that isn't missing
-abbrev pub HasNumbers : Core → Type 0
-HasNumbers core = core.status.stamp.seq + 8 + 2 * many_there core.status < 2 ^ 32
+abbrev pub HasSpareNumbers : Core → Type 0
+HasSpareNumbers core = core.status.stamp.seq + 8 + 2 * many_there core.status < 2 ^ 32

@@ -43,6 +43,10 @@ pub record State : Type 0 where
 abbrev pub state : Device → Core → State
 state device core = record { device = device; core = core }
 
+-- that of a driver, by the device that its shelf is
+abbrev pub state_of : {S : Type 0} → (S → Device) → S × Core → State
+state_of device driver = state (device driver.0) driver.1
+
 -- the members that aren't missing
 abbrev pub is_there : Core → Disks
 is_there core = members_there core.descriptor core.status.wanted

@@ -10,10 +10,12 @@ use Rattle.lvm_transfer.specs.declared.moves.Moved.{Moved}
 use Rattle.lvm_transfer.specs.declared.moves.Moved.TheVariants as moved
 use Rattle.lvm_quorum.specs.Parts.{DoesPart, IfDone}
 use Rattle.lvm_commit.specs.LawsOfData.{IsSectorOf}
+use Rattle.lvm_commit.specs.LawsOfFinding.{FindsNothingNewOn}
 use Rattle.lvm_core.specs.declared.fault.CommitFault.{CommitFault}
 use Rattle.lvm_core.specs.declared.fault.CommitFault.TheVariants as fault
 use Rattle.lvm_core.specs.State.{Core, State}
 use Rattle.lvm_core.specs.Dark.{all_dark}
+use Rattle.lvm_core.specs.Held.{IsHeld}
 use Rattle.lvm_core.specs.Committing.{HasGoneDark, IsLeftOut, with_one_out}
 
 -- zeros come to sectors of the partition
@@ -54,6 +56,13 @@ pub record HasFailed (pp : Pp) (disk : ℕ) (old new : State) : Type 0 where
   pub same : IsAsBefore old new
   pub disk_is : disk ≡ pp.disk
   pub fault : Rose (old.device.counts.faults disk) (new.device.counts.faults disk)
+
+-- No record is written: the status and the slots are as they were, the disks hold what the session says where they did, and nothing is found that wasn't before.
+pub record KeepsRecords (old new : State) : Type 0 where
+  pub status : new.core.status ≡ old.core.status
+  pub homes : new.core.homes ≡ old.core.homes
+  pub held : IsHeld old.device old.core → IsHeld new.device new.core
+  pub finds : FindsNothingNewOn old.device new.device
 
 -- what a write of zeros answers
 abbrev pub ZeroEnds : Pp → ℕ → State → State → Result (Unit {0}) CommitFault → Type 0

@@ -1,30 +1,24 @@
 //! A session over its shelf.
-ghost use Rattle.std.specs.Prelude.{◌≡◌, ◌≢◌, ◌==◌, ◌≤◌, ◌<◌, ◌+◌, ◌-◌, ◌++◌, ◌^◌, ℕ, [], length, slice_get, false, Some, IfSome, IfNone, IfOk, IsOk, IsTrue, All, AllPairs};
-ghost use Rattle.lvm_num.specs.declared.record.Kind.TheVariants as kind;
+ghost use Rattle.std.specs.Prelude.{◌≡◌, ◌≢◌, ◌==◌, ◌≤◌, ◌<◌, ◌+◌, ◌-◌, ◌++◌, ◌^◌, [], length, slice_get, false, Some, IfSome, IfNone, IfOk, IsOk, IsTrue, All, AllPairs};
 ghost use Rattle.lvm_num.specs.Descriptor.{IsValid, IsPartitionOf};
-ghost use Rattle.lvm_num.specs.DescriptorBytes.{descriptor_bytes};
 ghost use Rattle.lvm_num.specs.Votes.{total_votes};
 ghost use Rattle.lvm_vol.specs.Log.{spare_entries, with_fact, plain_fact};
-ghost use Rattle.lvm_disk.specs.Counts.{NoneFalls, RoseBy};
 ghost use Rattle.lvm_disk.specs.Device.{IsReady};
 ghost use Rattle.lvm_disk.specs.Steps.{MayArrange, ArrangeGives};
-ghost use Rattle.lvm_kept.specs.Moments.{Moment, StaysCalm};
 ghost use Rattle.lvm_quorum.specs.Written.{KeepsShelf};
 ghost use Rattle.lvm_commit.specs.Committed.{IsAlike};
 ghost use Rattle.lvm_commit.specs.LawsOfData.{IsFree};
-ghost use Rattle.lvm_commit.specs.LawsOfFinding.{FindsNothingNewOn, FindsNoMoreOn};
-ghost use Rattle.lvm_commit.specs.LawsOfVolumes.{IsOnlyGroupOn};
-ghost use Rattle.lvm_commit.specs.Settling.{OnlyLoses, MarksLeft, SpendsNumbers, IsOfStatus, IsOfCommit, IsPlain};
+ghost use Rattle.lvm_commit.specs.Settling.{MarksLeft};
 ghost use Rattle.lvm_core.specs.declared.request.Open.{Open};
-ghost use Rattle.lvm_core.specs.State.{state, is_there, votes_there};
+ghost use Rattle.lvm_core.specs.State.{state, state_of, is_there, votes_there};
 ghost use Rattle.lvm_core.specs.Dark.{is_waiting, after_arrange};
 ghost use Rattle.lvm_core.specs.Looking.{IsNumberOf, HasNoVolume};
 ghost use Rattle.lvm_core.specs.Sound.{IsSound, HaveAllLanded};
 ghost use Rattle.lvm_core.specs.Starting.{ArePlaced, first_core};
-ghost use Rattle.lvm_core.specs.Held.{IsHeld};
-ghost use Rattle.lvm_core.specs.Settled.{IsSettled, HasNumbers};
-ghost use Rattle.lvm_core.specs.Committing.{CommitEnds, AreUnused, AreMarked, Restates, moment_of, SpanGoesOn, LetsCommit, StaysBehind};
-ghost use Rattle.lvm_core.specs.Zeros.{ZeroEnds, IsZeroOf};
+ghost use Rattle.lvm_core.specs.Settled.{IsSettled, HasSpareNumbers};
+ghost use Rattle.lvm_core.specs.Committing.{CommitEnds, StatusEnds, AreUnused, AreMarked, Restates};
+ghost use Rattle.lvm_core.specs.Zeros.{ZeroEnds, KeepsRecords, IsZeroOf};
+ghost use Rattle.lvm_core.specs.Leaves.{Leaves, committing, marking, zeroing};
 ghost use Rattle.lvm_core.specs.Entering.{IsOfVolume};
 
 use crate::fault::CommitFault;
@@ -137,24 +131,12 @@ impl<S: Shelf> Driver<S> {
     /// nothing can be committed any more, only looked at, and the session closed.
     pub fn commit(&mut self, next: Prepared, patience: &mut Patience) -> Result<(), CommitFault>
         requires settled { IsSettled self.old.1 }
-        requires numbers { HasNumbers self.old.1 }
+        requires numbers { HasSpareNumbers self.old.1 }
         requires alike { IsAlike next self.old.1.descriptor }
-        ensures ends { CommitEnds next patience.old.left (state (S.device self.old.0) self.old.1) (state (S.device self.new.0) self.new.1) result }
-        ensures held { IsHeld (S.device self.old.0) self.old.1 → IfOk result (λ done. IsHeld (S.device self.new.0) self.new.1) }
-        // where no member became missing it is all that was written
-        ensures plain { IfOk result (λ done. IsPlain kind.Descriptor (descriptor_bytes next) self.old.1.status self.new.1.status self.old.1.homes (S.device self.old.0) (S.device self.new.0)) }
+        ensures ends { CommitEnds next patience.old.left (state_of S.device self.old) (state_of S.device self.new) result }
         // whatever the answer
-        ensures finds { IsHeld (S.device self.old.0) self.old.1 → FindsNoMoreOn next (S.device self.old.0) (S.device self.new.0) }
-        ensures falls { NoneFalls (S.device self.old.0).counts (S.device self.new.0).counts }
-        ensures marks { OnlyLoses self.old.1.status self.new.1.status (S.device self.old.0) (S.device self.new.0) }
         ensures left { MarksLeft next self.old.1.status self.new.1.status }
-        ensures numbers { SpendsNumbers 1 self.old.1.status self.new.1.status }
-        ensures writes { KeepsShelf (is_there self.old.1) (IsOfCommit (descriptor_bytes next) self.old.1.status self.new.1.status) (S.device self.old.0) (S.device self.new.0) }
-        ensures keeps { IsHeld (S.device self.old.0) self.old.1 → (lv run : ℕ) (first : Moment) → LetsCommit lv next run first (state (S.device self.old.0) self.old.1) → SpanGoesOn run first (state (S.device self.old.0) self.old.1) (state (S.device self.new.0) self.new.1) }
-        ensures calm { StaysCalm (moment_of (state (S.device self.old.0) self.old.1)) (moment_of (state (S.device self.new.0) self.new.1)) }
-        ensures behind { StaysBehind (state (S.device self.old.0) self.old.1) (state (S.device self.new.0) self.new.1) }
-        ensures patience { patience.new.left ≤ patience.old.left }
-        ensures waited { RoseBy (patience.old.left - patience.new.left) (S.device self.old.0).counts.waits (S.device self.new.0).counts.waits }
+        ensures leaves { Leaves (committing next) patience.old.left patience.new.left (state_of S.device self.old) (state_of S.device self.new) }
     {
         self.session.commit(&mut self.shelf, next, patience)
     }
@@ -173,23 +155,14 @@ impl<S: Shelf> Driver<S> {
         patience: &mut Patience,
     ) -> Result<(), CommitFault>
         requires settled { IsSettled self.old.1 }
-        requires numbers { HasNumbers self.old.1 }
+        requires numbers { HasSpareNumbers self.old.1 }
         requires unused { AreUnused self.old.1.descriptor (stale.now ++ fresh.now) }
         requires once { AllPairs (λ a b. a ≢ b) (stale.now ++ fresh.now) }
-        ensures ends { CommitEnds self.old.1.descriptor patience.old.left (state (S.device self.old.0) self.old.1) (state (S.device self.new.0) self.new.1) result }
-        ensures held { IsHeld (S.device self.old.0) self.old.1 → IfOk result (λ done. IsHeld (S.device self.new.0) self.new.1) }
+        ensures ends { StatusEnds patience.old.left (state_of S.device self.old) (state_of S.device self.new) result }
         ensures nothing { AreMarked stale.now fresh.now self.old.1.status.committed → IsOk result × (S.device self.new.0 ≡ S.device self.old.0) × (self.new.1 ≡ self.old.1) }
         // whatever the answer
-        ensures finds { IsHeld (S.device self.old.0) self.old.1 → FindsNothingNewOn (S.device self.old.0) (S.device self.new.0) }
-        ensures falls { NoneFalls (S.device self.old.0).counts (S.device self.new.0).counts }
-        ensures marks { Restates stale.now fresh.now (state (S.device self.old.0) self.old.1) (state (S.device self.new.0) self.new.1) }
-        ensures numbers { SpendsNumbers 1 self.old.1.status self.new.1.status }
-        ensures writes { KeepsShelf (is_there self.old.1) (IsOfStatus self.old.1.status self.new.1.status) (S.device self.old.0) (S.device self.new.0) }
-        ensures keeps { IsHeld (S.device self.old.0) self.old.1 → (run : ℕ) (first : Moment) → SpanGoesOn run first (state (S.device self.old.0) self.old.1) (state (S.device self.new.0) self.new.1) }
-        ensures calm { StaysCalm (moment_of (state (S.device self.old.0) self.old.1)) (moment_of (state (S.device self.new.0) self.new.1)) }
-        ensures behind { StaysBehind (state (S.device self.old.0) self.old.1) (state (S.device self.new.0) self.new.1) }
-        ensures patience { patience.new.left ≤ patience.old.left }
-        ensures waited { RoseBy (patience.old.left - patience.new.left) (S.device self.old.0).counts.waits (S.device self.new.0).counts.waits }
+        ensures marks { Restates stale.now fresh.now (state_of S.device self.old) (state_of S.device self.new) }
+        ensures leaves { Leaves (marking stale.now fresh.now) patience.old.left patience.new.left (state_of S.device self.old) (state_of S.device self.new) }
     {
         self.session
             .set_status(&mut self.shelf, stale, fresh, patience)
@@ -206,18 +179,11 @@ impl<S: Shelf> Driver<S> {
         requires there { IsTrue (is_there self.old.1 pp.disk) }
         requires partition { IsPartitionOf self.old.1.descriptor pp }
         requires free { IsFree self.old.1.descriptor pp }
-        ensures ends { ZeroEnds pp patience.old.left (state (S.device self.old.0) self.old.1) (state (S.device self.new.0) self.new.1) result }
+        ensures ends { ZeroEnds pp patience.old.left (state_of S.device self.old) (state_of S.device self.new) result }
         // whatever the answer
-        ensures records { (self.new.1.status ≡ self.old.1.status) × (self.new.1.homes ≡ self.old.1.homes) }
-        ensures held { IsHeld (S.device self.old.0) self.old.1 → IsHeld (S.device self.new.0) self.new.1 }
-        ensures finds { FindsNothingNewOn (S.device self.old.0) (S.device self.new.0) }
+        ensures records { KeepsRecords (state_of S.device self.old) (state_of S.device self.new) }
         ensures writes { KeepsShelf (λ d. d == pp.disk) (IsZeroOf self.old.1.descriptor.mib pp) (S.device self.old.0) (S.device self.new.0) }
-        ensures keeps { IsHeld (S.device self.old.0) self.old.1 → (run : ℕ) (first : Moment) → SpanGoesOn run first (state (S.device self.old.0) self.old.1) (state (S.device self.new.0) self.new.1) }
-        ensures falls { NoneFalls (S.device self.old.0).counts (S.device self.new.0).counts }
-        ensures calm { StaysCalm (moment_of (state (S.device self.old.0) self.old.1)) (moment_of (state (S.device self.new.0) self.new.1)) }
-        ensures behind { StaysBehind (state (S.device self.old.0) self.old.1) (state (S.device self.new.0) self.new.1) }
-        ensures patience { patience.new.left ≤ patience.old.left }
-        ensures waited { RoseBy (patience.old.left - patience.new.left) (S.device self.old.0).counts.waits (S.device self.new.0).counts.waits }
+        ensures leaves { Leaves (zeroing pp) patience.old.left patience.new.left (state_of S.device self.old) (state_of S.device self.new) }
     {
         self.session.zero(&mut self.shelf, pp, patience)
     }

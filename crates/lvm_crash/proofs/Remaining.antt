@@ -54,6 +54,14 @@ stands_without a b none_a none_b standing shape lv stands = subst (StandsAs b.mi
     by_standing Open x = x
     by_standing Absent x = x
 
+-- an id is this one, or it isn't
+pub by_id : {X : Type 0} (id this : ℕ) → (id ≡ this → X) → ((id ≡ this → ⊥) → X) → X
+by_id {X = X} id this same apart = by_test (id == this) refl
+  where
+    by_test : (t : Bool) → (id == this) ≡ t → X
+    by_test true is = same (eqb-true id this is)
+    by_test false is = apart (λ e. absurd (let f = eq-eqb id this e in let g = is in cc))
+
 module _ (old : Contents) (status : ℕ → Option (Stamped Status)) (note : ℕ → Option Noted) (block : ℕ → ℕ → Sector) where
   abbrev new : Contents
   new = record old { status = status; note = note; block = block }
@@ -111,13 +119,6 @@ module _ (old : Contents) (status : ℕ → Option (Stamped Status)) (note : ℕ
     of_found : (P : ℕ → Descriptor → Type 0) → P group.id group → (id : ℕ) (g : Descriptor) → id ≡ group.id → IsFound new id g → P id g
     of_found P here id g same is = subst (λ i. P i g) (sym same) (subst (λ h. P group.id h) (sym (one_group id g same is)) here)
 
-    by_id : {X : Type 0} (id : ℕ) → (id ≡ group.id → X) → ((id ≡ group.id → ⊥) → X) → X
-    by_id {X = X} id same apart = by_test (id == group.id) refl
-      where
-        by_test : (t : Bool) → (id == group.id) ≡ t → X
-        by_test true is = same (eqb-true id group.id is)
-        by_test false is = apart (λ e. absurd (let f = eq-eqb id group.id e in let g = is in cc))
-
     without_volumes : (id : ℕ) (g : Descriptor) → (id ≡ group.id → ⊥) → IsFound new id g → (group.lvs ≡ []) × (g.lvs ≡ [])
     without_volumes id g apart is = ⊎_elim (λ same. absurd (apart same)) (λ none. none) (describes.stands.alone is.0 id g (before is.0 id g is.1))
 
@@ -158,19 +159,19 @@ module _ (old : Contents) (status : ℕ → Option (Stamped Status)) (note : ℕ
     -- ---- two sets, of which one finds the status and one the descriptor
 
     status_there : (b : Disks) (id : ℕ) (h k : Descriptor) → Reads new b id h → IsFound new id k → HasStatus k.lvs (status_by new b id h)
-    status_there b id h k reads is = by_id id
+    status_there b id h k reads is = by_id id group.id
         (λ same. subst (HasStatus k.lvs) (sym (found_by b id h same reads)) (has_status k.lvs (reading b id h same reads).status))
         (λ apart. no_status id k apart is (status_by new b id h))
 
     across : (b : Disks) (id : ℕ) (h k : Descriptor) → Reads new b id h → IsFound new id k → BlocksKept new facts k (members_in new all_disks id k) (status_by new b id h)
-    across b id h k reads is = by_id id
+    across b id h k reads is = by_id id group.id
         (λ same. subst (BlocksKept new facts k (members_in new all_disks id k)) (sym (found_by b id h same reads))
         (of_found (λ i g. BlocksKept new facts g (members_in new all_disks i g) (Some (reading b id h same reads).status)) (blocks_by b all_disks (reading b id h same reads)) id k same is))
         (λ apart row lp block one inside. absurd (no_row id k apart is row one))
 
     some : (b : Disks) (id : ℕ) (h k : Descriptor) → Reads new b id h → IsFound new id k → (row : LvRow) (lp : ℕ) → IsOneOf k.lvs row → lp < row.lps
         → IsSome (fresh_on (members_in new all_disks id k) (status_by new b id h) row lp)
-    some b id h k reads is row lp one = by_id id
+    some b id h k reads is row lp one = by_id id group.id
         (λ same. subst (λ o. lp < row.lps → IsSome (fresh_on (members_in new all_disks id k) o row lp)) (sym (found_by b id h same reads))
         (of_found (λ i g. IsOneOf g.lvs row → lp < row.lps → IsSome (fresh_on (members_in new all_disks i g) (Some (reading b id h same reads).status) row lp)) (some_by b (reading b id h same reads) row lp) id k same is one))
         (λ apart low. absurd (no_row id k apart is row one))
@@ -182,7 +183,7 @@ module _ (old : Contents) (status : ℕ → Option (Stamped Status)) (note : ℕ
     others = others_last group.id describes.stands.others
 
     common : (a b : Disks) (id : ℕ) (g h : Descriptor) → Reads new a id g → Reads new b id h → (d : ℕ) × IsTrue (members_in new a id g d) × IsTrue (members_in new b id h d)
-    common a b id g h r t = by_id id
+    common a b id g h r t = by_id id group.id
         (λ same.
         let as_one : h ≡ g = one_group_of id h g same t.found r.found in
         let both = read_meets_read g (members_in new a id g) (members_in new b id h) (of_found (λ i k. 1 ≤ length k.pvs) describes.stands.a_member id g same r.found) r.enough
@@ -191,10 +192,10 @@ module _ (old : Contents) (status : ℕ → Option (Stamped Status)) (note : ℕ
         (λ apart. others.common a b id g h apart r t)
 
     size : (id : ℕ) (g h : Descriptor) → IsFound new id g → IsFound new id h → g.mib ≡ h.mib
-    size id g h is also = by_id id (λ same. ap (λ (k : Descriptor). k.mib) (one_group_of id g h same is also)) (λ apart. others.size id g h apart is also)
+    size id g h is also = by_id id group.id (λ same. ap (λ (k : Descriptor). k.mib) (one_group_of id g h same is also)) (λ apart. others.size id g h apart is also)
 
     partitions : (id : ℕ) (g h : Descriptor) → IsFound new id g → IsFound new id h → (d : ℕ) (p q : PvRow) → member_of g d ≡ Some p → member_of h d ≡ Some q → p.pps ≡ q.pps
-    partitions id g h is also d p q of_g of_h = by_id id
+    partitions id g h is also d p q of_g of_h = by_id id group.id
         (λ same. ap (λ (row : PvRow). row.pps) (some_same p q (sym of_g ∙ ap (λ (k : Descriptor). member_of k d) (one_group_of id g h same is also) ∙ of_h)))
         (λ apart. others.partitions id g h apart is also d p q of_g of_h)
 
@@ -203,7 +204,7 @@ module _ (old : Contents) (status : ℕ → Option (Stamped Status)) (note : ℕ
     copies : (disks : Disks) (id : ℕ) (g : Descriptor) → Finds new disks id g → BlocksKept new facts g (is_voter new disks id) (status_among new disks id)
     copies disks id g f =
         let by : ReadsBy new disks id g = finding_reads new disks id g f in
-        by_id id
+        by_id id group.id
         (λ same.
         let finds = reading disks id g same by.reads in
         subst (λ (v : Disks). BlocksKept new facts g v (status_among new disks id)) (sym by.voters) (subst (BlocksKept new facts g (members_in new disks id g)) (sym (by.status ∙ found_by disks id g same by.reads))
@@ -230,7 +231,7 @@ module _ (old : Contents) (status : ℕ → Option (Stamped Status)) (note : ℕ
 
     volumes : (disks : Disks) (id : ℕ) (g : Descriptor) → Finds new disks id g → (lv : ℕ)
         → StandsAs g.mib (volumes_in facts lv).standing (volumes_in facts lv).shape (volume_of g lv)
-    volumes disks id g f lv = by_id id
+    volumes disks id g f lv = by_id id group.id
         (λ same. of_found (λ i k. StandsAs k.mib (volumes_in facts lv).standing (volumes_in facts lv).shape (volume_of k lv)) (describes.volumes.history lv) id g same (disks, f))
         (λ apart. let none = without_volumes id g apart (disks, f) in stands_without group g none.0 none.1 (volumes_in facts lv).standing (volumes_in facts lv).shape lv (describes.volumes.history lv))
 

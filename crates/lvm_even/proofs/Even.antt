@@ -21,10 +21,11 @@ use Rattle.lvm_kept.specs.Group.{IsOneOf}
 use Rattle.lvm_kept.specs.Plans.{ChangesBy}
 use Rattle.lvm_commit.specs.LawsOfData.{IsFree, IsSectorOf}
 use Rattle.lvm_commit.specs.Settling.{IsOfStatus, IsOfCommit}
+use Rattle.lvm_quorum.specs.Written.{KeepsShelf}
 use Rattle.lvm_core.specs.State.{State, is_there}
-use Rattle.lvm_group.specs.NewVolume.{without_volume}
-use Rattle.lvm_group.specs.Volumes.{IsWith, IsChosen}
-use Rattle.lvm_group.specs.Endings.{IsOfCommand, Leaves}
+use Rattle.lvm_core.specs.Leaves.{NoPartition, IsOfCommand, KeepsStatus}
+use Rattle.lvm_volumes.specs.NewVolume.{without_volume}
+use Rattle.lvm_volumes.specs.Volumes.{IsWith, IsChosen}
 use Rattle.lvm_rest.specs.Rest.{IsEven}
 use Rattle.lvm_rest.specs.Commands.{IsUsable}
 use Rattle.lvm_commit.proofs.Copies.{contains, of_map, of_rows}
@@ -42,7 +43,7 @@ record_low kind.Status zero part len s two fits inside place = omega (arith, fit
 record_low kind.Status (suc zero) part len s two fits inside place = omega (arith, fits, inside, place)
 record_low kind.Status (suc (suc slot)) part len s two fits inside place = absurd (omega (arith, two))
 
-module _ (N : Descriptor → Type 0) (Z : Pp → Type 0) (old new : State) (was is : Media) (stood stands : Stamped Status) (leaves : Leaves N Z old new) (free : (pp : Pp) → Z pp → IsFree old.core.descriptor pp)
+module _ (N : Descriptor → Type 0) (Z : Pp → Type 0) (old new : State) (was is : Media) (stood stands : Stamped Status) (writes : KeepsShelf (is_there old.core) (IsOfCommand N Z old new) old.device new.device) (status : KeepsStatus NoPartition Z old new) (free : (pp : Pp) → Z pp → IsFree old.core.descriptor pp)
     (told : old.device.media ≡ Some was) (told_new : new.device.media ≡ Some is) (wanted : AreWanted old new stood stands) where
   low_status : (d s : ℕ) (value : Sector) → IsOfStatus old.core.status new.core.status d s value → s < data_start
   low_status d s value of = let w = of.0 in record_low w.kind (w.slots d) of.2.its.its.part (length w.framed.content) s (of.2.slots d) of.2.frames.content of.2.its.its.inside of.2.its.its.place
@@ -52,7 +53,7 @@ module _ (N : Descriptor → Type 0) (Z : Pp → Type 0) (old new : State) (was 
 
   change : ChangesBy (IsOfCommand N Z old new) (image_of old.device.sizes was) (image_of new.device.sizes is)
   change = subst (λ (m : Option Media). BothTold m (Some is) (λ a b. ChangesBy (IsOfCommand N Z old new) (image_of old.device.sizes a) (image_of new.device.sizes b))) told
-      (subst (λ (m : Option Media). BothTold old.device.media m (λ a b. ChangesBy (IsOfCommand N Z old new) (image_of old.device.sizes a) (image_of new.device.sizes b))) told_new leaves.writes.media)
+      (subst (λ (m : Option Media). BothTold old.device.media m (λ a b. ChangesBy (IsOfCommand N Z old new) (image_of old.device.sizes a) (image_of new.device.sizes b))) told_new writes.media)
 
   abbrev before : Image
   before = image_of old.device.sizes was
@@ -86,7 +87,7 @@ module _ (N : Descriptor → Type 0) (Z : Pp → Type 0) (old new : State) (was 
     in_there = wanted.fewer p.disk usable.in_there;
     fresh = ap (λ (s : Status). calls_stale s p) wanted.before ∙ ⊎_elim
         (λ (stale : IsTrue (calls_stale old.core.status.wanted p)). absurd (clash (calls_stale new.core.status.wanted p)
-        (leaves.status.stale p (λ chosen. free p chosen (contains _ p (of_rows old.core.descriptor.lvs row p one (of_map row lp p copy)))) stale)
+        (status.stale p (λ chosen. free p chosen (contains _ p (of_rows old.core.descriptor.lvs row p one (of_map row lp p copy)))) stale)
         (sym (ap (λ (s : Status). calls_stale s p) wanted.after) ∙ usable.fresh)))
         (λ isnt. isnt)
         (tested (calls_stale old.core.status.wanted p));
@@ -96,8 +97,8 @@ module _ (N : Descriptor → Type 0) (Z : Pp → Type 0) (old new : State) (was 
   kept_even even = free_keeps_even (contents_of before) (contents_of after) old.core.descriptor (Some stood) (Some stands) (is_there old.core) (is_there new.core) fewer only_free even
 
 pub mklv_keeps_even : MklvKeepsEven
-mklv_keeps_even v old new was is stood stands leaves free told told_new wanted even = kept_even (IsWith v old.core) (IsChosen v old.core) old new was is stood stands leaves free told told_new wanted even
+mklv_keeps_even v old new was is stood stands writes status free told told_new wanted even = kept_even (IsWith v old.core) (IsChosen v old.core) old new was is stood stands writes status free told told_new wanted even
 
 pub rmlv_keeps_even : RmlvKeepsEven
-rmlv_keeps_even lv old new was is stood stands leaves told told_new wanted even =
-    kept_even (λ next. next ≡ without_volume old.core.descriptor lv) (λ pp. ⊥) old new was is stood stands leaves (λ pp none. absurd none) told told_new wanted even
+rmlv_keeps_even lv old new was is stood stands writes status told told_new wanted even =
+    kept_even (λ next. next ≡ without_volume old.core.descriptor lv) NoPartition old new was is stood stands writes status (λ pp none. absurd none) told told_new wanted even

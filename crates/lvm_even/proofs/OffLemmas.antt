@@ -1,10 +1,9 @@
 -- Where volumes are in mode off, nothing is asked of their copies.
-use Rattle.std.proofs.Common.{◌≡◌, ⊎_elim, ℕ, ◌-◌, List, ap, ◌∙◌}
+use Rattle.std.proofs.Common.{⊎_elim, ◌-◌, ap, ◌∙◌}
 use Rattle.std.specs.Prelude.{◌==◌, not}
-use Rattle.lvm_num.specs.declared.descriptor.Mode.{Mode}
 use Rattle.lvm_num.specs.declared.descriptor.LvRow.{LvRow}
-use Rattle.lvm_group.specs.NewVolume.{row_for}
-use Rattle.lvm_group.proofs.Sublists.{one_insert, one_filter}
+use Rattle.lvm_volumes.specs.NewVolume.{row_for}
+use Rattle.lvm_volumes.proofs.Sublists.{one_insert, one_filter}
 use Rattle.lvm_even.specs.Even.{OffIsEven, OffVolumeIsEven, FewerAreEven}
 
 pub off_is_even : OffIsEven

@@ -20,9 +20,9 @@ use Rattle.lvm_core.specs.declared.parts.Room.{Room}
 use Rattle.lvm_core.specs.Held.{IsHeld}
 use Rattle.lvm_core.specs.Settled.{IsSettled}
 use Rattle.lvm_core.specs.State.{Core, is_there}
-use Rattle.lvm_group.specs.Endings.{MayBeFound}
-use Rattle.lvm_group.specs.NewVolume.{without_volume}
-use Rattle.lvm_group.specs.Volumes.{IsWith}
+use Rattle.lvm_core.specs.Leaves.{MayBeFound}
+use Rattle.lvm_volumes.specs.NewVolume.{without_volume}
+use Rattle.lvm_volumes.specs.Volumes.{IsWith}
 use Rattle.lvm_core.specs.Looking.{IsNumberOf}
 use Rattle.lvm_line.specs.Groups.{VariesOn, NoVaryonWhileOn, VaryonFails, NoMemoryForLine, NoMkvgWhileOn, MakesGroup, MkvgFails}
 use Rattle.lvm_line.specs.Lines.{CommandDoes, LineDoes}

@@ -20,7 +20,7 @@ use Rattle.lvm_commit.proofs.NoMore.{descriptor_finds_no_more, rest_finds_nothin
 use Rattle.lvm_commit.proofs.Still.{still_image}
 use Rattle.lvm_begin.specs.Beginning.{Beginning, Part, describes, states, IsOfParts}
 use Rattle.lvm_begin.proofs.Showing.{descriptors_show, rest_shows}
-use Rattle.lvm_group.specs.Endings.{MayBeFound}
+use Rattle.lvm_core.specs.Leaves.{MayBeFound}
 
 -- ---- on the media
 

@@ -9,7 +9,7 @@ use Rattle.lvm_steps.specs.Requests.{IsOfData}
 use Rattle.lvm_commit.proofs.NoMore.{data_finds_nothing_new}
 use Rattle.lvm_commit.proofs.Still.{data_differs}
 use Rattle.lvm_survey.specs.Surveying.{IsUnwritten}
-use Rattle.lvm_group.specs.Endings.{MayBeFound}
+use Rattle.lvm_core.specs.Leaves.{MayBeFound}
 use Rattle.lvm_found.specs.Standing.{HasFewDisks}
 
 -- at most 128 disks, and sectors of 512 bytes

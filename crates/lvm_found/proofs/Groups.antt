@@ -11,7 +11,7 @@ use Rattle.lvm_begin.specs.Beginning.{new_order}
 use Rattle.lvm_core.specs.declared.parts.Room.{Room}
 use Rattle.lvm_core.specs.declared.refused.Cause.{Cause}
 use Rattle.lvm_core.specs.declared.refused.Cause.TheVariants as cause
-use Rattle.lvm_group.specs.Endings.{MayBeFound}
+use Rattle.lvm_core.specs.Leaves.{MayBeFound}
 use Rattle.lvm_group.specs.NewGroup.{NewGroup, new_group}
 use Rattle.lvm_line.specs.Disks.{patience_of_line}
 use Rattle.lvm_line.specs.Groups.{IsLit, Asks, IsAsked, MkvgDoes, NoMemoryForLine, NoMkvgWhileOn, MakesGroup, MkvgFails, VaryonDoes, NoVaryonWhileOn, VariesOn, VaryonFails, asked_for}

@@ -12,7 +12,7 @@ use Rattle.lvm_parse.specs.declared.command.Command.TheVariants as command
 use Rattle.lvm_operands.specs.declared.rest.Misfit.{Misfit}
 use Rattle.lvm_parse.specs.Grammar.{line_of}
 use Rattle.lvm_core.specs.declared.parts.Room.{Room}
-use Rattle.lvm_group.specs.Endings.{MayBeFound}
+use Rattle.lvm_core.specs.Leaves.{MayBeFound}
 use Rattle.lvm_line.specs.Disks.{patience_of_line, WriteDoes, ReadDoes, NoWriteWhileOn, WriteFaults, WriteIsDone, NoReadWhileOn, ReadFaults, ReadGets}
 use Rattle.lvm_line.specs.Groups.{VaryoffDoes, NoVaryoff, VariesOff}
 use Rattle.lvm_line.specs.Lines.{LineDoes}

@@ -14,7 +14,7 @@ use Rattle.lvm_quorum.specs.declared.homes.Homes.{Homes}
 use Rattle.lvm_begin.specs.Beginning.{Part, IsOfParts}
 use Rattle.lvm_core.specs.declared.refused.Cause.{Cause}
 use Rattle.lvm_core.specs.declared.refused.Cause.TheVariants as cause
-use Rattle.lvm_group.specs.Endings.{MayBeFound}
+use Rattle.lvm_core.specs.Leaves.{MayBeFound}
 use Rattle.lvm_group.specs.NewGroup.{NewGroup, sizes_in_order, least_size, most_sectors, size_for, new_group, new_status}
 use Rattle.lvm_group.specs.Made.{beginning_for, IsAsBefore, Breaks, Refuses}
 use Rattle.lvm_group.specs.Shown.{IsClear, SparesTold}

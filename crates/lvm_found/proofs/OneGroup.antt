@@ -31,12 +31,12 @@ use Rattle.lvm_core.specs.declared.refused.Cause.TheVariants as cause
 use Rattle.lvm_core.specs.Held.{IsHeld}
 use Rattle.lvm_core.specs.Looking.{IsNumberOf}
 use Rattle.lvm_core.specs.State.{Core, is_there}
-use Rattle.lvm_group.specs.Endings.{MayBeFound}
+use Rattle.lvm_core.specs.Leaves.{MayBeFound}
 use Rattle.lvm_group.specs.NewGroup.{NewGroup, new_group}
 use Rattle.lvm_group.specs.Made.{Refuses}
-use Rattle.lvm_group.specs.NewVolume.{without_volume}
+use Rattle.lvm_volumes.specs.NewVolume.{without_volume}
 use Rattle.lvm_group.specs.Shown.{IfShown, HasGroup}
-use Rattle.lvm_group.specs.Volumes.{IsWith}
+use Rattle.lvm_volumes.specs.Volumes.{IsWith}
 use Rattle.lvm_line.specs.Disks.{patience_of_line}
 use Rattle.lvm_line.specs.Groups.{MkvgDoes, NoMemoryForLine, NoMkvgWhileOn, MakesGroup, MkvgFails, asked_for}
 use Rattle.lvm_line.specs.Lines.{LineDoes}

@@ -26,7 +26,7 @@ use Rattle.lvm_core.specs.declared.parts.Room.{Room}
 use Rattle.lvm_core.specs.Held.{IsHeld}
 use Rattle.lvm_core.specs.Settled.{IsSettled as IsSettledCore}
 use Rattle.lvm_core.specs.State.{Core}
-use Rattle.lvm_group.specs.Endings.{MayBeFound}
+use Rattle.lvm_core.specs.Leaves.{MayBeFound}
 use Rattle.lvm_line.specs.Groups.{VaryonDoes, NoVaryonWhileOn, VariesOn, VaryonFails}
 use Rattle.lvm_line.specs.Lines.{LineDoes, IsLine}
 use Rattle.lvm_line.specs.Moments.{IsAlone}

@@ -34,7 +34,7 @@ use Rattle.lvm_quorum.proofs.Shows.{descriptor_may_be_written, status_may_be_wri
 use Rattle.lvm_quorum.proofs.Writing.{told_at}
 use Rattle.lvm_begin.specs.Beginning.{Beginning, Part, describes, states, IsOfParts}
 use Rattle.lvm_core.proofs.Sizes.{descriptor_fits}
-use Rattle.lvm_group.specs.Endings.{MayBeFound}
+use Rattle.lvm_core.specs.Leaves.{MayBeFound}
 use Rattle.lvm_varyon.specs.Chosen.{answering, MayComeOn}
 use Rattle.lvm_varyon.specs.Found.{records_on}
 use Rattle.lvm_varyon.specs.Varied.{HasWritten}

@@ -10,11 +10,11 @@ use Rattle.lvm_quorum.proofs.Writing.{told_at}
 use Rattle.lvm_core.specs.Held.{IsHeld}
 use Rattle.lvm_core.specs.Looking.{IsNumberOf}
 use Rattle.lvm_core.specs.State.{Core, State as Session, state}
-use Rattle.lvm_group.specs.declared.fault.GroupFault.{GroupFault}
-use Rattle.lvm_group.specs.declared.fault.GroupFault.TheVariants as fault
-use Rattle.lvm_group.specs.Endings.{MayBeFound}
-use Rattle.lvm_group.specs.NewVolume.{without_volume}
-use Rattle.lvm_group.specs.Volumes.{IsWith, IsChosen, MklvGives, RmlvGives}
+use Rattle.lvm_volumes.specs.declared.fault.GroupFault.{GroupFault}
+use Rattle.lvm_volumes.specs.declared.fault.GroupFault.TheVariants as fault
+use Rattle.lvm_core.specs.Leaves.{MayBeFound}
+use Rattle.lvm_volumes.specs.NewVolume.{without_volume}
+use Rattle.lvm_volumes.specs.Volumes.{IsWith, IsChosen, MklvGives, RmlvGives}
 use Rattle.lvm_line.specs.Disks.{patience_of_line}
 use Rattle.lvm_line.specs.Moments.{IsBrokenOff}
 use Rattle.lvm_line.specs.State.{State, AreHeld}

@@ -9,11 +9,12 @@ use Rattle.lvm_parse.specs.Grammar.{line_of}
 use Rattle.lvm_steps.specs.Moments.{Begins, IsEarlier}
 use Rattle.lvm_stamps.specs.Behind.{IsBehind}
 use Rattle.lvm_core.specs.declared.parts.Room.{Room}
-use Rattle.lvm_group.specs.Endings.{MayBeFound}
+use Rattle.lvm_core.specs.Leaves.{MayBeFound}
 use Rattle.lvm_line.specs.Lines.{IsLine}
 use Rattle.lvm_line.specs.State.{State, IsTimely, AreHeld}
 use Rattle.lvm_line.specs.declared.reply.Reply.{Reply}
 use Rattle.lvm_line.specs.declared.reply.Reply.TheVariants as reply
+use Rattle.lvm_top.specs.declared.status.Status.TheVariants as ended
 use Rattle.lvm_top.specs.Run.{Run, IsRun, RanAlone}
 use Rattle.lvm_top.specs.Script.{Script, StaysAlone, entry_state}
 use Rattle.lvm_found.specs.Standing.{MayHaveCommitted, MayStand, MayStandAtEnd, HasFewDisks}
@@ -58,5 +59,5 @@ RunMayStart = (run : ℕ) (entry : Device) (past : List Fact) → HasFewDisks en
 abbrev pub RunFindsWhatStands : Type 0
 RunFindsWhatStands =
     (r : Run) (ran : IsRun r) (past : List Fact)
-    → HasFewDisks r.entry → IsReady r.entry → IsBehind r.named r.entry → IsEarlier r.named r.entry past → RanAlone ran → (r.status ≡ 6 → ⊥)
+    → HasFewDisks r.entry → IsReady r.entry → IsBehind r.named r.entry → IsEarlier r.named r.entry past → RanAlone ran → (r.status ≡ ended.Stuck → ⊥)
     → (id : ℕ) (k : Descriptor) → MayBeFound r.exit id k → MayStandAtEnd ran.lines.ends (MayStand ran.lines.script) id k

@@ -9,7 +9,7 @@ use Rattle.lvm_parse.specs.Grammar.{line_of}
 use Rattle.lvm_steps.specs.Moments.{IsEarlier}
 use Rattle.lvm_stamps.specs.Behind.{IsBehind}
 use Rattle.lvm_core.specs.declared.parts.Room.{Room}
-use Rattle.lvm_group.specs.Endings.{MayBeFound}
+use Rattle.lvm_core.specs.Leaves.{MayBeFound}
 use Rattle.lvm_line.specs.State.{State}
 use Rattle.lvm_line.specs.declared.reply.Reply.{Reply}
 use Rattle.lvm_top.specs.Run.{Run, IsRun, RanAlone}

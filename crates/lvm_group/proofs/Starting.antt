@@ -1,7 +1,8 @@
 -- The session of a group that was made may start, and what then holds.
-use Rattle.std.proofs.Common.{◌≡◌, ◌≢◌, ℕ, ◌≤◌, ◌*◌, Bool, true, false, ◌&&◌, not, List, IsTrue, sym, ap, subst, ◌∙◌, arith}
+use Rattle.std.proofs.Common.{◌≡◌, ◌≢◌, ℕ, ◌≤◌, ◌*◌, Bool, true, false, ◌&&◌, not, List, [], IsTrue, sym, ap, subst, ◌∙◌, arith}
 use Rattle.std.specs.Prelude.{nat_lt, if◌then◌else◌}
 use Rattle.std.proofs.lemmas.Bool.Decides.{nat_tests}
+use Rattle.lvm_num.specs.declared.descriptor.LvRow.{LvRow}
 use Rattle.lvm_num.specs.declared.descriptor.Descriptor.{Descriptor}
 use Rattle.lvm_num.specs.declared.status.Status.{Status}
 use Rattle.lvm_num.specs.Descriptor.{is_member}
@@ -16,12 +17,13 @@ use Rattle.lvm_steps.specs.Moments.{Keeps}
 use Rattle.lvm_steps.specs.Requests.{at}
 use Rattle.lvm_steps.proofs.Entering.{calm_goes_on}
 use Rattle.lvm_steps.proofs.Spans.{group_goes_on}
-use Rattle.lvm_status.specs.Update.{Updates, members_there}
+use Rattle.lvm_kept.specs.Group.{IsOneOf}
+use Rattle.lvm_status.specs.Update.{Updates, Stored, members_there}
 use Rattle.lvm_stamps.specs.Behind.{IsAhead, ClockIsAhead}
 use Rattle.lvm_commit.specs.Settling.{NoneIsLeft}
 use Rattle.lvm_core.specs.declared.parts.Room.{Room}
 use Rattle.lvm_core.specs.Sound.{HaveAllLanded}
-use Rattle.lvm_core.specs.Settled.{IsSettled, HasNumbers}
+use Rattle.lvm_core.specs.Settled.{IsSettled, HasSpareNumbers}
 use Rattle.lvm_core.proofs.Settling.{starts_settled, starts_numbered}
 use Rattle.lvm_core.specs.Starting.{ArePlaced, first_core}
 use Rattle.lvm_core.specs.State.{Core}
@@ -31,7 +33,10 @@ use Rattle.lvm_group.specs.Steps.{Stands}
 use Rattle.lvm_group.specs.declared.make.Standing.{Standing}
 use Rattle.lvm_group.proofs.Entries.{spare_given, landed_given, later_given}
 use Rattle.lvm_group.proofs.Groups.{are_placed, nothing_missing}
-use Rattle.lvm_group.proofs.Left.{none_left_of_none}
+
+-- where there is no volume no copy is left behind
+none_left_of_none : (d : Descriptor) (u : Stored) → d.lvs ≡ [] → NoneIsLeft d u
+none_left_of_none d u empty p is = absurd (subst (λ (rows : List LvRow). IsOneOf rows is.row) empty is.volume)
 
 module _ (w : NewGroup) (room : Room) (was is : Log) (old new : Device) (standing : Standing) (stands : Stands w room was is old new standing) where
   pub spare_left : 1 ≤ spare_entries is
@@ -88,8 +93,8 @@ module _ (w : NewGroup) (room : Room) (was is : Log) (old new : Device) (standin
       all_enough true total some = grind (arith, nat_tests)
       all_enough false total some = grind (arith, nat_tests)
 
-  pub settles : w.moment ≢ 0 → (core : Core) → core ≡ first_core standing.parts is (record { epoch = w.moment; seq = 2 }) standing.homes → IsSettled core × HasNumbers core
-  settles some core core_is = subst (λ (c : Core). IsSettled c × HasNumbers c) (sym core_is) (
+  pub settles : w.moment ≢ 0 → (core : Core) → core ≡ first_core standing.parts is (record { epoch = w.moment; seq = 2 }) standing.homes → IsSettled core × HasSpareNumbers core
+  settles some core core_is = subst (λ (c : Core). IsSettled c × HasSpareNumbers c) (sym core_is) (
     starts_settled (new_group old.sizes w) (new_status w) room standing.parts is (record { epoch = w.moment; seq = 2 }) standing.homes stands.parts some votes,
     starts_numbered (new_group old.sizes w) (new_status w) room standing.parts is (record { epoch = w.moment; seq = 2 }) standing.homes stands.parts stands.valid (omega arith),
   )

@@ -4,8 +4,3 @@ pub mod Judged
 pub mod Planned
 pub mod Made
 pub mod Steps
-pub mod NewVolume
-pub mod Endings
-pub mod Volumes
-pub mod PlannedVolume
-pub mod Stages

@@ -146,13 +146,3 @@ Refuses w patience was is old new (cause.NoQuorum have total) = ⊥
 abbrev pub MkvgGives : {S : Type 0} → (S → Device) → NewGroup → Room → ℕ → Log → Device → Result (S × Core) (Refused S) → Type 0
 MkvgGives device w room patience was old (Ok driver) = IsMade w room was old (device driver.0) driver.1
 MkvgGives device w room patience was old (Err refused) = Refuses w patience was refused.history old (device refused.shelf) refused.cause
-
--- ---- what is left, whatever the answer
-
-abbrev pub shelf_left : {S : Type 0} → Result (S × Core) (Refused S) → S
-shelf_left (Ok driver) = driver.0
-shelf_left (Err refused) = refused.shelf
-
-abbrev pub history_left : {S : Type 0} → Result (S × Core) (Refused S) → Log
-history_left (Ok driver) = driver.1.history
-history_left (Err refused) = refused.history

@@ -1,20 +1,14 @@
 //! The making of a group.
-ghost use Rattle.std.specs.Prelude.{◌≡◌, ◌≢◌, ◌-◌, ◌+◌, ◌≤◌, ℕ, length, IfOk, IsTrue, AllPairs};
+ghost use Rattle.std.specs.Prelude.{◌≢◌, ◌-◌, ◌≤◌, length, IfOk, IsTrue, AllPairs};
 ghost use Rattle.std.specs.Option.{ForSome};
 ghost use Rattle.lvm_num.specs.Descriptor.{is_size};
-ghost use Rattle.lvm_disk.specs.Counts.{RoseBy};
 ghost use Rattle.lvm_disk.specs.Device.{IsReady};
-ghost use Rattle.lvm_stamps.specs.Behind.{IsBehind, ClockIsAhead};
-ghost use Rattle.lvm_kept.specs.Moments.{StaysCalm};
-ghost use Rattle.lvm_steps.specs.Moments.{Keeps};
 ghost use Rattle.lvm_steps.specs.Requests.{at};
-ghost use Rattle.lvm_commit.specs.Settling.{NoneIsLeft};
-ghost use Rattle.lvm_core.specs.Held.{StartsHeld};
-ghost use Rattle.lvm_core.specs.Settled.{IsSettled, HasNumbers};
 ghost use Rattle.lvm_core.specs.Sound.{HaveAllLanded};
 ghost use Rattle.lvm_core.specs.Starting.{IsRoom};
-ghost use Rattle.lvm_group.specs.NewGroup.{NewGroup};
-ghost use Rattle.lvm_group.specs.Made.{MkvgGives, shelf_left, history_left};
+ghost use Rattle.lvm_core.specs.State.{state_of};
+ghost use Rattle.lvm_core.specs.Coming.{BringsOn, IsStarted, shelf_left, history_left};
+ghost use Rattle.lvm_group.specs.Made.{MkvgGives};
 
 use crate::make::{Asked, make};
 use lvm_core::{Driver, Refused, Room};
@@ -54,15 +48,9 @@ pub fn mkvg<S: Shelf>(
     requires moment { moment ≢ 0 }
     requires room { IsRoom room }
     ensures gives { MkvgGives S.device (record { name = name; mib = mib; disks = disks.now; force = force; moment = moment }) room patience.old.left history (S.device shelf) result }
-    ensures settled { IfOk result (λ driver. IsSettled driver.1 × HasNumbers driver.1) }
-    ensures held { ClockIsAhead history.run moment (S.device shelf) history.facts → IfOk result (λ driver. StartsHeld (S.device driver.0) driver.1) }
-    ensures left { IfOk result (λ driver. NoneIsLeft driver.1.descriptor driver.1.status) }
+    ensures starts { IfOk result (λ driver. IsStarted history.run moment (S.device shelf) history (state_of S.device driver)) }
     // whatever the answer
-    ensures keeps { ClockIsAhead history.run moment (S.device shelf) history.facts → Keeps history.run (at (S.device shelf) history.facts) (at (S.device (shelf_left result)) (history_left result).facts) }
-    ensures calm { StaysCalm (at (S.device shelf) history.facts) (at (S.device (shelf_left result)) (history_left result).facts) }
-    ensures behind { ClockIsAhead history.run moment (S.device shelf) history.facts → IsBehind (moment + 1) (S.device (shelf_left result)) }
-    ensures patience { patience.new.left ≤ patience.old.left }
-    ensures waited { RoseBy (patience.old.left - patience.new.left) (S.device shelf).counts.waits (S.device (shelf_left result)).counts.waits }
+    ensures leaves { BringsOn history.run moment patience.old.left patience.new.left (S.device shelf) (S.device (shelf_left result)) history (history_left result) }
 {
     let mut shelf = shelf;
     let mut history = history;

@@ -1,5 +1,5 @@
 -- A session as it begins.
-use Rattle.std.proofs.Common.{◌≡◌, inl, ℕ, zero, suc, ◌+◌, Bool, true, false, ◌&&◌, ◌||◌, not, List, [], ◌∷◌, replicate, Option, None, length, refl, sym, ◌∙◌, ap, subst, arith}
+use Rattle.std.proofs.Common.{◌≡◌, ◌==◌, if◌then◌else◌, inl, ℕ, zero, suc, ◌+◌, Bool, true, false, ◌&&◌, ◌||◌, not, List, [], ◌∷◌, replicate, Option, None, length, refl, sym, ◌∙◌, ap, subst, arith}
 use Rattle.std.specs.Prelude.{IfSome, count_by, is_some, slice_index_or, unwrap_or}
 use Rattle.std.specs.List.{list_any, AllByRecursion}
 use Rattle.std.specs.Option.{option_map_or}
@@ -21,7 +21,7 @@ use Rattle.lvm_events.specs.Dark.{AreTold, hand_of_copy}
 use Rattle.lvm_sound.specs.Owners.{AreOwned, AreRows, HaveTickets, same_owner, target_flies}
 use Rattle.lvm_sound.specs.Requests.{IsOpenOne}
 use Rattle.lvm_sound.specs.Causes.{AreCaused, AreCounted, IsAnswered, IsChosenSince, IsCopyCaused, is_held_stale, is_over}
-use Rattle.lvm_sound.specs.Sound.{IsAsked, IsCopy, IsGoing, IsOn, IsSound, IsTold, count_if, hands_with, is_dark, is_hand, may_be_fresh, out_with, pins, rows_of, stays_fresh, waiting_rows, waits, with_row}
+use Rattle.lvm_sound.specs.Sound.{IsAsked, IsCopy, IsGoing, IsOn, IsSound, IsTold, count_if, hands_with, is_dark, is_hand, may_be_fresh, out_with, pins, stays_fresh, waiting_rows, waits, with_row, has_number}
 use Rattle.lvm_keeps.specs.Begins.{Begins, BeginningIsSound}
 use Rattle.lvm_keeps.proofs.Small.{not_so}
 
@@ -91,7 +91,7 @@ module _ (s : State) (first : Begins s) where
   of_copy f none = ap (λ m. option_map_or f m none) first.unused.copy
 
   owned : AreOwned core
-  owned (owner.Data id target) = none_fly (λ (f : Flown). same_owner (owner.Data id target) f.owner) ∙ sym (ap (λ (os : List Open). count_if (list_any (λ (o : Open). Rattle.std.specs.Prelude.◌==◌ o.request.id id && target_flies target o) os)) first.unused.requests)
+  owned (owner.Data id target) = none_fly (λ (f : Flown). same_owner (owner.Data id target) f.owner) ∙ sym (ap (λ (os : List Open). count_if (list_any (λ (o : Open). o.request.id == id && target_flies target o) os)) first.unused.requests)
   owned (owner.Status disk) = none_fly (λ (f : Flown). same_owner (owner.Status disk) f.owner) ∙ sym (ap count_if (first.unused.started disk))
   owned (owner.Note disk) = none_fly (λ (f : Flown). same_owner (owner.Note disk) f.owner) ∙ sym (ap (λ m. count_if (is_some m)) (first.unused.notes disk))
   owned owner.Copy = none_fly (λ (f : Flown). same_owner owner.Copy f.owner) ∙ sym (ap count_if (of_copy (λ (c : OpenCopy). is_out c.step) false))
@@ -104,8 +104,8 @@ module _ (s : State) (first : Begins s) where
 
   out : (n : ℕ) → out_with s.device core n ≡ 0
   out n =
-      ap (λ (fs : List Flight). count_by (λ (f : Flight). Rattle.lvm_sound.specs.Sound.has_number n f.buf) fs + count_by (Rattle.lvm_sound.specs.Sound.has_number n) s.device.freed + hands_with core n) first.idle
-      ∙ ap (λ bs. 0 + count_by (Rattle.lvm_sound.specs.Sound.has_number n) bs + hands_with core n) first.lit.freed
+      ap (λ (fs : List Flight). count_by (λ (f : Flight). has_number n f.buf) fs + count_by (has_number n) s.device.freed + hands_with core n) first.idle
+      ∙ ap (λ bs. 0 + count_by (has_number n) bs + hands_with core n) first.lit.freed
       ∙ ap (λ k. 0 + 0 + k) (hands n)
 
   going : IsGoing core
@@ -115,7 +115,7 @@ module _ (s : State) (first : Begins s) where
     status = first.calm.sound;
     owned = owned;
     tickets = subst HaveTickets (sym first.unused.flying) tt;
-    queue = first.unused.rows ∙ sym (of_copy (λ (c : OpenCopy). Rattle.std.specs.Prelude.if◌then◌else◌ (has_row core c) (with_row (step_row core c) (waiting_rows core.requests)) (waiting_rows core.requests)) (waiting_rows core.requests) ∙ ap waiting_rows first.unused.requests);
+    queue = first.unused.rows ∙ sym (of_copy (λ (c : OpenCopy). if has_row core c then with_row (step_row core c) (waiting_rows core.requests) else waiting_rows core.requests) (waiting_rows core.requests) ∙ ap waiting_rows first.unused.requests);
     pinned = λ lv group. ap (λ (es : List CacheEntry). pins_of es lv group) first.unused.entries ∙ sym (ap (count_by (pins lv group)) first.unused.requests);
     requests = none_of (IsOpenOne core) core.requests first.unused.requests;
     copy = nobody (IsCopy core) core.copy first.unused.copy;

@@ -18,23 +18,24 @@ use Rattle.lvm_session.specs.State.{Core, State, state}
 use Rattle.lvm_session.specs.Judging.{is_running}
 use Rattle.lvm_session.specs.Bringing.{hand_of, has_row, is_out, is_whole, step_row}
 use Rattle.lvm_events.specs.declared.answers.CopyState.TheVariants as copy
-use Rattle.lvm_events.specs.Calls.{Closes, closed, state_of_copy, copy_state}
+use Rattle.lvm_events.specs.Calls.{Closes, closed, state_of_copy, state_at_end}
 use Rattle.lvm_sound.specs.Owners.{AreOwned, AreRows, IsStepOf, IsTransferOf}
 use Rattle.lvm_sound.specs.Requests.{IsOpenOne}
 use Rattle.lvm_sound.specs.Causes.{AreCaused, AreCounted, IsAnswered, IsCaused, IsCounted, IsLandedFor, is_over}
-use Rattle.lvm_sound.specs.Sound.{IsCopy, IsFitting, IsGoing, IsOn, IsOver, IsSound, IsTold, count_if, is_clearing, is_hand, rows_of, waiting_rows, with_row}
+use Rattle.lvm_sound.specs.Sound.{IsCopy, IsFitting, IsGoing, IsOn, IsSound, IsTold, count_if, is_hand, waiting_rows, with_row, out_with}
 use Rattle.lvm_keeps.specs.Keeps.{CloseKeeps}
 use Rattle.lvm_keeps.proofs.Lists.{all_on}
 use Rattle.lvm_keeps.proofs.Small.{not_so}
 use Rattle.lvm_keeps.proofs.Still.{moved, open_on, landed_on, counted_on, origin_on, if_on}
+use Rattle.lvm_events.specs.Dark.{hand_of_copy}
 
 -- it isn't running: no transfer of it is out, and it has ended
 is_still : (c : OpenCopy) → ((cursor : ℕ) → state_of_copy c ≡ copy.Running cursor → ⊥) → (is_out c.step ≡ false) × (is_running c ≡ false)
 is_still c ended = by (is_out c.step) c.end refl refl
   where
     by : (out : Bool) (end : Option CopyEnd) → is_out c.step ≡ out → c.end ≡ end → (is_out c.step ≡ false) × (is_running c ≡ false)
-    by true end is how = absurd (ended c.cursor (ap (λ b. if b then copy.Running c.cursor else option_map_or (Rattle.lvm_events.specs.Calls.state_at_end c) c.end (copy.Running c.cursor)) is))
-    by false None is how = absurd (ended c.cursor (ap (λ b. if b then copy.Running c.cursor else option_map_or (Rattle.lvm_events.specs.Calls.state_at_end c) c.end (copy.Running c.cursor)) is ∙ ap (λ e. option_map_or (Rattle.lvm_events.specs.Calls.state_at_end c) e (copy.Running c.cursor)) how))
+    by true end is how = absurd (ended c.cursor (ap (λ b. if b then copy.Running c.cursor else option_map_or (state_at_end c) c.end (copy.Running c.cursor)) is))
+    by false None is how = absurd (ended c.cursor (ap (λ b. if b then copy.Running c.cursor else option_map_or (state_at_end c) c.end (copy.Running c.cursor)) is ∙ ap (λ e. option_map_or (state_at_end c) e (copy.Running c.cursor)) how))
     by false (Some e) is how = (is, ap is_none how)
 
 not_out : (at : Step) (core : Core) (c : OpenCopy) (f : Flight) {X : Type 0} → is_out at ≡ false → IsStepOf at core c f → X
@@ -124,9 +125,9 @@ module _ (s : State) (sound : IsSound s) (c : OpenCopy) (is : s.core.copy ≡ So
 
   -- nothing was in hand
   module _ (none : hand_of c.step ≡ None) where
-    out : (n : ℕ) → Rattle.lvm_sound.specs.Sound.out_with s.device now.core n ≡ Rattle.lvm_sound.specs.Sound.out_with s.device core n
+    out : (n : ℕ) → out_with s.device now.core n ≡ out_with s.device core n
     out n =
-        let hand : count_if (is_hand n (Rattle.lvm_events.specs.Dark.hand_of_copy core.copy)) ≡ 0 = ap (λ h. count_if (is_hand n h)) (of_copy (λ (k : OpenCopy). hand_of k.step) None none) in
+        let hand : count_if (is_hand n (hand_of_copy core.copy)) ≡ 0 = ap (λ h. count_if (is_hand n h)) (of_copy (λ (k : OpenCopy). hand_of k.step) None none) in
         omega (arith, hand)
 
     pub keeps : IsSound now

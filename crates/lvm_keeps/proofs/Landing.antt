@@ -62,7 +62,7 @@ module _ (P : Outcome → Type 0) where
 
 -- ---- tests of lists
 
-or_parts : (a b : Bool) → a || b ≡ false → (a ≡ false) × (b ≡ false)
+pub or_parts : (a b : Bool) → a || b ≡ false → (a ≡ false) × (b ≡ false)
 or_parts true b is = absurd (not_so (sym is))
 or_parts false b is = (refl, is)
 

@@ -7,9 +7,14 @@ mod Telling
 mod Tables
 mod Rows
 pub mod Pin
+pub mod PinFalls
 pub mod Close
 pub mod Take
 pub mod Landing
 pub mod Losing
+pub mod Starting
 pub mod Wait
 pub mod Begin
+pub mod Bounding
+pub mod LandingFalls
+pub mod Noting

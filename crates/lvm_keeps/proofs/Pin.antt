@@ -23,13 +23,13 @@ use Rattle.lvm_session.specs.declared.flown.Owner.TheVariants as owner
 use Rattle.lvm_session.specs.declared.open.Open.{Open}
 use Rattle.lvm_session.specs.declared.open.Power.TheVariants as power
 use Rattle.lvm_session.specs.State.{Core, State, state}
-use Rattle.lvm_session.specs.Judging.{group_of, facts_of, is_waiting, is_missing, is_wanted_stale}
+use Rattle.lvm_session.specs.Judging.{group_of, facts_of, is_waiting, is_missing, is_wanted_stale, copies_in, next_for}
 use Rattle.lvm_session.specs.Enabled.{can_pin, is_pin, may_pin}
-use Rattle.lvm_events.specs.Events.{Pins}
-use Rattle.lvm_sound.specs.Owners.{AreOwned, IsDataOf}
-use Rattle.lvm_sound.specs.Requests.{IsOpenOne, IsPhase, IsRequest, IsRecorded, mode_for}
+use Rattle.lvm_events.specs.Events.{IsDataTransfer}
+use Rattle.lvm_sound.specs.Owners.{AreOwned, IsDataOf, flies, target_flies}
+use Rattle.lvm_sound.specs.Requests.{IsOpenOne, IsPhase, IsRequest, IsRecorded, mode_for, is_past_held}
 use Rattle.lvm_sound.specs.Causes.{AreCaused, AreCounted, IsAnswered, IsCaused, IsChosenSince, IsCopyCaused, IsCounted, IsLandedFor, fails_on, is_held_stale, is_over}
-use Rattle.lvm_sound.specs.Sound.{IsAsked, IsCopy, IsFitting, IsGoing, IsOn, IsSound, IsTold, count_if, is_hand, out_with, pins}
+use Rattle.lvm_sound.specs.Sound.{IsAsked, IsCopy, IsFitting, IsGoing, IsOn, IsSound, IsTold, count_if, is_hand, out_with, pins, with_row}
 use Rattle.lvm_keeps.specs.Keeps.{PinKeeps}
 use Rattle.lvm_keeps.proofs.Lists.{all_at, all_on, all_set, any_set, count_same, count_set, length_set, set_here, set_beside}
 use Rattle.lvm_keeps.proofs.Tables.{ascending_set, rows_set}
@@ -38,6 +38,9 @@ use Rattle.lvm_keeps.proofs.Numbers.{numbered}
 use Rattle.lvm_keeps.proofs.Rows.{all_fly, rows_on}
 use Rattle.lvm_keeps.proofs.Small.{both, is_false, not_so}
 use Rattle.lvm_keeps.proofs.Still.{moved, open_on, bring_on, landed_on, counted_on, origin_on, copy_on, if_on, no_cause}
+use Rattle.lvm_vol.specs.Log.{is_open}
+use Rattle.lvm_session.specs.Bringing.{has_row, step_row}
+use Rattle.lvm_sound.specs.Left.{marks_later}
 
 module _ (s : State) (sound : IsSound s) (on : s.core.power ≡ power.On) (place : ℕ) (o : Open) (there : slice_get s.core.requests place ≡ Some o) (may : may_pin s.core o ≡ true) where
   abbrev core : Core
@@ -49,28 +52,28 @@ module _ (s : State) (sound : IsSound s) (on : s.core.power ≡ power.On) (place
   abbrev group : ℕ
   group = group_of o.request.ask
 
-  abbrev pinned : Open
+  abbrev pub pinned : Open
   pinned = record o { request = with_pin o.request }
 
-  abbrev now : State
+  abbrev pub now : State
   now = moved s core.history (slice_set core.requests place pinned) core.queue core.copy core.pool core.flying (with_entry core.cache.entries lv group) core.last
 
   going : IsGoing core
   going = (sound.on on).going
 
-  its : IsOpenOne core o
+  pub its : IsOpenOne core o
   its = all_at (IsOpenOne core) core.requests place o going.requests there
 
-  may_both : (is_pin (Rattle.lvm_session.specs.Judging.next_for core o) ≡ true) × (can_pin core.cache o.request.ask ≡ true)
-  may_both = both (is_pin (Rattle.lvm_session.specs.Judging.next_for core o)) (can_pin core.cache o.request.ask) may
+  may_both : (is_pin (next_for core o) ≡ true) × (can_pin core.cache o.request.ask ≡ true)
+  may_both = both (is_pin (next_for core o)) (can_pin core.cache o.request.ask) may
 
-  entry : o.request.phase ≡ phase.WantEntry
+  pub entry : o.request.phase ≡ phase.WantEntry
   entry = pins_entry o.request.phase (facts_of core o.request) o.request may_both.0
 
   not_full : are_all_pinned core.cache.entries lv group ≡ false
   not_full = is_false (are_all_pinned core.cache.entries lv group) may_both.1
 
-  waits : is_waiting o ≡ true
+  pub waits : is_waiting o ≡ true
   waits = by (is_waiting o) refl
     where
       by : (b : Bool) → is_waiting o ≡ b → b ≡ true
@@ -80,7 +83,7 @@ module _ (s : State) (sound : IsSound s) (on : s.core.power ≡ power.On) (place
   request : IsRequest core o
   request = its.waits waits
 
-  shape : IsPhase phase.WantEntry o
+  pub shape : IsPhase phase.WantEntry o
   shape = subst (λ p. IsPhase p o) entry request.shape.phase_is
 
   -- ---- its pin
@@ -103,7 +106,7 @@ module _ (s : State) (sound : IsSound s) (on : s.core.power ≡ power.On) (place
           let most = sound.fitting.most in
           omega (arith, same, few, table, most)
 
-  full_is : after_pin core.cache lv group ≡ record core.cache { entries = with_entry core.cache.entries lv group }
+  pub full_is : after_pin core.cache lv group ≡ record core.cache { entries = with_entry core.cache.entries lv group }
   full_is = ap (λ b. if b then core.cache else record core.cache { entries = with_entry core.cache.entries lv group }) not_full
 
   entries : AreEntries now.core.cache.entries
@@ -153,8 +156,8 @@ module _ (s : State) (sound : IsSound s) (on : s.core.power ≡ power.On) (place
         still = λ e. absurd (not_so (sym e ∙ waits));
       }
     where
-      past_entry : true ≡ true → Rattle.lvm_sound.specs.Requests.is_past_held o.request.phase ≡ true
-      past_entry e = ap Rattle.lvm_sound.specs.Requests.is_past_held entry
+      past_entry : true ≡ true → is_past_held o.request.phase ≡ true
+      past_entry e = ap is_past_held entry
 
   -- ---- the table
 
@@ -189,14 +192,14 @@ module _ (s : State) (sound : IsSound s) (on : s.core.power ≡ power.On) (place
   }
     where
       Still : Open → Type 0
-      Still x = is_waiting x ≡ true → Rattle.lvm_vol.specs.Log.is_open core.history.facts x.request.id ≡ true
+      Still x = is_waiting x ≡ true → is_open core.history.facts x.request.id ≡ true
 
       asked : IsAsked core.history.facts pinned
       asked = let a = all_at (IsAsked core.history.facts) core.requests place o sound.told.requests there in
           record { request = a.request; told = a.told; client = a.client; vol = a.vol; at = a.at; count = a.count; write = a.write; length = a.length; place = a.place; outcome = a.outcome; answered = a.answered }
 
   owned : AreOwned now.core
-  owned (owner.Data id target) = going.owned (owner.Data id target) ∙ ap count_if (sym (any_set (λ (x : Open). x.request.id == id && Rattle.lvm_sound.specs.Owners.target_flies target x) core.requests place o pinned there refl))
+  owned (owner.Data id target) = going.owned (owner.Data id target) ∙ ap count_if (sym (any_set (λ (x : Open). x.request.id == id && target_flies target x) core.requests place o pinned there refl))
   owned (owner.Status disk) = going.owned (owner.Status disk)
   owned (owner.Note disk) = going.owned (owner.Note disk)
   owned owner.Copy = going.owned owner.Copy
@@ -214,7 +217,7 @@ module _ (s : State) (sound : IsSound s) (on : s.core.power ≡ power.On) (place
     status = going.status;
     owned = owned;
     tickets = going.tickets;
-    queue = going.queue ∙ ap (λ rows. option_map_or (λ (c : OpenCopy). if Rattle.lvm_session.specs.Bringing.has_row core c then Rattle.lvm_sound.specs.Sound.with_row (Rattle.lvm_session.specs.Bringing.step_row core c) rows else rows) core.copy rows) (sym (rows_set core.requests place o pinned there refl));
+    queue = going.queue ∙ ap (λ rows. option_map_or (λ (c : OpenCopy). if has_row core c then with_row (step_row core c) rows else rows) core.copy rows) (sym (rows_set core.requests place o pinned there refl));
     pinned = pins_now;
     requests = all_set (IsOpenOne core) (IsOpenOne now.core) still core.requests place pinned one going.requests;
     copy = if_on (IsCopy core) (IsCopy now.core) bring core.copy going.copy;
@@ -223,12 +226,12 @@ module _ (s : State) (sound : IsSound s) (on : s.core.power ≡ power.On) (place
     reviewed = going.reviewed;
     fresh = going.fresh;
     clearings = going.clearings;
-    numbers = let same = count_same Rattle.lvm_sound.specs.Left.marks_later core.requests place o pinned there refl in let was = going.numbers in omega (arith, same, was);
+    numbers = let same = count_same marks_later core.requests place o pinned there refl in let was = going.numbers in omega (arith, same, was);
   }
 
   -- ---- the shelf
 
-  data_on : (id target : ℕ) (f : Flight) → Rattle.lvm_sound.specs.Owners.flies core (owner.Data id target) ≡ true → IsDataOf core id target f → IsDataOf now.core id target f
+  data_on : (id target : ℕ) (f : Flight) → flies core (owner.Data id target) ≡ true → IsDataOf core id target f → IsDataOf now.core id target f
   data_on id target f fly of = by (of.place == place) refl
     where
       by : (b : Bool) → (of.place == place) ≡ b → IsDataOf now.core id target f
@@ -237,8 +240,8 @@ module _ (s : State) (sound : IsSound s) (on : s.core.power ≡ power.On) (place
           same : o ≡ of.request
           same = cc (sym there ∙ ap (slice_get core.requests) (sym (eqb-true of.place place is)) ∙ of.there)
 
-          its_move : Rattle.lvm_events.specs.Events.IsDataTransfer now.core pinned.request of.aim f
-          its_move = let m = subst (λ (x : Open). Rattle.lvm_events.specs.Events.IsDataTransfer core x.request of.aim f) (sym same) of.moves in record { disk_is = m.disk_is; first = m.first; count = m.count; write = m.write; carries = m.carries }
+          its_move : IsDataTransfer now.core pinned.request of.aim f
+          its_move = let m = subst (λ (x : Open). IsDataTransfer core x.request of.aim f) (sym same) of.moves in record { disk_is = m.disk_is; first = m.first; count = m.count; write = m.write; carries = m.carries }
       by false is = record { place = of.place; request = of.request; there = set_beside core.requests place of.place pinned (eqb-false of.place place is) ∙ of.there; own = of.own; aim = of.aim; aim_is = of.aim_is; moves = let m = of.moves in record { disk_is = m.disk_is; first = m.first; count = m.count; write = m.write; carries = m.carries } }
 
   blamed : (p : Pp) → list_any (fails_on p) now.core.requests ≡ list_any (fails_on p) core.requests
@@ -285,7 +288,7 @@ module _ (s : State) (sound : IsSound s) (on : s.core.power ≡ power.On) (place
     stuck = λ e. absurd (on_not_stuck (sym on ∙ e));
     counted = all_set (AreCounted s) (AreCounted now) counted core.requests place pinned (counted pinned (all_at (AreCounted s) core.requests place o sound.counted there)) sound.counted;
     answered = all_set (IsAnswered s) (IsAnswered now) answered core.requests place pinned (no_cause (IsLandedFor now pinned) o.landed waits) sound.answered;
-    copy = if_on (λ (c : OpenCopy). IsCopyCaused s (Rattle.lvm_session.specs.Judging.copies_in core.descriptor c.lv c.lp) c) (λ (c : OpenCopy). IsCopyCaused now (Rattle.lvm_session.specs.Judging.copies_in core.descriptor c.lv c.lp) c) (λ c. copy_on s core.history (slice_set core.requests place pinned) core.queue core.copy core.pool core.flying (with_entry core.cache.entries lv group) core.last (Rattle.lvm_session.specs.Judging.copies_in core.descriptor c.lv c.lp) c) core.copy sound.copy;
+    copy = if_on (λ (c : OpenCopy). IsCopyCaused s (copies_in core.descriptor c.lv c.lp) c) (λ (c : OpenCopy). IsCopyCaused now (copies_in core.descriptor c.lv c.lp) c) (λ c. copy_on s core.history (slice_set core.requests place pinned) core.queue core.copy core.pool core.flying (with_entry core.cache.entries lv group) core.last (copies_in core.descriptor c.lv c.lp) c) core.copy sound.copy;
     origin = origin_on s core.history (slice_set core.requests place pinned) core.queue core.copy core.pool core.flying (with_entry core.cache.entries lv group) core.last sound.origin;
   }
     where

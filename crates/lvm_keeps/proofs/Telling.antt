@@ -1,14 +1,14 @@
 -- What the history tells as an entry is added that begins no request.
 use Rattle.std.proofs.Common.{◌≡◌, ◌+◌, ◌==◌, ℕ, Bool, true, false, ◌&&◌, ◌||◌, not, List, [], ◌∷◌, ◌++◌, Option, None, refl, ◌∙◌, ap, arith, if◌then◌else◌}
-use Rattle.std.specs.Prelude.{count_by, is_some, unwrap_or}
-use Rattle.std.specs.List.{cons_option, find, list_any}
+use Rattle.std.specs.Prelude.{count_by, is_some, unwrap_or, nat_lt}
+use Rattle.std.specs.List.{cons_option, find, list_any, filter, sum_by}
 use Rattle.std.proofs.lemmas.List.{append-nil}
 use Rattle.std.proofs.lemmas.List.Sums.{sum_by_push}
 use Rattle.lvm_vol.specs.Facts.{Fact, Request, begun, begun_by}
 use Rattle.lvm_vol.specs.Legal.{begins_in}
 use Rattle.lvm_vol.specs.Log.{asked, has_id, is_answered, is_open, lands_id, no_request, takes_id}
 use Rattle.lvm_vol.proofs.Order.{any-push, begun-push}
-use Rattle.lvm_sound.specs.Sound.{count_if, outcome_in, place_in}
+use Rattle.lvm_sound.specs.Sound.{count_if, outcome_in, place_in, outcome_by}
 
 module _ (facts : List Fact) (f : Fact) (begins : begun_by f ≡ None) where
   begun_still : begun (facts ++ f ∷ []) ≡ begun facts
@@ -18,7 +18,7 @@ module _ (facts : List Fact) (f : Fact) (begins : begun_by f ≡ None) where
   asked_still id = ap (find (has_id id)) begun_still
 
   pub place_still : (id : ℕ) → place_in (facts ++ f ∷ []) id ≡ place_in facts id
-  place_still id = ap (λ (rs : List Request). Rattle.std.specs.List.sum_by (λ (r : Request). r.count) (Rattle.std.specs.List.filter (λ (r : Request). Rattle.std.specs.Prelude.nat_lt r.id id) rs)) begun_still
+  place_still id = ap (λ (rs : List Request). sum_by (λ (r : Request). r.count) (filter (λ (r : Request). nat_lt r.id id) rs)) begun_still
 
   or_none : (a b : Bool) → b ≡ false → a || b ≡ a
   or_none true b none = refl
@@ -39,8 +39,8 @@ module _ (facts : List Fact) (f : Fact) (begins : begun_by f ≡ None) where
       ∙ ap (λ b. is_some (asked facts id) && (unwrap_or (asked facts id) no_request).client == client && list_any (lands_id id) facts && not b) (any_still (takes_id id) untaken)
 
 pub outcome_still : (facts : List Fact) (f : Fact) (id : ℕ) → lands_id id f ≡ false → outcome_in (facts ++ f ∷ []) id ≡ outcome_in facts id
-outcome_still [] f id none = ap (λ b. if b then Rattle.lvm_sound.specs.Sound.outcome_by f else None) none
-outcome_still (g ∷ facts) f id none = ap (λ rest. if lands_id id g then Rattle.lvm_sound.specs.Sound.outcome_by g else rest) (outcome_still facts f id none)
+outcome_still [] f id none = ap (λ b. if b then outcome_by f else None) none
+outcome_still (g ∷ facts) f id none = ap (λ rest. if lands_id id g then outcome_by g else rest) (outcome_still facts f id none)
 
 pub count_still : (run : ℕ) (facts : List Fact) (f : Fact) → begins_in run f ≡ false → count_by (begins_in run) (facts ++ f ∷ []) ≡ count_by (begins_in run) facts
 count_still run facts f none =

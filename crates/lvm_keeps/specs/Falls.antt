@@ -11,17 +11,21 @@ use Rattle.lvm_session.specs.Judging.{is_running, is_waiting}
 use Rattle.lvm_session.specs.Bringing.{groups_of}
 use Rattle.lvm_session.specs.Enabled.{first_event, is_lost}
 use Rattle.lvm_events.specs.Ends.{Ends}
+use Rattle.lvm_vol.specs.declared.entry.Outcome.{Outcome}
+use Rattle.lvm_events.specs.Events.{Lands, Pins}
 use Rattle.lvm_events.specs.Turns.{Makes}
 use Rattle.lvm_sound.specs.Left.{left_of}
 use Rattle.lvm_sound.specs.Sound.{IsSound}
 
 -- The first event that may be made leaves less work.
 abbrev pub EventsFall : Type 0
-EventsFall = (it : Event) (old new : State) → IsSound old → old.core.power ≡ power.On → first_event old.core ≡ Some it → Makes it old new → left_of new.core < left_of old.core
+EventsFall = (it : Event) (old new : State) → IsSound old → old.core.power ≡ power.On → first_event old.core ≡ Some it → Makes it old new
+    → left_of new.core < left_of old.core
 
 -- So does the end of a transfer, where no event may be made.
 abbrev pub EndsFall : Type 0
-EndsFall = (at : ℕ) (old new : State) → IsSound old → old.core.power ≡ power.On → first_event old.core ≡ None → Ends old new at → left_of new.core < left_of old.core
+EndsFall = (at : ℕ) (old new : State) → IsSound old → old.core.power ≡ power.On → first_event old.core ≡ None → Ends old new at
+    → left_of new.core < left_of old.core
 
 -- what the work of a session is at most
 abbrev pub most_left : Core → ℕ
@@ -36,3 +40,13 @@ LeftIsBounded = (s : State) → IsSound s → left_of s.core ≤ most_left s.cor
 abbrev pub NeverStandsStill : Type 0
 NeverStandsStill = (s : State) → IsSound s → s.core.power ≡ power.On → is_lost s.core ≡ false → first_event s.core ≡ None → s.device.flights ≡ []
     → (list_any is_waiting s.core.requests ≡ false) × IfSome s.core.copy (λ (c : OpenCopy). is_running c ≡ false)
+
+-- So does a pin.
+abbrev pub PinFalls : Type 0
+PinFalls = (place : ℕ) (old new : State) → IsSound old → old.core.power ≡ power.On → is_lost old.core ≡ false → Pins old new place
+    → left_of new.core < left_of old.core
+
+-- And so does a landing.
+abbrev pub LandingFalls : Type 0
+LandingFalls = (place : ℕ) (how : Outcome) (old new : State) → IsSound old → old.core.power ≡ power.On → Lands old new place how
+    → left_of new.core < left_of old.core

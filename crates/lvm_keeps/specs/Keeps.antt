@@ -1,15 +1,26 @@
 -- Each event of a sound session leaves it sound.
-use Rattle.std.specs.Prelude.{◌≡◌, true, ℕ, Bool}
+use Rattle.std.specs.Prelude.{◌≡◌, ◌≤◌, ◌*◌, ◌||◌, true, false, ℕ, Bool, List, length, Option, Some, IfSome, is_some, Result, slice_get}
+use Rattle.lvm_num.specs.declared.place.Pp.{Pp}
 use Rattle.lvm_disk.specs.declared.shelf.Arrange.{Arrange}
 use Rattle.lvm_vol.specs.declared.entry.Outcome.{Outcome}
 use Rattle.lvm_session.specs.declared.open.Power.TheVariants as power
 use Rattle.lvm_session.specs.State.{Core, State, state}
 use Rattle.lvm_events.specs.declared.answers.Taken.{Taken}
-use Rattle.lvm_events.specs.Calls.{Closes, TakeGives}
+use Rattle.lvm_hold.specs.Conflicts.{IsInGroup}
+use Rattle.lvm_path.specs.declared.ask.Ask.{Ask}
+use Rattle.lvm_events.specs.declared.answers.AskFault.{AskFault}
+use Rattle.lvm_events.specs.declared.answers.CopyFault.{CopyFault}
+use Rattle.lvm_events.specs.Calls.{Closes, OpenGives, SubmitGives, TakeGives}
 use Rattle.lvm_events.specs.Ends.{Ends}
 use Rattle.lvm_events.specs.Events.{Admits, Lands, Pins, ReadsCopy, StartsData, StartsNote, StartsStatus, WritesCopy}
 use Rattle.lvm_events.specs.Turns.{Arranges, Darkens, Finds, GoesOff}
-use Rattle.lvm_session.specs.Enabled.{is_lost}
+use Rattle.lvm_path.specs.Asks.{count_of, is_write}
+use Rattle.lvm_path.specs.Targets.{is_begun}
+use Rattle.lvm_session.specs.declared.open.Open.{Open}
+use Rattle.lvm_session.specs.Judging.{copies_for, has_dirty_mark, has_names, held_of, mode_of, pps_of}
+use Rattle.lvm_session.specs.Enabled.{is_lost, target_due}
+use Rattle.lvm_events.specs.Marks.{is_among}
+use Rattle.lvm_sound.specs.Requests.{is_left_out}
 use Rattle.lvm_sound.specs.Causes.{AnyFailedSince, IsLandedFor}
 use Rattle.lvm_sound.specs.Sound.{IsSound}
 
@@ -64,6 +75,21 @@ OffKeeps = Keeps GoesOff
 abbrev pub IsAwake : Core → Type 0
 IsAwake core = core.power ≡ power.Stuck → ⊥
 
+-- what a client may ask for: some blocks of one track group, with the data of a write
+pub record MaySubmit (client : ℕ) (ask : Ask) (bytes : Option (List ℕ)) : Type 0 where
+  pub someone : 1 ≤ client
+  pub blocks : IsInGroup (held_of ask)
+  pub written : is_some bytes ≡ is_write ask
+  pub long : IfSome bytes (λ (given : List ℕ). length given ≡ 512 * count_of ask)
+
+abbrev pub SubmitKeeps : Type 0
+SubmitKeeps = (s : State) (new : Core) (client : ℕ) (ask : Ask) (bytes : Option (List ℕ)) (answer : Result ℕ AskFault)
+    → IsSound s → IsAwake s.core → MaySubmit client ask bytes → SubmitGives s.core new client ask bytes answer → IsSound (state s.device new)
+
+abbrev pub OpenKeeps : Type 0
+OpenKeeps = (s : State) (new : Core) (lv lp number : ℕ) (answer : Result (Unit {0}) CopyFault)
+    → IsSound s → IsAwake s.core → OpenGives s.device.counts s.core new lv lp number answer → IsSound (state s.device new)
+
 abbrev pub TakeKeeps : Type 0
 TakeKeeps = (s : State) (new : Core) (client id : ℕ) (answer : Taken) → IsSound s → TakeGives s.core new client id answer → IsSound (state s.device new)
 
@@ -77,8 +103,23 @@ OrderKeeps = (old new : State) (what : Arrange) (done : Bool) → IsSound old �
 
 -- What a request lands as is due to faults since, as its outcome says.
 abbrev pub LandingIsCaused : Type 0
-LandingIsCaused = (place : ℕ) (how : Outcome) (old new : State) → IsSound old → old.core.power ≡ power.On → (event : Lands old new place how) → IsLandedFor old event.request how
+LandingIsCaused = (place : ℕ) (how : Outcome) (old new : State) → IsSound old → old.core.power ≡ power.On → (event : Lands old new place how)
+    → IsLandedFor old event.request how
 
 -- The votes are lost only where some disk has failed since the session began.
 abbrev pub LossIsCaused : Type 0
 LossIsCaused = (s : State) → IsSound s → is_lost s.core ≡ true → AnyFailedSince s
+
+-- ---- where a write goes
+
+-- A write that starts its first transfer goes to each copy that isn't left out: which is stale, and which the copying hasn't passed.
+abbrev pub FirstStartIsWhole : Type 0
+FirstStartIsWhole = (s : State) (place target : ℕ) (o : Open) → IsSound s → s.core.power ≡ power.On → slice_get s.core.requests place ≡ Some o
+    → target_due s.core o ≡ Some target → is_write o.request.ask ≡ true → is_begun o.request.targets.items ≡ false
+    → (p : Pp) → is_among (copies_for s.core o.request.ask) p ≡ true → is_among (pps_of o.request.targets.items) p || is_left_out s.core o.request.ask p ≡ true
+
+-- One that starts it at two targets or more has the records that its volume keeps: the notes of all its targets, or a settled dirty mark.
+abbrev pub FirstStartIsNoted : Type 0
+FirstStartIsNoted = (s : State) (place target : ℕ) (o : Open) → IsSound s → s.core.power ≡ power.On → slice_get s.core.requests place ≡ Some o
+    → target_due s.core o ≡ Some target → is_write o.request.ask ≡ true → is_begun o.request.targets.items ≡ false → 2 ≤ length o.request.targets.items
+    → (has_names s.core (mode_of s.core o.request.ask) o.request ≡ true) × (has_dirty_mark s.core (mode_of s.core o.request.ask) o.request ≡ true)

@@ -1,6 +1,7 @@
 //! Laws: what each event of a sound session leaves is sound.
 ghost use Rattle.lvm_keeps.specs.Begins.{BeginningIsSound};
-ghost use Rattle.lvm_keeps.specs.Keeps.{CloseKeeps, LandingIsCaused, LossIsCaused, PinKeeps, TakeKeeps, WaitKeeps};
+ghost use Rattle.lvm_keeps.specs.Falls.{LandingFalls, LeftIsBounded, PinFalls};
+ghost use Rattle.lvm_keeps.specs.Keeps.{CloseKeeps, FirstStartIsNoted, FirstStartIsWhole, LandingIsCaused, LossIsCaused, PinKeeps, TakeKeeps, WaitKeeps};
 
 /// A session is sound as it begins.
 pub fn beginning_is_sound()
@@ -36,4 +37,31 @@ pub fn landing_is_caused()
 /// The votes of a session are lost only where some disk has failed since it began.
 pub fn loss_is_caused()
     ensures { LossIsCaused }
+{}
+
+/// A write that starts its first transfer goes to each copy, but for those that are settled as stale and that the
+/// copying hasn't passed.
+pub fn first_start_is_whole()
+    ensures { FirstStartIsWhole }
+{}
+
+/// A request that pins its track group leaves less work.
+pub fn pin_falls()
+    ensures { PinFalls }
+{}
+
+/// The work that is left is at most 1,024 for each open request, for each member that isn't missing and for a copy
+/// that is open, 16 for each track group that is left of it, and 1 for each transfer that is out.
+pub fn left_is_bounded()
+    ensures { LeftIsBounded }
+{}
+
+/// A request that lands leaves less work.
+pub fn landing_falls()
+    ensures { LandingFalls }
+{}
+
+/// A write that starts its first transfer at two targets or more has the records that its volume keeps.
+pub fn first_start_is_noted()
+    ensures { FirstStartIsNoted }
 {}

@@ -16,7 +16,8 @@ use Rattle.lvm_group.specs.NewGroup.{NewGroup}
 use Rattle.lvm_group.specs.Made.{Refuses as MkvgRefuses}
 use Rattle.lvm_varyon.specs.Varied.{Refuses as VaryonRefuses}
 use Rattle.lvm_line.specs.Causes.{HasCause, HasFailed, RoseOn, disk_of, VaryonLaw}
-use Rattle.lvm_line.specs.Disks.{patience_of_line, refusal_by, HasFaulted, NoWriteWhileOn, WriteFaults, WriteIsDone, NoReadWhileOn, ReadFaults, ReadGets}
+use Rattle.lvm_raw.specs.Ends.{FaultHasCause}
+use Rattle.lvm_line.specs.Disks.{patience_of_line, refusal_by, NoWriteWhileOn, WriteFaults, WriteIsDone, NoReadWhileOn, ReadFaults, ReadGets}
 use Rattle.lvm_line.specs.Groups.{IsLit, IsBroughtBack, refusal_of, asked_for, NoVaryonWhileOn, VariesOn, VaryonFails, NoMemoryForLine, NoMkvgWhileOn, MakesGroup, MkvgFails, NoVaryoff, VariesOff}
 use Rattle.lvm_line.specs.Lines.{LineDoes}
 use Rattle.lvm_line.specs.Listings.{NoSuchGroup, ListsGroup, NoGroupForVolume, NoSuchVolume, ListsVolume, NoGroupForDisk, NoSuchMember, ListsMember}
@@ -128,17 +129,17 @@ module _ (read : Result (Option Command) Misfit) (disk : ℕ) (its : disk_of rea
   on_disk : (a b : ℕ → ℕ) → Rose (a disk) (b disk) → RoseOn (disk_of read) a b
   on_disk a b rose = subst (λ (d : Option ℕ). RoseOn d a b) (sym its) rose
 
-  known_fault : (why : RawFault) → HasFaulted disk why old.moment.device new.moment.device → Known read (refusal_by why) old new
-  known_fault (fault.NoDisk d) faulted = record { cause = tt; off = λ is. off; unwritten = λ have total is. absurd (cc (is)) }
-  known_fault (fault.OutOfRange blocks) faulted = record { cause = tt; off = λ is. off; unwritten = λ have total is. absurd (cc (is)) }
-  known_fault fault.HistoryFull faulted = record { cause = tt; off = λ is. off; unwritten = λ have total is. absurd (cc (is)) }
-  known_fault fault.Dark faulted = record { cause = faulted; off = λ is. off; unwritten = λ have total is. absurd (cc (is)) }
-  known_fault fault.Stuck faulted = record { cause = faulted; off = λ is. off; unwritten = λ have total is. absurd (cc (is)) }
-  known_fault (fault.DiskFailed d) faulted = record { cause = missed d old.moment.device.counts new.moment.device.counts (subst (λ (n : ℕ). Rose (old.moment.device.counts.misses n) (new.moment.device.counts.misses n)) (sym faulted.0) faulted.1); off = λ is. off; unwritten = λ have total is. absurd (cc (is)) }
-  known_fault (fault.InGroup d) faulted = record { cause = tt; off = λ is. off; unwritten = λ have total is. absurd (cc (is)) }
-  known_fault fault.Lost faulted = record { cause = on_disk old.moment.device.counts.faults new.moment.device.counts.faults faulted; off = λ is. off; unwritten = λ have total is. absurd (cc (is)) }
-  known_fault fault.ReadFailed faulted = record { cause = on_disk old.moment.device.counts.faults new.moment.device.counts.faults faulted; off = λ is. off; unwritten = λ have total is. absurd (cc (is)) }
-  known_fault fault.Memory faulted = record { cause = tt; off = λ is. off; unwritten = λ have total is. absurd (cc (is)) }
+  known_fault : (failed : RawFault) (log : Log) (at count : ℕ) (why : RawFault) → FaultHasCause failed log disk at count patience_of_line old.moment.device new.moment.device why → Known read (refusal_by why) old new
+  known_fault failed log at count (fault.NoDisk d) faulted = record { cause = tt; off = λ is. off; unwritten = λ have total is. absurd (cc (is)) }
+  known_fault failed log at count (fault.OutOfRange blocks) faulted = record { cause = tt; off = λ is. off; unwritten = λ have total is. absurd (cc (is)) }
+  known_fault failed log at count fault.HistoryFull faulted = record { cause = tt; off = λ is. off; unwritten = λ have total is. absurd (cc (is)) }
+  known_fault failed log at count fault.Dark faulted = record { cause = faulted; off = λ is. off; unwritten = λ have total is. absurd (cc (is)) }
+  known_fault failed log at count fault.Stuck faulted = record { cause = faulted; off = λ is. off; unwritten = λ have total is. absurd (cc (is)) }
+  known_fault failed log at count (fault.DiskFailed d) faulted = record { cause = missed d old.moment.device.counts new.moment.device.counts (subst (λ (n : ℕ). Rose (old.moment.device.counts.misses n) (new.moment.device.counts.misses n)) (sym faulted.0) faulted.1); off = λ is. off; unwritten = λ have total is. absurd (cc (is)) }
+  known_fault failed log at count (fault.InGroup d) faulted = record { cause = tt; off = λ is. off; unwritten = λ have total is. absurd (cc (is)) }
+  known_fault failed log at count fault.Lost faulted = record { cause = on_disk old.moment.device.counts.faults new.moment.device.counts.faults faulted.2; off = λ is. off; unwritten = λ have total is. absurd (cc (is)) }
+  known_fault failed log at count fault.ReadFailed faulted = record { cause = on_disk old.moment.device.counts.faults new.moment.device.counts.faults faulted.2; off = λ is. off; unwritten = λ have total is. absurd (cc (is)) }
+  known_fault failed log at count fault.Memory faulted = record { cause = tt; off = λ is. off; unwritten = λ have total is. absurd (cc (is)) }
 
 -- ---- lines
 
@@ -181,10 +182,10 @@ known log room (Ok (Some (command.Lspv disk))) why old new (NoGroupForDisk none 
 known log room (Ok (Some (command.Lspv disk))) why old new (NoSuchMember core some none is, same) = by_reply _ why (refusal.NoDisk disk) old new is (easy _ (refusal.NoDisk disk) old new tt (λ e. cc) (λ h t e. cc))
 known log room (Ok (Some (command.Lspv disk))) why old new (ListsMember core row some there its shows, same) = of_shows _ _ why old new shows
 known log room (Ok (Some (command.RawRd disk at count))) why old new (NoReadWhileOn some is) = by_reply _ why refusal.GroupOn old new is.0 (easy _ refusal.GroupOn old new tt (λ e. cc) (λ h t e. cc))
-known log room (Ok (Some (command.RawRd disk at count))) why old new (ReadFaults reason off gives faulted is) = by_reply _ why (refusal_by reason) old new is (known_fault (Ok (Some (command.RawRd disk at count))) disk refl (λ d a b rose. rose) old new off.after reason faulted)
+known log room (Ok (Some (command.RawRd disk at count))) why old new (ReadFaults reason off gives faulted is) = by_reply _ why (refusal_by reason) old new is (known_fault (Ok (Some (command.RawRd disk at count))) disk refl (λ d a b rose. rose) old new off.after fault.ReadFailed (log_with log old.moment.facts) at count reason faulted)
 known log room (Ok (Some (command.RawRd disk at count))) why old new (ReadGets blocks off gives shows) = of_shows _ _ why old new shows
 known log room (Ok (Some (command.RawWr disk at count word))) why old new (NoWriteWhileOn some is) = by_reply _ why refusal.GroupOn old new is.0 (easy _ refusal.GroupOn old new tt (λ e. cc) (λ h t e. cc))
-known log room (Ok (Some (command.RawWr disk at count word))) why old new (WriteFaults reason off gives faulted is) = by_reply _ why (refusal_by reason) old new is (known_fault (Ok (Some (command.RawWr disk at count word))) disk refl (λ d a b rose. rose) old new off.after reason faulted)
+known log room (Ok (Some (command.RawWr disk at count word))) why old new (WriteFaults reason off gives faulted is) = by_reply _ why (refusal_by reason) old new is (known_fault (Ok (Some (command.RawWr disk at count word))) disk refl (λ d a b rose. rose) old new off.after fault.Lost (log_with log old.moment.facts) at count reason faulted)
 known log room (Ok (Some (command.RawWr disk at count word))) why old new (WriteIsDone off gives is) = absurd (cc (is))
 known log room (Ok (Some (command.Fail disk))) why old new (NotThere beyond is) = by_reply _ why (refusal.NoDisk disk) old new is.0 (easy _ (refusal.NoDisk disk) old new tt (λ e. cc) (λ h t e. cc))
 known log room (Ok (Some (command.Fail disk))) why old new (NotPlanned there unplanned is) = by_reply _ why refusal.NoPlan old new is.0 (easy _ refusal.NoPlan old new tt (λ e. cc) (λ h t e. cc))

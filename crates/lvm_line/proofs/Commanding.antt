@@ -1,5 +1,7 @@
 -- Commands on the session that is on.
 use Rattle.std.proofs.Common.{◌≡◌, ◌+◌, ◌≤◌, [], ℕ, List, Bool, true, Option, None, refl, sym, ◌∙◌, ap, subst, arith}
+use Rattle.lvm_num.specs.declared.place.Pp.{Pp}
+use Rattle.lvm_num.specs.declared.descriptor.Descriptor.{Descriptor}
 use Rattle.lvm_num.specs.Buffer.{Buffer}
 use Rattle.lvm_disk.specs.Device.{Device, IsReady}
 use Rattle.lvm_vol.specs.Log.{Log}
@@ -9,17 +11,18 @@ use Rattle.lvm_steps.specs.Requests.{at}
 use Rattle.lvm_steps.proofs.Spans.{keeps_still}
 use Rattle.lvm_transfer.specs.Transfer.{Relights}
 use Rattle.lvm_core.specs.declared.refused.Cause.TheVariants as cause
-use Rattle.lvm_core.specs.Committing.{moment_of, StaysBehind}
+use Rattle.lvm_core.specs.Committing.{moment_of, SpanGoesOn, StaysBehind}
+use Rattle.lvm_core.specs.Leaves.{EntersVolumes, KeepsHistory, Leaves}
 use Rattle.lvm_commit.specs.LawsOfVolumes.{IsOneByAllOn}
 use Rattle.lvm_commit.proofs.Others.{one_by_all_is_only_since}
 use Rattle.lvm_core.specs.Held.{IsHeld}
 use Rattle.lvm_core.specs.Settled.{IsSettled as IsSettledCore}
 use Rattle.lvm_core.specs.Sound.{HaveAllLanded}
 use Rattle.lvm_core.specs.State.{Core, State as Session, state}
-use Rattle.lvm_group.specs.declared.fault.GroupFault.{GroupFault}
-use Rattle.lvm_group.specs.declared.fault.GroupFault.TheVariants as fault
-use Rattle.lvm_group.specs.Endings.{EntersVolumes, KeepsHistory, KeepsSpans, StillHeld}
-use Rattle.lvm_group.proofs.Entering.{shows_committed}
+use Rattle.lvm_volumes.specs.declared.fault.GroupFault.{GroupFault}
+use Rattle.lvm_volumes.specs.declared.fault.GroupFault.TheVariants as fault
+use Rattle.lvm_volumes.specs.Endings.{IfAlone, StillHeld, commanding}
+use Rattle.lvm_volumes.proofs.Entering.{shows_committed}
 use Rattle.lvm_line.specs.Moments.{GoesOn}
 use Rattle.lvm_line.specs.Replies.{IsStuck}
 use Rattle.lvm_line.specs.Stages.{shelf_in, history_in, session_in, state_in, Between}
@@ -34,13 +37,24 @@ use Rattle.lvm_line.proofs.Coming.{LitUp, lit_up, at_rest}
 -- ---- what a command promises, whatever its answer
 
 pub record Promised (old new : Session) : Type 0 where
-  pub keeps : KeepsSpans old new
+  pub keeps : IsHeld old.device old.core → (run : ℕ) (first : Moment) → IfAlone old new run first → SpanGoesOn run first old new
   pub orders : new.device.orders ≡ old.device.orders
   pub epoch : new.core.status.stamp.epoch ≡ old.core.status.stamp.epoch
   pub history : KeepsHistory old.core.history new.core.history
   pub calm : StaysCalm (moment_of old) (moment_of new)
   pub behind : StaysBehind old new
   pub waits : old.device.counts.waits ≤ new.device.counts.waits
+
+pub promised_by : (N : Descriptor → Type 0) (Z : Pp → Type 0) (numbers before after : ℕ) (old new : Session) → Leaves (commanding N Z numbers) before after old new → Promised old new
+promised_by N Z numbers before after old new leaves = record {
+  keeps = leaves.spans;
+  orders = leaves.writes.orders;
+  epoch = leaves.numbers.epoch;
+  history = leaves.history;
+  calm = leaves.calm;
+  behind = leaves.behind;
+  waits = leaves.spends.waits.later;
+}
 
 -- what it leaves of a session that goes on
 pub record Continues (old new : Session) : Type 0 where

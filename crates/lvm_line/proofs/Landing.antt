@@ -7,10 +7,10 @@ use Rattle.lvm_vol.specs.Facts.{Making, Made, Removing, Removed}
 use Rattle.lvm_vol.specs.Log.{Log}
 use Rattle.lvm_core.specs.Sound.{HaveAllLanded}
 use Rattle.lvm_core.specs.State.{Core, State as Session}
-use Rattle.lvm_group.specs.declared.fault.GroupFault.{GroupFault}
-use Rattle.lvm_group.specs.declared.fault.GroupFault.TheVariants as fault
-use Rattle.lvm_group.specs.declared.new_volume.NewVolume.{NewVolume}
-use Rattle.lvm_group.specs.Volumes.{MklvGives, RmlvGives, HasEntered, making, removing}
+use Rattle.lvm_volumes.specs.declared.fault.GroupFault.{GroupFault}
+use Rattle.lvm_volumes.specs.declared.fault.GroupFault.TheVariants as fault
+use Rattle.lvm_volumes.specs.declared.new_volume.NewVolume.{NewVolume}
+use Rattle.lvm_volumes.specs.Volumes.{MklvGives, RmlvGives, HasEntered, making, removing}
 use Rattle.lvm_line.proofs.Passive.{open_more, bears_cut, landed_bears}
 
 abbrev Landed : Log → Type 0

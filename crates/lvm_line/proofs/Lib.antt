@@ -13,6 +13,7 @@ pub mod Making
 pub mod Staging
 pub mod Closing
 pub mod Options
+pub mod Answering
 pub mod Asking
 pub mod Lining
 pub mod Knowing

@@ -15,10 +15,11 @@ use Rattle.lvm_core.specs.declared.refused.Cause.{Cause}
 use Rattle.lvm_core.specs.declared.refused.Cause.TheVariants as cause
 use Rattle.lvm_core.specs.declared.refused.Refused.{Refused}
 use Rattle.lvm_commit.specs.Settling.{NoneIsLeft}
+use Rattle.lvm_core.specs.Coming.{BringsOn, IsStarted, shelf_left, history_left}
 use Rattle.lvm_core.specs.Held.{StartsHeld}
 use Rattle.lvm_core.specs.Sound.{HaveAllLanded}
-use Rattle.lvm_core.specs.Settled.{IsSettled as IsSettledCore, HasNumbers}
-use Rattle.lvm_core.specs.State.{Core}
+use Rattle.lvm_core.specs.Settled.{IsSettled as IsSettledCore, HasSpareNumbers}
+use Rattle.lvm_core.specs.State.{Core, state_of}
 use Rattle.lvm_line.specs.Disks.{patience_of_line}
 use Rattle.lvm_line.specs.Groups.{MkvgDoes, MakesGroup, MkvgFails, asked_for}
 use Rattle.lvm_line.specs.Moments.{GoesOn}
@@ -30,7 +31,7 @@ use Rattle.lvm_line.specs.declared.stage.Stage.TheVariants as stage
 use Rattle.lvm_line.proofs.Coming.{Rests, Leaves, lit_up, left_off, left_on, off_is}
 use Rattle.lvm_line.proofs.Passive.{Bears, bears_cut, bears_given_up, landed_bears, later_bears, open_more}
 use Rattle.lvm_group.specs.NewGroup.{NewGroup, given_up}
-use Rattle.lvm_group.specs.Made.{Refuses, MkvgGives, shelf_left, history_left}
+use Rattle.lvm_group.specs.Made.{Refuses, MkvgGives}
 use Rattle.lvm_line.proofs.Cutting.{cut_rooms}
 use Rattle.lvm_line.proofs.Varying.{Left}
 
@@ -102,11 +103,34 @@ pub record Called {S : Type 0} (device : S → Device) (shelf : S) (log : Log) (
   pub gives : MkvgGives device w room patience_of_line log (device shelf) outcome
   pub held : ClockIsAhead log.run w.moment (device shelf) log.facts → IfOk outcome (λ driver. StartsHeld (device driver.0) driver.1)
   pub left : IfOk outcome (λ driver. NoneIsLeft driver.1.descriptor driver.1.status)
-  pub settled : IfOk outcome (λ driver. IsSettledCore driver.1 × HasNumbers driver.1)
+  pub settled : IfOk outcome (λ driver. IsSettledCore driver.1 × HasSpareNumbers driver.1)
   pub waited : (device shelf).counts.waits ≤ (device (shelf_left outcome)).counts.waits
   pub keeps : ClockIsAhead log.run w.moment (device shelf) log.facts → Keeps log.run (at (device shelf) log.facts) (at (device (shelf_left outcome)) (history_left outcome).facts)
   pub calm : StaysCalm (at (device shelf) log.facts) (at (device (shelf_left outcome)) (history_left outcome).facts)
   pub behind : ClockIsAhead log.run w.moment (device shelf) log.facts → IsBehind (w.moment + 1) (device (shelf_left outcome))
+
+pub called_by : {S : Type 0} (device : S → Device) (shelf : S) (log : Log) (w : NewGroup) (room : Room) (before after : ℕ) (outcome : Result (S × Core) (Refused S)) → MkvgGives device w room patience_of_line log (device shelf) outcome
+    → IfOk outcome (λ driver. IsStarted log.run w.moment (device shelf) log (state_of device driver)) → BringsOn log.run w.moment before after (device shelf) (device (shelf_left outcome)) log (history_left outcome) → Called device shelf log w room outcome
+called_by device shelf log w room before after (Ok driver) gives starts leaves = record {
+  gives = gives;
+  held = starts.held;
+  left = starts.left;
+  settled = (starts.settled, starts.numbers);
+  waited = leaves.spends.waits.later;
+  keeps = leaves.keeps;
+  calm = leaves.calm;
+  behind = leaves.behind;
+}
+called_by device shelf log w room before after (Err refused) gives starts leaves = record {
+  gives = gives;
+  held = λ clock. tt;
+  left = tt;
+  settled = tt;
+  waited = leaves.spends.waits.later;
+  keeps = leaves.keeps;
+  calm = leaves.calm;
+  behind = leaves.behind;
+}
 
 -- where the power was cut nothing is out
 pub dark_still : {S : Type 0} (device : S → Device) (shelf : S) (log : Log) (w : NewGroup) (room : Room) (outcome : Result (S × Core) (Refused S)) → IsReady (device shelf) → Called device shelf log w room outcome

@@ -1,24 +1,25 @@
 -- `varyonvg`, by how its call ends.
-use Rattle.std.proofs.Common.{◌≡◌, ⊎_elim, ◌≤◌, ◌∷◌, ◌++◌, [], ℕ, List, false, None, Result, Ok, Err, IfOk, IfErr, MatchResult, refl, sym, ◌∙◌, ap, subst}
-use Rattle.lvm_disk.specs.Counts.{RoseBy}
+use Rattle.std.proofs.Common.{◌≡◌, ⊎_elim, ◌+◌, ◌≤◌, ◌∷◌, ◌++◌, [], ℕ, List, false, None, Result, Ok, Err, IfOk, IfErr, refl, sym, ◌∙◌, ap, subst}
 use Rattle.lvm_disk.specs.Device.{Device, IsReady}
 use Rattle.lvm_io.specs.Count.{Rose}
 use Rattle.lvm_vol.specs.Facts.{Fact, On}
 use Rattle.lvm_vol.specs.Legal.{IsLater}
 use Rattle.lvm_vol.specs.Log.{Log, is_open}
 use Rattle.lvm_kept.specs.Moments.{StaysCalm}
+use Rattle.lvm_steps.specs.Moments.{Keeps}
 use Rattle.lvm_steps.specs.Requests.{at}
-use Rattle.lvm_stamps.specs.Behind.{ClockIsAhead}
+use Rattle.lvm_stamps.specs.Behind.{ClockIsAhead, IsBehind}
 use Rattle.lvm_stamps.proofs.Clock.{later_joins}
 use Rattle.lvm_core.specs.declared.parts.Room.{Room}
 use Rattle.lvm_core.specs.declared.refused.Cause.{Cause}
 use Rattle.lvm_core.specs.declared.refused.Cause.TheVariants as cause
 use Rattle.lvm_core.specs.declared.refused.Refused.{Refused}
 use Rattle.lvm_commit.specs.Settling.{NoneIsLeft}
+use Rattle.lvm_core.specs.Coming.{BringsOn, IsStarted, shelf_left, history_left}
 use Rattle.lvm_core.specs.Held.{StartsHeld}
 use Rattle.lvm_core.specs.Sound.{HaveAllLanded}
-use Rattle.lvm_core.specs.Settled.{IsSettled as IsSettledCore, HasNumbers}
-use Rattle.lvm_core.specs.State.{Core}
+use Rattle.lvm_core.specs.Settled.{IsSettled as IsSettledCore, HasSpareNumbers}
+use Rattle.lvm_core.specs.State.{Core, state_of}
 use Rattle.lvm_line.specs.Disks.{patience_of_line}
 use Rattle.lvm_line.specs.Groups.{IsLit, refusal_of, VaryonDoes, VariesOn, VaryonFails}
 use Rattle.lvm_line.specs.Moments.{GoesOn}
@@ -32,7 +33,7 @@ use Rattle.lvm_line.proofs.Coming.{Rests, Leaves, lit_up, left_off, left_on, off
 use Rattle.lvm_line.proofs.Passive.{Bears, bears_cut, landed_bears, later_bears, open_more}
 use Rattle.lvm_line.proofs.Cutting.{cut_rooms}
 use Rattle.lvm_varyon.specs.Restated.{HasNoConsistency}
-use Rattle.lvm_varyon.specs.Varied.{ComesOn, IsRestated, IsRecovered, Refuses, KeepsAll, StaysBehind, log_after}
+use Rattle.lvm_varyon.specs.Varied.{ComesOn, IsRestated, IsRecovered, Refuses, VaryonGives, log_after}
 
 -- ---- a refusal
 
@@ -74,22 +75,49 @@ pub record Called {S : Type 0} (device : S → Device) (shelf : S) (log : Log) (
   pub on : IfOk outcome (λ driver. ComesOn (device shelf) (device driver.0) log name moment room driver.1)
   pub held : IfOk outcome (λ driver. ClockIsAhead log.run moment (device shelf) log.facts → StartsHeld (device driver.0) driver.1)
   pub left : IfOk outcome (λ driver. NoneIsLeft driver.1.descriptor driver.1.status)
-  pub settled : IfOk outcome (λ driver. IsSettledCore driver.1 × HasNumbers driver.1)
+  pub settled : IfOk outcome (λ driver. IsSettledCore driver.1 × HasSpareNumbers driver.1)
   pub restated : IfOk outcome (λ driver. ClockIsAhead log.run moment (device shelf) log.facts → IsRestated (device shelf) (device driver.0) driver.1.descriptor)
   pub recovered : IfOk outcome (λ driver. ClockIsAhead log.run moment (device shelf) log.facts → HasNoConsistency driver.1.descriptor → IsRecovered (device shelf) (device driver.0) driver.1.descriptor)
   pub refused : IfErr outcome (λ refused. Refuses (device shelf) (device refused.shelf) name moment patience_of_line log refused.cause)
   pub history : IfErr outcome (λ refused. refused.history ≡ log_after refused.cause log)
-  pub waited : MatchResult outcome (λ driver. (device shelf).counts.waits ≤ (device driver.0).counts.waits) (λ refused. (device shelf).counts.waits ≤ (device refused.shelf).counts.waits)
-  pub keeps : MatchResult outcome (λ driver. KeepsAll log moment (device shelf) (device driver.0) driver.1.history) (λ refused. KeepsAll log moment (device shelf) (device refused.shelf) refused.history)
-  pub calm : MatchResult outcome (λ driver. StaysCalm (at (device shelf) log.facts) (at (device driver.0) driver.1.history.facts)) (λ refused. StaysCalm (at (device shelf) log.facts) (at (device refused.shelf) refused.history.facts))
-  pub behind : MatchResult outcome (λ driver. StaysBehind log moment (device shelf) (device driver.0)) (λ refused. StaysBehind log moment (device shelf) (device refused.shelf))
+  pub waited : (device shelf).counts.waits ≤ (device (shelf_left outcome)).counts.waits
+  pub keeps : ClockIsAhead log.run moment (device shelf) log.facts → Keeps log.run (at (device shelf) log.facts) (at (device (shelf_left outcome)) (history_left outcome).facts)
+  pub calm : StaysCalm (at (device shelf) log.facts) (at (device (shelf_left outcome)) (history_left outcome).facts)
+  pub behind : ClockIsAhead log.run moment (device shelf) log.facts → IsBehind (moment + 1) (device (shelf_left outcome))
 
--- no wait was lost
-pub later_of : {S : Type 0} (device : S → Device) (shelf : S) (outcome : Result (S × Core) (Refused S)) (lost : ℕ)
-    → MatchResult outcome (λ driver. RoseBy lost (device shelf).counts.waits (device driver.0).counts.waits) (λ refused. RoseBy lost (device shelf).counts.waits (device refused.shelf).counts.waits)
-    → MatchResult outcome (λ driver. (device shelf).counts.waits ≤ (device driver.0).counts.waits) (λ refused. (device shelf).counts.waits ≤ (device refused.shelf).counts.waits)
-later_of device shelf (Ok driver) lost rose = rose.later
-later_of device shelf (Err refused) lost rose = rose.later
+pub called_by : {S : Type 0} (device : S → Device) (shelf : S) (log : Log) (name : List ℕ) (moment : ℕ) (room : Room) (before after : ℕ) (outcome : Result (S × Core) (Refused S)) → VaryonGives device (device shelf) log name moment room patience_of_line outcome
+    → IfOk outcome (λ driver. IsStarted log.run moment (device shelf) log (state_of device driver))
+    → IfOk outcome (λ driver. ClockIsAhead log.run moment (device shelf) log.facts → IsRestated (device shelf) (device driver.0) driver.1.descriptor)
+    → IfOk outcome (λ driver. ClockIsAhead log.run moment (device shelf) log.facts → HasNoConsistency driver.1.descriptor → IsRecovered (device shelf) (device driver.0) driver.1.descriptor)
+    → BringsOn log.run moment before after (device shelf) (device (shelf_left outcome)) log (history_left outcome) → Called device shelf log name moment room outcome
+called_by device shelf log name moment room before after (Ok driver) gives starts restated recovered leaves = record {
+  on = gives;
+  held = starts.held;
+  left = starts.left;
+  settled = (starts.settled, starts.numbers);
+  restated = restated;
+  recovered = recovered;
+  refused = tt;
+  history = tt;
+  waited = leaves.spends.waits.later;
+  keeps = leaves.keeps;
+  calm = leaves.calm;
+  behind = leaves.behind;
+}
+called_by device shelf log name moment room before after (Err refused) gives starts restated recovered leaves = record {
+  on = tt;
+  held = tt;
+  left = tt;
+  settled = tt;
+  restated = tt;
+  recovered = tt;
+  refused = gives.0;
+  history = gives.1;
+  waited = leaves.spends.waits.later;
+  keeps = leaves.keeps;
+  calm = leaves.calm;
+  behind = leaves.behind;
+}
 
 -- what the stage is then
 pub record Left {S : Type 0} (device : S → Device) (outcome : Result (S × Core) (Refused S)) (it : Stage S) (answer : Reply) : Type 0 where

@@ -1,14 +1,14 @@
 -- What a line does that reads or writes a range of a disk.
 use Rattle.std.specs.Prelude.{◌≡◌, ◌∷◌, ◌++◌, ◌+◌, ℕ, [], List, None, IsSome, Result, Ok, Err}
 use Rattle.lvm_num.specs.Buffer.{Sector}
-use Rattle.lvm_disk.specs.Counts.{Rose, RoseBy}
-use Rattle.lvm_disk.specs.Device.{Device}
+use Rattle.lvm_kept.specs.Moments.{Moment}
 use Rattle.lvm_vol.specs.Log.{Log}
 use Rattle.lvm_replies.specs.Blocks.{block_text}
 use Rattle.lvm_raw.specs.declared.fault.RawFault.{RawFault}
 use Rattle.lvm_raw.specs.declared.fault.RawFault.TheVariants as fault
+use Rattle.lvm_raw.specs.Ends.{FaultHasCause}
 use Rattle.lvm_raw.specs.Raw.{WriteGives, ReadGives}
-use Rattle.lvm_line.specs.State.{State}
+use Rattle.lvm_line.specs.State.{State, log_with}
 use Rattle.lvm_line.specs.Replies.{IsRefused, Shows}
 use Rattle.lvm_line.specs.declared.reply.Refusal.{Refusal}
 use Rattle.lvm_line.specs.declared.reply.Refusal.TheVariants as refusal
@@ -42,14 +42,12 @@ abbrev pub blocks_text : ℕ → List Sector → List ℕ
 blocks_text at [] = []
 blocks_text at (block ∷ blocks) = block_text at block ++ blocks_text (at + 1) blocks
 
--- what has happened to the disk where a range of it was refused for that
-abbrev pub HasFaulted : ℕ → RawFault → Device → Device → Type 0
-HasFaulted disk fault.Dark old new = Rose old.counts.cuts new.counts.cuts
-HasFaulted disk fault.Stuck old new = RoseBy patience_of_line old.counts.waits new.counts.waits
-HasFaulted disk (fault.DiskFailed d) old new = (d ≡ disk) × Rose (old.counts.misses disk) (new.counts.misses disk)
-HasFaulted disk fault.Lost old new = Rose (old.counts.faults disk) (new.counts.faults disk)
-HasFaulted disk fault.ReadFailed old new = Rose (old.counts.faults disk) (new.counts.faults disk)
-HasFaulted disk other old new = Unit {0}
+-- what has happened where `wr` is refused for a fault of the range, and where `rd` is
+abbrev pub WriteHasCause : Log → ℕ → ℕ → ℕ → Moment → Moment → RawFault → Type 0
+WriteHasCause log disk at count old new why = FaultHasCause fault.Lost (log_with log old.facts) disk at count patience_of_line old.device new.device why
+
+abbrev pub ReadHasCause : Log → ℕ → ℕ → ℕ → Moment → Moment → RawFault → Type 0
+ReadHasCause log disk at count old new why = FaultHasCause fault.ReadFailed (log_with log old.facts) disk at count patience_of_line old.device new.device why
 
 -- no group is on, nor afterwards, and the clock wasn't asked
 pub record StaysOff (old new : State) : Type 0 where
@@ -60,11 +58,11 @@ pub record StaysOff (old new : State) : Type 0 where
 -- `wr` on a disk, while no group is on
 pub data WriteDoes (log : Log) (disk at count word : ℕ) (old new : State) (answer : Reply) : Type 0 where
   NoWriteWhileOn : IsSome old.session → IsRefused refusal.GroupOn answer old new → WriteDoes log disk at count word old new answer
-  WriteFaults : (why : RawFault) → StaysOff old new → WriteGives log disk at count word patience_of_line old.moment new.moment (Err why) → HasFaulted disk why old.moment.device new.moment.device → answer ≡ reply.Refused (refusal_by why) → WriteDoes log disk at count word old new answer
+  WriteFaults : (why : RawFault) → StaysOff old new → WriteGives log disk at count word patience_of_line old.moment new.moment (Err why) → WriteHasCause log disk at count old.moment new.moment why → answer ≡ reply.Refused (refusal_by why) → WriteDoes log disk at count word old new answer
   WriteIsDone : StaysOff old new → WriteGives log disk at count word patience_of_line old.moment new.moment (Ok tt) → answer ≡ reply.Ok → WriteDoes log disk at count word old new answer
 
 -- `rd` on a disk
 pub data ReadDoes (log : Log) (disk at count : ℕ) (old new : State) (answer : Reply) : Type 0 where
   NoReadWhileOn : IsSome old.session → IsRefused refusal.GroupOn answer old new → ReadDoes log disk at count old new answer
-  ReadFaults : (why : RawFault) → StaysOff old new → ReadGives log disk at count patience_of_line old.moment new.moment (Err why) → HasFaulted disk why old.moment.device new.moment.device → answer ≡ reply.Refused (refusal_by why) → ReadDoes log disk at count old new answer
+  ReadFaults : (why : RawFault) → StaysOff old new → ReadGives log disk at count patience_of_line old.moment new.moment (Err why) → ReadHasCause log disk at count old.moment new.moment why → answer ≡ reply.Refused (refusal_by why) → ReadDoes log disk at count old new answer
   ReadGets : (blocks : List Sector) → StaysOff old new → ReadGives log disk at count patience_of_line old.moment new.moment (Ok blocks) → Shows (blocks_text at blocks) answer → ReadDoes log disk at count old new answer

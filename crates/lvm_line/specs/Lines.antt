@@ -65,6 +65,15 @@ IsOrder (Ok (Some (command.Heal disk))) = Unit {0}
 IsOrder (Ok (Some (command.Cut word))) = Unit {0}
 IsOrder other = ⊥
 
+-- a command that isn't a listing
+abbrev pub IsChange : Result (Option Command) Misfit → Type 0
+IsChange (Ok None) = ⊥
+IsChange (Err misfit) = ⊥
+IsChange (Ok (Some (command.Lsvg volumes name))) = ⊥
+IsChange (Ok (Some (command.Lslv name))) = ⊥
+IsChange (Ok (Some (command.Lspv disk))) = ⊥
+IsChange other = Unit {0}
+
 -- how often the clock has been asked after a line: once more by `mkvg` and `varyonvg` alone
 abbrev pub asked_after : Result (Option Command) Misfit → ℕ → ℕ
 asked_after (Ok (Some (command.Mkvg force name mib disks))) asked = next_count asked

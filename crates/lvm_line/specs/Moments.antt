@@ -3,7 +3,7 @@ use Rattle.std.specs.Prelude.{◌≡◌, ◌≤◌, ℕ, true}
 use Rattle.lvm_kept.specs.Moments.{StaysCalm}
 use Rattle.lvm_steps.specs.Moments.{Keeps}
 use Rattle.lvm_commit.specs.LawsOfVolumes.{IsOneByAllOn}
-use Rattle.lvm_group.specs.Endings.{EntersVolumes}
+use Rattle.lvm_core.specs.Leaves.{EntersVolumes}
 use Rattle.lvm_line.specs.State.{State, IsSettled, IsTimely, AreHeld, HaveNotesHome, ComesOnQuiet, HaveNoneLeft}
 use Rattle.lvm_line.specs.Replies.{IsStuck}
 use Rattle.lvm_line.specs.declared.reply.Refusal.TheVariants as refusal

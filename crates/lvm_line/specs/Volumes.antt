@@ -9,12 +9,12 @@ use Rattle.lvm_quorum.specs.Written.{KeepsShelf}
 use Rattle.lvm_core.specs.Looking.{IsNumberOf, HasNoVolume}
 use Rattle.lvm_core.specs.declared.request.Power.TheVariants as power
 use Rattle.lvm_core.specs.State.{Core, State as Session, state, is_there}
-use Rattle.lvm_group.specs.declared.fault.GroupFault.{GroupFault}
-use Rattle.lvm_group.specs.declared.fault.GroupFault.TheVariants as fault
-use Rattle.lvm_group.specs.declared.new_volume.NewVolume.{NewVolume}
-use Rattle.lvm_group.specs.NewVolume.{without_volume}
-use Rattle.lvm_group.specs.Endings.{FindsOnly, IsOfCommand, KeepsStatus}
-use Rattle.lvm_group.specs.Volumes.{IsWith, IsChosen, MklvGives, RmlvGives}
+use Rattle.lvm_core.specs.Leaves.{NoPartition, IsOfCommand, KeepsStatus, FindsOnly}
+use Rattle.lvm_volumes.specs.declared.fault.GroupFault.{GroupFault}
+use Rattle.lvm_volumes.specs.declared.fault.GroupFault.TheVariants as fault
+use Rattle.lvm_volumes.specs.declared.new_volume.NewVolume.{NewVolume}
+use Rattle.lvm_volumes.specs.NewVolume.{without_volume}
+use Rattle.lvm_volumes.specs.Volumes.{IsWith, IsChosen, MklvGives, RmlvGives}
 use Rattle.lvm_line.specs.Disks.{patience_of_line}
 use Rattle.lvm_line.specs.Listings.{IsOn, IsNotOn}
 use Rattle.lvm_line.specs.Replies.{IsRefused}
@@ -86,7 +86,7 @@ pub record IsDone (Gives : Session → Session → Type 0) (IsNext : Core → De
   pub gives : Gives (state old.moment.device core) left
   pub leaves : IsLeft over left new
   pub finds : FindsOnly (IsNext core) (state old.moment.device core) (state new.moment.device left.core)
-  pub status : KeepsStatus (IsPlace core) (state old.moment.device core) left
+  pub status : KeepsStatus NoPartition (IsPlace core) (state old.moment.device core) left
   pub writes : KeepsShelf (is_there core) (IsOfCommand (IsNext core) (IsPlace core) (state old.moment.device core) left) old.moment.device left.device
   pub clock : new.last ≡ old.last
 

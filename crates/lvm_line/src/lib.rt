@@ -12,6 +12,6 @@ mod stage;
 mod volumes;
 
 pub use laws::{refusals_have_causes, varyons_restate};
-pub use line::do_line;
+pub use line::{answer_line, do_line};
 pub use reply::{Refusal, Reply, memory_text, refusal_line};
 pub use stage::{Answered, Stage};

@@ -1,9 +1,12 @@
 //! One line of a script.
-ghost use Rattle.std.specs.Prelude.{◌≡◌, None, IsSome};
+ghost use Rattle.std.specs.Prelude.{◌≡◌, ℕ, None, IsSome, IfSome, IfNone};
 ghost use Rattle.lvm_core.specs.Starting.{IsRoom};
+ghost use Rattle.lvm_core.specs.declared.parts.Room.{Room};
+ghost use Rattle.lvm_vol.specs.Log.{Log};
 ghost use Rattle.lvm_parse.specs.Grammar.{line_of};
-ghost use Rattle.lvm_line.specs.Lines.{IsWithin, CommandDoes, IsLine, IsOrder, asked_after};
+ghost use Rattle.lvm_line.specs.Lines.{IsWithin, CommandDoes, IsLine, IsOrder, IsChange, asked_after};
 ghost use Rattle.lvm_line.specs.Moments.{GoesOn};
+ghost use Rattle.lvm_line.specs.Replies.{IsStuck};
 ghost use Rattle.lvm_line.specs.Stages.{shelf_in, history_in, session_in, state_in, IsSettledStage};
 ghost use Rattle.lvm_line.specs.State.{without_facts};
 
@@ -99,6 +102,37 @@ fn refuse_unread<S: Shelf>(stage: Stage<S>) -> Answered<S>
     match stage {
         Stage::On { driver } => Stage::On { driver }.refused(Refusal::GroupOn),
         Stage::Off { shelf, history } => Stage::Off { shelf, history }.refused(Refusal::Memory),
+    }
+}
+
+// What a command is answered that is a listing.
+fn list<S: Shelf>(alloc: Global, stage: &Stage<S>, command: Command) -> Option<Reply>
+    ensures does { IfSome result (λ reply. (log : Log) (room : Room) (last : ℕ) → CommandDoes log room command (state_in S.device stage.now last) (state_in S.device stage.now last) reply) }
+    ensures heard { IfSome result (λ reply. IsStuck reply → ⊥) }
+    ensures change { IfNone result (IsChange (Ok (Some command))) }
+{
+    match command {
+        Command::Lsvg { volumes, name } => Some(list_group(alloc, stage, volumes, name)),
+        Command::Lslv { name } => Some(list_volume(alloc, stage, name)),
+        Command::Lspv { disk } => Some(list_disk(alloc, stage, disk)),
+        _ => None,
+    }
+}
+
+/// Answers a line, without its line feed, that leaves all as it is: one without a command, one that isn't in the
+/// language, and a listing. None where it asks for another command, or where memory is wanting, which `do_line` says.
+/// The stage isn't given away for it, so that such lines cost no move of it.
+pub fn answer_line<S: Shelf>(alloc: Global, stage: &Stage<S>, line: &[u8]) -> Option<Reply>
+    requires settled { IsSettledStage S.device stage.now }
+    ensures line { IfSome result (λ reply. (room : Room) (last : ℕ) → IsLine (without_facts (history_in stage.now)) room line.now reply (state_in S.device stage.now last) (state_in S.device stage.now last)) }
+    ensures heard { IfSome result (λ reply. IsStuck reply → ⊥) }
+    ensures change { IfNone result (IsChange (line_of line.now)) }
+{
+    match parse(alloc, line) {
+        Ok(None) => Some(Reply::Silent),
+        Ok(Some(command)) => list(alloc, stage, command),
+        Err(ParseFault::BadLine { column }) => Some(Reply::Refused(Refusal::BadLine { column })),
+        Err(ParseFault::Memory) => None,
     }
 }
 

@@ -14,9 +14,9 @@ use crate::reply::{Refusal, Reply};
 use crate::stage::{Answered, Stage};
 use lvm_core::{Closed, Driver};
 use lvm_disk::Shelf;
-use lvm_group::{GroupFault, mklv, rmlv};
 use lvm_num::{Mode, Name, Policy};
 use lvm_transfer::{Patience, relight};
+use lvm_volumes::{GroupFault, mklv, rmlv};
 use std::alloc::Global;
 
 // A fault of a command on a group, as the refusal of its line.

@@ -1,5 +1,5 @@
 -- Which refusals come before anything is asked of a disk.
-use Rattle.std.proofs.Common.{◌≡◌, ◌↔◌, ◌⊎◌, ⊎_elim, inl, inr, ◌+◌, ◌-◌, [], ℕ, List, Some, slice_get, Result, Ok, Err, refl, sym, ◌∙◌, ap, subst, arith}
+use Rattle.std.proofs.Common.{◌≡◌, ◌⊎◌, ⊎_elim, inl, inr, ◌+◌, ◌-◌, [], ℕ, List, Some, slice_get, Result, Ok, Err, refl, sym, ◌∙◌, ap, subst, arith}
 use Rattle.lvm_num.specs.Buffer.{Buffer, Sector}
 use Rattle.lvm_disk.specs.Device.{Device}
 use Rattle.lvm_vol.specs.Log.{Log}
@@ -11,9 +11,12 @@ use Rattle.lvm_raw.specs.declared.fault.RawFault.{RawFault}
 use Rattle.lvm_raw.specs.declared.fault.RawFault.TheVariants as fault
 use Rattle.lvm_raw.specs.Asking.{IsNoDisk, IsInData, IsOutside, HasRoom, IsFull, IsRejected, MayAsk}
 use Rattle.lvm_raw.specs.Pieces.{piece_end, answer_after, with_front, PiecesGo, NoPiece, OnePiece, RangeGoes, WentThrough, WasBroken, WritesGo, ReadsGo}
-use Rattle.lvm_disk.specs.Counts.{Rose}
-use Rattle.lvm_raw.specs.Looking.{LookFails, ShowsDescriptor}
-use Rattle.lvm_raw.specs.Raw.{RawGives, Rejected, Unasked, Asked, log_with}
+use Rattle.lvm_disk.specs.Counts.{Counts}
+use Rattle.lvm_steps.specs.Requests.{IsInNoGroup}
+use Rattle.lvm_raw.specs.Keeping.{AnswerHasCause}
+use Rattle.lvm_raw.specs.Looking.{LookFails}
+use Rattle.lvm_raw.specs.Raw.{RawGives, Rejected, Unasked, Asked, WasServed, log_with}
+use Rattle.lvm_raw.specs.Ends.{FaultHasCause, RawEnds}
 
 -- ---- a range is rejected for one cause alone
 
@@ -140,38 +143,66 @@ not_read_failed X (fault.DiskFailed d) before is = cc (is)
 not_read_failed X (fault.InGroup d) before is = cc (is)
 not_read_failed X _ before is = before
 
-module _ {X : Type 0} (failed : RawFault) (Goes : Moment → Moment → Result X RawFault → Type 0) (log : Log) (disk at count patience : ℕ) (old new : Moment) (given : Result X RawFault) where
+-- what was rejected has raised no count, and wasn't served
+pub rejected_rose : (X : Type 0) (device : Device) (log : Log) (disk at count patience : ℕ) (old new : Counts) (why : RawFault) → IsRejected device log disk at count why → AnswerHasCause {X = X} disk patience old new (Err why)
+rejected_rose X device log disk at count patience old new (fault.NoDisk d) is = tt
+rejected_rose X device log disk at count patience old new (fault.OutOfRange size) is = tt
+rejected_rose X device log disk at count patience old new fault.HistoryFull is = tt
+rejected_rose X device log disk at count patience old new fault.Dark is = absurd is
+rejected_rose X device log disk at count patience old new fault.Stuck is = absurd is
+rejected_rose X device log disk at count patience old new (fault.DiskFailed d) is = absurd is
+rejected_rose X device log disk at count patience old new (fault.InGroup d) is = absurd is
+rejected_rose X device log disk at count patience old new fault.Lost is = absurd is
+rejected_rose X device log disk at count patience old new fault.ReadFailed is = absurd is
+rejected_rose X device log disk at count patience old new fault.Memory is = absurd is
+
+pub rejected_unserved : (X : Type 0) (device : Device) (log : Log) (disk at count : ℕ) (why : RawFault) → IsRejected device log disk at count why → WasServed {X = X} (Err why) → ⊥
+rejected_unserved X device log disk at count (fault.NoDisk d) is served = served
+rejected_unserved X device log disk at count (fault.OutOfRange size) is served = served
+rejected_unserved X device log disk at count fault.HistoryFull is served = served
+rejected_unserved X device log disk at count fault.Dark is served = is
+rejected_unserved X device log disk at count fault.Stuck is served = is
+rejected_unserved X device log disk at count (fault.DiskFailed d) is served = is
+rejected_unserved X device log disk at count (fault.InGroup d) is served = is
+rejected_unserved X device log disk at count fault.Lost is served = is
+rejected_unserved X device log disk at count fault.ReadFailed is served = is
+rejected_unserved X device log disk at count fault.Memory is served = is
+
+module _ {X : Type 0} (failed : RawFault) (Goes : Moment → Moment → Result X RawFault → Type 0) (log : Log) (disk at count patience : ℕ) (old new : Moment) where
+  abbrev Refused : RawFault → Type 0
+  Refused why = IsRejected old.device (log_with log old.facts) disk at count why
+
   -- what is rejected is answered so,
-  pub rejects : RawGives Goes log disk at count patience old new given → (why : RawFault) → IsRejected old.device (log_with log old.facts) disk at count why → given ≡ Err why
-  rejects (Rejected other is cause same) why rejected = is ∙ ap Err (one_cause old.device (log_with log old.facts) disk at count other why cause rejected)
-  rejects (Unasked other is may fails facts) why rejected = absurd (may_ask old.device (log_with log old.facts) disk at count why may rejected)
-  rejects (Asked may mid finds goes) why rejected = absurd (may_ask old.device (log_with log old.facts) disk at count why may rejected)
+  rejects : (given : Result X RawFault) → RawGives Goes log disk at count patience old new given → (why : RawFault) → Refused why → given ≡ Err why
+  rejects given (Rejected other is cause same) why rejected = is ∙ ap Err (one_cause old.device (log_with log old.facts) disk at count other why cause rejected)
+  rejects given (Unasked other is may fails facts) why rejected = absurd (may_ask old.device (log_with log old.facts) disk at count why may rejected)
+  rejects given (Asked may mid finds goes) why rejected = absurd (may_ask old.device (log_with log old.facts) disk at count why may rejected)
 
-  -- and what is answered so, and not by pieces, was rejected or not asked for
-  pub refused : ((m n : Moment) (a : Result X RawFault) → Goes m n a → IsOfPieces failed a) → RawGives Goes log disk at count patience old new given → (why : RawFault) → (IsOfPieces {X = X} failed (Err why) → ⊥) → given ≡ Err why
-      → IsRejected old.device (log_with log old.facts) disk at count why ⊎ LookFails patience disk old.device new.device why
-  refused pieces (Rejected other is cause same) why not answer = inl (subst (λ (f : RawFault). IsRejected old.device (log_with log old.facts) disk at count f) (err_of given other why is answer) cause)
-  refused pieces (Unasked other is may fails facts) why not answer = inr (subst (LookFails patience disk old.device new.device) (err_of given other why is answer) fails)
-  refused pieces (Asked may mid finds goes) why not answer = absurd (not (subst (IsOfPieces failed) answer (pieces _ new given goes)))
+  module _ (pieces : (m n : Moment) (a : Result X RawFault) → Goes m n a → IsOfPieces failed a) (apart : (why : RawFault) → IsBefore why → IsOfPieces {X = X} failed (Err why) → ⊥) where
+    -- and a fault is a rejection, or came of the look, or of the pieces
+    faulted : (given : Result X RawFault) (why : RawFault) → given ≡ Err why → RawGives Goes log disk at count patience old new given → Refused why ⊎ (LookFails patience disk old.device new.device why ⊎ IsOfPieces {X = X} failed (Err why))
+    faulted given why answer (Rejected other is cause same) = inl (subst (λ (f : RawFault). Refused f) (err_of given other why is answer) cause)
+    faulted given why answer (Unasked other is may fails facts) = inr (inl (subst (LookFails patience disk old.device new.device) (err_of given other why is answer) fails))
+    faulted given why answer (Asked may mid finds goes) = inr (inr (subst (IsOfPieces failed) answer (pieces _ new given goes)))
 
-  -- each refusal by its cause
-  module _ (pieces : (m n : Moment) (a : Result X RawFault) → Goes m n a → IsOfPieces failed a) (apart : (why : RawFault) → IsBefore why → IsOfPieces {X = X} failed (Err why) → ⊥) (gives : RawGives Goes log disk at count patience old new given) where
-    pub no_disk_exactly : (d : ℕ) → (given ≡ Err (fault.NoDisk d)) ↔ ((d ≡ disk) × IsNoDisk old.device disk)
-    no_disk_exactly d = (λ answer. ⊎_elim (λ rejected. rejected) (λ fails. absurd fails) (refused pieces gives (fault.NoDisk d) (apart (fault.NoDisk d) tt) answer), rejects gives (fault.NoDisk d))
+    abbrev Cause : RawFault → Type 0
+    Cause why = FaultHasCause failed (log_with log old.facts) disk at count patience old.device new.device why
 
-    pub out_of_range_exactly : (size : ℕ) → (given ≡ Err (fault.OutOfRange size)) ↔ IsOutside old.device disk at count size
-    out_of_range_exactly size = (λ answer. ⊎_elim (λ rejected. rejected) (λ fails. absurd fails) (refused pieces gives (fault.OutOfRange size) (apart (fault.OutOfRange size) tt) answer), rejects gives (fault.OutOfRange size))
+    cause_of : (why : RawFault) → Refused why ⊎ (LookFails patience disk old.device new.device why ⊎ IsOfPieces {X = X} failed (Err why)) → (WasServed {X = X} (Err why) → IsInNoGroup old.device disk)
+        → AnswerHasCause {X = X} disk patience old.device.counts new.device.counts (Err why) → Cause why
+    cause_of (fault.NoDisk d) which served rose = ⊎_elim (λ r. r) (λ o. ⊎_elim (λ l. absurd l) (λ p. absurd (apart (fault.NoDisk d) tt p)) o) which
+    cause_of (fault.OutOfRange size) which served rose = ⊎_elim (λ r. r) (λ o. ⊎_elim (λ l. absurd l) (λ p. absurd (apart (fault.OutOfRange size) tt p)) o) which
+    cause_of fault.HistoryFull which served rose = ⊎_elim (λ r. r) (λ o. ⊎_elim (λ l. absurd l) (λ p. absurd (apart fault.HistoryFull tt p)) o) which
+    cause_of (fault.DiskFailed d) which served rose = ⊎_elim (λ r. absurd r) (λ o. ⊎_elim (λ l. (l.0, l.2.misses)) (λ p. absurd (apart (fault.DiskFailed d) tt p)) o) which
+    cause_of (fault.InGroup d) which served rose = ⊎_elim (λ r. absurd r) (λ o. ⊎_elim (λ l. (l.0, l.3)) (λ p. absurd (apart (fault.InGroup d) tt p)) o) which
+    cause_of fault.Lost which served rose = ⊎_elim (λ r. absurd r) (λ o. ⊎_elim (λ l. absurd l) (λ p. (sym p, served tt, rose)) o) which
+    cause_of fault.ReadFailed which served rose = ⊎_elim (λ r. absurd r) (λ o. ⊎_elim (λ l. absurd l) (λ p. (sym p, served tt, rose)) o) which
+    cause_of fault.Dark which served rose = rose
+    cause_of fault.Stuck which served rose = rose
+    cause_of fault.Memory which served rose = tt
 
-    pub history_full_exactly : (given ≡ Err fault.HistoryFull) ↔ (IsInData old.device disk at count × IsFull (log_with log old.facts) at count)
-    history_full_exactly = (λ answer. ⊎_elim (λ rejected. rejected) (λ fails. absurd fails) (refused pieces gives fault.HistoryFull (apart fault.HistoryFull tt) answer), rejects gives fault.HistoryFull)
-
-    pub disk_failed_only : (d : ℕ) → given ≡ Err (fault.DiskFailed d) → (d ≡ disk) × Rose (old.device.counts.misses disk) (new.device.counts.misses disk)
-    disk_failed_only d answer = ⊎_elim (λ rejected. absurd rejected) (λ fails. (fails.0, fails.2.misses)) (refused pieces gives (fault.DiskFailed d) (apart (fault.DiskFailed d) tt) answer)
-
-    pub in_group_only : (d : ℕ) → given ≡ Err (fault.InGroup d) → (d ≡ disk) × ShowsDescriptor old.device disk
-    in_group_only d answer = ⊎_elim (λ rejected. absurd rejected) (λ fails. (fails.0, fails.3)) (refused pieces gives (fault.InGroup d) (apart (fault.InGroup d) tt) answer)
-
-  -- pieces don't fail otherwise
-  pub other_never : ((m n : Moment) (a : Result X RawFault) → Goes m n a → IsOfPieces failed a) → RawGives Goes log disk at count patience old new given → (other : RawFault) → (IsOfPieces {X = X} failed (Err other) → ⊥)
-      → (IsRejected old.device (log_with log old.facts) disk at count other → ⊥) → (LookFails patience disk old.device new.device other → ⊥) → given ≡ Err other → ⊥
-  other_never pieces gives other not p q answer = ⊎_elim p q (refused pieces gives other not answer)
+    -- each answer has its cause
+    pub raw_ends : (given : Result X RawFault) → RawGives Goes log disk at count patience old new given → (WasServed given → IsInNoGroup old.device disk) → AnswerHasCause disk patience old.device.counts new.device.counts given
+        → RawEnds failed (log_with log old.facts) disk at count patience old.device new.device given
+    raw_ends (Ok x) gives served rose = record { rejects = rejects (Ok x) gives; served = served tt; cause = tt }
+    raw_ends (Err why) gives served rose = record { rejects = rejects (Err why) gives; served = tt; cause = cause_of why (faulted (Err why) why refl gives) served rose }

@@ -4,3 +4,4 @@ pub mod Keeping
 pub mod Asking
 pub mod Looking
 pub mod Raw
+pub mod Ends

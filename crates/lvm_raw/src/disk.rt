@@ -1,13 +1,11 @@
 //! Reading and writing a range of a disk, in pieces, once its records show that it is in no group.
-ghost use Rattle.std.specs.Prelude.{◌≡◌, ◌↔◌, ℕ, ◌+◌, ◌-◌, ◌^◌, ◌<◌, ◌≤◌, length, true, IfOk};
-ghost use Rattle.lvm_disk.specs.Counts.{Rose, RoseBy};
+ghost use Rattle.std.specs.Prelude.{◌≡◌, ◌+◌, ◌^◌, ◌<◌, ◌≤◌, length, IfOk};
 ghost use Rattle.lvm_disk.specs.Device.{IsReady};
-ghost use Rattle.lvm_steps.specs.Moments.{Keeps};
 ghost use Rattle.lvm_steps.specs.Requests.{IsInNoGroup, at as moment_of};
-ghost use Rattle.lvm_kept.specs.Moments.{StaysCalm};
-ghost use Rattle.lvm_raw.specs.Asking.{IsNoDisk, IsInData, IsOutside, IsFull, MayAsk};
-ghost use Rattle.lvm_raw.specs.Keeping.{HaveLanded, KeepsShelf, NoneComesOn, StaysBehind, RangeKeeps};
-ghost use Rattle.lvm_raw.specs.Looking.{ShowsDescriptor};
+ghost use Rattle.lvm_raw.specs.declared.fault.RawFault.TheVariants as fault;
+ghost use Rattle.lvm_raw.specs.Asking.{MayAsk};
+ghost use Rattle.lvm_raw.specs.Ends.{RawEnds};
+ghost use Rattle.lvm_raw.specs.Keeping.{RangeKeeps};
 ghost use Rattle.lvm_raw.specs.Raw.{without_facts, WriteGives, ReadGives, WasServed};
 
 use crate::check::check;
@@ -41,27 +39,9 @@ pub fn write_disk<S: Shelf>(
     requires ready { IsReady (S.device shelf.old) }
     requires some { 1 ≤ count }
     ensures does { WriteGives (without_facts history.old) disk at count word patience.old.left (moment_of (S.device shelf.old) history.old.facts) (moment_of (S.device shelf.new) history.new.facts) result }
-    // each refusal by its cause, in their order
-    ensures no_disk { (d : ℕ) → (result ≡ Err (RawFault.NoDisk d)) ↔ ((d ≡ disk) × IsNoDisk (S.device shelf.old) disk) }
-    ensures out_of_range { (size : ℕ) → (result ≡ Err (RawFault.OutOfRange size)) ↔ IsOutside (S.device shelf.old) disk at count size }
-    ensures history_full { (result ≡ Err RawFault.HistoryFull) ↔ (IsInData (S.device shelf.old) disk at count × IsFull history.old at count) }
-    ensures dark { result ≡ Err RawFault.Dark → Rose (S.device shelf.old).counts.cuts (S.device shelf.new).counts.cuts }
-    ensures stuck { result ≡ Err RawFault.Stuck → RoseBy patience.old.left (S.device shelf.old).counts.waits (S.device shelf.new).counts.waits }
-    ensures disk_failed { (d : ℕ) → result ≡ Err (RawFault.DiskFailed d) → (d ≡ disk) × Rose ((S.device shelf.old).counts.misses disk) ((S.device shelf.new).counts.misses disk) }
-    ensures in_group { (d : ℕ) → result ≡ Err (RawFault.InGroup d) → (d ≡ disk) × ShowsDescriptor (S.device shelf.old) disk }
-    ensures served { WasServed result → IsInNoGroup (S.device shelf.old) disk }
-    ensures lost { result ≡ Err RawFault.Lost → Rose ((S.device shelf.old).counts.faults disk) ((S.device shelf.new).counts.faults disk) }
-    ensures unread { result ≡ Err RawFault.ReadFailed → ⊥ }
-    // at each moment the history is legal and each crash image kept with it
-    ensures keeps { Keeps history.old.run (moment_of (S.device shelf.old) history.old.facts) (moment_of (S.device shelf.new) history.new.facts) }
-    ensures calm { (result ≡ Err RawFault.Stuck → ⊥) → StaysCalm (moment_of (S.device shelf.old) history.old.facts) (moment_of (S.device shelf.new) history.new.facts) }
-    ensures landed { (result ≡ Err RawFault.Stuck → ⊥) → HaveLanded history.old.facts → HaveLanded history.new.facts }
-    ensures later { NoneComesOn history.old.facts history.new.facts }
-    ensures behind { StaysBehind (S.device shelf.old) (S.device shelf.new) }
-    ensures ready { (result ≡ Err RawFault.Stuck → ⊥) → IsReady (S.device shelf.new) }
-    ensures power { (S.device shelf.new).power ≡ true }
+    ensures ends { RawEnds fault.Lost history.old disk at count patience.old.left (S.device shelf.old) (S.device shelf.new) result }
+    ensures keeps { RangeKeeps history.old.run disk patience.old.left patience.new.left (moment_of (S.device shelf.old) history.old.facts) (moment_of (S.device shelf.new) history.new.facts) result }
     ensures rooms { history.new ≡ record history.old { facts = history.new.facts } }
-    ensures shelf { KeepsShelf patience.old.left patience.new.left (S.device shelf.old) (S.device shelf.new) }
 {
     match check(shelf, history, disk, at, count) {
         Ok(()) => write_checked(alloc, shelf, history, disk, at, count, word, patience),
@@ -87,27 +67,9 @@ pub fn read_disk<S: Shelf>(
     requires some { 1 ≤ count }
     ensures does { ReadGives (without_facts history.old) disk at count patience.old.left (moment_of (S.device shelf.old) history.old.facts) (moment_of (S.device shelf.new) history.new.facts) result }
     ensures got { IfOk result (λ blocks. (length blocks ≡ count) × (at + count < 2 ^ 64)) }
-    // each refusal by its cause, in their order
-    ensures no_disk { (d : ℕ) → (result ≡ Err (RawFault.NoDisk d)) ↔ ((d ≡ disk) × IsNoDisk (S.device shelf.old) disk) }
-    ensures out_of_range { (size : ℕ) → (result ≡ Err (RawFault.OutOfRange size)) ↔ IsOutside (S.device shelf.old) disk at count size }
-    ensures history_full { (result ≡ Err RawFault.HistoryFull) ↔ (IsInData (S.device shelf.old) disk at count × IsFull history.old at count) }
-    ensures dark { result ≡ Err RawFault.Dark → Rose (S.device shelf.old).counts.cuts (S.device shelf.new).counts.cuts }
-    ensures stuck { result ≡ Err RawFault.Stuck → RoseBy patience.old.left (S.device shelf.old).counts.waits (S.device shelf.new).counts.waits }
-    ensures disk_failed { (d : ℕ) → result ≡ Err (RawFault.DiskFailed d) → (d ≡ disk) × Rose ((S.device shelf.old).counts.misses disk) ((S.device shelf.new).counts.misses disk) }
-    ensures in_group { (d : ℕ) → result ≡ Err (RawFault.InGroup d) → (d ≡ disk) × ShowsDescriptor (S.device shelf.old) disk }
-    ensures served { WasServed result → IsInNoGroup (S.device shelf.old) disk }
-    ensures read_failed { result ≡ Err RawFault.ReadFailed → Rose ((S.device shelf.old).counts.faults disk) ((S.device shelf.new).counts.faults disk) }
-    ensures unlost { result ≡ Err RawFault.Lost → ⊥ }
-    // at each moment the history is legal and each crash image kept with it
-    ensures keeps { Keeps history.old.run (moment_of (S.device shelf.old) history.old.facts) (moment_of (S.device shelf.new) history.new.facts) }
-    ensures calm { (result ≡ Err RawFault.Stuck → ⊥) → StaysCalm (moment_of (S.device shelf.old) history.old.facts) (moment_of (S.device shelf.new) history.new.facts) }
-    ensures landed { (result ≡ Err RawFault.Stuck → ⊥) → HaveLanded history.old.facts → HaveLanded history.new.facts }
-    ensures later { NoneComesOn history.old.facts history.new.facts }
-    ensures behind { StaysBehind (S.device shelf.old) (S.device shelf.new) }
-    ensures ready { (result ≡ Err RawFault.Stuck → ⊥) → IsReady (S.device shelf.new) }
-    ensures power { (S.device shelf.new).power ≡ true }
+    ensures ends { RawEnds fault.ReadFailed history.old disk at count patience.old.left (S.device shelf.old) (S.device shelf.new) result }
+    ensures keeps { RangeKeeps history.old.run disk patience.old.left patience.new.left (moment_of (S.device shelf.old) history.old.facts) (moment_of (S.device shelf.new) history.new.facts) result }
     ensures rooms { history.new ≡ record history.old { facts = history.new.facts } }
-    ensures shelf { KeepsShelf patience.old.left patience.new.left (S.device shelf.old) (S.device shelf.new) }
 {
     match check(shelf, history, disk, at, count) {
         Ok(()) => read_checked(alloc, shelf, history, disk, at, count, patience),

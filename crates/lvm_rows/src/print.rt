@@ -24,7 +24,7 @@ fn ending_of(
     ended: &Ended<MemShelf>,
     watched: Option<(u16, u64)>,
 ) -> Result<String, Fault> {
-    let status = ended.status;
+    let status = ended.status.code();
     let refused = ended.refused;
     let judged = judged(ended, watched);
     Ok(format!(in alloc; "status {status}, refused {refused}{judged}")?)

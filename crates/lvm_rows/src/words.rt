@@ -60,7 +60,7 @@ fn run(
         files,
         &mut sinks.images,
     );
-    ended.status
+    ended.status.code()
 }
 
 fn answer_into(

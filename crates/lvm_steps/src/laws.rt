@@ -132,13 +132,16 @@ pub fn worked_session()
     ensures { WorkedSession }
 {}
 
-/// The same as parts of spans: quiet entries, those of volumes, and the commit between them; and after which entries no write of a
-/// disk is open that wasn't, as after all those of a request.
+/// Quiet entries as parts of spans; and after which entries no write of a disk is open that wasn't, as after all those of a request.
 pub fn entries_go_on()
     ensures quiet { QuietGoesOn }
     ensures calm { CalmGoesOn }
     ensures answered { AnsweredStaysCalm }
     ensures darkened { DarkenedStaysCalm }
+{}
+
+/// The entries of a volume as parts of spans, and the commit between them.
+pub fn volume_entries_go_on()
     ensures begins { BeginsInSpan }
     ensures made { MadeInSpan }
     ensures goes { GoesInSpan }

@@ -6,6 +6,6 @@ mod laws;
 pub use laws::{
     descriptor_is_committed, disk_entries_keep, disks_stay_in_no_group, entries_go_on,
     group_is_made, group_is_varied_on, groups_may_be_made, groups_may_vary_on, raw_reads_keep,
-    raw_writes_keep, records_stay_writable, runs_follow, spans_grow, volume_entries_keep,
-    worked_making, worked_session, writes_leave_only,
+    raw_writes_keep, records_stay_writable, runs_follow, spans_grow, volume_entries_go_on,
+    volume_entries_keep, worked_making, worked_session, writes_leave_only,
 };

@@ -37,7 +37,7 @@ fn run<R: Files<File = File> + AllocGlobal + Abort>(
         files,
         &mut ImageSink::new(rt),
     );
-    (ended.status, out)
+    (ended.status.code(), out)
 }
 
 // Expects the words to end with this status and to write this.

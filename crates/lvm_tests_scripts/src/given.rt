@@ -48,7 +48,7 @@ fn a_script_leaves_its_block_on_the_files(rt: HostRuntime) {
 }
 
 fn is_well(ended: &Ended<MemShelf>) -> bool {
-    ended.status == 0 && ended.refused == 0
+    ended.status.code() == 0 && ended.refused == 0
 }
 
 // The run that a history is of, and how many entries it has.
@@ -77,7 +77,7 @@ fn an_image_is_zeros_as_far_as_there_is_room(rt: HostRuntime) {
     for (room, status) in [(2_097_152, 0), (2_097_151, 4)] {
         let mut images = sink(&rt, room);
         let ended = ended(&rt, &["image", "127", "2"], &mut images);
-        check(&rt, ended.status == status, "the status");
+        check(&rt, ended.status.code() == status, "the status");
         check(&rt, ended.history.is_none(), "no history");
         check(&rt, are_zeros(images.bytes(), room), "the image");
     }

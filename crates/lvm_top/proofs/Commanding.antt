@@ -1,12 +1,12 @@
 -- Runs that the words of the command line ask for.
-use Rattle.std.proofs.Common.{◌≡◌, ℕ, Option, Result, Ok, Err, sym, subst}
+use Rattle.std.proofs.Common.{◌≡◌, ℕ, None, Result, Ok, Err, sym, subst}
 use Rattle.lvm_disk.specs.Device.{Device, IsReady}
-use Rattle.lvm_memory.specs.declared.memory.MemShelf.{MemShelf}
-use Rattle.lvm_vol.specs.Log.{Log}
 use Rattle.lvm_core.specs.declared.parts.Room.{Room}
 use Rattle.lvm_top.specs.Program.{OnScript, OnSim, IsUnrun}
-use Rattle.lvm_top.specs.Run.{Promises}
-use Rattle.lvm_top.specs.Script.{Stream, run_of}
+use Rattle.lvm_top.specs.Run.{Promises, ran}
+use Rattle.lvm_top.specs.Script.{Stream}
+use Rattle.lvm_top.specs.declared.run.Ended.{Ended}
+use Rattle.lvm_top.specs.declared.status.Status.TheVariants as ended
 use Rattle.lvm_top.proofs.Stopping.{nothing_promised}
 use Rattle.lvm_words.specs.declared.job.Job.{Job}
 use Rattle.lvm_words.specs.declared.job.Job.TheVariants.{Script, Sim, Image, Help, Version}
@@ -35,8 +35,7 @@ pub on_sim_at : (asked : Result Job WordsFault) (disks mib : ℕ) → asked ≡ 
 on_sim_at asked disks mib is P p = subst (λ (a : Result Job WordsFault). OnSim a P) (sym is) p
 
 -- no memory was found for the words, so that nothing was run
-pub unread_promises : (asked : Result Job WordsFault) (clock : ℕ) (entry exit : Device) (same : exit ≡ entry) (ready : IsReady entry) (room : Room) (input output : Stream) (status refused : ℕ) (history : Option Log) (sim : Option MemShelf)
-    → IsUnrun status refused history sim 5
-    → OnScript asked (Promises clock (record { named = run_of history; last = clock; room = room; entry = entry; exit = exit; input = record { before = input; after = input }; output = record { before = output; after = output }; history = history; status = status; refused = refused }))
-unread_promises asked clock entry exit same ready room input output status refused history sim unrun =
-    on_script asked _ (rw (same, unrun.history_is, unrun.status_is, unrun.refused_is) (nothing_promised clock clock room entry input output ready))
+pub unread_promises : {S : Type 0} (asked : Result Job WordsFault) (clock : ℕ) (entry exit : Device) (same : exit ≡ entry) (ready : IsReady entry) (room : Room) (input output : Stream) (end : Ended S) → IsUnrun end ended.Memory
+    → OnScript asked ((end.sim ≡ None) × Promises clock (ran room entry exit (record { before = input; after = input }) (record { before = output; after = output }) clock end.history end.status end.refused))
+unread_promises asked clock entry exit same ready room input output end unrun =
+    on_script asked _ (unrun.sim_is, rw (same, unrun.history_is, unrun.status_is, unrun.refused_is) (nothing_promised clock clock room entry input output ready))

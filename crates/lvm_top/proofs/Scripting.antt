@@ -1,4 +1,5 @@
 -- Runs of lines.
+use Rattle.std.specs.Prelude.{is_some}
 use Rattle.std.proofs.Common.{◌≡◌, inl, inr, ⊎_elim, ◌↔◌, ◌+◌, ◌≤◌, ◌<◌, ℕ, List, [], ◌∷◌, ◌++◌, Option, Some, None, Bool, true, false, cond, if◌then◌else◌, length, refl, sym, ◌∙◌, ap, subst, arith, zero-add, append_assoc}
 use Rattle.std.proofs.lemmas.Bool.{cases_lt}
 use Rattle.std.proofs.lemmas.List.{append-nil}
@@ -24,7 +25,7 @@ use Rattle.lvm_top.specs.Script.{Stream, Passage, Says, Script, NoLine, NextLine
 use Rattle.lvm_top.specs.Statuses.{GoesUntil}
 use Rattle.lvm_top.specs.declared.script.Stop.{Stop}
 use Rattle.lvm_top.specs.declared.script.Stop.TheVariants as stop
-use Rattle.lvm_top.proofs.Lining.{Wrote}
+use Rattle.lvm_top.specs.Turn.{Comes, Wrote, EndsFor, ReadsLine, ReadsNone, Tells}
 use Rattle.lvm_line.specs.declared.reply.Reply.{Reply}
 
 -- nothing was read yet
@@ -45,8 +46,8 @@ pub record RunSoFar (log : Log) (room : Room) (first now : State) (reading : Rea
   pub within : reading.given ≤ 16777216
 
 -- a stream before and after
-abbrev pub passage : Option (List ℕ) → ℕ → Option (List ℕ) → ℕ → Passage
-passage a f b g = record { before = record { content = a; faults = f }; after = record { content = b; faults = g } }
+abbrev pub through : Option (List ℕ) → ℕ → Option (List ℕ) → ℕ → Passage
+through a f b g = record { before = record { content = a; faults = f }; after = record { content = b; faults = g } }
 
 told_then : (x y : Option (List ℕ)) (R S : List ℕ → List ℕ → Type 0) → ((a b : List ℕ) → R a b → S a b) → WhereTold x y R → WhereTold x y S
 told_then None None R S f one = tt
@@ -143,7 +144,7 @@ module _ (log : Log) (room : Room) (first now : State) (reading : Reading) (inpu
   all_given reading' left' given = told_on input left left' _ _ (λ a b. length a + 0 ≡ length b + reading'.given) (λ a b c one two. omega (arith, one, two)) so_far.given given
 
   -- the lines so far, and no other
-  pub lines_so_far : (unread : Stream) (f h k : ℕ) → AreDone log room first now (record { before = record { content = input; faults = f }; after = unread }) (passage before h after k) refused
+  pub lines_so_far : (unread : Stream) (f h k : ℕ) → AreDone log room first now (record { before = record { content = input; faults = f }; after = unread }) (through before h after k) refused
   lines_so_far unread f h k = record {
     lines = so_far.lines;
     replies = so_far.replies;
@@ -165,7 +166,7 @@ module _ (log : Log) (room : Room) (first now : State) (reading : Reading) (inpu
 
   -- the source has come to its end
   pub all_read : (reading' : Reading) (left' : Option (List ℕ)) (f g h k : ℕ) → WhereTold (to_come reading left) (to_come reading' left') (λ a b. (a ≡ []) × (b ≡ [])) → CountsGiven reading reading' left left' → reading'.given ≤ 16777216
-      → AreAllRead (lines_so_far (record { content = left'; faults = g }) f h k) (passage input f left' g)
+      → AreAllRead (lines_so_far (record { content = left'; faults = g }) f h k) (through input f left' g)
   unfolding lines_so_far
   all_read reading' left' f g h k ends given within = (refl, go input left left' so_far.read ends (all_given reading' left' given))
     where
@@ -185,7 +186,7 @@ module _ (log : Log) (room : Room) (first now : State) (reading : Reading) (inpu
       go (Some a) None (Some c) read ends count = absurd read
 
   -- memory was wanting for a line that has begun
-  line_left : (reading' : Reading) (left' : Option (List ℕ)) (f g h k : ℕ) → WhereTold (to_come reading left) (to_come reading' left') (λ a b. (b ≡ a) × (a ≡ [] → ⊥)) → CountsGiven reading reading' left left' → IsLineLeft (lines_so_far (record { content = left'; faults = g }) f h k) (passage input f left' g)
+  line_left : (reading' : Reading) (left' : Option (List ℕ)) (f g h k : ℕ) → WhereTold (to_come reading left) (to_come reading' left') (λ a b. (b ≡ a) × (a ≡ [] → ⊥)) → CountsGiven reading reading' left left' → IsLineLeft (lines_so_far (record { content = left'; faults = g }) f h k) (through input f left' g)
   unfolding lines_so_far
   line_left reading' left' f g h k some given = go input left left' so_far.read some (all_given reading' left' given)
     where
@@ -202,7 +203,7 @@ module _ (log : Log) (room : Room) (first now : State) (reading : Reading) (inpu
       (why : Option Stop) (reading' : Reading) (left' : Option (List ℕ)) (f g h k : ℕ) → CountsGiven reading reading' left left' → (why ≡ Some stop.TooLong) ↔ (16777216 < reading'.given) → (why ≡ Some stop.SinkFault → ⊥) → (why ≡ Some stop.Stuck → ⊥)
       → (why ≡ None → WhereTold (to_come reading left) (to_come reading' left') (λ a b. (a ≡ []) × (b ≡ []))) → (why ≡ Some stop.SourceFault → Rose f g) → ((why ≡ Some stop.SourceFault → ⊥) → g ≡ f) → k ≡ h
       → (why ≡ Some stop.Memory → WhereTold (to_come reading left) (to_come reading' left') (λ a b. (b ≡ a) × (a ≡ [] → ⊥)))
-      → GoesUntil why log room first now (passage input f left' g) (passage before h after k) refused
+      → GoesUntil why log room first now (through input f left' g) (through before h after k) refused
   unfolding lines_so_far
   stops_between why reading' left' f g h k given too_long no_sink no_stuck ends source read_well written_well some = record {
     lines = lines_so_far (record { content = left'; faults = g }) f h k;
@@ -223,10 +224,10 @@ module _ (log : Log) (room : Room) (first now : State) (reading : Reading) (inpu
 
   -- the run stops in one line more
   pub stops_in_line :
-      (why : Option Stop) (last : State) (reading' : Reading) (left' after' : Option (List ℕ)) (f g h k refused' : ℕ) (line : List ℕ) (answer said : Reply) (text : Wrote (reply_text said) after after' h k) → Says answer said → IsLine log room line answer now last
+      (why : Option Stop) (last : State) (reading' : Reading) (left' after' : Option (List ℕ)) (f g h k refused' : ℕ) (line : List ℕ) (answer said : Reply) (text : Wrote (reply_text said) (through after h after' k)) → Says answer said → IsLine log room line answer now last
       → WhereTold (to_come reading left) (to_come reading' left') (λ a b. lines_of a ≡ line ∷ lines_of b) → CountsGiven reading reading' left left' → reading'.given ≤ 16777216 → refused' ≡ refused + cond (is_refused said) 1 0
       → (why ≡ None → ⊥) → (why ≡ Some stop.SourceFault → ⊥) → (why ≡ Some stop.TooLong → ⊥) → ((why ≡ Some stop.SinkFault → ⊥) → why ≡ Some stop.Stuck) → (why ≡ Some stop.SinkFault → Rose h k) → (why ≡ Some stop.Stuck → IsStuck answer) → g ≡ f
-      → GoesUntil why log room first last (passage input f left' g) (passage before h after' k) refused'
+      → GoesUntil why log room first last (through input f left' g) (through before h after' k) refused'
   stops_in_line why last reading' left' after' f g h k refused' line answer said text says does read given within counts not_end no_source not_long either sink stuck well = record {
     lines = record {
       lines = so_far.lines;
@@ -258,6 +259,37 @@ module _ (log : Log) (room : Room) (first now : State) (reading : Reading) (inpu
       begins_with bytes (Some b) (Some c) one two = (lines_of c, one ∙ ap (λ (l : List (List ℕ)). so_far.lines ++ l) two ∙ sym (append_assoc so_far.lines (line ∷ []) (lines_of c)))
       begins_with bytes None z one two = absurd one
       begins_with bytes (Some b) None one two = absurd two
+
+  -- ---- one line more, as it was read and its reply written
+
+  -- none was read
+  pub none_read : (why : Option Stop) (reading' : Reading) (left' : Option (List ℕ)) (f g h k : ℕ) → k ≡ h → ReadsNone reading reading' (through left f left' g) why → GoesUntil why log room first now (through input f left' g) (through before h after k) refused
+  none_read why reading' left' f g h k same none =
+      stops_between why reading' left' f g h k none.given none.long none.unwritten none.unstuck none.ends none.failed none.well same none.wanting
+
+  -- the run goes on
+  pub line_told :
+      (new : State) (reading' : Reading) (left' after' : Option (List ℕ)) (f g h k refused' : ℕ) (line : List ℕ) (answer : Reply) (why : Option Stop) → is_some why ≡ false → IsLine log room line answer now new
+      → ReadsLine reading reading' (through left f left' g) line → Tells answer refused refused' (through after h after' k) why → RunSoFar log room first new reading' input left' before after' refused' (lines_done + 1)
+  line_told new reading' left' after' f g h k refused' line answer (Some why) none does read tells = absurd (cc (none))
+  line_told new reading' left' after' f g h k refused' line answer None none does read tells =
+      let on = tells.goes_on refl in
+      line_answered new reading' left' after' refused' line answer tells.said (λ is. (let e = tells.stuck.1 is in cc (e))) tells.says does read.line_is read.given read.fewer read.within on.whole tells.counted (one_more refused refused' lines_done tells.said tells.counted so_far.few)
+
+  -- it ends
+  pub line_ends :
+      (last : State) (reading' : Reading) (left' after' : Option (List ℕ)) (f g h k refused' : ℕ) (line : List ℕ) (answer : Reply) (why : Option Stop) → is_some why ≡ true → IsLine log room line answer now last
+      → ReadsLine reading reading' (through left f left' g) line → Tells answer refused refused' (through after h after' k) why → GoesUntil why log room first last (through input f left' g) (through before h after' k) refused'
+  line_ends last reading' left' after' f g h k refused' line answer None some does read tells = absurd (cc (some))
+  line_ends last reading' left' after' f g h k refused' line answer (Some why) some does read tells = ended tells.ends
+    where
+      ended : EndsFor (through after h after' k) why → GoesUntil (Some why) log room first last (through input f left' g) (through before h after' k) refused'
+      ended (inl is) =
+          stops_in_line (Some why) last reading' left' after' f g h k refused' line answer tells.said tells.text tells.says does read.line_is read.given read.within tells.counted
+          (λ e. cc (e)) (λ e. cc (e, is)) (λ e. cc (e, is)) (λ no. ap Some is) (λ e. absurd (cc (e, is))) tells.stuck.0 read.well
+      ended (inr (is, rose)) =
+          stops_in_line (Some why) last reading' left' after' f g h k refused' line answer tells.said tells.text tells.says does read.line_is read.given read.within tells.counted
+          (λ e. cc (e)) (λ e. cc (e, is)) (λ e. cc (e, is)) (λ no. absurd (no (ap Some is))) (λ e. rose) tells.stuck.0 read.well
 
 -- ---- what a run upholds
 

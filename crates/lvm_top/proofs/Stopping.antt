@@ -1,5 +1,5 @@
 -- Why a run ended, by its status.
-use Rattle.std.proofs.Common.{◌≡◌, ◌⊎◌, inl, inr, ◌≤◌, ◌<◌, ◌+◌, ◌==◌, if◌then◌else◌, ℕ, List, [], length, Option, Some, None, true, refl, sym, ◌∙◌, ap, subst, arith}
+use Rattle.std.proofs.Common.{◌≡◌, ◌⊎◌, inl, inr, ◌≤◌, ◌<◌, ◌+◌, ◌==◌, if◌then◌else◌, ℕ, List, [], length, Option, Some, None, Bool, true, false, refl, sym, ◌∙◌, ap, subst, arith}
 use Rattle.lvm_disk.specs.Device.{Device, IsReady}
 use Rattle.lvm_io.specs.Count.{Rose}
 use Rattle.lvm_vol.specs.Facts.{Fact}
@@ -12,75 +12,87 @@ use Rattle.lvm_line.specs.Stages.{shelf_in, history_in, session_in, state_in, Is
 use Rattle.lvm_line.specs.declared.stage.Stage.{Stage}
 use Rattle.lvm_line.specs.declared.stage.Stage.TheVariants as stage
 use Rattle.lvm_line.specs.State.{State, without_facts}
-use Rattle.lvm_top.specs.Run.{Run, IsClosed, IsRun, Promises}
+use Rattle.lvm_top.specs.Run.{Run, IsClosed, IsRun, Promises, ran}
 use Rattle.lvm_top.specs.Script.{Stream, Passage, StaysAlone, EndsAlone, empty_log, entry_state}
 use Rattle.lvm_top.proofs.Firsts.{first_upheld}
 use Rattle.lvm_top.proofs.Scripting.{Ended, told_same, nothing_done, nothing_broken, lines_ended, run_upheld, run_ahead}
-use Rattle.lvm_top.specs.Statuses.{status_of, GoesUntil}
+use Rattle.lvm_top.specs.Statuses.{status_of, at_end, IsAtEnd, GoesUntil}
+use Rattle.lvm_top.specs.declared.status.Status.{Status}
+use Rattle.lvm_top.specs.declared.status.Status.TheVariants as ended
 use Rattle.lvm_top.specs.declared.script.Stop.{Stop}
 use Rattle.lvm_top.specs.declared.script.Stop.TheVariants as stop
 
-pub is_status : (why : Option Stop) (refused : ℕ) → (status_of why refused < 8) × (status_of why refused ≡ 2 → ⊥)
-is_status None refused = (omega arith, λ two. omega (arith, two))
-is_status (Some stop.SourceFault) refused = (omega arith, λ two. omega (arith, two))
-is_status (Some stop.SinkFault) refused = (omega arith, λ two. omega (arith, two))
-is_status (Some stop.Memory) refused = (omega arith, λ two. omega (arith, two))
-is_status (Some stop.Stuck) refused = (omega arith, λ two. omega (arith, two))
-is_status (Some stop.TooLong) refused = (omega arith, λ two. omega (arith, two))
+-- by whether a line was refused
+by_count : (P : Status → Type 0) → P ended.Well → P ended.Refusals → (b : Bool) → P (if b then ended.Well else ended.Refusals)
+by_count P well refusals true = well
+by_count P well refusals false = refusals
 
-pub at_end : (why : Option Stop) (refused : ℕ) → status_of why refused < 2 → why ≡ None
-at_end None refused low = refl
-at_end (Some stop.SourceFault) refused low = absurd (omega (arith, low))
-at_end (Some stop.SinkFault) refused low = absurd (omega (arith, low))
-at_end (Some stop.Memory) refused low = absurd (omega (arith, low))
-at_end (Some stop.Stuck) refused low = absurd (omega (arith, low))
-at_end (Some stop.TooLong) refused low = absurd (omega (arith, low))
+pub words_read : (why : Option Stop) (refused : ℕ) → status_of why refused ≡ ended.Usage → ⊥
+words_read None refused is = by_count (λ (s : Status). s ≡ ended.Usage → ⊥) (λ e. cc (e)) (λ e. cc (e)) (refused == 0) is
+words_read (Some stop.SourceFault) refused is = cc (is)
+words_read (Some stop.SinkFault) refused is = cc (is)
+words_read (Some stop.Memory) refused is = cc (is)
+words_read (Some stop.Stuck) refused is = cc (is)
+words_read (Some stop.TooLong) refused is = cc (is)
 
-pub counted_at_end : (why : Option Stop) (refused : ℕ) → status_of why refused < 2 → status_of why refused ≡ status_of None refused
-counted_at_end None refused low = refl
-counted_at_end (Some stop.SourceFault) refused low = absurd (omega (arith, low))
-counted_at_end (Some stop.SinkFault) refused low = absurd (omega (arith, low))
-counted_at_end (Some stop.Memory) refused low = absurd (omega (arith, low))
-counted_at_end (Some stop.Stuck) refused low = absurd (omega (arith, low))
-counted_at_end (Some stop.TooLong) refused low = absurd (omega (arith, low))
+pub at_its_end : (why : Option Stop) (refused : ℕ) → IsAtEnd (status_of why refused) → why ≡ None
+at_its_end None refused end = refl
+at_its_end (Some stop.SourceFault) refused end = absurd end
+at_its_end (Some stop.SinkFault) refused end = absurd end
+at_its_end (Some stop.Memory) refused end = absurd end
+at_its_end (Some stop.Stuck) refused end = absurd end
+at_its_end (Some stop.TooLong) refused end = absurd end
 
--- each status above 2 has one reason
-abbrev reason : ℕ → Option Stop
-reason n = if n == 3 then Some stop.SourceFault else (if n == 4 then Some stop.SinkFault else (if n == 5 then Some stop.Memory else (if n == 6 then Some stop.Stuck else Some stop.TooLong)))
+pub counted_at_end : (why : Option Stop) (refused : ℕ) → IsAtEnd (status_of why refused) → status_of why refused ≡ at_end refused
+counted_at_end None refused end = refl
+counted_at_end (Some stop.SourceFault) refused end = absurd end
+counted_at_end (Some stop.SinkFault) refused end = absurd end
+counted_at_end (Some stop.Memory) refused end = absurd end
+counted_at_end (Some stop.Stuck) refused end = absurd end
+counted_at_end (Some stop.TooLong) refused end = absurd end
 
-reason_back : (why : Option Stop) (refused : ℕ) → 2 < status_of why refused → reason (status_of why refused) ≡ why
-reason_back None refused high = absurd (omega (arith, high))
-reason_back (Some stop.SourceFault) refused high = refl
-reason_back (Some stop.SinkFault) refused high = refl
-reason_back (Some stop.Memory) refused high = refl
-reason_back (Some stop.Stuck) refused high = refl
-reason_back (Some stop.TooLong) refused high = refl
+-- each other status has one reason
+abbrev reason : Status → Option Stop
+reason ended.SourceFault = Some stop.SourceFault
+reason ended.SinkFault = Some stop.SinkFault
+reason ended.Memory = Some stop.Memory
+reason ended.Stuck = Some stop.Stuck
+reason ended.TooLong = Some stop.TooLong
+reason other = None
 
-pub why_at : (why : Option Stop) (refused n : ℕ) → 2 < n → status_of why refused ≡ n → why ≡ reason n
-why_at why refused n high is = sym (reason_back why refused (omega (arith, high, is))) ∙ ap reason is
+reason_back : (why : Option Stop) (refused : ℕ) → reason (status_of why refused) ≡ why
+reason_back None refused = by_count (λ (s : Status). reason s ≡ None) refl refl (refused == 0)
+reason_back (Some stop.SourceFault) refused = refl
+reason_back (Some stop.SinkFault) refused = refl
+reason_back (Some stop.Memory) refused = refl
+reason_back (Some stop.Stuck) refused = refl
+reason_back (Some stop.TooLong) refused = refl
+
+pub why_at : (why : Option Stop) (refused : ℕ) (status : Status) → status_of why refused ≡ status → why ≡ reason status
+why_at why refused status is = sym (reason_back why refused) ∙ ap reason is
 
 -- ---- runs
 
 -- no memory was found for a run, and nothing was done
 pub nothing_ran : (last : ℕ) (room : Room) (device : Device) (input output : Stream) → IsReady device
-    → IsRun (record { named = 0; last = last; room = room; entry = device; exit = device; input = record { before = input; after = input }; output = record { before = output; after = output }; history = None; status = 5; refused = 0 })
+    → IsRun (ran room device device (record { before = input; after = input }) (record { before = output; after = output }) last None ended.Memory 0)
 nothing_ran last room device input output ready = record {
   history_is = tt;
   none = (refl, refl, refl);
-  status_is = (omega arith, λ two. omega (arith, two));
-  counted = λ low. absurd (omega (arith, low));
+  read_words = λ is. cc (is);
+  counted = λ end. absurd end;
   end = entry_state device 0;
   closed = record { moment = refl; clock = tt };
   lines = nothing_done (empty_log 0 room) room (entry_state device 0) input output;
-  whole = λ low. absurd (omega (arith, low));
+  whole = λ end. absurd end;
   between = λ no_sink no_stuck. nothing_broken (empty_log 0 room) room (entry_state device 0) input output;
   wanting = λ is. tt;
-  source = λ is. absurd (omega (arith, is));
-  sink = λ is. absurd (omega (arith, is));
+  source = λ is. absurd (cc (is));
+  sink = λ is. absurd (cc (is));
   read_well = λ no. refl;
   written_well = λ no_sink no_stuck. refl;
-  stuck = λ is. absurd (omega (arith, is));
-  long = λ is. absurd (omega (arith, is));
+  stuck = λ is. absurd (cc (is));
+  long = λ is. absurd (cc (is));
   short = λ no. told_same input.content (λ a b. length a ≤ 16777216 + length b) (λ a. omega arith);
   ready = λ goes. ready;
   power = ready.power;
@@ -88,32 +100,32 @@ nothing_ran last room device input output ready = record {
 
 module _ (run last : ℕ) (room : Room) (entry exit : Device) (input output : Passage) (log : Log) (made : log ≡ record (empty_log run room) { facts = log.facts }) (end : State) (closed : IsClosed exit (Some log) last end) (why : Option Stop) (refused : ℕ) where
   -- a run of lines that ended so
-  abbrev ran_so : ℕ → Run
+  abbrev ran_so : Status → Run
   ran_so status = record { named = run; last = last; room = room; entry = entry; exit = exit; input = input; output = output; history = Some log; status = status; refused = refused }
 
   -- lines were done, and the status says why no more were
   pub lines_ran :
-      (status : ℕ) → status ≡ status_of why refused
+      (status : Status) → status ≡ status_of why refused
       → GoesUntil why (empty_log run room) room (entry_state entry run) end input output refused
       → ((why ≡ Some stop.Stuck → ⊥) → IsReady exit) → exit.power ≡ true
-      → IsRun (record { named = run; last = last; room = room; entry = entry; exit = exit; input = input; output = output; history = Some log; status = status; refused = refused })
-  lines_ran status says goes ready power = subst (λ (n : ℕ). IsRun (ran_so n)) (sym says) (record {
+      → IsRun (ran_so status)
+  lines_ran status says goes ready power = subst (λ (s : Status). IsRun (ran_so s)) (sym says) (record {
     history_is = made;
     none = tt;
-    status_is = is_status why refused;
+    read_words = words_read why refused;
     counted = counted_at_end why refused;
     end = end;
     closed = closed;
     lines = goes.lines;
-    whole = λ low. goes.whole (at_end why refused low);
+    whole = λ end. goes.whole (at_its_end why refused end);
     between = λ no_sink no_stuck. goes.between (λ is. no_sink (says_so is)) (λ is. no_stuck (says_so is));
-    wanting = λ is. goes.wanting (why_at why refused 5 (omega arith) is);
-    source = λ is. goes.source (why_at why refused 3 (omega arith) is);
-    sink = λ is. goes.sink (why_at why refused 4 (omega arith) is);
+    wanting = λ is. goes.wanting (why_at why refused ended.Memory is);
+    source = λ is. goes.source (why_at why refused ended.SourceFault is);
+    sink = λ is. goes.sink (why_at why refused ended.SinkFault is);
     read_well = λ no. goes.read_well (λ is. no (says_so is));
     written_well = λ no_sink no_stuck. goes.written_well (λ is. no_sink (says_so is)) (λ is. no_stuck (says_so is));
-    stuck = λ is. goes.stuck (why_at why refused 6 (omega arith) is);
-    long = λ is. goes.long (why_at why refused 7 (omega arith) is);
+    stuck = λ is. goes.stuck (why_at why refused ended.Stuck is);
+    long = λ is. goes.long (why_at why refused ended.TooLong is);
     short = λ no. goes.short (λ is. no (says_so is));
     ready = λ no. ready (λ is. no (says_so is));
     power = power;
@@ -175,27 +187,27 @@ module _ {S : Type 0} (device : S → Device) (shelf : S) (history : Log) (run b
     the_lines = subst (λ (s : State). GoesUntil why (empty_log kept.run room) room s (state_in device it last) input output refused) first_state
         (subst (λ (l : Log). GoesUntil why l room (state_in device (stage.Off shelf history) begun) (state_in device it last) input output refused) log_is goes)
 
-    ended : Ended (without_facts history).run (StaysAlone goes.lines.script × EndsAlone goes.lines.ends) (state_in device (stage.Off shelf history) begun) (state_in device it last)
-    ended = lines_ended (without_facts history) room (state_in device (stage.Off shelf history) begun) (state_in device it last) input output refused goes.lines
+    they_went : Ended (without_facts history).run (StaysAlone goes.lines.script × EndsAlone goes.lines.ends) (state_in device (stage.Off shelf history) begun) (state_in device it last)
+    they_went = lines_ended (without_facts history) room (state_in device (stage.Off shelf history) begun) (state_in device it last) input output refused goes.lines
 
     pub later : run ≤ last
-    later = let e = ended.clock in omega (arith, e, asked)
+    later = let e = they_went.clock in omega (arith, e, asked)
 
     pub the_ahead : IsBehind kept.run (device shelf) → IsAhead kept.run (last + 1) (device closed) kept.facts
     the_ahead = run_ahead (empty_log kept.run room) room kept.run last (device shelf) (device closed) kept.facts (state_in device it last) input output refused refl end_is refl the_lines.lines
 
     pub the_run :
-        (status : ℕ) → status ≡ status_of why refused → IsReady (device shelf)
-        → IsRun (record { named = kept.run; last = last; room = room; entry = device shelf; exit = device closed; input = input; output = output; history = Some kept; status = status; refused = refused })
+        (status : Status) → status ≡ status_of why refused → IsReady (device shelf)
+        → IsRun (ran room (device shelf) (device closed) input output last (Some kept) status refused)
     the_run status says ready =
         lines_ran kept.run last room (device shelf) (device closed) input output kept kept_made (state_in device it last) (record { moment = end_is; clock = refl }) why refused status says the_lines
         (λ no. subst IsReady (sym exit_same) (settled no).ready)
-        (subst (λ (d : Device). d.power ≡ true) (sym exit_same) (ended.power ready.power))
+        (subst (λ (d : Device). d.power ≡ true) (sym exit_same) (they_went.power ready.power))
 
     -- all that is promised of it
     pub the_promises :
-        (clock : ℕ) (status : ℕ) → status ≡ status_of why refused → IsReady (device shelf) → Rose clock run
-        → Promises clock (record { named = kept.run; last = last; room = room; entry = device shelf; exit = device closed; input = input; output = output; history = Some kept; status = status; refused = refused })
+        (clock : ℕ) (status : Status) → status ≡ status_of why refused → IsReady (device shelf) → Rose clock run
+        → Promises clock (ran room (device shelf) (device closed) input output last (Some kept) status refused)
     the_promises clock status says ready rose = record {
       clock = (subst (λ (n : ℕ). Rose clock n) (sym named) rose, (let is = named in let le = later in omega (arith, is, le)));
       does = the_run status says ready;
@@ -206,7 +218,7 @@ module _ {S : Type 0} (device : S → Device) (shelf : S) (history : Log) (run b
 
 -- and of one for which no memory was found
 pub nothing_promised : (asked last : ℕ) (room : Room) (device : Device) (input output : Stream) → IsReady device
-    → Promises asked (record { named = 0; last = last; room = room; entry = device; exit = device; input = record { before = input; after = input }; output = record { before = output; after = output }; history = None; status = 5; refused = 0 })
+    → Promises asked (ran room device device (record { before = input; after = input }) (record { before = output; after = output }) last None ended.Memory 0)
 nothing_promised asked last room device input output ready = record {
   clock = tt;
   does = nothing_ran last room device input output ready;

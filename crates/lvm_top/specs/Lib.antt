@@ -5,3 +5,4 @@ pub mod Statuses
 pub mod Run
 pub mod Runs
 pub mod Sim
+pub mod Turn

@@ -2,14 +2,15 @@
 use Rattle.std.specs.Prelude.{◌≡◌, ◌⊎◌, ◌++◌, ℕ, List, [], Option, Some, None, Result, Ok, Err, codes}
 use Rattle.lvm_io.specs.Count.{Rose, next_count}
 use Rattle.lvm_io.specs.Stream.{WhereTold, WritesFront}
-use Rattle.lvm_memory.specs.declared.memory.MemShelf.{MemShelf}
-use Rattle.lvm_vol.specs.Log.{Log}
 use Rattle.lvm_top.specs.Blank.{blank_image}
 use Rattle.lvm_steps.specs.Moments.{ImagesKept, IsUpheld}
 use Rattle.lvm_vol.specs.Facts.{joined}
 use Rattle.lvm_vol.specs.Legal.{Legal}
 use Rattle.lvm_top.specs.Run.{Run, Promises, WhereAlone}
-use Rattle.lvm_top.specs.Script.{Stream, facts_of}
+use Rattle.lvm_top.specs.Script.{Passage, facts_of}
+use Rattle.lvm_top.specs.declared.run.Ended.{Ended}
+use Rattle.lvm_top.specs.declared.status.Status.{Status}
+use Rattle.lvm_top.specs.declared.status.Status.TheVariants as ended
 use Rattle.lvm_words.specs.declared.job.Job.{Job}
 use Rattle.lvm_words.specs.declared.job.Job.TheVariants.{Script, Sim, Image, Help, Version}
 use Rattle.lvm_language.specs.declared.fault.WordsFault.{WordsFault}
@@ -57,33 +58,43 @@ OnText (Ok Help) P = P help_text
 OnText (Ok Version) P = P version_line
 OnText (Err why) P = Unit {0}
 
--- The text was written whole and the status is 0, or the sink failed, a front of it was written and the status is 4.
-pub record IsTold (text : List ℕ) (status : ℕ) (before after : Stream) : Type 0 where
-  pub status_is : (status ≡ 0) ⊎ (status ≡ 4)
-  pub whole : status ≡ 0 → WhereTold before.content after.content (λ a b. b ≡ a ++ text)
-  pub front : status ≡ 4 → WhereTold before.content after.content (λ a b. WritesFront text a b)
-  pub cause : status ≡ 4 → Rose before.faults after.faults
+-- The text was written whole, or the sink failed and a front of it was.
+pub record IsTold (text : List ℕ) (status : Status) (out : Passage) : Type 0 where
+  pub status_is : (status ≡ ended.Well) ⊎ (status ≡ ended.SinkFault)
+  pub whole : status ≡ ended.Well → WhereTold out.before.content out.after.content (λ a b. b ≡ a ++ text)
+  pub front : status ≡ ended.SinkFault → WhereTold out.before.content out.after.content (λ a b. WritesFront text a b)
+  pub cause : status ≡ ended.SinkFault → Rose out.before.faults out.after.faults
 
 -- the line for words that are not in the language
 abbrev pub usage_line : List ℕ
 usage_line = codes "usage: lvm script | lvm sim DISKS MIB | lvm image N MIB\n"
 
 -- the text was written whole, or the sink failed and a front of it was
-abbrev pub IsSaid : List ℕ → Stream → Stream → Type 0
-IsSaid text before after = WhereTold before.content after.content (λ a b. b ≡ a ++ text) ⊎ (Rose before.faults after.faults × WhereTold before.content after.content (λ a b. WritesFront text a b))
+abbrev pub IsSaid : List ℕ → Passage → Type 0
+IsSaid text out = WhereTold out.before.content out.after.content (λ a b. b ≡ a ++ text) ⊎ (Rose out.before.faults out.after.faults × WhereTold out.before.content out.after.content (λ a b. WritesFront text a b))
 
 -- nothing was run: no history, no line refused, and no disks made in memory
-pub record IsUnrun (status refused : ℕ) (history : Option Log) (sim : Option MemShelf) (why : ℕ) : Type 0 where
-  pub status_is : status ≡ why
-  pub refused_is : refused ≡ 0
-  pub history_is : history ≡ None
-  pub sim_is : sim ≡ None
+pub record IsUnrun {S : Type 0} (end : Ended S) (status : Status) : Type 0 where
+  pub status_is : end.status ≡ status
+  pub refused_is : end.refused ≡ 0
+  pub history_is : end.history ≡ None
+  pub sim_is : end.sim ≡ None
 
 -- The words are not in the language: nothing was run, and a line of usage was written, or no memory was found to read them.
-pub record IsUsage (status refused : ℕ) (history : Option Log) (sim : Option MemShelf) (before after : Stream) : Type 0 where
-  pub status_is : (status ≡ 2) ⊎ (status ≡ 5)
-  pub unrun : IsUnrun status refused history sim status
-  pub line : status ≡ 2 → IsSaid usage_line before after
+pub record IsUsage {S : Type 0} (end : Ended S) (err : Passage) : Type 0 where
+  pub status_is : (end.status ≡ ended.Usage) ⊎ (end.status ≡ ended.Memory)
+  pub unrun : IsUnrun end end.status
+  pub line : end.status ≡ ended.Usage → IsSaid usage_line err
+
+-- Each job leaves alone what isn't its: a script the line of errors and the images, one over disks in memory the files too; a text all but the output, an image
+-- all but the images, and words that are not in the language all but the line of errors.
+abbrev pub LeavesAlone : Result Job WordsFault → (files input out err clock images : Type 0) → Type 0
+LeavesAlone (Ok Script) files input out err clock images = err × images
+LeavesAlone (Ok (Sim disks mib)) files input out err clock images = files × err × images
+LeavesAlone (Ok (Image disk mib)) files input out err clock images = files × input × out × err × clock
+LeavesAlone (Ok Help) files input out err clock images = files × input × err × clock × images
+LeavesAlone (Ok Version) files input out err clock images = files × input × err × clock × images
+LeavesAlone (Err why) files input out err clock images = files × input × out × clock × images
 
 -- what a run over disks that hold nothing promises beside: no moment can be earlier than the run's, and nothing was told before
 pub record PromisesBlank (asked : ℕ) (r : Run) : Type 0 where
@@ -92,10 +103,10 @@ pub record PromisesBlank (asked : ℕ) (r : Run) : Type 0 where
   pub first : WhereAlone r (Legal (joined [] (facts_of r.history)) × ImagesKept r.exit (joined [] (facts_of r.history)))
 
 -- That disk alone was chosen, and its new image has so many MiB of zeros, or the sink failed and it has a front of them.
-pub record IsImaged (disk mib status : ℕ) (chosen : Option ℕ) (earlier choices : ℕ) (before after : Stream) : Type 0 where
-  pub status_is : (status ≡ 0) ⊎ (status ≡ 4)
+pub record IsImaged (disk mib : ℕ) (status : Status) (chosen : Option ℕ) (earlier choices : ℕ) (image : Passage) : Type 0 where
+  pub status_is : (status ≡ ended.Well) ⊎ (status ≡ ended.SinkFault)
   pub chosen_is : chosen ≡ Some disk
   pub once : choices ≡ next_count earlier
-  pub whole : status ≡ 0 → WhereTold before.content after.content (λ a b. b ≡ blank_image mib)
-  pub front : status ≡ 4 → WhereTold before.content after.content (λ a b. WritesFront (blank_image mib) [] b)
-  pub cause : status ≡ 4 → Rose before.faults after.faults
+  pub whole : status ≡ ended.Well → WhereTold image.before.content image.after.content (λ a b. b ≡ blank_image mib)
+  pub front : status ≡ ended.SinkFault → WhereTold image.before.content image.after.content (λ a b. WritesFront (blank_image mib) [] b)
+  pub cause : status ≡ ended.SinkFault → Rose image.before.faults image.after.faults

@@ -1,5 +1,5 @@
 -- A run of a script: how it ends, and why.
-use Rattle.std.specs.Prelude.{◌≡◌, ◌<◌, ◌≤◌, ◌+◌, ℕ, [], length, Option, IfNone, IfSome, true, min}
+use Rattle.std.specs.Prelude.{◌≡◌, ◌<◌, ◌≤◌, ◌+◌, ℕ, [], length, Option, IfNone, IfSome, true}
 use Rattle.lvm_steps.specs.Moments.{ImagesKept, IsUpheld}
 use Rattle.lvm_disk.specs.Device.{Device, IsReady}
 use Rattle.lvm_io.specs.Count.{Rose}
@@ -10,7 +10,10 @@ use Rattle.lvm_vol.specs.Log.{Log}
 use Rattle.lvm_stamps.specs.Behind.{IsBehind, IsAhead}
 use Rattle.lvm_core.specs.declared.parts.Room.{Room}
 use Rattle.lvm_line.specs.State.{State}
-use Rattle.lvm_top.specs.Script.{Passage, AreDone, AreAllRead, IsLineLeft, EndsStuck, StaysAlone, EndsAlone, empty_log, entry_state, facts_of}
+use Rattle.lvm_top.specs.Script.{Passage, AreDone, AreAllRead, IsLineLeft, EndsStuck, StaysAlone, EndsAlone, empty_log, entry_state, facts_of, run_of}
+use Rattle.lvm_top.specs.Statuses.{at_end, IsAtEnd}
+use Rattle.lvm_top.specs.declared.status.Status.{Status}
+use Rattle.lvm_top.specs.declared.status.Status.TheVariants as ended
 use Rattle.lvm_top.specs.Sim.{IsToldBlank}
 
 -- What a run was given and what came of it: the moment that names it and the clock's last one, its rooms, the shelf before and after, what was read and written, its history, its status, and how many lines were refused.
@@ -23,8 +26,13 @@ pub record Run : Type 0 where
   pub input : Passage
   pub output : Passage
   pub history : Option Log
-  pub status : ℕ
+  pub status : Status
   pub refused : ℕ
+
+-- what the call says of it
+abbrev pub ran : Room → Device → Device → Passage → Passage → ℕ → Option Log → Status → ℕ → Run
+ran room entry exit input output last history status refused =
+    record { named = run_of history; last = last; room = room; entry = entry; exit = exit; input = input; output = output; history = history; status = status; refused = refused }
 
 -- A session that is on at the end is closed without a write. The clock was last asked by a line, or at the beginning.
 pub record IsClosed (exit : Device) (history : Option Log) (last : ℕ) (end : State) : Type 0 where
@@ -35,29 +43,29 @@ pub record IsClosed (exit : Device) (history : Option Log) (last : ℕ) (end : S
 abbrev pub LinesOf : Run → State → Type 0
 LinesOf r end = AreDone (empty_log r.named r.room) r.room (entry_state r.entry r.named) end r.input r.output r.refused
 
--- The lines that were done are the input's first, each as it should be. Status 0 or 1: all of the input was read and done; 1 where a line was refused. Any
--- other status has its cause: 3 that a read failed and 4 that a write did, which come at no other status but a write's at 6; 6 that the last line was answered
--- Stuck; 7 exactly that too much was read; 5, which is free, that a line was left. At 3, 5 and 7 the run ended between two lines. Without a history no memory
--- was found for a run, and nothing was done.
+-- The lines that were done are the input's first, each as it should be. At the input's end all of it was read and done, and the status says whether a line
+-- was refused. Any other status has its cause: a read failed, or a write did, which come at no other status but a write's where the last line was answered
+-- Stuck; that it was; exactly that too much was read; and for want of memory, which is free, that a line was left. But for a write and Stuck the run ended
+-- between two lines. Without a history no memory was found for a run, and nothing was done.
 pub record IsRun (r : Run) : Type 0 where
   pub history_is : IfSome r.history (λ log. log ≡ record (empty_log r.named r.room) { facts = log.facts })
-  pub none : IfNone r.history ((r.status ≡ 5) × (r.refused ≡ 0) × (r.exit ≡ r.entry))
-  pub status_is : (r.status < 8) × (r.status ≡ 2 → ⊥)
-  pub counted : r.status < 2 → r.status ≡ min r.refused 1
+  pub none : IfNone r.history ((r.status ≡ ended.Memory) × (r.refused ≡ 0) × (r.exit ≡ r.entry))
+  pub read_words : r.status ≡ ended.Usage → ⊥
+  pub counted : IsAtEnd r.status → r.status ≡ at_end r.refused
   pub end : State
   pub closed : IsClosed r.exit r.history r.last end
   pub lines : LinesOf r end
-  pub whole : r.status < 2 → AreAllRead lines r.input
-  pub between : (r.status ≡ 4 → ⊥) → (r.status ≡ 6 → ⊥) → lines.done ≡ []
-  pub wanting : r.status ≡ 5 → IfSome r.history (λ log. IsLineLeft lines r.input)
-  pub source : r.status ≡ 3 → Rose r.input.before.faults r.input.after.faults
-  pub sink : r.status ≡ 4 → Rose r.output.before.faults r.output.after.faults
-  pub read_well : (r.status ≡ 3 → ⊥) → r.input.after.faults ≡ r.input.before.faults
-  pub written_well : (r.status ≡ 4 → ⊥) → (r.status ≡ 6 → ⊥) → r.output.after.faults ≡ r.output.before.faults
-  pub stuck : r.status ≡ 6 → EndsStuck lines.ends
-  pub long : r.status ≡ 7 → WhereTold r.input.before.content r.input.after.content (λ a b. 16777216 + length b < length a)
-  pub short : (r.status ≡ 7 → ⊥) → WhereTold r.input.before.content r.input.after.content (λ a b. length a ≤ 16777216 + length b)
-  pub ready : (r.status ≡ 6 → ⊥) → IsReady r.exit
+  pub whole : IsAtEnd r.status → AreAllRead lines r.input
+  pub between : (r.status ≡ ended.SinkFault → ⊥) → (r.status ≡ ended.Stuck → ⊥) → lines.done ≡ []
+  pub wanting : r.status ≡ ended.Memory → IfSome r.history (λ log. IsLineLeft lines r.input)
+  pub source : r.status ≡ ended.SourceFault → Rose r.input.before.faults r.input.after.faults
+  pub sink : r.status ≡ ended.SinkFault → Rose r.output.before.faults r.output.after.faults
+  pub read_well : (r.status ≡ ended.SourceFault → ⊥) → r.input.after.faults ≡ r.input.before.faults
+  pub written_well : (r.status ≡ ended.SinkFault → ⊥) → (r.status ≡ ended.Stuck → ⊥) → r.output.after.faults ≡ r.output.before.faults
+  pub stuck : r.status ≡ ended.Stuck → EndsStuck lines.ends
+  pub long : r.status ≡ ended.TooLong → WhereTold r.input.before.content r.input.after.content (λ a b. 16777216 + length b < length a)
+  pub short : (r.status ≡ ended.TooLong → ⊥) → WhereTold r.input.before.content r.input.after.content (λ a b. length a ≤ 16777216 + length b)
+  pub ready : (r.status ≡ ended.Stuck → ⊥) → IsReady r.exit
   pub power : r.exit.power ≡ true
 
 -- In each line of the run that entered a volume's making or removal at most one group had a quorum among all disks.

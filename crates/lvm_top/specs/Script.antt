@@ -68,6 +68,13 @@ pub record Passage : Type 0 where
   pub before : Stream
   pub after : Stream
 
+-- one of them, by its content and by how often it has failed
+abbrev pub stream : Option (List ℕ) → ℕ → Stream
+stream content faults = record { content = content; faults = faults }
+
+abbrev pub passage : {S : Type 0} → (S → Option (List ℕ)) → (S → ℕ) → S → S → Passage
+passage content faults old new = record { before = stream (content old) (faults old); after = stream (content new) (faults new) }
+
 -- The lines that were done are the first of the source's, and what was written is their replies: each whole, but that of the last a front where the sink
 -- failed.
 pub record AreDone (log : Log) (room : Room) (first last : State) (input output : Passage) (refused : ℕ) : Type 0 where

@@ -1,22 +1,44 @@
 -- How a run's status says why it ended.
-use Rattle.std.specs.Prelude.{◌≡◌, ◌<◌, ◌≤◌, ◌+◌, ℕ, [], length, Option, Some, None, min}
+use Rattle.std.specs.Prelude.{◌≡◌, ◌==◌, if◌then◌else◌, ◌<◌, ◌≤◌, ◌+◌, ℕ, [], length, Option, Some, None}
 use Rattle.lvm_io.specs.Count.{Rose}
 use Rattle.lvm_io.specs.Stream.{WhereTold}
 use Rattle.lvm_vol.specs.Log.{Log}
 use Rattle.lvm_core.specs.declared.parts.Room.{Room}
 use Rattle.lvm_line.specs.State.{State}
 use Rattle.lvm_top.specs.Script.{Passage, AreDone, AreAllRead, IsLineLeft, EndsStuck}
+use Rattle.lvm_top.specs.declared.status.Status.{Status}
+use Rattle.lvm_top.specs.declared.status.Status.TheVariants as ended
 use Rattle.lvm_top.specs.declared.script.Stop.{Stop}
 use Rattle.lvm_top.specs.declared.script.Stop.TheVariants as stop
 
--- 0 or 1 at the input's end, by whether a line was refused
-abbrev pub status_of : Option Stop → ℕ → ℕ
-status_of None refused = min refused 1
-status_of (Some stop.SourceFault) refused = 3
-status_of (Some stop.SinkFault) refused = 4
-status_of (Some stop.Memory) refused = 5
-status_of (Some stop.Stuck) refused = 6
-status_of (Some stop.TooLong) refused = 7
+-- the number of a status
+abbrev pub code_of : Status → ℕ
+code_of ended.Well = 0
+code_of ended.Refusals = 1
+code_of ended.Usage = 2
+code_of ended.SourceFault = 3
+code_of ended.SinkFault = 4
+code_of ended.Memory = 5
+code_of ended.Stuck = 6
+code_of ended.TooLong = 7
+
+-- the input's end was reached, by whether a line was refused
+abbrev pub at_end : ℕ → Status
+at_end refused = if refused == 0 then ended.Well else ended.Refusals
+
+abbrev pub IsAtEnd : Status → Type 0
+IsAtEnd ended.Well = Unit {0}
+IsAtEnd ended.Refusals = Unit {0}
+IsAtEnd other = ⊥
+
+-- the status of a run that stopped for this
+abbrev pub status_of : Option Stop → ℕ → Status
+status_of None refused = at_end refused
+status_of (Some stop.SourceFault) refused = ended.SourceFault
+status_of (Some stop.SinkFault) refused = ended.SinkFault
+status_of (Some stop.Memory) refused = ended.Memory
+status_of (Some stop.Stuck) refused = ended.Stuck
+status_of (Some stop.TooLong) refused = ended.TooLong
 
 -- The lines of a source were done until all was read, or as many as were done before the run stopped for this.
 pub record GoesUntil (why : Option Stop) (log : Log) (room : Room) (first last : State) (input output : Passage) (refused : ℕ) : Type 0 where

@@ -4,30 +4,26 @@ ghost use Rattle.lvm_io.specs.Count.{Rose};
 ghost use Rattle.lvm_io.specs.Stream.{WhereTold, WritesFront};
 ghost use Rattle.lvm_top.specs.Blank.{blank_image};
 
+use crate::status::Status;
 use lvm_io::{Sink, SinkFault, write_all};
 
-// How many zeros are written at once, and how often for a MiB.
-const PIECE: usize = 65_536;
+// A MiB of zeros, which are written at once.
+const ZEROS: [u8; 1_048_576] = [0; 1_048_576];
 
-const PIECES: u64 = 16;
-
-const ZEROS: [u8; PIECE] = [0; PIECE];
-
-/// Writes so many MiB of zeros. Status 0: all were written. Status 4: the sink failed, and a front of
-/// them was.
-pub fn run_image<O: Sink>(mib: u32, out: &mut O) -> u8
-    ensures status { (result ≡ 0) ⊎ (result ≡ 4) }
-    ensures whole { result ≡ 0 → WhereTold (O.held out.old) (O.held out.new) (λ a b. b ≡ a ++ blank_image mib) }
-    ensures front { result ≡ 4 → WhereTold (O.held out.old) (O.held out.new) (λ a b. WritesFront (blank_image mib) a b) }
+/// Writes so many MiB of zeros: all, or where the sink failed a front of them.
+pub fn run_image<O: Sink>(mib: u32, out: &mut O) -> Status
+    ensures status { (result ≡ Status.Well) ⊎ (result ≡ Status.SinkFault) }
+    ensures whole { result ≡ Status.Well → WhereTold (O.held out.old) (O.held out.new) (λ a b. b ≡ a ++ blank_image mib) }
+    ensures front { result ≡ Status.SinkFault → WhereTold (O.held out.old) (O.held out.new) (λ a b. WritesFront (blank_image mib) a b) }
     ensures image { (O.chosen out.new ≡ O.chosen out.old) × (O.choices out.new ≡ O.choices out.old) }
     ensures later { O.faults out.old ≤ O.faults out.new }
-    ensures cause { result ≡ 4 → Rose (O.faults out.old) (O.faults out.new) }
+    ensures cause { result ≡ Status.SinkFault → Rose (O.faults out.old) (O.faults out.new) }
 {
-    for _ in 0..PIECES * u64::from(mib) {
+    for _ in 0..mib {
         match write_all(out, &ZEROS) {
             Ok(()) => {}
-            Err(SinkFault) => return 4,
+            Err(SinkFault) => return Status::SinkFault,
         }
     }
-    0
+    Status::Well
 }

@@ -6,6 +6,7 @@ mod laws;
 mod program;
 mod run;
 mod script;
+mod status;
 
 pub use image::run_image;
 pub use laws::runs_follow;
@@ -14,3 +15,4 @@ pub use lvm_line::{Refusal, Reply};
 pub use lvm_words::{Job, WordsFault, read_words};
 pub use program::run_words;
 pub use run::{Ended, run_script};
+pub use status::Status;

@@ -2,14 +2,15 @@
 ghost use Rattle.std.specs.Prelude.{◌≡◌, ◌⊎◌, ◌≤◌, ◌<◌, length, [], None, IfOk, IfErr, IfSome, IfNone};
 ghost use Rattle.lvm_disk.specs.Device.{IsReady};
 ghost use Rattle.lvm_memory.specs.Memory.{device_of};
-ghost use Rattle.lvm_top.specs.Program.{OnScript, OnSim, OnImage, OnText, help_text, version_line, usage_line, IsTold, IsSaid, IsUnrun, IsUsage, IsImaged, PromisesBlank};
-ghost use Rattle.lvm_top.specs.Run.{Promises};
-ghost use Rattle.lvm_top.specs.Script.{run_of};
+ghost use Rattle.lvm_top.specs.Program.{OnScript, OnSim, OnImage, OnText, help_text, version_line, usage_line, IsTold, IsSaid, IsUnrun, IsUsage, IsImaged, LeavesAlone, PromisesBlank};
+ghost use Rattle.lvm_top.specs.Run.{Promises, ran};
+ghost use Rattle.lvm_top.specs.Script.{passage};
 ghost use Rattle.lvm_top.specs.Sim.{full_room, sim_device};
 ghost use Rattle.lvm_words.specs.Words.{job_of};
 
 use crate::image::run_image;
 use crate::run::{Ended, run_script};
+use crate::status::Status;
 use lvm_core::Room;
 use lvm_disk::Shelf;
 use lvm_io::{Clock, Images, Sink, SinkFault, Source, write_all};
@@ -53,47 +54,47 @@ fn blank_shelf(alloc: Global, disks: u16, mib: u32) -> Result<MemShelf, Memory>
 
 // Says how the words go, as far as the sink takes it.
 fn say_usage<E: Sink>(err: &mut E)
-    ensures { IsSaid usage_line (record { content = E.held err.old; faults = E.faults err.old }) (record { content = E.held err.new; faults = E.faults err.new }) }
+    ensures { IsSaid usage_line (passage E.held E.faults err.old err.new) }
 {
     let _ = write_all(err, USAGE);
 }
 
-// Writes a text. Status 0: all of it was written. Status 4: the sink failed, and a front of it was.
-fn tell<O: Sink>(text: &[u8], out: &mut O) -> u8
-    ensures { IsTold text.now result (record { content = O.held out.old; faults = O.faults out.old }) (record { content = O.held out.new; faults = O.faults out.new }) }
+// Writes a text: all of it, or where the sink failed a front.
+fn tell<O: Sink>(text: &[u8], out: &mut O) -> Status
+    ensures { IsTold text.now result (passage O.held O.faults out.old out.new) }
 {
     match write_all(out, text) {
-        Ok(()) => 0,
-        Err(SinkFault) => 4,
+        Ok(()) => Status::Well,
+        Err(SinkFault) => Status::SinkFault,
     }
 }
 
 // Tells how the words go.
-fn tell_help<O: Sink>(out: &mut O) -> u8
-    ensures { IsTold help_text result (record { content = O.held out.old; faults = O.faults out.old }) (record { content = O.held out.new; faults = O.faults out.new }) }
+fn tell_help<O: Sink>(out: &mut O) -> Status
+    ensures { IsTold help_text result (passage O.held O.faults out.old out.new) }
 {
     tell(HELP, out)
 }
 
 // Tells which program this is.
-fn tell_version<O: Sink>(out: &mut O) -> u8
-    ensures { IsTold version_line result (record { content = O.held out.old; faults = O.faults out.old }) (record { content = O.held out.new; faults = O.faults out.new }) }
+fn tell_version<O: Sink>(out: &mut O) -> Status
+    ensures { IsTold version_line result (passage O.held O.faults out.old out.new) }
 {
     tell(VERSION, out)
 }
 
 // Makes a new image of a disk.
-fn make_image<P: Images>(disk: u16, mib: u32, images: &mut P) -> u8
-    ensures { IsImaged disk mib result (P.chosen images.new) (P.choices images.old) (P.choices images.new) (record { content = P.held images.old; faults = P.faults images.old }) (record { content = P.held images.new; faults = P.faults images.new }) }
+fn make_image<P: Images>(disk: u16, mib: u32, images: &mut P) -> Status
+    ensures { IsImaged disk mib result (P.chosen images.new) (P.choices images.old) (P.choices images.new) (passage P.held P.faults images.old images.new) }
 {
     images.choose(disk);
     run_image(mib, images)
 }
 
 // The end where no script was run.
-fn unrun<S>(status: u8, files: S) -> Ended<S>
+fn unrun<S>(status: Status, files: S) -> Ended<S>
     ensures files { result.shelf ≡ files }
-    ensures unrun { IsUnrun result.status result.refused result.history result.sim status }
+    ensures unrun { IsUnrun result status }
 {
     Ended {
         status,
@@ -106,11 +107,9 @@ fn unrun<S>(status: u8, files: S) -> Ended<S>
 
 /// Does what the words of the command line, without the program's name, ask for. `script` runs a script
 /// over the files. `sim DISKS MIB` runs one over so many disks of zeros in memory, which are given back
-/// as the run left them. `image N MIB` writes so many MiB of zeros to a new image of disk N, and ends with
-/// status 0, or with 4 where the sink for images failed. Words that are not in the language are answered
-/// by a line of usage to `err` and status 2. `--help` and `--version` write a text to `out`, and end with
-/// status 0, or with 4 where the sink failed. Where no memory is found for the words nothing is done, and the
-/// status is 5. Where no script is run over the files they come back untouched.
+/// as the run left them. `image N MIB` writes so many MiB of zeros to a new image of disk N. Words that are not
+/// in the language are answered by a line of usage to `err`. `--help` and `--version` write a text to `out`.
+/// Where no memory is found for the words nothing is done.
 pub fn run_words<I: Source, O: Sink, E: Sink, C: Clock, S: Shelf, P: Images>(
     alloc: Global,
     words: &[Text],
@@ -123,16 +122,18 @@ pub fn run_words<I: Source, O: Sink, E: Sink, C: Clock, S: Shelf, P: Images>(
 ) -> Ended<S>
     requires ready { IsReady (S.device files) }
 
-    ensures usage { IfErr (job_of words.now) (λ _. IsUsage result.status result.refused result.history result.sim (record { content = E.held err.old; faults = E.faults err.old }) (record { content = E.held err.new; faults = E.faults err.new })) }
-    ensures usage_alone { IfErr (job_of words.now) (λ _. (result.shelf ≡ files) × (input.new ≡ input.old) × (out.new ≡ out.old) × (clock.new ≡ clock.old) × (images.new ≡ images.old) × (result.status ≡ 5 → err.new ≡ err.old)) }
-    ensures script { OnScript (job_of words.now) (Promises (C.last clock.old) (record { named = run_of result.history; last = C.last clock.new; room = full_room; entry = S.device files; exit = S.device result.shelf; input = record { before = record { content = I.left input.old; faults = I.faults input.old }; after = record { content = I.left input.new; faults = I.faults input.new } }; output = record { before = record { content = O.held out.old; faults = O.faults out.old }; after = record { content = O.held out.new; faults = O.faults out.new } }; history = result.history; status = result.status; refused = result.refused })) }
-    ensures script_alone { OnScript (job_of words.now) ((result.sim ≡ None) × (err.new ≡ err.old) × (images.new ≡ images.old)) }
-    ensures sim { OnSim (job_of words.now) (λ disks mib. IfSome result.sim (λ shelf. PromisesBlank (C.last clock.old) (record { named = run_of result.history; last = C.last clock.new; room = full_room; entry = sim_device disks mib; exit = device_of shelf; input = record { before = record { content = I.left input.old; faults = I.faults input.old }; after = record { content = I.left input.new; faults = I.faults input.new } }; output = record { before = record { content = O.held out.old; faults = O.faults out.old }; after = record { content = O.held out.new; faults = O.faults out.new } }; history = result.history; status = result.status; refused = result.refused }))) }
-    ensures sim_alone { OnSim (job_of words.now) (λ _ _. (result.shelf ≡ files) × (err.new ≡ err.old) × (images.new ≡ images.old) × IfNone result.sim (IsUnrun result.status result.refused result.history result.sim 5 × (input.new ≡ input.old) × (out.new ≡ out.old) × (clock.new ≡ clock.old))) }
-    ensures text { OnText (job_of words.now) (λ text. IsUnrun result.status result.refused result.history result.sim result.status × IsTold text result.status (record { content = O.held out.old; faults = O.faults out.old }) (record { content = O.held out.new; faults = O.faults out.new })) }
-    ensures text_alone { OnText (job_of words.now) (λ _. (result.shelf ≡ files) × (input.new ≡ input.old) × (err.new ≡ err.old) × (clock.new ≡ clock.old) × (images.new ≡ images.old)) }
-    ensures image { OnImage (job_of words.now) (λ disk mib. IsUnrun result.status result.refused result.history result.sim result.status × ((result.status ≡ 5 → ⊥) → IsImaged disk mib result.status (P.chosen images.new) (P.choices images.old) (P.choices images.new) (record { content = P.held images.old; faults = P.faults images.old }) (record { content = P.held images.new; faults = P.faults images.new }))) }
-    ensures image_alone { OnImage (job_of words.now) (λ _ _. (result.shelf ≡ files) × (input.new ≡ input.old) × (out.new ≡ out.old) × (err.new ≡ err.old) × (clock.new ≡ clock.old) × (result.status ≡ 5 → images.new ≡ images.old)) }
+    ensures usage { IfErr (job_of words.now) (λ _. IsUsage result (passage E.held E.faults err.old err.new) × (result.status ≡ Status.Memory → err.new ≡ err.old)) }
+    ensures script { let read = passage I.left I.faults input.old input.new in let written = passage O.held O.faults out.old out.new in
+        OnScript (job_of words.now) ((result.sim ≡ None) × Promises (C.last clock.old) (ran full_room (S.device files) (S.device result.shelf) read written (C.last clock.new) result.history result.status result.refused)) }
+    ensures sim { let read = passage I.left I.faults input.old input.new in let written = passage O.held O.faults out.old out.new in
+        OnSim (job_of words.now) (λ disks mib.
+        IfSome result.sim (λ shelf. PromisesBlank (C.last clock.old) (ran full_room (sim_device disks mib) (device_of shelf) read written (C.last clock.new) result.history result.status result.refused))
+        × IfNone result.sim (IsUnrun result Status.Memory × (input.new ≡ input.old) × (out.new ≡ out.old) × (clock.new ≡ clock.old))) }
+    ensures text { OnText (job_of words.now) (λ text. IsUnrun result result.status × IsTold text result.status (passage O.held O.faults out.old out.new)) }
+    ensures image { let zeros = passage P.held P.faults images.old images.new in
+        OnImage (job_of words.now) (λ disk mib. IsUnrun result result.status × (result.status ≡ Status.Memory → images.new ≡ images.old)
+        × ((result.status ≡ Status.Memory → ⊥) → IsImaged disk mib result.status (P.chosen images.new) (P.choices images.old) (P.choices images.new) zeros)) }
+    ensures alone { LeavesAlone (job_of words.now) (result.shelf ≡ files) (input.new ≡ input.old) (out.new ≡ out.old) (err.new ≡ err.old) (clock.new ≡ clock.old) (images.new ≡ images.old) }
 {
     match read_words(alloc, words) {
         Ok(Job::Script) => run_script(alloc, input, out, files, clock, full_room()),
@@ -147,15 +148,15 @@ pub fn run_words<I: Source, O: Sink, E: Sink, C: Clock, S: Shelf, P: Images>(
                     sim: Some(ended.shelf),
                 }
             }
-            Err(Memory) => unrun(5, files),
+            Err(Memory) => unrun(Status::Memory, files),
         },
         Ok(Job::Image { disk, mib }) => unrun(make_image(disk, mib, images), files),
         Ok(Job::Help) => unrun(tell_help(out), files),
         Ok(Job::Version) => unrun(tell_version(out), files),
         Err(WordsFault::Usage) => {
             say_usage(err);
-            unrun(2, files)
+            unrun(Status::Usage, files)
         }
-        Err(WordsFault::Memory) => unrun(5, files),
+        Err(WordsFault::Memory) => unrun(Status::Memory, files),
     }
 }

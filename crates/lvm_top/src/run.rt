@@ -3,11 +3,12 @@ ghost use Rattle.std.specs.Prelude.{◌≡◌, None};
 ghost use Rattle.lvm_disk.specs.Device.{IsReady};
 ghost use Rattle.lvm_io.specs.Count.{Rose};
 ghost use Rattle.lvm_core.specs.Starting.{IsRoom};
-ghost use Rattle.lvm_top.specs.Run.{Promises};
-ghost use Rattle.lvm_top.specs.Script.{run_of};
+ghost use Rattle.lvm_top.specs.Run.{Promises, ran};
+ghost use Rattle.lvm_top.specs.Script.{passage};
 ghost use Rattle.lvm_top.specs.Statuses.{status_of};
 
 use crate::script::{Stop, do_lines};
+use crate::status::Status;
 use lvm_core::{Closed, Room};
 use lvm_disk::Shelf;
 use lvm_history::History;
@@ -19,11 +20,8 @@ use std::alloc::Global;
 /// How a run ended.
 #[derive(Drop)]
 pub struct Ended<S> {
-    /// 0: the input was read to its end and nothing was refused. 1: the same, but something was.
-    /// 2: the words of the command line ask for nothing. 3: the source failed. 4: the sink failed.
-    /// 5: memory ran out for a run, or for a further line. 6: the shelf had nothing to tell a million times in one command. 7: the source
-    /// gave more than 16,777,216 bytes.
-    pub status: u8,
+    /// Why it ended.
+    pub status: Status,
     /// How many lines were refused.
     pub refused: u32,
     /// What was asked and answered; None where no memory was found for a run.
@@ -35,26 +33,26 @@ pub struct Ended<S> {
 }
 
 // The status of a run of which so many lines were refused, and that stopped so.
-fn status_of(stop: Option<Stop>, refused: u32) -> u8
+fn status_of(stop: Option<Stop>, refused: u32) -> Status
     ensures { result ≡ status_of stop refused }
 {
     match stop {
-        None if refused == 0 => 0,
-        None => 1,
-        Some(Stop::SourceFault) => 3,
-        Some(Stop::SinkFault) => 4,
-        Some(Stop::Memory) => 5,
-        Some(Stop::Stuck) => 6,
-        Some(Stop::TooLong) => 7,
+        None if refused == 0 => Status::Well,
+        None => Status::Refusals,
+        Some(Stop::SourceFault) => Status::SourceFault,
+        Some(Stop::SinkFault) => Status::SinkFault,
+        Some(Stop::Memory) => Status::Memory,
+        Some(Stop::Stuck) => Status::Stuck,
+        Some(Stop::TooLong) => Status::TooLong,
     }
 }
 
 // The end of a run for which no memory was found.
 fn unbegun<S>(shelf: S) -> Ended<S>
-    ensures { result ≡ record { status = 5; refused = 0; history = None; shelf = shelf; sim = None } }
+    ensures { result ≡ record { status = Status.Memory; refused = 0; history = None; shelf = shelf; sim = None } }
 {
     Ended {
-        status: 5,
+        status: Status::Memory,
         refused: 0,
         history: None,
         shelf,
@@ -76,7 +74,8 @@ pub fn run_script<S: Shelf, I: Source, O: Sink, C: Clock>(
     requires ready { IsReady (S.device shelf) }
     requires room { IsRoom room }
     ensures clock { Rose (C.last clock.old) (C.last clock.new) }
-    ensures run { Promises (C.last clock.old) (record { named = run_of result.history; last = C.last clock.new; room = room; entry = S.device shelf; exit = S.device result.shelf; input = record { before = record { content = I.left input.old; faults = I.faults input.old }; after = record { content = I.left input.new; faults = I.faults input.new } }; output = record { before = record { content = O.held out.old; faults = O.faults out.old }; after = record { content = O.held out.new; faults = O.faults out.new } }; history = result.history; status = result.status; refused = result.refused }) }
+    ensures run { let read = passage I.left I.faults input.old input.new in let written = passage O.held O.faults out.old out.new in
+        Promises (C.last clock.old) (ran room (S.device shelf) (S.device result.shelf) read written (C.last clock.new) result.history result.status result.refused) }
     ensures sim { result.sim ≡ None }
 {
     let run = clock.now();

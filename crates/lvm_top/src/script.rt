@@ -1,19 +1,20 @@
 //! A script, line by line.
-ghost use Rattle.std.specs.Prelude.{◌≡◌, ◌⊎◌, ◌↔◌, ◌+◌, ◌++◌, ◌^◌, if◌then◌else◌, ◌<◌, ◌≤◌, [], Some, None, OnOk, OnErr, IsTrue};
+ghost use Rattle.std.specs.Prelude.{◌≡◌, ◌⊎◌, ◌↔◌, ◌+◌, ◌++◌, ◌^◌, if◌then◌else◌, ◌<◌, ◌≤◌, [], Some, None, OnOk, OnErr, IfOk, IfErr, IsTrue};
 ghost use Rattle.lvm_io.specs.Count.{Rose};
 ghost use Rattle.lvm_io.specs.Stream.{WhereTold, WritesFront};
 ghost use Rattle.lvm_core.specs.Starting.{IsRoom};
 ghost use Rattle.lvm_line.specs.Replies.{reply_text, IsStuck};
 ghost use Rattle.lvm_line.specs.Stages.{shelf_in, history_in, session_in, state_in, IsSettledStage};
 ghost use Rattle.lvm_line.specs.State.{without_facts};
-ghost use Rattle.lvm_top.specs.Script.{Says, is_refused};
+ghost use Rattle.lvm_top.specs.Script.{Says, is_refused, passage};
 ghost use Rattle.lvm_top.specs.Statuses.{GoesUntil};
+ghost use Rattle.lvm_top.specs.Turn.{ReadsLine, ReadsNone, Tells};
 
 use lvm_core::Room;
 use lvm_disk::Shelf;
 use lvm_io::{Clock, Lines, NextLine, Sink, SinkFault, Source, write_all};
-use lvm_line::{Refusal, Reply, Stage, do_line, memory_text, refusal_line};
-use lvm_num::Memory;
+use lvm_line::{Refusal, Reply, Stage, answer_line, do_line, memory_text, refusal_line};
+use lvm_num::{Memory, Rows};
 use std::alloc::Global;
 
 // Why a run ends before the input does.
@@ -87,6 +88,46 @@ fn with_refusal(refused: u32, reply: &Reply) -> u32
     }
 }
 
+// Writes the reply to a line. Answers how many lines are refused with it, and why the run ends with it, if so.
+fn write_reply<O: Sink>(
+    alloc: Global,
+    out: &mut O,
+    answer: Reply,
+    refused: u32,
+) -> (u32, Option<Stop>)
+    requires { refused + 1 < 2 ^ 32 }
+    ensures { Tells answer refused result.0 (passage O.held O.faults out.old out.new) result.1 }
+{
+    let stuck = is_stuck(&answer);
+    let (said, wrote) = say(alloc, out, answer);
+    let refused = with_refusal(refused, &said);
+    if stuck {
+        (refused, Some(Stop::Stuck))
+    } else if wrote.is_err() {
+        (refused, Some(Stop::SinkFault))
+    } else {
+        (refused, None)
+    }
+}
+
+// The next line of a source. Where none comes, why the run ends, if not since none is left.
+fn read_line<I: Source>(
+    alloc: Global,
+    lines: &mut Lines,
+    input: &mut I,
+) -> Result<Rows<u8>, Option<Stop>>
+    ensures line { IfOk result (ReadsLine lines.old lines.new (passage I.left I.faults input.old input.new)) }
+    ensures none { IfErr result (ReadsNone lines.old lines.new (passage I.left I.faults input.old input.new)) }
+{
+    match lines.next_line(alloc, input) {
+        NextLine::Line(line) => Ok(line),
+        NextLine::End => Err(None),
+        NextLine::Failed => Err(Some(Stop::SourceFault)),
+        NextLine::TooLong => Err(Some(Stop::TooLong)),
+        NextLine::Memory => Err(Some(Stop::Memory)),
+    }
+}
+
 // A source gives at most so many lines: its bytes up to the limit, the last block, and a last line
 // without a line feed.
 const MOST_LINES: u32 = 16_842_753;
@@ -113,7 +154,7 @@ pub fn do_lines<S: Shelf, I: Source, O: Sink, C: Clock>(
     requires settled { IsSettledStage S.device stage }
     requires room { IsRoom room }
     requires unread { lines.old ≡ record { front = []; block = []; given = 0 } }
-    ensures goes { GoesUntil result.stop (without_facts (history_in stage)) room (state_in S.device stage (C.last clock.old)) (state_in S.device result.stage (C.last clock.new)) (record { before = record { content = I.left input.old; faults = I.faults input.old }; after = record { content = I.left input.new; faults = I.faults input.new } }) (record { before = record { content = O.held out.old; faults = O.faults out.old }; after = record { content = O.held out.new; faults = O.faults out.new } }) result.refused }
+    ensures goes { GoesUntil result.stop (without_facts (history_in stage)) room (state_in S.device stage (C.last clock.old)) (state_in S.device result.stage (C.last clock.new)) (passage I.left I.faults input.old input.new) (passage O.held O.faults out.old out.new) result.refused }
     ensures off { result.stop ≡ Some Stop.Stuck → session_in result.stage ≡ None }
     ensures settled { (result.stop ≡ Some Stop.Stuck → ⊥) → IsSettledStage S.device result.stage }
     ensures rooms { without_facts (history_in result.stage) ≡ without_facts (history_in stage) }
@@ -121,54 +162,38 @@ pub fn do_lines<S: Shelf, I: Source, O: Sink, C: Clock>(
     let mut stage = stage;
     let mut refused = 0;
     for _ in 0..MOST_LINES {
-        let line = match lines.next_line(alloc, input) {
-            NextLine::End => {
+        let line = match read_line(alloc, lines, input) {
+            Ok(line) => line,
+            Err(stop) => {
                 return Done {
                     stage,
                     refused,
-                    stop: None,
+                    stop,
                 };
             }
-            NextLine::Failed => {
-                return Done {
-                    stage,
-                    refused,
-                    stop: Some(Stop::SourceFault),
-                };
-            }
-            NextLine::TooLong => {
-                return Done {
-                    stage,
-                    refused,
-                    stop: Some(Stop::TooLong),
-                };
-            }
-            NextLine::Memory => {
-                return Done {
-                    stage,
-                    refused,
-                    stop: Some(Stop::Memory),
-                };
-            }
-            NextLine::Line(line) => line,
         };
+        // Such lines are many in long scripts, and a stage is large to move.
+        if let Some(reply) = answer_line(alloc, &stage, line.as_slice()) {
+            let (count, stop) = write_reply(alloc, out, reply, refused);
+            refused = count;
+            if stop.is_some() {
+                return Done {
+                    stage,
+                    refused,
+                    stop,
+                };
+            }
+            continue;
+        }
         let answered = do_line(alloc, stage, clock, room, line.as_slice());
         stage = answered.stage;
-        let stuck = is_stuck(&answered.reply);
-        let (said, wrote) = say(alloc, out, answered.reply);
-        refused = with_refusal(refused, &said);
-        if stuck {
+        let (count, stop) = write_reply(alloc, out, answered.reply, refused);
+        refused = count;
+        if stop.is_some() {
             return Done {
                 stage,
                 refused,
-                stop: Some(Stop::Stuck),
-            };
-        }
-        if wrote.is_err() {
-            return Done {
-                stage,
-                refused,
-                stop: Some(Stop::SinkFault),
+                stop,
             };
         }
     }

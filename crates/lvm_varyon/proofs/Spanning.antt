@@ -28,7 +28,7 @@ use Rattle.lvm_core.specs.declared.refused.Cause.TheVariants as cause
 use Rattle.lvm_commit.specs.Committed.{HoldsCommitted}
 use Rattle.lvm_commit.specs.Settling.{NoneIsLeft}
 use Rattle.lvm_core.specs.Held.{IsHeld, NotesAreHome, StartsHeld}
-use Rattle.lvm_core.specs.Settled.{IsSettled, HasNumbers}
+use Rattle.lvm_core.specs.Settled.{IsSettled, HasSpareNumbers}
 use Rattle.lvm_core.proofs.Settling.{starts_settled, starts_numbered}
 use Rattle.lvm_core.specs.Starting.{Reserved, first_core}
 use Rattle.lvm_core.specs.State.{Core, is_there}
@@ -182,8 +182,8 @@ module _ (old new : Device) (log : Log) (name : List ℕ) (moment : ℕ) (room :
           ∙ ap (λ (a : Bool). a && not (a && not (answering is.written.found.shown is.written.group d))) member
           ∙ ap (λ (t : Bool). true && not (true && not t)) target
 
-  pub settles : moment ≢ 0 → IsSettled core × HasNumbers core
-  settles some = subst (λ (c : Core). IsSettled c × HasNumbers c) (sym core_is) (
+  pub settles : moment ≢ 0 → IsSettled core × HasSpareNumbers core
+  settles some = subst (λ (c : Core). IsSettled c × HasSpareNumbers c) (sym core_is) (
     starts_settled is.written.group is.written.next room parts log (last_stamp moment) homes is.reserved some votes,
     starts_numbered is.written.group is.written.next room parts log (last_stamp moment) homes is.reserved is.valid (omega arith),
   )

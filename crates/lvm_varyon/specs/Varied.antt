@@ -10,14 +10,13 @@ use Rattle.lvm_disk.specs.Device.{Media, Range, Device, image_of}
 use Rattle.lvm_vol.specs.Log.{Log, spare_entries, cut_log}
 use Rattle.lvm_kept.specs.Contents.{Contents, contents_of}
 use Rattle.lvm_kept.specs.Recovered.{Recovered}
-use Rattle.lvm_steps.specs.Moments.{Keeps}
-use Rattle.lvm_steps.specs.Requests.{at}
-use Rattle.lvm_stamps.specs.Behind.{ClockIsAhead, IsBehind}
+use Rattle.lvm_stamps.specs.Behind.{IsBehind}
 use Rattle.lvm_quorum.specs.declared.homes.Homes.{Homes}
 use Rattle.lvm_quorum.specs.Choosing.{HasNoRecord, HasRecord, IsAmbiguous, LacksQuorum}
 use Rattle.lvm_survey.specs.Surveying.{IsUnwritten, IsRested, IsCutOff}
 use Rattle.lvm_core.specs.declared.parts.Room.{Room}
 use Rattle.lvm_core.specs.declared.refused.Cause.{Cause}
+use Rattle.lvm_core.specs.declared.refused.Refused.{Refused}
 use Rattle.lvm_core.specs.declared.refused.Cause.TheVariants as cause
 use Rattle.lvm_core.specs.Starting.{Reserved, IsReservedFor, ArePlaced, first_core}
 use Rattle.lvm_core.specs.State.{Core}
@@ -122,6 +121,11 @@ log_after (cause.TooMany limit) log = log
 log_after (cause.TooSmall disk) log = log
 log_after cause.GroupExists log = log
 
+-- The group on its shelf, or the shelf and the history again, and why.
+abbrev pub VaryonGives : {S : Type 0} → (S → Device) → Device → Log → List ℕ → ℕ → Room → ℕ → Result (S × Core) (Refused S) → Type 0
+VaryonGives device old log name moment room patience (Ok driver) = ComesOn old (device driver.0) log name moment room driver.1
+VaryonGives device old log name moment room patience (Err refused) = Refuses old (device refused.shelf) name moment patience log refused.cause × (refused.history ≡ log_after refused.cause log)
+
 -- ---- before the session
 
 -- no record on the disks is of this moment or a later one, unless it is the last one that there is
@@ -141,13 +145,3 @@ pub record IsBrought (old new : Device) (name : List ℕ) (moment : ℕ) (room :
 abbrev pub BringGives : Device → Device → List ℕ → ℕ → ℕ → Room → Result (Reserved × Homes) Cause → Type 0
 BringGives old new name moment patience room (Ok got) = IsBrought old new name moment room got.0 got.1
 BringGives old new name moment patience room (Err why) = Stops old new name moment patience why
-
--- ---- whatever the answer
-
--- where the clock's moments rise, the history is legal at each moment of the call and each crash image is kept with it
-abbrev pub KeepsAll : Log → ℕ → Device → Device → Log → Type 0
-KeepsAll log moment old new last = ClockIsAhead log.run moment old log.facts → Keeps log.run (at old log.facts) (at new last.facts)
-
--- and no later stamp than the moment's stands on the disks
-abbrev pub StaysBehind : Log → ℕ → Device → Device → Type 0
-StaysBehind log moment old new = ClockIsAhead log.run moment old log.facts → IsBehind (moment + 1) new

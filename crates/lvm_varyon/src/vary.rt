@@ -1,19 +1,16 @@
 //! Varying a group on.
-ghost use Rattle.std.specs.Prelude.{◌≡◌, ◌≢◌, ◌+◌, ◌-◌, ◌≤◌, IfOk, IfErr, MatchResult};
+ghost use Rattle.std.specs.Prelude.{◌≡◌, ◌≢◌, ◌+◌, ◌-◌, ◌≤◌, IfOk};
 ghost use Rattle.lvm_disk.specs.Counts.{RoseBy};
 ghost use Rattle.lvm_disk.specs.Device.{IsReady};
 ghost use Rattle.lvm_disk.specs.Paths.{DeviceStep, Path};
-ghost use Rattle.lvm_kept.specs.Moments.{StaysCalm};
 ghost use Rattle.lvm_steps.specs.Moments.{StaysKept};
-ghost use Rattle.lvm_steps.specs.Requests.{at};
 ghost use Rattle.lvm_stamps.specs.Behind.{ClockIsAhead, IsBehind};
-ghost use Rattle.lvm_commit.specs.Settling.{NoneIsLeft};
-ghost use Rattle.lvm_core.specs.Held.{StartsHeld};
-ghost use Rattle.lvm_core.specs.Settled.{IsSettled, HasNumbers};
 ghost use Rattle.lvm_core.specs.Sound.{HaveAllLanded};
 ghost use Rattle.lvm_core.specs.Starting.{IsRoom};
 ghost use Rattle.lvm_varyon.specs.Restated.{HasNoConsistency};
-ghost use Rattle.lvm_varyon.specs.Varied.{ComesOn, IsRestated, IsRecovered, Refuses, BringGives, IsAheadOfDisks, log_after, KeepsAll, StaysBehind};
+ghost use Rattle.lvm_core.specs.State.{state_of};
+ghost use Rattle.lvm_core.specs.Coming.{BringsOn, IsStarted, shelf_left, history_left};
+ghost use Rattle.lvm_varyon.specs.Varied.{VaryonGives, IsRestated, IsRecovered, BringGives, IsAheadOfDisks, log_after};
 
 use crate::plan::{Plan, plan_of};
 use crate::writes::{read_disks, write_records};
@@ -50,22 +47,13 @@ pub fn varyon<S: Shelf>(
     requires landed { HaveAllLanded history.facts }
     requires room { IsRoom room }
     requires moment { moment ≢ 0 }
+    ensures gives { VaryonGives S.device (S.device shelf) history name moment room patience.old.left result }
     // the group is on
-    ensures on { IfOk result (λ driver. ComesOn (S.device shelf) (S.device driver.0) history name moment room driver.1) }
-    ensures settled { IfOk result (λ driver. IsSettled driver.1 × HasNumbers driver.1) }
-    ensures held { IfOk result (λ driver. ClockIsAhead history.run moment (S.device shelf) history.facts → StartsHeld (S.device driver.0) driver.1) }
-    ensures left { IfOk result (λ driver. NoneIsLeft driver.1.descriptor driver.1.status) }
+    ensures starts { IfOk result (λ driver. IsStarted history.run moment (S.device shelf) history (state_of S.device driver)) }
     ensures restated { IfOk result (λ driver. ClockIsAhead history.run moment (S.device shelf) history.facts → IsRestated (S.device shelf) (S.device driver.0) driver.1.descriptor) }
     ensures recovered { IfOk result (λ driver. ClockIsAhead history.run moment (S.device shelf) history.facts → HasNoConsistency driver.1.descriptor → IsRecovered (S.device shelf) (S.device driver.0) driver.1.descriptor) }
-    // each refusal with its cause
-    ensures refused { IfErr result (λ refused. Refuses (S.device shelf) (S.device refused.shelf) name moment patience.old.left history refused.cause) }
-    ensures history { IfErr result (λ refused. refused.history ≡ log_after refused.cause history) }
     // whatever the answer
-    ensures patience { patience.new.left ≤ patience.old.left }
-    ensures waited { MatchResult result (λ driver. RoseBy (patience.old.left - patience.new.left) (S.device shelf).counts.waits (S.device driver.0).counts.waits) (λ refused. RoseBy (patience.old.left - patience.new.left) (S.device shelf).counts.waits (S.device refused.shelf).counts.waits) }
-    ensures keeps { MatchResult result (λ driver. KeepsAll history moment (S.device shelf) (S.device driver.0) driver.1.history) (λ refused. KeepsAll history moment (S.device shelf) (S.device refused.shelf) refused.history) }
-    ensures calm { MatchResult result (λ driver. StaysCalm (at (S.device shelf) history.facts) (at (S.device driver.0) driver.1.history.facts)) (λ refused. StaysCalm (at (S.device shelf) history.facts) (at (S.device refused.shelf) refused.history.facts)) }
-    ensures behind { MatchResult result (λ driver. StaysBehind history moment (S.device shelf) (S.device driver.0)) (λ refused. StaysBehind history moment (S.device shelf) (S.device refused.shelf)) }
+    ensures leaves { BringsOn history.run moment patience.old.left patience.new.left (S.device shelf) (S.device (shelf_left result)) history (history_left result) }
 {
     if history.spare_entries() == 0 {
         return Err(refused(shelf, history, Cause::HistoryFull));

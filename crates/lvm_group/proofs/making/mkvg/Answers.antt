@@ -1,8 +1,9 @@
 use Rattle.std.proofs.Common.{sym, subst}
 use Rattle.lvm_vol.specs.Log.{Log}
-use Rattle.lvm_kept.specs.Moments.{StaysCalm}
-use Rattle.lvm_steps.specs.Moments.{Keeps}
 use Rattle.lvm_steps.specs.Requests.{at}
+use Rattle.lvm_core.specs.State.{Core}
+use Rattle.lvm_core.specs.Held.{StartsHeld}
+use Rattle.lvm_core.specs.Coming.{BringsOn}
 use Rattle.lvm_group.specs.NewGroup.{NewGroup}
 use Rattle.lvm_group.specs.Made.{IsMade}
 use Rattle.lvm_group.specs.Steps.{Stands}
@@ -45,40 +46,41 @@ returns-in-Ok-clause-gives g c =
     let stands : Stands w c.args.room was c.make.new.history old new c.in-Ok.standing = c.in-Ok.ensures.made in
     subst (λ (s : g.row.S.Denot). IsMade w c.args.room was old (g.S.Shelf.device s) c.start.result.1) (sym c.start.ensures.shelf) (made w c.args.room was c.make.new.history old new c.in-Ok.standing stands c.start.result.1 c.start.ensures.core)
 
-pub returns-in-Ok-clause-settled : goal.returns-in-Ok-clause-settled
-returns-in-Ok-clause-settled g c =
+pub returns-in-Ok-clause-starts : goal.returns-in-Ok-clause-starts
+returns-in-Ok-clause-starts g c =
     let w : NewGroup = record { name = c.args.name; mib = c.args.mib; disks = c.args.disks.now; force = c.args.force; moment = c.args.moment } in
     let was : Log = c.args.history in
     let old = g.S.Shelf.device c.args.shelf in
     let new = g.S.Shelf.device c.make.new.shelf in
     let stands : Stands w c.args.room was c.make.new.history old new c.in-Ok.standing = c.in-Ok.ensures.made in
-    settles w c.args.room was c.make.new.history old new c.in-Ok.standing stands c.requires.moment c.start.result.1 c.start.ensures.core
+    let two = settles w c.args.room was c.make.new.history old new c.in-Ok.standing stands c.requires.moment c.start.result.1 c.start.ensures.core in
+    record {
+      settled = two.0;
+      numbers = two.1;
+      left = none_left w c.args.room was c.make.new.history old new c.in-Ok.standing stands c.start.result.1 c.start.ensures.core;
+      held = λ clock.
+          subst (λ (s : g.row.S.Denot). StartsHeld (g.S.Shelf.device s) c.start.result.1) (sym c.start.ensures.shelf)
+          (subst (λ (x : Core). StartsHeld new x) (sym c.start.ensures.core) (c.in-Ok.ensures.held clock));
+    }
 
-pub returns-in-Ok-clause-keeps : goal.returns-in-Ok-clause-keeps
-returns-in-Ok-clause-keeps g c = λ clock.
+pub returns-in-Ok-clause-leaves : goal.returns-in-Ok-clause-leaves
+returns-in-Ok-clause-leaves g c =
     let w : NewGroup = record { name = c.args.name; mib = c.args.mib; disks = c.args.disks.now; force = c.args.force; moment = c.args.moment } in
     let was : Log = c.args.history in
     let old = g.S.Shelf.device c.args.shelf in
     let new = g.S.Shelf.device c.make.new.shelf in
     let stands : Stands w c.args.room was c.make.new.history old new c.in-Ok.standing = c.in-Ok.ensures.made in
-    subst (λ (s : g.row.S.Denot). Keeps was.run (at old was.facts) (at (g.S.Shelf.device s) c.start.result.1.history.facts)) (sym c.start.ensures.shelf)
-    (keeps_on w c.args.room was c.make.new.history old new c.in-Ok.standing stands (at old was.facts) c.start.result.1 c.start.ensures.core clock (c.in-Ok.ensures.keeps clock))
+    subst (λ (s : g.row.S.Denot). BringsOn was.run c.args.moment c.args.patience.now.left c.make.new.patience.left old (g.S.Shelf.device s) was c.start.result.1.history) (sym c.start.ensures.shelf) (record {
+      keeps = λ clock. keeps_on w c.args.room was c.make.new.history old new c.in-Ok.standing stands (at old was.facts) c.start.result.1 c.start.ensures.core clock (c.in-Ok.ensures.keeps clock);
+      behind = c.in-Ok.ensures.behind;
+      calm = calm_on w c.args.room was c.make.new.history old new c.in-Ok.standing stands (at old was.facts) c.start.result.1 c.start.ensures.core c.in-Ok.ensures.calm;
+      spends = record { falls = c.in-Ok.ensures.patience; waits = c.in-Ok.ensures.waited };
+    })
 
-pub returns-in-Ok-clause-calm : goal.returns-in-Ok-clause-calm
-returns-in-Ok-clause-calm g c =
-    let w : NewGroup = record { name = c.args.name; mib = c.args.mib; disks = c.args.disks.now; force = c.args.force; moment = c.args.moment } in
-    let was : Log = c.args.history in
-    let old = g.S.Shelf.device c.args.shelf in
-    let new = g.S.Shelf.device c.make.new.shelf in
-    let stands : Stands w c.args.room was c.make.new.history old new c.in-Ok.standing = c.in-Ok.ensures.made in
-    subst (λ (s : g.row.S.Denot). StaysCalm (at old was.facts) (at (g.S.Shelf.device s) c.start.result.1.history.facts)) (sym c.start.ensures.shelf)
-    (calm_on w c.args.room was c.make.new.history old new c.in-Ok.standing stands (at old was.facts) c.start.result.1 c.start.ensures.core c.in-Ok.ensures.calm)
-
-pub returns-in-Ok-clause-left : goal.returns-in-Ok-clause-left
-returns-in-Ok-clause-left g c =
-    let w : NewGroup = record { name = c.args.name; mib = c.args.mib; disks = c.args.disks.now; force = c.args.force; moment = c.args.moment } in
-    let was : Log = c.args.history in
-    let old = g.S.Shelf.device c.args.shelf in
-    let new = g.S.Shelf.device c.make.new.shelf in
-    let stands : Stands w c.args.room was c.make.new.history old new c.in-Ok.standing = c.in-Ok.ensures.made in
-    none_left w c.args.room was c.make.new.history old new c.in-Ok.standing stands c.start.result.1 c.start.ensures.core
+pub returns-in-Err-clause-leaves : goal.returns-in-Err-clause-leaves
+returns-in-Err-clause-leaves g c = record {
+  keeps = c.in-Err.ensures.keeps;
+  behind = c.in-Err.ensures.behind;
+  calm = c.in-Err.ensures.calm;
+  spends = record { falls = c.in-Err.ensures.patience; waits = c.in-Err.ensures.waited };
+}

@@ -1,7 +1,7 @@
 use Rattle.std.proofs.Common.{◌≡◌, ◌∙◌, ap, sym, subst, refl, ℕ, Err, IfOk, IfErr}
-use Rattle.lvm_disk.specs.Counts.{RoseBy}
 use Rattle.lvm_steps.specs.Requests.{at}
 use Rattle.lvm_raw.specs.declared.fault.RawFault.TheVariants as fault
+use Rattle.lvm_raw.specs.Ends.{FaultHasCause}
 use Rattle.lvm_raw.specs.Raw.{ReadGives}
 use Rattle.lvm_line.specs.Disks.{ReadDoes, refusal_by, blocks_text}
 use Rattle.lvm_line.specs.Moments.{GoesOn}
@@ -28,13 +28,7 @@ returns-in-Off-clause-does g c =
     (λ last. read_does (without_facts c.in-Off.history) c.args.disk c.args.at c.args.count _ _ c.answered.result.reply c.read_disk-read.result
     (record { before = refl; after = refl; clock = refl })
     (subst (λ (n : ℕ). ReadGives (without_facts c.in-Off.history) c.args.disk c.args.at c.args.count n (at (g.S.Shelf.device c.in-Off.shelf) c.in-Off.history.facts) (at (g.S.Shelf.device c.read_disk-read.new.shelf) c.read_disk-read.new.history.facts) c.read_disk-read.result) c.whole-patience.ensures c.read_disk-read.ensures.does)
-    (record {
-      dark = c.read_disk-read.ensures.dark;
-      stuck = λ is. subst (λ (n : ℕ). RoseBy n (g.S.Shelf.device c.in-Off.shelf).counts.waits (g.S.Shelf.device c.read_disk-read.new.shelf).counts.waits) c.whole-patience.ensures (c.read_disk-read.ensures.stuck is);
-      disk_failed = c.read_disk-read.ensures.disk_failed;
-      lost = λ is. absurd (c.read_disk-read.ensures.unlost is);
-      read_failed = c.read_disk-read.ensures.read_failed;
-    })
+    (subst (λ (n : ℕ). IfErr c.read_disk-read.result (FaultHasCause fault.ReadFailed c.in-Off.history c.args.disk c.args.at c.args.count n (g.S.Shelf.device c.in-Off.shelf) (g.S.Shelf.device c.read_disk-read.new.shelf))) c.whole-patience.ensures c.read_disk-read.ensures.ends.cause)
     (subst (λ (a : Reply). IfOk c.read_disk-read.result (λ blocks. Shows (blocks_text c.args.at blocks) a)) (sym c.answered.ensures.reply) c.read_reply.ensures.blocks) (subst (λ (a : Reply). IfErr c.read_disk-read.result (λ why. a ≡ reply.Refused (refusal_by why))) (sym c.answered.ensures.reply) c.read_reply.ensures.fault))
 
 pub returns-in-Off-clause-goes : goal.returns-in-Off-clause-goes
@@ -45,16 +39,16 @@ returns-in-Off-clause-goes g c =
     (λ last. ranges_go c.in-Off.history.run c.answered.result.reply (at (g.S.Shelf.device c.in-Off.shelf) c.in-Off.history.facts) (at (g.S.Shelf.device c.read_disk-read.new.shelf) c.read_disk-read.new.history.facts) last (c.read_disk-read.result ≡ Err fault.Stuck)
     (read_stuck c.read_disk-read.result c.answered.result.reply (subst (λ (a : Reply). IfErr c.read_disk-read.result (λ why. a ≡ reply.Refused (refusal_by why))) (sym c.answered.ensures.reply) c.read_reply.ensures.fault))
     (record {
-      keeps = c.read_disk-read.ensures.keeps;
-      calm = c.read_disk-read.ensures.calm;
-      behind = c.read_disk-read.ensures.behind;
-      later = c.read_disk-read.ensures.later;
-      ready = c.read_disk-read.ensures.ready;
-      landed = λ goes. c.read_disk-read.ensures.landed goes settled.landed;
-      power = c.read_disk-read.ensures.power;
-      waits = c.read_disk-read.ensures.shelf.waited.later;
+      keeps = c.read_disk-read.ensures.keeps.keeps;
+      calm = c.read_disk-read.ensures.keeps.calm;
+      behind = c.read_disk-read.ensures.keeps.behind;
+      later = c.read_disk-read.ensures.keeps.later;
+      ready = c.read_disk-read.ensures.keeps.ready;
+      landed = λ goes. c.read_disk-read.ensures.keeps.landed goes settled.landed;
+      power = c.read_disk-read.ensures.keeps.power;
+      waits = c.read_disk-read.ensures.keeps.shelf.waited.later;
     }))
 
 pub returns-in-Off-clause-orders : goal.returns-in-Off-clause-orders
 returns-in-Off-clause-orders g c =
-    ap (λ (s : Stage g.row.S.Denot). (g.S.Shelf.device (shelf_in s)).orders) c.answered.ensures.stage ∙ c.read_disk-read.ensures.shelf.orders ∙ sym (ap (λ (s : Stage g.row.S.Denot). (g.S.Shelf.device (shelf_in s)).orders) c.in-Off.is)
+    ap (λ (s : Stage g.row.S.Denot). (g.S.Shelf.device (shelf_in s)).orders) c.answered.ensures.stage ∙ c.read_disk-read.ensures.keeps.shelf.orders ∙ sym (ap (λ (s : Stage g.row.S.Denot). (g.S.Shelf.device (shelf_in s)).orders) c.in-Off.is)

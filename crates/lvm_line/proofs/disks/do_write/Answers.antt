@@ -1,7 +1,7 @@
-use Rattle.std.proofs.Common.{◌≡◌, ◌∙◌, ap, sym, subst, refl, ℕ, Err}
-use Rattle.lvm_disk.specs.Counts.{RoseBy}
+use Rattle.std.proofs.Common.{◌≡◌, ◌∙◌, ap, sym, subst, refl, ℕ, Err, IfErr}
 use Rattle.lvm_steps.specs.Requests.{at}
 use Rattle.lvm_raw.specs.declared.fault.RawFault.TheVariants as fault
+use Rattle.lvm_raw.specs.Ends.{FaultHasCause}
 use Rattle.lvm_raw.specs.Raw.{WriteGives}
 use Rattle.lvm_line.specs.Disks.{WriteDoes}
 use Rattle.lvm_line.specs.Moments.{GoesOn}
@@ -25,13 +25,7 @@ returns-in-Off-clause-does g c =
     (λ last. write_does (without_facts c.in-Off.history) c.args.disk c.args.at c.args.count c.args.word _ _ c.answered.result.reply c.write_disk-done.result
     (record { before = refl; after = refl; clock = refl })
     (subst (λ (n : ℕ). WriteGives (without_facts c.in-Off.history) c.args.disk c.args.at c.args.count c.args.word n (at (g.S.Shelf.device c.in-Off.shelf) c.in-Off.history.facts) (at (g.S.Shelf.device c.write_disk-done.new.shelf) c.write_disk-done.new.history.facts) c.write_disk-done.result) c.whole-patience.ensures c.write_disk-done.ensures.does)
-    (record {
-      dark = c.write_disk-done.ensures.dark;
-      stuck = λ is. subst (λ (n : ℕ). RoseBy n (g.S.Shelf.device c.in-Off.shelf).counts.waits (g.S.Shelf.device c.write_disk-done.new.shelf).counts.waits) c.whole-patience.ensures (c.write_disk-done.ensures.stuck is);
-      disk_failed = c.write_disk-done.ensures.disk_failed;
-      lost = c.write_disk-done.ensures.lost;
-      read_failed = λ is. absurd (c.write_disk-done.ensures.unread is);
-    })
+    (subst (λ (n : ℕ). IfErr c.write_disk-done.result (FaultHasCause fault.Lost c.in-Off.history c.args.disk c.args.at c.args.count n (g.S.Shelf.device c.in-Off.shelf) (g.S.Shelf.device c.write_disk-done.new.shelf))) c.whole-patience.ensures c.write_disk-done.ensures.ends.cause)
     (c.answered.ensures.reply ∙ c.write_reply.ensures))
 
 pub returns-in-Off-clause-goes : goal.returns-in-Off-clause-goes
@@ -42,16 +36,16 @@ returns-in-Off-clause-goes g c =
     (λ last. ranges_go c.in-Off.history.run c.answered.result.reply (at (g.S.Shelf.device c.in-Off.shelf) c.in-Off.history.facts) (at (g.S.Shelf.device c.write_disk-done.new.shelf) c.write_disk-done.new.history.facts) last (c.write_disk-done.result ≡ Err fault.Stuck)
     (write_stuck c.write_disk-done.result c.answered.result.reply (c.answered.ensures.reply ∙ c.write_reply.ensures))
     (record {
-      keeps = c.write_disk-done.ensures.keeps;
-      calm = c.write_disk-done.ensures.calm;
-      behind = c.write_disk-done.ensures.behind;
-      later = c.write_disk-done.ensures.later;
-      ready = c.write_disk-done.ensures.ready;
-      landed = λ goes. c.write_disk-done.ensures.landed goes settled.landed;
-      power = c.write_disk-done.ensures.power;
-      waits = c.write_disk-done.ensures.shelf.waited.later;
+      keeps = c.write_disk-done.ensures.keeps.keeps;
+      calm = c.write_disk-done.ensures.keeps.calm;
+      behind = c.write_disk-done.ensures.keeps.behind;
+      later = c.write_disk-done.ensures.keeps.later;
+      ready = c.write_disk-done.ensures.keeps.ready;
+      landed = λ goes. c.write_disk-done.ensures.keeps.landed goes settled.landed;
+      power = c.write_disk-done.ensures.keeps.power;
+      waits = c.write_disk-done.ensures.keeps.shelf.waited.later;
     }))
 
 pub returns-in-Off-clause-orders : goal.returns-in-Off-clause-orders
 returns-in-Off-clause-orders g c =
-    ap (λ (s : Stage g.row.S.Denot). (g.S.Shelf.device (shelf_in s)).orders) c.answered.ensures.stage ∙ c.write_disk-done.ensures.shelf.orders ∙ sym (ap (λ (s : Stage g.row.S.Denot). (g.S.Shelf.device (shelf_in s)).orders) c.in-Off.is)
+    ap (λ (s : Stage g.row.S.Denot). (g.S.Shelf.device (shelf_in s)).orders) c.answered.ensures.stage ∙ c.write_disk-done.ensures.keeps.shelf.orders ∙ sym (ap (λ (s : Stage g.row.S.Denot). (g.S.Shelf.device (shelf_in s)).orders) c.in-Off.is)

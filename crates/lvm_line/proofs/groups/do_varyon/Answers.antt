@@ -1,5 +1,5 @@
-use Rattle.std.proofs.Common.{◌∙◌, ℕ, ap, sym, subst, refl, IfErr, is_some}
-use Rattle.lvm_varyon.specs.Varied.{Refuses}
+use Rattle.std.proofs.Common.{◌∙◌, ℕ, ap, sym, subst, refl, is_some}
+use Rattle.lvm_varyon.specs.Varied.{VaryonGives}
 use Rattle.lvm_line.specs.Groups.{VaryonDoes, NoVaryonWhileOn}
 use Rattle.lvm_line.specs.Moments.{GoesOn}
 use Rattle.lvm_line.specs.Stages.{shelf_in, history_in, session_in, state_in}
@@ -8,7 +8,7 @@ use Rattle.lvm_line.specs.declared.stage.Stage.{Stage}
 use Rattle.lvm_line.specs.declared.stage.Stage.TheVariants as stage
 use Rattle.lvm_line.proofs.Going.{asked_goes}
 use Rattle.lvm_line.proofs.Staging.{moves, settled_as, asked_stays}
-use Rattle.lvm_line.proofs.Varying.{Called, Left, does, goes, orders, rooms, dark_still, later_of}
+use Rattle.lvm_line.proofs.Varying.{Called, called_by, Left, does, goes, orders, rooms, dark_still}
 use Rattle.lvm_line.proofs.groups.do_varyon.Goals as goal
 
 pub returns-in-On-clause-does : goal.returns-in-On-clause-does
@@ -22,39 +22,19 @@ returns-in-On-clause-goes g c = asked_goes (history_in c.args.stage).run c.refus
 pub left-requires : goal.left-requires
 left-requires g c =
     let settled = settled_as g.S.Shelf.device c.args.stage (stage.Off c.in-Off.shelf c.in-Off.history) c.in-Off.is c.requires.settled in
-    let called : Called g.S.Shelf.device c.in-Off.shelf c.in-Off.history c.args.name c.now-moment.result c.args.room c.varyon.result = record {
-      on = c.varyon.ensures.on;
-      held = c.varyon.ensures.held;
-      left = c.varyon.ensures.left;
-      settled = c.varyon.ensures.settled;
-      restated = c.varyon.ensures.restated;
-      recovered = c.varyon.ensures.recovered;
-      refused = subst (λ (n : ℕ). IfErr c.varyon.result (λ refused. Refuses (g.S.Shelf.device c.in-Off.shelf) (g.S.Shelf.device refused.shelf) c.args.name c.now-moment.result n c.in-Off.history refused.cause)) c.whole-patience.ensures c.varyon.ensures.refused;
-      history = c.varyon.ensures.history;
-      waited = later_of g.S.Shelf.device c.in-Off.shelf c.varyon.result _ c.varyon.ensures.waited;
-      keeps = c.varyon.ensures.keeps;
-      calm = c.varyon.ensures.calm;
-      behind = c.varyon.ensures.behind;
-    } in
+    let called : Called g.S.Shelf.device c.in-Off.shelf c.in-Off.history c.args.name c.now-moment.result c.args.room c.varyon.result =
+    called_by g.S.Shelf.device c.in-Off.shelf c.in-Off.history c.args.name c.now-moment.result c.args.room _ _ c.varyon.result
+    (subst (λ (n : ℕ). VaryonGives g.S.Shelf.device (g.S.Shelf.device c.in-Off.shelf) c.in-Off.history c.args.name c.now-moment.result c.args.room n c.varyon.result) c.whole-patience.ensures c.varyon.ensures.gives)
+    c.varyon.ensures.starts c.varyon.ensures.restated c.varyon.ensures.recovered c.varyon.ensures.leaves in
     dark_still g.S.Shelf.device c.in-Off.shelf c.in-Off.history c.args.name c.now-moment.result c.args.room c.varyon.result settled.ready called
 
 pub returns-in-Off-clause-does : goal.returns-in-Off-clause-does
 returns-in-Off-clause-does g c =
     let settled = settled_as g.S.Shelf.device c.args.stage (stage.Off c.in-Off.shelf c.in-Off.history) c.in-Off.is c.requires.settled in
-    let called : Called g.S.Shelf.device c.in-Off.shelf c.in-Off.history c.args.name c.now-moment.result c.args.room c.varyon.result = record {
-      on = c.varyon.ensures.on;
-      held = c.varyon.ensures.held;
-      left = c.varyon.ensures.left;
-      settled = c.varyon.ensures.settled;
-      restated = c.varyon.ensures.restated;
-      recovered = c.varyon.ensures.recovered;
-      refused = subst (λ (n : ℕ). IfErr c.varyon.result (λ refused. Refuses (g.S.Shelf.device c.in-Off.shelf) (g.S.Shelf.device refused.shelf) c.args.name c.now-moment.result n c.in-Off.history refused.cause)) c.whole-patience.ensures c.varyon.ensures.refused;
-      history = c.varyon.ensures.history;
-      waited = later_of g.S.Shelf.device c.in-Off.shelf c.varyon.result _ c.varyon.ensures.waited;
-      keeps = c.varyon.ensures.keeps;
-      calm = c.varyon.ensures.calm;
-      behind = c.varyon.ensures.behind;
-    } in
+    let called : Called g.S.Shelf.device c.in-Off.shelf c.in-Off.history c.args.name c.now-moment.result c.args.room c.varyon.result =
+    called_by g.S.Shelf.device c.in-Off.shelf c.in-Off.history c.args.name c.now-moment.result c.args.room _ _ c.varyon.result
+    (subst (λ (n : ℕ). VaryonGives g.S.Shelf.device (g.S.Shelf.device c.in-Off.shelf) c.in-Off.history c.args.name c.now-moment.result c.args.room n c.varyon.result) c.whole-patience.ensures c.varyon.ensures.gives)
+    c.varyon.ensures.starts c.varyon.ensures.restated c.varyon.ensures.recovered c.varyon.ensures.leaves in
     let left : Left g.S.Shelf.device c.varyon.result c.left.result.stage c.left.result.reply = record { on = c.left.ensures.on; off = c.left.ensures.off; lit = c.left.ensures.lit } in
     moves g.S.Shelf.device c.args.stage (stage.Off c.in-Off.shelf c.in-Off.history) c.left.result.stage c.left.result.stage (g.C.Clock.last c.args.clock.now) (g.C.Clock.last c.now-moment.new.self)
     (λ log was now. VaryonDoes (without_facts log) c.args.room c.args.name was now c.left.result.reply) c.in-Off.is refl
@@ -64,20 +44,10 @@ returns-in-Off-clause-does g c =
 pub returns-in-Off-clause-goes : goal.returns-in-Off-clause-goes
 returns-in-Off-clause-goes g c =
     let settled = settled_as g.S.Shelf.device c.args.stage (stage.Off c.in-Off.shelf c.in-Off.history) c.in-Off.is c.requires.settled in
-    let called : Called g.S.Shelf.device c.in-Off.shelf c.in-Off.history c.args.name c.now-moment.result c.args.room c.varyon.result = record {
-      on = c.varyon.ensures.on;
-      held = c.varyon.ensures.held;
-      left = c.varyon.ensures.left;
-      settled = c.varyon.ensures.settled;
-      restated = c.varyon.ensures.restated;
-      recovered = c.varyon.ensures.recovered;
-      refused = subst (λ (n : ℕ). IfErr c.varyon.result (λ refused. Refuses (g.S.Shelf.device c.in-Off.shelf) (g.S.Shelf.device refused.shelf) c.args.name c.now-moment.result n c.in-Off.history refused.cause)) c.whole-patience.ensures c.varyon.ensures.refused;
-      history = c.varyon.ensures.history;
-      waited = later_of g.S.Shelf.device c.in-Off.shelf c.varyon.result _ c.varyon.ensures.waited;
-      keeps = c.varyon.ensures.keeps;
-      calm = c.varyon.ensures.calm;
-      behind = c.varyon.ensures.behind;
-    } in
+    let called : Called g.S.Shelf.device c.in-Off.shelf c.in-Off.history c.args.name c.now-moment.result c.args.room c.varyon.result =
+    called_by g.S.Shelf.device c.in-Off.shelf c.in-Off.history c.args.name c.now-moment.result c.args.room _ _ c.varyon.result
+    (subst (λ (n : ℕ). VaryonGives g.S.Shelf.device (g.S.Shelf.device c.in-Off.shelf) c.in-Off.history c.args.name c.now-moment.result c.args.room n c.varyon.result) c.whole-patience.ensures c.varyon.ensures.gives)
+    c.varyon.ensures.starts c.varyon.ensures.restated c.varyon.ensures.recovered c.varyon.ensures.leaves in
     let left : Left g.S.Shelf.device c.varyon.result c.left.result.stage c.left.result.reply = record { on = c.left.ensures.on; off = c.left.ensures.off; lit = c.left.ensures.lit } in
     moves g.S.Shelf.device c.args.stage (stage.Off c.in-Off.shelf c.in-Off.history) c.left.result.stage c.left.result.stage (g.C.Clock.last c.args.clock.now) (g.C.Clock.last c.now-moment.new.self)
     (λ log was now. GoesOn log.run c.left.result.reply was now) c.in-Off.is refl
@@ -87,39 +57,19 @@ returns-in-Off-clause-goes g c =
 pub returns-in-Off-clause-rooms : goal.returns-in-Off-clause-rooms
 returns-in-Off-clause-rooms g c =
     let settled = settled_as g.S.Shelf.device c.args.stage (stage.Off c.in-Off.shelf c.in-Off.history) c.in-Off.is c.requires.settled in
-    let called : Called g.S.Shelf.device c.in-Off.shelf c.in-Off.history c.args.name c.now-moment.result c.args.room c.varyon.result = record {
-      on = c.varyon.ensures.on;
-      held = c.varyon.ensures.held;
-      left = c.varyon.ensures.left;
-      settled = c.varyon.ensures.settled;
-      restated = c.varyon.ensures.restated;
-      recovered = c.varyon.ensures.recovered;
-      refused = subst (λ (n : ℕ). IfErr c.varyon.result (λ refused. Refuses (g.S.Shelf.device c.in-Off.shelf) (g.S.Shelf.device refused.shelf) c.args.name c.now-moment.result n c.in-Off.history refused.cause)) c.whole-patience.ensures c.varyon.ensures.refused;
-      history = c.varyon.ensures.history;
-      waited = later_of g.S.Shelf.device c.in-Off.shelf c.varyon.result _ c.varyon.ensures.waited;
-      keeps = c.varyon.ensures.keeps;
-      calm = c.varyon.ensures.calm;
-      behind = c.varyon.ensures.behind;
-    } in
+    let called : Called g.S.Shelf.device c.in-Off.shelf c.in-Off.history c.args.name c.now-moment.result c.args.room c.varyon.result =
+    called_by g.S.Shelf.device c.in-Off.shelf c.in-Off.history c.args.name c.now-moment.result c.args.room _ _ c.varyon.result
+    (subst (λ (n : ℕ). VaryonGives g.S.Shelf.device (g.S.Shelf.device c.in-Off.shelf) c.in-Off.history c.args.name c.now-moment.result c.args.room n c.varyon.result) c.whole-patience.ensures c.varyon.ensures.gives)
+    c.varyon.ensures.starts c.varyon.ensures.restated c.varyon.ensures.recovered c.varyon.ensures.leaves in
     let left : Left g.S.Shelf.device c.varyon.result c.left.result.stage c.left.result.reply = record { on = c.left.ensures.on; off = c.left.ensures.off; lit = c.left.ensures.lit } in
     rooms g.S.Shelf.device c.in-Off.shelf c.in-Off.history c.args.name c.now-moment.result (g.C.Clock.last c.args.clock.now) c.args.room c.left.result.stage c.left.result.reply c.now-moment.ensures.later settled c.varyon.result called left ∙ sym (ap (λ (s : Stage g.row.S.Denot). without_facts (history_in s)) c.in-Off.is)
 
 pub returns-in-Off-clause-orders : goal.returns-in-Off-clause-orders
 returns-in-Off-clause-orders g c =
     let settled = settled_as g.S.Shelf.device c.args.stage (stage.Off c.in-Off.shelf c.in-Off.history) c.in-Off.is c.requires.settled in
-    let called : Called g.S.Shelf.device c.in-Off.shelf c.in-Off.history c.args.name c.now-moment.result c.args.room c.varyon.result = record {
-      on = c.varyon.ensures.on;
-      held = c.varyon.ensures.held;
-      left = c.varyon.ensures.left;
-      settled = c.varyon.ensures.settled;
-      restated = c.varyon.ensures.restated;
-      recovered = c.varyon.ensures.recovered;
-      refused = subst (λ (n : ℕ). IfErr c.varyon.result (λ refused. Refuses (g.S.Shelf.device c.in-Off.shelf) (g.S.Shelf.device refused.shelf) c.args.name c.now-moment.result n c.in-Off.history refused.cause)) c.whole-patience.ensures c.varyon.ensures.refused;
-      history = c.varyon.ensures.history;
-      waited = later_of g.S.Shelf.device c.in-Off.shelf c.varyon.result _ c.varyon.ensures.waited;
-      keeps = c.varyon.ensures.keeps;
-      calm = c.varyon.ensures.calm;
-      behind = c.varyon.ensures.behind;
-    } in
+    let called : Called g.S.Shelf.device c.in-Off.shelf c.in-Off.history c.args.name c.now-moment.result c.args.room c.varyon.result =
+    called_by g.S.Shelf.device c.in-Off.shelf c.in-Off.history c.args.name c.now-moment.result c.args.room _ _ c.varyon.result
+    (subst (λ (n : ℕ). VaryonGives g.S.Shelf.device (g.S.Shelf.device c.in-Off.shelf) c.in-Off.history c.args.name c.now-moment.result c.args.room n c.varyon.result) c.whole-patience.ensures c.varyon.ensures.gives)
+    c.varyon.ensures.starts c.varyon.ensures.restated c.varyon.ensures.recovered c.varyon.ensures.leaves in
     let left : Left g.S.Shelf.device c.varyon.result c.left.result.stage c.left.result.reply = record { on = c.left.ensures.on; off = c.left.ensures.off; lit = c.left.ensures.lit } in
     orders g.S.Shelf.device c.in-Off.shelf c.in-Off.history c.args.name c.now-moment.result (g.C.Clock.last c.args.clock.now) c.args.room c.left.result.stage c.left.result.reply c.now-moment.ensures.later settled c.varyon.result called left ∙ sym (ap (λ (s : Stage g.row.S.Denot). (g.S.Shelf.device (shelf_in s)).orders) c.in-Off.is)

@@ -1,16 +1,16 @@
 use Rattle.std.proofs.Common.{◌∙◌, ℕ, refl, sym, ap, subst, Ok, Err}
-use Rattle.lvm_group.specs.Volumes.{IsWith, IsChosen, MklvGives}
+use Rattle.lvm_volumes.specs.Volumes.{IsWith, IsChosen, MklvGives}
 use Rattle.lvm_line.specs.Disks.{patience_of_line}
 use Rattle.lvm_line.specs.Moments.{GoesOn}
 use Rattle.lvm_line.specs.Stages.{shelf_in, history_in, state_in, Between}
 use Rattle.lvm_line.specs.State.{without_facts}
-use Rattle.lvm_line.specs.Volumes.{IsOver, MakesVolume, MklvFails, refusal_for, wanted}
+use Rattle.lvm_line.specs.Volumes.{IsOver, MakesVolume, MklvFails, wanted}
 use Rattle.lvm_line.specs.declared.reply.Refusal.{Refusal}
 use Rattle.lvm_line.specs.declared.reply.Reply.{Reply}
 use Rattle.lvm_line.specs.declared.reply.Reply.TheVariants as reply
 use Rattle.lvm_line.specs.declared.stage.Stage.{Stage}
 use Rattle.lvm_line.specs.declared.stage.Stage.TheVariants as stage
-use Rattle.lvm_line.proofs.Commanding.{Promised, session_of}
+use Rattle.lvm_line.proofs.Commanding.{Promised, promised_by, session_of}
 use Rattle.lvm_line.proofs.Ending.{mklv_facts, dark_still, lit_still}
 use Rattle.lvm_line.proofs.Landing.{mklv_landed}
 use Rattle.lvm_line.proofs.OfVolumes.{LeftSo, answered_done, failed_done, answered_goes, failed_goes, failed_orders}
@@ -30,20 +30,13 @@ after-requires-clause-lit g c = λ ends other.
 pub returns-in-Ok-clause-does : goal.returns-in-Ok-clause-does
 returns-in-Ok-clause-does g c = λ group on last.
     MakesVolume c.args.driver.1 c.in-Ok.field-0 refl on
-    (answered_done g.S.Shelf.device c.args.driver c.mklv.new.driver c.requires.settled (λ was is. MklvGives (wanted c.args.name c.args.copies c.args.mode c.args.policy c.args.lps) patience_of_line was is (Ok c.in-Ok.field-0)) (IsWith (wanted c.args.name c.args.copies c.args.mode c.args.policy c.args.lps)) (IsChosen (wanted c.args.name c.args.copies c.args.mode c.args.policy c.args.lps)) (subst (λ (n : ℕ). MklvGives (wanted c.args.name c.args.copies c.args.mode c.args.policy c.args.lps) n (session_of g.S.Shelf.device c.args.driver) (session_of g.S.Shelf.device c.mklv.new.driver) (Ok c.in-Ok.field-0)) c.whole-patience.ensures c.in-Ok.ensures.gives) c.mklv.ensures.finds c.mklv.ensures.status c.mklv.ensures.writes c.answered.result.stage c.answered.ensures.stage last)
+    (answered_done g.S.Shelf.device c.args.driver c.mklv.new.driver c.requires.settled (λ was is. MklvGives (wanted c.args.name c.args.copies c.args.mode c.args.policy c.args.lps) patience_of_line was is (Ok c.in-Ok.field-0)) (IsWith (wanted c.args.name c.args.copies c.args.mode c.args.policy c.args.lps)) (IsChosen (wanted c.args.name c.args.copies c.args.mode c.args.policy c.args.lps)) (subst (λ (n : ℕ). MklvGives (wanted c.args.name c.args.copies c.args.mode c.args.policy c.args.lps) n (session_of g.S.Shelf.device c.args.driver) (session_of g.S.Shelf.device c.mklv.new.driver) (Ok c.in-Ok.field-0)) c.whole-patience.ensures c.in-Ok.ensures.gives) c.mklv.ensures.leaves.finds c.mklv.ensures.leaves.status c.mklv.ensures.leaves.writes c.answered.result.stage c.answered.ensures.stage last)
     c.answered.ensures.reply
 
 pub returns-in-Ok-clause-goes : goal.returns-in-Ok-clause-goes
 returns-in-Ok-clause-goes g c =
-    let promised : Promised (session_of g.S.Shelf.device c.args.driver) (session_of g.S.Shelf.device c.mklv.new.driver) = record {
-      keeps = c.mklv.ensures.keeps;
-      orders = c.mklv.ensures.writes.orders;
-      epoch = c.mklv.ensures.stamps.epoch;
-      history = c.mklv.ensures.history;
-      calm = c.mklv.ensures.calm;
-      behind = c.mklv.ensures.behind;
-      waits = c.mklv.ensures.waited.later;
-    } in
+    let promised : Promised (session_of g.S.Shelf.device c.args.driver) (session_of g.S.Shelf.device c.mklv.new.driver) =
+    promised_by (IsWith (wanted c.args.name c.args.copies c.args.mode c.args.policy c.args.lps) c.args.driver.1) (IsChosen (wanted c.args.name c.args.copies c.args.mode c.args.policy c.args.lps) c.args.driver.1) 2 _ _ _ _ c.mklv.ensures.leaves in
     let gives = (subst (λ (n : ℕ). MklvGives (wanted c.args.name c.args.copies c.args.mode c.args.policy c.args.lps) n (session_of g.S.Shelf.device c.args.driver) (session_of g.S.Shelf.device c.mklv.new.driver) (Ok c.in-Ok.field-0)) c.whole-patience.ensures c.in-Ok.ensures.gives) in
     let landed = (mklv_landed (wanted c.args.name c.args.copies c.args.mode c.args.policy c.args.lps) patience_of_line (session_of g.S.Shelf.device c.args.driver) (session_of g.S.Shelf.device c.mklv.new.driver) c.requires.settled.landed (Ok c.in-Ok.field-0) (subst (λ (n : ℕ). MklvGives (wanted c.args.name c.args.copies c.args.mode c.args.policy c.args.lps) n (session_of g.S.Shelf.device c.args.driver) (session_of g.S.Shelf.device c.mklv.new.driver) (Ok c.in-Ok.field-0)) c.whole-patience.ensures c.in-Ok.ensures.gives)) in
     subst (λ (a : Reply). Between g.S.Shelf.device (stage.On c.args.driver) c.answered.result.stage (GoesOn c.args.driver.1.history.run a)) (sym c.answered.ensures.reply)
@@ -56,10 +49,10 @@ returns-in-Ok-clause-goes g c =
 
 pub returns-in-Ok-clause-rooms : goal.returns-in-Ok-clause-rooms
 returns-in-Ok-clause-rooms g c =
-    ap without_facts (ap (λ (s : Stage g.row.S.Denot). history_in s) c.answered.ensures.stage) ∙ c.mklv.ensures.history.room
+    ap without_facts (ap (λ (s : Stage g.row.S.Denot). history_in s) c.answered.ensures.stage) ∙ c.mklv.ensures.leaves.history.room
 
 pub returns-in-Ok-clause-orders : goal.returns-in-Ok-clause-orders
-returns-in-Ok-clause-orders g c = ap (λ (s : Stage g.row.S.Denot). (g.S.Shelf.device (shelf_in s)).orders) c.answered.ensures.stage ∙ c.mklv.ensures.writes.orders
+returns-in-Ok-clause-orders g c = ap (λ (s : Stage g.row.S.Denot). (g.S.Shelf.device (shelf_in s)).orders) c.answered.ensures.stage ∙ c.mklv.ensures.leaves.writes.orders
 
 pub returns-in-Err-clause-does : goal.returns-in-Err-clause-does
 returns-in-Err-clause-does g c = λ group on last.
@@ -69,7 +62,7 @@ returns-in-Err-clause-does g c = λ group on last.
       history = ap (λ (s : Stage g.row.S.Denot). history_in s) c.refused.ensures.stage ∙ c.after.ensures.history;
     } in
     MklvFails c.args.driver.1 c.in-Err.why refl on
-    (failed_done g.S.Shelf.device c.args.driver c.mklv.new.driver c.requires.settled (λ was is. MklvGives (wanted c.args.name c.args.copies c.args.mode c.args.policy c.args.lps) patience_of_line was is (Err c.in-Err.why)) (IsWith (wanted c.args.name c.args.copies c.args.mode c.args.policy c.args.lps)) (IsChosen (wanted c.args.name c.args.copies c.args.mode c.args.policy c.args.lps)) (subst (λ (n : ℕ). MklvGives (wanted c.args.name c.args.copies c.args.mode c.args.policy c.args.lps) n (session_of g.S.Shelf.device c.args.driver) (session_of g.S.Shelf.device c.mklv.new.driver) (Err c.in-Err.why)) c.whole-patience.ensures c.in-Err.ensures.gives) c.mklv.ensures.finds c.mklv.ensures.status c.mklv.ensures.writes c.in-Err.why c.refused.result.stage so (mklv_facts (wanted c.args.name c.args.copies c.args.mode c.args.policy c.args.lps) patience_of_line (session_of g.S.Shelf.device c.args.driver) (session_of g.S.Shelf.device c.mklv.new.driver) c.requires.settled.session.power c.in-Err.why (subst (λ (n : ℕ). MklvGives (wanted c.args.name c.args.copies c.args.mode c.args.policy c.args.lps) n (session_of g.S.Shelf.device c.args.driver) (session_of g.S.Shelf.device c.mklv.new.driver) (Err c.in-Err.why)) c.whole-patience.ensures c.in-Err.ensures.gives)) last)
+    (failed_done g.S.Shelf.device c.args.driver c.mklv.new.driver c.requires.settled (λ was is. MklvGives (wanted c.args.name c.args.copies c.args.mode c.args.policy c.args.lps) patience_of_line was is (Err c.in-Err.why)) (IsWith (wanted c.args.name c.args.copies c.args.mode c.args.policy c.args.lps)) (IsChosen (wanted c.args.name c.args.copies c.args.mode c.args.policy c.args.lps)) (subst (λ (n : ℕ). MklvGives (wanted c.args.name c.args.copies c.args.mode c.args.policy c.args.lps) n (session_of g.S.Shelf.device c.args.driver) (session_of g.S.Shelf.device c.mklv.new.driver) (Err c.in-Err.why)) c.whole-patience.ensures c.in-Err.ensures.gives) c.mklv.ensures.leaves.finds c.mklv.ensures.leaves.status c.mklv.ensures.leaves.writes c.in-Err.why c.refused.result.stage so (mklv_facts (wanted c.args.name c.args.copies c.args.mode c.args.policy c.args.lps) patience_of_line (session_of g.S.Shelf.device c.args.driver) (session_of g.S.Shelf.device c.mklv.new.driver) c.requires.settled.session.power c.in-Err.why (subst (λ (n : ℕ). MklvGives (wanted c.args.name c.args.copies c.args.mode c.args.policy c.args.lps) n (session_of g.S.Shelf.device c.args.driver) (session_of g.S.Shelf.device c.mklv.new.driver) (Err c.in-Err.why)) c.whole-patience.ensures c.in-Err.ensures.gives)) last)
     (c.refused.ensures.reply ∙ ap (λ (r : Refusal). reply.Refused r) c.refusal_for.ensures)
 
 pub returns-in-Err-clause-goes : goal.returns-in-Err-clause-goes
@@ -79,22 +72,15 @@ returns-in-Err-clause-goes g c =
       on = λ goes. c.refused.ensures.stage ∙ c.after.ensures.on goes;
       history = ap (λ (s : Stage g.row.S.Denot). history_in s) c.refused.ensures.stage ∙ c.after.ensures.history;
     } in
-    let promised : Promised (session_of g.S.Shelf.device c.args.driver) (session_of g.S.Shelf.device c.mklv.new.driver) = record {
-      keeps = c.mklv.ensures.keeps;
-      orders = c.mklv.ensures.writes.orders;
-      epoch = c.mklv.ensures.stamps.epoch;
-      history = c.mklv.ensures.history;
-      calm = c.mklv.ensures.calm;
-      behind = c.mklv.ensures.behind;
-      waits = c.mklv.ensures.waited.later;
-    } in
+    let promised : Promised (session_of g.S.Shelf.device c.args.driver) (session_of g.S.Shelf.device c.mklv.new.driver) =
+    promised_by (IsWith (wanted c.args.name c.args.copies c.args.mode c.args.policy c.args.lps) c.args.driver.1) (IsChosen (wanted c.args.name c.args.copies c.args.mode c.args.policy c.args.lps) c.args.driver.1) 2 _ _ _ _ c.mklv.ensures.leaves in
     subst (λ (a : Reply). Between g.S.Shelf.device (stage.On c.args.driver) c.refused.result.stage (GoesOn c.args.driver.1.history.run a)) (sym (c.refused.ensures.reply ∙ ap (λ (r : Refusal). reply.Refused r) c.refusal_for.ensures))
     (failed_goes g.S.Shelf.device c.args.driver c.mklv.new.driver c.requires.settled c.in-Err.why promised (mklv_landed (wanted c.args.name c.args.copies c.args.mode c.args.policy c.args.lps) patience_of_line (session_of g.S.Shelf.device c.args.driver) (session_of g.S.Shelf.device c.mklv.new.driver) c.requires.settled.landed (Err c.in-Err.why) (subst (λ (n : ℕ). MklvGives (wanted c.args.name c.args.copies c.args.mode c.args.policy c.args.lps) n (session_of g.S.Shelf.device c.args.driver) (session_of g.S.Shelf.device c.mklv.new.driver) (Err c.in-Err.why)) c.whole-patience.ensures c.in-Err.ensures.gives)) c.refused.result.stage so (mklv_facts (wanted c.args.name c.args.copies c.args.mode c.args.policy c.args.lps) patience_of_line (session_of g.S.Shelf.device c.args.driver) (session_of g.S.Shelf.device c.mklv.new.driver) c.requires.settled.session.power c.in-Err.why (subst (λ (n : ℕ). MklvGives (wanted c.args.name c.args.copies c.args.mode c.args.policy c.args.lps) n (session_of g.S.Shelf.device c.args.driver) (session_of g.S.Shelf.device c.mklv.new.driver) (Err c.in-Err.why)) c.whole-patience.ensures c.in-Err.ensures.gives))
     (c.in-Err.ensures.settled (record { on = c.requires.settled.session.power; requests = c.requires.settled.session.quiet.requests })) c.in-Err.ensures.held)
 
 pub returns-in-Err-clause-rooms : goal.returns-in-Err-clause-rooms
 returns-in-Err-clause-rooms g c =
-    ap without_facts (ap (λ (s : Stage g.row.S.Denot). history_in s) c.refused.ensures.stage ∙ c.after.ensures.history) ∙ c.mklv.ensures.history.room
+    ap without_facts (ap (λ (s : Stage g.row.S.Denot). history_in s) c.refused.ensures.stage ∙ c.after.ensures.history) ∙ c.mklv.ensures.leaves.history.room
 
 pub returns-in-Err-clause-orders : goal.returns-in-Err-clause-orders
 returns-in-Err-clause-orders g c =
@@ -103,13 +89,6 @@ returns-in-Err-clause-orders g c =
       on = λ goes. c.refused.ensures.stage ∙ c.after.ensures.on goes;
       history = ap (λ (s : Stage g.row.S.Denot). history_in s) c.refused.ensures.stage ∙ c.after.ensures.history;
     } in
-    let promised : Promised (session_of g.S.Shelf.device c.args.driver) (session_of g.S.Shelf.device c.mklv.new.driver) = record {
-      keeps = c.mklv.ensures.keeps;
-      orders = c.mklv.ensures.writes.orders;
-      epoch = c.mklv.ensures.stamps.epoch;
-      history = c.mklv.ensures.history;
-      calm = c.mklv.ensures.calm;
-      behind = c.mklv.ensures.behind;
-      waits = c.mklv.ensures.waited.later;
-    } in
+    let promised : Promised (session_of g.S.Shelf.device c.args.driver) (session_of g.S.Shelf.device c.mklv.new.driver) =
+    promised_by (IsWith (wanted c.args.name c.args.copies c.args.mode c.args.policy c.args.lps) c.args.driver.1) (IsChosen (wanted c.args.name c.args.copies c.args.mode c.args.policy c.args.lps) c.args.driver.1) 2 _ _ _ _ c.mklv.ensures.leaves in
     failed_orders g.S.Shelf.device c.args.driver c.mklv.new.driver c.requires.settled c.in-Err.why promised (mklv_landed (wanted c.args.name c.args.copies c.args.mode c.args.policy c.args.lps) patience_of_line (session_of g.S.Shelf.device c.args.driver) (session_of g.S.Shelf.device c.mklv.new.driver) c.requires.settled.landed (Err c.in-Err.why) (subst (λ (n : ℕ). MklvGives (wanted c.args.name c.args.copies c.args.mode c.args.policy c.args.lps) n (session_of g.S.Shelf.device c.args.driver) (session_of g.S.Shelf.device c.mklv.new.driver) (Err c.in-Err.why)) c.whole-patience.ensures c.in-Err.ensures.gives)) c.refused.result.stage so (mklv_facts (wanted c.args.name c.args.copies c.args.mode c.args.policy c.args.lps) patience_of_line (session_of g.S.Shelf.device c.args.driver) (session_of g.S.Shelf.device c.mklv.new.driver) c.requires.settled.session.power c.in-Err.why (subst (λ (n : ℕ). MklvGives (wanted c.args.name c.args.copies c.args.mode c.args.policy c.args.lps) n (session_of g.S.Shelf.device c.args.driver) (session_of g.S.Shelf.device c.mklv.new.driver) (Err c.in-Err.why)) c.whole-patience.ensures c.in-Err.ensures.gives))

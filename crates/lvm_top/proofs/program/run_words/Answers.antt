@@ -11,9 +11,9 @@ pub returns-in-Err-Memory-clause-script : goal.returns-in-Err-Memory-clause-scri
 returns-in-Err-Memory-clause-script g c =
     unread_promises (job_of c.args.words.now) (g.C.Clock.last c.args.clock.now) (g.S.Shelf.device c.args.files) (g.S.Shelf.device c.unrun-in-Err-Memory.result.shelf) (ap g.S.Shelf.device c.unrun-in-Err-Memory.ensures.files) c.requires.ready full_room
     (record { content = g.I.Source.left c.args.input.now; faults = g.I.Source.faults c.args.input.now }) (record { content = g.O.Sink.held c.args.out.now; faults = g.O.Sink.faults c.args.out.now })
-    c.unrun-in-Err-Memory.result.status c.unrun-in-Err-Memory.result.refused c.unrun-in-Err-Memory.result.history c.unrun-in-Err-Memory.result.sim c.unrun-in-Err-Memory.ensures.unrun
+    c.unrun-in-Err-Memory.result c.unrun-in-Err-Memory.ensures.unrun
 
 pub returns-in-Ok-clause-sim : goal.returns-in-Ok-clause-sim
 returns-in-Ok-clause-sim g c =
     let is : job_of c.args.words.now ≡ Ok (Sim c.in-Ok-Sim.disks c.in-Ok-Sim.mib) = c.in-Ok-Sim.ensures.job ∙ ap (λ (j : Job). Ok j) c.in-Ok-Sim.field-0-is in
-    on_sim_at _ c.in-Ok-Sim.disks c.in-Ok-Sim.mib is _ (sim_promises _ _ c.in-Ok-Sim.disks c.in-Ok-Sim.mib c.in-Ok.ensures c.full_room-in-Ok.ensures c.run_script-ended.ensures.run)
+    on_sim_at _ c.in-Ok-Sim.disks c.in-Ok-Sim.mib is _ (sim_promises _ _ c.in-Ok-Sim.disks c.in-Ok-Sim.mib c.in-Ok.ensures c.full_room-in-Ok.ensures c.run_script-ended.ensures.run, tt)

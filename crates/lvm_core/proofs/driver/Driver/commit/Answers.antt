@@ -4,7 +4,7 @@ use Rattle.lvm_core.specs.State.{Core, state}
 use Rattle.lvm_core.specs.Fields.{core_of}
 use Rattle.lvm_core.specs.Settled.{IsSettled}
 use Rattle.lvm_core.proofs.Commits.{may_settle_now}
-use Rattle.lvm_core.proofs.Committing.{descriptor_sound, descriptor_most, descriptor_ends, descriptor_held, descriptor_plain, descriptor_left, descriptor_finds, descriptor_falls, descriptor_writes, descriptor_keeps, descriptor_calm, descriptor_behind}
+use Rattle.lvm_core.proofs.Committing.{descriptor_sound, descriptor_most, descriptor_ends, descriptor_leaves}
 use Rattle.lvm_core.proofs.driver.Driver.commit.Goals as goal
 
 pub commit-requires-clause-may : goal.commit-requires-clause-may
@@ -38,68 +38,12 @@ returns-clause-ends g c = rw (← c.self.view_is) (descriptor_ends c.args.next c
     c.commit.result c.commit.ensures.does (subst (λ (v : g.row.S.Denot × Core). IsSettled v.1) (sym c.self.view_is) c.requires.settled) c.self.invariant.2
     (subst (λ (v : g.row.S.Denot × Core). IsAlike c.args.next v.1.descriptor) (sym c.self.view_is) c.requires.alike))
 
-pub returns-clause-held : goal.returns-clause-held
-returns-clause-held g c = rw (← c.self.view_is) (descriptor_held c.args.next c.args.patience.now.left c.commit.new.patience.left
-    (state (g.S.Shelf.device c.self.inside.shelf) (core_of c.self.inside.session))
-    (state (g.S.Shelf.device c.commit.new.shelf) (core_of c.commit.new.self))
-    c.commit.result c.commit.ensures.does (subst (λ (v : g.row.S.Denot × Core). IsSettled v.1) (sym c.self.view_is) c.requires.settled) c.self.invariant.2
-    (subst (λ (v : g.row.S.Denot × Core). IsAlike c.args.next v.1.descriptor) (sym c.self.view_is) c.requires.alike))
-
-pub returns-clause-plain : goal.returns-clause-plain
-returns-clause-plain g c = rw (← c.self.view_is) (descriptor_plain c.args.next c.args.patience.now.left c.commit.new.patience.left
-    (state (g.S.Shelf.device c.self.inside.shelf) (core_of c.self.inside.session))
-    (state (g.S.Shelf.device c.commit.new.shelf) (core_of c.commit.new.self))
-    c.commit.result c.commit.ensures.does (subst (λ (v : g.row.S.Denot × Core). IsSettled v.1) (sym c.self.view_is) c.requires.settled) c.self.invariant.2
-    (subst (λ (v : g.row.S.Denot × Core). IsAlike c.args.next v.1.descriptor) (sym c.self.view_is) c.requires.alike))
-
 pub returns-clause-left : goal.returns-clause-left
-returns-clause-left g c = rw (← c.self.view_is) (descriptor_left c.args.next c.args.patience.now.left c.commit.new.patience.left
+returns-clause-left g c = rw (← c.self.view_is) c.commit.ensures.does.left
+
+pub returns-clause-leaves : goal.returns-clause-leaves
+returns-clause-leaves g c = rw (← c.self.view_is) (descriptor_leaves c.args.next c.args.patience.now.left c.commit.new.patience.left
     (state (g.S.Shelf.device c.self.inside.shelf) (core_of c.self.inside.session))
     (state (g.S.Shelf.device c.commit.new.shelf) (core_of c.commit.new.self))
     c.commit.result c.commit.ensures.does (subst (λ (v : g.row.S.Denot × Core). IsSettled v.1) (sym c.self.view_is) c.requires.settled) c.self.invariant.2
     (subst (λ (v : g.row.S.Denot × Core). IsAlike c.args.next v.1.descriptor) (sym c.self.view_is) c.requires.alike))
-
-pub returns-clause-finds : goal.returns-clause-finds
-returns-clause-finds g c = rw (← c.self.view_is) (descriptor_finds c.args.next c.args.patience.now.left c.commit.new.patience.left
-    (state (g.S.Shelf.device c.self.inside.shelf) (core_of c.self.inside.session))
-    (state (g.S.Shelf.device c.commit.new.shelf) (core_of c.commit.new.self))
-    c.commit.result c.commit.ensures.does (subst (λ (v : g.row.S.Denot × Core). IsSettled v.1) (sym c.self.view_is) c.requires.settled) c.self.invariant.2
-    (subst (λ (v : g.row.S.Denot × Core). IsAlike c.args.next v.1.descriptor) (sym c.self.view_is) c.requires.alike))
-
-pub returns-clause-falls : goal.returns-clause-falls
-returns-clause-falls g c = rw (← c.self.view_is) (descriptor_falls c.args.next c.args.patience.now.left c.commit.new.patience.left
-    (state (g.S.Shelf.device c.self.inside.shelf) (core_of c.self.inside.session))
-    (state (g.S.Shelf.device c.commit.new.shelf) (core_of c.commit.new.self))
-    c.commit.result c.commit.ensures.does (subst (λ (v : g.row.S.Denot × Core). IsSettled v.1) (sym c.self.view_is) c.requires.settled) c.self.invariant.2
-    (subst (λ (v : g.row.S.Denot × Core). IsAlike c.args.next v.1.descriptor) (sym c.self.view_is) c.requires.alike))
-
-pub returns-clause-writes : goal.returns-clause-writes
-returns-clause-writes g c = rw (← c.self.view_is) (descriptor_writes c.args.next c.args.patience.now.left c.commit.new.patience.left
-    (state (g.S.Shelf.device c.self.inside.shelf) (core_of c.self.inside.session))
-    (state (g.S.Shelf.device c.commit.new.shelf) (core_of c.commit.new.self))
-    c.commit.result c.commit.ensures.does (subst (λ (v : g.row.S.Denot × Core). IsSettled v.1) (sym c.self.view_is) c.requires.settled) c.self.invariant.2
-    (subst (λ (v : g.row.S.Denot × Core). IsAlike c.args.next v.1.descriptor) (sym c.self.view_is) c.requires.alike))
-
-pub returns-clause-keeps : goal.returns-clause-keeps
-returns-clause-keeps g c = rw (← c.self.view_is) (descriptor_keeps c.args.next c.args.patience.now.left c.commit.new.patience.left
-    (state (g.S.Shelf.device c.self.inside.shelf) (core_of c.self.inside.session))
-    (state (g.S.Shelf.device c.commit.new.shelf) (core_of c.commit.new.self))
-    c.commit.result c.commit.ensures.does (subst (λ (v : g.row.S.Denot × Core). IsSettled v.1) (sym c.self.view_is) c.requires.settled) c.self.invariant.2
-    (subst (λ (v : g.row.S.Denot × Core). IsAlike c.args.next v.1.descriptor) (sym c.self.view_is) c.requires.alike))
-
-pub returns-clause-calm : goal.returns-clause-calm
-returns-clause-calm g c = rw (← c.self.view_is) (descriptor_calm c.args.next c.args.patience.now.left c.commit.new.patience.left
-    (state (g.S.Shelf.device c.self.inside.shelf) (core_of c.self.inside.session))
-    (state (g.S.Shelf.device c.commit.new.shelf) (core_of c.commit.new.self))
-    c.commit.result c.commit.ensures.does (subst (λ (v : g.row.S.Denot × Core). IsSettled v.1) (sym c.self.view_is) c.requires.settled) c.self.invariant.2
-    (subst (λ (v : g.row.S.Denot × Core). IsAlike c.args.next v.1.descriptor) (sym c.self.view_is) c.requires.alike))
-
-pub returns-clause-behind : goal.returns-clause-behind
-returns-clause-behind g c = rw (← c.self.view_is) (descriptor_behind c.args.next c.args.patience.now.left c.commit.new.patience.left
-    (state (g.S.Shelf.device c.self.inside.shelf) (core_of c.self.inside.session))
-    (state (g.S.Shelf.device c.commit.new.shelf) (core_of c.commit.new.self))
-    c.commit.result c.commit.ensures.does (subst (λ (v : g.row.S.Denot × Core). IsSettled v.1) (sym c.self.view_is) c.requires.settled) c.self.invariant.2
-    (subst (λ (v : g.row.S.Denot × Core). IsAlike c.args.next v.1.descriptor) (sym c.self.view_is) c.requires.alike))
-
-pub returns-clause-numbers : goal.returns-clause-numbers
-returns-clause-numbers g c = rw (← c.self.view_is) c.commit.ensures.does.settles.numbers

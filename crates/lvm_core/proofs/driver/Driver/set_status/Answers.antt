@@ -4,7 +4,7 @@ use Rattle.lvm_core.specs.Fields.{core_of}
 use Rattle.lvm_core.specs.Settled.{IsSettled}
 use Rattle.lvm_core.specs.Committing.{AreUnused}
 use Rattle.lvm_core.proofs.Commits.{may_settle_now, unused_markable}
-use Rattle.lvm_core.proofs.Stating.{status_sound, status_most, status_ends_so, status_held, nothing_done, status_finds, status_falls, restates, status_numbers, status_writes, status_keeps, status_calm, status_behind}
+use Rattle.lvm_core.proofs.Stating.{status_sound, status_most, status_ends_so, nothing_done, restates, status_leaves}
 use Rattle.lvm_core.proofs.driver.Driver.set_status.Goals as goal
 
 pub set_status-requires-clause-may : goal.set_status-requires-clause-may
@@ -34,29 +34,11 @@ pub returns-clause-ends : goal.returns-clause-ends
 returns-clause-ends g c = rw (← c.self.view_is) (status_ends_so c.args.stale.now c.args.fresh.now c.args.patience.now.left c.set_status.new.patience.left
     (state (g.S.Shelf.device c.self.inside.shelf) (core_of c.self.inside.session))
     (state (g.S.Shelf.device c.set_status.new.shelf) (core_of c.set_status.new.self))
-    c.set_status.result c.set_status.ensures.does (subst (λ (v : g.row.S.Denot × Core). IsSettled v.1) (sym c.self.view_is) c.requires.settled) c.self.invariant.2)
-
-pub returns-clause-held : goal.returns-clause-held
-returns-clause-held g c = rw (← c.self.view_is) (status_held c.args.stale.now c.args.fresh.now c.args.patience.now.left c.set_status.new.patience.left
-    (state (g.S.Shelf.device c.self.inside.shelf) (core_of c.self.inside.session))
-    (state (g.S.Shelf.device c.set_status.new.shelf) (core_of c.set_status.new.self))
     c.set_status.result c.set_status.ensures.does (subst (λ (v : g.row.S.Denot × Core). IsSettled v.1) (sym c.self.view_is) c.requires.settled) c.self.invariant.2
     (subst (λ (v : g.row.S.Denot × Core). AreUnused v.1.descriptor (c.args.stale.now ++ c.args.fresh.now)) (sym c.self.view_is) c.requires.unused))
 
 pub returns-clause-nothing : goal.returns-clause-nothing
 returns-clause-nothing g c = rw (← c.self.view_is) (nothing_done c.args.stale.now c.args.fresh.now c.args.patience.now.left c.set_status.new.patience.left
-    (state (g.S.Shelf.device c.self.inside.shelf) (core_of c.self.inside.session))
-    (state (g.S.Shelf.device c.set_status.new.shelf) (core_of c.set_status.new.self))
-    c.set_status.result c.set_status.ensures.does (subst (λ (v : g.row.S.Denot × Core). IsSettled v.1) (sym c.self.view_is) c.requires.settled) c.self.invariant.2)
-
-pub returns-clause-finds : goal.returns-clause-finds
-returns-clause-finds g c = rw (← c.self.view_is) (status_finds c.args.stale.now c.args.fresh.now c.args.patience.now.left c.set_status.new.patience.left
-    (state (g.S.Shelf.device c.self.inside.shelf) (core_of c.self.inside.session))
-    (state (g.S.Shelf.device c.set_status.new.shelf) (core_of c.set_status.new.self))
-    c.set_status.result c.set_status.ensures.does (subst (λ (v : g.row.S.Denot × Core). IsSettled v.1) (sym c.self.view_is) c.requires.settled) c.self.invariant.2)
-
-pub returns-clause-falls : goal.returns-clause-falls
-returns-clause-falls g c = rw (← c.self.view_is) (status_falls c.args.stale.now c.args.fresh.now c.args.patience.now.left c.set_status.new.patience.left
     (state (g.S.Shelf.device c.self.inside.shelf) (core_of c.self.inside.session))
     (state (g.S.Shelf.device c.set_status.new.shelf) (core_of c.set_status.new.self))
     c.set_status.result c.set_status.ensures.does (subst (λ (v : g.row.S.Denot × Core). IsSettled v.1) (sym c.self.view_is) c.requires.settled) c.self.invariant.2)
@@ -68,33 +50,9 @@ returns-clause-marks g c = rw (← c.self.view_is) (restates c.args.stale.now c.
     c.set_status.result c.set_status.ensures.does (subst (λ (v : g.row.S.Denot × Core). IsSettled v.1) (sym c.self.view_is) c.requires.settled) c.self.invariant.2
     (subst (λ (v : g.row.S.Denot × Core). AreUnused v.1.descriptor (c.args.stale.now ++ c.args.fresh.now)) (sym c.self.view_is) c.requires.unused))
 
-pub returns-clause-numbers : goal.returns-clause-numbers
-returns-clause-numbers g c = rw (← c.self.view_is) (status_numbers c.args.stale.now c.args.fresh.now c.args.patience.now.left c.set_status.new.patience.left
-    (state (g.S.Shelf.device c.self.inside.shelf) (core_of c.self.inside.session))
-    (state (g.S.Shelf.device c.set_status.new.shelf) (core_of c.set_status.new.self))
-    c.set_status.result c.set_status.ensures.does (subst (λ (v : g.row.S.Denot × Core). IsSettled v.1) (sym c.self.view_is) c.requires.settled) c.self.invariant.2)
-
-pub returns-clause-writes : goal.returns-clause-writes
-returns-clause-writes g c = rw (← c.self.view_is) (status_writes c.args.stale.now c.args.fresh.now c.args.patience.now.left c.set_status.new.patience.left
-    (state (g.S.Shelf.device c.self.inside.shelf) (core_of c.self.inside.session))
-    (state (g.S.Shelf.device c.set_status.new.shelf) (core_of c.set_status.new.self))
-    c.set_status.result c.set_status.ensures.does (subst (λ (v : g.row.S.Denot × Core). IsSettled v.1) (sym c.self.view_is) c.requires.settled) c.self.invariant.2)
-
-pub returns-clause-keeps : goal.returns-clause-keeps
-returns-clause-keeps g c = rw (← c.self.view_is) (status_keeps c.args.stale.now c.args.fresh.now c.args.patience.now.left c.set_status.new.patience.left
+pub returns-clause-leaves : goal.returns-clause-leaves
+returns-clause-leaves g c = rw (← c.self.view_is) (status_leaves c.args.stale.now c.args.fresh.now c.args.patience.now.left c.set_status.new.patience.left
     (state (g.S.Shelf.device c.self.inside.shelf) (core_of c.self.inside.session))
     (state (g.S.Shelf.device c.set_status.new.shelf) (core_of c.set_status.new.self))
     c.set_status.result c.set_status.ensures.does (subst (λ (v : g.row.S.Denot × Core). IsSettled v.1) (sym c.self.view_is) c.requires.settled) c.self.invariant.2
     (subst (λ (v : g.row.S.Denot × Core). AreUnused v.1.descriptor (c.args.stale.now ++ c.args.fresh.now)) (sym c.self.view_is) c.requires.unused))
-
-pub returns-clause-calm : goal.returns-clause-calm
-returns-clause-calm g c = rw (← c.self.view_is) (status_calm c.args.stale.now c.args.fresh.now c.args.patience.now.left c.set_status.new.patience.left
-    (state (g.S.Shelf.device c.self.inside.shelf) (core_of c.self.inside.session))
-    (state (g.S.Shelf.device c.set_status.new.shelf) (core_of c.set_status.new.self))
-    c.set_status.result c.set_status.ensures.does (subst (λ (v : g.row.S.Denot × Core). IsSettled v.1) (sym c.self.view_is) c.requires.settled) c.self.invariant.2)
-
-pub returns-clause-behind : goal.returns-clause-behind
-returns-clause-behind g c = rw (← c.self.view_is) (status_behind c.args.stale.now c.args.fresh.now c.args.patience.now.left c.set_status.new.patience.left
-    (state (g.S.Shelf.device c.self.inside.shelf) (core_of c.self.inside.session))
-    (state (g.S.Shelf.device c.set_status.new.shelf) (core_of c.set_status.new.self))
-    c.set_status.result c.set_status.ensures.does (subst (λ (v : g.row.S.Denot × Core). IsSettled v.1) (sym c.self.view_is) c.requires.settled) c.self.invariant.2)

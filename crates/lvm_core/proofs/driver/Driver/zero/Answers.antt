@@ -5,9 +5,8 @@ use Rattle.lvm_commit.specs.LawsOfData.{IsFree}
 use Rattle.lvm_core.specs.State.{Core, state, is_there}
 use Rattle.lvm_core.specs.Fields.{core_of}
 use Rattle.lvm_core.specs.Settled.{IsSettled}
-use Rattle.lvm_core.proofs.Spanning.{path_falls}
-use Rattle.lvm_core.proofs.ZeroEnding.{zero_core, zero_held, zero_finds, zero_behind}
-use Rattle.lvm_core.proofs.ZeroKeeping.{has_sectors, is_not_missing, is_low, zero_keeps, zero_calm, zero_sound}
+use Rattle.lvm_core.proofs.ZeroEnding.{zero_core, zero_keeps_records}
+use Rattle.lvm_core.proofs.ZeroKeeping.{has_sectors, is_not_missing, is_low, zero_sound, zero_leaves}
 use Rattle.lvm_core.proofs.driver.Driver.zero.Goals as goal
 
 pub zero-requires-clause-partition : goal.zero-requires-clause-partition
@@ -33,33 +32,15 @@ invariant_of-self g c =
       zero_sound c.args.pp c.args.patience.now.left c.zero.new.patience.left old new c.zero.result does settled c.self.invariant.2,
     )
 
-pub returns-clause-held : goal.returns-clause-held
-returns-clause-held g c =
-    rw (← c.self.view_is) (zero_held c.args.pp c.args.patience.now.left c.zero.new.patience.left (state (g.S.Shelf.device c.self.inside.shelf) (core_of c.self.inside.session)) (state (g.S.Shelf.device c.zero.new.shelf) (core_of c.zero.new.self)) c.zero.result c.zero.ensures.does)
+pub returns-clause-records : goal.returns-clause-records
+returns-clause-records g c =
+    rw (← c.self.view_is) (zero_keeps_records c.args.pp c.args.patience.now.left c.zero.new.patience.left (state (g.S.Shelf.device c.self.inside.shelf) (core_of c.self.inside.session)) (state (g.S.Shelf.device c.zero.new.shelf) (core_of c.zero.new.self)) c.zero.result c.zero.ensures.does)
 
-pub returns-clause-finds : goal.returns-clause-finds
-returns-clause-finds g c =
-    rw (← c.self.view_is) (zero_finds c.args.pp c.args.patience.now.left c.zero.new.patience.left (state (g.S.Shelf.device c.self.inside.shelf) (core_of c.self.inside.session)) (state (g.S.Shelf.device c.zero.new.shelf) (core_of c.zero.new.self)) c.zero.result c.zero.ensures.does)
-
-pub returns-clause-keeps : goal.returns-clause-keeps
-returns-clause-keeps g c =
+pub returns-clause-leaves : goal.returns-clause-leaves
+returns-clause-leaves g c =
     let old = state (g.S.Shelf.device c.self.inside.shelf) (core_of c.self.inside.session) in
     let new = state (g.S.Shelf.device c.zero.new.shelf) (core_of c.zero.new.self) in
     let settled = subst (λ (v : g.row.S.Denot × Core). IsSettled v.1) (sym c.self.view_is) c.requires.settled in
     let there = subst (λ (v : g.row.S.Denot × Core). IsTrue (is_there v.1 c.args.pp.disk)) (sym c.self.view_is) c.requires.there in
     let free = subst (λ (v : g.row.S.Denot × Core). IsFree v.1.descriptor c.args.pp) (sym c.self.view_is) c.requires.free in
-    rw (← c.self.view_is) (zero_keeps c.args.pp c.args.patience.now.left c.zero.new.patience.left old new c.zero.result c.zero.ensures.does settled there free)
-
-pub returns-clause-falls : goal.returns-clause-falls
-returns-clause-falls g c = rw (← c.self.view_is) (path_falls (g.S.Shelf.device c.self.inside.shelf) (g.S.Shelf.device c.zero.new.shelf) c.zero.ensures.does.part.moments)
-
-pub returns-clause-calm : goal.returns-clause-calm
-returns-clause-calm g c =
-    let old = state (g.S.Shelf.device c.self.inside.shelf) (core_of c.self.inside.session) in
-    let new = state (g.S.Shelf.device c.zero.new.shelf) (core_of c.zero.new.self) in
-    let settled = subst (λ (v : g.row.S.Denot × Core). IsSettled v.1) (sym c.self.view_is) c.requires.settled in
-    rw (← c.self.view_is) (zero_calm c.args.pp c.args.patience.now.left c.zero.new.patience.left old new c.zero.result c.zero.ensures.does settled)
-
-pub returns-clause-behind : goal.returns-clause-behind
-returns-clause-behind g c =
-    rw (← c.self.view_is) (zero_behind c.args.pp c.args.patience.now.left c.zero.new.patience.left (state (g.S.Shelf.device c.self.inside.shelf) (core_of c.self.inside.session)) (state (g.S.Shelf.device c.zero.new.shelf) (core_of c.zero.new.self)) c.zero.result c.zero.ensures.does)
+    rw (← c.self.view_is) (zero_leaves c.args.pp c.args.patience.now.left c.zero.new.patience.left old new c.zero.result c.zero.ensures.does settled there free)

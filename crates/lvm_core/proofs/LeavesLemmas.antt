@@ -1,0 +1,123 @@
+-- What a call leaves, by what its transfers and its entries did.
+use Rattle.std.proofs.Common.{◌≡◌, ◌⊎◌, inl, inr, ⊎_elim, ℕ, ◌+◌, Bool, true, false, cond, List, [], ◌∷◌, ◌++◌, count_by, Option, Some, None, refl, sym, ap, subst, ◌∙◌, arith}
+use Rattle.std.specs.Prelude.{IfSome, IsSomeAnd, IfOk, Result, Ok, Err, IsTrue, if◌then◌else◌}
+use Rattle.std.proofs.lemmas.Bool.{false≢true}
+use Rattle.std.proofs.lemmas.List.{append-nil}
+use Rattle.std.proofs.lemmas.List.Sums.{sum_by-append}
+use Rattle.lvm_num.specs.declared.place.Pp.{Pp}
+use Rattle.lvm_num.specs.declared.status.StatusRow.{StatusRow}
+use Rattle.lvm_num.specs.declared.descriptor.Descriptor.{Descriptor}
+use Rattle.lvm_num.specs.Status.{calls_stale, calls_missing}
+use Rattle.lvm_disk.specs.Device.{Media, Image, Device, image_of, MayLeave}
+use Rattle.lvm_disk.specs.Steps.{BothTold}
+use Rattle.lvm_vol.specs.Facts.{Fact, Cut}
+use Rattle.lvm_vol.specs.Legal.{IsLater}
+use Rattle.lvm_vol.specs.Log.{Log, with_fact, is_uncut, cut_log}
+use Rattle.lvm_kept.specs.Contents.{contents_of}
+use Rattle.lvm_kept.specs.Group.{IsFound}
+use Rattle.lvm_steps.proofs.Making.{media_may}
+use Rattle.lvm_steps.proofs.Spans.{later_append}
+use Rattle.lvm_status.specs.Update.{Stored}
+use Rattle.lvm_commit.specs.LawsOfFinding.{FindsNothingNew, FindsNoMore, FindsNothingNewOn, FindsNoMoreOn}
+use Rattle.lvm_core.specs.declared.fault.CommitFault.{CommitFault}
+use Rattle.lvm_core.specs.declared.request.Open.{Open}
+use Rattle.lvm_core.specs.Dark.{dark_log}
+use Rattle.lvm_core.specs.State.{State}
+use Rattle.lvm_core.specs.Leaves.{KeepsStatus, is_of_volume, EntersVolumes, KeepsHistory, MayBeFound, FindsOnly}
+
+-- ---- what holds at Ok
+
+pub ok_then : (P Q : Type 0) (answer : Result (Unit {0}) CommitFault) → (P → IfOk answer (λ done. Q)) → IfOk answer (λ done. P → Q)
+ok_then P Q (Ok done) makes = makes
+ok_then P Q (Err fault) makes = tt
+
+pub ok_both : (P Q : Type 0) (answer : Result (Unit {0}) CommitFault) → IfOk answer (λ done. P) → IfOk answer (λ done. Q) → IfOk answer (λ done. P × Q)
+ok_both P Q (Ok done) one two = (one, two)
+ok_both P Q (Err fault) one two = tt
+
+-- ---- what is told
+
+-- where the new media is told the old one is
+told_before : (R : Media → Media → Type 0) (old new : Option Media) (P : Type 0) → BothTold old new R → ((m : Media) → old ≡ Some m → P) → IsSomeAnd new (λ n. Unit {0}) → P
+told_before R None None P both some told = absurd told
+told_before R None (Some n) P both some told = absurd both
+told_before R (Some m) None P both some told = absurd told
+told_before R (Some m) (Some n) P both some told = some m refl
+
+may_told : (device : Device) (image : Image) → MayLeave device image → IsSomeAnd device.media (λ n. Unit {0})
+may_told device image may = by_media device.media may
+  where
+    by_media : (o : Option Media) → MayLeave (record device { media = o }) image → IsSomeAnd o (λ n. Unit {0})
+    by_media None may = absurd may
+    by_media (Some m) may = tt
+
+-- what holds where it is told, at the media
+at_media : (o : Option Media) (P : Media → Type 0) (m : Media) → o ≡ Some m → IfSome o P → P m
+at_media o P m is holds = subst (λ (x : Option Media). IfSome x P) is holds
+
+-- ---- histories
+
+-- a volume's entries
+entries_with : (facts : List Fact) (f : Fact) → count_by is_of_volume (facts ++ f ∷ []) ≡ count_by is_of_volume facts + count_by is_of_volume (f ∷ [])
+entries_with facts f = sum_by-append (λ x. cond (is_of_volume x) 1 0) facts (f ∷ [])
+
+pub enters_one : (facts : List Fact) (f : Fact) → is_of_volume f ≡ true → EntersVolumes facts (facts ++ f ∷ [])
+enters_one facts f is =
+    let sum = entries_with facts f in
+    let one : count_by is_of_volume (f ∷ []) ≡ 1 = ap (λ (b : Bool). 0 + cond b 1 0) is in
+    omega (arith, sum, one)
+
+pub keeps_same : (was is : Log) → is ≡ was → KeepsHistory was is
+keeps_same was is same = subst (λ (l : Log). KeepsHistory was l) (sym same) (record { room = refl; volumes = omega arith; later = λ moment later. later })
+
+-- with an entry that isn't a varyon
+pub keeps_fact : (was : Log) (f : Fact) → ((moment : ℕ) → IsLater (f ∷ []) moment) → KeepsHistory was (with_fact was f)
+keeps_fact was f later = record { room = refl; volumes = let sum = entries_with was.facts f in omega (arith, sum); later = λ moment is. later_append was.facts (f ∷ []) moment is (later moment) }
+
+keeps_cut : (was : Log) → KeepsHistory was (cut_log was)
+keeps_cut was = by_test (is_uncut was.facts)
+  where
+    by_test : (t : Bool) → KeepsHistory was (if t then with_fact was Cut else was)
+    by_test true = keeps_fact was Cut (λ moment. tt)
+    by_test false = record { room = refl; volumes = omega arith; later = λ moment is. is }
+
+-- with no request open, a cut is all that is entered
+pub dark_is_cut : (log : Log) (requests : List Open) → requests ≡ [] → dark_log log requests ≡ cut_log log
+dark_is_cut log requests none = ap (dark_log log) none ∙ ap (λ (l : List Fact). record (cut_log log) { facts = l }) (append-nil (cut_log log).facts)
+
+pub keeps_dark_log : (log : Log) (requests : List Open) → requests ≡ [] → KeepsHistory log (dark_log log requests)
+keeps_dark_log log requests none = subst (λ (l : Log). KeepsHistory log l) (sym (dark_is_cut log requests none)) (keeps_cut log)
+
+-- ---- what is found
+
+module _ (N : Descriptor → Type 0) (a b : State) (R : Media → Media → Type 0) (both : BothTold a.device.media b.device.media R) where
+  abbrev Was : ℕ → Descriptor → Type 0
+  Was id k = MayBeFound a.device id k ⊎ ((id ≡ k.id) × N k)
+
+  -- nothing else is found
+  pub finds_nothing : FindsNothingNewOn a.device b.device → FindsOnly N a b
+  finds_nothing finds held id k is = told_before R a.device.media b.device.media (Was id k) both (λ m told.
+      inl (image_of a.device.sizes m, media_may a.device m told, at_media a.device.media (λ (x : Media). FindsNothingNew (contents_of (image_of a.device.sizes x)) (contents_of is.0)) m told (finds is.0 is.1) id k is.2))
+      (may_told b.device is.0 is.1)
+
+  -- or the next
+  pub finds_next : (next : Descriptor) → N next → FindsNoMoreOn next a.device b.device → FindsOnly N a b
+  finds_next next its finds held id k is = told_before R a.device.media b.device.media (Was id k) both (λ m told. ⊎_elim
+      (λ (was : IsFound (contents_of (image_of a.device.sizes m)) id k). inl (image_of a.device.sizes m, media_may a.device m told, was))
+      (λ (new : (id ≡ next.id) × (k ≡ next)). inr (new.0 ∙ ap (λ (d : Descriptor). d.id) (sym new.1), subst N (sym new.1) its))
+      (at_media a.device.media (λ (x : Media). FindsNoMore next (contents_of (image_of a.device.sizes x)) (contents_of is.0)) m told (finds is.0 is.1) id k is.2))
+      (may_told b.device is.0 is.1)
+
+-- ---- the status
+
+-- where the status is the same
+pub same_status : (S F : Pp → Type 0) (a b : State) → b.core.status ≡ a.core.status → KeepsStatus S F a b
+same_status S F a b same = record {
+  group = ap (λ (s : Stored). s.group) same;
+  rows = record { id = ap (λ (s : Stored). s.wanted.id) same; big = ap (λ (s : Stored). s.wanted.big) same; disks = ap (λ (s : Stored). Rattle.std.specs.Prelude.map (λ (r : StatusRow). r.disk) s.wanted.rows) same };
+  stale = λ p off is. subst (λ (s : Stored). IsTrue (calls_stale s.wanted p)) (sym same) is;
+  further = λ p is. inl (subst (λ (s : Stored). IsTrue (calls_stale s.wanted p)) same is);
+  dirty = ap (λ (s : Stored). s.wanted.dirty) same;
+  stays = λ d is. subst (λ (s : Stored). IsTrue (calls_missing s.wanted d)) (sym same) is;
+  lost = λ d is isnt. absurd (false≢true (sym isnt ∙ subst (λ (s : Stored). IsTrue (calls_missing s.wanted d)) same is));
+}

@@ -1,0 +1,19 @@
+use Rattle.std.proofs.Common.{◌≡◌, ℕ, Option, IfSome, refl, sym, subst}
+use Rattle.lvm_core.specs.declared.parts.Room.{Room}
+use Rattle.lvm_vol.specs.Log.{Log}
+use Rattle.lvm_line.specs.Lines.{CommandDoes}
+use Rattle.lvm_line.specs.Stages.{state_in}
+use Rattle.lvm_line.specs.declared.reply.Reply.{Reply}
+use Rattle.lvm_line.proofs.Lining.{of_command}
+use Rattle.lvm_line.proofs.line.list.Goals.{in-Lsvg, in-Lslv, in-Lspv, in_default}
+use Rattle.lvm_line.proofs.line.list.Goals as goal
+
+pub returns-clause-does : goal.returns-clause-does
+returns-clause-does g c =
+    let Does : Option Reply → Type 0 = λ (o : Option Reply). IfSome o (λ r. (log : Log) (room : Room) (last : ℕ) → CommandDoes log room c.args.command (state_in g.S.Shelf.device c.args.stage.now last) (state_in g.S.Shelf.device c.args.stage.now last) r) in
+    elim c.match-command.branch [
+      | in-Lsvg w ↦ subst (λ (o : Option Reply). Does o) (sym w.result-is) (λ log room last. of_command log room c.args.command _ _ _ w.list_group.result w.in-Lsvg.is (w.list_group.ensures, refl))
+      | in-Lslv w ↦ subst (λ (o : Option Reply). Does o) (sym w.result-is) (λ log room last. of_command log room c.args.command _ _ _ w.list_volume.result w.in-Lslv.is (w.list_volume.ensures, refl))
+      | in-Lspv w ↦ subst (λ (o : Option Reply). Does o) (sym w.result-is) (λ log room last. of_command log room c.args.command _ _ _ w.list_disk.result w.in-Lspv.is (w.list_disk.ensures, refl))
+      | in_default w ↦ subst (λ (o : Option Reply). Does o) (sym w.result-is) tt
+    ]

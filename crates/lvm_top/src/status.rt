@@ -1,0 +1,42 @@
+//! How a run ended.
+ghost use Rattle.std.specs.Prelude.{◌≡◌};
+ghost use Rattle.lvm_top.specs.Statuses.{code_of};
+
+/// How a run of the program ended.
+#[derive(Clone, Copy, Debug, PartialEq, Eq, Drop)]
+pub enum Status {
+    /// 0: the input was read to its end and nothing was refused.
+    Well,
+    /// 1: the same, but something was.
+    Refusals,
+    /// 2: the words of the command line ask for nothing.
+    Usage,
+    /// 3: the source failed.
+    SourceFault,
+    /// 4: the sink failed.
+    SinkFault,
+    /// 5: memory ran out for a run, or for a further line.
+    Memory,
+    /// 6: the shelf had nothing to tell a million times in one command.
+    Stuck,
+    /// 7: the source gave more than 16,777,216 bytes.
+    TooLong,
+}
+
+impl Status {
+    /// The number with which the program ends.
+    pub fn code(self) -> u8
+        ensures { result ≡ code_of self }
+    {
+        match self {
+            Status::Well => 0,
+            Status::Refusals => 1,
+            Status::Usage => 2,
+            Status::SourceFault => 3,
+            Status::SinkFault => 4,
+            Status::Memory => 5,
+            Status::Stuck => 6,
+            Status::TooLong => 7,
+        }
+    }
+}

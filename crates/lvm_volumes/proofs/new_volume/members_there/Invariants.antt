@@ -1,0 +1,10 @@
+use Rattle.std.proofs.Common.{◌≡◌, ℕ, ◌&&◌, not, take}
+use Rattle.std.specs.Prelude.{◌==◌}
+use Rattle.std.specs.List.{list_any}
+use Rattle.lvm_num.specs.declared.descriptor.PvRow.{PvRow}
+use Rattle.lvm_num.specs.Disks.{has}
+use Rattle.lvm_num.specs.Status.{calls_missing}
+use Rattle.lvm_volumes.proofs.new_volume.members_there.Given as goal
+
+abbrev pub invariant-loop-row : goal.invariant-loop-row
+invariant-loop-row l = (disk : ℕ) → has l.there disk ≡ list_any (λ (row : PvRow). row.disk == disk) (take l.row-index l.d.pvs) && not (calls_missing l.table disk)

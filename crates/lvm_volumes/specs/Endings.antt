@@ -1,0 +1,102 @@
+-- How a command on the volumes of a session ends, and what it may do.
+use Rattle.std.specs.Prelude.{◌≡◌, ℕ, [], Result, Ok, Err}
+use Rattle.lvm_num.specs.declared.place.Pp.{Pp}
+use Rattle.lvm_num.specs.declared.descriptor.Descriptor.{Descriptor}
+use Rattle.lvm_disk.specs.Counts.{Rose}
+use Rattle.lvm_disk.specs.Device.{IsReady}
+use Rattle.lvm_vol.specs.Log.{Log, cut_log}
+use Rattle.lvm_kept.specs.Moments.{Moment}
+use Rattle.lvm_quorum.specs.Written.{IsDarkened, IsGivenUp}
+use Rattle.lvm_commit.specs.LawsOfVolumes.{IsOnlyGroupOn, IsOnlyGroupSince}
+use Rattle.lvm_commit.specs.Settling.{NoneIsLeft, HasLostQuorum}
+use Rattle.lvm_core.specs.declared.fault.CommitFault.{CommitFault}
+use Rattle.lvm_core.specs.declared.fault.CommitFault.TheVariants as commit
+use Rattle.lvm_core.specs.declared.request.Power.TheVariants as power
+use Rattle.lvm_core.specs.State.{Core, State}
+use Rattle.lvm_core.specs.Held.{IsHeld, AreNotesHome}
+use Rattle.lvm_core.specs.Leaves.{Scope, NoPartition, EntersVolumes}
+use Rattle.lvm_volumes.specs.declared.fault.GroupFault.{GroupFault}
+use Rattle.lvm_volumes.specs.declared.fault.GroupFault.TheVariants as fault
+
+-- ---- faults as they happen
+
+-- the fault of a command whose commit or zeros had this one
+abbrev pub fault_of : CommitFault → GroupFault
+fault_of commit.Dark = fault.Dark
+fault_of (commit.WentOff have total) = fault.WentOff have total
+fault_of (commit.DiskFailed disk) = fault.DiskFailed disk
+fault_of commit.Stuck = fault.Stuck
+
+-- The power was cut in the command, which had entered so much: a cut is entered, and the session is over with its descriptor as it was.
+pub record EndsDark (entered : Log) (old new : State) : Type 0 where
+  pub cut : IsDarkened 0 old.device new.device
+  pub power : new.core.power ≡ power.Dark
+  pub history : new.core.history ≡ cut_log entered
+  pub descriptor : new.core.descriptor ≡ old.core.descriptor
+  pub requests : new.core.requests ≡ []
+
+-- The members that aren't missing have too few votes to write, since a transfer to one has failed: the session has gone off.
+pub record EndsOff (entered : Log) (have total : ℕ) (old new : State) : Type 0 where
+  pub lost : HasLostQuorum old.core.status new.core.status old.device new.device have total
+  pub power : new.core.power ≡ power.Off
+  pub history : new.core.history ≡ entered
+  pub descriptor : new.core.descriptor ≡ old.core.descriptor
+  pub requests : new.core.requests ≡ []
+  pub ready : IsReady new.device
+  pub cuts : new.device.counts.cuts ≡ old.device.counts.cuts
+
+-- Nothing was heard of a transfer until the patience had run out.
+pub record EndsStuck (entered : Log) (patience : ℕ) (old new : State) : Type 0 where
+  pub out : IsGivenUp 0 patience old.device new.device
+  pub history : new.core.history ≡ entered
+  pub descriptor : new.core.descriptor ≡ old.core.descriptor
+  pub requests : new.core.requests ≡ []
+
+-- A transfer of the disk failed, and the session goes on with the descriptor and the history that it had.
+pub record EndsFailed (disk : ℕ) (old new : State) : Type 0 where
+  pub fault : Rose (old.device.counts.faults disk) (new.device.counts.faults disk)
+  pub is : new.core ≡ record old.core { status = new.core.status; homes = new.core.homes }
+  pub ready : IsReady new.device
+  pub cuts : new.device.counts.cuts ≡ old.device.counts.cuts
+
+-- ---- while the session goes on
+
+-- the session is on, and no request is open
+pub record TakesCommands (core : Core) : Type 0 where
+  pub on : core.power ≡ power.On
+  pub requests : core.requests ≡ []
+
+-- the command was answered, and the session is as on as it was
+abbrev pub IfOn : {A : Type 0} → Result A GroupFault → Type 0 → Type 0
+IfOn (Ok done) P = P
+IfOn (Err fault.Dark) P = Unit {0}
+IfOn (Err (fault.WentOff have total)) P = Unit {0}
+IfOn (Err fault.Stuck) P = Unit {0}
+IfOn (Err fault.Busy) P = P
+IfOn (Err fault.NoVolume) P = P
+IfOn (Err fault.VolumeExists) P = P
+IfOn (Err (fault.CopyLimit now)) P = P
+IfOn (Err (fault.LastFresh lp)) P = P
+IfOn (Err (fault.TooMany limit)) P = P
+IfOn (Err (fault.NoRoom free)) P = P
+IfOn (Err fault.HistoryFull) P = P
+IfOn (Err (fault.DiskFailed disk)) P = P
+IfOn (Err fault.Memory) P = P
+
+-- The disks hold what the session says, where they did, and their notes name what its cache does, where they did; no group but this one is found on them,
+-- where none was, and no copy is left behind on a member that is missing, where none was.
+pub record StillHeld (old new : State) : Type 0 where
+  pub held : IsHeld old.device old.core → IsHeld new.device new.core
+  pub notes : AreNotesHome old.device old.core → AreNotesHome new.device new.core
+  pub only : IsHeld old.device old.core → IsOnlyGroupOn old.device old.core.descriptor.id → IsOnlyGroupOn new.device new.core.descriptor.id
+  pub left : NoneIsLeft old.core.descriptor old.core.status → NoneIsLeft new.core.descriptor new.core.status
+
+-- ---- whatever the answer
+
+-- a span goes on where, if a volume's making or removal is entered, no group but this one is found on the disks
+abbrev pub IfAlone : State → State → ℕ → Moment → Type 0
+IfAlone old new run first = EntersVolumes old.core.history.facts new.core.history.facts → IsOnlyGroupSince run first old.device old.core.descriptor.id
+
+-- a command on volumes that may commit such descriptors, write zeros to such partitions and make them fresh, and spend so many numbers
+abbrev pub commanding : (Descriptor → Type 0) → (Pp → Type 0) → ℕ → Scope
+commanding N Z numbers = record { next = N; zeros = Z; stale = NoPartition; fresh = Z; numbers = numbers; lets = IfAlone }

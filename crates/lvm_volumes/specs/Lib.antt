@@ -1,0 +1,5 @@
+pub mod NewVolume
+pub mod Endings
+pub mod Volumes
+pub mod PlannedVolume
+pub mod Stages

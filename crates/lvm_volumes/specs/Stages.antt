@@ -1,0 +1,145 @@
+-- The stages in which a volume is made or removed on a session.
+use Rattle.std.specs.Prelude.{◌≡◌, ◌≢◌, ◌⊎◌, ℕ, ◌<◌, ◌≤◌, List, Result, Ok, Err, IsTrue, IsFalse, All, AllPairs}
+use Rattle.lvm_num.specs.declared.place.Pp.{Pp}
+use Rattle.lvm_num.specs.declared.descriptor.Descriptor.{Descriptor}
+use Rattle.lvm_num.specs.declared.status.Status.{Status}
+use Rattle.lvm_num.specs.Descriptor.{IsPartitionOf}
+use Rattle.lvm_num.specs.Status.{calls_stale, calls_missing}
+use Rattle.lvm_disk.specs.Counts.{Rose}
+use Rattle.lvm_disk.specs.Device.{IsReady}
+use Rattle.lvm_vol.specs.declared.entry.Vol.TheVariants.{Lv}
+use Rattle.lvm_vol.specs.Facts.{Making, Made, Removed}
+use Rattle.lvm_vol.specs.Log.{Log, with_fact}
+use Rattle.lvm_map.specs.FirstFit.{is_on}
+use Rattle.lvm_commit.specs.LawsOfData.{IsFree}
+use Rattle.lvm_core.specs.declared.fault.CommitFault.{CommitFault}
+use Rattle.lvm_core.specs.declared.fault.CommitFault.TheVariants as commit
+use Rattle.lvm_core.specs.State.{Core, State, is_there}
+use Rattle.lvm_core.specs.Settled.{IsSettled}
+use Rattle.lvm_core.specs.Committing.{HasGoneDark, IsLeftOut}
+use Rattle.lvm_core.specs.Zeros.{IsAsBefore}
+use Rattle.lvm_volumes.specs.declared.new_volume.NewVolume.{NewVolume}
+use Rattle.lvm_volumes.specs.declared.new_volume.VolumePlan.{VolumePlan}
+use Rattle.lvm_volumes.specs.Endings.{EndsDark, EndsOff, EndsStuck, EndsFailed}
+use Rattle.lvm_volumes.specs.PlannedVolume.{IsPlannedVolume}
+use Rattle.lvm_volumes.specs.Volumes.{AreZeroed, removing}
+
+-- ---- whatever comes of it
+
+-- the stage ended well, or a disk failed, and the session is on
+abbrev pub IfGoesOn : Result (Unit {0}) CommitFault → Type 0 → Type 0
+IfGoesOn (Ok done) P = P
+IfGoesOn (Err (commit.DiskFailed disk)) P = P
+IfGoesOn (Err commit.Dark) P = Unit {0}
+IfGoesOn (Err (commit.WentOff have total)) P = Unit {0}
+IfGoesOn (Err commit.Stuck) P = Unit {0}
+
+-- ---- zeros
+
+-- partitions of members that aren't missing, of no volume, and each once
+pub record AreUnusedOn (core : Core) (map : List Pp) : Type 0 where
+  pub there : All (λ (pp : Pp). IsTrue (is_there core pp.disk)) map
+  pub free : All (IsFree core.descriptor) map
+  pub places : All (IsPartitionOf core.descriptor) map
+  pub disks : All (λ (pp : Pp). pp.disk < 128) map
+  pub once : AllPairs (λ a b. a ≢ b) map
+
+-- zeros stand on all of them
+pub record HasZeroedAll (map : List Pp) (old new : State) : Type 0 where
+  pub same : IsAsBefore old new
+  pub zeros : AreZeroed old.core.descriptor.mib map new.device
+
+-- a transfer of a disk that has one failed, and of no other
+pub record HasFailedOn (map : List Pp) (disk : ℕ) (old new : State) : Type 0 where
+  pub same : IsAsBefore old new
+  pub its : IsTrue (is_on map disk)
+  pub others : (d : ℕ) → (d ≡ disk → ⊥) → new.device.counts.faults d ≡ old.device.counts.faults d
+  pub fault : Rose (old.device.counts.faults disk) (new.device.counts.faults disk)
+
+abbrev pub ZerosEnd : List Pp → ℕ → State → State → Result (Unit {0}) CommitFault → Type 0
+ZerosEnd map patience old new (Ok done) = HasZeroedAll map old new
+ZerosEnd map patience old new (Err (commit.DiskFailed disk)) = HasFailedOn map disk old new
+ZerosEnd map patience old new (Err commit.Dark) = HasGoneDark old new
+ZerosEnd map patience old new (Err commit.Stuck) = IsLeftOut patience old new
+ZerosEnd map patience old new (Err (commit.WentOff have total)) = ⊥
+
+-- ---- fresh zeros
+
+-- the lowest disk of the partitions that the status calls missing
+pub record IsLowestMissing (status : Status) (map : List Pp) (disk : ℕ) : Type 0 where
+  pub its : IsTrue (is_on map disk)
+  pub missing : IsTrue (calls_missing status disk)
+  pub lowest : (d : ℕ) → d < disk → IsTrue (is_on map d) → IsFalse (calls_missing status d)
+
+-- The partitions are zeros and fresh, on members that aren't missing.
+pub record AreCleared (map : List Pp) (old new : State) : Type 0 where
+  pub settled : IsSettled new.core
+  pub is : new.core ≡ record old.core { status = new.core.status; homes = new.core.homes }
+  pub there : All (λ (pp : Pp). IsTrue (is_there new.core pp.disk)) map
+  pub fresh : All (λ (pp : Pp). IsFalse (calls_stale new.core.status.committed pp)) map
+  pub zeros : AreZeroed old.core.descriptor.mib map new.device
+  pub ready : IsReady new.device
+  pub cuts : new.device.counts.cuts ≡ old.device.counts.cuts
+
+-- a disk that has one failed, and none of theirs below it
+pub record FailsOn (map : List Pp) (disk : ℕ) (old new : State) : Type 0 where
+  pub its : IsTrue (is_on map disk)
+  pub lowest : (d : ℕ) → d < disk → IsTrue (is_on map d) → new.device.counts.faults d ≡ old.device.counts.faults d
+  pub ends : EndsFailed disk old new
+  pub settled : IsSettled new.core
+
+-- how they came to be so, or didn't
+abbrev pub ClearEnds : List Pp → ℕ → State → State → Result (Unit {0}) CommitFault → Type 0
+ClearEnds map patience old new (Ok done) = AreCleared map old new
+ClearEnds map patience old new (Err (commit.DiskFailed disk)) = FailsOn map disk old new
+ClearEnds map patience old new (Err commit.Dark) = EndsDark old.core.history old new
+ClearEnds map patience old new (Err (commit.WentOff have total)) = EndsOff old.core.history have total old new
+ClearEnds map patience old new (Err commit.Stuck) = EndsStuck old.core.history patience old new
+
+-- ---- the whole making
+
+-- the history with the entry of the plan's volume
+abbrev pub making_of : VolumePlan → State → Log
+making_of plan s = with_fact s.core.history (Making plan.number plan.blocks plan.mode)
+
+-- what was entered before it broke off: nothing, or, once the partitions were zeros, that the volume is in the making
+pub record BreaksOff (plan : VolumePlan) (old new : State) (Ends : Log → Type 0) : Type 0 where
+  pub entered : Log
+  pub so_far : (entered ≡ old.core.history) ⊎ ((entered ≡ making_of plan old) × AreZeroed old.core.descriptor.mib plan.map new.device)
+  pub ends : Ends entered
+
+-- The descriptor with the volume is committed, its partitions are zeros and fresh, and both entries are made.
+pub record IsNamed (plan : VolumePlan) (old new : State) : Type 0 where
+  pub settled : IsSettled new.core
+  pub is : new.core ≡ record old.core { descriptor = plan.next; history = with_fact (making_of plan old) (Made plan.number); status = new.core.status; homes = new.core.homes }
+  pub fresh : All (λ (pp : Pp). IsFalse (calls_stale new.core.status.committed pp)) plan.map
+  pub zeros : AreZeroed old.core.descriptor.mib plan.map new.device
+  pub ready : IsReady new.device
+  pub cuts : new.device.counts.cuts ≡ old.device.counts.cuts
+
+abbrev pub MakeEnds : VolumePlan → ℕ → State → State → Result (Unit {0}) CommitFault → Type 0
+MakeEnds plan patience old new (Ok done) = IsNamed plan old new
+MakeEnds plan patience old new (Err (commit.DiskFailed disk)) = FailsOn plan.map disk old new
+MakeEnds plan patience old new (Err commit.Dark) = BreaksOff plan old new (λ entered. EndsDark entered old new)
+MakeEnds plan patience old new (Err (commit.WentOff have total)) = BreaksOff plan old new (λ entered. EndsOff entered have total old new)
+MakeEnds plan patience old new (Err commit.Stuck) = BreaksOff plan old new (λ entered. EndsStuck entered patience old new)
+
+-- nothing stands against a volume with this plan
+abbrev pub MayMake : Core → VolumePlan → Type 0
+MayMake core plan = (v : NewVolume) × IsPlannedVolume v core plan × (1 ≤ v.lps)
+
+-- ---- the whole removal
+
+-- The descriptor without the volume is committed, and both entries are made.
+pub record IsUnnamed (lv : ℕ) (next : Descriptor) (old new : State) : Type 0 where
+  pub settled : IsSettled new.core
+  pub is : new.core ≡ record old.core { descriptor = next; history = with_fact (removing lv old) (Removed (Lv lv)); status = new.core.status; homes = new.core.homes }
+  pub ready : IsReady new.device
+  pub cuts : new.device.counts.cuts ≡ old.device.counts.cuts
+
+abbrev pub RemoveEnds : ℕ → Descriptor → ℕ → State → State → Result (Unit {0}) CommitFault → Type 0
+RemoveEnds lv next patience old new (Ok done) = IsUnnamed lv next old new
+RemoveEnds lv next patience old new (Err commit.Dark) = EndsDark (removing lv old) old new
+RemoveEnds lv next patience old new (Err (commit.WentOff have total)) = EndsOff (removing lv old) have total old new
+RemoveEnds lv next patience old new (Err commit.Stuck) = EndsStuck (removing lv old) patience old new
+RemoveEnds lv next patience old new (Err (commit.DiskFailed disk)) = ⊥

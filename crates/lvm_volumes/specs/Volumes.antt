@@ -1,0 +1,239 @@
+-- What the making and the removal of a volume answer.
+use Rattle.std.specs.Prelude.{◌≡◌, ◌⊎◌, ℕ, ◌-◌, ◌^◌, ◌<◌, ◌≤◌, List, [], length, None, IsSome, Result, Ok, Err, IsTrue, IsFalse, All, Contains}
+use Rattle.lvm_num.specs.declared.place.Pp.{Pp}
+use Rattle.lvm_num.specs.declared.descriptor.Descriptor.{Descriptor}
+use Rattle.lvm_num.specs.Geometry.{volume_blocks}
+use Rattle.lvm_num.specs.Descriptor.{volume_of, most_volumes}
+use Rattle.lvm_num.specs.Status.{calls_stale}
+use Rattle.lvm_disk.specs.Device.{Device, IsReady}
+use Rattle.lvm_vol.specs.declared.entry.Vol.TheVariants.{Lv}
+use Rattle.lvm_vol.specs.Facts.{Making, Made, Removing, Removed}
+use Rattle.lvm_vol.specs.Log.{Log, with_fact, spare_entries}
+use Rattle.lvm_map.specs.FirstFit.{is_on, IsAllocated, HasNoPlace, free_count, new_volume}
+use Rattle.lvm_core.specs.State.{Core, State, is_there, votes_there}
+use Rattle.lvm_num.specs.Votes.{total_votes}
+use Rattle.lvm_core.specs.declared.request.Power.TheVariants as power
+use Rattle.lvm_core.specs.Looking.{IsNumberOf, HasNoVolume}
+use Rattle.lvm_core.specs.Zeros.{IsZeroed}
+use Rattle.lvm_volumes.specs.declared.fault.GroupFault.{GroupFault}
+use Rattle.lvm_volumes.specs.declared.fault.GroupFault.TheVariants as fault
+use Rattle.lvm_volumes.specs.declared.new_volume.NewVolume.{NewVolume}
+use Rattle.lvm_volumes.specs.NewVolume.{IsLowestFree, row_for, with_volume, without_volume}
+use Rattle.lvm_core.specs.Leaves.{Scope, NoPartition}
+use Rattle.lvm_volumes.specs.Endings.{TakesCommands, EndsDark, EndsOff, EndsStuck, EndsFailed, commanding}
+
+-- ---- what is refused before the first write
+
+-- how many sequence numbers are left for the stamps of the session's records
+abbrev pub numbers_left : Core → ℕ
+numbers_left core = 2 ^ 32 - 1 - core.status.stamp.seq
+
+-- two entries and 65,536 sequence numbers are left
+pub record HasRoom (core : Core) : Type 0 where
+  pub entries : 2 ≤ spare_entries core.history
+  pub numbers : 65536 ≤ numbers_left core
+
+-- The session takes a command, and the group has no volume of the name;
+pub record HasNewName (v : NewVolume) (core : Core) : Type 0 where
+  pub takes : TakesCommands core
+  pub new : HasNoVolume core.descriptor.lvs v.name
+
+-- one copy is asked for, since volumes of several aren't made yet;
+pub record HasOneCopy (v : NewVolume) (core : Core) : Type 0 where
+  pub named : HasNewName v core
+  pub one : v.copies ≡ 1
+
+-- the group may have a volume more;
+pub record HasNumber (v : NewVolume) (core : Core) : Type 0 where
+  pub single : HasOneCopy v core
+  pub fewer : length core.descriptor.lvs < most_volumes core.descriptor.big
+
+-- first fit finds these places on the members that aren't missing;
+pub record HasPlaces (v : NewVolume) (core : Core) (map : List Pp) : Type 0 where
+  pub numbered : HasNumber v core
+  pub placed : IsAllocated core.descriptor (is_there core) (new_volume v.lps v.copies) map
+
+-- and there is room for it in the history and among the numbers.
+pub record MayBeMade (v : NewVolume) (core : Core) (map : List Pp) : Type 0 where
+  pub places : HasPlaces v core map
+  pub room : HasRoom core
+
+-- why a session takes no command
+abbrev pub RefusesAll : Core → GroupFault → Type 0
+RefusesAll core fault.Dark = core.power ≡ power.Dark
+RefusesAll core (fault.WentOff have total) = (core.power ≡ power.Off) × (have ≡ votes_there core) × (total ≡ total_votes core.descriptor)
+RefusesAll core fault.Busy = (core.power ≡ power.On) × (core.requests ≡ [] → ⊥)
+RefusesAll core fault.NoVolume = ⊥
+RefusesAll core fault.VolumeExists = ⊥
+RefusesAll core (fault.CopyLimit now) = ⊥
+RefusesAll core (fault.LastFresh lp) = ⊥
+RefusesAll core (fault.TooMany limit) = ⊥
+RefusesAll core (fault.NoRoom free) = ⊥
+RefusesAll core fault.HistoryFull = ⊥
+RefusesAll core (fault.DiskFailed disk) = ⊥
+RefusesAll core fault.Stuck = ⊥
+RefusesAll core fault.Memory = ⊥
+
+-- why no volume is made, each cause exactly where it holds and those before it don't; want of memory, which is free, only where none holds that comes before places are looked for
+abbrev pub RefusesMklv : NewVolume → Core → GroupFault → Type 0
+RefusesMklv v core fault.VolumeExists = TakesCommands core × ((number : ℕ) × IsNumberOf core.descriptor.lvs v.name number)
+RefusesMklv v core (fault.CopyLimit now) = HasNewName v core × (v.copies ≡ 1 → ⊥) × (now ≡ 0)
+RefusesMklv v core (fault.TooMany limit) = HasOneCopy v core × (limit ≡ most_volumes core.descriptor.big) × (limit ≤ length core.descriptor.lvs)
+RefusesMklv v core (fault.NoRoom free) = HasNumber v core × HasNoPlace core.descriptor (is_there core) (new_volume v.lps v.copies) × (free ≡ free_count core.descriptor (is_there core))
+RefusesMklv v core fault.HistoryFull = ((map : List Pp) × HasPlaces v core map) × (HasRoom core → ⊥)
+RefusesMklv v core fault.Memory = HasNumber v core
+RefusesMklv v core fault.Dark = RefusesAll core fault.Dark
+RefusesMklv v core (fault.WentOff have total) = RefusesAll core (fault.WentOff have total)
+RefusesMklv v core fault.Busy = RefusesAll core fault.Busy
+RefusesMklv v core fault.NoVolume = ⊥
+RefusesMklv v core (fault.LastFresh lp) = ⊥
+RefusesMklv v core (fault.DiskFailed disk) = ⊥
+RefusesMklv v core fault.Stuck = ⊥
+
+-- nothing stands against a removal
+pub record MayBeRemoved (lv : ℕ) (core : Core) : Type 0 where
+  pub takes : TakesCommands core
+  pub there : IsSome (volume_of core.descriptor lv)
+  pub room : HasRoom core
+
+-- why none is removed; want of memory, which is free, only where nothing else stands against it
+abbrev pub RefusesRmlv : ℕ → Core → GroupFault → Type 0
+RefusesRmlv lv core fault.NoVolume = TakesCommands core × (volume_of core.descriptor lv ≡ None)
+RefusesRmlv lv core fault.HistoryFull = TakesCommands core × IsSome (volume_of core.descriptor lv) × (HasRoom core → ⊥)
+RefusesRmlv lv core fault.Memory = MayBeRemoved lv core
+RefusesRmlv lv core fault.Dark = RefusesAll core fault.Dark
+RefusesRmlv lv core (fault.WentOff have total) = RefusesAll core (fault.WentOff have total)
+RefusesRmlv lv core fault.Busy = RefusesAll core fault.Busy
+RefusesRmlv lv core fault.VolumeExists = ⊥
+RefusesRmlv lv core (fault.CopyLimit now) = ⊥
+RefusesRmlv lv core (fault.LastFresh lp) = ⊥
+RefusesRmlv lv core (fault.TooMany limit) = ⊥
+RefusesRmlv lv core (fault.NoRoom free) = ⊥
+RefusesRmlv lv core (fault.DiskFailed disk) = ⊥
+RefusesRmlv lv core fault.Stuck = ⊥
+
+-- nothing has happened, for this cause
+abbrev pub IsRefused : (Core → GroupFault → Type 0) → GroupFault → State → State → Type 0
+IsRefused Refuses why old new = (new ≡ old) × Refuses old.core why
+
+-- ---- the making
+
+-- a partition that first fit gives the volume
+abbrev pub IsChosen : NewVolume → Core → Pp → Type 0
+IsChosen v core pp = (map : List Pp) × HasPlaces v core map × Contains map pp
+
+-- the descriptor with the volume
+abbrev pub IsWith : NewVolume → Core → Descriptor → Type 0
+IsWith v core next = (map : List Pp) × HasPlaces v core map × ((lv : ℕ) × IsLowestFree core.descriptor lv × (next ≡ with_volume core.descriptor (row_for v lv map)))
+
+-- the partitions are zeros, where the media is told
+abbrev pub AreZeroed : ℕ → List Pp → Device → Type 0
+AreZeroed mib map device = All (λ pp. IsZeroed mib pp device) map
+
+-- the history with the entry that the volume is in the making
+abbrev pub making : NewVolume → ℕ → State → Log
+making v lv s = with_fact s.core.history (Making lv (volume_blocks s.core.descriptor.mib v.lps) v.mode)
+
+-- The volume of the lowest free number is made: the partitions that first fit gives it are zeros and fresh, the descriptor names it, and the history says
+-- so; members that became missing aside, and the copies that they left behind, nothing else of the session has changed.
+pub record IsVolumeMade (v : NewVolume) (lv : ℕ) (old new : State) : Type 0 where
+  pub map : List Pp
+  pub may : MayBeMade v old.core map
+  pub lowest : IsLowestFree old.core.descriptor lv
+  pub is : new.core ≡ record old.core {
+    descriptor = with_volume old.core.descriptor (row_for v lv map);
+    history = with_fact (making v lv old) (Made lv);
+    status = new.core.status;
+    homes = new.core.homes;
+  }
+  pub zeros : AreZeroed old.core.descriptor.mib map new.device
+  pub fresh : All (λ (pp : Pp). IsFalse (calls_stale new.core.status.committed pp)) map
+  pub ready : IsReady new.device
+  pub cuts : new.device.counts.cuts ≡ old.device.counts.cuts
+
+-- What was entered before it broke off: nothing, or, once its partitions were zeros, that the volume is in the making.
+abbrev pub HasEntered : NewVolume → List Pp → State → State → Log → Type 0
+HasEntered v map old new entered =
+    (entered ≡ old.core.history) ⊎ ((lv : ℕ) × IsLowestFree old.core.descriptor lv × (entered ≡ making v lv old) × AreZeroed old.core.descriptor.mib map new.device)
+
+-- Nothing stood against the volume, and its making broke off so.
+pub record MakingEnds (v : NewVolume) (old new : State) (Ends : Log → Type 0) : Type 0 where
+  pub map : List Pp
+  pub may : MayBeMade v old.core map
+  pub entered : Log
+  pub so_far : HasEntered v map old new entered
+  pub ends : Ends entered
+
+-- a disk on which the volume was to have a partition failed, and none of these below it
+pub record MakingFails (v : NewVolume) (disk : ℕ) (old new : State) : Type 0 where
+  pub map : List Pp
+  pub may : MayBeMade v old.core map
+  pub its : IsTrue (is_on map disk)
+  pub lowest : (d : ℕ) → d < disk → IsTrue (is_on map d) → new.device.counts.faults d ≡ old.device.counts.faults d
+  pub ends : EndsFailed disk old new
+
+-- what it may do: commit the descriptor with the volume, and write zeros to its partitions and make them fresh
+abbrev pub to_make : NewVolume → Core → Scope
+to_make v core = commanding (IsWith v core) (IsChosen v core) 2
+
+-- the volume's number, or why it wasn't made
+abbrev pub MklvGives : NewVolume → ℕ → State → State → Result ℕ GroupFault → Type 0
+MklvGives v patience old new (Ok lv) = IsVolumeMade v lv old new
+MklvGives v patience old new (Err fault.Dark) = IsRefused (RefusesMklv v) fault.Dark old new ⊎ MakingEnds v old new (λ entered. EndsDark entered old new)
+MklvGives v patience old new (Err (fault.WentOff have total)) = IsRefused (RefusesMklv v) (fault.WentOff have total) old new ⊎ MakingEnds v old new (λ entered. EndsOff entered have total old new)
+MklvGives v patience old new (Err fault.Stuck) = MakingEnds v old new (λ entered. EndsStuck entered patience old new)
+MklvGives v patience old new (Err (fault.DiskFailed disk)) = MakingFails v disk old new
+MklvGives v patience old new (Err fault.Busy) = IsRefused (RefusesMklv v) fault.Busy old new
+MklvGives v patience old new (Err fault.NoVolume) = ⊥
+MklvGives v patience old new (Err fault.VolumeExists) = IsRefused (RefusesMklv v) fault.VolumeExists old new
+MklvGives v patience old new (Err (fault.CopyLimit now)) = IsRefused (RefusesMklv v) (fault.CopyLimit now) old new
+MklvGives v patience old new (Err (fault.LastFresh lp)) = ⊥
+MklvGives v patience old new (Err (fault.TooMany limit)) = IsRefused (RefusesMklv v) (fault.TooMany limit) old new
+MklvGives v patience old new (Err (fault.NoRoom free)) = IsRefused (RefusesMklv v) (fault.NoRoom free) old new
+MklvGives v patience old new (Err fault.HistoryFull) = IsRefused (RefusesMklv v) fault.HistoryFull old new
+MklvGives v patience old new (Err fault.Memory) = IsRefused (RefusesMklv v) fault.Memory old new
+
+-- ---- the removal
+
+-- the history with the entry that the volume is being removed
+abbrev pub removing : ℕ → State → Log
+removing lv s = with_fact s.core.history (Removing (Lv lv))
+
+-- The volume is removed: the descriptor names it no more, and the history says so; members that became missing aside, and the copies that they left behind,
+-- nothing else of the session has changed.
+pub record IsVolumeRemoved (lv : ℕ) (old new : State) : Type 0 where
+  pub may : MayBeRemoved lv old.core
+  pub is : new.core ≡ record old.core {
+    descriptor = without_volume old.core.descriptor lv;
+    history = with_fact (removing lv old) (Removed (Lv lv));
+    status = new.core.status;
+    homes = new.core.homes;
+  }
+  pub ready : IsReady new.device
+  pub cuts : new.device.counts.cuts ≡ old.device.counts.cuts
+
+-- its removal was entered, and broke off so
+pub record RemovalEnds (lv : ℕ) (old : State) (Ends : Log → Type 0) : Type 0 where
+  pub may : MayBeRemoved lv old.core
+  pub ends : Ends (removing lv old)
+
+-- what it may do: commit the descriptor without the volume
+abbrev pub to_remove : ℕ → Core → Scope
+to_remove lv core = commanding (λ next. next ≡ without_volume core.descriptor lv) NoPartition 1
+
+-- that it is removed, or why it isn't
+abbrev pub RmlvGives : ℕ → ℕ → State → State → Result (Unit {0}) GroupFault → Type 0
+RmlvGives lv patience old new (Ok done) = IsVolumeRemoved lv old new
+RmlvGives lv patience old new (Err fault.Dark) = IsRefused (RefusesRmlv lv) fault.Dark old new ⊎ RemovalEnds lv old (λ entered. EndsDark entered old new)
+RmlvGives lv patience old new (Err (fault.WentOff have total)) = IsRefused (RefusesRmlv lv) (fault.WentOff have total) old new ⊎ RemovalEnds lv old (λ entered. EndsOff entered have total old new)
+RmlvGives lv patience old new (Err fault.Stuck) = RemovalEnds lv old (λ entered. EndsStuck entered patience old new)
+RmlvGives lv patience old new (Err (fault.DiskFailed disk)) = ⊥
+RmlvGives lv patience old new (Err fault.Busy) = IsRefused (RefusesRmlv lv) fault.Busy old new
+RmlvGives lv patience old new (Err fault.NoVolume) = IsRefused (RefusesRmlv lv) fault.NoVolume old new
+RmlvGives lv patience old new (Err fault.VolumeExists) = ⊥
+RmlvGives lv patience old new (Err (fault.CopyLimit now)) = ⊥
+RmlvGives lv patience old new (Err (fault.LastFresh lp)) = ⊥
+RmlvGives lv patience old new (Err (fault.TooMany limit)) = ⊥
+RmlvGives lv patience old new (Err (fault.NoRoom free)) = ⊥
+RmlvGives lv patience old new (Err fault.HistoryFull) = IsRefused (RefusesRmlv lv) fault.HistoryFull old new
+RmlvGives lv patience old new (Err fault.Memory) = IsRefused (RefusesRmlv lv) fault.Memory old new

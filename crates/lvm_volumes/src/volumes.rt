@@ -1,0 +1,205 @@
+//! The making and the removal of volumes.
+ghost use Rattle.std.specs.Prelude.{◌≡◌, ◌<◌, ◌-◌, ◌≤◌, false, IfSome, IfNone, All, Contains};
+ghost use Rattle.lvm_num.specs.declared.place.Pp.{Pp};
+ghost use Rattle.lvm_num.specs.Status.{calls_missing};
+ghost use Rattle.lvm_disk.specs.Device.{IsReady};
+ghost use Rattle.lvm_map.specs.FirstFit.{is_on};
+ghost use Rattle.lvm_core.specs.State.{state_of};
+ghost use Rattle.lvm_core.specs.Leaves.{Leaves, NoDescriptor, NoPartition};
+ghost use Rattle.lvm_core.specs.Settled.{IsSettled, HasSpareNumbers};
+ghost use Rattle.lvm_volumes.specs.Endings.{TakesCommands, IfOn, StillHeld, commanding};
+ghost use Rattle.lvm_volumes.specs.PlannedVolume.{IsOneGroup, IsWithout};
+ghost use Rattle.lvm_volumes.specs.Stages.{IfGoesOn, AreUnusedOn, IsLowestMissing, ZerosEnd, ClearEnds, MakeEnds, MayMake, RemoveEnds};
+ghost use Rattle.lvm_volumes.specs.Volumes.{MklvGives, RmlvGives, to_make, to_remove};
+
+use crate::fault::GroupFault;
+use crate::new_volume::{NewVolume, VolumePlan, prepare_without};
+use lvm_core::{CommitFault, Driver, Prepared};
+use lvm_disk::Shelf;
+use lvm_num::{Mode, Name, Policy, Pp};
+use lvm_stale::StaleTable;
+use lvm_transfer::Patience;
+use lvm_vol::{Entry, Vol};
+use std::alloc::Global;
+
+// The most disks of a shelf.
+const DISKS: u16 = 128;
+
+/// Makes a volume of the group that is on, and answers its number, the lowest that is free. Its partitions are
+/// those of first fit on the members that aren't missing. They become fresh, and zeros are written to them; then
+/// the descriptor that names the volume is committed, between the two entries of it. All memory is taken before
+/// the first write. Volumes of several copies, or whose copies are made equal after a crash, aren't made
+/// yet.
+///
+/// The causes, in their order: `Dark` and `WentOff`, where the session is over; `Busy`, where a request is open;
+/// `VolumeExists`, where a volume has the name; `CopyLimit`, where not one copy is asked for; `TooMany`, where the
+/// group has as many volumes as it may; `NoRoom`, where first fit finds no place; `HistoryFull`, with fewer than
+/// two entries to spare or than 65,536 sequence numbers; and from the first write on `Dark`, `WentOff`, `Stuck`,
+/// and `DiskFailed`, where a disk failed on which the volume was to have a partition: the volume isn't made then.
+/// `Memory` may come before the first write, where none of the causes before `NoRoom` holds.
+///
+/// A member to which a record can't be written becomes missing; its fresh copies become stale where another copy of
+/// their logical partition is usable.
+pub fn mklv<S: Shelf>(
+    alloc: Global,
+    driver: &mut Driver<S>,
+    name: Name,
+    copies: u8,
+    mode: Mode,
+    policy: Policy,
+    lps: u32,
+    patience: &mut Patience,
+) -> Result<u16, GroupFault>
+    // where nothing is open, nothing is under way
+    requires settled { TakesCommands driver.old.1 → IsSettled driver.old.1 }
+    requires off { mode ≡ Mode.Off }
+    requires some { 1 ≤ lps }
+    ensures gives { MklvGives (record { name = name; copies = copies; mode = mode; policy = policy; lps = lps }) patience.old.left (state_of S.device driver.old) (state_of S.device driver.new) result }
+    ensures settled { TakesCommands driver.old.1 → IfOn result (IsSettled driver.new.1) }
+    ensures held { IfOn result (StillHeld (state_of S.device driver.old) (state_of S.device driver.new)) }
+    // whatever the answer
+    ensures leaves { Leaves (to_make (record { name = name; copies = copies; mode = mode; policy = policy; lps = lps }) driver.old.1) patience.old.left patience.new.left (state_of S.device driver.old) (state_of S.device driver.new) }
+{
+    let v = NewVolume {
+        name,
+        copies,
+        mode,
+        policy,
+        lps,
+    };
+    let plan = VolumePlan::new(alloc, driver, &v)?;
+    let number = plan.number;
+    make(driver, plan, patience)?;
+    Ok(number)
+}
+
+/// Removes a volume of the group that is on: the descriptor without it is committed, between the two entries of its
+/// removal. All memory is taken before the first write.
+///
+/// The causes, in their order: `Dark` and `WentOff`, where the session is over; `Busy`, where a request is open;
+/// `NoVolume`, where the group has none of the number; `HistoryFull`, with fewer than two entries to spare or than
+/// 65,536 sequence numbers; and from the first write on `Dark`, `WentOff` and `Stuck`. `Memory` may come before the
+/// first write, where none of the causes before it holds. Members become missing, and copies stale, as by `mklv`.
+pub fn rmlv<S: Shelf>(
+    alloc: Global,
+    driver: &mut Driver<S>,
+    lv: u16,
+    patience: &mut Patience,
+) -> Result<(), GroupFault>
+    // where nothing is open, nothing is under way
+    requires settled { TakesCommands driver.old.1 → IsSettled driver.old.1 }
+    ensures gives { RmlvGives lv patience.old.left (state_of S.device driver.old) (state_of S.device driver.new) result }
+    ensures settled { TakesCommands driver.old.1 → IfOn result (IsSettled driver.new.1) }
+    ensures held { IfOn result (StillHeld (state_of S.device driver.old) (state_of S.device driver.new)) }
+    // whatever the answer
+    ensures leaves { Leaves (to_remove lv driver.old.1) patience.old.left patience.new.left (state_of S.device driver.old) (state_of S.device driver.new) }
+{
+    let next = prepare_without(alloc, driver, lv)?;
+    remove(driver, lv, next, patience)?;
+    Ok(())
+}
+
+// Makes the volume of a plan.
+fn make<S: Shelf>(
+    driver: &mut Driver<S>,
+    plan: VolumePlan,
+    patience: &mut Patience,
+) -> Result<(), CommitFault>
+    requires settled { IsSettled driver.old.1 }
+    requires may { MayMake driver.old.1 plan }
+    ensures ends { MakeEnds plan patience.old.left (state_of S.device driver.old) (state_of S.device driver.new) result }
+    ensures held { IfGoesOn result (StillHeld (state_of S.device driver.old) (state_of S.device driver.new)) }
+    ensures leaves { Leaves (commanding (λ next. next ≡ plan.next) (Contains plan.map) 2) patience.old.left patience.new.left (state_of S.device driver.old) (state_of S.device driver.new) }
+{
+    clear(driver, plan.map.as_slice(), patience)?;
+    let lv = plan.number;
+    driver.enter(Entry::Making {
+        lv,
+        blocks: plan.blocks,
+        mode: plan.mode,
+    });
+    driver.commit(plan.next, patience)?;
+    driver.enter(Entry::Made { lv });
+    Ok(())
+}
+
+// Removes a volume, by the descriptor without it.
+fn remove<S: Shelf>(
+    driver: &mut Driver<S>,
+    lv: u16,
+    next: Prepared,
+    patience: &mut Patience,
+) -> Result<(), CommitFault>
+    requires settled { IsSettled driver.old.1 }
+    requires without { IsWithout lv driver.old.1 next }
+    ensures ends { RemoveEnds lv next patience.old.left (state_of S.device driver.old) (state_of S.device driver.new) result }
+    ensures held { IfGoesOn result (StillHeld (state_of S.device driver.old) (state_of S.device driver.new)) }
+    ensures leaves { Leaves (commanding (λ d. d ≡ next) NoPartition 1) patience.old.left patience.new.left (state_of S.device driver.old) (state_of S.device driver.new) }
+{
+    let vol = Vol::Lv(lv);
+    driver.enter(Entry::Removing { vol });
+    driver.commit(next, patience)?;
+    driver.enter(Entry::Removed { vol });
+    Ok(())
+}
+
+// Makes partitions fresh, and writes zeros to them.
+fn clear<S: Shelf>(
+    driver: &mut Driver<S>,
+    map: &[Pp],
+    patience: &mut Patience,
+) -> Result<(), CommitFault>
+    requires settled { IsSettled driver.old.1 }
+    requires numbers { HasSpareNumbers driver.old.1 }
+    requires group { IsOneGroup driver.old.1 }
+    requires unused { AreUnusedOn driver.old.1 map.now }
+    ensures ends { ClearEnds map.now patience.old.left (state_of S.device driver.old) (state_of S.device driver.new) result }
+    ensures held { IfGoesOn result (StillHeld (state_of S.device driver.old) (state_of S.device driver.new)) }
+    ensures leaves { Leaves (commanding NoDescriptor (Contains map.now) 1) patience.old.left patience.new.left (state_of S.device driver.old) (state_of S.device driver.new) }
+{
+    driver.set_status(&[], map, patience)?;
+    if let Some(disk) = lowest_missing(driver.table(), map) {
+        return Err(CommitFault::DiskFailed { disk });
+    }
+    zero_all(driver, map, patience)
+}
+
+// The lowest of the partitions' disks that a table calls missing.
+fn lowest_missing(table: &StaleTable, map: &[Pp]) -> Option<u16>
+    requires { All (λ (pp : Pp). pp.disk < 128) map.now }
+    ensures some { IfSome result (IsLowestMissing table.now map.now) }
+    ensures none { IfNone result (All (λ (pp : Pp). calls_missing table.now pp.disk ≡ false) map.now) }
+{
+    for disk in 0..DISKS {
+        if is_on(map, disk) && table.is_missing(disk) {
+            return Some(disk);
+        }
+    }
+    None
+}
+
+// Whether one of the partitions is on the disk.
+fn is_on(map: &[Pp], disk: u16) -> bool
+    ensures { result ≡ is_on map.now disk }
+{
+    map.iter().any(|pp| pp.disk == disk)
+}
+
+// Writes zeros to partitions, until a disk fails.
+fn zero_all<S: Shelf>(
+    driver: &mut Driver<S>,
+    map: &[Pp],
+    patience: &mut Patience,
+) -> Result<(), CommitFault>
+    requires settled { IsSettled driver.old.1 }
+    requires ready { IsReady (S.device driver.old.0) }
+    requires unused { AreUnusedOn driver.old.1 map.now }
+    ensures ends { ZerosEnd map.now patience.old.left (state_of S.device driver.old) (state_of S.device driver.new) result }
+    ensures held { IfGoesOn result (StillHeld (state_of S.device driver.old) (state_of S.device driver.new)) }
+    ensures leaves { Leaves (commanding NoDescriptor (Contains map.now) 0) patience.old.left patience.new.left (state_of S.device driver.old) (state_of S.device driver.new) }
+{
+    for pp in map {
+        driver.zero(*pp, patience)?;
+    }
+    Ok(())
+}
