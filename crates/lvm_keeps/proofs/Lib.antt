@@ -6,6 +6,7 @@ mod Numbers
 mod Telling
 mod Tables
 mod Rows
+mod Ending
 pub mod Pin
 pub mod PinFalls
 pub mod Close
@@ -18,3 +19,4 @@ pub mod Begin
 pub mod Bounding
 pub mod LandingFalls
 pub mod Noting
+pub mod Off

@@ -1,7 +1,7 @@
 //! Laws: what each event of a sound session leaves is sound.
 ghost use Rattle.lvm_keeps.specs.Begins.{BeginningIsSound};
 ghost use Rattle.lvm_keeps.specs.Falls.{LandingFalls, LeftIsBounded, PinFalls};
-ghost use Rattle.lvm_keeps.specs.Keeps.{CloseKeeps, FirstStartIsNoted, FirstStartIsWhole, LandingIsCaused, LossIsCaused, PinKeeps, TakeKeeps, WaitKeeps};
+ghost use Rattle.lvm_keeps.specs.Keeps.{CloseKeeps, FirstStartIsNoted, FirstStartIsWhole, LandingIsCaused, LossIsCaused, OffKeeps, PinKeeps, TakeKeeps, WaitKeeps};
 
 /// A session is sound as it begins.
 pub fn beginning_is_sound()
@@ -21,6 +21,11 @@ pub fn close_keeps()
 /// So does a turn in which no transfer has ended.
 pub fn wait_keeps()
     ensures { WaitKeeps }
+{}
+
+/// So does the end of a session whose votes are lost.
+pub fn off_keeps()
+    ensures { OffKeeps }
 {}
 
 /// So does a request whose answer is taken, also in a session that is over.

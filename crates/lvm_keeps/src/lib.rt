@@ -5,6 +5,6 @@ mod laws;
 
 pub use laws::{
     beginning_is_sound, close_keeps, first_start_is_noted, first_start_is_whole, landing_falls,
-    landing_is_caused, left_is_bounded, loss_is_caused, pin_falls, pin_keeps, take_keeps,
-    wait_keeps,
+    landing_is_caused, left_is_bounded, loss_is_caused, off_keeps, pin_falls, pin_keeps,
+    take_keeps, wait_keeps,
 };
