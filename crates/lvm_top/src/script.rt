@@ -10,11 +10,11 @@ ghost use Rattle.lvm_top.specs.Script.{Says, is_refused, passage};
 ghost use Rattle.lvm_top.specs.Statuses.{GoesUntil};
 ghost use Rattle.lvm_top.specs.Turn.{ReadsLine, ReadsNone, Tells};
 
+use lvm_commands::{Refusal, Reply, Stage, memory_text, refusal_line};
 use lvm_core::Room;
 use lvm_disk::Shelf;
 use lvm_io::{Clock, Lines, NextLine, Sink, SinkFault, Source, write_all};
 use lvm_line::{answer_line, do_line};
-use lvm_commands::{Refusal, Reply, Stage, memory_text, refusal_line};
 use lvm_num::{Memory, Rows};
 use std::alloc::Global;
 
