@@ -1,7 +1,7 @@
 -- How the copy that is open ends.
 use Rattle.std.specs.Prelude.{◌≡◌, ℕ, true, false, Option, Some, None, IfSome, is_some, if◌then◌else◌}
 use Rattle.lvm_num.specs.Buffer.{Buffer}
-use Rattle.lvm_hold.specs.Waiting.{IsInside, Waiting, without}
+use Rattle.lvm_hold.specs.Waiting.{Waiting, without}
 use Rattle.lvm_status.specs.Calls.{IsMarkable}
 use Rattle.lvm_status.specs.Runs.{IsSound as IsSoundStatus}
 use Rattle.lvm_status.specs.Update.{seen}
@@ -15,9 +15,8 @@ use Rattle.lvm_stale.specs.Table.{is_pp}
 use Rattle.lvm_session.specs.Bringing.{hand_of, is_out, marked_by_end, with_copy_end}
 use Rattle.lvm_over.specs.Hands.{IsOutIf}
 
--- the copy that is open has its step in the queue where no transfer of it is out, has in hand what is out, and lies where it can be marked
+-- what the copy that is open has in hand is out, and its partition can be marked
 pub record CanEnd (core : Core) (c : OpenCopy) : Type 0 where
-  pub inside : is_out c.step ≡ false → IsInside core.queue.rows c.place
   pub hand : IsOutIf core.pool (hand_of c.step)
   pub markable : IsMarkable core.status.wanted c.pp
 

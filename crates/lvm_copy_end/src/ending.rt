@@ -1,6 +1,6 @@
 //! What the end of the copy makes of a session.
-ghost use Rattle.std.specs.Prelude.{◌≡◌, None, Some, IfSome};
-ghost use Rattle.lvm_hold.specs.Waiting.{IsInside};
+ghost use Rattle.std.specs.Prelude.{◌≡◌, None, Some};
+ghost use Rattle.lvm_hold.specs.Waiting.{without};
 ghost use Rattle.lvm_session.specs.declared.bringing.OpenCopy.{OpenCopy};
 ghost use Rattle.lvm_session.specs.Bringing.{marked_by_end, with_end};
 ghost use Rattle.lvm_session.specs.Fields.{core_of};
@@ -67,12 +67,21 @@ fn quit(copy: &mut Option<OpenCopy>, how: CopyEnd) -> GivenUp
     }
 }
 
+// The one at a place of the queue leaves it, if one is there.
+fn leave_if_inside(queue: &mut Queue, place: u64)
+    ensures { queue.new ≡ record queue.old { rows = without place queue.old.rows } }
+{
+    if queue.has(place) {
+        queue.leave(place);
+    }
+}
+
 fn leave(queue: &mut Queue, place: Option<u64>)
-    requires { IfSome place (IsInside queue.old.rows) }
     ensures { queue.new ≡ left_by queue.old place }
 {
-    if let Some(place) = place {
-        queue.leave(place);
+    match place {
+        None => {}
+        Some(place) => leave_if_inside(queue, place),
     }
 }
 

@@ -64,7 +64,7 @@ may_still old due status may marks = record { sound = sound_after due old.status
   where
     by_copy : (copy : Option OpenCopy) → IfSome copy (CanEnd old) → IfSome copy (CanEnd (record old { status = status }))
     by_copy None can = tt
-    by_copy (Some c) can = record { inside = can.inside; hand = can.hand; markable = markable_on old.status.wanted status.wanted c.pp marks.rows can.markable }
+    by_copy (Some c) can = record { hand = can.hand; markable = markable_on old.status.wanted status.wanted c.pp marks.rows can.markable }
 
 -- what is read at a place is the request there
 pub read_same : (os : List Open) (k : ℕ) (r o : Open) → slice_get os k ≡ Some o → r ≡ slice_index_or os k r → r ≡ o
