@@ -20,3 +20,5 @@ pub mod Bounding
 pub mod LandingFalls
 pub mod Noting
 pub mod Off
+pub mod Darkening
+pub mod Orders

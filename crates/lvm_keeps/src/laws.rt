@@ -1,7 +1,7 @@
 //! Laws: what each event of a sound session leaves is sound.
 ghost use Rattle.lvm_keeps.specs.Begins.{BeginningIsSound};
 ghost use Rattle.lvm_keeps.specs.Falls.{LandingFalls, LeftIsBounded, PinFalls};
-ghost use Rattle.lvm_keeps.specs.Keeps.{CloseKeeps, FirstStartIsNoted, FirstStartIsWhole, LandingIsCaused, LossIsCaused, OffKeeps, PinKeeps, TakeKeeps, WaitKeeps};
+ghost use Rattle.lvm_keeps.specs.Keeps.{CloseKeeps, CutKeeps, FirstStartIsNoted, FirstStartIsWhole, LandingIsCaused, LossIsCaused, OffKeeps, OrderKeeps, PinKeeps, TakeKeeps, WaitKeeps};
 
 /// A session is sound as it begins.
 pub fn beginning_is_sound()
@@ -26,6 +26,16 @@ pub fn wait_keeps()
 /// So does the end of a session whose votes are lost.
 pub fn off_keeps()
     ensures { OffKeeps }
+{}
+
+/// So does the end of a session whose power is found off, or cut.
+pub fn cut_keeps()
+    ensures { CutKeeps }
+{}
+
+/// So does an order that a client gives to the shelf, also where the session is over.
+pub fn order_keeps()
+    ensures { OrderKeeps }
 {}
 
 /// So does a request whose answer is taken, also in a session that is over.
