@@ -7,6 +7,7 @@ mod Telling
 mod Tables
 mod Rows
 mod Ending
+mod Launching
 pub mod Pin
 pub mod PinFalls
 pub mod Close
@@ -22,3 +23,4 @@ pub mod Noting
 pub mod Off
 pub mod Darkening
 pub mod Orders
+pub mod CopyRead

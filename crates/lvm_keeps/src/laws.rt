@@ -1,7 +1,7 @@
 //! Laws: what each event of a sound session leaves is sound.
 ghost use Rattle.lvm_keeps.specs.Begins.{BeginningIsSound};
 ghost use Rattle.lvm_keeps.specs.Falls.{LandingFalls, LeftIsBounded, PinFalls};
-ghost use Rattle.lvm_keeps.specs.Keeps.{CloseKeeps, CutKeeps, FirstStartIsNoted, FirstStartIsWhole, LandingIsCaused, LossIsCaused, OffKeeps, OrderKeeps, PinKeeps, TakeKeeps, WaitKeeps};
+ghost use Rattle.lvm_keeps.specs.Keeps.{CloseKeeps, CopyReadKeeps, CutKeeps, FirstStartIsNoted, FirstStartIsWhole, LandingIsCaused, LossIsCaused, OffKeeps, OrderKeeps, PinKeeps, TakeKeeps, WaitKeeps};
 
 /// A session is sound as it begins.
 pub fn beginning_is_sound()
@@ -11,6 +11,11 @@ pub fn beginning_is_sound()
 /// A request that pins its track group leaves the session sound.
 pub fn pin_keeps()
     ensures { PinKeeps }
+{}
+
+/// So does the start of a read by which a copy is brought up.
+pub fn copy_read_keeps()
+    ensures { CopyReadKeeps }
 {}
 
 /// A copy that is closed leaves the session sound.
