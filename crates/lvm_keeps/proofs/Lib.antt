@@ -8,6 +8,7 @@ mod Tables
 mod Rows
 mod Ending
 mod Launching
+mod Noted
 pub mod Pin
 pub mod PinFalls
 pub mod Close
@@ -24,3 +25,4 @@ pub mod Off
 pub mod Darkening
 pub mod Orders
 pub mod CopyRead
+pub mod NoteStart

@@ -1,7 +1,7 @@
 //! Laws: what each event of a sound session leaves is sound.
 ghost use Rattle.lvm_keeps.specs.Begins.{BeginningIsSound};
 ghost use Rattle.lvm_keeps.specs.Falls.{LandingFalls, LeftIsBounded, PinFalls};
-ghost use Rattle.lvm_keeps.specs.Keeps.{CloseKeeps, CopyReadKeeps, CutKeeps, FirstStartIsNoted, FirstStartIsWhole, LandingIsCaused, LossIsCaused, OffKeeps, OrderKeeps, PinKeeps, TakeKeeps, WaitKeeps};
+ghost use Rattle.lvm_keeps.specs.Keeps.{CloseKeeps, CopyReadKeeps, CutKeeps, FirstStartIsNoted, FirstStartIsWhole, LandingIsCaused, LossIsCaused, NoteStartKeeps, OffKeeps, OrderKeeps, PinKeeps, TakeKeeps, WaitKeeps};
 
 /// A session is sound as it begins.
 pub fn beginning_is_sound()
@@ -16,6 +16,11 @@ pub fn pin_keeps()
 /// So does the start of a read by which a copy is brought up.
 pub fn copy_read_keeps()
     ensures { CopyReadKeeps }
+{}
+
+/// So does the start of a note's write.
+pub fn note_start_keeps()
+    ensures { NoteStartKeeps }
 {}
 
 /// A copy that is closed leaves the session sound.
