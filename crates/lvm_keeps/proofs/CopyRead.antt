@@ -74,6 +74,30 @@ goes_on true false true z i d runs short e = e
 goes_on true false false true i d runs short e = e
 goes_on true false false false i d runs short e = refl
 
+-- ---- where it may be started
+
+module _ (core : Core) (c : OpenCopy) (may : may_read core c ≡ true) where
+  pub parts : (is_running c && not (is_whole core c) && is_idle c.step ≡ true) × (is_free_step core c ≡ true)
+  parts = both (is_running c && not (is_whole core c) && is_idle c.step) (is_free_step core c) (both (is_running c && not (is_whole core c) && is_idle c.step && is_free_step core c) _ may).0
+
+  pub runs : (is_running c && not (is_whole core c) ≡ true) × (is_idle c.step ≡ true)
+  runs = both (is_running c && not (is_whole core c)) (is_idle c.step) parts.0
+
+  pub running : is_running c ≡ true
+  running = (both (is_running c) (not (is_whole core c)) runs.0).0
+
+  pub short : is_whole core c ≡ false
+  short = is_false (is_whole core c) (both (is_running c) (not (is_whole core c)) runs.0).1
+
+  idle : (at : Step) → is_idle at ≡ true → at ≡ step.Idle
+  idle step.Idle e = refl
+  idle (step.Reading p) e = not_so e
+  idle (step.Read buf) e = not_so e
+  idle step.Writing e = not_so e
+
+  pub at_rest : c.step ≡ step.Idle
+  at_rest = idle c.step runs.1
+
 module _ (s : State) (sound : IsSound s) (on : s.core.power ≡ power.On) (c : OpenCopy) (is : s.core.copy ≡ Some c) (may : may_read s.core c ≡ true) (source : Pp) (source_is : next_source s.core c ≡ Some source)
     (f : Flight) (reads : IsCopyTransfer s.core c source false f) (long : length f.buf.sectors ≡ 256) (free : slice_get s.core.pool f.buf.number ≡ Some false) (fresh : IsFresh f.ticket s.device.flights)
     (starts : ℕ → ℕ) (wrote : Option (List Range)) where
@@ -104,27 +128,6 @@ module _ (s : State) (sound : IsSound s) (on : s.core.power ≡ power.On) (c : O
   -- what is open is this copy
   of_copy : {A : Type 0} (t : OpenCopy → A) (none : A) → option_map_or t core.copy none ≡ t c
   of_copy t none = ap (λ m. option_map_or t m none) is
-
-  parts : (is_running c && not (is_whole core c) && is_idle c.step ≡ true) × (is_free_step core c ≡ true)
-  parts = both (is_running c && not (is_whole core c) && is_idle c.step) (is_free_step core c) (both (is_running c && not (is_whole core c) && is_idle c.step && is_free_step core c) _ may).0
-
-  runs : (is_running c && not (is_whole core c) ≡ true) × (is_idle c.step ≡ true)
-  runs = both (is_running c && not (is_whole core c)) (is_idle c.step) parts.0
-
-  running : is_running c ≡ true
-  running = (both (is_running c) (not (is_whole core c)) runs.0).0
-
-  short : is_whole core c ≡ false
-  short = is_false (is_whole core c) (both (is_running c) (not (is_whole core c)) runs.0).1
-
-  idle : (at : Step) → is_idle at ≡ true → at ≡ step.Idle
-  idle step.Idle e = refl
-  idle (step.Reading p) e = not_so e
-  idle (step.Read buf) e = not_so e
-  idle step.Writing e = not_so e
-
-  at_rest : c.step ≡ step.Idle
-  at_rest = idle c.step runs.1
 
   found : (not (has c.tried source.disk) ≡ true) × (not (is_pp source c.pp) && is_usable core source ≡ true) × (is_among (copies_in core.descriptor c.lv c.lp) source ≡ true)
   found = found_in (λ (p : Pp). not (has c.tried p.disk)) (λ (p : Pp). not (is_pp p c.pp) && is_usable core p) (copies_in core.descriptor c.lv c.lp) source source_is
@@ -165,7 +168,7 @@ module _ (s : State) (sound : IsSound s) (on : s.core.power ≡ power.On) (c : O
     faults = its.faults;
     place = its.place;
     room = tt;
-    free = λ e. parts.1;
+    free = λ e. (parts core c may).1;
     hand = λ e. refl;
     tried = its.tried;
     source = (found.2, is_false (is_pp source c.pp) (both (not (is_pp source c.pp)) (is_usable core source) found.1).0, is_false (has c.tried source.disk) found.0);
@@ -182,7 +185,7 @@ module _ (s : State) (sound : IsSound s) (on : s.core.power ≡ power.On) (c : O
       omega (arith, more, none)
 
   none_out : flies core owner.Copy ≡ false
-  none_out = of_copy (λ (k : OpenCopy). is_out k.step) false ∙ ap is_out at_rest
+  none_out = of_copy (λ (k : OpenCopy). is_out k.step) false ∙ ap is_out (at_rest core c may)
 
   owned : AreOwned now.core
   owned (owner.Data id target) = none_more (owner.Data id target) refl ∙ going.owned (owner.Data id target)
@@ -208,7 +211,7 @@ module _ (s : State) (sound : IsSound s) (on : s.core.power ≡ power.On) (c : O
   -- ---- its place and its end
 
   stands : has_row now.core reading ≡ has_row core c
-  stands = sym (ap (λ b. is_out c.step || b) runs.0 ∙ or_true (is_out c.step))
+  stands = sym (ap (λ b. is_out c.step || b) (runs core c may).0 ∙ or_true (is_out c.step))
     where
       or_true : (a : Bool) → a || true ≡ true
       or_true true = refl
@@ -219,10 +222,10 @@ module _ (s : State) (sound : IsSound s) (on : s.core.power ≡ power.On) (c : O
       ∙ ap (λ b. if b then with_row (step_row core c) (waiting_rows core.requests) else waiting_rows core.requests) (sym stands)
 
   reviewed : copy_ends now.core ≡ None
-  reviewed = goes_on (is_running c) (is_whole core c) (is_missing core c.pp.disk) (length (sources_of core c) == 0) _ (ends_if (is_cleared core c) ending.Done) running short (sym (of_copy (end_of core) None) ∙ going.reviewed)
+  reviewed = goes_on (is_running c) (is_whole core c) (is_missing core c.pp.disk) (length (sources_of core c) == 0) _ (ends_if (is_cleared core c) ending.Done) (running core c may) (short core c may) (sym (of_copy (end_of core) None) ∙ going.reviewed)
 
   no_hand : (n : ℕ) → count_if (is_hand n (hand_of_copy core.copy)) ≡ 0
-  no_hand n = ap (λ m. count_if (is_hand n (hand_of_copy m))) is ∙ ap (λ (at : Step). count_if (is_hand n (hand_of_copy (Some (record c { step = at }))))) at_rest
+  no_hand n = ap (λ m. count_if (is_hand n (hand_of_copy m))) is ∙ ap (λ (at : Step). count_if (is_hand n (hand_of_copy (Some (record c { step = at }))))) (at_rest core c may)
 
   keeps_going : IsGoing now.core
   keeps_going = record {

@@ -26,3 +26,4 @@ pub mod Darkening
 pub mod Orders
 pub mod CopyRead
 pub mod NoteStart
+pub mod CopyReadFalls
