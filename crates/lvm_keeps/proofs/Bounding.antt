@@ -64,7 +64,7 @@ sum_most : {A : Type 0} (f : A → ℕ) (xs : List A) → AllByRecursion (λ (x 
 sum_most f [] all = omega arith
 sum_most f (x ∷ xs) all = let s = sum_by-cons f x xs in let low = all.0 in let rest = sum_most f xs all.1 in omega (arith, s, low, rest)
 
-take_few : {A : Type 0} (n : ℕ) (xs : List A) → length (take n xs) ≤ n
+pub take_few : {A : Type 0} (n : ℕ) (xs : List A) → length (take n xs) ≤ n
 take_few zero xs = omega arith
 take_few (suc n) [] = omega arith
 take_few (suc n) (x ∷ xs) = let rest = take_few n xs in omega (arith, rest)

@@ -7,6 +7,8 @@ mod Telling
 mod Tables
 mod Rows
 mod Ending
+mod Launching
+mod Noted
 pub mod Pin
 pub mod PinFalls
 pub mod Close
@@ -20,3 +22,8 @@ pub mod Bounding
 pub mod LandingFalls
 pub mod Noting
 pub mod Off
+pub mod Darkening
+pub mod Orders
+pub mod CopyRead
+pub mod NoteStart
+pub mod CopyReadFalls

@@ -25,7 +25,7 @@ use Rattle.lvm_keeps.proofs.Pin.{entry, full_is, its, now, pinned, shape, waits}
 -- ---- sums
 
 module _ {A : Type 0} (f g : A → ℕ) (same : (z : A) → g z ≡ f z) where
-  sum_same : (xs : List A) → sum_by g xs ≡ sum_by f xs
+  pub sum_same : (xs : List A) → sum_by g xs ≡ sum_by f xs
   sum_same [] = refl
   sum_same (x ∷ xs) = let a = sum_by-cons g x xs in let b = sum_by-cons f x xs in let c = same x in let rest = sum_same xs in omega (arith, a, b, c, rest)
 

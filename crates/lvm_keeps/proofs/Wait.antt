@@ -1,7 +1,7 @@
--- No transfer has ended.
+-- No transfer has ended, or a client has given an order to the shelf.
 use Rattle.std.proofs.Common.{◌⊎◌, inl, inr, ℕ, List, sym, subst}
 use Rattle.lvm_num.specs.declared.place.Pp.{Pp}
-use Rattle.lvm_disk.specs.Device.{Device}
+use Rattle.lvm_disk.specs.Device.{Device, Orders}
 use Rattle.lvm_vol.specs.declared.entry.Outcome.{Outcome}
 use Rattle.lvm_vol.specs.declared.entry.Outcome.TheVariants as outcome
 use Rattle.lvm_session.specs.declared.bringing.OpenCopy.{OpenCopy}
@@ -14,10 +14,10 @@ use Rattle.lvm_keeps.specs.Keeps.{WaitKeeps}
 use Rattle.lvm_keeps.proofs.Lists.{all_on}
 use Rattle.lvm_keeps.proofs.Still.{if_on}
 
--- of the shelf only the count of waits has changed
-module _ (s : State) (waits : ℕ) where
+-- of the shelf only the count of waits and the orders have changed
+module _ (s : State) (waits : ℕ) (orders : Orders) where
   abbrev pub waited : State
-  waited = state (record s.device { counts = record s.device.counts { waits = waits } }) s.core
+  waited = state (record s.device { counts = record s.device.counts { waits = waits }; orders = orders }) s.core
 
   landed_on : (o : Open) (how : Outcome) → IsLandedFor s o how → IsLandedFor waited o how
   landed_on o outcome.Done its = its
@@ -57,4 +57,4 @@ module _ (s : State) (waits : ℕ) where
 pub wait_keeps : WaitKeeps
 wait_keeps old new sound on event =
     subst (λ (device : Device). IsSound (state device new.core)) (sym event.waits.new_is)
-    (subst (λ (core : Core). IsSound (state (record old.device { counts = record old.device.counts { waits = new.device.counts.waits } }) core)) (sym event.is) (keeps old new.device.counts.waits sound))
+    (subst (λ (core : Core). IsSound (state (record old.device { counts = record old.device.counts { waits = new.device.counts.waits } }) core)) (sym event.is) (keeps old new.device.counts.waits old.device.orders sound))

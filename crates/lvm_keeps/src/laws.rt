@@ -1,7 +1,7 @@
 //! Laws: what each event of a sound session leaves is sound.
 ghost use Rattle.lvm_keeps.specs.Begins.{BeginningIsSound};
-ghost use Rattle.lvm_keeps.specs.Falls.{LandingFalls, LeftIsBounded, PinFalls};
-ghost use Rattle.lvm_keeps.specs.Keeps.{CloseKeeps, FirstStartIsNoted, FirstStartIsWhole, LandingIsCaused, LossIsCaused, OffKeeps, PinKeeps, TakeKeeps, WaitKeeps};
+ghost use Rattle.lvm_keeps.specs.Falls.{CopyReadFalls, LandingFalls, LeftIsBounded, PinFalls};
+ghost use Rattle.lvm_keeps.specs.Keeps.{CloseKeeps, CopyReadKeeps, CutKeeps, FirstStartIsNoted, FirstStartIsWhole, LandingIsCaused, LossIsCaused, NoteStartKeeps, OffKeeps, OrderKeeps, PinKeeps, TakeKeeps, WaitKeeps};
 
 /// A session is sound as it begins.
 pub fn beginning_is_sound()
@@ -11,6 +11,16 @@ pub fn beginning_is_sound()
 /// A request that pins its track group leaves the session sound.
 pub fn pin_keeps()
     ensures { PinKeeps }
+{}
+
+/// So does the start of a read by which a copy is brought up.
+pub fn copy_read_keeps()
+    ensures { CopyReadKeeps }
+{}
+
+/// So does the start of a note's write.
+pub fn note_start_keeps()
+    ensures { NoteStartKeeps }
 {}
 
 /// A copy that is closed leaves the session sound.
@@ -26,6 +36,16 @@ pub fn wait_keeps()
 /// So does the end of a session whose votes are lost.
 pub fn off_keeps()
     ensures { OffKeeps }
+{}
+
+/// So does the end of a session whose power is found off, or cut.
+pub fn cut_keeps()
+    ensures { CutKeeps }
+{}
+
+/// So does an order that a client gives to the shelf, also where the session is over.
+pub fn order_keeps()
+    ensures { OrderKeeps }
 {}
 
 /// So does a request whose answer is taken, also in a session that is over.
@@ -64,6 +84,11 @@ pub fn left_is_bounded()
 /// A request that lands leaves less work.
 pub fn landing_falls()
     ensures { LandingFalls }
+{}
+
+/// So does the start of the read by which a copy is brought up.
+pub fn copy_read_falls()
+    ensures { CopyReadFalls }
 {}
 
 /// A write that starts its first transfer at two targets or more has the records that its volume keeps.

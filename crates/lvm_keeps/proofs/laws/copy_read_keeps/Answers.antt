@@ -1,0 +1,5 @@
+use Rattle.lvm_keeps.proofs.CopyRead.{copy_read_keeps}
+use Rattle.lvm_keeps.proofs.laws.copy_read_keeps.Goals as goal
+
+pub returns : goal.returns
+returns c = copy_read_keeps
