@@ -1,0 +1,220 @@
+-- The parts of a session that misses disks.
+use Rattle.std.proofs.Common.{◌≡◌, ◌⊎◌, inl, inr, ◌*◌, ℕ, zero, suc, Bool, true, false, ◌&&◌, ◌||◌, not, List, [], ◌∷◌, take, Some, None, refl, sym, ap, ◌∙◌, subst, arith}
+use Rattle.std.specs.Prelude.{◌==◌, if◌then◌else◌, replicate, slice_index_or}
+use Rattle.std.specs.List.{list_any}
+use Rattle.std.specs.Option.{option_map_or}
+use Rattle.std.proofs.lemmas.Bool.{eqb-true}
+use Rattle.std.proofs.lemmas.List.{drop_all}
+use Rattle.lvm_num.specs.Bits.{has_bit}
+use Rattle.lvm_num.specs.Disks.{has}
+use Rattle.lvm_num.specs.declared.place.Pp.{Pp}
+use Rattle.lvm_num.specs.declared.descriptor.LvRow.{LvRow}
+use Rattle.lvm_num.specs.declared.descriptor.Mode.{Mode}
+use Rattle.lvm_num.specs.Descriptor.{copies_of}
+use Rattle.lvm_num.specs.Status.{calls_missing, calls_stale}
+use Rattle.lvm_num.proofs.BitsLemmas.{has-none}
+use Rattle.lvm_num.proofs.DisksLemmas.{has-zero}
+use Rattle.lvm_disk.specs.Counts.{Rose}
+use Rattle.lvm_kept.specs.Examples.{mirror}
+use Rattle.lvm_path.specs.declared.request.Phase.TheVariants as phase
+use Rattle.lvm_session.specs.declared.open.Power.TheVariants as power
+use Rattle.lvm_session.specs.State.{Core, state}
+use Rattle.lvm_session.specs.Judging.{copies_in, is_stale}
+use Rattle.lvm_events.specs.Marks.{can_replace, is_among, is_entailed}
+use Rattle.lvm_sound.specs.Requests.{IsOpenOne}
+use Rattle.lvm_sound.specs.Causes.{FailedSince, IsTrueToOrigin}
+use Rattle.lvm_sound.specs.Sound.{IsFitting, IsSound, IsTold, may_be_fresh, stays_fresh}
+use Rattle.lvm_sound.specs.Worked.{HeldWritesAreSound, a_write, asking, core_of, faultless, first_copy, fresh, second_copy, held_write, mirrored, status_of}
+use Rattle.lvm_faulted.specs.Faulted.{faulted, wanting, without_disks}
+
+pub not_so : {X : Type 0} → false ≡ true → X
+not_so e = absurd cc
+
+pub not_either : {X : Type 0} → true ≡ false → X
+not_either e = absurd cc
+
+pub not_none : {A : Type 0} {X : Type 0} {a : A} → None ≡ Some a → X
+not_none e = absurd cc
+
+pub on_is_not_off : {X : Type 0} → power.On ≡ power.Off → X
+on_is_not_off e = absurd cc
+
+pub on_is_not_stuck : {X : Type 0} → power.On ≡ power.Stuck → X
+on_is_not_stuck e = absurd cc
+
+pub not_marked : (disk : ℕ) {X : Type 0} → has 0 disk ≡ true → X
+not_marked disk is = not_so (sym (has-zero disk) ∙ is)
+
+-- ---- what the status says
+
+-- no copy is stale by what is committed
+pub none_stale : (p : Pp) → calls_stale (status_of fresh) p ≡ false
+none_stale p = by (0 == p.disk) (1 == p.disk) (2 == p.disk) (has_bit (replicate 127 0) p.pp) (has-none 127 p.pp)
+  where
+    by : (x y z t : Bool) → t ≡ false → x && t || (y && t || (z && t || false)) ≡ false
+    by x y z true e = not_either e
+    by true true true false e = refl
+    by true true false false e = refl
+    by true false true false e = refl
+    by true false false false e = refl
+    by false true true false e = refl
+    by false true false false e = refl
+    by false false true false e = refl
+    by false false false false e = refl
+
+-- and no disk missing
+pub none_missing : {X : Type 0} (disk : ℕ) → calls_missing (status_of fresh) disk ≡ true → X
+none_missing disk is = not_so (by (0 == disk) (1 == disk) (2 == disk) is)
+  where
+    by : (a b c : Bool) → (a && false) || ((b && false) || ((c && false) || false)) ≡ true → false ≡ true
+    by true true true is = is
+    by true true false is = is
+    by true false true is = is
+    by true false false is = is
+    by false true true is = is
+    by false true false is = is
+    by false false true is = is
+    by false false false is = is
+
+-- the second disk is missing, and the third where this is so
+pub which_missing : (both : Bool) (disk : ℕ) → calls_missing (without_disks both) disk ≡ true → (disk ≡ 1) ⊎ ((disk ≡ 2) × (both ≡ true))
+which_missing both disk is = by (1 == disk) (2 == disk) refl refl (0 == disk) is
+  where
+    last : (c t : Bool) → (2 == disk) ≡ c → c && t || false ≡ true → (disk ≡ 2) × (t ≡ true)
+    last true true e is = (sym (eqb-true 2 disk e), refl)
+    last true false e is = not_so is
+    last false t e is = not_so is
+
+    by : (b c : Bool) → (1 == disk) ≡ b → (2 == disk) ≡ c → (a : Bool) → (a && false) || ((b && true) || ((c && both) || false)) ≡ true → (disk ≡ 1) ⊎ ((disk ≡ 2) × (both ≡ true))
+    by true c e f a is = inl (sym (eqb-true 1 disk e))
+    by false c e f true is = inr (last c both f is)
+    by false c e f false is = inr (last c both f is)
+
+pub is_missing_so : (both : Bool) (disk : ℕ) → (disk ≡ 1) ⊎ ((disk ≡ 2) × (both ≡ true)) → calls_missing (without_disks both) disk ≡ true
+is_missing_so both disk (inl one) = subst (λ d. calls_missing (without_disks both) d ≡ true) (sym one) refl
+is_missing_so both disk (inr two) = subst (λ d. calls_missing (without_disks both) d ≡ true) (sym two.0) (ap (λ (t : Bool). t || false) two.1)
+
+-- a copy that is stale by it stands on the second disk
+pub stale_there : (both : Bool) (p : Pp) → calls_stale (without_disks both) p ≡ true → p.disk ≡ 1
+stale_there both p is = by (1 == p.disk) refl (0 == p.disk) (2 == p.disk) (has_bit (replicate 127 0) p.pp) (has-none 127 p.pp) is
+  where
+    by : (y : Bool) → (1 == p.disk) ≡ y → (x z t : Bool) → t ≡ false → x && t || (y && has_bit (1 ∷ replicate 126 0) p.pp || (z && t || false)) ≡ true → p.disk ≡ 1
+    by true e x z t none is = sym (eqb-true 1 p.disk e)
+    by false e x z true none is = not_either none
+    by false e true true false none is = not_so is
+    by false e true false false none is = not_so is
+    by false e false true false none is = not_so is
+    by false e false false false none is = not_so is
+
+-- ---- what follows from it
+
+abbrev both_copies : List Pp
+both_copies = first_copy ∷ second_copy ∷ []
+
+second_is_stale : (both : Bool) → calls_stale (without_disks both) second_copy ≡ true
+unfolding has_bit
+second_is_stale both = refl
+
+-- what the missing disks entail is wanted
+pub behind : (m : Mode) (both : Bool) (p : Pp) → is_entailed (wanting m both) p ≡ true → calls_stale (without_disks both) p ≡ true
+behind m both p is =
+    let parts = split (is_among both_copies p) (not (is_stale (wanting m both) p)) (calls_missing (without_disks both) p.disk) (list_any (can_replace (wanting m both)) both_copies) is in
+    let disk = which_missing both p.disk parts.1 in
+    among (p.disk == 0) (p.pp == 0) (p.disk == 1) refl refl refl parts.0 disk
+  where
+    split : (a b c d : Bool) → a && b && c && d || false || false ≡ true → (a ≡ true) × (c ≡ true)
+    split true true true d is = (refl, refl)
+    split true true false d is = not_so is
+    split true false c d is = not_so is
+    split false b c d is = not_so is
+
+    there : p.disk ≡ 1 → p.pp ≡ 0 → calls_stale (without_disks both) p ≡ true
+    there e f = ap (λ d. calls_stale (without_disks both) (record { disk = d; pp = p.pp })) e ∙ ap (λ n. calls_stale (without_disks both) (record { disk = 1; pp = n })) f ∙ second_is_stale both
+
+    among : (x z y : Bool) → (p.disk == 0) ≡ x → (p.pp == 0) ≡ z → (p.disk == 1) ≡ y → x && z || (y && z || false) ≡ true → (p.disk ≡ 1) ⊎ ((p.disk ≡ 2) × (both ≡ true)) → calls_stale (without_disks both) p ≡ true
+    among true z y e f g is (inl one) = let zero_is = eqb-true p.disk 0 e in absurd (omega (arith, zero_is, one))
+    among true z y e f g is (inr two) = let zero_is = eqb-true p.disk 0 e in let at = two.0 in absurd (omega (arith, zero_is, at))
+    among false true true e f g is disk = there (eqb-true p.disk 1 g) (eqb-true p.pp 0 f)
+    among false true false e f g is disk = not_so is
+    among false false true e f g is disk = not_so is
+    among false false false e f g is disk = not_so is
+
+-- each logical partition has a fresh copy where the first copy stays fresh
+pub has_fresh : (m : Mode) (core : Core) → stays_fresh core first_copy ≡ true → (lv lp : ℕ) → list_any (may_be_fresh core) (copies_in (mirrored m) lv lp) ≡ true → list_any (stays_fresh core) (copies_in (mirrored m) lv lp) ≡ true
+has_fresh m core stays lv lp = by_volume (1 == lv) lp
+  where
+    copies : Bool → ℕ → List Pp
+    copies is n = option_map_or (λ (row : LvRow). copies_of row n) (if is then Some (mirror m) else None) []
+
+    by_volume : (is : Bool) (n : ℕ) → list_any (may_be_fresh core) (copies is n) ≡ true → list_any (stays_fresh core) (copies is n) ≡ true
+    by_volume false n some = not_so some
+    by_volume true zero some = ap (λ t. t || (stays_fresh core second_copy || false)) stays
+    by_volume true (suc n) some = not_so (sym (ap (λ (ps : List Pp). list_any (may_be_fresh core) (take 2 ps)) (drop_all (suc n * 2) both_copies (omega arith))) ∙ some)
+
+-- ---- what has failed
+
+rose_once : Rose 0 1
+rose_once = record { later = omega arith; risen = omega arith }
+
+-- a disk that is missing has failed since
+pub failed : (both : Bool) (disk : ℕ) → (disk ≡ 1) ⊎ ((disk ≡ 2) × (both ≡ true)) → Rose 0 ((faulted both).counts.faults disk)
+failed both disk (inl one) = subst (λ d. Rose 0 ((faulted both).counts.faults d)) (sym one) rose_once
+failed both disk (inr two) = subst (λ d. Rose 0 ((faulted both).counts.faults d)) (sym two.0) (subst (λ (t : Bool). Rose 0 (if t then 1 else 0)) (sym two.1) rose_once)
+
+pub zeros_at : (many k : ℕ) → ◌≡◌ {A = ℕ} (slice_index_or (replicate many 0) k 0) 0
+zeros_at zero k = refl
+zeros_at (suc many) zero = refl
+zeros_at (suc many) (suc k) = zeros_at many k
+
+-- ---- what it has of the session with the held write alone
+
+module _ (held : HeldWritesAreSound) (m : Mode) (both : Bool) where
+  before : IsSound (state faultless (core_of (held_write m)))
+  before = held m
+
+  pub fitting : IsFitting (wanting m both)
+  fitting = let f = before.fitting in record {
+    valid = f.valid;
+    id = refl;
+    rows = λ disk. refl;
+    group = refl;
+    entries = f.entries;
+    notes = f.notes;
+    table = f.table;
+    most = f.most;
+    queue = refl;
+    a_buffer = f.a_buffer;
+    buffers = f.buffers;
+    last = f.last;
+  }
+
+  pub told : IsTold (wanting m both)
+  told = let t = before.told in record { ordered = t.ordered; table = t.table; each = t.each; requests = t.requests }
+
+  pub request : IsOpenOne (wanting m both) (asking 1 a_write phase.Held [])
+  request = let r = (before.on refl).going.requests.0 in record {
+    laid = record { within = r.laid.within; blocks = r.laid.blocks; most = r.laid.most; id = r.laid.id };
+    waits = λ e. let w = r.waits e in record {
+      shape = record { targets = tt; phase_is = w.shape.phase_is; hand = w.shape.hand; room = tt; differ = w.shape.differ; usable = w.shape.usable; one = w.shape.one };
+      ready = record { free = w.ready.free; recorded = w.ready.recorded; wanted = λ past two. not_so past; named = λ has two. not_so has; dirty = λ has two. not_so has };
+      judged = λ write. record { uncaught = tt; due = λ waits. not_so waits; all = λ begun. not_so begun };
+    };
+    over = λ e. not_either e;
+    still = λ e. not_either e;
+  }
+
+  pub origin : IsTrueToOrigin (state (faulted both) (wanting m both))
+  origin = let o = before.origin in record {
+    since = λ disk. let none = zeros_at 128 disk in omega (arith, none);
+    votes = o.votes;
+    still_missing = λ disk is. none_missing disk is;
+    missing = λ disk is. inr (since disk (failed both disk (which_missing both disk is)));
+    stale = λ p is. inr (inl (is_missing_so both p.disk (inl (stale_there both p (wanted (calls_stale (status_of fresh) p) _ (none_stale p) is)))));
+  }
+    where
+      since : (disk : ℕ) → Rose 0 ((faulted both).counts.faults disk) → FailedSince (state (faulted both) (wanting m both)) disk
+      since disk rose = subst (λ n. Rose n ((faulted both).counts.faults disk)) (sym (zeros_at 128 disk)) rose
+
+      wanted : (a b : Bool) → a ≡ false → (a || a) || b ≡ true → b ≡ true
+      wanted true b none is = not_either none
+      wanted false b none is = is

@@ -1,0 +1,25 @@
+//! Laws: sessions in which disks have failed are sound.
+ghost use Rattle.lvm_faulted.specs.Faulted.{EndedSessionsAreSound, LostVotesAreSound, MissingDisksAreSound};
+
+use lvm_sound::held_writes_are_sound;
+
+/// A session that misses a disk since a transfer on it failed is sound, in whatever mode its volume is.
+pub fn missing_disks_are_sound()
+    ensures { MissingDisksAreSound }
+{
+    held_writes_are_sound();
+}
+
+/// So is a session that has lost its votes since transfers failed on two of three disks, and it may end.
+pub fn lost_votes_are_sound()
+    ensures { LostVotesAreSound }
+{
+    held_writes_are_sound();
+}
+
+/// So it is once it has ended, and when the power is cut after that; a request that landed as off keeps that answer.
+pub fn ended_sessions_are_sound()
+    ensures { EndedSessionsAreSound }
+{
+    held_writes_are_sound();
+}
