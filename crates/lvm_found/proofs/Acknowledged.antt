@@ -24,13 +24,13 @@ use Rattle.lvm_core.specs.Leaves.{MayBeFound}
 use Rattle.lvm_volumes.specs.NewVolume.{without_volume}
 use Rattle.lvm_volumes.specs.Volumes.{IsWith}
 use Rattle.lvm_core.specs.Looking.{IsNumberOf}
-use Rattle.lvm_line.specs.Groups.{VariesOn, NoVaryonWhileOn, VaryonFails, NoMemoryForLine, NoMkvgWhileOn, MakesGroup, MkvgFails}
+use Rattle.lvm_commands.specs.Groups.{VariesOn, NoVaryonWhileOn, VaryonFails, NoMemoryForLine, NoMkvgWhileOn, MakesGroup, MkvgFails}
 use Rattle.lvm_line.specs.Lines.{CommandDoes, LineDoes}
-use Rattle.lvm_line.specs.Replies.{IsStuck}
-use Rattle.lvm_line.specs.State.{State}
-use Rattle.lvm_line.specs.Volumes.{NoGroupForMklv, MakesVolume, MklvFails, NoGroupForRmlv, NoVolumeForRmlv, RemovesVolume, RmlvFails, wanted}
-use Rattle.lvm_line.specs.declared.reply.Reply.{Reply}
-use Rattle.lvm_line.specs.declared.reply.Reply.TheVariants as reply
+use Rattle.lvm_commands.specs.Replies.{IsStuck}
+use Rattle.lvm_commands.specs.State.{State}
+use Rattle.lvm_commands.specs.Volumes.{NoGroupForMklv, MakesVolume, MklvFails, NoGroupForRmlv, NoVolumeForRmlv, RemovesVolume, RmlvFails, wanted}
+use Rattle.lvm_commands.specs.declared.reply.Reply.{Reply}
+use Rattle.lvm_commands.specs.declared.reply.Reply.TheVariants as reply
 use Rattle.lvm_found.specs.Standing.{IsToCommit, is_group_command, is_acknowledged, StandsOf, IsCommitted, OfAnother}
 
 -- ---- a session at which nothing is under way

@@ -37,14 +37,14 @@ use Rattle.lvm_group.specs.Made.{Refuses}
 use Rattle.lvm_volumes.specs.NewVolume.{without_volume}
 use Rattle.lvm_group.specs.Shown.{IfShown, HasGroup}
 use Rattle.lvm_volumes.specs.Volumes.{IsWith}
-use Rattle.lvm_line.specs.Disks.{patience_of_line}
-use Rattle.lvm_line.specs.Groups.{MkvgDoes, NoMemoryForLine, NoMkvgWhileOn, MakesGroup, MkvgFails, asked_for}
+use Rattle.lvm_commands.specs.Disks.{patience_of_line}
+use Rattle.lvm_commands.specs.Groups.{MkvgDoes, NoMemoryForLine, NoMkvgWhileOn, MakesGroup, MkvgFails, asked_for}
 use Rattle.lvm_line.specs.Lines.{LineDoes}
-use Rattle.lvm_line.specs.State.{State, IsTimely, AreHeld, log_with}
-use Rattle.lvm_line.specs.declared.reply.Reply.{Reply}
-use Rattle.lvm_line.specs.Volumes.{wanted}
-use Rattle.lvm_line.proofs.Coming.{lit_up}
-use Rattle.lvm_line.proofs.Making.{leaves as making_leaves}
+use Rattle.lvm_commands.specs.State.{State, IsTimely, AreHeld, log_with}
+use Rattle.lvm_commands.specs.declared.reply.Reply.{Reply}
+use Rattle.lvm_commands.specs.Volumes.{wanted}
+use Rattle.lvm_commands.proofs.Coming.{lit_up}
+use Rattle.lvm_commands.proofs.Making.{leaves as making_leaves}
 use Rattle.lvm_top.specs.Script.{Script, NoLine, NextLine, StaysAlone, Ends, AtLine, InLine, EndsAlone, entry_state, empty_log}
 use Rattle.lvm_top.proofs.Scripting.{script_went}
 use Rattle.lvm_found.specs.Laws.{MayStart}

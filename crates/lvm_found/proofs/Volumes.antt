@@ -15,12 +15,12 @@ use Rattle.lvm_volumes.specs.declared.fault.GroupFault.TheVariants as fault
 use Rattle.lvm_core.specs.Leaves.{MayBeFound}
 use Rattle.lvm_volumes.specs.NewVolume.{without_volume}
 use Rattle.lvm_volumes.specs.Volumes.{IsWith, IsChosen, MklvGives, RmlvGives}
-use Rattle.lvm_line.specs.Disks.{patience_of_line}
-use Rattle.lvm_line.specs.Moments.{IsBrokenOff}
-use Rattle.lvm_line.specs.State.{State, AreHeld}
-use Rattle.lvm_line.specs.Volumes.{IsDone, StaysOn, MklvDoes, RmlvDoes, NoGroupForMklv, MakesVolume, MklvFails, NoGroupForRmlv, NoVolumeForRmlv, RemovesVolume, RmlvFails, MklvEnds, RmlvEnds, ends_session, refusal_for, wanted}
-use Rattle.lvm_line.specs.declared.reply.Reply.{Reply}
-use Rattle.lvm_line.specs.declared.reply.Reply.TheVariants as reply
+use Rattle.lvm_commands.specs.Disks.{patience_of_line}
+use Rattle.lvm_commands.specs.Moments.{IsBrokenOff}
+use Rattle.lvm_commands.specs.State.{State, AreHeld}
+use Rattle.lvm_commands.specs.Volumes.{IsDone, StaysOn, MklvDoes, RmlvDoes, NoGroupForMklv, MakesVolume, MklvFails, NoGroupForRmlv, NoVolumeForRmlv, RemovesVolume, RmlvFails, MklvEnds, RmlvEnds, ends_session, refusal_for, wanted}
+use Rattle.lvm_commands.specs.declared.reply.Reply.{Reply}
+use Rattle.lvm_commands.specs.declared.reply.Reply.TheVariants as reply
 use Rattle.lvm_found.specs.Standing.{MayHaveCommitted}
 use Rattle.lvm_found.proofs.Devices.{NothingNew, same_nothing}
 

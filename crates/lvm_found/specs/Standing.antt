@@ -14,12 +14,12 @@ use Rattle.lvm_group.specs.NewGroup.{new_group}
 use Rattle.lvm_volumes.specs.NewVolume.{without_volume}
 use Rattle.lvm_volumes.specs.Volumes.{IsWith}
 use Rattle.lvm_core.specs.Leaves.{MayBeFound}
-use Rattle.lvm_line.specs.Groups.{asked_for}
-use Rattle.lvm_line.specs.Moments.{IsBrokenOff}
-use Rattle.lvm_line.specs.State.{State}
-use Rattle.lvm_line.specs.Volumes.{wanted}
-use Rattle.lvm_line.specs.declared.reply.Reply.{Reply}
-use Rattle.lvm_line.specs.declared.reply.Reply.TheVariants as reply
+use Rattle.lvm_commands.specs.Groups.{asked_for}
+use Rattle.lvm_commands.specs.Moments.{IsBrokenOff}
+use Rattle.lvm_commands.specs.State.{State}
+use Rattle.lvm_commands.specs.Volumes.{wanted}
+use Rattle.lvm_commands.specs.declared.reply.Reply.{Reply}
+use Rattle.lvm_commands.specs.declared.reply.Reply.TheVariants as reply
 use Rattle.lvm_top.specs.Script.{Script, NoLine, NextLine, Ends, AtLine, InLine}
 
 -- ---- one line

@@ -1,3 +1,3 @@
 mod Blocks
-mod Hands
+pub mod Hands
 mod Starting

@@ -14,10 +14,10 @@ use Rattle.lvm_core.specs.State.{Core, State as Session, state}
 use Rattle.lvm_volumes.specs.declared.fault.GroupFault.{GroupFault}
 use Rattle.lvm_volumes.specs.declared.fault.GroupFault.TheVariants as fault
 use Rattle.lvm_line.specs.Causes.{HasFailed, HasLost}
-use Rattle.lvm_line.specs.Disks.{patience_of_line}
-use Rattle.lvm_line.specs.State.{State}
-use Rattle.lvm_line.specs.Volumes.{IsLeft, ends_session, refusal_for}
-use Rattle.lvm_line.proofs.Ending.{Facts}
+use Rattle.lvm_commands.specs.Disks.{patience_of_line}
+use Rattle.lvm_commands.specs.State.{State}
+use Rattle.lvm_commands.specs.Volumes.{IsLeft, ends_session, refusal_for}
+use Rattle.lvm_commands.proofs.Ending.{Facts}
 use Rattle.lvm_line.proofs.Knowing.{Known}
 
 -- votes that are too few to write are at most half

@@ -1,17 +1,3 @@
-pub mod Texts
-pub mod Going
-pub mod Cutting
-pub mod Passive
-pub mod Coming
-pub mod Commanding
-pub mod Ending
-pub mod Landing
-pub mod OfVolumes
-pub mod Ranging
-pub mod Varying
-pub mod Making
-pub mod Staging
-pub mod Closing
 pub mod Options
 pub mod Answering
 pub mod Asking
@@ -19,5 +5,3 @@ pub mod Lining
 pub mod Knowing
 pub mod Faulting
 pub mod Causing
-pub mod Listing
-pub mod Ordering

@@ -10,14 +10,14 @@ use Rattle.lvm_parse.specs.Grammar.{line_of}
 use Rattle.lvm_parse.specs.Answering.{IsMkvgLine}
 use Rattle.lvm_core.specs.declared.parts.Room.{Room}
 use Rattle.lvm_core.specs.State.{Core}
-use Rattle.lvm_line.specs.Groups.{IsAsked, MkvgDoes, NoMemoryForLine, NoMkvgWhileOn}
+use Rattle.lvm_commands.specs.Groups.{IsAsked, MkvgDoes, NoMemoryForLine, NoMkvgWhileOn}
 use Rattle.lvm_line.specs.Lines.{CommandDoes, LineDoes, IsLine, IsOrder, asked_after}
-use Rattle.lvm_line.specs.Moments.{GoesOn}
-use Rattle.lvm_line.specs.State.{State, IsSettled}
-use Rattle.lvm_line.specs.declared.reply.Refusal.TheVariants as refusal
-use Rattle.lvm_line.specs.declared.reply.Reply.{Reply}
-use Rattle.lvm_line.specs.declared.reply.Reply.TheVariants as reply
-use Rattle.lvm_line.proofs.Going.{same_goes, asked_goes}
+use Rattle.lvm_commands.specs.Moments.{GoesOn}
+use Rattle.lvm_commands.specs.State.{State, IsSettled}
+use Rattle.lvm_commands.specs.declared.reply.Refusal.TheVariants as refusal
+use Rattle.lvm_commands.specs.declared.reply.Reply.{Reply}
+use Rattle.lvm_commands.specs.declared.reply.Reply.TheVariants as reply
+use Rattle.lvm_commands.proofs.Going.{same_goes, asked_goes}
 
 -- a line that is read so
 pub line_read :

@@ -1,12 +1,2 @@
-pub mod State
-pub mod Stages
-pub mod Refusals
-pub mod Replies
-pub mod Moments
-pub mod Shelves
-pub mod Listings
-pub mod Disks
-pub mod Groups
-pub mod Volumes
 pub mod Lines
 pub mod Causes

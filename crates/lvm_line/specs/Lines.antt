@@ -12,17 +12,17 @@ use Rattle.lvm_parse.specs.declared.command.Command.TheVariants as command
 use Rattle.lvm_operands.specs.declared.rest.Misfit.{Misfit}
 use Rattle.lvm_parse.specs.Grammar.{line_of}
 use Rattle.lvm_core.specs.declared.parts.Room.{Room}
-use Rattle.lvm_line.specs.Disks.{ReadDoes, WriteDoes}
-use Rattle.lvm_line.specs.Groups.{MkvgDoes, VaryonDoes, VaryoffDoes}
-use Rattle.lvm_line.specs.Listings.{GroupShows, VolumeShows, DiskShows}
-use Rattle.lvm_line.specs.Moments.{GoesOn}
-use Rattle.lvm_line.specs.Replies.{IsRefused}
-use Rattle.lvm_line.specs.Shelves.{ArrangeDoes, CutDoes}
-use Rattle.lvm_line.specs.State.{State}
-use Rattle.lvm_line.specs.Volumes.{MklvDoes, RmlvDoes, wanted}
-use Rattle.lvm_line.specs.declared.reply.Refusal.TheVariants as refusal
-use Rattle.lvm_line.specs.declared.reply.Reply.{Reply}
-use Rattle.lvm_line.specs.declared.reply.Reply.TheVariants as reply
+use Rattle.lvm_commands.specs.Disks.{ReadDoes, WriteDoes}
+use Rattle.lvm_commands.specs.Groups.{MkvgDoes, VaryonDoes, VaryoffDoes}
+use Rattle.lvm_commands.specs.Listings.{GroupShows, VolumeShows, DiskShows}
+use Rattle.lvm_commands.specs.Moments.{GoesOn}
+use Rattle.lvm_commands.specs.Replies.{IsRefused}
+use Rattle.lvm_commands.specs.Shelves.{ArrangeDoes, CutDoes}
+use Rattle.lvm_commands.specs.State.{State}
+use Rattle.lvm_commands.specs.Volumes.{MklvDoes, RmlvDoes, wanted}
+use Rattle.lvm_commands.specs.declared.reply.Refusal.TheVariants as refusal
+use Rattle.lvm_commands.specs.declared.reply.Reply.{Reply}
+use Rattle.lvm_commands.specs.declared.reply.Reply.TheVariants as reply
 
 -- what the grammar says of the numbers and disks of a command
 abbrev pub IsWithin : Command → Type 0

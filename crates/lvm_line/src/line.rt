@@ -5,18 +5,15 @@ ghost use Rattle.lvm_core.specs.declared.parts.Room.{Room};
 ghost use Rattle.lvm_vol.specs.Log.{Log};
 ghost use Rattle.lvm_parse.specs.Grammar.{line_of};
 ghost use Rattle.lvm_line.specs.Lines.{IsWithin, CommandDoes, IsLine, IsOrder, IsChange, asked_after};
-ghost use Rattle.lvm_line.specs.Moments.{GoesOn};
-ghost use Rattle.lvm_line.specs.Replies.{IsStuck};
-ghost use Rattle.lvm_line.specs.Stages.{shelf_in, history_in, session_in, state_in, IsSettledStage};
-ghost use Rattle.lvm_line.specs.State.{without_facts};
+ghost use Rattle.lvm_commands.specs.Moments.{GoesOn};
+ghost use Rattle.lvm_commands.specs.Replies.{IsStuck};
+ghost use Rattle.lvm_commands.specs.Stages.{shelf_in, history_in, session_in, state_in, IsSettledStage};
+ghost use Rattle.lvm_commands.specs.State.{without_facts};
 
-use crate::disks::{do_read, do_write};
-use crate::groups::{do_mkvg, do_varyoff, do_varyon};
-use crate::listings::{list_disk, list_group, list_volume};
-use crate::reply::{Refusal, Reply};
-use crate::shelves::{do_arrange, do_cut};
-use crate::stage::{Answered, Stage};
-use crate::volumes::{do_mklv, do_rmlv};
+use lvm_commands::{
+    Answered, Refusal, Reply, Stage, do_arrange, do_cut, do_mklv, do_mkvg, do_read, do_rmlv,
+    do_varyoff, do_varyon, do_write, list_disk, list_group, list_volume,
+};
 use lvm_core::Room;
 use lvm_disk::{Arrange, Shelf};
 use lvm_io::Clock;

@@ -1,7 +1,9 @@
 -- Zeros that are written piece by piece.
 use Rattle.std.proofs.Common.{◌≡◌, ◌*◌, zero, suc, ◌∷◌, [], length, ◌<◌, refl, ◌+◌, ◌-◌, ◌≤◌, ◌++◌, ℕ, List, Option, IfSome, replicate, subst, sym, ◌∙◌, ap, arith, append_assoc, length-append}
+use Rattle.std.proofs.Math.Nat.{suc-mul}
 use Rattle.std.proofs.lemmas.List.{append-nil, replicate-append-replicate, get_or-replicate, length-replicate}
 use Rattle.std.specs.Prelude.{slice_index_or}
+use Rattle.std.specs.List.{flat_map}
 use Rattle.lvm_num.specs.Buffer.{Sector, zero_sector}
 use Rattle.lvm_disk.specs.Device.{Media, Device, image_of}
 use Rattle.lvm_media.specs.Media.{media_of, sizes_of, blank_disks_of}
@@ -13,6 +15,11 @@ use Rattle.lvm_stamps.proofs.Records.{blank_is_behind}
 use Rattle.lvm_top.specs.Sim.{sim_device, IsToldBlank}
 use Rattle.lvm_io.specs.Stream.{WhereTold, WritesFront}
 use Rattle.lvm_io.proofs.Told.{told_on, told_same}
+
+-- rows of zeros, one behind the other, are zeros
+pub flat_zeros : (rows count : ℕ) → flat_map (λ (row : List ℕ). row) (replicate rows (replicate count 0)) ≡ replicate (rows * count) 0
+flat_zeros zero count = ap (λ (n : ℕ). replicate n 0) {x = 0} {y = 0 * count} (omega arith)
+flat_zeros (suc rows) count = ap (λ (l : List ℕ). replicate count 0 ++ l) (flat_zeros rows count) ∙ replicate-append-replicate count (rows * count) 0 ∙ ap (λ (n : ℕ). replicate n 0) {x = count + rows * count} {y = suc rows * count} (omega (arith, suc-mul rows count))
 
 -- so many zeros have been written
 pub record BlankSoFar (count : ℕ) (before after : Option (List ℕ)) (faults faults1 : ℕ) : Type 0 where

@@ -1,5 +1,5 @@
 //! New images of disks.
-ghost use Rattle.std.specs.Prelude.{◌≡◌, ◌⊎◌, ◌≤◌, ◌++◌};
+ghost use Rattle.std.specs.Prelude.{◌≡◌, ◌⊎◌, ◌≤◌, ◌++◌, replicate};
 ghost use Rattle.lvm_io.specs.Count.{Rose};
 ghost use Rattle.lvm_io.specs.Stream.{WhereTold, WritesFront};
 ghost use Rattle.lvm_top.specs.Blank.{blank_image};
@@ -7,8 +7,14 @@ ghost use Rattle.lvm_top.specs.Blank.{blank_image};
 use crate::status::Status;
 use lvm_io::{Sink, SinkFault, write_all};
 
+const ZEROS: [[u8; 65_536]; 16] = [[0; 65_536]; 16];
+
 // A MiB of zeros, which are written at once.
-const ZEROS: [u8; 1_048_576] = [0; 1_048_576];
+fn zeros() -> &'static [u8]
+    ensures { result.now ≡ replicate 1048576 0 }
+{
+    ZEROS.as_flattened()
+}
 
 /// Writes so many MiB of zeros: all, or where the sink failed a front of them.
 pub fn run_image<O: Sink>(mib: u32, out: &mut O) -> Status
@@ -20,7 +26,7 @@ pub fn run_image<O: Sink>(mib: u32, out: &mut O) -> Status
     ensures cause { result ≡ Status.SinkFault → Rose (O.faults out.old) (O.faults out.new) }
 {
     for _ in 0..mib {
-        match write_all(out, &ZEROS) {
+        match write_all(out, zeros()) {
             Ok(()) => {}
             Err(SinkFault) => return Status::SinkFault,
         }

@@ -5,9 +5,9 @@ ghost use Rattle.lvm_top.specs.Statuses.{code_of};
 /// How a run of the program ended.
 #[derive(Clone, Copy, Debug, PartialEq, Eq, Drop)]
 pub enum Status {
-    /// 0: the input was read to its end and nothing was refused.
+    /// 0: the input, if the words ask for a run of it, was read to its end and nothing was refused; else what they ask for was written.
     Well,
-    /// 1: the same, but something was.
+    /// 1: the input was read to its end, and something was refused.
     Refusals,
     /// 2: the words of the command line ask for nothing.
     Usage,

@@ -1,12 +1,12 @@
 use Rattle.std.proofs.Common.{ap, sym, subst, refl, length, ℕ, List}
-use Rattle.lvm_line.specs.Groups.{MkvgDoes}
-use Rattle.lvm_line.specs.Listings.{GroupShows, VolumeShows, DiskShows}
-use Rattle.lvm_line.specs.Stages.{shelf_in, history_in, session_in, state_in}
-use Rattle.lvm_line.specs.State.{without_facts}
-use Rattle.lvm_line.specs.declared.reply.Reply.{Reply}
-use Rattle.lvm_line.specs.declared.stage.Stage.{Stage}
+use Rattle.lvm_commands.specs.Groups.{MkvgDoes}
+use Rattle.lvm_commands.specs.Listings.{GroupShows, VolumeShows, DiskShows}
+use Rattle.lvm_commands.specs.Stages.{shelf_in, history_in, session_in, state_in}
+use Rattle.lvm_commands.specs.State.{without_facts}
+use Rattle.lvm_commands.specs.declared.reply.Reply.{Reply}
+use Rattle.lvm_commands.specs.declared.stage.Stage.{Stage}
 use Rattle.lvm_line.proofs.Lining.{of_command, asked_by}
-use Rattle.lvm_line.proofs.Ordering.{stays}
+use Rattle.lvm_commands.proofs.Ordering.{stays}
 use Rattle.lvm_line.proofs.line.do_command.Goals as goal
 
 pub returns-in-Mkvg-clause-does : goal.returns-in-Mkvg-clause-does

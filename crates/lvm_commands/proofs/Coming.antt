@@ -1,0 +1,200 @@
+-- How a group comes on, or doesn't.
+use Rattle.std.proofs.Common.{◌≡◌, ◌+◌, ◌<◌, ◌≤◌, [], ℕ, List, Option, Some, None, true, refl, sym, ◌∙◌, ap, subst, arith}
+use Rattle.std.specs.Prelude.{IfNone}
+use Rattle.lvm_disk.specs.Device.{Device, IsReady}
+use Rattle.lvm_disk.specs.Images.{LeavesNoMore}
+use Rattle.lvm_disk.proofs.Paths.{last-path}
+use Rattle.lvm_io.specs.Count.{Rose}
+use Rattle.lvm_vol.specs.Facts.{Fact}
+use Rattle.lvm_vol.specs.Legal.{IsLater}
+use Rattle.lvm_vol.specs.Log.{Log}
+use Rattle.lvm_kept.specs.Moments.{Moment, StaysCalm}
+use Rattle.lvm_steps.specs.Moments.{Keeps}
+use Rattle.lvm_steps.specs.Requests.{at}
+use Rattle.lvm_steps.specs.VaryingOn.{HasNoActive}
+use Rattle.lvm_steps.proofs.Spans.{keeps_steps}
+use Rattle.lvm_stamps.specs.Behind.{IsBehind, IsAhead, ClockIsAhead}
+use Rattle.lvm_stamps.proofs.Shelves.{no_more_stays_behind}
+use Rattle.lvm_core.specs.declared.refused.Cause.{Cause}
+use Rattle.lvm_core.specs.declared.refused.Cause.TheVariants as cause
+use Rattle.lvm_commit.specs.Settling.{NoneIsLeft}
+use Rattle.lvm_core.specs.Held.{StartsHeld}
+use Rattle.lvm_core.specs.Sound.{HaveAllLanded}
+use Rattle.lvm_core.specs.Settled.{IsSettled as IsSettledCore}
+use Rattle.lvm_core.specs.State.{Core}
+use Rattle.lvm_commands.specs.Groups.{IsLit, refusal_of}
+use Rattle.lvm_commands.specs.Moments.{GoesOn}
+use Rattle.lvm_commands.specs.Replies.{IsStuck}
+use Rattle.lvm_commands.specs.Stages.{shelf_in, history_in, session_in, state_in}
+use Rattle.lvm_commands.specs.State.{State, IsSettled}
+use Rattle.lvm_commands.specs.declared.reply.Refusal.TheVariants as refusal
+use Rattle.lvm_commands.specs.declared.reply.Reply.{Reply}
+use Rattle.lvm_commands.specs.declared.stage.Stage.{Stage}
+use Rattle.lvm_commands.specs.declared.reply.Reply.TheVariants as reply
+use Rattle.lvm_commands.proofs.Going.{ahead_later, relit_path}
+
+-- ---- the clock
+
+-- A clock that has risen since then answers a moment that is ahead of what was ahead of the next one.
+pub clock_is_ahead : (run last moment : ℕ) (device : Device) (facts : List Fact) → Rose last moment → IsAhead run (last + 1) device facts → ClockIsAhead run moment device facts
+clock_is_ahead run last moment device facts rose ahead = λ early. ahead_later run (last + 1) moment device facts (let r = rose.risen in omega (arith, r, early)) ahead
+
+-- ---- the shelf after a refusal
+
+-- where the power was cut nothing is out; where nothing was heard the power is on; else all is at rest
+abbrev pub Rests : Cause → Device → Type 0
+Rests cause.Dark left = left.flights ≡ []
+Rests cause.Stuck left = left.power ≡ true
+Rests (cause.NoDisk disk) left = IsReady left
+Rests (cause.TooMany limit) left = IsReady left
+Rests (cause.TooSmall disk) left = IsReady left
+Rests cause.GroupExists left = IsReady left
+Rests cause.NoRecord left = IsReady left
+Rests cause.Ambiguous left = IsReady left
+Rests (cause.NoQuorum have total) left = IsReady left
+Rests (cause.ClockBack seen) left = IsReady left
+Rests (cause.DiskFailed disk) left = IsReady left
+Rests cause.HistoryFull left = IsReady left
+Rests cause.Memory left = IsReady left
+
+-- what a refusal leaves, before the power is put on again
+pub record Leaves (why : Cause) (old left : Device) : Type 0 where
+  pub rests : Rests why left
+  pub orders : left.orders ≡ old.orders
+
+-- and after it
+pub record LitUp (answer : Reply) (left new : Device) : Type 0 where
+  pub ready : (IsStuck answer → ⊥) → IsReady new
+  pub power : new.power ≡ true
+  pub orders : new.orders ≡ left.orders
+  pub waits : new.counts.waits ≡ left.counts.waits
+  pub keeps : (run : ℕ) (first : Moment) (facts : List Fact) → Keeps run first (at left facts) → Keeps run first (at new facts)
+  pub behind : (m : ℕ) → IsBehind m left → IsBehind m new
+  pub fewer : LeavesNoMore left new
+
+pub at_rest : (answer : Reply) (left new : Device) → IsReady left → new ≡ left → LitUp answer left new
+at_rest answer left new ready same = subst (λ (d : Device). LitUp answer left d) (sym same) (record {
+  ready = λ goes. ready;
+  power = ready.power;
+  orders = refl;
+  waits = refl;
+  keeps = λ run first facts keeps. keeps;
+  behind = λ m behind. behind;
+  fewer = λ image may. may;
+})
+
+pub lit_up : (why : Cause) (left new : Device) → Rests why left → IsLit why left new → LitUp (reply.Refused (refusal_of why)) left new
+lit_up cause.Dark left new still lit =
+    let path = relit_path left new still lit in
+    record {
+      ready = λ goes. record { flights = ap (λ (d : Device). d.flights) lit ∙ still; freed = ap (λ (d : Device). d.freed) lit; power = ap (λ (d : Device). d.power) lit };
+      power = ap (λ (d : Device). d.power) lit;
+      orders = ap (λ (d : Device). d.orders) lit;
+      waits = ap (λ (d : Device). d.counts.waits) lit;
+      keeps = λ run first facts keeps. keeps_steps run first left new facts keeps path;
+      behind = λ m behind. no_more_stays_behind m left new still (last-path path) behind;
+      fewer = last-path path;
+    }
+lit_up cause.Stuck left new power same = subst (λ (d : Device). LitUp (reply.Refused refusal.Stuck) left d) (sym same) (record {
+  ready = λ goes. absurd (goes refl);
+  power = power;
+  orders = refl;
+  waits = refl;
+  keeps = λ run first facts keeps. keeps;
+  behind = λ m behind. behind;
+  fewer = λ image may. may;
+})
+lit_up (cause.NoDisk disk) left new ready same = at_rest (reply.Refused (refusal.NoDisk disk)) left new ready same
+lit_up (cause.TooMany limit) left new ready same = at_rest (reply.Refused (refusal.TooMany limit)) left new ready same
+lit_up (cause.TooSmall disk) left new ready same = at_rest (reply.Refused (refusal.TooSmall disk)) left new ready same
+lit_up cause.GroupExists left new ready same = at_rest (reply.Refused refusal.GroupExists) left new ready same
+lit_up cause.NoRecord left new ready same = at_rest (reply.Refused refusal.NoRecord) left new ready same
+lit_up cause.Ambiguous left new ready same = at_rest (reply.Refused refusal.Ambiguous) left new ready same
+lit_up (cause.NoQuorum have total) left new ready same = at_rest (reply.Refused (refusal.NoQuorum have total)) left new ready same
+lit_up (cause.ClockBack seen) left new ready same = at_rest (reply.Refused (refusal.ClockBack seen)) left new ready same
+lit_up (cause.DiskFailed disk) left new ready same = at_rest (reply.Refused (refusal.DiskFailed disk)) left new ready same
+lit_up cause.HistoryFull left new ready same = at_rest (reply.Refused refusal.HistoryFull) left new ready same
+lit_up cause.Memory left new ready same = at_rest (reply.Refused refusal.Memory) left new ready same
+
+-- ---- a command at a moment of the clock
+
+-- what its call promises whatever the answer
+pub record Promises (run moment : ℕ) (old left : Moment) : Type 0 where
+  pub keeps : ClockIsAhead run moment old.device old.facts → Keeps run old left
+  pub behind : ClockIsAhead run moment old.device old.facts → IsBehind (moment + 1) left.device
+  pub calm : StaysCalm old left
+  pub waits : old.device.counts.waits ≤ left.device.counts.waits
+  pub later : (m : ℕ) → moment < m → IsLater old.facts m → IsLater left.facts m
+
+module _ (run : ℕ) (old : State) (settled : IsSettled old.moment old.session) (moment : ℕ) (rose : Rose old.last moment) where
+  ahead : (facts : List Fact) (new : Device) → IsAhead run (old.last + 1) old.moment.device old.moment.facts → IsLater facts (moment + 1) → IsBehind (moment + 1) new → IsAhead run (moment + 1) new facts
+  ahead facts new timely later behind = record { run_is = let r = timely.run_is in let e = rose.later in omega (arith, r, e); later = later; behind = behind }
+
+  earlier : (m : ℕ) → IsAhead run (old.last + 1) old.moment.device old.moment.facts → old.last + 1 ≤ m → IsLater old.moment.facts m
+  earlier m timely le = (ahead_later run (old.last + 1) m old.moment.device old.moment.facts le timely).later
+
+  -- it was refused
+  pub left_off : (why : Cause) (left : Moment) (new : Device) → Promises run moment old.moment left → Leaves why old.moment.device left.device → IsLit why left.device new
+      → HaveAllLanded left.facts → GoesOn run (reply.Refused (refusal_of why)) old (record { moment = at new left.facts; session = None; last = moment })
+  left_off why left new promises leaves lit landed =
+      let up = lit_up why left.device new leaves.rests lit in
+      record {
+        keeps = λ timely held alone. up.keeps run old.moment left.facts (promises.keeps (clock_is_ahead run old.last moment old.moment.device old.moment.facts rose timely.ahead));
+        timely = λ timely. record {
+          ahead = ahead left.facts new timely.ahead (promises.later (moment + 1) (omega arith) (earlier (moment + 1) timely.ahead (let e = rose.later in omega (arith, e))))
+              (up.behind (moment + 1) (promises.behind (clock_is_ahead run old.last moment old.moment.device old.moment.facts rose timely.ahead)));
+          session = tt;
+        };
+        held = λ timely held. tt;
+        notes = λ timely quiet home. tt;
+        left = λ none. tt;
+        calm = λ goes. promises.calm;
+        settled = λ goes. record { ready = up.ready goes; landed = landed; session = tt };
+        power = up.power;
+        waits = let e = up.waits in let w = promises.waits in omega (arith, e, w);
+        clock = rose.later;
+      }
+
+  -- the group is on
+  pub left_on : old.session ≡ None → (core : Core) (new : Device) → Promises run moment old.moment (at new core.history.facts) → IsReady new → IsSettledCore core → core.status.stamp.epoch ≡ moment → HaveAllLanded core.history.facts
+      → (ClockIsAhead run moment old.moment.device old.moment.facts → StartsHeld new core) → NoneIsLeft core.descriptor core.status → GoesOn run reply.Ok old (record { moment = at new core.history.facts; session = Some core; last = moment })
+  left_on off core new promises ready idle epoch landed held none = record {
+    keeps = λ timely held alone. promises.keeps (clock_is_ahead run old.last moment old.moment.device old.moment.facts rose timely.ahead);
+    timely = λ timely. record {
+      ahead = ahead core.history.facts new timely.ahead (promises.later (moment + 1) (omega arith) (earlier (moment + 1) timely.ahead (let e = rose.later in omega (arith, e))))
+          (promises.behind (clock_is_ahead run old.last moment old.moment.device old.moment.facts rose timely.ahead));
+      session = omega (arith, epoch);
+    };
+    held = λ timely before. (held (clock_is_ahead run old.last moment old.moment.device old.moment.facts rose timely.ahead)).held;
+    notes = λ timely quiet home. (held (clock_is_ahead run old.last moment old.moment.device old.moment.facts rose timely.ahead)).notes
+        (subst (λ (s : Option Core). IfNone s (HasNoActive core.descriptor)) off quiet);
+    left = λ before. none;
+    calm = λ goes. promises.calm;
+    settled = λ goes. record { ready = ready; landed = landed; session = idle };
+    power = ready.power;
+    waits = promises.waits;
+    clock = rose.later;
+  }
+
+-- ---- a stage at which no group is on
+
+pub off_is : {S : Type 0} (device : S → Device) (it : Stage S) (log : Log) (last : ℕ) → session_in it ≡ None → history_in it ≡ log → state_in device it last ≡ record { moment = at (device (shelf_in it)) log.facts; session = None; last = last }
+off_is device it log last off is =
+    ap (λ (l : Log). record { moment = at (device (shelf_in it)) l.facts; session = session_in it; last = last }) is
+    ∙ ap (λ (s : Option Core). record { moment = at (device (shelf_in it)) log.facts; session = s; last = last }) off
+
+-- a shelf whose power wasn't cut is left alone
+pub left_alone : (device : Device) (why : Cause) → (why ≡ cause.Dark → ⊥) → IsLit why device device
+left_alone device cause.Dark other = absurd (other refl)
+left_alone device cause.Stuck other = refl
+left_alone device (cause.NoDisk disk) other = refl
+left_alone device (cause.TooMany limit) other = refl
+left_alone device (cause.TooSmall disk) other = refl
+left_alone device cause.GroupExists other = refl
+left_alone device cause.NoRecord other = refl
+left_alone device cause.Ambiguous other = refl
+left_alone device (cause.NoQuorum have total) other = refl
+left_alone device (cause.ClockBack seen) other = refl
+left_alone device (cause.DiskFailed disk) other = refl
+left_alone device cause.HistoryFull other = refl
+left_alone device cause.Memory other = refl

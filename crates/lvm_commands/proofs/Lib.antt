@@ -1,0 +1,16 @@
+pub mod Texts
+pub mod Going
+pub mod Cutting
+pub mod Passive
+pub mod Coming
+pub mod Commanding
+pub mod Ending
+pub mod Landing
+pub mod OfVolumes
+pub mod Ranging
+pub mod Varying
+pub mod Making
+pub mod Staging
+pub mod Closing
+pub mod Listing
+pub mod Ordering

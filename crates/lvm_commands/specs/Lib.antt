@@ -1,0 +1,10 @@
+pub mod State
+pub mod Stages
+pub mod Refusals
+pub mod Replies
+pub mod Moments
+pub mod Shelves
+pub mod Listings
+pub mod Disks
+pub mod Groups
+pub mod Volumes
