@@ -28,3 +28,4 @@ pub mod CopyRead
 pub mod NoteStart
 pub mod CopyReadFalls
 pub mod NoteStartFalls
+pub mod OverFalls
