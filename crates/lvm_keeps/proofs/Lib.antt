@@ -27,3 +27,5 @@ pub mod Orders
 pub mod CopyRead
 pub mod NoteStart
 pub mod CopyReadFalls
+pub mod NoteStartFalls
+pub mod OverFalls

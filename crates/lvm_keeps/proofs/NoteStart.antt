@@ -98,20 +98,20 @@ module _ (s : State) (sound : IsSound s) (on : s.core.power ≡ power.On) (place
   going : IsGoing core
   going = (sound.on on).going
 
-  its : IsOpenOne core o
+  pub its : IsOpenOne core o
   its = all_at (IsOpenOne core) core.requests place o going.requests there
 
   -- ---- its disk
 
   -- where a note is due the request waits
-  record_due : wants_record o.request.phase ≡ true
+  pub record_due : wants_record o.request.phase ≡ true
   record_due = by (wants_record o.request.phase) o.request.pinned due
     where
       by : (a b : Bool) → (if a && b then option_map (λ (t : Target). t.pp.disk) (find (is_unnamed core o.request.ask) o.request.targets.items) else None) ≡ Some disk → a ≡ true
       by true b e = refl
       by false b e = absurd (cc e)
 
-  aim : (t : Target) × (find (is_unnamed core o.request.ask) o.request.targets.items ≡ Some t) × (t.pp.disk ≡ disk)
+  pub aim : (t : Target) × (find (is_unnamed core o.request.ask) o.request.targets.items ≡ Some t) × (t.pp.disk ≡ disk)
   aim = by (wants_record o.request.phase && o.request.pinned) (find (is_unnamed core o.request.ask) o.request.targets.items) refl due
     where
       by : (b : Bool) (m : Option Target) → find (is_unnamed core o.request.ask) o.request.targets.items ≡ m → (if b then option_map (λ (t : Target). t.pp.disk) m else None) ≡ Some disk
@@ -120,17 +120,17 @@ module _ (s : State) (sound : IsSound s) (on : s.core.power ≡ power.On) (place
       by true None is e = absurd (cc e)
       by true (Some t) is e = (t, is, cc e)
 
-  waiting : is_waiting o ≡ true
+  pub waiting : is_waiting o ≡ true
   waiting = by (is_waiting o) refl
     where
       by : (b : Bool) → is_waiting o ≡ b → b ≡ true
       by true is = refl
       by false is = not_so (sym (ap wants_record (its.over is).phase_is) ∙ record_due)
 
-  found : (is_unnamed core o.request.ask aim.0 ≡ true) × IsTarget core o.request.ask aim.0
+  pub found : (is_unnamed core o.request.ask aim.0 ≡ true) × IsTarget core o.request.ask aim.0
   found = found_all (IsTarget core o.request.ask) (is_unnamed core o.request.ask) o.request.targets.items aim.0 aim.1 (its.waits waiting).shape.targets
 
-  no_flight : flight_on core.cache disk ≡ None
+  pub no_flight : flight_on core.cache disk ≡ None
   no_flight = none (flight_on core.cache disk) (ap (λ d. is_none (flight_on core.cache d)) (sym aim.2) ∙ (both (not_missing) (is_none (flight_on core.cache aim.0.pp.disk)) (both (not_missing && is_none (flight_on core.cache aim.0.pp.disk)) _ found.0).0).1)
     where
       not_missing : Bool
@@ -143,15 +143,15 @@ module _ (s : State) (sound : IsSound s) (on : s.core.power ≡ power.On) (place
   has_it : has_disk core.cache disk ≡ true
   has_it = going.fitting.notes disk ∙ ap (is_member core.descriptor) (sym aim.2) ∙ copies_on_members core.descriptor (lv_of o.request.ask) (lp_of core o.request.ask) aim.0.pp going.fitting.valid found.1.copy
 
-  noted : flight_on now.core.cache disk ≡ Some (record { items = note_of core.cache.entries })
+  pub noted : flight_on now.core.cache disk ≡ Some (record { items = note_of core.cache.entries })
   noted = flight_here core.cache disk has_it
 
   -- ---- the requests
 
-  abbrev IsKept : Open → Type 0
+  abbrev pub IsKept : Open → Type 0
   IsKept x = x.request.pinned ≡ true → 1 ≤ pins_of core.cache.entries (lv_of x.request.ask) (group_of x.request.ask)
 
-  kept : AllByRecursion IsKept core.requests
+  pub kept : AllByRecursion IsKept core.requests
   kept = all_on (IsCountedIn core.requests) IsKept (λ x low e. let was = low e in let same = going.pinned (lv_of x.request.ask) (group_of x.request.ask) in omega (arith, was, same)) core.requests (each_counted core.requests)
 
   named_on : (x : Open) → IsKept x → (m : Mode) → IsRecorded m x.request.phase x.request → has_record x.request.phase ≡ true → 2 ≤ length x.request.targets.items → has_names core m x.request ≡ true → has_names now.core m x.request ≡ true

@@ -1,5 +1,5 @@
 -- Each event of a turn leaves less work, and a session never stands still.
-use Rattle.std.specs.Prelude.{◌≡◌, ◌≤◌, ◌<◌, ◌+◌, ◌-◌, ◌*◌, ℕ, false, [], Some, None, IfSome, length, count_by}
+use Rattle.std.specs.Prelude.{◌≡◌, ◌≤◌, ◌<◌, ◌+◌, ◌-◌, ◌*◌, ℕ, true, false, [], Some, None, IfSome, length, count_by}
 use Rattle.std.specs.List.{list_any}
 use Rattle.std.specs.Option.{option_map_or}
 use Rattle.lvm_num.specs.declared.descriptor.PvRow.{PvRow}
@@ -12,8 +12,9 @@ use Rattle.lvm_session.specs.Bringing.{groups_of}
 use Rattle.lvm_session.specs.Enabled.{first_event, is_lost}
 use Rattle.lvm_events.specs.Ends.{Ends}
 use Rattle.lvm_vol.specs.declared.entry.Outcome.{Outcome}
-use Rattle.lvm_events.specs.Events.{Lands, Pins, ReadsCopy}
+use Rattle.lvm_events.specs.Events.{Lands, Pins, ReadsCopy, StartsNote}
 use Rattle.lvm_events.specs.Turns.{Makes}
+use Rattle.lvm_sound.specs.Causes.{is_over}
 use Rattle.lvm_sound.specs.Left.{left_of}
 use Rattle.lvm_sound.specs.Sound.{IsSound}
 
@@ -54,3 +55,11 @@ LandingFalls = (place : ℕ) (how : Outcome) (old new : State) → IsSound old �
 -- And so does the start of the read by which a copy is brought up.
 abbrev pub CopyReadFalls : Type 0
 CopyReadFalls = (old new : State) → IsSound old → old.core.power ≡ power.On → is_lost old.core ≡ false → ReadsCopy old new → left_of new.core < left_of old.core
+
+-- And so does the start of a note.
+abbrev pub NoteStartFalls : Type 0
+NoteStartFalls = (place disk : ℕ) (old new : State) → IsSound old → old.core.power ≡ power.On → is_lost old.core ≡ false → StartsNote old new place disk → left_of new.core < left_of old.core
+
+-- Nothing is left once a session is over.
+abbrev pub OverLeavesNothing : Type 0
+OverLeavesNothing = (s : State) → is_over s.core.power ≡ true → left_of s.core ≡ 0

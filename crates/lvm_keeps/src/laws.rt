@@ -1,6 +1,6 @@
 //! Laws: what each event of a sound session leaves is sound.
 ghost use Rattle.lvm_keeps.specs.Begins.{BeginningIsSound};
-ghost use Rattle.lvm_keeps.specs.Falls.{CopyReadFalls, LandingFalls, LeftIsBounded, PinFalls};
+ghost use Rattle.lvm_keeps.specs.Falls.{CopyReadFalls, LandingFalls, LeftIsBounded, NoteStartFalls, OverLeavesNothing, PinFalls};
 ghost use Rattle.lvm_keeps.specs.Keeps.{CloseKeeps, CopyReadKeeps, CutKeeps, FirstStartIsNoted, FirstStartIsWhole, LandingIsCaused, LossIsCaused, NoteStartKeeps, OffKeeps, OrderKeeps, PinKeeps, TakeKeeps, WaitKeeps};
 
 /// A session is sound as it begins.
@@ -89,6 +89,16 @@ pub fn landing_falls()
 /// So does the start of the read by which a copy is brought up.
 pub fn copy_read_falls()
     ensures { CopyReadFalls }
+{}
+
+/// So does the start of a note's write.
+pub fn note_start_falls()
+    ensures { NoteStartFalls }
+{}
+
+/// Nothing is left once a session is over.
+pub fn over_leaves_nothing()
+    ensures { OverLeavesNothing }
 {}
 
 /// A write that starts its first transfer at two targets or more has the records that its volume keeps.
