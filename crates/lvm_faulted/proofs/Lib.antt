@@ -1,3 +1,4 @@
 mod Parts
 mod Missing
 mod Losing
+mod Failing

@@ -153,7 +153,7 @@ has_fresh m core stays lv lp = by_volume (1 == lv) lp
 
 -- ---- what has failed
 
-rose_once : Rose 0 1
+pub rose_once : Rose 0 1
 rose_once = record { later = omega arith; risen = omega arith }
 
 -- a disk that is missing has failed since

@@ -1,4 +1,5 @@
 //! Laws: sessions in which disks have failed are sound.
+ghost use Rattle.lvm_faulted.specs.Failing.{KeptWritesAreSound, LostWritesAreSound, UnsettledWritesAreSound};
 ghost use Rattle.lvm_faulted.specs.Faulted.{EndedSessionsAreSound, LostVotesAreSound, MissingDisksAreSound};
 
 use lvm_sound::held_writes_are_sound;
@@ -20,6 +21,27 @@ pub fn lost_votes_are_sound()
 /// So it is once it has ended, and when the power is cut after that; a request that landed as off keeps that answer.
 pub fn ended_sessions_are_sound()
     ensures { EndedSessionsAreSound }
+{
+    held_writes_are_sound();
+}
+
+/// A session with a write that has failed on one of two copies, and waits until that one is settled as stale, is sound.
+pub fn unsettled_writes_are_sound()
+    ensures { UnsettledWritesAreSound }
+{
+    held_writes_are_sound();
+}
+
+/// So it is once that is settled, and the write lands as done.
+pub fn kept_writes_are_sound()
+    ensures { KeptWritesAreSound }
+{
+    held_writes_are_sound();
+}
+
+/// So is one with a write that has failed on both copies, and lands as lost.
+pub fn lost_writes_are_sound()
+    ensures { LostWritesAreSound }
 {
     held_writes_are_sound();
 }
