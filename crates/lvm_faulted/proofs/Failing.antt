@@ -45,11 +45,11 @@ or_left : {a : Bool} (b : Bool) → a ≡ true → a || b ≡ true
 or_left b is = ap (λ t. t || b) is
 
 -- no disk is missing by a status that calls the second copy stale
-none_missing_behind : (disk : ℕ) {X : Type 0} → calls_missing (status_of behind) disk ≡ true → X
+pub none_missing_behind : (disk : ℕ) {X : Type 0} → calls_missing (status_of behind) disk ≡ true → X
 none_missing_behind disk is = none_missing disk is
 
 -- what it calls stale stands on the second disk
-stale_there : (p : Pp) → calls_stale (status_of behind) p ≡ true → p.disk ≡ 1
+pub stale_there : (p : Pp) → calls_stale (status_of behind) p ≡ true → p.disk ≡ 1
 stale_there p is = by (1 == p.disk) refl (0 == p.disk) (2 == p.disk) (has_bit (replicate 127 0) p.pp) (has-none 127 p.pp) is
   where
     by : (y : Bool) → (1 == p.disk) ≡ y → (x z t : Bool) → t ≡ false → x && t || (y && has_bit (1 ∷ replicate 126 0) p.pp || (z && t || false)) ≡ true → p.disk ≡ 1
@@ -146,7 +146,7 @@ module _ (held : HeldWritesAreSound) (committed : Says) (flies : Option Says) (w
 on_others : (disk : ℕ) → has 6 disk ≡ (disk == 1 || disk == 2)
 on_others disk = has-with 2 2 (omega arith) disk ∙ ap (λ t. t || disk == 2) (has-with 0 1 (omega arith) disk ∙ ap (λ t. t || disk == 1) (has-zero disk))
 
-one_or_two : (disk : ℕ) → has 6 disk ≡ true → (disk ≡ 1) ⊎ (disk ≡ 2)
+pub one_or_two : (disk : ℕ) → has 6 disk ≡ true → (disk ≡ 1) ⊎ (disk ≡ 2)
 one_or_two disk is = by (disk == 1) (disk == 2) refl refl (sym (on_others disk) ∙ is)
   where
     by : (a b : Bool) → (disk == 1) ≡ a → (disk == 2) ≡ b → a || b ≡ true → (disk ≡ 1) ⊎ (disk ≡ 2)
@@ -154,10 +154,10 @@ one_or_two disk is = by (disk == 1) (disk == 2) refl refl (sym (on_others disk) 
     by false true p q e = inr (eqb-true disk 2 q)
     by false false p q e = not_so e
 
-abbrev Untouched : ℕ → Type 0
+abbrev pub Untouched : ℕ → Type 0
 Untouched disk = (is_there (seen unsettled.core.status) disk ≡ true) × (has 0 disk ≡ false) × (has 1 disk ≡ false) × (has 0 disk ≡ false)
 
-untouched : (disk : ℕ) → (disk ≡ 1) ⊎ (disk ≡ 2) → Untouched disk
+pub untouched : (disk : ℕ) → (disk ≡ 1) ⊎ (disk ≡ 2) → Untouched disk
 unfolding has has_bit
 untouched disk (inl is) = subst Untouched (sym is) (refl, refl, refl, refl)
 untouched disk (inr is) = subst Untouched (sym is) (refl, refl, refl, refl)
@@ -166,7 +166,7 @@ abbrev Has : ℕ → Type 0
 Has d = has 6 d || (has 0 d || has 1 d) ≡ true
 
 -- a member has the update, or is to be written
-each_is : (disk : ℕ) → is_there (seen unsettled.core.status) disk ≡ true → has 6 disk || (has 0 disk || has 1 disk) ≡ true
+pub each_is : (disk : ℕ) → is_there (seen unsettled.core.status) disk ≡ true → has 6 disk || (has 0 disk || has 1 disk) ≡ true
 unfolding has has_bit
 each_is disk is = by (0 == disk) (1 == disk) (2 == disk) (calls_missing unsettled.core.status.wanted disk) refl refl refl is
   where

@@ -2,3 +2,4 @@ mod Parts
 mod Missing
 mod Losing
 mod Failing
+mod Copies

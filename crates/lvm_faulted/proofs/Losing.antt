@@ -36,7 +36,7 @@ numbers mode.Passive = omega arith
 numbers mode.Off = omega arith
 
 -- the third disk alone
-on_third : (disk : ℕ) → has 4 disk ≡ true → disk ≡ 2
+pub on_third : (disk : ℕ) → has 4 disk ≡ true → disk ≡ 2
 on_third disk is = eqb-true disk 2 (by (disk == 2) (has-with 0 2 (omega arith) disk ∙ ap (λ t. t || disk == 2) (has-zero disk)))
   where
     by : (t : Bool) → has 4 disk ≡ t → t ≡ true

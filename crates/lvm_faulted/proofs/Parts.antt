@@ -108,26 +108,25 @@ stale_there both p is = by (1 == p.disk) refl (0 == p.disk) (2 == p.disk) (has_b
 
 -- ---- what follows from it
 
-abbrev both_copies : List Pp
+abbrev pub both_copies : List Pp
 both_copies = first_copy ∷ second_copy ∷ []
 
 second_is_stale : (both : Bool) → calls_stale (without_disks both) second_copy ≡ true
 unfolding has_bit
 second_is_stale both = refl
 
--- what the missing disks entail is wanted
-pub behind : (m : Mode) (both : Bool) (p : Pp) → is_entailed (wanting m both) p ≡ true → calls_stale (without_disks both) p ≡ true
-behind m both p is =
-    let parts = split (is_among both_copies p) (not (is_stale (wanting m both) p)) (calls_missing (without_disks both) p.disk) (list_any (can_replace (wanting m both)) both_copies) is in
-    let disk = which_missing both p.disk parts.1 in
-    among (p.disk == 0) (p.pp == 0) (p.disk == 1) refl refl refl parts.0 disk
-  where
-    split : (a b c d : Bool) → a && b && c && d || false || false ≡ true → (a ≡ true) × (c ≡ true)
-    split true true true d is = (refl, refl)
-    split true true false d is = not_so is
-    split true false c d is = not_so is
-    split false b c d is = not_so is
+-- what is entailed is a copy, and on a missing disk
+pub entailed : (a b c d : Bool) → a && b && c && d || false || false ≡ true → (a ≡ true) × (c ≡ true)
+entailed true true true true is = (refl, refl)
+entailed true true true false is = not_so is
+entailed true true false d is = not_so is
+entailed true false c d is = not_so is
+entailed false b c d is = not_so is
 
+-- a copy on a missing disk is called stale
+pub stale_with_disk : (both : Bool) (p : Pp) → is_among both_copies p ≡ true → calls_missing (without_disks both) p.disk ≡ true → calls_stale (without_disks both) p ≡ true
+stale_with_disk both p one missing = among (p.disk == 0) (p.pp == 0) (p.disk == 1) refl refl refl one (which_missing both p.disk missing)
+  where
     there : p.disk ≡ 1 → p.pp ≡ 0 → calls_stale (without_disks both) p ≡ true
     there e f = ap (λ d. calls_stale (without_disks both) (record { disk = d; pp = p.pp })) e ∙ ap (λ n. calls_stale (without_disks both) (record { disk = 1; pp = n })) f ∙ second_is_stale both
 
@@ -138,6 +137,12 @@ behind m both p is =
     among false true false e f g is disk = not_so is
     among false false true e f g is disk = not_so is
     among false false false e f g is disk = not_so is
+
+-- what the missing disks entail is wanted
+pub behind : (m : Mode) (both : Bool) (p : Pp) → is_entailed (wanting m both) p ≡ true → calls_stale (without_disks both) p ≡ true
+behind m both p is =
+    let parts = entailed (is_among both_copies p) (not (is_stale (wanting m both) p)) (calls_missing (without_disks both) p.disk) (list_any (can_replace (wanting m both)) both_copies) is in
+    stale_with_disk both p parts.0 parts.1
 
 -- each logical partition has a fresh copy where the first copy stays fresh
 pub has_fresh : (m : Mode) (core : Core) → stays_fresh core first_copy ≡ true → (lv lp : ℕ) → list_any (may_be_fresh core) (copies_in (mirrored m) lv lp) ≡ true → list_any (stays_fresh core) (copies_in (mirrored m) lv lp) ≡ true

@@ -1,8 +1,9 @@
 //! Laws: sessions in which disks have failed are sound.
+ghost use Rattle.lvm_faulted.specs.Copies.{FailedCopiesAreSound, WholeCopiesAreSound};
 ghost use Rattle.lvm_faulted.specs.Failing.{KeptWritesAreSound, LostWritesAreSound, UnsettledWritesAreSound};
 ghost use Rattle.lvm_faulted.specs.Faulted.{EndedSessionsAreSound, LostVotesAreSound, MissingDisksAreSound};
 
-use lvm_sound::held_writes_are_sound;
+use lvm_sound::{copies_are_sound, held_writes_are_sound};
 
 /// A session that misses a disk since a transfer on it failed is sound, in whatever mode its volume is.
 pub fn missing_disks_are_sound()
@@ -44,4 +45,18 @@ pub fn lost_writes_are_sound()
     ensures { LostWritesAreSound }
 {
     held_writes_are_sound();
+}
+
+/// A session with a copy that is whole, and of which the clearing is in flight, is sound.
+pub fn whole_copies_are_sound()
+    ensures { WholeCopiesAreSound }
+{
+    copies_are_sound();
+}
+
+/// So is one with a copy that has failed with the write of its clearing to its own disk, and that it may close.
+pub fn failed_copies_are_sound()
+    ensures { FailedCopiesAreSound }
+{
+    copies_are_sound();
 }
