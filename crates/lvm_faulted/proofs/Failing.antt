@@ -280,7 +280,7 @@ none_cleared true b none is not = not_either none
 none_cleared false true none is not = not_either not
 none_cleared false false none is not = not_so is
 
-both_stale : (a : Bool) {X : Type 0} → a || a ≡ true → a ≡ false → X
+pub both_stale : (a : Bool) {X : Type 0} → a || a ≡ true → a ≡ false → X
 both_stale true is not = not_either not
 both_stale false is not = not_so is
 
@@ -289,7 +289,7 @@ either_wanted true b none is = not_either none
 either_wanted false true none is = refl
 either_wanted false false none is = is
 
-all_stale : (a : Bool) → (a || a) || a ≡ true → a ≡ true
+pub all_stale : (a : Bool) → (a || a) || a ≡ true → a ≡ true
 all_stale true is = refl
 all_stale false is = is
 

@@ -3,3 +3,4 @@ mod Missing
 mod Losing
 mod Failing
 mod Copies
+mod Unread

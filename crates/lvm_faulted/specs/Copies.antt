@@ -14,7 +14,13 @@ use Rattle.lvm_faulted.specs.Faulted.{faulted, without_disks}
 
 -- The second copy was stale when the session began, all its track groups are copied, and the update that clears it is written on the first disk.
 abbrev pub whole : Mode → State
-whole m = state faultless (core_of (record (bringing m) { wanted = fresh; flies = Some fresh; writes = record { unstarted = 6; started = 0; written = 1; failed = 0 }; rows = []; copy = Some (bringing_up 8 None) }))
+whole m = state faultless (core_of (record (bringing m) {
+  wanted = fresh;
+  flies = Some fresh;
+  writes = record { unstarted = 6; started = 0; written = 1; failed = 0 };
+  rows = [];
+  copy = Some (bringing_up 8 None);
+}))
 
 -- A session with such a copy is sound, and goes on to write the status.
 pub record WholeCopiesAreSound : Type 0 where
@@ -26,7 +32,12 @@ pub record WholeCopiesAreSound : Type 0 where
 -- The update's write to the copy's own disk has failed: the disk is missing, the copy has ended, and is wanted stale again.
 abbrev pub failed : Mode → State
 failed m =
-    let core = core_of (record (bringing m) { flies = Some fresh; writes = record { unstarted = 4; started = 0; written = 1; failed = 2 }; rows = []; copy = Some (bringing_up 8 (Some ending.SyncFailed)) }) in
+    let core = core_of (record (bringing m) {
+      flies = Some fresh;
+      writes = record { unstarted = 4; started = 0; written = 1; failed = 2 };
+      rows = [];
+      copy = Some (bringing_up 8 (Some ending.SyncFailed));
+    }) in
     state (faulted false) (record core { status = record core.status { wanted = without_disks false } })
 
 -- A session with such a copy is sound, goes on to write the status, and stays sound where the copy is closed.

@@ -24,7 +24,8 @@ ended_write first = asking 1 a_write phase.WantStatus (target_on first_copy firs
 
 -- the second copy is wanted stale, and the volume keeps no records
 abbrev pub ended : Says → Option Says → Writes → TargetState → Moment
-ended committed flies writes first = record (held_write mode.Off) { committed = committed; wanted = behind; flies = flies; writes = writes; requests = ended_write first ∷ [] }
+ended committed flies writes first =
+    record (held_write mode.Off) { committed = committed; wanted = behind; flies = flies; writes = writes; requests = ended_write first ∷ [] }
 
 abbrev pub no_writes : Writes
 no_writes = record { unstarted = 0; started = 0; written = 0; failed = 0 }

@@ -52,7 +52,12 @@ pub record MissingDisksAreSound : Type 0 where
 abbrev pub lost : Mode → State
 lost m =
     let core = wanting m true in
-    state (faulted true) (record core { status = record core.status { in_flight = Some (without_disks false); writes = record { unstarted = 0; started = 0; written = 1; failed = 4 } } })
+    state (faulted true) (record core {
+      status = record core.status {
+        in_flight = Some (without_disks false);
+        writes = record { unstarted = 0; started = 0; written = 1; failed = 4 };
+      };
+    })
 
 -- the session is over by it
 abbrev pub off : Mode → State

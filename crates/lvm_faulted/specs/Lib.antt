@@ -1,3 +1,4 @@
 pub mod Faulted
 pub mod Failing
 pub mod Copies
+pub mod Unread

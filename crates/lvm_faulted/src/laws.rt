@@ -2,6 +2,7 @@
 ghost use Rattle.lvm_faulted.specs.Copies.{FailedCopiesAreSound, WholeCopiesAreSound};
 ghost use Rattle.lvm_faulted.specs.Failing.{KeptWritesAreSound, LostWritesAreSound, UnsettledWritesAreSound};
 ghost use Rattle.lvm_faulted.specs.Faulted.{EndedSessionsAreSound, LostVotesAreSound, MissingDisksAreSound};
+ghost use Rattle.lvm_faulted.specs.Unread.{FailedReadsAreSound, WritesWithoutCopyAreSound};
 
 use lvm_sound::{copies_are_sound, held_writes_are_sound};
 
@@ -59,4 +60,18 @@ pub fn failed_copies_are_sound()
     ensures { FailedCopiesAreSound }
 {
     copies_are_sound();
+}
+
+/// A session with a write for which no copy is left since a disk failed is sound, and the write lands so.
+pub fn writes_without_copy_are_sound()
+    ensures { WritesWithoutCopyAreSound }
+{
+    held_writes_are_sound();
+}
+
+/// So is one with a read that has failed on each copy, and lands so.
+pub fn failed_reads_are_sound()
+    ensures { FailedReadsAreSound }
+{
+    held_writes_are_sound();
 }
