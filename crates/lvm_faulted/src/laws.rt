@@ -55,7 +55,7 @@ pub fn whole_copies_are_sound()
     copies_are_sound();
 }
 
-/// So is one with a copy that has failed with the write of its clearing to its own disk, and that it may close.
+/// So is one with a copy that has failed with the write of its clearing to its own disk, also once it is closed.
 pub fn failed_copies_are_sound()
     ensures { FailedCopiesAreSound }
 {
