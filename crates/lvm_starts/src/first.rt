@@ -1,0 +1,47 @@
+//! The first transfer that may be started is.
+ghost use Rattle.std.specs.Prelude.{◌≡◌, ◌≤◌, length};
+ghost use Rattle.lvm_session.specs.Fields.{core_of};
+ghost use Rattle.lvm_session.specs.Rooms.{HasRooms, SameRooms};
+ghost use Rattle.lvm_session.specs.State.{state};
+ghost use Rattle.lvm_launch.specs.Launching.{StartGives};
+ghost use Rattle.lvm_starts.specs.Starts.{CanStart, MayStart, StartsFirst};
+
+use lvm_disk::Shelf;
+use lvm_enabled::first_start;
+use lvm_events::Turned;
+use lvm_launch::{read_copy, start_data, start_note, write_copy};
+use lvm_session::{Event, Session};
+use lvm_update::start_status;
+
+/// The transfer of an event that starts one is started. Answers `Moved`, or `Dark` where the power is found off.
+pub fn make_start<S: Shelf>(session: &mut Session, shelf: &mut S, event: Event) -> Turned
+    requires may { CanStart event (S.device shelf.old) (core_of session.old) }
+    requires rooms { HasRooms session.old }
+    requires room { 131072 ≤ length session.old.bytes.items }
+    ensures gives { StartGives event (state (S.device shelf.old) (core_of session.old)) (state (S.device shelf.new) (core_of session.new)) result }
+    ensures rooms { SameRooms session.old session.new }
+{
+    match event {
+        Event::StartStatus => start_status(session, shelf),
+        Event::StartNote { place, disk } => start_note(session, shelf, place, disk),
+        Event::StartData { place, target } => start_data(session, shelf, place, target),
+        Event::ReadCopy => read_copy(session, shelf),
+        Event::WriteCopy => write_copy(session, shelf),
+        Event::Land { .. } | Event::Admit { .. } | Event::Pin { .. } => unreachable!(),
+    }
+}
+
+/// The first transfer that may be started is, by the order of a turn. Answers `Moved`, or `Dark` where the power
+/// is found off; None where there is none, and nothing has changed.
+pub fn start_first<S: Shelf>(session: &mut Session, shelf: &mut S) -> Option<Turned>
+    requires may { MayStart (S.device shelf.old) (core_of session.old) }
+    requires rooms { HasRooms session.old }
+    requires room { 131072 ≤ length session.old.bytes.items }
+    ensures gives { StartsFirst (state (S.device shelf.old) (core_of session.old)) (state (S.device shelf.new) (core_of session.new)) result }
+    ensures rooms { SameRooms session.old session.new }
+{
+    match first_start(session) {
+        None => None,
+        Some(event) => Some(make_start(session, shelf, event)),
+    }
+}

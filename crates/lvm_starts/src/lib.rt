@@ -1,0 +1,6 @@
+//! The first transfer of a turn that may be started.
+#![tactic(auto)]
+
+mod first;
+
+pub use first::{make_start, start_first};
