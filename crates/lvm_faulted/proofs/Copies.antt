@@ -129,6 +129,7 @@ whole_copy m = record {
   place = (0, omega arith, refl);
   room = tt;
   free = λ idle. not_either idle;
+  under_way = λ runs idle. not_either idle;
   hand = λ ended. not_either ended;
   tried = λ disk is. not_marked disk is;
   source = tt;
@@ -146,7 +147,7 @@ whole_caused m = record {
 
 module _ (copies : CopiesAreSound) (m : Mode) where
   whole_fits : IsFitting (whole m).core
-  whole_fits = let f = (copies m).fitting in record { valid = f.valid; id = refl; rows = λ disk. refl; group = refl; entries = f.entries; notes = f.notes; table = f.table; most = f.most; queue = refl; a_buffer = f.a_buffer; buffers = f.buffers; last = f.last }
+  whole_fits = let f = (copies m).fitting in record { valid = f.valid; id = refl; rows = λ disk. refl; group = refl; entries = f.entries; notes = f.notes; table = f.table; most = f.most; queue = refl; a_buffer = f.a_buffer; buffers = f.buffers; last = f.last; room = f.room }
 
   whole_told : IsTold (whole m).core
   whole_told = record { ordered = tt; table = record { ascending = tt; still = tt }; each = λ id. refl; requests = tt }
@@ -281,6 +282,7 @@ failed_copy m = record {
   place = (0, omega arith, refl);
   room = tt;
   free = λ idle. not_either idle;
+  under_way = λ runs idle. not_either idle;
   hand = λ ended. refl;
   tried = λ disk is. not_marked disk is;
   source = tt;
@@ -313,7 +315,7 @@ none_cleared false false none is not = not_so is
 
 module _ (copies : CopiesAreSound) (m : Mode) where
   failed_fits : IsFitting (failed m).core
-  failed_fits = let f = (copies m).fitting in record { valid = f.valid; id = refl; rows = λ disk. refl; group = refl; entries = f.entries; notes = f.notes; table = f.table; most = f.most; queue = refl; a_buffer = f.a_buffer; buffers = f.buffers; last = f.last }
+  failed_fits = let f = (copies m).fitting in record { valid = f.valid; id = refl; rows = λ disk. refl; group = refl; entries = f.entries; notes = f.notes; table = f.table; most = f.most; queue = refl; a_buffer = f.a_buffer; buffers = f.buffers; last = f.last; room = f.room }
 
   failed_told : IsTold (failed m).core
   failed_told = record { ordered = tt; table = record { ascending = tt; still = tt }; each = λ id. refl; requests = tt }

@@ -97,7 +97,7 @@ none_behind committed flies writes first p is =
 
 module _ (held : HeldWritesAreSound) (committed : Says) (flies : Option Says) (writes : Writes) (first : TargetState) where
   fits : IsFitting (core_of (ended committed flies writes first))
-  fits = let f = (held mode.Off).fitting in record { valid = f.valid; id = refl; rows = λ disk. refl; group = refl; entries = f.entries; notes = f.notes; table = f.table; most = f.most; queue = refl; a_buffer = f.a_buffer; buffers = f.buffers; last = f.last }
+  fits = let f = (held mode.Off).fitting in record { valid = f.valid; id = refl; rows = λ disk. refl; group = refl; entries = f.entries; notes = f.notes; table = f.table; most = f.most; queue = refl; a_buffer = f.a_buffer; buffers = f.buffers; last = f.last; room = f.room }
 
   told : IsTold (core_of (ended committed flies writes first))
   told = let t = (held mode.Off).told in record { ordered = t.ordered; table = record { ascending = t.table.ascending; still = t.table.still }; each = t.each; requests = (asked_so first, tt) }

@@ -102,7 +102,7 @@ either_wanted false false none is = is
 
 module _ (held : HeldWritesAreSound) (m : Mode) where
   fits : IsFitting (lost m).core
-  fits = let f = fitting held m true in record { valid = f.valid; id = refl; rows = f.rows; group = refl; entries = f.entries; notes = f.notes; table = f.table; most = f.most; queue = refl; a_buffer = f.a_buffer; buffers = f.buffers; last = f.last }
+  fits = let f = fitting held m true in record { valid = f.valid; id = refl; rows = f.rows; group = refl; entries = f.entries; notes = f.notes; table = f.table; most = f.most; queue = refl; a_buffer = f.a_buffer; buffers = f.buffers; last = f.last; room = f.room }
 
   is_told : IsTold (lost m).core
   is_told = let t = told held m true in record { ordered = t.ordered; table = t.table; each = t.each; requests = t.requests }

@@ -191,6 +191,7 @@ module _ (held : HeldWritesAreSound) (m : Mode) (both : Bool) where
     a_buffer = f.a_buffer;
     buffers = f.buffers;
     last = f.last;
+    room = f.room;
   }
 
   pub told : IsTold (wanting m both)

@@ -112,7 +112,7 @@ first_since m disk is = subst (λ d. FailedSince (without_copy m) d) (sym is) ro
 
 module _ (writes : HeldWritesAreSound) (m : Mode) where
   fits : IsFitting (without_copy m).core
-  fits = let f = (writes m).fitting in record { valid = f.valid; id = refl; rows = λ disk. refl; group = refl; entries = f.entries; notes = f.notes; table = f.table; most = f.most; queue = refl; a_buffer = f.a_buffer; buffers = f.buffers; last = f.last }
+  fits = let f = (writes m).fitting in record { valid = f.valid; id = refl; rows = λ disk. refl; group = refl; entries = f.entries; notes = f.notes; table = f.table; most = f.most; queue = refl; a_buffer = f.a_buffer; buffers = f.buffers; last = f.last; room = f.room }
 
   told : IsTold (without_copy m).core
   told = let t = (writes m).told in record { ordered = t.ordered; table = t.table; each = t.each; requests = t.requests }
@@ -257,7 +257,7 @@ read_lands m = record { request = failed_read; there = refl; lands = refl; is = 
 
 module _ (writes : HeldWritesAreSound) (m : Mode) where
   read_fits : IsFitting (unread m).core
-  read_fits = let f = (writes m).fitting in record { valid = f.valid; id = f.id; rows = f.rows; group = refl; entries = f.entries; notes = f.notes; table = f.table; most = f.most; queue = refl; a_buffer = f.a_buffer; buffers = f.buffers; last = f.last }
+  read_fits = let f = (writes m).fitting in record { valid = f.valid; id = f.id; rows = f.rows; group = refl; entries = f.entries; notes = f.notes; table = f.table; most = f.most; queue = refl; a_buffer = f.a_buffer; buffers = f.buffers; last = f.last; room = f.room }
 
   read_owned : AreOwned (unread m).core
   read_owned (owner.Data id target) = by (1 == id) (target_flies target failed_read) (none_flies target)

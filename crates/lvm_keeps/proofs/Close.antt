@@ -59,7 +59,7 @@ module _ (s : State) (sound : IsSound s) (c : OpenCopy) (is : s.core.copy ≡ So
   one o it = open_on core core.history core.requests core.queue None core.pool core.flying core.cache.entries core.last o (λ e. e) (λ p e. refl) it
 
   fitting : IsFitting now.core
-  fitting = let f = sound.fitting in record { valid = f.valid; id = f.id; rows = f.rows; group = f.group; entries = f.entries; notes = f.notes; table = f.table; most = f.most; queue = f.queue; a_buffer = f.a_buffer; buffers = f.buffers; last = f.last }
+  fitting = let f = sound.fitting in record { valid = f.valid; id = f.id; rows = f.rows; group = f.group; entries = f.entries; notes = f.notes; table = f.table; most = f.most; queue = f.queue; a_buffer = f.a_buffer; buffers = f.buffers; last = f.last; room = f.room }
 
   told : IsTold now.core
   told = let t = sound.told in record { ordered = t.ordered; table = t.table; each = t.each; requests = t.requests }

@@ -146,6 +146,7 @@ module _ (s : State) (sound : IsSound s) (on : s.core.power ≡ power.On) (c : O
     a_buffer = subst (λ n. 1 ≤ n) (sym same_long) f.a_buffer;
     buffers = subst (λ n. n ≤ 1024) (sym same_long) f.buffers;
     last = f.last;
+    room = f.room;
   }
     where
       same_long : length pool ≡ length core.pool
@@ -172,6 +173,7 @@ module _ (s : State) (sound : IsSound s) (on : s.core.power ≡ power.On) (c : O
     hand = λ e. refl;
     tried = its.tried;
     source = (found.2, is_false (is_pp source c.pp) (both (not (is_pp source c.pp)) (is_usable core source) found.1).0, is_false (has c.tried source.disk) found.0);
+    under_way = λ runs busy. short core c may;
     stale = its.stale;
     clearing = its.clearing;
   }

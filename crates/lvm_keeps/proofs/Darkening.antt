@@ -1,5 +1,5 @@
 -- The power is found off, or cut: the session is over.
-use Rattle.std.proofs.Common.{◌≡◌, ◌≤◌, ◌⊎◌, inl, inr, ◌+◌, ℕ, Bool, true, false, ◌||◌, List, [], ◌∷◌, ◌++◌, Option, Some, None, length, map, refl, sym, ◌∙◌, ap, subst, arith, if◌then◌else◌}
+use Rattle.std.proofs.Common.{◌≡◌, ◌≤◌, ◌<◌, ◌⊎◌, inl, inr, ◌+◌, ◌^◌, ℕ, Bool, true, false, ◌||◌, List, [], ◌∷◌, ◌++◌, Option, Some, None, length, map, refl, sym, ◌∙◌, ap, subst, arith, if◌then◌else◌}
 use Rattle.std.specs.Prelude.{IfSome, count_by, unwrap_or}
 use Rattle.std.specs.List.{AllByRecursion}
 use Rattle.std.specs.Option.{option_map}
@@ -13,7 +13,7 @@ use Rattle.lvm_disk.specs.Steps.{GoesDark}
 use Rattle.lvm_vol.specs.declared.entry.Outcome.{Outcome}
 use Rattle.lvm_vol.specs.declared.entry.Outcome.TheVariants as outcome
 use Rattle.lvm_vol.specs.Facts.{Cut, Request}
-use Rattle.lvm_vol.specs.Log.{cut_log, got_without_bytes, is_open, is_uncut, with_fact}
+use Rattle.lvm_vol.specs.Log.{Log, cut_log, got_without_bytes, is_open, is_uncut, with_fact}
 use Rattle.lvm_vol.specs.Order.{IsGotOf}
 use Rattle.lvm_vol.proofs.Order.{ordered-push}
 use Rattle.lvm_mwc.specs.Cache.{Cached, has_disk}
@@ -39,6 +39,13 @@ use Rattle.lvm_keeps.proofs.Still.{if_on}
 use Rattle.lvm_keeps.proofs.Telling.{answered_still, asked_still, open_still, outcome_still, place_still}
 
 -- ---- the entry of the cut
+
+cut_room : (log : Log) → (cut_log log).room ≡ log.room
+cut_room log = by (is_uncut log.facts)
+  where
+    by : (b : Bool) → (if b then with_fact log Cut else log).room ≡ log.room
+    by true = refl
+    by false = refl
 
 cut_told : (core : Core) → IsTold core → IsTold (record core { history = cut_log core.history })
 cut_told core t = by (is_uncut core.history.facts)
@@ -138,6 +145,7 @@ module _ (s : State) (sound : IsSound s) where
       a_buffer = subst (λ n. 1 ≤ n) (sym long) f.a_buffer;
       buffers = subst (λ n. n ≤ 1024) (sym long) f.buffers;
       last = f.last;
+      room = subst (λ n. n < 2 ^ 32) (sym (cut_room core.history)) f.room;
     }
 
     told : IsTold now.core

@@ -203,6 +203,7 @@ module _ (s : State) (sound : IsSound s) (on : s.core.power ≡ power.On) (place
     a_buffer = subst (λ n. 1 ≤ n) (sym same_long) f.a_buffer;
     buffers = subst (λ n. n ≤ 1024) (sym same_long) f.buffers;
     last = f.last;
+    room = f.room;
   }
     where
       same_long : length pool ≡ length core.pool
@@ -212,7 +213,7 @@ module _ (s : State) (sound : IsSound s) (on : s.core.power ≡ power.On) (place
   told = let t = sound.told in record { ordered = t.ordered; table = t.table; each = t.each; requests = t.requests }
 
   bring : (c : OpenCopy) → IsCopy core c → IsCopy now.core c
-  bring c k = record { row = k.row; volume = k.volume; lp = k.lp; its = k.its; cursor = k.cursor; faults = k.faults; place = k.place; room = k.room; free = k.free; hand = k.hand; tried = k.tried; source = k.source; stale = k.stale; clearing = k.clearing }
+  bring c k = record { row = k.row; volume = k.volume; lp = k.lp; its = k.its; cursor = k.cursor; faults = k.faults; place = k.place; room = k.room; free = k.free; hand = k.hand; tried = k.tried; source = k.source; under_way = k.under_way; stale = k.stale; clearing = k.clearing }
 
   -- ---- whose it is
 

@@ -67,6 +67,7 @@ module _ (s : State) (sound : IsSound s) (on : s.core.power ≡ power.On) (lost 
     a_buffer = subst (λ n. 1 ≤ n) (sym long) f.a_buffer;
     buffers = subst (λ n. n ≤ 1024) (sym long) f.buffers;
     last = f.last;
+    room = f.room;
   }
 
   told : IsTold now.core

@@ -178,6 +178,7 @@ module _ (s : State) (sound : IsSound s) (on : s.core.power ≡ power.On) (place
     a_buffer = f.a_buffer;
     buffers = f.buffers;
     last = f.last;
+    room = f.room;
   }
 
   told : IsTold now.core

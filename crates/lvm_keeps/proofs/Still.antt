@@ -79,6 +79,7 @@ module _ (core : Core) (history : Log) (requests : List Open) (queue : Waiting) 
     hand = its.hand;
     tried = its.tried;
     source = its.source;
+    under_way = its.under_way;
     stale = its.stale;
     clearing = its.clearing;
   }

@@ -105,6 +105,7 @@ module _ (s : State) (sound : IsSound s) (place : ℕ) (o : Open) (there : slice
     a_buffer = f.a_buffer;
     buffers = f.buffers;
     last = f.last;
+    room = f.room;
   }
 
   -- the others are told of as before

@@ -1,12 +1,11 @@
 -- Each event of a sound session leaves it sound.
-use Rattle.std.specs.Prelude.{◌≡◌, ◌≤◌, ◌*◌, ◌||◌, true, false, ℕ, Bool, List, length, Option, Some, IfSome, is_some, Result, slice_get}
+use Rattle.std.specs.Prelude.{◌≡◌, ◌≤◌, ◌||◌, true, false, ℕ, Bool, List, length, Option, Some, Result, slice_get}
 use Rattle.lvm_num.specs.declared.place.Pp.{Pp}
 use Rattle.lvm_disk.specs.declared.shelf.Arrange.{Arrange}
 use Rattle.lvm_vol.specs.declared.entry.Outcome.{Outcome}
 use Rattle.lvm_session.specs.declared.open.Power.TheVariants as power
 use Rattle.lvm_session.specs.State.{Core, State, state}
 use Rattle.lvm_events.specs.declared.answers.Taken.{Taken}
-use Rattle.lvm_hold.specs.Conflicts.{IsInGroup}
 use Rattle.lvm_path.specs.declared.ask.Ask.{Ask}
 use Rattle.lvm_events.specs.declared.answers.AskFault.{AskFault}
 use Rattle.lvm_events.specs.declared.answers.CopyFault.{CopyFault}
@@ -14,15 +13,16 @@ use Rattle.lvm_events.specs.Calls.{Closes, OpenGives, SubmitGives, TakeGives}
 use Rattle.lvm_events.specs.Ends.{Ends}
 use Rattle.lvm_events.specs.Events.{Admits, Lands, Pins, ReadsCopy, StartsData, StartsNote, StartsStatus, WritesCopy}
 use Rattle.lvm_events.specs.Turns.{Arranges, Darkens, Finds, GoesOff}
-use Rattle.lvm_path.specs.Asks.{count_of, is_write}
+use Rattle.lvm_path.specs.Asks.{is_write}
 use Rattle.lvm_path.specs.Targets.{is_begun}
 use Rattle.lvm_session.specs.declared.open.Open.{Open}
-use Rattle.lvm_session.specs.Judging.{copies_for, has_dirty_mark, has_names, held_of, mode_of, pps_of}
+use Rattle.lvm_session.specs.Judging.{copies_for, has_dirty_mark, has_names, mode_of, pps_of}
 use Rattle.lvm_session.specs.Enabled.{is_lost, target_due}
 use Rattle.lvm_events.specs.Marks.{is_among}
 use Rattle.lvm_sound.specs.Requests.{is_left_out}
 use Rattle.lvm_sound.specs.Causes.{AnyFailedSince, IsLandedFor}
 use Rattle.lvm_sound.specs.Sound.{IsSound}
+use Rattle.lvm_sound.specs.Asking.{IsAsking, IsAwake}
 
 -- an event of a session that is on leaves it sound
 abbrev pub Keeps : (State → State → Type 0) → Type 0
@@ -71,20 +71,9 @@ OffKeeps = Keeps GoesOff
 
 -- ---- the calls of a client, also of a session that is over
 
--- a session of which the power isn't stuck
-abbrev pub IsAwake : Core → Type 0
-IsAwake core = core.power ≡ power.Stuck → ⊥
-
--- what a client may ask for: some blocks of one track group, with the data of a write
-pub record MaySubmit (client : ℕ) (ask : Ask) (bytes : Option (List ℕ)) : Type 0 where
-  pub someone : 1 ≤ client
-  pub blocks : IsInGroup (held_of ask)
-  pub written : is_some bytes ≡ is_write ask
-  pub long : IfSome bytes (λ (given : List ℕ). length given ≡ 512 * count_of ask)
-
 abbrev pub SubmitKeeps : Type 0
 SubmitKeeps = (s : State) (new : Core) (client : ℕ) (ask : Ask) (bytes : Option (List ℕ)) (answer : Result ℕ AskFault)
-    → IsSound s → IsAwake s.core → MaySubmit client ask bytes → SubmitGives s.core new client ask bytes answer → IsSound (state s.device new)
+    → IsSound s → IsAwake s.core → IsAsking ask bytes → SubmitGives s.core new client ask bytes answer → IsSound (state s.device new)
 
 abbrev pub OpenKeeps : Type 0
 OpenKeeps = (s : State) (new : Core) (lv lp number : ℕ) (answer : Result (Unit {0}) CopyFault)

@@ -3,4 +3,4 @@
 
 mod moves;
 
-pub use moves::move_first;
+pub use moves::{land_first, move_first};

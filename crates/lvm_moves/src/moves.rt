@@ -40,7 +40,9 @@ fn admission_of(found: Option<Event>) -> Option<usize>
     }
 }
 
-fn land_first(session: &mut Session) -> bool
+/// The first request that may land does: all that a turn makes of requests once the votes are lost. Answers whether
+/// there is one; where there is none nothing changes.
+pub fn land_first(session: &mut Session) -> bool
     requires going { IsGoing (core_of session.old) }
     requires room { 131072 ≤ length session.old.bytes.items }
     ensures gives { (device : Device) → FirstGives landing device (core_of session.old) (core_of session.new) result }

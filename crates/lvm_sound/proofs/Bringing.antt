@@ -49,6 +49,7 @@ module _ (m : Mode) where
     hand = λ ended. not_either ended;
     tried = λ disk is. not_marked disk is;
     source = tt;
+    under_way = λ runs busy. not_either busy;
     stale = λ runs part. (refl, refl);
     clearing = λ runs whole. not_so whole;
   }

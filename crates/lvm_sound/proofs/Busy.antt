@@ -121,6 +121,7 @@ fits = record {
   a_buffer = omega arith;
   buffers = omega arith;
   last = refl;
+  room = omega arith;
 }
 
 -- ---- its history
@@ -381,6 +382,7 @@ copy = record {
   hand = λ ended. not_either ended;
   tried = λ disk is. not_marked disk is;
   source = tt;
+  under_way = λ runs busy. refl;
   stale = λ runs part. (refl, refl);
   clearing = λ runs whole. not_so whole;
 }

@@ -54,6 +54,7 @@ fitting w table a_buffer buffers entries notes = record {
   a_buffer = a_buffer;
   buffers = buffers;
   last = refl;
+  room = omega arith;
 }
 
 module _ (m : Mode) where

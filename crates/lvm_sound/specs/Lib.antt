@@ -4,5 +4,6 @@ pub mod Left
 pub mod Requests
 pub mod Causes
 pub mod Sound
+pub mod Asking
 pub mod Worked
 pub mod Busy

@@ -107,6 +107,8 @@ pub record IsFitting (core : Core) : Type 0 where
   pub a_buffer : 1 ≤ length core.pool
   pub buffers : length core.pool ≤ 1024
   pub last : length core.last ≡ 512
+  -- the numbers of all requests that may begin are numbers of four bytes
+  pub room : core.history.room < 2 ^ 32
 
 -- ---- buffers
 
@@ -176,6 +178,8 @@ pub record IsCopy (core : Core) (c : OpenCopy) : Type 0 where
   -- only other copies of the logical partition are tried, and read
   pub tried : (disk : ℕ) → has c.tried disk ≡ true → list_any (λ (p : Pp). not (is_pp p c.pp) && p.disk == disk) (copies_in core.descriptor c.lv c.lp) ≡ true
   pub source : IsReadFrom c.step (copies_in core.descriptor c.lv c.lp) c
+  -- a step that is under way copies a track group, so it isn't whole yet
+  pub under_way : is_running c ≡ true → is_idle c.step ≡ false → is_whole core c ≡ false
   -- until it is whole it is stale by the committed status and by the one in flight, and wanted so
   pub stale : is_running c ≡ true → is_whole core c ≡ false → (is_settled core c.pp ≡ true) × (is_wanted_stale core c.pp ≡ true)
   -- then its clearing is wanted, and not committed yet

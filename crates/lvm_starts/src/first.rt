@@ -1,5 +1,4 @@
 //! The first transfer that may be started is.
-ghost use Rattle.std.specs.Prelude.{◌≡◌, ◌≤◌, length};
 ghost use Rattle.lvm_session.specs.Fields.{core_of};
 ghost use Rattle.lvm_session.specs.Rooms.{HasRooms, SameRooms};
 ghost use Rattle.lvm_session.specs.State.{state};
@@ -17,7 +16,6 @@ use lvm_update::start_status;
 pub fn make_start<S: Shelf>(session: &mut Session, shelf: &mut S, event: Event) -> Turned
     requires may { CanStart event (S.device shelf.old) (core_of session.old) }
     requires rooms { HasRooms session.old }
-    requires room { 131072 ≤ length session.old.bytes.items }
     ensures gives { StartGives event (state (S.device shelf.old) (core_of session.old)) (state (S.device shelf.new) (core_of session.new)) result }
     ensures rooms { SameRooms session.old session.new }
 {
@@ -36,7 +34,6 @@ pub fn make_start<S: Shelf>(session: &mut Session, shelf: &mut S, event: Event) 
 pub fn start_first<S: Shelf>(session: &mut Session, shelf: &mut S) -> Option<Turned>
     requires may { MayStart (S.device shelf.old) (core_of session.old) }
     requires rooms { HasRooms session.old }
-    requires room { 131072 ≤ length session.old.bytes.items }
     ensures gives { StartsFirst (state (S.device shelf.old) (core_of session.old)) (state (S.device shelf.new) (core_of session.new)) result }
     ensures rooms { SameRooms session.old session.new }
 {

@@ -7,7 +7,7 @@ ghost use Rattle.lvm_session.specs.Fields.{core_of};
 ghost use Rattle.lvm_session.specs.Rooms.{HasRooms, SameRooms};
 ghost use Rattle.lvm_events.specs.Calls.{has_history, new_open, submitted};
 ghost use Rattle.lvm_sound.specs.Sound.{IsGoing};
-ghost use Rattle.lvm_submit.specs.Asking.{IsAsking};
+ghost use Rattle.lvm_sound.specs.Asking.{IsAsking};
 
 use lvm_facts::held_of;
 use lvm_path::{Ask, Request};

@@ -3,7 +3,7 @@ ghost use Rattle.std.specs.Prelude.{option_copied};
 ghost use Rattle.lvm_session.specs.Fields.{core_of};
 ghost use Rattle.lvm_session.specs.Rooms.{HasRooms, SameRooms};
 ghost use Rattle.lvm_events.specs.Calls.{SubmitGives};
-ghost use Rattle.lvm_submit.specs.Asking.{IsAsking, IsAwake};
+ghost use Rattle.lvm_sound.specs.Asking.{IsAsking, IsAwake};
 
 use crate::begin::begin;
 use lvm_calls::ask_fault;

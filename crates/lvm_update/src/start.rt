@@ -1,5 +1,5 @@
 //! A write of the status is started.
-ghost use Rattle.std.specs.Prelude.{◌≡◌, ◌≤◌, ◌<◌, ◌+◌, ◌^◌, None, length, if◌then◌else◌};
+ghost use Rattle.std.specs.Prelude.{◌≡◌, ◌<◌, ◌+◌, ◌^◌, None, if◌then◌else◌};
 ghost use Rattle.lvm_num.specs.declared.record.Kind.TheVariants as kind;
 ghost use Rattle.lvm_num.specs.Record.{slot_start};
 ghost use Rattle.lvm_session.specs.declared.event.Event.TheVariants as event;
@@ -51,7 +51,6 @@ pub fn start_status<S: Shelf>(session: &mut Session, shelf: &mut S) -> Turned
     requires may { MayLaunch (S.device shelf.old) (core_of session.old) }
     requires rooms { HasRooms session.old }
     requires status { MayStartStatus (S.device shelf.old) (core_of session.old) }
-    requires room { 131072 ≤ length session.old.bytes.items }
     ensures gives { StartGives event.StartStatus (state (S.device shelf.old) (core_of session.old)) (state (S.device shelf.new) (core_of session.new)) result }
     ensures rooms { SameRooms session.old session.new }
 {
