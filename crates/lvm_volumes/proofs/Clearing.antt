@@ -1,5 +1,5 @@
 -- Partitions become fresh, and then zeros.
-use Rattle.std.proofs.Common.{◌≡◌, ⊎_elim, ℕ, suc, Bool, true, false, ◌&&◌, ◌||◌, List, [], ◌∷◌, Result, Ok, Err, get_or, refl, sym, ap, subst, ◌∙◌, arith}
+use Rattle.std.proofs.Common.{◌≡◌, inl, ⊎_elim, ℕ, suc, Bool, true, false, ◌&&◌, ◌||◌, List, [], ◌∷◌, Result, Ok, Err, get_or, refl, sym, ap, subst, ◌∙◌, arith}
 use Rattle.std.specs.Prelude.{◌==◌, not, IsTrue, IsFalse, All, Contains}
 use Rattle.std.proofs.lemmas.Bool.{eqb-true, false≢true}
 use Rattle.std.proofs.lemmas.List.Folds.{list_any_at}
@@ -197,7 +197,7 @@ module _ (map : List Pp) (p q : ℕ) (a b : State) (settled : IsSettled a.core) 
       clear_end (Err (commit.WentOff have total)) ends = absurd ends
 
       pub clear_leaves : (r : ℕ) → StillHeld a b → Leaves (commanding NoDescriptor (Contains map) 0) q r b c → Leaves (commanding NoDescriptor (Contains map) 1) p r a c
-      clear_leaves r still two = leaves_then NoDescriptor (Contains map) 1 0 p q r a b c (ap (λ (d : Descriptor). d.mib) same) (λ d. ap (λ (x : Descriptor). is_member x d) same) (fresh_among map p q a b settled leaves) still two
+      clear_leaves r still two = leaves_then NoDescriptor (Contains map) 1 0 p q r a b c (inl same) (ap (λ (d : Descriptor). d.mib) same) (λ d. ap (λ (x : Descriptor). is_member x d) same) (fresh_among map p q a b settled leaves) still two
 
       pub clear_still : StillHeld a b → (r : Result (Unit {0}) CommitFault) → IfGoesOn r (StillHeld b c) → IfGoesOn r (StillHeld a c)
       clear_still still (Ok ok) two = still_then a b c still two

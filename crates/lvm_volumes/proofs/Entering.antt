@@ -54,7 +54,7 @@ module _ (N : Descriptor → Type 0) (Z : Pp → Type 0) where
       → (IsHeld s.device s.core → (run : ℕ) (first : Moment) → IfAlone s (entered s f) run first → SpanGoesOn run first s (entered s f)) → Leaves (commanding N Z 0) p p s (entered s f)
   entry_leaves p s f later opens spans = record {
     writes = keeps_here (is_there s.core) (IsOfCommand N Z s (entered s f)) s.device;
-    status = same_status NoPartition Z s (entered s f) refl;
+    status = same_status N NoPartition Z s (entered s f) refl;
     numbers = record { epoch = refl; rises = omega arith; most = omega arith };
     history = keeps_fact s.core.history f later;
     spans = spans;

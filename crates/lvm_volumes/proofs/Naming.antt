@@ -136,7 +136,7 @@ module _ (v : NewVolume) (plan : VolumePlan) (a : State) (settled : IsSettled a.
 
       -- the volume may be in the making
       begun_leaves : Leaves (commanding N Z 1) p q a begun
-      begun_leaves = leaves_then N Z 1 0 p q q a b begun (ap (λ (d : Descriptor). d.mib) same) (λ d. ap (λ (x : Descriptor). is_member x d) same) (as_named 1 (omega arith)) still
+      begun_leaves = leaves_then N Z 1 0 p q q a b begun (inl same) (ap (λ (d : Descriptor). d.mib) same) (λ d. ap (λ (x : Descriptor). is_member x d) same) (as_named 1 (omega arith)) still
           (entry_leaves N Z q b f (λ moment. tt) tt (λ held run first only span.
           volume_begins_in_session run first b.device b.core.history.facts b.core.descriptor b.core.status.committed (is_there b.core) plan.number plan.blocks plan.mode span cleared.settled.votes
           (leaves_committed b cleared.ready held run first (only (enters_one b.core.history.facts f refl))) (subst (λ (d : Descriptor). volume_of d plan.number ≡ None) (sym same) planned.lowest.free)))
@@ -194,7 +194,7 @@ module _ (v : NewVolume) (plan : VolumePlan) (a : State) (settled : IsSettled a.
         left = subst (λ (x : State). MarksLeft plan.next x.core.status c.core.status) entered_is left_m
 
         pub break_leaves : Leaves (commanding N Z 2) p r a c
-        break_leaves = leaves_then N Z 1 1 p q r a begun c (ap (λ (d : Descriptor). d.mib) same) (λ d. ap (λ (x : Descriptor). is_member x d) same) begun_leaves still_begun
+        break_leaves = leaves_then N Z 1 1 p q r a begun c (inl same) (ap (λ (d : Descriptor). d.mib) same) (λ d. ap (λ (x : Descriptor). is_member x d) same) begun_leaves still_begun
             (commit_among N Z plan.next refl q r begun c leaves plan.number lets_make)
 
         low : (d s : ℕ) (value : Sector) → IsOfCommand (λ x. x ≡ plan.next) NoPartition begun c d s value → s < data_start
@@ -290,7 +290,7 @@ module _ (v : NewVolume) (plan : VolumePlan) (a : State) (settled : IsSettled a.
 
           pub make_leaves : Leaves (commanding N Z 2) p r a e
           make_leaves = subst (λ (x : State). Leaves (commanding N Z 2) p r a x) (sym made_is)
-              (leaves_then N Z 2 0 p r r a c made (ap (λ (d : Descriptor). d.mib) named) (λ d. ap (λ (x : Descriptor). is_member x d) named) break_leaves still_all ends_leaves)
+              (leaves_then N Z 2 0 p r r a c made (inr (ap (λ (x : Core). x.descriptor) done.is)) (ap (λ (d : Descriptor). d.mib) named) (λ d. ap (λ (x : Descriptor). is_member x d) named) break_leaves still_all ends_leaves)
 
           pub make_still : StillHeld a e
           make_still = subst (λ (x : State). StillHeld a x) (sym made_is) (still_then a c made still_all (entry_still c (Made plan.number)))

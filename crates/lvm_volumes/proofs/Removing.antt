@@ -1,5 +1,5 @@
 -- A volume is removed: its entries, and the descriptor without it.
-use Rattle.std.proofs.Common.{◌≡◌, ℕ, List, [], ◌∷◌, ◌++◌, append_assoc, Option, Some, None, Result, Ok, Err, refl, sym, ap, subst, ◌∙◌}
+use Rattle.std.proofs.Common.{◌≡◌, inl, inr, ℕ, List, [], ◌∷◌, ◌++◌, append_assoc, Option, Some, None, Result, Ok, Err, refl, sym, ap, subst, ◌∙◌}
 use Rattle.std.specs.Prelude.{IsTrue, IfSome}
 use Rattle.lvm_num.specs.declared.descriptor.Descriptor.{Descriptor}
 use Rattle.lvm_disk.specs.Device.{Media, image_of}
@@ -68,7 +68,7 @@ module _ (lv : ℕ) (next : Descriptor) (a : State) (settled : IsSettled a.core)
     left = subst (λ (x : State). MarksLeft next x.core.status b.core.status) entered_is left_m
 
     pub break_leaves : Leaves (commanding N NoPartition 1) p q a b
-    break_leaves = leaves_then N NoPartition 0 1 p p q a begun b refl (λ d. refl) (begins_leaves p) (entry_still a (Removing (Lv lv)))
+    break_leaves = leaves_then N NoPartition 0 1 p p q a begun b (inl refl) refl (λ d. refl) (begins_leaves p) (entry_still a (Removing (Lv lv)))
         (commit_among N NoPartition next refl p q begun b leaves lv (λ held. lets_remove))
 
     -- where it wasn't committed
@@ -128,7 +128,7 @@ module _ (lv : ℕ) (next : Descriptor) (a : State) (settled : IsSettled a.core)
 
       pub remove_leaves : Leaves (commanding N NoPartition 1) p q a e
       remove_leaves = subst (λ (x : State). Leaves (commanding N NoPartition 1) p q a x) (sym ended_is)
-          (leaves_then N NoPartition 1 0 p q q a b gone (ap (λ (x : Descriptor). x.mib) (named ∙ without.is)) same_members break_leaves still_all ends_leaves)
+          (leaves_then N NoPartition 1 0 p q q a b gone (inr named) (ap (λ (x : Descriptor). x.mib) (named ∙ without.is)) same_members break_leaves still_all ends_leaves)
 
       pub remove_still : StillHeld a e
       remove_still = subst (λ (x : State). StillHeld a x) (sym ended_is) (still_then a b gone still_all (entry_still b (Removed (Lv lv))))

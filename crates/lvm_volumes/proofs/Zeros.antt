@@ -1,5 +1,5 @@
 -- How the writing of zeros to several partitions ends.
-use Rattle.std.proofs.Common.{◌≡◌, ◌⊎◌, ⊎_elim, ℕ, ◌+◌, ◌<◌, ◌≤◌, Bool, true, false, List, Option, Some, None, Result, Ok, Err, length, take, get_or, refl, sym, ap, subst, ◌∙◌, eq-eqb}
+use Rattle.std.proofs.Common.{◌≡◌, ◌⊎◌, inl, ⊎_elim, ℕ, ◌+◌, ◌<◌, ◌≤◌, Bool, true, false, List, Option, Some, None, Result, Ok, Err, length, take, get_or, refl, sym, ap, subst, ◌∙◌, eq-eqb}
 use Rattle.std.specs.Prelude.{◌==◌, IsTrue, IfSome, Contains}
 use Rattle.std.proofs.lemmas.Bool.{eqb-true, cases_eq}
 use Rattle.std.proofs.lemmas.List.{take_all}
@@ -67,7 +67,7 @@ module _ (map : List Pp) (p k q r : ℕ) (e : Pp) (old mid new : State) (lt : k 
   its = get_or map k e
 
   pub then : Leaves (commanding NoDescriptor (Contains map) 0) p r old new
-  then = leaves_then NoDescriptor (Contains map) 0 0 p q r old mid new (ap (λ (c : Core). c.descriptor.mib) so_far.same.core) (λ d. ap (λ (c : Core). is_member c.descriptor d) so_far.same.core) so_far.leaves so_far.still leaves
+  then = leaves_then NoDescriptor (Contains map) 0 0 p q r old mid new (inl (ap (λ (c : Core). c.descriptor) so_far.same.core)) (ap (λ (c : Core). c.descriptor.mib) so_far.same.core) (λ d. ap (λ (c : Core). is_member c.descriptor d) so_far.same.core) so_far.leaves so_far.still leaves
 
   others : (d : ℕ) → (d ≡ its.disk → ⊥) → new.device.counts.faults d ≡ old.device.counts.faults d
   others d other = writes.faults d (by_test (d == its.disk) refl) ∙ so_far.well d
