@@ -117,8 +117,8 @@ fn list<S: Shelf>(alloc: Global, stage: &Stage<S>, command: Command) -> Option<R
 }
 
 /// Answers a line, without its line feed, that leaves all as it is: one without a command, one that isn't in the
-/// language, and a listing. None where it asks for another command, or where memory is wanting, which `do_line` says.
-/// The stage isn't given away for it, so that such lines cost no move of it.
+/// language, and a listing. None only where it asks for another command, which `do_line` does. The stage isn't given
+/// away for it, so that such lines cost no move of it.
 pub fn answer_line<S: Shelf>(alloc: Global, stage: &Stage<S>, line: &[u8]) -> Option<Reply>
     requires settled { IsSettledStage S.device stage.now }
     ensures line { IfSome result (λ reply. (room : Room) (last : ℕ) → IsLine (without_facts (history_in stage.now)) room line.now reply (state_in S.device stage.now last) (state_in S.device stage.now last)) }

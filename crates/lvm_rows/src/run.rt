@@ -77,7 +77,7 @@ fn started(alloc: Global, images: Vec<Rows<u8>>, plan: Vec<Planned>) -> Result<M
 }
 
 /// Runs a script.
-pub fn run(
+pub(crate) fn run(
     alloc: Global,
     streams: &mut Streams,
     shelf: MemShelf,

@@ -86,8 +86,8 @@ pub record IsUsage {S : Type 0} (end : Ended S) (err : Passage) : Type 0 where
   pub unrun : IsUnrun end end.status
   pub line : end.status ≡ ended.Usage → IsSaid usage_line err
 
--- Each job leaves alone what isn't its: a script the line of errors and the images, one over disks in memory the files too; a text all but the output, an image
--- all but the images, and words that are not in the language all but the line of errors.
+-- Each job leaves alone what isn't its: a script standard error and the images, one over disks in memory the files too; a text all but the output, an image
+-- all but the images, and words that are not in the language all but standard error.
 abbrev pub LeavesAlone : Result Job WordsFault → (files input out err clock images : Type 0) → Type 0
 LeavesAlone (Ok Script) files input out err clock images = err × images
 LeavesAlone (Ok (Sim disks mib)) files input out err clock images = files × err × images

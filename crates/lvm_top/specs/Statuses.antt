@@ -26,6 +26,7 @@ code_of ended.TooLong = 7
 abbrev pub at_end : ℕ → Status
 at_end refused = if refused == 0 then ended.Well else ended.Refusals
 
+-- the run read its input to the end
 abbrev pub IsAtEnd : Status → Type 0
 IsAtEnd ended.Well = Unit {0}
 IsAtEnd ended.Refusals = Unit {0}
