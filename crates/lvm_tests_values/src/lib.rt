@@ -1,4 +1,5 @@
-//! The values that the tests build.
+//! The values that tests build, and how they check.
+#![tactic(auto)]
 
 use lvm_num::{
     Descriptor, LvRow, Mode, Name, Policy, Pp, PvRow, Rows, Status, StatusRow, VolumeNumbers,
@@ -14,6 +15,11 @@ pub type Volume = (u16, &'static str, u8, u32, &'static [(u16, u16)]);
 /// Ends the test where this isn't so, and says of what.
 pub fn check(rt: &impl Abort, is: bool, what: &str) {
     assert!(rt; is, "{what}");
+}
+
+/// The same, with a place or a count.
+pub fn check_at(rt: &impl Abort, is: bool, what: &str, at: usize) {
+    assert!(rt; is, "{what} {at}");
 }
 
 pub fn name(rt: &impl Abort, text: &str) -> Name {
