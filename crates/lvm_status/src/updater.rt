@@ -374,8 +374,8 @@ fn without_volumes(alloc: Global, d: &Descriptor) -> Result<Descriptor, Memory>
     }
 }
 
-// The members that a table doesn't call missing.
-fn members_there(d: &Descriptor, table: &StaleTable) -> DiskSet
+/// The members that a table doesn't call missing.
+pub fn members_there(d: &Descriptor, table: &StaleTable) -> DiskSet
     requires { IsValid d.now }
     ensures { has result ≡ members_there d.now table.now }
 {
