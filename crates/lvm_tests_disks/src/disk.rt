@@ -245,7 +245,10 @@ fn byte_at(shelf: &MemShelf, disk: u16, sector: u64) -> Answer {
     if disk >= shelf.disks() || sector > 1000 {
         return Refused;
     }
-    match shelf.image(disk).get(sector as usize * 512 + 511) {
+    if sector >= shelf.sectors(disk) {
+        return Nothing;
+    }
+    match shelf.sector(disk, sector).last() {
         Some(byte) => Is(u64::from(*byte)),
         None => Nothing,
     }

@@ -48,7 +48,7 @@ pub fn blank_shelf(rt: &(impl Abort + AllocGlobal), sizes: &[u64], plan: &[Plann
 pub fn images_of(rt: &(impl Abort + AllocGlobal), shelf: &MemShelf) -> Vec<Vec<u8>> {
     let mut images = Vec::new(rt.alloc());
     for disk in 0..shelf.disks() {
-        let image = Vec::from_slice(rt.alloc(), shelf.image(disk)).expect(rt, "memory");
+        let image = shelf.image(rt.alloc(), disk).expect(rt, "memory");
         images.push(image).expect(rt, "memory");
     }
     images
