@@ -13,17 +13,17 @@ use Rattle.lvm_vol.specs.declared.entry.Vol.{Vol}
 use Rattle.lvm_vol.specs.declared.entry.Vol.TheVariants.{Lv}
 use Rattle.lvm_vol.specs.declared.entry.Outcome.{Outcome}
 use Rattle.lvm_vol.specs.declared.entry.Outcome.TheVariants as outcome
-use Rattle.lvm_history.specs.declared.row.Ask.{Ask}
-use Rattle.lvm_history.specs.declared.row.Row.{Row}
-use Rattle.lvm_history.specs.declared.row.Row.TheVariants as row
-use Rattle.lvm_history.specs.declared.values.Seen.{Seen}
-use Rattle.lvm_history.specs.declared.values.Sought.{Sought}
-use Rattle.lvm_history.specs.declared.values.Sought.TheVariants as sought
+use Rattle.lvm_checker.specs.declared.row.Ask.{Ask}
+use Rattle.lvm_checker.specs.declared.row.Row.{Row}
+use Rattle.lvm_checker.specs.declared.row.Row.TheVariants as row
+use Rattle.lvm_checker.specs.declared.values.Seen.{Seen}
+use Rattle.lvm_checker.specs.declared.values.Sought.{Sought}
+use Rattle.lvm_checker.specs.declared.values.Sought.TheVariants as sought
 use Rattle.lvm_vol.specs.Facts.{Request, Fact, Making, Made, Split, Removing, Removed, Begun, Landed, Taken, Cut, On, Stands, same_vol, same_request, is_over, block_of}
 use Rattle.lvm_vol.specs.May.{Known, Knowledge, nothing_known, is_open_in, without, is_off, is_some_open, also, ended, read, landed, cut, source, change, after_fact, after, known, May}
 use Rattle.lvm_vol.specs.Log.{is_got}
-use Rattle.lvm_history.specs.Rows.{ask_of, blocks_at, request_in, fact_of, facts_of}
-use Rattle.lvm_history.specs.Seen.{is_over_ask, is_value, seen_of, seen_ended, seen_read, is_sought, is_ending, is_any_open, row_source, origin_of, seen_step}
+use Rattle.lvm_checker.specs.Rows.{ask_of, blocks_at, request_in, fact_of, facts_of}
+use Rattle.lvm_checker.specs.Seen.{is_over_ask, is_value, seen_of, seen_ended, seen_read, is_sought, is_ending, is_any_open, row_source, origin_of, seen_step}
 use Rattle.lvm_vol.proofs.Knowing.{known-push, ended_open, read_open}
 
 -- tests over lists

@@ -2,9 +2,9 @@
 use Rattle.std.specs.Prelude.{ℕ, ◌+◌, ◌^◌, Bool, true, false, not, ◌==◌, nat_lt}
 use Rattle.lvm_vol.specs.declared.entry.Outcome.{Outcome}
 use Rattle.lvm_vol.specs.declared.entry.Outcome.TheVariants as outcome
-use Rattle.lvm_history.specs.declared.row.Ask.{Ask}
-use Rattle.lvm_history.specs.declared.row.Row.{Row}
-use Rattle.lvm_history.specs.declared.row.Row.TheVariants as row
+use Rattle.lvm_checker.specs.declared.row.Ask.{Ask}
+use Rattle.lvm_checker.specs.declared.row.Row.{Row}
+use Rattle.lvm_checker.specs.declared.row.Row.TheVariants as row
 
 abbrev pub is_begin : Row → Bool
 is_begin (row.Begun id) = true

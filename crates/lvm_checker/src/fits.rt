@@ -2,10 +2,10 @@
 ghost use Rattle.std.specs.Prelude.{◌≡◌, ◌↔◌, ℕ, ◌+◌, ◌<◌, ◌≤◌, ◌^◌, ◌==◌, nat_lt, not, ◌&&◌, IsTrue, length, count_by, true};
 ghost use Rattle.std.specs.List.{list_any, list_all};
 ghost use Rattle.lvm_vol.specs.Legal.{Fits, Gets, Legal};
-ghost use Rattle.lvm_history.specs.Rows.{facts_of, fact_of, request_in, ask_of, blocks_at, is_landing, is_taking};
-ghost use Rattle.lvm_history.specs.declared.row.Row.TheVariants.{Landed};
+ghost use Rattle.lvm_checker.specs.Rows.{facts_of, fact_of, request_in, ask_of, blocks_at, is_landing, is_taking};
+ghost use Rattle.lvm_checker.specs.declared.row.Row.TheVariants.{Landed};
 ghost use Rattle.lvm_vol.specs.Log.{is_got};
-ghost use Rattle.lvm_history.specs.Fitting.{is_beginning, is_begin, is_earlier_on, is_bounded, is_kind};
+ghost use Rattle.lvm_checker.specs.Fitting.{is_beginning, is_begin, is_earlier_on, is_bounded, is_kind};
 
 use crate::row::{Ask, Row};
 use crate::values::{Block, ask_or_none, is_allowed};

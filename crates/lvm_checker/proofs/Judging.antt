@@ -7,16 +7,16 @@ use Rattle.std.proofs.lemmas.Bool.Decides.{nat_tests}
 use Rattle.std.proofs.lemmas.Bool.{eqb-true}
 use Rattle.lvm_vol.specs.declared.entry.Outcome.{Outcome}
 use Rattle.lvm_vol.specs.declared.entry.Outcome.TheVariants as outcome
-use Rattle.lvm_history.specs.declared.row.Ask.{Ask}
-use Rattle.lvm_history.specs.declared.row.Row.{Row}
-use Rattle.lvm_history.specs.declared.row.Row.TheVariants as row
+use Rattle.lvm_checker.specs.declared.row.Ask.{Ask}
+use Rattle.lvm_checker.specs.declared.row.Row.{Row}
+use Rattle.lvm_checker.specs.declared.row.Row.TheVariants as row
 use Rattle.lvm_vol.specs.Facts.{Request, Fact, Begun, Stands, block_of}
 use Rattle.lvm_vol.specs.May.{known, May}
 use Rattle.lvm_vol.specs.Legal.{begins_in, lands, takes, IsOutcomeOf, Gets, GotMay, TakenOnce, IsLater, Fits, LegalFrom}
 use Rattle.lvm_vol.specs.Log.{is_got}
-use Rattle.lvm_history.specs.Rows.{no_ask, ask_of, blocks_at, request_in, fact_of, facts_of, is_landing, is_taking}
-use Rattle.lvm_history.specs.Fitting.{is_begin, is_beginning, is_earlier_on, is_bounded, is_kind}
-use Rattle.lvm_history.proofs.Looking.{eq_comm, equal}
+use Rattle.lvm_checker.specs.Rows.{no_ask, ask_of, blocks_at, request_in, fact_of, facts_of, is_landing, is_taking}
+use Rattle.lvm_checker.specs.Fitting.{is_begin, is_beginning, is_earlier_on, is_bounded, is_kind}
+use Rattle.lvm_checker.proofs.Looking.{eq_comm, equal}
 
 -- tests that are both true
 pub and_both : (a b : Bool) → IsTrue (a && b) → IsTrue a × IsTrue b

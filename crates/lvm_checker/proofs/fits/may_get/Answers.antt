@@ -1,8 +1,8 @@
 use Rattle.std.proofs.Common.{◌≡◌, ℕ, ◌+◌, [], arith, ◌∙◌, refl, subst, sym, Bool, true, false, get_or, below_more}
 use Rattle.lvm_vol.specs.May.{known, May}
-use Rattle.lvm_history.specs.Rows.{facts_of}
-use Rattle.lvm_history.proofs.Judging.{gets_from, gets_at}
-use Rattle.lvm_history.proofs.fits.may_get.Goals as goal
+use Rattle.lvm_checker.specs.Rows.{facts_of}
+use Rattle.lvm_checker.proofs.Judging.{gets_from, gets_at}
+use Rattle.lvm_checker.proofs.fits.may_get.Goals as goal
 
 pub returns-then-not-is_allowed : goal.returns-then-not-is_allowed
 returns-then-not-is_allowed c = λ run. (

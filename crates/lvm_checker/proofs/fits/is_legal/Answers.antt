@@ -1,12 +1,12 @@
 use Rattle.std.proofs.Common.{◌≡◌, List, take, Bool, true, false, refl, sym, ◌∙◌, subst}
 use Rattle.std.proofs.lemmas.List.{drop_all}
 use Rattle.lvm_num.specs.declared.descriptor.Mode.TheVariants.{Active}
-use Rattle.lvm_history.specs.declared.row.Row.{Row}
-use Rattle.lvm_history.specs.declared.row.Row.TheVariants.{Making}
+use Rattle.lvm_checker.specs.declared.row.Row.{Row}
+use Rattle.lvm_checker.specs.declared.row.Row.TheVariants.{Making}
 use Rattle.lvm_vol.specs.Legal.{LegalFrom}
-use Rattle.lvm_history.specs.Rows.{facts_of}
-use Rattle.lvm_history.proofs.Judging.{legal_row}
-use Rattle.lvm_history.proofs.fits.is_legal.Goals as goal
+use Rattle.lvm_checker.specs.Rows.{facts_of}
+use Rattle.lvm_checker.proofs.Judging.{legal_row}
+use Rattle.lvm_checker.proofs.fits.is_legal.Goals as goal
 
 pub returns-then-not-may_follow : goal.returns-then-not-may_follow
 returns-then-not-may_follow c = λ run. (

@@ -9,8 +9,8 @@ ghost use Rattle.std.specs.Str.{bytes_eq};
 ghost use Rattle.lvm_num.specs.Buffer.{zero_sector};
 ghost use Rattle.lvm_vol.specs.Facts.{same_vol, block_of};
 ghost use Rattle.lvm_vol.specs.May.{is_off, known, May};
-ghost use Rattle.lvm_history.specs.Rows.{ask_of, blocks_at, facts_of, fact_of};
-ghost use Rattle.lvm_history.specs.Seen.{is_over_ask, is_sought, is_ending, is_opening, id_of, is_any_open, row_source, origin_of, seen_ended, seen_read, seen_step};
+ghost use Rattle.lvm_checker.specs.Rows.{ask_of, blocks_at, facts_of, fact_of};
+ghost use Rattle.lvm_checker.specs.Seen.{is_over_ask, is_sought, is_ending, is_opening, id_of, is_any_open, row_source, origin_of, seen_ended, seen_read, seen_step};
 
 use crate::row::{Ask, Row};
 use lvm_num::Mode;

@@ -7,15 +7,15 @@ use Rattle.lvm_vol.specs.declared.entry.Vol.{Vol}
 use Rattle.lvm_vol.specs.declared.entry.Vol.TheVariants.{Lv}
 use Rattle.lvm_vol.specs.declared.entry.Outcome.{Outcome}
 use Rattle.lvm_vol.specs.declared.entry.Outcome.TheVariants as outcome
-use Rattle.lvm_history.specs.declared.row.Ask.{Ask}
-use Rattle.lvm_history.specs.declared.row.Row.{Row}
-use Rattle.lvm_history.specs.declared.row.Row.TheVariants as row
-use Rattle.lvm_history.specs.declared.values.Seen.{Seen}
-use Rattle.lvm_history.specs.declared.values.Sought.{Sought}
-use Rattle.lvm_history.specs.declared.values.Sought.TheVariants as sought
+use Rattle.lvm_checker.specs.declared.row.Ask.{Ask}
+use Rattle.lvm_checker.specs.declared.row.Row.{Row}
+use Rattle.lvm_checker.specs.declared.row.Row.TheVariants as row
+use Rattle.lvm_checker.specs.declared.values.Seen.{Seen}
+use Rattle.lvm_checker.specs.declared.values.Sought.{Sought}
+use Rattle.lvm_checker.specs.declared.values.Sought.TheVariants as sought
 use Rattle.lvm_vol.specs.Facts.{same_vol, block_of}
 use Rattle.lvm_vol.specs.May.{Known, is_off}
-use Rattle.lvm_history.specs.Rows.{ask_of, blocks_at}
+use Rattle.lvm_checker.specs.Rows.{ask_of, blocks_at}
 
 abbrev pub is_over_ask : Ask → Vol → ℕ → Bool
 is_over_ask a vol b = same_vol a.vol vol && nat_le a.at b && nat_lt b (a.at + a.count)
