@@ -1,3 +1,3 @@
-mod Numbered
+pub mod Numbered
 mod Rows
-mod Taking
+pub mod Taking
