@@ -1,3 +1,3 @@
-mod Numbered
-mod Rows
+pub mod Numbered
+pub mod Rows
 mod Taking
