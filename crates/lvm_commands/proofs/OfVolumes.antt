@@ -3,7 +3,7 @@ use Rattle.std.proofs.Common.{◌≡◌, ℕ, Bool, true, false, IsTrue, IsFalse
 use Rattle.lvm_num.specs.declared.place.Pp.{Pp}
 use Rattle.lvm_num.specs.declared.descriptor.Descriptor.{Descriptor}
 use Rattle.lvm_disk.specs.Device.{Device}
-use Rattle.lvm_quorum.specs.Written.{KeepsShelf}
+use Rattle.lvm_write.specs.Written.{KeepsShelf}
 use Rattle.lvm_core.specs.Settled.{IsSettled as IsSettledCore}
 use Rattle.lvm_core.specs.Sound.{HaveAllLanded}
 use Rattle.lvm_core.specs.State.{Core, State as Session, state, is_there}

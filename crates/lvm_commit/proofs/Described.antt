@@ -21,11 +21,11 @@ use Rattle.lvm_status.specs.Update.{Stored}
 use Rattle.lvm_steps.specs.Moments.{ImagesKept, StaysKept}
 use Rattle.lvm_steps.proofs.Booleans.{clash}
 use Rattle.lvm_steps.proofs.Making.{media_may}
-use Rattle.lvm_quorum.specs.declared.homes.Homes.{Homes}
-use Rattle.lvm_quorum.specs.Written.{KeepsShelf, IsDarkened, IsGivenUp}
-use Rattle.lvm_quorum.specs.Parts.{Spends}
-use Rattle.lvm_quorum.proofs.Transfers.{keeps_then, spends_then, darkened_then, given_up_then}
-use Rattle.lvm_quorum.proofs.Writing.{told_at, both_map, both_then}
+use Rattle.lvm_write.specs.declared.homes.Homes.{Homes}
+use Rattle.lvm_write.specs.Written.{KeepsShelf, IsDarkened, IsGivenUp}
+use Rattle.lvm_write.specs.Parts.{Spends}
+use Rattle.lvm_write.proofs.Transfers.{keeps_then, spends_then, darkened_then, given_up_then}
+use Rattle.lvm_write.proofs.Writing.{told_at, both_map, both_then}
 use Rattle.lvm_commit.specs.declared.commit.Settled.{Settled}
 use Rattle.lvm_commit.specs.declared.commit.Settled.TheVariants as settled
 use Rattle.lvm_commit.specs.Committed.{next_stamp, IsAlike}

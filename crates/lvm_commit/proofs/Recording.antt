@@ -8,10 +8,10 @@ use Rattle.lvm_num.specs.declared.status.Status.{Status}
 use Rattle.lvm_disk.specs.Device.{Device}
 use Rattle.lvm_kept.specs.Torn.{RecordWrite, IsOfRecord}
 use Rattle.lvm_status.specs.Update.{Stored}
-use Rattle.lvm_quorum.specs.declared.homes.Homes.{Homes}
-use Rattle.lvm_quorum.specs.Homes.{Flips}
-use Rattle.lvm_quorum.specs.Written.{StandsTold, write_of, IsDarkened, IsGivenUp}
-use Rattle.lvm_quorum.specs.Writes.{WriteLeaves, EachTried}
+use Rattle.lvm_write.specs.declared.homes.Homes.{Homes}
+use Rattle.lvm_write.specs.Homes.{Flips}
+use Rattle.lvm_write.specs.Written.{StandsTold, write_of, IsDarkened, IsGivenUp}
+use Rattle.lvm_write.specs.Writes.{DiskWritesLeave, EachTried}
 use Rattle.lvm_commit.specs.declared.commit.Settled.{Settled}
 use Rattle.lvm_commit.specs.declared.commit.Settled.TheVariants as settled
 use Rattle.lvm_commit.specs.Settling.{there}
@@ -22,7 +22,7 @@ use Rattle.lvm_commit.proofs.Losing.{misses_same}
 abbrev pub Tries : RecordWrite → ℕ → Homes → Homes → Device → Device → Disks → Buffer → Type 0
 Tries w number slots next old new failed back = EachTried w.targets (StandsTold w) (λ written. Flips w.kind written slots next) number old new failed back
 
-module _ (w : RecordWrite) (number before after : ℕ) (first last : Stored) (slots next : Homes) (old new : Device) (leaves : WriteLeaves w.targets (IsOfRecord w) before after old new) where
+module _ (w : RecordWrite) (number before after : ℕ) (first last : Stored) (slots next : Homes) (old new : Device) (leaves : DiskWritesLeave w.targets (IsOfRecord w) before after old new) where
   pub ended_gives :
       (failed : Disks) (back : Buffer) (result : Settled) → Tries w number slots next old new failed back → last.group ≡ first.group → last.stamp ≡ first.stamp → Leaves failed first.wanted last.wanted → IsByVotes last back result
       → RecordGives w number before after first last slots next old new result

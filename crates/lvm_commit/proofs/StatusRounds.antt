@@ -20,9 +20,9 @@ use Rattle.lvm_stale.specs.Table.{SameMissing}
 use Rattle.lvm_steps.specs.Moments.{StaysKept}
 use Rattle.lvm_status.proofs.Sound.{not_false}
 use Rattle.lvm_steps.proofs.Booleans.{clash, second}
-use Rattle.lvm_quorum.specs.declared.homes.Homes.{Homes}
-use Rattle.lvm_quorum.proofs.Transfers.{keeps_here, spends_none as none_waited}
-use Rattle.lvm_quorum.proofs.Writing.{if_told}
+use Rattle.lvm_write.specs.declared.homes.Homes.{Homes}
+use Rattle.lvm_write.proofs.Transfers.{keeps_here, spends_none as none_waited}
+use Rattle.lvm_write.proofs.Writing.{if_told}
 use Rattle.lvm_commit.specs.declared.commit.Settled.{Settled}
 use Rattle.lvm_commit.specs.Committed.{next_stamp}
 use Rattle.lvm_commit.specs.LawsOfFinding.{FindsNothingNew, FindsNothingNewOn}

@@ -15,10 +15,10 @@ use Rattle.lvm_kept.specs.Torn.{RecordWrite, IsOfRecord}
 use Rattle.lvm_stale.specs.Table.{SameStale}
 use Rattle.lvm_left.specs.Marking.{IsLeftIn, Marks}
 use Rattle.lvm_status.specs.Update.{Stored, no_disks}
-use Rattle.lvm_quorum.specs.declared.homes.Homes.{Homes}
-use Rattle.lvm_quorum.specs.Homes.{Flips}
-use Rattle.lvm_quorum.specs.Writes.{WriteLeaves}
-use Rattle.lvm_quorum.specs.Written.{write_of, EndsOn, StandsTold, written_well, IsDarkened, IsGivenUp}
+use Rattle.lvm_write.specs.declared.homes.Homes.{Homes}
+use Rattle.lvm_write.specs.Homes.{Flips}
+use Rattle.lvm_write.specs.Writes.{DiskWritesLeave}
+use Rattle.lvm_write.specs.Written.{write_of, EndsOn, StandsTold, written_well, IsDarkened, IsGivenUp}
 use Rattle.lvm_commit.specs.declared.commit.Settled.{Settled}
 use Rattle.lvm_commit.specs.declared.commit.Settled.TheVariants as settled
 use Rattle.lvm_commit.specs.Committed.{next_stamp}
@@ -128,7 +128,7 @@ HowRecord w number before first last slots next old new settled.Stuck = IsGivenU
 
 -- how the write of one record ended, and what it did
 pub record RecordGives (w : RecordWrite) (number before after : ℕ) (first last : Stored) (slots next : Homes) (old new : Device) (result : Settled) : Type 0 where
-  pub leaves : WriteLeaves w.targets (IsOfRecord w) before after old new
+  pub leaves : DiskWritesLeave w.targets (IsOfRecord w) before after old new
   pub how : HowRecord w number before first last slots next old new result
 
 -- ---- a status, record by record

@@ -11,7 +11,7 @@ ghost use Rattle.lvm_num.specs.StatusBytes.{status_bytes};
 ghost use Rattle.lvm_disk.specs.Device.{IsReady};
 ghost use Rattle.lvm_status.specs.Members.{HasItsRows};
 ghost use Rattle.lvm_status.specs.Update.{members_there};
-ghost use Rattle.lvm_quorum.specs.Written.{HaveRoom};
+ghost use Rattle.lvm_write.specs.Written.{HaveRoom};
 ghost use Rattle.lvm_commit.specs.Committed.{next_stamp};
 ghost use Rattle.lvm_commit.specs.Settling.{IfDone, IsOf, there};
 ghost use Rattle.lvm_commit.specs.Rounds.{IsStarted, HasEnded, HasLost, HasMarked, MarksRound, IsByVotes, stamped, session_write, RecordGives};
@@ -19,10 +19,10 @@ ghost use Rattle.lvm_commit.specs.Rounds.{IsStarted, HasEnded, HasLost, HasMarke
 use crate::commit::Settled;
 use lvm_disk::Shelf;
 use lvm_num::{Descriptor, DiskSet, Kind, Pbuf, Stamp};
-use lvm_quorum::{Homes, Wrote, write_record};
 use lvm_status::{Change, Updater};
 use lvm_transfer::Patience;
 use lvm_vgsa::encode_into;
+use lvm_write::{Homes, Wrote, write_record};
 
 /// Writes what is wanted of the status to each member that isn't missing, under the next stamp. The members on which
 /// that fails are wanted missing, and the copies that they leave behind stale.

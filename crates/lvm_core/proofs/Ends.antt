@@ -9,8 +9,8 @@ use Rattle.lvm_disk.specs.Device.{Device, IsReady}
 use Rattle.lvm_kept.specs.Plans.{Plan}
 use Rattle.lvm_pbuf.specs.Out.{IsOut}
 use Rattle.lvm_status.specs.Update.{Stored}
-use Rattle.lvm_quorum.specs.declared.homes.Homes.{Homes}
-use Rattle.lvm_quorum.specs.Written.{IsDarkened, IsGivenUp}
+use Rattle.lvm_write.specs.declared.homes.Homes.{Homes}
+use Rattle.lvm_write.specs.Written.{IsDarkened, IsGivenUp}
 use Rattle.lvm_commit.specs.declared.commit.Settled.{Settled}
 use Rattle.lvm_commit.specs.declared.commit.Settled.TheVariants as settled
 use Rattle.lvm_commit.specs.Settling.{IfDone, IfWentOff, IfBack, OnDark, OnStuck, EndsAtOnce, IsCommitted, HasLostQuorum, AreWell, SpendsNumbers, IsOfStatus, IsOfCommit, StatusStaysKept, DescriptorStaysKept, StatusFindsNothingNew, CommitFindsNoMore, CommitLeaves, SettleEnds, StatusEnds, DescriptorEnds}

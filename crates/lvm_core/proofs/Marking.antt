@@ -16,7 +16,7 @@ use Rattle.lvm_stale.specs.Table.{is_pp, SameMembers, SameMissing}
 use Rattle.lvm_status.specs.declared.change.Change.TheVariants as change
 use Rattle.lvm_status.specs.Update.{Updates, Stored, seen, is_held, is_owed, no_disks}
 use Rattle.lvm_status.specs.Calls.{BecomesStale, BecomesFresh, IsMarkable, closed, with_wanted, given_up}
-use Rattle.lvm_quorum.specs.Written.{HaveRoom}
+use Rattle.lvm_write.specs.Written.{HaveRoom}
 use Rattle.lvm_commit.specs.Settling.{HasSameRows, MaySettle, there}
 use Rattle.lvm_commit.proofs.Wanting.{row_stays}
 use Rattle.lvm_core.specs.Committing.{is_among, Marks}

@@ -5,7 +5,7 @@ use Rattle.std.proofs.lemmas.Bool.Decides.{nat_tests}
 use Rattle.lvm_num.specs.Buffer.{Buffer}
 use Rattle.lvm_num.specs.Votes.{is_enough_to_write}
 use Rattle.lvm_disk.specs.Device.{Device, Flight, IsReady}
-use Rattle.lvm_quorum.specs.Written.{FreesAtMost, IsDarkened, IsGivenUp}
+use Rattle.lvm_write.specs.Written.{FreesAtMost, IsDarkened, IsGivenUp}
 use Rattle.lvm_core.specs.declared.request.Power.TheVariants as power
 use Rattle.lvm_core.specs.State.{Core, state, votes_there}
 use Rattle.lvm_core.specs.Dark.{all_dark}

@@ -25,8 +25,8 @@ use Rattle.lvm_stamps.specs.Laws.{IsOtherOrEarlier}
 use Rattle.lvm_stamps.proofs.Shelves.{earlier_stays_behind}
 use Rattle.lvm_stamps.proofs.Stamps.{session_is_before_later}
 use Rattle.lvm_status.specs.Update.{Stored, members_there}
-use Rattle.lvm_quorum.specs.Written.{IsDarkened, IsGivenUp}
-use Rattle.lvm_quorum.proofs.Writing.{both_map, changes_more}
+use Rattle.lvm_write.specs.Written.{IsDarkened, IsGivenUp}
+use Rattle.lvm_write.proofs.Writing.{both_map, changes_more}
 use Rattle.lvm_commit.specs.declared.commit.Settled.{Settled}
 use Rattle.lvm_commit.specs.declared.commit.Settled.TheVariants as settled
 use Rattle.lvm_commit.specs.Committed.{IsAlike}

@@ -12,13 +12,13 @@ use Rattle.lvm_kept.specs.Moments.{Moment, StaysCalm}
 use Rattle.lvm_kept.specs.Plans.{Plan}
 use Rattle.lvm_steps.specs.Moments.{StaysKept}
 use Rattle.lvm_status.specs.Update.{Stored}
-use Rattle.lvm_quorum.specs.Written.{KeepsShelf}
+use Rattle.lvm_write.specs.Written.{KeepsShelf}
 use Rattle.lvm_commit.specs.declared.commit.Settled.{Settled}
 use Rattle.lvm_commit.specs.declared.commit.Settled.TheVariants as settled
 use Rattle.lvm_commit.specs.Committed.{IsAlike, MayMark}
 use Rattle.lvm_kept.specs.Contents.{contents_of}
 use Rattle.lvm_disk.specs.Device.{image_of}
-use Rattle.lvm_quorum.proofs.Writing.{if_told}
+use Rattle.lvm_write.proofs.Writing.{if_told}
 use Rattle.lvm_commit.specs.LawsOfFinding.{FindsNothingNewOn}
 use Rattle.lvm_commit.specs.Settling.{IsPassed, IfDone, there, IsOf, IsOfStatus, SessionIsHeld, SpendsNumbers, StaysHeld, WantsMarks}
 use Rattle.lvm_commit.proofs.Chaining.{keeps_wider}

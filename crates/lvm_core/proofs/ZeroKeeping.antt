@@ -26,9 +26,9 @@ use Rattle.lvm_steps.proofs.Spans.{keeps_path}
 use Rattle.lvm_status.specs.Update.{Stored}
 use Rattle.lvm_transfer.specs.declared.moves.Moved.{Moved}
 use Rattle.lvm_transfer.specs.declared.moves.Moved.TheVariants as moved
-use Rattle.lvm_quorum.specs.Parts.{DoesPart}
-use Rattle.lvm_quorum.specs.Written.{IsWriting}
-use Rattle.lvm_quorum.proofs.Writing.{told_at}
+use Rattle.lvm_write.specs.Parts.{DoesPart}
+use Rattle.lvm_write.specs.Written.{IsWriting}
+use Rattle.lvm_write.proofs.Writing.{told_at}
 use Rattle.lvm_commit.specs.Committed.{HoldsCommitted}
 use Rattle.lvm_commit.specs.LawsOfData.{IsFree, PartitionChange}
 use Rattle.lvm_commit.specs.Settling.{SpendsNumbers}

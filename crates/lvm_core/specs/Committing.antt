@@ -16,7 +16,7 @@ use Rattle.lvm_steps.specs.Moments.{Begins, Holds, Keeps}
 use Rattle.lvm_steps.specs.Requests.{at}
 use Rattle.lvm_stale.specs.Table.{is_pp}
 use Rattle.lvm_stamps.specs.Behind.{IsBehind}
-use Rattle.lvm_quorum.specs.Written.{IsDarkened, IsGivenUp}
+use Rattle.lvm_write.specs.Written.{IsDarkened, IsGivenUp}
 use Rattle.lvm_commit.specs.LawsOfData.{IsFree}
 use Rattle.lvm_commit.specs.LawsOfVolumes.{VolumeServes}
 use Rattle.lvm_commit.specs.Settling.{NoneIsLeft, IsPassed, HasLostQuorum, AreWell, SpendsNumbers, IsPlain}

@@ -9,8 +9,8 @@ use Rattle.lvm_disk.specs.Device.{IsReady}
 use Rattle.lvm_kept.specs.Plans.{Plan}
 use Rattle.lvm_stale.specs.Table.{SameMissing}
 use Rattle.lvm_status.specs.Update.{Stored}
-use Rattle.lvm_quorum.specs.Parts.{Spends}
-use Rattle.lvm_quorum.specs.Written.{IsDarkened, IsGivenUp, KeepsShelf}
+use Rattle.lvm_write.specs.Parts.{Spends}
+use Rattle.lvm_write.specs.Written.{IsDarkened, IsGivenUp, KeepsShelf}
 use Rattle.lvm_commit.specs.declared.commit.Settled.{Settled}
 use Rattle.lvm_commit.specs.declared.commit.Settled.TheVariants as settled
 use Rattle.lvm_commit.specs.Settling.{HasSameRows, IfDone, IfWentOff, IfBack, OnDark, OnStuck, there, IsCommitted, HasLostQuorum, OnlyLoses, MarksLeft, AreWell, SpendsNumbers, IsOfStatus, IsOfCommit, IsPlain, StatusStaysKept, DescriptorStaysKept, StatusFindsNothingNew, CommitFindsNoMore, StaysHeld, ComesHeld}

@@ -21,10 +21,11 @@ use lvm_hold::Queue;
 use lvm_mwc::Cache;
 use lvm_num::{Descriptor, DiskSet, Memory, Stamp, Status};
 use lvm_pbuf::Pool;
-use lvm_quorum::{Choice, Homes};
+use lvm_quorum::Choice;
 use lvm_stale::StaleTable;
 use lvm_status::Updater;
 use lvm_vol::Entry;
+use lvm_write::Homes;
 use std::alloc::Global;
 use std::marker::Model;
 

@@ -7,11 +7,11 @@ use Rattle.lvm_disk.specs.Device.{Media, Range, Device, IsReady, image_of}
 use Rattle.lvm_disk.specs.Steps.{BothTold}
 use Rattle.lvm_vol.specs.Log.{Log, cut_log, spare_entries}
 use Rattle.lvm_kept.specs.Plans.{Plan as Bringing, ChangesBy}
-use Rattle.lvm_quorum.specs.declared.homes.Homes.{Homes}
-use Rattle.lvm_quorum.specs.Written.{LogsPlan, KeepsShelf, IsDarkened, IsGivenUp}
-use Rattle.lvm_survey.specs.Surveying.{IsUnwritten, IsRested}
+use Rattle.lvm_write.specs.declared.homes.Homes.{Homes}
+use Rattle.lvm_write.specs.Written.{LogsPlan, KeepsShelf, IsDarkened, IsGivenUp}
+use Rattle.lvm_area.specs.Reading.{IsUnwritten, IsRested}
 use Rattle.lvm_begin.specs.Beginning.{Beginning, Part, new_beginning, new_order, IsOfParts, Stands as PartStands}
-use Rattle.lvm_begin.specs.Ends.{BothFlip, HasNoFault, StopsAt, IsFirstFailed, WasTried}
+use Rattle.lvm_begin.specs.Ends.{BothFlip, HasNoFault, StopsAt, IsLowestFailed, WasTriedOnTargets}
 use Rattle.lvm_core.specs.declared.parts.Room.{Room}
 use Rattle.lvm_core.specs.declared.refused.Cause.{Cause}
 use Rattle.lvm_core.specs.declared.refused.Cause.TheVariants as cause
@@ -106,11 +106,11 @@ module _ (w : NewGroup) (old mid new : Device) (un : IsUnwritten old mid) where
   pub well_before : HasNoFault mid new → HasNoFault old new
   well_before well d = well d ∙ ap (λ (f : ℕ → ℕ). f d) un.faults
 
-  pub tried_before : (b : Beginning) (part : Part) → WasTried b mid new part → WasTried b old new part
+  pub tried_before : (b : Beginning) (part : Part) → WasTriedOnTargets b mid new part → WasTriedOnTargets b old new part
   tried_before b part tried d target = ⊎_elim (λ (stands : PartStands b part new d). inl stands)
       (λ (rose : Rose (mid.counts.faults d) (new.counts.faults d)). inr (subst (λ (f : ℕ → ℕ). Rose (f d) (new.counts.faults d)) un.faults rose)) (tried d target)
 
-  pub failed_before : (disk : ℕ) → IsFirstFailed (among w.disks) mid new disk → IsFirstFailed (among w.disks) old new disk
+  pub failed_before : (disk : ℕ) → IsLowestFailed (among w.disks) mid new disk → IsLowestFailed (among w.disks) old new disk
   failed_before disk first = record {
     target = first.target;
     rose = subst (λ (f : ℕ → ℕ). Rose (f disk) (new.counts.faults disk)) un.faults first.rose;
@@ -185,7 +185,7 @@ module _ (w : NewGroup) (was : Log) (old mid new : Device) (free : Free) (may : 
     where
       by_cause : (why : Cause) → BreaksOff writes left mid new why → Refuses w before was (cut_where why (given_up was w.disks)) old new why
       by_cause (cause.DiskFailed disk) off = inr (record {
-        breaks = breaks (λ b. WasTried b mid new) (λ b. WasTried b old new) (λ part tried. tried_before w old mid new un writes part tried) off.stops;
+        breaks = breaks (λ b. WasTriedOnTargets b mid new) (λ b. WasTriedOnTargets b old new) (λ part tried. tried_before w old mid new un writes part tried) off.stops;
         failed = failed_before w old mid new un disk off.first;
         rested = rested_before w old mid new un found.reads.rested off.rested;
       })

@@ -19,10 +19,10 @@ use Rattle.lvm_steps.proofs.Spans.{keeps_still, keeps_steps, steps_go_on, disks_
 use Rattle.lvm_stamps.specs.Behind.{IsBehind, IsAhead, ClockIsAhead}
 use Rattle.lvm_stamps.proofs.Clock.{all_is_behind_next}
 use Rattle.lvm_stamps.proofs.Shelves.{unwritten_stays_behind}
-use Rattle.lvm_survey.specs.Surveying.{IsUnwritten}
-use Rattle.lvm_quorum.specs.declared.homes.Homes.{Homes}
-use Rattle.lvm_quorum.specs.Homes.{SparesNewest}
-use Rattle.lvm_quorum.specs.Written.{HaveRoom, KeepsShelf}
+use Rattle.lvm_area.specs.Reading.{IsUnwritten}
+use Rattle.lvm_write.specs.declared.homes.Homes.{Homes}
+use Rattle.lvm_write.specs.Homes.{SparesNewest}
+use Rattle.lvm_write.specs.Written.{HaveRoom, KeepsShelf}
 use Rattle.lvm_begin.specs.Beginning.{Beginning, new_beginning, new_order, IsOfParts, AllStand}
 use Rattle.lvm_begin.specs.Ends.{BothFlip}
 use Rattle.lvm_begin.specs.Kept.{NewStaysKept}

@@ -16,10 +16,11 @@ use Rattle.lvm_kept.specs.Contents.{Contents, contents_of, has_records, descript
 use Rattle.lvm_survey.specs.declared.row.SurveyRow.{SurveyRow}
 use Rattle.lvm_survey.specs.declared.row.Survey.{Survey}
 use Rattle.lvm_survey.specs.Surveyed.{surveyed, IsRead as IsRowRead}
-use Rattle.lvm_survey.specs.Surveying.{IsSmall, IsUntouched}
-use Rattle.lvm_quorum.specs.declared.homes.Homes.{Homes}
-use Rattle.lvm_quorum.specs.Homes.{SparesNewest, SpareNewest}
-use Rattle.lvm_quorum.proofs.SurveyRows.{descriptor_shown, status_shown, descriptor_past, status_past}
+use Rattle.lvm_survey.specs.Surveying.{IsSmall}
+use Rattle.lvm_area.specs.Reading.{IsUntouched}
+use Rattle.lvm_write.specs.declared.homes.Homes.{Homes}
+use Rattle.lvm_write.specs.Homes.{SparesNewest, SpareNewest}
+use Rattle.lvm_survey.proofs.SurveyRows.{descriptor_shown, status_shown, descriptor_past, status_past}
 use Rattle.lvm_core.specs.declared.refused.Cause.{Cause}
 use Rattle.lvm_core.specs.declared.refused.Cause.TheVariants as cause
 use Rattle.lvm_group.specs.Shown.{IfShown, HasGroup, ShowsMoment, ShowsEarlier, IsLastShown, IsUnread, AllRead, SparesTold, last_moment}

@@ -3,11 +3,11 @@ use Rattle.std.specs.Prelude.{◌≡◌, ℕ, ◌<◌, ◌≤◌, Bool, true, fa
 use Rattle.lvm_num.specs.Descriptor.{IsValid}
 use Rattle.lvm_disk.specs.Device.{Device}
 use Rattle.lvm_vol.specs.Log.{Log, cut_log}
-use Rattle.lvm_quorum.specs.declared.homes.Homes.{Homes}
-use Rattle.lvm_quorum.specs.Written.{IsDarkened, IsGivenUp}
-use Rattle.lvm_survey.specs.Surveying.{IsUnwritten, IsRested, IsCutOff, IsStuck}
+use Rattle.lvm_write.specs.declared.homes.Homes.{Homes}
+use Rattle.lvm_write.specs.Written.{IsDarkened, IsGivenUp}
+use Rattle.lvm_area.specs.Reading.{IsUnwritten, IsRested, IsCutOff, IsReadStuck}
 use Rattle.lvm_begin.specs.Beginning.{Beginning, new_order, IsOfParts, AllStand}
-use Rattle.lvm_begin.specs.Ends.{BothFlip, HasNoFault, StopsAt, IsFirstFailed, WasTried}
+use Rattle.lvm_begin.specs.Ends.{BothFlip, HasNoFault, StopsAt, IsLowestFailed, WasTriedOnTargets}
 use Rattle.lvm_core.specs.declared.refused.Cause.{Cause}
 use Rattle.lvm_core.specs.declared.refused.Cause.TheVariants as cause
 use Rattle.lvm_core.specs.declared.parts.Room.{Room}
@@ -41,7 +41,7 @@ RefusesFound force moment patience old new (cause.DiskFailed disk) = HasOnlyRead
 RefusesFound force moment patience old new cause.GroupExists = HasOnlyRead old new × AllRead old new × IfShown old (λ c. HasGroup c force)
 RefusesFound force moment patience old new (cause.ClockBack seen) = HasOnlyRead old new × AllRead old new × IfShown old (λ c. HasGroup c force → ⊥) × IsClockBack old moment seen
 RefusesFound force moment patience old new cause.Dark = IsUnwritten old new × IsCutOff old new
-RefusesFound force moment patience old new cause.Stuck = IsUnwritten old new × IsStuck 0 patience old new
+RefusesFound force moment patience old new cause.Stuck = IsUnwritten old new × IsReadStuck 0 patience old new
 RefusesFound force moment patience old new cause.Memory = HasOnlyRead old new
 RefusesFound force moment patience old new (cause.NoDisk disk) = ⊥
 RefusesFound force moment patience old new (cause.TooMany limit) = ⊥
@@ -65,8 +65,8 @@ pub record AreWritten (b : Beginning) (old new : Device) : Type 0 where
 
 -- one of them failed on a disk
 pub record FailsOn (b : Beginning) (old new : Device) (disk : ℕ) : Type 0 where
-  pub first : IsFirstFailed b.targets old new disk
-  pub stops : StopsAt b new_order old new (WasTried b old new)
+  pub first : IsLowestFailed b.targets old new disk
+  pub stops : StopsAt b new_order old new (WasTriedOnTargets b old new)
   pub rested : IsRested old new
 
 -- they weren't all written

@@ -4,15 +4,16 @@ ghost use Rattle.lvm_disk.specs.Counts.{RoseBy};
 ghost use Rattle.lvm_disk.specs.Device.{IsReady};
 ghost use Rattle.lvm_disk.specs.Images.{LeavesNoMore};
 ghost use Rattle.lvm_disk.specs.Paths.{DeviceStep, Path};
-ghost use Rattle.lvm_survey.specs.Surveying.{IsUnwritten};
+ghost use Rattle.lvm_area.specs.Reading.{IsUnwritten};
 ghost use Rattle.lvm_group.specs.Steps.{LookGives};
 
 use crate::judge::judge;
 use lvm_core::Cause;
 use lvm_disk::Shelf;
 use lvm_num::Pbuf;
-use lvm_quorum::{Homes, Surveyed, survey_disks};
+use lvm_survey::{Surveyed, Surveyed, survey_disks, survey_disks};
 use lvm_transfer::Patience;
+use lvm_write::Homes;
 use std::alloc::Global;
 
 // The number of the buffer in which records are read and written.

@@ -25,9 +25,9 @@ use lvm_core::{Cause, Parts, Room};
 use lvm_disk::Shelf;
 use lvm_history::History;
 use lvm_num::{Memory, Name};
-use lvm_quorum::Homes;
 use lvm_transfer::Patience;
 use lvm_vol::{Entry, Vol};
+use lvm_write::Homes;
 use std::alloc::Global;
 
 /// What is asked of a new group beside its disks and its moment.

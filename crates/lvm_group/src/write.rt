@@ -5,7 +5,7 @@ ghost use Rattle.lvm_num.specs.Disks.{has};
 ghost use Rattle.lvm_num.specs.Record.{longest_content};
 ghost use Rattle.lvm_disk.specs.Counts.{RoseBy};
 ghost use Rattle.lvm_disk.specs.Device.{IsReady};
-ghost use Rattle.lvm_quorum.specs.Written.{HaveRoom, KeepsShelf};
+ghost use Rattle.lvm_write.specs.Written.{HaveRoom, KeepsShelf};
 ghost use Rattle.lvm_begin.specs.Beginning.{new_beginning, new_order, IsOfParts};
 ghost use Rattle.lvm_begin.specs.Kept.{NewStaysKept};
 ghost use Rattle.lvm_group.specs.Steps.{WriteGives};
@@ -15,8 +15,8 @@ use lvm_begin::{Begun, begin_new};
 use lvm_core::Cause;
 use lvm_disk::Shelf;
 use lvm_num::Pbuf;
-use lvm_quorum::Homes;
 use lvm_transfer::Patience;
+use lvm_write::Homes;
 
 /// Writes the records of a new group to its disks.
 pub fn write<S: Shelf>(

@@ -8,7 +8,7 @@ use Rattle.lvm_disk.specs.Steps.{IsRange}
 use Rattle.lvm_vol.specs.Log.{Log, spare_entries, spare_bytes}
 use Rattle.lvm_kept.specs.Moments.{Moment}
 use Rattle.lvm_transfer.specs.declared.moves.Moved.{Moved}
-use Rattle.lvm_survey.proofs.DiskRows.{got_within}
+use Rattle.lvm_area.proofs.Joining.{got_within}
 use Rattle.lvm_raw.specs.Asking.{IsInData, HasRoomForPieces}
 use Rattle.lvm_raw.specs.Pieces.{piece_end, piece_count, AreFilled, WritesPiece}
 

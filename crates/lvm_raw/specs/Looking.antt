@@ -5,7 +5,7 @@ use Rattle.lvm_vol.specs.Log.{Log, cut_log}
 use Rattle.lvm_kept.specs.Contents.{descriptor_on}
 use Rattle.lvm_steps.specs.Requests.{IsInNoGroup}
 use Rattle.lvm_transfer.specs.Transfer.{Relights}
-use Rattle.lvm_survey.specs.Surveying.{OnlyReads, IsUntouched, IsCutOff, IsStuck, AllWereRead, OneFailed}
+use Rattle.lvm_area.specs.Reading.{OnlyReads, IsUntouched, IsCutOff, IsReadStuck, AllWereRead, OneReadFailed}
 use Rattle.lvm_raw.specs.declared.fault.RawFault.{RawFault}
 use Rattle.lvm_raw.specs.declared.fault.RawFault.TheVariants as fault
 
@@ -35,8 +35,8 @@ pub record WasDark (patience disk : ℕ) (old new : Device) : Type 0 where
 -- Why no request is made once the slots are read, and what that leaves of the shelf. Where memory was wanting no read had failed.
 abbrev pub LookFails : ℕ → ℕ → Device → Device → RawFault → Type 0
 LookFails patience disk old new fault.Dark = WasDark patience disk old new
-LookFails patience disk old new fault.Stuck = ReadsRecords patience disk old new × ((number : ℕ) × IsStuck number patience old new)
-LookFails patience disk old new (fault.DiskFailed d) = (d ≡ disk) × ReadsRecords patience disk old new × OneFailed disk old new
+LookFails patience disk old new fault.Stuck = ReadsRecords patience disk old new × ((number : ℕ) × IsReadStuck number patience old new)
+LookFails patience disk old new (fault.DiskFailed d) = (d ≡ disk) × ReadsRecords patience disk old new × OneReadFailed disk old new
 LookFails patience disk old new (fault.InGroup d) = (d ≡ disk) × ReadsRecords patience disk old new × AllWereRead disk old new × ShowsDescriptor old disk
 LookFails patience disk old new fault.Memory = ReadsRecords patience disk old new × AllWereRead disk old new
 LookFails patience disk old new other = ⊥

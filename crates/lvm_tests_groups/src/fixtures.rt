@@ -4,9 +4,9 @@ use lvm_disk::Shelf;
 use lvm_faults::Planned;
 use lvm_memory::MemShelf;
 use lvm_num::{Descriptor, DiskSet, Pbuf, Rows, Status};
-use lvm_quorum::Homes;
 use lvm_tests_shelves::{all_disks, first_homes, has_room, status, survey};
 use lvm_transfer::{Patience, relight};
+use lvm_write::Homes;
 use std::process::Abort;
 
 /// What stands on the disks.

@@ -8,9 +8,10 @@ ghost use Rattle.lvm_survey.specs.Surveyed.{IsRowValid, IsSurveyValid};
 use crate::fixtures::{DATA, FIRST, LARGE, LATER, NAMESAKE, NONE, OTHER, first_two, group, status};
 use Answer::*;
 use lvm_num::{Descriptor, Rows, Stamp, Status};
-use lvm_quorum::{Choice, ChooseFault, Homes, choose};
-use lvm_survey::{Survey, SurveyRow};
+use lvm_quorum::{Choice, ChooseFault, choose};
+use lvm_survey::{Survey, Survey, SurveyRow, SurveyRow};
 use lvm_tests_values::{check, name};
+use lvm_write::Homes;
 use std::process::Abort;
 
 // What a disk shows: the group and the stamp of its records.

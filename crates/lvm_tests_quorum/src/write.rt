@@ -9,11 +9,11 @@ use lvm_disk::Shelf;
 use lvm_faults::{Act, Planned, names_disks};
 use lvm_memory::MemShelf;
 use lvm_num::{DiskSet, Kind, Pbuf, Stamp};
-use lvm_quorum::{Homes, Wrote, empty_notes, write_record};
 use lvm_rec::{read_note, read_slot};
 use lvm_tests_shelves::{all_disks, blank_shelf, has_room, plan_of};
 use lvm_tests_values::check;
 use lvm_transfer::{Patience, relight};
+use lvm_write::{Homes, Wrote, empty_notes, write_record};
 use std::process::Abort;
 
 const FIRST: Stamp = Stamp { epoch: 50, seq: 1 };

@@ -5,7 +5,7 @@
 ghost use Rattle.std.specs.Prelude.{◌≡◌, ◌%◌, ◌<◌, ◌≤◌, ℕ, length, IsTrue};
 ghost use Rattle.std.specs.List.{All};
 ghost use Rattle.lvm_num.specs.Disks.{has};
-ghost use Rattle.lvm_quorum.specs.Written.{HasRoom};
+ghost use Rattle.lvm_write.specs.Written.{HasRoom};
 ghost use Rattle.lvm_survey.specs.Rows.{AreRows};
 ghost use Rattle.lvm_survey.specs.Surveyed.{IsSurveyValid};
 
@@ -16,10 +16,12 @@ use lvm_num::{
     Descriptor, DiskSet, LvRow, Mode, Pbuf, Policy, Pp, PvRow, Rows, Stamp, Status, StatusRow,
     VolumeNumbers,
 };
-use lvm_quorum::Homes;
-use lvm_survey::{Survey, SurveyRow, Surveyed, survey_disks};
+use lvm_survey::{
+    Survey, Survey, SurveyRow, SurveyRow, Surveyed, Surveyed, survey_disks, survey_disks,
+};
 use lvm_tests_values::name;
 use lvm_transfer::{Patience, relight};
+use lvm_write::Homes;
 use std::process::Abort;
 
 pub fn stamp(epoch: u64, seq: u32) -> Stamp {

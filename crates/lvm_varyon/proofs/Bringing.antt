@@ -15,12 +15,12 @@ use Rattle.lvm_stamps.specs.Behind.{StampsBefore, beginning_at, IsBehind}
 use Rattle.lvm_stamps.proofs.Stamps.{later_is_ahead_too, before_is_behind}
 use Rattle.lvm_stamps.proofs.Shelves.{unwritten_stays_behind}
 use Rattle.lvm_stamps.proofs.Records.{all_is_behind_end}
-use Rattle.lvm_quorum.specs.Written.{KeepsShelf}
-use Rattle.lvm_quorum.specs.declared.homes.Homes.{Homes}
-use Rattle.lvm_quorum.specs.Homes.{SparesNewest}
+use Rattle.lvm_write.specs.Written.{KeepsShelf}
+use Rattle.lvm_write.specs.declared.homes.Homes.{Homes}
+use Rattle.lvm_write.specs.Homes.{SparesNewest}
 use Rattle.lvm_survey.specs.declared.row.Survey.{Survey}
 use Rattle.lvm_survey.specs.Surveyed.{surveyed}
-use Rattle.lvm_survey.specs.Surveying.{IsUnwritten, IsCutOff}
+use Rattle.lvm_area.specs.Reading.{IsUnwritten, IsCutOff}
 use Rattle.lvm_core.specs.declared.parts.Room.{Room}
 use Rattle.lvm_core.specs.declared.refused.Cause.{Cause}
 use Rattle.lvm_core.specs.declared.refused.Cause.TheVariants as cause

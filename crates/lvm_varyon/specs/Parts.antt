@@ -14,14 +14,15 @@ use Rattle.lvm_kept.specs.Contents.{Contents}
 use Rattle.lvm_quorum.specs.declared.choice.Choice.{Choice}
 use Rattle.lvm_quorum.specs.declared.choice.ChooseFault.{ChooseFault}
 use Rattle.lvm_quorum.specs.declared.choice.ChooseFault.TheVariants as fault
-use Rattle.lvm_quorum.specs.declared.homes.Homes.{Homes}
+use Rattle.lvm_write.specs.declared.homes.Homes.{Homes}
 use Rattle.lvm_quorum.specs.Choosing.{HasNoRecord, HasRecord, IsAmbiguous, LacksQuorum}
-use Rattle.lvm_quorum.specs.Homes.{SpareNewest}
+use Rattle.lvm_write.specs.Homes.{SpareNewest}
 use Rattle.lvm_survey.specs.declared.row.Survey.{Survey}
 use Rattle.lvm_survey.specs.declared.row.SurveyRow.{SurveyRow}
 use Rattle.lvm_survey.specs.Rows.{AreRows}
 use Rattle.lvm_survey.specs.Surveyed.{surveyed, IsSurveyValid}
-use Rattle.lvm_survey.specs.Surveying.{IsUnwritten, IsRested, IsCutOff, IsSurveyed}
+use Rattle.lvm_area.specs.Reading.{IsUnwritten, IsRested, IsCutOff}
+use Rattle.lvm_survey.specs.Surveying.{IsSurveyed}
 use Rattle.lvm_core.specs.declared.parts.Room.{Room}
 use Rattle.lvm_core.specs.declared.refused.Cause.{Cause}
 use Rattle.lvm_core.specs.declared.refused.Cause.TheVariants as cause

@@ -11,9 +11,9 @@ use Rattle.lvm_vol.specs.Log.{Log, spare_entries, cut_log}
 use Rattle.lvm_kept.specs.Contents.{Contents, contents_of}
 use Rattle.lvm_kept.specs.Recovered.{Recovered}
 use Rattle.lvm_stamps.specs.Behind.{IsBehind}
-use Rattle.lvm_quorum.specs.declared.homes.Homes.{Homes}
+use Rattle.lvm_write.specs.declared.homes.Homes.{Homes}
 use Rattle.lvm_quorum.specs.Choosing.{HasNoRecord, HasRecord, IsAmbiguous, LacksQuorum}
-use Rattle.lvm_survey.specs.Surveying.{IsUnwritten, IsRested, IsCutOff}
+use Rattle.lvm_area.specs.Reading.{IsUnwritten, IsRested, IsCutOff}
 use Rattle.lvm_core.specs.declared.parts.Room.{Room}
 use Rattle.lvm_core.specs.declared.refused.Cause.{Cause}
 use Rattle.lvm_core.specs.declared.refused.Refused.{Refused}

@@ -7,12 +7,12 @@ use Rattle.lvm_num.specs.DescriptorBytes.{descriptor_bytes}
 use Rattle.lvm_num.specs.StatusBytes.{status_bytes}
 use Rattle.lvm_disk.specs.Counts.{RoseBy}
 use Rattle.lvm_disk.specs.Device.{Device, Flight, image_of}
-use Rattle.lvm_quorum.specs.declared.homes.Homes.{Homes}
-use Rattle.lvm_quorum.specs.Homes.{SparesNewest}
-use Rattle.lvm_quorum.specs.Written.{KeepsShelf}
-use Rattle.lvm_survey.specs.Surveying.{IsUnwritten, IsRested}
+use Rattle.lvm_write.specs.declared.homes.Homes.{Homes}
+use Rattle.lvm_write.specs.Homes.{SparesNewest}
+use Rattle.lvm_write.specs.Written.{KeepsShelf}
+use Rattle.lvm_area.specs.Reading.{IsUnwritten, IsRested}
 use Rattle.lvm_begin.specs.Beginning.{Beginning, Part, again_beginning, again_order, IsOfParts, AllStand}
-use Rattle.lvm_begin.specs.Ends.{BothFlip, HasNoFault, StopsAt, IsFirstFailed, WasTried}
+use Rattle.lvm_begin.specs.Ends.{BothFlip, HasNoFault, StopsAt, IsLowestFailed, WasTriedOnTargets}
 use Rattle.lvm_next.specs.Next.{has_active}
 
 -- the records that go to the members that answer: the descriptor under sequence 1 of the moment, the status under sequence 2
@@ -44,8 +44,8 @@ pub record AllWritten (b : Beginning) (parts : List Part) (homes : Homes) (read 
 
 -- One of them failed on some disks, of which this is the lowest; it was tried on all, and those behind it weren't begun.
 pub record OneFailed (b : Beginning) (parts : List Part) (disk : ℕ) (read new : Device) : Type 0 where
-  pub first : IsFirstFailed b.targets read new disk
-  pub stops : StopsAt b parts read new (WasTried b read new)
+  pub first : IsLowestFailed b.targets read new disk
+  pub stops : StopsAt b parts read new (WasTriedOnTargets b read new)
   pub rested : IsRested read new
 
 -- one of them was broken off

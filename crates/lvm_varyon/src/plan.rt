@@ -10,7 +10,9 @@ ghost use Rattle.lvm_varyon.specs.Parts.{PlanGives, IsPlanFor, cause_of};
 use lvm_core::{Cause, Parts, Room};
 use lvm_next::{has_active, next_status};
 use lvm_num::{DiskSet, Memory, Name, Rows};
-use lvm_quorum::{Choice, ChooseFault, Homes, Survey, choose};
+use lvm_quorum::{Choice, ChooseFault, choose};
+use lvm_survey::{Survey, Survey};
+use lvm_write::Homes;
 use std::alloc::Global;
 
 // The last moment that a clock may answer. None is later.

@@ -7,8 +7,8 @@ ghost use Rattle.lvm_disk.specs.Counts.{RoseBy};
 ghost use Rattle.lvm_disk.specs.Device.{IsReady};
 ghost use Rattle.lvm_disk.specs.Images.{LeavesNoMore};
 ghost use Rattle.lvm_disk.specs.Paths.{DeviceStep, Path};
-ghost use Rattle.lvm_quorum.specs.Written.{HaveRoom, KeepsShelf};
-ghost use Rattle.lvm_survey.specs.Surveying.{IsUnwritten};
+ghost use Rattle.lvm_write.specs.Written.{HaveRoom, KeepsShelf};
+ghost use Rattle.lvm_area.specs.Reading.{IsUnwritten};
 ghost use Rattle.lvm_begin.specs.Beginning.{again_beginning, again_order, IsOfParts};
 ghost use Rattle.lvm_begin.specs.Kept.{AgainStaysKept};
 ghost use Rattle.lvm_varyon.specs.Parts.{ReadGives, WriteGives};
@@ -17,8 +17,9 @@ use lvm_begin::{Begun, begin_again};
 use lvm_core::Cause;
 use lvm_disk::Shelf;
 use lvm_num::{DiskSet, Pbuf};
-use lvm_quorum::{Homes, Survey, Surveyed, survey_disks};
+use lvm_survey::{Survey, Survey, Surveyed, Surveyed, survey_disks, survey_disks};
 use lvm_transfer::Patience;
+use lvm_write::Homes;
 use std::alloc::Global;
 
 /// Reads the records of all disks. The buffer that it read with comes back for the writes.

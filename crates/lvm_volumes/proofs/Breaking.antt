@@ -4,7 +4,7 @@ use Rattle.std.specs.Prelude.{IsTrue}
 use Rattle.lvm_num.specs.declared.descriptor.Descriptor.{Descriptor}
 use Rattle.lvm_vol.specs.Log.{Log, cut_log}
 use Rattle.lvm_status.specs.Update.{members_there}
-use Rattle.lvm_quorum.proofs.Transfers.{darkened_then, given_up_then}
+use Rattle.lvm_write.proofs.Transfers.{darkened_then, given_up_then}
 use Rattle.lvm_core.specs.declared.fault.CommitFault.{CommitFault}
 use Rattle.lvm_core.specs.declared.fault.CommitFault.TheVariants as commit
 use Rattle.lvm_core.specs.Dark.{darkened}

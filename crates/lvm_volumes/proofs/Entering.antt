@@ -17,7 +17,7 @@ use Rattle.lvm_kept.specs.Contents.{contents_of}
 use Rattle.lvm_kept.specs.Moments.{Moment}
 use Rattle.lvm_steps.specs.Entering.{OpensNone}
 use Rattle.lvm_steps.proofs.Entering.{calm_goes_on}
-use Rattle.lvm_quorum.proofs.Transfers.{keeps_here, spends_none}
+use Rattle.lvm_write.proofs.Transfers.{keeps_here, spends_none}
 use Rattle.lvm_commit.specs.Committed.{HoldsCommitted, ShowsCommitted}
 use Rattle.lvm_commit.specs.LawsOfVolumes.{IsOnlyGroupSince, LeavesCommitted}
 use Rattle.lvm_commit.specs.Settling.{many_there, NoneIsLeft, MarksLeft}

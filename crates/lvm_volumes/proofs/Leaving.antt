@@ -15,9 +15,9 @@ use Rattle.lvm_kept.specs.Moments.{Moment}
 use Rattle.lvm_kept.specs.Torn.{RecordWrite}
 use Rattle.lvm_kept.specs.Plans.{Plan, ChangesBy}
 use Rattle.lvm_status.specs.Update.{members_there}
-use Rattle.lvm_quorum.specs.Written.{KeepsShelf}
-use Rattle.lvm_quorum.proofs.Writing.{logs_wider, both_map, changes_more}
-use Rattle.lvm_quorum.proofs.Transfers.{keeps_here, keeps_then, spends_none, spends_then}
+use Rattle.lvm_write.specs.Written.{KeepsShelf}
+use Rattle.lvm_write.proofs.Writing.{logs_wider, both_map, changes_more}
+use Rattle.lvm_write.proofs.Transfers.{keeps_here, keeps_then, spends_none, spends_then}
 use Rattle.lvm_commit.specs.Settling.{there, IsOfSession, StatesGroup, IsOfStatus, IsOfCommit}
 use Rattle.lvm_core.specs.State.{State, is_there}
 use Rattle.lvm_core.specs.Zeros.{IsZeroOf}

@@ -14,8 +14,8 @@ use Rattle.lvm_disk.specs.Device.{Media, Device, IsReady, image_of}
 use Rattle.lvm_disk.specs.Steps.{BothTold}
 use Rattle.lvm_kept.specs.Plans.{Plan, ChangesBy}
 use Rattle.lvm_map.specs.FirstFit.{is_on}
-use Rattle.lvm_quorum.specs.Written.{KeepsShelf}
-use Rattle.lvm_quorum.proofs.Transfers.{darkened_then, given_up_then}
+use Rattle.lvm_write.specs.Written.{KeepsShelf}
+use Rattle.lvm_write.proofs.Transfers.{darkened_then, given_up_then}
 use Rattle.lvm_commit.specs.LawsOfData.{IsSectorOf}
 use Rattle.lvm_core.specs.declared.fault.CommitFault.{CommitFault}
 use Rattle.lvm_core.specs.declared.fault.CommitFault.TheVariants as commit

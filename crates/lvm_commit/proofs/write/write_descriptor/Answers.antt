@@ -9,9 +9,9 @@ use Rattle.lvm_disk.specs.Device.{Device}
 use Rattle.lvm_kept.specs.Torn.{RecordWrite, IsOfRecord}
 use Rattle.lvm_status.specs.Update.{Stored, members_there}
 use Rattle.lvm_status.proofs.Sound.{and_left}
-use Rattle.lvm_quorum.specs.declared.homes.Homes.{Homes}
-use Rattle.lvm_quorum.specs.Written.{write_of}
-use Rattle.lvm_quorum.specs.Writes.{WriteLeaves}
+use Rattle.lvm_write.specs.declared.homes.Homes.{Homes}
+use Rattle.lvm_write.specs.Written.{write_of}
+use Rattle.lvm_write.specs.Writes.{DiskWritesLeave}
 use Rattle.lvm_commit.specs.Committed.{next_stamp}
 use Rattle.lvm_commit.specs.Settling.{IsOf}
 use Rattle.lvm_commit.specs.Rounds.{HasLost, IsSame, stamped, session_write}
@@ -53,8 +53,8 @@ returns-in-Ended-clause-gives g c =
     let is : x ≡ stamped u = stamps u x c.stamp.result c.next_stamp-stamp.result c.stamp.ensures c.next_stamp-stamp.ensures c.set_stamp.ensures in
     let same = named c.args.d.now u x homes c.stamp.result c.next_stamp-stamp.result c.args.content.now (has c.members_there-targets.result) c.requires.own c.stamp.ensures c.next_stamp-stamp.ensures is c.members_there-targets.ensures in
     let failed : Disks = has c.in-Ended.failed in
-    let leaves_it : WriteLeaves w.targets (IsOfRecord w) c.args.patience.now.left c.write_record.new.patience.left old new =
-    subst (λ (r : RecordWrite). WriteLeaves r.targets (IsOfRecord r) c.args.patience.now.left c.write_record.new.patience.left old new) same c.write_record.ensures.leaves in
+    let leaves_it : DiskWritesLeave w.targets (IsOfRecord w) c.args.patience.now.left c.write_record.new.patience.left old new =
+    subst (λ (r : RecordWrite). DiskWritesLeave r.targets (IsOfRecord r) c.args.patience.now.left c.write_record.new.patience.left old new) same c.write_record.ensures.leaves in
     let tries : Tries w c.args.buf.number homes c.write_record.new.homes old new failed c.in-Ended.buf =
     subst (λ (r : RecordWrite). Tries r c.args.buf.number homes c.write_record.new.homes old new failed c.in-Ended.buf) same
     c.in-Ended.ensures.ends in
@@ -104,8 +104,8 @@ returns-in-Dark-clause-gives g c =
     let w : RecordWrite = session_write kind.Descriptor c.args.content.now (stamped u) homes in
     let is : x ≡ stamped u = stamps u x c.stamp.result c.next_stamp-stamp.result c.stamp.ensures c.next_stamp-stamp.ensures c.set_stamp.ensures in
     let same = named c.args.d.now u x homes c.stamp.result c.next_stamp-stamp.result c.args.content.now (has c.members_there-targets.result) c.requires.own c.stamp.ensures c.next_stamp-stamp.ensures is c.members_there-targets.ensures in
-    let leaves_it : WriteLeaves w.targets (IsOfRecord w) c.args.patience.now.left c.write_record.new.patience.left old new =
-    subst (λ (r : RecordWrite). WriteLeaves r.targets (IsOfRecord r) c.args.patience.now.left c.write_record.new.patience.left old new) same c.write_record.ensures.leaves in
+    let leaves_it : DiskWritesLeave w.targets (IsOfRecord w) c.args.patience.now.left c.write_record.new.patience.left old new =
+    subst (λ (r : RecordWrite). DiskWritesLeave r.targets (IsOfRecord r) c.args.patience.now.left c.write_record.new.patience.left old new) same c.write_record.ensures.leaves in
     dark_gives w c.args.buf.number c.args.patience.now.left c.write_record.new.patience.left (stamped u) x homes c.write_record.new.homes old new leaves_it (same_as u x is) c.in-Dark.ensures.ends.0
 
 pub returns-in-Stuck-clause-gives : goal.returns-in-Stuck-clause-gives
@@ -118,6 +118,6 @@ returns-in-Stuck-clause-gives g c =
     let w : RecordWrite = session_write kind.Descriptor c.args.content.now (stamped u) homes in
     let is : x ≡ stamped u = stamps u x c.stamp.result c.next_stamp-stamp.result c.stamp.ensures c.next_stamp-stamp.ensures c.set_stamp.ensures in
     let same = named c.args.d.now u x homes c.stamp.result c.next_stamp-stamp.result c.args.content.now (has c.members_there-targets.result) c.requires.own c.stamp.ensures c.next_stamp-stamp.ensures is c.members_there-targets.ensures in
-    let leaves_it : WriteLeaves w.targets (IsOfRecord w) c.args.patience.now.left c.write_record.new.patience.left old new =
-    subst (λ (r : RecordWrite). WriteLeaves r.targets (IsOfRecord r) c.args.patience.now.left c.write_record.new.patience.left old new) same c.write_record.ensures.leaves in
+    let leaves_it : DiskWritesLeave w.targets (IsOfRecord w) c.args.patience.now.left c.write_record.new.patience.left old new =
+    subst (λ (r : RecordWrite). DiskWritesLeave r.targets (IsOfRecord r) c.args.patience.now.left c.write_record.new.patience.left old new) same c.write_record.ensures.leaves in
     stuck_gives w c.args.buf.number c.args.patience.now.left c.write_record.new.patience.left (stamped u) x homes c.write_record.new.homes old new leaves_it (same_as u x is) c.in-Stuck.ensures.ends.0

@@ -10,9 +10,9 @@ use Rattle.lvm_disk.specs.Device.{Device}
 use Rattle.lvm_kept.specs.Torn.{RecordWrite, IsOfRecord}
 use Rattle.lvm_status.specs.declared.writes.Writes.{Writes}
 use Rattle.lvm_status.specs.Update.{Stored, members_there}
-use Rattle.lvm_quorum.specs.declared.homes.Homes.{Homes}
-use Rattle.lvm_quorum.specs.Written.{write_of}
-use Rattle.lvm_quorum.specs.Writes.{WriteLeaves}
+use Rattle.lvm_write.specs.declared.homes.Homes.{Homes}
+use Rattle.lvm_write.specs.Written.{write_of}
+use Rattle.lvm_write.specs.Writes.{DiskWritesLeave}
 use Rattle.lvm_commit.specs.Settling.{there}
 use Rattle.lvm_commit.specs.Rounds.{IsSame, stamped, session_write}
 use Rattle.lvm_num.specs.Descriptor.{is_member}
@@ -59,8 +59,8 @@ returns-in-Ended-clause-gives g c =
     let same = named u x homes c.stamp-stamp.result (take c.put_wanted-count.result c.put_wanted-count.new.bytes) c.writes-targets.result starts c.stamp-stamp.ensures
     (front x.wanted c.put_wanted-count.result c.put_wanted-count.new.bytes c.args.bytes.now put.written put.count) c.writes-targets.ensures in
     let failed : Disks = has c.in-Ended.failed in
-    let leaves_it : WriteLeaves w.targets (IsOfRecord w) c.args.patience.now.left c.write_record.new.patience.left old new =
-    subst (λ (r : RecordWrite). WriteLeaves r.targets (IsOfRecord r) c.args.patience.now.left c.write_record.new.patience.left old new) same c.write_record.ensures.leaves in
+    let leaves_it : DiskWritesLeave w.targets (IsOfRecord w) c.args.patience.now.left c.write_record.new.patience.left old new =
+    subst (λ (r : RecordWrite). DiskWritesLeave r.targets (IsOfRecord r) c.args.patience.now.left c.write_record.new.patience.left old new) same c.write_record.ensures.leaves in
     let tries : Tries w c.args.buf.number homes c.write_record.new.homes old new failed c.in-Ended.buf =
     subst (λ (r : RecordWrite). Tries r c.args.buf.number homes c.write_record.new.homes old new failed c.in-Ended.buf) same
     c.in-Ended.ensures.ends in
@@ -132,8 +132,8 @@ returns-in-Dark-clause-gives g c =
     let put = c.put_wanted-count.ensures in
     let same = named u x homes c.stamp-stamp.result (take c.put_wanted-count.result c.put_wanted-count.new.bytes) c.writes-targets.result starts c.stamp-stamp.ensures
     (front x.wanted c.put_wanted-count.result c.put_wanted-count.new.bytes c.args.bytes.now put.written put.count) c.writes-targets.ensures in
-    let leaves_it : WriteLeaves w.targets (IsOfRecord w) c.args.patience.now.left c.write_record.new.patience.left old new =
-    subst (λ (r : RecordWrite). WriteLeaves r.targets (IsOfRecord r) c.args.patience.now.left c.write_record.new.patience.left old new) same c.write_record.ensures.leaves in
+    let leaves_it : DiskWritesLeave w.targets (IsOfRecord w) c.args.patience.now.left c.write_record.new.patience.left old new =
+    subst (λ (r : RecordWrite). DiskWritesLeave r.targets (IsOfRecord r) c.args.patience.now.left c.write_record.new.patience.left old new) same c.write_record.ensures.leaves in
     dark_gives w c.args.buf.number c.args.patience.now.left c.write_record.new.patience.left (stamped u) x homes c.write_record.new.homes old new leaves_it (same_as u x starts) c.in-Dark.ensures.ends.0
 
 pub returns-in-Stuck-clause-gives : goal.returns-in-Stuck-clause-gives
@@ -148,6 +148,6 @@ returns-in-Stuck-clause-gives g c =
     let put = c.put_wanted-count.ensures in
     let same = named u x homes c.stamp-stamp.result (take c.put_wanted-count.result c.put_wanted-count.new.bytes) c.writes-targets.result starts c.stamp-stamp.ensures
     (front x.wanted c.put_wanted-count.result c.put_wanted-count.new.bytes c.args.bytes.now put.written put.count) c.writes-targets.ensures in
-    let leaves_it : WriteLeaves w.targets (IsOfRecord w) c.args.patience.now.left c.write_record.new.patience.left old new =
-    subst (λ (r : RecordWrite). WriteLeaves r.targets (IsOfRecord r) c.args.patience.now.left c.write_record.new.patience.left old new) same c.write_record.ensures.leaves in
+    let leaves_it : DiskWritesLeave w.targets (IsOfRecord w) c.args.patience.now.left c.write_record.new.patience.left old new =
+    subst (λ (r : RecordWrite). DiskWritesLeave r.targets (IsOfRecord r) c.args.patience.now.left c.write_record.new.patience.left old new) same c.write_record.ensures.leaves in
     stuck_gives w c.args.buf.number c.args.patience.now.left c.write_record.new.patience.left (stamped u) x homes c.write_record.new.homes old new leaves_it (same_as u x starts) c.in-Stuck.ensures.ends.0

@@ -2,7 +2,7 @@ use Rattle.std.proofs.Common.{ℕ, ap, subst, ◌∙◌}
 use Rattle.std.proofs.lemmas.Result.{err_from_is_err_and}
 use Rattle.lvm_num.specs.Buffer.{Buffer}
 use Rattle.lvm_disk.specs.Paths.{Here}
-use Rattle.lvm_survey.specs.Surveying.{IsStuck}
+use Rattle.lvm_area.specs.Reading.{IsReadStuck}
 use Rattle.lvm_group.specs.Steps.{HasOnlyRead}
 use Rattle.lvm_group.proofs.Seeing.{IsSurvey, lets_begin, refuses_found}
 use Rattle.lvm_group.proofs.look.look.Goals as goal
@@ -69,7 +69,7 @@ returns-in-Stuck g c =
     let e = c.in-Stuck.ensures in
     let n = ap (λ (b : Buffer). b.number) c.in-Ok.ensures in
     record {
-      gives = (e.only.unwritten, subst (λ (k : ℕ). IsStuck k c.args.patience.now.left (g.S.Shelf.device c.args.shelf.now) (g.S.Shelf.device c.survey_disks.new.shelf)) n e.ends);
+      gives = (e.only.unwritten, subst (λ (k : ℕ). IsReadStuck k c.args.patience.now.left (g.S.Shelf.device c.args.shelf.now) (g.S.Shelf.device c.survey_disks.new.shelf)) n e.ends);
       unwritten = e.only.unwritten;
       patience = e.only.falls;
       waited = e.only.waited;

@@ -1,7 +1,7 @@
 use Rattle.std.proofs.Common.{◌≡◌, ℕ, List, subst}
 use Rattle.lvm_num.specs.Disks.{Disks, has}
-use Rattle.lvm_quorum.specs.declared.homes.Homes.{Homes}
-use Rattle.lvm_quorum.specs.Written.{KeepsShelf, IsDarkened, IsGivenUp}
+use Rattle.lvm_write.specs.declared.homes.Homes.{Homes}
+use Rattle.lvm_write.specs.Written.{KeepsShelf, IsDarkened, IsGivenUp}
 use Rattle.lvm_begin.specs.Beginning.{Beginning, new_beginning, new_order, IsOfParts}
 use Rattle.lvm_begin.specs.Ends.{StopsAt, BeginsWell, FailsAtDisk}
 use Rattle.lvm_begin.specs.Kept.{NewStaysKept}

@@ -4,7 +4,7 @@ use Rattle.std.proofs.lemmas.Result.{err_from_is_err_and}
 use Rattle.lvm_num.specs.declared.record.Kind.TheVariants as kind
 use Rattle.lvm_num.specs.Disks.{has}
 use Rattle.lvm_num.specs.Record.{longest_content}
-use Rattle.lvm_quorum.specs.Written.{KeepsShelf}
+use Rattle.lvm_write.specs.Written.{KeepsShelf}
 use Rattle.lvm_begin.specs.Beginning.{again_beginning, again_order, IsOfParts}
 use Rattle.lvm_begin.specs.Kept.{AgainStaysKept}
 use Rattle.lvm_varyon.specs.Parts.{StopsWriting}

@@ -3,7 +3,7 @@ use Rattle.lvm_disk.specs.Device.{Device}
 use Rattle.lvm_disk.specs.Paths.{Here}
 use Rattle.lvm_vol.specs.Log.{Log, spare_entries}
 use Rattle.lvm_stamps.proofs.Clock.{all_is_behind_next}
-use Rattle.lvm_quorum.proofs.Transfers.{spends_none}
+use Rattle.lvm_write.proofs.Transfers.{spends_none}
 use Rattle.lvm_core.specs.Coming.{BringsOn}
 use Rattle.lvm_core.specs.Held.{StartsHeld}
 use Rattle.lvm_core.specs.declared.refused.Cause.TheVariants as cause

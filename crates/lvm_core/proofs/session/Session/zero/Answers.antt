@@ -1,7 +1,7 @@
 use Rattle.std.proofs.Common.{ℕ, Bool, false, List, refl, ◌∙◌, ap, subst}
 use Rattle.std.specs.Prelude.{◌==◌, slice_set}
 use Rattle.lvm_transfer.specs.declared.moves.Moved.TheVariants as moved
-use Rattle.lvm_quorum.specs.Parts.{DoesPart}
+use Rattle.lvm_write.specs.Parts.{DoesPart}
 use Rattle.lvm_core.specs.declared.session.Session.{Session}
 use Rattle.lvm_core.specs.Fields.{core_of}
 use Rattle.lvm_core.specs.Zeros.{IsZeroOf, IsZeroed}
