@@ -65,8 +65,8 @@ module _ (b : Beginning) (fits : length b.status.content ≤ 31740) where
       let back = both_from mid.media new.media (λ was is. ChangesBy (brought b q) (image_of mid.sizes was) (image_of new.sizes is)) n keeps.media told in
       same_sector TheStatus q back.0 n mid.sizes new.sizes d (slot_start kind.Status ((states b).slots d) + k) differ (near (Rattle.lvm_write.specs.Homes.second_slots kind.Status b.homes d) (length b.status.content) k fits inside) back.2
       ∙ told_at mid.media (λ media. StandsOn (states b) (image_of mid.sizes media) d) back.0 back.1 stands k inside)
-  still_stands TheNotes q mid new d differ keeps stands = if_told new.media (λ media. media d note_sector ≡ Rattle.lvm_write.specs.Notes.empty_note b.epoch)
+  still_stands TheNotes q mid new d differ keeps stands = if_told new.media (λ media. media d note_sector ≡ Rattle.lvm_write.specs.Notes.empty_note_sector b.epoch)
       (λ n told.
       let back = both_from mid.media new.media (λ was is. ChangesBy (brought b q) (image_of mid.sizes was) (image_of new.sizes is)) n keeps.media told in
       same_sector TheNotes q back.0 n mid.sizes new.sizes d note_sector differ refl back.2
-      ∙ told_at mid.media (λ media. media d note_sector ≡ Rattle.lvm_write.specs.Notes.empty_note b.epoch) back.0 back.1 stands)
+      ∙ told_at mid.media (λ media. media d note_sector ≡ Rattle.lvm_write.specs.Notes.empty_note_sector b.epoch) back.0 back.1 stands)

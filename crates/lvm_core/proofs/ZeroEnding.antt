@@ -37,7 +37,7 @@ module _ (pp : Pp) (before after : ℕ) (old new : State) where
   zero_ends answer w = by_how w.how w.part w.zeros w.goes
     where
       by_how : (how : Moved) → DoesPart (λ d. d == pp.disk) (IsZeroOf old.core.descriptor.mib pp) pp.disk 0 before after old.device new.device how
-          → Rattle.lvm_write.specs.Parts.IfDone how (λ back. Rattle.lvm_core.specs.Zeros.IsZeroed old.core.descriptor.mib pp new.device) → GoesOnAfter pp.disk old.core new.core how answer → ZeroEnds pp before old new answer
+          → Rattle.lvm_write.specs.Parts.IfMoved how (λ back. Rattle.lvm_core.specs.Zeros.IsZeroed old.core.descriptor.mib pp new.device) → GoesOnAfter pp.disk old.core new.core how answer → ZeroEnds pp before old new answer
       by_how (moved.Done back) part zeros goes = subst (λ (a : Result (Unit {0}) CommitFault). ZeroEnds pp before old new a) (sym goes.0) (record {
         same = record { core = goes.1; ready = part.rests; cuts = part.counts.1 };
         zeros = zeros;
