@@ -1,3 +1,3 @@
 pub mod Numbered
-mod Rows
+pub mod Rows
 pub mod Taking
