@@ -21,7 +21,7 @@ use Rattle.lvm_core.specs.declared.fault.CommitFault.{CommitFault}
 use Rattle.lvm_core.specs.declared.fault.CommitFault.TheVariants as commit
 use Rattle.lvm_core.specs.State.{Core, State, is_there}
 use Rattle.lvm_core.specs.Settled.{IsSettled}
-use Rattle.lvm_core.specs.Committing.{is_among, Restates, HasStated, StatusEnds}
+use Rattle.lvm_core.specs.Committing.{is_among, Restates, HasStated, MarkEnds}
 use Rattle.lvm_core.specs.Leaves.{NoDescriptor, Leaves, marking}
 use Rattle.lvm_volumes.specs.Endings.{StillHeld, commanding}
 use Rattle.lvm_volumes.specs.PlannedVolume.{IsOneGroup}
@@ -63,7 +63,7 @@ module _ (map : List Pp) (p q : ℕ) (a b : State) (settled : IsSettled a.core) 
       done.held (λ none. subst (λ (d : Descriptor). NoneIsLeft d b.core.status) (sym same) (marks.none none))
 
   -- where it wasn't committed
-  pub fresh_break : (r : Result (Unit {0}) CommitFault) → ((done : Unit {0}) → r ≡ Ok done → ⊥) → StatusEnds p a b r → ClearEnds map p a b r
+  pub fresh_break : (r : Result (Unit {0}) CommitFault) → ((done : Unit {0}) → r ≡ Ok done → ⊥) → MarkEnds p a b r → ClearEnds map p a b r
   fresh_break (Ok done) broke ends = absurd (broke done refl)
   fresh_break (Err (commit.WentOff have total)) broke ends = record {
     lost = ends.lost;
