@@ -42,23 +42,8 @@ use Rattle.lvm_core.specs.Committing.{with_one_out, RecordsEnd, FailsCommitted, 
 use Rattle.lvm_core.specs.Leaves.{KeepsHistory}
 use Rattle.lvm_core.specs.Steps.{CoreEnds, Settles}
 use Rattle.lvm_core.proofs.LeavesLemmas.{keeps_same, keeps_dark_log}
-use Rattle.lvm_core.proofs.Own.{fits_pool, one_out_long, sound_ready, sound_dark, sound_stuck}
+use Rattle.lvm_core.proofs.Own.{fits_with, fits_pool, one_out_long, sound_ready, sound_dark, sound_stuck}
 use Rattle.lvm_core.proofs.Spanning.{keeps_dark, calm_dark}
-
--- the parts fit whether the session is on or off
-fits_power : (core : Core) → IsFitting core → IsFitting (record core { power = power.Off })
-fits_power core fits = record {
-  valid = fits.valid;
-  id = fits.id;
-  rows = fits.rows;
-  group = fits.group;
-  notes = fits.notes;
-  table = fits.table;
-  most = fits.most;
-  queue = fits.queue;
-  a_buffer = fits.a_buffer;
-  buffers = fits.buffers;
-}
 
 -- the members that aren't missing, by a session and by its status
 pub there_is : (d : Descriptor) (u : Stored) → u.group ≡ record d { lvs = [] } → there u ≡ members_there d u.wanted
@@ -152,7 +137,7 @@ module _ (Held Plain : Type 0) (next : Descriptor) (plan : Plan) (first : Stored
       by_how : (h : CommitEnd) → SettleEnds Held Plain 0 before first new.core.status old.device new.device h → CoreEnds next old.core new.core h answer → IsSound new
       by_how (commit_end.Done back) ends goes = as_core (base next) goes.1 (sound_ready new.device (base next) (fits next valid alike) (told next) (placed next alike) settled_is.quiet.buffers lit not_off ends.back.ready)
       by_how (commit_end.WentOff have total back) ends goes = as_core (record here { power = power.Off }) goes.1
-          (sound_ready new.device (record here { power = power.Off }) (fits_power here fits_here) (record { table = sound.told.table; each = sound.told.each }) (placed old.core.descriptor own) settled_is.quiet.buffers refl
+          (sound_ready new.device (record here { power = power.Off }) (fits_with here here.history here.pool power.Off refl fits_here) (record { table = sound.told.table; each = sound.told.each }) (placed old.core.descriptor own) settled_is.quiet.buffers refl
           (λ off. few have total ends.lost) ends.back.ready)
       by_how commit_end.Dark ends goes = as_core (all_dark out) goes.1
           (sound_dark old.device new.device out old.core.pool fits_out (record { table = sound.told.table; each = sound.told.each }) (placed old.core.descriptor own) refl settled_is.quiet.buffers sound.fitting.a_buffer ends.0)
