@@ -1,6 +1,6 @@
 -- What a call leaves, by what its transfers and its entries did.
 use Rattle.std.proofs.Common.{◌≡◌, ◌⊎◌, inl, inr, ⊎_elim, ℕ, ◌+◌, Bool, true, false, cond, List, [], ◌∷◌, ◌++◌, count_by, Option, Some, None, refl, sym, ap, subst, ◌∙◌, arith}
-use Rattle.std.specs.Prelude.{IfSome, IsSomeAnd, IfOk, Result, Ok, Err, IsTrue, IsFalse, if◌then◌else◌}
+use Rattle.std.specs.Prelude.{IfSome, IsSomeAnd, IsTrue, IsFalse, if◌then◌else◌}
 use Rattle.std.proofs.lemmas.Bool.{false≢true}
 use Rattle.std.proofs.lemmas.List.{append-nil}
 use Rattle.std.proofs.lemmas.List.Sums.{sum_by-append}
@@ -20,21 +20,10 @@ use Rattle.lvm_steps.proofs.Spans.{later_append}
 use Rattle.lvm_status.specs.Update.{Stored}
 use Rattle.lvm_commit.specs.LawsOfFinding.{FindsNothingNew, FindsNoMore, FindsNothingNewOn, FindsNoMoreOn}
 use Rattle.lvm_commit.specs.Settling.{IsPassed}
-use Rattle.lvm_core.specs.declared.fault.CommitFault.{CommitFault}
 use Rattle.lvm_core.specs.declared.request.Open.{Open}
 use Rattle.lvm_core.specs.Dark.{dark_log}
 use Rattle.lvm_core.specs.State.{State}
 use Rattle.lvm_core.specs.Leaves.{WasLeftBehind, KeepsStatus, is_of_volume, EntersVolumes, KeepsHistory, MayBeFound, FindsOnly}
-
--- ---- what holds at Ok
-
-pub ok_then : (P Q : Type 0) (answer : Result (Unit {0}) CommitFault) → (P → IfOk answer (λ done. Q)) → IfOk answer (λ done. P → Q)
-ok_then P Q (Ok done) makes = makes
-ok_then P Q (Err fault) makes = tt
-
-pub ok_both : (P Q : Type 0) (answer : Result (Unit {0}) CommitFault) → IfOk answer (λ done. P) → IfOk answer (λ done. Q) → IfOk answer (λ done. P × Q)
-ok_both P Q (Ok done) one two = (one, two)
-ok_both P Q (Err fault) one two = tt
 
 -- ---- what is told
 

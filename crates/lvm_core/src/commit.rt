@@ -21,7 +21,7 @@ use crate::prepared::Prepared;
 use crate::request::Power;
 use crate::session::Session;
 use crate::zero::write_zeros;
-use lvm_commit::{Settled, commit_descriptor, commit_status};
+use lvm_commit::{CommitEnd, commit_descriptor, commit_status};
 use lvm_disk::Shelf;
 use lvm_num::{Pbuf, Pp};
 use lvm_transfer::{Moved, Patience};
@@ -76,7 +76,7 @@ impl Session {
     }
 
     // Goes on after records were written: takes the buffer back, or ends.
-    fn go_on(&mut self, settled: Settled) -> Result<(), CommitFault>
+    fn go_on(&mut self, settled: CommitEnd) -> Result<(), CommitFault>
         requires told { AreTold self.old.history.facts self.old.requests.items }
         requires out { IfBack settled (λ back. IsOut self.old.pool back.number) }
         ensures ends { EndsAs (core_of self.old) (core_of self.new) settled result }
@@ -84,20 +84,20 @@ impl Session {
         ensures bytes { length self.new.bytes.items ≡ length self.old.bytes.items }
     {
         match settled {
-            Settled::Done { buf } => {
+            CommitEnd::Done { buf } => {
                 self.pool.give(buf);
                 Ok(())
             }
-            Settled::WentOff { have, total, buf } => {
+            CommitEnd::WentOff { have, total, buf } => {
                 self.pool.give(buf);
                 self.power = Power::Off;
                 Err(CommitFault::WentOff { have, total })
             }
-            Settled::Dark => {
+            CommitEnd::Dark => {
                 self.darken();
                 Err(CommitFault::Dark)
             }
-            Settled::Stuck => Err(CommitFault::Stuck),
+            CommitEnd::Stuck => Err(CommitFault::Stuck),
         }
     }
 

@@ -54,6 +54,13 @@ fn darken_all(requests: &mut [Open])
 }
 
 impl Session {
+    // What was asked and answered; all else is given back.
+    pub fn into_history(self) -> History
+        ensures { result ≡ self.history }
+    {
+        self.history
+    }
+
     // The power is off: a cut is entered, and all open requests that haven't landed land as Dark.
     pub fn darken(&mut self)
         requires { AreTold self.old.history.facts self.old.requests.items }

@@ -23,7 +23,7 @@ use Rattle.lvm_events.specs.Events.{begun_as, flown}
 use Rattle.lvm_sound.specs.Left.{begun_left, copy_left, if_so, is_held, lacks_dirty, left_of, phase_left, read_left, request_left, status_left, turns_of, unbegun_left, update_work, waiting_targets, work_left, write_left}
 use Rattle.lvm_sound.specs.Requests.{IsOpenOne, IsPhase, IsRequest}
 use Rattle.lvm_sound.specs.Sound.{IsSound, count_if}
-use Rattle.lvm_keeps.proofs.LandingFalls.{left_same}
+use Rattle.lvm_keeps.proofs.Leaving.{left_same}
 use Rattle.lvm_keeps.proofs.Lists.{all_at, any_set, count_set}
 use Rattle.lvm_keeps.proofs.PinFalls.{sum_same}
 use Rattle.lvm_keeps.proofs.Small.{not_so}

@@ -43,9 +43,10 @@ use Rattle.lvm_sound.specs.Sound.{count_if, may_be_fresh, out_with, stays_fresh,
 use Rattle.lvm_sound.specs.Worked.{behind, begun_write, second_copy, status_of}
 use Rattle.lvm_sound.specs.Busy.{BusyIsSound, begun_read, busy_core, busy_device, data_flight, got_read, group_of_three, half_written, other_part, part, target_at, wide, writing}
 use Rattle.lvm_sound.proofs.Small.{not_so, not_either, not_none, or_left}
-use Rattle.lvm_sound.proofs.Parts.{none_cleared, none_missing, not_marked, one_stale, placed, valid as valid_before, zeros_at}
+use Rattle.lvm_sound.proofs.While.{sound_while_on}
+use Rattle.lvm_sound.proofs.Parts.{update_is_sound, none_cleared, none_missing, not_marked, one_stale, placed, valid as valid_before, zeros_at}
 use Rattle.lvm_sound.proofs.Flying.{no_note_flies, notes_named, one_entry, one_pin, turned}
-use Rattle.lvm_sound.proofs.Whole.{begun_so, on_is_not_off, on_is_not_stuck}
+use Rattle.lvm_sound.proofs.Whole.{begun_so}
 
 -- ---- the group
 
@@ -245,23 +246,7 @@ each_is disk is =
 
 status : IsSoundStatus (seen busy_core.status)
 unfolding votes_by has_bit has
-status = record {
-  unstarted = λ disk is. untouched disk (one_or_two disk is);
-  started = λ disk is. not_marked disk is;
-  failed = λ disk is. not_marked disk is;
-  each = λ t e. each_is;
-  idle = λ e. some_is_there e;
-  held = λ is. not_so is;
-  open_still = λ t e. inl refl;
-  committed_missing = λ disk is. not_so (sym (none_missing true disk) ∙ is);
-  in_flight_missing = λ t e disk is. not_so (sym (ap (λ (u : Status). calls_missing u disk) (sym (some_same t e)) ∙ none_missing true disk) ∙ is);
-}
-  where
-    some_is_there : {A X : Type 0} {a : A} → Some a ≡ None → X
-    some_is_there e = absurd cc
-
-    some_same : (t : Status) → Some (status_of (record behind { dirty = true })) ≡ Some t → status_of (record behind { dirty = true }) ≡ t
-    some_same t e = cc e
+status = update_is_sound _ _ refl (λ disk is. untouched disk (one_or_two disk is)) has-zero has-zero each_is refl refl (λ disk is. not_so (sym (none_missing true disk) ∙ is)) (λ disk is. not_so (sym (none_missing true disk) ∙ is))
 
 none_behind : (p : Pp) {X : Type 0} → is_entailed busy_core p ≡ true → X
 none_behind p is = not_so (by (is_among (part ∷ other_part ∷ []) p) (is_among (first_pp ∷ second_copy ∷ []) p) (not (is_stale busy_core p)) (is_missing busy_core p.disk) (list_any (can_replace busy_core) (part ∷ other_part ∷ [])) (list_any (can_replace busy_core) (first_pp ∷ second_copy ∷ [])) (none_missing true p.disk) is)
@@ -446,29 +431,20 @@ unfolding votes_by has_bit has
 votes = refl
 
 is_sound : IsSound (state busy_device busy_core)
-is_sound = record {
-  fitting = fits;
-  told = told;
-  placed = placed mode.Active (status_of behind);
-  buffers = λ n. let same = out n in omega (arith, same);
-  none_lost = λ lit n. out n;
-  on = λ e. on;
-  lit = λ e. record { power = refl; freed = refl };
-  dark = λ e. not_so e;
-  off = λ e. on_is_not_off e;
-  over = λ e. not_so e;
-  stuck = λ e. on_is_not_stuck e;
-  counted = (counted.0, (counted.1, tt));
-  answered = (tt, (tt, tt));
-  copy = copy_caused;
-  origin = record {
-    since = λ disk. let none = zeros_at 128 disk in omega (arith, none);
-    votes = votes;
-    still_missing = λ disk is. not_so (sym (none_missing true disk) ∙ is);
-    missing = λ disk is. inl is;
-    stale = λ p is. inl (one_stale (calls_stale (status_of behind) p) is);
-  };
-}
+is_sound =
+    sound_while_on _ refl (record { power = refl; freed = refl }) fits told (placed mode.Active (status_of behind)) out on
+    (record {
+      counted = (counted.0, (counted.1, tt));
+      answered = (tt, (tt, tt));
+      copy = copy_caused;
+      origin = record {
+        since = λ disk. let none = zeros_at 128 disk in omega (arith, none);
+        votes = votes;
+        still_missing = λ disk is. not_so (sym (none_missing true disk) ∙ is);
+        missing = λ disk is. inl is;
+        stale = λ p is. inl (one_stale (calls_stale (status_of behind) p) is);
+      };
+    })
 
 lands_next : first_event busy_core ≡ Some (event.Land 1 outcome.Got)
 unfolding votes_by has_bit has

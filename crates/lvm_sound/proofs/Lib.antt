@@ -1,5 +1,6 @@
-mod Small
-mod Parts
+pub mod Small
+pub mod Parts
+pub mod While
 mod Whole
 mod Flying
 mod Bringing

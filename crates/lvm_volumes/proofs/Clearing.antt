@@ -20,7 +20,7 @@ use Rattle.lvm_core.specs.declared.fault.CommitFault.{CommitFault}
 use Rattle.lvm_core.specs.declared.fault.CommitFault.TheVariants as commit
 use Rattle.lvm_core.specs.State.{Core, State, is_there}
 use Rattle.lvm_core.specs.Settled.{IsSettled}
-use Rattle.lvm_core.specs.Committing.{is_among, Restates, HasStated, RecordsEnd, StatusEnds}
+use Rattle.lvm_core.specs.Committing.{is_among, Restates, HasStated, RecordsEnd, MarkEnds}
 use Rattle.lvm_core.specs.Leaves.{NoDescriptor, Leaves, marking}
 use Rattle.lvm_volumes.specs.Endings.{StillHeld, commanding}
 use Rattle.lvm_volumes.specs.PlannedVolume.{AreOfOneGroup}
@@ -62,7 +62,7 @@ module _ (map : List Pp) (p q : ℕ) (a b : State) (settled : IsSettled a.core) 
       done.held (λ none. subst (λ (d : Descriptor). NoneIsLeft d b.core.status) (sym same) (marks.none none))
 
   -- where it wasn't committed
-  pub fresh_break : (why : CommitFault) → StatusEnds p a b (Err why) → ClearEnds map p a b (Err why)
+  pub fresh_break : (why : CommitFault) → MarkEnds p a b (Err why) → ClearEnds map p a b (Err why)
   fresh_break (commit.WentOff have total) ends = broken (HasStated a.core.descriptor a b) p a b settled (commit.WentOff have total) ends
   fresh_break commit.Dark ends = broken (HasStated a.core.descriptor a b) p a b settled commit.Dark ends
   fresh_break commit.Stuck ends = broken (HasStated a.core.descriptor a b) p a b settled commit.Stuck ends

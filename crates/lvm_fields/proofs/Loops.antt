@@ -1,9 +1,5 @@
 -- A loop that reads so many items, each by those before it.
 use Rattle.std.proofs.Common.{◌≡◌, ℕ, suc, ◌+◌, ◌-◌, ◌<◌, ◌≤◌, List, [], ◌∷◌, ◌++◌, Result, Ok, refl, sym, ap, ◌∙◌, arith}
-use Rattle.lvm_num.specs.declared.place.Pp.{Pp}
-use Rattle.lvm_num.specs.declared.descriptor.PvRow.{PvRow}
-use Rattle.lvm_num.specs.declared.descriptor.LvRow.{LvRow}
-use Rattle.lvm_num.specs.DescriptorBytes.{member_at, members_at, volume_at, volumes_at, partition_at, partitions_at}
 use Rattle.lvm_num.specs.Reading.{◌>>=◌, Rest}
 use Rattle.lvm_fields.specs.declared.fault.Fault.{Fault}
 use Rattle.lvm_fields.specs.declared.fault.Fault.TheVariants as faults
@@ -34,15 +30,3 @@ module _ {X : Type 0} (step : List X → Rest → Result (X × Rest) ℕ) (run :
   is_done count i items rest total le so_far =
       let left : count - i ≡ 0 = omega arith in
       sym so_far ∙ ap (λ n. run n items rest) left ∙ repeats.none items rest
-
-pub members_repeat : Repeats PvRow member_at members_at
-unfolding members_at
-members_repeat = record { none = λ items rest. refl; next = λ n items rest. refl }
-
-pub volumes_repeat : (big : _) → Repeats LvRow (volume_at big) (volumes_at big)
-unfolding volumes_at
-volumes_repeat big = record { none = λ items rest. refl; next = λ n items rest. refl }
-
-pub partitions_repeat : (members : List PvRow) (used : List Pp) (copies : ℕ) → Repeats Pp (partition_at members used copies) (partitions_at members used copies)
-unfolding partitions_at
-partitions_repeat members used copies = record { none = λ items rest. refl; next = λ n items rest. refl }

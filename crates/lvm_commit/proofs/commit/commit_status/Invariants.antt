@@ -1,6 +1,6 @@
 use Rattle.std.proofs.Common.{◌≡◌, ◌-◌, ◌^◌}
 use Rattle.lvm_commit.proofs.StatusRounds.{AreRounds}
-use Rattle.lvm_commit.proofs.commit.settle_status.Given as goal
+use Rattle.lvm_commit.proofs.commit.commit_status.Given as goal
 
 abbrev pub invariant-loop-shelf : goal.invariant-loop-shelf
 invariant-loop-shelf g l = record {

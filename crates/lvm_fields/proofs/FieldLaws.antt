@@ -1,29 +1,16 @@
 -- A field that is read is the field that was written, and what was written is read again.
-use Rattle.std.proofs.Common.{◌≡◌, inl, inr, ℕ, zero, suc, ◌+◌, ◌^◌, ◌<◌, ◌≤◌, Bool, true, false, cond, ltb, ◌&&◌, List, [], ◌∷◌, ◌++◌, length, get_or, take, drop, replicate, Result, Ok, Err, refl, sym, ap, subst, ◌∙◌, append_assoc, length-append, arith}
-use Rattle.std.specs.Prelude.{◌==◌, bytes_eq}
+use Rattle.std.proofs.Common.{◌≡◌, ℕ, zero, suc, ◌+◌, ◌^◌, ◌<◌, ◌≤◌, Bool, true, false, cond, ltb, ◌&&◌, List, [], ◌∷◌, ◌++◌, length, get_or, take, drop, replicate, Result, Ok, Err, refl, sym, ap, subst, ◌∙◌, append_assoc, length-append, arith}
+use Rattle.std.specs.Prelude.{◌==◌}
 use Rattle.std.specs.List.{list_all}
 use Rattle.std.specs.Int.{Width, w8, w16, w32, w64, byte_len, from_be_bytes, to_be_bytes}
-use Rattle.std.proofs.lemmas.Bool.{cases_lt, ltb-false, le-ltb, eqb-true}
-use Rattle.std.proofs.lemmas.List.{take_at, drop_at, take-append-drop, length-take, length-take-le, length-replicate, get_or-drop, get_or-take, get_or_past}
+use Rattle.std.proofs.lemmas.Bool.{ltb-false, le-ltb, eqb-true}
+use Rattle.std.proofs.lemmas.List.{take_at, drop_at, take-append-drop, length-take-le, length-replicate}
 use Rattle.std.proofs.lemmas.Nat.{be_bytes_2, be_bytes_4, be_bytes_8, from_be_bytes-to_be_bytes_2, from_be_bytes-to_be_bytes_4, from_be_bytes-to_be_bytes_8}
-use Rattle.std.proofs.lemmas.Slice.Eq.{bytes_eq-Decides}
-use Rattle.lvm_num.specs.Name.{is_name, padded, unpadded}
-use Rattle.lvm_num.specs.DescriptorBytes.{is_name_field, name_at}
-use Rattle.lvm_num.specs.Reading.{◌>>=◌, Rest, bytes_at, number_at, zeros_at}
-use Rattle.lvm_num.proofs.NameLemmas.{unpadded-padded, length-name, length-padded}
+use Rattle.lvm_num.specs.Reading.{◌>>=◌, Rest, bytes_at, number_at, zeros_at, end_at}
+use Rattle.lvm_num.proofs.Records.{bytes-drop, bytes-take}
 
 abbrev pub IsBytes : List ℕ → Type 0
 IsBytes bytes = (i : ℕ) → get_or bytes i 0 < 256
-
-IsBytes-drop : (n : ℕ) (bytes : List ℕ) → IsBytes bytes → IsBytes (drop n bytes)
-IsBytes-drop n bytes h i = rw get_or-drop (h (n + i))
-
-IsBytes-take : (n : ℕ) (bytes : List ℕ) → IsBytes bytes → IsBytes (take n bytes)
-IsBytes-take n bytes h i =
-    elim (cases_lt i n) [
-      | inl lt ↦ rw (get_or-take n bytes i 0 lt) (h i)
-      | inr le ↦ rw (get_or_past (take n bytes) i 0 (omega (arith, length-take n bytes))) (omega arith)
-    ]
 
 -- the value of a step that did not fail
 pub bind_ok : {A B : Type 0} (r : Result A ℕ) (f : A → Result B ℕ) (y : B) → (r >>= f) ≡ Ok y → (x : A) × (r ≡ Ok x) × (f x ≡ Ok y)
@@ -55,13 +42,11 @@ tested false false p q x y e = absurd cc
 -- what a reader took from the front
 pub record Takes (r : Rest) (text : List ℕ) (after : Rest) : Type 0 where
   pub parts : r.1 ≡ text ++ after.1
-  pub place : after.0 ≡ r.0 + length text
   pub fits : IsBytes after.1
 
 pub Takes-then : (a : Rest) (x : List ℕ) (b : Rest) (y : List ℕ) (c : Rest) → Takes a x b → Takes b y c → Takes a (x ++ y) c
 Takes-then a x b y c p q = record {
   parts = p.parts ∙ ap (λ (t : List ℕ). x ++ t) q.parts ∙ sym (append_assoc x y c.1);
-  place = omega (arith, p.place, q.place, length-append x y);
   fits = q.fits;
 }
 
@@ -73,9 +58,9 @@ bytes_takes n test r x fits e =
     let g = tested (ltb (length r.1) n) (test (take n r.1)) (r.0 + length r.1) r.0 (take n r.1, (r.0 + n, drop n r.1)) x e in
     let long : n ≤ length r.1 = ltb-false _ _ g.0 in
     let size : length (take n r.1) ≡ n = length-take-le n r.1 long in
-    let took : Takes r (take n r.1) (r.0 + n, drop n r.1) = record { parts = sym (take-append-drop n r.1); place = omega (arith, size); fits = IsBytes-drop n r.1 fits } in
+    let took : Takes r (take n r.1) (r.0 + n, drop n r.1) = record { parts = sym (take-append-drop n r.1); fits = bytes-drop n r.1 fits } in
     subst (λ (y : List ℕ × Rest). Takes r y.0 y.1 × (length y.0 ≡ n) × (test y.0 ≡ true) × IsBytes y.0) g.2
-    (took, size, g.1, IsBytes-take n r.1 fits)
+    (took, size, g.1, bytes-take n r.1 fits)
 
 pub bytes_again : (n : ℕ) (test : List ℕ → Bool) (place : ℕ) (field rest : List ℕ) → length field ≡ n → test field ≡ true
     → bytes_at n test (place, field ++ rest) ≡ Ok (field, (place + n, rest))
@@ -90,6 +75,14 @@ pub record IsWide (w : Width) (limit : ℕ) : Type 0 where
   pub back : (bytes : List ℕ) → length bytes ≡ byte_len w → IsBytes bytes → to_be_bytes w (from_be_bytes w bytes) ≡ bytes
   pub again : (n : ℕ) → n < limit → from_be_bytes w (to_be_bytes w n) ≡ n
   pub below : (bytes : List ℕ) → IsBytes bytes → from_be_bytes w bytes < limit
+
+one_back : (bytes : List ℕ) → length bytes ≡ 1 → IsBytes bytes → to_be_bytes w8 (from_be_bytes w8 bytes) ≡ bytes
+one_back [] len fits = absurd cc
+one_back (b ∷ []) len fits = ap (λ (x : ℕ). x ∷ []) (omega (arith, fits 0))
+one_back (b ∷ c ∷ bytes) len fits = absurd (omega (arith, len))
+
+pub wide8 : IsWide w8 (2 ^ 8)
+wide8 = record { len = λ n. refl; back = one_back; again = λ n lt. omega (arith, lt); below = λ bytes fits. fits 0 }
 
 pub wide16 : IsWide w16 (2 ^ 16)
 wide16 = record { len = λ n. refl; back = λ bytes len fits. be_bytes_2 bytes _ len fits refl; again = λ n lt. from_be_bytes-to_be_bytes_2 n lt; below = λ bytes fits. omega (arith, fits 0, fits 1) }
@@ -183,36 +176,8 @@ zeros_again n place rest =
     ap (λ (read : Result (List ℕ × Rest) ℕ). read >>= λ field. Ok field.1)
     (bytes_again n (λ bytes. list_all (λ b. b == 0) bytes) place (replicate n 0) rest (length-replicate {A = ℕ} n 0) (zeros_pass n))
 
--- ---- names
+-- ---- the end
 
-pub bytes_same : (xs ys : List ℕ) → bytes_eq xs ys ≡ true → xs ≡ ys
-bytes_same xs ys e = (bytes_eq-Decides xs ys).0 e
-
-pub name_takes : (test : List ℕ → Bool) (r : Rest) (x : List ℕ × Rest) → IsBytes r.1 → name_at test r ≡ Ok x
-    → Takes r (padded x.0) x.1 × (is_name x.0 ≡ true) × (test x.0 ≡ true)
-name_takes test r x fits e =
-    let whole : List ℕ → Bool = λ bytes. is_name_field bytes && test (unpadded bytes) in
-    let b = bind_ok (bytes_at 16 (λ bytes. is_name_field bytes && test (unpadded bytes)) r) (λ field. Ok (unpadded field.0, field.1)) x e in
-    let t = bytes_takes 16 (λ bytes. is_name_field bytes && test (unpadded bytes)) r b.0 fits b.1 in
-    let tests = both (is_name_field b.0.0) (test (unpadded b.0.0)) t.2 in
-    let name = both (is_name (unpadded b.0.0)) (bytes_eq (padded (unpadded b.0.0)) b.0.0) tests.0 in
-    let same : b.0.0 ≡ padded (unpadded b.0.0) = sym (bytes_same (padded (unpadded b.0.0)) b.0.0 name.1) in
-    let made : List ℕ × Rest = (unpadded b.0.0, b.0.1) in
-    subst (λ (y : List ℕ × Rest). Takes r (padded y.0) y.1 × (is_name y.0 ≡ true) × (test y.0 ≡ true)) (ok_is made x b.2)
-    (subst (λ (field : List ℕ). Takes r field b.0.1) same t.0, name.0, tests.1)
-
-pub same_bytes : (xs ys : List ℕ) → xs ≡ ys → bytes_eq xs ys ≡ true
-same_bytes xs ys e = (bytes_eq-Decides xs ys).1 e
-
-pub name_again : (test : List ℕ → Bool) (place : ℕ) (name rest : List ℕ) → is_name name ≡ true → test name ≡ true
-    → name_at test (place, padded name ++ rest) ≡ Ok (name, (place + 16, rest))
-name_again test place name rest is passes =
-    let back : unpadded (padded name) ≡ name = unpadded-padded name is in
-    let size : length (padded name) ≡ 16 = length-padded name (omega (arith, length-name name is)) in
-    let text : is_name (unpadded (padded name)) ≡ true = ap is_name back ∙ is in
-    let same : bytes_eq (padded (unpadded (padded name))) (padded name) ≡ true = same_bytes _ _ (ap padded back) in
-    let tests : is_name_field (padded name) && test (unpadded (padded name)) ≡ true =
-    from_both (is_name_field (padded name)) (test (unpadded (padded name))) (from_both (is_name (unpadded (padded name))) (bytes_eq (padded (unpadded (padded name))) (padded name)) text same) (ap test back ∙ passes) in
-    ap (λ (read : Result (List ℕ × Rest) ℕ). read >>= λ field. Ok (unpadded field.0, field.1))
-    (bytes_again 16 (λ bytes. is_name_field bytes && test (unpadded bytes)) place (padded name) rest size tests)
-    ∙ ap (λ (text : List ℕ). Ok (text, (place + 16, rest))) back
+pub end_takes : {X : Type 0} (x : X) (place : ℕ) (bytes : List ℕ) (y : X) → end_at x (place, bytes) ≡ Ok y → (bytes ≡ []) × (x ≡ y)
+end_takes x place [] y e = (refl, ok_is x y e)
+end_takes x place (b ∷ bytes) y e = absurd cc
