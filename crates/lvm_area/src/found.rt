@@ -10,10 +10,9 @@ ghost use Rattle.lvm_rec.specs.Slots.{held};
 ghost use Rattle.lvm_area.specs.Reading.{home_of, under};
 ghost use Rattle.lvm_area.specs.Reading.{stamped_found, IsHome};
 
+use lvm_fields::Fault;
 use lvm_num::{Descriptor, Memory, Stamp, Status};
 use lvm_rec::{Kind, read_slot};
-use lvm_vgda::VgdaFault;
-use lvm_vgsa::VgsaFault;
 use std::alloc::Global;
 
 const NEITHER: u8 = 2;
@@ -46,8 +45,8 @@ pub fn descriptor_in(alloc: Global, bytes: &[u8]) -> Result<Option<Found<Descrip
     let stamp = framed.stamp;
     match lvm_vgda::decode(alloc, framed.content.as_slice()) {
         Ok(value) => Ok(Some(Found { stamp, value })),
-        Err(VgdaFault::BadDescriptor { place: _ }) => Ok(None),
-        Err(VgdaFault::Memory) => Err(Memory),
+        Err(Fault::At(_)) => Ok(None),
+        Err(Fault::Memory) => Err(Memory),
     }
 }
 
@@ -62,8 +61,8 @@ pub fn status_in(alloc: Global, bytes: &[u8]) -> Result<Option<Found<Status>>, M
     let stamp = framed.stamp;
     match lvm_vgsa::decode(alloc, framed.content.as_slice()) {
         Ok(value) => Ok(Some(Found { stamp, value })),
-        Err(VgsaFault::BadStatus { place: _ }) => Ok(None),
-        Err(VgsaFault::Memory) => Err(Memory),
+        Err(Fault::At(_)) => Ok(None),
+        Err(Fault::Memory) => Err(Memory),
     }
 }
 
