@@ -11,7 +11,7 @@ use lvm_memory::MemShelf;
 use lvm_num::{Descriptor, Pbuf, Pp, Rows, Stamp};
 use lvm_stale::StaleTable;
 use lvm_status::{Change, Updater};
-use lvm_survey::{Survey, Survey};
+use lvm_survey::Survey;
 use lvm_tests_shelves::{
     blank_shelf, first_homes, group, has_room, row, stamp, status, survey, volume,
 };

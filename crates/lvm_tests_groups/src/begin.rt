@@ -5,7 +5,7 @@ use lvm_faults::{Act, Planned};
 use lvm_memory::MemShelf;
 use lvm_num::Stamp;
 use lvm_quorum::{Choice, ChooseFault, choose};
-use lvm_survey::{Survey, Survey, SurveyRow, SurveyRow};
+use lvm_survey::{Survey, SurveyRow};
 use lvm_tests_shelves::{blank_shelf, group, row, stamp, status, survey};
 use lvm_tests_values::{check, name};
 use std::process::Abort;

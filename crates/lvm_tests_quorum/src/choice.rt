@@ -9,7 +9,7 @@ use crate::fixtures::{DATA, FIRST, LARGE, LATER, NAMESAKE, NONE, OTHER, first_tw
 use Answer::*;
 use lvm_num::{Descriptor, Rows, Stamp, Status};
 use lvm_quorum::{Choice, ChooseFault, choose};
-use lvm_survey::{Survey, Survey, SurveyRow, SurveyRow};
+use lvm_survey::{Survey, SurveyRow};
 use lvm_tests_values::{check, name};
 use lvm_write::Homes;
 use std::process::Abort;

@@ -5,9 +5,7 @@ use lvm_faults::{Act, Planned};
 use lvm_memory::MemShelf;
 use lvm_num::{Kind, Pbuf, Rows, Stamp};
 use lvm_rec::{frame, slot_sectors, write_note};
-use lvm_survey::{
-    Survey, Survey, SurveyRow, SurveyRow, Surveyed, Surveyed, survey_disks, survey_disks,
-};
+use lvm_survey::{Survey, SurveyRow, Surveyed, survey_disks};
 use lvm_tests_shelves::image_shelf;
 use lvm_tests_values::check;
 use lvm_transfer::{Patience, relight};

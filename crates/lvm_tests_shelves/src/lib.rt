@@ -16,9 +16,7 @@ use lvm_num::{
     Descriptor, DiskSet, LvRow, Mode, Pbuf, Policy, Pp, PvRow, Rows, Stamp, Status, StatusRow,
     VolumeNumbers,
 };
-use lvm_survey::{
-    Survey, Survey, SurveyRow, SurveyRow, Surveyed, Surveyed, survey_disks, survey_disks,
-};
+use lvm_survey::{Survey, SurveyRow, Surveyed, survey_disks};
 use lvm_tests_values::name;
 use lvm_transfer::{Patience, relight};
 use lvm_write::Homes;

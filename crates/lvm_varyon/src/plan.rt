@@ -11,7 +11,7 @@ use lvm_core::{Cause, Parts, Room};
 use lvm_next::{has_active, next_status};
 use lvm_num::{DiskSet, Memory, Name, Rows};
 use lvm_quorum::{Choice, ChooseFault, choose};
-use lvm_survey::{Survey, Survey};
+use lvm_survey::Survey;
 use lvm_write::Homes;
 use std::alloc::Global;
 

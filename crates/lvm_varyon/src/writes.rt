@@ -17,7 +17,7 @@ use lvm_begin::{Begun, begin_again};
 use lvm_core::Cause;
 use lvm_disk::Shelf;
 use lvm_num::{DiskSet, Pbuf};
-use lvm_survey::{Survey, Survey, Surveyed, Surveyed, survey_disks, survey_disks};
+use lvm_survey::{Survey, Surveyed, survey_disks};
 use lvm_transfer::Patience;
 use lvm_write::Homes;
 use std::alloc::Global;
