@@ -16,7 +16,7 @@ use Rattle.lvm_status.specs.Calls.{WantsAtEnd, closed, comes_held, with_start, w
 use Rattle.lvm_status.specs.Runs.{NextWrite, Ended, IsSound}
 use Rattle.lvm_status.proofs.Disks.{no_is_false}
 use Rattle.lvm_status.proofs.Sessions.{without_update, closed_cases, commit_cases}
-use Rattle.lvm_status.proofs.Sound.{and_left, and_right, not_false, or_left, neither, none_held, owed_at, steps_stay_sound}
+use Rattle.lvm_status.proofs.Sound.{and_left, and_right, or_left, neither, none_held, owed_at, steps_stay_sound}
 use Rattle.lvm_commit.specs.Rounds.{Misses}
 use Rattle.lvm_commit.proofs.Losing.{misses_none, misses_same, misses_more}
 

@@ -17,7 +17,7 @@ use Rattle.lvm_core.specs.declared.request.Power.TheVariants as power
 use Rattle.lvm_core.specs.State.{Core, State}
 use Rattle.lvm_core.specs.Dark.{all_dark}
 use Rattle.lvm_core.specs.Committing.{with_one_out}
-use Rattle.lvm_core.specs.Steps.{IsMarked, EndsAs, CoreEnds, CommitsDescriptor, CommitsMarks}
+use Rattle.lvm_core.specs.Steps.{IsMarked, EndsAs, CoreEnds, CommitsDescriptor, CommitsMarks, EndsWith}
 use Rattle.lvm_core.proofs.Buffers.{one_is_out, back_again}
 
 -- ---- the buffer
@@ -47,50 +47,51 @@ is_out commit_end.Stuck pool taken is some back = tt
 -- ---- the session
 
 module _ (old mid new : Core) (mid_is : mid ≡ record old { pool = with_one_out old.pool; status = mid.status; homes = mid.homes }) (all : old.pool ≡ replicate (length old.pool) false) where
-  pub core_ends : (how : CommitEnd) (answer : Result (Unit {0}) CommitFault) → IfBack how (λ back. back.number ≡ 0) → EndsAs mid new how answer → CoreEnds old.descriptor old new how answer
-  core_ends (commit_end.Done buf) answer number ends =
-      let is : new ≡ record old { status = mid.status; homes = mid.homes } =
+  pub core_ends_with : (next : Descriptor) (how : CommitEnd) (answer : Result (Unit {0}) CommitFault) → IfBack how (λ back. back.number ≡ 0) → EndsWith next mid new how answer → CoreEnds next old new how answer
+  core_ends_with next (commit_end.Done buf) answer number ends =
+      let is : new ≡ record old { descriptor = next; status = mid.status; homes = mid.homes } =
       ends.1
-      ∙ ap (λ (c : Core). record c { pool = slice_set c.pool buf.number false }) mid_is
-      ∙ ap (λ (p : List Bool). record old { pool = p; status = mid.status; homes = mid.homes }) (back_again old.pool buf.number number all)
+      ∙ ap (λ (c : Core). record c { descriptor = next; pool = slice_set c.pool buf.number false }) mid_is
+      ∙ ap (λ (p : List Bool). record old { descriptor = next; pool = p; status = mid.status; homes = mid.homes }) (back_again old.pool buf.number number all)
       in
-      (ends.0, is ∙ ap (λ (c : Core). record old { status = c.status; homes = c.homes }) (sym is))
-  core_ends (commit_end.WentOff have total buf) answer number ends =
+      (ends.0, is ∙ ap (λ (c : Core). record old { descriptor = next; status = c.status; homes = c.homes }) (sym is))
+  core_ends_with next (commit_end.WentOff have total buf) answer number ends =
       let is : new ≡ record old { status = mid.status; homes = mid.homes; power = power.Off } =
       ends.1
       ∙ ap (λ (c : Core). record c { pool = slice_set c.pool buf.number false; power = power.Off }) mid_is
       ∙ ap (λ (p : List Bool). record old { pool = p; status = mid.status; homes = mid.homes; power = power.Off }) (back_again old.pool buf.number number all)
       in
       (ends.0, is ∙ ap (λ (c : Core). record old { status = c.status; homes = c.homes; power = power.Off }) (sym is))
-  core_ends commit_end.Dark answer number ends =
+  core_ends_with next commit_end.Dark answer number ends =
       let is : new ≡ all_dark (record old { pool = with_one_out old.pool; status = mid.status; homes = mid.homes }) = ends.1 ∙ ap all_dark mid_is in
       (ends.0, is ∙ ap (λ (c : Core). all_dark (record old { pool = with_one_out old.pool; status = c.status; homes = c.homes })) (sym is))
-  core_ends commit_end.Stuck answer number ends =
+  core_ends_with next commit_end.Stuck answer number ends =
       let is : new ≡ record old { pool = with_one_out old.pool; status = mid.status; homes = mid.homes } = ends.1 ∙ mid_is in
       (ends.0, is ∙ ap (λ (c : Core). record old { pool = with_one_out old.pool; status = c.status; homes = c.homes }) (sym is))
 
-  -- where it went well the next descriptor is put in
-  pub core_ends_well : (next : Descriptor) (how : CommitEnd) → IfBack how (λ back. back.number ≡ 0) → EndsAs mid new how (Ok tt) → CoreEnds next old (record new { descriptor = next }) how (Ok tt)
-  core_ends_well next (commit_end.Done buf) number ends =
-      let its = core_ends (commit_end.Done buf) (Ok tt) number ends in
-      (refl, ap (λ (c : Core). record c { descriptor = next }) its.1)
-  core_ends_well next (commit_end.WentOff have total buf) number ends = absurd (cc (ends.0))
-  core_ends_well next commit_end.Dark number ends = absurd (cc (ends.0))
-  core_ends_well next commit_end.Stuck number ends = absurd (cc (ends.0))
+  pub core_ends : (how : CommitEnd) (answer : Result (Unit {0}) CommitFault) → IfBack how (λ back. back.number ≡ 0) → EndsAs mid new how answer → CoreEnds old.descriptor old new how answer
+  core_ends how answer number ends = core_ends_with old.descriptor how answer number (subst (λ (d : Descriptor). EndsWith d mid new how answer) (ap (λ (c : Core). c.descriptor) mid_is) ends)
 
-  -- and else it stays
-  pub core_ends_badly : (next : Descriptor) (fault : CommitFault) (how : CommitEnd) → IfBack how (λ back. back.number ≡ 0) → EndsAs mid new how (Err fault) → CoreEnds next old new how (Err fault)
-  core_ends_badly next fault (commit_end.Done buf) number ends = absurd (cc (ends.0))
-  core_ends_badly next fault (commit_end.WentOff have total buf) number ends = core_ends (commit_end.WentOff have total buf) (Err fault) number ends
-  core_ends_badly next fault commit_end.Dark number ends = core_ends commit_end.Dark (Err fault) number ends
-  core_ends_badly next fault commit_end.Stuck number ends = core_ends commit_end.Stuck (Err fault) number ends
+-- where it went well the next descriptor is put in
+pub well_with : (next : Descriptor) (old new : Core) (how : CommitEnd) → EndsAs old new how (Ok tt) → EndsWith next old (record new { descriptor = next }) how (Ok tt)
+well_with next old new (commit_end.Done buf) ends = (refl, ap (λ (c : Core). record c { descriptor = next }) ends.1)
+well_with next old new (commit_end.WentOff have total buf) ends = absurd (cc (ends.0))
+well_with next old new commit_end.Dark ends = absurd (cc (ends.0))
+well_with next old new commit_end.Stuck ends = absurd (cc (ends.0))
+
+-- and else it stays
+pub badly_with : (next : Descriptor) (old new : Core) (fault : CommitFault) (how : CommitEnd) → EndsAs old new how (Err fault) → EndsWith next old new how (Err fault)
+badly_with next old new fault (commit_end.Done buf) ends = absurd (cc (ends.0))
+badly_with next old new fault (commit_end.WentOff have total buf) ends = ends
+badly_with next old new fault commit_end.Dark ends = ends
+badly_with next old new fault commit_end.Stuck ends = ends
 
 -- what is wanted and the slots stay as they were written
-pub status_ends : (mid new : Core) (how : CommitEnd) (answer : Result (Unit {0}) CommitFault) → EndsAs mid new how answer → (new.status ≡ mid.status) × (new.homes ≡ mid.homes)
-status_ends mid new (commit_end.Done buf) answer ends = (ap (λ (c : Core). c.status) ends.1, ap (λ (c : Core). c.homes) ends.1)
-status_ends mid new (commit_end.WentOff have total buf) answer ends = (ap (λ (c : Core). c.status) ends.1, ap (λ (c : Core). c.homes) ends.1)
-status_ends mid new commit_end.Dark answer ends = (ap (λ (c : Core). c.status) ends.1, ap (λ (c : Core). c.homes) ends.1)
-status_ends mid new commit_end.Stuck answer ends = (ap (λ (c : Core). c.status) ends.1, ap (λ (c : Core). c.homes) ends.1)
+pub status_ends : (next : Descriptor) (mid new : Core) (how : CommitEnd) (answer : Result (Unit {0}) CommitFault) → EndsWith next mid new how answer → (new.status ≡ mid.status) × (new.homes ≡ mid.homes)
+status_ends next mid new (commit_end.Done buf) answer ends = (ap (λ (c : Core). c.status) ends.1, ap (λ (c : Core). c.homes) ends.1)
+status_ends next mid new (commit_end.WentOff have total buf) answer ends = (ap (λ (c : Core). c.status) ends.1, ap (λ (c : Core). c.homes) ends.1)
+status_ends next mid new commit_end.Dark answer ends = (ap (λ (c : Core). c.status) ends.1, ap (λ (c : Core). c.homes) ends.1)
+status_ends next mid new commit_end.Stuck answer ends = (ap (λ (c : Core). c.status) ends.1, ap (λ (c : Core). c.homes) ends.1)
 
 -- ---- a descriptor
 
@@ -138,7 +139,7 @@ pub at_once : (Same : Type 0) (old mid new : Core) (mid_is : mid ≡ record old 
     → IfBack how (λ back. back.number ≡ 0) → EndsAs mid new how answer → EndsAtOnce how Same → (Same → mid.homes ≡ old.homes) → Same × (answer ≡ Ok tt) × (new ≡ record old { status = mid.status })
 at_once Same old mid new mid_is all (commit_end.Done buf) answer number ends same homes =
     let its = core_ends old mid new mid_is all (commit_end.Done buf) answer number ends in
-    let is = status_ends mid new (commit_end.Done buf) answer ends in
+    let is = status_ends mid.descriptor mid new (commit_end.Done buf) answer ends in
     (same, its.0, its.1 ∙ ap (λ (u : Stored). record old { status = u; homes = new.homes }) is.0 ∙ ap (λ (h : Homes). record old { status = mid.status; homes = h }) (is.1 ∙ homes same))
 at_once Same old mid new mid_is all (commit_end.WentOff have total buf) answer number ends same homes = absurd same
 at_once Same old mid new mid_is all commit_end.Dark answer number ends same homes = absurd same

@@ -34,12 +34,16 @@ pub record IsMarked (to_stale to_fresh : List Pp) (old new : Stored) : Type 0 wh
 
 -- ---- after the records
 
--- The session with the buffer back where it comes back; off where the votes are lost, and ended where the power was cut.
+-- The session with this descriptor where it is committed, and the buffer back where it comes back; off where the votes are lost, and ended where the power was cut.
+abbrev pub EndsWith : Descriptor → Core → Core → CommitEnd → Result (Unit {0}) CommitFault → Type 0
+EndsWith next old new (commit_end.Done back) answer = (answer ≡ Ok tt) × (new ≡ record old { descriptor = next; pool = slice_set old.pool back.number false })
+EndsWith next old new (commit_end.WentOff have total back) answer = (answer ≡ Err (fault.WentOff have total)) × (new ≡ record old { pool = slice_set old.pool back.number false; power = power.Off })
+EndsWith next old new commit_end.Dark answer = (answer ≡ Err fault.Dark) × (new ≡ all_dark old)
+EndsWith next old new commit_end.Stuck answer = (answer ≡ Err fault.Stuck) × (new ≡ old)
+
+-- with the descriptor that it has
 abbrev pub EndsAs : Core → Core → CommitEnd → Result (Unit {0}) CommitFault → Type 0
-EndsAs old new (commit_end.Done back) answer = (answer ≡ Ok tt) × (new ≡ record old { pool = slice_set old.pool back.number false })
-EndsAs old new (commit_end.WentOff have total back) answer = (answer ≡ Err (fault.WentOff have total)) × (new ≡ record old { pool = slice_set old.pool back.number false; power = power.Off })
-EndsAs old new commit_end.Dark answer = (answer ≡ Err fault.Dark) × (new ≡ all_dark old)
-EndsAs old new commit_end.Stuck answer = (answer ≡ Err fault.Stuck) × (new ≡ old)
+EndsAs old new end answer = EndsWith old.descriptor old new end answer
 
 -- The session with this descriptor where it is committed; the buffer is back, or out.
 abbrev pub CoreEnds : Descriptor → Core → Core → CommitEnd → Result (Unit {0}) CommitFault → Type 0

@@ -12,7 +12,7 @@ ghost use Rattle.lvm_core.specs.Dark.{AreTold};
 ghost use Rattle.lvm_core.specs.Fields.{core_of, status_room};
 ghost use Rattle.lvm_core.specs.Sound.{IsFitting};
 ghost use Rattle.lvm_core.specs.Committing.{with_one_out};
-ghost use Rattle.lvm_core.specs.Steps.{EndsAs, CommitsDescriptor, CommitsMarks};
+ghost use Rattle.lvm_core.specs.Steps.{EndsAs, EndsWith, CommitsDescriptor, CommitsMarks};
 ghost use Rattle.lvm_core.specs.Zeros.{WritesZeros, HasSectorsOf};
 
 use crate::fault::CommitFault;
@@ -23,7 +23,7 @@ use crate::session::Session;
 use crate::zero::write_zeros;
 use lvm_commit::{CommitEnd, commit_descriptor, commit_status};
 use lvm_disk::Shelf;
-use lvm_num::{Pbuf, Pp};
+use lvm_num::{Descriptor, Pbuf, Pp};
 use lvm_transfer::{Moved, Patience};
 
 impl Session {
@@ -101,6 +101,23 @@ impl Session {
         }
     }
 
+    // So it goes on, with this descriptor where it is committed.
+    fn go_on_with(&mut self, next: Descriptor, settled: CommitEnd) -> Result<(), CommitFault>
+        requires told { AreTold self.old.history.facts self.old.requests.items }
+        requires out { IfBack settled (λ back. IsOut self.old.pool back.number) }
+        ensures ends { EndsWith next (core_of self.old) (core_of self.new) settled result }
+        ensures capacity { vec_capacity self.new.requests ≡ vec_capacity self.old.requests }
+        ensures bytes { length self.new.bytes.items ≡ length self.old.bytes.items }
+    {
+        match self.go_on(settled) {
+            Ok(()) => {
+                self.descriptor = next;
+                Ok(())
+            }
+            Err(fault) => Err(fault),
+        }
+    }
+
     /// Commits a descriptor.
     pub fn commit<S: Shelf>(
         &mut self,
@@ -133,13 +150,7 @@ impl Session {
             buf,
             patience,
         );
-        match self.go_on(settled) {
-            Ok(()) => {
-                self.descriptor = descriptor;
-                Ok(())
-            }
-            Err(fault) => Err(fault),
-        }
+        self.go_on_with(descriptor, settled)
     }
 
     /// Commits a status with these marks.
