@@ -24,7 +24,7 @@ use Rattle.lvm_begin.specs.Beginning.{Beginning, MayBeginAgain}
 use Rattle.lvm_varyon.specs.Found.{Found, HaveAnswered}
 use Rattle.lvm_next.specs.Next.{IsNextStatus, has_active}
 use Rattle.lvm_varyon.specs.Chosen.{answering, last_moment, MayComeOn, IsClockBack}
-use Rattle.lvm_varyon.specs.Writing.{beginning, order, Writes, AllWritten, OneFailed, WasBrokenOff, IsLeftOut}
+use Rattle.lvm_varyon.specs.Writing.{beginning, order, Writes, AllWritten, WasBrokenOff, OneWriteFailed, IsStillOut}
 use Rattle.lvm_next.specs.Restated.{Restated}
 use Rattle.lvm_varyon.specs.Restated.{AreOfRecords, WhereTold}
 
@@ -90,9 +90,9 @@ module _ (old new : Device) (name : List ℕ) (moment patience : ℕ) where
   Stops cause.Ambiguous = AtChoice old new (λ c. HasRecord c name × IsAmbiguous c name)
   Stops (cause.NoQuorum have total) = AtChoice old new (λ c. LacksQuorum c name have total)
   Stops (cause.ClockBack seen) = AtChoice old new (λ c. IsClockBack c name moment seen)
-  Stops (cause.DiskFailed disk) = HasWritten old new name moment (λ group b read. OneFailed b (order group) disk read new)
+  Stops (cause.DiskFailed disk) = HasWritten old new name moment (λ group b read. OneWriteFailed b (order group) disk read new)
   Stops cause.Dark = WasStopped old new name moment (IsCutOff old new)
-  Stops cause.Stuck = WasStopped old new name moment (IsLeftOut patience old new)
+  Stops cause.Stuck = WasStopped old new name moment (IsStillOut patience old new)
   Stops cause.Memory = IsUnwritten old new × IsRested old new
   Stops cause.HistoryFull = ⊥
   Stops (cause.NoDisk disk) = ⊥

@@ -43,7 +43,7 @@ pub record AllWritten (b : Beginning) (parts : List Part) (homes : Homes) (read 
   pub rested : IsRested read new
 
 -- One of them failed on some disks, of which this is the lowest; it was tried on all, and those behind it weren't begun.
-pub record OneFailed (b : Beginning) (parts : List Part) (disk : ℕ) (read new : Device) : Type 0 where
+pub record OneWriteFailed (b : Beginning) (parts : List Part) (disk : ℕ) (read new : Device) : Type 0 where
   pub first : IsLowestFailed b.targets read new disk
   pub stops : StopsAt b parts read new (WasTriedOnTargets b read new)
   pub rested : IsRested read new
@@ -53,7 +53,7 @@ abbrev pub WasBrokenOff : Beginning → List Part → Device → Device → Type
 WasBrokenOff b parts read new = StopsAt b parts read new (λ hand. Unit {0})
 
 -- One transfer is out, of which nothing was heard until the patience had run out; the power was on all the time.
-pub record IsLeftOut (patience : ℕ) (old new : Device) : Type 0 where
+pub record IsStillOut (patience : ℕ) (old new : Device) : Type 0 where
   pub flight : Flight
   pub out : new.flights ≡ flight ∷ []
   pub freed : new.freed ≡ []
