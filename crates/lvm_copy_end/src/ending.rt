@@ -98,3 +98,16 @@ pub fn end_copy(session: &mut Session, how: CopyEnd)
     give_back(&mut session.pool, given.hand);
     leave(&mut session.queue, given.place);
 }
+
+/// It ends so, if it does.
+pub fn end_copy_if(session: &mut Session, end: Option<CopyEnd>)
+    requires { MayEndCopy (core_of session.old) }
+    ensures core { core_of session.new ≡ record (with_end (core_of session.old) end) { status = session.new.updater } }
+    ensures marks { WantsStale (marked_by_end (core_of session.old) end) session.old.updater session.new.updater }
+    ensures rooms { SameRooms session.old session.new }
+{
+    match end {
+        None => {}
+        Some(how) => end_copy(session, how),
+    }
+}
