@@ -56,6 +56,16 @@ ends_session fault.HistoryFull = false
 ends_session (fault.DiskFailed disk) = false
 ends_session fault.Memory = false
 
+-- the reply to a command on a volume
+abbrev pub volume_reply : {X : Type 0} → Result X GroupFault → Reply
+volume_reply (Ok done) = reply.Ok
+volume_reply (Err why) = reply.Refused (refusal_for why)
+
+-- whether the session is over after it
+abbrev pub is_over : {X : Type 0} → Result X GroupFault → Bool
+is_over (Ok done) = false
+is_over (Err why) = ends_session why
+
 -- the session goes on
 pub record StaysOn (left : Session) (new : State) : Type 0 where
   pub device : new.moment.device ≡ left.device
