@@ -40,6 +40,7 @@ use Rattle.lvm_sound.specs.Worked.{HeldWritesAreSound, Says, begun_write, behind
 use Rattle.lvm_keeps.proofs.Landing.{landing_is_caused}
 use Rattle.lvm_faulted.specs.Failing.{KeptWritesAreSound, LostWritesAreSound, UnsettledWritesAreSound, ended, ended_write, kept, landed, lost_on_both, no_writes, unsettled}
 use Rattle.lvm_sound.proofs.Small.{not_either, not_none, not_so}
+use Rattle.lvm_sound.proofs.Requests.{laid_in, shaped, waits_with}
 use Rattle.lvm_sound.proofs.Parts.{update_is_sound, idle_is_sound, none_written, has_fresh, not_marked, zeros_at, none_missing_at_first as none_missing}
 use Rattle.lvm_sound.proofs.While.{sound_while_on}
 use Rattle.lvm_faulted.proofs.Parts.{none_stale, rose_once}
@@ -116,29 +117,13 @@ module _ (held : HeldWritesAreSound) (committed : Says) (flies : Option Says) (w
   owned over none owner.Copy = refl
 
   request : is_over first ≡ true → is_wanted_due (core_of (ended committed flies writes first)) (ended_write first).request ≡ true → IsOpenOne (core_of (ended committed flies writes first)) (ended_write first)
-  request over due = record {
-    laid = record {
-      within = record { row = mirror mode.Off; volume = refl; within = omega arith; some = omega arith; fits = omega arith };
-      blocks = record { some = omega arith; end = omega arith; group = omega arith; whole = λ e. not_so e };
-      most = omega arith;
-      id = omega arith;
-    };
-    waits = λ e. record {
-      shape = record {
-        targets = (record { copy = refl; sector = refl; there = refl }, (record { copy = refl; sector = refl; there = refl }, tt));
-        phase_is = (refl, ap (λ t. t && true) over);
-        hand = refl;
-        room = tt;
-        differ = differ first;
-        usable = λ past. refl;
-        one = λ read. not_either read;
-      };
-      ready = record { free = λ past. refl; recorded = (refl, refl, refl); wanted = λ past two. refl; named = λ has two. refl; dirty = λ has two. refl };
-      judged = λ write. record { uncaught = (none_caught _, (refl, tt)); due = λ waits. due; all = λ begun p among. or_left _ among };
-    };
-    over = λ e. not_either e;
-    still = λ e. not_either e;
-  }
+  request over due =
+      waits_with refl (laid_in (mirror mode.Off) refl (omega arith) (omega arith) (omega arith) (omega arith) (omega arith) (omega arith))
+      (record {
+        shape = shaped (record { copy = refl; sector = refl; there = refl }, (record { copy = refl; sector = refl; there = refl }, tt)) (refl, ap (λ t. t && true) over) refl tt (differ first) (λ past. refl) (λ read. not_either read);
+        ready = record { free = λ past. refl; recorded = (refl, refl, refl); wanted = λ past two. refl; named = λ has two. refl; dirty = λ has two. refl };
+        judged = λ write. record { uncaught = (none_caught _, (refl, tt)); due = λ waits. due; all = λ begun p among. or_left _ among };
+      })
     where
       none_caught : (a : Bool) → a && false ≡ false
       none_caught true = refl

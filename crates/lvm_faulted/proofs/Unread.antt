@@ -34,6 +34,7 @@ use Rattle.lvm_sound.specs.Worked.{HeldWritesAreSound, behind, first_copy, fresh
 use Rattle.lvm_keeps.proofs.Landing.{landing_is_caused}
 use Rattle.lvm_faulted.specs.Unread.{FailedReadsAreSound, WritesWithoutCopyAreSound, begun_read, failed_read, held, read_in_vain, refused, unread, without_copy}
 use Rattle.lvm_sound.proofs.Small.{not_either, not_none, not_so}
+use Rattle.lvm_sound.proofs.Requests.{laid_in, shaped, waits_with}
 use Rattle.lvm_sound.proofs.Parts.{idle_is_sound, none_written, both_copies, has_fresh, not_marked, zeros_at, none_missing_at_first as none_missing}
 use Rattle.lvm_sound.proofs.While.{sound_while_on}
 use Rattle.lvm_faulted.proofs.Parts.{none_stale, rose_once}
@@ -194,29 +195,13 @@ read_told m = record { ordered = read_ordered; table = record { ascending = (tt,
 
 read_request : (m : Mode) → IsOpenOne (unread m).core failed_read
 unfolding has_bit
-read_request m = record {
-  laid = record {
-    within = record { row = mirror m; volume = refl; within = omega arith; some = omega arith; fits = omega arith };
-    blocks = record { some = omega arith; end = omega arith; group = omega arith; whole = λ e. not_so e };
-    most = omega arith;
-    id = omega arith;
-  };
-  waits = λ e. record {
-    shape = record {
-      targets = (record { copy = refl; sector = refl; there = refl }, (record { copy = refl; sector = refl; there = refl }, tt));
-      phase_is = (omega arith, λ write. not_so write);
-      hand = refl;
-      room = tt;
-      differ = differ;
-      usable = λ past. refl;
-      one = λ read. omega arith;
-    };
-    ready = record { free = λ past. refl; recorded = (refl, refl, refl); wanted = λ past two. refl; named = λ has two. refl; dirty = λ has two. refl };
-    judged = λ write. not_so write;
-  };
-  over = λ e. not_either e;
-  still = λ e. not_either e;
-}
+read_request m =
+    waits_with refl (laid_in (mirror m) refl (omega arith) (omega arith) (omega arith) (omega arith) (omega arith) (omega arith))
+    (record {
+      shape = shaped (record { copy = refl; sector = refl; there = refl }, (record { copy = refl; sector = refl; there = refl }, tt)) (omega arith, λ write. not_so write) refl tt differ (λ past. refl) (λ read. omega arith);
+      ready = record { free = λ past. refl; recorded = (refl, refl, refl); wanted = λ past two. refl; named = λ has two. refl; dirty = λ has two. refl };
+      judged = λ write. not_so write;
+    })
 
 read_caused : (m : Mode) → AreCaused (unread m).device (unread m).core failed_read
 read_caused m waits = (λ e. rose_once, (λ e. rose_once, tt))

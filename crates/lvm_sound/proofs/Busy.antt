@@ -44,6 +44,7 @@ use Rattle.lvm_sound.specs.Worked.{behind, begun_write, second_copy, status_of}
 use Rattle.lvm_sound.specs.Busy.{BusyIsSound, begun_read, busy_core, busy_device, data_flight, got_read, group_of_three, half_written, other_part, part, target_at, wide, writing}
 use Rattle.lvm_sound.proofs.Small.{not_so, not_either, not_none, or_left}
 use Rattle.lvm_sound.proofs.While.{sound_while_on}
+use Rattle.lvm_sound.proofs.Requests.{laid_in, shaped, waits_with}
 use Rattle.lvm_sound.proofs.Parts.{update_is_sound, none_cleared, none_missing, not_marked, one_stale, placed, valid as valid_before, zeros_at}
 use Rattle.lvm_sound.proofs.Flying.{no_note_flies, notes_named, one_entry, one_pin, turned}
 use Rattle.lvm_sound.proofs.Whole.{begun_so}
@@ -293,55 +294,23 @@ differ a b p q (suc i) j d below within e = absurd (omega (arith, below, within)
 
 write_request : IsOpenOne busy_core half_written
 unfolding has_bit
-write_request = record {
-  laid = record {
-    within = record { row = wide; volume = refl; within = omega arith; some = omega arith; fits = omega arith };
-    blocks = record { some = omega arith; end = omega arith; group = omega arith; whole = λ e. not_so e };
-    most = omega arith;
-    id = omega arith;
-  };
-  waits = λ e. record {
-    shape = record {
-      targets = (record { copy = refl; sector = refl; there = refl }, (record { copy = refl; sector = refl; there = refl }, tt));
-      phase_is = (omega arith, λ write. refl);
-      hand = refl;
-      room = tt;
-      differ = differ _ _ refl refl;
-      usable = λ past. refl;
-      one = λ read. not_either read;
-    };
-    ready = record { free = λ past. refl; recorded = inl refl; wanted = λ past two. refl; named = λ has two. refl; dirty = λ has two. refl };
-    judged = λ write. record { uncaught = (refl, (refl, tt)); due = λ waits. not_so waits; all = λ begun p among. or_left _ among };
-  };
-  over = λ e. not_either e;
-  still = λ e. not_either e;
-}
+write_request =
+    waits_with refl (laid_in wide refl (omega arith) (omega arith) (omega arith) (omega arith) (omega arith) (omega arith))
+    (record {
+      shape = shaped (record { copy = refl; sector = refl; there = refl }, (record { copy = refl; sector = refl; there = refl }, tt)) (omega arith, λ write. refl) refl tt (differ _ _ refl refl) (λ past. refl) (λ read. not_either read);
+      ready = record { free = λ past. refl; recorded = inl refl; wanted = λ past two. refl; named = λ has two. refl; dirty = λ has two. refl };
+      judged = λ write. record { uncaught = (refl, (refl, tt)); due = λ waits. not_so waits; all = λ begun p among. or_left _ among };
+    })
 
 read_request : IsOpenOne busy_core got_read
 unfolding has_bit
-read_request = record {
-  laid = record {
-    within = record { row = wide; volume = refl; within = omega arith; some = omega arith; fits = omega arith };
-    blocks = record { some = omega arith; end = omega arith; group = omega arith; whole = λ e. not_so e };
-    most = omega arith;
-    id = omega arith;
-  };
-  waits = λ e. record {
-    shape = record {
-      targets = (record { copy = refl; sector = refl; there = refl }, (record { copy = refl; sector = refl; there = refl }, tt));
-      phase_is = (omega arith, λ write. not_so write);
-      hand = refl;
-      room = refl;
-      differ = differ _ _ refl refl;
-      usable = λ past. refl;
-      one = λ read. omega arith;
-    };
-    ready = record { free = λ past. refl; recorded = (refl, refl, refl); wanted = λ past two. refl; named = λ has two. refl; dirty = λ has two. refl };
-    judged = λ write. not_so write;
-  };
-  over = λ e. not_either e;
-  still = λ e. not_either e;
-}
+read_request =
+    waits_with refl (laid_in wide refl (omega arith) (omega arith) (omega arith) (omega arith) (omega arith) (omega arith))
+    (record {
+      shape = shaped (record { copy = refl; sector = refl; there = refl }, (record { copy = refl; sector = refl; there = refl }, tt)) (omega arith, λ write. not_so write) refl refl (differ _ _ refl refl) (λ past. refl) (λ read. omega arith);
+      ready = record { free = λ past. refl; recorded = (refl, refl, refl); wanted = λ past two. refl; named = λ has two. refl; dirty = λ has two. refl };
+      judged = λ write. not_so write;
+    })
 
 all_caused : AreCaused busy_device busy_core half_written × AreCaused busy_device busy_core got_read
 unfolding has_bit

@@ -1,5 +1,6 @@
 pub mod Small
 pub mod Parts
+pub mod Requests
 pub mod While
 mod Whole
 mod Flying

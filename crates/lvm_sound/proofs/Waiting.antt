@@ -25,6 +25,7 @@ use Rattle.lvm_sound.specs.Sound.{count_if, IsAsked, IsFitting, IsTold, IsGoing,
 use Rattle.lvm_sound.specs.Worked.{first_copy, second_copy, target_on, two_targets, waiting, asking, a_write, begun_write, core_of, status_of, fresh, faultless, WaitingWritesPin}
 use Rattle.lvm_sound.proofs.Small.{not_so, not_either}
 use Rattle.lvm_sound.proofs.While.{sound_while_on}
+use Rattle.lvm_sound.proofs.Requests.{laid_in, shaped, waits_with}
 use Rattle.lvm_sound.proofs.Parts.{none_cleared, has_fresh, placed, status_is_sound, none_behind, notes_fit, none_out}
 use Rattle.lvm_sound.proofs.Whole.{no_entries, begun_so, first_stays, fitting, owned, true_to_origin}
 
@@ -64,29 +65,13 @@ differ (suc i) j d below within e = absurd (omega (arith, below, within))
 
 request : IsOpenOne (core_of waiting) entering
 unfolding has_bit
-request = record {
-  laid = record {
-    within = record { row = mirror mode.Active; volume = refl; within = omega arith; some = omega arith; fits = omega arith };
-    blocks = record { some = omega arith; end = omega arith; group = omega arith; whole = λ e. not_so e };
-    most = omega arith;
-    id = omega arith;
-  };
-  waits = λ e. record {
-    shape = record {
-      targets = (record { copy = refl; sector = refl; there = refl }, (record { copy = refl; sector = refl; there = refl }, tt));
-      phase_is = (refl, refl, refl, omega arith);
-      hand = refl;
-      room = tt;
-      differ = differ;
-      usable = λ past. refl;
-      one = λ read. not_either read;
-    };
-    ready = record { free = λ past. refl; recorded = tt; wanted = λ past two. refl; named = λ has two. not_so has; dirty = λ has two. not_so has };
-    judged = λ write. record { uncaught = (refl, (refl, tt)); due = λ waits. not_so waits; all = λ begun. not_so begun };
-  };
-  over = λ e. not_either e;
-  still = λ e. not_either e;
-}
+request =
+    waits_with refl (laid_in (mirror mode.Active) refl (omega arith) (omega arith) (omega arith) (omega arith) (omega arith) (omega arith))
+    (record {
+      shape = shaped (record { copy = refl; sector = refl; there = refl }, (record { copy = refl; sector = refl; there = refl }, tt)) (refl, refl, refl, omega arith) refl tt differ (λ past. refl) (λ read. not_either read);
+      ready = record { free = λ past. refl; recorded = tt; wanted = λ past two. refl; named = λ has two. not_so has; dirty = λ has two. not_so has };
+      judged = λ write. record { uncaught = (refl, (refl, tt)); due = λ waits. not_so waits; all = λ begun. not_so begun };
+    })
 
 first_caused : IsCaused faultless (core_of waiting) (target_on first_copy stage.Waiting)
 unfolding has_bit

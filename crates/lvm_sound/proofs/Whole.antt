@@ -27,6 +27,7 @@ use Rattle.lvm_sound.specs.Sound.{count_if, stays_fresh, IsAsked, IsFitting, IsT
 use Rattle.lvm_sound.specs.Worked.{Moment, mirrored, first_copy, calm, held_write, asking, a_write, begun_write, core_of, status_of, fresh, faultless, BeginningsAreSound, HeldWritesAreSound}
 use Rattle.lvm_sound.proofs.Small.{not_so, not_either}
 use Rattle.lvm_sound.proofs.While.{sound_while_on}
+use Rattle.lvm_sound.proofs.Requests.{laid_in, shaped, waits_with}
 use Rattle.lvm_sound.proofs.Parts.{none_cleared, valid, placed, notes_fit, no_note_flies, status_is_sound, none_behind, none_missing_at_first, has_fresh, one_stale, none_out, no_fault}
 
 pub no_entries : AreEntries []
@@ -161,29 +162,13 @@ module _ (m : Mode) where
   unrecorded mode.Off = (refl, refl, refl)
 
   held_request : IsOpenOne (core_of (held_write m)) (asking 1 a_write phase.Held [])
-  held_request = record {
-    laid = record {
-      within = record { row = mirror m; volume = refl; within = omega arith; some = omega arith; fits = omega arith };
-      blocks = record { some = omega arith; end = omega arith; group = omega arith; whole = λ e. not_so e };
-      most = omega arith;
-      id = omega arith;
-    };
-    waits = λ e. record {
-      shape = record {
-        targets = tt;
-        phase_is = (refl, refl);
-        hand = refl;
-        room = tt;
-        differ = λ i j d below within. absurd (omega (arith, below, within));
-        usable = λ past. not_so past;
-        one = λ read. not_either read;
-      };
-      ready = record { free = λ past. not_so past; recorded = unrecorded m; wanted = λ past two. not_so past; named = λ has two. not_so has; dirty = λ has two. not_so has };
-      judged = λ write. record { uncaught = tt; due = λ waits. not_so waits; all = λ begun. not_so begun };
-    };
-    over = λ e. not_either e;
-    still = λ e. not_either e;
-  }
+  held_request =
+      waits_with refl (laid_in (mirror m) refl (omega arith) (omega arith) (omega arith) (omega arith) (omega arith) (omega arith))
+      (record {
+        shape = shaped tt (refl, refl) refl tt (λ i j d below within. absurd (omega (arith, below, within))) (λ past. not_so past) (λ read. not_either read);
+        ready = record { free = λ past. not_so past; recorded = unrecorded m; wanted = λ past two. not_so past; named = λ has two. not_so has; dirty = λ has two. not_so has };
+        judged = λ write. record { uncaught = tt; due = λ waits. not_so waits; all = λ begun. not_so begun };
+      })
 
 held_numbers : (m : Mode) → 3 + updates_left (core_of (held_write m)) < 2 ^ 32
 unfolding has_bit has
