@@ -1,5 +1,5 @@
 //! Laws: what the events of a turn leave of a sound session is sound, and less work.
-ghost use Rattle.lvm_keeps.specs.Falls.{EventsFall};
+ghost use Rattle.lvm_keeps.specs.Falls.{EventsFall, NeverStandsStill};
 ghost use Rattle.lvm_keeps_turns.specs.Turns.{EventsKeep};
 
 /// Each event that a turn makes leaves the session sound.
@@ -10,4 +10,10 @@ pub fn events_keep()
 /// The first event that may be made leaves less work.
 pub fn events_fall()
     ensures { EventsFall }
+{}
+
+/// While the votes are there and no transfer is out, an event may be made unless each request has landed and no copy
+/// is being brought up.
+pub fn never_stands_still()
+    ensures { NeverStandsStill }
 {}

@@ -3,4 +3,4 @@
 
 mod laws;
 
-pub use laws::{events_fall, events_keep};
+pub use laws::{events_fall, events_keep, never_stands_still};
