@@ -1,3 +1,3 @@
-pub mod Turns
+pub mod Events
 pub mod Falls
 pub mod Standing

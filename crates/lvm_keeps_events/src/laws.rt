@@ -1,6 +1,6 @@
 //! Laws: what the events of a turn leave of a sound session is sound, and less work.
 ghost use Rattle.lvm_keeps.specs.Falls.{EventsFall, NeverStandsStill};
-ghost use Rattle.lvm_keeps_turns.specs.Turns.{EventsKeep};
+ghost use Rattle.lvm_keeps_events.specs.Events.{EventsKeep};
 
 /// Each event that a turn makes leaves the session sound.
 pub fn events_keep()

@@ -8,7 +8,7 @@ use Rattle.lvm_keeps_starts.proofs.DataStart.{data_start_keeps}
 use Rattle.lvm_keeps_starts.proofs.StatusStart.{status_start_keeps}
 use Rattle.lvm_keeps_moves.proofs.Admission.{admission_keeps}
 use Rattle.lvm_keeps_moves.proofs.Landing.{landing_keeps}
-use Rattle.lvm_keeps_turns.specs.Turns.{EventsKeep}
+use Rattle.lvm_keeps_events.specs.Events.{EventsKeep}
 
 pub events_keep : EventsKeep
 events_keep (event.Land place how) old new sound on made = landing_keeps place how old new sound on made
