@@ -3,4 +3,4 @@
 
 mod laws;
 
-pub use laws::landing_keeps;
+pub use laws::{admission_keeps, landing_keeps};
