@@ -67,8 +67,8 @@ fn quit(copy: &mut Option<OpenCopy>, how: CopyEnd) -> GivenUp
     }
 }
 
-// The one at a place of the queue leaves it, if one is there.
-fn leave_if_inside(queue: &mut Queue, place: u64)
+/// The one at a place of the queue leaves it, if one is there.
+pub fn leave_if_inside(queue: &mut Queue, place: u64)
     ensures { queue.new ≡ record queue.old { rows = without place queue.old.rows } }
 {
     if queue.has(place) {
