@@ -51,7 +51,7 @@ module _ {S : Type 0} (device : S → Device) (was is : S × Core) (settled : Is
 
   -- by what was answered, what may be found afterwards, and what was written
   module _ (Gives : Session → Session → Type 0) (IsNext : Core → Descriptor → Type 0) (IsPlace : Core → Pp → Type 0) (gives : Gives (session_of device was) (session_of device is)) (finds : FindsOnly (IsNext was.1) (session_of device was) (session_of device is))
-      (status : KeepsStatus NoPartition (IsPlace was.1) (session_of device was) (session_of device is))
+      (status : KeepsStatus (IsNext was.1) NoPartition (IsPlace was.1) (session_of device was) (session_of device is))
       (writes : KeepsShelf (is_there was.1) (IsOfCommand (IsNext was.1) (IsPlace was.1) (session_of device was) (session_of device is)) (device was.0) (device is.0)) where
     pub answered_done : (it : Stage S) → it ≡ stage.On is → (last : ℕ) → IsDone Gives IsNext IsPlace false was.1 (state_in device (stage.On was) last) (state_in device it last)
     answered_done it same last = record {

@@ -86,7 +86,7 @@ pub record IsDone (Gives : Session → Session → Type 0) (IsNext : Core → De
   pub gives : Gives (state old.moment.device core) left
   pub leaves : IsLeft over left new
   pub finds : FindsOnly (IsNext core) (state old.moment.device core) (state new.moment.device left.core)
-  pub status : KeepsStatus NoPartition (IsPlace core) (state old.moment.device core) left
+  pub status : KeepsStatus (IsNext core) NoPartition (IsPlace core) (state old.moment.device core) left
   pub writes : KeepsShelf (is_there core) (IsOfCommand (IsNext core) (IsPlace core) (state old.moment.device core) left) old.moment.device left.device
   pub clock : new.last ≡ old.last
 

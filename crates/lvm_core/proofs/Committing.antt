@@ -31,7 +31,7 @@ use Rattle.lvm_core.specs.Committing.{CommitEnds, HasCommitted, moment_of, SpanG
 use Rattle.lvm_core.specs.Leaves.{IsOfCommand, NoPartition, Leaves, committing}
 use Rattle.lvm_core.specs.Steps.{CoreEnds, CommitsDescriptor}
 use Rattle.lvm_core.proofs.Spanning.{path_falls}
-use Rattle.lvm_core.proofs.LeavesLemmas.{finds_next, ok_then, ok_both}
+use Rattle.lvm_core.proofs.LeavesLemmas.{finds_next, ok_then, ok_both, passed_behind}
 use Rattle.lvm_core.proofs.Settled.{IsBegun, there_is, group_is, settles_sound, records_end, most_stays, settles_history, settles_keep, settles_calm, settles_behind}
 use Rattle.lvm_core.proofs.Commits.{session_holds, holds_session}
 
@@ -128,7 +128,7 @@ module _ (next : Descriptor) (before after : ℕ) (old new : State) (answer : Re
           group = loses.group;
           rows = loses.rows;
           stale = λ p out. loses.stale p;
-          further = λ p is. ⊎_elim (λ before. inl before) (λ passed. inr (inr passed.absent)) (w.left.only p is);
+          further = λ p is. ⊎_elim (λ before. inl before) (λ passed. inr (inr (passed_behind (λ d. d ≡ next) NoPartition old new next (inr refl) (λ q out. loses.stale q) p is passed))) (w.left.only p is);
           dirty = loses.dirty;
           stays = loses.stays;
           lost = λ d is isnt. let two = loses.lost d is isnt in (subst (λ (set : Disks). IsTrue (set d)) (there_is old.core.descriptor old.core.status sound.fitting.group) two.0, two.1);

@@ -30,7 +30,7 @@ use Rattle.lvm_core.specs.Settled.{IsSettled}
 use Rattle.lvm_core.specs.Committing.{StatusEnds, HasStated, is_among, AreUnused, AreMarked, Restates, moment_of, SpanGoesOn, StaysBehind}
 use Rattle.lvm_core.specs.Leaves.{IsOfCommand, NoDescriptor, NoPartition, KeepsStatus, Leaves, marking}
 use Rattle.lvm_core.specs.Steps.{CoreEnds, CommitsMarks}
-use Rattle.lvm_core.proofs.LeavesLemmas.{finds_nothing, ok_then}
+use Rattle.lvm_core.proofs.LeavesLemmas.{finds_nothing, ok_then, passed_behind}
 use Rattle.lvm_core.proofs.Spanning.{path_falls}
 use Rattle.lvm_core.proofs.Settled.{IsBegun, there_is, there_first, group_is, settles_sound, settles_numbers, records_end, most_stays, settles_history, settles_keep, settles_calm, settles_behind}
 use Rattle.lvm_core.proofs.Commits.{among_at, isnt, holds_session, first_is_of, begun, first_held, wants_marks, none_first, first_none}
@@ -129,17 +129,21 @@ module _ (stale fresh : List Pp) (before after : ℕ) (old new : State) (answer 
     none = λ none. w.left.none (first_none old.core stale fresh w.first w.marked settled_is sound.fitting.group sound.fitting.valid unused none);
   }
 
-  marks_kept : KeepsStatus (Contains stale) (Contains fresh) old new
+  stale_stays : (p : Pp) → (Contains fresh p → ⊥) → IsTrue (calls_stale old.core.status.wanted p) → IsTrue (calls_stale new.core.status.wanted p)
+  stale_stays p out is =
+      w.settles.loses.stale p (w.marked.marks p ∙ stays_marked (calls_stale old.core.status.wanted p) (is_among stale p) (is_among fresh p) (not_among fresh p out) is)
+
+  marks_kept : KeepsStatus NoDescriptor (Contains stale) (Contains fresh) old new
   marks_kept =
       let loses = w.settles.loses in
       let marked = w.marked in
       record {
         group = loses.group ∙ marked.group;
         rows = record { id = loses.rows.id ∙ marked.rows.id; big = loses.rows.big ∙ marked.rows.big; disks = loses.rows.disks ∙ marked.rows.disks };
-        stale = λ p out is. loses.stale p (marked.marks p ∙ stays_marked (calls_stale old.core.status.wanted p) (is_among stale p) (is_among fresh p) (not_among fresh p out) is);
+        stale = stale_stays;
         further = λ p is. ⊎_elim
             (λ was. ⊎_elim (λ old. inl old) (λ new. inr (inl (among_at stale p new))) (was_marked (calls_stale old.core.status.wanted p) (is_among stale p) (is_among fresh p) (sym (marked.marks p) ∙ was)))
-            (λ (passed : IsPassed old.core.descriptor w.first new.core.status p). inr (inr passed.absent))
+            (λ (passed : IsPassed old.core.descriptor w.first new.core.status p). inr (inr (passed_behind NoDescriptor (Contains fresh) old new old.core.descriptor (inl refl) stale_stays p is (passed_so p passed))))
             (w.left.only p is);
         dirty = loses.dirty ∙ marked.dirty;
         stays = λ d is. loses.stays d (marked.missing d ∙ is);

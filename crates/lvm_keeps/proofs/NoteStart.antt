@@ -49,10 +49,10 @@ pins_self o is =
     ap (λ b. b && lv_of o.request.ask == lv_of o.request.ask && group_of o.request.ask == group_of o.request.ask) is
     ∙ ap (λ b. b && group_of o.request.ask == group_of o.request.ask) (eq-eqb (lv_of o.request.ask) (lv_of o.request.ask) refl) ∙ eq-eqb (group_of o.request.ask) (group_of o.request.ask) refl
 
-abbrev IsCountedIn : List Open → Open → Type 0
+abbrev pub IsCountedIn : List Open → Open → Type 0
 IsCountedIn os o = o.request.pinned ≡ true → 1 ≤ count_by (pins (lv_of o.request.ask) (group_of o.request.ask)) os
 
-each_counted : (os : List Open) → AllByRecursion (IsCountedIn os) os
+pub each_counted : (os : List Open) → AllByRecursion (IsCountedIn os) os
 each_counted [] = tt
 each_counted (o ∷ os) = (
   λ e.

@@ -1,3 +1,3 @@
 pub mod Numbered
 pub mod Rows
-mod Taking
+pub mod Taking

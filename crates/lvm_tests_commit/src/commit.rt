@@ -4,9 +4,6 @@ ghost use Rattle.lvm_num.specs.declared.descriptor.PvRow.{PvRow as pv_row};
 ghost use Rattle.lvm_num.specs.DescriptorBytes.{descriptor_of};
 ghost use Rattle.lvm_commit.specs.Settling.{IsOf, MaySettle, HasNumbers};
 
-use crate::fixtures::{
-    blank_shelf, check, first_homes, group, has_room, row, stamp, status, survey, volume,
-};
 use lvm_commit::{Settled, commit_descriptor, commit_status};
 use lvm_disk::Shelf;
 use lvm_faults::{Act, Planned};
@@ -16,6 +13,10 @@ use lvm_quorum::Homes;
 use lvm_stale::StaleTable;
 use lvm_status::{Change, Updater};
 use lvm_survey::Survey;
+use lvm_tests_shelves::{
+    blank_shelf, first_homes, group, has_room, row, stamp, status, survey, volume,
+};
+use lvm_tests_values::check;
 use lvm_transfer::{Patience, relight};
 use std::process::Abort;
 

@@ -1,6 +1,6 @@
-use crate::fixtures::{Member, check, check_at, group, members};
 use lvm_num::{Descriptor, LvRow, Mode, Name, Policy, Pp, PvRow, Rows};
 use lvm_spelling::encode;
+use lvm_tests_values::{Member, check, check_at, group, members};
 use lvm_vgda::{VgdaFault, decode};
 use std::process::Abort;
 

@@ -1,5 +1,5 @@
-use crate::fixtures::{check, check_at};
 use lvm_num::{Rows, Status, StatusRow, VolumeNumbers};
+use lvm_tests_values::{check, check_at};
 use lvm_vgsa::{VgsaFault, decode, encode, encode_into};
 use std::process::Abort;
 
