@@ -204,9 +204,9 @@ module _ (core : Core) (at number : ℕ) (ended : HasEnded core at owner.Copy nu
 pub learns_late : (core new : Core) (at : ℕ) (ok : Bool) (c : OpenCopy) (buf : Buffer) → core.copy ≡ Some c → is_running c ≡ false → new ≡ after_quit core at c buf → CopyLearns core at ok buf new
 learns_late core new at ok c buf is_open late is = record { copy = c; is_open = is_open; learns = subst (λ (b : Bool). StepLearns b core at c ok buf new) (sym late) is }
 
-pub learns_as : (core new : Core) (at : ℕ) (ok : Bool) (c : OpenCopy) (buf : Buffer) (s : Step) → core.copy ≡ Some c → is_running c ≡ true → c.step ≡ s → StepLeaves s ok core at c buf new → CopyLearns core at ok buf new
-learns_as core new at ok c buf s is_open runs is leaves = record {
+pub learns_as : (core new : Core) (at : ℕ) (ok b : Bool) (c : OpenCopy) (buf : Buffer) (s : Step) → ok ≡ b → core.copy ≡ Some c → is_running c ≡ true → c.step ≡ s → StepLeaves s b core at c buf new → CopyLearns core at ok buf new
+learns_as core new at ok b c buf s ends is_open runs is leaves = record {
   copy = c;
   is_open = is_open;
-  learns = subst (λ (b : Bool). StepLearns b core at c ok buf new) (sym runs) (subst (λ (x : Step). StepLeaves x ok core at c buf new) (sym is) leaves);
+  learns = subst (λ (t : Bool). StepLearns t core at c ok buf new) (sym runs) (subst (λ (t : Bool). StepLeaves c.step t core at c buf new) (sym ends) (subst (λ (x : Step). StepLeaves x b core at c buf new) (sym is) leaves));
 }

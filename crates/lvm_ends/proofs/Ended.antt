@@ -29,6 +29,8 @@ use Rattle.lvm_over.specs.Hands.{IsOutIf}
 use Rattle.lvm_sound.specs.Owners.{flies, same_owner}
 use Rattle.lvm_sound.specs.Sound.{IsCopy, count_if, is_hand}
 use Rattle.lvm_copies.proofs.Members.{copies_in_are}
+use Rattle.lvm_launch.proofs.Hands.{at_most_one, get_other, is_out as out_of}
+use Rattle.lvm_learn.specs.Learning.{MayReturn}
 use Rattle.lvm_copy_end.specs.Ending.{CanEnd}
 use Rattle.lvm_review.specs.Reviewing.{IsLocated, MayReview}
 use Rattle.lvm_review.proofs.Reviewing.{markable}
@@ -84,26 +86,6 @@ among_all P (q ∷ ps) p all is = by_test (among_all P ps p (All-tail P q ps all
 
 -- ---- buffers
 
-out_of : (pool : List Bool) (n : ℕ) → 1 ≤ count_if (slice_index_or pool n false) → IsOut pool n
-out_of [] n some = absurd (omega (arith, some))
-out_of (b ∷ pool) zero some = by_test b some
-  where
-    by_test : (b : Bool) → 1 ≤ count_if b → IsOut (b ∷ pool) zero
-    by_test true some = refl
-    by_test false some = absurd (omega (arith, some))
-out_of (b ∷ pool) (suc n) some = out_of pool n some
-
-at_most_one : (b : Bool) → count_if b ≤ 1
-at_most_one true = omega arith
-at_most_one false = omega arith
-
-get_other : (pool : List Bool) (m n : ℕ) → (m ≡ n → ⊥) → slice_index_or (slice_set pool m false) n false ≡ slice_index_or pool n false
-get_other [] m n differ = refl
-get_other (b ∷ pool) zero zero differ = absurd (differ refl)
-get_other (b ∷ pool) zero (suc n) differ = refl
-get_other (b ∷ pool) (suc m) zero differ = refl
-get_other (b ∷ pool) (suc m) (suc n) differ = get_other pool m n (λ e. differ (ap suc e))
-
 -- what is in hand beside the one that comes back stays out
 hand_out : (pool : List Bool) (number : ℕ) (hand : Option Buffer) (others : ℕ → ℕ) → ((n : ℕ) → count_if (number == n) + (others n + count_if (is_hand n hand)) ≤ count_if (slice_index_or pool n false))
     → IsOutIf (slice_set pool number false) hand × IsOutIf pool hand
@@ -126,6 +108,9 @@ module _ (core : Core) (at : ℕ) (who : Owner) (number : ℕ) (ended : HasEnded
 
   pub is_out : IsOut core.pool number
   is_out = out_of core.pool number (let all = ended.apart number in let one = ap count_if (itself number) in omega (arith, all, one))
+
+  pub may_return : MayReturn core at number
+  may_return = record { within = within; out = is_out }
 
   -- its owner had a transfer out
   pub was_out : flies core who ≡ true

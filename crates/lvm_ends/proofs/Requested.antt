@@ -1,9 +1,9 @@
 -- The request of a transfer that has ended, and what may be done of it.
-use Rattle.std.proofs.Common.{◌≡◌, ◌<◌, ◌+◌, ◌==◌, ℕ, zero, suc, Bool, true, false, cond, not, List, [], ◌∷◌, Option, Some, None, length, slice_get, slice_set, if◌then◌else◌, refl, sym, ◌∙◌, ap, subst, arith}
+use Rattle.std.proofs.Common.{◌≡◌, ◌<◌, ◌==◌, ℕ, zero, suc, Bool, true, false, List, [], ◌∷◌, Option, Some, None, slice_get, slice_set, if◌then◌else◌, refl, sym, ◌∙◌, ap, subst, arith}
 use Rattle.std.specs.Prelude.{◌&&◌, ◌||◌, All, position}
 use Rattle.std.specs.List.{AllByRecursion, list_any, position_or_len}
 use Rattle.std.specs.Option.{option_map_or}
-use Rattle.std.proofs.lemmas.Bool.{eqb-true, lt-ltb}
+use Rattle.std.proofs.lemmas.Bool.{eqb-true}
 use Rattle.std.proofs.lemmas.List.Elements.{All-cons, All-nil}
 use Rattle.std.proofs.lemmas.List.Folds.{find_at}
 use Rattle.std.proofs.lemmas.Option.{slice_get_within}
@@ -31,27 +31,12 @@ use Rattle.lvm_copy_end.specs.Ending.{CanEnd, MayEndCopy}
 use Rattle.lvm_sound.specs.Owners.{target_flies}
 use Rattle.lvm_sound.specs.Requests.{IsOpenOne, IsTarget}
 use Rattle.lvm_firsts.proofs.Places.{at_place}
+use Rattle.lvm_reap.proofs.Listing.{any_within, finds, some_there}
 use Rattle.lvm_review.proofs.Reviewing.{markable}
 use Rattle.lvm_ends.specs.Ended.{HasEnded, HasId}
 use Rattle.lvm_ends.proofs.Ended.{among_all, by_copy, can_end, hand_back, hand_kept, left, right, was_out}
 
 -- ---- the first of a number
-
-any_within : (t : Open → Bool) (os : List Open) → list_any t os ≡ true → position_or_len t os < length os
-any_within t [] is = absurd (cc is)
-any_within t (o ∷ os) is = by_test (λ e. any_within t os e) (t o) is
-  where
-    by_test : (list_any t os ≡ true → position_or_len t os < length os) → (b : Bool) → b || list_any t os ≡ true → cond (not b) (1 + position_or_len t os) 0 < length (o ∷ os)
-    by_test rest true e = omega arith
-    by_test rest false e = let less = rest e in omega (arith, less)
-
-pub finds : (t : Open → Bool) (os : List Open) → list_any t os ≡ true → position t os ≡ Some (position_or_len t os)
-finds t os any = let is = lt-ltb (position_or_len t os) (length os) (any_within t os any) in ap (λ (b : Bool). cond b (Some (position_or_len t os)) None) is
-
-some_there : (os : List Open) (k : ℕ) → k < length os → (o : Open) × (slice_get os k ≡ Some o)
-some_there [] k within = absurd (omega (arith, within))
-some_there (o ∷ os) zero within = (o, refl)
-some_there (o ∷ os) (suc k) within = some_there os k (omega (arith, within))
 
 pub has_id : (os : List Open) (id place : ℕ) → list_any (λ (o : Open). o.request.id == id) os ≡ true → position (λ (o : Open). o.request.id == id) os ≡ Some place → HasId os place id
 has_id os id place any is =

@@ -2,14 +2,12 @@ use Rattle.std.proofs.Common.{ap}
 use Rattle.lvm_session.specs.declared.flown.Owner.TheVariants as owner
 use Rattle.lvm_session.specs.Fields.{core_of}
 use Rattle.lvm_session.specs.State.{Core}
-use Rattle.lvm_ends.proofs.Ended.{is_out, may_review, was_out, within}
+use Rattle.lvm_ends.proofs.Ended.{may_return, may_review, was_out}
 use Rattle.lvm_ends.proofs.Owning.{has_its_row, lost, rows_without, sound_without}
 use Rattle.lvm_ends.proofs.records.end_note.Goals as goal
 
 pub learn_note-requires-clause-may : goal.learn_note-requires-clause-may
-learn_note-requires-clause-may c =
-    let core = core_of c.args.session.now in
-    record { within = within core c.args.at (owner.Note c.args.disk) c.args.buf.number c.requires; out = is_out core c.args.at (owner.Note c.args.disk) c.args.buf.number c.requires }
+learn_note-requires-clause-may c = may_return (core_of c.args.session.now) c.args.at (owner.Note c.args.disk) c.args.buf.number c.requires
 
 pub learn_note-requires-clause-flies : goal.learn_note-requires-clause-flies
 learn_note-requires-clause-flies c = was_out (core_of c.args.session.now) c.args.at (owner.Note c.args.disk) c.args.buf.number c.requires

@@ -3,14 +3,12 @@ use Rattle.lvm_session.specs.declared.flown.Owner.TheVariants as owner
 use Rattle.lvm_session.specs.Fields.{core_of}
 use Rattle.lvm_session.specs.State.{Core}
 use Rattle.lvm_events.specs.Marks.{Reviews}
-use Rattle.lvm_ends.proofs.Ended.{is_out, may_review, was_out, within}
+use Rattle.lvm_ends.proofs.Ended.{may_return, may_review, was_out}
 use Rattle.lvm_ends.proofs.Owning.{is_started_member, rows_after_end, sound_after_end}
 use Rattle.lvm_ends.proofs.records.end_status.Goals as goal
 
 pub learn_status-requires-clause-may : goal.learn_status-requires-clause-may
-learn_status-requires-clause-may c =
-    let core = core_of c.args.session.now in
-    record { within = within core c.args.at (owner.Status c.args.disk) c.args.buf.number c.requires; out = is_out core c.args.at (owner.Status c.args.disk) c.args.buf.number c.requires }
+learn_status-requires-clause-may c = may_return (core_of c.args.session.now) c.args.at (owner.Status c.args.disk) c.args.buf.number c.requires
 
 pub learn_status-requires-clause-flies : goal.learn_status-requires-clause-flies
 learn_status-requires-clause-flies c = was_out (core_of c.args.session.now) c.args.at (owner.Status c.args.disk) c.args.buf.number c.requires
