@@ -1,0 +1,5 @@
+pub mod Counts
+pub mod Removal
+pub mod NoteEnd
+pub mod CopyReadEnd
+pub mod CopyQuit
