@@ -10,7 +10,7 @@ use Rattle.lvm_session.specs.declared.flown.Flown.{Flown}
 use Rattle.lvm_session.specs.declared.flown.Owner.TheVariants as owner
 use Rattle.lvm_session.specs.State.{State, state}
 use Rattle.lvm_session.specs.Judging.{is_running}
-use Rattle.lvm_events.specs.Ends.{NoteLearns, Returns, after_quit, after_read}
+use Rattle.lvm_events.specs.Ends.{FailsCopy, NoteLearns, Returns, after_quit, after_read}
 use Rattle.lvm_keeps.specs.Keeps.{Keeps}
 use Rattle.lvm_sound.specs.Sound.{IsSound}
 
@@ -58,3 +58,18 @@ pub record EndsQuit (old new : State) (at : ℕ) (ok : Bool) : Type 0 where
 
 abbrev pub CopyQuitKeeps : Type 0
 CopyQuitKeeps = (at : ℕ) (ok : Bool) → Keeps (λ old new. EndsQuit old new at ok)
+
+-- the write of the copy that is being brought up has failed, and the copy with it
+pub record EndsWrite (old new : State) (at : ℕ) : Type 0 where
+  pub row : Flown
+  pub buf : Buffer
+  pub copy : OpenCopy
+  pub own : row.owner ≡ owner.Copy
+  pub is_open : old.core.copy ≡ Some copy
+  pub runs : is_running copy ≡ true
+  pub writes : copy.step ≡ step.Writing
+  pub returns : Returns old new at row false buf
+  pub fails : FailsCopy old.core at copy buf new.core
+
+abbrev pub CopyWriteFailKeeps : Type 0
+CopyWriteFailKeeps = (at : ℕ) → Keeps (λ old new. EndsWrite old new at)

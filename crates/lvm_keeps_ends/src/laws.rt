@@ -1,5 +1,5 @@
 //! Laws: what the end of a transfer of a sound session leaves is sound.
-ghost use Rattle.lvm_keeps_ends.specs.Ends.{CopyQuitKeeps, CopyReadEndKeeps, CountsKeep, NoteEndKeeps};
+ghost use Rattle.lvm_keeps_ends.specs.Ends.{CopyQuitKeeps, CopyReadEndKeeps, CopyWriteFailKeeps, CountsKeep, NoteEndKeeps};
 
 /// A session stays sound whatever stands on the media, and however many transfers have failed since.
 pub fn counts_keep()
@@ -19,4 +19,9 @@ pub fn copy_read_end_keeps()
 /// So does the end of a transfer of a copy that had ended before.
 pub fn copy_quit_keeps()
     ensures { CopyQuitKeeps }
+{}
+
+/// So does the write by which a copy is brought up, where it fails and the copy with it.
+pub fn copy_write_fail_keeps()
+    ensures { CopyWriteFailKeeps }
 {}

@@ -3,4 +3,6 @@
 
 mod laws;
 
-pub use laws::{copy_quit_keeps, copy_read_end_keeps, counts_keep, note_end_keeps};
+pub use laws::{
+    copy_quit_keeps, copy_read_end_keeps, copy_write_fail_keeps, counts_keep, note_end_keeps,
+};
