@@ -5,3 +5,5 @@ pub mod CopyReadEnd
 pub mod Over
 pub mod CopyQuit
 pub mod CopyWriteFail
+pub mod Again
+pub mod CopyReadFail

@@ -10,7 +10,7 @@ use Rattle.lvm_session.specs.declared.flown.Flown.{Flown}
 use Rattle.lvm_session.specs.declared.flown.Owner.TheVariants as owner
 use Rattle.lvm_session.specs.State.{State, state}
 use Rattle.lvm_session.specs.Judging.{is_running}
-use Rattle.lvm_events.specs.Ends.{FailsCopy, NoteLearns, Returns, after_quit, after_read}
+use Rattle.lvm_events.specs.Ends.{FailsCopy, MissesSource, NoteLearns, Returns, after_quit, after_read}
 use Rattle.lvm_keeps.specs.Keeps.{Keeps}
 use Rattle.lvm_sound.specs.Sound.{IsSound}
 
@@ -73,3 +73,19 @@ pub record EndsWrite (old new : State) (at : ℕ) : Type 0 where
 
 abbrev pub CopyWriteFailKeeps : Type 0
 CopyWriteFailKeeps = (at : ℕ) → Keeps (λ old new. EndsWrite old new at)
+
+-- the read of the copy that is being brought up has failed, and its source is tried in vain
+pub record EndsMiss (old new : State) (at : ℕ) : Type 0 where
+  pub row : Flown
+  pub buf : Buffer
+  pub copy : OpenCopy
+  pub source : Pp
+  pub own : row.owner ≡ owner.Copy
+  pub is_open : old.core.copy ≡ Some copy
+  pub runs : is_running copy ≡ true
+  pub reads : copy.step ≡ step.Reading source
+  pub returns : Returns old new at row false buf
+  pub misses : MissesSource old.core at copy source buf new.core
+
+abbrev pub CopyReadFailKeeps : Type 0
+CopyReadFailKeeps = (at : ℕ) → Keeps (λ old new. EndsMiss old new at)

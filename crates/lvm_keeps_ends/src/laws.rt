@@ -1,5 +1,5 @@
 //! Laws: what the end of a transfer of a sound session leaves is sound.
-ghost use Rattle.lvm_keeps_ends.specs.Ends.{CopyQuitKeeps, CopyReadEndKeeps, CopyWriteFailKeeps, CountsKeep, NoteEndKeeps};
+ghost use Rattle.lvm_keeps_ends.specs.Ends.{CopyQuitKeeps, CopyReadEndKeeps, CopyReadFailKeeps, CopyWriteFailKeeps, CountsKeep, NoteEndKeeps};
 
 /// A session stays sound whatever stands on the media, and however many transfers have failed since.
 pub fn counts_keep()
@@ -24,4 +24,9 @@ pub fn copy_quit_keeps()
 /// So does the write by which a copy is brought up, where it fails and the copy with it.
 pub fn copy_write_fail_keeps()
     ensures { CopyWriteFailKeeps }
+{}
+
+/// So does the read by which a copy is brought up, where it fails: another source follows, or the copy ends.
+pub fn copy_read_fail_keeps()
+    ensures { CopyReadFailKeeps }
 {}
