@@ -8,7 +8,7 @@ use lvm_image::ImageSink;
 use lvm_io::{Sink, StdSink, StdSource, SystemClock, write_all};
 use lvm_lane::FileShelf;
 use lvm_num::{Memory, Text};
-use lvm_top::{Job, Status, WordsFault, read_words, run_words};
+use lvm_top::{ExitStatus, Job, WordsFault, read_words, run_words};
 use std::alloc::{AllocError, Global};
 use std::fs::{File, OpenOptions};
 use std::io::ErrorKind;
@@ -83,14 +83,14 @@ fn files_for<R: Files<File = File>, E: Sink>(
 }
 
 // Says why the program ends so, where nothing else says it, as far as the sink takes it.
-fn say_why<E: Sink>(err: &mut E, status: Status, image: Option<&str>) {
+fn say_why<E: Sink>(err: &mut E, status: ExitStatus, image: Option<&str>) {
     let why = match status {
-        Status::Well | Status::Refusals | Status::Usage => return,
-        Status::SourceFault => "standard input can't be read",
-        Status::SinkFault => image.unwrap_or("standard output can't be written"),
-        Status::Memory => "no memory is left",
-        Status::Stuck => "the disks don't answer",
-        Status::TooLong => "the script has more than 16,777,216 bytes",
+        ExitStatus::Well | ExitStatus::Refusals | ExitStatus::Usage => return,
+        ExitStatus::SourceFault => "standard input can't be read",
+        ExitStatus::SinkFault => image.unwrap_or("standard output can't be written"),
+        ExitStatus::Memory => "no memory is left",
+        ExitStatus::Stuck => "the disks don't answer",
+        ExitStatus::TooLong => "the script has more than 16,777,216 bytes",
     };
     for text in ["lvm: ", why, "\n"] {
         if write_all(err, text.as_bytes()).is_err() {
@@ -112,18 +112,18 @@ fn image_fault<R: Files>(images: &ImageSink<'_, R>) -> Option<&'static str> {
 
 fn main(rt: HostRuntime) -> ExitCode {
     if take_standard_descriptors(&rt).is_err() {
-        return ExitCode::from(Status::SinkFault.code());
+        return ExitCode::from(ExitStatus::SinkFault.code());
     }
     let alloc = rt.alloc();
     keep_memory(alloc);
     let mut err = StdSink::new(rt.stderr());
     let Ok(words) = words_of(&rt, alloc) else {
-        say_why(&mut err, Status::Memory, None);
-        return ExitCode::from(Status::Memory.code());
+        say_why(&mut err, ExitStatus::Memory, None);
+        return ExitCode::from(ExitStatus::Memory.code());
     };
     let Ok(files) = files_for(&rt, alloc, words.as_slice(), &mut err) else {
-        say_why(&mut err, Status::Memory, None);
-        return ExitCode::from(Status::Memory.code());
+        say_why(&mut err, ExitStatus::Memory, None);
+        return ExitCode::from(ExitStatus::Memory.code());
     };
     let mut images = ImageSink::new(&rt);
     let mut input = StdSource::new(rt.reader());
@@ -140,8 +140,8 @@ fn main(rt: HostRuntime) -> ExitCode {
         &mut images,
     );
     let settled = images.settle();
-    let status = if ended.status == Status::Well && settled.is_err() {
-        Status::SinkFault
+    let status = if ended.status == ExitStatus::Well && settled.is_err() {
+        ExitStatus::SinkFault
     } else {
         ended.status
     };

@@ -7,20 +7,20 @@ use Rattle.lvm_num.specs.Disks.{Disks, has}
 use Rattle.lvm_disk.specs.Device.{Device}
 use Rattle.lvm_kept.specs.Torn.{RecordWrite, IsOfRecord}
 use Rattle.lvm_num.specs.declared.record.Framed.{Framed}
-use Rattle.lvm_quorum.specs.declared.homes.Homes.{Homes}
-use Rattle.lvm_quorum.specs.declared.write.Wrote.{Wrote}
-use Rattle.lvm_quorum.specs.declared.write.Wrote.TheVariants as wrote
-use Rattle.lvm_quorum.specs.Homes.{second_slots, next_slot, Flips}
-use Rattle.lvm_quorum.specs.Written.{write_of, StandsTold}
-use Rattle.lvm_quorum.specs.Writes.{WriteEnds, RecordEnds}
+use Rattle.lvm_write.specs.declared.homes.Homes.{Homes}
+use Rattle.lvm_write.specs.declared.write.Wrote.{Wrote}
+use Rattle.lvm_write.specs.declared.write.Wrote.TheVariants as wrote
+use Rattle.lvm_write.specs.Homes.{second_slots, next_slot, Flips}
+use Rattle.lvm_write.specs.Written.{write_of, StandsTold}
+use Rattle.lvm_write.specs.Writes.{DiskWritesEnd, RecordWritesEnd}
 use Rattle.lvm_begin.specs.declared.begin.Begun.{Begun}
 use Rattle.lvm_begin.specs.declared.begin.Begun.TheVariants as begun
-use Rattle.lvm_begin.specs.Ends.{IfEnded}
+use Rattle.lvm_begin.specs.Ends.{IfBegun}
 use Rattle.lvm_begin.specs.Runs.{IsAnswer, HowOne, OneGives}
 
 -- where the write ended so, the answer says how all did
 pub how_one :
-    (targets : Disks) (Stands : Device → ℕ → Type 0) (Next : Disks → Type 0) (number before : ℕ) (old new : Device) (w : Wrote) (result : Begun) → IsAnswer w result → WriteEnds targets Stands Next number before old new w
+    (targets : Disks) (Stands : Device → ℕ → Type 0) (Next : Disks → Type 0) (number before : ℕ) (old new : Device) (w : Wrote) (result : Begun) → IsAnswer w result → DiskWritesEnd targets Stands Next number before old new w
     → HowOne targets Stands number before old new result
 how_one targets Stands Next number before old new (wrote.Ended failed buf) (begun.Ended back) answer ends = record {
   back = record { ready = ends.back.ready; cuts = ends.back.cuts; number_is = ap (λ (b : Buffer). b.number) answer.0 ∙ ends.back.number_is };
@@ -51,8 +51,8 @@ how_one targets Stands Next number before old new wrote.Stuck begun.Stuck answer
 
 -- where none failed, all targets' slots are the other ones
 pub all_flip :
-    (w : RecordWrite) (first next : Homes) (number before : ℕ) (old new : Device) (how : Wrote) (result : Begun) → IsAnswer how result → RecordEnds w first next number before old new how
-    → IfEnded result (λ back. Flips w.kind w.targets first next)
+    (w : RecordWrite) (first next : Homes) (number before : ℕ) (old new : Device) (how : Wrote) (result : Begun) → IsAnswer how result → RecordWritesEnd w first next number before old new how
+    → IfBegun result (λ back. Flips w.kind w.targets first next)
 all_flip w first next number before old new (wrote.Ended failed buf) (begun.Ended back) answer ends = record {
   own = λ d. ends.next.own d ∙ ap (λ (b : Bool). if b then not (second_slots w.kind first d) else second_slots w.kind first d) (ap (λ (b : Bool). w.targets d && not b) (answer.1 d) ∙ and_true (w.targets d));
   other = ends.next.other;

@@ -6,16 +6,16 @@ use Rattle.lvm_disk.specs.Device.{Device, image_of}
 use Rattle.lvm_disk.specs.Paths.{DeviceStep, Path}
 use Rattle.lvm_kept.specs.Plans.{Plan, ChangesBy}
 use Rattle.lvm_num.specs.Disks.{Disks}
-use Rattle.lvm_quorum.specs.Written.{KeepsShelf, IsWriting, FreesAtMost}
-use Rattle.lvm_quorum.proofs.Writing.{logs_wider, both_map, changes_more, moments_wider}
-use Rattle.lvm_quorum.specs.Writes.{WriteLeaves}
-use Rattle.lvm_quorum.proofs.Transfers.{spent_then}
-use Rattle.lvm_quorum.proofs.Tried.{leaves_then}
+use Rattle.lvm_write.specs.Written.{KeepsShelf, IsWriting, FreesAtMost}
+use Rattle.lvm_write.proofs.Writing.{logs_wider, both_map, changes_more, moments_wider}
+use Rattle.lvm_write.specs.Writes.{DiskWritesLeave}
+use Rattle.lvm_write.proofs.Transfers.{spent_then}
+use Rattle.lvm_write.proofs.Tried.{leaves_then}
 use Rattle.lvm_begin.specs.declared.begin.Begun.{Begun}
 use Rattle.lvm_begin.specs.declared.begin.Begun.TheVariants as begun
 use Rattle.lvm_begin.specs.Beginning.{Beginning, Part, brought, IsOfParts, Stands, AllStand}
-use Rattle.lvm_begin.specs.Ends.{StopsAt, WasTried}
-use Rattle.lvm_begin.specs.Runs.{OneGives, OneWell, HowOne, IsStage, AreDone, AreBegun, HowMany, ManyGives}
+use Rattle.lvm_begin.specs.Ends.{StopsAt, WasTriedOnTargets}
+use Rattle.lvm_begin.specs.Runs.{OneGives, OneWell, HowOne, IsStage, AreWritten, AreBegun, HowMany, ManyGives}
 
 -- ---- plans
 
@@ -41,7 +41,7 @@ wider_keeps targets P Q old new more keeps = record {
   wrote = logs_wider P Q old.wrote new.wrote more keeps.wrote;
 }
 
-wider : (targets : Disks) (P Q : Plan) (before after : ℕ) (old new : Device) → ((d s : ℕ) (value : Sector) → P d s value → Q d s value) → WriteLeaves targets P before after old new → WriteLeaves targets Q before after old new
+wider : (targets : Disks) (P Q : Plan) (before after : ℕ) (old new : Device) → ((d s : ℕ) (value : Sector) → P d s value → Q d s value) → DiskWritesLeave targets P before after old new → DiskWritesLeave targets Q before after old new
 wider targets P Q before after old new more does = record {
   keeps = wider_keeps targets P Q old new more does.keeps;
   spends = does.spends;
@@ -56,11 +56,11 @@ stand_more b (q ∷ ps) p device all one = (all.0, stand_more b ps p device all.
 
 -- ---- stage by stage
 
-done_more : (b : Beginning) (ps : List Part) (p : Part) (old mid new : Device) → AreDone b ps old mid → IsStage b p mid new → AreDone b (ps ++ p ∷ []) old new
+done_more : (b : Beginning) (ps : List Part) (p : Part) (old mid new : Device) → AreWritten b ps old mid → IsStage b p mid new → AreWritten b (ps ++ p ∷ []) old new
 done_more b [] p old mid new done stage = (new, subst (λ (d : Device). IsStage b p d new) done stage, refl)
 done_more b (q ∷ ps) p old mid new done stage = (done.0, done.1, done_more b ps p done.0 mid new done.2 stage)
 
-begun_more : (b : Beginning) (ps : List Part) (p : Part) (old mid new : Device) → AreDone b ps old mid → Path DeviceStep (IsWriting (brought b p) mid) mid new → AreBegun b (ps ++ p ∷ []) old new
+begun_more : (b : Beginning) (ps : List Part) (p : Part) (old mid new : Device) → AreWritten b ps old mid → Path DeviceStep (IsWriting (brought b p) mid) mid new → AreBegun b (ps ++ p ∷ []) old new
 begun_more b [] p old mid new done path = inl (subst (λ (d : Device). Path DeviceStep (IsWriting (brought b p) d) d new) done path)
 begun_more b (q ∷ ps) p old mid new done path = inr (done.0, done.1, begun_more b ps p done.0 mid new done.2 path)
 
@@ -69,7 +69,7 @@ begun_in_front b [] qs old new begun = absurd begun
 begun_in_front b (p ∷ ps) qs old new (inl path) = inl path
 begun_in_front b (p ∷ ps) qs old new (inr stage) = inr (stage.0, stage.1, begun_in_front b ps qs stage.0 new stage.2)
 
-stage_of : (b : Beginning) (p : Part) (number before after : ℕ) (old new : Device) (buf : Buffer) → WriteLeaves b.targets (brought b p) before after old new → OneWell b.targets (Stands b p) number old new buf → IsStage b p old new
+stage_of : (b : Beginning) (p : Part) (number before after : ℕ) (old new : Device) (buf : Buffer) → DiskWritesLeave b.targets (brought b p) before after old new → OneWell b.targets (Stands b p) number old new buf → IsStage b p old new
 stage_of b p number before after old new buf does one = record { still = one.back.ready.flights; keeps = does.keeps; path = does.moments; stands = one.stands }
 
 -- ---- the first part
@@ -84,7 +84,7 @@ first_gives b p number before after old new result gives =
 
     how : (result : Begun) → KeepsShelf b.targets (IsOfParts b (p ∷ [])) old new → HowOne b.targets (Stands b p) number before old new result → HowMany b (p ∷ []) number before old new result
     how (begun.Ended buf) keeps one = record { back = one.back; well = one.well; stand = (one.stands, tt); done = (new, stage_of b p number before after old new buf gives.does one, refl) }
-    how (begun.DiskFailed disk buf) keeps one = record { back = one.back; first = one.first; stop = stops (WasTried b old new) keeps one.tried }
+    how (begun.DiskFailed disk buf) keeps one = record { back = one.back; first = one.first; stop = stops (WasTriedOnTargets b old new) keeps one.tried }
     how begun.Dark keeps one = (one, stops (λ hand. Unit {0}) keeps tt)
     how begun.Stuck keeps one = (one, stops (λ hand. Unit {0}) keeps tt)
 
@@ -114,7 +114,7 @@ more_gives b ps p number before mid_left after old mid new buf result many one s
     how (begun.DiskFailed disk back) keeps o = record {
       back = record { ready = o.back.ready; cuts = o.back.cuts ∙ many.how.back.cuts; number_is = o.back.number_is ∙ many.how.back.number_is };
       first = record { target = o.first.target; rose = subst (λ (n : ℕ). Rose n (new.counts.faults disk)) (many.how.well disk) o.first.rose; lowest = λ d less. o.first.lowest d less ∙ many.how.well d };
-      stop = stops (WasTried b old new) keeps (λ d target. ⊎_elim (λ stands. inl stands) (λ rose. inr (subst (λ (n : ℕ). Rose n (new.counts.faults d)) (many.how.well d) rose)) (o.tried d target));
+      stop = stops (WasTriedOnTargets b old new) keeps (λ d target. ⊎_elim (λ stands. inl stands) (λ rose. inr (subst (λ (n : ℕ). Rose n (new.counts.faults d)) (many.how.well d) rose)) (o.tried d target));
     }
     how begun.Dark keeps o = (record { flights = o.flights; power = o.power; cuts = subst (λ (n : ℕ). Rose n new.counts.cuts) many.how.back.cuts o.cuts; freed = subst (λ (n : ℕ). FreesAtMost n new) many.how.back.number_is o.freed }, stops (λ hand. Unit {0}) keeps tt)
     how begun.Stuck keeps o = (record { flight = o.flight; flights = o.flights; write = o.write; buffer = o.buffer ∙ many.how.back.number_is; freed = o.freed; power = o.power; cuts = o.cuts ∙ many.how.back.cuts; waits = spent_then before mid_left old mid new many.does.spends o.waits }, stops (λ hand. Unit {0}) keeps tt)
@@ -143,6 +143,6 @@ stopped_gives b ps qs number before after old new result stopped many = record {
 
     how : (result : Begun) → ((buf : Buffer) → result ≡ begun.Ended buf → ⊥) → HowMany b ps number before old new result → HowMany b (ps ++ qs) number before old new result
     how (begun.Ended buf) not_so many = absurd (not_so buf refl)
-    how (begun.DiskFailed disk buf) not_so many = record { back = many.back; first = many.first; stop = further (WasTried b old new) many.stop }
+    how (begun.DiskFailed disk buf) not_so many = record { back = many.back; first = many.first; stop = further (WasTriedOnTargets b old new) many.stop }
     how begun.Dark not_so many = (many.0, further (λ hand. Unit {0}) many.1)
     how begun.Stuck not_so many = (many.0, further (λ hand. Unit {0}) many.1)

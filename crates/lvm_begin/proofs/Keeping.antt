@@ -7,8 +7,8 @@ use Rattle.lvm_kept.specs.Plans.{ChangesBy}
 use Rattle.lvm_kept.specs.Torn.{Writing, brings}
 use Rattle.lvm_steps.specs.Moments.{StaysKept}
 use Rattle.lvm_steps.specs.Making.{IsWritten, LeavesOnly}
-use Rattle.lvm_quorum.specs.Written.{IsWriting}
-use Rattle.lvm_quorum.proofs.Writing.{told_at}
+use Rattle.lvm_write.specs.Written.{IsWriting}
+use Rattle.lvm_write.proofs.Writing.{told_at}
 
 -- a write from a still shelf
 abbrev pub is_written : (x : Writing) (old new : Device) (media : Media) → old.media ≡ Some media → old.flights ≡ [] → Path DeviceStep (IsWriting (brings x) old) old new → IsWritten x old new

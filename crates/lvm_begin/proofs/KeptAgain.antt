@@ -18,8 +18,8 @@ use Rattle.lvm_steps.specs.Moments.{StaysKept}
 use Rattle.lvm_steps.specs.VaryingOn.{AreShowing, HasNewest, MayRestate}
 use Rattle.lvm_steps.proofs.Following.{restamp_is_newest, newest_stays_newest, descriptor_varies_on, status_varies_on, notes_vary_on}
 use Rattle.lvm_steps.proofs.Writable.{writable_stays, records_are_outside}
-use Rattle.lvm_quorum.specs.Notes.{empty_note}
-use Rattle.lvm_quorum.proofs.Writing.{both_at, told_at}
+use Rattle.lvm_write.specs.Notes.{empty_note_sector}
+use Rattle.lvm_write.proofs.Writing.{both_at, told_at}
 use Rattle.lvm_begin.specs.Beginning.{Beginning, Part, TheDescriptor, TheStatus, TheNotes, describes, states, brought, again_order, IsOfParts, MayBeginAgain}
 use Rattle.lvm_begin.specs.Kept.{AgainStaysKept}
 use Rattle.lvm_begin.specs.Runs.{IsStage, AreBegun}
@@ -44,7 +44,7 @@ module _ (b : Beginning) (forget : Bool) (group : Descriptor) (status : Status) 
     notes_kept begun = by_forget forget refl begun
       where
         by_forget : (t : Bool) → forget ≡ t → AreBegun b (if t then TheNotes ∷ [] else []) stated new → Path DeviceStep (StaysKept stated) stated new
-        by_forget true is_on (inl path) = notes_vary_on group disks newest b.targets (empty_note b.epoch) stated new (is_written (Note b.targets (empty_note b.epoch)) stated new media told still path) has (quiet is_on) showing
+        by_forget true is_on (inl path) = notes_vary_on group disks newest b.targets (empty_note_sector b.epoch) stated new (is_written (Note b.targets (empty_note_sector b.epoch)) stated new media told still path) has (quiet is_on) showing
         by_forget true is_on (inr more) = absurd more.2
         by_forget false is_off begun = absurd begun
 
@@ -53,7 +53,7 @@ module _ (b : Beginning) (forget : Bool) (group : Descriptor) (status : Status) 
   module _ (described : Device) (media : Media) (told : described.media ≡ Some media) (still : described.flights ≡ []) (quiet : IsTrue forget → Rattle.lvm_steps.specs.VaryingOn.HasNoActive group)
       (state : MayWriteAll Status status_of (states b) status (image_of described.sizes media))
       (restate : MayRestate (contents_of (image_of described.sizes media)) group disks b.targets newest was (as_read (states b) status)) (new : Device) where
-    state_path : (next : Device) → Path DeviceStep (Rattle.lvm_quorum.specs.Written.IsWriting (brought b TheStatus) described) described next → Path DeviceStep (StaysKept described) described next
+    state_path : (next : Device) → Path DeviceStep (Rattle.lvm_write.specs.Written.IsWriting (brought b TheStatus) described) described next → Path DeviceStep (StaysKept described) described next
     state_path next path = status_varies_on group disks newest was (states b) status described next (is_written (Alone (states b)) described next media told still path) refl state restate
 
     status_kept : AreBegun b after_descriptor described new → Path DeviceStep (StaysKept described) described new
@@ -74,7 +74,7 @@ module _ (b : Beginning) (forget : Bool) (group : Descriptor) (status : Status) 
   -- ---- the descriptor
 
   module _ (old : Device) (media : Media) (told : old.media ≡ Some media) (still : old.flights ≡ []) (may : MayBeginAgain b forget group status disks was (image_of old.sizes media)) (new : Device) where
-    describe_path : (next : Device) → Path DeviceStep (Rattle.lvm_quorum.specs.Written.IsWriting (brought b TheDescriptor) old) old next → Path DeviceStep (StaysKept old) old next
+    describe_path : (next : Device) → Path DeviceStep (Rattle.lvm_write.specs.Written.IsWriting (brought b TheDescriptor) old) old next → Path DeviceStep (StaysKept old) old next
     describe_path next path = descriptor_varies_on group (describes b) old next (is_written (Alone (describes b)) old next media told still path) refl may.describe may.restamp
 
     all_kept : AreBegun b (again_order forget) old new → Path DeviceStep (StaysKept old) old new
@@ -86,7 +86,7 @@ module _ (b : Beginning) (forget : Bool) (group : Descriptor) (status : Status) 
         let moved = both_at old.media described.media (λ was is. ChangesBy (brought b TheDescriptor) (image_of old.sizes was) (image_of described.sizes is)) media stage.keeps.media told in
         let now : Image = image_of described.sizes moved.0 in
         let shows : DescriptorsChange b.targets newest (contents_of start) (contents_of now) = descriptor_shows (describes b) group start now refl may.describe moved.2 in
-        let by_parts : ChangesBy (IsOfParts b (TheDescriptor ∷ [])) start now = Rattle.lvm_quorum.proofs.Writing.changes_more (brought b TheDescriptor) (IsOfParts b (TheDescriptor ∷ [])) start now (λ d s value is. inl is) moved.2 in
+        let by_parts : ChangesBy (IsOfParts b (TheDescriptor ∷ [])) start now = Rattle.lvm_write.proofs.Writing.changes_more (brought b TheDescriptor) (IsOfParts b (TheDescriptor ∷ [])) start now (λ d s value is. inl is) moved.2 in
         let has : HasNewest (contents_of now) group disks newest = restamp_is_newest group disks b.targets newest (contents_of start) (contents_of now) (images_within start) may.members may.found may.restamp shows
         (λ d voter. descriptor_is b group status (TheDescriptor ∷ []) start now may.describe may.state by_parts d (may.voters d voter)
         (told_at described.media (λ m. StandsOn (describes b) (image_of described.sizes m) d) moved.0 moved.1 (stage.stands d (may.voters d voter)))) in

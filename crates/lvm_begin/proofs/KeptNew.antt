@@ -17,8 +17,8 @@ use Rattle.lvm_steps.specs.Moments.{StaysKept}
 use Rattle.lvm_steps.specs.Making.{MayMake}
 use Rattle.lvm_steps.proofs.Making.{media_may}
 use Rattle.lvm_steps.proofs.NoVolumes.{notes_may_change, statuses_may_change, descriptors_may_change}
-use Rattle.lvm_quorum.specs.Written.{IsWriting}
-use Rattle.lvm_quorum.proofs.Writing.{told_at}
+use Rattle.lvm_write.specs.Written.{IsWriting}
+use Rattle.lvm_write.proofs.Writing.{told_at}
 use Rattle.lvm_begin.specs.Beginning.{Beginning, describes, states, new_order, IsOfParts, MayBeginNew}
 use Rattle.lvm_begin.specs.Kept.{NewStaysKept}
 use Rattle.lvm_begin.proofs.Showing.{descriptors_show, statuses_show, rest_shows}

@@ -10,7 +10,7 @@ use Rattle.lvm_kept.specs.Plans.{ChangesBy}
 use Rattle.lvm_kept.specs.Torn.{MayWriteAll, IsOtherOrRecord, written as as_read, StandsOn}
 use Rattle.lvm_kept.proofs.Contained.{data-same}
 use Rattle.lvm_kept.proofs.Records.{newest_is, whole_is_new}
-use Rattle.lvm_quorum.proofs.Writing.{changes_more}
+use Rattle.lvm_write.proofs.Writing.{changes_more}
 use Rattle.lvm_begin.specs.Beginning.{Beginning, Part, describes, states, IsOfParts}
 use Rattle.lvm_begin.proofs.Places.{beside_descriptors, beside_statuses, below_data}
 

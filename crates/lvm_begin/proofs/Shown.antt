@@ -15,9 +15,9 @@ use Rattle.lvm_kept.specs.Group.{names_if}
 use Rattle.lvm_kept.specs.Plans.{ChangesBy}
 use Rattle.lvm_kept.specs.Torn.{MayWriteAll, StandsOn}
 use Rattle.lvm_kept.proofs.Contained.{note-same}
-use Rattle.lvm_quorum.specs.Notes.{empty_note}
-use Rattle.lvm_quorum.specs.Written.{KeepsShelf}
-use Rattle.lvm_quorum.proofs.Writing.{told_at, both_at}
+use Rattle.lvm_write.specs.Notes.{empty_note_sector}
+use Rattle.lvm_write.specs.Written.{KeepsShelf}
+use Rattle.lvm_write.proofs.Writing.{told_at, both_at}
 use Rattle.lvm_begin.specs.Beginning.{Beginning, Part, TheDescriptor, TheStatus, TheNotes, describes, states, new_order, again_order, IsOfParts, AllStand}
 use Rattle.lvm_begin.specs.Shown.{HasBegun, NewIsShown, AgainIsShown}
 use Rattle.lvm_begin.proofs.Places.{of_descriptor, of_status, on_target}
@@ -40,7 +40,7 @@ media_by b parts old new was is told_old told_new keeps =
 never : (t : Bool) → IsTrue t → IsFalse t → ⊥
 never t is_on is_off = cc
 
-names_none : (sector : Sector) (epoch lv group : ℕ) (room : Bool) → epoch < 2 ^ 64 → sector ≡ empty_note epoch → names_if (if room then note_in sector else None) lv group ≡ false
+names_none : (sector : Sector) (epoch lv group : ℕ) (room : Bool) → epoch < 2 ^ 64 → sector ≡ empty_note_sector epoch → names_if (if room then note_in sector else None) lv group ≡ false
 names_none sector epoch lv group true small is =
     ap (λ (s : Sector). names_if (note_in s) lv group) is
     ∙ ap (λ (n : Option Noted). names_if n lv group) (written_is_read (record { stamp = epoch; entries = [] }) (record { stamp = small; count = omega arith; entries = All-nil IsEntry }))
@@ -57,7 +57,7 @@ module _ (b : Beginning) (forget : Bool) (group : Descriptor) (status : Status) 
 
   pub has_begun :
       b.epoch < 2 ^ 64 → ((d : ℕ) → IsTrue (b.targets d) → StandsOn (describes b) new d) → ((d : ℕ) → IsTrue (b.targets d) → StandsOn (states b) new d)
-      → (IsTrue forget → (d : ℕ) → IsTrue (b.targets d) → new.sector d note_sector ≡ empty_note b.epoch) → (IsFalse forget → (d : ℕ) → new.sector d note_sector ≡ old.sector d note_sector)
+      → (IsTrue forget → (d : ℕ) → IsTrue (b.targets d) → new.sector d note_sector ≡ empty_note_sector b.epoch) → (IsFalse forget → (d : ℕ) → new.sector d note_sector ≡ old.sector d note_sector)
       → HasBegun b forget group status (contents_of old) (contents_of new)
   unfolding note_on
   has_begun small describes_all states_all empties stays = record {
@@ -78,7 +78,7 @@ new_is_shown b group status old new was is small told_old told_new may keeps sta
     has_begun b true group status new_order (image_of old.sizes was) (image_of new.sizes is) may.describe may.state (media_by b new_order old new was is told_old told_new keeps) small
     (λ d target. told_at new.media (λ m. StandsOn (describes b) (image_of new.sizes m) d) is told_new (stand.1.1.0 d target))
     (λ d target. told_at new.media (λ m. StandsOn (states b) (image_of new.sizes m) d) is told_new (stand.1.0 d target))
-    (λ is_on d target. told_at new.media (λ m. m d note_sector ≡ empty_note b.epoch) is told_new (stand.0 d target))
+    (λ is_on d target. told_at new.media (λ m. m d note_sector ≡ empty_note_sector b.epoch) is told_new (stand.0 d target))
     (λ is_off. absurd (never true refl is_off))
 
 pub again_is_shown : AgainIsShown
@@ -86,7 +86,7 @@ again_is_shown b forget group status disks before old new was is small told_old 
     has_begun b forget group status (again_order forget) (image_of old.sizes was) (image_of new.sizes is) may.describe may.state by small
     (λ d target. told_at new.media (λ m. StandsOn (describes b) (image_of new.sizes m) d) is told_new (stand.0 d target))
     (λ d target. told_at new.media (λ m. StandsOn (states b) (image_of new.sizes m) d) is told_new (stand.1.0 d target))
-    (λ is_on d target. told_at new.media (λ m. m d note_sector ≡ empty_note b.epoch) is told_new ((subst (λ (t : Bool). AllStand b (if t then TheNotes ∷ [] else []) new) is_on stand.1.1).0 d target))
+    (λ is_on d target. told_at new.media (λ m. m d note_sector ≡ empty_note_sector b.epoch) is told_new ((subst (λ (t : Bool). AllStand b (if t then TheNotes ∷ [] else []) new) is_on stand.1.1).0 d target))
     (λ is_off d. stays d (subst (λ (t : Bool). ChangesBy (IsOfParts b (again_order t)) (image_of old.sizes was) (image_of new.sizes is)) is_off by))
   where
     by : ChangesBy (IsOfParts b (again_order forget)) (image_of old.sizes was) (image_of new.sizes is)

@@ -15,9 +15,9 @@ use Rattle.lvm_kept.specs.Plans.{Plan}
 use Rattle.lvm_kept.specs.Torn.{RecordWrite, MayWriteAll, written as as_read, IsOfRecord, IsOfNote}
 use Rattle.lvm_steps.specs.Making.{MayMake, IsUnused}
 use Rattle.lvm_steps.specs.VaryingOn.{MayRestamp, Carries, HasNoActive}
-use Rattle.lvm_quorum.specs.declared.homes.Homes.{Homes}
-use Rattle.lvm_quorum.specs.Notes.{empty_note, NoteTold}
-use Rattle.lvm_quorum.specs.Written.{write_of, StandsTold}
+use Rattle.lvm_write.specs.declared.homes.Homes.{Homes}
+use Rattle.lvm_write.specs.Notes.{empty_note_sector, NoteTold}
+use Rattle.lvm_write.specs.Written.{write_of, StandsTold}
 
 -- What is written when a session begins: its epoch, the contents of the two records with their sequences, to these disks, by the slots that come next.
 pub record Beginning : Type 0 where
@@ -73,7 +73,7 @@ again_beginning epoch descriptor status targets homes = record {
 abbrev pub brought : Beginning → Part → Plan
 brought b TheDescriptor = IsOfRecord (describes b)
 brought b TheStatus = IsOfRecord (states b)
-brought b TheNotes = IsOfNote b.targets (empty_note b.epoch)
+brought b TheNotes = IsOfNote b.targets (empty_note_sector b.epoch)
 
 -- what some of the parts may bring
 abbrev pub IsOfParts : Beginning → List Part → Plan
@@ -84,7 +84,7 @@ IsOfParts b (part ∷ parts) d s value = brought b part d s value ⊎ IsOfParts 
 abbrev pub Stands : Beginning → Part → Device → ℕ → Type 0
 Stands b TheDescriptor = StandsTold (describes b)
 Stands b TheStatus = StandsTold (states b)
-Stands b TheNotes = NoteTold (empty_note b.epoch)
+Stands b TheNotes = NoteTold (empty_note_sector b.epoch)
 
 -- each of these parts stands on each target
 abbrev pub AllStand : Beginning → List Part → Device → Type 0

@@ -5,21 +5,21 @@ use Rattle.lvm_num.specs.Buffer.{Buffer}
 use Rattle.lvm_num.specs.Disks.{Disks}
 use Rattle.lvm_disk.specs.Counts.{Rose}
 use Rattle.lvm_disk.specs.Device.{Device}
-use Rattle.lvm_quorum.specs.declared.homes.Homes.{Homes}
-use Rattle.lvm_quorum.specs.Homes.{second_slots}
-use Rattle.lvm_quorum.specs.Written.{KeepsShelf, IsDarkened, IsGivenUp}
-use Rattle.lvm_quorum.specs.Writes.{IsBack}
+use Rattle.lvm_write.specs.declared.homes.Homes.{Homes}
+use Rattle.lvm_write.specs.Homes.{second_slots}
+use Rattle.lvm_write.specs.Written.{KeepsShelf, IsDarkened, IsGivenUp}
+use Rattle.lvm_write.specs.Writes.{IsBack}
 use Rattle.lvm_begin.specs.Beginning.{Beginning, Part, IsOfParts, Stands, AllStand}
 use Rattle.lvm_begin.specs.declared.begin.Begun.{Begun}
 use Rattle.lvm_begin.specs.declared.begin.Begun.TheVariants as begun
 
 -- ---- the answer
 
-abbrev pub IfEnded : Begun → (Buffer → Type 0) → Type 0
-IfEnded (begun.Ended buf) P = P buf
-IfEnded (begun.DiskFailed disk buf) P = Unit {0}
-IfEnded begun.Dark P = Unit {0}
-IfEnded begun.Stuck P = Unit {0}
+abbrev pub IfBegun : Begun → (Buffer → Type 0) → Type 0
+IfBegun (begun.Ended buf) P = P buf
+IfBegun (begun.DiskFailed disk buf) P = Unit {0}
+IfBegun begun.Dark P = Unit {0}
+IfBegun begun.Stuck P = Unit {0}
 
 -- ---- what holds at them
 
@@ -42,14 +42,14 @@ pub record StopsAt (b : Beginning) (order : List Part) (old new : Device) (AtHan
   pub at_hand : AtHand hand
 
 -- the disk is the lowest target at which a transfer failed
-pub record IsFirstFailed (targets : Disks) (old new : Device) (disk : ℕ) : Type 0 where
+pub record IsLowestFailed (targets : Disks) (old new : Device) (disk : ℕ) : Type 0 where
   pub target : IsTrue (targets disk)
   pub rose : Rose (old.counts.faults disk) (new.counts.faults disk)
   pub lowest : (d : ℕ) → d < disk → new.counts.faults d ≡ old.counts.faults d
 
 -- the part was tried on each target: it stands there, or a transfer failed there
-abbrev pub WasTried : Beginning → Device → Device → Part → Type 0
-WasTried b old new part = (d : ℕ) → IsTrue (b.targets d) → Stands b part new d ⊎ Rose (old.counts.faults d) (new.counts.faults d)
+abbrev pub WasTriedOnTargets : Beginning → Device → Device → Part → Type 0
+WasTriedOnTargets b old new part = (d : ℕ) → IsTrue (b.targets d) → Stands b part new d ⊎ Rose (old.counts.faults d) (new.counts.faults d)
 
 -- ---- how they end
 
@@ -63,8 +63,8 @@ pub record BeginsWell (b : Beginning) (order : List Part) (number : ℕ) (next :
 -- One of them failed on some disks, of which this is the lowest; it was tried on all, and those behind it weren't begun.
 pub record FailsAtDisk (b : Beginning) (order : List Part) (number : ℕ) (old new : Device) (disk : ℕ) (buf : Buffer) : Type 0 where
   pub back : IsBack number old new buf
-  pub first : IsFirstFailed b.targets old new disk
-  pub stop : StopsAt b order old new (WasTried b old new)
+  pub first : IsLowestFailed b.targets old new disk
+  pub stop : StopsAt b order old new (WasTriedOnTargets b old new)
 
 -- how the writes end, by the answer, with the slots that come next: well, at a disk that failed, or broken off
 abbrev pub BeginEnds : Beginning → List Part → ℕ → ℕ → Homes → Device → Device → Begun → Type 0

@@ -6,14 +6,14 @@ use Rattle.lvm_disk.specs.Counts.{Rose}
 use Rattle.lvm_disk.specs.Device.{Device}
 use Rattle.lvm_disk.specs.Paths.{DeviceStep, Path}
 use Rattle.lvm_kept.specs.Plans.{Plan}
-use Rattle.lvm_quorum.specs.declared.write.Wrote.{Wrote}
-use Rattle.lvm_quorum.specs.declared.write.Wrote.TheVariants as wrote
-use Rattle.lvm_quorum.specs.Written.{KeepsShelf, IsWriting, IsDarkened, IsGivenUp}
-use Rattle.lvm_quorum.specs.Writes.{WriteLeaves, IsBack}
+use Rattle.lvm_write.specs.declared.write.Wrote.{Wrote}
+use Rattle.lvm_write.specs.declared.write.Wrote.TheVariants as wrote
+use Rattle.lvm_write.specs.Written.{KeepsShelf, IsWriting, IsDarkened, IsGivenUp}
+use Rattle.lvm_write.specs.Writes.{DiskWritesLeave, IsBack}
 use Rattle.lvm_begin.specs.declared.begin.Begun.{Begun}
 use Rattle.lvm_begin.specs.declared.begin.Begun.TheVariants as begun
 use Rattle.lvm_begin.specs.Beginning.{Beginning, Part, brought, IsOfParts, Stands, AllStand}
-use Rattle.lvm_begin.specs.Ends.{HasNoFault, StopsAt, IsFirstFailed, FailsAtDisk}
+use Rattle.lvm_begin.specs.Ends.{HasNoFault, StopsAt, IsLowestFailed, FailsAtDisk}
 
 -- a write to disks as its answer names it: all went well, or this is the lowest that failed
 abbrev pub IsAnswer : Wrote → Begun → Type 0
@@ -39,7 +39,7 @@ pub record OneWell (targets : Disks) (Stands : Device → ℕ → Type 0) (numbe
 
 pub record OneBad (targets : Disks) (Stands : Device → ℕ → Type 0) (number : ℕ) (old new : Device) (disk : ℕ) (buf : Buffer) : Type 0 where
   pub back : IsBack number old new buf
-  pub first : IsFirstFailed targets old new disk
+  pub first : IsLowestFailed targets old new disk
   pub tried : (d : ℕ) → IsTrue (targets d) → Stands new d ⊎ Rose (old.counts.faults d) (new.counts.faults d)
 
 abbrev pub HowOne : Disks → (Device → ℕ → Type 0) → ℕ → ℕ → Device → Device → Begun → Type 0
@@ -50,7 +50,7 @@ HowOne targets Stands number before old new begun.Stuck = IsGivenUp number befor
 
 -- how a write to these disks ended, which may bring this, and of which this then stands
 pub record OneGives (targets : Disks) (P : Plan) (Stands : Device → ℕ → Type 0) (number before after : ℕ) (old new : Device) (result : Begun) : Type 0 where
-  pub does : WriteLeaves targets P before after old new
+  pub does : DiskWritesLeave targets P before after old new
   pub how : HowOne targets Stands number before old new result
 
 -- ---- several
@@ -63,9 +63,9 @@ pub record IsStage (b : Beginning) (part : Part) (old new : Device) : Type 0 whe
   pub stands : (d : ℕ) → IsTrue (b.targets d) → Stands b part new d
 
 -- these parts were written, one after another
-abbrev pub AreDone : Beginning → List Part → Device → Device → Type 0
-AreDone b [] old new = new ≡ old
-AreDone b (part ∷ parts) old new = (mid : Device) × IsStage b part old mid × AreDone b parts mid new
+abbrev pub AreWritten : Beginning → List Part → Device → Device → Type 0
+AreWritten b [] old new = new ≡ old
+AreWritten b (part ∷ parts) old new = (mid : Device) × IsStage b part old mid × AreWritten b parts mid new
 
 -- some of them were, and then one more was at hand, of which any moment may be the last
 abbrev pub AreBegun : Beginning → List Part → Device → Device → Type 0
@@ -76,7 +76,7 @@ pub record ManyWell (b : Beginning) (order : List Part) (number : ℕ) (old new 
   pub back : IsBack number old new buf
   pub well : HasNoFault old new
   pub stand : AllStand b order new
-  pub done : AreDone b order old new
+  pub done : AreWritten b order old new
 
 abbrev pub HowMany : Beginning → List Part → ℕ → ℕ → Device → Device → Begun → Type 0
 HowMany b order number before old new (begun.Ended buf) = ManyWell b order number old new buf
@@ -86,6 +86,6 @@ HowMany b order number before old new begun.Stuck = IsGivenUp number before old 
 
 -- how the parts ended, in this order
 pub record ManyGives (b : Beginning) (order : List Part) (number before after : ℕ) (old new : Device) (result : Begun) : Type 0 where
-  pub does : WriteLeaves b.targets (IsOfParts b order) before after old new
+  pub does : DiskWritesLeave b.targets (IsOfParts b order) before after old new
   pub begun : AreBegun b order old new
   pub how : HowMany b order number before old new result

@@ -14,9 +14,9 @@ use Rattle.lvm_kept.specs.Group.{is_named}
 use Rattle.lvm_kept.specs.Plans.{ChangesBy}
 use Rattle.lvm_kept.specs.Recovered.{IsRecordRange}
 use Rattle.lvm_kept.specs.Torn.{MayWriteAll, written as as_read}
-use Rattle.lvm_quorum.specs.declared.homes.Homes.{Homes}
-use Rattle.lvm_quorum.specs.Homes.{SparesNewest}
-use Rattle.lvm_quorum.specs.Written.{IsInPlan, KeepsShelf, StandsTold}
+use Rattle.lvm_write.specs.declared.homes.Homes.{Homes}
+use Rattle.lvm_write.specs.Homes.{SparesNewest}
+use Rattle.lvm_write.specs.Written.{IsInPlan, KeepsShelf, StandsTold}
 use Rattle.lvm_stamps.specs.Behind.{StampsBefore, beginning_at}
 use Rattle.lvm_begin.specs.Beginning.{Beginning, Part, describes, states, new_order, again_order, IsOfParts, AllStand, MayBeginNew, MayBeginAgain}
 use Rattle.lvm_begin.specs.Ends.{BothFlip}
@@ -64,8 +64,8 @@ OthersSpareNewest =
 -- ---- what is written, whatever became of it
 
 -- it is one of the first two stamps of the session
-abbrev pub IsOfSession : Beginning → Stamp → Type 0
-IsOfSession b stamp = (stamp.epoch ≡ b.epoch) × (stamp.seq < 3)
+abbrev pub IsOfBeginning : Beginning → Stamp → Type 0
+IsOfBeginning b stamp = (stamp.epoch ≡ b.epoch) × (stamp.seq < 3)
 
 -- Each range that the parts may bring is of a target's note or in one of its slots.
 abbrev pub RangesAreOfRecords : Type 0
@@ -76,5 +76,5 @@ RangesAreOfRecords =
 -- Where all stamps are of earlier sessions, they then are of this one's first two records or of earlier ones.
 abbrev pub StampsAreOfBeginning : Type 0
 StampsAreOfBeginning =
-    (b : Beginning) (parts : List Part) (old new : Image) → Frames kind.Descriptor b.descriptor → Frames kind.Status b.status → IsOfSession b b.descriptor.stamp → IsOfSession b b.status.stamp
+    (b : Beginning) (parts : List Part) (old new : Image) → Frames kind.Descriptor b.descriptor → Frames kind.Status b.status → IsOfBeginning b b.descriptor.stamp → IsOfBeginning b b.status.stamp
     → ChangesBy (IsOfParts b parts) old new → StampsBefore (beginning_at b.epoch) old → StampsBefore (record { epoch = b.epoch; seq = 3 }) new

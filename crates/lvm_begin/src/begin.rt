@@ -5,19 +5,19 @@ ghost use Rattle.lvm_num.specs.Disks.{has};
 ghost use Rattle.lvm_num.specs.Record.{longest_content};
 ghost use Rattle.lvm_disk.specs.Device.{IsReady};
 ghost use Rattle.lvm_kept.specs.Torn.{IsOfNote, IsOfRecord};
-ghost use Rattle.lvm_quorum.specs.Homes.{Flips};
-ghost use Rattle.lvm_quorum.specs.Notes.{empty_note, NoteTold};
-ghost use Rattle.lvm_quorum.specs.Written.{write_of, StandsTold, HaveRoom};
-ghost use Rattle.lvm_quorum.specs.Writes.{WriteLeaves};
+ghost use Rattle.lvm_write.specs.Homes.{Flips};
+ghost use Rattle.lvm_write.specs.Notes.{empty_note_sector, NoteTold};
+ghost use Rattle.lvm_write.specs.Written.{write_of, StandsTold, HaveRoom};
+ghost use Rattle.lvm_write.specs.Writes.{DiskWritesLeave};
 ghost use Rattle.lvm_begin.specs.Beginning.{new_beginning, again_beginning, new_order, again_order, IsOfParts};
-ghost use Rattle.lvm_begin.specs.Ends.{IfEnded, BothFlip, BeginEnds};
+ghost use Rattle.lvm_begin.specs.Ends.{IfBegun, BothFlip, BeginEnds};
 ghost use Rattle.lvm_begin.specs.Kept.{NewStaysKept, AgainStaysKept};
 ghost use Rattle.lvm_begin.specs.Runs.{IsAnswer, OneGives, ManyGives};
 
 use lvm_disk::Shelf;
 use lvm_num::{DiskSet, Kind, Pbuf, Stamp};
-use lvm_quorum::{Homes, Wrote, empty_notes, write_record};
 use lvm_transfer::Patience;
+use lvm_write::{Homes, Wrote, empty_notes, write_record};
 
 /// How the writes with which a group comes on ended.
 #[derive(Drop)]
@@ -52,7 +52,7 @@ pub fn begin_new<S: Shelf>(
     requires status { length status.now ≤ longest_content kind.Status }
     requires targets { HaveRoom (S.device shelf.old) (has targets) }
     ensures ends { let b = new_beginning epoch descriptor.now status.now (has targets) homes.old in BeginEnds b new_order buf.number patience.old.left homes.new (S.device shelf.old) (S.device shelf.new) result }
-    ensures leaves { let b = new_beginning epoch descriptor.now status.now (has targets) homes.old in WriteLeaves (has targets) (IsOfParts b new_order) patience.old.left patience.new.left (S.device shelf.old) (S.device shelf.new) }
+    ensures leaves { let b = new_beginning epoch descriptor.now status.now (has targets) homes.old in DiskWritesLeave (has targets) (IsOfParts b new_order) patience.old.left patience.new.left (S.device shelf.old) (S.device shelf.new) }
     ensures kept { let b = new_beginning epoch descriptor.now status.now (has targets) homes.old in NewStaysKept b (S.device shelf.old) (S.device shelf.new) }
 {
     write_new(
@@ -80,7 +80,7 @@ pub fn begin_again<S: Shelf>(
     requires status { length status.now ≤ longest_content kind.Status }
     requires targets { HaveRoom (S.device shelf.old) (has targets) }
     ensures ends { let b = again_beginning epoch descriptor.now status.now (has targets) homes.old in BeginEnds b (again_order forget) buf.number patience.old.left homes.new (S.device shelf.old) (S.device shelf.new) result }
-    ensures leaves { let b = again_beginning epoch descriptor.now status.now (has targets) homes.old in WriteLeaves (has targets) (IsOfParts b (again_order forget)) patience.old.left patience.new.left (S.device shelf.old) (S.device shelf.new) }
+    ensures leaves { let b = again_beginning epoch descriptor.now status.now (has targets) homes.old in DiskWritesLeave (has targets) (IsOfParts b (again_order forget)) patience.old.left patience.new.left (S.device shelf.old) (S.device shelf.new) }
     ensures kept { let b = again_beginning epoch descriptor.now status.now (has targets) homes.old in AgainStaysKept b forget (S.device shelf.old) (S.device shelf.new) }
 {
     write_again(
@@ -105,7 +105,7 @@ fn write_new<S: Shelf>(
     requires status { length status.now ≤ longest_content kind.Status }
     requires targets { HaveRoom (S.device shelf.old) (has targets) }
     ensures gives { let b = new_beginning epoch descriptor.now status.now (has targets) homes.old in ManyGives b new_order buf.number patience.old.left patience.new.left (S.device shelf.old) (S.device shelf.new) result }
-    ensures homes { IfEnded result (λ back. BothFlip (has targets) homes.old homes.new) }
+    ensures homes { IfBegun result (λ back. BothFlip (has targets) homes.old homes.new) }
 {
     let buf = match notes(shelf, epoch, targets, buf, patience) {
         Begun::Ended { buf } => buf,
@@ -156,7 +156,7 @@ fn write_again<S: Shelf>(
     requires status { length status.now ≤ longest_content kind.Status }
     requires targets { HaveRoom (S.device shelf.old) (has targets) }
     ensures gives { let b = again_beginning epoch descriptor.now status.now (has targets) homes.old in ManyGives b (again_order forget) buf.number patience.old.left patience.new.left (S.device shelf.old) (S.device shelf.new) result }
-    ensures homes { IfEnded result (λ back. BothFlip (has targets) homes.old homes.new) }
+    ensures homes { IfBegun result (λ back. BothFlip (has targets) homes.old homes.new) }
 {
     let of_descriptor = Stamp { epoch, seq: 1 };
     let buf = match record(
@@ -203,7 +203,7 @@ fn notes<S: Shelf>(
 ) -> Begun
     requires ready { IsReady (S.device shelf.old) }
     requires targets { HaveRoom (S.device shelf.old) (has targets) }
-    ensures gives { OneGives (has targets) (IsOfNote (has targets) (empty_note epoch)) (NoteTold (empty_note epoch)) buf.number patience.old.left patience.new.left (S.device shelf.old) (S.device shelf.new) result }
+    ensures gives { OneGives (has targets) (IsOfNote (has targets) (empty_note_sector epoch)) (NoteTold (empty_note_sector epoch)) buf.number patience.old.left patience.new.left (S.device shelf.old) (S.device shelf.new) result }
 {
     let wrote = empty_notes(shelf, epoch, targets, buf, patience);
     all_or_lowest(wrote)
@@ -225,7 +225,7 @@ fn record<S: Shelf>(
     requires fits { length content.now ≤ longest_content kind }
     requires targets { HaveRoom (S.device shelf.old) (has targets) }
     ensures gives { let w = write_of kind (record { stamp = stamp; content = content.now }) (has targets) homes.old in OneGives (has targets) (IsOfRecord w) (StandsTold w) buf.number patience.old.left patience.new.left (S.device shelf.old) (S.device shelf.new) result }
-    ensures homes { IfEnded result (λ back. Flips kind (has targets) homes.old homes.new) }
+    ensures homes { IfBegun result (λ back. Flips kind (has targets) homes.old homes.new) }
 {
     let wrote = write_record(shelf, kind, stamp, content, targets, homes, buf, patience);
     all_or_lowest(wrote)

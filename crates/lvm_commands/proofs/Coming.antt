@@ -1,37 +1,43 @@
 -- How a group comes on, or doesn't.
-use Rattle.std.proofs.Common.{◌≡◌, ◌+◌, ◌<◌, ◌≤◌, [], ℕ, List, Option, Some, None, true, refl, sym, ◌∙◌, ap, subst, arith}
+use Rattle.std.proofs.Common.{◌≡◌, ◌+◌, ◌<◌, ◌≤◌, [], ◌∷◌, ◌++◌, ℕ, List, Option, Some, None, Result, Ok, Err, IfOk, IfErr, true, false, refl, sym, ◌∙◌, ap, subst, arith}
 use Rattle.std.specs.Prelude.{IfNone}
 use Rattle.lvm_disk.specs.Device.{Device, IsReady}
 use Rattle.lvm_disk.specs.Images.{LeavesNoMore}
 use Rattle.lvm_disk.proofs.Paths.{last-path}
 use Rattle.lvm_io.specs.Count.{Rose}
-use Rattle.lvm_vol.specs.Facts.{Fact}
+use Rattle.lvm_vol.specs.Facts.{Fact, On}
 use Rattle.lvm_vol.specs.Legal.{IsLater}
-use Rattle.lvm_vol.specs.Log.{Log}
+use Rattle.lvm_vol.specs.Log.{Log, is_open}
 use Rattle.lvm_kept.specs.Moments.{Moment, StaysCalm}
 use Rattle.lvm_steps.specs.Moments.{Keeps}
 use Rattle.lvm_steps.specs.Requests.{at}
 use Rattle.lvm_steps.specs.VaryingOn.{HasNoActive}
 use Rattle.lvm_steps.proofs.Spans.{keeps_steps}
 use Rattle.lvm_stamps.specs.Behind.{IsBehind, IsAhead, ClockIsAhead}
+use Rattle.lvm_stamps.proofs.Clock.{later_joins}
 use Rattle.lvm_stamps.proofs.Shelves.{no_more_stays_behind}
 use Rattle.lvm_core.specs.declared.refused.Cause.{Cause}
 use Rattle.lvm_core.specs.declared.refused.Cause.TheVariants as cause
+use Rattle.lvm_core.specs.declared.refused.Refused.{Refused}
 use Rattle.lvm_commit.specs.Settling.{NoneIsLeft}
+use Rattle.lvm_core.specs.Coming.{BringsOn, IsStarted, shelf_left, history_left}
 use Rattle.lvm_core.specs.Held.{StartsHeld}
 use Rattle.lvm_core.specs.Sound.{HaveAllLanded}
 use Rattle.lvm_core.specs.Settled.{IsSettled as IsSettledCore}
-use Rattle.lvm_core.specs.State.{Core}
+use Rattle.lvm_core.specs.State.{Core, state_of}
+use Rattle.lvm_commands.specs.Ends.{CommandEnds}
 use Rattle.lvm_commands.specs.Groups.{IsLit, refusal_of}
 use Rattle.lvm_commands.specs.Moments.{GoesOn}
 use Rattle.lvm_commands.specs.Replies.{IsStuck}
-use Rattle.lvm_commands.specs.Stages.{shelf_in, history_in, session_in, state_in}
-use Rattle.lvm_commands.specs.State.{State, IsSettled}
+use Rattle.lvm_commands.specs.Stages.{shelf_in, history_in, session_in, state_in, IsSettledStage}
+use Rattle.lvm_commands.specs.State.{State, IsSettled, without_facts}
 use Rattle.lvm_commands.specs.declared.reply.Refusal.TheVariants as refusal
 use Rattle.lvm_commands.specs.declared.reply.Reply.{Reply}
-use Rattle.lvm_commands.specs.declared.stage.Stage.{Stage}
 use Rattle.lvm_commands.specs.declared.reply.Reply.TheVariants as reply
+use Rattle.lvm_commands.specs.declared.stage.Stage.{Stage}
+use Rattle.lvm_commands.specs.declared.stage.Stage.TheVariants as stage
 use Rattle.lvm_commands.proofs.Going.{ahead_later, relit_path}
+use Rattle.lvm_commands.proofs.Passive.{open_more}
 
 -- ---- the clock
 
@@ -198,3 +204,82 @@ left_alone device (cause.ClockBack seen) other = refl
 left_alone device (cause.DiskFailed disk) other = refl
 left_alone device cause.HistoryFull other = refl
 left_alone device cause.Memory other = refl
+
+-- ---- the call that brings a group on, by its outcome
+
+-- a group has come on: what its session and its shelf have
+pub record CameOn (moment : ℕ) (old new : Device) (log : Log) (core : Core) : Type 0 where
+  pub entered : List Fact
+  pub facts : core.history.facts ≡ entered ++ On moment ∷ []
+  pub later : (m : ℕ) → IsLater log.facts m → IsLater entered m
+  pub landed : HaveAllLanded log.facts → HaveAllLanded entered
+  pub ready : IsReady new
+  pub epoch : core.status.stamp.epoch ≡ moment
+  pub orders : new.orders ≡ old.orders
+  pub rooms : without_facts core.history ≡ without_facts log
+
+-- none has, for this
+pub record StayedOff (why : Cause) (old left : Device) (log is : Log) : Type 0 where
+  pub leaves : Leaves why old left
+  pub later : (m : ℕ) → IsLater log.facts m → IsLater is.facts m
+  pub landed : HaveAllLanded log.facts → HaveAllLanded is.facts
+  pub rooms : without_facts is ≡ without_facts log
+
+-- what the stage is then
+pub record Left {S : Type 0} (device : S → Device) (outcome : Result (S × Core) (Refused S)) (it : Stage S) (answer : Reply) : Type 0 where
+  pub on : IfOk outcome (λ driver. (it ≡ stage.On driver) × (answer ≡ reply.Ok))
+  pub off : IfErr outcome (λ refused. (session_in it ≡ None) × (history_in it ≡ refused.history) × (answer ≡ reply.Refused (refusal_of refused.cause)))
+  pub lit : IfErr outcome (λ refused. IsLit refused.cause (device refused.shelf) (device (shelf_in it)))
+
+-- the outcome, by what the call says of it
+pub record Outcome {S : Type 0} (device : S → Device) (shelf : S) (log : Log) (moment before after : ℕ) (it : Stage S) (answer : Reply) (outcome : Result (S × Core) (Refused S)) : Type 0 where
+  pub starts : IfOk outcome (λ driver. IsStarted log.run moment (device shelf) log (state_of device driver))
+  pub brings : BringsOn log.run moment before after (device shelf) (device (shelf_left outcome)) log (history_left outcome)
+  pub came : IfOk outcome (λ driver. CameOn moment (device shelf) (device driver.0) log driver.1)
+  pub stayed : IfErr outcome (λ refused. StayedOff refused.cause (device shelf) (device refused.shelf) log refused.history)
+  pub left : Left device outcome it answer
+
+-- where the power was cut nothing is out
+pub dark_still : {S : Type 0} (device : S → Device) (shelf : S) (log : Log) (outcome : Result (S × Core) (Refused S)) → IfErr outcome (λ refused. StayedOff refused.cause (device shelf) (device refused.shelf) log refused.history)
+    → IfErr outcome (λ refused. refused.cause ≡ cause.Dark → (device refused.shelf).flights ≡ [])
+dark_still device shelf log (Ok driver) stayed = tt
+dark_still device shelf log (Err refused) stayed = λ dark. subst (λ (why : Cause). Rests why (device refused.shelf)) dark stayed.leaves.rests
+
+module _ {S : Type 0} (device : S → Device) (shelf : S) (log : Log) (moment last before after : ℕ) (it : Stage S) (answer : Reply) (rose : Rose last moment) (settled : IsSettledStage device (stage.Off shelf log)) where
+  abbrev Ended : Result (S × Core) (Refused S) → Type 0
+  Ended = Outcome device shelf log moment before after it answer
+
+  promises : (outcome : Result (S × Core) (Refused S)) → BringsOn log.run moment before after (device shelf) (device (shelf_left outcome)) log (history_left outcome)
+      → ((m : ℕ) → moment < m → IsLater log.facts m → IsLater (history_left outcome).facts m) → Promises log.run moment (at (device shelf) log.facts) (at (device (shelf_left outcome)) (history_left outcome).facts)
+  promises outcome brings later = record { keeps = brings.keeps; behind = brings.behind; calm = brings.calm; waits = brings.spends.waits.later; later = later }
+
+  goes : (outcome : Result (S × Core) (Refused S)) → Ended outcome → GoesOn log.run answer (state_in device (stage.Off shelf log) last) (state_in device it moment)
+  goes (Ok driver) ended =
+      let came = ended.came in
+      subst (λ (s : Stage S). GoesOn log.run answer (state_in device (stage.Off shelf log) last) (state_in device s moment)) (sym ended.left.on.0)
+      (subst (λ (a : Reply). GoesOn log.run a (state_in device (stage.Off shelf log) last) (state_in device (stage.On driver) moment)) (sym ended.left.on.1)
+      (left_on log.run (state_in device (stage.Off shelf log) last) settled moment rose refl driver.1 (device driver.0)
+      (promises (Ok driver) ended.brings (λ m lt later. subst (λ (l : List Fact). IsLater l m) (sym came.facts) (later_joins m came.entered (On moment ∷ []) (came.later m later) (lt, tt))))
+      came.ready ended.starts.settled came.epoch
+      (λ id. subst (λ (l : List Fact). is_open l id ≡ false) (sym came.facts) (open_more came.entered (On moment) id refl refl ∙ came.landed settled.landed id))
+      ended.starts.held ended.starts.left))
+  goes (Err refused) ended =
+      let stayed = ended.stayed in
+      subst (λ (s : State). GoesOn log.run answer (state_in device (stage.Off shelf log) last) s) (sym (off_is device it refused.history moment ended.left.off.0 ended.left.off.1))
+      (subst (λ (a : Reply). GoesOn log.run a (state_in device (stage.Off shelf log) last) (record { moment = at (device (shelf_in it)) refused.history.facts; session = None; last = moment })) (sym ended.left.off.2)
+      (left_off log.run (state_in device (stage.Off shelf log) last) settled moment rose refused.cause (at (device refused.shelf) refused.history.facts) (device (shelf_in it))
+      (promises (Err refused) ended.brings (λ m lt later. stayed.later m later)) stayed.leaves ended.left.lit (stayed.landed settled.landed)))
+
+  orders : (outcome : Result (S × Core) (Refused S)) → Ended outcome → (device (shelf_in it)).orders ≡ (device shelf).orders
+  orders (Ok driver) ended = ap (λ (s : Stage S). (device (shelf_in s)).orders) ended.left.on.0 ∙ ended.came.orders
+  orders (Err refused) ended =
+      let leaves = ended.stayed.leaves in
+      (lit_up refused.cause (device refused.shelf) (device (shelf_in it)) leaves.rests ended.left.lit).orders ∙ leaves.orders
+
+  rooms : (outcome : Result (S × Core) (Refused S)) → Ended outcome → without_facts (history_in it) ≡ without_facts log
+  rooms (Ok driver) ended = ap (λ (s : Stage S). without_facts (history_in s)) ended.left.on.0 ∙ ended.came.rooms
+  rooms (Err refused) ended = ap without_facts ended.left.off.1 ∙ ended.stayed.rooms
+
+  pub outcome_ends : (Does : Log → State → State → Reply → Type 0) (outcome : Result (S × Core) (Refused S)) → Ended outcome → Does (without_facts log) (state_in device (stage.Off shelf log) last) (state_in device it moment) answer
+      → CommandEnds device Does ⊥ (stage.Off shelf log) it answer last moment
+  outcome_ends Does outcome ended does = record { does = does; goes = goes outcome ended; rooms = rooms outcome ended; orders = λ none. orders outcome ended }

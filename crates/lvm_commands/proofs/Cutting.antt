@@ -27,9 +27,10 @@ use Rattle.lvm_core.specs.State.{Core}
 use Rattle.lvm_commit.specs.Settling.{NoneIsLeft}
 use Rattle.lvm_core.specs.Held.{IsHeld, AreNotesHome}
 use Rattle.lvm_core.proofs.Telling.{open_cut}
+use Rattle.lvm_commands.specs.Ends.{EndsUnasked}
 use Rattle.lvm_commands.specs.Moments.{GoesOn}
 use Rattle.lvm_commands.specs.Shelves.{IsCut, CutDoes, PowerIsCut}
-use Rattle.lvm_commands.specs.Stages.{shelf_in, history_in, session_in, state_in, IsSettledStage, Between, history_after, GivesBack}
+use Rattle.lvm_commands.specs.Stages.{shelf_in, history_in, session_in, state_in, IsSettledStage, history_after, GivesBack}
 use Rattle.lvm_commands.specs.State.{State, IsSettled, log_with, without_facts}
 use Rattle.lvm_commands.specs.declared.reply.Reply.{Reply}
 use Rattle.lvm_commands.specs.declared.reply.Reply.TheVariants as reply
@@ -157,10 +158,10 @@ module _ {S : Type 0} (device : S → Device) (old ordered : Stage S) (word : �
     (history : history_in ordered ≡ history_after (arrange.Cut word) true (history_in old) (session_in old))
     (closed : Device) (gives : GivesBack (device (shelf_in ordered)) closed) (kept : Log) (kept_is : kept ≡ history_in ordered)
     (last_shelf : S) (lit : Relights closed (device last_shelf)) (log : Log) (log_is : log ≡ cut_log kept) where
-  pub left_log : log ≡ cut_log (history_in old)
+  left_log : log ≡ cut_log (history_in old)
   left_log = log_is ∙ ap cut_log (kept_is ∙ history) ∙ cut_history word (history_in old) (session_in old) (whose old) settled.session
 
-  pub stage_cut : (last : ℕ) → IsCut (without_facts (history_in old)) word (state_in device old last) (state_in device (stage.Off last_shelf log) last)
+  stage_cut : (last : ℕ) → IsCut (without_facts (history_in old)) word (state_in device old last) (state_in device (stage.Off last_shelf log) last)
   stage_cut last = record {
     dark = device (shelf_in ordered);
     cut = shelf.1;
@@ -171,12 +172,11 @@ module _ {S : Type 0} (device : S → Device) (old ordered : Stage S) (word : �
   }
 
   module _ (it : Stage S) (is : it ≡ stage.Off last_shelf log) where
-    pub cut_does : (answer : Reply) → answer ≡ reply.Ok → Between device old it (λ was now. CutDoes (without_facts (history_in old)) word was now answer)
-    cut_does answer says = λ last. PowerIsCut shelf.0 says (subst (λ (s : Stage S). IsCut (without_facts (history_in old)) word (state_in device old last) (state_in device s last)) (sym is) (stage_cut last))
-
-    pub stage_cut_goes : (answer : Reply) → Between device old it (GoesOn (history_in old).run answer)
-    stage_cut_goes answer = λ last. subst (λ (s : Stage S). GoesOn (history_in old).run answer (state_in device old last) (state_in device s last)) (sym is)
-        (cut_goes (without_facts (history_in old)) word (state_in device old last) (state_in device (stage.Off last_shelf log) last) settled (stage_cut last) answer)
-
-    pub cut_stage_rooms : without_facts (history_in it) ≡ without_facts (history_in old)
-    cut_stage_rooms = ap (λ (s : Stage S). without_facts (history_in s)) is ∙ ap without_facts left_log ∙ cut_rooms (history_in old)
+    pub cut_ends : (answer : Reply) → answer ≡ reply.Ok → EndsUnasked device (λ log. CutDoes log word) (Unit {0}) old it answer
+    cut_ends answer says = λ last. record {
+      does = PowerIsCut shelf.0 says (subst (λ (s : Stage S). IsCut (without_facts (history_in old)) word (state_in device old last) (state_in device s last)) (sym is) (stage_cut last));
+      goes = subst (λ (s : Stage S). GoesOn (history_in old).run answer (state_in device old last) (state_in device s last)) (sym is)
+          (cut_goes (without_facts (history_in old)) word (state_in device old last) (state_in device (stage.Off last_shelf log) last) settled (stage_cut last) answer);
+      rooms = ap (λ (s : Stage S). without_facts (history_in s)) is ∙ ap without_facts left_log ∙ cut_rooms (history_in old);
+      orders = λ none. absurd (none tt);
+    }

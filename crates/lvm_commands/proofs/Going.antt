@@ -1,24 +1,20 @@
 -- How states go on: where nothing changes, and steps of the shelf.
-use Rattle.std.proofs.Common.{◌≡◌, ◌+◌, ◌≤◌, ◌∷◌, [], ℕ, List, true, Option, Some, None, IfSome, refl, sym, ◌∙◌, ap, subst, arith}
+use Rattle.std.proofs.Common.{◌≡◌, ◌+◌, ◌≤◌, ◌∷◌, [], ℕ, List, Option, Some, None, IfSome, refl, sym, ◌∙◌, ap, subst, arith}
 use Rattle.lvm_num.specs.Buffer.{Buffer}
-use Rattle.lvm_disk.specs.Device.{Device, MayLeave, IsReady}
+use Rattle.lvm_disk.specs.Device.{Device, MayLeave}
 use Rattle.lvm_disk.specs.Images.{LeavesNoMore}
 use Rattle.lvm_disk.specs.Paths.{DeviceStep, Path, Here, Then, Freed, Lit}
 use Rattle.lvm_disk.proofs.Paths.{append-path}
 use Rattle.lvm_vol.specs.Facts.{Fact}
-use Rattle.lvm_vol.specs.Legal.{IsLater}
-use Rattle.lvm_kept.specs.Moments.{Moment, StaysCalm}
-use Rattle.lvm_stamps.specs.Behind.{IsBehind, IsAhead}
+use Rattle.lvm_kept.specs.Moments.{Moment}
+use Rattle.lvm_stamps.specs.Behind.{IsAhead}
 use Rattle.lvm_stamps.proofs.Stamps.{later_is_ahead_too}
 use Rattle.lvm_stamps.proofs.Clock.{later_is_later_too}
-use Rattle.lvm_core.specs.Sound.{HaveAllLanded}
 use Rattle.lvm_core.specs.State.{Core}
 use Rattle.lvm_commands.specs.Groups.{IsAsked, EndsSession}
-use Rattle.lvm_steps.specs.Moments.{Keeps}
 use Rattle.lvm_steps.proofs.Spans.{keeps_still}
 use Rattle.lvm_transfer.specs.Transfer.{Relights}
 use Rattle.lvm_commands.specs.Moments.{GoesOn}
-use Rattle.lvm_commands.specs.Replies.{IsStuck}
 use Rattle.lvm_commands.specs.State.{State, IsSettled}
 use Rattle.lvm_commands.specs.declared.reply.Reply.{Reply}
 
@@ -94,35 +90,6 @@ ended_goes run answer old new settled ends = subst (λ (s : State). GoesOn run a
         ap (λ (m : Moment). record { moment = m; session = new.session; last = new.last }) ends.same
         ∙ ap (λ (s : Option Core). record { moment = old.moment; session = s; last = new.last }) ends.after
         ∙ ap (λ (n : ℕ). record { moment = old.moment; session = None; last = n }) ends.clock
-
--- a call over a shelf at which no group is on, and which varies none on
-pub record Ranges (run : ℕ) (stuck : Type 0) (old new : Moment) : Type 0 where
-  pub keeps : Keeps run old new
-  pub calm : (stuck → ⊥) → StaysCalm old new
-  pub behind : (m : ℕ) → IsBehind m old.device → IsBehind m new.device
-  pub later : (m : ℕ) → IsLater old.facts m → IsLater new.facts m
-  pub ready : (stuck → ⊥) → IsReady new.device
-  pub landed : (stuck → ⊥) → HaveAllLanded new.facts
-  pub power : new.device.power ≡ true
-  pub waits : old.device.counts.waits ≤ new.device.counts.waits
-
-pub ranges_go : (run : ℕ) (answer : Reply) (old new : Moment) (last : ℕ) (stuck : Type 0) → (stuck → IsStuck answer) → Ranges run stuck old new
-    → GoesOn run answer (record { moment = old; session = None; last = last }) (record { moment = new; session = None; last = last })
-ranges_go run answer old new last stuck says ranges = record {
-  keeps = λ timely held alone. ranges.keeps;
-  timely = λ timely. record {
-    ahead = record { run_is = timely.ahead.run_is; later = ranges.later (last + 1) timely.ahead.later; behind = ranges.behind (last + 1) timely.ahead.behind };
-    session = tt;
-  };
-  held = λ timely held. tt;
-  notes = λ timely quiet home. tt;
-  left = λ none. tt;
-  calm = λ goes. ranges.calm (λ is. goes (says is));
-  settled = λ goes. record { ready = ranges.ready (λ is. goes (says is)); landed = ranges.landed (λ is. goes (says is)); session = tt };
-  power = ranges.power;
-  waits = ranges.waits;
-  clock = omega arith;
-}
 
 -- ---- the power is put on again
 

@@ -10,6 +10,7 @@ pub mod OfVolumes
 pub mod Ranging
 pub mod Varying
 pub mod Making
+pub mod Ends
 pub mod Staging
 pub mod Closing
 pub mod Listing

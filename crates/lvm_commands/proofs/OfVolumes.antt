@@ -1,111 +1,114 @@
 -- `mklv` and `rmlv` on the session of the group that is on.
-use Rattle.std.proofs.Common.{◌≡◌, ℕ, Bool, true, false, IsTrue, IsFalse, Err, refl, sym, ◌∙◌, ap, subst}
+use Rattle.std.proofs.Common.{◌≡◌, ℕ, Bool, true, false, IsTrue, IsFalse, Err, refl, sym, ◌∙◌, ap, subst, List, Some, Result, Ok}
 use Rattle.lvm_num.specs.declared.place.Pp.{Pp}
 use Rattle.lvm_num.specs.declared.descriptor.Descriptor.{Descriptor}
 use Rattle.lvm_disk.specs.Device.{Device}
-use Rattle.lvm_quorum.specs.Written.{KeepsShelf}
+use Rattle.lvm_write.specs.Written.{KeepsShelf}
 use Rattle.lvm_core.specs.Settled.{IsSettled as IsSettledCore}
 use Rattle.lvm_core.specs.Sound.{HaveAllLanded}
-use Rattle.lvm_core.specs.State.{Core, State as Session, state, is_there}
-use Rattle.lvm_core.specs.Leaves.{NoPartition, IsOfCommand, KeepsStatus, FindsOnly}
+use Rattle.lvm_core.specs.State.{Core, State as Session, state}
+use Rattle.lvm_core.specs.Leaves.{FindsOnly, Leaves}
 use Rattle.lvm_volumes.specs.declared.fault.GroupFault.{GroupFault}
 use Rattle.lvm_volumes.specs.declared.fault.GroupFault.TheVariants as fault
-use Rattle.lvm_volumes.specs.Endings.{IfOn, StillHeld}
+use Rattle.lvm_volumes.specs.Endings.{IfOn, StillHeld, commanding}
 use Rattle.lvm_commands.specs.Disks.{patience_of_line}
 use Rattle.lvm_commands.specs.Moments.{GoesOn}
 use Rattle.lvm_commands.specs.Stages.{shelf_in, history_in, state_in, IsSettledStage, Between}
-use Rattle.lvm_commands.specs.Volumes.{IsDone, IsOver, StaysOn, ends_session, refusal_for}
+use Rattle.lvm_commands.specs.Volumes.{IsDone, IsOver, StaysOn, MklvDoes, MklvEnds, MakesVolume, MklvFails, RmlvDoes, RmlvEnds, RemovesVolume, RmlvFails, is_over, volume_reply}
 use Rattle.lvm_commands.specs.declared.reply.Reply.{Reply}
-use Rattle.lvm_commands.specs.declared.reply.Reply.TheVariants as reply
 use Rattle.lvm_commands.specs.declared.stage.Stage.{Stage}
 use Rattle.lvm_commands.specs.declared.stage.Stage.TheVariants as stage
-use Rattle.lvm_commands.proofs.Commanding.{Promised, Continues, session_of, goes_on, goes_off}
+use Rattle.lvm_commands.proofs.Commanding.{Promised, session_of, goes_on, goes_off, promised_by, rooms_stay}
 use Rattle.lvm_commands.proofs.Ending.{Facts, ready_still, lit_after}
+use Rattle.lvm_vol.specs.Log.{Log}
+use Rattle.lvm_core.specs.Looking.{IsNumberOf}
+use Rattle.lvm_volumes.specs.declared.new_volume.NewVolume.{NewVolume}
+use Rattle.lvm_commands.specs.Ends.{EndsUnasked}
+use Rattle.lvm_commands.specs.Listings.{IsOn}
+use Rattle.lvm_commands.specs.State.{State, without_facts}
 
--- ---- the session goes on after an answer that doesn't end it
+-- ---- by the answer
 
-if_on : (why : GroupFault) (P : Type 0) → IfOn {A = ℕ} (Err why) P → ends_session why ≡ false → P
-if_on fault.Dark P on goes = absurd (cc (goes))
-if_on (fault.WentOff have total) P on goes = absurd (cc (goes))
-if_on fault.Stuck P on goes = absurd (cc (goes))
-if_on fault.Busy P on goes = on
-if_on fault.NoVolume P on goes = on
-if_on fault.VolumeExists P on goes = on
-if_on (fault.CopyLimit now) P on goes = on
-if_on (fault.LastFresh lp) P on goes = on
-if_on (fault.TooMany limit) P on goes = on
-if_on (fault.NoRoom free) P on goes = on
-if_on fault.HistoryFull P on goes = on
-if_on (fault.DiskFailed disk) P on goes = on
-if_on fault.Memory P on goes = on
+-- the session goes on after an answer that doesn't end it
+if_on : {X : Type 0} (given : Result X GroupFault) (P : Type 0) → IfOn given P → is_over given ≡ false → P
+if_on (Err fault.Dark) P on goes = absurd (cc (goes))
+if_on (Err (fault.WentOff have total)) P on goes = absurd (cc (goes))
+if_on (Err fault.Stuck) P on goes = absurd (cc (goes))
+if_on given P on goes = on
 
--- of what a command leaves: what `after` makes of it
-pub record LeftSo {S : Type 0} (device : S → Device) (is : S × Core) (why : GroupFault) (it : Stage S) : Type 0 where
-  pub over : IsTrue (ends_session why) → (last : ℕ) → IsOver (session_of device is) (state_in device it last)
-  pub on : IsFalse (ends_session why) → it ≡ stage.On is
+pub mklv_does : (w : NewVolume) (group : List ℕ) (core : Core) (given : Result ℕ GroupFault) (old new : State) → old.session ≡ Some core → IsOn group core → MklvEnds w given (is_over given) core old new → MklvDoes w group old new (volume_reply given)
+mklv_does w group core (Ok number) old new its on ends = MakesVolume core number its on ends refl
+mklv_does w group core (Err why) old new its on ends = MklvFails core why its on ends refl
+
+pub rmlv_does : (name : List ℕ) (lv : ℕ) (core : Core) (given : Result (Unit {0}) GroupFault) (old new : State) → old.session ≡ Some core → IsNumberOf core.descriptor.lvs name lv → RmlvEnds lv given (is_over given) core old new → RmlvDoes name old new (volume_reply given)
+rmlv_does name lv core (Ok done) old new its of ends = RemovesVolume core lv its of ends refl
+rmlv_does name lv core (Err why) old new its of ends = RmlvFails core lv why its of ends refl
+
+-- ---- the stage that is left
+
+-- what `leave` makes of a session
+pub record LeftSo {S X : Type 0} (device : S → Device) (is : S × Core) (given : Result X GroupFault) (it : Stage S) : Type 0 where
+  pub over : IsTrue (is_over given) → (last : ℕ) → IsOver (session_of device is) (state_in device it last)
+  pub on : IsFalse (is_over given) → it ≡ stage.On is
   pub history : history_in it ≡ is.1.history
 
-module _ {S : Type 0} (device : S → Device) (was is : S × Core) (settled : IsSettledStage device (stage.On was)) where
-  stays : (it : Stage S) → it ≡ stage.On is → (last : ℕ) → StaysOn (session_of device is) (state_in device it last)
-  stays it same last = subst (λ (s : Stage S). StaysOn (session_of device is) (state_in device s last)) (sym same) (record { device = refl; facts = refl; session = refl })
+module _ {S X : Type 0} (device : S → Device) (was is : S × Core) (settled : IsSettledStage device (stage.On was)) (given : Result X GroupFault) (facts : Facts given patience_of_line (session_of device was) (session_of device is))
+    (it : Stage S) (so : LeftSo device is given it) (IsNext : Core → Descriptor → Type 0) (IsPlace : Core → Pp → Type 0) (numbers before after : ℕ)
+    (leaves : Leaves (commanding (IsNext was.1) (IsPlace was.1) numbers) before after (session_of device was) (session_of device is)) where
+  promised : Promised (session_of device was) (session_of device is)
+  promised = promised_by (IsNext was.1) (IsPlace was.1) numbers before after (session_of device was) (session_of device is) leaves
 
-  -- by what was answered, what may be found afterwards, and what was written
-  module _ (Gives : Session → Session → Type 0) (IsNext : Core → Descriptor → Type 0) (IsPlace : Core → Pp → Type 0) (gives : Gives (session_of device was) (session_of device is)) (finds : FindsOnly (IsNext was.1) (session_of device was) (session_of device is))
-      (status : KeepsStatus NoPartition (IsPlace was.1) (session_of device was) (session_of device is))
-      (writes : KeepsShelf (is_there was.1) (IsOfCommand (IsNext was.1) (IsPlace was.1) (session_of device was) (session_of device is)) (device was.0) (device is.0)) where
-    pub answered_done : (it : Stage S) → it ≡ stage.On is → (last : ℕ) → IsDone Gives IsNext IsPlace false was.1 (state_in device (stage.On was) last) (state_in device it last)
-    answered_done it same last = record {
-      on = settled.session.power;
-      left = session_of device is;
-      gives = gives;
-      leaves = stays it same last;
-      finds = subst (λ (s : Stage S). FindsOnly (IsNext was.1) (session_of device was) (state (device (shelf_in s)) is.1)) (sym same) finds;
-      status = status;
-      writes = writes;
-      clock = refl;
-    }
+  done : (Gives : Session → Session → Type 0) → Gives (session_of device was) (session_of device is) → (last : ℕ) → IsDone Gives IsNext IsPlace (is_over given) was.1 (state_in device (stage.On was) last) (state_in device it last)
+  done Gives gives last = go (is_over given) refl
+    where
+      go : (b : Bool) → is_over given ≡ b → IsDone Gives IsNext IsPlace b was.1 (state_in device (stage.On was) last) (state_in device it last)
+      go true ends =
+          let lit = lit_after patience_of_line (session_of device was) (session_of device is) given (device (shelf_in it)) facts ends (so.over ends last).lit in
+          record {
+            on = settled.session.power;
+            left = session_of device is;
+            gives = gives;
+            leaves = so.over ends last;
+            finds = λ held id k may. leaves.finds held id k (may.0, lit.fewer may.0 may.1, may.2);
+            status = leaves.status;
+            writes = leaves.writes;
+            clock = refl;
+          }
+      go false goes = record {
+        on = settled.session.power;
+        left = session_of device is;
+        gives = gives;
+        leaves = subst (λ (s : Stage S). StaysOn (session_of device is) (state_in device s last)) (sym (so.on goes)) (record { device = refl; facts = refl; session = refl });
+        finds = subst (λ (s : Stage S). FindsOnly (IsNext was.1) (session_of device was) (state (device (shelf_in s)) is.1)) (sym (so.on goes)) leaves.finds;
+        status = leaves.status;
+        writes = leaves.writes;
+        clock = refl;
+      }
 
-    pub failed_done : (why : GroupFault) (it : Stage S) → LeftSo device is why it → Facts why patience_of_line (session_of device was) (session_of device is) → (last : ℕ) → IsDone Gives IsNext IsPlace (ends_session why) was.1 (state_in device (stage.On was) last) (state_in device it last)
-    failed_done why it so facts last = go (ends_session why) refl
-      where
-        go : (b : Bool) → ends_session why ≡ b → IsDone Gives IsNext IsPlace b was.1 (state_in device (stage.On was) last) (state_in device it last)
-        go true ends =
-            let lit = lit_after patience_of_line (session_of device was) (session_of device is) why (device (shelf_in it)) facts ends (so.over ends last).lit in
-            record {
-              on = settled.session.power;
-              left = session_of device is;
-              gives = gives;
-              leaves = so.over ends last;
-              finds = λ held id k may. finds held id k (may.0, lit.fewer may.0 may.1, may.2);
-              status = status;
-              writes = writes;
-              clock = refl;
-            }
-        go false goes = answered_done it (so.on goes) last
+  -- the command ends, by what it gives
+  pub ends_so : (Does : Log → State → State → Reply → Type 0) (Gives : Session → Session → Type 0)
+      → ((last : ℕ) → IsDone Gives IsNext IsPlace (is_over given) was.1 (state_in device (stage.On was) last) (state_in device it last) → Does (without_facts was.1.history) (state_in device (stage.On was) last) (state_in device it last) (volume_reply given))
+      → Gives (session_of device was) (session_of device is) → HaveAllLanded is.1.history.facts → IfOn given (IsSettledCore is.1) → IfOn given (StillHeld (session_of device was) (session_of device is))
+      → EndsUnasked device Does ⊥ (stage.On was) it (volume_reply given)
+  ends_so Does Gives does gives landed still held = λ last. record {
+    does = does last (done Gives gives last);
+    goes = goes (is_over given) refl last;
+    rooms = rooms_stay device was is (volume_reply given) settled.ready promised it so.history;
+    orders = λ none. orders (is_over given) refl;
+  }
+    where
+      goes : (b : Bool) → is_over given ≡ b → Between device (stage.On was) it (GoesOn was.1.history.run (volume_reply given))
+      goes true ends =
+          let over = so.over ends 0 in
+          goes_off device was is (volume_reply given) settled.ready promised it over.session so.history (lit_after patience_of_line (session_of device was) (session_of device is) given (device (shelf_in it)) facts ends over.lit) (λ heard. landed)
+      goes false lasts = λ last. subst (λ (s : Stage S). GoesOn was.1.history.run (volume_reply given) (state_in device (stage.On was) last) (state_in device s last)) (sym (so.on lasts))
+          (goes_on device was is (volume_reply given) settled.ready promised (record {
+            settled = if_on given (IsSettledCore is.1) still lasts;
+            ready = ready_still patience_of_line (session_of device was) (session_of device is) given settled.ready facts lasts;
+            landed = landed;
+            held = if_on given (StillHeld (session_of device was) (session_of device is)) held lasts;
+          }) last)
 
-  module _ (answer : Reply) (promised : Promised (session_of device was) (session_of device is)) (landed : HaveAllLanded is.1.history.facts) where
-    pub answered_goes : (it : Stage S) → it ≡ stage.On is → Continues (session_of device was) (session_of device is) → Between device (stage.On was) it (GoesOn was.1.history.run answer)
-    answered_goes it same continues = λ last. subst (λ (s : Stage S). GoesOn was.1.history.run answer (state_in device (stage.On was) last) (state_in device s last)) (sym same) (goes_on device was is answer settled.ready promised continues last)
-
-  module _ (why : GroupFault) (promised : Promised (session_of device was) (session_of device is)) (landed : HaveAllLanded is.1.history.facts) (it : Stage S) (so : LeftSo device is why it)
-      (facts : Facts why patience_of_line (session_of device was) (session_of device is)) where
-    pub failed_goes : IfOn {A = ℕ} (Err why) (IsSettledCore is.1) → IfOn {A = ℕ} (Err why) (StillHeld (session_of device was) (session_of device is)) → Between device (stage.On was) it (GoesOn was.1.history.run (reply.Refused (refusal_for why)))
-    failed_goes still held = go (ends_session why) refl
-      where
-        go : (b : Bool) → ends_session why ≡ b → Between device (stage.On was) it (GoesOn was.1.history.run (reply.Refused (refusal_for why)))
-        go true ends =
-            let over = so.over ends 0 in
-            goes_off device was is (reply.Refused (refusal_for why)) settled.ready promised it over.session so.history (lit_after patience_of_line (session_of device was) (session_of device is) why (device (shelf_in it)) facts ends over.lit) (λ goes. landed)
-        go false goes = answered_goes (reply.Refused (refusal_for why)) promised landed it (so.on goes) (record {
-          settled = if_on why (IsSettledCore is.1) still goes;
-          ready = ready_still patience_of_line (session_of device was) (session_of device is) why settled.ready facts goes;
-          landed = landed;
-          held = if_on why (StillHeld (session_of device was) (session_of device is)) held goes;
-        })
-
-    pub failed_orders : (device (shelf_in it)).orders ≡ (device was.0).orders
-    failed_orders = go (ends_session why) refl
-      where
-        go : (b : Bool) → ends_session why ≡ b → (device (shelf_in it)).orders ≡ (device was.0).orders
-        go true ends = (lit_after patience_of_line (session_of device was) (session_of device is) why (device (shelf_in it)) facts ends (so.over ends 0).lit).orders ∙ promised.orders
-        go false goes = ap (λ (s : Stage S). (device (shelf_in s)).orders) (so.on goes) ∙ promised.orders
+      orders : (b : Bool) → is_over given ≡ b → (device (shelf_in it)).orders ≡ (device was.0).orders
+      orders true ends = (lit_after patience_of_line (session_of device was) (session_of device is) given (device (shelf_in it)) facts ends (so.over ends 0).lit).orders ∙ promised.orders
+      orders false lasts = ap (λ (s : Stage S). (device (shelf_in s)).orders) (so.on lasts) ∙ promised.orders

@@ -1,5 +1,5 @@
 -- Orders to the shelf of a stage.
-use Rattle.std.proofs.Common.{◌≡◌, ◌⊎◌, inl, inr, ℕ, true, false, Option, Some, None, refl, sym, ◌∙◌, ap, subst, arith}
+use Rattle.std.proofs.Common.{◌≡◌, ◌<◌, ◌⊎◌, length, inl, inr, ℕ, true, false, Option, Some, None, refl, sym, ◌∙◌, ap, subst, arith}
 use Rattle.std.specs.Option.{option_map}
 use Rattle.lvm_disk.specs.Device.{Device}
 use Rattle.lvm_disk.specs.Images.{LeavesNoMore}
@@ -12,18 +12,17 @@ use Rattle.lvm_vol.specs.Log.{Log}
 use Rattle.lvm_steps.proofs.Spans.{keeps_still, keeps_steps}
 use Rattle.lvm_core.specs.Dark.{after_arrange}
 use Rattle.lvm_core.specs.State.{Core}
+use Rattle.lvm_commands.specs.Ends.{EndsUnasked}
 use Rattle.lvm_commands.specs.Moments.{GoesOn}
-use Rattle.lvm_commands.specs.Shelves.{over}
+use Rattle.lvm_commands.specs.Shelves.{ArrangeDoes, IsArranged, over}
 use Rattle.lvm_commands.specs.Stages.{shelf_in, history_in, session_in, moment_in, state_in, IsSettledStage, Between, history_after}
-use Rattle.lvm_commands.specs.State.{State}
+use Rattle.lvm_commands.specs.State.{State, without_facts}
 use Rattle.lvm_commands.specs.declared.reply.Reply.{Reply}
+use Rattle.lvm_commands.specs.declared.reply.Reply.TheVariants as reply
 use Rattle.lvm_commands.specs.declared.stage.Stage.{Stage}
 use Rattle.lvm_commands.specs.declared.stage.Stage.TheVariants as stage
+use Rattle.lvm_commands.proofs.Ends.{unasked_as}
 use Rattle.lvm_commands.proofs.Going.{same_goes}
-
--- a stage that stays
-pub stays : {S : Type 0} (device : S → Device) (old new : Stage S) (run : ℕ) (answer : Reply) → IsSettledStage device old → new ≡ old → Between device old new (GoesOn run answer)
-stays {S} device old new run answer settled same = λ last. same_goes run answer (state_in device old last) (state_in device new last) settled (ap (λ (s : Stage S). state_in device s last) same)
 
 -- a session's history is its stage's
 pub whose : {S : Type 0} (it : Stage S) (core : Core) → session_in it ≡ Some core → core.history ≡ history_in it
@@ -57,10 +56,7 @@ module _ {S : Type 0} (device : S → Device) (old new : Stage S) (disk : ℕ) (
   same_history : history_in new ≡ history_in old
   same_history = history ∙ history_left disk what (history_in old) (session_in old) of_disk (whose old)
 
-  pub same_rooms : (P : Log → Log) → P (history_in new) ≡ P (history_in old)
-  same_rooms P = ap P same_history
-
-  pub arranged_is : (last : ℕ) → state_in device new last ≡ over (with_order (device (shelf_in old)) what) (state_in device old last)
+  arranged_is : (last : ℕ) → state_in device new last ≡ over (with_order (device (shelf_in old)) what) (state_in device old last)
   arranged_is last =
       let d = order_is disk what (device (shelf_in old)) (device (shelf_in new)) of_disk shelf.1 in
       let h = same_history in
@@ -69,8 +65,8 @@ module _ {S : Type 0} (device : S → Device) (old new : Stage S) (disk : ℕ) (
       ∙ ap (λ (x : Log). record { moment = record { device = with_order (device (shelf_in old)) what; facts = x.facts }; session = session_in new; last = last }) h
       ∙ ap (λ (x : Option Core). record { moment = record { device = with_order (device (shelf_in old)) what; facts = (history_in old).facts }; session = x; last = last }) s
 
-  pub arranged_goes : (run : ℕ) (answer : Reply) → IsSettledStage device old → Between device old new (GoesOn run answer)
-  arranged_goes run answer settled = λ last. subst (λ (s : State). GoesOn run answer (state_in device old last) s) (sym (arranged_is last)) (record {
+  goes : (run : ℕ) (answer : Reply) → IsSettledStage device old → Between device old new (GoesOn run answer)
+  goes run answer settled = λ last. subst (λ (s : State). GoesOn run answer (state_in device old last) s) (sym (arranged_is last)) (record {
     keeps = λ timely held alone. keeps_steps run (moment_in device old) (device (shelf_in old)) (with_order (device (shelf_in old)) what) (history_in old).facts (keeps_still run (moment_in device old)) path;
     timely = λ timely. record { ahead = record { run_is = timely.ahead.run_is; later = timely.ahead.later; behind = timely.ahead.behind }; session = timely.session };
     held = λ timely held. held;
@@ -89,6 +85,14 @@ module _ {S : Type 0} (device : S → Device) (old new : Stage S) (disk : ℕ) (
       path : Path DeviceStep (LeavesNoMore (device (shelf_in old))) (device (shelf_in old)) (with_order (device (shelf_in old)) what)
       path = Then (Here (λ image may. may)) (Arranged what arranges) (arrange_leaves (device (shelf_in old)) (with_order (device (shelf_in old)) what) what arranges)
 
+  pub arranged_ends : (it : Stage S) (answer : Reply) → it ≡ new → answer ≡ reply.Ok → disk < length (device (shelf_in old)).sizes → IsSettledStage device old → EndsUnasked device (λ log. ArrangeDoes disk what) (Unit {0}) old it answer
+  arranged_ends it answer is says there settled = unasked_as device (λ log. ArrangeDoes disk what) (Unit {0}) old old it new answer answer refl is refl (λ last. record {
+    does = IsArranged there shelf.0 says (arranged_is last);
+    goes = goes (history_in old).run answer settled last;
+    rooms = ap without_facts same_history;
+    orders = λ none. absurd (none tt);
+  })
+
 -- ---- an order that isn't taken
 
 nothing_happens : (what : Arrange) (session : Option Core) → option_map (after_arrange what false) session ≡ session
@@ -106,11 +110,17 @@ module _ {S : Type 0} (device : S → Device) (old new : Stage S) (what : Arrang
   kept_history : history_in new ≡ history_in old
   kept_history = history ∙ nothing_entered what (history_in old) (session_in old) (whose old)
 
-  pub not_arranged_is : (last : ℕ) → state_in device new last ≡ state_in device old last
-  not_arranged_is last =
+  unarranged : (last : ℕ) → state_in device new last ≡ state_in device old last
+  unarranged last =
       ap (λ (x : Device). record { moment = record { device = x; facts = (history_in new).facts }; session = session_in new; last = last }) shelf.1
       ∙ ap (λ (x : Log). record { moment = record { device = device (shelf_in old); facts = x.facts }; session = session_in new; last = last }) kept_history
       ∙ ap (λ (x : Option Core). record { moment = record { device = device (shelf_in old); facts = (history_in old).facts }; session = x; last = last }) (session ∙ nothing_happens what (session_in old))
 
-  pub not_arranged_goes : (it : Stage S) (run : ℕ) (answer : Reply) → it ≡ new → IsSettledStage device old → Between device old it (GoesOn run answer)
-  not_arranged_goes it run answer is settled = λ last. same_goes run answer (state_in device old last) (state_in device it last) settled (ap (λ (s : Stage S). state_in device s last) is ∙ not_arranged_is last)
+  pub unarranged_ends : (Does : Log → State → State → Reply → Type 0) (it : Stage S) (answer : Reply) → it ≡ new → IsSettledStage device old
+      → ((last : ℕ) → state_in device new last ≡ state_in device old last → Does (without_facts (history_in old)) (state_in device old last) (state_in device new last) answer) → EndsUnasked device Does (Unit {0}) old it answer
+  unarranged_ends Does it answer is settled does = unasked_as device Does (Unit {0}) old old it new answer answer refl is refl (λ last. record {
+    does = does last (unarranged last);
+    goes = same_goes (history_in old).run answer (state_in device old last) (state_in device new last) settled (unarranged last);
+    rooms = ap without_facts kept_history;
+    orders = λ none. absurd (none tt);
+  })

@@ -2,23 +2,12 @@
 use Rattle.std.proofs.Common.{◌≡◌, ℕ, Option, Some, None, IsSome, IfSome, refl, sym, ap, subst}
 use Rattle.lvm_disk.specs.Device.{Device}
 use Rattle.lvm_io.specs.Count.{Rose}
-use Rattle.lvm_vol.specs.Log.{Log}
 use Rattle.lvm_core.specs.State.{Core}
 use Rattle.lvm_commands.specs.Groups.{IsAsked}
-use Rattle.lvm_commands.specs.Stages.{history_in, state_in, IsSettledStage, Between}
-use Rattle.lvm_commands.specs.State.{State}
+use Rattle.lvm_commands.specs.Stages.{state_in, IsSettledStage}
 use Rattle.lvm_commands.specs.declared.stage.Stage.{Stage}
 
--- what holds of the states of two stages holds of those that they are
-pub moves : {S : Type 0} (device : S → Device) (old old' new new' : Stage S) (before after : ℕ) (P : Log → State → State → Type 0) → old ≡ old' → new ≡ new'
-    → P (history_in old') (state_in device old' before) (state_in device new' after) → P (history_in old) (state_in device old before) (state_in device new after)
-moves {S} device old old' new new' before after P was is holds =
-    subst (λ (s : Stage S). P (history_in s) (state_in device s before) (state_in device new after)) (sym was)
-    (subst (λ (s : Stage S). P (history_in old') (state_in device old' before) (state_in device s after)) (sym is) holds)
-
-pub between : {S : Type 0} (device : S → Device) (old old' new new' : Stage S) (P : Log → State → State → Type 0) → old ≡ old' → new ≡ new' → Between device old' new' (P (history_in old')) → Between device old new (P (history_in old))
-between device old old' new new' P was is holds = λ last. moves device old old' new new' last last P was is (holds last)
-
+-- a stage at which nothing is under way
 pub settled_as : {S : Type 0} (device : S → Device) (old old' : Stage S) → old ≡ old' → IsSettledStage device old → IsSettledStage device old'
 settled_as device old old' was settled = subst (IsSettledStage device) was settled
 

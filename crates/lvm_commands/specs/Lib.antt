@@ -3,6 +3,7 @@ pub mod Stages
 pub mod Refusals
 pub mod Replies
 pub mod Moments
+pub mod Ends
 pub mod Shelves
 pub mod Listings
 pub mod Disks

@@ -5,7 +5,7 @@ use Rattle.lvm_num.specs.declared.descriptor.Mode.{Mode}
 use Rattle.lvm_num.specs.declared.descriptor.Policy.{Policy}
 use Rattle.lvm_num.specs.declared.place.Pp.{Pp}
 use Rattle.lvm_transfer.specs.Transfer.{Relights}
-use Rattle.lvm_quorum.specs.Written.{KeepsShelf}
+use Rattle.lvm_write.specs.Written.{KeepsShelf}
 use Rattle.lvm_core.specs.Looking.{IsNumberOf, HasNoVolume}
 use Rattle.lvm_core.specs.declared.request.Power.TheVariants as power
 use Rattle.lvm_core.specs.State.{Core, State as Session, state, is_there}
@@ -56,6 +56,16 @@ ends_session fault.HistoryFull = false
 ends_session (fault.DiskFailed disk) = false
 ends_session fault.Memory = false
 
+-- the reply to a command on a volume
+abbrev pub volume_reply : {X : Type 0} → Result X GroupFault → Reply
+volume_reply (Ok done) = reply.Ok
+volume_reply (Err why) = reply.Refused (refusal_for why)
+
+-- whether the session is over after it
+abbrev pub is_over : {X : Type 0} → Result X GroupFault → Bool
+is_over (Ok done) = false
+is_over (Err why) = ends_session why
+
 -- the session goes on
 pub record StaysOn (left : Session) (new : State) : Type 0 where
   pub device : new.moment.device ≡ left.device
@@ -86,7 +96,7 @@ pub record IsDone (Gives : Session → Session → Type 0) (IsNext : Core → De
   pub gives : Gives (state old.moment.device core) left
   pub leaves : IsLeft over left new
   pub finds : FindsOnly (IsNext core) (state old.moment.device core) (state new.moment.device left.core)
-  pub status : KeepsStatus NoPartition (IsPlace core) (state old.moment.device core) left
+  pub status : KeepsStatus (IsNext core) NoPartition (IsPlace core) (state old.moment.device core) left
   pub writes : KeepsShelf (is_there core) (IsOfCommand (IsNext core) (IsPlace core) (state old.moment.device core) left) old.moment.device left.device
   pub clock : new.last ≡ old.last
 

@@ -1,10 +1,9 @@
 //! The lines that read or write a range of a disk.
 ghost use Rattle.std.specs.Prelude.{◌≡◌, ◌≤◌, ◌<◌, ◌+◌, ◌^◌, length, IfOk, IfErr};
 ghost use Rattle.lvm_commands.specs.Disks.{WriteDoes, ReadDoes, refusal_by, write_reply, blocks_text};
-ghost use Rattle.lvm_commands.specs.Moments.{GoesOn};
+ghost use Rattle.lvm_commands.specs.Ends.{EndsUnasked};
 ghost use Rattle.lvm_commands.specs.Replies.{Shows};
-ghost use Rattle.lvm_commands.specs.Stages.{shelf_in, history_in, IsSettledStage, Between};
-ghost use Rattle.lvm_commands.specs.State.{without_facts};
+ghost use Rattle.lvm_commands.specs.Stages.{IsSettledStage};
 
 use crate::reply::{Refusal, Reply};
 use crate::stage::{Answered, Stage};
@@ -84,10 +83,7 @@ pub fn do_write<S: Shelf>(
     requires settled { IsSettledStage S.device stage }
     requires some { 1 ≤ count }
     requires most { count ≤ 4096 }
-    ensures does { Between S.device stage result.stage (λ old new. WriteDoes (without_facts (history_in stage)) disk at count word old new result.reply) }
-    ensures goes { Between S.device stage result.stage (GoesOn (history_in stage).run result.reply) }
-    ensures rooms { without_facts (history_in result.stage) ≡ without_facts (history_in stage) }
-    ensures orders { (S.device (shelf_in result.stage)).orders ≡ (S.device (shelf_in stage)).orders }
+    ensures { EndsUnasked S.device (λ log. WriteDoes log disk at count word) ⊥ stage result.stage result.reply }
 {
     match stage {
         Stage::On { driver } => Stage::On { driver }.refused(Refusal::GroupOn),
@@ -122,10 +118,7 @@ pub fn do_read<S: Shelf>(
     requires settled { IsSettledStage S.device stage }
     requires some { 1 ≤ count }
     requires most { count ≤ 4096 }
-    ensures does { Between S.device stage result.stage (λ old new. ReadDoes (without_facts (history_in stage)) disk at count old new result.reply) }
-    ensures goes { Between S.device stage result.stage (GoesOn (history_in stage).run result.reply) }
-    ensures rooms { without_facts (history_in result.stage) ≡ without_facts (history_in stage) }
-    ensures orders { (S.device (shelf_in result.stage)).orders ≡ (S.device (shelf_in stage)).orders }
+    ensures { EndsUnasked S.device (λ log. ReadDoes log disk at count) ⊥ stage result.stage result.reply }
 {
     match stage {
         Stage::On { driver } => Stage::On { driver }.refused(Refusal::GroupOn),

@@ -5,9 +5,8 @@ ghost use Rattle.lvm_num.specs.Descriptor.{is_size};
 ghost use Rattle.lvm_io.specs.Count.{next_count};
 ghost use Rattle.lvm_core.specs.Starting.{IsRoom};
 ghost use Rattle.lvm_commands.specs.Groups.{MkvgDoes, VaryonDoes, VaryoffDoes, IsLit, refusal_of};
-ghost use Rattle.lvm_commands.specs.Moments.{GoesOn};
-ghost use Rattle.lvm_commands.specs.Stages.{shelf_in, history_in, session_in, state_in, IsSettledStage, Between};
-ghost use Rattle.lvm_commands.specs.State.{without_facts};
+ghost use Rattle.lvm_commands.specs.Ends.{CommandEnds, EndsUnasked};
+ghost use Rattle.lvm_commands.specs.Stages.{shelf_in, history_in, session_in, IsSettledStage};
 
 use crate::reply::{Refusal, Reply};
 use crate::stage::{Answered, Stage};
@@ -90,10 +89,7 @@ pub fn do_mkvg<S: Shelf, C: Clock>(
     requires differ { AllPairs (λ a b. a ≢ b) disks.now }
     requires size { ForSome mib (λ given. IsTrue (is_size given)) }
     ensures asked { C.asked clock.new ≡ next_count (C.asked clock.old) }
-    ensures does { MkvgDoes (without_facts (history_in stage)) room force name mib disks.now (state_in S.device stage (C.last clock.old)) (state_in S.device result.stage (C.last clock.new)) result.reply }
-    ensures goes { GoesOn (history_in stage).run result.reply (state_in S.device stage (C.last clock.old)) (state_in S.device result.stage (C.last clock.new)) }
-    ensures rooms { without_facts (history_in result.stage) ≡ without_facts (history_in stage) }
-    ensures orders { (S.device (shelf_in result.stage)).orders ≡ (S.device (shelf_in stage)).orders }
+    ensures ends { CommandEnds S.device (λ log. MkvgDoes log room force name mib disks.now) ⊥ stage result.stage result.reply (C.last clock.old) (C.last clock.new) }
 {
     let moment = clock.now();
     match stage {
@@ -127,10 +123,7 @@ pub fn do_varyon<S: Shelf, C: Clock>(
     requires settled { IsSettledStage S.device stage }
     requires room { IsRoom room }
     ensures asked { C.asked clock.new ≡ next_count (C.asked clock.old) }
-    ensures does { VaryonDoes (without_facts (history_in stage)) room name (state_in S.device stage (C.last clock.old)) (state_in S.device result.stage (C.last clock.new)) result.reply }
-    ensures goes { GoesOn (history_in stage).run result.reply (state_in S.device stage (C.last clock.old)) (state_in S.device result.stage (C.last clock.new)) }
-    ensures rooms { without_facts (history_in result.stage) ≡ without_facts (history_in stage) }
-    ensures orders { (S.device (shelf_in result.stage)).orders ≡ (S.device (shelf_in stage)).orders }
+    ensures ends { CommandEnds S.device (λ log. VaryonDoes log room name) ⊥ stage result.stage result.reply (C.last clock.old) (C.last clock.new) }
 {
     let moment = clock.now();
     match stage {
@@ -145,10 +138,7 @@ pub fn do_varyon<S: Shelf, C: Clock>(
 /// Varies the group of the name off, if it is on.
 pub fn do_varyoff<S: Shelf>(stage: Stage<S>, name: Name) -> Answered<S>
     requires settled { IsSettledStage S.device stage }
-    ensures does { Between S.device stage result.stage (λ old new. VaryoffDoes name old new result.reply) }
-    ensures goes { Between S.device stage result.stage (GoesOn (history_in stage).run result.reply) }
-    ensures rooms { without_facts (history_in result.stage) ≡ without_facts (history_in stage) }
-    ensures orders { (S.device (shelf_in result.stage)).orders ≡ (S.device (shelf_in stage)).orders }
+    ensures { EndsUnasked S.device (λ _. VaryoffDoes name) ⊥ stage result.stage result.reply }
 {
     match stage {
         Stage::Off { shelf, history } => Stage::Off { shelf, history }.refused(Refusal::NoGroup),

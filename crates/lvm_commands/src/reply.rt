@@ -9,7 +9,7 @@ use lvm_replies::{Carried, show_refusal};
 use std::alloc::Global;
 
 /// Why a line was not carried out, or how it failed. Each has a number and a name of this project's own.
-#[derive(Clone, Copy, Debug, PartialEq, Eq, Drop)]
+#[derive(Clone, Copy, Drop)]
 pub enum Refusal {
     /// 1: the line is not in the language, or isn't done yet; the column counts bytes from 1.
     BadLine { column: u32 },
@@ -71,7 +71,7 @@ pub enum Refusal {
 }
 
 /// The answer to a line.
-#[derive(Debug, Drop)]
+#[derive(Drop)]
 pub enum Reply {
     /// Nothing: the line has no word, or is a remark.
     Silent,

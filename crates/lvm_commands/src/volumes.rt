@@ -1,14 +1,13 @@
 //! The lines that make or remove a volume.
-ghost use Rattle.std.specs.Prelude.{◌≡◌, ◌≤◌, ℕ, [], List, true, IsTrue, IsFalse};
+ghost use Rattle.std.specs.Prelude.{◌≡◌, ◌≤◌, ℕ, [], List, Err, true, IsTrue, IsFalse};
 ghost use Rattle.lvm_num.specs.declared.descriptor.Mode.TheVariants.{Off};
 ghost use Rattle.lvm_transfer.specs.Transfer.{Relights};
 ghost use Rattle.lvm_core.specs.State.{state};
 ghost use Rattle.lvm_core.specs.Looking.{IsNumberOf};
 ghost use Rattle.lvm_commands.specs.Listings.{IsOn};
-ghost use Rattle.lvm_commands.specs.Moments.{GoesOn};
-ghost use Rattle.lvm_commands.specs.Stages.{shelf_in, history_in, state_in, IsSettledStage, Between};
-ghost use Rattle.lvm_commands.specs.State.{without_facts};
-ghost use Rattle.lvm_commands.specs.Volumes.{MklvDoes, RmlvDoes, IsOver, ends_session, refusal_for, wanted};
+ghost use Rattle.lvm_commands.specs.Ends.{EndsUnasked};
+ghost use Rattle.lvm_commands.specs.Stages.{history_in, state_in, IsSettledStage};
+ghost use Rattle.lvm_commands.specs.Volumes.{MklvDoes, RmlvDoes, IsOver, ends_session, is_over, refusal_for, volume_reply, wanted};
 
 use crate::reply::{Refusal, Reply};
 use crate::stage::{Answered, Stage};
@@ -100,6 +99,21 @@ fn after<S: Shelf>(driver: Driver<S>, why: GroupFault) -> Stage<S>
     }
 }
 
+// Leaves a session as a command on a volume was answered.
+fn leave<S: Shelf, T: Copy>(driver: Driver<S>, done: Result<T, GroupFault>) -> Answered<S>
+    requires dark { done ≡ Err GroupFault.Dark → (S.device driver.0).flights ≡ [] }
+    requires lit { IsTrue (is_over done) → (done ≡ Err GroupFault.Dark → ⊥) → (S.device driver.0).power ≡ true }
+    ensures over { IsTrue (is_over done) → (last : ℕ) → IsOver (state (S.device driver.0) driver.1) (state_in S.device result.stage last) }
+    ensures on { IsFalse (is_over done) → result.stage ≡ Stage.On driver }
+    ensures history { history_in result.stage ≡ driver.1.history }
+    ensures reply { result.reply ≡ volume_reply done }
+{
+    match done {
+        Ok(_) => Stage::On { driver }.answered(Reply::Ok),
+        Err(why) => after(driver, why).refused(refusal_for(why)),
+    }
+}
+
 // Makes a volume of the group of a session.
 fn make_volume<S: Shelf>(
     alloc: Global,
@@ -113,14 +127,11 @@ fn make_volume<S: Shelf>(
     requires settled { IsSettledStage S.device (Stage.On driver) }
     requires some { 1 ≤ lps }
     requires off { mode ≡ Off }
-    ensures does { (group : List ℕ) → IsOn group driver.1 → Between S.device (Stage.On driver) result.stage (λ old new. MklvDoes (wanted name copies mode policy lps) group old new result.reply) }
-    ensures goes { Between S.device (Stage.On driver) result.stage (GoesOn driver.1.history.run result.reply) }
-    ensures rooms { without_facts (history_in result.stage) ≡ without_facts driver.1.history }
-    ensures orders { (S.device (shelf_in result.stage)).orders ≡ (S.device driver.0).orders }
+    ensures { (group : List ℕ) → IsOn group driver.1 → EndsUnasked S.device (λ _. MklvDoes (wanted name copies mode policy lps) group) ⊥ (Stage.On driver) result.stage result.reply }
 {
     let mut driver = driver;
     let mut patience = Patience::whole();
-    match mklv(
+    let made = mklv(
         alloc,
         &mut driver,
         name,
@@ -129,26 +140,19 @@ fn make_volume<S: Shelf>(
         policy,
         lps,
         &mut patience,
-    ) {
-        Ok(_) => Stage::On { driver }.answered(Reply::Ok),
-        Err(why) => after(driver, why).refused(refusal_for(why)),
-    }
+    );
+    leave(driver, made)
 }
 
 // Removes a volume of the group of a session.
 fn remove_volume<S: Shelf>(alloc: Global, driver: Driver<S>, lv: u16) -> Answered<S>
     requires settled { IsSettledStage S.device (Stage.On driver) }
-    ensures does { (name : List ℕ) → IsNumberOf driver.1.descriptor.lvs name lv → Between S.device (Stage.On driver) result.stage (λ old new. RmlvDoes name old new result.reply) }
-    ensures goes { Between S.device (Stage.On driver) result.stage (GoesOn driver.1.history.run result.reply) }
-    ensures rooms { without_facts (history_in result.stage) ≡ without_facts driver.1.history }
-    ensures orders { (S.device (shelf_in result.stage)).orders ≡ (S.device driver.0).orders }
+    ensures { (name : List ℕ) → IsNumberOf driver.1.descriptor.lvs name lv → EndsUnasked S.device (λ _. RmlvDoes name) ⊥ (Stage.On driver) result.stage result.reply }
 {
     let mut driver = driver;
     let mut patience = Patience::whole();
-    match rmlv(alloc, &mut driver, lv, &mut patience) {
-        Ok(()) => Stage::On { driver }.answered(Reply::Ok),
-        Err(fault) => after(driver, fault).refused(refusal_for(fault)),
-    }
+    let removed = rmlv(alloc, &mut driver, lv, &mut patience);
+    leave(driver, removed)
 }
 
 /// Makes a volume in a group, if that is on.
@@ -165,10 +169,7 @@ pub fn do_mklv<S: Shelf>(
     requires settled { IsSettledStage S.device stage }
     requires some { 1 ≤ lps }
     requires off { mode ≡ Off }
-    ensures does { Between S.device stage result.stage (λ old new. MklvDoes (wanted name copies mode policy lps) group old new result.reply) }
-    ensures goes { Between S.device stage result.stage (GoesOn (history_in stage).run result.reply) }
-    ensures rooms { without_facts (history_in result.stage) ≡ without_facts (history_in stage) }
-    ensures orders { (S.device (shelf_in result.stage)).orders ≡ (S.device (shelf_in stage)).orders }
+    ensures { EndsUnasked S.device (λ _. MklvDoes (wanted name copies mode policy lps) group) ⊥ stage result.stage result.reply }
 {
     match stage {
         Stage::Off { shelf, history } => Stage::Off { shelf, history }.refused(Refusal::NoGroup),
@@ -185,10 +186,7 @@ pub fn do_mklv<S: Shelf>(
 /// Removes the volume of the name from the group that is on.
 pub fn do_rmlv<S: Shelf>(alloc: Global, stage: Stage<S>, name: Name) -> Answered<S>
     requires settled { IsSettledStage S.device stage }
-    ensures does { Between S.device stage result.stage (λ old new. RmlvDoes name old new result.reply) }
-    ensures goes { Between S.device stage result.stage (GoesOn (history_in stage).run result.reply) }
-    ensures rooms { without_facts (history_in result.stage) ≡ without_facts (history_in stage) }
-    ensures orders { (S.device (shelf_in result.stage)).orders ≡ (S.device (shelf_in stage)).orders }
+    ensures { EndsUnasked S.device (λ _. RmlvDoes name) ⊥ stage result.stage result.reply }
 {
     match stage {
         Stage::Off { shelf, history } => Stage::Off { shelf, history }.refused(Refusal::NoGroup),

@@ -17,11 +17,11 @@ use Rattle.lvm_kept.specs.Plans.{Plan, ChangesBy}
 use Rattle.lvm_kept.specs.Torn.{RecordWrite}
 use Rattle.lvm_status.specs.Update.{Stored}
 use Rattle.lvm_steps.proofs.Booleans.{either, clash}
-use Rattle.lvm_quorum.specs.declared.homes.Homes.{Homes}
-use Rattle.lvm_quorum.specs.Parts.{Spends}
-use Rattle.lvm_quorum.specs.Written.{KeepsShelf}
-use Rattle.lvm_quorum.proofs.Transfers.{keeps_then, spends_then}
-use Rattle.lvm_quorum.proofs.Writing.{logs_wider, both_map, changes_more}
+use Rattle.lvm_write.specs.declared.homes.Homes.{Homes}
+use Rattle.lvm_write.specs.Parts.{Spends}
+use Rattle.lvm_write.specs.Written.{KeepsShelf}
+use Rattle.lvm_write.proofs.Transfers.{keeps_then, spends_then}
+use Rattle.lvm_write.proofs.Writing.{logs_wider, both_map, changes_more}
 use Rattle.lvm_commit.specs.Settling.{there, OnlyLoses, HasLostQuorum, SpendsNumbers, ComesBack}
 use Rattle.lvm_commit.specs.Rounds.{WasTried}
 

@@ -9,6 +9,7 @@ use Rattle.lvm_num.specs.Descriptor.{IsValid, is_member}
 use Rattle.lvm_num.specs.DescriptorBytes.{descriptor_of}
 use Rattle.lvm_num.specs.Record.{Frames}
 use Rattle.lvm_num.specs.Status.{calls_missing}
+use Rattle.lvm_num.specs.Votes.{CanWrite}
 use Rattle.lvm_vol.specs.Facts.{Fact}
 use Rattle.lvm_disk.specs.Device.{Media, Device, image_of, HasSectors}
 use Rattle.lvm_disk.specs.Steps.{BothTold}
@@ -21,18 +22,18 @@ use Rattle.lvm_status.specs.Update.{Stored}
 use Rattle.lvm_steps.specs.Moments.{ImagesKept, StaysKept}
 use Rattle.lvm_steps.proofs.Booleans.{clash}
 use Rattle.lvm_steps.proofs.Making.{media_may}
-use Rattle.lvm_quorum.specs.declared.homes.Homes.{Homes}
-use Rattle.lvm_quorum.specs.Written.{KeepsShelf, IsDarkened, IsGivenUp}
-use Rattle.lvm_quorum.specs.Parts.{Spends}
-use Rattle.lvm_quorum.proofs.Transfers.{keeps_then, spends_then, darkened_then, given_up_then}
-use Rattle.lvm_quorum.proofs.Writing.{told_at, both_map, both_then}
-use Rattle.lvm_commit.specs.declared.commit.Settled.{Settled}
-use Rattle.lvm_commit.specs.declared.commit.Settled.TheVariants as settled
+use Rattle.lvm_write.specs.declared.homes.Homes.{Homes}
+use Rattle.lvm_write.specs.Written.{KeepsShelf, IsDarkened, IsGivenUp}
+use Rattle.lvm_write.specs.Parts.{Spends}
+use Rattle.lvm_write.proofs.Transfers.{keeps_then, spends_then, darkened_then, given_up_then}
+use Rattle.lvm_write.proofs.Writing.{told_at, both_map, both_then}
+use Rattle.lvm_commit.specs.declared.commit.CommitEnd.{CommitEnd}
+use Rattle.lvm_commit.specs.declared.commit.CommitEnd.TheVariants as commit_end
 use Rattle.lvm_commit.specs.Committed.{next_stamp, IsAlike}
 use Rattle.lvm_commit.specs.LawsOfVolumes.{VolumeServes, LeavesOthers}
 use Rattle.lvm_commit.specs.LawsOfFinding.{FindsNoMore, FindsNoMoreOn}
 use Rattle.lvm_commit.proofs.Leaving.{wants_marks, round_left, left_then}
-use Rattle.lvm_commit.specs.Settling.{EndsAtOnce, MarksLeft, there, IsOf, SessionIsHeld, WantsMarks, OthersAreLeft, OnlyLoses, HasLostQuorum, SpendsNumbers, IsOfStatus, IsOfCommit, IsOneRecord, StatusStaysKept, DescriptorStaysKept, StatusFindsNothingNew, StaysHeld, CommitLeaves, ComesBack, StatusEnds, DescriptorEnds}
+use Rattle.lvm_commit.specs.Settling.{EndsAtOnce, StaysCommitted, MarksLeft, there, IsOf, SessionIsHeld, WantsMarks, OthersAreLeft, OnlyLoses, HasLostQuorum, SpendsNumbers, IsOfStatus, IsOfCommit, IsOneRecord, StatusStaysKept, DescriptorStaysKept, StatusFindsNothingNew, StaysHeld, CommitLeaves, ComesBack, StatusEnds, DescriptorEnds}
 use Rattle.lvm_commit.specs.Rounds.{MarksRound, stamped, session_write, WasTried, RecordGives}
 use Rattle.lvm_commit.proofs.Chaining.{Goes, path_counts, keeps_wider, loses_less, loses_then, not_there, record_returns, returns_then, lost_quorum_then, spends_numbers_then}
 use Rattle.lvm_commit.proofs.Round.{none_or_some, failed_is_missing, was_there_on}
@@ -43,17 +44,17 @@ use Rattle.lvm_commit.proofs.HoldingDescriptor.{descriptor_holds}
 use Rattle.lvm_commit.proofs.Describing.{describes, stamp_is, is_of_commit, descriptor_finds, descriptor_kept}
 
 -- it ended at once, and all is as it was
-at_once : (r : Settled) (Same : Type 0) → EndsAtOnce r Same → Same
-at_once (settled.Done buf) Same is = is
-at_once (settled.WentOff have total buf) Same is = absurd is
-at_once settled.Dark Same is = absurd is
-at_once settled.Stuck Same is = absurd is
+at_once : (r : CommitEnd) (Same : Type 0) → EndsAtOnce r Same → Same
+at_once (commit_end.Done buf) Same is = is
+at_once (commit_end.WentOff have total buf) Same is = absurd is
+at_once commit_end.Dark Same is = absurd is
+at_once commit_end.Stuck Same is = absurd is
 
-pub ends_map : (r : Settled) (Same Other : Type 0) → (Same → Other) → EndsAtOnce r Same → EndsAtOnce r Other
-ends_map (settled.Done buf) Same Other more is = more is
-ends_map (settled.WentOff have total buf) Same Other more is = is
-ends_map settled.Dark Same Other more is = is
-ends_map settled.Stuck Same Other more is = is
+pub ends_map : (r : CommitEnd) (Same Other : Type 0) → (Same → Other) → EndsAtOnce r Same → EndsAtOnce r Other
+ends_map (commit_end.Done buf) Same Other more is = more is
+ends_map (commit_end.WentOff have total buf) Same Other more is = is
+ends_map commit_end.Dark Same Other more is = is
+ends_map commit_end.Stuck Same Other more is = is
 
 -- a result is of one value
 same_ok : {E : Type 0} (a b : Descriptor) (r : Result Descriptor E) → r ≡ Ok a → r ≡ Ok b → a ≡ b
@@ -68,10 +69,10 @@ leaves_others_on id next old new R own both finds =
     (told_at old.media (λ media. FindsNoMore next (contents_of (image_of old.sizes media)) (contents_of (image_of new.sizes is))) was told_was (finds (image_of new.sizes is) (media_may new is told_is)) other k found))
 
 -- A descriptor was written, and then what was wanted of the status was committed.
-pub record Described (d : Descriptor) (first mid last : Stored) (homes after final : Homes) (old m new : Device) (content : List ℕ) (number p q : ℕ) (buf : Buffer) (r : Settled) : Type 0 where
+pub record Described (d : Descriptor) (first mid last : Stored) (homes after final : Homes) (old m new : Device) (content : List ℕ) (number p q : ℕ) (buf : Buffer) (r : CommitEnd) : Type 0 where
   pub sectors : HasSectors old
   pub frames : Frames kind.Descriptor (record { stamp = next_stamp first.stamp; content = content })
-  pub gives : RecordGives (session_write kind.Descriptor content (stamped first) homes) number p q (stamped first) mid homes after old m (settled.Done buf)
+  pub gives : RecordGives (session_write kind.Descriptor content (stamped first) homes) number p q (stamped first) mid homes after old m (commit_end.Done buf)
   pub was_settled : first.committed ≡ first.wanted
   pub committed : mid.committed ≡ first.committed
   pub loses : OnlyLoses mid last m new
@@ -83,7 +84,7 @@ pub record Described (d : Descriptor) (first mid last : Stored) (homes after fin
   pub left : MarksLeft d mid last
   pub unwritten : mid.wanted ≡ mid.committed → EndsAtOnce r ((new ≡ m) × (last ≡ mid))
 
-module _ (d : Descriptor) (first mid last : Stored) (homes after final : Homes) (old m new : Device) (content : List ℕ) (number p q : ℕ) (buf : Buffer) (r : Settled) (k : Described d first mid last homes after final old m new content number p q buf r) where
+module _ (d : Descriptor) (first mid last : Stored) (homes after final : Homes) (old m new : Device) (content : List ℕ) (number p q : ℕ) (buf : Buffer) (r : CommitEnd) (k : Described d first mid last homes after final old m new content number p q buf r) where
   abbrev w : RecordWrite
   w = session_write kind.Descriptor content (stamped first) homes
 
@@ -91,10 +92,10 @@ module _ (d : Descriptor) (first mid last : Stored) (homes after final : Homes) 
   tried = k.gives.how.0
 
   one : Goes (IsOfRecord w) p q first mid old m
-  one = describes first mid homes after old m content number p q (settled.Done buf) k.gives
+  one = describes first mid homes after old m content number p q (commit_end.Done buf) k.gives
 
   stamp : mid.stamp ≡ next_stamp first.stamp
-  stamp = stamp_is first mid homes after old m content number p q (settled.Done buf) k.gives
+  stamp = stamp_is first mid homes after old m content number p q (commit_end.Done buf) k.gives
 
   -- ---- who is missing
 
@@ -122,6 +123,25 @@ module _ (d : Descriptor) (first mid last : Stored) (homes after final : Homes) 
 
   commit_off : (have total : ℕ) → HasLostQuorum mid last m new have total → HasLostQuorum first last old new have total
   commit_off have total lost = lost_quorum_then first mid last old m new have total one.loses one.rises lost
+
+  commit_committed : StaysCommitted mid last m new → StaysCommitted first last old new
+  commit_committed stays = ⊎_elim
+      (λ same. inl (same ∙ k.committed))
+      (λ came. inr (record {
+        write = came.write;
+        kind = came.kind;
+        content = came.content;
+        epoch = came.epoch ∙ ap (λ (s : Stamp). s.epoch) stamp;
+        later = (let l = came.later in let seq = ap (λ (s : Stamp). s.seq) stamp in omega (arith, l, seq));
+        earlier = came.earlier;
+        members = came.members;
+        votes = subst (λ (g : Descriptor). CanWrite g came.members) one.loses.group came.votes;
+        moment = came.moment;
+        before = append-path (map-path (λ d. Unit {0}) (λ d is. tt) k.gives.leaves.moments) came.before;
+        after = came.after;
+        stands = came.stands;
+      }))
+      stays
 
   commit_numbers : SpendsNumbers 1 mid last → SpendsNumbers 1 first last
   commit_numbers spends = ⊎_elim
@@ -167,7 +187,7 @@ module _ (d : Descriptor) (first mid last : Stored) (homes after final : Homes) 
   commit_keeps rises =
       let seq : mid.stamp.seq ≡ first.stamp.seq + 1 = ap (λ (s : Stamp). s.seq) stamp in
       keeps_then (there first) (IsOfCommit content first last) old m new
-      (keeps_wider (there first) (there first) (IsOfRecord w) (IsOfCommit content first last) old m (λ d off. off) (is_of_commit first mid homes after old m content number p q (settled.Done buf) k.gives k.sectors k.frames last rises) one.keeps)
+      (keeps_wider (there first) (there first) (IsOfRecord w) (IsOfCommit content first last) old m (λ d off. off) (is_of_commit first mid homes after old m content number p q (commit_end.Done buf) k.gives k.sectors k.frames last rises) one.keeps)
       (keeps_wider (there mid) (there first) (IsOfStatus mid last) (IsOfCommit content first last) m new (not_there first mid (loses_less first mid old m one.loses)) (of_status (omega (arith, seq))) k.keeps)
 
   both : BothTold old.media new.media (λ was is. Unit {0})
@@ -194,7 +214,7 @@ module _ (d : Descriptor) (first mid last : Stored) (homes after final : Homes) 
 
     pub commit_finds : StatusFindsNothingNew mid after m new → FindsNoMoreOn next old new
     commit_finds finds = then_no_more old m new (λ was is. ChangesBy (IsOfRecord w) (image_of old.sizes was) (image_of m.sizes is)) one.keeps.media (finds next next_is_of next_held) next
-        (descriptor_finds first mid homes after old m content number p q (settled.Done buf) k.gives k.sectors k.frames group next reads held)
+        (descriptor_finds first mid homes after old m content number p q (commit_end.Done buf) k.gives k.sectors k.frames group next reads held)
 
     commit_held : StatusFindsNothingNew mid after m new → StaysHeld mid last after final m new → SessionIsHeld new next last final × OthersAreLeft group.id old new
     commit_held finds stays = (
@@ -216,22 +236,23 @@ module _ (d : Descriptor) (first mid last : Stored) (homes after final : Homes) 
   pub commit_ends : StatusFindsNothingNew mid after m new → StatusEnds buf.number q mid last after final m new r → DescriptorEnds content number p first last homes final old new r
   commit_ends finds ends = by_end r ends_or_loses ends
     where
-      by_end : (r : Settled) → (EndsAtOnce r ((new ≡ m) × (last ≡ mid)) × (mid.wanted ≡ first.wanted)) ⊎ ((d : ℕ) × IsTrue (there first d) × IsTrue (calls_missing mid.wanted d)) → StatusEnds buf.number q mid last after final m new r
+      by_end : (r : CommitEnd) → (EndsAtOnce r ((new ≡ m) × (last ≡ mid)) × (mid.wanted ≡ first.wanted)) ⊎ ((d : ℕ) × IsTrue (there first d) × IsTrue (calls_missing mid.wanted d)) → StatusEnds buf.number q mid last after final m new r
           → DescriptorEnds content number p first last homes final old new r
-      by_end (settled.Done back) either is = record {
+      by_end (commit_end.Done back) either is = record {
         back = returns_then number mid last old m new buf back (loses_less mid last m new k.loses) returns is.back;
         committed = is.committed;
         held = λ group next reads own alike held. commit_held group next reads own alike held finds is.held;
         plain = commit_plain;
       }
-      by_end (settled.WentOff have total back) (inl none) is = absurd none.0
-      by_end (settled.WentOff have total back) (inr some) is = record {
+      by_end (commit_end.WentOff have total back) (inl none) is = absurd none.0
+      by_end (commit_end.WentOff have total back) (inr some) is = record {
         back = returns_then number mid last old m new buf back (loses_less mid last m new k.loses) returns is.back;
         lost = commit_off have total is.lost;
         spent = spends_numbers_then 0 0 first mid last (spends_none first mid old m one.loses stamp some.0 some.1 some.2) is.spent;
+        committed = commit_committed is.committed;
       }
-      by_end settled.Dark either is = commit_dark is
-      by_end settled.Stuck either is = commit_stuck is
+      by_end commit_end.Dark either is = (commit_dark is.0, commit_committed is.1)
+      by_end commit_end.Stuck either is = (commit_stuck is.0, commit_committed is.1)
 
   -- ---- each moment
 
@@ -240,7 +261,7 @@ module _ (d : Descriptor) (first mid last : Stored) (homes after final : Homes) 
       → IfSome old.media (λ media. VolumeServes (contents_of (image_of old.sizes media)) facts group lv next) → ImagesKept old facts → ImagesKept d facts
 
   described_kept : DescriptorStaysKept content first homes old m
-  described_kept = descriptor_kept first mid homes after old m content number p q (settled.Done buf) k.gives k.sectors k.frames
+  described_kept = descriptor_kept first mid homes after old m content number p q (commit_end.Done buf) k.gives k.sectors k.frames
 
   then_kept : (e : Device) → (WantsMarks m d mid → SessionIsHeld m d mid after → StaysKept m e) × (is_some e.media ≡ is_some m.media) → CommitStays e
   then_kept e is group next lv facts reads own held serves was image may =

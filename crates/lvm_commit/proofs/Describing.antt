@@ -14,15 +14,15 @@ use Rattle.lvm_kept.specs.Contents.{contents_of}
 use Rattle.lvm_kept.specs.Torn.{RecordWrite, IsOfRecord}
 use Rattle.lvm_status.specs.Update.{Stored}
 use Rattle.lvm_steps.specs.Moments.{ImagesKept}
-use Rattle.lvm_quorum.specs.declared.homes.Homes.{Homes}
-use Rattle.lvm_quorum.specs.Homes.{second_slots}
-use Rattle.lvm_commit.specs.declared.commit.Settled.{Settled}
-use Rattle.lvm_commit.specs.declared.commit.Settled.TheVariants as settled
+use Rattle.lvm_write.specs.declared.homes.Homes.{Homes}
+use Rattle.lvm_write.specs.Homes.{second_slots}
+use Rattle.lvm_commit.specs.declared.commit.CommitEnd.{CommitEnd}
+use Rattle.lvm_commit.specs.declared.commit.CommitEnd.TheVariants as commit_end
 use Rattle.lvm_commit.specs.Committed.{next_stamp}
 use Rattle.lvm_commit.specs.LawsOfVolumes.{VolumeServes}
 use Rattle.lvm_commit.specs.LawsOfFinding.{FindsNoMoreOn}
 use Rattle.lvm_commit.specs.Settling.{there, IsOf, SessionIsHeld, IsOfCommit, DescriptorStaysKept, DescriptorEnds}
-use Rattle.lvm_commit.specs.Rounds.{stamped, session_write, HowRecord, RecordGives}
+use Rattle.lvm_commit.specs.Rounds.{CommitsRound, stamped, session_write, HowRecord, RecordGives}
 use Rattle.lvm_commit.proofs.Chaining.{Goes, goes_from, record_returns}
 use Rattle.lvm_commit.proofs.Round.{record_goes, quorum_lost, some_failed, failed_is_missing, was_there_on}
 use Rattle.lvm_commit.proofs.Ready.{spends_none}
@@ -30,7 +30,7 @@ use Rattle.lvm_commit.proofs.Writes.{slot_two}
 use Rattle.lvm_commit.proofs.Holding.{with_told}
 use Rattle.lvm_commit.proofs.HoldingDescriptor.{descriptor_moment_kept, descriptor_moment_finds}
 
-module _ (first mid : Stored) (homes after : Homes) (old m : Device) (content : List ℕ) (number p q : ℕ) (r : Settled)
+module _ (first mid : Stored) (homes after : Homes) (old m : Device) (content : List ℕ) (number p q : ℕ) (r : CommitEnd)
     (gives : RecordGives (session_write kind.Descriptor content (stamped first) homes) number p q (stamped first) mid homes after old m r) where
   abbrev w : RecordWrite
   w = session_write kind.Descriptor content (stamped first) homes
@@ -41,21 +41,21 @@ module _ (first mid : Stored) (homes after : Homes) (old m : Device) (content : 
   pub stamp_is : mid.stamp ≡ next_stamp first.stamp
   stamp_is = by_end r gives.how
     where
-      by_end : (r : Settled) → HowRecord w number p (stamped first) mid homes after old m r → mid.stamp ≡ next_stamp first.stamp
-      by_end (settled.Done buf) how = how.0.stamp
-      by_end (settled.WentOff have total buf) how = how.0.stamp
-      by_end settled.Dark how = how.1.stamp
-      by_end settled.Stuck how = how.1.stamp
+      by_end : (r : CommitEnd) → HowRecord w number p (stamped first) mid homes after old m r → mid.stamp ≡ next_stamp first.stamp
+      by_end (commit_end.Done buf) how = how.0.stamp
+      by_end (commit_end.WentOff have total buf) how = how.0.stamp
+      by_end commit_end.Dark how = how.1.stamp
+      by_end commit_end.Stuck how = how.1.stamp
 
   -- ---- at its end
 
   -- not all of it was committed
-  pub descriptor_ends : CanWrite first.group (there first) → ((buf : Buffer) → r ≡ settled.Done buf → ⊥) → DescriptorEnds content number p first mid homes after old m r
-  descriptor_ends enough never = by_end r never gives.how
+  pub descriptor_ends : CanWrite first.group (there first) → ((buf : Buffer) → r ≡ commit_end.Done buf → ⊥) → CommitsRound first.committed first mid r → DescriptorEnds content number p first mid homes after old m r
+  descriptor_ends enough never commits = by_end r never commits gives.how
     where
-      by_end : (r : Settled) → ((buf : Buffer) → r ≡ settled.Done buf → ⊥) → HowRecord w number p (stamped first) mid homes after old m r → DescriptorEnds content number p first mid homes after old m r
-      by_end (settled.Done buf) never how = absurd (never buf refl)
-      by_end (settled.WentOff have total buf) never how =
+      by_end : (r : CommitEnd) → ((buf : Buffer) → r ≡ commit_end.Done buf → ⊥) → CommitsRound first.committed first mid r → HowRecord w number p (stamped first) mid homes after old m r → DescriptorEnds content number p first mid homes after old m r
+      by_end (commit_end.Done buf) never same how = absurd (never buf refl)
+      by_end (commit_end.WentOff have total buf) never same how =
           let lost = quorum_lost w number (stamped first) mid homes after old m refl buf how.0 enough have total how.1 in
           let some = some_failed w number (stamped first) mid homes after old m refl buf how.0 enough have total how.1 in
           record {
@@ -63,9 +63,10 @@ module _ (first mid : Stored) (homes after : Homes) (old m : Device) (content : 
             lost = record { have_is = lost.have_is; total_is = lost.total_is; few = lost.few; disk = lost.disk; was = lost.was; failed = lost.failed };
             spent = spends_none first mid old m describes.loses stamp_is some.0 (was_there_on w number (stamped first) mid homes after old m refl buf how.0 some.0 some.1)
                 (failed_is_missing w number (stamped first) mid homes after old m refl buf how.0 some.0 some.1);
+            committed = inl same;
           }
-      by_end settled.Dark never how = how.0
-      by_end settled.Stuck never how = how.0
+      by_end commit_end.Dark never same how = (how.0, inl same)
+      by_end commit_end.Stuck never same how = (how.0, inl same)
 
   module _ (sectors : HasSectors old) (frames : Frames kind.Descriptor (record { stamp = next_stamp first.stamp; content = content })) where
     -- ---- what it brings

@@ -4,6 +4,7 @@ use Rattle.std.specs.Prelude.{◌==◌, if◌then◌else◌, unwrap_or}
 use Rattle.std.proofs.lemmas.Bool.{eq-eqb, eqb-true, false≢true}
 use Rattle.std.proofs.lemmas.List.Folds.{Any-from_list_any}
 use Rattle.lvm_num.specs.declared.descriptor.PvRow.{PvRow}
+use Rattle.lvm_num.specs.declared.descriptor.Descriptor.{Descriptor}
 use Rattle.lvm_num.specs.declared.status.Status.{Status}
 use Rattle.lvm_num.specs.Descriptor.{is_member}
 use Rattle.lvm_num.specs.Disks.{Disks}
@@ -14,7 +15,8 @@ use Rattle.lvm_status.specs.Update.{Updates, no_disks, without_disk, is_there, i
 use Rattle.lvm_status.specs.Calls.{WantsAtEnd, closed, comes_held, with_start, with_end, with_commit, after_end}
 use Rattle.lvm_status.specs.Runs.{NextWrite, Ended, IsSound}
 use Rattle.lvm_status.proofs.Disks.{no_is_false}
-use Rattle.lvm_status.proofs.Sound.{and_left, and_right, not_false, or_left, neither, none_held, owed_at, steps_stay_sound}
+use Rattle.lvm_status.proofs.Sessions.{without_update, closed_cases, commit_cases}
+use Rattle.lvm_status.proofs.Sound.{and_left, and_right, or_left, neither, none_held, owed_at, steps_stay_sound}
 use Rattle.lvm_commit.specs.Rounds.{Misses}
 use Rattle.lvm_commit.proofs.Losing.{misses_none, misses_same, misses_more}
 
@@ -32,16 +34,6 @@ record EndsAs (t : Status) (v : Updates) (disk : ℕ) (x : Updates) : Type 0 whe
   started : (d : ℕ) → (x.started d ≡ without_disk v.started disk d) ⊎ (x.started d ≡ false)
   flown : (x.in_flight ≡ Some t) ⊎ ((x.in_flight ≡ None) × (x.committed ≡ t))
   held : is_held x ≡ true → x.in_flight ≡ Some x.committed
-
-abbrev pub without_update : Updates → Updates
-without_update u = record u { in_flight = None; unstarted = no_disks; started = no_disks; written = no_disks; failed = no_disks }
-
-pub closed_cases : (P : Updates → Type 0) (m : Updates) → (is_held m ≡ true → is_owed m ≡ false → P (without_update m)) → P m → P (closed m)
-closed_cases P m ends stays = by_test (is_held m && not (is_owed m)) refl
-  where
-    by_test : (b : Bool) → is_held m && not (is_owed m) ≡ b → P (if b then without_update m else m)
-    by_test true e = ends (and_left (is_held m) (not (is_owed m)) e) (not_false (is_owed m) (and_right (is_held m) (not (is_owed m)) e))
-    by_test false e = stays
 
 none_owed : (m : Updates) → is_owed m ≡ false → ((d : ℕ) → m.unstarted d ≡ true → is_member m.group d ≡ true) → (d : ℕ) → m.unstarted d ≡ false
 none_owed m none members d =
@@ -87,12 +79,10 @@ commits_as t v n disk group stamp unstarted started flies committed held false e
 }
 
 flies_still : (t : Status) (n : Updates) → n.in_flight ≡ Some t → (b : Bool) → (if b then with_commit n else n).in_flight ≡ Some t
-flies_still t n flies true = flies
-flies_still t n flies false = flies
+flies_still t n flies b = commit_cases (λ m. m.in_flight ≡ Some t) n b flies flies
 
 members_still : (n : Updates) → ((d : ℕ) → n.unstarted d ≡ true → is_member n.group d ≡ true) → (b : Bool) → (d : ℕ) → (if b then with_commit n else n).unstarted d ≡ true → is_member (if b then with_commit n else n).group d ≡ true
-members_still n members true = members
-members_still n members false = members
+members_still n members b = commit_cases (λ m. (d : ℕ) → m.unstarted d ≡ true → is_member m.group d ≡ true) n b members members
 
 end_is : (t : Status) (v : Updates) (disk : ℕ) (ok : Bool) (w : Status) → v.in_flight ≡ Some t → (is_held v ≡ true → v.committed ≡ t) → ((d : ℕ) → v.unstarted d ≡ true → is_member v.group d ≡ true) → EndsAs t v disk (after_end v disk ok w)
 end_is t v disk true w flies held members =
@@ -118,7 +108,54 @@ end_committing : (t : Status) (v : Updates) (disk : ℕ) (ok : Bool) (w : Status
 end_committing t v disk true w flies = commits_committing t (with_end v disk true w) flies (comes_held v (with_end v disk true w))
 end_committing t v disk false w flies = commits_committing t (with_end v disk false w) flies (comes_held v (with_end v disk false w))
 
+-- ---- which disks have it, and what is committed
+
+-- a disk has the update only where it had it before this write ended
+after_written : (v : Updates) (disk : ℕ) (ok : Bool) (w : Status) (d : ℕ) → (after_end v disk ok w).written d ≡ true → (with_end v disk ok w).written d ≡ true
+after_written v disk ok w d = commit_cases (λ m. (closed m).written d ≡ true → n.written d ≡ true) n (comes_held v n) (once_closed (with_commit n)) (once_closed n)
+  where
+    n : Updates
+    n = with_end v disk ok w
+
+    once_closed : (m : Updates) → (closed m).written d ≡ true → m.written d ≡ true
+    once_closed m = closed_cases (λ (x : Updates). x.written d ≡ true → m.written d ≡ true) m (λ held none is. absurd (false≢true is)) (λ is. is)
+
+-- it had it, or this write ended well
+end_written : (v : Updates) (disk : ℕ) (ok : Bool) (w : Status) (d : ℕ) → (with_end v disk ok w).written d ≡ true → (v.written d ≡ true) ⊎ ((ok ≡ true) × ((d == disk) ≡ true))
+end_written v disk false w d is = inl is
+end_written v disk true w d is = by_test (v.written d) (d == disk) is
+  where
+    by_test : (a b : Bool) → a || b ≡ true → (a ≡ true) ⊎ ((true ≡ true) × (b ≡ true))
+    by_test true b is = inl refl
+    by_test false b is = inr (refl, is)
+
+-- what is committed stays, or the disks that have the update have votes enough
+after_committed : (v : Updates) (disk : ℕ) (ok : Bool) (w : Status) → ((after_end v disk ok w).committed ≡ v.committed) ⊎ (is_held (with_end v disk ok w) ≡ true)
+after_committed v disk ok w = by_commit (with_end v disk ok w) (same ok) (comes_held v (with_end v disk ok w)) refl
+  where
+    same : (b : Bool) → (with_end v disk b w).committed ≡ v.committed
+    same true = refl
+    same false = refl
+
+    by_commit : (n : Updates) → n.committed ≡ v.committed → (b : Bool) → not (is_held v) && is_held n ≡ b → ((closed (if b then with_commit n else n)).committed ≡ v.committed) ⊎ (is_held n ≡ true)
+    by_commit n is true e = inr (and_right (not (is_held v)) (is_held n) e)
+    by_commit n is false e = inl (closed_cases (λ m. m.committed ≡ v.committed) n (λ held none. is) is)
+
+-- disks among which are all that have the update have votes enough where those do
+held_within : (n : Updates) (group : Descriptor) (disks : Disks) → n.group ≡ group → ((d : ℕ) → n.written d ≡ true → disks d ≡ true) → is_held n ≡ true → CanWrite group disks
+held_within n group disks same within held = subst (λ (g : Descriptor). CanWrite g disks) same
+    (more_is_enough.write n.group (votes_in n.group n.written) (votes_in n.group disks) (more_have_more n.group n.written disks (λ d member here. within d here)) held)
+
+end_within : (v : Updates) (disk : ℕ) (ok : Bool) (w : Status) (group : Descriptor) (disks : Disks) → v.group ≡ group → ((d : ℕ) → (with_end v disk ok w).written d ≡ true → disks d ≡ true) → is_held (with_end v disk ok w) ≡ true
+    → CanWrite group disks
+end_within v disk true w group disks same within held = held_within (with_end v disk true w) group disks same within held
+end_within v disk false w group disks same within held = held_within (with_end v disk false w) group disks same within held
+
 -- ---- all of them
+
+-- the members on which it doesn't fail
+abbrev pub well_on : Updates → Disks → Disks
+well_on first failed d = is_there first d && not (failed d)
 
 -- Some of the writes have ended: those of disks that are still unstarted haven't.
 pub record IsEnding (first : Updates) (failed : Disks) (u : Updates) : Type 0 where
@@ -130,6 +167,8 @@ pub record IsEnding (first : Updates) (failed : Disks) (u : Updates) : Type 0 wh
   pub flown : (u.in_flight ≡ Some first.wanted) ⊎ ((u.in_flight ≡ None) × (u.committed ≡ first.wanted))
   pub held : is_held u ≡ true → u.in_flight ≡ Some u.committed
   pub wanted : Misses (λ d. is_there first d && failed d && not (u.unstarted d)) first.wanted u.wanted
+  pub wrote : (d : ℕ) → u.written d ≡ true → well_on first failed d ≡ true
+  pub committed : (u.committed ≡ first.committed) ⊎ CanWrite first.group (well_on first failed)
 
 module _ (first : Updates) (failed : Disks) where
   abbrev gone : Updates → Disks
@@ -157,6 +196,8 @@ module _ (first : Updates) (failed : Disks) where
         flown = inl flies;
         held = λ is. absurd (false≢true (sym none ∙ is));
         wanted = misses_none (gone first) first.wanted (λ d. ap (λ (set : Disks). is_there first d && failed d && not (set d)) unstarted ∙ never (is_there first d) (failed d));
+        wrote = λ d is. absurd (false≢true (sym (ap (λ (set : Disks). set d) written) ∙ is));
+        committed = inl refl;
       }
     where
       never : (there fails : Bool) → there && fails && not there ≡ false
@@ -224,6 +265,19 @@ module _ (first : Updates) (failed : Disks) where
         never true = refl
         never false = refl
 
+    wrote_end : (w : Status) (d : ℕ) → (with_end v disk ok w).written d ≡ true → well_on first failed d ≡ true
+    wrote_end w d is = ⊎_elim
+        (λ before. ending.wrote d before)
+        (λ now. let same = eqb-true d disk now.1 in
+        ap (λ b. b && not (failed d)) (ap (is_there first) same ∙ ending.within disk lowest.0) ∙ ap (λ n. not (failed n)) same ∙ now.0)
+        (end_written v disk ok w d is)
+
+    next_committed : (x : Updates) → x ≡ after_end v disk ok x.wanted → (x.committed ≡ first.committed) ⊎ CanWrite first.group (well_on first failed)
+    next_committed x ends = ⊎_elim
+        (λ same. ⊎_elim (λ was. inl (ap (λ (y : Updates). y.committed) ends ∙ same ∙ was)) (λ enough. inr enough) ending.committed)
+        (λ held. inr (end_within v disk ok x.wanted first.group (well_on first failed) ending.group (wrote_end x.wanted) held))
+        (after_committed v disk ok x.wanted)
+
     pub ending_next : (x : Updates) → WantsAtEnd disk ok v.wanted x.wanted → x ≡ after_end v disk ok x.wanted → IsEnding first failed x
     ending_next x wants ends =
         let it : EndsAs first.wanted v disk x = ends_as x ends in
@@ -238,6 +292,8 @@ module _ (first : Updates) (failed : Disks) where
           flown = it.flown;
           held = it.held;
           wanted = next_wanted x (failed disk) refl wants (ending_fewer x ends);
+          wrote = λ d is. wrote_end x.wanted d (after_written v disk ok x.wanted d (sym (ap (λ (y : Updates). y.written d) ends) ∙ is));
+          committed = next_committed x ends;
         }
 
   -- ---- afterwards
@@ -266,3 +322,21 @@ module _ (first : Updates) (failed : Disks) where
         always : (b : Bool) → b && true ≡ b
         always true = refl
         always false = refl
+
+    -- where too few are left, what was committed still is
+    pub ending_short : is_enough_to_write u.group (votes_in u.group (is_there u)) ≡ false → u.committed ≡ first.committed
+    ending_short short = ⊎_elim (λ same. same)
+        (λ (enough : CanWrite first.group (well_on first failed)). absurd (false≢true (sym short ∙ subst (λ (g : Descriptor). CanWrite g (is_there u)) (sym ending.group) (subst (CanWrite first.group) (sym there_then) enough))))
+        ending.committed
+      where
+        parts : (member was fails : Bool) → member && not (was || ((member && not was) && fails)) ≡ (member && not was) && not fails
+        parts true true fails = refl
+        parts true false fails = refl
+        parts false was fails = refl
+
+        there_at : (d : ℕ) → is_there u d ≡ well_on first failed d
+        there_at d = ap (λ (g : Descriptor). is_member g d && not (calls_missing u.wanted d)) ending.group ∙ ap (λ b. is_member first.group d && not b) (ending_wanted.missing d)
+            ∙ parts (is_member first.group d) (calls_missing first.wanted d) (failed d)
+
+        there_then : is_there u ≡ well_on first failed
+        there_then = λ t d. there_at d t

@@ -4,7 +4,7 @@ use Rattle.lvm_num.specs.declared.record.Kind.TheVariants as kind
 use Rattle.lvm_kept.specs.Contents.{Contents, contents_of, status_on}
 use Rattle.lvm_kept.specs.Torn.{written as as_read}
 use Rattle.lvm_kept.proofs.Finding.{images_within}
-use Rattle.lvm_quorum.specs.Written.{write_of}
+use Rattle.lvm_write.specs.Written.{write_of}
 use Rattle.lvm_commit.specs.LawsOfFinding.{FindsNothingNew, StatusWriteFindsNothingNew, DescriptorWriteFindsNoMore}
 use Rattle.lvm_commit.proofs.NoMore.{descriptor_finds_no_more, rest_finds_nothing_new}
 use Rattle.lvm_commit.proofs.Volumes.{next_is_later}

@@ -17,9 +17,9 @@ use Rattle.lvm_kept.specs.Torn.{RecordWrite, IsOfRecord}
 use Rattle.lvm_status.specs.Update.{Stored}
 use Rattle.lvm_steps.specs.Moments.{StaysKept}
 use Rattle.lvm_steps.proofs.Making.{media_may}
-use Rattle.lvm_quorum.specs.declared.homes.Homes.{Homes}
-use Rattle.lvm_quorum.specs.Written.{KeepsShelf, IsWriting}
-use Rattle.lvm_quorum.proofs.Writing.{if_told, told_at, both_from}
+use Rattle.lvm_write.specs.declared.homes.Homes.{Homes}
+use Rattle.lvm_write.specs.Written.{KeepsShelf, IsWriting}
+use Rattle.lvm_write.proofs.Writing.{if_told, told_at, both_from}
 use Rattle.lvm_commit.specs.Committed.{next_stamp, MayMark, HoldsCommitted}
 use Rattle.lvm_commit.specs.LawsOfFinding.{FindsNothingNew, FindsNothingNewOn}
 use Rattle.lvm_commit.specs.Settling.{there, IsOf, SessionIsHeld}

@@ -25,13 +25,13 @@ use Rattle.lvm_status.specs.Update.{Stored, members_there}
 use Rattle.lvm_status.proofs.Disks.{member-below}
 use Rattle.lvm_status.proofs.Sound.{and_left, not_false}
 use Rattle.lvm_steps.proofs.Booleans.{either, clash, second}
-use Rattle.lvm_quorum.specs.declared.homes.Homes.{Homes}
-use Rattle.lvm_quorum.proofs.Writing.{if_told, told_at}
+use Rattle.lvm_write.specs.declared.homes.Homes.{Homes}
+use Rattle.lvm_write.proofs.Writing.{if_told, told_at}
 use Rattle.lvm_commit.specs.Committed.{MayMark, HoldsCommitted}
-use Rattle.lvm_commit.specs.Settling.{IfDone, there, IsOf, SessionIsHeld, WantsMarks, IsPassed, MarksLeft}
-use Rattle.lvm_commit.specs.Rounds.{Misses, Leaves, HasMarked, MarksRound, IsByVotes}
-use Rattle.lvm_commit.specs.declared.commit.Settled.{Settled}
-use Rattle.lvm_commit.specs.declared.commit.Settled.TheVariants as settled
+use Rattle.lvm_commit.specs.Settling.{there, IsOf, SessionIsHeld, WantsMarks, IsPassed, MarksLeft}
+use Rattle.lvm_commit.specs.Rounds.{Misses, LosesMembers, HasMarked, MarksRound, CommitsRound, IsByVotes}
+use Rattle.lvm_commit.specs.declared.commit.CommitEnd.{CommitEnd}
+use Rattle.lvm_commit.specs.declared.commit.CommitEnd.TheVariants as commit_end
 use Rattle.lvm_commit.proofs.Copies.{one_place}
 use Rattle.lvm_steps.proofs.Members.{member_of_parts}
 
@@ -92,7 +92,7 @@ all_markable d u valid own rows k e lt = markable (get_or (partitions_in d.lvs) 
 
 -- ---- one record
 
-leaves_of : (failed : Disks) (a b c : Status) → Misses failed a b → c ≡ b → Leaves failed a c
+leaves_of : (failed : Disks) (a b c : Status) → Misses failed a b → c ≡ b → LosesMembers failed a c
 leaves_of failed a b c misses is = record {
   rows = record { id = ap (λ (s : Status). s.id) is ∙ misses.rows.id; big = ap (λ (s : Status). s.big) is ∙ misses.rows.big; disks = ap (λ (s : Status). map (λ (row : StatusRow). row.disk) s.rows) is ∙ misses.rows.disks };
   stale = λ p stale. ap (λ (s : Status). calls_stale s p) is ∙ misses.stale p ∙ stale;
@@ -115,7 +115,7 @@ module _ (d : Descriptor) (first mid last : Stored) (failed : Disks) (misses : M
   abbrev any : Bool
   any = list_any (λ (row : PvRow). failed row.disk) d.pvs
 
-  pub leaves : Leaves failed first.wanted last.wanted
+  pub leaves : LosesMembers failed first.wanted last.wanted
   leaves = ⊎_elim
       (λ (some : any ≡ true). let marks = marked.marked some in record {
         rows = record { id = marks.members.id ∙ misses.rows.id; big = marks.members.big ∙ misses.rows.big; disks = marks.members.disks ∙ misses.rows.disks };
@@ -172,9 +172,10 @@ module _ (d : Descriptor) (first mid last : Stored) (failed : Disks) (misses : M
         (either any)
 
 -- what is committed stays so
-pub done_committed : (d : Descriptor) (failed : Disks) (mid last : Stored) (want : Status) → HasMarked d failed mid last → (CanWrite mid.group (there mid) → (mid.in_flight ≡ None) × (mid.committed ≡ want))
-    → (buf : Buffer) (r : Settled) → IsByVotes last buf r → IfDone r (λ back. (last.in_flight ≡ None) × (last.committed ≡ want))
-done_committed d failed mid last want marked committed buf r votes = by_end r votes
+pub round_committed :
+    (d : Descriptor) (failed : Disks) (first mid last : Stored) (want : Status) → HasMarked d failed mid last → (CanWrite mid.group (there mid) → (mid.in_flight ≡ None) × (mid.committed ≡ want))
+    → (IsFalse (is_enough_to_write mid.group (votes_in mid.group (there mid))) → mid.committed ≡ first.committed) → (buf : Buffer) (r : CommitEnd) → IsByVotes last buf r → CommitsRound want first last r
+round_committed d failed first mid last want marked committed short buf r votes = by_end r votes
   where
     group_is : last.group ≡ mid.group
     group_is = ap (λ (u : Stored). u.group) marked.rest
@@ -185,13 +186,23 @@ done_committed d failed mid last want marked committed buf r votes = by_end r vo
     there_is : there last ≡ there mid
     there_is = λ i e. is_member (group_is i) e && not (missing e i)
 
-    by_end : (r : Settled) → IsByVotes last buf r → IfDone r (λ back. (last.in_flight ≡ None) × (last.committed ≡ want))
-    by_end (settled.Done back) its =
-        let is = committed (sym (λ i. is_enough_to_write (group_is i) (votes_in (group_is i) (there_is i))) ∙ its.1) in
-        (ap (λ (u : Stored). u.in_flight) marked.rest ∙ is.0, ap (λ (u : Stored). u.committed) marked.rest ∙ is.1)
-    by_end (settled.WentOff have total back) its = tt
-    by_end settled.Dark its = tt
-    by_end settled.Stuck its = tt
+    votes_are : is_enough_to_write last.group (votes_in last.group (there last)) ≡ is_enough_to_write mid.group (votes_in mid.group (there mid))
+    votes_are = λ i. is_enough_to_write (group_is i) (votes_in (group_is i) (there_is i))
+
+    by_end : (r : CommitEnd) → IsByVotes last buf r → CommitsRound want first last r
+    by_end (commit_end.Done back) its = let is = committed (sym votes_are ∙ its.1) in (ap (λ (u : Stored). u.in_flight) marked.rest ∙ is.0, ap (λ (u : Stored). u.committed) marked.rest ∙ is.1)
+    by_end (commit_end.WentOff have total back) its =
+        let few = its.1 in
+        ap (λ (u : Stored). u.committed) marked.rest ∙ short (sym votes_are ∙ ap (is_enough_to_write last.group) (sym few.have_is) ∙ few.few)
+    by_end commit_end.Dark its = absurd its
+    by_end commit_end.Stuck its = absurd its
+
+-- where it is none of what is committed that is written
+pub kept_committed : (first last : Stored) → last.in_flight ≡ None → last.committed ≡ first.committed → (r : CommitEnd) → CommitsRound first.committed first last r
+kept_committed first last idle same (commit_end.Done back) = (idle, same)
+kept_committed first last idle same (commit_end.WentOff have total back) = same
+kept_committed first last idle same commit_end.Dark = same
+kept_committed first last idle same commit_end.Stuck = same
 
 -- ---- what may follow
 

@@ -12,7 +12,7 @@ use Rattle.lvm_kept.proofs.Alike.{one_is_only}
 use Rattle.lvm_kept.proofs.Finding.{images_within}
 use Rattle.lvm_steps.proofs.Booleans.{either, clash}
 use Rattle.lvm_steps.proofs.Making.{media_may}
-use Rattle.lvm_quorum.proofs.Writing.{both_from}
+use Rattle.lvm_write.proofs.Writing.{both_from}
 use Rattle.lvm_commit.specs.LawsOfVolumes.{LeavesOthers, DescriptorLeavesOthers, RestLeavesOthers, OnlyGroupStays, OnlyGroupStaysByData, OnlyGroupStaysOn, OneByAllIsOnlySince}
 use Rattle.lvm_commit.proofs.NoMore.{was_found, rest_finds_nothing_new, data_finds_nothing_new}
 use Rattle.lvm_commit.proofs.Still.{still_image, data_differs}

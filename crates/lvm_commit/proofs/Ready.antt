@@ -8,7 +8,7 @@ use Rattle.lvm_num.specs.Status.{calls_missing}
 use Rattle.lvm_num.specs.Votes.{CanWrite}
 use Rattle.lvm_disk.specs.Device.{Device}
 use Rattle.lvm_status.specs.Update.{Stored}
-use Rattle.lvm_quorum.specs.Written.{HasRoom}
+use Rattle.lvm_write.specs.Written.{HasRoom}
 use Rattle.lvm_commit.specs.Committed.{next_stamp}
 use Rattle.lvm_commit.specs.Settling.{there, many_there, MaySettle, HasNumbers, SpendsNumbers, OnlyLoses}
 use Rattle.lvm_commit.proofs.Chaining.{loses_less}

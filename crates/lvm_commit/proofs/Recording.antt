@@ -1,5 +1,5 @@
 -- How the write of one record ended, from what the calls say of it.
-use Rattle.std.proofs.Common.{◌≡◌, ℕ, Bool, true, false, ◌&&◌, List, refl, sym, ◌∙◌, ap}
+use Rattle.std.proofs.Common.{◌≡◌, ℕ, Bool, true, false, ◌&&◌, List, refl, sym, ◌∙◌, ap, subst}
 use Rattle.lvm_num.specs.Buffer.{Buffer}
 use Rattle.lvm_num.specs.Disks.{Disks}
 use Rattle.lvm_num.specs.declared.record.Kind.{Kind}
@@ -8,23 +8,24 @@ use Rattle.lvm_num.specs.declared.status.Status.{Status}
 use Rattle.lvm_disk.specs.Device.{Device}
 use Rattle.lvm_kept.specs.Torn.{RecordWrite, IsOfRecord}
 use Rattle.lvm_status.specs.Update.{Stored}
-use Rattle.lvm_quorum.specs.declared.homes.Homes.{Homes}
-use Rattle.lvm_quorum.specs.Homes.{Flips}
-use Rattle.lvm_quorum.specs.Written.{StandsTold, write_of, IsDarkened, IsGivenUp}
-use Rattle.lvm_quorum.specs.Writes.{WriteLeaves, EachTried}
-use Rattle.lvm_commit.specs.declared.commit.Settled.{Settled}
-use Rattle.lvm_commit.specs.declared.commit.Settled.TheVariants as settled
+use Rattle.lvm_write.specs.declared.homes.Homes.{Homes}
+use Rattle.lvm_write.specs.Homes.{Flips}
+use Rattle.lvm_write.specs.Written.{StandsTold, write_of, IsDarkened, IsGivenUp}
+use Rattle.lvm_write.specs.declared.write.Wrote.{Wrote}
+use Rattle.lvm_write.specs.Writes.{RecordWritesEnd, DiskWritesLeave, EachTried}
+use Rattle.lvm_commit.specs.declared.commit.CommitEnd.{CommitEnd}
+use Rattle.lvm_commit.specs.declared.commit.CommitEnd.TheVariants as commit_end
 use Rattle.lvm_commit.specs.Settling.{there}
-use Rattle.lvm_commit.specs.Rounds.{Misses, Leaves, IsByVotes, IsSame, session_write, WasTried, HowRecord, RecordGives}
+use Rattle.lvm_commit.specs.Rounds.{Misses, LosesMembers, IsByVotes, IsSame, IsSent, session_write, WasTried, HowRecord, RecordGives}
 use Rattle.lvm_commit.proofs.Losing.{misses_same}
 
 -- it was tried on each disk, and the slots come next that then do
 abbrev pub Tries : RecordWrite → ℕ → Homes → Homes → Device → Device → Disks → Buffer → Type 0
 Tries w number slots next old new failed back = EachTried w.targets (StandsTold w) (λ written. Flips w.kind written slots next) number old new failed back
 
-module _ (w : RecordWrite) (number before after : ℕ) (first last : Stored) (slots next : Homes) (old new : Device) (leaves : WriteLeaves w.targets (IsOfRecord w) before after old new) where
+module _ (w : RecordWrite) (number before after : ℕ) (first last : Stored) (slots next : Homes) (old new : Device) (leaves : DiskWritesLeave w.targets (IsOfRecord w) before after old new) where
   pub ended_gives :
-      (failed : Disks) (back : Buffer) (result : Settled) → Tries w number slots next old new failed back → last.group ≡ first.group → last.stamp ≡ first.stamp → Leaves failed first.wanted last.wanted → IsByVotes last back result
+      (failed : Disks) (back : Buffer) (result : CommitEnd) → Tries w number slots next old new failed back → last.group ≡ first.group → last.stamp ≡ first.stamp → LosesMembers failed first.wanted last.wanted → IsByVotes last back result
       → RecordGives w number before after first last slots next old new result
   ended_gives failed back result tries group stamp misses votes = record { leaves = leaves; how = how result votes }
     where
@@ -41,17 +42,24 @@ module _ (w : RecordWrite) (number before after : ℕ) (first last : Stored) (sl
         wanted = misses;
       }
 
-      how : (r : Settled) → IsByVotes last back r → HowRecord w number before first last slots next old new r
-      how (settled.Done buf) its = (tried buf its.0, its.1)
-      how (settled.WentOff have total buf) its = (tried buf its.0, its.1)
-      how settled.Dark its = absurd its
-      how settled.Stuck its = absurd its
+      how : (r : CommitEnd) → IsByVotes last back r → HowRecord w number before first last slots next old new r
+      how (commit_end.Done buf) its = (tried buf its.0, its.1)
+      how (commit_end.WentOff have total buf) its = (tried buf its.0, its.1)
+      how commit_end.Dark its = absurd its
+      how commit_end.Stuck its = absurd its
 
-  pub dark_gives : IsSame first last → IsDarkened number old new → RecordGives w number before after first last slots next old new settled.Dark
+  pub dark_gives : IsSame first last → IsDarkened number old new → RecordGives w number before after first last slots next old new commit_end.Dark
   dark_gives same dark = record { leaves = leaves; how = (dark, same) }
 
-  pub stuck_gives : IsSame first last → IsGivenUp number before old new → RecordGives w number before after first last slots next old new settled.Stuck
+  pub stuck_gives : IsSame first last → IsGivenUp number before old new → RecordGives w number before after first last slots next old new commit_end.Stuck
   stuck_gives same stuck = record { leaves = leaves; how = (stuck, same) }
+
+-- the record that was written is the session's
+pub as_sent :
+    (r w : RecordWrite) (number before after : ℕ) (slots next : Homes) (old new : Device) (wrote : Wrote) → r ≡ w → RecordWritesEnd r slots next number before old new wrote → DiskWritesLeave r.targets (IsOfRecord r) before after old new
+    → IsSent w number before after slots next old new wrote
+as_sent r w number before after slots next old new wrote same ends leaves =
+    subst (λ (x : RecordWrite). IsSent x number before after slots next old new wrote) same (record { ends = ends; leaves = leaves })
 
 -- the disks on which it failed were members that weren't missing
 pub only_targets : (targets failed : Disks) (a b : Status) → ((d : ℕ) → failed d ≡ true → targets d ≡ true) → Misses (λ d. targets d && failed d) a b → Misses failed a b

@@ -14,10 +14,10 @@ use Rattle.lvm_disk.specs.Device.{Device}
 use Rattle.lvm_kept.specs.Torn.{RecordWrite, IsOfRecord}
 use Rattle.lvm_status.specs.Update.{Stored, members_there}
 use Rattle.lvm_steps.proofs.Booleans.{either, clash, first as left_of}
-use Rattle.lvm_quorum.specs.declared.homes.Homes.{Homes}
-use Rattle.lvm_quorum.specs.Written.{KeepsShelf}
-use Rattle.lvm_commit.specs.declared.commit.Settled.{Settled}
-use Rattle.lvm_commit.specs.declared.commit.Settled.TheVariants as settled
+use Rattle.lvm_write.specs.declared.homes.Homes.{Homes}
+use Rattle.lvm_write.specs.Written.{KeepsShelf}
+use Rattle.lvm_commit.specs.declared.commit.CommitEnd.{CommitEnd}
+use Rattle.lvm_commit.specs.declared.commit.CommitEnd.TheVariants as commit_end
 use Rattle.lvm_commit.specs.Settling.{there, many_there, OnlyLoses, HasLostQuorum}
 use Rattle.lvm_commit.specs.Rounds.{HasFew, WasTried, HowRecord, RecordGives}
 use Rattle.lvm_commit.proofs.Counting.{counts_less, counts_fewer}
@@ -122,7 +122,7 @@ module _ (w : RecordWrite) (number : ℕ) (first last : Stored) (slots next : Ho
     pub fewer_after : (d : ℕ) → IsTrue (tried.failed d) → many_there last + 1 ≤ many_there first
     fewer_after d fails = fewer_there first last tried.group (record_loses w number first last slots next old new buf targets tried).stays d (was_there w number first last slots next old new buf targets tried d fails) (failed_is_missing d fails)
 
-  pub record_goes : (before after : ℕ) (result : Settled) → RecordGives w number before after first last slots next old new result → Goes (IsOfRecord w) before after first last old new
+  pub record_goes : (before after : ℕ) (result : CommitEnd) → RecordGives w number before after first last slots next old new result → Goes (IsOfRecord w) before after first last old new
   record_goes before after result gives = record {
     loses = by_end result gives.how;
     keeps = subst (λ (set : Disks). KeepsShelf set (IsOfRecord w) old new) targets gives.leaves.keeps;
@@ -130,8 +130,8 @@ module _ (w : RecordWrite) (number : ℕ) (first last : Stored) (slots next : Ho
     rises = path_counts gives.leaves.moments;
   }
     where
-      by_end : (r : Settled) → HowRecord w number before first last slots next old new r → OnlyLoses first last old new
-      by_end (settled.Done buf) how = record_loses w number first last slots next old new buf targets how.0
-      by_end (settled.WentOff have total buf) how = record_loses w number first last slots next old new buf targets how.0
-      by_end settled.Dark how = loses_same first last old new how.1.group how.1.wanted
-      by_end settled.Stuck how = loses_same first last old new how.1.group how.1.wanted
+      by_end : (r : CommitEnd) → HowRecord w number before first last slots next old new r → OnlyLoses first last old new
+      by_end (commit_end.Done buf) how = record_loses w number first last slots next old new buf targets how.0
+      by_end (commit_end.WentOff have total buf) how = record_loses w number first last slots next old new buf targets how.0
+      by_end commit_end.Dark how = loses_same first last old new how.1.group how.1.wanted
+      by_end commit_end.Stuck how = loses_same first last old new how.1.group how.1.wanted

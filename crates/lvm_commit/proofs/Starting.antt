@@ -5,14 +5,8 @@ use Rattle.lvm_num.specs.declared.descriptor.Descriptor.{Descriptor}
 use Rattle.lvm_num.specs.declared.status.Status.{Status}
 use Rattle.lvm_status.specs.Update.{Stored, Updates, members_there, seen, MayStart}
 use Rattle.lvm_status.specs.Calls.{with_update}
-use Rattle.lvm_commit.specs.Committed.{next_stamp}
-use Rattle.lvm_commit.specs.Rounds.{IsStarted}
-
-pub record Starts (u x : Stored) : Type 0 where
-  pub group : x.group ≡ u.group
-  pub wanted : x.wanted ≡ u.wanted
-  pub stamp : x.stamp ≡ next_stamp u.stamp
-  pub started : IsStarted x
+use Rattle.lvm_commit.specs.Settling.{there}
+use Rattle.lvm_commit.specs.Rounds.{Starts}
 
 pub update_starts : (u x : Stored) (result : Bool) → u.in_flight ≡ None → (u.committed ≡ u.wanted → ⊥) → (IsTrue result ↔ MayStart (seen u)) → seen x ≡ (if result then with_update (seen u) else seen u) → Starts u x
 update_starts u x result idle differs tells is =
@@ -23,6 +17,7 @@ update_starts u x result idle differs tells is =
     record {
       group = group;
       wanted = wanted;
+      committed = ap (λ (v : Updates). v.committed) it;
       stamp = ap (λ (v : Updates). v.stamp) it;
       started = record {
         flies = ap (λ (v : Updates). v.in_flight) it ∙ ap (λ (s : Status). Some s) (sym wanted);
@@ -32,3 +27,7 @@ update_starts u x result idle differs tells is =
         failed = ap (λ (v : Updates). v.failed) it;
       };
     }
+
+-- the members that aren't missing stay those
+pub there_still : (u x : Stored) → Starts u x → there x ≡ there u
+there_still u x starts = ap (λ (g : Descriptor). members_there g x.wanted) starts.group ∙ ap (λ (s : Status). members_there u.group s) starts.wanted

@@ -12,17 +12,17 @@ use Rattle.lvm_kept.specs.Contents.{contents_of}
 use Rattle.lvm_kept.specs.Plans.{ChangesBy}
 use Rattle.lvm_status.specs.Update.{Stored}
 use Rattle.lvm_steps.proofs.Making.{media_may}
-use Rattle.lvm_quorum.specs.declared.homes.Homes.{Homes}
-use Rattle.lvm_quorum.proofs.Transfers.{darkened_then, given_up_then}
-use Rattle.lvm_quorum.proofs.Writing.{told_at, both_map}
-use Rattle.lvm_commit.specs.declared.commit.Settled.{Settled}
-use Rattle.lvm_commit.specs.declared.commit.Settled.TheVariants as settled
+use Rattle.lvm_write.specs.declared.homes.Homes.{Homes}
+use Rattle.lvm_write.proofs.Transfers.{darkened_then, given_up_then}
+use Rattle.lvm_write.proofs.Writing.{told_at, both_map}
+use Rattle.lvm_commit.specs.declared.commit.CommitEnd.{CommitEnd}
+use Rattle.lvm_commit.specs.declared.commit.CommitEnd.TheVariants as commit_end
 use Rattle.lvm_commit.specs.Committed.{next_stamp}
 use Rattle.lvm_commit.specs.LawsOfFinding.{FindsNothingNew, FindsNothingNewOn}
 use Rattle.lvm_commit.specs.LawsOfVolumes.{LeavesOthers}
-use Rattle.lvm_commit.specs.Settling.{IsOfStatus, OthersAreLeft, StatusEnds}
-use Rattle.lvm_commit.specs.Rounds.{MarksRound, stamped, session_write, HowRecord, RecordGives, StatusGives}
-use Rattle.lvm_commit.proofs.StatusRounds.{AreRounds, more_goes, more_left, more_numbers, more_kept, more_finds, more_returns, more_lost, lost_spends}
+use Rattle.lvm_commit.specs.Settling.{IsOfStatus, StaysCommitted, OthersAreLeft, StatusEnds}
+use Rattle.lvm_commit.specs.Rounds.{MarksRound, CommitsRound, stamped, session_write, HowRecord, RecordGives, StatusGives}
+use Rattle.lvm_commit.proofs.StatusRounds.{AreRounds, more_goes, more_left, more_numbers, more_kept, more_finds, more_committed, more_returns, more_lost, lost_spends}
 
 -- where nothing is found that wasn't, other groups are left as they were
 pub nothing_new_leaves : (id : ℕ) (old new : Device) (R : Media → Media → Type 0) → BothTold old.media new.media R → FindsNothingNewOn old new → OthersAreLeft id old new
@@ -32,7 +32,7 @@ nothing_new_leaves id old new R both finds =
     told_at old.media (λ media. FindsNothingNew (contents_of (image_of old.sizes media)) (contents_of (image_of new.sizes n))) m was (finds (image_of new.sizes n) (media_may new n is)) other k found)
 
 module _ (d : Descriptor) (number before left : ℕ) (first now : Stored) (slots next : Homes) (old mid : Device) (buf : Buffer) (rounds : AreRounds d number before left first now slots next old mid buf) where
-  pub rounds_end : now.committed ≡ now.wanted → StatusGives d number before left first now slots next old mid (settled.Done buf)
+  pub rounds_end : now.committed ≡ now.wanted → StatusGives d number before left first now slots next old mid (commit_end.Done buf)
   rounds_end same = record {
     leaves = record { loses = rounds.goes.loses; left = rounds.leaving; numbers = rounds.numbers; keeps = rounds.goes.keeps; spends = rounds.goes.spends };
     finds = rounds.finds;
@@ -51,22 +51,26 @@ module _ (d : Descriptor) (number before left : ℕ) (first now : Stored) (slots
     };
   }
 
-  module _ (differs : now.committed ≡ now.wanted → ⊥) (sectors : HasSectors mid) (last : Stored) (then : Homes) (new : Device) (after : ℕ) (result : Settled)
+  module _ (differs : now.committed ≡ now.wanted → ⊥) (sectors : HasSectors mid) (last : Stored) (then : Homes) (new : Device) (after : ℕ) (result : CommitEnd)
       (gives : RecordGives (session_write kind.Status (status_bytes now.wanted) (stamped now) next) buf.number left after (stamped now) last next then mid new result)
-      (frames : Frames kind.Status (record { stamp = next_stamp now.stamp; content = status_bytes now.wanted })) (valid : IsValidStatus now.wanted) (round : MarksRound d now last) where
-    how_stopped : (r : Settled) → ((back : Buffer) → r ≡ settled.Done back → ⊥) → HowRecord (session_write kind.Status (status_bytes now.wanted) (stamped now) next) buf.number left (stamped now) last next then mid new r
+      (frames : Frames kind.Status (record { stamp = next_stamp now.stamp; content = status_bytes now.wanted })) (valid : IsValidStatus now.wanted) (round : MarksRound d now last) (commits : CommitsRound now.wanted now last result) where
+    stays : last.committed ≡ now.committed → StaysCommitted first last old new
+    stays same = more_committed d number before left first now slots next old mid buf rounds differs sectors last then new after result gives frames valid round same
+
+    how_stopped : (r : CommitEnd) → ((back : Buffer) → r ≡ commit_end.Done back → ⊥) → CommitsRound now.wanted now last r → HowRecord (session_write kind.Status (status_bytes now.wanted) (stamped now) next) buf.number left (stamped now) last next then mid new r
         → StatusEnds number before first last slots then old new r
-    how_stopped (settled.Done back) never how = absurd (never back refl)
-    how_stopped (settled.WentOff have total back) never how =
+    how_stopped (commit_end.Done back) never same how = absurd (never back refl)
+    how_stopped (commit_end.WentOff have total back) never same how =
         record {
           back = more_returns d number before left first now slots next old mid buf rounds differs sectors last then new after result gives frames valid round back how.0;
           lost = more_lost d number before left first now slots next old mid buf rounds differs sectors last then new after result gives frames valid round back how.0 have total how.1;
           spent = lost_spends d number before left first now slots next old mid buf rounds differs sectors last then new after result gives frames valid round back how.0 have total how.1;
+          committed = stays same;
         }
-    how_stopped settled.Dark never how = darkened_then number buf.number old mid new rounds.returns.number_is rounds.returns.cuts how.0
-    how_stopped settled.Stuck never how = given_up_then number buf.number before left old mid new rounds.returns.number_is rounds.returns.cuts rounds.goes.spends how.0
+    how_stopped commit_end.Dark never same how = (darkened_then number buf.number old mid new rounds.returns.number_is rounds.returns.cuts how.0, stays same)
+    how_stopped commit_end.Stuck never same how = (given_up_then number buf.number before left old mid new rounds.returns.number_is rounds.returns.cuts rounds.goes.spends how.0, stays same)
 
-    pub rounds_stop : ((back : Buffer) → result ≡ settled.Done back → ⊥) → StatusGives d number before after first last slots then old new result
+    pub rounds_stop : ((back : Buffer) → result ≡ commit_end.Done back → ⊥) → StatusGives d number before after first last slots then old new result
     rounds_stop never =
         let goes = more_goes d number before left first now slots next old mid buf rounds differs sectors last then new after result gives frames valid round in
         record {
@@ -79,5 +83,5 @@ module _ (d : Descriptor) (number before left : ℕ) (first now : Stored) (slots
           };
           finds = more_finds d number before left first now slots next old mid buf rounds differs sectors last then new after result gives frames valid round;
           kept = more_kept d number before left first now slots next old mid buf rounds differs sectors last then new after result gives frames valid round;
-          ends = how_stopped result never gives.how;
+          ends = how_stopped result never commits gives.how;
         }

@@ -13,11 +13,11 @@ use Rattle.lvm_disk.proofs.Paths.{map-path, last-path}
 use Rattle.lvm_kept.specs.Torn.{RecordWrite, IsOfRecord}
 use Rattle.lvm_status.specs.Update.{Stored}
 use Rattle.lvm_steps.specs.Moments.{StaysKept}
-use Rattle.lvm_quorum.specs.declared.homes.Homes.{Homes}
-use Rattle.lvm_quorum.specs.Homes.{second_slots}
+use Rattle.lvm_write.specs.declared.homes.Homes.{Homes}
+use Rattle.lvm_write.specs.Homes.{second_slots}
 use Rattle.lvm_vgsa.proofs.RoundTrip.{is_read_again}
-use Rattle.lvm_commit.specs.declared.commit.Settled.{Settled}
-use Rattle.lvm_commit.specs.declared.commit.Settled.TheVariants as settled
+use Rattle.lvm_commit.specs.declared.commit.CommitEnd.{CommitEnd}
+use Rattle.lvm_commit.specs.declared.commit.CommitEnd.TheVariants as commit_end
 use Rattle.lvm_commit.specs.Committed.{next_stamp}
 use Rattle.lvm_commit.specs.LawsOfFinding.{FindsNothingNewOn}
 use Rattle.lvm_commit.specs.Settling.{there, MaySettle, IsOf, OnlyLoses, IsOfStatus, IsOneRecord, WantsMarks, SessionIsHeld, ComesBack}
@@ -30,7 +30,7 @@ use Rattle.lvm_commit.proofs.HoldingStatus.{status_moment_kept, status_moment_fi
 
 -- ---- whose sectors are written
 
-module _ (d : Descriptor) (now last : Stored) (slots next : Homes) (mid new : Device) (sectors : HasSectors mid) (may : MaySettle d now mid) (number left after : ℕ) (result : Settled)
+module _ (d : Descriptor) (now last : Stored) (slots next : Homes) (mid new : Device) (sectors : HasSectors mid) (may : MaySettle d now mid) (number left after : ℕ) (result : CommitEnd)
     (gives : RecordGives (session_write kind.Status (status_bytes now.wanted) (stamped now) slots) number left after (stamped now) last slots next mid new result)
     (frames : Frames kind.Status (record { stamp = next_stamp now.stamp; content = status_bytes now.wanted })) (valid : IsValidStatus now.wanted) where
   abbrev w : RecordWrite
@@ -42,11 +42,11 @@ module _ (d : Descriptor) (now last : Stored) (slots next : Homes) (mid new : De
   pub stamp_then : last.stamp ≡ next_stamp now.stamp
   stamp_then = by_end result gives.how
     where
-      by_end : (r : Settled) → HowRecord w number left (stamped now) last slots next mid new r → last.stamp ≡ next_stamp now.stamp
-      by_end (settled.Done buf) how = how.0.stamp
-      by_end (settled.WentOff have total buf) how = how.0.stamp
-      by_end settled.Dark how = how.1.stamp
-      by_end settled.Stuck how = how.1.stamp
+      by_end : (r : CommitEnd) → HowRecord w number left (stamped now) last slots next mid new r → last.stamp ≡ next_stamp now.stamp
+      by_end (commit_end.Done buf) how = how.0.stamp
+      by_end (commit_end.WentOff have total buf) how = how.0.stamp
+      by_end commit_end.Dark how = how.1.stamp
+      by_end commit_end.Stuck how = how.1.stamp
 
   of_status : (e s : ℕ) (value : Sector) → IsOfRecord w e s value → IsOfStatus now last e s value
   of_status e s value is =

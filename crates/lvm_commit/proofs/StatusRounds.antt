@@ -10,7 +10,7 @@ use Rattle.lvm_num.specs.StatusBytes.{status_bytes}
 use Rattle.lvm_num.specs.Record.{Frames}
 use Rattle.lvm_num.specs.Votes.{votes_in, is_enough_to_write, CanWrite}
 use Rattle.lvm_disk.specs.Device.{Device, IsReady, HasSectors, image_of}
-use Rattle.lvm_disk.specs.Paths.{Here}
+use Rattle.lvm_disk.specs.Paths.{DeviceStep, Path, Here}
 use Rattle.lvm_disk.proofs.Paths.{append-path, map-path, last-path}
 use Rattle.lvm_disk.proofs.Rising.{none_falls_at_once}
 use Rattle.lvm_kept.specs.Plans.{ChangesBy}
@@ -18,20 +18,20 @@ use Rattle.lvm_kept.specs.Contents.{contents_of}
 use Rattle.lvm_status.specs.Update.{Stored, members_there}
 use Rattle.lvm_stale.specs.Table.{SameMissing}
 use Rattle.lvm_steps.specs.Moments.{StaysKept}
-use Rattle.lvm_status.proofs.Sound.{not_false}
+use Rattle.lvm_status.proofs.Sound.{and_left, not_false}
 use Rattle.lvm_steps.proofs.Booleans.{clash, second}
-use Rattle.lvm_quorum.specs.declared.homes.Homes.{Homes}
-use Rattle.lvm_quorum.proofs.Transfers.{keeps_here, spends_none as none_waited}
-use Rattle.lvm_quorum.proofs.Writing.{if_told}
-use Rattle.lvm_commit.specs.declared.commit.Settled.{Settled}
+use Rattle.lvm_write.specs.declared.homes.Homes.{Homes}
+use Rattle.lvm_write.proofs.Transfers.{keeps_here, spends_none as none_waited}
+use Rattle.lvm_write.proofs.Writing.{if_told}
+use Rattle.lvm_commit.specs.declared.commit.CommitEnd.{CommitEnd}
 use Rattle.lvm_commit.specs.Committed.{next_stamp}
 use Rattle.lvm_commit.specs.LawsOfFinding.{FindsNothingNew, FindsNothingNewOn}
 use Rattle.lvm_commit.proofs.Leaving.{wants_marks, round_left, left_same_as, left_then}
-use Rattle.lvm_commit.specs.Settling.{there, MarksLeft, MaySettle, HasNumbers, IsOf, HasLostQuorum, SpendsNumbers, IsOfStatus, IsOneRecord, IsPlain, WantsMarks, SessionIsHeld, StatusStaysKept, StatusFindsNothingNew, ComesBack}
+use Rattle.lvm_commit.specs.Settling.{there, MarksLeft, MaySettle, HasNumbers, IsOf, HasLostQuorum, SpendsNumbers, WasCommitted, StaysCommitted, IsOfStatus, IsOneRecord, IsPlain, WantsMarks, SessionIsHeld, StatusStaysKept, StatusFindsNothingNew, ComesBack}
 use Rattle.lvm_commit.specs.Rounds.{MarksRound, stamped, session_write, WasTried, HasFew, RecordGives}
 use Rattle.lvm_commit.proofs.NoMore.{data_finds_nothing_new, then_nothing_new}
 use Rattle.lvm_commit.proofs.Still.{still_image}
-use Rattle.lvm_commit.proofs.Chaining.{Goes, goes_wider, goes_then, returns_then, loses_same, loses_less, lost_quorum_then, spends_numbers_then}
+use Rattle.lvm_commit.proofs.Chaining.{Goes, goes_wider, goes_then, returns_then, loses_same, loses_less, lost_quorum_then, spends_numbers_then, there_then}
 use Rattle.lvm_commit.proofs.Round.{quorum_lost}
 use Rattle.lvm_commit.proofs.Ready.{may_settle_on, spends_one, spends_none}
 use Rattle.lvm_commit.proofs.StatusRound.{stamp_then, round_goes, round_kept, round_finds, round_returns, round_holds, round_loses, round_plain}
@@ -57,6 +57,7 @@ pub record IsFresh (first now : Stored) (slots next : Homes) (old mid : Device) 
 pub record IsOn (first now : Stored) (slots : Homes) (old mid : Device) : Type 0 where
   pub plain : IsPlain kind.Status (status_bytes first.wanted) first now slots old mid
   pub spare : (now.committed ≡ now.wanted) ⊎ (SpendsNumbers 0 first now × Lost first now)
+  pub came : WasCommitted first now.committed (now.stamp.seq + 1) old mid
 
 -- Some records were written, each of which failed on too few members for the votes to be lost.
 pub record AreRounds (d : Descriptor) (number before left : ℕ) (first now : Stored) (slots next : Homes) (old mid : Device) (buf : Buffer) : Type 0 where
@@ -100,7 +101,7 @@ module _ (d : Descriptor) (number before left : ℕ) (first now : Stored) (slots
 -- ---- one more
 
 module _ (d : Descriptor) (number before left : ℕ) (first now : Stored) (slots next : Homes) (old mid : Device) (buf : Buffer) (rounds : AreRounds d number before left first now slots next old mid buf) (differs : now.committed ≡ now.wanted → ⊥)
-    (sectors : HasSectors mid) (last : Stored) (then : Homes) (new : Device) (after : ℕ) (result : Settled)
+    (sectors : HasSectors mid) (last : Stored) (then : Homes) (new : Device) (after : ℕ) (result : CommitEnd)
     (gives : RecordGives (session_write kind.Status (status_bytes now.wanted) (stamped now) next) buf.number left after (stamped now) last next then mid new result)
     (frames : Frames kind.Status (record { stamp = next_stamp now.stamp; content = status_bytes now.wanted })) (valid : IsValidStatus now.wanted) (round : MarksRound d now last) where
   first_own : IsOf d first
@@ -164,6 +165,32 @@ module _ (d : Descriptor) (number before left : ℕ) (first now : Stored) (slots
       then_nothing_new old mid new (λ was is. ChangesBy (IsOfStatus first now) (image_of old.sizes was) (image_of mid.sizes is)) rounds.goes.keeps.media
       (round_finds d now last next then mid new sectors rounds.may buf.number left after result gives frames valid group (rounds.held group own held)) (rounds.finds group own held)
 
+  abbrev Way : Device → Device → Type 0
+  Way a b = Path DeviceStep (λ e. Unit {0}) a b
+
+  gone_on : Way mid new
+  gone_on = map-path (λ e. Unit {0}) (λ e is. tt) gives.leaves.moments
+
+  -- what was committed before the record still is, if it wasn't committed by it
+  pub more_committed : last.committed ≡ now.committed → StaysCommitted first last old new
+  more_committed same = ⊎_elim
+      (λ fresh. inl (same ∙ ap (λ (u : Stored). u.committed) fresh.same))
+      (λ on. let came = on.came in inr (record {
+        write = came.write;
+        kind = came.kind;
+        content = came.content ∙ ap status_bytes (sym same);
+        epoch = came.epoch;
+        later = came.later;
+        earlier = (let e = came.earlier in omega (arith, e, seq_is));
+        members = came.members;
+        votes = came.votes;
+        moment = came.moment;
+        before = came.before;
+        after = append-path came.after gone_on;
+        stands = came.stands;
+      }))
+      rounds.stage
+
   -- no number was spent but for a member
   lost_more : Lost now last → SpendsNumbers 0 first last
   lost_more lost = spends_numbers_then 0 0 first now last spent (spends_none now last mid new one.loses stamp_is lost.0 lost.1 lost.2)
@@ -215,13 +242,32 @@ module _ (d : Descriptor) (number before left : ℕ) (first now : Stored) (slots
           (λ on. ⊎_elim (λ done. absurd (differs done)) (λ more missing. absurd (not_same (more.1.0, more.1.1, one.loses.stays more.1.0 more.1.2) missing)) on.spare)
           rounds.stage
 
+      -- it is by this record that it is committed
+      more_came : WasCommitted first last.committed (last.stamp.seq + 1) old new
+      more_came = record {
+        write = session_write kind.Status (status_bytes now.wanted) (stamped now) next;
+        kind = refl;
+        content = ap status_bytes (sym same);
+        epoch = spent.epoch;
+        later = (let rises = spent.rises in omega (arith, rises));
+        earlier = omega (arith, seq_is);
+        members = there last;
+        votes = subst (λ (g : Descriptor). CanWrite g (there last)) more_goes.loses.group votes;
+        moment = new;
+        before = append-path (map-path (λ e. Unit {0}) (λ e is. tt) rounds.kept) gone_on;
+        after = Here tt;
+        stands = λ d on.
+            let two = sym (there_then (session_write kind.Status (status_bytes now.wanted) (stamped now) next) buf.number (stamped now) last next then mid new back refl tried d) ∙ on in
+            (tried.each d).stands (and_left (there now d) (not (tried.failed d)) two) (not_false (tried.failed d) (second (there now d) (not (tried.failed d)) two));
+      }
+
       pub more_rounds : AreRounds d number before after first last slots then old new back
       more_rounds = record {
         may = may_settle_on d now last mid new rounds.may one.loses idle (ap (λ (s : Stamp). s.epoch) stamp_is) one.keeps.sizes votes;
         goes = more_goes;
         returns = more_returns;
         numbers = more_numbers;
-        stage = inr (record { plain = more_plain; spare = more_spare });
+        stage = inr (record { plain = more_plain; spare = more_spare; came = more_came });
         leaving = more_left;
         marks = λ marks held. wants_marks d now last rounds.may.valid round now.wanted one.loses.stale one.loses.dirty refl same new then
             (round_holds d now last next then mid new sectors rounds.may buf.number left after result gives frames valid back tried same d rounds.may.own (rounds.held d first_own held));

@@ -17,7 +17,7 @@ use Rattle.lvm_status.specs.Calls.{BecomesMissing, with_wanted, given_up}
 use Rattle.lvm_status.proofs.Disks.{swap}
 use Rattle.lvm_commit.specs.Settling.{HasSameRows}
 use Rattle.lvm_commit.specs.Rounds.{Misses}
-use Rattle.lvm_commit.proofs.Ending.{closed_cases}
+use Rattle.lvm_status.proofs.Sessions.{closed_cases}
 use Rattle.lvm_commit.proofs.Losing.{misses_none, misses_same, misses_more}
 
 -- ---- rows

@@ -21,11 +21,11 @@ use Rattle.lvm_kept.proofs.Contained.{room-same}
 use Rattle.lvm_kept.proofs.Finding.{images_within}
 use Rattle.lvm_kept.proofs.Records.{descriptor_shows, status_shows, wider, whole_is_new}
 use Rattle.lvm_steps.proofs.Committing.{commit_keeps}
-use Rattle.lvm_quorum.specs.declared.homes.Homes.{Homes}
-use Rattle.lvm_quorum.specs.Homes.{second_slots, next_slot}
-use Rattle.lvm_quorum.specs.Written.{write_of}
-use Rattle.lvm_quorum.specs.Shows.{IsFit}
-use Rattle.lvm_quorum.proofs.Shows.{descriptor_may_be_written, status_may_be_written}
+use Rattle.lvm_write.specs.declared.homes.Homes.{Homes}
+use Rattle.lvm_write.specs.Homes.{second_slots, next_slot}
+use Rattle.lvm_write.specs.Written.{write_of}
+use Rattle.lvm_write.specs.Shows.{IsSlotFit}
+use Rattle.lvm_write.proofs.Shows.{descriptor_may_be_written, status_may_be_written}
 use Rattle.lvm_stamps.specs.Behind.{StampsBefore}
 use Rattle.lvm_stamps.specs.Laws.{IsNoLater, IsWhole}
 use Rattle.lvm_stamps.proofs.Records.{later_may_go}
@@ -69,7 +69,7 @@ module _ (image : Image) (group : Descriptor) (status : Status) (there : Disks) 
   both_before : (d : ℕ) → IsTrue (there d) → BothBefore (on_disk w d) (image.sector d)
   both_before d is = later_may_go w (next_stamp stamp) image d whole holds.stamps later (holds.there d is)
 
-  fit : (d : ℕ) → IsTrue (there d) → IsFit w homes image d
+  fit : (d : ℕ) → IsTrue (there d) → IsSlotFit w homes image d
   fit d is = (holds.there d is, holds.homes d is, both_before d is)
 
   -- all stamps are then before the next one

@@ -30,54 +30,30 @@ use Rattle.lvm_left.specs.Marking.{IsLeftIn}
 use Rattle.lvm_status.specs.Members.{HasItsRows}
 use Rattle.lvm_status.specs.Update.{Stored, members_there}
 use Rattle.lvm_steps.specs.Moments.{StaysKept, ImagesKept}
-use Rattle.lvm_quorum.specs.declared.homes.Homes.{Homes}
-use Rattle.lvm_quorum.specs.Parts.{Spends}
-use Rattle.lvm_quorum.specs.Written.{write_of, HaveRoom, KeepsShelf, IsDarkened, IsGivenUp}
-use Rattle.lvm_commit.specs.declared.commit.Settled.{Settled}
-use Rattle.lvm_commit.specs.declared.commit.Settled.TheVariants as settled
+use Rattle.lvm_write.specs.declared.homes.Homes.{Homes}
+use Rattle.lvm_write.specs.Parts.{Spends}
+use Rattle.lvm_write.specs.Written.{write_of, HaveRoom, KeepsShelf, StandsTold, IsDarkened, IsGivenUp}
+use Rattle.lvm_commit.specs.declared.commit.CommitEnd.{CommitEnd}
+use Rattle.lvm_commit.specs.declared.commit.CommitEnd.TheVariants as commit_end
 use Rattle.lvm_commit.specs.Committed.{next_stamp, IsAlike, MayMark, HoldsCommitted}
 use Rattle.lvm_commit.specs.LawsOfVolumes.{VolumeServes, LeavesOthers}
 use Rattle.lvm_commit.specs.LawsOfFinding.{FindsNothingNewOn, FindsNoMoreOn}
 
 -- ---- the answers
 
-abbrev pub IfDone : Settled → (Buffer → Type 0) → Type 0
-IfDone (settled.Done buf) P = P buf
-IfDone (settled.WentOff have total buf) P = Unit {0}
-IfDone settled.Dark P = Unit {0}
-IfDone settled.Stuck P = Unit {0}
-
-abbrev pub IfWentOff : Settled → (ℕ → ℕ → Buffer → Type 0) → Type 0
-IfWentOff (settled.Done buf) P = Unit {0}
-IfWentOff (settled.WentOff have total buf) P = P have total buf
-IfWentOff settled.Dark P = Unit {0}
-IfWentOff settled.Stuck P = Unit {0}
-
 -- the buffer that comes back: Done or WentOff
-abbrev pub IfBack : Settled → (Buffer → Type 0) → Type 0
-IfBack (settled.Done buf) P = P buf
-IfBack (settled.WentOff have total buf) P = P buf
-IfBack settled.Dark P = Unit {0}
-IfBack settled.Stuck P = Unit {0}
-
-abbrev pub OnDark : Settled → Type 0 → Type 0
-OnDark (settled.Done buf) P = Unit {0}
-OnDark (settled.WentOff have total buf) P = Unit {0}
-OnDark settled.Dark P = P
-OnDark settled.Stuck P = Unit {0}
-
-abbrev pub OnStuck : Settled → Type 0 → Type 0
-OnStuck (settled.Done buf) P = Unit {0}
-OnStuck (settled.WentOff have total buf) P = Unit {0}
-OnStuck settled.Dark P = Unit {0}
-OnStuck settled.Stuck P = P
+abbrev pub IfBack : CommitEnd → (Buffer → Type 0) → Type 0
+IfBack (commit_end.Done buf) P = P buf
+IfBack (commit_end.WentOff have total buf) P = P buf
+IfBack commit_end.Dark P = Unit {0}
+IfBack commit_end.Stuck P = Unit {0}
 
 -- it is Done, and nothing has changed
-abbrev pub EndsAtOnce : Settled → Type 0 → Type 0
-EndsAtOnce (settled.Done buf) Same = Same
-EndsAtOnce (settled.WentOff have total buf) Same = ⊥
-EndsAtOnce settled.Dark Same = ⊥
-EndsAtOnce settled.Stuck Same = ⊥
+abbrev pub EndsAtOnce : CommitEnd → Type 0 → Type 0
+EndsAtOnce (commit_end.Done buf) Same = Same
+EndsAtOnce (commit_end.WentOff have total buf) Same = ⊥
+EndsAtOnce commit_end.Dark Same = ⊥
+EndsAtOnce commit_end.Stuck Same = ⊥
 
 -- ---- the members
 
@@ -217,6 +193,10 @@ pub record IsOneRecord (kind : Kind) (content : List ℕ) (first last : Stored) 
 abbrev pub IsPlain : Kind → List ℕ → Stored → Stored → Homes → Device → Device → Type 0
 IsPlain kind content first last homes old new = SameMissing first.wanted last.wanted → IsOneRecord kind content first last homes old new
 
+-- that of what is wanted of the status, where nothing else is committed
+abbrev pub IsPlainStatus : Stored → Stored → Homes → Device → Device → Type 0
+IsPlainStatus first last homes old new = (first.wanted ≡ first.committed → ⊥) → IsPlain kind.Status (status_bytes first.wanted) first last homes old new
+
 -- ---- what stays kept
 
 -- the disks hold what the session says is committed of the group, where the media is told
@@ -263,6 +243,27 @@ abbrev pub ComesHeld : List ℕ → Stored → Stored → Homes → Homes → De
 ComesHeld content first last homes_old homes_new old new =
     (group next : Descriptor) → descriptor_of content ≡ Ok next → IsOf group first → IsAlike next group → SessionIsHeld old group first homes_old → SessionIsHeld new next last homes_new × OthersAreLeft group.id old new
 
+-- ---- what is committed
+
+-- The call wrote a record of this status, with a number below this one, and members with votes enough to write had it at a moment on the way.
+pub record WasCommitted (first : Stored) (status : Status) (below : ℕ) (old new : Device) : Type 0 where
+  pub write : RecordWrite
+  pub kind : write.kind ≡ kind.Status
+  pub content : write.framed.content ≡ status_bytes status
+  pub epoch : write.framed.stamp.epoch ≡ first.stamp.epoch
+  pub later : first.stamp.seq < write.framed.stamp.seq
+  pub earlier : write.framed.stamp.seq < below
+  pub members : Disks
+  pub votes : CanWrite first.group members
+  pub moment : Device
+  pub before : Path DeviceStep (λ d. Unit {0}) old moment
+  pub after : Path DeviceStep (λ d. Unit {0}) moment new
+  pub stands : (d : ℕ) → IsTrue (members d) → StandsTold write moment d
+
+-- What was committed still is, or what a record of the call before its last one committed.
+abbrev pub StaysCommitted : Stored → Stored → Device → Device → Type 0
+StaysCommitted first last old new = (last.committed ≡ first.committed) ⊎ WasCommitted first last.committed last.stamp.seq old new
+
 -- ---- what a commit leaves, and how it ends
 
 -- Whatever the answer: the group stays, members may be lost and the copies stale that they leave behind, numbers are spent for stamps, only this was
@@ -289,24 +290,24 @@ pub record EndsCommitted (Held Plain : Type 0) (number : ℕ) (last : Stored) (o
   pub plain : Plain
 
 -- Too few members are left, and each record that was written lost one.
-pub record EndsOff (number : ℕ) (first last : Stored) (old new : Device) (have total : ℕ) (buf : Buffer) : Type 0 where
+pub record EndsWithoutQuorum (number : ℕ) (first last : Stored) (old new : Device) (have total : ℕ) (buf : Buffer) : Type 0 where
   pub back : ComesBack number last old new buf
   pub lost : HasLostQuorum first last old new have total
   pub spent : SpendsNumbers 0 first last
+  pub committed : StaysCommitted first last old new
 
 -- how a commit ends, by its answer
-abbrev pub SettleEnds : Type 0 → Type 0 → ℕ → ℕ → Stored → Stored → Device → Device → Settled → Type 0
-SettleEnds Held Plain number before first last old new (settled.Done buf) = EndsCommitted Held Plain number last old new buf
-SettleEnds Held Plain number before first last old new (settled.WentOff have total buf) = EndsOff number first last old new have total buf
-SettleEnds Held Plain number before first last old new settled.Dark = IsDarkened number old new
-SettleEnds Held Plain number before first last old new settled.Stuck = IsGivenUp number before old new
+abbrev pub SettleEnds : Type 0 → Type 0 → ℕ → ℕ → Stored → Stored → Device → Device → CommitEnd → Type 0
+SettleEnds Held Plain number before first last old new (commit_end.Done buf) = EndsCommitted Held Plain number last old new buf
+SettleEnds Held Plain number before first last old new (commit_end.WentOff have total buf) = EndsWithoutQuorum number first last old new have total buf
+SettleEnds Held Plain number before first last old new commit_end.Dark = IsDarkened number old new × StaysCommitted first last old new
+SettleEnds Held Plain number before first last old new commit_end.Stuck = IsGivenUp number before old new × StaysCommitted first last old new
 
 -- so ends that of a status, of which nothing is written where nothing else is wanted than is committed
-abbrev pub StatusEnds : ℕ → ℕ → Stored → Stored → Homes → Homes → Device → Device → Settled → Type 0
-StatusEnds number before first last homes next old new result = SettleEnds (StaysHeld first last homes next old new)
-    ((first.wanted ≡ first.committed → ⊥) → IsPlain kind.Status (status_bytes first.wanted) first last homes old new) number before first last old new result
+abbrev pub StatusEnds : ℕ → ℕ → Stored → Stored → Homes → Homes → Device → Device → CommitEnd → Type 0
+StatusEnds number before first last homes next old new result = SettleEnds (StaysHeld first last homes next old new) (IsPlainStatus first last homes old new) number before first last old new result
 
 -- and that of the descriptor of these bytes
-abbrev pub DescriptorEnds : List ℕ → ℕ → ℕ → Stored → Stored → Homes → Homes → Device → Device → Settled → Type 0
+abbrev pub DescriptorEnds : List ℕ → ℕ → ℕ → Stored → Stored → Homes → Homes → Device → Device → CommitEnd → Type 0
 DescriptorEnds content number before first last homes next old new result =
     SettleEnds (ComesHeld content first last homes next old new) (IsPlain kind.Descriptor content first last homes old new) number before first last old new result

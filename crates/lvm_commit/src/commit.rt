@@ -4,19 +4,18 @@ ghost use Rattle.lvm_num.specs.declared.record.Kind.TheVariants as kind;
 ghost use Rattle.lvm_num.specs.DescriptorBytes.{descriptor_of};
 ghost use Rattle.lvm_num.specs.Record.{longest_content};
 ghost use Rattle.lvm_disk.specs.Device.{IsReady};
-ghost use Rattle.lvm_commit.specs.Rounds.{StatusGives};
 ghost use Rattle.lvm_commit.specs.Settling.{EndsAtOnce, MaySettle, HasNumbers, IsOfStatus, IsOfCommit, StatusStaysKept, DescriptorStaysKept, StatusFindsNothingNew, CommitFindsNoMore, CommitLeaves, StatusEnds, DescriptorEnds};
 
 use crate::write::{is_committed, write_descriptor, write_wanted};
 use lvm_disk::Shelf;
 use lvm_num::{Descriptor, Pbuf};
-use lvm_quorum::Homes;
 use lvm_status::Updater;
 use lvm_transfer::Patience;
+use lvm_write::Homes;
 
 /// How a commit ended.
 #[derive(Drop)]
-pub enum Settled {
+pub enum CommitEnd {
     /// What is wanted is committed.
     Done { buf: Pbuf },
     /// The votes `have` of the members that aren't missing aren't enough to write, of `total` of all.
@@ -38,7 +37,7 @@ pub fn commit_status<S: Shelf>(
     bytes: &mut [u8],
     buf: Pbuf,
     patience: &mut Patience,
-) -> Settled
+) -> CommitEnd
     requires ready { IsReady (S.device shelf.old) }
     requires may { MaySettle d.now updater.old (S.device shelf.old) }
     requires numbers { HasNumbers 1 updater.old }
@@ -51,7 +50,14 @@ pub fn commit_status<S: Shelf>(
     ensures finds { StatusFindsNothingNew updater.old homes.old (S.device shelf.old) (S.device shelf.new) }
     ensures kept { StatusStaysKept d.now updater.old homes.old (S.device shelf.old) (S.device shelf.new) }
 {
-    settle_status(shelf, d, updater, homes, bytes, buf, patience)
+    let mut buf = buf;
+    while !is_committed(updater) {
+        match write_wanted(shelf, d, updater, homes, bytes, buf, patience) {
+            CommitEnd::Done { buf: back } => buf = back,
+            stopped => return stopped,
+        }
+    }
+    CommitEnd::Done { buf }
 }
 
 /// Writes a descriptor to the members that aren't missing. Those whose write fails are missing, and the status
@@ -67,7 +73,7 @@ pub fn commit_descriptor<S: Shelf>(
     bytes: &mut [u8],
     buf: Pbuf,
     patience: &mut Patience,
-) -> Settled
+) -> CommitEnd
     requires ready { IsReady (S.device shelf.old) }
     requires may { MaySettle d.now updater.old (S.device shelf.old) }
     requires settled { updater.old.committed ≡ updater.old.wanted }
@@ -82,34 +88,7 @@ pub fn commit_descriptor<S: Shelf>(
     ensures kept { DescriptorStaysKept content.now updater.old homes.old (S.device shelf.old) (S.device shelf.new) }
 {
     match write_descriptor(shelf, d, updater, homes, content, buf, patience) {
-        Settled::Done { buf } => commit_status(shelf, d, updater, homes, bytes, buf, patience),
+        CommitEnd::Done { buf } => commit_status(shelf, d, updater, homes, bytes, buf, patience),
         stopped => stopped,
     }
-}
-
-// Writes what is wanted, until it is committed.
-fn settle_status<S: Shelf>(
-    shelf: &mut S,
-    d: &Descriptor,
-    updater: &mut Updater,
-    homes: &mut Homes,
-    bytes: &mut [u8],
-    buf: Pbuf,
-    patience: &mut Patience,
-) -> Settled
-    requires ready { IsReady (S.device shelf.old) }
-    requires may { MaySettle d.now updater.old (S.device shelf.old) }
-    requires numbers { HasNumbers 1 updater.old }
-    requires bytes { longest_content kind.Status ≤ length bytes.old }
-    ensures gives { StatusGives d.now buf.number patience.old.left patience.new.left updater.old updater.new homes.old homes.new (S.device shelf.old) (S.device shelf.new) result }
-    ensures unwritten { updater.old.wanted ≡ updater.old.committed → EndsAtOnce result ((shelf.new ≡ shelf.old) × (updater.new ≡ updater.old) × (homes.new ≡ homes.old) × (patience.new ≡ patience.old)) }
-{
-    let mut buf = buf;
-    while !is_committed(updater) {
-        match write_wanted(shelf, d, updater, homes, bytes, buf, patience) {
-            Settled::Done { buf: back } => buf = back,
-            stopped => return stopped,
-        }
-    }
-    Settled::Done { buf }
 }

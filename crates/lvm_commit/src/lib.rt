@@ -5,7 +5,7 @@ mod commit;
 mod laws;
 mod write;
 
-pub use commit::{Settled, commit_descriptor, commit_status};
+pub use commit::{CommitEnd, commit_descriptor, commit_status};
 pub use laws::{
     committed_is_found, data_keeps_committed, descriptor_is_committed, entries_of_volumes_go_on,
     next_is_later, nothing_else_is_found, only_group_stays, session_begins, status_follows,

@@ -10,19 +10,18 @@ ghost use Rattle.lvm_num.specs.Status.{IsValidStatus};
 ghost use Rattle.lvm_num.specs.StatusBytes.{status_bytes};
 ghost use Rattle.lvm_disk.specs.Device.{IsReady};
 ghost use Rattle.lvm_status.specs.Members.{HasItsRows};
-ghost use Rattle.lvm_status.specs.Update.{members_there};
-ghost use Rattle.lvm_quorum.specs.Written.{HaveRoom};
+ghost use Rattle.lvm_write.specs.Written.{HaveRoom};
 ghost use Rattle.lvm_commit.specs.Committed.{next_stamp};
-ghost use Rattle.lvm_commit.specs.Settling.{IfDone, IsOf, there};
-ghost use Rattle.lvm_commit.specs.Rounds.{IsStarted, HasEnded, HasLost, HasMarked, MarksRound, IsByVotes, stamped, session_write, RecordGives};
+ghost use Rattle.lvm_commit.specs.Settling.{MaySettle, IsOf, there};
+ghost use Rattle.lvm_commit.specs.Rounds.{IsInFlight, Starts, IsSent, HasEnded, HasLost, HasMarked, MarksRound, CommitsRound, IsByVotes, stamped, session_write, RecordGives};
 
-use crate::commit::Settled;
+use crate::commit::CommitEnd;
 use lvm_disk::Shelf;
 use lvm_num::{Descriptor, DiskSet, Kind, Pbuf, Stamp};
-use lvm_quorum::{Homes, Wrote, write_record};
-use lvm_status::{Change, Updater};
+use lvm_status::{Change, Updater, members_there};
 use lvm_transfer::Patience;
 use lvm_vgsa::encode_into;
+use lvm_write::{Homes, Wrote, write_record};
 
 /// Writes what is wanted of the status to each member that isn't missing, under the next stamp. The members on which
 /// that fails are wanted missing, and the copies that they leave behind stale.
@@ -34,28 +33,55 @@ pub fn write_wanted<S: Shelf>(
     bytes: &mut [u8],
     buf: Pbuf,
     patience: &mut Patience,
-) -> Settled
+) -> CommitEnd
     requires ready { IsReady (S.device shelf.old) }
-    requires valid { IsValid d.now }
-    requires own { IsOf d.now updater.old }
-    requires idle { updater.old.in_flight ≡ None }
-    requires rows { HasItsRows updater.old.group updater.old.wanted }
+    requires may { MaySettle d.now updater.old (S.device shelf.old) }
     requires differs { updater.old.committed ≢ updater.old.wanted }
-    requires epoch { updater.old.stamp.epoch ≢ 0 }
     requires number { updater.old.stamp.seq + 1 < 2 ^ 32 }
-    requires room { HaveRoom (S.device shelf.old) (there updater.old) }
     requires bytes { longest_content kind.Status ≤ length bytes.old }
     ensures gives { RecordGives (session_write kind.Status (status_bytes updater.old.wanted) (stamped updater.old) homes.old) buf.number patience.old.left patience.new.left (stamped updater.old) updater.new homes.old homes.new (S.device shelf.old) (S.device shelf.new) result }
     ensures frames { Frames kind.Status (record { stamp = next_stamp updater.old.stamp; content = status_bytes updater.old.wanted }) }
     ensures valid { IsValidStatus updater.old.wanted }
     ensures marks { MarksRound d.now updater.old updater.new }
-    ensures committed { IfDone result (λ back. (updater.new.in_flight ≡ None) × (updater.new.committed ≡ updater.old.wanted)) }
+    ensures committed { CommitsRound updater.old.wanted updater.old updater.new result }
+{
+    match send_wanted(shelf, updater, homes, bytes, buf, patience) {
+        Wrote::Ended { failed, buf } => {
+            end_writes(d, updater, failed);
+            mark_left(d, updater, failed);
+            by_votes(d, updater, buf)
+        }
+        Wrote::Dark => CommitEnd::Dark,
+        Wrote::Stuck => CommitEnd::Stuck,
+    }
+}
+
+// Puts what is wanted in flight, and writes it to each member that isn't missing.
+fn send_wanted<S: Shelf>(
+    shelf: &mut S,
+    updater: &mut Updater,
+    homes: &mut Homes,
+    bytes: &mut [u8],
+    buf: Pbuf,
+    patience: &mut Patience,
+) -> Wrote
+    requires ready { IsReady (S.device shelf.old) }
+    requires idle { updater.old.in_flight ≡ None }
+    requires differs { updater.old.committed ≢ updater.old.wanted }
+    requires epoch { updater.old.stamp.epoch ≢ 0 }
+    requires number { updater.old.stamp.seq + 1 < 2 ^ 32 }
+    requires room { HaveRoom (S.device shelf.old) (there updater.old) }
+    requires bytes { longest_content kind.Status ≤ length bytes.old }
+    ensures starts { Starts updater.old updater.new }
+    ensures sent { IsSent (session_write kind.Status (status_bytes updater.old.wanted) (stamped updater.old) homes.old) buf.number patience.old.left patience.new.left homes.old homes.new (S.device shelf.old) (S.device shelf.new) result }
+    ensures frames { Frames kind.Status (record { stamp = next_stamp updater.old.stamp; content = status_bytes updater.old.wanted }) }
+    ensures valid { IsValidStatus updater.old.wanted }
 {
     updater.start();
     let stamp = updater.stamp();
     let targets = updater.writes().unstarted;
     let count = put_wanted(updater, bytes);
-    match write_record(
+    write_record(
         shelf,
         Kind::Status,
         stamp,
@@ -64,15 +90,7 @@ pub fn write_wanted<S: Shelf>(
         homes,
         buf,
         patience,
-    ) {
-        Wrote::Ended { failed, buf } => {
-            end_writes(d, updater, failed);
-            mark_left(d, updater, failed);
-            by_votes(d, updater, buf)
-        }
-        Wrote::Dark => Settled::Dark,
-        Wrote::Stuck => Settled::Stuck,
-    }
+    )
 }
 
 /// Writes a descriptor to each member that isn't missing, under the next stamp. The members on which that fails are
@@ -85,25 +103,49 @@ pub fn write_descriptor<S: Shelf>(
     content: &[u8],
     buf: Pbuf,
     patience: &mut Patience,
-) -> Settled
+) -> CommitEnd
     requires ready { IsReady (S.device shelf.old) }
-    requires valid { IsValid d.now }
-    requires own { IsOf d.now updater.old }
-    requires idle { updater.old.in_flight ≡ None }
-    requires rows { HasItsRows updater.old.group updater.old.wanted }
-    requires epoch { updater.old.stamp.epoch ≢ 0 }
+    requires may { MaySettle d.now updater.old (S.device shelf.old) }
     requires number { updater.old.stamp.seq + 1 < 2 ^ 32 }
-    requires room { HaveRoom (S.device shelf.old) (there updater.old) }
     requires content { length content.now ≤ longest_content kind.Descriptor }
     ensures gives { RecordGives (session_write kind.Descriptor content.now (stamped updater.old) homes.old) buf.number patience.old.left patience.new.left (stamped updater.old) updater.new homes.old homes.new (S.device shelf.old) (S.device shelf.new) result }
     ensures frames { Frames kind.Descriptor (record { stamp = next_stamp updater.old.stamp; content = content.now }) }
     ensures marks { MarksRound d.now updater.old updater.new }
-    ensures committed { IfDone result (λ back. (updater.new.in_flight ≡ None) × (updater.new.committed ≡ updater.old.committed)) }
+    ensures committed { CommitsRound updater.old.committed updater.old updater.new result }
+{
+    match send_descriptor(shelf, d, updater, homes, content, buf, patience) {
+        Wrote::Ended { failed, buf } => {
+            lose(d, updater, failed);
+            mark_left(d, updater, failed);
+            by_votes(d, updater, buf)
+        }
+        Wrote::Dark => CommitEnd::Dark,
+        Wrote::Stuck => CommitEnd::Stuck,
+    }
+}
+
+// Takes the next stamp, and writes a descriptor under it to each member that isn't missing.
+fn send_descriptor<S: Shelf>(
+    shelf: &mut S,
+    d: &Descriptor,
+    updater: &mut Updater,
+    homes: &mut Homes,
+    content: &[u8],
+    buf: Pbuf,
+    patience: &mut Patience,
+) -> Wrote
+    requires ready { IsReady (S.device shelf.old) }
+    requires may { MaySettle d.now updater.old (S.device shelf.old) }
+    requires number { updater.old.stamp.seq + 1 < 2 ^ 32 }
+    requires content { length content.now ≤ longest_content kind.Descriptor }
+    ensures stamps { updater.new ≡ stamped updater.old }
+    ensures sent { IsSent (session_write kind.Descriptor content.now (stamped updater.old) homes.old) buf.number patience.old.left patience.new.left homes.old homes.new (S.device shelf.old) (S.device shelf.new) result }
+    ensures frames { Frames kind.Descriptor (record { stamp = next_stamp updater.old.stamp; content = content.now }) }
 {
     let stamp = next_stamp(updater.stamp());
     updater.set_stamp(stamp);
-    let targets = members_there(d, updater);
-    match write_record(
+    let targets = members_there(d, updater.wanted());
+    write_record(
         shelf,
         Kind::Descriptor,
         stamp,
@@ -112,15 +154,7 @@ pub fn write_descriptor<S: Shelf>(
         homes,
         buf,
         patience,
-    ) {
-        Wrote::Ended { failed, buf } => {
-            lose(d, updater, failed);
-            mark_left(d, updater, failed);
-            by_votes(d, updater, buf)
-        }
-        Wrote::Dark => Settled::Dark,
-        Wrote::Stuck => Settled::Stuck,
-    }
+    )
 }
 
 /// Whether what is wanted is committed.
@@ -156,7 +190,7 @@ fn put_wanted(updater: &Updater, bytes: &mut [u8]) -> usize
 fn end_writes(d: &Descriptor, updater: &mut Updater, failed: DiskSet)
     requires valid { IsValid d.now }
     requires own { IsOf d.now updater.old }
-    requires started { IsStarted updater.old }
+    requires started { IsInFlight updater.old }
     ensures { HasEnded (has failed) updater.old updater.new }
 {
     while let Some(disk) = updater.next_write() {
@@ -201,29 +235,15 @@ fn is_any_of(d: &Descriptor, disks: DiskSet) -> bool
 }
 
 // Whether the members that aren't missing have votes enough to write.
-fn by_votes(d: &Descriptor, updater: &Updater, buf: Pbuf) -> Settled
+fn by_votes(d: &Descriptor, updater: &Updater, buf: Pbuf) -> CommitEnd
     requires valid { IsValid d.now }
     requires own { IsOf d.now updater.now }
     ensures { IsByVotes updater.now buf result }
 {
     let (have, total) = updater.votes();
     if d.enough_to_write(have) {
-        Settled::Done { buf }
+        CommitEnd::Done { buf }
     } else {
-        Settled::WentOff { have, total, buf }
+        CommitEnd::WentOff { have, total, buf }
     }
-}
-
-// The members that aren't missing.
-fn members_there(d: &Descriptor, updater: &Updater) -> DiskSet
-    requires { IsValid d.now }
-    ensures { has result ≡ members_there d.now updater.now.wanted }
-{
-    let mut there = DiskSet::empty();
-    for row in d.pvs.as_slice() {
-        if !updater.wanted().is_missing(row.disk) {
-            there = there.with(row.disk);
-        }
-    }
-    there
 }

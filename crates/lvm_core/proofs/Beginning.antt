@@ -15,7 +15,7 @@ use Rattle.lvm_hold.specs.Waiting.{Waiting}
 use Rattle.lvm_mwc.specs.declared.notes.DiskNotes.{DiskNotes}
 use Rattle.lvm_mwc.specs.Cache.{Cached, no_notes, has_disk, flight_on, IsNew}
 use Rattle.lvm_status.specs.Update.{Updates}
-use Rattle.lvm_quorum.specs.declared.homes.Homes.{Homes}
+use Rattle.lvm_write.specs.declared.homes.Homes.{Homes}
 use Rattle.lvm_core.specs.declared.parts.Room.{Room}
 use Rattle.lvm_core.specs.declared.request.Open.{Open}
 use Rattle.lvm_core.specs.declared.request.Power.TheVariants as power

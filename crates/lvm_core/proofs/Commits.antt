@@ -24,8 +24,8 @@ use Rattle.lvm_kept.specs.Group.{IsOneOf}
 use Rattle.lvm_stale.specs.Table.{has_row, is_pp}
 use Rattle.lvm_status.specs.Calls.{IsMarkable}
 use Rattle.lvm_status.specs.Update.{Stored, members_there}
-use Rattle.lvm_quorum.specs.declared.homes.Homes.{Homes}
-use Rattle.lvm_quorum.specs.Written.{HasRoom}
+use Rattle.lvm_write.specs.declared.homes.Homes.{Homes}
+use Rattle.lvm_write.specs.Written.{HasRoom}
 use Rattle.lvm_commit.specs.Committed.{MayMark, HoldsCommitted}
 use Rattle.lvm_kept.specs.Contents.{Contents}
 use Rattle.lvm_left.specs.Marking.{is_served}
@@ -141,7 +141,7 @@ module _ (core : Core) (stale fresh : List Pp) (first : Stored) (marked : IsMark
   first_is_of = sym (marked.group ∙ group)
 
   pub begun : IsBegun core first
-  begun = record { group = marked.group; stamp = marked.stamp; rows = marked.rows; missing = marked.missing }
+  begun = record { group = marked.group; stamp = marked.stamp; committed = marked.committed; rows = marked.rows; missing = marked.missing }
 
   -- the disks hold what was committed, whatever is wanted now
   pub first_held : (device : Device) → IsHeld device core → SessionIsHeld device core.descriptor first core.homes

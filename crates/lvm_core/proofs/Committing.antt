@@ -1,6 +1,6 @@
 -- What a session and its shelf are after a descriptor was committed.
-use Rattle.std.proofs.Common.{◌≡◌, inl, inr, ⊎_elim, ℕ, ◌++◌, List, refl, sym, ◌∙◌, subst}
-use Rattle.std.specs.Prelude.{Result, Ok, IfOk, IfSome, IsTrue}
+use Rattle.std.proofs.Common.{◌≡◌, inl, inr, ⊎_elim, ℕ, ◌++◌, List, [], refl, sym, ◌∙◌, subst}
+use Rattle.std.specs.Prelude.{Result, Ok, IfSome, IsTrue}
 use Rattle.lvm_num.specs.declared.record.Kind.TheVariants as kind
 use Rattle.lvm_num.specs.declared.descriptor.Descriptor.{Descriptor}
 use Rattle.lvm_num.specs.Disks.{Disks}
@@ -12,40 +12,45 @@ use Rattle.lvm_status.specs.Update.{Stored}
 use Rattle.lvm_vol.specs.Facts.{Fact}
 use Rattle.lvm_kept.specs.Contents.{contents_of}
 use Rattle.lvm_kept.specs.Moments.{Moment, StaysCalm}
+use Rattle.lvm_kept.specs.Plans.{Plan}
 use Rattle.lvm_steps.specs.Moments.{ImagesKept}
-use Rattle.lvm_quorum.specs.Written.{KeepsShelf}
+use Rattle.lvm_write.specs.Written.{KeepsShelf}
 use Rattle.lvm_vgda.proofs.Whole.{spelled_is_read}
-use Rattle.lvm_commit.specs.declared.commit.Settled.{Settled}
-use Rattle.lvm_commit.specs.declared.commit.Settled.TheVariants as settled
 use Rattle.lvm_commit.specs.Committed.{IsAlike}
 use Rattle.lvm_commit.specs.LawsOfFinding.{FindsNoMoreOn}
 use Rattle.lvm_commit.specs.LawsOfVolumes.{VolumeServes}
-use Rattle.lvm_commit.specs.Settling.{MaySettle, IfDone, IsOf, IsOfCommit, IsPlain, SessionIsHeld, ComesHeld}
+use Rattle.lvm_commit.specs.Settling.{MaySettle, IsOf, IsOfCommit, IsPlain, SessionIsHeld, ComesHeld}
 use Rattle.lvm_commit.proofs.Chaining.{keeps_wider}
 use Rattle.lvm_core.specs.declared.fault.CommitFault.{CommitFault}
 use Rattle.lvm_core.specs.State.{Core, State, is_there}
 use Rattle.lvm_core.specs.Sound.{IsSound}
 use Rattle.lvm_core.specs.Held.{IsHeld}
 use Rattle.lvm_core.specs.Settled.{IsSettled}
-use Rattle.lvm_core.specs.Committing.{CommitEnds, HasCommitted, moment_of, SpanGoesOn, LetsCommit, StaysBehind}
+use Rattle.lvm_core.specs.Committing.{CommitEnds, HasCommitted, FailsCommitted, moment_of, SpanGoesOn, LetsCommit, StaysBehind}
 use Rattle.lvm_core.specs.Leaves.{IsOfCommand, NoPartition, Leaves, committing}
-use Rattle.lvm_core.specs.Steps.{CoreEnds, CommitsDescriptor}
+use Rattle.lvm_core.specs.Steps.{CommitsDescriptor}
 use Rattle.lvm_core.proofs.Spanning.{path_falls}
-use Rattle.lvm_core.proofs.LeavesLemmas.{finds_next, ok_then, ok_both}
-use Rattle.lvm_core.proofs.Settled.{IsBegun, there_is, group_is, settles_sound, records_end, most_stays, settles_history, settles_keep, settles_calm, settles_behind}
+use Rattle.lvm_core.proofs.LeavesLemmas.{finds_next, passed_behind}
+use Rattle.lvm_core.proofs.Settled.{IsBegun, there_is, group_is, settles_sound, records_end, fails_committed, most_stays, settles_history, settles_keep, settles_calm, settles_behind}
 use Rattle.lvm_core.proofs.Commits.{session_holds, holds_session}
 
 -- nothing else is wanted first than what is
 still_begun : (core : Core) → IsBegun core core.status
-still_begun core = record { group = refl; stamp = refl; rows = record { id = refl; big = refl; disks = refl }; missing = λ d. refl }
+still_begun core = record { group = refl; stamp = refl; committed = refl; rows = record { id = refl; big = refl; disks = refl }; missing = λ d. refl }
 
 -- the next descriptor may be committed where the session's group may
 pub may_next : (d next : Descriptor) (u : Stored) (device : Device) → MaySettle d u device → IsValid next → IsAlike next d → MaySettle next u device
 may_next d next u device may valid alike = record { valid = valid; own = alike ∙ may.own; idle = may.idle; id = may.id; rows = may.rows; epoch = may.epoch; room = may.room; votes = may.votes }
 
 module _ (next : Descriptor) (before after : ℕ) (old new : State) (answer : Result (Unit {0}) CommitFault) (w : CommitsDescriptor next before after old new answer) (settled_is : IsSettled old.core) (sound : IsSound old) (alike : IsAlike next old.core.descriptor) where
-  abbrev plan : Rattle.lvm_kept.specs.Plans.Plan
+  abbrev plan : Plan
   plan = IsOfCommit (descriptor_bytes next) old.core.status new.core.status
+
+  abbrev Held : Type 0
+  Held = ComesHeld (descriptor_bytes next) old.core.status new.core.status old.core.homes new.core.homes old.device new.device
+
+  abbrev Plain : Type 0
+  Plain = IsPlain kind.Descriptor (descriptor_bytes next) old.core.status new.core.status old.core.homes old.device new.device
 
   read : descriptor_of (descriptor_bytes next) ≡ Ok next
   read = spelled_is_read next w.valid
@@ -57,36 +62,18 @@ module _ (next : Descriptor) (before after : ℕ) (old new : State) (answer : Re
   held_first = session_holds old.device old.core sound.fitting.group
 
   pub descriptor_sound : IsSound new
-  descriptor_sound = settles_sound next plan old.core.status before after old new w.how answer w.settles (still_begun old.core) settled_is sound w.valid alike
+  descriptor_sound = settles_sound Held Plain next plan old.core.status before after old new w.how answer w.settles (still_begun old.core) settled_is sound w.valid alike
 
   pub descriptor_most : new.core.most ≡ old.core.most
-  descriptor_most = most_stays next plan old.core.status before after old new w.how answer w.settles (still_begun old.core) settled_is sound w.valid alike
+  descriptor_most = most_stays Held Plain next plan old.core.status before after old new w.how answer w.settles (still_begun old.core) settled_is sound w.valid alike
 
-  descriptor_held : IsHeld old.device old.core → IfOk answer (λ done. IsHeld new.device new.core)
-  descriptor_held held = by_how w.how w.held w.settles.goes
-    where
-      by_how : (h : Settled) → IfDone h (λ back. ComesHeld (descriptor_bytes next) old.core.status new.core.status old.core.homes new.core.homes old.device new.device) → CoreEnds next old.core new.core h answer
-          → IfOk answer (λ done. IsHeld new.device new.core)
-      by_how (settled.Done back) comes goes =
-          let its = comes old.core.descriptor next read own alike (held_first held) in
-          let group = group_is next plan old.core.status before after old new w.how answer w.settles (still_begun old.core) settled_is sound w.valid alike in
-          subst (λ (a : Result (Unit {0}) CommitFault). IfOk a (λ done. IsHeld new.device new.core)) (sym goes.0)
-          (subst (IsHeld new.device) (sym goes.1) (holds_session new.device old.core next new.core.status new.core.homes (group ∙ sym alike) its.0))
-      by_how (settled.WentOff have total back) comes goes = subst (λ (a : Result (Unit {0}) CommitFault). IfOk a (λ done. IsHeld new.device new.core)) (sym goes.0) tt
-      by_how settled.Dark comes goes = subst (λ (a : Result (Unit {0}) CommitFault). IfOk a (λ done. IsHeld new.device new.core)) (sym goes.0) tt
-      by_how settled.Stuck comes goes = subst (λ (a : Result (Unit {0}) CommitFault). IfOk a (λ done. IsHeld new.device new.core)) (sym goes.0) tt
+  group : new.core.status.group ≡ record old.core.descriptor { lvs = [] }
+  group = group_is Held Plain next plan old.core.status before after old new w.how answer w.settles (still_begun old.core) settled_is sound w.valid alike
 
-  abbrev Plain : Type 0
-  Plain = IsPlain kind.Descriptor (descriptor_bytes next) old.core.status new.core.status old.core.homes old.device new.device
-
-  descriptor_plain : IfOk answer (λ done. Plain)
-  descriptor_plain = by_how w.how w.plain w.settles.goes
-    where
-      by_how : (h : Settled) → IfDone h (λ back. Plain) → CoreEnds next old.core new.core h answer → IfOk answer (λ done. Plain)
-      by_how (settled.Done back) plain goes = subst (λ (a : Result (Unit {0}) CommitFault). IfOk a (λ done. Plain)) (sym goes.0) plain
-      by_how (settled.WentOff have total back) plain goes = subst (λ (a : Result (Unit {0}) CommitFault). IfOk a (λ done. Plain)) (sym goes.0) tt
-      by_how settled.Dark plain goes = subst (λ (a : Result (Unit {0}) CommitFault). IfOk a (λ done. Plain)) (sym goes.0) tt
-      by_how settled.Stuck plain goes = subst (λ (a : Result (Unit {0}) CommitFault). IfOk a (λ done. Plain)) (sym goes.0) tt
+  -- where it is committed
+  descriptor_held : new.core ≡ record old.core { descriptor = next; status = new.core.status; homes = new.core.homes } → Held → IsHeld old.device old.core → IsHeld new.device new.core
+  descriptor_held is comes held = subst (IsHeld new.device) (sym is)
+      (holds_session new.device old.core next new.core.status new.core.homes (group ∙ sym alike) (comes old.core.descriptor next read own alike (held_first held)).0)
 
   descriptor_finds : IsHeld old.device old.core → FindsNoMoreOn next old.device new.device
   descriptor_finds held = w.finds old.core.descriptor next read own alike (held_first held)
@@ -95,50 +82,51 @@ module _ (next : Descriptor) (before after : ℕ) (old new : State) (answer : Re
   descriptor_falls = path_falls old.device new.device w.kept
 
   descriptor_writes : KeepsShelf (is_there old.core) plan old.device new.device
-  descriptor_writes = subst (λ (set : Disks). KeepsShelf set plan old.device new.device) (there_is old.core.descriptor old.core.status sound.fitting.group) w.settles.keeps
+  descriptor_writes = subst (λ (set : Disks). KeepsShelf set plan old.device new.device) (there_is old.core.descriptor old.core.status sound.fitting.group) w.settles.leaves.keeps
 
   descriptor_keeps : IsHeld old.device old.core → (lv run : ℕ) (first : Moment) → LetsCommit lv next run first old → SpanGoesOn run first old new
   descriptor_keeps held lv run first lets span =
-      settles_keep next plan old.core.status before after old new w.how answer w.settles (still_begun old.core) settled_is sound w.valid alike
+      settles_keep Held Plain next plan old.core.status before after old new w.how answer w.settles (still_begun old.core) settled_is sound w.valid alike
       (λ d. (group k : Descriptor) (v : ℕ) (facts : List Fact) → descriptor_of (descriptor_bytes next) ≡ Ok k → IsOf group old.core.status → SessionIsHeld old.device group old.core.status old.core.homes
       → IfSome old.device.media (λ media. VolumeServes (contents_of (image_of old.device.sizes media)) facts group v k) → ImagesKept old.device facts → ImagesKept d facts)
       w.kept run first span
       (λ past begins holds d its. its old.core.descriptor next lv (past ++ old.core.history.facts) read own (held_first held) (lets past begins holds) holds.kept)
 
   descriptor_calm : StaysCalm (moment_of old) (moment_of new)
-  descriptor_calm = settles_calm next plan old.core.status before after old new w.how answer w.settles (still_begun old.core) settled_is sound w.valid alike
+  descriptor_calm = settles_calm Held Plain next plan old.core.status before after old new w.how answer w.settles (still_begun old.core) settled_is sound w.valid alike
 
   descriptor_behind : StaysBehind old new
-  descriptor_behind = settles_behind next plan old.core.status before after old new w.how answer w.settles (still_begun old.core) settled_is sound w.valid alike (λ d n value it. (it.0, it.2))
+  descriptor_behind = settles_behind Held Plain next plan old.core.status before after old new w.how answer w.settles (still_begun old.core) settled_is sound w.valid alike (λ d n value it. (it.0, it.2))
 
   -- ---- all of it
 
   pub descriptor_ends : CommitEnds next before old new answer
-  descriptor_ends = records_end next plan old.core.status before after old new w.how answer w.settles (still_begun old.core) settled_is sound w.valid alike
-      ((IsHeld old.device old.core → IsHeld new.device new.core) × Plain) (HasCommitted next old new)
-      (ok_both _ _ answer (ok_then _ _ answer descriptor_held) descriptor_plain)
-      (λ its is well ready cuts known. record { stated = record { settled = its; is = is; well = well; ready = ready; cuts = cuts; held = known.0 }; plain = known.1 })
+  descriptor_ends = records_end Held Plain next plan old.core.status before after old new w.how answer w.settles (still_begun old.core) settled_is sound w.valid alike (HasCommitted next old new)
+      (λ ok comes plain its is well ready cuts. record { stated = record { settled = its; is = is; well = well; ready = ready; cuts = cuts; held = descriptor_held is comes }; plain = plain })
+
+  pub descriptor_fails : FailsCommitted old new answer
+  descriptor_fails = fails_committed Held Plain next plan old.core.status before after old new w.how answer w.settles (still_begun old.core) settled_is sound w.valid alike
 
   pub descriptor_leaves : Leaves (committing next) before after old new
   descriptor_leaves =
-      let loses = w.settles.loses in
+      let loses = w.settles.leaves.loses in
       record {
         writes = keeps_wider (is_there old.core) (is_there old.core) plan (IsOfCommand (λ d. d ≡ next) NoPartition old new) old.device new.device (λ d off. off) (λ d s value is. inr (inl (next, refl, is))) descriptor_writes;
         status = record {
           group = loses.group;
           rows = loses.rows;
           stale = λ p out. loses.stale p;
-          further = λ p is. ⊎_elim (λ before. inl before) (λ passed. inr (inr passed.absent)) (w.left.only p is);
+          further = λ p is. ⊎_elim (λ before. inl before) (λ passed. inr (inr (passed_behind (λ d. d ≡ next) NoPartition old new next (inr refl) (λ q out. loses.stale q) p is passed))) (w.settles.leaves.left.only p is);
           dirty = loses.dirty;
           stays = loses.stays;
           lost = λ d is isnt. let two = loses.lost d is isnt in (subst (λ (set : Disks). IsTrue (set d)) (there_is old.core.descriptor old.core.status sound.fitting.group) two.0, two.1);
         };
-        numbers = w.settles.numbers;
-        history = settles_history next plan old.core.status before after old new w.how answer w.settles (still_begun old.core) settled_is sound w.valid alike;
+        numbers = w.settles.leaves.numbers;
+        history = settles_history Held Plain next plan old.core.status before after old new w.how answer w.settles (still_begun old.core) settled_is sound w.valid alike;
         spans = λ held run first lets. descriptor_keeps held lets.0 run first lets.1;
         finds = λ held id k is. finds_next (λ d. d ≡ next) old new _ descriptor_writes.media next refl (descriptor_finds held) held id k is;
         calm = descriptor_calm;
         behind = descriptor_behind;
         falls = descriptor_falls;
-        spends = w.settles.spends;
+        spends = w.settles.leaves.spends;
       }

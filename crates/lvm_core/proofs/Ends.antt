@@ -5,164 +5,104 @@ use Rattle.lvm_num.specs.declared.place.Pp.{Pp}
 use Rattle.lvm_num.specs.declared.descriptor.Descriptor.{Descriptor}
 use Rattle.lvm_num.specs.Descriptor.{IsValid}
 use Rattle.lvm_num.specs.DescriptorBytes.{descriptor_bytes}
-use Rattle.lvm_disk.specs.Device.{Device, IsReady}
-use Rattle.lvm_kept.specs.Plans.{Plan}
+use Rattle.lvm_disk.specs.Device.{Device}
 use Rattle.lvm_pbuf.specs.Out.{IsOut}
 use Rattle.lvm_status.specs.Update.{Stored}
-use Rattle.lvm_quorum.specs.declared.homes.Homes.{Homes}
-use Rattle.lvm_quorum.specs.Written.{IsDarkened, IsGivenUp}
-use Rattle.lvm_commit.specs.declared.commit.Settled.{Settled}
-use Rattle.lvm_commit.specs.declared.commit.Settled.TheVariants as settled
-use Rattle.lvm_commit.specs.Settling.{IfDone, IfWentOff, IfBack, OnDark, OnStuck, EndsAtOnce, IsCommitted, HasLostQuorum, AreWell, SpendsNumbers, IsOfStatus, IsOfCommit, StatusStaysKept, DescriptorStaysKept, StatusFindsNothingNew, CommitFindsNoMore, CommitLeaves, SettleEnds, StatusEnds, DescriptorEnds}
+use Rattle.lvm_write.specs.declared.homes.Homes.{Homes}
+use Rattle.lvm_commit.specs.declared.commit.CommitEnd.{CommitEnd}
+use Rattle.lvm_commit.specs.declared.commit.CommitEnd.TheVariants as commit_end
+use Rattle.lvm_commit.specs.Settling.{IfBack, EndsAtOnce, IsOfStatus, IsOfCommit, StatusStaysKept, DescriptorStaysKept, StatusFindsNothingNew, CommitFindsNoMore, CommitLeaves, SettleEnds, StatusEnds, DescriptorEnds}
 use Rattle.lvm_core.specs.declared.fault.CommitFault.{CommitFault}
 use Rattle.lvm_core.specs.declared.request.Power.TheVariants as power
 use Rattle.lvm_core.specs.State.{Core, State}
 use Rattle.lvm_core.specs.Dark.{all_dark}
 use Rattle.lvm_core.specs.Committing.{with_one_out}
-use Rattle.lvm_core.specs.Steps.{IsMarked, EndsAs, CoreEnds, Settles, CommitsDescriptor, CommitsMarks}
+use Rattle.lvm_core.specs.Steps.{IsMarked, EndsAs, CoreEnds, CommitsDescriptor, CommitsMarks, EndsWith}
 use Rattle.lvm_core.proofs.Buffers.{one_is_out, back_again}
-
--- ---- the answer of a commit
-
--- what it says, each by itself
-pub record AtEnd (Held Plain : Type 0) (number before : ℕ) (first last : Stored) (old new : Device) (how : Settled) : Type 0 where
-  pub done : IfDone how (λ back. IsCommitted last)
-  pub held : IfDone how (λ back. Held)
-  pub plain : IfDone how (λ back. Plain)
-  pub off : IfWentOff how (λ have total back. HasLostQuorum first last old new have total)
-  pub spent : IfWentOff how (λ have total back. SpendsNumbers 0 first last)
-  pub number_is : IfBack how (λ back. back.number ≡ number)
-  pub ready : IfBack how (λ back. IsReady new × (new.counts.cuts ≡ old.counts.cuts))
-  pub well : IfBack how (λ back. AreWell last old new)
-  pub dark : OnDark how (IsDarkened number old new)
-  pub stuck : OnStuck how (IsGivenUp number before old new)
-
-pub at_end :
-    (Held Plain : Type 0) (number before : ℕ) (first last : Stored) (old new : Device) (how : Settled) → SettleEnds Held Plain number before first last old new how → AtEnd Held Plain number before first last old new how
-at_end Held Plain number before first last old new (settled.Done buf) ends = record {
-  done = ends.committed;
-  held = ends.held;
-  plain = ends.plain;
-  off = tt;
-  spent = tt;
-  number_is = ends.back.number_is;
-  ready = (ends.back.ready, ends.back.cuts);
-  well = ends.back.well;
-  dark = tt;
-  stuck = tt;
-}
-at_end Held Plain number before first last old new (settled.WentOff have total buf) ends = record {
-  done = tt;
-  held = tt;
-  plain = tt;
-  off = ends.lost;
-  spent = ends.spent;
-  number_is = ends.back.number_is;
-  ready = (ends.back.ready, ends.back.cuts);
-  well = ends.back.well;
-  dark = tt;
-  stuck = tt;
-}
-at_end Held Plain number before first last old new settled.Dark ends = record { done = tt; held = tt; plain = tt; off = tt; spent = tt; number_is = tt; ready = tt; well = tt; dark = ends; stuck = tt }
-at_end Held Plain number before first last old new settled.Stuck ends = record { done = tt; held = tt; plain = tt; off = tt; spent = tt; number_is = tt; ready = tt; well = tt; dark = tt; stuck = ends }
 
 -- ---- the buffer
 
+back_of : (Held Plain : Type 0) (n before : ℕ) (first last : Stored) (old new : Device) (how : CommitEnd) → n ≡ 0 → SettleEnds Held Plain n before first last old new how → IfBack how (λ back. back.number ≡ 0)
+back_of Held Plain n before first last old new (commit_end.Done buf) is ends = ends.back.number_is ∙ is
+back_of Held Plain n before first last old new (commit_end.WentOff have total buf) is ends = ends.back.number_is ∙ is
+back_of Held Plain n before first last old new commit_end.Dark is ends = tt
+back_of Held Plain n before first last old new commit_end.Stuck is ends = tt
+
 pub status_numbered :
-    (n before : ℕ) (first last : Stored) (homes next : Homes) (old new : Device) (how : Settled) → n ≡ 0 → StatusEnds n before first last homes next old new how → IfBack how (λ back. back.number ≡ 0)
-status_numbered n before first last homes next old new how is ends = subst (λ (k : ℕ). IfBack how (λ back. back.number ≡ k)) is (at_end _ _ n before first last old new how ends).number_is
+    (n before : ℕ) (first last : Stored) (homes next : Homes) (old new : Device) (how : CommitEnd) → n ≡ 0 → StatusEnds n before first last homes next old new how → IfBack how (λ back. back.number ≡ 0)
+status_numbered n before first last homes next old new how is ends = back_of _ _ n before first last old new how is ends
 
 pub descriptor_numbered :
-    (content : List ℕ) (n before : ℕ) (first last : Stored) (homes next : Homes) (old new : Device) (how : Settled) → n ≡ 0 → DescriptorEnds content n before first last homes next old new how
+    (content : List ℕ) (n before : ℕ) (first last : Stored) (homes next : Homes) (old new : Device) (how : CommitEnd) → n ≡ 0 → DescriptorEnds content n before first last homes next old new how
     → IfBack how (λ back. back.number ≡ 0)
-descriptor_numbered content n before first last homes next old new how is ends = subst (λ (k : ℕ). IfBack how (λ back. back.number ≡ k)) is (at_end _ _ n before first last old new how ends).number_is
+descriptor_numbered content n before first last homes next old new how is ends = back_of _ _ n before first last old new how is ends
 
 -- it is out until it is taken back
-pub is_out : (how : Settled) (pool taken : List Bool) → taken ≡ with_one_out pool → 1 ≤ length pool → IfBack how (λ back. back.number ≡ 0) → IfBack how (λ back. IsOut taken back.number)
-is_out (settled.Done buf) pool taken is some back = subst (λ (p : List Bool). IsOut p buf.number) (sym is) (one_is_out pool buf.number back some)
-is_out (settled.WentOff have total buf) pool taken is some back = subst (λ (p : List Bool). IsOut p buf.number) (sym is) (one_is_out pool buf.number back some)
-is_out settled.Dark pool taken is some back = tt
-is_out settled.Stuck pool taken is some back = tt
+pub is_out : (how : CommitEnd) (pool taken : List Bool) → taken ≡ with_one_out pool → 1 ≤ length pool → IfBack how (λ back. back.number ≡ 0) → IfBack how (λ back. IsOut taken back.number)
+is_out (commit_end.Done buf) pool taken is some back = subst (λ (p : List Bool). IsOut p buf.number) (sym is) (one_is_out pool buf.number back some)
+is_out (commit_end.WentOff have total buf) pool taken is some back = subst (λ (p : List Bool). IsOut p buf.number) (sym is) (one_is_out pool buf.number back some)
+is_out commit_end.Dark pool taken is some back = tt
+is_out commit_end.Stuck pool taken is some back = tt
 
 -- ---- the session
 
 module _ (old mid new : Core) (mid_is : mid ≡ record old { pool = with_one_out old.pool; status = mid.status; homes = mid.homes }) (all : old.pool ≡ replicate (length old.pool) false) where
-  pub core_ends : (how : Settled) (answer : Result (Unit {0}) CommitFault) → IfBack how (λ back. back.number ≡ 0) → EndsAs mid new how answer → CoreEnds old.descriptor old new how answer
-  core_ends (settled.Done buf) answer number ends =
-      let is : new ≡ record old { status = mid.status; homes = mid.homes } =
+  pub core_ends_with : (next : Descriptor) (how : CommitEnd) (answer : Result (Unit {0}) CommitFault) → IfBack how (λ back. back.number ≡ 0) → EndsWith next mid new how answer → CoreEnds next old new how answer
+  core_ends_with next (commit_end.Done buf) answer number ends =
+      let is : new ≡ record old { descriptor = next; status = mid.status; homes = mid.homes } =
       ends.1
-      ∙ ap (λ (c : Core). record c { pool = slice_set c.pool buf.number false }) mid_is
-      ∙ ap (λ (p : List Bool). record old { pool = p; status = mid.status; homes = mid.homes }) (back_again old.pool buf.number number all)
+      ∙ ap (λ (c : Core). record c { descriptor = next; pool = slice_set c.pool buf.number false }) mid_is
+      ∙ ap (λ (p : List Bool). record old { descriptor = next; pool = p; status = mid.status; homes = mid.homes }) (back_again old.pool buf.number number all)
       in
-      (ends.0, is ∙ ap (λ (c : Core). record old { status = c.status; homes = c.homes }) (sym is))
-  core_ends (settled.WentOff have total buf) answer number ends =
+      (ends.0, is ∙ ap (λ (c : Core). record old { descriptor = next; status = c.status; homes = c.homes }) (sym is))
+  core_ends_with next (commit_end.WentOff have total buf) answer number ends =
       let is : new ≡ record old { status = mid.status; homes = mid.homes; power = power.Off } =
       ends.1
       ∙ ap (λ (c : Core). record c { pool = slice_set c.pool buf.number false; power = power.Off }) mid_is
       ∙ ap (λ (p : List Bool). record old { pool = p; status = mid.status; homes = mid.homes; power = power.Off }) (back_again old.pool buf.number number all)
       in
       (ends.0, is ∙ ap (λ (c : Core). record old { status = c.status; homes = c.homes; power = power.Off }) (sym is))
-  core_ends settled.Dark answer number ends =
+  core_ends_with next commit_end.Dark answer number ends =
       let is : new ≡ all_dark (record old { pool = with_one_out old.pool; status = mid.status; homes = mid.homes }) = ends.1 ∙ ap all_dark mid_is in
       (ends.0, is ∙ ap (λ (c : Core). all_dark (record old { pool = with_one_out old.pool; status = c.status; homes = c.homes })) (sym is))
-  core_ends settled.Stuck answer number ends =
+  core_ends_with next commit_end.Stuck answer number ends =
       let is : new ≡ record old { pool = with_one_out old.pool; status = mid.status; homes = mid.homes } = ends.1 ∙ mid_is in
       (ends.0, is ∙ ap (λ (c : Core). record old { pool = with_one_out old.pool; status = c.status; homes = c.homes }) (sym is))
 
-  -- where it went well the next descriptor is put in
-  pub core_ends_well : (next : Descriptor) (how : Settled) → IfBack how (λ back. back.number ≡ 0) → EndsAs mid new how (Ok tt) → CoreEnds next old (record new { descriptor = next }) how (Ok tt)
-  core_ends_well next (settled.Done buf) number ends =
-      let its = core_ends (settled.Done buf) (Ok tt) number ends in
-      (refl, ap (λ (c : Core). record c { descriptor = next }) its.1)
-  core_ends_well next (settled.WentOff have total buf) number ends = absurd (cc (ends.0))
-  core_ends_well next settled.Dark number ends = absurd (cc (ends.0))
-  core_ends_well next settled.Stuck number ends = absurd (cc (ends.0))
+  pub core_ends : (how : CommitEnd) (answer : Result (Unit {0}) CommitFault) → IfBack how (λ back. back.number ≡ 0) → EndsAs mid new how answer → CoreEnds old.descriptor old new how answer
+  core_ends how answer number ends = core_ends_with old.descriptor how answer number (subst (λ (d : Descriptor). EndsWith d mid new how answer) (ap (λ (c : Core). c.descriptor) mid_is) ends)
 
-  -- and else it stays
-  pub core_ends_badly : (next : Descriptor) (fault : CommitFault) (how : Settled) → IfBack how (λ back. back.number ≡ 0) → EndsAs mid new how (Err fault) → CoreEnds next old new how (Err fault)
-  core_ends_badly next fault (settled.Done buf) number ends = absurd (cc (ends.0))
-  core_ends_badly next fault (settled.WentOff have total buf) number ends = core_ends (settled.WentOff have total buf) (Err fault) number ends
-  core_ends_badly next fault settled.Dark number ends = core_ends settled.Dark (Err fault) number ends
-  core_ends_badly next fault settled.Stuck number ends = core_ends settled.Stuck (Err fault) number ends
+-- where it went well the next descriptor is put in
+pub well_with : (next : Descriptor) (old new : Core) (how : CommitEnd) → EndsAs old new how (Ok tt) → EndsWith next old (record new { descriptor = next }) how (Ok tt)
+well_with next old new (commit_end.Done buf) ends = (refl, ap (λ (c : Core). record c { descriptor = next }) ends.1)
+well_with next old new (commit_end.WentOff have total buf) ends = absurd (cc (ends.0))
+well_with next old new commit_end.Dark ends = absurd (cc (ends.0))
+well_with next old new commit_end.Stuck ends = absurd (cc (ends.0))
+
+-- and else it stays
+pub badly_with : (next : Descriptor) (old new : Core) (fault : CommitFault) (how : CommitEnd) → EndsAs old new how (Err fault) → EndsWith next old new how (Err fault)
+badly_with next old new fault (commit_end.Done buf) ends = absurd (cc (ends.0))
+badly_with next old new fault (commit_end.WentOff have total buf) ends = ends
+badly_with next old new fault commit_end.Dark ends = ends
+badly_with next old new fault commit_end.Stuck ends = ends
 
 -- what is wanted and the slots stay as they were written
-pub status_ends : (mid new : Core) (how : Settled) (answer : Result (Unit {0}) CommitFault) → EndsAs mid new how answer → (new.status ≡ mid.status) × (new.homes ≡ mid.homes)
-status_ends mid new (settled.Done buf) answer ends = (ap (λ (c : Core). c.status) ends.1, ap (λ (c : Core). c.homes) ends.1)
-status_ends mid new (settled.WentOff have total buf) answer ends = (ap (λ (c : Core). c.status) ends.1, ap (λ (c : Core). c.homes) ends.1)
-status_ends mid new settled.Dark answer ends = (ap (λ (c : Core). c.status) ends.1, ap (λ (c : Core). c.homes) ends.1)
-status_ends mid new settled.Stuck answer ends = (ap (λ (c : Core). c.status) ends.1, ap (λ (c : Core). c.homes) ends.1)
-
--- ---- what was written
-
-module _ (next : Descriptor) (plan : Stored → Plan) (first : Stored) (before after : ℕ) (old new : State) (how : Settled) (answer : Result (Unit {0}) CommitFault) where
-  settles :
-      (group : Descriptor) (Held Plain : Type 0) → AtEnd Held Plain 0 before first new.core.status old.device new.device how → CommitLeaves group (plan new.core.status) before after first new.core.status old.device new.device
-      → CoreEnds next old.core new.core how answer → Settles next (plan new.core.status) first before after old new how answer
-  settles group Held Plain ends leaves goes = record {
-    done = ends.done;
-    off = ends.off;
-    ready = ends.ready;
-    well = ends.well;
-    dark = ends.dark;
-    stuck = ends.stuck;
-    loses = leaves.loses;
-    spent = ends.spent;
-    numbers = leaves.numbers;
-    spends = leaves.spends;
-    keeps = leaves.keeps;
-    goes = goes;
-  }
+pub status_ends : (next : Descriptor) (mid new : Core) (how : CommitEnd) (answer : Result (Unit {0}) CommitFault) → EndsWith next mid new how answer → (new.status ≡ mid.status) × (new.homes ≡ mid.homes)
+status_ends next mid new (commit_end.Done buf) answer ends = (ap (λ (c : Core). c.status) ends.1, ap (λ (c : Core). c.homes) ends.1)
+status_ends next mid new (commit_end.WentOff have total buf) answer ends = (ap (λ (c : Core). c.status) ends.1, ap (λ (c : Core). c.homes) ends.1)
+status_ends next mid new commit_end.Dark answer ends = (ap (λ (c : Core). c.status) ends.1, ap (λ (c : Core). c.homes) ends.1)
+status_ends next mid new commit_end.Stuck answer ends = (ap (λ (c : Core). c.status) ends.1, ap (λ (c : Core). c.homes) ends.1)
 
 -- ---- a descriptor
 
-pub record DescriptorPromises (next : Descriptor) (content : List ℕ) (first last : Stored) (homes next_homes : Homes) (number before after : ℕ) (old new : Device) (how : Settled) : Type 0 where
+pub record DescriptorPromises (next : Descriptor) (content : List ℕ) (first last : Stored) (homes next_homes : Homes) (number before after : ℕ) (old new : Device) (how : CommitEnd) : Type 0 where
   pub ends : DescriptorEnds content number before first last homes next_homes old new how
   pub leaves : CommitLeaves next (IsOfCommit content first last) before after first last old new
   pub finds : CommitFindsNoMore content first homes old new
   pub kept : DescriptorStaysKept content first homes old new
 
 pub commits_descriptor :
-    (next : Descriptor) (content : List ℕ) (first last : Stored) (homes next_homes : Homes) (number before after : ℕ) (old new : State) (how : Settled) (answer : Result (Unit {0}) CommitFault)
+    (next : Descriptor) (content : List ℕ) (first last : Stored) (homes next_homes : Homes) (number before after : ℕ) (old new : State) (how : CommitEnd) (answer : Result (Unit {0}) CommitFault)
     → IsValid next → content ≡ descriptor_bytes next → first ≡ old.core.status → homes ≡ old.core.homes → number ≡ 0 → new.core.status ≡ last → new.core.homes ≡ next_homes
     → DescriptorPromises next content first last homes next_homes number before after old.device new.device how → CoreEnds next old.core new.core how answer → CommitsDescriptor next before after old new answer
 commits_descriptor next content first last homes next_homes number before after old new how answer valid bytes is at none then at_then promises goes =
@@ -172,28 +112,18 @@ commits_descriptor next content first last homes next_homes number before after 
     let e = subst (λ (n : ℕ). DescriptorPromises next (descriptor_bytes next) old.core.status last old.core.homes next_homes n before after old.device new.device how) none d in
     let f = subst (λ (h : Homes). DescriptorPromises next (descriptor_bytes next) old.core.status last old.core.homes h 0 before after old.device new.device how) (sym at_then) e in
     let p = subst (λ (u : Stored). DescriptorPromises next (descriptor_bytes next) old.core.status u old.core.homes new.core.homes 0 before after old.device new.device how) (sym then) f in
-    let ends = at_end _ _ 0 before old.core.status new.core.status old.device new.device how p.ends in
-    record {
-      how = how;
-      valid = valid;
-      settles = settles next (IsOfCommit (descriptor_bytes next) old.core.status) old.core.status before after old new how answer next _ _ ends p.leaves goes;
-      held = ends.held;
-      plain = ends.plain;
-      finds = p.finds;
-      left = p.leaves.left;
-      kept = p.kept;
-    }
+    record { how = how; valid = valid; settles = record { ends = p.ends; leaves = p.leaves; goes = goes }; finds = p.finds; kept = p.kept }
 
 -- ---- a status
 
-pub record StatusPromises (group : Descriptor) (first last : Stored) (homes next_homes : Homes) (number before after : ℕ) (old new : Device) (how : Settled) : Type 0 where
+pub record StatusPromises (group : Descriptor) (first last : Stored) (homes next_homes : Homes) (number before after : ℕ) (old new : Device) (how : CommitEnd) : Type 0 where
   pub ends : StatusEnds number before first last homes next_homes old new how
   pub leaves : CommitLeaves group (IsOfStatus first last) before after first last old new
   pub finds : StatusFindsNothingNew first homes old new
   pub kept : StatusStaysKept group first homes old new
 
 pub commits_marks :
-    (to_stale to_fresh : List Pp) (first last : Stored) (homes next_homes : Homes) (number before after : ℕ) (old new : State) (how : Settled) (answer : Result (Unit {0}) CommitFault)
+    (to_stale to_fresh : List Pp) (first last : Stored) (homes next_homes : Homes) (number before after : ℕ) (old new : State) (how : CommitEnd) (answer : Result (Unit {0}) CommitFault)
     → IsMarked to_stale to_fresh old.core.status first → homes ≡ old.core.homes → number ≡ 0 → new.core.status ≡ last → new.core.homes ≡ next_homes
     → StatusPromises old.core.descriptor first last homes next_homes number before after old.device new.device how → CoreEnds old.core.descriptor old.core new.core how answer
     → (first.wanted ≡ first.committed → (answer ≡ Ok tt) × (new.device ≡ old.device) × (new.core ≡ record old.core { status = first })) → CommitsMarks to_stale to_fresh before after old new answer
@@ -202,26 +132,15 @@ commits_marks to_stale to_fresh first last homes next_homes number before after 
     let b = subst (λ (n : ℕ). StatusPromises old.core.descriptor first last old.core.homes next_homes n before after old.device new.device how) none a in
     let d = subst (λ (h : Homes). StatusPromises old.core.descriptor first last old.core.homes h 0 before after old.device new.device how) (sym at_then) b in
     let p = subst (λ (u : Stored). StatusPromises old.core.descriptor first u old.core.homes new.core.homes 0 before after old.device new.device how) (sym then) d in
-    let ends = at_end _ _ 0 before first new.core.status old.device new.device how p.ends in
-    record {
-      first = first;
-      marked = marked;
-      how = how;
-      settles = settles old.core.descriptor (IsOfStatus first) first before after old new how answer old.core.descriptor _ _ ends p.leaves goes;
-      held = ends.held;
-      finds = p.finds;
-      left = p.leaves.left;
-      kept = p.kept;
-      same = same;
-    }
+    record { first = first; marked = marked; how = how; settles = record { ends = p.ends; leaves = p.leaves; goes = goes }; finds = p.finds; kept = p.kept; same = same }
 
 -- where it ended at once
-pub at_once : (Same : Type 0) (old mid new : Core) (mid_is : mid ≡ record old { pool = with_one_out old.pool; status = mid.status; homes = mid.homes }) (all : old.pool ≡ replicate (length old.pool) false) (how : Settled) (answer : Result (Unit {0}) CommitFault)
+pub at_once : (Same : Type 0) (old mid new : Core) (mid_is : mid ≡ record old { pool = with_one_out old.pool; status = mid.status; homes = mid.homes }) (all : old.pool ≡ replicate (length old.pool) false) (how : CommitEnd) (answer : Result (Unit {0}) CommitFault)
     → IfBack how (λ back. back.number ≡ 0) → EndsAs mid new how answer → EndsAtOnce how Same → (Same → mid.homes ≡ old.homes) → Same × (answer ≡ Ok tt) × (new ≡ record old { status = mid.status })
-at_once Same old mid new mid_is all (settled.Done buf) answer number ends same homes =
-    let its = core_ends old mid new mid_is all (settled.Done buf) answer number ends in
-    let is = status_ends mid new (settled.Done buf) answer ends in
+at_once Same old mid new mid_is all (commit_end.Done buf) answer number ends same homes =
+    let its = core_ends old mid new mid_is all (commit_end.Done buf) answer number ends in
+    let is = status_ends mid.descriptor mid new (commit_end.Done buf) answer ends in
     (same, its.0, its.1 ∙ ap (λ (u : Stored). record old { status = u; homes = new.homes }) is.0 ∙ ap (λ (h : Homes). record old { status = mid.status; homes = h }) (is.1 ∙ homes same))
-at_once Same old mid new mid_is all (settled.WentOff have total buf) answer number ends same homes = absurd same
-at_once Same old mid new mid_is all settled.Dark answer number ends same homes = absurd same
-at_once Same old mid new mid_is all settled.Stuck answer number ends same homes = absurd same
+at_once Same old mid new mid_is all (commit_end.WentOff have total buf) answer number ends same homes = absurd same
+at_once Same old mid new mid_is all commit_end.Dark answer number ends same homes = absurd same
+at_once Same old mid new mid_is all commit_end.Stuck answer number ends same homes = absurd same

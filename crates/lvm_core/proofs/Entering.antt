@@ -10,6 +10,7 @@ use Rattle.lvm_core.specs.State.{Core, state}
 use Rattle.lvm_core.specs.Dark.{AreOpen}
 use Rattle.lvm_core.specs.Sound.{IsSound}
 use Rattle.lvm_core.specs.Entering.{IsOfVolume}
+use Rattle.lvm_core.proofs.Own.{fits_with}
 use Rattle.lvm_core.proofs.Telling.{open_quiet}
 
 -- it is about no request
@@ -32,20 +33,8 @@ still_open facts later (o ∷ os) same still = (λ waiting. same o.id ∙ still.
 pub entered_sound : (device : Device) (core : Core) (e : Entry) → IsOfVolume e → IsSound (state device core) → IsSound (state device (record core { history = with_fact core.history (plain_fact e) }))
 entered_sound device core e is sound =
     let same = open_entered core.history.facts e is in
-    let fits = sound.fitting in
     record {
-      fitting = record {
-        valid = fits.valid;
-        id = fits.id;
-        rows = fits.rows;
-        group = fits.group;
-        notes = fits.notes;
-        table = fits.table;
-        most = fits.most;
-        queue = fits.queue;
-        a_buffer = fits.a_buffer;
-        buffers = fits.buffers;
-      };
+      fitting = fits_with core (with_fact core.history (plain_fact e)) core.pool core.power refl sound.fitting;
       told = record {
         table = record { ascending = sound.told.table.ascending; still = still_open core.history.facts (core.history.facts ++ plain_fact e ∷ []) core.requests same sound.told.table.still };
         each = λ id. same id ∙ sound.told.each id;

@@ -1,6 +1,6 @@
 -- What a call leaves, by what its transfers and its entries did.
 use Rattle.std.proofs.Common.{◌≡◌, ◌⊎◌, inl, inr, ⊎_elim, ℕ, ◌+◌, Bool, true, false, cond, List, [], ◌∷◌, ◌++◌, count_by, Option, Some, None, refl, sym, ap, subst, ◌∙◌, arith}
-use Rattle.std.specs.Prelude.{IfSome, IsSomeAnd, IfOk, Result, Ok, Err, IsTrue, if◌then◌else◌}
+use Rattle.std.specs.Prelude.{IfSome, IsSomeAnd, IsTrue, IsFalse, if◌then◌else◌}
 use Rattle.std.proofs.lemmas.Bool.{false≢true}
 use Rattle.std.proofs.lemmas.List.{append-nil}
 use Rattle.std.proofs.lemmas.List.Sums.{sum_by-append}
@@ -19,21 +19,11 @@ use Rattle.lvm_steps.proofs.Making.{media_may}
 use Rattle.lvm_steps.proofs.Spans.{later_append}
 use Rattle.lvm_status.specs.Update.{Stored}
 use Rattle.lvm_commit.specs.LawsOfFinding.{FindsNothingNew, FindsNoMore, FindsNothingNewOn, FindsNoMoreOn}
-use Rattle.lvm_core.specs.declared.fault.CommitFault.{CommitFault}
+use Rattle.lvm_commit.specs.Settling.{IsPassed}
 use Rattle.lvm_core.specs.declared.request.Open.{Open}
 use Rattle.lvm_core.specs.Dark.{dark_log}
 use Rattle.lvm_core.specs.State.{State}
-use Rattle.lvm_core.specs.Leaves.{KeepsStatus, is_of_volume, EntersVolumes, KeepsHistory, MayBeFound, FindsOnly}
-
--- ---- what holds at Ok
-
-pub ok_then : (P Q : Type 0) (answer : Result (Unit {0}) CommitFault) → (P → IfOk answer (λ done. Q)) → IfOk answer (λ done. P → Q)
-ok_then P Q (Ok done) makes = makes
-ok_then P Q (Err fault) makes = tt
-
-pub ok_both : (P Q : Type 0) (answer : Result (Unit {0}) CommitFault) → IfOk answer (λ done. P) → IfOk answer (λ done. Q) → IfOk answer (λ done. P × Q)
-ok_both P Q (Ok done) one two = (one, two)
-ok_both P Q (Err fault) one two = tt
+use Rattle.lvm_core.specs.Leaves.{WasLeftBehind, KeepsStatus, is_of_volume, EntersVolumes, KeepsHistory, MayBeFound, FindsOnly}
 
 -- ---- what is told
 
@@ -110,9 +100,33 @@ module _ (N : Descriptor → Type 0) (a b : State) (R : Media → Media → Type
 
 -- ---- the status
 
+pub outside : (t u : Bool) → (IsTrue t → IsTrue u) → IsFalse u → IsFalse t
+outside true u more off = absurd (false≢true (sym off ∙ more refl))
+outside false u more off = refl
+
+-- a copy that a commit passes over is left behind
+pub passed_behind : (N : Descriptor → Type 0) (F : Pp → Type 0) (a b : State) (group : Descriptor) → (group ≡ a.core.descriptor) ⊎ N group
+    → ((p : Pp) → (F p → ⊥) → IsTrue (calls_stale a.core.status.wanted p) → IsTrue (calls_stale b.core.status.wanted p))
+    → (p : Pp) → IsTrue (calls_stale b.core.status.wanted p) → IsPassed group a.core.status b.core.status p → WasLeftBehind N F a b p
+passed_behind N F a b group known stale p gone is = record {
+  group = group;
+  known = known;
+  row = is.row;
+  lp = is.lp;
+  volume = is.volume;
+  inside = is.inside;
+  one = is.one;
+  absent = is.absent;
+  other = is.other;
+  among = is.among;
+  apart = λ same. false≢true (sym is.fresh ∙ ap (calls_stale b.core.status.wanted) same ∙ gone);
+  usable = λ out. outside (calls_stale a.core.status.wanted is.other) (calls_stale b.core.status.wanted is.other) (stale is.other out) is.fresh;
+  was_there = is.was_there;
+}
+
 -- where the status is the same
-pub same_status : (S F : Pp → Type 0) (a b : State) → b.core.status ≡ a.core.status → KeepsStatus S F a b
-same_status S F a b same = record {
+pub same_status : (N : Descriptor → Type 0) (S F : Pp → Type 0) (a b : State) → b.core.status ≡ a.core.status → KeepsStatus N S F a b
+same_status N S F a b same = record {
   group = ap (λ (s : Stored). s.group) same;
   rows = record { id = ap (λ (s : Stored). s.wanted.id) same; big = ap (λ (s : Stored). s.wanted.big) same; disks = ap (λ (s : Stored). Rattle.std.specs.Prelude.map (λ (r : StatusRow). r.disk) s.wanted.rows) same };
   stale = λ p off is. subst (λ (s : Stored). IsTrue (calls_stale s.wanted p)) (sym same) is;

@@ -16,7 +16,7 @@ use Rattle.lvm_stale.specs.Table.{is_pp, SameMembers, SameMissing}
 use Rattle.lvm_status.specs.declared.change.Change.TheVariants as change
 use Rattle.lvm_status.specs.Update.{Updates, Stored, seen, is_held, is_owed, no_disks}
 use Rattle.lvm_status.specs.Calls.{BecomesStale, BecomesFresh, IsMarkable, closed, with_wanted, given_up}
-use Rattle.lvm_quorum.specs.Written.{HaveRoom}
+use Rattle.lvm_write.specs.Written.{HaveRoom}
 use Rattle.lvm_commit.specs.Settling.{HasSameRows, MaySettle, there}
 use Rattle.lvm_commit.proofs.Wanting.{row_stays}
 use Rattle.lvm_core.specs.Committing.{is_among, Marks}
@@ -96,20 +96,24 @@ wanted_keeps old new u is idle rest = by_test (is_held u && not (is_owed u)) res
 rows_then : (a b c : Status) → HasSameRows a b → SameMembers b c → HasSameRows a c
 rows_then a b c one two = record { id = two.id ∙ one.id; big = two.big ∙ one.big; disks = two.disks ∙ one.disks }
 
+-- the same marks, said of other lists
+remarked : (stale fresh more fresher : List Pp) (none : Type 0) (old now : Stored) → SoFar stale fresh none old now → Marks more fresher old.wanted now.wanted → SoFar more fresher none old now
+remarked stale fresh more fresher none old now so_far marks = record {
+  group = so_far.group;
+  committed = so_far.committed;
+  idle = so_far.idle;
+  stamp = so_far.stamp;
+  rows = so_far.rows;
+  marks = marks;
+  missing = so_far.missing;
+  dirty = so_far.dirty;
+  same = so_far.same;
+}
+
 module _ (pps : List Pp) (none : Type 0) (i : ℕ) (p : Pp) (within : i < length pps) (its : p ≡ get_or pps i p) (old now : Stored) where
   -- a partition that is stale already
   pub stale_passed : SoFar (take i pps) [] none old now → calls_stale now.wanted p ≡ true → SoFar (take (i + 1) pps) [] none old now
-  stale_passed so_far is = record {
-    group = so_far.group;
-    committed = so_far.committed;
-    idle = so_far.idle;
-    stamp = so_far.stamp;
-    rows = so_far.rows;
-    marks = λ q. by_test q (is_pp q p) refl;
-    missing = so_far.missing;
-    dirty = so_far.dirty;
-    same = so_far.same;
-  }
+  stale_passed so_far is = remarked (take i pps) [] (take (i + 1) pps) [] none old now so_far (λ q. by_test q (is_pp q p) refl)
     where
       simple : (a b : Bool) → (a || b) && not false ≡ (a || (b || false)) && not false
       simple true b = refl
@@ -133,17 +137,7 @@ module _ (pps : List Pp) (none : Type 0) (i : ℕ) (p : Pp) (within : i < length
 
   -- and one that is fresh
   pub fresh_passed : SoFar [] (take i pps) none old now → calls_stale now.wanted p ≡ false → SoFar [] (take (i + 1) pps) none old now
-  fresh_passed so_far is = record {
-    group = so_far.group;
-    committed = so_far.committed;
-    idle = so_far.idle;
-    stamp = so_far.stamp;
-    rows = so_far.rows;
-    marks = λ q. by_test q (is_pp q p) refl;
-    missing = so_far.missing;
-    dirty = so_far.dirty;
-    same = so_far.same;
-  }
+  fresh_passed so_far is = remarked [] (take i pps) [] (take (i + 1) pps) none old now so_far (λ q. by_test q (is_pp q p) refl)
     where
       simple : (a b : Bool) → a && not b ≡ a && not (b || false)
       simple a true = refl

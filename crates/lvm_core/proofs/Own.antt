@@ -5,7 +5,9 @@ use Rattle.std.proofs.lemmas.Bool.Decides.{nat_tests}
 use Rattle.lvm_num.specs.Buffer.{Buffer}
 use Rattle.lvm_num.specs.Votes.{is_enough_to_write}
 use Rattle.lvm_disk.specs.Device.{Device, Flight, IsReady}
-use Rattle.lvm_quorum.specs.Written.{FreesAtMost, IsDarkened, IsGivenUp}
+use Rattle.lvm_vol.specs.Log.{Log}
+use Rattle.lvm_write.specs.Written.{FreesAtMost, IsDarkened, IsGivenUp}
+use Rattle.lvm_core.specs.declared.request.Power.{Power}
 use Rattle.lvm_core.specs.declared.request.Power.TheVariants as power
 use Rattle.lvm_core.specs.State.{Core, state, votes_there}
 use Rattle.lvm_core.specs.Dark.{all_dark}
@@ -15,9 +17,9 @@ use Rattle.lvm_core.specs.Committing.{with_one_out}
 use Rattle.lvm_core.proofs.Beginning.{none_out}
 use Rattle.lvm_core.proofs.Arranging.{dark_fits, dark_is_told}
 
--- the parts fit with a pool of as many buffers
-pub fits_pool : (core : Core) (pool : List Bool) → length pool ≡ length core.pool → IsFitting core → IsFitting (record core { pool = pool })
-fits_pool core pool long fits = record {
+-- the parts fit with a pool of as many buffers, whatever was entered, and whether the session is on or off
+pub fits_with : (core : Core) (log : Log) (pool : List Bool) (on : Power) → length pool ≡ length core.pool → IsFitting core → IsFitting (record core { history = log; pool = pool; power = on })
+fits_with core log pool on long fits = record {
   valid = fits.valid;
   id = fits.id;
   rows = fits.rows;
@@ -29,6 +31,9 @@ fits_pool core pool long fits = record {
   a_buffer = subst (λ n. 1 ≤ n) (sym long) fits.a_buffer;
   buffers = subst (λ n. n ≤ 1024) (sym long) fits.buffers;
 }
+
+pub fits_pool : (core : Core) (pool : List Bool) → length pool ≡ length core.pool → IsFitting core → IsFitting (record core { pool = pool })
+fits_pool core pool long fits = fits_with core core.history pool core.power long fits
 
 pub one_out_long : (pool : List Bool) → length (with_one_out pool) ≡ length pool
 one_out_long pool = length-set pool 0 true

@@ -1,6 +1,6 @@
 -- What a session and its shelf are after records were written: it is sound, and goes on as it says.
-use Rattle.std.proofs.Common.{◌≡◌, inr, ℕ, ◌+◌, ◌≤◌, ◌<◌, ◌++◌, Bool, true, false, true≢false, ◌&&◌, not, List, [], refl, sym, ◌∙◌, ap, subst}
-use Rattle.std.specs.Prelude.{IsTrue, IsFalse, IfOk, Result, Contains, count_by}
+use Rattle.std.proofs.Common.{◌≡◌, inl, inr, ⊎_elim, ℕ, ◌+◌, ◌≤◌, ◌<◌, ◌++◌, Bool, true, false, true≢false, ◌&&◌, not, List, [], refl, sym, ◌∙◌, ap, subst}
+use Rattle.std.specs.Prelude.{IsTrue, IsFalse, Ok, Result, Contains, count_by}
 use Rattle.lvm_num.specs.declared.descriptor.PvRow.{PvRow}
 use Rattle.lvm_num.specs.declared.descriptor.Descriptor.{Descriptor}
 use Rattle.lvm_num.specs.declared.record.Stamp.{Stamp}
@@ -25,12 +25,11 @@ use Rattle.lvm_stamps.specs.Laws.{IsOtherOrEarlier}
 use Rattle.lvm_stamps.proofs.Shelves.{earlier_stays_behind}
 use Rattle.lvm_stamps.proofs.Stamps.{session_is_before_later}
 use Rattle.lvm_status.specs.Update.{Stored, members_there}
-use Rattle.lvm_quorum.specs.Written.{IsDarkened, IsGivenUp}
-use Rattle.lvm_quorum.proofs.Writing.{both_map, changes_more}
-use Rattle.lvm_commit.specs.declared.commit.Settled.{Settled}
-use Rattle.lvm_commit.specs.declared.commit.Settled.TheVariants as settled
+use Rattle.lvm_write.proofs.Writing.{both_map, changes_more}
+use Rattle.lvm_commit.specs.declared.commit.CommitEnd.{CommitEnd}
+use Rattle.lvm_commit.specs.declared.commit.CommitEnd.TheVariants as commit_end
 use Rattle.lvm_commit.specs.Committed.{IsAlike}
-use Rattle.lvm_commit.specs.Settling.{HasSameRows, IfDone, IfWentOff, IfBack, OnDark, OnStuck, there, many_there, IsCommitted, HasLostQuorum, AreWell, SpendsNumbers, IsOfSession}
+use Rattle.lvm_commit.specs.Settling.{HasSameRows, there, many_there, IsCommitted, HasLostQuorum, AreWell, SpendsNumbers, StaysCommitted, IsOfSession, SettleEnds}
 use Rattle.lvm_commit.proofs.Wanting.{row_stays}
 use Rattle.lvm_core.specs.declared.fault.CommitFault.{CommitFault}
 use Rattle.lvm_core.specs.declared.request.Power.TheVariants as power
@@ -39,27 +38,12 @@ use Rattle.lvm_core.specs.Dark.{all_dark, dark_log}
 use Rattle.lvm_core.specs.Starting.{IsPlaced, ArePlaced}
 use Rattle.lvm_core.specs.Sound.{is_dark, IsFitting, IsTold, IsSound}
 use Rattle.lvm_core.specs.Settled.{IsSettled}
-use Rattle.lvm_core.specs.Committing.{with_one_out, RecordsEnd, moment_of, StaysBehind}
+use Rattle.lvm_core.specs.Committing.{with_one_out, RecordsEnd, FailsCommitted, moment_of, StaysBehind}
 use Rattle.lvm_core.specs.Leaves.{KeepsHistory}
 use Rattle.lvm_core.specs.Steps.{CoreEnds, Settles}
 use Rattle.lvm_core.proofs.LeavesLemmas.{keeps_same, keeps_dark_log}
-use Rattle.lvm_core.proofs.Own.{fits_pool, one_out_long, sound_ready, sound_dark, sound_stuck}
+use Rattle.lvm_core.proofs.Own.{fits_with, fits_pool, one_out_long, sound_ready, sound_dark, sound_stuck}
 use Rattle.lvm_core.proofs.Spanning.{keeps_dark, calm_dark}
-
--- the parts fit whether the session is on or off
-fits_power : (core : Core) → IsFitting core → IsFitting (record core { power = power.Off })
-fits_power core fits = record {
-  valid = fits.valid;
-  id = fits.id;
-  rows = fits.rows;
-  group = fits.group;
-  notes = fits.notes;
-  table = fits.table;
-  most = fits.most;
-  queue = fits.queue;
-  a_buffer = fits.a_buffer;
-  buffers = fits.buffers;
-}
 
 -- the members that aren't missing, by a session and by its status
 pub there_is : (d : Descriptor) (u : Stored) → u.group ≡ record d { lvs = [] } → there u ≡ members_there d u.wanted
@@ -69,16 +53,17 @@ there_is d u is = λ t. members_there (is t) u.wanted
 pub record IsBegun (old : Core) (first : Stored) : Type 0 where
   pub group : first.group ≡ old.status.group
   pub stamp : first.stamp ≡ old.status.stamp
+  pub committed : first.committed ≡ old.status.committed
   pub rows : HasSameRows old.status.wanted first.wanted
   pub missing : SameMissing old.status.wanted first.wanted
 
-module _ (next : Descriptor) (plan : Plan) (first : Stored) (before after : ℕ) (old new : State) (how : Settled) (answer : Result (Unit {0}) CommitFault) (s : Settles next plan first before after old new how answer)
+module _ (Held Plain : Type 0) (next : Descriptor) (plan : Plan) (first : Stored) (before after : ℕ) (old new : State) (how : CommitEnd) (answer : Result (Unit {0}) CommitFault) (s : Settles Held Plain next plan first before after old new how answer)
     (begins : IsBegun old.core first) (settled_is : IsSettled old.core) (sound : IsSound old) (valid : IsValid next) (alike : IsAlike next old.core.descriptor) where
   group_first : first.group ≡ record old.core.descriptor { lvs = [] }
   group_first = begins.group ∙ sound.fitting.group
 
   pub group_is : new.core.status.group ≡ record old.core.descriptor { lvs = [] }
-  group_is = s.loses.group ∙ group_first
+  group_is = s.leaves.loses.group ∙ group_first
 
   pub there_first : there first ≡ is_there old.core
   there_first = λ t d. is_member (group_first t) d && not (begins.missing d t)
@@ -91,9 +76,9 @@ module _ (next : Descriptor) (plan : Plan) (first : Stored) (before after : ℕ)
   fits : (d : Descriptor) → IsValid d → IsAlike d old.core.descriptor → IsFitting (base d)
   fits d its same = record {
     valid = its;
-    id = s.loses.rows.id ∙ begins.rows.id ∙ sound.fitting.id ∙ sym (ap (λ (g : Descriptor). g.id) same);
+    id = s.leaves.loses.rows.id ∙ begins.rows.id ∙ sound.fitting.id ∙ sym (ap (λ (g : Descriptor). g.id) same);
     rows = λ disk.
-        row_stays first.wanted new.core.status.wanted s.loses.rows disk ∙ row_stays old.core.status.wanted first.wanted begins.rows disk ∙ sound.fitting.rows disk
+        row_stays first.wanted new.core.status.wanted s.leaves.loses.rows disk ∙ row_stays old.core.status.wanted first.wanted begins.rows disk ∙ sound.fitting.rows disk
         ∙ ap (λ (g : Descriptor). is_member g disk) (sym same);
     group = group_is ∙ sym same;
     notes = λ disk. sound.fitting.notes disk ∙ ap (λ (g : Descriptor). is_member g disk) (sym same);
@@ -111,13 +96,13 @@ module _ (next : Descriptor) (plan : Plan) (first : Stored) (before after : ℕ)
   was_there d there = by_test (calls_missing old.core.status.wanted d) refl
     where
       by_test : (b : Bool) → calls_missing old.core.status.wanted d ≡ b → b ≡ false
-      by_test true is = absurd (true≢false (sym (s.loses.stays d (begins.missing d ∙ is)) ∙ there))
+      by_test true is = absurd (true≢false (sym (s.leaves.loses.stays d (begins.missing d ∙ is)) ∙ there))
       by_test false is = refl
 
   placed : (d : Descriptor) → IsAlike d old.core.descriptor → ArePlaced new.device.sizes d new.core.status.wanted
   placed d same row inside there =
       let its = sound.placed row (subst (λ (rows : List PvRow). Contains rows row) (ap (λ (g : Descriptor). g.pvs) same) inside) (was_there row.disk there) in
-      subst (λ (sizes : List ℕ). IsPlaced sizes d.mib row) (sym s.keeps.sizes) (subst (λ (mib : ℕ). IsPlaced old.device.sizes mib row) (sym (ap (λ (g : Descriptor). g.mib) same)) its)
+      subst (λ (sizes : List ℕ). IsPlaced sizes d.mib row) (sym s.leaves.keeps.sizes) (subst (λ (mib : ℕ). IsPlaced old.device.sizes mib row) (sym (ap (λ (g : Descriptor). g.mib) same)) its)
 
   lit : is_dark old.core.power ≡ false
   lit = ap is_dark settled_is.power
@@ -132,7 +117,7 @@ module _ (next : Descriptor) (plan : Plan) (first : Stored) (before after : ℕ)
   as_core core is it = subst (λ (c : Core). IsSound (state new.device c)) (sym is) it
 
   pub settles_sound : IsSound new
-  settles_sound = by_how how refl s.goes
+  settles_sound = by_how how s.ends s.goes
     where
       own : IsAlike old.core.descriptor old.core.descriptor
       own = refl
@@ -149,19 +134,15 @@ module _ (next : Descriptor) (plan : Plan) (first : Stored) (before after : ℕ)
       fits_out : IsFitting out
       fits_out = fits_pool here (with_one_out old.core.pool) (one_out_long old.core.pool) fits_here
 
-      by_how : (h : Settled) → how ≡ h → CoreEnds next old.core new.core h answer → IsSound new
-      by_how (settled.Done back) is goes = as_core (base next) goes.1
-          (sound_ready new.device (base next) (fits next valid alike) (told next) (placed next alike) settled_is.quiet.buffers lit not_off (subst (λ (h : Settled). IfBack h (λ b. IsReady new.device × (new.device.counts.cuts ≡ old.device.counts.cuts))) is s.ready).0)
-      by_how (settled.WentOff have total back) is goes = as_core (record here { power = power.Off }) goes.1
-          (sound_ready new.device (record here { power = power.Off }) (fits_power here fits_here) (record { table = sound.told.table; each = sound.told.each }) (placed old.core.descriptor own) settled_is.quiet.buffers refl
-          (λ off. few have total (subst (λ (h : Settled). IfWentOff h (λ n m b. HasLostQuorum first new.core.status old.device new.device n m)) is s.off))
-          (subst (λ (h : Settled). IfBack h (λ b. IsReady new.device × (new.device.counts.cuts ≡ old.device.counts.cuts))) is s.ready).0)
-      by_how settled.Dark is goes = as_core (all_dark out) goes.1
-          (sound_dark old.device new.device out old.core.pool fits_out (record { table = sound.told.table; each = sound.told.each }) (placed old.core.descriptor own) refl settled_is.quiet.buffers sound.fitting.a_buffer
-          (subst (λ (h : Settled). OnDark h (IsDarkened 0 old.device new.device)) is s.dark))
-      by_how settled.Stuck is goes = as_core out goes.1
-          (sound_stuck before old.device new.device out old.core.pool fits_out (record { table = sound.told.table; each = sound.told.each }) (placed old.core.descriptor own) refl settled_is.quiet.buffers sound.fitting.a_buffer lit not_off
-          (subst (λ (h : Settled). OnStuck h (IsGivenUp 0 before old.device new.device)) is s.stuck))
+      by_how : (h : CommitEnd) → SettleEnds Held Plain 0 before first new.core.status old.device new.device h → CoreEnds next old.core new.core h answer → IsSound new
+      by_how (commit_end.Done back) ends goes = as_core (base next) goes.1 (sound_ready new.device (base next) (fits next valid alike) (told next) (placed next alike) settled_is.quiet.buffers lit not_off ends.back.ready)
+      by_how (commit_end.WentOff have total back) ends goes = as_core (record here { power = power.Off }) goes.1
+          (sound_ready new.device (record here { power = power.Off }) (fits_with here here.history here.pool power.Off refl fits_here) (record { table = sound.told.table; each = sound.told.each }) (placed old.core.descriptor own) settled_is.quiet.buffers refl
+          (λ off. few have total ends.lost) ends.back.ready)
+      by_how commit_end.Dark ends goes = as_core (all_dark out) goes.1
+          (sound_dark old.device new.device out old.core.pool fits_out (record { table = sound.told.table; each = sound.told.each }) (placed old.core.descriptor own) refl settled_is.quiet.buffers sound.fitting.a_buffer ends.0)
+      by_how commit_end.Stuck ends goes = as_core out goes.1
+          (sound_stuck before old.device new.device out old.core.pool fits_out (record { table = sound.told.table; each = sound.told.each }) (placed old.core.descriptor own) refl settled_is.quiet.buffers sound.fitting.a_buffer lit not_off ends.0)
 
   -- ---- how it ends
 
@@ -170,7 +151,7 @@ module _ (next : Descriptor) (plan : Plan) (first : Stored) (before after : ℕ)
     power = settled_is.power;
     quiet = record { requests = settled_is.quiet.requests; copy = settled_is.quiet.copy; status = done.idle; notes = settled_is.quiet.notes; buffers = settled_is.quiet.buffers };
     committed = done.same;
-    epoch = λ none. settled_is.epoch (sym (s.numbers.epoch ∙ ap (λ (t : Stamp). t.epoch) begins.stamp) ∙ none);
+    epoch = λ none. settled_is.epoch (sym (s.leaves.numbers.epoch ∙ ap (λ (t : Stamp). t.epoch) begins.stamp) ∙ none);
     votes = subst (λ (g : Descriptor). CanWrite g (members_there g new.core.status.wanted)) (group_is ∙ sym alike) done.votes;
   }
 
@@ -197,34 +178,62 @@ module _ (next : Descriptor) (plan : Plan) (first : Stored) (before after : ℕ)
         (subst (λ (t : Stamp). new.core.status.stamp.seq + many_there new.core.status ≤ t.seq + more + many_there first) begins.stamp spends.most);
   }
 
-  -- X is what is known beside where it went well
-  pub records_end : (X Done : Type 0) → IfOk answer (λ done. X)
-      → (IsSettled new.core → new.core ≡ base next → AreWell new.core.status old.device new.device → IsReady new.device → new.device.counts.cuts ≡ old.device.counts.cuts → X → Done)
+  stays_from : StaysCommitted first new.core.status old.device new.device → StaysCommitted old.core.status new.core.status old.device new.device
+  stays_from stays = ⊎_elim
+      (λ same. inl (same ∙ begins.committed))
+      (λ came. inr (record {
+        write = came.write;
+        kind = came.kind;
+        content = came.content;
+        epoch = came.epoch ∙ ap (λ (t : Stamp). t.epoch) begins.stamp;
+        later = subst (λ (t : Stamp). t.seq < came.write.framed.stamp.seq) begins.stamp came.later;
+        earlier = came.earlier;
+        members = came.members;
+        votes = subst (λ (g : Descriptor). CanWrite g came.members) begins.group came.votes;
+        moment = came.moment;
+        before = came.before;
+        after = came.after;
+        stands = came.stands;
+      }))
+      stays
+
+  pub records_end : (Done : Type 0) → (answer ≡ Ok tt → Held → Plain → IsSettled new.core → new.core ≡ base next → AreWell new.core.status old.device new.device → IsReady new.device → new.device.counts.cuts ≡ old.device.counts.cuts → Done)
       → RecordsEnd Done before old new answer
-  records_end X Done known makes = by_how how s.done s.off s.spent s.ready s.well s.dark s.stuck s.goes
+  records_end Done makes = by_how how s.ends s.goes
     where
-      by_how : (h : Settled) → IfDone h (λ back. IsCommitted new.core.status) → IfWentOff h (λ have total back. HasLostQuorum first new.core.status old.device new.device have total)
-          → IfWentOff h (λ have total back. SpendsNumbers 0 first new.core.status)
-          → IfBack h (λ back. IsReady new.device × (new.device.counts.cuts ≡ old.device.counts.cuts)) → IfBack h (λ back. AreWell new.core.status old.device new.device)
-          → OnDark h (IsDarkened 0 old.device new.device) → OnStuck h (IsGivenUp 0 before old.device new.device)
-          → CoreEnds next old.core new.core h answer → RecordsEnd Done before old new answer
-      by_how (settled.Done back) done off spent ready well dark stuck goes = subst (λ (a : Result (Unit {0}) CommitFault). RecordsEnd Done before old new a) (sym goes.0)
-          (makes (subst IsSettled (sym goes.1) (settled_next done)) goes.1 well ready.0 ready.1 (subst (λ (a : Result (Unit {0}) CommitFault). IfOk a (λ done. X)) goes.0 known))
-      by_how (settled.WentOff have total back) done off spent ready well dark stuck goes = subst (λ (a : Result (Unit {0}) CommitFault). RecordsEnd Done before old new a) (sym goes.0)
-          (record { lost = lost_from have total off; spent = settles_numbers 0 spent; is = goes.1; well = well; ready = ready.0; cuts = ready.1 })
-      by_how settled.Dark done off spent ready well dark stuck goes = subst (λ (a : Result (Unit {0}) CommitFault). RecordsEnd Done before old new a) (sym goes.0) (record { cut = dark; is = goes.1 })
-      by_how settled.Stuck done off spent ready well dark stuck goes = subst (λ (a : Result (Unit {0}) CommitFault). RecordsEnd Done before old new a) (sym goes.0) (record { out = stuck; is = goes.1 })
+      by_how : (h : CommitEnd) → SettleEnds Held Plain 0 before first new.core.status old.device new.device h → CoreEnds next old.core new.core h answer → RecordsEnd Done before old new answer
+      by_how (commit_end.Done back) ends goes = subst (λ (a : Result (Unit {0}) CommitFault). RecordsEnd Done before old new a) (sym goes.0)
+          (makes goes.0 ends.held ends.plain (subst IsSettled (sym goes.1) (settled_next ends.committed)) goes.1 ends.back.well ends.back.ready ends.back.cuts)
+      by_how (commit_end.WentOff have total back) ends goes = subst (λ (a : Result (Unit {0}) CommitFault). RecordsEnd Done before old new a) (sym goes.0) (record {
+        lost = lost_from have total ends.lost;
+        spent = settles_numbers 0 ends.spent;
+        is = goes.1;
+        well = ends.back.well;
+        ready = ends.back.ready;
+        cuts = ends.back.cuts;
+      })
+      by_how commit_end.Dark ends goes = subst (λ (a : Result (Unit {0}) CommitFault). RecordsEnd Done before old new a) (sym goes.0) (record { cut = ends.0; is = goes.1 })
+      by_how commit_end.Stuck ends goes = subst (λ (a : Result (Unit {0}) CommitFault). RecordsEnd Done before old new a) (sym goes.0) (record { out = ends.0; is = goes.1 })
+
+  pub fails_committed : FailsCommitted old new answer
+  fails_committed = by_how how s.ends s.goes
+    where
+      by_how : (h : CommitEnd) → SettleEnds Held Plain 0 before first new.core.status old.device new.device h → CoreEnds next old.core new.core h answer → FailsCommitted old new answer
+      by_how (commit_end.Done back) ends goes = subst (FailsCommitted old new) (sym goes.0) tt
+      by_how (commit_end.WentOff have total back) ends goes = subst (FailsCommitted old new) (sym goes.0) (stays_from ends.committed)
+      by_how commit_end.Dark ends goes = subst (FailsCommitted old new) (sym goes.0) (stays_from ends.1)
+      by_how commit_end.Stuck ends goes = subst (FailsCommitted old new) (sym goes.0) (stays_from ends.1)
 
   -- ---- the history
 
   by_history : (P : Log → Type 0) → P old.core.history → P (dark_log old.core.history old.core.requests) → P new.core.history
   by_history P same dark = by_how how s.goes
     where
-      by_how : (h : Settled) → CoreEnds next old.core new.core h answer → P new.core.history
-      by_how (settled.Done back) goes = subst (λ (c : Core). P c.history) (sym goes.1) same
-      by_how (settled.WentOff have total back) goes = subst (λ (c : Core). P c.history) (sym goes.1) same
-      by_how settled.Dark goes = subst (λ (c : Core). P c.history) (sym goes.1) dark
-      by_how settled.Stuck goes = subst (λ (c : Core). P c.history) (sym goes.1) same
+      by_how : (h : CommitEnd) → CoreEnds next old.core new.core h answer → P new.core.history
+      by_how (commit_end.Done back) goes = subst (λ (c : Core). P c.history) (sym goes.1) same
+      by_how (commit_end.WentOff have total back) goes = subst (λ (c : Core). P c.history) (sym goes.1) same
+      by_how commit_end.Dark goes = subst (λ (c : Core). P c.history) (sym goes.1) dark
+      by_how commit_end.Stuck goes = subst (λ (c : Core). P c.history) (sym goes.1) same
 
   pub settles_history : KeepsHistory old.core.history new.core.history
   settles_history = by_history (λ (log : Log). KeepsHistory old.core.history log) (keeps_same old.core.history old.core.history refl) (keeps_dark_log old.core.history old.core.requests settled_is.quiet.requests)
@@ -232,11 +241,11 @@ module _ (next : Descriptor) (plan : Plan) (first : Stored) (before after : ℕ)
   pub most_stays : new.core.most ≡ old.core.most
   most_stays = by_how how s.goes
     where
-      by_how : (h : Settled) → CoreEnds next old.core new.core h answer → new.core.most ≡ old.core.most
-      by_how (settled.Done back) goes = ap (λ (c : Core). c.most) goes.1
-      by_how (settled.WentOff have total back) goes = ap (λ (c : Core). c.most) goes.1
-      by_how settled.Dark goes = ap (λ (c : Core). c.most) goes.1
-      by_how settled.Stuck goes = ap (λ (c : Core). c.most) goes.1
+      by_how : (h : CommitEnd) → CoreEnds next old.core new.core h answer → new.core.most ≡ old.core.most
+      by_how (commit_end.Done back) goes = ap (λ (c : Core). c.most) goes.1
+      by_how (commit_end.WentOff have total back) goes = ap (λ (c : Core). c.most) goes.1
+      by_how commit_end.Dark goes = ap (λ (c : Core). c.most) goes.1
+      by_how commit_end.Stuck goes = ap (λ (c : Core). c.most) goes.1
 
   pub settles_keep : (P : Device → Type 0) → Path DeviceStep P old.device new.device → (run : ℕ) (at_first : Moment) → Keeps run at_first (moment_of old)
       → ((past : List Fact) → Begins run past at_first → Holds past (moment_of old) → (d : Device) → P d → ImagesKept d (past ++ old.core.history.facts)) → Keeps run at_first (moment_of new)
@@ -253,7 +262,7 @@ module _ (next : Descriptor) (plan : Plan) (first : Stored) (before after : ℕ)
 
   pub settles_behind : ((d n : ℕ) (value : Sector) → plan d n value → (write : RecordWrite) × IsOfSession first new.core.status write d n value) → StaysBehind old new
   settles_behind own moment later behind = earlier_stays_behind moment old.device new.device
-      (both_map old.device.media new.device.media (λ was is. ChangesBy plan (image_of old.device.sizes was) (image_of new.device.sizes is)) (λ was is. ChangesBy (IsOtherOrEarlier (beginning_at moment)) (image_of old.device.sizes was) (image_of new.device.sizes is)) s.keeps.media
+      (both_map old.device.media new.device.media (λ was is. ChangesBy plan (image_of old.device.sizes was) (image_of new.device.sizes is)) (λ was is. ChangesBy (IsOtherOrEarlier (beginning_at moment)) (image_of old.device.sizes was) (image_of new.device.sizes is)) s.leaves.keeps.media
       (λ m n was is by. changes_more plan (IsOtherOrEarlier (beginning_at moment)) (image_of old.device.sizes m) (image_of new.device.sizes n) (λ d k value it.
       let its = own d k value it in
       inr (record {

@@ -1,6 +1,6 @@
 -- What a session and its shelf are after a status with marks was committed.
 use Rattle.std.proofs.Common.{◌≡◌, ◌⊎◌, ℕ, ◌<◌, ◌++◌, Bool, true, false, List, refl, sym, ◌∙◌, ap, subst, ⊎_elim, inl, inr}
-use Rattle.std.specs.Prelude.{◌&&◌, ◌||◌, not, IsTrue, Result, IfOk, IsOk, Contains}
+use Rattle.std.specs.Prelude.{◌&&◌, ◌||◌, not, IsTrue, Result, IsOk, Contains}
 use Rattle.std.proofs.lemmas.Bool.{false≢true}
 use Rattle.lvm_num.specs.declared.place.Pp.{Pp}
 use Rattle.lvm_num.specs.declared.record.Stamp.{Stamp}
@@ -12,27 +12,25 @@ use Rattle.lvm_kept.specs.Moments.{Moment, StaysCalm}
 use Rattle.lvm_kept.specs.Plans.{Plan}
 use Rattle.lvm_steps.specs.Moments.{StaysKept}
 use Rattle.lvm_status.specs.Update.{Stored}
-use Rattle.lvm_quorum.specs.Written.{KeepsShelf}
-use Rattle.lvm_commit.specs.declared.commit.Settled.{Settled}
-use Rattle.lvm_commit.specs.declared.commit.Settled.TheVariants as settled
+use Rattle.lvm_write.specs.Written.{KeepsShelf}
 use Rattle.lvm_commit.specs.Committed.{IsAlike, MayMark}
 use Rattle.lvm_kept.specs.Contents.{contents_of}
 use Rattle.lvm_disk.specs.Device.{image_of}
-use Rattle.lvm_quorum.proofs.Writing.{if_told}
+use Rattle.lvm_write.proofs.Writing.{if_told}
 use Rattle.lvm_commit.specs.LawsOfFinding.{FindsNothingNewOn}
-use Rattle.lvm_commit.specs.Settling.{IsPassed, IfDone, there, IsOf, IsOfStatus, SessionIsHeld, SpendsNumbers, StaysHeld, WantsMarks}
+use Rattle.lvm_commit.specs.Settling.{IsPassed, there, IsOf, IsOfStatus, IsPlainStatus, SessionIsHeld, SpendsNumbers, StaysHeld, WantsMarks}
 use Rattle.lvm_commit.proofs.Chaining.{keeps_wider}
 use Rattle.lvm_core.specs.declared.fault.CommitFault.{CommitFault}
 use Rattle.lvm_core.specs.State.{State, is_there}
 use Rattle.lvm_core.specs.Sound.{IsSound}
 use Rattle.lvm_core.specs.Held.{IsHeld}
 use Rattle.lvm_core.specs.Settled.{IsSettled}
-use Rattle.lvm_core.specs.Committing.{StatusEnds, HasStated, is_among, AreUnused, AreMarked, Restates, moment_of, SpanGoesOn, StaysBehind}
+use Rattle.lvm_core.specs.Committing.{MarkEnds, HasStated, FailsCommitted, is_among, AreUnused, AreMarked, Restates, moment_of, SpanGoesOn, StaysBehind}
 use Rattle.lvm_core.specs.Leaves.{IsOfCommand, NoDescriptor, NoPartition, KeepsStatus, Leaves, marking}
-use Rattle.lvm_core.specs.Steps.{CoreEnds, CommitsMarks}
-use Rattle.lvm_core.proofs.LeavesLemmas.{finds_nothing, ok_then}
+use Rattle.lvm_core.specs.Steps.{CommitsMarks}
+use Rattle.lvm_core.proofs.LeavesLemmas.{finds_nothing, passed_behind}
 use Rattle.lvm_core.proofs.Spanning.{path_falls}
-use Rattle.lvm_core.proofs.Settled.{IsBegun, there_is, there_first, group_is, settles_sound, settles_numbers, records_end, most_stays, settles_history, settles_keep, settles_calm, settles_behind}
+use Rattle.lvm_core.proofs.Settled.{IsBegun, there_is, there_first, group_is, settles_sound, settles_numbers, records_end, fails_committed, most_stays, settles_history, settles_keep, settles_calm, settles_behind}
 use Rattle.lvm_core.proofs.Commits.{among_at, isnt, holds_session, first_is_of, begun, first_held, wants_marks, none_first, first_none}
 
 -- ---- marks
@@ -57,6 +55,12 @@ module _ (stale fresh : List Pp) (before after : ℕ) (old new : State) (answer 
   abbrev plan : Plan
   plan = IsOfStatus w.first new.core.status
 
+  abbrev Held : Type 0
+  Held = StaysHeld w.first new.core.status old.core.homes new.core.homes old.device new.device
+
+  abbrev Plain : Type 0
+  Plain = IsPlainStatus w.first new.core.status old.core.homes old.device new.device
+
   own : IsOf old.core.descriptor w.first
   own = first_is_of old.core stale fresh w.first w.marked settled_is sound.fitting.group
 
@@ -74,23 +78,16 @@ module _ (stale fresh : List Pp) (before after : ℕ) (old new : State) (answer 
       (λ media told. wants_marks old.core stale fresh w.first w.marked settled_is sound.fitting.group sound.fitting.valid unused (contents_of (image_of old.device.sizes media)))
 
   pub status_sound : IsSound new
-  status_sound = settles_sound old.core.descriptor plan w.first before after old new w.how answer w.settles begins settled_is sound sound.fitting.valid same
+  status_sound = settles_sound Held Plain old.core.descriptor plan w.first before after old new w.how answer w.settles begins settled_is sound sound.fitting.valid same
 
   pub status_most : new.core.most ≡ old.core.most
-  status_most = most_stays old.core.descriptor plan w.first before after old new w.how answer w.settles begins settled_is sound sound.fitting.valid same
+  status_most = most_stays Held Plain old.core.descriptor plan w.first before after old new w.how answer w.settles begins settled_is sound sound.fitting.valid same
 
-  status_held : AreUnused old.core.descriptor (stale ++ fresh) → IsHeld old.device old.core → IfOk answer (λ done. IsHeld new.device new.core)
-  status_held unused held = by_how w.how w.held w.settles.goes
-    where
-      by_how : (h : Settled) → IfDone h (λ back. StaysHeld w.first new.core.status old.core.homes new.core.homes old.device new.device) → CoreEnds old.core.descriptor old.core new.core h answer → IfOk answer (λ done. IsHeld new.device new.core)
-      by_how (settled.Done back) stays goes =
-          let its = stays old.core.descriptor own (wants unused) (held_first held) in
-          let group = group_is old.core.descriptor plan w.first before after old new w.how answer w.settles begins settled_is sound sound.fitting.valid same in
-          subst (λ (a : Result (Unit {0}) CommitFault). IfOk a (λ done. IsHeld new.device new.core)) (sym goes.0)
-          (subst (IsHeld new.device) (sym goes.1) (holds_session new.device old.core old.core.descriptor new.core.status new.core.homes group its.0))
-      by_how (settled.WentOff have total back) stays goes = subst (λ (a : Result (Unit {0}) CommitFault). IfOk a (λ done. IsHeld new.device new.core)) (sym goes.0) tt
-      by_how settled.Dark stays goes = subst (λ (a : Result (Unit {0}) CommitFault). IfOk a (λ done. IsHeld new.device new.core)) (sym goes.0) tt
-      by_how settled.Stuck stays goes = subst (λ (a : Result (Unit {0}) CommitFault). IfOk a (λ done. IsHeld new.device new.core)) (sym goes.0) tt
+  -- where it is committed
+  status_held : AreUnused old.core.descriptor (stale ++ fresh) → new.core ≡ record old.core { descriptor = old.core.descriptor; status = new.core.status; homes = new.core.homes } → Held → IsHeld old.device old.core → IsHeld new.device new.core
+  status_held unused is stays held =
+      let group = group_is Held Plain old.core.descriptor plan w.first before after old new w.how answer w.settles begins settled_is sound sound.fitting.valid same in
+      subst (IsHeld new.device) (sym is) (holds_session new.device old.core old.core.descriptor new.core.status new.core.homes group (stays old.core.descriptor own (wants unused) (held_first held)).0)
 
   -- where all marks are as they are to be
   pub nothing_done : AreMarked stale fresh old.core.status.committed → IsOk answer × (new.device ≡ old.device) × (new.core ≡ old.core)
@@ -106,7 +103,7 @@ module _ (stale fresh : List Pp) (before after : ℕ) (old new : State) (answer 
   status_falls = path_falls old.device new.device w.kept
 
   there_is_so : there w.first ≡ is_there old.core
-  there_is_so = there_first old.core.descriptor plan w.first before after old new w.how answer w.settles begins settled_is sound sound.fitting.valid same
+  there_is_so = there_first Held Plain old.core.descriptor plan w.first before after old new w.how answer w.settles begins settled_is sound sound.fitting.valid same
 
   passed_so : (p : Pp) → IsPassed old.core.descriptor w.first new.core.status p → IsPassed old.core.descriptor old.core.status new.core.status p
   passed_so p is = record {
@@ -124,23 +121,27 @@ module _ (stale fresh : List Pp) (before after : ℕ) (old new : State) (answer 
 
   pub restates : AreUnused old.core.descriptor (stale ++ fresh) → Restates stale fresh old new
   restates unused = record {
-    kept = λ p is. w.settles.loses.stale p (w.marked.marks p ∙ is);
-    only = λ p stale. ⊎_elim (λ was. inl (sym (w.marked.marks p) ∙ was)) (λ (is : IsPassed old.core.descriptor w.first new.core.status p). inr (passed_so p is)) (w.left.only p stale);
-    none = λ none. w.left.none (first_none old.core stale fresh w.first w.marked settled_is sound.fitting.group sound.fitting.valid unused none);
+    kept = λ p is. w.settles.leaves.loses.stale p (w.marked.marks p ∙ is);
+    only = λ p stale. ⊎_elim (λ was. inl (sym (w.marked.marks p) ∙ was)) (λ (is : IsPassed old.core.descriptor w.first new.core.status p). inr (passed_so p is)) (w.settles.leaves.left.only p stale);
+    none = λ none. w.settles.leaves.left.none (first_none old.core stale fresh w.first w.marked settled_is sound.fitting.group sound.fitting.valid unused none);
   }
 
-  marks_kept : KeepsStatus (Contains stale) (Contains fresh) old new
+  stale_stays : (p : Pp) → (Contains fresh p → ⊥) → IsTrue (calls_stale old.core.status.wanted p) → IsTrue (calls_stale new.core.status.wanted p)
+  stale_stays p out is =
+      w.settles.leaves.loses.stale p (w.marked.marks p ∙ stays_marked (calls_stale old.core.status.wanted p) (is_among stale p) (is_among fresh p) (not_among fresh p out) is)
+
+  marks_kept : KeepsStatus NoDescriptor (Contains stale) (Contains fresh) old new
   marks_kept =
-      let loses = w.settles.loses in
+      let loses = w.settles.leaves.loses in
       let marked = w.marked in
       record {
         group = loses.group ∙ marked.group;
         rows = record { id = loses.rows.id ∙ marked.rows.id; big = loses.rows.big ∙ marked.rows.big; disks = loses.rows.disks ∙ marked.rows.disks };
-        stale = λ p out is. loses.stale p (marked.marks p ∙ stays_marked (calls_stale old.core.status.wanted p) (is_among stale p) (is_among fresh p) (not_among fresh p out) is);
+        stale = stale_stays;
         further = λ p is. ⊎_elim
             (λ was. ⊎_elim (λ old. inl old) (λ new. inr (inl (among_at stale p new))) (was_marked (calls_stale old.core.status.wanted p) (is_among stale p) (is_among fresh p) (sym (marked.marks p) ∙ was)))
-            (λ (passed : IsPassed old.core.descriptor w.first new.core.status p). inr (inr passed.absent))
-            (w.left.only p is);
+            (λ (passed : IsPassed old.core.descriptor w.first new.core.status p). inr (inr (passed_behind NoDescriptor (Contains fresh) old new old.core.descriptor (inl refl) stale_stays p is (passed_so p passed))))
+            (w.settles.leaves.left.only p is);
         dirty = loses.dirty ∙ marked.dirty;
         stays = λ d is. loses.stays d (marked.missing d ∙ is);
         lost = λ d is isnt.
@@ -149,7 +150,7 @@ module _ (stale fresh : List Pp) (before after : ℕ) (old new : State) (answer 
       }
 
   status_numbers : SpendsNumbers 1 old.core.status new.core.status
-  status_numbers = settles_numbers old.core.descriptor plan w.first before after old new w.how answer w.settles begins settled_is sound sound.fitting.valid same 1 w.settles.numbers
+  status_numbers = settles_numbers Held Plain old.core.descriptor plan w.first before after old new w.how answer w.settles begins settled_is sound sound.fitting.valid same 1 w.settles.leaves.numbers
 
   status_writes : KeepsShelf (is_there old.core) (IsOfStatus old.core.status new.core.status) old.device new.device
   status_writes = keeps_wider (there w.first) (is_there old.core) plan (IsOfStatus old.core.status new.core.status) old.device new.device
@@ -167,38 +168,40 @@ module _ (stale fresh : List Pp) (before after : ℕ) (old new : State) (answer 
           its = it.2.its;
         },
       ))
-      w.settles.keeps
+      w.settles.leaves.keeps
 
   status_keeps : AreUnused old.core.descriptor (stale ++ fresh) → IsHeld old.device old.core → (run : ℕ) (first : Moment) → SpanGoesOn run first old new
   status_keeps unused held run first span =
-      settles_keep old.core.descriptor plan w.first before after old new w.how answer w.settles begins settled_is sound sound.fitting.valid same
+      settles_keep Held Plain old.core.descriptor plan w.first before after old new w.how answer w.settles begins settled_is sound sound.fitting.valid same
       (λ d. WantsMarks old.device old.core.descriptor w.first → SessionIsHeld old.device old.core.descriptor w.first old.core.homes → StaysKept old.device d)
       w.kept run first span
       (λ past begins holds d its. its (wants unused) (held_first held) (past ++ old.core.history.facts) holds.kept)
 
   status_calm : StaysCalm (moment_of old) (moment_of new)
-  status_calm = settles_calm old.core.descriptor plan w.first before after old new w.how answer w.settles begins settled_is sound sound.fitting.valid same
+  status_calm = settles_calm Held Plain old.core.descriptor plan w.first before after old new w.how answer w.settles begins settled_is sound sound.fitting.valid same
 
   status_behind : StaysBehind old new
-  status_behind = settles_behind old.core.descriptor plan w.first before after old new w.how answer w.settles begins settled_is sound sound.fitting.valid same (λ d n value it. (it.0, it.2))
+  status_behind = settles_behind Held Plain old.core.descriptor plan w.first before after old new w.how answer w.settles begins settled_is sound sound.fitting.valid same (λ d n value it. (it.0, it.2))
 
   -- ---- all of it
 
-  pub status_ends_so : AreUnused old.core.descriptor (stale ++ fresh) → StatusEnds before old new answer
-  status_ends_so unused = records_end old.core.descriptor plan w.first before after old new w.how answer w.settles begins settled_is sound sound.fitting.valid same
-      (IsHeld old.device old.core → IsHeld new.device new.core) (HasStated old.core.descriptor old new) (ok_then _ _ answer (status_held unused))
-      (λ its is well ready cuts held. record { settled = its; is = is; well = well; ready = ready; cuts = cuts; held = held })
+  pub status_ends_so : AreUnused old.core.descriptor (stale ++ fresh) → MarkEnds before old new answer
+  status_ends_so unused = records_end Held Plain old.core.descriptor plan w.first before after old new w.how answer w.settles begins settled_is sound sound.fitting.valid same (HasStated old.core.descriptor old new)
+      (λ ok stays plain its is well ready cuts. record { settled = its; is = is; well = well; ready = ready; cuts = cuts; held = status_held unused is stays })
+
+  pub status_fails : FailsCommitted old new answer
+  status_fails = fails_committed Held Plain old.core.descriptor plan w.first before after old new w.how answer w.settles begins settled_is sound sound.fitting.valid same
 
   pub status_leaves : AreUnused old.core.descriptor (stale ++ fresh) → Leaves (marking stale fresh) before after old new
   status_leaves unused = record {
     writes = keeps_wider (is_there old.core) (is_there old.core) (IsOfStatus old.core.status new.core.status) (IsOfCommand NoDescriptor NoPartition old new) old.device new.device (λ d off. off) (λ d s value is. inl is) status_writes;
     status = marks_kept;
     numbers = status_numbers;
-    history = settles_history old.core.descriptor plan w.first before after old new w.how answer w.settles begins settled_is sound sound.fitting.valid same;
+    history = settles_history Held Plain old.core.descriptor plan w.first before after old new w.how answer w.settles begins settled_is sound sound.fitting.valid same;
     spans = λ held run first always. status_keeps unused held run first;
     finds = λ held id k is. finds_nothing NoDescriptor old new _ status_writes.media (status_finds held) held id k is;
     calm = status_calm;
     behind = status_behind;
     falls = status_falls;
-    spends = w.settles.spends;
+    spends = w.settles.leaves.spends;
   }

@@ -8,8 +8,8 @@ use Rattle.lvm_kept.specs.Places.{SameRecords}
 use Rattle.lvm_kept.specs.Plans.{ChangesBy}
 use Rattle.lvm_transfer.specs.declared.moves.Moved.{Moved}
 use Rattle.lvm_transfer.specs.declared.moves.Moved.TheVariants as moved
-use Rattle.lvm_quorum.specs.Parts.{DoesPart}
-use Rattle.lvm_quorum.proofs.Writing.{if_told, told_at, both_from}
+use Rattle.lvm_write.specs.Parts.{DoesPart}
+use Rattle.lvm_write.proofs.Writing.{if_told, told_at, both_from}
 use Rattle.lvm_stamps.proofs.Shelves.{data_stays_behind}
 use Rattle.lvm_commit.specs.Committed.{HoldsCommitted}
 use Rattle.lvm_commit.specs.LawsOfFinding.{FindsNothingNewOn, FindsNothingNew}
@@ -37,7 +37,7 @@ module _ (pp : Pp) (before after : ℕ) (old new : State) where
   zero_ends answer w = by_how w.how w.part w.zeros w.goes
     where
       by_how : (how : Moved) → DoesPart (λ d. d == pp.disk) (IsZeroOf old.core.descriptor.mib pp) pp.disk 0 before after old.device new.device how
-          → Rattle.lvm_quorum.specs.Parts.IfDone how (λ back. Rattle.lvm_core.specs.Zeros.IsZeroed old.core.descriptor.mib pp new.device) → GoesOnAfter pp.disk old.core new.core how answer → ZeroEnds pp before old new answer
+          → Rattle.lvm_write.specs.Parts.IfMoved how (λ back. Rattle.lvm_core.specs.Zeros.IsZeroed old.core.descriptor.mib pp new.device) → GoesOnAfter pp.disk old.core new.core how answer → ZeroEnds pp before old new answer
       by_how (moved.Done back) part zeros goes = subst (λ (a : Result (Unit {0}) CommitFault). ZeroEnds pp before old new a) (sym goes.0) (record {
         same = record { core = goes.1; ready = part.rests; cuts = part.counts.1 };
         zeros = zeros;
@@ -94,7 +94,7 @@ module _ (pp : Pp) (before after : ℕ) (old new : State) where
 
     pub zero_behind : StaysBehind old new
     zero_behind moment later behind = data_stays_behind moment old.device new.device w.part.keeps.sizes
-        (Rattle.lvm_quorum.proofs.Writing.both_map old.device.media new.device.media
+        (Rattle.lvm_write.proofs.Writing.both_map old.device.media new.device.media
         (λ was is. ChangesBy (IsZeroOf old.core.descriptor.mib pp) (image_of old.device.sizes was) (image_of new.device.sizes is))
         (λ was is. (d s : ℕ) → s < data_start → is d s ≡ was d s) w.part.keeps.media
         (λ m n was is by d s lt. (zeros_below old.core.descriptor.mib pp (image_of old.device.sizes m) (image_of new.device.sizes n) by).sectors d s lt)) behind

@@ -26,9 +26,9 @@ use Rattle.lvm_steps.proofs.Spans.{keeps_path}
 use Rattle.lvm_status.specs.Update.{Stored}
 use Rattle.lvm_transfer.specs.declared.moves.Moved.{Moved}
 use Rattle.lvm_transfer.specs.declared.moves.Moved.TheVariants as moved
-use Rattle.lvm_quorum.specs.Parts.{DoesPart}
-use Rattle.lvm_quorum.specs.Written.{IsWriting}
-use Rattle.lvm_quorum.proofs.Writing.{told_at}
+use Rattle.lvm_write.specs.Parts.{DoesPart}
+use Rattle.lvm_write.specs.Written.{IsWriting}
+use Rattle.lvm_write.proofs.Writing.{told_at}
 use Rattle.lvm_commit.specs.Committed.{HoldsCommitted}
 use Rattle.lvm_commit.specs.LawsOfData.{IsFree, PartitionChange}
 use Rattle.lvm_commit.specs.Settling.{SpendsNumbers}
@@ -130,7 +130,7 @@ module _ (pp : Pp) (before after : ℕ) (old new : State) (answer : Result (Unit
       let same = (zero_keeps_records pp before after old new answer w).status in
       record {
         writes = keeps_wider (λ d. d == pp.disk) (is_there old.core) (IsZeroOf old.core.descriptor.mib pp) (IsOfCommand NoDescriptor (λ p. p ≡ pp) old new) old.device new.device (on_its_disk there) (λ d s value is. inr (inr (pp, refl, is))) w.part.keeps;
-        status = same_status NoPartition NoPartition old new same;
+        status = same_status NoDescriptor NoPartition NoPartition old new same;
         numbers = subst (λ (u : Stored). SpendsNumbers 0 old.core.status u) (sym same) (record { epoch = refl; rises = omega arith; most = omega arith });
         history = zero_core pp before after old new (λ (c : Core). KeepsHistory old.core.history c.history) (λ is. is) (λ is. keeps_dark_log old.core.history old.core.requests settled.quiet.requests) answer w (keeps_same old.core.history old.core.history refl);
         spans = λ held run first always. zero_keeps there free held run first;

@@ -16,9 +16,9 @@ use Rattle.lvm_transfer.specs.declared.moves.Moved.{Moved}
 use Rattle.lvm_transfer.specs.declared.moves.Moved.TheVariants as moved
 use Rattle.lvm_transfer.proofs.Ending.{one_left}
 use Rattle.lvm_transfer.proofs.Effects.{out_flights}
-use Rattle.lvm_quorum.specs.Parts.{IfDone}
-use Rattle.lvm_quorum.specs.Written.{IsInPlan, KeepsShelf}
-use Rattle.lvm_quorum.proofs.Writing.{if_told, told_at, both_from, stand_told}
+use Rattle.lvm_write.specs.Parts.{IfMoved}
+use Rattle.lvm_write.specs.Written.{IsInPlan, KeepsShelf}
+use Rattle.lvm_write.proofs.Writing.{if_told, told_at, both_from, stand_told}
 use Rattle.lvm_commit.specs.LawsOfData.{IsSectorOf}
 use Rattle.lvm_core.specs.Zeros.{IsZeroOf, IsZeroed, AreZeroed, IsClear}
 
@@ -69,7 +69,7 @@ module _ (mib : ℕ) (pp : Pp) (piece first : ℕ) (buf : Buffer) (place : first
 
   -- once it has ended well they stand there,
   pub piece_zeroed : (before : ℕ) (old new : Device) (ticket : ℕ) (how : Moved) → IsReady old → TransferGives before old new (flight_of ticket true pp.disk first 256 buf) how
-      → IfDone how (λ back. AreZeroed mib pp (256 * piece) (256 * piece + 256) new)
+      → IfMoved how (λ back. AreZeroed mib pp (256 * piece) (256 * piece + 256) new)
   piece_zeroed before old new ticket (moved.Done back) ready (now, out, ends) =
       let f = flight_of ticket true pp.disk first 256 buf in
       let it = one_left f now.flights new.flights ends.flight (out_flights old now f out ready.flights) ends.flights in
@@ -84,7 +84,7 @@ module _ (mib : ℕ) (pp : Pp) (piece first : ℕ) (buf : Buffer) (place : first
   piece_zeroed before old new ticket moved.Stuck ready gives = tt
 
   -- and the buffer is as it was
-  pub piece_back : (before : ℕ) (old new : Device) (ticket : ℕ) (how : Moved) → IsReady old → TransferGives before old new (flight_of ticket true pp.disk first 256 buf) how → IfDone how (λ back. back ≡ buf)
+  pub piece_back : (before : ℕ) (old new : Device) (ticket : ℕ) (how : Moved) → IsReady old → TransferGives before old new (flight_of ticket true pp.disk first 256 buf) how → IfMoved how (λ back. back ≡ buf)
   piece_back before old new ticket (moved.Done back) ready (now, out, ends) =
       let f = flight_of ticket true pp.disk first 256 buf in
       let it = one_left f now.flights new.flights ends.flight (out_flights old now f out ready.flights) ends.flights in

@@ -6,7 +6,7 @@ use Rattle.lvm_kept.specs.Moments.{StaysCalm}
 use Rattle.lvm_steps.specs.Moments.{Keeps}
 use Rattle.lvm_steps.specs.Requests.{at}
 use Rattle.lvm_stamps.specs.Behind.{ClockIsAhead, IsBehind}
-use Rattle.lvm_quorum.specs.Parts.{Spends}
+use Rattle.lvm_write.specs.Parts.{Spends}
 use Rattle.lvm_commit.specs.Settling.{NoneIsLeft}
 use Rattle.lvm_core.specs.declared.refused.Refused.{Refused}
 use Rattle.lvm_core.specs.State.{Core, State}

@@ -16,10 +16,10 @@ use Rattle.lvm_steps.specs.Moments.{Begins, Holds, Keeps}
 use Rattle.lvm_steps.specs.Requests.{at}
 use Rattle.lvm_stale.specs.Table.{is_pp}
 use Rattle.lvm_stamps.specs.Behind.{IsBehind}
-use Rattle.lvm_quorum.specs.Written.{IsDarkened, IsGivenUp}
+use Rattle.lvm_write.specs.Written.{IsDarkened, IsGivenUp}
 use Rattle.lvm_commit.specs.LawsOfData.{IsFree}
 use Rattle.lvm_commit.specs.LawsOfVolumes.{VolumeServes}
-use Rattle.lvm_commit.specs.Settling.{NoneIsLeft, IsPassed, HasLostQuorum, AreWell, SpendsNumbers, IsPlain}
+use Rattle.lvm_commit.specs.Settling.{NoneIsLeft, IsPassed, HasLostQuorum, AreWell, SpendsNumbers, StaysCommitted, IsPlain}
 use Rattle.lvm_core.specs.declared.fault.CommitFault.{CommitFault}
 use Rattle.lvm_core.specs.declared.fault.CommitFault.TheVariants as fault
 use Rattle.lvm_core.specs.declared.request.Power.TheVariants as power
@@ -77,13 +77,18 @@ RecordsEnd Done patience old new (Err fault.Dark) = HasGoneDark old new
 RecordsEnd Done patience old new (Err fault.Stuck) = IsLeftOut patience old new
 RecordsEnd Done patience old new (Err (fault.DiskFailed disk)) = ⊥
 
+-- where it fails, what was committed still is, or what a record of the call before its last one committed
+abbrev pub FailsCommitted : State → State → Result (Unit {0}) CommitFault → Type 0
+FailsCommitted old new (Ok done) = Unit {0}
+FailsCommitted old new (Err fault) = StaysCommitted old.core.status new.core.status old.device new.device
+
 -- what a commit answers
 abbrev pub CommitEnds : Descriptor → ℕ → State → State → Result (Unit {0}) CommitFault → Type 0
 CommitEnds next patience old new answer = RecordsEnd (HasCommitted next old new) patience old new answer
 
 -- what it answers when a status alone is committed
-abbrev pub StatusEnds : ℕ → State → State → Result (Unit {0}) CommitFault → Type 0
-StatusEnds patience old new answer = RecordsEnd (HasStated old.core.descriptor old new) patience old new answer
+abbrev pub MarkEnds : ℕ → State → State → Result (Unit {0}) CommitFault → Type 0
+MarkEnds patience old new answer = RecordsEnd (HasStated old.core.descriptor old new) patience old new answer
 
 -- ---- marks
 

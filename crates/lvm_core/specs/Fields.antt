@@ -29,10 +29,10 @@ core_of s = record {
 abbrev pub reserved_of : Inside → Reserved
 reserved_of p = record {
   descriptor = p.descriptor;
-  requests = p.requests.items;
+  requests = p.taken.tables.requests.items;
   most = p.most;
-  queue = p.queue;
-  pool = p.pool;
-  status = p.updater;
-  cache = p.cache;
+  queue = p.taken.tables.queue;
+  pool = p.taken.buffers.pool;
+  status = p.taken.records.updater;
+  cache = p.taken.records.cache;
 }

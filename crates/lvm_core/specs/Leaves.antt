@@ -1,7 +1,9 @@
 -- What each call of a session leaves, whatever its answer.
-use Rattle.std.specs.Prelude.{◌≡◌, ◌⊎◌, ℕ, ◌<◌, ◌≤◌, Bool, true, false, List, [], count_by, Contains, IsTrue, IsFalse}
+use Rattle.std.specs.Prelude.{◌≡◌, ◌≢◌, ◌⊎◌, ℕ, ◌<◌, ◌≤◌, Bool, true, false, List, [], count_by, Contains, IsTrue, IsFalse}
 use Rattle.lvm_num.specs.declared.place.Pp.{Pp}
+use Rattle.lvm_num.specs.declared.descriptor.LvRow.{LvRow}
 use Rattle.lvm_num.specs.declared.descriptor.Descriptor.{Descriptor}
+use Rattle.lvm_num.specs.Descriptor.{copies_of}
 use Rattle.lvm_num.specs.DescriptorBytes.{descriptor_bytes}
 use Rattle.lvm_num.specs.Status.{calls_stale, calls_missing}
 use Rattle.lvm_disk.specs.Counts.{Rose, NoneFalls}
@@ -11,11 +13,11 @@ use Rattle.lvm_vol.specs.Facts.{Fact, Making, Made, Split, Removing, Removed}
 use Rattle.lvm_vol.specs.Legal.{IsLater}
 use Rattle.lvm_vol.specs.Log.{Log}
 use Rattle.lvm_kept.specs.Contents.{contents_of}
-use Rattle.lvm_kept.specs.Group.{IsFound}
+use Rattle.lvm_kept.specs.Group.{IsFound, IsOneOf}
 use Rattle.lvm_kept.specs.Moments.{Moment, StaysCalm}
 use Rattle.lvm_kept.specs.Plans.{Plan}
-use Rattle.lvm_quorum.specs.Parts.{Spends}
-use Rattle.lvm_quorum.specs.Written.{KeepsShelf}
+use Rattle.lvm_write.specs.Parts.{Spends}
+use Rattle.lvm_write.specs.Written.{KeepsShelf}
 use Rattle.lvm_commit.specs.Settling.{there, HasSameRows, SpendsNumbers, IsOfStatus, IsOfCommit}
 use Rattle.lvm_core.specs.State.{State, is_there}
 use Rattle.lvm_core.specs.Held.{IsHeld}
@@ -65,13 +67,29 @@ IsOfCommand N Z old new d s value =
     ⊎ ((next : Descriptor) × N next × IsOfCommit (descriptor_bytes next) old.core.status new.core.status d s value)
     ⊎ ((pp : Pp) × Z pp × IsZeroOf old.core.descriptor.mib pp d s value)
 
+-- A copy of a volume of the descriptor, or of one of which N holds, on a disk that isn't there: another copy of its logical partition was usable, or made so.
+pub record WasLeftBehind (N : Descriptor → Type 0) (F : Pp → Type 0) (old new : State) (p : Pp) : Type 0 where
+  pub group : Descriptor
+  pub known : (group ≡ old.core.descriptor) ⊎ N group
+  pub row : LvRow
+  pub lp : ℕ
+  pub volume : IsOneOf group.lvs row
+  pub inside : lp < row.lps
+  pub one : IsOneOf (copies_of row lp) p
+  pub absent : IsFalse (there new.core.status p.disk)
+  pub other : Pp
+  pub among : IsOneOf (copies_of row lp) other
+  pub apart : other ≢ p
+  pub usable : (F other → ⊥) → IsFalse (calls_stale old.core.status.wanted other)
+  pub was_there : IsTrue (there old.core.status other.disk)
+
 -- What is wanted of the status afterwards: members have become missing, each after a transfer to it has failed; stale ones of the partitions of which F holds
--- may be fresh, and further ones are stale only where S holds or on members that aren't there any more.
-pub record KeepsStatus (S F : Pp → Type 0) (old new : State) : Type 0 where
+-- may be fresh, and further ones are stale only where S holds or as copies that were left behind.
+pub record KeepsStatus (N : Descriptor → Type 0) (S F : Pp → Type 0) (old new : State) : Type 0 where
   pub group : new.core.status.group ≡ old.core.status.group
   pub rows : HasSameRows old.core.status.wanted new.core.status.wanted
   pub stale : (p : Pp) → (F p → ⊥) → IsTrue (calls_stale old.core.status.wanted p) → IsTrue (calls_stale new.core.status.wanted p)
-  pub further : (p : Pp) → IsTrue (calls_stale new.core.status.wanted p) → IsTrue (calls_stale old.core.status.wanted p) ⊎ S p ⊎ IsFalse (there new.core.status p.disk)
+  pub further : (p : Pp) → IsTrue (calls_stale new.core.status.wanted p) → IsTrue (calls_stale old.core.status.wanted p) ⊎ S p ⊎ WasLeftBehind N F old new p
   pub dirty : new.core.status.wanted.dirty ≡ old.core.status.wanted.dirty
   pub stays : (d : ℕ) → IsTrue (calls_missing old.core.status.wanted d) → IsTrue (calls_missing new.core.status.wanted d)
   pub lost : (d : ℕ) → IsTrue (calls_missing new.core.status.wanted d) → IsFalse (calls_missing old.core.status.wanted d)
@@ -113,7 +131,7 @@ FindsOnly N old new = IsHeld old.device old.core → (id : ℕ) (k : Descriptor)
 -- What a call leaves that may do this, with the patience before and after, whatever its answer.
 pub record Leaves (scope : Scope) (before after : ℕ) (old new : State) : Type 0 where
   pub writes : KeepsShelf (is_there old.core) (IsOfCommand scope.next scope.zeros old new) old.device new.device
-  pub status : KeepsStatus scope.stale scope.fresh old new
+  pub status : KeepsStatus scope.next scope.stale scope.fresh old new
   -- the stamps are of the same session, and rise
   pub numbers : SpendsNumbers scope.numbers old.core.status new.core.status
   pub history : KeepsHistory old.core.history new.core.history

@@ -14,7 +14,7 @@ use Rattle.lvm_mwc.specs.Cache.{Cached, notes_on, no_notes}
 use Rattle.lvm_status.specs.Calls.{first_updates}
 use Rattle.lvm_status.specs.Members.{HasItsRows}
 use Rattle.lvm_status.specs.Update.{Stored, seen}
-use Rattle.lvm_quorum.specs.declared.homes.Homes.{Homes}
+use Rattle.lvm_write.specs.declared.homes.Homes.{Homes}
 use Rattle.lvm_core.specs.declared.parts.Room.{Room}
 use Rattle.lvm_core.specs.declared.request.Open.{Open}
 use Rattle.lvm_core.specs.declared.request.Power.TheVariants as power

@@ -5,15 +5,12 @@ use Rattle.lvm_num.specs.declared.record.Kind.TheVariants as kind
 use Rattle.lvm_num.specs.declared.descriptor.Descriptor.{Descriptor}
 use Rattle.lvm_num.specs.Descriptor.{IsValid}
 use Rattle.lvm_num.specs.DescriptorBytes.{descriptor_bytes}
-use Rattle.lvm_disk.specs.Device.{IsReady}
 use Rattle.lvm_kept.specs.Plans.{Plan}
 use Rattle.lvm_stale.specs.Table.{SameMissing}
 use Rattle.lvm_status.specs.Update.{Stored}
-use Rattle.lvm_quorum.specs.Parts.{Spends}
-use Rattle.lvm_quorum.specs.Written.{IsDarkened, IsGivenUp, KeepsShelf}
-use Rattle.lvm_commit.specs.declared.commit.Settled.{Settled}
-use Rattle.lvm_commit.specs.declared.commit.Settled.TheVariants as settled
-use Rattle.lvm_commit.specs.Settling.{HasSameRows, IfDone, IfWentOff, IfBack, OnDark, OnStuck, there, IsCommitted, HasLostQuorum, OnlyLoses, MarksLeft, AreWell, SpendsNumbers, IsOfStatus, IsOfCommit, IsPlain, StatusStaysKept, DescriptorStaysKept, StatusFindsNothingNew, CommitFindsNoMore, StaysHeld, ComesHeld}
+use Rattle.lvm_commit.specs.declared.commit.CommitEnd.{CommitEnd}
+use Rattle.lvm_commit.specs.declared.commit.CommitEnd.TheVariants as commit_end
+use Rattle.lvm_commit.specs.Settling.{HasSameRows, IsOfStatus, IsOfCommit, IsPlain, IsPlainStatus, StatusStaysKept, DescriptorStaysKept, StatusFindsNothingNew, CommitFindsNoMore, StaysHeld, ComesHeld, CommitLeaves, SettleEnds}
 use Rattle.lvm_core.specs.declared.fault.CommitFault.{CommitFault}
 use Rattle.lvm_core.specs.declared.fault.CommitFault.TheVariants as fault
 use Rattle.lvm_core.specs.declared.request.Power.TheVariants as power
@@ -37,56 +34,49 @@ pub record IsMarked (to_stale to_fresh : List Pp) (old new : Stored) : Type 0 wh
 
 -- ---- after the records
 
--- The session with the buffer back where it comes back; off where the votes are lost, and ended where the power was cut.
-abbrev pub EndsAs : Core → Core → Settled → Result (Unit {0}) CommitFault → Type 0
-EndsAs old new (settled.Done back) answer = (answer ≡ Ok tt) × (new ≡ record old { pool = slice_set old.pool back.number false })
-EndsAs old new (settled.WentOff have total back) answer = (answer ≡ Err (fault.WentOff have total)) × (new ≡ record old { pool = slice_set old.pool back.number false; power = power.Off })
-EndsAs old new settled.Dark answer = (answer ≡ Err fault.Dark) × (new ≡ all_dark old)
-EndsAs old new settled.Stuck answer = (answer ≡ Err fault.Stuck) × (new ≡ old)
+-- The session with this descriptor where it is committed, and the buffer back where it comes back; off where the votes are lost, and ended where the power was cut.
+abbrev pub EndsWith : Descriptor → Core → Core → CommitEnd → Result (Unit {0}) CommitFault → Type 0
+EndsWith next old new (commit_end.Done back) answer = (answer ≡ Ok tt) × (new ≡ record old { descriptor = next; pool = slice_set old.pool back.number false })
+EndsWith next old new (commit_end.WentOff have total back) answer = (answer ≡ Err (fault.WentOff have total)) × (new ≡ record old { pool = slice_set old.pool back.number false; power = power.Off })
+EndsWith next old new commit_end.Dark answer = (answer ≡ Err fault.Dark) × (new ≡ all_dark old)
+EndsWith next old new commit_end.Stuck answer = (answer ≡ Err fault.Stuck) × (new ≡ old)
+
+-- with the descriptor that it has
+abbrev pub EndsAs : Core → Core → CommitEnd → Result (Unit {0}) CommitFault → Type 0
+EndsAs old new end answer = EndsWith old.descriptor old new end answer
 
 -- The session with this descriptor where it is committed; the buffer is back, or out.
-abbrev pub CoreEnds : Descriptor → Core → Core → Settled → Result (Unit {0}) CommitFault → Type 0
-CoreEnds next old new (settled.Done back) answer = (answer ≡ Ok tt) × (new ≡ record old { descriptor = next; status = new.status; homes = new.homes })
-CoreEnds next old new (settled.WentOff have total back) answer = (answer ≡ Err (fault.WentOff have total)) × (new ≡ record old { status = new.status; homes = new.homes; power = power.Off })
-CoreEnds next old new settled.Dark answer = (answer ≡ Err fault.Dark) × (new ≡ all_dark (record old { pool = with_one_out old.pool; status = new.status; homes = new.homes }))
-CoreEnds next old new settled.Stuck answer = (answer ≡ Err fault.Stuck) × (new ≡ record old { pool = with_one_out old.pool; status = new.status; homes = new.homes })
+abbrev pub CoreEnds : Descriptor → Core → Core → CommitEnd → Result (Unit {0}) CommitFault → Type 0
+CoreEnds next old new (commit_end.Done back) answer = (answer ≡ Ok tt) × (new ≡ record old { descriptor = next; status = new.status; homes = new.homes })
+CoreEnds next old new (commit_end.WentOff have total back) answer = (answer ≡ Err (fault.WentOff have total)) × (new ≡ record old { status = new.status; homes = new.homes; power = power.Off })
+CoreEnds next old new commit_end.Dark answer = (answer ≡ Err fault.Dark) × (new ≡ all_dark (record old { pool = with_one_out old.pool; status = new.status; homes = new.homes }))
+CoreEnds next old new commit_end.Stuck answer = (answer ≡ Err fault.Stuck) × (new ≡ record old { pool = with_one_out old.pool; status = new.status; homes = new.homes })
 
--- What was wanted first is committed, or as far as it went, with the buffer of number 0.
-pub record Settles (next : Descriptor) (plan : Plan) (first : Stored) (before after : ℕ) (old new : State) (how : Settled) (answer : Result (Unit {0}) CommitFault) : Type 0 where
-  pub done : IfDone how (λ back. IsCommitted new.core.status)
-  pub off : IfWentOff how (λ have total back. HasLostQuorum first new.core.status old.device new.device have total)
-  pub ready : IfBack how (λ back. IsReady new.device × (new.device.counts.cuts ≡ old.device.counts.cuts))
-  pub well : IfBack how (λ back. AreWell new.core.status old.device new.device)
-  pub dark : OnDark how (IsDarkened 0 old.device new.device)
-  pub stuck : OnStuck how (IsGivenUp 0 before old.device new.device)
-  pub loses : OnlyLoses first new.core.status old.device new.device
-  pub spent : IfWentOff how (λ have total back. SpendsNumbers 0 first new.core.status)
-  pub numbers : SpendsNumbers 1 first new.core.status
-  pub spends : Spends before after old.device new.device
-  pub keeps : KeepsShelf (there first) plan old.device new.device
+-- What was wanted first is committed, or as far as it went, with the buffer of number 0; the session goes on as that ended.
+pub record Settles (Held Plain : Type 0) (next : Descriptor) (plan : Plan) (first : Stored) (before after : ℕ) (old new : State) (how : CommitEnd) (answer : Result (Unit {0}) CommitFault) : Type 0 where
+  pub ends : SettleEnds Held Plain 0 before first new.core.status old.device new.device how
+  pub leaves : CommitLeaves next plan before after first new.core.status old.device new.device
   pub goes : CoreEnds next old.core new.core how answer
 
 -- ---- the whole
 
 -- The descriptor was written, and the status where a member was lost.
 pub record CommitsDescriptor (next : Descriptor) (before after : ℕ) (old new : State) (answer : Result (Unit {0}) CommitFault) : Type 0 where
-  pub how : Settled
+  pub how : CommitEnd
   pub valid : IsValid next
-  pub settles : Settles next (IsOfCommit (descriptor_bytes next) old.core.status new.core.status) old.core.status before after old new how answer
-  pub held : IfDone how (λ back. ComesHeld (descriptor_bytes next) old.core.status new.core.status old.core.homes new.core.homes old.device new.device)
-  pub plain : IfDone how (λ back. IsPlain kind.Descriptor (descriptor_bytes next) old.core.status new.core.status old.core.homes old.device new.device)
+  pub settles : Settles (ComesHeld (descriptor_bytes next) old.core.status new.core.status old.core.homes new.core.homes old.device new.device)
+      (IsPlain kind.Descriptor (descriptor_bytes next) old.core.status new.core.status old.core.homes old.device new.device)
+      next (IsOfCommit (descriptor_bytes next) old.core.status new.core.status) old.core.status before after old new how answer
   pub finds : CommitFindsNoMore (descriptor_bytes next) old.core.status old.core.homes old.device new.device
-  pub left : MarksLeft next old.core.status new.core.status
   pub kept : DescriptorStaysKept (descriptor_bytes next) old.core.status old.core.homes old.device new.device
 
 -- These marks were made, and the status written.
 pub record CommitsMarks (to_stale to_fresh : List Pp) (before after : ℕ) (old new : State) (answer : Result (Unit {0}) CommitFault) : Type 0 where
   pub first : Stored
   pub marked : IsMarked to_stale to_fresh old.core.status first
-  pub how : Settled
-  pub settles : Settles old.core.descriptor (IsOfStatus first new.core.status) first before after old new how answer
-  pub held : IfDone how (λ back. StaysHeld first new.core.status old.core.homes new.core.homes old.device new.device)
+  pub how : CommitEnd
+  pub settles : Settles (StaysHeld first new.core.status old.core.homes new.core.homes old.device new.device) (IsPlainStatus first new.core.status old.core.homes old.device new.device) old.core.descriptor
+      (IsOfStatus first new.core.status) first before after old new how answer
   pub finds : StatusFindsNothingNew first old.core.homes old.device new.device
-  pub left : MarksLeft old.core.descriptor first new.core.status
   pub kept : StatusStaysKept old.core.descriptor first old.core.homes old.device new.device
   pub same : first.wanted ≡ first.committed → (answer ≡ Ok tt) × (new.device ≡ old.device) × (new.core ≡ record old.core { status = first })

@@ -8,7 +8,7 @@ use Rattle.lvm_disk.specs.Device.{Device, IsReady}
 use Rattle.lvm_kept.specs.Plans.{Plan}
 use Rattle.lvm_transfer.specs.declared.moves.Moved.{Moved}
 use Rattle.lvm_transfer.specs.declared.moves.Moved.TheVariants as moved
-use Rattle.lvm_quorum.specs.Parts.{DoesPart, IfDone}
+use Rattle.lvm_write.specs.Parts.{DoesPart, IfMoved}
 use Rattle.lvm_commit.specs.LawsOfData.{IsSectorOf}
 use Rattle.lvm_commit.specs.LawsOfFinding.{FindsNothingNewOn}
 use Rattle.lvm_core.specs.declared.fault.CommitFault.{CommitFault}
@@ -83,5 +83,5 @@ GoesOnAfter disk old new moved.Stuck answer = (answer ≡ Err fault.Stuck) × (n
 pub record WritesZeros (pp : Pp) (before after : ℕ) (old new : State) (answer : Result (Unit {0}) CommitFault) : Type 0 where
   pub how : Moved
   pub part : DoesPart (λ d. d == pp.disk) (IsZeroOf old.core.descriptor.mib pp) pp.disk 0 before after old.device new.device how
-  pub zeros : IfDone how (λ back. IsZeroed old.core.descriptor.mib pp new.device)
+  pub zeros : IfMoved how (λ back. IsZeroed old.core.descriptor.mib pp new.device)
   pub goes : GoesOnAfter pp.disk old.core new.core how answer

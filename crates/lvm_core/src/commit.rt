@@ -12,7 +12,7 @@ ghost use Rattle.lvm_core.specs.Dark.{AreTold};
 ghost use Rattle.lvm_core.specs.Fields.{core_of, status_room};
 ghost use Rattle.lvm_core.specs.Sound.{IsFitting};
 ghost use Rattle.lvm_core.specs.Committing.{with_one_out};
-ghost use Rattle.lvm_core.specs.Steps.{EndsAs, CommitsDescriptor, CommitsMarks};
+ghost use Rattle.lvm_core.specs.Steps.{EndsAs, EndsWith, CommitsDescriptor, CommitsMarks};
 ghost use Rattle.lvm_core.specs.Zeros.{WritesZeros, HasSectorsOf};
 
 use crate::fault::CommitFault;
@@ -21,9 +21,9 @@ use crate::prepared::Prepared;
 use crate::request::Power;
 use crate::session::Session;
 use crate::zero::write_zeros;
-use lvm_commit::{Settled, commit_descriptor, commit_status};
+use lvm_commit::{CommitEnd, commit_descriptor, commit_status};
 use lvm_disk::Shelf;
-use lvm_num::{Pbuf, Pp};
+use lvm_num::{Descriptor, Pbuf, Pp};
 use lvm_transfer::{Moved, Patience};
 
 impl Session {
@@ -76,7 +76,7 @@ impl Session {
     }
 
     // Goes on after records were written: takes the buffer back, or ends.
-    fn go_on(&mut self, settled: Settled) -> Result<(), CommitFault>
+    fn go_on(&mut self, settled: CommitEnd) -> Result<(), CommitFault>
         requires told { AreTold self.old.history.facts self.old.requests.items }
         requires out { IfBack settled (λ back. IsOut self.old.pool back.number) }
         ensures ends { EndsAs (core_of self.old) (core_of self.new) settled result }
@@ -84,20 +84,37 @@ impl Session {
         ensures bytes { length self.new.bytes.items ≡ length self.old.bytes.items }
     {
         match settled {
-            Settled::Done { buf } => {
+            CommitEnd::Done { buf } => {
                 self.pool.give(buf);
                 Ok(())
             }
-            Settled::WentOff { have, total, buf } => {
+            CommitEnd::WentOff { have, total, buf } => {
                 self.pool.give(buf);
                 self.power = Power::Off;
                 Err(CommitFault::WentOff { have, total })
             }
-            Settled::Dark => {
+            CommitEnd::Dark => {
                 self.darken();
                 Err(CommitFault::Dark)
             }
-            Settled::Stuck => Err(CommitFault::Stuck),
+            CommitEnd::Stuck => Err(CommitFault::Stuck),
+        }
+    }
+
+    // So it goes on, with this descriptor where it is committed.
+    fn go_on_with(&mut self, next: Descriptor, settled: CommitEnd) -> Result<(), CommitFault>
+        requires told { AreTold self.old.history.facts self.old.requests.items }
+        requires out { IfBack settled (λ back. IsOut self.old.pool back.number) }
+        ensures ends { EndsWith next (core_of self.old) (core_of self.new) settled result }
+        ensures capacity { vec_capacity self.new.requests ≡ vec_capacity self.old.requests }
+        ensures bytes { length self.new.bytes.items ≡ length self.old.bytes.items }
+    {
+        match self.go_on(settled) {
+            Ok(()) => {
+                self.descriptor = next;
+                Ok(())
+            }
+            Err(fault) => Err(fault),
         }
     }
 
@@ -133,13 +150,7 @@ impl Session {
             buf,
             patience,
         );
-        match self.go_on(settled) {
-            Ok(()) => {
-                self.descriptor = descriptor;
-                Ok(())
-            }
-            Err(fault) => Err(fault),
-        }
+        self.go_on_with(descriptor, settled)
     }
 
     /// Commits a status with these marks.

@@ -5,7 +5,7 @@ ghost use Rattle.lvm_num.specs.Votes.{total_votes};
 ghost use Rattle.lvm_vol.specs.Log.{spare_entries, with_fact, plain_fact};
 ghost use Rattle.lvm_disk.specs.Device.{IsReady};
 ghost use Rattle.lvm_disk.specs.Steps.{MayArrange, ArrangeGives};
-ghost use Rattle.lvm_quorum.specs.Written.{KeepsShelf};
+ghost use Rattle.lvm_write.specs.Written.{KeepsShelf};
 ghost use Rattle.lvm_commit.specs.Committed.{IsAlike};
 ghost use Rattle.lvm_commit.specs.LawsOfData.{IsFree};
 ghost use Rattle.lvm_commit.specs.Settling.{MarksLeft};
@@ -16,7 +16,7 @@ ghost use Rattle.lvm_core.specs.Looking.{IsNumberOf, HasNoVolume};
 ghost use Rattle.lvm_core.specs.Sound.{IsSound, HaveAllLanded};
 ghost use Rattle.lvm_core.specs.Starting.{ArePlaced, first_core};
 ghost use Rattle.lvm_core.specs.Settled.{IsSettled, HasSpareNumbers};
-ghost use Rattle.lvm_core.specs.Committing.{CommitEnds, StatusEnds, AreUnused, AreMarked, Restates};
+ghost use Rattle.lvm_core.specs.Committing.{CommitEnds, MarkEnds, FailsCommitted, AreUnused, AreMarked, Restates};
 ghost use Rattle.lvm_core.specs.Zeros.{ZeroEnds, KeepsRecords, IsZeroOf};
 ghost use Rattle.lvm_core.specs.Leaves.{Leaves, committing, marking, zeroing};
 ghost use Rattle.lvm_core.specs.Entering.{IsOfVolume};
@@ -30,10 +30,10 @@ use crate::session::Session;
 use lvm_disk::{Arrange, Shelf};
 use lvm_history::History;
 use lvm_num::{Descriptor, Memory, Name, Pp, Stamp};
-use lvm_quorum::Homes;
 use lvm_stale::StaleTable;
 use lvm_transfer::Patience;
 use lvm_vol::Entry;
+use lvm_write::Homes;
 use std::alloc::Global;
 use std::marker::Model;
 
@@ -134,6 +134,7 @@ impl<S: Shelf> Driver<S> {
         requires numbers { HasSpareNumbers self.old.1 }
         requires alike { IsAlike next self.old.1.descriptor }
         ensures ends { CommitEnds next patience.old.left (state_of S.device self.old) (state_of S.device self.new) result }
+        ensures fails { FailsCommitted (state_of S.device self.old) (state_of S.device self.new) result }
         // whatever the answer
         ensures left { MarksLeft next self.old.1.status self.new.1.status }
         ensures leaves { Leaves (committing next) patience.old.left patience.new.left (state_of S.device self.old) (state_of S.device self.new) }
@@ -158,7 +159,8 @@ impl<S: Shelf> Driver<S> {
         requires numbers { HasSpareNumbers self.old.1 }
         requires unused { AreUnused self.old.1.descriptor (stale.now ++ fresh.now) }
         requires once { AllPairs (λ a b. a ≢ b) (stale.now ++ fresh.now) }
-        ensures ends { StatusEnds patience.old.left (state_of S.device self.old) (state_of S.device self.new) result }
+        ensures ends { MarkEnds patience.old.left (state_of S.device self.old) (state_of S.device self.new) result }
+        ensures fails { FailsCommitted (state_of S.device self.old) (state_of S.device self.new) result }
         ensures nothing { AreMarked stale.now fresh.now self.old.1.status.committed → IsOk result × (S.device self.new.0 ≡ S.device self.old.0) × (self.new.1 ≡ self.old.1) }
         // whatever the answer
         ensures marks { Restates stale.now fresh.now (state_of S.device self.old) (state_of S.device self.new) }
@@ -262,13 +264,21 @@ impl<S: Shelf> Driver<S> {
         // Where no request waited, each that the history tells of has landed.
         ensures landed { All (λ (o : Open). is_waiting o ≡ false) self.1.requests → HaveAllLanded result.history.facts }
     {
-        let Driver { mut shelf, session } = self;
-        while let Some(_) = shelf.next_freed() {}
+        let Driver { shelf, session } = self;
         Closed {
-            shelf,
-            history: session.history,
+            shelf: without_freed(shelf),
+            history: session.into_history(),
         }
     }
+}
+
+// Takes back the buffers that a power cut made the shelf give up.
+fn without_freed<S: Shelf>(shelf: S) -> S
+    ensures { S.device result ≡ record (S.device shelf) { freed = [] } }
+{
+    let mut shelf = shelf;
+    while let Some(_) = shelf.next_freed() {}
+    shelf
 }
 
 /// What is left of a session.

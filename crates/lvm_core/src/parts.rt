@@ -21,10 +21,11 @@ use lvm_hold::Queue;
 use lvm_mwc::Cache;
 use lvm_num::{Descriptor, DiskSet, Memory, Stamp, Status};
 use lvm_pbuf::Pool;
-use lvm_quorum::{Choice, Homes};
+use lvm_quorum::Choice;
 use lvm_stale::StaleTable;
 use lvm_status::Updater;
 use lvm_vol::Entry;
+use lvm_write::Homes;
 use std::alloc::Global;
 use std::marker::Model;
 
@@ -50,13 +51,8 @@ pub struct Room {
 #[derive(Drop)]
 pub struct Parts {
     descriptor: Descriptor,
-    requests: Vec<Open>,
     most: u32,
-    queue: Queue,
-    pool: Pool,
-    updater: Updater,
-    cache: Cache,
-    bytes: Vec<u8>,
+    taken: Taken,
 }
 
 impl Model for Parts {
@@ -70,7 +66,7 @@ impl Model for Parts {
 
     ghost view = { reserved_of };
 
-    ghost invariant = { λ p. (p.most ≤ vec_capacity p.requests) × (length p.bytes.items ≡ status_room) × AreReserved (reserved_of p) };
+    ghost invariant = { λ p. (p.most ≤ vec_capacity p.taken.tables.requests) × (length p.taken.buffers.bytes.items ≡ status_room) × AreReserved (reserved_of p) };
 }
 
 impl Parts {
@@ -89,13 +85,8 @@ impl Parts {
         let taken = Taken::new(alloc, &choice.descriptor, &choice.status, room)?;
         Ok(Parts {
             descriptor: choice.descriptor,
-            requests: taken.requests,
             most: room.table,
-            queue: taken.queue,
-            pool: taken.pool,
-            updater: taken.updater,
-            cache: taken.cache,
-            bytes: taken.bytes,
+            taken,
         })
     }
 
@@ -106,7 +97,12 @@ impl Parts {
         ensures no { IsFalse result → ArePlaced (S.device shelf.now).sizes self.now.descriptor self.now.status.wanted → ⊥ }
     {
         let members = self.descriptor.pvs.as_slice();
-        are_placed(shelf, self.descriptor.mib, members, self.updater.wanted())
+        are_placed(
+            shelf,
+            self.descriptor.mib,
+            members,
+            self.taken.records.updater.wanted(),
+        )
     }
 
     // The session that begins with them, whose moment of varyon is the epoch of the stamp.
@@ -119,14 +115,14 @@ impl Parts {
     {
         let Parts {
             descriptor,
-            requests,
             most,
-            queue,
-            pool,
-            mut updater,
-            cache,
-            bytes,
+            taken,
         } = self;
+        let Taken {
+            tables: Tables { requests, queue },
+            buffers: Buffers { pool, bytes },
+            records: Records { mut updater, cache },
+        } = taken;
         let mut history = history;
         history.push(Entry::On {
             moment: stamp.epoch,
@@ -152,12 +148,30 @@ impl Parts {
 // The memory of a session.
 #[derive(Drop)]
 struct Taken {
+    tables: Tables,
+    buffers: Buffers,
+    records: Records,
+}
+
+// The table of open requests, and the queue of those on hold.
+#[derive(Drop)]
+struct Tables {
     requests: Vec<Open>,
     queue: Queue,
+}
+
+// The transfer buffers, and room for the bytes of a status.
+#[derive(Drop)]
+struct Buffers {
     pool: Pool,
+    bytes: Vec<u8>,
+}
+
+// The statuses of a group, and its cache.
+#[derive(Drop)]
+struct Records {
     updater: Updater,
     cache: Cache,
-    bytes: Vec<u8>,
 }
 
 impl Taken {
@@ -168,57 +182,92 @@ impl Taken {
         requires descriptor { IsValid d.now }
         requires status { IsValidStatus status.now }
         requires group { IsOneGroup d.now status.now }
-        ensures updater { IfOk result (λ taken. seen taken.updater ≡ first_updates status.now d.now) }
-        ensures cache { IfOk result (λ taken. IsEmptyCache d.now taken.cache) }
-        ensures requests { IfOk result (λ taken. taken.requests.items ≡ []) }
-        ensures capacity { IfOk result (λ taken. room.table ≤ vec_capacity taken.requests) }
-        ensures queue { IfOk result (λ taken. taken.queue ≡ record { room = room.table + 1; rows = [] }) }
-        ensures pool { IfOk result (λ taken. taken.pool ≡ replicate room.pool false) }
-        ensures bytes { IfOk result (λ taken. length taken.bytes.items ≡ status_room) }
+        ensures updater { IfOk result (λ taken. seen taken.records.updater ≡ first_updates status.now d.now) }
+        ensures cache { IfOk result (λ taken. IsEmptyCache d.now taken.records.cache) }
+        ensures requests { IfOk result (λ taken. taken.tables.requests.items ≡ []) }
+        ensures capacity { IfOk result (λ taken. room.table ≤ vec_capacity taken.tables.requests) }
+        ensures queue { IfOk result (λ taken. taken.tables.queue ≡ record { room = room.table + 1; rows = [] }) }
+        ensures pool { IfOk result (λ taken. taken.buffers.pool ≡ replicate room.pool false) }
+        ensures bytes { IfOk result (λ taken. length taken.buffers.bytes.items ≡ status_room) }
     {
-        let (updater, cache) = of_group(alloc, d, status)?;
-        let (requests, queue, pool) = of_requests(alloc, room)?;
-        let bytes = room_of_status(alloc)?;
+        let (tables, buffers) = of_requests(alloc, room)?;
+        let records = Records::new(alloc, d, status)?;
         Ok(Taken {
-            requests,
-            queue,
-            pool,
-            updater,
-            cache,
-            bytes,
+            tables,
+            buffers,
+            records,
         })
     }
 }
 
-// The updates and the cache of a group that begins with a status.
-fn of_group(alloc: Global, d: &Descriptor, status: &Status) -> Result<(Updater, Cache), Memory>
+impl Tables {
+    fn new(alloc: Global, room: Room) -> Result<Tables, Memory>
+        requires { IsRoom room }
+        ensures requests { IfOk result (λ tables. tables.requests.items ≡ []) }
+        ensures capacity { IfOk result (λ tables. room.table ≤ vec_capacity tables.requests) }
+        ensures queue { IfOk result (λ tables. tables.queue ≡ record { room = room.table + 1; rows = [] }) }
+    {
+        // The copy that is open has a place beside the requests.
+        let queue = Queue::new(alloc, room.table + 1)?;
+        match Vec::with_capacity(alloc, room.table as usize) {
+            Ok(requests) => Ok(Tables { requests, queue }),
+            Err(_) => Err(Memory),
+        }
+    }
+}
+
+impl Buffers {
+    ghost use Rattle.lvm_core.specs.Fields.{status_room};
+
+    fn new(alloc: Global, room: Room) -> Result<Buffers, Memory>
+        requires { IsRoom room }
+        ensures pool { IfOk result (λ buffers. buffers.pool ≡ replicate room.pool false) }
+        ensures bytes { IfOk result (λ buffers. length buffers.bytes.items ≡ status_room) }
+    {
+        let pool = Pool::new(alloc, room.pool)?;
+        let bytes = room_of_status(alloc)?;
+        Ok(Buffers { pool, bytes })
+    }
+}
+
+impl Records {
+    // Those of a group that begins with a status.
+    fn new(alloc: Global, d: &Descriptor, status: &Status) -> Result<Records, Memory>
+        requires descriptor { IsValid d.now }
+        requires status { IsValidStatus status.now }
+        requires group { IsOneGroup d.now status.now }
+        ensures updater { IfOk result (λ records. seen records.updater ≡ first_updates status.now d.now) }
+        ensures cache { IfOk result (λ records. IsEmptyCache d.now records.cache) }
+    {
+        let updater = updater_of(alloc, d, status)?;
+        let cache = Cache::new(alloc, members(d))?;
+        Ok(Records { updater, cache })
+    }
+}
+
+// The updater of a group that begins with a status.
+fn updater_of(alloc: Global, d: &Descriptor, status: &Status) -> Result<Updater, Memory>
     requires descriptor { IsValid d.now }
     requires status { IsValidStatus status.now }
     requires group { IsOneGroup d.now status.now }
-    ensures updater { IfOk result (λ made. seen made.0 ≡ first_updates status.now d.now) }
-    ensures cache { IfOk result (λ made. IsEmptyCache d.now made.1) }
+    ensures { IfOk result (λ updater. seen updater ≡ first_updates status.now d.now) }
 {
     let table = StaleTable::from_status(alloc, status)?;
-    let updater = Updater::new(alloc, table, d)?;
-    let cache = Cache::new(alloc, members(d))?;
-    Ok((updater, cache))
+    Updater::new(alloc, table, d)
 }
 
-// The table of requests, with the hold queue and the transfer buffers.
-fn of_requests(alloc: Global, room: Room) -> Result<(Vec<Open>, Queue, Pool), Memory>
+// What the requests of a session need.
+fn of_requests(alloc: Global, room: Room) -> Result<(Tables, Buffers), Memory>
     requires { IsRoom room }
-    ensures requests { IfOk result (λ made. made.0.items ≡ []) }
-    ensures capacity { IfOk result (λ made. room.table ≤ vec_capacity made.0) }
-    ensures queue { IfOk result (λ made. made.1 ≡ record { room = room.table + 1; rows = [] }) }
-    ensures pool { IfOk result (λ made. made.2 ≡ replicate room.pool false) }
+    ensures requests { IfOk result (λ made. made.0.requests.items ≡ []) }
+    ensures capacity { IfOk result (λ made. room.table ≤ vec_capacity made.0.requests) }
+    ensures queue { IfOk result (λ made. made.0.queue ≡ record { room = room.table + 1; rows = [] }) }
+    ensures pool { IfOk result (λ made. made.1.pool ≡ replicate room.pool false) }
+    ensures bytes { IfOk result (λ made. length made.1.bytes.items ≡ status_room) }
 {
-    // The copy that is open has a place beside the requests.
-    let queue = Queue::new(alloc, room.table + 1)?;
-    let pool = Pool::new(alloc, room.pool)?;
-    match Vec::with_capacity(alloc, room.table as usize) {
-        Ok(requests) => Ok((requests, queue, pool)),
-        Err(_) => Err(Memory),
-    }
+    let tables = Tables::new(alloc, room)?;
+    let buffers = Buffers::new(alloc, room)?;
+    Ok((tables, buffers))
 }
 
 // Room for the bytes of the largest status.

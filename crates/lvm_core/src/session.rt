@@ -10,9 +10,9 @@ use lvm_hold::Queue;
 use lvm_mwc::Cache;
 use lvm_num::Descriptor;
 use lvm_pbuf::Pool;
-use lvm_quorum::Homes;
 use lvm_status::Updater;
 use lvm_vol::Outcome;
+use lvm_write::Homes;
 
 // What a driver has beside its shelf.
 #[derive(Drop)]
@@ -54,6 +54,13 @@ fn darken_all(requests: &mut [Open])
 }
 
 impl Session {
+    // What was asked and answered; all else is given back.
+    pub fn into_history(self) -> History
+        ensures { result ≡ self.history }
+    {
+        self.history
+    }
+
     // The power is off: a cut is entered, and all open requests that haven't landed land as Dark.
     pub fn darken(&mut self)
         requires { AreTold self.old.history.facts self.old.requests.items }

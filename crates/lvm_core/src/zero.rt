@@ -3,7 +3,7 @@ ghost use Rattle.std.specs.Prelude.{◌≡◌, ◌==◌, ◌<◌, ◌+◌, ◌*�
 ghost use Rattle.lvm_num.specs.Descriptor.{is_size};
 ghost use Rattle.lvm_num.specs.Geometry.{data_start, partition_blocks};
 ghost use Rattle.lvm_disk.specs.Device.{IsReady};
-ghost use Rattle.lvm_quorum.specs.Parts.{DoesPart, IfDone};
+ghost use Rattle.lvm_write.specs.Parts.{DoesPart, IfMoved};
 ghost use Rattle.lvm_core.specs.Zeros.{IsZeroOf, IsZeroed, AreZeroed, HasSectorsOf, IsClear};
 
 use lvm_disk::Shelf;
@@ -28,7 +28,7 @@ pub fn write_zeros<S: Shelf>(
     requires partition { pp.pp < 1016 }
     requires room { HasSectorsOf (S.device shelf.old).sizes mib pp }
     ensures part { DoesPart (λ d. d == pp.disk) (IsZeroOf mib pp) pp.disk buf.number patience.old.left patience.new.left (S.device shelf.old) (S.device shelf.new) result }
-    ensures zeros { IfDone result (λ back. IsZeroed mib pp (S.device shelf.new)) }
+    ensures zeros { IfMoved result (λ back. IsZeroed mib pp (S.device shelf.new)) }
 {
     let mut buf = buf;
     clear(&mut buf);
@@ -57,8 +57,8 @@ fn write_piece<S: Shelf>(
     requires piece { piece < 8 * mib }
     requires clear { IsClear buf }
     ensures part { DoesPart (λ d. d == pp.disk) (IsZeroOf mib pp) pp.disk buf.number patience.old.left patience.new.left (S.device shelf.old) (S.device shelf.new) result }
-    ensures zeros { IfDone result (λ back. AreZeroed mib pp (256 * piece) (256 * piece + 256) (S.device shelf.new)) }
-    ensures back { IfDone result (λ back. back ≡ buf) }
+    ensures zeros { IfMoved result (λ back. AreZeroed mib pp (256 * piece) (256 * piece + 256) (S.device shelf.new)) }
+    ensures back { IfMoved result (λ back. back ≡ buf) }
 {
     let first = start_of(mib, pp) + u64::from(PIECE * piece);
     transfer(shelf, true, pp.disk, first, PIECE, buf, patience)

@@ -1,18 +1,17 @@
 //! What stands before the rows, field by field.
-ghost use Rattle.std.specs.Prelude.{◌≡◌, ℕ, ◌≤◌, ◌==◌, not, length, position, bytes_eq, IsTrue, OnOk};
+ghost use Rattle.std.specs.Prelude.{◌≡◌, ℕ, ◌≤◌, ◌==◌, not, length, bytes_eq, OnOk};
 ghost use Rattle.std.specs.List.{list_any};
-ghost use Rattle.std.specs.Option.{SomeIff};
-ghost use Rattle.std.specs.Int.{w16, w64};
+ghost use Rattle.std.specs.Int.{w16};
 ghost use Rattle.lvm_num.specs.declared.descriptor.LvRow.{LvRow};
-ghost use Rattle.lvm_num.specs.Name.{unpadded};
 ghost use Rattle.lvm_num.specs.Descriptor.{is_size, most_members, most_volumes};
-ghost use Rattle.lvm_num.specs.DescriptorBytes.{is_name_field, name_at, version_at, member_count_at};
+ghost use Rattle.lvm_num.specs.DescriptorBytes.{name_at, version_at, member_count_at};
 ghost use Rattle.lvm_num.specs.Reading.{number_at};
 ghost use Rattle.lvm_fields.specs.Reading.{Gives, rest_of, skipped};
 ghost use Rattle.lvm_descriptor.specs.Parts.{begin_at, rules_at, counts_at};
 
 use lvm_fields::{
-    Fault, Unread, bytes_at, u8_up_to, u16_at, u16_from_1, u16_up_to, u64_at, zeros_at,
+    Fault, Unread, bytes_at, name_in, u8_up_to, u16_at, u16_from_1, u16_up_to, u64_nonzero,
+    zeros_at,
 };
 use lvm_num::{LvRow, Name};
 
@@ -24,7 +23,7 @@ pub fn begin_at(unread: Unread) -> Result<((bool, u64), Unread), Fault>
     ensures { Gives (λ x. (x.0, rest_of x.1)) result (begin_at (rest_of unread.entry)) }
 {
     let (big, unread) = version_at(unread)?;
-    let (id, unread) = id_at(unread)?;
+    let (id, unread) = u64_nonzero(unread)?;
     Ok(((big, id), unread))
 }
 
@@ -63,17 +62,6 @@ fn version_at(unread: Unread) -> Result<(bool, Unread), Fault>
     } else {
         Err(Fault::At(unread.place))
     }
-}
-
-// The id, which isn't 0.
-fn id_at(unread: Unread) -> Result<(u64, Unread), Fault>
-    ensures { Gives (λ x. (x.0, rest_of x.1)) result (number_at w64 (λ n. not (n == 0)) (rest_of unread.entry)) }
-{
-    let read = u64_at(unread);
-    if let Ok((0, _)) = &read {
-        return Err(Fault::At(unread.place));
-    }
-    read
 }
 
 // The size of a partition.
@@ -140,30 +128,4 @@ fn has_name(rows: &[LvRow], name: &Name) -> bool
     ensures { result ≡ list_any (λ (row : LvRow). bytes_eq row.name name.now) rows.now }
 {
     rows.iter().any(|row| row.name == *name)
-}
-
-// The name that sixteen bytes are, with its zeros.
-fn name_in(field: &[u8]) -> Option<Name>
-    requires { length field.now ≡ 16 }
-    ensures { SomeIff result (IsTrue (is_name_field field.now)) (unpadded field.now) }
-{
-    let name = Name::read(text_in(field))?;
-    if name.as_field().as_slice() == field {
-        Some(name)
-    } else {
-        None
-    }
-}
-
-// What stands before the first zero.
-fn text_in(field: &[u8]) -> &[u8]
-    ensures { result.now ≡ unpadded field.now }
-{
-    &field[..first_zero(field).unwrap_or(field.len())]
-}
-
-fn first_zero(field: &[u8]) -> Option<usize>
-    ensures { result ≡ position (λ b. b == 0) field.now }
-{
-    field.iter().position(|b| *b == 0)
 }

@@ -21,7 +21,7 @@ use Rattle.lvm_kept.specs.Group.{IsOneOf}
 use Rattle.lvm_kept.specs.Plans.{ChangesBy}
 use Rattle.lvm_commit.specs.LawsOfData.{IsFree, IsSectorOf}
 use Rattle.lvm_commit.specs.Settling.{IsOfStatus, IsOfCommit}
-use Rattle.lvm_quorum.specs.Written.{KeepsShelf}
+use Rattle.lvm_write.specs.Written.{KeepsShelf}
 use Rattle.lvm_core.specs.State.{State, is_there}
 use Rattle.lvm_core.specs.Leaves.{NoPartition, IsOfCommand, KeepsStatus}
 use Rattle.lvm_volumes.specs.NewVolume.{without_volume}
@@ -43,7 +43,7 @@ record_low kind.Status zero part len s two fits inside place = omega (arith, fit
 record_low kind.Status (suc zero) part len s two fits inside place = omega (arith, fits, inside, place)
 record_low kind.Status (suc (suc slot)) part len s two fits inside place = absurd (omega (arith, two))
 
-module _ (N : Descriptor → Type 0) (Z : Pp → Type 0) (old new : State) (was is : Media) (stood stands : Stamped Status) (writes : KeepsShelf (is_there old.core) (IsOfCommand N Z old new) old.device new.device) (status : KeepsStatus NoPartition Z old new) (free : (pp : Pp) → Z pp → IsFree old.core.descriptor pp)
+module _ (N : Descriptor → Type 0) (Z : Pp → Type 0) (old new : State) (was is : Media) (stood stands : Stamped Status) (writes : KeepsShelf (is_there old.core) (IsOfCommand N Z old new) old.device new.device) (status : KeepsStatus N NoPartition Z old new) (free : (pp : Pp) → Z pp → IsFree old.core.descriptor pp)
     (told : old.device.media ≡ Some was) (told_new : new.device.media ≡ Some is) (wanted : AreWanted old new stood stands) where
   low_status : (d s : ℕ) (value : Sector) → IsOfStatus old.core.status new.core.status d s value → s < data_start
   low_status d s value of = let w = of.0 in record_low w.kind (w.slots d) of.2.its.its.part (length w.framed.content) s (of.2.slots d) of.2.frames.content of.2.its.its.inside of.2.its.its.place

@@ -35,7 +35,10 @@ use Rattle.lvm_sound.specs.Worked.{CopiesAreSound, behind, bringing_up, first_co
 use Rattle.lvm_keeps.proofs.Close.{close_keeps}
 use Rattle.lvm_faulted.specs.Faulted.{without_disks}
 use Rattle.lvm_faulted.specs.Copies.{FailedCopiesAreSound, WholeCopiesAreSound, failed, whole}
-use Rattle.lvm_faulted.proofs.Parts.{both_copies, entailed, has_fresh, is_missing_so, none_missing, none_stale, not_either, not_marked, not_none, not_so, on_is_not_off, on_is_not_stuck, rose_once, stale_with_disk, which_missing, zeros_at}
+use Rattle.lvm_sound.proofs.Small.{not_either, not_none, not_so}
+use Rattle.lvm_sound.proofs.Parts.{update_is_sound, both_copies, has_fresh, not_marked, zeros_at, none_missing_at_first as none_missing}
+use Rattle.lvm_sound.proofs.While.{sound_while_on}
+use Rattle.lvm_faulted.proofs.Parts.{entailed, is_missing_so, none_stale, rose_once, stale_with_disk, which_missing}
 use Rattle.lvm_faulted.proofs.Failing.{each_is, none_missing_behind, one_or_two, stale_there, untouched}
 use Rattle.lvm_faulted.proofs.Losing.{on_third}
 
@@ -85,17 +88,7 @@ whole_behind m p is =
 
 whole_status : (m : Mode) → IsSoundStatus (seen (whole m).core.status)
 unfolding votes_by has_bit has
-whole_status m = record {
-  unstarted = λ disk is. untouched disk (one_or_two disk is);
-  started = λ disk is. not_marked disk is;
-  failed = λ disk is. not_marked disk is;
-  each = λ t e. each_is;
-  idle = λ e. some_is_there e;
-  held = λ is. not_so is;
-  open_still = λ t e. inl refl;
-  committed_missing = λ disk is. none_missing_behind disk is;
-  in_flight_missing = λ t e disk is. none_missing disk (ap (λ (u : Status). calls_missing u disk) (some_same t e) ∙ is);
-}
+whole_status m = update_is_sound _ _ refl (λ disk is. untouched disk (one_or_two disk is)) has-zero has-zero each_is refl refl (λ disk is. none_missing_behind disk is) (λ disk is. none_missing disk is)
 
 whole_stays : (m : Mode) → stays_fresh (whole m).core first_copy ≡ true
 unfolding has_bit
@@ -178,29 +171,20 @@ module _ (copies : CopiesAreSound) (m : Mode) where
   }
 
   whole_sound : IsSound (whole m)
-  whole_sound = let before = copies m in let o = before.origin in record {
-    fitting = whole_fits;
-    told = whole_told;
-    placed = before.placed;
-    buffers = before.buffers;
-    none_lost = before.none_lost;
-    on = λ e. record { going = whole_going; rows = tt; caused = tt; chosen = tt };
-    lit = λ e. record { power = refl; freed = refl };
-    dark = λ e. not_so e;
-    off = λ e. on_is_not_off e;
-    over = λ e. not_so e;
-    stuck = λ e. on_is_not_stuck e;
-    counted = tt;
-    answered = tt;
-    copy = whole_caused m;
-    origin = record {
-      since = o.since;
-      votes = o.votes;
-      still_missing = λ disk is. none_missing_behind disk is;
-      missing = λ disk is. none_missing disk is;
-      stale = λ p is. inl (from_any (calls_stale (status_of behind) p) (calls_stale (status_of fresh) p) (none_stale p) is);
-    };
-  }
+  whole_sound = let before = copies m in let o = before.origin in
+      sound_while_on _ refl (record { power = refl; freed = refl }) whole_fits whole_told before.placed (before.none_lost refl) (record { going = whole_going; rows = tt; caused = tt; chosen = tt })
+      (record {
+        counted = tt;
+        answered = tt;
+        copy = whole_caused m;
+        origin = record {
+          since = o.since;
+          votes = o.votes;
+          still_missing = λ disk is. none_missing_behind disk is;
+          missing = λ disk is. none_missing disk is;
+          stale = λ p is. inl (from_any (calls_stale (status_of behind) p) (calls_stale (status_of fresh) p) (none_stale p) is);
+        };
+      })
 
 pub whole_copies_are_sound : CopiesAreSound → WholeCopiesAreSound
 whole_copies_are_sound copies = record { sound = whole_sound copies; next = whole_next }
@@ -346,29 +330,20 @@ module _ (copies : CopiesAreSound) (m : Mode) where
   }
 
   failed_sound : IsSound (failed m)
-  failed_sound = let before = copies m in let o = before.origin in record {
-    fitting = failed_fits;
-    told = failed_told;
-    placed = before.placed;
-    buffers = before.buffers;
-    none_lost = before.none_lost;
-    on = λ e. record { going = failed_going; rows = tt; caused = tt; chosen = tt };
-    lit = λ e. record { power = refl; freed = refl };
-    dark = λ e. not_so e;
-    off = λ e. on_is_not_off e;
-    over = λ e. not_so e;
-    stuck = λ e. on_is_not_stuck e;
-    counted = tt;
-    answered = tt;
-    copy = failed_caused m;
-    origin = record {
-      since = λ disk. let none = zeros_at 128 disk in omega (arith, none);
-      votes = o.votes;
-      still_missing = λ disk is. none_missing_behind disk is;
-      missing = λ disk is. inr (second_since m disk (only_second disk (which_missing false disk is)));
-      stale = λ p is. inl (from_both (calls_stale (status_of behind) p) (calls_stale (status_of fresh) p) (none_stale p) is);
-    };
-  }
+  failed_sound = let before = copies m in let o = before.origin in
+      sound_while_on _ refl (record { power = refl; freed = refl }) failed_fits failed_told before.placed (before.none_lost refl) (record { going = failed_going; rows = tt; caused = tt; chosen = tt })
+      (record {
+        counted = tt;
+        answered = tt;
+        copy = failed_caused m;
+        origin = record {
+          since = λ disk. let none = zeros_at 128 disk in omega (arith, none);
+          votes = o.votes;
+          still_missing = λ disk is. none_missing_behind disk is;
+          missing = λ disk is. inr (second_since m disk (only_second disk (which_missing false disk is)));
+          stale = λ p is. inl (from_both (calls_stale (status_of behind) p) (calls_stale (status_of fresh) p) (none_stale p) is);
+        };
+      })
 
   after : IsSound (state (failed m).device (closed (failed m).core))
   after = close_keeps (failed m) (closed (failed m).core) failed_sound (closes m)

@@ -39,7 +39,11 @@ use Rattle.lvm_sound.specs.Sound.{IsAsked, IsFitting, IsSound, IsTold, count_if,
 use Rattle.lvm_sound.specs.Worked.{HeldWritesAreSound, Says, begun_write, behind, core_of, first_copy, fresh, second_copy, status_of}
 use Rattle.lvm_keeps.proofs.Landing.{landing_is_caused}
 use Rattle.lvm_faulted.specs.Failing.{KeptWritesAreSound, LostWritesAreSound, UnsettledWritesAreSound, ended, ended_write, kept, landed, lost_on_both, no_writes, unsettled}
-use Rattle.lvm_faulted.proofs.Parts.{has_fresh, none_missing, none_stale, not_either, not_marked, not_none, not_so, on_is_not_off, on_is_not_stuck, rose_once, zeros_at}
+use Rattle.lvm_sound.proofs.Small.{not_either, not_none, not_so}
+use Rattle.lvm_sound.proofs.Requests.{laid_in, shaped, waits_with}
+use Rattle.lvm_sound.proofs.Parts.{update_is_sound, idle_is_sound, none_written, has_fresh, not_marked, zeros_at, none_missing_at_first as none_missing}
+use Rattle.lvm_sound.proofs.While.{sound_while_on}
+use Rattle.lvm_faulted.proofs.Parts.{none_stale, rose_once}
 
 or_left : {a : Bool} (b : Bool) → a ≡ true → a || b ≡ true
 or_left b is = ap (λ t. t || b) is
@@ -113,29 +117,13 @@ module _ (held : HeldWritesAreSound) (committed : Says) (flies : Option Says) (w
   owned over none owner.Copy = refl
 
   request : is_over first ≡ true → is_wanted_due (core_of (ended committed flies writes first)) (ended_write first).request ≡ true → IsOpenOne (core_of (ended committed flies writes first)) (ended_write first)
-  request over due = record {
-    laid = record {
-      within = record { row = mirror mode.Off; volume = refl; within = omega arith; some = omega arith; fits = omega arith };
-      blocks = record { some = omega arith; end = omega arith; group = omega arith; whole = λ e. not_so e };
-      most = omega arith;
-      id = omega arith;
-    };
-    waits = λ e. record {
-      shape = record {
-        targets = (record { copy = refl; sector = refl; there = refl }, (record { copy = refl; sector = refl; there = refl }, tt));
-        phase_is = (refl, ap (λ t. t && true) over);
-        hand = refl;
-        room = tt;
-        differ = differ first;
-        usable = λ past. refl;
-        one = λ read. not_either read;
-      };
-      ready = record { free = λ past. refl; recorded = (refl, refl, refl); wanted = λ past two. refl; named = λ has two. refl; dirty = λ has two. refl };
-      judged = λ write. record { uncaught = (none_caught _, (refl, tt)); due = λ waits. due; all = λ begun p among. or_left _ among };
-    };
-    over = λ e. not_either e;
-    still = λ e. not_either e;
-  }
+  request over due =
+      waits_with refl (laid_in (mirror mode.Off) refl (omega arith) (omega arith) (omega arith) (omega arith) (omega arith) (omega arith))
+      (record {
+        shape = shaped (record { copy = refl; sector = refl; there = refl }, (record { copy = refl; sector = refl; there = refl }, tt)) (refl, ap (λ t. t && true) over) refl tt (differ first) (λ past. refl) (λ read. not_either read);
+        ready = record { free = λ past. refl; recorded = (refl, refl, refl); wanted = λ past two. refl; named = λ has two. refl; dirty = λ has two. refl };
+        judged = λ write. record { uncaught = (none_caught _, (refl, tt)); due = λ waits. due; all = λ begun p among. or_left _ among };
+      })
     where
       none_caught : (a : Bool) → a && false ≡ false
       none_caught true = refl
@@ -178,23 +166,7 @@ each_is disk is = by (0 == disk) (1 == disk) (2 == disk) (calls_missing unsettle
 
 unsettled_status : IsSoundStatus (seen unsettled.core.status)
 unfolding votes_by has_bit has
-unsettled_status = record {
-  unstarted = λ disk is. untouched disk (one_or_two disk is);
-  started = λ disk is. not_marked disk is;
-  failed = λ disk is. not_marked disk is;
-  each = λ t e. each_is;
-  idle = λ e. some_is_there e;
-  held = λ is. not_so is;
-  open_still = λ t e. inl refl;
-  committed_missing = λ disk is. none_missing disk is;
-  in_flight_missing = λ t e disk is. none_missing_behind disk (ap (λ (u : Status). calls_missing u disk) (some_same t e) ∙ is);
-}
-  where
-    some_is_there : {A X : Type 0} {a : A} → Some a ≡ None → X
-    some_is_there e = absurd cc
-
-    some_same : (t : Status) → Some (status_of behind) ≡ Some t → status_of behind ≡ t
-    some_same t e = cc e
+unsettled_status = update_is_sound _ _ refl (λ disk is. untouched disk (one_or_two disk is)) has-zero has-zero each_is refl refl (λ disk is. none_missing disk is) (λ disk is. none_missing_behind disk is)
 
 unsettled_next : first_event unsettled.core ≡ Some event.StartStatus
 unfolding votes_by has_bit has
@@ -204,17 +176,7 @@ unsettled_next = refl
 
 settled_status : (first : TargetState) → IsSoundStatus (seen (core_of (ended behind None no_writes first)).status)
 unfolding votes_by has_bit has
-settled_status first = record {
-  unstarted = λ disk is. not_marked disk is;
-  started = λ disk is. not_marked disk is;
-  failed = λ disk is. not_marked disk is;
-  each = λ t e. not_none e;
-  idle = λ e disk. (has-zero disk, has-zero disk, has-zero disk, has-zero disk);
-  held = λ is. not_so is;
-  open_still = λ t e. not_none e;
-  committed_missing = λ disk is. is;
-  in_flight_missing = λ t e. not_none e;
-}
+settled_status first = idle_is_sound _ refl none_written refl (λ disk is. is)
 
 kept_next : first_event kept.core ≡ Some (event.Land 0 outcome.Done)
 unfolding votes_by has_bit has
@@ -309,44 +271,30 @@ module _ (held : HeldWritesAreSound) where
   }
 
   unsettled_sound : IsSound unsettled
-  unsettled_sound = let before = held mode.Off in record {
-    fitting = fits held fresh (Some behind) unsettled.core.status.writes stage.Done;
-    told = told held fresh (Some behind) unsettled.core.status.writes stage.Done;
-    placed = before.placed;
-    buffers = before.buffers;
-    none_lost = before.none_lost;
-    on = λ e. record {
-      going = record {
-        fitting = fits held fresh (Some behind) unsettled.core.status.writes stage.Done;
-        told = told held fresh (Some behind) unsettled.core.status.writes stage.Done;
-        status = unsettled_status;
-        owned = owned held fresh (Some behind) unsettled.core.status.writes stage.Done refl refl;
-        tickets = tt;
-        queue = refl;
-        pinned = (before.on refl).going.pinned;
-        requests = (request held fresh (Some behind) unsettled.core.status.writes stage.Done refl dues.0, tt);
-        copy = tt;
-        hands = (before.on refl).going.hands;
-        behind = λ p is. none_behind fresh (Some behind) unsettled.core.status.writes stage.Done p is;
-        reviewed = refl;
-        fresh = has_fresh mode.Off unsettled.core stays.0;
-        clearings = λ p is not. none_cleared (calls_stale (status_of fresh) p) (calls_stale (status_of behind) p) (none_stale p) is not;
-        numbers = unsettled_numbers;
-      };
-      rows = tt;
-      caused = (unsettled_caused, tt);
-      chosen = tt;
-    };
-    lit = λ e. record { power = refl; freed = refl };
-    dark = λ e. not_so e;
-    off = λ e. on_is_not_off e;
-    over = λ e. not_so e;
-    stuck = λ e. on_is_not_stuck e;
-    counted = (unsettled_counted, tt);
-    answered = (tt, tt);
-    copy = tt;
-    origin = unsettled_origin;
-  }
+  unsettled_sound = let before = held mode.Off in
+      sound_while_on _ refl (record { power = refl; freed = refl }) (fits held fresh (Some behind) unsettled.core.status.writes stage.Done) (told held fresh (Some behind) unsettled.core.status.writes stage.Done) before.placed (before.none_lost refl) (record {
+        going = record {
+          fitting = fits held fresh (Some behind) unsettled.core.status.writes stage.Done;
+          told = told held fresh (Some behind) unsettled.core.status.writes stage.Done;
+          status = unsettled_status;
+          owned = owned held fresh (Some behind) unsettled.core.status.writes stage.Done refl refl;
+          tickets = tt;
+          queue = refl;
+          pinned = (before.on refl).going.pinned;
+          requests = (request held fresh (Some behind) unsettled.core.status.writes stage.Done refl dues.0, tt);
+          copy = tt;
+          hands = (before.on refl).going.hands;
+          behind = λ p is. none_behind fresh (Some behind) unsettled.core.status.writes stage.Done p is;
+          reviewed = refl;
+          fresh = has_fresh mode.Off unsettled.core stays.0;
+          clearings = λ p is not. none_cleared (calls_stale (status_of fresh) p) (calls_stale (status_of behind) p) (none_stale p) is not;
+          numbers = unsettled_numbers;
+        };
+        rows = tt;
+        caused = (unsettled_caused, tt);
+        chosen = tt;
+      })
+      (record { counted = (unsettled_counted, tt); answered = (tt, tt); copy = tt; origin = unsettled_origin })
 
   kept_origin : IsTrueToOrigin kept
   kept_origin = let o = (held mode.Off).origin in record {
@@ -358,44 +306,30 @@ module _ (held : HeldWritesAreSound) where
   }
 
   kept_sound : IsSound kept
-  kept_sound = let before = held mode.Off in record {
-    fitting = fits held behind None no_writes stage.Done;
-    told = told held behind None no_writes stage.Done;
-    placed = before.placed;
-    buffers = before.buffers;
-    none_lost = before.none_lost;
-    on = λ e. record {
-      going = record {
-        fitting = fits held behind None no_writes stage.Done;
-        told = told held behind None no_writes stage.Done;
-        status = settled_status stage.Done;
-        owned = owned held behind None no_writes stage.Done refl refl;
-        tickets = tt;
-        queue = refl;
-        pinned = (before.on refl).going.pinned;
-        requests = (request held behind None no_writes stage.Done refl dues.1, tt);
-        copy = tt;
-        hands = (before.on refl).going.hands;
-        behind = λ p is. none_behind behind None no_writes stage.Done p is;
-        reviewed = refl;
-        fresh = has_fresh mode.Off kept.core stays.1;
-        clearings = λ p is not. both_stale (calls_stale (status_of behind) p) is not;
-        numbers = kept_numbers;
-      };
-      rows = tt;
-      caused = (kept_caused, tt);
-      chosen = tt;
-    };
-    lit = λ e. record { power = refl; freed = refl };
-    dark = λ e. not_so e;
-    off = λ e. on_is_not_off e;
-    over = λ e. not_so e;
-    stuck = λ e. on_is_not_stuck e;
-    counted = (kept_counted, tt);
-    answered = (tt, tt);
-    copy = tt;
-    origin = kept_origin;
-  }
+  kept_sound = let before = held mode.Off in
+      sound_while_on _ refl (record { power = refl; freed = refl }) (fits held behind None no_writes stage.Done) (told held behind None no_writes stage.Done) before.placed (before.none_lost refl) (record {
+        going = record {
+          fitting = fits held behind None no_writes stage.Done;
+          told = told held behind None no_writes stage.Done;
+          status = settled_status stage.Done;
+          owned = owned held behind None no_writes stage.Done refl refl;
+          tickets = tt;
+          queue = refl;
+          pinned = (before.on refl).going.pinned;
+          requests = (request held behind None no_writes stage.Done refl dues.1, tt);
+          copy = tt;
+          hands = (before.on refl).going.hands;
+          behind = λ p is. none_behind behind None no_writes stage.Done p is;
+          reviewed = refl;
+          fresh = has_fresh mode.Off kept.core stays.1;
+          clearings = λ p is not. both_stale (calls_stale (status_of behind) p) is not;
+          numbers = kept_numbers;
+        };
+        rows = tt;
+        caused = (kept_caused, tt);
+        chosen = tt;
+      })
+      (record { counted = (kept_counted, tt); answered = (tt, tt); copy = tt; origin = kept_origin })
 
   lost_origin : IsTrueToOrigin lost_on_both
   lost_origin = let o = (held mode.Off).origin in record {
@@ -407,44 +341,30 @@ module _ (held : HeldWritesAreSound) where
   }
 
   lost_sound : IsSound lost_on_both
-  lost_sound = let before = held mode.Off in record {
-    fitting = fits held behind None no_writes stage.Failed;
-    told = told held behind None no_writes stage.Failed;
-    placed = before.placed;
-    buffers = before.buffers;
-    none_lost = before.none_lost;
-    on = λ e. record {
-      going = record {
-        fitting = fits held behind None no_writes stage.Failed;
-        told = told held behind None no_writes stage.Failed;
-        status = settled_status stage.Failed;
-        owned = owned held behind None no_writes stage.Failed refl refl;
-        tickets = tt;
-        queue = refl;
-        pinned = (before.on refl).going.pinned;
-        requests = (request held behind None no_writes stage.Failed refl dues.2, tt);
-        copy = tt;
-        hands = (before.on refl).going.hands;
-        behind = λ p is. none_behind behind None no_writes stage.Failed p is;
-        reviewed = refl;
-        fresh = has_fresh mode.Off lost_on_both.core stays.2;
-        clearings = λ p is not. both_stale (calls_stale (status_of behind) p) is not;
-        numbers = lost_numbers;
-      };
-      rows = tt;
-      caused = (lost_caused, tt);
-      chosen = tt;
-    };
-    lit = λ e. record { power = refl; freed = refl };
-    dark = λ e. not_so e;
-    off = λ e. on_is_not_off e;
-    over = λ e. not_so e;
-    stuck = λ e. on_is_not_stuck e;
-    counted = (lost_counted, tt);
-    answered = (tt, tt);
-    copy = tt;
-    origin = lost_origin;
-  }
+  lost_sound = let before = held mode.Off in
+      sound_while_on _ refl (record { power = refl; freed = refl }) (fits held behind None no_writes stage.Failed) (told held behind None no_writes stage.Failed) before.placed (before.none_lost refl) (record {
+        going = record {
+          fitting = fits held behind None no_writes stage.Failed;
+          told = told held behind None no_writes stage.Failed;
+          status = settled_status stage.Failed;
+          owned = owned held behind None no_writes stage.Failed refl refl;
+          tickets = tt;
+          queue = refl;
+          pinned = (before.on refl).going.pinned;
+          requests = (request held behind None no_writes stage.Failed refl dues.2, tt);
+          copy = tt;
+          hands = (before.on refl).going.hands;
+          behind = λ p is. none_behind behind None no_writes stage.Failed p is;
+          reviewed = refl;
+          fresh = has_fresh mode.Off lost_on_both.core stays.2;
+          clearings = λ p is not. both_stale (calls_stale (status_of behind) p) is not;
+          numbers = lost_numbers;
+        };
+        rows = tt;
+        caused = (lost_caused, tt);
+        chosen = tt;
+      })
+      (record { counted = (lost_counted, tt); answered = (tt, tt); copy = tt; origin = lost_origin })
 
 pub unsettled_writes_are_sound : HeldWritesAreSound → UnsettledWritesAreSound
 unsettled_writes_are_sound held = record { sound = unsettled_sound held; next = unsettled_next }

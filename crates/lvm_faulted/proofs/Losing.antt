@@ -23,7 +23,10 @@ use Rattle.lvm_keeps.proofs.Off.{off_keeps}
 use Rattle.lvm_keeps.proofs.Orders.{order_keeps}
 use Rattle.lvm_keeps.proofs.Losing.{loss_is_caused}
 use Rattle.lvm_faulted.specs.Faulted.{EndedSessionsAreSound, LostVotesAreSound, lost, off, dark, without_disks}
-use Rattle.lvm_faulted.proofs.Parts.{behind, fitting, has_fresh, is_missing_so, none_missing, none_stale, not_marked, not_so, not_either, on_is_not_off, on_is_not_stuck, origin, request, stale_there, told, which_missing}
+use Rattle.lvm_sound.proofs.Small.{not_so, not_either}
+use Rattle.lvm_sound.proofs.Parts.{has_fresh, not_marked, none_missing_at_first as none_missing}
+use Rattle.lvm_sound.proofs.While.{sound_while_on}
+use Rattle.lvm_faulted.proofs.Parts.{behind, fitting, is_missing_so, none_stale, origin, request, stale_there, told, which_missing}
 
 first_stays : (m : Mode) → stays_fresh (lost m).core first_copy ≡ true
 unfolding has_bit
@@ -148,23 +151,9 @@ module _ (held : HeldWritesAreSound) (m : Mode) where
   }
 
   sound : IsSound (lost m)
-  sound = let before = held m in record {
-    fitting = fits;
-    told = is_told;
-    placed = before.placed;
-    buffers = before.buffers;
-    none_lost = before.none_lost;
-    on = λ e. record { going = going; rows = tt; caused = (λ waits. tt, tt); chosen = tt };
-    lit = λ e. record { power = refl; freed = refl };
-    dark = λ e. not_so e;
-    off = λ e. on_is_not_off e;
-    over = λ e. not_so e;
-    stuck = λ e. on_is_not_stuck e;
-    counted = (tt, tt);
-    answered = (tt, tt);
-    copy = tt;
-    origin = is_true;
-  }
+  sound = let before = held m in
+      sound_while_on _ refl (record { power = refl; freed = refl }) fits is_told before.placed (before.none_lost refl) (record { going = going; rows = tt; caused = (λ waits. tt, tt); chosen = tt })
+      (record { counted = (tt, tt); answered = (tt, tt); copy = tt; origin = is_true })
 
   off_is_sound : IsSound (off m)
   off_is_sound = off_keeps (lost m) (off m) sound refl (ends m)

@@ -15,7 +15,10 @@ use Rattle.lvm_sound.specs.Left.{updates_left}
 use Rattle.lvm_sound.specs.Sound.{IsGoing, IsSound, stays_fresh}
 use Rattle.lvm_sound.specs.Worked.{HeldWritesAreSound, first_copy, fresh, status_of}
 use Rattle.lvm_faulted.specs.Faulted.{MissingDisksAreSound, missing_disk, wanting}
-use Rattle.lvm_faulted.proofs.Parts.{behind, fitting, has_fresh, none_missing, none_stale, not_marked, not_none, not_so, not_either, on_is_not_off, on_is_not_stuck, origin, request, told}
+use Rattle.lvm_sound.proofs.Small.{not_none, not_so, not_either}
+use Rattle.lvm_sound.proofs.Parts.{idle_is_sound, none_written, has_fresh, not_marked, none_missing_at_first as none_missing}
+use Rattle.lvm_sound.proofs.While.{sound_while_on}
+use Rattle.lvm_faulted.proofs.Parts.{behind, fitting, none_stale, origin, request, told}
 
 first_stays : (m : Mode) → stays_fresh (wanting m false) first_copy ≡ true
 unfolding has_bit
@@ -29,17 +32,7 @@ numbers mode.Off = omega arith
 
 status : (m : Mode) → IsSoundStatus (seen (wanting m false).status)
 unfolding votes_by has_bit has
-status m = record {
-  unstarted = λ disk is. not_marked disk is;
-  started = λ disk is. not_marked disk is;
-  failed = λ disk is. not_marked disk is;
-  each = λ t e. not_none e;
-  idle = λ e disk. (has-zero disk, has-zero disk, has-zero disk, has-zero disk);
-  held = λ is. not_so is;
-  open_still = λ t e. not_none e;
-  committed_missing = λ disk is. none_missing disk is;
-  in_flight_missing = λ t e. not_none e;
-}
+status m = idle_is_sound _ refl none_written refl (λ disk is. none_missing disk is)
 
 votes : (m : Mode) → is_lost (missing_disk m).core ≡ false
 unfolding votes_by has_bit has
@@ -77,23 +70,9 @@ module _ (held : HeldWritesAreSound) (m : Mode) where
   }
 
   sound : IsSound (missing_disk m)
-  sound = let before = held m in record {
-    fitting = fitting held m false;
-    told = told held m false;
-    placed = before.placed;
-    buffers = before.buffers;
-    none_lost = before.none_lost;
-    on = λ e. record { going = going; rows = tt; caused = (λ waits. tt, tt); chosen = tt };
-    lit = λ e. record { power = refl; freed = refl };
-    dark = λ e. not_so e;
-    off = λ e. on_is_not_off e;
-    over = λ e. not_so e;
-    stuck = λ e. on_is_not_stuck e;
-    counted = (tt, tt);
-    answered = (tt, tt);
-    copy = tt;
-    origin = origin held m false;
-  }
+  sound = let before = held m in
+      sound_while_on _ refl (record { power = refl; freed = refl }) (fitting held m false) (told held m false) before.placed (before.none_lost refl) (record { going = going; rows = tt; caused = (λ waits. tt, tt); chosen = tt })
+      (record { counted = (tt, tt); answered = (tt, tt); copy = tt; origin = origin held m false })
 
 pub missing_disks_are_sound : HeldWritesAreSound → MissingDisksAreSound
 missing_disks_are_sound held = record { sound = sound held; votes = votes; next = next }

@@ -25,25 +25,9 @@ use Rattle.lvm_sound.specs.Requests.{IsOpenOne}
 use Rattle.lvm_sound.specs.Causes.{FailedSince, IsTrueToOrigin}
 use Rattle.lvm_sound.specs.Sound.{IsFitting, IsSound, IsTold, may_be_fresh, stays_fresh}
 use Rattle.lvm_sound.specs.Worked.{HeldWritesAreSound, a_write, asking, core_of, faultless, first_copy, fresh, second_copy, held_write, mirrored, status_of}
+use Rattle.lvm_sound.proofs.Small.{not_so, not_either}
+use Rattle.lvm_sound.proofs.Parts.{both_copies, none_missing_at_first as none_missing, zeros_at}
 use Rattle.lvm_faulted.specs.Faulted.{faulted, wanting, without_disks}
-
-pub not_so : {X : Type 0} → false ≡ true → X
-not_so e = absurd cc
-
-pub not_either : {X : Type 0} → true ≡ false → X
-not_either e = absurd cc
-
-pub not_none : {A : Type 0} {X : Type 0} {a : A} → None ≡ Some a → X
-not_none e = absurd cc
-
-pub on_is_not_off : {X : Type 0} → power.On ≡ power.Off → X
-on_is_not_off e = absurd cc
-
-pub on_is_not_stuck : {X : Type 0} → power.On ≡ power.Stuck → X
-on_is_not_stuck e = absurd cc
-
-pub not_marked : (disk : ℕ) {X : Type 0} → has 0 disk ≡ true → X
-not_marked disk is = not_so (sym (has-zero disk) ∙ is)
 
 -- ---- what the status says
 
@@ -61,20 +45,6 @@ none_stale p = by (0 == p.disk) (1 == p.disk) (2 == p.disk) (has_bit (replicate 
     by false true false false e = refl
     by false false true false e = refl
     by false false false false e = refl
-
--- and no disk missing
-pub none_missing : {X : Type 0} (disk : ℕ) → calls_missing (status_of fresh) disk ≡ true → X
-none_missing disk is = not_so (by (0 == disk) (1 == disk) (2 == disk) is)
-  where
-    by : (a b c : Bool) → (a && false) || ((b && false) || ((c && false) || false)) ≡ true → false ≡ true
-    by true true true is = is
-    by true true false is = is
-    by true false true is = is
-    by true false false is = is
-    by false true true is = is
-    by false true false is = is
-    by false false true is = is
-    by false false false is = is
 
 -- the second disk is missing, and the third where this is so
 pub which_missing : (both : Bool) (disk : ℕ) → calls_missing (without_disks both) disk ≡ true → (disk ≡ 1) ⊎ ((disk ≡ 2) × (both ≡ true))
@@ -107,9 +77,6 @@ stale_there both p is = by (1 == p.disk) refl (0 == p.disk) (2 == p.disk) (has_b
     by false e false false false none is = not_so is
 
 -- ---- what follows from it
-
-abbrev pub both_copies : List Pp
-both_copies = first_copy ∷ second_copy ∷ []
 
 second_is_stale : (both : Bool) → calls_stale (without_disks both) second_copy ≡ true
 unfolding has_bit
@@ -144,18 +111,6 @@ behind m both p is =
     let parts = entailed (is_among both_copies p) (not (is_stale (wanting m both) p)) (calls_missing (without_disks both) p.disk) (list_any (can_replace (wanting m both)) both_copies) is in
     stale_with_disk both p parts.0 parts.1
 
--- each logical partition has a fresh copy where the first copy stays fresh
-pub has_fresh : (m : Mode) (core : Core) → stays_fresh core first_copy ≡ true → (lv lp : ℕ) → list_any (may_be_fresh core) (copies_in (mirrored m) lv lp) ≡ true → list_any (stays_fresh core) (copies_in (mirrored m) lv lp) ≡ true
-has_fresh m core stays lv lp = by_volume (1 == lv) lp
-  where
-    copies : Bool → ℕ → List Pp
-    copies is n = option_map_or (λ (row : LvRow). copies_of row n) (if is then Some (mirror m) else None) []
-
-    by_volume : (is : Bool) (n : ℕ) → list_any (may_be_fresh core) (copies is n) ≡ true → list_any (stays_fresh core) (copies is n) ≡ true
-    by_volume false n some = not_so some
-    by_volume true zero some = ap (λ t. t || (stays_fresh core second_copy || false)) stays
-    by_volume true (suc n) some = not_so (sym (ap (λ (ps : List Pp). list_any (may_be_fresh core) (take 2 ps)) (drop_all (suc n * 2) both_copies (omega arith))) ∙ some)
-
 -- ---- what has failed
 
 pub rose_once : Rose 0 1
@@ -165,11 +120,6 @@ rose_once = record { later = omega arith; risen = omega arith }
 pub failed : (both : Bool) (disk : ℕ) → (disk ≡ 1) ⊎ ((disk ≡ 2) × (both ≡ true)) → Rose 0 ((faulted both).counts.faults disk)
 failed both disk (inl one) = subst (λ d. Rose 0 ((faulted both).counts.faults d)) (sym one) rose_once
 failed both disk (inr two) = subst (λ d. Rose 0 ((faulted both).counts.faults d)) (sym two.0) (subst (λ (t : Bool). Rose 0 (if t then 1 else 0)) (sym two.1) rose_once)
-
-pub zeros_at : (many k : ℕ) → ◌≡◌ {A = ℕ} (slice_index_or (replicate many 0) k 0) 0
-zeros_at zero k = refl
-zeros_at (suc many) zero = refl
-zeros_at (suc many) (suc k) = zeros_at many k
 
 -- ---- what it has of the session with the held write alone
 

@@ -33,7 +33,11 @@ use Rattle.lvm_sound.specs.Sound.{IsAsked, IsFitting, IsGoing, IsSound, IsTold, 
 use Rattle.lvm_sound.specs.Worked.{HeldWritesAreSound, behind, first_copy, fresh, mirrored, status_of}
 use Rattle.lvm_keeps.proofs.Landing.{landing_is_caused}
 use Rattle.lvm_faulted.specs.Unread.{FailedReadsAreSound, WritesWithoutCopyAreSound, begun_read, failed_read, held, read_in_vain, refused, unread, without_copy}
-use Rattle.lvm_faulted.proofs.Parts.{both_copies, has_fresh, none_missing, none_stale, not_either, not_marked, not_none, not_so, on_is_not_off, on_is_not_stuck, rose_once, zeros_at}
+use Rattle.lvm_sound.proofs.Small.{not_either, not_none, not_so}
+use Rattle.lvm_sound.proofs.Requests.{laid_in, shaped, waits_with}
+use Rattle.lvm_sound.proofs.Parts.{idle_is_sound, none_written, both_copies, has_fresh, not_marked, zeros_at, none_missing_at_first as none_missing}
+use Rattle.lvm_sound.proofs.While.{sound_while_on}
+use Rattle.lvm_faulted.proofs.Parts.{none_stale, rose_once}
 use Rattle.lvm_faulted.proofs.Failing.{all_stale, both_stale, none_missing_behind}
 
 -- ---- no copy is left
@@ -66,17 +70,7 @@ none_entailed m p is =
 
 status : (m : Mode) → IsSoundStatus (seen (without_copy m).core.status)
 unfolding votes_by has_bit has
-status m = record {
-  unstarted = λ disk is. not_marked disk is;
-  started = λ disk is. not_marked disk is;
-  failed = λ disk is. not_marked disk is;
-  each = λ t e. not_none e;
-  idle = λ e disk. (has-zero disk, has-zero disk, has-zero disk, has-zero disk);
-  held = λ is. not_so is;
-  open_still = λ t e. not_none e;
-  committed_missing = λ disk is. none_missing_behind disk is;
-  in_flight_missing = λ t e. not_none e;
-}
+status m = idle_is_sound _ refl none_written refl (λ disk is. none_missing_behind disk is)
 
 stays : (m : Mode) → stays_fresh (without_copy m).core first_copy ≡ true
 unfolding has_bit
@@ -149,29 +143,20 @@ module _ (writes : HeldWritesAreSound) (m : Mode) where
   }
 
   sound : IsSound (without_copy m)
-  sound = let before = writes m in record {
-    fitting = fits;
-    told = told;
-    placed = before.placed;
-    buffers = before.buffers;
-    none_lost = before.none_lost;
-    on = λ e. record { going = going; rows = tt; caused = (λ waits. tt, tt); chosen = tt };
-    lit = λ e. record { power = refl; freed = refl };
-    dark = λ e. not_so e;
-    off = λ e. on_is_not_off e;
-    over = λ e. not_so e;
-    stuck = λ e. on_is_not_stuck e;
-    counted = (tt, tt);
-    answered = (tt, tt);
-    copy = tt;
-    origin = record {
-      since = λ disk. let none = zeros_at 128 disk in omega (arith, none);
-      votes = votes m;
-      still_missing = λ disk is. none_missing_behind disk is;
-      missing = λ disk is. inr (first_since m disk (only_first disk is));
-      stale = λ p is. inl (all_stale (calls_stale (status_of behind) p) is);
-    };
-  }
+  sound = let before = writes m in
+      sound_while_on _ refl (record { power = refl; freed = refl }) fits told before.placed (before.none_lost refl) (record { going = going; rows = tt; caused = (λ waits. tt, tt); chosen = tt })
+      (record {
+        counted = (tt, tt);
+        answered = (tt, tt);
+        copy = tt;
+        origin = record {
+          since = λ disk. let none = zeros_at 128 disk in omega (arith, none);
+          votes = votes m;
+          still_missing = λ disk is. none_missing_behind disk is;
+          missing = λ disk is. inr (first_since m disk (only_first disk is));
+          stale = λ p is. inl (all_stale (calls_stale (status_of behind) p) is);
+        };
+      })
 
 pub writes_without_copy_are_sound : HeldWritesAreSound → WritesWithoutCopyAreSound
 unfolding has_bit lands
@@ -210,29 +195,13 @@ read_told m = record { ordered = read_ordered; table = record { ascending = (tt,
 
 read_request : (m : Mode) → IsOpenOne (unread m).core failed_read
 unfolding has_bit
-read_request m = record {
-  laid = record {
-    within = record { row = mirror m; volume = refl; within = omega arith; some = omega arith; fits = omega arith };
-    blocks = record { some = omega arith; end = omega arith; group = omega arith; whole = λ e. not_so e };
-    most = omega arith;
-    id = omega arith;
-  };
-  waits = λ e. record {
-    shape = record {
-      targets = (record { copy = refl; sector = refl; there = refl }, (record { copy = refl; sector = refl; there = refl }, tt));
-      phase_is = (omega arith, λ write. not_so write);
-      hand = refl;
-      room = tt;
-      differ = differ;
-      usable = λ past. refl;
-      one = λ read. omega arith;
-    };
-    ready = record { free = λ past. refl; recorded = (refl, refl, refl); wanted = λ past two. refl; named = λ has two. refl; dirty = λ has two. refl };
-    judged = λ write. not_so write;
-  };
-  over = λ e. not_either e;
-  still = λ e. not_either e;
-}
+read_request m =
+    waits_with refl (laid_in (mirror m) refl (omega arith) (omega arith) (omega arith) (omega arith) (omega arith) (omega arith))
+    (record {
+      shape = shaped (record { copy = refl; sector = refl; there = refl }, (record { copy = refl; sector = refl; there = refl }, tt)) (omega arith, λ write. not_so write) refl tt differ (λ past. refl) (λ read. omega arith);
+      ready = record { free = λ past. refl; recorded = (refl, refl, refl); wanted = λ past two. refl; named = λ has two. refl; dirty = λ has two. refl };
+      judged = λ write. not_so write;
+    })
 
 read_caused : (m : Mode) → AreCaused (unread m).device (unread m).core failed_read
 read_caused m waits = (λ e. rose_once, (λ e. rose_once, tt))
@@ -289,29 +258,20 @@ module _ (writes : HeldWritesAreSound) (m : Mode) where
   }
 
   read_sound : IsSound (unread m)
-  read_sound = let before = writes m in let o = before.origin in record {
-    fitting = read_fits;
-    told = read_told m;
-    placed = before.placed;
-    buffers = before.buffers;
-    none_lost = before.none_lost;
-    on = λ e. record { going = read_going; rows = tt; caused = (read_caused m, tt); chosen = tt };
-    lit = λ e. record { power = refl; freed = refl };
-    dark = λ e. not_so e;
-    off = λ e. on_is_not_off e;
-    over = λ e. not_so e;
-    stuck = λ e. on_is_not_stuck e;
-    counted = (read_counted m, tt);
-    answered = (tt, tt);
-    copy = tt;
-    origin = record {
-      since = λ disk. let none = zeros_at 128 disk in omega (arith, none);
-      votes = o.votes;
-      still_missing = λ disk is. none_missing disk is;
-      missing = λ disk is. none_missing disk is;
-      stale = λ p is. not_so (sym (none_stale p) ∙ all_stale (calls_stale (status_of fresh) p) is);
-    };
-  }
+  read_sound = let before = writes m in let o = before.origin in
+      sound_while_on _ refl (record { power = refl; freed = refl }) read_fits (read_told m) before.placed (before.none_lost refl) (record { going = read_going; rows = tt; caused = (read_caused m, tt); chosen = tt })
+      (record {
+        counted = (read_counted m, tt);
+        answered = (tt, tt);
+        copy = tt;
+        origin = record {
+          since = λ disk. let none = zeros_at 128 disk in omega (arith, none);
+          votes = o.votes;
+          still_missing = λ disk is. none_missing disk is;
+          missing = λ disk is. none_missing disk is;
+          stale = λ p is. not_so (sym (none_stale p) ∙ all_stale (calls_stale (status_of fresh) p) is);
+        };
+      })
 
 pub failed_reads_are_sound : HeldWritesAreSound → FailedReadsAreSound
 unfolding read_lands

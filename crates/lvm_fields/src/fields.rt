@@ -1,5 +1,5 @@
 //! Fields from the front of some bytes.
-ghost use Rattle.std.specs.Prelude.{◌≡◌, ℕ, true, ◌≤◌, ◌==◌, ◌&&◌, nat_le, length, IfOk};
+ghost use Rattle.std.specs.Prelude.{◌≡◌, ℕ, true, ◌≤◌, ◌==◌, ◌&&◌, not, nat_le, length, IfOk};
 ghost use Rattle.std.specs.List.{list_all};
 ghost use Rattle.std.specs.Int.{w8, w16, w32, w64};
 ghost use Rattle.lvm_num.specs.Reading.{bytes_at, number_at, zeros_at};
@@ -76,6 +76,17 @@ pub fn u64_at(unread: Unread) -> Result<(u64, Unread), Fault>
     Ok((number, after))
 }
 
+/// A number of eight bytes that isn't 0.
+pub fn u64_nonzero(unread: Unread) -> Result<(u64, Unread), Fault>
+    ensures { Gives (λ x. (x.0, rest_of x.1)) result (number_at w64 (λ n. not (n == 0)) (rest_of unread.entry)) }
+{
+    let read = u64_at(unread);
+    if let Ok((0, _)) = &read {
+        return Err(Fault::At(unread.place));
+    }
+    read
+}
+
 /// What is behind so many zeros.
 pub fn zeros_at(count: usize, unread: Unread) -> Result<Unread, Fault>
     ensures { Gives rest_of result (zeros_at count (rest_of unread.entry)) }
@@ -134,7 +145,8 @@ pub fn u16_up_to(most: u16, unread: Unread) -> Result<(u16, Unread), Fault>
 
 /// A number of two bytes from 1 up to a greatest one.
 pub fn u16_from_1(most: u16, unread: Unread) -> Result<(u16, Unread), Fault>
-    ensures { Gives (λ x. (x.0, rest_of x.1)) result (number_at w16 (λ n. nat_le 1 n && nat_le n most) (rest_of unread.entry)) }
+    ensures read { Gives (λ x. (x.0, rest_of x.1)) result (number_at w16 (λ n. nat_le 1 n && nat_le n most) (rest_of unread.entry)) }
+    ensures most { IfOk result (λ x. x.0 ≤ most) }
 {
     let read = u16_at(unread);
     if let Ok((number, _)) = &read

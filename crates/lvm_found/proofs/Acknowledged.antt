@@ -12,7 +12,7 @@ use Rattle.lvm_operands.specs.declared.rest.Misfit.{Misfit}
 use Rattle.lvm_kept.specs.Contents.{contents_of}
 use Rattle.lvm_kept.proofs.Finding.{images_within}
 use Rattle.lvm_steps.specs.Moments.{ImagesKept}
-use Rattle.lvm_quorum.proofs.Writing.{told_at}
+use Rattle.lvm_write.proofs.Writing.{told_at}
 use Rattle.lvm_commit.specs.Committed.{HoldsCommitted}
 use Rattle.lvm_commit.proofs.Found.{only_committed_is_found}
 use Rattle.lvm_commit.proofs.Still.{still_holds_committed}

@@ -13,7 +13,7 @@ use Rattle.lvm_kept.specs.Plans.{ChangesBy}
 use Rattle.lvm_kept.specs.Torn.{MayWriteAll, DescriptorsChange, written as as_read}
 use Rattle.lvm_kept.proofs.Finding.{images_within}
 use Rattle.lvm_steps.proofs.Making.{media_may}
-use Rattle.lvm_quorum.proofs.Writing.{both_from}
+use Rattle.lvm_write.proofs.Writing.{both_from}
 use Rattle.lvm_commit.specs.Laws.{IsLaterDescriptor}
 use Rattle.lvm_commit.specs.LawsOfFinding.{FindsNoMore}
 use Rattle.lvm_commit.proofs.NoMore.{descriptor_finds_no_more, rest_finds_nothing_new, data_finds_nothing_new}

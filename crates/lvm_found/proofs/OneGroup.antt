@@ -20,7 +20,7 @@ use Rattle.lvm_kept.proofs.Chaining.{span_sizes}
 use Rattle.lvm_kept.proofs.Finding.{offered, is_offered}
 use Rattle.lvm_steps.proofs.Making.{media_may}
 use Rattle.lvm_begin.specs.Beginning.{new_order}
-use Rattle.lvm_quorum.proofs.Writing.{told_at}
+use Rattle.lvm_write.proofs.Writing.{told_at}
 use Rattle.lvm_commit.specs.Committed.{HoldsCommitted}
 use Rattle.lvm_commit.specs.LawsOfVolumes.{IsOneByAllOn}
 use Rattle.lvm_commit.proofs.NoMore.{data_finds_nothing_new}

@@ -21,7 +21,7 @@ use Rattle.lvm_kept.proofs.Landing.{legal_more}
 use Rattle.lvm_steps.specs.Moments.{Begins, ImagesKept, IsEarlier}
 use Rattle.lvm_steps.proofs.Entries.{cut_keeps}
 use Rattle.lvm_steps.proofs.Spans.{later_append}
-use Rattle.lvm_quorum.proofs.Writing.{told_at}
+use Rattle.lvm_write.proofs.Writing.{told_at}
 use Rattle.lvm_core.specs.declared.parts.Room.{Room}
 use Rattle.lvm_core.specs.Held.{IsHeld}
 use Rattle.lvm_core.specs.Settled.{IsSettled as IsSettledCore}

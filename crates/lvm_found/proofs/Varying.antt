@@ -28,10 +28,10 @@ use Rattle.lvm_stamps.specs.Laws.{IsWhole, ShowsBefore}
 use Rattle.lvm_stamps.proofs.Records.{session_may_go, shown_is_before}
 use Rattle.lvm_stamps.proofs.Stamps.{behind_is_before}
 use Rattle.lvm_survey.proofs.ShownValid.{descriptors_valid}
-use Rattle.lvm_quorum.specs.Homes.{SparesNewest}
-use Rattle.lvm_quorum.specs.Written.{write_of, KeepsShelf}
-use Rattle.lvm_quorum.proofs.Shows.{descriptor_may_be_written, status_may_be_written}
-use Rattle.lvm_quorum.proofs.Writing.{told_at}
+use Rattle.lvm_write.specs.Homes.{SparesNewest}
+use Rattle.lvm_write.specs.Written.{write_of, KeepsShelf}
+use Rattle.lvm_write.proofs.Shows.{descriptor_may_be_written, status_may_be_written}
+use Rattle.lvm_write.proofs.Writing.{told_at}
 use Rattle.lvm_begin.specs.Beginning.{Beginning, Part, describes, states, IsOfParts}
 use Rattle.lvm_core.proofs.Sizes.{descriptor_fits}
 use Rattle.lvm_core.specs.Leaves.{MayBeFound}

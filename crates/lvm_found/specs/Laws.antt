@@ -14,7 +14,7 @@ use Rattle.lvm_line.specs.Lines.{IsLine}
 use Rattle.lvm_commands.specs.State.{State, IsTimely, AreHeld}
 use Rattle.lvm_commands.specs.declared.reply.Reply.{Reply}
 use Rattle.lvm_commands.specs.declared.reply.Reply.TheVariants as reply
-use Rattle.lvm_top.specs.declared.status.Status.TheVariants as ended
+use Rattle.lvm_top.specs.declared.status.ExitStatus.TheVariants as ended
 use Rattle.lvm_top.specs.Run.{Run, IsRun, RanAlone}
 use Rattle.lvm_top.specs.Script.{Script, StaysAlone, entry_state}
 use Rattle.lvm_found.specs.Standing.{MayHaveCommitted, MayStand, MayStandAtEnd, HasFewDisks}

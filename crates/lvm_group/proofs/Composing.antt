@@ -1,17 +1,19 @@
 -- From what was found on the disks and what was then written, to what the making of a group answers.
-use Rattle.std.proofs.Common.{◌≡◌, inl, inr, ⊎_elim, ℕ, ◌-◌, ◌≤◌, List, [], ◌∷◌, ◌++◌, Option, refl, sym, ap, subst, ◌∙◌}
+use Rattle.std.proofs.Common.{◌≡◌, inl, inr, ⊎_elim, ℕ, ◌≤◌, List, [], ◌∷◌, ◌++◌, Option, refl, sym, ap, subst, ◌∙◌}
 use Rattle.std.specs.Prelude.{if◌then◌else◌}
 use Rattle.lvm_num.specs.Disks.{Disks, has}
-use Rattle.lvm_disk.specs.Counts.{RoseBy, Rose}
+use Rattle.lvm_disk.specs.Counts.{Rose}
 use Rattle.lvm_disk.specs.Device.{Media, Range, Device, IsReady, image_of}
 use Rattle.lvm_disk.specs.Steps.{BothTold}
 use Rattle.lvm_vol.specs.Log.{Log, cut_log, spare_entries}
 use Rattle.lvm_kept.specs.Plans.{Plan as Bringing, ChangesBy}
-use Rattle.lvm_quorum.specs.declared.homes.Homes.{Homes}
-use Rattle.lvm_quorum.specs.Written.{LogsPlan, KeepsShelf, IsDarkened, IsGivenUp}
-use Rattle.lvm_survey.specs.Surveying.{IsUnwritten, IsRested}
+use Rattle.lvm_write.specs.declared.homes.Homes.{Homes}
+use Rattle.lvm_write.specs.Parts.{Spends}
+use Rattle.lvm_write.specs.Written.{LogsPlan, KeepsShelf, IsDarkened, IsGivenUp}
+use Rattle.lvm_write.proofs.Transfers.{darkened_then, given_up_then}
+use Rattle.lvm_area.specs.Reading.{IsUnwritten, IsRested}
 use Rattle.lvm_begin.specs.Beginning.{Beginning, Part, new_beginning, new_order, IsOfParts, Stands as PartStands}
-use Rattle.lvm_begin.specs.Ends.{BothFlip, HasNoFault, StopsAt, IsFirstFailed, WasTried}
+use Rattle.lvm_begin.specs.Ends.{BothFlip, HasNoFault, StopsAt, IsLowestFailed, WasTriedOnTargets}
 use Rattle.lvm_core.specs.declared.parts.Room.{Room}
 use Rattle.lvm_core.specs.declared.refused.Cause.{Cause}
 use Rattle.lvm_core.specs.declared.refused.Cause.TheVariants as cause
@@ -19,19 +21,18 @@ use Rattle.lvm_group.specs.NewGroup.{NewGroup, among, size_for, given_up, MayBeg
 use Rattle.lvm_group.specs.Shown.{IsClear}
 use Rattle.lvm_group.specs.Planned.{IsPlanned, RefusesPlan}
 use Rattle.lvm_group.specs.Made.{beginning_for, IsAsBefore, Stops, Breaks, HasRead, Refuses}
-use Rattle.lvm_group.specs.Steps.{HasOnlyRead, IsFree, RefusesFound, AreWritten, BreaksOff, Stands, is_dark}
+use Rattle.lvm_group.specs.Steps.{HasOnlyRead, LetsMake, RefusesFound, AreWritten, WritingFails, Stands, cuts_power}
 use Rattle.lvm_group.specs.declared.look.Free.{Free}
 use Rattle.lvm_group.specs.declared.plan.Plan.{Plan}
-use Rattle.lvm_group.proofs.Counts.{rose_all}
 
 -- ---- refusals before the first write
 
 -- the history with a cut where the cause is one
 abbrev pub cut_where : Cause → Log → Log
-cut_where why log = if is_dark why then cut_log log else log
+cut_where why log = if cuts_power why then cut_log log else log
 
-has_read : (was is : Log) (old new : Device) → HasOnlyRead old new → is ≡ was → HasRead was is old new
-has_read was is old new reads same = record { unwritten = reads.unwritten; rested = reads.rested; history = same }
+has_read : (was : Log) (old new : Device) → HasOnlyRead old new → HasRead was was old new
+has_read was old new reads = record { unwritten = reads.unwritten; rested = reads.rested; history = refl }
 
 refuses_first : (w : NewGroup) (patience : ℕ) (log : Log) (device : Device) (why : Cause) → RefusesFirst device.sizes (spare_entries log) w.disks w.mib why → Refuses w patience log log device device why
 refuses_first w patience log device (cause.NoDisk disk) refuses = (record { shelf = refl; history = refl }, refuses)
@@ -57,21 +58,21 @@ refuses_plan w patience log device why ready (inl memory) = subst (Refuses w pat
 })
 refuses_plan w patience log device why ready (inr refuses) = refuses_first w patience log device why refuses
 
-pub refuses_reading : (w : NewGroup) (patience : ℕ) (was is : Log) (old new : Device) (why : Cause) → MayBegin old.sizes (spare_entries was) w.disks w.mib → is ≡ cut_where why was
-    → RefusesFound w.force w.moment patience old new why → Refuses w patience was is old new why
-refuses_reading w patience was is old new (cause.DiskFailed disk) may same refuses = inl (record { may = may; read = has_read was is old new refuses.0 same; unread = refuses.1 })
-refuses_reading w patience was is old new cause.GroupExists may same refuses = (has_read was is old new refuses.0 same, may, refuses.1, refuses.2)
-refuses_reading w patience was is old new (cause.ClockBack seen) may same refuses = (has_read was is old new refuses.0 same, record { may = may; read = refuses.1; free = refuses.2 }, refuses.3)
-refuses_reading w patience was is old new cause.Dark may same refuses = inl (record { may = may; unwritten = refuses.0; cut = refuses.1; entered = same })
-refuses_reading w patience was is old new cause.Stuck may same refuses = inl (record { may = may; unwritten = refuses.0; stuck = refuses.1; entered = same })
-refuses_reading w patience was is old new cause.Memory may same refuses = record { may = may; unwritten = refuses.unwritten; rested = refuses.rested; history = same }
-refuses_reading w patience was is old new (cause.NoDisk disk) may same refuses = absurd refuses
-refuses_reading w patience was is old new (cause.TooMany limit) may same refuses = absurd refuses
-refuses_reading w patience was is old new (cause.TooSmall disk) may same refuses = absurd refuses
-refuses_reading w patience was is old new cause.HistoryFull may same refuses = absurd refuses
-refuses_reading w patience was is old new cause.NoRecord may same refuses = absurd refuses
-refuses_reading w patience was is old new cause.Ambiguous may same refuses = absurd refuses
-refuses_reading w patience was is old new (cause.NoQuorum have total) may same refuses = absurd refuses
+pub refuses_reading : (w : NewGroup) (patience : ℕ) (was : Log) (old new : Device) (why : Cause) → MayBegin old.sizes (spare_entries was) w.disks w.mib → RefusesFound w.force w.moment patience old new why
+    → Refuses w patience was (cut_where why was) old new why
+refuses_reading w patience was old new (cause.DiskFailed disk) may refuses = inl (record { may = may; read = has_read was old new refuses.0; unread = refuses.1 })
+refuses_reading w patience was old new cause.GroupExists may refuses = (has_read was old new refuses.0, may, refuses.1, refuses.2)
+refuses_reading w patience was old new (cause.ClockBack seen) may refuses = (has_read was old new refuses.0, record { may = may; read = refuses.1; free = refuses.2 }, refuses.3)
+refuses_reading w patience was old new cause.Dark may refuses = inl (record { may = may; unwritten = refuses.0; cut = refuses.1; entered = refl })
+refuses_reading w patience was old new cause.Stuck may refuses = inl (record { may = may; unwritten = refuses.0; stuck = refuses.1; entered = refl })
+refuses_reading w patience was old new cause.Memory may refuses = record { may = may; unwritten = refuses.unwritten; rested = refuses.rested; history = refl }
+refuses_reading w patience was old new (cause.NoDisk disk) may refuses = absurd refuses
+refuses_reading w patience was old new (cause.TooMany limit) may refuses = absurd refuses
+refuses_reading w patience was old new (cause.TooSmall disk) may refuses = absurd refuses
+refuses_reading w patience was old new cause.HistoryFull may refuses = absurd refuses
+refuses_reading w patience was old new cause.NoRecord may refuses = absurd refuses
+refuses_reading w patience was old new cause.Ambiguous may refuses = absurd refuses
+refuses_reading w patience was old new (cause.NoQuorum have total) may refuses = absurd refuses
 
 -- ---- the writes, from where they began to where the call did
 
@@ -106,11 +107,11 @@ module _ (w : NewGroup) (old mid new : Device) (un : IsUnwritten old mid) where
   pub well_before : HasNoFault mid new → HasNoFault old new
   well_before well d = well d ∙ ap (λ (f : ℕ → ℕ). f d) un.faults
 
-  pub tried_before : (b : Beginning) (part : Part) → WasTried b mid new part → WasTried b old new part
+  pub tried_before : (b : Beginning) (part : Part) → WasTriedOnTargets b mid new part → WasTriedOnTargets b old new part
   tried_before b part tried d target = ⊎_elim (λ (stands : PartStands b part new d). inl stands)
       (λ (rose : Rose (mid.counts.faults d) (new.counts.faults d)). inr (subst (λ (f : ℕ → ℕ). Rose (f d) (new.counts.faults d)) un.faults rose)) (tried d target)
 
-  pub failed_before : (disk : ℕ) → IsFirstFailed (among w.disks) mid new disk → IsFirstFailed (among w.disks) old new disk
+  pub failed_before : (disk : ℕ) → IsLowestFailed (among w.disks) mid new disk → IsLowestFailed (among w.disks) old new disk
   failed_before disk first = record {
     target = first.target;
     rose = subst (λ (f : ℕ → ℕ). Rose (f disk) (new.counts.faults disk)) un.faults first.rose;
@@ -122,23 +123,14 @@ module _ (w : NewGroup) (old mid new : Device) (un : IsUnwritten old mid) where
     rested_before rested = record { ready = rested.ready; cuts = rested.cuts ∙ rest.cuts }
 
     pub dark_before : IsDarkened 0 mid new → IsDarkened 0 old new
-    dark_before dark = record { flights = dark.flights; freed = dark.freed; power = dark.power; cuts = subst (λ n. Rose n new.counts.cuts) rest.cuts dark.cuts }
+    dark_before dark = darkened_then 0 0 old mid new refl rest.cuts dark
 
-    pub stuck_before : (before left : ℕ) → left ≤ before → RoseBy (before - left) old.counts.waits mid.counts.waits → IsGivenUp 0 left mid new → IsGivenUp 0 before old new
-    stuck_before before left le waited stuck = record {
-      flight = stuck.flight;
-      flights = stuck.flights;
-      write = stuck.write;
-      buffer = stuck.buffer;
-      freed = stuck.freed;
-      power = stuck.power;
-      cuts = stuck.cuts ∙ rest.cuts;
-      waits = rose_all before left old.counts.waits mid.counts.waits new.counts.waits le waited stuck.waits;
-    }
+    pub stuck_before : (before left : ℕ) → Spends before left old mid → IsGivenUp 0 left mid new → IsGivenUp 0 before old new
+    stuck_before before left spends stuck = given_up_then 0 0 before left old mid new refl rest.cuts spends stuck
 
 -- ---- what the call answers
 
-module _ (w : NewGroup) (was : Log) (old mid new : Device) (free : Free) (may : MayBegin old.sizes (spare_entries was) w.disks w.mib) (found : IsFree w.force w.moment old mid free)
+module _ (w : NewGroup) (was : Log) (old mid new : Device) (free : Free) (may : MayBegin old.sizes (spare_entries was) w.disks w.mib) (found : LetsMake w.force w.moment old mid free)
     (keeps : KeepsShelf (among w.disks) (IsOfParts (beginning_for old.sizes w free.homes) new_order) mid new) where
   abbrev pub writes : Beginning
   writes = beginning_for old.sizes w free.homes
@@ -179,33 +171,30 @@ module _ (w : NewGroup) (was : Log) (old mid new : Device) (free : Free) (may : 
     entered = refl;
   }
 
-  pub refuses_writing : (before left : ℕ) (is : Log) (why : Cause) → left ≤ before → RoseBy (before - left) old.counts.waits mid.counts.waits → is ≡ cut_where why (given_up was w.disks)
-      → BreaksOff writes left mid new why → Refuses w before was is old new why
-  refuses_writing before left is why le waited same off = subst (λ (l : Log). Refuses w before was l old new why) (sym same) (by_cause why off)
-    where
-      by_cause : (why : Cause) → BreaksOff writes left mid new why → Refuses w before was (cut_where why (given_up was w.disks)) old new why
-      by_cause (cause.DiskFailed disk) off = inr (record {
-        breaks = breaks (λ b. WasTried b mid new) (λ b. WasTried b old new) (λ part tried. tried_before w old mid new un writes part tried) off.stops;
-        failed = failed_before w old mid new un disk off.first;
-        rested = rested_before w old mid new un found.reads.rested off.rested;
-      })
-      by_cause cause.Dark off = inr (record {
-        begun = given_up was w.disks;
-        breaks = breaks (λ b part. Unit {0}) (λ b part. Unit {0}) (λ part any. any) off.1;
-        cut = dark_before w old mid new un found.reads.rested off.0;
-        entered = refl;
-      })
-      by_cause cause.Stuck off = inr (record {
-        breaks = breaks (λ b part. Unit {0}) (λ b part. Unit {0}) (λ part any. any) off.1;
-        stuck = stuck_before w old mid new un found.reads.rested before left le waited off.0;
-      })
-      by_cause (cause.NoDisk disk) off = absurd off
-      by_cause (cause.TooMany limit) off = absurd off
-      by_cause (cause.TooSmall disk) off = absurd off
-      by_cause cause.GroupExists off = absurd off
-      by_cause cause.NoRecord off = absurd off
-      by_cause cause.Ambiguous off = absurd off
-      by_cause (cause.NoQuorum have total) off = absurd off
-      by_cause (cause.ClockBack seen) off = absurd off
-      by_cause cause.HistoryFull off = absurd off
-      by_cause cause.Memory off = absurd off
+  pub refuses_writing : (before left : ℕ) (why : Cause) → Spends before left old mid → WritingFails writes left mid new why
+      → Refuses w before was (cut_where why (given_up was w.disks)) old new why
+  refuses_writing before left (cause.DiskFailed disk) spends off = inr (record {
+    breaks = breaks (λ b. WasTriedOnTargets b mid new) (λ b. WasTriedOnTargets b old new) (λ part tried. tried_before w old mid new un writes part tried) off.stops;
+    failed = failed_before w old mid new un disk off.first;
+    rested = rested_before w old mid new un found.reads.rested off.rested;
+  })
+  refuses_writing before left cause.Dark spends off = inr (record {
+    begun = given_up was w.disks;
+    breaks = breaks (λ b part. Unit {0}) (λ b part. Unit {0}) (λ part any. any) off.1;
+    cut = dark_before w old mid new un found.reads.rested off.0;
+    entered = refl;
+  })
+  refuses_writing before left cause.Stuck spends off = inr (record {
+    breaks = breaks (λ b part. Unit {0}) (λ b part. Unit {0}) (λ part any. any) off.1;
+    stuck = stuck_before w old mid new un found.reads.rested before left spends off.0;
+  })
+  refuses_writing before left (cause.NoDisk disk) spends off = absurd off
+  refuses_writing before left (cause.TooMany limit) spends off = absurd off
+  refuses_writing before left (cause.TooSmall disk) spends off = absurd off
+  refuses_writing before left cause.GroupExists spends off = absurd off
+  refuses_writing before left cause.NoRecord spends off = absurd off
+  refuses_writing before left cause.Ambiguous spends off = absurd off
+  refuses_writing before left (cause.NoQuorum have total) spends off = absurd off
+  refuses_writing before left (cause.ClockBack seen) spends off = absurd off
+  refuses_writing before left cause.HistoryFull spends off = absurd off
+  refuses_writing before left cause.Memory spends off = absurd off

@@ -31,10 +31,10 @@ use Rattle.lvm_steps.specs.Moments.{StaysKept}
 use Rattle.lvm_stamps.specs.Behind.{StampsBefore, beginning_at, IsBehind}
 use Rattle.lvm_stamps.proofs.Records.{session_may_go}
 use Rattle.lvm_stamps.proofs.Stamps.{before_is_behind}
-use Rattle.lvm_quorum.specs.declared.homes.Homes.{Homes}
-use Rattle.lvm_quorum.specs.Homes.{SparesNewest}
-use Rattle.lvm_quorum.specs.Written.{write_of, KeepsShelf}
-use Rattle.lvm_quorum.proofs.Shows.{descriptor_may_be_written, status_may_be_written}
+use Rattle.lvm_write.specs.declared.homes.Homes.{Homes}
+use Rattle.lvm_write.specs.Homes.{SparesNewest}
+use Rattle.lvm_write.specs.Written.{write_of, KeepsShelf}
+use Rattle.lvm_write.proofs.Shows.{descriptor_may_be_written, status_may_be_written}
 use Rattle.lvm_begin.specs.Beginning.{Beginning, describes, states, new_order, IsOfParts, AllStand, MayBeginNew}
 use Rattle.lvm_begin.specs.Ends.{BothFlip}
 use Rattle.lvm_begin.specs.Kept.{NewStaysKept}

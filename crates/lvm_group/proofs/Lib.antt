@@ -3,7 +3,6 @@ pub mod Groups
 pub mod Rows
 pub mod Seeing
 pub mod Entries
-pub mod Counts
 pub mod Composing
 pub mod Keeping
 pub mod Midst

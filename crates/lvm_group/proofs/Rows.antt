@@ -9,8 +9,9 @@ use Rattle.lvm_num.specs.declared.status.Status.{Status}
 use Rattle.lvm_num.specs.Record.{Stamped}
 use Rattle.lvm_survey.specs.declared.row.SurveyRow.{SurveyRow}
 use Rattle.lvm_survey.specs.declared.row.Survey.{Survey}
-use Rattle.lvm_survey.specs.Surveyed.{surveyed, under}
-use Rattle.lvm_quorum.proofs.SurveyRows.{descriptor_shown, status_shown}
+use Rattle.lvm_survey.specs.Surveyed.{surveyed}
+use Rattle.lvm_area.specs.Reading.{under}
+use Rattle.lvm_survey.proofs.SurveyRows.{descriptor_shown, status_shown}
 use Rattle.lvm_group.specs.Shown.{HasGroup, ShowsEarlier, ShowsMoment}
 use Rattle.lvm_group.specs.Judged.{IsTaken, HasMoment, IsLastOf}
 

@@ -16,15 +16,16 @@ use Rattle.lvm_kept.specs.Contents.{Contents, contents_of, has_records, descript
 use Rattle.lvm_survey.specs.declared.row.SurveyRow.{SurveyRow}
 use Rattle.lvm_survey.specs.declared.row.Survey.{Survey}
 use Rattle.lvm_survey.specs.Surveyed.{surveyed, IsRead as IsRowRead}
-use Rattle.lvm_survey.specs.Surveying.{IsSmall, IsUntouched}
-use Rattle.lvm_quorum.specs.declared.homes.Homes.{Homes}
-use Rattle.lvm_quorum.specs.Homes.{SparesNewest, SpareNewest}
-use Rattle.lvm_quorum.proofs.SurveyRows.{descriptor_shown, status_shown, descriptor_past, status_past}
+use Rattle.lvm_survey.specs.Surveying.{IsSmall, AreSurveyed}
+use Rattle.lvm_area.specs.Reading.{IsUntouched}
+use Rattle.lvm_write.specs.declared.homes.Homes.{Homes}
+use Rattle.lvm_write.specs.Homes.{SparesNewest, SpareNewest}
+use Rattle.lvm_survey.proofs.SurveyRows.{descriptor_shown, status_shown, descriptor_past, status_past}
 use Rattle.lvm_core.specs.declared.refused.Cause.{Cause}
 use Rattle.lvm_core.specs.declared.refused.Cause.TheVariants as cause
 use Rattle.lvm_group.specs.Shown.{IfShown, HasGroup, ShowsMoment, ShowsEarlier, IsLastShown, IsUnread, AllRead, SparesTold, last_moment}
 use Rattle.lvm_group.specs.Judged.{IsFirstFailed, NoneFailed, LetsBegin, RefusesShown}
-use Rattle.lvm_group.specs.Steps.{HasOnlyRead, IsFree, RefusesFound}
+use Rattle.lvm_group.specs.Steps.{HasOnlyRead, LetsMake, RefusesFound}
 use Rattle.lvm_group.specs.declared.look.Free.{Free}
 
 -- what a survey that was made says of the disks
@@ -34,6 +35,15 @@ pub record IsSurvey (old new : Device) (s : Survey) : Type 0 where
   pub answered : (d : ℕ) (row : SurveyRow) → slice_get s.rows d ≡ Some row → row.failed ≡ false → new.counts.misses d ≡ old.counts.misses d
   pub read : (d : ℕ) (row : SurveyRow) → slice_get s.rows d ≡ Some row → row.failed ≡ false → IfSome old.media (λ media. IsRowRead (image_of old.sizes media) d row)
   pub small : (d : ℕ) → IsSmall old d → IsUntouched d old new
+
+pub survey_of : (old new : Device) (s : Survey) → AreSurveyed old new s.rows → ((d : ℕ) → IsSmall old d → IsUntouched d old new) → IsSurvey old new s
+survey_of old new s is small = record {
+  all = is.all;
+  failed = λ d row at. (is.each d row at).failed;
+  answered = λ d row at. (is.each d row at).answered;
+  read = λ d row at. (is.each d row at).read;
+  small = small;
+}
 
 -- ---- what is told
 
@@ -164,7 +174,7 @@ module _ (old new : Device) (s : Survey) (its : IsSurvey old new s) where
       there : (d n : ℕ) (b : Bool) → (nat_lt d n && b) ≡ true → d < n
       there d n b has = is_lt d n (split (nat_lt d n) b has).0
 
-  pub lets_begin : (force : Bool) (moment : ℕ) (free : Free) → HasOnlyRead old new → SpareNewest s free.homes → free.buf.number ≡ 0 → LetsBegin s force moment → IsFree force moment old new free
+  pub lets_begin : (force : Bool) (moment : ℕ) (free : Free) → HasOnlyRead old new → SpareNewest s free.homes → free.buf.number ≡ 0 → LetsBegin s force moment → LetsMake force moment old new free
   lets_begin force moment free reads spare number lets = record {
     reads = reads;
     read = all_read lets.read;

@@ -6,11 +6,11 @@ use Rattle.lvm_disk.specs.Device.{Device, image_of}
 use Rattle.lvm_disk.specs.Steps.{BothTold}
 use Rattle.lvm_vol.specs.Log.{Log, cut_log, spare_entries}
 use Rattle.lvm_kept.specs.Plans.{Plan, ChangesBy}
-use Rattle.lvm_quorum.specs.declared.homes.Homes.{Homes}
-use Rattle.lvm_quorum.specs.Written.{LogsPlan, IsDarkened, IsGivenUp}
-use Rattle.lvm_survey.specs.Surveying.{IsUnwritten, IsRested, IsCutOff, IsStuck}
+use Rattle.lvm_write.specs.declared.homes.Homes.{Homes}
+use Rattle.lvm_write.specs.Written.{LogsPlan, IsDarkened, IsGivenUp}
+use Rattle.lvm_area.specs.Reading.{IsUnwritten, IsRested, IsCutOff, IsReadStuck}
 use Rattle.lvm_begin.specs.Beginning.{Beginning, Part, new_beginning, new_order, IsOfParts, AllStand}
-use Rattle.lvm_begin.specs.Ends.{BothFlip, HasNoFault, IsFirstFailed, WasTried}
+use Rattle.lvm_begin.specs.Ends.{BothFlip, HasNoFault, IsLowestFailed, WasTriedOnTargets}
 use Rattle.lvm_core.specs.declared.parts.Room.{Room}
 use Rattle.lvm_core.specs.declared.refused.Cause.{Cause}
 use Rattle.lvm_core.specs.declared.refused.Cause.TheVariants as cause
@@ -99,7 +99,7 @@ pub record IsCutWriting (w : NewGroup) (was is : Log) (old new : Device) : Type 
 pub record IsStuckReading (w : NewGroup) (patience : ℕ) (was is : Log) (old new : Device) : Type 0 where
   pub may : MayBegin old.sizes (spare_entries was) w.disks w.mib
   pub unwritten : IsUnwritten old new
-  pub stuck : IsStuck 0 patience old new
+  pub stuck : IsReadStuck 0 patience old new
   pub entered : is ≡ was
 
 -- nothing was heard of a write
@@ -122,8 +122,8 @@ pub record LacksMemory (w : NewGroup) (was is : Log) (old new : Device) : Type 0
 
 -- a disk couldn't be written, and none of those named below it
 pub record HasUnwritten (w : NewGroup) (was is : Log) (old new : Device) (disk : ℕ) : Type 0 where
-  pub breaks : Breaks w was is old new (λ b. WasTried b old new)
-  pub failed : IsFirstFailed (among w.disks) old new disk
+  pub breaks : Breaks w was is old new (λ b. WasTriedOnTargets b old new)
+  pub failed : IsLowestFailed (among w.disks) old new disk
   pub rested : IsRested old new
 
 -- Why no group was made: each cause that a clause of its own gives comes exactly where it holds and those before it don't; want of memory, which is free, only where none holds that is judged before any disk is read.

@@ -5,13 +5,30 @@ use Rattle.lvm_num.specs.Status.{IsValidStatus}
 use Rattle.lvm_num.specs.DescriptorBytes.{descriptor_bytes}
 use Rattle.lvm_num.specs.StatusBytes.{status_bytes}
 use Rattle.lvm_num.specs.Disks.{has}
+use Rattle.lvm_quorum.specs.declared.choice.Choice.{Choice}
 use Rattle.lvm_core.specs.declared.parts.Room.{Room}
 use Rattle.lvm_core.specs.declared.refused.Cause.{Cause}
 use Rattle.lvm_core.specs.declared.refused.Cause.TheVariants as cause
-use Rattle.lvm_core.specs.Starting.{IsReservedFor}
+use Rattle.lvm_core.specs.Starting.{IsOneGroup, IsReservedFor}
 use Rattle.lvm_group.specs.declared.make.Asked.{Asked}
 use Rattle.lvm_group.specs.declared.plan.Plan.{Plan}
 use Rattle.lvm_group.specs.NewGroup.{NewGroup, among, size_for, descriptor_for, status_for, MayBegin, RefusesFirst}
+
+-- The descriptor and the status of the new group, which are valid, and the disks named.
+pub record IsChoiceFor (sizes : List ℕ) (name : List ℕ) (mib : ℕ) (disks : List ℕ) (moment : ℕ) (choice : Choice) : Type 0 where
+  pub descriptor : choice.descriptor ≡ descriptor_for sizes name mib disks moment
+  pub status : choice.status ≡ status_for disks moment
+  pub targets : (d : ℕ) → has choice.answering d ≡ among disks d
+  pub valid : IsValid choice.descriptor
+  pub stated : IsValidStatus choice.status
+  pub group : IsOneGroup choice.descriptor choice.status
+
+-- The bytes of the descriptor and of the status that were chosen, the disks that answer, and the parts of the session.
+pub record IsPlanOf (choice : Choice) (room : Room) (plan : Plan) : Type 0 where
+  pub descriptor : plan.descriptor ≡ descriptor_bytes choice.descriptor
+  pub status : plan.status ≡ status_bytes choice.status
+  pub targets : plan.targets ≡ choice.answering
+  pub parts : IsReservedFor choice.descriptor choice.status room plan.parts
 
 -- The bytes of its descriptor and of its status, which are valid, its disks, and the parts of its session.
 pub record IsPlanned (sizes : List ℕ) (name : List ℕ) (mib : ℕ) (disks : List ℕ) (moment : ℕ) (room : Room) (plan : Plan) : Type 0 where
@@ -23,8 +40,8 @@ pub record IsPlanned (sizes : List ℕ) (name : List ℕ) (mib : ℕ) (disks : L
   pub parts : IsReservedFor (descriptor_for sizes name mib disks moment) (status_for disks moment) room plan.parts
 
 -- the group that is asked for
-abbrev pub group_of : Asked → List ℕ → ℕ → NewGroup
-group_of asked disks moment = record { name = asked.name; mib = asked.mib; disks = disks; force = asked.force; moment = moment }
+abbrev pub asked_group : Asked → List ℕ → ℕ → NewGroup
+asked_group asked disks moment = record { name = asked.name; mib = asked.mib; disks = disks; force = asked.force; moment = moment }
 
 -- The plan is one of this group, which may begin with so many entries to spare on disks of these sizes.
 pub record IsPlannedFor (w : NewGroup) (room : Room) (spare : ℕ) (sizes : List ℕ) (plan : Plan) : Type 0 where

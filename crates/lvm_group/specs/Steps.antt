@@ -3,11 +3,11 @@ use Rattle.std.specs.Prelude.{◌≡◌, ℕ, ◌<◌, ◌≤◌, Bool, true, fa
 use Rattle.lvm_num.specs.Descriptor.{IsValid}
 use Rattle.lvm_disk.specs.Device.{Device}
 use Rattle.lvm_vol.specs.Log.{Log, cut_log}
-use Rattle.lvm_quorum.specs.declared.homes.Homes.{Homes}
-use Rattle.lvm_quorum.specs.Written.{IsDarkened, IsGivenUp}
-use Rattle.lvm_survey.specs.Surveying.{IsUnwritten, IsRested, IsCutOff, IsStuck}
+use Rattle.lvm_write.specs.declared.homes.Homes.{Homes}
+use Rattle.lvm_write.specs.Written.{IsDarkened, IsGivenUp}
+use Rattle.lvm_area.specs.Reading.{IsUnwritten, IsRested, IsCutOff, IsReadStuck}
 use Rattle.lvm_begin.specs.Beginning.{Beginning, new_order, IsOfParts, AllStand}
-use Rattle.lvm_begin.specs.Ends.{BothFlip, HasNoFault, StopsAt, IsFirstFailed, WasTried}
+use Rattle.lvm_begin.specs.Ends.{BothFlip, HasNoFault, StopsAt, IsLowestFailed, WasTriedOnTargets}
 use Rattle.lvm_core.specs.declared.refused.Cause.{Cause}
 use Rattle.lvm_core.specs.declared.refused.Cause.TheVariants as cause
 use Rattle.lvm_core.specs.declared.parts.Room.{Room}
@@ -26,7 +26,7 @@ pub record HasOnlyRead (old new : Device) : Type 0 where
   pub rested : IsRested old new
 
 -- What was found lets a group be made at the moment: the slots that come next, and the buffer again, which has number 0.
-pub record IsFree (force : Bool) (moment : ℕ) (old new : Device) (free : Free) : Type 0 where
+pub record LetsMake (force : Bool) (moment : ℕ) (old new : Device) (free : Free) : Type 0 where
   pub reads : HasOnlyRead old new
   pub read : AllRead old new
   pub no_group : IfShown old (λ c. HasGroup c force → ⊥)
@@ -41,7 +41,7 @@ RefusesFound force moment patience old new (cause.DiskFailed disk) = HasOnlyRead
 RefusesFound force moment patience old new cause.GroupExists = HasOnlyRead old new × AllRead old new × IfShown old (λ c. HasGroup c force)
 RefusesFound force moment patience old new (cause.ClockBack seen) = HasOnlyRead old new × AllRead old new × IfShown old (λ c. HasGroup c force → ⊥) × IsClockBack old moment seen
 RefusesFound force moment patience old new cause.Dark = IsUnwritten old new × IsCutOff old new
-RefusesFound force moment patience old new cause.Stuck = IsUnwritten old new × IsStuck 0 patience old new
+RefusesFound force moment patience old new cause.Stuck = IsUnwritten old new × IsReadStuck 0 patience old new
 RefusesFound force moment patience old new cause.Memory = HasOnlyRead old new
 RefusesFound force moment patience old new (cause.NoDisk disk) = ⊥
 RefusesFound force moment patience old new (cause.TooMany limit) = ⊥
@@ -52,7 +52,7 @@ RefusesFound force moment patience old new cause.Ambiguous = ⊥
 RefusesFound force moment patience old new (cause.NoQuorum have total) = ⊥
 
 abbrev pub LookGives : Bool → ℕ → ℕ → Device → Device → Result Free Cause → Type 0
-LookGives force moment patience old new (Ok free) = IsFree force moment old new free
+LookGives force moment patience old new (Ok free) = LetsMake force moment old new free
 LookGives force moment patience old new (Err why) = RefusesFound force moment patience old new why
 
 -- ---- the records are written
@@ -64,53 +64,53 @@ pub record AreWritten (b : Beginning) (old new : Device) : Type 0 where
   pub rested : IsRested old new
 
 -- one of them failed on a disk
-pub record FailsOn (b : Beginning) (old new : Device) (disk : ℕ) : Type 0 where
-  pub first : IsFirstFailed b.targets old new disk
-  pub stops : StopsAt b new_order old new (WasTried b old new)
+pub record WriteFailsOn (b : Beginning) (old new : Device) (disk : ℕ) : Type 0 where
+  pub first : IsLowestFailed b.targets old new disk
+  pub stops : StopsAt b new_order old new (WasTriedOnTargets b old new)
   pub rested : IsRested old new
 
 -- they weren't all written
-abbrev pub BreaksOff : Beginning → ℕ → Device → Device → Cause → Type 0
-BreaksOff b patience old new (cause.DiskFailed disk) = FailsOn b old new disk
-BreaksOff b patience old new cause.Dark = IsDarkened 0 old new × StopsAt b new_order old new (λ hand. Unit {0})
-BreaksOff b patience old new cause.Stuck = IsGivenUp 0 patience old new × StopsAt b new_order old new (λ hand. Unit {0})
-BreaksOff b patience old new (cause.NoDisk disk) = ⊥
-BreaksOff b patience old new (cause.TooMany limit) = ⊥
-BreaksOff b patience old new (cause.TooSmall disk) = ⊥
-BreaksOff b patience old new cause.GroupExists = ⊥
-BreaksOff b patience old new cause.NoRecord = ⊥
-BreaksOff b patience old new cause.Ambiguous = ⊥
-BreaksOff b patience old new (cause.NoQuorum have total) = ⊥
-BreaksOff b patience old new (cause.ClockBack seen) = ⊥
-BreaksOff b patience old new cause.HistoryFull = ⊥
-BreaksOff b patience old new cause.Memory = ⊥
+abbrev pub WritingFails : Beginning → ℕ → Device → Device → Cause → Type 0
+WritingFails b patience old new (cause.DiskFailed disk) = WriteFailsOn b old new disk
+WritingFails b patience old new cause.Dark = IsDarkened 0 old new × StopsAt b new_order old new (λ hand. Unit {0})
+WritingFails b patience old new cause.Stuck = IsGivenUp 0 patience old new × StopsAt b new_order old new (λ hand. Unit {0})
+WritingFails b patience old new (cause.NoDisk disk) = ⊥
+WritingFails b patience old new (cause.TooMany limit) = ⊥
+WritingFails b patience old new (cause.TooSmall disk) = ⊥
+WritingFails b patience old new cause.GroupExists = ⊥
+WritingFails b patience old new cause.NoRecord = ⊥
+WritingFails b patience old new cause.Ambiguous = ⊥
+WritingFails b patience old new (cause.NoQuorum have total) = ⊥
+WritingFails b patience old new (cause.ClockBack seen) = ⊥
+WritingFails b patience old new cause.HistoryFull = ⊥
+WritingFails b patience old new cause.Memory = ⊥
 
 -- how the writes ended, with the slots that then come next
-abbrev pub WriteGives : Beginning → ℕ → Device → Device → Homes → Result (Unit {0}) Cause → Type 0
-WriteGives b patience old new next (Ok done) = AreWritten b old new × BothFlip b.targets b.homes next
-WriteGives b patience old new next (Err why) = BreaksOff b patience old new why
+abbrev pub NewWritesGive : Beginning → ℕ → Device → Device → Result Homes Cause → Type 0
+NewWritesGive b patience old new (Ok next) = AreWritten b old new × BothFlip b.targets b.homes next
+NewWritesGive b patience old new (Err why) = WritingFails b patience old new why
 
 -- ---- after a power cut
 
-abbrev pub is_dark : Cause → Bool
-is_dark cause.Dark = true
-is_dark cause.Stuck = false
-is_dark (cause.DiskFailed disk) = false
-is_dark (cause.NoDisk disk) = false
-is_dark (cause.TooMany limit) = false
-is_dark (cause.TooSmall disk) = false
-is_dark cause.GroupExists = false
-is_dark cause.NoRecord = false
-is_dark cause.Ambiguous = false
-is_dark (cause.NoQuorum have total) = false
-is_dark (cause.ClockBack seen) = false
-is_dark cause.HistoryFull = false
-is_dark cause.Memory = false
+abbrev pub cuts_power : Cause → Bool
+cuts_power cause.Dark = true
+cuts_power cause.Stuck = false
+cuts_power (cause.DiskFailed disk) = false
+cuts_power (cause.NoDisk disk) = false
+cuts_power (cause.TooMany limit) = false
+cuts_power (cause.TooSmall disk) = false
+cuts_power cause.GroupExists = false
+cuts_power cause.NoRecord = false
+cuts_power cause.Ambiguous = false
+cuts_power (cause.NoQuorum have total) = false
+cuts_power (cause.ClockBack seen) = false
+cuts_power cause.HistoryFull = false
+cuts_power cause.Memory = false
 
 -- the history, with a cut where the power is off
 abbrev pub cut_at : {T : Type 0} → Result T Cause → Log → Log
 cut_at (Ok value) log = log
-cut_at (Err why) log = if is_dark why then cut_log log else log
+cut_at (Err why) log = if cuts_power why then cut_log log else log
 
 -- ---- all of it
 

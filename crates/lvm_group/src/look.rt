@@ -1,18 +1,16 @@
 //! The disks are read, and what they show is judged.
-ghost use Rattle.std.specs.Prelude.{◌≡◌, ◌≢◌, ◌-◌, ◌≤◌};
-ghost use Rattle.lvm_disk.specs.Counts.{RoseBy};
+ghost use Rattle.std.specs.Prelude.{◌≢◌};
 ghost use Rattle.lvm_disk.specs.Device.{IsReady};
-ghost use Rattle.lvm_disk.specs.Images.{LeavesNoMore};
-ghost use Rattle.lvm_disk.specs.Paths.{DeviceStep, Path};
-ghost use Rattle.lvm_survey.specs.Surveying.{IsUnwritten};
+ghost use Rattle.lvm_area.specs.Reading.{OnlyReads};
 ghost use Rattle.lvm_group.specs.Steps.{LookGives};
 
 use crate::judge::judge;
 use lvm_core::Cause;
 use lvm_disk::Shelf;
 use lvm_num::Pbuf;
-use lvm_quorum::{Homes, Surveyed, survey_disks};
+use lvm_survey::{Surveyed, survey_disks};
 use lvm_transfer::Patience;
+use lvm_write::Homes;
 use std::alloc::Global;
 
 // The number of the buffer in which records are read and written.
@@ -36,10 +34,7 @@ pub fn look<S: Shelf>(
     requires ready { IsReady (S.device shelf.old) }
     requires moment { moment ≢ 0 }
     ensures gives { LookGives force moment patience.old.left (S.device shelf.old) (S.device shelf.new) result }
-    ensures unwritten { IsUnwritten (S.device shelf.old) (S.device shelf.new) }
-    ensures patience { patience.new.left ≤ patience.old.left }
-    ensures waited { RoseBy (patience.old.left - patience.new.left) (S.device shelf.old).counts.waits (S.device shelf.new).counts.waits }
-    ensures moments { Path DeviceStep (LeavesNoMore (S.device shelf.old)) (S.device shelf.old) (S.device shelf.new) }
+    ensures only { OnlyReads patience.old.left patience.new.left (S.device shelf.old) (S.device shelf.new) }
 {
     let Ok(buf) = Pbuf::fresh(alloc, BUFFER) else {
         return Err(Cause::Memory);

@@ -1,33 +1,30 @@
 //! The steps by which a group is made, up to its being on.
-ghost use Rattle.std.specs.Prelude.{◌≡◌, ◌≢◌, ◌-◌, ◌+◌, ◌≤◌, ℕ, length, IfOk, IfErr, IsTrue, AllPairs};
+ghost use Rattle.std.specs.Prelude.{◌≡◌, ◌≢◌, ◌≤◌, ℕ, length, IfOk, IfErr, IsTrue, AllPairs};
 ghost use Rattle.std.specs.Option.{ForSome};
 ghost use Rattle.lvm_num.specs.Descriptor.{is_size};
-ghost use Rattle.lvm_disk.specs.Counts.{RoseBy};
 ghost use Rattle.lvm_disk.specs.Device.{IsReady};
 ghost use Rattle.lvm_vol.specs.Log.{spare_entries};
-ghost use Rattle.lvm_stamps.specs.Behind.{IsBehind, ClockIsAhead};
-ghost use Rattle.lvm_kept.specs.Moments.{StaysCalm};
-ghost use Rattle.lvm_steps.specs.Moments.{Keeps};
-ghost use Rattle.lvm_steps.specs.Requests.{at};
+ghost use Rattle.lvm_stamps.specs.Behind.{ClockIsAhead};
+ghost use Rattle.lvm_core.specs.Coming.{BringsOn};
 ghost use Rattle.lvm_core.specs.Held.{StartsHeld};
 ghost use Rattle.lvm_core.specs.Sound.{HaveAllLanded};
 ghost use Rattle.lvm_core.specs.Starting.{IsRoom, first_core};
 ghost use Rattle.lvm_group.specs.NewGroup.{given_up};
-ghost use Rattle.lvm_group.specs.Planned.{group_of, IsPlannedFor, RefusesPlan};
+ghost use Rattle.lvm_group.specs.Planned.{asked_group, IsPlannedFor, RefusesPlan};
 ghost use Rattle.lvm_group.specs.Made.{Refuses};
 ghost use Rattle.lvm_group.specs.Steps.{cut_at, standing_of, Stands};
 
 use crate::checks::size_to_begin;
-use crate::look::{Free, look};
+use crate::look::look;
 use crate::plan::Plan;
 use crate::write::write;
 use lvm_core::{Cause, Parts, Room};
 use lvm_disk::Shelf;
 use lvm_history::History;
 use lvm_num::{Memory, Name};
-use lvm_quorum::Homes;
 use lvm_transfer::Patience;
 use lvm_vol::{Entry, Vol};
+use lvm_write::Homes;
 use std::alloc::Global;
 
 /// What is asked of a new group beside its disks and its moment.
@@ -63,18 +60,15 @@ pub fn make<S: Shelf>(
     requires size { ForSome asked.now.mib (λ given. IsTrue (is_size given)) }
     requires moment { moment ≢ 0 }
     requires room { IsRoom asked.now.room }
-    ensures made { IfOk result (Stands (group_of asked.now disks.now moment) asked.now.room history.old history.new (S.device shelf.old) (S.device shelf.new)) }
-    ensures refused { IfErr result (Refuses (group_of asked.now disks.now moment) patience.old.left history.old history.new (S.device shelf.old) (S.device shelf.new)) }
+    ensures made { IfOk result (Stands (asked_group asked.now disks.now moment) asked.now.room history.old history.new (S.device shelf.old) (S.device shelf.new)) }
+    ensures refused { IfErr result (Refuses (asked_group asked.now disks.now moment) patience.old.left history.old history.new (S.device shelf.old) (S.device shelf.new)) }
     ensures held { ClockIsAhead history.old.run moment (S.device shelf.old) history.old.facts → IfOk result (λ standing. StartsHeld (S.device shelf.new) (first_core standing.parts history.new (record { epoch = moment; seq = 2 }) standing.homes)) }
     // whatever the answer
-    ensures keeps { ClockIsAhead history.old.run moment (S.device shelf.old) history.old.facts → Keeps history.old.run (at (S.device shelf.old) history.old.facts) (at (S.device shelf.new) history.new.facts) }
-    ensures calm { StaysCalm (at (S.device shelf.old) history.old.facts) (at (S.device shelf.new) history.new.facts) }
-    ensures behind { ClockIsAhead history.old.run moment (S.device shelf.old) history.old.facts → IsBehind (moment + 1) (S.device shelf.new) }
-    ensures patience { patience.new.left ≤ patience.old.left }
-    ensures waited { RoseBy (patience.old.left - patience.new.left) (S.device shelf.old).counts.waits (S.device shelf.new).counts.waits }
+    ensures leaves { BringsOn history.old.run moment patience.old.left patience.new.left (S.device shelf.old) (S.device shelf.new) history.old history.new }
 {
     let plan = plan_for(alloc, shelf, history.spare_entries(), asked, disks, moment)?;
     let brought = bring(alloc, shelf, history, asked, disks, moment, &plan, patience);
+    enter_cut(history, &brought);
     start_with(plan, brought)
 }
 
@@ -105,8 +99,8 @@ fn plan_for<S: Shelf>(
     requires size { ForSome asked.now.mib (λ given. IsTrue (is_size given)) }
     requires moment { moment ≢ 0 }
     requires room { IsRoom asked.now.room }
-    ensures planned { IfOk result (IsPlannedFor (group_of asked.now disks.now moment) asked.now.room spare (S.device shelf.now).sizes) }
-    ensures refused { IfErr result (RefusesPlan (group_of asked.now disks.now moment) spare (S.device shelf.now).sizes) }
+    ensures planned { IfOk result (IsPlannedFor (asked_group asked.now disks.now moment) asked.now.room spare (S.device shelf.now).sizes) }
+    ensures refused { IfErr result (RefusesPlan (asked_group asked.now disks.now moment) spare (S.device shelf.now).sizes) }
 {
     let size = size_to_begin(shelf, spare, disks, asked.mib)?;
     match Plan::new(alloc, shelf, asked.name, size, disks, moment, asked.room) {
@@ -115,8 +109,7 @@ fn plan_for<S: Shelf>(
     }
 }
 
-// Reads the disks, and writes the records of a planned group to its own where they let one be made. A power cut is
-// entered.
+// Reads the disks, and writes the records of a planned group to its own where they let one be made.
 fn bring<S: Shelf>(
     alloc: Global,
     shelf: &mut S,
@@ -129,25 +122,16 @@ fn bring<S: Shelf>(
 ) -> Result<Homes, Cause>
     requires ready { IsReady (S.device shelf.old) }
     requires moment { moment ≢ 0 }
-    requires planned { IsPlannedFor (group_of asked.now disks.now moment) asked.now.room (spare_entries history.old) (S.device shelf.old).sizes plan.now }
-    ensures made { IfOk result (λ homes. Stands (group_of asked.now disks.now moment) asked.now.room history.old history.new (S.device shelf.old) (S.device shelf.new) (record { parts = plan.now.parts; homes = homes })) }
-    ensures refused { IfErr result (Refuses (group_of asked.now disks.now moment) patience.old.left history.old history.new (S.device shelf.old) (S.device shelf.new)) }
+    requires planned { IsPlannedFor (asked_group asked.now disks.now moment) asked.now.room (spare_entries history.old) (S.device shelf.old).sizes plan.now }
+    ensures made { IfOk result (λ homes. Stands (asked_group asked.now disks.now moment) asked.now.room history.old history.new (S.device shelf.old) (S.device shelf.new) (record { parts = plan.now.parts; homes = homes })) }
+    ensures refused { IfErr result (Refuses (asked_group asked.now disks.now moment) patience.old.left history.old (cut_at result history.new) (S.device shelf.old) (S.device shelf.new)) }
     ensures held { ClockIsAhead history.old.run moment (S.device shelf.old) history.old.facts → IfOk result (λ homes. StartsHeld (S.device shelf.new) (first_core plan.now.parts history.new (record { epoch = moment; seq = 2 }) homes)) }
     // whatever the answer
-    ensures keeps { ClockIsAhead history.old.run moment (S.device shelf.old) history.old.facts → Keeps history.old.run (at (S.device shelf.old) history.old.facts) (at (S.device shelf.new) history.new.facts) }
-    ensures calm { StaysCalm (at (S.device shelf.old) history.old.facts) (at (S.device shelf.new) history.new.facts) }
-    ensures behind { ClockIsAhead history.old.run moment (S.device shelf.old) history.old.facts → IsBehind (moment + 1) (S.device shelf.new) }
-    ensures patience { patience.new.left ≤ patience.old.left }
-    ensures waited { RoseBy (patience.old.left - patience.new.left) (S.device shelf.old).counts.waits (S.device shelf.new).counts.waits }
+    ensures leaves { BringsOn history.old.run moment patience.old.left patience.new.left (S.device shelf.old) (S.device shelf.new) history.old history.new }
 {
-    let found = look(alloc, shelf, asked.force, moment, patience);
-    enter_cut(history, &found);
-    let Free { mut homes, buf } = found?;
+    let free = look(alloc, shelf, asked.force, moment, patience)?;
     give_up(history, disks);
-    let written = write(shelf, plan, moment, &mut homes, buf, patience);
-    enter_cut(history, &written);
-    written?;
-    Ok(homes)
+    write(shelf, plan, moment, free, patience)
 }
 
 // Enters a cut where the power is off.

@@ -1,11 +1,14 @@
 //! What is written of a new group, and the memory of its session.
 ghost use Rattle.std.specs.Prelude.{◌≡◌, ◌≢◌, ◌≤◌, ◌<◌, ℕ, [], false, None, length, map, filter, IfOk, IsTrue, All, AllPairs};
 ghost use Rattle.lvm_num.specs.Name.{is_name};
-ghost use Rattle.lvm_num.specs.Descriptor.{is_size};
+ghost use Rattle.lvm_num.specs.Descriptor.{IsValid, is_size};
+ghost use Rattle.lvm_num.specs.DescriptorBytes.{descriptor_bytes};
 ghost use Rattle.lvm_num.specs.Disks.{has};
-ghost use Rattle.lvm_core.specs.Starting.{IsRoom};
+ghost use Rattle.lvm_num.specs.Status.{IsValidStatus};
+ghost use Rattle.lvm_num.specs.StatusBytes.{status_bytes};
+ghost use Rattle.lvm_core.specs.Starting.{IsRoom, IsOneGroup};
 ghost use Rattle.lvm_group.specs.NewGroup.{among, member_for, clear_row, disks_in_order, descriptor_for, status_for, first_absent, first_too_small};
-ghost use Rattle.lvm_group.specs.Planned.{IsPlanned};
+ghost use Rattle.lvm_group.specs.Planned.{IsChoiceFor, IsPlanOf, IsPlanned};
 
 use crate::checks::partitions_of;
 use lvm_core::{Parts, Room};
@@ -48,27 +51,77 @@ impl Plan {
         requires room { IsRoom room }
         ensures { IfOk result (IsPlanned (S.device shelf.now).sizes name mib disks.now moment room) }
     {
-        // of which there are at most 128
-        let _disks = shelf.disks();
-        let targets = set_of(disks);
-        let descriptor = descriptor_of(alloc, shelf, name, mib, disks, moment)?;
-        let status = status_of(alloc, targets, moment)?;
-        let descriptor_bytes = lvm_spelling::encode(alloc, &descriptor)?;
-        let status_bytes = lvm_vgsa::encode(alloc, &status)?;
-        let choice = Choice {
-            descriptor,
-            status,
-            answering: targets,
-            seen: moment,
-        };
-        let parts = Parts::new(alloc, choice, room)?;
-        Ok(Plan {
-            descriptor: descriptor_bytes,
-            status: status_bytes,
-            targets,
-            parts,
-        })
+        let choice = choice_of(alloc, shelf, name, mib, disks, moment)?;
+        plan_with(alloc, choice, room)
     }
+}
+
+// The group and the status that are made of these disks.
+fn choice_of<S: Shelf>(
+    alloc: Global,
+    shelf: &S,
+    name: Name,
+    mib: u16,
+    disks: &[u16],
+    moment: u64,
+) -> Result<Choice, Memory>
+    requires there { first_absent (S.device shelf.now).sizes disks.now ≡ None }
+    requires some { 1 ≤ length disks.now }
+    requires few { length disks.now ≤ 32 }
+    requires differ { AllPairs (λ a b. a ≢ b) disks.now }
+    requires size { IsTrue (is_size mib) }
+    requires fit { first_too_small (S.device shelf.now).sizes mib disks.now ≡ None }
+    requires moment { moment ≢ 0 }
+    ensures { IfOk result (IsChoiceFor (S.device shelf.now).sizes name mib disks.now moment) }
+{
+    // of which there are at most 128
+    let _disks = shelf.disks();
+    let answering = set_of(disks);
+    let descriptor = descriptor_of(alloc, shelf, name, mib, disks, moment)?;
+    let status = status_of(alloc, answering, moment)?;
+    Ok(Choice {
+        descriptor,
+        status,
+        answering,
+        seen: moment,
+    })
+}
+
+// The bytes of a descriptor and of a status.
+#[derive(Drop)]
+struct Bytes {
+    descriptor: Rows<u8>,
+    status: Rows<u8>,
+}
+
+// The plan with which a session of a group begins.
+fn plan_with(alloc: Global, choice: Choice, room: Room) -> Result<Plan, Memory>
+    requires descriptor { IsValid choice.descriptor }
+    requires status { IsValidStatus choice.status }
+    requires group { IsOneGroup choice.descriptor choice.status }
+    requires room { IsRoom room }
+    ensures { IfOk result (IsPlanOf choice room) }
+{
+    let bytes = encode(alloc, &choice)?;
+    let targets = choice.answering;
+    let parts = Parts::new(alloc, choice, room)?;
+    Ok(Plan {
+        descriptor: bytes.descriptor,
+        status: bytes.status,
+        targets,
+        parts,
+    })
+}
+
+fn encode(alloc: Global, choice: &Choice) -> Result<Bytes, Memory>
+    requires descriptor { IsValid choice.now.descriptor }
+    requires status { IsValidStatus choice.now.status }
+    ensures descriptor { IfOk result (λ bytes. bytes.descriptor ≡ descriptor_bytes choice.now.descriptor) }
+    ensures status { IfOk result (λ bytes. bytes.status ≡ status_bytes choice.now.status) }
+{
+    let descriptor = lvm_spelling::encode(alloc, &choice.descriptor)?;
+    let status = lvm_vgsa::encode(alloc, &choice.status)?;
+    Ok(Bytes { descriptor, status })
 }
 
 fn set_of(disks: &[u16]) -> DiskSet

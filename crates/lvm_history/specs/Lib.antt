@@ -1,4 +1,2 @@
-pub mod Rows
-pub mod Seen
-pub mod Fitting
+pub mod Keeping
 pub mod Opened

@@ -2,7 +2,7 @@
 use Rattle.std.specs.Prelude.{vec_capacity}
 use Rattle.lvm_history.specs.declared.history.History.TheInside.{Inside}
 use Rattle.lvm_vol.specs.Log.{Log}
-use Rattle.lvm_history.specs.Rows.{Kept, log_of, IsSound}
+use Rattle.lvm_history.specs.Keeping.{Kept, log_of, IsSound}
 
 abbrev pub kept_of : Inside → Kept
 kept_of h = record {

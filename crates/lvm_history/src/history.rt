@@ -6,13 +6,12 @@ ghost use Rattle.lvm_num.specs.Buffer.{zero_sector};
 ghost use Rattle.lvm_vol.specs.Legal.{Legal};
 ghost use Rattle.lvm_vol.specs.May.{known, May};
 ghost use Rattle.lvm_vol.specs.Order.{Ordered};
-ghost use Rattle.lvm_history.specs.Rows.{row_of, blocks_first, ask_found, is_open_by, awaited_by, is_answered_by, is_landing, is_taking, entry_kept, IsOneOfAsks};
+ghost use Rattle.lvm_checker.specs.Rows.{is_landing, is_taking};
+ghost use Rattle.lvm_history.specs.Keeping.{row_of, blocks_first, ask_found, is_open_by, awaited_by, is_answered_by, entry_kept, IsOneOfAsks};
 ghost use Rattle.lvm_vol.specs.Facts.{Begun};
 ghost use Rattle.lvm_vol.specs.Log.{empty_log, with_fact, next_id, next_request, asked, request_of, is_open, awaited, is_answered, landed_fact, got_fact, taken_fact, is_plain, plain_fact, spare_entries, open_count, landed_count, spare_bytes, cut_log, is_uncut_after, blocks_begun, blocks_of, entries_of};
 
-use crate::fits::{has_landed, is_legal, is_taken};
-use crate::row::{Ask, Row};
-use crate::values::{Block, is_allowed};
+use lvm_checker::{Ask, Block, Row, has_landed, is_allowed, is_legal, is_taken};
 use lvm_num::Memory;
 use lvm_vol::{Entry, Outcome, Vol};
 use std::alloc::Global;

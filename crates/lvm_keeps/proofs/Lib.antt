@@ -1,6 +1,7 @@
 pub mod Lists
 pub mod Small
 pub mod Still
+pub mod Fitting
 pub mod Nexts
 pub mod Numbers
 pub mod Telling
@@ -9,6 +10,7 @@ pub mod Rows
 pub mod Ending
 pub mod Launching
 pub mod Noted
+pub mod Leaving
 pub mod Pin
 pub mod PinFalls
 pub mod Close

@@ -67,7 +67,7 @@ and_false false = refl
 -- ---- new targets
 
 module _ (t : Target → Bool) (none : (x : Target) → x.state ≡ stage.Waiting → t x ≡ false) where
-  any_fresh : (ts : List Target) → AllByRecursion (λ (x : Target). x.state ≡ stage.Waiting) ts → list_any t ts ≡ false
+  pub any_fresh : (ts : List Target) → AllByRecursion (λ (x : Target). x.state ≡ stage.Waiting) ts → list_any t ts ≡ false
   any_fresh [] all = refl
   any_fresh (x ∷ ts) all = ap (λ b. b || list_any t ts) (none x all.0) ∙ any_fresh ts all.1
 
@@ -429,7 +429,7 @@ module _ (s : State) (sound : IsSound s) (on : s.core.power ≡ power.On) (place
   base : Core
   base = s.core
 
-  one_of : IsOpenOne s.core o
+  pub one_of : IsOpenOne s.core o
   one_of = all_at (IsOpenOne s.core) s.core.requests place o (sound.on on).going.requests there
 
   pub may : IsAdmissible o.request.phase (facts_of s.core o.request) o.request
@@ -448,7 +448,7 @@ module _ (s : State) (sound : IsSound s) (on : s.core.power ≡ power.On) (place
       by true is = refl
       by false is = landed (one_of.over is).phase_is may.waits
 
-  request_of : IsRequest s.core o
+  pub request_of : IsRequest s.core o
   request_of = one_of.waits waits_so
 
   pub unbegun_so : is_begun o.request.targets.items ≡ false
@@ -494,60 +494,70 @@ module _ (s : State) (sound : IsSound s) (on : s.core.power ≡ power.On) (place
     unmarked none = subst IsSound (sym (ap (λ (c : Cached). state s.device (record (after_admission s.core place o targets order) { cache = c })) (only_entries s.core.cache o.request)))
         (keeps s sound on place o there waits_so unbegun_so free_so targets order choice (dirty_so none))
 
-    marks : (status : Stored) → makes_dirty s.core o.request.ask targets ≡ true → WantsDirty (lv_of o.request.ask) s.core.status status → IsSound (state s.device (record (after_admission s.core place o targets order) { status = status }))
-    marks status makes wants =
-        subst IsSound (sym (ap (λ (u : Stored). state s.device (record (after_admission s.core place o targets order) { status = u })) mark.is ∙ ap (λ (c : Cached). state s.device (record (after_admission s.core place o targets order) { status = marked_status; cache = c })) (only_entries s.core.cache o.request)))
-        (keeps between sound_between on place o there waits_so unbegun_so free_so targets order choice_between (λ two. wanted_so))
-      where
-        row : LvRow
-        row = one_of.laid.within.row
+    module _ (status : Stored) (makes : makes_dirty s.core o.request.ask targets ≡ true) (wants : WantsDirty (lv_of o.request.ask) s.core.status status) where
+      abbrev pub row : LvRow
+      row = one_of.laid.within.row
 
-        parts : (is_passive (mode_of s.core o.request.ask) ≡ true) × (calls_dirty s.core.status.wanted (lv_of o.request.ask) ≡ false)
-        parts = by (is_passive (mode_of s.core o.request.ask)) (is_write o.request.ask) (nat_le 2 (length targets)) (calls_dirty s.core.status.wanted (lv_of o.request.ask)) makes
-          where
-            by : (a b c d : Bool) → a && b && c && not d ≡ true → (a ≡ true) × (d ≡ false)
-            by true true true false e = (refl, refl)
-            by true true true true e = not_so e
-            by true true false d e = not_so e
-            by true false c d e = not_so e
-            by false b c d e = not_so e
+      parts : (is_passive (mode_of s.core o.request.ask) ≡ true) × (calls_dirty s.core.status.wanted (lv_of o.request.ask) ≡ false) × (is_write o.request.ask ≡ true)
+      parts = by (is_passive (mode_of s.core o.request.ask)) (is_write o.request.ask) (nat_le 2 (length targets)) (calls_dirty s.core.status.wanted (lv_of o.request.ask)) makes
+        where
+          by : (a b c d : Bool) → a && b && c && not d ≡ true → (a ≡ true) × (d ≡ false) × (b ≡ true)
+          by true true true false e = (refl, refl, refl)
+          by true true true true e = not_so e
+          by true true false d e = not_so e
+          by true false c d e = not_so e
+          by false b c d e = not_so e
 
-        passive : is_passive row.mode ≡ true
-        passive = sym (ap (λ m. is_passive (option_map_or (λ (r : LvRow). r.mode) m mode.Off)) one_of.laid.within.volume) ∙ parts.0
+      pub passive : is_passive row.mode ≡ true
+      passive = sym (ap (λ m. is_passive (option_map_or (λ (r : LvRow). r.mode) m mode.Off)) one_of.laid.within.volume) ∙ parts.0
 
-        mark : IsMarked s.core (lv_of o.request.ask) status
-        mark = marked s.core (lv_of o.request.ask) status (sound.on on).going wants
+      pub clean : calls_dirty s.core.status.wanted (lv_of o.request.ask) ≡ false
+      clean = parts.1
 
-        marked_status : Stored
-        marked_status = record s.core.status { wanted = status.wanted; writes = status.writes }
+      pub writes : is_write o.request.ask ≡ true
+      writes = parts.2
 
-        status_sound : IsSoundStatus (seen marked_status)
-        status_sound = subst (λ (u : Stored). IsSoundStatus (seen u)) mark.is mark.sound
+      pub passive_so : is_passive (mode_of s.core o.request.ask) ≡ true
+      passive_so = parts.0
 
-        between : State
-        between = marked_now s sound on (lv_of o.request.ask) status.wanted status.writes mark.like mark.started status_sound row one_of.laid.within.volume passive parts.1
+      pub mark : IsMarked s.core (lv_of o.request.ask) status
+      mark = marked s.core (lv_of o.request.ask) status (sound.on on).going wants
 
-        sound_between : IsSound between
-        sound_between = marked_keeps s sound on (lv_of o.request.ask) status.wanted status.writes mark.like mark.started status_sound row one_of.laid.within.volume passive parts.1
+      abbrev pub marked_status : Stored
+      marked_status = record s.core.status { wanted = status.wanted; writes = status.writes }
 
-        choice_between : IsChosen between o targets
-        choice_between = let c = choice in record {
-          aims = all_on (IsTarget s.core o.request.ask) (IsTarget between.core o.request.ask) (λ t i. record { copy = i.copy; sector = i.sector; there = i.there }) targets c.aims;
-          fresh = c.fresh;
-          differ = c.differ;
-          few = c.few;
-          usable = c.usable;
-          faults = c.faults;
-          caused = all_on (IsCaused s.device s.core) (IsCaused s.device between.core) (marked_caused s sound on (lv_of o.request.ask) status.wanted status.writes mark.like mark.started status_sound row one_of.laid.within.volume passive parts.1) targets c.caused;
-        }
+      pub status_sound : IsSoundStatus (seen marked_status)
+      status_sound = subst (λ (u : Stored). IsSoundStatus (seen u)) mark.is mark.sound
 
-        wanted_so : is_wanted_dirty between.core (mode_for between.core o.request.ask) o.request.ask ≡ true
-        wanted_so = by (mode_for between.core o.request.ask)
-          where
-            by : (m : Mode) → is_wanted_dirty between.core m o.request.ask ≡ true
-            by mode.Active = refl
-            by mode.Off = refl
-            by mode.Passive = mark.like.dirty (lv_of o.request.ask) ∙ ap (λ (b : Bool). if b then true else calls_dirty s.core.status.wanted (lv_of o.request.ask)) (eq-eqb (lv_of o.request.ask) (lv_of o.request.ask) refl)
+      abbrev between : State
+      between = marked_now s sound on (lv_of o.request.ask) status.wanted status.writes mark.like mark.started status_sound row one_of.laid.within.volume passive clean
+
+      sound_between : IsSound between
+      sound_between = marked_keeps s sound on (lv_of o.request.ask) status.wanted status.writes mark.like mark.started status_sound row one_of.laid.within.volume passive clean
+
+      choice_between : IsChosen between o targets
+      choice_between = let c = choice in record {
+        aims = all_on (IsTarget s.core o.request.ask) (IsTarget between.core o.request.ask) (λ t i. record { copy = i.copy; sector = i.sector; there = i.there }) targets c.aims;
+        fresh = c.fresh;
+        differ = c.differ;
+        few = c.few;
+        usable = c.usable;
+        faults = c.faults;
+        caused = all_on (IsCaused s.device s.core) (IsCaused s.device between.core) (marked_caused s sound on (lv_of o.request.ask) status.wanted status.writes mark.like mark.started status_sound row one_of.laid.within.volume passive clean) targets c.caused;
+      }
+
+      wanted_so : is_wanted_dirty between.core (mode_for between.core o.request.ask) o.request.ask ≡ true
+      wanted_so = by (mode_for between.core o.request.ask)
+        where
+          by : (m : Mode) → is_wanted_dirty between.core m o.request.ask ≡ true
+          by mode.Active = refl
+          by mode.Off = refl
+          by mode.Passive = mark.like.dirty (lv_of o.request.ask) ∙ ap (λ (b : Bool). if b then true else calls_dirty s.core.status.wanted (lv_of o.request.ask)) (eq-eqb (lv_of o.request.ask) (lv_of o.request.ask) refl)
+
+      marks : IsSound (state s.device (record (after_admission s.core place o targets order) { status = status }))
+      marks =
+          subst IsSound (sym (ap (λ (u : Stored). state s.device (record (after_admission s.core place o targets order) { status = u })) mark.is ∙ ap (λ (c : Cached). state s.device (record (after_admission s.core place o targets order) { status = marked_status; cache = c })) (only_entries s.core.cache o.request)))
+          (keeps between sound_between on place o there waits_so unbegun_so free_so targets order choice_between (λ two. wanted_so))
 
 pub admission_keeps : AdmissionKeeps
 admission_keeps place old new sound on event =

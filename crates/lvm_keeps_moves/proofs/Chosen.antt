@@ -285,7 +285,7 @@ module _ (s : State) (sound : IsSound s) (on : s.core.power ≡ power.On) (place
       by None none e = not_so e
       by (Some c) none e = of_copy c none e
 
-  there_now : (p : Pp) → is_usable core p || is_caught core (group_in core ask) p ≡ true → is_missing core p.disk ≡ false
+  pub there_now : (p : Pp) → is_usable core p || is_caught core (group_in core ask) p ≡ true → is_missing core p.disk ≡ false
   there_now p is = by (is_usable core p) refl is
     where
       by : (b : Bool) → is_usable core p ≡ b → b || is_caught core (group_in core ask) p ≡ true → is_missing core p.disk ≡ false

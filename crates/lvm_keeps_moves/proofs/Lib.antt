@@ -6,3 +6,4 @@ pub mod OnePlace
 pub mod Chosen
 pub mod Marking
 pub mod Admission
+pub mod AdmissionFalls

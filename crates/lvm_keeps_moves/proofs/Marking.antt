@@ -95,13 +95,13 @@ module _ (s : State) (sound : IsSound s) (on : s.core.power ≡ power.On) (lv : 
 
   -- ---- what is judged stays
 
-  wanted_same : (p : Pp) → is_wanted_stale now.core p ≡ is_wanted_stale core p
+  pub wanted_same : (p : Pp) → is_wanted_stale now.core p ≡ is_wanted_stale core p
   wanted_same p = like.stale p
 
-  missing_same : (d : ℕ) → is_missing now.core d ≡ is_missing core d
+  pub missing_same : (d : ℕ) → is_missing now.core d ≡ is_missing core d
   missing_same d = like.missing d
 
-  usable_same : (p : Pp) → is_usable now.core p ≡ is_usable core p
+  pub usable_same : (p : Pp) → is_usable now.core p ≡ is_usable core p
   usable_same p = ap (λ b. not (is_stale core p) && not b) (missing_same p.disk)
 
   sure_same : (p : Pp) → is_sure now.core p ≡ is_sure core p
@@ -123,7 +123,7 @@ module _ (s : State) (sound : IsSound s) (on : s.core.power ≡ power.On) (lv : 
 
   -- ---- the requests
 
-  dirty_on : (number : ℕ) → calls_dirty core.status.wanted number ≡ true → calls_dirty wanted number ≡ true
+  pub dirty_on : (number : ℕ) → calls_dirty core.status.wanted number ≡ true → calls_dirty wanted number ≡ true
   dirty_on number e = like.dirty number ∙ by (number == lv)
     where
       by : (b : Bool) → (if b then true else calls_dirty core.status.wanted number) ≡ true
@@ -274,7 +274,7 @@ module _ (s : State) (sound : IsSound s) (on : s.core.power ≡ power.On) (lv : 
               let a = count_cons u r rows in let b = count_cons t r rows in let all = all_less rows in omega (arith, was, is_now, a, b, all)
           of false same rest e = let a = count_cons u r rows in let b = count_cons t r rows in let one_less = less r in let more = rest e in omega (arith, a, b, one_less, more)
 
-  there_same : (d : ℕ) → is_there now.core d ≡ is_there core d
+  pub there_same : (d : ℕ) → is_there now.core d ≡ is_there core d
   there_same d = ap (λ b. is_member core.descriptor d && not b) (missing_same d)
 
   at_most_one : (b : Bool) → if_so b 1 ≤ 1
@@ -459,6 +459,7 @@ pub record IsMarked (core : Core) (lv : ℕ) (next : Stored) : Type 0 where
   pub like : IsAlike lv core.status.wanted next.wanted
   pub is : next ≡ record core.status { wanted = next.wanted; writes = next.writes }
   pub started : (d : ℕ) → has next.writes.started d ≡ has core.status.writes.started d
+  pub unstarted : (d : ℕ) → has next.writes.unstarted d ≡ has core.status.writes.unstarted d
   pub sound : IsSoundStatus (seen next)
 
 pub marked : (core : Core) (lv : ℕ) (next : Stored) → IsGoing core → WantsDirty lv core.status next → IsMarked core lv next
@@ -469,6 +470,7 @@ marked core lv next going wants = record {
       ∙ ap (λ (m : Option Status). record next { group = core.status.group; committed = core.status.committed; in_flight = m }) (ap (λ (u : Updates). u.in_flight) all)
       ∙ ap (λ (x : Stamp). record next { group = core.status.group; committed = core.status.committed; in_flight = core.status.in_flight; stamp = x }) (ap (λ (u : Updates). u.stamp) all);
   started = λ d. ap (λ (u : Updates). u.started d) all;
+  unstarted = λ d. ap (λ (u : Updates). u.unstarted d) all;
   sound = steps_stay_sound (Want (change.Dirty lv)) (seen core.status) (seen next) going.status (b, wants.rest);
 }
   where

@@ -3,4 +3,4 @@
 
 mod laws;
 
-pub use laws::{admission_keeps, landing_keeps};
+pub use laws::{admission_falls, admission_keeps, landing_keeps};

@@ -50,7 +50,7 @@ use Rattle.lvm_keeps_starts.proofs.Aims.{all_true_set, any_here, at_state, count
 use Rattle.lvm_keeps_starts.proofs.Dues.{StartsAt, starts_at}
 use Rattle.lvm_keeps_starts.proofs.Frame.{after, copy_on, counted_on, fitting_on, landed_on, launched, none_more, origin_on}
 
-unstarted : (state : TargetState) → is_unstarted state ≡ true → state ≡ stage.Waiting
+pub unstarted : (state : TargetState) → is_unstarted state ≡ true → state ≡ stage.Waiting
 unstarted stage.Waiting e = refl
 unstarted stage.Flying e = not_so e
 unstarted stage.Done e = not_so e

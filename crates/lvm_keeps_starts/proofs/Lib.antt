@@ -4,3 +4,6 @@ pub mod Dues
 pub mod CopyWrite
 pub mod DataStart
 pub mod StatusStart
+pub mod CopyWriteFalls
+pub mod DataStartFalls
+pub mod StatusStartFalls

@@ -14,10 +14,11 @@ use Rattle.lvm_num.specs.declared.record.Kind.TheVariants as kind
 use Rattle.lvm_num.specs.declared.record.Stamp.{Stamp}
 use Rattle.lvm_num.specs.declared.status.Status.{Status}
 use Rattle.lvm_num.specs.declared.status.StatusRow.{StatusRow}
+use Rattle.lvm_num.specs.Descriptor.{is_member}
 use Rattle.lvm_num.specs.Disks.{has}
 use Rattle.lvm_num.specs.Note.{note_bytes}
 use Rattle.lvm_num.specs.Record.{frame, slot_start}
-use Rattle.lvm_quorum.specs.Homes.{next_slot}
+use Rattle.lvm_write.specs.Homes.{next_slot}
 use Rattle.lvm_num.specs.Status.{calls_dirty, calls_stale}
 use Rattle.lvm_num.specs.StatusBytes.{status_bytes}
 use Rattle.lvm_stale.specs.Table.{is_pp}
@@ -34,7 +35,7 @@ use Rattle.lvm_path.specs.declared.ask.Ask.{Ask}
 use Rattle.lvm_path.specs.Asks.{lv_of}
 use Rattle.lvm_path.specs.Targets.{is_failed}
 use Rattle.lvm_status.specs.declared.writes.Writes.{Writes}
-use Rattle.lvm_status.specs.Update.{IsLowest, MayStart, Stored, Updates, seen}
+use Rattle.lvm_status.specs.Update.{IsLowest, MayStart, Stored, Updates, members_there, seen}
 use Rattle.lvm_status.specs.Calls.{with_update, with_start as with_write_start}
 use Rattle.lvm_status.specs.Runs.{NextWrite, Start, IsSound as IsSoundStatus}
 use Rattle.lvm_status.proofs.Sound.{steps_stay_sound}
@@ -506,9 +507,20 @@ pub record IsUnderWay (core : Core) (next : Stored) (disk : ℕ) (status : Statu
   pub was : Flies core status next.stamp
   pub started : (d : ℕ) → has next.writes.started d ≡ (has core.status.writes.started d || d == disk)
   pub none : has core.status.writes.started disk ≡ false
+  -- one write less is to be started, to a member
+  pub member : is_member core.status.group disk ≡ true
+  pub gone : has next.writes.unstarted disk ≡ false
+  pub fewer : (core.status.in_flight ≡ None) ⊎ ((has core.status.writes.unstarted disk ≡ true) × ((d : ℕ) → has next.writes.unstarted d ≡ true → has core.status.writes.unstarted d ≡ true))
   pub sound : IsSoundStatus (seen next)
 
-under_way : (core : Core) (next : Stored) (disk : ℕ) (status : Status) (begun : Stored) → IsGoing core → is_status_due core ≡ true → Begins core.status begun → IsLowest (seen begun).unstarted (Some disk)
+not_self : (a : Bool) (disk : ℕ) → a && not (disk == disk) ≡ false
+not_self a disk = ap (λ b. a && not b) (eq-eqb disk disk refl) ∙ and_false a
+  where
+    and_false : (b : Bool) → b && false ≡ false
+    and_false true = refl
+    and_false false = refl
+
+pub under_way : (core : Core) (next : Stored) (disk : ℕ) (status : Status) (begun : Stored) → IsGoing core → is_status_due core ≡ true → Begins core.status begun → IsLowest (seen begun).unstarted (Some disk)
     → seen next ≡ with_write_start (seen begun) (Some disk) → next.in_flight ≡ Some status → IsUnderWay core next disk status
 under_way base next disk status begun sure due (inl flew) lowest started its_flight = record {
   group = ap (λ (u : Updates). u.group) all;
@@ -516,10 +528,16 @@ under_way base next disk status begun sure due (inl flew) lowest started its_fli
   wanted = ap (λ (u : Updates). u.wanted) all;
   was = inl (sym (ap (λ (u : Updates). u.in_flight) all) ∙ its_flight, ap (λ (u : Updates). u.stamp) all);
   started = λ d. ap (λ (u : Updates). u.started d) all;
+  member = (both (is_member base.status.group disk) _ (sure.status.unstarted disk was_left).0).0;
+  gone = ap (λ (u : Updates). u.unstarted disk) all ∙ not_self (has base.status.writes.unstarted disk) disk;
+  fewer = inr (was_left, λ d is. (both (has base.status.writes.unstarted d) (not (d == disk)) (sym (ap (λ (u : Updates). u.unstarted d) all) ∙ is)).0);
   none = (sure.status.unstarted disk (subst (λ (x : Stored). has x.writes.unstarted disk ≡ true) flew.1 lowest.0)).1;
   sound = steps_stay_sound (NextWrite disk) (seen base.status) (seen next) sure.status (subst (λ (x : Stored). IsLowest (seen x).unstarted (Some disk)) flew.1 lowest, all);
 }
   where
+    was_left : has base.status.writes.unstarted disk ≡ true
+    was_left = subst (λ (x : Stored). has x.writes.unstarted disk ≡ true) flew.1 lowest.0
+
     all : seen next ≡ with_write_start (seen base.status) (Some disk)
     all = started ∙ ap (λ (x : Stored). with_write_start (seen x) (Some disk)) flew.1
 under_way base next disk status begun sure due (inr new) lowest started its_flight = record {
@@ -529,6 +547,9 @@ under_way base next disk status begun sure due (inr new) lowest started its_flig
   was = inr (new.0.none, (let e : Some base.status.wanted ≡ Some status = sym (ap (λ (u : Updates). u.in_flight) all) ∙ its_flight in cc e), ap (λ (u : Updates). u.stamp) all, differs);
   started = λ d. ap (λ (u : Updates). u.started d) all ∙ ap (λ b. b || d == disk) (sym (sure.status.idle new.0.none d).1);
   none = (sure.status.idle new.0.none disk).1;
+  member = (both (is_member base.status.group disk) _ (sym (ap (λ (u : Updates). u.unstarted disk) new.1) ∙ lowest.0)).0;
+  gone = ap (λ (u : Updates). u.unstarted disk) all ∙ not_self (members_there base.status.group base.status.wanted disk) disk;
+  fewer = inl new.0.none;
   sound = steps_stay_sound (NextWrite disk) (seen begun) (seen next) (steps_stay_sound Start (seen base.status) (seen begun) sure.status (new.0, new.1)) (lowest, started);
 }
   where
@@ -542,7 +563,7 @@ under_way base next disk status begun sure due (inr new) lowest started its_flig
         by false e = refl
         by true e = not_so e
 
-next_is : (core : Core) (next : Stored) (status : Status) → next.group ≡ core.status.group → next.committed ≡ core.status.committed → next.wanted ≡ core.status.wanted → next.in_flight ≡ Some status
+pub next_is : (core : Core) (next : Stored) (status : Status) → next.group ≡ core.status.group → next.committed ≡ core.status.committed → next.wanted ≡ core.status.wanted → next.in_flight ≡ Some status
     → next ≡ record core.status { in_flight = Some status; writes = next.writes; stamp = next.stamp }
 next_is core next status group committed wanted flies =
     ap (λ (g : Descriptor). record next { group = g }) group

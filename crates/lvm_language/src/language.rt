@@ -1,8 +1,9 @@
 //! The command line as `clap` is told it.
-ghost use Rattle.std.specs.Prelude.{◌≡◌, IfOk, Err, true, false, [], map};
-ghost use Rattle.clap.specs.Words.{app_of, rule_of, with_rule, fault_of, subcommand_of, subcommand_rows_of};
+ghost use Rattle.std.specs.Prelude.{◌≡◌, IfOk, Err, true, false, [], codes, map};
+ghost use Rattle.clap.specs.Simple.{on_top};
+ghost use Rattle.clap.specs.Words.{App, app_of, rule_of, new_app, with_rule, with_subcommand, fault_of, subcommand_of, subcommand_rows_of};
 ghost use Rattle.clap.specs.declared.builder.Command.TheViews.{out-Command};
-ghost use Rattle.lvm_language.specs.CommandLine.{number_rule, sim_app, image_app, lvm_app};
+ghost use Rattle.lvm_language.specs.CommandLine.{number_rule, script_app, sim_app, image_app, lvm_settings, lvm_app};
 
 use crate::fault::WordsFault;
 use clap::builder::ValueParser;
@@ -53,21 +54,42 @@ fn image<'a>(alloc: Global) -> Result<Command<'a>, AllocError>
     with_number(job, alloc, "MIB", 1, 4_096)
 }
 
-// The program, which is asked for one of its jobs.
-fn command_line<'a>(alloc: Global) -> Result<Command<'a>, AllocError>
-    ensures { IfOk result (λ line. app_of line ≡ lvm_app) }
+// The program without its jobs: the words begin with the name of one, and nothing is answered by help.
+fn without_jobs<'a>(alloc: Global) -> Command<'a>
+    ensures { app_of result ≡ on_top lvm_settings (new_app (codes "lvm")) }
 {
-    let script = Command::new(alloc, "script");
-    let sim = sim(alloc)?;
-    let image = image(alloc)?;
     Command::new(alloc, "lvm")
         .no_binary_name(true)
         .disable_help_flag(true)
         .disable_help_subcommand(true)
         .subcommand_required(true)
-        .subcommand(script)?
-        .subcommand(sim)?
-        .subcommand(image)
+}
+
+// The program, with the job of a script besides.
+fn with_script<'a>(program: Command<'a>, alloc: Global) -> Result<Command<'a>, AllocError>
+    ensures { IfOk result (λ more. app_of more ≡ with_subcommand (app_of program.entry) script_app.top) }
+{
+    program.subcommand(Command::new(alloc, "script"))
+}
+
+// The program, with one job more besides, if there was memory for it.
+fn with_job<'a>(
+    program: Command<'a>,
+    job: Result<Command<'a>, AllocError>,
+) -> Result<Command<'a>, AllocError>
+    requires local { IfOk job (λ job. (out-Command job).has_globals ≡ false) }
+    ensures { (app : App) → IfOk job.entry (λ job. app_of job ≡ app) → IfOk result (λ more. app_of more ≡ with_subcommand (app_of program.entry) app.top) }
+{
+    program.subcommand(job?)
+}
+
+// The program, which is asked for one of its jobs.
+fn command_line<'a>(alloc: Global) -> Result<Command<'a>, AllocError>
+    ensures { IfOk result (λ line. app_of line ≡ lvm_app) }
+{
+    let program = with_script(without_jobs(alloc), alloc)?;
+    let program = with_job(program, sim(alloc))?;
+    with_job(program, image(alloc))
 }
 
 /// What `clap` finds in the words. Usage comes exactly where there is a fault in them, by the language that

@@ -11,10 +11,10 @@ ghost use Rattle.lvm_events.specs.Ends.{FlipsIf};
 ghost use Rattle.lvm_learn.specs.Learning.{MayReturn, NoteEnds, StatusEnds};
 
 use lvm_num::{Kind, Pbuf};
-use lvm_quorum::Homes;
 use lvm_reap::return_flight;
 use lvm_session::Session;
 use lvm_status::Change;
+use lvm_write::Homes;
 
 /// The write of the note in flight on a disk, at a place of the list, has ended well or badly: its buffer is in
 /// the pool again, and the disk's notes learn it. A disk whose note failed becomes wanted missing.

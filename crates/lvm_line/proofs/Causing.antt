@@ -36,34 +36,12 @@ use Rattle.lvm_line.proofs.Knowing.{Known, by_reply}
 -- ---- groups
 
 counts_lit : (why : Cause) (left new : Device) → IsLit why left new → new.counts ≡ left.counts
-counts_lit cause.HistoryFull left new lit = ap (λ (d : Device). d.counts) lit
-counts_lit cause.NoRecord left new lit = ap (λ (d : Device). d.counts) lit
-counts_lit cause.Ambiguous left new lit = ap (λ (d : Device). d.counts) lit
-counts_lit (cause.NoQuorum have total) left new lit = ap (λ (d : Device). d.counts) lit
-counts_lit (cause.ClockBack seen) left new lit = ap (λ (d : Device). d.counts) lit
-counts_lit (cause.DiskFailed disk) left new lit = ap (λ (d : Device). d.counts) lit
 counts_lit cause.Dark left new lit = ap (λ (d : Device). d.counts) lit
-counts_lit cause.Stuck left new lit = ap (λ (d : Device). d.counts) lit
-counts_lit cause.Memory left new lit = ap (λ (d : Device). d.counts) lit
-counts_lit (cause.NoDisk disk) left new lit = ap (λ (d : Device). d.counts) lit
-counts_lit (cause.TooMany limit) left new lit = ap (λ (d : Device). d.counts) lit
-counts_lit (cause.TooSmall disk) left new lit = ap (λ (d : Device). d.counts) lit
-counts_lit cause.GroupExists left new lit = ap (λ (d : Device). d.counts) lit
+counts_lit other left new lit = ap (λ (d : Device). d.counts) lit
 
 wrote_lit : (why : Cause) (left new : Device) → IsLit why left new → new.wrote ≡ left.wrote
-wrote_lit cause.HistoryFull left new lit = ap (λ (d : Device). d.wrote) lit
-wrote_lit cause.NoRecord left new lit = ap (λ (d : Device). d.wrote) lit
-wrote_lit cause.Ambiguous left new lit = ap (λ (d : Device). d.wrote) lit
-wrote_lit (cause.NoQuorum have total) left new lit = ap (λ (d : Device). d.wrote) lit
-wrote_lit (cause.ClockBack seen) left new lit = ap (λ (d : Device). d.wrote) lit
-wrote_lit (cause.DiskFailed disk) left new lit = ap (λ (d : Device). d.wrote) lit
 wrote_lit cause.Dark left new lit = ap (λ (d : Device). d.wrote) lit
-wrote_lit cause.Stuck left new lit = ap (λ (d : Device). d.wrote) lit
-wrote_lit cause.Memory left new lit = ap (λ (d : Device). d.wrote) lit
-wrote_lit (cause.NoDisk disk) left new lit = ap (λ (d : Device). d.wrote) lit
-wrote_lit (cause.TooMany limit) left new lit = ap (λ (d : Device). d.wrote) lit
-wrote_lit (cause.TooSmall disk) left new lit = ap (λ (d : Device). d.wrote) lit
-wrote_lit cause.GroupExists left new lit = ap (λ (d : Device). d.wrote) lit
+wrote_lit other left new lit = ap (λ (d : Device). d.wrote) lit
 
 -- where no group came on, by what is left before the power is put on again
 pub record Stopped (read : Result (Option Command) Misfit) (why : Cause) (moment : ℕ) (old left : Device) : Type 0 where
@@ -74,19 +52,12 @@ pub record Stopped (read : Result (Option Command) Misfit) (why : Cause) (moment
   pub unwritten : (have total : ℕ) → why ≡ cause.NoQuorum have total → left.wrote ≡ old.wrote
 
 known_by : (read : Result (Option Command) Misfit) (why : Cause) (old new : State) (left : Device) → Stopped read why new.last old.moment.device left → new.moment.device.counts ≡ left.counts → new.moment.device.wrote ≡ left.wrote → new.session ≡ None → Known read (refusal_of why) old new
-known_by read cause.HistoryFull old new left stopped counts wrote off = record { cause = tt; off = λ is. off; unwritten = λ have total is. absurd (cc (is)) }
-known_by read cause.NoRecord old new left stopped counts wrote off = record { cause = tt; off = λ is. off; unwritten = λ have total is. absurd (cc (is)) }
-known_by read cause.Ambiguous old new left stopped counts wrote off = record { cause = tt; off = λ is. off; unwritten = λ have total is. absurd (cc (is)) }
 known_by read (cause.NoQuorum have total) old new left stopped counts wrote off = record { cause = tt; off = λ is. off; unwritten = λ have1 total1 is. wrote ∙ stopped.unwritten have total refl }
 known_by read (cause.ClockBack seen) old new left stopped counts wrote off = record { cause = stopped.back seen refl; off = λ is. off; unwritten = λ have total is. absurd (cc (is)) }
 known_by read (cause.DiskFailed disk) old new left stopped counts wrote off = record { cause = subst (λ (n : Counts). HasFailed read disk old.moment.device.counts n) (sym counts) (stopped.failed disk refl); off = λ is. off; unwritten = λ have total is. absurd (cc (is)) }
 known_by read cause.Dark old new left stopped counts wrote off = record { cause = subst (λ (n : Counts). Rose old.moment.device.counts.cuts n.cuts) (sym counts) (stopped.dark refl); off = λ is. off; unwritten = λ have total is. absurd (cc (is)) }
 known_by read cause.Stuck old new left stopped counts wrote off = record { cause = subst (λ (n : Counts). RoseBy patience_of_line old.moment.device.counts.waits n.waits) (sym counts) (stopped.stuck refl); off = λ is. off; unwritten = λ have total is. absurd (cc (is)) }
-known_by read cause.Memory old new left stopped counts wrote off = record { cause = tt; off = λ is. off; unwritten = λ have total is. absurd (cc (is)) }
-known_by read (cause.NoDisk disk) old new left stopped counts wrote off = record { cause = tt; off = λ is. off; unwritten = λ have total is. absurd (cc (is)) }
-known_by read (cause.TooMany limit) old new left stopped counts wrote off = record { cause = tt; off = λ is. off; unwritten = λ have total is. absurd (cc (is)) }
-known_by read (cause.TooSmall disk) old new left stopped counts wrote off = record { cause = tt; off = λ is. off; unwritten = λ have total is. absurd (cc (is)) }
-known_by read cause.GroupExists old new left stopped counts wrote off = record { cause = tt; off = λ is. off; unwritten = λ have total is. absurd (cc (is)) }
+known_by read other old new left stopped counts wrote off = record { cause = tt; off = λ is. off; unwritten = λ have total is. absurd (cc (is)) }
 
 module _ (old left : Device) (name : List ℕ) (moment : ℕ) (log : Log) where
   varyon_stopped : (why : Cause) → VaryonRefuses old left name moment patience_of_line log why → Stopped (Ok (Some (command.Varyon name))) why moment old left
@@ -169,12 +140,12 @@ known log room (Ok (Some (command.Lsvg volumes name))) why old new (ListsGroup c
 known log room (Ok (Some (command.Mklv name copies mode policy group lps))) why old new (NoGroupForMklv none is) = by_reply _ why refusal.NoGroup old new is.0 (easy _ refusal.NoGroup old new tt (λ e. cc) (λ h t e. cc))
 known log room (Ok (Some (command.Mklv name copies mode policy group lps))) why old new (MakesVolume core number some on done is) = absurd (cc (is))
 known log room (Ok (Some (command.Mklv name copies mode policy group lps))) why old new (MklvFails core reason some on done is) =
-    by_reply _ why (refusal_for reason) old new is (known_group (Ok (Some (command.Mklv name copies mode policy group lps))) (λ d a b rose. rose) reason old new core done.left some (mklv_facts (wanted name copies mode policy lps) patience_of_line (state old.moment.device core) done.left done.on reason done.gives) done.leaves)
+    by_reply _ why (refusal_for reason) old new is (known_group (Ok (Some (command.Mklv name copies mode policy group lps))) (λ d a b rose. rose) reason old new core done.left some (mklv_facts (wanted name copies mode policy lps) patience_of_line (state old.moment.device core) done.left done.on (Err reason) done.gives) done.leaves)
 known log room (Ok (Some (command.Rmlv name))) why old new (NoGroupForRmlv none is) = by_reply _ why refusal.NoGroup old new is.0 (easy _ refusal.NoGroup old new tt (λ e. cc) (λ h t e. cc))
 known log room (Ok (Some (command.Rmlv name))) why old new (NoVolumeForRmlv core some none is) = by_reply _ why refusal.NoVolume old new is.0 (easy _ refusal.NoVolume old new tt (λ e. cc) (λ h t e. cc))
 known log room (Ok (Some (command.Rmlv name))) why old new (RemovesVolume core lv some its done is) = absurd (cc (is))
 known log room (Ok (Some (command.Rmlv name))) why old new (RmlvFails core lv reason some its done is) =
-    by_reply _ why (refusal_for reason) old new is (known_group (Ok (Some (command.Rmlv name))) (λ d a b rose. rose) reason old new core done.left some (rmlv_facts lv patience_of_line (state old.moment.device core) done.left done.on reason done.gives) done.leaves)
+    by_reply _ why (refusal_for reason) old new is (known_group (Ok (Some (command.Rmlv name))) (λ d a b rose. rose) reason old new core done.left some (rmlv_facts lv patience_of_line (state old.moment.device core) done.left done.on (Err reason) done.gives) done.leaves)
 known log room (Ok (Some (command.Lslv name))) why old new (NoGroupForVolume none is, same) = by_reply _ why refusal.NoGroup old new is (easy _ refusal.NoGroup old new tt (λ e. cc) (λ h t e. cc))
 known log room (Ok (Some (command.Lslv name))) why old new (NoSuchVolume core some none is, same) = by_reply _ why refusal.NoVolume old new is (easy _ refusal.NoVolume old new tt (λ e. cc) (λ h t e. cc))
 known log room (Ok (Some (command.Lslv name))) why old new (ListsVolume core lv some its shows, same) = of_shows _ _ why old new shows

@@ -17,7 +17,7 @@ use Rattle.lvm_line.specs.Causes.{HasFailed, HasLost}
 use Rattle.lvm_commands.specs.Disks.{patience_of_line}
 use Rattle.lvm_commands.specs.State.{State}
 use Rattle.lvm_commands.specs.Volumes.{IsLeft, ends_session, refusal_for}
-use Rattle.lvm_commands.proofs.Ending.{Facts}
+use Rattle.lvm_commands.proofs.Ending.{FaultFacts}
 use Rattle.lvm_line.proofs.Knowing.{Known}
 
 -- votes that are too few to write are at most half
@@ -43,7 +43,7 @@ module _ (read : Result (Option Command) Misfit) (failed : (d : ℕ) (a b : Coun
     subst (λ (s : Option Core). HasLost s old.moment.device.counts new) (sym first) (it.disk, it.was, subst (λ (n : Counts). Rose (old.moment.device.counts.faults it.disk) (n.faults it.disk)) (sym same) it.failed),
   )
 
-  pub known_group : (why : GroupFault) (old new : State) (core : Core) (left : Session) → old.session ≡ Some core → Facts why patience_of_line (state old.moment.device core) left → IsLeft (ends_session why) left new → Known read (refusal_for why) old new
+  pub known_group : (why : GroupFault) (old new : State) (core : Core) (left : Session) → old.session ≡ Some core → FaultFacts why patience_of_line (state old.moment.device core) left → IsLeft (ends_session why) left new → Known read (refusal_for why) old new
   known_group fault.Dark old new core left some facts leaves =
       record { cause = subst (λ (n : Counts). Rose old.moment.device.counts.cuts n.cuts) (sym (counts_left true left new leaves)) facts.1; off = λ is. none_left left new leaves; unwritten = λ have total is. absurd (cc (is)) }
   known_group (fault.WentOff have total) old new core left some facts leaves =
@@ -52,12 +52,4 @@ module _ (read : Result (Option Command) Misfit) (failed : (d : ℕ) (a b : Coun
       record { cause = subst (λ (n : Counts). RoseBy patience_of_line old.moment.device.counts.waits n.waits) (sym (counts_left true left new leaves)) facts.waits; off = λ is. none_left left new leaves; unwritten = λ have total is. absurd (cc (is)) }
   known_group (fault.DiskFailed disk) old new core left some facts leaves =
       record { cause = failed disk old.moment.device.counts new.moment.device.counts (subst (λ (n : Counts). Rose (old.moment.device.counts.faults disk) (n.faults disk)) (sym (counts_left false left new leaves)) facts.0); off = λ is. absurd (cc (is)); unwritten = λ have total is. absurd (cc (is)) }
-  known_group fault.Busy old new core left some facts leaves = record { cause = tt; off = λ is. absurd (cc (is)); unwritten = λ have total is. absurd (cc (is)) }
-  known_group fault.NoVolume old new core left some facts leaves = record { cause = tt; off = λ is. absurd (cc (is)); unwritten = λ have total is. absurd (cc (is)) }
-  known_group fault.VolumeExists old new core left some facts leaves = record { cause = tt; off = λ is. absurd (cc (is)); unwritten = λ have total is. absurd (cc (is)) }
-  known_group (fault.CopyLimit now) old new core left some facts leaves = record { cause = tt; off = λ is. absurd (cc (is)); unwritten = λ have total is. absurd (cc (is)) }
-  known_group (fault.LastFresh lp) old new core left some facts leaves = record { cause = tt; off = λ is. absurd (cc (is)); unwritten = λ have total is. absurd (cc (is)) }
-  known_group (fault.TooMany limit) old new core left some facts leaves = record { cause = tt; off = λ is. absurd (cc (is)); unwritten = λ have total is. absurd (cc (is)) }
-  known_group (fault.NoRoom free) old new core left some facts leaves = record { cause = tt; off = λ is. absurd (cc (is)); unwritten = λ have total is. absurd (cc (is)) }
-  known_group fault.HistoryFull old new core left some facts leaves = record { cause = tt; off = λ is. absurd (cc (is)); unwritten = λ have total is. absurd (cc (is)) }
-  known_group fault.Memory old new core left some facts leaves = record { cause = tt; off = λ is. absurd (cc (is)); unwritten = λ have total is. absurd (cc (is)) }
+  known_group other old new core left some facts leaves = record { cause = tt; off = λ is. absurd (cc (is)); unwritten = λ have total is. absurd (cc (is)) }

@@ -1,6 +1,6 @@
 -- Lines, by how they are read.
 use Rattle.std.proofs.Common.{◌≡◌, ℕ, List, Bool, Option, Some, None, IsSome, Result, Ok, refl, sym, ap, subst}
-use Rattle.lvm_disk.specs.Device.{HasSectors}
+use Rattle.lvm_disk.specs.Device.{Device, HasSectors}
 use Rattle.lvm_io.specs.Count.{next_count}
 use Rattle.lvm_vol.specs.Log.{Log}
 use Rattle.lvm_parse.specs.declared.command.Command.{Command}
@@ -10,13 +10,17 @@ use Rattle.lvm_parse.specs.Grammar.{line_of}
 use Rattle.lvm_parse.specs.Answering.{IsMkvgLine}
 use Rattle.lvm_core.specs.declared.parts.Room.{Room}
 use Rattle.lvm_core.specs.State.{Core}
+use Rattle.lvm_commands.specs.Ends.{CommandEnds}
 use Rattle.lvm_commands.specs.Groups.{IsAsked, MkvgDoes, NoMemoryForLine, NoMkvgWhileOn}
-use Rattle.lvm_line.specs.Lines.{CommandDoes, LineDoes, IsLine, IsOrder, asked_after}
+use Rattle.lvm_line.specs.Lines.{CommandDoes, CommandIsDone, LineDoes, IsLine, IsOrder, asked_after}
 use Rattle.lvm_commands.specs.Moments.{GoesOn}
-use Rattle.lvm_commands.specs.State.{State, IsSettled}
+use Rattle.lvm_commands.specs.Stages.{history_in, state_in, IsSettledStage}
+use Rattle.lvm_commands.specs.State.{State, IsSettled, without_facts}
 use Rattle.lvm_commands.specs.declared.reply.Refusal.TheVariants as refusal
 use Rattle.lvm_commands.specs.declared.reply.Reply.{Reply}
 use Rattle.lvm_commands.specs.declared.reply.Reply.TheVariants as reply
+use Rattle.lvm_commands.specs.declared.stage.Stage.{Stage}
+use Rattle.lvm_commands.proofs.Ends.{ends_as}
 use Rattle.lvm_commands.proofs.Going.{same_goes, asked_goes}
 
 -- a line that is read so
@@ -61,10 +65,6 @@ pub asked_once : (read : Result (Option Command) Misfit) (before after : ℕ) �
 asked_once (Ok (Some (command.Mkvg force name mib disks))) before after is once = once
 asked_once read before after is once = absurd is
 
--- the command is this one
-pub asked_by : (it other : Command) (before after : ℕ) → it ≡ other → after ≡ asked_after (Ok (Some other)) before → after ≡ asked_after (Ok (Some it)) before
-asked_by it other before after is so = subst (λ (c : Command). after ≡ asked_after (Ok (Some c)) before) (sym is) so
-
 -- the line is read so
 pub asked_so : (read other : Result (Option Command) Misfit) (before after : ℕ) → read ≡ other → after ≡ asked_after other before → after ≡ asked_after read before
 asked_so read other before after is so = subst (λ (r : Result (Option Command) Misfit). after ≡ asked_after r before) (sym is) so
@@ -72,3 +72,18 @@ asked_so read other before after is so = subst (λ (r : Result (Option Command) 
 -- a command that is this one
 pub of_command : (log : Log) (room : Room) (it other : Command) (old new : State) (answer : Reply) → it ≡ other → CommandDoes log room other old new answer → CommandDoes log room it old new answer
 of_command log room it other old new answer is does = subst (λ (c : Command). CommandDoes log room c old new answer) (sym is) does
+
+-- so it ends,
+pub done_by : {S : Type 0} (device : S → Device) (room : Room) (it other : Command) (old new : Stage S) (answer : Reply) (before after asked now : ℕ) → it ≡ other
+    → CommandEnds device (λ log. CommandDoes log room other) (IsOrder (Ok (Some other))) old new answer before after → now ≡ asked_after (Ok (Some other)) asked → CommandIsDone device room it old new answer before after asked now
+done_by device room it other old new answer before after asked now is ends count =
+    subst (λ (c : Command). CommandIsDone device room c old new answer before after asked now) (sym is) (record { ends = ends; asked = count })
+
+-- and a listing
+pub listed_by : {S : Type 0} (device : S → Device) (room : Room) (it other : Command) (old new : Stage S) (answer reply : Reply) (last asked : ℕ) → it ≡ other → IsSettledStage device old → new ≡ old → answer ≡ reply
+    → ((log : Log) → CommandDoes log room other (state_in device old last) (state_in device old last) reply) → asked ≡ asked_after (Ok (Some other)) asked → CommandIsDone device room it old new answer last last asked asked
+listed_by device room it other old new answer reply last asked is settled same says does count =
+    done_by device room it other old new answer last last asked asked is
+    (ends_as device (λ log. CommandDoes log room other) (IsOrder (Ok (Some other))) old old new old answer reply last last refl same says
+    (record { does = does (without_facts (history_in old)); goes = same_goes (history_in old).run reply (state_in device old last) (state_in device old last) settled refl; rooms = refl; orders = λ none. refl }))
+    count

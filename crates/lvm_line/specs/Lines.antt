@@ -3,7 +3,7 @@ use Rattle.std.specs.Prelude.{◌≡◌, ◌≢◌, ◌≤◌, ℕ, List, Option
 use Rattle.std.specs.Option.{ForSome}
 use Rattle.lvm_num.specs.Descriptor.{is_size}
 use Rattle.lvm_num.specs.declared.descriptor.Mode.TheVariants.{Off}
-use Rattle.lvm_disk.specs.Device.{HasSectors}
+use Rattle.lvm_disk.specs.Device.{Device, HasSectors}
 use Rattle.lvm_disk.specs.declared.shelf.Arrange.TheVariants as arrange
 use Rattle.lvm_io.specs.Count.{next_count}
 use Rattle.lvm_vol.specs.Log.{Log}
@@ -13,6 +13,7 @@ use Rattle.lvm_operands.specs.declared.rest.Misfit.{Misfit}
 use Rattle.lvm_parse.specs.Grammar.{line_of}
 use Rattle.lvm_core.specs.declared.parts.Room.{Room}
 use Rattle.lvm_commands.specs.Disks.{ReadDoes, WriteDoes}
+use Rattle.lvm_commands.specs.Ends.{CommandEnds}
 use Rattle.lvm_commands.specs.Groups.{MkvgDoes, VaryonDoes, VaryoffDoes}
 use Rattle.lvm_commands.specs.Listings.{GroupShows, VolumeShows, DiskShows}
 use Rattle.lvm_commands.specs.Moments.{GoesOn}
@@ -23,6 +24,7 @@ use Rattle.lvm_commands.specs.Volumes.{MklvDoes, RmlvDoes, wanted}
 use Rattle.lvm_commands.specs.declared.reply.Refusal.TheVariants as refusal
 use Rattle.lvm_commands.specs.declared.reply.Reply.{Reply}
 use Rattle.lvm_commands.specs.declared.reply.Reply.TheVariants as reply
+use Rattle.lvm_commands.specs.declared.stage.Stage.{Stage}
 
 -- what the grammar says of the numbers and disks of a command
 abbrev pub IsWithin : Command → Type 0
@@ -79,6 +81,11 @@ abbrev pub asked_after : Result (Option Command) Misfit → ℕ → ℕ
 asked_after (Ok (Some (command.Mkvg force name mib disks))) asked = next_count asked
 asked_after (Ok (Some (command.Varyon name))) asked = next_count asked
 asked_after other asked = asked
+
+-- A command leads from one stage to another by what it does, and the clock was asked so often.
+pub record CommandIsDone {S : Type 0} (device : S → Device) (room : Room) (c : Command) (old new : Stage S) (answer : Reply) (before after asks now : ℕ) : Type 0 where
+  pub ends : CommandEnds device (λ log. CommandDoes log room c) (IsOrder (Ok (Some c))) old new answer before after
+  pub asked : now ≡ asked_after (Ok (Some c)) asks
 
 -- A line joins two states, of a shelf whose sectors are 512 bytes each.
 pub record IsLine (log : Log) (room : Room) (line : List ℕ) (answer : Reply) (old new : State) : Type 0 where

@@ -4,10 +4,9 @@ ghost use Rattle.lvm_core.specs.Starting.{IsRoom};
 ghost use Rattle.lvm_core.specs.declared.parts.Room.{Room};
 ghost use Rattle.lvm_vol.specs.Log.{Log};
 ghost use Rattle.lvm_parse.specs.Grammar.{line_of};
-ghost use Rattle.lvm_line.specs.Lines.{IsWithin, CommandDoes, IsLine, IsOrder, IsChange, asked_after};
-ghost use Rattle.lvm_commands.specs.Moments.{GoesOn};
+ghost use Rattle.lvm_line.specs.Lines.{IsWithin, CommandDoes, CommandIsDone, IsLine, IsChange, asked_after};
 ghost use Rattle.lvm_commands.specs.Replies.{IsStuck};
-ghost use Rattle.lvm_commands.specs.Stages.{shelf_in, history_in, session_in, state_in, IsSettledStage};
+ghost use Rattle.lvm_commands.specs.Stages.{history_in, session_in, state_in, IsSettledStage};
 ghost use Rattle.lvm_commands.specs.State.{without_facts};
 
 use lvm_commands::{
@@ -31,11 +30,7 @@ fn do_command<S: Shelf, C: Clock>(
     requires settled { IsSettledStage S.device stage }
     requires room { IsRoom room }
     requires within { IsWithin command }
-    ensures does { CommandDoes (without_facts (history_in stage)) room command (state_in S.device stage (C.last clock.old)) (state_in S.device result.stage (C.last clock.new)) result.reply }
-    ensures goes { GoesOn (history_in stage).run result.reply (state_in S.device stage (C.last clock.old)) (state_in S.device result.stage (C.last clock.new)) }
-    ensures rooms { without_facts (history_in result.stage) ≡ without_facts (history_in stage) }
-    ensures orders { (IsOrder (Ok (Some command)) → ⊥) → (S.device (shelf_in result.stage)).orders ≡ (S.device (shelf_in stage)).orders }
-    ensures asked { C.asked clock.new ≡ asked_after (Ok (Some command)) (C.asked clock.old) }
+    ensures { CommandIsDone S.device room command stage result.stage result.reply (C.last clock.old) (C.last clock.new) (C.asked clock.old) (C.asked clock.new) }
 {
     match command {
         Command::Mkvg {

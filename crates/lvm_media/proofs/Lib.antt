@@ -1,4 +1,5 @@
 mod Filling
 mod Putting
+mod Pieces
 pub mod Laying
 mod GivingUp

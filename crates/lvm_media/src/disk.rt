@@ -1,9 +1,11 @@
-//! A disk in memory.
+//! A disk in memory, in pieces of 1 MiB.
 ghost use Rattle.std.specs.Prelude.{◌≡◌, ◌+◌, ◌-◌, ◌%◌, ◌≤◌, ◌<◌, [], ◌∷◌, ◌++◌, ℕ, true, length, slice_index_or, slice_get, slice_set, IfOk, OnOk, replicate};
 ghost use Rattle.std.specs.List.{flat_map};
-ghost use Rattle.lvm_num.specs.Buffer.{zero_sector, IsSector};
-ghost use Rattle.lvm_media.specs.Media.{AllSectors, sectors_in, put_by, picks, FilledFrom};
+ghost use Rattle.lvm_num.specs.Buffer.{zero_sector};
+ghost use Rattle.lvm_media.specs.Media.{sizes_of, AllSectors, sectors_in, put_by, picks, FilledFrom};
+ghost use Rattle.lvm_media.specs.Pieces.{joined, AreSizes, IsCut};
 
+use crate::piece::{PIECE, Piece};
 use lvm_num::{Memory, Pbuf};
 use std::alloc::Global;
 use std::marker::Model;
@@ -11,18 +13,19 @@ use std::marker::Model;
 /// A disk of sectors of 512 bytes, which contracts see as the list of its sectors.
 #[derive(Drop)]
 pub struct Disk {
-    sectors: Vec<[u8; 512]>,
+    pieces: Vec<Piece>,
+    count: u64,
 }
 
 impl Model for Disk {
     ghost use Rattle.std.specs.Prelude.{List, ℕ};
-    ghost use Rattle.lvm_media.specs.Media.{AllSectors};
+    ghost use Rattle.lvm_media.specs.Pieces.{joined, IsCut};
 
     ghost Value = { List (List ℕ) };
 
-    ghost view = { λ d. d.sectors.items };
+    ghost view = { λ d. joined d.pieces.items };
 
-    ghost invariant = { λ d. AllSectors d.sectors.items };
+    ghost invariant = { λ d. IsCut 2048 d.count d.pieces.items };
 }
 
 // Whether the word picks the k-th sector.
@@ -32,37 +35,55 @@ fn is_picked(word: u64, k: u32) -> bool
     word >> (k % 64) & 1 == 1
 }
 
-fn put_sector(sectors: &mut Vec<[u8; 512]>, at: u64, sector: &[u8; 512])
-    requires { at < length sectors.old.items }
-    ensures put { sectors.new.items ≡ slice_set sectors.old.items at sector.now }
-    ensures whole { IsSector sector.now }
+// What stands in sector `at` of a disk in pieces.
+fn sector_of(pieces: &Vec<Piece>, at: u64) -> &[u8; 512]
+    requires sizes { AreSizes 2048 (sizes_of pieces.now.items) }
+    requires there { at < length (joined pieces.now.items) }
+    ensures { result.now ≡ slice_index_or (joined pieces.now.items) at [] }
 {
-    sectors[at as usize] = *sector;
+    pieces[(at / PIECE) as usize].sector(at % PIECE)
 }
 
-fn push_sector(sectors: &mut Vec<[u8; 512]>, sector: &[u8; 512]) -> Result<(), Memory>
-    ensures pushed { OnOk result (sectors.new.items ≡ sectors.old.items ++ sector.now ∷ []) }
-    ensures whole { IsSector sector.now }
+// Puts 512 bytes into sector `at` of a disk in pieces.
+fn put_sector(pieces: &mut Vec<Piece>, at: u64, sector: &[u8; 512])
+    requires cut { IsCut 2048 (length (joined pieces.old.items)) pieces.old.items }
+    requires there { at < length (joined pieces.old.items) }
+    ensures put { joined pieces.new.items ≡ slice_set (joined pieces.old.items) at sector.now }
+    ensures cut { IsCut 2048 (length (joined pieces.old.items)) pieces.new.items }
 {
-    match sectors.push(*sector) {
+    pieces[(at / PIECE) as usize].set_sector(at % PIECE, sector);
+}
+
+// Adds a piece.
+fn push_piece(pieces: &mut Vec<Piece>, piece: Piece) -> Result<(), Memory>
+    ensures { OnOk result (pieces.new.items ≡ pieces.old.items ++ piece ∷ []) }
+{
+    match pieces.push(piece) {
         Ok(()) => Ok(()),
         Err(_) => Err(Memory),
     }
 }
 
+// So many pieces of zeros, none of which is a part of one.
+fn whole_pieces(alloc: Global, count: u64) -> Result<Vec<Piece>, Memory>
+    ensures { IfOk result (λ pieces. pieces.items ≡ replicate count (replicate 2048 zero_sector)) }
+{
+    let mut pieces = Vec::new(alloc);
+    for _ in 0..count {
+        push_piece(&mut pieces, Piece::blank(alloc, PIECE)?)?;
+    }
+    Ok(pieces)
+}
+
 impl Disk {
-    /// A disk of zeros.
+    /// A disk of zeros. Memory is set aside for all of it, and used for what is written.
     pub fn zeros(alloc: Global, count: u64) -> Result<Disk, Memory>
         ensures zeros { IfOk result (λ disk. disk ≡ replicate count zero_sector) }
         ensures sectors { IfOk result AllSectors }
     {
-        let Ok(mut sectors) = Vec::with_capacity(alloc, count as usize) else {
-            return Err(Memory);
-        };
-        for _ in 0..count {
-            push_sector(&mut sectors, &[0; 512])?;
-        }
-        Ok(Disk { sectors })
+        let mut pieces = whole_pieces(alloc, count / PIECE)?;
+        push_piece(&mut pieces, Piece::blank(alloc, count % PIECE)?)?;
+        Ok(Disk { pieces, count })
     }
 
     /// A disk whose sectors are the bytes, 512 by 512. Bytes behind the last whole sector are left out.
@@ -71,27 +92,46 @@ impl Disk {
         ensures sectors { IfOk result AllSectors }
     {
         let chunks = bytes.as_chunks::<512>().0;
-        let Ok(mut sectors) = Vec::with_capacity(alloc, chunks.len()) else {
-            return Err(Memory);
-        };
-        for chunk in chunks {
-            push_sector(&mut sectors, chunk)?;
+        let mut disk = Disk::zeros(alloc, chunks.len() as u64)?;
+        disk.set_front(chunks);
+        Ok(disk)
+    }
+
+    // Puts sectors on it, from its first on.
+    fn set_front(&mut self, sectors: &[[u8; 512]])
+        requires { length sectors.now ≡ length self.old }
+        ensures sectors { AllSectors self.new }
+        ensures set { self.new ≡ sectors.now }
+    {
+        for i in 0..sectors.len() {
+            put_sector(&mut self.pieces, i as u64, &sectors[i]);
         }
-        Ok(Disk { sectors })
     }
 
     /// How many sectors it has.
     pub fn len(&self) -> u64
         ensures { result ≡ length self.now }
     {
-        self.sectors.len() as u64
+        self.count
+    }
+
+    /// What stands in its sector `at`, from 0.
+    pub fn sector(&self, at: u64) -> &[u8; 512]
+        requires { at < length self.now }
+        ensures { result.now ≡ slice_index_or self.now at [] }
+    {
+        sector_of(&self.pieces, at)
     }
 
     /// Its sectors, one behind the other.
-    pub fn bytes(&self) -> &[u8]
-        ensures { result.now ≡ flat_map (λ sector. sector) self.now }
+    pub fn image(&self, alloc: Global) -> Result<Vec<u8>, Memory>
+        ensures { IfOk result (λ image. image.items ≡ flat_map (λ sector. sector) self.now) }
     {
-        self.sectors.as_flattened()
+        let mut image = Vec::new(alloc);
+        for at in 0..self.count {
+            image.extend_from_slice(sector_of(&self.pieces, at))?;
+        }
+        Ok(image)
     }
 
     /// Puts the first `count` sectors of a buffer on it.
@@ -103,7 +143,7 @@ impl Disk {
         ensures sectors { AllSectors self.new }
     {
         for i in 0..count {
-            put_sector(&mut self.sectors, first + i as u64, buf.sector(i));
+            put_sector(&mut self.pieces, first + i as u64, buf.sector(i));
         }
     }
 
@@ -118,7 +158,7 @@ impl Disk {
     {
         for i in 0..count {
             if is_picked(word, from + i) {
-                put_sector(&mut self.sectors, first + i as u64, buf.sector(i));
+                put_sector(&mut self.pieces, first + i as u64, buf.sector(i));
             }
         }
     }
@@ -130,7 +170,7 @@ impl Disk {
         ensures { FilledFrom self.now first count buf.old buf.new }
     {
         for i in 0..count {
-            buf.set_sector(i, &self.sectors[(first + i as u64) as usize]);
+            buf.set_sector(i, sector_of(&self.pieces, first + i as u64));
         }
     }
 }

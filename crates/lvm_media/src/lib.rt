@@ -3,6 +3,7 @@
 
 mod cutting;
 mod disk;
+mod piece;
 mod row;
 
 pub use cutting::cut_flights;

@@ -103,11 +103,20 @@ impl MemShelf {
     }
 
     /// What stands on a disk, sector by sector.
-    pub fn image(&self, disk: u16) -> &[u8]
+    pub fn image(&self, alloc: Global, disk: u16) -> Result<Vec<u8>, Memory>
         requires { disk < length (disks_of self.now) }
-        ensures { result.now ≡ flat_map (λ sector. sector) (slice_index_or (disks_of self.now) disk []) }
+        ensures { IfOk result (λ image. image.items ≡ flat_map (λ sector. sector) (slice_index_or (disks_of self.now) disk [])) }
     {
-        self.disks[disk as usize].bytes()
+        self.disks[disk as usize].image(alloc)
+    }
+
+    /// What stands in sector `at` of a disk, from 0.
+    pub fn sector(&self, disk: u16, at: u64) -> &[u8; 512]
+        requires disk { disk < length (disks_of self.now) }
+        requires at { at < length (slice_index_or (disks_of self.now) disk []) }
+        ensures { result.now ≡ slice_index_or (slice_index_or (disks_of self.now) disk []) at [] }
+    {
+        self.disks[disk as usize].sector(at)
     }
 
     /// How many starts and reaps there were. The count stands still at `u64::MAX`.

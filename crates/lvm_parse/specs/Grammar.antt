@@ -99,22 +99,37 @@ lslv l = let map = option (codes "-m") l in if map.0 then then_ (last name_in ma
 -- ---- lines
 
 -- what follows a first word, which begins at this column; any other isn't in the language
+abbrev pub rule_of_disks : List ℕ → ℕ → Left → Result Command Misfit
+rule_of_disks word column l =
+    if bytes_eq word (codes "lspv") then lspv l
+    else (if bytes_eq word (codes "fail") then fail l
+    else (if bytes_eq word (codes "heal") then heal l
+    else (if bytes_eq word (codes "cut") then cut l
+    else misfit column)))
+
+-- so of those that speak of volumes,
+abbrev pub rule_of_volumes : List ℕ → ℕ → Left → Result Command Misfit
+rule_of_volumes word column l =
+    if bytes_eq word (codes "mklv") then mklv l
+    else (if bytes_eq word (codes "rmlv") then rmlv l
+    else (if bytes_eq word (codes "lslv") then lslv l
+    else rule_of_disks word column l))
+
+-- of those that speak of groups,
+abbrev pub rule_of_groups : List ℕ → ℕ → Left → Result Command Misfit
+rule_of_groups word column l =
+    if bytes_eq word (codes "varyonvg") then varyonvg l
+    else (if bytes_eq word (codes "varyoffvg") then varyoffvg l
+    else (if bytes_eq word (codes "lsvg") then lsvg l
+    else rule_of_volumes word column l))
+
+-- and of all
 abbrev pub rule : List ℕ → ℕ → Left → Result Command Misfit
 rule word column l =
     if bytes_eq word (codes "mkvg") then mkvg l
     else (if bytes_eq word (codes "rd") then rd l
     else (if bytes_eq word (codes "wr") then wr l
-    else (if bytes_eq word (codes "varyonvg") then varyonvg l
-    else (if bytes_eq word (codes "varyoffvg") then varyoffvg l
-    else (if bytes_eq word (codes "lsvg") then lsvg l
-    else (if bytes_eq word (codes "mklv") then mklv l
-    else (if bytes_eq word (codes "rmlv") then rmlv l
-    else (if bytes_eq word (codes "lslv") then lslv l
-    else (if bytes_eq word (codes "lspv") then lspv l
-    else (if bytes_eq word (codes "fail") then fail l
-    else (if bytes_eq word (codes "heal") then heal l
-    else (if bytes_eq word (codes "cut") then cut l
-    else misfit column))))))))))))
+    else rule_of_groups word column l))
 
 -- a line without a word, and a remark, ask for nothing
 abbrev pub line_of_words : List WordAt → ℕ → Result (Option Command) Misfit

@@ -1,7 +1,7 @@
 //! A line as a whole.
 ghost use Rattle.std.specs.Prelude.{◌≡◌, ◌↔◌, ℕ, false, bytes_eq, codes, IfOk, Ok, Err};
 ghost use Rattle.lvm_operands.specs.Reading.{misfit};
-ghost use Rattle.lvm_parse.specs.Grammar.{rule, line_of_words, line_of};
+ghost use Rattle.lvm_parse.specs.Grammar.{rule, rule_of_groups, rule_of_volumes, rule_of_disks, line_of_words, line_of};
 ghost use Rattle.lvm_operands.specs.Rests.{left};
 ghost use Rattle.lvm_parse.specs.Answering.{Answers, AnswersLine, IsMkvgLine};
 
@@ -11,6 +11,56 @@ use crate::rules::{
 };
 use lvm_operands::{Misfit, Rest, Word, is_remark, misfit, next_word, unreadable_at};
 use std::alloc::Global;
+
+// What a line asks for whose first word this is, where it is one of those of disks.
+fn disk_command(word: Word<'_>, rest: Rest<'_>) -> Result<Command, Misfit>
+    ensures { result ≡ rule_of_disks word.entry.bytes.now word.entry.column (left rest.entry) }
+{
+    let name = word.bytes;
+    if name == b"lspv".as_slice() {
+        lspv(rest)
+    } else if name == b"fail".as_slice() {
+        fail(rest)
+    } else if name == b"heal".as_slice() {
+        heal(rest)
+    } else if name == b"cut".as_slice() {
+        cut(rest)
+    } else {
+        Err(misfit(word.column))
+    }
+}
+
+// So of volumes.
+fn volume_command(word: Word<'_>, rest: Rest<'_>) -> Result<Command, Misfit>
+    ensures { result ≡ rule_of_volumes word.entry.bytes.now word.entry.column (left rest.entry) }
+{
+    let name = word.bytes;
+    if name == b"mklv".as_slice() {
+        mklv(rest)
+    } else if name == b"rmlv".as_slice() {
+        rmlv(rest)
+    } else if name == b"lslv".as_slice() {
+        lslv(rest)
+    } else {
+        disk_command(word, rest)
+    }
+}
+
+// So of groups.
+fn group_command(word: Word<'_>, rest: Rest<'_>) -> Result<Command, Misfit>
+    ensures { result ≡ rule_of_groups word.entry.bytes.now word.entry.column (left rest.entry) }
+{
+    let name = word.bytes;
+    if name == b"varyonvg".as_slice() {
+        varyonvg(rest)
+    } else if name == b"varyoffvg".as_slice() {
+        varyoffvg(rest)
+    } else if name == b"lsvg".as_slice() {
+        lsvg(rest)
+    } else {
+        volume_command(word, rest)
+    }
+}
 
 // What a line asks for whose first word this is; it isn't `mkvg`.
 fn plain_command(word: Word<'_>, rest: Rest<'_>) -> Result<Command, Misfit>
@@ -22,28 +72,8 @@ fn plain_command(word: Word<'_>, rest: Rest<'_>) -> Result<Command, Misfit>
         rd(rest)
     } else if name == b"wr".as_slice() {
         wr(rest)
-    } else if name == b"varyonvg".as_slice() {
-        varyonvg(rest)
-    } else if name == b"varyoffvg".as_slice() {
-        varyoffvg(rest)
-    } else if name == b"lsvg".as_slice() {
-        lsvg(rest)
-    } else if name == b"mklv".as_slice() {
-        mklv(rest)
-    } else if name == b"rmlv".as_slice() {
-        rmlv(rest)
-    } else if name == b"lslv".as_slice() {
-        lslv(rest)
-    } else if name == b"lspv".as_slice() {
-        lspv(rest)
-    } else if name == b"fail".as_slice() {
-        fail(rest)
-    } else if name == b"heal".as_slice() {
-        heal(rest)
-    } else if name == b"cut".as_slice() {
-        cut(rest)
     } else {
-        Err(misfit(word.column))
+        group_command(word, rest)
     }
 }
 

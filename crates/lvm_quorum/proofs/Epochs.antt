@@ -14,7 +14,7 @@ use Rattle.lvm_survey.specs.declared.row.Survey.{Survey}
 use Rattle.lvm_survey.specs.Surveyed.{surveyed}
 use Rattle.lvm_quorum.specs.Choosing.{IsGreatestEpoch}
 use Rattle.lvm_quorum.specs.Groups.{epoch_of, epoch_on, IsLastEpoch}
-use Rattle.lvm_quorum.proofs.SurveyRows.{descriptor_past, status_past}
+use Rattle.lvm_survey.proofs.SurveyRows.{descriptor_past, status_past}
 
 -- the greatest of the first i
 pub record IsGreatestBelow (f : ℕ → ℕ) (i greatest : ℕ) : Type 0 where

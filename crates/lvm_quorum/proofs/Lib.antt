@@ -1,14 +1,5 @@
-pub mod SurveyRows
 pub mod Folds
 pub mod Voting
 pub mod Epochs
 pub mod Naming
 pub mod Chosen
-pub mod Writing
-pub mod Pieces
-pub mod Transfers
-pub mod Tried
-pub mod Disks
-pub mod HomeSlots
-pub mod Shows
-pub mod Emptying

@@ -6,10 +6,11 @@ use Rattle.lvm_num.specs.declared.descriptor.Descriptor.{Descriptor}
 use Rattle.lvm_num.specs.Record.{Stamped}
 use Rattle.lvm_survey.specs.declared.row.SurveyRow.{SurveyRow}
 use Rattle.lvm_survey.specs.declared.row.Survey.{Survey}
-use Rattle.lvm_survey.specs.Surveyed.{surveyed, under}
-use Rattle.lvm_quorum.specs.Choosing.{IsNamed}
+use Rattle.lvm_survey.specs.Surveyed.{surveyed}
+use Rattle.lvm_area.specs.Reading.{under}
+use Rattle.lvm_quorum.specs.Choosing.{HasName}
 use Rattle.lvm_quorum.specs.Groups.{IsNamedBy}
-use Rattle.lvm_quorum.proofs.SurveyRows.{descriptor_shown, descriptor_past}
+use Rattle.lvm_survey.proofs.SurveyRows.{descriptor_shown, descriptor_past}
 
 -- a disk gives the name to one group
 pub one_id : (o : Option (Stamped Descriptor)) (name : List ℕ) (a b : ℕ) → IsNamedBy o name a → IsNamedBy o name b → a ≡ b
@@ -29,7 +30,7 @@ named_more s name P i row at below here =
 pub named_all :
     (s : Survey) (name : List ℕ) (P : ℕ → Type 0) (n : ℕ) → length s.rows ≤ n
     → ((d : ℕ) → d < n → (id : ℕ) → IsNamedBy ((surveyed s).descriptor d) name id → P id)
-    → (id : ℕ) → IsNamed (surveyed s) name id → P id
+    → (id : ℕ) → HasName (surveyed s) name id → P id
 named_all s name P n all below id named = elim (cases_lt named.disk n) [
   | inl less ↦ below named.disk less id (record { newest = named.newest; on = named.on; its = named.its; name = named.name })
   | inr more ↦ absurd (nothing ((surveyed s).descriptor named.disk) (descriptor_past s named.disk (omega arith)) named.newest named.on)

@@ -13,62 +13,17 @@ use Rattle.lvm_kept.specs.Contents.{Contents}
 use Rattle.lvm_kept.specs.Group.{passes, is_of, has_room, members_in, descriptor_among, is_voter}
 use Rattle.lvm_survey.specs.declared.row.SurveyRow.{SurveyRow}
 use Rattle.lvm_survey.specs.declared.row.Survey.{Survey}
-use Rattle.lvm_survey.specs.Surveyed.{surveyed, under}
+use Rattle.lvm_survey.specs.Surveyed.{surveyed}
+use Rattle.lvm_area.specs.Reading.{under}
 use Rattle.lvm_survey.specs.Rows.{AreRows}
-use Rattle.lvm_quorum.proofs.SurveyRows.{descriptor_shown, size_shown, descriptor_past}
+use Rattle.lvm_survey.proofs.SurveyRows.{descriptor_shown, size_shown, descriptor_past}
+use Rattle.lvm_survey.proofs.Passing.{neither, PassBelow, all_pass}
 
-or_right : (a b : Bool) → b ≡ true → a || b ≡ true
-or_right true b e = refl
-or_right false b e = e
-
-or_left : (a b : Bool) → b ≡ false → a || b ≡ a
-or_left true b e = refl
-or_left false b e = e
-
-both : (a b : Bool) → a ≡ true → b ≡ true → a && b ≡ true
-both true b e f = f
-both false b e f = e
-
-neither : (a b : Bool) → b ≡ false → a && b ≡ false
-neither true b e = e
-neither false b e = refl
-
--- those below i that pass, of a set that is taken in order
-abbrev pub PassBelow : (ℕ → Bool) → ℕ → (ℕ → Bool) → Type 0
-PassBelow test i set = (d : ℕ) → set d ≡ nat_lt d i && test d
-
-pub lt_same : (d i : ℕ) → d ≡ i → nat_lt d (i + 1) ≡ true
-lt_same d i e = grind (arith, nat_tests)
-
-pub lt_other : (d i : ℕ) → (d ≡ i → ⊥) → nat_lt d (i + 1) ≡ nat_lt d i
-lt_other d i e = grind (arith, nat_tests)
-
-lt_all : (d n : ℕ) → d < n → nat_lt d n ≡ true
-lt_all d n e = grind (arith, nat_tests)
-
--- the next one passes, and goes in
-pub one_taken : (test set more : ℕ → Bool) (i : ℕ) → PassBelow test i set → test i ≡ true → ((d : ℕ) → more d ≡ set d || d == i) → PassBelow test (i + 1) more
-one_taken test set more i old own new d = elim (eqb_tells d i) [
-  | inl same ↦ new d ∙ or_right (set d) (d == i) same.0 ∙ sym (both (nat_lt d (i + 1)) (test d) (lt_same d i same.1) (ap test same.1 ∙ own))
-  | inr differ ↦ new d ∙ or_left (set d) (d == i) differ.0 ∙ old d ∙ ap (λ b. b && test d) (sym (lt_other d i differ.1))
-]
-
--- or it doesn't, and the set stays
-pub one_left : (test set : ℕ → Bool) (i : ℕ) → PassBelow test i set → test i ≡ false → PassBelow test (i + 1) set
-one_left test set i old own d = elim (eqb_tells d i) [
-  | inl same ↦ old d ∙ neither (nat_lt d i) (test d) (ap test same.1 ∙ own) ∙ sym (neither (nat_lt d (i + 1)) (test d) (ap test same.1 ∙ own))
-  | inr differ ↦ old d ∙ ap (λ b. b && test d) (sym (lt_other d i differ.1))
-]
-
--- no disk behind the rows is a member that shows the group
 past_rows : (s : Survey) (id : ℕ) (g : Descriptor) (d : ℕ) → length s.rows ≤ d → members_in (surveyed s) all_disks id g d ≡ false
 past_rows s id g d past = ap (λ (o : Option (Stamped Descriptor)). passes (is_of id) o && has_room (surveyed s) d g) (descriptor_past s d past)
 
 pub all_taken : (s : Survey) (id : ℕ) (g : Descriptor) (n : ℕ) (set : ℕ → Bool) → length s.rows ≤ n → PassBelow (members_in (surveyed s) all_disks id g) n set → (d : ℕ) → set d ≡ members_in (surveyed s) all_disks id g d
-all_taken s id g n set all pass d = elim (cases_lt d n) [
-  | inl less ↦ pass d ∙ ap (λ b. b && members_in (surveyed s) all_disks id g d) (lt_all d n less)
-  | inr more ↦ pass d ∙ neither (nat_lt d n) (members_in (surveyed s) all_disks id g d) (past_rows s id g d (omega arith)) ∙ sym (past_rows s id g d (omega arith))
-]
+all_taken s id g n set all pass = all_pass (members_in (surveyed s) all_disks id g) set n (λ d past. past_rows s id g d (omega (arith, all, past))) pass
 
 -- what a row tells is whether its disk is one
 pub member_told :

@@ -12,7 +12,7 @@ use Rattle.lvm_quorum.specs.declared.choice.ChooseFault.{ChooseFault}
 use Rattle.lvm_quorum.specs.declared.choice.ChooseFault.TheVariants as fault
 
 -- some disk's newest descriptor gives the group this name
-pub record IsNamed (c : Contents) (text : List ℕ) (id : ℕ) : Type 0 where
+pub record HasName (c : Contents) (text : List ℕ) (id : ℕ) : Type 0 where
   pub disk : ℕ
   pub newest : Stamped Descriptor
   pub on : c.descriptor disk ≡ Some newest
@@ -21,12 +21,12 @@ pub record IsNamed (c : Contents) (text : List ℕ) (id : ℕ) : Type 0 where
 
 -- no group of the name has a status on a voter
 abbrev pub HasNoRecord : Contents → List ℕ → Type 0
-HasNoRecord c name = (id : ℕ) → IsNamed c name id → status_among c all_disks id ≡ None
+HasNoRecord c name = (id : ℕ) → HasName c name id → status_among c all_disks id ≡ None
 
 -- one of them has
 pub record HasRecord (c : Contents) (name : List ℕ) : Type 0 where
   pub id : ℕ
-  pub named : IsNamed c name id
+  pub named : HasName c name id
   pub status : Stamped Status
   pub found : status_among c all_disks id ≡ Some status
 
@@ -35,13 +35,13 @@ pub record IsAmbiguous (c : Contents) (name : List ℕ) : Type 0 where
   pub one : ℕ
   pub other : ℕ
   pub differ : one ≡ other → ⊥
-  pub one_named : IsNamed c name one
-  pub other_named : IsNamed c name other
+  pub one_named : HasName c name one
+  pub other_named : HasName c name other
 
 -- just this group has the name, this is its newest descriptor, and a voter has a status
 pub record IsOnly (c : Contents) (name : List ℕ) (id : ℕ) (group : Stamped Descriptor) (status : Stamped Status) : Type 0 where
-  pub named : IsNamed c name id
-  pub only : (other : ℕ) → IsNamed c name other → other ≡ id
+  pub named : HasName c name id
+  pub only : (other : ℕ) → HasName c name other → other ≡ id
   pub newest : descriptor_among c all_disks id ≡ Some group
   pub found : status_among c all_disks id ≡ Some status
 
@@ -53,7 +53,7 @@ pub record IsGreatestEpoch (c : Contents) (id seen : ℕ) : Type 0 where
       ⊎ ((d : ℕ) × (r : Stamped Status) × (c.status d ≡ Some r) × (r.value.id ≡ id) × (r.stamp.epoch ≡ seen))
 
 -- The one group of the name, which holds a quorum, as the disks show it.
-pub record IsChosen (c : Contents) (name : List ℕ) (choice : Choice) : Type 0 where
+pub record IsChosenGroup (c : Contents) (name : List ℕ) (choice : Choice) : Type 0 where
   pub id : ℕ
   pub group : Stamped Descriptor
   pub status : Stamped Status
@@ -76,7 +76,7 @@ pub record LacksQuorum (c : Contents) (name : List ℕ) (have total : ℕ) : Typ
 
 -- What the choice may answer, each refusal exactly where it holds and those before it don't; want of memory is free.
 abbrev pub ChooseGives : Contents → List ℕ → Result Choice ChooseFault → Type 0
-ChooseGives c name (Ok choice) = IsChosen c name choice
+ChooseGives c name (Ok choice) = IsChosenGroup c name choice
 ChooseGives c name (Err fault.NoRecord) = HasNoRecord c name
 ChooseGives c name (Err fault.Ambiguous) = HasRecord c name × IsAmbiguous c name
 ChooseGives c name (Err (fault.NoQuorum have total)) = LacksQuorum c name have total

@@ -15,12 +15,12 @@ use Rattle.lvm_quorum.specs.declared.shown.Shown.{Shown}
 use Rattle.lvm_quorum.specs.Choosing.{IsGreatestEpoch}
 
 -- a record that is shown, under its stamp
-abbrev pub stamped : {X : Type 0} → Shown X → Stamped X
-stamped shown = record { stamp = shown.stamp; value = shown.value.now }
+abbrev pub shown_record : {X : Type 0} → Shown X → Stamped X
+shown_record shown = record { stamp = shown.stamp; value = shown.value.now }
 
-abbrev pub stamped_if : {X : Type 0} → Option (Shown X) → Option (Stamped X)
-stamped_if None = None
-stamped_if (Some shown) = Some (stamped shown)
+abbrev pub shown_record_if : {X : Type 0} → Option (Shown X) → Option (Stamped X)
+shown_record_if None = None
+shown_record_if (Some shown) = Some (shown_record shown)
 
 -- the epoch of a record, 0 where there is none
 abbrev pub epoch_of : {X : Type 0} → Option (Stamped X) → ℕ
@@ -45,9 +45,9 @@ pub record IsNamedBy (shown : Option (Stamped Descriptor)) (text : List ℕ) (id
 
 -- a group as the disks show it: its newest descriptor, its voters and their newest status
 pub record IsGroup (c : Contents) (id : ℕ) (group : Group) : Type 0 where
-  pub descriptor : descriptor_among c all_disks id ≡ Some (stamped group.descriptor)
+  pub descriptor : descriptor_among c all_disks id ≡ Some (shown_record group.descriptor)
   pub voters : (d : ℕ) → has group.voters d ≡ is_voter c all_disks id d
-  pub status : stamped_if group.status ≡ status_among c all_disks id
+  pub status : shown_record_if group.status ≡ status_among c all_disks id
 
 -- the group as it is chosen: it holds a quorum
 pub record IsChoiceOf (c : Contents) (id : ℕ) (choice : Choice) : Type 0 where

@@ -1,8 +1,2 @@
 pub mod Choosing
 pub mod Groups
-pub mod Homes
-pub mod Written
-pub mod Parts
-pub mod Writes
-pub mod Shows
-pub mod Notes

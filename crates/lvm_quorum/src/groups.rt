@@ -7,8 +7,9 @@ ghost use Rattle.lvm_num.specs.Geometry.{sectors_needed};
 ghost use Rattle.lvm_num.specs.Record.{newest_below};
 ghost use Rattle.lvm_num.specs.Votes.{all_disks};
 ghost use Rattle.lvm_kept.specs.Group.{descriptor_among, members_in, if_passes, passes, is_of, is_status_of};
-ghost use Rattle.lvm_survey.specs.Surveyed.{surveyed, under};
-ghost use Rattle.lvm_quorum.specs.Groups.{stamped_if, IsGroup, IsLastEpoch};
+ghost use Rattle.lvm_survey.specs.Surveyed.{surveyed};
+ghost use Rattle.lvm_area.specs.Reading.{under};
+ghost use Rattle.lvm_quorum.specs.Groups.{shown_record_if, IsGroup, IsLastEpoch};
 ghost use Rattle.lvm_survey.specs.Rows.{AreRows};
 
 use crate::shown::{Shown, descriptor_of, epoch_of, newer, status_of};
@@ -39,7 +40,7 @@ pub fn group_of(survey: &Survey, id: u64) -> Option<Group<'_>>
 }
 
 fn newest_descriptor(survey: &Survey, id: u64) -> Option<Shown<'_, Descriptor>>
-    ensures { stamped_if result ≡ descriptor_among (surveyed survey.now) all_disks id }
+    ensures { shown_record_if result ≡ descriptor_among (surveyed survey.now) all_disks id }
 {
     let mut newest = None;
     for row in survey.rows.as_slice() {
@@ -96,7 +97,7 @@ fn sectors_needed(mib: u16, pps: u16) -> u64
 
 fn newest_status(survey: &Survey, id: u64, voters: DiskSet) -> Option<Shown<'_, Status>>
     requires { AreRows survey.now }
-    ensures { stamped_if result ≡ newest_below (λ d. if has voters d then if_passes (is_status_of id) ((surveyed survey.now).status d) else None) (length survey.now.rows) }
+    ensures { shown_record_if result ≡ newest_below (λ d. if has voters d then if_passes (is_status_of id) ((surveyed survey.now).status d) else None) (length survey.now.rows) }
 {
     let mut newest = None;
     for row in survey.rows.as_slice() {

@@ -2,8 +2,9 @@
 ghost use Rattle.std.specs.Prelude.{◌≡◌, ◌≢◌, ℕ, IfSome, IfNone, IsTrue, IsFalse, is_some};
 ghost use Rattle.lvm_num.specs.Votes.{all_disks};
 ghost use Rattle.lvm_kept.specs.Group.{status_among};
-ghost use Rattle.lvm_survey.specs.Surveyed.{surveyed, under};
-ghost use Rattle.lvm_quorum.specs.Choosing.{IsNamed, HasRecord, HasNoRecord};
+ghost use Rattle.lvm_survey.specs.Surveyed.{surveyed};
+ghost use Rattle.lvm_area.specs.Reading.{under};
+ghost use Rattle.lvm_quorum.specs.Choosing.{HasName, HasRecord, HasNoRecord};
 ghost use Rattle.lvm_quorum.specs.Groups.{IsNamedBy};
 ghost use Rattle.lvm_survey.specs.Rows.{AreRows};
 
@@ -13,8 +14,8 @@ use lvm_survey::{Survey, SurveyRow};
 
 /// The first group that has the name.
 pub fn first_named(survey: &Survey, name: &Name) -> Option<u64>
-    ensures some { IfSome result (IsNamed (surveyed survey.now) name.now) }
-    ensures none { IfNone result ((id : ℕ) → IsNamed (surveyed survey.now) name.now id → ⊥) }
+    ensures some { IfSome result (HasName (surveyed survey.now) name.now) }
+    ensures none { IfNone result ((id : ℕ) → HasName (surveyed survey.now) name.now id → ⊥) }
 {
     for row in survey.rows.as_slice() {
         if let Some(id) = named_by(row, name) {
@@ -27,8 +28,8 @@ pub fn first_named(survey: &Survey, name: &Name) -> Option<u64>
 /// Another group that has the name.
 pub fn other_named(survey: &Survey, name: &Name, id: u64) -> Option<u64>
     ensures differs { IfSome result (λ other. id ≢ other) }
-    ensures some { IfSome result (IsNamed (surveyed survey.now) name.now) }
-    ensures none { IfNone result ((other : ℕ) → IsNamed (surveyed survey.now) name.now other → other ≡ id) }
+    ensures some { IfSome result (HasName (surveyed survey.now) name.now) }
+    ensures none { IfNone result ((other : ℕ) → HasName (surveyed survey.now) name.now other → other ≡ id) }
 {
     for row in survey.rows.as_slice() {
         if let Some(other) = named_by(row, name) {

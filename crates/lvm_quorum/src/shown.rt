@@ -2,8 +2,8 @@
 ghost use Rattle.std.specs.Prelude.{◌≡◌};
 ghost use Rattle.lvm_num.specs.Record.{stamp_lt, newer};
 ghost use Rattle.lvm_kept.specs.Group.{if_passes, is_of, is_status_of};
-ghost use Rattle.lvm_survey.specs.Surveyed.{under};
-ghost use Rattle.lvm_quorum.specs.Groups.{stamped_if, epoch_of};
+ghost use Rattle.lvm_area.specs.Reading.{under};
+ghost use Rattle.lvm_quorum.specs.Groups.{shown_record_if, epoch_of};
 
 use lvm_num::{Descriptor, Stamp, Status};
 use lvm_survey::SurveyRow;
@@ -17,7 +17,7 @@ pub struct Shown<'a, T> {
 
 /// The newer of two; of two with one stamp the first.
 pub fn newer<'a, T>(one: Option<Shown<'a, T>>, other: Option<Shown<'a, T>>) -> Option<Shown<'a, T>>
-    ensures { stamped_if result ≡ newer (stamped_if one.entry) (stamped_if other.entry) }
+    ensures { shown_record_if result ≡ newer (shown_record_if one.entry) (shown_record_if other.entry) }
 {
     match (one, other) {
         (None, other) => other,
@@ -34,7 +34,7 @@ pub fn newer<'a, T>(one: Option<Shown<'a, T>>, other: Option<Shown<'a, T>>) -> O
 
 /// The epoch of a record, 0 where there is none.
 pub fn epoch_of<T>(shown: Option<Shown<'_, T>>) -> u64
-    ensures { result ≡ epoch_of (stamped_if shown.entry) }
+    ensures { result ≡ epoch_of (shown_record_if shown.entry) }
 {
     match shown {
         Some(shown) => shown.stamp.epoch,
@@ -44,7 +44,7 @@ pub fn epoch_of<T>(shown: Option<Shown<'_, T>>) -> u64
 
 /// The newest descriptor of a disk, if it is of the group.
 pub fn descriptor_of(row: &SurveyRow, id: u64) -> Option<Shown<'_, Descriptor>>
-    ensures { stamped_if result ≡ if_passes (is_of id) (under row.now.descriptor row.now.descriptor_stamp) }
+    ensures { shown_record_if result ≡ if_passes (is_of id) (under row.now.descriptor row.now.descriptor_stamp) }
 {
     let value = row.descriptor.as_ref()?;
     if value.id != id {
@@ -56,7 +56,7 @@ pub fn descriptor_of(row: &SurveyRow, id: u64) -> Option<Shown<'_, Descriptor>>
 
 /// The newest status of a disk, if it is of the group.
 pub fn status_of(row: &SurveyRow, id: u64) -> Option<Shown<'_, Status>>
-    ensures { stamped_if result ≡ if_passes (is_status_of id) (under row.now.status row.now.status_stamp) }
+    ensures { shown_record_if result ≡ if_passes (is_status_of id) (under row.now.status row.now.status_stamp) }
 {
     let value = row.status.as_ref()?;
     if value.id != id {

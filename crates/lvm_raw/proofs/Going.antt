@@ -12,9 +12,9 @@ use Rattle.lvm_transfer.specs.declared.moves.Moved.{Moved}
 use Rattle.lvm_transfer.specs.declared.moves.Moved.TheVariants as moved
 use Rattle.lvm_raw.specs.declared.fault.RawFault.{RawFault}
 use Rattle.lvm_raw.specs.declared.fault.RawFault.TheVariants as fault
-use Rattle.lvm_raw.specs.Requests.{HasEnded, HasFront, IsHeard}
-use Rattle.lvm_raw.specs.Keeping.{KeepsShelf, StaysBehind, HaveLanded, NoneComesOn, HasCause, AnswerHasCause, IsUnstuck, RangeKeeps, PieceKeeps}
-use Rattle.lvm_raw.specs.Pieces.{piece_end, answer_after, answer_of, grown, with_front, Settles, PiecesGo, NoPiece, OnePiece, RangeGoes, WentThrough, WasBroken}
+use Rattle.lvm_raw.specs.Requests.{WasAnswered, HasFront, IsHeard}
+use Rattle.lvm_raw.specs.Keeping.{KeepsArrangements, KeepsOlder, HaveLanded, NoneComesOn, MoveRose, AnswerHasCause, IsUnstuck, RangeKeeps, PieceKeeps}
+use Rattle.lvm_raw.specs.Pieces.{piece_end, answer_after, answer_of, grown, with_front, SettlesPiece, PiecesGo, NoPiece, OnePiece, RangeGoes, WentThrough, WasBroken}
 
 -- ---- counts
 
@@ -28,7 +28,7 @@ rose_since a b c earlier rose = record { later = omega (arith, earlier, rose.lat
 pub rose_whole : (whole left a b c : ℕ) → left ≤ whole → RoseBy (whole - left) a b → RoseBy left b c → RoseBy whole a c
 rose_whole whole left a b c falls one two = record { later = omega (arith, one.later, two.later); risen = omega (arith, falls, one.later, one.risen, two.later, two.risen) }
 
-pub shelf_more : (a b c : ℕ) (old mid new : Device) → KeepsShelf a b old mid → KeepsShelf b c mid new → KeepsShelf a c old new
+pub shelf_more : (a b c : ℕ) (old mid new : Device) → KeepsArrangements a b old mid → KeepsArrangements b c mid new → KeepsArrangements a c old new
 shelf_more a b c old mid new one two = record {
   sizes = two.sizes ∙ one.sizes;
   arranges = two.arranges ∙ one.arranges;
@@ -37,7 +37,7 @@ shelf_more a b c old mid new one two = record {
   waited = (let p = one.waited in let q = two.waited in let l = one.falls in let k = two.falls in record { later = omega (arith, p.later, q.later); risen = omega (arith, l, k, p.later, p.risen, q.later, q.risen) });
 }
 
-pub shelf_none : (a : ℕ) (old : Device) → KeepsShelf a a old old
+pub shelf_none : (a : ℕ) (old : Device) → KeepsArrangements a a old old
 shelf_none a old = record { sizes = refl; arranges = refl; orders = refl; falls = omega arith; waited = record { later = omega arith; risen = omega arith } }
 
 -- what rose since has risen from before
@@ -74,28 +74,49 @@ range_more {X} {Y} run disk a b c old mid new x given one two =
 pub range_none : {X : Type 0} (run disk a : ℕ) (old : Moment) (given : Result X RawFault) → IsReady old.device → AnswerHasCause disk a old.device.counts old.device.counts given → RangeKeeps run disk a a old old given
 range_none run disk a old given ready cause = record { keeps = keeps_still run old; calm = λ free past calm. calm; behind = λ m behind. behind; shelf = shelf_none a old.device; power = ready.power; ready = λ free. ready; landed = λ free closed. closed; later = λ m later. later; cause = cause }
 
+still_unstuck : {X Y : Type 0} (why : RawFault) → IsUnstuck {X = Y} (Err why) → IsUnstuck {X = X} (Err why)
+still_unstuck why unstuck is = let e : why ≡ fault.Stuck = cc (is) in unstuck (ap Err e)
+
+-- a part of a command that breaks off, as of the whole
+pub range_err : {X Y : Type 0} (run disk a b : ℕ) (old new : Moment) (why : RawFault) → RangeKeeps {X = X} run disk a b old new (Err why) → RangeKeeps {X = Y} run disk a b old new (Err why)
+range_err {X} {Y} run disk a b old new why keeps = record {
+  keeps = keeps.keeps;
+  calm = λ unstuck. keeps.calm (still_unstuck why unstuck);
+  behind = keeps.behind;
+  shelf = keeps.shelf;
+  power = keeps.power;
+  ready = λ unstuck. keeps.ready (still_unstuck why unstuck);
+  landed = λ unstuck. keeps.landed (still_unstuck why unstuck);
+  later = keeps.later;
+  cause = keeps.cause;
+}
+
+pub ok_both : {X : Type 0} (given : Result X RawFault) (P : X → Type 0) {Q : Type 0} → Q → IfOk given P → IfOk given (λ x. P x × Q)
+ok_both (Ok x) P q is = (is, q)
+ok_both (Err why) P q is = tt
+
 -- ---- how a piece is settled
 
-heard_of : (how : Moved) → HasEnded how → IsHeard how
+heard_of : (how : Moved) → WasAnswered how → IsHeard how
 heard_of (moved.Done back) ended = tt
 heard_of (moved.Failed back) ended = tt
 heard_of (moved.Dark started) ended = absurd ended
 heard_of moved.Stuck ended = absurd ended
 
-answer_some : {X : Type 0} (failed why : RawFault) (more : Buffer → X → X) (how : Moved) → HasEnded how → answer_after failed more how (Err why) ≡ Err why
+answer_some : {X : Type 0} (failed why : RawFault) (more : Buffer → X → X) (how : Moved) → WasAnswered how → answer_after failed more how (Err why) ≡ Err why
 answer_some failed why more (moved.Done back) ended = refl
 answer_some failed why more (moved.Failed back) ended = refl
 answer_some failed why more (moved.Dark started) ended = absurd ended
 answer_some failed why more moved.Stuck ended = absurd ended
 
 -- a piece that the disk answered, with its buffer back
-pub settled_ended : (failed : RawFault) (how : Moved) (old new : Option RawFault) (back : Buffer) → Settles failed how old new (Ok back) → HasEnded how
+pub settled_ended : (failed : RawFault) (how : Moved) (old new : Option RawFault) (back : Buffer) → SettlesPiece failed how old new (Ok back) → WasAnswered how
 settled_ended failed (moved.Done b) old new back is = tt
 settled_ended failed (moved.Failed b) old new back is = tt
 settled_ended failed (moved.Dark started) old new back is = absurd (let e = is.0 in cc (e))
 settled_ended failed moved.Stuck old new back is = absurd (let e = is.0 in cc (e))
 
-pub settled_answer : {X : Type 0} (failed : RawFault) (more : Buffer → X → X) (how : Moved) (old new : Option RawFault) (given : Result Buffer RawFault) (x : X) → HasEnded how → Settles failed how old new given
+pub settled_answer : {X : Type 0} (failed : RawFault) (more : Buffer → X → X) (how : Moved) (old new : Option RawFault) (given : Result Buffer RawFault) (x : X) → WasAnswered how → SettlesPiece failed how old new given
     → answer_after failed more how (answer_of x old) ≡ answer_of (grown more how x) new
 settled_answer failed more (moved.Done b) None new given x ended is = ap (answer_of (more b x)) (sym is.1)
 settled_answer failed more (moved.Done b) (Some why) new given x ended is = ap (answer_of (more b x)) (sym is.1)
@@ -105,8 +126,8 @@ settled_answer failed more (moved.Dark started) old new given x ended is = absur
 settled_answer failed more moved.Stuck old new given x ended is = absurd ended
 
 -- and one that it didn't answer
-pub unsettled : {X : Type 0} (failed : RawFault) (more : Buffer → X → X) (how : Moved) (old new : Option RawFault) (why : RawFault) (x : X) → Settles failed how old new (Err why)
-    → (HasEnded how → ⊥) × (answer_after failed more how (answer_of x old) ≡ Err why)
+pub unsettled : {X : Type 0} (failed : RawFault) (more : Buffer → X → X) (how : Moved) (old new : Option RawFault) (why : RawFault) (x : X) → SettlesPiece failed how old new (Err why)
+    → (WasAnswered how → ⊥) × (answer_after failed more how (answer_of x old) ≡ Err why)
 unsettled failed more (moved.Done b) old new why x is = absurd (let e = is.0 in cc (e))
 unsettled failed more (moved.Failed b) old new why x is = absurd (let e = is.0 in cc (e))
 unsettled failed more (moved.Dark started) None new why x is = (λ ended. ended, (let e = is.0 in cc (e)))
@@ -125,8 +146,8 @@ noted_later : (failed : RawFault) (disk : ℕ) (old mid new : Counts) (noted : O
 noted_later failed disk old mid new None falls is = tt
 noted_later failed disk old mid new (Some why) falls is = (is.0, rose_later (old.faults disk) (mid.faults disk) (new.faults disk) is.1 (falls.faults disk))
 
-noted_more : (failed : RawFault) (disk patience : ℕ) (old mid new : Counts) (how : Moved) (was is : Option RawFault) (given : Result Buffer RawFault) → NoneFalls old mid → NoneFalls mid new → HasEnded how
-    → HasCause disk patience mid new how → Settles failed how was is given → Noted failed disk old mid was → Noted failed disk old new is
+noted_more : (failed : RawFault) (disk patience : ℕ) (old mid new : Counts) (how : Moved) (was is : Option RawFault) (given : Result Buffer RawFault) → NoneFalls old mid → NoneFalls mid new → WasAnswered how
+    → MoveRose disk patience mid new how → SettlesPiece failed how was is given → Noted failed disk old mid was → Noted failed disk old new is
 noted_more failed disk patience old mid new (moved.Done b) was is given up falls ended cause settles noted = subst (Noted failed disk old new) (sym settles.1) (noted_later failed disk old mid new was falls noted)
 noted_more failed disk patience old mid new (moved.Failed b) None is given up falls ended cause settles noted =
     subst (Noted failed disk old new) (sym settles.1) (refl, rose_since (old.faults disk) (mid.faults disk) (new.faults disk) (up.faults disk) cause.here)
@@ -137,7 +158,7 @@ noted_more failed disk patience old mid new moved.Stuck was is given up falls en
 -- ---- what was read
 
 -- a piece more was got, where no failure is noted
-pub got_more : (failed : RawFault) (n k : ℕ) (how : Moved) (was is : Option RawFault) (given : Result Buffer RawFault) (blocks : List Sector) → HasEnded how → HasFront n how → Settles failed how was is given → (was ≡ None → length blocks ≡ k)
+pub got_more : (failed : RawFault) (n k : ℕ) (how : Moved) (was is : Option RawFault) (given : Result Buffer RawFault) (blocks : List Sector) → WasAnswered how → HasFront n how → SettlesPiece failed how was is given → (was ≡ None → length blocks ≡ k)
     → is ≡ None → length (grown (with_front n) how blocks) ≡ k + n
 got_more failed n k (moved.Done b) was is given blocks ended front settles so_far none =
     let before : length blocks ≡ k = so_far (sym settles.1 ∙ none) in
@@ -162,8 +183,8 @@ module _ {X : Type 0} (Piece : ℕ → ℕ → ℕ → Moment → Moment → Mov
     pub keeps : Keeps run first now
     pub calm : StaysCalm first now
     pub none : IsInNoGroup now.device disk
-    pub behind : StaysBehind first.device now.device
-    pub shelf : KeepsShelf whole left first.device now.device
+    pub behind : KeepsOlder first.device now.device
+    pub shelf : KeepsArrangements whole left first.device now.device
     pub ready : IsReady now.device
     pub landed : HaveLanded first.facts → HaveLanded now.facts
     pub later : NoneComesOn first.facts now.facts
@@ -189,7 +210,7 @@ module _ {X : Type 0} (Piece : ℕ → ℕ → ℕ → Moment → Moment → Mov
     -- one piece more
     pub one_more :
         (patience after : ℕ) (new : Moment) (how : Moved) (is : Option RawFault) (given : Result Buffer RawFault) → from < end → Piece from (piece_end from end - from) patience now new how
-        → PieceKeeps run disk left after now new how → HasEnded how → Settles failed how noted is given → SoFar (piece_end from end) after new (grown (more (piece_end from end - from)) how x) is
+        → PieceKeeps run disk left after now new how → WasAnswered how → SettlesPiece failed how noted is given → SoFar (piece_end from end) after new (grown (more (piece_end from end - from)) how x) is
     one_more patience after new how is given within piece keeps ended settles = record {
       low = omega (arith, so_far.low, past_from);
       high = omega arith;
@@ -211,7 +232,7 @@ module _ {X : Type 0} (Piece : ℕ → ℕ → ℕ → Moment → Moment → Mov
     -- the same, up to a block that is the piece's end
     pub one_more_to :
         (to : ℕ) (patience after : ℕ) (new : Moment) (how : Moved) (is : Option RawFault) (given : Result Buffer RawFault) → to ≡ piece_end from end → from < end → Piece from (to - from) patience now new how
-        → PieceKeeps run disk left after now new how → HasEnded how → Settles failed how noted is given → SoFar to after new (grown (more (to - from)) how x) is
+        → PieceKeeps run disk left after now new how → WasAnswered how → SettlesPiece failed how noted is given → SoFar to after new (grown (more (to - from)) how x) is
     one_more_to to patience after new how is given to_is within piece keeps ended settles =
         let P = λ (t : ℕ). (Piece from (t - from) patience now new how → SoFar t after new (grown (more (t - from)) how x) is) in
         subst P (sym to_is) (λ piece. one_more patience after new how is given within piece keeps ended settles) piece
@@ -229,7 +250,7 @@ module _ {X : Type 0} (Piece : ℕ → ℕ → ℕ → Moment → Moment → Mov
       )
 
       -- a piece that the disk didn't answer
-      broken_cause : (how : Moved) (old mid new : Counts) (noted is : Option RawFault) (why : RawFault) → NoneFalls old mid → NoneFalls mid new → left ≤ whole → RoseBy (whole - left) old.waits mid.waits → HasCause disk left mid new how → Settles failed how noted is (Err why) → Noted failed disk old mid noted
+      broken_cause : (how : Moved) (old mid new : Counts) (noted is : Option RawFault) (why : RawFault) → NoneFalls old mid → NoneFalls mid new → left ≤ whole → RoseBy (whole - left) old.waits mid.waits → MoveRose disk left mid new how → SettlesPiece failed how noted is (Err why) → Noted failed disk old mid noted
           → AnswerHasCause {X = X} disk whole old new (Err why)
       broken_cause (moved.Done b) old mid new noted is why up falls low waits cause settles was = absurd (let e = settles.0 in cc (e))
       broken_cause (moved.Failed b) old mid new noted is why up falls low waits cause settles was = absurd (let e = settles.0 in cc (e))
@@ -240,7 +261,7 @@ module _ {X : Type 0} (Piece : ℕ → ℕ → ℕ → Moment → Moment → Mov
       broken_cause moved.Stuck old mid new noted is why up falls low waits cause settles was =
           subst (AnswerHasCause {X = Buffer} disk whole old new) (sym settles.0) (rose_whole whole left old.waits mid.waits new.waits low waits cause)
 
-      heard_unless : (how : Moved) (noted is : Option RawFault) (why : RawFault) → Settles failed how noted is (Err why) → IsUnstuck {X = X} (Err why) → IsHeard how
+      heard_unless : (how : Moved) (noted is : Option RawFault) (why : RawFault) → SettlesPiece failed how noted is (Err why) → IsUnstuck {X = X} (Err why) → IsHeard how
       heard_unless (moved.Done b) noted is why settles unstuck = tt
       heard_unless (moved.Failed b) noted is why settles unstuck = tt
       heard_unless (moved.Dark started) noted is why settles unstuck = tt
@@ -248,7 +269,7 @@ module _ {X : Type 0} (Piece : ℕ → ℕ → ℕ → Moment → Moment → Mov
 
       pub was_broken :
           (patience after : ℕ) (new : Moment) (how : Moved) (is : Option RawFault) (why : RawFault) → from < end → Piece from (piece_end from end - from) patience now new how → PieceKeeps run disk left after now new how
-          → Settles failed how noted is (Err why) → RangeGoes Piece answer at end first (Ok nothing) new (Err why) × RangeKeeps {X = X} run disk whole after first new (Err why)
+          → SettlesPiece failed how noted is (Err why) → RangeGoes Piece answer at end first (Ok nothing) new (Err why) × RangeKeeps {X = X} run disk whole after first new (Err why)
       was_broken patience after new how is why within piece keeps settles =
           let open_end = unsettled failed (more (piece_end from end - from)) how noted is why x settles in (
             WasBroken so_far.went within piece open_end.0 (sym open_end.1),
@@ -267,6 +288,6 @@ module _ {X : Type 0} (Piece : ℕ → ℕ → ℕ → Moment → Moment → Mov
 
       pub was_broken_at :
           (to : ℕ) (patience after : ℕ) (new : Moment) (how : Moved) (is : Option RawFault) (why : RawFault) → to ≡ piece_end from end → from < end → Piece from (to - from) patience now new how → PieceKeeps run disk left after now new how
-          → Settles failed how noted is (Err why) → RangeGoes Piece answer at end first (Ok nothing) new (Err why) × RangeKeeps {X = X} run disk whole after first new (Err why)
+          → SettlesPiece failed how noted is (Err why) → RangeGoes Piece answer at end first (Ok nothing) new (Err why) × RangeKeeps {X = X} run disk whole after first new (Err why)
       was_broken_at to patience after new how is why to_is within piece keeps settles =
           was_broken patience after new how is why within (subst (λ (t : ℕ). Piece from (t - from) patience now new how) to_is piece) keeps settles

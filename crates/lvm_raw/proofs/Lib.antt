@@ -6,3 +6,4 @@ pub mod Spanning
 pub mod Looking
 pub mod Going
 pub mod Rooms
+pub mod Answering

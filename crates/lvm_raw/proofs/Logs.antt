@@ -19,7 +19,7 @@ use Rattle.lvm_vol.specs.Log.{with_fact, next_request, asked, request_of, has_id
 use Rattle.lvm_vol.specs.declared.entry.Outcome.TheVariants as outcome
 use Rattle.lvm_transfer.specs.declared.moves.Moved.{Moved}
 use Rattle.lvm_transfer.specs.declared.moves.Moved.TheVariants as moved
-use Rattle.lvm_raw.specs.Requests.{landing_ends, cut_ends, write_ends, read_ends, HasEnded, IsHeard}
+use Rattle.lvm_raw.specs.Requests.{landing_ends, cut_ends, write_ends, read_ends, WasAnswered, IsHeard}
 
 -- an entry that begins no request leaves those that began
 pub begun_more : (facts : List Fact) (f : Fact) → begun_by f ≡ None → begun (facts ++ f ∷ []) ≡ begun facts
@@ -115,13 +115,13 @@ module _ (log : Log) (r : Request) (how : Outcome) (got : List Sector) where
       let three = blocks_more ((log.facts ++ Begun r ∷ []) ++ Landed r how true got ∷ []) (Taken r) refl in
       omega (arith, one, two, three, spare)
 
-pub write_bytes : (log : Log) (r : Request) (how : Moved) → HasEnded how → 512 * r.count ≤ spare_bytes log → spare_bytes (record log { facts = write_ends (log.facts ++ Begun r ∷ []) r how }) + 512 * r.count ≡ spare_bytes log
+pub write_bytes : (log : Log) (r : Request) (how : Moved) → WasAnswered how → 512 * r.count ≤ spare_bytes log → spare_bytes (record log { facts = write_ends (log.facts ++ Begun r ∷ []) r how }) + 512 * r.count ≡ spare_bytes log
 write_bytes log r (moved.Done back) ended spare = bytes_after log r outcome.Done [] spare
 write_bytes log r (moved.Failed back) ended spare = bytes_after log r outcome.Lost [] spare
 write_bytes log r (moved.Dark started) ended spare = absurd ended
 write_bytes log r moved.Stuck ended spare = absurd ended
 
-pub read_bytes : (log : Log) (r : Request) (how : Moved) → HasEnded how → 512 * r.count ≤ spare_bytes log → spare_bytes (record log { facts = read_ends (log.facts ++ Begun r ∷ []) r how }) + 512 * r.count ≡ spare_bytes log
+pub read_bytes : (log : Log) (r : Request) (how : Moved) → WasAnswered how → 512 * r.count ≤ spare_bytes log → spare_bytes (record log { facts = read_ends (log.facts ++ Begun r ∷ []) r how }) + 512 * r.count ≡ spare_bytes log
 read_bytes log r (moved.Done back) ended spare = bytes_after log r outcome.Got (take r.count back.sectors) spare
 read_bytes log r (moved.Failed back) ended spare = bytes_after log r outcome.ReadFailed [] spare
 read_bytes log r (moved.Dark started) ended spare = absurd ended

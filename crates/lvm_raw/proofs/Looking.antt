@@ -16,14 +16,14 @@ use Rattle.lvm_steps.proofs.Entering.{quiet_goes_on, calm_goes_on}
 use Rattle.lvm_steps.proofs.Writing.{still_shows_none}
 use Rattle.lvm_stamps.proofs.Shelves.{unwritten_stays_behind}
 use Rattle.lvm_transfer.specs.Transfer.{Relights}
-use Rattle.lvm_survey.specs.Surveying.{OnlyReads, IsCutOff}
-use Rattle.lvm_survey.specs.Surveyed.{descriptor_shown}
+use Rattle.lvm_area.specs.Reading.{OnlyReads, IsCutOff}
+use Rattle.lvm_area.specs.Reading.{descriptor_shown}
 use Rattle.lvm_raw.specs.declared.fault.RawFault.{RawFault}
 use Rattle.lvm_raw.specs.declared.fault.RawFault.TheVariants as fault
 use Rattle.lvm_vol.specs.Legal.{IsLater}
 use Rattle.lvm_steps.proofs.Spans.{later_append}
 use Rattle.lvm_raw.proofs.Logs.{cut_lands}
-use Rattle.lvm_raw.specs.Keeping.{HaveLanded, NoneComesOn, KeepsShelf, StaysBehind, AnswerHasCause, IsUnstuck, RangeKeeps}
+use Rattle.lvm_raw.specs.Keeping.{HaveLanded, NoneComesOn, KeepsArrangements, KeepsOlder, AnswerHasCause, IsUnstuck, RangeKeeps}
 use Rattle.lvm_raw.specs.Looking.{ShowsDescriptor, FindsNone, LookFails, look_ends}
 use Rattle.lvm_raw.specs.Raw.{WasServed}
 
@@ -62,10 +62,10 @@ none_here old new disk still rests sizes media none image may = none image (go (
 -- ---- what it leaves
 
 module _ (a b : ℕ) (old new : Device) (reads : OnlyReads a b old new) where
-  pub reads_shelf : KeepsShelf a b old new
+  pub reads_shelf : KeepsArrangements a b old new
   reads_shelf = record { sizes = reads.unwritten.sizes; arranges = reads.unwritten.arranges; orders = reads.unwritten.orders; falls = reads.falls; waited = reads.waited }
 
-  pub reads_behind : StaysBehind old new
+  pub reads_behind : KeepsOlder old new
   reads_behind m behind = unwritten_stays_behind m old new reads.unwritten.sizes reads.unwritten.media behind
 
   pub reads_keep : (run : ℕ) (facts : List Fact) → Keeps run (moment_of old facts) (moment_of new facts)

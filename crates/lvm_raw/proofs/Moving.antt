@@ -18,7 +18,7 @@ use Rattle.lvm_transfer.specs.Transfer.{IsOut, TransferGives, Rests, flight_of}
 use Rattle.lvm_transfer.specs.declared.moves.Moved.{Moved}
 use Rattle.lvm_transfer.specs.declared.moves.Moved.TheVariants as moved
 use Rattle.lvm_transfer.proofs.Ending.{one_left}
-use Rattle.lvm_raw.specs.Keeping.{KeepsShelf, StaysBehind, HasCause}
+use Rattle.lvm_raw.specs.Keeping.{KeepsArrangements, KeepsOlder, MoveRose}
 use Rattle.lvm_raw.specs.Requests.{RelightsAfter, IsHeard}
 
 -- ---- the power on again
@@ -55,7 +55,7 @@ lit_counts mid new (moved.Failed back) lit = ap (λ (d : Device). d.counts) lit
 lit_counts mid new (moved.Dark started) lit = ap (λ (d : Device). d.counts) lit
 lit_counts mid new moved.Stuck lit = ap (λ (d : Device). d.counts) lit
 
-lit_behind : (mid new : Device) (how : Moved) → Rests mid how → RelightsAfter mid new how → LeavesNoMore mid new → StaysBehind mid new
+lit_behind : (mid new : Device) (how : Moved) → Rests mid how → RelightsAfter mid new how → LeavesNoMore mid new → KeepsOlder mid new
 lit_behind mid new (moved.Done back) rests lit fewer m behind = subst (IsBehind m) (sym lit) behind
 lit_behind mid new (moved.Failed back) rests lit fewer m behind = subst (IsBehind m) (sym lit) behind
 lit_behind mid new (moved.Dark started) rests lit fewer m behind = no_more_stays_behind m mid new rests.0 fewer behind
@@ -113,11 +113,11 @@ module _ (write : Bool) (disk from count : ℕ) (buf : Buffer) (old mid new : De
   pub none_after : IsInNoGroup old disk → IsInNoGroup new disk
   none_after none image may = stays_in_no_group f old mid disk (brings_data f low) (last-path path) none image (last-path fewer image may)
 
-  pub behind_after : StaysBehind old new
+  pub behind_after : KeepsOlder old new
   behind_after m behind = lit_behind mid new how rests lit (last-path fewer) m (transfer_stays_behind m f old mid ready.flights (brings_data f low) (last-path path) behind)
 
   module _ (ticket patience after : ℕ) (gives : TransferGives patience old mid (flight_of ticket write disk from count buf) how) where
-    pub shelf_after : after ≤ patience → RoseBy (patience - after) old.counts.waits mid.counts.waits → KeepsShelf patience after old new
+    pub shelf_after : after ≤ patience → RoseBy (patience - after) old.counts.waits mid.counts.waits → KeepsArrangements patience after old new
     shelf_after falls waited =
         let same = lit_fixed mid new how lit ∙ moved_fixed patience (flight_of ticket write disk from count buf) old mid how gives in
         record {
@@ -129,7 +129,7 @@ module _ (write : Bool) (disk from count : ℕ) (buf : Buffer) (old mid new : De
         }
 
 cause_at_once : (write : Bool) (disk from count : ℕ) (buf : Buffer) (ticket patience : ℕ) (old mid : Device) (how : Moved) → IsReady old → data_start ≤ from
-    → TransferGives patience old mid (flight_of ticket write disk from count buf) how → HasCause disk patience old.counts mid.counts how
+    → TransferGives patience old mid (flight_of ticket write disk from count buf) how → MoveRose disk patience old.counts mid.counts how
 cause_at_once write disk from count buf ticket patience old mid (moved.Done back) ready low gives = tt
 cause_at_once write disk from count buf ticket patience old mid (moved.Failed back) ready low (now, out, ends) =
     let f : Flight = flight_of ticket write disk from count buf in
@@ -145,6 +145,6 @@ cause_at_once write disk from count buf ticket patience old mid (moved.Dark fals
 cause_at_once write disk from count buf ticket patience old mid moved.Stuck ready low (out, rose) = rose
 
 pub cause_after : (write : Bool) (disk from count : ℕ) (buf : Buffer) (ticket patience : ℕ) (old mid new : Device) (how : Moved) → IsReady old → data_start ≤ from → RelightsAfter mid new how
-    → TransferGives patience old mid (flight_of ticket write disk from count buf) how → HasCause disk patience old.counts new.counts how
+    → TransferGives patience old mid (flight_of ticket write disk from count buf) how → MoveRose disk patience old.counts new.counts how
 cause_after write disk from count buf ticket patience old mid new how ready low lit gives =
-    subst (λ (c : Counts). HasCause disk patience old.counts c how) (sym (lit_counts mid new how lit)) (cause_at_once write disk from count buf ticket patience old mid how ready low gives)
+    subst (λ (c : Counts). MoveRose disk patience old.counts c how) (sym (lit_counts mid new how lit)) (cause_at_once write disk from count buf ticket patience old mid how ready low gives)

@@ -6,17 +6,18 @@ use Rattle.lvm_vol.specs.Log.{Log}
 use Rattle.lvm_kept.specs.Moments.{Moment}
 use Rattle.lvm_transfer.specs.declared.moves.Moved.{Moved}
 use Rattle.lvm_transfer.specs.declared.moves.Moved.TheVariants as moved
-use Rattle.lvm_survey.proofs.DiskRows.{got_within}
+use Rattle.lvm_area.proofs.Joining.{got_within}
 use Rattle.lvm_raw.specs.declared.fault.RawFault.{RawFault}
 use Rattle.lvm_raw.specs.declared.fault.RawFault.TheVariants as fault
-use Rattle.lvm_raw.specs.Asking.{IsNoDisk, IsInData, IsOutside, HasRoom, IsFull, IsRejected, MayAsk}
+use Rattle.lvm_raw.specs.Asking.{IsNoDisk, IsInData, IsOutside, HasRoomForPieces, IsFull, IsRejected, MayAsk}
 use Rattle.lvm_raw.specs.Pieces.{piece_end, answer_after, with_front, PiecesGo, NoPiece, OnePiece, RangeGoes, WentThrough, WasBroken, WritesGo, ReadsGo}
 use Rattle.lvm_disk.specs.Counts.{Counts}
-use Rattle.lvm_steps.specs.Requests.{IsInNoGroup}
+use Rattle.lvm_steps.specs.Requests.{IsInNoGroup, at as moment_of}
 use Rattle.lvm_raw.specs.Keeping.{AnswerHasCause}
-use Rattle.lvm_raw.specs.Looking.{LookFails}
-use Rattle.lvm_raw.specs.Raw.{RawGives, Rejected, Unasked, Asked, WasServed, log_with}
+use Rattle.lvm_raw.specs.Looking.{LookFails, look_ends}
+use Rattle.lvm_raw.specs.Raw.{RawGives, Rejected, Unasked, Asked, IsNotAsked, WasServed, log_with, without_facts}
 use Rattle.lvm_raw.specs.Ends.{FaultHasCause, RawEnds}
+use Rattle.lvm_raw.proofs.Looking.{look_rooms, unserved}
 
 -- ---- a range is rejected for one cause alone
 
@@ -32,7 +33,7 @@ module _ (device : Device) (log : Log) (disk at count : ℕ) where
       let same : inside.size ≡ size = one_size inside.size size inside.is out.is in
       ⊎_elim (λ low. omega (arith, low, inside.low)) (λ high. omega (arith, high, inside.high, same)) out.outside
 
-  not_full : HasRoom log at count → IsFull log at count → ⊥
+  not_full : HasRoomForPieces log at count → IsFull log at count → ⊥
   not_full room full = ⊎_elim (λ few. omega (arith, few, room.entries)) (λ few. omega (arith, few, room.bytes)) full
 
   -- what may be asked isn't rejected
@@ -206,3 +207,18 @@ module _ {X : Type 0} (failed : RawFault) (Goes : Moment → Moment → Result X
         → RawEnds failed (log_with log old.facts) disk at count patience old.device new.device given
     raw_ends (Ok x) gives served rose = record { rejects = rejects (Ok x) gives; served = served tt; cause = tt }
     raw_ends (Err why) gives served rose = record { rejects = rejects (Err why) gives; served = tt; cause = cause_of why (faulted (Err why) why refl gives) served rose }
+
+-- ---- no request is made
+
+module _ (disk at count patience : ℕ) (was : Log) (old : Device) (is : Log) (new : Device) (why : RawFault) (un : IsNotAsked disk at count patience was old is new why) where
+  pub unasked_gives : {X : Type 0} (Goes : Moment → Moment → Result X RawFault → Type 0) → RawGives Goes (without_facts was) disk at count patience (moment_of old was.facts) (moment_of new is.facts) (Err why)
+  unasked_gives Goes = ⊎_elim
+      (λ (rejected : IsRejected old was disk at count why × (new ≡ old) × (is ≡ was)). Rejected why refl rejected.0 (λ t. moment_of (rejected.1 t) (rejected.2 t).facts))
+      (λ (looked : MayAsk old was disk at count × LookFails patience disk old new why × (is ≡ look_ends was why)). Unasked why refl looked.0 looked.1 (sym (look_rooms was is why looked.2) ∙ looked.2))
+      un
+
+  pub unasked_rooms : is ≡ record was { facts = is.facts }
+  unasked_rooms = ⊎_elim (λ rejected. subst (λ (l : Log). l ≡ record was { facts = l.facts }) (sym rejected.2) refl) (λ looked. look_rooms was is why looked.2) un
+
+  pub unasked_unserved : (X : Type 0) → WasServed {X = X} (Err why) → ⊥
+  unasked_unserved X served = ⊎_elim (λ rejected. rejected_unserved X old was disk at count why rejected.0 served) (λ looked. unserved X patience disk old new why looked.1 served) un

@@ -8,8 +8,8 @@ use Rattle.lvm_disk.specs.Steps.{IsRange}
 use Rattle.lvm_vol.specs.Log.{Log, spare_entries, spare_bytes}
 use Rattle.lvm_kept.specs.Moments.{Moment}
 use Rattle.lvm_transfer.specs.declared.moves.Moved.{Moved}
-use Rattle.lvm_survey.proofs.DiskRows.{got_within}
-use Rattle.lvm_raw.specs.Asking.{IsInData, HasRoom}
+use Rattle.lvm_area.proofs.Joining.{got_within}
+use Rattle.lvm_raw.specs.Asking.{IsInData, HasRoomForPieces}
 use Rattle.lvm_raw.specs.Pieces.{piece_end, piece_count, AreFilled, WritesPiece}
 
 -- a piece of a range within the data of a disk
@@ -25,17 +25,17 @@ piece_range first now disk at count from to inside same some within most = recor
 }
 
 -- the first piece needs no more than the range
-pub room_here : (log : Log) (from to end : ℕ) → HasRoom log from (end - from) → from < to → to ≤ end → 512 * (to - from) ≤ spare_bytes log
+pub room_here : (log : Log) (from to end : ℕ) → HasRoomForPieces log from (end - from) → from < to → to ≤ end → 512 * (to - from) ≤ spare_bytes log
 room_here log from to end room some within = omega (arith, room.bytes, some, within)
 
-pub entries_here : (log : Log) (from n : ℕ) → HasRoom log from n → 3 ≤ spare_entries log
+pub entries_here : (log : Log) (from n : ℕ) → HasRoomForPieces log from n → 3 ≤ spare_entries log
 entries_here log from n room = omega (arith, room.entries)
 
 -- what is behind it needs one piece less
 pub fewer_pieces : (from end : ℕ) → from < end → piece_end from end < end → piece_count from (end - from) ≡ piece_count (piece_end from end) (end - piece_end from end) + 1
 fewer_pieces from end within more = omega arith
 
-pub room_next : (log next : Log) (from to end : ℕ) → to ≡ piece_end from end → from < end → from < to → HasRoom log from (end - from) → spare_entries next + 3 ≡ spare_entries log → spare_bytes next + 512 * (to - from) ≡ spare_bytes log → to < end → HasRoom next to (end - to)
+pub room_next : (log next : Log) (from to end : ℕ) → to ≡ piece_end from end → from < end → from < to → HasRoomForPieces log from (end - from) → spare_entries next + 3 ≡ spare_entries log → spare_bytes next + 512 * (to - from) ≡ spare_bytes log → to < end → HasRoomForPieces next to (end - to)
 room_next log next from to end to_is within some room entries bytes more =
     let less : piece_count from (end - from) ≡ piece_count to (end - to) + 1 =
     (let P = λ (t : ℕ). (t < end → piece_count from (end - from) ≡ piece_count t (end - t) + 1) in subst P (sym to_is) (fewer_pieces from end within) more) in

@@ -24,7 +24,7 @@ pub record IsOutside (device : Device) (disk at count size : ℕ) : Type 0 where
   pub outside : (at < data_start) ⊎ (size < at + count)
 
 -- the history has room for three entries for each piece, and for the blocks
-pub record HasRoom (log : Log) (at count : ℕ) : Type 0 where
+pub record HasRoomForPieces (log : Log) (at count : ℕ) : Type 0 where
   pub entries : 3 * piece_count at count ≤ spare_entries log
   pub bytes : 512 * count ≤ spare_bytes log
 
@@ -42,4 +42,4 @@ IsRejected device log disk at count other = ⊥
 -- nothing is against it
 pub record MayAsk (device : Device) (log : Log) (disk at count : ℕ) : Type 0 where
   pub inside : IsInData device disk at count
-  pub room : HasRoom log at count
+  pub room : HasRoomForPieces log at count

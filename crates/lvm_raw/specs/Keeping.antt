@@ -1,5 +1,5 @@
 -- What is kept while ranges of disks in no group are read and written.
-use Rattle.std.specs.Prelude.{◌≡◌, ◌≤◌, ◌-◌, ℕ, List, true, false, Result, Ok, Err}
+use Rattle.std.specs.Prelude.{◌≡◌, ◌≤◌, ◌-◌, ℕ, List, true, false, Result, Err, IfErr}
 use Rattle.lvm_disk.specs.Counts.{Rose, RoseAt, RoseBy, Counts}
 use Rattle.lvm_disk.specs.Device.{Device, IsReady}
 use Rattle.lvm_vol.specs.Facts.{Fact}
@@ -16,7 +16,7 @@ use Rattle.lvm_raw.specs.declared.fault.RawFault.TheVariants as fault
 use Rattle.lvm_raw.specs.Requests.{IsHeard}
 
 -- The disks are as large as before, arrangements as they were, and patience was lost by answers that nothing has ended.
-pub record KeepsShelf (before after : ℕ) (old new : Device) : Type 0 where
+pub record KeepsArrangements (before after : ℕ) (old new : Device) : Type 0 where
   pub sizes : new.sizes ≡ old.sizes
   pub arranges : new.arranges ≡ old.arranges
   pub orders : new.orders ≡ old.orders
@@ -24,8 +24,8 @@ pub record KeepsShelf (before after : ℕ) (old new : Device) : Type 0 where
   pub waited : RoseBy (before - after) old.counts.waits new.counts.waits
 
 -- what stood on the disks from before a moment still does
-abbrev pub StaysBehind : Device → Device → Type 0
-StaysBehind old new = (m : ℕ) → IsBehind m old → IsBehind m new
+abbrev pub KeepsOlder : Device → Device → Type 0
+KeepsOlder old new = (m : ℕ) → IsBehind m old → IsBehind m new
 
 -- each request that has begun has landed
 abbrev pub HaveLanded : List Fact → Type 0
@@ -36,21 +36,23 @@ abbrev pub NoneComesOn : List Fact → List Fact → Type 0
 NoneComesOn old new = (m : ℕ) → IsLater old m → IsLater new m
 
 -- what has risen where a transfer of data ended so: the faults of its disk, the cuts, or the waits as far as patience went
-abbrev pub HasCause : ℕ → ℕ → Counts → Counts → Moved → Type 0
-HasCause disk patience old new (moved.Done back) = Unit {0}
-HasCause disk patience old new (moved.Failed back) = RoseAt disk old.faults new.faults
-HasCause disk patience old new (moved.Dark started) = Rose old.cuts new.cuts
-HasCause disk patience old new moved.Stuck = RoseBy patience old.waits new.waits
+abbrev pub MoveRose : ℕ → ℕ → Counts → Counts → Moved → Type 0
+MoveRose disk patience old new (moved.Done back) = Unit {0}
+MoveRose disk patience old new (moved.Failed back) = RoseAt disk old.faults new.faults
+MoveRose disk patience old new (moved.Dark started) = Rose old.cuts new.cuts
+MoveRose disk patience old new moved.Stuck = RoseBy patience old.waits new.waits
 
--- What has risen where a command on a range of a disk is answered so.
+-- What has risen where a command on a range of a disk has this fault.
+abbrev pub FaultRose : ℕ → ℕ → Counts → Counts → RawFault → Type 0
+FaultRose disk patience old new fault.Lost = Rose (old.faults disk) (new.faults disk)
+FaultRose disk patience old new fault.ReadFailed = Rose (old.faults disk) (new.faults disk)
+FaultRose disk patience old new fault.Dark = Rose old.cuts new.cuts
+FaultRose disk patience old new fault.Stuck = RoseBy patience old.waits new.waits
+FaultRose disk patience old new (fault.DiskFailed d) = Rose (old.misses disk) (new.misses disk)
+FaultRose disk patience old new other = Unit {0}
+
 abbrev pub AnswerHasCause : {X : Type 0} → ℕ → ℕ → Counts → Counts → Result X RawFault → Type 0
-AnswerHasCause disk patience old new (Err fault.Lost) = Rose (old.faults disk) (new.faults disk)
-AnswerHasCause disk patience old new (Err fault.ReadFailed) = Rose (old.faults disk) (new.faults disk)
-AnswerHasCause disk patience old new (Err fault.Dark) = Rose old.cuts new.cuts
-AnswerHasCause disk patience old new (Err fault.Stuck) = RoseBy patience old.waits new.waits
-AnswerHasCause disk patience old new (Err (fault.DiskFailed d)) = Rose (old.misses disk) (new.misses disk)
-AnswerHasCause disk patience old new (Err other) = Unit {0}
-AnswerHasCause disk patience old new (Ok x) = Unit {0}
+AnswerHasCause disk patience old new given = IfErr given (FaultRose disk patience old new)
 
 -- the answer isn't that nothing was heard of a transfer
 abbrev pub IsUnstuck : {X : Type 0} → Result X RawFault → Type 0
@@ -60,8 +62,8 @@ IsUnstuck given = given ≡ Err fault.Stuck → ⊥
 pub record RangeKeeps {X : Type 0} (run disk before after : ℕ) (old new : Moment) (given : Result X RawFault) : Type 0 where
   pub keeps : Keeps run old new
   pub calm : IsUnstuck given → StaysCalm old new
-  pub behind : StaysBehind old.device new.device
-  pub shelf : KeepsShelf before after old.device new.device
+  pub behind : KeepsOlder old.device new.device
+  pub shelf : KeepsArrangements before after old.device new.device
   pub power : new.device.power ≡ true
   pub ready : IsUnstuck given → IsReady new.device
   pub landed : IsUnstuck given → HaveLanded old.facts → HaveLanded new.facts
@@ -73,10 +75,10 @@ pub record PieceKeeps (run disk before after : ℕ) (old new : Moment) (how : Mo
   pub keeps : Keeps run old new
   pub calm : IsHeard how → StaysCalm old new
   pub none : IsInNoGroup new.device disk
-  pub behind : StaysBehind old.device new.device
-  pub shelf : KeepsShelf before after old.device new.device
+  pub behind : KeepsOlder old.device new.device
+  pub shelf : KeepsArrangements before after old.device new.device
   pub power : new.device.power ≡ true
   pub ready : IsHeard how → IsReady new.device
   pub landed : IsHeard how → HaveLanded old.facts → HaveLanded new.facts
   pub later : NoneComesOn old.facts new.facts
-  pub cause : HasCause disk before old.device.counts new.device.counts how
+  pub cause : MoveRose disk before old.device.counts new.device.counts how

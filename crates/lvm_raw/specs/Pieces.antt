@@ -11,7 +11,7 @@ use Rattle.lvm_transfer.specs.declared.moves.Moved.{Moved}
 use Rattle.lvm_transfer.specs.declared.moves.Moved.TheVariants as moved
 use Rattle.lvm_raw.specs.declared.fault.RawFault.{RawFault}
 use Rattle.lvm_raw.specs.declared.fault.RawFault.TheVariants as fault
-use Rattle.lvm_raw.specs.Requests.{write_ends, read_ends, ShelfAfter, HasEnded}
+use Rattle.lvm_raw.specs.Requests.{write_ends, read_ends, ShelfAfter, WasAnswered}
 
 -- a piece from this block on ends where the range does, or at the next multiple of 256
 abbrev pub piece_end : ℕ → ℕ → ℕ
@@ -64,11 +64,11 @@ grown more (moved.Dark started) x = x
 grown more moved.Stuck x = x
 
 -- how a piece that ended so is settled: its buffer comes back, and the first failure is noted; or the answer is given
-abbrev pub Settles : RawFault → Moved → Option RawFault → Option RawFault → Result Buffer RawFault → Type 0
-Settles failed (moved.Done back) old new given = (given ≡ Ok back) × (new ≡ old)
-Settles failed (moved.Failed back) old new given = (given ≡ Ok back) × (new ≡ Some (unwrap_or old failed))
-Settles failed (moved.Dark started) old new given = (given ≡ Err (unwrap_or old fault.Dark)) × (new ≡ old)
-Settles failed moved.Stuck old new given = (given ≡ Err fault.Stuck) × (new ≡ old)
+abbrev pub SettlesPiece : RawFault → Moved → Option RawFault → Option RawFault → Result Buffer RawFault → Type 0
+SettlesPiece failed (moved.Done back) old new given = (given ≡ Ok back) × (new ≡ old)
+SettlesPiece failed (moved.Failed back) old new given = (given ≡ Ok back) × (new ≡ Some (unwrap_or old failed))
+SettlesPiece failed (moved.Dark started) old new given = (given ≡ Err (unwrap_or old fault.Dark)) × (new ≡ old)
+SettlesPiece failed moved.Stuck old new given = (given ≡ Err fault.Stuck) × (new ≡ old)
 
 -- the answer to writes after one more, and that to reads, with the blocks that were got
 abbrev pub write_answer : ℕ → Moved → Result (Unit {0}) RawFault → Result (Unit {0}) RawFault
@@ -85,13 +85,13 @@ read_answer count how answer = answer_after fault.ReadFailed (with_front count) 
 -- Pieces of a range, from its first block to this one, each begun once the disk had answered the one before; the moment then, and the answer so far.
 pub data PiecesGo {X : Type 0} (Piece : ℕ → ℕ → ℕ → Moment → Moment → Moved → Type 0) (answer : ℕ → Moved → X → X) (at end : ℕ) (first : Moment) (none : X) : ℕ → Moment → X → Type 0 where
   NoPiece : PiecesGo Piece answer at end first none at first none
-  OnePiece : {from patience : ℕ} {old new : Moment} {x : X} {how : Moved} → PiecesGo Piece answer at end first none from old x → from < end → Piece from (piece_end from end - from) patience old new how → HasEnded how
+  OnePiece : {from patience : ℕ} {old new : Moment} {x : X} {how : Moved} → PiecesGo Piece answer at end first none from old x → from < end → Piece from (piece_end from end - from) patience old new how → WasAnswered how
       → PiecesGo Piece answer at end first none (piece_end from end) new (answer (piece_end from end - from) how x)
 
 -- All pieces of the range go so, or up to one that the disk didn't answer.
 pub data RangeGoes {X : Type 0} (Piece : ℕ → ℕ → ℕ → Moment → Moment → Moved → Type 0) (answer : ℕ → Moved → X → X) (at end : ℕ) (first : Moment) (none : X) (last : Moment) (given : X) : Type 0 where
   WentThrough : PiecesGo Piece answer at end first none end last given → RangeGoes Piece answer at end first none last given
-  WasBroken : {from patience : ℕ} {old : Moment} {x : X} {how : Moved} → PiecesGo Piece answer at end first none from old x → from < end → Piece from (piece_end from end - from) patience old last how → (HasEnded how → ⊥)
+  WasBroken : {from patience : ℕ} {old : Moment} {x : X} {how : Moved} → PiecesGo Piece answer at end first none from old x → from < end → Piece from (piece_end from end - from) patience old last how → (WasAnswered how → ⊥)
       → given ≡ answer (piece_end from end - from) how x → RangeGoes Piece answer at end first none last given
 
 -- how the writes of a range go, its first block filled with this word, and how the reads of one do

@@ -1,5 +1,5 @@
 -- What the reading and the writing of a range of a disk does, by its answer.
-use Rattle.std.specs.Prelude.{◌≡◌, ℕ, List, [], Result, Ok, Err}
+use Rattle.std.specs.Prelude.{◌≡◌, ◌⊎◌, ℕ, List, [], Result, Ok, Err}
 use Rattle.lvm_num.specs.Buffer.{Sector}
 use Rattle.lvm_disk.specs.Device.{Device}
 use Rattle.lvm_vol.specs.Log.{Log}
@@ -19,6 +19,11 @@ log_with log facts = record log { facts = facts }
 -- the history's run and rooms alone
 abbrev pub without_facts : Log → Log
 without_facts log = record log { facts = [] }
+
+-- No request is made of a range: it is rejected, and nothing happens; or its disk's slots are read, and this comes of it.
+abbrev pub IsNotAsked : ℕ → ℕ → ℕ → ℕ → Log → Device → Log → Device → RawFault → Type 0
+IsNotAsked disk at count patience was old is new why =
+    (IsRejected old was disk at count why × (new ≡ old) × (is ≡ was)) ⊎ (MayAsk old was disk at count × LookFails patience disk old new why × (is ≡ look_ends was why))
 
 -- A command on a range of a disk, whose pieces go so. It isn't begun; the disk's slots are read and no request is made; or they are, and the pieces go.
 pub data RawGives {X : Type 0} (Goes : Moment → Moment → Result X RawFault → Type 0) (log : Log) (disk at count patience : ℕ) (old new : Moment) (answer : Result X RawFault) : Type 0 where

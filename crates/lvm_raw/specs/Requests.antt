@@ -50,11 +50,11 @@ IsHeard (moved.Dark started) = Unit {0}
 IsHeard moved.Stuck = ⊥
 
 -- the disk answered, well or not
-abbrev pub HasEnded : Moved → Type 0
-HasEnded (moved.Done back) = Unit {0}
-HasEnded (moved.Failed back) = Unit {0}
-HasEnded (moved.Dark started) = ⊥
-HasEnded moved.Stuck = ⊥
+abbrev pub WasAnswered : Moved → Type 0
+WasAnswered (moved.Done back) = Unit {0}
+WasAnswered (moved.Failed back) = Unit {0}
+WasAnswered (moved.Dark started) = ⊥
+WasAnswered moved.Stuck = ⊥
 
 -- what was read stands at the front of the buffer that came back
 abbrev pub HasFront : ℕ → Moved → Type 0

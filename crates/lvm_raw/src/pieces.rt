@@ -5,7 +5,7 @@ ghost use Rattle.lvm_steps.specs.Requests.{IsInNoGroup, at as moment_of};
 ghost use Rattle.lvm_raw.specs.Asking.{MayAsk};
 ghost use Rattle.lvm_raw.specs.Keeping.{RangeKeeps};
 ghost use Rattle.lvm_raw.specs.Requests.{HasFront};
-ghost use Rattle.lvm_raw.specs.Pieces.{answer_of, grown, with_front, Settles, WritesGo, ReadsGo};
+ghost use Rattle.lvm_raw.specs.Pieces.{answer_of, grown, with_front, SettlesPiece, WritesGo, ReadsGo};
 
 use crate::blocks::keep_front;
 use crate::check::piece_end;
@@ -18,7 +18,7 @@ use lvm_transfer::{Moved, Patience};
 
 // Notes the first failure, and hands the buffer of a transfer back that the disk answered.
 fn settle(how: Moved, failed: RawFault, fault: &mut Option<RawFault>) -> Result<Pbuf, RawFault>
-    ensures { Settles failed how fault.old fault.new result }
+    ensures { SettlesPiece failed how fault.old fault.new result }
 {
     match how {
         Moved::Done(back) => Ok(back),
@@ -101,7 +101,7 @@ pub fn write_pieces<S: Shelf>(
     answer((), fault)
 }
 
-/// Reads the pieces of a range. The bytes have room for a whole buffer, and the blocks for the range.
+/// ReadsRecords the pieces of a range. The bytes have room for a whole buffer, and the blocks for the range.
 pub fn read_pieces<S: Shelf>(
     shelf: &mut S,
     history: &mut History,

@@ -13,7 +13,7 @@ ghost use Rattle.lvm_steps.specs.Requests.{IsInNoGroup, at as moment_of};
 ghost use Rattle.lvm_transfer.specs.Transfer.{Rests};
 ghost use Rattle.lvm_raw.specs.Keeping.{PieceKeeps};
 ghost use Rattle.lvm_raw.specs.Pieces.{WritesPiece, ReadsPiece};
-ghost use Rattle.lvm_raw.specs.Requests.{landing_ends, cut_ends, write_ends, read_ends, RelightsAfter, HasEnded, HasFront};
+ghost use Rattle.lvm_raw.specs.Requests.{landing_ends, cut_ends, write_ends, read_ends, RelightsAfter, WasAnswered, HasFront};
 
 use crate::blocks::{copy_front, fill_front};
 use lvm_disk::Shelf;
@@ -134,8 +134,8 @@ pub fn write_piece<S: Shelf>(
     ensures does { WritesPiece history.old.run disk word from count patience.old.left (moment_of (S.device shelf.old) history.old.facts) (moment_of (S.device shelf.new) history.new.facts) result }
     ensures keeps { PieceKeeps history.old.run disk patience.old.left patience.new.left (moment_of (S.device shelf.old) history.old.facts) (moment_of (S.device shelf.new) history.new.facts) result }
     ensures rooms { history.new ≡ record history.old { facts = history.new.facts } }
-    ensures entries { HasEnded result → spare_entries history.new + 3 ≡ spare_entries history.old }
-    ensures data { HasEnded result → spare_bytes history.new + 512 * count ≡ spare_bytes history.old }
+    ensures entries { WasAnswered result → spare_entries history.new + 3 ≡ spare_entries history.old }
+    ensures data { WasAnswered result → spare_bytes history.new + 512 * count ≡ spare_bytes history.old }
     ensures room { 131072 ≤ vec_capacity bytes.new }
 {
     let mut buf = buf;
@@ -148,7 +148,7 @@ pub fn write_piece<S: Shelf>(
     how
 }
 
-/// Reads blocks of a disk in no group as a request, to the front of the buffer. The bytes have room for a whole buffer.
+/// ReadsRecords blocks of a disk in no group as a request, to the front of the buffer. The bytes have room for a whole buffer.
 pub fn read_piece<S: Shelf>(
     shelf: &mut S,
     history: &mut History,
@@ -171,8 +171,8 @@ pub fn read_piece<S: Shelf>(
     ensures does { ReadsPiece history.old.run disk from count patience.old.left (moment_of (S.device shelf.old) history.old.facts) (moment_of (S.device shelf.new) history.new.facts) result }
     ensures keeps { PieceKeeps history.old.run disk patience.old.left patience.new.left (moment_of (S.device shelf.old) history.old.facts) (moment_of (S.device shelf.new) history.new.facts) result }
     ensures rooms { history.new ≡ record history.old { facts = history.new.facts } }
-    ensures entries { HasEnded result → spare_entries history.new + 3 ≡ spare_entries history.old }
-    ensures data { HasEnded result → spare_bytes history.new + 512 * count ≡ spare_bytes history.old }
+    ensures entries { WasAnswered result → spare_entries history.new + 3 ≡ spare_entries history.old }
+    ensures data { WasAnswered result → spare_bytes history.new + 512 * count ≡ spare_bytes history.old }
     ensures room { 131072 ≤ vec_capacity bytes.new }
 {
     let id = history.begin(CLIENT, Vol::Disk(disk), from, count, None);

@@ -40,7 +40,7 @@ fn image_of(alloc: Global, shelf: &MemShelf, disk: u16) -> Result<Rows<u8>, Faul
     if disk >= shelf.disks() {
         return Ok(Rows::empty(alloc));
     }
-    Ok(Rows::new(Vec::from_slice(alloc, shelf.image(disk))?))
+    Ok(Rows::new(shelf.image(alloc, disk)?))
 }
 
 /// What stands on the disks.
@@ -122,9 +122,8 @@ pub(crate) fn judged(ended: &Ended<MemShelf>, watched: Option<(u16, u64)>) -> &'
 
 // What stands in a sector of a disk.
 fn sector(shelf: &MemShelf, disk: u16, at: u64) -> Option<&[u8; 512]> {
-    if disk >= shelf.disks() {
+    if disk >= shelf.disks() || at >= shelf.sectors(disk) {
         return None;
     }
-    let first = usize::try_from(at).ok()?.checked_mul(512)?;
-    shelf.image(disk).get(first..)?.first_chunk::<512>()
+    Some(shelf.sector(disk, at))
 }

@@ -9,8 +9,8 @@ use lvm_hold::Queue;
 use lvm_mwc::Cache;
 use lvm_num::Descriptor;
 use lvm_pbuf::Pool;
-use lvm_quorum::Homes;
 use lvm_status::Updater;
+use lvm_write::Homes;
 
 /// What a driver has beside its shelf.
 #[derive(Drop)]

@@ -11,7 +11,7 @@ use crate::parts::Parts;
 use lvm_disk::Shelf;
 use lvm_history::History;
 use lvm_num::Stamp;
-use lvm_quorum::Homes;
+use lvm_write::Homes;
 use lvm_session::{Origin, Power, Session};
 use lvm_vol::Entry;
 

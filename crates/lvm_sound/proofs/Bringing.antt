@@ -18,8 +18,9 @@ use Rattle.lvm_sound.specs.Causes.{IsCopyCaused}
 use Rattle.lvm_sound.specs.Sound.{stays_fresh, IsCopy, IsFitting, IsTold, IsGoing}
 use Rattle.lvm_sound.specs.Worked.{mirrored, first_copy, bringing_up, bringing, core_of, status_of, behind, faultless, CopiesAreSound}
 use Rattle.lvm_sound.proofs.Small.{not_so, not_either, not_none}
+use Rattle.lvm_sound.proofs.While.{sound_while_on}
 use Rattle.lvm_sound.proofs.Parts.{placed, not_marked, status_is_sound, none_behind, none_cleared, none_missing, has_fresh, notes_fit, one_stale, none_out, no_fault, zeros_at}
-use Rattle.lvm_sound.proofs.Whole.{on_is_not_off, on_is_not_stuck, no_entries, fitting, owned}
+use Rattle.lvm_sound.proofs.Whole.{no_entries, fitting, owned}
 
 module _ (m : Mode) where
   fits : IsFitting (core_of (bringing m))
@@ -90,7 +91,7 @@ goes_on m = record {
   hands = λ n. omega arith;
   behind = λ p is. none_behind m true p is;
   reviewed = runs_on m;
-  fresh = λ lv lp some. has_fresh (bringing m) (first_stays m) lv lp some;
+  fresh = has_fresh m (core_of (bringing m)) (first_stays m);
   clearings = λ p held clear. none_cleared (calls_stale (status_of behind) p) held clear;
   numbers = numbers m;
 }
@@ -100,26 +101,17 @@ unfolding votes_by has_bit has
 votes m = refl
 
 pub copies_are_sound : CopiesAreSound
-copies_are_sound m = record {
-  fitting = fits m;
-  told = told m;
-  placed = placed m (status_of behind);
-  buffers = λ n. omega arith;
-  none_lost = λ lit n. none_out n;
-  on = λ e. record { going = goes_on m; rows = tt; caused = tt; chosen = tt };
-  lit = λ e. record { power = refl; freed = refl };
-  dark = λ e. not_so e;
-  off = λ e. on_is_not_off e;
-  over = λ e. not_so e;
-  stuck = λ e. on_is_not_stuck e;
-  counted = tt;
-  answered = tt;
-  copy = caused m;
-  origin = record {
-    since = no_fault m;
-    votes = votes m;
-    still_missing = λ disk is. not_so (sym (none_missing true disk) ∙ is);
-    missing = λ disk is. inl is;
-    stale = λ p is. inl (one_stale (calls_stale (status_of behind) p) is);
-  };
-}
+copies_are_sound m =
+    sound_while_on _ refl (record { power = refl; freed = refl }) (fits m) (told m) (placed m (status_of behind)) none_out (record { going = goes_on m; rows = tt; caused = tt; chosen = tt })
+    (record {
+      counted = tt;
+      answered = tt;
+      copy = caused m;
+      origin = record {
+        since = no_fault m;
+        votes = votes m;
+        still_missing = λ disk is. not_so (sym (none_missing true disk) ∙ is);
+        missing = λ disk is. inl is;
+        stale = λ p is. inl (one_stale (calls_stale (status_of behind) p) is);
+      };
+    })

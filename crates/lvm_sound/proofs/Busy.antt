@@ -43,9 +43,11 @@ use Rattle.lvm_sound.specs.Sound.{count_if, may_be_fresh, out_with, stays_fresh,
 use Rattle.lvm_sound.specs.Worked.{behind, begun_write, second_copy, status_of}
 use Rattle.lvm_sound.specs.Busy.{BusyIsSound, begun_read, busy_core, busy_device, data_flight, got_read, group_of_three, half_written, other_part, part, target_at, wide, writing}
 use Rattle.lvm_sound.proofs.Small.{not_so, not_either, not_none, or_left}
-use Rattle.lvm_sound.proofs.Parts.{none_cleared, none_missing, not_marked, one_stale, placed, valid as valid_before, zeros_at}
+use Rattle.lvm_sound.proofs.While.{sound_while_on}
+use Rattle.lvm_sound.proofs.Requests.{laid_in, shaped, waits_with}
+use Rattle.lvm_sound.proofs.Parts.{update_is_sound, none_cleared, none_missing, not_marked, one_stale, placed, valid as valid_before, zeros_at}
 use Rattle.lvm_sound.proofs.Flying.{no_note_flies, notes_named, one_entry, one_pin, turned}
-use Rattle.lvm_sound.proofs.Whole.{begun_so, on_is_not_off, on_is_not_stuck}
+use Rattle.lvm_sound.proofs.Whole.{begun_so}
 
 -- ---- the group
 
@@ -245,23 +247,7 @@ each_is disk is =
 
 status : IsSoundStatus (seen busy_core.status)
 unfolding votes_by has_bit has
-status = record {
-  unstarted = λ disk is. untouched disk (one_or_two disk is);
-  started = λ disk is. not_marked disk is;
-  failed = λ disk is. not_marked disk is;
-  each = λ t e. each_is;
-  idle = λ e. some_is_there e;
-  held = λ is. not_so is;
-  open_still = λ t e. inl refl;
-  committed_missing = λ disk is. not_so (sym (none_missing true disk) ∙ is);
-  in_flight_missing = λ t e disk is. not_so (sym (ap (λ (u : Status). calls_missing u disk) (sym (some_same t e)) ∙ none_missing true disk) ∙ is);
-}
-  where
-    some_is_there : {A X : Type 0} {a : A} → Some a ≡ None → X
-    some_is_there e = absurd cc
-
-    some_same : (t : Status) → Some (status_of (record behind { dirty = true })) ≡ Some t → status_of (record behind { dirty = true }) ≡ t
-    some_same t e = cc e
+status = update_is_sound _ _ refl (λ disk is. untouched disk (one_or_two disk is)) has-zero has-zero each_is refl refl (λ disk is. not_so (sym (none_missing true disk) ∙ is)) (λ disk is. not_so (sym (none_missing true disk) ∙ is))
 
 none_behind : (p : Pp) {X : Type 0} → is_entailed busy_core p ≡ true → X
 none_behind p is = not_so (by (is_among (part ∷ other_part ∷ []) p) (is_among (first_pp ∷ second_copy ∷ []) p) (not (is_stale busy_core p)) (is_missing busy_core p.disk) (list_any (can_replace busy_core) (part ∷ other_part ∷ [])) (list_any (can_replace busy_core) (first_pp ∷ second_copy ∷ [])) (none_missing true p.disk) is)
@@ -308,55 +294,23 @@ differ a b p q (suc i) j d below within e = absurd (omega (arith, below, within)
 
 write_request : IsOpenOne busy_core half_written
 unfolding has_bit
-write_request = record {
-  laid = record {
-    within = record { row = wide; volume = refl; within = omega arith; some = omega arith; fits = omega arith };
-    blocks = record { some = omega arith; end = omega arith; group = omega arith; whole = λ e. not_so e };
-    most = omega arith;
-    id = omega arith;
-  };
-  waits = λ e. record {
-    shape = record {
-      targets = (record { copy = refl; sector = refl; there = refl }, (record { copy = refl; sector = refl; there = refl }, tt));
-      phase_is = (omega arith, λ write. refl);
-      hand = refl;
-      room = tt;
-      differ = differ _ _ refl refl;
-      usable = λ past. refl;
-      one = λ read. not_either read;
-    };
-    ready = record { free = λ past. refl; recorded = inl refl; wanted = λ past two. refl; named = λ has two. refl; dirty = λ has two. refl };
-    judged = λ write. record { uncaught = (refl, (refl, tt)); due = λ waits. not_so waits; all = λ begun p among. or_left _ among };
-  };
-  over = λ e. not_either e;
-  still = λ e. not_either e;
-}
+write_request =
+    waits_with refl (laid_in wide refl (omega arith) (omega arith) (omega arith) (omega arith) (omega arith) (omega arith))
+    (record {
+      shape = shaped (record { copy = refl; sector = refl; there = refl }, (record { copy = refl; sector = refl; there = refl }, tt)) (omega arith, λ write. refl) refl tt (differ _ _ refl refl) (λ past. refl) (λ read. not_either read);
+      ready = record { free = λ past. refl; recorded = inl refl; wanted = λ past two. refl; named = λ has two. refl; dirty = λ has two. refl };
+      judged = λ write. record { uncaught = (refl, (refl, tt)); due = λ waits. not_so waits; all = λ begun p among. or_left _ among };
+    })
 
 read_request : IsOpenOne busy_core got_read
 unfolding has_bit
-read_request = record {
-  laid = record {
-    within = record { row = wide; volume = refl; within = omega arith; some = omega arith; fits = omega arith };
-    blocks = record { some = omega arith; end = omega arith; group = omega arith; whole = λ e. not_so e };
-    most = omega arith;
-    id = omega arith;
-  };
-  waits = λ e. record {
-    shape = record {
-      targets = (record { copy = refl; sector = refl; there = refl }, (record { copy = refl; sector = refl; there = refl }, tt));
-      phase_is = (omega arith, λ write. not_so write);
-      hand = refl;
-      room = refl;
-      differ = differ _ _ refl refl;
-      usable = λ past. refl;
-      one = λ read. omega arith;
-    };
-    ready = record { free = λ past. refl; recorded = (refl, refl, refl); wanted = λ past two. refl; named = λ has two. refl; dirty = λ has two. refl };
-    judged = λ write. not_so write;
-  };
-  over = λ e. not_either e;
-  still = λ e. not_either e;
-}
+read_request =
+    waits_with refl (laid_in wide refl (omega arith) (omega arith) (omega arith) (omega arith) (omega arith) (omega arith))
+    (record {
+      shape = shaped (record { copy = refl; sector = refl; there = refl }, (record { copy = refl; sector = refl; there = refl }, tt)) (omega arith, λ write. not_so write) refl refl (differ _ _ refl refl) (λ past. refl) (λ read. omega arith);
+      ready = record { free = λ past. refl; recorded = (refl, refl, refl); wanted = λ past two. refl; named = λ has two. refl; dirty = λ has two. refl };
+      judged = λ write. not_so write;
+    })
 
 all_caused : AreCaused busy_device busy_core half_written × AreCaused busy_device busy_core got_read
 unfolding has_bit
@@ -446,29 +400,20 @@ unfolding votes_by has_bit has
 votes = refl
 
 is_sound : IsSound (state busy_device busy_core)
-is_sound = record {
-  fitting = fits;
-  told = told;
-  placed = placed mode.Active (status_of behind);
-  buffers = λ n. let same = out n in omega (arith, same);
-  none_lost = λ lit n. out n;
-  on = λ e. on;
-  lit = λ e. record { power = refl; freed = refl };
-  dark = λ e. not_so e;
-  off = λ e. on_is_not_off e;
-  over = λ e. not_so e;
-  stuck = λ e. on_is_not_stuck e;
-  counted = (counted.0, (counted.1, tt));
-  answered = (tt, (tt, tt));
-  copy = copy_caused;
-  origin = record {
-    since = λ disk. let none = zeros_at 128 disk in omega (arith, none);
-    votes = votes;
-    still_missing = λ disk is. not_so (sym (none_missing true disk) ∙ is);
-    missing = λ disk is. inl is;
-    stale = λ p is. inl (one_stale (calls_stale (status_of behind) p) is);
-  };
-}
+is_sound =
+    sound_while_on _ refl (record { power = refl; freed = refl }) fits told (placed mode.Active (status_of behind)) out on
+    (record {
+      counted = (counted.0, (counted.1, tt));
+      answered = (tt, (tt, tt));
+      copy = copy_caused;
+      origin = record {
+        since = λ disk. let none = zeros_at 128 disk in omega (arith, none);
+        votes = votes;
+        still_missing = λ disk is. not_so (sym (none_missing true disk) ∙ is);
+        missing = λ disk is. inl is;
+        stale = λ p is. inl (one_stale (calls_stale (status_of behind) p) is);
+      };
+    })
 
 lands_next : first_event busy_core ≡ Some (event.Land 1 outcome.Got)
 unfolding votes_by has_bit has

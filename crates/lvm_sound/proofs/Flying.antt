@@ -29,8 +29,10 @@ use Rattle.lvm_sound.specs.Causes.{IsCaused, IsCounted}
 use Rattle.lvm_sound.specs.Sound.{count_if, out_with, IsAsked, IsFitting, IsTold, IsGoing}
 use Rattle.lvm_sound.specs.Worked.{mirrored, first_copy, second_copy, target_on, flying_write, naming, flying, first_flight, begun_write, core_of, status_of, fresh, faultless, FlyingWritesAreSound}
 use Rattle.lvm_sound.proofs.Small.{not_so, not_either, or_left}
+use Rattle.lvm_sound.proofs.While.{sound_while_on}
+use Rattle.lvm_sound.proofs.Requests.{laid_in, shaped, waits_with}
 use Rattle.lvm_sound.proofs.Parts.{none_cleared, has_fresh, placed, status_is_sound, none_behind}
-use Rattle.lvm_sound.proofs.Whole.{on_is_not_off, on_is_not_stuck, begun_so, first_stays, fitting, true_to_origin}
+use Rattle.lvm_sound.proofs.Whole.{begun_so, first_stays, fitting, true_to_origin}
 
 -- ---- its notes
 
@@ -119,29 +121,13 @@ differ (suc i) j d below within e = absurd (omega (arith, below, within))
 
 request : IsOpenOne (core_of flying) flying_write
 unfolding has_bit
-request = record {
-  laid = record {
-    within = record { row = mirror mode.Active; volume = refl; within = omega arith; some = omega arith; fits = omega arith };
-    blocks = record { some = omega arith; end = omega arith; group = omega arith; whole = λ e. not_so e };
-    most = omega arith;
-    id = omega arith;
-  };
-  waits = λ e. record {
-    shape = record {
-      targets = (record { copy = refl; sector = refl; there = refl }, (record { copy = refl; sector = refl; there = refl }, tt));
-      phase_is = (omega arith, λ write. refl);
-      hand = refl;
-      room = tt;
-      differ = differ;
-      usable = λ past. refl;
-      one = λ read. not_either read;
-    };
-    ready = record { free = λ past. refl; recorded = inl refl; wanted = λ past two. refl; named = λ has two. refl; dirty = λ has two. refl };
-    judged = λ write. record { uncaught = (refl, (refl, tt)); due = λ waits. not_so waits; all = λ begun p among. or_left _ among };
-  };
-  over = λ e. not_either e;
-  still = λ e. not_either e;
-}
+request =
+    waits_with refl (laid_in (mirror mode.Active) refl (omega arith) (omega arith) (omega arith) (omega arith) (omega arith) (omega arith))
+    (record {
+      shape = shaped (record { copy = refl; sector = refl; there = refl }, (record { copy = refl; sector = refl; there = refl }, tt)) (omega arith, λ write. refl) refl tt differ (λ past. refl) (λ read. not_either read);
+      ready = record { free = λ past. refl; recorded = inl refl; wanted = λ past two. refl; named = λ has two. refl; dirty = λ has two. refl };
+      judged = λ write. record { uncaught = (refl, (refl, tt)); due = λ waits. not_so waits; all = λ begun p among. or_left _ among };
+    })
 
 first_caused : IsCaused faultless (core_of flying) (target_on first_copy stage.Flying)
 unfolding has_bit
@@ -188,26 +174,12 @@ goes_on = record {
   hands = λ n. omega arith;
   behind = λ p is. none_behind mode.Active false p is;
   reviewed = refl;
-  fresh = λ lv lp some. has_fresh flying (first_stays mode.Active) lv lp some;
+  fresh = has_fresh mode.Active (core_of flying) (first_stays mode.Active);
   clearings = λ p held clear. none_cleared (calls_stale (status_of fresh) p) held clear;
   numbers = numbers;
 }
 
 pub flying_writes_are_sound : FlyingWritesAreSound
-flying_writes_are_sound = let origin = true_to_origin mode.Active in record {
-  fitting = fits;
-  told = told;
-  placed = placed mode.Active (status_of fresh);
-  buffers = λ n. let same = out n in omega (arith, same);
-  none_lost = λ lit n. out n;
-  on = λ e. record { going = goes_on; rows = (record { ticket = refl; long = refl; disk = refl; own = its }, tt); caused = (λ waits. (first_caused, (second_caused, tt)), tt); chosen = tt };
-  lit = λ e. record { power = refl; freed = refl };
-  dark = λ e. not_so e;
-  off = λ e. on_is_not_off e;
-  over = λ e. not_so e;
-  stuck = λ e. on_is_not_stuck e;
-  counted = ((record { began = first_counted.began; since = first_counted.since }, (record { began = second_counted.began; since = second_counted.since }, tt)), tt);
-  answered = (tt, tt);
-  copy = tt;
-  origin = record { since = origin.since; votes = origin.votes; still_missing = origin.still_missing; missing = origin.missing; stale = origin.stale };
-}
+flying_writes_are_sound = let origin = true_to_origin mode.Active in
+    sound_while_on _ refl (record { power = refl; freed = refl }) fits told (placed mode.Active (status_of fresh)) out (record { going = goes_on; rows = (record { ticket = refl; long = refl; disk = refl; own = its }, tt); caused = (λ waits. (first_caused, (second_caused, tt)), tt); chosen = tt })
+    (record { counted = ((record { began = first_counted.began; since = first_counted.since }, (record { began = second_counted.began; since = second_counted.since }, tt)), tt); answered = (tt, tt); copy = tt; origin = record { since = origin.since; votes = origin.votes; still_missing = origin.still_missing; missing = origin.missing; stale = origin.stale } })

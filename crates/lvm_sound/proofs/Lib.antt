@@ -1,5 +1,7 @@
-mod Small
-mod Parts
+pub mod Small
+pub mod Parts
+pub mod Requests
+pub mod While
 mod Whole
 mod Flying
 mod Bringing

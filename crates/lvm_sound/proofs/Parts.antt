@@ -1,5 +1,5 @@
 -- The parts of a worked session of which no disk is missing.
-use Rattle.std.proofs.Common.{◌≡◌, ℕ, zero, suc, ◌<◌, ◌≤◌, ◌*◌, Bool, true, false, ◌&&◌, ◌||◌, not, List, [], ◌∷◌, replicate, take, Some, None, refl, sym, ap, subst, ◌∙◌, arith}
+use Rattle.std.proofs.Common.{◌≡◌, inl, ℕ, zero, suc, ◌<◌, ◌≤◌, ◌*◌, Bool, true, false, ◌&&◌, ◌||◌, not, List, [], ◌∷◌, replicate, take, Some, None, refl, sym, ap, subst, ◌∙◌, arith}
 use Rattle.std.specs.Prelude.{◌≢◌, ◌==◌, AllPairs, is_some, slice_index_or, option_and_then, if◌then◌else◌}
 use Rattle.std.specs.List.{list_any}
 use Rattle.std.specs.Option.{option_map_or}
@@ -22,9 +22,10 @@ use Rattle.lvm_kept.specs.Examples.{member, mirror}
 use Rattle.lvm_kept.proofs.Finding.{some_same}
 use Rattle.lvm_mwc.specs.declared.notes.DiskNotes.{DiskNotes}
 use Rattle.lvm_mwc.specs.Cache.{has_disk, flight_on, no_notes}
-use Rattle.lvm_status.specs.Update.{seen}
+use Rattle.lvm_status.specs.Update.{Updates, is_held, is_owed, is_there, seen}
 use Rattle.lvm_status.specs.Runs.{IsSound as IsSoundStatus}
 use Rattle.lvm_num.specs.declared.descriptor.LvRow.{LvRow}
+use Rattle.lvm_session.specs.State.{Core}
 use Rattle.lvm_session.specs.Judging.{copies_in, is_stale, is_missing}
 use Rattle.lvm_events.specs.Marks.{is_among, can_replace, is_entailed}
 use Rattle.lvm_sound.specs.Placed.{IsPlaced, ArePlaced}
@@ -35,7 +36,7 @@ use Rattle.lvm_sound.proofs.Small.{not_so, not_either, not_none}
 
 -- ---- the group
 
-abbrev both_copies : List Pp
+abbrev pub both_copies : List Pp
 both_copies = record { disk = 0; pp = 0 } ∷ record { disk = 1; pp = 0 } ∷ []
 
 laid_out : (m : Mode) (lp : ℕ) → lp < 1 → AllPairs (λ (a b : Pp). a.disk ≢ b.disk) (copies_of (mirror m) lp)
@@ -110,20 +111,52 @@ no_note_flies m disk = by (0 == disk) (1 == disk) (2 == disk)
 pub not_marked : (disk : ℕ) {X : Type 0} → has 0 disk ≡ true → X
 not_marked disk is = not_so (sym (has-zero disk) ∙ is)
 
--- while nothing is in flight, and what is wanted is committed
+pub none_written : (disk : ℕ) → (has 0 disk ≡ false) × (has 0 disk ≡ false) × (has 0 disk ≡ false) × (has 0 disk ≡ false)
+none_written disk = (has-zero disk, has-zero disk, has-zero disk, has-zero disk)
+
+-- a status while nothing is in flight
+pub idle_is_sound : (u : Updates) → u.in_flight ≡ None → ((disk : ℕ) → (u.unstarted disk ≡ false) × (u.started disk ≡ false) × (u.written disk ≡ false) × (u.failed disk ≡ false)) → is_held u ≡ false
+    → ((disk : ℕ) → calls_missing u.committed disk ≡ true → calls_missing u.wanted disk ≡ true) → IsSoundStatus u
+idle_is_sound u none unwritten held missing = record {
+  unstarted = λ disk is. not_so (sym (unwritten disk).0 ∙ is);
+  started = λ disk is. not_so (sym (unwritten disk).1 ∙ is);
+  failed = λ disk is. not_so (sym (unwritten disk).3 ∙ is);
+  each = λ t e. not_none (sym none ∙ e);
+  idle = λ e. unwritten;
+  held = λ is. not_so (sym held ∙ is);
+  open_still = λ t e. not_none (sym none ∙ e);
+  committed_missing = missing;
+  in_flight_missing = λ t e. not_none (sym none ∙ e);
+}
+
+-- a status whose update is in flight, of which no write is under way or has failed
+pub update_is_sound : (u : Updates) (t : Status) → u.in_flight ≡ Some t
+    → ((disk : ℕ) → u.unstarted disk ≡ true → (is_there u disk ≡ true) × (u.started disk ≡ false) × (u.written disk ≡ false) × (u.failed disk ≡ false))
+    → ((disk : ℕ) → u.started disk ≡ false) → ((disk : ℕ) → u.failed disk ≡ false) → ((disk : ℕ) → is_there u disk ≡ true → u.unstarted disk || (u.started disk || u.written disk) ≡ true)
+    → is_held u ≡ false → is_owed u ≡ true → ((disk : ℕ) → calls_missing u.committed disk ≡ true → calls_missing u.wanted disk ≡ true)
+    → ((disk : ℕ) → calls_missing t disk ≡ true → calls_missing u.wanted disk ≡ true) → IsSoundStatus u
+update_is_sound u t flies unstarted none_started none_failed each held owed committed flying = record {
+  unstarted = unstarted;
+  started = λ disk is. not_so (sym (none_started disk) ∙ is);
+  failed = λ disk is. not_so (sym (none_failed disk) ∙ is);
+  each = λ x e. each;
+  idle = λ e. some_is_there (sym flies ∙ e);
+  held = λ is. not_so (sym held ∙ is);
+  open_still = λ x e. inl owed;
+  committed_missing = committed;
+  in_flight_missing = λ x e disk is. flying disk (ap (λ (y : Status). calls_missing y disk) (same t x (sym flies ∙ e)) ∙ is);
+}
+  where
+    some_is_there : {A X : Type 0} {a : A} → Some a ≡ None → X
+    some_is_there e = absurd cc
+
+    same : (x y : Status) → Some x ≡ Some y → x ≡ y
+    same x y e = cc e
+
+-- a status while nothing is in flight, and what is wanted is committed
 pub status_is_sound : (m : Mode) (says : Says) → IsSoundStatus (seen (core_of (record (calm m) { committed = says; wanted = says })).status)
 unfolding votes_by has_bit has
-status_is_sound m says = record {
-  unstarted = λ disk is. not_marked disk is;
-  started = λ disk is. not_marked disk is;
-  failed = λ disk is. not_marked disk is;
-  each = λ t e. not_none e;
-  idle = λ e disk. (has-zero disk, has-zero disk, has-zero disk, has-zero disk);
-  held = λ is. not_so is;
-  open_still = λ t e. not_none e;
-  committed_missing = λ disk is. is;
-  in_flight_missing = λ t e. not_none e;
-}
+status_is_sound m says = idle_is_sound (seen (core_of (record (calm m) { committed = says; wanted = says })).status) refl none_written refl (λ disk is. is)
 
 pub none_missing : (stale : Bool) (disk : ℕ) → calls_missing (status_of (record fresh { stale = stale })) disk ≡ false
 none_missing stale disk = by (0 == disk) (1 == disk) (2 == disk)
@@ -153,16 +186,16 @@ none_behind m stale p is = not_so (by (is_among both_copies p) (not (is_stale (c
     by false b c d e is = is
 
 -- each logical partition has a fresh copy where the first copy stays fresh
-pub has_fresh : (w : Moment) → stays_fresh (core_of w) first_copy ≡ true → (lv lp : ℕ) → list_any (may_be_fresh (core_of w)) (copies_in (mirrored w.mode) lv lp) ≡ true → list_any (stays_fresh (core_of w)) (copies_in (mirrored w.mode) lv lp) ≡ true
-has_fresh w stays lv lp = by_volume (1 == lv) lp
+pub has_fresh : (m : Mode) (core : Core) → stays_fresh core first_copy ≡ true → (lv lp : ℕ) → list_any (may_be_fresh core) (copies_in (mirrored m) lv lp) ≡ true → list_any (stays_fresh core) (copies_in (mirrored m) lv lp) ≡ true
+has_fresh m core stays lv lp = by_volume (1 == lv) lp
   where
     copies : Bool → ℕ → List Pp
-    copies is n = option_map_or (λ (row : LvRow). copies_of row n) (if is then Some (mirror w.mode) else None) []
+    copies is n = option_map_or (λ (row : LvRow). copies_of row n) (if is then Some (mirror m) else None) []
 
-    by_volume : (is : Bool) (n : ℕ) → list_any (may_be_fresh (core_of w)) (copies is n) ≡ true → list_any (stays_fresh (core_of w)) (copies is n) ≡ true
+    by_volume : (is : Bool) (n : ℕ) → list_any (may_be_fresh core) (copies is n) ≡ true → list_any (stays_fresh core) (copies is n) ≡ true
     by_volume false n some = not_so some
-    by_volume true zero some = ap (λ t. t || (stays_fresh (core_of w) second_copy || false)) stays
-    by_volume true (suc n) some = not_so (sym (ap (λ (ps : List Pp). list_any (may_be_fresh (core_of w)) (take 2 ps)) (drop_all (suc n * 2) both_copies (omega arith))) ∙ some)
+    by_volume true zero some = ap (λ t. t || (stays_fresh core second_copy || false)) stays
+    by_volume true (suc n) some = not_so (sym (ap (λ (ps : List Pp). list_any (may_be_fresh core) (take 2 ps)) (drop_all (suc n * 2) both_copies (omega arith))) ∙ some)
 
 pub none_missing_at_first : {X : Type 0} (disk : ℕ) → calls_missing (status_of fresh) disk ≡ true → X
 none_missing_at_first disk is = not_so (sym (none_missing false disk) ∙ is)

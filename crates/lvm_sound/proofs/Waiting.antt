@@ -24,8 +24,10 @@ use Rattle.lvm_sound.specs.Causes.{IsCaused, IsCounted}
 use Rattle.lvm_sound.specs.Sound.{count_if, IsAsked, IsFitting, IsTold, IsGoing, IsSound}
 use Rattle.lvm_sound.specs.Worked.{first_copy, second_copy, target_on, two_targets, waiting, asking, a_write, begun_write, core_of, status_of, fresh, faultless, WaitingWritesPin}
 use Rattle.lvm_sound.proofs.Small.{not_so, not_either}
+use Rattle.lvm_sound.proofs.While.{sound_while_on}
+use Rattle.lvm_sound.proofs.Requests.{laid_in, shaped, waits_with}
 use Rattle.lvm_sound.proofs.Parts.{none_cleared, has_fresh, placed, status_is_sound, none_behind, notes_fit, none_out}
-use Rattle.lvm_sound.proofs.Whole.{on_is_not_off, on_is_not_stuck, no_entries, begun_so, first_stays, fitting, owned, true_to_origin}
+use Rattle.lvm_sound.proofs.Whole.{no_entries, begun_so, first_stays, fitting, owned, true_to_origin}
 
 abbrev entering : Open
 entering = asking 1 a_write phase.WantEntry two_targets
@@ -63,29 +65,13 @@ differ (suc i) j d below within e = absurd (omega (arith, below, within))
 
 request : IsOpenOne (core_of waiting) entering
 unfolding has_bit
-request = record {
-  laid = record {
-    within = record { row = mirror mode.Active; volume = refl; within = omega arith; some = omega arith; fits = omega arith };
-    blocks = record { some = omega arith; end = omega arith; group = omega arith; whole = λ e. not_so e };
-    most = omega arith;
-    id = omega arith;
-  };
-  waits = λ e. record {
-    shape = record {
-      targets = (record { copy = refl; sector = refl; there = refl }, (record { copy = refl; sector = refl; there = refl }, tt));
-      phase_is = (refl, refl, refl, omega arith);
-      hand = refl;
-      room = tt;
-      differ = differ;
-      usable = λ past. refl;
-      one = λ read. not_either read;
-    };
-    ready = record { free = λ past. refl; recorded = tt; wanted = λ past two. refl; named = λ has two. not_so has; dirty = λ has two. not_so has };
-    judged = λ write. record { uncaught = (refl, (refl, tt)); due = λ waits. not_so waits; all = λ begun. not_so begun };
-  };
-  over = λ e. not_either e;
-  still = λ e. not_either e;
-}
+request =
+    waits_with refl (laid_in (mirror mode.Active) refl (omega arith) (omega arith) (omega arith) (omega arith) (omega arith) (omega arith))
+    (record {
+      shape = shaped (record { copy = refl; sector = refl; there = refl }, (record { copy = refl; sector = refl; there = refl }, tt)) (refl, refl, refl, omega arith) refl tt differ (λ past. refl) (λ read. not_either read);
+      ready = record { free = λ past. refl; recorded = tt; wanted = λ past two. refl; named = λ has two. not_so has; dirty = λ has two. not_so has };
+      judged = λ write. record { uncaught = (refl, (refl, tt)); due = λ waits. not_so waits; all = λ begun. not_so begun };
+    })
 
 first_caused : IsCaused faultless (core_of waiting) (target_on first_copy stage.Waiting)
 unfolding has_bit
@@ -122,29 +108,15 @@ goes_on = record {
   hands = λ n. omega arith;
   behind = λ p is. none_behind mode.Active false p is;
   reviewed = refl;
-  fresh = λ lv lp some. has_fresh waiting (first_stays mode.Active) lv lp some;
+  fresh = has_fresh mode.Active (core_of waiting) (first_stays mode.Active);
   clearings = λ p held clear. none_cleared (calls_stale (status_of fresh) p) held clear;
   numbers = numbers;
 }
 
 is_sound : IsSound (state faultless (core_of waiting))
-is_sound = let origin = true_to_origin mode.Active in record {
-  fitting = fits;
-  told = told;
-  placed = placed mode.Active (status_of fresh);
-  buffers = λ n. omega arith;
-  none_lost = λ lit n. none_out n;
-  on = λ e. record { going = goes_on; rows = tt; caused = (λ waits. (first_caused, (second_caused, tt)), tt); chosen = tt };
-  lit = λ e. record { power = refl; freed = refl };
-  dark = λ e. not_so e;
-  off = λ e. on_is_not_off e;
-  over = λ e. not_so e;
-  stuck = λ e. on_is_not_stuck e;
-  counted = ((record { began = first_counted.began; since = first_counted.since }, (record { began = second_counted.began; since = second_counted.since }, tt)), tt);
-  answered = (tt, tt);
-  copy = tt;
-  origin = record { since = origin.since; votes = origin.votes; still_missing = origin.still_missing; missing = origin.missing; stale = origin.stale };
-}
+is_sound = let origin = true_to_origin mode.Active in
+    sound_while_on _ refl (record { power = refl; freed = refl }) fits told (placed mode.Active (status_of fresh)) none_out (record { going = goes_on; rows = tt; caused = (λ waits. (first_caused, (second_caused, tt)), tt); chosen = tt })
+    (record { counted = ((record { began = first_counted.began; since = first_counted.since }, (record { began = second_counted.began; since = second_counted.since }, tt)), tt); answered = (tt, tt); copy = tt; origin = record { since = origin.since; votes = origin.votes; still_missing = origin.still_missing; missing = origin.missing; stale = origin.stale } })
 
 pins_next : pinning (core_of waiting) ≡ Some (event.Pin 0)
 unfolding votes_by has_bit has

@@ -18,7 +18,6 @@ use Rattle.lvm_mwc.specs.Entries.{AreEntries}
 use Rattle.lvm_mwc.specs.Cache.{has_disk}
 use Rattle.lvm_path.specs.declared.request.Phase.TheVariants as phase
 use Rattle.lvm_session.specs.declared.flown.Owner.TheVariants as owner
-use Rattle.lvm_session.specs.declared.open.Power.TheVariants as power
 use Rattle.lvm_session.specs.State.{state}
 use Rattle.lvm_sound.specs.Owners.{AreOwned, target_flies}
 use Rattle.lvm_sound.specs.Left.{updates_left}
@@ -27,13 +26,9 @@ use Rattle.lvm_sound.specs.Causes.{IsTrueToOrigin}
 use Rattle.lvm_sound.specs.Sound.{count_if, stays_fresh, IsAsked, IsFitting, IsTold, IsGoing}
 use Rattle.lvm_sound.specs.Worked.{Moment, mirrored, first_copy, calm, held_write, asking, a_write, begun_write, core_of, status_of, fresh, faultless, BeginningsAreSound, HeldWritesAreSound}
 use Rattle.lvm_sound.proofs.Small.{not_so, not_either}
+use Rattle.lvm_sound.proofs.While.{sound_while_on}
+use Rattle.lvm_sound.proofs.Requests.{laid_in, shaped, waits_with}
 use Rattle.lvm_sound.proofs.Parts.{none_cleared, valid, placed, notes_fit, no_note_flies, status_is_sound, none_behind, none_missing_at_first, has_fresh, one_stale, none_out, no_fault}
-
-pub on_is_not_off : {X : Type 0} → power.On ≡ power.Off → X
-on_is_not_off e = absurd cc
-
-pub on_is_not_stuck : {X : Type 0} → power.On ≡ power.Stuck → X
-on_is_not_stuck e = absurd cc
 
 pub no_entries : AreEntries []
 no_entries = record { most = omega arith; differ = tt; counting = All-nil IsEntry }
@@ -94,7 +89,7 @@ goes_on m = record {
   hands = λ n. omega arith;
   behind = λ p is. none_behind m false p is;
   reviewed = refl;
-  fresh = λ lv lp some. has_fresh (calm m) (first_stays m) lv lp some;
+  fresh = has_fresh m (core_of (calm m)) (first_stays m);
   clearings = λ p held clear. none_cleared (calls_stale (status_of fresh) p) held clear;
   numbers = numbers m;
 }
@@ -110,23 +105,9 @@ true_to_origin m = record {
 }
 
 pub beginnings_are_sound : BeginningsAreSound
-beginnings_are_sound m = record {
-  fitting = fits m;
-  told = told m;
-  placed = placed m (status_of fresh);
-  buffers = λ n. omega arith;
-  none_lost = λ lit n. none_out n;
-  on = λ e. record { going = goes_on m; rows = tt; caused = tt; chosen = tt };
-  lit = λ e. record { power = refl; freed = refl };
-  dark = λ e. not_so e;
-  off = λ e. on_is_not_off e;
-  over = λ e. not_so e;
-  stuck = λ e. on_is_not_stuck e;
-  counted = tt;
-  answered = tt;
-  copy = tt;
-  origin = true_to_origin m;
-}
+beginnings_are_sound m =
+    sound_while_on _ refl (record { power = refl; freed = refl }) (fits m) (told m) (placed m (status_of fresh)) none_out (record { going = goes_on m; rows = tt; caused = tt; chosen = tt })
+    (record { counted = tt; answered = tt; copy = tt; origin = true_to_origin m })
 
 -- ---- with a write that is held
 
@@ -181,29 +162,13 @@ module _ (m : Mode) where
   unrecorded mode.Off = (refl, refl, refl)
 
   held_request : IsOpenOne (core_of (held_write m)) (asking 1 a_write phase.Held [])
-  held_request = record {
-    laid = record {
-      within = record { row = mirror m; volume = refl; within = omega arith; some = omega arith; fits = omega arith };
-      blocks = record { some = omega arith; end = omega arith; group = omega arith; whole = λ e. not_so e };
-      most = omega arith;
-      id = omega arith;
-    };
-    waits = λ e. record {
-      shape = record {
-        targets = tt;
-        phase_is = (refl, refl);
-        hand = refl;
-        room = tt;
-        differ = λ i j d below within. absurd (omega (arith, below, within));
-        usable = λ past. not_so past;
-        one = λ read. not_either read;
-      };
-      ready = record { free = λ past. not_so past; recorded = unrecorded m; wanted = λ past two. not_so past; named = λ has two. not_so has; dirty = λ has two. not_so has };
-      judged = λ write. record { uncaught = tt; due = λ waits. not_so waits; all = λ begun. not_so begun };
-    };
-    over = λ e. not_either e;
-    still = λ e. not_either e;
-  }
+  held_request =
+      waits_with refl (laid_in (mirror m) refl (omega arith) (omega arith) (omega arith) (omega arith) (omega arith) (omega arith))
+      (record {
+        shape = shaped tt (refl, refl) refl tt (λ i j d below within. absurd (omega (arith, below, within))) (λ past. not_so past) (λ read. not_either read);
+        ready = record { free = λ past. not_so past; recorded = unrecorded m; wanted = λ past two. not_so past; named = λ has two. not_so has; dirty = λ has two. not_so has };
+        judged = λ write. record { uncaught = tt; due = λ waits. not_so waits; all = λ begun. not_so begun };
+      })
 
 held_numbers : (m : Mode) → 3 + updates_left (core_of (held_write m)) < 2 ^ 32
 unfolding has_bit has
@@ -225,26 +190,12 @@ held_goes_on m = record {
   hands = λ n. omega arith;
   behind = λ p is. none_behind m false p is;
   reviewed = refl;
-  fresh = λ lv lp some. has_fresh (held_write m) (first_stays m) lv lp some;
+  fresh = has_fresh m (core_of (held_write m)) (first_stays m);
   clearings = λ p held clear. none_cleared (calls_stale (status_of fresh) p) held clear;
   numbers = held_numbers m;
 }
 
 pub held_writes_are_sound : HeldWritesAreSound
-held_writes_are_sound m = let origin = true_to_origin m in record {
-  fitting = held_fits m;
-  told = held_is_told m;
-  placed = placed m (status_of fresh);
-  buffers = λ n. omega arith;
-  none_lost = λ lit n. none_out n;
-  on = λ e. record { going = held_goes_on m; rows = tt; caused = (λ waits. tt, tt); chosen = tt };
-  lit = λ e. record { power = refl; freed = refl };
-  dark = λ e. not_so e;
-  off = λ e. on_is_not_off e;
-  over = λ e. not_so e;
-  stuck = λ e. on_is_not_stuck e;
-  counted = (tt, tt);
-  answered = (tt, tt);
-  copy = tt;
-  origin = record { since = origin.since; votes = origin.votes; still_missing = origin.still_missing; missing = origin.missing; stale = origin.stale };
-}
+held_writes_are_sound m = let origin = true_to_origin m in
+    sound_while_on _ refl (record { power = refl; freed = refl }) (held_fits m) (held_is_told m) (placed m (status_of fresh)) none_out (record { going = held_goes_on m; rows = tt; caused = (λ waits. tt, tt); chosen = tt })
+    (record { counted = (tt, tt); answered = (tt, tt); copy = tt; origin = record { since = origin.since; votes = origin.votes; still_missing = origin.still_missing; missing = origin.missing; stale = origin.stale } })

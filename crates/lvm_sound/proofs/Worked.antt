@@ -11,6 +11,7 @@ use Rattle.lvm_path.specs.declared.target.Target.{Target}
 use Rattle.lvm_session.specs.declared.open.Power.TheVariants as power
 use Rattle.lvm_session.specs.State.{Core}
 use Rattle.lvm_sound.specs.Worked.{AdmissionMarks, CommitLowersWork, UnsettledIsFresh, ReadsMayLag, StandingStillIsUnsound, BlameNeedsFaults, AnswersAreTold, DarknessKeepsNotes, UnpinnedWritesMove, read_targets, unpinned_write}
+use Rattle.lvm_sound.proofs.Requests.{shaped}
 use Rattle.lvm_sound.proofs.Small.{not_so, not_either, not_risen, or_left}
 
 pub admission_marks : AdmissionMarks
@@ -92,15 +93,7 @@ unfolding votes_by has_bit has
 reads_may_lag = record {
   caught = refl;
   sound = record {
-    shape = record {
-      targets = (record { copy = refl; sector = refl; there = refl }, (record { copy = refl; sector = refl; there = refl }, tt));
-      phase_is = (omega arith, λ write. not_so write);
-      hand = refl;
-      room = tt;
-      differ = differ;
-      usable = λ past. refl;
-      one = λ read. omega arith;
-    };
+    shape = shaped (record { copy = refl; sector = refl; there = refl }, (record { copy = refl; sector = refl; there = refl }, tt)) (omega arith, λ write. not_so write) refl tt differ (λ past. refl) (λ read. omega arith);
     ready = record { free = λ past. refl; recorded = (refl, refl, refl); wanted = λ past two. refl; named = λ has two. refl; dirty = λ has two. refl };
     judged = λ write. not_so write;
   };
@@ -110,28 +103,12 @@ pub unpinned_writes_move : UnpinnedWritesMove
 unfolding votes_by has_bit has
 unpinned_writes_move = record {
   passive = record {
-    shape = record {
-      targets = (record { copy = refl; sector = refl; there = refl }, (record { copy = refl; sector = refl; there = refl }, tt));
-      phase_is = (omega arith, λ write. refl);
-      hand = refl;
-      room = tt;
-      differ = differ_so;
-      usable = λ past. refl;
-      one = λ read. not_either read;
-    };
+    shape = shaped (record { copy = refl; sector = refl; there = refl }, (record { copy = refl; sector = refl; there = refl }, tt)) (omega arith, λ write. refl) refl tt differ_so (λ past. refl) (λ read. not_either read);
     ready = record { free = λ past. refl; recorded = (refl, refl); wanted = λ past two. refl; named = λ has two. refl; dirty = λ has two. refl };
     judged = λ write. record { uncaught = (refl, (refl, tt)); due = λ waits. not_so waits; all = λ begun p among. or_left _ among };
   };
   off = record {
-    shape = record {
-      targets = (record { copy = refl; sector = refl; there = refl }, (record { copy = refl; sector = refl; there = refl }, tt));
-      phase_is = (omega arith, λ write. refl);
-      hand = refl;
-      room = tt;
-      differ = differ_so;
-      usable = λ past. refl;
-      one = λ read. not_either read;
-    };
+    shape = shaped (record { copy = refl; sector = refl; there = refl }, (record { copy = refl; sector = refl; there = refl }, tt)) (omega arith, λ write. refl) refl tt differ_so (λ past. refl) (λ read. not_either read);
     ready = record { free = λ past. refl; recorded = (refl, refl, refl); wanted = λ past two. refl; named = λ has two. refl; dirty = λ has two. refl };
     judged = λ write. record { uncaught = (refl, (refl, tt)); due = λ waits. not_so waits; all = λ begun p among. or_left _ among };
   };

@@ -21,16 +21,21 @@ use Rattle.lvm_status.proofs.Sound.{and_left, and_right, both, not_false, or_tel
 
 -- ---- an update that ends
 
-abbrev without_update : Updates → Updates
+abbrev pub without_update : Updates → Updates
 without_update u = record u { in_flight = None; unstarted = no_disks; started = no_disks; written = no_disks; failed = no_disks }
 
 -- what is true of both is true of what an update that may end leaves
-closed_keeps : (P : Updates → Type 0) (u : Updates) → (is_held u ≡ true → P (without_update u)) → P u → P (closed u)
-closed_keeps P u ends stays = by_test (is_held u && not (is_owed u)) refl
+pub closed_cases : (P : Updates → Type 0) (u : Updates) → (is_held u ≡ true → is_owed u ≡ false → P (without_update u)) → P u → P (closed u)
+closed_cases P u ends stays = by_test (is_held u && not (is_owed u)) refl
   where
     by_test : (b : Bool) → is_held u && not (is_owed u) ≡ b → P (if b then without_update u else u)
-    by_test true e = ends (and_left (is_held u) (not (is_owed u)) e)
+    by_test true e = ends (and_left (is_held u) (not (is_owed u)) e) (not_false (is_owed u) (and_right (is_held u) (not (is_owed u)) e))
     by_test false e = stays
+
+-- and what is true whether it is committed or not, of what may be committed then
+pub commit_cases : (P : Updates → Type 0) (n : Updates) (b : Bool) → P (with_commit n) → P n → P (if b then with_commit n else n)
+commit_cases P n true commits stays = commits
+commit_cases P n false commits stays = stays
 
 -- ---- one update at a time
 
@@ -39,22 +44,14 @@ StaysOrEnds t u = (u.in_flight ≡ Some t) ⊎ ((u.in_flight ≡ None) × (u.com
 
 closed_stays : (u : Updates) (t : Status) → u.in_flight ≡ Some t → (is_held u ≡ true → u.in_flight ≡ Some u.committed) → StaysOrEnds t (closed u)
 closed_stays u t is held =
-    closed_keeps (StaysOrEnds t) u
-    (λ enough. let all = held enough in let same : u.committed ≡ t = cc in inr (refl, same))
+    closed_cases (StaysOrEnds t) u
+    (λ enough none. let all = held enough in let same : u.committed ≡ t = cc in inr (refl, same))
     (inl is)
 
 -- the end of a write leaves what is in flight
 end_in_flight : (u : Updates) (disk : ℕ) (ok : Bool) (wanted : Status) → (with_end_and_commit u disk ok wanted).in_flight ≡ u.in_flight
-end_in_flight u disk true wanted = by_test (comes_held u (with_end u disk true wanted))
-  where
-    by_test : (b : Bool) → (if b then with_commit (with_end u disk true wanted) else with_end u disk true wanted).in_flight ≡ u.in_flight
-    by_test true = refl
-    by_test false = refl
-end_in_flight u disk false wanted = by_test (comes_held u (with_end u disk false wanted))
-  where
-    by_test : (b : Bool) → (if b then with_commit (with_end u disk false wanted) else with_end u disk false wanted).in_flight ≡ u.in_flight
-    by_test true = refl
-    by_test false = refl
+end_in_flight u disk true wanted = commit_cases (λ (v : Updates). v.in_flight ≡ u.in_flight) (with_end u disk true wanted) (comes_held u (with_end u disk true wanted)) refl refl
+end_in_flight u disk false wanted = commit_cases (λ (v : Updates). v.in_flight ≡ u.in_flight) (with_end u disk false wanted) (comes_held u (with_end u disk false wanted)) refl refl
 
 pub in_flight_stays : InFlightStays
 in_flight_stays (Want c) old new t sound step is =
@@ -69,7 +66,7 @@ in_flight_stays (SetStamp stamp) old new t sound step is = subst (StaysOrEnds t)
 -- ---- what is committed
 
 closed_committed : (u : Updates) → (closed u).committed ≡ u.committed
-closed_committed u = closed_keeps (λ (v : Updates). v.committed ≡ u.committed) u (λ enough. refl) refl
+closed_committed u = closed_cases (λ (v : Updates). v.committed ≡ u.committed) u (λ enough none. refl) refl
 
 well_committed : (u : Updates) (disk : ℕ) (wanted : Status) → IsSound u → u.started disk ≡ true
     → ((with_end_and_commit u disk true wanted).committed ≡ u.committed) ⊎ ((u.in_flight ≡ Some (with_end_and_commit u disk true wanted).committed) × (is_held (with_end u disk true wanted) ≡ true))
@@ -107,19 +104,10 @@ commits_are_held (SetStamp stamp) old new sound step = inl (ap (λ (u : Updates)
 -- ---- which disks have the update
 
 closed_written : (u : Updates) (disk : ℕ) → (closed u).written disk ≡ true → u.written disk ≡ true
-closed_written u disk = closed_keeps (λ (v : Updates). v.written disk ≡ true → u.written disk ≡ true) u (λ enough is. absurd (false≢true is)) (λ is. is)
+closed_written u disk = closed_cases (λ (v : Updates). v.written disk ≡ true → u.written disk ≡ true) u (λ enough none is. absurd (false≢true is)) (λ is. is)
 
 end_written : (u : Updates) (disk : ℕ) (ok : Bool) (wanted : Status) (d : ℕ) → (with_end_and_commit u disk ok wanted).written d ≡ (with_end u disk ok wanted).written d
-end_written u disk true wanted d = by_test (comes_held u (with_end u disk true wanted))
-  where
-    by_test : (b : Bool) → (if b then with_commit (with_end u disk true wanted) else with_end u disk true wanted).written d ≡ (with_end u disk true wanted).written d
-    by_test true = refl
-    by_test false = refl
-end_written u disk false wanted d = by_test (comes_held u (with_end u disk false wanted))
-  where
-    by_test : (b : Bool) → (if b then with_commit (with_end u disk false wanted) else with_end u disk false wanted).written d ≡ (with_end u disk false wanted).written d
-    by_test true = refl
-    by_test false = refl
+end_written u disk ok wanted d = let next = with_end u disk ok wanted in commit_cases (λ (v : Updates). v.written d ≡ next.written d) next (comes_held u next) refl refl
 
 -- the disk has the update after a step only where it had it before
 has_before : (old new next : Updates) (disk : ℕ) → new ≡ closed next → new.written disk ≡ true → next.written disk ≡ true
@@ -181,19 +169,11 @@ equal_stamps : (a b : Stamp) → b ≡ a → IsNotBefore a b
 equal_stamps a b is = inr (sym (ap (λ (s : Stamp). s.epoch) is), omega (arith, ap (λ (s : Stamp). s.seq) is))
 
 closed_stamp : (u : Updates) → (closed u).stamp ≡ u.stamp
-closed_stamp u = closed_keeps (λ (v : Updates). v.stamp ≡ u.stamp) u (λ enough. refl) refl
+closed_stamp u = closed_cases (λ (v : Updates). v.stamp ≡ u.stamp) u (λ enough none. refl) refl
 
 end_stamp : (u : Updates) (disk : ℕ) (ok : Bool) (wanted : Status) → (with_end_and_commit u disk ok wanted).stamp ≡ u.stamp
-end_stamp u disk true wanted = by_test (comes_held u (with_end u disk true wanted))
-  where
-    by_test : (b : Bool) → (if b then with_commit (with_end u disk true wanted) else with_end u disk true wanted).stamp ≡ u.stamp
-    by_test true = refl
-    by_test false = refl
-end_stamp u disk false wanted = by_test (comes_held u (with_end u disk false wanted))
-  where
-    by_test : (b : Bool) → (if b then with_commit (with_end u disk false wanted) else with_end u disk false wanted).stamp ≡ u.stamp
-    by_test true = refl
-    by_test false = refl
+end_stamp u disk true wanted = commit_cases (λ (v : Updates). v.stamp ≡ u.stamp) (with_end u disk true wanted) (comes_held u (with_end u disk true wanted)) refl refl
+end_stamp u disk false wanted = commit_cases (λ (v : Updates). v.stamp ≡ u.stamp) (with_end u disk false wanted) (comes_held u (with_end u disk false wanted)) refl refl
 
 step_forward : (call : Call) (old new : Updates) → Step call old new → SetsForward call old → IsNotBefore old.stamp new.stamp
 step_forward (Want c) old new step forward = equal_stamps old.stamp new.stamp (ap (λ (u : Updates). u.stamp) step.1 ∙ closed_stamp (record old { wanted = new.wanted; unstarted = given_up c old.unstarted }))
@@ -222,8 +202,8 @@ stamps_rise calls a b c d first run second =
 
 closed_settled : (u : Updates) (p : Pp) → is_settled_stale u p ≡ true → is_settled_stale (closed u) p ≡ true
 closed_settled u p is =
-    closed_keeps (λ (v : Updates). is_settled_stale v p ≡ true) u
-    (λ enough. let here = and_left (calls_stale u.committed p) (calls_stale (unwrap_or u.in_flight u.committed) p) is in both (calls_stale u.committed p) (calls_stale u.committed p) here here)
+    closed_cases (λ (v : Updates). is_settled_stale v p ≡ true) u
+    (λ enough none. let here = and_left (calls_stale u.committed p) (calls_stale (unwrap_or u.in_flight u.committed) p) is in both (calls_stale u.committed p) (calls_stale u.committed p) here here)
     is
 
 twice : (o : Option Status) (s : Status) → unwrap_or o (unwrap_or o s) ≡ unwrap_or o s

@@ -14,6 +14,7 @@ use Rattle.lvm_num.specs.Descriptor.{is_member}
 use Rattle.lvm_num.specs.Disks.{Disks}
 use Rattle.lvm_num.specs.Status.{calls_missing}
 use Rattle.lvm_num.specs.Votes.{votes_in, total_votes, is_enough_to_write}
+use Rattle.lvm_stale.specs.Table.{SameMissing}
 use Rattle.lvm_status.specs.declared.change.Change.{Change}
 use Rattle.lvm_status.specs.declared.change.Change.TheVariants as change
 use Rattle.lvm_status.specs.Update.{Updates, no_disks, with_disk, without_disk, members_there, is_there, is_held, is_owed}
@@ -144,17 +145,17 @@ pub record IsGradual (change : Change) (old new : Status) (unstarted : Disks) : 
   pub gives : (disk : ℕ) → given_up change unstarted disk ≡ true → (unstarted disk ≡ true) × (calls_missing new disk ≡ calls_missing old disk)
   pub keeps : (disk : ℕ) → calls_missing new disk ≡ false → (given_up change unstarted disk ≡ unstarted disk) × (calls_missing old disk ≡ false)
 
+-- where it makes no disk missing
+gradual_still : (c : Change) (old new : Status) (unstarted : Disks) → SameMissing old new → given_up c unstarted ≡ unstarted → IsGradual c old new unstarted
+gradual_still c old new unstarted missing same = record {
+  grows = λ disk is. missing disk ∙ is;
+  gives = λ disk is. (sym (ap (λ (set : Disks). set disk) same) ∙ is, missing disk);
+  keeps = λ disk is. (ap (λ (set : Disks). set disk) same, sym (missing disk) ∙ is);
+}
+
 pub gradual : (c : Change) (old new : Status) (unstarted : Disks) → Changes c old new → IsGradual c old new unstarted
-gradual (change.Stale pp) old new unstarted made = record {
-  grows = λ disk is. made.missing disk ∙ is;
-  gives = λ disk is. (is, made.missing disk);
-  keeps = λ disk is. (refl, sym (made.missing disk) ∙ is);
-}
-gradual (change.Fresh pp) old new unstarted made = record {
-  grows = λ disk is. made.missing disk ∙ is;
-  gives = λ disk is. (is, made.missing disk);
-  keeps = λ disk is. (refl, sym (made.missing disk) ∙ is);
-}
+gradual (change.Stale pp) old new unstarted made = gradual_still (change.Stale pp) old new unstarted made.missing refl
+gradual (change.Fresh pp) old new unstarted made = gradual_still (change.Fresh pp) old new unstarted made.missing refl
 gradual (change.Missing gone) old new unstarted made = record {
   grows = λ disk is. made.missing disk ∙ if_grows (disk == gone) (calls_missing old disk) is;
   gives = λ disk is.
@@ -164,16 +165,8 @@ gradual (change.Missing gone) old new unstarted made = record {
       let told = if_tells (disk == gone) (calls_missing old disk) (sym (made.missing disk) ∙ is) in
       (and_not (unstarted disk) (disk == gone) told.0, told.1);
 }
-gradual (change.Dirty lv) old new unstarted made = record {
-  grows = λ disk is. made.missing disk ∙ is;
-  gives = λ disk is. (is, made.missing disk);
-  keeps = λ disk is. (refl, sym (made.missing disk) ∙ is);
-}
-gradual (change.Clean lv) old new unstarted made = record {
-  grows = λ disk is. made.missing disk ∙ is;
-  gives = λ disk is. (is, made.missing disk);
-  keeps = λ disk is. (refl, sym (made.missing disk) ∙ is);
-}
+gradual (change.Dirty lv) old new unstarted made = gradual_still (change.Dirty lv) old new unstarted made.missing refl
+gradual (change.Clean lv) old new unstarted made = gradual_still (change.Clean lv) old new unstarted made.missing refl
 
 -- a member that isn't missing wasn't
 there_before : (d : Descriptor) (old new : Status) (disk : ℕ) → (calls_missing new disk ≡ false → calls_missing old disk ≡ false) → members_there d new disk ≡ true → members_there d old disk ≡ true

@@ -8,5 +8,5 @@ mod updater;
 mod writes;
 
 pub use change::{Change, Progress};
-pub use updater::Updater;
+pub use updater::{Updater, members_there};
 pub use writes::Writes;

@@ -63,9 +63,7 @@ impl Updater {
         requires rows { HasItsRows d.now table }
         ensures { IfOk result (λ updater. seen updater ≡ first_updates table d.now) }
     {
-        let group = without_volumes(alloc, d)?;
-        let committed = StaleTable::from_status(alloc, table.as_status())?;
-        let flying = StaleTable::from_status(alloc, table.as_status())?;
+        let (group, committed, flying) = first_parts(alloc, &table, d)?;
         Ok(Updater {
             group,
             committed,
@@ -332,6 +330,31 @@ fn is_member(d: &Descriptor, disk: u16) -> bool
     d.pvs.as_slice().iter().any(|member| member.disk == disk)
 }
 
+// The members of a group, and two tables that say what this one does.
+fn first_parts(
+    alloc: Global,
+    table: &StaleTable,
+    d: &Descriptor,
+) -> Result<(Descriptor, StaleTable, StaleTable), Memory>
+    ensures group { IfOk result (λ parts. parts.0 ≡ record d.now { lvs = [] }) }
+    ensures first { IfOk result (λ parts. parts.1 ≡ table.now) }
+    ensures second { IfOk result (λ parts. parts.2 ≡ table.now) }
+{
+    let group = without_volumes(alloc, d)?;
+    let (first, second) = two_of(alloc, table)?;
+    Ok((group, first, second))
+}
+
+// Two tables that say what this one does.
+fn two_of(alloc: Global, table: &StaleTable) -> Result<(StaleTable, StaleTable), Memory>
+    ensures first { IfOk result (λ tables. tables.0 ≡ table.now) }
+    ensures second { IfOk result (λ tables. tables.1 ≡ table.now) }
+{
+    let first = StaleTable::from_status(alloc, table.as_status())?;
+    let second = StaleTable::from_status(alloc, table.as_status())?;
+    Ok((first, second))
+}
+
 // The group with its members alone.
 fn without_volumes(alloc: Global, d: &Descriptor) -> Result<Descriptor, Memory>
     ensures { IfOk result (λ group. group ≡ record d.now { lvs = [] }) }
@@ -351,8 +374,8 @@ fn without_volumes(alloc: Global, d: &Descriptor) -> Result<Descriptor, Memory>
     }
 }
 
-// The members that a table doesn't call missing.
-fn members_there(d: &Descriptor, table: &StaleTable) -> DiskSet
+/// The members that a table doesn't call missing.
+pub fn members_there(d: &Descriptor, table: &StaleTable) -> DiskSet
     requires { IsValid d.now }
     ensures { has result ≡ members_there d.now table.now }
 {

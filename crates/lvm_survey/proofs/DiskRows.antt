@@ -1,39 +1,30 @@
 -- The row of a disk, as its sectors say it.
-use Rattle.std.proofs.Common.{◌≡◌, ◌⊎◌, inl, inr, ◌<◌, ◌≤◌, ◌++◌, [], ◌∷◌, ℕ, zero, suc, List, Bool, true, false, Option, Some, None, IfSome, length, slice_get, slice_index_or, refl, sym, ◌∙◌, ap, subst, arith}
-use Rattle.std.specs.Prelude.{◌&&◌, nat_le, nat_lt, if◌then◌else◌, Result, option_map}
+use Rattle.std.proofs.Common.{◌≡◌, ◌⊎◌, inl, inr, ◌<◌, ◌≤◌, ◌++◌, [], ◌∷◌, ℕ, zero, suc, List, Bool, true, false, Some, None, length, slice_get, slice_index_or, refl, sym, ◌∙◌, ap, subst, arith}
+use Rattle.std.specs.Prelude.{◌&&◌, nat_le, nat_lt, if◌then◌else◌, option_map}
 use Rattle.lvm_rec.specs.Note.{noted_of}
 use Rattle.std.proofs.lemmas.Bool.Decides.{nat_tests}
-use Rattle.lvm_num.specs.declared.record.Kind.{Kind}
 use Rattle.lvm_num.specs.declared.record.Kind.TheVariants as kind
-use Rattle.lvm_num.specs.declared.record.Stamp.{Stamp}
-use Rattle.lvm_num.specs.declared.descriptor.Descriptor.{Descriptor}
 use Rattle.lvm_num.specs.DescriptorBytes.{descriptor_of}
 use Rattle.lvm_num.specs.Note.{note_in}
-use Rattle.lvm_num.specs.Record.{newer}
 use Rattle.lvm_num.specs.StatusBytes.{status_of}
-use Rattle.lvm_num.specs.Torn.{Sectors}
 use Rattle.lvm_rec.specs.Slots.{held, newest_on, slot_of}
 use Rattle.lvm_disk.specs.Device.{Image, Media, Device, image_of}
 use Rattle.lvm_kept.specs.Contents.{has_records, descriptor_on, status_on, note_on}
-use Rattle.lvm_survey.specs.declared.area.RecordArea.{RecordArea}
+use Rattle.lvm_area.specs.declared.area.RecordArea.{RecordArea}
 use Rattle.lvm_survey.specs.declared.row.SurveyRow.{SurveyRow}
-use Rattle.lvm_survey.specs.Surveyed.{home_of, home_on, under, IsEmpty, IsRead, descriptor_shown}
-use Rattle.lvm_survey.specs.Surveying.{IsArea, IsRowOf, IsSmall}
-use Rattle.lvm_survey.proofs.Joining.{or_got}
+use Rattle.lvm_area.specs.Reading.{home_of, under, IsArea}
+use Rattle.lvm_survey.specs.Surveyed.{home_on, IsEmpty, IsRead}
+use Rattle.lvm_survey.specs.Surveying.{IsRowOfArea, IsSmall}
+use Rattle.lvm_area.proofs.Joining.{or_got}
+use Rattle.lvm_area.proofs.Shown.{is_there, where_it_has}
 
 -- ---- whether a disk has records
-
-is_there : (d n size : ℕ) → d < n → 4096 ≤ size → (nat_lt d n && nat_le 4096 size) ≡ true
-is_there d n size there large = grind (arith, nat_tests)
 
 is_not : (d n size : ℕ) → size < 4096 → (nat_lt d n && nat_le 4096 size) ≡ false
 is_not d n size small = grind (arith, nat_tests)
 
 pub large_has : (sizes : List ℕ) (m : Media) (d size : ℕ) → slice_get sizes d ≡ Some size → d < length sizes → 4096 ≤ size → has_records (image_of sizes m) d ≡ true
 large_has sizes m d size got there large = let same : slice_index_or sizes d 0 ≡ size = or_got sizes d 0 size got in is_there d (length sizes) (slice_index_or sizes d 0) there (omega arith)
-
-pub index_has : (sizes : List ℕ) (m : Media) (d : ℕ) → d < length sizes → 4096 ≤ slice_index_or sizes d 0 → has_records (image_of sizes m) d ≡ true
-index_has sizes m d there large = is_there d (length sizes) (slice_index_or sizes d 0) there large
 
 pub small_has_none : (sizes : List ℕ) (m : Media) (d size : ℕ) → slice_get sizes d ≡ Some size → size < 4096 → has_records (image_of sizes m) d ≡ false
 small_has_none sizes m d size got small = let same : slice_index_or sizes d 0 ≡ size = or_got sizes d 0 size got in is_not d (length sizes) (slice_index_or sizes d 0) (omega arith)
@@ -59,52 +50,22 @@ empty_is_read image d row none empty = record {
 
 -- ---- one that was read
 
-held_twice : {X : Type 0} (content_of : List ℕ → Result X ℕ) (k : Kind) (first second : List ℕ) (sectors : Sectors) → first ≡ slot_of k 0 sectors → second ≡ slot_of k 1 sectors
-    → newer (held content_of k first) (held content_of k second) ≡ newest_on content_of k sectors
-held_twice content_of k first second sectors a b = ap (λ (x : List ℕ). newer (held content_of k x) (held content_of k second)) a ∙ ap (λ (x : List ℕ). newer (held content_of k (slot_of k 0 sectors)) (held content_of k x)) b
-
-home_twice : {X : Type 0} (content_of : List ℕ → Result X ℕ) (k : Kind) (first second : List ℕ) (sectors : Sectors) → first ≡ slot_of k 0 sectors → second ≡ slot_of k 1 sectors
-    → home_of (held content_of k first) (held content_of k second) ≡ home_of (held content_of k (slot_of k 0 sectors)) (held content_of k (slot_of k 1 sectors))
-home_twice content_of k first second sectors a b = ap (λ (x : List ℕ). home_of (held content_of k x) (held content_of k second)) a ∙ ap (λ (x : List ℕ). home_of (held content_of k (slot_of k 0 sectors)) (held content_of k x)) b
-
-where_it_has : {X : Type 0} (b : Bool) (x y : X) → b ≡ true → x ≡ (if b then x else y)
-where_it_has b x y is = ap (λ (c : Bool). if c then x else y) (sym is)
-
-pub area_is_read : (image : Image) (d : ℕ) (area : RecordArea) (row : SurveyRow) → has_records image d ≡ true → IsArea (image.sector d) area → IsRowOf area row → IsRead image d row
+pub area_is_read : (image : Image) (d : ℕ) (area : RecordArea) (row : SurveyRow) → has_records image d ≡ true → IsArea (image.sector d) area → IsRowOfArea area row → IsRead image d row
 unfolding descriptor_on status_on note_on
 area_is_read image d area row has is says =
     let sectors = image.sector d in
     record {
-      descriptor = says.descriptor ∙ is.descriptor ∙ where_it_has (has_records image d) (newest_on descriptor_of kind.Descriptor sectors) None has;
-      status = says.status ∙ held_twice status_of kind.Status area.statuses.first.items area.statuses.second.items sectors is.statuses.0 is.statuses.1 ∙ where_it_has (has_records image d) (newest_on status_of kind.Status sectors) None has;
+      descriptor = says.descriptor ∙ is.descriptor.newest ∙ where_it_has (has_records image d) (newest_on descriptor_of kind.Descriptor sectors) None has;
+      status = says.status ∙ is.status.newest ∙ where_it_has (has_records image d) (newest_on status_of kind.Status sectors) None has;
       note = says.note ∙ ap note_in is.note ∙ where_it_has (has_records image d) (note_in (sectors 8)) None has;
-      homes = says.homes ∙ pair_of area.descriptor.home (home_of (held status_of kind.Status area.statuses.first.items) (held status_of kind.Status area.statuses.second.items)) (home_on descriptor_of kind.Descriptor image d) (home_on status_of kind.Status image d)
-          (is.home
+      homes = says.homes ∙ pair_of area.descriptor.home area.status.home (home_on descriptor_of kind.Descriptor image d) (home_on status_of kind.Status image d)
+          (is.descriptor.home
           ∙ where_it_has (has_records image d) (home_of (held descriptor_of kind.Descriptor (slot_of kind.Descriptor 0 sectors)) (held descriptor_of kind.Descriptor (slot_of kind.Descriptor 1 sectors))) 2 has)
-          (home_twice status_of kind.Status area.statuses.first.items area.statuses.second.items sectors is.statuses.0 is.statuses.1
+          (is.status.home
           ∙ where_it_has (has_records image d) (home_of (held status_of kind.Status (slot_of kind.Status 0 sectors)) (held status_of kind.Status (slot_of kind.Status 1 sectors))) 2 has);
     }
 
--- ---- its descriptor alone
-
-value_under : {X : Type 0} (value : Option X) (stamp : Stamp) → value ≡ option_map (λ r. r.value) (under value stamp)
-value_under None stamp = refl
-value_under (Some x) stamp = refl
-
--- the newest on the disk is what it shows
-pub newest_shows : (o : Option Media) (sizes : List ℕ) (d : ℕ) (value : Option Descriptor) (stamp : Stamp) → d < length sizes → 4096 ≤ slice_index_or sizes d 0
-    → IfSome o (λ m. under value stamp ≡ newest_on descriptor_of kind.Descriptor (m d)) → IfSome o (λ m. value ≡ descriptor_shown (image_of sizes m) d)
-unfolding descriptor_on
-newest_shows None sizes d value stamp there large is = tt
-newest_shows (Some m) sizes d value stamp there large is =
-    value_under value stamp ∙ ap (λ o. option_map (λ r. r.value) o) (is ∙ where_it_has (has_records (image_of sizes m) d) (newest_on descriptor_of kind.Descriptor (m d)) None (index_has sizes m d there large))
-
 -- ---- places in lists
-
-pub got_within : {X : Type 0} (xs : List X) (i : ℕ) (x : X) → slice_get xs i ≡ Some x → i < length xs
-got_within [] i x is = absurd (cc (is))
-got_within (y ∷ xs) zero x is = omega arith
-got_within (y ∷ xs) (suc i) x is = let less = got_within xs i x is in omega arith
 
 -- what a list with one more has at a place
 pub got_one_more : {X : Type 0} (xs : List X) (last : X) (i : ℕ) (x : X) → slice_get (xs ++ last ∷ []) i ≡ Some x → (slice_get xs i ≡ Some x) ⊎ ((i ≡ length xs) × (last ≡ x))

@@ -1,8 +1,5 @@
-pub mod Joining
-pub mod Fronts
-pub mod Transferring
-pub mod Following
-pub mod Areas
 pub mod DiskRows
 pub mod DiskByDisk
 pub mod ShownValid
+pub mod SurveyRows
+pub mod Passing

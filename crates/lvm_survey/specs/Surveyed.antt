@@ -1,29 +1,18 @@
 -- What a survey says of the disks.
-use Rattle.std.specs.Prelude.{◌≡◌, ℕ, if◌then◌else◌, List, [], ◌∷◌, length, Option, Some, None, Result, option_map, option_and_then, slice_get, unwrap_or, IfSome}
-use Rattle.lvm_num.specs.declared.descriptor.Descriptor.{Descriptor}
-use Rattle.lvm_num.specs.declared.record.Stamp.{Stamp}
+use Rattle.std.specs.Prelude.{◌≡◌, ℕ, if◌then◌else◌, List, [], ◌∷◌, length, Some, None, Result, option_map, option_and_then, slice_get, unwrap_or, IfSome}
 use Rattle.lvm_num.specs.declared.record.Kind.{Kind}
 use Rattle.lvm_num.specs.declared.record.Kind.TheVariants as kind
 use Rattle.lvm_num.specs.Descriptor.{IsValid}
 use Rattle.lvm_num.specs.Status.{IsValidStatus}
 use Rattle.lvm_num.specs.DescriptorBytes.{descriptor_of}
 use Rattle.lvm_num.specs.StatusBytes.{status_of}
-use Rattle.lvm_num.specs.Record.{Stamped, stamp_lt}
 use Rattle.lvm_rec.specs.Note.{noted_of}
 use Rattle.lvm_rec.specs.Slots.{held, slot_of}
 use Rattle.lvm_disk.specs.Device.{Image}
 use Rattle.lvm_kept.specs.Contents.{Contents, has_records, contents_of}
 use Rattle.lvm_survey.specs.declared.row.SurveyRow.{SurveyRow}
 use Rattle.lvm_survey.specs.declared.row.Survey.{Survey}
-
--- a value that was found, under its stamp
-abbrev pub under : {X : Type 0} → Option X → Stamp → Option (Stamped X)
-under None stamp = None
-under (Some x) stamp = Some (record { stamp = stamp; value = x })
-
--- the newest descriptor that a disk of the image shows
-abbrev pub descriptor_shown : Image → ℕ → Option Descriptor
-descriptor_shown image d = option_map (λ r. r.value) ((contents_of image).descriptor d)
+use Rattle.lvm_area.specs.Reading.{under, home_of}
 
 -- what the survey says that the disks show, of their records alone; of a disk whose read failed it says that it shows none
 abbrev pub surveyed : Survey → Contents
@@ -35,13 +24,6 @@ surveyed s = record {
   note = λ d. option_and_then (λ row. option_map noted_of row.note) (slice_get s.rows d);
   block = λ d s. [];
 }
-
--- the slot with the newer of two records, 2 where there is none
-abbrev pub home_of : {X : Type 0} → Option (Stamped X) → Option (Stamped X) → ℕ
-home_of None None = 2
-home_of None (Some b) = 1
-home_of (Some a) None = 0
-home_of (Some a) (Some b) = if stamp_lt a.stamp b.stamp then 1 else 0
 
 -- the slot of a disk with its newest record of a kind, 2 where there is none
 abbrev pub home_on : {X : Type 0} → (List ℕ → Result X ℕ) → Kind → Image → ℕ → ℕ

@@ -4,19 +4,20 @@ ghost use Rattle.lvm_num.specs.declared.descriptor.PvRow.{PvRow as pv_row};
 ghost use Rattle.lvm_num.specs.DescriptorBytes.{descriptor_of};
 ghost use Rattle.lvm_commit.specs.Settling.{IsOf, MaySettle, HasNumbers};
 
-use crate::fixtures::{
-    blank_shelf, check, first_homes, group, has_room, row, stamp, status, survey, volume,
-};
-use lvm_commit::{Settled, commit_descriptor, commit_status};
+use lvm_commit::{CommitEnd, commit_descriptor, commit_status};
 use lvm_disk::Shelf;
 use lvm_faults::{Act, Planned};
 use lvm_memory::MemShelf;
 use lvm_num::{Descriptor, Pbuf, Pp, Rows, Stamp};
-use lvm_quorum::Homes;
 use lvm_stale::StaleTable;
 use lvm_status::{Change, Updater};
 use lvm_survey::Survey;
+use lvm_tests_shelves::{
+    blank_shelf, first_homes, group, has_room, row, stamp, status, survey, volume,
+};
+use lvm_tests_values::check;
 use lvm_transfer::{Patience, relight};
+use lvm_write::Homes;
 use std::process::Abort;
 
 const ID: u64 = 50;
@@ -293,24 +294,24 @@ static CASES: [Case; 12] = [
     },
 ];
 
-fn end_of(settled: Settled) -> End {
+fn end_of(settled: CommitEnd) -> End {
     match settled {
-        Settled::Done { buf } => {
+        CommitEnd::Done { buf } => {
             if buf.number() == 9 {
                 End::Done
             } else {
                 End::OtherBuffer
             }
         }
-        Settled::WentOff { have, total, buf } => {
+        CommitEnd::WentOff { have, total, buf } => {
             if buf.number() == 9 {
                 End::WentOff(have, total)
             } else {
                 End::OtherBuffer
             }
         }
-        Settled::Dark => End::Dark,
-        Settled::Stuck => End::Stuck,
+        CommitEnd::Dark => End::Dark,
+        CommitEnd::Stuck => End::Stuck,
     }
 }
 

@@ -1,12 +1,14 @@
 //! A shelf in memory at work: what its calls answer, one after the other. Its starts and reaps go
 //! through the trait.
-use crate::fixtures::{blank_shelf, check, plan_of, start};
+use crate::fixtures::start;
 use Answer::*;
 use Step::*;
 use lvm_disk::{Arrange, Reaped, Shelf, Started};
 use lvm_faults::{Act, Planned, names_disks};
 use lvm_memory::MemShelf;
 use lvm_num::Pbuf;
+use lvm_tests_shelves::{blank_shelf, plan_of};
+use lvm_tests_values::check;
 use std::process::Abort;
 
 // What is asked of the shelf.
@@ -245,7 +247,10 @@ fn byte_at(shelf: &MemShelf, disk: u16, sector: u64) -> Answer {
     if disk >= shelf.disks() || sector > 1000 {
         return Refused;
     }
-    match shelf.image(disk).get(sector as usize * 512 + 511) {
+    if sector >= shelf.sectors(disk) {
+        return Nothing;
+    }
+    match shelf.sector(disk, sector).last() {
         Some(byte) => Is(u64::from(*byte)),
         None => Nothing,
     }

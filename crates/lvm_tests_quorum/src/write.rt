@@ -2,16 +2,18 @@
 ghost use Rattle.std.specs.Prelude.{◌≡◌};
 ghost use Rattle.lvm_num.specs.Record.{longest_content};
 
-use crate::fixtures::{all_disks, blank_shelf, check, first_two, has_room, plan_of};
+use crate::fixtures::first_two;
 use End::*;
 use Step::*;
 use lvm_disk::Shelf;
 use lvm_faults::{Act, Planned, names_disks};
 use lvm_memory::MemShelf;
 use lvm_num::{DiskSet, Kind, Pbuf, Stamp};
-use lvm_quorum::{Homes, Wrote, empty_notes, write_record};
 use lvm_rec::{read_note, read_slot};
+use lvm_tests_shelves::{all_disks, blank_shelf, has_room, plan_of};
+use lvm_tests_values::check;
 use lvm_transfer::{Patience, relight};
+use lvm_write::{Homes, Wrote, empty_notes, write_record};
 use std::process::Abort;
 
 const FIRST: Stamp = Stamp { epoch: 50, seq: 1 };
@@ -374,7 +376,8 @@ fn held(
         (Kind::Status, true) => (128, 192),
     };
     assert!(rt; disk < shelf.disks());
-    let slot = shelf.image(disk).get(first * 512..end * 512)?;
+    let image = shelf.image(rt.alloc(), disk).expect(rt, "memory");
+    let slot = image.get(first * 512..end * 512)?;
     let framed = read_slot(rt.alloc(), kind, slot).expect(rt, "memory")?;
     let last = framed.content.as_slice().last()?;
     Some((framed.stamp, *last))
@@ -469,11 +472,8 @@ fn empty<S: Shelf>(rt: &(impl Abort + AllocGlobal), shelf: &mut S, stamp: u64) -
 // The stamp of a disk's note, where it has no entries.
 fn note_on(rt: &impl Abort, shelf: &MemShelf, disk: u16) -> Option<u64> {
     assert!(rt; disk < shelf.disks());
-    let bytes = shelf.image(disk).get(8 * 512..9 * 512)?;
-    let mut sector = [0; 512];
-    assert!(rt; bytes.len() == sector.len());
-    sector.copy_from_slice(bytes);
-    let note = read_note(&sector)?;
+    assert!(rt; shelf.sectors(disk) > 8);
+    let note = read_note(shelf.sector(disk, 8))?;
     if note.entries.is_empty() {
         Some(note.stamp)
     } else {

@@ -1,7 +1,8 @@
-use crate::fixtures::{Member, check, check_at, group, members};
+use lvm_fields::Fault;
 use lvm_num::{Descriptor, LvRow, Mode, Name, Policy, Pp, PvRow, Rows};
 use lvm_spelling::encode;
-use lvm_vgda::{VgdaFault, decode};
+use lvm_tests_values::{Member, check, check_at, group, members};
+use lvm_vgda::decode;
 use std::process::Abort;
 
 // A group of three disks without a volume.
@@ -59,15 +60,15 @@ fn two(rt: &(impl Abort + AllocGlobal)) -> Vec<u8> {
 }
 
 // The place of the first fault.
-fn fault_in(rt: &(impl Abort + AllocGlobal), bytes: &[u8]) -> Option<u32> {
+fn fault_in(rt: &(impl Abort + AllocGlobal), bytes: &[u8]) -> Option<usize> {
     match decode(rt.alloc(), bytes) {
-        Err(VgdaFault::BadDescriptor { place }) => Some(place),
+        Err(Fault::At(place)) => Some(place),
         _ => None,
     }
 }
 
 // what, the bytes that are put over others, the place of the fault
-static FAULTS: [(&str, &[(usize, u8)], u32); 43] = [
+static FAULTS: [(&str, &[(usize, u8)], usize); 43] = [
     ("magic", &[(0, b'W')], 0),
     ("version 3", &[(3, b'3')], 0),
     ("id 0", &[(11, 0)], 4),
@@ -117,7 +118,7 @@ static FAULTS: [(&str, &[(usize, u8)], u32); 43] = [
     ("the first of two", &[(129, 2), (52, 2)], 52),
 ];
 
-fn fault_with(rt: &(impl Abort + AllocGlobal), changes: &[(usize, u8)]) -> Option<u32> {
+fn fault_with(rt: &(impl Abort + AllocGlobal), changes: &[(usize, u8)]) -> Option<usize> {
     let mut bytes = two(rt);
     for (at, byte) in changes {
         *bytes.get_mut(*at).expect(rt, "a place") = *byte;
@@ -139,7 +140,7 @@ fn all_of_the_bytes_are_needed_and_none_more(rt: HostRuntime) {
     check(&rt, again.as_slice() == bytes.as_slice(), "again");
     for len in 0..148 {
         let front = bytes.get(..len).expect(&rt, "bytes");
-        check_at(&rt, fault_in(&rt, front) == Some(len as u32), "bytes", len);
+        check_at(&rt, fault_in(&rt, front) == Some(len), "bytes", len);
     }
     bytes.push(0).expect(&rt, "memory");
     check(&rt, fault_in(&rt, &bytes) == Some(148), "a byte more");

@@ -1,6 +1,7 @@
-use crate::fixtures::{check, check_at};
+use lvm_fields::Fault;
 use lvm_num::{Rows, Status, StatusRow, VolumeNumbers};
-use lvm_vgsa::{VgsaFault, decode, encode, encode_into};
+use lvm_tests_values::{check, check_at};
+use lvm_vgsa::{decode, encode, encode_into};
 use std::process::Abort;
 
 // A status by whether its group is big, by its rows, which are of the first disks, and by its dirty volumes.
@@ -161,15 +162,15 @@ fn the_largest_of_each_version_round_trips(rt: HostRuntime) {
 }
 
 // The place of the first fault.
-fn fault_in(rt: &(impl Abort + AllocGlobal), bytes: &[u8]) -> Option<u32> {
+fn fault_in(rt: &(impl Abort + AllocGlobal), bytes: &[u8]) -> Option<usize> {
     match decode(rt.alloc(), bytes) {
-        Err(VgsaFault::BadStatus { place }) => Some(place),
+        Err(Fault::At(place)) => Some(place),
         _ => None,
     }
 }
 
 // the bytes of this status, these put over them at this place, the place of the first fault
-static FAULTS: [(&Form, usize, &[u8], u32); 28] = [
+static FAULTS: [(&Form, usize, &[u8], usize); 28] = [
     (&SMALL, 0, &[0], 0),
     (&SMALL, 3, b"0", 0),
     (&SMALL, 3, b"4", 0),
@@ -203,7 +204,12 @@ static FAULTS: [(&Form, usize, &[u8], u32); 28] = [
 ];
 
 // The place of the first fault once these bytes stand at this offset.
-fn fault_with(rt: &(impl Abort + AllocGlobal), form: &Form, at: usize, put: &[u8]) -> Option<u32> {
+fn fault_with(
+    rt: &(impl Abort + AllocGlobal),
+    form: &Form,
+    at: usize,
+    put: &[u8],
+) -> Option<usize> {
     let mut bytes = bytes_of(rt, form).into_vec();
     for (k, byte) in put.iter().enumerate() {
         *bytes.get_mut(at.wrapping_add(k)).expect(rt, "a byte") = *byte;
@@ -228,7 +234,7 @@ fn all_of_the_bytes_are_needed_and_none_more(rt: HostRuntime) {
     let mut bytes = bytes_of(&rt, &BIG_DIRTY).into_vec();
     for len in 0..286 {
         let front = bytes.get(..len).expect(&rt, "bytes");
-        check_at(&rt, fault_in(&rt, front) == Some(len as u32), "bytes", len);
+        check_at(&rt, fault_in(&rt, front) == Some(len), "bytes", len);
     }
     check(&rt, fault_in(&rt, &bytes).is_none(), "all");
     bytes.extend_from_slice(&[0, 0]).expect(&rt, "memory");

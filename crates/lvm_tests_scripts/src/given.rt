@@ -32,10 +32,10 @@ fn ended(rt: &(impl Abort + AllocGlobal), words: &[&str], images: &mut MemSink) 
 
 // The last byte of the first data sector of a shelf's first disk.
 fn last_byte(shelf: &MemShelf) -> Option<u8> {
-    if shelf.disks() == 0 {
+    if shelf.disks() == 0 || shelf.sectors(0) <= 4_096 {
         return None;
     }
-    shelf.image(0).get(4_096 * 512 + 511).copied()
+    shelf.sector(0, 4_096).last().copied()
 }
 
 #[test]

@@ -6,7 +6,7 @@ use Rattle.lvm_top.specs.Program.{OnScript, OnSim, IsUnrun}
 use Rattle.lvm_top.specs.Run.{Promises, ran}
 use Rattle.lvm_top.specs.Script.{Stream}
 use Rattle.lvm_top.specs.declared.run.Ended.{Ended}
-use Rattle.lvm_top.specs.declared.status.Status.TheVariants as ended
+use Rattle.lvm_top.specs.declared.status.ExitStatus.TheVariants as ended
 use Rattle.lvm_top.proofs.Stopping.{nothing_promised}
 use Rattle.lvm_words.specs.declared.job.Job.{Job}
 use Rattle.lvm_words.specs.declared.job.Job.TheVariants.{Script, Sim, Image, Help, Version}

@@ -17,18 +17,18 @@ use Rattle.lvm_top.specs.Script.{Stream, Passage, StaysAlone, EndsAlone, empty_l
 use Rattle.lvm_top.proofs.Firsts.{first_upheld}
 use Rattle.lvm_top.proofs.Scripting.{Ended, told_same, nothing_done, nothing_broken, lines_ended, run_upheld, run_ahead}
 use Rattle.lvm_top.specs.Statuses.{status_of, at_end, IsAtEnd, GoesUntil}
-use Rattle.lvm_top.specs.declared.status.Status.{Status}
-use Rattle.lvm_top.specs.declared.status.Status.TheVariants as ended
+use Rattle.lvm_top.specs.declared.status.ExitStatus.{ExitStatus}
+use Rattle.lvm_top.specs.declared.status.ExitStatus.TheVariants as ended
 use Rattle.lvm_top.specs.declared.script.Stop.{Stop}
 use Rattle.lvm_top.specs.declared.script.Stop.TheVariants as stop
 
 -- by whether a line was refused
-by_count : (P : Status → Type 0) → P ended.Well → P ended.Refusals → (b : Bool) → P (if b then ended.Well else ended.Refusals)
+by_count : (P : ExitStatus → Type 0) → P ended.Well → P ended.Refusals → (b : Bool) → P (if b then ended.Well else ended.Refusals)
 by_count P well refusals true = well
 by_count P well refusals false = refusals
 
 pub words_read : (why : Option Stop) (refused : ℕ) → status_of why refused ≡ ended.Usage → ⊥
-words_read None refused is = by_count (λ (s : Status). s ≡ ended.Usage → ⊥) (λ e. cc (e)) (λ e. cc (e)) (refused == 0) is
+words_read None refused is = by_count (λ (s : ExitStatus). s ≡ ended.Usage → ⊥) (λ e. cc (e)) (λ e. cc (e)) (refused == 0) is
 words_read (Some stop.SourceFault) refused is = cc (is)
 words_read (Some stop.SinkFault) refused is = cc (is)
 words_read (Some stop.Memory) refused is = cc (is)
@@ -52,7 +52,7 @@ counted_at_end (Some stop.Stuck) refused end = absurd end
 counted_at_end (Some stop.TooLong) refused end = absurd end
 
 -- each other status has one reason
-abbrev reason : Status → Option Stop
+abbrev reason : ExitStatus → Option Stop
 reason ended.SourceFault = Some stop.SourceFault
 reason ended.SinkFault = Some stop.SinkFault
 reason ended.Memory = Some stop.Memory
@@ -61,14 +61,14 @@ reason ended.TooLong = Some stop.TooLong
 reason other = None
 
 reason_back : (why : Option Stop) (refused : ℕ) → reason (status_of why refused) ≡ why
-reason_back None refused = by_count (λ (s : Status). reason s ≡ None) refl refl (refused == 0)
+reason_back None refused = by_count (λ (s : ExitStatus). reason s ≡ None) refl refl (refused == 0)
 reason_back (Some stop.SourceFault) refused = refl
 reason_back (Some stop.SinkFault) refused = refl
 reason_back (Some stop.Memory) refused = refl
 reason_back (Some stop.Stuck) refused = refl
 reason_back (Some stop.TooLong) refused = refl
 
-pub why_at : (why : Option Stop) (refused : ℕ) (status : Status) → status_of why refused ≡ status → why ≡ reason status
+pub why_at : (why : Option Stop) (refused : ℕ) (status : ExitStatus) → status_of why refused ≡ status → why ≡ reason status
 why_at why refused status is = sym (reason_back why refused) ∙ ap reason is
 
 -- ---- runs
@@ -100,16 +100,16 @@ nothing_ran last room device input output ready = record {
 
 module _ (run last : ℕ) (room : Room) (entry exit : Device) (input output : Passage) (log : Log) (made : log ≡ record (empty_log run room) { facts = log.facts }) (end : State) (closed : IsClosed exit (Some log) last end) (why : Option Stop) (refused : ℕ) where
   -- a run of lines that ended so
-  abbrev ran_so : Status → Run
+  abbrev ran_so : ExitStatus → Run
   ran_so status = record { named = run; last = last; room = room; entry = entry; exit = exit; input = input; output = output; history = Some log; status = status; refused = refused }
 
   -- lines were done, and the status says why no more were
   pub lines_ran :
-      (status : Status) → status ≡ status_of why refused
+      (status : ExitStatus) → status ≡ status_of why refused
       → GoesUntil why (empty_log run room) room (entry_state entry run) end input output refused
       → ((why ≡ Some stop.Stuck → ⊥) → IsReady exit) → exit.power ≡ true
       → IsRun (ran_so status)
-  lines_ran status says goes ready power = subst (λ (s : Status). IsRun (ran_so s)) (sym says) (record {
+  lines_ran status says goes ready power = subst (λ (s : ExitStatus). IsRun (ran_so s)) (sym says) (record {
     history_is = made;
     none = tt;
     read_words = words_read why refused;
@@ -197,7 +197,7 @@ module _ {S : Type 0} (device : S → Device) (shelf : S) (history : Log) (run b
     the_ahead = run_ahead (empty_log kept.run room) room kept.run last (device shelf) (device closed) kept.facts (state_in device it last) input output refused refl end_is refl the_lines.lines
 
     pub the_run :
-        (status : Status) → status ≡ status_of why refused → IsReady (device shelf)
+        (status : ExitStatus) → status ≡ status_of why refused → IsReady (device shelf)
         → IsRun (ran room (device shelf) (device closed) input output last (Some kept) status refused)
     the_run status says ready =
         lines_ran kept.run last room (device shelf) (device closed) input output kept kept_made (state_in device it last) (record { moment = end_is; clock = refl }) why refused status says the_lines
@@ -206,7 +206,7 @@ module _ {S : Type 0} (device : S → Device) (shelf : S) (history : Log) (run b
 
     -- all that is promised of it
     pub the_promises :
-        (clock : ℕ) (status : Status) → status ≡ status_of why refused → IsReady (device shelf) → Rose clock run
+        (clock : ℕ) (status : ExitStatus) → status ≡ status_of why refused → IsReady (device shelf) → Rose clock run
         → Promises clock (ran room (device shelf) (device closed) input output last (Some kept) status refused)
     the_promises clock status says ready rose = record {
       clock = (subst (λ (n : ℕ). Rose clock n) (sym named) rose, (let is = named in let le = later in omega (arith, is, le)));

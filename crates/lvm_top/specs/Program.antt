@@ -9,8 +9,8 @@ use Rattle.lvm_vol.specs.Legal.{Legal}
 use Rattle.lvm_top.specs.Run.{Run, Promises, WhereAlone}
 use Rattle.lvm_top.specs.Script.{Passage, facts_of}
 use Rattle.lvm_top.specs.declared.run.Ended.{Ended}
-use Rattle.lvm_top.specs.declared.status.Status.{Status}
-use Rattle.lvm_top.specs.declared.status.Status.TheVariants as ended
+use Rattle.lvm_top.specs.declared.status.ExitStatus.{ExitStatus}
+use Rattle.lvm_top.specs.declared.status.ExitStatus.TheVariants as ended
 use Rattle.lvm_words.specs.declared.job.Job.{Job}
 use Rattle.lvm_words.specs.declared.job.Job.TheVariants.{Script, Sim, Image, Help, Version}
 use Rattle.lvm_language.specs.declared.fault.WordsFault.{WordsFault}
@@ -59,7 +59,7 @@ OnText (Ok Version) P = P version_line
 OnText (Err why) P = Unit {0}
 
 -- The text was written whole, or the sink failed and a front of it was.
-pub record IsTold (text : List ℕ) (status : Status) (out : Passage) : Type 0 where
+pub record IsTold (text : List ℕ) (status : ExitStatus) (out : Passage) : Type 0 where
   pub status_is : (status ≡ ended.Well) ⊎ (status ≡ ended.SinkFault)
   pub whole : status ≡ ended.Well → WhereTold out.before.content out.after.content (λ a b. b ≡ a ++ text)
   pub front : status ≡ ended.SinkFault → WhereTold out.before.content out.after.content (λ a b. WritesFront text a b)
@@ -74,7 +74,7 @@ abbrev pub IsSaid : List ℕ → Passage → Type 0
 IsSaid text out = WhereTold out.before.content out.after.content (λ a b. b ≡ a ++ text) ⊎ (Rose out.before.faults out.after.faults × WhereTold out.before.content out.after.content (λ a b. WritesFront text a b))
 
 -- nothing was run: no history, no line refused, and no disks made in memory
-pub record IsUnrun {S : Type 0} (end : Ended S) (status : Status) : Type 0 where
+pub record IsUnrun {S : Type 0} (end : Ended S) (status : ExitStatus) : Type 0 where
   pub status_is : end.status ≡ status
   pub refused_is : end.refused ≡ 0
   pub history_is : end.history ≡ None
@@ -103,7 +103,7 @@ pub record PromisesBlank (asked : ℕ) (r : Run) : Type 0 where
   pub first : WhereAlone r (Legal (joined [] (facts_of r.history)) × ImagesKept r.exit (joined [] (facts_of r.history)))
 
 -- That disk alone was chosen, and its new image has so many MiB of zeros, or the sink failed and it has a front of them.
-pub record IsImaged (disk mib : ℕ) (status : Status) (chosen : Option ℕ) (earlier choices : ℕ) (image : Passage) : Type 0 where
+pub record IsImaged (disk mib : ℕ) (status : ExitStatus) (chosen : Option ℕ) (earlier choices : ℕ) (image : Passage) : Type 0 where
   pub status_is : (status ≡ ended.Well) ⊎ (status ≡ ended.SinkFault)
   pub chosen_is : chosen ≡ Some disk
   pub once : choices ≡ next_count earlier

@@ -12,8 +12,8 @@ use Rattle.lvm_core.specs.declared.parts.Room.{Room}
 use Rattle.lvm_commands.specs.State.{State}
 use Rattle.lvm_top.specs.Script.{Passage, AreDone, AreAllRead, IsLineLeft, EndsStuck, StaysAlone, EndsAlone, empty_log, entry_state, facts_of, run_of}
 use Rattle.lvm_top.specs.Statuses.{at_end, IsAtEnd}
-use Rattle.lvm_top.specs.declared.status.Status.{Status}
-use Rattle.lvm_top.specs.declared.status.Status.TheVariants as ended
+use Rattle.lvm_top.specs.declared.status.ExitStatus.{ExitStatus}
+use Rattle.lvm_top.specs.declared.status.ExitStatus.TheVariants as ended
 use Rattle.lvm_top.specs.Sim.{IsToldBlank}
 
 -- What a run was given and what came of it: the moment that names it and the clock's last one, its rooms, the shelf before and after, what was read and written, its history, its status, and how many lines were refused.
@@ -26,11 +26,11 @@ pub record Run : Type 0 where
   pub input : Passage
   pub output : Passage
   pub history : Option Log
-  pub status : Status
+  pub status : ExitStatus
   pub refused : ℕ
 
 -- what the call says of it
-abbrev pub ran : Room → Device → Device → Passage → Passage → ℕ → Option Log → Status → ℕ → Run
+abbrev pub ran : Room → Device → Device → Passage → Passage → ℕ → Option Log → ExitStatus → ℕ → Run
 ran room entry exit input output last history status refused =
     record { named = run_of history; last = last; room = room; entry = entry; exit = exit; input = input; output = output; history = history; status = status; refused = refused }
 

@@ -6,13 +6,13 @@ use Rattle.lvm_vol.specs.Log.{Log}
 use Rattle.lvm_core.specs.declared.parts.Room.{Room}
 use Rattle.lvm_commands.specs.State.{State}
 use Rattle.lvm_top.specs.Script.{Passage, AreDone, AreAllRead, IsLineLeft, EndsStuck}
-use Rattle.lvm_top.specs.declared.status.Status.{Status}
-use Rattle.lvm_top.specs.declared.status.Status.TheVariants as ended
+use Rattle.lvm_top.specs.declared.status.ExitStatus.{ExitStatus}
+use Rattle.lvm_top.specs.declared.status.ExitStatus.TheVariants as ended
 use Rattle.lvm_top.specs.declared.script.Stop.{Stop}
 use Rattle.lvm_top.specs.declared.script.Stop.TheVariants as stop
 
 -- the number of a status
-abbrev pub code_of : Status → ℕ
+abbrev pub code_of : ExitStatus → ℕ
 code_of ended.Well = 0
 code_of ended.Refusals = 1
 code_of ended.Usage = 2
@@ -23,17 +23,17 @@ code_of ended.Stuck = 6
 code_of ended.TooLong = 7
 
 -- the input's end was reached, by whether a line was refused
-abbrev pub at_end : ℕ → Status
+abbrev pub at_end : ℕ → ExitStatus
 at_end refused = if refused == 0 then ended.Well else ended.Refusals
 
 -- the run read its input to the end
-abbrev pub IsAtEnd : Status → Type 0
+abbrev pub IsAtEnd : ExitStatus → Type 0
 IsAtEnd ended.Well = Unit {0}
 IsAtEnd ended.Refusals = Unit {0}
 IsAtEnd other = ⊥
 
 -- the status of a run that stopped for this
-abbrev pub status_of : Option Stop → ℕ → Status
+abbrev pub status_of : Option Stop → ℕ → ExitStatus
 status_of None refused = at_end refused
 status_of (Some stop.SourceFault) refused = ended.SourceFault
 status_of (Some stop.SinkFault) refused = ended.SinkFault

@@ -15,4 +15,4 @@ pub use lvm_core::Room;
 pub use lvm_words::{Job, WordsFault, read_words};
 pub use program::run_words;
 pub use run::{Ended, run_script};
-pub use status::Status;
+pub use status::ExitStatus;

@@ -10,7 +10,7 @@ ghost use Rattle.lvm_words.specs.Words.{job_of};
 
 use crate::image::run_image;
 use crate::run::{Ended, run_script};
-use crate::status::Status;
+use crate::status::ExitStatus;
 use lvm_core::Room;
 use lvm_disk::Shelf;
 use lvm_io::{Clock, Images, Sink, SinkFault, Source, write_all};
@@ -60,31 +60,31 @@ fn say_usage<E: Sink>(err: &mut E)
 }
 
 // Writes a text: all of it, or where the sink failed a front.
-fn tell<O: Sink>(text: &[u8], out: &mut O) -> Status
+fn tell<O: Sink>(text: &[u8], out: &mut O) -> ExitStatus
     ensures { IsTold text.now result (passage O.held O.faults out.old out.new) }
 {
     match write_all(out, text) {
-        Ok(()) => Status::Well,
-        Err(SinkFault) => Status::SinkFault,
+        Ok(()) => ExitStatus::Well,
+        Err(SinkFault) => ExitStatus::SinkFault,
     }
 }
 
 // Tells how the words go.
-fn tell_help<O: Sink>(out: &mut O) -> Status
+fn tell_help<O: Sink>(out: &mut O) -> ExitStatus
     ensures { IsTold help_text result (passage O.held O.faults out.old out.new) }
 {
     tell(HELP, out)
 }
 
 // Tells which program this is.
-fn tell_version<O: Sink>(out: &mut O) -> Status
+fn tell_version<O: Sink>(out: &mut O) -> ExitStatus
     ensures { IsTold version_line result (passage O.held O.faults out.old out.new) }
 {
     tell(VERSION, out)
 }
 
 // Makes a new image of a disk.
-fn make_image<P: Images>(disk: u16, mib: u32, images: &mut P) -> Status
+fn make_image<P: Images>(disk: u16, mib: u32, images: &mut P) -> ExitStatus
     ensures { IsImaged disk mib result (P.chosen images.new) (P.choices images.old) (P.choices images.new) (passage P.held P.faults images.old images.new) }
 {
     images.choose(disk);
@@ -92,7 +92,7 @@ fn make_image<P: Images>(disk: u16, mib: u32, images: &mut P) -> Status
 }
 
 // The end where no script was run.
-fn unrun<S>(status: Status, files: S) -> Ended<S>
+fn unrun<S>(status: ExitStatus, files: S) -> Ended<S>
     ensures files { result.shelf ≡ files }
     ensures unrun { IsUnrun result status }
 {
@@ -122,17 +122,17 @@ pub fn run_words<I: Source, O: Sink, E: Sink, C: Clock, S: Shelf, P: Images>(
 ) -> Ended<S>
     requires ready { IsReady (S.device files) }
 
-    ensures usage { IfErr (job_of words.now) (λ _. IsUsage result (passage E.held E.faults err.old err.new) × (result.status ≡ Status.Memory → err.new ≡ err.old)) }
+    ensures usage { IfErr (job_of words.now) (λ _. IsUsage result (passage E.held E.faults err.old err.new) × (result.status ≡ ExitStatus.Memory → err.new ≡ err.old)) }
     ensures script { let read = passage I.left I.faults input.old input.new in let written = passage O.held O.faults out.old out.new in
         OnScript (job_of words.now) ((result.sim ≡ None) × Promises (C.last clock.old) (ran full_room (S.device files) (S.device result.shelf) read written (C.last clock.new) result.history result.status result.refused)) }
     ensures sim { let read = passage I.left I.faults input.old input.new in let written = passage O.held O.faults out.old out.new in
         OnSim (job_of words.now) (λ disks mib.
         IfSome result.sim (λ shelf. PromisesBlank (C.last clock.old) (ran full_room (sim_device disks mib) (device_of shelf) read written (C.last clock.new) result.history result.status result.refused))
-        × IfNone result.sim (IsUnrun result Status.Memory × (input.new ≡ input.old) × (out.new ≡ out.old) × (clock.new ≡ clock.old))) }
+        × IfNone result.sim (IsUnrun result ExitStatus.Memory × (input.new ≡ input.old) × (out.new ≡ out.old) × (clock.new ≡ clock.old))) }
     ensures text { OnText (job_of words.now) (λ text. IsUnrun result result.status × IsTold text result.status (passage O.held O.faults out.old out.new)) }
     ensures image { let zeros = passage P.held P.faults images.old images.new in
-        OnImage (job_of words.now) (λ disk mib. IsUnrun result result.status × (result.status ≡ Status.Memory → images.new ≡ images.old)
-        × ((result.status ≡ Status.Memory → ⊥) → IsImaged disk mib result.status (P.chosen images.new) (P.choices images.old) (P.choices images.new) zeros)) }
+        OnImage (job_of words.now) (λ disk mib. IsUnrun result result.status × (result.status ≡ ExitStatus.Memory → images.new ≡ images.old)
+        × ((result.status ≡ ExitStatus.Memory → ⊥) → IsImaged disk mib result.status (P.chosen images.new) (P.choices images.old) (P.choices images.new) zeros)) }
     ensures alone { LeavesAlone (job_of words.now) (result.shelf ≡ files) (input.new ≡ input.old) (out.new ≡ out.old) (err.new ≡ err.old) (clock.new ≡ clock.old) (images.new ≡ images.old) }
 {
     match read_words(alloc, words) {
@@ -148,15 +148,15 @@ pub fn run_words<I: Source, O: Sink, E: Sink, C: Clock, S: Shelf, P: Images>(
                     sim: Some(ended.shelf),
                 }
             }
-            Err(Memory) => unrun(Status::Memory, files),
+            Err(Memory) => unrun(ExitStatus::Memory, files),
         },
         Ok(Job::Image { disk, mib }) => unrun(make_image(disk, mib, images), files),
         Ok(Job::Help) => unrun(tell_help(out), files),
         Ok(Job::Version) => unrun(tell_version(out), files),
         Err(WordsFault::Usage) => {
             say_usage(err);
-            unrun(Status::Usage, files)
+            unrun(ExitStatus::Usage, files)
         }
-        Err(WordsFault::Memory) => unrun(Status::Memory, files),
+        Err(WordsFault::Memory) => unrun(ExitStatus::Memory, files),
     }
 }

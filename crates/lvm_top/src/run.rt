@@ -8,7 +8,7 @@ ghost use Rattle.lvm_top.specs.Script.{passage};
 ghost use Rattle.lvm_top.specs.Statuses.{status_of};
 
 use crate::script::{Stop, do_lines};
-use crate::status::Status;
+use crate::status::ExitStatus;
 use lvm_commands::Stage;
 use lvm_core::{Closed, Room};
 use lvm_disk::Shelf;
@@ -21,7 +21,7 @@ use std::alloc::Global;
 #[derive(Drop)]
 pub struct Ended<S> {
     /// Why it ended.
-    pub status: Status,
+    pub status: ExitStatus,
     /// How many lines were refused.
     pub refused: u32,
     /// What was asked and answered; None where no memory was found for a run.
@@ -33,26 +33,26 @@ pub struct Ended<S> {
 }
 
 // The status of a run of which so many lines were refused, and that stopped so.
-fn status_of(stop: Option<Stop>, refused: u32) -> Status
+fn status_of(stop: Option<Stop>, refused: u32) -> ExitStatus
     ensures { result ≡ status_of stop refused }
 {
     match stop {
-        None if refused == 0 => Status::Well,
-        None => Status::Refusals,
-        Some(Stop::SourceFault) => Status::SourceFault,
-        Some(Stop::SinkFault) => Status::SinkFault,
-        Some(Stop::Memory) => Status::Memory,
-        Some(Stop::Stuck) => Status::Stuck,
-        Some(Stop::TooLong) => Status::TooLong,
+        None if refused == 0 => ExitStatus::Well,
+        None => ExitStatus::Refusals,
+        Some(Stop::SourceFault) => ExitStatus::SourceFault,
+        Some(Stop::SinkFault) => ExitStatus::SinkFault,
+        Some(Stop::Memory) => ExitStatus::Memory,
+        Some(Stop::Stuck) => ExitStatus::Stuck,
+        Some(Stop::TooLong) => ExitStatus::TooLong,
     }
 }
 
 // The end of a run for which no memory was found.
 fn unbegun<S>(shelf: S) -> Ended<S>
-    ensures { result ≡ record { status = Status.Memory; refused = 0; history = None; shelf = shelf; sim = None } }
+    ensures { result ≡ record { status = ExitStatus.Memory; refused = 0; history = None; shelf = shelf; sim = None } }
 {
     Ended {
-        status: Status::Memory,
+        status: ExitStatus::Memory,
         refused: 0,
         history: None,
         shelf,

@@ -4,7 +4,7 @@ ghost use Rattle.lvm_top.specs.Statuses.{code_of};
 
 /// How a run of the program ended.
 #[derive(Clone, Copy, Debug, PartialEq, Eq, Drop)]
-pub enum Status {
+pub enum ExitStatus {
     /// 0: the input, if the words ask for a run of it, was read to its end and nothing was refused; else what they ask for was written.
     Well,
     /// 1: the input was read to its end, and something was refused.
@@ -23,20 +23,20 @@ pub enum Status {
     TooLong,
 }
 
-impl Status {
+impl ExitStatus {
     /// The number with which the program ends.
     pub fn code(self) -> u8
         ensures { result ≡ code_of self }
     {
         match self {
-            Status::Well => 0,
-            Status::Refusals => 1,
-            Status::Usage => 2,
-            Status::SourceFault => 3,
-            Status::SinkFault => 4,
-            Status::Memory => 5,
-            Status::Stuck => 6,
-            Status::TooLong => 7,
+            ExitStatus::Well => 0,
+            ExitStatus::Refusals => 1,
+            ExitStatus::Usage => 2,
+            ExitStatus::SourceFault => 3,
+            ExitStatus::SinkFault => 4,
+            ExitStatus::Memory => 5,
+            ExitStatus::Stuck => 6,
+            ExitStatus::TooLong => 7,
         }
     }
 }

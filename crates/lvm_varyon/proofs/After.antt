@@ -23,12 +23,12 @@ use Rattle.lvm_kept.specs.Group.{passes, is_of, has_room, descriptor_among, is_v
 use Rattle.lvm_kept.specs.Torn.{written as as_read}
 use Rattle.lvm_kept.proofs.Finding.{images_within}
 use Rattle.lvm_stamps.specs.Behind.{StampsBefore, beginning_at, IsBehind}
-use Rattle.lvm_quorum.specs.declared.homes.Homes.{Homes}
+use Rattle.lvm_write.specs.declared.homes.Homes.{Homes}
 use Rattle.lvm_vol.specs.Log.{Log}
 use Rattle.lvm_kept.specs.Plans.{ChangesBy}
 use Rattle.lvm_status.specs.Update.{Updates}
-use Rattle.lvm_quorum.specs.Homes.{SparesNewest}
-use Rattle.lvm_quorum.specs.Written.{LogsPlan, IsInPlan}
+use Rattle.lvm_write.specs.Homes.{SparesNewest}
+use Rattle.lvm_write.specs.Written.{LogsPlan, IsInPlan}
 use Rattle.lvm_core.specs.declared.parts.Room.{Room}
 use Rattle.lvm_commit.specs.Committed.{next_stamp, Began, ShowsCommitted, HoldsCommitted}
 use Rattle.lvm_commit.proofs.Found.{newest_is_beginning}

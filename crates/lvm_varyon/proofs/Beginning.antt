@@ -31,12 +31,13 @@ use Rattle.lvm_stamps.proofs.Stamps.{behind_is_before}
 use Rattle.lvm_stamps.proofs.Records.{shown_is_before, session_may_go}
 use Rattle.lvm_vgda.proofs.Whole.{spelled_is_read}
 use Rattle.lvm_vgsa.proofs.RoundTrip.{is_read_again}
-use Rattle.lvm_quorum.specs.Homes.{SparesNewest}
-use Rattle.lvm_quorum.specs.Written.{write_of, HaveRoom}
-use Rattle.lvm_quorum.proofs.Shows.{descriptor_may_be_written, status_may_be_written}
+use Rattle.lvm_write.specs.Homes.{SparesNewest}
+use Rattle.lvm_write.specs.Written.{write_of, HaveRoom}
+use Rattle.lvm_write.proofs.Shows.{descriptor_may_be_written, status_may_be_written}
 use Rattle.lvm_survey.specs.declared.row.SurveyRow.{SurveyRow}
 use Rattle.lvm_survey.specs.declared.row.Survey.{Survey}
-use Rattle.lvm_survey.specs.Surveyed.{surveyed, under}
+use Rattle.lvm_survey.specs.Surveyed.{surveyed}
+use Rattle.lvm_area.specs.Reading.{under}
 use Rattle.lvm_core.specs.declared.parts.Room.{Room}
 use Rattle.lvm_begin.specs.Beginning.{Beginning, describes, states, MayBeginAgain}
 use Rattle.lvm_next.specs.Next.{IsNextStatus, is_active, is_passive, has_active, has_passive}

@@ -15,12 +15,12 @@ use Rattle.lvm_stamps.specs.Behind.{StampsBefore, beginning_at, IsBehind}
 use Rattle.lvm_stamps.proofs.Stamps.{later_is_ahead_too, before_is_behind}
 use Rattle.lvm_stamps.proofs.Shelves.{unwritten_stays_behind}
 use Rattle.lvm_stamps.proofs.Records.{all_is_behind_end}
-use Rattle.lvm_quorum.specs.Written.{KeepsShelf}
-use Rattle.lvm_quorum.specs.declared.homes.Homes.{Homes}
-use Rattle.lvm_quorum.specs.Homes.{SparesNewest}
+use Rattle.lvm_write.specs.Written.{KeepsShelf}
+use Rattle.lvm_write.specs.declared.homes.Homes.{Homes}
+use Rattle.lvm_write.specs.Homes.{SparesNewest}
 use Rattle.lvm_survey.specs.declared.row.Survey.{Survey}
 use Rattle.lvm_survey.specs.Surveyed.{surveyed}
-use Rattle.lvm_survey.specs.Surveying.{IsUnwritten, IsCutOff}
+use Rattle.lvm_area.specs.Reading.{IsUnwritten, IsCutOff}
 use Rattle.lvm_core.specs.declared.parts.Room.{Room}
 use Rattle.lvm_core.specs.declared.refused.Cause.{Cause}
 use Rattle.lvm_core.specs.declared.refused.Cause.TheVariants as cause
@@ -29,7 +29,7 @@ use Rattle.lvm_begin.proofs.Following.{stamps_are_of_beginning}
 use Rattle.lvm_next.specs.Next.{IsNextStatus, has_active}
 use Rattle.lvm_varyon.specs.declared.plan.Plan.{Plan}
 use Rattle.lvm_varyon.specs.Chosen.{answering, last_moment}
-use Rattle.lvm_varyon.specs.Writing.{beginning, order, AllWritten, OneFailed, WasBrokenOff, IsLeftOut}
+use Rattle.lvm_varyon.specs.Writing.{beginning, order, AllWritten, WasBrokenOff, OneWriteFailed, IsStillOut}
 use Rattle.lvm_varyon.specs.Varied.{HasWritten, AtChoice, WasStopped, Stops, IsAheadOfDisks, IsBrought}
 use Rattle.lvm_varyon.specs.Parts.{IsSurveyOf, StopsReading, NotChosen, IsPlan, StopsWriting}
 use Rattle.lvm_varyon.proofs.Seeing.{if_told, answered_by, found_at}
@@ -122,7 +122,7 @@ module _ (old read : Device) (survey : Survey) (is : IsSurveyOf old read survey)
     b : Beginning
     b = again_beginning moment plan.descriptor plan.status (has plan.targets) plan.homes
 
-    left_out : IsLeftOut between read new → IsLeftOut before old new
+    left_out : IsStillOut between read new → IsStillOut before old new
     left_out out = record {
       flight = out.flight;
       out = out.out;
@@ -143,10 +143,10 @@ module _ (old read : Device) (survey : Survey) (is : IsSurveyOf old read survey)
     }
 
     pub stops_writing : (why : Cause) → StopsWriting between (again_beginning moment plan.descriptor plan.status (has plan.targets) plan.homes) (again_order plan.forget) read new why → Stops old new name moment before why
-    stops_writing (cause.DiskFailed disk) bad = has_written new bad.stops.only.misses (λ group b r. OneFailed b (order group) disk r new)
-        (subst (λ (parts : List Part). OneFailed (again_beginning moment plan.descriptor plan.status (has plan.targets) plan.homes) parts disk read new) order_is bad)
+    stops_writing (cause.DiskFailed disk) bad = has_written new bad.stops.only.misses (λ group b r. OneWriteFailed b (order group) disk r new)
+        (subst (λ (parts : List Part). OneWriteFailed (again_beginning moment plan.descriptor plan.status (has plan.targets) plan.homes) parts disk read new) order_is bad)
     stops_writing cause.Dark off = broken (IsCutOff old new) (cut_off off.0) off.1
-    stops_writing cause.Stuck off = broken (IsLeftOut before old new) (left_out off.0) off.1
+    stops_writing cause.Stuck off = broken (IsStillOut before old new) (left_out off.0) off.1
     stops_writing cause.Memory off = absurd off
     stops_writing cause.HistoryFull off = off
     stops_writing cause.NoRecord off = absurd off

@@ -13,14 +13,15 @@ use Rattle.lvm_num.proofs.Newest.{is_one}
 use Rattle.lvm_kept.specs.Group.{is_status_of, is_voter, has_quorum, status_among}
 use Rattle.lvm_kept.proofs.Finding.{is_offered, offered}
 use Rattle.lvm_quorum.specs.declared.choice.Choice.{Choice}
-use Rattle.lvm_quorum.specs.declared.homes.Homes.{Homes}
-use Rattle.lvm_quorum.specs.Choosing.{IsChosen, IsOnly, IsGreatestEpoch}
-use Rattle.lvm_quorum.specs.Homes.{SpareNewest}
+use Rattle.lvm_write.specs.declared.homes.Homes.{Homes}
+use Rattle.lvm_quorum.specs.Choosing.{IsChosenGroup, IsOnly, IsGreatestEpoch}
+use Rattle.lvm_write.specs.Homes.{SpareNewest}
 use Rattle.lvm_quorum.proofs.Chosen.{found_valid}
 use Rattle.lvm_quorum.proofs.Epochs.{found_on}
 use Rattle.lvm_survey.specs.declared.row.SurveyRow.{SurveyRow}
 use Rattle.lvm_survey.specs.declared.row.Survey.{Survey}
-use Rattle.lvm_survey.specs.Surveyed.{surveyed, under, IsSurveyValid}
+use Rattle.lvm_survey.specs.Surveyed.{surveyed, IsSurveyValid}
+use Rattle.lvm_area.specs.Reading.{under}
 use Rattle.lvm_core.specs.declared.parts.Room.{Room}
 use Rattle.lvm_next.specs.Next.{IsNextStatus}
 use Rattle.lvm_varyon.specs.declared.plan.Plan.{Plan}
@@ -42,7 +43,7 @@ status_valid s id r valid found =
     on_row d None at e = absurd cc
     on_row d (Some row) at e = shown_valid row.status row.status_stamp e (valid d row at).status
 
-module _ (s : Survey) (name : List ℕ) (choice : Choice) (is : IsChosen (surveyed s) name choice) where
+module _ (s : Survey) (name : List ℕ) (choice : Choice) (is : IsChosenGroup (surveyed s) name choice) where
   own_id : is.id ≡ choice.descriptor.id
   own_id = sym (found_on (surveyed s) is.id is.group is.only.newest).2 ∙ ap (λ (g : Descriptor). g.id) (sym is.descriptor)
 

@@ -17,10 +17,11 @@ use Rattle.lvm_num.specs.StatusBytes.{status_of}
 use Rattle.lvm_num.specs.Note.{note_in}
 use Rattle.lvm_rec.specs.Slots.{newest_on}
 use Rattle.lvm_kept.specs.Contents.{contents_of, has_records, note_sector, descriptor_on, status_on, note_on}
-use Rattle.lvm_quorum.specs.Written.{HasRoom}
+use Rattle.lvm_write.specs.Written.{HasRoom}
 use Rattle.lvm_survey.specs.declared.row.SurveyRow.{SurveyRow}
 use Rattle.lvm_survey.specs.declared.row.Survey.{Survey}
-use Rattle.lvm_survey.specs.Surveyed.{surveyed, under, IsEmpty, IsRead}
+use Rattle.lvm_survey.specs.Surveyed.{surveyed, IsEmpty, IsRead}
+use Rattle.lvm_area.specs.Reading.{under}
 use Rattle.lvm_varyon.specs.Found.{HaveAnswered, records_on, Found}
 use Rattle.lvm_varyon.specs.Parts.{IsSurveyOf}
 

@@ -4,7 +4,7 @@ use Rattle.lvm_num.specs.Disks.{Disks}
 use Rattle.lvm_disk.specs.Counts.{Rose}
 use Rattle.lvm_disk.specs.Device.{Device, image_of}
 use Rattle.lvm_kept.specs.Contents.{Contents, contents_of}
-use Rattle.lvm_quorum.specs.Written.{HasRoom}
+use Rattle.lvm_write.specs.Written.{HasRoom}
 
 -- The disks that answered between two moments of the shelf: those with room for records of which no read of records failed.
 pub record HaveAnswered (old new : Device) (disks : Disks) : Type 0 where

@@ -14,23 +14,24 @@ use Rattle.lvm_kept.specs.Contents.{Contents}
 use Rattle.lvm_quorum.specs.declared.choice.Choice.{Choice}
 use Rattle.lvm_quorum.specs.declared.choice.ChooseFault.{ChooseFault}
 use Rattle.lvm_quorum.specs.declared.choice.ChooseFault.TheVariants as fault
-use Rattle.lvm_quorum.specs.declared.homes.Homes.{Homes}
+use Rattle.lvm_write.specs.declared.homes.Homes.{Homes}
 use Rattle.lvm_quorum.specs.Choosing.{HasNoRecord, HasRecord, IsAmbiguous, LacksQuorum}
-use Rattle.lvm_quorum.specs.Homes.{SpareNewest}
+use Rattle.lvm_write.specs.Homes.{SpareNewest}
 use Rattle.lvm_survey.specs.declared.row.Survey.{Survey}
 use Rattle.lvm_survey.specs.declared.row.SurveyRow.{SurveyRow}
 use Rattle.lvm_survey.specs.Rows.{AreRows}
 use Rattle.lvm_survey.specs.Surveyed.{surveyed, IsSurveyValid}
-use Rattle.lvm_survey.specs.Surveying.{IsUnwritten, IsRested, IsCutOff, IsSurveyed}
+use Rattle.lvm_area.specs.Reading.{IsUnwritten, IsRested, IsCutOff}
+use Rattle.lvm_survey.specs.Surveying.{IsSurveyed}
 use Rattle.lvm_core.specs.declared.parts.Room.{Room}
 use Rattle.lvm_core.specs.declared.refused.Cause.{Cause}
 use Rattle.lvm_core.specs.declared.refused.Cause.TheVariants as cause
 use Rattle.lvm_core.specs.Starting.{IsReservedFor}
-use Rattle.lvm_begin.specs.Beginning.{Beginning, Part}
+use Rattle.lvm_begin.specs.Beginning.{Beginning, Part, again_beginning}
 use Rattle.lvm_varyon.specs.declared.plan.Plan.{Plan}
 use Rattle.lvm_next.specs.Next.{IsNextStatus, has_active}
 use Rattle.lvm_varyon.specs.Chosen.{answering, MayComeOn, IsClockBack}
-use Rattle.lvm_varyon.specs.Writing.{AllWritten, OneFailed, WasBrokenOff, IsLeftOut}
+use Rattle.lvm_varyon.specs.Writing.{AllWritten, WasBrokenOff, OneWriteFailed, IsStillOut}
 
 -- ---- the reading
 
@@ -47,7 +48,7 @@ pub record IsSurveyOf (old new : Device) (survey : Survey) : Type 0 where
 module _ (patience : ℕ) (old new : Device) where
   abbrev pub StopsReading : Cause → Type 0
   StopsReading cause.Dark = IsUnwritten old new × IsCutOff old new
-  StopsReading cause.Stuck = IsUnwritten old new × IsLeftOut patience old new
+  StopsReading cause.Stuck = IsUnwritten old new × IsStillOut patience old new
   StopsReading cause.Memory = IsUnwritten old new × IsRested old new
   StopsReading cause.HistoryFull = ⊥
   StopsReading cause.NoRecord = ⊥
@@ -60,9 +61,9 @@ module _ (patience : ℕ) (old new : Device) where
   StopsReading (cause.TooSmall disk) = ⊥
   StopsReading cause.GroupExists = ⊥
 
-abbrev pub ReadGives : ℕ → Device → Device → Result (Survey × Buffer) Cause → Type 0
-ReadGives patience old new (Ok got) = IsSurveyOf old new got.0
-ReadGives patience old new (Err why) = StopsReading patience old new why
+abbrev pub SurveyGives : ℕ → Device → Device → Result (Survey × Buffer) Cause → Type 0
+SurveyGives patience old new (Ok got) = IsSurveyOf old new got.0
+SurveyGives patience old new (Err why) = StopsReading patience old new why
 
 -- ---- the plan
 
@@ -100,6 +101,15 @@ pub record IsPlanFor (choice : Choice) (homes : Homes) (room : Room) (plan : Pla
   pub same_homes : plan.homes ≡ homes
   pub parts : IsReservedFor choice.descriptor next room plan.parts
 
+-- the same, where the choice has the status with which the group comes on
+pub record IsPlanOfChoice (choice : Choice) (homes : Homes) (room : Room) (plan : Plan) : Type 0 where
+  pub descriptor : plan.descriptor ≡ descriptor_bytes choice.descriptor
+  pub status : plan.status ≡ status_bytes choice.status
+  pub targets : plan.targets ≡ choice.answering
+  pub forget : plan.forget ≡ not (has_active choice.descriptor)
+  pub same_homes : plan.homes ≡ homes
+  pub parts : IsReservedFor choice.descriptor choice.status room plan.parts
+
 -- what is to be written of the group that may come on, and the parts of its session
 pub record IsPlan (survey : Survey) (name : List ℕ) (moment : ℕ) (room : Room) (plan : Plan) : Type 0 where
   pub group : Descriptor
@@ -115,17 +125,25 @@ pub record IsPlan (survey : Survey) (name : List ℕ) (moment : ℕ) (room : Roo
   pub homes : SpareNewest survey plan.homes
   pub parts : IsReservedFor group next room plan.parts
 
+-- the disks were read, and this is the plan by what they show; the buffer comes back
+abbrev pub IsPlannedBy : Device → Device → List ℕ → ℕ → Room → Plan → Type 0
+IsPlannedBy old new name moment room plan = (survey : Survey) × IsSurveyOf old new survey × IsPlan survey name moment room plan
+
 abbrev pub PlanGives : Survey → List ℕ → ℕ → Room → Result Plan Cause → Type 0
 PlanGives survey name moment room (Ok plan) = IsPlan survey name moment room plan
 PlanGives survey name moment room (Err why) = NotChosen (surveyed survey) name moment why
 
 -- ---- the writes
 
+-- what is written of a plan under a moment
+abbrev pub plan_beginning : ℕ → Plan → Beginning
+plan_beginning moment plan = again_beginning moment plan.descriptor plan.status (has plan.targets) plan.homes
+
 module _ (patience : ℕ) (b : Beginning) (parts : List Part) (read new : Device) where
   abbrev pub StopsWriting : Cause → Type 0
-  StopsWriting (cause.DiskFailed disk) = OneFailed b parts disk read new
+  StopsWriting (cause.DiskFailed disk) = OneWriteFailed b parts disk read new
   StopsWriting cause.Dark = IsCutOff read new × WasBrokenOff b parts read new
-  StopsWriting cause.Stuck = IsLeftOut patience read new × WasBrokenOff b parts read new
+  StopsWriting cause.Stuck = IsStillOut patience read new × WasBrokenOff b parts read new
   StopsWriting cause.Memory = ⊥
   StopsWriting cause.HistoryFull = ⊥
   StopsWriting cause.NoRecord = ⊥
@@ -137,6 +155,6 @@ module _ (patience : ℕ) (b : Beginning) (parts : List Part) (read new : Device
   StopsWriting (cause.TooSmall disk) = ⊥
   StopsWriting cause.GroupExists = ⊥
 
-  abbrev pub WriteGives : Result Homes Cause → Type 0
-  WriteGives (Ok homes) = AllWritten b parts homes read new
-  WriteGives (Err why) = StopsWriting why
+  abbrev pub AgainWritesGive : Result Homes Cause → Type 0
+  AgainWritesGive (Ok homes) = AllWritten b parts homes read new
+  AgainWritesGive (Err why) = StopsWriting why

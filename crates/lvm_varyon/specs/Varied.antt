@@ -11,9 +11,9 @@ use Rattle.lvm_vol.specs.Log.{Log, spare_entries, cut_log}
 use Rattle.lvm_kept.specs.Contents.{Contents, contents_of}
 use Rattle.lvm_kept.specs.Recovered.{Recovered}
 use Rattle.lvm_stamps.specs.Behind.{IsBehind}
-use Rattle.lvm_quorum.specs.declared.homes.Homes.{Homes}
+use Rattle.lvm_write.specs.declared.homes.Homes.{Homes}
 use Rattle.lvm_quorum.specs.Choosing.{HasNoRecord, HasRecord, IsAmbiguous, LacksQuorum}
-use Rattle.lvm_survey.specs.Surveying.{IsUnwritten, IsRested, IsCutOff}
+use Rattle.lvm_area.specs.Reading.{IsUnwritten, IsRested, IsCutOff}
 use Rattle.lvm_core.specs.declared.parts.Room.{Room}
 use Rattle.lvm_core.specs.declared.refused.Cause.{Cause}
 use Rattle.lvm_core.specs.declared.refused.Refused.{Refused}
@@ -24,7 +24,7 @@ use Rattle.lvm_begin.specs.Beginning.{Beginning, MayBeginAgain}
 use Rattle.lvm_varyon.specs.Found.{Found, HaveAnswered}
 use Rattle.lvm_next.specs.Next.{IsNextStatus, has_active}
 use Rattle.lvm_varyon.specs.Chosen.{answering, last_moment, MayComeOn, IsClockBack}
-use Rattle.lvm_varyon.specs.Writing.{beginning, order, Writes, AllWritten, OneFailed, WasBrokenOff, IsLeftOut}
+use Rattle.lvm_varyon.specs.Writing.{beginning, order, Writes, AllWritten, WasBrokenOff, OneWriteFailed, IsStillOut}
 use Rattle.lvm_next.specs.Restated.{Restated}
 use Rattle.lvm_varyon.specs.Restated.{AreOfRecords, WhereTold}
 
@@ -90,9 +90,9 @@ module _ (old new : Device) (name : List ℕ) (moment patience : ℕ) where
   Stops cause.Ambiguous = AtChoice old new (λ c. HasRecord c name × IsAmbiguous c name)
   Stops (cause.NoQuorum have total) = AtChoice old new (λ c. LacksQuorum c name have total)
   Stops (cause.ClockBack seen) = AtChoice old new (λ c. IsClockBack c name moment seen)
-  Stops (cause.DiskFailed disk) = HasWritten old new name moment (λ group b read. OneFailed b (order group) disk read new)
+  Stops (cause.DiskFailed disk) = HasWritten old new name moment (λ group b read. OneWriteFailed b (order group) disk read new)
   Stops cause.Dark = WasStopped old new name moment (IsCutOff old new)
-  Stops cause.Stuck = WasStopped old new name moment (IsLeftOut patience old new)
+  Stops cause.Stuck = WasStopped old new name moment (IsStillOut patience old new)
   Stops cause.Memory = IsUnwritten old new × IsRested old new
   Stops cause.HistoryFull = ⊥
   Stops (cause.NoDisk disk) = ⊥

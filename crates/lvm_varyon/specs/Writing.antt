@@ -7,12 +7,12 @@ use Rattle.lvm_num.specs.DescriptorBytes.{descriptor_bytes}
 use Rattle.lvm_num.specs.StatusBytes.{status_bytes}
 use Rattle.lvm_disk.specs.Counts.{RoseBy}
 use Rattle.lvm_disk.specs.Device.{Device, Flight, image_of}
-use Rattle.lvm_quorum.specs.declared.homes.Homes.{Homes}
-use Rattle.lvm_quorum.specs.Homes.{SparesNewest}
-use Rattle.lvm_quorum.specs.Written.{KeepsShelf}
-use Rattle.lvm_survey.specs.Surveying.{IsUnwritten, IsRested}
+use Rattle.lvm_write.specs.declared.homes.Homes.{Homes}
+use Rattle.lvm_write.specs.Homes.{SparesNewest}
+use Rattle.lvm_write.specs.Written.{KeepsShelf}
+use Rattle.lvm_area.specs.Reading.{IsUnwritten, IsRested}
 use Rattle.lvm_begin.specs.Beginning.{Beginning, Part, again_beginning, again_order, IsOfParts, AllStand}
-use Rattle.lvm_begin.specs.Ends.{BothFlip, HasNoFault, StopsAt, IsFirstFailed, WasTried}
+use Rattle.lvm_begin.specs.Ends.{BothFlip, HasNoFault, StopsAt, IsLowestFailed, WasTriedOnTargets}
 use Rattle.lvm_next.specs.Next.{has_active}
 
 -- the records that go to the members that answer: the descriptor under sequence 1 of the moment, the status under sequence 2
@@ -43,9 +43,9 @@ pub record AllWritten (b : Beginning) (parts : List Part) (homes : Homes) (read 
   pub rested : IsRested read new
 
 -- One of them failed on some disks, of which this is the lowest; it was tried on all, and those behind it weren't begun.
-pub record OneFailed (b : Beginning) (parts : List Part) (disk : ℕ) (read new : Device) : Type 0 where
-  pub first : IsFirstFailed b.targets read new disk
-  pub stops : StopsAt b parts read new (WasTried b read new)
+pub record OneWriteFailed (b : Beginning) (parts : List Part) (disk : ℕ) (read new : Device) : Type 0 where
+  pub first : IsLowestFailed b.targets read new disk
+  pub stops : StopsAt b parts read new (WasTriedOnTargets b read new)
   pub rested : IsRested read new
 
 -- one of them was broken off
@@ -53,7 +53,7 @@ abbrev pub WasBrokenOff : Beginning → List Part → Device → Device → Type
 WasBrokenOff b parts read new = StopsAt b parts read new (λ hand. Unit {0})
 
 -- One transfer is out, of which nothing was heard until the patience had run out; the power was on all the time.
-pub record IsLeftOut (patience : ℕ) (old new : Device) : Type 0 where
+pub record IsStillOut (patience : ℕ) (old new : Device) : Type 0 where
   pub flight : Flight
   pub out : new.flights ≡ flight ∷ []
   pub freed : new.freed ≡ []

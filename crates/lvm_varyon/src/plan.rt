@@ -4,13 +4,17 @@ ghost use Rattle.lvm_num.specs.Descriptor.{IsValid};
 ghost use Rattle.lvm_num.specs.Status.{IsValidStatus};
 ghost use Rattle.lvm_survey.specs.Rows.{AreRows};
 ghost use Rattle.lvm_survey.specs.Surveyed.{IsSurveyValid};
-ghost use Rattle.lvm_core.specs.Starting.{IsRoom};
-ghost use Rattle.lvm_varyon.specs.Parts.{PlanGives, IsPlanFor, cause_of};
+ghost use Rattle.lvm_core.specs.Starting.{IsRoom, IsOneGroup};
+ghost use Rattle.lvm_varyon.specs.Parts.{PlanGives, IsPlanFor, cause_of, IsPlanOfChoice};
+ghost use Rattle.lvm_num.specs.DescriptorBytes.{descriptor_bytes};
+ghost use Rattle.lvm_num.specs.StatusBytes.{status_bytes};
 
 use lvm_core::{Cause, Parts, Room};
 use lvm_next::{has_active, next_status};
-use lvm_num::{DiskSet, Memory, Name, Rows};
-use lvm_quorum::{Choice, ChooseFault, Homes, Survey, choose};
+use lvm_num::{DiskSet, Memory, Name, Rows, Status};
+use lvm_quorum::{Choice, ChooseFault, choose};
+use lvm_survey::Survey;
+use lvm_write::Homes;
 use std::alloc::Global;
 
 // The last moment that a clock may answer. None is later.
@@ -80,31 +84,63 @@ fn plan_for(alloc: Global, choice: Choice, homes: Homes, room: Room) -> Result<P
     ensures { IfOk result (IsPlanFor choice homes room) }
 {
     let next = next_status(alloc, &choice.descriptor, &choice.status, choice.answering)?;
-    let descriptor = lvm_spelling::encode(alloc, &choice.descriptor)?;
-    let status = lvm_vgsa::encode(alloc, &next)?;
-    let forget = !has_active(&choice.descriptor);
+    plan_with(alloc, with_status(choice, next), homes, room)
+}
+
+// The choice with another status.
+fn with_status(choice: Choice, status: Status) -> Choice
+    ensures { result ≡ record choice { status = status } }
+{
     let Choice {
-        descriptor: group,
-        answering: targets,
+        descriptor,
+        answering,
         seen,
         ..
     } = choice;
-    let parts = Parts::new(
-        alloc,
-        Choice {
-            descriptor: group,
-            status: next,
-            answering: targets,
-            seen,
-        },
-        room,
-    )?;
-    Ok(Plan {
-        parts,
+    Choice {
         descriptor,
         status,
+        answering,
+        seen,
+    }
+}
+
+// The plan by which a group comes on with the status of the choice.
+fn plan_with(alloc: Global, choice: Choice, homes: Homes, room: Room) -> Result<Plan, Memory>
+    requires descriptor { IsValid choice.descriptor }
+    requires status { IsValidStatus choice.status }
+    requires group { IsOneGroup choice.descriptor choice.status }
+    requires room { IsRoom room }
+    ensures { IfOk result (IsPlanOfChoice choice homes room) }
+{
+    let bytes = encode(alloc, &choice)?;
+    let forget = !has_active(&choice.descriptor);
+    let targets = choice.answering;
+    let parts = Parts::new(alloc, choice, room)?;
+    Ok(Plan {
+        parts,
+        descriptor: bytes.descriptor,
+        status: bytes.status,
         targets,
         homes,
         forget,
     })
+}
+
+// The bytes of a descriptor and of a status.
+#[derive(Drop)]
+struct Bytes {
+    descriptor: Rows<u8>,
+    status: Rows<u8>,
+}
+
+fn encode(alloc: Global, choice: &Choice) -> Result<Bytes, Memory>
+    requires descriptor { IsValid choice.now.descriptor }
+    requires status { IsValidStatus choice.now.status }
+    ensures descriptor { IfOk result (λ bytes. bytes.descriptor ≡ descriptor_bytes choice.now.descriptor) }
+    ensures status { IfOk result (λ bytes. bytes.status ≡ status_bytes choice.now.status) }
+{
+    let descriptor = lvm_spelling::encode(alloc, &choice.descriptor)?;
+    let status = lvm_vgsa::encode(alloc, &choice.status)?;
+    Ok(Bytes { descriptor, status })
 }

@@ -1,6 +1,5 @@
 //! Varying a group on.
-ghost use Rattle.std.specs.Prelude.{◌≡◌, ◌≢◌, ◌+◌, ◌-◌, ◌≤◌, IfOk};
-ghost use Rattle.lvm_disk.specs.Counts.{RoseBy};
+ghost use Rattle.std.specs.Prelude.{◌≡◌, ◌≢◌, ◌+◌, ◌≤◌, IfOk, IfErr};
 ghost use Rattle.lvm_disk.specs.Device.{IsReady};
 ghost use Rattle.lvm_disk.specs.Paths.{DeviceStep, Path};
 ghost use Rattle.lvm_steps.specs.Moments.{StaysKept};
@@ -10,16 +9,19 @@ ghost use Rattle.lvm_core.specs.Starting.{IsRoom};
 ghost use Rattle.lvm_varyon.specs.Restated.{HasNoConsistency};
 ghost use Rattle.lvm_core.specs.State.{state_of};
 ghost use Rattle.lvm_core.specs.Coming.{BringsOn, IsStarted, shelf_left, history_left};
-ghost use Rattle.lvm_varyon.specs.Varied.{VaryonGives, IsRestated, IsRecovered, BringGives, IsAheadOfDisks, log_after};
+ghost use Rattle.lvm_varyon.specs.Varied.{VaryonGives, IsRestated, IsRecovered, BringGives, IsAheadOfDisks, log_after, Stops};
+ghost use Rattle.lvm_survey.specs.Surveying.{OnlyReads};
+ghost use Rattle.lvm_write.specs.Parts.{Spends};
+ghost use Rattle.lvm_varyon.specs.Parts.{IsPlannedBy};
 
 use crate::plan::{Plan, plan_of};
-use crate::writes::{read_disks, write_records};
+use crate::writes::{read_disks, write_plan};
 use lvm_core::{Cause, Driver, Parts, Refused, Room};
 use lvm_disk::Shelf;
 use lvm_history::History;
-use lvm_num::{Name, Stamp};
-use lvm_quorum::Homes;
+use lvm_num::{Name, Stamp, Pbuf};
 use lvm_transfer::Patience;
+use lvm_write::Homes;
 use std::alloc::Global;
 
 /// Varies the group of a name on: reads the records of all disks of the shelf, chooses the group's newest
@@ -100,31 +102,35 @@ fn bring<S: Shelf>(
     requires room { IsRoom room }
     requires moment { moment ≢ 0 }
     ensures gives { BringGives (S.device shelf.old) (S.device shelf.new) name moment patience.old.left room result }
-    ensures patience { patience.new.left ≤ patience.old.left }
-    ensures waited { RoseBy (patience.old.left - patience.new.left) (S.device shelf.old).counts.waits (S.device shelf.new).counts.waits }
+    ensures spends { Spends patience.old.left patience.new.left (S.device shelf.old) (S.device shelf.new) }
     ensures behind { IsAheadOfDisks moment (S.device shelf.old) → IsBehind (moment + 1) (S.device shelf.new) }
     ensures kept { IsAheadOfDisks moment (S.device shelf.old) → Path DeviceStep (StaysKept (S.device shelf.old)) (S.device shelf.old) (S.device shelf.new) }
 {
+    let (plan, buf) = read_plan(alloc, shelf, name, moment, room, patience)?;
+    match write_plan(shelf, &plan, moment, buf, patience) {
+        Ok(homes) => Ok((plan.parts, homes)),
+        Err(why) => Err(why),
+    }
+}
+
+// Reads the disks, and plans what is written to them.
+fn read_plan<S: Shelf>(
+    alloc: Global,
+    shelf: &mut S,
+    name: Name,
+    moment: u64,
+    room: Room,
+    patience: &mut Patience,
+) -> Result<(Plan, Pbuf), Cause>
+    requires ready { IsReady (S.device shelf.old) }
+    requires room { IsRoom room }
+    ensures planned { IfOk result (λ got. IsPlannedBy (S.device shelf.old) (S.device shelf.new) name moment room got.0) }
+    ensures stops { IfErr result (Stops (S.device shelf.old) (S.device shelf.new) name moment patience.old.left) }
+    ensures only { OnlyReads patience.old.left patience.new.left (S.device shelf.old) (S.device shelf.new) }
+{
     let (survey, buf) = read_disks(alloc, shelf, patience)?;
-    let plan = plan_of(alloc, &survey, name, moment, room)?;
-    let Plan {
-        parts,
-        descriptor,
-        status,
-        targets,
-        homes,
-        forget,
-    } = plan;
-    let homes = write_records(
-        shelf,
-        descriptor.as_slice(),
-        status.as_slice(),
-        moment,
-        targets,
-        homes,
-        forget,
-        buf,
-        patience,
-    )?;
-    Ok((parts, homes))
+    match plan_of(alloc, &survey, name, moment, room) {
+        Ok(plan) => Ok((plan, buf)),
+        Err(why) => Err(why),
+    }
 }

@@ -1,25 +1,26 @@
 //! The reading of a shelf, and the writes of a varyon.
-ghost use Rattle.std.specs.Prelude.{◌≡◌, ◌≢◌, ◌-◌, ◌≤◌, length};
+ghost use Rattle.std.specs.Prelude.{◌≢◌, ◌≤◌, length};
 ghost use Rattle.lvm_num.specs.declared.record.Kind.TheVariants as kind;
 ghost use Rattle.lvm_num.specs.Disks.{has};
 ghost use Rattle.lvm_num.specs.Record.{longest_content};
-ghost use Rattle.lvm_disk.specs.Counts.{RoseBy};
 ghost use Rattle.lvm_disk.specs.Device.{IsReady};
-ghost use Rattle.lvm_disk.specs.Images.{LeavesNoMore};
-ghost use Rattle.lvm_disk.specs.Paths.{DeviceStep, Path};
-ghost use Rattle.lvm_quorum.specs.Written.{HaveRoom, KeepsShelf};
-ghost use Rattle.lvm_survey.specs.Surveying.{IsUnwritten};
+ghost use Rattle.lvm_write.specs.Written.{HaveRoom, KeepsShelf};
+ghost use Rattle.lvm_area.specs.Reading.{IsUnwritten};
 ghost use Rattle.lvm_begin.specs.Beginning.{again_beginning, again_order, IsOfParts};
 ghost use Rattle.lvm_begin.specs.Kept.{AgainStaysKept};
-ghost use Rattle.lvm_varyon.specs.Parts.{ReadGives, WriteGives};
+ghost use Rattle.lvm_write.specs.Writes.{DiskWritesLeave};
+ghost use Rattle.lvm_survey.specs.Surveying.{OnlyReads};
+ghost use Rattle.lvm_varyon.specs.Parts.{SurveyGives, plan_beginning, AgainWritesGive};
 
 use lvm_begin::{Begun, begin_again};
 use lvm_core::Cause;
 use lvm_disk::Shelf;
 use lvm_num::{DiskSet, Pbuf};
-use lvm_quorum::{Homes, Survey, Surveyed, survey_disks};
+use lvm_survey::{Survey, Surveyed, survey_disks};
 use lvm_transfer::Patience;
+use lvm_write::Homes;
 use std::alloc::Global;
+use crate::plan::Plan;
 
 /// Reads the records of all disks. The buffer that it read with comes back for the writes.
 pub fn read_disks<S: Shelf>(
@@ -28,11 +29,8 @@ pub fn read_disks<S: Shelf>(
     patience: &mut Patience,
 ) -> Result<(Survey, Pbuf), Cause>
     requires ready { IsReady (S.device shelf.old) }
-    ensures gives { ReadGives patience.old.left (S.device shelf.old) (S.device shelf.new) result }
-    ensures unwritten { IsUnwritten (S.device shelf.old) (S.device shelf.new) }
-    ensures patience { patience.new.left ≤ patience.old.left }
-    ensures waited { RoseBy (patience.old.left - patience.new.left) (S.device shelf.old).counts.waits (S.device shelf.new).counts.waits }
-    ensures moments { Path DeviceStep (LeavesNoMore (S.device shelf.old)) (S.device shelf.old) (S.device shelf.new) }
+    ensures gives { SurveyGives patience.old.left (S.device shelf.old) (S.device shelf.new) result }
+    ensures only { OnlyReads patience.old.left patience.new.left (S.device shelf.old) (S.device shelf.new) }
 {
     let Ok(buf) = Pbuf::fresh(alloc, 0) else {
         return Err(Cause::Memory);
@@ -45,9 +43,39 @@ pub fn read_disks<S: Shelf>(
     }
 }
 
-/// Writes the descriptor and the status to the targets, and empties their notes or leaves them. The slots
+/// Writes the descriptor and the status of a plan to its targets, and empties their notes or leaves them. The slots
 /// that come next come back.
-pub fn write_records<S: Shelf>(
+pub fn write_plan<S: Shelf>(
+    shelf: &mut S,
+    plan: &Plan,
+    moment: u64,
+    buf: Pbuf,
+    patience: &mut Patience,
+) -> Result<Homes, Cause>
+    requires ready { IsReady (S.device shelf.old) }
+    requires moment { moment ≢ 0 }
+    requires descriptor { length plan.now.descriptor ≤ longest_content kind.Descriptor }
+    requires status { length plan.now.status ≤ longest_content kind.Status }
+    requires targets { HaveRoom (S.device shelf.old) (has plan.now.targets) }
+    ensures gives { AgainWritesGive patience.old.left (plan_beginning moment plan.now) (again_order plan.now.forget) (S.device shelf.old) (S.device shelf.new) result }
+    ensures leaves { DiskWritesLeave (has plan.now.targets) (IsOfParts (plan_beginning moment plan.now) (again_order plan.now.forget)) patience.old.left patience.new.left (S.device shelf.old) (S.device shelf.new) }
+    ensures kept { AgainStaysKept (plan_beginning moment plan.now) plan.now.forget (S.device shelf.old) (S.device shelf.new) }
+{
+    write_records(
+        shelf,
+        plan.descriptor.as_slice(),
+        plan.status.as_slice(),
+        moment,
+        plan.targets,
+        plan.homes,
+        plan.forget,
+        buf,
+        patience,
+    )
+}
+
+// Writes the records with these bytes to the targets.
+fn write_records<S: Shelf>(
     shelf: &mut S,
     descriptor: &[u8],
     status: &[u8],
@@ -63,10 +91,8 @@ pub fn write_records<S: Shelf>(
     requires descriptor { length descriptor.now ≤ longest_content kind.Descriptor }
     requires status { length status.now ≤ longest_content kind.Status }
     requires targets { HaveRoom (S.device shelf.old) (has targets) }
-    ensures gives { let b = again_beginning moment descriptor.now status.now (has targets) homes in WriteGives patience.old.left b (again_order forget) (S.device shelf.old) (S.device shelf.new) result }
-    ensures patience { patience.new.left ≤ patience.old.left }
-    ensures waited { RoseBy (patience.old.left - patience.new.left) (S.device shelf.old).counts.waits (S.device shelf.new).counts.waits }
-    ensures keeps { let b = again_beginning moment descriptor.now status.now (has targets) homes in KeepsShelf (has targets) (IsOfParts b (again_order forget)) (S.device shelf.old) (S.device shelf.new) }
+    ensures gives { let b = again_beginning moment descriptor.now status.now (has targets) homes in AgainWritesGive patience.old.left b (again_order forget) (S.device shelf.old) (S.device shelf.new) result }
+    ensures leaves { let b = again_beginning moment descriptor.now status.now (has targets) homes in DiskWritesLeave (has targets) (IsOfParts b (again_order forget)) patience.old.left patience.new.left (S.device shelf.old) (S.device shelf.new) }
     ensures kept { let b = again_beginning moment descriptor.now status.now (has targets) homes in AgainStaysKept b forget (S.device shelf.old) (S.device shelf.new) }
 {
     let mut homes = homes;

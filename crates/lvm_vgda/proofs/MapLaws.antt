@@ -17,7 +17,7 @@ use Rattle.lvm_num.specs.Descriptor.{IsMember, IsLaidOut, partitions_in}
 use Rattle.lvm_num.specs.DescriptorBytes.{partition_bytes, unfinished, is_at, partition_at, partitions_at, maps_at}
 use Rattle.lvm_num.specs.Reading.{◌>>=◌, Rest, number_at}
 use Rattle.lvm_num.proofs.Pairs.{All-left, All-right, AllPairs-left}
-use Rattle.lvm_vgda.proofs.FieldLaws.{IsBytes, bind_ok, ok_is, both, from_both, Takes, Takes-then, wide16, number_takes, number_again}
+use Rattle.lvm_fields.proofs.FieldLaws.{IsBytes, bind_ok, ok_is, both, from_both, Takes, Takes-then, wide16, number_takes, number_again}
 use Rattle.lvm_vgda.proofs.MemberLaws.{none_of, then_is, All-snoc, AllPairs-snoc, AllPairs-last, not_true, not_false}
 use Rattle.lvm_vgda.proofs.VolumeLaws.{bare}
 use Rattle.lvm_vgda.proofs.UsedLaws.{its_member}
@@ -127,7 +127,7 @@ pub partitions_take : (members : List PvRow) (used : List Pp) (copies n : ℕ) (
 unfolding partitions_at
 partitions_take members used copies zero own r x fits fit e =
     subst (λ (y : List Pp × Rest). PartitionsTaken members used copies 0 own r y) (ok_is (own, r) x e)
-    (record { more = []; parts = sym (append-nil own); size = refl; took = record { parts = refl; place = omega arith; fits = fits }; fit = fit })
+    (record { more = []; parts = sym (append-nil own); size = refl; took = record { parts = refl; fits = fits }; fit = fit })
 partitions_take members used copies (suc n) own r x fits fit e =
     let a = bind_ok (partition_at members used copies own r) (λ pp. partitions_at members used copies n (own ++ pp.0 ∷ []) pp.1) x e in
     let first = partition_takes members used copies own r a.0 fits a.1 in
@@ -300,7 +300,7 @@ maps_take members used [] r x fits some once e =
     subst (λ (y : List LvRow × Rest). MapsTaken members used [] r y) (ok_is ([], r) x (sym (no_map members used r) ∙ e))
     (record {
       same = refl;
-      took = record { parts = refl; place = omega arith; fits = fits };
+      took = record { parts = refl; fits = fits };
       laid_out = All-nil IsLaidOut;
       places = All-nil (Has members);
       once = subst (λ (l : List Pp). AllPairs (λ (a b : Pp). a ≢ b) l) (sym (append-nil used)) once;

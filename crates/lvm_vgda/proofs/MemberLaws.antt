@@ -13,7 +13,7 @@ use Rattle.lvm_num.specs.Descriptor.{IsMember, AreMembers}
 use Rattle.lvm_num.specs.DescriptorBytes.{flag, is_flag, member_bytes, member_at, members_at}
 use Rattle.lvm_num.specs.Reading.{◌>>=◌, Rest, number_at, zeros_at}
 use Rattle.lvm_num.proofs.Pairs.{All-left, All-right, AllPairs-left, AllPairs-append, AllPairs-across}
-use Rattle.lvm_vgda.proofs.FieldLaws.{IsBytes, bind_ok, ok_is, both, from_both, Takes, Takes-then, byte_takes, byte_again, wide16, number_takes, number_again, zeros_take, zeros_again}
+use Rattle.lvm_fields.proofs.FieldLaws.{IsBytes, bind_ok, ok_is, both, from_both, Takes, Takes-then, byte_takes, byte_again, wide16, number_takes, number_again, zeros_take, zeros_again}
 
 -- ---- lists that grow at their end
 
@@ -171,7 +171,7 @@ unfolding members_at
 members_take zero earlier r x fits all e =
     let is : (earlier, r) ≡ x = ok_is (earlier, r) x e in
     subst (λ (y : List PvRow × Rest). MembersTaken 0 earlier r y) is
-    (record { own = []; rows = sym (append-nil earlier); size = refl; took = record { parts = refl; place = omega arith; fits = fits }; valid = all })
+    (record { own = []; rows = sym (append-nil earlier); size = refl; took = record { parts = refl; fits = fits }; valid = all })
 members_take (suc n) earlier r x fits all e =
     let a = bind_ok (member_at earlier r) (λ row. members_at n (earlier ++ row.0 ∷ []) row.1) x e in
     let first = member_takes earlier r a.0 fits a.1 in

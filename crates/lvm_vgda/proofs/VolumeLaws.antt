@@ -18,7 +18,8 @@ use Rattle.lvm_num.specs.Descriptor.{most_volumes, IsVolume, AreVolumes}
 use Rattle.lvm_num.specs.DescriptorBytes.{mode_code, policy_code, mode_named, policy_named, volume_bytes, name_at, volume_at, volumes_at}
 use Rattle.lvm_num.specs.Reading.{◌>>=◌, Rest, number_at, zeros_at}
 use Rattle.lvm_num.proofs.Pairs.{All-left, All-right, AllPairs-left}
-use Rattle.lvm_vgda.proofs.FieldLaws.{IsBytes, bind_ok, ok_is, both, from_both, bytes_same, same_bytes, Takes, Takes-then, wide16, wide32, number_takes, number_again, byte_takes, byte_again, zeros_take, zeros_again, name_takes, name_again}
+use Rattle.lvm_fields.proofs.FieldLaws.{IsBytes, bind_ok, ok_is, both, from_both, Takes, Takes-then, wide16, wide32, number_takes, number_again, byte_takes, byte_again, zeros_take, zeros_again}
+use Rattle.lvm_vgda.proofs.NameLaws.{bytes_same, same_bytes, name_takes, name_again}
 use Rattle.lvm_vgda.proofs.MemberLaws.{none_of, all_at, all_from, then_is, All-snoc, AllPairs-snoc, AllPairs-last, not_true, not_false, at_least_1, at_most, lt_test, le_test}
 
 -- ---- codes
@@ -194,7 +195,7 @@ unfolding volumes_at
 volumes_take big zero earlier r x fits all e =
     let is : (earlier, r) ≡ x = ok_is (earlier, r) x e in
     subst (λ (y : List LvRow × Rest). VolumesTaken big 0 earlier r y) is
-    (record { own = []; rows = sym (append-nil earlier); size = refl; took = record { parts = refl; place = omega arith; fits = fits }; valid = all; empty = All-nil (λ (row : LvRow). row ≡ bare row) })
+    (record { own = []; rows = sym (append-nil earlier); size = refl; took = record { parts = refl; fits = fits }; valid = all; empty = All-nil (λ (row : LvRow). row ≡ bare row) })
 volumes_take big (suc n) earlier r x fits all e =
     let a = bind_ok (volume_at big earlier r) (λ row. volumes_at big n (earlier ++ row.0 ∷ []) row.1) x e in
     let first = volume_takes big earlier r a.0 fits a.1 in

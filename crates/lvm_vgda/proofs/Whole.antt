@@ -1,6 +1,6 @@
 -- A descriptor's bytes are read as it, and what is read is valid and spelled so.
 use Rattle.std.proofs.Common.{◌≡◌, ◌≢◌, inl, inr, ℕ, zero, suc, ◌+◌, ◌*◌, ◌^◌, ◌<◌, ◌≤◌, Bool, true, false, cond, ◌&&◌, ◌||◌, List, [], ◌∷◌, ◌++◌, append-nil, append_assoc, length, get_or, replicate, Some, Result, Ok, Err, refl, sym, ap, subst, ◌∙◌, arith}
-use Rattle.std.specs.Prelude.{◌==◌, ◌-◌, not, nat_le, nat_lt, bytes_eq, find, flat_map, map, All, AllPairs}
+use Rattle.std.specs.Prelude.{◌==◌, ◌-◌, not, nat_le, nat_lt, bytes_eq, find, flat_map, map, All, AllPairs, IfOk}
 use Rattle.std.specs.Int.{w8, w16, w64, to_be_bytes}
 use Rattle.std.proofs.lemmas.Bool.{cases_Bool, false≢true, eq-eqb, eqb-true}
 use Rattle.std.proofs.lemmas.Bool.Decides.{nat_tests}
@@ -15,7 +15,10 @@ use Rattle.lvm_num.specs.Descriptor.{is_size, most_members, most_volumes, partit
 use Rattle.lvm_num.specs.DescriptorBytes.{flag, is_flag, descriptor_magic, member_bytes, volume_bytes, descriptor_bytes, IsDescriptor, version_at, name_at, member_count_at, members_at, volumes_at, maps_at, descriptor_of}
 use Rattle.lvm_num.specs.Reading.{◌>>=◌, Rest, bytes_at, number_at, zeros_at, end_at}
 use Rattle.lvm_num.proofs.MapsLemmas.{find-Some}
-use Rattle.lvm_vgda.proofs.FieldLaws.{IsBytes, bind_ok, ok_is, both, from_both, bytes_same, Takes, bytes_takes, bytes_again, wide16, wide64, number_takes, number_again, number_value, byte_takes, byte_again, zeros_take, zeros_again, name_takes, name_again}
+use Rattle.lvm_fields.specs.declared.fault.Fault.{Fault}
+use Rattle.lvm_fields.specs.Reading.{Gives}
+use Rattle.lvm_fields.proofs.FieldLaws.{IsBytes, bind_ok, ok_is, both, from_both, Takes, bytes_takes, bytes_again, wide16, wide64, number_takes, number_again, number_value, byte_takes, byte_again, zeros_take, zeros_again}
+use Rattle.lvm_vgda.proofs.NameLaws.{bytes_same, name_takes, name_again}
 use Rattle.lvm_vgda.proofs.MemberLaws.{all_at, then_is, not_true, not_false, at_least_1, at_most, le_test, flag_is, flag_again, is_flag_flag, MembersTaken, members_take, members_again}
 use Rattle.lvm_vgda.proofs.VolumeLaws.{bare, VolumesTaken, volumes_take, volumes_again, bare_length, bare_bytes, bare_volumes, whole_volumes, bare_is}
 use Rattle.lvm_vgda.proofs.MapLaws.{Has, HasCopies, map_bytes, MapsTaken, maps_take, maps_again}
@@ -399,3 +402,9 @@ spelled_is_read d valid =
     few_volumes : (big : Bool) → length d.lvs ≤ most_volumes big → length d.lvs < 2 ^ 16
     few_volumes true le = omega (arith, le)
     few_volumes false le = omega (arith, le)
+
+-- ---- what a call answers
+
+pub is_found : (bytes : List ℕ) (r : Result Descriptor Fault) → IsBytes bytes → Gives (λ x. x) r (descriptor_of bytes) → IfOk r (IsDescriptor bytes)
+is_found bytes (Ok d) fits given = read_is_spelled bytes d fits given
+is_found bytes (Err e) fits given = tt

@@ -1,12 +1,10 @@
 //! The bytes of a descriptor, read.
 #![tactic(auto)]
 
-mod fault;
 mod laws;
 mod maps;
 mod reading;
 mod used;
 
-pub use fault::VgdaFault;
 pub use laws::descriptors_are_exact;
 pub use reading::decode;

@@ -3,10 +3,8 @@ ghost use Rattle.std.specs.Prelude.{IfOk, Ok};
 ghost use Rattle.lvm_num.specs.declared.descriptor.Descriptor.{Descriptor as descriptor};
 ghost use Rattle.lvm_num.specs.DescriptorBytes.{IsDescriptor, descriptor_of};
 ghost use Rattle.lvm_fields.specs.Reading.{Gives, rest_of};
-ghost use Rattle.lvm_vgda.specs.Reading.{Answers};
 ghost use Rattle.lvm_descriptor.specs.Parts.{descriptor_by_parts, rows_at};
 
-use crate::fault::VgdaFault;
 use crate::maps::maps_at;
 use lvm_descriptor::{begin_at, counts_at, members_at, name_at, rules_at, volumes_at};
 use lvm_fields::{Fault, Unread, all, behind};
@@ -15,20 +13,12 @@ use std::alloc::Global;
 
 /// The descriptor that the bytes spell, all of them. Other bytes than those that `encode` writes of a
 /// valid descriptor are refused, with the place of the first fault.
-pub fn decode(alloc: Global, bytes: &[u8]) -> Result<Descriptor, VgdaFault>
+pub fn decode(alloc: Global, bytes: &[u8]) -> Result<Descriptor, Fault>
     ensures spelled { IfOk result (IsDescriptor bytes.now) }
-    ensures only { (d : descriptor) → IsDescriptor bytes.now d → Answers result (Ok d) }
-    ensures exact { Answers result (descriptor_of bytes.now) }
+    ensures only { (d : descriptor) → IsDescriptor bytes.now d → Gives (λ x. x) result (Ok d) }
+    ensures exact { Gives (λ x. x) result (descriptor_of bytes.now) }
 {
-    match descriptor_of(alloc, bytes) {
-        Ok(d) => Ok(d),
-        Err(Fault::At(place)) => {
-            // No fault stands far behind the largest descriptor, since no partition stands twice.
-            let place = place as u32;
-            Err(VgdaFault::BadDescriptor { place })
-        }
-        Err(Fault::Memory) => Err(VgdaFault::Memory),
-    }
+    descriptor_of(alloc, bytes)
 }
 
 #[tactic(auto, unfolding(lvm_descriptor::specs::Parts::descriptor_by_parts))]

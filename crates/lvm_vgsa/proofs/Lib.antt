@@ -1,4 +1,3 @@
-pub mod Fields
 pub mod Many
 pub mod Orders
 pub mod PartLaws

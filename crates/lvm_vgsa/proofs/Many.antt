@@ -1,14 +1,12 @@
 -- Values that are read one after the other, each of them after the earlier ones.
-use Rattle.std.proofs.Common.{◌≡◌, ℕ, zero, suc, ◌+◌, ◌-◌, ◌<◌, ◌≤◌, ◌&&◌, List, [], ◌∷◌, ◌++◌, Result, Ok, Err, refl, sym, ◌∙◌, arith}
+use Rattle.std.proofs.Common.{◌≡◌, ℕ, zero, suc, ◌&&◌, List, [], ◌∷◌, ◌++◌, Result, Ok, Err, refl}
 use Rattle.std.specs.Prelude.{◌==◌, false, nat_le, nat_lt, length, insert}
 use Rattle.std.specs.List.{list_all}
 use Rattle.std.specs.Int.{w16}
 use Rattle.lvm_num.specs.declared.status.StatusRow.{StatusRow}
 use Rattle.lvm_num.specs.Reading.{◌>>=◌, Rest, number_at, end_at}
 use Rattle.lvm_num.specs.StatusBytes.{status_row_at, status_rows_at, numbers_at}
-use Rattle.lvm_vgsa.specs.declared.fault.VgsaFault.{VgsaFault}
-use Rattle.lvm_vgsa.specs.declared.fault.VgsaFault.TheVariants as faults
-use Rattle.lvm_vgsa.specs.Reading.{Fails}
+use Rattle.lvm_fields.proofs.Loops.{Repeats}
 
 -- how one of them is read, after the earlier ones
 abbrev pub Reader : Type 0 → Type 0
@@ -17,33 +15,6 @@ Reader X = List X → Rest → Result (X × Rest) ℕ
 unfoldable pub many : {X : Type 0} → Reader X → ℕ → List X → Rest → Result (List X × Rest) ℕ
 many one zero earlier rest = Ok (earlier, rest)
 many one (suc n) earlier rest = one earlier rest >>= λ x. many one n (earlier ++ x.0 ∷ []) x.1
-
--- ---- a loop
-
-pub goes_on : {X : Type 0} (one : Reader X) (count i : ℕ) (earlier : List X) (rest : Rest) (x : X) (after : Rest) (total : Result (List X × Rest) ℕ) → i < count
-    → one earlier rest ≡ Ok (x, after) → many one (count - i) earlier rest ≡ total → many one (count - (i + 1)) (earlier ++ x ∷ []) after ≡ total
-unfolding many
-goes_on one count i earlier rest x after total lt read so_far =
-    let k : count - i ≡ suc (count - (i + 1)) = omega arith in
-    let here : many one (count - i) earlier rest ≡ many one (count - (i + 1)) (earlier ++ x ∷ []) after = rw (k, read) refl in
-    sym here ∙ so_far
-
-pub ends : {X : Type 0} (one : Reader X) (count i : ℕ) (earlier : List X) (rest : Rest) (e : VgsaFault) (total : Result (List X × Rest) ℕ) → i < count
-    → Fails e (one earlier rest) → many one (count - i) earlier rest ≡ total → Fails e total
-unfolding many
-ends one count i earlier rest (faults.BadStatus place) total lt read so_far =
-    let k : count - i ≡ suc (count - (i + 1)) = omega arith in
-    let here : many one (count - i) earlier rest ≡ Err place = rw (k, read) refl in
-    sym so_far ∙ here
-ends one count i earlier rest faults.Memory total lt read so_far = tt
-
-pub is_done : {X : Type 0} (one : Reader X) (count i : ℕ) (earlier : List X) (rest : Rest) (total : Result (List X × Rest) ℕ) → count ≤ i
-    → many one (count - i) earlier rest ≡ total → total ≡ Ok (earlier, rest)
-unfolding many
-is_done one count i earlier rest total le so_far =
-    let k : count - i ≡ 0 = omega arith in
-    let here : many one (count - i) earlier rest ≡ Ok (earlier, rest) = rw k refl in
-    sym so_far ∙ here
 
 -- ---- rows and numbers
 
@@ -55,6 +26,14 @@ many_rows (suc n) earlier rest = λ t. status_row_at earlier rest >>= λ row. ma
 -- one dirty volume
 abbrev pub volume_at : List ℕ → Rest → Result (ℕ × Rest) ℕ
 volume_at earlier rest = number_at w16 (λ n. nat_le 1 n && nat_le n 511 && list_all (λ m. nat_lt m n) earlier) rest
+
+pub rows_repeat : Repeats StatusRow status_row_at status_rows_at
+unfolding status_rows_at
+rows_repeat = record { none = λ items rest. refl; next = λ n items rest. refl }
+
+pub numbers_repeat : Repeats ℕ volume_at numbers_at
+unfolding numbers_at
+numbers_repeat = record { none = λ items rest. refl; next = λ n items rest. refl }
 
 pub many_numbers : (n : ℕ) (earlier : List ℕ) (rest : Rest) → numbers_at n earlier rest ≡ many volume_at n earlier rest
 unfolding many numbers_at

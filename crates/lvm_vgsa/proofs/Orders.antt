@@ -1,11 +1,8 @@
 -- Lists of values that each have a property, in a strict order: what one more value at the end adds.
-use Rattle.std.proofs.Common.{◌≡◌, inl, inr, ℕ, zero, suc, ◌-◌, ◌<◌, ◌≤◌, Bool, true, false, Some, None, List, [], ◌∷◌, ◌++◌, length, get_or, refl, sym, ap, subst, ◌∙◌, arith, length-append}
-use Rattle.std.specs.Prelude.{nat_lt, slice_get, All, AllPairs}
+use Rattle.std.proofs.Common.{◌≡◌, ℕ, zero, suc, ◌<◌, Bool, true, List, [], ◌∷◌, ◌++◌, length, get_or, refl, subst, arith, length-append}
+use Rattle.std.specs.Prelude.{All, AllPairs}
 use Rattle.std.specs.List.{list_all}
-use Rattle.std.proofs.lemmas.Bool.{and_parts, and_from, cases_lt, ltb-true}
-use Rattle.std.proofs.lemmas.Bool.Decides.{nat_tests}
-use Rattle.std.proofs.lemmas.Option.{slice_get_within, get_or_from_slice_get, slice_get-get_or}
-use Rattle.std.proofs.lemmas.List.Folds.{list_all_at}
+use Rattle.std.proofs.lemmas.Bool.{and_parts, and_from}
 use Rattle.std.proofs.lemmas.List.{get_or_at, get_or_append_left}
 use Rattle.std.proofs.lemmas.List.Elements.{All-push}
 use Rattle.std.proofs.lemmas.List.Quantifiers.{all_pairs_push}
@@ -54,41 +51,3 @@ order_behind X P R before means xs x good =
     means (get_or xs k d) x
     (subst (λ (a : X). R a x) (get_or_append_left xs (x ∷ []) d k lt)
     (subst (λ (b : X). R (get_or (xs ++ x ∷ []) k d) b) (get_or_at xs x [] d (length xs) refl) (good.ordered k (length xs) d lt (omega arith)))))
-
--- ---- values in the order of their keys
-
--- one more value, whose key is above theirs
-pub rise_push : {X : Type 0} (key : X → ℕ) (xs : List X) (x : X) → AllPairs (λ (a b : X). key a < key b) xs → list_all (λ (y : X). nat_lt (key y) (key x)) xs ≡ true
-    → AllPairs (λ (a b : X). key a < key b) (xs ++ x ∷ [])
-rise_push {X = X} key xs x rises above =
-    all_pairs_push (λ (a b : X). key a < key b) xs x rises (λ k d lt. ltb-true (key (get_or xs k d)) (key x) (passed_at (λ (y : X). nat_lt (key y) (key x)) xs k d above lt))
-
-lt_test : (a b : ℕ) → a < b → nat_lt a b ≡ true
-lt_test a b lt = grind (arith, nat_tests)
-
--- the last of them tells whether a number is above all
-pub last_tells : {X : Type 0} (key : X → ℕ) (xs : List X) (n : ℕ) (x : X) → AllPairs (λ (a b : X). key a < key b) xs → slice_get xs (length xs - 1) ≡ Some x
-    → nat_lt (key x) n ≡ list_all (λ (y : X). nat_lt (key y) n) xs
-last_tells {X = X} key xs n x rises last = by_test (nat_lt (key x) n) refl
-  where
-    within : length xs - 1 < length xs
-    within = slice_get_within xs (length xs - 1) x last
-
-    is : (d : X) → get_or xs (length xs - 1) d ≡ x
-    is d = get_or_from_slice_get xs (length xs - 1) x d last
-
-    most : (k : ℕ) (d : X) → k < length xs → key (get_or xs k d) ≤ key x
-    most k d lt =
-        elim (cases_lt k (length xs - 1)) [
-          | inl less ↦ let below = rises k (length xs - 1) d less within in let here = ap key (is d) in omega (arith, below, here)
-          | inr more ↦ let same : k ≡ length xs - 1 = omega (arith, lt, more) in let here : key (get_or xs k d) ≡ key x = ap (λ j. key (get_or xs j d)) same ∙ ap key (is d) in omega (arith, here)
-        ]
-
-    by_test : (b : Bool) → nat_lt (key x) n ≡ b → b ≡ list_all (λ (y : X). nat_lt (key y) n) xs
-    by_test true above =
-        sym (passed_all (λ (y : X). nat_lt (key y) n) xs (λ k d lt. let low = most k d lt in let high = ltb-true (key x) n above in lt_test (key (get_or xs k d)) n (omega (arith, low, high))))
-    by_test false under = sym (list_all_at (λ (y : X). nat_lt (key y) n) xs (length xs - 1) x within (ap (λ (y : X). nat_lt (key y) n) (is x) ∙ under))
-
-pub none_tells : {X : Type 0} (test : X → Bool) (xs : List X) → slice_get xs (length xs - 1) ≡ None → list_all test xs ≡ true
-none_tells test [] none = refl
-none_tells test (x ∷ xs) none = absurd (let some = slice_get-get_or (x ∷ xs) (length (x ∷ xs) - 1) x (omega arith) in let e : None ≡ Some (get_or (x ∷ xs) (length (x ∷ xs) - 1) x) = sym none ∙ some in cc)

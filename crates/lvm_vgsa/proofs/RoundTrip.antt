@@ -12,9 +12,9 @@ use Rattle.lvm_num.specs.Status.{AreDirty, IsValidStatus}
 use Rattle.lvm_num.specs.DescriptorBytes.{flag}
 use Rattle.lvm_num.specs.Reading.{◌>>=◌, Rest, bytes_at, number_at, end_at}
 use Rattle.lvm_num.specs.StatusBytes.{version_of, status_magic, status_row_bytes, dirty_bytes, status_bytes, IsStatus, status_version_at, rows_and_size_at, status_rows_at, numbers_at, dirty_at, status_of}
-use Rattle.lvm_vgsa.specs.declared.fault.VgsaFault.{VgsaFault}
-use Rattle.lvm_vgsa.specs.Reading.{Gives}
-use Rattle.lvm_vgsa.proofs.Fields.{AreBytes, bind_ok, ok_is, Takes, Takes-then, bytes_take, bytes_again, wide16, wide64, number_takes, number_again, end_takes}
+use Rattle.lvm_fields.specs.declared.fault.Fault.{Fault}
+use Rattle.lvm_fields.specs.Reading.{Gives}
+use Rattle.lvm_fields.proofs.FieldLaws.{IsBytes, bind_ok, ok_is, Takes, Takes-then, bytes_takes, bytes_again, wide16, wide64, number_takes, number_again, end_takes}
 use Rattle.lvm_vgsa.proofs.Rows.{rows_take, rows_again, numbers_take, numbers_again}
 use Rattle.lvm_vgsa.proofs.Sizes.{dirty_some, few_dirty, few_rows}
 
@@ -34,11 +34,11 @@ named v rest field x t same back made =
       ap (λ (y : ℕ × Rest). y.0) (sym made) ∙ ap (λ (l : List ℕ). slice_index l 3 % 48) is ∙ back,
     )
 
-version_takes : (rest : Rest) (x : ℕ × Rest) → AreBytes rest.1 → status_version_at rest ≡ Ok x → Takes rest (status_magic x.0) x.1 × IsVersion x.0
+version_takes : (rest : Rest) (x : ℕ × Rest) → IsBytes rest.1 → status_version_at rest ≡ Ok x → Takes rest (status_magic x.0) x.1 × IsVersion x.0
 unfolding status_version_at
 version_takes rest x fits e =
     let a = bind_ok (bytes_at 4 magic_test rest) (λ field. Ok (slice_index field.0 3 % 48, field.1)) x e in
-    let t = bytes_take 4 magic_test rest a.0 fits a.1 in
+    let t = bytes_takes 4 magic_test rest a.0 fits a.1 in
     let made : (slice_index a.0.0 3 % 48, a.0.1) ≡ x = ok_is (slice_index a.0.0 3 % 48, a.0.1) x a.2 in
     let front = bytes_eq a.0.0 (status_magic 1) || bytes_eq a.0.0 (status_magic 2) in
     elim (or_cases (bytes_eq a.0.0 (status_magic 1) || bytes_eq a.0.0 (status_magic 2)) (bytes_eq a.0.0 (status_magic 3)) t.2) [
@@ -77,7 +77,7 @@ record HeadTakes (v : ℕ) (rest : Rest) (x : (ℕ × Bool) × Rest) : Type 0 wh
   pub size : size_test v x.0.0 number ≡ true
   pub big : x.0.1 ≡ (v == 2 || number == 1)
 
-head_takes : (v : ℕ) (rest : Rest) (x : (ℕ × Bool) × Rest) → AreBytes rest.1 → rows_and_size_at v rest ≡ Ok x → HeadTakes v rest x
+head_takes : (v : ℕ) (rest : Rest) (x : (ℕ × Bool) × Rest) → IsBytes rest.1 → rows_and_size_at v rest ≡ Ok x → HeadTakes v rest x
 unfolding rows_and_size_at
 head_takes v rest x fits e =
     let a = bind_ok (number_at w16 (count_test v) rest) (λ count. number_at w16 (size_test v count.0) count.1 >>= λ size. Ok ((count.0, v == 2 || size.0 == 1), size.1)) x e in
@@ -88,8 +88,8 @@ head_takes v rest x fits e =
     let all : HeadTakes v rest made = record {
       number = b.0.0;
       text = Takes-then rest (to_be_bytes w16 a.0.0) a.0.1 (to_be_bytes w16 b.0.0) b.0.1 count.0 size.0;
-      count = count.2;
-      size = size.2;
+      count = count.1;
+      size = size.1;
       big = refl;
     } in
     subst (λ (y : (ℕ × Bool) × Rest). HeadTakes v rest y) (ok_is made x b.2) all
@@ -127,25 +127,25 @@ record DirtyTakes (v : ℕ) (rest : Rest) (x : List ℕ × Rest) : Type 0 where
 no_dirty : AreDirty []
 no_dirty = record { each = λ k d lt. absurd (omega (arith, lt)); numbers_rise = λ i j d less lt. absurd (omega (arith, lt)) }
 
-none_take : (v : ℕ) (rest : Rest) (x : List ℕ × Rest) → AreBytes rest.1 → (v ≡ 3 → ⊥) → ([], rest) ≡ x → DirtyTakes v rest x
+none_take : (v : ℕ) (rest : Rest) (x : List ℕ × Rest) → IsBytes rest.1 → (v ≡ 3 → ⊥) → ([], rest) ≡ x → DirtyTakes v rest x
 none_take v rest x fits other made =
     let none : DirtyTakes v rest ([], rest) = record { text = record { parts = refl; fits = fits }; may = record { some = λ is. absurd (other is); none = λ is. refl }; good = no_dirty } in
     subst (λ (y : List ℕ × Rest). DirtyTakes v rest y) made none
 
-some_take : (rest : Rest) (x : List ℕ × Rest) → AreBytes rest.1 → dirty_at 3 rest ≡ Ok x → DirtyTakes 3 rest x
+some_take : (rest : Rest) (x : List ℕ × Rest) → IsBytes rest.1 → dirty_at 3 rest ≡ Ok x → DirtyTakes 3 rest x
 unfolding dirty_at
 some_take rest x fits e =
     let a = bind_ok (number_at w16 dirty_count_test rest) (λ count. numbers_at count.0 [] count.1) x e in
     let count = number_takes w16 (2 ^ 16) wide16 dirty_count_test rest a.0 fits a.1 in
     let numbers = numbers_take a.0.0 a.0.1 x count.0.fits a.2 in
-    let least : 1 ≤ a.0.0 = le_from 1 a.0.0 (and_parts (nat_le 1 a.0.0) (nat_le a.0.0 511) count.2).0 in
+    let least : 1 ≤ a.0.0 = le_from 1 a.0.0 (and_parts (nat_le 1 a.0.0) (nat_le a.0.0 511) count.1).0 in
     let some : 0 < length x.0 = omega (arith, least, numbers.1) in
     let both : Takes rest (to_be_bytes w16 a.0.0 ++ flat_map (to_be_bytes w16) x.0) x.1 = Takes-then rest (to_be_bytes w16 a.0.0) a.0.1 (flat_map (to_be_bytes w16) x.0) x.1 count.0 numbers.0 in
     let spelled : to_be_bytes w16 a.0.0 ++ flat_map (to_be_bytes w16) x.0 ≡ dirty_bytes x.0 =
     ap (λ (n : ℕ). to_be_bytes w16 n ++ flat_map (to_be_bytes w16) x.0) (sym numbers.1) ∙ sym (dirty_some x.0 some) in
     record { text = subst (λ (l : List ℕ). Takes rest l x.1) spelled both; may = record { some = λ is. some; none = λ is. absurd cc }; good = numbers.2 }
 
-dirty_takes : (v : ℕ) (rest : Rest) (x : List ℕ × Rest) → IsVersion v → AreBytes rest.1 → dirty_at v rest ≡ Ok x → DirtyTakes v rest x
+dirty_takes : (v : ℕ) (rest : Rest) (x : List ℕ × Rest) → IsVersion v → IsBytes rest.1 → dirty_at v rest ≡ Ok x → DirtyTakes v rest x
 unfolding dirty_at
 dirty_takes v rest x is fits e =
     elim is [
@@ -242,7 +242,7 @@ group_is v id number big rows dirty version-is number-is =
     ∙ ap (λ (k : ℕ). grouped k id (number_of big dirty) rows dirty []) version-is
     ∙ ap (λ (k : ℕ). grouped v id k rows dirty []) number-is
 
-pub is_read : (bytes : List ℕ) (s : Status) → AreBytes bytes → status_of bytes ≡ Ok s → IsStatus bytes s
+pub is_read : (bytes : List ℕ) (s : Status) → IsBytes bytes → status_of bytes ≡ Ok s → IsStatus bytes s
 unfolding status_of
 is_read bytes s fits e =
     let a = bind_ok (status_version_at (0, bytes)) after_version s e in
@@ -260,8 +260,8 @@ is_read bytes s fits e =
     let least : 1 ≤ c.0.0.0 = le_from 1 c.0.0.0 (and_parts (nat_le 1 c.0.0.0) (nat_le c.0.0.0 (most_members (nat_le 2 a.0.0))) head.count).0 in
     let many : length d.0.0 ≡ c.0.0.0 = rows.1 in
     let valid : IsValidStatus (made b.0.0 c.0.0.1 d.0.0 f.0.0) = record {
-      some_id = not_zero b.0.0 id.2;
-      id = id.1;
+      some_id = not_zero b.0.0 id.1;
+      id = id.2;
       a_row = omega (arith, least, many);
       rows_fit = subst (λ k. k ≤ most_members c.0.0.1) (sym many) agrees.fit;
       rows = rows.2;
@@ -341,6 +341,6 @@ is_read_again s valid =
 
 -- ---- what a call answers
 
-pub is_found : (bytes : List ℕ) (r : Result Status VgsaFault) → AreBytes bytes → Gives (λ x. x) r (status_of bytes) → IfOk r (IsStatus bytes)
+pub is_found : (bytes : List ℕ) (r : Result Status Fault) → IsBytes bytes → Gives (λ x. x) r (status_of bytes) → IfOk r (IsStatus bytes)
 is_found bytes (Ok s) fits given = is_read bytes s fits given
 is_found bytes (Err e) fits given = tt

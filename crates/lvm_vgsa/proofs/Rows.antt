@@ -12,7 +12,7 @@ use Rattle.lvm_num.specs.Status.{IsStatusRow, AreStatusRows, IsVolumeNumber, Are
 use Rattle.lvm_num.specs.DescriptorBytes.{flag, is_flag}
 use Rattle.lvm_num.specs.Reading.{◌>>=◌, Rest, bytes_at, number_at, zeros_at}
 use Rattle.lvm_num.specs.StatusBytes.{status_row_bytes, status_row_at, status_rows_at, numbers_at}
-use Rattle.lvm_vgsa.proofs.Fields.{AreBytes, bind_ok, ok_is, Takes, Takes-then, bytes_take, bytes_again, wide8, wide16, number_takes, number_again, zero_takes, zero_again}
+use Rattle.lvm_fields.proofs.FieldLaws.{IsBytes, bind_ok, ok_is, Takes, Takes-then, bytes_takes, bytes_again, wide8, wide16, number_takes, number_again, zeros_take, zeros_again}
 use Rattle.lvm_vgsa.proofs.Many.{Reader, many, many_rows, many_numbers, volume_at}
 use Rattle.lvm_vgsa.proofs.Orders.{InOrder, order_push, order_front, order_last, order_behind}
 
@@ -20,7 +20,7 @@ use Rattle.lvm_vgsa.proofs.Orders.{InOrder, order_push, order_front, order_last,
 
 -- what a reader takes after the earlier values
 abbrev TakesOne : (X : Type 0) → Reader X → (X → List ℕ) → (List X → Type 0) → Type 0
-TakesOne X one spell Good = (earlier : List X) (rest : Rest) (x : X × Rest) → AreBytes rest.1 → Good earlier → one earlier rest ≡ Ok x → Takes rest (spell x.0) x.1 × Good (earlier ++ x.0 ∷ [])
+TakesOne X one spell Good = (earlier : List X) (rest : Rest) (x : X × Rest) → IsBytes rest.1 → Good earlier → one earlier rest ≡ Ok x → Takes rest (spell x.0) x.1 × Good (earlier ++ x.0 ∷ [])
 
 -- what it reads again
 abbrev ReadsAgain : (X : Type 0) → Reader X → (X → List ℕ) → (List X → Type 0) → Type 0
@@ -31,10 +31,10 @@ pub record TakesAll (X : Type 0) (spell : X → List ℕ) (Good : List X → Typ
   pub parts : flat_map spell earlier ++ rest.1 ≡ flat_map spell x.0 ++ x.1.1
   pub count : length x.0 ≡ length earlier + n
   pub good : Good x.0
-  pub fits : AreBytes x.1.1
+  pub fits : IsBytes x.1.1
 
 many_take : (X : Type 0) (one : Reader X) (spell : X → List ℕ) (Good : List X → Type 0) → TakesOne X one spell Good → (n : ℕ) (earlier : List X) (rest : Rest) (x : List X × Rest)
-    → AreBytes rest.1 → Good earlier → many one n earlier rest ≡ Ok x → TakesAll X spell Good n earlier rest x
+    → IsBytes rest.1 → Good earlier → many one n earlier rest ≡ Ok x → TakesAll X spell Good n earlier rest x
 unfolding many
 many_take X one spell Good takes zero earlier rest x fits good e =
     let none : TakesAll X spell Good 0 earlier rest (earlier, rest) = record { parts = refl; count = omega arith; good = good; fits = fits } in
@@ -104,18 +104,18 @@ rows_take_one earlier rest x fits good e =
     let b = bind_ok (number_at w8 is_flag a.0.1) (after_missing a.0.0) x a.2 in
     let missing = number_takes w8 (2 ^ 8) wide8 is_flag a.0.1 b.0 disk.0.fits b.1 in
     let c = bind_ok (zeros_at 1 b.0.1) (after_gap a.0.0 b.0.0) x b.2 in
-    let gap = zero_takes b.0.1 c.0 missing.0.fits c.1 in
+    let gap = zeros_take 1 b.0.1 c.0 missing.0.fits c.1 in
     let d = bind_ok (bytes_at 127 (λ bytes. true) c.0) (after_marks a.0.0 b.0.0) x c.2 in
-    let stale = bytes_take 127 (λ bytes. true) c.0 d.0 gap.fits d.1 in
+    let stale = bytes_takes 127 (λ bytes. true) c.0 d.0 gap.fits d.1 in
     let f = bind_ok (zeros_at 1 d.0.1) (λ after. Ok (row_made a.0.0 b.0.0 d.0.0, after)) x d.2 in
-    let end = zero_takes d.0.1 f.0 stale.0.fits f.1 in
+    let end = zeros_take 1 d.0.1 f.0 stale.0.fits f.1 in
     let marks = Takes-then c.0 d.0.0 d.0.1 (0 ∷ []) f.0 stale.0 end in
     let behind = Takes-then b.0.1 (0 ∷ []) c.0 (d.0.0 ++ 0 ∷ []) f.0 gap marks in
-    let flagged : Takes a.0.1 (flag (b.0.0 == 1) ∷ []) b.0.1 = subst (λ (l : List ℕ). Takes a.0.1 l b.0.1) (flag_of b.0.0 missing.2) missing.0 in
+    let flagged : Takes a.0.1 (flag (b.0.0 == 1) ∷ []) b.0.1 = subst (λ (l : List ℕ). Takes a.0.1 l b.0.1) (flag_of b.0.0 missing.1) missing.0 in
     let most = Takes-then a.0.1 (flag (b.0.0 == 1) ∷ []) b.0.1 ((0 ∷ []) ++ (d.0.0 ++ 0 ∷ [])) f.0 flagged behind in
     let all : Takes rest (status_row_bytes (row_made a.0.0 b.0.0 d.0.0)) f.0 =
     Takes-then rest (to_be_bytes w16 a.0.0) a.0.1 ((flag (b.0.0 == 1) ∷ []) ++ ((0 ∷ []) ++ (d.0.0 ++ 0 ∷ []))) f.0 disk.0 most in
-    let tests = and_parts (nat_lt a.0.0 128) (list_all (λ (row : StatusRow). nat_lt row.disk a.0.0) earlier) disk.2 in
+    let tests = and_parts (nat_lt a.0.0 128) (list_all (λ (row : StatusRow). nat_lt row.disk a.0.0) earlier) disk.1 in
     let pushed : RowsInOrder (earlier ++ row_made a.0.0 b.0.0 d.0.0 ∷ []) =
     order_push StatusRow IsStatusRow (λ (a b : StatusRow). a.disk < b.disk) row_before (λ a b h. ltb-true a.disk b.disk h) earlier (row_made a.0.0 b.0.0 d.0.0) good
     (record { disk = ltb-true a.0.0 128 tests.0; size = stale.1 }) tests.1 in
@@ -141,9 +141,9 @@ rows_again_one earlier row p bytes good =
     let flag-read : number_at w8 is_flag (p + 2, flag row.missing ∷ 0 ∷ (row.stale ++ 0 ∷ bytes)) ≡ Ok (flag row.missing, (p + 2 + 1, 0 ∷ (row.stale ++ 0 ∷ bytes))) =
     ap (λ (l : List ℕ). number_at w8 is_flag (p + 2, l ++ 0 ∷ (row.stale ++ 0 ∷ bytes))) (sym missing.3)
     ∙ number_again w8 (2 ^ 8) wide8 is_flag (p + 2) (flag row.missing) (0 ∷ (row.stale ++ 0 ∷ bytes)) (omega (arith, missing.0)) missing.1 in
-    let gap-read = zero_again (p + 2 + 1) (row.stale ++ 0 ∷ bytes) in
+    let gap-read = zeros_again 1 (p + 2 + 1) (row.stale ++ 0 ∷ bytes) in
     let marks-read = bytes_again 127 (λ l. true) (p + 2 + 1 + 1) row.stale (0 ∷ bytes) valid.size refl in
-    let end-read = zero_again (p + 2 + 1 + 1 + 127) bytes in
+    let end-read = zeros_again 1 (p + 2 + 1 + 1 + 127) bytes in
     let made : row_made row.disk (flag row.missing) row.stale ≡ row = λ t. record { disk = row.disk; missing = missing.2 t; stale = row.stale } in
     let regroup : status_row_bytes row ++ bytes ≡ to_be_bytes w16 row.disk ++ (flag row.missing ∷ 0 ∷ (row.stale ++ 0 ∷ bytes)) =
     ap (λ (l : List ℕ). to_be_bytes w16 row.disk ++ (flag row.missing ∷ 0 ∷ l)) (append_assoc row.stale (0 ∷ []) bytes) in (
@@ -152,7 +152,7 @@ rows_again_one earlier row p bytes good =
           ∙ rw (disk-read, flag-read, gap-read, marks-read, end-read) (ap (λ (r : StatusRow). let x : Result (StatusRow × Rest) ℕ = Ok (r, (p + 2 + 1 + 1 + 127 + 1, bytes)) in x) made),
     )
 
-pub rows_take : (n : ℕ) (rest : Rest) (x : List StatusRow × Rest) → AreBytes rest.1 → status_rows_at n [] rest ≡ Ok x → Takes rest (flat_map status_row_bytes x.0) x.1 × (length x.0 ≡ n) × AreStatusRows x.0
+pub rows_take : (n : ℕ) (rest : Rest) (x : List StatusRow × Rest) → IsBytes rest.1 → status_rows_at n [] rest ≡ Ok x → Takes rest (flat_map status_row_bytes x.0) x.1 × (length x.0 ≡ n) × AreStatusRows x.0
 rows_take n rest x fits e =
     let none : RowsInOrder [] = record { each = λ k d lt. absurd (omega (arith, lt)); ordered = λ i j d less lt. absurd (omega (arith, lt)) } in
     let t = many_take StatusRow status_row_at status_row_bytes RowsInOrder rows_take_one n [] rest x fits none (sym (many_rows n [] rest) ∙ e) in
@@ -175,7 +175,7 @@ volume_test earlier n = nat_le 1 n && nat_le n 511 && list_all (λ m. nat_lt m n
 numbers_take_one : TakesOne ℕ volume_at (to_be_bytes w16) NumbersInOrder
 numbers_take_one earlier rest x fits good e =
     let t = number_takes w16 (2 ^ 16) wide16 (volume_test earlier) rest x fits e in
-    let tests = and_parts (nat_le 1 x.0 && nat_le x.0 511) (list_all (λ m. nat_lt m x.0) earlier) t.2 in
+    let tests = and_parts (nat_le 1 x.0 && nat_le x.0 511) (list_all (λ m. nat_lt m x.0) earlier) t.1 in
     let bounds = and_parts (nat_le 1 x.0) (nat_le x.0 511) tests.0 in
     let least : 1 ≤ x.0 = le_from 1 x.0 bounds.0 in
     let most : x.0 ≤ 511 = le_from x.0 511 bounds.1 in
@@ -195,7 +195,7 @@ numbers_again_one earlier n p bytes good =
     le_test : (a b : ℕ) → a ≤ b → nat_le a b ≡ true
     le_test a b h = grind (arith, nat_tests)
 
-pub numbers_take : (n : ℕ) (rest : Rest) (x : List ℕ × Rest) → AreBytes rest.1 → numbers_at n [] rest ≡ Ok x → Takes rest (flat_map (to_be_bytes w16) x.0) x.1 × (length x.0 ≡ n) × AreDirty x.0
+pub numbers_take : (n : ℕ) (rest : Rest) (x : List ℕ × Rest) → IsBytes rest.1 → numbers_at n [] rest ≡ Ok x → Takes rest (flat_map (to_be_bytes w16) x.0) x.1 × (length x.0 ≡ n) × AreDirty x.0
 numbers_take n rest x fits e =
     let none : NumbersInOrder [] = record { each = λ k d lt. absurd (omega (arith, lt)); ordered = λ i j d less lt. absurd (omega (arith, lt)) } in
     let t = many_take ℕ volume_at (to_be_bytes w16) NumbersInOrder numbers_take_one n [] rest x fits none (sym (many_numbers n [] rest) ∙ e) in

@@ -18,7 +18,7 @@ use Rattle.lvm_volumes.specs.NewVolume.{without_volume}
 use Rattle.lvm_core.specs.Leaves.{NoPartition, Leaves}
 use Rattle.lvm_volumes.specs.Endings.{fault_of, IfOn, commanding}
 use Rattle.lvm_volumes.specs.PlannedVolume.{IsPlannedVolume, IsWithout}
-use Rattle.lvm_volumes.specs.Stages.{IfGoesOn, making_of, BreaksOff, MakeEnds, IsNamed, RemoveEnds, IsUnnamed}
+use Rattle.lvm_volumes.specs.Stages.{IfGoesOn, making_of, MakingBroke, MakeEnds, IsNamed, RemoveEnds, IsUnnamed}
 use Rattle.lvm_volumes.specs.Volumes.{RefusesMklv, RefusesRmlv, IsWith, IsChosen, making, HasEntered, MakingEnds, IsVolumeMade, MklvGives, to_make, IsVolumeRemoved, RmlvGives, to_remove}
 use Rattle.lvm_volumes.proofs.Leaving.{leaves_wider}
 
@@ -91,7 +91,7 @@ module _ (v : NewVolume) (plan : VolumePlan) (a : State) (planned : IsPlannedVol
   same_making : making_of plan a ≡ making v plan.number a
   same_making = λ t. with_fact a.core.history (Making plan.number (planned.blocks t) (planned.mode t))
 
-  broke : (b : State) (Ends : Log → Type 0) → BreaksOff plan a b Ends → MakingEnds v a b Ends
+  broke : (b : State) (Ends : Log → Type 0) → MakingBroke plan a b Ends → MakingEnds v a b Ends
   broke b Ends off = record {
     map = plan.map;
     may = planned.may;

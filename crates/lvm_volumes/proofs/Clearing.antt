@@ -1,5 +1,5 @@
 -- Partitions become fresh, and then zeros.
-use Rattle.std.proofs.Common.{◌≡◌, ⊎_elim, ℕ, suc, Bool, true, false, ◌&&◌, ◌||◌, List, [], ◌∷◌, Result, Ok, Err, get_or, refl, sym, ap, subst, ◌∙◌, arith}
+use Rattle.std.proofs.Common.{◌≡◌, inl, ⊎_elim, ℕ, suc, Bool, true, false, ◌&&◌, ◌||◌, List, [], ◌∷◌, Result, Ok, Err, get_or, refl, sym, ap, subst, ◌∙◌, arith}
 use Rattle.std.specs.Prelude.{◌==◌, not, IsTrue, IsFalse, All, Contains}
 use Rattle.std.proofs.lemmas.Bool.{eqb-true, false≢true}
 use Rattle.std.proofs.lemmas.List.Folds.{list_any_at}
@@ -9,28 +9,27 @@ use Rattle.lvm_num.specs.declared.status.Status.{Status}
 use Rattle.lvm_num.specs.Descriptor.{IsPartitionOf, is_member}
 use Rattle.lvm_num.specs.Status.{calls_stale, calls_missing}
 use Rattle.lvm_disk.specs.Counts.{Rose}
-use Rattle.lvm_vol.specs.Log.{cut_log}
+use Rattle.lvm_vol.specs.Log.{Log}
 use Rattle.lvm_map.specs.FirstFit.{is_on}
 use Rattle.lvm_steps.proofs.Booleans.{either}
 use Rattle.lvm_stale.specs.Table.{is_pp}
 use Rattle.lvm_status.specs.Update.{members_there}
-use Rattle.lvm_quorum.proofs.Transfers.{darkened_then, given_up_then}
 use Rattle.lvm_commit.specs.LawsOfData.{IsFree}
 use Rattle.lvm_commit.specs.Settling.{NoneIsLeft}
 use Rattle.lvm_core.specs.declared.fault.CommitFault.{CommitFault}
 use Rattle.lvm_core.specs.declared.fault.CommitFault.TheVariants as commit
 use Rattle.lvm_core.specs.State.{Core, State, is_there}
 use Rattle.lvm_core.specs.Settled.{IsSettled}
-use Rattle.lvm_core.specs.Committing.{is_among, Restates, HasStated, StatusEnds}
+use Rattle.lvm_core.specs.Committing.{is_among, Restates, HasStated, RecordsEnd, MarkEnds}
 use Rattle.lvm_core.specs.Leaves.{NoDescriptor, Leaves, marking}
 use Rattle.lvm_volumes.specs.Endings.{StillHeld, commanding}
-use Rattle.lvm_volumes.specs.PlannedVolume.{IsOneGroup}
-use Rattle.lvm_volumes.specs.Stages.{IfGoesOn, AreUnusedOn, IsLowestMissing, FailsOn, ZerosEnd, ClearEnds}
+use Rattle.lvm_volumes.specs.PlannedVolume.{AreOfOneGroup}
+use Rattle.lvm_volumes.specs.Stages.{IfGoesOn, AreUnusedOn, IsLowestMissing, CommandBroke, DiskFailsFirst, ZerosEnd, ClearEnds}
 use Rattle.lvm_volumes.specs.Volumes.{AreZeroed}
+use Rattle.lvm_volumes.proofs.Breaking.{broken, broken_since}
 use Rattle.lvm_volumes.proofs.Holding.{still_by, still_then}
 use Rattle.lvm_volumes.proofs.Leaving.{leaves_wider, leaves_then}
 use Rattle.lvm_volumes.proofs.Left.{itself, is_used}
-use Rattle.lvm_volumes.proofs.Zeroing.{dark_history}
 
 -- ---- marks
 
@@ -63,31 +62,11 @@ module _ (map : List Pp) (p q : ℕ) (a b : State) (settled : IsSettled a.core) 
       done.held (λ none. subst (λ (d : Descriptor). NoneIsLeft d b.core.status) (sym same) (marks.none none))
 
   -- where it wasn't committed
-  pub fresh_break : (r : Result (Unit {0}) CommitFault) → ((done : Unit {0}) → r ≡ Ok done → ⊥) → StatusEnds p a b r → ClearEnds map p a b r
-  fresh_break (Ok done) broke ends = absurd (broke done refl)
-  fresh_break (Err (commit.WentOff have total)) broke ends = record {
-    lost = ends.lost;
-    power = ap (λ (c : Core). c.power) ends.is;
-    history = ap (λ (c : Core). c.history) ends.is;
-    descriptor = ap (λ (c : Core). c.descriptor) ends.is;
-    requests = ap (λ (c : Core). c.requests) ends.is ∙ settled.quiet.requests;
-    ready = ends.ready;
-    cuts = ends.cuts;
-  }
-  fresh_break (Err commit.Dark) broke ends = record {
-    cut = ends.cut;
-    power = ap (λ (c : Core). c.power) ends.is;
-    history = dark_history a b settled ends;
-    descriptor = ap (λ (c : Core). c.descriptor) ends.is;
-    requests = ap (λ (c : Core). c.requests) ends.is ∙ ap (Rattle.std.specs.Prelude.map Rattle.lvm_core.specs.Dark.darkened) settled.quiet.requests;
-  }
-  fresh_break (Err commit.Stuck) broke ends = record {
-    out = ends.out;
-    history = ap (λ (c : Core). c.history) ends.is;
-    descriptor = ap (λ (c : Core). c.descriptor) ends.is;
-    requests = ap (λ (c : Core). c.requests) ends.is ∙ settled.quiet.requests;
-  }
-  fresh_break (Err (commit.DiskFailed disk)) broke ends = absurd ends
+  pub fresh_break : (why : CommitFault) → MarkEnds p a b (Err why) → ClearEnds map p a b (Err why)
+  fresh_break (commit.WentOff have total) ends = broken (HasStated a.core.descriptor a b) p a b settled (commit.WentOff have total) ends
+  fresh_break commit.Dark ends = broken (HasStated a.core.descriptor a b) p a b settled commit.Dark ends
+  fresh_break commit.Stuck ends = broken (HasStated a.core.descriptor a b) p a b settled commit.Stuck ends
+  fresh_break (commit.DiskFailed disk) ends = absurd ends
 
 -- ---- and then zeros
 
@@ -109,7 +88,7 @@ is_present true false member isnt = refl
 is_present true true member isnt = absurd (false≢true (sym isnt))
 is_present false b member isnt = absurd (false≢true member)
 
-module _ (map : List Pp) (p q : ℕ) (a b : State) (settled : IsSettled a.core) (unused : AreUnusedOn a.core map) (group : IsOneGroup a.core) (done : HasStated a.core.descriptor a b) (marks : Restates [] map a b) (leaves : Leaves (marking [] map) p q a b) where
+module _ (map : List Pp) (p q : ℕ) (a b : State) (settled : IsSettled a.core) (unused : AreUnusedOn a.core map) (group : AreOfOneGroup a.core) (done : HasStated a.core.descriptor a b) (marks : Restates [] map a b) (leaves : Leaves (marking [] map) p q a b) where
   abbrev gone : ℕ → Bool
   gone = calls_missing b.core.status.wanted
 
@@ -124,7 +103,7 @@ module _ (map : List Pp) (p q : ℕ) (a b : State) (settled : IsSettled a.core) 
   unhurt d on isnt = done.well d (subst (λ (g : Descriptor). IsTrue (members_there g b.core.status.wanted d)) (sym (leaves.status.group ∙ group.status))
       (is_present (is_member a.core.descriptor d) (gone d) (present (is_member a.core.descriptor d) (calls_missing a.core.status.wanted d) (member d on)).0 isnt))
 
-  pub missing_fails : (disk : ℕ) → IsLowestMissing b.core.status.committed map disk → FailsOn map disk a b
+  pub missing_fails : (disk : ℕ) → IsLowestMissing b.core.status.committed map disk → DiskFailsFirst map disk a b
   missing_fails disk low = record {
     its = low.its;
     lowest = λ d lt on. unhurt d on (subst (λ (s : Status). IsFalse (calls_missing s d)) done.settled.committed (low.lowest d lt on));
@@ -159,6 +138,9 @@ module _ (map : List Pp) (p q : ℕ) (a b : State) (settled : IsSettled a.core) 
       history : b.core.history ≡ a.core.history
       history = ap (λ (x : Core). x.history) done.is
 
+      since : (why : CommitFault) → RecordsEnd ⊥ q b c (Err why) → CommandBroke a.core.history p a c why
+      since why ends = broken_since (marking [] map) p q a.core.history a b c leaves same done.cuts why (subst (λ (l : Log). CommandBroke l q b c why) history (broken ⊥ q b c done.settled why ends))
+
       pub clear_end : (r : Result (Unit {0}) CommitFault) → ZerosEnd map q b c r → ClearEnds map p a c r
       clear_end (Ok ok) ends = record {
         settled = subst IsSettled (sym ends.same.core) done.settled;
@@ -181,23 +163,12 @@ module _ (map : List Pp) (p q : ℕ) (a b : State) (settled : IsSettled a.core) 
         };
         settled = subst IsSettled (sym ends.same.core) done.settled;
       }
-      clear_end (Err commit.Dark) ends = record {
-        cut = darkened_then 0 0 a.device b.device c.device refl done.cuts ends.cut;
-        power = ap (λ (x : Core). x.power) ends.is;
-        history = dark_history b c done.settled ends ∙ ap cut_log history;
-        descriptor = ap (λ (x : Core). x.descriptor) ends.is ∙ same;
-        requests = ap (λ (x : Core). x.requests) ends.is ∙ ap (Rattle.std.specs.Prelude.map Rattle.lvm_core.specs.Dark.darkened) done.settled.quiet.requests;
-      }
-      clear_end (Err commit.Stuck) ends = record {
-        out = given_up_then 0 0 p q a.device b.device c.device refl done.cuts leaves.spends ends.out;
-        history = ap (λ (x : Core). x.history) ends.is ∙ history;
-        descriptor = ap (λ (x : Core). x.descriptor) ends.is ∙ same;
-        requests = ap (λ (x : Core). x.requests) ends.is ∙ done.settled.quiet.requests;
-      }
+      clear_end (Err commit.Dark) ends = since commit.Dark ends
+      clear_end (Err commit.Stuck) ends = since commit.Stuck ends
       clear_end (Err (commit.WentOff have total)) ends = absurd ends
 
       pub clear_leaves : (r : ℕ) → StillHeld a b → Leaves (commanding NoDescriptor (Contains map) 0) q r b c → Leaves (commanding NoDescriptor (Contains map) 1) p r a c
-      clear_leaves r still two = leaves_then NoDescriptor (Contains map) 1 0 p q r a b c (ap (λ (d : Descriptor). d.mib) same) (λ d. ap (λ (x : Descriptor). is_member x d) same) (fresh_among map p q a b settled leaves) still two
+      clear_leaves r still two = leaves_then NoDescriptor (Contains map) 1 0 p q r a b c (inl same) (ap (λ (d : Descriptor). d.mib) same) (λ d. ap (λ (x : Descriptor). is_member x d) same) (fresh_among map p q a b settled leaves) still two
 
       pub clear_still : StillHeld a b → (r : Result (Unit {0}) CommitFault) → IfGoesOn r (StillHeld b c) → IfGoesOn r (StillHeld a c)
       clear_still still (Ok ok) two = still_then a b c still two

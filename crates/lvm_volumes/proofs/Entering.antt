@@ -8,14 +8,16 @@ use Rattle.lvm_num.specs.declared.descriptor.PvRow.{PvRow}
 use Rattle.lvm_num.specs.Descriptor.{IsValid, is_member, most_members}
 use Rattle.lvm_num.specs.Status.{calls_missing}
 use Rattle.lvm_disk.specs.Device.{Media, Image, IsReady, image_of, MayLeave}
+use Rattle.lvm_vol.specs.declared.entry.Entry.{Entry}
+use Rattle.lvm_vol.specs.declared.entry.Entry.TheVariants as entry
 use Rattle.lvm_vol.specs.Facts.{Fact}
 use Rattle.lvm_vol.specs.Legal.{IsLater}
-use Rattle.lvm_vol.specs.Log.{Log, with_fact, need, spare_entries}
+use Rattle.lvm_vol.specs.Log.{Log, with_fact, plain_fact, need, spare_entries}
 use Rattle.lvm_kept.specs.Contents.{contents_of}
 use Rattle.lvm_kept.specs.Moments.{Moment}
 use Rattle.lvm_steps.specs.Entering.{OpensNone}
 use Rattle.lvm_steps.proofs.Entering.{calm_goes_on}
-use Rattle.lvm_quorum.proofs.Transfers.{keeps_here, spends_none}
+use Rattle.lvm_write.proofs.Transfers.{keeps_here, spends_none}
 use Rattle.lvm_commit.specs.Committed.{HoldsCommitted, ShowsCommitted}
 use Rattle.lvm_commit.specs.LawsOfVolumes.{IsOnlyGroupSince, LeavesCommitted}
 use Rattle.lvm_commit.specs.Settling.{many_there, NoneIsLeft, MarksLeft}
@@ -25,21 +27,32 @@ use Rattle.lvm_core.specs.Held.{IsHeld}
 use Rattle.lvm_core.specs.Settled.{IsSettled, HasSpareNumbers}
 use Rattle.lvm_core.specs.Committing.{moment_of, SpanGoesOn, LetsCommit, HasStated}
 use Rattle.lvm_core.specs.Leaves.{NoPartition, IsOfCommand, Leaves, committing}
+use Rattle.lvm_core.specs.Entering.{IsOfVolume}
 use Rattle.lvm_core.proofs.LeavesLemmas.{keeps_fact, same_status}
 use Rattle.lvm_volumes.specs.Endings.{StillHeld, IfAlone, commanding}
-use Rattle.lvm_volumes.specs.PlannedVolume.{IsOneGroup}
-use Rattle.lvm_volumes.specs.Volumes.{HasRoom}
+use Rattle.lvm_volumes.specs.PlannedVolume.{AreOfOneGroup}
+use Rattle.lvm_volumes.specs.Stages.{with_entry}
+use Rattle.lvm_volumes.specs.Volumes.{HasSpareRoom}
 use Rattle.lvm_volumes.proofs.Holding.{still_by}
 use Rattle.lvm_volumes.proofs.Leaving.{falls_none, leaves_wider}
-
--- the session with one entry more
-abbrev pub entered : State → Fact → State
-entered s f = record s { core = record s.core { history = with_fact s.core.history f } }
 
 pub spare_more : (log : Log) (f : Fact) → need f ≡ 1 → 2 ≤ spare_entries log → 1 ≤ spare_entries (with_fact log f)
 spare_more log f one two = let sum = sum_by-append need log.facts (f ∷ []) in omega (arith, sum, one, two)
 
-pub settled_entered : (s : State) (f : Fact) → IsSettled s.core → IsSettled (entered s f).core
+-- each entry of a volume needs its own room alone
+pub needs_one : (e : Entry) → IsOfVolume e → need (plain_fact e) ≡ 1
+needs_one (entry.Making lv blocks mode) is = refl
+needs_one (entry.Made lv) is = refl
+needs_one (entry.Removing vol) is = refl
+needs_one (entry.Removed vol) is = refl
+needs_one (entry.Split from lv) is = absurd is
+needs_one (entry.On moment) is = absurd is
+needs_one (entry.Begun client id vol at count write place) is = absurd is
+needs_one (entry.Landed id how started) is = absurd is
+needs_one (entry.Taken client id) is = absurd is
+needs_one entry.Cut is = absurd is
+
+pub settled_entered : (s : State) (f : Fact) → IsSettled s.core → IsSettled (with_entry s f).core
 settled_entered s f settled = record {
   power = settled.power;
   quiet = record { requests = settled.quiet.requests; copy = settled.quiet.copy; status = settled.quiet.status; notes = settled.quiet.notes; buffers = settled.quiet.buffers };
@@ -51,10 +64,10 @@ settled_entered s f settled = record {
 module _ (N : Descriptor → Type 0) (Z : Pp → Type 0) where
   -- an entry that is no varyon and opens no write
   pub entry_leaves : (p : ℕ) (s : State) (f : Fact) → ((moment : ℕ) → IsLater (f ∷ []) moment) → OpensNone f
-      → (IsHeld s.device s.core → (run : ℕ) (first : Moment) → IfAlone s (entered s f) run first → SpanGoesOn run first s (entered s f)) → Leaves (commanding N Z 0) p p s (entered s f)
+      → (IsHeld s.device s.core → (run : ℕ) (first : Moment) → IfAlone s (with_entry s f) run first → SpanGoesOn run first s (with_entry s f)) → Leaves (commanding N Z 0) p p s (with_entry s f)
   entry_leaves p s f later opens spans = record {
-    writes = keeps_here (is_there s.core) (IsOfCommand N Z s (entered s f)) s.device;
-    status = same_status NoPartition Z s (entered s f) refl;
+    writes = keeps_here (is_there s.core) (IsOfCommand N Z s (with_entry s f)) s.device;
+    status = same_status N NoPartition Z s (with_entry s f) refl;
     numbers = record { epoch = refl; rises = omega arith; most = omega arith };
     history = keeps_fact s.core.history f later;
     spans = spans;
@@ -65,7 +78,7 @@ module _ (N : Descriptor → Type 0) (Z : Pp → Type 0) where
     spends = spends_none p s.device;
   }
 
-pub entry_still : (s : State) (f : Fact) → StillHeld s (entered s f)
+pub entry_still : (s : State) (f : Fact) → StillHeld s (with_entry s f)
 entry_still s f = record { held = λ held. held; notes = λ home. home; only = λ held only. only; left = λ none. none }
 
 -- ---- what a held session's crash images show
@@ -109,5 +122,5 @@ many_bound core valid group =
     let same : length core.status.group.pvs ≡ length core.descriptor.pvs = ap (λ (d : Descriptor). length d.pvs) group in
     omega (arith, all, same, valid.head.members, most core.descriptor.big)
 
-pub has_numbers : (core : Core) → IsOneGroup core → HasRoom core → HasSpareNumbers core
+pub has_numbers : (core : Core) → AreOfOneGroup core → HasSpareRoom core → HasSpareNumbers core
 has_numbers core group room = let many = many_bound core group.valid group.status in omega (arith, many, room.numbers)

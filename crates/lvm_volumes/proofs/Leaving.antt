@@ -1,5 +1,5 @@
 -- What a command leaves, one call after another, and by a wider scope.
-use Rattle.std.proofs.Common.{◌≡◌, ◌+◌, inl, inr, ⊎_elim, ℕ, ◌<◌, ◌≤◌, Bool, true, false, List, refl, sym, subst, ◌∙◌, arith}
+use Rattle.std.proofs.Common.{◌≡◌, ◌⊎◌, ◌+◌, inl, inr, ⊎_elim, ℕ, ◌<◌, ◌≤◌, Bool, true, false, List, refl, sym, subst, ◌∙◌, arith}
 use Rattle.std.specs.Prelude.{◌&&◌, not, IsTrue, IsFalse}
 use Rattle.std.proofs.lemmas.Bool.{false≢true}
 use Rattle.lvm_num.specs.declared.place.Pp.{Pp}
@@ -8,22 +8,22 @@ use Rattle.lvm_num.specs.declared.status.Status.{Status}
 use Rattle.lvm_num.specs.Buffer.{Sector}
 use Rattle.lvm_num.specs.Disks.{Disks}
 use Rattle.lvm_num.specs.Descriptor.{is_member}
-use Rattle.lvm_num.specs.Status.{calls_missing}
+use Rattle.lvm_num.specs.Status.{calls_stale, calls_missing}
 use Rattle.lvm_disk.specs.Counts.{Rose, NoneFalls}
 use Rattle.lvm_disk.specs.Device.{Device, image_of}
 use Rattle.lvm_kept.specs.Moments.{Moment}
 use Rattle.lvm_kept.specs.Torn.{RecordWrite}
 use Rattle.lvm_kept.specs.Plans.{Plan, ChangesBy}
 use Rattle.lvm_status.specs.Update.{members_there}
-use Rattle.lvm_quorum.specs.Written.{KeepsShelf}
-use Rattle.lvm_quorum.proofs.Writing.{logs_wider, both_map, changes_more}
-use Rattle.lvm_quorum.proofs.Transfers.{keeps_here, keeps_then, spends_none, spends_then}
+use Rattle.lvm_write.specs.Written.{KeepsShelf}
+use Rattle.lvm_write.proofs.Writing.{logs_wider, both_map, changes_more}
+use Rattle.lvm_write.proofs.Transfers.{keeps_here, keeps_then, spends_none, spends_then}
 use Rattle.lvm_commit.specs.Settling.{there, IsOfSession, StatesGroup, IsOfStatus, IsOfCommit}
 use Rattle.lvm_core.specs.State.{State, is_there}
 use Rattle.lvm_core.specs.Zeros.{IsZeroOf}
 use Rattle.lvm_core.specs.Held.{IsHeld}
-use Rattle.lvm_core.specs.Leaves.{Scope, NoPartition, IsOfCommand, MayBeFound, Leaves}
-use Rattle.lvm_core.proofs.LeavesLemmas.{keeps_same, same_status}
+use Rattle.lvm_core.specs.Leaves.{Scope, NoPartition, IsOfCommand, WasLeftBehind, MayBeFound, Leaves}
+use Rattle.lvm_core.proofs.LeavesLemmas.{outside, keeps_same, same_status}
 use Rattle.lvm_volumes.specs.Endings.{StillHeld, commanding}
 
 -- ---- counts
@@ -35,10 +35,6 @@ pub rose_from : (a b c : ℕ) → a ≤ b → Rose b c → Rose a c
 rose_from a b c le rose = record { later = omega (arith, rose.later, le); risen = omega (arith, rose.risen, le) }
 
 -- ---- wider plans
-
-outside : (t u : Bool) → (IsTrue t → IsTrue u) → IsFalse u → IsFalse t
-outside true u more off = absurd (false≢true (sym off ∙ more refl))
-outside false u more off = refl
 
 pub wider : (T U : Disks) (P Q : Plan) (old new : Device) → ((d : ℕ) → IsTrue (T d) → IsTrue (U d)) → ((d s : ℕ) (value : Sector) → P d s value → Q d s value) → KeepsShelf T P old new → KeepsShelf U Q old new
 wider T U P Q old new targets more keeps = record {
@@ -73,6 +69,23 @@ there_less a b group stays d is = there_before a.core.status.group a.core.status
 
 module _ (V W : Scope) (next : (d : Descriptor) → V.next d → W.next d) (zeros : (pp : Pp) → V.zeros pp → W.zeros pp) (stale : (pp : Pp) → V.stale pp → W.stale pp) (fresh : (pp : Pp) → V.fresh pp → W.fresh pp)
     (numbers : V.numbers ≤ W.numbers) (p q : ℕ) (a b : State) (lets : IsHeld a.device a.core → (run : ℕ) (first : Moment) → W.lets a b run first → V.lets a b run first) where
+  behind_wider : (pp : Pp) → WasLeftBehind V.next V.fresh a b pp → WasLeftBehind W.next W.fresh a b pp
+  behind_wider pp is = record {
+    group = is.group;
+    known = ⊎_elim (λ same. inl same) (λ its. inr (next is.group its)) is.known;
+    row = is.row;
+    lp = is.lp;
+    volume = is.volume;
+    inside = is.inside;
+    one = is.one;
+    absent = is.absent;
+    other = is.other;
+    among = is.among;
+    apart = is.apart;
+    usable = λ out. is.usable (λ its. out (fresh is.other its));
+    was_there = is.was_there;
+  }
+
   pub leaves_wider : Leaves V p q a b → Leaves W p q a b
   leaves_wider leaves = record {
     writes = wider (is_there a.core) (is_there a.core) (IsOfCommand V.next V.zeros a b) (IsOfCommand W.next W.zeros a b) a.device b.device (λ d is. is)
@@ -81,7 +94,7 @@ module _ (V W : Scope) (next : (d : Descriptor) → V.next d → W.next d) (zero
       group = leaves.status.group;
       rows = leaves.status.rows;
       stale = λ pp out. leaves.status.stale pp (λ its. out (fresh pp its));
-      further = λ pp is. ⊎_elim (λ x. inl x) (⊎_elim (λ y. inr (inl (stale pp y))) (λ z. inr (inr z))) (leaves.status.further pp is);
+      further = λ pp is. ⊎_elim (λ x. inl x) (⊎_elim (λ y. inr (inl (stale pp y))) (λ z. inr (inr (behind_wider pp z)))) (leaves.status.further pp is);
       dirty = leaves.status.dirty;
       stays = leaves.status.stays;
       lost = leaves.status.lost;
@@ -113,7 +126,7 @@ falls_none a = record { starts = λ d. omega arith; misses = λ d. omega arith; 
 pub leaves_none : (W : Scope) (p : ℕ) (s : State) → Leaves W p p s s
 leaves_none W p s = record {
   writes = keeps_here (is_there s.core) (IsOfCommand W.next W.zeros s s) s.device;
-  status = same_status W.stale W.fresh s s refl;
+  status = same_status W.next W.stale W.fresh s s refl;
   numbers = record { epoch = refl; rises = omega arith; most = omega arith };
   history = keeps_same s.core.history s.core.history refl;
   spans = λ held run first only span. span;
@@ -176,9 +189,50 @@ module _ (N : Descriptor → Type 0) (Z : Pp → Type 0) where
     command_second mib d s value (inr (inl is)) = inr (inl (is.0, is.1, commit_second _ d s value is.2))
     command_second mib d s value (inr (inr is)) = inr (inr (is.0, is.1, subst (λ (n : ℕ). IsZeroOf n is.0 d s value) mib is.2))
 
-  pub leaves_then : (m n p q r : ℕ) (a b c : State) → b.core.descriptor.mib ≡ a.core.descriptor.mib → ((d : ℕ) → is_member b.core.descriptor d ≡ is_member a.core.descriptor d)
+  -- ---- what was left behind at the one call or the other
+
+  behind_first : (F : Pp → Type 0) (a b c : State) → ((d : ℕ) → IsTrue (there c.core.status d) → IsTrue (there b.core.status d)) → (p : Pp) → WasLeftBehind N F a b p → WasLeftBehind N F a c p
+  behind_first F a b c less p is = record {
+    group = is.group;
+    known = is.known;
+    row = is.row;
+    lp = is.lp;
+    volume = is.volume;
+    inside = is.inside;
+    one = is.one;
+    absent = outside (there c.core.status p.disk) (there b.core.status p.disk) (less p.disk) is.absent;
+    other = is.other;
+    among = is.among;
+    apart = is.apart;
+    usable = is.usable;
+    was_there = is.was_there;
+  }
+
+  behind_second : (F : Pp → Type 0) (a b c : State) → (b.core.descriptor ≡ a.core.descriptor) ⊎ N b.core.descriptor
+      → ((p : Pp) → (F p → ⊥) → IsTrue (calls_stale a.core.status.wanted p) → IsTrue (calls_stale b.core.status.wanted p))
+      → ((d : ℕ) → IsTrue (there b.core.status d) → IsTrue (there a.core.status d)) → (p : Pp) → WasLeftBehind N F b c p → WasLeftBehind N F a c p
+  behind_second F a b c from stale less p is = record {
+    group = is.group;
+    known = ⊎_elim
+        (λ (same : is.group ≡ b.core.descriptor). ⊎_elim (λ (was : b.core.descriptor ≡ a.core.descriptor). inl (same ∙ was)) (λ (its : N b.core.descriptor). inr (subst N (sym same) its)) from)
+        (λ (its : N is.group). inr its)
+        is.known;
+    row = is.row;
+    lp = is.lp;
+    volume = is.volume;
+    inside = is.inside;
+    one = is.one;
+    absent = is.absent;
+    other = is.other;
+    among = is.among;
+    apart = is.apart;
+    usable = λ out. outside (calls_stale a.core.status.wanted is.other) (calls_stale b.core.status.wanted is.other) (stale is.other out) (is.usable out);
+    was_there = less is.other.disk is.was_there;
+  }
+
+  pub leaves_then : (m n p q r : ℕ) (a b c : State) → (b.core.descriptor ≡ a.core.descriptor) ⊎ N b.core.descriptor → b.core.descriptor.mib ≡ a.core.descriptor.mib → ((d : ℕ) → is_member b.core.descriptor d ≡ is_member a.core.descriptor d)
       → Leaves (commanding N Z m) p q a b → StillHeld a b → Leaves (commanding N Z n) q r b c → Leaves (commanding N Z (m + n)) p r a c
-  leaves_then m n p q r a b c mib members one still two = record {
+  leaves_then m n p q r a b c from mib members one still two = record {
     writes = keeps_then (is_there a.core) (IsOfCommand N Z a c) a.device b.device c.device
         (wider (is_there a.core) (is_there a.core) (IsOfCommand N Z a b) (IsOfCommand N Z a c) a.device b.device (λ d is. is)
         (command_first a b c one.status.group one.status.stays one.numbers.epoch one.numbers.rises two.numbers.rises) one.writes)
@@ -190,8 +244,8 @@ module _ (N : Descriptor → Type 0) (Z : Pp → Type 0) where
       stale = λ p off is. two.status.stale p off (one.status.stale p off is);
       further = λ p is. ⊎_elim
           (λ before. ⊎_elim (λ first. inl first)
-          (⊎_elim (λ none. absurd none) (λ gone. inr (inr (outside (there c.core.status p.disk) (there b.core.status p.disk) (there_less b c two.status.group two.status.stays p.disk) gone)))) (one.status.further p before))
-          (⊎_elim (λ none. absurd none) (λ gone. inr (inr gone)))
+          (⊎_elim (λ none. absurd none) (λ gone. inr (inr (behind_first Z a b c (there_less b c two.status.group two.status.stays) p gone)))) (one.status.further p before))
+          (⊎_elim (λ none. absurd none) (λ gone. inr (inr (behind_second Z a b c from one.status.stale (there_less a b one.status.group one.status.stays) p gone))))
           (two.status.further p is);
       dirty = two.status.dirty ∙ one.status.dirty;
       stays = λ d is. two.status.stays d (one.status.stays d is);

@@ -6,6 +6,7 @@ pub mod OldDescriptor
 pub mod Places
 pub mod Refusals
 pub mod Leaving
+pub mod Breaking
 pub mod Holding
 pub mod Zeroing
 pub mod Zeros

@@ -16,7 +16,7 @@ use Rattle.lvm_num.specs.Status.{calls_stale}
 use Rattle.lvm_num.specs.Votes.{CanWrite}
 use Rattle.lvm_disk.specs.Device.{Media, image_of}
 use Rattle.lvm_vol.specs.Facts.{Fact, Making, Made}
-use Rattle.lvm_vol.specs.Log.{Log, with_fact, cut_log}
+use Rattle.lvm_vol.specs.Log.{Log, with_fact}
 use Rattle.lvm_vol.specs.Standing.{Open, Volume, volumes_in}
 use Rattle.lvm_kept.specs.Contents.{contents_of}
 use Rattle.lvm_kept.specs.Kept.{Kept}
@@ -24,7 +24,6 @@ use Rattle.lvm_kept.specs.Moments.{Moment}
 use Rattle.lvm_map.specs.FirstFit.{IsAllocated, new_volume}
 use Rattle.lvm_steps.proofs.Making.{media_may}
 use Rattle.lvm_status.specs.Update.{members_there}
-use Rattle.lvm_quorum.proofs.Transfers.{darkened_then, given_up_then}
 use Rattle.lvm_commit.specs.Committed.{ShowsCommitted, HoldsCommitted}
 use Rattle.lvm_commit.specs.LawsOfData.{IsSectorOf}
 use Rattle.lvm_commit.specs.LawsOfVolumes.{VolumeServes}
@@ -43,18 +42,18 @@ use Rattle.lvm_volumes.specs.declared.new_volume.VolumePlan.{VolumePlan}
 use Rattle.lvm_volumes.specs.NewVolume.{row_for, with_volume}
 use Rattle.lvm_volumes.specs.Endings.{StillHeld, commanding}
 use Rattle.lvm_volumes.specs.PlannedVolume.{IsPlannedVolume}
-use Rattle.lvm_volumes.specs.Stages.{AreUnusedOn, AreCleared, ClearEnds, making_of, IsNamed, MakeEnds}
+use Rattle.lvm_volumes.specs.Stages.{IfGoesOn, CommandBroke, with_entry, ClosesBy, CommitsBetween, AreUnusedOn, AreCleared, ClearEnds, making_of, IsNamed, MakeEnds}
 use Rattle.lvm_volumes.specs.Volumes.{AreZeroed}
 use Rattle.lvm_map.proofs.PlaceLemmas.{mib_positive}
-use Rattle.lvm_volumes.proofs.Leaving.{rose_from, there_before, leaves_wider, leaves_then}
+use Rattle.lvm_volumes.proofs.Leaving.{leaves_wider, leaves_then}
 use Rattle.lvm_volumes.proofs.Left.{none_with, fresh_with}
+use Rattle.lvm_volumes.proofs.Breaking.{broken, broken_since, stopped}
 use Rattle.lvm_volumes.proofs.Holding.{still_then}
-use Rattle.lvm_volumes.proofs.Zeroing.{dark_history}
 use Rattle.lvm_volumes.proofs.Zeros.{zeros_stay}
 use Rattle.lvm_volumes.proofs.Places.{places_of, usable_of, free_of, once_of}
 use Rattle.lvm_volumes.proofs.NewDescriptor.{named_with}
 use Rattle.lvm_volumes.proofs.Serving.{making_open, new_serves}
-use Rattle.lvm_volumes.proofs.Entering.{entered, settled_entered, entry_leaves, entry_still, commit_among, commit_still, leaves_committed}
+use Rattle.lvm_volumes.proofs.Entering.{settled_entered, entry_leaves, entry_still, commit_among, commit_still, leaves_committed}
 
 -- ---- records stand below the data
 
@@ -111,12 +110,11 @@ module _ (v : NewVolume) (plan : VolumePlan) (a : State) (settled : IsSettled a.
     clear_break_leaves = as_named 2 (omega arith)
 
     -- where the partitions weren't cleared
-    pub clear_break : (r : Result (Unit {0}) CommitFault) → ((done : Unit {0}) → r ≡ Ok done → ⊥) → ClearEnds plan.map p a b r → MakeEnds plan p a b r
-    clear_break (Ok done) broke ends = absurd (broke done refl)
-    clear_break (Err (commit.WentOff have total)) broke ends = record { entered = a.core.history; so_far = inl refl; ends = ends }
-    clear_break (Err commit.Dark) broke ends = record { entered = a.core.history; so_far = inl refl; ends = ends }
-    clear_break (Err commit.Stuck) broke ends = record { entered = a.core.history; so_far = inl refl; ends = ends }
-    clear_break (Err (commit.DiskFailed disk)) broke ends = ends
+    pub clear_break : (why : CommitFault) → ClearEnds plan.map p a b (Err why) → MakeEnds plan p a b (Err why)
+    clear_break (commit.WentOff have total) ends = record { entered = a.core.history; so_far = inl refl; ends = ends }
+    clear_break commit.Dark ends = record { entered = a.core.history; so_far = inl refl; ends = ends }
+    clear_break commit.Stuck ends = record { entered = a.core.history; so_far = inl refl; ends = ends }
+    clear_break (commit.DiskFailed disk) ends = ends
 
     module _ (cleared : AreCleared plan.map a b) (still : StillHeld a b) where
       same : b.core.descriptor ≡ a.core.descriptor
@@ -126,7 +124,7 @@ module _ (v : NewVolume) (plan : VolumePlan) (a : State) (settled : IsSettled a.
       same_history = ap (λ (x : Core). x.history) cleared.is
 
       abbrev pub begun : State
-      begun = entered b f
+      begun = with_entry b f
 
       is_making : begun.core.history ≡ making_of plan a
       is_making = ap (λ (l : Log). with_fact l f) same_history
@@ -136,7 +134,7 @@ module _ (v : NewVolume) (plan : VolumePlan) (a : State) (settled : IsSettled a.
 
       -- the volume may be in the making
       begun_leaves : Leaves (commanding N Z 1) p q a begun
-      begun_leaves = leaves_then N Z 1 0 p q q a b begun (ap (λ (d : Descriptor). d.mib) same) (λ d. ap (λ (x : Descriptor). is_member x d) same) (as_named 1 (omega arith)) still
+      begun_leaves = leaves_then N Z 1 0 p q q a b begun (inl same) (ap (λ (d : Descriptor). d.mib) same) (λ d. ap (λ (x : Descriptor). is_member x d) same) (as_named 1 (omega arith)) still
           (entry_leaves N Z q b f (λ moment. tt) tt (λ held run first only span.
           volume_begins_in_session run first b.device b.core.history.facts b.core.descriptor b.core.status.committed (is_there b.core) plan.number plan.blocks plan.mode span cleared.settled.votes
           (leaves_committed b cleared.ready held run first (only (enters_one b.core.history.facts f refl))) (subst (λ (d : Descriptor). volume_of d plan.number ≡ None) (sym same) planned.lowest.free)))
@@ -186,15 +184,9 @@ module _ (v : NewVolume) (plan : VolumePlan) (a : State) (settled : IsSettled a.
 
       -- ---- the commit
 
-      module _ (r : ℕ) (m c : State) (entered_is : m ≡ begun) (leaves_m : Leaves (committing plan.next) q r m c) (left_m : MarksLeft plan.next m.core.status c.core.status) where
-        leaves : Leaves (committing plan.next) q r begun c
-        leaves = subst (λ (x : State). Leaves (committing plan.next) q r x c) entered_is leaves_m
-
-        left : MarksLeft plan.next b.core.status c.core.status
-        left = subst (λ (x : State). MarksLeft plan.next x.core.status c.core.status) entered_is left_m
-
-        pub break_leaves : Leaves (commanding N Z 2) p r a c
-        break_leaves = leaves_then N Z 1 1 p q r a begun c (ap (λ (d : Descriptor). d.mib) same) (λ d. ap (λ (x : Descriptor). is_member x d) same) begun_leaves still_begun
+      module _ (r : ℕ) (c : State) (leaves : Leaves (committing plan.next) q r begun c) (left : MarksLeft plan.next b.core.status c.core.status) where
+        break_leaves : Leaves (commanding N Z 2) p r a c
+        break_leaves = leaves_then N Z 1 1 p q r a begun c (inl same) (ap (λ (d : Descriptor). d.mib) same) (λ d. ap (λ (x : Descriptor). is_member x d) same) begun_leaves still_begun
             (commit_among N Z plan.next refl q r begun c leaves plan.number lets_make)
 
         low : (d s : ℕ) (value : Sector) → IsOfCommand (λ x. x ≡ plan.next) NoPartition begun c d s value → s < data_start
@@ -207,62 +199,23 @@ module _ (v : NewVolume) (plan : VolumePlan) (a : State) (settled : IsSettled a.
             (λ d s value brought inside. absurd (let below = low d s value brought in let above = inside.low in omega (arith, below, above))) leaves.writes (cleared.zeros k e lt)
 
         -- where it failed
-        broken : (x : Result (Unit {0}) CommitFault) → ((done : Unit {0}) → x ≡ Ok done → ⊥) → CommitEnds plan.next q begun c x → MakeEnds plan p a c x
-        broken (Ok done) broke ends = absurd (broke done refl)
-        broken (Err (commit.WentOff have total)) broke ends = record {
-          entered = making_of plan a;
-          so_far = inr (refl, zeros_then);
-          ends = record {
-            lost = record {
-              have_is = ends.lost.have_is;
-              total_is = ends.lost.total_is;
-              few = ends.lost.few;
-              disk = ends.lost.disk;
-              was = there_before a.core.status.group a.core.status.wanted b.core.status.wanted ends.lost.disk (clear_leaves.status.stays ends.lost.disk)
-                  (subst (λ (g : Descriptor). IsTrue (Rattle.lvm_status.specs.Update.members_there g b.core.status.wanted ends.lost.disk)) clear_leaves.status.group ends.lost.was);
-              failed = rose_from (a.device.counts.faults ends.lost.disk) (b.device.counts.faults ends.lost.disk) (c.device.counts.faults ends.lost.disk) (clear_leaves.falls.faults ends.lost.disk) ends.lost.failed;
-            };
-            power = ap (λ (x : Core). x.power) ends.is;
-            history = ap (λ (x : Core). x.history) ends.is ∙ is_making;
-            descriptor = ap (λ (x : Core). x.descriptor) ends.is ∙ same;
-            requests = ap (λ (x : Core). x.requests) ends.is ∙ cleared.settled.quiet.requests;
-            ready = ends.ready;
-            cuts = ends.cuts ∙ cleared.cuts;
-          };
-        }
-        broken (Err commit.Dark) broke ends = record {
-          entered = making_of plan a;
-          so_far = inr (refl, zeros_then);
-          ends = record {
-            cut = darkened_then 0 0 a.device b.device c.device refl cleared.cuts ends.cut;
-            power = ap (λ (x : Core). x.power) ends.is;
-            history = dark_history begun c (settled_entered b f cleared.settled) ends ∙ ap cut_log is_making;
-            descriptor = ap (λ (x : Core). x.descriptor) ends.is ∙ same;
-            requests = ap (λ (x : Core). x.requests) ends.is ∙ ap (Rattle.std.specs.Prelude.map Rattle.lvm_core.specs.Dark.darkened) cleared.settled.quiet.requests;
-          };
-        }
-        broken (Err commit.Stuck) broke ends = record {
-          entered = making_of plan a;
-          so_far = inr (refl, zeros_then);
-          ends = record {
-            out = given_up_then 0 0 p q a.device b.device c.device refl cleared.cuts clear_leaves.spends ends.out;
-            history = ap (λ (x : Core). x.history) ends.is ∙ is_making;
-            descriptor = ap (λ (x : Core). x.descriptor) ends.is ∙ same;
-            requests = ap (λ (x : Core). x.requests) ends.is ∙ cleared.settled.quiet.requests;
-          };
-        }
-        broken (Err (commit.DiskFailed disk)) broke ends = absurd ends
+        since : (why : CommitFault) → CommitEnds plan.next q begun c (Err why) → CommandBroke (making_of plan a) p a c why
+        since why ends = broken_since (commanding N Z 1) p q (making_of plan a) a begun c begun_leaves same cleared.cuts why
+            (subst (λ (l : Log). CommandBroke l q begun c why) is_making (broken (HasCommitted plan.next begun c) q begun c (settled_entered b f cleared.settled) why ends))
 
-        pub make_break : (x : Result (Unit {0}) CommitFault) → ((done : Unit {0}) → x ≡ Ok done → ⊥) → CommitEnds plan.next q m c x → MakeEnds plan p a c x
-        make_break x broke ends = broken x broke (subst (λ (y : State). CommitEnds plan.next q y c x) entered_is ends)
+        commit_break : (why : CommitFault) → CommitEnds plan.next q begun c (Err why) → MakeEnds plan p a c (Err why)
+        commit_break (commit.WentOff have total) ends = record { entered = making_of plan a; so_far = inr (refl, zeros_then); ends = since (commit.WentOff have total) ends }
+        commit_break commit.Dark ends = record { entered = making_of plan a; so_far = inr (refl, zeros_then); ends = since commit.Dark ends }
+        commit_break commit.Stuck ends = record { entered = making_of plan a; so_far = inr (refl, zeros_then); ends = since commit.Stuck ends }
+        commit_break (commit.DiskFailed disk) ends = absurd ends
 
         -- where it was committed
-        module _ (e : State) (committed : HasCommitted plan.next m c) (made_is : e ≡ entered c (Made plan.number)) where
+        module _ (committed : HasCommitted plan.next begun c) where
           done : HasStated plan.next begun c
-          done = subst (λ (x : State). HasStated plan.next x c) entered_is committed.stated
+          done = committed.stated
 
           abbrev made : State
-          made = entered c (Made plan.number)
+          made = with_entry c (Made plan.number)
 
           named : c.core.descriptor ≡ with_volume a.core.descriptor (row_for v plan.number plan.map)
           named = ap (λ (x : Core). x.descriptor) done.is ∙ planned.next
@@ -288,15 +241,14 @@ module _ (v : NewVolume) (plan : VolumePlan) (a : State) (settled : IsSettled a.
               (commit_still plan.next q r begun c leaves left done (ap (λ (d : Descriptor). d.id) planned.next ∙ sym (ap (λ (d : Descriptor). d.id) same))
               (λ d. ap (λ (x : Descriptor). is_member x d) planned.next ∙ sym (ap (λ (x : Descriptor). is_member x d) same)) none_named)
 
-          pub make_leaves : Leaves (commanding N Z 2) p r a e
-          make_leaves = subst (λ (x : State). Leaves (commanding N Z 2) p r a x) (sym made_is)
-              (leaves_then N Z 2 0 p r r a c made (ap (λ (d : Descriptor). d.mib) named) (λ d. ap (λ (x : Descriptor). is_member x d) named) break_leaves still_all ends_leaves)
+          made_leaves : Leaves (commanding N Z 2) p r a made
+          made_leaves = leaves_then N Z 2 0 p r r a c made (inr (ap (λ (x : Core). x.descriptor) done.is)) (ap (λ (d : Descriptor). d.mib) named) (λ d. ap (λ (x : Descriptor). is_member x d) named) break_leaves still_all ends_leaves
 
-          pub make_still : StillHeld a e
-          make_still = subst (λ (x : State). StillHeld a x) (sym made_is) (still_then a c made still_all (entry_still c (Made plan.number)))
+          made_still : StillHeld a made
+          made_still = still_then a c made still_all (entry_still c (Made plan.number))
 
-          pub make_named : IsNamed plan a e
-          make_named = subst (λ (x : State). IsNamed plan a x) (sym made_is) (record {
+          made_named : IsNamed plan a made
+          made_named = record {
             settled = settled_entered c (Made plan.number) done.settled;
             is = ap (λ (x : Core). record x { history = with_fact x.history (Made plan.number) }) done.is
                 ∙ ap (λ (x : Core). record x { descriptor = plan.next; history = with_fact (with_fact x.history f) (Made plan.number); status = c.core.status; homes = c.core.homes }) cleared.is;
@@ -306,4 +258,29 @@ module _ (v : NewVolume) (plan : VolumePlan) (a : State) (settled : IsSettled a.
             zeros = zeros_then;
             ready = done.ready;
             cuts = done.cuts ∙ cleared.cuts;
-          })
+          }
+
+        -- ---- both
+
+        module _ (e : State) where
+          ends_so : (x : Result (Unit {0}) CommitFault) → CommitEnds plan.next q begun c x → ClosesBy (Made plan.number) c e x → MakeEnds plan p a e x
+          ends_so (Ok _) ends closes = subst (λ (y : State). IsNamed plan a y) (sym closes) (made_named ends)
+          ends_so (Err why) ends closes = subst (λ (y : State). MakeEnds plan p a y (Err why)) (sym closes) (commit_break why ends)
+
+          leaves_so : (x : Result (Unit {0}) CommitFault) → CommitEnds plan.next q begun c x → ClosesBy (Made plan.number) c e x → Leaves (commanding N Z 2) p r a e
+          leaves_so (Ok _) ends closes = subst (λ (y : State). Leaves (commanding N Z 2) p r a y) (sym closes) (made_leaves ends)
+          leaves_so (Err why) ends closes = subst (λ (y : State). Leaves (commanding N Z 2) p r a y) (sym closes) break_leaves
+
+          still_so : (x : Result (Unit {0}) CommitFault) → CommitEnds plan.next q begun c x → ClosesBy (Made plan.number) c e x → IfGoesOn x (StillHeld a e)
+          still_so (Ok _) ends closes = subst (λ (y : State). StillHeld a y) (sym closes) (made_still ends)
+          still_so (Err why) ends closes = stopped (HasCommitted plan.next begun c) (StillHeld a e) q begun c why ends
+
+      module _ (r : ℕ) (e : State) (x : Result (Unit {0}) CommitFault) (between : CommitsBetween f (Made plan.number) plan.next q r b e x) where
+        pub make_ends : MakeEnds plan p a e x
+        make_ends = ends_so r between.mid between.leaves between.left e x between.ends between.closes
+
+        pub make_leaves : Leaves (commanding N Z 2) p r a e
+        make_leaves = leaves_so r between.mid between.leaves between.left e x between.ends between.closes
+
+        pub make_still : IfGoesOn x (StillHeld a e)
+        make_still = still_so r between.mid between.leaves between.left e x between.ends between.closes

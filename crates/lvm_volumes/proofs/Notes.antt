@@ -18,7 +18,7 @@ use Rattle.lvm_kept.proofs.Contained.{note-same}
 use Rattle.lvm_kept.proofs.Records.{slot-above}
 use Rattle.lvm_mwc.specs.Cache.{Cached, is_named as is_named_by}
 use Rattle.lvm_status.specs.Update.{Stored}
-use Rattle.lvm_quorum.specs.Written.{KeepsShelf}
+use Rattle.lvm_write.specs.Written.{KeepsShelf}
 use Rattle.lvm_commit.specs.Settling.{IsOfStatus, IsOfCommit}
 use Rattle.lvm_core.specs.State.{State, is_there}
 use Rattle.lvm_core.specs.Held.{NotesAreHome, AreNotesHome}

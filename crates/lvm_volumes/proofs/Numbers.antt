@@ -87,3 +87,12 @@ module _ (d : Descriptor) (valid : IsValid d) (i : ℕ) (low : i ≤ length d.lv
     before = λ k e lt. let own = numbered k e (omega (arith, lt)) in omega (arith, own, lt);
     behind = λ k e past lt. above k e (omega (arith, past)) lt;
   }
+
+-- both, where the rows up to one are numbered from 1 and that one isn't
+pub number_is : (d : Descriptor) (rows : List LvRow) (k lowest : ℕ) → IsValid d → rows ≡ d.lvs → lowest ≡ k + 1 → AreNumbered rows k → k ≤ length rows → ((e : LvRow) → k < length rows → (get_or rows k e).number ≡ k + 1 → ⊥)
+    → IsLowestFree d lowest × IsInOrder d lowest
+number_is d rows k lowest valid same is numbered within gap =
+    let numbered_d : AreNumbered d.lvs k = subst (λ (l : List LvRow). AreNumbered l k) same numbered in
+    let within_d : k ≤ length d.lvs = subst (λ (l : List LvRow). k ≤ length l) same within in
+    let gap_d = subst (λ (l : List LvRow). (e : LvRow) → k < length l → (get_or l k e).number ≡ k + 1 → ⊥) same gap in
+    (subst (IsLowestFree d) (sym is) (lowest_is d valid k within_d numbered_d gap_d), subst (IsInOrder d) (sym is) (order_is d valid k within_d numbered_d gap_d))

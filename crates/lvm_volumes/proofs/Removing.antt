@@ -1,5 +1,5 @@
 -- A volume is removed: its entries, and the descriptor without it.
-use Rattle.std.proofs.Common.{◌≡◌, ℕ, List, [], ◌∷◌, ◌++◌, append_assoc, Option, Some, None, Result, Ok, Err, refl, sym, ap, subst, ◌∙◌}
+use Rattle.std.proofs.Common.{◌≡◌, inl, inr, ℕ, List, [], ◌∷◌, ◌++◌, append_assoc, Option, Some, None, Result, Ok, Err, refl, sym, ap, subst, ◌∙◌}
 use Rattle.std.specs.Prelude.{IsTrue, IfSome}
 use Rattle.lvm_num.specs.declared.descriptor.Descriptor.{Descriptor}
 use Rattle.lvm_disk.specs.Device.{Media, image_of}
@@ -23,19 +23,20 @@ use Rattle.lvm_num.specs.Descriptor.{is_member}
 use Rattle.lvm_volumes.specs.NewVolume.{without_volume}
 use Rattle.lvm_volumes.specs.Endings.{StillHeld, commanding}
 use Rattle.lvm_volumes.specs.PlannedVolume.{IsWithout}
-use Rattle.lvm_volumes.specs.Stages.{IsUnnamed, RemoveEnds}
+use Rattle.lvm_volumes.specs.Stages.{IfGoesOn, CommandBroke, with_entry, ClosesBy, CommitsBetween, IsUnnamed, RemoveEnds}
+use Rattle.lvm_volumes.specs.Volumes.{removing}
+use Rattle.lvm_volumes.proofs.Breaking.{broken, broken_since, stopped}
 use Rattle.lvm_volumes.proofs.Holding.{still_then}
 use Rattle.lvm_volumes.proofs.Leaving.{leaves_then}
-use Rattle.lvm_volumes.proofs.Zeroing.{dark_history}
 use Rattle.lvm_volumes.proofs.Serving.{old_serves}
 use Rattle.lvm_volumes.proofs.OldDescriptor.{unnamed_without}
 use Rattle.lvm_volumes.proofs.Left.{none_left_without}
-use Rattle.lvm_volumes.proofs.Entering.{entered, settled_entered, entry_leaves, entry_still, commit_among, commit_still, leaves_committed}
+use Rattle.lvm_volumes.proofs.Entering.{settled_entered, entry_leaves, entry_still, commit_among, commit_still, leaves_committed}
 
 module _ (lv : ℕ) (next : Descriptor) (a : State) (settled : IsSettled a.core) (without : IsWithout lv a.core next) where
   -- the session once the removal is entered
   abbrev pub begun : State
-  begun = entered a (Removing (Lv lv))
+  begun = with_entry a (Removing (Lv lv))
 
   abbrev N : Descriptor → Type 0
   N d = d ≡ next
@@ -60,54 +61,28 @@ module _ (lv : ℕ) (next : Descriptor) (a : State) (settled : IsSettled a.core)
   none_unnamed : NoneIsLeft begun.core.descriptor begun.core.status → NoneIsLeft next begun.core.status
   none_unnamed none = subst (λ (d : Descriptor). NoneIsLeft d a.core.status) (sym without.is) (none_left_without a.core.descriptor lv a.core.status none)
 
-  module _ (p q : ℕ) (m b : State) (entered_is : m ≡ begun) (leaves_m : Leaves (committing next) p q m b) (left_m : MarksLeft next m.core.status b.core.status) where
-    leaves : Leaves (committing next) p q begun b
-    leaves = subst (λ (x : State). Leaves (committing next) p q x b) entered_is leaves_m
-
-    left : MarksLeft next begun.core.status b.core.status
-    left = subst (λ (x : State). MarksLeft next x.core.status b.core.status) entered_is left_m
-
-    pub break_leaves : Leaves (commanding N NoPartition 1) p q a b
-    break_leaves = leaves_then N NoPartition 0 1 p p q a begun b refl (λ d. refl) (begins_leaves p) (entry_still a (Removing (Lv lv)))
+  module _ (p q : ℕ) (b : State) (leaves : Leaves (committing next) p q begun b) (left : MarksLeft next begun.core.status b.core.status) where
+    break_leaves : Leaves (commanding N NoPartition 1) p q a b
+    break_leaves = leaves_then N NoPartition 0 1 p p q a begun b (inl refl) refl (λ d. refl) (begins_leaves p) (entry_still a (Removing (Lv lv)))
         (commit_among N NoPartition next refl p q begun b leaves lv (λ held. lets_remove))
 
     -- where it wasn't committed
-    broken : (r : Result (Unit {0}) CommitFault) → ((done : Unit {0}) → r ≡ Ok done → ⊥) → CommitEnds next p begun b r → RemoveEnds lv next p a b r
-    broken (Ok done) broke ends = absurd (broke done refl)
-    broken (Err (commit.WentOff have total)) broke ends = record {
-      lost = ends.lost;
-      power = ap (λ (x : Core). x.power) ends.is;
-      history = ap (λ (x : Core). x.history) ends.is;
-      descriptor = ap (λ (x : Core). x.descriptor) ends.is;
-      requests = ap (λ (x : Core). x.requests) ends.is ∙ settled.quiet.requests;
-      ready = ends.ready;
-      cuts = ends.cuts;
-    }
-    broken (Err commit.Dark) broke ends = record {
-      cut = ends.cut;
-      power = ap (λ (x : Core). x.power) ends.is;
-      history = dark_history begun b (settled_entered a (Removing (Lv lv)) settled) ends;
-      descriptor = ap (λ (x : Core). x.descriptor) ends.is;
-      requests = ap (λ (x : Core). x.requests) ends.is ∙ ap (Rattle.std.specs.Prelude.map Rattle.lvm_core.specs.Dark.darkened) settled.quiet.requests;
-    }
-    broken (Err commit.Stuck) broke ends = record {
-      out = ends.out;
-      history = ap (λ (x : Core). x.history) ends.is;
-      descriptor = ap (λ (x : Core). x.descriptor) ends.is;
-      requests = ap (λ (x : Core). x.requests) ends.is ∙ settled.quiet.requests;
-    }
-    broken (Err (commit.DiskFailed disk)) broke ends = absurd ends
+    since : (why : CommitFault) → CommitEnds next p begun b (Err why) → CommandBroke (removing lv a) p a b why
+    since why ends = broken_since (commanding N NoPartition 0) p p (removing lv a) a begun b (begins_leaves p) refl refl why (broken (HasCommitted next begun b) p begun b (settled_entered a (Removing (Lv lv)) settled) why ends)
 
-    pub remove_break : (r : Result (Unit {0}) CommitFault) → ((done : Unit {0}) → r ≡ Ok done → ⊥) → CommitEnds next p m b r → RemoveEnds lv next p a b r
-    remove_break r broke ends = broken r broke (subst (λ (x : State). CommitEnds next p x b r) entered_is ends)
+    commit_break : (why : CommitFault) → CommitEnds next p begun b (Err why) → RemoveEnds lv next p a b (Err why)
+    commit_break (commit.WentOff have total) ends = since (commit.WentOff have total) ends
+    commit_break commit.Dark ends = since commit.Dark ends
+    commit_break commit.Stuck ends = since commit.Stuck ends
+    commit_break (commit.DiskFailed disk) ends = ends
 
     -- where it was
-    module _ (e : State) (committed : HasCommitted next m b) (ended_is : e ≡ entered b (Removed (Lv lv))) where
+    module _ (committed : HasCommitted next begun b) where
       done : HasStated next begun b
-      done = subst (λ (x : State). HasStated next x b) entered_is committed.stated
+      done = committed.stated
 
       abbrev gone : State
-      gone = entered b (Removed (Lv lv))
+      gone = with_entry b (Removed (Lv lv))
 
       named : b.core.descriptor ≡ next
       named = ap (λ (x : Core). x.descriptor) done.is
@@ -126,17 +101,40 @@ module _ (lv : ℕ) (next : Descriptor) (a : State) (settled : IsSettled a.core)
       same_members : (d : ℕ) → is_member b.core.descriptor d ≡ is_member a.core.descriptor d
       same_members d = ap (λ (x : Descriptor). is_member x d) (named ∙ without.is)
 
-      pub remove_leaves : Leaves (commanding N NoPartition 1) p q a e
-      remove_leaves = subst (λ (x : State). Leaves (commanding N NoPartition 1) p q a x) (sym ended_is)
-          (leaves_then N NoPartition 1 0 p q q a b gone (ap (λ (x : Descriptor). x.mib) (named ∙ without.is)) same_members break_leaves still_all ends_leaves)
+      gone_leaves : Leaves (commanding N NoPartition 1) p q a gone
+      gone_leaves = leaves_then N NoPartition 1 0 p q q a b gone (inr named) (ap (λ (x : Descriptor). x.mib) (named ∙ without.is)) same_members break_leaves still_all ends_leaves
 
-      pub remove_still : StillHeld a e
-      remove_still = subst (λ (x : State). StillHeld a x) (sym ended_is) (still_then a b gone still_all (entry_still b (Removed (Lv lv))))
+      gone_still : StillHeld a gone
+      gone_still = still_then a b gone still_all (entry_still b (Removed (Lv lv)))
 
-      pub removed : IsUnnamed lv next a e
-      removed = subst (λ (x : State). IsUnnamed lv next a x) (sym ended_is) (record {
+      gone_unnamed : IsUnnamed lv next a gone
+      gone_unnamed = record {
         settled = settled_entered b (Removed (Lv lv)) done.settled;
         is = ap (λ (x : Core). record x { history = with_fact x.history (Removed (Lv lv)) }) done.is;
         ready = done.ready;
         cuts = done.cuts;
-      })
+      }
+
+    -- both
+    module _ (e : State) where
+      ends_so : (x : Result (Unit {0}) CommitFault) → CommitEnds next p begun b x → ClosesBy (Removed (Lv lv)) b e x → RemoveEnds lv next p a e x
+      ends_so (Ok _) ends closes = subst (λ (y : State). IsUnnamed lv next a y) (sym closes) (gone_unnamed ends)
+      ends_so (Err why) ends closes = subst (λ (y : State). RemoveEnds lv next p a y (Err why)) (sym closes) (commit_break why ends)
+
+      leaves_so : (x : Result (Unit {0}) CommitFault) → CommitEnds next p begun b x → ClosesBy (Removed (Lv lv)) b e x → Leaves (commanding N NoPartition 1) p q a e
+      leaves_so (Ok _) ends closes = subst (λ (y : State). Leaves (commanding N NoPartition 1) p q a y) (sym closes) (gone_leaves ends)
+      leaves_so (Err why) ends closes = subst (λ (y : State). Leaves (commanding N NoPartition 1) p q a y) (sym closes) break_leaves
+
+      still_so : (x : Result (Unit {0}) CommitFault) → CommitEnds next p begun b x → ClosesBy (Removed (Lv lv)) b e x → IfGoesOn x (StillHeld a e)
+      still_so (Ok _) ends closes = subst (λ (y : State). StillHeld a y) (sym closes) (gone_still ends)
+      still_so (Err why) ends closes = stopped (HasCommitted next begun b) (StillHeld a e) p begun b why ends
+
+  module _ (p q : ℕ) (e : State) (x : Result (Unit {0}) CommitFault) (between : CommitsBetween (Removing (Lv lv)) (Removed (Lv lv)) next p q a e x) where
+    pub remove_ends : RemoveEnds lv next p a e x
+    remove_ends = ends_so p q between.mid between.leaves between.left e x between.ends between.closes
+
+    pub remove_leaves : Leaves (commanding N NoPartition 1) p q a e
+    remove_leaves = leaves_so p q between.mid between.leaves between.left e x between.ends between.closes
+
+    pub remove_still : IfGoesOn x (StillHeld a e)
+    remove_still = still_so p q between.mid between.leaves between.left e x between.ends between.closes

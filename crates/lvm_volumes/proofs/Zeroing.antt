@@ -1,24 +1,16 @@
 -- Zeros in one of several partitions.
-use Rattle.std.proofs.Common.{◌≡◌, ℕ, List, sym, ap, subst, ◌∙◌, arith}
+use Rattle.std.proofs.Common.{◌≡◌, ℕ, List, sym, ap, subst, arith}
 use Rattle.std.specs.Prelude.{Contains}
 use Rattle.lvm_num.specs.declared.place.Pp.{Pp}
 use Rattle.lvm_num.specs.declared.descriptor.Descriptor.{Descriptor}
 use Rattle.lvm_num.specs.Descriptor.{is_member}
-use Rattle.lvm_vol.specs.Log.{cut_log}
 use Rattle.lvm_commit.specs.Settling.{NoneIsLeft}
 use Rattle.lvm_core.specs.State.{Core, State}
-use Rattle.lvm_core.specs.Settled.{IsSettled}
-use Rattle.lvm_core.specs.Committing.{HasGoneDark}
 use Rattle.lvm_core.specs.Zeros.{KeepsRecords}
 use Rattle.lvm_core.specs.Leaves.{NoDescriptor, Leaves, zeroing}
-use Rattle.lvm_core.proofs.LeavesLemmas.{dark_is_cut}
 use Rattle.lvm_volumes.specs.Endings.{StillHeld, commanding}
 use Rattle.lvm_volumes.proofs.Holding.{still_by}
 use Rattle.lvm_volumes.proofs.Leaving.{leaves_wider}
-
--- the history after a power cut
-pub dark_history : (a b : State) → IsSettled a.core → HasGoneDark a b → b.core.history ≡ cut_log a.core.history
-dark_history a b settled dark = ap (λ (c : Core). c.history) dark.is ∙ dark_is_cut a.core.history a.core.requests settled.quiet.requests
 
 module _ (map : List Pp) (pp : Pp) (inside : Contains map pp) (p q : ℕ) (a b : State) (leaves : Leaves (zeroing pp) p q a b) where
   pub zero_among : Leaves (commanding NoDescriptor (Contains map) 0) p q a b

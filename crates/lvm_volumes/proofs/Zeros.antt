@@ -1,5 +1,5 @@
 -- How the writing of zeros to several partitions ends.
-use Rattle.std.proofs.Common.{◌≡◌, ◌⊎◌, ⊎_elim, ℕ, ◌+◌, ◌<◌, ◌≤◌, Bool, true, false, List, Option, Some, None, Result, Ok, Err, length, take, get_or, refl, sym, ap, subst, ◌∙◌, eq-eqb}
+use Rattle.std.proofs.Common.{◌≡◌, ◌⊎◌, inl, ⊎_elim, ℕ, ◌+◌, ◌<◌, ◌≤◌, Bool, true, false, List, Option, Some, None, Result, Ok, Err, length, take, get_or, refl, sym, ap, subst, ◌∙◌, eq-eqb}
 use Rattle.std.specs.Prelude.{◌==◌, IsTrue, IfSome, Contains}
 use Rattle.std.proofs.lemmas.Bool.{eqb-true, cases_eq}
 use Rattle.std.proofs.lemmas.List.{take_all}
@@ -14,8 +14,8 @@ use Rattle.lvm_disk.specs.Device.{Media, Device, IsReady, image_of}
 use Rattle.lvm_disk.specs.Steps.{BothTold}
 use Rattle.lvm_kept.specs.Plans.{Plan, ChangesBy}
 use Rattle.lvm_map.specs.FirstFit.{is_on}
-use Rattle.lvm_quorum.specs.Written.{KeepsShelf}
-use Rattle.lvm_quorum.proofs.Transfers.{darkened_then, given_up_then}
+use Rattle.lvm_write.specs.Written.{KeepsShelf}
+use Rattle.lvm_write.proofs.Transfers.{darkened_then, given_up_then}
 use Rattle.lvm_commit.specs.LawsOfData.{IsSectorOf}
 use Rattle.lvm_core.specs.declared.fault.CommitFault.{CommitFault}
 use Rattle.lvm_core.specs.declared.fault.CommitFault.TheVariants as commit
@@ -67,7 +67,7 @@ module _ (map : List Pp) (p k q r : ℕ) (e : Pp) (old mid new : State) (lt : k 
   its = get_or map k e
 
   pub then : Leaves (commanding NoDescriptor (Contains map) 0) p r old new
-  then = leaves_then NoDescriptor (Contains map) 0 0 p q r old mid new (ap (λ (c : Core). c.descriptor.mib) so_far.same.core) (λ d. ap (λ (c : Core). is_member c.descriptor d) so_far.same.core) so_far.leaves so_far.still leaves
+  then = leaves_then NoDescriptor (Contains map) 0 0 p q r old mid new (inl (ap (λ (c : Core). c.descriptor) so_far.same.core)) (ap (λ (c : Core). c.descriptor.mib) so_far.same.core) (λ d. ap (λ (c : Core). is_member c.descriptor d) so_far.same.core) so_far.leaves so_far.still leaves
 
   others : (d : ℕ) → (d ≡ its.disk → ⊥) → new.device.counts.faults d ≡ old.device.counts.faults d
   others d other = writes.faults d (by_test (d == its.disk) refl) ∙ so_far.well d
@@ -92,32 +92,31 @@ module _ (map : List Pp) (p k q r : ℕ) (e : Pp) (old mid new : State) (lt : k 
       cases d = cases_eq d its.disk
 
   -- where the next one broke off
-  pub zeros_break : (answer : Result (Unit {0}) CommitFault) → ((done : Unit {0}) → answer ≡ Ok done → ⊥) → ZeroEnds its q mid new answer → ZerosEnd map p old new answer
-  zeros_break (Ok done) broke ends = absurd (broke done refl)
-  zeros_break (Err (commit.DiskFailed disk)) broke ends = record {
+  pub zeros_break : (why : CommitFault) → ZeroEnds its q mid new (Err why) → ZerosEnd map p old new (Err why)
+  zeros_break (commit.DiskFailed disk) ends = record {
     same = record { core = ends.same.core ∙ so_far.same.core; ready = ends.same.ready; cuts = ends.same.cuts ∙ so_far.same.cuts };
     its = subst (λ (n : ℕ). IsTrue (is_on map n)) (sym ends.disk_is) (on_disk map k e lt);
     others = λ d other. others d (λ is. other (is ∙ sym ends.disk_is));
     fault = subst (λ (n : ℕ). Rose n (new.device.counts.faults disk)) (so_far.well disk) ends.fault;
   }
-  zeros_break (Err commit.Dark) broke ends = record {
+  zeros_break commit.Dark ends = record {
     cut = darkened_then 0 0 old.device mid.device new.device refl so_far.same.cuts ends.cut;
     is = subst (λ (c : Core). new.core ≡ all_dark (record c { pool = with_one_out c.pool; status = new.core.status; homes = new.core.homes })) so_far.same.core ends.is;
   }
-  zeros_break (Err commit.Stuck) broke ends = record {
+  zeros_break commit.Stuck ends = record {
     out = given_up_then 0 0 p q old.device mid.device new.device refl so_far.same.cuts so_far.leaves.spends ends.out;
     is = subst (λ (c : Core). new.core ≡ record c { pool = with_one_out c.pool; status = new.core.status; homes = new.core.homes }) so_far.same.core ends.is;
   }
-  zeros_break (Err (commit.WentOff have total)) broke ends = absurd ends
+  zeros_break (commit.WentOff have total) ends = absurd ends
 
 pub zeros_end : (map : List Pp) (p k q : ℕ) (old new : State) → length map ≤ k → IsZeroing map p k q old new → HasZeroedAll map old new
 zeros_end map p k q old new all is = record { same = is.same; zeros = subst (λ (l : List Pp). AreZeroed old.core.descriptor.mib l new.device) (take_all k map all) is.zeros }
 
 -- where a disk failed the session goes on, and the disks hold what it says
-pub zeros_fail_still : (map : List Pp) (its : Pp) (p q k : ℕ) (old mid new : State) (answer : Result (Unit {0}) CommitFault) → IsZeroing map p k q old mid → ZeroEnds its q mid new answer → (new.core ≡ mid.core → StillHeld mid new)
+pub zeros_fail_still : (map : List Pp) (pp : Pp) (p q k : ℕ) (old mid new : State) (answer : Result (Unit {0}) CommitFault) → IsZeroing map p k q old mid → ZeroEnds pp q mid new answer → (new.core ≡ mid.core → StillHeld mid new)
     → IfGoesOn answer (StillHeld old new)
-zeros_fail_still map its p q k old mid new (Ok done) so_far ends still = still_then old mid new so_far.still (still ends.same.core)
-zeros_fail_still map its p q k old mid new (Err (commit.DiskFailed disk)) so_far ends still = still_then old mid new so_far.still (still ends.same.core)
-zeros_fail_still map its p q k old mid new (Err commit.Dark) so_far ends still = tt
-zeros_fail_still map its p q k old mid new (Err commit.Stuck) so_far ends still = tt
-zeros_fail_still map its p q k old mid new (Err (commit.WentOff have total)) so_far ends still = tt
+zeros_fail_still map pp p q k old mid new (Ok done) so_far ends still = still_then old mid new so_far.still (still ends.same.core)
+zeros_fail_still map pp p q k old mid new (Err (commit.DiskFailed disk)) so_far ends still = still_then old mid new so_far.still (still ends.same.core)
+zeros_fail_still map pp p q k old mid new (Err commit.Dark) so_far ends still = tt
+zeros_fail_still map pp p q k old mid new (Err commit.Stuck) so_far ends still = tt
+zeros_fail_still map pp p q k old mid new (Err (commit.WentOff have total)) so_far ends still = tt

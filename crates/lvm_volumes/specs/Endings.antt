@@ -6,7 +6,7 @@ use Rattle.lvm_disk.specs.Counts.{Rose}
 use Rattle.lvm_disk.specs.Device.{IsReady}
 use Rattle.lvm_vol.specs.Log.{Log, cut_log}
 use Rattle.lvm_kept.specs.Moments.{Moment}
-use Rattle.lvm_quorum.specs.Written.{IsDarkened, IsGivenUp}
+use Rattle.lvm_write.specs.Written.{IsDarkened, IsGivenUp}
 use Rattle.lvm_commit.specs.LawsOfVolumes.{IsOnlyGroupOn, IsOnlyGroupSince}
 use Rattle.lvm_commit.specs.Settling.{NoneIsLeft, HasLostQuorum}
 use Rattle.lvm_core.specs.declared.fault.CommitFault.{CommitFault}
@@ -28,7 +28,7 @@ fault_of (commit.DiskFailed disk) = fault.DiskFailed disk
 fault_of commit.Stuck = fault.Stuck
 
 -- The power was cut in the command, which had entered so much: a cut is entered, and the session is over with its descriptor as it was.
-pub record EndsDark (entered : Log) (old new : State) : Type 0 where
+pub record CommandDarkened (entered : Log) (old new : State) : Type 0 where
   pub cut : IsDarkened 0 old.device new.device
   pub power : new.core.power ≡ power.Dark
   pub history : new.core.history ≡ cut_log entered
@@ -36,7 +36,7 @@ pub record EndsDark (entered : Log) (old new : State) : Type 0 where
   pub requests : new.core.requests ≡ []
 
 -- The members that aren't missing have too few votes to write, since a transfer to one has failed: the session has gone off.
-pub record EndsOff (entered : Log) (have total : ℕ) (old new : State) : Type 0 where
+pub record CommandWentOff (entered : Log) (have total : ℕ) (old new : State) : Type 0 where
   pub lost : HasLostQuorum old.core.status new.core.status old.device new.device have total
   pub power : new.core.power ≡ power.Off
   pub history : new.core.history ≡ entered
@@ -46,14 +46,14 @@ pub record EndsOff (entered : Log) (have total : ℕ) (old new : State) : Type 0
   pub cuts : new.device.counts.cuts ≡ old.device.counts.cuts
 
 -- Nothing was heard of a transfer until the patience had run out.
-pub record EndsStuck (entered : Log) (patience : ℕ) (old new : State) : Type 0 where
+pub record CommandStuck (entered : Log) (patience : ℕ) (old new : State) : Type 0 where
   pub out : IsGivenUp 0 patience old.device new.device
   pub history : new.core.history ≡ entered
   pub descriptor : new.core.descriptor ≡ old.core.descriptor
   pub requests : new.core.requests ≡ []
 
 -- A transfer of the disk failed, and the session goes on with the descriptor and the history that it had.
-pub record EndsFailed (disk : ℕ) (old new : State) : Type 0 where
+pub record CommandFailed (disk : ℕ) (old new : State) : Type 0 where
   pub fault : Rose (old.device.counts.faults disk) (new.device.counts.faults disk)
   pub is : new.core ≡ record old.core { status = new.core.status; homes = new.core.homes }
   pub ready : IsReady new.device

@@ -10,13 +10,13 @@ use Rattle.lvm_volumes.specs.NewVolume.{IsLowestFree, IsInOrder, row_for, with_v
 use Rattle.lvm_volumes.specs.Volumes.{MayBeMade, MayBeRemoved}
 
 -- the session's descriptor is valid, and its status is of the same group
-pub record IsOneGroup (core : Core) : Type 0 where
+pub record AreOfOneGroup (core : Core) : Type 0 where
   pub valid : IsValid core.descriptor
   pub status : core.status.group ≡ record core.descriptor { lvs = [] }
 
 -- Nothing stands against the volume, which has the lowest free number, this map and these blocks; and the next descriptor is the one with it.
 pub record IsPlannedVolume (v : NewVolume) (core : Core) (plan : VolumePlan) : Type 0 where
-  pub group : IsOneGroup core
+  pub group : AreOfOneGroup core
   pub may : MayBeMade v core plan.map
   pub lowest : IsLowestFree core.descriptor plan.number
   pub order : IsInOrder core.descriptor plan.number
@@ -26,6 +26,6 @@ pub record IsPlannedVolume (v : NewVolume) (core : Core) (plan : VolumePlan) : T
 
 -- nothing stands against the removal of the volume, and the next descriptor is the one without it
 pub record IsWithout (lv : ℕ) (core : Core) (next : Descriptor) : Type 0 where
-  pub group : IsOneGroup core
+  pub group : AreOfOneGroup core
   pub may : MayBeRemoved lv core
   pub is : next ≡ without_volume core.descriptor lv

@@ -8,19 +8,21 @@ use Rattle.lvm_num.specs.Status.{calls_stale, calls_missing}
 use Rattle.lvm_disk.specs.Counts.{Rose}
 use Rattle.lvm_disk.specs.Device.{IsReady}
 use Rattle.lvm_vol.specs.declared.entry.Vol.TheVariants.{Lv}
-use Rattle.lvm_vol.specs.Facts.{Making, Made, Removed}
+use Rattle.lvm_vol.specs.Facts.{Fact, Making, Made, Removed}
 use Rattle.lvm_vol.specs.Log.{Log, with_fact}
 use Rattle.lvm_map.specs.FirstFit.{is_on}
 use Rattle.lvm_commit.specs.LawsOfData.{IsFree}
+use Rattle.lvm_commit.specs.Settling.{MarksLeft}
 use Rattle.lvm_core.specs.declared.fault.CommitFault.{CommitFault}
 use Rattle.lvm_core.specs.declared.fault.CommitFault.TheVariants as commit
 use Rattle.lvm_core.specs.State.{Core, State, is_there}
 use Rattle.lvm_core.specs.Settled.{IsSettled}
-use Rattle.lvm_core.specs.Committing.{HasGoneDark, IsLeftOut}
+use Rattle.lvm_core.specs.Committing.{HasGoneDark, IsLeftOut, CommitEnds}
+use Rattle.lvm_core.specs.Leaves.{Leaves, committing}
 use Rattle.lvm_core.specs.Zeros.{IsAsBefore}
 use Rattle.lvm_volumes.specs.declared.new_volume.NewVolume.{NewVolume}
 use Rattle.lvm_volumes.specs.declared.new_volume.VolumePlan.{VolumePlan}
-use Rattle.lvm_volumes.specs.Endings.{EndsDark, EndsOff, EndsStuck, EndsFailed}
+use Rattle.lvm_volumes.specs.Endings.{CommandDarkened, CommandWentOff, CommandStuck, CommandFailed}
 use Rattle.lvm_volumes.specs.PlannedVolume.{IsPlannedVolume}
 use Rattle.lvm_volumes.specs.Volumes.{AreZeroed, removing}
 
@@ -33,6 +35,32 @@ IfGoesOn (Err (commit.DiskFailed disk)) P = P
 IfGoesOn (Err commit.Dark) P = Unit {0}
 IfGoesOn (Err (commit.WentOff have total)) P = Unit {0}
 IfGoesOn (Err commit.Stuck) P = Unit {0}
+
+-- the command broke off so, once this was entered
+abbrev pub CommandBroke : Log → ℕ → State → State → CommitFault → Type 0
+CommandBroke entered patience old new commit.Dark = CommandDarkened entered old new
+CommandBroke entered patience old new (commit.WentOff have total) = CommandWentOff entered have total old new
+CommandBroke entered patience old new commit.Stuck = CommandStuck entered patience old new
+CommandBroke entered patience old new (commit.DiskFailed disk) = ⊥
+
+-- ---- a commit between two entries
+
+-- the session with one entry more
+abbrev pub with_entry : State → Fact → State
+with_entry s f = record s { core = record s.core { history = with_fact s.core.history f } }
+
+-- the last entry is made where all went well
+abbrev pub ClosesBy : Fact → State → State → Result (Unit {0}) CommitFault → Type 0
+ClosesBy last mid new (Ok done) = new ≡ with_entry mid last
+ClosesBy last mid new (Err why) = new ≡ mid
+
+-- The first entry is made, the commit of the descriptor ends so, and the last entry is made where it ended well.
+pub record CommitsBetween (first last : Fact) (next : Descriptor) (before after : ℕ) (old new : State) (answer : Result (Unit {0}) CommitFault) : Type 0 where
+  pub mid : State
+  pub leaves : Leaves (committing next) before after (with_entry old first) mid
+  pub left : MarksLeft next old.core.status mid.core.status
+  pub ends : CommitEnds next before (with_entry old first) mid answer
+  pub closes : ClosesBy last mid new answer
 
 -- ---- zeros
 
@@ -82,19 +110,19 @@ pub record AreCleared (map : List Pp) (old new : State) : Type 0 where
   pub cuts : new.device.counts.cuts ≡ old.device.counts.cuts
 
 -- a disk that has one failed, and none of theirs below it
-pub record FailsOn (map : List Pp) (disk : ℕ) (old new : State) : Type 0 where
+pub record DiskFailsFirst (map : List Pp) (disk : ℕ) (old new : State) : Type 0 where
   pub its : IsTrue (is_on map disk)
   pub lowest : (d : ℕ) → d < disk → IsTrue (is_on map d) → new.device.counts.faults d ≡ old.device.counts.faults d
-  pub ends : EndsFailed disk old new
+  pub ends : CommandFailed disk old new
   pub settled : IsSettled new.core
 
 -- how they came to be so, or didn't
 abbrev pub ClearEnds : List Pp → ℕ → State → State → Result (Unit {0}) CommitFault → Type 0
 ClearEnds map patience old new (Ok done) = AreCleared map old new
-ClearEnds map patience old new (Err (commit.DiskFailed disk)) = FailsOn map disk old new
-ClearEnds map patience old new (Err commit.Dark) = EndsDark old.core.history old new
-ClearEnds map patience old new (Err (commit.WentOff have total)) = EndsOff old.core.history have total old new
-ClearEnds map patience old new (Err commit.Stuck) = EndsStuck old.core.history patience old new
+ClearEnds map patience old new (Err (commit.DiskFailed disk)) = DiskFailsFirst map disk old new
+ClearEnds map patience old new (Err commit.Dark) = CommandDarkened old.core.history old new
+ClearEnds map patience old new (Err (commit.WentOff have total)) = CommandWentOff old.core.history have total old new
+ClearEnds map patience old new (Err commit.Stuck) = CommandStuck old.core.history patience old new
 
 -- ---- the whole making
 
@@ -103,7 +131,7 @@ abbrev pub making_of : VolumePlan → State → Log
 making_of plan s = with_fact s.core.history (Making plan.number plan.blocks plan.mode)
 
 -- what was entered before it broke off: nothing, or, once the partitions were zeros, that the volume is in the making
-pub record BreaksOff (plan : VolumePlan) (old new : State) (Ends : Log → Type 0) : Type 0 where
+pub record MakingBroke (plan : VolumePlan) (old new : State) (Ends : Log → Type 0) : Type 0 where
   pub entered : Log
   pub so_far : (entered ≡ old.core.history) ⊎ ((entered ≡ making_of plan old) × AreZeroed old.core.descriptor.mib plan.map new.device)
   pub ends : Ends entered
@@ -119,10 +147,10 @@ pub record IsNamed (plan : VolumePlan) (old new : State) : Type 0 where
 
 abbrev pub MakeEnds : VolumePlan → ℕ → State → State → Result (Unit {0}) CommitFault → Type 0
 MakeEnds plan patience old new (Ok done) = IsNamed plan old new
-MakeEnds plan patience old new (Err (commit.DiskFailed disk)) = FailsOn plan.map disk old new
-MakeEnds plan patience old new (Err commit.Dark) = BreaksOff plan old new (λ entered. EndsDark entered old new)
-MakeEnds plan patience old new (Err (commit.WentOff have total)) = BreaksOff plan old new (λ entered. EndsOff entered have total old new)
-MakeEnds plan patience old new (Err commit.Stuck) = BreaksOff plan old new (λ entered. EndsStuck entered patience old new)
+MakeEnds plan patience old new (Err (commit.DiskFailed disk)) = DiskFailsFirst plan.map disk old new
+MakeEnds plan patience old new (Err commit.Dark) = MakingBroke plan old new (λ entered. CommandDarkened entered old new)
+MakeEnds plan patience old new (Err (commit.WentOff have total)) = MakingBroke plan old new (λ entered. CommandWentOff entered have total old new)
+MakeEnds plan patience old new (Err commit.Stuck) = MakingBroke plan old new (λ entered. CommandStuck entered patience old new)
 
 -- nothing stands against a volume with this plan
 abbrev pub MayMake : Core → VolumePlan → Type 0
@@ -139,7 +167,7 @@ pub record IsUnnamed (lv : ℕ) (next : Descriptor) (old new : State) : Type 0 w
 
 abbrev pub RemoveEnds : ℕ → Descriptor → ℕ → State → State → Result (Unit {0}) CommitFault → Type 0
 RemoveEnds lv next patience old new (Ok done) = IsUnnamed lv next old new
-RemoveEnds lv next patience old new (Err commit.Dark) = EndsDark (removing lv old) old new
-RemoveEnds lv next patience old new (Err (commit.WentOff have total)) = EndsOff (removing lv old) have total old new
-RemoveEnds lv next patience old new (Err commit.Stuck) = EndsStuck (removing lv old) patience old new
+RemoveEnds lv next patience old new (Err commit.Dark) = CommandDarkened (removing lv old) old new
+RemoveEnds lv next patience old new (Err (commit.WentOff have total)) = CommandWentOff (removing lv old) have total old new
+RemoveEnds lv next patience old new (Err commit.Stuck) = CommandStuck (removing lv old) patience old new
 RemoveEnds lv next patience old new (Err (commit.DiskFailed disk)) = ⊥

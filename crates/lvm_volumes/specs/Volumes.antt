@@ -20,7 +20,7 @@ use Rattle.lvm_volumes.specs.declared.fault.GroupFault.TheVariants as fault
 use Rattle.lvm_volumes.specs.declared.new_volume.NewVolume.{NewVolume}
 use Rattle.lvm_volumes.specs.NewVolume.{IsLowestFree, row_for, with_volume, without_volume}
 use Rattle.lvm_core.specs.Leaves.{Scope, NoPartition}
-use Rattle.lvm_volumes.specs.Endings.{TakesCommands, EndsDark, EndsOff, EndsStuck, EndsFailed, commanding}
+use Rattle.lvm_volumes.specs.Endings.{TakesCommands, CommandDarkened, CommandWentOff, CommandStuck, CommandFailed, commanding}
 
 -- ---- what is refused before the first write
 
@@ -29,7 +29,7 @@ abbrev pub numbers_left : Core → ℕ
 numbers_left core = 2 ^ 32 - 1 - core.status.stamp.seq
 
 -- two entries and 65,536 sequence numbers are left
-pub record HasRoom (core : Core) : Type 0 where
+pub record HasSpareRoom (core : Core) : Type 0 where
   pub entries : 2 ≤ spare_entries core.history
   pub numbers : 65536 ≤ numbers_left core
 
@@ -56,7 +56,7 @@ pub record HasPlaces (v : NewVolume) (core : Core) (map : List Pp) : Type 0 wher
 -- and there is room for it in the history and among the numbers.
 pub record MayBeMade (v : NewVolume) (core : Core) (map : List Pp) : Type 0 where
   pub places : HasPlaces v core map
-  pub room : HasRoom core
+  pub room : HasSpareRoom core
 
 -- why a session takes no command
 abbrev pub RefusesAll : Core → GroupFault → Type 0
@@ -80,7 +80,7 @@ RefusesMklv v core fault.VolumeExists = TakesCommands core × ((number : ℕ) ×
 RefusesMklv v core (fault.CopyLimit now) = HasNewName v core × (v.copies ≡ 1 → ⊥) × (now ≡ 0)
 RefusesMklv v core (fault.TooMany limit) = HasOneCopy v core × (limit ≡ most_volumes core.descriptor.big) × (limit ≤ length core.descriptor.lvs)
 RefusesMklv v core (fault.NoRoom free) = HasNumber v core × HasNoPlace core.descriptor (is_there core) (new_volume v.lps v.copies) × (free ≡ free_count core.descriptor (is_there core))
-RefusesMklv v core fault.HistoryFull = ((map : List Pp) × HasPlaces v core map) × (HasRoom core → ⊥)
+RefusesMklv v core fault.HistoryFull = ((map : List Pp) × HasPlaces v core map) × (HasSpareRoom core → ⊥)
 RefusesMklv v core fault.Memory = HasNumber v core
 RefusesMklv v core fault.Dark = RefusesAll core fault.Dark
 RefusesMklv v core (fault.WentOff have total) = RefusesAll core (fault.WentOff have total)
@@ -94,12 +94,12 @@ RefusesMklv v core fault.Stuck = ⊥
 pub record MayBeRemoved (lv : ℕ) (core : Core) : Type 0 where
   pub takes : TakesCommands core
   pub there : IsSome (volume_of core.descriptor lv)
-  pub room : HasRoom core
+  pub room : HasSpareRoom core
 
 -- why none is removed; want of memory, which is free, only where nothing else stands against it
 abbrev pub RefusesRmlv : ℕ → Core → GroupFault → Type 0
 RefusesRmlv lv core fault.NoVolume = TakesCommands core × (volume_of core.descriptor lv ≡ None)
-RefusesRmlv lv core fault.HistoryFull = TakesCommands core × IsSome (volume_of core.descriptor lv) × (HasRoom core → ⊥)
+RefusesRmlv lv core fault.HistoryFull = TakesCommands core × IsSome (volume_of core.descriptor lv) × (HasSpareRoom core → ⊥)
 RefusesRmlv lv core fault.Memory = MayBeRemoved lv core
 RefusesRmlv lv core fault.Dark = RefusesAll core fault.Dark
 RefusesRmlv lv core (fault.WentOff have total) = RefusesAll core (fault.WentOff have total)
@@ -170,7 +170,7 @@ pub record MakingFails (v : NewVolume) (disk : ℕ) (old new : State) : Type 0 w
   pub may : MayBeMade v old.core map
   pub its : IsTrue (is_on map disk)
   pub lowest : (d : ℕ) → d < disk → IsTrue (is_on map d) → new.device.counts.faults d ≡ old.device.counts.faults d
-  pub ends : EndsFailed disk old new
+  pub ends : CommandFailed disk old new
 
 -- what it may do: commit the descriptor with the volume, and write zeros to its partitions and make them fresh
 abbrev pub to_make : NewVolume → Core → Scope
@@ -179,9 +179,9 @@ to_make v core = commanding (IsWith v core) (IsChosen v core) 2
 -- the volume's number, or why it wasn't made
 abbrev pub MklvGives : NewVolume → ℕ → State → State → Result ℕ GroupFault → Type 0
 MklvGives v patience old new (Ok lv) = IsVolumeMade v lv old new
-MklvGives v patience old new (Err fault.Dark) = IsRefused (RefusesMklv v) fault.Dark old new ⊎ MakingEnds v old new (λ entered. EndsDark entered old new)
-MklvGives v patience old new (Err (fault.WentOff have total)) = IsRefused (RefusesMklv v) (fault.WentOff have total) old new ⊎ MakingEnds v old new (λ entered. EndsOff entered have total old new)
-MklvGives v patience old new (Err fault.Stuck) = MakingEnds v old new (λ entered. EndsStuck entered patience old new)
+MklvGives v patience old new (Err fault.Dark) = IsRefused (RefusesMklv v) fault.Dark old new ⊎ MakingEnds v old new (λ entered. CommandDarkened entered old new)
+MklvGives v patience old new (Err (fault.WentOff have total)) = IsRefused (RefusesMklv v) (fault.WentOff have total) old new ⊎ MakingEnds v old new (λ entered. CommandWentOff entered have total old new)
+MklvGives v patience old new (Err fault.Stuck) = MakingEnds v old new (λ entered. CommandStuck entered patience old new)
 MklvGives v patience old new (Err (fault.DiskFailed disk)) = MakingFails v disk old new
 MklvGives v patience old new (Err fault.Busy) = IsRefused (RefusesMklv v) fault.Busy old new
 MklvGives v patience old new (Err fault.NoVolume) = ⊥
@@ -224,9 +224,9 @@ to_remove lv core = commanding (λ next. next ≡ without_volume core.descriptor
 -- that it is removed, or why it isn't
 abbrev pub RmlvGives : ℕ → ℕ → State → State → Result (Unit {0}) GroupFault → Type 0
 RmlvGives lv patience old new (Ok done) = IsVolumeRemoved lv old new
-RmlvGives lv patience old new (Err fault.Dark) = IsRefused (RefusesRmlv lv) fault.Dark old new ⊎ RemovalEnds lv old (λ entered. EndsDark entered old new)
-RmlvGives lv patience old new (Err (fault.WentOff have total)) = IsRefused (RefusesRmlv lv) (fault.WentOff have total) old new ⊎ RemovalEnds lv old (λ entered. EndsOff entered have total old new)
-RmlvGives lv patience old new (Err fault.Stuck) = RemovalEnds lv old (λ entered. EndsStuck entered patience old new)
+RmlvGives lv patience old new (Err fault.Dark) = IsRefused (RefusesRmlv lv) fault.Dark old new ⊎ RemovalEnds lv old (λ entered. CommandDarkened entered old new)
+RmlvGives lv patience old new (Err (fault.WentOff have total)) = IsRefused (RefusesRmlv lv) (fault.WentOff have total) old new ⊎ RemovalEnds lv old (λ entered. CommandWentOff entered have total old new)
+RmlvGives lv patience old new (Err fault.Stuck) = RemovalEnds lv old (λ entered. CommandStuck entered patience old new)
 RmlvGives lv patience old new (Err (fault.DiskFailed disk)) = ⊥
 RmlvGives lv patience old new (Err fault.Busy) = IsRefused (RefusesRmlv lv) fault.Busy old new
 RmlvGives lv patience old new (Err fault.NoVolume) = IsRefused (RefusesRmlv lv) fault.NoVolume old new

@@ -8,8 +8,8 @@ ghost use Rattle.lvm_status.specs.Update.{members_there};
 ghost use Rattle.lvm_core.specs.Settled.{IsSettled};
 ghost use Rattle.lvm_volumes.specs.Endings.{TakesCommands};
 ghost use Rattle.lvm_volumes.specs.NewVolume.{without_volume};
-ghost use Rattle.lvm_volumes.specs.PlannedVolume.{IsOneGroup, IsPlannedVolume, IsWithout};
-ghost use Rattle.lvm_volumes.specs.Volumes.{HasRoom, HasNumber, HasPlaces, MayBeMade, RefusesAll, RefusesMklv, RefusesRmlv};
+ghost use Rattle.lvm_volumes.specs.PlannedVolume.{AreOfOneGroup, IsPlannedVolume, IsWithout};
+ghost use Rattle.lvm_volumes.specs.Volumes.{HasSpareRoom, HasNumber, HasPlaces, MayBeMade, RefusesAll, RefusesMklv, RefusesRmlv};
 
 use crate::fault::GroupFault;
 use crate::next::{lowest_free, with_volume, without_volume};
@@ -99,7 +99,7 @@ pub fn prepare_without<S: Shelf>(
 // Whether the session takes a command.
 fn takes_commands<S: Shelf>(driver: &Driver<S>) -> Result<(), GroupFault>
     ensures takes { IfOk result (λ done. TakesCommands driver.now.1) }
-    ensures group { IfOk result (λ done. IsOneGroup driver.now.1) }
+    ensures group { IfOk result (λ done. AreOfOneGroup driver.now.1) }
     ensures refused { IfErr result (RefusesAll driver.now.1) }
 {
     match driver.power() {
@@ -121,7 +121,7 @@ fn takes_commands<S: Shelf>(driver: &Driver<S>) -> Result<(), GroupFault>
 // What stands against a new volume before places are looked for.
 fn check<S: Shelf>(driver: &Driver<S>, v: &NewVolume) -> Result<(), GroupFault>
     ensures may { IfOk result (λ done. HasNumber v.now driver.now.1) }
-    ensures group { IfOk result (λ done. IsOneGroup driver.now.1) }
+    ensures group { IfOk result (λ done. AreOfOneGroup driver.now.1) }
     ensures refused { IfErr result (RefusesMklv v.now driver.now.1) }
 {
     takes_commands(driver)?;
@@ -182,7 +182,7 @@ fn members_there(d: &Descriptor, table: &StaleTable) -> DiskSet
 
 // Whether enough entries and sequence numbers are left for a command.
 fn has_room<S: Shelf>(driver: &Driver<S>) -> bool
-    ensures { IsTrue result ↔ HasRoom driver.now.1 }
+    ensures { IsTrue result ↔ HasSpareRoom driver.now.1 }
 {
     driver.history().spare_entries() >= ENTRIES && driver.numbers_left() >= NUMBERS
 }
@@ -195,7 +195,7 @@ fn plan<S: Shelf>(
     map: Rows<Pp>,
 ) -> Result<VolumePlan, Memory>
     requires some { 1 ≤ v.now.lps }
-    requires group { IsOneGroup driver.now.1 }
+    requires group { AreOfOneGroup driver.now.1 }
     requires may { MayBeMade v.now driver.now.1 map }
     ensures { IfOk result (IsPlannedVolume v.now driver.now.1) }
 {

@@ -3,13 +3,16 @@ ghost use Rattle.std.specs.Prelude.{◌≡◌, ◌<◌, ◌-◌, ◌≤◌, fals
 ghost use Rattle.lvm_num.specs.declared.place.Pp.{Pp};
 ghost use Rattle.lvm_num.specs.Status.{calls_missing};
 ghost use Rattle.lvm_disk.specs.Device.{IsReady};
+ghost use Rattle.lvm_vol.specs.Log.{spare_entries, plain_fact};
 ghost use Rattle.lvm_map.specs.FirstFit.{is_on};
+ghost use Rattle.lvm_commit.specs.Committed.{IsAlike};
 ghost use Rattle.lvm_core.specs.State.{state_of};
 ghost use Rattle.lvm_core.specs.Leaves.{Leaves, NoDescriptor, NoPartition};
 ghost use Rattle.lvm_core.specs.Settled.{IsSettled, HasSpareNumbers};
+ghost use Rattle.lvm_core.specs.Entering.{IsOfVolume};
 ghost use Rattle.lvm_volumes.specs.Endings.{TakesCommands, IfOn, StillHeld, commanding};
-ghost use Rattle.lvm_volumes.specs.PlannedVolume.{IsOneGroup, IsWithout};
-ghost use Rattle.lvm_volumes.specs.Stages.{IfGoesOn, AreUnusedOn, IsLowestMissing, ZerosEnd, ClearEnds, MakeEnds, MayMake, RemoveEnds};
+ghost use Rattle.lvm_volumes.specs.PlannedVolume.{AreOfOneGroup, IsWithout};
+ghost use Rattle.lvm_volumes.specs.Stages.{IfGoesOn, AreUnusedOn, IsLowestMissing, ZerosEnd, ClearEnds, MakeEnds, MayMake, RemoveEnds, CommitsBetween};
 ghost use Rattle.lvm_volumes.specs.Volumes.{MklvGives, RmlvGives, to_make, to_remove};
 
 use crate::fault::GroupFault;
@@ -39,7 +42,7 @@ const DISKS: u16 = 128;
 /// `Memory` may come before the first write, where none of the causes before `NoRoom` holds.
 ///
 /// A member to which a record can't be written becomes missing; its fresh copies become stale where another copy of
-/// their logical partition is usable.
+/// their logical partition is usable. No other partition becomes stale.
 pub fn mklv<S: Shelf>(
     alloc: Global,
     driver: &mut Driver<S>,
@@ -113,14 +116,12 @@ fn make<S: Shelf>(
 {
     clear(driver, plan.map.as_slice(), patience)?;
     let lv = plan.number;
-    driver.enter(Entry::Making {
+    let making = Entry::Making {
         lv,
         blocks: plan.blocks,
         mode: plan.mode,
-    });
-    driver.commit(plan.next, patience)?;
-    driver.enter(Entry::Made { lv });
-    Ok(())
+    };
+    commit_between(driver, making, plan.next, Entry::Made { lv }, patience)
 }
 
 // Removes a volume, by the descriptor without it.
@@ -137,9 +138,28 @@ fn remove<S: Shelf>(
     ensures leaves { Leaves (commanding (λ d. d ≡ next) NoPartition 1) patience.old.left patience.new.left (state_of S.device driver.old) (state_of S.device driver.new) }
 {
     let vol = Vol::Lv(lv);
-    driver.enter(Entry::Removing { vol });
+    let removing = Entry::Removing { vol };
+    commit_between(driver, removing, next, Entry::Removed { vol }, patience)
+}
+
+// Commits a descriptor between two entries of a volume.
+fn commit_between<S: Shelf>(
+    driver: &mut Driver<S>,
+    first: Entry,
+    next: Prepared,
+    last: Entry,
+    patience: &mut Patience,
+) -> Result<(), CommitFault>
+    requires settled { IsSettled driver.old.1 }
+    requires numbers { HasSpareNumbers driver.old.1 }
+    requires spare { 2 ≤ spare_entries driver.old.1.history }
+    requires volume { IsOfVolume first × IsOfVolume last }
+    requires alike { IsAlike next driver.old.1.descriptor }
+    ensures { CommitsBetween (plain_fact first) (plain_fact last) next patience.old.left patience.new.left (state_of S.device driver.old) (state_of S.device driver.new) result }
+{
+    driver.enter(first);
     driver.commit(next, patience)?;
-    driver.enter(Entry::Removed { vol });
+    driver.enter(last);
     Ok(())
 }
 
@@ -151,7 +171,7 @@ fn clear<S: Shelf>(
 ) -> Result<(), CommitFault>
     requires settled { IsSettled driver.old.1 }
     requires numbers { HasSpareNumbers driver.old.1 }
-    requires group { IsOneGroup driver.old.1 }
+    requires group { AreOfOneGroup driver.old.1 }
     requires unused { AreUnusedOn driver.old.1 map.now }
     ensures ends { ClearEnds map.now patience.old.left (state_of S.device driver.old) (state_of S.device driver.new) result }
     ensures held { IfGoesOn result (StillHeld (state_of S.device driver.old) (state_of S.device driver.new)) }

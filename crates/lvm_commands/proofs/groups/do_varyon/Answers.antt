@@ -1,75 +1,46 @@
 use Rattle.std.proofs.Common.{◌∙◌, ℕ, ap, sym, subst, refl, is_some}
 use Rattle.lvm_varyon.specs.Varied.{VaryonGives}
 use Rattle.lvm_commands.specs.Groups.{VaryonDoes, NoVaryonWhileOn}
-use Rattle.lvm_commands.specs.Moments.{GoesOn}
-use Rattle.lvm_commands.specs.Stages.{shelf_in, history_in, session_in, state_in}
-use Rattle.lvm_commands.specs.State.{without_facts}
+use Rattle.lvm_commands.specs.Ends.{CommandEnds}
+use Rattle.lvm_commands.specs.Stages.{session_in}
 use Rattle.lvm_commands.specs.declared.stage.Stage.{Stage}
 use Rattle.lvm_commands.specs.declared.stage.Stage.TheVariants as stage
-use Rattle.lvm_commands.proofs.Going.{asked_goes}
-use Rattle.lvm_commands.proofs.Staging.{moves, settled_as, asked_stays}
-use Rattle.lvm_commands.proofs.Varying.{Called, called_by, Left, does, goes, orders, rooms, dark_still}
+use Rattle.lvm_commands.proofs.Coming.{Left, dark_still, outcome_ends}
+use Rattle.lvm_commands.proofs.Ends.{ends_as, asked_ends}
+use Rattle.lvm_commands.proofs.Staging.{settled_as, asked_stays}
+use Rattle.lvm_commands.proofs.Varying.{came_on, stayed_off, does}
 use Rattle.lvm_commands.proofs.groups.do_varyon.Goals as goal
 
-pub returns-in-On-clause-does : goal.returns-in-On-clause-does
-returns-in-On-clause-does g c = NoVaryonWhileOn (ap (λ (s : Stage g.row.S.Denot). is_some (session_in s)) c.in-On.is) c.refused.ensures.reply
-    (asked_stays g.S.Shelf.device c.args.stage c.refused.result.stage (g.C.Clock.last c.args.clock.now) (g.C.Clock.last c.now-moment.new.self) c.now-moment.result c.now-moment.ensures.later c.now-moment.ensures.last (c.refused.ensures.stage ∙ sym c.in-On.is))
-
-pub returns-in-On-clause-goes : goal.returns-in-On-clause-goes
-returns-in-On-clause-goes g c = asked_goes (history_in c.args.stage).run c.refused.result.reply _ _ c.requires.settled
-    (asked_stays g.S.Shelf.device c.args.stage c.refused.result.stage (g.C.Clock.last c.args.clock.now) (g.C.Clock.last c.now-moment.new.self) c.now-moment.result c.now-moment.ensures.later c.now-moment.ensures.last (c.refused.ensures.stage ∙ sym c.in-On.is))
+pub returns-in-On-clause-ends : goal.returns-in-On-clause-ends
+returns-in-On-clause-ends g c =
+    let stays = c.refused.ensures.stage ∙ sym c.in-On.is in
+    let asked = asked_stays g.S.Shelf.device c.args.stage c.refused.result.stage (g.C.Clock.last c.args.clock.now) (g.C.Clock.last c.now-moment.new.self) c.now-moment.result c.now-moment.ensures.later c.now-moment.ensures.last stays in
+    asked_ends g.S.Shelf.device (λ log. VaryonDoes log c.args.room c.args.name) ⊥ c.args.stage c.refused.result.stage c.refused.result.reply c.requires.settled stays _ _ asked
+    (NoVaryonWhileOn (ap (λ (s : Stage g.row.S.Denot). is_some (session_in s)) c.in-On.is) c.refused.ensures.reply asked)
 
 pub left-requires : goal.left-requires
 left-requires g c =
     let settled = settled_as g.S.Shelf.device c.args.stage (stage.Off c.in-Off.shelf c.in-Off.history) c.in-Off.is c.requires.settled in
-    let called : Called g.S.Shelf.device c.in-Off.shelf c.in-Off.history c.args.name c.now-moment.result c.args.room c.varyon.result =
-    called_by g.S.Shelf.device c.in-Off.shelf c.in-Off.history c.args.name c.now-moment.result c.args.room _ _ c.varyon.result
-    (subst (λ (n : ℕ). VaryonGives g.S.Shelf.device (g.S.Shelf.device c.in-Off.shelf) c.in-Off.history c.args.name c.now-moment.result c.args.room n c.varyon.result) c.whole-patience.ensures c.varyon.ensures.gives)
-    c.varyon.ensures.starts c.varyon.ensures.restated c.varyon.ensures.recovered c.varyon.ensures.leaves in
-    dark_still g.S.Shelf.device c.in-Off.shelf c.in-Off.history c.args.name c.now-moment.result c.args.room c.varyon.result settled.ready called
+    dark_still g.S.Shelf.device c.in-Off.shelf c.in-Off.history c.varyon.result (stayed_off g.S.Shelf.device c.in-Off.shelf c.in-Off.history c.args.name c.now-moment.result _ c.args.room c.varyon.result settled.ready c.varyon.ensures.gives)
 
-pub returns-in-Off-clause-does : goal.returns-in-Off-clause-does
-returns-in-Off-clause-does g c =
-    let settled = settled_as g.S.Shelf.device c.args.stage (stage.Off c.in-Off.shelf c.in-Off.history) c.in-Off.is c.requires.settled in
-    let called : Called g.S.Shelf.device c.in-Off.shelf c.in-Off.history c.args.name c.now-moment.result c.args.room c.varyon.result =
-    called_by g.S.Shelf.device c.in-Off.shelf c.in-Off.history c.args.name c.now-moment.result c.args.room _ _ c.varyon.result
-    (subst (λ (n : ℕ). VaryonGives g.S.Shelf.device (g.S.Shelf.device c.in-Off.shelf) c.in-Off.history c.args.name c.now-moment.result c.args.room n c.varyon.result) c.whole-patience.ensures c.varyon.ensures.gives)
-    c.varyon.ensures.starts c.varyon.ensures.restated c.varyon.ensures.recovered c.varyon.ensures.leaves in
-    let left : Left g.S.Shelf.device c.varyon.result c.left.result.stage c.left.result.reply = record { on = c.left.ensures.on; off = c.left.ensures.off; lit = c.left.ensures.lit } in
-    moves g.S.Shelf.device c.args.stage (stage.Off c.in-Off.shelf c.in-Off.history) c.left.result.stage c.left.result.stage (g.C.Clock.last c.args.clock.now) (g.C.Clock.last c.now-moment.new.self)
-    (λ log was now. VaryonDoes (without_facts log) c.args.room c.args.name was now c.left.result.reply) c.in-Off.is refl
-    (subst (λ (n : ℕ). VaryonDoes (without_facts c.in-Off.history) c.args.room c.args.name (state_in g.S.Shelf.device (stage.Off c.in-Off.shelf c.in-Off.history) (g.C.Clock.last c.args.clock.now)) (state_in g.S.Shelf.device c.left.result.stage n) c.left.result.reply) (sym c.now-moment.ensures.last)
-    (does g.S.Shelf.device c.in-Off.shelf c.in-Off.history c.args.name c.now-moment.result (g.C.Clock.last c.args.clock.now) c.args.room c.left.result.stage c.left.result.reply c.now-moment.ensures.later settled c.varyon.result called left))
-
-pub returns-in-Off-clause-goes : goal.returns-in-Off-clause-goes
-returns-in-Off-clause-goes g c =
-    let settled = settled_as g.S.Shelf.device c.args.stage (stage.Off c.in-Off.shelf c.in-Off.history) c.in-Off.is c.requires.settled in
-    let called : Called g.S.Shelf.device c.in-Off.shelf c.in-Off.history c.args.name c.now-moment.result c.args.room c.varyon.result =
-    called_by g.S.Shelf.device c.in-Off.shelf c.in-Off.history c.args.name c.now-moment.result c.args.room _ _ c.varyon.result
-    (subst (λ (n : ℕ). VaryonGives g.S.Shelf.device (g.S.Shelf.device c.in-Off.shelf) c.in-Off.history c.args.name c.now-moment.result c.args.room n c.varyon.result) c.whole-patience.ensures c.varyon.ensures.gives)
-    c.varyon.ensures.starts c.varyon.ensures.restated c.varyon.ensures.recovered c.varyon.ensures.leaves in
-    let left : Left g.S.Shelf.device c.varyon.result c.left.result.stage c.left.result.reply = record { on = c.left.ensures.on; off = c.left.ensures.off; lit = c.left.ensures.lit } in
-    moves g.S.Shelf.device c.args.stage (stage.Off c.in-Off.shelf c.in-Off.history) c.left.result.stage c.left.result.stage (g.C.Clock.last c.args.clock.now) (g.C.Clock.last c.now-moment.new.self)
-    (λ log was now. GoesOn log.run c.left.result.reply was now) c.in-Off.is refl
-    (subst (λ (n : ℕ). GoesOn c.in-Off.history.run c.left.result.reply (state_in g.S.Shelf.device (stage.Off c.in-Off.shelf c.in-Off.history) (g.C.Clock.last c.args.clock.now)) (state_in g.S.Shelf.device c.left.result.stage n)) (sym c.now-moment.ensures.last)
-    (goes g.S.Shelf.device c.in-Off.shelf c.in-Off.history c.args.name c.now-moment.result (g.C.Clock.last c.args.clock.now) c.args.room c.left.result.stage c.left.result.reply c.now-moment.ensures.later settled c.varyon.result called left))
-
-pub returns-in-Off-clause-rooms : goal.returns-in-Off-clause-rooms
-returns-in-Off-clause-rooms g c =
-    let settled = settled_as g.S.Shelf.device c.args.stage (stage.Off c.in-Off.shelf c.in-Off.history) c.in-Off.is c.requires.settled in
-    let called : Called g.S.Shelf.device c.in-Off.shelf c.in-Off.history c.args.name c.now-moment.result c.args.room c.varyon.result =
-    called_by g.S.Shelf.device c.in-Off.shelf c.in-Off.history c.args.name c.now-moment.result c.args.room _ _ c.varyon.result
-    (subst (λ (n : ℕ). VaryonGives g.S.Shelf.device (g.S.Shelf.device c.in-Off.shelf) c.in-Off.history c.args.name c.now-moment.result c.args.room n c.varyon.result) c.whole-patience.ensures c.varyon.ensures.gives)
-    c.varyon.ensures.starts c.varyon.ensures.restated c.varyon.ensures.recovered c.varyon.ensures.leaves in
-    let left : Left g.S.Shelf.device c.varyon.result c.left.result.stage c.left.result.reply = record { on = c.left.ensures.on; off = c.left.ensures.off; lit = c.left.ensures.lit } in
-    rooms g.S.Shelf.device c.in-Off.shelf c.in-Off.history c.args.name c.now-moment.result (g.C.Clock.last c.args.clock.now) c.args.room c.left.result.stage c.left.result.reply c.now-moment.ensures.later settled c.varyon.result called left ∙ sym (ap (λ (s : Stage g.row.S.Denot). without_facts (history_in s)) c.in-Off.is)
-
-pub returns-in-Off-clause-orders : goal.returns-in-Off-clause-orders
-returns-in-Off-clause-orders g c =
-    let settled = settled_as g.S.Shelf.device c.args.stage (stage.Off c.in-Off.shelf c.in-Off.history) c.in-Off.is c.requires.settled in
-    let called : Called g.S.Shelf.device c.in-Off.shelf c.in-Off.history c.args.name c.now-moment.result c.args.room c.varyon.result =
-    called_by g.S.Shelf.device c.in-Off.shelf c.in-Off.history c.args.name c.now-moment.result c.args.room _ _ c.varyon.result
-    (subst (λ (n : ℕ). VaryonGives g.S.Shelf.device (g.S.Shelf.device c.in-Off.shelf) c.in-Off.history c.args.name c.now-moment.result c.args.room n c.varyon.result) c.whole-patience.ensures c.varyon.ensures.gives)
-    c.varyon.ensures.starts c.varyon.ensures.restated c.varyon.ensures.recovered c.varyon.ensures.leaves in
-    let left : Left g.S.Shelf.device c.varyon.result c.left.result.stage c.left.result.reply = record { on = c.left.ensures.on; off = c.left.ensures.off; lit = c.left.ensures.lit } in
-    orders g.S.Shelf.device c.in-Off.shelf c.in-Off.history c.args.name c.now-moment.result (g.C.Clock.last c.args.clock.now) c.args.room c.left.result.stage c.left.result.reply c.now-moment.ensures.later settled c.varyon.result called left ∙ sym (ap (λ (s : Stage g.row.S.Denot). (g.S.Shelf.device (shelf_in s)).orders) c.in-Off.is)
+pub returns-in-Off-clause-ends : goal.returns-in-Off-clause-ends
+returns-in-Off-clause-ends g c =
+    let shelf = c.in-Off.shelf in
+    let log = c.in-Off.history in
+    let moment = c.now-moment.result in
+    let last = g.C.Clock.last c.args.clock.now in
+    let outcome = c.varyon.result in
+    let settled = settled_as g.S.Shelf.device c.args.stage (stage.Off shelf log) c.in-Off.is c.requires.settled in
+    let gives = subst (λ (n : ℕ). VaryonGives g.S.Shelf.device (g.S.Shelf.device shelf) log c.args.name moment c.args.room n outcome) c.whole-patience.ensures c.varyon.ensures.gives in
+    let left : Left g.S.Shelf.device outcome c.left.result.stage c.left.result.reply = record { on = c.left.ensures.on; off = c.left.ensures.off; lit = c.left.ensures.lit } in
+    ends_as g.S.Shelf.device (λ log. VaryonDoes log c.args.room c.args.name) ⊥ _ _ _ _ _ _ _ _ c.in-Off.is refl refl
+    (subst (λ (n : ℕ). CommandEnds g.S.Shelf.device (λ log. VaryonDoes log c.args.room c.args.name) ⊥ (stage.Off shelf log) c.left.result.stage c.left.result.reply last n) (sym c.now-moment.ensures.last)
+    (outcome_ends g.S.Shelf.device shelf log moment last _ _ c.left.result.stage c.left.result.reply c.now-moment.ensures.later settled (λ log. VaryonDoes log c.args.room c.args.name) outcome
+    (record {
+      starts = c.varyon.ensures.starts;
+      brings = c.varyon.ensures.leaves;
+      came = came_on g.S.Shelf.device shelf log c.args.name c.now-moment.result _ c.args.room outcome c.varyon.ensures.gives;
+      stayed = stayed_off g.S.Shelf.device shelf log c.args.name c.now-moment.result _ c.args.room outcome settled.ready c.varyon.ensures.gives;
+      left = left;
+    })
+    (does g.S.Shelf.device shelf log c.args.name moment last c.args.room c.left.result.stage c.left.result.reply c.now-moment.ensures.later outcome gives c.varyon.ensures.restated c.varyon.ensures.recovered left)))

@@ -5,9 +5,9 @@ use Rattle.lvm_num.specs.Buffer.{Buffer}
 use Rattle.lvm_disk.specs.Device.{Device, HasSectors}
 use Rattle.lvm_kept.specs.Torn.{RecordWrite, IsOfRecord}
 use Rattle.lvm_status.specs.Update.{Stored}
-use Rattle.lvm_quorum.specs.declared.homes.Homes.{Homes}
-use Rattle.lvm_commit.specs.declared.commit.Settled.{Settled}
-use Rattle.lvm_commit.specs.declared.commit.Settled.TheVariants as settled
+use Rattle.lvm_write.specs.declared.homes.Homes.{Homes}
+use Rattle.lvm_commit.specs.declared.commit.CommitEnd.{CommitEnd}
+use Rattle.lvm_commit.specs.declared.commit.CommitEnd.TheVariants as commit_end
 use Rattle.lvm_commit.specs.Settling.{IsOfCommit, there}
 use Rattle.lvm_commit.specs.Rounds.{stamped, session_write, RecordGives}
 use Rattle.lvm_commit.proofs.Chaining.{keeps_wider, loses_less}
@@ -27,10 +27,10 @@ commit_status-requires-clause-may g c =
     let m : Device = g.S.Shelf.device c.write_descriptor.new.shelf in
     let content : List ℕ = c.args.content.now in
     let w : RecordWrite = session_write kind.Descriptor content (stamped first) c.args.homes.now in
-    let gives : RecordGives w c.args.buf.number c.args.patience.now.left c.write_descriptor.new.patience.left (stamped first) mid c.args.homes.now c.write_descriptor.new.homes old m (settled.Done c.in-Done.buf) =
-    subst (λ (r : Settled). RecordGives w c.args.buf.number c.args.patience.now.left c.write_descriptor.new.patience.left (stamped first) mid c.args.homes.now c.write_descriptor.new.homes old m r) c.in-Done.is
+    let gives : RecordGives w c.args.buf.number c.args.patience.now.left c.write_descriptor.new.patience.left (stamped first) mid c.args.homes.now c.write_descriptor.new.homes old m (commit_end.Done c.in-Done.buf) =
+    subst (λ (r : CommitEnd). RecordGives w c.args.buf.number c.args.patience.now.left c.write_descriptor.new.patience.left (stamped first) mid c.args.homes.now c.write_descriptor.new.homes old m r) c.in-Done.is
     c.write_descriptor.ensures.gives in
-    let one = describes first mid c.args.homes.now c.write_descriptor.new.homes old m content c.args.buf.number c.args.patience.now.left c.write_descriptor.new.patience.left (settled.Done c.in-Done.buf) gives in
+    let one = describes first mid c.args.homes.now c.write_descriptor.new.homes old m content c.args.buf.number c.args.patience.now.left c.write_descriptor.new.patience.left (commit_end.Done c.in-Done.buf) gives in
     may_settle_on c.args.d.now first mid old m c.requires.may one.loses c.in-Done.ensures.committed.0 (ap (λ (s : Stamp). s.epoch) gives.how.0.stamp) one.keeps.sizes gives.how.1
 
 pub commit_status-requires-clause-numbers : goal.commit_status-requires-clause-numbers
@@ -60,14 +60,14 @@ returns-in_default g c =
     let number = c.args.buf.number in
     let p = c.args.patience.now.left in
     let q = c.write_descriptor.new.patience.left in
-    let r : Settled = c.write_descriptor.result in
+    let r : CommitEnd = c.write_descriptor.result in
     let w : RecordWrite = session_write kind.Descriptor content (stamped first) homes in
     let gives : RecordGives w number p q (stamped first) mid homes after old m r = c.write_descriptor.ensures.gives in
     let frames = c.write_descriptor.ensures.frames in
     let one = describes first mid homes after old m content number p q r gives in
     let stamp = stamp_is first mid homes after old m content number p q r gives in
     record {
-      ends = descriptor_ends first mid homes after old m content number p q r gives c.requires.may.votes c.in_default.not-Done;
+      ends = descriptor_ends first mid homes after old m content number p q r gives c.requires.may.votes c.in_default.not-Done c.write_descriptor.ensures.committed;
       leaves = record {
         loses = one.loses;
         left = round_left c.args.d.now first mid c.requires.may.valid c.write_descriptor.ensures.marks (loses_less first mid old m one.loses);
@@ -97,9 +97,9 @@ returns-in-Done g c =
     let p = c.args.patience.now.left in
     let q = c.write_descriptor.new.patience.left in
     let buf : Buffer = c.in-Done.buf in
-    let r : Settled = c.commit_status.result in
-    let gives : RecordGives (session_write kind.Descriptor content (stamped first) homes) number p q (stamped first) mid homes after old m (settled.Done buf) =
-    subst (λ (x : Settled). RecordGives (session_write kind.Descriptor content (stamped first) homes) number p q (stamped first) mid homes after old m x) c.in-Done.is c.write_descriptor.ensures.gives in
+    let r : CommitEnd = c.commit_status.result in
+    let gives : RecordGives (session_write kind.Descriptor content (stamped first) homes) number p q (stamped first) mid homes after old m (commit_end.Done buf) =
+    subst (λ (x : CommitEnd). RecordGives (session_write kind.Descriptor content (stamped first) homes) number p q (stamped first) mid homes after old m x) c.in-Done.is c.write_descriptor.ensures.gives in
     let e = c.commit_status.ensures in
     let k : Described c.args.d.now first mid last homes after final old m new content number p q buf r = record {
       sectors = g.met.S.Shelf.sectors_are_whole c.args.shelf.now;

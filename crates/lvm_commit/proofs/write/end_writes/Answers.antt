@@ -11,7 +11,7 @@ use Rattle.lvm_status.specs.Calls.{WantsAtEnd, with_start, after_end}
 use Rattle.lvm_status.proofs.Disks.{member-below}
 use Rattle.lvm_status.proofs.Sound.{and_left}
 use Rattle.lvm_commit.proofs.Counting.{counts_fewer}
-use Rattle.lvm_commit.proofs.Ending.{IsEnding, ending_first, ending_next, ending_fewer, ending_committed, ending_wanted}
+use Rattle.lvm_commit.proofs.Ending.{IsEnding, ending_first, ending_next, ending_fewer, ending_committed, ending_wanted, ending_short}
 use Rattle.lvm_commit.proofs.write.end_writes.Goals as goal
 
 pub loop-disk-init : goal.loop-disk-init
@@ -70,4 +70,10 @@ returns c =
     let is : last ≡ seen c.loop-disk.updater = c.in_default.ensures.starts in
     let ending : IsEnding first (has c.args.failed) last = subst (IsEnding first (has c.args.failed)) (sym is) c.loop-disk.invariant in
     let none : (d : ℕ) → last.unstarted d ≡ false = λ d. ap (λ (u : Updates). u.unstarted d) is ∙ c.in_default.ensures.lowest d in
-    record { group = ending.group; stamp = ending.stamp; wanted = ending_wanted first (has c.args.failed) last ending none; committed = ending_committed first (has c.args.failed) last ending none }
+    record {
+      group = ending.group;
+      stamp = ending.stamp;
+      wanted = ending_wanted first (has c.args.failed) last ending none;
+      committed = ending_committed first (has c.args.failed) last ending none;
+      short = ending_short first (has c.args.failed) last ending none;
+    }

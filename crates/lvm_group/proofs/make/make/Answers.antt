@@ -1,67 +1,72 @@
-use Rattle.std.proofs.Common.{Result, Ok, Err, sym, subst}
+use Rattle.std.proofs.Common.{Result, subst, sym}
 use Rattle.std.specs.Prelude.{IfOk, IfErr}
 use Rattle.std.proofs.lemmas.Result.{err_from_is_err_and}
+use Rattle.lvm_vol.specs.Log.{Log}
 use Rattle.lvm_steps.specs.Requests.{at}
 use Rattle.lvm_steps.proofs.Spans.{keeps_still}
 use Rattle.lvm_stamps.proofs.Clock.{all_is_behind_next}
-use Rattle.lvm_quorum.specs.declared.homes.Homes.{Homes}
+use Rattle.lvm_write.proofs.Transfers.{spends_none}
 use Rattle.lvm_core.specs.declared.refused.Cause.{Cause}
 use Rattle.lvm_core.specs.Held.{StartsHeld}
-use Rattle.lvm_core.specs.Starting.{Reserved, first_core}
+use Rattle.lvm_core.specs.Starting.{first_core}
 use Rattle.lvm_group.specs.declared.make.Standing.{Standing}
 use Rattle.lvm_group.specs.NewGroup.{NewGroup}
-use Rattle.lvm_group.specs.Planned.{group_of, IsPlannedFor, RefusesPlan}
+use Rattle.lvm_group.specs.Planned.{asked_group, IsPlannedFor, RefusesPlan}
 use Rattle.lvm_group.specs.Made.{Refuses}
-use Rattle.lvm_group.specs.Steps.{standing_of, Stands}
+use Rattle.lvm_group.specs.Steps.{Stands}
 use Rattle.lvm_group.proofs.Composing.{refuses_plan}
+use Rattle.lvm_group.proofs.Midst.{made_then, refused_then, held_then, leaves_then}
 use Rattle.lvm_group.proofs.make.make.Goals as goal
 
 -- ---- before the disks are read
 
-pub returns-in_err-plan-clause-refused : goal.returns-in_err-plan-clause-refused
-returns-in_err-plan-clause-refused g c =
-    let w : NewGroup = group_of c.args.asked.now c.args.disks.now c.args.moment in
+pub returns-in_err-plan : goal.returns-in_err-plan
+returns-in_err-plan g c =
+    let w : NewGroup = asked_group c.args.asked.now c.args.disks.now c.args.moment in
+    let was : Log = c.args.history.now in
     let old = g.S.Shelf.device c.args.shelf.now in
+    let left = c.args.patience.now.left in
     let why : Cause = c.in_err-plan.field-0.0 in
     let p = err_from_is_err_and c.from_residual.result c.from_residual.ensures.1 in
-    rw (p.1, p.2) (refuses_plan w c.args.patience.now.left c.args.history.now old why c.requires.ready (subst (λ n. RefusesPlan w n old.sizes why) c.spare_entries.ensures.spare c.in_err-plan.ensures.refused))
-
-pub returns-in_err-plan-clause-keeps : goal.returns-in_err-plan-clause-keeps
-returns-in_err-plan-clause-keeps g c = λ clock. keeps_still c.args.history.now.run (at (g.S.Shelf.device c.args.shelf.now) c.args.history.now.facts)
-
-pub returns-in_err-plan-clause-behind : goal.returns-in_err-plan-clause-behind
-returns-in_err-plan-clause-behind g c = λ clock.
-    all_is_behind_next c.args.history.now.run c.args.moment (g.S.Shelf.device c.args.shelf.now) c.args.history.now.facts (g.met.S.Shelf.sectors_are_whole c.args.shelf.now) c.ranges.moment.fits clock
+    rw (p.1, p.2) (record {
+      made = tt;
+      refused = refuses_plan w left was old why c.requires.ready (subst (λ n. RefusesPlan w n old.sizes why) c.spare_entries.ensures.spare c.in_err-plan.ensures.refused);
+      held = λ clock. tt;
+      leaves = record {
+        keeps = λ clock. keeps_still was.run (at old was.facts);
+        behind = λ clock. all_is_behind_next was.run c.args.moment old was.facts (g.met.S.Shelf.sectors_are_whole c.args.shelf.now) c.ranges.moment.fits clock;
+        calm = λ past calm. calm;
+        spends = spends_none left old;
+      };
+    })
 
 -- ---- where it is planned
 
 pub bring-brought-requires-clause-planned : goal.bring-brought-requires-clause-planned
 bring-brought-requires-clause-planned g c =
-    let w : NewGroup = group_of c.args.asked.now c.args.disks.now c.args.moment in
+    let w : NewGroup = asked_group c.args.asked.now c.args.disks.now c.args.moment in
+    subst (λ n. IsPlannedFor w c.args.asked.now.room n (g.S.Shelf.device c.args.shelf.now).sizes c.in_ok-plan.plan) c.spare_entries.ensures.spare c.in_ok-plan.ensures.planned
+
+pub returns : goal.returns
+returns g c =
+    let w : NewGroup = asked_group c.args.asked.now c.args.disks.now c.args.moment in
+    let room = c.args.asked.now.room in
+    let was : Log = c.args.history.now in
+    let mid : Log = c.bring-brought.new.history in
+    let is : Log = c.enter_cut.new.history in
     let old = g.S.Shelf.device c.args.shelf.now in
-    subst (λ n. IsPlannedFor w c.args.asked.now.room n old.sizes c.in_ok-plan.plan) c.spare_entries.ensures.spare c.in_ok-plan.ensures.planned
-
--- ---- what the session starts with
-
-ok_standing : (parts : Reserved) (brought : Result Homes Cause) (P : Standing → Type 0) → IfOk brought (λ homes. P (record { parts = parts; homes = homes })) → IfOk (standing_of parts brought) P
-ok_standing parts (Ok homes) P stands = stands
-ok_standing parts (Err why) P stands = tt
-
-err_standing : (parts : Reserved) (brought : Result Homes Cause) (P : Cause → Type 0) → IfErr brought P → IfErr (standing_of parts brought) P
-err_standing parts (Ok homes) P refuses = tt
-err_standing parts (Err why) P refuses = refuses
-
-pub returns-clause-made : goal.returns-clause-made
-returns-clause-made g c =
-    let P : Standing → Type 0 = Stands (group_of c.args.asked.now c.args.disks.now c.args.moment) c.args.asked.now.room c.args.history.now c.bring-brought.new.history (g.S.Shelf.device c.args.shelf.now) (g.S.Shelf.device c.bring-brought.new.shelf) in
-    subst (λ (r : Result Standing Cause). IfOk r P) (sym c.start_with.ensures) (ok_standing c.in_ok-plan.plan.parts c.bring-brought.result P c.bring-brought.ensures.made)
-
-pub returns-clause-refused : goal.returns-clause-refused
-returns-clause-refused g c =
-    let P : Cause → Type 0 = Refuses (group_of c.args.asked.now c.args.disks.now c.args.moment) c.args.patience.now.left c.args.history.now c.bring-brought.new.history (g.S.Shelf.device c.args.shelf.now) (g.S.Shelf.device c.bring-brought.new.shelf) in
-    subst (λ (r : Result Standing Cause). IfErr r P) (sym c.start_with.ensures) (err_standing c.in_ok-plan.plan.parts c.bring-brought.result P c.bring-brought.ensures.refused)
-
-pub returns-clause-held : goal.returns-clause-held
-returns-clause-held g c = λ clock.
-    let P : Standing → Type 0 = λ standing. StartsHeld (g.S.Shelf.device c.bring-brought.new.shelf) (first_core standing.parts c.bring-brought.new.history (record { epoch = c.args.moment; seq = 2 }) standing.homes) in
-    subst (λ (r : Result Standing Cause). IfOk r P) (sym c.start_with.ensures) (ok_standing c.in_ok-plan.plan.parts c.bring-brought.result P (c.bring-brought.ensures.held clock))
+    let new = g.S.Shelf.device c.bring-brought.new.shelf in
+    let before = c.args.patience.now.left in
+    let after = c.bring-brought.new.patience.left in
+    let parts = c.in_ok-plan.plan.parts in
+    let r = c.bring-brought.result in
+    let says = c.bring-brought.ensures in
+    let started = sym c.start_with.ensures in
+    record {
+      made = subst (λ (s : Result Standing Cause). IfOk s (Stands w room was is old new)) started (made_then w room before after was mid is old new parts r c.enter_cut.ensures says.made);
+      refused = subst (λ (s : Result Standing Cause). IfErr s (Refuses w before was is old new)) started (refused_then w room before after was mid is old new parts r c.enter_cut.ensures says.refused);
+      held = λ clock.
+          subst (λ (s : Result Standing Cause). IfOk s (λ (standing : Standing). StartsHeld new (first_core standing.parts is (record { epoch = c.args.moment; seq = 2 }) standing.homes))) started
+          (held_then w room before after was mid is old new parts (record { epoch = c.args.moment; seq = 2 }) r c.enter_cut.ensures (says.held clock));
+      leaves = leaves_then w room before after was mid is old new parts was.run r c.enter_cut.ensures says.leaves;
+    }

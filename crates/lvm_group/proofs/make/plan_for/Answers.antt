@@ -2,7 +2,7 @@ use Rattle.std.proofs.Common.{◌≡◌, inl, inr, ℕ, ◌≤◌, List, Option,
 use Rattle.std.proofs.lemmas.Result.{err_from_is_err_and}
 use Rattle.lvm_num.specs.Descriptor.{is_size}
 use Rattle.lvm_group.specs.NewGroup.{NewGroup, size_for}
-use Rattle.lvm_group.specs.Planned.{group_of, IsPlanned}
+use Rattle.lvm_group.specs.Planned.{asked_group, IsPlanned}
 use Rattle.lvm_group.proofs.Groups.{size_positive}
 use Rattle.lvm_group.proofs.make.plan_for.Goals as goal
 
@@ -16,7 +16,7 @@ some_size sizes disks given size same is = subst (λ n. 1 ≤ n) same (size_posi
 
 pub returns-in-Ok-clause-planned : goal.returns-in-Ok-clause-planned
 returns-in-Ok-clause-planned g c =
-    let w : NewGroup = group_of c.args.asked.now c.args.disks.now c.args.moment in
+    let w : NewGroup = asked_group c.args.asked.now c.args.disks.now c.args.moment in
     let sizes : List ℕ = (g.S.Shelf.device c.args.shelf.now).sizes in
     record {
       may = c.in_ok-size.ensures.may;

@@ -11,76 +11,37 @@ use Rattle.lvm_group.proofs.Starting.{spare_left, still_landed, placed, made, se
 use Rattle.lvm_group.proofs.making.mkvg.Goals as goal
 
 pub start-requires-clause-spare : goal.start-requires-clause-spare
-start-requires-clause-spare g c =
-    let w : NewGroup = record { name = c.args.name; mib = c.args.mib; disks = c.args.disks.now; force = c.args.force; moment = c.args.moment } in
-    let was : Log = c.args.history in
-    let old = g.S.Shelf.device c.args.shelf in
-    let new = g.S.Shelf.device c.make.new.shelf in
-    let stands : Stands w c.args.room was c.make.new.history old new c.in-Ok.standing = c.in-Ok.ensures.made in
-    spare_left w c.args.room was c.make.new.history old new c.in-Ok.standing stands
+start-requires-clause-spare g c = spare_left _ c.args.room c.args.history c.make.new.history _ _ c.in-Ok.standing c.in-Ok.ensures.made
 
 pub start-requires-clause-landed : goal.start-requires-clause-landed
-start-requires-clause-landed g c =
-    let w : NewGroup = record { name = c.args.name; mib = c.args.mib; disks = c.args.disks.now; force = c.args.force; moment = c.args.moment } in
-    let was : Log = c.args.history in
-    let old = g.S.Shelf.device c.args.shelf in
-    let new = g.S.Shelf.device c.make.new.shelf in
-    let stands : Stands w c.args.room was c.make.new.history old new c.in-Ok.standing = c.in-Ok.ensures.made in
-    still_landed w c.args.room was c.make.new.history old new c.in-Ok.standing stands c.requires.landed
+start-requires-clause-landed g c = still_landed _ c.args.room c.args.history c.make.new.history _ _ c.in-Ok.standing c.in-Ok.ensures.made c.requires.landed
 
 pub start-requires-clause-placed : goal.start-requires-clause-placed
-start-requires-clause-placed g c =
-    let w : NewGroup = record { name = c.args.name; mib = c.args.mib; disks = c.args.disks.now; force = c.args.force; moment = c.args.moment } in
-    let was : Log = c.args.history in
-    let old = g.S.Shelf.device c.args.shelf in
-    let new = g.S.Shelf.device c.make.new.shelf in
-    let stands : Stands w c.args.room was c.make.new.history old new c.in-Ok.standing = c.in-Ok.ensures.made in
-    placed w c.args.room was c.make.new.history old new c.in-Ok.standing stands
+start-requires-clause-placed g c = placed _ c.args.room c.args.history c.make.new.history _ _ c.in-Ok.standing c.in-Ok.ensures.made
 
-pub returns-in-Ok-clause-gives : goal.returns-in-Ok-clause-gives
-returns-in-Ok-clause-gives g c =
-    let w : NewGroup = record { name = c.args.name; mib = c.args.mib; disks = c.args.disks.now; force = c.args.force; moment = c.args.moment } in
-    let was : Log = c.args.history in
-    let old = g.S.Shelf.device c.args.shelf in
-    let new = g.S.Shelf.device c.make.new.shelf in
-    let stands : Stands w c.args.room was c.make.new.history old new c.in-Ok.standing = c.in-Ok.ensures.made in
-    subst (λ (s : g.row.S.Denot). IsMade w c.args.room was old (g.S.Shelf.device s) c.start.result.1) (sym c.start.ensures.shelf) (made w c.args.room was c.make.new.history old new c.in-Ok.standing stands c.start.result.1 c.start.ensures.core)
-
-pub returns-in-Ok-clause-starts : goal.returns-in-Ok-clause-starts
-returns-in-Ok-clause-starts g c =
+pub returns-in-Ok : goal.returns-in-Ok
+returns-in-Ok g c =
     let w : NewGroup = record { name = c.args.name; mib = c.args.mib; disks = c.args.disks.now; force = c.args.force; moment = c.args.moment } in
     let was : Log = c.args.history in
     let old = g.S.Shelf.device c.args.shelf in
     let new = g.S.Shelf.device c.make.new.shelf in
     let stands : Stands w c.args.room was c.make.new.history old new c.in-Ok.standing = c.in-Ok.ensures.made in
     let two = settles w c.args.room was c.make.new.history old new c.in-Ok.standing stands c.requires.moment c.start.result.1 c.start.ensures.core in
+    let leaves = c.in-Ok.ensures.leaves in
     record {
-      settled = two.0;
-      numbers = two.1;
-      left = none_left w c.args.room was c.make.new.history old new c.in-Ok.standing stands c.start.result.1 c.start.ensures.core;
-      held = λ clock.
-          subst (λ (s : g.row.S.Denot). StartsHeld (g.S.Shelf.device s) c.start.result.1) (sym c.start.ensures.shelf)
-          (subst (λ (x : Core). StartsHeld new x) (sym c.start.ensures.core) (c.in-Ok.ensures.held clock));
+      gives = subst (λ (s : g.row.S.Denot). IsMade w c.args.room was old (g.S.Shelf.device s) c.start.result.1) (sym c.start.ensures.shelf) (made w c.args.room was c.make.new.history old new c.in-Ok.standing stands c.start.result.1 c.start.ensures.core);
+      starts = record {
+        settled = two.0;
+        numbers = two.1;
+        left = none_left w c.args.room was c.make.new.history old new c.in-Ok.standing stands c.start.result.1 c.start.ensures.core;
+        held = λ clock.
+            subst (λ (s : g.row.S.Denot). StartsHeld (g.S.Shelf.device s) c.start.result.1) (sym c.start.ensures.shelf)
+            (subst (λ (x : Core). StartsHeld new x) (sym c.start.ensures.core) (c.in-Ok.ensures.held clock));
+      };
+      leaves = subst (λ (s : g.row.S.Denot). BringsOn was.run c.args.moment c.args.patience.now.left c.make.new.patience.left old (g.S.Shelf.device s) was c.start.result.1.history) (sym c.start.ensures.shelf) (record {
+        keeps = λ clock. keeps_on w c.args.room was c.make.new.history old new c.in-Ok.standing stands (at old was.facts) c.start.result.1 c.start.ensures.core clock (leaves.keeps clock);
+        behind = leaves.behind;
+        calm = calm_on w c.args.room was c.make.new.history old new c.in-Ok.standing stands (at old was.facts) c.start.result.1 c.start.ensures.core leaves.calm;
+        spends = leaves.spends;
+      });
     }
-
-pub returns-in-Ok-clause-leaves : goal.returns-in-Ok-clause-leaves
-returns-in-Ok-clause-leaves g c =
-    let w : NewGroup = record { name = c.args.name; mib = c.args.mib; disks = c.args.disks.now; force = c.args.force; moment = c.args.moment } in
-    let was : Log = c.args.history in
-    let old = g.S.Shelf.device c.args.shelf in
-    let new = g.S.Shelf.device c.make.new.shelf in
-    let stands : Stands w c.args.room was c.make.new.history old new c.in-Ok.standing = c.in-Ok.ensures.made in
-    subst (λ (s : g.row.S.Denot). BringsOn was.run c.args.moment c.args.patience.now.left c.make.new.patience.left old (g.S.Shelf.device s) was c.start.result.1.history) (sym c.start.ensures.shelf) (record {
-      keeps = λ clock. keeps_on w c.args.room was c.make.new.history old new c.in-Ok.standing stands (at old was.facts) c.start.result.1 c.start.ensures.core clock (c.in-Ok.ensures.keeps clock);
-      behind = c.in-Ok.ensures.behind;
-      calm = calm_on w c.args.room was c.make.new.history old new c.in-Ok.standing stands (at old was.facts) c.start.result.1 c.start.ensures.core c.in-Ok.ensures.calm;
-      spends = record { falls = c.in-Ok.ensures.patience; waits = c.in-Ok.ensures.waited };
-    })
-
-pub returns-in-Err-clause-leaves : goal.returns-in-Err-clause-leaves
-returns-in-Err-clause-leaves g c = record {
-  keeps = c.in-Err.ensures.keeps;
-  behind = c.in-Err.ensures.behind;
-  calm = c.in-Err.ensures.calm;
-  spends = record { falls = c.in-Err.ensures.patience; waits = c.in-Err.ensures.waited };
-}

@@ -1,10 +1,12 @@
-use Rattle.std.proofs.Common.{◌≡◌, ℕ, List, subst}
+use Rattle.std.proofs.Common.{◌≡◌, ◌≤◌, ℕ, List, length, sym, subst}
+use Rattle.lvm_num.specs.declared.record.Kind.TheVariants as kind
 use Rattle.lvm_num.specs.Disks.{Disks, has}
-use Rattle.lvm_quorum.specs.declared.homes.Homes.{Homes}
-use Rattle.lvm_quorum.specs.Written.{KeepsShelf, IsDarkened, IsGivenUp}
+use Rattle.lvm_num.specs.Record.{longest_content}
+use Rattle.lvm_write.specs.declared.homes.Homes.{Homes}
+use Rattle.lvm_write.specs.Writes.{DiskWritesLeave}
 use Rattle.lvm_begin.specs.Beginning.{Beginning, new_beginning, new_order, IsOfParts}
-use Rattle.lvm_begin.specs.Ends.{StopsAt, BeginsWell, FailsAtDisk}
 use Rattle.lvm_begin.specs.Kept.{NewStaysKept}
+use Rattle.lvm_group.specs.Steps.{NewWritesGive}
 use Rattle.lvm_group.proofs.write.write.Goals as goal
 
 -- what is said of the beginning that the call names is said of the planned one
@@ -12,58 +14,22 @@ as_planned : (moment : ℕ) (a b x y : List ℕ) (targets : Disks) (homes : Home
 as_planned moment a b x y targets homes first second P its =
     subst (λ (s : List ℕ). P (new_beginning moment b s targets homes)) second (subst (λ (d : List ℕ). P (new_beginning moment d x targets homes)) first its)
 
-pub returns-in-Ended : goal.returns-in-Ended
-returns-in-Ended g c =
-    let e = c.in-Ended.ensures in
-    let old = g.S.Shelf.device c.args.shelf.now in
-    let new = g.S.Shelf.device c.begin_new.new.shelf in
-    let ends = as_planned c.args.moment c.as_slice.result.now c.args.plan.now.descriptor c.as_slice-2.result.now c.args.plan.now.status (has c.args.plan.now.targets) c.args.homes.now c.as_slice.ensures c.as_slice-2.ensures (λ (b : Beginning). BeginsWell b new_order c.args.buf.number c.begin_new.new.homes old new c.in-Ended.buf) e.ends in
-    record {
-      gives = (record { stand = ends.stand; well = ends.well; rested = record { ready = ends.back.ready; cuts = ends.back.cuts } }, ends.flips);
-      patience = e.leaves.spends.falls;
-      waited = e.leaves.spends.waits;
-      kept = as_planned c.args.moment c.as_slice.result.now c.args.plan.now.descriptor c.as_slice-2.result.now c.args.plan.now.status (has c.args.plan.now.targets) c.args.homes.now c.as_slice.ensures c.as_slice-2.ensures (λ (b : Beginning). NewStaysKept b old new) e.kept;
-      keeps = as_planned c.args.moment c.as_slice.result.now c.args.plan.now.descriptor c.as_slice-2.result.now c.args.plan.now.status (has c.args.plan.now.targets) c.args.homes.now c.as_slice.ensures c.as_slice-2.ensures (λ (b : Beginning). KeepsShelf (has c.args.plan.now.targets) (IsOfParts b new_order) old new) e.leaves.keeps;
-    }
+pub begin-requires-clause-descriptor : goal.begin-requires-clause-descriptor
+begin-requires-clause-descriptor g c = subst (λ (l : List ℕ). length l ≤ longest_content kind.Descriptor) (sym c.as_slice.ensures) c.requires.descriptor
 
-pub returns-in-DiskFailed : goal.returns-in-DiskFailed
-returns-in-DiskFailed g c =
-    let e = c.in-DiskFailed.ensures in
-    let old = g.S.Shelf.device c.args.shelf.now in
-    let new = g.S.Shelf.device c.begin_new.new.shelf in
-    let ends = as_planned c.args.moment c.as_slice.result.now c.args.plan.now.descriptor c.as_slice-2.result.now c.args.plan.now.status (has c.args.plan.now.targets) c.args.homes.now c.as_slice.ensures c.as_slice-2.ensures (λ (b : Beginning). FailsAtDisk b new_order c.args.buf.number old new c.in-DiskFailed.disk c.in-DiskFailed.buf) e.ends in
-    record {
-      gives = record { first = ends.first; stops = ends.stop; rested = record { ready = ends.back.ready; cuts = ends.back.cuts } };
-      patience = e.leaves.spends.falls;
-      waited = e.leaves.spends.waits;
-      kept = as_planned c.args.moment c.as_slice.result.now c.args.plan.now.descriptor c.as_slice-2.result.now c.args.plan.now.status (has c.args.plan.now.targets) c.args.homes.now c.as_slice.ensures c.as_slice-2.ensures (λ (b : Beginning). NewStaysKept b old new) e.kept;
-      keeps = as_planned c.args.moment c.as_slice.result.now c.args.plan.now.descriptor c.as_slice-2.result.now c.args.plan.now.status (has c.args.plan.now.targets) c.args.homes.now c.as_slice.ensures c.as_slice-2.ensures (λ (b : Beginning). KeepsShelf (has c.args.plan.now.targets) (IsOfParts b new_order) old new) e.leaves.keeps;
-    }
-
-pub returns-in-Dark : goal.returns-in-Dark
-returns-in-Dark g c =
-    let e = c.in-Dark.ensures in
-    let old = g.S.Shelf.device c.args.shelf.now in
-    let new = g.S.Shelf.device c.begin_new.new.shelf in
-    let ends = as_planned c.args.moment c.as_slice.result.now c.args.plan.now.descriptor c.as_slice-2.result.now c.args.plan.now.status (has c.args.plan.now.targets) c.args.homes.now c.as_slice.ensures c.as_slice-2.ensures (λ (b : Beginning). IsDarkened c.args.buf.number old new × StopsAt b new_order old new (λ hand. Unit {0})) e.ends in
-    record {
-      gives = (subst (λ (k : ℕ). IsDarkened k old new) c.requires.buffer ends.0, ends.1);
-      patience = e.leaves.spends.falls;
-      waited = e.leaves.spends.waits;
-      kept = as_planned c.args.moment c.as_slice.result.now c.args.plan.now.descriptor c.as_slice-2.result.now c.args.plan.now.status (has c.args.plan.now.targets) c.args.homes.now c.as_slice.ensures c.as_slice-2.ensures (λ (b : Beginning). NewStaysKept b old new) e.kept;
-      keeps = as_planned c.args.moment c.as_slice.result.now c.args.plan.now.descriptor c.as_slice-2.result.now c.args.plan.now.status (has c.args.plan.now.targets) c.args.homes.now c.as_slice.ensures c.as_slice-2.ensures (λ (b : Beginning). KeepsShelf (has c.args.plan.now.targets) (IsOfParts b new_order) old new) e.leaves.keeps;
-    }
+pub begin-requires-clause-status : goal.begin-requires-clause-status
+begin-requires-clause-status g c = subst (λ (l : List ℕ). length l ≤ longest_content kind.Status) (sym c.as_slice-2.ensures) c.requires.status
 
 pub returns : goal.returns
 returns g c =
-    let e = c.in-Stuck.ensures in
     let old = g.S.Shelf.device c.args.shelf.now in
-    let new = g.S.Shelf.device c.begin_new.new.shelf in
-    let ends = as_planned c.args.moment c.as_slice.result.now c.args.plan.now.descriptor c.as_slice-2.result.now c.args.plan.now.status (has c.args.plan.now.targets) c.args.homes.now c.as_slice.ensures c.as_slice-2.ensures (λ (b : Beginning). IsGivenUp c.args.buf.number c.args.patience.now.left old new × StopsAt b new_order old new (λ hand. Unit {0})) e.ends in
+    let new = g.S.Shelf.device c.begin.new.shelf in
+    let plan = c.args.plan.now in
+    let before = c.args.patience.now.left in
+    let after = c.begin.new.patience.left in
+    let planned = as_planned c.args.moment c.as_slice.result.now plan.descriptor c.as_slice-2.result.now plan.status (has plan.targets) c.args.free.homes c.as_slice.ensures c.as_slice-2.ensures in
     record {
-      gives = (subst (λ (k : ℕ). IsGivenUp k c.args.patience.now.left old new) c.requires.buffer ends.0, ends.1);
-      patience = e.leaves.spends.falls;
-      waited = e.leaves.spends.waits;
-      kept = as_planned c.args.moment c.as_slice.result.now c.args.plan.now.descriptor c.as_slice-2.result.now c.args.plan.now.status (has c.args.plan.now.targets) c.args.homes.now c.as_slice.ensures c.as_slice-2.ensures (λ (b : Beginning). NewStaysKept b old new) e.kept;
-      keeps = as_planned c.args.moment c.as_slice.result.now c.args.plan.now.descriptor c.as_slice-2.result.now c.args.plan.now.status (has c.args.plan.now.targets) c.args.homes.now c.as_slice.ensures c.as_slice-2.ensures (λ (b : Beginning). KeepsShelf (has c.args.plan.now.targets) (IsOfParts b new_order) old new) e.leaves.keeps;
+      gives = planned (λ (b : Beginning). NewWritesGive b before old new c.begin.result) c.begin.ensures.gives;
+      leaves = planned (λ (b : Beginning). DiskWritesLeave b.targets (IsOfParts b new_order) before after old new) c.begin.ensures.leaves;
+      kept = planned (λ (b : Beginning). NewStaysKept b old new) c.begin.ensures.kept;
     }

@@ -23,7 +23,7 @@ returns-in-Ok-None-clause-line g c =
 pub returns-in-Ok-Some-clause-line : goal.returns-in-Ok-Some-clause-line
 returns-in-Ok-Some-clause-line g c =
     line_read (without_facts (history_in c.args.stage)) c.args.room c.args.line.now (Ok (Some c.in-Ok-Some.command)) c.do_command.result.reply _ _ (c.in-Ok-Some.ensures.read ∙ ap (λ (o : Option Command). Ok o) c.in-Ok-Some.field-0-is)
-    c.do_command.ensures.does c.do_command.ensures.goes c.do_command.ensures.orders (g.met.S.Shelf.sectors_are_whole (shelf_in c.args.stage))
+    c.do_command.ensures.ends.does c.do_command.ensures.ends.goes c.do_command.ensures.ends.orders (g.met.S.Shelf.sectors_are_whole (shelf_in c.args.stage))
 
 pub returns-in-Err-BadLine-clause-line : goal.returns-in-Err-BadLine-clause-line
 returns-in-Err-BadLine-clause-line g c =

@@ -3,9 +3,9 @@ use Rattle.lvm_num.specs.Record.{newer, newest_below}
 use Rattle.lvm_kept.specs.Group.{descriptor_among, if_passes, is_of}
 use Rattle.lvm_survey.specs.declared.row.SurveyRow.{SurveyRow}
 use Rattle.lvm_survey.specs.Surveyed.{surveyed}
-use Rattle.lvm_quorum.specs.Groups.{stamped_if}
+use Rattle.lvm_quorum.specs.Groups.{shown_record_if}
 use Rattle.lvm_quorum.proofs.Folds.{newest_more}
-use Rattle.lvm_quorum.proofs.SurveyRows.{row_read, descriptor_shown}
+use Rattle.lvm_survey.proofs.SurveyRows.{row_read, descriptor_shown}
 use Rattle.lvm_quorum.proofs.groups.newest_descriptor.Goals as goal
 
 pub loop-row-init : goal.loop-row-init
@@ -18,8 +18,8 @@ loop-row-preserved c =
     let i = c.loop-row.row-index in
     let row = c.row-item.result in
     let at = row_read s c.as_slice-row-items.result.now i row c.as_slice-row-items.ensures (omega arith) c.row-item.is in
-    newest_more (λ d. if_passes (is_of c.args.id) ((surveyed s).descriptor d)) i (stamped_if c.loop-row.newest) (stamped_if c.newer-newest.result) c.loop-row.invariant
-    (c.newer-newest.ensures ∙ ap (newer (stamped_if c.loop-row.newest)) (c.descriptor_of.ensures ∙ ap (if_passes (is_of c.args.id)) (sym (descriptor_shown s i row at))))
+    newest_more (λ d. if_passes (is_of c.args.id) ((surveyed s).descriptor d)) i (shown_record_if c.loop-row.newest) (shown_record_if c.newer-newest.result) c.loop-row.invariant
+    (c.newer-newest.ensures ∙ ap (newer (shown_record_if c.loop-row.newest)) (c.descriptor_of.ensures ∙ ap (if_passes (is_of c.args.id)) (sym (descriptor_shown s i row at))))
 
 pub returns : goal.returns
 unfolding descriptor_among

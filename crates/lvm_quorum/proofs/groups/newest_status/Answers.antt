@@ -5,9 +5,9 @@ use Rattle.lvm_num.specs.Record.{newer, newest_below}
 use Rattle.lvm_kept.specs.Group.{if_passes, is_status_of}
 use Rattle.lvm_survey.specs.declared.row.SurveyRow.{SurveyRow}
 use Rattle.lvm_survey.specs.Surveyed.{surveyed}
-use Rattle.lvm_quorum.specs.Groups.{stamped_if}
+use Rattle.lvm_quorum.specs.Groups.{shown_record_if}
 use Rattle.lvm_quorum.proofs.Folds.{newest_more, newer_none, picked, left_out}
-use Rattle.lvm_quorum.proofs.SurveyRows.{row_read, status_shown}
+use Rattle.lvm_survey.proofs.SurveyRows.{row_read, status_shown}
 use Rattle.lvm_quorum.proofs.groups.newest_status.Goals as goal
 use Rattle.lvm_quorum.proofs.groups.newest_status.Goals.{then-has, else-has}
 
@@ -31,14 +31,14 @@ loop-row-preserved c =
     let row = c.row-item.result in
     let at = row_read s c.as_slice-row-items.result.now i row c.as_slice-row-items.ensures (omega arith) c.row-item.is in
     let told : c.has.result ≡ has c.args.voters i = c.has.ensures.member ∙ ap (has c.args.voters) (c.requires.own i row at) in
-    let now = stamped_if c.loop-row.newest in
+    let now = shown_record_if c.loop-row.newest in
     let on = if_passes (is_status_of c.args.id) ((surveyed s).status i) in
-    newest_more (λ d. if has c.args.voters d then if_passes (is_status_of c.args.id) ((surveyed s).status d) else None) i now (stamped_if c.if-has.newest) c.loop-row.invariant
+    newest_more (λ d. if has c.args.voters d then if_passes (is_status_of c.args.id) ((surveyed s).status d) else None) i now (shown_record_if c.if-has.newest) c.loop-row.invariant
     (elim c.if-has.branch [
       | then-has w ↦
-          ap stamped_if w.newest-is ∙ w.newer-newest.ensures
+          ap shown_record_if w.newest-is ∙ w.newer-newest.ensures
           ∙ ap (newer now) (w.status_of.ensures ∙ ap (if_passes (is_status_of c.args.id)) (sym (status_shown s i row at)) ∙ sym (picked (has c.args.voters i) on None (sym told ∙ w.if-has.true)))
       | else-has w ↦
-          ap stamped_if w.newest-is ∙ sym (newer_none now)
+          ap shown_record_if w.newest-is ∙ sym (newer_none now)
           ∙ ap (newer now) (sym (left_out (has c.args.voters i) on None (sym told ∙ w.if-has.false)))
     ])

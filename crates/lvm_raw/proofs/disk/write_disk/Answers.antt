@@ -1,30 +1,22 @@
-use Rattle.std.proofs.Common.{Err, refl}
-use Rattle.lvm_steps.specs.Requests.{at as moment_of}
+use Rattle.std.proofs.lemmas.Result.{err_from_is_err_and}
 use Rattle.lvm_raw.specs.declared.fault.RawFault.TheVariants as fault
 use Rattle.lvm_raw.specs.Pieces.{WritesGo}
-use Rattle.lvm_raw.specs.Raw.{Rejected, without_facts}
-use Rattle.lvm_raw.proofs.Going.{range_none}
-use Rattle.lvm_raw.proofs.Refusing.{raw_ends, rejected_rose, rejected_unserved, writes_of, not_lost}
+use Rattle.lvm_raw.proofs.Answering.{unasked, lacking, went}
+use Rattle.lvm_raw.proofs.Refusing.{writes_of, not_lost}
 use Rattle.lvm_raw.proofs.disk.write_disk.Goals as goal
 
-pub returns-in-Ok-clause-ends : goal.returns-in-Ok-clause-ends
-returns-in-Ok-clause-ends g c =
-    raw_ends {X = Unit {0}} fault.Lost (WritesGo c.args.history.now.run c.args.disk c.args.at c.args.count c.args.word) (without_facts c.args.history.now) c.args.disk c.args.at c.args.count c.args.patience.now.left (moment_of (g.S.Shelf.device c.args.shelf.now) c.args.history.now.facts) (moment_of (g.S.Shelf.device c.write_checked.new.shelf) c.write_checked.new.history.facts)
-    (writes_of c.args.history.now.run c.args.disk c.args.at c.args.count c.args.word) (not_lost (Unit {0})) c.write_checked.result c.write_checked.ensures.does c.write_checked.ensures.served c.write_checked.ensures.keeps.cause
+pub returns-in_err-buf : goal.returns-in_err-buf
+returns-in_err-buf g c =
+    let p = err_from_is_err_and c.from_residual.result c.from_residual.ensures.1 in
+    let its = unasked fault.Lost (λ run. WritesGo run c.args.disk c.args.at c.args.count c.args.word) (λ run. writes_of run c.args.disk c.args.at c.args.count c.args.word) (not_lost (Unit {0})) c.args.history.now c.args.disk c.args.at c.args.count c.args.patience.now.left (g.S.Shelf.device c.args.shelf.now) c.ask.new.patience.left c.ask.new.history (g.S.Shelf.device c.ask.new.shelf) c.in_err-buf.field-0.0 c.in_err-buf.ensures.unasked c.in_err-buf.ensures.keeps in
+    rw (p.1, p.2) (record { does = its.does; ends = its.ends; keeps = its.keeps; rooms = its.rooms })
 
-pub returns-in-Err-clause-does : goal.returns-in-Err-clause-does
-returns-in-Err-clause-does g c = Rejected c.in-Err.why refl c.in-Err.ensures.err refl
+pub returns-in_default : goal.returns-in_default
+returns-in_default g c =
+    let its = lacking fault.Lost (λ run. WritesGo run c.args.disk c.args.at c.args.count c.args.word) (λ run. writes_of run c.args.disk c.args.at c.args.count c.args.word) (not_lost (Unit {0})) c.args.history.now c.args.disk c.args.at c.args.count c.args.patience.now.left (g.S.Shelf.device c.args.shelf.now) c.ask.new.patience.left c.ask.new.history (g.S.Shelf.device c.ask.new.shelf) c.in_ok-buf.buf c.in_ok-buf.ensures.may.0 c.in_ok-buf.ensures.found c.in_ok-buf.ensures.same c.in_ok-buf.ensures.keeps in
+    record { does = its.does; ends = its.ends; keeps = its.keeps; rooms = its.rooms }
 
-pub returns-in-Err-clause-keeps : goal.returns-in-Err-clause-keeps
-returns-in-Err-clause-keeps g c =
-    let device = g.S.Shelf.device c.args.shelf.now in
-    range_none {X = Unit {0}} c.args.history.now.run c.args.disk c.args.patience.now.left (moment_of device c.args.history.now.facts) (Err c.in-Err.why) c.requires.ready
-    (rejected_rose (Unit {0}) device c.args.history.now c.args.disk c.args.at c.args.count c.args.patience.now.left device.counts device.counts c.in-Err.why c.in-Err.ensures.err)
-
-pub returns-in-Err-clause-ends : goal.returns-in-Err-clause-ends
-returns-in-Err-clause-ends g c =
-    let device = g.S.Shelf.device c.args.shelf.now in
-    raw_ends {X = Unit {0}} fault.Lost (WritesGo c.args.history.now.run c.args.disk c.args.at c.args.count c.args.word) (without_facts c.args.history.now) c.args.disk c.args.at c.args.count c.args.patience.now.left (moment_of device c.args.history.now.facts) (moment_of device c.args.history.now.facts)
-    (writes_of c.args.history.now.run c.args.disk c.args.at c.args.count c.args.word) (not_lost (Unit {0})) (Err c.in-Err.why) (Rejected c.in-Err.why refl c.in-Err.ensures.err refl)
-    (λ served. absurd (rejected_unserved (Unit {0}) device c.args.history.now c.args.disk c.args.at c.args.count c.in-Err.why c.in-Err.ensures.err served))
-    (rejected_rose (Unit {0}) device c.args.history.now c.args.disk c.args.at c.args.count c.args.patience.now.left device.counts device.counts c.in-Err.why c.in-Err.ensures.err)
+pub returns : goal.returns
+returns g c =
+    let its = went fault.Lost (λ run. WritesGo run c.args.disk c.args.at c.args.count c.args.word) (λ run. writes_of run c.args.disk c.args.at c.args.count c.args.word) (not_lost (Unit {0})) c.args.history.now c.args.disk c.args.at c.args.count c.args.patience.now.left (g.S.Shelf.device c.args.shelf.now) c.ask.new.patience.left c.ask.new.history (g.S.Shelf.device c.ask.new.shelf) c.in_ok-buf.buf c.in_ok-buf.ensures.may.0 c.in_ok-buf.ensures.found c.in_ok-buf.ensures.same c.in_ok-buf.ensures.keeps c.requires.ready c.write_pieces.new.patience.left c.write_pieces.new.history (g.S.Shelf.device c.write_pieces.new.shelf) c.write_pieces.result c.write_pieces.ensures.goes c.write_pieces.ensures.keeps c.write_pieces.ensures.rooms in
+    record { does = its.does; ends = its.ends; keeps = its.keeps; rooms = its.rooms }

@@ -4,7 +4,7 @@ use Rattle.lvm_vol.specs.Log.{Log}
 use Rattle.lvm_steps.specs.Requests.{at as moment_of}
 use Rattle.lvm_raw.specs.declared.fault.RawFault.{RawFault}
 use Rattle.lvm_raw.specs.declared.fault.RawFault.TheVariants as fault
-use Rattle.lvm_raw.specs.Asking.{HasRoom}
+use Rattle.lvm_raw.specs.Asking.{HasRoomForPieces}
 use Rattle.lvm_raw.specs.Keeping.{PieceKeeps, RangeKeeps}
 use Rattle.lvm_raw.specs.Pieces.{piece_end, WritesPiece, WritesGo}
 use Rattle.lvm_raw.proofs.Going.{at_first, one_more_to, all_went, was_broken_at, settled_ended}
@@ -22,7 +22,7 @@ loop-from-init g c =
     record {
       so_far = at_first {X = Unit {0}} (λ from n. WritesPiece h.run disk (c.args.word + (from - at)) from n) fault.Lost (λ n back done. done) h.run disk at end whole first tt (omega arith) c.requires.none c.requires.ready;
       rooms = refl;
-      room = λ within. subst (λ (k : ℕ). HasRoom h at k) (omega arith) c.requires.may.room;
+      room = λ within. subst (λ (k : ℕ). HasRoomForPieces h at k) (omega arith) c.requires.may.room;
       bytes = c.requires.room;
     }
 
@@ -59,8 +59,8 @@ loop-from-preserved g c =
       bytes = c.write_piece-how.ensures.room;
     }
 
-pub returns-in_err-back-clause-goes : goal.returns-in_err-back-clause-goes
-returns-in_err-back-clause-goes g c =
+pub returns-in_err-back : goal.returns-in_err-back
+returns-in_err-back g c =
     let h = c.args.history.now in
     let disk = c.args.disk in
     let at = c.args.at in
@@ -80,33 +80,12 @@ returns-in_err-back-clause-goes g c =
     let keeps = subst (λ (r : ℕ). PieceKeeps r disk left c.write_piece-how.new.patience.left now new how) run_is c.write_piece-how.ensures.keeps in
     let piece = written_by h.run disk (c.args.word + (from - at)) ((c.args.word + (from - at)) % 2 ^ 64) from (to - from) left now new how refl (subst (λ (r : ℕ). WritesPiece r disk ((c.args.word + (from - at)) % 2 ^ 64) from (to - from) left now new how) run_is c.write_piece-how.ensures.does) in
     let p = err_from_is_err_and c.from_residual.result c.from_residual.ensures.1 in
-    rw (p.1, p.2) (was_broken_at {X = Unit {0}} (λ from n. WritesPiece h.run disk (c.args.word + (from - at)) from n) fault.Lost (λ n back done. done) h.run disk at end whole first tt from left now tt c.loop-from.fault was.so_far (λ a b rose. rose) to left c.write_piece-how.new.patience.left new how c.settle.new.fault c.in_err-back.field-0.0 to_is within piece keeps c.in_err-back.ensures).0
+    let both = was_broken_at {X = Unit {0}} (λ from n. WritesPiece h.run disk (c.args.word + (from - at)) from n) fault.Lost (λ n back done. done) h.run disk at end whole first tt from left now tt c.loop-from.fault was.so_far (λ a b rose. rose) to left c.write_piece-how.new.patience.left new how c.settle.new.fault c.in_err-back.field-0.0 to_is within piece keeps c.in_err-back.ensures in
+    let rooms = c.write_piece-how.ensures.rooms ∙ ap (λ (l : Log). record l { facts = c.write_piece-how.new.history.facts }) was.rooms in
+    rw (p.1, p.2) (record { goes = both.0; keeps = both.1; rooms = rooms })
 
-pub returns-in_err-back-clause-keeps : goal.returns-in_err-back-clause-keeps
-returns-in_err-back-clause-keeps g c =
-    let h = c.args.history.now in
-    let disk = c.args.disk in
-    let at = c.args.at in
-    let end = at + c.args.count in
-    let whole = c.args.patience.now.left in
-    let first = moment_of (g.S.Shelf.device c.args.shelf.now) h.facts in
-    let from = c.loop-from.from in
-    let left = c.loop-from.patience.left in
-    let now = moment_of (g.S.Shelf.device c.loop-from.shelf) c.loop-from.history.facts in
-    let was = c.loop-from.invariant in
-    let to = c.piece_end-to.result in
-    let to_is : to ≡ piece_end from end = c.piece_end-to.ensures.is ∙ ap (λ (k : ℕ). piece_end from (at + k)) c.from.ensures in
-    let within : from < end = omega (arith, c.loop-from-test.true, c.from.ensures) in
-    let new = moment_of (g.S.Shelf.device c.write_piece-how.new.shelf) c.write_piece-how.new.history.facts in
-    let how = c.write_piece-how.result in
-    let run_is : c.loop-from.history.run ≡ h.run = ap (λ (l : Log). l.run) was.rooms in
-    let keeps = subst (λ (r : ℕ). PieceKeeps r disk left c.write_piece-how.new.patience.left now new how) run_is c.write_piece-how.ensures.keeps in
-    let piece = written_by h.run disk (c.args.word + (from - at)) ((c.args.word + (from - at)) % 2 ^ 64) from (to - from) left now new how refl (subst (λ (r : ℕ). WritesPiece r disk ((c.args.word + (from - at)) % 2 ^ 64) from (to - from) left now new how) run_is c.write_piece-how.ensures.does) in
-    let p = err_from_is_err_and c.from_residual.result c.from_residual.ensures.1 in
-    rw (p.1, p.2) (was_broken_at {X = Unit {0}} (λ from n. WritesPiece h.run disk (c.args.word + (from - at)) from n) fault.Lost (λ n back done. done) h.run disk at end whole first tt from left now tt c.loop-from.fault was.so_far (λ a b rose. rose) to left c.write_piece-how.new.patience.left new how c.settle.new.fault c.in_err-back.field-0.0 to_is within piece keeps c.in_err-back.ensures).1
-
-pub returns-clause-goes : goal.returns-clause-goes
-returns-clause-goes g c =
+pub returns : goal.returns
+returns g c =
     let h = c.args.history.now in
     let disk = c.args.disk in
     let at = c.args.at in
@@ -118,21 +97,10 @@ returns-clause-goes g c =
     let now = moment_of (g.S.Shelf.device c.loop-from.shelf) c.loop-from.history.facts in
     let was = c.loop-from.invariant in
     let past : end ≤ from = omega (arith, c.loop-from-test.false, c.from.ensures) in
-    subst (λ (r : Result (Unit {0}) RawFault). WritesGo h.run disk at c.args.count c.args.word first now r) (sym (c.answer.ensures))
-    (all_went {X = Unit {0}} (λ from n. WritesPiece h.run disk (c.args.word + (from - at)) from n) fault.Lost (λ n back done. done) h.run disk at end whole first tt from left now tt c.loop-from.fault was.so_far (λ a b rose. rose) past).0
-
-pub returns-clause-keeps : goal.returns-clause-keeps
-returns-clause-keeps g c =
-    let h = c.args.history.now in
-    let disk = c.args.disk in
-    let at = c.args.at in
-    let end = at + c.args.count in
-    let whole = c.args.patience.now.left in
-    let first = moment_of (g.S.Shelf.device c.args.shelf.now) h.facts in
-    let from = c.loop-from.from in
-    let left = c.loop-from.patience.left in
-    let now = moment_of (g.S.Shelf.device c.loop-from.shelf) c.loop-from.history.facts in
-    let was = c.loop-from.invariant in
-    let past : end ≤ from = omega (arith, c.loop-from-test.false, c.from.ensures) in
-    subst (λ (r : Result (Unit {0}) RawFault). RangeKeeps h.run disk whole left first now r) (sym (c.answer.ensures))
-    (all_went {X = Unit {0}} (λ from n. WritesPiece h.run disk (c.args.word + (from - at)) from n) fault.Lost (λ n back done. done) h.run disk at end whole first tt from left now tt c.loop-from.fault was.so_far (λ a b rose. rose) past).1
+    let is = sym (c.answer.ensures) in
+    let both = all_went {X = Unit {0}} (λ from n. WritesPiece h.run disk (c.args.word + (from - at)) from n) fault.Lost (λ n back done. done) h.run disk at end whole first tt from left now tt c.loop-from.fault was.so_far (λ a b rose. rose) past in
+    record {
+      goes = subst (λ (r : Result (Unit {0}) RawFault). WritesGo h.run disk at c.args.count c.args.word first now r) is both.0;
+      keeps = subst (λ (r : Result (Unit {0}) RawFault). RangeKeeps h.run disk whole left first now r) is both.1;
+      rooms = was.rooms;
+    }

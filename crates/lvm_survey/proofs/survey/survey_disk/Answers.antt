@@ -1,9 +1,9 @@
 use Rattle.std.proofs.Common.{◌≡◌, Some, slice_index_or, refl, sym, ◌∙◌, ap, arith}
 use Rattle.lvm_disk.specs.Device.{Media, image_of}
 use Rattle.lvm_survey.specs.Surveyed.{IsRead}
-use Rattle.lvm_survey.specs.Surveying.{IsArea}
-use Rattle.lvm_survey.proofs.Joining.{or_got, told-always, told-more}
-use Rattle.lvm_survey.proofs.Following.{only_none, rested_none, stop_of}
+use Rattle.lvm_area.specs.Reading.{IsArea}
+use Rattle.lvm_area.proofs.Joining.{or_got, told-always, told-more}
+use Rattle.lvm_area.proofs.Following.{only_none, rested_none, stop_of}
 use Rattle.lvm_survey.proofs.DiskRows.{empty_is_read, small_has_none, area_is_read, large_has, not_small}
 use Rattle.lvm_survey.proofs.survey.survey_disk.Goals as goal
 
@@ -32,42 +32,40 @@ pub read_area-requires-clause-large : goal.read_area-requires-clause-large
 read_area-requires-clause-large g c =
     let same : slice_index_or (g.S.Shelf.device c.args.shelf.now).sizes c.args.disk 0 ≡ c.sectors-sectors.result = or_got (g.S.Shelf.device c.args.shelf.now).sizes c.args.disk 0 c.sectors-sectors.result c.sectors-sectors.ensures in omega arith
 
-pub returns-in-Ok-row_of-clause-elsewhere : goal.returns-in-Ok-row_of-clause-elsewhere
-returns-in-Ok-row_of-clause-elsewhere g c d small = c.in-Ok.ensures.elsewhere d (not_small (g.S.Shelf.device c.args.shelf.now) c.args.disk c.sectors-sectors.result d c.sectors-sectors.ensures c.if-sectors-lt-DATA.false small)
+pub returns-in-Ok-clause-elsewhere : goal.returns-in-Ok-clause-elsewhere
+returns-in-Ok-clause-elsewhere g c d small = c.in-Ok.ensures.reads.elsewhere d (not_small (g.S.Shelf.device c.args.shelf.now) c.args.disk c.sectors-sectors.result d c.sectors-sectors.ensures c.if-sectors-lt-DATA.false small)
 
-pub returns-in-Ok-row_of-clause-gives : goal.returns-in-Ok-row_of-clause-gives
-returns-in-Ok-row_of-clause-gives g c =
+pub returns-in-Ok-clause-gives : goal.returns-in-Ok-clause-gives
+returns-in-Ok-clause-gives g c =
     let old = (g.S.Shelf.device c.args.shelf.now) in
     let disk = c.args.disk in
-    let row = c.in-Ok-row_of.row in
-    let says = c.in-Ok-row_of.ensures in
+    let row = c.row_of.result in
+    let says = c.row_of.ensures in
+    let read = c.in-Ok.ensures.reads.gives in
     let sectors = c.sectors-sectors.ensures in (
-      c.in-Ok.ensures.gives.rested,
+      read.0.rested,
       record {
         disk_is = says.is.0;
         sectors = sectors ∙ ap Some (sym says.is.1);
         valid = says.valid;
         homes = says.homes;
         failed = λ is. absurd (let e = says.is.2 in cc);
-        answered = λ is. c.in-Ok.ensures.gives.misses;
+        answered = λ is. read.0.misses;
         read = λ is. told-more (λ (m : Media). IsArea (m disk) c.in-Ok.area) (λ (m : Media). IsRead (image_of old.sizes m) disk row) old.media
             (λ m is. area_is_read (image_of old.sizes m) disk c.in-Ok.area row (large_has old.sizes m disk c.sectors-sectors.result sectors c.requires.there c.if-sectors-lt-DATA.false) is says.found)
             c.in-Ok.ensures.area;
         empty = λ is. absurd (let e = says.is.2 in cc);
       },
-      c.in-Ok.ensures.back,
+      read.1,
     )
 
-pub returns-in-Err-clause-elsewhere : goal.returns-in-Err-clause-elsewhere
-returns-in-Err-clause-elsewhere g c d small = c.in-Ok.ensures.elsewhere d (not_small (g.S.Shelf.device c.args.shelf.now) c.args.disk c.sectors-sectors.result d c.sectors-sectors.ensures c.if-sectors-lt-DATA.false small)
-
 pub returns-in-Err-Failed-clause-elsewhere : goal.returns-in-Err-Failed-clause-elsewhere
-returns-in-Err-Failed-clause-elsewhere g c d small = c.in-Err-Failed.ensures.elsewhere d (not_small (g.S.Shelf.device c.args.shelf.now) c.args.disk c.sectors-sectors.result d c.sectors-sectors.ensures c.if-sectors-lt-DATA.false small)
+returns-in-Err-Failed-clause-elsewhere g c d small = c.in-Err-Failed.ensures.reads.elsewhere d (not_small (g.S.Shelf.device c.args.shelf.now) c.args.disk c.sectors-sectors.result d c.sectors-sectors.ensures c.if-sectors-lt-DATA.false small)
 
 pub returns-in-Err-Stopped-clause-elsewhere : goal.returns-in-Err-Stopped-clause-elsewhere
-returns-in-Err-Stopped-clause-elsewhere g c d small = c.in-Err-Stopped.ensures.elsewhere d (not_small (g.S.Shelf.device c.args.shelf.now) c.args.disk c.sectors-sectors.result d c.sectors-sectors.ensures c.if-sectors-lt-DATA.false small)
+returns-in-Err-Stopped-clause-elsewhere g c d small = c.in-Err-Stopped.ensures.reads.elsewhere d (not_small (g.S.Shelf.device c.args.shelf.now) c.args.disk c.sectors-sectors.result d c.sectors-sectors.ensures c.if-sectors-lt-DATA.false small)
 
 pub returns-in-Err-Stopped-clause-gives : goal.returns-in-Err-Stopped-clause-gives
 returns-in-Err-Stopped-clause-gives g c =
-    let gives = rw c.in-Err-Stopped.field-0-is at c.in-Err-Stopped.ensures.gives in
-    rw c.in-Err-Stopped.field-0-is (stop_of c.args.disk c.args.buf.number c.args.patience.now.left (g.S.Shelf.device c.args.shelf.now) (g.S.Shelf.device c.read_area.new.shelf) c.in-Err-Stopped.why gives)
+    let reads = rw c.in-Err-Stopped.field-0-is at c.in-Err-Stopped.ensures.reads in
+    stop_of c.args.disk c.args.buf.number c.args.patience.now.left c.read_area.new.patience.left (g.S.Shelf.device c.args.shelf.now) (g.S.Shelf.device c.read_area.new.shelf) c.in-Err-Stopped.why reads

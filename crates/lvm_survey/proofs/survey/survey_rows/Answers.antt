@@ -13,29 +13,20 @@ loop-disk-init g c =
 
 pub loop-disk-preserved : goal.loop-disk-preserved
 loop-disk-preserved g c =
-    subst (λ (l : List SurveyRow). Rows (c.loop-disk.disk + 1) c.args.patience.now.left c.survey_disk.new.patience.left c.args.buf.number (g.S.Shelf.device c.args.shelf.now) (g.S.Shelf.device c.survey_disk.new.shelf) l c.in_ok-row.free.number) (sym c.in-Ok.ensures.items)
-    (rows_more c.loop-disk.disk c.args.patience.now.left c.loop-disk.patience.left c.survey_disk.new.patience.left c.args.buf.number (g.S.Shelf.device c.args.shelf.now) (g.S.Shelf.device c.loop-disk.shelf) (g.S.Shelf.device c.survey_disk.new.shelf) c.loop-disk.rows.items c.loop-disk.back.number c.loop-disk.invariant c.in_ok-row.ensures.only c.in_ok-row.ensures.elsewhere c.in_ok-row.row c.in_ok-row.free.number c.in_ok-row.ensures.gives.0 c.in_ok-row.ensures.gives.1 c.in_ok-row.ensures.gives.2)
+    let added = c.in_ok-back.ensures.gives in
+    subst (λ (l : List SurveyRow). Rows (c.loop-disk.disk + 1) c.args.patience.now.left c.add_row.new.patience.left c.args.buf.number (g.S.Shelf.device c.args.shelf.now) (g.S.Shelf.device c.add_row.new.shelf) l c.in_ok-back.back.number) (sym added.1.2)
+    (rows_more c.loop-disk.disk c.args.patience.now.left c.loop-disk.patience.left c.add_row.new.patience.left c.args.buf.number (g.S.Shelf.device c.args.shelf.now) (g.S.Shelf.device c.loop-disk.shelf) (g.S.Shelf.device c.add_row.new.shelf) c.loop-disk.rows.items c.loop-disk.back.number c.loop-disk.invariant c.in_ok-back.ensures.only c.in_ok-back.ensures.elsewhere added.1.0 c.in_ok-back.back.number added.0 added.1.1 added.2)
 
-pub returns-in_err-row-clause-only : goal.returns-in_err-row-clause-only
-returns-in_err-row-clause-only g c = rows_only c.loop-disk.disk c.args.patience.now.left c.loop-disk.patience.left c.survey_disk.new.patience.left c.args.buf.number (g.S.Shelf.device c.args.shelf.now) (g.S.Shelf.device c.loop-disk.shelf) (g.S.Shelf.device c.survey_disk.new.shelf) c.loop-disk.rows.items c.loop-disk.back.number c.loop-disk.invariant c.in_err-row.ensures.only c.in_err-row.ensures.elsewhere
+pub returns-in_err-back-clause-only : goal.returns-in_err-back-clause-only
+returns-in_err-back-clause-only g c = rows_only c.loop-disk.disk c.args.patience.now.left c.loop-disk.patience.left c.add_row.new.patience.left c.args.buf.number (g.S.Shelf.device c.args.shelf.now) (g.S.Shelf.device c.loop-disk.shelf) (g.S.Shelf.device c.add_row.new.shelf) c.loop-disk.rows.items c.loop-disk.back.number c.loop-disk.invariant c.in_err-back.ensures.only c.in_err-back.ensures.elsewhere
 
-pub returns-in_err-row-clause-small : goal.returns-in_err-row-clause-small
-returns-in_err-row-clause-small g c = rows_small c.loop-disk.disk c.args.patience.now.left c.loop-disk.patience.left c.survey_disk.new.patience.left c.args.buf.number (g.S.Shelf.device c.args.shelf.now) (g.S.Shelf.device c.loop-disk.shelf) (g.S.Shelf.device c.survey_disk.new.shelf) c.loop-disk.rows.items c.loop-disk.back.number c.loop-disk.invariant c.in_err-row.ensures.only c.in_err-row.ensures.elsewhere
+pub returns-in_err-back-clause-small : goal.returns-in_err-back-clause-small
+returns-in_err-back-clause-small g c = rows_small c.loop-disk.disk c.args.patience.now.left c.loop-disk.patience.left c.add_row.new.patience.left c.args.buf.number (g.S.Shelf.device c.args.shelf.now) (g.S.Shelf.device c.loop-disk.shelf) (g.S.Shelf.device c.add_row.new.shelf) c.loop-disk.rows.items c.loop-disk.back.number c.loop-disk.invariant c.in_err-back.ensures.only c.in_err-back.ensures.elsewhere
 
-pub returns-in_err-row-clause-gives : goal.returns-in_err-row-clause-gives
-returns-in_err-row-clause-gives g c =
+pub returns-in_err-back-clause-gives : goal.returns-in_err-back-clause-gives
+returns-in_err-back-clause-gives g c =
     let p = err_from_is_err_and c.from_residual.result c.from_residual.ensures.1 in
-    rw (p.1, p.2) (rows_stop c.loop-disk.disk c.args.patience.now.left c.loop-disk.patience.left c.survey_disk.new.patience.left c.args.buf.number (g.S.Shelf.device c.args.shelf.now) (g.S.Shelf.device c.loop-disk.shelf) (g.S.Shelf.device c.survey_disk.new.shelf) c.loop-disk.rows.items c.loop-disk.back.number c.loop-disk.invariant c.in_err-row.field-0.0 c.in_err-row.ensures.gives)
-
-pub returns-in_default-clause-only : goal.returns-in_default-clause-only
-returns-in_default-clause-only g c = rows_only c.loop-disk.disk c.args.patience.now.left c.loop-disk.patience.left c.survey_disk.new.patience.left c.args.buf.number (g.S.Shelf.device c.args.shelf.now) (g.S.Shelf.device c.loop-disk.shelf) (g.S.Shelf.device c.survey_disk.new.shelf) c.loop-disk.rows.items c.loop-disk.back.number c.loop-disk.invariant c.in_ok-row.ensures.only c.in_ok-row.ensures.elsewhere
-
-pub returns-in_default-clause-small : goal.returns-in_default-clause-small
-returns-in_default-clause-small g c = rows_small c.loop-disk.disk c.args.patience.now.left c.loop-disk.patience.left c.survey_disk.new.patience.left c.args.buf.number (g.S.Shelf.device c.args.shelf.now) (g.S.Shelf.device c.loop-disk.shelf) (g.S.Shelf.device c.survey_disk.new.shelf) c.loop-disk.rows.items c.loop-disk.back.number c.loop-disk.invariant c.in_ok-row.ensures.only c.in_ok-row.ensures.elsewhere
-
-pub returns-in_default-clause-gives : goal.returns-in_default-clause-gives
-returns-in_default-clause-gives g c =
-    let more = rows_more c.loop-disk.disk c.args.patience.now.left c.loop-disk.patience.left c.survey_disk.new.patience.left c.args.buf.number (g.S.Shelf.device c.args.shelf.now) (g.S.Shelf.device c.loop-disk.shelf) (g.S.Shelf.device c.survey_disk.new.shelf) c.loop-disk.rows.items c.loop-disk.back.number c.loop-disk.invariant c.in_ok-row.ensures.only c.in_ok-row.ensures.elsewhere c.in_ok-row.row c.in_ok-row.free.number c.in_ok-row.ensures.gives.0 c.in_ok-row.ensures.gives.1 c.in_ok-row.ensures.gives.2 in (more.rested, more.back_is)
+    rw (p.1, p.2) (rows_stop c.loop-disk.disk c.args.patience.now.left c.loop-disk.patience.left c.add_row.new.patience.left c.args.buf.number (g.S.Shelf.device c.args.shelf.now) (g.S.Shelf.device c.loop-disk.shelf) (g.S.Shelf.device c.add_row.new.shelf) c.loop-disk.rows.items c.loop-disk.back.number c.loop-disk.invariant c.in_err-back.field-0.0 c.in_err-back.ensures.gives)
 
 pub returns-clause-gives : goal.returns-clause-gives
 returns-clause-gives g c =

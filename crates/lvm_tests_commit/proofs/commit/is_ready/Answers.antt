@@ -14,7 +14,7 @@ use Rattle.lvm_stale.specs.Table.{has_row}
 use Rattle.lvm_status.specs.Members.{HasItsRows}
 use Rattle.lvm_status.specs.Update.{Stored}
 use Rattle.lvm_status.proofs.Sound.{and_left}
-use Rattle.lvm_quorum.specs.Written.{HasRoom}
+use Rattle.lvm_write.specs.Written.{HasRoom}
 use Rattle.lvm_commit.specs.Settling.{there, IsOf}
 use Rattle.lvm_tests_commit.proofs.commit.is_ready.Goals as goal
 

@@ -1,28 +1,50 @@
-use Rattle.std.proofs.Common.{refl, ap}
-use Rattle.std.specs.Prelude.{not}
+use Rattle.std.proofs.Common.{Result, Ok, Err, refl, sym, subst}
+use Rattle.std.specs.Prelude.{IfOk}
+use Rattle.lvm_num.specs.declared.Memory.{Memory}
 use Rattle.lvm_num.specs.declared.record.Stamp.{Stamp}
+use Rattle.lvm_num.specs.declared.status.Status.{Status}
+use Rattle.lvm_num.specs.Descriptor.{IsValid}
+use Rattle.lvm_num.specs.Disks.{has}
+use Rattle.lvm_num.specs.Status.{IsValidStatus}
+use Rattle.lvm_quorum.specs.declared.choice.Choice.{Choice}
+use Rattle.lvm_write.specs.declared.homes.Homes.{Homes}
+use Rattle.lvm_core.specs.declared.parts.Room.{Room}
+use Rattle.lvm_core.specs.Starting.{IsOneGroup}
+use Rattle.lvm_next.specs.Next.{IsNextStatus}
+use Rattle.lvm_varyon.specs.declared.plan.Plan.{Plan}
+use Rattle.lvm_varyon.specs.Parts.{IsPlanFor, IsPlanOfChoice}
 use Rattle.lvm_varyon.proofs.plan.plan_for.Goals as goal
 
 no_stamp : Stamp
 no_stamp = record { epoch = 0; seq = 0 }
 
-pub encode-requires-2 : goal.encode-requires-2
-encode-requires-2 c = (c.in_ok-next.ensures no_stamp).valid
+-- the plan with the next status is the one of the choice
+planned_for : (choice : Choice) (next : Status) (homes : Homes) (room : Room) → ((stamp : Stamp) → IsNextStatus choice.descriptor (has choice.answering) (record { stamp = stamp; value = choice.status }) next)
+    → (r : Result Plan Memory) → IfOk r (IsPlanOfChoice (record choice { status = next }) homes room) → IfOk r (IsPlanFor choice homes room)
+planned_for choice next homes room next_is (Err why) is = tt
+planned_for choice next homes room next_is (Ok plan) is = record {
+  next = next;
+  next_is = next_is;
+  descriptor = is.descriptor;
+  status = is.status;
+  targets = is.targets;
+  forget = is.forget;
+  same_homes = is.same_homes;
+  parts = is.parts;
+}
 
-pub new-requires-clause-status : goal.new-requires-clause-status
-new-requires-clause-status c = (c.in_ok-next.ensures no_stamp).valid
+pub plan_with-requires-clause-descriptor : goal.plan_with-requires-clause-descriptor
+plan_with-requires-clause-descriptor c = subst (λ (x : Choice). IsValid x.descriptor) (sym c.with_status.ensures) c.requires.descriptor
 
-pub new-requires-clause-group : goal.new-requires-clause-group
-new-requires-clause-group c = let next = c.in_ok-next.ensures no_stamp in record { id = next.id; rows = next.rows }
+pub plan_with-requires-clause-status : goal.plan_with-requires-clause-status
+plan_with-requires-clause-status c = subst (λ (x : Choice). IsValidStatus x.status) (sym c.with_status.ensures) (c.in_ok-next.ensures no_stamp).valid
+
+pub plan_with-requires-clause-group : goal.plan_with-requires-clause-group
+plan_with-requires-clause-group c =
+    let next = c.in_ok-next.ensures no_stamp in
+    subst (λ (x : Choice). IsOneGroup x.descriptor x.status) (sym c.with_status.ensures) (record { id = next.id; rows = next.rows })
 
 pub returns : goal.returns
-returns c = record {
-  next = c.in_ok-next.next;
-  next_is = c.in_ok-next.ensures;
-  descriptor = c.in_ok-descriptor.ensures;
-  status = c.in_ok-status.ensures;
-  targets = refl;
-  forget = ap not c.has_active-forget.ensures;
-  same_homes = refl;
-  parts = c.in_ok-parts.ensures;
-}
+returns c =
+    planned_for c.args.choice c.in_ok-next.next c.args.homes c.args.room c.in_ok-next.ensures c.plan_with.result
+    (subst (λ (x : Choice). IfOk c.plan_with.result (IsPlanOfChoice x c.args.homes c.args.room)) c.with_status.ensures c.plan_with.ensures)

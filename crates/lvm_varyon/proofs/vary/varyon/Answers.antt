@@ -3,7 +3,7 @@ use Rattle.lvm_disk.specs.Device.{Device}
 use Rattle.lvm_disk.specs.Paths.{Here}
 use Rattle.lvm_vol.specs.Log.{Log, spare_entries}
 use Rattle.lvm_stamps.proofs.Clock.{all_is_behind_next}
-use Rattle.lvm_quorum.proofs.Transfers.{spends_none}
+use Rattle.lvm_write.proofs.Transfers.{spends_none}
 use Rattle.lvm_core.specs.Coming.{BringsOn}
 use Rattle.lvm_core.specs.Held.{StartsHeld}
 use Rattle.lvm_core.specs.declared.refused.Cause.TheVariants as cause
@@ -68,7 +68,7 @@ returns-in-Ok-clause-leaves g c =
       keeps = λ clock. on_keeps _ _ c.args.history c.args.name c.args.moment c.args.room c.in-Ok.parts c.in-Ok.homes c.start.result.1 c.in-Ok.ensures.gives c.start.ensures.core (c.in-Ok.ensures.kept (ahead_of was.run c.args.moment old was.facts clock)) clock;
       behind = λ clock. c.in-Ok.ensures.behind (ahead_of was.run c.args.moment old was.facts clock);
       calm = on_calm old new was c.args.name c.args.moment c.args.room c.in-Ok.parts c.in-Ok.homes c.start.result.1 c.in-Ok.ensures.gives c.start.ensures.core;
-      spends = record { falls = c.in-Ok.ensures.patience; waits = c.in-Ok.ensures.waited };
+      spends = c.in-Ok.ensures.spends;
     })
 
 -- ---- it isn't
@@ -83,5 +83,5 @@ returns-in-Err-clause-leaves g c =
       keeps = λ clock. refused_keeps c.in-Err.cause was old new (c.in-Err.ensures.kept (ahead_of was.run c.args.moment old was.facts clock));
       behind = λ clock. c.in-Err.ensures.behind (ahead_of was.run c.args.moment old was.facts clock);
       calm = refused_calm c.in-Err.cause was old new;
-      spends = record { falls = c.in-Err.ensures.patience; waits = c.in-Err.ensures.waited };
+      spends = c.in-Err.ensures.spends;
     }))

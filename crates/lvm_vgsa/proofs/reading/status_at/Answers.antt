@@ -6,5 +6,5 @@ use Rattle.lvm_vgsa.proofs.reading.status_at.Goals as goal
 pub returns-then-not-is_empty : goal.returns-then-not-is_empty
 unfolding status_by_parts
 returns-then-not-is_empty c =
-    rw (c.bad_at.ensures, c.in_ok-version.ensures.read, c.in_ok-rows.ensures.read, c.in_ok-dirty.ensures.read)
+    rw (c.in_ok-version.ensures, c.in_ok-rows.ensures, c.in_ok-dirty.ensures)
     (more_follow _ _ _ (sym c.if-not-is_empty.ensures))

@@ -4,7 +4,7 @@ use Rattle.lvm_core.specs.State.{Core, state}
 use Rattle.lvm_core.specs.Fields.{core_of}
 use Rattle.lvm_core.specs.Settled.{IsSettled}
 use Rattle.lvm_core.proofs.Commits.{may_settle_now}
-use Rattle.lvm_core.proofs.Committing.{descriptor_sound, descriptor_most, descriptor_ends, descriptor_leaves}
+use Rattle.lvm_core.proofs.Committing.{descriptor_sound, descriptor_most, descriptor_ends, descriptor_fails, descriptor_leaves}
 use Rattle.lvm_core.proofs.driver.Driver.commit.Goals as goal
 
 pub commit-requires-clause-may : goal.commit-requires-clause-may
@@ -39,10 +39,17 @@ returns-clause-ends g c = rw (← c.self.view_is) (descriptor_ends c.args.next c
     (subst (λ (v : g.row.S.Denot × Core). IsAlike c.args.next v.1.descriptor) (sym c.self.view_is) c.requires.alike))
 
 pub returns-clause-left : goal.returns-clause-left
-returns-clause-left g c = rw (← c.self.view_is) c.commit.ensures.does.left
+returns-clause-left g c = rw (← c.self.view_is) c.commit.ensures.does.settles.leaves.left
 
 pub returns-clause-leaves : goal.returns-clause-leaves
 returns-clause-leaves g c = rw (← c.self.view_is) (descriptor_leaves c.args.next c.args.patience.now.left c.commit.new.patience.left
+    (state (g.S.Shelf.device c.self.inside.shelf) (core_of c.self.inside.session))
+    (state (g.S.Shelf.device c.commit.new.shelf) (core_of c.commit.new.self))
+    c.commit.result c.commit.ensures.does (subst (λ (v : g.row.S.Denot × Core). IsSettled v.1) (sym c.self.view_is) c.requires.settled) c.self.invariant.2
+    (subst (λ (v : g.row.S.Denot × Core). IsAlike c.args.next v.1.descriptor) (sym c.self.view_is) c.requires.alike))
+
+pub returns-clause-fails : goal.returns-clause-fails
+returns-clause-fails g c = rw (← c.self.view_is) (descriptor_fails c.args.next c.args.patience.now.left c.commit.new.patience.left
     (state (g.S.Shelf.device c.self.inside.shelf) (core_of c.self.inside.session))
     (state (g.S.Shelf.device c.commit.new.shelf) (core_of c.commit.new.self))
     c.commit.result c.commit.ensures.does (subst (λ (v : g.row.S.Denot × Core). IsSettled v.1) (sym c.self.view_is) c.requires.settled) c.self.invariant.2

@@ -4,7 +4,7 @@ use Rattle.lvm_core.specs.Fields.{core_of}
 use Rattle.lvm_core.specs.Settled.{IsSettled}
 use Rattle.lvm_core.specs.Committing.{AreUnused}
 use Rattle.lvm_core.proofs.Commits.{may_settle_now, unused_markable}
-use Rattle.lvm_core.proofs.Stating.{status_sound, status_most, status_ends_so, nothing_done, restates, status_leaves}
+use Rattle.lvm_core.proofs.Stating.{status_sound, status_most, status_ends_so, status_fails, nothing_done, restates, status_leaves}
 use Rattle.lvm_core.proofs.driver.Driver.set_status.Goals as goal
 
 pub set_status-requires-clause-may : goal.set_status-requires-clause-may
@@ -56,3 +56,9 @@ returns-clause-leaves g c = rw (← c.self.view_is) (status_leaves c.args.stale.
     (state (g.S.Shelf.device c.set_status.new.shelf) (core_of c.set_status.new.self))
     c.set_status.result c.set_status.ensures.does (subst (λ (v : g.row.S.Denot × Core). IsSettled v.1) (sym c.self.view_is) c.requires.settled) c.self.invariant.2
     (subst (λ (v : g.row.S.Denot × Core). AreUnused v.1.descriptor (c.args.stale.now ++ c.args.fresh.now)) (sym c.self.view_is) c.requires.unused))
+
+pub returns-clause-fails : goal.returns-clause-fails
+returns-clause-fails g c = rw (← c.self.view_is) (status_fails c.args.stale.now c.args.fresh.now c.args.patience.now.left c.set_status.new.patience.left
+    (state (g.S.Shelf.device c.self.inside.shelf) (core_of c.self.inside.session))
+    (state (g.S.Shelf.device c.set_status.new.shelf) (core_of c.set_status.new.self))
+    c.set_status.result c.set_status.ensures.does (subst (λ (v : g.row.S.Denot × Core). IsSettled v.1) (sym c.self.view_is) c.requires.settled) c.self.invariant.2)

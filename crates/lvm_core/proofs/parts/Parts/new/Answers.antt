@@ -8,12 +8,12 @@ invariant_of-result c =
     let d = c.args.choice.descriptor in
     let parts : Reserved = record {
       descriptor = d;
-      requests = c.in_ok-taken.taken.requests.items;
+      requests = c.in_ok-taken.taken.tables.requests.items;
       most = c.args.room.table;
-      queue = c.in_ok-taken.taken.queue;
-      pool = c.in_ok-taken.taken.pool;
-      status = c.in_ok-taken.taken.updater;
-      cache = c.in_ok-taken.taken.cache;
+      queue = c.in_ok-taken.taken.tables.queue;
+      pool = c.in_ok-taken.taken.buffers.pool;
+      status = c.in_ok-taken.taken.records.updater;
+      cache = c.in_ok-taken.taken.records.cache;
     } in
     let its : IsReservedFor d c.args.choice.status c.args.room parts = record {
       descriptor = refl;

@@ -10,7 +10,8 @@ use Rattle.lvm_core.proofs.Committing.{may_next}
 use Rattle.lvm_core.specs.declared.session.Session.{Session}
 use Rattle.lvm_core.specs.State.{state}
 use Rattle.lvm_core.specs.Fields.{core_of}
-use Rattle.lvm_core.proofs.Ends.{descriptor_numbered, is_out, core_ends_well, core_ends_badly, status_ends, commits_descriptor}
+use Rattle.lvm_core.specs.Steps.{CoreEnds}
+use Rattle.lvm_core.proofs.Ends.{descriptor_numbered, is_out, core_ends_with, status_ends, commits_descriptor}
 use Rattle.lvm_core.proofs.Sizes.{descriptor_fits}
 use Rattle.lvm_core.proofs.session.Session.commit.Goals as goal
 
@@ -30,30 +31,30 @@ commit_descriptor-settled-requires-clause-describes g c =
     subst (λ (l : List ℕ). descriptor_of l ≡ Ok c.into_parts-descriptor.result.0) (sym (c.as_slice.ensures ∙ c.into_parts-descriptor.ensures.bytes))
     (subst (λ (d : Descriptor). descriptor_of (descriptor_bytes c.args.next) ≡ Ok d) (sym c.into_parts-descriptor.ensures.descriptor) (spelled_is_read c.args.next c.into_parts-descriptor.ensures.valid))
 
-pub go_on-requires-clause-out : goal.go_on-requires-clause-out
-go_on-requires-clause-out g c =
+pub go_on_with-requires-clause-out : goal.go_on_with-requires-clause-out
+go_on_with-requires-clause-out g c =
     let how = c.commit_descriptor-settled.result in
     is_out how c.args.self.now.pool c.take_buffer-buf.new.self.pool (ap (λ (s : Session). s.pool) c.take_buffer-buf.ensures.taken) c.requires.fitting.a_buffer
     (descriptor_numbered c.as_slice.result.now c.take_buffer-buf.result.number c.args.patience.now.left c.take_buffer-buf.new.self.updater c.commit_descriptor-settled.new.updater c.take_buffer-buf.new.self.homes c.commit_descriptor-settled.new.homes (g.S.Shelf.device c.args.shelf.now) (g.S.Shelf.device c.commit_descriptor-settled.new.shelf) how
     c.take_buffer-buf.ensures.number c.commit_descriptor-settled.ensures.ends)
 
-pub returns-in-Ok-clause-does : goal.returns-in-Ok-clause-does
-returns-in-Ok-clause-does g c =
+pub returns-clause-does : goal.returns-clause-does
+returns-clause-does g c =
     let self = c.args.self.now in
     let taken = c.take_buffer-buf.new.self in
     let wrote = c.commit_descriptor-settled in
     let how = wrote.result in
-    let next = c.into_parts-descriptor.result.0 in
     let mid = core_of (record taken { updater = wrote.new.updater; homes = wrote.new.homes }) in
-    let left = core_of c.go_on.new.self in
+    let left = core_of c.go_on_with.new.self in
     let mid_is = ap (λ (s : Session). core_of (record s { updater = wrote.new.updater; homes = wrote.new.homes })) c.take_buffer-buf.ensures.taken in
     let before = g.S.Shelf.device c.args.shelf.now in
     let after = g.S.Shelf.device wrote.new.shelf in
     let content = c.as_slice.result.now in
     let number = descriptor_numbered content c.take_buffer-buf.result.number c.args.patience.now.left taken.updater wrote.new.updater taken.homes wrote.new.homes before after how c.take_buffer-buf.ensures.number wrote.ensures.ends in
-    let same = status_ends mid left how _ c.in-Ok.ensures.ends in
-    commits_descriptor c.args.next c.as_slice.result.now taken.updater wrote.new.updater taken.homes wrote.new.homes c.take_buffer-buf.result.number c.args.patience.now.left wrote.new.patience.left
-    (state (g.S.Shelf.device c.args.shelf.now) (core_of self)) (state (g.S.Shelf.device wrote.new.shelf) (record left { descriptor = next })) how _
+    let ends = c.go_on_with.ensures.ends in
+    let same = status_ends c.into_parts-descriptor.result.0 mid left how c.go_on_with.result ends in
+    commits_descriptor c.args.next content taken.updater wrote.new.updater taken.homes wrote.new.homes c.take_buffer-buf.result.number c.args.patience.now.left wrote.new.patience.left
+    (state before (core_of self)) (state after left) how c.go_on_with.result
     c.into_parts-descriptor.ensures.valid (c.as_slice.ensures ∙ c.into_parts-descriptor.ensures.bytes) (ap (λ (s : Session). s.updater) c.take_buffer-buf.ensures.taken) (ap (λ (s : Session). s.homes) c.take_buffer-buf.ensures.taken) c.take_buffer-buf.ensures.number same.0 same.1
     (record {
       ends = wrote.ensures.ends;
@@ -61,30 +62,5 @@ returns-in-Ok-clause-does g c =
       finds = wrote.ensures.finds;
       kept = wrote.ensures.kept;
     })
-    (subst (λ d. Rattle.lvm_core.specs.Steps.CoreEnds d (core_of self) (record left { descriptor = next }) how (Rattle.std.specs.Prelude.Ok tt)) c.into_parts-descriptor.ensures.descriptor
-    (core_ends_well (core_of self) mid left mid_is c.requires.buffers next how number c.in-Ok.ensures.ends))
-
-pub returns-in-Err-clause-does : goal.returns-in-Err-clause-does
-returns-in-Err-clause-does g c =
-    let self = c.args.self.now in
-    let taken = c.take_buffer-buf.new.self in
-    let wrote = c.commit_descriptor-settled in
-    let how = wrote.result in
-    let mid = core_of (record taken { updater = wrote.new.updater; homes = wrote.new.homes }) in
-    let left = core_of c.go_on.new.self in
-    let mid_is = ap (λ (s : Session). core_of (record s { updater = wrote.new.updater; homes = wrote.new.homes })) c.take_buffer-buf.ensures.taken in
-    let before = g.S.Shelf.device c.args.shelf.now in
-    let after = g.S.Shelf.device wrote.new.shelf in
-    let content = c.as_slice.result.now in
-    let number = descriptor_numbered content c.take_buffer-buf.result.number c.args.patience.now.left taken.updater wrote.new.updater taken.homes wrote.new.homes before after how c.take_buffer-buf.ensures.number wrote.ensures.ends in
-    let same = status_ends mid left how _ c.in-Err.ensures.ends in
-    commits_descriptor c.args.next c.as_slice.result.now taken.updater wrote.new.updater taken.homes wrote.new.homes c.take_buffer-buf.result.number c.args.patience.now.left wrote.new.patience.left
-    (state (g.S.Shelf.device c.args.shelf.now) (core_of self)) (state (g.S.Shelf.device wrote.new.shelf) left) how _
-    c.into_parts-descriptor.ensures.valid (c.as_slice.ensures ∙ c.into_parts-descriptor.ensures.bytes) (ap (λ (s : Session). s.updater) c.take_buffer-buf.ensures.taken) (ap (λ (s : Session). s.homes) c.take_buffer-buf.ensures.taken) c.take_buffer-buf.ensures.number same.0 same.1
-    (record {
-      ends = wrote.ensures.ends;
-      leaves = subst (λ (d : Descriptor). CommitLeaves d (IsOfCommit content taken.updater wrote.new.updater) c.args.patience.now.left wrote.new.patience.left taken.updater wrote.new.updater before after) c.into_parts-descriptor.ensures.descriptor wrote.ensures.leaves;
-      finds = wrote.ensures.finds;
-      kept = wrote.ensures.kept;
-    })
-    (core_ends_badly (core_of self) mid left mid_is c.requires.buffers c.args.next c.in-Err.fault how number c.in-Err.ensures.ends)
+    (subst (λ (d : Descriptor). CoreEnds d (core_of self) left how c.go_on_with.result) c.into_parts-descriptor.ensures.descriptor
+    (core_ends_with (core_of self) mid left mid_is c.requires.buffers c.into_parts-descriptor.result.0 how c.go_on_with.result number ends))

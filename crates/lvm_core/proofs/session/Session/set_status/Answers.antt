@@ -34,7 +34,7 @@ returns-clause-does g c =
     let after = g.S.Shelf.device wrote.new.shelf in
     let number = status_numbered c.take_buffer-buf.result.number c.args.patience.now.left taken.updater wrote.new.updater taken.homes wrote.new.homes before after how c.take_buffer-buf.ensures.number wrote.ensures.ends in
     let ends = c.go_on.ensures.ends in
-    let same = status_ends mid left how c.go_on.result ends in
+    let same = status_ends mid.descriptor mid left how c.go_on.result ends in
     commits_marks c.args.stale.now c.args.fresh.now taken.updater wrote.new.updater taken.homes wrote.new.homes c.take_buffer-buf.result.number c.args.patience.now.left wrote.new.patience.left
     (state (g.S.Shelf.device c.args.shelf.now) (core_of self)) (state (g.S.Shelf.device wrote.new.shelf) left) how c.go_on.result
     (subst (λ (u : Stored). IsMarked c.args.stale.now c.args.fresh.now self.updater u) (sym (ap (λ (s : Session). s.updater) c.take_buffer-buf.ensures.taken)) c.mark.ensures)

@@ -1,9 +1,10 @@
 use Rattle.std.proofs.Common.{List, ap, ◌∙◌}
 use Rattle.std.specs.List.{list_any}
-use Rattle.lvm_history.specs.declared.row.Ask.{Ask}
-use Rattle.lvm_history.specs.declared.row.Row.{Row}
+use Rattle.lvm_checker.specs.declared.row.Ask.{Ask}
+use Rattle.lvm_checker.specs.declared.row.Row.{Row}
 use Rattle.lvm_history.specs.Opened.{kept_of}
-use Rattle.lvm_history.specs.Rows.{awaited_by, ask_found, is_landing}
+use Rattle.lvm_checker.specs.Rows.{is_landing}
+use Rattle.lvm_history.specs.Keeping.{awaited_by, ask_found}
 use Rattle.lvm_history.proofs.Entering.{awaited_kept}
 use Rattle.lvm_history.proofs.history.History.awaited.Goals as goal
 

@@ -1,10 +1,10 @@
 use Rattle.std.proofs.Common.{◌≡◌, ◌↔◌, ℕ, IsTrue, List, ap, ◌∙◌, subst}
-use Rattle.lvm_history.specs.declared.row.Ask.{Ask}
-use Rattle.lvm_history.specs.declared.row.Row.{Row}
+use Rattle.lvm_checker.specs.declared.row.Ask.{Ask}
+use Rattle.lvm_checker.specs.declared.row.Row.{Row}
 use Rattle.lvm_vol.specs.Facts.{Fact}
 use Rattle.lvm_vol.specs.Log.{Log}
 use Rattle.lvm_vol.specs.May.{known, May}
-use Rattle.lvm_history.specs.Rows.{facts_of}
+use Rattle.lvm_checker.specs.Rows.{facts_of}
 use Rattle.lvm_history.proofs.history.History.may_of.Goals as goal
 
 pub returns : goal.returns

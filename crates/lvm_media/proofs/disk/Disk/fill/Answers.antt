@@ -1,10 +1,12 @@
 use Rattle.std.proofs.Common.{◌+◌, length, arith, ap}
-use Rattle.lvm_media.proofs.Filling.{one_filled, read_is}
+use Rattle.lvm_media.specs.Pieces.{joined}
+use Rattle.lvm_media.proofs.Filling.{one_filled}
 use Rattle.lvm_media.proofs.disk.Disk.fill.Goals as goal
+
+pub overflow_add-first : goal.overflow_add-first
+overflow_add-first c = let long = c.self.invariant.long in let few = c.self.invariant.counted in let same = ap length c.self.view_is in omega (arith, long, few, same, c.requires.fits, c.loop-i-test.true)
 
 pub loop-i-preserved : goal.loop-i-preserved
 loop-i-preserved c =
-    let at = c.args.first + c.loop-i.i in
-    let sectors = c.self.inside.sectors.items in
-    one_filled sectors c.args.first c.args.count c.args.buf.now c.loop-i.buf c.set_sector.new.self c.loop-i.i c.index.result.now c.loop-i.invariant c.loop-i-test.true (omega arith)
-    (read_is sectors at c.index.result.now c.index.ensures (omega (arith, ap length c.self.view_is))) c.set_sector.ensures.set
+    one_filled (joined c.self.inside.pieces.items) c.args.first c.args.count c.args.buf.now c.loop-i.buf c.set_sector.new.self c.loop-i.i c.sector_of.result.now c.loop-i.invariant c.loop-i-test.true (omega arith)
+    c.sector_of.ensures c.set_sector.ensures.set

@@ -1,0 +1,11 @@
+//! What is kept of a history, row by row, and what it allows: which values a block may have after the rows, and
+//! whether they are legal.
+#![tactic(auto)]
+
+mod fits;
+mod row;
+mod values;
+
+pub use fits::{has_landed, is_legal, is_taken};
+pub use row::{Ask, Row};
+pub use values::{Block, is_allowed};

@@ -1,0 +1,77 @@
+-- A set of those below a number that pass a test.
+use Rattle.std.proofs.Common.{◌≡◌, inl, inr, ℕ, ◌+◌, ◌<◌, ◌≤◌, Bool, true, false, ◌&&◌, ◌||◌, refl, sym, ap, ◌∙◌, arith}
+use Rattle.std.specs.Prelude.{◌==◌, nat_lt}
+use Rattle.std.proofs.lemmas.Bool.{cases_lt}
+use Rattle.std.proofs.lemmas.Bool.Decides.{nat_tests, eqb_tells}
+
+-- ---- tests of numbers
+
+or_right : (a b : Bool) → b ≡ true → a || b ≡ true
+or_right true b e = refl
+or_right false b e = e
+
+or_left : (a b : Bool) → b ≡ false → a || b ≡ a
+or_left true b e = refl
+or_left false b e = e
+
+both : (a b : Bool) → a ≡ true → b ≡ true → a && b ≡ true
+both true b e f = f
+both false b e f = e
+
+pub neither : (a b : Bool) → b ≡ false → a && b ≡ false
+neither true b e = e
+neither false b e = refl
+
+pub is_other : (d n : ℕ) → (d ≡ n → ⊥) → (d == n) ≡ false
+is_other d n differ = grind (arith, nat_tests)
+
+pub or_itself : (b : Bool) (n : ℕ) → (b || n == n) ≡ true
+or_itself b n = or_right b (n == n) (itself n)
+  where
+    itself : (n : ℕ) → (n == n) ≡ true
+    itself n = grind (arith, nat_tests)
+
+pub or_other : (b : Bool) (d n : ℕ) → (d ≡ n → ⊥) → (b || d == n) ≡ b
+or_other b d n differ = or_left b (d == n) (is_other d n differ)
+
+pub lt_none : (d : ℕ) → nat_lt d 0 ≡ false
+lt_none d = grind (arith, nat_tests)
+
+pub lt_not : (d i : ℕ) → d ≡ i → nat_lt d i ≡ false
+lt_not d i e = grind (arith, nat_tests)
+
+pub lt_same : (d i : ℕ) → d ≡ i → nat_lt d (i + 1) ≡ true
+lt_same d i e = grind (arith, nat_tests)
+
+pub lt_other : (d i : ℕ) → (d ≡ i → ⊥) → nat_lt d (i + 1) ≡ nat_lt d i
+lt_other d i e = grind (arith, nat_tests)
+
+pub lt_all : (d n : ℕ) → d < n → nat_lt d n ≡ true
+lt_all d n e = grind (arith, nat_tests)
+
+-- ---- sets
+
+-- those below i that pass, of a set that is taken in order
+abbrev pub PassBelow : (ℕ → Bool) → ℕ → (ℕ → Bool) → Type 0
+PassBelow test i set = (d : ℕ) → set d ≡ nat_lt d i && test d
+
+-- the next one passes, and goes in
+pub one_taken : (test set more : ℕ → Bool) (i : ℕ) → PassBelow test i set → test i ≡ true → ((d : ℕ) → more d ≡ set d || d == i) → PassBelow test (i + 1) more
+one_taken test set more i old own new d = elim (eqb_tells d i) [
+  | inl same ↦ new d ∙ or_right (set d) (d == i) same.0 ∙ sym (both (nat_lt d (i + 1)) (test d) (lt_same d i same.1) (ap test same.1 ∙ own))
+  | inr differ ↦ new d ∙ or_left (set d) (d == i) differ.0 ∙ old d ∙ ap (λ b. b && test d) (sym (lt_other d i differ.1))
+]
+
+-- or it doesn't, and the set stays
+pub one_left : (test set : ℕ → Bool) (i : ℕ) → PassBelow test i set → test i ≡ false → PassBelow test (i + 1) set
+one_left test set i old own d = elim (eqb_tells d i) [
+  | inl same ↦ old d ∙ neither (nat_lt d i) (test d) (ap test same.1 ∙ own) ∙ sym (neither (nat_lt d (i + 1)) (test d) (ap test same.1 ∙ own))
+  | inr differ ↦ old d ∙ ap (λ b. b && test d) (sym (lt_other d i differ.1))
+]
+
+-- where none passes behind a number, the set is of all that pass
+pub all_pass : (test set : ℕ → Bool) (n : ℕ) → ((d : ℕ) → n ≤ d → test d ≡ false) → PassBelow test n set → (d : ℕ) → set d ≡ test d
+all_pass test set n past pass d = elim (cases_lt d n) [
+  | inl less ↦ pass d ∙ ap (λ (b : Bool). b && test d) (lt_all d n less)
+  | inr more ↦ pass d ∙ neither (nat_lt d n) (test d) (past d (omega arith)) ∙ sym (past d (omega arith))
+]

@@ -1,0 +1,58 @@
+-- What the disks show while a record is written to them, and afterwards.
+use Rattle.std.proofs.Common.{◌≡◌, ◌<◌, Bool, true, false, Option, Some, subst, arith}
+use Rattle.std.specs.Prelude.{if◌then◌else◌}
+use Rattle.lvm_num.specs.declared.descriptor.Descriptor.{Descriptor}
+use Rattle.lvm_num.specs.declared.status.Status.{Status}
+use Rattle.lvm_num.specs.declared.record.Kind.TheVariants as kind
+use Rattle.lvm_num.specs.DescriptorBytes.{descriptor_of}
+use Rattle.lvm_num.specs.StatusBytes.{status_of}
+use Rattle.lvm_rec.proofs.SlotLaws.{may_write}
+use Rattle.lvm_disk.specs.Device.{Media, Image, Device, image_of, MayLeave}
+use Rattle.lvm_disk.specs.Steps.{BothTold}
+use Rattle.lvm_kept.specs.Plans.{ChangesBy}
+use Rattle.lvm_kept.specs.Torn.{RecordWrite, IsOfRecord, StandsOn, on_disk}
+use Rattle.lvm_kept.proofs.Records.{descriptor_shows, status_shows, wider, whole_is_new}
+use Rattle.lvm_write.specs.Homes.{second_slots}
+use Rattle.lvm_write.specs.Written.{write_of, IsWriting}
+use Rattle.lvm_write.specs.Shows.{DescriptorMayBeWritten, StatusMayBeWritten, DescriptorsOldOrNew, StatusesOldOrNew, WrittenIsNewest}
+use Rattle.lvm_write.proofs.Writing.{told_at}
+
+slot_two : (b : Bool) → (if b then 1 else 0) < 2
+slot_two true = omega arith
+slot_two false = omega arith
+
+pub descriptor_may_be_written : DescriptorMayBeWritten
+descriptor_may_be_written framed group targets homes image frames reads fit =
+    let w = write_of kind.Descriptor framed targets homes in
+    record {
+      frames = frames;
+      slots = λ d. slot_two (second_slots kind.Descriptor homes d);
+      there = λ d on. (fit d on).0;
+      each = λ d on. let it = fit d on in may_write Descriptor descriptor_of (on_disk w d) group (image.sector d) frames reads it.1.descriptor it.2;
+    }
+
+pub status_may_be_written : StatusMayBeWritten
+status_may_be_written framed status targets homes image frames reads fit =
+    let w = write_of kind.Status framed targets homes in
+    record {
+      frames = frames;
+      slots = λ d. slot_two (second_slots kind.Status homes d);
+      there = λ d on. (fit d on).0;
+      each = λ d on. let it = fit d on in may_write Status status_of (on_disk w d) status (image.sector d) frames reads it.1.status it.2;
+    }
+
+left_by : (w : RecordWrite) (old now : Device) (media : Media) (image : Image) → old.media ≡ Some media → IsWriting (IsOfRecord w) old now → MayLeave now image → ChangesBy (IsOfRecord w) (image_of old.sizes media) image
+left_by w old now media image told writing may = told_at old.media (λ m. (image : Image) → MayLeave now image → ChangesBy (IsOfRecord w) (image_of old.sizes m) image) media told writing image may
+
+pub descriptors_old_or_new : DescriptorsOldOrNew
+descriptors_old_or_new w group old now media image is_kind told may writing left = descriptor_shows w group (image_of old.sizes media) image is_kind may (left_by w old now media image told writing left)
+
+pub statuses_old_or_new : StatusesOldOrNew
+statuses_old_or_new w status old now media image is_kind told may writing left = status_shows w status (image_of old.sizes media) image is_kind may (left_by w old now media image told writing left)
+
+pub written_newest : (X : Type 0) → WrittenIsNewest X
+written_newest X content_of w x failed old new was is d told tells may keeps ends target well =
+    let by = subst (λ (o : Option Media). BothTold o new.media (λ m n. ChangesBy (IsOfRecord w) (image_of old.sizes m) (image_of new.sizes n))) told keeps.media in
+    let by_both = subst (λ (o : Option Media). BothTold (Some was) o (λ m n. ChangesBy (IsOfRecord w) (image_of old.sizes m) (image_of new.sizes n))) tells by in
+    let stands = told_at new.media (λ m. StandsOn w (image_of new.sizes m) d) is tells (ends.stands target well) in
+    whole_is_new X content_of w x (image_of old.sizes was) (image_of new.sizes is) d may (wider w (image_of old.sizes was) (image_of new.sizes is) may.frames may.slots by_both) target stands
