@@ -10,7 +10,7 @@ ghost use Rattle.lvm_varyon.specs.Restated.{HasNoConsistency};
 ghost use Rattle.lvm_core.specs.State.{state_of};
 ghost use Rattle.lvm_core.specs.Coming.{BringsOn, IsStarted, shelf_left, history_left};
 ghost use Rattle.lvm_varyon.specs.Varied.{VaryonGives, IsRestated, IsRecovered, BringGives, IsAheadOfDisks, log_after, Stops};
-ghost use Rattle.lvm_survey.specs.Surveying.{OnlyReads};
+ghost use Rattle.lvm_area.specs.Reading.{OnlyReads};
 ghost use Rattle.lvm_write.specs.Parts.{Spends};
 ghost use Rattle.lvm_varyon.specs.Parts.{IsPlannedBy};
 

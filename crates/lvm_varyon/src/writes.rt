@@ -9,7 +9,7 @@ ghost use Rattle.lvm_area.specs.Reading.{IsUnwritten};
 ghost use Rattle.lvm_begin.specs.Beginning.{again_beginning, again_order, IsOfParts};
 ghost use Rattle.lvm_begin.specs.Kept.{AgainStaysKept};
 ghost use Rattle.lvm_write.specs.Writes.{DiskWritesLeave};
-ghost use Rattle.lvm_survey.specs.Surveying.{OnlyReads};
+ghost use Rattle.lvm_area.specs.Reading.{OnlyReads};
 ghost use Rattle.lvm_varyon.specs.Parts.{SurveyGives, plan_beginning, AgainWritesGive};
 
 use lvm_begin::{Begun, begin_again};
