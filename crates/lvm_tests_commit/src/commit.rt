@@ -12,13 +12,10 @@ use lvm_num::{Descriptor, Pbuf, Pp, Rows, Stamp};
 use lvm_stale::StaleTable;
 use lvm_status::{Change, Updater};
 use lvm_survey::Survey;
-use lvm_tests_shelves::{
-    blank_shelf, first_homes, group, has_room, row, stamp, status, survey, volume,
-};
-use lvm_tests_values::check;
 use lvm_transfer::{Patience, relight};
 use lvm_write::Homes;
 use std::process::Abort;
+use crate::fixtures::{blank_shelf, check, first_homes, group, has_room, row, stamp, status, survey, volume};
 
 const ID: u64 = 50;
 

@@ -1,14 +1,12 @@
 //! A shelf in memory at work: what its calls answer, one after the other. Its starts and reaps go
 //! through the trait.
-use crate::fixtures::start;
+use crate::fixtures::{blank_shelf, check, plan_of, start};
 use Answer::*;
 use Step::*;
 use lvm_disk::{Arrange, Reaped, Shelf, Started};
 use lvm_faults::{Act, Planned, names_disks};
 use lvm_memory::MemShelf;
 use lvm_num::Pbuf;
-use lvm_tests_shelves::{blank_shelf, plan_of};
-use lvm_tests_values::check;
 use std::process::Abort;
 
 // What is asked of the shelf.

@@ -1,9 +1,9 @@
 //! New images, on a trial system that watches the calls on it.
+use crate::fixtures::check;
 use crate::trial::{Fault, MOST_OF_NEW, Trial};
 use Step::*;
 use lvm_image::{Exclusive, ImageSink};
 use lvm_io::{Images, Put, Sink};
-use lvm_tests_values::check;
 use std::rt::Files;
 
 // What is asked of the sink.

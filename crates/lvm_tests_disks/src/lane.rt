@@ -1,5 +1,5 @@
 //! Image files: those of the system, and the one of a trial system, which watches the calls on it.
-use crate::fixtures::{sink, start};
+use crate::fixtures::{check, check_at, sink, start};
 use crate::trial::{Fault, Trial, are_filled};
 use End::*;
 use Transfer::*;
@@ -8,7 +8,6 @@ use lvm_image::{Exclusive, ImageSink};
 use lvm_io::{Images, Put, Sink, write_all};
 use lvm_lane::FileShelf;
 use lvm_num::{Pbuf, fill};
-use lvm_tests_values::{check, check_at};
 use std::fs;
 use std::fs::{OpenFile, OpenOptions};
 use std::process::Abort;

@@ -1,4 +1,5 @@
 //! Ranges of a disk in memory, written and read.
+use crate::fixtures::{blank_shelf, check};
 use Answer::*;
 use Ask::*;
 use lvm_disk::Shelf;
@@ -7,8 +8,6 @@ use lvm_history::History;
 use lvm_memory::MemShelf;
 use lvm_num::{Rows, fill};
 use lvm_raw::{RawFault, read_disk, write_disk};
-use lvm_tests_shelves::blank_shelf;
-use lvm_tests_values::check;
 use lvm_transfer::{Patience, relight};
 use lvm_vol::{Entry, Outcome};
 use std::process::Abort;

@@ -1,13 +1,14 @@
 //! Groups that are made, and that come on again.
-use crate::fixtures::{Begin, begin_first, begin_next, first_three, image_shelf, images_of};
+use crate::fixtures::{
+    Begin, begin_first, begin_next, blank_shelf, check, first_three, group, image_shelf, images_of,
+    name_of, row, stamp, status, survey,
+};
 use lvm_disk::Shelf;
 use lvm_faults::{Act, Planned};
 use lvm_memory::MemShelf;
 use lvm_num::Stamp;
 use lvm_quorum::{Choice, ChooseFault, choose};
 use lvm_survey::{Survey, SurveyRow};
-use lvm_tests_shelves::{blank_shelf, group, row, stamp, status, survey};
-use lvm_tests_values::{check, name};
 use std::process::Abort;
 
 const SECTOR: usize = 512;
@@ -94,7 +95,7 @@ fn told(rt: &(impl Abort + AllocGlobal), choice: &Choice) -> Chosen {
 fn see<S: Shelf>(rt: &(impl Abort + AllocGlobal), shelf: &mut S) -> Look {
     let survey = survey(rt, shelf);
     let shown = shown_in(rt, &survey);
-    let name = name(rt, "datavg");
+    let name = name_of(rt, b"datavg");
     let chosen = match choose(rt.alloc(), &survey, name) {
         Ok(choice) => told(rt, &choice),
         Err(why) => Chosen::Not(why),

@@ -1,13 +1,11 @@
 //! Groups of two disks that come on, and that don't.
-use crate::fixtures::{Begin, begin_first, images_of};
+use crate::fixtures::{Begin, begin_first, blank_shelf, check, group, images_of, name_of, volume};
 use lvm_core::{Cause, Driver, Room};
 use lvm_disk::{Arrange, Shelf};
 use lvm_faults::{Act, Planned};
 use lvm_history::History;
 use lvm_memory::MemShelf;
 use lvm_num::Pp;
-use lvm_tests_shelves::{blank_shelf, group, volume};
-use lvm_tests_values::{check, name};
 use lvm_transfer::{Patience, relight};
 use lvm_varyon::varyon;
 use std::process::Abort;
@@ -138,7 +136,7 @@ fn vary<S: Shelf + Drop>(rt: &(impl Abort + AllocGlobal), shelf: S, moment: u64)
     let mut shelf = shelf;
     assert!(rt; shelf.flights() == 0 && moment != 0);
     relight(&mut shelf);
-    let name = name(rt, "datavg");
+    let name = name_of(rt, b"datavg");
     let history = History::new(rt.alloc(), 7, 8, 0).expect(rt, "memory");
     let mut patience = Patience::whole();
     match varyon(

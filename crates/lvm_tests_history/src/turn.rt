@@ -4,9 +4,9 @@ ghost use Rattle.lvm_vol.specs.Fronts.{own};
 ghost use Rattle.lvm_turn.specs.Views.{numbers, up_to};
 ghost use Rattle.lvm_turn.specs.Calls.{IsIdle};
 
+use crate::fixtures::check;
 use lvm_history::History;
 use lvm_num::Memory;
-use lvm_tests_values::check;
 use lvm_turn::{Pass, Turn};
 use lvm_vol::{Entry, Past, Shown, Vol};
 use std::alloc::Global;

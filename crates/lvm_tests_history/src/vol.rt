@@ -1,9 +1,9 @@
 ghost use Rattle.std.specs.Prelude.{◌≤◌};
 ghost use Rattle.lvm_vol.specs.Log.{spare_entries};
 
+use crate::fixtures::check;
 use lvm_history::History;
 use lvm_num::Mode;
-use lvm_tests_values::check;
 use lvm_vol::{Entry, Outcome, Vol};
 use std::process::Abort;
 

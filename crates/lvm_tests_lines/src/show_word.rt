@@ -1,9 +1,9 @@
 ghost use Rattle.std.specs.Prelude.{IsTrue};
 ghost use Rattle.lvm_replies.specs.Refusals.{is_refusal};
 
+use crate::fixtures::{check, check_at};
 use lvm_num::{Text, fill};
 use lvm_replies::{Carried, Refusal, show_block, show_refusal};
-use lvm_tests_values::{check, check_at};
 use std::process::Abort;
 
 // Whether a refusal has this text.

@@ -5,12 +5,11 @@ ghost use Rattle.lvm_num.specs.Status.{IsValidStatus};
 ghost use Rattle.lvm_survey.specs.Rows.{AreRows};
 ghost use Rattle.lvm_survey.specs.Surveyed.{IsRowValid, IsSurveyValid};
 
-use crate::fixtures::{DATA, FIRST, LARGE, LATER, NAMESAKE, NONE, OTHER, first_two, group, status};
+use crate::fixtures::{DATA, FIRST, LARGE, LATER, NAMESAKE, NONE, OTHER, first_two, group, status, check, name_of};
 use Answer::*;
 use lvm_num::{Descriptor, Rows, Stamp, Status};
 use lvm_quorum::{Choice, ChooseFault, choose};
 use lvm_survey::{Survey, SurveyRow};
-use lvm_tests_values::{check, name};
 use lvm_write::Homes;
 use std::process::Abort;
 
@@ -330,7 +329,7 @@ fn chosen(rt: &(impl Abort + AllocGlobal), members: u16, survey: &Survey) -> Ans
     if !is_survey(survey) {
         return Refused;
     }
-    let name = name(rt, "datavg");
+    let name = name_of(rt, b"datavg");
     match choose(rt.alloc(), survey, name) {
         Ok(choice) => told(rt, members, &choice),
         Err(why) => Not(why),

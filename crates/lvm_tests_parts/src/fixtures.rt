@@ -1,5 +1,4 @@
-//! The values that tests build, and how they check.
-#![tactic(auto)]
+//! The values that the tests build.
 
 use lvm_num::{
     Descriptor, LvRow, Mode, Name, Policy, Pp, PvRow, Rows, Status, StatusRow, VolumeNumbers,
@@ -15,11 +14,6 @@ pub type Volume = (u16, &'static str, u8, u32, &'static [(u16, u16)]);
 /// Ends the test where this isn't so, and says of what.
 pub fn check(rt: &impl Abort, is: bool, what: &str) {
     assert!(rt; is, "{what}");
-}
-
-/// The same, with a place or a count.
-pub fn check_at(rt: &impl Abort, is: bool, what: &str, at: usize) {
-    assert!(rt; is, "{what} {at}");
 }
 
 pub fn name(rt: &impl Abort, text: &str) -> Name {

@@ -1,10 +1,5 @@
-//! What tests of disks and groups share: disks in memory with plans of faults, small groups and their status, and what
-//! stands on the disks.
-#![tactic(auto)]
-
-ghost use Rattle.std.specs.Prelude.{◌≡◌, ◌%◌, ◌<◌, ◌≤◌, ℕ, length, IsTrue};
-ghost use Rattle.std.specs.List.{All};
-ghost use Rattle.lvm_num.specs.Disks.{has};
+//! What the tests share: disks in memory with plans of faults, a group and its status, and what stands on the disks.
+ghost use Rattle.std.specs.Prelude.{◌≡◌, ◌<◌, ℕ, length, IsTrue};
 ghost use Rattle.lvm_write.specs.Written.{HasRoom};
 ghost use Rattle.lvm_survey.specs.Rows.{AreRows};
 ghost use Rattle.lvm_survey.specs.Surveyed.{IsSurveyValid};
@@ -12,15 +7,16 @@ ghost use Rattle.lvm_survey.specs.Surveyed.{IsSurveyValid};
 use lvm_disk::Shelf;
 use lvm_faults::{Planned, names_disks};
 use lvm_memory::MemShelf;
-use lvm_num::{
-    Descriptor, DiskSet, LvRow, Mode, Pbuf, Policy, Pp, PvRow, Rows, Stamp, Status, StatusRow,
-    VolumeNumbers,
-};
+use lvm_num::{Descriptor, DiskSet, LvRow, Mode, Pbuf, Policy, Pp, PvRow, Rows, Stamp, Status, StatusRow, VolumeNumbers, Name};
 use lvm_survey::{Survey, SurveyRow, Surveyed, survey_disks};
-use lvm_tests_values::name;
 use lvm_transfer::{Patience, relight};
 use lvm_write::Homes;
 use std::process::Abort;
+
+/// Ends the test where this isn't so, and says of what.
+pub fn check(rt: &impl Abort, is: bool, what: &str) {
+    assert!(rt; is, "{what}");
+}
 
 pub fn stamp(epoch: u64, seq: u32) -> Stamp {
     Stamp { epoch, seq }
@@ -28,8 +24,7 @@ pub fn stamp(epoch: u64, seq: u32) -> Stamp {
 
 // ---- disks
 
-/// A plan, as its own rows.
-pub fn plan_of(rt: &(impl Abort + AllocGlobal), plan: &[Planned]) -> Rows<Planned>
+fn plan_of(rt: &(impl Abort + AllocGlobal), plan: &[Planned]) -> Rows<Planned>
     ensures { result ≡ plan.now }
 {
     Rows::new(Vec::from_slice(rt.alloc(), plan).expect(rt, "memory"))
@@ -39,24 +34,7 @@ pub fn plan_of(rt: &(impl Abort + AllocGlobal), plan: &[Planned]) -> Rows<Planne
 pub fn blank_shelf(rt: &(impl Abort + AllocGlobal), sizes: &[u64], plan: &[Planned]) -> MemShelf {
     assert!(rt; !sizes.is_empty() && sizes.len() <= 128);
     assert!(rt; names_disks(plan, sizes.len() as u16));
-    MemShelf::new(rt.alloc(), sizes, plan_of(rt, plan), 8).expect(rt, "memory")
-}
-
-/// Disks with these contents.
-pub fn image_shelf(
-    rt: &(impl Abort + AllocGlobal),
-    images: Rows<Rows<u8>>,
-    plan: &[Planned],
-) -> MemShelf {
-    assert!(rt; !images.is_empty() && images.len() <= 128);
-    assert!(rt; are_whole(images.as_slice()) && names_disks(plan, images.len() as u16));
-    MemShelf::from_images(rt.alloc(), images, plan_of(rt, plan), 8).expect(rt, "memory")
-}
-
-fn are_whole(images: &[Rows<u8>]) -> bool
-    ensures { IsTrue result → All (λ bytes. length bytes % 512 ≡ 0) images.now }
-{
-    images.iter().all(|bytes| bytes.len() % 512 == 0)
+    MemShelf::new(rt.alloc(), sizes, plan_of(rt, plan), 0).expect(rt, "memory")
 }
 
 /// Whether each disk has room for records.
@@ -71,19 +49,11 @@ pub fn has_room<S: Shelf>(shelf: &S) -> bool
     true
 }
 
-/// The first disks.
-pub fn all_disks(count: u16) -> DiskSet
-    requires { count ≤ 128 }
-    ensures { (d : ℕ) → IsTrue (has result d) → d < count }
-{
-    let mut disks = DiskSet::empty();
-    for disk in 0..count {
-        disks = disks.with(disk);
-    }
-    disks
-}
+// ---- the group
 
-// ---- groups
+fn name_of(rt: &impl Abort, name: &[u8]) -> Name {
+    Name::read(name).expect(rt, "a name")
+}
 
 fn members(rt: &(impl Abort + AllocGlobal), count: u16) -> Rows<PvRow> {
     let mut pvs = Vec::new(rt.alloc());
@@ -103,7 +73,7 @@ fn members(rt: &(impl Abort + AllocGlobal), count: u16) -> Rows<PvRow> {
 pub fn group(rt: &(impl Abort + AllocGlobal), id: u64, count: u16) -> Descriptor {
     Descriptor {
         id,
-        name: name(rt, "datavg"),
+        name: name_of(rt, b"datavg"),
         mib: 1,
         quorum: true,
         even: false,
@@ -119,7 +89,7 @@ pub fn volume(rt: &(impl Abort + AllocGlobal), copies: [Pp; 2]) -> Rows<LvRow> {
     let map = Vec::from_slice(rt.alloc(), &copies).expect(rt, "memory");
     let row = LvRow {
         number: 1,
-        name: name(rt, "lv00"),
+        name: name_of(rt, b"lv00"),
         mode: Mode::Off,
         policy: Policy::Parallel,
         copies: 2,
