@@ -3,7 +3,7 @@
 ghost use Rattle.std.specs.Prelude.{◌≡◌, ◌%◌, ◌<◌, ◌≤◌, ℕ, length, IsTrue};
 ghost use Rattle.std.specs.List.{All};
 ghost use Rattle.lvm_num.specs.Disks.{has};
-ghost use Rattle.lvm_quorum.specs.Written.{HasRoom};
+ghost use Rattle.lvm_write.specs.Written.{HasRoom};
 
 use lvm_disk::Shelf;
 use lvm_faults::{Planned, names_disks};
