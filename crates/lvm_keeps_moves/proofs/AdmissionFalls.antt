@@ -39,7 +39,7 @@ use Rattle.lvm_events.specs.Marks.{WantsDirty, WantsDirtyIf}
 use Rattle.lvm_sound.specs.Left.{begun_left, copy_left, flight_names, if_so, is_brought_up, is_held, lacks_dirty, lacks_note, left_of, phase_left, read_left, request_left, status_left, turns_of, unbegun_left, update_work, waiting_targets, work_left, write_left}
 use Rattle.lvm_sound.specs.Requests.{IsPhase}
 use Rattle.lvm_sound.specs.Sound.{IsSound}
-use Rattle.lvm_keeps.proofs.LandingFalls.{left_same}
+use Rattle.lvm_keeps.proofs.Leaving.{left_same}
 use Rattle.lvm_keeps.proofs.PinFalls.{sum_less, sum_same}
 use Rattle.lvm_keeps.proofs.Small.{not_so}
 use Rattle.lvm_keeps.proofs.Still.{changed}
