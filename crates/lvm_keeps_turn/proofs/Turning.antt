@@ -1,35 +1,21 @@
 -- A turn by its events.
-use Rattle.std.proofs.Common.{◌≡◌, inl, inr, sym, subst}
-use Rattle.lvm_session.specs.declared.event.Event.TheVariants as event
+use Rattle.std.proofs.Common.{◌≡◌, ◌<◌, ◌⊎◌, inl, inr, true, sym, ◌∙◌, ap, subst}
 use Rattle.lvm_session.specs.declared.open.Power.TheVariants as power
-use Rattle.lvm_session.specs.State.{State}
+use Rattle.lvm_session.specs.State.{Core, State}
 use Rattle.lvm_events.specs.declared.answers.Turned.{Turned}
 use Rattle.lvm_events.specs.declared.answers.Turned.TheVariants as turned
-use Rattle.lvm_events.specs.Turns.{FinishMakes, Finishes, Moves, NoStart, OnMakes, TurnMakes, WasDark, WasOff, WasOn}
+use Rattle.lvm_events.specs.Turns.{Darkens, FinishMakes, Finds, Finishes, FindsNothing, GoesOff, Moves, NoStart, OnMakes, TurnMakes, WasDark, WasOff, WasOn}
+use Rattle.lvm_sound.specs.Causes.{is_over}
+use Rattle.lvm_sound.specs.Left.{left_of}
 use Rattle.lvm_sound.specs.Sound.{IsSound}
+use Rattle.lvm_keeps.specs.Falls.{EndsFall}
 use Rattle.lvm_keeps.specs.Keeps.{EndKeeps}
-use Rattle.lvm_keeps.proofs.CopyRead.{copy_read_keeps}
 use Rattle.lvm_keeps.proofs.Darkening.{cut_keeps}
-use Rattle.lvm_keeps.proofs.NoteStart.{note_start_keeps}
 use Rattle.lvm_keeps.proofs.Off.{off_keeps}
-use Rattle.lvm_keeps.proofs.Pin.{pin_keeps}
 use Rattle.lvm_keeps.proofs.Wait.{wait_keeps}
-use Rattle.lvm_keeps_moves.proofs.Admission.{admission_keeps}
-use Rattle.lvm_keeps_moves.proofs.Landing.{landing_keeps}
-use Rattle.lvm_keeps_starts.proofs.CopyWrite.{copy_write_keeps}
-use Rattle.lvm_keeps_starts.proofs.DataStart.{data_start_keeps}
-use Rattle.lvm_keeps_starts.proofs.StatusStart.{status_start_keeps}
-use Rattle.lvm_keeps_turn.specs.Turning.{EventKeeps, TurnKeeps}
-
-pub event_keeps : EventKeeps
-event_keeps (event.Land place how) old new sound on made = landing_keeps place how old new sound on made
-event_keeps (event.Admit place) old new sound on made = admission_keeps place old new sound on made
-event_keeps (event.Pin place) old new sound on made = pin_keeps place old new sound on made
-event_keeps event.StartStatus old new sound on made = status_start_keeps old new sound on made
-event_keeps (event.StartNote place disk) old new sound on made = note_start_keeps place disk old new sound on made
-event_keeps (event.StartData place target) old new sound on made = data_start_keeps place target old new sound on made
-event_keeps event.ReadCopy old new sound on made = copy_read_keeps old new sound on made
-event_keeps event.WriteCopy old new sound on made = copy_write_keeps old new sound on made
+use Rattle.lvm_keeps_events.proofs.Events.{events_keep}
+use Rattle.lvm_keeps_events.proofs.Falls.{events_fall}
+use Rattle.lvm_keeps_turn.specs.Turning.{TurnEnds, TurnFalls, TurnKeeps, is_last}
 
 module _ (ends : EndKeeps) (old new : State) (sound : IsSound old) where
   finish_keeps : (answer : Turned) → old.core.power ≡ power.On → FinishMakes old new answer → IsSound new
@@ -40,7 +26,7 @@ module _ (ends : EndKeeps) (old new : State) (sound : IsSound old) where
   finish_keeps turned.Off on made = off_keeps old new sound on made
 
   on_keeps : (answer : Turned) → old.core.power ≡ power.On → OnMakes old new answer → IsSound new
-  on_keeps answer on (Moves it first made is) = event_keeps it old new sound on made
+  on_keeps answer on (Moves it first made is) = events_keep it old new sound on made
   on_keeps answer on (NoStart it first start dark is) = cut_keeps old new sound on dark
   on_keeps answer on (Finishes none made) = finish_keeps answer on made
 
@@ -51,3 +37,46 @@ module _ (ends : EndKeeps) (old new : State) (sound : IsSound old) where
 
 pub turn_keeps : TurnKeeps
 turn_keeps ends old new answer sound made = by_turn ends old new sound answer made
+
+-- ---- the work that is left
+
+on_falls : EndsFall → (old new : State) → IsSound old → old.core.power ≡ power.On → OnMakes old new turned.Moved → left_of new.core < left_of old.core
+on_falls ends old new sound on (Moves it first made is) = events_fall it old new sound on first made
+on_falls ends old new sound on (NoStart it first start dark is) = absurd (cc is)
+on_falls ends old new sound on (Finishes none made) = ends made.0 old new sound on none made.1
+
+pub turn_falls : TurnFalls
+turn_falls ends old new sound (WasDark dark is same) = absurd (cc is)
+turn_falls ends old new sound (WasOff off is same) = absurd (cc is)
+turn_falls ends old new sound (WasOn on made) = on_falls ends old new sound on made
+
+-- ---- the end
+
+module _ (old new : State) (sound : IsSound old) where
+  abbrev Ended : Type 0
+  Ended = IsSound new × (is_over new.core.power ≡ true)
+
+  is_dark : old.core.power ≡ power.On → Darkens old new → Ended
+  is_dark on dark = (cut_keeps old new sound on dark, ap (λ (c : Core). is_over c.power) dark.is)
+
+  is_off : old.core.power ≡ power.On → GoesOff old new → Ended
+  is_off on off = (off_keeps old new sound on off, ap (λ (s : State). is_over s.core.power) off.is)
+
+  on_ends : (answer : Turned) → old.core.power ≡ power.On → OnMakes old new answer → is_last answer ≡ true → Ended
+  on_ends answer on (Moves it first made is) last = absurd (let none = sym last ∙ ap is_last is in cc none)
+  on_ends answer on (NoStart it first start dark is) last = is_dark on dark
+  on_ends turned.Moved on (Finishes none made) last = absurd (cc last)
+  on_ends turned.Idle on (Finishes none made) last = absurd (cc last)
+  on_ends turned.Dark on (Finishes none made) last = is_dark on made
+  on_ends turned.Off on (Finishes none made) last = is_off on made
+
+  was_over : is_over old.core.power ≡ true → new ≡ old → Ended
+  was_over over same = (subst IsSound (sym same) sound, ap (λ (s : State). is_over s.core.power) same ∙ over)
+
+  by_last : (answer : Turned) → TurnMakes old new answer → is_last answer ≡ true → Ended
+  by_last answer (WasDark dark is same) last = was_over (ap is_over dark) same
+  by_last answer (WasOff off is same) last = was_over (ap is_over off) same
+  by_last answer (WasOn on made) last = on_ends answer on made last
+
+pub turn_ends : TurnEnds
+turn_ends old new answer sound made last = by_last old new sound answer made last

@@ -1,15 +1,30 @@
--- A turn of a sound session leaves it sound.
-use Rattle.lvm_session.specs.declared.event.Event.{Event}
+-- What a turn of a sound session leaves.
+use Rattle.std.specs.Prelude.{◌≡◌, ◌<◌, Bool, true, false}
 use Rattle.lvm_session.specs.State.{State}
 use Rattle.lvm_events.specs.declared.answers.Turned.{Turned}
-use Rattle.lvm_events.specs.Turns.{Makes, TurnMakes}
+use Rattle.lvm_events.specs.declared.answers.Turned.TheVariants as turned
+use Rattle.lvm_events.specs.Turns.{TurnMakes}
+use Rattle.lvm_sound.specs.Causes.{is_over}
+use Rattle.lvm_sound.specs.Left.{left_of}
 use Rattle.lvm_sound.specs.Sound.{IsSound}
-use Rattle.lvm_keeps.specs.Keeps.{EndKeeps, Keeps}
-
--- each event leaves a session that is on sound
-abbrev pub EventKeeps : Type 0
-EventKeeps = (it : Event) → Keeps (Makes it)
+use Rattle.lvm_keeps.specs.Falls.{EndsFall}
+use Rattle.lvm_keeps.specs.Keeps.{EndKeeps}
 
 -- Where each end of a transfer leaves it sound, each turn does.
 abbrev pub TurnKeeps : Type 0
 TurnKeeps = EndKeeps → (old new : State) (answer : Turned) → IsSound old → TurnMakes old new answer → IsSound new
+
+-- Where each end of a transfer leaves less work, each turn does that has moved.
+abbrev pub TurnFalls : Type 0
+TurnFalls = EndsFall → (old new : State) → IsSound old → TurnMakes old new turned.Moved → left_of new.core < left_of old.core
+
+-- the answer says that the session is over
+abbrev pub is_last : Turned → Bool
+is_last turned.Moved = false
+is_last turned.Idle = false
+is_last turned.Dark = true
+is_last turned.Off = true
+
+-- So it is then, and sound.
+abbrev pub TurnEnds : Type 0
+TurnEnds = (old new : State) (answer : Turned) → IsSound old → TurnMakes old new answer → is_last answer ≡ true → IsSound new × (is_over new.core.power ≡ true)

@@ -1,6 +1,6 @@
-//! A turn keeps a session sound.
+//! A turn keeps a session sound, and leaves less work.
 #![tactic(auto)]
 
 mod laws;
 
-pub use laws::{event_keeps, turn_keeps};
+pub use laws::{turn_ends, turn_falls, turn_keeps};
