@@ -8,7 +8,7 @@ use Rattle.std.proofs.lemmas.List.Sums.{sum_by-cons}
 use Rattle.arrayvec.specs.ArrayVec.{ArrayVec}
 use Rattle.lvm_num.specs.declared.record.NoteEntry.{NoteEntry}
 use Rattle.lvm_num.specs.declared.descriptor.PvRow.{PvRow}
-use Rattle.lvm_mwc.specs.Cache.{after_start, flight_on, is_named}
+use Rattle.lvm_mwc.specs.Cache.{after_start, flight_names, flight_on, is_named}
 use Rattle.lvm_mwc.specs.Entries.{note_of, pins_of}
 use Rattle.lvm_mwc.specs.Notes.{names_group}
 use Rattle.lvm_mwc.proofs.PinsLemmas.{note-names, pinned_is_there}
@@ -26,7 +26,7 @@ use Rattle.lvm_session.specs.State.{Core, State, is_there}
 use Rattle.lvm_session.specs.Judging.{copies_for, group_of, is_changed, is_missing, is_waiting}
 use Rattle.lvm_session.specs.Enabled.{is_lost, is_unnamed, note_due, wants_record}
 use Rattle.lvm_events.specs.Events.{flown}
-use Rattle.lvm_sound.specs.Left.{begun_left, copy_left, flight_names, if_so, is_held, lacks_dirty, lacks_note, left_by, left_of, phase_left, read_left, request_left, status_left, turns_of, unbegun_left, update_work, work_left, write_left}
+use Rattle.lvm_sound.specs.Left.{begun_left, copy_left, if_so, is_held, lacks_dirty, lacks_note, left_by, left_of, phase_left, read_left, request_left, status_left, turns_of, unbegun_left, update_work, work_left, write_left}
 use Rattle.lvm_sound.specs.Requests.{IsPhase}
 use Rattle.lvm_sound.specs.Sound.{count_if}
 use Rattle.lvm_keeps.specs.Falls.{NoteStartFalls}

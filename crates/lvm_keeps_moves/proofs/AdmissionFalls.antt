@@ -15,7 +15,7 @@ use Rattle.lvm_num.specs.Disks.{has}
 use Rattle.lvm_num.specs.Status.{calls_dirty}
 use Rattle.lvm_num.specs.Votes.{is_enough_to_write, votes_in, votes_of}
 use Rattle.lvm_mwc.specs.declared.entries.CacheEntry.{CacheEntry}
-use Rattle.lvm_mwc.specs.Cache.{Cached, is_named}
+use Rattle.lvm_mwc.specs.Cache.{Cached, flight_names, is_named}
 use Rattle.lvm_sched.specs.declared.writes.TargetState.{TargetState}
 use Rattle.lvm_sched.specs.declared.writes.TargetState.TheVariants as stage
 use Rattle.lvm_sched.specs.Writes.{is_waiting as is_unstarted}
@@ -36,7 +36,7 @@ use Rattle.lvm_session.specs.Judging.{aims, copies_for, group_in, group_of, is_c
 use Rattle.lvm_session.specs.Enabled.{is_lost, same_status}
 use Rattle.lvm_events.specs.Events.{Admits, Chooses, ChoosesBy, admitted_as, after_admission, is_passive, last_after, makes_dirty, target_at, without_pin}
 use Rattle.lvm_events.specs.Marks.{WantsDirty, WantsDirtyIf}
-use Rattle.lvm_sound.specs.Left.{begun_left, copy_left, flight_names, if_so, is_brought_up, is_held, lacks_dirty, lacks_note, left_of, phase_left, read_left, request_left, status_left, turns_of, unbegun_left, update_work, waiting_targets, work_left, write_left}
+use Rattle.lvm_sound.specs.Left.{begun_left, copy_left, if_so, is_brought_up, is_held, lacks_dirty, lacks_note, left_of, phase_left, read_left, request_left, status_left, turns_of, unbegun_left, update_work, waiting_targets, work_left, write_left}
 use Rattle.lvm_sound.specs.Requests.{IsPhase}
 use Rattle.lvm_sound.specs.Sound.{IsSound}
 use Rattle.lvm_keeps.proofs.Leaving.{left_same}

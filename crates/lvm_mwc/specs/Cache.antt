@@ -10,7 +10,7 @@ use Rattle.lvm_mwc.specs.declared.cache.Pin.{Pin}
 use Rattle.lvm_mwc.specs.declared.cache.Pin.TheVariants.{Pinned, AllPinned}
 use Rattle.lvm_mwc.specs.Firsts.{with_first}
 use Rattle.lvm_mwc.specs.Entries.{are_all_pinned, with_pin, with_unpin, note_of}
-use Rattle.lvm_mwc.specs.Notes.{is_on, both_name, common}
+use Rattle.lvm_mwc.specs.Notes.{is_on, names_group, both_name, common}
 
 -- the entries in the order of their last pin, oldest first, and the notes of each disk
 pub record Cached : Type 0 where
@@ -28,6 +28,10 @@ has_disk c disk = is_some (notes_on c disk)
 -- the note in flight there
 abbrev pub flight_on : Cached → ℕ → Option (ArrayVec NoteEntry)
 flight_on c disk = option_and_then (λ (n : DiskNotes). n.flight) (notes_on c disk)
+
+-- the note in flight on the disk names the track group
+abbrev pub flight_names : Cached → ℕ → ℕ → ℕ → Bool
+flight_names c disk lv group = option_map_or (λ (note : ArrayVec NoteEntry). names_group note.items lv group) (flight_on c disk) false
 
 -- whether each sector that may stand on the disk names the track group
 abbrev pub is_named : Cached → ℕ → ℕ → ℕ → Bool

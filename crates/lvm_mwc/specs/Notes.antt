@@ -1,5 +1,5 @@
 -- The consistency records of the disks.
-use Rattle.std.specs.Prelude.{◌≡◌, ◌==◌, ◌&&◌, ℕ, Bool, true, List, filter}
+use Rattle.std.specs.Prelude.{◌≡◌, ◌==◌, ◌&&◌, ℕ, Bool, true, false, List, filter}
 use Rattle.std.specs.List.{list_any}
 use Rattle.std.specs.Option.{option_map_or}
 use Rattle.lvm_num.specs.declared.record.NoteEntry.{NoteEntry}
@@ -13,6 +13,10 @@ is_on disk n = n.disk == disk
 -- whether a note names a track group
 abbrev pub names_group : List NoteEntry → ℕ → ℕ → Bool
 names_group note lv group = list_any (λ (e : NoteEntry). e.lv == lv && e.group == group) note
+
+-- whether the note in flight names a track group
+abbrev pub is_in_flight : ℕ → ℕ → DiskNotes → Bool
+is_in_flight lv group n = option_map_or (λ (flight : ArrayVec NoteEntry). names_group flight.items lv group) n.flight false
 
 -- what both notes name
 abbrev pub common : List NoteEntry → List NoteEntry → List NoteEntry

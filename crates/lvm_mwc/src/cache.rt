@@ -3,7 +3,7 @@ ghost use Rattle.std.specs.Prelude.{◌≡◌, ◌≢◌, ◌+◌, ◌<◌, ◌^
 ghost use Rattle.lvm_num.specs.Note.{IsEntry};
 
 use crate::entries::{CacheEntry, entry_of, make_room, note_of, place_of};
-use crate::notes::{self, DiskNotes, both_name, common, row_of};
+use crate::notes::{self, DiskNotes, both_name, common, is_in_flight, row_of};
 use arrayvec::ArrayVec;
 use lvm_num::{DiskSet, Memory, NoteEntry};
 use std::alloc::Global;
@@ -39,7 +39,7 @@ impl Model for Cache {
 
 impl Cache {
     ghost use Rattle.lvm_mwc.specs.Entries.{is_entry, pins_of, note_of, AreEntries};
-    ghost use Rattle.lvm_mwc.specs.Cache.{Cached, IsNew, has_disk, flight_on, is_named, pin_answer, after_pin, after_unpin, after_start, after_end};
+    ghost use Rattle.lvm_mwc.specs.Cache.{Cached, IsNew, has_disk, flight_on, flight_names, is_named, pin_answer, after_pin, after_unpin, after_start, after_end};
 
     /// An empty cache for a set of disks, whose notes name nothing. It takes all the memory that it
     /// ever needs.
@@ -171,6 +171,16 @@ impl Cache {
         match row_of(&self.notes, disk) {
             None => false,
             Some(row) => both_name(row, lv, group),
+        }
+    }
+
+    /// Whether the note that is in flight on a disk names a track group; false where none is.
+    pub fn flight_names(&self, disk: u16, lv: u16, group: u32) -> bool
+        ensures { result ≡ flight_names self.now disk lv group }
+    {
+        match row_of(&self.notes, disk) {
+            None => false,
+            Some(row) => is_in_flight(row, lv, group),
         }
     }
 }

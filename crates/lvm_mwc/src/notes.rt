@@ -1,7 +1,7 @@
 //! The consistency records of the disks, as they are written.
 ghost use Rattle.std.specs.Prelude.{◌≡◌, find, position};
 ghost use Rattle.std.specs.Option.{option_copied};
-ghost use Rattle.lvm_mwc.specs.Notes.{is_on, names_group, both_name, common};
+ghost use Rattle.lvm_mwc.specs.Notes.{is_on, names_group, both_name, is_in_flight, common};
 
 use arrayvec::ArrayVec;
 use lvm_num::NoteEntry;
@@ -46,6 +46,16 @@ pub fn both_name(notes: &DiskNotes, lv: u16, group: u32) -> bool
     match &notes.flight {
         None => names_group(&notes.written, lv, group),
         Some(flight) => names_group(&notes.written, lv, group) && names_group(flight, lv, group),
+    }
+}
+
+// Whether the note in flight names a track group.
+pub fn is_in_flight(notes: &DiskNotes, lv: u16, group: u32) -> bool
+    ensures { result ≡ is_in_flight lv group notes.now }
+{
+    match &notes.flight {
+        None => false,
+        Some(flight) => names_group(flight, lv, group),
     }
 }
 

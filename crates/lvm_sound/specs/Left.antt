@@ -9,11 +9,8 @@ use Rattle.lvm_num.specs.Status.{calls_dirty}
 use Rattle.lvm_stale.specs.Table.{is_pp}
 use Rattle.lvm_num.specs.declared.status.Status.{Status}
 use Rattle.lvm_num.specs.Disks.{has}
-use Rattle.lvm_num.specs.declared.record.NoteEntry.{NoteEntry}
-use Rattle.arrayvec.specs.ArrayVec.{ArrayVec}
 use Rattle.lvm_sched.specs.Writes.{is_waiting as is_unstarted}
-use Rattle.lvm_mwc.specs.Notes.{names_group}
-use Rattle.lvm_mwc.specs.Cache.{Cached, flight_on, is_named}
+use Rattle.lvm_mwc.specs.Cache.{flight_names, is_named}
 use Rattle.lvm_path.specs.declared.ask.Ask.{Ask}
 use Rattle.lvm_path.specs.declared.request.Phase.{Phase}
 use Rattle.lvm_path.specs.declared.request.Phase.TheVariants as phase
@@ -63,10 +60,6 @@ waiting_targets r = count_by (λ (t : Target). is_unstarted t.state) r.targets.i
 abbrev pub read_left : Phase → Request → ℕ
 read_left phase.Held r = 8
 read_left p r = if list_any (λ (t : Target). is_done t.state) r.targets.items then 1 else 1 + 2 * waiting_targets r
-
--- the note in flight on a disk names the track group
-abbrev pub flight_names : Cached → ℕ → ℕ → ℕ → Bool
-flight_names cache disk lv group = option_map_or (λ (note : ArrayVec NoteEntry). names_group note.items lv group) (flight_on cache disk) false
 
 -- a note is to be started on the disk of this target
 abbrev pub lacks_note : Core → Request → Target → Bool
