@@ -3,7 +3,7 @@
 use lvm_core::CommitFault;
 
 /// Why a command on a session wasn't carried out.
-#[derive(Clone, Copy, Debug, PartialEq, Eq, Drop)]
+#[derive(Clone, Copy, Drop)]
 pub enum GroupFault {
     /// The power was cut, and is off.
     Dark,

@@ -1,13 +1,10 @@
 //! What stands against a volume that is to be made or removed, and what a new one is made of.
-ghost use Rattle.std.specs.Prelude.{◌≡◌, ◌↔◌, ◌≤◌, ◌<◌, ◌^◌, ℕ, length, IfOk, IfErr, IsTrue};
-ghost use Rattle.lvm_num.specs.declared.descriptor.Descriptor.{Descriptor};
-ghost use Rattle.lvm_num.specs.Descriptor.{IsValid, most_volumes};
-ghost use Rattle.lvm_num.specs.Disks.{has};
+ghost use Rattle.std.specs.Prelude.{◌≡◌, ◌↔◌, ◌≤◌, ◌<◌, ◌+◌, ◌^◌, length, IfOk, IfErr, IsTrue};
+ghost use Rattle.lvm_num.specs.Descriptor.{most_volumes};
 ghost use Rattle.lvm_num.specs.Geometry.{partition_blocks, volume_blocks};
-ghost use Rattle.lvm_status.specs.Update.{members_there};
 ghost use Rattle.lvm_core.specs.Settled.{IsSettled};
 ghost use Rattle.lvm_volumes.specs.Endings.{TakesCommands};
-ghost use Rattle.lvm_volumes.specs.NewVolume.{without_volume};
+ghost use Rattle.lvm_volumes.specs.NewVolume.{row_for, with_volume, without_volume};
 ghost use Rattle.lvm_volumes.specs.PlannedVolume.{AreOfOneGroup, IsPlannedVolume, IsWithout};
 ghost use Rattle.lvm_volumes.specs.Volumes.{HasSpareRoom, HasNumber, HasPlaces, MayBeMade, RefusesAll, RefusesMklv, RefusesRmlv};
 
@@ -16,8 +13,8 @@ use crate::next::{lowest_free, with_volume, without_volume};
 use lvm_core::{Driver, Power, Prepared};
 use lvm_disk::Shelf;
 use lvm_map::{MapFault, allocate, blocks};
-use lvm_num::{Descriptor, DiskSet, LvRow, Memory, Mode, Name, Policy, Pp, Rows};
-use lvm_stale::StaleTable;
+use lvm_num::{Descriptor, LvRow, Memory, Mode, Name, Policy, Pp, Rows};
+use lvm_status::members_there;
 use std::alloc::Global;
 
 // The fewest entries with which a command is begun: that of the volume's beginning and that of its end.
@@ -30,7 +27,7 @@ const NUMBERS: u32 = 65_536;
 const MIB: u64 = 2048;
 
 /// What is asked of a new volume.
-#[derive(Clone, Copy, Debug)]
+#[derive(Clone, Copy)]
 pub struct NewVolume {
     pub name: Name,
     pub copies: u8,
@@ -166,20 +163,6 @@ fn places<S: Shelf>(
     }
 }
 
-// The members that a table doesn't call missing.
-fn members_there(d: &Descriptor, table: &StaleTable) -> DiskSet
-    requires { IsValid d.now }
-    ensures { has result ≡ members_there d.now table.now }
-{
-    let mut there = DiskSet::empty();
-    for row in d.pvs.as_slice() {
-        if !table.is_missing(row.disk) {
-            there = there.with(row.disk);
-        }
-    }
-    there
-}
-
 // Whether enough entries and sequence numbers are left for a command.
 fn has_room<S: Shelf>(driver: &Driver<S>) -> bool
     ensures { IsTrue result ↔ HasSpareRoom driver.now.1 }
@@ -204,16 +187,7 @@ fn plan<S: Shelf>(
     let group = driver.descriptor();
     let number = lowest_free(group);
     let blocks = blocks_of(group.mib, v.lps);
-    let row = LvRow {
-        number,
-        name: v.name,
-        copies: v.copies,
-        mode: v.mode,
-        policy: v.policy,
-        lps: v.lps,
-        map: Rows::new(Vec::from_slice(alloc, map.as_slice())?),
-    };
-    let next = driver.prepare(alloc, with_volume(alloc, group, row)?)?;
+    let next = driver.prepare(alloc, with_new(alloc, group, v, number, map.as_slice())?)?;
     Ok(VolumePlan {
         number,
         blocks,
@@ -221,6 +195,30 @@ fn plan<S: Shelf>(
         map,
         next,
     })
+}
+
+// The descriptor with a new volume of this number and this map.
+fn with_new(
+    alloc: Global,
+    d: &Descriptor,
+    v: &NewVolume,
+    number: u16,
+    map: &[Pp],
+) -> Result<Descriptor, Memory>
+    requires least { 1 ≤ number }
+    requires place { number ≤ length d.now.lvs + 1 }
+    ensures { IfOk result (λ next. next ≡ with_volume d.now (row_for v.now number map.now)) }
+{
+    let row = LvRow {
+        number,
+        name: v.name,
+        copies: v.copies,
+        mode: v.mode,
+        policy: v.policy,
+        lps: v.lps,
+        map: Rows::new(Vec::from_slice(alloc, map)?),
+    };
+    with_volume(alloc, d, row)
 }
 
 // The blocks of so many partitions of so many MiB.

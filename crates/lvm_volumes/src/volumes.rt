@@ -202,7 +202,12 @@ fn lowest_missing(table: &StaleTable, map: &[Pp]) -> Option<u16>
 fn is_on(map: &[Pp], disk: u16) -> bool
     ensures { result ≡ is_on map.now disk }
 {
-    map.iter().any(|pp| pp.disk == disk)
+    for pp in map {
+        if pp.disk == disk {
+            return true;
+        }
+    }
+    false
 }
 
 // Writes zeros to partitions, until a disk fails.
