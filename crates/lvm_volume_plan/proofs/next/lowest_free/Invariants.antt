@@ -1,6 +1,6 @@
 use Rattle.std.proofs.Common.{◌≡◌, ◌+◌}
-use Rattle.lvm_volumes.proofs.Numbers.{AreNumbered}
-use Rattle.lvm_volumes.proofs.next.lowest_free.Given as goal
+use Rattle.lvm_volume_plan.proofs.Numbers.{AreNumbered}
+use Rattle.lvm_volume_plan.proofs.next.lowest_free.Given as goal
 
 abbrev pub invariant-loop-row : goal.invariant-loop-row
 invariant-loop-row l = record {

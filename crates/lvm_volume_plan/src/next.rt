@@ -2,7 +2,7 @@
 ghost use Rattle.std.specs.Prelude.{◌≡◌, ◌+◌, ◌<◌, ◌≤◌, ◌==◌, not, length, insert, filter, find, None, IfOk};
 ghost use Rattle.lvm_num.specs.declared.descriptor.LvRow.{LvRow};
 ghost use Rattle.lvm_num.specs.Descriptor.{IsValid, most_volumes};
-ghost use Rattle.lvm_volumes.specs.NewVolume.{IsLowestFree, IsInOrder, with_volume, without_volume};
+ghost use Rattle.lvm_volume_plan.specs.NewVolume.{IsLowestFree, IsInOrder, with_volume, without_volume};
 
 use lvm_num::{Descriptor, LvRow, Memory, Rows};
 use std::alloc::Global;

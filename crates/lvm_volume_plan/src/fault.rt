@@ -35,7 +35,7 @@ pub enum GroupFault {
 
 impl From<CommitFault> for GroupFault {
     ghost use Rattle.std.specs.Prelude.{◌≡◌};
-    ghost use Rattle.lvm_volumes.specs.Endings.{fault_of};
+    ghost use Rattle.lvm_volume_plan.specs.Faults.{fault_of};
 
     ghost from_gives = { λ fault group. group ≡ fault_of fault };
 

@@ -2,9 +2,9 @@ use Rattle.std.proofs.Common.{ap, ◌∙◌, arith, refl, length}
 use Rattle.lvm_num.specs.declared.descriptor.Descriptor.{Descriptor}
 use Rattle.lvm_num.specs.Descriptor.{most_volumes}
 use Rattle.lvm_core.specs.Looking.{HasNoVolume}
-use Rattle.lvm_volumes.specs.Endings.{TakesCommands}
-use Rattle.lvm_volumes.proofs.Refusals.{if_none}
-use Rattle.lvm_volumes.proofs.new_volume.check.Goals as goal
+use Rattle.lvm_volume_plan.specs.Faults.{TakesCommands}
+use Rattle.lvm_volume_plan.proofs.Refusals.{if_none}
+use Rattle.lvm_volume_plan.proofs.new_volume.check.Goals as goal
 
 pub returns-then-v-ne1-clause-refused : goal.returns-then-v-ne1-clause-refused
 returns-then-v-ne1-clause-refused g c =

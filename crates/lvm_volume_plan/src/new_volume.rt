@@ -3,10 +3,9 @@ ghost use Rattle.std.specs.Prelude.{◌≡◌, ◌↔◌, ◌≤◌, ◌<◌, �
 ghost use Rattle.lvm_num.specs.Descriptor.{most_volumes};
 ghost use Rattle.lvm_num.specs.Geometry.{partition_blocks, volume_blocks};
 ghost use Rattle.lvm_core.specs.Settled.{IsSettled};
-ghost use Rattle.lvm_volumes.specs.Endings.{TakesCommands};
-ghost use Rattle.lvm_volumes.specs.NewVolume.{row_for, with_volume, without_volume};
-ghost use Rattle.lvm_volumes.specs.PlannedVolume.{AreOfOneGroup, IsPlannedVolume, IsWithout};
-ghost use Rattle.lvm_volumes.specs.Volumes.{HasSpareRoom, HasNumber, HasPlaces, MayBeMade, RefusesAll, RefusesMklv, RefusesRmlv};
+ghost use Rattle.lvm_volume_plan.specs.Faults.{TakesCommands, HasSpareRoom, HasNumber, HasPlaces, MayBeMade, RefusesAll, RefusesMklv, RefusesRmlv};
+ghost use Rattle.lvm_volume_plan.specs.NewVolume.{row_for, with_volume, without_volume};
+ghost use Rattle.lvm_volume_plan.specs.PlannedVolume.{AreOfOneGroup, IsPlannedVolume, IsWithout};
 
 use crate::fault::GroupFault;
 use crate::next::{lowest_free, with_volume, without_volume};

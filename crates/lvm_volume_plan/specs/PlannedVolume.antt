@@ -4,10 +4,10 @@ use Rattle.lvm_num.specs.declared.descriptor.Descriptor.{Descriptor}
 use Rattle.lvm_num.specs.Descriptor.{IsValid}
 use Rattle.lvm_num.specs.Geometry.{volume_blocks}
 use Rattle.lvm_core.specs.State.{Core}
-use Rattle.lvm_volumes.specs.declared.new_volume.VolumePlan.{VolumePlan}
-use Rattle.lvm_volumes.specs.declared.new_volume.NewVolume.{NewVolume}
-use Rattle.lvm_volumes.specs.NewVolume.{IsLowestFree, IsInOrder, row_for, with_volume, without_volume}
-use Rattle.lvm_volumes.specs.Volumes.{MayBeMade, MayBeRemoved}
+use Rattle.lvm_volume_plan.specs.declared.new_volume.VolumePlan.{VolumePlan}
+use Rattle.lvm_volume_plan.specs.declared.new_volume.NewVolume.{NewVolume}
+use Rattle.lvm_volume_plan.specs.NewVolume.{IsLowestFree, IsInOrder, row_for, with_volume, without_volume}
+use Rattle.lvm_volume_plan.specs.Faults.{MayBeMade, MayBeRemoved}
 
 -- the session's descriptor is valid, and its status is of the same group
 pub record AreOfOneGroup (core : Core) : Type 0 where

@@ -11,8 +11,8 @@ use Rattle.lvm_num.specs.Descriptor.{IsVolume, IsPartitionOf, IsLaidOut, IsValid
 use Rattle.lvm_num.proofs.Pairs.{All-left, All-right, AllPairs-left, AllPairs-right, AllPairs-across, AllPairs-append}
 use Rattle.lvm_kept.specs.Group.{IsOneOf}
 use Rattle.lvm_steps.specs.Committing.{DiffersInVolume}
-use Rattle.lvm_volumes.specs.NewVolume.{without_volume}
-use Rattle.lvm_volumes.proofs.Sublists.{pairs_filter, one_filter}
+use Rattle.lvm_volume_plan.specs.NewVolume.{without_volume}
+use Rattle.lvm_volume_plan.proofs.Sublists.{pairs_filter, one_filter}
 
 abbrev has_number : ℕ → LvRow → Bool
 has_number m row = row.number == m

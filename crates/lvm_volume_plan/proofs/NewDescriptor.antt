@@ -14,9 +14,9 @@ use Rattle.lvm_num.specs.Disks.{Disks}
 use Rattle.lvm_map.specs.FirstFit.{IsAllocated, new_volume}
 use Rattle.lvm_map.proofs.Validity.{new_is_valid}
 use Rattle.lvm_steps.specs.Committing.{DiffersInVolume}
-use Rattle.lvm_volumes.specs.declared.new_volume.NewVolume.{NewVolume}
-use Rattle.lvm_volumes.specs.NewVolume.{IsLowestFree, IsInOrder, row_for, with_volume}
-use Rattle.lvm_volumes.proofs.Sublists.{all_insert, pairs_insert, one_insert}
+use Rattle.lvm_volume_plan.specs.declared.new_volume.NewVolume.{NewVolume}
+use Rattle.lvm_volume_plan.specs.NewVolume.{IsLowestFree, IsInOrder, row_for, with_volume}
+use Rattle.lvm_volume_plan.proofs.Sublists.{all_insert, pairs_insert, one_insert}
 
 abbrev has_number : ℕ → LvRow → Bool
 has_number m row = row.number == m

@@ -7,7 +7,7 @@ use Rattle.lvm_num.specs.declared.descriptor.Policy.TheVariants as policy
 use Rattle.lvm_num.specs.declared.descriptor.LvRow.{LvRow}
 use Rattle.lvm_num.specs.declared.descriptor.Descriptor.{Descriptor}
 use Rattle.lvm_num.specs.Descriptor.{IsValid}
-use Rattle.lvm_volumes.specs.NewVolume.{IsLowestFree, IsInOrder}
+use Rattle.lvm_volume_plan.specs.NewVolume.{IsLowestFree, IsInOrder}
 
 -- the first rows have the numbers from 1 on
 abbrev pub AreNumbered : List LvRow → ℕ → Type 0

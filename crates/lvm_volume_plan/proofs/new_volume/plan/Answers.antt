@@ -7,10 +7,10 @@ use Rattle.lvm_num.specs.declared.descriptor.LvRow.{LvRow}
 use Rattle.lvm_num.specs.Descriptor.{IsValid, most_volumes}
 use Rattle.lvm_map.specs.FirstFit.{IsAllocated, new_volume}
 use Rattle.lvm_core.specs.State.{Core, is_there}
-use Rattle.lvm_volumes.specs.NewVolume.{row_for, with_volume}
-use Rattle.lvm_volumes.specs.Volumes.{HasPlaces}
-use Rattle.lvm_volumes.proofs.NewDescriptor.{valid_with}
-use Rattle.lvm_volumes.proofs.new_volume.plan.Goals as goal
+use Rattle.lvm_volume_plan.specs.NewVolume.{row_for, with_volume}
+use Rattle.lvm_volume_plan.specs.Faults.{HasPlaces}
+use Rattle.lvm_volume_plan.proofs.NewDescriptor.{valid_with}
+use Rattle.lvm_volume_plan.proofs.new_volume.plan.Goals as goal
 
 pub prepare-requires-clause-valid : goal.prepare-requires-clause-valid
 prepare-requires-clause-valid g c =
