@@ -14,6 +14,7 @@ use Rattle.lvm_core.specs.Zeros.{IsZeroed}
 use Rattle.lvm_volume_plan.specs.declared.fault.GroupFault.{GroupFault}
 use Rattle.lvm_volume_plan.specs.declared.fault.GroupFault.TheVariants as fault
 use Rattle.lvm_volume_plan.specs.declared.new_volume.NewVolume.{NewVolume}
+use Rattle.lvm_volume_plan.specs.Faults.{HasPlaces, IsRefused, MayBeMade, MayBeRemoved, RefusesMklv, RefusesRmlv}
 use Rattle.lvm_volume_plan.specs.NewVolume.{IsLowestFree, row_for, with_volume, without_volume}
 use Rattle.lvm_core.specs.Leaves.{Scope, NoPartition}
 use Rattle.lvm_volumes.specs.Endings.{CommandDarkened, CommandWentOff, CommandStuck, CommandFailed, commanding}
