@@ -11,9 +11,9 @@ use crate::parts::Parts;
 use lvm_disk::Shelf;
 use lvm_history::History;
 use lvm_num::Stamp;
-use lvm_write::Homes;
 use lvm_session::{Origin, Power, Session};
 use lvm_vol::Entry;
+use lvm_write::Homes;
 
 fn faults_of<S: Shelf>(shelf: &S) -> [u64; 128]
     ensures { AreFaults (S.device shelf.now) result }
