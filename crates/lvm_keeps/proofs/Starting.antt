@@ -87,7 +87,7 @@ starts_clear phase.Landed k r target write begun starts = not_starting starts
 
 -- ---- partitions
 
-pub pp_same : (p q : Pp) → is_pp p q ≡ true → p ≡ q
+pp_same : (p q : Pp) → is_pp p q ≡ true → p ≡ q
 pp_same p q is = let parts = both (p.disk == q.disk) (p.pp == q.pp) is in let disk = eqb-true p.disk q.disk parts.0 in let pp = eqb-true p.pp q.pp parts.1 in ap (λ d. record { disk = d; pp = p.pp }) disk ∙ ap (λ n. record { disk = q.disk; pp = n }) pp
 
 among_same : (xs ys : List Pp) (p : Pp) → same_pps xs ys ≡ true → is_among xs p ≡ is_among ys p
@@ -120,11 +120,11 @@ neither t u (x ∷ xs) a b =
 
 -- ---- track groups and logical partitions
 
-pub some_blocks : (mib lps n : ℕ) → n + 1 ≤ partition_blocks mib * lps → 0 < partition_blocks mib
+some_blocks : (mib lps n : ℕ) → n + 1 ≤ partition_blocks mib * lps → 0 < partition_blocks mib
 some_blocks zero lps n within = absurd (omega (arith, within))
 some_blocks (suc mib) lps n within = omega arith
 
-pub groups_below : (n m : ℕ) → n < 2048 * m → n / 256 < 2048 * m / 256
+groups_below : (n m : ℕ) → n < 2048 * m → n / 256 < 2048 * m / 256
 groups_below n m low = omega (arith, low)
 
 in_range : (t : ℕ → Bool) (a n k : ℕ) → k < n → t (a + k) ≡ true → list_any t (range_with_len a n) ≡ true
