@@ -1,11 +1,9 @@
 -- One request of the table changes.
-use Rattle.std.proofs.Common.{◌≡◌, ◌≢◌, ◌⊎◌, inl, inr, ⊎_elim, ℕ, zero, suc, ◌+◌, ◌*◌, ◌<◌, ◌≤◌, Bool, true, false, ◌&&◌, ◌||◌, ◌==◌, not, List, [], ◌∷◌, ◌++◌, length, get_or, set, Option, Some, None, refl, sym, ap, subst, ◌∙◌, arith, eqb-true}
-use Rattle.std.specs.Prelude.{IsTrue, IsFalse, if◌then◌else◌, slice_get, slice_set, slice_index_or, nat_le}
-use Rattle.std.specs.Option.{option_map}
+use Rattle.std.proofs.Common.{◌≡◌, inl, inr, ⊎_elim, ℕ, zero, suc, ◌<◌, Bool, true, false, ◌==◌, not, List, [], ◌∷◌, length, Some, refl, sym, ap, subst, ◌∙◌, arith}
+use Rattle.std.specs.Prelude.{if◌then◌else◌, slice_get, slice_set}
 use Rattle.std.proofs.lemmas.Bool.{cases_eq}
 use Rattle.std.proofs.lemmas.Bool.Decides.{nat_tests}
-use Rattle.std.proofs.lemmas.Option.{get_or_from_slice_get, slice_get_within, slice_get-get_or}
-use Rattle.std.proofs.lemmas.List.{get_or-set_same, get_or-set_other, length-set}
+use Rattle.std.proofs.lemmas.Option.{slice_get_within}
 use Rattle.lvm_num.specs.declared.place.Pp.{Pp}
 use Rattle.lvm_num.specs.Buffer.{Sector}
 use Rattle.lvm_vol.specs.Facts.{Fact}
@@ -18,15 +16,14 @@ use Rattle.lvm_path.specs.Targets.{with_state}
 use Rattle.lvm_session.specs.declared.open.Open.{Open}
 use Rattle.lvm_session.specs.declared.bringing.OpenCopy.{OpenCopy as Bringing}
 use Rattle.lvm_session.specs.declared.flown.Flown.{Flown}
-use Rattle.lvm_session.specs.State.{Core, State as Session}
+use Rattle.lvm_session.specs.State.{Core}
 use Rattle.lvm_session.specs.Judging.{place_of}
 use Rattle.lvm_session.specs.Bringing.{has_row}
-use Rattle.lvm_invariant.specs.State.{Stage, View, Queued, State}
+use Rattle.lvm_invariant.specs.State.{Queued, State}
 use Rattle.lvm_invariant.specs.Updates.{put, is_pp, staged, with_block}
-use Rattle.lvm_tie_shelf.proofs.Writing.{pp_same, same_pp}
+use Rattle.lvm_tie_shelf.proofs.Writing.{pp_same}
 use Rattle.lvm_tie.proofs.Orderly.{HaveNumbers}
-use Rattle.lvm_tie.proofs.Words.{clash}
-use Rattle.lvm_tie.specs.Seen.{stage_seen, stage_at, SeesRequest, SeesStep, IsRequestAt, IsStepAt, Sees}
+use Rattle.lvm_tie.specs.Seen.{stage_seen, stage_at, SeesRequest, IsRequestAt, IsStepAt, Sees}
 
 -- ---- a list of which one changes
 

@@ -1,6 +1,6 @@
 -- What the code judges of copies is what the state sees of them.
-use Rattle.std.proofs.Common.{◌≡◌, ◌⊎◌, inl, inr, ⊎_elim, ℕ, zero, suc, ◌+◌, ◌*◌, ◌/◌, ◌%◌, ◌<◌, ◌≤◌, Bool, true, false, ◌&&◌, ◌||◌, ◌==◌, not, List, [], ◌∷◌, Option, Some, None, refl, sym, ap, subst, ◌∙◌, arith, eqb-true}
-use Rattle.std.specs.Prelude.{IfSome, IsTrue, IsFalse, find, slice_get, ◌-◌, if◌then◌else◌, nat_le, nat_lt, unwrap_or}
+use Rattle.std.proofs.Common.{◌≡◌, inl, inr, ℕ, zero, suc, ◌+◌, ◌*◌, ◌/◌, ◌%◌, ◌<◌, ◌≤◌, Bool, true, false, ◌&&◌, ◌||◌, ◌==◌, not, List, [], ◌∷◌, Option, Some, None, refl, sym, ap, subst, ◌∙◌, arith}
+use Rattle.std.specs.Prelude.{IfSome, IsTrue, find, slice_get, ◌-◌, if◌then◌else◌, nat_le, nat_lt, unwrap_or}
 use Rattle.std.specs.List.{list_any}
 use Rattle.std.specs.Option.{option_map, option_map_or}
 use Rattle.std.proofs.lemmas.Bool.Decides.{nat_tests}
@@ -10,7 +10,7 @@ use Rattle.lvm_num.specs.declared.descriptor.LvRow.{LvRow}
 use Rattle.lvm_num.specs.declared.descriptor.Descriptor.{Descriptor}
 use Rattle.lvm_num.specs.declared.status.Status.{Status}
 use Rattle.lvm_num.specs.Disks.{Disks}
-use Rattle.lvm_num.specs.Descriptor.{IsValid, copies_of, is_member, member_of, volume_of}
+use Rattle.lvm_num.specs.Descriptor.{copies_of, is_member, volume_of}
 use Rattle.lvm_num.specs.Geometry.{partition_blocks, partition_of, track_group_of, sector_of, volume_blocks}
 use Rattle.lvm_num.specs.Record.{Stamped}
 use Rattle.lvm_num.specs.Status.{calls_stale, calls_missing}
@@ -24,7 +24,6 @@ use Rattle.lvm_kept.specs.Contents.{contents_of}
 use Rattle.lvm_kept.specs.Group.{IsBlockOf, IsOneOf}
 use Rattle.lvm_kept.proofs.Entries.{volume_is_row}
 use Rattle.lvm_stale.specs.Table.{is_pp}
-use Rattle.lvm_status.specs.Update.{Stored, seen, is_settled_stale as settled_in}
 use Rattle.lvm_path.specs.declared.ask.Ask.{Ask}
 use Rattle.lvm_path.specs.declared.target.Target.{Target}
 use Rattle.lvm_path.specs.Asks.{lv_of, at_of, count_of}
@@ -34,13 +33,12 @@ use Rattle.lvm_session.specs.State.{Core, State as Session, is_there}
 use Rattle.lvm_session.specs.Judging.{copies_in, copies_for, group_in, is_usable, is_stale, is_missing, is_wanted_stale, is_settled, is_running, is_caught, is_waiting, IsWithin}
 use Rattle.lvm_session.specs.Bringing.{groups_of}
 use Rattle.lvm_invariant.specs.State.{Marks, OpenCopy, State, is_usable as sees_usable, is_settled_stale, stale_in, HasPassed}
-use Rattle.lvm_crash.specs.Session.{marks_of, as_marks, members_there}
+use Rattle.lvm_crash.specs.Session.{as_marks, members_there}
 use Rattle.lvm_tie_shelf.proofs.Copies.{copy_placed, one_block}
 use Rattle.lvm_tie_shelf.proofs.Writing.{and_both, pp_same, same_pp}
-use Rattle.lvm_tie_shelf.specs.Copies.{IsCopyOf, AreOne}
+use Rattle.lvm_tie_shelf.specs.Copies.{IsCopyOf}
 use Rattle.lvm_tie.proofs.Orderly.{all_at, open_one, valid_of, waiting_one}
-use Rattle.lvm_tie.proofs.Words.{clash}
-use Rattle.lvm_tie.specs.Seen.{update_of, passed_by, SeesOpen, SeesRunning, SeesCopy, Sees}
+use Rattle.lvm_tie.specs.Seen.{passed_by, SeesOpen, SeesRunning, SeesCopy}
 use Rattle.lvm_tie.specs.Tied.{IsTied}
 use Rattle.lvm_events.specs.Marks.{is_among}
 use Rattle.lvm_sound.specs.Requests.{IsTarget}

@@ -7,3 +7,4 @@ pub mod Changing
 pub mod Entered
 pub mod Wanted
 pub mod StepBlocks
+pub mod Rows

@@ -1,6 +1,6 @@
 -- What a sound session says of its requests and of what it has out, as the tie needs it.
-use Rattle.std.proofs.Common.{◌≡◌, ◌⊎◌, inl, inr, ⊎_elim, ℕ, zero, suc, ◌+◌, ◌<◌, ◌≤◌, Bool, true, false, ◌&&◌, ◌||◌, ◌==◌, not, if◌then◌else◌, List, [], ◌∷◌, length, cond, Option, Some, None, slice_get, refl, sym, ap, subst, ◌∙◌, arith}
-use Rattle.std.specs.Prelude.{count_by, unwrap_or, AllPairs, IsTrue, nat_lt, slice_index_or}
+use Rattle.std.proofs.Common.{◌≡◌, ◌⊎◌, inl, inr, ⊎_elim, ℕ, zero, suc, ◌<◌, Bool, true, false, ◌&&◌, ◌||◌, ◌==◌, not, if◌then◌else◌, List, [], ◌∷◌, length, cond, Option, Some, None, slice_get, refl, sym, ap, subst, ◌∙◌, arith}
+use Rattle.std.specs.Prelude.{count_by, unwrap_or, AllPairs, IsTrue, nat_lt}
 use Rattle.std.specs.List.{list_any, list_all, AllByRecursion}
 use Rattle.std.specs.Option.{option_map_or}
 use Rattle.std.proofs.lemmas.Bool.Decides.{nat_tests}
@@ -12,16 +12,15 @@ use Rattle.lvm_num.specs.declared.record.NoteEntry.{NoteEntry}
 use Rattle.lvm_num.specs.declared.record.Kind.{Kind}
 use Rattle.lvm_num.specs.declared.record.Kind.TheVariants as kind
 use Rattle.lvm_num.specs.declared.status.Status.{Status}
-use Rattle.lvm_num.specs.declared.place.Pp.{Pp}
 use Rattle.lvm_num.specs.Buffer.{Sector}
 use Rattle.lvm_num.specs.Descriptor.{IsValid}
 use Rattle.lvm_num.specs.Disks.{has}
 use Rattle.lvm_num.specs.Geometry.{sector_of}
-use Rattle.lvm_num.specs.Note.{Noted, note_bytes, note_in, IsNote}
+use Rattle.lvm_num.specs.Note.{Noted, note_bytes, note_in}
 use Rattle.lvm_num.specs.Record.{frame, record_sectors, slot_start}
 use Rattle.lvm_num.proofs.Notes.{written_is_read}
 use Rattle.lvm_vol.specs.Facts.{Request as Asked}
-use Rattle.lvm_vol.specs.Log.{asked, no_request, request_of}
+use Rattle.lvm_vol.specs.Log.{no_request, request_of}
 use Rattle.lvm_disk.specs.Device.{Flight}
 use Rattle.lvm_kept.specs.Contents.{note_sector}
 use Rattle.lvm_kept.specs.Group.{names_if}
@@ -35,10 +34,9 @@ use Rattle.lvm_path.specs.declared.request.Phase.{Phase}
 use Rattle.lvm_path.specs.declared.request.Phase.TheVariants as phase
 use Rattle.lvm_path.specs.declared.target.Target.{Target}
 use Rattle.lvm_path.specs.Asks.{at_of, count_of, is_write}
-use Rattle.lvm_path.specs.Targets.{are_over, is_begun, is_over}
+use Rattle.lvm_path.specs.Targets.{is_begun, is_over}
 use Rattle.lvm_status.specs.Update.{Stored}
 use Rattle.lvm_write.specs.declared.homes.Homes.{Homes}
-use Rattle.lvm_write.specs.Homes.{next_slot}
 use Rattle.lvm_session.specs.declared.open.Open.{Open}
 use Rattle.lvm_session.specs.declared.bringing.OpenCopy.{OpenCopy as Bringing}
 use Rattle.lvm_session.specs.declared.bringing.Step.{Step}
@@ -50,10 +48,10 @@ use Rattle.lvm_session.specs.State.{Core, State as Session}
 use Rattle.lvm_session.specs.Judging.{is_waiting}
 use Rattle.lvm_events.specs.Dark.{IsAscending}
 use Rattle.lvm_events.specs.Events.{IsDataTransfer, IsCopyTransfer}
-use Rattle.lvm_sound.specs.Owners.{AreOwned, AreRows, HaveTickets as DifferInTickets, IsDataOf, IsNoteOf, IsRowOf, IsStatusOf, IsStepOf, IsTransferOf, flies, same_owner, target_flies}
+use Rattle.lvm_sound.specs.Owners.{AreRows, HaveTickets as DifferInTickets, IsDataOf, IsNoteOf, IsStatusOf, IsStepOf, IsTransferOf, flies, same_owner, target_flies}
 use Rattle.lvm_sound.specs.Requests.{IsOpenOne, IsPhase, IsRequest, IsTarget}
 use Rattle.lvm_sound.specs.Sound.{IsAsked, IsGoing, IsOn, IsSound}
-use Rattle.lvm_tie.specs.Out.{AreNotes, IsUpdateWrite, IsWriteOf, is_owed_on}
+use Rattle.lvm_tie.specs.Out.{AreNotes, IsWriteOf, is_owed_on}
 use Rattle.lvm_tie.specs.Tied.{IsOrderly}
 
 -- ---- lists

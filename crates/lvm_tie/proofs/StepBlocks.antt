@@ -1,12 +1,10 @@
 -- The blocks of a step of the copy that is being brought up: those of one track group of its logical partition.
-use Rattle.std.proofs.Common.{◌≡◌, ◌⊎◌, inl, inr, ⊎_elim, ℕ, ◌+◌, ◌-◌, ◌*◌, ◌/◌, ◌%◌, ◌<◌, ◌≤◌, Bool, true, false, ◌&&◌, not, List, Option, Some, None, refl, sym, ap, subst, ◌∙◌, arith}
-use Rattle.std.specs.Prelude.{IsTrue, IsFalse}
-use Rattle.std.specs.Option.{option_map_or}
+use Rattle.std.proofs.Common.{◌≡◌, ℕ, ◌+◌, ◌-◌, ◌*◌, ◌<◌, ◌≤◌, Bool, true, false, List, refl, sym, ap, subst, ◌∙◌, arith}
+use Rattle.std.specs.Prelude.{IsTrue}
 use Rattle.lvm_num.specs.declared.place.Pp.{Pp}
-use Rattle.lvm_num.specs.declared.descriptor.LvRow.{LvRow}
 use Rattle.lvm_num.specs.declared.descriptor.Descriptor.{Descriptor}
-use Rattle.lvm_num.specs.Descriptor.{copies_of, is_member, volume_of}
-use Rattle.lvm_num.specs.Geometry.{partition_blocks, partition_of, track_group_of}
+use Rattle.lvm_num.specs.Descriptor.{copies_of, is_member}
+use Rattle.lvm_num.specs.Geometry.{partition_blocks, track_group_of}
 use Rattle.lvm_num.specs.Status.{calls_missing}
 use Rattle.lvm_vol.specs.Facts.{Fact}
 use Rattle.lvm_map.proofs.Parts.{parts}
@@ -17,7 +15,6 @@ use Rattle.lvm_kept.specs.Group.{IsBlockOf, IsOneOf}
 use Rattle.lvm_kept.proofs.Entries.{volume_is_row}
 use Rattle.lvm_session.specs.declared.bringing.OpenCopy.{OpenCopy as Bringing}
 use Rattle.lvm_session.specs.State.{Core, State as Session}
-use Rattle.lvm_session.specs.Judging.{copies_in}
 use Rattle.lvm_session.specs.Bringing.{block_at, groups_of}
 use Rattle.lvm_invariant.specs.State.{Queued, State, covers}
 use Rattle.lvm_invariant.specs.Submit.{IsPlaced}

@@ -1,61 +1,51 @@
 -- What follows from the tie.
-use Rattle.std.proofs.Common.{◌≡◌, ◌⊎◌, inl, inr, ⊎_elim, ℕ, zero, suc, ◌+◌, ◌-◌, ◌<◌, ◌≤◌, Bool, true, false, ◌&&◌, ◌||◌, List, [], ◌∷◌, ◌++◌, length, get_or, Option, Some, None, refl, sym, ap, subst, ◌∙◌, arith}
-use Rattle.std.specs.Prelude.{IsTrue, IsFalse, not, if◌then◌else◌, slice_get, slice_index_or, All}
-use Rattle.std.specs.List.{AllByRecursion, list_any}
-use Rattle.std.proofs.lemmas.Option.{get_or_from_slice_get, slice_get_within, slice_get-get_or}
-use Rattle.std.proofs.lemmas.List.Folds.{list_any_at}
-use Rattle.lvm_num.specs.declared.place.Pp.{Pp}
-use Rattle.lvm_num.specs.declared.descriptor.Descriptor.{Descriptor}
-use Rattle.lvm_num.specs.declared.status.Status.{Status}
+use Rattle.std.proofs.Common.{◌≡◌, inl, inr, ℕ, zero, suc, ◌+◌, ◌-◌, ◌<◌, Bool, true, false, ◌&&◌, ◌||◌, List, [], ◌∷◌, length, get_or, Option, Some, None, refl, sym, ap, subst, ◌∙◌, arith}
+use Rattle.std.specs.Prelude.{IsTrue, not, if◌then◌else◌, slice_get}
+use Rattle.std.proofs.lemmas.Option.{slice_get-get_or}
 use Rattle.lvm_num.specs.Buffer.{Sector}
 use Rattle.lvm_num.specs.Disks.{has}
 use Rattle.lvm_num.specs.Geometry.{sector_of}
-use Rattle.lvm_num.specs.Record.{Stamped, slot_start}
+use Rattle.lvm_num.specs.Record.{slot_start}
 use Rattle.lvm_vol.specs.Facts.{Fact, Request as Asked, block_of}
 use Rattle.lvm_vol.specs.Legal.{Legal}
 use Rattle.lvm_vol.specs.Log.{request_of}
-use Rattle.lvm_disk.specs.Device.{Media, Image, Flight, Device, image_of, MayLeave}
-use Rattle.lvm_disk.specs.Paths.{DeviceStep, Path, Here, Then}
+use Rattle.lvm_disk.specs.Device.{Flight}
+use Rattle.lvm_disk.specs.Paths.{Then}
 use Rattle.lvm_kept.specs.Contents.{contents_of}
 use Rattle.lvm_kept.specs.Kept.{Kept}
-use Rattle.lvm_kept.specs.Moments.{Moment, Step as MomentStep, Moves, Enters}
+use Rattle.lvm_kept.specs.Moments.{Moment, Moves, Enters}
 use Rattle.lvm_kept.specs.Torn.{RecordWrite}
-use Rattle.lvm_steps.specs.Moments.{Begins, Holds, Upholds, Keeps}
+use Rattle.lvm_steps.specs.Moments.{Holds, Keeps}
 use Rattle.lvm_mwc.specs.Notes.{names_group}
-use Rattle.lvm_mwc.specs.Cache.{flight_on}
 use Rattle.lvm_sched.specs.Writes.{is_waiting}
 use Rattle.lvm_sched.specs.declared.writes.TargetState.{TargetState}
-use Rattle.lvm_sched.specs.declared.writes.TargetState.TheVariants as target
 use Rattle.lvm_path.specs.declared.request.Phase.{Phase as RequestPhase}
 use Rattle.lvm_path.specs.declared.request.Phase.TheVariants as phase
 use Rattle.lvm_path.specs.declared.target.Target.{Target}
-use Rattle.lvm_path.specs.Asks.{lv_of, at_of, count_of, is_write}
+use Rattle.lvm_path.specs.Asks.{at_of, count_of, is_write}
 use Rattle.lvm_path.specs.Targets.{is_begun}
 use Rattle.lvm_session.specs.declared.open.Open.{Open}
-use Rattle.lvm_session.specs.declared.open.Power.TheVariants as power
 use Rattle.lvm_session.specs.declared.flown.Flown.{Flown}
 use Rattle.lvm_session.specs.declared.flown.Owner.{Owner}
 use Rattle.lvm_session.specs.declared.flown.Owner.TheVariants as owner
-use Rattle.lvm_session.specs.State.{Core, State as Session, is_there}
+use Rattle.lvm_session.specs.State.{Core, State as Session}
 use Rattle.lvm_session.specs.Judging.{place_of, is_running}
 use Rattle.lvm_session.specs.Bringing.{has_row, is_out, is_whole}
 use Rattle.lvm_session.specs.declared.bringing.OpenCopy.{OpenCopy as Bringing}
 use Rattle.lvm_session.specs.declared.bringing.Step.{Step}
 use Rattle.lvm_session.specs.declared.bringing.Step.TheVariants as step
-use Rattle.lvm_invariant.specs.State.{Stage, Flying, Going, Phase, Groups, Queued, State, covers, is_past, Started}
+use Rattle.lvm_invariant.specs.State.{Flying, Going, Groups, Queued, State, is_past, Started}
 use Rattle.lvm_invariant.specs.Updates.{is_pp}
-use Rattle.lvm_invariant.specs.Good.{Good}
-use Rattle.lvm_crash.specs.Session.{members_there}
 use Rattle.lvm_crash.specs.Flights.{Matches}
 use Rattle.lvm_crash.proofs.Images.{images_kept}
 use Rattle.lvm_tie_shelf.proofs.Owned.{owners_have_out, covers_its}
 use Rattle.lvm_tie_shelf.proofs.Writing.{pp_same, same_pp}
-use Rattle.lvm_tie_shelf.specs.Owned.{IsTransfer, IsDataFlight, IsStepFlight, IsNoteFlight, IsStatusFlight, IsOfUpdate, IsOwned, AllOwned}
+use Rattle.lvm_tie_shelf.specs.Owned.{IsTransfer, IsDataFlight, IsOfUpdate, IsOwned, AllOwned}
 use Rattle.lvm_tie.proofs.Judged.{aimed_of}
-use Rattle.lvm_tie.proofs.Orderly.{AreOut, Differ, HasTargets, IsCopyOut, IsDataOut, IsNoteOut, IsOfUpdateOut, IsOut, IsStatusOut, StepIsOut, begun_by, out_of, targets_of, valid_of}
+use Rattle.lvm_tie.proofs.Orderly.{AreOut, Differ, HasTargets, IsCopyOut, IsDataOut, IsNoteOut, IsOfUpdateOut, IsOut, StepIsOut, begun_by, out_of, targets_of, valid_of}
 use Rattle.lvm_tie.specs.Out.{CarriesStep, CarryTheirs}
-use Rattle.lvm_tie.specs.Seen.{stage_seen, stage_at, phase_seen, SeesRequest, SeesNote, SeesHand, step_write_of, step_write_in, update_of, Sees}
-use Rattle.lvm_tie.specs.Tied.{IsOrderly, IsTied, IsGood, moment_of, SpanGoesOn, TiedOwns, GoodUpholds, GoodGoesOn}
+use Rattle.lvm_tie.specs.Seen.{stage_seen, stage_at, phase_seen, SeesRequest, SeesNote, SeesHand, step_write_of, step_write_in, update_of}
+use Rattle.lvm_tie.specs.Tied.{IsTied, moment_of, TiedOwns, GoodUpholds, GoodGoesOn}
 
 -- ---- targets
 

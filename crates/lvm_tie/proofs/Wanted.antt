@@ -1,13 +1,12 @@
 -- Where nothing of the status changes but what is wanted, and not what is missing.
 use Rattle.std.proofs.Common.{◌≡◌, ◌⊎◌, inl, inr, ⊎_elim, ℕ, ◌<◌, ◌^◌, Bool, true, false, ◌&&◌, ◌||◌, not, if◌then◌else◌, List, Option, Some, None, refl, sym, ap, subst, ◌∙◌}
-use Rattle.std.specs.Prelude.{IsTrue, IsFalse, ◌≢◌}
+use Rattle.std.specs.Prelude.{◌≢◌}
 use Rattle.std.specs.Option.{option_map}
 use Rattle.lvm_num.specs.declared.descriptor.Descriptor.{Descriptor}
 use Rattle.lvm_num.specs.declared.status.Status.{Status}
 use Rattle.lvm_num.specs.Descriptor.{is_member}
 use Rattle.lvm_num.specs.Disks.{has}
 use Rattle.lvm_num.specs.Record.{Stamped}
-use Rattle.lvm_num.specs.Status.{calls_missing}
 use Rattle.lvm_vol.specs.Facts.{Fact}
 use Rattle.lvm_disk.specs.Device.{Image}
 use Rattle.lvm_kept.specs.Torn.{RecordWrite}
@@ -22,7 +21,7 @@ use Rattle.lvm_events.specs.Marks.{WantsDirty}
 use Rattle.lvm_invariant.specs.State.{State}
 use Rattle.lvm_crash.specs.Session.{as_marks, marks_of}
 use Rattle.lvm_tie.specs.Seen.{IsRequestAt, IsStepAt, Sees, update_of}
-use Rattle.lvm_tie.specs.Out.{IsUpdateWrite, IsWriteOf, MayUpdate, is_owed_on}
+use Rattle.lvm_tie.specs.Out.{IsWriteOf, MayUpdate, is_owed_on}
 
 module _ (old new : Stored) (rest : seen new ≡ record (seen old) { wanted = new.wanted }) (missing : SameMissing old.wanted new.wanted) where
   pub committed_same : new.committed ≡ old.committed

@@ -19,7 +19,6 @@ use Rattle.lvm_sched.specs.declared.writes.TargetState.{TargetState}
 use Rattle.lvm_sched.specs.declared.writes.TargetState.TheVariants as target
 use Rattle.lvm_path.specs.declared.request.Phase.{Phase as RequestPhase}
 use Rattle.lvm_path.specs.declared.request.Phase.TheVariants as phase
-use Rattle.lvm_path.specs.declared.request.Request.{Request}
 use Rattle.lvm_path.specs.declared.target.Target.{Target}
 use Rattle.lvm_path.specs.Asks.{lv_of, at_of, count_of, is_write}
 use Rattle.lvm_path.specs.Targets.{is_begun}
@@ -30,7 +29,7 @@ use Rattle.lvm_session.specs.declared.bringing.Step.TheVariants as step
 use Rattle.lvm_session.specs.State.{Core, is_there}
 use Rattle.lvm_session.specs.Judging.{is_running, place_of}
 use Rattle.lvm_session.specs.Bringing.{groups_of, has_row, block_at}
-use Rattle.lvm_invariant.specs.State.{Stage, Todo, Flying, Well, Badly, Phase, Held, WantEntry, Ready, Going, Landed, Groups, Queued, OpenCopy, StepWrite, State}
+use Rattle.lvm_invariant.specs.State.{Stage, Todo, Flying, Well, Badly, Phase, Held, WantEntry, Ready, Going, Landed, Groups, Queued, OpenCopy, StepWrite, State, has_landed}
 use Rattle.lvm_invariant.specs.Updates.{is_pp}
 use Rattle.lvm_crash.specs.Session.{marks_of, as_marks}
 
@@ -106,7 +105,7 @@ step_write_in (Some c) = step_write_of c c.step
 
 -- what its step has out or in hand
 abbrev pub SeesHand : Step → Queued → Type 0
-SeesHand step.Idle q = q.got ≡ None
+SeesHand step.Idle q = (has_landed q.phase ≡ false) × (q.got ≡ None)
 SeesHand (step.Reading source) q = (q.phase ≡ Going) × (q.targets source ≡ Some Flying)
 SeesHand (step.Read buf) q = (q.phase ≡ Going) × (value : ℕ → Sector) × (q.got ≡ Some value) × ((b : ℕ) → value b ≡ slice_index_or buf.sectors (b - q.first) [])
 SeesHand step.Writing q = (q.phase ≡ Going) × (value : ℕ → Sector) × (q.got ≡ Some value)

@@ -19,7 +19,6 @@ use Rattle.lvm_vol.specs.Facts.{Fact}
 use Rattle.lvm_disk.specs.Device.{Flight, image_of}
 use Rattle.lvm_kept.specs.Contents.{contents_of}
 use Rattle.lvm_kept.specs.Group.{IsOneOf}
-use Rattle.lvm_kept.specs.Torn.{RecordWrite}
 use Rattle.lvm_hold.specs.declared.queue.Held.{Held as Holding}
 use Rattle.lvm_hold.specs.declared.queue.Row.{Row}
 use Rattle.lvm_hold.specs.Conflicts.{have_common_block, conflicts}
@@ -49,11 +48,11 @@ use Rattle.lvm_session.specs.declared.flown.Owner.{Owner}
 use Rattle.lvm_session.specs.declared.flown.Owner.TheVariants as owner
 use Rattle.lvm_session.specs.State.{Core, State as Session, state}
 use Rattle.lvm_session.specs.Judging.{is_waiting, is_running, is_usable, is_missing, is_caught, is_held_back, copies_for, group_in, mode_of, policy_of, place_of, held_of, facts_of, next_for, aims, IsWithin}
-use Rattle.lvm_session.specs.Bringing.{has_row, is_out, is_whole, step_row, groups_of}
+use Rattle.lvm_session.specs.Bringing.{is_out, is_whole, step_row, groups_of}
 use Rattle.lvm_events.specs.Events.{Admits, Chooses, ChoosesBy, copy_of, last_after, loads_of, makes_dirty, target_at, usable_from, without_pin}
 use Rattle.lvm_events.specs.Marks.{WantsDirty, WantsDirtyIf}
 use Rattle.lvm_sound.specs.Requests.{IsPhase, IsRequest}
-use Rattle.lvm_sound.specs.Sound.{IsSound, rows_of, waiting_rows, with_row}
+use Rattle.lvm_sound.specs.Sound.{IsSound}
 use Rattle.lvm_invariant.specs.State.{Marks, Stage, Phase, Held, WantEntry, Ready, Going, Landed, OpenCopy, Queued, State, covers, is_past, has_landed}
 use Rattle.lvm_invariant.specs.Updates.{is_pp, put}
 use Rattle.lvm_invariant.specs.Sound.{Conflict}
@@ -70,6 +69,7 @@ use Rattle.lvm_tie_shelf.proofs.Writing.{and_both, pp_same}
 use Rattle.lvm_tie.proofs.Changing.{step_apart, sees_changed}
 use Rattle.lvm_tie.proofs.Judged.{there_is_copy, on_member, missing_seen, usable_seen, wanted_seen}
 use Rattle.lvm_tie.proofs.Modes.{active_is}
+use Rattle.lvm_tie.proofs.Rows.{HaveRows, rows_are}
 use Rattle.lvm_tie.proofs.Orderly.{HaveNumbers, numbers_of, open_one, waiting_one}
 use Rattle.lvm_tie.proofs.Words.{or_left, or_either, any_none, filter_one, not_true, clash, stage_of_one, target_of, one_there}
 use Rattle.lvm_tie.proofs.Wanted.{dirty_rest, next_same, sees_wanted, stamp_same, update_same, write_same}
@@ -82,12 +82,6 @@ use Rattle.lvm_tie_requests.proofs.Unpinned.{cache_is, entries_stay}
 
 some_of : {X : Type 0} (a b : X) → Some a ≡ Some b → a ≡ b
 some_of a b e = cc
-
--- each that waits has its row, and one that doesn't has landed
-pub record HaveRows (core : Core) : Type 0 where
-  pub requests : (k : ℕ) (o : Open) → slice_get core.requests k ≡ Some o → is_waiting o ≡ true → IsOneOf core.queue.rows (record { id = place_of o.request.id; ask = held_of o.request.ask })
-  pub a_step : (c : Bringing) → core.copy ≡ Some c → has_row core c ≡ true → IsOneOf core.queue.rows (step_row core c)
-  pub landed : (k : ℕ) (o : Open) → slice_get core.requests k ≡ Some o → is_waiting o ≡ false → o.request.phase ≡ phase.Landed
 
 -- what is chosen: usable copies, and for a write the one that is being brought up where it has passed
 pub record AreChosen (core : Core) (o : Open) (targets : List Target) : Type 0 where
@@ -460,66 +454,6 @@ module _ (past : List Fact) (old new : Session) (place : ℕ) (admits : Admits o
       by : (b : Bool) → WantsDirtyIf b (lv_of ask) core.status new.core.status → IsTied past new
       by false same = plain same
       by true wants = marked wants
-
--- ---- of a sound session
-
-among_rows : (o : Open) (os : List Open) (k : ℕ) → slice_get os k ≡ Some o → is_waiting o ≡ true → IsOneOf (waiting_rows os) (record { id = place_of o.request.id; ask = held_of o.request.ask })
-among_rows o [] k there waits = absurd (cc there)
-among_rows o (x ∷ os) zero there waits = by (is_waiting x) (ap is_waiting same ∙ waits)
-  where
-    same : x ≡ o
-    same = cc there
-
-    by : (b : Bool) → b ≡ true → IsOneOf (if b then record { id = place_of x.request.id; ask = held_of x.request.ask } ∷ waiting_rows os else waiting_rows os) (record { id = place_of o.request.id; ask = held_of o.request.ask })
-    by true is = inl (ap (λ (y : Open). record { id = place_of y.request.id; ask = held_of y.request.ask }) (sym same))
-    by false is = absurd (cc is)
-among_rows o (x ∷ os) (suc k) there waits = by (is_waiting x) (among_rows o os k there waits)
-  where
-    by : (b : Bool) → IsOneOf (waiting_rows os) (record { id = place_of o.request.id; ask = held_of o.request.ask })
-        → IsOneOf (if b then record { id = place_of x.request.id; ask = held_of x.request.ask } ∷ waiting_rows os else waiting_rows os) (record { id = place_of o.request.id; ask = held_of o.request.ask })
-    by true rest = inr rest
-    by false rest = rest
-
-with_row_has : (own : Row) (rows : List Row) → IsOneOf (with_row own rows) own
-with_row_has own [] = inl refl
-with_row_has own (row ∷ rows) = by (nat_lt own.id row.id) (with_row_has own rows)
-  where
-    by : (b : Bool) → IsOneOf (with_row own rows) own → IsOneOf (if b then own ∷ row ∷ rows else row ∷ with_row own rows) own
-    by true others = inl refl
-    by false others = inr others
-
-with_row_keeps : (own row : Row) (rows : List Row) → IsOneOf rows row → IsOneOf (with_row own rows) row
-with_row_keeps own row [] one = absurd one
-with_row_keeps own row (r ∷ rows) one = by (nat_lt own.id r.id) one (with_row_keeps own row rows)
-  where
-    by : (b : Bool) → IsOneOf (r ∷ rows) row → (IsOneOf rows row → IsOneOf (with_row own rows) row) → IsOneOf (if b then own ∷ r ∷ rows else r ∷ with_row own rows) row
-    by true its others = inr its
-    by false (inl here) others = inl here
-    by false (inr there) others = inr (others there)
-
-module _ (s : Session) (write : Option RecordWrite) (orderly : IsOrderly s write) where
-  queue_is : s.core.queue.rows ≡ rows_of s.core
-  queue_is = (orderly.sound.on orderly.on).going.queue
-
-  all_rows : (row : Row) → IsOneOf (waiting_rows s.core.requests) row → IsOneOf (rows_of s.core) row
-  all_rows row one = by s.core.copy
-    where
-      of : (c : Bringing) (b : Bool) → IsOneOf (if b then with_row (step_row s.core c) (waiting_rows s.core.requests) else waiting_rows s.core.requests) row
-      of c true = with_row_keeps (step_row s.core c) row (waiting_rows s.core.requests) one
-      of c false = one
-
-      by : (m : Option Bringing) → IsOneOf (option_map_or (λ (c : Bringing). if has_row s.core c then with_row (step_row s.core c) (waiting_rows s.core.requests) else waiting_rows s.core.requests) m (waiting_rows s.core.requests)) row
-      by None = one
-      by (Some c) = of c (has_row s.core c)
-
-  pub rows_are : HaveRows s.core
-  rows_are = record {
-    requests = λ k o there waits. subst (λ (rows : List Row). IsOneOf rows (record { id = place_of o.request.id; ask = held_of o.request.ask })) (sym queue_is) (all_rows (record { id = place_of o.request.id; ask = held_of o.request.ask }) (among_rows o s.core.requests k there waits));
-    a_step = λ c is row. subst (λ (rows : List Row). IsOneOf rows (step_row s.core c)) (sym queue_is)
-        (subst (λ (m : Option Bringing). IsOneOf (option_map_or (λ (x : Bringing). if has_row s.core x then with_row (step_row s.core x) (waiting_rows s.core.requests) else waiting_rows s.core.requests) m (waiting_rows s.core.requests)) (step_row s.core c)) (sym is)
-        (subst (λ b. IsOneOf (if b then with_row (step_row s.core c) (waiting_rows s.core.requests) else waiting_rows s.core.requests) (step_row s.core c)) (sym row) (with_row_has (step_row s.core c) (waiting_rows s.core.requests))));
-    landed = λ k o there over. ((open_one s write orderly k o there).over over).phase_is;
-  }
 
 -- ---- what is chosen
 

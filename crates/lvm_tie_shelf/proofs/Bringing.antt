@@ -1,28 +1,17 @@
 -- The ends of reads, and of writes to the copy that is being brought up.
-use Rattle.std.proofs.Common.{◌≡◌, ◌⊎◌, inl, inr, ⊎_elim, ℕ, ◌+◌, ◌-◌, ◌<◌, ◌≤◌, Bool, true, false, List, [], Option, Some, None, refl, sym, ap, subst, ◌∙◌, arith}
-use Rattle.std.specs.Prelude.{IsTrue, IsFalse, slice_get, slice_index_or}
+use Rattle.std.proofs.Common.{◌≡◌, inl, inr, ⊎_elim, ℕ, ◌+◌, ◌-◌, ◌<◌, ◌≤◌, [], refl, sym, ap, subst, ◌∙◌, arith}
+use Rattle.std.specs.Prelude.{IsTrue}
 use Rattle.std.proofs.lemmas.Option.{get_or_from_slice_get}
-use Rattle.lvm_num.specs.declared.place.Pp.{Pp}
-use Rattle.lvm_num.specs.declared.descriptor.Descriptor.{Descriptor}
-use Rattle.lvm_num.specs.declared.status.Status.{Status}
-use Rattle.lvm_num.specs.Buffer.{Buffer, Sector}
-use Rattle.lvm_num.specs.Descriptor.{IsValid}
 use Rattle.lvm_num.specs.Geometry.{sector_of}
-use Rattle.lvm_num.specs.Record.{Stamped}
-use Rattle.lvm_disk.specs.Device.{Media, Flight, image_of, written}
+use Rattle.lvm_disk.specs.Device.{image_of}
 use Rattle.lvm_kept.specs.Contents.{contents_of}
-use Rattle.lvm_kept.specs.Group.{block_at}
 use Rattle.lvm_kept.proofs.Contained.{blocks_are_sectors}
-use Rattle.lvm_invariant.specs.State.{Queued, OpenCopy, StepWrite, State, covers, is_past}
-use Rattle.lvm_invariant.specs.Found.{Votes}
-use Rattle.lvm_invariant.specs.Good.{Good}
-use Rattle.lvm_invariant.specs.CopyWrite.{Passes, CopyWrites, copied}
+use Rattle.lvm_invariant.specs.CopyWrite.{CopyWrites, copied}
 use Rattle.lvm_invariant.specs.Events.{CopyWrite}
-use Rattle.lvm_crash.specs.Session.{members_there, Describes}
+use Rattle.lvm_crash.specs.Session.{members_there}
 use Rattle.lvm_crash.proofs.Lasting.{description_lasts}
-use Rattle.lvm_tie_shelf.specs.Owned.{IsTransfer}
-use Rattle.lvm_tie_shelf.specs.Writing.{Lands, after_write}
-use Rattle.lvm_tie_shelf.specs.Bringing.{ReadLeaves, IsReading, in_buffer, ReadGets, PassesOver, StepEnded, StepEnds}
+use Rattle.lvm_tie_shelf.specs.Writing.{after_write}
+use Rattle.lvm_tie_shelf.specs.Bringing.{ReadLeaves, ReadGets, StepEnds}
 use Rattle.lvm_tie_shelf.proofs.Owned.{covered, copy_too, stands_at, reads_none}
 use Rattle.lvm_tie_shelf.proofs.Writing.{group_kept, records_same, shows_records, seen, seen_whole, shown}
 

@@ -1,6 +1,6 @@
 -- One block of one copy stands at a sector.
-use Rattle.std.proofs.Common.{◌≡◌, inl, inr, ℕ, zero, suc, ◌+◌, ◌-◌, ◌*◌, ◌/◌, ◌%◌, ◌<◌, ◌≤◌, Bool, true, false, List, [], ◌∷◌, length, get_or, Option, Some, None, refl, sym, ap, subst, ◌∙◌, arith}
-use Rattle.std.specs.Prelude.{◌==◌, find, if◌then◌else◌, AllPairs, slice_get, option_map}
+use Rattle.std.proofs.Common.{◌≡◌, inl, inr, ℕ, suc, ◌+◌, ◌-◌, ◌*◌, ◌/◌, ◌%◌, ◌<◌, ◌≤◌, true, false, List, [], ◌∷◌, length, get_or, Some, None, sym, ap, subst, ◌∙◌, arith}
+use Rattle.std.specs.Prelude.{◌==◌, find, if◌then◌else◌, AllPairs, slice_get}
 use Rattle.std.proofs.lemmas.Bool.Decides.{nat_tests}
 use Rattle.std.proofs.lemmas.Option.{slice_get-get_or}
 use Rattle.lvm_num.specs.declared.place.Pp.{Pp}
@@ -8,13 +8,13 @@ use Rattle.lvm_num.specs.declared.place.Place.{Place}
 use Rattle.lvm_num.specs.declared.descriptor.LvRow.{LvRow}
 use Rattle.lvm_num.specs.declared.descriptor.Descriptor.{Descriptor}
 use Rattle.lvm_num.specs.Descriptor.{IsValid, copies_of, volume_of}
-use Rattle.lvm_num.specs.Geometry.{data_start, partition_blocks, partition_of, sector_of, track_group_of}
-use Rattle.lvm_kept.specs.Group.{IsBlockOf, IsOneOf}
+use Rattle.lvm_num.specs.Geometry.{partition_blocks, sector_of, track_group_of}
+use Rattle.lvm_kept.specs.Group.{IsOneOf}
 use Rattle.lvm_map.specs.Places.{copy_at, place_on, place_of}
 use Rattle.lvm_map.proofs.Parts.{same_parts, parts, whole}
 use Rattle.lvm_map.proofs.PlaceLemmas.{mib_positive, place-is}
 use Rattle.lvm_map.proofs.OneToOne.{is_same}
-use Rattle.lvm_tie_shelf.specs.Copies.{IsCopyOf, AreOne, OneBlock}
+use Rattle.lvm_tie_shelf.specs.Copies.{IsCopyOf, OneBlock}
 
 -- where one of a list stands
 pub one_at : {X : Type 0} (xs : List X) (x : X) → IsOneOf xs x → (k : ℕ) × (k < length xs) × ((d : X) → get_or xs k d ≡ x)

@@ -1,7 +1,6 @@
 -- What is out is what the state has out.
-use Rattle.std.proofs.Common.{◌≡◌, ◌⊎◌, inl, inr, ⊎_elim, ℕ, zero, suc, ◌+◌, ◌-◌, ◌*◌, ◌<◌, ◌≤◌, Bool, true, false, ◌&&◌, List, [], ◌∷◌, length, Option, Some, None, refl, sym, ap, subst, ◌∙◌, arith}
-use Rattle.std.specs.Prelude.{IsTrue, IsFalse, ◌==◌, nat_le, nat_lt, if◌then◌else◌, slice_get}
-use Rattle.std.specs.List.{AllByRecursion}
+use Rattle.std.proofs.Common.{◌≡◌, ◌⊎◌, inl, inr, ℕ, ◌+◌, ◌-◌, ◌*◌, ◌<◌, ◌≤◌, Bool, true, false, ◌&&◌, List, length, Option, Some, None, refl, sym, ap, subst, ◌∙◌, arith}
+use Rattle.std.specs.Prelude.{IsTrue, ◌==◌, nat_le, nat_lt, slice_get}
 use Rattle.std.proofs.lemmas.Bool.Decides.{nat_tests}
 use Rattle.lvm_num.specs.declared.place.Pp.{Pp}
 use Rattle.lvm_num.specs.declared.descriptor.Descriptor.{Descriptor}
@@ -10,24 +9,24 @@ use Rattle.lvm_num.specs.declared.record.Kind.{Kind}
 use Rattle.lvm_num.specs.declared.record.Kind.TheVariants as kind
 use Rattle.lvm_num.specs.Buffer.{Sector}
 use Rattle.lvm_num.specs.Disks.{Disks}
-use Rattle.lvm_num.specs.Descriptor.{IsValid, copies_of}
-use Rattle.lvm_num.specs.Geometry.{data_start, sector_of, track_group_of}
+use Rattle.lvm_num.specs.Descriptor.{IsValid}
+use Rattle.lvm_num.specs.Geometry.{data_start, sector_of}
 use Rattle.lvm_num.specs.Note.{note_in}
 use Rattle.lvm_num.specs.Record.{Stamped, frame, record_sectors, slot_start, slot_size}
 use Rattle.lvm_vol.specs.Facts.{Fact}
-use Rattle.lvm_disk.specs.Device.{Media, Image, Flight, Device, image_of, written, IsInFlight}
+use Rattle.lvm_disk.specs.Device.{Flight, Device, image_of, written}
 use Rattle.lvm_kept.specs.Contents.{note_sector, Contents, contents_of}
-use Rattle.lvm_kept.specs.Group.{names_if, IsOneOf, IsBlockOf, is_of, passes, has_room, members_in}
-use Rattle.lvm_kept.specs.Torn.{RecordWrite, IsOfRecord, IsOtherOrRecord, IsOutside}
-use Rattle.lvm_invariant.specs.State.{Groups, Flying, Queued, State, covers, Started}
+use Rattle.lvm_kept.specs.Group.{names_if, is_of, passes, has_room}
+use Rattle.lvm_kept.specs.Torn.{RecordWrite, IsOfRecord, IsOutside}
+use Rattle.lvm_invariant.specs.State.{Groups, Queued, State, covers}
 use Rattle.lvm_invariant.specs.Crash.{Brings, CopyBrings}
 use Rattle.lvm_invariant.specs.Sound.{Tied}
 use Rattle.lvm_crash.specs.Session.{members_there, HasVolumes}
-use Rattle.lvm_crash.specs.Flights.{UpdateIsOut, OnlyUpdateIsOut, HasOut}
+use Rattle.lvm_crash.specs.Flights.{OnlyUpdateIsOut}
 use Rattle.lvm_tie_shelf.specs.Copies.{IsCopyOf}
-use Rattle.lvm_tie_shelf.specs.Owned.{IsTransfer, IsDataFlight, IsStepFlight, IsNoteFlight, IsStatusFlight, IsOfUpdate, IsOwned, AllOwned, UpdateSince, OnlyUpdateSince, OwnersHaveOut}
+use Rattle.lvm_tie_shelf.specs.Owned.{IsTransfer, IsDataFlight, IsStepFlight, IsNoteFlight, IsStatusFlight, IsOfUpdate, IsOwned, UpdateSince, OnlyUpdateSince, OwnersHaveOut}
 use Rattle.lvm_tie_shelf.proofs.Copies.{one_block, next_sector}
-use Rattle.lvm_tie_shelf.proofs.Flying.{WritesAt, writes_at, of_one}
+use Rattle.lvm_tie_shelf.proofs.Flying.{writes_at, of_one}
 use Rattle.lvm_map.proofs.PlaceLemmas.{mib_positive}
 
 -- ---- a request's blocks

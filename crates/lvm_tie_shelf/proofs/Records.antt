@@ -1,47 +1,36 @@
 -- The ends of writes of records.
-use Rattle.std.proofs.Common.{◌≡◌, ◌⊎◌, inl, inr, ⊎_elim, ℕ, ◌+◌, ◌-◌, ◌*◌, ◌<◌, ◌≤◌, Bool, true, false, ◌&&◌, ◌==◌, List, [], ◌∷◌, ◌++◌, length, Option, Some, None, refl, sym, ap, subst, ◌∙◌, arith, eqb-true}
-use Rattle.std.specs.Prelude.{IsTrue, IsFalse, IsSomeAnd, nat_le, nat_lt, if◌then◌else◌, slice_get, option_map}
+use Rattle.std.proofs.Common.{◌≡◌, ◌⊎◌, inl, inr, ⊎_elim, ℕ, ◌+◌, ◌-◌, ◌<◌, ◌≤◌, Bool, true, ◌==◌, List, [], ◌∷◌, ◌++◌, length, Option, Some, None, refl, sym, ap, subst, ◌∙◌, arith}
+use Rattle.std.specs.Prelude.{IsTrue, IsSomeAnd, if◌then◌else◌, slice_get, option_map}
 use Rattle.std.proofs.lemmas.Bool.Decides.{nat_tests}
-use Rattle.lvm_num.specs.declared.place.Pp.{Pp}
 use Rattle.lvm_num.specs.declared.descriptor.Descriptor.{Descriptor}
 use Rattle.lvm_num.specs.declared.status.Status.{Status}
-use Rattle.lvm_num.specs.declared.record.Kind.{Kind}
-use Rattle.lvm_num.specs.declared.record.Kind.TheVariants as kind
 use Rattle.lvm_num.specs.Buffer.{Sector}
-use Rattle.lvm_num.specs.Geometry.{data_start, sector_of}
-use Rattle.lvm_num.specs.Note.{note_in}
-use Rattle.lvm_num.specs.Record.{Stamped, frame, record_sectors, slot_start, stamp_lt}
+use Rattle.lvm_num.specs.Geometry.{sector_of}
+use Rattle.lvm_num.specs.Record.{Stamped, frame, record_sectors, slot_start}
 use Rattle.lvm_num.specs.StatusBytes.{status_of}
 use Rattle.lvm_disk.specs.Device.{Media, Image, Flight, Device, image_of, written, IsInFlight, IsCrashImage, MayLeave}
 use Rattle.lvm_disk.specs.Steps.{PutsSome, Removes}
-use Rattle.lvm_disk.specs.Paths.{DeviceStep}
-use Rattle.lvm_kept.specs.Contents.{Contents, contents_of, has_records, newest_at, descriptor_on, status_on, note_on, note_sector, data_at}
-use Rattle.lvm_kept.specs.Group.{block_at, names_if, is_named, is_status_of, if_passes}
-use Rattle.lvm_kept.specs.Plans.{ChangesBy, StepIsPlanned}
-use Rattle.lvm_kept.specs.Torn.{RecordWrite, IsOtherOrRecord, IsOutside, StandsOn, written as as_written}
-use Rattle.lvm_kept.proofs.Contained.{room-same, note-same, blocks_are_sectors}
-use Rattle.lvm_kept.proofs.Planned.{step_keeps}
-use Rattle.lvm_kept.proofs.Records.{whole_is_new, newest_stays}
-use Rattle.lvm_invariant.specs.State.{Marks, Groups, View, State}
+use Rattle.lvm_kept.specs.Contents.{Contents, contents_of, newest_at, status_on, note_sector}
+use Rattle.lvm_kept.specs.Group.{names_if}
+use Rattle.lvm_kept.specs.Torn.{RecordWrite, StandsOn, written as as_written}
+use Rattle.lvm_kept.proofs.Contained.{note-same, blocks_are_sectors}
+use Rattle.lvm_kept.proofs.Records.{whole_is_new}
+use Rattle.lvm_invariant.specs.State.{State}
 use Rattle.lvm_invariant.specs.Found.{Votes}
 use Rattle.lvm_invariant.specs.Good.{Good}
-use Rattle.lvm_invariant.specs.BeginUpdate.{Begins}
-use Rattle.lvm_invariant.specs.Events.{Event, BeginUpdate, MoveStatus, EndUpdate, EndNote, Step}
+use Rattle.lvm_invariant.specs.Events.{MoveStatus}
 use Rattle.lvm_invariant.specs.MoveStatus.{Moves, moved}
-use Rattle.lvm_invariant.specs.EndNote.{EndsNote, after_note}
-use Rattle.lvm_invariant.proofs.Each.{each_keeps}
-use Rattle.lvm_crash.specs.Session.{as_marks, marks_shown, Shows, Describes}
-use Rattle.lvm_crash.specs.Left.{KeepsGroup, MayRemain}
+use Rattle.lvm_crash.specs.Session.{as_marks, marks_shown, Shows}
+use Rattle.lvm_crash.specs.Left.{MayRemain}
 use Rattle.lvm_crash.specs.Flights.{Matches}
-use Rattle.lvm_crash.specs.Lasting.{AsksOf}
 use Rattle.lvm_crash.proofs.Images.{images_remain}
 use Rattle.lvm_crash.proofs.Lasting.{description_lasts}
 use Rattle.lvm_crash.proofs.Statuses.{statuses_last}
-use Rattle.lvm_tie_shelf.specs.Owned.{IsNoteFlight, IsStatusFlight, UpdateSince}
+use Rattle.lvm_tie_shelf.specs.Owned.{IsStatusFlight, UpdateSince}
 use Rattle.lvm_tie_shelf.specs.Writing.{Lands}
-use Rattle.lvm_tie_shelf.specs.Records.{statuses_of, StatusEnded, StatusEnds, home_after, flying_after, NoteEnded, NoteEnds, QuietLasts, UpdatesLast, UpdateGoesOn}
-use Rattle.lvm_tie_shelf.proofs.Flying.{WritesAt, writes_at, at_writes}
-use Rattle.lvm_tie_shelf.proofs.Owned.{InSlots, in_slots, IsItsNote, its_note}
+use Rattle.lvm_tie_shelf.specs.Records.{statuses_of, StatusEnded, StatusEnds}
+use Rattle.lvm_tie_shelf.proofs.Flying.{at_writes}
+use Rattle.lvm_tie_shelf.proofs.Owned.{in_slots}
 
 -- ---- what a transfer leaves might have been left
 

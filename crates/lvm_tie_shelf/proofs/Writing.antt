@@ -1,35 +1,35 @@
 -- The end of a write of a request.
-use Rattle.std.proofs.Common.{◌≡◌, ◌⊎◌, inl, inr, ⊎_elim, ℕ, ◌+◌, ◌-◌, ◌*◌, ◌<◌, ◌≤◌, Bool, true, false, ◌&&◌, ◌==◌, List, [], ◌∷◌, length, Option, Some, None, refl, sym, ap, subst, ◌∙◌, arith, eqb-true}
-use Rattle.std.specs.Prelude.{IsTrue, IsFalse, nat_le, nat_lt, if◌then◌else◌, slice_get, unwrap_or}
+use Rattle.std.proofs.Common.{◌≡◌, ◌⊎◌, inl, inr, ⊎_elim, ℕ, ◌+◌, ◌-◌, ◌<◌, ◌≤◌, Bool, true, false, ◌&&◌, ◌==◌, List, [], length, Option, Some, None, refl, sym, ap, subst, ◌∙◌, arith, eqb-true}
+use Rattle.std.specs.Prelude.{IsTrue, nat_lt, if◌then◌else◌, slice_get, unwrap_or}
 use Rattle.std.proofs.lemmas.Bool.Decides.{nat_tests}
 use Rattle.lvm_num.specs.declared.place.Pp.{Pp}
 use Rattle.lvm_num.specs.declared.descriptor.Descriptor.{Descriptor}
 use Rattle.lvm_num.specs.declared.status.Status.{Status}
-use Rattle.lvm_num.specs.Buffer.{Buffer, Sector}
+use Rattle.lvm_num.specs.Buffer.{Sector}
 use Rattle.lvm_num.specs.Disks.{Disks}
 use Rattle.lvm_num.specs.Descriptor.{IsValid}
 use Rattle.lvm_num.specs.Geometry.{data_start, sector_of}
 use Rattle.lvm_num.specs.Record.{Stamped}
-use Rattle.lvm_disk.specs.Device.{Media, Image, Flight, Device, image_of, written}
-use Rattle.lvm_disk.specs.Steps.{BothTold, Puts, PutsSome, EndsDone, EndsFailed}
+use Rattle.lvm_disk.specs.Device.{Media, Image, Flight, image_of, written}
+use Rattle.lvm_disk.specs.Steps.{BothTold, Puts, PutsSome}
 use Rattle.lvm_kept.specs.Contents.{Contents, contents_of, descriptor_on, status_on, note_on, data_at}
-use Rattle.lvm_kept.specs.Group.{block_at, names_if, is_named}
+use Rattle.lvm_kept.specs.Group.{block_at, names_if}
 use Rattle.lvm_kept.specs.Places.{SameRecords}
 use Rattle.lvm_kept.proofs.Contained.{descriptor-same, status-same, note-same, blocks_are_sectors}
-use Rattle.lvm_invariant.specs.State.{Stage, Flying, Well, Badly, View, Queued, State, covers, Started}
+use Rattle.lvm_invariant.specs.State.{Flying, Well, Queued, State, covers}
 use Rattle.lvm_invariant.specs.Updates.{is_pp}
 use Rattle.lvm_invariant.specs.Found.{Votes}
 use Rattle.lvm_invariant.specs.Good.{Good}
-use Rattle.lvm_invariant.specs.Events.{Transfer, Step}
+use Rattle.lvm_invariant.specs.Events.{Transfer}
 use Rattle.lvm_invariant.specs.Transfer.{Restages, restaged}
-use Rattle.lvm_crash.specs.Session.{marks_shown, HasStatuses, Shows, members_there, Describes}
+use Rattle.lvm_crash.specs.Session.{marks_shown, Shows, members_there, Describes}
 use Rattle.lvm_crash.specs.Left.{KeepsGroup}
 use Rattle.lvm_crash.proofs.Lasting.{description_lasts}
 use Rattle.lvm_crash.proofs.Statuses.{statuses_last}
 use Rattle.lvm_tie_shelf.specs.Owned.{IsTransfer}
-use Rattle.lvm_tie_shelf.specs.Writing.{Lands, EndsLand, stage_of, after_write, WriteEnded, WriteEnds}
-use Rattle.lvm_tie_shelf.proofs.Flying.{WritesAt, writes_at, at_writes}
-use Rattle.lvm_tie_shelf.proofs.Owned.{covered, covers_its, copy_of, copy_too, stands_at, Hits, hits, not_member}
+use Rattle.lvm_tie_shelf.specs.Writing.{Lands, EndsLand, stage_of, after_write, WriteEnds}
+use Rattle.lvm_tie_shelf.proofs.Flying.{writes_at, at_writes}
+use Rattle.lvm_tie_shelf.proofs.Owned.{covered, copy_of, copy_too, stands_at, hits, not_member}
 
 -- ---- ends
 

@@ -1,5 +1,5 @@
 -- The ends of reads, and of writes to the copy that is being brought up.
-use Rattle.std.specs.Prelude.{◌≡◌, ◌⊎◌, ℕ, ◌+◌, ◌-◌, ◌<◌, Bool, false, List, [], Option, Some, None, IsTrue, IsFalse, slice_get, slice_index_or}
+use Rattle.std.specs.Prelude.{◌≡◌, ◌⊎◌, ℕ, ◌-◌, Bool, false, List, [], Option, Some, IsTrue, IsFalse, slice_index_or}
 use Rattle.lvm_num.specs.declared.place.Pp.{Pp}
 use Rattle.lvm_num.specs.declared.descriptor.Descriptor.{Descriptor}
 use Rattle.lvm_num.specs.declared.status.Status.{Status}
@@ -7,7 +7,6 @@ use Rattle.lvm_num.specs.Buffer.{Buffer, Sector}
 use Rattle.lvm_num.specs.Descriptor.{IsValid}
 use Rattle.lvm_num.specs.Geometry.{sector_of, track_group_of}
 use Rattle.lvm_num.specs.Record.{Stamped}
-use Rattle.lvm_vol.specs.Facts.{Fact}
 use Rattle.lvm_disk.specs.Device.{Media, Flight, image_of}
 use Rattle.lvm_disk.specs.Steps.{Reads}
 use Rattle.lvm_kept.specs.Contents.{contents_of, Contents}
