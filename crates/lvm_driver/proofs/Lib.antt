@@ -1,4 +1,3 @@
-mod Pending
 mod Frames
 mod Rooms
 mod Telling

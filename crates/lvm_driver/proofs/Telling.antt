@@ -12,7 +12,6 @@ use Rattle.lvm_keeps_turn.specs.Turning.{is_last}
 use Rattle.lvm_keeps_turn.proofs.Turning.{turn_ends, turn_falls, turn_keeps}
 use Rattle.lvm_driver.specs.Answers.{IsStill, TurnTells, power_by}
 use Rattle.lvm_driver.proofs.Frames.{end_framed, event_framed}
-use Rattle.lvm_driver.proofs.Pending.{ends_fall, ends_keep}
 
 module _ (old new : State) (sound : IsSound old) where
   -- ---- whether it goes on
@@ -58,7 +57,7 @@ module _ (old new : State) (sound : IsSound old) where
   same_core (inr nothing) = ap (λ (s : State). s.core) nothing.is
 
   falls : (answer : Turned) → TurnMakes old new answer → answer ≡ turned.Moved → left_of new.core < left_of old.core
-  falls answer made e = turn_falls ends_fall old new sound (subst (TurnMakes old new) e made)
+  falls answer made e = turn_falls old new sound (subst (TurnMakes old new) e made)
 
   -- so one that has moved isn't one in which nothing may be made, nor one by which it is over
   by_answer : (answer : Turned) → IsStill old new → new.core.power ≡ power_by answer → (answer ≡ turned.Moved → left_of new.core < left_of old.core) → answer ≡ turned.Idle
@@ -78,4 +77,4 @@ module _ (old new : State) (sound : IsSound old) where
   }
 
   pub turn_sound : (answer : Turned) → TurnMakes old new answer → IsSound new
-  turn_sound answer made = turn_keeps ends_keep old new answer sound made
+  turn_sound answer made = turn_keeps old new answer sound made
