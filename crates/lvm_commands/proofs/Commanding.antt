@@ -18,7 +18,7 @@ use Rattle.lvm_commit.proofs.Others.{one_by_all_is_only_since}
 use Rattle.lvm_core.specs.Held.{IsHeld}
 use Rattle.lvm_core.specs.Settled.{IsSettled as IsSettledCore}
 use Rattle.lvm_core.specs.Sound.{HaveAllLanded}
-use Rattle.lvm_core.specs.State.{Core, State as Session, state}
+use Rattle.lvm_session.specs.State.{Core, State as Session, state}
 use Rattle.lvm_volumes.specs.declared.fault.GroupFault.{GroupFault}
 use Rattle.lvm_volumes.specs.declared.fault.GroupFault.TheVariants as fault
 use Rattle.lvm_volumes.specs.Endings.{IfAlone, StillHeld, commanding}

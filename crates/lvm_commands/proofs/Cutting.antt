@@ -20,10 +20,10 @@ use Rattle.lvm_stamps.specs.Behind.{IsBehind}
 use Rattle.lvm_stamps.proofs.Shelves.{no_more_stays_behind}
 use Rattle.lvm_stamps.proofs.Clock.{later_joins}
 use Rattle.lvm_transfer.specs.Transfer.{Relights}
-use Rattle.lvm_core.specs.declared.request.Open.{Open}
+use Rattle.lvm_session.specs.declared.open.Open.{Open}
 use Rattle.lvm_core.specs.Dark.{dark_log}
 use Rattle.lvm_core.specs.Settled.{IsSettled as IsSettledCore}
-use Rattle.lvm_core.specs.State.{Core}
+use Rattle.lvm_session.specs.State.{Core}
 use Rattle.lvm_commit.specs.Settling.{NoneIsLeft}
 use Rattle.lvm_core.specs.Held.{IsHeld, AreNotesHome}
 use Rattle.lvm_core.proofs.Telling.{open_cut}

@@ -5,8 +5,8 @@ use Rattle.lvm_disk.specs.Device.{Device, IsReady}
 use Rattle.lvm_transfer.specs.Transfer.{Relights}
 use Rattle.lvm_write.specs.Written.{IsGivenUp}
 use Rattle.lvm_commit.specs.Settling.{HasLostQuorum}
-use Rattle.lvm_core.specs.declared.request.Power.TheVariants as power
-use Rattle.lvm_core.specs.State.{State as Session}
+use Rattle.lvm_session.specs.declared.open.Power.TheVariants as power
+use Rattle.lvm_session.specs.State.{State as Session}
 use Rattle.lvm_volumes.specs.declared.fault.GroupFault.{GroupFault}
 use Rattle.lvm_volumes.specs.declared.fault.GroupFault.TheVariants as fault
 use Rattle.lvm_volumes.specs.declared.new_volume.NewVolume.{NewVolume}

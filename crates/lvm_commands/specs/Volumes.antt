@@ -7,8 +7,8 @@ use Rattle.lvm_num.specs.declared.place.Pp.{Pp}
 use Rattle.lvm_transfer.specs.Transfer.{Relights}
 use Rattle.lvm_write.specs.Written.{KeepsShelf}
 use Rattle.lvm_core.specs.Looking.{IsNumberOf, HasNoVolume}
-use Rattle.lvm_core.specs.declared.request.Power.TheVariants as power
-use Rattle.lvm_core.specs.State.{Core, State as Session, state, is_there}
+use Rattle.lvm_session.specs.declared.open.Power.TheVariants as power
+use Rattle.lvm_session.specs.State.{Core, State as Session, state, is_there}
 use Rattle.lvm_core.specs.Leaves.{NoPartition, IsOfCommand, KeepsStatus, FindsOnly}
 use Rattle.lvm_volumes.specs.declared.fault.GroupFault.{GroupFault}
 use Rattle.lvm_volumes.specs.declared.fault.GroupFault.TheVariants as fault

@@ -19,7 +19,7 @@ use Rattle.lvm_commit.proofs.Still.{still_holds_committed}
 use Rattle.lvm_core.specs.declared.parts.Room.{Room}
 use Rattle.lvm_core.specs.Held.{IsHeld}
 use Rattle.lvm_core.specs.Settled.{IsSettled}
-use Rattle.lvm_core.specs.State.{Core, is_there}
+use Rattle.lvm_session.specs.State.{Core, is_there}
 use Rattle.lvm_core.specs.Leaves.{MayBeFound}
 use Rattle.lvm_volumes.specs.NewVolume.{without_volume}
 use Rattle.lvm_volumes.specs.Volumes.{IsWith}

@@ -30,7 +30,7 @@ use Rattle.lvm_core.specs.declared.refused.Cause.{Cause}
 use Rattle.lvm_core.specs.declared.refused.Cause.TheVariants as cause
 use Rattle.lvm_core.specs.Held.{IsHeld}
 use Rattle.lvm_core.specs.Looking.{IsNumberOf}
-use Rattle.lvm_core.specs.State.{Core, is_there}
+use Rattle.lvm_session.specs.State.{Core, is_there}
 use Rattle.lvm_core.specs.Leaves.{MayBeFound}
 use Rattle.lvm_group.specs.NewGroup.{NewGroup, new_group}
 use Rattle.lvm_group.specs.Made.{Refuses}

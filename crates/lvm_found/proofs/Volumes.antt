@@ -9,7 +9,7 @@ use Rattle.lvm_parse.specs.declared.command.Command.TheVariants as command
 use Rattle.lvm_write.proofs.Writing.{told_at}
 use Rattle.lvm_core.specs.Held.{IsHeld}
 use Rattle.lvm_core.specs.Looking.{IsNumberOf}
-use Rattle.lvm_core.specs.State.{Core, State as Session, state}
+use Rattle.lvm_session.specs.State.{Core, State as Session, state}
 use Rattle.lvm_volumes.specs.declared.fault.GroupFault.{GroupFault}
 use Rattle.lvm_volumes.specs.declared.fault.GroupFault.TheVariants as fault
 use Rattle.lvm_core.specs.Leaves.{MayBeFound}

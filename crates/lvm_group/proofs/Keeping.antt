@@ -54,8 +54,10 @@ use Rattle.lvm_core.specs.declared.parts.Room.{Room}
 use Rattle.lvm_commit.specs.Committed.{Began, ShowsCommitted, HoldsCommitted}
 use Rattle.lvm_commit.proofs.Found.{newest_is_beginning}
 use Rattle.lvm_core.specs.Held.{NotesAreHome, StartsHeld}
-use Rattle.lvm_core.specs.Starting.{Reserved, IsReservedFor, first_core}
-use Rattle.lvm_core.specs.State.{Core, is_there}
+use Rattle.lvm_session_start.specs.declared.parts.Parts.{Parts}
+use Rattle.lvm_core.specs.Starting.{IsReservedFor}
+use Rattle.lvm_session_start.specs.Beginning.{first_core}
+use Rattle.lvm_session.specs.State.{Core, is_there}
 use Rattle.lvm_core.proofs.Held.{empty_names_none}
 use Rattle.lvm_group.specs.NewGroup.{NewGroup, among, sectors_on, size_for, member_for, new_group, new_status, first_absent, first_too_small}
 use Rattle.lvm_group.specs.Shown.{IfShown, HasGroup, ShowsEarlier, SparesTold}

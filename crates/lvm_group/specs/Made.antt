@@ -15,8 +15,10 @@ use Rattle.lvm_core.specs.declared.parts.Room.{Room}
 use Rattle.lvm_core.specs.declared.refused.Cause.{Cause}
 use Rattle.lvm_core.specs.declared.refused.Cause.TheVariants as cause
 use Rattle.lvm_core.specs.declared.refused.Refused.{Refused}
-use Rattle.lvm_core.specs.Starting.{Reserved, IsReservedFor, first_core}
-use Rattle.lvm_core.specs.State.{Core}
+use Rattle.lvm_session_start.specs.declared.parts.Parts.{Parts}
+use Rattle.lvm_core.specs.Starting.{IsReservedFor}
+use Rattle.lvm_session_start.specs.Beginning.{first_core}
+use Rattle.lvm_session.specs.State.{Core}
 use Rattle.lvm_group.specs.NewGroup.{NewGroup, among, new_group, new_status, given_up, MayBegin, RefusesFirst}
 use Rattle.lvm_group.specs.Shown.{IfShown, HasGroup, IsClockBack, IsUnread, AllRead, AreFree, IsClear, SparesTold}
 

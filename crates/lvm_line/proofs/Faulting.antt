@@ -10,7 +10,7 @@ use Rattle.lvm_parse.specs.declared.command.Command.{Command}
 use Rattle.lvm_operands.specs.declared.rest.Misfit.{Misfit}
 use Rattle.lvm_status.specs.Update.{Stored}
 use Rattle.lvm_commit.specs.Settling.{HasLostQuorum}
-use Rattle.lvm_core.specs.State.{Core, State as Session, state}
+use Rattle.lvm_session.specs.State.{Core, State as Session, state}
 use Rattle.lvm_volumes.specs.declared.fault.GroupFault.{GroupFault}
 use Rattle.lvm_volumes.specs.declared.fault.GroupFault.TheVariants as fault
 use Rattle.lvm_line.specs.Causes.{HasFailed, HasLost}

@@ -30,9 +30,11 @@ use Rattle.lvm_write.specs.Homes.{SparesNewest}
 use Rattle.lvm_commit.specs.Committed.{ShowsCommitted, HoldsCommitted}
 use Rattle.lvm_mwc.specs.Cache.{Cached, has_disk, no_notes}
 use Rattle.lvm_mwc.specs.declared.notes.DiskNotes.{DiskNotes}
-use Rattle.lvm_core.specs.State.{Core, state, is_there}
+use Rattle.lvm_session.specs.State.{Core, state, is_there}
 use Rattle.lvm_core.specs.Sound.{IsQuiet, IsSound}
-use Rattle.lvm_core.specs.Starting.{Reserved, AreReserved, IsPlaced}
+use Rattle.lvm_session_start.specs.declared.parts.Parts.{Parts}
+use Rattle.lvm_core.specs.Starting.{AreReserved}
+use Rattle.lvm_sound.specs.Placed.{IsPlaced}
 use Rattle.lvm_core.proofs.Beginning.{sound_first}
 use Rattle.lvm_rest.specs.Rest.{IsEven, NoneIsBehind}
 use Rattle.lvm_rest.specs.Examples.{Pair, status_of, pair_sizes, framed_group, framed_status, shown_by, media_of, device_of, there_by, history_of, even_pair, naming_note}

@@ -35,9 +35,10 @@ use Rattle.lvm_commit.proofs.Found.{newest_is_beginning}
 use Rattle.lvm_steps.specs.VaryingOn.{HasNoActive}
 use Rattle.lvm_mwc.specs.Cache.{is_named as is_named_by}
 use Rattle.lvm_core.specs.Held.{NotesAreHome}
-use Rattle.lvm_core.specs.Starting.{Reserved, first_core}
+use Rattle.lvm_session_start.specs.declared.parts.Parts.{Parts}
+use Rattle.lvm_session_start.specs.Beginning.{first_core}
 use Rattle.lvm_core.proofs.Held.{empty_names_none}
-use Rattle.lvm_core.specs.State.{Core, is_there}
+use Rattle.lvm_session.specs.State.{Core, is_there}
 use Rattle.lvm_begin.specs.Beginning.{Beginning, describes, states, MayBeginAgain, IsOfParts}
 use Rattle.lvm_begin.specs.Newest.{FindsBeginning}
 use Rattle.lvm_begin.specs.Shown.{HasBegun}

@@ -30,8 +30,9 @@ use Rattle.lvm_commit.specs.Settling.{NoneIsLeft}
 use Rattle.lvm_core.specs.Held.{IsHeld, NotesAreHome, StartsHeld}
 use Rattle.lvm_core.specs.Settled.{IsSettled, HasSpareNumbers}
 use Rattle.lvm_core.proofs.Settling.{starts_settled, starts_numbered}
-use Rattle.lvm_core.specs.Starting.{Reserved, first_core}
-use Rattle.lvm_core.specs.State.{Core, is_there}
+use Rattle.lvm_session_start.specs.declared.parts.Parts.{Parts}
+use Rattle.lvm_session_start.specs.Beginning.{first_core}
+use Rattle.lvm_session.specs.State.{Core, is_there}
 use Rattle.lvm_varyon.specs.Varied.{IsRecovered, ComesOn, IsRestated, IsAheadOfDisks, IsBrought, last_stamp, log_after}
 use Rattle.lvm_varyon.specs.Chosen.{answering}
 use Rattle.lvm_varyon.specs.Restated.{HasNoConsistency}

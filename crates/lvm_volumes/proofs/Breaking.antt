@@ -8,7 +8,7 @@ use Rattle.lvm_write.proofs.Transfers.{darkened_then, given_up_then}
 use Rattle.lvm_core.specs.declared.fault.CommitFault.{CommitFault}
 use Rattle.lvm_core.specs.declared.fault.CommitFault.TheVariants as commit
 use Rattle.lvm_core.specs.Dark.{darkened}
-use Rattle.lvm_core.specs.State.{Core, State}
+use Rattle.lvm_session.specs.State.{Core, State}
 use Rattle.lvm_core.specs.Settled.{IsSettled}
 use Rattle.lvm_core.specs.Committing.{HasGoneDark, RecordsEnd}
 use Rattle.lvm_core.specs.Leaves.{Scope, Leaves}

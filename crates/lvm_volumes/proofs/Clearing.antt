@@ -18,7 +18,7 @@ use Rattle.lvm_commit.specs.LawsOfData.{IsFree}
 use Rattle.lvm_commit.specs.Settling.{NoneIsLeft}
 use Rattle.lvm_core.specs.declared.fault.CommitFault.{CommitFault}
 use Rattle.lvm_core.specs.declared.fault.CommitFault.TheVariants as commit
-use Rattle.lvm_core.specs.State.{Core, State, is_there}
+use Rattle.lvm_session.specs.State.{Core, State, is_there}
 use Rattle.lvm_core.specs.Settled.{IsSettled}
 use Rattle.lvm_core.specs.Committing.{is_among, Restates, HasStated, RecordsEnd, MarkEnds}
 use Rattle.lvm_core.specs.Leaves.{NoDescriptor, Leaves, marking}

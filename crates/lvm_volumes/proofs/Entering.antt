@@ -22,7 +22,7 @@ use Rattle.lvm_commit.specs.Committed.{HoldsCommitted, ShowsCommitted}
 use Rattle.lvm_commit.specs.LawsOfVolumes.{IsOnlyGroupSince, LeavesCommitted}
 use Rattle.lvm_commit.specs.Settling.{many_there, NoneIsLeft, MarksLeft}
 use Rattle.lvm_commit.proofs.Still.{still_holds_committed}
-use Rattle.lvm_core.specs.State.{Core, State, is_there}
+use Rattle.lvm_session.specs.State.{Core, State, is_there}
 use Rattle.lvm_core.specs.Held.{IsHeld}
 use Rattle.lvm_core.specs.Settled.{IsSettled, HasSpareNumbers}
 use Rattle.lvm_core.specs.Committing.{moment_of, SpanGoesOn, LetsCommit, HasStated}

@@ -10,9 +10,9 @@ use Rattle.lvm_vol.specs.declared.entry.Vol.TheVariants.{Lv}
 use Rattle.lvm_vol.specs.Facts.{Making, Made, Removing, Removed}
 use Rattle.lvm_vol.specs.Log.{Log, with_fact, spare_entries}
 use Rattle.lvm_map.specs.FirstFit.{is_on, IsAllocated, HasNoPlace, free_count, new_volume}
-use Rattle.lvm_core.specs.State.{Core, State, is_there, votes_there}
+use Rattle.lvm_session.specs.State.{Core, State, is_there, votes_there}
 use Rattle.lvm_num.specs.Votes.{total_votes}
-use Rattle.lvm_core.specs.declared.request.Power.TheVariants as power
+use Rattle.lvm_session.specs.declared.open.Power.TheVariants as power
 use Rattle.lvm_core.specs.Looking.{IsNumberOf, HasNoVolume}
 use Rattle.lvm_core.specs.Zeros.{IsZeroed}
 use Rattle.lvm_volumes.specs.declared.fault.GroupFault.{GroupFault}

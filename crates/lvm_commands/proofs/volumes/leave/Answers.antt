@@ -1,5 +1,5 @@
 use Rattle.std.proofs.Common.{◌∙◌, Result, sym, ap, subst}
-use Rattle.lvm_core.specs.State.{state}
+use Rattle.lvm_session.specs.State.{state}
 use Rattle.lvm_volumes.specs.declared.fault.GroupFault.{GroupFault}
 use Rattle.lvm_commands.specs.Stages.{state_in}
 use Rattle.lvm_commands.specs.Volumes.{IsOver, is_over}

@@ -5,7 +5,7 @@ use Rattle.lvm_vol.specs.Log.{Log, spare_entries}
 use Rattle.lvm_write.specs.declared.homes.Homes.{Homes}
 use Rattle.lvm_core.specs.Coming.{BringsOn}
 use Rattle.lvm_core.specs.Held.{StartsHeld}
-use Rattle.lvm_core.specs.Starting.{first_core}
+use Rattle.lvm_session_start.specs.Beginning.{first_core}
 use Rattle.lvm_core.specs.declared.refused.Cause.{Cause}
 use Rattle.lvm_group.specs.NewGroup.{NewGroup}
 use Rattle.lvm_group.specs.Planned.{asked_group, IsPlannedFor}

@@ -8,7 +8,7 @@ use Rattle.lvm_stamps.proofs.Clock.{all_is_behind_next}
 use Rattle.lvm_write.proofs.Transfers.{spends_none}
 use Rattle.lvm_core.specs.declared.refused.Cause.{Cause}
 use Rattle.lvm_core.specs.Held.{StartsHeld}
-use Rattle.lvm_core.specs.Starting.{first_core}
+use Rattle.lvm_session_start.specs.Beginning.{first_core}
 use Rattle.lvm_group.specs.declared.make.Standing.{Standing}
 use Rattle.lvm_group.specs.NewGroup.{NewGroup}
 use Rattle.lvm_group.specs.Planned.{asked_group, IsPlannedFor, RefusesPlan}

@@ -6,7 +6,8 @@ use Rattle.lvm_num.specs.declared.descriptor.Descriptor.{Descriptor}
 use Rattle.lvm_vol.specs.Log.{Log, spare_entries}
 use Rattle.lvm_commit.specs.Settling.{many_there}
 use Rattle.lvm_core.specs.declared.fault.CommitFault.{CommitFault}
-use Rattle.lvm_core.specs.State.{Core, State, state_of}
+use Rattle.lvm_session.specs.State.{Core, State}
+use Rattle.lvm_core.specs.State.{state_of}
 use Rattle.lvm_core.specs.Leaves.{NoDescriptor, Leaves}
 use Rattle.lvm_volumes.specs.declared.new_volume.NewVolume.{NewVolume}
 use Rattle.lvm_volumes.specs.declared.new_volume.VolumePlan.{VolumePlan}

@@ -1,7 +1,8 @@
 use Rattle.std.proofs.Common.{Err}
 use Rattle.std.proofs.lemmas.Result.{err_from_is_err_and}
 use Rattle.lvm_core.specs.declared.fault.CommitFault.{CommitFault}
-use Rattle.lvm_core.specs.State.{State, state_of}
+use Rattle.lvm_session.specs.State.{State}
+use Rattle.lvm_core.specs.State.{state_of}
 use Rattle.lvm_core.specs.Settled.{IsSettled}
 use Rattle.lvm_volumes.specs.declared.fault.GroupFault.{GroupFault}
 use Rattle.lvm_volumes.specs.Endings.{StillHeld}
