@@ -4,7 +4,7 @@ use lvm_num::Mode;
 use lvm_vol::{Outcome, Vol};
 
 /// A request as it was asked. Its blocks stand from `place` on.
-#[derive(Clone, Copy, Debug)]
+#[derive(Clone, Copy)]
 pub struct Ask {
     pub client: u32,
     pub vol: Vol,
@@ -15,7 +15,7 @@ pub struct Ask {
 }
 
 /// An entry; a request is named by its number, from 1.
-#[derive(Clone, Copy, Debug)]
+#[derive(Clone, Copy)]
 pub enum Row {
     Making {
         lv: u16,

@@ -127,5 +127,10 @@ pub fn name_at(earlier: &[LvRow], unread: Unread) -> Result<Name, Fault>
 fn has_name(rows: &[LvRow], name: &Name) -> bool
     ensures { result ≡ list_any (λ (row : LvRow). bytes_eq row.name name.now) rows.now }
 {
-    rows.iter().any(|row| row.name == *name)
+    for row in rows {
+        if row.name == *name {
+            return true;
+        }
+    }
+    false
 }

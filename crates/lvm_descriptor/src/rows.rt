@@ -60,7 +60,12 @@ fn disk_at<'a>(earlier: &[PvRow], unread: Unread<'a>) -> Result<(u16, Unread<'a>
 pub fn has_member(members: &[PvRow], disk: u16) -> bool
     ensures { result ≡ list_any (λ (row : PvRow). row.disk == disk) members.now }
 {
-    members.iter().any(|row| row.disk == disk)
+    for row in members {
+        if row.disk == disk {
+            return true;
+        }
+    }
+    false
 }
 
 /// So many rows of volumes, with no partitions yet.
@@ -152,7 +157,12 @@ fn volume_number_at<'a>(
 fn is_above(rows: &[LvRow], number: u16) -> bool
     ensures { result ≡ list_all (λ (row : LvRow). nat_lt row.number number) rows.now }
 {
-    rows.iter().all(|row| row.number < number)
+    for row in rows {
+        if row.number >= number {
+            return false;
+        }
+    }
+    true
 }
 
 fn lps_at(unread: Unread) -> Result<(u32, Unread), Fault>

@@ -1,6 +1,6 @@
 -- What one request is judged by stays where other parts of a session change.
 use Rattle.std.proofs.Common.{◌≡◌, ◌≤◌, ◌⊎◌, inl, inr, ℕ, Bool, true, false, ◌&&◌, List, Option, Some, None, arith}
-use Rattle.std.specs.Prelude.{IfSome, is_none}
+use Rattle.std.specs.Prelude.{IfSome, count_by, is_none}
 use Rattle.lvm_num.specs.declared.place.Pp.{Pp}
 use Rattle.lvm_vol.specs.declared.entry.Outcome.{Outcome}
 use Rattle.lvm_vol.specs.declared.entry.Outcome.TheVariants as outcome
@@ -9,18 +9,19 @@ use Rattle.lvm_hold.specs.Waiting.{Waiting}
 use Rattle.lvm_mwc.specs.declared.entries.CacheEntry.{CacheEntry}
 use Rattle.lvm_path.specs.declared.request.Request.{Request}
 use Rattle.lvm_path.specs.declared.target.Target.{Target}
+use Rattle.lvm_path.specs.Targets.{is_done}
 use Rattle.lvm_session.specs.declared.bringing.OpenCopy.{OpenCopy}
 use Rattle.lvm_session.specs.declared.flown.Flown.{Flown}
 use Rattle.lvm_session.specs.declared.open.Open.{Open}
 use Rattle.lvm_session.specs.State.{Core, State, state}
-use Rattle.lvm_session.specs.Judging.{is_caught, is_held_back, group_in, is_settled, is_wanted_stale, pps_of}
+use Rattle.lvm_session.specs.Judging.{is_caught, is_held_back, is_kept, group_in, is_settled, is_wanted_stale, pps_of}
 use Rattle.lvm_session.specs.Enabled.{is_free_step}
 use Rattle.lvm_events.specs.Marks.{is_among}
-use Rattle.lvm_sound.specs.Requests.{IsTarget, IsShaped, IsReady, IsJudged, IsLaid, IsOpenOne, may_lack}
+use Rattle.lvm_sound.specs.Requests.{IsTarget, IsShaped, IsReady, IsJudged, IsLaid, IsOpenOne, is_failed_and_sure, may_lack, will_be_kept}
 use Rattle.lvm_sound.specs.Causes.{IsCounted, IsLandedFor, IsCopyCaused, IsTrueToOrigin, HaveSourcesFailed}
 use Rattle.lvm_sound.specs.Sound.{IsCopy}
 use Rattle.lvm_keeps.proofs.Lists.{all_on}
-use Rattle.lvm_keeps.proofs.Small.{and_on, left_on}
+use Rattle.lvm_keeps.proofs.Small.{and_on, left_on, most_on, none_on}
 
 -- A core in which these parts have changed: the statuses, the notes, the descriptor and the origin stay.
 module _ (core : Core) (history : Log) (requests : List Open) (queue : Waiting) (copy : Option OpenCopy) (pool : List Bool) (flying : List Flown) (entries : List CacheEntry) (last : List ℕ) where
@@ -52,7 +53,9 @@ module _ (core : Core) (history : Log) (requests : List Open) (queue : Waiting) 
     judged_on j = record {
       uncaught = all_on (λ (t : Target). may_lack o t && is_caught core (group_in core o.request.ask) t.pp ≡ false) (λ (t : Target). may_lack o t && is_caught changed (group_in core o.request.ask) t.pp ≡ false)
           (λ t is. and_on (may_lack o t) (is_caught core (group_in core o.request.ask) t.pp) (is_caught changed (group_in core o.request.ask) t.pp) (caught t.pp) is) o.request.targets.items j.uncaught;
-      due = j.due;
+      due = λ status. most_on (count_by (is_failed_and_sure core) o.request.targets.items) (is_kept core o.request) (will_be_kept core o.request) (will_be_kept changed o.request)
+          (none_on (λ (t : Target). is_done t.state && is_caught core (group_in core o.request.ask) t.pp) (λ (t : Target). is_done t.state && is_caught changed (group_in core o.request.ask) t.pp)
+          (λ t. and_on (is_done t.state) (is_caught core (group_in core o.request.ask) t.pp) (is_caught changed (group_in core o.request.ask) t.pp) (caught t.pp)) o.request.targets.items) (j.due status);
       all = λ begun p among. left_on (is_among (pps_of o.request.targets.items) p) (is_settled core p) (is_wanted_stale core p) (is_caught core (group_in core o.request.ask) p) (is_caught changed (group_in core o.request.ask) p) (caught p) (j.all begun p among);
     }
 

@@ -62,10 +62,10 @@ use Rattle.lvm_keeps_ends.proofs.Removal.{IsOut, taken_out}
 
 -- ---- lists of partitions
 
-pp_is : (p q : Pp) → is_pp p q ≡ true → q ≡ p
+pub pp_is : (p q : Pp) → is_pp p q ≡ true → q ≡ p
 pp_is p q is = let parts = both (p.disk == q.disk) (p.pp == q.pp) is in let disk = eqb-true p.disk q.disk parts.0 in let pp = eqb-true p.pp q.pp parts.1 in sym (λ i. record { disk = disk i; pp = pp i })
 
-at_number : (ps : List Pp) (p : Pp) → is_among ps p ≡ true → (i : ℕ) × (slice_get ps i ≡ Some p)
+pub at_number : (ps : List Pp) (p : Pp) → is_among ps p ≡ true → (i : ℕ) × (slice_get ps i ≡ Some p)
 at_number [] p is = not_so is
 at_number (q ∷ ps) p is = by (is_pp p q) refl (λ e. at_number ps p e) is
   where
@@ -73,7 +73,7 @@ at_number (q ∷ ps) p is = by (is_pp p q) refl (λ e. at_number ps p e) is
     by true same more e = (0, ap (λ (r : Pp). Some r) (pp_is p q same))
     by false other more e = let rest = more e in (suc rest.0, rest.1)
 
-some_at : (t : Pp → Bool) (ps : List Pp) (i : ℕ) (p : Pp) → slice_get ps i ≡ Some p → t p ≡ true → list_any t ps ≡ true
+pub some_at : (t : Pp → Bool) (ps : List Pp) (i : ℕ) (p : Pp) → slice_get ps i ≡ Some p → t p ≡ true → list_any t ps ≡ true
 some_at t [] i p at is = absurd (cc at)
 some_at t (q ∷ ps) zero p at is = let same : q ≡ p = cc at in ap (λ b. b || list_any t ps) (ap t same ∙ is)
 some_at t (q ∷ ps) (suc i) p at is = by (t q) (some_at t ps i p at is)
@@ -82,7 +82,7 @@ some_at t (q ∷ ps) (suc i) p at is = by (t q) (some_at t ps i p at is)
     by true rest = refl
     by false rest = rest
 
-none_found : (t u : Pp → Bool) (ps : List Pp) (i : ℕ) (p : Pp) → is_none (find t (filter u ps)) ≡ true → slice_get ps i ≡ Some p → u p ≡ true → t p ≡ false
+pub none_found : (t u : Pp → Bool) (ps : List Pp) (i : ℕ) (p : Pp) → is_none (find t (filter u ps)) ≡ true → slice_get ps i ≡ Some p → u p ≡ true → t p ≡ false
 none_found t u [] i p none at is = absurd (cc at)
 none_found t u (q ∷ ps) i p none at is = by (u q) (t q) refl refl (λ e j there. none_found t u ps j p e there is) none i at
   where
@@ -94,21 +94,21 @@ none_found t u (q ∷ ps) i p none at is = by (u q) (t q) refl refl (λ e j ther
     by false b kept found more e zero there = let same : q ≡ p = cc there in not_so (sym kept ∙ ap u same ∙ is)
     by false b kept found more e (suc j) there = more e j there
 
-by_place : (ps : List Pp) (number : ℕ) (p : Pp) → copy_at ps number ≡ Some p → slice_get ps (number - 1) ≡ Some p
+pub by_place : (ps : List Pp) (number : ℕ) (p : Pp) → copy_at ps number ≡ Some p → slice_get ps (number - 1) ≡ Some p
 by_place ps number p is = by (number == 0) is
   where
     by : (b : Bool) → (if b then None else slice_get ps (number - 1)) ≡ Some p → slice_get ps (number - 1) ≡ Some p
     by true e = absurd (cc e)
     by false e = e
 
-of_place : (ps : List Pp) (i : ℕ) (p : Pp) → slice_get ps i ≡ Some p → copy_at ps (i + 1) ≡ Some p
+pub of_place : (ps : List Pp) (i : ℕ) (p : Pp) → slice_get ps i ≡ Some p → copy_at ps (i + 1) ≡ Some p
 of_place ps i p there = by ((i + 1) == 0) refl ∙ (let same : i + 1 - 1 ≡ i = omega arith in ap (slice_get ps) same) ∙ there
   where
     by : (b : Bool) → ((i + 1) == 0) ≡ b → (if b then None else slice_get ps (i + 1 - 1)) ≡ slice_get ps (i + 1 - 1)
     by false is = refl
     by true is = let same = eqb-true (i + 1) 0 is in absurd (omega (arith, same))
 
-usable_of : (other stale wanted gone : Bool) → other && (not stale && not wanted) && not gone ≡ true → other && (not stale && not gone) ≡ true
+pub usable_of : (other stale wanted gone : Bool) → other && (not stale && not wanted) && not gone ≡ true → other && (not stale && not gone) ≡ true
 usable_of true false false false e = refl
 usable_of true false true gone e = not_so e
 usable_of true true wanted gone e = not_so e
@@ -130,14 +130,14 @@ none_right false = refl
 -- ---- how it ends where its sources are all tried
 
 -- the end by the state as a whole of a copy of a disk that is there, which isn't whole
-by_sources : (core : Core) (c : OpenCopy) (m : Option CopyEnd) → is_running c ≡ true → is_missing core c.pp.disk ≡ false → is_whole core c ≡ false → end_of core c ≡ m → end_by_sources core c ≡ m
+pub by_sources : (core : Core) (c : OpenCopy) (m : Option CopyEnd) → is_running c ≡ true → is_missing core c.pp.disk ≡ false → is_whole core c ≡ false → end_of core c ≡ m → end_by_sources core c ≡ m
 by_sources core c m runs here short is =
     sym (ap (λ (b : Bool). if not b then None else if is_missing core c.pp.disk then Some ending.SyncFailed else if is_whole core c then ends_if (is_cleared core c) ending.Done else end_by_sources core c) runs
     ∙ ap (λ (b : Bool). if b then Some ending.SyncFailed else if is_whole core c then ends_if (is_cleared core c) ending.Done else end_by_sources core c) here
     ∙ ap (λ (b : Bool). if b then ends_if (is_cleared core c) ending.Done else end_by_sources core c) short)
     ∙ is
 
-is_here : (core : Core) (c : OpenCopy) → is_running c ≡ true → end_of core c ≡ None → is_missing core c.pp.disk ≡ false
+pub is_here : (core : Core) (c : OpenCopy) → is_running c ≡ true → end_of core c ≡ None → is_missing core c.pp.disk ≡ false
 is_here core c runs none = by (is_running c) (is_missing core c.pp.disk) runs none
   where
     by : (a b : Bool) → a ≡ true → (if not a then None else if b then Some ending.SyncFailed else if is_whole core c then ends_if (is_cleared core c) ending.Done else end_by_sources core c) ≡ None → b ≡ false
@@ -145,7 +145,7 @@ is_here core c runs none = by (is_running c) (is_missing core c.pp.disk) runs no
     by true true goes e = absurd (cc e)
     by true false goes e = refl
 
-all_tried : (core : Core) (c : OpenCopy) → end_by_sources core c ≡ Some ending.SyncFailed → is_none (next_source core c) ≡ true
+pub all_tried : (core : Core) (c : OpenCopy) → end_by_sources core c ≡ Some ending.SyncFailed → is_none (next_source core c) ≡ true
 all_tried core c is = by (length (sources_of core c) == 0) (is_idle c.step) (is_none (next_source core c)) is
   where
     by : (a i n : Bool) → (if a then Some ending.NoFresh else if i && n then Some ending.SyncFailed else None) ≡ Some ending.SyncFailed → n ≡ true

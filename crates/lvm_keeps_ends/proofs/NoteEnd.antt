@@ -66,56 +66,56 @@ all_true t u on (x ∷ xs) all = let parts = both (t x) (list_all t xs) all in a
 
 -- ---- the notes of its disk, and of the others
 
-module _ (c : Cached) (disk : ℕ) where
-  here : notes_on (after_end c disk true) disk ≡ option_map (ended true) (notes_on c disk)
-  here = find-with (is_on disk) (ended true) c.notes same
+module _ (c : Cached) (disk : ℕ) (ok : Bool) where
+  here : notes_on (after_end c disk ok) disk ≡ option_map (ended ok) (notes_on c disk)
+  here = find-with (is_on disk) (ended ok) c.notes same
     where
-      same : (d : DiskNotes) → is_on disk d ≡ true → is_on disk (ended true d) ≡ true
+      same : (d : DiskNotes) → is_on disk d ≡ true → is_on disk (ended ok d) ≡ true
       same d e = by d.flight
         where
-          by : (m : Option (ArrayVec NoteEntry)) → is_on disk (option_map_or (λ (flight : ArrayVec NoteEntry). record d { written = record { items = ended_as true d.written.items flight.items }; flight = None }) m d) ≡ true
+          by : (m : Option (ArrayVec NoteEntry)) → is_on disk (option_map_or (λ (flight : ArrayVec NoteEntry). record d { written = record { items = ended_as ok d.written.items flight.items }; flight = None }) m d) ≡ true
           by None = e
           by (Some note) = e
 
-  none_here : flight_on (after_end c disk true) disk ≡ None
+  pub none_here : flight_on (after_end c disk ok) disk ≡ None
   none_here = ap (λ m. option_and_then (λ (d : DiskNotes). d.flight) m) here ∙ by (notes_on c disk)
     where
-      over : (d : DiskNotes) → (ended true d).flight ≡ None
+      over : (d : DiskNotes) → (ended ok d).flight ≡ None
       over d = of d.flight refl
         where
-          of : (m : Option (ArrayVec NoteEntry)) → d.flight ≡ m → (option_map_or (λ (flight : ArrayVec NoteEntry). record d { written = record { items = ended_as true d.written.items flight.items }; flight = None }) m d).flight ≡ None
+          of : (m : Option (ArrayVec NoteEntry)) → d.flight ≡ m → (option_map_or (λ (flight : ArrayVec NoteEntry). record d { written = record { items = ended_as ok d.written.items flight.items }; flight = None }) m d).flight ≡ None
           of None e = e
           of (Some note) e = refl
 
-      by : (m : Option DiskNotes) → option_and_then (λ (d : DiskNotes). d.flight) (option_map (ended true) m) ≡ None
+      by : (m : Option DiskNotes) → option_and_then (λ (d : DiskNotes). d.flight) (option_map (ended ok) m) ≡ None
       by None = refl
       by (Some d) = over d
 
-  beside : (d : ℕ) → (d == disk) ≡ false → notes_on (after_end c disk true) d ≡ notes_on c d
-  beside d other = find-with_other (is_on d) (is_on disk) (ended true) c.notes (λ n e. (apart n e, apart_ended n e))
+  beside : (d : ℕ) → (d == disk) ≡ false → notes_on (after_end c disk ok) d ≡ notes_on c d
+  beside d other = find-with_other (is_on d) (is_on disk) (ended ok) c.notes (λ n e. (apart n e, apart_ended n e))
     where
       apart : (n : DiskNotes) → (n.disk == disk) ≡ true → (n.disk == d) ≡ false
       apart n e = ne_eqb n.disk d (λ same. eqb-false d disk other (sym same ∙ eqb-true n.disk disk e))
 
-      apart_ended : (n : DiskNotes) → (n.disk == disk) ≡ true → ((ended true n).disk == d) ≡ false
+      apart_ended : (n : DiskNotes) → (n.disk == disk) ≡ true → ((ended ok n).disk == d) ≡ false
       apart_ended n e = of n.flight
         where
-          of : (m : Option (ArrayVec NoteEntry)) → ((option_map_or (λ (flight : ArrayVec NoteEntry). record n { written = record { items = ended_as true n.written.items flight.items }; flight = None }) m n).disk == d) ≡ false
+          of : (m : Option (ArrayVec NoteEntry)) → ((option_map_or (λ (flight : ArrayVec NoteEntry). record n { written = record { items = ended_as ok n.written.items flight.items }; flight = None }) m n).disk == d) ≡ false
           of None = apart n e
           of (Some note) = apart n e
 
-  flight_beside : (d : ℕ) → (d == disk) ≡ false → flight_on (after_end c disk true) d ≡ flight_on c d
+  pub flight_beside : (d : ℕ) → (d == disk) ≡ false → flight_on (after_end c disk ok) d ≡ flight_on c d
   flight_beside d other = ap (λ m. option_and_then (λ (n : DiskNotes). n.flight) m) (beside d other)
 
-  same_disks : (d : ℕ) → has_disk (after_end c disk true) d ≡ has_disk c d
+  pub same_disks : (d : ℕ) → has_disk (after_end c disk ok) d ≡ has_disk c d
   same_disks d = by (d == disk) refl
     where
-      kept : (m : Option DiskNotes) → is_some (option_map (ended true) m) ≡ is_some m
+      kept : (m : Option DiskNotes) → is_some (option_map (ended ok) m) ≡ is_some m
       kept None = refl
       kept (Some n) = refl
 
-      by : (b : Bool) → (d == disk) ≡ b → has_disk (after_end c disk true) d ≡ has_disk c d
-      by true is = let same = eqb-true d disk is in ap (has_disk (after_end c disk true)) same ∙ ap (λ m. is_some m) here ∙ kept (notes_on c disk) ∙ ap (has_disk c) (sym same)
+      by : (b : Bool) → (d == disk) ≡ b → has_disk (after_end c disk ok) d ≡ has_disk c d
+      by true is = let same = eqb-true d disk is in ap (has_disk (after_end c disk ok)) same ∙ ap (λ m. is_some m) here ∙ kept (notes_on c disk) ∙ ap (has_disk c) (sym same)
       by false is = ap (λ m. is_some m) (beside d is)
 
 module _ (s : State) (sound : IsSound s) (on : s.core.power ≡ power.On) (disk at : ℕ) (row : Flown) (there : slice_get s.core.flying at ≡ Some row) (own : row.owner ≡ owner.Note disk) (f : Flight) (f_there : slice_get s.device.flights at ≡ Some f)
@@ -185,7 +185,7 @@ module _ (s : State) (sound : IsSound s) (on : s.core.power ≡ power.On) (disk 
     rows = f.rows;
     group = f.group;
     entries = f.entries;
-    notes = λ d. same_disks core.cache disk d ∙ f.notes d;
+    notes = λ d. same_disks core.cache disk true d ∙ f.notes d;
     table = f.table;
     most = f.most;
     queue = f.queue;
@@ -216,10 +216,10 @@ module _ (s : State) (sound : IsSound s) (on : s.core.power ≡ power.On) (disk 
   owned (owner.Note d) = by (d == disk) refl
     where
       by : (b : Bool) → (d == disk) ≡ b → count_by (λ (g : Flown). same_owner (owner.Note d) g.owner) (remove core.flying at) ≡ count_if (is_some (flight_on now.core.cache d))
-      by false other = as_many core going.owned at row there (owner.Note d) (other_own (owner.Note d) other) ∙ going.owned (owner.Note d) ∙ ap (λ m. count_if (is_some m)) (sym (flight_beside core.cache disk d other))
+      by false other = as_many core going.owned at row there (owner.Note d) (other_own (owner.Note d) other) ∙ going.owned (owner.Note d) ∙ ap (λ m. count_if (is_some m)) (sym (flight_beside core.cache disk true d other))
       by true is =
           ap (λ n. count_by (λ (g : Flown). same_owner (owner.Note n) g.owner) (remove core.flying at)) (eqb-true d disk is) ∙ ap (λ who. count_by (λ (g : Flown). same_owner who g.owner) (remove core.flying at)) (sym own) ∙ none_left core going.owned at row there
-          ∙ sym (ap (λ n. count_if (is_some (flight_on now.core.cache n))) (eqb-true d disk is) ∙ ap (λ m. count_if (is_some m)) (none_here core.cache disk))
+          ∙ sym (ap (λ n. count_if (is_some (flight_on now.core.cache n))) (eqb-true d disk is) ∙ ap (λ m. count_if (is_some m)) (none_here core.cache disk true))
 
   step_on : (x : Step) (c : OpenCopy) (g : Flight) → IsStepOf x core c g → IsStepOf x now.core c g
   step_on step.Idle c g of = of
@@ -230,7 +230,7 @@ module _ (s : State) (sound : IsSound s) (on : s.core.power ≡ power.On) (disk 
   transfer_on : (who : Owner) (g : Flight) → same_owner row.owner who ≡ false → IsTransferOf core who g → IsTransferOf now.core who g
   transfer_on (owner.Data id target) g other of = let m = of.moves in record { place = of.place; request = of.request; there = of.there; own = of.own; aim = of.aim; aim_is = of.aim_is; moves = record { disk_is = m.disk_is; first = m.first; count = m.count; write = m.write; carries = m.carries } }
   transfer_on (owner.Status d) g other of = let w = of.writes in record { status = of.status; flies = of.flies; writes = record { disk_is = w.disk_is; first = w.first; count = w.count; write = w.write; carries = w.carries } }
-  transfer_on (owner.Note d) g other of = record { note = of.note; flies = flight_beside core.cache disk d (apart (d == disk) refl) ∙ of.flies; disk_is = of.disk_is; first = of.first; count = of.count; write = of.write; carries = of.carries }
+  transfer_on (owner.Note d) g other of = record { note = of.note; flies = flight_beside core.cache disk true d (apart (d == disk) refl) ∙ of.flies; disk_is = of.disk_is; first = of.first; count = of.count; write = of.write; carries = of.carries }
     where
       apart : (b : Bool) → (d == disk) ≡ b → b ≡ false
       apart false e = refl

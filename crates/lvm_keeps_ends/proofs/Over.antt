@@ -44,7 +44,7 @@ use Rattle.lvm_keeps.proofs.Still.{changed, if_on, open_on}
 use Rattle.lvm_keeps_ends.proofs.Removal.{IsOut, as_many, count_taken, none_left, others, rows_left, taken_out, tickets_left, was_out}
 
 -- the step's row goes
-without_step : (step : Row) (rows : List Row) → AllByRecursion (λ (row : Row). row.id ≡ step.id → ⊥) rows → without step.id (with_row step rows) ≡ rows
+pub without_step : (step : Row) (rows : List Row) → AllByRecursion (λ (row : Row). row.id ≡ step.id → ⊥) rows → without step.id (with_row step rows) ≡ rows
 without_step step [] others = ap (λ b. if not b then step ∷ [] else []) (eq-eqb step.id step.id refl)
 without_step step (row ∷ rows) others = by (nat_lt step.id row.id) (without_step step rows others.1)
   where
@@ -60,7 +60,7 @@ without_step step (row ∷ rows) others = by (nat_lt step.id row.id) (without_st
     by false more = kept row (with_row step rows) others.0 ∙ ap (λ (rs : List Row). row ∷ rs) more
 
 -- requests have even places, and a step has an odd one
-even_rows : (n : ℕ) (os : List Open) → AllByRecursion (λ (row : Row). row.id ≡ place_of n + 1 → ⊥) (waiting_rows os)
+pub even_rows : (n : ℕ) (os : List Open) → AllByRecursion (λ (row : Row). row.id ≡ place_of n + 1 → ⊥) (waiting_rows os)
 even_rows n [] = tt
 even_rows n (o ∷ os) = by (is_waiting o) (even_rows n os)
   where
@@ -69,7 +69,7 @@ even_rows n (o ∷ os) = by (is_waiting o) (even_rows n os)
     by true more = (λ e. absurd (omega (arith, e)), more)
     by false more = more
 
-none_filter : {A : Type 0} (t u : A → Bool) (xs : List A) → list_any t xs ≡ false → list_any t (filter u xs) ≡ false
+pub none_filter : {A : Type 0} (t u : A → Bool) (xs : List A) → list_any t xs ≡ false → list_any t (filter u xs) ≡ false
 none_filter t u [] none = refl
 none_filter {A} t u (x ∷ xs) none = by (t x) (u x) refl (λ e. none_filter t u xs e) none
   where
@@ -79,7 +79,7 @@ none_filter {A} t u (x ∷ xs) none = by (t x) (u x) refl (λ e. none_filter t u
     by false false is rest e = rest e
 
 -- a step that is out has nothing in hand
-out_no_hand : (x : Step) → is_out x ≡ true → hand_of x ≡ None
+pub out_no_hand : (x : Step) → is_out x ≡ true → hand_of x ≡ None
 out_no_hand step.Idle e = not_so e
 out_no_hand (step.Reading source) e = refl
 out_no_hand (step.Read buf) e = not_so e

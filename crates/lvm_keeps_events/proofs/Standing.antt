@@ -64,7 +64,7 @@ use Rattle.lvm_session.specs.Bringing.{end_of, ends_if, hand_of, has_row, is_cle
 use Rattle.lvm_session.specs.Enabled.{Part, admission_at, can_pin, copy_read, copy_write, data_at, data_start, first_event, first_from, first_of, has_buffer, is_admit, is_free_step, is_lost, is_pin, is_status_due, is_unnamed, landing, landing_at, may_be_admitted, may_pin, may_read, may_write, note_at, note_due, note_start, or_next, outcome_next, parts_to_settle, parts_to_start, pinning_at, same_row, same_rows, same_status, target_due, target_next, wants_record}
 use Rattle.lvm_events.specs.Dark.{hand_of_copy}
 use Rattle.lvm_sound.specs.Owners.{AreRows, flies, same_owner, target_flies}
-use Rattle.lvm_sound.specs.Requests.{IsOpenOne, IsPhase, IsRecorded, IsRequest, IsTarget, is_failed_and_sure, is_past_held, is_wanted_due, is_wanted_dirty, mode_for, wants_status}
+use Rattle.lvm_sound.specs.Requests.{IsOpenOne, IsPhase, IsRecorded, IsRequest, IsTarget, is_failed_and_sure, is_past_held, is_wanted_due, is_wanted_dirty, mode_for, wants_status, will_be_kept}
 use Rattle.lvm_sound.specs.Sound.{IsCopy, IsGoing, IsSound, count_if, has_number, is_dark, is_hand, pins, rows_of, waiting_rows, with_row}
 use Rattle.std.proofs.lemmas.Slice.Eq.{bytes_eq-Decides}
 use Rattle.lvm_keeps.specs.Falls.{NeverStandsStill}
@@ -264,10 +264,14 @@ module _ (core : Core) (wanted : (p : Pp) → is_wanted_stale core p ≡ is_stal
       at_most : (n m : ℕ) → nat_le n m ≡ true → n ≤ m
       at_most n m e = grind (arith, nat_tests, e)
 
-      by : (b : Bool) → is_kept core r ≡ b → nat_le (count_by (is_failed_and_sure core) r.targets.items) (if b then 0 else 1) ≡ true
+      at_most_one : (n : ℕ) (b : Bool) → nat_le n (if b then 0 else 1) ≡ true → n ≤ 1
+      at_most_one n true e = let none = at_most n 0 e in omega (arith, none)
+      at_most_one n false e = at_most n 1 e
+
+      by : (b : Bool) → is_kept core r ≡ b → nat_le (count_by (is_failed_and_sure core) r.targets.items) (if b || will_be_kept core r then 0 else 1) ≡ true
           → (if b then list_all (λ (t : Target). not (counts_failed core t) || is_settled core t.pp) r.targets.items else list_all (λ (t : Target). is_settled core t.pp) (all_but_sure core r.targets.items)) ≡ true
       by true is e = kept_marked r.targets.items (at_most (count_by (is_failed_and_sure core) r.targets.items) 0 e)
-      by false is e = lost_marked r.targets.items over is (at_most (count_by (is_failed_and_sure core) r.targets.items) 1 e)
+      by false is e = lost_marked r.targets.items over is (at_most_one (count_by (is_failed_and_sure core) r.targets.items) (will_be_kept core r) e)
 
 -- ---- a cache of which nothing is pinned
 

@@ -50,7 +50,7 @@ use Rattle.lvm_events.specs.Events.{is_passive}
 use Rattle.lvm_events.specs.Marks.{WantsDirty, can_replace, is_among, is_entailed, is_entailed_in, is_left_behind}
 use Rattle.lvm_sound.specs.Left.{clean_volumes, if_so}
 use Rattle.lvm_sound.specs.Owners.{AreOwned, AreRows, IsStepOf, IsTransferOf}
-use Rattle.lvm_sound.specs.Requests.{IsJudged, IsOpenOne, IsReady, IsShaped, IsTarget, is_failed_and_sure, is_left_out, is_wanted_dirty, is_wanted_due, mode_for}
+use Rattle.lvm_sound.specs.Requests.{IsJudged, IsOpenOne, IsReady, IsShaped, IsTarget, is_failed_and_sure, is_left_out, is_wanted_dirty, is_wanted_due, mode_for, will_be_kept}
 use Rattle.lvm_sound.specs.Causes.{AreCaused, AreCounted, HaveSourcesFailed, IsAnswered, IsCaused, IsChosenSince, IsCopyCaused, IsCounted, IsLandedFor, IsTrueToOrigin, fails_on, is_blamed, is_held_stale, is_over, was_fresh}
 use Rattle.lvm_sound.specs.Sound.{IsCopy, IsFitting, IsGoing, IsOn, IsSound, IsTold, count_if, is_dark, may_be_fresh, stays_fresh}
 use Rattle.lvm_keeps.proofs.Lists.{all_on, count_cons}
@@ -115,8 +115,8 @@ module _ (s : State) (sound : IsSound s) (on : s.core.power ≡ power.On) (lv : 
 
   due_same : (r : Request) → is_wanted_due now.core r ≡ is_wanted_due core r
   due_same r =
-      ap (λ n. nat_le n (if is_kept now.core r then 0 else 1)) (count_alike (is_failed_and_sure now.core) (is_failed_and_sure core) (λ t. ap (λ b. is_failed t.state && b) (sure_same t.pp)) r.targets.items)
-      ∙ ap (λ (b : Bool). nat_le (count_by (is_failed_and_sure core) r.targets.items) (if b then 0 else 1)) (kept_same r)
+      ap (λ n. nat_le n (if is_kept now.core r || will_be_kept core r then 0 else 1)) (count_alike (is_failed_and_sure now.core) (is_failed_and_sure core) (λ t. ap (λ b. is_failed t.state && b) (sure_same t.pp)) r.targets.items)
+      ∙ ap (λ (b : Bool). nat_le (count_by (is_failed_and_sure core) r.targets.items) (if b || will_be_kept core r then 0 else 1)) (kept_same r)
 
   out_same : (ask : Ask) (p : Pp) → is_left_out now.core ask p ≡ is_left_out core ask p
   out_same ask p = ap (λ b. is_settled core p && b && not (is_caught core (group_in core ask) p)) (wanted_same p)

@@ -24,7 +24,7 @@ use Rattle.lvm_hold.specs.Conflicts.{conflicts}
 use Rattle.lvm_path.specs.declared.request.Phase.{Phase}
 use Rattle.lvm_path.specs.declared.request.Phase.TheVariants as phase
 use Rattle.lvm_path.specs.declared.target.Target.{Target}
-use Rattle.lvm_path.specs.Targets.{is_failed}
+use Rattle.lvm_path.specs.Targets.{is_done, is_failed}
 use Rattle.lvm_session.specs.declared.bringing.OpenCopy.{OpenCopy}
 use Rattle.lvm_session.specs.declared.bringing.CopyEnd.{CopyEnd}
 use Rattle.lvm_session.specs.declared.bringing.CopyEnd.TheVariants as ending
@@ -34,7 +34,7 @@ use Rattle.lvm_session.specs.declared.flown.Owner.TheVariants as owner
 use Rattle.lvm_session.specs.declared.open.Open.{Open}
 use Rattle.lvm_session.specs.declared.open.Power.TheVariants as power
 use Rattle.lvm_session.specs.State.{Core, State, is_there, state}
-use Rattle.lvm_session.specs.Judging.{copies_in, group_in, held_of, is_caught, is_held_back, is_missing, is_running, is_settled, is_stale, is_usable, is_waiting, is_wanted_stale, place_of, pps_of}
+use Rattle.lvm_session.specs.Judging.{copies_in, group_in, held_of, is_caught, is_held_back, is_kept, is_missing, is_running, is_settled, is_stale, is_usable, is_waiting, is_wanted_stale, place_of, pps_of}
 use Rattle.lvm_session.specs.Bringing.{copy_ends, ends_if, groups_of, is_cleared, is_out, is_whole, next_source, sources_of, step_place, step_row}
 use Rattle.lvm_session.specs.Enabled.{same_status}
 use Rattle.lvm_events.specs.declared.answers.CopyFault.{CopyFault}
@@ -47,7 +47,7 @@ use Rattle.lvm_sound.specs.Asking.{IsAwake}
 use Rattle.lvm_sound.specs.Causes.{AreCaused, AreCounted, IsAnswered, IsCaused, IsChosenSince, IsCopyCaused, IsCounted, IsLandedFor, fails_on, faults_at_first, faults_at_opening, is_held_stale, is_over}
 use Rattle.lvm_sound.specs.Left.{copy_updates, if_so, marks_later, updates_left}
 use Rattle.lvm_sound.specs.Owners.{AreOwned, AreRows, IsTransferOf, target_flies}
-use Rattle.lvm_sound.specs.Requests.{IsOpenOne, IsPhase, IsRequest, is_left_out, may_lack}
+use Rattle.lvm_sound.specs.Requests.{IsOpenOne, IsPhase, IsRequest, is_failed_and_sure, is_left_out, may_lack, will_be_kept}
 use Rattle.lvm_sound.specs.Sound.{IsAsked, IsCopy, IsFitting, IsGoing, IsOn, IsSound, IsTold, count_if, is_hand, out_with, pins, rows_of, waiting_rows, with_row}
 use Rattle.lvm_submit.proofs.Numbered.{below_next}
 use Rattle.lvm_copy_open.specs.Opening.{counts_seen, faults_seen}
@@ -56,7 +56,7 @@ use Rattle.lvm_copy_open.proofs.Tables.{queue_before, rows_are}
 use Rattle.lvm_copies.proofs.Members.{few_copies}
 use Rattle.lvm_keeps.specs.Keeps.{OpenKeeps}
 use Rattle.lvm_keeps.proofs.Lists.{all_mapped, all_on}
-use Rattle.lvm_keeps.proofs.Small.{not_so}
+use Rattle.lvm_keeps.proofs.Small.{and_on, most_on, none_on, not_so}
 use Rattle.lvm_keeps.proofs.Still.{counted_on, if_on, laid_on, moved, origin_on, ready_on, shape_on}
 use Rattle.lvm_keeps_open.specs.Opening.{SeenOpenKeeps}
 use Rattle.lvm_keeps_open.proofs.Aging.{all_both, any_aged, asked_aged, count_aged, get_aged, long_aged, row_last, rows_aged, told_aged}
@@ -262,7 +262,9 @@ module _ (s : State) (sound : IsSound s) (on : s.core.power ≡ power.On) (none 
             ready = ready_on core core.history table now.core.queue (Some c) core.pool core.flying core.cache.entries core.last o free caught r.ready;
             judged = λ write. let j = r.judged write in record {
               uncaught = all_none o.request.targets.items;
-              due = j.due;
+              due = λ status. most_on (count_by (is_failed_and_sure core) o.request.targets.items) (is_kept core o.request) (will_be_kept core o.request) (will_be_kept now.core o.request)
+                  (none_on (λ (t : Target). is_done t.state && is_caught core (group_in core o.request.ask) t.pp) (λ (t : Target). is_done t.state && is_caught now.core (group_in core o.request.ask) t.pp)
+                  (λ t. and_on (is_done t.state) (is_caught core (group_in core o.request.ask) t.pp) (is_caught now.core (group_in core o.request.ask) t.pp) (caught t.pp)) o.request.targets.items) (j.due status);
               all = λ begun p among. let was = j.all begun p among in left_same p was;
             };
           }

@@ -130,9 +130,14 @@ pub record IsReady (core : Core) (r : Request) : Type 0 where
 abbrev pub is_failed_and_sure : Core → Target → Bool
 is_failed_and_sure core t = is_failed t.state && is_sure core t.pp
 
--- What is due of a write whose transfers have all ended is wanted: no failed target is sure where one has succeeded, and else all but one are wanted stale.
+-- a target has succeeded that the copying has passed: it is sure once the copy is cleared
+abbrev pub will_be_kept : Core → Request → Bool
+will_be_kept core r = list_any (λ (t : Target). is_done t.state && is_caught core (group_in core r.ask) t.pp) r.targets.items
+
+-- What is due of a write whose transfers have all ended is wanted: no failed target is sure where one has succeeded that is sure or will be, and else all but
+-- one are wanted stale.
 abbrev pub is_wanted_due : Core → Request → Bool
-is_wanted_due core r = nat_le (count_by (is_failed_and_sure core) r.targets.items) (if is_kept core r then 0 else 1)
+is_wanted_due core r = nat_le (count_by (is_failed_and_sure core) r.targets.items) (if is_kept core r || will_be_kept core r then 0 else 1)
 
 -- A copy that a write mustn't count on: its transfer there failed, or its targets were chosen before the copy that is open was opened.
 abbrev pub may_lack : Open → Target → Bool

@@ -222,3 +222,9 @@ set_missing-says s disk place was row is valid at same now d = elim (cases_eq di
       with_row-other s disk place was row valid at same (λ (r : StatusRow). r.missing) d apart
       ∙ ap (λ b. if b then is else calls_missing s d) (sym (differ d disk (λ e. apart (sym e))))
 ]
+
+-- a disk that is missing already, or is there, leaves the table as it is
+pub set_missing-same : (s : Status) (disk place : ℕ) (was : StatusRow) (is : Bool) → IsValidStatus s → IsRowAt s.rows disk place was → calls_missing s disk ≡ is → with_row s place (record was { missing = is }) ≡ s
+set_missing-same s disk place was is valid at said =
+    let now : was.missing ≡ is = sym (with_row-its s disk place was was valid at refl (λ (r : StatusRow). r.missing) disk refl).1 ∙ said in
+    ap (λ (b : Bool). with_row s place (record was { missing = b })) (sym now) ∙ ap (λ (rows : List StatusRow). record s { rows = rows }) (set-itself s.rows place was (at.there was))

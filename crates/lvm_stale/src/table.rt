@@ -142,6 +142,7 @@ impl StaleTable {
         ensures stale { SameStale self.old self.new }
         ensures missing { (d : ℕ) → calls_missing self.new d ≡ (if d == disk then yes else calls_missing self.old d) }
         ensures dirty { self.new.dirty ≡ self.old.dirty }
+        ensures same { calls_missing self.old disk ≡ yes → self.new ≡ self.old }
     {
         let (place, mut row) = row_at(self.status.rows.as_slice(), disk);
         row.missing = yes;

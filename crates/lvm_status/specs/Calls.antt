@@ -41,11 +41,13 @@ pub record BecomesFresh (pp : Pp) (old new : Status) : Type 0 where
   pub missing : SameMissing old new
   pub dirty : new.dirty ≡ old.dirty
 
+-- the disk becomes missing, and nothing else changes; nothing at all where it is
 pub record BecomesMissing (disk : ℕ) (old new : Status) : Type 0 where
   pub members : SameMembers old new
   pub stale : SameStale old new
   pub missing : (d : ℕ) → calls_missing new d ≡ (if d == disk then true else calls_missing old d)
   pub dirty : new.dirty ≡ old.dirty
+  pub same : calls_missing old disk ≡ true → new ≡ old
 
 -- the volume is dirty or isn't, and nothing else changes
 pub record BecomesDirty (lv : ℕ) (is : Bool) (old new : Status) : Type 0 where

@@ -3,7 +3,7 @@
 use lvm_num::Pp;
 
 /// A change of the wanted status.
-#[derive(Clone, Copy, Debug, PartialEq, Eq)]
+#[derive(Clone, Copy, PartialEq, Eq)]
 pub enum Change {
     /// The partition becomes stale.
     Stale(Pp),

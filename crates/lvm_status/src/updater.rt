@@ -311,23 +311,35 @@ fn says_the_same(a: &StaleTable, b: &StaleTable) -> bool
 fn all_have_rows(d: &Descriptor, table: &StaleTable) -> bool
     ensures { result ≡ all_rows d.now table.now }
 {
-    d.pvs
-        .as_slice()
-        .iter()
-        .all(|member| table.has_row(member.disk))
+    for member in d.pvs.as_slice() {
+        if !table.has_row(member.disk) {
+            return false;
+        }
+    }
+    true
 }
 
 // Whether each row is that of a member.
 fn all_are_members(s: &Status, d: &Descriptor) -> bool
     ensures { result ≡ all_members d.now s.now }
 {
-    s.rows.as_slice().iter().all(|row| is_member(d, row.disk))
+    for row in s.rows.as_slice() {
+        if !is_member(d, row.disk) {
+            return false;
+        }
+    }
+    true
 }
 
 fn is_member(d: &Descriptor, disk: u16) -> bool
     ensures { result ≡ is_member d.now disk }
 {
-    d.pvs.as_slice().iter().any(|member| member.disk == disk)
+    for member in d.pvs.as_slice() {
+        if member.disk == disk {
+            return true;
+        }
+    }
+    false
 }
 
 // The members of a group, and two tables that say what this one does.
@@ -406,6 +418,10 @@ fn is_any_owed(d: &Descriptor, writes: Writes) -> bool
     requires { IsValid d.now }
     ensures { result ≡ list_any (λ (row : PvRow). has writes.unstarted row.disk || has writes.started row.disk) d.now.pvs }
 {
-    d.pvs.as_slice().iter().any(|row| writes.unstarted.has(row.disk)
-        || writes.started.has(row.disk))
+    for row in d.pvs.as_slice() {
+        if writes.unstarted.has(row.disk) || writes.started.has(row.disk) {
+            return true;
+        }
+    }
+    false
 }

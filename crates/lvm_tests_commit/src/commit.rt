@@ -4,6 +4,9 @@ ghost use Rattle.lvm_num.specs.declared.descriptor.PvRow.{PvRow as pv_row};
 ghost use Rattle.lvm_num.specs.DescriptorBytes.{descriptor_of};
 ghost use Rattle.lvm_commit.specs.Settling.{IsOf, MaySettle, HasNumbers};
 
+use crate::fixtures::{
+    blank_shelf, check, first_homes, group, has_room, row, stamp, status, survey, volume,
+};
 use lvm_commit::{CommitEnd, commit_descriptor, commit_status};
 use lvm_disk::Shelf;
 use lvm_faults::{Act, Planned};
@@ -15,7 +18,6 @@ use lvm_survey::Survey;
 use lvm_transfer::{Patience, relight};
 use lvm_write::Homes;
 use std::process::Abort;
-use crate::fixtures::{blank_shelf, check, first_homes, group, has_room, row, stamp, status, survey, volume};
 
 const ID: u64 = 50;
 

@@ -9,13 +9,16 @@ ghost use Rattle.lvm_survey.specs.Surveyed.{IsSurveyValid};
 
 use lvm_begin::{Begun, begin_again, begin_new};
 use lvm_disk::Shelf;
+use lvm_faults::{Planned, names_disks};
 use lvm_memory::MemShelf;
-use lvm_num::{Descriptor, DiskSet, Pbuf, Rows, Status, LvRow, Mode, Name, Policy, Pp, PvRow, Stamp, StatusRow, VolumeNumbers};
+use lvm_num::{
+    Descriptor, DiskSet, LvRow, Mode, Name, Pbuf, Policy, Pp, PvRow, Rows, Stamp, Status,
+    StatusRow, VolumeNumbers,
+};
+use lvm_survey::{Survey, SurveyRow, Surveyed, survey_disks};
 use lvm_transfer::{Patience, relight};
 use lvm_write::Homes;
 use std::process::Abort;
-use lvm_faults::{Planned, names_disks};
-use lvm_survey::{Survey, SurveyRow, Surveyed, survey_disks};
 
 /// Ends the test where this isn't so, and says of what.
 pub fn check(rt: &impl Abort, is: bool, what: &str) {

@@ -5,7 +5,9 @@ ghost use Rattle.lvm_num.specs.Status.{IsValidStatus};
 ghost use Rattle.lvm_survey.specs.Rows.{AreRows};
 ghost use Rattle.lvm_survey.specs.Surveyed.{IsRowValid, IsSurveyValid};
 
-use crate::fixtures::{DATA, FIRST, LARGE, LATER, NAMESAKE, NONE, OTHER, first_two, group, status, check, name_of};
+use crate::fixtures::{
+    DATA, FIRST, LARGE, LATER, NAMESAKE, NONE, OTHER, check, first_two, group, name_of, status,
+};
 use Answer::*;
 use lvm_num::{Descriptor, Rows, Stamp, Status};
 use lvm_quorum::{Choice, ChooseFault, choose};

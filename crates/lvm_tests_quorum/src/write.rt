@@ -2,6 +2,7 @@
 ghost use Rattle.std.specs.Prelude.{◌≡◌};
 ghost use Rattle.lvm_num.specs.Record.{longest_content};
 
+use crate::fixtures::{all_disks, blank_shelf, check, first_two, has_room, plan_of};
 use End::*;
 use Step::*;
 use lvm_disk::Shelf;
@@ -12,7 +13,6 @@ use lvm_rec::{read_note, read_slot};
 use lvm_transfer::{Patience, relight};
 use lvm_write::{Homes, Wrote, empty_notes, write_record};
 use std::process::Abort;
-use crate::fixtures::{all_disks, blank_shelf, check, first_two, has_room, plan_of};
 
 const FIRST: Stamp = Stamp { epoch: 50, seq: 1 };
 

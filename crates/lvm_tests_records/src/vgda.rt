@@ -1,9 +1,9 @@
+use crate::fixtures::{Member, check, check_at, group, members};
 use lvm_fields::Fault;
 use lvm_num::{Descriptor, LvRow, Mode, Name, Policy, Pp, PvRow, Rows};
 use lvm_spelling::encode;
 use lvm_vgda::decode;
 use std::process::Abort;
-use crate::fixtures::{Member, check, check_at, group, members};
 
 // A group of three disks without a volume.
 const THREE: [u8; 72] =

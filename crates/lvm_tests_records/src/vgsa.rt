@@ -1,8 +1,8 @@
+use crate::fixtures::{check, check_at};
 use lvm_fields::Fault;
 use lvm_num::{Rows, Status, StatusRow, VolumeNumbers};
 use lvm_vgsa::{decode, encode, encode_into};
 use std::process::Abort;
-use crate::fixtures::{check, check_at};
 
 // A status by whether its group is big, by its rows, which are of the first disks, and by its dirty volumes.
 type Form = (bool, u16, &'static [u16]);

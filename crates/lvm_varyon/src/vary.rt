@@ -19,7 +19,7 @@ use crate::writes::{read_disks, write_plan};
 use lvm_core::{Cause, Driver, Parts, Refused, Room};
 use lvm_disk::Shelf;
 use lvm_history::History;
-use lvm_num::{Name, Stamp, Pbuf};
+use lvm_num::{Name, Pbuf, Stamp};
 use lvm_transfer::Patience;
 use lvm_write::Homes;
 use std::alloc::Global;

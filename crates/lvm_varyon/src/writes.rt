@@ -12,6 +12,7 @@ ghost use Rattle.lvm_write.specs.Writes.{DiskWritesLeave};
 ghost use Rattle.lvm_area.specs.Reading.{OnlyReads};
 ghost use Rattle.lvm_varyon.specs.Parts.{SurveyGives, plan_beginning, AgainWritesGive};
 
+use crate::plan::Plan;
 use lvm_begin::{Begun, begin_again};
 use lvm_core::Cause;
 use lvm_disk::Shelf;
@@ -20,7 +21,6 @@ use lvm_survey::{Survey, Surveyed, survey_disks};
 use lvm_transfer::Patience;
 use lvm_write::Homes;
 use std::alloc::Global;
-use crate::plan::Plan;
 
 /// Reads the records of all disks. The buffer that it read with comes back for the writes.
 pub fn read_disks<S: Shelf>(

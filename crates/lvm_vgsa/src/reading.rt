@@ -133,7 +133,12 @@ fn disk_at<'a>(earlier: &[StatusRow], unread: Unread<'a>) -> Result<(u16, Unread
 fn is_behind(disk: u16, earlier: &[StatusRow]) -> bool
     ensures { result ≡ list_all (λ (row : status_row). nat_lt row.disk disk) earlier.now }
 {
-    earlier.iter().all(|row| row.disk < disk)
+    for row in earlier {
+        if row.disk >= disk {
+            return false;
+        }
+    }
+    true
 }
 
 fn marks_at(unread: Unread) -> Result<([u8; 127], Unread), Fault>
@@ -206,7 +211,12 @@ fn number_at<'a>(earlier: &[u16], unread: Unread<'a>) -> Result<(u16, Unread<'a>
 fn is_above(number: u16, earlier: &[u16]) -> bool
     ensures { result ≡ list_all (λ m. nat_lt m number) earlier.now }
 {
-    earlier.iter().all(|earlier| *earlier < number)
+    for other in earlier {
+        if *other >= number {
+            return false;
+        }
+    }
+    true
 }
 
 fn numbers_at(alloc: Global, count: u16, unread: Unread) -> Result<(VolumeNumbers, Unread), Fault>

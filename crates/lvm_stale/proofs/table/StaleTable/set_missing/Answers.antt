@@ -4,7 +4,7 @@ use Rattle.lvm_num.specs.declared.place.Pp.{Pp}
 use Rattle.lvm_num.specs.Bits.{has_bit}
 use Rattle.lvm_stale.specs.Rows.{IsRowAt}
 use Rattle.lvm_stale.specs.Table.{SameMembers}
-use Rattle.lvm_stale.proofs.Places.{with_row, with_row-members, with_row-same, set_missing-says}
+use Rattle.lvm_stale.proofs.Places.{with_row, with_row-members, with_row-same, set_missing-same, set_missing-says}
 use Rattle.lvm_stale.proofs.table.StaleTable.set_missing.Goals as goal
 
 -- the row that is put over the one there
@@ -34,3 +34,8 @@ pub returns-clause-missing : goal.returns-clause-missing
 returns-clause-missing c =
     rw (← c.self.view_is, c.set.ensures)
     (set_missing-says c.self.inside.status c.args.disk c.row_at-place.result.0 c.row_at-place.result.1 (row c) c.args.yes c.self.invariant (there c) refl refl)
+
+pub returns-clause-same : goal.returns-clause-same
+returns-clause-same c =
+    rw (← c.self.view_is, c.set.ensures)
+    (λ said. set_missing-same c.self.inside.status c.args.disk c.row_at-place.result.0 c.row_at-place.result.1 c.args.yes c.self.invariant (there c) said)
