@@ -33,6 +33,7 @@ ordered_sound device core what sound = record {
   lit = λ is. let lit = sound.lit is in record { power = lit.power; freed = lit.freed };
   dark = λ is. let dark = sound.dark is in record { power = dark.power; flights = dark.flights };
   off = sound.off;
+  heard = sound.heard;
 }
 
 -- the session after a power cut, on a shelf without power on which nothing is under way
@@ -53,6 +54,7 @@ dark_sound old new core sound like dark = subst (λ (c : Core). IsSound (state n
   lit = λ is. absurd (let e : ◌≡◌ {A = Bool} true false = is in cc);
   dark = λ is. dark;
   off = λ is. absurd (let e : power.Dark ≡ power.Off = is in cc);
+  heard = λ is. absurd (let e : power.Dark ≡ power.Stuck = is in cc);
 })
 
 count_map : {X Y : Type 0} (p : Y → Bool) (f : X → Y) → (xs : List X) → count_by p (map f xs) ≡ count_by (λ x. p (f x)) xs

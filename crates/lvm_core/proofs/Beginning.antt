@@ -12,7 +12,6 @@ use Rattle.lvm_vol.specs.Facts.{On}
 use Rattle.lvm_vol.specs.Log.{Log}
 use Rattle.lvm_stale.specs.Table.{has_row}
 use Rattle.lvm_hold.specs.Waiting.{Waiting}
-use Rattle.lvm_keeps.proofs.Telling.{open_still}
 use Rattle.lvm_mwc.specs.declared.notes.DiskNotes.{DiskNotes}
 use Rattle.lvm_mwc.specs.Cache.{Cached, has_disk, no_notes}
 use Rattle.lvm_mwc.specs.Entries.{AreEntries}
@@ -26,6 +25,7 @@ use Rattle.lvm_session_start.specs.Parts.{IsEmptyCache, IsReserved}
 use Rattle.lvm_session_start.specs.Beginning.{first_core}
 use Rattle.lvm_core.specs.Sound.{HaveAllLanded, IsFitting, IsSound}
 use Rattle.lvm_core.specs.Starting.{AreReserved}
+use Rattle.lvm_core.proofs.Dark.{landed_still}
 use Rattle.lvm_core.proofs.Own.{sound_ready}
 
 -- the notes of a cache that is empty
@@ -67,9 +67,10 @@ module _ (device : Device) (p : Parts) (history : Log) (stamp : Stamp) (homes : 
   pub sound_first : HaveAllLanded history.facts → IsReady device → ArePlaced device.sizes p.descriptor p.updater.wanted → IsSound (state device core)
   sound_first landed ready placed = sound_ready device core fits_first
       (record { requests = its.requests; copy = refl })
-      (λ id. open_still history.facts (On stamp.epoch) refl id refl ∙ landed id)
+      (landed_still history.facts (On stamp.epoch) refl (λ id. refl) landed)
       placed
       (its.pool ∙ ap (λ n. replicate n false) (sym buffers))
       refl
       (λ off. absurd (let e : power.On ≡ power.Off = off in cc))
+      (λ stuck. absurd (let e : power.On ≡ power.Stuck = stuck in cc))
       ready

@@ -1,9 +1,9 @@
 -- A power cut ends a session at which nothing is open: a Cut is all that it enters.
-use Rattle.std.proofs.Common.{◌≡◌, ◌≤◌, ◌+◌, ℕ, Bool, true, false, cond, List, [], Option, None, count_by, refl, sym, ◌∙◌, ap, subst, arith}
+use Rattle.std.proofs.Common.{◌≡◌, ◌≤◌, ◌+◌, ℕ, Bool, true, false, cond, List, [], ◌∷◌, ◌++◌, Option, None, count_by, refl, sym, ◌∙◌, ap, subst, arith}
 use Rattle.std.proofs.lemmas.List.{append-nil}
 use Rattle.lvm_disk.specs.Device.{Device, Flight}
-use Rattle.lvm_vol.specs.Facts.{Fact, Cut}
-use Rattle.lvm_vol.specs.Log.{Log, cut_log, is_open, is_uncut, with_fact}
+use Rattle.lvm_vol.specs.Facts.{Fact, Cut, begun_by}
+use Rattle.lvm_vol.specs.Log.{Log, cut_log, is_uncut, lands_id, with_fact}
 use Rattle.lvm_keeps.proofs.Telling.{open_still}
 use Rattle.lvm_session.specs.declared.open.Open.{Open}
 use Rattle.lvm_session.specs.declared.open.Power.TheVariants as power
@@ -33,12 +33,16 @@ may_end core none = record {
   requests = subst (AreInHand _) (sym none.requests) tt;
 }
 
+-- no request is open by an entry that begins none
+pub landed_still : (facts : List Fact) (f : Fact) → begun_by f ≡ None → ((id : ℕ) → lands_id id f ≡ false) → HaveAllLanded facts → HaveAllLanded (facts ++ f ∷ [])
+landed_still facts f none lands landed id = open_still facts f none id (lands id) ∙ landed id
+
 pub cut_landed : (log : Log) → HaveAllLanded log.facts → HaveAllLanded (cut_log log).facts
-cut_landed log landed id = by_test (is_uncut log.facts)
+cut_landed log landed = by_test (is_uncut log.facts)
   where
-    by_test : (b : Bool) → is_open (cond b (with_fact log Cut) log).facts id ≡ false
-    by_test true = open_still log.facts Cut refl id refl ∙ landed id
-    by_test false = landed id
+    by_test : (b : Bool) → HaveAllLanded (cond b (with_fact log Cut) log).facts
+    by_test true = landed_still log.facts Cut refl (λ id. refl) landed
+    by_test false = landed
 
 pub cut_fits : (core : Core) → IsFitting core → IsFitting (cut_core core)
 cut_fits core fits = record {

@@ -36,4 +36,5 @@ entered_sound device core e is sound = record {
   lit = sound.lit;
   dark = sound.dark;
   off = sound.off;
+  heard = sound.heard;
 }

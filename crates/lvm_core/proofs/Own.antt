@@ -97,8 +97,8 @@ one_counted buf pool (suc n) is some all =
 
 pub sound_ready :
     (device : Device) (core : Core) → IsFitting core → HasNoneOpen core → HaveAllLanded core.history.facts → ArePlaced device.sizes core.descriptor core.status.wanted → core.pool ≡ replicate (length core.pool) false
-    → is_dark core.power ≡ false → (core.power ≡ power.Off → is_lost core ≡ true) → IsReady device → IsSound (state device core)
-sound_ready device core fits none landed placed all lit off ready = record {
+    → is_dark core.power ≡ false → (core.power ≡ power.Off → is_lost core ≡ true) → (core.power ≡ power.Stuck → ⊥) → IsReady device → IsSound (state device core)
+sound_ready device core fits none landed placed all lit off heard ready = record {
   fitting = fits;
   none = none;
   landed = landed;
@@ -109,6 +109,7 @@ sound_ready device core fits none landed placed all lit off ready = record {
   lit = λ is. record { power = ready.power; freed = ready.freed };
   dark = λ is. absurd (cc (is, lit));
   off = off;
+  heard = heard;
 }
 
 -- ---- the power was cut
@@ -131,6 +132,7 @@ sound_dark old device core pool fits none landed placed is all some cut = subst 
   lit = λ lit. absurd (let e : ◌≡◌ {A = Bool} true false = lit in cc);
   dark = λ lit. record { power = cut.power; flights = cut.flights };
   off = λ off. absurd (let e : power.Dark ≡ power.Off = off in cc);
+  heard = λ stuck. absurd (let e : power.Dark ≡ power.Stuck = stuck in cc);
 })
   where
     few : (n : ℕ) → FreesAtMost 0 device → on_shelf device n ≤ count_if (slice_index_or (with_one_out pool) n false)
@@ -149,8 +151,8 @@ sound_dark old device core pool fits none landed placed is all some cut = subst 
 pub sound_stuck :
     (patience : ℕ) (old device : Device) (core : Core) (pool : List Bool) → IsFitting core → HasNoneOpen core → HaveAllLanded core.history.facts → ArePlaced device.sizes core.descriptor core.status.wanted
     → core.pool ≡ with_one_out pool → pool ≡ replicate (length pool) false → 1 ≤ length pool → is_dark core.power ≡ false
-    → (core.power ≡ power.Off → is_lost core ≡ true) → IsGivenUp 0 patience old device → IsSound (state device core)
-sound_stuck patience old device core pool fits none landed placed is all some lit off out = record {
+    → (core.power ≡ power.Off → is_lost core ≡ true) → (core.power ≡ power.Stuck → ⊥) → IsGivenUp 0 patience old device → IsSound (state device core)
+sound_stuck patience old device core pool fits none landed placed is all some lit off heard out = record {
   fitting = fits;
   none = none;
   landed = landed;
@@ -161,6 +163,7 @@ sound_stuck patience old device core pool fits none landed placed is all some li
   lit = λ on. record { power = out.power; freed = out.freed };
   dark = λ dark. absurd (cc (dark, lit));
   off = off;
+  heard = heard;
 }
   where
     one : (n : ℕ) → out_with device core n ≡ count_if (slice_index_or core.pool n false)

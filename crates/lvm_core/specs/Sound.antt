@@ -59,3 +59,5 @@ pub record IsSound (s : State) : Type 0 where
   pub dark : is_dark s.core.power ≡ true → IsDark s.device
   -- it is off where the members that aren't missing have too few votes to write
   pub off : s.core.power ≡ power.Off → is_lost s.core ≡ true
+  -- a session whose transfer wasn't heard of is told by its buffer that is out
+  pub heard : s.core.power ≡ power.Stuck → ⊥

@@ -10,6 +10,7 @@ ghost use Rattle.lvm_commit.specs.Committed.{IsAlike};
 ghost use Rattle.lvm_commit.specs.LawsOfData.{IsFree};
 ghost use Rattle.lvm_commit.specs.Settling.{MarksLeft};
 ghost use Rattle.lvm_session.specs.declared.open.Open.{Open};
+ghost use Rattle.lvm_session.specs.declared.open.Power.TheVariants as power;
 ghost use Rattle.lvm_session.specs.State.{state, is_there, votes_there};
 ghost use Rattle.lvm_core.specs.State.{state_of};
 ghost use Rattle.lvm_session.specs.Judging.{is_waiting};
@@ -109,7 +110,9 @@ impl<S: Shelf> Driver<S> {
 
     /// Whether the session goes on.
     pub fn power(&self) -> Power
-        ensures { result ≡ self.now.1.power }
+        ensures power { result ≡ self.now.1.power }
+        // A transfer that isn't heard of leaves the session on, and its buffer out.
+        ensures heard { result ≡ power.Stuck → ⊥ }
     {
         self.session.power
     }

@@ -66,11 +66,11 @@ pub record IsMade (w : NewGroup) (room : Room) (was : Log) (old new : Device) (c
   pub only : IsAsBefore w (IsOfParts (beginning_for old.sizes w homes) new_order) old new
   pub well : HasNoFault old new
   pub rested : IsRested old new
-  pub reserved : Reserved
+  pub reserved : Parts
   pub parts : IsReservedFor (new_group old.sizes w) (new_status w) room reserved
   pub next : Homes
   pub flips : BothFlip (among w.disks) homes next
-  pub core_is : core ≡ first_core reserved (given_up was w.disks) (record { epoch = w.moment; seq = 2 }) next
+  pub core_is : core ≡ first_core reserved (given_up was w.disks) (record { epoch = w.moment; seq = 2 }) next core.origin.faults
 
 -- nothing has happened
 pub record IsIdle (was is : Log) (old new : Device) : Type 0 where

@@ -116,7 +116,7 @@ cut_at (Err why) log = if cuts_power why then cut_log log else log
 -- ---- all of it
 
 -- what the session of these parts starts with, where its records were written
-abbrev pub standing_of : Reserved → Result Homes Cause → Result Standing Cause
+abbrev pub standing_of : Parts → Result Homes Cause → Result Standing Cause
 standing_of parts (Ok homes) = Ok (record { parts = parts; homes = homes })
 standing_of parts (Err why) = Err why
 

@@ -1,5 +1,5 @@
 -- A settled session, worked by hand: of the two disks that mirror a volume.
-use Rattle.std.specs.Prelude.{false, [], ◌∷◌, ◌++◌, None, Bool, map}
+use Rattle.std.specs.Prelude.{false, [], ◌∷◌, ◌++◌, None, Bool, map, replicate}
 use Rattle.lvm_num.specs.declared.descriptor.Mode.{Mode}
 use Rattle.lvm_num.specs.Buffer.{Sector, zero_sector}
 use Rattle.lvm_disk.specs.Device.{image_of}
@@ -23,6 +23,7 @@ core_of pair = record {
   queue = record { room = 2; rows = [] };
   copy = None;
   pool = false ∷ [];
+  flying = [];
   status = record {
     group = record (two pair.mode) { lvs = [] };
     committed = (status_of pair).value;
@@ -34,6 +35,8 @@ core_of pair = record {
   cache = record { entries = []; notes = no_notes 0 ∷ no_notes 1 ∷ [] };
   -- the next records go to the second slots of both disks
   homes = record { descriptor = 3; status = 3 };
+  last = replicate 512 0;
+  origin = record { faults = replicate 128 0; table = (status_of pair).value };
   power = power.On;
 }
 

@@ -89,7 +89,7 @@ none_active (row ∷ rows) none = ap (λ (b : Bool). b || list_any (λ (r : LvRo
     not_on Passive isnt = refl
     not_on Off isnt = refl
 
-module _ (old new : Device) (name : List ℕ) (moment : ℕ) (room : Room) (parts : Reserved) (homes : Homes) (is : IsBrought old new name moment room parts homes) (ahead : IsAheadOfDisks moment old) (was now : Media) (told : old.media ≡ Some was) (told_now : new.media ≡ Some now) where
+module _ (old new : Device) (name : List ℕ) (moment : ℕ) (room : Room) (parts : Parts) (homes : Homes) (is : IsBrought old new name moment room parts homes) (ahead : IsAheadOfDisks moment old) (was now : Media) (told : old.media ≡ Some was) (told_now : new.media ≡ Some now) where
   group : Descriptor
   group = is.written.group
 
@@ -179,7 +179,7 @@ module _ (old new : Device) (name : List ℕ) (moment : ℕ) (room : Room) (part
   there : (d : ℕ) → IsTrue (targets d) → has_records (image_of new.sizes now) d ≡ true
   there d target = ap (λ (sizes : List ℕ). has_records (image_of sizes now) d) (is.written.writes.how.keeps.sizes ∙ is.written.writes.unwritten.sizes) ∙ may.describe.there d target
 
-  module _ (core : Core) (log : Log) (core_is : core ≡ first_core parts log (last_stamp moment) homes) where
+  module _ (core : Core) (log : Log) (core_is : core ≡ first_core parts log (last_stamp moment) homes core.origin.faults) where
     group_is : core.descriptor ≡ is.written.group
     group_is = ap (λ (c : Core). c.descriptor) core_is ∙ is.reserved.descriptor
 

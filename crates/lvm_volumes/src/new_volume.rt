@@ -13,10 +13,11 @@ ghost use Rattle.lvm_volumes.specs.Volumes.{HasSpareRoom, HasNumber, HasPlaces, 
 
 use crate::fault::GroupFault;
 use crate::next::{lowest_free, with_volume, without_volume};
-use lvm_core::{Driver, Power, Prepared};
+use lvm_core::{Driver, Prepared};
 use lvm_disk::Shelf;
 use lvm_map::{MapFault, allocate, blocks};
 use lvm_num::{Descriptor, DiskSet, LvRow, Memory, Mode, Name, Policy, Pp, Rows};
+use lvm_session::Power;
 use lvm_stale::StaleTable;
 use std::alloc::Global;
 
@@ -104,6 +105,7 @@ fn takes_commands<S: Shelf>(driver: &Driver<S>) -> Result<(), GroupFault>
 {
     match driver.power() {
         Power::Dark => Err(GroupFault::Dark),
+        Power::Stuck => Err(GroupFault::Stuck),
         Power::Off => {
             let (have, total) = driver.votes();
             Err(GroupFault::WentOff { have, total })

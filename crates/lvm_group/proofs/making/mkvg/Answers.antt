@@ -36,7 +36,7 @@ returns-in-Ok g c =
         left = none_left w c.args.room was c.make.new.history old new c.in-Ok.standing stands c.start.result.1 c.start.ensures.core;
         held = λ clock.
             subst (λ (s : g.row.S.Denot). StartsHeld (g.S.Shelf.device s) c.start.result.1) (sym c.start.ensures.shelf)
-            (subst (λ (x : Core). StartsHeld new x) (sym c.start.ensures.core) (c.in-Ok.ensures.held clock));
+            (subst (λ (x : Core). StartsHeld new x) (sym c.start.ensures.core) (let held = c.in-Ok.ensures.held clock in record { held = held.held; notes = held.notes }));
       };
       leaves = subst (λ (s : g.row.S.Denot). BringsOn was.run c.args.moment c.args.patience.now.left c.make.new.patience.left old (g.S.Shelf.device s) was c.start.result.1.history) (sym c.start.ensures.shelf) (record {
         keeps = λ clock. keeps_on w c.args.room was c.make.new.history old new c.in-Ok.standing stands (at old was.facts) c.start.result.1 c.start.ensures.core clock (leaves.keeps clock);
