@@ -1,6 +1,6 @@
 -- A session stays sound when its shelf is told to fail, to heal or to cut the power.
-use Rattle.std.proofs.Common.{◌≡◌, inl, inr, ℕ, ◌≤◌, ◌+◌, Bool, true, false, List, [], ◌∷◌, map, length, refl, sym, ◌∙◌, ap, subst, arith}
-use Rattle.std.specs.Prelude.{cond, count_by, slice_index_or}
+use Rattle.std.proofs.Common.{◌≡◌, inl, inr, ℕ, ◌+◌, Bool, true, false, List, [], ◌∷◌, map, refl, sym, ◌∙◌, ap, subst, arith}
+use Rattle.std.specs.Prelude.{cond, count_by}
 use Rattle.std.proofs.lemmas.List.Sums.{sum_by-append}
 use Rattle.lvm_disk.specs.Device.{Device, Flight}
 use Rattle.lvm_disk.specs.Steps.{Cuts, GoesDark, with_order, ArrangeGives}
@@ -10,7 +10,7 @@ use Rattle.lvm_session.specs.declared.open.Power.TheVariants as power
 use Rattle.lvm_session.specs.State.{Core, state}
 use Rattle.lvm_events.specs.Dark.{all_dark, after_arrange}
 use Rattle.lvm_sound.specs.Placed.{ArePlaced}
-use Rattle.lvm_sound.specs.Sound.{IsDark, count_if, has_number, is_dark}
+use Rattle.lvm_sound.specs.Sound.{IsDark, has_number, is_dark}
 use Rattle.lvm_core.specs.Sound.{HasNoneOpen, IsSound}
 use Rattle.lvm_core.proofs.Dark.{cut_core, cut_fits, cut_landed, dark_is, on_shelf, out_is}
 use Rattle.lvm_core.proofs.Own.{SameSizes, same_sizes}

@@ -1,5 +1,5 @@
 -- The moments of a session's own transfers, and of a power cut that it enters.
-use Rattle.std.proofs.Common.{◌≡◌, ℕ, Bool, true, false, List, [], cond, refl, sym, subst}
+use Rattle.std.proofs.Common.{◌≡◌, ℕ, Bool, true, false, List, [], cond, refl}
 use Rattle.std.specs.Prelude.{IsSome, Option, Some, None}
 use Rattle.lvm_disk.specs.Counts.{NoneFalls}
 use Rattle.lvm_disk.specs.Device.{Media, Device}

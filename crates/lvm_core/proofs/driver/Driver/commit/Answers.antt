@@ -1,4 +1,4 @@
-use Rattle.std.proofs.Common.{sym, ◌∙◌, subst}
+use Rattle.std.proofs.Common.{sym, subst}
 use Rattle.lvm_commit.specs.Committed.{IsAlike}
 use Rattle.lvm_session.specs.State.{Core, state}
 use Rattle.lvm_session.specs.Fields.{core_of}

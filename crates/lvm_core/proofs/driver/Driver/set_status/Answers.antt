@@ -1,4 +1,4 @@
-use Rattle.std.proofs.Common.{◌++◌, sym, ◌∙◌, subst}
+use Rattle.std.proofs.Common.{◌++◌, sym, subst}
 use Rattle.lvm_session.specs.State.{Core, state}
 use Rattle.lvm_session.specs.Fields.{core_of}
 use Rattle.lvm_core.specs.Settled.{IsSettled}
