@@ -1,34 +1,34 @@
 use Rattle.std.proofs.Common.{sym, ◌∙◌, ap, subst}
 use Rattle.lvm_status.specs.Update.{Stored}
 use Rattle.lvm_commit.specs.Settling.{MaySettle, IsOfStatus, StatusStaysKept, CommitLeaves}
-use Rattle.lvm_core.specs.declared.session.Session.{Session}
-use Rattle.lvm_core.specs.State.{state}
-use Rattle.lvm_core.specs.Fields.{core_of}
+use Rattle.lvm_session.specs.declared.session.Session.{Session}
+use Rattle.lvm_session.specs.State.{state}
+use Rattle.lvm_session.specs.Fields.{core_of}
 use Rattle.lvm_core.specs.Steps.{IsMarked}
 use Rattle.lvm_core.proofs.Ends.{status_numbered, is_out, core_ends, status_ends, commits_marks, at_once}
 use Rattle.lvm_core.proofs.Marking.{may_settle}
-use Rattle.lvm_core.proofs.session.Session.set_status.Goals as goal
+use Rattle.lvm_core.proofs.commit.set_status.Goals as goal
 
 pub commit_status-settled-requires-clause-may : goal.commit_status-settled-requires-clause-may
 commit_status-settled-requires-clause-may g c =
     subst (λ (s : Session). MaySettle s.descriptor s.updater (g.S.Shelf.device c.args.shelf.now)) (sym c.take_buffer-buf.ensures.taken)
-    (may_settle c.args.self.now.descriptor (g.S.Shelf.device c.args.shelf.now) c.args.stale.now c.args.fresh.now c.args.self.now.updater c.mark.new.updater c.mark.ensures c.requires.may)
+    (may_settle c.args.session.now.descriptor (g.S.Shelf.device c.args.shelf.now) c.args.stale.now c.args.fresh.now c.args.session.now.updater c.mark.new.updater c.mark.ensures c.requires.may)
 
 pub go_on-requires-clause-out : goal.go_on-requires-clause-out
 go_on-requires-clause-out g c =
     let how = c.commit_status-settled.result in
-    is_out how c.args.self.now.pool c.take_buffer-buf.new.self.pool (ap (λ (s : Session). s.pool) c.take_buffer-buf.ensures.taken) c.requires.fitting.a_buffer
-    (status_numbered c.take_buffer-buf.result.number c.args.patience.now.left c.take_buffer-buf.new.self.updater c.commit_status-settled.new.updater c.take_buffer-buf.new.self.homes c.commit_status-settled.new.homes (g.S.Shelf.device c.args.shelf.now) (g.S.Shelf.device c.commit_status-settled.new.shelf) how
+    is_out how c.args.session.now.pool c.take_buffer-buf.new.session.pool (ap (λ (s : Session). s.pool) c.take_buffer-buf.ensures.taken) c.requires.fitting.a_buffer
+    (status_numbered c.take_buffer-buf.result.number c.args.patience.now.left c.take_buffer-buf.new.session.updater c.commit_status-settled.new.updater c.take_buffer-buf.new.session.homes c.commit_status-settled.new.homes (g.S.Shelf.device c.args.shelf.now) (g.S.Shelf.device c.commit_status-settled.new.shelf) how
     c.take_buffer-buf.ensures.number c.commit_status-settled.ensures.ends)
 
 pub returns-clause-does : goal.returns-clause-does
 returns-clause-does g c =
-    let self = c.args.self.now in
-    let taken = c.take_buffer-buf.new.self in
+    let self = c.args.session.now in
+    let taken = c.take_buffer-buf.new.session in
     let wrote = c.commit_status-settled in
     let how = wrote.result in
     let mid = core_of (record taken { updater = wrote.new.updater; homes = wrote.new.homes }) in
-    let left = core_of c.go_on.new.self in
+    let left = core_of c.go_on.new.session in
     let mid_is = ap (λ (s : Session). core_of (record s { updater = wrote.new.updater; homes = wrote.new.homes })) c.take_buffer-buf.ensures.taken in
     let before = g.S.Shelf.device c.args.shelf.now in
     let after = g.S.Shelf.device wrote.new.shelf in

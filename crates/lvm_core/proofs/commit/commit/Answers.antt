@@ -7,13 +7,13 @@ use Rattle.lvm_disk.specs.Device.{Device}
 use Rattle.lvm_vgda.proofs.Whole.{spelled_is_read}
 use Rattle.lvm_commit.specs.Settling.{MaySettle, IsOfCommit, CommitLeaves}
 use Rattle.lvm_core.proofs.Committing.{may_next}
-use Rattle.lvm_core.specs.declared.session.Session.{Session}
-use Rattle.lvm_core.specs.State.{state}
-use Rattle.lvm_core.specs.Fields.{core_of}
+use Rattle.lvm_session.specs.declared.session.Session.{Session}
+use Rattle.lvm_session.specs.State.{state}
+use Rattle.lvm_session.specs.Fields.{core_of}
 use Rattle.lvm_core.specs.Steps.{CoreEnds}
 use Rattle.lvm_core.proofs.Ends.{descriptor_numbered, is_out, core_ends_with, status_ends, commits_descriptor}
 use Rattle.lvm_core.proofs.Sizes.{descriptor_fits}
-use Rattle.lvm_core.proofs.session.Session.commit.Goals as goal
+use Rattle.lvm_core.proofs.commit.commit.Goals as goal
 
 pub commit_descriptor-settled-requires-clause-content : goal.commit_descriptor-settled-requires-clause-content
 commit_descriptor-settled-requires-clause-content g c =
@@ -22,9 +22,9 @@ commit_descriptor-settled-requires-clause-content g c =
 pub commit_descriptor-settled-requires-clause-may : goal.commit_descriptor-settled-requires-clause-may
 commit_descriptor-settled-requires-clause-may g c =
     let device : Device = g.S.Shelf.device c.args.shelf.now in
-    subst (λ (d : Descriptor). MaySettle d c.take_buffer-buf.new.self.updater device) (sym c.into_parts-descriptor.ensures.descriptor)
+    subst (λ (d : Descriptor). MaySettle d c.take_buffer-buf.new.session.updater device) (sym c.into_parts-descriptor.ensures.descriptor)
     (subst (λ (s : Session). MaySettle c.args.next s.updater device) (sym c.take_buffer-buf.ensures.taken)
-    (may_next c.args.self.now.descriptor c.args.next c.args.self.now.updater device c.requires.may c.into_parts-descriptor.ensures.valid c.requires.alike))
+    (may_next c.args.session.now.descriptor c.args.next c.args.session.now.updater device c.requires.may c.into_parts-descriptor.ensures.valid c.requires.alike))
 
 pub commit_descriptor-settled-requires-clause-describes : goal.commit_descriptor-settled-requires-clause-describes
 commit_descriptor-settled-requires-clause-describes g c =
@@ -34,18 +34,18 @@ commit_descriptor-settled-requires-clause-describes g c =
 pub go_on_with-requires-clause-out : goal.go_on_with-requires-clause-out
 go_on_with-requires-clause-out g c =
     let how = c.commit_descriptor-settled.result in
-    is_out how c.args.self.now.pool c.take_buffer-buf.new.self.pool (ap (λ (s : Session). s.pool) c.take_buffer-buf.ensures.taken) c.requires.fitting.a_buffer
-    (descriptor_numbered c.as_slice.result.now c.take_buffer-buf.result.number c.args.patience.now.left c.take_buffer-buf.new.self.updater c.commit_descriptor-settled.new.updater c.take_buffer-buf.new.self.homes c.commit_descriptor-settled.new.homes (g.S.Shelf.device c.args.shelf.now) (g.S.Shelf.device c.commit_descriptor-settled.new.shelf) how
+    is_out how c.args.session.now.pool c.take_buffer-buf.new.session.pool (ap (λ (s : Session). s.pool) c.take_buffer-buf.ensures.taken) c.requires.fitting.a_buffer
+    (descriptor_numbered c.as_slice.result.now c.take_buffer-buf.result.number c.args.patience.now.left c.take_buffer-buf.new.session.updater c.commit_descriptor-settled.new.updater c.take_buffer-buf.new.session.homes c.commit_descriptor-settled.new.homes (g.S.Shelf.device c.args.shelf.now) (g.S.Shelf.device c.commit_descriptor-settled.new.shelf) how
     c.take_buffer-buf.ensures.number c.commit_descriptor-settled.ensures.ends)
 
 pub returns-clause-does : goal.returns-clause-does
 returns-clause-does g c =
-    let self = c.args.self.now in
-    let taken = c.take_buffer-buf.new.self in
+    let self = c.args.session.now in
+    let taken = c.take_buffer-buf.new.session in
     let wrote = c.commit_descriptor-settled in
     let how = wrote.result in
     let mid = core_of (record taken { updater = wrote.new.updater; homes = wrote.new.homes }) in
-    let left = core_of c.go_on_with.new.self in
+    let left = core_of c.go_on_with.new.session in
     let mid_is = ap (λ (s : Session). core_of (record s { updater = wrote.new.updater; homes = wrote.new.homes })) c.take_buffer-buf.ensures.taken in
     let before = g.S.Shelf.device c.args.shelf.now in
     let after = g.S.Shelf.device wrote.new.shelf in
