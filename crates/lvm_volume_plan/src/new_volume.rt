@@ -14,8 +14,8 @@ use lvm_disk::Shelf;
 use lvm_map::{MapFault, allocate, blocks};
 use lvm_num::{Descriptor, LvRow, Memory, Mode, Name, Policy, Pp, Rows};
 use lvm_session::Power;
-use std::alloc::Global;
 use lvm_status::members_there;
+use std::alloc::Global;
 
 // The fewest entries with which a command is begun: that of the volume's beginning and that of its end.
 const ENTRIES: u32 = 2;
