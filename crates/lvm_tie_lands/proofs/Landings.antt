@@ -34,10 +34,10 @@ use Rattle.lvm_tie.specs.Tied.{IsOrderly, IsTied}
 use Rattle.lvm_tie.proofs.Judged.{among_one, passed_caught}
 use Rattle.lvm_tie.proofs.Orderly.{all_at, asked_one, open_one, request_is, waiting_one}
 use Rattle.lvm_tie.proofs.Words.{one_there}
-use Rattle.lvm_tie_requests.specs.Requests.{IsUncaught, LandTies}
-use Rattle.lvm_tie_requests.proofs.LandTies.{no_fresh_ties}
-use Rattle.lvm_tie_requests.proofs.MarkedTies.{how as how_is, tied_after}
-use Rattle.lvm_tie_requests.proofs.GotTies.{GotsAre, HasGot, tied_after as got_ties}
+use Rattle.lvm_tie_lands.specs.Lands.{IsUncaught, LandTies}
+use Rattle.lvm_tie_lands.proofs.LandTies.{no_fresh_ties}
+use Rattle.lvm_tie_lands.proofs.MarkedTies.{how as how_is, tied_after}
+use Rattle.lvm_tie_lands.proofs.GotTies.{GotsAre, HasGot, tied_after as got_ties}
 
 -- ---- how a request lands
 
@@ -299,7 +299,7 @@ module _ (past : List Fact) (old new : Session) (place : ℕ) (how : Outcome) (l
           by true is b m none h = done_begun ts is
           by false is true m none h = absurd (cc h)
           by false is false (Some n) none h = absurd (cc h)
-          by false is false None none h = none_waits_begun ts said.0 (Rattle.lvm_tie_requests.proofs.GotTies.no_place ts none)
+          by false is false None none h = none_waits_begun ts said.0 (Rattle.lvm_tie_lands.proofs.GotTies.no_place ts none)
 
       in_hand : (m : Option Buffer) → is_some m ≡ true → (buf : Buffer) × (m ≡ Some buf)
       in_hand None h = absurd (cc h)

@@ -48,7 +48,7 @@ use Rattle.lvm_tie.specs.Out.{CarriesStep, CarryTheirs}
 use Rattle.lvm_tie.specs.Seen.{update_of, SeesRequest, Sees, phase_seen}
 use Rattle.lvm_tie.proofs.Orderly.{HaveNumbers, numbers_of}
 use Rattle.lvm_tie.specs.Tied.{IsOrderly, IsTied}
-use Rattle.lvm_tie_requests.proofs.Unpinned.{cache_is, entries_stay}
+use Rattle.lvm_tie_lands.proofs.Unpinned.{cache_is, entries_stay}
 use Rattle.lvm_path.specs.Targets.{is_done, states_of}
 use Rattle.lvm_path.specs.Next.{start_or_wait, next_chosen, next_write, next_read, next_in}
 use Rattle.lvm_session.specs.Judging.{is_usable, copies_for, facts_of}

@@ -53,7 +53,7 @@ use Rattle.lvm_tie.proofs.Words.{not_true}
 use Rattle.lvm_tie.specs.Out.{AreNotes, CarriesStep, CarryTheirs, MayUpdate}
 use Rattle.lvm_tie.specs.Seen.{SeesNote, IsRequestAt, IsStepAt, update_of, Sees}
 use Rattle.lvm_tie.specs.Tied.{IsOrderly, IsTied}
-use Rattle.lvm_tie_starts.specs.Starts.{NoteStartTies}
+use Rattle.lvm_tie_records.specs.Records.{NoteStartTies}
 use Rattle.lvm_tie_starts.proofs.Ties.{carry_more}
 
 -- ---- the notes of a disk

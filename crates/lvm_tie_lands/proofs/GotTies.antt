@@ -34,8 +34,8 @@ use Rattle.lvm_tie.proofs.Words.{any_none}
 use Rattle.lvm_tie.specs.Seen.{stage_seen, phase_seen, SeesRequest}
 use Rattle.lvm_tie.proofs.Orderly.{HasTargets, numbers_of, targets_of}
 use Rattle.lvm_tie.specs.Tied.{IsOrderly, IsTied}
-use Rattle.lvm_tie_requests.proofs.LandTies.{lands_tied}
-use Rattle.lvm_tie_requests.proofs.MarkedTies.{stage_in}
+use Rattle.lvm_tie_lands.proofs.LandTies.{lands_tied}
+use Rattle.lvm_tie_lands.proofs.MarkedTies.{stage_in}
 
 -- one of those that are taken
 taken : (xs : List Sector) (n k : ℕ) → k < n → slice_index_or (take n xs) k [] ≡ slice_index_or xs k []

@@ -32,7 +32,7 @@ use Rattle.lvm_tie.proofs.Words.{all_one}
 use Rattle.lvm_tie.specs.Seen.{stage_seen, stage_at, phase_seen, SeesRequest}
 use Rattle.lvm_tie.proofs.Orderly.{numbers_of}
 use Rattle.lvm_tie.specs.Tied.{IsOrderly, IsTied}
-use Rattle.lvm_tie_requests.proofs.LandTies.{lands_tied}
+use Rattle.lvm_tie_lands.proofs.LandTies.{lands_tied}
 
 -- the target at a partition with a stage
 pub record IsAt (ts : List Target) (e : Pp) (stage : Stage) : Type 0 where

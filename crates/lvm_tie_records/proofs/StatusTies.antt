@@ -50,8 +50,8 @@ use Rattle.lvm_tie.proofs.Words.{clash}
 use Rattle.lvm_tie.specs.Out.{AreNotes, CarriesStep, CarryTheirs, IsUpdateWrite, IsWriteOf, MayUpdate, is_owed_on}
 use Rattle.lvm_tie.specs.Seen.{update_of, IsRequestAt, IsStepAt, Sees}
 use Rattle.lvm_tie.specs.Tied.{IsOrderly, IsTied}
-use Rattle.lvm_tie_starts.specs.Starts.{StatusStartTies}
-use Rattle.lvm_tie_starts.proofs.MayBegin.{MayBegin, begins, fresh_update, fresh_write}
+use Rattle.lvm_tie_records.specs.Records.{StatusStartTies}
+use Rattle.lvm_tie_records.proofs.MayBegin.{MayBegin, begins, fresh_update, fresh_write}
 use Rattle.lvm_tie_starts.proofs.Ties.{carry_more}
 
 not_itself : (s : Stamp) → stamp_lt s s ≡ false

@@ -36,7 +36,7 @@ use Rattle.lvm_tie.proofs.Orderly.{HaveNumbers, numbers_of, open_one}
 use Rattle.lvm_tie.specs.Out.{CarriesStep, CarryTheirs}
 use Rattle.lvm_tie.specs.Seen.{update_of, phase_seen, SeesRequest, IsRequestAt, IsStepAt, Sees}
 use Rattle.lvm_tie.specs.Tied.{IsOrderly, IsTied}
-use Rattle.lvm_tie_requests.specs.Requests.{TakeTies}
+use Rattle.lvm_tie_lands.specs.Lands.{TakeTies}
 
 some_of : {X : Type 0} (a b : X) → Some a ≡ Some b → a ≡ b
 some_of a b e = cc
