@@ -19,8 +19,8 @@ use Rattle.lvm_core.specs.Held.{IsHeld}
 use Rattle.lvm_core.specs.Settled.{IsSettled as IsSettledCore}
 use Rattle.lvm_core.specs.Sound.{HaveAllLanded}
 use Rattle.lvm_core.specs.State.{Core, State as Session, state}
-use Rattle.lvm_volumes.specs.declared.fault.GroupFault.{GroupFault}
-use Rattle.lvm_volumes.specs.declared.fault.GroupFault.TheVariants as fault
+use Rattle.lvm_volume_plan.specs.declared.fault.GroupFault.{GroupFault}
+use Rattle.lvm_volume_plan.specs.declared.fault.GroupFault.TheVariants as fault
 use Rattle.lvm_volumes.specs.Endings.{IfAlone, StillHeld, commanding}
 use Rattle.lvm_volumes.proofs.Entering.{shows_committed}
 use Rattle.lvm_commands.specs.Moments.{GoesOn}

@@ -7,9 +7,9 @@ use Rattle.lvm_write.specs.Written.{IsGivenUp}
 use Rattle.lvm_commit.specs.Settling.{HasLostQuorum}
 use Rattle.lvm_core.specs.declared.request.Power.TheVariants as power
 use Rattle.lvm_core.specs.State.{State as Session}
-use Rattle.lvm_volumes.specs.declared.fault.GroupFault.{GroupFault}
-use Rattle.lvm_volumes.specs.declared.fault.GroupFault.TheVariants as fault
-use Rattle.lvm_volumes.specs.declared.new_volume.NewVolume.{NewVolume}
+use Rattle.lvm_volume_plan.specs.declared.fault.GroupFault.{GroupFault}
+use Rattle.lvm_volume_plan.specs.declared.fault.GroupFault.TheVariants as fault
+use Rattle.lvm_volume_plan.specs.declared.new_volume.NewVolume.{NewVolume}
 use Rattle.lvm_volumes.specs.Volumes.{MklvGives, RmlvGives}
 use Rattle.lvm_commands.specs.declared.reply.Refusal.TheVariants as refusal
 use Rattle.lvm_commands.specs.declared.reply.Reply.TheVariants as reply

@@ -10,10 +10,10 @@ use Rattle.lvm_core.specs.Looking.{IsNumberOf, HasNoVolume}
 use Rattle.lvm_core.specs.declared.request.Power.TheVariants as power
 use Rattle.lvm_core.specs.State.{Core, State as Session, state, is_there}
 use Rattle.lvm_core.specs.Leaves.{NoPartition, IsOfCommand, KeepsStatus, FindsOnly}
-use Rattle.lvm_volumes.specs.declared.fault.GroupFault.{GroupFault}
-use Rattle.lvm_volumes.specs.declared.fault.GroupFault.TheVariants as fault
-use Rattle.lvm_volumes.specs.declared.new_volume.NewVolume.{NewVolume}
-use Rattle.lvm_volumes.specs.NewVolume.{without_volume}
+use Rattle.lvm_volume_plan.specs.declared.fault.GroupFault.{GroupFault}
+use Rattle.lvm_volume_plan.specs.declared.fault.GroupFault.TheVariants as fault
+use Rattle.lvm_volume_plan.specs.declared.new_volume.NewVolume.{NewVolume}
+use Rattle.lvm_volume_plan.specs.NewVolume.{without_volume}
 use Rattle.lvm_volumes.specs.Volumes.{IsWith, IsChosen, MklvGives, RmlvGives}
 use Rattle.lvm_commands.specs.Disks.{patience_of_line}
 use Rattle.lvm_commands.specs.Listings.{IsOn, IsNotOn}

@@ -9,7 +9,7 @@ use lvm_replies::{Carried, show_refusal};
 use std::alloc::Global;
 
 /// Why a line was not carried out, or how it failed. Each has a number and a name of this project's own.
-#[derive(Clone, Copy, Drop)]
+#[derive(Drop)]
 pub enum Refusal {
     /// 1: the line is not in the language, or isn't done yet; the column counts bytes from 1.
     BadLine { column: u32 },

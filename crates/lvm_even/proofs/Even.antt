@@ -24,7 +24,7 @@ use Rattle.lvm_commit.specs.Settling.{IsOfStatus, IsOfCommit}
 use Rattle.lvm_write.specs.Written.{KeepsShelf}
 use Rattle.lvm_core.specs.State.{State, is_there}
 use Rattle.lvm_core.specs.Leaves.{NoPartition, IsOfCommand, KeepsStatus}
-use Rattle.lvm_volumes.specs.NewVolume.{without_volume}
+use Rattle.lvm_volume_plan.specs.NewVolume.{without_volume}
 use Rattle.lvm_volumes.specs.Volumes.{IsWith, IsChosen}
 use Rattle.lvm_rest.specs.Rest.{IsEven}
 use Rattle.lvm_rest.specs.Commands.{IsUsable}

@@ -2,8 +2,8 @@
 use Rattle.std.proofs.Common.{⊎_elim, ◌-◌, ap, ◌∙◌}
 use Rattle.std.specs.Prelude.{◌==◌, not}
 use Rattle.lvm_num.specs.declared.descriptor.LvRow.{LvRow}
-use Rattle.lvm_volumes.specs.NewVolume.{row_for}
-use Rattle.lvm_volumes.proofs.Sublists.{one_insert, one_filter}
+use Rattle.lvm_volume_plan.specs.NewVolume.{row_for}
+use Rattle.lvm_volume_plan.proofs.Sublists.{one_insert, one_filter}
 use Rattle.lvm_even.specs.Even.{OffIsEven, OffVolumeIsEven, FewerAreEven}
 
 pub off_is_even : OffIsEven

@@ -34,7 +34,7 @@ use Rattle.lvm_core.specs.State.{Core, is_there}
 use Rattle.lvm_core.specs.Leaves.{MayBeFound}
 use Rattle.lvm_group.specs.NewGroup.{NewGroup, new_group}
 use Rattle.lvm_group.specs.Made.{Refuses}
-use Rattle.lvm_volumes.specs.NewVolume.{without_volume}
+use Rattle.lvm_volume_plan.specs.NewVolume.{without_volume}
 use Rattle.lvm_group.specs.Shown.{IfShown, HasGroup}
 use Rattle.lvm_volumes.specs.Volumes.{IsWith}
 use Rattle.lvm_commands.specs.Disks.{patience_of_line}

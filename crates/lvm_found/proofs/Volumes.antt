@@ -10,10 +10,10 @@ use Rattle.lvm_write.proofs.Writing.{told_at}
 use Rattle.lvm_core.specs.Held.{IsHeld}
 use Rattle.lvm_core.specs.Looking.{IsNumberOf}
 use Rattle.lvm_core.specs.State.{Core, State as Session, state}
-use Rattle.lvm_volumes.specs.declared.fault.GroupFault.{GroupFault}
-use Rattle.lvm_volumes.specs.declared.fault.GroupFault.TheVariants as fault
+use Rattle.lvm_volume_plan.specs.declared.fault.GroupFault.{GroupFault}
+use Rattle.lvm_volume_plan.specs.declared.fault.GroupFault.TheVariants as fault
 use Rattle.lvm_core.specs.Leaves.{MayBeFound}
-use Rattle.lvm_volumes.specs.NewVolume.{without_volume}
+use Rattle.lvm_volume_plan.specs.NewVolume.{without_volume}
 use Rattle.lvm_volumes.specs.Volumes.{IsWith, IsChosen, MklvGives, RmlvGives}
 use Rattle.lvm_commands.specs.Disks.{patience_of_line}
 use Rattle.lvm_commands.specs.Moments.{IsBrokenOff}

@@ -11,7 +11,7 @@ use Rattle.lvm_core.specs.declared.parts.Room.{Room}
 use Rattle.lvm_core.specs.Looking.{IsNumberOf}
 use Rattle.lvm_core.specs.State.{Core}
 use Rattle.lvm_group.specs.NewGroup.{new_group}
-use Rattle.lvm_volumes.specs.NewVolume.{without_volume}
+use Rattle.lvm_volume_plan.specs.NewVolume.{without_volume}
 use Rattle.lvm_volumes.specs.Volumes.{IsWith}
 use Rattle.lvm_core.specs.Leaves.{MayBeFound}
 use Rattle.lvm_commands.specs.Groups.{asked_for}

@@ -1,5 +1,5 @@
 -- The read of the copy that is open is started.
-use Rattle.std.proofs.Common.{◌≡◌, ◌≤◌, ◌⊎◌, inl, inr, ◌==◌, ℕ, Bool, true, false, ◌&&◌, ◌||◌, not, if◌then◌else◌, List, [], ◌∷◌, ◌++◌, Option, Some, None, length, slice_get, slice_set, refl, sym, ◌∙◌, ap, subst, arith}
+use Rattle.std.proofs.Common.{◌≡◌, ◌==◌, ℕ, Bool, true, false, ◌&&◌, ◌||◌, not, if◌then◌else◌, List, [], ◌∷◌, ◌++◌, Option, Some, None, length, slice_get, slice_set, refl, sym, ◌∙◌, ap, subst, arith}
 use Rattle.std.specs.Prelude.{IfSome, count_by, filter, find, nat_lt, slice_index_or}
 use Rattle.std.specs.List.{AllByRecursion}
 use Rattle.std.specs.Option.{option_map_or}
@@ -9,15 +9,12 @@ use Rattle.lvm_num.specs.Disks.{has}
 use Rattle.lvm_stale.specs.Table.{is_pp}
 use Rattle.lvm_disk.specs.Device.{Device, Flight, Range}
 use Rattle.lvm_disk.specs.Steps.{IsFresh, Starts}
-use Rattle.lvm_vol.specs.declared.entry.Outcome.{Outcome}
-use Rattle.lvm_vol.specs.declared.entry.Outcome.TheVariants as outcome
 use Rattle.lvm_session.specs.declared.bringing.CopyEnd.{CopyEnd}
 use Rattle.lvm_session.specs.declared.bringing.CopyEnd.TheVariants as ending
 use Rattle.lvm_session.specs.declared.bringing.OpenCopy.{OpenCopy}
 use Rattle.lvm_session.specs.declared.bringing.Step.{Step}
 use Rattle.lvm_session.specs.declared.bringing.Step.TheVariants as step
 use Rattle.lvm_session.specs.declared.flown.Flown.{Flown}
-use Rattle.lvm_session.specs.declared.flown.Owner.{Owner}
 use Rattle.lvm_session.specs.declared.flown.Owner.TheVariants as owner
 use Rattle.lvm_session.specs.declared.open.Open.{Open}
 use Rattle.lvm_session.specs.declared.open.Power.TheVariants as power
@@ -29,17 +26,19 @@ use Rattle.lvm_events.specs.Dark.{hand_of_copy}
 use Rattle.lvm_events.specs.Events.{IsCopyTransfer, flown}
 use Rattle.lvm_events.specs.Marks.{is_among}
 use Rattle.lvm_sound.specs.Left.{copy_updates}
-use Rattle.lvm_sound.specs.Owners.{AreOwned, AreRows, IsTransferOf, flies, same_owner}
+use Rattle.lvm_sound.specs.Owners.{AreOwned, flies, same_owner}
 use Rattle.lvm_sound.specs.Requests.{IsOpenOne}
-use Rattle.lvm_sound.specs.Causes.{AreCaused, AreCounted, HaveSourcesFailed, IsAnswered, IsCaused, IsChosenSince, IsCopyCaused, IsCounted, IsLandedFor, IsTrueToOrigin, is_over}
+use Rattle.lvm_sound.specs.Causes.{AreCaused, IsCaused, IsChosenSince, IsCopyCaused}
 use Rattle.lvm_sound.specs.Sound.{IsCopy, IsFitting, IsGoing, IsOn, IsSound, IsTold, count_if, has_number, is_dark, is_hand, out_with, waiting_rows, with_row}
 use Rattle.lvm_keeps.specs.Keeps.{CopyReadKeeps}
+use Rattle.lvm_keeps.proofs.Causes.{copy_still, origin_still}
 use Rattle.lvm_keeps.proofs.Fitting.{still_fits}
-use Rattle.lvm_keeps.proofs.Launching.{flights_push, owners_push, rows_push, taken, tickets_push}
+use Rattle.lvm_keeps.proofs.Launching.{flights_push, none_more, owners_push, rows_push, taken, tickets_push}
 use Rattle.lvm_keeps.proofs.Lists.{all_on, length_set}
-use Rattle.lvm_keeps.proofs.Rows.{all_fly}
+use Rattle.lvm_keeps.proofs.Rows.{all_fly, rows_but_copy}
 use Rattle.lvm_keeps.proofs.Small.{both, is_false, not_so}
-use Rattle.lvm_keeps.proofs.Still.{changed, if_on, open_on}
+use Rattle.lvm_keeps.proofs.Still.{changed, open_on}
+use Rattle.lvm_keeps.proofs.Whole.{sound_still, told_still}
 
 -- ---- its source
 
@@ -137,7 +136,7 @@ module _ (s : State) (sound : IsSound s) (on : s.core.power ≡ power.On) (c : O
   fitting = let was = sound.fitting in still_fits core now.core was refl was.entries (λ disk. refl) was.table (length_set core.pool f.buf.number true) was.room
 
   told : IsTold now.core
-  told = let t = sound.told in record { ordered = t.ordered; table = t.table; each = t.each; requests = t.requests }
+  told = told_still core now.core refl sound.told
 
   one : (o : Open) → IsOpenOne core o → IsOpenOne now.core o
   one o it = open_on core core.history core.requests core.queue (Some reading) pool (core.flying ++ row ∷ []) core.cache.entries core.last o (λ e. e)
@@ -164,35 +163,17 @@ module _ (s : State) (sound : IsSound s) (on : s.core.power ≡ power.On) (c : O
 
   -- ---- whose it is
 
-  none_more : (who : Owner) → same_owner who owner.Copy ≡ false → count_by (λ (g : Flown). same_owner who g.owner) now.core.flying ≡ count_by (λ (g : Flown). same_owner who g.owner) core.flying
-  none_more who other =
-      let more = owners_push who row core.flying in
-      let none : count_if (same_owner who owner.Copy) ≡ 0 = ap count_if other in
-      omega (arith, more, none)
-
   none_out : flies core owner.Copy ≡ false
   none_out = of_copy (λ (k : OpenCopy). is_out k.step) false ∙ ap is_out (at_rest core c may)
 
   owned : AreOwned now.core
-  owned (owner.Data id target) = none_more (owner.Data id target) refl ∙ going.owned (owner.Data id target)
-  owned (owner.Status disk) = none_more (owner.Status disk) refl ∙ going.owned (owner.Status disk)
-  owned (owner.Note disk) = none_more (owner.Note disk) refl ∙ going.owned (owner.Note disk)
+  owned (owner.Data id target) = none_more (owner.Data id target) row core.flying refl ∙ going.owned (owner.Data id target)
+  owned (owner.Status disk) = none_more (owner.Status disk) row core.flying refl ∙ going.owned (owner.Status disk)
+  owned (owner.Note disk) = none_more (owner.Note disk) row core.flying refl ∙ going.owned (owner.Note disk)
   owned owner.Copy =
       let more = owners_push owner.Copy row core.flying in
       let none : count_by (λ (g : Flown). same_owner owner.Copy g.owner) core.flying ≡ 0 = going.owned owner.Copy ∙ ap count_if none_out in
       omega (arith, more, none)
-
-  transfer_on : (who : Owner) (g : Flight) → flies core who ≡ true → IsTransferOf core who g → IsTransferOf now.core who g
-  transfer_on (owner.Data id target) g fly of = let m = of.moves in record { place = of.place; request = of.request; there = of.there; own = of.own; aim = of.aim; aim_is = of.aim_is; moves = record { disk_is = m.disk_is; first = m.first; count = m.count; write = m.write; carries = m.carries } }
-  transfer_on (owner.Status disk) g fly of = let w = of.writes in record { status = of.status; flies = of.flies; writes = record { disk_is = w.disk_is; first = w.first; count = w.count; write = w.write; carries = w.carries } }
-  transfer_on (owner.Note disk) g fly of = record { note = of.note; flies = of.flies; disk_is = of.disk_is; first = of.first; count = of.count; write = of.write; carries = of.carries }
-  transfer_on owner.Copy g fly of = not_so (sym none_out ∙ fly)
-
-  rows_on : (rows : List Flown) (flights : List Flight) → AllByRecursion (λ (r : Flown). flies core r.owner ≡ true) rows → AreRows core rows flights → AreRows now.core rows flights
-  rows_on [] [] fly all = all
-  rows_on [] (g ∷ flights) fly all = all
-  rows_on (r ∷ rows) [] fly all = all
-  rows_on (r ∷ rows) (g ∷ flights) fly all = let first = all.0 in (record { ticket = first.ticket; long = first.long; disk = first.disk; own = transfer_on r.owner g fly.0 first.own }, rows_on rows flights fly.1 all.1)
 
   -- ---- its place and its end
 
@@ -236,7 +217,7 @@ module _ (s : State) (sound : IsSound s) (on : s.core.power ≡ power.On) (c : O
   keeps_on = let was = sound.on on in record {
     going = keeps_going;
     rows = rows_push now.core row f (record { ticket = refl; long = long; disk = refl; own = (reading, refl, record { disk_is = reads.disk_is; first = reads.first; count = reads.count; write_is = reads.write_is }) }) core.flying s.device.flights
-        (rows_on core.flying s.device.flights (all_fly core going.owned) was.rows);
+        (rows_but_copy core now.core refl (λ who. flies core who ≡ true) (λ fly. not_so (sym none_out ∙ fly)) core.flying s.device.flights (all_fly core going.owned) was.rows);
     caused = all_on (AreCaused s.device core) (AreCaused device now.core) (λ x all waiting. all_on (IsCaused s.device core) (IsCaused device now.core) (λ t why. why) x.request.targets.items (all waiting)) core.requests was.caused;
     chosen = all_on (IsChosenSince core c) (IsChosenSince now.core reading) (λ x all. all) core.requests (subst (λ m. IfSome m (λ (k : OpenCopy). AllByRecursion (IsChosenSince core k) core.requests)) is was.chosen);
   }
@@ -251,44 +232,11 @@ module _ (s : State) (sound : IsSound s) (on : s.core.power ≡ power.On) (c : O
       let one_more = flights_push (λ (g : Flight). has_number n g.buf) f s.device.flights in
       omega (arith, was, none, more, one_more)
 
-  landed_on : (o : Open) (how : Outcome) → IsLandedFor s o how → IsLandedFor now o how
-  landed_on o outcome.Done why = why
-  landed_on o outcome.Got why = why
-  landed_on o outcome.Lost why = why
-  landed_on o outcome.ReadFailed why = why
-  landed_on o outcome.NoFresh why = why
-  landed_on o outcome.Off why = why
-  landed_on o outcome.Dark why = why
-
   copy_caused : IsCopyCaused now (copies_in core.descriptor c.lv c.lp) reading
-  copy_caused = let was = subst (λ m. IfSome m (λ (k : OpenCopy). IsCopyCaused s (copies_in core.descriptor k.lv k.lp) k)) is sound.copy in
-      record { began = was.began; since = was.since; tried = was.tried; failed = λ e. sources_on (was.failed e) }
-    where
-      sources_on : {own : Type 0} → own ⊎ HaveSourcesFailed s (copies_in core.descriptor c.lv c.lp) c → own ⊎ HaveSourcesFailed now (copies_in core.descriptor c.lv c.lp) reading
-      sources_on (inl own) = inl own
-      sources_on (inr all) = inr (record { each = all.each; number = all.number; source = all.source; source_is = all.source_is; other = all.other; one = all.one })
-
-  origin : IsTrueToOrigin now
-  origin = let was = sound.origin in record { since = was.since; votes = was.votes; still_missing = was.still_missing; missing = was.missing; stale = was.stale }
+  copy_caused = copy_still s now refl (copies_in core.descriptor c.lv c.lp) c (step.Reading source) (subst (λ m. IfSome m (λ (k : OpenCopy). IsCopyCaused s (copies_in core.descriptor k.lv k.lp) k)) is sound.copy)
 
   pub keeps : IsSound now
-  keeps = record {
-    fitting = fitting;
-    told = told;
-    placed = sound.placed;
-    buffers = λ n. let same = out n in omega (arith, same);
-    none_lost = λ lit n. out n;
-    on = λ e. keeps_on;
-    lit = λ lit. let was = sound.lit lit in record { power = was.power; freed = was.freed };
-    dark = λ e. not_so (sym (ap is_dark on) ∙ e);
-    off = sound.off;
-    over = λ e. not_so (sym (ap is_over on) ∙ e);
-    stuck = λ e. absurd (let none : power.On ≡ power.Stuck = sym on ∙ e in cc);
-    counted = all_on (AreCounted s) (AreCounted now) (λ x all. all_on (IsCounted s) (IsCounted now) (λ t count. record { began = count.began; since = count.since }) x.request.targets.items all) core.requests sound.counted;
-    answered = all_on (IsAnswered s) (IsAnswered now) (λ x why. if_on (IsLandedFor s x) (IsLandedFor now x) (landed_on x) x.landed why) core.requests sound.answered;
-    copy = copy_caused;
-    origin = origin;
-  }
+  keeps = sound_still s now refl refl sound on refl fitting told keeps_on out copy_caused (origin_still s now refl refl sound.origin)
 
 pub copy_read_keeps : CopyReadKeeps
 copy_read_keeps old new sound on event =

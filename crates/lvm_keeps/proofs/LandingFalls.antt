@@ -1,13 +1,10 @@
 -- A request that lands leaves less work.
-use Rattle.std.proofs.Common.{◌≡◌, ◌≤◌, ◌<◌, ◌+◌, ◌*◌, ◌&&◌, ℕ, Bool, true, false, not, if◌then◌else◌, List, Some, length, slice_get, slice_set, refl, sym, ◌∙◌, ap, subst, arith}
+use Rattle.std.proofs.Common.{◌≡◌, ◌≤◌, ◌<◌, ◌+◌, ◌*◌, ℕ, Bool, true, false, if◌then◌else◌, Some, length, slice_get, slice_set, refl, sym, ◌∙◌, ap, subst, arith}
 use Rattle.std.specs.Prelude.{count_by}
 use Rattle.std.specs.List.{list_any, sum_by}
 use Rattle.std.specs.Option.{option_map_or}
 use Rattle.lvm_num.specs.declared.descriptor.PvRow.{PvRow}
 use Rattle.lvm_vol.specs.declared.entry.Outcome.{Outcome}
-use Rattle.lvm_vol.specs.Log.{Log}
-use Rattle.lvm_hold.specs.Waiting.{Waiting}
-use Rattle.lvm_mwc.specs.declared.entries.CacheEntry.{CacheEntry}
 use Rattle.lvm_mwc.specs.Cache.{Cached, after_unpin}
 use Rattle.lvm_path.specs.declared.facts.Next.TheVariants as next
 use Rattle.lvm_path.specs.declared.request.Phase.{Phase}
@@ -17,14 +14,13 @@ use Rattle.lvm_path.specs.declared.target.Target.{Target}
 use Rattle.lvm_path.specs.Asks.{is_write, lv_of}
 use Rattle.lvm_path.specs.Next.{next_in}
 use Rattle.lvm_path.specs.Targets.{is_begun, is_done}
-use Rattle.lvm_session.specs.declared.flown.Flown.{Flown}
 use Rattle.lvm_session.specs.declared.open.Open.{Open}
 use Rattle.lvm_session.specs.declared.open.Power.TheVariants as power
 use Rattle.lvm_session.specs.State.{Core, State, is_there}
-use Rattle.lvm_session.specs.Judging.{copies_for, facts_of, group_of, is_changed, is_waiting}
+use Rattle.lvm_session.specs.Judging.{facts_of, group_of, is_waiting}
 use Rattle.lvm_session.specs.Enabled.{is_lost}
 use Rattle.lvm_events.specs.Events.{after_landing, landed_as, without_pin}
-use Rattle.lvm_sound.specs.Left.{begun_left, copy_left, if_so, is_held, lacks_dirty, left_by, left_of, phase_left, read_left, request_left, status_left, turns_of, unbegun_left, update_work, waiting_targets, work_left, write_left}
+use Rattle.lvm_sound.specs.Left.{begun_left, copy_left, if_so, left_by, left_of, read_left, request_left, status_left, unbegun_left, update_work, waiting_targets, work_left, write_left}
 use Rattle.lvm_sound.specs.Requests.{IsOpenOne}
 use Rattle.lvm_sound.specs.Sound.{count_if}
 use Rattle.lvm_keeps.specs.Falls.{LandingFalls}

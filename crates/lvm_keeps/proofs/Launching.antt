@@ -63,6 +63,13 @@ tickets_push core row (r ∷ rows) (g ∷ flights) all fresh have = (
 pub owners_push : (who : Owner) (row : Flown) (rows : List Flown) → count_by (λ (f : Flown). same_owner who f.owner) (rows ++ row ∷ []) ≡ count_by (λ (f : Flown). same_owner who f.owner) rows + count_if (same_owner who row.owner)
 owners_push who row rows = sum_by_push (λ (f : Flown). count_if (same_owner who f.owner)) rows row
 
+-- another owner has as many
+pub none_more : (who : Owner) (row : Flown) (rows : List Flown) → same_owner who row.owner ≡ false → count_by (λ (g : Flown). same_owner who g.owner) (rows ++ row ∷ []) ≡ count_by (λ (g : Flown). same_owner who g.owner) rows
+none_more who row rows other =
+    let more = owners_push who row rows in
+    let none : count_if (same_owner who row.owner) ≡ 0 = ap count_if other in
+    omega (arith, more, none)
+
 -- its buffer is out
 pub flights_push : (t : Flight → Bool) (f : Flight) (flights : List Flight) → count_by t (flights ++ f ∷ []) ≡ count_by t flights + count_if (t f)
 flights_push t f flights = sum_by_push (λ (g : Flight). count_if (t g)) flights f

@@ -2,6 +2,8 @@ pub mod Lists
 pub mod Small
 pub mod Still
 pub mod Fitting
+pub mod Causes
+pub mod Whole
 pub mod Nexts
 pub mod Numbers
 pub mod Telling

@@ -1,5 +1,5 @@
 -- The write of a note is started.
-use Rattle.std.proofs.Common.{◌≡◌, ◌≤◌, ◌⊎◌, inl, inr, ◌==◌, ◌&&◌, ℕ, Bool, true, false, not, if◌then◌else◌, List, [], ◌∷◌, ◌++◌, Option, Some, None, length, slice_get, slice_set, refl, sym, ◌∙◌, ap, subst, arith}
+use Rattle.std.proofs.Common.{◌≡◌, ◌≤◌, inl, inr, ◌==◌, ◌&&◌, ℕ, Bool, true, false, not, if◌then◌else◌, List, [], ◌∷◌, ◌++◌, Option, Some, None, length, slice_get, slice_set, refl, sym, ◌∙◌, ap, subst, arith}
 use Rattle.std.specs.Prelude.{count_by, find, is_none, is_some, slice_index_or}
 use Rattle.std.specs.List.{AllByRecursion, list_all}
 use Rattle.std.specs.Option.{option_map}
@@ -9,8 +9,6 @@ use Rattle.lvm_num.specs.declared.descriptor.Mode.TheVariants as mode
 use Rattle.lvm_num.specs.Descriptor.{is_member}
 use Rattle.lvm_disk.specs.Device.{Device, Flight, Range}
 use Rattle.lvm_disk.specs.Steps.{IsFresh, Starts}
-use Rattle.lvm_vol.specs.declared.entry.Outcome.{Outcome}
-use Rattle.lvm_vol.specs.declared.entry.Outcome.TheVariants as outcome
 use Rattle.lvm_mwc.specs.Cache.{after_start, flight_on, has_disk, is_named}
 use Rattle.lvm_mwc.specs.Entries.{note_of, pins_of}
 use Rattle.lvm_path.specs.declared.request.Phase.{Phase}
@@ -19,29 +17,28 @@ use Rattle.lvm_path.specs.declared.request.Request.{Request}
 use Rattle.lvm_path.specs.declared.target.Target.{Target}
 use Rattle.lvm_path.specs.Asks.{lv_of}
 use Rattle.lvm_session.specs.declared.bringing.OpenCopy.{OpenCopy}
-use Rattle.lvm_session.specs.declared.bringing.Step.{Step}
-use Rattle.lvm_session.specs.declared.bringing.Step.TheVariants as step
 use Rattle.lvm_session.specs.declared.flown.Flown.{Flown}
 use Rattle.lvm_session.specs.declared.flown.Owner.{Owner}
 use Rattle.lvm_session.specs.declared.flown.Owner.TheVariants as owner
 use Rattle.lvm_session.specs.declared.open.Open.{Open}
 use Rattle.lvm_session.specs.declared.open.Power.TheVariants as power
 use Rattle.lvm_session.specs.State.{Core, State, state}
-use Rattle.lvm_session.specs.Judging.{copies_in, group_of, has_names, is_missing, is_waiting, lp_of}
+use Rattle.lvm_session.specs.Judging.{group_of, has_names, is_missing, is_waiting, lp_of}
 use Rattle.lvm_session.specs.Enabled.{is_unnamed, note_due, wants_record}
 use Rattle.lvm_events.specs.Events.{IsNoteWrite, flown}
-use Rattle.lvm_sound.specs.Owners.{AreOwned, AreRows, IsStepOf, IsTransferOf, flies, same_owner}
+use Rattle.lvm_sound.specs.Owners.{AreOwned, IsTransferOf, flies, same_owner}
 use Rattle.lvm_sound.specs.Requests.{IsOpenOne, IsPinned, IsRecorded, IsShaped, IsTarget, has_record, mode_for}
-use Rattle.lvm_sound.specs.Causes.{AreCounted, HaveSourcesFailed, IsAnswered, IsCopyCaused, IsCounted, IsLandedFor, IsTrueToOrigin, is_over}
 use Rattle.lvm_sound.specs.Sound.{IsCopy, IsFitting, IsGoing, IsOn, IsSound, IsTold, count_if, has_number, is_dark, out_with, pins}
 use Rattle.lvm_keeps.specs.Keeps.{NoteStartKeeps}
+use Rattle.lvm_keeps.proofs.Causes.{copies_still, origin_still}
 use Rattle.lvm_keeps.proofs.Fitting.{still_fits}
-use Rattle.lvm_keeps.proofs.Launching.{flights_push, owners_push, rows_push, taken, tickets_push}
+use Rattle.lvm_keeps.proofs.Launching.{flights_push, none_more, owners_push, rows_push, taken, tickets_push}
 use Rattle.lvm_keeps.proofs.Lists.{all_at, all_on, count_cons, length_set}
 use Rattle.lvm_keeps.proofs.Noted.{copies_on_members, flight_beside, flight_here, found_all, named_still, same_disks}
-use Rattle.lvm_keeps.proofs.Rows.{all_fly}
+use Rattle.lvm_keeps.proofs.Rows.{all_fly, data_still, rows_by, status_still, step_still}
 use Rattle.lvm_keeps.proofs.Small.{both, not_so}
 use Rattle.lvm_keeps.proofs.Still.{if_on}
+use Rattle.lvm_keeps.proofs.Whole.{sound_still, told_still}
 
 -- ---- what is pinned has a pin
 
@@ -194,27 +191,21 @@ module _ (s : State) (sound : IsSound s) (on : s.core.power ≡ power.On) (place
   fitting = let was = sound.fitting in still_fits core now.core was refl was.entries (same_disks core.cache disk) was.table (length_set core.pool f.buf.number true) was.room
 
   told : IsTold now.core
-  told = let t = sound.told in record { ordered = t.ordered; table = t.table; each = t.each; requests = t.requests }
+  told = told_still core now.core refl sound.told
 
   bring : (c : OpenCopy) → IsCopy core c → IsCopy now.core c
   bring c k = record { row = k.row; volume = k.volume; lp = k.lp; its = k.its; cursor = k.cursor; faults = k.faults; place = k.place; room = k.room; free = k.free; hand = k.hand; tried = k.tried; source = k.source; under_way = k.under_way; stale = k.stale; clearing = k.clearing }
 
   -- ---- whose it is
 
-  none_more : (who : Owner) → same_owner who (owner.Note disk) ≡ false → count_by (λ (g : Flown). same_owner who g.owner) now.core.flying ≡ count_by (λ (g : Flown). same_owner who g.owner) core.flying
-  none_more who other =
-      let more = owners_push who row core.flying in
-      let none : count_if (same_owner who (owner.Note disk)) ≡ 0 = ap count_if other in
-      omega (arith, more, none)
-
   owned : AreOwned now.core
-  owned (owner.Data id target) = none_more (owner.Data id target) refl ∙ going.owned (owner.Data id target)
-  owned (owner.Status d) = none_more (owner.Status d) refl ∙ going.owned (owner.Status d)
-  owned owner.Copy = none_more owner.Copy refl ∙ going.owned owner.Copy
+  owned (owner.Data id target) = none_more (owner.Data id target) row core.flying refl ∙ going.owned (owner.Data id target)
+  owned (owner.Status d) = none_more (owner.Status d) row core.flying refl ∙ going.owned (owner.Status d)
+  owned owner.Copy = none_more owner.Copy row core.flying refl ∙ going.owned owner.Copy
   owned (owner.Note d) = by (d == disk) refl
     where
       by : (b : Bool) → (d == disk) ≡ b → count_by (λ (g : Flown). same_owner (owner.Note d) g.owner) now.core.flying ≡ count_if (is_some (flight_on now.core.cache d))
-      by false other = none_more (owner.Note d) other ∙ going.owned (owner.Note d) ∙ ap (λ m. count_if (is_some m)) (sym (flight_beside core.cache disk d other))
+      by false other = none_more (owner.Note d) row core.flying other ∙ going.owned (owner.Note d) ∙ ap (λ m. count_if (is_some m)) (sym (flight_beside core.cache disk d other))
       by true is =
           let same = eqb-true d disk is in
           let more = owners_push (owner.Note d) row core.flying in
@@ -223,27 +214,15 @@ module _ (s : State) (sound : IsSound s) (on : s.core.power ≡ power.On) (place
           let it : count_if (is_some (flight_on now.core.cache d)) ≡ 1 = ap (λ e. count_if (is_some (flight_on now.core.cache e))) same ∙ ap (λ m. count_if (is_some m)) noted in
           omega (arith, more, mine, none, it)
 
-  step_on : (at : Step) (c : OpenCopy) (g : Flight) → IsStepOf at core c g → IsStepOf at now.core c g
-  step_on step.Idle c g of = of
-  step_on (step.Reading source) c g of = record { disk_is = of.disk_is; first = of.first; count = of.count; write_is = of.write_is }
-  step_on (step.Read buf) c g of = of
-  step_on step.Writing c g of = record { disk_is = of.disk_is; first = of.first; count = of.count; write_is = of.write_is }
-
   transfer_on : (who : Owner) (g : Flight) → flies core who ≡ true → IsTransferOf core who g → IsTransferOf now.core who g
-  transfer_on (owner.Data id target) g fly of = let m = of.moves in record { place = of.place; request = of.request; there = of.there; own = of.own; aim = of.aim; aim_is = of.aim_is; moves = record { disk_is = m.disk_is; first = m.first; count = m.count; write = m.write; carries = m.carries } }
-  transfer_on (owner.Status d) g fly of = let w = of.writes in record { status = of.status; flies = of.flies; writes = record { disk_is = w.disk_is; first = w.first; count = w.count; write = w.write; carries = w.carries } }
+  transfer_on (owner.Data id target) g fly of = data_still core now.core refl id target g of
+  transfer_on (owner.Status d) g fly of = status_still core now.core refl d g of
   transfer_on (owner.Note d) g fly of = record { note = of.note; flies = flight_beside core.cache disk d (other (d == disk) refl) ∙ of.flies; disk_is = of.disk_is; first = of.first; count = of.count; write = of.write; carries = of.carries }
     where
       other : (b : Bool) → (d == disk) ≡ b → b ≡ false
       other false e = refl
       other true e = not_so (sym (ap (λ n. is_some (flight_on core.cache n)) (eqb-true d disk e) ∙ ap (λ m. is_some m) no_flight) ∙ fly)
-  transfer_on owner.Copy g fly of = (of.0, of.1, step_on of.0.step of.0 g of.2)
-
-  rows_on : (rows : List Flown) (flights : List Flight) → AllByRecursion (λ (r : Flown). flies core r.owner ≡ true) rows → AreRows core rows flights → AreRows now.core rows flights
-  rows_on [] [] fly all = all
-  rows_on [] (g ∷ flights) fly all = all
-  rows_on (r ∷ rows) [] fly all = all
-  rows_on (r ∷ rows) (g ∷ flights) fly all = let first = all.0 in (record { ticket = first.ticket; long = first.long; disk = first.disk; own = transfer_on r.owner g fly.0 first.own }, rows_on rows flights fly.1 all.1)
+  transfer_on owner.Copy g fly of = (of.0, of.1, step_still core now.core refl of.0.step of.0 g of.2)
 
   keeps_going : IsGoing now.core
   keeps_going = record {
@@ -268,7 +247,7 @@ module _ (s : State) (sound : IsSound s) (on : s.core.power ≡ power.On) (place
   keeps_on = let was = sound.on on in record {
     going = keeps_going;
     rows = rows_push now.core row f (record { ticket = refl; long = long; disk = refl; own = record { note = record { items = note_of core.cache.entries }; flies = noted; disk_is = writes.disk_is; first = writes.first; count = writes.count; write = writes.write; carries = writes.carries } }) core.flying s.device.flights
-        (rows_on core.flying s.device.flights (all_fly core going.owned) was.rows);
+        (rows_by core now.core (λ who. flies core who ≡ true) transfer_on core.flying s.device.flights (all_fly core going.owned) was.rows);
     caused = was.caused;
     chosen = was.chosen;
   }
@@ -282,43 +261,8 @@ module _ (s : State) (sound : IsSound s) (on : s.core.power ≡ power.On) (place
       let one_more = flights_push (λ (g : Flight). has_number n g.buf) f s.device.flights in
       omega (arith, was, more, one_more)
 
-  landed_on : (o : Open) (how : Outcome) → IsLandedFor s o how → IsLandedFor now o how
-  landed_on o outcome.Done why = why
-  landed_on o outcome.Got why = why
-  landed_on o outcome.Lost why = why
-  landed_on o outcome.ReadFailed why = why
-  landed_on o outcome.NoFresh why = why
-  landed_on o outcome.Off why = why
-  landed_on o outcome.Dark why = why
-
-  copy_caused : (c : OpenCopy) → IsCopyCaused s (copies_in core.descriptor c.lv c.lp) c → IsCopyCaused now (copies_in core.descriptor c.lv c.lp) c
-  copy_caused c was = record { began = was.began; since = was.since; tried = was.tried; failed = λ e. sources_on (was.failed e) }
-    where
-      sources_on : {own : Type 0} → own ⊎ HaveSourcesFailed s (copies_in core.descriptor c.lv c.lp) c → own ⊎ HaveSourcesFailed now (copies_in core.descriptor c.lv c.lp) c
-      sources_on (inl own) = inl own
-      sources_on (inr all) = inr (record { each = all.each; number = all.number; source = all.source; source_is = all.source_is; other = all.other; one = all.one })
-
-  origin : IsTrueToOrigin now
-  origin = let was = sound.origin in record { since = was.since; votes = was.votes; still_missing = was.still_missing; missing = was.missing; stale = was.stale }
-
   pub keeps : IsSound now
-  keeps = record {
-    fitting = fitting;
-    told = told;
-    placed = sound.placed;
-    buffers = λ n. let same = out n in omega (arith, same);
-    none_lost = λ lit n. out n;
-    on = λ e. keeps_on;
-    lit = λ lit. let was = sound.lit lit in record { power = was.power; freed = was.freed };
-    dark = λ e. not_so (sym (ap is_dark on) ∙ e);
-    off = sound.off;
-    over = λ e. not_so (sym (ap is_over on) ∙ e);
-    stuck = λ e. absurd (let none : power.On ≡ power.Stuck = sym on ∙ e in cc);
-    counted = all_on (AreCounted s) (AreCounted now) (λ x all. all_on (IsCounted s) (IsCounted now) (λ t count. record { began = count.began; since = count.since }) x.request.targets.items all) core.requests sound.counted;
-    answered = all_on (IsAnswered s) (IsAnswered now) (λ x why. if_on (IsLandedFor s x) (IsLandedFor now x) (landed_on x) x.landed why) core.requests sound.answered;
-    copy = if_on (λ (c : OpenCopy). IsCopyCaused s (copies_in core.descriptor c.lv c.lp) c) (λ (c : OpenCopy). IsCopyCaused now (copies_in core.descriptor c.lv c.lp) c) copy_caused core.copy sound.copy;
-    origin = origin;
-  }
+  keeps = sound_still s now refl refl sound on refl fitting told keeps_on out (copies_still s now refl core.copy sound.copy) (origin_still s now refl refl sound.origin)
 
 pub note_start_keeps : NoteStartKeeps
 note_start_keeps place disk old new sound on event =

@@ -23,14 +23,15 @@ use Rattle.lvm_session.specs.declared.flown.Owner.TheVariants as owner
 use Rattle.lvm_session.specs.declared.open.Open.{Open}
 use Rattle.lvm_session.specs.declared.open.Power.TheVariants as power
 use Rattle.lvm_session.specs.State.{Core, State, state}
-use Rattle.lvm_session.specs.Judging.{group_of, facts_of, is_waiting, is_missing, is_wanted_stale, copies_in, next_for}
+use Rattle.lvm_session.specs.Judging.{group_of, facts_of, is_waiting, is_missing, is_wanted_stale, next_for}
 use Rattle.lvm_session.specs.Enabled.{can_pin, is_pin, may_pin}
 use Rattle.lvm_events.specs.Events.{IsDataTransfer}
 use Rattle.lvm_sound.specs.Owners.{AreOwned, IsDataOf, flies, target_flies}
 use Rattle.lvm_sound.specs.Requests.{IsOpenOne, IsPhase, IsRequest, IsRecorded, mode_for, is_past_held}
-use Rattle.lvm_sound.specs.Causes.{AreCaused, AreCounted, IsAnswered, IsCaused, IsChosenSince, IsCopyCaused, IsCounted, IsLandedFor, fails_on, is_held_stale, is_over}
-use Rattle.lvm_sound.specs.Sound.{IsAsked, IsCopy, IsFitting, IsGoing, IsOn, IsSound, IsTold, count_if, is_hand, out_with, pins, with_row}
+use Rattle.lvm_sound.specs.Causes.{AreCaused, AreCounted, IsAnswered, IsCaused, IsChosenSince, IsLandedFor, fails_on, is_held_stale}
+use Rattle.lvm_sound.specs.Sound.{IsAsked, IsCopy, IsFitting, IsGoing, IsOn, IsSound, IsTold, count_if, is_dark, is_hand, out_with, pins, with_row}
 use Rattle.lvm_keeps.specs.Keeps.{PinKeeps}
+use Rattle.lvm_keeps.proofs.Causes.{answered_still, copies_still, counted_still, origin_still}
 use Rattle.lvm_keeps.proofs.Fitting.{still_fits}
 use Rattle.lvm_keeps.proofs.Lists.{all_at, all_on, all_set, any_set, count_same, count_set, length_set, set_here, set_beside}
 use Rattle.lvm_keeps.proofs.Tables.{ascending_set, rows_set}
@@ -38,10 +39,11 @@ use Rattle.lvm_keeps.proofs.Nexts.{pins_entry}
 use Rattle.lvm_keeps.proofs.Numbers.{numbered}
 use Rattle.lvm_keeps.proofs.Rows.{all_fly, rows_on}
 use Rattle.lvm_keeps.proofs.Small.{both, is_false, not_so}
-use Rattle.lvm_keeps.proofs.Still.{moved, open_on, bring_on, landed_on, counted_on, origin_on, copy_on, if_on, no_cause}
+use Rattle.lvm_keeps.proofs.Still.{moved, open_on, bring_on, if_on, no_cause}
 use Rattle.lvm_vol.specs.Log.{is_open}
 use Rattle.lvm_session.specs.Bringing.{has_row, step_row}
 use Rattle.lvm_sound.specs.Left.{marks_later}
+use Rattle.lvm_keeps.proofs.Whole.{sound_when_on}
 
 module _ (s : State) (sound : IsSound s) (on : s.core.power ≡ power.On) (place : ℕ) (o : Open) (there : slice_get s.core.requests place ≡ Some o) (may : may_pin s.core o ≡ true) where
   abbrev core : Core
@@ -255,33 +257,10 @@ module _ (s : State) (sound : IsSound s) (on : s.core.power ≡ power.On) (place
   out : (n : ℕ) → out_with s.device now.core n ≡ out_with s.device core n
   out n = let same = hands n in omega (arith, same)
 
-  answered : (x : Open) → IsAnswered s x → IsAnswered now x
-  answered x why = if_on (IsLandedFor s x) (IsLandedFor now x) (λ how. landed_on s core.history (slice_set core.requests place pinned) core.queue core.copy core.pool core.flying (with_entry core.cache.entries lv group) core.last x how) x.landed why
-
-  counted : (x : Open) → AreCounted s x → AreCounted now x
-  counted x all = all_on (IsCounted s) (IsCounted now) (counted_on s core.history (slice_set core.requests place pinned) core.queue core.copy core.pool core.flying (with_entry core.cache.entries lv group) core.last) x.request.targets.items all
-
   keeps : IsSound now
-  keeps = record {
-    fitting = fitting;
-    told = told;
-    placed = sound.placed;
-    buffers = λ n. let same = out n in let was = sound.buffers n in omega (arith, same, was);
-    none_lost = λ lit n. out n ∙ sound.none_lost lit n;
-    on = λ e. keeps_on;
-    lit = sound.lit;
-    dark = sound.dark;
-    off = sound.off;
-    over = λ e. absurd (not_so (sym (ap is_over on) ∙ e));
-    stuck = λ e. absurd (on_not_stuck (sym on ∙ e));
-    counted = all_set (AreCounted s) (AreCounted now) counted core.requests place pinned (counted pinned (all_at (AreCounted s) core.requests place o sound.counted there)) sound.counted;
-    answered = all_set (IsAnswered s) (IsAnswered now) answered core.requests place pinned (no_cause (IsLandedFor now pinned) o.landed waits) sound.answered;
-    copy = if_on (λ (c : OpenCopy). IsCopyCaused s (copies_in core.descriptor c.lv c.lp) c) (λ (c : OpenCopy). IsCopyCaused now (copies_in core.descriptor c.lv c.lp) c) (λ c. copy_on s core.history (slice_set core.requests place pinned) core.queue core.copy core.pool core.flying (with_entry core.cache.entries lv group) core.last (copies_in core.descriptor c.lv c.lp) c) core.copy sound.copy;
-    origin = origin_on s core.history (slice_set core.requests place pinned) core.queue core.copy core.pool core.flying (with_entry core.cache.entries lv group) core.last sound.origin;
-  }
-    where
-      on_not_stuck : {X : Type 0} → power.On ≡ power.Stuck → X
-      on_not_stuck e = absurd cc
+  keeps = sound_when_on s now refl refl sound on fitting told keeps_on (λ n. out n ∙ sound.none_lost (ap is_dark on) n)
+      (all_set (AreCounted s) (AreCounted now) (counted_still s now refl) core.requests place pinned (counted_still s now refl o (all_at (AreCounted s) core.requests place o sound.counted there)) sound.counted)
+      (all_set (IsAnswered s) (IsAnswered now) (answered_still s now refl) core.requests place pinned (no_cause (IsLandedFor now pinned) o.landed waits) sound.answered) (copies_still s now refl core.copy sound.copy) (origin_still s now refl refl sound.origin)
 
 pub pin_keeps : PinKeeps
 pin_keeps place old new sound on event =

@@ -7,9 +7,6 @@ use Rattle.std.proofs.lemmas.List.Sums.{sum_by-cons, count_by-le-length}
 use Rattle.lvm_num.specs.declared.descriptor.PvRow.{PvRow}
 use Rattle.lvm_mwc.specs.Cache.{Cached}
 use Rattle.lvm_mwc.specs.Entries.{with_pin as with_entry}
-use Rattle.lvm_path.specs.declared.request.Phase.{Phase}
-use Rattle.lvm_path.specs.declared.request.Phase.TheVariants as phase
-use Rattle.lvm_path.specs.declared.request.Request.{Request}
 use Rattle.lvm_path.specs.Next.{with_pin}
 use Rattle.lvm_session.specs.declared.open.Open.{Open}
 use Rattle.lvm_session.specs.declared.open.Power.TheVariants as power

@@ -1,6 +1,6 @@
 -- The blocks of a volume are fewer than 2 ^ 40.
-use Rattle.std.proofs.Common.{◌≡◌, ◌≢◌, ℕ, zero, suc, ◌+◌, ◌*◌, ◌^◌, ◌<◌, ◌≤◌, ◌==◌, Bool, true, false, ◌||◌, eqb, List, [], ◌∷◌, ◌++◌, length, map, get_or, Option, Some, None, refl, subst, sym, ◌∙◌, ap, arith, length-append, if◌then◌else◌}
-use Rattle.std.specs.Prelude.{All, AllPairs, IsTrue, find}
+use Rattle.std.proofs.Common.{◌≡◌, ◌≢◌, ℕ, zero, suc, ◌+◌, ◌*◌, ◌^◌, ◌<◌, ◌≤◌, ◌==◌, Bool, true, false, ◌||◌, eqb, List, [], ◌∷◌, length, map, get_or, Some, refl, subst, ap, arith, length-append, if◌then◌else◌}
+use Rattle.std.specs.Prelude.{All, AllPairs, find}
 use Rattle.std.specs.List.{list_any, AllByRecursion, IsDistinct}
 use Rattle.std.proofs.Math.Nat.{mul-le-mul_right}
 use Rattle.std.proofs.lemmas.Bool.{eqb-true}

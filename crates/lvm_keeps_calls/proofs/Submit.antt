@@ -1,12 +1,11 @@
 -- A request is submitted.
-use Rattle.std.proofs.Common.{◌≡◌, ◌==◌, ◌≤◌, ◌<◌, ◌+◌, ◌-◌, ◌*◌, ◌^◌, ◌&&◌, ◌||◌, ℕ, zero, suc, Bool, true, false, not, nat_lt, nat_le, if◌then◌else◌, List, [], ◌∷◌, ◌++◌, Option, Some, None, length, length-append, slice_get, refl, sym, ◌∙◌, ap, subst, arith}
-use Rattle.std.specs.Prelude.{IfSome, MatchBool, MatchOption, Ok, Err, Result, count_by, is_some, slice_index_or, unwrap_or}
+use Rattle.std.proofs.Common.{◌≡◌, ◌==◌, ◌≤◌, ◌<◌, ◌+◌, ◌*◌, ◌^◌, ◌&&◌, ◌||◌, ℕ, zero, suc, Bool, true, false, not, nat_lt, nat_le, if◌then◌else◌, List, [], ◌∷◌, ◌++◌, Option, Some, None, length, length-append, slice_get, refl, sym, ◌∙◌, ap, subst, arith}
+use Rattle.std.specs.Prelude.{IfSome, MatchBool, MatchOption, Ok, Err, count_by, is_some, unwrap_or}
 use Rattle.std.specs.List.{list_any, AllByRecursion}
 use Rattle.std.specs.Option.{ForSome, option_map_or}
-use Rattle.std.proofs.lemmas.Bool.{eq-eqb, eqb-true, lt-ltb, ltb-true, ltb-false, ne_eqb}
+use Rattle.std.proofs.lemmas.Bool.{eqb-true, lt-ltb, ltb-true, ltb-false, ne_eqb}
 use Rattle.std.proofs.lemmas.List.Sums.{count_by-le-length, sum_by_push}
 use Rattle.lvm_num.specs.declared.place.Pp.{Pp}
-use Rattle.lvm_num.specs.declared.descriptor.Descriptor.{Descriptor}
 use Rattle.lvm_num.specs.declared.descriptor.LvRow.{LvRow}
 use Rattle.lvm_num.specs.declared.descriptor.Mode.{Mode}
 use Rattle.lvm_num.specs.declared.descriptor.Mode.TheVariants as mode
@@ -15,11 +14,10 @@ use Rattle.lvm_num.specs.Descriptor.{IsValid, most_members, most_volumes, volume
 use Rattle.lvm_num.specs.Geometry.{volume_blocks}
 use Rattle.lvm_num.specs.Status.{calls_dirty}
 use Rattle.lvm_disk.specs.Device.{Flight}
-use Rattle.lvm_vol.specs.declared.entry.Outcome.{Outcome}
 use Rattle.lvm_vol.specs.declared.entry.Vol.TheVariants.{Lv}
-use Rattle.lvm_vol.specs.Facts.{Fact, Request as Asked, Begun, begun}
+use Rattle.lvm_vol.specs.Facts.{Request as Asked, Begun}
 use Rattle.lvm_vol.specs.Legal.{begins_in}
-use Rattle.lvm_vol.specs.Log.{Log, blocks_begun, blocks_given, is_open, needed, next_id, next_request, no_request, request_of, spare_entries, with_fact}
+use Rattle.lvm_vol.specs.Log.{Log, blocks_begun, blocks_given, is_open, next_id, next_request, no_request, spare_entries, with_fact}
 use Rattle.lvm_vol.specs.Order.{IsWhole}
 use Rattle.lvm_vol.proofs.Order.{any-push, ordered-push}
 use Rattle.lvm_hold.specs.declared.queue.Held.{Held}
@@ -28,37 +26,38 @@ use Rattle.lvm_hold.specs.Conflicts.{conflicts}
 use Rattle.lvm_hold.specs.Waiting.{Waiting, is_blocked}
 use Rattle.lvm_path.specs.declared.ask.Ask.{Ask}
 use Rattle.lvm_path.specs.declared.request.Phase.TheVariants as phase
-use Rattle.lvm_path.specs.declared.request.Request.{Request}
 use Rattle.lvm_path.specs.declared.target.Target.{Target}
 use Rattle.lvm_path.specs.Asks.{at_of, count_of, is_write, lv_of}
 use Rattle.lvm_path.specs.Targets.{is_failed}
 use Rattle.lvm_session.specs.declared.bringing.OpenCopy.{OpenCopy}
 use Rattle.lvm_session.specs.declared.flown.Owner.TheVariants as owner
 use Rattle.lvm_session.specs.declared.open.Open.{Open}
-use Rattle.lvm_session.specs.declared.open.Power.TheVariants as power
 use Rattle.lvm_session.specs.State.{Core, State, is_there, state}
-use Rattle.lvm_session.specs.Judging.{copies_in, held_of, is_held_back, is_missing, is_running, is_waiting, is_wanted_stale, place_of}
+use Rattle.lvm_session.specs.Judging.{held_of, is_missing, is_running, is_waiting, is_wanted_stale, place_of}
 use Rattle.lvm_session.specs.Bringing.{has_row, is_whole, step_of, step_row}
-use Rattle.lvm_session.specs.Enabled.{is_free_step, same_status}
+use Rattle.lvm_session.specs.Enabled.{same_status}
 use Rattle.lvm_events.specs.declared.answers.AskFault.{AskFault}
 use Rattle.lvm_events.specs.declared.answers.AskFault.TheVariants as fault
 use Rattle.lvm_events.specs.Calls.{ask_fault, fault_by, fault_in, fault_on, has_history, has_numbers, new_open, submitted}
 use Rattle.lvm_events.specs.Dark.{IsAscending}
-use Rattle.lvm_events.specs.Events.{IsDataTransfer, is_passive}
-use Rattle.lvm_sound.specs.Asking.{IsAsking, IsAwake}
-use Rattle.lvm_sound.specs.Left.{clean_volumes, copy_updates, if_so, marks_later, updates_left}
+use Rattle.lvm_events.specs.Events.{is_passive}
+use Rattle.lvm_sound.specs.Asking.{IsAsking}
+use Rattle.lvm_sound.specs.Left.{copy_updates, if_so, marks_later, updates_left}
 use Rattle.lvm_sound.specs.Owners.{AreOwned, IsDataOf, flies, target_flies}
 use Rattle.lvm_sound.specs.Requests.{IsOpenOne, IsRecorded, mode_for}
-use Rattle.lvm_sound.specs.Causes.{AreCaused, AreCounted, IsAnswered, IsCaused, IsChosenSince, IsCopyCaused, IsCounted, IsLandedFor, fails_on, is_held_stale, is_over}
-use Rattle.lvm_sound.specs.Sound.{IsAsked, IsCopy, IsFitting, IsGoing, IsOn, IsSound, IsTold, count_if, is_dark, is_hand, out_with, pins, waiting_rows, waits, with_row}
+use Rattle.lvm_sound.specs.Causes.{AreCaused, AreCounted, IsAnswered, IsCaused, IsChosenSince, fails_on, is_held_stale}
+use Rattle.lvm_sound.specs.Sound.{IsAsked, IsCopy, IsFitting, IsGoing, IsOn, IsSound, IsTold, count_if, is_dark, is_hand, pins, waiting_rows, waits, with_row}
 use Rattle.lvm_submit.proofs.Numbered.{below_next}
 use Rattle.lvm_submit.proofs.Taking.{IsTaken, history_room, taken}
 use Rattle.lvm_keeps.specs.Keeps.{SubmitKeeps}
+use Rattle.lvm_keeps.proofs.Causes.{answered_still, copies_still, counted_still, origin_still}
+use Rattle.lvm_keeps.proofs.Fitting.{still_fits}
 use Rattle.lvm_keeps.proofs.Lists.{all_at, all_on, all_push}
 use Rattle.lvm_keeps.proofs.Rows.{all_fly, rows_on}
 use Rattle.lvm_keeps.proofs.Small.{not_so}
-use Rattle.lvm_keeps.proofs.Still.{bring_on, copy_on, counted_on, if_on, landed_on, moved, open_on, origin_on}
+use Rattle.lvm_keeps.proofs.Still.{bring_on, if_on, moved, open_on}
 use Rattle.lvm_keeps.proofs.Telling.{outcome_still}
+use Rattle.lvm_keeps.proofs.Whole.{sound_when_on}
 use Rattle.lvm_keeps_calls.proofs.Growing.{answered_other, asked_new, asked_other, chunks_long, few_begin, next_is, open_new, open_other, outcome_new, place_earlier, place_new}
 use Rattle.lvm_keeps_calls.proofs.Places.{blocks_fit}
 
@@ -302,21 +301,7 @@ module _ (s : State) (sound : IsSound s) (client : ℕ) (ask : Ask) (bytes : Opt
       each id false is = open_other core.history sound.told.ordered request refl id is ∙ sound.told.each id ∙ sym (pushed id ∙ ap (λ b. waits core.requests id || b) is ∙ or_false (waits core.requests id))
 
   fitting : IsFitting now.core
-  fitting = let f = sound.fitting in record {
-    valid = f.valid;
-    id = f.id;
-    rows = f.rows;
-    group = f.group;
-    entries = f.entries;
-    notes = f.notes;
-    table = let long = long_push core.requests made in let free = it.place in omega (arith, long, free);
-    most = f.most;
-    queue = f.queue;
-    a_buffer = f.a_buffer;
-    buffers = f.buffers;
-    last = f.last;
-    room = f.room;
-  }
+  fitting = let f = sound.fitting in still_fits core now.core f refl f.entries (λ disk. refl) (let long = long_push core.requests made in let free = it.place in omega (arith, long, free)) refl f.room
 
   -- ---- the requests
 
@@ -469,30 +454,10 @@ module _ (s : State) (sound : IsSound s) (client : ℕ) (ask : Ask) (bytes : Opt
 
   -- ---- all of it
 
-  answered : (x : Open) → IsAnswered s x → IsAnswered now x
-  answered x why = if_on (IsLandedFor s x) (IsLandedFor now x) (λ how. landed_on s history requests queue core.copy core.pool core.flying core.cache.entries core.last x how) x.landed why
-
-  counted : (x : Open) → AreCounted s x → AreCounted now x
-  counted x all = all_on (IsCounted s) (IsCounted now) (counted_on s history requests queue core.copy core.pool core.flying core.cache.entries core.last) x.request.targets.items all
-
   pub keeps : IsSound now
-  keeps = record {
-    fitting = fitting;
-    told = told;
-    placed = sound.placed;
-    buffers = λ n. let same = hands n in let was = sound.buffers n in omega (arith, same, was);
-    none_lost = λ lit n. let same = hands n in let was = sound.none_lost lit n in omega (arith, same, was);
-    on = λ e. keeps_on;
-    lit = sound.lit;
-    dark = sound.dark;
-    off = sound.off;
-    over = λ e. absurd (not_so (sym (ap is_over it.on) ∙ e));
-    stuck = λ e. absurd (let no : power.On ≡ power.Stuck = sym it.on ∙ e in cc);
-    counted = all_push (AreCounted now) core.requests made (all_on (AreCounted s) (AreCounted now) counted core.requests sound.counted) tt;
-    answered = all_push (IsAnswered now) core.requests made (all_on (IsAnswered s) (IsAnswered now) answered core.requests sound.answered) tt;
-    copy = if_on (λ (c : OpenCopy). IsCopyCaused s (copies_in core.descriptor c.lv c.lp) c) (λ (c : OpenCopy). IsCopyCaused now (copies_in core.descriptor c.lv c.lp) c) (λ c. copy_on s history requests queue core.copy core.pool core.flying core.cache.entries core.last (copies_in core.descriptor c.lv c.lp) c) core.copy sound.copy;
-    origin = origin_on s history requests queue core.copy core.pool core.flying core.cache.entries core.last sound.origin;
-  }
+  keeps = sound_when_on s now refl refl sound it.on fitting told keeps_on (λ n. let same = hands n in let was = sound.none_lost (ap is_dark it.on) n in omega (arith, same, was))
+      (all_push (AreCounted now) core.requests made (all_on (AreCounted s) (AreCounted now) (counted_still s now refl) core.requests sound.counted) tt)
+      (all_push (IsAnswered now) core.requests made (all_on (IsAnswered s) (IsAnswered now) (answered_still s now refl) core.requests sound.answered) tt) (copies_still s now refl core.copy sound.copy) (origin_still s now refl refl sound.origin)
 
 pub submit_keeps : SubmitKeeps
 submit_keeps s new client ask bytes answer sound awake asking gives = by (ask_fault s.core ask) refl gives

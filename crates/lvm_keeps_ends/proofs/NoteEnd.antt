@@ -50,7 +50,7 @@ use Rattle.lvm_keeps_ends.specs.Ends.{NoteEndKeeps}
 use Rattle.lvm_keeps_ends.proofs.Removal.{IsOut, as_many, count_taken, none_left, others, rows_left, taken_out, tickets_left}
 
 -- one that has its record with two targets or more holds its pin
-pinned_by : (p : Phase) (r : Request) → has_record p ≡ true → IsPinned p r → 2 ≤ length r.targets.items → r.pinned ≡ true
+pub pinned_by : (p : Phase) (r : Request) → has_record p ≡ true → IsPinned p r → 2 ≤ length r.targets.items → r.pinned ≡ true
 pinned_by phase.Held r has its two = not_so has
 pinned_by phase.WantEntry r has its two = not_so has
 pinned_by phase.WantRecord r has its two = not_so has
@@ -60,14 +60,14 @@ pinned_by phase.WantStatus r has (inl is) two = is
 pinned_by phase.WantStatus r has (inr few) two = absurd (omega (arith, few, two))
 pinned_by phase.Landed r has its two = not_so has
 
-all_true : (t u : Target → Bool) → ((x : Target) → t x ≡ true → u x ≡ true) → (xs : List Target) → list_all t xs ≡ true → list_all u xs ≡ true
+pub all_true : (t u : Target → Bool) → ((x : Target) → t x ≡ true → u x ≡ true) → (xs : List Target) → list_all t xs ≡ true → list_all u xs ≡ true
 all_true t u on [] all = refl
 all_true t u on (x ∷ xs) all = let parts = both (t x) (list_all t xs) all in ap (λ b. b && list_all u xs) (on x parts.0) ∙ all_true t u on xs parts.1
 
 -- ---- the notes of its disk, and of the others
 
 module _ (c : Cached) (disk : ℕ) (ok : Bool) where
-  here : notes_on (after_end c disk ok) disk ≡ option_map (ended ok) (notes_on c disk)
+  pub here : notes_on (after_end c disk ok) disk ≡ option_map (ended ok) (notes_on c disk)
   here = find-with (is_on disk) (ended ok) c.notes same
     where
       same : (d : DiskNotes) → is_on disk d ≡ true → is_on disk (ended ok d) ≡ true
@@ -91,7 +91,7 @@ module _ (c : Cached) (disk : ℕ) (ok : Bool) where
       by None = refl
       by (Some d) = over d
 
-  beside : (d : ℕ) → (d == disk) ≡ false → notes_on (after_end c disk ok) d ≡ notes_on c d
+  pub beside : (d : ℕ) → (d == disk) ≡ false → notes_on (after_end c disk ok) d ≡ notes_on c d
   beside d other = find-with_other (is_on d) (is_on disk) (ended ok) c.notes (λ n e. (apart n e, apart_ended n e))
     where
       apart : (n : DiskNotes) → (n.disk == disk) ≡ true → (n.disk == d) ≡ false

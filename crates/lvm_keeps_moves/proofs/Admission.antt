@@ -1,34 +1,27 @@
 -- A request is admitted, or admitted again.
-use Rattle.std.proofs.Common.{◌≡◌, ◌≢◌, ◌⊎◌, inl, inr, ◌==◌, ◌≤◌, ◌<◌, ◌+◌, ◌^◌, ◌&&◌, ◌||◌, ℕ, zero, suc, Bool, true, false, not, nat_le, if◌then◌else◌, List, [], ◌∷◌, ◌++◌, Option, Some, None, length, map, slice_get, slice_set, refl, sym, ◌∙◌, ap, subst, arith}
-use Rattle.std.specs.Prelude.{AllPairs, IfSome, count_by, is_some, slice_index_or}
+use Rattle.std.proofs.Common.{◌≡◌, ◌⊎◌, inl, inr, ◌==◌, ◌≤◌, ◌&&◌, ◌||◌, ℕ, zero, suc, Bool, true, false, not, nat_le, if◌then◌else◌, List, [], ◌∷◌, Option, Some, None, length, slice_get, slice_set, refl, sym, ◌∙◌, ap, subst, arith}
+use Rattle.std.specs.Prelude.{IfSome, count_by}
 use Rattle.std.specs.List.{list_all, list_any, AllByRecursion}
 use Rattle.std.specs.Option.{option_map_or}
 use Rattle.std.proofs.lemmas.Bool.{eq-eqb, eqb-true, eqb-false, leb-true, ne_eqb}
 use Rattle.lvm_num.specs.declared.descriptor.LvRow.{LvRow}
 use Rattle.lvm_num.specs.declared.descriptor.Mode.{Mode}
 use Rattle.lvm_num.specs.declared.descriptor.Mode.TheVariants as mode
-use Rattle.lvm_num.specs.declared.descriptor.Policy.{Policy}
 use Rattle.lvm_num.specs.declared.place.Pp.{Pp}
-use Rattle.lvm_num.specs.Descriptor.{volume_of}
 use Rattle.lvm_num.specs.Status.{calls_dirty}
-use Rattle.lvm_disk.specs.Device.{Device, Flight}
-use Rattle.lvm_vol.specs.declared.entry.Outcome.{Outcome}
+use Rattle.lvm_disk.specs.Device.{Flight}
 use Rattle.lvm_vol.specs.Log.{is_open}
 use Rattle.lvm_mwc.specs.declared.entries.CacheEntry.{CacheEntry}
 use Rattle.lvm_mwc.specs.Cache.{Cached}
 use Rattle.lvm_sched.specs.declared.writes.TargetState.{TargetState}
 use Rattle.lvm_sched.specs.declared.writes.TargetState.TheVariants as stage
 use Rattle.lvm_sched.specs.Writes.{is_flying, is_waiting as is_unstarted}
-use Rattle.lvm_path.specs.declared.ask.Ask.{Ask}
-use Rattle.lvm_path.specs.declared.facts.Facts.{Facts}
-use Rattle.lvm_path.specs.declared.request.Phase.{Phase}
 use Rattle.lvm_path.specs.declared.request.Phase.TheVariants as phase
-use Rattle.lvm_path.specs.declared.request.Request.{Request}
 use Rattle.lvm_path.specs.declared.target.Target.{Target}
 use Rattle.lvm_path.specs.declared.facts.Next.TheVariants as next
 use Rattle.lvm_path.specs.Asks.{is_write, lv_of}
 use Rattle.lvm_path.specs.Targets.{are_over, is_begun, is_done, is_failed, is_over as is_ended}
-use Rattle.lvm_path.specs.Next.{admitted, first_phase, next_in}
+use Rattle.lvm_path.specs.Next.{first_phase}
 use Rattle.lvm_stale.specs.Table.{is_pp}
 use Rattle.lvm_status.specs.Update.{Stored, seen}
 use Rattle.lvm_status.specs.Runs.{IsSound as IsSoundStatus}
@@ -37,23 +30,23 @@ use Rattle.lvm_session.specs.declared.flown.Owner.TheVariants as owner
 use Rattle.lvm_session.specs.declared.open.Open.{Open}
 use Rattle.lvm_session.specs.declared.open.Power.TheVariants as power
 use Rattle.lvm_session.specs.State.{Core, State, state}
-use Rattle.lvm_session.specs.Judging.{copies_for, copies_in, facts_of, group_in, group_of, has_dirty_mark, has_names, is_caught, is_held_back, is_missing, is_pending, is_usable, is_waiting, is_wanted_stale, mode_of, next_for, policy_of}
+use Rattle.lvm_session.specs.Judging.{copies_in, facts_of, group_in, has_dirty_mark, has_names, is_caught, is_held_back, is_missing, is_waiting, is_wanted_stale, mode_of, next_for, policy_of}
 use Rattle.lvm_session.specs.Bringing.{has_row, step_row}
-use Rattle.lvm_session.specs.Enabled.{wants_record}
-use Rattle.lvm_events.specs.Calls.{copy_at}
-use Rattle.lvm_events.specs.Events.{Chooses, IsDataTransfer, admitted_as, after_admission, is_passive, last_after, makes_dirty, without_pin}
+use Rattle.lvm_events.specs.Events.{Chooses, admitted_as, after_admission, is_passive, last_after, makes_dirty, without_pin}
 use Rattle.lvm_events.specs.Marks.{WantsDirty, WantsDirtyIf}
 use Rattle.lvm_sound.specs.Left.{marks_later}
 use Rattle.lvm_sound.specs.Owners.{AreOwned, IsDataOf, flies, target_flies}
-use Rattle.lvm_sound.specs.Requests.{IsJudged, IsOpenOne, IsPhase, IsRecorded, IsRequest, IsTarget, has_record, is_past_held, is_wanted_dirty, may_lack, mode_for, wants_status}
-use Rattle.lvm_sound.specs.Causes.{AreCaused, AreCounted, IsAnswered, IsCaused, IsChosenSince, IsCopyCaused, IsCounted, IsLandedFor, fails_on, faults_at_opening, is_held_stale, is_over}
+use Rattle.lvm_sound.specs.Requests.{IsOpenOne, IsPhase, IsRecorded, IsRequest, IsTarget, has_record, is_past_held, is_wanted_dirty, may_lack, mode_for, wants_status}
+use Rattle.lvm_sound.specs.Causes.{AreCaused, AreCounted, IsAnswered, IsCaused, IsChosenSince, IsCopyCaused, IsCounted, IsLandedFor, fails_on, faults_at_opening, is_held_stale}
 use Rattle.lvm_sound.specs.Sound.{IsAsked, IsCopy, IsFitting, IsGoing, IsOn, IsSound, IsTold, count_if, is_dark, is_hand, out_with, pins, with_row}
 use Rattle.lvm_keeps.specs.Keeps.{AdmissionKeeps}
-use Rattle.lvm_keeps.proofs.Lists.{all_at, all_on, all_set, any_set, count_cons, count_same, count_set, length_set, set_here, set_beside}
+use Rattle.lvm_keeps.proofs.Causes.{answered_still, copies_still, counted_still, origin_still}
+use Rattle.lvm_keeps.proofs.Lists.{all_at, all_on, all_set, any_set, count_cons, count_same, count_set, length_set, set_beside}
 use Rattle.lvm_keeps.proofs.Rows.{all_fly, rows_on}
 use Rattle.lvm_keeps.proofs.Small.{not_so}
-use Rattle.lvm_keeps.proofs.Still.{bring_on, copy_on, counted_on, if_on, landed_on, moved, no_cause, open_on, origin_on}
+use Rattle.lvm_keeps.proofs.Still.{bring_on, if_on, moved, no_cause, open_on}
 use Rattle.lvm_keeps.proofs.Tables.{apart, ascending_set, rows_set}
+use Rattle.lvm_keeps.proofs.Whole.{sound_when_on}
 use Rattle.lvm_keeps_starts.proofs.Aims.{only_at}
 use Rattle.lvm_keeps_moves.proofs.Chosen.{IsAdmissible, IsChosen, admissible, chosen}
 use Rattle.lvm_keeps_moves.proofs.Landing.{entries_left, only_entries, pins_left}
@@ -395,33 +388,13 @@ module _ (s : State) (sound : IsSound s) (on : s.core.power ≡ power.On) (place
   out : (n : ℕ) → out_with s.device now.core n ≡ out_with s.device core n
   out n = let same = hands n in omega (arith, same)
 
-  answered : (x : Open) → IsAnswered s x → IsAnswered now x
-  answered x why = if_on (IsLandedFor s x) (IsLandedFor now x) (λ how. landed_on s core.history requests core.queue core.copy core.pool core.flying entries last x how) x.landed why
-
-  counted : (x : Open) → AreCounted s x → AreCounted now x
-  counted x all = all_on (IsCounted s) (IsCounted now) (counted_on s core.history requests core.queue core.copy core.pool core.flying entries last) x.request.targets.items all
-
   its_counted : AreCounted now made
   its_counted = all_on (λ (t : Target). t.faults ≡ s.device.counts.faults t.pp.disk) (IsCounted now) (λ t same. let began = sound.origin.since t.pp.disk in record { began = omega (arith, began, same); since = omega (arith, same) }) targets its_choice.faults
 
   pub keeps : IsSound now
-  keeps = record {
-    fitting = fitting;
-    told = told;
-    placed = sound.placed;
-    buffers = λ n. let same = out n in let was = sound.buffers n in omega (arith, same, was);
-    none_lost = λ lit n. out n ∙ sound.none_lost lit n;
-    on = λ e. keeps_on;
-    lit = sound.lit;
-    dark = sound.dark;
-    off = sound.off;
-    over = λ e. absurd (not_so (sym (ap is_over on) ∙ e));
-    stuck = λ e. absurd (let no : power.On ≡ power.Stuck = sym on ∙ e in cc);
-    counted = all_set (AreCounted s) (AreCounted now) counted core.requests place made its_counted sound.counted;
-    answered = all_set (IsAnswered s) (IsAnswered now) answered core.requests place made (no_cause (IsLandedFor now made) o.landed waits) sound.answered;
-    copy = if_on (λ (c : OpenCopy). IsCopyCaused s (copies_in core.descriptor c.lv c.lp) c) (λ (c : OpenCopy). IsCopyCaused now (copies_in core.descriptor c.lv c.lp) c) (λ c. copy_on s core.history requests core.queue core.copy core.pool core.flying entries last (copies_in core.descriptor c.lv c.lp) c) core.copy sound.copy;
-    origin = origin_on s core.history requests core.queue core.copy core.pool core.flying entries last sound.origin;
-  }
+  keeps = sound_when_on s now refl refl sound on fitting told keeps_on (λ n. out n ∙ sound.none_lost (ap is_dark on) n)
+      (all_set (AreCounted s) (AreCounted now) (counted_still s now refl) core.requests place made its_counted sound.counted)
+      (all_set (IsAnswered s) (IsAnswered now) (answered_still s now refl) core.requests place made (no_cause (IsLandedFor now made) o.landed waits) sound.answered) (copies_still s now refl core.copy sound.copy) (origin_still s now refl refl sound.origin)
 
 -- ---- of a session that admits it next
 

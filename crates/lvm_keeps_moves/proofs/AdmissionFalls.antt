@@ -1,7 +1,7 @@
 -- An admission leaves less work.
 use Rattle.std.proofs.Common.{◌≡◌, ◌⊎◌, inl, inr, ◌==◌, ◌≤◌, ◌<◌, ◌+◌, ◌*◌, ◌&&◌, ◌||◌, ℕ, zero, suc, Bool, true, false, not, nat_le, List, [], ◌∷◌, Option, Some, None, length, map, slice_get, slice_set, if◌then◌else◌, refl, sym, ◌∙◌, ap, subst, arith}
-use Rattle.std.specs.Prelude.{count_by, unwrap_or}
-use Rattle.std.specs.List.{list_any, sum_by, AllByRecursion}
+use Rattle.std.specs.Prelude.{count_by}
+use Rattle.std.specs.List.{sum_by, AllByRecursion}
 use Rattle.std.specs.Option.{option_map_or}
 use Rattle.std.proofs.lemmas.Bool.{eq-eqb}
 use Rattle.std.proofs.lemmas.List.Sums.{count_by-le-length, sum_by-cons}
@@ -13,13 +13,12 @@ use Rattle.lvm_num.specs.declared.status.Status.{Status}
 use Rattle.lvm_num.specs.Descriptor.{is_member}
 use Rattle.lvm_num.specs.Disks.{has}
 use Rattle.lvm_num.specs.Status.{calls_dirty}
-use Rattle.lvm_num.specs.Votes.{is_enough_to_write, votes_in, votes_of}
+use Rattle.lvm_num.specs.Votes.{is_enough_to_write, votes_of}
 use Rattle.lvm_mwc.specs.declared.entries.CacheEntry.{CacheEntry}
 use Rattle.lvm_mwc.specs.Cache.{Cached, flight_names, is_named}
 use Rattle.lvm_sched.specs.declared.writes.TargetState.{TargetState}
 use Rattle.lvm_sched.specs.declared.writes.TargetState.TheVariants as stage
 use Rattle.lvm_sched.specs.Writes.{is_waiting as is_unstarted}
-use Rattle.lvm_stale.specs.Table.{is_pp}
 use Rattle.lvm_path.specs.declared.ask.Ask.{Ask}
 use Rattle.lvm_path.specs.declared.request.Phase.{Phase}
 use Rattle.lvm_path.specs.declared.request.Phase.TheVariants as phase
@@ -31,10 +30,10 @@ use Rattle.lvm_path.specs.Next.{first_phase}
 use Rattle.lvm_status.specs.Update.{Stored}
 use Rattle.lvm_session.specs.declared.open.Open.{Open}
 use Rattle.lvm_session.specs.declared.open.Power.TheVariants as power
-use Rattle.lvm_session.specs.State.{Core, State, is_there, state}
+use Rattle.lvm_session.specs.State.{Core, State, is_there}
 use Rattle.lvm_session.specs.Judging.{aims, copies_for, group_in, group_of, is_caught, is_changed, is_missing, is_settled, is_stale, is_usable, is_waiting, mode_of, next_for, policy_of, pps_of, same_pps}
 use Rattle.lvm_session.specs.Enabled.{is_lost, same_status}
-use Rattle.lvm_events.specs.Events.{Admits, Chooses, ChoosesBy, admitted_as, after_admission, is_passive, last_after, makes_dirty, target_at, without_pin}
+use Rattle.lvm_events.specs.Events.{Chooses, ChoosesBy, admitted_as, after_admission, is_passive, last_after, makes_dirty, target_at, without_pin}
 use Rattle.lvm_events.specs.Marks.{WantsDirty, WantsDirtyIf}
 use Rattle.lvm_sound.specs.Left.{begun_left, copy_left, if_so, is_brought_up, is_held, lacks_dirty, lacks_note, left_of, phase_left, read_left, request_left, status_left, turns_of, unbegun_left, update_work, waiting_targets, work_left, write_left}
 use Rattle.lvm_sound.specs.Requests.{IsPhase}
@@ -47,9 +46,9 @@ use Rattle.lvm_path.specs.declared.facts.Next.TheVariants as next
 use Rattle.lvm_keeps_starts.proofs.CopyWriteFalls.{lit}
 use Rattle.lvm_keeps_moves.specs.Falls.{AdmissionFalls}
 use Rattle.lvm_keeps_moves.proofs.Admission.{any_fresh, choice, clean, mark, may, one_of, passive, passive_so, request_of, status_sound, unbegun_so, waits_so, writes}
-use Rattle.lvm_keeps_moves.proofs.Chosen.{IsAdmissible, IsChosen}
+use Rattle.lvm_keeps_moves.proofs.Chosen.{IsChosen}
 use Rattle.lvm_keeps_moves.proofs.Landing.{only_entries}
-use Rattle.lvm_keeps_moves.proofs.Marking.{count_alike, dirty_on, filter_alike, missing_same, there_same, usable_same, now as marked_now}
+use Rattle.lvm_keeps_moves.proofs.Marking.{count_alike, dirty_on, filter_alike, missing_same}
 
 -- ---- sums
 

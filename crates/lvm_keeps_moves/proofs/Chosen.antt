@@ -1,6 +1,6 @@
 -- What a request that is admitted goes to.
-use Rattle.std.proofs.Common.{◌≡◌, ◌≢◌, ◌⊎◌, inl, inr, ◌==◌, ◌≤◌, ◌<◌, ◌+◌, ◌-◌, ◌*◌, ◌%◌, ◌&&◌, ◌||◌, ℕ, zero, suc, Bool, true, false, not, nat_le, nat_lt, filter, if◌then◌else◌, List, [], ◌∷◌, Option, Some, None, length, map, drop, take, slice_get, get_or, refl, sym, ◌∙◌, ap, subst, arith}
-use Rattle.std.specs.Prelude.{All, AllPairs, Contains, IfSome, is_none, position, slice_index_or, unwrap_or}
+use Rattle.std.proofs.Common.{◌≡◌, ◌≢◌, ◌⊎◌, inl, inr, ◌==◌, ◌≤◌, ◌<◌, ◌+◌, ◌-◌, ◌*◌, ◌&&◌, ◌||◌, ℕ, zero, suc, Bool, true, false, not, nat_lt, filter, if◌then◌else◌, List, [], ◌∷◌, Option, Some, None, length, map, drop, slice_get, refl, sym, ◌∙◌, ap, subst, arith}
+use Rattle.std.specs.Prelude.{All, AllPairs, IfSome, position, slice_index_or, unwrap_or}
 use Rattle.std.specs.List.{list_any, remove, AllByRecursion}
 use Rattle.std.specs.Option.{option_map_or}
 use Rattle.std.proofs.lemmas.Bool.{cases_lt, eq-eqb, eqb-true, ne_eqb}
@@ -10,15 +10,13 @@ use Rattle.std.proofs.lemmas.List.Kept.{AllPairs-cons, AllPairs-filter}
 use Rattle.lvm_num.specs.declared.place.Pp.{Pp}
 use Rattle.lvm_num.specs.declared.descriptor.LvRow.{LvRow}
 use Rattle.lvm_num.specs.declared.descriptor.Policy.{Policy}
-use Rattle.lvm_num.specs.Descriptor.{IsLaidOut, IsVolume, copies_of, volume_of}
-use Rattle.lvm_num.specs.Disks.{has}
-use Rattle.lvm_num.specs.Geometry.{partition_of}
+use Rattle.lvm_num.specs.Descriptor.{IsVolume, copies_of}
 use Rattle.lvm_num.specs.Status.{calls_missing, calls_stale}
 use Rattle.lvm_num.proofs.MapsLemmas.{find-Some}
 use Rattle.lvm_map.proofs.PlaceLemmas.{laid_out, lp_below, mib_positive}
 use Rattle.lvm_stale.specs.Table.{is_pp}
 use Rattle.lvm_vol.specs.declared.entry.Outcome.TheVariants as outcome
-use Rattle.lvm_sched.specs.Reads.{AreCopies, AreCopiesAbove, IsReadOrder, others}
+use Rattle.lvm_sched.specs.Reads.{AreCopiesAbove, IsReadOrder, others}
 use Rattle.lvm_sched.specs.declared.writes.TargetState.TheVariants as stage
 use Rattle.lvm_sched.proofs.Copies.{copies_above}
 use Rattle.lvm_sched.specs.declared.writes.TargetState.{TargetState}
@@ -31,7 +29,7 @@ use Rattle.lvm_path.specs.declared.request.Phase.{Phase}
 use Rattle.lvm_path.specs.declared.request.Phase.TheVariants as phase
 use Rattle.lvm_path.specs.declared.request.Request.{Request}
 use Rattle.lvm_path.specs.declared.target.Target.{Target}
-use Rattle.lvm_path.specs.Asks.{at_of, count_of, is_write, lv_of}
+use Rattle.lvm_path.specs.Asks.{at_of, is_write, lv_of}
 use Rattle.lvm_path.specs.Targets.{is_begun, is_done, is_failed, states_of}
 use Rattle.lvm_path.specs.Next.{next_chosen, next_data, next_in, next_read, next_write, start_or_wait}
 use Rattle.lvm_session.specs.declared.bringing.CopyEnd.TheVariants as ending
@@ -39,7 +37,7 @@ use Rattle.lvm_session.specs.declared.bringing.OpenCopy.{OpenCopy}
 use Rattle.lvm_session.specs.declared.open.Open.{Open}
 use Rattle.lvm_session.specs.declared.open.Power.TheVariants as power
 use Rattle.lvm_session.specs.State.{Core, State}
-use Rattle.lvm_session.specs.Judging.{IsWithin, aims, counts_failed, copies_for, copies_in, group_in, is_beside, is_caught, is_failing, is_missing, is_pending, is_running, is_settled, is_stale, is_usable, is_waiting, is_wanted_stale, lp_of, policy_of}
+use Rattle.lvm_session.specs.Judging.{aims, counts_failed, copies_for, group_in, is_beside, is_caught, is_failing, is_missing, is_pending, is_running, is_settled, is_stale, is_usable, is_waiting, is_wanted_stale, lp_of, policy_of}
 use Rattle.lvm_session.specs.Bringing.{end_by_sources, end_of, ends_if, is_cleared, is_whole}
 use Rattle.lvm_events.specs.Events.{Chooses, ChoosesBy, copy_of, loads_of, target_at, usable_from}
 use Rattle.lvm_events.specs.Marks.{is_among}

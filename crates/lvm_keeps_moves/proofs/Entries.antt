@@ -1,12 +1,12 @@
 -- What the history tells as a request lands.
-use Rattle.std.proofs.Common.{◌≡◌, ◌==◌, ◌≤◌, ◌<◌, ℕ, zero, suc, Bool, true, false, ◌&&◌, ◌||◌, not, List, [], ◌∷◌, ◌++◌, Option, Some, None, length, slice_get, slice_set, refl, sym, ◌∙◌, ap, subst, arith, if◌then◌else◌}
+use Rattle.std.proofs.Common.{◌≡◌, ◌==◌, ◌≤◌, ℕ, zero, suc, Bool, true, false, ◌&&◌, ◌||◌, not, List, [], ◌∷◌, ◌++◌, Option, Some, None, length, slice_get, slice_set, refl, sym, ◌∙◌, ap, subst, arith, if◌then◌else◌}
 use Rattle.std.specs.Prelude.{MatchBool, is_some, take, unwrap_or}
 use Rattle.std.specs.List.{list_any, remove, AllByRecursion}
 use Rattle.std.proofs.lemmas.Bool.{eq-eqb, eqb-true, ne_eqb}
 use Rattle.lvm_num.specs.Buffer.{Buffer, Sector}
 use Rattle.lvm_vol.specs.declared.entry.Outcome.{Outcome}
 use Rattle.lvm_vol.specs.Facts.{Fact, Request as Asked, Landed}
-use Rattle.lvm_vol.specs.Log.{asked, is_answered, is_got, is_open, lands_id, no_request, request_of, takes_id}
+use Rattle.lvm_vol.specs.Log.{asked, is_got, is_open, lands_id, no_request, request_of, takes_id}
 use Rattle.lvm_vol.specs.Order.{IsGotOf, Ordered}
 use Rattle.lvm_vol.proofs.Asking.{IsOpen, open_of}
 use Rattle.lvm_vol.proofs.Order.{any-push, numbered, ordered-push}
@@ -15,7 +15,7 @@ use Rattle.lvm_session.specs.Judging.{is_waiting}
 use Rattle.lvm_events.specs.Dark.{AreTold}
 use Rattle.lvm_events.specs.Events.{got_blocks, landed_as}
 use Rattle.lvm_sound.specs.Sound.{IsAsked, outcome_by, outcome_in, waits}
-use Rattle.lvm_keeps.proofs.Lists.{all_at, all_on, any_set}
+use Rattle.lvm_keeps.proofs.Lists.{all_at, any_set}
 use Rattle.lvm_keeps.proofs.Small.{not_so}
 use Rattle.lvm_keeps.proofs.Tables.{apart, ascending_set}
 use Rattle.lvm_keeps.proofs.Telling.{answered_still, asked_still, open_still, outcome_still, place_still}

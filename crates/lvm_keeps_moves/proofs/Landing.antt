@@ -1,6 +1,6 @@
 -- A request lands.
-use Rattle.std.proofs.Common.{◌≡◌, ◌==◌, ◌≤◌, ◌<◌, ◌+◌, ◌*◌, ◌%◌, ◌^◌, ◌&&◌, ◌||◌, ℕ, Bool, true, false, not, nat_lt, if◌then◌else◌, List, [], ◌∷◌, ◌++◌, Option, Some, None, length, slice_get, slice_set, refl, sym, ◌∙◌, ap, subst, arith}
-use Rattle.std.specs.Prelude.{IfSome, count_by, is_some, slice_index_or, unwrap_or}
+use Rattle.std.proofs.Common.{◌≡◌, ◌==◌, ◌≤◌, ◌+◌, ◌&&◌, ◌||◌, ℕ, Bool, true, false, not, nat_lt, if◌then◌else◌, List, Option, Some, None, length, slice_get, slice_set, refl, sym, ◌∙◌, ap, subst, arith}
+use Rattle.std.specs.Prelude.{IfSome, count_by, slice_index_or, unwrap_or}
 use Rattle.std.specs.List.{list_any, AllByRecursion}
 use Rattle.std.specs.Option.{option_map_or}
 use Rattle.std.proofs.lemmas.Bool.{eqb-true, eqb-false}
@@ -8,22 +8,20 @@ use Rattle.lvm_num.specs.Buffer.{Buffer}
 use Rattle.lvm_num.specs.declared.place.Pp.{Pp}
 use Rattle.lvm_disk.specs.Device.{Flight}
 use Rattle.lvm_vol.specs.declared.entry.Outcome.{Outcome}
-use Rattle.lvm_vol.specs.declared.entry.Outcome.TheVariants as outcome
 use Rattle.lvm_vol.specs.Facts.{Fact, Request as Asked, Landed}
 use Rattle.lvm_vol.specs.Legal.{begins_in}
-use Rattle.lvm_vol.specs.Log.{Log, is_got, no_request, request_of, with_fact}
+use Rattle.lvm_vol.specs.Log.{Log, no_request, request_of, with_fact}
 use Rattle.lvm_vol.specs.Order.{IsGotOf}
 use Rattle.lvm_hold.specs.declared.queue.Row.{Row}
 use Rattle.lvm_hold.specs.Waiting.{Waiting, is_blocked, without}
 use Rattle.lvm_hold.specs.Conflicts.{conflicts}
 use Rattle.lvm_mwc.specs.declared.entries.CacheEntry.{CacheEntry}
 use Rattle.lvm_mwc.specs.Cache.{Cached, after_unpin}
-use Rattle.lvm_mwc.specs.Entries.{AreEntries, pins_of, with_unpin}
+use Rattle.lvm_mwc.specs.Entries.{AreEntries, pins_of}
 use Rattle.lvm_mwc.specs.Runs.{Unpins}
 use Rattle.lvm_mwc.proofs.PinsLemmas.{entries_after, pins_after}
 use Rattle.lvm_path.specs.declared.facts.Next.TheVariants as next
 use Rattle.lvm_path.specs.declared.request.Phase.{Phase}
-use Rattle.lvm_path.specs.declared.request.Phase.TheVariants as phase
 use Rattle.lvm_path.specs.declared.request.Request.{Request}
 use Rattle.lvm_path.specs.declared.target.Target.{Target}
 use Rattle.lvm_path.specs.Asks.{count_of, is_write, lv_of}
@@ -34,25 +32,28 @@ use Rattle.lvm_session.specs.declared.flown.Owner.TheVariants as owner
 use Rattle.lvm_session.specs.declared.open.Open.{Open}
 use Rattle.lvm_session.specs.declared.open.Power.TheVariants as power
 use Rattle.lvm_session.specs.State.{Core, State, state}
-use Rattle.lvm_session.specs.Judging.{copies_in, facts_of, group_of, held_of, is_held_back, is_missing, is_waiting, is_wanted_stale, next_for, place_of}
+use Rattle.lvm_session.specs.Judging.{facts_of, group_of, held_of, is_missing, is_waiting, is_wanted_stale, next_for, place_of}
 use Rattle.lvm_session.specs.Bringing.{has_row, step_of, step_row, with_back}
 use Rattle.lvm_session.specs.Enabled.{is_free_step}
 use Rattle.lvm_events.specs.Events.{IsDataTransfer, after_landing, got_blocks, landed_as, without_pin}
 use Rattle.lvm_sound.specs.Left.{marks_later}
 use Rattle.lvm_sound.specs.Owners.{AreOwned, IsDataOf, flies, target_flies}
 use Rattle.lvm_sound.specs.Requests.{IsOpenOne, IsRequest}
-use Rattle.lvm_sound.specs.Causes.{AreCaused, AreCounted, IsAnswered, IsCaused, IsChosenSince, IsCopyCaused, IsCounted, IsLandedFor, fails_on, is_held_stale, is_over}
+use Rattle.lvm_sound.specs.Causes.{AreCaused, AreCounted, IsAnswered, IsCaused, IsChosenSince, fails_on, is_held_stale}
 use Rattle.lvm_sound.specs.Sound.{IsAsked, IsCopy, IsFitting, IsGoing, IsOn, IsSound, IsTold, count_if, is_dark, is_hand, out_with, pins, waiting_rows, with_row}
 use Rattle.lvm_keeps.specs.Keeps.{LandingKeeps}
+use Rattle.lvm_keeps.proofs.Causes.{answered_still, copies_still, counted_still, landed_still, origin_still}
 use Rattle.lvm_keeps.proofs.Ending.{back, back_long}
+use Rattle.lvm_keeps.proofs.Fitting.{still_fits}
 use Rattle.lvm_keeps.proofs.Landing.{cause}
 use Rattle.lvm_keeps.proofs.Lists.{all_at, all_on, all_set, any_set, count_set, length_set, set_here, set_beside}
 use Rattle.lvm_keeps.proofs.NoteStart.{each_counted}
 use Rattle.lvm_keeps.proofs.Rows.{all_fly, rows_on}
 use Rattle.lvm_keeps.proofs.Small.{not_so}
-use Rattle.lvm_keeps.proofs.Still.{bring_on, changed, copy_on, counted_on, if_on, landed_on, moved, open_on, origin_on}
+use Rattle.lvm_keeps.proofs.Still.{bring_on, if_on, moved, open_on}
 use Rattle.lvm_keeps.proofs.Telling.{asked_still, count_still}
-use Rattle.lvm_keeps_moves.proofs.Entries.{after, each_after, got_is, ordered_after, requests_after, table_after}
+use Rattle.lvm_keeps.proofs.Whole.{sound_when_on}
+use Rattle.lvm_keeps_moves.proofs.Entries.{each_after, got_is, ordered_after, requests_after, table_after}
 use Rattle.lvm_keeps_moves.proofs.Outcomes.{IsEnded, gives}
 use Rattle.lvm_keeps_moves.proofs.Tables.{any_set_less, landed_rows, none_filter, rows_ascend, step_stays}
 
@@ -158,21 +159,7 @@ module _ (s : State) (sound : IsSound s) (on : s.core.power ≡ power.On) (place
   -- ---- the table
 
   fitting : IsFitting now.core
-  fitting = let f = sound.fitting in record {
-    valid = f.valid;
-    id = f.id;
-    rows = f.rows;
-    group = f.group;
-    entries = entries_left core going place o there;
-    notes = f.notes;
-    table = subst (λ n. n ≤ core.most) (sym (length_set core.requests place landed)) f.table;
-    most = f.most;
-    queue = f.queue;
-    a_buffer = subst (λ n. 1 ≤ n) (sym (back_long core.pool o.got)) f.a_buffer;
-    buffers = subst (λ n. n ≤ 1024) (sym (back_long core.pool o.got)) f.buffers;
-    last = f.last;
-    room = f.room;
-  }
+  fitting = let f = sound.fitting in still_fits core now.core f refl (entries_left core going place o there) (λ disk. refl) (subst (λ n. n ≤ core.most) (sym (length_set core.requests place landed)) f.table) (back_long core.pool o.got) f.room
 
   told : IsTold now.core
   told = let t = sound.told in record {
@@ -335,39 +322,11 @@ module _ (s : State) (sound : IsSound s) (on : s.core.power ≡ power.On) (place
       let given = pool_less n in
       omega (arith, was, less, given)
 
-  itself : (h : Outcome) → IsLandedFor s o h → IsLandedFor now landed h
-  itself outcome.Done why = why
-  itself outcome.Got why = why
-  itself outcome.Lost why = why
-  itself outcome.ReadFailed why = why
-  itself outcome.NoFresh why = why
-  itself outcome.Off why = why
-  itself outcome.Dark why = why
-
-  answered : (x : Open) → IsAnswered s x → IsAnswered now x
-  answered x why = if_on (IsLandedFor s x) (IsLandedFor now x) (λ h. landed_on s history requests queue core.copy pool core.flying entries core.last x h) x.landed why
-
-  counted : (x : Open) → AreCounted s x → AreCounted now x
-  counted x all = all_on (IsCounted s) (IsCounted now) (counted_on s history requests queue core.copy pool core.flying entries core.last) x.request.targets.items all
-
   pub keeps : IsSound now
-  keeps = record {
-    fitting = fitting;
-    told = told;
-    placed = sound.placed;
-    buffers = λ n. let same = out n in omega (arith, same);
-    none_lost = λ lit n. out n;
-    on = λ e. keeps_on;
-    lit = sound.lit;
-    dark = sound.dark;
-    off = sound.off;
-    over = λ e. absurd (not_so (sym (ap is_over on) ∙ e));
-    stuck = λ e. absurd (let no : power.On ≡ power.Stuck = sym on ∙ e in cc);
-    counted = all_set (AreCounted s) (AreCounted now) counted core.requests place landed (counted landed (all_at (AreCounted s) core.requests place o sound.counted there)) sound.counted;
-    answered = all_set (IsAnswered s) (IsAnswered now) answered core.requests place landed (itself how (cause s sound on place o there how lands)) sound.answered;
-    copy = if_on (λ (c : OpenCopy). IsCopyCaused s (copies_in core.descriptor c.lv c.lp) c) (λ (c : OpenCopy). IsCopyCaused now (copies_in core.descriptor c.lv c.lp) c) (λ c. copy_on s history requests queue core.copy pool core.flying entries core.last (copies_in core.descriptor c.lv c.lp) c) core.copy sound.copy;
-    origin = origin_on s history requests queue core.copy pool core.flying entries core.last sound.origin;
-  }
+  keeps = sound_when_on s now refl refl sound on fitting told keeps_on out
+      (all_set (AreCounted s) (AreCounted now) (counted_still s now refl) core.requests place landed (counted_still s now refl o (all_at (AreCounted s) core.requests place o sound.counted there)) sound.counted)
+      (all_set (IsAnswered s) (IsAnswered now) (answered_still s now refl) core.requests place landed (landed_still s now refl o landed refl how (cause s sound on place o there how lands)) sound.answered) (copies_still s now refl core.copy sound.copy)
+      (origin_still s now refl refl sound.origin)
 
 pub landing_keeps : LandingKeeps
 landing_keeps place how old new sound on event =

@@ -1,9 +1,9 @@
 -- A volume comes to be wanted dirty.
-use Rattle.std.proofs.Common.{◌≡◌, ◌⊎◌, inl, inr, ◌==◌, ◌≤◌, ◌<◌, ◌+◌, ◌^◌, ◌&&◌, ◌||◌, ℕ, Bool, true, false, not, nat_le, filter, find, if◌then◌else◌, List, [], ◌∷◌, Option, Some, None, length, map, refl, sym, ◌∙◌, ap, subst, arith}
-use Rattle.std.specs.Prelude.{IfSome, count_by, is_none, unwrap_or}
-use Rattle.std.specs.List.{list_any, range_with_len, AllByRecursion}
+use Rattle.std.proofs.Common.{◌≡◌, ◌⊎◌, inl, inr, ◌==◌, ◌≤◌, ◌+◌, ◌&&◌, ◌||◌, ℕ, Bool, true, false, not, nat_le, filter, find, if◌then◌else◌, List, [], ◌∷◌, Option, Some, None, length, map, refl, sym, ◌∙◌, ap, arith}
+use Rattle.std.specs.Prelude.{count_by, is_none, unwrap_or}
+use Rattle.std.specs.List.{list_any, range_with_len}
 use Rattle.std.specs.Option.{option_map_or}
-use Rattle.std.proofs.lemmas.Bool.{eq-eqb, eqb-true}
+use Rattle.std.proofs.lemmas.Bool.{eqb-true}
 use Rattle.lvm_num.specs.declared.descriptor.Descriptor.{Descriptor}
 use Rattle.lvm_num.specs.declared.descriptor.LvRow.{LvRow}
 use Rattle.lvm_num.specs.declared.descriptor.Mode.{Mode}
@@ -15,10 +15,8 @@ use Rattle.lvm_num.specs.declared.status.Status.{Status}
 use Rattle.lvm_num.specs.declared.status.StatusRow.{StatusRow}
 use Rattle.lvm_num.specs.Descriptor.{copies_of, is_member, volume_of}
 use Rattle.lvm_num.specs.Disks.{has}
-use Rattle.lvm_num.specs.Status.{calls_dirty, calls_missing, calls_stale}
-use Rattle.lvm_num.specs.Votes.{is_enough_to_write}
-use Rattle.lvm_stale.specs.Table.{SameMembers, SameMissing, SameStale, has_row, is_pp}
-use Rattle.lvm_disk.specs.Device.{Flight}
+use Rattle.lvm_num.specs.Status.{calls_dirty, calls_stale}
+use Rattle.lvm_stale.specs.Table.{SameMissing, SameStale, has_row, is_pp}
 use Rattle.lvm_vol.specs.declared.entry.Outcome.{Outcome}
 use Rattle.lvm_vol.specs.declared.entry.Outcome.TheVariants as outcome
 use Rattle.lvm_path.specs.declared.ask.Ask.{Ask}
@@ -28,33 +26,29 @@ use Rattle.lvm_path.specs.Asks.{lv_of}
 use Rattle.lvm_path.specs.Targets.{is_done, is_failed}
 use Rattle.lvm_status.specs.declared.change.Change.TheVariants as change
 use Rattle.lvm_status.specs.declared.writes.Writes.{Writes}
-use Rattle.lvm_status.specs.Members.{HasItsRows}
 use Rattle.lvm_status.specs.Update.{Stored, Updates, is_held, is_owed, seen}
-use Rattle.lvm_status.specs.Calls.{BecomesDirty, closed, with_wanted}
+use Rattle.lvm_status.specs.Calls.{BecomesDirty, closed}
 use Rattle.lvm_status.specs.Runs.{Want, IsSound as IsSoundStatus}
 use Rattle.lvm_status.proofs.Sound.{steps_stay_sound}
 use Rattle.lvm_session.specs.declared.bringing.CopyEnd.TheVariants as ending
 use Rattle.lvm_session.specs.declared.bringing.OpenCopy.{OpenCopy}
-use Rattle.lvm_session.specs.declared.bringing.Step.{Step}
-use Rattle.lvm_session.specs.declared.bringing.Step.TheVariants as step
-use Rattle.lvm_session.specs.declared.flown.Flown.{Flown}
-use Rattle.lvm_session.specs.declared.flown.Owner.{Owner}
 use Rattle.lvm_session.specs.declared.flown.Owner.TheVariants as owner
 use Rattle.lvm_session.specs.declared.open.Open.{Open}
 use Rattle.lvm_session.specs.declared.open.Power.TheVariants as power
 use Rattle.lvm_session.specs.State.{Core, State, is_there, state}
-use Rattle.lvm_session.specs.Judging.{copies_in, group_in, has_dirty_mark, has_names, is_caught, is_kept, is_missing, is_running, is_settled, is_stale, is_sure, is_usable, is_waiting, is_wanted_stale, pps_of}
-use Rattle.lvm_session.specs.Bringing.{copy_ends, end_by_sources, end_of, ends_if, is_cleared, is_idle, is_whole, next_source, sources_of}
+use Rattle.lvm_session.specs.Judging.{copies_in, group_in, has_dirty_mark, has_names, is_caught, is_kept, is_missing, is_running, is_settled, is_stale, is_sure, is_usable, is_wanted_stale, pps_of}
+use Rattle.lvm_session.specs.Bringing.{copy_ends, end_by_sources, end_of, ends_if, is_cleared, is_idle, is_whole, sources_of}
 use Rattle.lvm_session.specs.Enabled.{same_status}
 use Rattle.lvm_events.specs.Events.{is_passive}
 use Rattle.lvm_events.specs.Marks.{WantsDirty, can_replace, is_among, is_entailed, is_entailed_in, is_left_behind}
 use Rattle.lvm_sound.specs.Left.{clean_volumes, if_so}
-use Rattle.lvm_sound.specs.Owners.{AreOwned, AreRows, IsStepOf, IsTransferOf}
-use Rattle.lvm_sound.specs.Requests.{IsJudged, IsOpenOne, IsReady, IsShaped, IsTarget, is_failed_and_sure, is_left_out, is_wanted_dirty, is_wanted_due, mode_for, will_be_kept}
-use Rattle.lvm_sound.specs.Causes.{AreCaused, AreCounted, HaveSourcesFailed, IsAnswered, IsCaused, IsChosenSince, IsCopyCaused, IsCounted, IsLandedFor, IsTrueToOrigin, fails_on, is_blamed, is_held_stale, is_over, was_fresh}
-use Rattle.lvm_sound.specs.Sound.{IsCopy, IsFitting, IsGoing, IsOn, IsSound, IsTold, count_if, is_dark, may_be_fresh, stays_fresh}
+use Rattle.lvm_sound.specs.Owners.{AreOwned}
+use Rattle.lvm_sound.specs.Requests.{IsOpenOne, IsTarget, is_failed_and_sure, is_left_out, is_wanted_dirty, is_wanted_due, mode_for, will_be_kept}
+use Rattle.lvm_sound.specs.Causes.{AreCaused, AreCounted, HaveSourcesFailed, IsAnswered, IsCaused, IsCopyCaused, IsCounted, IsLandedFor, IsTrueToOrigin, fails_on, is_blamed, is_held_stale, is_over, was_fresh}
+use Rattle.lvm_sound.specs.Sound.{IsCopy, IsFitting, IsGoing, IsOn, IsSound, IsTold, count_if, may_be_fresh, stays_fresh}
 use Rattle.lvm_keeps.proofs.Lists.{all_on, count_cons}
-use Rattle.lvm_keeps.proofs.Small.{both, not_so}
+use Rattle.lvm_keeps.proofs.Rows.{rows_still}
+use Rattle.lvm_keeps.proofs.Small.{not_so}
 use Rattle.lvm_keeps.proofs.Still.{if_on}
 
 -- ---- tests that say the same of each
@@ -346,28 +340,10 @@ module _ (s : State) (sound : IsSound s) (on : s.core.power ≡ power.On) (lv : 
   pub target_caused : (t : Target) → IsCaused s.device core t → IsCaused s.device now.core t
   target_caused t why e = why (sym (ap (λ b. is_failed t.state || (t.usable && b)) (blamed_same t.pp)) ∙ e)
 
-  step_on : (at : Step) (c : OpenCopy) (g : Flight) → IsStepOf at core c g → IsStepOf at now.core c g
-  step_on step.Idle c g of = of
-  step_on (step.Reading source) c g of = record { disk_is = of.disk_is; first = of.first; count = of.count; write_is = of.write_is }
-  step_on (step.Read buf) c g of = of
-  step_on step.Writing c g of = record { disk_is = of.disk_is; first = of.first; count = of.count; write_is = of.write_is }
-
-  transfer_on : (who : Owner) (g : Flight) → IsTransferOf core who g → IsTransferOf now.core who g
-  transfer_on (owner.Data id target) g of = let m = of.moves in record { place = of.place; request = of.request; there = of.there; own = of.own; aim = of.aim; aim_is = of.aim_is; moves = record { disk_is = m.disk_is; first = m.first; count = m.count; write = m.write; carries = m.carries } }
-  transfer_on (owner.Status d) g of = let w = of.writes in record { status = of.status; flies = of.flies; writes = record { disk_is = w.disk_is; first = w.first; count = w.count; write = w.write; carries = w.carries } }
-  transfer_on (owner.Note d) g of = record { note = of.note; flies = of.flies; disk_is = of.disk_is; first = of.first; count = of.count; write = of.write; carries = of.carries }
-  transfer_on owner.Copy g of = (of.0, of.1, step_on of.0.step of.0 g of.2)
-
-  rows_on : (rows : List Flown) (flights : List Flight) → AreRows core rows flights → AreRows now.core rows flights
-  rows_on [] [] all = all
-  rows_on [] (g ∷ flights) all = all
-  rows_on (r ∷ rows) [] all = all
-  rows_on (r ∷ rows) (g ∷ flights) all = let first = all.0 in (record { ticket = first.ticket; long = first.long; disk = first.disk; own = transfer_on r.owner g first.own }, rows_on rows flights all.1)
-
   keeps_on : IsOn now
   keeps_on = let was = sound.on on in record {
     going = keeps_going;
-    rows = rows_on core.flying s.device.flights was.rows;
+    rows = rows_still core now.core refl refl refl going.owned s.device.flights was.rows;
     caused = all_on (AreCaused s.device core) (AreCaused s.device now.core) (λ x all waiting. all_on (IsCaused s.device core) (IsCaused s.device now.core) target_caused x.request.targets.items (all waiting)) core.requests was.caused;
     chosen = was.chosen;
   }

@@ -1,5 +1,5 @@
 -- A partition is a copy of one logical partition.
-use Rattle.std.proofs.Common.{◌≡◌, ◌==◌, ◌<◌, ◌≤◌, ◌+◌, ◌-◌, ◌*◌, ◌/◌, ◌%◌, ℕ, zero, suc, Bool, true, false, ◌&&◌, ◌||◌, List, [], ◌∷◌, Option, Some, None, slice_get, if◌then◌else◌, refl, sym, ◌∙◌, ap, subst, arith}
+use Rattle.std.proofs.Common.{◌≡◌, ◌==◌, ◌<◌, ◌+◌, ◌-◌, ◌*◌, ◌%◌, ℕ, zero, suc, Bool, true, false, ◌&&◌, ◌||◌, List, [], ◌∷◌, Option, Some, None, slice_get, if◌then◌else◌, refl, sym, ◌∙◌, ap, arith}
 use Rattle.std.specs.Prelude.{option_and_then, option_map}
 use Rattle.std.specs.Option.{option_map_or}
 use Rattle.std.proofs.lemmas.Bool.{eqb-true}
@@ -8,7 +8,7 @@ use Rattle.lvm_num.specs.declared.place.Place.{Place}
 use Rattle.lvm_num.specs.declared.descriptor.Descriptor.{Descriptor}
 use Rattle.lvm_num.specs.declared.descriptor.LvRow.{LvRow}
 use Rattle.lvm_num.specs.Descriptor.{IsValid, copies_of, volume_of}
-use Rattle.lvm_num.specs.Geometry.{partition_blocks, partition_of, sector_of}
+use Rattle.lvm_num.specs.Geometry.{partition_blocks, partition_of}
 use Rattle.lvm_map.specs.Places.{copy_at, place_of, place_on}
 use Rattle.lvm_map.proofs.OneToOne.{is_same}
 use Rattle.lvm_map.proofs.Parts.{parts, same_parts}

@@ -1,7 +1,7 @@
 -- How a request lands, by its transfers.
-use Rattle.std.proofs.Common.{◌≡◌, ◌≤◌, ◌+◌, ℕ, Bool, true, false, ◌&&◌, ◌||◌, not, List, [], ◌∷◌, Option, Some, None, refl, sym, ◌∙◌, ap, subst, arith, position, if◌then◌else◌}
-use Rattle.std.specs.Prelude.{count_by, is_some}
-use Rattle.std.specs.List.{list_all, list_any}
+use Rattle.std.proofs.Common.{◌≡◌, ◌≤◌, ◌+◌, ℕ, Bool, true, false, ◌&&◌, ◌||◌, not, List, [], ◌∷◌, Option, Some, None, refl, sym, ◌∙◌, ap, arith, position, if◌then◌else◌}
+use Rattle.std.specs.Prelude.{count_by}
+use Rattle.std.specs.List.{list_any}
 use Rattle.std.specs.Option.{option_map_or}
 use Rattle.lvm_vol.specs.declared.entry.Outcome.{Outcome}
 use Rattle.lvm_vol.specs.declared.entry.Outcome.TheVariants as outcome
@@ -10,21 +10,19 @@ use Rattle.lvm_sched.specs.declared.writes.TargetState.{TargetState}
 use Rattle.lvm_sched.specs.declared.writes.TargetState.TheVariants as stage
 use Rattle.lvm_sched.specs.Writes.{is_flying, is_waiting as is_unstarted, next_target}
 use Rattle.lvm_path.specs.declared.facts.Facts.{Facts}
-use Rattle.lvm_path.specs.declared.facts.Next.{Next}
 use Rattle.lvm_path.specs.declared.facts.Next.TheVariants as next
 use Rattle.lvm_path.specs.declared.request.Phase.{Phase}
 use Rattle.lvm_path.specs.declared.request.Phase.TheVariants as phase
-use Rattle.lvm_path.specs.declared.request.Request.{Request}
 use Rattle.lvm_path.specs.declared.target.Target.{Target}
 use Rattle.lvm_path.specs.Asks.{is_write}
-use Rattle.lvm_path.specs.Targets.{are_over, is_begun, is_done, is_failed, is_over as is_ended, states_of}
-use Rattle.lvm_path.specs.Next.{next_chosen, next_data, next_in, next_read, next_write}
+use Rattle.lvm_path.specs.Targets.{are_over, is_begun, is_done, is_over as is_ended, states_of}
+use Rattle.lvm_path.specs.Next.{next_data, next_in, next_read, next_write}
 use Rattle.lvm_session.specs.declared.open.Open.{Open}
 use Rattle.lvm_sound.specs.Requests.{IsPhase}
 use Rattle.lvm_sound.specs.Sound.{count_if}
 use Rattle.lvm_keeps.proofs.Landing.{Gives, by_admit, by_choice, by_landing, by_pin, by_start, by_test, by_wait}
 use Rattle.lvm_keeps.proofs.Lists.{count_cons}
-use Rattle.lvm_keeps.proofs.Small.{both, not_so}
+use Rattle.lvm_keeps.proofs.Small.{not_so}
 
 -- A read has got its blocks exactly where a transfer of it has succeeded; a write lands in another way. None is out any more.
 pub record IsEnded (o : Open) (how : Outcome) : Type 0 where

@@ -16,8 +16,6 @@ use Rattle.lvm_num.specs.Status.{calls_dirty, calls_stale}
 use Rattle.lvm_stale.specs.Table.{is_pp}
 use Rattle.lvm_disk.specs.Counts.{Counts}
 use Rattle.lvm_disk.specs.Device.{Flight}
-use Rattle.lvm_vol.specs.declared.entry.Outcome.{Outcome}
-use Rattle.lvm_vol.specs.declared.entry.Outcome.TheVariants as outcome
 use Rattle.lvm_vol.specs.Log.{next_id}
 use Rattle.lvm_hold.specs.declared.queue.Row.{Row}
 use Rattle.lvm_hold.specs.Conflicts.{conflicts}
@@ -28,7 +26,6 @@ use Rattle.lvm_path.specs.Targets.{is_done, is_failed}
 use Rattle.lvm_session.specs.declared.bringing.OpenCopy.{OpenCopy}
 use Rattle.lvm_session.specs.declared.bringing.CopyEnd.{CopyEnd}
 use Rattle.lvm_session.specs.declared.bringing.CopyEnd.TheVariants as ending
-use Rattle.lvm_session.specs.declared.flown.Flown.{Flown}
 use Rattle.lvm_session.specs.declared.flown.Owner.{Owner}
 use Rattle.lvm_session.specs.declared.flown.Owner.TheVariants as owner
 use Rattle.lvm_session.specs.declared.open.Open.{Open}
@@ -44,20 +41,24 @@ use Rattle.lvm_events.specs.Dark.{hand_of_copy}
 use Rattle.lvm_events.specs.Events.{is_passive}
 use Rattle.lvm_events.specs.Marks.{is_among}
 use Rattle.lvm_sound.specs.Asking.{IsAwake}
-use Rattle.lvm_sound.specs.Causes.{AreCaused, AreCounted, IsAnswered, IsCaused, IsChosenSince, IsCopyCaused, IsCounted, IsLandedFor, fails_on, faults_at_first, faults_at_opening, is_held_stale, is_over}
+use Rattle.lvm_sound.specs.Causes.{AreCaused, AreCounted, IsAnswered, IsCaused, IsChosenSince, IsCopyCaused, IsLandedFor, fails_on, faults_at_first, faults_at_opening, is_held_stale}
 use Rattle.lvm_sound.specs.Left.{copy_updates, if_so, marks_later, updates_left}
-use Rattle.lvm_sound.specs.Owners.{AreOwned, AreRows, IsTransferOf, target_flies}
+use Rattle.lvm_sound.specs.Owners.{AreOwned, IsTransferOf, flies, target_flies}
 use Rattle.lvm_sound.specs.Requests.{IsOpenOne, IsPhase, IsRequest, is_failed_and_sure, is_left_out, may_lack, will_be_kept}
-use Rattle.lvm_sound.specs.Sound.{IsAsked, IsCopy, IsFitting, IsGoing, IsOn, IsSound, IsTold, count_if, is_hand, out_with, pins, rows_of, waiting_rows, with_row}
+use Rattle.lvm_sound.specs.Sound.{IsAsked, IsCopy, IsFitting, IsGoing, IsOn, IsSound, IsTold, count_if, is_dark, is_hand, out_with, pins, rows_of, waiting_rows, with_row}
 use Rattle.lvm_submit.proofs.Numbered.{below_next}
 use Rattle.lvm_copy_open.specs.Opening.{counts_seen, faults_seen}
 use Rattle.lvm_copy_open.proofs.Finding.{IsTaken, copies_are, taken}
 use Rattle.lvm_copy_open.proofs.Tables.{queue_before, rows_are}
 use Rattle.lvm_copies.proofs.Members.{few_copies}
 use Rattle.lvm_keeps.specs.Keeps.{OpenKeeps}
+use Rattle.lvm_keeps.proofs.Causes.{counted_still, landed_still, origin_still}
+use Rattle.lvm_keeps.proofs.Fitting.{still_fits}
 use Rattle.lvm_keeps.proofs.Lists.{all_mapped, all_on}
+use Rattle.lvm_keeps.proofs.Rows.{all_fly, rows_by, status_still}
 use Rattle.lvm_keeps.proofs.Small.{and_on, most_on, none_on, not_so}
-use Rattle.lvm_keeps.proofs.Still.{counted_on, if_on, laid_on, moved, origin_on, ready_on, shape_on}
+use Rattle.lvm_keeps.proofs.Still.{if_on, laid_on, moved, ready_on, shape_on}
+use Rattle.lvm_keeps.proofs.Whole.{sound_when_on}
 use Rattle.lvm_keeps_open.specs.Opening.{SeenOpenKeeps}
 use Rattle.lvm_keeps_open.proofs.Aging.{all_both, any_aged, asked_aged, count_aged, get_aged, long_aged, row_last, rows_aged, told_aged}
 
@@ -182,21 +183,7 @@ module _ (s : State) (sound : IsSound s) (on : s.core.power ≡ power.On) (none 
   below = below_next core.history core.requests sound.told.ordered sound.told.requests
 
   fitting : IsFitting now.core
-  fitting = let f = sound.fitting in record {
-    valid = f.valid;
-    id = f.id;
-    rows = f.rows;
-    group = f.group;
-    entries = f.entries;
-    notes = f.notes;
-    table = subst (λ n. n ≤ core.most) (sym (long_aged core.requests)) f.table;
-    most = f.most;
-    queue = f.queue;
-    a_buffer = f.a_buffer;
-    buffers = f.buffers;
-    last = f.last;
-    room = f.room;
-  }
+  fitting = let f = sound.fitting in still_fits core now.core f refl f.entries (λ disk. refl) (subst (λ n. n ≤ core.most) (sym (long_aged core.requests)) f.table) refl f.room
 
   told : IsTold now.core
   told = let t = sound.told in record {
@@ -325,15 +312,9 @@ module _ (s : State) (sound : IsSound s) (on : s.core.power ≡ power.On) (none 
     aim_is = of.aim_is;
     moves = record { disk_is = m.disk_is; first = m.first; count = m.count; write = m.write; carries = m.carries };
   }
-  transfer_on (owner.Status disk) f of = let w = of.writes in record { status = of.status; flies = of.flies; writes = record { disk_is = w.disk_is; first = w.first; count = w.count; write = w.write; carries = w.carries } }
+  transfer_on (owner.Status disk) f of = status_still core now.core refl disk f of
   transfer_on (owner.Note disk) f of = record { note = of.note; flies = of.flies; disk_is = of.disk_is; first = of.first; count = of.count; write = of.write; carries = of.carries }
   transfer_on owner.Copy f of = absurd (let gone : None ≡ Some of.0 = sym none ∙ of.1 in cc gone)
-
-  rows_on : (rows : List Flown) (flights : List Flight) → AreRows core rows flights → AreRows now.core rows flights
-  rows_on [] [] all = all
-  rows_on [] (f ∷ flights) all = all
-  rows_on (r ∷ rows) [] all = all
-  rows_on (r ∷ rows) (f ∷ flights) all = let first = all.0 in (record { ticket = first.ticket; long = first.long; disk = first.disk; own = transfer_on r.owner f first.own }, rows_on rows flights all.1)
 
   -- ---- its place, and that it goes on
 
@@ -428,7 +409,7 @@ module _ (s : State) (sound : IsSound s) (on : s.core.power ≡ power.On) (none 
   keeps_on : IsOn now
   keeps_on = let was = sound.on on in record {
     going = keeps_going;
-    rows = rows_on core.flying s.device.flights was.rows;
+    rows = rows_by core now.core (λ who. flies core who ≡ true) (λ who f is of. transfer_on who f of) core.flying s.device.flights (all_fly core going.owned) was.rows;
     caused = all_mapped (AreCaused s.device core) (AreCaused s.device now.core) aged (λ x all waiting. all_on (IsCaused s.device core) (IsCaused s.device now.core) blamed_same x.request.targets.items (all waiting)) core.requests was.caused;
     chosen = all_aged core.requests;
   }
@@ -437,15 +418,6 @@ module _ (s : State) (sound : IsSound s) (on : s.core.power ≡ power.On) (none 
 
   out : (n : ℕ) → out_with s.device now.core n ≡ out_with s.device core n
   out n = let before = no_hand n in let same = hands_same n in omega (arith, before, same)
-
-  landed_on : (o : Open) (how : Outcome) → IsLandedFor s o how → IsLandedFor now (aged o) how
-  landed_on o outcome.Done why = why
-  landed_on o outcome.Got why = why
-  landed_on o outcome.Lost why = why
-  landed_on o outcome.ReadFailed why = why
-  landed_on o outcome.NoFresh why = why
-  landed_on o outcome.Off why = why
-  landed_on o outcome.Dark why = why
 
   at_opening : (n : ℕ) (p : Pp) → copy_at (copies_in core.descriptor lv lp) n ≡ Some p → faults_at_opening c n ≡ counts.faults p.disk
   at_opening n p is = counted_at counts (copies_of row lp) (n - 1) p few (at_place (copies_of row lp) n p (ap (λ ps. copy_at ps n) (sym copies) ∙ is))
@@ -459,24 +431,8 @@ module _ (s : State) (sound : IsSound s) (on : s.core.power ≡ power.On) (none 
   }
 
   pub keeps : IsSound now
-  keeps = record {
-    fitting = fitting;
-    told = told;
-    placed = sound.placed;
-    buffers = λ n. let same = out n in let was = sound.buffers n in omega (arith, same, was);
-    none_lost = λ lit n. out n ∙ sound.none_lost lit n;
-    on = λ e. keeps_on;
-    lit = sound.lit;
-    dark = sound.dark;
-    off = sound.off;
-    over = λ e. not_so (sym (ap is_over on) ∙ e);
-    stuck = λ e. absurd (let other : power.On ≡ power.Stuck = sym on ∙ e in cc other);
-    counted = all_mapped (AreCounted s) (AreCounted now) aged
-        (λ x all. all_on (IsCounted s) (IsCounted now) (counted_on s core.history table now.core.queue (Some c) core.pool core.flying core.cache.entries core.last) x.request.targets.items all) core.requests sound.counted;
-    answered = all_mapped (IsAnswered s) (IsAnswered now) aged (λ x why. if_on (IsLandedFor s x) (IsLandedFor now (aged x)) (landed_on x) x.landed why) core.requests sound.answered;
-    copy = caused;
-    origin = origin_on s core.history table now.core.queue (Some c) core.pool core.flying core.cache.entries core.last sound.origin;
-  }
+  keeps = sound_when_on s now refl refl sound on fitting told keeps_on (λ n. out n ∙ sound.none_lost (ap is_dark on) n) (all_mapped (AreCounted s) (AreCounted now) aged (counted_still s now refl) core.requests sound.counted)
+      (all_mapped (IsAnswered s) (IsAnswered now) aged (λ x why. if_on (IsLandedFor s x) (IsLandedFor now (aged x)) (landed_still s now refl x (aged x) refl) x.landed why) core.requests sound.answered) caused (origin_still s now refl refl sound.origin)
 
 -- ---- or refused
 

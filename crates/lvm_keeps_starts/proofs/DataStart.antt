@@ -1,7 +1,7 @@
 -- The transfer of a target is started.
-use Rattle.std.proofs.Common.{◌≡◌, ◌⊎◌, inl, inr, ◌==◌, ◌≤◌, ◌<◌, ◌+◌, ◌^◌, ℕ, Bool, true, false, ◌&&◌, ◌||◌, not, if◌then◌else◌, List, [], ◌∷◌, ◌++◌, Option, Some, length, slice_get, slice_set, refl, sym, ◌∙◌, ap, subst, arith}
+use Rattle.std.proofs.Common.{◌≡◌, ◌⊎◌, inl, inr, ◌==◌, ◌≤◌, ◌<◌, ◌+◌, ℕ, Bool, true, false, ◌&&◌, ◌||◌, not, if◌then◌else◌, List, [], ◌∷◌, ◌++◌, Option, Some, length, slice_get, slice_set, refl, sym, ◌∙◌, ap, subst, arith}
 use Rattle.std.specs.Prelude.{AllPairs, count_by, slice_index_or}
-use Rattle.std.specs.List.{list_all, list_any, AllByRecursion}
+use Rattle.std.specs.List.{list_any, AllByRecursion}
 use Rattle.std.specs.Option.{option_map_or}
 use Rattle.std.proofs.lemmas.Bool.{eq-eqb, eqb-true, eqb-false, ne_eqb}
 use Rattle.lvm_num.specs.declared.place.Pp.{Pp}
@@ -23,32 +23,33 @@ use Rattle.lvm_path.specs.Asks.{is_write, lv_of}
 use Rattle.lvm_path.specs.Targets.{are_over, is_begun, is_done, is_failed, is_over as is_ended}
 use Rattle.lvm_session.specs.declared.bringing.OpenCopy.{OpenCopy}
 use Rattle.lvm_session.specs.declared.flown.Flown.{Flown}
-use Rattle.lvm_session.specs.declared.flown.Owner.{Owner}
 use Rattle.lvm_session.specs.declared.flown.Owner.TheVariants as owner
 use Rattle.lvm_session.specs.declared.open.Open.{Open}
 use Rattle.lvm_session.specs.declared.open.Power.TheVariants as power
 use Rattle.lvm_session.specs.State.{Core, State, state}
-use Rattle.lvm_session.specs.Judging.{copies_for, copies_in, facts_of, group_in, group_of, has_dirty_mark, has_names, is_caught, is_missing, is_waiting, is_wanted_stale, mode_of, pps_of}
+use Rattle.lvm_session.specs.Judging.{copies_for, facts_of, group_in, group_of, has_dirty_mark, has_names, is_caught, is_missing, is_waiting, is_wanted_stale, mode_of, pps_of}
 use Rattle.lvm_session.specs.Bringing.{has_row, step_row}
-use Rattle.lvm_session.specs.Enabled.{target_due, wants_record}
+use Rattle.lvm_session.specs.Enabled.{target_due}
 use Rattle.lvm_events.specs.Events.{IsDataTransfer, begun_as, flown}
 use Rattle.lvm_events.specs.Marks.{is_among}
 use Rattle.lvm_sound.specs.Left.{marks_later}
 use Rattle.lvm_sound.specs.Owners.{AreOwned, IsDataOf, flies, same_owner, target_flies}
-use Rattle.lvm_sound.specs.Requests.{IsJudged, IsOpenOne, IsPhase, IsPinned, IsReady, IsRecorded, IsRequest, IsShaped, IsTarget, has_record, is_left_out, is_past_held, may_lack, mode_for, wants_entry}
-use Rattle.lvm_sound.specs.Causes.{AreCaused, AreCounted, HasFailed, IsAnswered, IsCaused, IsChosenSince, IsCopyCaused, IsCounted, IsLandedFor, fails_on, faults_at_opening, is_held_stale, is_over}
+use Rattle.lvm_sound.specs.Requests.{IsJudged, IsOpenOne, IsPhase, IsPinned, IsReady, IsRecorded, IsRequest, IsShaped, IsTarget, has_record, is_left_out, is_past_held, may_lack, mode_for}
+use Rattle.lvm_sound.specs.Causes.{AreCaused, AreCounted, IsAnswered, IsCaused, IsChosenSince, IsCounted, IsLandedFor, fails_on, faults_at_opening, is_held_stale}
 use Rattle.lvm_sound.specs.Sound.{IsAsked, IsCopy, IsGoing, IsOn, IsSound, IsTold, count_if, has_number, is_dark, is_hand, out_with, pins, with_row}
 use Rattle.lvm_keeps.specs.Keeps.{DataStartKeeps}
-use Rattle.lvm_keeps.proofs.Launching.{flights_push, owners_push, rows_push, taken, tickets_push}
+use Rattle.lvm_keeps.proofs.Causes.{answered_still, copies_still, counted_still, origin_still}
+use Rattle.lvm_keeps.proofs.Launching.{flights_push, none_more, owners_push, rows_push, taken, tickets_push}
 use Rattle.lvm_keeps.proofs.Lists.{all_at, all_on, all_set, any_set, count_same, count_set, length_set, set_here, set_beside}
 use Rattle.lvm_keeps.proofs.Rows.{all_fly, rows_on}
 use Rattle.lvm_keeps.proofs.Small.{not_so}
 use Rattle.lvm_keeps.proofs.Starting.{first_start_is_whole}
 use Rattle.lvm_keeps.proofs.Still.{bring_on, if_on, no_cause, open_on}
 use Rattle.lvm_keeps.proofs.Tables.{apart, ascending_set, rows_set}
+use Rattle.lvm_keeps.proofs.Whole.{sound_when_on}
 use Rattle.lvm_keeps_starts.proofs.Aims.{all_true_set, any_here, at_state, count_none, neither, not_all_set, only_at, pp_at, pps_set, set_state, within}
 use Rattle.lvm_keeps_starts.proofs.Dues.{StartsAt, starts_at}
-use Rattle.lvm_keeps_starts.proofs.Frame.{after, copy_on, counted_on, fitting_on, landed_on, launched, none_more, origin_on}
+use Rattle.lvm_keeps_starts.proofs.Frame.{after, fitting_on, launched}
 
 pub unstarted : (state : TargetState) → is_unstarted state ≡ true → state ≡ stage.Waiting
 unstarted stage.Waiting e = refl
@@ -441,35 +442,16 @@ module _ (s : State) (sound : IsSound s) (on : s.core.power ≡ power.On) (place
       let one_more = flights_push (λ (g : Flight). has_number n g.buf) f s.device.flights in
       omega (arith, was, same, more, one_more)
 
-  counted : (x : Open) → AreCounted s x → AreCounted now x
-  counted x all = all_on (IsCounted s) (IsCounted now) (counted_on s f starts wrote requests core.copy pool (core.flying ++ row ∷ [])) x.request.targets.items all
-
   its_counted : AreCounted s o → AreCounted now begun
-  its_counted all = all_set (IsCounted s) (IsCounted now) (counted_on s f starts wrote requests core.copy pool (core.flying ++ row ∷ [])) targets target flying
-      (let i = all_at (IsCounted s) targets target aim all aim_is in record { began = i.began; since = i.since }) all
-
-  answered : (x : Open) → IsAnswered s x → IsAnswered now x
-  answered x why = if_on (IsLandedFor s x) (IsLandedFor now x) (landed_on s f starts wrote requests core.copy pool (core.flying ++ row ∷ []) x) x.landed why
+  its_counted all = all_set (IsCounted now) (IsCounted now) (λ t count. count) targets target flying (let i = all_at (IsCounted now) targets target aim still aim_is in record { began = i.began; since = i.since }) still
+    where
+      still : AllByRecursion (IsCounted now) targets
+      still = counted_still s now refl o all
 
   pub keeps : IsSound now
-  keeps = record {
-    fitting = keeps_going.fitting;
-    told = told;
-    placed = sound.placed;
-    buffers = λ n. let same = out n in omega (arith, same);
-    none_lost = λ lit n. out n;
-    on = λ e. keeps_on;
-    lit = λ lit. let was = sound.lit lit in record { power = was.power; freed = was.freed };
-    dark = λ e. not_so (sym (ap is_dark on) ∙ e);
-    off = sound.off;
-    over = λ e. not_so (sym (ap is_over on) ∙ e);
-    stuck = λ e. absurd (let none : power.On ≡ power.Stuck = sym on ∙ e in cc);
-    counted = all_set (AreCounted s) (AreCounted now) counted core.requests place begun (its_counted (all_at (AreCounted s) core.requests place o sound.counted there)) sound.counted;
-    answered = all_set (IsAnswered s) (IsAnswered now) answered core.requests place begun (no_cause (IsLandedFor now begun) o.landed waits) sound.answered;
-    copy = if_on (λ (c : OpenCopy). IsCopyCaused s (copies_in core.descriptor c.lv c.lp) c) (λ (c : OpenCopy). IsCopyCaused now (copies_in core.descriptor c.lv c.lp) c)
-        (λ c. copy_on s f starts wrote requests core.copy pool (core.flying ++ row ∷ []) (copies_in core.descriptor c.lv c.lp) c c refl) core.copy sound.copy;
-    origin = origin_on s f starts wrote requests core.copy pool (core.flying ++ row ∷ []) sound.origin;
-  }
+  keeps = sound_when_on s now refl refl sound on keeps_going.fitting told keeps_on out
+      (all_set (AreCounted s) (AreCounted now) (counted_still s now refl) core.requests place begun (its_counted (all_at (AreCounted s) core.requests place o sound.counted there)) sound.counted)
+      (all_set (IsAnswered s) (IsAnswered now) (answered_still s now refl) core.requests place begun (no_cause (IsLandedFor now begun) o.landed waits) sound.answered) (copies_still s now refl core.copy sound.copy) (origin_still s now refl refl sound.origin)
 
 pub data_start_keeps : DataStartKeeps
 data_start_keeps place target old new sound on event =

@@ -1,7 +1,7 @@
 -- A write of the status is started.
-use Rattle.std.proofs.Common.{◌≡◌, ◌≤◌, ◌<◌, ◌+◌, ◌^◌, ◌⊎◌, inl, inr, ◌==◌, ◌&&◌, ◌||◌, ℕ, Bool, true, false, not, if◌then◌else◌, List, [], ◌∷◌, ◌++◌, Option, Some, None, length, slice_get, slice_set, refl, sym, ◌∙◌, ap, subst, arith}
-use Rattle.std.specs.Prelude.{IfSome, bytes_eq, count_by, is_none, slice_index_or, unwrap_or}
-use Rattle.std.specs.List.{list_any, AllByRecursion}
+use Rattle.std.proofs.Common.{◌≡◌, ◌<◌, ◌+◌, ◌^◌, ◌⊎◌, inl, inr, ◌==◌, ◌&&◌, ◌||◌, ℕ, Bool, true, false, not, if◌then◌else◌, List, [], ◌∷◌, ◌++◌, Option, Some, None, length, slice_get, slice_set, refl, sym, ◌∙◌, ap, subst, arith}
+use Rattle.std.specs.Prelude.{bytes_eq, count_by, is_none, slice_index_or, unwrap_or}
+use Rattle.std.specs.List.{list_any}
 use Rattle.std.specs.Option.{option_map_or}
 use Rattle.std.proofs.lemmas.Bool.{eq-eqb, eqb-true}
 use Rattle.std.proofs.lemmas.Slice.Eq.{bytes_eq-Decides}
@@ -21,27 +21,21 @@ use Rattle.lvm_num.specs.Record.{frame, slot_start}
 use Rattle.lvm_write.specs.Homes.{next_slot}
 use Rattle.lvm_num.specs.Status.{calls_dirty, calls_stale}
 use Rattle.lvm_num.specs.StatusBytes.{status_bytes}
-use Rattle.lvm_stale.specs.Table.{is_pp}
 use Rattle.lvm_disk.specs.Device.{Device, Flight, Range}
 use Rattle.lvm_disk.specs.Steps.{IsFresh, Starts}
-use Rattle.lvm_vol.specs.declared.entry.Outcome.{Outcome}
-use Rattle.lvm_vol.specs.declared.entry.Outcome.TheVariants as outcome
-use Rattle.lvm_mwc.specs.Entries.{note_of}
 use Rattle.lvm_path.specs.declared.request.Phase.{Phase}
 use Rattle.lvm_path.specs.declared.request.Phase.TheVariants as phase
 use Rattle.lvm_path.specs.declared.request.Request.{Request}
-use Rattle.lvm_path.specs.declared.target.Target.{Target}
 use Rattle.lvm_path.specs.declared.ask.Ask.{Ask}
 use Rattle.lvm_path.specs.Asks.{lv_of}
 use Rattle.lvm_path.specs.Targets.{is_failed}
 use Rattle.lvm_status.specs.declared.writes.Writes.{Writes}
-use Rattle.lvm_status.specs.Update.{IsLowest, MayStart, Stored, Updates, members_there, seen}
+use Rattle.lvm_status.specs.Update.{IsLowest, Stored, Updates, members_there, seen}
 use Rattle.lvm_status.specs.Calls.{with_update, with_start as with_write_start}
 use Rattle.lvm_status.specs.Runs.{NextWrite, Start, IsSound as IsSoundStatus}
 use Rattle.lvm_status.proofs.Sound.{steps_stay_sound}
 use Rattle.lvm_session.specs.declared.bringing.CopyEnd.TheVariants as ending
 use Rattle.lvm_session.specs.declared.bringing.OpenCopy.{OpenCopy}
-use Rattle.lvm_session.specs.declared.bringing.Step.{Step}
 use Rattle.lvm_session.specs.declared.bringing.Step.TheVariants as step
 use Rattle.lvm_session.specs.declared.flown.Flown.{Flown}
 use Rattle.lvm_session.specs.declared.flown.Owner.{Owner}
@@ -49,23 +43,26 @@ use Rattle.lvm_session.specs.declared.flown.Owner.TheVariants as owner
 use Rattle.lvm_session.specs.declared.open.Open.{Open}
 use Rattle.lvm_session.specs.declared.open.Power.TheVariants as power
 use Rattle.lvm_session.specs.State.{Core, State, state}
-use Rattle.lvm_session.specs.Judging.{copies_in, group_in, has_dirty_mark, has_names, is_caught, is_missing, is_running, is_settled, is_stale, is_usable, is_waiting, is_wanted_stale, pps_of}
-use Rattle.lvm_session.specs.Bringing.{copy_ends, end_by_sources, end_of, ends_if, is_cleared, is_whole}
+use Rattle.lvm_session.specs.Judging.{copies_in, group_in, has_dirty_mark, has_names, is_caught, is_missing, is_running, is_settled, is_stale, is_wanted_stale, pps_of}
+use Rattle.lvm_session.specs.Bringing.{copy_ends, end_by_sources, end_of, ends_if, is_whole}
 use Rattle.lvm_session.specs.Enabled.{is_status_due, same_row, same_rows, same_status}
-use Rattle.lvm_events.specs.Events.{Begins, IsStatusWrite, StartsStatus, flown}
+use Rattle.lvm_events.specs.Events.{Begins, IsStatusWrite, flown}
 use Rattle.lvm_events.specs.Marks.{is_among}
 use Rattle.lvm_sound.specs.Left.{if_so, updates_left}
-use Rattle.lvm_sound.specs.Owners.{AreOwned, AreRows, IsStatusOf, IsStepOf, IsTransferOf, flies, same_owner}
-use Rattle.lvm_sound.specs.Requests.{IsJudged, IsOpenOne, IsReady, IsShaped, IsTarget, has_record, is_left_out, is_past_held, is_wanted_dirty, mode_for}
-use Rattle.lvm_sound.specs.Causes.{AreCaused, AreCounted, HasFailed, HaveSourcesFailed, IsAnswered, IsCaused, IsCopyCaused, IsCounted, IsLandedFor, IsTrueToOrigin, fails_on, is_blamed, is_held_stale, is_over, was_fresh}
-use Rattle.lvm_sound.specs.Sound.{IsCopy, IsFitting, IsGoing, IsOn, IsSound, IsTold, count_if, has_number, is_clearing, is_dark, may_be_fresh, out_with, stays_fresh}
+use Rattle.lvm_sound.specs.Owners.{AreOwned, IsStatusOf, IsTransferOf, flies, same_owner}
+use Rattle.lvm_sound.specs.Requests.{IsJudged, IsOpenOne, IsReady, IsShaped, IsTarget, has_record, is_past_held, is_wanted_dirty, mode_for}
+use Rattle.lvm_sound.specs.Causes.{AreCaused, IsCaused, IsTrueToOrigin, fails_on, is_blamed, is_held_stale, was_fresh}
+use Rattle.lvm_sound.specs.Sound.{IsCopy, IsFitting, IsGoing, IsOn, IsSound, IsTold, count_if, has_number, is_dark, may_be_fresh, out_with, stays_fresh}
 use Rattle.lvm_keeps.specs.Keeps.{StatusStartKeeps}
-use Rattle.lvm_keeps.proofs.Launching.{flights_push, owners_push, rows_push, taken, tickets_push}
+use Rattle.lvm_keeps.proofs.Causes.{copies_still}
+use Rattle.lvm_keeps.proofs.Fitting.{still_fits}
+use Rattle.lvm_keeps.proofs.Launching.{flights_push, none_more, owners_push, rows_push, taken, tickets_push}
 use Rattle.lvm_keeps.proofs.Lists.{all_on, length_set}
-use Rattle.lvm_keeps.proofs.Rows.{all_fly}
+use Rattle.lvm_keeps.proofs.Rows.{all_fly, data_still, rows_by, step_still}
 use Rattle.lvm_keeps.proofs.Small.{both, not_so}
 use Rattle.lvm_keeps.proofs.Still.{if_on}
-use Rattle.lvm_keeps_starts.proofs.Frame.{launched, none_more}
+use Rattle.lvm_keeps.proofs.Whole.{sound_still, told_still}
+use Rattle.lvm_keeps_starts.proofs.Frame.{launched}
 
 -- ---- a status says the same as itself
 
@@ -253,27 +250,10 @@ module _ (s : State) (sound : IsSound s) (on : s.core.power ≡ power.On) (disk 
   -- ---- the rest
 
   fitting : IsFitting now.core
-  fitting = let f = sound.fitting in record {
-    valid = f.valid;
-    id = f.id;
-    rows = f.rows;
-    group = f.group;
-    entries = f.entries;
-    notes = f.notes;
-    table = f.table;
-    most = f.most;
-    queue = f.queue;
-    a_buffer = subst (λ n. 1 ≤ n) (sym same_long) f.a_buffer;
-    buffers = subst (λ n. n ≤ 1024) (sym same_long) f.buffers;
-    last = f.last;
-    room = f.room;
-  }
-    where
-      same_long : length pool ≡ length core.pool
-      same_long = length_set core.pool f.buf.number true
+  fitting = let was_fit = sound.fitting in still_fits core now.core was_fit refl was_fit.entries (λ d. refl) was_fit.table (length_set core.pool f.buf.number true) was_fit.room
 
   told : IsTold now.core
-  told = let t = sound.told in record { ordered = t.ordered; table = t.table; each = t.each; requests = t.requests }
+  told = told_still core now.core refl sound.told
 
   bring : (c : OpenCopy) → IsCopy core c → IsCopy now.core c
   bring c k = record {
@@ -328,12 +308,6 @@ module _ (s : State) (sound : IsSound s) (on : s.core.power ≡ power.On) (disk 
       by (inl flew) = ap (λ (x : Stamp). x.epoch) flew.1
       by (inr new) = ap (λ (x : Stamp). x.epoch) new.2
 
-  step_on : (at : Step) (c : OpenCopy) (g : Flight) → IsStepOf at core c g → IsStepOf at now.core c g
-  step_on step.Idle c g of = of
-  step_on (step.Reading source) c g of = record { disk_is = of.disk_is; first = of.first; count = of.count; write_is = of.write_is }
-  step_on (step.Read buf) c g of = of
-  step_on step.Writing c g of = record { disk_is = of.disk_is; first = of.first; count = of.count; write_is = of.write_is }
-
   status_on : (d : ℕ) (g : Flight) → has core.status.writes.started d ≡ true → IsStatusOf core d g → IsStatusOf now.core d g
   status_on d g fly of = by was
     where
@@ -355,16 +329,10 @@ module _ (s : State) (sound : IsSound s) (on : s.core.power ≡ power.On) (disk 
       by (inr new) = not_so (sym (going.status.idle new.0 d).1 ∙ fly)
 
   transfer_on : (who : Owner) (g : Flight) → flies core who ≡ true → IsTransferOf core who g → IsTransferOf now.core who g
-  transfer_on (owner.Data id target) g fly of = let m = of.moves in record { place = of.place; request = of.request; there = of.there; own = of.own; aim = of.aim; aim_is = of.aim_is; moves = record { disk_is = m.disk_is; first = m.first; count = m.count; write = m.write; carries = m.carries } }
+  transfer_on (owner.Data id target) g fly of = data_still core now.core refl id target g of
   transfer_on (owner.Status d) g fly of = status_on d g fly of
   transfer_on (owner.Note d) g fly of = record { note = of.note; flies = of.flies; disk_is = of.disk_is; first = of.first; count = of.count; write = of.write; carries = of.carries ∙ ap (λ e. Some (note_bytes (record { stamp = e; entries = of.note.items }))) (sym same_epoch) }
-  transfer_on owner.Copy g fly of = (of.0, of.1, step_on of.0.step of.0 g of.2)
-
-  rows_on : (rows : List Flown) (flights : List Flight) → AllByRecursion (λ (r : Flown). flies core r.owner ≡ true) rows → AreRows core rows flights → AreRows now.core rows flights
-  rows_on [] [] fly all = all
-  rows_on [] (g ∷ flights) fly all = all
-  rows_on (r ∷ rows) [] fly all = all
-  rows_on (r ∷ rows) (g ∷ flights) fly all = let first = all.0 in (record { ticket = first.ticket; long = first.long; disk = first.disk; own = transfer_on r.owner g fly.0 first.own }, rows_on rows flights fly.1 all.1)
+  transfer_on owner.Copy g fly of = (of.0, of.1, step_still core now.core refl of.0.step of.0 g of.2)
 
   -- ---- the copy and its end, and the numbers
 
@@ -445,7 +413,7 @@ module _ (s : State) (sound : IsSound s) (on : s.core.power ≡ power.On) (disk 
   keeps_on : (first : IsStatusOf now.core disk f) → IsOn now
   keeps_on its = let old = sound.on on in record {
     going = keeps_going;
-    rows = rows_push now.core row f (record { ticket = refl; long = long; disk = refl; own = its }) core.flying s.device.flights (rows_on core.flying s.device.flights (all_fly core going.owned) old.rows);
+    rows = rows_push now.core row f (record { ticket = refl; long = long; disk = refl; own = its }) core.flying s.device.flights (rows_by core now.core (λ who. flies core who ≡ true) transfer_on core.flying s.device.flights (all_fly core going.owned) old.rows);
     caused = all_on (AreCaused s.device core) (AreCaused device now.core) (λ x all waiting. all_on (IsCaused s.device core) (IsCaused device now.core) (λ t why e. why (ap (λ b. is_failed t.state || (t.usable && b)) (blamed t.pp) ∙ e)) x.request.targets.items (all waiting)) core.requests old.caused;
     chosen = old.chosen;
   }
@@ -459,43 +427,11 @@ module _ (s : State) (sound : IsSound s) (on : s.core.power ≡ power.On) (disk 
       let one_more = flights_push (λ (g : Flight). has_number n g.buf) f s.device.flights in
       omega (arith, all, more, one_more)
 
-  landed_on : (o : Open) (how : Outcome) → IsLandedFor s o how → IsLandedFor now o how
-  landed_on o outcome.Done why = why
-  landed_on o outcome.Got why = why
-  landed_on o outcome.Lost why = why
-  landed_on o outcome.ReadFailed why = why
-  landed_on o outcome.NoFresh why = why
-  landed_on o outcome.Off why = why
-  landed_on o outcome.Dark why = why
-
-  copy_caused : (c : OpenCopy) → IsCopyCaused s (copies_in core.descriptor c.lv c.lp) c → IsCopyCaused now (copies_in core.descriptor c.lv c.lp) c
-  copy_caused c its = record { began = its.began; since = its.since; tried = its.tried; failed = λ e. sources_on (its.failed e) }
-    where
-      sources_on : {own : Type 0} → own ⊎ HaveSourcesFailed s (copies_in core.descriptor c.lv c.lp) c → own ⊎ HaveSourcesFailed now (copies_in core.descriptor c.lv c.lp) c
-      sources_on (inl own) = inl own
-      sources_on (inr all) = inr (record { each = all.each; number = all.number; source = all.source; source_is = all.source_is; other = all.other; one = all.one })
-
   origin : IsTrueToOrigin now
   origin = let old = sound.origin in record { since = old.since; votes = old.votes; still_missing = old.still_missing; missing = old.missing; stale = λ p e. old.stale p (held_on p ∙ e) }
 
   pub keeps : IsStatusOf now.core disk f → IsSound now
-  keeps its = record {
-    fitting = fitting;
-    told = told;
-    placed = sound.placed;
-    buffers = λ n. let same = out n in omega (arith, same);
-    none_lost = λ lit n. out n;
-    on = λ e. keeps_on its;
-    lit = λ lit. let old = sound.lit lit in record { power = old.power; freed = old.freed };
-    dark = λ e. not_so (sym (ap is_dark on) ∙ e);
-    off = sound.off;
-    over = λ e. not_so (sym (ap is_over on) ∙ e);
-    stuck = λ e. absurd (let no : power.On ≡ power.Stuck = sym on ∙ e in cc);
-    counted = all_on (AreCounted s) (AreCounted now) (λ x all. all_on (IsCounted s) (IsCounted now) (λ t count. record { began = count.began; since = count.since }) x.request.targets.items all) core.requests sound.counted;
-    answered = all_on (IsAnswered s) (IsAnswered now) (λ x why. if_on (IsLandedFor s x) (IsLandedFor now x) (landed_on x) x.landed why) core.requests sound.answered;
-    copy = if_on (λ (c : OpenCopy). IsCopyCaused s (copies_in core.descriptor c.lv c.lp) c) (λ (c : OpenCopy). IsCopyCaused now (copies_in core.descriptor c.lv c.lp) c) copy_caused core.copy sound.copy;
-    origin = origin;
-  }
+  keeps its = sound_still s now refl refl sound on refl fitting told (keeps_on its) out (copies_still s now refl core.copy sound.copy) origin
 
 -- ---- the update that is in flight
 

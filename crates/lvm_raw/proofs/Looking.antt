@@ -22,8 +22,9 @@ use Rattle.lvm_raw.specs.declared.fault.RawFault.{RawFault}
 use Rattle.lvm_raw.specs.declared.fault.RawFault.TheVariants as fault
 use Rattle.lvm_vol.specs.Legal.{IsLater}
 use Rattle.lvm_steps.proofs.Spans.{later_append}
-use Rattle.lvm_raw.proofs.Logs.{cut_lands}
-use Rattle.lvm_raw.specs.Keeping.{HaveLanded, NoneComesOn, KeepsArrangements, KeepsOlder, AnswerHasCause, IsUnstuck, RangeKeeps}
+use Rattle.lvm_piece.proofs.Logs.{cut_lands}
+use Rattle.lvm_piece.specs.Keeping.{HaveLanded, NoneComesOn, KeepsArrangements, KeepsOlder}
+use Rattle.lvm_raw.specs.Keeping.{AnswerHasCause, IsUnstuck, RangeKeeps}
 use Rattle.lvm_raw.specs.Looking.{ShowsDescriptor, FindsNone, LookFails, look_ends}
 use Rattle.lvm_raw.specs.Raw.{WasServed}
 

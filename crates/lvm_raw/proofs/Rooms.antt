@@ -10,7 +10,8 @@ use Rattle.lvm_kept.specs.Moments.{Moment}
 use Rattle.lvm_transfer.specs.declared.moves.Moved.{Moved}
 use Rattle.lvm_area.proofs.Joining.{got_within}
 use Rattle.lvm_raw.specs.Asking.{IsInData, HasRoomForPieces}
-use Rattle.lvm_raw.specs.Pieces.{piece_end, piece_count, AreFilled, WritesPiece}
+use Rattle.lvm_piece.specs.Pieces.{AreFilled, WritesPiece}
+use Rattle.lvm_raw.specs.Pieces.{piece_end, piece_count}
 
 -- a piece of a range within the data of a disk
 pub piece_range : (first now : Device) (disk at count from to : ℕ) → IsInData first disk at count → now.sizes ≡ first.sizes → from < to → to ≤ at + count → to ≤ from + 256 → IsRange now disk from (to - from)

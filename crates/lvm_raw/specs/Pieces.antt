@@ -1,17 +1,13 @@
 -- How a range of blocks of a disk is moved in pieces.
-use Rattle.std.specs.Prelude.{true, false, ◌≡◌, ◌<◌, ◌+◌, ◌-◌, ◌*◌, ◌/◌, ◌%◌, ◌^◌, ◌++◌, ◌∷◌, ℕ, List, [], Option, None, Some, unwrap_or, min, length, take, slice_get, Result, Ok, Err}
+use Rattle.std.specs.Prelude.{◌≡◌, ◌<◌, ◌+◌, ◌-◌, ◌*◌, ◌/◌, ◌++◌, ℕ, List, [], Option, None, Some, unwrap_or, min, take, Result, Ok, Err}
 use Rattle.lvm_num.specs.Buffer.{Buffer, Sector}
-use Rattle.lvm_num.specs.Word.{fill_of}
-use Rattle.lvm_vol.specs.Facts.{Begun}
 use Rattle.lvm_kept.specs.Moments.{Moment}
-use Rattle.lvm_kept.specs.Raw.{next_write}
-use Rattle.lvm_steps.specs.Requests.{next_read}
-use Rattle.lvm_transfer.specs.Transfer.{flight_of}
 use Rattle.lvm_transfer.specs.declared.moves.Moved.{Moved}
 use Rattle.lvm_transfer.specs.declared.moves.Moved.TheVariants as moved
+use Rattle.lvm_piece.specs.Requests.{WasAnswered}
+use Rattle.lvm_piece.specs.Pieces.{WritesPiece, ReadsPiece}
 use Rattle.lvm_raw.specs.declared.fault.RawFault.{RawFault}
 use Rattle.lvm_raw.specs.declared.fault.RawFault.TheVariants as fault
-use Rattle.lvm_raw.specs.Requests.{write_ends, read_ends, ShelfAfter, WasAnswered}
 
 -- a piece from this block on ends where the range does, or at the next multiple of 256
 abbrev pub piece_end : ℕ → ℕ → ℕ
@@ -21,25 +17,7 @@ piece_end from end = min end (256 * (from / 256 + 1))
 abbrev pub piece_count : ℕ → ℕ → ℕ
 piece_count at count = (at + count - 1) / 256 - at / 256 + 1
 
--- ---- one piece
-
--- each block is filled with a word, the first with this one, and each other with the next, wrapping
-abbrev pub AreFilled : ℕ → List Sector → Type 0
-AreFilled word blocks = (i : ℕ) → i < length blocks → slice_get blocks i ≡ Some (fill_of ((word + i) % 2 ^ 64))
-
--- a request of the run that writes this piece by one transfer, which ended so
-pub record WritesPiece (run disk word from count patience : ℕ) (old new : Moment) (how : Moved) : Type 0 where
-  pub sent : Buffer
-  pub long : length (take count sent.sectors) ≡ count
-  pub filled : AreFilled word (take count sent.sectors)
-  pub shelf : (ticket : ℕ) × ShelfAfter patience old.device new.device (flight_of ticket true disk from count sent) how
-  pub facts : let r = next_write run old.facts disk from count (take count sent.sectors) in new.facts ≡ write_ends (old.facts ++ Begun r ∷ []) r how
-
--- one that reads it
-pub record ReadsPiece (run disk from count patience : ℕ) (old new : Moment) (how : Moved) : Type 0 where
-  pub sent : Buffer
-  pub shelf : (ticket : ℕ) × ShelfAfter patience old.device new.device (flight_of ticket false disk from count sent) how
-  pub facts : let r = next_read run old.facts disk from count in new.facts ≡ read_ends (old.facts ++ Begun r ∷ []) r how
+-- ---- one piece more
 
 -- The answer once one piece more has ended so. The first that didn't end well decides, but for one of which nothing was heard.
 abbrev pub answer_after : {X : Type 0} → RawFault → (Buffer → X → X) → Moved → Result X RawFault → Result X RawFault

@@ -51,7 +51,7 @@ pub fn write_disk<S: Shelf>(
     write_pieces(shelf, history, disk, at, count, word, bytes, buf, patience)
 }
 
-/// ReadsRecords `count` blocks of a disk from block `at` on, and answers them in their order. Blocks are sectors. The disk's
+/// Reads `count` blocks of a disk from block `at` on, and answers them in their order. Blocks are sectors. The disk's
 /// descriptor slots are read first. Then the range is read in pieces that end at multiples of 256, each as a request
 /// of client 1 of the history and by one transfer, the next once the disk has answered the one before, also where it
 /// failed. The first that didn't end well decides the answer. After a power cut the rest is left out, and the power is

@@ -1,7 +1,7 @@
 //! Why a range of a disk isn't read or written.
 
 /// Why a range of a disk isn't read or written, in the order in which the causes are looked for.
-#[derive(Clone, Copy, Debug, PartialEq, Eq)]
+#[derive(Clone, Copy, PartialEq, Eq)]
 pub enum RawFault {
     /// The shelf has no such disk.
     NoDisk { disk: u16 },

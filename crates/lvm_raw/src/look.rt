@@ -13,7 +13,7 @@ use lvm_num::Pbuf;
 use lvm_transfer::{Patience, relight};
 use std::alloc::Global;
 
-/// ReadsRecords the descriptor slots of a disk that has them, and answers a buffer where the disk is in no group. After a
+/// Reads the descriptor slots of a disk that has them, and answers a buffer where the disk is in no group. After a
 /// power cut, which is entered where it ends something, the power is on again.
 pub fn look<S: Shelf>(
     alloc: Global,

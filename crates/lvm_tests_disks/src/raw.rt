@@ -20,7 +20,7 @@ enum Ask {
     Read(u16, u64, u32, u64),
 }
 
-#[derive(Clone, Copy, Debug, PartialEq, Eq)]
+#[derive(Clone, Copy, PartialEq, Eq)]
 enum Answer {
     Well,
     OtherBlocks,

@@ -23,7 +23,7 @@ use Rattle.lvm_core.specs.Settled.{IsSettled}
 use Rattle.lvm_core.specs.Committing.{is_among, Restates, HasStated, RecordsEnd, MarkEnds}
 use Rattle.lvm_core.specs.Leaves.{NoDescriptor, Leaves, marking}
 use Rattle.lvm_volumes.specs.Endings.{StillHeld, commanding}
-use Rattle.lvm_volumes.specs.PlannedVolume.{AreOfOneGroup}
+use Rattle.lvm_volume_plan.specs.PlannedVolume.{AreOfOneGroup}
 use Rattle.lvm_volumes.specs.Stages.{IfGoesOn, AreUnusedOn, IsLowestMissing, CommandBroke, DiskFailsFirst, ZerosEnd, ClearEnds}
 use Rattle.lvm_volumes.specs.Volumes.{AreZeroed}
 use Rattle.lvm_volumes.proofs.Breaking.{broken, broken_since}

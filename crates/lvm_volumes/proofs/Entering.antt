@@ -30,9 +30,9 @@ use Rattle.lvm_core.specs.Leaves.{NoPartition, IsOfCommand, Leaves, committing}
 use Rattle.lvm_core.specs.Entering.{IsOfVolume}
 use Rattle.lvm_core.proofs.LeavesLemmas.{keeps_fact, same_status}
 use Rattle.lvm_volumes.specs.Endings.{StillHeld, IfAlone, commanding}
-use Rattle.lvm_volumes.specs.PlannedVolume.{AreOfOneGroup}
+use Rattle.lvm_volume_plan.specs.PlannedVolume.{AreOfOneGroup}
 use Rattle.lvm_volumes.specs.Stages.{with_entry}
-use Rattle.lvm_volumes.specs.Volumes.{HasSpareRoom}
+use Rattle.lvm_volume_plan.specs.Faults.{HasSpareRoom}
 use Rattle.lvm_volumes.proofs.Holding.{still_by}
 use Rattle.lvm_volumes.proofs.Leaving.{falls_none, leaves_wider}
 

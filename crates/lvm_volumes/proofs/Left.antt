@@ -14,9 +14,9 @@ use Rattle.lvm_steps.proofs.Booleans.{either, clash}
 use Rattle.lvm_commit.specs.LawsOfData.{IsFree}
 use Rattle.lvm_commit.specs.Settling.{there, NoneIsLeft, IsPassed, MarksLeft}
 use Rattle.lvm_commit.proofs.Copies.{contains, of_map, of_rows}
-use Rattle.lvm_volumes.specs.declared.new_volume.NewVolume.{NewVolume}
-use Rattle.lvm_volumes.specs.NewVolume.{row_for, with_volume, without_volume}
-use Rattle.lvm_volumes.proofs.Sublists.{one_insert, one_filter}
+use Rattle.lvm_volume_plan.specs.declared.new_volume.NewVolume.{NewVolume}
+use Rattle.lvm_volume_plan.specs.NewVolume.{row_for, with_volume, without_volume}
+use Rattle.lvm_volume_plan.proofs.Sublists.{one_insert, one_filter}
 
 pub itself : (p : Pp) → is_pp p p ≡ true
 itself p = ap (λ (t : Bool). t && (p.pp == p.pp)) (eq-eqb p.disk p.disk refl) ∙ eq-eqb p.pp p.pp refl

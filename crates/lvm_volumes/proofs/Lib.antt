@@ -1,10 +1,5 @@
 pub mod Left
-pub mod Numbers
-pub mod Sublists
-pub mod NewDescriptor
-pub mod OldDescriptor
 pub mod Places
-pub mod Refusals
 pub mod Leaving
 pub mod Breaking
 pub mod Holding

@@ -34,12 +34,12 @@ use Rattle.lvm_commit.specs.Committed.{ShowsCommitted}
 use Rattle.lvm_commit.specs.LawsOfData.{IsSectorOf}
 use Rattle.lvm_commit.specs.LawsOfVolumes.{VolumeServes, HasFreshCopies}
 use Rattle.lvm_commit.proofs.Volumes.{zeros_are_found}
-use Rattle.lvm_volumes.specs.declared.new_volume.NewVolume.{NewVolume}
-use Rattle.lvm_volumes.specs.NewVolume.{IsLowestFree, IsInOrder, row_for, with_volume, without_volume}
-use Rattle.lvm_volumes.proofs.Sublists.{one_insert}
+use Rattle.lvm_volume_plan.specs.declared.new_volume.NewVolume.{NewVolume}
+use Rattle.lvm_volume_plan.specs.NewVolume.{IsLowestFree, IsInOrder, row_for, with_volume, without_volume}
+use Rattle.lvm_volume_plan.proofs.Sublists.{one_insert}
 use Rattle.lvm_volumes.proofs.Places.{one_copy, its_copy}
-use Rattle.lvm_volumes.proofs.NewDescriptor.{named_with, differs_with}
-use Rattle.lvm_volumes.proofs.OldDescriptor.{unnamed_without, differs_without, none_without}
+use Rattle.lvm_volume_plan.proofs.NewDescriptor.{named_with, differs_with}
+use Rattle.lvm_volume_plan.proofs.OldDescriptor.{unnamed_without, differs_without, none_without}
 
 -- ---- the history with one entry more
 

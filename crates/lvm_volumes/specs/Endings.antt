@@ -9,23 +9,14 @@ use Rattle.lvm_kept.specs.Moments.{Moment}
 use Rattle.lvm_write.specs.Written.{IsDarkened, IsGivenUp}
 use Rattle.lvm_commit.specs.LawsOfVolumes.{IsOnlyGroupOn, IsOnlyGroupSince}
 use Rattle.lvm_commit.specs.Settling.{NoneIsLeft, HasLostQuorum}
-use Rattle.lvm_core.specs.declared.fault.CommitFault.{CommitFault}
-use Rattle.lvm_core.specs.declared.fault.CommitFault.TheVariants as commit
 use Rattle.lvm_core.specs.declared.request.Power.TheVariants as power
-use Rattle.lvm_core.specs.State.{Core, State}
+use Rattle.lvm_core.specs.State.{State}
 use Rattle.lvm_core.specs.Held.{IsHeld, AreNotesHome}
 use Rattle.lvm_core.specs.Leaves.{Scope, NoPartition, EntersVolumes}
-use Rattle.lvm_volumes.specs.declared.fault.GroupFault.{GroupFault}
-use Rattle.lvm_volumes.specs.declared.fault.GroupFault.TheVariants as fault
+use Rattle.lvm_volume_plan.specs.declared.fault.GroupFault.{GroupFault}
+use Rattle.lvm_volume_plan.specs.declared.fault.GroupFault.TheVariants as fault
 
 -- ---- faults as they happen
-
--- the fault of a command whose commit or zeros had this one
-abbrev pub fault_of : CommitFault → GroupFault
-fault_of commit.Dark = fault.Dark
-fault_of (commit.WentOff have total) = fault.WentOff have total
-fault_of (commit.DiskFailed disk) = fault.DiskFailed disk
-fault_of commit.Stuck = fault.Stuck
 
 -- The power was cut in the command, which had entered so much: a cut is entered, and the session is over with its descriptor as it was.
 pub record CommandDarkened (entered : Log) (old new : State) : Type 0 where
@@ -60,11 +51,6 @@ pub record CommandFailed (disk : ℕ) (old new : State) : Type 0 where
   pub cuts : new.device.counts.cuts ≡ old.device.counts.cuts
 
 -- ---- while the session goes on
-
--- the session is on, and no request is open
-pub record TakesCommands (core : Core) : Type 0 where
-  pub on : core.power ≡ power.On
-  pub requests : core.requests ≡ []
 
 -- the command was answered, and the session is as on as it was
 abbrev pub IfOn : {A : Type 0} → Result A GroupFault → Type 0 → Type 0

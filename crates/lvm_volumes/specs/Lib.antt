@@ -1,5 +1,3 @@
-pub mod NewVolume
 pub mod Endings
 pub mod Volumes
-pub mod PlannedVolume
 pub mod Stages

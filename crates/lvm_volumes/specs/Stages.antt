@@ -20,10 +20,10 @@ use Rattle.lvm_core.specs.Settled.{IsSettled}
 use Rattle.lvm_core.specs.Committing.{HasGoneDark, IsLeftOut, CommitEnds}
 use Rattle.lvm_core.specs.Leaves.{Leaves, committing}
 use Rattle.lvm_core.specs.Zeros.{IsAsBefore}
-use Rattle.lvm_volumes.specs.declared.new_volume.NewVolume.{NewVolume}
-use Rattle.lvm_volumes.specs.declared.new_volume.VolumePlan.{VolumePlan}
+use Rattle.lvm_volume_plan.specs.declared.new_volume.NewVolume.{NewVolume}
+use Rattle.lvm_volume_plan.specs.declared.new_volume.VolumePlan.{VolumePlan}
 use Rattle.lvm_volumes.specs.Endings.{CommandDarkened, CommandWentOff, CommandStuck, CommandFailed}
-use Rattle.lvm_volumes.specs.PlannedVolume.{IsPlannedVolume}
+use Rattle.lvm_volume_plan.specs.PlannedVolume.{IsPlannedVolume}
 use Rattle.lvm_volumes.specs.Volumes.{AreZeroed, removing}
 
 -- ---- whatever comes of it

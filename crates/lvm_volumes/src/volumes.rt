@@ -10,19 +10,19 @@ ghost use Rattle.lvm_core.specs.State.{state_of};
 ghost use Rattle.lvm_core.specs.Leaves.{Leaves, NoDescriptor, NoPartition};
 ghost use Rattle.lvm_core.specs.Settled.{IsSettled, HasSpareNumbers};
 ghost use Rattle.lvm_core.specs.Entering.{IsOfVolume};
-ghost use Rattle.lvm_volumes.specs.Endings.{TakesCommands, IfOn, StillHeld, commanding};
-ghost use Rattle.lvm_volumes.specs.PlannedVolume.{AreOfOneGroup, IsWithout};
+ghost use Rattle.lvm_volume_plan.specs.Faults.{TakesCommands};
+ghost use Rattle.lvm_volume_plan.specs.PlannedVolume.{AreOfOneGroup, IsWithout};
+ghost use Rattle.lvm_volumes.specs.Endings.{IfOn, StillHeld, commanding};
 ghost use Rattle.lvm_volumes.specs.Stages.{IfGoesOn, AreUnusedOn, IsLowestMissing, ZerosEnd, ClearEnds, MakeEnds, MayMake, RemoveEnds, CommitsBetween};
 ghost use Rattle.lvm_volumes.specs.Volumes.{MklvGives, RmlvGives, to_make, to_remove};
 
-use crate::fault::GroupFault;
-use crate::new_volume::{NewVolume, VolumePlan, prepare_without};
 use lvm_core::{CommitFault, Driver, Prepared};
 use lvm_disk::Shelf;
 use lvm_num::{Mode, Name, Policy, Pp};
 use lvm_stale::StaleTable;
 use lvm_transfer::Patience;
 use lvm_vol::{Entry, Vol};
+use lvm_volume_plan::{GroupFault, NewVolume, VolumePlan, prepare_without};
 use std::alloc::Global;
 
 // The most disks of a shelf.
@@ -202,7 +202,12 @@ fn lowest_missing(table: &StaleTable, map: &[Pp]) -> Option<u16>
 fn is_on(map: &[Pp], disk: u16) -> bool
     ensures { result ≡ is_on map.now disk }
 {
-    map.iter().any(|pp| pp.disk == disk)
+    for pp in map {
+        if pp.disk == disk {
+            return true;
+        }
+    }
+    false
 }
 
 // Writes zeros to partitions, until a disk fails.

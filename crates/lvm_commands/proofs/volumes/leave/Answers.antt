@@ -1,6 +1,6 @@
 use Rattle.std.proofs.Common.{◌∙◌, Result, sym, ap, subst}
 use Rattle.lvm_core.specs.State.{state}
-use Rattle.lvm_volumes.specs.declared.fault.GroupFault.{GroupFault}
+use Rattle.lvm_volume_plan.specs.declared.fault.GroupFault.{GroupFault}
 use Rattle.lvm_commands.specs.Stages.{state_in}
 use Rattle.lvm_commands.specs.Volumes.{IsOver, is_over}
 use Rattle.lvm_commands.specs.declared.stage.Stage.{Stage}

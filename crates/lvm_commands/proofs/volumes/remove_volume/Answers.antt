@@ -1,6 +1,6 @@
 use Rattle.std.proofs.Common.{◌≡◌, ℕ, refl, sym, subst}
 use Rattle.lvm_core.specs.Leaves.{NoPartition}
-use Rattle.lvm_volumes.specs.NewVolume.{without_volume}
+use Rattle.lvm_volume_plan.specs.NewVolume.{without_volume}
 use Rattle.lvm_volumes.specs.Volumes.{RmlvGives}
 use Rattle.lvm_commands.specs.Disks.{patience_of_line}
 use Rattle.lvm_commands.specs.Ends.{EndsUnasked}

@@ -3,9 +3,9 @@ use Rattle.std.proofs.lemmas.Result.{err_from_is_err_and}
 use Rattle.lvm_core.specs.declared.fault.CommitFault.{CommitFault}
 use Rattle.lvm_core.specs.State.{State, state_of}
 use Rattle.lvm_core.specs.Settled.{IsSettled}
-use Rattle.lvm_volumes.specs.declared.fault.GroupFault.{GroupFault}
+use Rattle.lvm_volume_plan.specs.declared.fault.GroupFault.{GroupFault}
 use Rattle.lvm_volumes.specs.Endings.{StillHeld}
-use Rattle.lvm_volumes.specs.PlannedVolume.{IsWithout}
+use Rattle.lvm_volume_plan.specs.PlannedVolume.{IsWithout}
 use Rattle.lvm_volumes.specs.Volumes.{to_remove}
 use Rattle.lvm_volumes.proofs.Answering.{refused_rmlv, always_on, on_fault, removed_leaves, remove_settled, remove_given, remove_fails}
 use Rattle.lvm_volumes.proofs.Holding.{still_none}

@@ -1,0 +1,11 @@
+pub mod Finding
+pub mod Follows
+pub mod Review
+pub mod Requests
+pub mod Copies
+pub mod Keeping
+pub mod Finishing
+pub mod NoteFail
+pub mod StatusEnd
+pub mod Falls
+pub mod EndsFall

@@ -1,0 +1,4 @@
+pub mod Fronts
+pub mod Logs
+pub mod Moving
+pub mod Spanning

@@ -1,0 +1,10 @@
+pub mod Words
+pub mod Orderly
+pub mod Judged
+pub mod Modes
+pub mod Tied
+pub mod Changing
+pub mod Entered
+pub mod Wanted
+pub mod StepBlocks
+pub mod Rows

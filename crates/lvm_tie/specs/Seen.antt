@@ -1,0 +1,174 @@
+-- How a session of the driver is seen without bytes: by what relation a state of the induction is that of its parts.
+use Rattle.std.specs.Prelude.{◌≡◌, ◌⊎◌, ℕ, ◌+◌, ◌*◌, ◌-◌, Bool, true, false, ◌&&◌, ◌==◌, not, nat_le, nat_lt, if◌then◌else◌, List, [], ◌∷◌, ◌++◌, length, Option, Some, None, IsTrue, slice_get, slice_index_or}
+use Rattle.std.specs.Option.{option_map}
+use Rattle.lvm_num.specs.declared.place.Pp.{Pp}
+use Rattle.lvm_num.specs.declared.record.NoteEntry.{NoteEntry}
+use Rattle.lvm_num.specs.declared.status.Status.{Status}
+use Rattle.lvm_num.specs.Buffer.{Buffer, Sector}
+use Rattle.lvm_num.specs.Disks.{has}
+use Rattle.lvm_num.specs.Record.{Stamped}
+use Rattle.arrayvec.specs.ArrayVec.{ArrayVec}
+use Rattle.lvm_vol.specs.Facts.{Fact}
+use Rattle.lvm_vol.specs.Log.{request_of}
+use Rattle.lvm_mwc.specs.declared.notes.DiskNotes.{DiskNotes}
+use Rattle.lvm_mwc.specs.Entries.{has_entry}
+use Rattle.lvm_mwc.specs.Notes.{names_group}
+use Rattle.lvm_mwc.specs.Cache.{notes_on, flight_on}
+use Rattle.lvm_status.specs.Update.{Stored, seen, is_held}
+use Rattle.lvm_sched.specs.declared.writes.TargetState.{TargetState}
+use Rattle.lvm_sched.specs.declared.writes.TargetState.TheVariants as target
+use Rattle.lvm_path.specs.declared.request.Phase.{Phase as RequestPhase}
+use Rattle.lvm_path.specs.declared.request.Phase.TheVariants as phase
+use Rattle.lvm_path.specs.declared.target.Target.{Target}
+use Rattle.lvm_path.specs.Asks.{lv_of, at_of, count_of, is_write}
+use Rattle.lvm_path.specs.Targets.{is_begun}
+use Rattle.lvm_session.specs.declared.open.Open.{Open}
+use Rattle.lvm_session.specs.declared.bringing.OpenCopy.{OpenCopy as Bringing}
+use Rattle.lvm_session.specs.declared.bringing.Step.{Step}
+use Rattle.lvm_session.specs.declared.bringing.Step.TheVariants as step
+use Rattle.lvm_session.specs.State.{Core, is_there}
+use Rattle.lvm_session.specs.Judging.{is_running, place_of}
+use Rattle.lvm_session.specs.Bringing.{groups_of, has_row, block_at}
+use Rattle.lvm_invariant.specs.State.{Stage, Todo, Flying, Well, Badly, Phase, Held, WantEntry, Ready, Going, Landed, Groups, Queued, OpenCopy, StepWrite, State, has_landed}
+use Rattle.lvm_invariant.specs.Updates.{is_pp}
+use Rattle.lvm_crash.specs.Session.{marks_of, as_marks}
+
+-- ---- requests
+
+-- how far a transfer is
+abbrev pub stage_seen : TargetState → Stage
+stage_seen target.Waiting = Todo
+stage_seen target.Flying = Flying
+stage_seen target.Done = Well
+stage_seen target.Failed = Badly
+
+-- how far the target at a partition is
+abbrev pub stage_at : List Target → Pp → Option Stage
+stage_at [] c = None
+stage_at (t ∷ ts) c = if is_pp c t.pp then Some (stage_seen t.state) else stage_at ts c
+
+-- How far a request is. One whose data may go out waits for its first transfer until that has started.
+abbrev pub phase_seen : RequestPhase → Bool → Phase
+phase_seen phase.Held begun = Held
+phase_seen phase.WantEntry begun = WantEntry
+phase_seen phase.WantRecord begun = Ready
+phase_seen phase.Data begun = if begun then Going else Ready
+phase_seen phase.WantStatus begun = Going
+phase_seen phase.Landed begun = Landed
+
+-- A request of the table, as it stands in the queue.
+pub record SeesRequest (o : Open) (q : Queued) : Type 0 where
+  pub lv : q.lv ≡ lv_of o.request.ask
+  pub first : q.first ≡ at_of o.request.ask
+  pub count : q.count ≡ count_of o.request.ask
+  pub write : q.write ≡ is_write o.request.ask
+  pub step : q.step ≡ false
+  pub phase : q.phase ≡ phase_seen o.request.phase (is_begun o.request.targets.items)
+  pub several : q.several ≡ nat_le 2 (length o.request.targets.items)
+  pub targets : (c : Pp) → q.targets c ≡ stage_at o.request.targets.items c
+  pub got : (buf : Buffer) → o.got ≡ Some buf → (value : ℕ → Sector) × (q.got ≡ Some value) × ((b : ℕ) → value b ≡ slice_index_or buf.sectors (b - q.first) [])
+
+-- ---- the copy that is being brought up
+
+-- the track groups of its logical partition, each of which has so many, below its cursor
+abbrev pub passed_by : ℕ → Bringing → Groups
+passed_by groups c lv g = (lv == c.lv) && nat_le (groups * c.lp) g && nat_lt g (groups * c.lp + c.cursor)
+
+-- it is open, and has passed these
+pub record SeesOpen (groups : ℕ) (c : Bringing) (open_copy : Option OpenCopy) : Type 0 where
+  pub copy : OpenCopy
+  pub is_open : open_copy ≡ Some copy
+  pub target : copy.target ≡ c.pp
+  pub passed : (lv g : ℕ) → copy.passed lv g ≡ passed_by groups c lv g
+
+-- while it is being brought up; nothing is open once it has ended
+abbrev pub SeesRunning : Bool → ℕ → Bringing → Option OpenCopy → Type 0
+SeesRunning true groups c open_copy = SeesOpen groups c open_copy
+SeesRunning false groups c open_copy = open_copy ≡ None
+
+-- so is the copy that is open, if one is
+abbrev pub SeesCopy : ℕ → Option Bringing → Option OpenCopy → Type 0
+SeesCopy groups None open_copy = open_copy ≡ None
+SeesCopy groups (Some c) open_copy = SeesRunning (is_running c) groups c open_copy
+
+-- a write of its step is out, to its partition, also where it has ended meanwhile
+abbrev pub step_write_of : Bringing → Step → Option StepWrite
+step_write_of c step.Idle = None
+step_write_of c (step.Reading source) = None
+step_write_of c (step.Read buf) = None
+step_write_of c step.Writing = Some (record { target = c.pp; place = c.place })
+
+-- so is one of the copy that is open
+abbrev pub step_write_in : Option Bringing → Option StepWrite
+step_write_in None = None
+step_write_in (Some c) = step_write_of c c.step
+
+-- what its step has out or in hand
+abbrev pub SeesHand : Step → Queued → Type 0
+SeesHand step.Idle q = (has_landed q.phase ≡ false) × (q.got ≡ None)
+SeesHand (step.Reading source) q = (q.phase ≡ Going) × (q.targets source ≡ Some Flying)
+SeesHand (step.Read buf) q = (q.phase ≡ Going) × (value : ℕ → Sector) × (q.got ≡ Some value) × ((b : ℕ) → value b ≡ slice_index_or buf.sectors (b - q.first) [])
+SeesHand step.Writing q = (q.phase ≡ Going) × (value : ℕ → Sector) × (q.got ≡ Some value)
+
+-- Its step stands in the queue as a read of a whole track group.
+pub record SeesStep (core : Core) (c : Bringing) (q : Queued) : Type 0 where
+  pub lv : q.lv ≡ c.lv
+  pub first : q.first ≡ block_at core c
+  pub count : q.count ≡ 256
+  pub write : q.write ≡ false
+  pub step : q.step ≡ true
+  pub hand : SeesHand c.step q
+
+-- ---- notes
+
+-- a note in flight names the track groups that its entries name
+abbrev pub SeesNote : Option Groups → Option (ArrayVec NoteEntry) → Type 0
+SeesNote None None = Unit {0}
+SeesNote (Some note) (Some items) = (lv g : ℕ) → note lv g ≡ names_group items.items lv g
+SeesNote None (Some items) = ⊥
+SeesNote (Some note) None = ⊥
+
+-- ---- the queue
+
+-- a request of the table has this place of the queue
+pub record IsRequestAt (core : Core) (i : ℕ) : Type 0 where
+  pub place : ℕ
+  pub request : Open
+  pub there : slice_get core.requests place ≡ Some request
+  pub its : place_of request.request.id ≡ i
+
+-- the step of the copy that is open has it
+pub record IsStepAt (core : Core) (i : ℕ) : Type 0 where
+  pub copy : Bringing
+  pub is_open : core.copy ≡ Some copy
+  pub row : has_row core copy ≡ true
+  pub its : copy.place ≡ i
+
+-- ---- all of it
+
+-- the update in flight, under its stamp
+abbrev pub update_of : Stored → Option (Stamped Status)
+update_of status = option_map (λ (t : Status). record { stamp = status.stamp; value = t }) status.in_flight
+
+-- After this earlier history the session is this state, but for what the disks show: its queue holds the requests of the table and the step of the copy, its history
+-- follows the earlier one, its marks are those of the three statuses, and each disk that isn't a member which is there is missing.
+pub record Sees (past : List Fact) (core : Core) (v : State) : Type 0 where
+  pub requests : (place : ℕ) (o : Open) → slice_get core.requests place ≡ Some o → (q : Queued) × (v.queue (place_of o.request.id) ≡ Some q) × SeesRequest o q
+  pub a_step : (c : Bringing) → core.copy ≡ Some c → has_row core c ≡ true → (q : Queued) × (v.queue c.place ≡ Some q) × SeesStep core c q
+  pub only : (i : ℕ) (q : Queued) → v.queue i ≡ Some q → IsRequestAt core i ⊎ IsStepAt core i
+  pub names : (place : ℕ) (o : Open) → slice_get core.requests place ≡ Some o → v.name (place_of o.request.id) ≡ request_of core.history.facts o.request.id
+  pub facts : v.facts ≡ past ++ core.history.facts
+  pub committed : v.committed.value ≡ marks_of core.status.committed
+  pub in_flight : v.in_flight ≡ option_map as_marks (update_of core.status)
+  pub wanted : v.wanted ≡ marks_of core.status.wanted
+  pub started : (d : ℕ) → v.status_flying d ≡ has core.status.writes.started d
+  -- a disk to which a write of the update has gone well shows it
+  pub written : (d : ℕ) → has core.status.writes.written d ≡ true → v.media.status d ≡ v.in_flight
+  -- an update that is committed and still being written is what is committed, with its stamp
+  pub held : (u : Stamped Status) → update_of core.status ≡ Some u → is_held (seen core.status) ≡ true → v.committed ≡ as_marks u
+  pub missing : (d : ℕ) → v.missing d ≡ not (is_there core d)
+  pub cache : (lv g : ℕ) → v.cache lv g ≡ has_entry core.cache.entries lv g
+  pub home : (d lv g : ℕ) (n : DiskNotes) → IsTrue (is_there core d) → notes_on core.cache d ≡ Some n → v.home_note d lv g ≡ names_group n.written.items lv g
+  pub flying : (d : ℕ) → SeesNote (v.flying_note d) (flight_on core.cache d)
+  pub open_copy : SeesCopy (groups_of core) core.copy v.open_copy
+  pub step_write : v.step_write ≡ step_write_in core.copy

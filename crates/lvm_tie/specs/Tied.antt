@@ -1,0 +1,91 @@
+-- The tie of a session and its shelf to a good state of the induction.
+use Rattle.std.specs.Prelude.{◌≡◌, ℕ, ◌++◌, ◌∷◌, true, false, List, [], Option, Some, IsTrue, count_by}
+use Rattle.lvm_num.specs.Descriptor.{is_member}
+use Rattle.lvm_num.specs.Status.{calls_missing}
+use Rattle.lvm_vol.specs.Facts.{Fact}
+use Rattle.lvm_vol.specs.Legal.{begins_in}
+use Rattle.lvm_disk.specs.Device.{Media, image_of}
+use Rattle.lvm_disk.specs.Paths.{DeviceStep}
+use Rattle.lvm_kept.specs.Contents.{contents_of}
+use Rattle.lvm_kept.specs.Moments.{Moment}
+use Rattle.lvm_kept.specs.Torn.{RecordWrite}
+use Rattle.lvm_steps.specs.Moments.{Begins, Upholds, Keeps}
+use Rattle.lvm_steps.specs.Requests.{at}
+use Rattle.lvm_session.specs.declared.bringing.OpenCopy.{OpenCopy as Bringing}
+use Rattle.lvm_session.specs.declared.open.Power.TheVariants as power
+use Rattle.lvm_session.specs.State.{Core, State as Session}
+use Rattle.lvm_session.specs.Bringing.{has_row, block_at}
+use Rattle.lvm_sound.specs.Sound.{IsSound}
+use Rattle.lvm_invariant.specs.State.{State}
+use Rattle.lvm_invariant.specs.Found.{Votes}
+use Rattle.lvm_invariant.specs.Good.{Good}
+use Rattle.lvm_crash.specs.Session.{AreVotesOf, members_there, Describes}
+use Rattle.lvm_tie_shelf.specs.Owned.{OnlyUpdateSince, AllOwned}
+use Rattle.lvm_tie.specs.Out.{AreNotes, CarryTheirs, IsWriteOf, MayUpdate}
+use Rattle.lvm_tie.specs.Seen.{update_of, Sees}
+
+-- ---- the tie
+
+-- each block of the step of the copy that is open is one of its copy's
+abbrev pub IsCopyAimed : Core → State → Type 0
+IsCopyAimed core v = (c : Bringing) → core.copy ≡ Some c → has_row core c ≡ true → IsTrue (v.is_copy c.lv (block_at core c) c.pp)
+
+-- What is asked of the driver's session alone: it is on and sound, and its update in flight is written so.
+pub record IsOrderly (s : Session) (write : Option RecordWrite) : Type 0 where
+  pub sound : IsSound s
+  pub on : s.core.power ≡ power.On
+  pub update : IsWriteOf s.core.status s.core.homes s.core.status.in_flight write
+
+-- After this earlier history a session that is on and sound is seen as a good state, which describes what stands on the media. What is out is written since the
+-- update in flight began, a step writes what it has got, notes fit, and the next update may be written. Each member that wasn't missing when the session began shows the group and has
+-- room for its records, and the earlier history has no request of this run.
+pub record IsTied (past : List Fact) (s : Session) : Type 0 where
+  pub votes : Votes
+  pub are_votes : AreVotesOf s.core.descriptor votes
+  pub media : Media
+  pub told : s.device.media ≡ Some media
+  pub view : State
+  pub sees : Sees past s.core view
+  pub good : Good votes view
+  pub describes : Describes view view.facts s.core.descriptor (update_of s.core.status) (contents_of (image_of s.device.sizes media))
+  pub write : Option RecordWrite
+  pub orderly : IsOrderly s write
+  pub since : OnlyUpdateSince s.device write (update_of s.core.status)
+  pub next : MayUpdate s.core.descriptor s.core.status s.core.homes (image_of s.device.sizes media)
+  pub notes : AreNotes s.core
+  pub copy_aimed : IsCopyAimed s.core view
+  pub carry : CarryTheirs s.core view s.device.flights s.core.flying
+  pub members : (d : ℕ) → is_member s.core.descriptor d ≡ true → calls_missing s.core.origin.table d ≡ false → IsTrue (members_there (contents_of (image_of s.device.sizes media)) s.core.descriptor d)
+  pub own : count_by (begins_in s.core.history.run) past ≡ 0
+
+-- So it is, while the session is on, after each earlier history with which the run may have begun.
+abbrev pub IsGood : ℕ → Moment → Session → Type 0
+IsGood run first s = s.core.power ≡ power.On → (past : List Fact) → Begins run past first → IsTied past s
+
+-- an event that leaves a tied session sound leaves it tied
+abbrev pub Ties : (Session → Session → Type 0) → Type 0
+Ties Event = (past : List Fact) (old new : Session) → IsTied past old → IsSound new → Event old new → IsTied past new
+
+-- ---- what follows
+
+-- the session as a moment of its run
+abbrev pub moment_of : Session → Moment
+moment_of s = at s.device s.core.history.facts
+
+-- a span that leads to the one leads on to the other
+abbrev pub SpanGoesOn : ℕ → Moment → Session → Session → Type 0
+SpanGoesOn run first old new = Keeps run first (moment_of old) → Keeps run first (moment_of new)
+
+-- Each transfer that is out has its owner in the state.
+abbrev pub TiedOwns : Type 0
+TiedOwns = (past : List Fact) (s : Session) (tied : IsTied past s) → AllOwned tied.view s.core.descriptor.mib tied.write s.device.flights
+
+-- The history is legal, and each crash image is kept with it.
+abbrev pub GoodUpholds : Type 0
+GoodUpholds = (run : ℕ) (first : Moment) (s : Session) → s.core.power ≡ power.On → IsGood run first s → Upholds run first (moment_of s)
+
+-- So a span goes on over what changes neither shelf nor history, over a step of the shelf, and over an entry, where the session is good after it.
+pub record GoodGoesOn : Type 0 where
+  pub still : (run : ℕ) (first : Moment) (old new : Session) → new.device ≡ old.device → new.core.history.facts ≡ old.core.history.facts → SpanGoesOn run first old new
+  pub steps : (run : ℕ) (first : Moment) (old new : Session) → new.core.power ≡ power.On → IsGood run first new → DeviceStep old.device new.device → new.core.history.facts ≡ old.core.history.facts → SpanGoesOn run first old new
+  pub enters : (run : ℕ) (first : Moment) (old new : Session) (f : Fact) → new.core.power ≡ power.On → IsGood run first new → new.device ≡ old.device → new.core.history.facts ≡ old.core.history.facts ++ f ∷ [] → SpanGoesOn run first old new

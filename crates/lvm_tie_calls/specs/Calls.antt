@@ -1,0 +1,19 @@
+-- The calls by which a copy is opened and closed.
+use Rattle.std.specs.Prelude.{ℕ, List, Result}
+use Rattle.lvm_vol.specs.Facts.{Fact}
+use Rattle.lvm_disk.specs.Counts.{Counts}
+use Rattle.lvm_events.specs.declared.answers.CopyFault.{CopyFault}
+use Rattle.lvm_events.specs.Calls.{Closes, OpenGives}
+use Rattle.lvm_session.specs.State.{Core, State as Session, state}
+use Rattle.lvm_sound.specs.Sound.{IsSound}
+use Rattle.lvm_tie.specs.Tied.{IsTied}
+
+-- A copy that is opened, by whatever counts of faults, or isn't, leaves a tied session tied.
+abbrev pub OpenTies : Type 0
+OpenTies =
+    (past : List Fact) (s : Session) (new : Core) (counts : Counts) (lv lp number : ℕ) (answer : Result (Unit {0}) CopyFault)
+    → IsTied past s → IsSound (state s.device new) → OpenGives counts s.core new lv lp number answer → IsTied past (state s.device new)
+
+-- So does one that is closed.
+abbrev pub CloseTies : Type 0
+CloseTies = (past : List Fact) (s : Session) (new : Core) → IsTied past s → IsSound (state s.device new) → Closes s.core new → IsTied past (state s.device new)

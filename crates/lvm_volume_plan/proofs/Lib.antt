@@ -1,0 +1,5 @@
+pub mod Numbers
+pub mod Sublists
+pub mod NewDescriptor
+pub mod OldDescriptor
+pub mod Refusals

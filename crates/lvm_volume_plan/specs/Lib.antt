@@ -1,0 +1,3 @@
+pub mod NewVolume
+pub mod Faults
+pub mod PlannedVolume

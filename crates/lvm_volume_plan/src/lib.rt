@@ -1,0 +1,9 @@
+//! What stands against a volume that is to be made or removed, and what a new one is made of.
+#![tactic(auto)]
+
+mod fault;
+mod new_volume;
+mod next;
+
+pub use fault::GroupFault;
+pub use new_volume::{NewVolume, VolumePlan, prepare_without};

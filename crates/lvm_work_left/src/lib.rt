@@ -1,0 +1,10 @@
+//! How much work is left in a session.
+#![tactic(auto)]
+
+mod copy;
+mod requests;
+mod status;
+mod work;
+mod writes;
+
+pub use work::left;
