@@ -66,10 +66,9 @@ use Rattle.lvm_keeps_moves.proofs.Tables.{none_filter}
 use Rattle.lvm_keeps_ends.proofs.CopyReadFail.{by_place, by_sources, is_here}
 use Rattle.lvm_keeps_ends.proofs.Over.{even_rows, without_step}
 use Rattle.lvm_keeps_ends.proofs.Removal.{as_many, count_taken, none_left, others as others_of, rows_left, tickets_left}
-use Rattle.lvm_keeps_data.proofs.Dues.{own_pp, pp_same}
-use Rattle.lvm_keeps_data.proofs.Entailing.{group_low, some_size, whole_passes}
-use Rattle.lvm_keeps_data.proofs.Learned.{among_get}
-use Rattle.lvm_keeps_data.proofs.Lists.{all_and, all_pair, all_there, any_at, any_on, found_at, or_true}
+use Rattle.lvm_keeps_marks.proofs.Dues.{among_get, own_pp, pp_same}
+use Rattle.lvm_keeps_marks.proofs.Groups.{group_low, some_size, whole_passes}
+use Rattle.lvm_keeps_marks.proofs.Lists.{all_and, all_pair, all_there, any_at, any_on, found_at, or_true}
 use Rattle.lvm_map.proofs.Parts.{whole}
 
 -- ---- the hold queue

@@ -26,9 +26,9 @@ use Rattle.lvm_sound.specs.Sound.{IsGoing, IsSound}
 use Rattle.lvm_keeps.proofs.Small.{not_so}
 use Rattle.lvm_keeps_moves.proofs.Marking.{stays_open}
 use Rattle.lvm_keeps_ends.proofs.Removal.{IsOut, taken_out}
-use Rattle.lvm_keeps_data.proofs.Passing.{IsFresher, keeps, next, queue}
-use Rattle.lvm_keeps_data.proofs.Staling.{rows_by}
-use Rattle.lvm_keeps_data.specs.Ends.{CopyWriteEndKeeps, EndsGroup}
+use Rattle.lvm_keeps_group.proofs.Passing.{IsFresher, keeps, next, queue}
+use Rattle.lvm_keeps_marks.proofs.Staling.{rows_by}
+use Rattle.lvm_keeps_group.specs.Ends.{CopyWriteEndKeeps, EndsGroup}
 
 -- only what is wanted changes, and this partition is wanted fresh
 record IsFreshened (p : Pp) (old next : Stored) : Type 0 where

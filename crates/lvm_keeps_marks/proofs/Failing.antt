@@ -31,7 +31,7 @@ use Rattle.lvm_keeps.proofs.Small.{is_false, not_so}
 use Rattle.lvm_keeps.proofs.Still.{changed, open_on}
 use Rattle.lvm_keeps_moves.proofs.Tables.{none_filter}
 use Rattle.lvm_keeps_ends.proofs.Over.{even_rows, without_step}
-use Rattle.lvm_keeps_data.proofs.Lists.{or_false}
+use Rattle.lvm_keeps_marks.proofs.Lists.{or_false}
 
 -- ---- a core in which the copy, the hold queue and the pool have changed
 

@@ -48,7 +48,7 @@ use Rattle.lvm_keeps.proofs.Lists.{all_on}
 use Rattle.lvm_keeps.proofs.Small.{both, is_false, not_so}
 use Rattle.lvm_keeps.proofs.Tables.{apart}
 use Rattle.lvm_keeps_moves.proofs.Marking.{count_alike, filter_alike}
-use Rattle.lvm_keeps_data.proofs.Lists.{all_and, any_on, count_on, or_false, or_true}
+use Rattle.lvm_keeps_marks.proofs.Lists.{all_and, any_on, count_on, or_false, or_true}
 
 -- ---- the status
 

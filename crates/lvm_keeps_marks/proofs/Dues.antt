@@ -19,7 +19,7 @@ use Rattle.lvm_sound.specs.Sound.{count_if}
 use Rattle.lvm_keeps.proofs.Lists.{count_cons}
 use Rattle.lvm_keeps.proofs.Small.{both, not_so}
 use Rattle.lvm_keeps_ends.proofs.CopyReadFail.{pp_is}
-use Rattle.lvm_keeps_data.proofs.Lists.{all_and, all_true_at, and_false, any_at, or_true}
+use Rattle.lvm_keeps_marks.proofs.Lists.{all_and, all_true_at, and_false, any_at, or_true}
 
 -- ---- targets of partitions
 
@@ -53,6 +53,11 @@ pub among_at : (ts : List Target) (k : ℕ) (t : Target) → slice_get ts k ≡ 
 among_at [] k t there = absurd (cc there)
 among_at (x ∷ ts) zero t there = let same : x ≡ t = cc there in ap (λ (y : Target). is_pp t.pp y.pp || is_among (pps_of ts) t.pp) same ∙ ap (λ b. b || is_among (pps_of ts) t.pp) (own_pp t.pp)
 among_at (x ∷ ts) (suc k) t there = ap (λ b. is_pp t.pp x.pp || b) (among_at ts k t there) ∙ or_true (is_pp t.pp x.pp)
+
+pub among_get : (ps : List Pp) (k : ℕ) (p : Pp) → slice_get ps k ≡ Some p → is_among ps p ≡ true
+among_get [] k p there = absurd (cc there)
+among_get (q ∷ ps) zero p there = let same : q ≡ p = cc there in ap (λ (y : Pp). is_pp p y || is_among ps p) same ∙ ap (λ b. b || is_among ps p) (own_pp p)
+among_get (q ∷ ps) (suc k) p there = ap (λ b. is_pp p q || b) (among_get ps k p there) ∙ or_true (is_pp p q)
 
 -- the first has another partition than those behind it
 apart_head : (t : Target) (ts : List Target) → AllPairs (λ (a b : Target). a.pp ≢ b.pp) (t ∷ ts) → is_among (pps_of ts) t.pp ≡ false
