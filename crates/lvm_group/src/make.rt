@@ -1,5 +1,5 @@
 //! The steps by which a group is made, up to its being on.
-ghost use Rattle.std.specs.Prelude.{◌≡◌, ◌≢◌, ◌≤◌, ℕ, length, IfOk, IfErr, IsTrue, AllPairs};
+ghost use Rattle.std.specs.Prelude.{◌≡◌, ◌≢◌, ◌≤◌, ℕ, length, IfOk, IfErr, IsTrue, AllPairs, []};
 ghost use Rattle.std.specs.Option.{ForSome};
 ghost use Rattle.lvm_num.specs.Descriptor.{is_size};
 ghost use Rattle.lvm_disk.specs.Device.{IsReady};
