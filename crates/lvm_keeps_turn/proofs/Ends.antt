@@ -18,9 +18,10 @@ use Rattle.lvm_keeps_ends.proofs.CopyReadEnd.{copy_read_end_keeps}
 use Rattle.lvm_keeps_ends.proofs.CopyReadFail.{copy_read_fail_keeps}
 use Rattle.lvm_keeps_ends.proofs.CopyWriteFail.{copy_write_fail_keeps}
 use Rattle.lvm_keeps_ends.proofs.NoteEnd.{note_end_keeps}
-use Rattle.lvm_keeps_data.specs.Ends.{EndsData, EndsGroup}
-use Rattle.lvm_keeps_data.proofs.CopyWriteEnd.{copy_write_end_keeps}
+use Rattle.lvm_keeps_data.specs.Ends.{EndsData}
 use Rattle.lvm_keeps_data.proofs.DataEnd.{data_end_keeps}
+use Rattle.lvm_keeps_group.specs.Ends.{EndsGroup}
+use Rattle.lvm_keeps_group.proofs.CopyWriteEnd.{copy_write_end_keeps}
 use Rattle.lvm_keeps_data_falls.proofs.CopyFalls.{copy_quit_falls, copy_read_end_falls, copy_read_fail_falls, copy_write_fail_falls}
 use Rattle.lvm_keeps_data_falls.proofs.DataFalls.{data_end_falls}
 use Rattle.lvm_keeps_data_falls.proofs.GroupFalls.{copy_write_end_falls}

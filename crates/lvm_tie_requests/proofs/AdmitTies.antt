@@ -77,8 +77,8 @@ use Rattle.lvm_tie.specs.Out.{CarriesStep, CarryTheirs, IsWriteOf}
 use Rattle.lvm_tie.specs.Seen.{stage_at, phase_seen, update_of, SeesRequest, SeesOpen, SeesRunning, SeesCopy, IsRequestAt, IsStepAt, Sees}
 use Rattle.lvm_tie.specs.Tied.{IsOrderly, IsTied}
 use Rattle.lvm_tie_requests.specs.Requests.{AdmitTies}
-use Rattle.lvm_tie_requests.proofs.Landings.{done_begun}
-use Rattle.lvm_tie_requests.proofs.Unpinned.{cache_is, entries_stay}
+use Rattle.lvm_tie_lands.proofs.Landings.{done_begun}
+use Rattle.lvm_tie_lands.proofs.Unpinned.{cache_is, entries_stay}
 
 some_of : {X : Type 0} (a b : X) → Some a ≡ Some b → a ≡ b
 some_of a b e = cc

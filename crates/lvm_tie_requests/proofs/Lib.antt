@@ -1,9 +1,3 @@
 pub mod SubmitTies
-pub mod TakeTies
-pub mod Unpinned
-pub mod LandTies
-pub mod MarkedTies
-pub mod GotTies
-pub mod Landings
 pub mod AdmitTies
 pub mod PinTies

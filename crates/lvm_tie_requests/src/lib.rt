@@ -1,6 +1,6 @@
-//! The events of requests that start and end no transfer are events of the induction.
+//! Requests that are submitted, admitted and pin their track group are events of the induction.
 #![tactic(auto)]
 
 mod laws;
 
-pub use laws::{admit_ties, land_ties, pin_ties, submit_ties, take_ties};
+pub use laws::{admit_ties, pin_ties, submit_ties};

@@ -2,9 +2,6 @@ pub mod Starting
 pub mod Ties
 pub mod LaterTies
 pub mod Datas
-pub mod NoteTies
-pub mod MayBegin
-pub mod StatusTies
 pub mod CopySteps
 pub mod CopyReads
 pub mod CopyWrites

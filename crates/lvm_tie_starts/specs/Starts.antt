@@ -1,23 +1,11 @@
--- The starts of transfers.
-use Rattle.std.specs.Prelude.{ℕ, List}
-use Rattle.lvm_num.specs.Status.{IsValidStatus}
-use Rattle.lvm_vol.specs.Facts.{Fact}
-use Rattle.lvm_events.specs.Events.{ReadsCopy, StartsData, StartsNote, StartsStatus, WritesCopy}
-use Rattle.lvm_session.specs.State.{State as Session}
-use Rattle.lvm_sound.specs.Sound.{IsSound}
-use Rattle.lvm_tie.specs.Tied.{IsTied, Ties}
+-- The starts of transfers of data.
+use Rattle.std.specs.Prelude.{ℕ}
+use Rattle.lvm_events.specs.Events.{ReadsCopy, StartsData, WritesCopy}
+use Rattle.lvm_tie.specs.Tied.{Ties}
 
 -- A transfer of a request that starts leaves a tied session tied: the first of a write, a further one, and one of a read.
 abbrev pub DataStartTies : Type 0
 DataStartTies = (place target : ℕ) → Ties (λ old new. StartsData old new place target)
-
--- So does a note that starts.
-abbrev pub NoteStartTies : Type 0
-NoteStartTies = (place disk : ℕ) → Ties (λ old new. StartsNote old new place disk)
-
--- So does a write of the status that starts, the first of an update or a further one, where what is wanted is a status that a record can have.
-abbrev pub StatusStartTies : Type 0
-StatusStartTies = (past : List Fact) (old new : Session) → IsTied past old → IsSound new → IsValidStatus old.core.status.wanted → StartsStatus old new → IsTied past new
 
 -- So does the read by which a copy is brought up, and its write.
 abbrev pub CopyReadTies : Type 0

@@ -1,0 +1,14 @@
+//! Laws of requests that land and are taken: each leaves a tied session tied. Each call does nothing: its contract is the
+//! law.
+ghost use Rattle.lvm_tie_lands.specs.Lands.{LandTies, TakeTies};
+
+/// A request that lands leaves a tied session tied, as Lost where the copy that is being brought up has passed none of
+/// its targets.
+pub fn land_ties()
+    ensures { LandTies }
+{}
+
+/// So does an answer that is taken, or isn't there yet.
+pub fn take_ties()
+    ensures { TakeTies }
+{}
