@@ -2,3 +2,4 @@ pub mod Parts
 pub mod Shelf
 pub mod Seen
 pub mod Worked
+pub mod Waiting

@@ -1,12 +1,15 @@
 -- A session that has just begun, worked by hand: over two disks that mirror a volume and hold its records. (That what is asked of a tied session can be met.)
-use Rattle.std.specs.Prelude.{Bool, false, List, [], ◌∷◌, None, replicate}
+use Rattle.std.specs.Prelude.{ℕ, Bool, false, List, [], ◌∷◌, Option, Some, None, replicate}
 use Rattle.lvm_num.specs.declared.descriptor.Mode.{Mode}
 use Rattle.lvm_num.specs.declared.status.Status.{Status}
 use Rattle.lvm_vol.specs.Facts.{Fact}
 use Rattle.lvm_kept.specs.Examples.{two}
 use Rattle.lvm_mwc.specs.Cache.{no_notes}
+use Rattle.lvm_path.specs.declared.ask.Ask.{Ask}
+use Rattle.lvm_path.specs.declared.ask.Ask.TheVariants.{Write}
 use Rattle.lvm_session.specs.declared.open.Power.TheVariants as power
 use Rattle.lvm_session.specs.State.{Core, State, state}
+use Rattle.lvm_events.specs.Calls.{submitted}
 use Rattle.lvm_invariant.specs.First.{at_rest}
 use Rattle.lvm_crash.specs.Worked.{Shown, status_shown, device_of}
 use Rattle.lvm_tie.specs.Tied.{IsTied}
@@ -26,7 +29,7 @@ making mode = (at_rest mode false).facts
 abbrev pub core_of : Mode → Bool → Core
 core_of mode stale = record {
   descriptor = two mode;
-  history = record { run = 50; facts = []; room = 65536; bytes = 0 };
+  history = record { run = 50; facts = []; room = 65536; bytes = 65536 };
   requests = [];
   most = 1;
   queue = record { room = 2; rows = [] };
@@ -55,3 +58,18 @@ begun mode stale = state (device_of (shown mode stale) []) (core_of mode stale)
 -- It is tied, in each mode, with a stale copy or without.
 abbrev pub BeginningsAreTied : Type 0
 BeginningsAreTied = (mode : Mode) (stale : Bool) → IsTied (making mode) (begun mode stale)
+
+-- a write of the volume's first block
+abbrev pub a_write : Ask
+a_write = Write 1 0 1
+
+abbrev pub its_bytes : Option (List ℕ)
+its_bytes = Some (replicate 512 1)
+
+-- the session once a client has submitted the write, which waits
+abbrev pub waiting : Mode → Bool → State
+waiting mode stale = state (begun mode stale).device (submitted (core_of mode stale) 0 a_write its_bytes)
+
+-- So it is where a write waits.
+abbrev pub WaitingAreTied : Type 0
+WaitingAreTied = (mode : Mode) (stale : Bool) → IsTied (making mode) (waiting mode stale)
