@@ -1,0 +1,5 @@
+pub mod Parts
+pub mod Shelf
+pub mod Seen
+pub mod Worked
+pub mod Waiting

@@ -1,0 +1,75 @@
+-- A session that has just begun, worked by hand: over two disks that mirror a volume and hold its records. (That what is asked of a tied session can be met.)
+use Rattle.std.specs.Prelude.{ℕ, Bool, false, List, [], ◌∷◌, Option, Some, None, replicate}
+use Rattle.lvm_num.specs.declared.descriptor.Mode.{Mode}
+use Rattle.lvm_num.specs.declared.status.Status.{Status}
+use Rattle.lvm_vol.specs.Facts.{Fact}
+use Rattle.lvm_kept.specs.Examples.{two}
+use Rattle.lvm_mwc.specs.Cache.{no_notes}
+use Rattle.lvm_path.specs.declared.ask.Ask.{Ask}
+use Rattle.lvm_path.specs.declared.ask.Ask.TheVariants.{Write}
+use Rattle.lvm_session.specs.declared.open.Power.TheVariants as power
+use Rattle.lvm_session.specs.State.{Core, State, state}
+use Rattle.lvm_events.specs.Calls.{submitted}
+use Rattle.lvm_invariant.specs.First.{at_rest}
+use Rattle.lvm_crash.specs.Worked.{Shown, status_shown, device_of}
+use Rattle.lvm_tie.specs.Tied.{IsTied}
+
+-- what both disks show: the second copy is stale or not, the volume isn't dirty, and nothing is named
+abbrev pub shown : Mode → Bool → Shown
+shown mode stale = record { mode = mode; stale = stale; dirty = false; named = false }
+
+abbrev pub table : Mode → Bool → Status
+table mode stale = (status_shown (shown mode stale)).value
+
+-- the earlier history: the volume was made
+abbrev pub making : Mode → List Fact
+making mode = (at_rest mode false).facts
+
+-- The session has come on with this status, and nothing has happened since; there is room for a request, and one buffer.
+abbrev pub core_of : Mode → Bool → Core
+core_of mode stale = record {
+  descriptor = two mode;
+  history = record { run = 50; facts = []; room = 65536; bytes = 65536 };
+  requests = [];
+  most = 1;
+  queue = record { room = 2; rows = [] };
+  copy = None;
+  pool = false ∷ [];
+  flying = [];
+  status = record {
+    group = record (two mode) { lvs = [] };
+    committed = table mode stale;
+    wanted = table mode stale;
+    in_flight = None;
+    writes = record { unstarted = 0; started = 0; written = 0; failed = 0 };
+    stamp = record { epoch = 50; seq = 2 };
+  };
+  cache = record { entries = []; notes = no_notes 0 ∷ no_notes 1 ∷ [] };
+  -- the next records go to the second slots of both disks
+  homes = record { descriptor = 3; status = 3 };
+  last = replicate 512 0;
+  origin = record { faults = replicate 128 0; table = table mode stale };
+  power = power.On;
+}
+
+abbrev pub begun : Mode → Bool → State
+begun mode stale = state (device_of (shown mode stale) []) (core_of mode stale)
+
+-- It is tied, in each mode, with a stale copy or without.
+abbrev pub BeginningsAreTied : Type 0
+BeginningsAreTied = (mode : Mode) (stale : Bool) → IsTied (making mode) (begun mode stale)
+
+-- a write of the volume's first block
+abbrev pub a_write : Ask
+a_write = Write 1 0 1
+
+abbrev pub its_bytes : Option (List ℕ)
+its_bytes = Some (replicate 512 1)
+
+-- the session once a client has submitted the write, which waits
+abbrev pub waiting : Mode → Bool → State
+waiting mode stale = state (begun mode stale).device (submitted (core_of mode stale) 0 a_write its_bytes)
+
+-- So it is where a write waits.
+abbrev pub WaitingAreTied : Type 0
+WaitingAreTied = (mode : Mode) (stale : Bool) → IsTied (making mode) (waiting mode stale)

@@ -1,0 +1,6 @@
+//! Sessions, worked by hand, that are tied to a good state of the induction.
+#![tactic(auto)]
+
+mod laws;
+
+pub use laws::{beginnings_are_tied, waiting_are_tied};
