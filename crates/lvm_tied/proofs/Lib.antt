@@ -3,3 +3,4 @@ pub mod Shelf
 pub mod Seen
 pub mod Worked
 pub mod Waiting
+pub mod Admitted

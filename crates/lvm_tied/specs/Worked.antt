@@ -1,15 +1,19 @@
 -- A session that has just begun, worked by hand: over two disks that mirror a volume and hold its records. (That what is asked of a tied session can be met.)
-use Rattle.std.specs.Prelude.{ℕ, Bool, false, List, [], ◌∷◌, Option, Some, None, replicate}
+use Rattle.std.specs.Prelude.{ℕ, Bool, false, List, [], ◌∷◌, Option, Some, None, map, replicate, true}
 use Rattle.lvm_num.specs.declared.descriptor.Mode.{Mode}
+use Rattle.lvm_num.specs.declared.descriptor.Mode.TheVariants.{Active, Passive, Off}
 use Rattle.lvm_num.specs.declared.status.Status.{Status}
 use Rattle.lvm_vol.specs.Facts.{Fact}
 use Rattle.lvm_kept.specs.Examples.{two}
 use Rattle.lvm_mwc.specs.Cache.{no_notes}
 use Rattle.lvm_path.specs.declared.ask.Ask.{Ask}
 use Rattle.lvm_path.specs.declared.ask.Ask.TheVariants.{Write}
+use Rattle.lvm_path.specs.declared.target.Target.{Target}
 use Rattle.lvm_session.specs.declared.open.Power.TheVariants as power
 use Rattle.lvm_session.specs.State.{Core, State, state}
-use Rattle.lvm_events.specs.Calls.{submitted}
+use Rattle.lvm_session.specs.Judging.{aims}
+use Rattle.lvm_events.specs.Calls.{new_open, submitted}
+use Rattle.lvm_events.specs.Events.{after_admission, target_at}
 use Rattle.lvm_invariant.specs.First.{at_rest}
 use Rattle.lvm_crash.specs.Worked.{Shown, status_shown, device_of}
 use Rattle.lvm_tie.specs.Tied.{IsTied}
@@ -73,3 +77,16 @@ waiting mode stale = state (begun mode stale).device (submitted (core_of mode st
 -- So it is where a write waits.
 abbrev pub WaitingAreTied : Type 0
 WaitingAreTied = (mode : Mode) (stale : Bool) → IsTied (making mode) (waiting mode stale)
+
+-- The write is admitted: its targets are the fresh copies.
+abbrev pub targets : Mode → Bool → List Target
+targets mode stale = map (target_at (waiting mode stale) a_write) (aims (waiting mode stale).core a_write)
+
+abbrev pub admitted : Mode → Bool → State
+admitted mode stale = state (waiting mode stale).device (after_admission (waiting mode stale).core 0 (new_open 1 0 a_write 0) (targets mode stale) [])
+
+-- So it is then, where the volume needn't be wanted dirty.
+pub record AdmittedAreTied : Type 0 where
+  pub active : (stale : Bool) → IsTied (making Active) (admitted Active stale)
+  pub passive : IsTied (making Passive) (admitted Passive true)
+  pub off : (stale : Bool) → IsTied (making Off) (admitted Off stale)

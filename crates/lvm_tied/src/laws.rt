@@ -1,5 +1,5 @@
 //! Laws of sessions that are worked by hand. Each call does nothing: its contract is the law.
-ghost use Rattle.lvm_tied.specs.Worked.{BeginningsAreTied, WaitingAreTied};
+ghost use Rattle.lvm_tied.specs.Worked.{AdmittedAreTied, BeginningsAreTied, WaitingAreTied};
 
 /// A session that has just begun, over two disks that mirror a volume and hold its records, is tied, in each mode, with a stale
 /// copy or without.
@@ -10,4 +10,9 @@ pub fn beginnings_are_tied()
 /// So is the session that follows once a client has submitted a write, which waits.
 pub fn waiting_are_tied()
     ensures { WaitingAreTied }
+{}
+
+/// So it is once the write is admitted.
+pub fn admitted_are_tied()
+    ensures { AdmittedAreTied }
 {}
