@@ -4,3 +4,4 @@ pub mod Seen
 pub mod Worked
 pub mod Waiting
 pub mod Admitted
+pub mod Writing

@@ -1,19 +1,24 @@
 -- A session that has just begun, worked by hand: over two disks that mirror a volume and hold its records. (That what is asked of a tied session can be met.)
-use Rattle.std.specs.Prelude.{ℕ, Bool, false, List, [], ◌∷◌, Option, Some, None, map, replicate, true}
+use Rattle.std.specs.Prelude.{ℕ, Bool, false, true, ◌==◌, if◌then◌else◌, List, [], ◌∷◌, Option, Some, None, map, replicate}
 use Rattle.lvm_num.specs.declared.descriptor.Mode.{Mode}
 use Rattle.lvm_num.specs.declared.descriptor.Mode.TheVariants.{Active, Passive, Off}
 use Rattle.lvm_num.specs.declared.status.Status.{Status}
+use Rattle.lvm_num.specs.declared.descriptor.Policy.TheVariants.{Parallel}
+use Rattle.lvm_num.specs.Buffer.{zero_sector}
+use Rattle.lvm_num.specs.Geometry.{data_start}
+use Rattle.lvm_disk.specs.Device.{Device, Flight}
 use Rattle.lvm_vol.specs.Facts.{Fact}
 use Rattle.lvm_kept.specs.Examples.{two}
 use Rattle.lvm_mwc.specs.Cache.{no_notes}
 use Rattle.lvm_path.specs.declared.ask.Ask.{Ask}
 use Rattle.lvm_path.specs.declared.ask.Ask.TheVariants.{Write}
 use Rattle.lvm_path.specs.declared.target.Target.{Target}
+use Rattle.lvm_session.specs.declared.flown.Owner.TheVariants.{Data}
 use Rattle.lvm_session.specs.declared.open.Power.TheVariants as power
 use Rattle.lvm_session.specs.State.{Core, State, state}
 use Rattle.lvm_session.specs.Judging.{aims}
 use Rattle.lvm_events.specs.Calls.{new_open, submitted}
-use Rattle.lvm_events.specs.Events.{after_admission, target_at}
+use Rattle.lvm_events.specs.Events.{admitted_as, after_admission, begun_as, target_at, with_flight, with_open}
 use Rattle.lvm_invariant.specs.First.{at_rest}
 use Rattle.lvm_crash.specs.Worked.{Shown, status_shown, device_of}
 use Rattle.lvm_tie.specs.Tied.{IsTied}
@@ -90,3 +95,18 @@ pub record AdmittedAreTied : Type 0 where
   pub active : (stale : Bool) → IsTied (making Active) (admitted Active stale)
   pub passive : IsTied (making Passive) (admitted Passive true)
   pub off : (stale : Bool) → IsTied (making Off) (admitted Off stale)
+
+-- Of a volume that keeps no record, whose copies are fresh: the transfer to the first one is out, and the one to the second waits for a buffer.
+abbrev pub transfer : Flight
+transfer = record { ticket = 1; disk = 0; first = data_start; count = 1; write = true; buf = record { number = 0; sectors = replicate 512 1 ∷ replicate 255 zero_sector } }
+
+abbrev pub launched : Device
+launched = let old = device_of (shown Off false) [] in record old { flights = transfer ∷ []; counts = record old.counts { starts = λ d. if d == 0 then 1 else 0 } }
+
+abbrev pub writing : State
+writing = let core = (admitted Off false).core in
+    state launched (record (with_flight (with_open core 0 (begun_as 0 (admitted_as Parallel Off (targets Off false) (new_open 1 0 a_write 0)))) transfer (Data 1 0)) { pool = true ∷ [] })
+
+-- So it is then.
+abbrev pub WritingIsTied : Type 0
+WritingIsTied = IsTied (making Off) writing

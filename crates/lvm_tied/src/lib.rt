@@ -3,4 +3,4 @@
 
 mod laws;
 
-pub use laws::{admitted_are_tied, beginnings_are_tied, waiting_are_tied};
+pub use laws::{admitted_are_tied, beginnings_are_tied, waiting_are_tied, writing_is_tied};
