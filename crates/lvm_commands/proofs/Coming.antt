@@ -24,7 +24,8 @@ use Rattle.lvm_core.specs.Coming.{BringsOn, IsStarted, shelf_left, history_left}
 use Rattle.lvm_core.specs.Held.{StartsHeld}
 use Rattle.lvm_core.specs.Sound.{HaveAllLanded}
 use Rattle.lvm_core.specs.Settled.{IsSettled as IsSettledCore}
-use Rattle.lvm_core.specs.State.{Core, state_of}
+use Rattle.lvm_session.specs.State.{Core}
+use Rattle.lvm_core.specs.State.{state_of}
 use Rattle.lvm_commands.specs.Ends.{CommandEnds}
 use Rattle.lvm_commands.specs.Groups.{IsLit, refusal_of}
 use Rattle.lvm_commands.specs.Moments.{GoesOn}

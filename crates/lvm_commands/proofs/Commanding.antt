@@ -18,9 +18,7 @@ use Rattle.lvm_commit.proofs.Others.{one_by_all_is_only_since}
 use Rattle.lvm_core.specs.Held.{IsHeld}
 use Rattle.lvm_core.specs.Settled.{IsSettled as IsSettledCore}
 use Rattle.lvm_core.specs.Sound.{HaveAllLanded}
-use Rattle.lvm_core.specs.State.{Core, State as Session, state}
-use Rattle.lvm_volume_plan.specs.declared.fault.GroupFault.{GroupFault}
-use Rattle.lvm_volume_plan.specs.declared.fault.GroupFault.TheVariants as fault
+use Rattle.lvm_session.specs.State.{Core, State as Session, state}
 use Rattle.lvm_volumes.specs.Endings.{IfAlone, StillHeld, commanding}
 use Rattle.lvm_volumes.proofs.Entering.{shows_committed}
 use Rattle.lvm_commands.specs.Moments.{GoesOn}
@@ -33,6 +31,8 @@ use Rattle.lvm_commands.specs.declared.reply.Reply.TheVariants as reply
 use Rattle.lvm_commands.specs.declared.stage.Stage.{Stage}
 use Rattle.lvm_commands.specs.declared.stage.Stage.TheVariants as stage
 use Rattle.lvm_commands.proofs.Coming.{LitUp, lit_up, at_rest}
+use Rattle.lvm_volume_plan.specs.declared.fault.GroupFault.{GroupFault}
+use Rattle.lvm_volume_plan.specs.declared.fault.GroupFault.TheVariants as fault
 
 -- ---- what a command promises, whatever its answer
 

@@ -20,13 +20,14 @@ use Rattle.lvm_stamps.specs.Behind.{IsBehind}
 use Rattle.lvm_stamps.proofs.Shelves.{no_more_stays_behind}
 use Rattle.lvm_stamps.proofs.Clock.{later_joins}
 use Rattle.lvm_transfer.specs.Transfer.{Relights}
-use Rattle.lvm_core.specs.declared.request.Open.{Open}
-use Rattle.lvm_core.specs.Dark.{dark_log}
+use Rattle.lvm_session.specs.declared.open.Open.{Open}
+use Rattle.lvm_vol.specs.declared.entry.Outcome.TheVariants as outcome
+use Rattle.lvm_events.specs.Dark.{with_landings}
 use Rattle.lvm_core.specs.Settled.{IsSettled as IsSettledCore}
-use Rattle.lvm_core.specs.State.{Core}
+use Rattle.lvm_session.specs.State.{Core}
 use Rattle.lvm_commit.specs.Settling.{NoneIsLeft}
 use Rattle.lvm_core.specs.Held.{IsHeld, AreNotesHome}
-use Rattle.lvm_core.proofs.Telling.{open_cut}
+use Rattle.lvm_core.proofs.Dark.{cut_landed}
 use Rattle.lvm_commands.specs.Ends.{EndsUnasked}
 use Rattle.lvm_commands.specs.Moments.{GoesOn}
 use Rattle.lvm_commands.specs.Shelves.{IsCut, CutDoes, PowerIsCut}
@@ -100,7 +101,7 @@ module _ (log : Log) (word : ℕ) (old new : State) (settled : IsSettled old.mom
         freed = ap (λ (d : Device). d.freed) cut.lit;
         power = ap (λ (d : Device). d.power) cut.lit;
       };
-      landed = λ id. ap (λ (facts : List Fact). is_open facts id) cut.facts ∙ open_cut (log_with log old.moment.facts) id ∙ settled.landed id;
+      landed = λ id. ap (λ (facts : List Fact). is_open facts id) cut.facts ∙ cut_landed (log_with log old.moment.facts) settled.landed id;
       session = subst (λ (s : Option Core). IfSome s IsSettledCore) (sym cut.session) tt;
     };
     power = ap (λ (d : Device). d.power) cut.lit;
@@ -134,8 +135,8 @@ cut_rooms log = go (is_uncut log.facts) refl
     go false is = ap (λ (b : Bool). without_facts (if b then log_with log (log.facts ++ Cut ∷ []) else log)) is
 
 -- a session at which nothing is under way enters a cut alone
-dark_alone : (log : Log) (requests : List Open) → requests ≡ [] → dark_log log requests ≡ cut_log log
-dark_alone log requests none = ap (dark_log log) none ∙ ap (λ (facts : List Fact). log_with (cut_log log) facts) (append-nil (cut_log log).facts)
+dark_alone : (log : Log) (requests : List Open) → requests ≡ [] → with_landings outcome.Dark (cut_log log) requests ≡ cut_log log
+dark_alone log requests none = ap (with_landings outcome.Dark (cut_log log)) none ∙ ap (λ (facts : List Fact). log_with (cut_log log) facts) (append-nil (cut_log log).facts)
 
 pub cut_history : (word : ℕ) (log : Log) (session : Option Core) → ((core : Core) → session ≡ Some core → core.history ≡ log) → IfSome session IsSettledCore → cut_log (history_after (arrange.Cut word) true log session) ≡ cut_log log
 cut_history word log None its idle = refl

@@ -5,17 +5,17 @@ use Rattle.lvm_disk.specs.Device.{Device, IsReady}
 use Rattle.lvm_transfer.specs.Transfer.{Relights}
 use Rattle.lvm_write.specs.Written.{IsGivenUp}
 use Rattle.lvm_commit.specs.Settling.{HasLostQuorum}
-use Rattle.lvm_core.specs.declared.request.Power.TheVariants as power
-use Rattle.lvm_core.specs.State.{State as Session}
-use Rattle.lvm_volume_plan.specs.declared.fault.GroupFault.{GroupFault}
-use Rattle.lvm_volume_plan.specs.declared.fault.GroupFault.TheVariants as fault
-use Rattle.lvm_volume_plan.specs.declared.new_volume.NewVolume.{NewVolume}
+use Rattle.lvm_session.specs.declared.open.Power.TheVariants as power
+use Rattle.lvm_session.specs.State.{State as Session}
 use Rattle.lvm_volumes.specs.Volumes.{MklvGives, RmlvGives}
 use Rattle.lvm_commands.specs.declared.reply.Refusal.TheVariants as refusal
 use Rattle.lvm_commands.specs.declared.reply.Reply.TheVariants as reply
 use Rattle.lvm_commands.proofs.Coming.{LitUp}
 use Rattle.lvm_commands.proofs.Commanding.{lit_rest, lit_dark, lit_stuck}
 use Rattle.lvm_commands.specs.Volumes.{is_over, volume_reply}
+use Rattle.lvm_volume_plan.specs.declared.fault.GroupFault.{GroupFault}
+use Rattle.lvm_volume_plan.specs.declared.fault.GroupFault.TheVariants as fault
+use Rattle.lvm_volume_plan.specs.declared.new_volume.NewVolume.{NewVolume}
 
 -- ---- what is known by the answer
 

@@ -10,7 +10,7 @@ use Rattle.lvm_kept.specs.Moments.{Moment}
 use Rattle.lvm_stamps.specs.Behind.{IsAhead}
 use Rattle.lvm_stamps.proofs.Stamps.{later_is_ahead_too}
 use Rattle.lvm_stamps.proofs.Clock.{later_is_later_too}
-use Rattle.lvm_core.specs.State.{Core}
+use Rattle.lvm_session.specs.State.{Core}
 use Rattle.lvm_commands.specs.Groups.{IsAsked, EndsSession}
 use Rattle.lvm_steps.proofs.Spans.{keeps_still}
 use Rattle.lvm_transfer.specs.Transfer.{Relights}

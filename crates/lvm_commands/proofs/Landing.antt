@@ -6,12 +6,12 @@ use Rattle.lvm_vol.specs.declared.entry.Vol.TheVariants.{Lv}
 use Rattle.lvm_vol.specs.Facts.{Making, Made, Removing, Removed}
 use Rattle.lvm_vol.specs.Log.{Log}
 use Rattle.lvm_core.specs.Sound.{HaveAllLanded}
-use Rattle.lvm_core.specs.State.{Core, State as Session}
+use Rattle.lvm_session.specs.State.{Core, State as Session}
+use Rattle.lvm_volumes.specs.Volumes.{MklvGives, RmlvGives, HasEntered, making, removing}
+use Rattle.lvm_commands.proofs.Passive.{open_more, bears_cut, landed_bears}
 use Rattle.lvm_volume_plan.specs.declared.fault.GroupFault.{GroupFault}
 use Rattle.lvm_volume_plan.specs.declared.fault.GroupFault.TheVariants as fault
 use Rattle.lvm_volume_plan.specs.declared.new_volume.NewVolume.{NewVolume}
-use Rattle.lvm_volumes.specs.Volumes.{MklvGives, RmlvGives, HasEntered, making, removing}
-use Rattle.lvm_commands.proofs.Passive.{open_more, bears_cut, landed_bears}
 
 abbrev Landed : Log → Type 0
 Landed log = HaveAllLanded log.facts

@@ -10,7 +10,7 @@ use Rattle.lvm_core.specs.declared.refused.Cause.{Cause}
 use Rattle.lvm_core.specs.declared.refused.Cause.TheVariants as cause
 use Rattle.lvm_core.specs.declared.refused.Refused.{Refused}
 use Rattle.lvm_core.specs.Sound.{HaveAllLanded}
-use Rattle.lvm_core.specs.State.{Core}
+use Rattle.lvm_session.specs.State.{Core}
 use Rattle.lvm_group.specs.Made.{Refuses, MkvgGives}
 use Rattle.lvm_group.specs.NewGroup.{NewGroup, given_up}
 use Rattle.lvm_commands.specs.Disks.{patience_of_line}

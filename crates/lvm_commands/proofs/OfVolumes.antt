@@ -6,10 +6,8 @@ use Rattle.lvm_disk.specs.Device.{Device}
 use Rattle.lvm_write.specs.Written.{KeepsShelf}
 use Rattle.lvm_core.specs.Settled.{IsSettled as IsSettledCore}
 use Rattle.lvm_core.specs.Sound.{HaveAllLanded}
-use Rattle.lvm_core.specs.State.{Core, State as Session, state}
+use Rattle.lvm_session.specs.State.{Core, State as Session, state}
 use Rattle.lvm_core.specs.Leaves.{FindsOnly, Leaves}
-use Rattle.lvm_volume_plan.specs.declared.fault.GroupFault.{GroupFault}
-use Rattle.lvm_volume_plan.specs.declared.fault.GroupFault.TheVariants as fault
 use Rattle.lvm_volumes.specs.Endings.{IfOn, StillHeld, commanding}
 use Rattle.lvm_commands.specs.Disks.{patience_of_line}
 use Rattle.lvm_commands.specs.Moments.{GoesOn}
@@ -22,10 +20,12 @@ use Rattle.lvm_commands.proofs.Commanding.{Promised, session_of, goes_on, goes_o
 use Rattle.lvm_commands.proofs.Ending.{Facts, ready_still, lit_after}
 use Rattle.lvm_vol.specs.Log.{Log}
 use Rattle.lvm_core.specs.Looking.{IsNumberOf}
-use Rattle.lvm_volume_plan.specs.declared.new_volume.NewVolume.{NewVolume}
 use Rattle.lvm_commands.specs.Ends.{EndsUnasked}
 use Rattle.lvm_commands.specs.Listings.{IsOn}
 use Rattle.lvm_commands.specs.State.{State, without_facts}
+use Rattle.lvm_volume_plan.specs.declared.fault.GroupFault.{GroupFault}
+use Rattle.lvm_volume_plan.specs.declared.fault.GroupFault.TheVariants as fault
+use Rattle.lvm_volume_plan.specs.declared.new_volume.NewVolume.{NewVolume}
 
 -- ---- by the answer
 

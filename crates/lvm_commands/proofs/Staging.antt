@@ -2,7 +2,7 @@
 use Rattle.std.proofs.Common.{◌≡◌, ℕ, Option, Some, None, IsSome, IfSome, refl, sym, ap, subst}
 use Rattle.lvm_disk.specs.Device.{Device}
 use Rattle.lvm_io.specs.Count.{Rose}
-use Rattle.lvm_core.specs.State.{Core}
+use Rattle.lvm_session.specs.State.{Core}
 use Rattle.lvm_commands.specs.Groups.{IsAsked}
 use Rattle.lvm_commands.specs.Stages.{state_in, IsSettledStage}
 use Rattle.lvm_commands.specs.declared.stage.Stage.{Stage}

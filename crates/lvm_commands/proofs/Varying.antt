@@ -11,7 +11,7 @@ use Rattle.lvm_core.specs.declared.refused.Cause.{Cause}
 use Rattle.lvm_core.specs.declared.refused.Cause.TheVariants as cause
 use Rattle.lvm_core.specs.declared.refused.Refused.{Refused}
 use Rattle.lvm_core.specs.Sound.{HaveAllLanded}
-use Rattle.lvm_core.specs.State.{Core}
+use Rattle.lvm_session.specs.State.{Core}
 use Rattle.lvm_varyon.specs.Restated.{HasNoConsistency}
 use Rattle.lvm_varyon.specs.Varied.{IsRestated, IsRecovered, Refuses, VaryonGives, log_after}
 use Rattle.lvm_commands.specs.Disks.{patience_of_line}

@@ -8,7 +8,7 @@ use Rattle.lvm_stamps.specs.Behind.{ClockIsAhead}
 use Rattle.lvm_core.specs.declared.parts.Room.{Room}
 use Rattle.lvm_core.specs.declared.refused.Cause.{Cause}
 use Rattle.lvm_core.specs.declared.refused.Cause.TheVariants as cause
-use Rattle.lvm_core.specs.State.{Core}
+use Rattle.lvm_session.specs.State.{Core}
 use Rattle.lvm_group.specs.NewGroup.{NewGroup}
 use Rattle.lvm_group.specs.Made.{IsMade, Refuses as MkvgRefuses}
 use Rattle.lvm_num.specs.declared.descriptor.Descriptor.{Descriptor}

@@ -4,7 +4,7 @@ use Rattle.lvm_num.specs.declared.descriptor.PvRow.{PvRow}
 use Rattle.lvm_num.specs.Descriptor.{member_of}
 use Rattle.lvm_show.specs.Listings.{group_text, volumes_text, volume_map_text, disk_text}
 use Rattle.lvm_core.specs.Looking.{IsNumberOf, HasNoVolume}
-use Rattle.lvm_core.specs.State.{Core}
+use Rattle.lvm_session.specs.State.{Core}
 use Rattle.lvm_commands.specs.Replies.{Shows}
 use Rattle.lvm_commands.specs.declared.reply.Refusal.{Refusal}
 use Rattle.lvm_commands.specs.declared.reply.Refusal.TheVariants as refusal

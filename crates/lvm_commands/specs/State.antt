@@ -7,7 +7,7 @@ use Rattle.lvm_kept.specs.Moments.{Moment}
 use Rattle.lvm_steps.specs.VaryingOn.{HasNoActive}
 use Rattle.lvm_stamps.specs.Behind.{IsAhead}
 use Rattle.lvm_commit.specs.Settling.{NoneIsLeft}
-use Rattle.lvm_core.specs.State.{Core}
+use Rattle.lvm_session.specs.State.{Core}
 use Rattle.lvm_core.specs.Sound.{HaveAllLanded}
 use Rattle.lvm_core.specs.Held.{IsHeld, AreNotesHome}
 use Rattle.lvm_core.specs.Settled.{IsSettled as IsSettledCore}

@@ -7,13 +7,9 @@ use Rattle.lvm_num.specs.declared.place.Pp.{Pp}
 use Rattle.lvm_transfer.specs.Transfer.{Relights}
 use Rattle.lvm_write.specs.Written.{KeepsShelf}
 use Rattle.lvm_core.specs.Looking.{IsNumberOf, HasNoVolume}
-use Rattle.lvm_core.specs.declared.request.Power.TheVariants as power
-use Rattle.lvm_core.specs.State.{Core, State as Session, state, is_there}
+use Rattle.lvm_session.specs.declared.open.Power.TheVariants as power
+use Rattle.lvm_session.specs.State.{Core, State as Session, state, is_there}
 use Rattle.lvm_core.specs.Leaves.{NoPartition, IsOfCommand, KeepsStatus, FindsOnly}
-use Rattle.lvm_volume_plan.specs.declared.fault.GroupFault.{GroupFault}
-use Rattle.lvm_volume_plan.specs.declared.fault.GroupFault.TheVariants as fault
-use Rattle.lvm_volume_plan.specs.declared.new_volume.NewVolume.{NewVolume}
-use Rattle.lvm_volume_plan.specs.NewVolume.{without_volume}
 use Rattle.lvm_volumes.specs.Volumes.{IsWith, IsChosen, MklvGives, RmlvGives}
 use Rattle.lvm_commands.specs.Disks.{patience_of_line}
 use Rattle.lvm_commands.specs.Listings.{IsOn, IsNotOn}
@@ -23,6 +19,10 @@ use Rattle.lvm_commands.specs.declared.reply.Refusal.{Refusal}
 use Rattle.lvm_commands.specs.declared.reply.Refusal.TheVariants as refusal
 use Rattle.lvm_commands.specs.declared.reply.Reply.{Reply}
 use Rattle.lvm_commands.specs.declared.reply.Reply.TheVariants as reply
+use Rattle.lvm_volume_plan.specs.declared.fault.GroupFault.{GroupFault}
+use Rattle.lvm_volume_plan.specs.declared.fault.GroupFault.TheVariants as fault
+use Rattle.lvm_volume_plan.specs.declared.new_volume.NewVolume.{NewVolume}
+use Rattle.lvm_volume_plan.specs.NewVolume.{without_volume}
 
 -- a fault of a command on a group, as the refusal of its line
 abbrev pub refusal_for : GroupFault → Refusal

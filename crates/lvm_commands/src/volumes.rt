@@ -2,7 +2,7 @@
 ghost use Rattle.std.specs.Prelude.{◌≡◌, ◌≤◌, ℕ, [], List, Err, true, IsTrue, IsFalse};
 ghost use Rattle.lvm_num.specs.declared.descriptor.Mode.TheVariants.{Off};
 ghost use Rattle.lvm_transfer.specs.Transfer.{Relights};
-ghost use Rattle.lvm_core.specs.State.{state};
+ghost use Rattle.lvm_session.specs.State.{state};
 ghost use Rattle.lvm_core.specs.Looking.{IsNumberOf};
 ghost use Rattle.lvm_commands.specs.Listings.{IsOn};
 ghost use Rattle.lvm_commands.specs.Ends.{EndsUnasked};

@@ -1,29 +1,31 @@
 -- A session stays sound when its shelf is told to fail, to heal or to cut the power.
-use Rattle.std.proofs.Common.{◌≡◌, inl, inr, ℕ, ◌≤◌, ◌+◌, Bool, true, false, List, [], ◌∷◌, map, refl, sym, ◌∙◌, ap, subst, arith}
-use Rattle.std.specs.Prelude.{cond, count_by, slice_index_or}
-use Rattle.std.proofs.lemmas.List.{length-map}
+use Rattle.std.proofs.Common.{◌≡◌, inl, inr, ℕ, ◌+◌, Bool, true, false, List, [], ◌∷◌, map, refl, sym, ◌∙◌, ap, subst, arith}
+use Rattle.std.specs.Prelude.{cond, count_by}
 use Rattle.std.proofs.lemmas.List.Sums.{sum_by-append}
 use Rattle.lvm_disk.specs.Device.{Device, Flight}
 use Rattle.lvm_disk.specs.Steps.{Cuts, GoesDark, with_order, ArrangeGives}
 use Rattle.lvm_disk.specs.declared.shelf.Arrange.{Arrange}
 use Rattle.lvm_disk.specs.declared.shelf.Arrange.TheVariants as arrange
-use Rattle.lvm_core.specs.declared.request.Power.TheVariants as power
-use Rattle.lvm_core.specs.State.{Core, state}
-use Rattle.lvm_core.specs.Dark.{darkened, all_dark, after_arrange, dark_log}
-use Rattle.lvm_core.specs.Starting.{ArePlaced}
-use Rattle.lvm_core.specs.Sound.{has_number, out_with, is_dark, IsFitting, IsTold, IsDark, IsSound}
-use Rattle.lvm_core.proofs.Landing.{dark_told, dark_each}
+use Rattle.lvm_session.specs.declared.open.Power.TheVariants as power
+use Rattle.lvm_session.specs.State.{Core, state}
+use Rattle.lvm_events.specs.Dark.{all_dark, after_arrange}
+use Rattle.lvm_sound.specs.Placed.{ArePlaced}
+use Rattle.lvm_sound.specs.Sound.{IsDark, has_number, is_dark}
+use Rattle.lvm_core.specs.Sound.{HasNoneOpen, IsSound}
+use Rattle.lvm_core.proofs.Dark.{cut_core, cut_fits, cut_landed, dark_is, on_shelf, out_is}
+use Rattle.lvm_core.proofs.Own.{SameSizes, same_sizes}
 
 -- a shelf that has as large disks and as many buffers out, and whose power and flights allow it
 pub record IsLike (old new : Device) : Type 0 where
   pub sizes : new.sizes ≡ old.sizes
-  pub out : (n : ℕ) → out_with new n ≡ out_with old n
+  pub out : (n : ℕ) → on_shelf new n ≡ on_shelf old n
 
 -- only the orders of a shelf have changed
 pub ordered_sound : (device : Device) (core : Core) (what : Arrange) → IsSound (state device core) → IsSound (state (with_order device what) core)
 ordered_sound device core what sound = record {
   fitting = sound.fitting;
-  told = sound.told;
+  none = sound.none;
+  landed = sound.landed;
   placed = sound.placed;
   buffers = sound.buffers;
   none_lost = sound.none_lost;
@@ -31,42 +33,29 @@ ordered_sound device core what sound = record {
   lit = λ is. let lit = sound.lit is in record { power = lit.power; freed = lit.freed };
   dark = λ is. let dark = sound.dark is in record { power = dark.power; flights = dark.flights };
   off = sound.off;
+  heard = sound.heard;
 }
-
-module _ (core : Core) where
-  pub dark_fits : IsFitting core → IsFitting (all_dark core)
-  dark_fits fits = record {
-    valid = fits.valid;
-    id = fits.id;
-    rows = fits.rows;
-    group = fits.group;
-    notes = fits.notes;
-    table = subst (λ n. n ≤ core.most) (sym (length-map core.requests darkened)) fits.table;
-    most = fits.most;
-    queue = fits.queue;
-    a_buffer = fits.a_buffer;
-    buffers = fits.buffers;
-  }
-
-  pub dark_is_told : IsTold core → IsTold (all_dark core)
-  dark_is_told told = record {
-    table = dark_told core.history.facts core.requests told.table (dark_log core.history core.requests).facts;
-    each = dark_each core.history core.requests told.table told.each;
-  }
 
 -- the session after a power cut, on a shelf without power on which nothing is under way
 dark_sound : (old new : Device) (core : Core) → IsSound (state old core) → IsLike old new → IsDark new → IsSound (state new (all_dark core))
-dark_sound old new core sound like dark = record {
-  fitting = dark_fits core sound.fitting;
-  told = dark_is_told core sound.told;
+dark_sound old new core sound like dark = subst (λ (c : Core). IsSound (state new c)) (sym (dark_is core sound.none)) (record {
+  fitting = cut_fits core sound.fitting;
+  none = record { requests = refl; copy = refl };
+  landed = cut_landed core.history sound.landed;
   placed = subst (λ sizes. ArePlaced sizes core.descriptor core.status.wanted) (sym like.sizes) sound.placed;
-  buffers = λ n. subst (λ k. k ≤ cond (slice_index_or core.pool n false) 1 0) (sym (like.out n)) (sound.buffers n);
+  buffers = λ n.
+      let few = sound.buffers n in
+      let was = out_is old core n sound.none in
+      let is = out_is new (cut_core core) n (record { requests = refl; copy = refl }) in
+      let same = like.out n in
+      omega (arith, few, was, is, same);
   none_lost = λ is. absurd (let e : ◌≡◌ {A = Bool} true false = is in cc);
   quiet = λ quiet. dark.flights;
   lit = λ is. absurd (let e : ◌≡◌ {A = Bool} true false = is in cc);
   dark = λ is. dark;
   off = λ is. absurd (let e : power.Dark ≡ power.Off = is in cc);
-}
+  heard = λ is. absurd (let e : power.Dark ≡ power.Stuck = is in cc);
+})
 
 count_map : {X Y : Type 0} (p : Y → Bool) (f : X → Y) → (xs : List X) → count_by p (map f xs) ≡ count_by (λ x. p (f x)) xs
 count_map p f [] = refl
@@ -80,7 +69,7 @@ cut_is_like : (old new : Device) → Cuts old new → IsLike old new
 cut_is_like old new cuts = record {
   sizes = ap (λ (d : Device). d.sizes) cuts.new_is;
   out = λ n.
-      ap (λ (d : Device). out_with d n) cuts.new_is
+      ap (λ (d : Device). on_shelf d n) cuts.new_is
       ∙ ap (λ k. 0 + k) (sum_by-append (λ b. cond (has_number n b) 1 0) old.freed (map (λ (f : Flight). f.buf) old.flights) ∙ ap (λ k. count_by (has_number n) old.freed + k) (count_map (has_number n) (λ (f : Flight). f.buf) old.flights))
       ∙ omega arith;
 }
@@ -89,7 +78,7 @@ cut_is_like old new cuts = record {
 cut_is_dark : (old new : Device) (core : Core) → IsSound (state old core) → new.power ≡ false → GoesDark old new → IsLike old new × IsDark new
 cut_is_dark old new core sound off (inl was) =
     let same = was.1 in (
-      record { sizes = ap (λ (d : Device). d.sizes) same; out = λ n. ap (λ (d : Device). out_with d n) same },
+      record { sizes = ap (λ (d : Device). d.sizes) same; out = λ n. ap (λ (d : Device). on_shelf d n) same },
       record { power = off; flights = ap (λ (d : Device). d.flights) same ∙ by_power (is_dark core.power) refl },
     )
   where
@@ -109,9 +98,9 @@ arranged_sound old new core (arrange.Cut word) true gives sound =
     let its = cut_is_dark (with_order old what) new core ordered gives.1.0 gives.1.1 in
     dark_sound (with_order old what) new core ordered its.0 its.1
 
--- the room for requests stays
-pub same_most : (what : Arrange) (done : Bool) (core : Core) → (after_arrange what done core).most ≡ core.most
-same_most what false core = refl
-same_most (arrange.Fail disk) true core = refl
-same_most (arrange.Heal disk) true core = refl
-same_most (arrange.Cut word) true core = refl
+-- the table has the room that it had, and the pool its buffers
+pub arranged_sizes : (what : Arrange) (done : Bool) (core : Core) → HasNoneOpen core → SameSizes core (after_arrange what done core)
+arranged_sizes what false core none = same_sizes core
+arranged_sizes (arrange.Fail disk) true core none = same_sizes core
+arranged_sizes (arrange.Heal disk) true core none = same_sizes core
+arranged_sizes (arrange.Cut word) true core none = subst (SameSizes core) (sym (dark_is core none)) (record { most = refl; buffers = refl })

@@ -31,7 +31,7 @@ use Rattle.lvm_kept.specs.Contents.{Contents}
 use Rattle.lvm_left.specs.Marking.{is_served}
 use Rattle.lvm_commit.specs.LawsOfData.{IsFree}
 use Rattle.lvm_commit.specs.Settling.{NoneIsLeft, there, IsOf, MaySettle, SessionIsHeld}
-use Rattle.lvm_core.specs.State.{Core, State, is_there}
+use Rattle.lvm_session.specs.State.{Core, State, is_there}
 use Rattle.lvm_core.specs.Sound.{IsSound}
 use Rattle.lvm_core.specs.Held.{IsHeld}
 use Rattle.lvm_core.specs.Settled.{IsSettled}

@@ -22,16 +22,17 @@ use Rattle.lvm_commit.specs.LawsOfVolumes.{VolumeServes}
 use Rattle.lvm_commit.specs.Settling.{MaySettle, IsOf, IsOfCommit, IsPlain, SessionIsHeld, ComesHeld}
 use Rattle.lvm_commit.proofs.Chaining.{keeps_wider}
 use Rattle.lvm_core.specs.declared.fault.CommitFault.{CommitFault}
-use Rattle.lvm_core.specs.State.{Core, State, is_there}
+use Rattle.lvm_session.specs.State.{Core, State, is_there}
 use Rattle.lvm_core.specs.Sound.{IsSound}
 use Rattle.lvm_core.specs.Held.{IsHeld}
 use Rattle.lvm_core.specs.Settled.{IsSettled}
 use Rattle.lvm_core.specs.Committing.{CommitEnds, HasCommitted, FailsCommitted, moment_of, SpanGoesOn, LetsCommit, StaysBehind}
 use Rattle.lvm_core.specs.Leaves.{IsOfCommand, NoPartition, Leaves, committing}
 use Rattle.lvm_core.specs.Steps.{CommitsDescriptor}
+use Rattle.lvm_core.proofs.Own.{SameSizes}
 use Rattle.lvm_core.proofs.Spanning.{path_falls}
 use Rattle.lvm_core.proofs.LeavesLemmas.{finds_next, passed_behind}
-use Rattle.lvm_core.proofs.Settled.{IsBegun, there_is, group_is, settles_sound, records_end, fails_committed, most_stays, settles_history, settles_keep, settles_calm, settles_behind}
+use Rattle.lvm_core.proofs.Settled.{IsBegun, there_is, group_is, settles_sound, records_end, fails_committed, sizes_stay, settles_history, settles_keep, settles_calm, settles_behind}
 use Rattle.lvm_core.proofs.Commits.{session_holds, holds_session}
 
 -- nothing else is wanted first than what is
@@ -64,8 +65,8 @@ module _ (next : Descriptor) (before after : ℕ) (old new : State) (answer : Re
   pub descriptor_sound : IsSound new
   descriptor_sound = settles_sound Held Plain next plan old.core.status before after old new w.how answer w.settles (still_begun old.core) settled_is sound w.valid alike
 
-  pub descriptor_most : new.core.most ≡ old.core.most
-  descriptor_most = most_stays Held Plain next plan old.core.status before after old new w.how answer w.settles (still_begun old.core) settled_is sound w.valid alike
+  pub descriptor_sizes : SameSizes old.core new.core
+  descriptor_sizes = sizes_stay Held Plain next plan old.core.status before after old new w.how answer w.settles (still_begun old.core) settled_is sound w.valid alike
 
   group : new.core.status.group ≡ record old.core.descriptor { lvs = [] }
   group = group_is Held Plain next plan old.core.status before after old new w.how answer w.settles (still_begun old.core) settled_is sound w.valid alike

@@ -13,9 +13,9 @@ use Rattle.lvm_commit.specs.declared.commit.CommitEnd.{CommitEnd}
 use Rattle.lvm_commit.specs.declared.commit.CommitEnd.TheVariants as commit_end
 use Rattle.lvm_commit.specs.Settling.{IfBack, EndsAtOnce, IsOfStatus, IsOfCommit, StatusStaysKept, DescriptorStaysKept, StatusFindsNothingNew, CommitFindsNoMore, CommitLeaves, SettleEnds, StatusEnds, DescriptorEnds}
 use Rattle.lvm_core.specs.declared.fault.CommitFault.{CommitFault}
-use Rattle.lvm_core.specs.declared.request.Power.TheVariants as power
-use Rattle.lvm_core.specs.State.{Core, State}
-use Rattle.lvm_core.specs.Dark.{all_dark}
+use Rattle.lvm_session.specs.declared.open.Power.TheVariants as power
+use Rattle.lvm_session.specs.State.{Core, State}
+use Rattle.lvm_events.specs.Dark.{all_dark}
 use Rattle.lvm_core.specs.Committing.{with_one_out}
 use Rattle.lvm_core.specs.Steps.{IsMarked, EndsAs, CoreEnds, CommitsDescriptor, CommitsMarks, EndsWith}
 use Rattle.lvm_core.proofs.Buffers.{one_is_out, back_again}

@@ -5,20 +5,18 @@ use Rattle.lvm_vol.specs.declared.entry.Entry.{Entry}
 use Rattle.lvm_vol.specs.declared.entry.Entry.TheVariants as entry
 use Rattle.lvm_vol.specs.Facts.{Fact, Making, Made, Removing, Removed}
 use Rattle.lvm_vol.specs.Log.{is_open, with_fact, plain_fact}
-use Rattle.lvm_core.specs.declared.request.Open.{Open}
-use Rattle.lvm_core.specs.State.{Core, state}
-use Rattle.lvm_core.specs.Dark.{AreOpen}
+use Rattle.lvm_keeps.proofs.Telling.{open_still}
+use Rattle.lvm_session.specs.State.{Core, state}
 use Rattle.lvm_core.specs.Sound.{IsSound}
 use Rattle.lvm_core.specs.Entering.{IsOfVolume}
 use Rattle.lvm_core.proofs.Own.{fits_with}
-use Rattle.lvm_core.proofs.Telling.{open_quiet}
 
 -- it is about no request
 open_entered : (facts : List Fact) (e : Entry) → IsOfVolume e → (id : ℕ) → is_open (facts ++ plain_fact e ∷ []) id ≡ is_open facts id
-open_entered facts (entry.Making lv blocks mode) is id = open_quiet facts (Making lv blocks mode) id refl refl
-open_entered facts (entry.Made lv) is id = open_quiet facts (Made lv) id refl refl
-open_entered facts (entry.Removing vol) is id = open_quiet facts (Removing vol) id refl refl
-open_entered facts (entry.Removed vol) is id = open_quiet facts (Removed vol) id refl refl
+open_entered facts (entry.Making lv blocks mode) is id = open_still facts (Making lv blocks mode) refl id refl
+open_entered facts (entry.Made lv) is id = open_still facts (Made lv) refl id refl
+open_entered facts (entry.Removing vol) is id = open_still facts (Removing vol) refl id refl
+open_entered facts (entry.Removed vol) is id = open_still facts (Removed vol) refl id refl
 open_entered facts (entry.Split from lv) is id = absurd is
 open_entered facts (entry.On moment) is id = absurd is
 open_entered facts (entry.Begun client num vol at count write place) is id = absurd is
@@ -26,24 +24,17 @@ open_entered facts (entry.Landed num how started) is id = absurd is
 open_entered facts (entry.Taken client num) is id = absurd is
 open_entered facts entry.Cut is id = absurd is
 
-still_open : (facts later : List Fact) (os : List Open) → ((id : ℕ) → is_open later id ≡ is_open facts id) → AreOpen facts os → AreOpen later os
-still_open facts later [] same still = tt
-still_open facts later (o ∷ os) same still = (λ waiting. same o.id ∙ still.0 waiting, still_open facts later os same still.1)
-
 pub entered_sound : (device : Device) (core : Core) (e : Entry) → IsOfVolume e → IsSound (state device core) → IsSound (state device (record core { history = with_fact core.history (plain_fact e) }))
-entered_sound device core e is sound =
-    let same = open_entered core.history.facts e is in
-    record {
-      fitting = fits_with core (with_fact core.history (plain_fact e)) core.pool core.power refl sound.fitting;
-      told = record {
-        table = record { ascending = sound.told.table.ascending; still = still_open core.history.facts (core.history.facts ++ plain_fact e ∷ []) core.requests same sound.told.table.still };
-        each = λ id. same id ∙ sound.told.each id;
-      };
-      placed = sound.placed;
-      buffers = sound.buffers;
-      none_lost = sound.none_lost;
-      quiet = λ quiet. sound.quiet (record { requests = quiet.requests; copy = quiet.copy; status = quiet.status; notes = quiet.notes; buffers = quiet.buffers });
-      lit = sound.lit;
-      dark = sound.dark;
-      off = sound.off;
-    }
+entered_sound device core e is sound = record {
+  fitting = fits_with core (with_fact core.history (plain_fact e)) core.pool core.power refl sound.fitting;
+  none = record { requests = sound.none.requests; copy = sound.none.copy };
+  landed = λ id. open_entered core.history.facts e is id ∙ sound.landed id;
+  placed = sound.placed;
+  buffers = sound.buffers;
+  none_lost = sound.none_lost;
+  quiet = λ quiet. sound.quiet (record { requests = quiet.requests; copy = quiet.copy; status = quiet.status; notes = quiet.notes; buffers = quiet.buffers });
+  lit = sound.lit;
+  dark = sound.dark;
+  off = sound.off;
+  heard = sound.heard;
+}

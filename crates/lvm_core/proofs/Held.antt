@@ -7,7 +7,7 @@ use Rattle.lvm_num.specs.Descriptor.{is_member}
 use Rattle.lvm_mwc.specs.declared.notes.DiskNotes.{DiskNotes}
 use Rattle.lvm_mwc.specs.Cache.{Cached, no_notes, is_named}
 use Rattle.lvm_mwc.specs.Notes.{both_name}
-use Rattle.lvm_core.specs.Starting.{IsEmptyCache}
+use Rattle.lvm_session_start.specs.Parts.{IsEmptyCache}
 
 -- an empty cache names nothing on any disk
 pub empty_names_none : (d : Descriptor) (c : Cached) → IsEmptyCache d c → (disk lv track_group : ℕ) → is_named c disk lv track_group ≡ false

@@ -2,7 +2,6 @@
 use Rattle.std.proofs.Common.{◌≡◌, ◌⊎◌, inl, inr, ⊎_elim, ℕ, ◌+◌, Bool, true, false, cond, List, [], ◌∷◌, ◌++◌, count_by, Option, Some, None, refl, sym, ap, subst, ◌∙◌, arith}
 use Rattle.std.specs.Prelude.{IfSome, IsSomeAnd, IsTrue, IsFalse, if◌then◌else◌}
 use Rattle.std.proofs.lemmas.Bool.{false≢true}
-use Rattle.std.proofs.lemmas.List.{append-nil}
 use Rattle.std.proofs.lemmas.List.Sums.{sum_by-append}
 use Rattle.lvm_num.specs.declared.place.Pp.{Pp}
 use Rattle.lvm_num.specs.declared.status.StatusRow.{StatusRow}
@@ -20,9 +19,7 @@ use Rattle.lvm_steps.proofs.Spans.{later_append}
 use Rattle.lvm_status.specs.Update.{Stored}
 use Rattle.lvm_commit.specs.LawsOfFinding.{FindsNothingNew, FindsNoMore, FindsNothingNewOn, FindsNoMoreOn}
 use Rattle.lvm_commit.specs.Settling.{IsPassed}
-use Rattle.lvm_core.specs.declared.request.Open.{Open}
-use Rattle.lvm_core.specs.Dark.{dark_log}
-use Rattle.lvm_core.specs.State.{State}
+use Rattle.lvm_session.specs.State.{State}
 use Rattle.lvm_core.specs.Leaves.{WasLeftBehind, KeepsStatus, is_of_volume, EntersVolumes, KeepsHistory, MayBeFound, FindsOnly}
 
 -- ---- what is told
@@ -64,19 +61,12 @@ keeps_same was is same = subst (λ (l : Log). KeepsHistory was l) (sym same) (re
 pub keeps_fact : (was : Log) (f : Fact) → ((moment : ℕ) → IsLater (f ∷ []) moment) → KeepsHistory was (with_fact was f)
 keeps_fact was f later = record { room = refl; volumes = let sum = entries_with was.facts f in omega (arith, sum); later = λ moment is. later_append was.facts (f ∷ []) moment is (later moment) }
 
-keeps_cut : (was : Log) → KeepsHistory was (cut_log was)
+pub keeps_cut : (was : Log) → KeepsHistory was (cut_log was)
 keeps_cut was = by_test (is_uncut was.facts)
   where
     by_test : (t : Bool) → KeepsHistory was (if t then with_fact was Cut else was)
     by_test true = keeps_fact was Cut (λ moment. tt)
     by_test false = record { room = refl; volumes = omega arith; later = λ moment is. is }
-
--- with no request open, a cut is all that is entered
-pub dark_is_cut : (log : Log) (requests : List Open) → requests ≡ [] → dark_log log requests ≡ cut_log log
-dark_is_cut log requests none = ap (dark_log log) none ∙ ap (λ (l : List Fact). record (cut_log log) { facts = l }) (append-nil (cut_log log).facts)
-
-pub keeps_dark_log : (log : Log) (requests : List Open) → requests ≡ [] → KeepsHistory log (dark_log log requests)
-keeps_dark_log log requests none = subst (λ (l : Log). KeepsHistory log l) (sym (dark_is_cut log requests none)) (keeps_cut log)
 
 -- ---- what is found
 

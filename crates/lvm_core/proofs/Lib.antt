@@ -1,8 +1,6 @@
-pub mod Telling
-pub mod Landing
+pub mod Dark
 pub mod Beginning
 pub mod Arranging
-pub mod Closing
 pub mod Commits
 pub mod Committing
 pub mod Stating

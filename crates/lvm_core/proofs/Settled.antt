@@ -12,7 +12,7 @@ use Rattle.lvm_num.specs.Votes.{votes_in, is_enough_to_write, CanWrite}
 use Rattle.lvm_disk.specs.Device.{Device, IsReady, image_of}
 use Rattle.lvm_disk.specs.Paths.{DeviceStep, Path}
 use Rattle.lvm_vol.specs.Facts.{Fact}
-use Rattle.lvm_vol.specs.Log.{Log}
+use Rattle.lvm_vol.specs.Log.{Log, cut_log}
 use Rattle.lvm_kept.specs.Moments.{Moment, StaysCalm}
 use Rattle.lvm_kept.specs.Plans.{Plan, ChangesBy}
 use Rattle.lvm_kept.specs.Torn.{RecordWrite}
@@ -32,18 +32,20 @@ use Rattle.lvm_commit.specs.Committed.{IsAlike}
 use Rattle.lvm_commit.specs.Settling.{HasSameRows, there, many_there, IsCommitted, HasLostQuorum, AreWell, SpendsNumbers, StaysCommitted, IsOfSession, SettleEnds}
 use Rattle.lvm_commit.proofs.Wanting.{row_stays}
 use Rattle.lvm_core.specs.declared.fault.CommitFault.{CommitFault}
-use Rattle.lvm_core.specs.declared.request.Power.TheVariants as power
-use Rattle.lvm_core.specs.State.{Core, State, state, is_there}
-use Rattle.lvm_core.specs.Dark.{all_dark, dark_log}
-use Rattle.lvm_core.specs.Starting.{IsPlaced, ArePlaced}
-use Rattle.lvm_core.specs.Sound.{is_dark, IsFitting, IsTold, IsSound}
+use Rattle.lvm_session.specs.declared.open.Power.TheVariants as power
+use Rattle.lvm_session.specs.State.{Core, State, state, is_there}
+use Rattle.lvm_events.specs.Dark.{all_dark}
+use Rattle.lvm_sound.specs.Placed.{IsPlaced, ArePlaced}
+use Rattle.lvm_sound.specs.Sound.{is_dark}
+use Rattle.lvm_core.specs.Sound.{HasNoneOpen, IsFitting, IsSound}
 use Rattle.lvm_core.specs.Settled.{IsSettled}
 use Rattle.lvm_core.specs.Committing.{with_one_out, RecordsEnd, FailsCommitted, moment_of, StaysBehind}
 use Rattle.lvm_core.specs.Leaves.{KeepsHistory}
 use Rattle.lvm_core.specs.Steps.{CoreEnds, Settles}
-use Rattle.lvm_core.proofs.LeavesLemmas.{keeps_same, keeps_dark_log}
-use Rattle.lvm_core.proofs.Own.{fits_with, fits_pool, one_out_long, sound_ready, sound_dark, sound_stuck}
-use Rattle.lvm_core.proofs.Spanning.{keeps_dark, calm_dark}
+use Rattle.lvm_core.proofs.LeavesLemmas.{keeps_same, keeps_cut as history_keeps_cut}
+use Rattle.lvm_core.proofs.Dark.{dark_is}
+use Rattle.lvm_core.proofs.Own.{SameSizes, fits_with, fits_pool, one_out_long, sound_ready, sound_dark, sound_stuck}
+use Rattle.lvm_core.proofs.Spanning.{keeps_cut, calm_cut}
 
 -- the members that aren't missing, by a session and by its status
 pub there_is : (d : Descriptor) (u : Stored) → u.group ≡ record d { lvs = [] } → there u ≡ members_there d u.wanted
@@ -81,16 +83,17 @@ module _ (Held Plain : Type 0) (next : Descriptor) (plan : Plan) (first : Stored
         row_stays first.wanted new.core.status.wanted s.leaves.loses.rows disk ∙ row_stays old.core.status.wanted first.wanted begins.rows disk ∙ sound.fitting.rows disk
         ∙ ap (λ (g : Descriptor). is_member g disk) (sym same);
     group = group_is ∙ sym same;
+    entries = sound.fitting.entries;
     notes = λ disk. sound.fitting.notes disk ∙ ap (λ (g : Descriptor). is_member g disk) (sym same);
-    table = sound.fitting.table;
     most = sound.fitting.most;
     queue = sound.fitting.queue;
     a_buffer = sound.fitting.a_buffer;
     buffers = sound.fitting.buffers;
+    last = sound.fitting.last;
   }
 
-  told : (d : Descriptor) → IsTold (base d)
-  told d = record { table = sound.told.table; each = sound.told.each }
+  none : (d : Descriptor) → HasNoneOpen (base d)
+  none d = record { requests = settled_is.quiet.requests; copy = settled_is.quiet.copy }
 
   was_there : (d : ℕ) → calls_missing new.core.status.wanted d ≡ false → calls_missing old.core.status.wanted d ≡ false
   was_there d there = by_test (calls_missing old.core.status.wanted d) refl
@@ -109,6 +112,9 @@ module _ (Held Plain : Type 0) (next : Descriptor) (plan : Plan) (first : Stored
 
   not_off : {X : Type 0} → old.core.power ≡ power.Off → X
   not_off off = absurd (let e : power.On ≡ power.Off = sym settled_is.power ∙ off in cc)
+
+  not_stuck : old.core.power ≡ power.Stuck → ⊥
+  not_stuck stuck = absurd (let e : power.On ≡ power.Stuck = sym settled_is.power ∙ stuck in cc)
 
   few : (have total : ℕ) → HasLostQuorum first new.core.status old.device new.device have total → IsFalse (is_enough_to_write old.core.descriptor (votes_in old.core.descriptor (members_there old.core.descriptor new.core.status.wanted)))
   few have total lost = subst (λ (g : Descriptor). IsFalse (is_enough_to_write g (votes_in g (members_there g new.core.status.wanted)))) group_is (subst (λ (n : ℕ). IsFalse (is_enough_to_write new.core.status.group n)) lost.have_is lost.few)
@@ -135,14 +141,14 @@ module _ (Held Plain : Type 0) (next : Descriptor) (plan : Plan) (first : Stored
       fits_out = fits_pool here (with_one_out old.core.pool) (one_out_long old.core.pool) fits_here
 
       by_how : (h : CommitEnd) → SettleEnds Held Plain 0 before first new.core.status old.device new.device h → CoreEnds next old.core new.core h answer → IsSound new
-      by_how (commit_end.Done back) ends goes = as_core (base next) goes.1 (sound_ready new.device (base next) (fits next valid alike) (told next) (placed next alike) settled_is.quiet.buffers lit not_off ends.back.ready)
+      by_how (commit_end.Done back) ends goes = as_core (base next) goes.1 (sound_ready new.device (base next) (fits next valid alike) (none next) sound.landed (placed next alike) settled_is.quiet.buffers lit not_off not_stuck ends.back.ready)
       by_how (commit_end.WentOff have total back) ends goes = as_core (record here { power = power.Off }) goes.1
-          (sound_ready new.device (record here { power = power.Off }) (fits_with here here.history here.pool power.Off refl fits_here) (record { table = sound.told.table; each = sound.told.each }) (placed old.core.descriptor own) settled_is.quiet.buffers refl
-          (λ off. few have total ends.lost) ends.back.ready)
+          (sound_ready new.device (record here { power = power.Off }) (fits_with here here.history here.pool power.Off refl fits_here) (record { requests = settled_is.quiet.requests; copy = settled_is.quiet.copy }) sound.landed (placed old.core.descriptor own) settled_is.quiet.buffers refl
+          (λ off. ap not (few have total ends.lost)) (λ stuck. absurd (let e : power.Off ≡ power.Stuck = stuck in cc)) ends.back.ready)
       by_how commit_end.Dark ends goes = as_core (all_dark out) goes.1
-          (sound_dark old.device new.device out old.core.pool fits_out (record { table = sound.told.table; each = sound.told.each }) (placed old.core.descriptor own) refl settled_is.quiet.buffers sound.fitting.a_buffer ends.0)
+          (sound_dark old.device new.device out old.core.pool fits_out (record { requests = settled_is.quiet.requests; copy = settled_is.quiet.copy }) sound.landed (placed old.core.descriptor own) refl settled_is.quiet.buffers sound.fitting.a_buffer ends.0)
       by_how commit_end.Stuck ends goes = as_core out goes.1
-          (sound_stuck before old.device new.device out old.core.pool fits_out (record { table = sound.told.table; each = sound.told.each }) (placed old.core.descriptor own) refl settled_is.quiet.buffers sound.fitting.a_buffer lit not_off ends.0)
+          (sound_stuck before old.device new.device out old.core.pool fits_out (record { requests = settled_is.quiet.requests; copy = settled_is.quiet.copy }) sound.landed (placed old.core.descriptor own) refl settled_is.quiet.buffers sound.fitting.a_buffer lit not_off not_stuck ends.0)
 
   -- ---- how it ends
 
@@ -226,37 +232,41 @@ module _ (Held Plain : Type 0) (next : Descriptor) (plan : Plan) (first : Stored
 
   -- ---- the history
 
-  by_history : (P : Log → Type 0) → P old.core.history → P (dark_log old.core.history old.core.requests) → P new.core.history
+  -- where the power was cut nothing was open but the buffer
+  out_none : HasNoneOpen (record old.core { pool = with_one_out old.core.pool; status = new.core.status; homes = new.core.homes })
+  out_none = record { requests = settled_is.quiet.requests; copy = settled_is.quiet.copy }
+
+  by_history : (P : Log → Type 0) → P old.core.history → P (cut_log old.core.history) → P new.core.history
   by_history P same dark = by_how how s.goes
     where
       by_how : (h : CommitEnd) → CoreEnds next old.core new.core h answer → P new.core.history
       by_how (commit_end.Done back) goes = subst (λ (c : Core). P c.history) (sym goes.1) same
       by_how (commit_end.WentOff have total back) goes = subst (λ (c : Core). P c.history) (sym goes.1) same
-      by_how commit_end.Dark goes = subst (λ (c : Core). P c.history) (sym goes.1) dark
+      by_how commit_end.Dark goes = subst (λ (c : Core). P c.history) (sym (goes.1 ∙ dark_is _ out_none)) dark
       by_how commit_end.Stuck goes = subst (λ (c : Core). P c.history) (sym goes.1) same
 
   pub settles_history : KeepsHistory old.core.history new.core.history
-  settles_history = by_history (λ (log : Log). KeepsHistory old.core.history log) (keeps_same old.core.history old.core.history refl) (keeps_dark_log old.core.history old.core.requests settled_is.quiet.requests)
+  settles_history = by_history (λ (log : Log). KeepsHistory old.core.history log) (keeps_same old.core.history old.core.history refl) (history_keeps_cut old.core.history)
 
-  pub most_stays : new.core.most ≡ old.core.most
-  most_stays = by_how how s.goes
+  pub sizes_stay : SameSizes old.core new.core
+  sizes_stay = by_how how s.goes
     where
-      by_how : (h : CommitEnd) → CoreEnds next old.core new.core h answer → new.core.most ≡ old.core.most
-      by_how (commit_end.Done back) goes = ap (λ (c : Core). c.most) goes.1
-      by_how (commit_end.WentOff have total back) goes = ap (λ (c : Core). c.most) goes.1
-      by_how commit_end.Dark goes = ap (λ (c : Core). c.most) goes.1
-      by_how commit_end.Stuck goes = ap (λ (c : Core). c.most) goes.1
+      by_how : (h : CommitEnd) → CoreEnds next old.core new.core h answer → SameSizes old.core new.core
+      by_how (commit_end.Done back) goes = subst (SameSizes old.core) (sym goes.1) (record { most = refl; buffers = refl })
+      by_how (commit_end.WentOff have total back) goes = subst (SameSizes old.core) (sym goes.1) (record { most = refl; buffers = refl })
+      by_how commit_end.Dark goes = subst (SameSizes old.core) (sym (goes.1 ∙ dark_is _ out_none)) (record { most = refl; buffers = one_out_long old.core.pool })
+      by_how commit_end.Stuck goes = subst (SameSizes old.core) (sym goes.1) (record { most = refl; buffers = one_out_long old.core.pool })
 
   pub settles_keep : (P : Device → Type 0) → Path DeviceStep P old.device new.device → (run : ℕ) (at_first : Moment) → Keeps run at_first (moment_of old)
       → ((past : List Fact) → Begins run past at_first → Holds past (moment_of old) → (d : Device) → P d → ImagesKept d (past ++ old.core.history.facts)) → Keeps run at_first (moment_of new)
   settles_keep P path run at_first span kept =
       let goes = keeps_path P run at_first old.device new.device old.core.history.facts span kept path in
-      by_history (λ (log : Log). Keeps run at_first (at new.device log.facts)) goes (keeps_dark new.device old.core.history old.core.requests settled_is.quiet.requests run at_first goes)
+      by_history (λ (log : Log). Keeps run at_first (at new.device log.facts)) goes (keeps_cut new.device old.core.history run at_first goes)
 
   pub settles_calm : StaysCalm (moment_of old) (moment_of new)
   settles_calm =
       let same : StaysCalm (moment_of old) (at new.device old.core.history.facts) = λ past calm. calm in
-      by_history (λ (log : Log). StaysCalm (moment_of old) (at new.device log.facts)) same (calm_dark new.device old.core.history old.core.requests settled_is.quiet.requests (moment_of old) same)
+      by_history (λ (log : Log). StaysCalm (moment_of old) (at new.device log.facts)) same (calm_cut new.device old.core.history (moment_of old) same)
 
   -- ---- the stamps
 

@@ -1,7 +1,6 @@
 -- The moments of a session's own transfers, and of a power cut that it enters.
-use Rattle.std.proofs.Common.{◌≡◌, ℕ, Bool, true, false, List, [], cond, refl, sym, subst}
+use Rattle.std.proofs.Common.{◌≡◌, ℕ, Bool, true, false, List, [], cond, refl}
 use Rattle.std.specs.Prelude.{IsSome, Option, Some, None}
-use Rattle.std.proofs.lemmas.List.{append-nil}
 use Rattle.lvm_disk.specs.Counts.{NoneFalls}
 use Rattle.lvm_disk.specs.Device.{Media, Device}
 use Rattle.lvm_disk.specs.Paths.{DeviceStep, Path}
@@ -13,8 +12,6 @@ use Rattle.lvm_kept.proofs.Chaining.{span_counts, span_told}
 use Rattle.lvm_steps.specs.Moments.{Begins, Keeps}
 use Rattle.lvm_steps.specs.Requests.{at}
 use Rattle.lvm_steps.proofs.Entering.{quiet_goes_on, calm_goes_on}
-use Rattle.lvm_core.specs.declared.request.Open.{Open}
-use Rattle.lvm_core.specs.Dark.{dark_log}
 
 -- no count falls on the way
 pub path_falls : {P : Device → Type 0} (old new : Device) → Path DeviceStep P old new → NoneFalls old.counts new.counts
@@ -29,25 +26,16 @@ told_media run past first device facts span begins = by_media device.media refl 
     by_media (Some m) is some = (m, is)
 
 module _ (device : Device) (log : Log) where
-  keeps_cut : (run : ℕ) (first : Moment) → Keeps run first (at device log.facts) → Keeps run first (at device (cut_log log).facts)
+  pub keeps_cut : (run : ℕ) (first : Moment) → Keeps run first (at device log.facts) → Keeps run first (at device (cut_log log).facts)
   keeps_cut run first span = by_test (is_uncut log.facts)
     where
       by_test : (b : Bool) → Keeps run first (at device (cond b (with_fact log Cut) log).facts)
       by_test true = quiet_goes_on run first device log.facts Cut span tt (λ past begins holds. tt)
       by_test false = span
 
-  calm_cut : (first : Moment) → StaysCalm first (at device log.facts) → StaysCalm first (at device (cut_log log).facts)
+  pub calm_cut : (first : Moment) → StaysCalm first (at device log.facts) → StaysCalm first (at device (cut_log log).facts)
   calm_cut first calm = by_test (is_uncut log.facts)
     where
       by_test : (b : Bool) → StaysCalm first (at device (cond b (with_fact log Cut) log).facts)
       by_test true = calm_goes_on first device log.facts Cut calm tt
       by_test false = calm
-
-  -- no request lands by it where none is open
-  pub keeps_dark : (os : List Open) → os ≡ [] → (run : ℕ) (first : Moment) → Keeps run first (at device log.facts) → Keeps run first (at device (dark_log log os).facts)
-  keeps_dark os none run first span = subst (λ (l : List Open). Keeps run first (at device (dark_log log l).facts)) (sym none)
-      (subst (λ (facts : List Fact). Keeps run first (at device facts)) (sym (append-nil (cut_log log).facts)) (keeps_cut run first span))
-
-  pub calm_dark : (os : List Open) → os ≡ [] → (first : Moment) → StaysCalm first (at device log.facts) → StaysCalm first (at device (dark_log log os).facts)
-  calm_dark os none first calm = subst (λ (l : List Open). StaysCalm first (at device (dark_log log l).facts)) (sym none)
-      (subst (λ (facts : List Fact). StaysCalm first (at device facts)) (sym (append-nil (cut_log log).facts)) (calm_cut first calm))

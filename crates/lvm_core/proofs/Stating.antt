@@ -21,7 +21,7 @@ use Rattle.lvm_commit.specs.LawsOfFinding.{FindsNothingNewOn}
 use Rattle.lvm_commit.specs.Settling.{IsPassed, there, IsOf, IsOfStatus, IsPlainStatus, SessionIsHeld, SpendsNumbers, StaysHeld, WantsMarks}
 use Rattle.lvm_commit.proofs.Chaining.{keeps_wider}
 use Rattle.lvm_core.specs.declared.fault.CommitFault.{CommitFault}
-use Rattle.lvm_core.specs.State.{State, is_there}
+use Rattle.lvm_session.specs.State.{State, is_there}
 use Rattle.lvm_core.specs.Sound.{IsSound}
 use Rattle.lvm_core.specs.Held.{IsHeld}
 use Rattle.lvm_core.specs.Settled.{IsSettled}
@@ -29,8 +29,9 @@ use Rattle.lvm_core.specs.Committing.{MarkEnds, HasStated, FailsCommitted, is_am
 use Rattle.lvm_core.specs.Leaves.{IsOfCommand, NoDescriptor, NoPartition, KeepsStatus, Leaves, marking}
 use Rattle.lvm_core.specs.Steps.{CommitsMarks}
 use Rattle.lvm_core.proofs.LeavesLemmas.{finds_nothing, passed_behind}
+use Rattle.lvm_core.proofs.Own.{SameSizes}
 use Rattle.lvm_core.proofs.Spanning.{path_falls}
-use Rattle.lvm_core.proofs.Settled.{IsBegun, there_is, there_first, group_is, settles_sound, settles_numbers, records_end, fails_committed, most_stays, settles_history, settles_keep, settles_calm, settles_behind}
+use Rattle.lvm_core.proofs.Settled.{IsBegun, there_is, there_first, group_is, settles_sound, settles_numbers, records_end, fails_committed, sizes_stay, settles_history, settles_keep, settles_calm, settles_behind}
 use Rattle.lvm_core.proofs.Commits.{among_at, isnt, holds_session, first_is_of, begun, first_held, wants_marks, none_first, first_none}
 
 -- ---- marks
@@ -80,8 +81,8 @@ module _ (stale fresh : List Pp) (before after : ℕ) (old new : State) (answer 
   pub status_sound : IsSound new
   status_sound = settles_sound Held Plain old.core.descriptor plan w.first before after old new w.how answer w.settles begins settled_is sound sound.fitting.valid same
 
-  pub status_most : new.core.most ≡ old.core.most
-  status_most = most_stays Held Plain old.core.descriptor plan w.first before after old new w.how answer w.settles begins settled_is sound sound.fitting.valid same
+  pub status_sizes : SameSizes old.core new.core
+  status_sizes = sizes_stay Held Plain old.core.descriptor plan w.first before after old new w.how answer w.settles begins settled_is sound sound.fitting.valid same
 
   -- where it is committed
   status_held : AreUnused old.core.descriptor (stale ++ fresh) → new.core ≡ record old.core { descriptor = old.core.descriptor; status = new.core.status; homes = new.core.homes } → Held → IsHeld old.device old.core → IsHeld new.device new.core

@@ -35,18 +35,20 @@ use Rattle.lvm_commit.specs.Settling.{SpendsNumbers}
 use Rattle.lvm_commit.proofs.Chaining.{keeps_wider}
 use Rattle.lvm_commit.proofs.Data.{free_data_keeps}
 use Rattle.lvm_core.specs.declared.fault.CommitFault.{CommitFault}
-use Rattle.lvm_core.specs.State.{Core, State, state, is_there}
-use Rattle.lvm_core.specs.Dark.{all_dark}
-use Rattle.lvm_core.specs.Starting.{ArePlaced}
-use Rattle.lvm_core.specs.Sound.{IsQuiet, IsSound}
+use Rattle.lvm_session.specs.State.{Core, State, state, is_there}
+use Rattle.lvm_events.specs.Dark.{all_dark}
+use Rattle.lvm_sound.specs.Placed.{ArePlaced}
+use Rattle.lvm_sound.specs.Sound.{is_dark}
+use Rattle.lvm_core.specs.Sound.{HasNoneOpen, IsSound}
 use Rattle.lvm_core.specs.Held.{IsHeld}
 use Rattle.lvm_core.specs.Settled.{IsSettled}
 use Rattle.lvm_core.specs.Committing.{with_one_out, moment_of, SpanGoesOn}
 use Rattle.lvm_core.specs.Zeros.{IsZeroOf, HasSectorsOf, GoesOnAfter, WritesZeros}
-use Rattle.lvm_core.proofs.Own.{fits_pool, one_out_long, sound_ready, sound_dark, sound_stuck}
-use Rattle.lvm_core.proofs.Spanning.{path_falls, told_media, keeps_dark, calm_dark}
+use Rattle.lvm_core.proofs.Dark.{cut_core, dark_is}
+use Rattle.lvm_core.proofs.Own.{SameSizes, same_sizes, fits_pool, one_out_long, sound_ready, sound_dark, sound_stuck}
+use Rattle.lvm_core.proofs.Spanning.{path_falls, told_media, keeps_cut, calm_cut}
 use Rattle.lvm_core.specs.Leaves.{IsOfCommand, NoDescriptor, NoPartition, KeepsHistory, Leaves, zeroing}
-use Rattle.lvm_core.proofs.LeavesLemmas.{keeps_same, keeps_dark_log, finds_nothing, same_status}
+use Rattle.lvm_core.proofs.LeavesLemmas.{keeps_same, keeps_cut as history_keeps_cut, finds_nothing, same_status}
 use Rattle.lvm_core.proofs.ZeroEnding.{zeros_below, zero_core, zero_keeps_records, zero_behind}
 
 -- ---- where they go
@@ -94,6 +96,16 @@ zeros_change mib pp a b by = record {
 }
 
 module _ (pp : Pp) (before after : ℕ) (old new : State) (answer : Result (Unit {0}) CommitFault) (w : WritesZeros pp before after old new answer) (settled : IsSettled old.core) where
+  none : HasNoneOpen old.core
+  none = record { requests = settled.quiet.requests; copy = settled.quiet.copy }
+
+  out_none : HasNoneOpen (record old.core { pool = with_one_out old.core.pool })
+  out_none = record { requests = settled.quiet.requests; copy = settled.quiet.copy }
+
+  -- what holds of the session, by what it is once its transfers have ended
+  by_core : (P : Core → Type 0) → (P old.core → P (record old.core { pool = with_one_out old.core.pool })) → (P old.core → P (cut_core (record old.core { pool = with_one_out old.core.pool }))) → P old.core → P new.core
+  by_core P stuck dark = zero_core pp before after old new P stuck (λ is. subst P (sym (dark_is _ out_none)) (dark is)) answer w
+
   still_kept : IsTrue (is_there old.core pp.disk) → IsFree old.core.descriptor pp → IsHeld old.device old.core → (m : Media) → old.device.media ≡ Some m → (facts : List Fact) → ImagesKept old.device facts
       → (d : Device) → IsWriting (IsZeroOf old.core.descriptor.mib pp) old.device d → ImagesKept d facts
   still_kept there free held m is facts kept d writing image may =
@@ -110,11 +122,10 @@ module _ (pp : Pp) (before after : ℕ) (old new : State) (answer : Result (Unit
       (λ past begins holds d writing.
       let told = told_media run past first old.device facts span begins in
       still_kept there free held told.0 told.1 (past ++ facts) holds.kept d writing) w.part.moments in
-      zero_core pp before after old new (λ (c : Core). Keeps run first (at new.device c.history.facts)) (λ is. is) (λ is. keeps_dark new.device old.core.history old.core.requests settled.quiet.requests run first is) answer w goes
+      by_core (λ (c : Core). Keeps run first (at new.device c.history.facts)) (λ is. is) (λ is. keeps_cut new.device old.core.history run first is) goes
 
   zero_calm : StaysCalm (moment_of old) (moment_of new)
-  zero_calm = zero_core pp before after old new (λ (c : Core). StaysCalm (moment_of old) (at new.device c.history.facts)) (λ is. is) (λ is. calm_dark new.device old.core.history old.core.requests settled.quiet.requests (moment_of old) is) answer w
-      (λ past calm. calm)
+  zero_calm = by_core (λ (c : Core). StaysCalm (moment_of old) (at new.device c.history.facts)) (λ is. is) (λ is. calm_cut new.device old.core.history (moment_of old) is) (λ past calm. calm)
 
   -- ---- all of it
 
@@ -132,7 +143,7 @@ module _ (pp : Pp) (before after : ℕ) (old new : State) (answer : Result (Unit
         writes = keeps_wider (λ d. d == pp.disk) (is_there old.core) (IsZeroOf old.core.descriptor.mib pp) (IsOfCommand NoDescriptor (λ p. p ≡ pp) old new) old.device new.device (on_its_disk there) (λ d s value is. inr (inr (pp, refl, is))) w.part.keeps;
         status = same_status NoDescriptor NoPartition NoPartition old new same;
         numbers = subst (λ (u : Stored). SpendsNumbers 0 old.core.status u) (sym same) (record { epoch = refl; rises = omega arith; most = omega arith });
-        history = zero_core pp before after old new (λ (c : Core). KeepsHistory old.core.history c.history) (λ is. is) (λ is. keeps_dark_log old.core.history old.core.requests settled.quiet.requests) answer w (keeps_same old.core.history old.core.history refl);
+        history = by_core (λ (c : Core). KeepsHistory old.core.history c.history) (λ is. is) (λ is. history_keeps_cut old.core.history) (keeps_same old.core.history old.core.history refl);
         spans = λ held run first always. zero_keeps there free held run first;
         finds = finds_nothing NoDescriptor old new _ w.part.keeps.media (zero_keeps_records pp before after old new answer w).finds;
         calm = zero_calm;
@@ -142,6 +153,9 @@ module _ (pp : Pp) (before after : ℕ) (old new : State) (answer : Result (Unit
       }
 
   -- ---- afterwards
+
+  pub zero_sizes : SameSizes old.core new.core
+  zero_sizes = by_core (SameSizes old.core) (λ is. record { most = refl; buffers = one_out_long old.core.pool }) (λ is. record { most = refl; buffers = one_out_long old.core.pool }) (same_sizes old.core)
 
   pub zero_sound : IsSound old → IsSound new
   zero_sound sound = by_how w.how w.part w.goes
@@ -156,9 +170,9 @@ module _ (pp : Pp) (before after : ℕ) (old new : State) (answer : Result (Unit
       as_core core is it = subst (λ (c : Core). IsSound (state new.device c)) (sym is) it
 
       by_how : (how : Moved) → DoesPart (λ d. d == pp.disk) (IsZeroOf old.core.descriptor.mib pp) pp.disk 0 before after old.device new.device how → GoesOnAfter pp.disk old.core new.core how answer → IsSound new
-      by_how (moved.Done back) part goes = as_core old.core goes.1 (sound_ready new.device old.core sound.fitting sound.told placed settled.quiet.buffers (ap Rattle.lvm_core.specs.Sound.is_dark settled.power) sound.off part.rests)
-      by_how (moved.Failed back) part goes = as_core old.core goes.1 (sound_ready new.device old.core sound.fitting sound.told placed settled.quiet.buffers (ap Rattle.lvm_core.specs.Sound.is_dark settled.power) sound.off part.rests)
+      by_how (moved.Done back) part goes = as_core old.core goes.1 (sound_ready new.device old.core sound.fitting none sound.landed placed settled.quiet.buffers (ap is_dark settled.power) sound.off sound.heard part.rests)
+      by_how (moved.Failed back) part goes = as_core old.core goes.1 (sound_ready new.device old.core sound.fitting none sound.landed placed settled.quiet.buffers (ap is_dark settled.power) sound.off sound.heard part.rests)
       by_how (moved.Dark started) part goes = as_core (all_dark out) goes.1
-          (sound_dark old.device new.device out old.core.pool (fits_pool old.core (with_one_out old.core.pool) (one_out_long old.core.pool) sound.fitting) (record { table = sound.told.table; each = sound.told.each }) placed refl settled.quiet.buffers sound.fitting.a_buffer part.leaves)
+          (sound_dark old.device new.device out old.core.pool (fits_pool old.core (with_one_out old.core.pool) (one_out_long old.core.pool) sound.fitting) out_none sound.landed placed refl settled.quiet.buffers sound.fitting.a_buffer part.leaves)
       by_how moved.Stuck part goes = as_core out goes.1
-          (sound_stuck before old.device new.device out old.core.pool (fits_pool old.core (with_one_out old.core.pool) (one_out_long old.core.pool) sound.fitting) (record { table = sound.told.table; each = sound.told.each }) placed refl settled.quiet.buffers sound.fitting.a_buffer (ap Rattle.lvm_core.specs.Sound.is_dark settled.power) sound.off part.leaves)
+          (sound_stuck before old.device new.device out old.core.pool (fits_pool old.core (with_one_out old.core.pool) (one_out_long old.core.pool) sound.fitting) out_none sound.landed placed refl settled.quiet.buffers sound.fitting.a_buffer (ap is_dark settled.power) sound.off sound.heard part.leaves)

@@ -22,9 +22,9 @@ use Rattle.lvm_commit.specs.LawsOfVolumes.{VolumeServes}
 use Rattle.lvm_commit.specs.Settling.{NoneIsLeft, IsPassed, HasLostQuorum, AreWell, SpendsNumbers, StaysCommitted, IsPlain}
 use Rattle.lvm_core.specs.declared.fault.CommitFault.{CommitFault}
 use Rattle.lvm_core.specs.declared.fault.CommitFault.TheVariants as fault
-use Rattle.lvm_core.specs.declared.request.Power.TheVariants as power
-use Rattle.lvm_core.specs.State.{State}
-use Rattle.lvm_core.specs.Dark.{all_dark}
+use Rattle.lvm_session.specs.declared.open.Power.TheVariants as power
+use Rattle.lvm_session.specs.State.{State}
+use Rattle.lvm_events.specs.Dark.{all_dark}
 use Rattle.lvm_core.specs.Held.{IsHeld}
 use Rattle.lvm_core.specs.Settled.{IsSettled}
 

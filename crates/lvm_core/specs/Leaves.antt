@@ -19,7 +19,7 @@ use Rattle.lvm_kept.specs.Plans.{Plan}
 use Rattle.lvm_write.specs.Parts.{Spends}
 use Rattle.lvm_write.specs.Written.{KeepsShelf}
 use Rattle.lvm_commit.specs.Settling.{there, HasSameRows, SpendsNumbers, IsOfStatus, IsOfCommit}
-use Rattle.lvm_core.specs.State.{State, is_there}
+use Rattle.lvm_session.specs.State.{State, is_there}
 use Rattle.lvm_core.specs.Held.{IsHeld}
 use Rattle.lvm_core.specs.Committing.{moment_of, SpanGoesOn, LetsCommit, StaysBehind}
 use Rattle.lvm_core.specs.Zeros.{IsZeroOf}

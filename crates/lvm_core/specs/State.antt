@@ -1,56 +1,7 @@
--- The state of a session of a group.
-use Rattle.std.specs.Prelude.{ℕ, Bool, List, Option}
-use Rattle.lvm_num.specs.declared.descriptor.Descriptor.{Descriptor}
-use Rattle.lvm_num.specs.Disks.{Disks}
-use Rattle.lvm_num.specs.Votes.{votes_in}
+-- The state of a driver: its session and the shelf below.
 use Rattle.lvm_disk.specs.Device.{Device}
-use Rattle.lvm_vol.specs.Log.{Log}
-use Rattle.lvm_hold.specs.Waiting.{Waiting}
-use Rattle.lvm_mwc.specs.Cache.{Cached}
-use Rattle.lvm_status.specs.Update.{Stored, members_there}
-use Rattle.lvm_write.specs.declared.homes.Homes.{Homes}
-use Rattle.lvm_core.specs.declared.request.Open.{Open}
-use Rattle.lvm_core.specs.declared.request.OpenCopy.{OpenCopy}
-use Rattle.lvm_core.specs.declared.request.Power.{Power}
-
--- What contracts see of a session beside its shelf.
-pub record Core : Type 0 where
-  -- the committed descriptor
-  pub descriptor : Descriptor
-  pub history : Log
-  -- the open requests by rising numbers, and how many there is room for
-  pub requests : List Open
-  pub most : ℕ
-  -- who waits for whom
-  pub queue : Waiting
-  -- the copy that is being brought up
-  pub copy : Option OpenCopy
-  -- for each transfer buffer whether it is out
-  pub pool : List Bool
-  -- the committed status, the one in flight and the wanted one, and the last stamp
-  pub status : Stored
-  -- the track groups that may differ after a crash, and each disk's notes
-  pub cache : Cached
-  -- the slots to which the next records go
-  pub homes : Homes
-  pub power : Power
-
--- a session and its shelf
-pub record State : Type 0 where
-  pub device : Device
-  pub core : Core
-
-abbrev pub state : Device → Core → State
-state device core = record { device = device; core = core }
+use Rattle.lvm_session.specs.State.{Core, State, state}
 
 -- that of a driver, by the device that its shelf is
 abbrev pub state_of : {S : Type 0} → (S → Device) → S × Core → State
 state_of device driver = state (device driver.0) driver.1
-
--- the members that aren't missing
-abbrev pub is_there : Core → Disks
-is_there core = members_there core.descriptor core.status.wanted
-
--- their votes
-abbrev pub votes_there : Core → ℕ
-votes_there core = votes_in core.descriptor (is_there core)

@@ -9,27 +9,32 @@ ghost use Rattle.lvm_write.specs.Written.{KeepsShelf};
 ghost use Rattle.lvm_commit.specs.Committed.{IsAlike};
 ghost use Rattle.lvm_commit.specs.LawsOfData.{IsFree};
 ghost use Rattle.lvm_commit.specs.Settling.{MarksLeft};
-ghost use Rattle.lvm_core.specs.declared.request.Open.{Open};
-ghost use Rattle.lvm_core.specs.State.{state, state_of, is_there, votes_there};
-ghost use Rattle.lvm_core.specs.Dark.{is_waiting, after_arrange};
+ghost use Rattle.lvm_session.specs.declared.open.Open.{Open};
+ghost use Rattle.lvm_session.specs.declared.open.Power.TheVariants as power;
+ghost use Rattle.lvm_session.specs.State.{state, is_there, votes_there};
+ghost use Rattle.lvm_core.specs.State.{state_of};
+ghost use Rattle.lvm_session.specs.Judging.{is_waiting};
+ghost use Rattle.lvm_events.specs.Dark.{after_arrange};
 ghost use Rattle.lvm_core.specs.Looking.{IsNumberOf, HasNoVolume};
 ghost use Rattle.lvm_core.specs.Sound.{IsSound, HaveAllLanded};
-ghost use Rattle.lvm_core.specs.Starting.{ArePlaced, first_core};
+ghost use Rattle.lvm_sound.specs.Placed.{ArePlaced};
+ghost use Rattle.lvm_session_start.specs.Beginning.{AreFaults, first_core};
 ghost use Rattle.lvm_core.specs.Settled.{IsSettled, HasSpareNumbers};
 ghost use Rattle.lvm_core.specs.Committing.{CommitEnds, MarkEnds, FailsCommitted, AreUnused, AreMarked, Restates};
 ghost use Rattle.lvm_core.specs.Zeros.{ZeroEnds, KeepsRecords, IsZeroOf};
 ghost use Rattle.lvm_core.specs.Leaves.{Leaves, committing, marking, zeroing};
 ghost use Rattle.lvm_core.specs.Entering.{IsOfVolume};
 
+use crate::commit::{commit, set_status, zero};
 use crate::fault::CommitFault;
 use crate::look::number_of;
+use crate::orders::arranged;
 use crate::parts::Parts;
 use crate::prepared::Prepared;
-use crate::request::Power;
-use crate::session::Session;
 use lvm_disk::{Arrange, Shelf};
 use lvm_history::History;
 use lvm_num::{Descriptor, Memory, Name, Pp, Stamp};
+use lvm_session::{Power, Session};
 use lvm_stale::StaleTable;
 use lvm_transfer::Patience;
 use lvm_vol::Entry;
@@ -46,16 +51,16 @@ pub struct Driver<S: Shelf> {
 }
 
 impl<S: Shelf> Model for Driver<S> {
-    ghost use Rattle.std.specs.Prelude.{◌≡◌, ◌≤◌, length, vec_capacity};
-    ghost use Rattle.lvm_core.specs.State.{Core, state};
-    ghost use Rattle.lvm_core.specs.Fields.{core_of, status_room};
+    ghost use Rattle.lvm_session.specs.State.{Core, state};
+    ghost use Rattle.lvm_session.specs.Fields.{core_of};
+    ghost use Rattle.lvm_session.specs.Rooms.{HasRooms};
     ghost use Rattle.lvm_core.specs.Sound.{IsSound};
 
     ghost Value = { S × Core };
 
     ghost view = { λ d. (d.shelf, core_of d.session) };
 
-    ghost invariant = { λ d. (d.session.most ≤ vec_capacity d.session.requests) × (length d.session.bytes.items ≡ status_room) × IsSound (state (S.device d.shelf) (core_of d.session)) };
+    ghost invariant = { λ d. HasRooms d.session × IsSound (state (S.device d.shelf) (core_of d.session)) };
 }
 
 impl<S: Shelf> Driver<S> {
@@ -65,14 +70,13 @@ impl<S: Shelf> Driver<S> {
         requires spare { 1 ≤ spare_entries history }
         requires landed { HaveAllLanded history.facts }
         requires ready { IsReady (S.device shelf) }
-        requires placed { ArePlaced (S.device shelf).sizes parts.descriptor parts.status.wanted }
+        requires placed { ArePlaced (S.device shelf).sizes parts.descriptor parts.updater.wanted }
         ensures shelf { result.0 ≡ shelf }
-        ensures core { result.1 ≡ first_core parts history stamp homes }
+        ensures core { result.1 ≡ first_core parts history stamp homes result.1.origin.faults }
+        ensures faults { AreFaults (S.device shelf) result.1.origin.faults }
     {
-        Driver {
-            shelf,
-            session: parts.into_session(history, stamp, homes),
-        }
+        let session = parts.into_session(&shelf, history, stamp, homes);
+        Driver { shelf, session }
     }
 
     /// How many disks its shelf has.
@@ -100,13 +104,15 @@ impl<S: Shelf> Driver<S> {
         ensures core { self.new.1 ≡ after_arrange what result self.old.1 }
     {
         let done = self.shelf.arrange(what);
-        self.session.arranged(what, done);
+        arranged(&mut self.session, what, done);
         done
     }
 
     /// Whether the session goes on.
     pub fn power(&self) -> Power
-        ensures { result ≡ self.now.1.power }
+        ensures power { result ≡ self.now.1.power }
+        // A transfer that isn't heard of leaves the session on, and its buffer out.
+        ensures heard { result ≡ power.Stuck → ⊥ }
     {
         self.session.power
     }
@@ -139,7 +145,7 @@ impl<S: Shelf> Driver<S> {
         ensures left { MarksLeft next self.old.1.status self.new.1.status }
         ensures leaves { Leaves (committing next) patience.old.left patience.new.left (state_of S.device self.old) (state_of S.device self.new) }
     {
-        self.session.commit(&mut self.shelf, next, patience)
+        commit(&mut self.session, &mut self.shelf, next, patience)
     }
 
     /// Commits a status with these partitions stale and those fresh, which no volume has. Where nothing
@@ -166,8 +172,7 @@ impl<S: Shelf> Driver<S> {
         ensures marks { Restates stale.now fresh.now (state_of S.device self.old) (state_of S.device self.new) }
         ensures leaves { Leaves (marking stale.now fresh.now) patience.old.left patience.new.left (state_of S.device self.old) (state_of S.device self.new) }
     {
-        self.session
-            .set_status(&mut self.shelf, stale, fresh, patience)
+        set_status(&mut self.session, &mut self.shelf, stale, fresh, patience)
     }
 
     /// Writes zeros to a partition that no volume has, of a member that isn't missing.
@@ -187,7 +192,7 @@ impl<S: Shelf> Driver<S> {
         ensures writes { KeepsShelf (λ d. d == pp.disk) (IsZeroOf self.old.1.descriptor.mib pp) (S.device self.old.0) (S.device self.new.0) }
         ensures leaves { Leaves (zeroing pp) patience.old.left patience.new.left (state_of S.device self.old) (state_of S.device self.new) }
     {
-        self.session.zero(&mut self.shelf, pp, patience)
+        zero(&mut self.session, &mut self.shelf, pp, patience)
     }
 
     /// Enters that a volume is being made or removed, or that it is.
@@ -267,7 +272,7 @@ impl<S: Shelf> Driver<S> {
         let Driver { shelf, session } = self;
         Closed {
             shelf: without_freed(shelf),
-            history: session.into_history(),
+            history: session.history,
         }
     }
 }

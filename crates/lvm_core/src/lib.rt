@@ -6,11 +6,10 @@ mod driver;
 mod fault;
 mod look;
 mod marks;
+mod orders;
 mod parts;
 mod prepared;
 mod refused;
-mod request;
-mod session;
 mod zero;
 
 pub use driver::{Closed, Driver};
@@ -18,4 +17,3 @@ pub use fault::CommitFault;
 pub use parts::{Parts, Room};
 pub use prepared::Prepared;
 pub use refused::{Cause, Refused};
-pub use request::{CopyState, Open, OpenCopy, Power};

@@ -34,7 +34,7 @@ use Rattle.lvm_sound.specs.Sound.{IsCopy, IsFitting, IsGoing, IsSound, IsTold, s
 use Rattle.lvm_sound.specs.Worked.{CopiesAreSound, behind, bringing_up, first_copy, fresh, second_copy, status_of}
 use Rattle.lvm_keeps.proofs.Close.{close_keeps}
 use Rattle.lvm_faulted.specs.Faulted.{without_disks}
-use Rattle.lvm_faulted.specs.Copies.{FailedCopiesAreSound, WholeCopiesAreSound, failed, whole}
+use Rattle.lvm_faulted.specs.Copies.{CarriedWritesAreUnsound, FailedCopiesAreSound, WholeCopiesAreSound, failed, whole}
 use Rattle.lvm_sound.proofs.Small.{not_either, not_none, not_so}
 use Rattle.lvm_sound.proofs.Parts.{update_is_sound, both_copies, has_fresh, not_marked, zeros_at, none_missing_at_first as none_missing}
 use Rattle.lvm_sound.proofs.While.{sound_while_on}
@@ -350,3 +350,9 @@ module _ (copies : CopiesAreSound) (m : Mode) where
 
 pub failed_copies_are_sound : CopiesAreSound → FailedCopiesAreSound
 failed_copies_are_sound copies = record { sound = failed_sound copies; next = failed_next; closes = closes; after = after copies }
+
+-- ---- a write that is done on the copy alone
+
+pub carried_writes_are_unsound : CarriedWritesAreUnsound
+unfolding votes_by has_bit has
+carried_writes_are_unsound = record { waits = refl; unsound = λ r. not_so ((r.judged refl).due refl) }

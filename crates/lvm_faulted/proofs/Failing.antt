@@ -8,7 +8,6 @@ use Rattle.lvm_num.specs.Disks.{has}
 use Rattle.lvm_num.specs.Votes.{votes_by}
 use Rattle.lvm_num.specs.declared.place.Pp.{Pp}
 use Rattle.lvm_num.specs.declared.descriptor.Mode.TheVariants as mode
-use Rattle.lvm_num.specs.declared.status.Status.{Status}
 use Rattle.lvm_num.specs.Status.{calls_stale, calls_missing}
 use Rattle.lvm_num.proofs.BitsLemmas.{has-none}
 use Rattle.lvm_num.proofs.DisksLemmas.{has-zero, has-with}
@@ -39,9 +38,9 @@ use Rattle.lvm_sound.specs.Sound.{IsAsked, IsFitting, IsSound, IsTold, count_if,
 use Rattle.lvm_sound.specs.Worked.{HeldWritesAreSound, Says, begun_write, behind, core_of, first_copy, fresh, second_copy, status_of}
 use Rattle.lvm_keeps.proofs.Landing.{landing_is_caused}
 use Rattle.lvm_faulted.specs.Failing.{KeptWritesAreSound, LostWritesAreSound, UnsettledWritesAreSound, ended, ended_write, kept, landed, lost_on_both, no_writes, unsettled}
-use Rattle.lvm_sound.proofs.Small.{not_either, not_none, not_so}
+use Rattle.lvm_sound.proofs.Small.{not_either, not_so}
 use Rattle.lvm_sound.proofs.Requests.{laid_in, shaped, waits_with}
-use Rattle.lvm_sound.proofs.Parts.{update_is_sound, idle_is_sound, none_written, has_fresh, not_marked, zeros_at, none_missing_at_first as none_missing}
+use Rattle.lvm_sound.proofs.Parts.{update_is_sound, idle_is_sound, none_written, has_fresh, zeros_at, none_missing_at_first as none_missing}
 use Rattle.lvm_sound.proofs.While.{sound_while_on}
 use Rattle.lvm_faulted.proofs.Parts.{none_stale, rose_once}
 

@@ -6,7 +6,6 @@ use Rattle.lvm_num.specs.Votes.{votes_by}
 use Rattle.lvm_num.specs.declared.descriptor.Mode.{Mode}
 use Rattle.lvm_num.specs.declared.descriptor.Mode.TheVariants as mode
 use Rattle.lvm_num.specs.Status.{calls_stale}
-use Rattle.lvm_num.proofs.DisksLemmas.{has-zero}
 use Rattle.lvm_status.specs.Update.{seen}
 use Rattle.lvm_status.specs.Runs.{IsSound as IsSoundStatus}
 use Rattle.lvm_session.specs.declared.event.Event.TheVariants as event
@@ -15,8 +14,8 @@ use Rattle.lvm_sound.specs.Left.{updates_left}
 use Rattle.lvm_sound.specs.Sound.{IsGoing, IsSound, stays_fresh}
 use Rattle.lvm_sound.specs.Worked.{HeldWritesAreSound, first_copy, fresh, status_of}
 use Rattle.lvm_faulted.specs.Faulted.{MissingDisksAreSound, missing_disk, wanting}
-use Rattle.lvm_sound.proofs.Small.{not_none, not_so, not_either}
-use Rattle.lvm_sound.proofs.Parts.{idle_is_sound, none_written, has_fresh, not_marked, none_missing_at_first as none_missing}
+use Rattle.lvm_sound.proofs.Small.{not_so, not_either}
+use Rattle.lvm_sound.proofs.Parts.{idle_is_sound, none_written, has_fresh, none_missing_at_first as none_missing}
 use Rattle.lvm_sound.proofs.While.{sound_while_on}
 use Rattle.lvm_faulted.proofs.Parts.{behind, fitting, none_stale, origin, request, told}
 

@@ -1,30 +1,22 @@
 -- The parts of a session that misses disks.
-use Rattle.std.proofs.Common.{◌≡◌, ◌⊎◌, inl, inr, ◌*◌, ℕ, zero, suc, Bool, true, false, ◌&&◌, ◌||◌, not, List, [], ◌∷◌, take, Some, None, refl, sym, ap, ◌∙◌, subst, arith}
-use Rattle.std.specs.Prelude.{◌==◌, if◌then◌else◌, replicate, slice_index_or}
+use Rattle.std.proofs.Common.{◌≡◌, ◌⊎◌, inl, inr, ℕ, Bool, true, false, ◌&&◌, ◌||◌, not, [], ◌∷◌, refl, sym, ap, ◌∙◌, subst, arith}
+use Rattle.std.specs.Prelude.{◌==◌, if◌then◌else◌, replicate}
 use Rattle.std.specs.List.{list_any}
-use Rattle.std.specs.Option.{option_map_or}
 use Rattle.std.proofs.lemmas.Bool.{eqb-true}
-use Rattle.std.proofs.lemmas.List.{drop_all}
 use Rattle.lvm_num.specs.Bits.{has_bit}
-use Rattle.lvm_num.specs.Disks.{has}
 use Rattle.lvm_num.specs.declared.place.Pp.{Pp}
-use Rattle.lvm_num.specs.declared.descriptor.LvRow.{LvRow}
 use Rattle.lvm_num.specs.declared.descriptor.Mode.{Mode}
-use Rattle.lvm_num.specs.Descriptor.{copies_of}
 use Rattle.lvm_num.specs.Status.{calls_missing, calls_stale}
 use Rattle.lvm_num.proofs.BitsLemmas.{has-none}
-use Rattle.lvm_num.proofs.DisksLemmas.{has-zero}
 use Rattle.lvm_disk.specs.Counts.{Rose}
-use Rattle.lvm_kept.specs.Examples.{mirror}
 use Rattle.lvm_path.specs.declared.request.Phase.TheVariants as phase
-use Rattle.lvm_session.specs.declared.open.Power.TheVariants as power
-use Rattle.lvm_session.specs.State.{Core, state}
-use Rattle.lvm_session.specs.Judging.{copies_in, is_stale}
+use Rattle.lvm_session.specs.State.{state}
+use Rattle.lvm_session.specs.Judging.{is_stale}
 use Rattle.lvm_events.specs.Marks.{can_replace, is_among, is_entailed}
 use Rattle.lvm_sound.specs.Requests.{IsOpenOne}
 use Rattle.lvm_sound.specs.Causes.{FailedSince, IsTrueToOrigin}
-use Rattle.lvm_sound.specs.Sound.{IsFitting, IsSound, IsTold, may_be_fresh, stays_fresh}
-use Rattle.lvm_sound.specs.Worked.{HeldWritesAreSound, a_write, asking, core_of, faultless, first_copy, fresh, second_copy, held_write, mirrored, status_of}
+use Rattle.lvm_sound.specs.Sound.{IsFitting, IsSound, IsTold}
+use Rattle.lvm_sound.specs.Worked.{HeldWritesAreSound, a_write, asking, core_of, faultless, fresh, second_copy, held_write, status_of}
 use Rattle.lvm_sound.proofs.Small.{not_so, not_either}
 use Rattle.lvm_sound.proofs.Parts.{both_copies, none_missing_at_first as none_missing, zeros_at}
 use Rattle.lvm_faulted.specs.Faulted.{faulted, wanting, without_disks}

@@ -10,7 +10,6 @@ use Rattle.lvm_num.specs.declared.place.Pp.{Pp}
 use Rattle.lvm_num.specs.declared.descriptor.Mode.{Mode}
 use Rattle.lvm_num.specs.declared.descriptor.Mode.TheVariants as mode
 use Rattle.lvm_num.specs.Status.{calls_stale, calls_missing}
-use Rattle.lvm_num.proofs.DisksLemmas.{has-zero}
 use Rattle.lvm_kept.specs.Examples.{mirror}
 use Rattle.lvm_vol.specs.declared.entry.Outcome.TheVariants as outcome
 use Rattle.lvm_vol.specs.Facts.{Begun}
@@ -33,9 +32,9 @@ use Rattle.lvm_sound.specs.Sound.{IsAsked, IsFitting, IsGoing, IsSound, IsTold, 
 use Rattle.lvm_sound.specs.Worked.{HeldWritesAreSound, behind, first_copy, fresh, mirrored, status_of}
 use Rattle.lvm_keeps.proofs.Landing.{landing_is_caused}
 use Rattle.lvm_faulted.specs.Unread.{FailedReadsAreSound, WritesWithoutCopyAreSound, begun_read, failed_read, held, read_in_vain, refused, unread, without_copy}
-use Rattle.lvm_sound.proofs.Small.{not_either, not_none, not_so}
+use Rattle.lvm_sound.proofs.Small.{not_either, not_so}
 use Rattle.lvm_sound.proofs.Requests.{laid_in, shaped, waits_with}
-use Rattle.lvm_sound.proofs.Parts.{idle_is_sound, none_written, both_copies, has_fresh, not_marked, zeros_at, none_missing_at_first as none_missing}
+use Rattle.lvm_sound.proofs.Parts.{idle_is_sound, none_written, both_copies, has_fresh, zeros_at, none_missing_at_first as none_missing}
 use Rattle.lvm_sound.proofs.While.{sound_while_on}
 use Rattle.lvm_faulted.proofs.Parts.{none_stale, rose_once}
 use Rattle.lvm_faulted.proofs.Failing.{all_stale, both_stale, none_missing_behind}

@@ -1,5 +1,5 @@
 //! Laws: sessions in which disks have failed are sound.
-ghost use Rattle.lvm_faulted.specs.Copies.{FailedCopiesAreSound, WholeCopiesAreSound};
+ghost use Rattle.lvm_faulted.specs.Copies.{CarriedWritesAreUnsound, FailedCopiesAreSound, WholeCopiesAreSound};
 ghost use Rattle.lvm_faulted.specs.Failing.{KeptWritesAreSound, LostWritesAreSound, UnsettledWritesAreSound};
 ghost use Rattle.lvm_faulted.specs.Faulted.{EndedSessionsAreSound, LostVotesAreSound, MissingDisksAreSound};
 ghost use Rattle.lvm_faulted.specs.Unread.{FailedReadsAreSound, WritesWithoutCopyAreSound};
@@ -75,3 +75,9 @@ pub fn failed_reads_are_sound()
 {
     held_writes_are_sound();
 }
+
+/// A session isn't sound with a write that has failed on its fresh copy, and is done on the one that is brought up:
+/// with the commit of the clearing it would wait for ever.
+pub fn carried_writes_are_unsound()
+    ensures { CarriedWritesAreUnsound }
+{}

@@ -19,9 +19,8 @@ use Rattle.lvm_commit.proofs.Still.{still_holds_committed}
 use Rattle.lvm_core.specs.declared.parts.Room.{Room}
 use Rattle.lvm_core.specs.Held.{IsHeld}
 use Rattle.lvm_core.specs.Settled.{IsSettled}
-use Rattle.lvm_core.specs.State.{Core, is_there}
+use Rattle.lvm_session.specs.State.{Core, is_there}
 use Rattle.lvm_core.specs.Leaves.{MayBeFound}
-use Rattle.lvm_volume_plan.specs.NewVolume.{without_volume}
 use Rattle.lvm_volumes.specs.Volumes.{IsWith}
 use Rattle.lvm_core.specs.Looking.{IsNumberOf}
 use Rattle.lvm_commands.specs.Groups.{VariesOn, NoVaryonWhileOn, VaryonFails, NoMemoryForLine, NoMkvgWhileOn, MakesGroup, MkvgFails}
@@ -32,6 +31,7 @@ use Rattle.lvm_commands.specs.Volumes.{NoGroupForMklv, MakesVolume, MklvFails, N
 use Rattle.lvm_commands.specs.declared.reply.Reply.{Reply}
 use Rattle.lvm_commands.specs.declared.reply.Reply.TheVariants as reply
 use Rattle.lvm_found.specs.Standing.{IsToCommit, is_group_command, is_acknowledged, StandsOf, IsCommitted, OfAnother}
+use Rattle.lvm_volume_plan.specs.NewVolume.{without_volume}
 
 -- ---- a session at which nothing is under way
 

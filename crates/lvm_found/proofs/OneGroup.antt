@@ -30,11 +30,10 @@ use Rattle.lvm_core.specs.declared.refused.Cause.{Cause}
 use Rattle.lvm_core.specs.declared.refused.Cause.TheVariants as cause
 use Rattle.lvm_core.specs.Held.{IsHeld}
 use Rattle.lvm_core.specs.Looking.{IsNumberOf}
-use Rattle.lvm_core.specs.State.{Core, is_there}
+use Rattle.lvm_session.specs.State.{Core, is_there}
 use Rattle.lvm_core.specs.Leaves.{MayBeFound}
 use Rattle.lvm_group.specs.NewGroup.{NewGroup, new_group}
 use Rattle.lvm_group.specs.Made.{Refuses}
-use Rattle.lvm_volume_plan.specs.NewVolume.{without_volume}
 use Rattle.lvm_group.specs.Shown.{IfShown, HasGroup}
 use Rattle.lvm_volumes.specs.Volumes.{IsWith}
 use Rattle.lvm_commands.specs.Disks.{patience_of_line}
@@ -56,6 +55,7 @@ use Rattle.lvm_found.proofs.Groups.{asked, asked_nothing, left_still}
 use Rattle.lvm_found.proofs.Lines.{by_reading}
 use Rattle.lvm_found.proofs.Making.{none_out, parts_find, refused_finds}
 use Rattle.lvm_found.proofs.Scripts.{some_of, script_ready, first_held, last_told, run_may_start}
+use Rattle.lvm_volume_plan.specs.NewVolume.{without_volume}
 
 -- ---- what is found is shown, and what has a quorum is found
 

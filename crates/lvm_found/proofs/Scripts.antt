@@ -25,7 +25,7 @@ use Rattle.lvm_write.proofs.Writing.{told_at}
 use Rattle.lvm_core.specs.declared.parts.Room.{Room}
 use Rattle.lvm_core.specs.Held.{IsHeld}
 use Rattle.lvm_core.specs.Settled.{IsSettled as IsSettledCore}
-use Rattle.lvm_core.specs.State.{Core}
+use Rattle.lvm_session.specs.State.{Core}
 use Rattle.lvm_core.specs.Leaves.{MayBeFound}
 use Rattle.lvm_commands.specs.Groups.{VaryonDoes, NoVaryonWhileOn, VariesOn, VaryonFails}
 use Rattle.lvm_line.specs.Lines.{LineDoes, IsLine}

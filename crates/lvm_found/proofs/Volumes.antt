@@ -9,11 +9,8 @@ use Rattle.lvm_parse.specs.declared.command.Command.TheVariants as command
 use Rattle.lvm_write.proofs.Writing.{told_at}
 use Rattle.lvm_core.specs.Held.{IsHeld}
 use Rattle.lvm_core.specs.Looking.{IsNumberOf}
-use Rattle.lvm_core.specs.State.{Core, State as Session, state}
-use Rattle.lvm_volume_plan.specs.declared.fault.GroupFault.{GroupFault}
-use Rattle.lvm_volume_plan.specs.declared.fault.GroupFault.TheVariants as fault
+use Rattle.lvm_session.specs.State.{Core, State as Session, state}
 use Rattle.lvm_core.specs.Leaves.{MayBeFound}
-use Rattle.lvm_volume_plan.specs.NewVolume.{without_volume}
 use Rattle.lvm_volumes.specs.Volumes.{IsWith, IsChosen, MklvGives, RmlvGives}
 use Rattle.lvm_commands.specs.Disks.{patience_of_line}
 use Rattle.lvm_commands.specs.Moments.{IsBrokenOff}
@@ -23,6 +20,9 @@ use Rattle.lvm_commands.specs.declared.reply.Reply.{Reply}
 use Rattle.lvm_commands.specs.declared.reply.Reply.TheVariants as reply
 use Rattle.lvm_found.specs.Standing.{MayHaveCommitted}
 use Rattle.lvm_found.proofs.Devices.{NothingNew, same_nothing}
+use Rattle.lvm_volume_plan.specs.declared.fault.GroupFault.{GroupFault}
+use Rattle.lvm_volume_plan.specs.declared.fault.GroupFault.TheVariants as fault
+use Rattle.lvm_volume_plan.specs.NewVolume.{without_volume}
 
 -- where a session goes on at which nothing has happened
 idle_nothing : (core : Core) (left : Session) (old new : State) → left ≡ state old.moment.device core → StaysOn left new → NothingNew old.moment.device new.moment.device

@@ -9,9 +9,8 @@ use Rattle.lvm_operands.specs.declared.rest.Misfit.{Misfit}
 use Rattle.lvm_parse.specs.Grammar.{line_of}
 use Rattle.lvm_core.specs.declared.parts.Room.{Room}
 use Rattle.lvm_core.specs.Looking.{IsNumberOf}
-use Rattle.lvm_core.specs.State.{Core}
+use Rattle.lvm_session.specs.State.{Core}
 use Rattle.lvm_group.specs.NewGroup.{new_group}
-use Rattle.lvm_volume_plan.specs.NewVolume.{without_volume}
 use Rattle.lvm_volumes.specs.Volumes.{IsWith}
 use Rattle.lvm_core.specs.Leaves.{MayBeFound}
 use Rattle.lvm_commands.specs.Groups.{asked_for}
@@ -21,6 +20,7 @@ use Rattle.lvm_commands.specs.Volumes.{wanted}
 use Rattle.lvm_commands.specs.declared.reply.Reply.{Reply}
 use Rattle.lvm_commands.specs.declared.reply.Reply.TheVariants as reply
 use Rattle.lvm_top.specs.Script.{Script, NoLine, NextLine, Ends, AtLine, InLine}
+use Rattle.lvm_volume_plan.specs.NewVolume.{without_volume}
 
 -- ---- one line
 

@@ -1,20 +1,19 @@
 -- The history as the contents of disks are given up, and as the power is cut.
-use Rattle.std.proofs.Common.{◌≡◌, ℕ, ◌+◌, ◌-◌, ◌<◌, Bool, true, false, ◌&&◌, not, cond, List, [], ◌∷◌, ◌++◌, length, get_or, take, refl, sym, ap, subst, ◌∙◌, append_assoc, arith}
+use Rattle.std.proofs.Common.{◌≡◌, ℕ, ◌+◌, ◌-◌, ◌<◌, Bool, true, false, cond, List, [], ◌∷◌, ◌++◌, length, get_or, take, refl, sym, ap, subst, ◌∙◌, append_assoc, arith}
 use Rattle.std.specs.Prelude.{map}
-use Rattle.std.specs.List.{list_any}
 use Rattle.std.proofs.lemmas.List.{map_more, append-nil}
 use Rattle.std.proofs.lemmas.List.Sums.{sum_by-append, sum_by-cons}
 use Rattle.lvm_disk.specs.Device.{Device}
 use Rattle.lvm_vol.specs.declared.entry.Vol.TheVariants.{Disk}
 use Rattle.lvm_vol.specs.Facts.{Fact, Removed, Cut}
 use Rattle.lvm_vol.specs.Legal.{IsLater}
-use Rattle.lvm_vol.specs.Log.{Log, with_fact, cut_log, is_uncut, is_open, lands_id, need, needed, spare_entries}
+use Rattle.lvm_vol.specs.Log.{Log, with_fact, cut_log, is_uncut, is_open, need, needed, spare_entries}
 use Rattle.lvm_kept.specs.Moments.{Moment, StaysCalm}
 use Rattle.lvm_steps.specs.Moments.{Keeps}
 use Rattle.lvm_steps.specs.Requests.{at}
 use Rattle.lvm_steps.proofs.Entering.{quiet_goes_on, calm_goes_on}
 use Rattle.lvm_core.specs.Sound.{HaveAllLanded}
-use Rattle.lvm_core.proofs.Telling.{BeginNone, open_still}
+use Rattle.lvm_core.proofs.Dark.{landed_still}
 use Rattle.lvm_stamps.proofs.Clock.{later_joins}
 use Rattle.lvm_group.specs.NewGroup.{given_up}
 
@@ -39,16 +38,11 @@ spare_given log disks =
 
 -- ---- no request begins or lands
 
-none_begins : (disks : List ℕ) → BeginNone (out disks)
-none_begins [] = refl
-none_begins (d ∷ disks) = none_begins disks
-
-closed : (a b : Bool) → a ≡ false → (a && b) ≡ false
-closed true b is = absurd cc
-closed false b is = refl
-
 pub landed_given : (facts : List Fact) (disks : List ℕ) → HaveAllLanded facts → HaveAllLanded (facts ++ out disks)
-landed_given facts disks landed id = open_still facts (out disks) id (none_begins disks) ∙ closed (is_open facts id) (not (list_any (lands_id id) (out disks))) (landed id)
+landed_given facts [] landed id = ap (λ (l : List Fact). is_open l id) (append-nil facts) ∙ landed id
+landed_given facts (d ∷ disks) landed id =
+    ap (λ (l : List Fact). is_open l id) (sym (append_assoc facts (Removed (Disk d) ∷ []) (out disks)))
+    ∙ landed_given (facts ++ Removed (Disk d) ∷ []) disks (landed_still facts (Removed (Disk d)) refl (λ i. refl) landed) id
 
 -- ---- no group comes on
 

@@ -54,8 +54,10 @@ use Rattle.lvm_core.specs.declared.parts.Room.{Room}
 use Rattle.lvm_commit.specs.Committed.{Began, ShowsCommitted, HoldsCommitted}
 use Rattle.lvm_commit.proofs.Found.{newest_is_beginning}
 use Rattle.lvm_core.specs.Held.{NotesAreHome, StartsHeld}
-use Rattle.lvm_core.specs.Starting.{Reserved, IsReservedFor, first_core}
-use Rattle.lvm_core.specs.State.{Core, is_there}
+use Rattle.lvm_session_start.specs.declared.parts.Parts.{Parts}
+use Rattle.lvm_core.specs.Starting.{IsReservedFor}
+use Rattle.lvm_session_start.specs.Beginning.{first_core}
+use Rattle.lvm_session.specs.State.{Core, is_there}
 use Rattle.lvm_core.proofs.Held.{empty_names_none}
 use Rattle.lvm_group.specs.NewGroup.{NewGroup, among, sectors_on, size_for, member_for, new_group, new_status, first_absent, first_too_small}
 use Rattle.lvm_group.specs.Shown.{IfShown, HasGroup, ShowsEarlier, SparesTold}
@@ -226,17 +228,17 @@ module _ (w : NewGroup) (device : Device) (homes : Homes) (its : IsBeginning w d
 
 module _ (w : NewGroup) (device : Device) (homes : Homes) (its : IsBeginning w device homes) (new : Device)
     (keeps : KeepsShelf (among w.disks) (IsOfParts (beginning_for device.sizes w homes) new_order) device new)
-    (stand : AllStand (beginning_for device.sizes w homes) new_order new) (room : Room) (r : Reserved) (parts : IsReservedFor (new_group device.sizes w) (new_status w) room r)
+    (stand : AllStand (beginning_for device.sizes w homes) new_order new) (room : Room) (r : Parts) (parts : IsReservedFor (new_group device.sizes w) (new_status w) room r)
     (next : Homes) (flips : BothFlip (among w.disks) homes next) (log : Log) where
   abbrev pub core : Core
-  core = first_core r log (record { epoch = w.moment; seq = 2 }) next
+  core = first_core r log (record { epoch = w.moment; seq = 2 }) next []
 
-  wanted_is : r.status.wanted ≡ new_status w
+  wanted_is : r.updater.wanted ≡ new_status w
   wanted_is = ap (λ (u : Updates). u.wanted) parts.status
 
   there_is : (d : ℕ) → is_there core d ≡ among w.disks d
   there_is d =
-      ap (λ (g : Descriptor). is_member g d && not (calls_missing r.status.wanted d)) parts.descriptor
+      ap (λ (g : Descriptor). is_member g d && not (calls_missing r.updater.wanted d)) parts.descriptor
       ∙ ap (λ (s : Status). is_member (new_group device.sizes w) d && not (calls_missing s d)) wanted_is
       ∙ ap (λ b. is_member (new_group device.sizes w) d && not b) (nothing_missing w.disks w.moment d)
       ∙ and_true (is_member (new_group device.sizes w) d)

@@ -1,5 +1,5 @@
 -- What is known in the midst of the making of a group, after the disks were read and after the records were written.
-use Rattle.std.proofs.Common.{◌≡◌, ℕ, ◌+◌, ◌^◌, ◌<◌, ◌≤◌, Bool, true, false, List, length, Option, Some, None, Result, Ok, Err, refl, sym, ap, subst, ◌∙◌}
+use Rattle.std.proofs.Common.{◌≡◌, ℕ, ◌+◌, ◌^◌, ◌<◌, ◌≤◌, Bool, true, false, List, length, Option, Some, None, Result, Ok, Err, refl, sym, ap, subst, ◌∙◌, []}
 use Rattle.std.specs.Prelude.{if◌then◌else◌, IfSome, IfOk, IfErr, slice_get}
 use Rattle.std.proofs.lemmas.Option.{slice_get-get_or}
 use Rattle.lvm_num.specs.declared.record.Stamp.{Stamp}
@@ -32,7 +32,9 @@ use Rattle.lvm_core.specs.declared.parts.Room.{Room}
 use Rattle.lvm_core.specs.declared.refused.Cause.{Cause}
 use Rattle.lvm_core.specs.Coming.{BringsOn}
 use Rattle.lvm_core.specs.Held.{StartsHeld}
-use Rattle.lvm_core.specs.Starting.{Reserved, IsReservedFor, first_core}
+use Rattle.lvm_session_start.specs.declared.parts.Parts.{Parts}
+use Rattle.lvm_core.specs.Starting.{IsReservedFor}
+use Rattle.lvm_session_start.specs.Beginning.{first_core}
 use Rattle.lvm_group.specs.NewGroup.{NewGroup, among, sectors_on, size_for, new_group, new_status, given_up, first_absent, first_too_small, MayBegin}
 use Rattle.lvm_group.specs.Shown.{IfShown, HasGroup, ShowsEarlier, SparesTold}
 use Rattle.lvm_group.specs.Planned.{IsPlanned}
@@ -170,7 +172,7 @@ module _ (w : NewGroup) (room : Room) (was : Log) (old mid : Device) (free : Fre
       }
 
       pub written_held : ClockIsAhead run w.moment old was.facts → (r : Result Homes Cause) → NewWritesGive bytes_written left mid new r
-          → IfOk r (λ next. StartsHeld new (first_core plan.parts (given_up was w.disks) (record { epoch = w.moment; seq = 2 }) next))
+          → IfOk r (λ next. StartsHeld new (first_core plan.parts (given_up was w.disks) (record { epoch = w.moment; seq = 2 }) next []))
       written_held clock (Ok next) gives =
           starts_held w mid free.homes (known clock) new keeps_mid (subst (λ (b : Beginning). AllStand b new_order new) as_mid gives.0.stand) room plan.parts
           (subst (λ (l : List ℕ). IsReservedFor (new_group l w) (new_status w) room plan.parts) (sym un.sizes) planned.parts) next (subst (λ (b : Beginning). BothFlip b.targets free.homes next) as_mid gives.1) (given_up was w.disks)
@@ -178,7 +180,7 @@ module _ (w : NewGroup) (room : Room) (was : Log) (old mid : Device) (free : Fre
 
 -- ---- and a cut is entered
 
-module _ (w : NewGroup) (room : Room) (before after : ℕ) (was mid is : Log) (old new : Device) (parts : Reserved) where
+module _ (w : NewGroup) (room : Room) (before after : ℕ) (was mid is : Log) (old new : Device) (parts : Parts) where
   pub made_then : (r : Result Homes Cause) → is ≡ cut_at r mid → IfOk r (λ next. Stands w room was mid old new (record { parts = parts; homes = next })) → IfOk (standing_of parts r) (Stands w room was is old new)
   made_then (Ok next) same stands = subst (λ (l : Log). Stands w room was l old new (record { parts = parts; homes = next })) (sym same) stands
   made_then (Err why) same stands = tt
@@ -187,8 +189,8 @@ module _ (w : NewGroup) (room : Room) (before after : ℕ) (was mid is : Log) (o
   refused_then (Ok next) same refuses = tt
   refused_then (Err why) same refuses = subst (λ (l : Log). Refuses w before was l old new why) (sym same) refuses
 
-  pub held_then : (stamp : Stamp) (r : Result Homes Cause) → is ≡ cut_at r mid → IfOk r (λ next. StartsHeld new (first_core parts mid stamp next)) → IfOk (standing_of parts r) (λ standing. StartsHeld new (first_core standing.parts is stamp standing.homes))
-  held_then stamp (Ok next) same held = subst (λ (l : Log). StartsHeld new (first_core parts l stamp next)) (sym same) held
+  pub held_then : (stamp : Stamp) (r : Result Homes Cause) → is ≡ cut_at r mid → IfOk r (λ next. StartsHeld new (first_core parts mid stamp next [])) → IfOk (standing_of parts r) (λ standing. StartsHeld new (first_core standing.parts is stamp standing.homes []))
+  held_then stamp (Ok next) same held = subst (λ (l : Log). StartsHeld new (first_core parts l stamp next [])) (sym same) held
   held_then stamp (Err why) same held = tt
 
   pub leaves_then : (run : ℕ) (r : Result Homes Cause) → is ≡ cut_at r mid → BringsOn run w.moment before after old new was mid → BringsOn run w.moment before after old new was is

@@ -25,8 +25,9 @@ use Rattle.lvm_core.specs.declared.parts.Room.{Room}
 use Rattle.lvm_core.specs.Sound.{HaveAllLanded}
 use Rattle.lvm_core.specs.Settled.{IsSettled, HasSpareNumbers}
 use Rattle.lvm_core.proofs.Settling.{starts_settled, starts_numbered}
-use Rattle.lvm_core.specs.Starting.{ArePlaced, first_core}
-use Rattle.lvm_core.specs.State.{Core}
+use Rattle.lvm_sound.specs.Placed.{ArePlaced}
+use Rattle.lvm_session_start.specs.Beginning.{first_core}
+use Rattle.lvm_session.specs.State.{Core}
 use Rattle.lvm_group.specs.NewGroup.{NewGroup, size_for, new_group, new_status}
 use Rattle.lvm_group.specs.Made.{IsMade}
 use Rattle.lvm_group.specs.Steps.{Stands}
@@ -45,15 +46,15 @@ module _ (w : NewGroup) (room : Room) (was is : Log) (old new : Device) (standin
   pub still_landed : HaveAllLanded was.facts → HaveAllLanded is.facts
   still_landed landed = subst (λ (l : Log). HaveAllLanded l.facts) (sym stands.entered) (landed_given was.facts w.disks landed)
 
-  pub placed : ArePlaced new.sizes standing.parts.descriptor standing.parts.status.wanted
+  pub placed : ArePlaced new.sizes standing.parts.descriptor standing.parts.updater.wanted
   placed =
       let fit = stands.clear.free.may.disks_fit in
-      subst (λ (l : List ℕ). ArePlaced l standing.parts.descriptor standing.parts.status.wanted) (sym stands.only.sizes)
-      (subst (λ (d : Descriptor). ArePlaced old.sizes d standing.parts.status.wanted) (sym stands.parts.descriptor)
+      subst (λ (l : List ℕ). ArePlaced l standing.parts.descriptor standing.parts.updater.wanted) (sym stands.only.sizes)
+      (subst (λ (d : Descriptor). ArePlaced old.sizes d standing.parts.updater.wanted) (sym stands.parts.descriptor)
       (subst (λ (s : Status). ArePlaced old.sizes (new_group old.sizes w) s) (sym (ap (λ (u : Updates). u.wanted) stands.parts.status))
       (are_placed old.sizes w.name (size_for old.sizes w.disks w.mib) w.disks w.moment stands.size fit.there fit.fit)))
 
-  pub made : (core : Core) → core ≡ first_core standing.parts is (record { epoch = w.moment; seq = 2 }) standing.homes → IsMade w room was old new core
+  pub made : (core : Core) → core ≡ first_core standing.parts is (record { epoch = w.moment; seq = 2 }) standing.homes core.origin.faults → IsMade w room was old new core
   made core core_is = record {
     clear = stands.clear;
     homes = stands.homes;
@@ -66,17 +67,17 @@ module _ (w : NewGroup) (room : Room) (was is : Log) (old new : Device) (standin
     parts = stands.parts;
     next = standing.homes;
     flips = stands.flips;
-    core_is = core_is ∙ ap (λ (l : Log). first_core standing.parts l (record { epoch = w.moment; seq = 2 }) standing.homes) stands.entered;
+    core_is = core_is ∙ ap (λ (l : Log). first_core standing.parts l (record { epoch = w.moment; seq = 2 }) standing.homes core.origin.faults) stands.entered;
   }
 
-  pub keeps_on : (first : Moment) (core : Core) → core ≡ first_core standing.parts is (record { epoch = w.moment; seq = 2 }) standing.homes → ClockIsAhead was.run w.moment old was.facts
+  pub keeps_on : (first : Moment) (core : Core) → core ≡ first_core standing.parts is (record { epoch = w.moment; seq = 2 }) standing.homes core.origin.faults → ClockIsAhead was.run w.moment old was.facts
       → Keeps was.run first (at new is.facts) → Keeps was.run first (at new core.history.facts)
   keeps_on first core core_is clock span =
       let ahead : IsAhead was.run w.moment old was.facts = clock stands.clear.moment in
       let later : IsLater is.facts w.moment = subst (λ (l : Log). IsLater l.facts w.moment) (sym stands.entered) (later_given was.facts w.disks w.moment ahead.later) in
       subst (λ (c : Core). Keeps was.run first (at new c.history.facts)) (sym core_is) (group_goes_on was.run first new is.facts w.moment span ahead.run_is later)
 
-  pub calm_on : (first : Moment) (core : Core) → core ≡ first_core standing.parts is (record { epoch = w.moment; seq = 2 }) standing.homes → StaysCalm first (at new is.facts) → StaysCalm first (at new core.history.facts)
+  pub calm_on : (first : Moment) (core : Core) → core ≡ first_core standing.parts is (record { epoch = w.moment; seq = 2 }) standing.homes core.origin.faults → StaysCalm first (at new is.facts) → StaysCalm first (at new core.history.facts)
   calm_on first core core_is calm = subst (λ (c : Core). StaysCalm first (at new c.history.facts)) (sym core_is) (calm_goes_on first new is.facts (On w.moment) calm tt)
 
   -- all members are there
@@ -93,12 +94,12 @@ module _ (w : NewGroup) (room : Room) (was is : Log) (old new : Device) (standin
       all_enough true total some = grind (arith, nat_tests)
       all_enough false total some = grind (arith, nat_tests)
 
-  pub settles : w.moment ≢ 0 → (core : Core) → core ≡ first_core standing.parts is (record { epoch = w.moment; seq = 2 }) standing.homes → IsSettled core × HasSpareNumbers core
+  pub settles : w.moment ≢ 0 → (core : Core) → core ≡ first_core standing.parts is (record { epoch = w.moment; seq = 2 }) standing.homes core.origin.faults → IsSettled core × HasSpareNumbers core
   settles some core core_is = subst (λ (c : Core). IsSettled c × HasSpareNumbers c) (sym core_is) (
-    starts_settled (new_group old.sizes w) (new_status w) room standing.parts is (record { epoch = w.moment; seq = 2 }) standing.homes stands.parts some votes,
-    starts_numbered (new_group old.sizes w) (new_status w) room standing.parts is (record { epoch = w.moment; seq = 2 }) standing.homes stands.parts stands.valid (omega arith),
+    starts_settled (new_group old.sizes w) (new_status w) room standing.parts is (record { epoch = w.moment; seq = 2 }) standing.homes core.origin.faults stands.parts some votes,
+    starts_numbered (new_group old.sizes w) (new_status w) room standing.parts is (record { epoch = w.moment; seq = 2 }) standing.homes core.origin.faults stands.parts stands.valid (omega arith),
   )
 
   -- it has no volume, of which a copy might be left behind
-  pub none_left : (core : Core) → core ≡ first_core standing.parts is (record { epoch = w.moment; seq = 2 }) standing.homes → NoneIsLeft core.descriptor core.status
+  pub none_left : (core : Core) → core ≡ first_core standing.parts is (record { epoch = w.moment; seq = 2 }) standing.homes core.origin.faults → NoneIsLeft core.descriptor core.status
   none_left core core_is = none_left_of_none core.descriptor core.status (ap (λ (c : Core). c.descriptor.lvs) core_is ∙ ap (λ (d : Descriptor). d.lvs) stands.parts.descriptor)

@@ -15,8 +15,10 @@ use Rattle.lvm_core.specs.declared.parts.Room.{Room}
 use Rattle.lvm_core.specs.declared.refused.Cause.{Cause}
 use Rattle.lvm_core.specs.declared.refused.Cause.TheVariants as cause
 use Rattle.lvm_core.specs.declared.refused.Refused.{Refused}
-use Rattle.lvm_core.specs.Starting.{Reserved, IsReservedFor, first_core}
-use Rattle.lvm_core.specs.State.{Core}
+use Rattle.lvm_session_start.specs.declared.parts.Parts.{Parts}
+use Rattle.lvm_core.specs.Starting.{IsReservedFor}
+use Rattle.lvm_session_start.specs.Beginning.{first_core}
+use Rattle.lvm_session.specs.State.{Core}
 use Rattle.lvm_group.specs.NewGroup.{NewGroup, among, new_group, new_status, given_up, MayBegin, RefusesFirst}
 use Rattle.lvm_group.specs.Shown.{IfShown, HasGroup, IsClockBack, IsUnread, AllRead, AreFree, IsClear, SparesTold}
 
@@ -64,11 +66,11 @@ pub record IsMade (w : NewGroup) (room : Room) (was : Log) (old new : Device) (c
   pub only : IsAsBefore w (IsOfParts (beginning_for old.sizes w homes) new_order) old new
   pub well : HasNoFault old new
   pub rested : IsRested old new
-  pub reserved : Reserved
+  pub reserved : Parts
   pub parts : IsReservedFor (new_group old.sizes w) (new_status w) room reserved
   pub next : Homes
   pub flips : BothFlip (among w.disks) homes next
-  pub core_is : core ≡ first_core reserved (given_up was w.disks) (record { epoch = w.moment; seq = 2 }) next
+  pub core_is : core ≡ first_core reserved (given_up was w.disks) (record { epoch = w.moment; seq = 2 }) next core.origin.faults
 
 -- nothing has happened
 pub record IsIdle (was is : Log) (old new : Device) : Type 0 where

@@ -9,7 +9,8 @@ use Rattle.lvm_quorum.specs.declared.choice.Choice.{Choice}
 use Rattle.lvm_core.specs.declared.parts.Room.{Room}
 use Rattle.lvm_core.specs.declared.refused.Cause.{Cause}
 use Rattle.lvm_core.specs.declared.refused.Cause.TheVariants as cause
-use Rattle.lvm_core.specs.Starting.{IsOneGroup, IsReservedFor}
+use Rattle.lvm_session_start.specs.Parts.{IsOneGroup}
+use Rattle.lvm_core.specs.Starting.{IsReservedFor}
 use Rattle.lvm_group.specs.declared.make.Asked.{Asked}
 use Rattle.lvm_group.specs.declared.plan.Plan.{Plan}
 use Rattle.lvm_group.specs.NewGroup.{NewGroup, among, size_for, descriptor_for, status_for, MayBegin, RefusesFirst}

@@ -11,7 +11,8 @@ use Rattle.lvm_begin.specs.Ends.{BothFlip, HasNoFault, StopsAt, IsLowestFailed, 
 use Rattle.lvm_core.specs.declared.refused.Cause.{Cause}
 use Rattle.lvm_core.specs.declared.refused.Cause.TheVariants as cause
 use Rattle.lvm_core.specs.declared.parts.Room.{Room}
-use Rattle.lvm_core.specs.Starting.{Reserved, IsReservedFor}
+use Rattle.lvm_session_start.specs.declared.parts.Parts.{Parts}
+use Rattle.lvm_core.specs.Starting.{IsReservedFor}
 use Rattle.lvm_group.specs.declared.look.Free.{Free}
 use Rattle.lvm_group.specs.declared.make.Standing.{Standing}
 use Rattle.lvm_group.specs.NewGroup.{NewGroup, among, size_for, new_group, new_status, given_up}
@@ -115,7 +116,7 @@ cut_at (Err why) log = if cuts_power why then cut_log log else log
 -- ---- all of it
 
 -- what the session of these parts starts with, where its records were written
-abbrev pub standing_of : Reserved → Result Homes Cause → Result Standing Cause
+abbrev pub standing_of : Parts → Result Homes Cause → Result Standing Cause
 standing_of parts (Ok homes) = Ok (record { parts = parts; homes = homes })
 standing_of parts (Err why) = Err why
 

@@ -1,5 +1,5 @@
 //! The steps by which a group is made, up to its being on.
-ghost use Rattle.std.specs.Prelude.{◌≡◌, ◌≢◌, ◌≤◌, ℕ, length, IfOk, IfErr, IsTrue, AllPairs};
+ghost use Rattle.std.specs.Prelude.{◌≡◌, ◌≢◌, ◌≤◌, ℕ, length, IfOk, IfErr, IsTrue, AllPairs, []};
 ghost use Rattle.std.specs.Option.{ForSome};
 ghost use Rattle.lvm_num.specs.Descriptor.{is_size};
 ghost use Rattle.lvm_disk.specs.Device.{IsReady};
@@ -8,7 +8,8 @@ ghost use Rattle.lvm_stamps.specs.Behind.{ClockIsAhead};
 ghost use Rattle.lvm_core.specs.Coming.{BringsOn};
 ghost use Rattle.lvm_core.specs.Held.{StartsHeld};
 ghost use Rattle.lvm_core.specs.Sound.{HaveAllLanded};
-ghost use Rattle.lvm_core.specs.Starting.{IsRoom, first_core};
+ghost use Rattle.lvm_core.specs.Starting.{IsRoom};
+ghost use Rattle.lvm_session_start.specs.Beginning.{first_core};
 ghost use Rattle.lvm_group.specs.NewGroup.{given_up};
 ghost use Rattle.lvm_group.specs.Planned.{asked_group, IsPlannedFor, RefusesPlan};
 ghost use Rattle.lvm_group.specs.Made.{Refuses};
@@ -62,7 +63,7 @@ pub fn make<S: Shelf>(
     requires room { IsRoom asked.now.room }
     ensures made { IfOk result (Stands (asked_group asked.now disks.now moment) asked.now.room history.old history.new (S.device shelf.old) (S.device shelf.new)) }
     ensures refused { IfErr result (Refuses (asked_group asked.now disks.now moment) patience.old.left history.old history.new (S.device shelf.old) (S.device shelf.new)) }
-    ensures held { ClockIsAhead history.old.run moment (S.device shelf.old) history.old.facts → IfOk result (λ standing. StartsHeld (S.device shelf.new) (first_core standing.parts history.new (record { epoch = moment; seq = 2 }) standing.homes)) }
+    ensures held { ClockIsAhead history.old.run moment (S.device shelf.old) history.old.facts → IfOk result (λ standing. StartsHeld (S.device shelf.new) (first_core standing.parts history.new (record { epoch = moment; seq = 2 }) standing.homes [])) }
     // whatever the answer
     ensures leaves { BringsOn history.old.run moment patience.old.left patience.new.left (S.device shelf.old) (S.device shelf.new) history.old history.new }
 {
@@ -125,7 +126,7 @@ fn bring<S: Shelf>(
     requires planned { IsPlannedFor (asked_group asked.now disks.now moment) asked.now.room (spare_entries history.old) (S.device shelf.old).sizes plan.now }
     ensures made { IfOk result (λ homes. Stands (asked_group asked.now disks.now moment) asked.now.room history.old history.new (S.device shelf.old) (S.device shelf.new) (record { parts = plan.now.parts; homes = homes })) }
     ensures refused { IfErr result (Refuses (asked_group asked.now disks.now moment) patience.old.left history.old (cut_at result history.new) (S.device shelf.old) (S.device shelf.new)) }
-    ensures held { ClockIsAhead history.old.run moment (S.device shelf.old) history.old.facts → IfOk result (λ homes. StartsHeld (S.device shelf.new) (first_core plan.now.parts history.new (record { epoch = moment; seq = 2 }) homes)) }
+    ensures held { ClockIsAhead history.old.run moment (S.device shelf.old) history.old.facts → IfOk result (λ homes. StartsHeld (S.device shelf.new) (first_core plan.now.parts history.new (record { epoch = moment; seq = 2 }) homes [])) }
     // whatever the answer
     ensures leaves { BringsOn history.old.run moment patience.old.left patience.new.left (S.device shelf.old) (S.device shelf.new) history.old history.new }
 {

@@ -6,7 +6,8 @@ ghost use Rattle.lvm_num.specs.DescriptorBytes.{descriptor_bytes};
 ghost use Rattle.lvm_num.specs.Disks.{has};
 ghost use Rattle.lvm_num.specs.Status.{IsValidStatus};
 ghost use Rattle.lvm_num.specs.StatusBytes.{status_bytes};
-ghost use Rattle.lvm_core.specs.Starting.{IsRoom, IsOneGroup};
+ghost use Rattle.lvm_core.specs.Starting.{IsRoom};
+ghost use Rattle.lvm_session_start.specs.Parts.{IsOneGroup};
 ghost use Rattle.lvm_group.specs.NewGroup.{among, member_for, clear_row, disks_in_order, descriptor_for, status_for, first_absent, first_too_small};
 ghost use Rattle.lvm_group.specs.Planned.{IsChoiceFor, IsPlanOf, IsPlanned};
 

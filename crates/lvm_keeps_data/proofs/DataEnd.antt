@@ -43,12 +43,12 @@ use Rattle.lvm_keeps.proofs.Tables.{apart}
 use Rattle.lvm_keeps_ends.proofs.CopyQuit.{is_back, IsBack}
 use Rattle.lvm_keeps_ends.proofs.Counts.{counts_keep}
 use Rattle.lvm_keeps_ends.proofs.Removal.{IsOut, taken_out}
-use Rattle.lvm_keeps_data.proofs.Dues.{due_one}
+use Rattle.lvm_keeps_marks.proofs.Dues.{due_one}
 use Rattle.lvm_keeps_data.proofs.Entailing.{fails, IsEntailed, running, stays}
 use Rattle.lvm_keeps_data.proofs.Learned.{back_twice, cause, keeps, now, same_cause}
 use Rattle.lvm_keeps_data.proofs.Learning.{begun_now, learnt, learnt_is, not_over, request, waits}
-use Rattle.lvm_keeps_data.proofs.Lists.{and_false, or_false}
-use Rattle.lvm_keeps_data.proofs.Staling.{IsStaled, staled}
+use Rattle.lvm_keeps_marks.proofs.Lists.{and_false, or_false}
+use Rattle.lvm_keeps_marks.proofs.Staling.{IsStaled, staled}
 use Rattle.lvm_keeps_data.specs.Ends.{DataEndKeeps, EndsData}
 
 -- ---- the transfer

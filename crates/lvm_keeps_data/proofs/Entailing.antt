@@ -30,10 +30,11 @@ use Rattle.lvm_sound.specs.Sound.{is_clearing, IsCopy, IsGoing}
 use Rattle.lvm_keeps.proofs.Lists.{all_at, all_on, set_beside, set_here}
 use Rattle.lvm_keeps.proofs.Small.{both, is_false, not_so}
 use Rattle.lvm_keeps_starts.proofs.Aims.{at_state}
-use Rattle.lvm_keeps_data.proofs.Dues.{due_one, has_failed, is_sure_done, IsDueOne, own_pp, pp_same, unsure_among}
-use Rattle.lvm_keeps_data.proofs.Failing.{kept, Leaves, leaves, parted, pool, queue}
+use Rattle.lvm_keeps_marks.proofs.Dues.{due_one, has_failed, is_sure_done, IsDueOne, own_pp, pp_same, unsure_among}
+use Rattle.lvm_keeps_marks.proofs.Failing.{kept, Leaves, leaves, parted, pool, queue}
 use Rattle.lvm_keeps_data.proofs.Learning.{failed_badly, its, learnt, request}
-use Rattle.lvm_keeps_data.proofs.Lists.{all_and, and_false, any_at, either, none_by, or_false, or_true}
+use Rattle.lvm_keeps_marks.proofs.Groups.{group_low, whole_passes}
+use Rattle.lvm_keeps_marks.proofs.Lists.{all_and, and_false, any_at, either, none_by, or_false, or_true}
 
 -- What is left of the copy, the hold queue and the pool, and which partitions are due to be stale, where the request has learned so of this partition.
 pub record IsEntailed (core : Core) (o : Open) (ok : Bool) (p : Pp) (queue : Waiting) (copy : Option OpenCopy) (pool : List Bool) (due : Pp → Bool) : Type 0 where
@@ -47,24 +48,7 @@ pub record IsEntailed (core : Core) (o : Open) (ok : Bool) (p : Pp) (queue : Wai
   pub uncarried : is_write o.request.ask && are_over o.request.targets.items ≡ true → is_kept core o.request ≡ false → will_be_kept (parted core queue copy pool) o.request ≡ false
   pub chosen : IfSome copy (λ (c : OpenCopy). AllByRecursion (IsChosenSince core c) core.requests)
 
--- ---- a copy that is whole has passed every track group
-
-some_blocks : (mib lps n : ℕ) → n + 1 ≤ partition_blocks mib * lps → 0 < partition_blocks mib
-some_blocks zero lps n within = absurd (omega (arith, within))
-some_blocks (suc mib) lps n within = omega arith
-
-groups_below : (n m : ℕ) → n < 2048 * m → n / 256 < 2048 * m / 256
-groups_below n m low = omega (arith, low)
-
-pub some_size : (core : Core) (r : Request) → IsLaid core r → 0 < partition_blocks core.descriptor.mib
-some_size core r laid = some_blocks core.descriptor.mib laid.within.row.lps (at_of r.ask) (let some = laid.within.some in let within = laid.within.within in omega (arith, some, within))
-
-pub group_low : (core : Core) (r : Request) → IsLaid core r → group_in core r.ask < groups_of core
-group_low core r laid =
-    groups_below (at_of r.ask % partition_blocks core.descriptor.mib) core.descriptor.mib (mod_below (at_of r.ask) (partition_blocks core.descriptor.mib) (some_size core r laid))
-
-pub whole_passes : (group groups cursor : ℕ) → group < groups → not (nat_lt cursor groups) ≡ true → nat_lt group cursor ≡ true
-whole_passes group groups cursor low whole = lt-ltb group cursor (let high = ltb-false cursor groups (is_false (nat_lt cursor groups) whole) in omega (arith, low, high))
+-- ---- a copy that has caught up
 
 -- the copy that has caught up with a partition's track group is open on it
 pub record HasCaught (core : Core) (p : Pp) : Type 0 where

@@ -56,12 +56,12 @@ use Rattle.lvm_keeps_moves.proofs.OnePlace.{one_lp}
 use Rattle.lvm_keeps_ends.proofs.CopyReadFail.{at_number, by_place, of_place}
 use Rattle.lvm_keeps_ends.proofs.Counts.{counts_keep, rose_since}
 use Rattle.lvm_keeps_ends.proofs.Removal.{as_many, count_taken, none_left, others, rows_left, tickets_left}
-use Rattle.lvm_keeps_data.proofs.Dues.{due_one, is_sure_done, is_sure_target, IsDueOne, IsSpared, left_due, on_one, own_pp, pp_same, spared}
+use Rattle.lvm_keeps_marks.proofs.Dues.{among_get, due_one, is_sure_done, is_sure_target, IsDueOne, IsSpared, left_due, on_one, own_pp, pp_same, spared}
 use Rattle.lvm_keeps_data.proofs.Entailing.{IsEntailed}
-use Rattle.lvm_keeps_data.proofs.Failing.{Leaves, one_on as one_beside, parted, rows_on as rows_beside}
+use Rattle.lvm_keeps_marks.proofs.Failing.{Leaves, one_on as one_beside, parted, rows_on as rows_beside}
 use Rattle.lvm_keeps_data.proofs.Learning.{asked_now, begun_so, failed_badly, in_data, laid, learnt, none_done, none_flies, others_fly, past, ready, request, shape, told, waits, was_flying}
-use Rattle.lvm_keeps_data.proofs.Lists.{all_and, all_pair, all_true_at, and_false, any_at, any_on, either, found_at, or_true, set_either}
-use Rattle.lvm_keeps_data.proofs.Staling.{blamed_by, bring_on as bring_staler, clean_same, due_wanted, end_on, entailed_less, held_by, IsStaler, kept_less, left_on as left_staler, may_less, members_same, missing_same, one_on as one_staler, ready_on as ready_staler, rows_on as rows_staler, staler, stays_on, sure_less, wanted_less, wanted_more}
+use Rattle.lvm_keeps_marks.proofs.Lists.{all_and, all_pair, all_true_at, and_false, any_at, any_on, either, found_at, or_true, set_either}
+use Rattle.lvm_keeps_marks.proofs.Staling.{blamed_by, bring_on as bring_staler, clean_same, due_wanted, end_on, entailed_less, held_by, IsStaler, kept_less, left_on as left_staler, may_less, members_same, missing_same, one_on as one_staler, ready_on as ready_staler, rows_on as rows_staler, staler, stays_on, sure_less, wanted_less, wanted_more}
 
 -- ---- small
 
@@ -106,11 +106,6 @@ any_among t (q ∷ ps) p among is = by (is_pp p q) refl (λ e. any_among t ps p 
     by : (b : Bool) → is_pp p q ≡ b → (is_among ps p ≡ true → list_any t ps ≡ true) → b || is_among ps p ≡ true → t q || list_any t ps ≡ true
     by true same rest e = ap (λ b. b || list_any t ps) (ap t (sym (pp_same p q same)) ∙ is)
     by false other rest e = ap (λ b. t q || b) (rest e) ∙ or_true (t q)
-
-pub among_get : (ps : List Pp) (k : ℕ) (p : Pp) → slice_get ps k ≡ Some p → is_among ps p ≡ true
-among_get [] k p there = absurd (cc there)
-among_get (q ∷ ps) zero p there = let same : q ≡ p = cc there in ap (λ (y : Pp). is_pp p y || is_among ps p) same ∙ ap (λ b. b || is_among ps p) (own_pp p)
-among_get (q ∷ ps) (suc k) p there = ap (λ b. is_pp p q || b) (among_get ps k p there) ∙ or_true (is_pp p q)
 
 pub back_twice : (pool : List Bool) (a b : Option Buffer) → with_back (with_back pool a) b ≡ with_back (with_back pool b) a
 back_twice pool None b = refl

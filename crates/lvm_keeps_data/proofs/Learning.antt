@@ -35,7 +35,7 @@ use Rattle.lvm_keeps.proofs.Tables.{apart, ascending_set}
 use Rattle.lvm_keeps_starts.proofs.Aims.{all_true_set, any_here, at_state, only_at, pp_at, set_state, within}
 use Rattle.lvm_keeps_moves.proofs.Tables.{only_set}
 use Rattle.lvm_keeps_ends.proofs.Removal.{was_out}
-use Rattle.lvm_keeps_data.proofs.Lists.{all_true_at, and_false, any_at, none_of_zero}
+use Rattle.lvm_keeps_marks.proofs.Lists.{all_true_at, and_false, any_at, none_of_zero}
 
 -- a transfer that is out has begun and not ended
 is_flying_so : (st : TargetState) → is_flying st ≡ true → st ≡ stage.Flying

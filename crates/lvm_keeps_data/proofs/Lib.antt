@@ -1,10 +1,4 @@
-pub mod Lists
-pub mod Staling
-pub mod Failing
 pub mod Learning
-pub mod Dues
 pub mod Entailing
 pub mod Learned
 pub mod DataEnd
-pub mod Passing
-pub mod CopyWriteEnd

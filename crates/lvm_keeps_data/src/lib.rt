@@ -1,6 +1,6 @@
-//! Ends of transfers from which something follows for the status keep a session sound.
+//! Ends of transfers of requests keep a session sound.
 #![tactic(auto)]
 
 mod laws;
 
-pub use laws::{copy_write_end_keeps, data_end_keeps};
+pub use laws::data_end_keeps;

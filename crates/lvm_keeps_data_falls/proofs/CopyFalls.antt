@@ -28,7 +28,7 @@ use Rattle.lvm_keeps.proofs.Lists.{count_cons}
 use Rattle.lvm_keeps.proofs.PinFalls.{sum_same}
 use Rattle.lvm_keeps.proofs.Small.{not_so}
 use Rattle.lvm_keeps_ends.proofs.CopyReadFail.{at_number, is_here}
-use Rattle.lvm_keeps_data.proofs.Lists.{and_false, count_on, or_true}
+use Rattle.lvm_keeps_marks.proofs.Lists.{and_false, count_on, or_true}
 use Rattle.lvm_keeps_data_falls.proofs.EndedLess.{now, request_less}
 use Rattle.lvm_keeps_data_falls.proofs.Falling.{after, before, each_less, falls, one_less, rest_left, step_same, sum_most}
 use Rattle.lvm_keeps_data_falls.specs.Falls.{CopyQuitFalls, CopyReadEndFalls, CopyReadFailFalls, CopyWriteFailFalls}

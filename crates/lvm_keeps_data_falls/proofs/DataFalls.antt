@@ -34,12 +34,12 @@ use Rattle.lvm_keeps.proofs.Still.{changed}
 use Rattle.lvm_keeps_starts.proofs.Aims.{at_state}
 use Rattle.lvm_keeps_ends.proofs.CopyReadFail.{is_here}
 use Rattle.lvm_keeps_data.proofs.DataEnd.{aim, aim_is, entails, going, long, mid, o, own, place, there, x}
-use Rattle.lvm_keeps_data.proofs.Dues.{due_one}
+use Rattle.lvm_keeps_marks.proofs.Dues.{due_one}
 use Rattle.lvm_keeps_data.proofs.Entailing.{running}
-use Rattle.lvm_keeps_data.proofs.Failing.{parted}
+use Rattle.lvm_keeps_marks.proofs.Failing.{parted}
 use Rattle.lvm_keeps_data.proofs.Learning.{begun_now, begun_so, in_data, none_done, not_over, waits, was_flying}
-use Rattle.lvm_keeps_data.proofs.Lists.{or_false}
-use Rattle.lvm_keeps_data.proofs.Staling.{IsStaled, IsStaler, members_same, staled, staler, there_same}
+use Rattle.lvm_keeps_marks.proofs.Lists.{or_false}
+use Rattle.lvm_keeps_marks.proofs.Staling.{IsStaled, IsStaler, members_same, staled, staler, there_same}
 use Rattle.lvm_keeps_data.specs.Ends.{EndsData}
 use Rattle.lvm_keeps_data_falls.proofs.EndedLess.{copy_high, request_less}
 use Rattle.lvm_keeps_data_falls.proofs.Falling.{each_less, falls, IsLess, one_less, sum_set_most, votes_same}

@@ -23,8 +23,8 @@ use Rattle.lvm_sound.specs.Left.{begun_left, copy_left, if_so, is_brought_up, is
 use Rattle.lvm_keeps.proofs.Landing.{or_parts}
 use Rattle.lvm_keeps.proofs.Lists.{all_on}
 use Rattle.lvm_keeps.proofs.Small.{not_so}
-use Rattle.lvm_keeps_data.proofs.Dues.{pp_same}
-use Rattle.lvm_keeps_data.proofs.Lists.{found_at}
+use Rattle.lvm_keeps_marks.proofs.Dues.{pp_same}
+use Rattle.lvm_keeps_marks.proofs.Lists.{found_at}
 use Rattle.lvm_keeps_data_falls.proofs.Falling.{each_less, sum_drops, sum_most}
 
 pub filter_same : (t u : Pp → Bool) (ps : List Pp) → AllByRecursion (λ (p : Pp). t p ≡ u p) ps → filter t ps ≡ filter u ps

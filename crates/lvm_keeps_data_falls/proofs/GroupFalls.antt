@@ -32,11 +32,11 @@ use Rattle.lvm_sound.specs.Sound.{IsCopy, IsGoing, IsSound}
 use Rattle.lvm_keeps.proofs.PinFalls.{sum_same}
 use Rattle.lvm_keeps.proofs.Small.{not_so}
 use Rattle.lvm_keeps_moves.proofs.Marking.{count_alike}
-use Rattle.lvm_keeps_data.proofs.CopyWriteEnd.{c, core_is, ended, gone, IsGone, its, next_so, out, tried, whole_so}
-use Rattle.lvm_keeps_data.proofs.Dues.{own_pp}
-use Rattle.lvm_keeps_data.proofs.Lists.{all_there, or_true}
-use Rattle.lvm_keeps_data.proofs.Passing.{caught_same}
-use Rattle.lvm_keeps_data.specs.Ends.{EndsGroup}
+use Rattle.lvm_keeps_group.proofs.CopyWriteEnd.{c, core_is, ended, gone, IsGone, its, next_so, out, tried, whole_so}
+use Rattle.lvm_keeps_marks.proofs.Dues.{own_pp}
+use Rattle.lvm_keeps_marks.proofs.Lists.{all_there, or_true}
+use Rattle.lvm_keeps_group.proofs.Passing.{caught_same}
+use Rattle.lvm_keeps_group.specs.Ends.{EndsGroup}
 use Rattle.lvm_keeps_data_falls.proofs.EndedLess.{filter_same}
 use Rattle.lvm_keeps_data_falls.proofs.Falling.{falls, one_less, sum_most, votes_same}
 use Rattle.lvm_keeps_data_falls.proofs.StaledLess.{status_more}

@@ -21,7 +21,7 @@ use Rattle.lvm_events.specs.Events.{is_passive}
 use Rattle.lvm_sound.specs.Left.{begun_left, if_so, is_brought_up, is_held, lacks_dirty, lacks_note, phase_left, read_left, request_left, status_left, turns_of, unbegun_left, update_work}
 use Rattle.lvm_keeps.proofs.PinFalls.{sum_same}
 use Rattle.lvm_keeps_moves.proofs.Marking.{count_alike, filter_alike}
-use Rattle.lvm_keeps_data.proofs.Staling.{dirty_same, IsStaler, missing_same, staler, usable_same}
+use Rattle.lvm_keeps_marks.proofs.Staling.{dirty_same, IsStaler, missing_same, staler, usable_same}
 
 module _ (core : Core) (due : Pp → Bool) (wanted : Status) (writes : Writes) (like : IsStaler due core.status.wanted wanted) where
   abbrev now : Core

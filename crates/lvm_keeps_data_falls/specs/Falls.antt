@@ -5,7 +5,8 @@ use Rattle.lvm_session.specs.State.{State}
 use Rattle.lvm_sound.specs.Left.{left_of}
 use Rattle.lvm_sound.specs.Sound.{IsSound}
 use Rattle.lvm_keeps_ends.specs.Ends.{EndsMiss, EndsQuit, EndsRead, EndsWrite}
-use Rattle.lvm_keeps_data.specs.Ends.{EndsData, EndsGroup}
+use Rattle.lvm_keeps_data.specs.Ends.{EndsData}
+use Rattle.lvm_keeps_group.specs.Ends.{EndsGroup}
 
 -- an end of a transfer of a session that is on leaves less work, also where the votes are lost
 abbrev pub EndFalls : (State → State → Type 0) → Type 0

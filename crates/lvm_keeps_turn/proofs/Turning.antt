@@ -1,25 +1,24 @@
 -- A turn by its events.
-use Rattle.std.proofs.Common.{◌≡◌, ◌<◌, ◌⊎◌, inl, inr, true, sym, ◌∙◌, ap, subst}
+use Rattle.std.proofs.Common.{◌≡◌, ◌<◌, inl, inr, true, sym, ◌∙◌, ap, subst}
 use Rattle.lvm_session.specs.declared.open.Power.TheVariants as power
 use Rattle.lvm_session.specs.State.{Core, State}
 use Rattle.lvm_events.specs.declared.answers.Turned.{Turned}
 use Rattle.lvm_events.specs.declared.answers.Turned.TheVariants as turned
-use Rattle.lvm_events.specs.Turns.{Darkens, FinishMakes, Finds, Finishes, FindsNothing, GoesOff, Moves, NoStart, OnMakes, TurnMakes, WasDark, WasOff, WasOn}
+use Rattle.lvm_events.specs.Turns.{Darkens, FinishMakes, Finishes, GoesOff, Moves, NoStart, OnMakes, TurnMakes, WasDark, WasOff, WasOn}
 use Rattle.lvm_sound.specs.Causes.{is_over}
 use Rattle.lvm_sound.specs.Left.{left_of}
 use Rattle.lvm_sound.specs.Sound.{IsSound}
-use Rattle.lvm_keeps.specs.Falls.{EndsFall}
-use Rattle.lvm_keeps.specs.Keeps.{EndKeeps}
 use Rattle.lvm_keeps.proofs.Darkening.{cut_keeps}
 use Rattle.lvm_keeps.proofs.Off.{off_keeps}
 use Rattle.lvm_keeps.proofs.Wait.{wait_keeps}
 use Rattle.lvm_keeps_events.proofs.Events.{events_keep}
 use Rattle.lvm_keeps_events.proofs.Falls.{events_fall}
+use Rattle.lvm_keeps_turn.proofs.Ends.{ends_fall, ends_keep}
 use Rattle.lvm_keeps_turn.specs.Turning.{TurnEnds, TurnFalls, TurnKeeps, is_last}
 
-module _ (ends : EndKeeps) (old new : State) (sound : IsSound old) where
+module _ (old new : State) (sound : IsSound old) where
   finish_keeps : (answer : Turned) → old.core.power ≡ power.On → FinishMakes old new answer → IsSound new
-  finish_keeps turned.Moved on made = ends made.0 old new sound on made.1
+  finish_keeps turned.Moved on made = ends_keep made.0 old new sound on made.1
   finish_keeps turned.Idle on (inl finds) = wait_keeps old new sound on finds
   finish_keeps turned.Idle on (inr nothing) = subst IsSound (sym nothing.is) sound
   finish_keeps turned.Dark on made = cut_keeps old new sound on made
@@ -36,19 +35,19 @@ module _ (ends : EndKeeps) (old new : State) (sound : IsSound old) where
   by_turn answer (WasOn on made) = on_keeps answer on made
 
 pub turn_keeps : TurnKeeps
-turn_keeps ends old new answer sound made = by_turn ends old new sound answer made
+turn_keeps old new answer sound made = by_turn old new sound answer made
 
 -- ---- the work that is left
 
-on_falls : EndsFall → (old new : State) → IsSound old → old.core.power ≡ power.On → OnMakes old new turned.Moved → left_of new.core < left_of old.core
-on_falls ends old new sound on (Moves it first made is) = events_fall it old new sound on first made
-on_falls ends old new sound on (NoStart it first start dark is) = absurd (cc is)
-on_falls ends old new sound on (Finishes none made) = ends made.0 old new sound on none made.1
+on_falls : (old new : State) → IsSound old → old.core.power ≡ power.On → OnMakes old new turned.Moved → left_of new.core < left_of old.core
+on_falls old new sound on (Moves it first made is) = events_fall it old new sound on first made
+on_falls old new sound on (NoStart it first start dark is) = absurd (cc is)
+on_falls old new sound on (Finishes none made) = ends_fall made.0 old new sound on none made.1
 
 pub turn_falls : TurnFalls
-turn_falls ends old new sound (WasDark dark is same) = absurd (cc is)
-turn_falls ends old new sound (WasOff off is same) = absurd (cc is)
-turn_falls ends old new sound (WasOn on made) = on_falls ends old new sound on made
+turn_falls old new sound (WasDark dark is same) = absurd (cc is)
+turn_falls old new sound (WasOff off is same) = absurd (cc is)
+turn_falls old new sound (WasOn on made) = on_falls old new sound on made
 
 -- ---- the end
 

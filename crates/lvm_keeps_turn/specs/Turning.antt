@@ -7,16 +7,14 @@ use Rattle.lvm_events.specs.Turns.{TurnMakes}
 use Rattle.lvm_sound.specs.Causes.{is_over}
 use Rattle.lvm_sound.specs.Left.{left_of}
 use Rattle.lvm_sound.specs.Sound.{IsSound}
-use Rattle.lvm_keeps.specs.Falls.{EndsFall}
-use Rattle.lvm_keeps.specs.Keeps.{EndKeeps}
 
--- Where each end of a transfer leaves it sound, each turn does.
+-- Each turn leaves it sound.
 abbrev pub TurnKeeps : Type 0
-TurnKeeps = EndKeeps → (old new : State) (answer : Turned) → IsSound old → TurnMakes old new answer → IsSound new
+TurnKeeps = (old new : State) (answer : Turned) → IsSound old → TurnMakes old new answer → IsSound new
 
--- Where each end of a transfer leaves less work, each turn does that has moved.
+-- Each turn leaves less work that has moved.
 abbrev pub TurnFalls : Type 0
-TurnFalls = EndsFall → (old new : State) → IsSound old → TurnMakes old new turned.Moved → left_of new.core < left_of old.core
+TurnFalls = (old new : State) → IsSound old → TurnMakes old new turned.Moved → left_of new.core < left_of old.core
 
 -- the answer says that the session is over
 abbrev pub is_last : Turned → Bool

@@ -1,6 +1,6 @@
-//! A turn keeps a session sound, and leaves less work.
+//! Each end of a transfer and each turn keep a session sound, and leave less work.
 #![tactic(auto)]
 
 mod laws;
 
-pub use laws::{turn_ends, turn_falls, turn_keeps};
+pub use laws::{ends_fall, ends_keep, turn_ends, turn_falls, turn_keeps};

@@ -11,7 +11,7 @@ use Rattle.lvm_raw.specs.declared.fault.RawFault.TheVariants as fault
 use Rattle.lvm_core.specs.declared.parts.Room.{Room}
 use Rattle.lvm_core.specs.declared.refused.Cause.{Cause}
 use Rattle.lvm_core.specs.declared.refused.Cause.TheVariants as cause
-use Rattle.lvm_core.specs.State.{Core, state}
+use Rattle.lvm_session.specs.State.{Core, state}
 use Rattle.lvm_group.specs.NewGroup.{NewGroup}
 use Rattle.lvm_group.specs.Made.{Refuses as MkvgRefuses}
 use Rattle.lvm_varyon.specs.Varied.{Refuses as VaryonRefuses}

@@ -10,15 +10,15 @@ use Rattle.lvm_parse.specs.declared.command.Command.{Command}
 use Rattle.lvm_operands.specs.declared.rest.Misfit.{Misfit}
 use Rattle.lvm_status.specs.Update.{Stored}
 use Rattle.lvm_commit.specs.Settling.{HasLostQuorum}
-use Rattle.lvm_core.specs.State.{Core, State as Session, state}
-use Rattle.lvm_volume_plan.specs.declared.fault.GroupFault.{GroupFault}
-use Rattle.lvm_volume_plan.specs.declared.fault.GroupFault.TheVariants as fault
+use Rattle.lvm_session.specs.State.{Core, State as Session, state}
 use Rattle.lvm_line.specs.Causes.{HasFailed, HasLost}
 use Rattle.lvm_commands.specs.Disks.{patience_of_line}
 use Rattle.lvm_commands.specs.State.{State}
 use Rattle.lvm_commands.specs.Volumes.{IsLeft, ends_session, refusal_for}
 use Rattle.lvm_commands.proofs.Ending.{FaultFacts}
 use Rattle.lvm_line.proofs.Knowing.{Known}
+use Rattle.lvm_volume_plan.specs.declared.fault.GroupFault.{GroupFault}
+use Rattle.lvm_volume_plan.specs.declared.fault.GroupFault.TheVariants as fault
 
 -- votes that are too few to write are at most half
 at_most_half : (group : Descriptor) (have : ℕ) → IsFalse (is_enough_to_write group have) → 2 * have ≤ total_votes group

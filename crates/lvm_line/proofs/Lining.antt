@@ -9,7 +9,7 @@ use Rattle.lvm_operands.specs.declared.rest.Misfit.{Misfit}
 use Rattle.lvm_parse.specs.Grammar.{line_of}
 use Rattle.lvm_parse.specs.Answering.{IsMkvgLine}
 use Rattle.lvm_core.specs.declared.parts.Room.{Room}
-use Rattle.lvm_core.specs.State.{Core}
+use Rattle.lvm_session.specs.State.{Core}
 use Rattle.lvm_commands.specs.Ends.{CommandEnds}
 use Rattle.lvm_commands.specs.Groups.{IsAsked, MkvgDoes, NoMemoryForLine, NoMkvgWhileOn}
 use Rattle.lvm_line.specs.Lines.{CommandDoes, CommandIsDone, LineDoes, IsLine, IsOrder, asked_after}

@@ -8,7 +8,7 @@ use Rattle.lvm_parse.specs.Grammar.{line_of}
 use Rattle.lvm_vol.specs.Log.{Log}
 use Rattle.lvm_commit.specs.Settling.{there}
 use Rattle.lvm_core.specs.declared.parts.Room.{Room}
-use Rattle.lvm_core.specs.State.{Core}
+use Rattle.lvm_session.specs.State.{Core}
 use Rattle.lvm_commands.specs.Groups.{IsBroughtBack}
 use Rattle.lvm_commands.specs.Disks.{patience_of_line}
 use Rattle.lvm_line.specs.Lines.{IsLine}

@@ -6,6 +6,7 @@ ghost use Rattle.lvm_session.specs.Rooms.{HasRooms};
 ghost use Rattle.lvm_session.specs.State.{state};
 ghost use Rattle.lvm_sound.specs.Sound.{IsSound};
 ghost use Rattle.lvm_session_start.specs.Beginning.{AreFaults, MayBegin, first_core, with_parts};
+ghost use Rattle.lvm_session_start.specs.Parts.{IsReserved};
 
 use crate::parts::Parts;
 use lvm_disk::Shelf;
@@ -56,7 +57,32 @@ fn of_parts(parts: Parts, history: History, homes: Homes, faults: [u64; 128]) ->
     }
 }
 
-/// A session begins at the moment that is the epoch of its last stamp, which the history tells. It takes no memory.
+/// The session of these parts over a shelf, at the moment that is the epoch of its last stamp, which the history
+/// tells. It takes no memory.
+pub fn first_session<S: Shelf>(
+    parts: Parts,
+    shelf: &S,
+    history: History,
+    stamp: Stamp,
+    homes: Homes,
+) -> Session
+    requires spare { 1 ≤ spare_entries history }
+    requires reserved { IsReserved parts.descriptor parts.table parts.room parts }
+    ensures core { core_of result ≡ first_core parts history stamp homes result.origin.faults }
+    ensures faults { AreFaults (S.device shelf.now) result.origin.faults }
+    ensures rooms { HasRooms result }
+{
+    let faults = faults_of(shelf);
+    let mut history = history;
+    history.push(Entry::On {
+        moment: stamp.epoch,
+    });
+    let mut parts = parts;
+    parts.updater.set_stamp(stamp);
+    of_parts(parts, history, homes, faults)
+}
+
+/// So a session begins that may, over a shelf at rest.
 pub fn begin_session<S: Shelf>(
     parts: Parts,
     shelf: &S,
@@ -71,12 +97,5 @@ pub fn begin_session<S: Shelf>(
     ensures sound { IsSound (state (S.device shelf.now) (core_of result)) }
     ensures rooms { HasRooms result }
 {
-    let faults = faults_of(shelf);
-    let mut history = history;
-    history.push(Entry::On {
-        moment: stamp.epoch,
-    });
-    let mut parts = parts;
-    parts.updater.set_stamp(stamp);
-    of_parts(parts, history, homes, faults)
+    first_session(parts, shelf, history, stamp, homes)
 }

@@ -4,5 +4,5 @@
 mod begin;
 mod parts;
 
-pub use begin::begin_session;
+pub use begin::{begin_session, first_session};
 pub use parts::{Parts, Room, take_parts};

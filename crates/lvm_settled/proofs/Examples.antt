@@ -2,11 +2,14 @@
 use Rattle.std.proofs.Common.{◌≡◌, ⊎_elim, ℕ, zero, suc, ◌+◌, ◌<◌, Bool, true, false, ◌&&◌, ◌||◌, not, [], ◌∷◌, take, is_some, Option, Some, None, refl, sym, ap, subst, ◌∙◌, arith}
 use Rattle.std.specs.Prelude.{IsTrue, IsFalse, ◌==◌, if◌then◌else◌, option_and_then, slice_index_or}
 use Rattle.std.proofs.lemmas.Bool.{eqb-true}
+use Rattle.std.proofs.lemmas.List.{length-replicate}
+use Rattle.std.proofs.lemmas.List.Elements.{All-cons, All-nil}
 use Rattle.lvm_num.specs.declared.descriptor.Mode.{Mode}
 use Rattle.lvm_num.specs.declared.descriptor.PvRow.{PvRow}
 use Rattle.lvm_num.specs.declared.record.Kind.{Kind}
 use Rattle.lvm_num.specs.declared.record.Kind.TheVariants as kind
 use Rattle.lvm_num.specs.Buffer.{Sector, zero_sector}
+use Rattle.lvm_num.specs.Note.{IsEntry}
 use Rattle.lvm_num.specs.DescriptorBytes.{descriptor_of}
 use Rattle.lvm_num.specs.StatusBytes.{status_of as read_status}
 use Rattle.lvm_num.specs.Disks.{Disks, has}
@@ -30,10 +33,12 @@ use Rattle.lvm_write.specs.Homes.{SparesNewest}
 use Rattle.lvm_commit.specs.Committed.{ShowsCommitted, HoldsCommitted}
 use Rattle.lvm_mwc.specs.Cache.{Cached, has_disk, no_notes}
 use Rattle.lvm_mwc.specs.declared.notes.DiskNotes.{DiskNotes}
-use Rattle.lvm_core.specs.State.{Core, state, is_there}
-use Rattle.lvm_core.specs.Sound.{IsQuiet, IsSound}
-use Rattle.lvm_core.specs.Starting.{Reserved, AreReserved, IsPlaced}
-use Rattle.lvm_core.proofs.Beginning.{sound_first}
+use Rattle.lvm_session.specs.State.{Core, state, is_there}
+use Rattle.lvm_session.specs.declared.open.Power.TheVariants as power
+use Rattle.lvm_core.specs.Sound.{IsFitting, IsQuiet, IsSound}
+use Rattle.lvm_sound.specs.Placed.{IsPlaced}
+use Rattle.lvm_core.proofs.Beginning.{no_entries}
+use Rattle.lvm_core.proofs.Own.{sound_ready}
 use Rattle.lvm_rest.specs.Rest.{IsEven, NoneIsBehind}
 use Rattle.lvm_rest.specs.Examples.{Pair, status_of, pair_sizes, framed_group, framed_status, shown_by, media_of, device_of, there_by, history_of, even_pair, naming_note}
 use Rattle.lvm_rest.proofs.Pairs.{the_descriptor}
@@ -129,30 +134,26 @@ module _ (x : Pair) (below : (d s : ℕ) → s < 4096 → x.stands d s ≡ zero_
 
 -- ---- the session
 
--- its parts are those of a session
-abbrev reserved_of : Pair → Reserved
-reserved_of x = record { descriptor = two x.mode; requests = []; most = 1; queue = record { room = 2; rows = [] }; pool = false ∷ []; status = (core_of x).status; cache = (core_of x).cache }
-
-parts : (x : Pair) → AreReserved (reserved_of x)
-parts x = record {
+-- its parts are of one group
+fits : (x : Pair) → IsFitting (core_of x)
+fits x = record {
   valid = valid x.mode;
   id = refl;
   rows = λ disk. refl;
   group = refl;
-  idle = refl;
-  requests = refl;
+  entries = no_entries;
+  notes = λ disk. note_at (0 == disk) (1 == disk);
   most = omega arith;
   queue = refl;
-  pool = refl;
   a_buffer = omega arith;
   buffers = omega arith;
-  cache = record { entries = refl; notes = λ disk. note_at disk (0 == disk) (1 == disk) refl refl };
+  last = length-replicate {A = ℕ} 512 0;
 }
   where
-    note_at : (disk : ℕ) (s t : Bool) → (0 == disk) ≡ s → (1 == disk) ≡ t → (if s then Some (no_notes 0) else if t then Some (no_notes 1) else None) ≡ (if s || (t || false) then Some (no_notes disk) else None)
-    note_at disk true t e f = ap (λ (n : ℕ). Some (no_notes n)) (eqb-true 0 disk e)
-    note_at disk false true e f = ap (λ (n : ℕ). Some (no_notes n)) (eqb-true 1 disk f)
-    note_at disk false false e f = refl
+    note_at : (s t : Bool) → is_some (if s then Some (no_notes 0) else if t then Some (no_notes 1) else None) ≡ s || (t || false)
+    note_at true t = refl
+    note_at false true = refl
+    note_at false false = refl
 
 -- each member has the sectors that it needs
 of_two : (k : ℕ) (row : PvRow) → k < 2 → slice_index_or (member 0 ∷ member 1 ∷ []) k row ≡ row → IsPlaced pair_sizes 1 row
@@ -161,8 +162,8 @@ of_two (suc zero) row low is = subst (IsPlaced pair_sizes 1) is (record { there 
 of_two (suc (suc k)) row low is = absurd (omega (arith, low))
 
 sound : (x : Pair) → IsSound (state (device_of x) (core_of x))
-sound x = sound_first (device_of x) (reserved_of x) (record { run = 50; facts = []; room = 65536; bytes = 0 }) (record { epoch = 50; seq = 2 }) (record { descriptor = 3; status = 3 }) (parts x)
-    (λ id. refl) (record { flights = refl; freed = refl; power = refl }) (λ row one there. of_two one.0 row one.1 one.2)
+sound x = sound_ready (device_of x) (core_of x) (fits x) (record { requests = refl; copy = refl }) (λ id. refl) (λ row one there. of_two one.0 row one.1 one.2) refl refl
+    (λ off. absurd (let e : power.On ≡ power.Off = off in cc)) (λ stuck. absurd (let e : power.On ≡ power.Stuck = stuck in cc)) (record { flights = refl; freed = refl; power = refl })
 
 quiet : (x : Pair) → IsQuiet (core_of x)
 quiet x = record { requests = refl; copy = refl; status = refl; notes = λ disk. none (0 == disk) (1 == disk); buffers = refl }
@@ -202,14 +203,16 @@ noted_sound x =
         id = first.fitting.id;
         rows = first.fitting.rows;
         group = first.fitting.group;
+        entries = record { most = omega arith; differ = (refl, tt); counting = All-cons IsEntry (record { lv = 1; group = 0 }) [] (record { some_lv = λ e. omega (arith, e); lv = omega arith; group = omega arith }) (All-nil IsEntry) };
         notes = λ disk. noted_disk x disk ∙ first.fitting.notes disk;
-        table = first.fitting.table;
         most = first.fitting.most;
         queue = first.fitting.queue;
         a_buffer = first.fitting.a_buffer;
         buffers = first.fitting.buffers;
+        last = first.fitting.last;
       };
-      told = record { table = first.told.table; each = first.told.each };
+      none = record { requests = first.none.requests; copy = first.none.copy };
+      landed = first.landed;
       placed = first.placed;
       buffers = first.buffers;
       none_lost = first.none_lost;
@@ -217,6 +220,7 @@ noted_sound x =
       lit = first.lit;
       dark = first.dark;
       off = first.off;
+      heard = first.heard;
     }
 
 -- ---- the history

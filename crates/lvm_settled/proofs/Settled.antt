@@ -13,7 +13,7 @@ use Rattle.lvm_kept.proofs.Alike.{one_is_only}
 use Rattle.lvm_kept.proofs.Finding.{images_within}
 use Rattle.lvm_steps.proofs.Making.{media_may}
 use Rattle.lvm_status.specs.Update.{members_there}
-use Rattle.lvm_core.specs.State.{is_there}
+use Rattle.lvm_session.specs.State.{is_there}
 use Rattle.lvm_rest.proofs.Rest.{good_is_rest}
 use Rattle.lvm_rest.proofs.Closed.{calm_is_closed}
 use Rattle.lvm_rest.proofs.Good.{rest_matches}

@@ -1,5 +1,5 @@
 -- A settled session, worked by hand: of the two disks that mirror a volume.
-use Rattle.std.specs.Prelude.{false, [], ◌∷◌, ◌++◌, None, Bool, map}
+use Rattle.std.specs.Prelude.{false, [], ◌∷◌, ◌++◌, None, Bool, map, replicate}
 use Rattle.lvm_num.specs.declared.descriptor.Mode.{Mode}
 use Rattle.lvm_num.specs.Buffer.{Sector, zero_sector}
 use Rattle.lvm_disk.specs.Device.{image_of}
@@ -7,9 +7,9 @@ use Rattle.lvm_vol.specs.Facts.{Begun}
 use Rattle.lvm_kept.specs.Examples.{two}
 use Rattle.lvm_kept.specs.Moments.{Calm}
 use Rattle.lvm_mwc.specs.Cache.{Cached, no_notes}
-use Rattle.lvm_core.specs.declared.request.Power.TheVariants as power
+use Rattle.lvm_session.specs.declared.open.Power.TheVariants as power
 use Rattle.lvm_core.specs.Held.{NotesAreHome}
-use Rattle.lvm_core.specs.State.{Core, state}
+use Rattle.lvm_session.specs.State.{Core, state}
 use Rattle.lvm_rest.specs.Examples.{Pair, status_of, pair_sizes, media_of, device_of, first_write, past_of, now_on, history_of, even_pair, naming_note, naming}
 use Rattle.lvm_settled.specs.Settled.{IsKnown, IsCarried}
 
@@ -23,6 +23,7 @@ core_of pair = record {
   queue = record { room = 2; rows = [] };
   copy = None;
   pool = false ∷ [];
+  flying = [];
   status = record {
     group = record (two pair.mode) { lvs = [] };
     committed = (status_of pair).value;
@@ -34,6 +35,8 @@ core_of pair = record {
   cache = record { entries = []; notes = no_notes 0 ∷ no_notes 1 ∷ [] };
   -- the next records go to the second slots of both disks
   homes = record { descriptor = 3; status = 3 };
+  last = replicate 512 0;
+  origin = record { faults = replicate 128 0; table = (status_of pair).value };
   power = power.On;
 }
 

@@ -1,6 +1,6 @@
-//! The first transfer of a turn that may be started.
+//! The events of a turn that start a transfer are made.
 #![tactic(auto)]
 
 mod first;
 
-pub use first::{make_start, start_first};
+pub use first::make_start;

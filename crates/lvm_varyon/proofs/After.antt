@@ -35,9 +35,10 @@ use Rattle.lvm_commit.proofs.Found.{newest_is_beginning}
 use Rattle.lvm_steps.specs.VaryingOn.{HasNoActive}
 use Rattle.lvm_mwc.specs.Cache.{is_named as is_named_by}
 use Rattle.lvm_core.specs.Held.{NotesAreHome}
-use Rattle.lvm_core.specs.Starting.{Reserved, first_core}
+use Rattle.lvm_session_start.specs.declared.parts.Parts.{Parts}
+use Rattle.lvm_session_start.specs.Beginning.{first_core}
 use Rattle.lvm_core.proofs.Held.{empty_names_none}
-use Rattle.lvm_core.specs.State.{Core, is_there}
+use Rattle.lvm_session.specs.State.{Core, is_there}
 use Rattle.lvm_begin.specs.Beginning.{Beginning, describes, states, MayBeginAgain, IsOfParts}
 use Rattle.lvm_begin.specs.Newest.{FindsBeginning}
 use Rattle.lvm_begin.specs.Shown.{HasBegun}
@@ -88,7 +89,7 @@ none_active (row ∷ rows) none = ap (λ (b : Bool). b || list_any (λ (r : LvRo
     not_on Passive isnt = refl
     not_on Off isnt = refl
 
-module _ (old new : Device) (name : List ℕ) (moment : ℕ) (room : Room) (parts : Reserved) (homes : Homes) (is : IsBrought old new name moment room parts homes) (ahead : IsAheadOfDisks moment old) (was now : Media) (told : old.media ≡ Some was) (told_now : new.media ≡ Some now) where
+module _ (old new : Device) (name : List ℕ) (moment : ℕ) (room : Room) (parts : Parts) (homes : Homes) (is : IsBrought old new name moment room parts homes) (ahead : IsAheadOfDisks moment old) (was now : Media) (told : old.media ≡ Some was) (told_now : new.media ≡ Some now) where
   group : Descriptor
   group = is.written.group
 
@@ -178,7 +179,7 @@ module _ (old new : Device) (name : List ℕ) (moment : ℕ) (room : Room) (part
   there : (d : ℕ) → IsTrue (targets d) → has_records (image_of new.sizes now) d ≡ true
   there d target = ap (λ (sizes : List ℕ). has_records (image_of sizes now) d) (is.written.writes.how.keeps.sizes ∙ is.written.writes.unwritten.sizes) ∙ may.describe.there d target
 
-  module _ (core : Core) (log : Log) (core_is : core ≡ first_core parts log (last_stamp moment) homes) where
+  module _ (core : Core) (log : Log) (core_is : core ≡ first_core parts log (last_stamp moment) homes core.origin.faults) where
     group_is : core.descriptor ≡ is.written.group
     group_is = ap (λ (c : Core). c.descriptor) core_is ∙ is.reserved.descriptor
 

@@ -20,7 +20,7 @@ use Rattle.lvm_survey.specs.declared.row.Survey.{Survey}
 use Rattle.lvm_survey.specs.Surveyed.{surveyed}
 use Rattle.lvm_status.specs.Update.{Updates}
 use Rattle.lvm_core.specs.declared.parts.Room.{Room}
-use Rattle.lvm_core.specs.Starting.{IsPlaced, ArePlaced}
+use Rattle.lvm_sound.specs.Placed.{IsPlaced, ArePlaced}
 use Rattle.lvm_varyon.specs.declared.plan.Plan.{Plan}
 use Rattle.lvm_varyon.specs.Parts.{IsSurveyOf, IsPlan}
 use Rattle.lvm_varyon.proofs.Beginning.{target_row, target_room}
@@ -78,9 +78,9 @@ module _ (old read : Device) (survey : Survey) (is : IsSurveyOf old read survey)
       some_same : (m n : ℕ) → Some m ≡ Some n → m ≡ n
       some_same m n e = cc
 
-  pub placed : (new : Device) → new.sizes ≡ old.sizes → ArePlaced new.sizes plan.parts.descriptor plan.parts.status.wanted
+  pub placed : (new : Device) → new.sizes ≡ old.sizes → ArePlaced new.sizes plan.parts.descriptor plan.parts.updater.wanted
   placed new same =
-      let wanted : plan.parts.status.wanted ≡ by.next = ap (λ (u : Updates). u.wanted) by.parts.status in
-      subst (λ (sizes : List ℕ). ArePlaced sizes plan.parts.descriptor plan.parts.status.wanted) (sym same)
-      (subst (λ (d : Descriptor). ArePlaced old.sizes d plan.parts.status.wanted) (sym by.parts.descriptor)
+      let wanted : plan.parts.updater.wanted ≡ by.next = ap (λ (u : Updates). u.wanted) by.parts.status in
+      subst (λ (sizes : List ℕ). ArePlaced sizes plan.parts.descriptor plan.parts.updater.wanted) (sym same)
+      (subst (λ (d : Descriptor). ArePlaced old.sizes d plan.parts.updater.wanted) (sym by.parts.descriptor)
       (subst (λ (s : Status). ArePlaced old.sizes by.group s) (sym wanted) place))

@@ -30,8 +30,9 @@ use Rattle.lvm_commit.specs.Settling.{NoneIsLeft}
 use Rattle.lvm_core.specs.Held.{IsHeld, NotesAreHome, StartsHeld}
 use Rattle.lvm_core.specs.Settled.{IsSettled, HasSpareNumbers}
 use Rattle.lvm_core.proofs.Settling.{starts_settled, starts_numbered}
-use Rattle.lvm_core.specs.Starting.{Reserved, first_core}
-use Rattle.lvm_core.specs.State.{Core, is_there}
+use Rattle.lvm_session_start.specs.declared.parts.Parts.{Parts}
+use Rattle.lvm_session_start.specs.Beginning.{first_core}
+use Rattle.lvm_session.specs.State.{Core, is_there}
 use Rattle.lvm_varyon.specs.Varied.{IsRecovered, ComesOn, IsRestated, IsAheadOfDisks, IsBrought, last_stamp, log_after}
 use Rattle.lvm_varyon.specs.Chosen.{answering}
 use Rattle.lvm_varyon.specs.Restated.{HasNoConsistency}
@@ -109,7 +110,7 @@ told_after None b R m e both = absurd cc
 told_after (Some w) None R m e both = absurd both
 told_after (Some w) (Some n) R m e both = (n, refl)
 
-module _ (old new : Device) (log : Log) (name : List ℕ) (moment : ℕ) (room : Room) (parts : Reserved) (homes : Homes) (core : Core) (is : IsBrought old new name moment room parts homes) (core_is : core ≡ first_core parts log (last_stamp moment) homes) where
+module _ (old new : Device) (log : Log) (name : List ℕ) (moment : ℕ) (room : Room) (parts : Parts) (homes : Homes) (core : Core) (is : IsBrought old new name moment room parts homes) (core_is : core ≡ first_core parts log (last_stamp moment) homes core.origin.faults) where
   pub comes_on : 1 ≤ spare_entries log → ComesOn old new log name moment room core
   comes_on spare = subst (ComesOn old new log name moment room) (sym core_is) (record {
     spare = spare;
@@ -134,8 +135,8 @@ module _ (old new : Device) (log : Log) (name : List ℕ) (moment : ℕ) (room :
 
   -- no copy is left behind, since the next status calls them stale
   pub none_left : NoneIsLeft core.descriptor core.status
-  none_left = subst (λ (c : Core). NoneIsLeft c.descriptor c.status) (sym core_is) (subst (λ (d : Descriptor). NoneIsLeft d (first_core parts log (last_stamp moment) homes).status) (sym is.reserved.descriptor)
-      (next_leaves_none is.written.group (answering is.written.found.shown is.written.group) is.written.was is.written.next (first_core parts log (last_stamp moment) homes).status is.valid is.written.next_is
+  none_left = subst (λ (c : Core). NoneIsLeft c.descriptor c.status) (sym core_is) (subst (λ (d : Descriptor). NoneIsLeft d (first_core parts log (last_stamp moment) homes core.origin.faults).status) (sym is.reserved.descriptor)
+      (next_leaves_none is.written.group (answering is.written.found.shown is.written.group) is.written.was is.written.next (first_core parts log (last_stamp moment) homes core.origin.faults).status is.valid is.written.next_is
       (ap (λ (u : Updates). u.group) is.reserved.status) (ap (λ (u : Updates). u.wanted) is.reserved.status)))
 
   pub is_restated : ClockIsAhead log.run moment old log.facts → IsRestated old new core.descriptor
@@ -184,6 +185,6 @@ module _ (old new : Device) (log : Log) (name : List ℕ) (moment : ℕ) (room :
 
   pub settles : moment ≢ 0 → IsSettled core × HasSpareNumbers core
   settles some = subst (λ (c : Core). IsSettled c × HasSpareNumbers c) (sym core_is) (
-    starts_settled is.written.group is.written.next room parts log (last_stamp moment) homes is.reserved some votes,
-    starts_numbered is.written.group is.written.next room parts log (last_stamp moment) homes is.reserved is.valid (omega arith),
+    starts_settled is.written.group is.written.next room parts log (last_stamp moment) homes core.origin.faults is.reserved some votes,
+    starts_numbered is.written.group is.written.next room parts log (last_stamp moment) homes core.origin.faults is.reserved is.valid (omega arith),
   )

@@ -18,8 +18,11 @@ use Rattle.lvm_core.specs.declared.parts.Room.{Room}
 use Rattle.lvm_core.specs.declared.refused.Cause.{Cause}
 use Rattle.lvm_core.specs.declared.refused.Refused.{Refused}
 use Rattle.lvm_core.specs.declared.refused.Cause.TheVariants as cause
-use Rattle.lvm_core.specs.Starting.{Reserved, IsReservedFor, ArePlaced, first_core}
-use Rattle.lvm_core.specs.State.{Core}
+use Rattle.lvm_session_start.specs.declared.parts.Parts.{Parts}
+use Rattle.lvm_core.specs.Starting.{IsReservedFor}
+use Rattle.lvm_sound.specs.Placed.{ArePlaced}
+use Rattle.lvm_session_start.specs.Beginning.{first_core}
+use Rattle.lvm_session.specs.State.{Core}
 use Rattle.lvm_begin.specs.Beginning.{Beginning, MayBeginAgain}
 use Rattle.lvm_varyon.specs.Found.{Found, HaveAnswered}
 use Rattle.lvm_next.specs.Next.{IsNextStatus, has_active}
@@ -46,9 +49,9 @@ last_stamp moment = record { epoch = moment; seq = 2 }
 
 -- it is the session that begins with this group and this status
 pub record IsFirst (group : Descriptor) (next : Status) (log : Log) (moment : ℕ) (room : Room) (core : Core) : Type 0 where
-  pub parts : Reserved
+  pub parts : Parts
   pub reserved : IsReservedFor group next room parts
-  pub is : core ≡ first_core parts log (last_stamp moment) core.homes
+  pub is : core ≡ first_core parts log (last_stamp moment) core.homes core.origin.faults
 
 -- The group that the name chooses is on: its records stand, and its session begins with them.
 pub record ComesOn (old new : Device) (log : Log) (name : List ℕ) (moment : ℕ) (room : Room) (core : Core) : Type 0 where
@@ -133,15 +136,15 @@ abbrev pub IsAheadOfDisks : ℕ → Device → Type 0
 IsAheadOfDisks moment device = moment < last_moment → IsBehind moment device
 
 -- The group that the name chooses has its records, and these are the parts of its session.
-pub record IsBrought (old new : Device) (name : List ℕ) (moment : ℕ) (room : Room) (parts : Reserved) (homes : Homes) : Type 0 where
+pub record IsBrought (old new : Device) (name : List ℕ) (moment : ℕ) (room : Room) (parts : Parts) (homes : Homes) : Type 0 where
   pub written : HasWritten old new name moment (λ group b read. AllWritten b (order group) homes read new)
   pub valid : IsValid written.group
   pub reserved : IsReservedFor written.group written.next room parts
-  pub placed : ArePlaced new.sizes parts.descriptor parts.status.wanted
+  pub placed : ArePlaced new.sizes parts.descriptor parts.updater.wanted
   -- by the choice and the clock
   pub may : IsAheadOfDisks moment old → (media : Media) → old.media ≡ Some media
       → MayBeginAgain (beginning moment written.group written.next (answering written.found.shown written.group) written.writes.homes) (not (has_active written.group)) written.group written.next written.found.answered written.was (image_of old.sizes media)
 
-abbrev pub BringGives : Device → Device → List ℕ → ℕ → ℕ → Room → Result (Reserved × Homes) Cause → Type 0
+abbrev pub BringGives : Device → Device → List ℕ → ℕ → ℕ → Room → Result (Parts × Homes) Cause → Type 0
 BringGives old new name moment patience room (Ok got) = IsBrought old new name moment room got.0 got.1
 BringGives old new name moment patience room (Err why) = Stops old new name moment patience why

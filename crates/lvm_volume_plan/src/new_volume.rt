@@ -1,5 +1,5 @@
 //! What stands against a volume that is to be made or removed, and what a new one is made of.
-ghost use Rattle.std.specs.Prelude.{◌≡◌, ◌↔◌, ◌≤◌, ◌<◌, ◌+◌, ◌^◌, length, IfOk, IfErr, IsTrue};
+ghost use Rattle.std.specs.Prelude.{◌≡◌, ◌↔◌, ◌≤◌, ◌<◌, ◌^◌, length, IfOk, IfErr, IsTrue, ◌+◌};
 ghost use Rattle.lvm_num.specs.Descriptor.{most_volumes};
 ghost use Rattle.lvm_num.specs.Geometry.{partition_blocks, volume_blocks};
 ghost use Rattle.lvm_core.specs.Settled.{IsSettled};
@@ -9,10 +9,11 @@ ghost use Rattle.lvm_volume_plan.specs.PlannedVolume.{AreOfOneGroup, IsPlannedVo
 
 use crate::fault::GroupFault;
 use crate::next::{lowest_free, with_volume, without_volume};
-use lvm_core::{Driver, Power, Prepared};
+use lvm_core::{Driver, Prepared};
 use lvm_disk::Shelf;
 use lvm_map::{MapFault, allocate, blocks};
 use lvm_num::{Descriptor, LvRow, Memory, Mode, Name, Policy, Pp, Rows};
+use lvm_session::Power;
 use lvm_status::members_there;
 use std::alloc::Global;
 
@@ -100,6 +101,7 @@ fn takes_commands<S: Shelf>(driver: &Driver<S>) -> Result<(), GroupFault>
 {
     match driver.power() {
         Power::Dark => Err(GroupFault::Dark),
+        Power::Stuck => Err(GroupFault::Stuck),
         Power::Off => {
             let (have, total) = driver.votes();
             Err(GroupFault::WentOff { have, total })

@@ -8,21 +8,20 @@ use Rattle.lvm_vol.specs.Facts.{Making, Made, Removed}
 use Rattle.lvm_vol.specs.Log.{Log, with_fact}
 use Rattle.lvm_core.specs.declared.fault.CommitFault.{CommitFault}
 use Rattle.lvm_core.specs.declared.fault.CommitFault.TheVariants as commit
-use Rattle.lvm_core.specs.State.{State}
+use Rattle.lvm_session.specs.State.{State}
 use Rattle.lvm_core.specs.Settled.{IsSettled}
+use Rattle.lvm_core.specs.Leaves.{NoPartition, Leaves}
+use Rattle.lvm_volumes.specs.Endings.{IfOn, commanding}
+use Rattle.lvm_volumes.specs.Stages.{IfGoesOn, making_of, MakingBroke, MakeEnds, IsNamed, RemoveEnds, IsUnnamed}
+use Rattle.lvm_volumes.specs.Volumes.{IsWith, IsChosen, making, HasEntered, MakingEnds, IsVolumeMade, MklvGives, to_make, IsVolumeRemoved, RmlvGives, to_remove}
+use Rattle.lvm_volumes.proofs.Leaving.{leaves_wider}
 use Rattle.lvm_volume_plan.specs.declared.fault.GroupFault.{GroupFault}
 use Rattle.lvm_volume_plan.specs.declared.fault.GroupFault.TheVariants as fault
 use Rattle.lvm_volume_plan.specs.declared.new_volume.NewVolume.{NewVolume}
 use Rattle.lvm_volume_plan.specs.declared.new_volume.VolumePlan.{VolumePlan}
 use Rattle.lvm_volume_plan.specs.NewVolume.{without_volume}
-use Rattle.lvm_core.specs.Leaves.{NoPartition, Leaves}
-use Rattle.lvm_volume_plan.specs.Faults.{fault_of}
-use Rattle.lvm_volumes.specs.Endings.{IfOn, commanding}
+use Rattle.lvm_volume_plan.specs.Faults.{fault_of, RefusesMklv, RefusesRmlv}
 use Rattle.lvm_volume_plan.specs.PlannedVolume.{IsPlannedVolume, IsWithout}
-use Rattle.lvm_volumes.specs.Stages.{IfGoesOn, making_of, MakingBroke, MakeEnds, IsNamed, RemoveEnds, IsUnnamed}
-use Rattle.lvm_volume_plan.specs.Faults.{RefusesMklv, RefusesRmlv}
-use Rattle.lvm_volumes.specs.Volumes.{IsWith, IsChosen, making, HasEntered, MakingEnds, IsVolumeMade, MklvGives, to_make, IsVolumeRemoved, RmlvGives, to_remove}
-use Rattle.lvm_volumes.proofs.Leaving.{leaves_wider}
 
 -- ---- refusals
 

@@ -7,18 +7,20 @@ use Rattle.lvm_status.specs.Update.{members_there}
 use Rattle.lvm_write.proofs.Transfers.{darkened_then, given_up_then}
 use Rattle.lvm_core.specs.declared.fault.CommitFault.{CommitFault}
 use Rattle.lvm_core.specs.declared.fault.CommitFault.TheVariants as commit
-use Rattle.lvm_core.specs.Dark.{darkened}
-use Rattle.lvm_core.specs.State.{Core, State}
+use Rattle.lvm_session.specs.State.{Core, State}
 use Rattle.lvm_core.specs.Settled.{IsSettled}
-use Rattle.lvm_core.specs.Committing.{HasGoneDark, RecordsEnd}
+use Rattle.lvm_core.specs.Committing.{HasGoneDark, RecordsEnd, with_one_out}
 use Rattle.lvm_core.specs.Leaves.{Scope, Leaves}
-use Rattle.lvm_core.proofs.LeavesLemmas.{dark_is_cut}
+use Rattle.lvm_core.proofs.Dark.{cut_core, dark_is}
 use Rattle.lvm_volumes.specs.Stages.{IfGoesOn, CommandBroke}
 use Rattle.lvm_volumes.proofs.Leaving.{rose_from, there_before}
 
--- the history after a power cut
+-- the session after a power cut
+dark_core : (a b : State) → IsSettled a.core → HasGoneDark a b → b.core ≡ cut_core (record a.core { pool = with_one_out a.core.pool; status = b.core.status; homes = b.core.homes })
+dark_core a b settled dark = dark.is ∙ dark_is (record a.core { pool = with_one_out a.core.pool; status = b.core.status; homes = b.core.homes }) (record { requests = settled.quiet.requests; copy = settled.quiet.copy })
+
 pub dark_history : (a b : State) → IsSettled a.core → HasGoneDark a b → b.core.history ≡ cut_log a.core.history
-dark_history a b settled dark = ap (λ (c : Core). c.history) dark.is ∙ dark_is_cut a.core.history a.core.requests settled.quiet.requests
+dark_history a b settled dark = ap (λ (c : Core). c.history) (dark_core a b settled dark)
 
 -- a commit that broke off
 pub broken : (Done : Type 0) (patience : ℕ) (a b : State) → IsSettled a.core → (why : CommitFault) → RecordsEnd Done patience a b (Err why) → CommandBroke a.core.history patience a b why
@@ -36,7 +38,7 @@ broken Done patience a b settled commit.Dark ends = record {
   power = ap (λ (c : Core). c.power) ends.is;
   history = dark_history a b settled ends;
   descriptor = ap (λ (c : Core). c.descriptor) ends.is;
-  requests = ap (λ (c : Core). c.requests) ends.is ∙ ap (Rattle.std.specs.Prelude.map darkened) settled.quiet.requests;
+  requests = ap (λ (c : Core). c.requests) (dark_core a b settled ends);
 }
 broken Done patience a b settled commit.Stuck ends = record {
   out = ends.out;

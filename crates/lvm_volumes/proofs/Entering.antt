@@ -22,7 +22,7 @@ use Rattle.lvm_commit.specs.Committed.{HoldsCommitted, ShowsCommitted}
 use Rattle.lvm_commit.specs.LawsOfVolumes.{IsOnlyGroupSince, LeavesCommitted}
 use Rattle.lvm_commit.specs.Settling.{many_there, NoneIsLeft, MarksLeft}
 use Rattle.lvm_commit.proofs.Still.{still_holds_committed}
-use Rattle.lvm_core.specs.State.{Core, State, is_there}
+use Rattle.lvm_session.specs.State.{Core, State, is_there}
 use Rattle.lvm_core.specs.Held.{IsHeld}
 use Rattle.lvm_core.specs.Settled.{IsSettled, HasSpareNumbers}
 use Rattle.lvm_core.specs.Committing.{moment_of, SpanGoesOn, LetsCommit, HasStated}
@@ -30,11 +30,11 @@ use Rattle.lvm_core.specs.Leaves.{NoPartition, IsOfCommand, Leaves, committing}
 use Rattle.lvm_core.specs.Entering.{IsOfVolume}
 use Rattle.lvm_core.proofs.LeavesLemmas.{keeps_fact, same_status}
 use Rattle.lvm_volumes.specs.Endings.{StillHeld, IfAlone, commanding}
-use Rattle.lvm_volume_plan.specs.PlannedVolume.{AreOfOneGroup}
 use Rattle.lvm_volumes.specs.Stages.{with_entry}
-use Rattle.lvm_volume_plan.specs.Faults.{HasSpareRoom}
 use Rattle.lvm_volumes.proofs.Holding.{still_by}
 use Rattle.lvm_volumes.proofs.Leaving.{falls_none, leaves_wider}
+use Rattle.lvm_volume_plan.specs.PlannedVolume.{AreOfOneGroup}
+use Rattle.lvm_volume_plan.specs.Faults.{HasSpareRoom}
 
 pub spare_more : (log : Log) (f : Fact) → need f ≡ 1 → 2 ≤ spare_entries log → 1 ≤ spare_entries (with_fact log f)
 spare_more log f one two = let sum = sum_by-append need log.facts (f ∷ []) in omega (arith, sum, one, two)

@@ -19,7 +19,7 @@ use Rattle.lvm_write.specs.Written.{KeepsShelf}
 use Rattle.lvm_write.proofs.Writing.{logs_wider, both_map, changes_more}
 use Rattle.lvm_write.proofs.Transfers.{keeps_here, keeps_then, spends_none, spends_then}
 use Rattle.lvm_commit.specs.Settling.{there, IsOfSession, StatesGroup, IsOfStatus, IsOfCommit}
-use Rattle.lvm_core.specs.State.{State, is_there}
+use Rattle.lvm_session.specs.State.{State, is_there}
 use Rattle.lvm_core.specs.Zeros.{IsZeroOf}
 use Rattle.lvm_core.specs.Held.{IsHeld}
 use Rattle.lvm_core.specs.Leaves.{Scope, NoPartition, IsOfCommand, WasLeftBehind, MayBeFound, Leaves}

@@ -31,17 +31,13 @@ use Rattle.lvm_commit.specs.Settling.{NoneIsLeft, MarksLeft}
 use Rattle.lvm_commit.proofs.Volumes.{volume_begins_in_session, volume_is_made_in_session}
 use Rattle.lvm_core.specs.declared.fault.CommitFault.{CommitFault}
 use Rattle.lvm_core.specs.declared.fault.CommitFault.TheVariants as commit
-use Rattle.lvm_core.specs.State.{Core, State, is_there}
+use Rattle.lvm_session.specs.State.{Core, State, is_there}
 use Rattle.lvm_core.specs.Held.{IsHeld}
 use Rattle.lvm_core.specs.Settled.{IsSettled}
 use Rattle.lvm_core.specs.Committing.{LetsCommit, HasStated, HasCommitted, CommitEnds}
 use Rattle.lvm_core.specs.Leaves.{NoDescriptor, NoPartition, IsOfCommand, Leaves, committing}
 use Rattle.lvm_core.proofs.LeavesLemmas.{enters_one}
-use Rattle.lvm_volume_plan.specs.declared.new_volume.NewVolume.{NewVolume}
-use Rattle.lvm_volume_plan.specs.declared.new_volume.VolumePlan.{VolumePlan}
-use Rattle.lvm_volume_plan.specs.NewVolume.{row_for, with_volume}
 use Rattle.lvm_volumes.specs.Endings.{StillHeld, commanding}
-use Rattle.lvm_volume_plan.specs.PlannedVolume.{IsPlannedVolume}
 use Rattle.lvm_volumes.specs.Stages.{IfGoesOn, CommandBroke, with_entry, ClosesBy, CommitsBetween, AreUnusedOn, AreCleared, ClearEnds, making_of, IsNamed, MakeEnds}
 use Rattle.lvm_volumes.specs.Volumes.{AreZeroed}
 use Rattle.lvm_map.proofs.PlaceLemmas.{mib_positive}
@@ -51,9 +47,13 @@ use Rattle.lvm_volumes.proofs.Breaking.{broken, broken_since, stopped}
 use Rattle.lvm_volumes.proofs.Holding.{still_then}
 use Rattle.lvm_volumes.proofs.Zeros.{zeros_stay}
 use Rattle.lvm_volumes.proofs.Places.{places_of, usable_of, free_of, once_of}
-use Rattle.lvm_volume_plan.proofs.NewDescriptor.{named_with}
 use Rattle.lvm_volumes.proofs.Serving.{making_open, new_serves}
 use Rattle.lvm_volumes.proofs.Entering.{settled_entered, entry_leaves, entry_still, commit_among, commit_still, leaves_committed}
+use Rattle.lvm_volume_plan.specs.declared.new_volume.NewVolume.{NewVolume}
+use Rattle.lvm_volume_plan.specs.declared.new_volume.VolumePlan.{VolumePlan}
+use Rattle.lvm_volume_plan.specs.NewVolume.{row_for, with_volume}
+use Rattle.lvm_volume_plan.specs.PlannedVolume.{IsPlannedVolume}
+use Rattle.lvm_volume_plan.proofs.NewDescriptor.{named_with}
 
 -- ---- records stand below the data
 

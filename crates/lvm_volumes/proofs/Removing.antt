@@ -14,24 +14,24 @@ use Rattle.lvm_commit.specs.Settling.{NoneIsLeft, MarksLeft}
 use Rattle.lvm_commit.proofs.Volumes.{volume_is_gone_in_session}
 use Rattle.lvm_core.specs.declared.fault.CommitFault.{CommitFault}
 use Rattle.lvm_core.specs.declared.fault.CommitFault.TheVariants as commit
-use Rattle.lvm_core.specs.State.{Core, State, is_there}
+use Rattle.lvm_session.specs.State.{Core, State, is_there}
 use Rattle.lvm_core.specs.Settled.{IsSettled}
 use Rattle.lvm_core.specs.Committing.{LetsCommit, HasStated, HasCommitted, CommitEnds}
 use Rattle.lvm_core.specs.Leaves.{NoPartition, Leaves, committing}
 use Rattle.lvm_core.proofs.LeavesLemmas.{enters_one}
 use Rattle.lvm_num.specs.Descriptor.{is_member}
-use Rattle.lvm_volume_plan.specs.NewVolume.{without_volume}
 use Rattle.lvm_volumes.specs.Endings.{StillHeld, commanding}
-use Rattle.lvm_volume_plan.specs.PlannedVolume.{IsWithout}
 use Rattle.lvm_volumes.specs.Stages.{IfGoesOn, CommandBroke, with_entry, ClosesBy, CommitsBetween, IsUnnamed, RemoveEnds}
 use Rattle.lvm_volumes.specs.Volumes.{removing}
 use Rattle.lvm_volumes.proofs.Breaking.{broken, broken_since, stopped}
 use Rattle.lvm_volumes.proofs.Holding.{still_then}
 use Rattle.lvm_volumes.proofs.Leaving.{leaves_then}
 use Rattle.lvm_volumes.proofs.Serving.{old_serves}
-use Rattle.lvm_volume_plan.proofs.OldDescriptor.{unnamed_without}
 use Rattle.lvm_volumes.proofs.Left.{none_left_without}
 use Rattle.lvm_volumes.proofs.Entering.{settled_entered, entry_leaves, entry_still, commit_among, commit_still, leaves_committed}
+use Rattle.lvm_volume_plan.specs.NewVolume.{without_volume}
+use Rattle.lvm_volume_plan.specs.PlannedVolume.{IsWithout}
+use Rattle.lvm_volume_plan.proofs.OldDescriptor.{unnamed_without}
 
 module _ (lv : ℕ) (next : Descriptor) (a : State) (settled : IsSettled a.core) (without : IsWithout lv a.core next) where
   -- the session once the removal is entered

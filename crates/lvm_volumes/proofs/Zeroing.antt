@@ -5,7 +5,7 @@ use Rattle.lvm_num.specs.declared.place.Pp.{Pp}
 use Rattle.lvm_num.specs.declared.descriptor.Descriptor.{Descriptor}
 use Rattle.lvm_num.specs.Descriptor.{is_member}
 use Rattle.lvm_commit.specs.Settling.{NoneIsLeft}
-use Rattle.lvm_core.specs.State.{Core, State}
+use Rattle.lvm_session.specs.State.{Core, State}
 use Rattle.lvm_core.specs.Zeros.{KeepsRecords}
 use Rattle.lvm_core.specs.Leaves.{NoDescriptor, Leaves, zeroing}
 use Rattle.lvm_volumes.specs.Endings.{StillHeld, commanding}

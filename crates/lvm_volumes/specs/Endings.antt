@@ -9,8 +9,8 @@ use Rattle.lvm_kept.specs.Moments.{Moment}
 use Rattle.lvm_write.specs.Written.{IsDarkened, IsGivenUp}
 use Rattle.lvm_commit.specs.LawsOfVolumes.{IsOnlyGroupOn, IsOnlyGroupSince}
 use Rattle.lvm_commit.specs.Settling.{NoneIsLeft, HasLostQuorum}
-use Rattle.lvm_core.specs.declared.request.Power.TheVariants as power
-use Rattle.lvm_core.specs.State.{State}
+use Rattle.lvm_session.specs.declared.open.Power.TheVariants as power
+use Rattle.lvm_session.specs.State.{Core, State}
 use Rattle.lvm_core.specs.Held.{IsHeld, AreNotesHome}
 use Rattle.lvm_core.specs.Leaves.{Scope, NoPartition, EntersVolumes}
 use Rattle.lvm_volume_plan.specs.declared.fault.GroupFault.{GroupFault}

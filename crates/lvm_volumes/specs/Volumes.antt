@@ -9,15 +9,16 @@ use Rattle.lvm_vol.specs.declared.entry.Vol.TheVariants.{Lv}
 use Rattle.lvm_vol.specs.Facts.{Making, Made, Removing, Removed}
 use Rattle.lvm_vol.specs.Log.{Log, with_fact}
 use Rattle.lvm_map.specs.FirstFit.{is_on}
-use Rattle.lvm_core.specs.State.{Core, State}
+use Rattle.lvm_session.specs.State.{Core, State, is_there, votes_there}
+use Rattle.lvm_session.specs.declared.open.Power.TheVariants as power
 use Rattle.lvm_core.specs.Zeros.{IsZeroed}
+use Rattle.lvm_core.specs.Leaves.{Scope, NoPartition}
+use Rattle.lvm_volumes.specs.Endings.{CommandDarkened, CommandWentOff, CommandStuck, CommandFailed, commanding}
 use Rattle.lvm_volume_plan.specs.declared.fault.GroupFault.{GroupFault}
 use Rattle.lvm_volume_plan.specs.declared.fault.GroupFault.TheVariants as fault
 use Rattle.lvm_volume_plan.specs.declared.new_volume.NewVolume.{NewVolume}
 use Rattle.lvm_volume_plan.specs.Faults.{HasPlaces, IsRefused, MayBeMade, MayBeRemoved, RefusesMklv, RefusesRmlv}
 use Rattle.lvm_volume_plan.specs.NewVolume.{IsLowestFree, row_for, with_volume, without_volume}
-use Rattle.lvm_core.specs.Leaves.{Scope, NoPartition}
-use Rattle.lvm_volumes.specs.Endings.{CommandDarkened, CommandWentOff, CommandStuck, CommandFailed, commanding}
 
 -- ---- the making
 

@@ -1,5 +1,5 @@
 use Rattle.std.proofs.Common.{◌∙◌, refl, sym, ap, subst, rules, Option}
-use Rattle.lvm_core.specs.State.{Core}
+use Rattle.lvm_session.specs.State.{Core}
 use Rattle.lvm_commands.specs.Listings.{IsOn, IsNotOn}
 use Rattle.lvm_commands.specs.Stages.{session_in}
 use Rattle.lvm_commands.specs.Volumes.{MklvDoes, NoGroupForMklv, wanted}

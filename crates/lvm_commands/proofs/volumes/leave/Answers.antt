@@ -1,10 +1,10 @@
 use Rattle.std.proofs.Common.{◌∙◌, Result, sym, ap, subst}
-use Rattle.lvm_core.specs.State.{state}
-use Rattle.lvm_volume_plan.specs.declared.fault.GroupFault.{GroupFault}
+use Rattle.lvm_session.specs.State.{state}
 use Rattle.lvm_commands.specs.Stages.{state_in}
 use Rattle.lvm_commands.specs.Volumes.{IsOver, is_over}
 use Rattle.lvm_commands.specs.declared.stage.Stage.{Stage}
 use Rattle.lvm_commands.proofs.volumes.leave.Goals as goal
+use Rattle.lvm_volume_plan.specs.declared.fault.GroupFault.{GroupFault}
 
 pub returns-in-Err-clause-over : goal.returns-in-Err-clause-over
 returns-in-Err-clause-over g c = λ ends last.

@@ -1,11 +1,11 @@
-use Rattle.std.proofs.Common.{◌≡◌, ◌≤◌, Err, sym, subst}
+use Rattle.std.proofs.Common.{◌≡◌, ◌≤◌, Err, sym, subst, []}
 use Rattle.std.specs.Prelude.{IfOk, IfErr, length}
 use Rattle.std.proofs.lemmas.Result.{err_from_is_err_and}
 use Rattle.lvm_vol.specs.Log.{Log, spare_entries}
 use Rattle.lvm_write.specs.declared.homes.Homes.{Homes}
 use Rattle.lvm_core.specs.Coming.{BringsOn}
 use Rattle.lvm_core.specs.Held.{StartsHeld}
-use Rattle.lvm_core.specs.Starting.{first_core}
+use Rattle.lvm_session_start.specs.Beginning.{first_core}
 use Rattle.lvm_core.specs.declared.refused.Cause.{Cause}
 use Rattle.lvm_group.specs.NewGroup.{NewGroup}
 use Rattle.lvm_group.specs.Planned.{asked_group, IsPlannedFor}
@@ -76,7 +76,7 @@ returns g c =
       made = subst (λ (l : Log). IfOk r (λ (next : Homes). Stands w room was l old new (record { parts = plan.parts; homes = next }))) given (stands_written w room was old mid free plan its.may found its.planned its.size before left after new only leaves r gives);
       refused = subst (λ (l : Log). IfErr r (Refuses w before was (cut_at r l) old new)) given (refuses_written w room was old mid free plan its.may found its.planned its.size before left after new only leaves r gives);
       held = λ clock.
-          subst (λ (l : Log). IfOk r (λ (next : Homes). StartsHeld new (first_core plan.parts l (record { epoch = w.moment; seq = 2 }) next))) given
+          subst (λ (l : Log). IfOk r (λ (next : Homes). StartsHeld new (first_core plan.parts l (record { epoch = w.moment; seq = 2 }) next []))) given
           (written_held w room was old mid free plan its.may found its.planned its.size before left after new only leaves was.run fits whole clock r gives);
       leaves = subst (λ (l : Log). BringsOn was.run w.moment before after old new was l) given (written_leaves w room was old mid free plan its.may found its.planned its.size before left after new only leaves was.run fits whole c.write.ensures.kept);
     }

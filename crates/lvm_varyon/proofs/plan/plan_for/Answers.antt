@@ -9,7 +9,7 @@ use Rattle.lvm_num.specs.Status.{IsValidStatus}
 use Rattle.lvm_quorum.specs.declared.choice.Choice.{Choice}
 use Rattle.lvm_write.specs.declared.homes.Homes.{Homes}
 use Rattle.lvm_core.specs.declared.parts.Room.{Room}
-use Rattle.lvm_core.specs.Starting.{IsOneGroup}
+use Rattle.lvm_session_start.specs.Parts.{IsOneGroup}
 use Rattle.lvm_next.specs.Next.{IsNextStatus}
 use Rattle.lvm_varyon.specs.declared.plan.Plan.{Plan}
 use Rattle.lvm_varyon.specs.Parts.{IsPlanFor, IsPlanOfChoice}

@@ -3,7 +3,8 @@ use Rattle.std.proofs.lemmas.Result.{err_from_is_err_and}
 use Rattle.lvm_num.specs.declared.descriptor.Descriptor.{Descriptor}
 use Rattle.lvm_vol.specs.Log.{Log, plain_fact, spare_entries}
 use Rattle.lvm_commit.specs.Settling.{MarksLeft}
-use Rattle.lvm_core.specs.State.{Core, State, state_of}
+use Rattle.lvm_session.specs.State.{Core, State}
+use Rattle.lvm_core.specs.State.{state_of}
 use Rattle.lvm_core.specs.Settled.{IsSettled, HasSpareNumbers}
 use Rattle.lvm_core.specs.Committing.{HasCommitted, CommitEnds}
 use Rattle.lvm_core.specs.Leaves.{Leaves, committing}

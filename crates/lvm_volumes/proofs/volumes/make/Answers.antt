@@ -6,16 +6,17 @@ use Rattle.lvm_num.specs.declared.descriptor.Descriptor.{Descriptor}
 use Rattle.lvm_vol.specs.Log.{Log, spare_entries}
 use Rattle.lvm_commit.specs.Settling.{many_there}
 use Rattle.lvm_core.specs.declared.fault.CommitFault.{CommitFault}
-use Rattle.lvm_core.specs.State.{Core, State, state_of}
+use Rattle.lvm_session.specs.State.{Core, State}
+use Rattle.lvm_core.specs.State.{state_of}
 use Rattle.lvm_core.specs.Leaves.{NoDescriptor, Leaves}
-use Rattle.lvm_volume_plan.specs.declared.new_volume.NewVolume.{NewVolume}
-use Rattle.lvm_volume_plan.specs.declared.new_volume.VolumePlan.{VolumePlan}
 use Rattle.lvm_volumes.specs.Endings.{commanding}
-use Rattle.lvm_volume_plan.specs.PlannedVolume.{IsPlannedVolume}
 use Rattle.lvm_volumes.specs.Stages.{AreUnusedOn, AreCleared, ClearEnds}
 use Rattle.lvm_volumes.proofs.Entering.{many_bound, has_numbers}
 use Rattle.lvm_volumes.proofs.Naming.{plan_unused, clear_break_leaves, clear_break, make_ends, make_leaves, make_still}
 use Rattle.lvm_volumes.proofs.volumes.make.Goals as goal
+use Rattle.lvm_volume_plan.specs.declared.new_volume.NewVolume.{NewVolume}
+use Rattle.lvm_volume_plan.specs.declared.new_volume.VolumePlan.{VolumePlan}
+use Rattle.lvm_volume_plan.specs.PlannedVolume.{IsPlannedVolume}
 
 pub clear-requires-clause-numbers : goal.clear-requires-clause-numbers
 clear-requires-clause-numbers g c = has_numbers c.args.driver.now.1 c.requires.may.1.group c.requires.may.1.may.room

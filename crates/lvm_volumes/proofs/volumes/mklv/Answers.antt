@@ -1,18 +1,19 @@
 use Rattle.std.proofs.Common.{ℕ, Err}
 use Rattle.std.proofs.lemmas.Result.{err_from_is_err_and}
 use Rattle.lvm_core.specs.declared.fault.CommitFault.{CommitFault}
-use Rattle.lvm_core.specs.State.{State, state_of}
+use Rattle.lvm_session.specs.State.{State}
+use Rattle.lvm_core.specs.State.{state_of}
 use Rattle.lvm_core.specs.Settled.{IsSettled}
-use Rattle.lvm_volume_plan.specs.declared.fault.GroupFault.{GroupFault}
-use Rattle.lvm_volume_plan.specs.declared.new_volume.NewVolume.{NewVolume}
-use Rattle.lvm_volume_plan.specs.declared.new_volume.VolumePlan.{VolumePlan}
 use Rattle.lvm_volumes.specs.Endings.{StillHeld}
-use Rattle.lvm_volume_plan.specs.PlannedVolume.{IsPlannedVolume}
 use Rattle.lvm_volumes.specs.Volumes.{to_make}
 use Rattle.lvm_volumes.proofs.Answering.{refused_mklv, always_on, on_fault, made_leaves, make_settled, make_given, make_fails}
 use Rattle.lvm_volumes.proofs.Holding.{still_none}
 use Rattle.lvm_volumes.proofs.Leaving.{leaves_none}
 use Rattle.lvm_volumes.proofs.volumes.mklv.Goals as goal
+use Rattle.lvm_volume_plan.specs.declared.fault.GroupFault.{GroupFault}
+use Rattle.lvm_volume_plan.specs.declared.new_volume.NewVolume.{NewVolume}
+use Rattle.lvm_volume_plan.specs.declared.new_volume.VolumePlan.{VolumePlan}
+use Rattle.lvm_volume_plan.specs.PlannedVolume.{IsPlannedVolume}
 
 pub returns-in_err-plan : goal.returns-in_err-plan
 returns-in_err-plan g c =

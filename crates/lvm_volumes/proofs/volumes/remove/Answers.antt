@@ -1,10 +1,11 @@
 use Rattle.std.proofs.Common.{[], ap}
 use Rattle.lvm_num.specs.declared.descriptor.Descriptor.{Descriptor}
-use Rattle.lvm_core.specs.State.{State, state_of}
-use Rattle.lvm_volume_plan.specs.PlannedVolume.{IsWithout}
+use Rattle.lvm_session.specs.State.{State}
+use Rattle.lvm_core.specs.State.{state_of}
 use Rattle.lvm_volumes.proofs.Entering.{has_numbers}
 use Rattle.lvm_volumes.proofs.Removing.{remove_ends, remove_leaves, remove_still}
 use Rattle.lvm_volumes.proofs.volumes.remove.Goals as goal
+use Rattle.lvm_volume_plan.specs.PlannedVolume.{IsWithout}
 
 pub commit_between-requires-clause-numbers : goal.commit_between-requires-clause-numbers
 commit_between-requires-clause-numbers g c = has_numbers c.args.driver.now.1 c.requires.without.group c.requires.without.may.room

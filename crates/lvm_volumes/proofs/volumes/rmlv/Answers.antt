@@ -1,16 +1,17 @@
 use Rattle.std.proofs.Common.{Err}
 use Rattle.std.proofs.lemmas.Result.{err_from_is_err_and}
 use Rattle.lvm_core.specs.declared.fault.CommitFault.{CommitFault}
-use Rattle.lvm_core.specs.State.{State, state_of}
+use Rattle.lvm_session.specs.State.{State}
+use Rattle.lvm_core.specs.State.{state_of}
 use Rattle.lvm_core.specs.Settled.{IsSettled}
-use Rattle.lvm_volume_plan.specs.declared.fault.GroupFault.{GroupFault}
 use Rattle.lvm_volumes.specs.Endings.{StillHeld}
-use Rattle.lvm_volume_plan.specs.PlannedVolume.{IsWithout}
 use Rattle.lvm_volumes.specs.Volumes.{to_remove}
 use Rattle.lvm_volumes.proofs.Answering.{refused_rmlv, always_on, on_fault, removed_leaves, remove_settled, remove_given, remove_fails}
 use Rattle.lvm_volumes.proofs.Holding.{still_none}
 use Rattle.lvm_volumes.proofs.Leaving.{leaves_none}
 use Rattle.lvm_volumes.proofs.volumes.rmlv.Goals as goal
+use Rattle.lvm_volume_plan.specs.declared.fault.GroupFault.{GroupFault}
+use Rattle.lvm_volume_plan.specs.PlannedVolume.{IsWithout}
 
 pub returns-in_err-next : goal.returns-in_err-next
 returns-in_err-next g c =

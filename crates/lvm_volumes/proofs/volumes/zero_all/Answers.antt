@@ -6,7 +6,8 @@ use Rattle.lvm_num.specs.declared.place.Pp.{Pp}
 use Rattle.lvm_num.specs.Descriptor.{IsPartitionOf}
 use Rattle.lvm_commit.specs.LawsOfData.{IsFree}
 use Rattle.lvm_core.specs.declared.fault.CommitFault.{CommitFault}
-use Rattle.lvm_core.specs.State.{Core, State, state_of}
+use Rattle.lvm_session.specs.State.{Core, State}
+use Rattle.lvm_core.specs.State.{state_of}
 use Rattle.lvm_core.specs.Leaves.{NoDescriptor, Leaves}
 use Rattle.lvm_volumes.specs.Endings.{commanding}
 use Rattle.lvm_volumes.proofs.Zeroing.{zero_among, zero_still}

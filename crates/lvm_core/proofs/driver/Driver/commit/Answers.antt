@@ -1,41 +1,36 @@
-use Rattle.std.proofs.Common.{sym, ◌∙◌, subst}
+use Rattle.std.proofs.Common.{sym, subst}
 use Rattle.lvm_commit.specs.Committed.{IsAlike}
-use Rattle.lvm_core.specs.State.{Core, state}
-use Rattle.lvm_core.specs.Fields.{core_of}
+use Rattle.lvm_session.specs.State.{Core, state}
+use Rattle.lvm_session.specs.Fields.{core_of}
 use Rattle.lvm_core.specs.Settled.{IsSettled}
 use Rattle.lvm_core.proofs.Commits.{may_settle_now}
-use Rattle.lvm_core.proofs.Committing.{descriptor_sound, descriptor_most, descriptor_ends, descriptor_fails, descriptor_leaves}
+use Rattle.lvm_core.proofs.Committing.{descriptor_sound, descriptor_sizes, descriptor_ends, descriptor_fails, descriptor_leaves}
+use Rattle.lvm_core.proofs.Own.{rooms_stay}
 use Rattle.lvm_core.proofs.driver.Driver.commit.Goals as goal
 
 pub commit-requires-clause-may : goal.commit-requires-clause-may
-commit-requires-clause-may g c = may_settle_now (state (g.S.Shelf.device c.self.inside.shelf) (core_of c.self.inside.session)) c.self.invariant.2 (subst (λ (v : g.row.S.Denot × Core). IsSettled v.1) (sym c.self.view_is) c.requires.settled)
+commit-requires-clause-may g c = may_settle_now (state (g.S.Shelf.device c.self.inside.shelf) (core_of c.self.inside.session)) c.self.invariant.1 (subst (λ (v : g.row.S.Denot × Core). IsSettled v.1) (sym c.self.view_is) c.requires.settled)
 
 pub commit-requires-clause-alike : goal.commit-requires-clause-alike
 commit-requires-clause-alike g c = subst (λ (v : g.row.S.Denot × Core). IsAlike c.args.next v.1.descriptor) (sym c.self.view_is) c.requires.alike
 
 pub invariant_of-self : goal.invariant_of-self
-invariant_of-self g c = (
-  rw (
-    descriptor_most c.args.next c.args.patience.now.left c.commit.new.patience.left
-        (state (g.S.Shelf.device c.self.inside.shelf) (core_of c.self.inside.session))
-        (state (g.S.Shelf.device c.commit.new.shelf) (core_of c.commit.new.self))
-        c.commit.result c.commit.ensures.does (subst (λ (v : g.row.S.Denot × Core). IsSettled v.1) (sym c.self.view_is) c.requires.settled) c.self.invariant.2
-        (subst (λ (v : g.row.S.Denot × Core). IsAlike c.args.next v.1.descriptor) (sym c.self.view_is) c.requires.alike),
-    c.commit.ensures.capacity,
-  ) c.self.invariant.0,
-  c.commit.ensures.bytes ∙ c.self.invariant.1,
-  descriptor_sound c.args.next c.args.patience.now.left c.commit.new.patience.left
-      (state (g.S.Shelf.device c.self.inside.shelf) (core_of c.self.inside.session))
-      (state (g.S.Shelf.device c.commit.new.shelf) (core_of c.commit.new.self))
-      c.commit.result c.commit.ensures.does (subst (λ (v : g.row.S.Denot × Core). IsSettled v.1) (sym c.self.view_is) c.requires.settled) c.self.invariant.2
-      (subst (λ (v : g.row.S.Denot × Core). IsAlike c.args.next v.1.descriptor) (sym c.self.view_is) c.requires.alike),
-)
+invariant_of-self g c =
+    let old = state (g.S.Shelf.device c.self.inside.shelf) (core_of c.self.inside.session) in
+    let new = state (g.S.Shelf.device c.commit.new.shelf) (core_of c.commit.new.session) in
+    let does = c.commit.ensures.does in
+    let settled = subst (λ (v : g.row.S.Denot × Core). IsSettled v.1) (sym c.self.view_is) c.requires.settled in
+    let alike = subst (λ (v : g.row.S.Denot × Core). IsAlike c.args.next v.1.descriptor) (sym c.self.view_is) c.requires.alike in (
+      rooms_stay c.self.inside.session c.commit.new.session c.self.invariant.0 c.commit.ensures.rooms
+          (descriptor_sizes c.args.next c.args.patience.now.left c.commit.new.patience.left old new c.commit.result does settled c.self.invariant.1 alike),
+      descriptor_sound c.args.next c.args.patience.now.left c.commit.new.patience.left old new c.commit.result does settled c.self.invariant.1 alike,
+    )
 
 pub returns-clause-ends : goal.returns-clause-ends
 returns-clause-ends g c = rw (← c.self.view_is) (descriptor_ends c.args.next c.args.patience.now.left c.commit.new.patience.left
     (state (g.S.Shelf.device c.self.inside.shelf) (core_of c.self.inside.session))
-    (state (g.S.Shelf.device c.commit.new.shelf) (core_of c.commit.new.self))
-    c.commit.result c.commit.ensures.does (subst (λ (v : g.row.S.Denot × Core). IsSettled v.1) (sym c.self.view_is) c.requires.settled) c.self.invariant.2
+    (state (g.S.Shelf.device c.commit.new.shelf) (core_of c.commit.new.session))
+    c.commit.result c.commit.ensures.does (subst (λ (v : g.row.S.Denot × Core). IsSettled v.1) (sym c.self.view_is) c.requires.settled) c.self.invariant.1
     (subst (λ (v : g.row.S.Denot × Core). IsAlike c.args.next v.1.descriptor) (sym c.self.view_is) c.requires.alike))
 
 pub returns-clause-left : goal.returns-clause-left
@@ -44,13 +39,13 @@ returns-clause-left g c = rw (← c.self.view_is) c.commit.ensures.does.settles.
 pub returns-clause-leaves : goal.returns-clause-leaves
 returns-clause-leaves g c = rw (← c.self.view_is) (descriptor_leaves c.args.next c.args.patience.now.left c.commit.new.patience.left
     (state (g.S.Shelf.device c.self.inside.shelf) (core_of c.self.inside.session))
-    (state (g.S.Shelf.device c.commit.new.shelf) (core_of c.commit.new.self))
-    c.commit.result c.commit.ensures.does (subst (λ (v : g.row.S.Denot × Core). IsSettled v.1) (sym c.self.view_is) c.requires.settled) c.self.invariant.2
+    (state (g.S.Shelf.device c.commit.new.shelf) (core_of c.commit.new.session))
+    c.commit.result c.commit.ensures.does (subst (λ (v : g.row.S.Denot × Core). IsSettled v.1) (sym c.self.view_is) c.requires.settled) c.self.invariant.1
     (subst (λ (v : g.row.S.Denot × Core). IsAlike c.args.next v.1.descriptor) (sym c.self.view_is) c.requires.alike))
 
 pub returns-clause-fails : goal.returns-clause-fails
 returns-clause-fails g c = rw (← c.self.view_is) (descriptor_fails c.args.next c.args.patience.now.left c.commit.new.patience.left
     (state (g.S.Shelf.device c.self.inside.shelf) (core_of c.self.inside.session))
-    (state (g.S.Shelf.device c.commit.new.shelf) (core_of c.commit.new.self))
-    c.commit.result c.commit.ensures.does (subst (λ (v : g.row.S.Denot × Core). IsSettled v.1) (sym c.self.view_is) c.requires.settled) c.self.invariant.2
+    (state (g.S.Shelf.device c.commit.new.shelf) (core_of c.commit.new.session))
+    c.commit.result c.commit.ensures.does (subst (λ (v : g.row.S.Denot × Core). IsSettled v.1) (sym c.self.view_is) c.requires.settled) c.self.invariant.1
     (subst (λ (v : g.row.S.Denot × Core). IsAlike c.args.next v.1.descriptor) (sym c.self.view_is) c.requires.alike))

@@ -1,64 +1,60 @@
-use Rattle.std.proofs.Common.{◌++◌, sym, ◌∙◌, subst}
-use Rattle.lvm_core.specs.State.{Core, state}
-use Rattle.lvm_core.specs.Fields.{core_of}
+use Rattle.std.proofs.Common.{◌++◌, sym, subst}
+use Rattle.lvm_session.specs.State.{Core, state}
+use Rattle.lvm_session.specs.Fields.{core_of}
 use Rattle.lvm_core.specs.Settled.{IsSettled}
 use Rattle.lvm_core.specs.Committing.{AreUnused}
 use Rattle.lvm_core.proofs.Commits.{may_settle_now, unused_markable}
-use Rattle.lvm_core.proofs.Stating.{status_sound, status_most, status_ends_so, status_fails, nothing_done, restates, status_leaves}
+use Rattle.lvm_core.proofs.Stating.{status_sound, status_sizes, status_ends_so, status_fails, nothing_done, restates, status_leaves}
+use Rattle.lvm_core.proofs.Own.{rooms_stay}
 use Rattle.lvm_core.proofs.driver.Driver.set_status.Goals as goal
 
 pub set_status-requires-clause-may : goal.set_status-requires-clause-may
-set_status-requires-clause-may g c = may_settle_now (state (g.S.Shelf.device c.self.inside.shelf) (core_of c.self.inside.session)) c.self.invariant.2 (subst (λ (v : g.row.S.Denot × Core). IsSettled v.1) (sym c.self.view_is) c.requires.settled)
+set_status-requires-clause-may g c = may_settle_now (state (g.S.Shelf.device c.self.inside.shelf) (core_of c.self.inside.session)) c.self.invariant.1 (subst (λ (v : g.row.S.Denot × Core). IsSettled v.1) (sym c.self.view_is) c.requires.settled)
 
 pub set_status-requires-clause-markable : goal.set_status-requires-clause-markable
-set_status-requires-clause-markable g c = unused_markable (core_of c.self.inside.session) (c.args.stale.now ++ c.args.fresh.now) c.self.invariant.2.fitting.valid c.self.invariant.2.fitting.rows
+set_status-requires-clause-markable g c = unused_markable (core_of c.self.inside.session) (c.args.stale.now ++ c.args.fresh.now) c.self.invariant.1.fitting.valid c.self.invariant.1.fitting.rows
     (subst (λ (v : g.row.S.Denot × Core). AreUnused v.1.descriptor (c.args.stale.now ++ c.args.fresh.now)) (sym c.self.view_is) c.requires.unused)
 
 pub invariant_of-self : goal.invariant_of-self
-invariant_of-self g c = (
-  rw (
-    status_most c.args.stale.now c.args.fresh.now c.args.patience.now.left c.set_status.new.patience.left
-        (state (g.S.Shelf.device c.self.inside.shelf) (core_of c.self.inside.session))
-        (state (g.S.Shelf.device c.set_status.new.shelf) (core_of c.set_status.new.self))
-        c.set_status.result c.set_status.ensures.does (subst (λ (v : g.row.S.Denot × Core). IsSettled v.1) (sym c.self.view_is) c.requires.settled) c.self.invariant.2,
-    c.set_status.ensures.capacity,
-  ) c.self.invariant.0,
-  c.set_status.ensures.bytes ∙ c.self.invariant.1,
-  status_sound c.args.stale.now c.args.fresh.now c.args.patience.now.left c.set_status.new.patience.left
-      (state (g.S.Shelf.device c.self.inside.shelf) (core_of c.self.inside.session))
-      (state (g.S.Shelf.device c.set_status.new.shelf) (core_of c.set_status.new.self))
-      c.set_status.result c.set_status.ensures.does (subst (λ (v : g.row.S.Denot × Core). IsSettled v.1) (sym c.self.view_is) c.requires.settled) c.self.invariant.2,
-)
+invariant_of-self g c =
+    let old = state (g.S.Shelf.device c.self.inside.shelf) (core_of c.self.inside.session) in
+    let new = state (g.S.Shelf.device c.set_status.new.shelf) (core_of c.set_status.new.session) in
+    let does = c.set_status.ensures.does in
+    let settled = subst (λ (v : g.row.S.Denot × Core). IsSettled v.1) (sym c.self.view_is) c.requires.settled in (
+      rooms_stay c.self.inside.session c.set_status.new.session c.self.invariant.0 c.set_status.ensures.rooms
+          (status_sizes c.args.stale.now c.args.fresh.now c.args.patience.now.left c.set_status.new.patience.left old new c.set_status.result does settled c.self.invariant.1),
+      status_sound c.args.stale.now c.args.fresh.now c.args.patience.now.left c.set_status.new.patience.left old new c.set_status.result does settled c.self.invariant.1,
+    )
 
 pub returns-clause-ends : goal.returns-clause-ends
 returns-clause-ends g c = rw (← c.self.view_is) (status_ends_so c.args.stale.now c.args.fresh.now c.args.patience.now.left c.set_status.new.patience.left
     (state (g.S.Shelf.device c.self.inside.shelf) (core_of c.self.inside.session))
-    (state (g.S.Shelf.device c.set_status.new.shelf) (core_of c.set_status.new.self))
-    c.set_status.result c.set_status.ensures.does (subst (λ (v : g.row.S.Denot × Core). IsSettled v.1) (sym c.self.view_is) c.requires.settled) c.self.invariant.2
+    (state (g.S.Shelf.device c.set_status.new.shelf) (core_of c.set_status.new.session))
+    c.set_status.result c.set_status.ensures.does (subst (λ (v : g.row.S.Denot × Core). IsSettled v.1) (sym c.self.view_is) c.requires.settled) c.self.invariant.1
     (subst (λ (v : g.row.S.Denot × Core). AreUnused v.1.descriptor (c.args.stale.now ++ c.args.fresh.now)) (sym c.self.view_is) c.requires.unused))
 
 pub returns-clause-nothing : goal.returns-clause-nothing
 returns-clause-nothing g c = rw (← c.self.view_is) (nothing_done c.args.stale.now c.args.fresh.now c.args.patience.now.left c.set_status.new.patience.left
     (state (g.S.Shelf.device c.self.inside.shelf) (core_of c.self.inside.session))
-    (state (g.S.Shelf.device c.set_status.new.shelf) (core_of c.set_status.new.self))
-    c.set_status.result c.set_status.ensures.does (subst (λ (v : g.row.S.Denot × Core). IsSettled v.1) (sym c.self.view_is) c.requires.settled) c.self.invariant.2)
+    (state (g.S.Shelf.device c.set_status.new.shelf) (core_of c.set_status.new.session))
+    c.set_status.result c.set_status.ensures.does (subst (λ (v : g.row.S.Denot × Core). IsSettled v.1) (sym c.self.view_is) c.requires.settled) c.self.invariant.1)
 
 pub returns-clause-marks : goal.returns-clause-marks
 returns-clause-marks g c = rw (← c.self.view_is) (restates c.args.stale.now c.args.fresh.now c.args.patience.now.left c.set_status.new.patience.left
     (state (g.S.Shelf.device c.self.inside.shelf) (core_of c.self.inside.session))
-    (state (g.S.Shelf.device c.set_status.new.shelf) (core_of c.set_status.new.self))
-    c.set_status.result c.set_status.ensures.does (subst (λ (v : g.row.S.Denot × Core). IsSettled v.1) (sym c.self.view_is) c.requires.settled) c.self.invariant.2
+    (state (g.S.Shelf.device c.set_status.new.shelf) (core_of c.set_status.new.session))
+    c.set_status.result c.set_status.ensures.does (subst (λ (v : g.row.S.Denot × Core). IsSettled v.1) (sym c.self.view_is) c.requires.settled) c.self.invariant.1
     (subst (λ (v : g.row.S.Denot × Core). AreUnused v.1.descriptor (c.args.stale.now ++ c.args.fresh.now)) (sym c.self.view_is) c.requires.unused))
 
 pub returns-clause-leaves : goal.returns-clause-leaves
 returns-clause-leaves g c = rw (← c.self.view_is) (status_leaves c.args.stale.now c.args.fresh.now c.args.patience.now.left c.set_status.new.patience.left
     (state (g.S.Shelf.device c.self.inside.shelf) (core_of c.self.inside.session))
-    (state (g.S.Shelf.device c.set_status.new.shelf) (core_of c.set_status.new.self))
-    c.set_status.result c.set_status.ensures.does (subst (λ (v : g.row.S.Denot × Core). IsSettled v.1) (sym c.self.view_is) c.requires.settled) c.self.invariant.2
+    (state (g.S.Shelf.device c.set_status.new.shelf) (core_of c.set_status.new.session))
+    c.set_status.result c.set_status.ensures.does (subst (λ (v : g.row.S.Denot × Core). IsSettled v.1) (sym c.self.view_is) c.requires.settled) c.self.invariant.1
     (subst (λ (v : g.row.S.Denot × Core). AreUnused v.1.descriptor (c.args.stale.now ++ c.args.fresh.now)) (sym c.self.view_is) c.requires.unused))
 
 pub returns-clause-fails : goal.returns-clause-fails
 returns-clause-fails g c = rw (← c.self.view_is) (status_fails c.args.stale.now c.args.fresh.now c.args.patience.now.left c.set_status.new.patience.left
     (state (g.S.Shelf.device c.self.inside.shelf) (core_of c.self.inside.session))
-    (state (g.S.Shelf.device c.set_status.new.shelf) (core_of c.set_status.new.self))
-    c.set_status.result c.set_status.ensures.does (subst (λ (v : g.row.S.Denot × Core). IsSettled v.1) (sym c.self.view_is) c.requires.settled) c.self.invariant.2)
+    (state (g.S.Shelf.device c.set_status.new.shelf) (core_of c.set_status.new.session))
+    c.set_status.result c.set_status.ensures.does (subst (λ (v : g.row.S.Denot × Core). IsSettled v.1) (sym c.self.view_is) c.requires.settled) c.self.invariant.1)

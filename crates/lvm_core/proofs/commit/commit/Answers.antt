@@ -1,0 +1,66 @@
+use Rattle.std.proofs.Common.{◌≡◌, Ok, ◌≤◌, ℕ, List, length, sym, ◌∙◌, ap, subst}
+use Rattle.lvm_num.specs.declared.record.Kind.TheVariants as kind
+use Rattle.lvm_num.specs.declared.descriptor.Descriptor.{Descriptor}
+use Rattle.lvm_num.specs.DescriptorBytes.{descriptor_bytes, descriptor_of}
+use Rattle.lvm_num.specs.Record.{longest_content}
+use Rattle.lvm_disk.specs.Device.{Device}
+use Rattle.lvm_vgda.proofs.Whole.{spelled_is_read}
+use Rattle.lvm_commit.specs.Settling.{MaySettle, IsOfCommit, CommitLeaves}
+use Rattle.lvm_core.proofs.Committing.{may_next}
+use Rattle.lvm_session.specs.declared.session.Session.{Session}
+use Rattle.lvm_session.specs.State.{state}
+use Rattle.lvm_session.specs.Fields.{core_of}
+use Rattle.lvm_core.specs.Steps.{CoreEnds}
+use Rattle.lvm_core.proofs.Ends.{descriptor_numbered, is_out, core_ends_with, status_ends, commits_descriptor}
+use Rattle.lvm_core.proofs.Sizes.{descriptor_fits}
+use Rattle.lvm_core.proofs.commit.commit.Goals as goal
+
+pub commit_descriptor-settled-requires-clause-content : goal.commit_descriptor-settled-requires-clause-content
+commit_descriptor-settled-requires-clause-content g c =
+    subst (λ (l : List ℕ). length l ≤ longest_content kind.Descriptor) (sym (c.as_slice.ensures ∙ c.into_parts-descriptor.ensures.bytes)) (descriptor_fits c.args.next c.into_parts-descriptor.ensures.valid)
+
+pub commit_descriptor-settled-requires-clause-may : goal.commit_descriptor-settled-requires-clause-may
+commit_descriptor-settled-requires-clause-may g c =
+    let device : Device = g.S.Shelf.device c.args.shelf.now in
+    subst (λ (d : Descriptor). MaySettle d c.take_buffer-buf.new.session.updater device) (sym c.into_parts-descriptor.ensures.descriptor)
+    (subst (λ (s : Session). MaySettle c.args.next s.updater device) (sym c.take_buffer-buf.ensures.taken)
+    (may_next c.args.session.now.descriptor c.args.next c.args.session.now.updater device c.requires.may c.into_parts-descriptor.ensures.valid c.requires.alike))
+
+pub commit_descriptor-settled-requires-clause-describes : goal.commit_descriptor-settled-requires-clause-describes
+commit_descriptor-settled-requires-clause-describes g c =
+    subst (λ (l : List ℕ). descriptor_of l ≡ Ok c.into_parts-descriptor.result.0) (sym (c.as_slice.ensures ∙ c.into_parts-descriptor.ensures.bytes))
+    (subst (λ (d : Descriptor). descriptor_of (descriptor_bytes c.args.next) ≡ Ok d) (sym c.into_parts-descriptor.ensures.descriptor) (spelled_is_read c.args.next c.into_parts-descriptor.ensures.valid))
+
+pub go_on_with-requires-clause-out : goal.go_on_with-requires-clause-out
+go_on_with-requires-clause-out g c =
+    let how = c.commit_descriptor-settled.result in
+    is_out how c.args.session.now.pool c.take_buffer-buf.new.session.pool (ap (λ (s : Session). s.pool) c.take_buffer-buf.ensures.taken) c.requires.fitting.a_buffer
+    (descriptor_numbered c.as_slice.result.now c.take_buffer-buf.result.number c.args.patience.now.left c.take_buffer-buf.new.session.updater c.commit_descriptor-settled.new.updater c.take_buffer-buf.new.session.homes c.commit_descriptor-settled.new.homes (g.S.Shelf.device c.args.shelf.now) (g.S.Shelf.device c.commit_descriptor-settled.new.shelf) how
+    c.take_buffer-buf.ensures.number c.commit_descriptor-settled.ensures.ends)
+
+pub returns-clause-does : goal.returns-clause-does
+returns-clause-does g c =
+    let self = c.args.session.now in
+    let taken = c.take_buffer-buf.new.session in
+    let wrote = c.commit_descriptor-settled in
+    let how = wrote.result in
+    let mid = core_of (record taken { updater = wrote.new.updater; homes = wrote.new.homes }) in
+    let left = core_of c.go_on_with.new.session in
+    let mid_is = ap (λ (s : Session). core_of (record s { updater = wrote.new.updater; homes = wrote.new.homes })) c.take_buffer-buf.ensures.taken in
+    let before = g.S.Shelf.device c.args.shelf.now in
+    let after = g.S.Shelf.device wrote.new.shelf in
+    let content = c.as_slice.result.now in
+    let number = descriptor_numbered content c.take_buffer-buf.result.number c.args.patience.now.left taken.updater wrote.new.updater taken.homes wrote.new.homes before after how c.take_buffer-buf.ensures.number wrote.ensures.ends in
+    let ends = c.go_on_with.ensures.ends in
+    let same = status_ends c.into_parts-descriptor.result.0 mid left how c.go_on_with.result ends in
+    commits_descriptor c.args.next content taken.updater wrote.new.updater taken.homes wrote.new.homes c.take_buffer-buf.result.number c.args.patience.now.left wrote.new.patience.left
+    (state before (core_of self)) (state after left) how c.go_on_with.result
+    c.into_parts-descriptor.ensures.valid (c.as_slice.ensures ∙ c.into_parts-descriptor.ensures.bytes) (ap (λ (s : Session). s.updater) c.take_buffer-buf.ensures.taken) (ap (λ (s : Session). s.homes) c.take_buffer-buf.ensures.taken) c.take_buffer-buf.ensures.number same.0 same.1
+    (record {
+      ends = wrote.ensures.ends;
+      leaves = subst (λ (d : Descriptor). CommitLeaves d (IsOfCommit content taken.updater wrote.new.updater) c.args.patience.now.left wrote.new.patience.left taken.updater wrote.new.updater before after) c.into_parts-descriptor.ensures.descriptor wrote.ensures.leaves;
+      finds = wrote.ensures.finds;
+      kept = wrote.ensures.kept;
+    })
+    (subst (λ (d : Descriptor). CoreEnds d (core_of self) left how c.go_on_with.result) c.into_parts-descriptor.ensures.descriptor
+    (core_ends_with (core_of self) mid left mid_is c.requires.buffers c.into_parts-descriptor.result.0 how c.go_on_with.result number ends))

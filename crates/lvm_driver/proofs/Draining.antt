@@ -1,0 +1,84 @@
+-- Turns until nothing may be made.
+use Rattle.std.proofs.Common.{◌≡◌, ◌≤◌, ◌<◌, ◌+◌, ◌-◌, ◌⊎◌, inl, inr, ℕ, zero, suc, List, [], ◌∷◌, length, refl, sym, ◌∙◌, ap, subst, arith}
+use Rattle.lvm_disk.specs.Counts.{RoseBy}
+use Rattle.lvm_disk.specs.Device.{Flight}
+use Rattle.lvm_disk.specs.Paths.{Here, Path, Then}
+use Rattle.lvm_disk.proofs.Rising.{rose_by_after, rose_by_more, rose_by_none}
+use Rattle.lvm_session.specs.declared.open.Power.TheVariants as power
+use Rattle.lvm_session.specs.State.{Core, State}
+use Rattle.lvm_session.specs.Enabled.{first_event}
+use Rattle.lvm_events.specs.declared.answers.Turned.{Turned}
+use Rattle.lvm_events.specs.declared.answers.Turned.TheVariants as turned
+use Rattle.lvm_events.specs.Turns.{Finds, FindsNothing, TurnMakes}
+use Rattle.lvm_sound.specs.Left.{left_of}
+use Rattle.lvm_driver.specs.Answers.{IsStill, TurnTells}
+use Rattle.lvm_driver.specs.Drains.{IsAny, IsDrained, IsTurn}
+use Rattle.lvm_driver.proofs.Stepping.{turn_counts}
+
+-- So far turns have been made, and the patience that is gone went with answers that nothing has ended.
+pub record Goes (first now : State) (patience left : ℕ) : Type 0 where
+  pub turns : Path IsTurn IsAny first now
+  pub unstuck : now.core.power ≡ power.Stuck → ⊥
+  pub fewer : left ≤ patience
+  pub waited : RoseBy (patience - left) first.device.counts.waits now.device.counts.waits
+
+pub begins : (first : State) (patience : ℕ) → (first.core.power ≡ power.Stuck → ⊥) → Goes first first patience patience
+begins first patience unstuck = record {
+  turns = Here tt;
+  unstuck = unstuck;
+  fewer = omega arith;
+  waited = let none : 0 ≡ patience - patience = omega arith in subst (λ n. RoseBy n first.device.counts.waits first.device.counts.waits) none (rose_by_none first.device.counts.waits);
+}
+
+none_out : (fs : List Flight) → length fs ≡ 0 → fs ≡ []
+none_out [] none = refl
+none_out (f ∷ fs) none = absurd (omega (arith, none))
+
+same_core : {old new : State} → Finds old new ⊎ FindsNothing old new → new.core ≡ old.core
+same_core (inl finds) = finds.is
+same_core (inr nothing) = ap (λ (s : State). s.core) nothing.is
+
+module _ (first old new : State) (patience left : ℕ) (so_far : Goes first old patience left) where
+  -- ---- one turn more
+
+  pub path : (answer : Turned) → TurnMakes old new answer → Path IsTurn IsAny first new
+  path answer made = Then so_far.turns (answer, made) tt
+
+  waited_on : (answer : Turned) → TurnMakes old new answer → RoseBy (patience - left) first.device.counts.waits new.device.counts.waits
+  waited_on answer made = rose_by_after so_far.waited (turn_counts old new answer made).waits
+
+  not_stuck : power.On ≡ power.Stuck → ⊥
+  not_stuck e = absurd (cc e)
+
+  pub moved : TurnMakes old new turned.Moved → TurnTells old new turned.Moved → Goes first new patience left
+  moved made tells = record { turns = path turned.Moved made; unstuck = λ stuck. not_stuck (sym tells.power_is ∙ stuck); fewer = so_far.fewer; waited = waited_on turned.Moved made }
+
+  pub waits : TurnMakes old new turned.Idle → TurnTells old new turned.Idle → (length new.device.flights ≡ 0 → ⊥) → 1 ≤ left → Goes first new patience (left - 1)
+  waits made tells out some = record {
+    turns = path turned.Idle made;
+    unstuck = λ stuck. not_stuck (sym tells.power_is ∙ stuck);
+    fewer = let few = so_far.fewer in omega (arith, few);
+    waited = by (tells.idle.0 refl).still;
+  }
+    where
+      by : Finds old new ⊎ FindsNothing old new → RoseBy (patience - (left - 1)) first.device.counts.waits new.device.counts.waits
+      by (inl finds) =
+          let few = so_far.fewer in
+          let more : patience - left + 1 ≡ patience - (left - 1) = omega (arith, few, some) in
+          subst (λ n. RoseBy n first.device.counts.waits new.device.counts.waits) more (rose_by_more so_far.waited finds.waits.waits)
+      by (inr nothing) = absurd (out (ap (λ (s : State). length s.device.flights) nothing.is ∙ ap length nothing.idle))
+
+  -- ---- the end
+
+  pub drained : TurnTells old new turned.Idle → length new.device.flights ≡ 0 → IsDrained new
+  drained tells none =
+      let still = tells.idle.0 refl in
+      record { on = tells.power_is; none = ap first_event (same_core still.still) ∙ still.none; idle = none_out new.device.flights none }
+
+-- ---- how long it takes
+
+pub less_by_move : (old new : State) (left : ℕ) → TurnTells old new turned.Moved → left_of new.core + left < left_of old.core + left
+less_by_move old new left tells = let less = tells.moved refl in omega (arith, less)
+
+pub less_by_wait : (old new : State) (left : ℕ) → TurnTells old new turned.Idle → 1 ≤ left → left_of new.core + (left - 1) < left_of old.core + left
+less_by_wait old new left tells some = let same = ap left_of (same_core (tells.idle.0 refl).still) in omega (arith, same, some)

@@ -1,0 +1,9 @@
+mod Frames
+mod Rooms
+mod Telling
+mod Driven
+mod Stepping
+mod Draining
+mod Causes
+pub mod Beginnings
+mod Closing

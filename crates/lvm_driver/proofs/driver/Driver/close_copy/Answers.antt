@@ -1,0 +1,12 @@
+use Rattle.std.proofs.Common.{◌≡◌, ℕ, sym, subst}
+use Rattle.lvm_events.specs.declared.answers.CopyState.TheVariants as stage
+use Rattle.lvm_events.specs.Calls.{copy_state}
+use Rattle.lvm_session.specs.Fields.{core_of}
+use Rattle.lvm_session.specs.State.{Core, state}
+use Rattle.lvm_driver.proofs.Driven.{close_on}
+use Rattle.lvm_driver.proofs.driver.Driver.close_copy.Goals as goal
+
+pub invariant_of-self : goal.invariant_of-self
+invariant_of-self g c =
+    let ended = subst (λ (v : g.row.S.Denot × Core). (cursor : ℕ) → copy_state v.1 ≡ stage.Running cursor → ⊥) (sym c.self.view_is) c.requires.ended in
+    close_on (g.S.Shelf.device c.self.inside.shelf) c.self.inside.session c.close_copy.new.session c.self.invariant (record { ended = ended; is = c.close_copy.ensures.closed }) c.close_copy.ensures.rooms

@@ -1,0 +1,35 @@
+use Rattle.std.proofs.Common.{arith}
+use Rattle.lvm_events.specs.declared.answers.Turned.TheVariants as turned
+use Rattle.lvm_driver.specs.Answers.{state_of}
+use Rattle.lvm_driver.proofs.Draining.{begins, moved, path, waits}
+use Rattle.lvm_driver.proofs.driver.Driver.drain.Goals as goal
+
+pub loop-patience-init : goal.loop-patience-init
+loop-patience-init g c = begins (state_of g.S.Shelf.device c.args.self.now) c.args.patience.now.left c.requires.unstuck
+
+pub loop-patience-preserved-in-Moved : goal.loop-patience-preserved-in-Moved
+loop-patience-preserved-in-Moved g c =
+    let device = g.S.Shelf.device in
+    moved (state_of device c.args.self.now) (state_of device c.loop-patience.self) (state_of device c.turn.new.self) c.args.patience.now.left c.loop-patience.patience.left c.loop-patience.invariant
+    c.in-Moved.ensures.makes c.in-Moved.ensures.tells
+
+pub loop-patience-preserved : goal.loop-patience-preserved
+loop-patience-preserved g c =
+    let device = g.S.Shelf.device in
+    let out = c.flights.ensures in
+    let some = c.if-flights-eq0.false in
+    let test = c.loop-patience-test.true in
+    waits (state_of device c.args.self.now) (state_of device c.loop-patience.self) (state_of device c.turn.new.self) c.args.patience.now.left c.loop-patience.patience.left c.loop-patience.invariant
+    c.in-Idle.ensures.makes c.in-Idle.ensures.tells (λ none. grind (arith, out, some, none)) (omega (arith, test))
+
+pub returns-in-Dark-clause-turns : goal.returns-in-Dark-clause-turns
+returns-in-Dark-clause-turns g c =
+    let device = g.S.Shelf.device in
+    path (state_of device c.args.self.now) (state_of device c.loop-patience.self) (state_of device c.turn.new.self) c.args.patience.now.left c.loop-patience.patience.left c.loop-patience.invariant
+    turned.Dark c.in-Dark.ensures.makes
+
+pub returns-in-Off-clause-turns : goal.returns-in-Off-clause-turns
+returns-in-Off-clause-turns g c =
+    let device = g.S.Shelf.device in
+    path (state_of device c.args.self.now) (state_of device c.loop-patience.self) (state_of device c.turn.new.self) c.args.patience.now.left c.loop-patience.patience.left c.loop-patience.invariant
+    turned.Off c.in-Off.ensures.makes

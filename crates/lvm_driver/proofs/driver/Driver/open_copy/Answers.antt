@@ -1,0 +1,13 @@
+use Rattle.std.proofs.Common.{◌≡◌, sym, subst}
+use Rattle.lvm_session.specs.declared.open.Power.TheVariants as power
+use Rattle.lvm_session.specs.Fields.{core_of}
+use Rattle.lvm_session.specs.State.{Core, state}
+use Rattle.lvm_driver.proofs.Causes.{is_off}
+use Rattle.lvm_driver.proofs.Driven.{open_on}
+use Rattle.lvm_driver.proofs.driver.Driver.open_copy.Goals as goal
+
+pub invariant_of-self : goal.invariant_of-self
+invariant_of-self g c = open_on (g.S.Shelf.device c.self.inside.shelf) c.self.inside.session c.open_copy.new.session c.args.lv c.args.lp c.args.number c.open_copy.result c.self.invariant (subst (λ (v : g.row.S.Denot × Core). v.1.power ≡ power.Stuck → ⊥) (sym c.self.view_is) c.requires.unstuck) c.open_copy.ensures.gives c.open_copy.ensures.rooms
+
+pub returns-clause-off : goal.returns-clause-off
+returns-clause-off g c = rw (← c.self.view_is) (is_off (state (g.S.Shelf.device c.self.inside.shelf) (core_of c.self.inside.session)) c.self.invariant.1)

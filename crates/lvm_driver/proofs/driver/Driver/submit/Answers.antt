@@ -1,0 +1,16 @@
+use Rattle.std.proofs.Common.{◌≡◌, sym, subst}
+use Rattle.lvm_session.specs.declared.open.Power.TheVariants as power
+use Rattle.lvm_session.specs.Fields.{core_of}
+use Rattle.lvm_session.specs.State.{Core, state}
+use Rattle.lvm_driver.proofs.Causes.{is_off}
+use Rattle.lvm_driver.proofs.Driven.{submit_on}
+use Rattle.lvm_driver.proofs.driver.Driver.submit.Goals as goal
+
+pub invariant_of-self : goal.invariant_of-self
+invariant_of-self g c = submit_on (g.S.Shelf.device c.self.inside.shelf) c.self.inside.session c.submit_request.new.session _ _ _ _ c.self.invariant (subst (λ (v : g.row.S.Denot × Core). v.1.power ≡ power.Stuck → ⊥) (sym c.self.view_is) c.requires.unstuck) c.requires.asks c.submit_request.ensures.gives c.submit_request.ensures.rooms
+
+pub returns-clause-off : goal.returns-clause-off
+returns-clause-off g c = rw (← c.self.view_is) (is_off (state (g.S.Shelf.device c.self.inside.shelf) (core_of c.self.inside.session)) c.self.invariant.1)
+
+pub returns-clause-gives : goal.returns-clause-gives
+returns-clause-gives g c = rw (← c.self.view_is) c.submit_request.ensures.gives

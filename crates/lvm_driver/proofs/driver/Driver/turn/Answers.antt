@@ -1,0 +1,15 @@
+use Rattle.std.proofs.Common.{◌≡◌}
+use Rattle.lvm_session.specs.Fields.{core_of}
+use Rattle.lvm_session.specs.State.{state}
+use Rattle.lvm_driver.proofs.Driven.{turn_on}
+use Rattle.lvm_driver.proofs.Telling.{turn_tells}
+use Rattle.lvm_driver.proofs.driver.Driver.turn.Goals as goal
+
+pub invariant_of-self : goal.invariant_of-self
+invariant_of-self g c = turn_on (g.S.Shelf.device c.self.inside.shelf) (g.S.Shelf.device c.turn.new.shelf) c.self.inside.session c.turn.new.session c.turn.result c.self.invariant c.turn.ensures.makes c.turn.ensures.rooms
+
+pub returns-clause-tells : goal.returns-clause-tells
+returns-clause-tells g c = rw (← c.self.view_is) (turn_tells (state (g.S.Shelf.device c.self.inside.shelf) (core_of c.self.inside.session)) (state (g.S.Shelf.device c.turn.new.shelf) (core_of c.turn.new.session)) c.self.invariant.1 c.turn.result c.turn.ensures.makes)
+
+pub returns-clause-makes : goal.returns-clause-makes
+returns-clause-makes g c = rw (← c.self.view_is) c.turn.ensures.makes

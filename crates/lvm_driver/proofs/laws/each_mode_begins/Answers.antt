@@ -1,0 +1,5 @@
+use Rattle.lvm_driver.proofs.Beginnings.{each_mode_begins}
+use Rattle.lvm_driver.proofs.laws.each_mode_begins.Goals as goal
+
+pub returns : goal.returns
+returns c = each_mode_begins

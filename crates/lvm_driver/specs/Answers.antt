@@ -1,0 +1,58 @@
+-- What the answers of a driver say.
+use Rattle.std.specs.Prelude.{◌≡◌, ◌⊎◌, ◌↔◌, ◌<◌, ℕ, true, None, find, IfSome}
+use Rattle.lvm_disk.specs.Device.{Device}
+use Rattle.lvm_session.specs.declared.bringing.OpenCopy.{OpenCopy}
+use Rattle.lvm_session.specs.declared.open.Power.{Power}
+use Rattle.lvm_session.specs.declared.open.Power.TheVariants as power
+use Rattle.lvm_session.specs.Enabled.{first_event, is_lost}
+use Rattle.lvm_session.specs.Judging.{copies_in}
+use Rattle.lvm_session.specs.State.{Core, State, state}
+use Rattle.lvm_events.specs.declared.answers.Turned.{Turned}
+use Rattle.lvm_events.specs.declared.answers.Turned.TheVariants as turned
+use Rattle.lvm_events.specs.Calls.{is_asked}
+use Rattle.lvm_events.specs.Turns.{Finds, FindsNothing}
+use Rattle.lvm_sound.specs.Causes.{AnyFailedSince, IsAnswered, IsCopyCaused as IsCausedAmong}
+use Rattle.lvm_sound.specs.Left.{left_of}
+use Rattle.lvm_sound.specs.Sound.{IsOver}
+use Rattle.lvm_keeps_turn.specs.Turning.{is_last}
+
+-- the state of a driver, by the device that its shelf is
+abbrev pub state_of : {S : Type 0} → (S → Device) → S × Core → State
+state_of device driver = state (device driver.0) driver.1
+
+-- ---- a turn
+
+-- whether the session goes on behind a turn that answers so
+abbrev pub power_by : Turned → Power
+power_by turned.Moved = power.On
+power_by turned.Idle = power.On
+power_by turned.Dark = power.Dark
+power_by turned.Off = power.Off
+
+-- no event may be made, and no transfer is out or none has ended
+pub record IsStill (old new : State) : Type 0 where
+  pub on : old.core.power ≡ power.On
+  pub none : first_event old.core ≡ None
+  pub still : Finds old new ⊎ FindsNothing old new
+
+-- A turn answers Dark or Off exactly where the session is over by a power cut or by lost votes, Idle exactly where nothing may be made, and Moved where less
+-- work is left. Once it is over each request has landed and nothing is out.
+pub record TurnTells (old new : State) (answer : Turned) : Type 0 where
+  pub power_is : new.core.power ≡ power_by answer
+  pub idle : (answer ≡ turned.Idle) ↔ IsStill old new
+  pub moved : answer ≡ turned.Moved → left_of new.core < left_of old.core
+  pub over : is_last answer ≡ true → IsOver new
+
+-- ---- causes
+
+-- the votes are lost where the session is off, and some disk has failed since it began
+abbrev pub IsOffSince : State → Type 0
+IsOffSince s = s.core.power ≡ power.Off → (is_lost s.core ≡ true) × AnyFailedSince s
+
+-- why this client's request of this number landed as it did, where it has
+abbrev pub IsCausedFor : State → ℕ → ℕ → Type 0
+IsCausedFor s client id = IfSome (find (is_asked client id) s.core.requests) (IsAnswered s)
+
+-- why the copy that is open ended as failed, where it has
+abbrev pub IsCopyCaused : State → Type 0
+IsCopyCaused s = IfSome s.core.copy (λ (c : OpenCopy). IsCausedAmong s (copies_in s.core.descriptor c.lv c.lp) c)

@@ -1,0 +1,41 @@
+-- Turns until nothing may be made.
+use Rattle.std.specs.Prelude.{◌≡◌, ℕ, [], true, None, Result, Ok, Err}
+use Rattle.lvm_num.specs.Votes.{total_votes}
+use Rattle.lvm_session.specs.declared.open.Power.TheVariants as power
+use Rattle.lvm_session.specs.Enabled.{first_event, is_lost}
+use Rattle.lvm_session.specs.State.{State, votes_there}
+use Rattle.lvm_events.specs.declared.answers.Turned.{Turned}
+use Rattle.lvm_events.specs.Turns.{TurnMakes}
+use Rattle.lvm_driver.specs.declared.drain.DrainFault.{DrainFault}
+use Rattle.lvm_driver.specs.declared.drain.DrainFault.TheVariants as fault
+
+-- a turn, whatever it answers
+abbrev pub IsTurn : State → State → Type 0
+IsTurn old new = (answer : Turned) × TurnMakes old new answer
+
+-- at each moment it is whatever turns make of it
+abbrev pub IsAny : State → Type 0
+IsAny s = Unit {0}
+
+-- the session goes on, no event may be made, and no transfer is out
+pub record IsDrained (s : State) : Type 0 where
+  pub on : s.core.power ≡ power.On
+  pub none : first_event s.core ≡ None
+  pub idle : s.device.flights ≡ []
+
+-- the votes are lost, of which there are so many
+pub record IsOffWith (s : State) (have total : ℕ) : Type 0 where
+  pub power_is : s.core.power ≡ power.Off
+  pub have_is : have ≡ votes_there s.core
+  pub total_is : total ≡ total_votes s.core.descriptor
+
+-- why it ends, with so much patience left
+abbrev pub FailsSo : ℕ → State → DrainFault → Type 0
+FailsSo left s fault.Dark = s.core.power ≡ power.Dark
+FailsSo left s (fault.WentOff have total) = IsOffWith s have total
+FailsSo left s fault.Stuck = left ≡ 0
+
+-- Nothing is left to be made; or the session is over; or the patience has run out.
+abbrev pub DrainEnds : ℕ → State → Result (Unit {0}) DrainFault → Type 0
+DrainEnds left s (Ok done) = IsDrained s
+DrainEnds left s (Err why) = FailsSo left s why

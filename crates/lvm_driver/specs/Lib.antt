@@ -1,0 +1,4 @@
+pub mod Answers
+pub mod Beginnings
+pub mod Drains
+pub mod Showing

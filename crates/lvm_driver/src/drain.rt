@@ -1,0 +1,63 @@
+//! Turns until nothing may be made.
+ghost use Rattle.std.specs.Prelude.{◌≡◌, ◌≤◌, ◌-◌};
+ghost use Rattle.lvm_disk.specs.Counts.{RoseBy};
+ghost use Rattle.lvm_disk.specs.Paths.{Path};
+ghost use Rattle.lvm_num.specs.Votes.{total_votes};
+ghost use Rattle.lvm_session.specs.declared.open.Power.TheVariants as power;
+ghost use Rattle.lvm_session.specs.State.{votes_there};
+ghost use Rattle.lvm_driver.specs.declared.drain.DrainFault.TheVariants as fault;
+ghost use Rattle.lvm_driver.specs.Answers.{state_of};
+ghost use Rattle.lvm_driver.specs.Drains.{DrainEnds, IsAny, IsTurn};
+
+use crate::driver::Driver;
+use lvm_disk::Shelf;
+use lvm_events::Turned;
+use lvm_transfer::Patience;
+
+/// Why the turns ended before nothing was left to be made.
+#[derive(Clone, Copy, Debug, PartialEq, Eq)]
+pub enum DrainFault {
+    /// The power is off, and the session is over.
+    Dark,
+    /// The members that aren't missing have too few votes to write, so many of so many, and the session is over.
+    WentOff { have: u32, total: u32 },
+    /// Nothing was heard of the transfers that are out until the patience had run out.
+    Stuck,
+}
+
+impl<S: Shelf> Driver<S> {
+    /// Makes turns until no event may be made and no transfer is out.
+    ///
+    /// # Errors
+    ///
+    /// Where the session is over, or was, and where the patience has run out.
+    pub fn drain(&mut self, patience: &mut Patience) -> Result<(), DrainFault>
+        requires unstuck { self.old.1.power ≡ power.Stuck → ⊥ }
+        ensures turns { Path IsTurn IsAny (state_of S.device self.old) (state_of S.device self.new) }
+        ensures ends { DrainEnds patience.new.left (state_of S.device self.new) result }
+        ensures patience { patience.new.left ≤ patience.old.left }
+        ensures waited { RoseBy (patience.old.left - patience.new.left) (S.device self.old.0).counts.waits (S.device self.new.0).counts.waits }
+    {
+        while patience.left > 0 {
+            match self.turn() {
+                Turned::Moved => {}
+                Turned::Idle => {
+                    if self.flights() == 0 {
+                        return Ok(());
+                    }
+                    patience.left -= 1;
+                }
+                Turned::Dark => return Err(DrainFault::Dark),
+                Turned::Off => return Err(self.went_off()),
+            }
+        }
+        Err(DrainFault::Stuck)
+    }
+
+    fn went_off(&self) -> DrainFault
+        ensures { result ≡ fault.WentOff (votes_there self.now.1) (total_votes self.now.1.descriptor) }
+    {
+        let (have, total) = self.votes();
+        DrainFault::WentOff { have, total }
+    }
+}

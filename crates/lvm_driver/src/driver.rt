@@ -1,0 +1,267 @@
+//! A session over its shelf.
+ghost use Rattle.std.specs.Prelude.{◌≡◌, ◌≤◌, ◌<◌, ◌+◌, ◌^◌, ℕ, false, Some, [], length, option_copied, slice_get};
+ghost use Rattle.std.specs.List.{list_any};
+ghost use Rattle.lvm_num.specs.Descriptor.{IsValid};
+ghost use Rattle.lvm_num.specs.Votes.{total_votes};
+ghost use Rattle.lvm_disk.specs.Steps.{MayArrange};
+ghost use Rattle.lvm_vol.specs.Log.{is_open, spare_entries};
+ghost use Rattle.lvm_session.specs.declared.open.Power.TheVariants as power;
+ghost use Rattle.lvm_session.specs.Judging.{is_waiting};
+ghost use Rattle.lvm_session.specs.State.{votes_there};
+ghost use Rattle.lvm_events.specs.declared.answers.CopyState.TheVariants as stage;
+ghost use Rattle.lvm_events.specs.Calls.{OpenGives, SubmitGives, TakeGives, closed, copy_state};
+ghost use Rattle.lvm_events.specs.Turns.{Arranges, TurnMakes};
+ghost use Rattle.lvm_sound.specs.Asking.{IsAsking};
+ghost use Rattle.lvm_sound.specs.Left.{left_of};
+ghost use Rattle.lvm_sound.specs.Sound.{IsSound};
+ghost use Rattle.lvm_keeps.specs.Falls.{most_left};
+ghost use Rattle.lvm_copy_open.specs.Opening.{counts_seen};
+ghost use Rattle.lvm_session_start.specs.Beginning.{AreFaults, MayBegin, first_core};
+ghost use Rattle.lvm_driver.specs.Answers.{IsCausedFor, IsCopyCaused, IsOffSince, TurnTells, state_of};
+
+use lvm_calls::{close_copy, copy_state, take};
+use lvm_copy_open::open_copy;
+use lvm_disk::{Arrange, Shelf};
+use lvm_events::{AskFault, CopyFault, CopyState, Taken, Turned};
+use lvm_history::History;
+use lvm_num::{Descriptor, Stamp};
+use lvm_orders::arrange;
+use lvm_path::Ask;
+use lvm_session::{Power, Session};
+use lvm_session_start::{Parts, begin_session};
+use lvm_session_turn::turn;
+use lvm_stale::StaleTable;
+use lvm_submit::submit_request;
+use lvm_work_left::left;
+use lvm_write::Homes;
+use std::marker::Model;
+
+/// A group that is varied on, over its shelf. Clients submit requests to it and take their answers; what is done
+/// about them is done by turns, one event at a time. No call of it takes memory.
+#[derive(Drop)]
+pub struct Driver<S: Shelf> {
+    shelf: S,
+    session: Session,
+}
+
+impl<S: Shelf> Model for Driver<S> {
+    ghost use Rattle.lvm_session.specs.Fields.{core_of};
+    ghost use Rattle.lvm_session.specs.Rooms.{HasRooms};
+    ghost use Rattle.lvm_session.specs.State.{Core, state};
+    ghost use Rattle.lvm_sound.specs.Sound.{IsSound};
+
+    ghost Value = { S × Core };
+
+    ghost view = { λ d. (d.shelf, core_of d.session) };
+
+    ghost invariant = { λ d. HasRooms d.session × IsSound (state (S.device d.shelf) (core_of d.session)) };
+}
+
+impl<S: Shelf> Driver<S> {
+    /// Varies the group on: the session begins at the moment that is the epoch of the stamp, which is that of the last
+    /// record that was written; `homes` are the slots to which the next ones go.
+    pub fn start(parts: Parts, shelf: S, history: History, stamp: Stamp, homes: Homes) -> Driver<S>
+        requires spare { 1 ≤ spare_entries history }
+        requires may { MayBegin (S.device shelf) history stamp homes parts }
+        ensures shelf { result.0 ≡ shelf }
+        ensures core { result.1 ≡ first_core parts history stamp homes result.1.origin.faults }
+        ensures faults { AreFaults (S.device shelf) result.1.origin.faults }
+    {
+        let session = begin_session(parts, &shelf, history, stamp, homes);
+        Driver { shelf, session }
+    }
+
+    /// Submits a request of a client, a write with its bytes. It is open under the number that is answered, from 1,
+    /// until its answer is taken.
+    ///
+    /// # Errors
+    ///
+    /// Those of `AskFault`, in their order; nothing changes then.
+    pub fn submit(&mut self, client: u32, ask: Ask, bytes: Option<&[u8]>) -> Result<u64, AskFault>
+        requires unstuck { self.old.1.power ≡ power.Stuck → ⊥ }
+        requires asks { IsAsking ask (option_copied bytes) }
+        ensures shelf { self.new.0 ≡ self.old.0 }
+        ensures gives { SubmitGives self.old.1 self.new.1 client ask (option_copied bytes.entry) result }
+        ensures off { IsOffSince (state_of S.device self.old) }
+    {
+        submit_request(&mut self.session, client, ask, bytes)
+    }
+
+    /// Makes one turn. The first event that may be made is: a request lands, is admitted or pins its track group, or
+    /// a transfer is started. Where there is none one of the transfers that are out ends, and its owner learns it.
+    pub fn turn(&mut self) -> Turned
+        requires unstuck { self.old.1.power ≡ power.Stuck → ⊥ }
+        ensures makes { TurnMakes (state_of S.device self.old) (state_of S.device self.new) result }
+        ensures tells { TurnTells (state_of S.device self.old) (state_of S.device self.new) result }
+    {
+        turn(&mut self.session, &mut self.shelf)
+    }
+
+    /// Takes the answer of a client's request of this number, which goes with it. `NotYet` where it hasn't landed,
+    /// and `Unknown` where no such request of this client is open; both change nothing.
+    pub fn take(&mut self, client: u32, id: u64) -> Taken
+        ensures shelf { self.new.0 ≡ self.old.0 }
+        ensures gives { TakeGives self.old.1 self.new.1 client id result }
+        // Why it landed so, where it has.
+        ensures caused { IsCausedFor (state_of S.device self.old) client id }
+    {
+        take(&mut self.session, client, id)
+    }
+
+    /// How much work is left: each turn that has moved leaves less, and nothing is left once the session is over.
+    pub fn left(&self) -> u64
+        ensures is { result ≡ left_of self.now.1 }
+        ensures most { result ≤ most_left self.now.1 }
+    {
+        left(&self.session)
+    }
+
+    /// Opens a copy, from 1, of a logical partition, from 0, of a volume, which is brought up from then on.
+    ///
+    /// # Errors
+    ///
+    /// Those of `CopyFault`, in their order; nothing changes then.
+    pub fn open_copy(&mut self, lv: u16, lp: u32, number: u8) -> Result<(), CopyFault>
+        requires unstuck { self.old.1.power ≡ power.Stuck → ⊥ }
+        ensures shelf { self.new.0 ≡ self.old.0 }
+        ensures gives { OpenGives (counts_seen (S.device self.old.0) self.old.1) self.old.1 self.new.1 lv lp number result }
+        ensures off { IsOffSince (state_of S.device self.old) }
+    {
+        open_copy(&mut self.session, &self.shelf, lv, lp, number)
+    }
+
+    /// How far the copy is that is open.
+    pub fn copy_state(&self) -> CopyState
+        ensures is { result ≡ copy_state self.now.1 }
+        // Why it failed, where it has.
+        ensures caused { IsCopyCaused (state_of S.device self.now) }
+    {
+        copy_state(&self.session)
+    }
+
+    /// Closes the copy that is open, which isn't one that is running.
+    pub fn close_copy(&mut self)
+        requires ended { (cursor : ℕ) → copy_state self.old.1 ≡ stage.Running cursor → ⊥ }
+        ensures shelf { self.new.0 ≡ self.old.0 }
+        ensures closed { self.new.1 ≡ closed self.old.1 }
+    {
+        close_copy(&mut self.session)
+    }
+
+    /// Gives an order to the shelf: a disk fails or heals, or the power is cut, which ends the session. Answers
+    /// whether the shelf takes such orders; one that doesn't changes nothing.
+    pub fn arrange(&mut self, what: Arrange) -> bool
+        requires { MayArrange (S.device self.old.0) what }
+        ensures { Arranges (state_of S.device self.old) (state_of S.device self.new) what result }
+    {
+        arrange(&mut self.session, &mut self.shelf, what)
+    }
+
+    /// Whether the session goes on.
+    pub fn power(&self) -> Power
+        ensures is { result ≡ self.now.1.power }
+        // What holds of the session at every moment.
+        ensures sound { IsSound (state_of S.device self.now) }
+    {
+        self.session.power
+    }
+
+    /// How many transfers are out.
+    pub fn flights(&self) -> u32
+        ensures { result ≡ length (S.device self.now.0).flights }
+    {
+        self.shelf.flights()
+    }
+
+    /// How many disks its shelf has.
+    pub fn disks(&self) -> u16
+        ensures number { result ≡ length (S.device self.now.0).sizes }
+        ensures some { (1 ≤ result) × (result ≤ 128) }
+    {
+        self.shelf.disks()
+    }
+
+    /// How many sectors a disk of its shelf has.
+    pub fn sectors(&self, disk: u16) -> u64
+        requires { disk < length (S.device self.now.0).sizes }
+        ensures { slice_get (S.device self.now.0).sizes disk ≡ Some result }
+    {
+        self.shelf.sectors(disk)
+    }
+
+    /// How many sequence numbers are left for the stamps of this session's records.
+    pub fn numbers_left(&self) -> u32
+        ensures { result + self.now.1.status.stamp.seq + 1 ≡ 2 ^ 32 }
+    {
+        u32::MAX - self.session.updater.stamp().seq
+    }
+
+    /// The committed descriptor.
+    pub fn descriptor(&self) -> &Descriptor
+        ensures same { result.now ≡ self.now.1.descriptor }
+        ensures valid { IsValid result.now }
+    {
+        &self.session.descriptor
+    }
+
+    /// The committed status.
+    pub fn table(&self) -> &StaleTable
+        ensures { result.now ≡ self.now.1.status.committed }
+    {
+        self.session.updater.committed()
+    }
+
+    /// How many requests are open: submitted, and their answers not taken.
+    pub fn open(&self) -> u32
+        ensures { result ≡ length self.now.1.requests }
+    {
+        self.session.requests.len() as u32
+    }
+
+    /// The votes of the members that aren't missing, and those of all. A disk is missing from the moment on at which
+    /// a write of a record to it has failed.
+    pub fn votes(&self) -> (u32, u32)
+        ensures have { result.0 ≡ votes_there self.now.1 }
+        ensures total { result.1 ≡ total_votes self.now.1.descriptor }
+    {
+        self.session.updater.votes()
+    }
+
+    /// What was asked and answered so far.
+    pub fn history(&self) -> &History
+        ensures { result.now ≡ self.now.1.history }
+    {
+        &self.session.history
+    }
+
+    /// Ends the session without a write. After a power cut the buffers that it gave up are taken back; transfers that
+    /// are still out stay with the shelf, with their buffers.
+    pub fn close(self) -> Closed<S>
+        ensures shelf { S.device result.shelf ≡ record (S.device self.0) { freed = [] } }
+        ensures history { result.history ≡ self.1.history }
+        // Where no request waited, each that the history tells of has landed.
+        ensures landed { list_any is_waiting self.1.requests ≡ false → (id : ℕ) → is_open result.history.facts id ≡ false }
+    {
+        let Driver { shelf, session } = self;
+        Closed {
+            shelf: without_freed(shelf),
+            history: session.history,
+        }
+    }
+}
+
+// Takes back the buffers that a power cut made the shelf give up.
+fn without_freed<S: Shelf>(shelf: S) -> S
+    ensures { S.device result ≡ record (S.device shelf) { freed = [] } }
+{
+    let mut shelf = shelf;
+    while let Some(_) = shelf.next_freed() {}
+    shelf
+}
+
+/// What is left of a session.
+#[derive(Drop)]
+pub struct Closed<S> {
+    pub shelf: S,
+    pub history: History,
+}
