@@ -12,7 +12,7 @@ pub fn waiting_are_tied()
     ensures { WaitingAreTied }
 {}
 
-/// So it is once the write is admitted.
+/// So it is once the write is admitted, where its volume need not be wanted dirty.
 pub fn admitted_are_tied()
     ensures { AdmittedAreTied }
 {}
