@@ -90,10 +90,15 @@ targets mode stale = map (target_at (waiting mode stale) a_write) (aims (waiting
 abbrev pub admitted : Mode → Bool → State
 admitted mode stale = state (waiting mode stale).device (after_admission (waiting mode stale).core 0 (new_open 1 0 a_write 0) (targets mode stale) [])
 
--- So it is then, where the volume needn't be wanted dirty.
+-- a passive volume of which two copies are fresh is wanted dirty with it
+abbrev pub marked : State
+marked = let s = admitted Passive false in state s.device (record s.core { status = record s.core.status { wanted = record (table Passive false) { dirty = 1 ∷ [] } } })
+
+-- So it is then.
 pub record AdmittedAreTied : Type 0 where
   pub active : (stale : Bool) → IsTied (making Active) (admitted Active stale)
   pub passive : IsTied (making Passive) (admitted Passive true)
+  pub dirty : IsTied (making Passive) marked
   pub off : (stale : Bool) → IsTied (making Off) (admitted Off stale)
 
 -- Of a volume that keeps no record, whose copies are fresh: the transfer to the first one is out, and the one to the second waits for a buffer.

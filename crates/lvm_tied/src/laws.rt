@@ -12,7 +12,7 @@ pub fn waiting_are_tied()
     ensures { WaitingAreTied }
 {}
 
-/// So it is once the write is admitted, where its volume need not be wanted dirty.
+/// So it is once the write is admitted, also where its volume is wanted dirty with it.
 pub fn admitted_are_tied()
     ensures { AdmittedAreTied }
 {}
