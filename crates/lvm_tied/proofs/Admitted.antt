@@ -45,14 +45,14 @@ unfolding votes_by has_bit has
 off stale = record { request = new_open 1 0 a_write 0; there = refl; admits = next_is Off stale; targets = targets Off stale; order = []; chosen = (refl, refl); dirty = refl; is = refl }
 
 -- the status that is wanted is one that a record may state
-abbrev dirty_table : Status
+abbrev pub dirty_table : Status
 dirty_table = marked.core.status.wanted
 
 rows_rise : AllPairs (λ (a b : StatusRow). a.disk < b.disk) dirty_table.rows
 rows_rise = AllPairs-cons (λ (a b : StatusRow). a.disk < b.disk) (row_of 0 false) (row_of 1 false ∷ []) (All-cons (λ (b : StatusRow). 0 < b.disk) (row_of 1 false) [] (omega arith) (All-nil (λ (b : StatusRow). 0 < b.disk)))
     (λ i j d lt within. absurd (omega (arith, lt, within)))
 
-valid : IsValidStatus dirty_table
+pub valid : IsValidStatus dirty_table
 valid = record {
   some_id = λ e. omega (arith, e);
   id = omega arith;
@@ -99,6 +99,9 @@ module _ (mode : Mode) (stale : Bool) (new : State) (admits : Admits (waiting mo
 
 pub off_is_sound : (stale : Bool) → IsSound (admitted Off stale)
 off_is_sound stale = is_sound Off stale (admitted Off stale) (off stale)
+
+pub marked_is_sound : IsSound marked
+marked_is_sound = is_sound Passive false marked dirty
 
 pub admitted_are_tied : AdmittedAreTied
 admitted_are_tied = record { active = λ stale. ties Active stale (admitted Active stale) (active stale); passive = ties Passive true (admitted Passive true) passive; dirty = ties Passive false marked dirty; off = λ stale. ties Off stale (admitted Off stale) (off stale) }

@@ -5,3 +5,4 @@ pub mod Worked
 pub mod Waiting
 pub mod Admitted
 pub mod Writing
+pub mod Updating

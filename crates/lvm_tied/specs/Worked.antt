@@ -5,6 +5,11 @@ use Rattle.lvm_num.specs.declared.descriptor.Mode.TheVariants.{Active, Passive, 
 use Rattle.lvm_num.specs.declared.status.Status.{Status}
 use Rattle.lvm_num.specs.declared.descriptor.Policy.TheVariants.{Parallel}
 use Rattle.lvm_num.specs.Buffer.{zero_sector}
+use Rattle.lvm_num.specs.declared.record.Kind.TheVariants as kind
+use Rattle.lvm_num.specs.StatusBytes.{status_bytes}
+use Rattle.lvm_num.specs.Record.{frame, slot_start}
+use Rattle.lvm_status.specs.declared.writes.Writes.{Writes}
+use Rattle.lvm_status.specs.Update.{Stored}
 use Rattle.lvm_num.specs.Geometry.{data_start}
 use Rattle.lvm_disk.specs.Device.{Device, Flight}
 use Rattle.lvm_vol.specs.Facts.{Fact}
@@ -13,7 +18,7 @@ use Rattle.lvm_mwc.specs.Cache.{no_notes}
 use Rattle.lvm_path.specs.declared.ask.Ask.{Ask}
 use Rattle.lvm_path.specs.declared.ask.Ask.TheVariants.{Write}
 use Rattle.lvm_path.specs.declared.target.Target.{Target}
-use Rattle.lvm_session.specs.declared.flown.Owner.TheVariants.{Data}
+use Rattle.lvm_session.specs.declared.flown.Owner.TheVariants as owner
 use Rattle.lvm_session.specs.declared.open.Power.TheVariants as power
 use Rattle.lvm_session.specs.State.{Core, State, state}
 use Rattle.lvm_session.specs.Judging.{aims}
@@ -110,8 +115,32 @@ launched = let old = device_of (shown Off false) [] in record old { flights = tr
 
 abbrev pub writing : State
 writing = let core = (admitted Off false).core in
-    state launched (record (with_flight (with_open core 0 (begun_as 0 (admitted_as Parallel Off (targets Off false) (new_open 1 0 a_write 0)))) transfer (Data 1 0)) { pool = true ∷ [] })
+    state launched (record (with_flight (with_open core 0 (begun_as 0 (admitted_as Parallel Off (targets Off false) (new_open 1 0 a_write 0)))) transfer (owner.Data 1 0)) { pool = true ∷ [] })
 
 -- So it is then.
 abbrev pub WritingIsTied : Type 0
 WritingIsTied = IsTied (making Off) writing
+
+-- Of a passive volume that is wanted dirty: the first write of the status by which it is dirty is out, to the second slot of the first disk.
+abbrev pub record_write : Flight
+record_write = record {
+  ticket = 1;
+  disk = 0;
+  first = slot_start kind.Status 1;
+  count = 1;
+  write = true;
+  buf = record { number = 0; sectors = frame kind.Status (record { epoch = 50; seq = 3 }) (status_bytes marked.core.status.wanted) 0 ∷ replicate 255 zero_sector };
+}
+
+abbrev pub recording : Device
+recording = record marked.device { flights = record_write ∷ []; counts = record marked.device.counts { starts = λ d. if d == 0 then 1 else 0 } }
+
+abbrev pub updated : Writes → Stored
+updated writes = record marked.core.status { in_flight = Some marked.core.status.wanted; writes = writes; stamp = record { epoch = 50; seq = 3 } }
+
+abbrev pub updating : State
+updating = state recording (record (with_flight marked.core record_write (owner.Status 0)) { status = updated (record { unstarted = 2; started = 1; written = 0; failed = 0 }); pool = true ∷ [] })
+
+-- So it is then.
+abbrev pub UpdatingIsTied : Type 0
+UpdatingIsTied = IsTied (making Passive) updating

@@ -1,5 +1,5 @@
 //! Laws of sessions that are worked by hand. Each call does nothing: its contract is the law.
-ghost use Rattle.lvm_tied.specs.Worked.{AdmittedAreTied, BeginningsAreTied, WaitingAreTied, WritingIsTied};
+ghost use Rattle.lvm_tied.specs.Worked.{AdmittedAreTied, BeginningsAreTied, UpdatingIsTied, WaitingAreTied, WritingIsTied};
 
 /// A session that has just begun, over two disks that mirror a volume and hold its records, is tied, in each mode, with a stale
 /// copy or without.
@@ -20,4 +20,9 @@ pub fn admitted_are_tied()
 /// So it is once the transfer to the first copy is out, of a volume that keeps no record.
 pub fn writing_is_tied()
     ensures { WritingIsTied }
+{}
+
+/// So it is once the first write of the status is out by which a passive volume is dirty.
+pub fn updating_is_tied()
+    ensures { UpdatingIsTied }
 {}
