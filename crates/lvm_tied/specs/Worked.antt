@@ -1,4 +1,4 @@
--- A session that has just begun, worked by hand: over two disks that mirror a volume and hold its records. (That what is asked of a tied session can be met.)
+-- Sessions worked by hand: one that has just begun, over two disks that mirror a volume and hold its records, and what follows. (That what is asked of a tied session can be met.)
 use Rattle.std.specs.Prelude.{ℕ, Bool, false, true, ◌==◌, if◌then◌else◌, List, [], ◌∷◌, Option, Some, None, map, replicate}
 use Rattle.lvm_num.specs.declared.descriptor.Mode.{Mode}
 use Rattle.lvm_num.specs.declared.descriptor.Mode.TheVariants.{Active, Passive, Off}
