@@ -68,7 +68,7 @@ none_at zero x e = absurd cc
 none_at (suc k) x e = absurd cc
 
 module _ (mode : Mode) (stale : Bool) where
-  there : (d : ℕ) → is_there (core_of mode stale) d ≡ two_disks d
+  pub there : (d : ℕ) → is_there (core_of mode stale) d ≡ two_disks d
   there d = ap (λ (t : Bool). is_member (two mode) d && not t) (none_missing mode stale d) ∙ by (0 == d) (1 == d) ∙ (λ t. swapped 0 d t || swapped 1 d t)
     where
       by : (a b : Bool) → (a || (b || false)) && true ≡ a || b

@@ -22,7 +22,7 @@ module _ (mode : Mode) (stale : Bool) where
   awake : IsAwake (core_of mode stale)
   awake = let sound = is_sound mode stale in record { fitting = sound.fitting; going = λ on. (sound.on on).going; unstuck = λ e. absurd cc }
 
-  still_sound : IsSound (waiting mode stale)
+  pub still_sound : IsSound (waiting mode stale)
   still_sound = submit_keeps (begun mode stale) (submitted (core_of mode stale) 0 a_write its_bytes) 0 a_write its_bytes (Ok 1) (is_sound mode stale) awake asking gives
 
 pub waiting_are_tied : WaitingAreTied

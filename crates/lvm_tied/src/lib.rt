@@ -3,4 +3,6 @@
 
 mod laws;
 
-pub use laws::{beginnings_are_tied, waiting_are_tied};
+pub use laws::{
+    admitted_are_tied, beginnings_are_tied, updating_is_tied, waiting_are_tied, writing_is_tied,
+};
