@@ -1,9 +1,11 @@
 //! Where the copies of a volume are.
-ghost use Rattle.std.specs.Prelude.{◌≡◌, ◌<◌};
+ghost use Rattle.std.specs.Prelude.{◌≡◌, ◌<◌, Some};
 ghost use Rattle.std.specs.Option.{option_copied};
-ghost use Rattle.lvm_num.specs.Descriptor.{copies_of, volume_of, IsLaidOut};
+ghost use Rattle.lvm_num.specs.declared.descriptor.LvRow.{LvRow};
+ghost use Rattle.lvm_num.specs.Descriptor.{copies_of, volume_of, IsLaidOut, IsValid};
 ghost use Rattle.lvm_num.specs.Geometry.{partition_blocks};
 ghost use Rattle.lvm_stale.specs.Table.{is_pp};
+ghost use Rattle.lvm_session.specs.Judging.{copies_in};
 
 use lvm_num::{Descriptor, LvRow, Pp};
 
@@ -23,6 +25,18 @@ pub fn copies_of(row: &LvRow, lp: u32) -> &[Pp]
     let copies = row.copies;
     let first = lp as usize * usize::from(copies);
     &row.map.as_slice()[first..first + usize::from(copies)]
+}
+
+/// The copies of a logical partition, from 0, of a volume of the group; none where it has no such volume.
+pub fn copies_in(d: &Descriptor, lv: u16, lp: u32) -> &[Pp]
+    requires valid { IsValid d.now }
+    requires within { (row : LvRow) → volume_of d.now lv ≡ Some row → lp < row.lps }
+    ensures { result.now ≡ copies_in d.now lv lp }
+{
+    match volume_of(d, lv) {
+        None => &[],
+        Some(row) => copies_of(row, lp),
+    }
 }
 
 /// The blocks of 512 bytes of a partition of so many MiB.

@@ -7,4 +7,4 @@ mod status;
 
 pub use source::{copy_read, next_source};
 pub use starts::first_start;
-pub use status::status_start;
+pub use status::{says_the_same, status_start};

@@ -3,13 +3,13 @@ ghost use Rattle.std.specs.Prelude.{◌≡◌, ◌<◌, ◌&&◌, true, if◌the
 ghost use Rattle.lvm_num.specs.Descriptor.{IsValid};
 ghost use Rattle.lvm_session.specs.declared.event.Event.TheVariants as event;
 ghost use Rattle.lvm_session.specs.Fields.{core_of};
-ghost use Rattle.lvm_session.specs.Judging.{copies_in, is_running};
+ghost use Rattle.lvm_session.specs.Judging.{is_running};
 ghost use Rattle.lvm_session.specs.Bringing.{is_whole, next_source};
 ghost use Rattle.lvm_session.specs.Enabled.{is_free_step, may_read};
 ghost use Rattle.lvm_sound.specs.Sound.{IsCopy, IsGoing};
 ghost use Rattle.lvm_enabled.specs.Plain.{is_source, plain_read};
 
-use lvm_copies::{copies_of, is_pp, is_running, is_usable, partition_blocks, volume_of};
+use lvm_copies::{copies_in, is_pp, is_running, is_usable, partition_blocks};
 use lvm_num::Pp;
 use lvm_session::{Event, OpenCopy, Session, Step};
 
@@ -30,18 +30,6 @@ fn is_free_step(session: &Session, copy: &OpenCopy) -> bool
     session.queue.blocked_by(copy.place).is_none()
 }
 
-/// The copies of the logical partition of the copy that is open.
-pub fn copies_beside<'a>(session: &'a Session, copy: &OpenCopy) -> &'a [Pp]
-    requires valid { IsValid session.now.descriptor }
-    requires copy { IsCopy (core_of session.now) copy.now }
-    ensures { result.now ≡ copies_in session.now.descriptor copy.now.lv copy.now.lp }
-{
-    match volume_of(&session.descriptor, copy.lv) {
-        None => &[],
-        Some(row) => copies_of(row, copy.lp),
-    }
-}
-
 // Whether it may be read from this copy of its logical partition, which wasn't tried in vain for this track group.
 fn is_source(session: &Session, copy: &OpenCopy, pp: Pp) -> bool
     requires { pp.disk < 128 }
@@ -56,7 +44,7 @@ pub fn next_source(session: &Session, copy: &OpenCopy) -> Option<Pp>
     requires copy { IsCopy (core_of session.now) copy.now }
     ensures { result ≡ next_source (core_of session.now) copy.now }
 {
-    let copies = copies_beside(session, copy);
+    let copies = copies_in(&session.descriptor, copy.lv, copy.lp);
     for k in 0..copies.len() {
         if is_source(session, copy, copies[k]) {
             return Some(copies[k]);

@@ -11,8 +11,8 @@ ghost use Rattle.lvm_enabled.specs.Plain.{plain_status};
 use lvm_num::Status;
 use lvm_session::{Event, Session};
 
-// Whether they say the same.
-fn says_the_same(a: &Status, b: &Status) -> bool
+/// Whether two statuses say the same.
+pub fn says_the_same(a: &Status, b: &Status) -> bool
     ensures { result ≡ same_status a.now b.now }
 {
     a == b

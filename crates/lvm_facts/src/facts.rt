@@ -65,7 +65,8 @@ fn is_settled_dirty(session: &Session, lv: u16) -> bool
     }
 }
 
-fn is_changed(session: &Session, request: &Request) -> bool
+/// Whether it is a write whose targets are no longer the copies to which it goes.
+pub fn is_changed(session: &Session, request: &Request) -> bool
     requires valid { IsValid session.now.descriptor }
     requires within { IsWithin session.now.descriptor request.now.ask }
     ensures { result ≡ is_changed (core_of session.now) request.now }

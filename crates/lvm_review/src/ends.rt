@@ -7,11 +7,10 @@ ghost use Rattle.lvm_num.specs.Status.{calls_stale};
 ghost use Rattle.lvm_session.specs.declared.bringing.CopyEnd.TheVariants as ending;
 ghost use Rattle.lvm_session.specs.Bringing.{copy_ends, end_by_sources, end_of, ends_if, is_cleared, is_idle};
 ghost use Rattle.lvm_session.specs.Fields.{core_of};
-ghost use Rattle.lvm_session.specs.Judging.{copies_in};
 ghost use Rattle.lvm_review.specs.Reviewing.{IsLocated, is_other, is_untried};
 
 use lvm_copies::{
-    copies_of, is_missing, is_pp, is_running, is_stale, is_usable, is_wanted_stale, volume_of,
+    copies_in, is_missing, is_pp, is_running, is_stale, is_usable, is_wanted_stale,
 };
 use lvm_copy_end::is_whole;
 use lvm_num::Pp;
@@ -40,18 +39,6 @@ fn is_cleared(session: &Session, copy: &OpenCopy) -> bool
     !is_stale(session, copy.pp)
         && !flies_stale(session, copy.pp)
         && !is_wanted_stale(session, copy.pp)
-}
-
-// The copies of its logical partition.
-fn copies_beside<'a>(session: &'a Session, copy: &OpenCopy) -> &'a [Pp]
-    requires valid { IsValid session.now.descriptor }
-    requires located { IsLocated session.now.descriptor copy.now }
-    ensures { result.now ≡ copies_in session.now.descriptor copy.now.lv copy.now.lp }
-{
-    match volume_of(&session.descriptor, copy.lv) {
-        None => &[],
-        Some(row) => copies_of(row, copy.lp),
-    }
 }
 
 // Whether it is another copy, and usable.
@@ -101,7 +88,7 @@ fn end_by_sources(session: &Session, copy: &OpenCopy) -> Option<CopyEnd>
     requires located { IsLocated session.now.descriptor copy.now }
     ensures { result ≡ end_by_sources (core_of session.now) copy.now }
 {
-    let copies = copies_beside(session, copy);
+    let copies = copies_in(&session.descriptor, copy.lv, copy.lp);
     if any_is_other(session, copy, copies) {
         end_if(is_exhausted(session, copy, copies), CopyEnd::SyncFailed)
     } else {

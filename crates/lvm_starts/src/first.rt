@@ -1,12 +1,11 @@
-//! The first transfer that may be started is.
+//! A transfer is started.
 ghost use Rattle.lvm_session.specs.Fields.{core_of};
 ghost use Rattle.lvm_session.specs.Rooms.{HasRooms, SameRooms};
 ghost use Rattle.lvm_session.specs.State.{state};
 ghost use Rattle.lvm_launch.specs.Launching.{StartGives};
-ghost use Rattle.lvm_starts.specs.Starts.{CanStart, MayStart, StartsFirst};
+ghost use Rattle.lvm_starts.specs.Starts.{CanStart};
 
 use lvm_disk::Shelf;
-use lvm_enabled::first_start;
 use lvm_events::Turned;
 use lvm_launch::{read_copy, start_data, start_note, write_copy};
 use lvm_session::{Event, Session};
@@ -26,19 +25,5 @@ pub fn make_start<S: Shelf>(session: &mut Session, shelf: &mut S, event: Event) 
         Event::ReadCopy => read_copy(session, shelf),
         Event::WriteCopy => write_copy(session, shelf),
         Event::Land { .. } | Event::Admit { .. } | Event::Pin { .. } => unreachable!(),
-    }
-}
-
-/// The first transfer that may be started is, by the order of a turn. Answers `Moved`, or `Dark` where the power
-/// is found off; None where there is none, and nothing has changed.
-pub fn start_first<S: Shelf>(session: &mut Session, shelf: &mut S) -> Option<Turned>
-    requires may { MayStart (S.device shelf.old) (core_of session.old) }
-    requires rooms { HasRooms session.old }
-    ensures gives { StartsFirst (state (S.device shelf.old) (core_of session.old)) (state (S.device shelf.new) (core_of session.new)) result }
-    ensures rooms { SameRooms session.old session.new }
-{
-    match first_start(session) {
-        None => None,
-        Some(event) => Some(make_start(session, shelf, event)),
     }
 }

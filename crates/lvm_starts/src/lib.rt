@@ -3,4 +3,4 @@
 
 mod first;
 
-pub use first::{make_start, start_first};
+pub use first::make_start;
