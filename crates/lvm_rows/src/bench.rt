@@ -3,17 +3,12 @@ ghost use Rattle.std.specs.Prelude.{IfOk};
 ghost use Rattle.lvm_disk.specs.Device.{IsReady};
 ghost use Rattle.lvm_memory.specs.Memory.{device_of};
 
-use crate::fault::Fault;
-use crate::outside::{Outside, Streams};
-use crate::parse;
 use crate::print::{print_line, print_lines, print_run, print_words};
-use crate::run::{Sizes, blank, images_of, restarted, run};
-use crate::script::Script;
-use crate::sweep::{Swept, Swing, sweep};
-use crate::words::{Answered, answer};
+use lvm_cases::{Fault, Outside, Script, Sizes, Streams, blank, images_of, parse, restarted, run};
 use lvm_io::{MemClock, Sink};
 use lvm_memory::MemShelf;
 use lvm_num::{Rows, Text};
+use lvm_sweeps::{Answered, Swept, Swing, answer, sweep};
 use lvm_top::Ended;
 use std::alloc::Global;
 

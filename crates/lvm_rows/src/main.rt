@@ -25,17 +25,10 @@
 #![tactic(auto)]
 
 mod bench;
-mod fault;
-mod outside;
-mod parse;
 mod print;
-mod run;
-mod script;
-mod sweep;
-mod words;
 
 use bench::Bench;
-use fault::Fault;
+use lvm_cases::Fault;
 use lvm_io::{Sink, StdSink};
 use std::alloc::Global;
 use std::io;

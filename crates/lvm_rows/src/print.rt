@@ -1,10 +1,9 @@
 //! What is printed of a run.
 
-use crate::fault::Fault;
-use crate::run::judged;
-use crate::words::Answered;
+use lvm_cases::{Fault, judged};
 use lvm_io::{Sink, write_all};
 use lvm_memory::MemShelf;
+use lvm_sweeps::Answered;
 use lvm_top::Ended;
 use std::alloc::Global;
 use std::collections::BTreeSet;

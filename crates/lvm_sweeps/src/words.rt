@@ -3,9 +3,7 @@
 ghost use Rattle.lvm_disk.specs.Device.{IsReady};
 ghost use Rattle.lvm_memory.specs.Memory.{device_of};
 
-use crate::fault::Fault;
-use crate::outside::ample;
-use crate::run::blank;
+use lvm_cases::{Fault, ample, blank};
 use lvm_io::{MemClock, MemSink, MemSource};
 use lvm_memory::MemShelf;
 use lvm_num::Text;
@@ -75,7 +73,7 @@ fn answer_into(
 }
 
 /// Lets the program answer words, with a script as its input, and over files of zeros of so many sectors each.
-pub(crate) fn answer(
+pub fn answer(
     alloc: Global,
     words: &[Text],
     input: &mut MemSource,

@@ -6,7 +6,7 @@ use lvm_num::Text;
 use std::alloc::Global;
 
 /// A number in decimal digits.
-pub(crate) fn number(word: &str) -> Result<u64, Fault> {
+pub fn number(word: &str) -> Result<u64, Fault> {
     Ok(word.parse::<u64>()?)
 }
 
@@ -23,12 +23,13 @@ fn hexadecimal(word: &str) -> Result<u64, Fault> {
     Ok(u64::from_str_radix(word, 16)?)
 }
 
-pub(crate) fn small(word: &str) -> Result<u32, Fault> {
+/// A number in decimal digits that isn't large.
+pub fn small(word: &str) -> Result<u32, Fault> {
     Ok(word.parse::<u32>()?)
 }
 
 /// A word, and what stands behind it.
-pub(crate) fn split(text: &str) -> (&str, &str) {
+pub fn split(text: &str) -> (&str, &str) {
     match text.split_once(' ') {
         Some(parts) => parts,
         None => (text, ""),
@@ -36,12 +37,12 @@ pub(crate) fn split(text: &str) -> (&str, &str) {
 }
 
 /// Numbers between blanks.
-pub(crate) fn numbers(alloc: Global, text: &str) -> Result<Vec<u64>, Fault> {
+pub fn numbers(alloc: Global, text: &str) -> Result<Vec<u64>, Fault> {
     text.split_whitespace().map(number).try_collect(alloc)
 }
 
 /// The sizes in sectors of disks, of which so many have so many MiB.
-pub(crate) fn simulated(alloc: Global, text: &str) -> Result<Vec<u64>, Fault> {
+pub fn simulated(alloc: Global, text: &str) -> Result<Vec<u64>, Fault> {
     let (disks, mib) = split(text);
     let (disks, mib) = (number(disks)?, number(mib)?);
     if disks > 128 || mib > 64 {
@@ -63,7 +64,7 @@ fn act(name: &str, word: &str) -> Result<Act, Fault> {
 }
 
 /// An act at a call: the call's number, the act's name and its word.
-pub(crate) fn planned(text: &str) -> Result<Planned, Fault> {
+pub fn planned(text: &str) -> Result<Planned, Fault> {
     let (call, rest) = split(text);
     let (name, word) = split(rest);
     Ok(Planned {
@@ -73,7 +74,7 @@ pub(crate) fn planned(text: &str) -> Result<Planned, Fault> {
 }
 
 /// Acts of one name, one for each word behind it.
-pub(crate) fn acts(alloc: Global, text: &str) -> Result<Vec<Act>, Fault> {
+pub fn acts(alloc: Global, text: &str) -> Result<Vec<Act>, Fault> {
     let (name, words) = split(text);
     words
         .split_whitespace()
@@ -82,13 +83,13 @@ pub(crate) fn acts(alloc: Global, text: &str) -> Result<Vec<Act>, Fault> {
 }
 
 /// A disk, and the number of one of its sectors.
-pub(crate) fn place(text: &str) -> Result<(u16, u64), Fault> {
+pub fn place(text: &str) -> Result<(u16, u64), Fault> {
     let (name, at) = split(text);
     Ok((disk(name)?, number(at)?))
 }
 
 /// Words of a command line, each between brackets.
-pub(crate) fn bracketed(alloc: Global, text: &str) -> Result<Vec<Text>, Fault> {
+pub fn bracketed(alloc: Global, text: &str) -> Result<Vec<Text>, Fault> {
     match text.strip_prefix('[') {
         Some(inner) => texts(alloc, inner.strip_suffix(']').unwrap_or(inner)),
         None if text.is_empty() => Ok(Vec::new(alloc)),

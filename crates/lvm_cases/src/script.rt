@@ -18,20 +18,23 @@ struct Marked {
 }
 
 impl Script {
-    pub(crate) fn new(alloc: Global) -> Script {
+    /// No line.
+    pub fn new(alloc: Global) -> Script {
         Script {
             text: Vec::new(alloc),
             marked: None,
         }
     }
 
-    pub(crate) fn push_line(&mut self, line: &str) -> Result<(), Fault> {
+    /// Adds a line.
+    pub fn push_line(&mut self, line: &str) -> Result<(), Fault> {
         self.text.extend_from_slice(line.as_bytes())?;
         self.text.push(b'\n')?;
         Ok(())
     }
 
-    pub(crate) fn push_marked(&mut self, line: &str) -> Result<(), Fault> {
+    /// Adds a line that is marked.
+    pub fn push_marked(&mut self, line: &str) -> Result<(), Fault> {
         let first = match self.marked {
             Some(marked) => marked.first,
             None => self.text.len(),
@@ -45,16 +48,17 @@ impl Script {
     }
 
     /// Takes the last line feed away.
-    pub(crate) fn unend(&mut self) {
+    pub fn unend(&mut self) {
         let _ = self.text.pop();
     }
 
-    pub(crate) fn text(&self) -> &[u8] {
+    /// All lines.
+    pub fn text(&self) -> &[u8] {
         &self.text
     }
 
     /// The lines before the marked ones.
-    pub(crate) fn before(&self) -> &[u8] {
+    pub fn before(&self) -> &[u8] {
         let end = match self.marked {
             Some(marked) => marked.first,
             None => 0,
@@ -63,7 +67,7 @@ impl Script {
     }
 
     /// The lines up to the last marked one; all of them where none is marked.
-    pub(crate) fn through(&self) -> &[u8] {
+    pub fn through(&self) -> &[u8] {
         match self.marked {
             Some(marked) => self.text.get(..marked.behind).unwrap_or(&[]),
             None => &self.text,

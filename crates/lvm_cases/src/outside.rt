@@ -27,7 +27,7 @@ pub struct Streams {
 
 impl Outside {
     /// Nothing fails.
-    pub(crate) fn new(alloc: Global) -> Outside {
+    pub fn new(alloc: Global) -> Outside {
         Outside {
             plan: Vec::new(alloc),
             fails: Vec::new(alloc),
@@ -35,37 +35,38 @@ impl Outside {
         }
     }
 
-    pub(crate) fn plan(&self) -> &[Planned] {
+    /// What is planned for the disks.
+    pub fn plan(&self) -> &[Planned] {
         &self.plan
     }
 
     /// Plans an act.
-    pub(crate) fn push_act(&mut self, text: &str) -> Result<(), Fault> {
+    pub fn push_act(&mut self, text: &str) -> Result<(), Fault> {
         let planned = parse::planned(text)?;
         Ok(self.plan.push(planned)?)
     }
 
     /// Lets a read of the source fail.
-    pub(crate) fn push_fault(&mut self, text: &str) -> Result<(), Fault> {
+    pub fn push_fault(&mut self, text: &str) -> Result<(), Fault> {
         let read = parse::number(text)?;
         Ok(self.fails.push(read)?)
     }
 
     /// Gives the sink another room.
-    pub(crate) fn set_room(&mut self, text: &str) -> Result<(), Fault> {
+    pub fn set_room(&mut self, text: &str) -> Result<(), Fault> {
         self.room = parse::small(text)? as usize;
         Ok(())
     }
 
     /// A source of this script.
-    pub(crate) fn source(&self, alloc: Global, script: &[u8]) -> Result<MemSource, Fault> {
+    pub fn source(&self, alloc: Global, script: &[u8]) -> Result<MemSource, Fault> {
         let bytes = Vec::from_slice(alloc, script)?;
         let fails = Vec::from_slice(alloc, &self.fails)?;
         Ok(MemSource::new(Rows::new(bytes), Rows::new(fails)))
     }
 
     /// A source of this script, and a sink.
-    pub(crate) fn streams(&self, alloc: Global, script: &[u8]) -> Result<Streams, Fault> {
+    pub fn streams(&self, alloc: Global, script: &[u8]) -> Result<Streams, Fault> {
         let input = self.source(alloc, script)?;
         let out = sink(alloc, self.room)?;
         Ok(Streams { input, out })
@@ -77,6 +78,6 @@ fn sink(alloc: Global, room: usize) -> Result<MemSink, Fault> {
 }
 
 /// A sink with ample room.
-pub(crate) fn ample(alloc: Global) -> Result<MemSink, Fault> {
+pub fn ample(alloc: Global) -> Result<MemSink, Fault> {
     sink(alloc, AMPLE)
 }

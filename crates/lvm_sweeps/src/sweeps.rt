@@ -3,10 +3,7 @@
 ghost use Rattle.lvm_disk.specs.Device.{IsReady};
 ghost use Rattle.lvm_memory.specs.Memory.{device_of};
 
-use crate::fault::Fault;
-use crate::outside::{Outside, Streams};
-use crate::run::{Sizes, blank, judged, run};
-use crate::script::Script;
+use lvm_cases::{Fault, Outside, Script, Sizes, Streams, blank, judged, run};
 use lvm_faults::{Act, Planned};
 use lvm_io::MemClock;
 use lvm_memory::MemShelf;
@@ -177,11 +174,7 @@ fn sweep_calls(
 }
 
 /// The different answers from the marked lines on, where an act is done before one of their calls.
-pub(crate) fn sweep(
-    alloc: Global,
-    swept: &Swept,
-    swing: &Swing,
-) -> Result<BTreeSet<Vec<u8>>, Fault> {
+pub fn sweep(alloc: Global, swept: &Swept, swing: &Swing) -> Result<BTreeSet<Vec<u8>>, Fault> {
     let last = calls_through(alloc, swept)?;
     let before = try_lines(alloc, swept, swept.script.before(), swept.outside.plan())?;
     let first = before.calls.saturating_add(1);

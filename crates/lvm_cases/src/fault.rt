@@ -6,6 +6,7 @@ use std::alloc::{AllocError, AllocFailed};
 use std::fmt;
 use std::num::ParseIntError;
 
+/// What a case can't go on for.
 #[derive(Clone, Copy)]
 pub enum Fault {
     /// The line isn't one of a case, or names what the case doesn't have.

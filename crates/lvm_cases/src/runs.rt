@@ -44,7 +44,7 @@ fn image_of(alloc: Global, shelf: &MemShelf, disk: u16) -> Result<Rows<u8>, Faul
 }
 
 /// What stands on the disks.
-pub(crate) fn images_of(alloc: Global, shelf: &MemShelf) -> Result<Vec<Rows<u8>>, Fault> {
+pub fn images_of(alloc: Global, shelf: &MemShelf) -> Result<Vec<Rows<u8>>, Fault> {
     (0..shelf.disks())
         .map(|disk| image_of(alloc, shelf, disk))
         .try_collect(alloc)
@@ -77,7 +77,7 @@ fn started(alloc: Global, images: Vec<Rows<u8>>, plan: Vec<Planned>) -> Result<M
 }
 
 /// Runs a script.
-pub(crate) fn run(
+pub fn run(
     alloc: Global,
     streams: &mut Streams,
     shelf: MemShelf,
@@ -104,7 +104,7 @@ pub(crate) fn run(
 
 /// What a run's history says that its status doesn't: whether it is legal, and whether it allows what stands in a
 /// sector of a disk.
-pub(crate) fn judged(ended: &Ended<MemShelf>, watched: Option<(u16, u64)>) -> &'static str {
+pub fn judged(ended: &Ended<MemShelf>, watched: Option<(u16, u64)>) -> &'static str {
     let Some(history) = &ended.history else {
         return ", no history";
     };
