@@ -3,10 +3,6 @@ use Rattle.lvm_disk.specs.Device.{Device}
 use Rattle.lvm_disk.specs.Images.{LeavesNoMore}
 use Rattle.lvm_disk.specs.Paths.{DeviceStep, Path, Here, Then}
 
-pub first-path : {A : Type 0} {Next : A → A → Type 0} {P : A → Type 0} {a b : A} → Path Next P a b → P a
-first-path (Here p) = p
-first-path (Then path step p) = first-path path
-
 pub last-path : {A : Type 0} {Next : A → A → Type 0} {P : A → Type 0} {a b : A} → Path Next P a b → P b
 last-path (Here p) = p
 last-path (Then path step p) = p

@@ -10,16 +10,6 @@ rose_before first rose = record { later = omega (arith, first, rose.later); rise
 pub rose_after : {a b c : ℕ} → Rose a b → b ≤ c → Rose a c
 rose_after rose last = record { later = omega (arith, rose.later, last); risen = omega (arith, rose.risen, last) }
 
-pub rose_by_none : (a : ℕ) → RoseBy 0 a a
-rose_by_none a = record { later = omega arith; risen = omega arith }
-
--- once more
-pub rose_by_more : {n a b c : ℕ} → RoseBy n a b → Rose b c → RoseBy (n + 1) a c
-rose_by_more so_far rose = record { later = omega (arith, so_far.later, rose.later); risen = omega (arith, so_far.risen, rose.risen) }
-
-pub rose_by_after : {n a b c : ℕ} → RoseBy n a b → b ≤ c → RoseBy n a c
-rose_by_after rose last = record { later = omega (arith, rose.later, last); risen = omega (arith, rose.risen, last) }
-
 pub none_falls_at_once : (a : Counts) → NoneFalls a a
 none_falls_at_once a = record { starts = λ d. omega arith; misses = λ d. omega arith; faults = λ d. omega arith; cuts = omega arith; waits = omega arith }
 

@@ -16,30 +16,6 @@ use Rattle.lvm_disk.specs.declared.shelf.Reaped.TheVariants as reaped
 use Rattle.lvm_disk.proofs.CrashImages.{cut_leaves, done_leaves, failed_leaves}
 use Rattle.lvm_disk.proofs.Rising.{none_falls_at_once}
 
--- ---- each call is one step at most
-
-dark_step : (old new : Device) → GoesDark old new → (new ≡ old) ⊎ DeviceStep old new
-dark_step old new dark = ⊎_elim (λ off. inl off.1) (λ cuts. inr (WasCut cuts)) dark
-
-pub start_step :
-    (old new : Device) (disk first count : ℕ) (write : Bool) (buf : Buffer) (answer : StartAnswer) → StartGives old new disk first count write buf answer → (new ≡ old) ⊎ DeviceStep old new
-start_step old new disk first count write buf (started.Ticket ticket) starts = inr (Started _ starts)
-start_step old new disk first count write buf (started.Dark back) dark = dark_step old new dark.2
-
-pub reap_step : (old new : Device) (answer : Reaped) → ReapGives old new answer → (new ≡ old) ⊎ DeviceStep old new
-reap_step old new reaped.Empty waits = inr (Waited waits)
-reap_step old new (reaped.Done ticket buf) ends = inr (Ended ticket buf ends)
-reap_step old new (reaped.Failed ticket buf) ends = inr (Broke ticket buf ends)
-reap_step old new (reaped.Dark freed) dark = dark_step old new dark.0
-
-pub freed_step : (old new : Device) (answer : Option Buffer) → FreedGives old new answer → (new ≡ old) ⊎ DeviceStep old new
-freed_step old new None none = inl none.1
-freed_step old new (Some buf) some = inr (Freed buf some)
-
-pub arrange_step : (old new : Device) (what : Arrange) (answer : Bool) → ArrangeGives old new what answer → (new ≡ old) ⊎ DeviceStep old new
-arrange_step old new what true made = inr (Arranged what made.1)
-arrange_step old new what false not_made = inl not_made.1
-
 -- ---- counts
 
 at_one : (disk : ℕ) (before now : ℕ → ℕ) → RoseAt disk before now → (d : ℕ) → before d ≤ now d
@@ -159,21 +135,7 @@ step_same old new (Lit flights freed lit) =
     record { sizes = ap (λ (d : Device). d.sizes) lit; arranges = ap (λ (d : Device). d.arranges) lit; told = ap (λ (d : Device). is_some d.media) lit }
 step_same old new (Arranged what is) = arrange_same old new what is
 
--- orders are made by arrangements alone
-pub step_orders : (old new : Device) → DeviceStep old new → (new.orders ≡ old.orders) ⊎ ((what : Arrange) × Arranges old new what)
-step_orders old new (Started f starts) = inl (ap (λ (d : Device). d.orders) starts.new_is)
-step_orders old new (WasCut cuts) = inl (ap (λ (d : Device). d.orders) cuts.new_is)
-step_orders old new (Ended ticket buf ends) = inl (ap (λ (d : Device). d.orders) ends.new_is)
-step_orders old new (Broke ticket buf ends) = inl (ap (λ (d : Device). d.orders) ends.new_is)
-step_orders old new (Waited waits) = inl (ap (λ (d : Device). d.orders) waits.new_is)
-step_orders old new (Freed buf freed) = inl (sym (ap (λ (d : Device). d.orders) freed))
-step_orders old new (Lit flights freed lit) = inl (ap (λ (d : Device). d.orders) lit)
-step_orders old new (Arranged what is) = inr (what, is)
-
 -- ---- crash images
-
-same_leaves : (old new : Device) → new.sizes ≡ old.sizes → new.media ≡ old.media → new.flights ≡ old.flights → LeavesNoMore old new
-same_leaves old new sizes media flights image may = subst (λ (d : Device). MayLeave d image) (λ i. record new { sizes = sizes i; media = media i; flights = flights i }) may
 
 dark_leaves : (old new : Device) → GoesDark old new → LeavesNoMore old new
 dark_leaves old new dark = ⊎_elim (λ off. λ image may. subst (λ (d : Device). MayLeave d image) off.1 may) (λ cuts. cut_leaves old new cuts) dark
@@ -182,21 +144,3 @@ pub arrange_leaves : (old new : Device) (what : Arrange) → Arranges old new wh
 arrange_leaves old new (arrange.Fail disk) is image may = subst (λ (d : Device). MayLeave d image) is may
 arrange_leaves old new (arrange.Heal disk) is image may = subst (λ (d : Device). MayLeave d image) is may
 arrange_leaves old new (arrange.Cut word) is image may = dark_leaves (with_order old (arrange.Cut word)) new is.1 image may
-
--- a step that is no start adds no crash image
-pub step_leaves : (old new : Device) → DeviceStep old new → LeavesNoMore old new ⊎ ((f : Flight) × Starts old new f)
-step_leaves old new (Started f starts) = inr (f, starts)
-step_leaves old new (WasCut cuts) = inl (cut_leaves old new cuts)
-step_leaves old new (Ended ticket buf ends) = inl (done_leaves old new ticket buf ends)
-step_leaves old new (Broke ticket buf ends) = inl (failed_leaves old new ticket buf ends)
-step_leaves old new (Waited waits) = inl (λ image may. subst (λ (d : Device). MayLeave d image) waits.new_is may)
-step_leaves old new (Freed buf freed) =
-    inl (same_leaves old new (sym (ap (λ (d : Device). d.sizes) freed)) (sym (ap (λ (d : Device). d.media) freed)) (sym (ap (λ (d : Device). d.flights) freed)))
-step_leaves old new (Lit flights freed lit) = inl (λ image may. subst (λ (d : Device). MayLeave d image) lit may)
-step_leaves old new (Arranged what is) = inl (arrange_leaves old new what is)
-
--- ---- what is ready
-
--- a flight that a ready device starts is the only one
-pub only_flight : (old new : Device) (f : Flight) → old.flights ≡ [] → Starts old new f → new.flights ≡ f ∷ []
-only_flight old new f none starts = ap (λ (d : Device). d.flights) starts.new_is ∙ ap (λ (l : List Flight). l ++ f ∷ []) none

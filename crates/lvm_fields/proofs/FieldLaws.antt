@@ -23,9 +23,6 @@ done x = Ok x
 pub ok_is : {A : Type 0} (x y : A) → done x ≡ done y → x ≡ y
 ok_is x y e = cc
 
-pub ok_isnt : {A : Type 0} (x : A) (place : ℕ) → done x ≡ Err place → ⊥
-ok_isnt x place e = absurd cc
-
 pub both : (a b : Bool) → a && b ≡ true → (a ≡ true) × (b ≡ true)
 both true b e = (refl, e)
 both false b e = absurd cc

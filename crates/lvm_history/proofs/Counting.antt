@@ -233,16 +233,6 @@ find_below n (s ∷ rs) id ids below =
     apart : (a b : ℕ) → b < a → (a == b) ≡ false
     apart a b less = grind (arith, nat_tests)
 
-pub find_above : (n : ℕ) (rs : List Request) (id : ℕ) → IdsFrom n rs → n + length rs ≤ id → find (has_id id) rs ≡ None
-find_above n [] id ids above = refl
-find_above n (s ∷ rs) id ids above =
-    let s_id = ids.0 in
-    let e : (s.id == id) ≡ false = apart s.id id (omega arith) in
-    ap (λ (t : Bool). cond t (Some s) (find (has_id id) rs)) e ∙ find_above (n + 1) rs id ids.1 (omega arith)
-  where
-    apart : (a b : ℕ) → a < b → (a == b) ≡ false
-    apart a b less = grind (arith, nat_tests)
-
 pub stands_get : {X : Type 0} → (xs : List X) (k : ℕ) (d : X) → k < length xs → Stands (get_or xs k d) xs
 stands_get [] k d in_range = absurd (omega arith)
 stands_get (x ∷ xs) zero d in_range = inl refl

@@ -332,12 +332,6 @@ pushed_room k log e sound shows spare =
     let here : 1 ≤ spare_entries (log_of k) = subst (λ (x : Log). 1 ≤ spare_entries x) (sym shows) spare in
     row_room k (plain_fact e) sound (plain_follows e k.run (log_of k).facts) (let one = plain_need e in omega (arith, here, is, one))
 
-pub needed_few : (k : Kept) (log : Log) → IsSound k → log_of k ≡ log → 1 ≤ spare_entries log → k.need_now + 1 < 2 ^ 32
-needed_few k log sound shows spare =
-    let is = sound.roomy.counted in let few = sound.few in
-    let here : 1 ≤ spare_entries (log_of k) = subst (λ (x : Log). 1 ≤ spare_entries x) (sym shows) spare in
-    omega (arith, here, is, few)
-
 pub cut_adds : (k new : Kept) (log : Log) → IsSound k → log_of k ≡ log → k.uncut ≡ true → PushesRow k new row.Cut → new.uncut ≡ false → IsSound new × (log_of new ≡ cut_log log)
 cut_adds k new log sound shows opened pushes uncut =
     let need_is : new.need_now ≡ k.need_now + 1 = ap (λ (x : Kept). x.need_now) pushes.rest in
@@ -348,11 +342,6 @@ cut_adds k new log sound shows opened pushes uncut =
     pushes.more need_is uncut (subst (λ (b : Bool). new.need_now + if_uncut b ≤ k.room) (sym uncut) (omega (arith, need_is, fits)))) in
     let was : is_uncut log.facts ≡ true = ap (λ (x : Log). is_uncut x.facts) (sym shows) ∙ sym sound.roomy.cuts ∙ opened in
     (all.sound, all.shown ∙ sym (ap (λ (b : Bool). cond b (record log { facts = log.facts ++ Cut ∷ [] }) log) was))
-
-pub cut_same : (k : Kept) (log : Log) → IsSound k → log_of k ≡ log → k.uncut ≡ false → log ≡ cut_log log
-cut_same k log sound shows closed =
-    let was : is_uncut log.facts ≡ false = ap (λ (x : Log). is_uncut x.facts) (sym shows) ∙ sym sound.roomy.cuts ∙ closed in
-    sym (ap (λ (b : Bool). cond b (record log { facts = log.facts ++ Cut ∷ [] }) log) was)
 
 pub cut_room : (k : Kept) → IsSound k → k.uncut ≡ true → (length k.rows < k.rows_room) × (k.need_now + 1 < 2 ^ 32)
 cut_room k sound opened =
@@ -656,10 +645,6 @@ asks-slice_get p (r ∷ rs) zero = ap (λ (n : ℕ). Some (ask_at n r)) (omega a
 asks-slice_get p (r ∷ rs) (suc k) =
     let more = sum_by-cons (λ (s : Request). s.count) r (take k rs) in
     asks-slice_get (p + r.count) rs k ∙ ap (λ (n : ℕ). option_map (λ r. ask_at n r) (slice_get rs k)) (omega (arith, more))
-
--- where the blocks of the request of this number begin
-the_place : List Fact → ℕ → ℕ
-the_place facts id = counts (take (id - 1) (begun facts))
 
 ask_found-asked : (k : Kept) (id : ℕ) → IsSound k → (p : ℕ) × (ask_found k.asks id ≡ option_map (λ r. ask_at p r) (asked (log_of k).facts id))
 ask_found-asked k id sound = (0 + counts (take (id - 1) (begun (log_of k).facts)), by_test (id == 0) refl)

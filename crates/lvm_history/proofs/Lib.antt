@@ -1,4 +1,3 @@
 pub mod Keeping
 pub mod Counting
 pub mod Entering
-pub mod Staying

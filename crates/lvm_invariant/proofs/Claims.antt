@@ -164,28 +164,6 @@ OpenKeepsCore = (s : State) (o : OpenCopy) → Opens s o → Sound s → Sound (
 abbrev pub ClearKeepsCore : Type 0
 ClearKeepsCore = (s : State) (wanted : Marks) (c : Pp) → Clears s wanted c → Sound s → Sound (record s { wanted = wanted })
 
--- A write that has started has a target that is fresh by all three statuses: rule 7 always has a copy that stays fresh.
-pub record KeptTarget (s : State) (r : Queued) : Type 0 where
-  pub copy : Pp
-  pub stage : Stage
-  pub target : r.targets copy ≡ Some stage
-  pub is_copy : IsTrue (s.is_copy r.lv r.first copy)
-  pub kept : StaysFresh s copy
-
-abbrev pub EachHasKeptTarget : Type 0
-EachHasKeptTarget = (s : State) (i : ℕ) (r : Queued) → Sound s → Started s i r → IsTrue (covers r r.lv r.first) → KeptTarget s r
-
--- the marks of rule 6 or 7: targets become wanted stale, another target stays fresh
-pub record MarksOthers (s : State) (r : Queued) (kept : Pp) (wanted : Marks) : Type 0 where
-  pub is_copy : IsTrue (s.is_copy r.lv r.first kept)
-  pub fresh : IsFalse (s.committed.value.stale kept)
-  pub stays : IsFalse (wanted.stale kept)
-  pub still : (c : Pp) → IsTrue (s.wanted.stale c) → IsTrue (wanted.stale c)
-  pub added : (c : Pp) → IsTrue (wanted.stale c) → IsTrue (s.wanted.stale c) ⊎ IsTrue (s.is_copy r.lv r.first c)
-
-abbrev pub MarksAreReplaced : Type 0
-MarksAreReplaced = (s : State) (r : Queued) (kept : Pp) (wanted : Marks) → MarksOthers s r kept wanted → (c : Pp) → IsTrue (wanted.stale c) → IsTrue (s.wanted.stale c) ⊎ Replaced s wanted c
-
 -- a write of the update in flight ends: the disk has it, or what it had
 abbrev pub StatusEndKeepsFound : Type 0
 StatusEndKeepsFound = (votes : Votes) (s : State) (u : Stamped Marks) (status : ℕ → Option (Stamped Marks)) (flying : ℕ → Bool) → s.in_flight ≡ Some u

@@ -95,9 +95,6 @@ admit_keeps votes s i r phase several targets step good = record {
       (λ asked. ⊎_elim (λ (e : phase ≡ WantEntry). ap has_landed e) (λ (e : (phase ≡ Ready) × (IsTrue r.write → IsTrue (s.is_active r.lv) → IsTrue several → ⊥)). ap has_landed e.0) step.phase_now ∙ sym (early_unlanded r step.early));
 }
 
-not_phase : {X : Type 0} (p q : Phase) → p ≡ q → IsFalse (has_landed q) → IsTrue (has_landed p) → X
-not_phase p q e un h = never (has_landed p) h (ap has_landed e ∙ un)
-
 wait_not_going : {X : Type 0} (p : Phase) → p ≡ WantEntry → p ≡ Going → X
 wait_not_going p a b = let e : ◌≡◌ {A = Bool} false true = ap is_pinning (sym a ∙ b) in absurd cc
 

@@ -19,7 +19,6 @@ pub mod Getting
 pub mod Copying
 pub mod Finding
 pub mod Whole
-pub mod Rules
 pub mod First
 pub mod Asking
 pub mod Entered

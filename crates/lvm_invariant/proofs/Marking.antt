@@ -18,9 +18,6 @@ use Rattle.lvm_invariant.specs.Want.{Replaced, Wants, after_wants}
 no_copy : {X : Type 0} (o : Option OpenCopy) (k : OpenCopy) → o ≡ None → o ≡ Some k → X
 no_copy o k a b = absurd cc
 
-no_update : {X : Type 0} (o : Option (Stamped Marks)) (u : Stamped Marks) → o ≡ None → o ≡ Some u → X
-no_update o u a b = absurd cc
-
 same_update : (u w : Stamped Marks) → Some u ≡ Some w → u ≡ w
 same_update u w e = cc
 

@@ -16,9 +16,6 @@ use Rattle.lvm_kept.proofs.Finding.{offered, offers, is_offered, some_same, enou
 
 -- ---- groups that differ in their volumes alone
 
-pub same_id : (a b : Descriptor) → IsAlike a b → a.id ≡ b.id
-same_id a b alike = ap (λ (g : Descriptor). g.id) alike
-
 pub same_votes : (a b : Descriptor) → IsAlike a b → SameVotes a b
 same_votes a b alike = record { members = ap (λ (g : Descriptor). g.pvs) alike; even = ap (λ (g : Descriptor). g.even) alike; quorum = ap (λ (g : Descriptor). g.quorum) alike }
 

@@ -46,36 +46,7 @@ pub span_counts : {P : Moment → Type 0} {first last : Moment} → Path Step P 
 span_counts (Here p) = none_falls_still _ _ refl
 span_counts (Then path step p) = none_falls_over _ _ _ (span_counts path) (moment_counts _ _ step)
 
--- what was asked of the first moment is there at the last
-pub begins_on : (run : ℕ) (past : List Fact) (first last : Moment) → Keeps run first last → StaysCalm first last → Begins run past first → Begins run past last
-begins_on run past first last span calm begins =
-    let holds = last-path span past begins in
-    record { told = span_told span begins.told; legal = holds.legal; own = begins.own; calm = calm past begins.calm; kept = holds.kept }
-
--- one span and then another
-pub keeps_on : (run : ℕ) (first mid last : Moment) → Keeps run first mid → StaysCalm first mid → Keeps run mid last → Keeps run first last
-keeps_on run first mid last one calm two = append-path one (map-path (Upholds run first) (λ m upholds past begins. upholds past (begins_on run past first mid one calm begins)) two)
-
 -- ---- where a run begins
-
--- the earlier history, as a run finds it
-pub begins_run : (run : ℕ) (device : Device) (past : List Fact) → IsTold device → Legal past → count_by (begins_in run) past ≡ 0 → RawImagesKept device past → Begins run (past ++ Cut ∷ []) (record { device = device; facts = [] })
-begins_run run device past told legal own kept =
-    let all : (past ++ Cut ∷ []) ++ [] ≡ past ++ Cut ∷ [] = append_none (past ++ Cut ∷ []) in
-    record {
-      told = told;
-      legal = subst Legal (sym all) (legal_more [] past Cut legal tt);
-      own = sum_by-append (λ g. cond (begins_in run g) 1 0) past (Cut ∷ []) ∙ (let e = own in more e);
-      calm = subst Calm (sym all) (cut_calm past);
-      kept = λ image may. subst (RawKept image) (sym all) (kept_cut image past (kept image may));
-    }
-  where
-    append_none : (l : List Fact) → l ++ [] ≡ l
-    append_none [] = refl
-    append_none (f ∷ l) = ap (λ (m : List Fact). f ∷ m) (append_none l)
-
-    more : count_by (begins_in run) past ≡ 0 → ◌≡◌ {A = ℕ} (count_by (begins_in run) past + 0) 0
-    more e = omega (arith, e)
 
 -- the disks stay as large
 moment_sizes : (old new : Moment) → Step old new → new.device.sizes ≡ old.device.sizes

@@ -164,8 +164,3 @@ cut_calm facts vol b = ap (λ (k : Known). k.open_writes) (known_more facts Cut 
 
 pub taken_calm : (facts : List Fact) (r : Request) → Calm facts → Calm (facts ++ Taken r ∷ [])
 taken_calm facts r calm vol b = ap (λ (k : Known). k.open_writes) (known_more facts (Taken r) vol b) ∙ calm vol b
-
--- a write that was closed by the cut lands
-pub closed_calm : (facts : List Fact) (r : Request) (how : Outcome) (started : Bool) → r.write ≡ true → Calm facts → Calm (facts ++ Landed r how started [] ∷ [])
-closed_calm facts r how started write calm vol b =
-    ap (λ (k : Known). k.open_writes) (known_more facts (Landed r how started []) vol b ∙ landed_closed r how started [] vol b (known facts vol b) write (calm vol b)) ∙ calm vol b

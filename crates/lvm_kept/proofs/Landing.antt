@@ -152,18 +152,3 @@ any_last t (g ∷ past) f is = or_true (t g) (list_any t (past ++ f ∷ [])) (an
 
 pub lands_itself : (r : Request) → same_request r r ≡ true
 lands_itself r = let a : (r.run == r.run) ≡ true = grind (arith, nat_tests) in let b : (r.id == r.id) ≡ true = grind (arith, nat_tests) in cc
-
--- a request with the next number goes through: begun, landed, taken
-pub through_legal : (facts : List Fact) (r : Request) (how : Outcome) (started : Bool) (got : List (List ℕ)) → LegalFrom [] facts → r.id ≡ count_by (begins_in r.run) facts + 1
-    → IsOutcomeOf how r started → GotMay (facts ++ Begun r ∷ []) r how got → LegalFrom [] (((facts ++ Begun r ∷ []) ++ Landed r how started got ∷ []) ++ Taken r ∷ [])
-through_legal facts r how started got legal next kind may =
-    let none = unlanded r [] facts legal low_none refl (omega arith) in
-    let not_taken = untaken r [] facts tt legal refl (omega arith) in
-    let begun = legal_more [] facts (Begun r) legal next in
-    let landed = legal_more [] (facts ++ Begun r ∷ []) (Landed r how started got) begun (record { began = stands_last facts (Begun r); first = any_more (lands r) facts (Begun r) none refl; kind = kind; reads = may }) in
-    legal_more [] ((facts ++ Begun r ∷ []) ++ Landed r how started got ∷ []) (Taken r) landed
-    (record {
-      began = stands_first (facts ++ Begun r ∷ []) (Landed r how started got) (Begun r) (stands_last facts (Begun r));
-      answered = any_last (lands r) (facts ++ Begun r ∷ []) (Landed r how started got) (lands_itself r);
-      first = any_more (takes r) (facts ++ Begun r ∷ []) (Landed r how started got) (any_more (takes r) facts (Begun r) not_taken refl) refl;
-    })

@@ -20,9 +20,6 @@ at_moment device facts = record { device = device; facts = facts }
 pub regroup : (P : List Fact → Type 0) (past facts : List Fact) (f : Fact) → P ((past ++ facts) ++ f ∷ []) → P (past ++ (facts ++ f ∷ []))
 regroup P past facts f p = subst P (append_assoc past facts (f ∷ [])) p
 
-pub ungroup : (P : List Fact → Type 0) (past facts : List Fact) (f : Fact) → P (past ++ (facts ++ f ∷ [])) → P ((past ++ facts) ++ f ∷ [])
-ungroup P past facts f p = subst P (sym (append_assoc past facts (f ∷ []))) p
-
 -- where nothing happens all is as it should be
 pub keeps_still : (run : ℕ) (m : Moment) → Keeps run m m
 keeps_still run m = Here (λ past begins. record { legal = begins.legal; kept = begins.kept })

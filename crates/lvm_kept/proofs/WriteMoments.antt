@@ -15,7 +15,7 @@ use Rattle.lvm_kept.specs.Raw.{RawKept}
 use Rattle.lvm_kept.specs.Moments.{Moment, Step, Moves, Calm, Begins, Holds, Upholds, Keeps, StaysCalm}
 use Rattle.lvm_kept.specs.Raw.{raw_request, Carries, OnlyAdds, IsStill}
 use Rattle.lvm_kept.proofs.Landing.{unlanded, untaken, stands_last, stands_first, any_more, any_last, lands_itself, low_none}
-use Rattle.lvm_kept.proofs.Keeping.{begun_kept, done_kept, lost_kept, kept_cut, kept_closed, kept_taken, landed_calm, cut_calm, taken_calm, closed_calm}
+use Rattle.lvm_kept.proofs.Keeping.{begun_kept, done_kept, lost_kept, kept_cut, kept_closed, kept_taken, landed_calm, cut_calm, taken_calm}
 use Rattle.lvm_kept.proofs.Spans.{at_moment, regroup, keeps_still, keeps_entry, keeps_steps, next_joined, from_before}
 
 -- a request that begins with the next number has neither landed nor been taken

@@ -17,14 +17,6 @@ use Rattle.clap.proofs.FaultLemmas.{stopped_fault}
 use Rattle.clap.proofs.WalkLemmas.{walk_stopped}
 use Rattle.lvm_language.specs.CommandLine.{is_signed, lvm_app, script_app, sim_app, image_app}
 
-pub is_free : is_simple_and_free lvm_app ≡ true
-unfolding clap_on_literals
-is_free = refl
-
-pub is_simple_app : is_simple lvm_app ≡ true
-unfolding clap_on_literals
-is_simple_app = refl
-
 -- ---- a word without a sign in front is no flag
 
 no_hyphen : (b : ℕ) → (b == 43 || b == 45) ≡ false → (b == 45) ≡ false
@@ -247,10 +239,6 @@ pub numbered_fault : (j : Numbered) (rest : List Text) → fault_of lvm_app ((ap
 unfolding clap_on_literals
 numbered_fault sim rest = ap₂ named_kinds (after_name (codes "sim") rest) (after_name_fault (codes "sim") rest)
 numbered_fault image rest = ap₂ named_kinds (after_name (codes "image") rest) (after_name_fault (codes "image") rest)
-
-pub script_entered : (rest : List Text) → option_map (λ p. p.0) (subcommand_of lvm_app (codes "script" ∷ rest)) ≡ Some (codes "script")
-unfolding clap_on_literals
-script_entered rest = ap (λ (w : Walk). option_map (λ p. p.0) (entered (built lvm_app) w.stopped)) (after_name (codes "script") rest)
 
 pub numbered_entered : (j : Numbered) (a b : Text) → is_signed a ≡ false → is_signed b ≡ false → subcommand_of lvm_app ((app_for j).top.name ∷ a ∷ b ∷ []) ≡ Some ((app_for j).top.name, first_row j a ∷ second_row b ∷ [])
 unfolding clap_on_literals

@@ -43,10 +43,6 @@ pub more_one_of : {X : Type 0} (xs : List X) (i : ℕ) (y x : X) → i < length 
 more_one_of xs i y x lt here is = subst (λ (l : List _). IsOneOf l x) (sym (take_more xs i y lt))
     (⊎_elim (λ l. append_left (take i xs) (get_or xs i y ∷ []) x l) (λ (e : x ≡ y). append_right (take i xs) (get_or xs i y ∷ []) x (inl (e ∙ here))) is)
 
-pub take_whole : {X : Type 0} (xs : List X) → take (length xs) xs ≡ xs
-take_whole [] = refl
-take_whole (x ∷ xs) = ap (λ (l : List _). x ∷ l) (take_whole xs)
-
 -- ---- tables with the same rows
 
 any_disk : (rows : List StatusRow) (disk : ℕ) → list_any (λ (row : StatusRow). row.disk == disk) rows ≡ list_any (λ n. n == disk) (map (λ (row : StatusRow). row.disk) rows)
@@ -222,20 +218,6 @@ no_pp = record { disk = 0; pp = 0 }
 
 pub at_place : (xs : List Pp) (i : ℕ) → i < length xs → get_or xs i no_pp ≡ get_or xs i (get_or xs i no_pp)
 at_place xs i lt = get_or_default xs i no_pp (get_or xs i no_pp) lt
-
-none_before : (copies : List Pp) (p : Pp) → IsOneOf (take 0 copies) p → ⊥
-none_before [] p is = is
-none_before (x ∷ copies) p is = is
-
--- none is marked yet
-pub no_copies : (answering : Disks) (s : Status) (copies : List Pp) → IsValidStatus s → Marks answering (λ p. IsOneOf (take 0 copies) p × IsFalse (answering p.disk)) s s
-no_copies answering s copies valid = marks_none answering (λ p. IsOneOf (take 0 copies) p × IsFalse (answering p.disk)) s valid (λ p is. none_before copies p is.0)
-
--- an element of a list is one of it
-pub one_at : {X : Type 0} (xs : List X) (i : ℕ) (d : X) → i < length xs → IsOneOf xs (get_or xs i d)
-one_at [] i d lt = absurd (omega (arith, lt))
-one_at (x ∷ xs) zero d lt = inl refl
-one_at (x ∷ xs) (suc i) d lt = inr (one_at xs i d (omega (arith, lt)))
 
 -- what holds of all elements of all pieces holds of those of one piece
 pub markable_row : (s : Status) (rows : List LvRow) (i : ℕ) (d : LvRow) → i < length rows → All (IsMarkable s) (partitions_in rows) → All (IsMarkable s) (get_or rows i d).map

@@ -57,9 +57,6 @@ lp_below mib lps block some lt = grind (arith)
 pub block_below : (mib lps block : ℕ) → 1 ≤ mib → partition_of mib block < lps → block < volume_blocks mib lps
 block_below mib lps block some lt = grind (arith)
 
-pub lp_past : (mib lps block : ℕ) → 1 ≤ mib → volume_blocks mib lps ≤ block → lps ≤ partition_of mib block
-lp_past mib lps block some le = grind (arith)
-
 pub index_below : (row : LvRow) (lp copy : ℕ) → length row.map ≡ row.lps * row.copies → lp < row.lps → 1 ≤ copy → copy ≤ row.copies
     → lp * row.copies + (copy - 1) < length row.map
 index_below row lp copy whole lt first last = omega (arith, mul-add-lt lp row.copies (copy - 1) row.lps lt (omega arith), mul_comm)
@@ -92,12 +89,6 @@ no_partition row lp copy whole more = by_copy (copy == 0)
     by_copy false = past (copies_of row lp) (copy - 1) (omega (arith, length-take row.copies (drop (lp * row.copies) row.map), ap (λ (pps : List Pp). length pps) none))
 
 -- ---- a place
-
-pub place-is : (d : Descriptor) (lv copy block : ℕ) (row : LvRow) (pp : Option Pp) → volume_of d lv ≡ Some row → copy_at row (partition_of d.mib block) copy ≡ pp
-    → place_of d lv copy block ≡ option_map (λ (it : Pp). place_on d.mib it block) pp
-place-is d lv copy block row pp is at =
-    ap (option_and_then (λ (r : LvRow). option_map (λ (it : Pp). place_on d.mib it block) (copy_at r (partition_of d.mib block) copy))) is
-    ∙ ap (option_map (λ (it : Pp). place_on d.mib it block)) at
 
 -- a copy that is there
 pub record IsCopy (row : LvRow) (lp copy : ℕ) : Type 0 where

@@ -42,9 +42,6 @@ map_bounded d valid = maps_bounded d.lvs (used_bounded d valid)
 
 -- ---- marks as numbers and as partitions
 
-differ : (m n : ℕ) → m ≢ n → m == n ≡ false
-differ m n apart = grind (arith, nat_tests)
-
 same : (m n : ℕ) → m ≡ n → m == n ≡ true
 same m n e = grind (arith, nat_tests)
 

@@ -37,11 +37,3 @@ one_filled disk first count old now new i x so_far below within is set_it = subs
   ];
   rest = set_drop now.sectors i count x below ∙ so_far.rest;
 })
-
-any_default : (l : List Sector) (i : ℕ) (x y : Sector) → i < length l → slice_index_or l i x ≡ slice_index_or l i y
-any_default [] i x y within = absurd (omega arith)
-any_default (z ∷ l) zero x y within = refl
-any_default (z ∷ l) (suc i) x y within = any_default l i x y (omega arith)
-
-pub read_is : (disk : List Sector) (at : ℕ) (x : Sector) → x ≡ slice_index_or disk at x → at < length disk → x ≡ slice_index_or disk at []
-read_is disk at x is within = is ∙ any_default disk at x [] within

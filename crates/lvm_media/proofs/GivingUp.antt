@@ -25,10 +25,6 @@ pub headed : (l : List Flying) (x : Flying) (rest : List Flying) → 0 < length 
 headed [] x rest some is left = absurd (omega arith)
 headed (y ∷ l) x rest some is left = (λ i. flight_of (sym is i) ∷ flights_of l) ∙ ap (λ (m : List Flying). flight_of x ∷ flights_of m) (sym left)
 
-pub length-flights : (l : List Flying) → length (flights_of l) ≡ length l
-length-flights [] = refl
-length-flights (f ∷ l) = ap suc (length-flights l)
-
 few_written : (write : Bool) (count : ℕ) → count ≤ 256 → cond write count 0 ≤ 256
 few_written true count few = few
 few_written false count few = omega arith

@@ -6,11 +6,6 @@ use Rattle.lvm_media.specs.Media.{sizes_of}
 abbrev Disks : Type 0
 Disks = List (List Sector)
 
-pub size_at : (disks : Disks) (d : ℕ) → slice_index_or (sizes_of disks) d 0 ≡ length (slice_index_or disks d [])
-size_at [] d = refl
-size_at (x ∷ disks) zero = refl
-size_at (x ∷ disks) (suc d) = size_at disks d
-
 pub length-sizes : (disks : Disks) → length (sizes_of disks) ≡ length disks
 length-sizes [] = refl
 length-sizes (x ∷ disks) = ap suc (length-sizes disks)

@@ -89,18 +89,9 @@ room_none es lv group at full unpinned =
 
 -- ---- what a pin answers
 
-none_test : (test : Bool) (pins : ℕ) → None ≡ cond test None (Some pins) → test ≡ true
-none_test true pins is = refl
-none_test false pins is = cc
-
 some_test : (test : Bool) (pins had : ℕ) → Some pins ≡ cond test None (Some had) → (test ≡ false) × (pins ≡ had)
 some_test true pins had is = cc
 some_test false pins had is = (refl, cc)
-
-pub all_pinned : (es new : List CacheEntry) (lv group : ℕ) → MakesRoom es new lv group None → (are_all_pinned es lv group ≡ true) × (new ≡ es)
-all_pinned es new lv group room =
-    let all : are_all_pinned es lv group ≡ true = none_test (are_all_pinned es lv group) (pins_of es lv group) room.answer in
-    (all, rw all at room.room)
 
 pub has_room : (es new : List CacheEntry) (lv group pins : ℕ) → MakesRoom es new lv group (Some pins) → (are_all_pinned es lv group ≡ false) × (pins ≡ pins_of es lv group) × (new ≡ room_for es lv group) × (length new < 62)
 has_room es new lv group pins room =

@@ -23,14 +23,6 @@ cached entries notes = record { entries = entries; notes = notes }
 abbrev pub notes_of : ℕ → ArrayVec NoteEntry → Option (ArrayVec NoteEntry) → DiskNotes
 notes_of disk written flight = record { disk = disk; written = written; flight = flight }
 
--- ---- what is named
-
-pub not_named : (s : Cached) (disk lv group : ℕ) → position (is_on disk) s.notes ≡ None → is_named s disk lv group ≡ false
-not_named s disk lv group at = ap (λ (o : Option DiskNotes). option_map_or (both_name lv group) o false) (none_at (is_on disk) s.notes at).found
-
-pub named_at : (s : Cached) (disk lv group k : ℕ) (d : DiskNotes) → position (is_on disk) s.notes ≡ Some k → is_named s disk lv group ≡ both_name lv group (get_or s.notes k d)
-named_at s disk lv group k d at = ap (λ (o : Option DiskNotes). option_map_or (both_name lv group) o false) (first_at (is_on disk) s.notes d k at).found
-
 -- ---- one disk's notes change
 
 changed_at : (s : Cached) (es : List CacheEntry) (ns : List DiskNotes) (disk k : ℕ) (f : DiskNotes → DiskNotes) (row d : DiskNotes) → cached es ns ≡ s → position (is_on disk) ns ≡ Some k → row ≡ f (get_or ns k d) → cached es (set ns k row) ≡ record s { notes = with_first (is_on disk) f s.notes }

@@ -89,17 +89,6 @@ any_found (r ∷ rs) disk row e = by_test (r.disk == disk) e (any_found rs disk 
     by_test true e rest = refl
     by_test false e rest = rest e
 
-pub found_disk : (rows : List PvRow) (disk : ℕ) (row : PvRow) → find (λ (r : PvRow). r.disk == disk) rows ≡ Some row → row.disk ≡ disk
-found_disk [] disk row e = absurd (none row e)
-  where
-    none : (r : PvRow) → None ≡ Some r → ⊥
-    none r e = cc
-found_disk (r ∷ rs) disk row e = by_test (r.disk == disk) refl e (found_disk rs disk row)
-  where
-    by_test : (t : Bool) → (r.disk == disk) ≡ t → (if t then Some r else find (λ (x : PvRow). x.disk == disk) rs) ≡ Some row → (find (λ (x : PvRow). x.disk == disk) rs ≡ Some row → row.disk ≡ disk) → row.disk ≡ disk
-    by_test true is e rest = let same : r ≡ row = cc in subst (λ (x : PvRow). x.disk ≡ disk) same (eqb-true r.disk disk is)
-    by_test false is e rest = rest e
-
 pub is_member_of : (d : Descriptor) (p : Pp) → IsPartitionOf d p → IsTrue (is_member d p.disk)
 is_member_of d p of = any_found d.pvs p.disk of.0 of.1
 

@@ -36,10 +36,6 @@ pairs_tail R x xs pairs i j d less lt = pairs (suc i) (suc j) d (omega (arith, l
 pairs_head : {X : Type 0} (R : X → X → Type 0) (x : X) (xs : List X) → AllPairs R (x ∷ xs) → All (R x) xs
 pairs_head R x xs pairs k d lt = pairs 0 (suc k) d (omega arith) (omega (arith, lt))
 
--- whether a row says so of a disk
-says : (StatusRow → Bool) → ℕ → StatusRow → Bool
-says mark disk row = row.disk == disk && mark row
-
 and_false : (a b : Bool) → a ≡ false → a && b ≡ false
 and_false true b e = absurd cc
 and_false false b e = refl

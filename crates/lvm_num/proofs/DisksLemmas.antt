@@ -71,11 +71,3 @@ has-without set disk fits within other = elim (eqb_tells other disk) [
         let none : bit_at set k ≡ 0 = bit_at_above set 128 k fits more in
         let meet = bit_at_and set (2 ^ 128 - 1 - 1 * 2 ^ disk % 2 ^ 128) k in
         omega (arith, none, meet)
-
--- two sets with the same disks are one
-pub same_disks : (a b : ℕ) → ((disk : ℕ) → has a disk ≡ has b disk) → a ≡ b
-unfolding has
-same_disks a b same = same_from_bits a b (λ disk. by_test (bit_at a disk) (bit_at b disk) (bit_at-lt a disk) (bit_at-lt b disk) (same disk))
-  where
-    by_test : (m n : ℕ) → m < 2 → n < 2 → m == 1 ≡ n == 1 → m ≡ n
-    by_test m n p q e = grind (arith, nat_tests)

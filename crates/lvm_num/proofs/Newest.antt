@@ -25,10 +25,6 @@ is_one X at (suc n) r e = ⊎_elim (λ (h : newest_below at n ≡ Some r). let d
 not_itself : (a : Stamp) → stamp_lt a a ≡ false
 not_itself a = grind (arith, nat_tests)
 
--- a isn't before b, and b isn't before c
-not_before : (a b c : Stamp) → stamp_lt a b ≡ false → stamp_lt b c ≡ false → stamp_lt a c ≡ false
-not_before a b c h k = grind (arith, nat_tests)
-
 -- a is before b, and a isn't before c: neither is b
 later_too : (a b c : Stamp) → stamp_lt a b ≡ true → stamp_lt a c ≡ false → stamp_lt b c ≡ false
 later_too a b c h k = grind (arith, nat_tests)

@@ -28,9 +28,6 @@ AllPairs-more {X} R xs k e lt old here i j d less inside =
 pub AllPairs-all : {X : Type 0} (R : X → X → Type 0) (xs : List X) (k : ℕ) → length xs ≤ k → AllPairs R (take k xs) → AllPairs R xs
 AllPairs-all R xs k all old = subst (AllPairs R) (take_all k xs all) old
 
-pub All-all : {X : Type 0} (P : X → Type 0) (xs : List X) (k : ℕ) → length xs ≤ k → All P (take k xs) → All P xs
-All-all P xs k all old = subst (All P) (take_all k xs all) old
-
 -- what a test of the first k elements tells
 pub none_before : {X : Type 0} (p : X → Bool) (xs : List X) (k : ℕ) → k ≤ length xs → list_any p (take k xs) ≡ false
     → (i : ℕ) (d : X) → i < k → p (get_or xs i d) ≡ false

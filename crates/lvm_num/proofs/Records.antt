@@ -70,9 +70,6 @@ length-payload : (content : List ℕ) → length (payload content) ≡ 496 * rec
 length-payload content =
     omega (arith, enough (length content), length-append content (replicate (496 * record_sectors (length content) - 4 - length content) 0), length-replicate {A = ℕ} (496 * record_sectors (length content) - 4 - length content) 0)
 
-part : (content : List ℕ) (k : ℕ) → List ℕ
-part content k = take 496 (drop (496 * k) (payload content))
-
 length-part : (content : List ℕ) (k : ℕ) → k < record_sectors (length content) → length (take 496 (drop (496 * k) (payload content))) ≡ 496
 length-part content k lt = omega (arith, length-take 496 (drop (496 * k) (payload content)), length-drop (496 * k) (payload content), length-payload content)
 
@@ -169,9 +166,6 @@ unfolding record_in
 held_is_read kind slot r is = ap (λ (x : Framed). then_some (may_be kind slot x) x) (announced-is kind slot r is) ∙ ap (λ (b : Bool). then_some b r) (may-is kind slot r is)
 
 -- ---- what is read is bytes
-
-AreBytes : List ℕ → Type 0
-AreBytes bytes = (i : ℕ) → get_or bytes i 0 < 256
 
 pub bytes-drop : (n : ℕ) (bytes : List ℕ) → ((i : ℕ) → get_or bytes i 0 < 256) → (i : ℕ) → get_or (drop n bytes) i 0 < 256
 bytes-drop n bytes h i = rw get_or-drop (h (n + i))

@@ -185,9 +185,6 @@ total-some d some = by_rows d.pvs refl
         subst (λ (list : List PvRow). 1 ≤ sum_by (counted (votes_by d.even list) all_disks) list) (sym e)
         (omega (arith, first-votes d.even row rows, some_votes (votes_by d.even (row ∷ rows)) row rows))
 
-total_by : Bool → List PvRow → ℕ
-total_by even rows = sum_by (counted (votes_by even rows) all_disks) rows
-
 pub total-many : (even : Bool) (rows : List PvRow) → 3 ≤ length rows → sum_by (counted (votes_by even rows) all_disks) rows ≡ length rows
 total-many even rows many = sum-ones (counted (votes_by even rows) all_disks) rows (λ k row lt.
     let disk = (get_or rows k row).disk in

@@ -77,14 +77,6 @@ ends_in {T} high l value within = at l.words within.0
     at [] words = tt
     at (w ∷ ws) words = words.0
 
-ends_then : {T B : Type 0} (high : ℕ) (l : Left) (value : T) → LeftIn high l → (next : T → Result B Misfit) → ((v : T) → In high (next v)) → In high (then_ (ends l value) next)
-unfolding ends
-ends_then {T} {B} high l value within next more = at l.words within.0
-  where
-    at : (ws : List WordAt) → AreIn high ws → In high (then_ (ends_of ws value) next)
-    at [] words = more value
-    at (w ∷ ws) words = words.0
-
 -- the last operand, and what it makes
 last_then : {T B : Type 0} (high : ℕ) (meaning : List ℕ → Option T) (l : Left) → LeftIn high l → (make : T → B) → In high (then_ (last meaning l) (λ value. Ok (make value)))
 unfolding operand ends

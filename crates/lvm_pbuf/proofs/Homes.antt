@@ -72,12 +72,6 @@ home_without places k home = record {
   number = λ j buf is. elim (set_cases places k j None (Some buf) is) [ inl here ↦ absurd (none-some buf here.1) | inr there ↦ home.number j buf there ];
 }
 
-pub home_with : (places : List (Option Buffer)) (k : ℕ) (buf : Buffer) → buf.number ≡ k → IsAtHome places → IsAtHome (set places k (Some buf))
-home_with places k buf its home = record {
-  most = omega (arith, home.most, length-set places k (Some buf));
-  number = λ j other is. elim (set_cases places k j (Some buf) (Some other) is) [ inl here ↦ ap (λ (b : Buffer). b.number) (sym (same_Some buf other here.1)) ∙ its ∙ sym here.0 | inr there ↦ home.number j other there ];
-}
-
 -- so many buffers, all of them in
 pub record IsFresh (places : List (Option Buffer)) (count : ℕ) : Type 0 where
   pub size : length places ≡ count

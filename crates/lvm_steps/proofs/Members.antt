@@ -8,7 +8,7 @@ use Rattle.lvm_num.specs.Record.{Stamped}
 use Rattle.lvm_num.specs.Votes.{all_disks}
 use Rattle.lvm_kept.specs.Contents.{Contents}
 use Rattle.lvm_kept.specs.Group.{passes, is_of, has_room, members_in}
-pub use Rattle.lvm_kept.proofs.Alike.{same_id, same_votes, same_room}
+pub use Rattle.lvm_kept.proofs.Alike.{same_votes, same_room}
 use Rattle.lvm_steps.proofs.Booleans.{split, join}
 
 -- a record that is shown passes where the test does

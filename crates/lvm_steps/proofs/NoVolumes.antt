@@ -128,10 +128,6 @@ and_true : (b : Bool) → b && true ≡ b
 and_true true = refl
 and_true false = refl
 
-and_false : (b : Bool) → b && false ≡ false
-and_false true = refl
-and_false false = refl
-
 module _ (old new : Contents) (group : Descriptor) (targets : Disks) (next : Stamped Descriptor) (may : MayMake old group) (is : next.value ≡ group) (change : DescriptorsChange targets next old new) where
   abbrev v : ℕ
   v = next.value.id

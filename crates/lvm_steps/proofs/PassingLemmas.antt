@@ -24,26 +24,6 @@ some_passing test (y ∷ ys) some = by (test y) refl (λ s. some_passing test ys
     by true is further some = (y, inl refl, is)
     by false is further some = let rest = further some in (rest.0, inr rest.1, rest.2)
 
--- none is left, or one that passes
-pub none_passing : {X : Type 0} (test : X → Bool) (xs : List X) → (filter test xs ≡ []) ⊎ ((x : X) × IsOneOf xs x × IsTrue (test x))
-none_passing test [] = inl refl
-none_passing test (y ∷ ys) = by (test y) refl (none_passing test ys)
-  where
-    by : (t : Bool) → test y ≡ t → ((filter test ys ≡ []) ⊎ ((x : _) × IsOneOf ys x × IsTrue (test x))) → ((if t then y ∷ filter test ys else filter test ys) ≡ []) ⊎ ((x : _) × IsOneOf (y ∷ ys) x × IsTrue (test x))
-    by true is further = inr (y, inl refl, is)
-    by false is (inl none) = inl none
-    by false is (inr rest) = inr (rest.0, inr rest.1, rest.2)
-
--- where none is left, none passes
-pub passes_none : {X : Type 0} (test : X → Bool) (xs : List X) (x : X) → filter test xs ≡ [] → IsOneOf xs x → IsTrue (test x) → ⊥
-passes_none test [] x none one passes = one
-passes_none test (y ∷ ys) x none one passes = by (test y) refl (λ rest there. passes_none test ys x rest there passes) none one
-  where
-    by : (t : Bool) → test y ≡ t → (filter test ys ≡ [] → IsOneOf ys x → ⊥) → (if t then y ∷ filter test ys else filter test ys) ≡ [] → IsOneOf (y ∷ ys) x → ⊥
-    by true is further none one = absurd cc
-    by false is further none (inl here) = absurd (let p = passes in let q = ap test here in cc)
-    by false is further none (inr there) = further none there
-
 -- where one passes, one is left
 pub one_passes : {X : Type 0} (test : X → Bool) (xs : List X) (x : X) → IsOneOf xs x → test x ≡ true → IsSome (filter test xs)
 one_passes test [] x one passes = absurd one

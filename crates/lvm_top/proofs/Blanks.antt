@@ -14,7 +14,7 @@ use Rattle.lvm_stamps.specs.Behind.{IsBehind}
 use Rattle.lvm_stamps.proofs.Records.{blank_is_behind}
 use Rattle.lvm_top.specs.Sim.{sim_device, IsToldBlank}
 use Rattle.lvm_io.specs.Stream.{WhereTold, WritesFront}
-use Rattle.lvm_io.proofs.Told.{told_on, told_same}
+use Rattle.lvm_io.proofs.Told.{told_on}
 
 -- rows of zeros, one behind the other, are zeros
 pub flat_zeros : (rows count : ℕ) → flat_map (λ (row : List ℕ). row) (replicate rows (replicate count 0)) ≡ replicate (rows * count) 0

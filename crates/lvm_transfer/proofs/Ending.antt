@@ -79,9 +79,6 @@ module _ (old now new : Device) (n : ℕ) (so_far : WaitsSoFar old now n) where
       power = ap (λ (d : Device). d.power) ends.new_is ∙ ap (λ (d : Device). d.power) so_far.only.now_is ∙ power;
     }
 
-pub cut_rests : (old new : Device) → Cuts old new → (new.flights ≡ []) × (new.power ≡ false)
-cut_rests old new cuts = (ap (λ (d : Device). d.flights) cuts.new_is, ap (λ (d : Device). d.power) cuts.new_is)
-
 -- ---- a whole transfer
 
 nothing_yet : (f : Flight) (old : Device) → OnlyAdds f old old
@@ -100,14 +97,3 @@ dark_moments f old mid cuts = Then (Here (nothing_yet f old)) (WasCut cuts) (λ 
 -- crash images don't know tickets
 pub any_ticket : (ticket : ℕ) (write : Bool) (disk first count : ℕ) (buf : Buffer) (old new : Device) → Path DeviceStep (OnlyAdds (flight_of ticket write disk first count buf) old) old new → Path DeviceStep (OnlyAdds (flight_of 0 write disk first count buf) old) old new
 any_ticket ticket write disk first count buf old new path = map-path (OnlyAdds (flight_of 0 write disk first count buf) old) (λ d adds image may. let from = adds image may in (from.0, from.1, record { same = from.2.same; each = from.2.each })) path
-
--- a start that was waited for
-pub from_finish : (patience : ℕ) (f : Flight) (old mid new : Device) (how : Moved) → Starts old mid f → FinishGives patience mid new f how → TransferGives patience old new f how
-from_finish patience f old mid new (moved.Done back) starts ends = (ends.0, record { begun = mid; starts = starts; waits = ends.1 }, ends.2)
-from_finish patience f old mid new (moved.Failed back) starts ends = (ends.0, record { begun = mid; starts = starts; waits = ends.1 }, ends.2)
-from_finish patience f old mid new (moved.Dark true) starts ends = (ends.1.0, record { begun = mid; starts = starts; waits = ends.1.1 }, ends.1.2)
-from_finish patience f old mid new (moved.Dark false) starts ends = absurd (let e = ends.0 in cc)
-from_finish patience f old mid new moved.Stuck starts ends = (
-  record { begun = mid; starts = starts; waits = ends.0 },
-  subst (λ (d : Device). Rattle.lvm_disk.specs.Counts.RoseBy patience d.counts.waits new.counts.waits) (starts.new_is) ends.1,
-)

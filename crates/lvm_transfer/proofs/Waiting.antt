@@ -48,10 +48,6 @@ one_freed old now new buf so_far is =
 pub lit : (old now new : Device) → FreesOnly old now → now.freed ≡ [] → Lights now new → Relights old new
 lit old now new so_far none is = is ∙ ap (λ (d : Device). record d { power = true }) so_far.same ∙ ap (λ (l : List Buffer). record old { freed = l; power = true }) none
 
--- the call that found nothing to free changed nothing
-pub lit_after : (old now mid new : Device) → old.flights ≡ [] → FreesOnly old now → now.freed ≡ [] → mid ≡ now → Lights mid new → Relights old new
-lit_after old now mid new still so_far none same is = lit old now new so_far none (is ∙ ap (λ (d : Device). record d { power = true }) same)
-
 pub lit_moments : (old now mid new : Device) → old.flights ≡ [] → FreesOnly old now → now.freed ≡ [] → mid ≡ now → Lights mid new → Path DeviceStep (LeavesNoMore old) old new
 lit_moments old now mid new still so_far none same is =
     let lights : Lights now new = is ∙ ap (λ (d : Device). record d { power = true }) same in

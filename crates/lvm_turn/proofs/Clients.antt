@@ -24,14 +24,6 @@ numbers-holds (x ∷ xs) c there = ⊎_elim
     (λ (rest : Stands c (numbers xs)). let held = numbers-holds xs c rest in (held.0, inr held.1))
     there
 
--- and the other way
-pub holds-numbers : (xs : List Client) (c : ℕ) → Holds xs c → Stands c (numbers xs)
-holds-numbers [] c none = absurd none.1
-holds-numbers (x ∷ xs) c there = ⊎_elim
-    (λ (is : (x.number ≡ c) × (x.own ≡ there.0)). inl is.0)
-    (λ (rest : Owns xs c there.0). inr (holds-numbers xs c (there.0, rest)))
-    there.1
-
 module _ (p : ℕ → Bool) where
   by_number : (x : Client) (xs ys : List Client) (b : Bool) → numbers ys ≡ filter p (numbers xs) → numbers (cond b (x ∷ ys) ys) ≡ cond b (x.number ∷ filter p (numbers xs)) (filter p (numbers xs))
   by_number x xs ys true rest = ap (λ ns. x.number ∷ ns) rest

@@ -75,10 +75,6 @@ pub is_flag_flag : (b : Bool) → is_flag (flag b) ≡ true
 is_flag_flag true = refl
 is_flag_flag false = refl
 
-pub flag_below : (b : Bool) → flag b < 256
-flag_below true = omega arith
-flag_below false = omega arith
-
 -- ---- a member
 
 pub differs : (m n : ℕ) → m == n ≡ false → m ≢ n

@@ -43,9 +43,6 @@ keeps_then targets P old mid new one two = record {
       (λ a b c p q. changes_then P (image_of old.sizes a) (image_of mid.sizes b) (image_of new.sizes c) p q) one.media two.media;
 }
 
-pub still_room : (old new : Device) (d : ℕ) → new.sizes ≡ old.sizes → HasRoom old d → HasRoom new d
-still_room old new d same room = (room.0, subst (λ (l : List ℕ). slice_get l d ≡ Some room.0) (sym same) room.1, room.2)
-
 -- ---- the patience
 
 pub spends_none : (patience : ℕ) (old : Device) → Spends patience patience old old
