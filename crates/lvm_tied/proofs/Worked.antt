@@ -1,0 +1,34 @@
+-- A session that has just begun is tied.
+use Rattle.std.proofs.Common.{◌≡◌, Option, Some, None, refl}
+use Rattle.lvm_kept.specs.Examples.{two}
+use Rattle.lvm_crash.specs.Worked.{media_of}
+use Rattle.lvm_crash.proofs.Worked.{groups_have_votes}
+use Rattle.lvm_tied.specs.Worked.{shown, BeginningsAreTied}
+use Rattle.lvm_tied.proofs.Parts.{no_note_flies, is_sound}
+use Rattle.lvm_tied.proofs.Seen.{seen_as, is_good, it_describes, sees}
+use Rattle.lvm_tied.proofs.Shelf.{may_update, members}
+
+none_flies : {A X : Type 0} (o : Option A) (x : A) → o ≡ None → o ≡ Some x → X
+none_flies None x none some = absurd cc
+none_flies (Some y) x none some = absurd cc
+
+pub beginnings_are_tied : BeginningsAreTied
+beginnings_are_tied mode stale = let votes = groups_have_votes (two mode) in record {
+  votes = votes.0;
+  are_votes = votes.1;
+  media = media_of (shown mode stale);
+  told = refl;
+  view = seen_as mode stale;
+  sees = sees mode stale;
+  good = is_good votes.0 mode stale votes.1;
+  describes = it_describes mode stale;
+  write = None;
+  orderly = record { sound = is_sound mode stale; on = refl; update = tt };
+  since = tt;
+  next = may_update mode stale;
+  notes = λ d items flies. none_flies _ items (no_note_flies mode stale d) flies;
+  copy_aimed = λ c is row. absurd cc;
+  carry = tt;
+  members = λ d is there. members mode stale d is;
+  own = refl;
+}
