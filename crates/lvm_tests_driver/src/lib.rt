@@ -1,0 +1,7 @@
+//! Tests of the driver of requests, by its public calls.
+#![tactic(auto)]
+
+#[cfg(test)]
+mod fixtures;
+#[cfg(test)]
+mod requests;
