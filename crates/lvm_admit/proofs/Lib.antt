@@ -1,3 +1,3 @@
 mod Copies
-mod Numbers
+pub mod Numbers
 mod Admitting

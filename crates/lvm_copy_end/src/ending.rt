@@ -67,8 +67,8 @@ fn quit(copy: &mut Option<OpenCopy>, how: CopyEnd) -> GivenUp
     }
 }
 
-// The one at a place of the queue leaves it, if one is there.
-fn leave_if_inside(queue: &mut Queue, place: u64)
+/// The one at a place of the queue leaves it, if one is there.
+pub fn leave_if_inside(queue: &mut Queue, place: u64)
     ensures { queue.new ≡ record queue.old { rows = without place queue.old.rows } }
 {
     if queue.has(place) {
@@ -97,4 +97,17 @@ pub fn end_copy(session: &mut Session, how: CopyEnd)
     let given = quit(&mut session.copy, how);
     give_back(&mut session.pool, given.hand);
     leave(&mut session.queue, given.place);
+}
+
+/// It ends so, if it does.
+pub fn end_copy_if(session: &mut Session, end: Option<CopyEnd>)
+    requires { MayEndCopy (core_of session.old) }
+    ensures core { core_of session.new ≡ record (with_end (core_of session.old) end) { status = session.new.updater } }
+    ensures marks { WantsStale (marked_by_end (core_of session.old) end) session.old.updater session.new.updater }
+    ensures rooms { SameRooms session.old session.new }
+{
+    match end {
+        None => {}
+        Some(how) => end_copy(session, how),
+    }
 }

@@ -4,4 +4,5 @@
 mod ending;
 mod marking;
 
-pub use ending::end_copy;
+pub use ending::{end_copy, end_copy_if, leave_if_inside};
+pub use marking::is_whole;

@@ -11,8 +11,8 @@ use lvm_marks::want_stale;
 use lvm_num::Pp;
 use lvm_session::{CopyEnd, OpenCopy, Session};
 
-// Whether all track groups of the copy that is open are copied.
-fn is_whole(session: &Session, copy: &OpenCopy) -> bool
+/// Whether all track groups of the copy that is open are copied.
+pub fn is_whole(session: &Session, copy: &OpenCopy) -> bool
     ensures { result ≡ is_whole (core_of session.now) copy.now }
 {
     u64::from(copy.cursor) >= partition_blocks(session.descriptor.mib) / 256

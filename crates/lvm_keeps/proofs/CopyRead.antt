@@ -34,6 +34,7 @@ use Rattle.lvm_sound.specs.Requests.{IsOpenOne}
 use Rattle.lvm_sound.specs.Causes.{AreCaused, AreCounted, HaveSourcesFailed, IsAnswered, IsCaused, IsChosenSince, IsCopyCaused, IsCounted, IsLandedFor, IsTrueToOrigin, is_over}
 use Rattle.lvm_sound.specs.Sound.{IsCopy, IsFitting, IsGoing, IsOn, IsSound, IsTold, count_if, has_number, is_dark, is_hand, out_with, waiting_rows, with_row}
 use Rattle.lvm_keeps.specs.Keeps.{CopyReadKeeps}
+use Rattle.lvm_keeps.proofs.Fitting.{still_fits}
 use Rattle.lvm_keeps.proofs.Launching.{flights_push, owners_push, rows_push, taken, tickets_push}
 use Rattle.lvm_keeps.proofs.Lists.{all_on, length_set}
 use Rattle.lvm_keeps.proofs.Rows.{all_fly}
@@ -133,24 +134,7 @@ module _ (s : State) (sound : IsSound s) (on : s.core.power ≡ power.On) (c : O
   found = found_in (λ (p : Pp). not (has c.tried p.disk)) (λ (p : Pp). not (is_pp p c.pp) && is_usable core p) (copies_in core.descriptor c.lv c.lp) source source_is
 
   fitting : IsFitting now.core
-  fitting = let f = sound.fitting in record {
-    valid = f.valid;
-    id = f.id;
-    rows = f.rows;
-    group = f.group;
-    entries = f.entries;
-    notes = f.notes;
-    table = f.table;
-    most = f.most;
-    queue = f.queue;
-    a_buffer = subst (λ n. 1 ≤ n) (sym same_long) f.a_buffer;
-    buffers = subst (λ n. n ≤ 1024) (sym same_long) f.buffers;
-    last = f.last;
-    room = f.room;
-  }
-    where
-      same_long : length pool ≡ length core.pool
-      same_long = length_set core.pool f.buf.number true
+  fitting = let was = sound.fitting in still_fits core now.core was refl was.entries (λ disk. refl) was.table (length_set core.pool f.buf.number true) was.room
 
   told : IsTold now.core
   told = let t = sound.told in record { ordered = t.ordered; table = t.table; each = t.each; requests = t.requests }

@@ -34,15 +34,15 @@ use Rattle.lvm_keeps.proofs.Bounding.{take_few}
 use Rattle.lvm_keeps.proofs.CopyRead.{at_rest, running, short}
 use Rattle.lvm_keeps.proofs.PinFalls.{sum_same}
 
-module _ (core : Core) (c : OpenCopy) (source : Pp) (row : Flown) (pool : List Bool) where
+module _ (core : Core) (c : OpenCopy) (to : Step) (row : Flown) (pool : List Bool) where
   abbrev before : Core
   before = record core { copy = Some c }
 
-  abbrev reading : OpenCopy
-  reading = record c { step = step.Reading source }
+  abbrev stepping : OpenCopy
+  stepping = record c { step = to }
 
   abbrev after : Core
-  after = record core { flying = core.flying ++ row ∷ []; pool = pool; copy = Some reading }
+  after = record core { flying = core.flying ++ row ∷ []; pool = pool; copy = Some stepping }
 
   -- the requests have as much left
   phase_same : (p : Phase) (r : Request) → phase_left p after r ≡ phase_left p before r
@@ -59,7 +59,7 @@ module _ (core : Core) (c : OpenCopy) (source : Pp) (row : Flown) (pool : List B
   requests_same : (x : Open) → request_left after x ≡ request_left before x
   requests_same x = ap (λ n. if_so (is_waiting x) (if is_write x.request.ask then (if is_begun x.request.targets.items then begun_left x.request else n) else read_left x.request.phase x.request)) (unbegun_same x.request)
 
-  module _ (its : IsCopy core c) (few : length (copies_in core.descriptor c.lv c.lp) ≤ 3) (runs : is_running c ≡ true) (goes : is_whole core c ≡ false) (rests : c.step ≡ step.Idle) where
+  module _ (runs : is_running c ≡ true) (goes : is_whole core c ≡ false) (less : step_left to (tried_of core c) + 1 < step_left c.step (tried_of core c)) where
     abbrev beside : ℕ
     beside = 3 * update_work + 16 * (groups_of core - c.cursor - 1) + 8
 
@@ -69,25 +69,21 @@ module _ (core : Core) (c : OpenCopy) (source : Pp) (row : Flown) (pool : List B
     going : (at : Step) → left_at at ≡ beside + step_left at (tried_of core c)
     going at = ap (λ b. if not b then 0 else if is_whole core c then 2 * update_work else beside + step_left at (tried_of core c)) runs ∙ ap (λ b. if b then 2 * update_work else beside + step_left at (tried_of core c)) goes
 
-    copy_falls : copy_left after reading + 1 < copy_left before c
-    copy_falls =
-        let new = going (step.Reading source) in
-        let old = going c.step ∙ ap (λ (at : Step). beside + step_left at (tried_of core c)) rests in
-        let low = count_by-le-length (λ (p : Pp). has c.tried p.disk) (copies_in core.descriptor c.lv c.lp) in
-        omega (arith, new, old, low, few)
+    copy_falls : copy_left after stepping + 1 < copy_left before c
+    copy_falls = let new = going to in let old = going c.step in omega (arith, new, old, less)
 
     pub falls : work_left after < work_left before
     falls =
         let longer = length-append core.flying (row ∷ []) in
         let same = sum_same (request_left before) (request_left after) requests_same core.requests in
-        let less = copy_falls in
+        let fewer = copy_falls in
         grows (length core.flying) (length (core.flying ++ row ∷ [])) ((update_work + 1) * count_by (λ (r : PvRow). is_there core r.disk) core.descriptor.pvs) (status_left core) (sum_by (request_left before) core.requests) (sum_by (request_left after) core.requests)
-        (copy_left before c) (copy_left after reading) longer same less
+        (copy_left before c) (copy_left after stepping) longer same fewer
       where
         grows : (n m a b x y k l : ℕ) → m ≡ n + 1 → y ≡ x → l + 1 < k → m + a + b + y + l < n + a + b + x + k
-        grows n m a b x y k l longer same less = omega (arith, longer, same, less)
+        grows n m a b x y k l longer same fewer = omega (arith, longer, same, fewer)
 
-few_copies : (core : Core) (c : OpenCopy) → IsValid core.descriptor → IsCopy core c → length (copies_in core.descriptor c.lv c.lp) ≤ 3
+pub few_copies : (core : Core) (c : OpenCopy) → IsValid core.descriptor → IsCopy core c → length (copies_in core.descriptor c.lv c.lp) ≤ 3
 few_copies core c valid its =
     let row = its.row in
     let found = find-Some (λ (x : LvRow). x.number == c.lv) core.descriptor.lvs row its.volume in
@@ -112,6 +108,13 @@ copy_read_falls old new sound on votes event = subst (λ (s : State). left_of s.
     lit : (c : Core) → c.power ≡ power.On → is_lost c ≡ false → left_of c ≡ work_left c
     lit c is none = ap (λ p. left_by p c) is ∙ ap (λ b. if b then length c.flying + count_by is_waiting c.requests else work_left c) none
 
+    fewer : 6 - 2 * tried_of old.core event.copy + 1 < step_left event.copy.step (tried_of old.core event.copy)
+    fewer =
+        let rests : step_left event.copy.step (tried_of old.core event.copy) ≡ 8 - 2 * tried_of old.core event.copy = ap (λ (at : Step). step_left at (tried_of old.core event.copy)) (at_rest old.core event.copy event.may) in
+        let low = count_by-le-length (λ (p : Pp). has event.copy.tried p.disk) (copies_in old.core.descriptor event.copy.lv event.copy.lp) in
+        let few = few_copies old.core event.copy (sound.on on).going.fitting.valid its in
+        omega (arith, rests, low, few)
+
     work_falls : work_left made < work_left old.core
     work_falls = subst (λ m. work_left made < work_left (record old.core { copy = m })) (sym event.is_open)
-        (falls old.core event.copy event.source row new.core.pool its (few_copies old.core event.copy (sound.on on).going.fitting.valid its) (running old.core event.copy event.may) (short old.core event.copy event.may) (at_rest old.core event.copy event.may))
+        (falls old.core event.copy (step.Reading event.source) row new.core.pool (running old.core event.copy event.may) (short old.core event.copy event.may) fewer)

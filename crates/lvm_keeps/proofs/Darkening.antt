@@ -32,6 +32,7 @@ use Rattle.lvm_sound.specs.Requests.{IsLanded, IsOpenOne}
 use Rattle.lvm_sound.specs.Causes.{AreCounted, HaveSourcesFailed, IsAnswered, IsCopyCaused, IsCounted, IsLandedFor, IsTrueToOrigin, is_held_stale, is_over}
 use Rattle.lvm_sound.specs.Sound.{IsAsked, IsFitting, IsSound, IsTold, count_if, has_number, is_dark, is_hand}
 use Rattle.lvm_keeps.specs.Keeps.{CutKeeps}
+use Rattle.lvm_keeps.proofs.Fitting.{still_fits}
 use Rattle.lvm_keeps.proofs.Ending.{back_long, copy_over, each_after, failed_before, hands_long, landed_ended, no_copy_hand, none_in_hand, ordered_after, pool_after, requests_after, table_after}
 use Rattle.lvm_keeps.proofs.Lists.{all_mapped, all_on, count_cons}
 use Rattle.lvm_keeps.proofs.Small.{not_either, not_so}
@@ -132,21 +133,7 @@ module _ (s : State) (sound : IsSound s) where
     long = hands_long core.requests (with_back core.pool (hand_of_copy core.copy)) ∙ back_long core.pool (hand_of_copy core.copy)
 
     fitting : IsFitting now.core
-    fitting = let f = sound.fitting in record {
-      valid = f.valid;
-      id = f.id;
-      rows = f.rows;
-      group = f.group;
-      entries = f.entries;
-      notes = λ disk. notes disk ∙ f.notes disk;
-      table = subst (λ n. n ≤ core.most) (sym (length-map core.requests (ended_as outcome.Dark))) f.table;
-      most = f.most;
-      queue = f.queue;
-      a_buffer = subst (λ n. 1 ≤ n) (sym long) f.a_buffer;
-      buffers = subst (λ n. n ≤ 1024) (sym long) f.buffers;
-      last = f.last;
-      room = subst (λ n. n < 2 ^ 32) (sym (cut_room core.history)) f.room;
-    }
+    fitting = let f = sound.fitting in still_fits core now.core f refl f.entries notes (subst (λ n. n ≤ core.most) (sym (length-map core.requests (ended_as outcome.Dark))) f.table) long (subst (λ n. n < 2 ^ 32) (sym (cut_room core.history)) f.room)
 
     told : IsTold now.core
     told = let t = cut_told core sound.told in record {

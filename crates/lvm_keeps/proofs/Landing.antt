@@ -33,31 +33,31 @@ use Rattle.lvm_keeps.proofs.Small.{both, is_false, not_so}
 
 -- ---- what holds where a request lands so next
 
-abbrev Gives : (Outcome → Type 0) → Next → Type 0
+abbrev pub Gives : (Outcome → Type 0) → Next → Type 0
 Gives P n = (how : Outcome) → n ≡ next.Land how → P how
 
 module _ (P : Outcome → Type 0) where
-  by_wait : Gives P next.Wait
+  pub by_wait : Gives P next.Wait
   by_wait how e = absurd cc
 
-  by_admit : Gives P next.Admit
+  pub by_admit : Gives P next.Admit
   by_admit how e = absurd cc
 
-  by_pin : Gives P next.Pin
+  pub by_pin : Gives P next.Pin
   by_pin how e = absurd cc
 
-  by_start : (place : Option ℕ) → Gives P (start_or_wait place)
+  pub by_start : (place : Option ℕ) → Gives P (start_or_wait place)
   by_start None how e = absurd cc
   by_start (Some place) how e = absurd cc
 
-  by_landing : (was : Outcome) → P was → Gives P (next.Land was)
+  pub by_landing : (was : Outcome) → P was → Gives P (next.Land was)
   by_landing was its how e = let same : was ≡ how = cc e in subst P same its
 
-  by_test : (b : Bool) (x y : Next) → (b ≡ true → Gives P x) → (b ≡ false → Gives P y) → Gives P (if b then x else y)
+  pub by_test : (b : Bool) (x y : Next) → (b ≡ true → Gives P x) → (b ≡ false → Gives P y) → Gives P (if b then x else y)
   by_test true x y left right = left refl
   by_test false x y left right = right refl
 
-  by_choice : (k : Facts) (on : Next) → (k.usable ≡ false → P outcome.NoFresh) → Gives P on → Gives P (next_chosen k on)
+  pub by_choice : (k : Facts) (on : Next) → (k.usable ≡ false → P outcome.NoFresh) → Gives P on → Gives P (next_chosen k on)
   by_choice k on fresh goes = by_test k.pending on _ (λ e. goes) (λ e. by_test (not k.usable) (next.Land outcome.NoFresh) (if k.changed then next.Admit else on) (λ n. by_landing outcome.NoFresh (fresh (is_false k.usable n))) (λ n. by_test k.changed next.Admit on (λ c. by_admit) (λ c. goes)))
 
 -- ---- tests of lists

@@ -29,28 +29,9 @@ use Rattle.lvm_sound.specs.Requests.{IsOpenOne}
 use Rattle.lvm_sound.specs.Sound.{count_if}
 use Rattle.lvm_keeps.specs.Falls.{LandingFalls}
 use Rattle.lvm_keeps.proofs.Lists.{all_at, count_set}
+use Rattle.lvm_keeps.proofs.Leaving.{left_same}
 use Rattle.lvm_keeps.proofs.PinFalls.{sum_less}
 use Rattle.lvm_keeps.proofs.Still.{changed}
-
--- ---- what is left of a request stays where these parts of a session change
-
-module _ (core : Core) (history : Log) (requests : List Open) (queue : Waiting) (pool : List Bool) (flying : List Flown) (entries : List CacheEntry) (last : List ℕ) where
-  abbrev now : Core
-  now = changed core history requests queue core.copy pool flying entries last
-
-  phase_same : (p : Phase) (r : Request) → phase_left p now r ≡ phase_left p core r
-  phase_same phase.Held r = refl
-  phase_same phase.WantEntry r = refl
-  phase_same phase.WantRecord r = refl
-  phase_same phase.Data r = refl
-  phase_same phase.WantStatus r = refl
-  phase_same phase.Landed r = refl
-
-  unbegun_same : (r : Request) → unbegun_left now r ≡ unbegun_left core r
-  unbegun_same r = ap (λ n. update_work + sum_by (turns_of core) (copies_for core r.ask) + if_so (lacks_dirty core r.ask) update_work + if_so (not (is_held r.phase) && is_changed core r) 12 + n) (phase_same r.phase r)
-
-  pub left_same : (x : Open) → request_left now x ≡ request_left core x
-  left_same x = ap (λ n. if_so (is_waiting x) (if is_write x.request.ask then (if is_begun x.request.targets.items then begun_left x.request else n) else read_left x.request.phase x.request)) (unbegun_same x.request)
 
 -- ---- something is left of a request that hasn't landed
 

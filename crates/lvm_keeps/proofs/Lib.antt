@@ -1,14 +1,16 @@
-mod Lists
-mod Small
-mod Still
-mod Nexts
-mod Numbers
-mod Telling
-mod Tables
-mod Rows
-mod Ending
-mod Launching
-mod Noted
+pub mod Lists
+pub mod Small
+pub mod Still
+pub mod Fitting
+pub mod Nexts
+pub mod Numbers
+pub mod Telling
+pub mod Tables
+pub mod Rows
+pub mod Ending
+pub mod Launching
+pub mod Noted
+pub mod Leaving
 pub mod Pin
 pub mod PinFalls
 pub mod Close

@@ -35,6 +35,7 @@ use Rattle.lvm_sound.specs.Requests.{IsOpenOne, IsPinned, IsRecorded, IsShaped, 
 use Rattle.lvm_sound.specs.Causes.{AreCounted, HaveSourcesFailed, IsAnswered, IsCopyCaused, IsCounted, IsLandedFor, IsTrueToOrigin, is_over}
 use Rattle.lvm_sound.specs.Sound.{IsCopy, IsFitting, IsGoing, IsOn, IsSound, IsTold, count_if, has_number, is_dark, out_with, pins}
 use Rattle.lvm_keeps.specs.Keeps.{NoteStartKeeps}
+use Rattle.lvm_keeps.proofs.Fitting.{still_fits}
 use Rattle.lvm_keeps.proofs.Launching.{flights_push, owners_push, rows_push, taken, tickets_push}
 use Rattle.lvm_keeps.proofs.Lists.{all_at, all_on, count_cons, length_set}
 use Rattle.lvm_keeps.proofs.Noted.{copies_on_members, flight_beside, flight_here, found_all, named_still, same_disks}
@@ -49,10 +50,10 @@ pins_self o is =
     ap (λ b. b && lv_of o.request.ask == lv_of o.request.ask && group_of o.request.ask == group_of o.request.ask) is
     ∙ ap (λ b. b && group_of o.request.ask == group_of o.request.ask) (eq-eqb (lv_of o.request.ask) (lv_of o.request.ask) refl) ∙ eq-eqb (group_of o.request.ask) (group_of o.request.ask) refl
 
-abbrev IsCountedIn : List Open → Open → Type 0
+abbrev pub IsCountedIn : List Open → Open → Type 0
 IsCountedIn os o = o.request.pinned ≡ true → 1 ≤ count_by (pins (lv_of o.request.ask) (group_of o.request.ask)) os
 
-each_counted : (os : List Open) → AllByRecursion (IsCountedIn os) os
+pub each_counted : (os : List Open) → AllByRecursion (IsCountedIn os) os
 each_counted [] = tt
 each_counted (o ∷ os) = (
   λ e.
@@ -190,24 +191,7 @@ module _ (s : State) (sound : IsSound s) (on : s.core.power ≡ power.On) (place
   -- ---- the rest
 
   fitting : IsFitting now.core
-  fitting = let f = sound.fitting in record {
-    valid = f.valid;
-    id = f.id;
-    rows = f.rows;
-    group = f.group;
-    entries = f.entries;
-    notes = λ d. same_disks core.cache disk d ∙ f.notes d;
-    table = f.table;
-    most = f.most;
-    queue = f.queue;
-    a_buffer = subst (λ n. 1 ≤ n) (sym same_long) f.a_buffer;
-    buffers = subst (λ n. n ≤ 1024) (sym same_long) f.buffers;
-    last = f.last;
-    room = f.room;
-  }
-    where
-      same_long : length pool ≡ length core.pool
-      same_long = length_set core.pool f.buf.number true
+  fitting = let was = sound.fitting in still_fits core now.core was refl was.entries (same_disks core.cache disk) was.table (length_set core.pool f.buf.number true) was.room
 
   told : IsTold now.core
   told = let t = sound.told in record { ordered = t.ordered; table = t.table; each = t.each; requests = t.requests }

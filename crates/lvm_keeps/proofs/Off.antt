@@ -25,6 +25,7 @@ use Rattle.lvm_sound.specs.Requests.{IsLanded, IsOpenOne}
 use Rattle.lvm_sound.specs.Causes.{AreCounted, HaveSourcesFailed, IsAnswered, IsCopyCaused, IsCounted, IsLandedFor, IsTrueToOrigin, is_over}
 use Rattle.lvm_sound.specs.Sound.{IsFitting, IsGoing, IsSound, IsTold, count_if, is_dark, is_hand, out_with}
 use Rattle.lvm_keeps.specs.Keeps.{OffKeeps}
+use Rattle.lvm_keeps.proofs.Fitting.{still_fits}
 use Rattle.lvm_keeps.proofs.Ending.{back_long, copy_over, each_after, failed_before, hands_long, landed_ended, no_copy_hand, none_in_hand, ordered_after, pool_after, requests_after, table_after}
 use Rattle.lvm_keeps.proofs.Lists.{all_mapped, all_on}
 use Rattle.lvm_keeps.proofs.Small.{not_so}
@@ -54,21 +55,7 @@ module _ (s : State) (sound : IsSound s) (on : s.core.power ≡ power.On) (lost 
       now_pool = with_back core.pool (hand_of_copy core.copy)
 
   fitting : IsFitting now.core
-  fitting = let f = sound.fitting in record {
-    valid = f.valid;
-    id = f.id;
-    rows = f.rows;
-    group = f.group;
-    entries = f.entries;
-    notes = f.notes;
-    table = subst (λ n. n ≤ core.most) (sym (length-map core.requests (ended_as outcome.Off))) f.table;
-    most = f.most;
-    queue = f.queue;
-    a_buffer = subst (λ n. 1 ≤ n) (sym long) f.a_buffer;
-    buffers = subst (λ n. n ≤ 1024) (sym long) f.buffers;
-    last = f.last;
-    room = f.room;
-  }
+  fitting = let f = sound.fitting in still_fits core now.core f refl f.entries (λ disk. refl) (subst (λ n. n ≤ core.most) (sym (length-map core.requests (ended_as outcome.Off))) f.table) long f.room
 
   told : IsTold now.core
   told = let t = sound.told in record {

@@ -31,6 +31,7 @@ use Rattle.lvm_sound.specs.Requests.{IsOpenOne, IsPhase, IsRequest, IsRecorded, 
 use Rattle.lvm_sound.specs.Causes.{AreCaused, AreCounted, IsAnswered, IsCaused, IsChosenSince, IsCopyCaused, IsCounted, IsLandedFor, fails_on, is_held_stale, is_over}
 use Rattle.lvm_sound.specs.Sound.{IsAsked, IsCopy, IsFitting, IsGoing, IsOn, IsSound, IsTold, count_if, is_hand, out_with, pins, with_row}
 use Rattle.lvm_keeps.specs.Keeps.{PinKeeps}
+use Rattle.lvm_keeps.proofs.Fitting.{still_fits}
 use Rattle.lvm_keeps.proofs.Lists.{all_at, all_on, all_set, any_set, count_same, count_set, length_set, set_here, set_beside}
 use Rattle.lvm_keeps.proofs.Tables.{ascending_set, rows_set}
 use Rattle.lvm_keeps.proofs.Nexts.{pins_entry}
@@ -165,21 +166,7 @@ module _ (s : State) (sound : IsSound s) (on : s.core.power ≡ power.On) (place
   still x it = open_on core core.history (slice_set core.requests place pinned) core.queue core.copy core.pool core.flying (with_entry core.cache.entries lv group) core.last x (λ e. e) (λ p e. e) it
 
   fitting : IsFitting now.core
-  fitting = let f = sound.fitting in record {
-    valid = f.valid;
-    id = f.id;
-    rows = f.rows;
-    group = f.group;
-    entries = entries;
-    notes = f.notes;
-    table = subst (λ n. n ≤ core.most) (sym (length_set core.requests place pinned)) f.table;
-    most = f.most;
-    queue = f.queue;
-    a_buffer = f.a_buffer;
-    buffers = f.buffers;
-    last = f.last;
-    room = f.room;
-  }
+  fitting = let f = sound.fitting in still_fits core now.core f refl entries (λ disk. refl) (subst (λ n. n ≤ core.most) (sym (length_set core.requests place pinned)) f.table) refl f.room
 
   told : IsTold now.core
   told = let t = sound.told in record {

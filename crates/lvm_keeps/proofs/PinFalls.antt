@@ -6,6 +6,7 @@ use Rattle.std.specs.Option.{option_map_or}
 use Rattle.std.proofs.lemmas.List.Sums.{sum_by-cons, count_by-le-length}
 use Rattle.lvm_num.specs.declared.descriptor.PvRow.{PvRow}
 use Rattle.lvm_mwc.specs.Cache.{Cached}
+use Rattle.lvm_mwc.specs.Entries.{with_pin as with_entry}
 use Rattle.lvm_path.specs.declared.request.Phase.{Phase}
 use Rattle.lvm_path.specs.declared.request.Phase.TheVariants as phase
 use Rattle.lvm_path.specs.declared.request.Request.{Request}
@@ -13,13 +14,14 @@ use Rattle.lvm_path.specs.Next.{with_pin}
 use Rattle.lvm_session.specs.declared.open.Open.{Open}
 use Rattle.lvm_session.specs.declared.open.Power.TheVariants as power
 use Rattle.lvm_session.specs.State.{Core, State, is_there, state}
-use Rattle.lvm_session.specs.Judging.{copies_for, is_changed, is_waiting}
+use Rattle.lvm_session.specs.Judging.{copies_for, group_of, is_changed, is_waiting}
 use Rattle.lvm_session.specs.Enabled.{is_lost, may_pin}
-use Rattle.lvm_path.specs.Asks.{is_write}
+use Rattle.lvm_path.specs.Asks.{is_write, lv_of}
 use Rattle.lvm_path.specs.Targets.{is_begun}
 use Rattle.lvm_sound.specs.Left.{begun_left, copy_left, if_so, is_held, lacks_dirty, lacks_note, left_by, left_of, phase_left, read_left, request_left, status_left, turns_of, unbegun_left, update_work, work_left, write_left}
 use Rattle.lvm_sound.specs.Sound.{IsSound}
 use Rattle.lvm_keeps.specs.Falls.{PinFalls}
+use Rattle.lvm_keeps.proofs.Leaving.{left_same}
 use Rattle.lvm_keeps.proofs.Pin.{entry, full_is, its, now, pinned, shape, waits}
 
 -- ---- sums
@@ -56,19 +58,8 @@ module _ (s : State) (sound : IsSound s) (on : s.core.power ≡ power.On) (place
   with_its_pin = pinned s sound on place o there may
 
   -- the others have as much left
-  phase_same : (p : Phase) (r : Request) → phase_left p after r ≡ phase_left p core r
-  phase_same phase.Held r = refl
-  phase_same phase.WantEntry r = refl
-  phase_same phase.WantRecord r = refl
-  phase_same phase.Data r = refl
-  phase_same phase.WantStatus r = refl
-  phase_same phase.Landed r = refl
-
-  unbegun_same : (r : Request) → unbegun_left after r ≡ unbegun_left core r
-  unbegun_same r = ap (λ n. update_work + sum_by (turns_of core) (copies_for core r.ask) + if_so (lacks_dirty core r.ask) update_work + if_so (not (is_held r.phase) && is_changed core r) 12 + n) (phase_same r.phase r)
-
   others : (x : Open) → request_left after x ≡ request_left core x
-  others x = ap (λ n. if_so (is_waiting x) (if is_write x.request.ask then (if is_begun x.request.targets.items then begun_left x.request else n) else read_left x.request.phase x.request)) (unbegun_same x.request)
+  others = left_same core core.history (slice_set core.requests place with_its_pin) core.queue core.pool core.flying (with_entry core.cache.entries (lv_of o.request.ask) (group_of o.request.ask)) core.last
 
   -- what is left of it beside its phase
   abbrev beside : ℕ

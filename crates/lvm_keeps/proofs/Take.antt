@@ -35,6 +35,7 @@ use Rattle.lvm_sound.specs.Requests.{IsLanded, IsOpenOne}
 use Rattle.lvm_sound.specs.Causes.{AreCaused, AreCounted, IsAnswered, IsCaused, IsChosenSince, IsCopyCaused, IsCounted, IsLandedFor, fails_on, is_held_stale, is_over}
 use Rattle.lvm_sound.specs.Sound.{IsAsked, IsCopy, IsFitting, IsGoing, IsOn, IsSound, IsTold, count_if, is_hand, out_with, pins, with_row}
 use Rattle.lvm_keeps.specs.Keeps.{TakeKeeps}
+use Rattle.lvm_keeps.proofs.Fitting.{still_fits}
 use Rattle.lvm_keeps.proofs.Lists.{all_at, all_on, all_removed, any_removed, count_removed, get_removed, length_removed}
 use Rattle.lvm_keeps.proofs.Rows.{all_fly, rows_on}
 use Rattle.lvm_keeps.proofs.Small.{not_so}
@@ -92,21 +93,7 @@ module _ (s : State) (sound : IsSound s) (place : ℕ) (o : Open) (there : slice
   no_hand n = ap (is_hand n) landed.hand
 
   fitting : IsFitting now.core
-  fitting = let f = sound.fitting in let fewer = length_removed core.requests place in let table = f.table in record {
-    valid = f.valid;
-    id = f.id;
-    rows = f.rows;
-    group = f.group;
-    entries = f.entries;
-    notes = f.notes;
-    table = omega (arith, fewer, table);
-    most = f.most;
-    queue = f.queue;
-    a_buffer = f.a_buffer;
-    buffers = f.buffers;
-    last = f.last;
-    room = f.room;
-  }
+  fitting = let f = sound.fitting in let fewer = length_removed core.requests place in let table = f.table in still_fits core now.core f refl f.entries (λ disk. refl) (omega (arith, fewer, table)) refl f.room
 
   -- the others are told of as before
   others : AllByRecursion (λ (x : Open). x.request.id ≡ o.request.id → ⊥) left

@@ -14,7 +14,7 @@ use Rattle.lvm_over.specs.Hands.{AreInHand, IsOutIf, MayEnd}
 use Rattle.lvm_sound.specs.Requests.{IsOpenOne}
 use Rattle.lvm_sound.specs.Sound.{IsGoing, count_if, is_hand}
 
-is_out : (pool : List Bool) (n : ℕ) → 1 ≤ count_if (slice_index_or pool n false) → IsOut pool n
+pub is_out : (pool : List Bool) (n : ℕ) → 1 ≤ count_if (slice_index_or pool n false) → IsOut pool n
 is_out [] n some = absurd (omega (arith, some))
 is_out (b ∷ pool) zero some = by_test b some
   where
@@ -23,11 +23,11 @@ is_out (b ∷ pool) zero some = by_test b some
     by_test false some = absurd (omega (arith, some))
 is_out (b ∷ pool) (suc n) some = is_out pool n some
 
-at_most_one : (b : Bool) → count_if b ≤ 1
+pub at_most_one : (b : Bool) → count_if b ≤ 1
 at_most_one true = omega arith
 at_most_one false = omega arith
 
-get_other : (pool : List Bool) (m n : ℕ) → (m ≡ n → ⊥) → slice_index_or (slice_set pool m false) n false ≡ slice_index_or pool n false
+pub get_other : (pool : List Bool) (m n : ℕ) → (m ≡ n → ⊥) → slice_index_or (slice_set pool m false) n false ≡ slice_index_or pool n false
 get_other [] m n differ = refl
 get_other (b ∷ pool) zero zero differ = absurd (differ refl)
 get_other (b ∷ pool) zero (suc n) differ = refl

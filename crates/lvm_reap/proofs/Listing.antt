@@ -13,7 +13,7 @@ use Rattle.lvm_sound.specs.Owners.{AreRows}
 
 -- ---- a search by a test
 
-any_within : (t : Flown → Bool) (rows : List Flown) → list_any t rows ≡ true → position_or_len t rows < length rows
+pub any_within : {X : Type 0} (t : X → Bool) (rows : List X) → list_any t rows ≡ true → position_or_len t rows < length rows
 any_within t [] is = absurd (cc is)
 any_within t (row ∷ rows) is = by_test (λ e. any_within t rows e) (t row) is
   where
@@ -22,15 +22,15 @@ any_within t (row ∷ rows) is = by_test (λ e. any_within t rows e) (t row) is
     by_test rest false e = let less = rest e in omega (arith, less)
 
 -- it finds one, where there is one
-pub finds : (t : Flown → Bool) (rows : List Flown) → list_any t rows ≡ true → position t rows ≡ Some (position_or_len t rows)
+pub finds : {X : Type 0} (t : X → Bool) (rows : List X) → list_any t rows ≡ true → position t rows ≡ Some (position_or_len t rows)
 finds t rows any = let is = lt-ltb (position_or_len t rows) (length rows) (any_within t rows any) in ap (λ (b : Bool). cond b (Some (position_or_len t rows)) None) is
 
-some_there : (rows : List Flown) (k : ℕ) → k < length rows → (row : Flown) × (slice_get rows k ≡ Some row)
+pub some_there : {X : Type 0} (rows : List X) (k : ℕ) → k < length rows → (row : X) × (slice_get rows k ≡ Some row)
 some_there [] k within = absurd (omega (arith, within))
 some_there (row ∷ rows) zero within = (row, refl)
 some_there (row ∷ rows) (suc k) within = some_there rows k (omega (arith, within))
 
-read_same : (rows : List Flown) (k : ℕ) (read row : Flown) → slice_get rows k ≡ Some row → read ≡ slice_index_or rows k read → read ≡ row
+read_same : {X : Type 0} (rows : List X) (k : ℕ) (read row : X) → slice_get rows k ≡ Some row → read ≡ slice_index_or rows k read → read ≡ row
 read_same [] k read row there is = absurd (cc there)
 read_same (r ∷ rows) zero read row there is = let same : r ≡ row = cc there in is ∙ same
 read_same (r ∷ rows) (suc k) read row there is = read_same rows k read row there is

@@ -1,3 +1,3 @@
-mod Numbered
-mod Rows
-mod Taking
+pub mod Numbered
+pub mod Rows
+pub mod Taking

@@ -12,7 +12,7 @@ use Rattle.lvm_vol.proofs.Order.{numbered, stands-at}
 use Rattle.lvm_session.specs.declared.open.Open.{Open}
 use Rattle.lvm_sound.specs.Sound.{IsAsked}
 
-count_begun : (run : ℕ) (facts : List Fact) → ((r : Request) → Stands r (begun facts) → r.run ≡ run) → count_by (begins_in run) facts ≡ length (begun facts)
+pub count_begun : (run : ℕ) (facts : List Fact) → ((r : Request) → Stands r (begun facts) → r.run ≡ run) → count_by (begins_in run) facts ≡ length (begun facts)
 count_begun run [] runs = refl
 count_begun run (f ∷ facts) runs = by_fact (λ fewer. count_begun run facts fewer) f runs
   where

@@ -14,7 +14,7 @@ use Rattle.lvm_session.specs.Judging.{held_of, is_waiting, place_of}
 use Rattle.lvm_session.specs.Bringing.{has_row, step_row}
 use Rattle.lvm_sound.specs.Sound.{IsCopy, IsGoing, rows_of, waiting_rows, with_row}
 
-abbrev row_of : Open → Row
+abbrev pub row_of : Open → Row
 row_of o = record { id = place_of o.request.id; ask = held_of o.request.ask }
 
 rows_low : (n : ℕ) (os : List Open) → AllByRecursion (λ (o : Open). o.request.id < n) os → All (λ (r : Row). r.id < 2 * n) (waiting_rows os)
@@ -33,7 +33,7 @@ step_low n step (row ∷ rows) low all = by_test (nat_lt step.id row.id) (step_l
     by_test true rest = All-cons (λ (r : Row). r.id < n) step (row ∷ rows) low all
     by_test false rest = All-cons (λ (r : Row). r.id < n) row (with_row step rows) (All-head (λ (r : Row). r.id < n) row rows all) rest
 
-few_waiting : (os : List Open) → length (waiting_rows os) ≤ length os
+pub few_waiting : (os : List Open) → length (waiting_rows os) ≤ length os
 few_waiting [] = omega arith
 few_waiting (o ∷ os) = by_test (is_waiting o) (few_waiting os)
   where

@@ -1,0 +1,3 @@
+mod Requested
+pub mod Ended
+mod Owning

@@ -1,0 +1,19 @@
+//! Laws: what the events of a turn leave of a sound session is sound, and less work.
+ghost use Rattle.lvm_keeps.specs.Falls.{EventsFall, NeverStandsStill};
+ghost use Rattle.lvm_keeps_events.specs.Events.{EventsKeep};
+
+/// Each event that a turn makes leaves the session sound.
+pub fn events_keep()
+    ensures { EventsKeep }
+{}
+
+/// The first event that may be made leaves less work.
+pub fn events_fall()
+    ensures { EventsFall }
+{}
+
+/// While the votes are there and no transfer is out, an event may be made unless each request has landed and no copy
+/// is being brought up.
+pub fn never_stands_still()
+    ensures { NeverStandsStill }
+{}

@@ -1,0 +1,44 @@
+//! A client gives an order to the shelf.
+ghost use Rattle.std.specs.Prelude.{◌≡◌};
+ghost use Rattle.lvm_disk.specs.Steps.{MayArrange};
+ghost use Rattle.lvm_session.specs.Fields.{core_of};
+ghost use Rattle.lvm_session.specs.Rooms.{SameRooms};
+ghost use Rattle.lvm_session.specs.State.{state};
+ghost use Rattle.lvm_events.specs.Dark.{after_arrange, is_cut};
+ghost use Rattle.lvm_events.specs.Turns.{Arranges};
+ghost use Rattle.lvm_over.specs.Hands.{MayEnd};
+ghost use Rattle.lvm_sound.specs.Sound.{IsSound};
+
+use lvm_disk::{Arrange, Shelf};
+use lvm_over::darken;
+use lvm_session::Session;
+
+fn is_cut(what: Arrange) -> bool
+    ensures { result ≡ is_cut what }
+{
+    matches!(what, Arrange::Cut(_))
+}
+
+// A power cut that is arranged ends the session.
+fn follow(session: &mut Session, what: Arrange, done: bool)
+    requires { MayEnd (core_of session.old) }
+    ensures core { core_of session.new ≡ after_arrange what done (core_of session.old) }
+    ensures rooms { SameRooms session.old session.new }
+{
+    if done && is_cut(what) {
+        darken(session);
+    }
+}
+
+/// The shelf is given an order: a disk fails or heals, or the power is cut, which ends the session. Answers whether
+/// the shelf takes such orders; one that doesn't changes nothing.
+pub fn arrange<S: Shelf>(session: &mut Session, shelf: &mut S, what: Arrange) -> bool
+    requires disk { MayArrange (S.device shelf.old) what }
+    requires sound { IsSound (state (S.device shelf.old) (core_of session.old)) }
+    ensures gives { Arranges (state (S.device shelf.old) (core_of session.old)) (state (S.device shelf.new) (core_of session.new)) what result }
+    ensures rooms { SameRooms session.old session.new }
+{
+    let done = shelf.arrange(what);
+    follow(session, what, done);
+    done
+}

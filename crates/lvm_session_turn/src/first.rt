@@ -1,0 +1,81 @@
+//! The first event of a turn that may be made.
+ghost use Rattle.std.specs.Prelude.{◌≡◌, true, false};
+ghost use Rattle.lvm_disk.specs.Device.{Device};
+ghost use Rattle.lvm_session.specs.declared.open.Power.TheVariants as power;
+ghost use Rattle.lvm_session.specs.Enabled.{is_lost};
+ghost use Rattle.lvm_session.specs.Fields.{core_of};
+ghost use Rattle.lvm_session.specs.Rooms.{HasRooms, SameRooms};
+ghost use Rattle.lvm_session.specs.State.{state};
+ghost use Rattle.lvm_sound.specs.Sound.{IsGoing, IsSound};
+ghost use Rattle.lvm_starts.specs.Starts.{StartsFirst};
+ghost use Rattle.lvm_session_turn.specs.Taking.{FirstMakes};
+
+use lvm_disk::Shelf;
+use lvm_enabled::first_start;
+use lvm_events::Turned;
+use lvm_firsts::is_lost;
+use lvm_moves::{land_first, move_first};
+use lvm_session::Session;
+use lvm_starts::make_start;
+
+// The first transfer that may be started is.
+fn start_first<S: Shelf>(session: &mut Session, shelf: &mut S) -> Option<Turned>
+    requires sound { IsSound (state (S.device shelf.old) (core_of session.old)) }
+    requires on { session.old.power ≡ power.On }
+    requires votes { is_lost (core_of session.old) ≡ false }
+    requires rooms { HasRooms session.old }
+    ensures starts { StartsFirst (state (S.device shelf.old) (core_of session.old)) (state (S.device shelf.new) (core_of session.new)) result }
+    ensures rooms { SameRooms session.old session.new }
+{
+    match first_start(session) {
+        None => None,
+        Some(event) => Some(make_start(session, shelf, event)),
+    }
+}
+
+// While the votes are there.
+fn settle_or_start<S: Shelf>(session: &mut Session, shelf: &mut S) -> Option<Turned>
+    requires sound { IsSound (state (S.device shelf.old) (core_of session.old)) }
+    requires on { session.old.power ≡ power.On }
+    requires votes { is_lost (core_of session.old) ≡ false }
+    requires rooms { HasRooms session.old }
+    ensures makes { FirstMakes (state (S.device shelf.old) (core_of session.old)) (state (S.device shelf.new) (core_of session.new)) result }
+    ensures rooms { SameRooms session.old session.new }
+{
+    if move_first(session, shelf) {
+        Some(Turned::Moved)
+    } else {
+        start_first(session, shelf)
+    }
+}
+
+// Once they are lost.
+fn land_only(session: &mut Session) -> Option<Turned>
+    requires going { IsGoing (core_of session.old) }
+    requires lost { is_lost (core_of session.old) ≡ true }
+    requires rooms { HasRooms session.old }
+    ensures makes { (device : Device) → FirstMakes (state device (core_of session.old)) (state device (core_of session.new)) result }
+    ensures rooms { SameRooms session.old session.new }
+{
+    if land_first(session) {
+        Some(Turned::Moved)
+    } else {
+        None
+    }
+}
+
+/// The first event of a turn that may be made is. Answers `Moved`, or `Dark` where it starts a transfer and the
+/// power is found off; None where there is none, and nothing has changed.
+pub fn make_first<S: Shelf>(session: &mut Session, shelf: &mut S) -> Option<Turned>
+    requires sound { IsSound (state (S.device shelf.old) (core_of session.old)) }
+    requires on { session.old.power ≡ power.On }
+    requires rooms { HasRooms session.old }
+    ensures makes { FirstMakes (state (S.device shelf.old) (core_of session.old)) (state (S.device shelf.new) (core_of session.new)) result }
+    ensures rooms { SameRooms session.old session.new }
+{
+    if is_lost(session) {
+        land_only(session)
+    } else {
+        settle_or_start(session, shelf)
+    }
+}

@@ -1,0 +1,47 @@
+//! One turn.
+ghost use Rattle.std.specs.Prelude.{◌≡◌};
+ghost use Rattle.lvm_session.specs.declared.open.Power.TheVariants as power;
+ghost use Rattle.lvm_session.specs.Fields.{core_of};
+ghost use Rattle.lvm_session.specs.Rooms.{HasRooms, SameRooms};
+ghost use Rattle.lvm_session.specs.State.{state};
+ghost use Rattle.lvm_events.specs.Turns.{OnMakes, TurnMakes};
+ghost use Rattle.lvm_sound.specs.Sound.{IsSound};
+
+use crate::first::make_first;
+use lvm_disk::Shelf;
+use lvm_events::Turned;
+use lvm_finish::finish;
+use lvm_session::{Power, Session};
+
+// Of a session that goes on.
+fn turn_on<S: Shelf>(session: &mut Session, shelf: &mut S) -> Turned
+    requires sound { IsSound (state (S.device shelf.old) (core_of session.old)) }
+    requires on { session.old.power ≡ power.On }
+    requires rooms { HasRooms session.old }
+    ensures makes { OnMakes (state (S.device shelf.old) (core_of session.old)) (state (S.device shelf.new) (core_of session.new)) result }
+    ensures rooms { SameRooms session.old session.new }
+{
+    match make_first(session, shelf) {
+        Some(answer) => answer,
+        None => finish(session, shelf),
+    }
+}
+
+/// One turn of a session. The first event that may be made is: a request lands, is admitted or pins its track group,
+/// or a transfer is started. Where there is none one of the transfers that are out ends, and its owner learns it;
+/// nothing is made where none has ended or none is out, unless the votes are lost, in which case the session ends.
+/// The power may be found off, which ends it too. One that is over is left as it is.
+pub fn turn<S: Shelf>(session: &mut Session, shelf: &mut S) -> Turned
+    requires sound { IsSound (state (S.device shelf.old) (core_of session.old)) }
+    requires unstuck { session.old.power ≡ power.Stuck → ⊥ }
+    requires rooms { HasRooms session.old }
+    ensures makes { TurnMakes (state (S.device shelf.old) (core_of session.old)) (state (S.device shelf.new) (core_of session.new)) result }
+    ensures rooms { SameRooms session.old session.new }
+{
+    match session.power {
+        Power::Dark => Turned::Dark,
+        Power::Off => Turned::Off,
+        Power::On => turn_on(session, shelf),
+        Power::Stuck => unreachable!(),
+    }
+}
