@@ -1,6 +1,0 @@
-//! A turn keeps a session sound.
-#![tactic(auto)]
-
-mod laws;
-
-pub use laws::{event_keeps, turn_keeps};
