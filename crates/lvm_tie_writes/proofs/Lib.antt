@@ -1,0 +1,5 @@
+pub mod Near
+pub mod Quits
+pub mod Wants
+pub mod Due
+pub mod WriteTies
