@@ -1,5 +1,3 @@
-pub mod Near
-pub mod Quits
-pub mod Wants
+pub mod Next
 pub mod Due
 pub mod WriteTies

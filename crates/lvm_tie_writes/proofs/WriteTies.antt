@@ -1,17 +1,19 @@
 -- The end of a write's transfer, with what it entails, tied.
 use Rattle.std.proofs.Common.{◌≡◌, ◌⊎◌, inl, inr, ⊎_elim, ℕ, zero, suc, ◌+◌, ◌≤◌, Bool, true, false, ◌&&◌, ◌||◌, ◌==◌, not, List, [], ◌∷◌, Option, Some, None, refl, sym, ap, subst, ◌∙◌, arith}
-use Rattle.std.specs.Prelude.{IfSome, IsTrue, filter, if◌then◌else◌, nat_le, slice_get, slice_set}
-use Rattle.std.specs.List.{remove}
+use Rattle.std.specs.Prelude.{IfSome, IsFalse, IsTrue, filter, if◌then◌else◌, nat_le, slice_get, slice_set}
+use Rattle.std.specs.List.{list_any, remove}
 use Rattle.std.specs.Option.{option_map_or}
 use Rattle.std.proofs.lemmas.Bool.{cases_eq}
 use Rattle.std.proofs.lemmas.Bool.Decides.{nat_tests}
 use Rattle.lvm_num.specs.declared.place.Pp.{Pp}
+use Rattle.lvm_num.specs.declared.record.Stamp.{Stamp}
 use Rattle.lvm_num.specs.declared.status.Status.{Status}
 use Rattle.lvm_num.specs.Buffer.{Sector}
+use Rattle.lvm_num.specs.Note.{IsNote}
 use Rattle.lvm_num.specs.Record.{Stamped}
 use Rattle.lvm_num.specs.Status.{calls_stale}
 use Rattle.lvm_vol.specs.Facts.{Fact}
-use Rattle.lvm_disk.specs.Device.{AreSectors, Flight, HasSectors, Media, image_of}
+use Rattle.lvm_disk.specs.Device.{AreSectors, Device, Flight, HasSectors, Media, image_of}
 use Rattle.lvm_kept.specs.Contents.{Contents, contents_of}
 use Rattle.lvm_kept.specs.Group.{IsOneOf}
 use Rattle.lvm_kept.specs.Places.{SameRecords}
@@ -33,25 +35,27 @@ use Rattle.lvm_session.specs.declared.bringing.Step.TheVariants as step
 use Rattle.lvm_session.specs.declared.flown.Owner.{Owner}
 use Rattle.lvm_session.specs.declared.flown.Owner.TheVariants as owner
 use Rattle.lvm_session.specs.declared.open.Open.{Open}
-use Rattle.lvm_session.specs.State.{Core, State as Session}
-use Rattle.lvm_session.specs.Bringing.{after_copy_end, ends_if, groups_of, is_done_end, is_out, is_whole, marked_by_end, with_back, with_end as with_copy_end}
+use Rattle.lvm_session.specs.declared.open.Power.TheVariants as power
+use Rattle.lvm_session.specs.State.{Core, State as Session, state}
+use Rattle.lvm_session.specs.Bringing.{after_copy_end, ends_if, is_done_end, is_out, is_whole, marked_by_end, with_back, with_end as with_copy_end}
 use Rattle.lvm_session.specs.Judging.{all_but_sure, is_kept, is_running, is_sure, is_waiting, place_of, pps_of}
 use Rattle.lvm_events.specs.Ends.{DataLearns, Ends, Learns, after_data, keeps_buffer, learned}
 use Rattle.lvm_events.specs.Events.{IsDataTransfer}
 use Rattle.lvm_events.specs.Marks.{Entails, WantsStale, due_of, due_targets, end_by_write, hits_copy, is_among}
 use Rattle.lvm_sound.specs.Sound.{IsSound}
 use Rattle.lvm_invariant.specs.State.{Going, Marks, OpenCopy, Queued, Stage, State, covers}
+use Rattle.lvm_invariant.specs.Good.{Good}
 use Rattle.lvm_invariant.specs.Sound.{StaysFresh}
-use Rattle.lvm_invariant.specs.Events.{Transfer}
+use Rattle.lvm_invariant.specs.Events.{Event, Transfer, Want}
 use Rattle.lvm_invariant.specs.Transfer.{restaged}
 use Rattle.lvm_invariant.specs.Updates.{is_pp, put, staged}
-use Rattle.lvm_invariant.specs.Want.{Replaced}
+use Rattle.lvm_invariant.specs.Want.{Replaced, Wants, after_wants}
 use Rattle.lvm_invariant.proofs.Each.{each_keeps}
 use Rattle.lvm_invariant.proofs.Rules.{each_has}
 use Rattle.lvm_crash.specs.Left.{KeepsGroup}
 use Rattle.lvm_crash.specs.Session.{Describes, marks_of, members_there}
 use Rattle.lvm_tie_shelf.proofs.Owned.{covers_its}
-use Rattle.lvm_tie_shelf.proofs.Quiet.{update_goes_on}
+use Rattle.lvm_tie_shelf.proofs.Quiet.{quiet_lasts, update_goes_on}
 use Rattle.lvm_tie_shelf.proofs.Writing.{and_both, group_kept, pp_same, records_same, same_pp, write_ends}
 use Rattle.lvm_tie_shelf.specs.Owned.{OnlyUpdateSince}
 use Rattle.lvm_tie_shelf.specs.Writing.{WriteEnded, after_write, stage_of}
@@ -60,15 +64,18 @@ use Rattle.lvm_tie.proofs.Judged.{among_one, aimed_of, copy_is}
 use Rattle.lvm_tie.proofs.Orderly.{AreOut, Differ, HasTargets, HaveNumbers, HaveTickets, IsDataOut, IsOut, begun_by, numbers_of, open_one, out_of, targets_of, tickets_of, valid_of}
 use Rattle.lvm_tie.proofs.Tied.{DataParts, data_parts}
 use Rattle.lvm_tie.proofs.Words.{any_one, clash, its_pp, not_true, one_there, or_either, or_true, target_of}
-use Rattle.lvm_tie.specs.Out.{CarriesStep, CarryTheirs, MayUpdate}
-use Rattle.lvm_tie.specs.Seen.{SeesCopy, SeesOpen, SeesRequest, SeesRunning, phase_seen, stage_at, stage_seen, update_of}
-use Rattle.lvm_tie.specs.Tied.{IsTied}
+use Rattle.lvm_tie.proofs.Wanted.{next_same, sees_wanted, stamp_same, update_same, write_same}
+use Rattle.lvm_tie.specs.Out.{CarriesStep, CarryTheirs, IsWriteOf, MayUpdate}
+use Rattle.lvm_tie.specs.Seen.{Sees, SeesRequest, phase_seen, stage_at, stage_seen, update_of}
+use Rattle.lvm_tie.specs.Tied.{IsOrderly, IsTied}
 use Rattle.lvm_tie_ends.proofs.Ended.{HasEnded, IsRow, has_ended, is_row}
 use Rattle.lvm_tie_ends.proofs.ReadTies.{read_end_ties}
 use Rattle.lvm_tie_writes.specs.Ends.{DataEndTies, WriteEndTies}
 use Rattle.lvm_tie_writes.proofs.Due.{Stays, are_apart, done_stays, not_due, stage_one, sure_stays}
-use Rattle.lvm_tie_writes.proofs.Near.{IsNear, near_tied, next_by_data}
-use Rattle.lvm_tie_writes.proofs.Wants.{stale_near, with_status}
+use Rattle.lvm_tie_writes.proofs.Next.{next_by_data}
+use Rattle.lvm_tie_reviews.specs.Near.{IsNear, IsRunning, open_after}
+use Rattle.lvm_tie_reviews.proofs.CopyEnds.{near_ties, with_end_status}
+use Rattle.lvm_tie_reviews.proofs.Reviewing.{opened}
 
 some_of : {X : Type 0} (a b : X) → Some a ≡ Some b → a ≡ b
 some_of a b e = cc
@@ -103,14 +110,24 @@ going_either : (b : Bool) → phase_seen (if b then phase.WantStatus else phase.
 going_either true = refl
 going_either false = refl
 
--- the end of a copy leaves the power
-power_same : (core : Core) (e : Option CopyEnd) → (with_copy_end core e).power ≡ core.power
-power_same core None = refl
-power_same core (Some how) = by core.copy
+-- what is false is so where it implies what is
+falls : (a b : Bool) → (a ≡ true → b ≡ true) → b ≡ false → a ≡ false
+falls true b f h = clash b (f refl) h
+falls false b f h = refl
+
+-- what is entailed is wanted, and then the copy ends
+entailed_is : (old : Core) (o : Open) (ok : Bool) (p : Pp) (new : Core) → Entails old o ok p new → new ≡ with_copy_end (record old { status = new.status }) (end_by_write old o ok p)
+entailed_is old o ok p new entails = entails.is ∙ with_end_status old (end_by_write old o ok p) new.status
+
+-- the end of a copy leaves power, status and slots
+ended_orderly : (device : Device) (core : Core) (e : Option CopyEnd) (write : Option RecordWrite) → IsSound (state device (with_copy_end core e)) → core.power ≡ power.On → IsWriteOf core.status core.homes core.status.in_flight write
+    → IsOrderly (state device (with_copy_end core e)) write
+ended_orderly device core None write sound on update = record { sound = sound; on = on; update = update }
+ended_orderly device core (Some how) write sound on update = by core.copy sound
   where
-    by : (m : Option Bringing) → (option_map_or (λ (c : Bringing). after_copy_end core c how) m core).power ≡ core.power
-    by None = refl
-    by (Some c) = refl
+    by : (m : Option Bringing) → IsSound (state device (option_map_or (λ (c : Bringing). after_copy_end core c how) m core)) → IsOrderly (state device (option_map_or (λ (c : Bringing). after_copy_end core c how) m core)) write
+    by None sound_then = record { sound = sound_then; on = on; update = update }
+    by (Some c) sound_then = record { sound = sound_then; on = on; update = update }
 
 module _ (past : List Fact) (old new : Session) (index : ℕ) (ends : Ends old new index) (id number : ℕ) (its_owner : ends.row.owner ≡ owner.Data id number) (learns : DataLearns old.core index id number ends.ok ends.buf new.core) (tied : IsTied past old)
     (writes : is_write learns.its.request.request.ask ≡ true) (sectors : HasSectors new.device) where
@@ -169,12 +186,12 @@ module _ (past : List Fact) (old new : Session) (index : ℕ) (ends : Ends old n
   sees : SeesRequest o q
   sees = (tied.sees.requests learns.place o learns.its.there).2
 
-  its_row : (u : State) → IsRow old.core core2 tied.write v u ended.removes.before ended.removes.after f old.core.flying index ends.row
-  its_row u = is_row old.core core2 tied.write v u ended.removes.before ended.removes.after f old.core.flying index ends.row
+  its_row : (next : Core) (u : State) → IsRow old.core next tied.write v u ended.removes.before ended.removes.after f old.core.flying index ends.row
+  its_row next u = is_row old.core next tied.write v u ended.removes.before ended.removes.after f old.core.flying index ends.row
       (subst (λ (fs : List Flight). AreOut old.core tied.write fs old.core.flying) ended.removes.was (out_of old tied.write tied.orderly tied.notes)) tickets ends.returns.there ended.its
 
   found : IsDataOut old.core f o.request.id number
-  found = subst (IsOut old.core tied.write f) (its_owner ∙ ap (λ n. owner.Data n number) (sym learns.own)) (its_row v).out
+  found = subst (IsOut old.core tied.write f) (its_owner ∙ ap (λ n. owner.Data n number) (sym learns.own)) (its_row core2 v).out
 
   place_is : found.place ≡ learns.place
   place_is = numbers found.place learns.place found.request o found.there learns.its.there found.own
@@ -262,11 +279,11 @@ module _ (past : List Fact) (old new : Session) (index : ℕ) (ends : Ends old n
     got = sees.got;
   }
 
-  carries : (g : Flight) (who : Owner) → CarriesStep old.core v g who → CarriesStep core2 w g who
-  carries g (owner.Data n m) c = tt
-  carries g (owner.Status disk) c = tt
-  carries g (owner.Note disk) c = tt
-  carries g owner.Copy carried = λ c p is writing here. carried c p is writing (sym (elsewhere c is writing) ∙ here)
+  carries : (status : Stored) (u : State) → u.queue ≡ w.queue → (g : Flight) (who : Owner) → CarriesStep old.core v g who → CarriesStep (record core2 { status = status }) u g who
+  carries status u same g (owner.Data n m) c = tt
+  carries status u same g (owner.Status disk) c = tt
+  carries status u same g (owner.Note disk) c = tt
+  carries status u same g owner.Copy carried = λ c p is writing here. carried c p is writing (sym (elsewhere c is writing) ∙ ap (λ (queue : ℕ → Option Queued). queue c.place) (sym same) ∙ here)
     where
       elsewhere : (c : Bringing) → old.core.copy ≡ Some c → c.step ≡ step.Writing → w.queue c.place ≡ v.queue c.place
       elsewhere c is writing = elim (cases_eq c.place i) [
@@ -282,29 +299,14 @@ module _ (past : List Fact) (old new : Session) (index : ℕ) (ends : Ends old n
   since_ended None (Some u) since = absurd since
 
   -- the session so far, without what becomes wanted
-  abbrev near : IsNear past new.device core2
-  near = record {
-    votes = tied.votes;
-    are_votes = tied.are_votes;
-    media = ended.media;
-    told = ended.told;
-    view = w;
-    sees = sees_changed past old.core v learns.place o o2 q2 core2.pool core2.flying old.core.last old.core.queue old.core.cache.entries block tied.sees numbers learns.its.there refl sees2 (λ lv g. refl);
-    good = each_keeps tied.votes (Transfer i q t.pp (stage_of ends.ok) block) v w (wrote.may, refl) tied.good;
-    describes = subst (λ (sizes : List ℕ). Describes w w.facts old.core.descriptor (update_of old.core.status) (contents_of (image_of sizes ended.media))) (sym ended.sizes) wrote.describes;
-    write = tied.write;
-    update = tied.orderly.update;
-    since = since_ended tied.write (update_of old.core.status) tied.since;
-    next = subst (λ (sizes : List ℕ). MayUpdate old.core.descriptor old.core.status old.core.homes (image_of sizes ended.media)) (sym ended.sizes)
-        (next_by_data old.core.descriptor old.core.status old.core.homes (image_of old.device.sizes tied.media) (image_of old.device.sizes ended.media) (subst (λ (sizes : List ℕ). AreSectors sizes ended.media) ended.sizes whole) tied.next same_records);
-    notes = tied.notes;
-    copy_aimed = tied.copy_aimed;
-    carry = subst (λ (fs : List Flight). CarryTheirs core2 w fs (remove old.core.flying index)) (sym ended.removes.is)
-        ((its_row w).carry carries (subst (λ (fs : List Flight). CarryTheirs old.core v fs old.core.flying) ended.removes.was tied.carry));
-    members = λ d member first. subst (λ (sizes : List ℕ). IsTrue (members_there (contents_of (image_of sizes ended.media)) old.core.descriptor d)) (sym ended.sizes)
-        (ap (λ (c : Contents). members_there c old.core.descriptor d) group_same.rest ∙ tied.members d member first);
-    own = tied.own;
-  }
+  sees_w : Sees past core2 w
+  sees_w = sees_changed past old.core v learns.place o o2 q2 core2.pool core2.flying old.core.last old.core.queue old.core.cache.entries block tied.sees numbers learns.its.there refl sees2 (λ lv g. refl)
+
+  good_w : Good tied.votes w
+  good_w = each_keeps tied.votes (Transfer i q t.pp (stage_of ends.ok) block) v w (wrote.may, refl) tied.good
+
+  next_w : MayUpdate old.core.descriptor old.core.status old.core.homes (image_of old.device.sizes ended.media)
+  next_w = next_by_data old.core.descriptor old.core.status old.core.homes (image_of old.device.sizes tied.media) (image_of old.device.sizes ended.media) (subst (λ (sizes : List ℕ). AreSectors sizes ended.media) ended.sizes whole) same_records tied.next
 
   -- ---- what becomes wanted stale
 
@@ -337,7 +339,7 @@ module _ (past : List Fact) (old new : Session) (index : ℕ) (ends : Ends old n
           let both = and_both (is_done u.0.state) (is_sure core2 u.0.pp) u.2 in
           done_stays core2 ts2 u.0 (are_apart ts2 differ2) u.1 both.0 both.1
       by false is =
-          let kept = each_has w i q2 near.good.sound (record { there = (put_there v i q2); write = parts.started.write; going = parts.started.going }) covers_first in
+          let kept = each_has w i q2 good_w.sound (record { there = (put_there v i q2); write = parts.started.write; going = parts.started.going }) covers_first in
           let u = stage_one ts2 kept.copy kept.stage (sym (sees2.targets kept.copy) ∙ kept.target) in
           sure_stays core2 ts2 u.0 (are_apart ts2 differ2) u.1 (sure_at core2 u.0 kept.copy u.2 (sure_of kept.copy kept.kept))
 
@@ -459,22 +461,92 @@ module _ (past : List Fact) (old new : Session) (index : ℕ) (ends : Ends old n
     ends_stale h is x open_is =
         let its_hit = hit h is in
         let c : Bringing = its_hit.copy in
-        let open_seen : SeesOpen (groups_of old.core) c v.open_copy = subst (λ (b : Bool). SeesRunning b (groups_of old.core) c v.open_copy) its_hit.running (subst (λ (m : Option Bringing). SeesCopy (groups_of old.core) m v.open_copy) its_hit.is_open tied.sees.open_copy) in
-        let its_target : x.target ≡ c.pp = ap (λ (y : OpenCopy). y.target) (some_of x open_seen.copy (sym open_is ∙ open_seen.is_open)) ∙ open_seen.target in
-        ap (calls_stale status.wanted) its_target ∙ wants.stale c.pp ∙ or_true (calls_stale old.core.status.wanted c.pp) (due c.pp) (by c its_hit.is_open its_hit.running (ap (λ (e : Option CopyEnd). marked_by_end core2 e c.pp) (is ∙ ap (λ (e : CopyEnd). Some e) its_hit.fails)) (is_whole old.core c) refl)
+        let brought = (opened past old tied c its_hit.is_open its_hit.running).0 in
+        ap (calls_stale status.wanted) (brought.target x open_is) ∙ wants.stale c.pp
+        ∙ or_true (calls_stale old.core.status.wanted c.pp) (due c.pp) (by c its_hit.is_open brought.part (ap (λ (e : Option CopyEnd). marked_by_end core2 e c.pp) (is ∙ ap (λ (e : CopyEnd). Some e) its_hit.fails)) (is_whole old.core c) refl)
       where
-        by : (c : Bringing) → old.core.copy ≡ Some c → is_running c ≡ true → marked_by_end core2 how c.pp ≡ option_map_or (λ (y : Bringing). is_whole old.core y && is_its c.pp y.pp) old.core.copy false
+        by : (c : Bringing) → old.core.copy ≡ Some c → (is_whole old.core c ≡ false → calls_stale old.core.status.wanted c.pp ≡ true) → marked_by_end core2 how c.pp ≡ option_map_or (λ (y : Bringing). is_whole old.core y && is_its c.pp y.pp) old.core.copy false
             → (b : Bool) → is_whole old.core c ≡ b → (calls_stale old.core.status.wanted c.pp ≡ true) ⊎ (due c.pp ≡ true)
-        by c here runs mark false part = inl ((copy_is past old tied c here).stale runs part).1
-        by c here runs mark true all = inr (or_true (is_among (due_of core2 o2.request) c.pp) (marked_by_end core2 how c.pp)
+        by c here stale mark false part = inl (stale part)
+        by c here stale mark true all = inr (or_true (is_among (due_of core2 o2.request) c.pp) (marked_by_end core2 how c.pp)
             (inr (mark ∙ ap (λ (m : Option Bringing). option_map_or (λ (y : Bringing). is_whole old.core y && is_its c.pp y.pp) m false) here ∙ (λ k. all k && same_pp c.pp c.pp refl k))))
+
+    -- ---- what the state wants
+
+    still : (p : Pp) → IsTrue (w.wanted.stale p) → IsTrue (calls_stale status.wanted p)
+    still p is = wants.stale p ∙ or_true (calls_stale old.core.status.wanted p) (due p) (inl (sym (ap (λ (m : Marks). m.stale p) tied.sees.wanted) ∙ is))
+
+    open_same : (e : Option CopyEnd) → ((h : CopyEnd) → e ≡ Some h → (x : OpenCopy) → v.open_copy ≡ Some x → calls_stale status.wanted x.target ≡ true)
+        → (open_after e v.open_copy ≡ v.open_copy) ⊎ ((open_after e v.open_copy ≡ None) × ((x : OpenCopy) → v.open_copy ≡ Some x → IsTrue (calls_stale status.wanted x.target)))
+    open_same None each = inl refl
+    open_same (Some h) each = inr (refl, each h refl)
+
+    open_there : (e : Option CopyEnd) (x : OpenCopy) → open_after e v.open_copy ≡ Some x → IsFalse (v.missing x.target.disk)
+    open_there None x is = good_w.sound.statuses.open_there x is
+    open_there (Some h) x is = absurd (cc is)
+
+    may_want : Wants w (marks_of status.wanted) w.missing (open_after how v.open_copy)
+    may_want = record {
+      missing_still = λ d is. is;
+      still = still;
+      still_dirty = λ lv is. ap (λ (ns : List ℕ). list_any (λ n. n == lv) ns) wants.dirty ∙ sym (ap (λ (m : Marks). m.dirty lv) tied.sees.wanted) ∙ is;
+      added = λ p is. ⊎_elim (λ was. inl (ap (λ (m : Marks). m.stale p) tied.sees.wanted ∙ was)) (λ its. replaced p its) (or_either (calls_stale old.core.status.wanted p) (due p) (sym (wants.stale p) ∙ is));
+      open_same = open_same how ends_stale;
+      open_there = open_there how;
+      behind = λ lv b c e copy fresh gone other usable kept. still c (good_w.sound.behind.left_behind lv b c e copy fresh gone other usable (falls (w.wanted.stale e) (calls_stale status.wanted e) (still e) kept));
+    }
+
+    abbrev event : Event
+    event = Want (marks_of status.wanted) w.missing (open_after how v.open_copy)
+
+    abbrev w1 : State
+    w1 = after_wants w (marks_of status.wanted) w.missing (open_after how v.open_copy)
+
+    abbrev core3 : Core
+    core3 = record core2 { status = status }
+
+    describes1 : Describes w1 w1.facts old.core.descriptor (update_of status) now
+    describes1 = subst (λ (u : Option (Stamped Status)). Describes w1 w1.facts old.core.descriptor u now) (sym (update_same core2.status status wants.rest wants.missing))
+        (quiet_lasts tied.votes event w w1 old.core.descriptor (update_of old.core.status) now (may_want, refl) good_w tt wrote.describes refl refl refl)
+
+    abbrev near : IsNear past new.device core3 how
+    near = record {
+      votes = tied.votes;
+      are_votes = tied.are_votes;
+      media = ended.media;
+      told = ended.told;
+      view = w1;
+      open_copy = v.open_copy;
+      sees = sees_wanted core2.status status wants.rest wants.missing past core2 w refl sees_w;
+      ended = refl;
+      good = each_keeps tied.votes event w w1 (may_want, refl) good_w;
+      describes = subst (λ (sizes : List ℕ). Describes w1 w1.facts old.core.descriptor (update_of status) (contents_of (image_of sizes ended.media))) (sym ended.sizes) describes1;
+      write = tied.write;
+      since = subst (OnlyUpdateSince new.device tied.write) (sym (update_same core2.status status wants.rest wants.missing)) (since_ended tied.write (update_of old.core.status) tied.since);
+      next = subst (λ (sizes : List ℕ). MayUpdate old.core.descriptor status old.core.homes (image_of sizes ended.media)) (sym ended.sizes)
+          (next_same core2.status status wants.rest wants.missing old.core.descriptor old.core.homes (image_of old.device.sizes ended.media) next_w);
+      notes = λ d items flies. subst (λ (st : Stamp). IsNote (record { stamp = st.epoch; entries = items.items })) (sym (stamp_same core2.status status wants.rest wants.missing)) (tied.notes d items flies);
+      copy_aimed = tied.copy_aimed;
+      carry = subst (λ (fs : List Flight). CarryTheirs core3 w1 fs (remove old.core.flying index)) (sym ended.removes.is)
+          ((its_row core3 w1).carry (carries status w1 refl) (subst (λ (fs : List Flight). CarryTheirs old.core v fs old.core.flying) ended.removes.was tied.carry));
+      members = λ d member first. subst (λ (sizes : List ℕ). IsTrue (members_there (contents_of (image_of sizes ended.media)) old.core.descriptor d)) (sym ended.sizes)
+          (ap (λ (c : Contents). members_there c old.core.descriptor d) group_same.rest ∙ tied.members d member first);
+      own = tied.own;
+    }
+
+    runs : (h : CopyEnd) → how ≡ Some h → IsRunning core3
+    runs h is = let its_hit = hit h is in record { copy = its_hit.copy; is_open = its_hit.is_open; runs = its_hit.running }
+
+    pub wanted_ties : IsSound (state new.device (with_copy_end core3 how)) → IsTied past (state new.device (with_copy_end core3 how))
+    wanted_ties sound = near_ties past new.device core3 how near runs
+        (ended_orderly new.device core3 how tied.write sound tied.orderly.on (write_same core2.status status wants.rest wants.missing old.core.homes tied.write tied.orderly.update))
 
   tied_after : IsSound new → IsTied past new
   tied_after sound =
       let entails : Entails core2 o2 ends.ok t.pp new.core = subst (λ (x : Open). Entails core2 x ends.ok t.pp new.core) learned_is (subst (λ (c : Core). Entails c (learned o number ends.ok ends.buf) ends.ok t.pp new.core) after_is learns.entails) in
-      let is : new.core ≡ with_status (with_copy_end core2 how) new.core.status = entails.is in
-      let near_then = stale_near past new.device core2 near new.core.status due entails.marks how (replaced new.core.status entails.marks) (ends_stale new.core.status entails.marks) in
-      near_tied past new (subst (IsNear past new.device) (sym is) near_then) sound (ap (λ (c : Core). c.power) is ∙ power_same core2 how ∙ tied.orderly.on)
+      let is : new.core ≡ with_copy_end (record core2 { status = new.core.status }) how = entailed_is core2 o2 ends.ok t.pp new.core entails in
+      let all : new ≡ state new.device (with_copy_end (record core2 { status = new.core.status }) how) = λ k. record { device = new.device; core = is k } in
+      subst (IsTied past) (sym all) (wanted_ties new.core.status entails.marks (subst IsSound all sound))
 
 pub write_end_ties : WriteEndTies
 write_end_ties at id target past old new tied sound event = tied_after past old new at event.1.ends id target event.1.own event.1.learns tied event.1.writes event.0 sound
