@@ -12,5 +12,5 @@ use Rattle.lvm_sound.specs.Sound.{IsSound}
 -- of its targets.
 abbrev pub LostIsUncaught : Type 0
 LostIsUncaught =
-    (s : State) (place : ℕ) (o : Open) → IsSound s → s.core.power ≡ power.On → slice_get s.core.requests place ≡ Some o → wants_status o.request.phase ≡ true → is_kept s.core o.request ≡ false
-    → (number : ℕ) (t : Target) → slice_get o.request.targets.items number ≡ Some t → is_caught s.core (group_in s.core o.request.ask) t.pp ≡ false
+    (s : State) (place : ℕ) (o : Open) → IsSound s → s.core.power ≡ power.On → slice_get s.core.requests place ≡ Some o → wants_status o.request.phase ≡ true
+    → is_kept s.core o.request ≡ false → (number : ℕ) (t : Target) → slice_get o.request.targets.items number ≡ Some t → is_caught s.core (group_in s.core o.request.ask) t.pp ≡ false
