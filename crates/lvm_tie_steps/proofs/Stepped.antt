@@ -96,7 +96,7 @@ running_on true groups c st tried open_copy sees = record { copy = sees.copy; is
 running_on false groups c st tried open_copy sees = sees
 
 -- what its transfer carried is carried no more
-carry_none : (core : Core) (v : State) (d : Bringing) (fs : List Flight) (rows : List Flown) → core.copy ≡ Some d → is_out d.step ≡ false → CarryTheirs core v fs rows
+pub carry_none : (core : Core) (v : State) (d : Bringing) (fs : List Flight) (rows : List Flown) → core.copy ≡ Some d → is_out d.step ≡ false → CarryTheirs core v fs rows
 carry_none core v d [] rows is rests = tt
 carry_none core v d (f ∷ fs) [] is rests = tt
 carry_none core v d (f ∷ fs) (row ∷ rows) is rests = (by row.owner, carry_none core v d fs rows is rests)
