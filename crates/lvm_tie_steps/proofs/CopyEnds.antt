@@ -14,7 +14,7 @@ use Rattle.lvm_session.specs.Bringing.{is_whole}
 use Rattle.lvm_events.specs.Ends.{Returns, StepLeaves, StepLearns}
 use Rattle.lvm_sound.specs.Sound.{IsSound}
 use Rattle.lvm_tie.specs.Tied.{IsTied}
-use Rattle.lvm_tie_steps.specs.Steps.{CopyEndTies, CopyGroupTies, IsReadThere}
+use Rattle.lvm_tie_steps.specs.Steps.{CopyEndTies, CopyGroupTies}
 use Rattle.lvm_tie_steps.proofs.Quits.{copy_quit_ties}
 use Rattle.lvm_tie_steps.proofs.Fails.{copy_write_fail_ties}
 use Rattle.lvm_tie_steps.proofs.ReadEnds.{copy_read_end_ties}
@@ -30,14 +30,14 @@ copy_group_ties at past old new tied sound event = by (is_whole old.core (d past
     by false short = group_tied past old new at tied sound event.0 event.1 short
     by true full = whole_tied past old new at tied sound event.0 event.1 full
 
-module _ (past : List Fact) (old new : Session) (at : ℕ) (row : Flown) (buf : Buffer) (tied : IsTied past old) (sound : IsSound new) (sectors : HasSectors new.device) (there : IsReadThere old.core)
+module _ (past : List Fact) (old new : Session) (at : ℕ) (row : Flown) (buf : Buffer) (tied : IsTied past old) (sound : IsSound new) (sectors : HasSectors new.device)
     (own : row.owner ≡ owner.Copy) (c : Bringing) (is_open : old.core.copy ≡ Some c) where
   -- by what its step was
   stepped : (st : Step) (ok : Bool) → c.step ≡ st → is_running c ≡ true → Returns old new at row ok buf → StepLeaves st ok old.core at c buf new.core → IsTied past new
   stepped step.Idle ok is runs returns none = absurd none
   stepped (step.Read hand) ok is runs returns none = absurd none
   stepped (step.Reading source) true is runs returns its =
-      copy_read_end_ties at past old new tied sound (there, record { row = row; buf = buf; copy = c; source = source; own = own; is_open = is_open; runs = runs; reads = is; returns = returns; is = its })
+      copy_read_end_ties at past old new tied sound (record { row = row; buf = buf; copy = c; source = source; own = own; is_open = is_open; runs = runs; reads = is; returns = returns; is = its })
   stepped (step.Reading source) false is runs returns its =
       copy_miss_ties at past old new tied sound (record { row = row; buf = buf; copy = c; source = source; own = own; is_open = is_open; runs = runs; reads = is; returns = returns; misses = its })
   stepped step.Writing true is runs returns its =
@@ -53,6 +53,6 @@ module _ (past : List Fact) (old new : Session) (at : ℕ) (row : Flown) (buf : 
 
 pub copy_end_ties : CopyEndTies
 copy_end_ties at past old new tied sound event =
-    let its = event.2 in
+    let its = event.1 in
     let learns = its.learns in
-    learnt past old new at its.ends.row its.ends.buf tied sound event.0 event.1 its.own learns.copy learns.is_open (is_running learns.copy) its.ends.ok refl its.ends.returns learns.learns
+    learnt past old new at its.ends.row its.ends.buf tied sound event.0 its.own learns.copy learns.is_open (is_running learns.copy) its.ends.ok refl its.ends.returns learns.learns

@@ -13,7 +13,7 @@ pub fn copy_write_fail_ties()
     ensures { CopyWriteFailTies }
 {}
 
-/// So does a read that ends well, of a copy whose disk was there when the session began.
+/// So does a read that ends well.
 pub fn copy_read_end_ties()
     ensures { CopyReadEndTies }
 {}
