@@ -1,0 +1,3 @@
+pub mod Behind
+pub mod CopyEnds
+pub mod Reviewing

@@ -1,0 +1,59 @@
+-- A session that is tied but for the end of its open copy.
+use Rattle.std.specs.Prelude.{◌≡◌, ℕ, true, false, List, Option, Some, None, IsTrue, count_by}
+use Rattle.lvm_num.specs.Descriptor.{is_member}
+use Rattle.lvm_num.specs.Status.{calls_missing}
+use Rattle.lvm_vol.specs.Facts.{Fact}
+use Rattle.lvm_vol.specs.Legal.{begins_in}
+use Rattle.lvm_disk.specs.Device.{Media, Device, image_of}
+use Rattle.lvm_kept.specs.Contents.{contents_of}
+use Rattle.lvm_kept.specs.Torn.{RecordWrite}
+use Rattle.lvm_session.specs.declared.bringing.OpenCopy.{OpenCopy as Bringing}
+use Rattle.lvm_session.specs.declared.bringing.CopyEnd.{CopyEnd}
+use Rattle.lvm_session.specs.State.{Core, state}
+use Rattle.lvm_session.specs.Judging.{is_running}
+use Rattle.lvm_session.specs.Bringing.{with_end}
+use Rattle.lvm_invariant.specs.State.{OpenCopy, State}
+use Rattle.lvm_invariant.specs.Found.{Votes}
+use Rattle.lvm_invariant.specs.Good.{Good}
+use Rattle.lvm_crash.specs.Session.{AreVotesOf, Describes, members_there}
+use Rattle.lvm_tie_shelf.specs.Owned.{OnlyUpdateSince}
+use Rattle.lvm_tie.specs.Out.{AreNotes, CarryTheirs, MayUpdate}
+use Rattle.lvm_tie.specs.Seen.{Sees, update_of}
+use Rattle.lvm_tie.specs.Tied.{IsCopyAimed, IsOrderly, IsTied}
+
+-- a copy is open, and it runs
+pub record IsRunning (core : Core) : Type 0 where
+  pub copy : Bringing
+  pub is_open : core.copy ≡ Some copy
+  pub runs : is_running copy ≡ true
+
+-- nothing is open once it has ended
+abbrev pub open_after : Option CopyEnd → Option OpenCopy → Option OpenCopy
+open_after None o = o
+open_after (Some how) o = None
+
+-- All of the tie but what is asked of the session alone, where the copy ends so and the state has it as ended.
+pub record IsNear (past : List Fact) (device : Device) (core : Core) (how : Option CopyEnd) : Type 0 where
+  pub votes : Votes
+  pub are_votes : AreVotesOf core.descriptor votes
+  pub media : Media
+  pub told : device.media ≡ Some media
+  pub view : State
+  pub open_copy : Option OpenCopy
+  pub sees : Sees past core (record view { open_copy = open_copy })
+  pub ended : view.open_copy ≡ open_after how open_copy
+  pub good : Good votes view
+  pub describes : Describes view view.facts core.descriptor (update_of core.status) (contents_of (image_of device.sizes media))
+  pub write : Option RecordWrite
+  pub since : OnlyUpdateSince device write (update_of core.status)
+  pub next : MayUpdate core.descriptor core.status core.homes (image_of device.sizes media)
+  pub notes : AreNotes core
+  pub copy_aimed : IsCopyAimed core view
+  pub carry : CarryTheirs core view device.flights core.flying
+  pub members : (d : ℕ) → is_member core.descriptor d ≡ true → calls_missing core.origin.table d ≡ false → IsTrue (members_there (contents_of (image_of device.sizes media)) core.descriptor d)
+  pub own : count_by (begins_in core.history.run) past ≡ 0
+
+-- Where the open copy ends so while it runs, or doesn't end, the session is tied after it: a step of it that isn't out leaves the queue.
+abbrev pub NearTies : Type 0
+NearTies = (past : List Fact) (device : Device) (core : Core) (how : Option CopyEnd) (near : IsNear past device core how) → ((e : CopyEnd) → how ≡ Some e → IsRunning core)
+    → IsOrderly (state device (with_end core how)) near.write → IsTied past (state device (with_end core how))
