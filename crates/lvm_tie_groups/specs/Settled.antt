@@ -33,11 +33,13 @@ pub record IsSettledAfter (past : List Fact) (s : Session) (media : Media) : Typ
 
 -- It is tied with an earlier history that has no request of its run.
 abbrev pub SettledTies : Type 0
-SettledTies = (past : List Fact) (s : Session) (media : Media) → IsSettledAfter past s media → MayServe s media → count_by (begins_in s.core.history.run) past ≡ 0 → IsTied past s
+SettledTies = (past : List Fact) (s : Session) (media : Media) → IsSettledAfter past s media → MayServe s media
+    → count_by (begins_in s.core.history.run) past ≡ 0 → IsTied past s
 
 -- So it is good, where it is settled after each earlier history with which its run may have begun.
 abbrev pub SettledServes : Type 0
-SettledServes = (first : Moment) (s : Session) (media : Media) → ((past : List Fact) → Begins s.core.history.run past first → IsSettledAfter past s media) → MayServe s media → IsGood s.core.history.run first s
+SettledServes = (first : Moment) (s : Session) (media : Media)
+    → ((past : List Fact) → Begins s.core.history.run past first → IsSettledAfter past s media) → MayServe s media → IsGood s.core.history.run first s
 
 -- ---- out
 
