@@ -1,0 +1,5 @@
+pub mod Landing
+pub mod Serving
+pub mod Leaving
+pub mod Entailing
+pub mod Coming
