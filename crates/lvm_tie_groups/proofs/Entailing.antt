@@ -43,8 +43,8 @@ below first (suc n) k (inr later) = let low = below (first + 1) n k later in ome
 
 -- ---- nothing that missing disks would entail
 
-module _ (core : Core) (valid : IsValid core.descriptor) (group : core.status.group ≡ record core.descriptor { lvs = [] }) (committed : core.status.committed ≡ core.status.wanted)
-    (none : NoneIsLeft core.descriptor core.status) (p : Pp) where
+module _ (core : Core) (valid : IsValid core.descriptor) (group : core.status.group ≡ record core.descriptor { lvs = [] })
+    (committed : core.status.committed ≡ core.status.wanted) (none : NoneIsLeft core.descriptor core.status) (p : Pp) where
   abbrev present : Disks
   present = there core.status
 
@@ -78,7 +78,8 @@ module _ (core : Core) (valid : IsValid core.descriptor) (group : core.status.gr
         let other = any_one (can_replace core) (copies_of row lp) all.1 in
         let served : IsTrue (is_served present core.status.wanted (copies_of row lp)) =
         passes (λ (q : Pp). present q.disk && not (calls_stale core.status.wanted q)) (copies_of row lp) other.0 other.1 (serves other.0 other.1 other.2) in
-        let left : IsLeftIn present core.status.wanted core.descriptor.lvs p = record { row = row; volume = volume; left = record { lp = lp; below = low; left = record { one = one; absent = absent three.1; served = served } } } in
+        let left : IsLeftIn present core.status.wanted core.descriptor.lvs p =
+        record { row = row; volume = volume; left = record { lp = lp; below = low; left = record { one = one; absent = absent three.1; served = served } } } in
         (none p left, sym (ap (λ (s : Status). calls_stale s p) committed) ∙ not_true (is_stale core p) two.1)
 
   pub not_entailed : is_entailed core p ≡ false

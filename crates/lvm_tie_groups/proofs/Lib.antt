@@ -3,3 +3,5 @@ pub mod Serving
 pub mod Leaving
 pub mod Entailing
 pub mod Coming
+pub mod PairSectors
+pub mod Examples

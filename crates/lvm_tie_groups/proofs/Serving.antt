@@ -18,7 +18,8 @@ none_flown core [] flights are none = refl
 none_flown core (row ∷ rows) [] are none = absurd are
 none_flown core (row ∷ rows) (f ∷ flights) are none = absurd (cc none)
 
-module _ (past : List Fact) (s : Session) (media : Media) (is : IsSettledAfter past s media) (may : MayServe s media) (own : count_by (begins_in s.core.history.run) past ≡ 0) where
+module _ (past : List Fact) (s : Session) (media : Media) (is : IsSettledAfter past s media) (may : MayServe s media)
+    (own : count_by (begins_in s.core.history.run) past ≡ 0) where
   rests : IsResting s.core
   rests = record {
     requests = is.known.settled.quiet.requests;

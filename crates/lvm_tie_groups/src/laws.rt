@@ -1,5 +1,6 @@
 //! Laws of sessions before, between and after commands on their groups. Each call does nothing: its contract is the law.
 ghost use Rattle.lvm_tie_groups.specs.Coming.{MadeServes, OffIsMadeEven, VariedOnServes};
+ghost use Rattle.lvm_tie_groups.specs.Examples.{PairsServe};
 ghost use Rattle.lvm_tie_groups.specs.Settled.{SettledServes, SettledTies, TiedSettles};
 
 /// A settled session is tied, with an earlier history that has no request of its run: where it is sound with requests
@@ -33,4 +34,11 @@ pub fn off_is_made_even()
 /// has a quorum among all disks.
 pub fn made_serves()
     ensures { MadeServes }
+{}
+
+/// There are such sessions: of two disks that mirror a volume, in each mode, dirty or not, with both members or one that is
+/// lost, after a power cut during a write. They are tied, and may be left; and what is asked beside the contracts of the
+/// calls that begin a session holds of them.
+pub fn pairs_serve()
+    ensures { PairsServe }
 {}
