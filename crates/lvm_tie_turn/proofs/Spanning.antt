@@ -22,6 +22,10 @@ use Rattle.lvm_tie_turn.specs.GoingOn.{GoesOn}
 pub goes_same : (run : ℕ) (old new : Session) → new ≡ old → GoesOn run old new
 goes_same run old new same = subst (λ (n : Session). GoesOn run old n) (sym same) (λ first good. (good, λ span. span))
 
+-- one thing after another
+pub goes_then : (run : ℕ) (old mid new : Session) → GoesOn run old mid → GoesOn run mid new → GoesOn run old new
+goes_then run old mid new one two first good = let a = one first good in let b = two first a.0 in (b.0, λ span. b.1 (a.1 span))
+
 module _ (run : ℕ) (old new : Session) (tie : (past : List Fact) → IsTied past old → IsTied past new) where
   -- neither the shelf nor the history changes, whatever the power is
   pub goes_still : (new.core.power ≡ power.On → old.core.power ≡ power.On) → new.device ≡ old.device → new.core.history.facts ≡ old.core.history.facts → GoesOn run old new
