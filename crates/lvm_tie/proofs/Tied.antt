@@ -178,7 +178,7 @@ module _ (past : List Fact) (s : Session) (tied : IsTied past s) where
             past = past;
             value = theirs.0;
             got = theirs.1;
-            aimed = (λ t. v.is_copy (seen.2.lv t) (seen.2.first t) out.copy.pp) ∙ tied.copy_aimed out.copy out.is_open row;
+            aimed = (λ t. v.is_copy (seen.2.lv t) (seen.2.first t) out.copy.pp) ∙ (tied.copy_aimed out.copy out.is_open row).0;
             transfer = record {
               write = writes.write_is;
               disk = writes.disk_is;

@@ -1,5 +1,6 @@
 -- The tie of a session and its shelf to a good state of the induction.
 use Rattle.std.specs.Prelude.{◌≡◌, ℕ, ◌++◌, ◌∷◌, true, false, List, [], Option, Some, IsTrue, count_by}
+use Rattle.lvm_num.specs.declared.place.Pp.{Pp}
 use Rattle.lvm_num.specs.Descriptor.{is_member}
 use Rattle.lvm_num.specs.Status.{calls_missing}
 use Rattle.lvm_vol.specs.Facts.{Fact}
@@ -12,6 +13,7 @@ use Rattle.lvm_kept.specs.Torn.{RecordWrite}
 use Rattle.lvm_steps.specs.Moments.{Begins, Upholds, Keeps}
 use Rattle.lvm_steps.specs.Requests.{at}
 use Rattle.lvm_session.specs.declared.bringing.OpenCopy.{OpenCopy as Bringing}
+use Rattle.lvm_session.specs.declared.bringing.Step.TheVariants as step
 use Rattle.lvm_session.specs.declared.open.Power.TheVariants as power
 use Rattle.lvm_session.specs.State.{Core, State as Session}
 use Rattle.lvm_session.specs.Bringing.{has_row, block_at}
@@ -26,9 +28,10 @@ use Rattle.lvm_tie.specs.Seen.{update_of, Sees}
 
 -- ---- the tie
 
--- each block of the step of the copy that is open is one of its copy's
+-- each block of the step of the copy that is open is one of its copy's, and of the copy's from which it is read
 abbrev pub IsCopyAimed : Core → State → Type 0
-IsCopyAimed core v = (c : Bringing) → core.copy ≡ Some c → has_row core c ≡ true → IsTrue (v.is_copy c.lv (block_at core c) c.pp)
+IsCopyAimed core v = (c : Bringing) → core.copy ≡ Some c → has_row core c ≡ true
+    → IsTrue (v.is_copy c.lv (block_at core c) c.pp) × ((source : Pp) → c.step ≡ step.Reading source → IsTrue (v.is_copy c.lv (block_at core c) source))
 
 -- What is asked of the driver's session alone: it is on and sound, and its update in flight is written so.
 pub record IsOrderly (s : Session) (write : Option RecordWrite) : Type 0 where

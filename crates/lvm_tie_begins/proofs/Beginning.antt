@@ -24,6 +24,13 @@ use Rattle.lvm_tie.specs.Tied.{IsTied, moment_of}
 use Rattle.lvm_tie_begins.specs.Begins.{BeginsGood, BeginsSound, BeginsTied, FollowsOn, IsResting, MembersShow, StandsAtRest, Start, begun, shown_to}
 use Rattle.lvm_tie_begins.proofs.Resting.{rest_ties}
 
+-- where no disk is missing but those that were at first, each other member shows the group
+pub first_members : (s : Session) (media : Media) → StandsAtRest s media → s.core.status.wanted ≡ s.core.origin.table → MembersShow s media
+first_members s media stands first d member present =
+    let core : Core = s.core in
+    let there : IsTrue (is_there core d) = ap (λ (t : Status). is_member core.descriptor d && not (calls_missing t d)) first ∙ (λ k. member k && not (present k)) in
+    member_of_parts (shown_to s media) all_disks core.descriptor.id core.descriptor d refl (shows_group (shown_to s media) core.descriptor core.status.committed (is_there core) stands.held.shows d there) (stands.held.shows.room d there)
+
 module _ (b : Start) (media : Media) (first : BeginsSound b) (stands : StandsAtRest (begun b) media) where
   abbrev s : Session
   s = begun b
@@ -57,14 +64,8 @@ module _ (b : Start) (media : Media) (first : BeginsSound b) (stands : StandsAtR
     notes = none_flies;
   }
 
-  -- each member that wasn't missing is there, and shows the group
-  there : (d : ℕ) → is_member core.descriptor d ≡ true → calls_missing core.origin.table d ≡ false → IsTrue (is_there core d)
-  there d member present = ap (λ (t : Status). is_member core.descriptor d && not (calls_missing t d)) (ap (λ (u : Updates). u.wanted) its.status) ∙ (λ k. member k && not (present k))
-
   members : MembersShow s media
-  members d member present =
-      let is = there d member present in
-      member_of_parts c all_disks core.descriptor.id core.descriptor d refl (shows_group c core.descriptor core.status.committed (is_there core) stands.held.shows d is) (stands.held.shows.room d is)
+  members = first_members s media stands (ap (λ (u : Updates). u.wanted) its.status)
 
   pub ties : (past : List Fact) → FollowsOn past s → IsTied past s
   ties past follows = rest_ties past s media first.sound refl rests stands members follows

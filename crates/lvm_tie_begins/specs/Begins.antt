@@ -66,11 +66,13 @@ pub record FollowsOn (past : List Fact) (s : Session) : Type 0 where
 
 -- each member that wasn't missing when it began shows the group and has room for its records
 abbrev pub MembersShow : Session → Media → Type 0
-MembersShow s media = (d : ℕ) → is_member s.core.descriptor d ≡ true → calls_missing s.core.origin.table d ≡ false → IsTrue (members_there (shown_to s media) s.core.descriptor d)
+MembersShow s media = (d : ℕ) → is_member s.core.descriptor d ≡ true → calls_missing s.core.origin.table d ≡ false
+    → IsTrue (members_there (shown_to s media) s.core.descriptor d)
 
 -- Then a sound session that is on is tied.
 abbrev pub RestTies : Type 0
-RestTies = (past : List Fact) (s : Session) (media : Media) → IsSound s → s.core.power ≡ power.On → IsResting s.core → StandsAtRest s media → MembersShow s media → FollowsOn past s → IsTied past s
+RestTies = (past : List Fact) (s : Session) (media : Media) → IsSound s → s.core.power ≡ power.On → IsResting s.core → StandsAtRest s media
+    → MembersShow s media → FollowsOn past s → IsTied past s
 
 -- ---- as it begins
 
@@ -115,4 +117,5 @@ pub record IsRested (past : List Fact) (s : Session) (media : Media) (shows : Sh
 
 -- So they do where a tied session is at rest, and its members that aren't missing have votes enough to write.
 abbrev pub TiedRests : Type 0
-TiedRests = (past : List Fact) (s : Session) (tied : IsTied past s) → IsResting s.core → CanWrite s.core.descriptor (is_there s.core) → (shows : ShowsIts s tied.media) → IsRested past s tied.media shows
+TiedRests = (past : List Fact) (s : Session) (tied : IsTied past s) → IsResting s.core → CanWrite s.core.descriptor (is_there s.core)
+    → (shows : ShowsIts s tied.media) → IsRested past s tied.media shows

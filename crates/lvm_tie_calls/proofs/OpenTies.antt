@@ -281,7 +281,8 @@ module _ (past : List Fact) (s : Session) (new : Core) (counts : Counts) (lv lp 
     next = tied.next;
     notes = tied.notes;
     copy_aimed = λ d is row. let same : c ≡ d = (let e : Some c ≡ Some d = is in cc) in
-        subst (λ (x : Bringing). IsTrue (v.is_copy x.lv (block_at core x) x.pp)) same (one_is_copy_of past s tied c its some_groups opens.pp its.among member (there_first past s tied opens.pp.disk may.there));
+        subst (λ (x : Bringing). IsTrue (v.is_copy x.lv (block_at core x) x.pp) × ((source : Pp) → x.step ≡ step.Reading source → IsTrue (v.is_copy x.lv (block_at core x) source))) same
+        (one_is_copy_of past s tied c its some_groups opens.pp its.among member (there_first past s tied opens.pp.disk may.there), λ source reads. absurd (let e : step.Idle ≡ step.Reading source = reads in cc));
     carry = carry_so s.device.flights core.flying;
     members = tied.members;
     own = tied.own;

@@ -24,17 +24,18 @@ use Rattle.lvm_path.specs.Targets.{are_over, is_begun, is_done, is_failed, is_ov
 use Rattle.lvm_path.specs.Next.{next_chosen, next_data, next_in, next_read, next_write, start_or_wait}
 use Rattle.lvm_session.specs.declared.open.Open.{Open}
 use Rattle.lvm_session.specs.State.{Core, State as Session}
-use Rattle.lvm_session.specs.Judging.{copies_for, facts_of, group_in, is_caught, is_kept, is_waiting, next_for}
+use Rattle.lvm_session.specs.Judging.{copies_for, facts_of, group_in, is_caught, is_kept, is_waiting}
 use Rattle.lvm_events.specs.Events.{Lands}
-use Rattle.lvm_sound.specs.Requests.{IsPhase, IsRequest, IsTarget, may_lack}
+use Rattle.lvm_sound.specs.Requests.{IsPhase, IsRequest, IsTarget, may_lack, wants_status}
 use Rattle.lvm_sound.specs.Sound.{IsSound}
+use Rattle.lvm_uncaught.proofs.Uncaught.{lost_is_uncaught}
 use Rattle.lvm_kept.specs.Group.{IsOneOf}
 use Rattle.lvm_invariant.specs.State.{HasPassed}
 use Rattle.lvm_tie.specs.Tied.{IsOrderly, IsTied}
 use Rattle.lvm_tie.proofs.Judged.{among_one, passed_caught}
 use Rattle.lvm_tie.proofs.Orderly.{all_at, asked_one, open_one, request_is, waiting_one}
 use Rattle.lvm_tie.proofs.Words.{one_there}
-use Rattle.lvm_tie_lands.specs.Lands.{IsUncaught, LandTies}
+use Rattle.lvm_tie_lands.specs.Lands.{LandTies}
 use Rattle.lvm_tie_lands.proofs.LandTies.{no_fresh_ties}
 use Rattle.lvm_tie_lands.proofs.MarkedTies.{how as how_is, tied_after}
 use Rattle.lvm_tie_lands.proofs.GotTies.{GotsAre, HasGot, tied_after as got_ties}
@@ -63,7 +64,7 @@ chosen_lands k on how other h = by k.pending k.usable k.changed h
 -- a request without a copy; a write whose transfers have ended; or a read
 pub data Landing (p : Phase) (write : Bool) (how : Outcome) : Type 0 where
   Without : how ≡ outcome.NoFresh → Landing p write how
-  Marked : p ≡ phase.WantStatus → (how ≡ outcome.Done) ⊎ (how ≡ outcome.Lost) → Landing p write how
+  Marked : p ≡ phase.WantStatus → Landing p write how
   Reads : p ≡ phase.Data → write ≡ false → Landing p write how
 
 landing_of : (k : Facts) (r : Request) (p : Phase) (how : Outcome) → next_in p k r ≡ next.Land how → Landing p (is_write r.ask) how
@@ -95,12 +96,7 @@ landing_of k r phase.Data how h = by (is_write r.ask) (is_begun r.targets.items)
     by false b h = Reads refl refl
     by true true h = absurd (not_written how r.policy r.targets.items h)
     by true false h = Without (chosen_lands k (if k.pending then next.Wait else next_write r.policy r.targets.items) how (waits k.pending) h)
-landing_of k r phase.WantStatus how h = by k.marked k.kept h
-  where
-    by : (m c : Bool) → (if m then next.Land (if c then outcome.Done else outcome.Lost) else next.Wait) ≡ next.Land how → Landing phase.WantStatus (is_write r.ask) how
-    by true true h = Marked refl (inl (let e : how ≡ outcome.Done = cc h in e))
-    by true false h = Marked refl (inr (let e : how ≡ outcome.Lost = cc h in e))
-    by false c h = absurd (cc h)
+landing_of k r phase.WantStatus how h = Marked refl
 landing_of k r phase.Landed how h = absurd (cc h)
 
 -- one that finds no copy hasn't begun
@@ -234,8 +230,8 @@ module _ (past : List Fact) (old new : Session) (place : ℕ) (how : Outcome) (l
       writes at = by_phase o.request.phase at its.shape.phase_is
 
   -- a write whose transfers have ended
-  marked : (how ≡ outcome.Lost → IsUncaught core place) → o.request.phase ≡ phase.WantStatus → IsTied past new
-  marked lost at =
+  marked : o.request.phase ≡ phase.WantStatus → IsTied past new
+  marked at =
       let said : IsPhase phase.WantStatus o = subst (λ (p : Phase). IsPhase p o) at its.shape.phase_is in
       let some : 1 ≤ length ts = some_long ts (λ (t : Target). t.usable) (its.shape.usable (ap Rattle.lvm_sound.specs.Requests.is_past_held at)) in
       let begun : is_begun ts ≡ true = over_begun ts some said.1 in
@@ -250,14 +246,6 @@ module _ (past : List Fact) (old new : Session) (place : ℕ) (how : Outcome) (l
       no_hand : is_write o.request.ask ≡ true → o.got ≡ None
       no_hand writes = none o.got (its.shape.hand ∙ ap (λ b. not b && list_any (λ (t : Target). is_done t.state) ts) writes)
 
-      lost_by : is_kept core o.request ≡ false → how ≡ outcome.Lost
-      lost_by gone = by (Rattle.lvm_session.specs.Judging.is_marked core o.request) (is_kept core o.request) refl (sym (ap (λ (p : Phase). next_in p k o.request) at) ∙ lands.lands)
-        where
-          by : (m c : Bool) → is_kept core o.request ≡ c → (if m then next.Land (if c then outcome.Done else outcome.Lost) else next.Wait) ≡ next.Land how → how ≡ outcome.Lost
-          by true true is h = absurd (let e : true ≡ false = sym is ∙ gone in cc)
-          by true false is h = let e : how ≡ outcome.Lost = cc h in e
-          by false c is h = absurd (cc h)
-
       and_right : (a b : Bool) → (a && b) ≡ false → a ≡ true → b ≡ false
       and_right true b h is = h
       and_right false b h is = absurd (cc is)
@@ -270,7 +258,7 @@ module _ (past : List Fact) (old new : Session) (place : ℕ) (how : Outcome) (l
           (ap (λ b. b || o.older) failed)
       not_caught writes t one (inr gone) =
           let there = one_there ts t one in
-          lost (lost_by gone) o lands.there there.0 t there.1
+          lost_is_uncaught old place o tied.orderly.sound tied.orderly.on lands.there (ap wants_status at) gone there.0 t there.1
 
       uncaught : is_write o.request.ask ≡ true → (t : Target) → IsOneOf ts t → (is_failed t.state ≡ true) ⊎ (is_kept core o.request ≡ false)
           → HasPassed tied.view (lv_of o.request.ask) (track_group_of (at_of o.request.ask)) t.pp → ⊥
@@ -322,13 +310,13 @@ module _ (past : List Fact) (old new : Session) (place : ℕ) (how : Outcome) (l
           }
       gots false none = no_hand o.got (its.shape.hand ∙ (λ t. not (read t) && none t))
 
-  pub landed_ties : (how ≡ outcome.Lost → IsUncaught core place) → IsTied past new
-  landed_ties lost = by landing
+  pub landed_ties : IsTied past new
+  landed_ties = by landing
     where
       by : Landing o.request.phase (is_write o.request.ask) how → IsTied past new
       by (Without is) = without is
-      by (Marked at is) = marked lost at
+      by (Marked at) = marked at
       by (Reads at read) = reads at read
 
 pub land_ties : LandTies
-land_ties place how past old new tied sound lost lands = landed_ties past old new place how lands tied sound lost
+land_ties place how past old new tied sound lands = landed_ties past old new place how lands tied sound

@@ -2,8 +2,7 @@
 //! law.
 ghost use Rattle.lvm_tie_lands.specs.Lands.{LandTies, TakeTies};
 
-/// A request that lands leaves a tied session tied, as Lost where the copy that is being brought up has passed none of
-/// its targets.
+/// A request that lands leaves a tied session tied.
 pub fn land_ties()
     ensures { LandTies }
 {}

@@ -1,3 +1,7 @@
 pub mod Sectors
 pub mod Landing
+pub mod Ended
+pub mod Well
+pub mod Losing
+pub mod Badly
 pub mod NoteTies

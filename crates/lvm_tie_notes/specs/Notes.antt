@@ -1,8 +1,15 @@
 -- The ends of writes of notes.
-use Rattle.std.specs.Prelude.{ℕ}
-use Rattle.lvm_keeps_ends.specs.Ends.{EndsNote}
+use Rattle.std.specs.Prelude.{◌≡◌, ℕ}
+use Rattle.lvm_session.specs.declared.flown.Owner.TheVariants as owner
+use Rattle.lvm_session.specs.State.{State as Session}
+use Rattle.lvm_events.specs.Ends.{Ends}
 use Rattle.lvm_tie.specs.Tied.{Ties}
 
--- The write of a note that ends well leaves a tied session tied, also where its disk is missing by then.
+-- the write of a note has ended, well or badly
+pub record EndsOfNote (old new : Session) (at disk : ℕ) : Type 0 where
+  pub ends : Ends old new at
+  pub own : ends.row.owner ≡ owner.Note disk
+
+-- It leaves a tied session tied.
 abbrev pub NoteEndTies : Type 0
-NoteEndTies = (at disk : ℕ) → Ties (λ old new. EndsNote old new at disk)
+NoteEndTies = (at disk : ℕ) → Ties (λ old new. EndsOfNote old new at disk)

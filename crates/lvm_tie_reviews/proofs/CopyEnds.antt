@@ -4,6 +4,7 @@ use Rattle.std.specs.Prelude.{IsTrue, if◌then◌else◌, slice_get}
 use Rattle.std.specs.Option.{option_map_or}
 use Rattle.std.proofs.lemmas.Bool.{cases_eq}
 use Rattle.std.proofs.lemmas.Bool.Decides.{nat_tests}
+use Rattle.lvm_num.specs.declared.place.Pp.{Pp}
 use Rattle.lvm_vol.specs.Facts.{Fact, Taken}
 use Rattle.lvm_disk.specs.Device.{Flight, Device, image_of}
 use Rattle.lvm_kept.specs.Contents.{contents_of}
@@ -19,7 +20,7 @@ use Rattle.lvm_session.specs.declared.flown.Owner.{Owner}
 use Rattle.lvm_session.specs.declared.flown.Owner.TheVariants as owner
 use Rattle.lvm_session.specs.State.{Core, state}
 use Rattle.lvm_session.specs.Judging.{is_running, place_of}
-use Rattle.lvm_session.specs.Bringing.{after_copy_end, copy_ends, end_by_sources, end_of, ends_if, groups_of, hand_of, has_row, is_cleared, is_out, is_whole, with_back, with_end}
+use Rattle.lvm_session.specs.Bringing.{after_copy_end, block_at, copy_ends, end_by_sources, end_of, ends_if, groups_of, hand_of, has_row, is_cleared, is_out, is_whole, with_back, with_end}
 use Rattle.lvm_session.specs.Judging.{is_missing}
 use Rattle.lvm_session.specs.declared.bringing.CopyEnd.TheVariants as ending
 use Rattle.lvm_invariant.specs.State.{OpenCopy, Queued, State, has_landed}
@@ -174,7 +175,8 @@ module _ (past : List Fact) (device : Device) (core : Core) (how : CopyEnd) (nea
     since = near.since;
     next = near.next;
     notes = near.notes;
-    copy_aimed = λ d is row. subst (λ (x : Bringing). IsTrue (v.is_copy x.lv (Rattle.lvm_session.specs.Bringing.block_at core x) x.pp)) (some_of c_out d is) (near.copy_aimed c its.is_open (row_out out));
+    copy_aimed = λ d is row.
+        subst (λ (x : Bringing). IsTrue (v.is_copy x.lv (block_at core x) x.pp) × ((source : Pp) → x.step ≡ step.Reading source → IsTrue (v.is_copy x.lv (block_at core x) source))) (some_of c_out d is) (near.copy_aimed c its.is_open (row_out out));
     carry = carry_on core core_out v v device.flights core.flying carries_out near.carry;
     members = near.members;
     own = near.own;

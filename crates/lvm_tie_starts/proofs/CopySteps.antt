@@ -2,6 +2,7 @@
 use Rattle.std.proofs.Common.{◌≡◌, inl, inr, ⊎_elim, ℕ, ◌≤◌, Bool, true, false, List, [], ◌∷◌, ◌++◌, Option, Some, refl, sym, ap, subst, ◌∙◌}
 use Rattle.std.specs.Prelude.{IsTrue, slice_get}
 use Rattle.std.proofs.lemmas.Bool.{cases_eq}
+use Rattle.lvm_num.specs.declared.place.Pp.{Pp}
 use Rattle.lvm_num.specs.Geometry.{data_start}
 use Rattle.lvm_vol.specs.Facts.{Fact}
 use Rattle.lvm_disk.specs.Device.{Device, Flight, image_of}
@@ -113,8 +114,8 @@ module _ (past : List Fact) (old : Session) (device : Device) (c : Bringing) (st
         by owner.Copy its = absurd (none_out g c.step not_out (subst (λ (x : Bringing). StepIsOut old.core x x.step g) (let e : Some its.copy ≡ Some c = sym its.is_open ∙ is in cc) its.out))
 
     pub copy_started : Sees past new w → Good tied.votes w → Describes w w.facts old.core.descriptor (update_of old.core.status) (contents_of (image_of old.device.sizes tied.media)) → w.is_copy ≡ tied.view.is_copy
-        → IsSound (state device new) → IsTied past (state device new)
-    copy_started sees good describes same_copies sound = record {
+        → ((source : Pp) → st ≡ step.Reading source → IsTrue (w.is_copy c.lv (block_at old.core c) source)) → IsSound (state device new) → IsTied past (state device new)
+    copy_started sees good describes same_copies source_aimed sound = record {
       votes = tied.votes;
       are_votes = tied.are_votes;
       media = tied.media;
@@ -129,7 +130,8 @@ module _ (past : List Fact) (old : Session) (device : Device) (c : Bringing) (st
       next = subst (λ (sizes : List ℕ). MayUpdate old.core.descriptor old.core.status old.core.homes (image_of sizes tied.media)) (sym sizes_is) tied.next;
       notes = tied.notes;
       copy_aimed = λ d at r. let own : record c { step = st } ≡ d = (let e : Some (record c { step = st }) ≡ Some d = at in cc) in
-          subst (λ (x : Bringing). IsTrue (w.is_copy x.lv (block_at old.core x) x.pp)) own ((λ t. same_copies t c.lv (block_at old.core c) c.pp) ∙ tied.copy_aimed c is row);
+          subst (λ (x : Bringing). IsTrue (w.is_copy x.lv (block_at old.core x) x.pp) × ((source : Pp) → x.step ≡ step.Reading source → IsTrue (w.is_copy x.lv (block_at old.core x) source))) own
+          ((λ t. same_copies t c.lv (block_at old.core c) c.pp) ∙ (tied.copy_aimed c is row).0, source_aimed);
       carry = subst (λ (fs : List Flight). CarryTheirs new w fs (old.core.flying ++ flown_row ∷ [])) (sym (ap (λ (d : Device). d.flights) starts.new_is)) (carry_on old.device.flights old.core.flying (out_of old tied.write tied.orderly tied.notes));
       members = λ d member first. subst (λ (sizes : List ℕ). IsTrue (members_there (contents_of (image_of sizes tied.media)) old.core.descriptor d)) (sym sizes_is) (tied.members d member first);
       own = tied.own;

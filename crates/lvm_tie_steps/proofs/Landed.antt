@@ -152,7 +152,11 @@ module _ (past : List Fact) (old new : Session) (at : ℕ) (row : Flown) (ok : B
 
   -- its copy is one that the state sees
   pub aimed : IsTrue (v.is_copy q.lv q.first c.pp)
-  aimed = (λ t. v.is_copy (sees.lv t) (sees.first t) c.pp) ∙ tied.copy_aimed c is_open row_there
+  aimed = (λ t. v.is_copy (sees.lv t) (sees.first t) c.pp) ∙ (tied.copy_aimed c is_open row_there).0
+
+  -- so is that from which it is read
+  pub source_aimed : (source : Pp) → c.step ≡ step.Reading source → IsTrue (v.is_copy q.lv q.first source)
+  source_aimed source reads = (λ t. v.is_copy (sees.lv t) (sees.first t) source) ∙ (tied.copy_aimed c is_open row_there).1 source reads
 
   -- ---- what it leaves
 

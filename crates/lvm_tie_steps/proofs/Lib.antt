@@ -5,3 +5,7 @@ pub mod Quits
 pub mod Fails
 pub mod ReadEnds
 pub mod Misses
+pub mod Passing
+pub mod Groups
+pub mod Wholes
+pub mod CopyEnds

@@ -96,7 +96,7 @@ running_on true groups c st tried open_copy sees = record { copy = sees.copy; is
 running_on false groups c st tried open_copy sees = sees
 
 -- what its transfer carried is carried no more
-carry_none : (core : Core) (v : State) (d : Bringing) (fs : List Flight) (rows : List Flown) → core.copy ≡ Some d → is_out d.step ≡ false → CarryTheirs core v fs rows
+pub carry_none : (core : Core) (v : State) (d : Bringing) (fs : List Flight) (rows : List Flown) → core.copy ≡ Some d → is_out d.step ≡ false → CarryTheirs core v fs rows
 carry_none core v d [] rows is rests = tt
 carry_none core v d (f ∷ fs) [] is rests = tt
 carry_none core v d (f ∷ fs) (row ∷ rows) is rests = (by row.owner, carry_none core v d fs rows is rests)
@@ -179,7 +179,9 @@ module _ (past : List Fact) (old new : Session) (at : ℕ) (row : Flown) (ok : B
       since = since past old new at row ok buf tied returns own c is_open tied.write (update_of core.status) tied.since;
       next = landed.next;
       notes = tied.notes;
-      copy_aimed = λ e there r. let same : d ≡ e = (let k : Some d ≡ Some e = there in cc) in subst (λ (x : Bringing). IsTrue (v.is_copy x.lv (block_at core x) x.pp)) same (aimed ((λ t. has_row core (same t)) ∙ r));
+      copy_aimed = λ e there r. let same : d ≡ e = (let k : Some d ≡ Some e = there in cc) in
+          subst (λ (x : Bringing). IsTrue (v.is_copy x.lv (block_at core x) x.pp) × ((source : Pp) → x.step ≡ step.Reading source → IsTrue (v.is_copy x.lv (block_at core x) source))) same
+          (aimed ((λ t. has_row core (same t)) ∙ r), λ source reads. absurd (let k : true ≡ false = sym (ap is_out reads) ∙ its.rests in cc));
       carry = carry_none new_core (record (copied v landed.block open_copy None) { queue = queue; name = name }) d new.device.flights (remove core.flying at) refl its.rests;
       members = landed.members;
       own = tied.own;
@@ -233,4 +235,4 @@ module _ (past : List Fact) (old new : Session) (at : ℕ) (row : Flown) (ok : B
           ];
           open_seen = running_on (is_running c) (groups_of core) c st tried v.open_copy (subst (λ (m : Option Bringing). SeesCopy (groups_of core) m v.open_copy) is_open tied.sees.open_copy);
         })
-        stands (λ r. tied.copy_aimed c is_open (row_there past old new at row ok buf tied returns own c is_open)) sound
+        stands (λ r. (tied.copy_aimed c is_open (row_there past old new at row ok buf tied returns own c is_open)).0) sound

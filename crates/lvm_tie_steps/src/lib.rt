@@ -3,4 +3,7 @@
 
 mod laws;
 
-pub use laws::{copy_miss_ties, copy_quit_ties, copy_read_end_ties, copy_write_fail_ties};
+pub use laws::{
+    copy_end_ties, copy_group_ties, copy_miss_ties, copy_quit_ties, copy_read_end_ties,
+    copy_write_fail_ties,
+};

@@ -1,0 +1,4 @@
+pub mod Grounds
+pub mod Landings
+pub mod Calls
+pub mod Seen

@@ -1,0 +1,4 @@
+pub mod Update
+pub mod Learning
+pub mod Reviewed
+pub mod StatusTies
