@@ -5,5 +5,6 @@ mod Driven
 mod Stepping
 mod Draining
 mod Causes
+mod Reading
 pub mod Beginnings
 mod Closing

@@ -17,7 +17,7 @@ ghost use Rattle.lvm_sound.specs.Sound.{IsSound};
 ghost use Rattle.lvm_keeps.specs.Falls.{most_left};
 ghost use Rattle.lvm_copy_open.specs.Opening.{counts_seen};
 ghost use Rattle.lvm_session_start.specs.Beginning.{AreFaults, MayBegin, first_core};
-ghost use Rattle.lvm_driver.specs.Answers.{IsCausedFor, IsCopyCaused, IsOffSince, TurnTells, state_of};
+ghost use Rattle.lvm_driver.specs.Answers.{GetsItsBlocks, IsCausedFor, IsCopyCaused, IsOffSince, TurnTells, state_of};
 
 use lvm_calls::{close_copy, copy_state, take};
 use lvm_copy_open::open_copy;
@@ -93,6 +93,8 @@ impl<S: Shelf> Driver<S> {
         requires unstuck { self.old.1.power ≡ power.Stuck → ⊥ }
         ensures makes { TurnMakes (state_of S.device self.old) (state_of S.device self.new) result }
         ensures tells { TurnTells (state_of S.device self.old) (state_of S.device self.new) result }
+        // Where the blocks come from that a read gets.
+        ensures got { GetsItsBlocks (state_of S.device self.old) (state_of S.device self.new) }
     {
         turn(&mut self.session, &mut self.shelf)
     }

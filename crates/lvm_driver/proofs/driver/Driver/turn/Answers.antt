@@ -2,6 +2,7 @@ use Rattle.std.proofs.Common.{◌≡◌}
 use Rattle.lvm_session.specs.Fields.{core_of}
 use Rattle.lvm_session.specs.State.{state}
 use Rattle.lvm_driver.proofs.Driven.{turn_on}
+use Rattle.lvm_driver.proofs.Reading.{turn_gets}
 use Rattle.lvm_driver.proofs.Telling.{turn_tells}
 use Rattle.lvm_driver.proofs.driver.Driver.turn.Goals as goal
 
@@ -13,3 +14,6 @@ returns-clause-tells g c = rw (← c.self.view_is) (turn_tells (state (g.S.Shelf
 
 pub returns-clause-makes : goal.returns-clause-makes
 returns-clause-makes g c = rw (← c.self.view_is) c.turn.ensures.makes
+
+pub returns-clause-got : goal.returns-clause-got
+returns-clause-got g c = rw (← c.self.view_is) (turn_gets (state (g.S.Shelf.device c.self.inside.shelf) (core_of c.self.inside.session)) (state (g.S.Shelf.device c.turn.new.shelf) (core_of c.turn.new.session)) c.self.invariant.1 c.turn.result c.turn.ensures.makes)
