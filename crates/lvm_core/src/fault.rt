@@ -1,7 +1,7 @@
 //! Why something wasn't committed.
 
 /// Why something wasn't committed, or zeros weren't written.
-#[derive(Clone, Copy, Debug, PartialEq, Eq, Drop)]
+#[derive(Clone, Copy, Drop)]
 pub enum CommitFault {
     /// The power was cut, and is off.
     Dark,

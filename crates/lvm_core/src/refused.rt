@@ -11,7 +11,7 @@ pub struct Refused<S> {
 }
 
 /// Why a group didn't come on.
-#[derive(Clone, Copy, Debug, PartialEq, Eq, Drop)]
+#[derive(Clone, Copy, PartialEq, Eq, Drop)]
 pub enum Cause {
     /// The shelf has no such disk.
     NoDisk { disk: u16 },
