@@ -5,3 +5,4 @@ pub mod Entailing
 pub mod Coming
 pub mod PairSectors
 pub mod Examples
+pub mod Alone

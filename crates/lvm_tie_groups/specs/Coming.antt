@@ -1,5 +1,5 @@
 -- A session that mkvg or varyon has begun, by what their contracts say: where it is good.
-use Rattle.std.specs.Prelude.{◌≡◌, ℕ, ◌<◌, ◌^◌, List, [], Some}
+use Rattle.std.specs.Prelude.{false, ◌≡◌, ℕ, ◌<◌, ◌^◌, List, [], Some}
 use Rattle.lvm_num.specs.declared.descriptor.Descriptor.{Descriptor}
 use Rattle.lvm_num.specs.declared.descriptor.LvRow.{LvRow}
 use Rattle.lvm_num.specs.declared.descriptor.Mode.TheVariants.{Off}
@@ -80,3 +80,9 @@ abbrev pub MadeServes : Type 0
 MadeServes = (first : Moment) (was : Log) (w : NewGroup) (room : Room) (old : Device) (s : Session) (media : Media)
     → IsMade w room was old s.device s.core → IsBegun was w.moment room old s → LeadsTo first was w.moment old
     → IsDriven s media → IsOneByAllOn s.device → IsGood was.run first s
+
+-- Without force at most one group has a quorum among all disks on each crash image, since no disk showed one before.
+abbrev pub MadeAlone : Type 0
+MadeAlone = (was : Log) (w : NewGroup) (room : Room) (old : Device) (s : Session) (media : Media)
+    → IsMade w room was old s.device s.core → IsBegun was w.moment room old s → ClockIsAhead was.run w.moment old was.facts
+    → s.device.media ≡ Some media → w.force ≡ false → IsOneByAllOn s.device

@@ -1,5 +1,5 @@
 //! Laws of sessions before, between and after commands on their groups. Each call does nothing: its contract is the law.
-ghost use Rattle.lvm_tie_groups.specs.Coming.{MadeServes, OffIsMadeEven, VariedOnServes};
+ghost use Rattle.lvm_tie_groups.specs.Coming.{MadeAlone, MadeServes, OffIsMadeEven, VariedOnServes};
 ghost use Rattle.lvm_tie_groups.specs.Examples.{PairsServe};
 ghost use Rattle.lvm_tie_groups.specs.Settled.{SettledServes, SettledTies, TiedSettles};
 
@@ -34,6 +34,11 @@ pub fn off_is_made_even()
 /// has a quorum among all disks.
 pub fn made_serves()
     ensures { MadeServes }
+{}
+
+/// Where that mkvg was without force, at most one has.
+pub fn made_alone()
+    ensures { MadeAlone }
 {}
 
 /// There are such sessions: of two disks that mirror a volume, in each mode, dirty or not, with both members or one that is
