@@ -20,11 +20,13 @@ DarkGoesOn = (run : ℕ) (first : Moment) (old new : Session) → old.core.power
 
 -- And over an order of a client, also a power cut, and also where the session is over already.
 abbrev pub OrderGoesOn : Type 0
-OrderGoesOn = (run : ℕ) (first : Moment) (old new : Session) (what : Arrange) (done : Bool) → IsSound old → IsGood run first old → Arranges old new what done → SpanGoesOn run first old new
+OrderGoesOn =
+    (run : ℕ) (first : Moment) (old new : Session) (what : Arrange) (done : Bool) → IsSound old → IsGood run first old → Arranges old new what done → SpanGoesOn run first old new
 
 -- An order leaves a good session good, if it is on then.
 abbrev pub OrderTies : Type 0
-OrderTies = (run : ℕ) (first : Moment) (old new : Session) (what : Arrange) (done : Bool) → IsGood run first old → IsSound new → Arranges old new what done → IsGood run first new
+OrderTies =
+    (run : ℕ) (first : Moment) (old new : Session) (what : Arrange) (done : Bool) → IsGood run first old → IsSound new → Arranges old new what done → IsGood run first new
 
 -- ---- answers
 
@@ -35,4 +37,5 @@ pub record Takes (old new : Session) (client id : ℕ) (answered : Taken) : Type
 
 -- A span of the session's run goes on over it, also where the session is over.
 abbrev pub TakeGoesOn : Type 0
-TakeGoesOn = (first : Moment) (old new : Session) (client id : ℕ) (answered : Taken) → IsSound old → Takes old new client id answered → SpanGoesOn old.core.history.run first old new
+TakeGoesOn =
+    (first : Moment) (old new : Session) (client id : ℕ) (answered : Taken) → IsSound old → Takes old new client id answered → SpanGoesOn old.core.history.run first old new

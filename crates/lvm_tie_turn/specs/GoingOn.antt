@@ -18,28 +18,31 @@ use Rattle.lvm_sound.specs.Asking.{IsAsking}
 use Rattle.lvm_sound.specs.Sound.{IsSound}
 use Rattle.lvm_tie.specs.Tied.{IsGood, SpanGoesOn}
 
--- From whatever moment its run is told: a good session is good after it, and a span goes on over what happens, so that at each moment of it the history is legal and
--- each crash image kept with it.
+-- From whatever moment its run is told: a good session is good after it, and a span goes on over what happens, so that at each moment of it the history is legal
+-- and each crash image kept with it.
 abbrev pub GoesOn : ℕ → Session → Session → Type 0
 GoesOn run old new = (first : Moment) → IsGood run first old → IsGood run first new × SpanGoesOn run first old new
 
 -- So it is over a turn, where the shelf has whole sectors and what is wanted is a status that a record can have;
 abbrev pub TurnGoesOn : Type 0
-TurnGoesOn = (run : ℕ) (old new : Session) (answer : Turned) → IsSound old → IsSound new → HasSectors new.device → IsValidStatus old.core.status.wanted → TurnMakes old new answer → GoesOn run old new
+TurnGoesOn =
+    (run : ℕ) (old new : Session) (answer : Turned) → IsSound old → IsSound new → HasSectors new.device → IsValidStatus old.core.status.wanted → TurnMakes old new answer
+    → GoesOn run old new
 
 -- over a request that is submitted, or isn't taken;
 abbrev pub SubmitGoesOn : Type 0
-SubmitGoesOn = (run : ℕ) (s : Session) (new : Core) (client : ℕ) (ask : Ask) (bytes : Option (List ℕ)) (answer : Result ℕ AskFault) → (s.core.power ≡ power.Stuck → ⊥) → IsSound (state s.device new) → IsAsking ask bytes
-    → SubmitGives s.core new client ask bytes answer → GoesOn run s (state s.device new)
+SubmitGoesOn = (run : ℕ) (s : Session) (new : Core) (client : ℕ) (ask : Ask) (bytes : Option (List ℕ)) (answer : Result ℕ AskFault)
+    → (s.core.power ≡ power.Stuck → ⊥) → IsSound (state s.device new) → IsAsking ask bytes → SubmitGives s.core new client ask bytes answer → GoesOn run s (state s.device new)
 
 -- over an answer that is taken, or isn't there yet, where the span is of the session's run;
 abbrev pub AnswerGoesOn : Type 0
-AnswerGoesOn = (s : Session) (new : Core) (client id : ℕ) (answer : Taken) → IsSound s → IsSound (state s.device new) → TakeGives s.core new client id answer → GoesOn s.core.history.run s (state s.device new)
+AnswerGoesOn = (s : Session) (new : Core) (client id : ℕ) (answer : Taken)
+    → IsSound s → IsSound (state s.device new) → TakeGives s.core new client id answer → GoesOn s.core.history.run s (state s.device new)
 
 -- over a copy that is opened, or isn't, or is closed;
 abbrev pub OpenGoesOn : Type 0
-OpenGoesOn = (run : ℕ) (s : Session) (new : Core) (counts : Counts) (lv lp number : ℕ) (answer : Result (Unit {0}) CopyFault) → IsSound (state s.device new) → OpenGives counts s.core new lv lp number answer
-    → GoesOn run s (state s.device new)
+OpenGoesOn = (run : ℕ) (s : Session) (new : Core) (counts : Counts) (lv lp number : ℕ) (answer : Result (Unit {0}) CopyFault)
+    → IsSound (state s.device new) → OpenGives counts s.core new lv lp number answer → GoesOn run s (state s.device new)
 
 abbrev pub CloseGoesOn : Type 0
 CloseGoesOn = (run : ℕ) (s : Session) (new : Core) → IsSound (state s.device new) → Closes s.core new → GoesOn run s (state s.device new)
