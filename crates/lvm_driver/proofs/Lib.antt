@@ -7,3 +7,4 @@ mod Draining
 mod Causes
 pub mod Beginnings
 mod Closing
+pub mod Good

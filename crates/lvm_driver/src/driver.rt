@@ -1,9 +1,11 @@
 //! A session over its shelf.
-ghost use Rattle.std.specs.Prelude.{◌≡◌, ◌≤◌, ◌<◌, ◌+◌, ◌^◌, ℕ, false, Some, [], length, option_copied, slice_get};
+ghost use Rattle.std.specs.Prelude.{◌≡◌, ◌≤◌, ◌<◌, ◌+◌, ◌^◌, ℕ, List, false, Some, [], length, option_copied, slice_get};
 ghost use Rattle.std.specs.List.{list_any};
 ghost use Rattle.lvm_num.specs.Descriptor.{IsValid};
+ghost use Rattle.lvm_num.specs.Status.{IsValidStatus};
 ghost use Rattle.lvm_num.specs.Votes.{total_votes};
 ghost use Rattle.lvm_disk.specs.Steps.{MayArrange};
+ghost use Rattle.lvm_vol.specs.Facts.{Fact};
 ghost use Rattle.lvm_vol.specs.Log.{is_open, spare_entries};
 ghost use Rattle.lvm_session.specs.declared.open.Power.TheVariants as power;
 ghost use Rattle.lvm_session.specs.Judging.{is_waiting};
@@ -17,6 +19,8 @@ ghost use Rattle.lvm_sound.specs.Sound.{IsSound};
 ghost use Rattle.lvm_keeps.specs.Falls.{most_left};
 ghost use Rattle.lvm_copy_open.specs.Opening.{counts_seen};
 ghost use Rattle.lvm_session_start.specs.Beginning.{AreFaults, MayBegin, first_core};
+ghost use Rattle.lvm_tie_causes.specs.Landings.{HasCausesSince};
+ghost use Rattle.lvm_tie_turn.specs.GoingOn.{GoesOn};
 ghost use Rattle.lvm_driver.specs.Answers.{IsCausedFor, IsCopyCaused, IsOffSince, TurnTells, state_of};
 
 use lvm_calls::{close_copy, copy_state, take};
@@ -37,7 +41,9 @@ use lvm_write::Homes;
 use std::marker::Model;
 
 /// A group that is varied on, over its shelf. Clients submit requests to it and take their answers; what is done
-/// about them is done by turns, one event at a time. No call of it takes memory.
+/// about them is done by turns, one event at a time. No call of it takes memory. Each call leaves a good session good, and
+/// at each moment of it the history is legal and each crash image kept with it; and each landing since the session began
+/// has its cause.
 #[derive(Drop)]
 pub struct Driver<S: Shelf> {
     shelf: S,
@@ -66,6 +72,7 @@ impl<S: Shelf> Driver<S> {
         ensures shelf { result.0 ≡ shelf }
         ensures core { result.1 ≡ first_core parts history stamp homes result.1.origin.faults }
         ensures faults { AreFaults (S.device shelf) result.1.origin.faults }
+        ensures causes { HasCausesSince result.1.history.facts (state_of S.device result) }
     {
         let session = begin_session(parts, &shelf, history, stamp, homes);
         Driver { shelf, session }
@@ -83,6 +90,8 @@ impl<S: Shelf> Driver<S> {
         ensures shelf { self.new.0 ≡ self.old.0 }
         ensures gives { SubmitGives self.old.1 self.new.1 client ask (option_copied bytes.entry) result }
         ensures off { IsOffSince (state_of S.device self.old) }
+        ensures goes_on { (run : ℕ) → GoesOn run (state_of S.device self.old) (state_of S.device self.new) }
+        ensures causes { (first : List Fact) → HasCausesSince first (state_of S.device self.old) → HasCausesSince first (state_of S.device self.new) }
     {
         submit_request(&mut self.session, client, ask, bytes)
     }
@@ -93,7 +102,10 @@ impl<S: Shelf> Driver<S> {
         requires unstuck { self.old.1.power ≡ power.Stuck → ⊥ }
         ensures makes { TurnMakes (state_of S.device self.old) (state_of S.device self.new) result }
         ensures tells { TurnTells (state_of S.device self.old) (state_of S.device self.new) result }
+        ensures goes_on { (run : ℕ) → GoesOn run (state_of S.device self.old) (state_of S.device self.new) }
+        ensures causes { (first : List Fact) → HasCausesSince first (state_of S.device self.old) → HasCausesSince first (state_of S.device self.new) }
     {
+        wanted_is_valid(&self.session);
         turn(&mut self.session, &mut self.shelf)
     }
 
@@ -104,6 +116,8 @@ impl<S: Shelf> Driver<S> {
         ensures gives { TakeGives self.old.1 self.new.1 client id result }
         // Why it landed so, where it has.
         ensures caused { IsCausedFor (state_of S.device self.old) client id }
+        ensures goes_on { GoesOn self.old.1.history.run (state_of S.device self.old) (state_of S.device self.new) }
+        ensures causes { (first : List Fact) → HasCausesSince first (state_of S.device self.old) → HasCausesSince first (state_of S.device self.new) }
     {
         take(&mut self.session, client, id)
     }
@@ -126,6 +140,8 @@ impl<S: Shelf> Driver<S> {
         ensures shelf { self.new.0 ≡ self.old.0 }
         ensures gives { OpenGives (counts_seen (S.device self.old.0) self.old.1) self.old.1 self.new.1 lv lp number result }
         ensures off { IsOffSince (state_of S.device self.old) }
+        ensures goes_on { (run : ℕ) → GoesOn run (state_of S.device self.old) (state_of S.device self.new) }
+        ensures causes { (first : List Fact) → HasCausesSince first (state_of S.device self.old) → HasCausesSince first (state_of S.device self.new) }
     {
         open_copy(&mut self.session, &self.shelf, lv, lp, number)
     }
@@ -144,6 +160,8 @@ impl<S: Shelf> Driver<S> {
         requires ended { (cursor : ℕ) → copy_state self.old.1 ≡ stage.Running cursor → ⊥ }
         ensures shelf { self.new.0 ≡ self.old.0 }
         ensures closed { self.new.1 ≡ closed self.old.1 }
+        ensures goes_on { (run : ℕ) → GoesOn run (state_of S.device self.old) (state_of S.device self.new) }
+        ensures causes { (first : List Fact) → HasCausesSince first (state_of S.device self.old) → HasCausesSince first (state_of S.device self.new) }
     {
         close_copy(&mut self.session)
     }
@@ -152,7 +170,9 @@ impl<S: Shelf> Driver<S> {
     /// whether the shelf takes such orders; one that doesn't changes nothing.
     pub fn arrange(&mut self, what: Arrange) -> bool
         requires { MayArrange (S.device self.old.0) what }
-        ensures { Arranges (state_of S.device self.old) (state_of S.device self.new) what result }
+        ensures gives { Arranges (state_of S.device self.old) (state_of S.device self.new) what result }
+        ensures goes_on { (run : ℕ) → GoesOn run (state_of S.device self.old) (state_of S.device self.new) }
+        ensures causes { (first : List Fact) → HasCausesSince first (state_of S.device self.old) → HasCausesSince first (state_of S.device self.new) }
     {
         arrange(&mut self.session, &mut self.shelf, what)
     }
@@ -248,6 +268,13 @@ impl<S: Shelf> Driver<S> {
             history: session.history,
         }
     }
+}
+
+// What is wanted is a status that a record can have.
+fn wanted_is_valid(session: &Session)
+    ensures { IsValidStatus session.now.updater.wanted }
+{
+    let _ = session.updater.wanted().as_status();
 }
 
 // Takes back the buffers that a power cut made the shelf give up.

@@ -92,9 +92,9 @@ fn of_group(alloc: Global, d: &Descriptor, status: &Status) -> Result<Told, Memo
     ensures updater { IfOk result (λ told. seen told.updater ≡ first_updates status.now d.now) }
     ensures cache { IfOk result (λ told. IsEmptyCache d.now told.cache) }
 {
+    let cache = empty_cache(alloc, d)?;
     let table = StaleTable::from_status(alloc, status)?;
     let updater = first_updater(alloc, d, status)?;
-    let cache = empty_cache(alloc, d)?;
     Ok(Told {
         table,
         updater,
@@ -160,6 +160,33 @@ fn of_blocks(alloc: Global, room: Room) -> Result<(Pool, Vec<u8>), Memory>
     Ok((pool, bytes))
 }
 
+// What a session has whatever its group is.
+#[derive(Drop)]
+struct Reserved {
+    tables: Tables,
+    pool: Pool,
+    bytes: Vec<u8>,
+}
+
+fn of_room(alloc: Global, room: Room) -> Result<Reserved, Memory>
+    requires { IsRoom room }
+    ensures requests { IfOk result (λ made. made.tables.requests.items ≡ []) }
+    ensures capacity { IfOk result (λ made. room.table ≤ vec_capacity made.tables.requests) }
+    ensures queue { IfOk result (λ made. made.tables.queue ≡ record { room = room.table + 1; rows = [] }) }
+    ensures flying { IfOk result (λ made. made.tables.flying.items ≡ []) }
+    ensures transfers { IfOk result (λ made. room.pool ≤ vec_capacity made.tables.flying) }
+    ensures pool { IfOk result (λ made. made.pool ≡ replicate room.pool false) }
+    ensures bytes { IfOk result (λ made. length made.bytes.items ≡ 131072) }
+{
+    let (pool, bytes) = of_blocks(alloc, room)?;
+    let tables = of_requests(alloc, room)?;
+    Ok(Reserved {
+        tables,
+        pool,
+        bytes,
+    })
+}
+
 /// Takes all the memory of a session of a group, which begins with this status.
 ///
 /// # Errors
@@ -177,19 +204,19 @@ pub fn take_parts(
     requires group { IsOneGroup descriptor status.now }
     ensures { IfOk result (IsReserved descriptor status.now room) }
 {
+    let made = of_room(alloc, room)?;
     let told = of_group(alloc, &descriptor, status)?;
-    let tables = of_requests(alloc, room)?;
-    let (pool, bytes) = of_blocks(alloc, room)?;
+    let tables = made.tables;
     Ok(Parts {
         descriptor,
         table: told.table,
         room,
         requests: tables.requests,
         queue: tables.queue,
-        pool,
+        pool: made.pool,
         flying: tables.flying,
         updater: told.updater,
         cache: told.cache,
-        bytes,
+        bytes: made.bytes,
     })
 }

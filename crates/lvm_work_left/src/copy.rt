@@ -1,5 +1,5 @@
 //! The work that is left of the copy that is open.
-ghost use Rattle.std.specs.Prelude.{◌≡◌, ◌≤◌, ◌<◌, ◌+◌, ◌-◌, ◌*◌, false, count_by, All, IfSome};
+ghost use Rattle.std.specs.Prelude.{◌≡◌, ◌≤◌, ◌<◌, ◌+◌, ◌-◌, ◌*◌, false, count_by, length, All, IfSome};
 ghost use Rattle.std.specs.Option.{option_map_or};
 ghost use Rattle.lvm_num.specs.declared.place.Pp.{Pp};
 ghost use Rattle.lvm_num.specs.Descriptor.{IsValid};
@@ -38,10 +38,18 @@ fn tried_of(session: &Session, copy: &OpenCopy) -> u64
 }
 
 fn count_tried(copies: &[Pp], copy: &OpenCopy) -> u64
-    requires { All (λ (p : Pp). p.disk < 128) copies.now }
-    ensures { result ≡ count_by (λ (p : Pp). has copy.now.tried p.disk) copies.now }
+    requires few { length copies.now ≤ 3 }
+    requires disks { All (λ (p : Pp). p.disk < 128) copies.now }
+    ensures is { result ≡ count_by (λ (p : Pp). has copy.now.tried p.disk) copies.now }
+    ensures few { result ≤ 3 }
 {
-    copies.iter().filter(|pp| copy.tried.has(pp.disk)).count() as u64
+    let mut tried = 0;
+    for pp in copies {
+        if copy.tried.has(pp.disk) {
+            tried += 1;
+        }
+    }
+    tried
 }
 
 // The track group at its cursor.

@@ -19,11 +19,13 @@ fn count_in(d: &Descriptor, disks: DiskSet) -> u64
     ensures is { result ≡ count_by (λ (row : PvRow). has disks row.disk) d.now.pvs }
     ensures few { result ≤ 128 }
 {
-    d.pvs
-        .as_slice()
-        .iter()
-        .filter(|row| disks.has(row.disk))
-        .count() as u64
+    let mut count = 0;
+    for row in d.pvs.as_slice() {
+        if disks.has(row.disk) {
+            count += 1;
+        }
+    }
+    count
 }
 
 /// The members that aren't missing.

@@ -29,12 +29,13 @@ fn work_left(session: &Session) -> u64
 fn lost_left(session: &Session) -> u64
     ensures { result ≡ length session.now.flying.items + count_by is_waiting session.now.requests.items }
 {
-    session.flying.len() as u64
-        + session
-            .requests
-            .iter()
-            .filter(|open| is_waiting(open))
-            .count() as u64
+    let mut left = session.flying.len() as u64;
+    for open in &session.requests {
+        if is_waiting(open) {
+            left += 1;
+        }
+    }
+    left
 }
 
 fn left_on(session: &Session) -> u64

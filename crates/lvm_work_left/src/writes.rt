@@ -30,11 +30,13 @@ pub fn waiting_targets(request: &Request) -> u64
     ensures is { result ≡ waiting_targets request.now }
     ensures few { result ≤ 4 }
 {
-    request
-        .targets
-        .iter()
-        .filter(|target| matches!(target.state, TargetState::Waiting))
-        .count() as u64
+    let mut waiting = 0;
+    for target in request.targets.as_slice() {
+        if matches!(target.state, TargetState::Waiting) {
+            waiting += 1;
+        }
+    }
+    waiting
 }
 
 // Whether a note is to be started on the disk of a target.
@@ -55,11 +57,13 @@ fn lacking_notes(session: &Session, request: &Request) -> u64
     ensures is { result ≡ count_by (lacks_note (core_of session.now) request.now) request.now.targets.items }
     ensures few { result ≤ 4 }
 {
-    request
-        .targets
-        .iter()
-        .filter(|target| lacks_note(session, request, target))
-        .count() as u64
+    let mut lacking = 0;
+    for target in request.targets.as_slice() {
+        if lacks_note(session, request, target) {
+            lacking += 1;
+        }
+    }
+    lacking
 }
 
 // By its phase.

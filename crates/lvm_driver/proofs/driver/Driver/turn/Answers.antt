@@ -1,8 +1,9 @@
-use Rattle.std.proofs.Common.{◌≡◌}
 use Rattle.lvm_session.specs.Fields.{core_of}
 use Rattle.lvm_session.specs.State.{state}
 use Rattle.lvm_driver.proofs.Driven.{turn_on}
 use Rattle.lvm_driver.proofs.Telling.{turn_tells}
+use Rattle.lvm_driver.proofs.Good.{turn_good}
+use Rattle.lvm_tie_causes.proofs.Landings.{turn_keeps_causes}
 use Rattle.lvm_driver.proofs.driver.Driver.turn.Goals as goal
 
 pub invariant_of-self : goal.invariant_of-self
@@ -13,3 +14,9 @@ returns-clause-tells g c = rw (← c.self.view_is) (turn_tells (state (g.S.Shelf
 
 pub returns-clause-makes : goal.returns-clause-makes
 returns-clause-makes g c = rw (← c.self.view_is) c.turn.ensures.makes
+
+pub returns-clause-goes_on : goal.returns-clause-goes_on
+returns-clause-goes_on g c = rw (← c.self.view_is) (turn_good (g.S.Shelf.device c.self.inside.shelf) (g.S.Shelf.device c.turn.new.shelf) c.self.inside.session c.turn.new.session c.turn.result c.self.invariant (g.met.S.Shelf.sectors_are_whole c.turn.new.shelf) c.wanted_is_valid.ensures c.turn.ensures.makes c.turn.ensures.rooms)
+
+pub returns-clause-causes : goal.returns-clause-causes
+returns-clause-causes g c = rw (← c.self.view_is) (λ first. turn_keeps_causes first (state (g.S.Shelf.device c.self.inside.shelf) (core_of c.self.inside.session)) (state (g.S.Shelf.device c.turn.new.shelf) (core_of c.turn.new.session)) c.turn.result c.self.invariant.1 c.turn.ensures.makes)

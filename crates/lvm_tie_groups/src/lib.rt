@@ -1,0 +1,9 @@
+//! A session is tied as a command has begun it or has left it, and the next command finds it settled.
+#![tactic(auto)]
+
+mod laws;
+
+pub use laws::{
+    made_alone, made_serves, off_is_made_even, pairs_serve, settled_serves, settled_ties,
+    tied_settles, varied_on_serves,
+};

@@ -1,0 +1,49 @@
+-- A good session goes on: over a turn, and over the calls of its clients.
+use Rattle.std.specs.Prelude.{◌≡◌, ℕ, Bool, List, Option, Result}
+use Rattle.lvm_num.specs.Status.{IsValidStatus}
+use Rattle.lvm_disk.specs.declared.shelf.Arrange.{Arrange}
+use Rattle.lvm_disk.specs.Counts.{Counts}
+use Rattle.lvm_disk.specs.Device.{HasSectors}
+use Rattle.lvm_kept.specs.Moments.{Moment}
+use Rattle.lvm_path.specs.declared.ask.Ask.{Ask}
+use Rattle.lvm_session.specs.declared.open.Power.TheVariants as power
+use Rattle.lvm_session.specs.State.{Core, State as Session, state}
+use Rattle.lvm_events.specs.declared.answers.AskFault.{AskFault}
+use Rattle.lvm_events.specs.declared.answers.CopyFault.{CopyFault}
+use Rattle.lvm_events.specs.declared.answers.Taken.{Taken}
+use Rattle.lvm_events.specs.declared.answers.Turned.{Turned}
+use Rattle.lvm_events.specs.Calls.{Closes, OpenGives, SubmitGives, TakeGives}
+use Rattle.lvm_events.specs.Turns.{Arranges, TurnMakes}
+use Rattle.lvm_sound.specs.Asking.{IsAsking}
+use Rattle.lvm_sound.specs.Sound.{IsSound}
+use Rattle.lvm_tie.specs.Tied.{IsGood, SpanGoesOn}
+
+-- From whatever moment its run is told: a good session is good after it, and a span goes on over what happens, so that at each moment of it the history is legal and
+-- each crash image kept with it.
+abbrev pub GoesOn : ℕ → Session → Session → Type 0
+GoesOn run old new = (first : Moment) → IsGood run first old → IsGood run first new × SpanGoesOn run first old new
+
+-- So it is over a turn, where the shelf has whole sectors and what is wanted is a status that a record can have;
+abbrev pub TurnGoesOn : Type 0
+TurnGoesOn = (run : ℕ) (old new : Session) (answer : Turned) → IsSound old → IsSound new → HasSectors new.device → IsValidStatus old.core.status.wanted → TurnMakes old new answer → GoesOn run old new
+
+-- over a request that is submitted, or isn't taken;
+abbrev pub SubmitGoesOn : Type 0
+SubmitGoesOn = (run : ℕ) (s : Session) (new : Core) (client : ℕ) (ask : Ask) (bytes : Option (List ℕ)) (answer : Result ℕ AskFault) → (s.core.power ≡ power.Stuck → ⊥) → IsSound (state s.device new) → IsAsking ask bytes
+    → SubmitGives s.core new client ask bytes answer → GoesOn run s (state s.device new)
+
+-- over an answer that is taken, or isn't there yet, where the span is of the session's run;
+abbrev pub AnswerGoesOn : Type 0
+AnswerGoesOn = (s : Session) (new : Core) (client id : ℕ) (answer : Taken) → IsSound s → IsSound (state s.device new) → TakeGives s.core new client id answer → GoesOn s.core.history.run s (state s.device new)
+
+-- over a copy that is opened, or isn't, or is closed;
+abbrev pub OpenGoesOn : Type 0
+OpenGoesOn = (run : ℕ) (s : Session) (new : Core) (counts : Counts) (lv lp number : ℕ) (answer : Result (Unit {0}) CopyFault) → IsSound (state s.device new) → OpenGives counts s.core new lv lp number answer
+    → GoesOn run s (state s.device new)
+
+abbrev pub CloseGoesOn : Type 0
+CloseGoesOn = (run : ℕ) (s : Session) (new : Core) → IsSound (state s.device new) → Closes s.core new → GoesOn run s (state s.device new)
+
+-- and over an order to the shelf.
+abbrev pub ArrangeGoesOn : Type 0
+ArrangeGoesOn = (run : ℕ) (old new : Session) (what : Arrange) (done : Bool) → IsSound old → IsSound new → Arranges old new what done → GoesOn run old new
