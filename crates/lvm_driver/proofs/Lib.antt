@@ -5,6 +5,7 @@ mod Driven
 mod Stepping
 mod Draining
 mod Causes
+mod Reading
 pub mod Beginnings
 mod Closing
 pub mod Good

@@ -21,7 +21,7 @@ ghost use Rattle.lvm_copy_open.specs.Opening.{counts_seen};
 ghost use Rattle.lvm_session_start.specs.Beginning.{AreFaults, MayBegin, first_core};
 ghost use Rattle.lvm_tie_causes.specs.Landings.{HasCausesSince};
 ghost use Rattle.lvm_tie_turn.specs.GoingOn.{GoesOn};
-ghost use Rattle.lvm_driver.specs.Answers.{IsCausedFor, IsCopyCaused, IsOffSince, TurnTells, state_of};
+ghost use Rattle.lvm_driver.specs.Answers.{GetsItsBlocks, IsCausedFor, IsCopyCaused, IsOffSince, TurnTells, state_of};
 
 use lvm_calls::{close_copy, copy_state, take};
 use lvm_copy_open::open_copy;
@@ -104,6 +104,8 @@ impl<S: Shelf> Driver<S> {
         ensures tells { TurnTells (state_of S.device self.old) (state_of S.device self.new) result }
         ensures goes_on { (run : ℕ) → GoesOn run (state_of S.device self.old) (state_of S.device self.new) }
         ensures causes { (first : List Fact) → HasCausesSince first (state_of S.device self.old) → HasCausesSince first (state_of S.device self.new) }
+        // Where the blocks come from that a read gets.
+        ensures got { GetsItsBlocks (state_of S.device self.old) (state_of S.device self.new) }
     {
         wanted_is_valid(&self.session);
         turn(&mut self.session, &mut self.shelf)

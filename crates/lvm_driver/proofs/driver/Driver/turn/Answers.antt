@@ -1,6 +1,7 @@
 use Rattle.lvm_session.specs.Fields.{core_of}
 use Rattle.lvm_session.specs.State.{state}
 use Rattle.lvm_driver.proofs.Driven.{turn_on}
+use Rattle.lvm_driver.proofs.Reading.{turn_gets}
 use Rattle.lvm_driver.proofs.Telling.{turn_tells}
 use Rattle.lvm_driver.proofs.Good.{turn_good}
 use Rattle.lvm_tie_causes.proofs.Landings.{turn_keeps_causes}
@@ -20,3 +21,6 @@ returns-clause-goes_on g c = rw (← c.self.view_is) (turn_good (g.S.Shelf.devic
 
 pub returns-clause-causes : goal.returns-clause-causes
 returns-clause-causes g c = rw (← c.self.view_is) (λ first. turn_keeps_causes first (state (g.S.Shelf.device c.self.inside.shelf) (core_of c.self.inside.session)) (state (g.S.Shelf.device c.turn.new.shelf) (core_of c.turn.new.session)) c.turn.result c.self.invariant.1 c.turn.ensures.makes)
+
+pub returns-clause-got : goal.returns-clause-got
+returns-clause-got g c = rw (← c.self.view_is) (turn_gets (state (g.S.Shelf.device c.self.inside.shelf) (core_of c.self.inside.session)) (state (g.S.Shelf.device c.turn.new.shelf) (core_of c.turn.new.session)) c.self.invariant.1 c.turn.result c.turn.ensures.makes)
