@@ -8,3 +8,4 @@ pub mod Entered
 pub mod Wanted
 pub mod StepBlocks
 pub mod Rows
+pub mod Recorded

@@ -9,6 +9,7 @@ use Rattle.lvm_num.specs.Disks.{has}
 use Rattle.lvm_num.specs.Record.{Stamped}
 use Rattle.lvm_vol.specs.Facts.{Fact}
 use Rattle.lvm_disk.specs.Device.{Image}
+use Rattle.lvm_kept.specs.Contents.{Contents}
 use Rattle.lvm_kept.specs.Torn.{RecordWrite}
 use Rattle.lvm_stamps.specs.Behind.{StampsBefore}
 use Rattle.lvm_stale.specs.Table.{SameMissing}
@@ -22,6 +23,8 @@ use Rattle.lvm_invariant.specs.State.{State}
 use Rattle.lvm_crash.specs.Session.{as_marks, marks_of}
 use Rattle.lvm_tie.specs.Seen.{IsRequestAt, IsStepAt, Sees, update_of}
 use Rattle.lvm_tie.specs.Out.{IsWriteOf, MayUpdate, is_owed_on}
+use Rattle.lvm_tie.specs.Tied.{ShowsRecords}
+use Rattle.lvm_tie.proofs.Recorded.{NoMoreThere, records_last, status_lasts}
 
 module _ (old new : Stored) (rest : seen new ≡ record (seen old) { wanted = new.wanted }) (missing : SameMissing old.wanted new.wanted) where
   pub committed_same : new.committed ≡ old.committed
@@ -92,6 +95,13 @@ module _ (old new : Stored) (rest : seen new ≡ record (seen old) { wanted = ne
     open_copy = sees.open_copy;
     step_write = sees.step_write;
   }
+
+  -- what the members show lasts
+  pub records_wanted : (group : Descriptor) (c : Contents) → ShowsRecords group old c → ShowsRecords group new c
+  records_wanted group c shows = records_last group old new c c shows fewer (λ d. refl) (λ none. status_lasts group old new c c (shows.settled (sym in_flight_same ∙ none)) fewer committed_same (λ d. refl))
+    where
+      fewer : NoMoreThere group old new
+      fewer d there = sym (ap (λ b. is_member group d && not b) (missing d)) ∙ there
 
 -- an update in flight of a sound status isn't over
 pub stays_open : (u : Updates) → IsSoundStatus u → is_held u && not (is_owed u) ≡ false

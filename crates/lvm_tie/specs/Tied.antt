@@ -1,15 +1,19 @@
 -- The tie of a session and its shelf to a good state of the induction.
-use Rattle.std.specs.Prelude.{◌≡◌, ℕ, ◌++◌, ◌∷◌, true, false, List, [], Option, Some, IsTrue, count_by}
+use Rattle.std.specs.Prelude.{◌≡◌, ◌⊎◌, ℕ, ◌++◌, ◌∷◌, true, false, List, [], Option, Some, None, IsTrue, count_by}
+use Rattle.lvm_num.specs.declared.descriptor.Descriptor.{Descriptor}
 use Rattle.lvm_num.specs.declared.place.Pp.{Pp}
+use Rattle.lvm_num.specs.declared.status.Status.{Status}
 use Rattle.lvm_num.specs.Descriptor.{is_member}
+use Rattle.lvm_num.specs.Record.{Stamped, stamp_lt}
 use Rattle.lvm_num.specs.Status.{calls_missing}
 use Rattle.lvm_vol.specs.Facts.{Fact}
 use Rattle.lvm_vol.specs.Legal.{begins_in}
 use Rattle.lvm_disk.specs.Device.{Media, image_of}
 use Rattle.lvm_disk.specs.Paths.{DeviceStep}
-use Rattle.lvm_kept.specs.Contents.{contents_of}
+use Rattle.lvm_kept.specs.Contents.{Contents, contents_of}
 use Rattle.lvm_kept.specs.Moments.{Moment}
 use Rattle.lvm_kept.specs.Torn.{RecordWrite}
+use Rattle.lvm_status.specs.Update.{Stored, members_there as there_by}
 use Rattle.lvm_steps.specs.Moments.{Begins, Upholds, Keeps}
 use Rattle.lvm_steps.specs.Requests.{at}
 use Rattle.lvm_session.specs.declared.bringing.OpenCopy.{OpenCopy as Bringing}
@@ -32,6 +36,21 @@ use Rattle.lvm_tie.specs.Seen.{update_of, Sees}
 abbrev pub IsCopyAimed : Core → State → Type 0
 IsCopyAimed core v = (c : Bringing) → core.copy ≡ Some c → has_row core c ≡ true
     → IsTrue (v.is_copy c.lv (block_at core c) c.pp) × ((source : Pp) → c.step ≡ step.Reading source → IsTrue (v.is_copy c.lv (block_at core c) source))
+
+-- Each member that isn't missing shows this status, which is the committed one, and no disk a later one of the group.
+pub record ShowsStatus (group : Descriptor) (status : Stored) (c : Contents) : Type 0 where
+  pub stands : Stamped Status
+  pub committed : stands.value ≡ status.committed
+  pub stated : (d : ℕ) → IsTrue (there_by group status.wanted d) → c.status d ≡ Some stands
+  pub last : (d : ℕ) (r : Stamped Status) → c.status d ≡ Some r → r.value.id ≡ group.id → (stamp_lt r.stamp stands.stamp ≡ true) ⊎ (r ≡ stands)
+
+-- Each member that isn't missing shows the group's descriptor, no disk a later one of the group, and while no update is in flight so with the committed status.
+pub record ShowsRecords (group : Descriptor) (status : Stored) (c : Contents) : Type 0 where
+  pub descriptor : Stamped Descriptor
+  pub value : descriptor.value ≡ group
+  pub described : (d : ℕ) → IsTrue (there_by group status.wanted d) → c.descriptor d ≡ Some descriptor
+  pub latest : (d : ℕ) (r : Stamped Descriptor) → c.descriptor d ≡ Some r → r.value.id ≡ group.id → (stamp_lt r.stamp descriptor.stamp ≡ true) ⊎ (r ≡ descriptor)
+  pub settled : status.in_flight ≡ None → ShowsStatus group status c
 
 -- What is asked of the driver's session alone: it is on and sound, and its update in flight is written so.
 pub record IsOrderly (s : Session) (write : Option RecordWrite) : Type 0 where
@@ -60,6 +79,7 @@ pub record IsTied (past : List Fact) (s : Session) : Type 0 where
   pub carry : CarryTheirs s.core view s.device.flights s.core.flying
   pub members : (d : ℕ) → is_member s.core.descriptor d ≡ true → calls_missing s.core.origin.table d ≡ false → IsTrue (members_there (contents_of (image_of s.device.sizes media)) s.core.descriptor d)
   pub own : count_by (begins_in s.core.history.run) past ≡ 0
+  pub records : ShowsRecords s.core.descriptor s.core.status (contents_of (image_of s.device.sizes media))
 
 -- So it is, while the session is on, after each earlier history with which the run may have begun.
 abbrev pub IsGood : ℕ → Moment → Session → Type 0

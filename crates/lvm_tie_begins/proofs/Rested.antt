@@ -1,5 +1,5 @@
 -- A tied session at which nothing is under way is at rest.
-use Rattle.std.proofs.Common.{◌≡◌, ◌⊎◌, ⊎_elim, ℕ, Bool, true, false, ◌&&◌, not, List, Option, Some, None, refl, sym, ap, subst, ◌∙◌, arith}
+use Rattle.std.proofs.Common.{◌≡◌, ◌⊎◌, inl, ⊎_elim, ℕ, Bool, true, false, ◌&&◌, ◌==◌, not, eqb-true, List, Option, Some, None, refl, sym, ap, subst, ◌∙◌, arith}
 use Rattle.std.specs.Prelude.{IsTrue, IsFalse, if◌then◌else◌, is_some, option_and_then, option_map}
 use Rattle.std.specs.Option.{option_map_or}
 use Rattle.std.proofs.lemmas.Bool.Decides.{nat_tests}
@@ -14,7 +14,7 @@ use Rattle.lvm_num.proofs.VotesLemmas.{read_meets_write}
 use Rattle.lvm_vol.specs.Facts.{Fact}
 use Rattle.lvm_disk.specs.Device.{Image, image_of}
 use Rattle.lvm_kept.specs.Contents.{Contents, contents_of}
-use Rattle.lvm_kept.specs.Group.{is_named, is_status_of, members_in}
+use Rattle.lvm_kept.specs.Group.{Finds, IsAlike, has_room, is_named, is_of, members_in, passes}
 use Rattle.lvm_kept.proofs.Finding.{finding_reads, images_within}
 use Rattle.lvm_mwc.specs.declared.notes.DiskNotes.{DiskNotes}
 use Rattle.lvm_mwc.specs.Cache.{notes_on, is_named as is_named_by}
@@ -28,9 +28,15 @@ use Rattle.lvm_invariant.specs.Found.{Found}
 use Rattle.lvm_crash.specs.Session.{as_marks, marks_of, marks_shown, Describes}
 use Rattle.lvm_rest.specs.Rest.{IsAtRest, IsIdle, SeesThat}
 use Rattle.lvm_rest.proofs.Rest.{good_is_rest}
+use Rattle.lvm_steps.proofs.Members.{parts_of}
+use Rattle.lvm_commit.specs.Committed.{Began}
+use Rattle.lvm_tie_shelf.proofs.Writing.{and_both}
+use Rattle.lvm_tie.proofs.Judged.{there_first}
 use Rattle.lvm_tie.proofs.Orderly.{valid_of}
+use Rattle.lvm_tie.proofs.Recorded.{shown_of, shows_own}
+use Rattle.lvm_tie.proofs.Words.{not_true}
 use Rattle.lvm_tie.specs.Seen.{IsRequestAt, IsStepAt, SeesCopy, SeesNote, step_write_in, update_of}
-use Rattle.lvm_tie.specs.Tied.{IsTied}
+use Rattle.lvm_tie.specs.Tied.{IsTied, ShowsRecords, ShowsStatus}
 use Rattle.lvm_tie_begins.specs.Begins.{AreNotesHome, IsResting, ShowsIts, TiedRests, shown_to}
 use Rattle.lvm_tie_begins.proofs.Resting.{names_written, none_at, some_is_none}
 
@@ -41,19 +47,7 @@ note_none (Some n) sees = absurd sees
 not_both : (a b : Stamp) {X : Type 0} → stamp_lt a b ≡ true → stamp_lt b a ≡ true → X
 not_both a b before after = absurd (let no : stamp_lt b a ≡ false = grind (arith, nat_tests) in let e : true ≡ false = sym after ∙ no in cc)
 
--- what a disk shows of a group is a status of it
-shown_of : (id : ℕ) (o : Option (Stamped Status)) (m : Stamped Marks) → marks_shown id o ≡ Some m → (r : Stamped Status) × (o ≡ Some r) × (r.value.id ≡ id) × (as_marks r ≡ m)
-shown_of id None m is = absurd (cc is)
-shown_of id (Some r) m is = by (is_status_of id r.value) refl is
-  where
-    by : (b : Bool) → is_status_of id r.value ≡ b → option_map as_marks (if b then Some r else None) ≡ Some m → (x : Stamped Status) × (Some r ≡ Some x) × (x.value.id ≡ id) × (as_marks x ≡ m)
-    by true own h = (r, refl, let e : r.value.id ≡ id = grind (arith, nat_tests) in e, let e : as_marks r ≡ m = cc h in e)
-    by false own h = absurd (cc h)
-
-shows_own : (id : ℕ) (r : Stamped Status) → r.value.id ≡ id → marks_shown id (Some r) ≡ Some (as_marks r)
-shows_own id r own = let test : is_status_of id r.value ≡ true = grind (arith, nat_tests) in ap (λ t. option_map as_marks (if t then Some r else None)) test
-
-module _ (past : List Fact) (s : Session) (tied : IsTied past s) (rests : IsResting s.core) (enough : CanWrite s.core.descriptor (is_there s.core)) (shows : ShowsIts s tied.media) where
+module _ (past : List Fact) (s : Session) (tied : IsTied past s) (rests : IsResting s.core) (enough : CanWrite s.core.descriptor (is_there s.core)) where
   abbrev core : Core
   core = s.core
 
@@ -117,9 +111,56 @@ module _ (past : List Fact) (s : Session) (tied : IsTied past s) (rests : IsRest
                 (f.have meets.0 meets.2);
           }
 
+  -- ---- what the disks show
+
+  abbrev records : ShowsRecords group core.status c
+  records = tied.records
+
+  found_all : Finds c all_disks group.id group
+  found_all = tied.describes.stands.found
+
   -- a member that is there shows what is committed
   someone : ShareMember group (members_in c all_disks group.id group) (is_there core)
-  someone = read_meets_write group (members_in c all_disks group.id group) (is_there core) (finding_reads c all_disks group.id group shows.found).reads.enough enough
+  someone = read_meets_write group (members_in c all_disks group.id group) (is_there core) (finding_reads c all_disks group.id group found_all).reads.enough enough
+
+  alike : (d : ℕ) (r : Stamped Descriptor) → c.descriptor d ≡ Some r → r.value.id ≡ group.id → IsAlike r.value group
+  alike d r is own = subst (IsAlike r.value) records.value
+      (tied.describes.stands.alike d someone.0 r records.descriptor is (records.described someone.0 someone.3) (own ∙ sym (ap (λ (g : Descriptor). g.id) records.value)))
+
+  began : Began c group all_disks
+  began = record {
+    enough = (finding_reads c all_disks group.id group found_all).reads.enough;
+    alike = λ d r member is. alike d r is (own_of d r is (parts_of c all_disks group.id group d member).1);
+    since = λ d m r q is own member there. inl (alike d r is own);
+  }
+    where
+      own_of : (d : ℕ) (r : Stamped Descriptor) → c.descriptor d ≡ Some r → passes (is_of group.id) (c.descriptor d) ≡ true → r.value.id ≡ group.id
+      own_of d r is passed = let test : (r.value.id == group.id) ≡ true = sym (ap (passes (is_of group.id)) is) ∙ passed in eqb-true r.value.id group.id test
+
+  room : (d : ℕ) → IsTrue (is_there core d) → IsTrue (has_room c d group)
+  room d there =
+      let parts = and_both (is_member group d) (not (calls_missing core.status.wanted d)) there in
+      (parts_of c all_disks group.id group d (tied.members d parts.0 (there_first past s tied d (not_true (calls_missing core.status.wanted d) parts.1)))).2
+
+  its_status : ShowsStatus group core.status c
+  its_status = records.settled rests.in_flight
+
+  abbrev shows : ShowsIts s tied.media
+  shows = record {
+    found = found_all;
+    disks = all_disks;
+    began = began;
+    descriptor = records.descriptor;
+    value = records.value;
+    latest = records.latest;
+    described = records.described;
+    room = room;
+    own = ap (λ (x : Status). x.id) rests.committed ∙ tied.orderly.sound.fitting.id;
+    stands = its_status.stands;
+    committed = its_status.committed;
+    stated = its_status.stated;
+    last = its_status.last;
+  }
 
   its_own : shows.stands.value.id ≡ group.id
   its_own = ap (λ (x : Status). x.id) shows.committed ∙ shows.own
@@ -181,8 +222,11 @@ module _ (past : List Fact) (s : Session) (tied : IsTied past s) (rests : IsRest
           sym (notes_seen d lv g there) ∙ tied.sees.home d lv g n there is ∙ sym (names_written lv g n none) ∙ sym (ap (λ (o : Option DiskNotes). option_map_or (both_name lv g) o false) is)
 
 pub tied_rests : TiedRests
-tied_rests past s tied rests enough shows = record {
-  told = tied.told;
-  rest = subst (λ (facts : List Fact). IsAtRest (shown_to s tied.media) facts s.core.descriptor (Some shows.stands) (is_there s.core)) tied.sees.facts (rest past s tied rests enough shows);
-  notes = home past s tied rests enough shows;
-}
+tied_rests past s tied rests enough = (
+  shows past s tied rests enough,
+  record {
+    told = tied.told;
+    rest = subst (λ (facts : List Fact). IsAtRest (shown_to s tied.media) facts s.core.descriptor (Some (shows past s tied rests enough).stands) (is_there s.core)) tied.sees.facts (rest past s tied rests enough);
+    notes = home past s tied rests enough;
+  },
+)

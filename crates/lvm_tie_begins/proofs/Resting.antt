@@ -209,6 +209,13 @@ module _ (past : List Fact) (s : Session) (media : Media) (sound : IsSound s) (p
     carry = none_carried core.flying s.device.flights rests.flying;
     members = members;
     own = follows.own;
+    records = record {
+      descriptor = stands.held.shows.descriptor;
+      value = stands.held.shows.value;
+      described = stands.held.shows.described;
+      latest = stands.held.shows.latest;
+      settled = λ none. record { stands = stated; committed = stands.held.shows.committed; stated = stands.held.shows.stated; last = stands.held.shows.last };
+    };
   }
 
 pub rest_ties : RestTies

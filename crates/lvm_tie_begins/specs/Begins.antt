@@ -118,4 +118,4 @@ pub record IsRested (past : List Fact) (s : Session) (media : Media) (shows : Sh
 -- So they do where a tied session is at rest, and its members that aren't missing have votes enough to write.
 abbrev pub TiedRests : Type 0
 TiedRests = (past : List Fact) (s : Session) (tied : IsTied past s) → IsResting s.core → CanWrite s.core.descriptor (is_there s.core)
-    → (shows : ShowsIts s tied.media) → IsRested past s tied.media shows
+    → (shows : ShowsIts s tied.media) × IsRested past s tied.media shows

@@ -17,8 +17,8 @@ pub fn begins_good()
     ensures { BeginsGood }
 {}
 
-/// And the other way round: where a tied session is at rest, and its disks show what it says is committed, they keep
-/// the history, the usable copies are even, and the notes are home.
+/// And the other way round: where a tied session is at rest, with votes enough to write, its disks show what it says is
+/// committed and keep the history, the usable copies are even, and the notes are home.
 pub fn tied_rests()
     ensures { TiedRests }
 {}

@@ -122,6 +122,7 @@ module _ (past : List Fact) (s : Session) (tied : IsTied past s) (ended : (curso
     copy_aimed = λ c is. absurd (cc is);
     carry = carry_none s.device.flights core.flying;
     members = tied.members;
+    records = tied.records;
     own = tied.own;
   }
 

@@ -285,6 +285,7 @@ module _ (past : List Fact) (s : Session) (new : Core) (counts : Counts) (lv lp 
         (one_is_copy_of past s tied c its some_groups opens.pp its.among member (there_first past s tied opens.pp.disk may.there), λ source reads. absurd (let e : step.Idle ≡ step.Reading source = reads in cc));
     carry = carry_so s.device.flights core.flying;
     members = tied.members;
+    records = tied.records;
     own = tied.own;
   }
 

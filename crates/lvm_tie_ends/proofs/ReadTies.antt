@@ -53,7 +53,7 @@ use Rattle.lvm_tie.proofs.Tied.{stage_found}
 use Rattle.lvm_tie.proofs.Words.{clash}
 use Rattle.lvm_tie.specs.Out.{CarriesStep, CarryTheirs, MayUpdate}
 use Rattle.lvm_tie.specs.Seen.{stage_seen, stage_at, phase_seen, SeesRequest, update_of}
-use Rattle.lvm_tie.specs.Tied.{IsTied}
+use Rattle.lvm_tie.specs.Tied.{IsTied, ShowsRecords}
 use Rattle.lvm_session.specs.Judging.{is_kept, pps_of}
 use Rattle.lvm_session.specs.Bringing.{marked_by_end, with_back, with_end as with_copy_end}
 use Rattle.lvm_events.specs.Marks.{WantsStale, Entails, is_among, due_targets, due_of, end_by_write}
@@ -310,6 +310,7 @@ module _ (past : List Fact) (old new : Session) (index : ℕ) (ends : Ends old n
             ((its_row w).carry carries (subst (λ (fs : List Flight). CarryTheirs old.core v fs old.core.flying) ended.removes.was tied.carry));
         members = λ d member first. subst (λ (sizes : List ℕ). IsTrue (members_there (contents_of (image_of sizes tied.media)) old.core.descriptor d)) (sym ended.sizes) (tied.members d member first);
         own = tied.own;
+        records = subst (λ (sizes : List ℕ). ShowsRecords old.core.descriptor old.core.status (contents_of (image_of sizes tied.media))) (sym ended.sizes) tied.records;
       })
 
 pub read_end_ties : ReadEndTies

@@ -154,7 +154,7 @@ module _ (mode : Mode) (dirty lost cut : Bool) where
     may = may;
     own = own cut;
     tied = settled_ties (past_of mode cut) s (media_of x) settled may (own cut);
-    left = record { resting = resting; votes = known.settled.votes; held = known.held; only = known.only; calm = past_is_calm mode cut };
+    left = record { resting = resting; votes = known.settled.votes; spare = λ d there. (known.held.homes d there).descriptor; only = known.only; calm = past_is_calm mode cut };
     driven = record {
       told = refl;
       sectors = are_sectors mode dirty lost;

@@ -1,20 +1,26 @@
 -- A tied session at rest is settled.
-use Rattle.std.proofs.Common.{◌≡◌, ℕ, suc, ◌+◌, Bool, true, false, List, [], ◌∷◌, Option, length, replicate, refl, sym, ap, subst, ◌∙◌}
+use Rattle.std.proofs.Common.{◌≡◌, ℕ, suc, ◌+◌, Bool, true, false, ◌||◌, if◌then◌else◌, List, [], ◌∷◌, Option, Some, None, length, replicate, refl, sym, ap, subst, ◌∙◌}
 use Rattle.std.specs.Prelude.{count_by, slice_index_or}
+use Rattle.lvm_num.specs.declared.descriptor.Descriptor.{Descriptor}
+use Rattle.lvm_num.specs.declared.record.Kind.TheVariants as kind
 use Rattle.lvm_num.specs.Buffer.{Buffer}
+use Rattle.lvm_num.specs.DescriptorBytes.{descriptor_of}
+use Rattle.lvm_num.specs.Record.{Stamped}
 use Rattle.lvm_num.specs.Status.{calls_missing}
 use Rattle.lvm_vol.specs.Facts.{Fact}
 use Rattle.lvm_vol.specs.Legal.{Legal}
-use Rattle.lvm_disk.specs.Device.{Flight}
-use Rattle.lvm_kept.specs.Contents.{contents_of}
+use Rattle.lvm_rec.specs.Slots.{newest_on}
+use Rattle.lvm_disk.specs.Device.{Flight, Image, image_of}
+use Rattle.lvm_kept.specs.Contents.{contents_of, descriptor_on, has_records}
 use Rattle.lvm_kept.specs.Kept.{Kept}
 use Rattle.lvm_steps.specs.Moments.{Holds}
+use Rattle.lvm_commit.specs.Committed.{HoldsCommitted}
 use Rattle.lvm_crash.proofs.Images.{images_kept}
 use Rattle.lvm_session.specs.declared.bringing.OpenCopy.{OpenCopy}
 use Rattle.lvm_session.specs.declared.flown.Flown.{Flown}
 use Rattle.lvm_session.specs.declared.open.Open.{Open}
 use Rattle.lvm_session.specs.declared.open.Power.TheVariants as power
-use Rattle.lvm_session.specs.State.{Core, State as Session}
+use Rattle.lvm_session.specs.State.{Core, State as Session, is_there}
 use Rattle.lvm_session.specs.Judging.{is_missing}
 use Rattle.lvm_events.specs.Dark.{hand_of_copy}
 use Rattle.lvm_sound.specs.Owners.{AreRows}
@@ -26,7 +32,7 @@ use Rattle.lvm_settled.specs.Settled.{IsKnown}
 use Rattle.lvm_tie.specs.Seen.{update_of}
 use Rattle.lvm_tie.specs.Tied.{IsTied, moment_of}
 use Rattle.lvm_tie.proofs.Tied.{tied_matches}
-use Rattle.lvm_tie_begins.specs.Begins.{IsRested}
+use Rattle.lvm_tie_begins.specs.Begins.{IsRested, ShowsIts}
 use Rattle.lvm_tie_begins.proofs.Rested.{tied_rests}
 use Rattle.lvm_tie_groups.specs.Settled.{IsSettledAfter, MayBeLeft, MayServe, TiedSettles}
 use Rattle.lvm_tie_groups.proofs.Landing.{calm_since}
@@ -45,6 +51,15 @@ all_back (b ∷ pool) none = ap (λ (x : Bool). x ∷ pool) (none 0) ∙ ap (λ 
 not_counted : (b : Bool) → 0 ≡ count_if b → b ≡ false
 not_counted true is = absurd (cc is)
 not_counted false is = refl
+
+-- a disk that shows a descriptor is large enough for the records
+large_enough : (image : Image) (d : ℕ) (r : Stamped Descriptor) → descriptor_on image d ≡ Some r → has_records image d ≡ true
+unfolding descriptor_on
+large_enough image d r shown = by (has_records image d) refl shown
+  where
+    by : (b : Bool) → has_records image d ≡ b → (if b then newest_on descriptor_of kind.Descriptor (image.sector d) else None) ≡ Some r → has_records image d ≡ true
+    by true large shown = large
+    by false small shown = absurd (cc shown)
 
 module _ (past : List Fact) (s : Session) (tied : IsTied past s) (may : MayBeLeft past s tied.media) where
   abbrev core : Core
@@ -134,11 +149,25 @@ module _ (past : List Fact) (s : Session) (tied : IsTied past s) (may : MayBeLef
         (images_kept tied.votes tied.view core.descriptor (update_of core.status) s.device tied.media image tied.are_votes tied.good (tied_matches past s tied) left);
   }
 
-  known : IsKnown past s tied.media
-  known = record { told = tied.told; sound = between; settled = settled; held = may.held; holds = holds; only = may.only }
+  -- ---- what its disks hold
 
-  rested : IsRested past s tied.media may.held.shows
-  rested = tied_rests past s tied may.resting may.votes may.held.shows
+  left : (shows : ShowsIts s tied.media) × IsRested past s tied.media shows
+  left = tied_rests past s tied may.resting may.votes
+
+  held : HoldsCommitted (image_of s.device.sizes tied.media) core.descriptor core.status.committed (is_there core) core.status.stamp core.homes
+  held = record {
+    shows = left.0;
+    stamps = tied.next.before;
+    there = λ d there. large_enough (image_of s.device.sizes tied.media) d left.0.descriptor (left.0.described d there);
+    homes = λ d there. record { descriptor = may.spare d there; status = tied.next.spare d there (let idle = on.going.status.idle may.resting.in_flight d in λ t. idle.0 t || idle.1 t) };
+  }
+
+  known : IsKnown past s tied.media
+  known = record { told = tied.told; sound = between; settled = settled; held = held; holds = holds; only = may.only }
+
+  rested : IsRested past s tied.media held.shows
+  unfolding held
+  rested = left.1
 
   pub settles : IsSettledAfter past s tied.media × MayServe s tied.media
   unfolding known

@@ -1,13 +1,16 @@
 -- A settled session, between commands on its group: where it is tied, and what a tied session leaves that is settled again.
-use Rattle.std.specs.Prelude.{◌≡◌, ◌<◌, ◌^◌, List, count_by}
+use Rattle.std.specs.Prelude.{◌≡◌, ℕ, ◌<◌, ◌^◌, List, IsTrue, count_by}
+use Rattle.lvm_num.specs.declared.record.Kind.TheVariants as kind
+use Rattle.lvm_num.specs.DescriptorBytes.{descriptor_of}
 use Rattle.lvm_num.specs.Votes.{CanWrite}
 use Rattle.lvm_vol.specs.Facts.{Fact}
 use Rattle.lvm_vol.specs.Legal.{begins_in}
 use Rattle.lvm_disk.specs.Device.{Media, AreSectors, image_of}
 use Rattle.lvm_kept.specs.Moments.{Calm, Moment}
 use Rattle.lvm_steps.specs.Moments.{Begins}
-use Rattle.lvm_commit.specs.Committed.{HoldsCommitted}
 use Rattle.lvm_commit.specs.LawsOfVolumes.{IsOneByAllOn}
+use Rattle.lvm_rec.specs.Slots.{slot_for}
+use Rattle.lvm_write.specs.Homes.{next_slot}
 use Rattle.lvm_session.specs.State.{State as Session, is_there}
 use Rattle.lvm_sound.specs.Sound.{IsSound}
 use Rattle.lvm_core.specs.Held.{NotesAreHome}
@@ -43,12 +46,12 @@ SettledServes = (first : Moment) (s : Session) (media : Media)
 
 -- ---- out
 
--- What is asked of a tied session at rest, so that commands may follow: its members that aren't missing have votes enough to write, its disks hold what it
--- says is committed, on each crash image at most one group has a quorum among all disks, and no write was open before its run.
+-- What is asked of a tied session at rest, so that commands may follow: its members that aren't missing have votes enough to write, the next descriptor spares
+-- the newest one of each, on each crash image at most one group has a quorum among all disks, and no write was open before its run.
 pub record MayBeLeft (past : List Fact) (s : Session) (media : Media) : Type 0 where
   pub resting : IsResting s.core
   pub votes : CanWrite s.core.descriptor (is_there s.core)
-  pub held : HoldsCommitted (image_of s.device.sizes media) s.core.descriptor s.core.status.committed (is_there s.core) s.core.status.stamp s.core.homes
+  pub spare : (d : ℕ) → IsTrue (is_there s.core d) → next_slot kind.Descriptor s.core.homes d ≡ slot_for descriptor_of kind.Descriptor ((image_of s.device.sizes media).sector d)
   pub only : IsOneByAllOn s.device
   pub calm : Calm past
 

@@ -14,7 +14,7 @@ pub fn settled_serves()
     ensures { SettledServes }
 {}
 
-/// And a tied session at rest is settled again, where its disks hold what it says.
+/// And a tied session at rest is settled again, with votes enough to write: its disks hold what it says.
 pub fn tied_settles()
     ensures { TiedSettles }
 {}

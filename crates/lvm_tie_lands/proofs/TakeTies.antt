@@ -179,6 +179,7 @@ module _ (past : List Fact) (old : Session) (place : ℕ) (o : Open) (tied : IsT
     copy_aimed = tied.copy_aimed;
     carry = carry_so old.device.flights core.flying tied.carry;
     members = tied.members;
+    records = tied.records;
     next = tied.next;
     notes = tied.notes;
     own = tied.own;

@@ -53,16 +53,17 @@ use Rattle.lvm_tie.proofs.Judged.{there_first}
 use Rattle.lvm_tie.proofs.Orderly.{IsNoteOut, valid_of}
 use Rattle.lvm_tie.proofs.Tied.{tied_matches}
 use Rattle.lvm_tie.proofs.Words.{clash, not_true}
+use Rattle.lvm_tie.proofs.Recorded.{NoMoreThere, no_update_of, records_last, shows_last, shows_update, status_lasts}
 use Rattle.lvm_tie.specs.Out.{AreNotes, CarriesStep, CarryTheirs, IsWriteOf, MayUpdate}
 use Rattle.lvm_tie.specs.Seen.{IsRequestAt, IsStepAt, Sees, SeesNote, update_of}
-use Rattle.lvm_tie.specs.Tied.{IsOrderly, IsTied}
+use Rattle.lvm_tie.specs.Tied.{IsOrderly, IsTied, ShowsRecords, ShowsStatus}
 use Rattle.lvm_tie_ends.proofs.Ended.{HasEnded}
 use Rattle.lvm_tie_reviews.specs.Near.{IsNear, IsRunning, open_after}
 use Rattle.lvm_tie_reviews.specs.Wanted.{HasOwners, IsBrought, KeepsFresh, SeesMarks}
 use Rattle.lvm_tie_reviews.proofs.CopyEnds.{ends_running, near_ties, with_end_status}
 use Rattle.lvm_tie_reviews.proofs.Reviewing.{none_opened, opened, review_is_wanted}
 use Rattle.lvm_tie_notes.proofs.Ended.{apart, ended, here_too, its_row, none_is_some, not_here, out, own, own_sector, since_ended}
-use Rattle.lvm_tie_notes.proofs.Landing.{HasLanded, has_landed, same_members, update_may}
+use Rattle.lvm_tie_notes.proofs.Landing.{HasLanded, has_landed, same_descriptors, same_members, same_statuses, update_may}
 use Rattle.lvm_tie_notes.proofs.Losing as losing
 
 -- the end of a copy leaves power and slots as they were
@@ -402,6 +403,43 @@ module _ (past : List Fact) (old new : Session) (at disk : ℕ) (row : Flown) (b
   members_now : (d : ℕ) → members_there (contents_of is) group d ≡ members_there (contents_of was) group d
   members_now d = same_members tied.votes v1 group (update_of core.status) old.device new.device.flights tied.media its_end.media f false good1 matches1 its_end.removes own1 its_end.lands d
 
+  abbrev committed_update : Stamped Status
+  committed_update = record { stamp = core.status.stamp; value = core.status.committed }
+
+  -- the update that has ended is what they show
+  ended_shows : over ≡ true → ShowsStatus group status (contents_of is)
+  ended_shows ends =
+      let update_now : update_of core.status ≡ Some committed_update = ap (λ (o : Option Status). option_map (λ (t : Status). let r : Stamped Status = record { stamp = core.status.stamp; value = t } in r) o) (losing.flew core.status lost status disk group going.fitting.group going.status loses rest ends).0 in
+      let describes_it : Describes v2 v.facts group (Some committed_update) (contents_of is) = subst (λ (o : Option (Stamped Status)). Describes v2 v.facts group o (contents_of is)) update_now landed.describes in
+      record {
+        stands = committed_update;
+        committed = sym (losing.committed_same core.status lost status disk group going.fitting.group going.status loses rest);
+        stated = λ d there.
+            let w = was_there d (sym (there_same d) ∙ there) in
+            shows_update v2 v.facts group committed_update (contents_of is) describes_it d
+            (tied.sees.written d (losing.all_written core.status lost status disk group going.fitting.group going.status loses rest ends d w.member w.there w.other) ∙ tied.sees.in_flight ∙ ap (option_map as_marks) update_now);
+        last = shows_last tied.votes v2 v.facts group committed_update (contents_of is) describes_it good2.found (tied.sees.held committed_update update_now (losing.flew core.status lost status disk group going.fitting.group going.status loses rest ends).1) (tied.sees.in_flight ∙ ap (option_map as_marks) update_now);
+      }
+
+  no_more : NoMoreThere group core.status status
+  no_more d there = was_in d (sym (there_same d) ∙ there)
+
+  -- no other update was in flight
+  still_shows : over ≡ false → status.in_flight ≡ None → ShowsStatus group status (contents_of is)
+  still_shows goes_on none =
+      let still : core.status.in_flight ≡ None = sym (ap (λ b. if b then None else core.status.in_flight) goes_on) ∙ sym (losing.in_flight_is core.status lost status disk group going.fitting.group going.status loses rest) ∙ none in
+      status_lasts group core.status status (contents_of was) (contents_of is) (tied.records.settled still) no_more (losing.committed_same core.status lost status disk group going.fitting.group going.status loses rest)
+      (same_statuses tied.votes v1 group (update_of core.status) old.device new.device.flights tied.media its_end.media f false good1 matches1 its_end.removes own1 its_end.lands (no_update_of core.status still))
+
+  records_now : ShowsRecords group status (contents_of is)
+  records_now = records_last group core.status status (contents_of was) (contents_of is) tied.records no_more
+      (same_descriptors tied.votes v1 group (update_of core.status) old.device new.device.flights tied.media its_end.media f false good1 matches1 its_end.removes own1 its_end.lands)
+      (λ none. by over refl none)
+    where
+      by : (b : Bool) → over ≡ b → status.in_flight ≡ None → ShowsStatus group status (contents_of is)
+      by true ends none = ended_shows ends
+      by false goes_on none = still_shows goes_on none
+
   -- ---- all of it
 
   near : IsNear past new.device core3 how
@@ -425,6 +463,7 @@ module _ (past : List Fact) (old new : Session) (at disk : ℕ) (row : Flown) (b
         ((its_row past old new at disk false row buf its_owner returns tied core3 v3).carry carries (subst (λ (fs : List Flight). CarryTheirs core v fs core.flying) its_end.removes.was tied.carry));
     members = λ d member first. subst (λ (sizes : List ℕ). IsTrue (members_there (contents_of (image_of sizes its_end.media)) group d)) (sym its_end.sizes) (members_now d ∙ tied.members d member first);
     own = tied.own;
+    records = subst (λ (sizes : List ℕ). ShowsRecords group status (contents_of (image_of sizes its_end.media))) (sym its_end.sizes) records_now;
   }
 
   new_is : new.core ≡ with_end core3 how

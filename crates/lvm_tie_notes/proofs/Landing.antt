@@ -176,6 +176,12 @@ module _ (votes : Votes) (s : State) (group : Descriptor) (in_flight : Option (S
   pub same_members : (d : ℕ) → members_there now group d ≡ members_there before group d
   same_members d = ap (λ (c : Contents). members_there c group d) remain.kept.rest
 
+  pub same_descriptors : (d : ℕ) → now.descriptor d ≡ before.descriptor d
+  same_descriptors d = ap (λ (c : Contents). c.descriptor d) remain.kept.rest
+
+  pub same_statuses : in_flight ≡ None → (d : ℕ) → now.status d ≡ before.status d
+  same_statuses none d = ⊎_elim (λ same. same) (λ x. absurd (let e : None ≡ Some x.0 = sym none ∙ x.1 in cc)) (remain.statuses d)
+
   pub update_may : (status : Stored) (homes : Homes) → IsSector own.sector → MayUpdate group status homes was → MayUpdate group status homes is
   update_may status homes whole may = record {
     some_epoch = may.some_epoch;

@@ -9,6 +9,7 @@ use Rattle.lvm_num.specs.declared.status.Status.{Status}
 use Rattle.lvm_num.specs.Descriptor.{is_member}
 use Rattle.lvm_num.specs.Disks.{has}
 use Rattle.lvm_num.specs.Record.{Stamped}
+use Rattle.lvm_num.specs.Status.{calls_missing}
 use Rattle.lvm_disk.specs.Device.{Device, Media}
 use Rattle.lvm_status.specs.Update.{Stored, Updates, is_held, is_owed, no_disks, seen, without_disk}
 use Rattle.lvm_status.specs.Calls.{BecomesMissing}
@@ -122,6 +123,19 @@ module _ (old lost new : Stored) (disk : ℕ) (group : Descriptor) (group_is : o
       by : (b : Bool) → has old.writes.started d ≡ b → has old.writes.started d ≡ false
       by false is = is
       by true is = (or_left (has old.writes.unstarted d && not (d == disk)) (has old.writes.started d) (none_left ends d (sound.started d is))).1
+
+  -- each other member that was there has it
+  pub all_written : over ≡ true → (d : ℕ) → is_member group d ≡ true → calls_missing old.wanted d ≡ false → (d == disk) ≡ false → has old.writes.written d ≡ true
+  all_written ends d member present other =
+      let inside : is_member old.group d ≡ true = ap (λ (g : Descriptor). is_member g d) group_is ∙ member in
+      of (has old.writes.unstarted d) (has old.writes.started d) (has old.writes.written d)
+      (sound.each old.committed (flew ends).0 d (λ t. inside t && not (present t)))
+      (sym (ap (λ b. (has old.writes.unstarted d && not b) || has old.writes.started d) other) ∙ none_left ends d inside)
+    where
+      of : (u s w : Bool) → u || (s || w) ≡ true → (u && true) || s ≡ false → w ≡ true
+      of true s w h k = absurd (cc k)
+      of false true w h k = absurd (cc k)
+      of false false w h k = h
 
   pub started_same : (d : ℕ) → has new.writes.started d ≡ has old.writes.started d
   started_same d = started_is d ∙ by over refl

@@ -29,11 +29,12 @@ use Rattle.lvm_tie_shelf.specs.Owned.{IsNoteFlight}
 use Rattle.lvm_tie_shelf.specs.Records.{flying_after}
 use Rattle.lvm_tie.proofs.Orderly.{IsNoteOut, orderly_same}
 use Rattle.lvm_tie.proofs.Tied.{tied_matches}
+use Rattle.lvm_tie.proofs.Recorded.{no_update_of, records_last, status_lasts}
 use Rattle.lvm_tie.specs.Out.{AreNotes, CarriesStep, CarryTheirs, MayUpdate}
 use Rattle.lvm_tie.specs.Seen.{SeesNote, IsRequestAt, IsStepAt, update_of, Sees}
-use Rattle.lvm_tie.specs.Tied.{IsTied}
+use Rattle.lvm_tie.specs.Tied.{IsTied, ShowsRecords}
 use Rattle.lvm_tie_ends.proofs.Ended.{HasEnded}
-use Rattle.lvm_tie_notes.proofs.Landing.{HasLanded, has_landed, same_members, update_may}
+use Rattle.lvm_tie_notes.proofs.Landing.{HasLanded, has_landed, same_descriptors, same_members, same_statuses, update_may}
 use Rattle.lvm_session.specs.declared.flown.Flown.{Flown}
 use Rattle.lvm_events.specs.Ends.{Returns, NoteLearns}
 use Rattle.lvm_tie_notes.proofs.Ended.{apart, ended, has_notes, here_too, its_row, none_is_some, not_here, out, own, own_names, own_sector, room, since_ended, some_of}
@@ -150,6 +151,12 @@ module _ (past : List Fact) (old new : Session) (at disk : ℕ) (row : Flown) (b
   next_now : MayUpdate core.descriptor core.status core.homes is
   next_now = update_may tied.votes v core.descriptor (update_of core.status) old.device new.device.flights tied.media its_end.media f true tied.good (tied_matches past old tied) its_end.removes its_own its_end.lands core.status core.homes (own_sector past old new at disk true row buf its_owner returns tied) tied.next
 
+  records_now : ShowsRecords core.descriptor core.status (contents_of is)
+  records_now = records_last core.descriptor core.status core.status (contents_of was) (contents_of is) tied.records (λ d there. there)
+      (same_descriptors tied.votes v core.descriptor (update_of core.status) old.device new.device.flights tied.media its_end.media f true tied.good (tied_matches past old tied) its_end.removes its_own its_end.lands)
+      (λ none. status_lasts core.descriptor core.status core.status (contents_of was) (contents_of is) (tied.records.settled none) (λ d there. there) refl
+      (same_statuses tied.votes v core.descriptor (update_of core.status) old.device new.device.flights tied.media its_end.media f true tied.good (tied_matches past old tied) its_end.removes its_own its_end.lands (no_update_of core.status none)))
+
   pub note_tied : IsTied past new
   note_tied = subst (IsTied past) (sym whole) (let tie : IsTied past (state new.device next) = record {
     votes = tied.votes;
@@ -170,4 +177,5 @@ module _ (past : List Fact) (old new : Session) (at disk : ℕ) (row : Flown) (b
         ((its_row past old new at disk true row buf its_owner returns tied next w).carry carries (subst (λ (fs : List Flight). CarryTheirs core v fs core.flying) its_end.removes.was tied.carry));
     members = λ d member first. subst (λ (sizes : List ℕ). IsTrue (members_there (contents_of (image_of sizes its_end.media)) core.descriptor d)) (sym its_end.sizes) (members_now d ∙ tied.members d member first);
     own = tied.own;
+    records = subst (λ (sizes : List ℕ). ShowsRecords core.descriptor core.status (contents_of (image_of sizes its_end.media))) (sym its_end.sizes) records_now;
   } in tie)

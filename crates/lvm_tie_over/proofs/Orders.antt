@@ -111,6 +111,7 @@ ordered past s what tied sound = record {
   copy_aimed = tied.copy_aimed;
   carry = tied.carry;
   members = tied.members;
+  records = tied.records;
   own = tied.own;
 }
 

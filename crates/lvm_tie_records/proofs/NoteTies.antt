@@ -52,7 +52,7 @@ use Rattle.lvm_tie.proofs.Orderly.{open_one, orderly_same, out_of}
 use Rattle.lvm_tie.proofs.Words.{not_true}
 use Rattle.lvm_tie.specs.Out.{AreNotes, CarriesStep, CarryTheirs, MayUpdate}
 use Rattle.lvm_tie.specs.Seen.{SeesNote, IsRequestAt, IsStepAt, update_of, Sees}
-use Rattle.lvm_tie.specs.Tied.{IsOrderly, IsTied}
+use Rattle.lvm_tie.specs.Tied.{IsOrderly, IsTied, ShowsRecords}
 use Rattle.lvm_tie_records.specs.Records.{NoteStartTies}
 use Rattle.lvm_tie_starts.proofs.Ties.{carry_more}
 
@@ -286,6 +286,7 @@ module _ (past : List Fact) (old new : Session) (place disk : ℕ) (starts : Sta
     notes = notes_fit;
     members = λ d member first. subst (λ (sizes : List ℕ). IsTrue (members_there (contents_of (image_of sizes tied.media)) core.descriptor d)) (sym sizes_is) (tied.members d member first);
     own = tied.own;
+    records = subst (λ (sizes : List ℕ). ShowsRecords core.descriptor core.status (contents_of (image_of sizes tied.media))) (sym sizes_is) tied.records;
   } in its)
 
 pub note_start_ties : NoteStartTies

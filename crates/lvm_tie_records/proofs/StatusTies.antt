@@ -47,9 +47,10 @@ use Rattle.lvm_tie_shelf.specs.Owned.{IsStatusFlight, UpdateSince, OnlyUpdateSin
 use Rattle.lvm_tie.proofs.Orderly.{IsStatusOut, IsOut, AreOut, out_of}
 use Rattle.lvm_tie.proofs.Tied.{tied_owns}
 use Rattle.lvm_tie.proofs.Words.{clash}
+use Rattle.lvm_tie.proofs.Recorded.{records_last}
 use Rattle.lvm_tie.specs.Out.{AreNotes, CarriesStep, CarryTheirs, IsUpdateWrite, IsWriteOf, MayUpdate, is_owed_on}
 use Rattle.lvm_tie.specs.Seen.{update_of, IsRequestAt, IsStepAt, Sees}
-use Rattle.lvm_tie.specs.Tied.{IsOrderly, IsTied}
+use Rattle.lvm_tie.specs.Tied.{IsOrderly, IsTied, ShowsRecords}
 use Rattle.lvm_tie_records.specs.Records.{StatusStartTies}
 use Rattle.lvm_tie_records.proofs.MayBegin.{MayBegin, begins, fresh_update, fresh_write}
 use Rattle.lvm_tie_starts.proofs.Ties.{carry_more}
@@ -308,6 +309,9 @@ module _ (past : List Fact) (old new : Session) (starts : StartsStatus old new) 
     notes = notes2;
     members = λ d member first. subst (λ (sizes : List ℕ). IsTrue (members_there (contents_of (image_of sizes tied.media)) group d)) (sym sizes_are) (tied.members d member first);
     own = tied.own;
+    records = subst (λ (sizes : List ℕ). ShowsRecords group status (contents_of (image_of sizes tied.media))) (sym sizes_are)
+        (records_last group old.core.status status (contents_of (image_of old.device.sizes tied.media)) (contents_of (image_of old.device.sizes tied.media)) tied.records (λ d there. sym (missing_new d) ∙ there) (λ d. refl)
+        (λ none. absurd (let e : None ≡ Some starts.status = sym none ∙ starts.flies in cc)));
   })
 
 -- ---- of a sound session

@@ -72,7 +72,7 @@ use Rattle.lvm_tie.proofs.Modes.{active_is}
 use Rattle.lvm_tie.proofs.Rows.{HaveRows, rows_are}
 use Rattle.lvm_tie.proofs.Orderly.{HaveNumbers, numbers_of, open_one, waiting_one}
 use Rattle.lvm_tie.proofs.Words.{or_left, or_either, any_none, filter_one, not_true, clash, stage_of_one, target_of, one_there}
-use Rattle.lvm_tie.proofs.Wanted.{dirty_rest, next_same, sees_wanted, stamp_same, update_same, write_same}
+use Rattle.lvm_tie.proofs.Wanted.{dirty_rest, next_same, records_wanted, sees_wanted, stamp_same, update_same, write_same}
 use Rattle.lvm_tie.specs.Out.{CarriesStep, CarryTheirs, IsWriteOf}
 use Rattle.lvm_tie.specs.Seen.{stage_at, phase_seen, update_of, SeesRequest, SeesOpen, SeesRunning, SeesCopy, IsRequestAt, IsStepAt, Sees}
 use Rattle.lvm_tie.specs.Tied.{IsOrderly, IsTied}
@@ -385,6 +385,7 @@ module _ (past : List Fact) (old new : Session) (place : ℕ) (admits : Admits o
         copy_aimed = tied.copy_aimed;
         carry = carry_so old.device.flights core.flying tied.carry;
         members = tied.members;
+        records = tied.records;
         own = tied.own;
       }
 
@@ -445,6 +446,7 @@ module _ (past : List Fact) (old new : Session) (place : ℕ) (admits : Admits o
       copy_aimed = tied.copy_aimed;
       carry = carry_so old.device.flights core.flying tied.carry;
       members = tied.members;
+      records = records_wanted core.status stored wanted_rest wants.wants.missing core.descriptor (contents_of (image_of old.device.sizes tied.media)) tied.records;
       own = tied.own;
     })
 

@@ -277,6 +277,7 @@ module _ (past : List Fact) (old new : Session) (place : ℕ) (event : Pins old 
     copy_aimed = tied.copy_aimed;
     carry = carry_so old.device.flights core.flying tied.carry;
     members = tied.members;
+    records = tied.records;
     own = tied.own;
   })
 

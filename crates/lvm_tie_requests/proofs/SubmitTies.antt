@@ -306,6 +306,7 @@ module _ (past : List Fact) (old : Session) (client : ℕ) (ask : Ask) (bytes : 
     copy_aimed = tied.copy_aimed;
     carry = carry_so old.device.flights core.flying tied.carry;
     members = tied.members;
+    records = tied.records;
     next = tied.next;
     notes = tied.notes;
     own = tied.own;

@@ -179,6 +179,7 @@ module _ (past : List Fact) (device : Device) (core : Core) (how : CopyEnd) (nea
         subst (λ (x : Bringing). IsTrue (v.is_copy x.lv (block_at core x) x.pp) × ((source : Pp) → x.step ≡ step.Reading source → IsTrue (v.is_copy x.lv (block_at core x) source))) (some_of c_out d is) (near.copy_aimed c its.is_open (row_out out));
     carry = carry_on core core_out v v device.flights core.flying carries_out near.carry;
     members = near.members;
+    records = near.records;
     own = near.own;
   }
 
@@ -226,6 +227,7 @@ module _ (past : List Fact) (device : Device) (core : Core) (how : CopyEnd) (nea
     copy_aimed = λ d is row. absurd (no_row d is row);
     carry = carry_on core core_in v w device.flights core.flying (carries_in w) near.carry;
     members = near.members;
+    records = near.records;
     own = near.own;
   }
 
@@ -363,6 +365,7 @@ near_ties past device core None near runs orderly = record {
   copy_aimed = near.copy_aimed;
   carry = near.carry;
   members = near.members;
+  records = near.records;
   own = near.own;
 }
 near_ties past device core (Some how) near runs orderly = ended_ties past device core how near (runs how refl) orderly

@@ -19,7 +19,7 @@ use Rattle.lvm_crash.specs.Session.{AreVotesOf, Describes, members_there}
 use Rattle.lvm_tie_shelf.specs.Owned.{OnlyUpdateSince}
 use Rattle.lvm_tie.specs.Out.{AreNotes, CarryTheirs, MayUpdate}
 use Rattle.lvm_tie.specs.Seen.{Sees, update_of}
-use Rattle.lvm_tie.specs.Tied.{IsCopyAimed, IsOrderly, IsTied}
+use Rattle.lvm_tie.specs.Tied.{IsCopyAimed, IsOrderly, IsTied, ShowsRecords}
 
 -- a copy is open, and it runs
 pub record IsRunning (core : Core) : Type 0 where
@@ -52,6 +52,7 @@ pub record IsNear (past : List Fact) (device : Device) (core : Core) (how : Opti
   pub carry : CarryTheirs core view device.flights core.flying
   pub members : (d : ℕ) → is_member core.descriptor d ≡ true → calls_missing core.origin.table d ≡ false → IsTrue (members_there (contents_of (image_of device.sizes media)) core.descriptor d)
   pub own : count_by (begins_in core.history.run) past ≡ 0
+  pub records : ShowsRecords core.descriptor core.status (contents_of (image_of device.sizes media))
 
 -- Where the open copy ends so while it runs, or doesn't end, the session is tied after it: a step of it that isn't out leaves the queue.
 abbrev pub NearTies : Type 0

@@ -25,7 +25,7 @@ use Rattle.lvm_invariant.specs.Good.{Good}
 use Rattle.lvm_crash.specs.Session.{Describes, members_there}
 use Rattle.lvm_tie.specs.Out.{CarriesStep, CarryTheirs, MayUpdate}
 use Rattle.lvm_tie.specs.Seen.{IsRequestAt, IsStepAt, Sees, SeesCopy, SeesRunning, SeesStep, step_write_of, update_of}
-use Rattle.lvm_tie.specs.Tied.{IsTied}
+use Rattle.lvm_tie.specs.Tied.{IsTied, ShowsRecords}
 use Rattle.lvm_tie.proofs.Orderly.{AreOut, StepIsOut, open_one, orderly_same, out_of}
 use Rattle.lvm_tie_starts.proofs.Ties.{since_start}
 
@@ -135,4 +135,5 @@ module _ (past : List Fact) (old : Session) (device : Device) (c : Bringing) (st
       carry = subst (λ (fs : List Flight). CarryTheirs new w fs (old.core.flying ++ flown_row ∷ [])) (sym (ap (λ (d : Device). d.flights) starts.new_is)) (carry_on old.device.flights old.core.flying (out_of old tied.write tied.orderly tied.notes));
       members = λ d member first. subst (λ (sizes : List ℕ). IsTrue (members_there (contents_of (image_of sizes tied.media)) old.core.descriptor d)) (sym sizes_is) (tied.members d member first);
       own = tied.own;
+      records = subst (λ (sizes : List ℕ). ShowsRecords old.core.descriptor old.core.status (contents_of (image_of sizes tied.media))) (sym sizes_is) tied.records;
     }

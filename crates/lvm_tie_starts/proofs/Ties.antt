@@ -42,7 +42,7 @@ use Rattle.lvm_tie.proofs.Changing.{sees_changed, step_apart}
 use Rattle.lvm_tie.proofs.Orderly.{AreOut, HaveNumbers, out_of}
 use Rattle.lvm_tie.specs.Out.{CarriesStep, CarryTheirs, MayUpdate}
 use Rattle.lvm_tie.specs.Seen.{SeesRequest, update_of}
-use Rattle.lvm_tie.specs.Tied.{IsOrderly, IsTied}
+use Rattle.lvm_tie.specs.Tied.{IsOrderly, IsTied, ShowsRecords}
 
 some_of : {X : Type 0} (a b : X) → Some a ≡ Some b → a ≡ b
 some_of a b e = cc
@@ -135,4 +135,5 @@ module _ (past : List Fact) (old : Session) (device : Device) (place number : �
     notes = tied.notes;
     members = λ d member first. subst (λ (sizes : List ℕ). IsTrue (members_there (contents_of (image_of sizes tied.media)) old.core.descriptor d)) (sym sizes_is) (tied.members d member first);
     own = tied.own;
+    records = subst (λ (sizes : List ℕ). ShowsRecords old.core.descriptor old.core.status (contents_of (image_of sizes tied.media))) (sym sizes_is) tied.records;
   }

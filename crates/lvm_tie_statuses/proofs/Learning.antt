@@ -14,7 +14,7 @@ use Rattle.lvm_status.specs.Update.{Stored, Updates, is_held, is_owed, no_disks,
 use Rattle.lvm_status.specs.Calls.{WantsAtEnd, after_end, comes_held, with_commit, with_end}
 use Rattle.lvm_status.specs.Runs.{IsSound as IsSoundStatus}
 use Rattle.lvm_crash.specs.Session.{marks_of}
-use Rattle.lvm_tie.proofs.Words.{clash, or_left}
+use Rattle.lvm_tie.proofs.Words.{clash, not_true, or_left, or_true}
 use Rattle.lvm_tie.specs.Out.{is_owed_on}
 use Rattle.lvm_tie_shelf.proofs.Writing.{and_both}
 
@@ -230,6 +230,49 @@ module _ (old status new : Stored) (group : Descriptor) (disk : ℕ) (ok : Bool)
   pub held_over : over ≡ true → is_held mid ≡ true
   held_over done = (and_both (is_held mid) (not (is_owed mid)) done).0
 
+  -- what is committed is the update
+  pub over_committed : over ≡ true → new.committed ≡ value
+  over_committed done = committed_new ∙ by (decided commits)
+    where
+      by : (commits ≡ true) ⊎ (commits ≡ false) → status.committed ≡ value
+      by (inl commit) = committed_value commit
+      by (inr none) = committed_status ∙ ap (committed_then (seen old)) none ∙ some_of old.committed value (sym (sound.held (held_mid none (held_over done))) ∙ flies)
+
+  none_left : over ≡ true → (d : ℕ) → is_member group d ≡ true → (has old.writes.unstarted d || (has old.writes.started d && not (d == disk))) ≡ false
+  none_left done d member =
+      let none : is_owed mid ≡ false = not_true (is_owed mid) (and_both (is_held mid) (not (is_owed mid)) done).1 in
+      let pvs : mid.group.pvs ≡ group.pvs = ap (λ (x : Updates). x.group.pvs) mid_is ∙ ap (λ (g : Descriptor). g.pvs) group_is in
+      sym (ap (λ (x : Updates). x.unstarted d || x.started d) mid_is)
+      ∙ not_owed_by (λ n. mid.unstarted n || mid.started n) group.pvs d member (subst (λ (rows : List PvRow). list_any (λ (r : PvRow). mid.unstarted r.disk || mid.started r.disk) rows ≡ false) pvs none)
+
+  -- each member that isn't missing then has it
+  pub all_written : over ≡ true → (d : ℕ) → is_member group d ≡ true → calls_missing status.wanted d ≡ false → written_then (seen old) disk ok d ≡ true
+  all_written done d member present = by (d == disk) refl
+    where
+      here : d ≡ disk → (d == disk) ≡ true → (b : Bool) → ok ≡ b → written_then (seen old) disk b d ≡ true
+      here same test true well = or_true (has old.writes.written d) (d == disk) (inr test)
+      here same test false badly = clash (calls_missing status.wanted disk) (lost_then disk ok old.wanted status.wanted wants badly) (ap (calls_missing status.wanted) (sym same) ∙ present)
+
+      kept : (b : Bool) → has old.writes.written d ≡ true → written_then (seen old) disk b d ≡ true
+      kept true had = or_true (has old.writes.written d) (d == disk) (inl had)
+      kept false had = had
+
+      of : (u s w : Bool) → u || (s || w) ≡ true → u || (s && true) ≡ false → w ≡ true
+      of true s w h k = absurd (cc k)
+      of false true w h k = absurd (cc k)
+      of false false w h k = h
+
+      elsewhere : (d == disk) ≡ false → has old.writes.written d ≡ true
+      elsewhere other =
+          let inside : is_member old.group d ≡ true = ap (λ (g : Descriptor). is_member g d) group_is ∙ member in
+          let was : calls_missing old.wanted d ≡ false = missing_then disk ok old.wanted status.wanted wants d present in
+          of (has old.writes.unstarted d) (has old.writes.started d) (has old.writes.written d) (sound.each value flies d (λ t. inside t && not (was t)))
+          (sym (ap (λ b. has old.writes.unstarted d || (has old.writes.started d && not b)) other) ∙ none_left done d member)
+
+      by : (b : Bool) → (d == disk) ≡ b → written_then (seen old) disk ok d ≡ true
+      by true test = here (eqb-true d disk test) test ok refl
+      by false other = kept ok (elsewhere other)
+
   -- ---- in both
 
   -- what is owed on no other member wasn't
@@ -239,14 +282,6 @@ module _ (old status new : Stored) (group : Descriptor) (disk : ℕ) (ok : Bool)
       as_before : (has old.writes.unstarted d || (has old.writes.started d && not (d == disk))) ≡ false → is_owed_on old d ≡ false
       as_before h = sym (ap (λ b. has old.writes.unstarted d || b) (ap (λ e. has old.writes.started d && not e) other ∙ and_true (has old.writes.started d))) ∙ h
 
-      not_true_is : (b : Bool) → not b ≡ true → b ≡ false
-      not_true_is true h = absurd (cc h)
-      not_true_is false h = refl
-
       by : (over ≡ true) ⊎ (over ≡ false) → is_owed_on old d ≡ false
       by (inr still) = as_before (sym (owed_new still d) ∙ owed)
-      by (inl done) =
-          let none : is_owed mid ≡ false = not_true_is (is_owed mid) (and_both (is_held mid) (not (is_owed mid)) done).1 in
-          let pvs : mid.group.pvs ≡ group.pvs = ap (λ (x : Updates). x.group.pvs) mid_is ∙ ap (λ (g : Descriptor). g.pvs) group_is in
-          as_before (sym (ap (λ (x : Updates). x.unstarted d || x.started d) mid_is)
-          ∙ not_owed_by (λ n. mid.unstarted n || mid.started n) group.pvs d member (subst (λ (rows : List PvRow). list_any (λ (r : PvRow). mid.unstarted r.disk || mid.started r.disk) rows ≡ false) pvs none))
+      by (inl done) = as_before (none_left done d member)

@@ -10,6 +10,7 @@ use Rattle.lvm_num.specs.Descriptor.{is_member}
 use Rattle.lvm_num.specs.Disks.{has}
 use Rattle.lvm_num.specs.Note.{IsNote}
 use Rattle.lvm_num.specs.Record.{Stamped}
+use Rattle.lvm_num.specs.Status.{calls_missing}
 use Rattle.lvm_vol.specs.Facts.{Fact}
 use Rattle.lvm_disk.specs.Device.{Flight, HasSectors, image_of}
 use Rattle.lvm_kept.specs.Contents.{Contents, contents_of}
@@ -30,17 +31,19 @@ use Rattle.lvm_invariant.specs.State.{Marks, State}
 use Rattle.lvm_invariant.specs.Good.{Good}
 use Rattle.lvm_crash.specs.Session.{Describes, as_marks, marks_of, members_there}
 use Rattle.lvm_tie_shelf.proofs.Quiet.{update_goes_on, updates_last}
+use Rattle.lvm_tie_shelf.proofs.Writing.{and_both}
 use Rattle.lvm_tie_shelf.specs.Owned.{OnlyUpdateSince}
 use Rattle.lvm_tie_shelf.specs.Records.{statuses_of}
-use Rattle.lvm_tie.proofs.Words.{clash, or_either}
+use Rattle.lvm_tie.proofs.Recorded.{records_last, shows_last, shows_update}
+use Rattle.lvm_tie.proofs.Words.{clash, not_true, or_either}
 use Rattle.lvm_tie.specs.Out.{AreNotes, CarriesStep, CarryTheirs, IsUpdateWrite, IsWriteOf, MayUpdate}
 use Rattle.lvm_tie.specs.Seen.{IsRequestAt, IsStepAt, Sees, update_of}
-use Rattle.lvm_tie.specs.Tied.{IsOrderly, IsTied}
+use Rattle.lvm_tie.specs.Tied.{IsOrderly, IsTied, ShowsRecords, ShowsStatus}
 use Rattle.lvm_tie_ends.proofs.Ended.{HasEnded}
 use Rattle.lvm_tie_reviews.specs.Near.{IsRunning}
 use Rattle.lvm_tie_reviews.proofs.CopyEnds.{ends_running, near_ties, with_end_status}
 use Rattle.lvm_tie_statuses.specs.Statuses.{StatusEndTies}
-use Rattle.lvm_tie_statuses.proofs.Learning.{committed_new, decided, flies_new, held_new, held_over, learned, lost_then, missing_then, none_started, none_written, over_new, owed_before, owed_beside, owed_still, stamp_then, written_new, written_then}
+use Rattle.lvm_tie_statuses.proofs.Learning.{all_written, committed_new, decided, flies_new, held_new, held_over, learned, lost_then, missing_then, none_started, none_written, over_committed, over_new, owed_before, owed_beside, owed_still, stamp_then, written_new, written_then}
 use Rattle.lvm_tie_statuses.proofs.Reviewed.{IsReviewed, after, core1, how, reviewed_alone, reviewed_committed, v1, was_there}
 use Rattle.lvm_tie_statuses.proofs.Update.{IsWritten, ended, its_row, kept, may_update, moves, slots_beside, stands_here, still_stands, written}
 
@@ -168,6 +171,10 @@ module _ (past : List Fact) (old new : Session) (index disk : ℕ) (ok : Bool) (
       by false badly had = before_it had
       by true well had = ⊎_elim before_it (here well) (or_either (has core.status.writes.written d) (d == disk) had)
 
+  recorded : (status.in_flight ≡ None → ShowsStatus group status now) → ShowsRecords group status now
+  recorded settled = records_last group core.status status (contents_of (image_of old.device.sizes tied.media)) now tied.records was_here
+      (λ d. ap (λ (c : Contents). c.descriptor d) (kept past old new index disk ok row buf its_owner returns tied).rest) settled
+
   module _ (reviewed : IsReviewed past old new index disk ok row buf its_owner returns tied learns) where
     abbrev v2 : State
     v2 = after past old new index disk ok row buf its_owner returns tied learns reviewed.committed reviewed.missing
@@ -212,8 +219,9 @@ module _ (past : List Fact) (old new : Session) (index disk : ℕ) (ok : Bool) (
     runs e is = let r = ends_running before e is in record { copy = r.copy; is_open = r.is_open; runs = r.runs }
 
     tied_with : (x : Option (Stamped Marks)) (write : Option RecordWrite) → Sees past core2 (record (with_update_in x) { open_copy = v.open_copy }) → Good tied.votes (with_update_in x)
-        → Describes (with_update_in x) v.facts group (update_of status) now → OnlyUpdateSince new.device write (update_of status) → IsWriteOf status learns.homes status.in_flight write → IsTied past new
-    tied_with x write sees_it good_it describes_it since update = subst (IsTied past) (sym whole) (near_ties past new.device core2 end (record {
+        → Describes (with_update_in x) v.facts group (update_of status) now → OnlyUpdateSince new.device write (update_of status) → IsWriteOf status learns.homes status.in_flight write
+        → (status.in_flight ≡ None → ShowsStatus group status now) → IsTied past new
+    tied_with x write sees_it good_it describes_it since update settled = subst (IsTied past) (sym whole) (near_ties past new.device core2 end (record {
       votes = tied.votes;
       are_votes = tied.are_votes;
       media = back.media;
@@ -234,6 +242,7 @@ module _ (past : List Fact) (old new : Session) (index disk : ℕ) (ok : Bool) (
       members = λ d member first. subst (λ (sizes : List ℕ). IsTrue (members_there (contents_of (image_of sizes back.media)) group d)) (sym back.sizes)
           (ap (λ (c : Contents). members_there c group d) (kept past old new index disk ok row buf its_owner returns tied).rest ∙ tied.members d member first);
       own = tied.own;
+      records = subst (λ (sizes : List ℕ). ShowsRecords group status (contents_of (image_of sizes back.media))) (sym back.sizes) (recorded settled);
     }) runs (orderly write update))
 
     flies : v.in_flight ≡ Some (as_marks u)
@@ -252,6 +261,7 @@ module _ (past : List Fact) (old new : Session) (index disk : ℕ) (ok : Bool) (
         (subst (λ (o : Option (Stamped Status)). Describes (with_update_in (Some (as_marks u))) v.facts group o now) (sym update_now) (subst (λ (o : Option (Stamped Marks)). Describes (with_update_in o) v.facts group (Some u) now) flies reviewed.describes))
         (subst (λ (o : Option (Stamped Status)). OnlyUpdateSince new.device (Some w) o) (sym update_now) (update_goes_on w u old.device new.device back.step (back.planned w) its.since))
         (subst (λ (m : Option Status). IsWriteOf status learns.homes m (Some w)) (sym in_flight) (update still))
+        (λ none. absurd (let e : None ≡ Some t = sym none ∙ in_flight in cc))
       where
         update : over ≡ false → IsUpdateWrite status learns.homes t w
         update still = record {
@@ -279,6 +289,15 @@ module _ (past : List Fact) (old new : Session) (index disk : ℕ) (ok : Bool) (
         (subst (λ (o : Option (Stamped Status)). Describes (with_update_in None) v.facts group o now) (sym no_update) last.1)
         (subst (λ (o : Option (Stamped Status)). OnlyUpdateSince new.device None o) (sym no_update) tt)
         (subst (λ (m : Option Status). IsWriteOf status learns.homes m None) (sym none) tt)
+        (λ over_now. record {
+          stands = u;
+          committed = sym (over_committed core.status stored status group disk ok t going.fitting.group going.status its.flies its.out.started learns.wants learns.ended learns.reviews.marks.rest done);
+          stated = λ d there.
+              let parts = and_both (is_member group d) (not (calls_missing status.wanted d)) there in
+              let present : calls_missing stored.wanted d ≡ false = sym (learns.reviews.marks.missing d) ∙ not_true (calls_missing status.wanted d) parts.1 in
+              shows_update v2 v.facts group u now reviewed.describes d (have d (all_written core.status stored status group disk ok t going.fitting.group going.status its.flies its.out.started learns.wants learns.ended learns.reviews.marks.rest done d parts.0 present));
+          last = shows_last tied.votes v2 v.facts group u now reviewed.describes reviewed.good.found (reviewed.held (held_over core.status stored status group disk ok t going.fitting.group going.status its.flies its.out.started learns.wants learns.ended learns.reviews.marks.rest done)) flies;
+        })
 
     reviewed_ties : IsTied past new
     reviewed_ties = ⊎_elim ends goes_on (decided over)

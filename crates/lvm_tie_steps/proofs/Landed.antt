@@ -45,9 +45,10 @@ use Rattle.lvm_tie_shelf.specs.Writing.{after_write}
 use Rattle.lvm_tie_shelf.proofs.Bringing.{read_leaves, step_ends}
 use Rattle.lvm_tie_shelf.proofs.Quiet.{update_goes_on}
 use Rattle.lvm_tie_shelf.proofs.Writing.{group_kept, records_same}
+use Rattle.lvm_tie.proofs.Recorded.{records_kept}
 use Rattle.lvm_tie.specs.Out.{CarriesStep, CarryTheirs, MayUpdate}
 use Rattle.lvm_tie.specs.Seen.{SeesHand, SeesStep, step_write_in, step_write_of, update_of}
-use Rattle.lvm_tie.specs.Tied.{IsTied}
+use Rattle.lvm_tie.specs.Tied.{IsTied, ShowsRecords}
 use Rattle.lvm_tie.proofs.Orderly.{AreOut, HaveTickets, IsCopyOut, IsOut, StepIsOut, out_of, tickets_of, valid_of}
 use Rattle.lvm_tie_ends.proofs.Ended.{HasEnded, IsRow, has_ended, is_row}
 use Rattle.lvm_tie_steps.proofs.Leaving.{Stands}
@@ -169,6 +170,7 @@ module _ (past : List Fact) (old new : Session) (at : ℕ) (row : Flown) (ok : B
     pub stands : Stands tied.votes core.descriptor (update_of core.status) now (copied v block open_copy None)
     pub next : MayUpdate core.descriptor core.status core.homes (image_of new.device.sizes ended.media)
     pub members : (d : ℕ) → is_member core.descriptor d ≡ true → calls_missing core.origin.table d ≡ false → IsTrue (members_there now core.descriptor d)
+    pub records : ShowsRecords core.descriptor core.status now
 
   pub since : (x : Option RecordWrite) (u : Option (Stamped Status)) → OnlyUpdateSince old.device x u → OnlyUpdateSince new.device x u
   since None None was = tt
@@ -203,8 +205,11 @@ module _ (past : List Fact) (old new : Session) (at : ℕ) (row : Flown) (ok : B
     pub read_members : (d : ℕ) → is_member core.descriptor d ≡ true → calls_missing core.origin.table d ≡ false → IsTrue (members_there now core.descriptor d)
     read_members d member first = subst (λ (i : Image). IsTrue (members_there (contents_of i) core.descriptor d)) (sym same_image) (tied.members d member first)
 
+    pub read_records : ShowsRecords core.descriptor core.status now
+    read_records = subst (λ (i : Image). ShowsRecords core.descriptor core.status (contents_of i)) (sym same_image) tied.records
+
     abbrev pub landed_read : HasLanded v.open_copy
-    landed_read = record { block = v.media.block; stands = read_stands; next = read_next; members = read_members }
+    landed_read = record { block = v.media.block; stands = read_stands; next = read_next; members = read_members; records = read_records }
 
   -- ---- a write
 
@@ -253,4 +258,6 @@ module _ (past : List Fact) (old new : Session) (at : ℕ) (row : Flown) (ok : B
               (subst (λ (sizes : List ℕ). SameRecords (image_of old.device.sizes tied.media) (image_of sizes ended.media)) (sym ended.sizes) same_below) whole tied.next;
           members = λ d member first. subst (λ (sizes : List ℕ). IsTrue (members_there (contents_of (image_of sizes ended.media)) core.descriptor d)) (sym ended.sizes)
               (ap (λ (x : Contents). members_there x core.descriptor d) kept.rest ∙ tied.members d member first);
+          records = subst (λ (sizes : List ℕ). ShowsRecords core.descriptor core.status (contents_of (image_of sizes ended.media))) (sym ended.sizes)
+              (records_kept core.descriptor core.status (image_of old.device.sizes tied.media) (image_of old.device.sizes ended.media) same_below tied.records);
         }

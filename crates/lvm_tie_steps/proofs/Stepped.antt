@@ -184,6 +184,7 @@ module _ (past : List Fact) (old new : Session) (at : ℕ) (row : Flown) (ok : B
           (aimed ((λ t. has_row core (same t)) ∙ r), λ source reads. absurd (let k : true ≡ false = sym (ap is_out reads) ∙ its.rests in cc));
       carry = carry_none new_core (record (copied v landed.block open_copy None) { queue = queue; name = name }) d new.device.flights (remove core.flying at) refl its.rests;
       members = landed.members;
+      records = landed.records;
       own = tied.own;
     }
 

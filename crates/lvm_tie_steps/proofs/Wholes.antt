@@ -46,7 +46,7 @@ use Rattle.lvm_tie.specs.Tied.{IsTied}
 use Rattle.lvm_tie.proofs.Judged.{IsOfItsPartition, stale_seen, wanted_seen}
 use Rattle.lvm_tie.proofs.Orderly.{valid_of}
 use Rattle.lvm_tie.proofs.StepBlocks.{groups_are}
-use Rattle.lvm_tie.proofs.Wanted.{next_same, sees_wanted, stamp_same, stays_open, update_same, write_same}
+use Rattle.lvm_tie.proofs.Wanted.{next_same, records_wanted, sees_wanted, stamp_same, stays_open, update_same, write_same}
 use Rattle.lvm_tie.proofs.Words.{any_one, clash, not_true, or_either}
 use Rattle.lvm_tie_steps.proofs.Leaving.{Stands, gone, gone_here, gone_there, quiet}
 use Rattle.lvm_tie_steps.proofs.Landed.{HasLanded, ended, now, q, since}
@@ -297,6 +297,7 @@ module _ (past : List Fact) (old new : Session) (at : ℕ) (tied : IsTied past o
     copy_aimed = λ x at_x r. absurd (let same_x : e ≡ x = (let k : Some e ≡ Some x = at_x in cc) in let k : true ≡ false = sym r ∙ (λ t. has_row core (sym same_x t)) ∙ no_row in cc);
     carry = carry_none on w e new.device.flights (Rattle.std.specs.List.remove core.flying at) refl refl;
     members = its_landed.members;
+    records = records_wanted core.status status rest same_missing core.descriptor (now past old new at event.row true event.buf tied event.returns event.own c event.is_open) its_landed.records;
     own = tied.own;
   }
 

@@ -75,4 +75,5 @@ counted past s counts tied sound = record {
   carry = tied.carry;
   members = tied.members;
   own = tied.own;
+  records = tied.records;
 }

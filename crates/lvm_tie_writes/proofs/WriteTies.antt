@@ -64,10 +64,11 @@ use Rattle.lvm_tie.proofs.Judged.{among_one, aimed_of, copy_is}
 use Rattle.lvm_tie.proofs.Orderly.{AreOut, Differ, HasTargets, HaveNumbers, HaveTickets, IsDataOut, IsOut, begun_by, numbers_of, open_one, out_of, targets_of, tickets_of, valid_of}
 use Rattle.lvm_tie.proofs.Tied.{DataParts, data_parts}
 use Rattle.lvm_tie.proofs.Words.{any_one, clash, its_pp, not_true, one_there, or_either, or_true, target_of}
-use Rattle.lvm_tie.proofs.Wanted.{next_same, sees_wanted, stamp_same, update_same, write_same}
+use Rattle.lvm_tie.proofs.Wanted.{next_same, records_wanted, sees_wanted, stamp_same, update_same, write_same}
+use Rattle.lvm_tie.proofs.Recorded.{records_kept}
 use Rattle.lvm_tie.specs.Out.{CarriesStep, CarryTheirs, IsWriteOf, MayUpdate}
 use Rattle.lvm_tie.specs.Seen.{Sees, SeesRequest, phase_seen, stage_at, stage_seen, update_of}
-use Rattle.lvm_tie.specs.Tied.{IsOrderly, IsTied}
+use Rattle.lvm_tie.specs.Tied.{IsOrderly, IsTied, ShowsRecords}
 use Rattle.lvm_tie_ends.proofs.Ended.{HasEnded, IsRow, has_ended, is_row}
 use Rattle.lvm_tie_ends.proofs.ReadTies.{read_end_ties}
 use Rattle.lvm_tie_writes.specs.Ends.{DataEndTies, WriteEndTies}
@@ -532,6 +533,9 @@ module _ (past : List Fact) (old new : Session) (index : ℕ) (ends : Ends old n
       members = λ d member first. subst (λ (sizes : List ℕ). IsTrue (members_there (contents_of (image_of sizes ended.media)) old.core.descriptor d)) (sym ended.sizes)
           (ap (λ (c : Contents). members_there c old.core.descriptor d) group_same.rest ∙ tied.members d member first);
       own = tied.own;
+      records = subst (λ (sizes : List ℕ). ShowsRecords old.core.descriptor status (contents_of (image_of sizes ended.media))) (sym ended.sizes)
+          (records_wanted core2.status status wants.rest wants.missing old.core.descriptor now
+          (records_kept old.core.descriptor old.core.status (image_of old.device.sizes tied.media) (image_of old.device.sizes ended.media) same_records tied.records));
     }
 
     runs : (h : CopyEnd) → how ≡ Some h → IsRunning core3

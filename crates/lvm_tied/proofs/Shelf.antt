@@ -1,5 +1,5 @@
 -- The shelf of a session that has just begun.
-use Rattle.std.proofs.Common.{◌≡◌, ℕ, zero, suc, ◌+◌, ◌<◌, Bool, true, false, ◌&&◌, ◌||◌, ◌==◌, List, [], ◌∷◌, length, take, refl, sym, ap, subst, ◌∙◌, arith, eqb-true}
+use Rattle.std.proofs.Common.{◌≡◌, inr, ℕ, zero, suc, ◌+◌, ◌<◌, Bool, true, false, ◌&&◌, ◌||◌, ◌==◌, List, [], ◌∷◌, length, take, Some, refl, sym, ap, subst, ◌∙◌, arith, eqb-true}
 use Rattle.std.specs.Prelude.{IsTrue, nat_lt, slice_index, if◌then◌else◌}
 use Rattle.std.specs.List.{list_all}
 use Rattle.std.proofs.lemmas.Bool.Decides.{nat_tests}
@@ -14,8 +14,8 @@ use Rattle.lvm_num.specs.Record.{frame, slot_start, slot_size, kind_magic, stamp
 use Rattle.lvm_num.specs.Torn.{stamp_of}
 use Rattle.lvm_num.specs.StatusBytes.{status_of}
 use Rattle.lvm_rec.specs.Slots.{slot_for, slot_to_write}
-use Rattle.lvm_kept.specs.Contents.{contents_of}
-use Rattle.lvm_kept.specs.Examples.{two}
+use Rattle.lvm_kept.specs.Contents.{contents_of, descriptor_on, status_on}
+use Rattle.lvm_kept.specs.Examples.{either_of, stamped, two}
 use Rattle.lvm_kept.specs.Group.{has_room, is_of, passes}
 use Rattle.lvm_kept.proofs.Standing.{zeros-sector}
 use Rattle.lvm_stamps.specs.Behind.{StampsBefore}
@@ -23,12 +23,13 @@ use Rattle.lvm_stamps.specs.Laws.{IsWhole}
 use Rattle.lvm_commit.specs.Committed.{next_stamp}
 use Rattle.lvm_write.specs.Homes.{next_slot}
 use Rattle.lvm_crash.specs.Session.{members_there}
-use Rattle.lvm_crash.specs.Worked.{Shown, framed_group, framed_status, media_of}
-use Rattle.lvm_crash.proofs.Worked.{base}
+use Rattle.lvm_crash.specs.Worked.{Shown, framed_group, framed_status, media_of, status_shown}
+use Rattle.lvm_crash.proofs.Worked.{base, behind}
 use Rattle.lvm_crash.proofs.Lists.{left_of, right_of}
-use Rattle.lvm_crash.proofs.WorkedShelf.{image, not-equal, no-magic, second_zero, status_held, status_none, descriptors}
+use Rattle.lvm_crash.proofs.WorkedShelf.{image, not-equal, no-magic, second_zero, status_held, status_none, statuses_on, the_status, descriptors}
 use Rattle.lvm_sound.proofs.Small.{not_so, not_either}
 use Rattle.lvm_tie.specs.Out.{MayUpdate}
+use Rattle.lvm_tie.specs.Tied.{ShowsRecords}
 use Rattle.lvm_tied.specs.Worked.{shown, core_of}
 
 -- ---- sectors
@@ -125,3 +126,19 @@ module _ (mode : Mode) (stale : Bool) where
 
   pub members : (d : ℕ) → is_member (two mode) d ≡ true → IsTrue (members_there (contents_of (image w)) (two mode) d)
   members d is = at_both mode (λ (n : ℕ). IsTrue (members_there (contents_of (image w)) (two mode) n)) (shows_group 0 refl) (shows_group 1 refl) d is
+
+  -- ---- records
+
+  pub records : ShowsRecords (two mode) (core_of mode stale).status (contents_of (image w))
+  records = record {
+    descriptor = stamped 2 (two mode);
+    value = refl;
+    described = λ d there. at_both mode (λ (n : ℕ). descriptor_on (image w) n ≡ Some (stamped 2 (two mode))) (descriptors w 0) (descriptors w 1) d (left_of (is_member (two mode) d) _ there);
+    latest = λ d r is own. inr (behind (either_of 0 1 d) (stamped 2 (two mode)) r (sym (descriptors w d) ∙ is));
+    settled = λ none. record {
+      stands = status_shown w;
+      committed = refl;
+      stated = λ d there. at_both mode (λ (n : ℕ). status_on (image w) n ≡ Some (status_shown w)) (statuses_on w 0) (statuses_on w 1) d (left_of (is_member (two mode) d) _ there);
+      last = λ d r is own. inr (the_status w d r is);
+    };
+  }

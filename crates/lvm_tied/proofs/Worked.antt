@@ -6,7 +6,7 @@ use Rattle.lvm_crash.proofs.Worked.{groups_have_votes}
 use Rattle.lvm_tied.specs.Worked.{shown, BeginningsAreTied}
 use Rattle.lvm_tied.proofs.Parts.{no_note_flies, is_sound}
 use Rattle.lvm_tied.proofs.Seen.{seen_as, is_good, it_describes, sees}
-use Rattle.lvm_tied.proofs.Shelf.{may_update, members}
+use Rattle.lvm_tied.proofs.Shelf.{may_update, members, records}
 
 none_flies : {A X : Type 0} (o : Option A) (x : A) → o ≡ None → o ≡ Some x → X
 none_flies None x none some = absurd cc
@@ -31,4 +31,5 @@ beginnings_are_tied mode stale = let votes = groups_have_votes (two mode) in rec
   carry = tt;
   members = λ d is there. members mode stale d is;
   own = refl;
+  records = records mode stale;
 }
