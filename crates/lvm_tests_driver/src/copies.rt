@@ -36,6 +36,35 @@ fn are_there<S: Shelf>(rt: &impl Abort, driver: &mut Driver<S>) -> bool {
     there
 }
 
+// The second copy is brought up.
+fn bring_up<S: Shelf + Drop>(rt: &impl Abort, driver: Driver<S>) {
+    let mut driver = driver;
+    check(
+        rt,
+        written(rt, &mut driver, 255, 7) == Taken::Done,
+        "on one copy",
+    );
+    check(rt, open_copy(rt, &mut driver, 1, 0, 2) == Ok(()), "opened");
+    let first = CopyState::Running { cursor: 0 };
+    check(rt, driver.copy_state() == first, "it is at the first");
+    write_all(rt, &mut driver);
+    check(rt, drain(rt, &mut driver) == Ok(()), "all is done");
+    check(rt, close_copy(&mut driver) == CopyState::Done, "brought up");
+    check(rt, !is_stale(&driver, 1), "fresh");
+    order(rt, &mut driver, Arrange::Fail(0));
+    check(
+        rt,
+        are_there(rt, &mut driver),
+        "what was written stands on it",
+    );
+    check(
+        rt,
+        got(rt, &mut driver, 255) == Ok(7),
+        "what stood before too",
+    );
+    close(rt, driver);
+}
+
 #[test]
 fn a_copy_is_brought_up_beside_writes(rt: HostRuntime) {
     for mode in MODES {
@@ -45,76 +74,53 @@ fn a_copy_is_brought_up_beside_writes(rt: HostRuntime) {
                 pool,
                 ..STALE
             };
-            let mut driver = begin(&rt, &setup, &[]);
-            check(
-                &rt,
-                written(&rt, &mut driver, 255, 7) == Taken::Done,
-                "on one copy",
-            );
-            check(
-                &rt,
-                open_copy(&rt, &mut driver, 1, 0, 2) == Ok(()),
-                "opened",
-            );
-            check(
-                &rt,
-                driver.copy_state() == CopyState::Running { cursor: 0 },
-                "it is at the first",
-            );
-            write_all(&rt, &mut driver);
-            check(&rt, drain(&rt, &mut driver) == Ok(()), "all is done");
-            check(
-                &rt,
-                close_copy(&mut driver) == CopyState::Done,
-                "brought up",
-            );
-            check(&rt, !is_stale(&driver, 1), "fresh");
-            order(&rt, &mut driver, Arrange::Fail(0));
-            check(
-                &rt,
-                are_there(&rt, &mut driver),
-                "what was written stands on it",
-            );
-            check(
-                &rt,
-                got(&rt, &mut driver, 255) == Ok(7),
-                "what stood before too",
-            );
-            close(&rt, driver);
+            bring_up(&rt, begin(&rt, &setup, &[]));
         }
     }
 }
 
-#[test]
-fn copies_are_refused_in_their_order(rt: HostRuntime) {
-    let mut driver = begin(&rt, &STALE, &[]);
-    let cases = [
-        (2, 0, 2, CopyFault::NoVolume),
-        (1, 1, 2, CopyFault::OutOfRange),
-        (1, 0, 0, CopyFault::OutOfRange),
-        (1, 0, 3, CopyFault::OutOfRange),
-        (1, 0, 1, CopyFault::AlreadyFresh),
-    ];
-    for (lv, lp, number, why) in cases {
-        check(
-            &rt,
-            open_copy(&rt, &mut driver, lv, lp, number) == Err(why),
-            "refused",
-        );
-    }
+fn is_refused<S: Shelf>(
+    rt: &impl Abort,
+    driver: &mut Driver<S>,
+    copy: (u16, u32, u8),
+    why: CopyFault,
+) {
+    let (lv, lp, number) = copy;
     check(
-        &rt,
-        open_copy(&rt, &mut driver, 1, 0, 2) == Ok(()),
-        "opened",
-    );
-    check(
-        &rt,
-        open_copy(&rt, &mut driver, 2, 0, 2) == Err(CopyFault::Busy),
-        "one at a time",
+        rt,
+        open_copy(rt, driver, lv, lp, number) == Err(why),
+        "refused",
     );
 }
 
-// How a copy ends on whose disk writes fail from this call on, and whether it is stale then.
+fn are_refused<S: Shelf + Drop>(rt: &impl Abort, driver: Driver<S>) {
+    let mut driver = driver;
+    is_refused(rt, &mut driver, (2, 0, 2), CopyFault::NoVolume);
+    is_refused(rt, &mut driver, (1, 1, 2), CopyFault::OutOfRange);
+    is_refused(rt, &mut driver, (1, 0, 0), CopyFault::OutOfRange);
+    is_refused(rt, &mut driver, (1, 0, 3), CopyFault::OutOfRange);
+    is_refused(rt, &mut driver, (1, 0, 1), CopyFault::AlreadyFresh);
+    check(rt, open_copy(rt, &mut driver, 1, 0, 2) == Ok(()), "opened");
+    is_refused(rt, &mut driver, (2, 0, 2), CopyFault::Busy);
+}
+
+#[test]
+fn copies_are_refused_in_their_order(rt: HostRuntime) {
+    are_refused(&rt, begin(&rt, &STALE, &[]));
+}
+
+// How the second copy ends, and whether it is stale then.
+fn end_of<S: Shelf + Drop>(rt: &impl Abort, driver: Driver<S>) -> (CopyState, bool) {
+    let mut driver = driver;
+    check(rt, open_copy(rt, &mut driver, 1, 0, 2) == Ok(()), "opened");
+    check(rt, drain(rt, &mut driver) == Ok(()), "all is done");
+    let state = close_copy(&mut driver);
+    let stale = is_stale(&driver, 1);
+    close(rt, driver);
+    (state, stale)
+}
+
+// The same, where its disk fails from this call on.
 fn failing(rt: &(impl Abort + AllocGlobal), call: u64) -> (CopyState, bool) {
     let setup = Setup {
         mode: Mode::Off,
@@ -124,13 +130,7 @@ fn failing(rt: &(impl Abort + AllocGlobal), call: u64) -> (CopyState, bool) {
         call,
         act: Act::Fail(1),
     }];
-    let mut driver = begin(rt, &setup, &fails);
-    check(rt, open_copy(rt, &mut driver, 1, 0, 2) == Ok(()), "opened");
-    check(rt, drain(rt, &mut driver) == Ok(()), "all is done");
-    let state = close_copy(&mut driver);
-    let stale = is_stale(&driver, 1);
-    close(rt, driver);
-    (state, stale)
+    end_of(rt, begin(rt, &setup, &fails))
 }
 
 // Eight track groups are read and written in four calls each. The status that clears the copy is then started on three

@@ -38,16 +38,12 @@ fn end_of(setup: &Setup, disk: u16) -> u64 {
     }
 }
 
-// A write of two copies, of which one is on a disk that fails at this call: whether that copy is stale. It is done all
-// the same, and can be read from each copy that isn't.
-fn goes_stale(rt: &(impl Abort + AllocGlobal), setup: &Setup, disk: u16, call: u64) -> bool
+// A write of two copies, of which one is on a disk that fails: whether that copy is stale. It is done all the same, and
+// can be read from each copy that isn't.
+fn is_stale_after<S: Shelf + Drop>(rt: &impl Abort, driver: Driver<S>, disk: u16) -> bool
     requires { disk < 2 }
 {
-    let fails = [Planned {
-        call,
-        act: Act::Fail(disk),
-    }];
-    let mut driver = begin(rt, setup, &fails);
+    let mut driver = driver;
     let done = written(rt, &mut driver, 3, 9) == Taken::Done;
     let stale = is_stale(&driver, disk);
     check(rt, done && !is_stale(&driver, 1 - disk), "it is done");
@@ -62,6 +58,17 @@ fn goes_stale(rt: &(impl Abort + AllocGlobal), setup: &Setup, disk: u16, call: u
     );
     close(rt, driver);
     stale
+}
+
+// The same, where the disk fails from this call on.
+fn goes_stale(rt: &(impl Abort + AllocGlobal), setup: &Setup, disk: u16, call: u64) -> bool
+    requires { disk < 2 }
+{
+    let fails = [Planned {
+        call,
+        act: Act::Fail(disk),
+    }];
+    is_stale_after(rt, begin(rt, setup, &fails), disk)
 }
 
 #[test]
@@ -102,6 +109,26 @@ fn all_fail(copies: u8, word: u64) -> [Planned; 7] {
     ]
 }
 
+// A write that all of so many copies fail, on which this stands afterwards.
+fn is_lost<S: Shelf + Drop>(rt: &impl Abort, driver: Driver<S>, copies: u8, stands: u64) {
+    let mut driver = driver;
+    check(rt, written(rt, &mut driver, 5, 9) == Taken::Lost, "lost");
+    check(rt, !is_stale(&driver, 0), "the first copy stays fresh");
+    check(
+        rt,
+        is_stale(&driver, 1) == (copies > 1),
+        "the second doesn't",
+    );
+    check(
+        rt,
+        is_stale(&driver, 2) == (copies > 2),
+        "nor does the third",
+    );
+    check(rt, got(rt, &mut driver, 5) == Ok(stands), "old or new");
+    check(rt, got(rt, &mut driver, 5) == Ok(stands), "and it stays so");
+    close(rt, driver);
+}
+
 #[test]
 fn a_write_that_no_copy_took_is_lost(rt: HostRuntime) {
     for copies in 1..4 {
@@ -111,23 +138,32 @@ fn a_write_that_no_copy_took_is_lost(rt: HostRuntime) {
                 copies,
                 ..MIRROR
             };
-            let mut driver = begin(&rt, &setup, &all_fail(copies, word));
-            check(&rt, written(&rt, &mut driver, 5, 9) == Taken::Lost, "lost");
-            let stale = [0, 1, 2].map(|disk| is_stale(&driver, disk));
-            check(
-                &rt,
-                stale == [false, copies > 1, copies > 2],
-                "the first copy stays fresh",
-            );
-            check(&rt, got(&rt, &mut driver, 5) == Ok(stands), "old or new");
-            check(
-                &rt,
-                got(&rt, &mut driver, 5) == Ok(stands),
-                "and it stays so",
-            );
-            close(&rt, driver);
+            let driver = begin(&rt, &setup, &all_fail(copies, word));
+            is_lost(&rt, driver, copies, stands);
         }
     }
+}
+
+fn goes_off<S: Shelf + Drop>(rt: &impl Abort, driver: Driver<S>) {
+    let mut driver = driver;
+    order(rt, &mut driver, Arrange::Fail(0));
+    order(rt, &mut driver, Arrange::Fail(1));
+    check(rt, written(rt, &mut driver, 0, 1) == Taken::Off, "off");
+    check(rt, driver.votes() == (1, 3), "one vote of three");
+    let off = Err(DrainFault::WentOff { have: 1, total: 3 });
+    check(rt, drain(rt, &mut driver) == off, "it went off");
+    check(rt, turn(rt, &mut driver) == Turned::Off, "nothing is made");
+    check(
+        rt,
+        write(rt, &mut driver, 0, 1) == Err(AskFault::Off),
+        "nothing is taken",
+    );
+    check(
+        rt,
+        open_copy(rt, &mut driver, 1, 0, 1) == Err(CopyFault::Off),
+        "nothing is opened",
+    );
+    close(rt, driver);
 }
 
 #[test]
@@ -137,38 +173,12 @@ fn without_its_votes_the_session_is_over(rt: HostRuntime) {
         copies: 3,
         ..MIRROR
     };
-    let mut driver = begin(&rt, &setup, &[]);
-    order(&rt, &mut driver, Arrange::Fail(0));
-    order(&rt, &mut driver, Arrange::Fail(1));
-    check(&rt, written(&rt, &mut driver, 0, 1) == Taken::Off, "off");
-    check(&rt, driver.votes() == (1, 3), "one vote of three");
-    let off = Err(DrainFault::WentOff { have: 1, total: 3 });
-    check(&rt, drain(&rt, &mut driver) == off, "it went off");
-    check(
-        &rt,
-        turn(&rt, &mut driver) == Turned::Off,
-        "nothing is made",
-    );
-    check(
-        &rt,
-        write(&rt, &mut driver, 0, 1) == Err(AskFault::Off),
-        "nothing is taken",
-    );
-    check(
-        &rt,
-        open_copy(&rt, &mut driver, 1, 0, 1) == Err(CopyFault::Off),
-        "nothing is opened",
-    );
-    close(&rt, driver);
+    goes_off(&rt, begin(&rt, &setup, &[]));
 }
 
-// How a write ends whose power is cut at this call, and how the session does.
-fn cut_at(rt: &(impl Abort + AllocGlobal), mode: Mode, word: u64, call: u64) -> (Taken, Turned) {
-    let cut = [Planned {
-        call,
-        act: Act::Cut(word),
-    }];
-    let mut driver = begin(rt, &Setup { mode, ..MIRROR }, &cut);
+// How a write ends, and how the session does then.
+fn ending<S: Shelf + Drop>(rt: &impl Abort, driver: Driver<S>) -> (Taken, Turned) {
+    let mut driver = driver;
     let taken = written(rt, &mut driver, 5, 9);
     let ended = turn(rt, &mut driver);
     if ended == Turned::Dark {
@@ -185,6 +195,15 @@ fn cut_at(rt: &(impl Abort + AllocGlobal), mode: Mode, word: u64, call: u64) -> 
     }
     close(rt, driver);
     (taken, ended)
+}
+
+// The same, where the power is cut at this call.
+fn cut_at(rt: &(impl Abort + AllocGlobal), mode: Mode, word: u64, call: u64) -> (Taken, Turned) {
+    let cut = [Planned {
+        call,
+        act: Act::Cut(word),
+    }];
+    ending(rt, begin(rt, &Setup { mode, ..MIRROR }, &cut))
 }
 
 #[test]

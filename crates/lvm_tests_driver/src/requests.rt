@@ -83,6 +83,23 @@ fn one_buffer_is_enough(rt: HostRuntime) {
     }
 }
 
+// There is room for two requests.
+fn fill_table<S: Shelf + Drop>(rt: &impl Abort, driver: Driver<S>) {
+    let mut driver = driver;
+    let full = Err(AskFault::TableFull { held: 2 });
+    check(rt, write(rt, &mut driver, 1, 1) == Ok(1), "numbered from 1");
+    check(rt, write(rt, &mut driver, 2, 2) == Ok(2), "in their order");
+    check(rt, write(rt, &mut driver, 3, 3) == full, "full");
+    check(rt, drain(rt, &mut driver) == Ok(()), "both are done");
+    check(
+        rt,
+        read(rt, &mut driver, 3) == full,
+        "until an answer is taken",
+    );
+    check(rt, driver.take(1, 1) == Taken::Done, "taken");
+    check(rt, read(rt, &mut driver, 3) == Ok(3), "there is room again");
+}
+
 #[test]
 fn a_full_table_takes_no_more(rt: HostRuntime) {
     let setup = Setup {
@@ -90,28 +107,7 @@ fn a_full_table_takes_no_more(rt: HostRuntime) {
         table: 2,
         ..MIRROR
     };
-    let mut driver = begin(&rt, &setup, &[]);
-    for id in 1..3 {
-        check(
-            &rt,
-            write(&rt, &mut driver, id, id) == Ok(id),
-            "numbered from 1",
-        );
-    }
-    let full = Err(AskFault::TableFull { held: 2 });
-    check(&rt, write(&rt, &mut driver, 3, 3) == full, "full");
-    check(&rt, drain(&rt, &mut driver) == Ok(()), "both are done");
-    check(
-        &rt,
-        read(&rt, &mut driver, 3) == full,
-        "until an answer is taken",
-    );
-    check(&rt, driver.take(1, 1) == Taken::Done, "taken");
-    check(
-        &rt,
-        read(&rt, &mut driver, 3) == Ok(3),
-        "there is room again",
-    );
+    fill_table(&rt, begin(&rt, &setup, &[]));
 }
 
 // How many transfers are out at most before the first request has landed.
