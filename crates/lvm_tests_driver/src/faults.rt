@@ -1,0 +1,226 @@
+//! Disks that fail, and power that is cut.
+ghost use Rattle.std.specs.Prelude.{◌≤◌, ◌<◌};
+
+use crate::fixtures::{
+    MIRROR, MODES, POLICIES, Setup, begin, check, close, drain, got, is_stale, open_copy, order,
+    turn, write, written,
+};
+use lvm_disk::{Arrange, Shelf};
+use lvm_driver::{DrainFault, Driver};
+use lvm_events::{AskFault, CopyFault, Taken, Turned};
+use lvm_faults::{Act, Planned};
+use lvm_num::{Mode, Policy};
+use std::process::Abort;
+
+const WORDS: [u64; 3] = [0, 0x5555_5555_5555_5555, u64::MAX];
+
+// The calls of a write of two copies, of which the last two end its transfers. It takes four. An active one takes four
+// before them for its notes; a passive one six for the status, the last of which goes on beside the data.
+fn calls_of(mode: Mode) -> u64
+    ensures { (4 ≤ result) × (result ≤ 10) }
+{
+    match mode {
+        Mode::Active => 8,
+        Mode::Passive => 10,
+        Mode::Off => 4,
+    }
+}
+
+// The call at which the transfer to a copy ends.
+fn end_of(setup: &Setup, disk: u16) -> u64 {
+    let calls = calls_of(setup.mode);
+    if disk == 1 {
+        calls
+    } else if setup.policy == Policy::Sequential {
+        calls - 2
+    } else {
+        calls - 1
+    }
+}
+
+// A write of two copies, of which one is on a disk that fails: whether that copy is stale. It is done all the same, and
+// can be read from each copy that isn't.
+fn is_stale_after<S: Shelf + Drop>(rt: &impl Abort, driver: Driver<S>, disk: u16) -> bool
+    requires { disk < 2 }
+{
+    let mut driver = driver;
+    let done = written(rt, &mut driver, 3, 9) == Taken::Done;
+    let stale = is_stale(&driver, disk);
+    check(rt, done && !is_stale(&driver, 1 - disk), "it is done");
+    check(rt, got(rt, &mut driver, 3) == Ok(9), "it is read");
+    order(rt, &mut driver, Arrange::Heal(disk));
+    order(rt, &mut driver, Arrange::Fail(1 - disk));
+    let alone = if stale { Err(Taken::ReadFailed) } else { Ok(9) };
+    check(
+        rt,
+        got(rt, &mut driver, 3) == alone,
+        "it is read from the one copy",
+    );
+    close(rt, driver);
+    stale
+}
+
+// The same, where the disk fails from this call on.
+fn goes_stale(rt: &(impl Abort + AllocGlobal), setup: &Setup, disk: u16, call: u64) -> bool
+    requires { disk < 2 }
+{
+    let fails = [Planned {
+        call,
+        act: Act::Fail(disk),
+    }];
+    is_stale_after(rt, begin(rt, setup, &fails), disk)
+}
+
+#[test]
+fn a_copy_that_a_write_fails_on_is_stale(rt: HostRuntime) {
+    for mode in MODES {
+        for policy in POLICIES {
+            for disk in 0..2 {
+                let setup = Setup {
+                    mode,
+                    policy,
+                    ..MIRROR
+                };
+                for call in 1..calls_of(mode) + 2 {
+                    let fails = call <= end_of(&setup, disk);
+                    check(
+                        &rt,
+                        goes_stale(&rt, &setup, disk, call) == fails,
+                        "where it failed in time",
+                    );
+                }
+            }
+        }
+    }
+}
+
+// All disks fail until the transfers of a write have ended, and what fails writes these sectors.
+fn all_fail(copies: u8, word: u64) -> [Planned; 7] {
+    let healed = 2 * u64::from(copies) + 1;
+    let at = |call: u64, act: Act| Planned { call, act };
+    [
+        at(1, Act::Pick(word)),
+        at(1, Act::Fail(0)),
+        at(1, Act::Fail(1)),
+        at(1, Act::Fail(2)),
+        at(healed, Act::Heal(0)),
+        at(healed, Act::Heal(1)),
+        at(healed, Act::Heal(2)),
+    ]
+}
+
+// A write that all of so many copies fail, on which this stands afterwards.
+fn is_lost<S: Shelf + Drop>(rt: &impl Abort, driver: Driver<S>, copies: u8, stands: u64) {
+    let mut driver = driver;
+    check(rt, written(rt, &mut driver, 5, 9) == Taken::Lost, "lost");
+    check(rt, !is_stale(&driver, 0), "the first copy stays fresh");
+    check(
+        rt,
+        is_stale(&driver, 1) == (copies > 1),
+        "the second doesn't",
+    );
+    check(
+        rt,
+        is_stale(&driver, 2) == (copies > 2),
+        "nor does the third",
+    );
+    check(rt, got(rt, &mut driver, 5) == Ok(stands), "old or new");
+    check(rt, got(rt, &mut driver, 5) == Ok(stands), "and it stays so");
+    close(rt, driver);
+}
+
+#[test]
+fn a_write_that_no_copy_took_is_lost(rt: HostRuntime) {
+    for copies in 1..4 {
+        for (word, stands) in [(0, 0), (u64::MAX, 9)] {
+            let setup = Setup {
+                mode: Mode::Off,
+                copies,
+                ..MIRROR
+            };
+            let driver = begin(&rt, &setup, &all_fail(copies, word));
+            is_lost(&rt, driver, copies, stands);
+        }
+    }
+}
+
+fn goes_off<S: Shelf + Drop>(rt: &impl Abort, driver: Driver<S>) {
+    let mut driver = driver;
+    order(rt, &mut driver, Arrange::Fail(0));
+    order(rt, &mut driver, Arrange::Fail(1));
+    check(rt, written(rt, &mut driver, 0, 1) == Taken::Off, "off");
+    check(rt, driver.votes() == (1, 3), "one vote of three");
+    let off = Err(DrainFault::WentOff { have: 1, total: 3 });
+    check(rt, drain(rt, &mut driver) == off, "it went off");
+    check(rt, turn(rt, &mut driver) == Turned::Off, "nothing is made");
+    check(
+        rt,
+        write(rt, &mut driver, 0, 1) == Err(AskFault::Off),
+        "nothing is taken",
+    );
+    check(
+        rt,
+        open_copy(rt, &mut driver, 1, 0, 1) == Err(CopyFault::Off),
+        "nothing is opened",
+    );
+    close(rt, driver);
+}
+
+#[test]
+fn without_its_votes_the_session_is_over(rt: HostRuntime) {
+    let setup = Setup {
+        mode: Mode::Off,
+        copies: 3,
+        ..MIRROR
+    };
+    goes_off(&rt, begin(&rt, &setup, &[]));
+}
+
+// How a write ends, and how the session does then.
+fn ending<S: Shelf + Drop>(rt: &impl Abort, driver: Driver<S>) -> (Taken, Turned) {
+    let mut driver = driver;
+    let taken = written(rt, &mut driver, 5, 9);
+    let ended = turn(rt, &mut driver);
+    if ended == Turned::Dark {
+        check(
+            rt,
+            write(rt, &mut driver, 5, 9) == Err(AskFault::Dark),
+            "nothing is taken",
+        );
+        check(
+            rt,
+            drain(rt, &mut driver) == Err(DrainFault::Dark),
+            "nothing is made",
+        );
+    }
+    close(rt, driver);
+    (taken, ended)
+}
+
+// The same, where the power is cut at this call.
+fn cut_at(rt: &(impl Abort + AllocGlobal), mode: Mode, word: u64, call: u64) -> (Taken, Turned) {
+    let cut = [Planned {
+        call,
+        act: Act::Cut(word),
+    }];
+    ending(rt, begin(rt, &Setup { mode, ..MIRROR }, &cut))
+}
+
+#[test]
+fn a_cut_ends_the_session(rt: HostRuntime) {
+    for mode in MODES {
+        for word in WORDS {
+            let calls = calls_of(mode);
+            for call in 1..calls + 1 {
+                let ended = cut_at(&rt, mode, word, call);
+                check(&rt, ended == (Taken::Dark, Turned::Dark), "dark");
+            }
+            let ended = cut_at(&rt, mode, word, calls + 1);
+            check(
+                &rt,
+                ended == (Taken::Done, Turned::Idle),
+                "it has landed before",
+            );
+        }
+    }
+}
