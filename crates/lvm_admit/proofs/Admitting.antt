@@ -10,8 +10,8 @@ use Rattle.lvm_path.specs.Asks.{lv_of}
 use Rattle.lvm_session.specs.declared.open.Open.{Open}
 use Rattle.lvm_session.specs.State.{State, state}
 use Rattle.lvm_session.specs.Judging.{group_of, mode_of, next_for, policy_of}
-use Rattle.lvm_events.specs.Events.{Admits, Chooses, admitted_as, last_after, makes_dirty}
-use Rattle.lvm_events.specs.Marks.{WantsDirtyIf}
+use Rattle.lvm_session.specs.Events.{Admits, Chooses, admitted_as, last_after, makes_dirty}
+use Rattle.lvm_session.specs.Marks.{WantsDirtyIf}
 
 -- o is the request as it is read, w as it is written, and l as it is admitted
 module _ (old : State) (place : ℕ) (o : Open) (there : slice_get old.core.requests place ≡ Some o) (admits : next_for old.core o ≡ next.Admit) where

@@ -1,3 +1,2 @@
 mod Copies
-pub mod Numbers
 mod Admitting

@@ -3,9 +3,9 @@ use Rattle.std.specs.Prelude.{◌≤◌, ◌<◌, ℕ, List, length}
 use Rattle.lvm_num.specs.declared.place.Pp.{Pp}
 use Rattle.lvm_disk.specs.Device.{Device}
 use Rattle.lvm_session.specs.State.{Core}
-use Rattle.lvm_events.specs.Events.{copy_of}
-use Rattle.lvm_sound.specs.Placed.{ArePlaced}
-use Rattle.lvm_sound.specs.Sound.{IsGoing}
+use Rattle.lvm_session.specs.Events.{copy_of}
+use Rattle.lvm_session.specs.Placed.{ArePlaced}
+use Rattle.lvm_session.specs.Sound.{IsGoing}
 
 -- The members that aren't missing are on the shelf, and as many transfers are out as there may be buffers.
 pub record MayChoose (device : Device) (core : Core) : Type 0 where

@@ -6,7 +6,7 @@ ghost use Rattle.lvm_num.specs.Geometry.{sector_of};
 ghost use Rattle.lvm_session.specs.Fields.{core_of};
 ghost use Rattle.lvm_session.specs.Judging.{IsWithin, aims, is_caught, is_usable};
 ghost use Rattle.lvm_session.specs.State.{state};
-ghost use Rattle.lvm_events.specs.Events.{target_at};
+ghost use Rattle.lvm_session.specs.Events.{target_at};
 ghost use Rattle.lvm_admit.specs.Choosing.{IsThere, MayChoose};
 
 use arrayvec::ArrayVec;

@@ -6,7 +6,7 @@ ghost use Rattle.lvm_num.specs.Descriptor.{is_size};
 ghost use Rattle.lvm_session.specs.Fields.{core_of};
 ghost use Rattle.lvm_session.specs.Judging.{IsWithin};
 ghost use Rattle.lvm_session.specs.State.{state};
-ghost use Rattle.lvm_events.specs.Events.{IsReading, copy_of, load_on, loads_of, target_at, usable_from};
+ghost use Rattle.lvm_session.specs.Events.{IsReading, copy_of, load_on, loads_of, target_at, usable_from};
 ghost use Rattle.lvm_admit.specs.Choosing.{IsCopyThere, MayChoose};
 
 use crate::aiming::target_at;

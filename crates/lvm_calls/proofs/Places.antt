@@ -10,9 +10,9 @@ use Rattle.lvm_vol.specs.Log.{Log, is_answered, taken_fact, with_fact}
 use Rattle.lvm_path.specs.Asks.{count_of}
 use Rattle.lvm_session.specs.declared.open.Open.{Open}
 use Rattle.lvm_session.specs.State.{Core}
-use Rattle.lvm_events.specs.declared.answers.Taken.{Taken}
-use Rattle.lvm_events.specs.Calls.{TakesLanded, is_asked, taken_as}
-use Rattle.lvm_sound.specs.Sound.{IsAsked}
+use Rattle.lvm_session.specs.declared.answers.Taken.{Taken}
+use Rattle.lvm_session.specs.Calls.{TakesLanded, is_asked, taken_as}
+use Rattle.lvm_session.specs.Sound.{IsAsked}
 
 -- what holds of each holds of the one at a place
 at_place : (P : Open → Type 0) (os : List Open) (k : ℕ) (o : Open) → AllByRecursion P os → slice_get os k ≡ Some o → P o

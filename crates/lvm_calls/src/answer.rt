@@ -3,11 +3,10 @@ ghost use Rattle.std.specs.Prelude.{◌≡◌, Some, position};
 ghost use Rattle.lvm_session.specs.declared.open.Open.{Open};
 ghost use Rattle.lvm_session.specs.Fields.{core_of};
 ghost use Rattle.lvm_session.specs.Rooms.{SameRooms};
-ghost use Rattle.lvm_events.specs.Calls.{TakeAt, TakeGives, is_asked, taken_as};
-ghost use Rattle.lvm_sound.specs.Sound.{IsTold};
+ghost use Rattle.lvm_session.specs.Calls.{TakeAt, TakeGives, is_asked, taken_as};
+ghost use Rattle.lvm_session.specs.Sound.{IsTold};
 
-use lvm_events::Taken;
-use lvm_session::{Open, Session};
+use lvm_session::{Open, Session, Taken};
 use lvm_vol::Outcome;
 
 fn place_of(requests: &[Open], client: u32, id: u64) -> Option<usize>

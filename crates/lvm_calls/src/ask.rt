@@ -2,13 +2,12 @@
 ghost use Rattle.std.specs.Prelude.{◌≡◌, ◌+◌, ◌<◌, ◌^◌};
 ghost use Rattle.lvm_path.specs.Asks.{at_of, count_of};
 ghost use Rattle.lvm_session.specs.Fields.{core_of};
-ghost use Rattle.lvm_events.specs.Calls.{ask_fault, fault_in, fault_on, has_history, has_numbers};
-ghost use Rattle.lvm_sound.specs.Sound.{IsFitting};
+ghost use Rattle.lvm_session.specs.Calls.{ask_fault, fault_in, fault_on, has_history, has_numbers};
+ghost use Rattle.lvm_session.specs.Sound.{IsFitting};
 
 use lvm_copies::{partition_blocks, volume_of};
-use lvm_events::AskFault;
 use lvm_path::Ask;
-use lvm_session::{Power, Session};
+use lvm_session::{AskFault, Power, Session};
 
 /// Whether more than 65,535 numbers are left for the stamps of records.
 pub fn has_numbers(session: &Session) -> bool

@@ -8,14 +8,13 @@ ghost use Rattle.lvm_session.specs.Fields.{core_of};
 ghost use Rattle.lvm_session.specs.Rooms.{SameRooms};
 ghost use Rattle.lvm_session.specs.Bringing.{is_out};
 ghost use Rattle.lvm_session.specs.Judging.{is_usable};
-ghost use Rattle.lvm_events.specs.declared.answers.CopyState.TheVariants as state;
-ghost use Rattle.lvm_events.specs.Calls.{closed, copy_at, copy_fault, copy_state, refusal_at, refusal_in, refusal_on, state_of_copy};
+ghost use Rattle.lvm_session.specs.declared.answers.CopyState.TheVariants as state;
+ghost use Rattle.lvm_session.specs.Calls.{closed, copy_at, copy_fault, copy_state, refusal_at, refusal_in, refusal_on, state_of_copy};
 
 use crate::ask::has_numbers;
 use lvm_copies::{copies_of, is_missing, is_pp, is_settled, is_usable, volume_of};
-use lvm_events::{CopyFault, CopyState};
 use lvm_num::{LvRow, Pp};
-use lvm_session::{CopyEnd, OpenCopy, Power, Session, Step};
+use lvm_session::{CopyEnd, CopyFault, CopyState, OpenCopy, Power, Session, Step};
 
 fn is_out(step: &Step) -> bool
     ensures { result ≡ is_out step.now }

@@ -22,7 +22,7 @@ use Rattle.lvm_stamps.proofs.Clock.{later_joins}
 use Rattle.lvm_transfer.specs.Transfer.{Relights}
 use Rattle.lvm_session.specs.declared.open.Open.{Open}
 use Rattle.lvm_vol.specs.declared.entry.Outcome.TheVariants as outcome
-use Rattle.lvm_events.specs.Dark.{with_landings}
+use Rattle.lvm_session.specs.Dark.{with_landings}
 use Rattle.lvm_core.specs.Settled.{IsSettled as IsSettledCore}
 use Rattle.lvm_session.specs.State.{Core}
 use Rattle.lvm_commit.specs.Settling.{NoneIsLeft}

@@ -10,7 +10,7 @@ use Rattle.lvm_disk.specs.declared.shelf.Arrange.TheVariants as arrange
 use Rattle.lvm_disk.proofs.Stepping.{arrange_leaves}
 use Rattle.lvm_vol.specs.Log.{Log}
 use Rattle.lvm_steps.proofs.Spans.{keeps_still, keeps_steps}
-use Rattle.lvm_events.specs.Dark.{after_arrange}
+use Rattle.lvm_session.specs.Dark.{after_arrange}
 use Rattle.lvm_session.specs.State.{Core}
 use Rattle.lvm_commands.specs.Ends.{EndsUnasked}
 use Rattle.lvm_commands.specs.Moments.{GoesOn}

@@ -3,7 +3,7 @@ use Rattle.std.specs.Prelude.{◌≡◌, ◌⊎◌, ℕ, Bool, [], Option, Some,
 use Rattle.lvm_disk.specs.Device.{Device}
 use Rattle.lvm_disk.specs.declared.shelf.Arrange.{Arrange}
 use Rattle.lvm_vol.specs.Log.{Log}
-use Rattle.lvm_events.specs.Dark.{after_arrange}
+use Rattle.lvm_session.specs.Dark.{after_arrange}
 use Rattle.lvm_session.specs.State.{Core}
 use Rattle.lvm_kept.specs.Moments.{Moment}
 use Rattle.lvm_commands.specs.State.{State, IsSettled}

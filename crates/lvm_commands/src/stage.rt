@@ -2,7 +2,7 @@
 ghost use Rattle.std.specs.Prelude.{◌≡◌, length, IsTrue, IsFalse, IsSome, IfSome, None};
 ghost use Rattle.std.specs.Option.{option_map};
 ghost use Rattle.lvm_disk.specs.Steps.{MayArrange, ArrangeGives};
-ghost use Rattle.lvm_events.specs.Dark.{after_arrange};
+ghost use Rattle.lvm_session.specs.Dark.{after_arrange};
 ghost use Rattle.lvm_commands.specs.Listings.{IsOn, IsNotOn};
 ghost use Rattle.lvm_commands.specs.Stages.{shelf_in, history_in, session_in, history_after, GivesBack};
 

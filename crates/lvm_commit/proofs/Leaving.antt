@@ -25,7 +25,7 @@ use Rattle.lvm_status.specs.Update.{Stored, members_there}
 use Rattle.lvm_status.proofs.Disks.{member-below}
 use Rattle.lvm_status.proofs.Sound.{and_left, not_false}
 use Rattle.lvm_steps.proofs.Booleans.{either, clash, second}
-use Rattle.lvm_write.specs.declared.homes.Homes.{Homes}
+use Rattle.lvm_homes.specs.declared.homes.Homes.{Homes}
 use Rattle.lvm_write.proofs.Writing.{if_told, told_at}
 use Rattle.lvm_commit.specs.Committed.{MayMark, HoldsCommitted}
 use Rattle.lvm_commit.specs.Settling.{there, IsOf, SessionIsHeld, WantsMarks, IsPassed, MarksLeft}

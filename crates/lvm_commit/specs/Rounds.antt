@@ -15,8 +15,8 @@ use Rattle.lvm_kept.specs.Torn.{RecordWrite, IsOfRecord}
 use Rattle.lvm_stale.specs.Table.{SameStale}
 use Rattle.lvm_left.specs.Marking.{IsLeftIn, Marks}
 use Rattle.lvm_status.specs.Update.{Stored, no_disks}
-use Rattle.lvm_write.specs.declared.homes.Homes.{Homes}
-use Rattle.lvm_write.specs.Homes.{Flips}
+use Rattle.lvm_homes.specs.declared.homes.Homes.{Homes}
+use Rattle.lvm_homes.specs.Homes.{Flips}
 use Rattle.lvm_write.specs.declared.write.Wrote.{Wrote}
 use Rattle.lvm_write.specs.Writes.{RecordWritesEnd, DiskWritesLeave}
 use Rattle.lvm_write.specs.Written.{write_of, EndsOn, StandsTold, written_well, IsDarkened, IsGivenUp}

@@ -30,7 +30,7 @@ use Rattle.lvm_left.specs.Marking.{IsLeftIn}
 use Rattle.lvm_status.specs.Members.{HasItsRows}
 use Rattle.lvm_status.specs.Update.{Stored, members_there}
 use Rattle.lvm_steps.specs.Moments.{StaysKept, ImagesKept}
-use Rattle.lvm_write.specs.declared.homes.Homes.{Homes}
+use Rattle.lvm_homes.specs.declared.homes.Homes.{Homes}
 use Rattle.lvm_write.specs.Parts.{Spends}
 use Rattle.lvm_write.specs.Written.{write_of, HaveRoom, KeepsShelf, StandsTold, IsDarkened, IsGivenUp}
 use Rattle.lvm_commit.specs.declared.commit.CommitEnd.{CommitEnd}

@@ -8,10 +8,10 @@ ghost use Rattle.lvm_commit.specs.Settling.{EndsAtOnce, MaySettle, HasNumbers, I
 
 use crate::write::{is_committed, write_descriptor, write_wanted};
 use lvm_disk::Shelf;
+use lvm_homes::Homes;
 use lvm_num::{Descriptor, Pbuf};
 use lvm_status::Updater;
 use lvm_transfer::Patience;
-use lvm_write::Homes;
 
 /// How a commit ended.
 #[derive(Drop)]

@@ -17,11 +17,12 @@ ghost use Rattle.lvm_commit.specs.Rounds.{IsInFlight, Starts, IsSent, HasEnded, 
 
 use crate::commit::CommitEnd;
 use lvm_disk::Shelf;
+use lvm_homes::Homes;
 use lvm_num::{Descriptor, DiskSet, Kind, Pbuf, Stamp};
 use lvm_status::{Change, Updater, members_there};
 use lvm_transfer::Patience;
 use lvm_vgsa::encode_into;
-use lvm_write::{Homes, Wrote, write_record};
+use lvm_write::{Wrote, write_record};
 
 /// Writes what is wanted of the status to each member that isn't missing, under the next stamp. The members on which
 /// that fails are wanted missing, and the copies that they leave behind stale.

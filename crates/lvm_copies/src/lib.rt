@@ -1,9 +1,11 @@
 //! How the copies of a logical partition stand in a session: which are fresh, usable, sure or caught up with.
 #![tactic(auto)]
 
+mod pinned;
 mod places;
 mod standing;
 
+pub use pinned::unpin;
 pub use places::{copies_of, is_pp, partition_blocks, volume_of};
 pub use standing::{
     are_targets, copies_for, group_in, group_of, is_aim, is_caught, is_missing, is_running,

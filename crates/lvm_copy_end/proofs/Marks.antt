@@ -8,7 +8,7 @@ use Rattle.lvm_session.specs.declared.bringing.OpenCopy.{OpenCopy}
 use Rattle.lvm_session.specs.declared.bringing.CopyEnd.{CopyEnd}
 use Rattle.lvm_session.specs.State.{Core}
 use Rattle.lvm_session.specs.Bringing.{after_copy_end, marked_by_end, with_end}
-use Rattle.lvm_events.specs.Marks.{WantsStale}
+use Rattle.lvm_session.specs.Marks.{WantsStale}
 use Rattle.lvm_marks.proofs.Marking.{markable_on, same_due, sound_after, then_marked}
 use Rattle.lvm_copy_end.specs.Ending.{CanEnd, MayEndCopy}
 

@@ -5,7 +5,7 @@ ghost use Rattle.lvm_session.specs.declared.bringing.OpenCopy.{OpenCopy};
 ghost use Rattle.lvm_session.specs.Bringing.{marked_by_end, with_end};
 ghost use Rattle.lvm_session.specs.Fields.{core_of};
 ghost use Rattle.lvm_session.specs.Rooms.{SameRooms};
-ghost use Rattle.lvm_events.specs.Marks.{WantsStale};
+ghost use Rattle.lvm_session.specs.Marks.{WantsStale};
 ghost use Rattle.lvm_copy_end.specs.Ending.{GivesUp, LeavesStep, MayEndCopy, left_by};
 
 use crate::marking::mark_end;

@@ -3,7 +3,7 @@ ghost use Rattle.std.specs.Prelude.{◌≡◌, Some};
 ghost use Rattle.lvm_session.specs.Bringing.{is_whole, marked_by_end};
 ghost use Rattle.lvm_session.specs.Fields.{core_of};
 ghost use Rattle.lvm_session.specs.Rooms.{SameRooms};
-ghost use Rattle.lvm_events.specs.Marks.{WantsStale};
+ghost use Rattle.lvm_session.specs.Marks.{WantsStale};
 ghost use Rattle.lvm_copy_end.specs.Ending.{MayEndCopy, Unclears};
 
 use lvm_copies::partition_blocks;

@@ -27,13 +27,13 @@ use Rattle.lvm_session.specs.declared.flown.Owner.TheVariants as owner
 use Rattle.lvm_session.specs.State.{Core}
 use Rattle.lvm_session.specs.Judging.{copies_in, is_running}
 use Rattle.lvm_session.specs.Bringing.{hand_of, is_out, is_whole, marked_by_end, step_place, with_end}
-use Rattle.lvm_events.specs.Ends.{CopyLearns, FailsCopy, GoesOn, PassesGroup, StepLearns, StepLeaves, after_quit, with_copy, with_return, without_step}
-use Rattle.lvm_events.specs.Marks.{Reviews, WantsStale}
+use Rattle.lvm_session.specs.Ends.{CopyLearns, FailsCopy, GoesOn, PassesGroup, StepLearns, StepLeaves, after_quit, with_copy, with_return, without_step}
+use Rattle.lvm_session.specs.Marks.{Reviews, WantsStale}
 use Rattle.lvm_marks.proofs.Marking.{same_due}
 use Rattle.lvm_over.specs.Hands.{IsOutIf}
 use Rattle.lvm_copies.proofs.Members.{copies_in_are, place_of}
 use Rattle.lvm_copy_end.specs.Ending.{CanEnd, MayEndCopy}
-use Rattle.lvm_sound.specs.Sound.{IsCopy, IsReadFrom}
+use Rattle.lvm_session.specs.Sound.{IsCopy, IsReadFrom}
 use Rattle.lvm_review.specs.Reviewing.{IsLocated, MayReview}
 use Rattle.lvm_review.proofs.Reviewing.{markable}
 use Rattle.lvm_ends.specs.Ended.{HasEnded}

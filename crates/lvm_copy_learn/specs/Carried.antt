@@ -9,7 +9,7 @@ use Rattle.lvm_session.specs.declared.bringing.Step.TheVariants as step
 use Rattle.lvm_session.specs.State.{Core}
 use Rattle.lvm_session.specs.Judging.{is_running}
 use Rattle.lvm_session.specs.Bringing.{is_whole, step_place}
-use Rattle.lvm_events.specs.Ends.{GoesOn, MovesOn}
+use Rattle.lvm_session.specs.Ends.{GoesOn, MovesOn}
 use Rattle.lvm_copy_learn.specs.declared.step.Carry.{Carry}
 use Rattle.lvm_copy_learn.specs.declared.step.Carry.TheVariants as carry
 

@@ -2,7 +2,7 @@
 ghost use Rattle.lvm_session.specs.declared.flown.Owner.TheVariants as owner;
 ghost use Rattle.lvm_session.specs.Fields.{core_of};
 ghost use Rattle.lvm_session.specs.Rooms.{SameRooms};
-ghost use Rattle.lvm_events.specs.Ends.{CopyLearns};
+ghost use Rattle.lvm_session.specs.Ends.{CopyLearns};
 ghost use Rattle.lvm_ends.specs.Ended.{HasEnded};
 ghost use Rattle.lvm_copy_learn.specs.declared.step.Carry.TheVariants as carry;
 ghost use Rattle.lvm_copy_learn.specs.Carried.{IsCarrying};

@@ -4,8 +4,8 @@ ghost use Rattle.lvm_status.specs.Calls.{IsMarkable};
 ghost use Rattle.lvm_session.specs.Bringing.{is_whole};
 ghost use Rattle.lvm_session.specs.Fields.{core_of};
 ghost use Rattle.lvm_session.specs.Rooms.{SameRooms};
-ghost use Rattle.lvm_events.specs.Ends.{GoesOn, with_copy};
-ghost use Rattle.lvm_events.specs.Marks.{WantsFresh};
+ghost use Rattle.lvm_session.specs.Ends.{GoesOn, with_copy};
+ghost use Rattle.lvm_session.specs.Marks.{WantsFresh};
 ghost use Rattle.lvm_copy_learn.specs.Carried.{MayGoOn, MayPass, MovesTo, Passes};
 
 use lvm_copy_end::is_whole;

@@ -6,8 +6,8 @@ ghost use Rattle.lvm_session.specs.declared.flown.Owner.TheVariants as owner;
 ghost use Rattle.lvm_session.specs.Bringing.{is_out};
 ghost use Rattle.lvm_session.specs.Fields.{core_of};
 ghost use Rattle.lvm_session.specs.Rooms.{SameRooms};
-ghost use Rattle.lvm_events.specs.Ends.{with_copy, without_step};
-ghost use Rattle.lvm_sound.specs.Owners.{flies};
+ghost use Rattle.lvm_session.specs.Ends.{with_copy, without_step};
+ghost use Rattle.lvm_session.specs.Owners.{flies};
 ghost use Rattle.lvm_copy_learn.specs.Carried.{Carried, IsCarrying, Tries};
 
 use lvm_copies::is_running;

@@ -13,9 +13,9 @@ use Rattle.lvm_session.specs.declared.open.Power.{Power}
 use Rattle.lvm_session.specs.declared.open.Power.TheVariants as power
 use Rattle.lvm_session.specs.State.{Core}
 use Rattle.lvm_session.specs.Judging.{copies_in}
-use Rattle.lvm_events.specs.declared.answers.CopyFault.TheVariants as refusal
-use Rattle.lvm_events.specs.Calls.{copy_at, copy_fault, faults_of, refusal_at, refusal_by, refusal_in, refusal_on}
-use Rattle.lvm_sound.specs.Asking.{IsAwake}
+use Rattle.lvm_session.specs.declared.answers.CopyFault.TheVariants as refusal
+use Rattle.lvm_session.specs.Calls.{copy_at, copy_fault, faults_of, refusal_at, refusal_by, refusal_in, refusal_on}
+use Rattle.lvm_session.specs.Asking.{IsAwake}
 use Rattle.lvm_copy_open.specs.Opening.{HasCopy}
 
 -- The volume has the copy, and nothing is against it; the session is on, and no other copy is open.

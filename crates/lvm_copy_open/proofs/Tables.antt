@@ -15,9 +15,9 @@ use Rattle.lvm_session.specs.declared.open.Open.{Open}
 use Rattle.lvm_session.specs.State.{Core}
 use Rattle.lvm_session.specs.Bringing.{has_row, step_place, step_row}
 use Rattle.lvm_session.specs.Judging.{is_waiting, place_of}
-use Rattle.lvm_events.specs.Calls.{aged}
-use Rattle.lvm_events.specs.Ends.{with_step}
-use Rattle.lvm_sound.specs.Sound.{IsGoing, waiting_rows, with_row}
+use Rattle.lvm_session.specs.Calls.{aged}
+use Rattle.lvm_session.specs.Ends.{with_step}
+use Rattle.lvm_session.specs.Sound.{IsGoing, waiting_rows, with_row}
 use Rattle.lvm_submit.proofs.Numbered.{below_next}
 use Rattle.lvm_submit.proofs.Rows.{few_waiting, row_of}
 

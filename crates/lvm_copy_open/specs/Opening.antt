@@ -10,8 +10,8 @@ use Rattle.lvm_disk.specs.Device.{Device}
 use Rattle.lvm_session.specs.declared.bringing.OpenCopy.{OpenCopy}
 use Rattle.lvm_session.specs.State.{Core}
 use Rattle.lvm_session.specs.Bringing.{step_place}
-use Rattle.lvm_events.specs.Calls.{copy_at, faults_of, opened}
-use Rattle.lvm_sound.specs.Causes.{faults_at_first}
+use Rattle.lvm_session.specs.Calls.{copy_at, faults_of, opened}
+use Rattle.lvm_session.specs.Causes.{faults_at_first}
 
 -- how many transfers of a disk have failed; of one that isn't on the shelf, on which none can fail, as many as when the session began
 abbrev pub faults_seen : Device → Core → ℕ → ℕ

@@ -3,8 +3,8 @@ ghost use Rattle.std.specs.Prelude.{◌≡◌, ◌≤◌, length, slice_get};
 ghost use Rattle.std.specs.Option.{option_map_or};
 ghost use Rattle.lvm_num.specs.declared.place.Pp.{Pp};
 ghost use Rattle.lvm_session.specs.Fields.{core_of};
-ghost use Rattle.lvm_events.specs.Calls.{faults_of};
-ghost use Rattle.lvm_sound.specs.Causes.{faults_at_first};
+ghost use Rattle.lvm_session.specs.Calls.{faults_of};
+ghost use Rattle.lvm_session.specs.Causes.{faults_at_first};
 ghost use Rattle.lvm_copy_open.specs.Opening.{counts_seen, faults_seen};
 
 use lvm_disk::Shelf;

@@ -2,17 +2,16 @@
 ghost use Rattle.std.specs.Prelude.{◌≡◌, None, map};
 ghost use Rattle.lvm_session.specs.Fields.{core_of};
 ghost use Rattle.lvm_session.specs.Rooms.{SameRooms};
-ghost use Rattle.lvm_events.specs.Calls.{OpenGives, Opens, aged};
-ghost use Rattle.lvm_sound.specs.Asking.{IsAwake};
-ghost use Rattle.lvm_sound.specs.Sound.{IsGoing};
+ghost use Rattle.lvm_session.specs.Calls.{OpenGives, Opens, aged};
+ghost use Rattle.lvm_session.specs.Asking.{IsAwake};
+ghost use Rattle.lvm_session.specs.Sound.{IsGoing};
 ghost use Rattle.lvm_copy_open.specs.Opening.{HasCopy, counts_seen};
 
 use crate::opened::opened;
 use lvm_calls::copy_fault;
 use lvm_copy_step::enter_step;
 use lvm_disk::Shelf;
-use lvm_events::CopyFault;
-use lvm_session::{Open, Session};
+use lvm_session::{CopyFault, Open, Session};
 
 // Their targets were chosen before the copy was opened.
 fn age_all(requests: &mut [Open])

@@ -4,7 +4,7 @@ ghost use Rattle.lvm_num.specs.declared.descriptor.LvRow.{LvRow};
 ghost use Rattle.lvm_num.specs.Descriptor.{IsValid, volume_of};
 ghost use Rattle.lvm_session.specs.Fields.{core_of};
 ghost use Rattle.lvm_session.specs.Judging.{copies_in};
-ghost use Rattle.lvm_sound.specs.Sound.{IsGoing};
+ghost use Rattle.lvm_session.specs.Sound.{IsGoing};
 ghost use Rattle.lvm_copy_open.specs.Opening.{HasCopy, IsOpened};
 
 use crate::faults::faults_of;

@@ -6,7 +6,7 @@ ghost use Rattle.lvm_hold.specs.Waiting.{AreBelow};
 ghost use Rattle.lvm_session.specs.Bringing.{step_of, step_place};
 ghost use Rattle.lvm_session.specs.Fields.{core_of};
 ghost use Rattle.lvm_session.specs.Rooms.{SameRooms};
-ghost use Rattle.lvm_events.specs.Ends.{with_step};
+ghost use Rattle.lvm_session.specs.Ends.{with_step};
 
 use crate::numbers::next_id;
 use lvm_copies::partition_blocks;

@@ -24,7 +24,7 @@ use Rattle.lvm_kept.specs.Group.{IsOneOf}
 use Rattle.lvm_stale.specs.Table.{has_row, is_pp}
 use Rattle.lvm_status.specs.Calls.{IsMarkable}
 use Rattle.lvm_status.specs.Update.{Stored, members_there}
-use Rattle.lvm_write.specs.declared.homes.Homes.{Homes}
+use Rattle.lvm_homes.specs.declared.homes.Homes.{Homes}
 use Rattle.lvm_write.specs.Written.{HasRoom}
 use Rattle.lvm_commit.specs.Committed.{MayMark, HoldsCommitted}
 use Rattle.lvm_kept.specs.Contents.{Contents}

@@ -9,9 +9,9 @@ use Rattle.lvm_session.specs.declared.open.Open.{Open}
 use Rattle.lvm_session.specs.declared.open.Power.TheVariants as power
 use Rattle.lvm_session.specs.declared.bringing.OpenCopy.{OpenCopy}
 use Rattle.lvm_session.specs.State.{Core}
-use Rattle.lvm_events.specs.Dark.{AreTold, all_dark, hand_of_copy}
+use Rattle.lvm_session.specs.Dark.{AreTold, all_dark, hand_of_copy}
 use Rattle.lvm_over.specs.Hands.{AreInHand, IsOutIf, MayEnd}
-use Rattle.lvm_sound.specs.Sound.{count_if, hands_with, has_number, is_hand, out_with}
+use Rattle.lvm_session.specs.Sound.{count_if, hands_with, has_number, is_hand, out_with}
 use Rattle.lvm_core.specs.Sound.{HasNoneOpen, HaveAllLanded, IsFitting}
 
 -- ---- the session afterwards

@@ -14,9 +14,9 @@ use Rattle.lvm_session.specs.Rooms.{HasRooms, SameRooms}
 use Rattle.lvm_session.specs.State.{Core, state}
 use Rattle.lvm_session.specs.Enabled.{is_lost}
 use Rattle.lvm_session.proofs.RoomsLemmas.{rooms_last}
-use Rattle.lvm_events.specs.Dark.{all_dark}
-use Rattle.lvm_sound.specs.Placed.{ArePlaced}
-use Rattle.lvm_sound.specs.Sound.{count_if, has_number, is_dark, out_with}
+use Rattle.lvm_session.specs.Dark.{all_dark}
+use Rattle.lvm_session.specs.Placed.{ArePlaced}
+use Rattle.lvm_session.specs.Sound.{count_if, has_number, is_dark, out_with}
 use Rattle.lvm_core.specs.Sound.{HasNoneOpen, HaveAllLanded, IsFitting, IsSound}
 use Rattle.lvm_core.specs.Committing.{with_one_out}
 use Rattle.lvm_core.proofs.Dark.{cut_core, cut_fits, cut_landed, dark_is, on_shelf, out_is}

@@ -34,9 +34,9 @@ use Rattle.lvm_commit.proofs.Wanting.{row_stays}
 use Rattle.lvm_core.specs.declared.fault.CommitFault.{CommitFault}
 use Rattle.lvm_session.specs.declared.open.Power.TheVariants as power
 use Rattle.lvm_session.specs.State.{Core, State, state, is_there}
-use Rattle.lvm_events.specs.Dark.{all_dark}
-use Rattle.lvm_sound.specs.Placed.{IsPlaced, ArePlaced}
-use Rattle.lvm_sound.specs.Sound.{is_dark}
+use Rattle.lvm_session.specs.Dark.{all_dark}
+use Rattle.lvm_session.specs.Placed.{IsPlaced, ArePlaced}
+use Rattle.lvm_session.specs.Sound.{is_dark}
 use Rattle.lvm_core.specs.Sound.{HasNoneOpen, IsFitting, IsSound}
 use Rattle.lvm_core.specs.Settled.{IsSettled}
 use Rattle.lvm_core.specs.Committing.{with_one_out, RecordsEnd, FailsCommitted, moment_of, StaysBehind}

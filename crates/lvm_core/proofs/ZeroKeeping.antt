@@ -36,9 +36,9 @@ use Rattle.lvm_commit.proofs.Chaining.{keeps_wider}
 use Rattle.lvm_commit.proofs.Data.{free_data_keeps}
 use Rattle.lvm_core.specs.declared.fault.CommitFault.{CommitFault}
 use Rattle.lvm_session.specs.State.{Core, State, state, is_there}
-use Rattle.lvm_events.specs.Dark.{all_dark}
-use Rattle.lvm_sound.specs.Placed.{ArePlaced}
-use Rattle.lvm_sound.specs.Sound.{is_dark}
+use Rattle.lvm_session.specs.Dark.{all_dark}
+use Rattle.lvm_session.specs.Placed.{ArePlaced}
+use Rattle.lvm_session.specs.Sound.{is_dark}
 use Rattle.lvm_core.specs.Sound.{HasNoneOpen, IsSound}
 use Rattle.lvm_core.specs.Held.{IsHeld}
 use Rattle.lvm_core.specs.Settled.{IsSettled}

@@ -9,8 +9,8 @@ use Rattle.lvm_status.specs.Members.{HasItsRows}
 use Rattle.lvm_session.specs.declared.open.Power.TheVariants as power
 use Rattle.lvm_session.specs.State.{Core, State}
 use Rattle.lvm_session.specs.Enabled.{is_lost}
-use Rattle.lvm_sound.specs.Placed.{ArePlaced}
-use Rattle.lvm_sound.specs.Sound.{IsLit, IsDark, count_if, is_dark, out_with}
+use Rattle.lvm_session.specs.Placed.{ArePlaced}
+use Rattle.lvm_session.specs.Sound.{IsLit, IsDark, count_if, is_dark, out_with}
 
 -- each request that the history tells of has landed
 abbrev pub HaveAllLanded : List Fact → Type 0

@@ -2,7 +2,7 @@
 ghost use Rattle.std.specs.Prelude.{◌≡◌};
 ghost use Rattle.lvm_session.specs.Fields.{core_of};
 ghost use Rattle.lvm_session.specs.Rooms.{SameRooms};
-ghost use Rattle.lvm_events.specs.Dark.{after_arrange, is_cut};
+ghost use Rattle.lvm_session.specs.Dark.{after_arrange, is_cut};
 ghost use Rattle.lvm_over.specs.Hands.{MayEnd};
 
 use lvm_disk::Arrange;

@@ -5,7 +5,7 @@ ghost use Rattle.lvm_num.specs.Status.{IsValidStatus};
 ghost use Rattle.lvm_vol.specs.Log.{spare_entries};
 ghost use Rattle.lvm_session.specs.Fields.{core_of};
 ghost use Rattle.lvm_session.specs.Rooms.{HasRooms};
-ghost use Rattle.lvm_sound.specs.Placed.{ArePlaced};
+ghost use Rattle.lvm_session.specs.Placed.{ArePlaced};
 ghost use Rattle.lvm_session_start.specs.Parts.{IsOneGroup};
 ghost use Rattle.lvm_session_start.specs.Beginning.{AreFaults, first_core};
 ghost use Rattle.lvm_core.specs.Starting.{IsRoom, IsReservedFor, AreReserved, room_of};
@@ -13,11 +13,11 @@ ghost use Rattle.lvm_core.specs.Starting.{IsRoom, IsReservedFor, AreReserved, ro
 use crate::look::are_placed;
 use lvm_disk::Shelf;
 use lvm_history::History;
+use lvm_homes::Homes;
 use lvm_num::{Memory, Stamp};
 use lvm_quorum::Choice;
 use lvm_session::Session;
 use lvm_session_start::{first_session, take_parts};
-use lvm_write::Homes;
 use std::alloc::Global;
 use std::marker::Model;
 

@@ -4,9 +4,9 @@ use Rattle.std.specs.Prelude.{IfSome, find, if◌then◌else◌}
 use Rattle.std.specs.List.{AllByRecursion}
 use Rattle.lvm_session.specs.declared.open.Open.{Open}
 use Rattle.lvm_session.specs.State.{State}
-use Rattle.lvm_events.specs.Calls.{is_asked}
-use Rattle.lvm_sound.specs.Causes.{IsAnswered}
-use Rattle.lvm_sound.specs.Sound.{IsSound}
+use Rattle.lvm_session.specs.Calls.{is_asked}
+use Rattle.lvm_session.specs.Causes.{IsAnswered}
+use Rattle.lvm_session.specs.Sound.{IsSound}
 use Rattle.lvm_keeps.proofs.Losing.{loss_is_caused}
 use Rattle.lvm_driver.specs.Answers.{IsCausedFor, IsOffSince}
 

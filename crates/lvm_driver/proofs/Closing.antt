@@ -6,7 +6,7 @@ use Rattle.lvm_vol.specs.Log.{is_open}
 use Rattle.lvm_session.specs.declared.open.Open.{Open}
 use Rattle.lvm_session.specs.Judging.{is_waiting}
 use Rattle.lvm_session.specs.State.{Core}
-use Rattle.lvm_sound.specs.Sound.{IsTold, waits}
+use Rattle.lvm_session.specs.Sound.{IsTold, waits}
 
 none_waits : (os : List Open) (id : ℕ) → list_any is_waiting os ≡ false → waits os id ≡ false
 none_waits [] id none = refl

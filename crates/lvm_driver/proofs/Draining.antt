@@ -7,10 +7,10 @@ use Rattle.lvm_disk.proofs.Rising.{rose_by_after, rose_by_more, rose_by_none}
 use Rattle.lvm_session.specs.declared.open.Power.TheVariants as power
 use Rattle.lvm_session.specs.State.{State}
 use Rattle.lvm_session.specs.Enabled.{first_event}
-use Rattle.lvm_events.specs.declared.answers.Turned.{Turned}
-use Rattle.lvm_events.specs.declared.answers.Turned.TheVariants as turned
-use Rattle.lvm_events.specs.Turns.{Finds, FindsNothing, TurnMakes}
-use Rattle.lvm_sound.specs.Left.{left_of}
+use Rattle.lvm_session.specs.declared.answers.Turned.{Turned}
+use Rattle.lvm_session.specs.declared.answers.Turned.TheVariants as turned
+use Rattle.lvm_session.specs.Turns.{Finds, FindsNothing, TurnMakes}
+use Rattle.lvm_session.specs.Left.{left_of}
 use Rattle.lvm_vol.specs.Facts.{Fact}
 use Rattle.lvm_tie_causes.specs.Landings.{HasCausesSince}
 use Rattle.lvm_tie_turn.specs.GoingOn.{GoesOn}

@@ -13,16 +13,16 @@ use Rattle.lvm_session.specs.Bringing.{with_back}
 use Rattle.lvm_session.specs.Fields.{core_of}
 use Rattle.lvm_session.specs.Rooms.{HasRooms, SameRooms}
 use Rattle.lvm_session.specs.State.{Core, State, state}
-use Rattle.lvm_events.specs.declared.answers.AskFault.{AskFault}
-use Rattle.lvm_events.specs.declared.answers.CopyFault.{CopyFault}
-use Rattle.lvm_events.specs.declared.answers.Taken.{Taken}
-use Rattle.lvm_events.specs.declared.answers.Taken.TheVariants as answered
-use Rattle.lvm_events.specs.declared.answers.Turned.{Turned}
-use Rattle.lvm_events.specs.Calls.{Closes, OpenGives, SubmitGives, TakeAt, TakeGives, TakesLanded, ask_fault, copy_fault, is_asked, submitted, Opens}
-use Rattle.lvm_events.specs.Dark.{after_arrange, all_dark, hand_of_copy, is_cut}
-use Rattle.lvm_events.specs.Turns.{Arranges, TurnMakes}
-use Rattle.lvm_sound.specs.Asking.{IsAsking, IsAwake}
-use Rattle.lvm_sound.specs.Sound.{IsSound}
+use Rattle.lvm_session.specs.declared.answers.AskFault.{AskFault}
+use Rattle.lvm_session.specs.declared.answers.CopyFault.{CopyFault}
+use Rattle.lvm_session.specs.declared.answers.Taken.{Taken}
+use Rattle.lvm_session.specs.declared.answers.Taken.TheVariants as answered
+use Rattle.lvm_session.specs.declared.answers.Turned.{Turned}
+use Rattle.lvm_session.specs.Calls.{Closes, OpenGives, SubmitGives, TakeAt, TakeGives, TakesLanded, ask_fault, copy_fault, is_asked, submitted, Opens}
+use Rattle.lvm_session.specs.Dark.{after_arrange, all_dark, hand_of_copy, is_cut}
+use Rattle.lvm_session.specs.Turns.{Arranges, TurnMakes}
+use Rattle.lvm_session.specs.Asking.{IsAsking, IsAwake}
+use Rattle.lvm_session.specs.Sound.{IsSound}
 use Rattle.lvm_keeps.proofs.Close.{close_keeps}
 use Rattle.lvm_keeps.proofs.Ending.{back_long, hands_long}
 use Rattle.lvm_keeps.proofs.Orders.{order_keeps}

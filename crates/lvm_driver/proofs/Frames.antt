@@ -15,12 +15,12 @@ use Rattle.lvm_session.specs.declared.flown.Owner.TheVariants as owner
 use Rattle.lvm_session.specs.Bringing.{after_copy_end, copy_ends, hand_of, is_whole, with_back, with_end}
 use Rattle.lvm_session.specs.Judging.{is_running}
 use Rattle.lvm_session.specs.State.{Core, State}
-use Rattle.lvm_events.specs.declared.answers.Turned.{Turned}
-use Rattle.lvm_events.specs.declared.answers.Turned.TheVariants as turned
-use Rattle.lvm_events.specs.Dark.{hand_of_copy}
-use Rattle.lvm_events.specs.Ends.{DataLearns, Ends, GoesOn, Learns, NoteLearns, StatusLearns, StepLearns, StepLeaves, given_back, with_copy, with_return, without_step}
-use Rattle.lvm_events.specs.Marks.{Reviews}
-use Rattle.lvm_events.specs.Turns.{Darkens, FinishMakes, Finishes, GoesOff, Makes, Moves, NoStart, OnMakes, TurnMakes, WasDark, WasOff, WasOn}
+use Rattle.lvm_session.specs.declared.answers.Turned.{Turned}
+use Rattle.lvm_session.specs.declared.answers.Turned.TheVariants as turned
+use Rattle.lvm_session.specs.Dark.{hand_of_copy}
+use Rattle.lvm_session.specs.Ends.{DataLearns, Ends, GoesOn, Learns, NoteLearns, StatusLearns, StepLearns, StepLeaves, given_back, with_copy, with_return, without_step}
+use Rattle.lvm_session.specs.Marks.{Reviews}
+use Rattle.lvm_session.specs.Turns.{Darkens, FinishMakes, Finishes, GoesOff, Makes, Moves, NoStart, OnMakes, TurnMakes, WasDark, WasOff, WasOn}
 use Rattle.lvm_keeps.proofs.Ending.{back_long, hands_long}
 use Rattle.lvm_keeps.proofs.Lists.{length_set}
 

@@ -11,13 +11,13 @@ use Rattle.lvm_session.specs.declared.session.Session.{Session}
 use Rattle.lvm_session.specs.Fields.{core_of}
 use Rattle.lvm_session.specs.Rooms.{SameRooms}
 use Rattle.lvm_session.specs.State.{state}
-use Rattle.lvm_events.specs.declared.answers.AskFault.{AskFault}
-use Rattle.lvm_events.specs.declared.answers.CopyFault.{CopyFault}
-use Rattle.lvm_events.specs.declared.answers.Taken.{Taken}
-use Rattle.lvm_events.specs.declared.answers.Turned.{Turned}
-use Rattle.lvm_events.specs.Calls.{Closes, OpenGives, SubmitGives, TakeGives}
-use Rattle.lvm_events.specs.Turns.{Arranges, TurnMakes}
-use Rattle.lvm_sound.specs.Asking.{IsAsking}
+use Rattle.lvm_session.specs.declared.answers.AskFault.{AskFault}
+use Rattle.lvm_session.specs.declared.answers.CopyFault.{CopyFault}
+use Rattle.lvm_session.specs.declared.answers.Taken.{Taken}
+use Rattle.lvm_session.specs.declared.answers.Turned.{Turned}
+use Rattle.lvm_session.specs.Calls.{Closes, OpenGives, SubmitGives, TakeGives}
+use Rattle.lvm_session.specs.Turns.{Arranges, TurnMakes}
+use Rattle.lvm_session.specs.Asking.{IsAsking}
 use Rattle.lvm_copy_open.specs.Opening.{counts_seen}
 use Rattle.lvm_tie_causes.specs.Landings.{HasCausesSince}
 use Rattle.lvm_tie_causes.proofs.Calls.{calls_keep_causes}

@@ -21,15 +21,15 @@ use Rattle.lvm_session.specs.declared.open.Power.TheVariants as power
 use Rattle.lvm_session.specs.Judging.{facts_of, is_waiting, mode_of, policy_of}
 use Rattle.lvm_session.specs.State.{Core, State}
 use Rattle.lvm_path.specs.Next.{with_pin}
-use Rattle.lvm_events.specs.declared.answers.Turned.{Turned}
-use Rattle.lvm_events.specs.declared.answers.Turned.TheVariants as turned
-use Rattle.lvm_events.specs.Dark.{IsAscending, ended_as}
-use Rattle.lvm_events.specs.Ends.{DataLearns, Ends, Learns, Returns, keeps_buffer, learned}
-use Rattle.lvm_events.specs.Events.{IsDataTransfer, Lands, admitted_as, begun_as, got_blocks, landed_as}
-use Rattle.lvm_events.specs.Turns.{FinishMakes, Finishes, Makes, Moves, NoStart, OnMakes, TurnMakes, WasDark, WasOff, WasOn}
-use Rattle.lvm_sound.specs.Owners.{IsDataOf, IsTransferOf}
-use Rattle.lvm_sound.specs.Requests.{IsOpenOne, IsRequest}
-use Rattle.lvm_sound.specs.Sound.{IsGoing, IsSound}
+use Rattle.lvm_session.specs.declared.answers.Turned.{Turned}
+use Rattle.lvm_session.specs.declared.answers.Turned.TheVariants as turned
+use Rattle.lvm_session.specs.Dark.{IsAscending, ended_as}
+use Rattle.lvm_session.specs.Ends.{DataLearns, Ends, Learns, Returns, keeps_buffer, learned}
+use Rattle.lvm_session.specs.Events.{IsDataTransfer, Lands, admitted_as, begun_as, got_blocks, landed_as}
+use Rattle.lvm_session.specs.Turns.{FinishMakes, Finishes, Makes, Moves, NoStart, OnMakes, TurnMakes, WasDark, WasOff, WasOn}
+use Rattle.lvm_session.specs.Owners.{IsDataOf, IsTransferOf}
+use Rattle.lvm_session.specs.Requests.{IsOpenOne, IsRequest}
+use Rattle.lvm_session.specs.Sound.{IsGoing, IsSound}
 use Rattle.lvm_keeps.proofs.Lists.{all_at, get_removed, set_beside, set_here}
 use Rattle.lvm_keeps.proofs.Small.{not_so}
 use Rattle.lvm_keeps.proofs.Tables.{apart}

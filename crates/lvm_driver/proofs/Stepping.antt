@@ -9,10 +9,10 @@ use Rattle.lvm_disk.proofs.Stepping.{step_counts}
 use Rattle.lvm_session.specs.declared.event.Event.{Event}
 use Rattle.lvm_session.specs.declared.event.Event.TheVariants as event
 use Rattle.lvm_session.specs.State.{State}
-use Rattle.lvm_events.specs.declared.answers.Turned.{Turned}
-use Rattle.lvm_events.specs.declared.answers.Turned.TheVariants as turned
-use Rattle.lvm_events.specs.Ends.{Ends, EndsAs}
-use Rattle.lvm_events.specs.Turns.{FinishMakes, Finishes, Makes, Moves, NoStart, OnMakes, TurnMakes, WasDark, WasOff, WasOn}
+use Rattle.lvm_session.specs.declared.answers.Turned.{Turned}
+use Rattle.lvm_session.specs.declared.answers.Turned.TheVariants as turned
+use Rattle.lvm_session.specs.Ends.{Ends, EndsAs}
+use Rattle.lvm_session.specs.Turns.{FinishMakes, Finishes, Makes, Moves, NoStart, OnMakes, TurnMakes, WasDark, WasOff, WasOn}
 
 stays : (old new : Device) → new ≡ old → NoneFalls old.counts new.counts
 stays old new same = subst (λ (d : Device). NoneFalls old.counts d.counts) (sym same) (none_falls_at_once old.counts)

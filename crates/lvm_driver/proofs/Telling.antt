@@ -3,11 +3,11 @@ use Rattle.std.proofs.Common.{◌≡◌, ◌<◌, ◌⊎◌, inl, inr, true, Som
 use Rattle.lvm_session.specs.declared.open.Power.TheVariants as power
 use Rattle.lvm_session.specs.State.{Core, State}
 use Rattle.lvm_session.specs.Enabled.{first_event}
-use Rattle.lvm_events.specs.declared.answers.Turned.{Turned}
-use Rattle.lvm_events.specs.declared.answers.Turned.TheVariants as turned
-use Rattle.lvm_events.specs.Turns.{FinishMakes, Finds, FindsNothing, Finishes, Moves, NoStart, OnMakes, TurnMakes, WasDark, WasOff, WasOn}
-use Rattle.lvm_sound.specs.Left.{left_of}
-use Rattle.lvm_sound.specs.Sound.{IsOver, IsSound}
+use Rattle.lvm_session.specs.declared.answers.Turned.{Turned}
+use Rattle.lvm_session.specs.declared.answers.Turned.TheVariants as turned
+use Rattle.lvm_session.specs.Turns.{FinishMakes, Finds, FindsNothing, Finishes, Moves, NoStart, OnMakes, TurnMakes, WasDark, WasOff, WasOn}
+use Rattle.lvm_session.specs.Left.{left_of}
+use Rattle.lvm_session.specs.Sound.{IsOver, IsSound}
 use Rattle.lvm_keeps_turn.specs.Turning.{is_last}
 use Rattle.lvm_keeps_turn.proofs.Turning.{turn_ends, turn_falls, turn_keeps}
 use Rattle.lvm_driver.specs.Answers.{IsStill, TurnTells, power_by}

@@ -18,14 +18,14 @@ use Rattle.lvm_session.specs.declared.open.Power.TheVariants as power
 use Rattle.lvm_session.specs.Enabled.{first_event, is_lost}
 use Rattle.lvm_session.specs.Judging.{copies_in, is_waiting}
 use Rattle.lvm_session.specs.State.{Core, State, state}
-use Rattle.lvm_events.specs.declared.answers.Turned.{Turned}
-use Rattle.lvm_events.specs.declared.answers.Turned.TheVariants as turned
-use Rattle.lvm_events.specs.Calls.{is_asked}
-use Rattle.lvm_events.specs.Events.{IsDataTransfer}
-use Rattle.lvm_events.specs.Turns.{Finds, FindsNothing}
-use Rattle.lvm_sound.specs.Causes.{AnyFailedSince, IsAnswered, IsCopyCaused as IsCausedAmong}
-use Rattle.lvm_sound.specs.Left.{left_of}
-use Rattle.lvm_sound.specs.Sound.{IsOver}
+use Rattle.lvm_session.specs.declared.answers.Turned.{Turned}
+use Rattle.lvm_session.specs.declared.answers.Turned.TheVariants as turned
+use Rattle.lvm_session.specs.Calls.{is_asked}
+use Rattle.lvm_session.specs.Events.{IsDataTransfer}
+use Rattle.lvm_session.specs.Turns.{Finds, FindsNothing}
+use Rattle.lvm_session.specs.Causes.{AnyFailedSince, IsAnswered, IsCopyCaused as IsCausedAmong}
+use Rattle.lvm_session.specs.Left.{left_of}
+use Rattle.lvm_session.specs.Sound.{IsOver}
 use Rattle.lvm_keeps_turn.specs.Turning.{is_last}
 
 -- the state of a driver, by the device that its shelf is

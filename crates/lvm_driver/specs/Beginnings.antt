@@ -10,10 +10,10 @@ use Rattle.lvm_num.specs.Votes.{is_enough_to_write, total_votes}
 use Rattle.lvm_disk.specs.Device.{Device}
 use Rattle.lvm_vol.specs.Log.{Log, is_open}
 use Rattle.lvm_vol.specs.Order.{Ordered}
-use Rattle.lvm_write.specs.declared.homes.Homes.{Homes}
-use Rattle.lvm_sound.specs.Placed.{ArePlaced}
-use Rattle.lvm_sound.specs.Sound.{IsLit}
-use Rattle.lvm_sound.specs.Worked.{faultless, fresh, mirrored, status_of}
+use Rattle.lvm_homes.specs.declared.homes.Homes.{Homes}
+use Rattle.lvm_session.specs.Placed.{ArePlaced}
+use Rattle.lvm_session.specs.Sound.{IsLit}
+use Rattle.lvm_session.specs.Worked.{faultless, fresh, mirrored, status_of}
 use Rattle.lvm_session_start.specs.declared.parts.Parts.{Parts}
 use Rattle.lvm_session_start.specs.declared.parts.Room.{Room}
 use Rattle.lvm_session_start.specs.Beginning.{MayBegin}

@@ -4,8 +4,8 @@ use Rattle.lvm_num.specs.Votes.{total_votes}
 use Rattle.lvm_session.specs.declared.open.Power.TheVariants as power
 use Rattle.lvm_session.specs.Enabled.{first_event, is_lost}
 use Rattle.lvm_session.specs.State.{State, votes_there}
-use Rattle.lvm_events.specs.declared.answers.Turned.{Turned}
-use Rattle.lvm_events.specs.Turns.{TurnMakes}
+use Rattle.lvm_session.specs.declared.answers.Turned.{Turned}
+use Rattle.lvm_session.specs.Turns.{TurnMakes}
 use Rattle.lvm_driver.specs.declared.drain.DrainFault.{DrainFault}
 use Rattle.lvm_driver.specs.declared.drain.DrainFault.TheVariants as fault
 

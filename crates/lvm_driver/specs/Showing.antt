@@ -11,7 +11,7 @@ use Rattle.lvm_vol.specs.Fronts.{Told}
 use Rattle.lvm_session.specs.declared.open.Power.{Power}
 use Rattle.lvm_session.specs.declared.open.Power.TheVariants as power
 use Rattle.lvm_session.specs.State.{Core, State}
-use Rattle.lvm_sound.specs.Sound.{count_if, is_dark}
+use Rattle.lvm_session.specs.Sound.{count_if, is_dark}
 
 -- the sectors of each disk of a shelf, where it tells them
 abbrev pub image_of : Device → Option (List (List Sector))

@@ -14,7 +14,7 @@ ghost use Rattle.lvm_driver.specs.Drains.{DrainEnds, IsAny, IsTurn};
 
 use crate::driver::Driver;
 use lvm_disk::Shelf;
-use lvm_events::Turned;
+use lvm_session::Turned;
 use lvm_transfer::Patience;
 
 /// Why the turns ended before nothing was left to be made.

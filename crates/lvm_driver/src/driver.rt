@@ -10,12 +10,12 @@ ghost use Rattle.lvm_vol.specs.Log.{is_open, spare_entries};
 ghost use Rattle.lvm_session.specs.declared.open.Power.TheVariants as power;
 ghost use Rattle.lvm_session.specs.Judging.{is_waiting};
 ghost use Rattle.lvm_session.specs.State.{votes_there};
-ghost use Rattle.lvm_events.specs.declared.answers.CopyState.TheVariants as stage;
-ghost use Rattle.lvm_events.specs.Calls.{OpenGives, SubmitGives, TakeGives, closed, copy_state};
-ghost use Rattle.lvm_events.specs.Turns.{Arranges, TurnMakes};
-ghost use Rattle.lvm_sound.specs.Asking.{IsAsking};
-ghost use Rattle.lvm_sound.specs.Left.{left_of};
-ghost use Rattle.lvm_sound.specs.Sound.{IsSound};
+ghost use Rattle.lvm_session.specs.declared.answers.CopyState.TheVariants as stage;
+ghost use Rattle.lvm_session.specs.Calls.{OpenGives, SubmitGives, TakeGives, closed, copy_state};
+ghost use Rattle.lvm_session.specs.Turns.{Arranges, TurnMakes};
+ghost use Rattle.lvm_session.specs.Asking.{IsAsking};
+ghost use Rattle.lvm_session.specs.Left.{left_of};
+ghost use Rattle.lvm_session.specs.Sound.{IsSound};
 ghost use Rattle.lvm_keeps.specs.Falls.{most_left};
 ghost use Rattle.lvm_copy_open.specs.Opening.{counts_seen};
 ghost use Rattle.lvm_session_start.specs.Beginning.{AreFaults, MayBegin, first_core};
@@ -26,18 +26,17 @@ ghost use Rattle.lvm_driver.specs.Answers.{GetsItsBlocks, IsCausedFor, IsCopyCau
 use lvm_calls::{close_copy, copy_state, take};
 use lvm_copy_open::open_copy;
 use lvm_disk::{Arrange, Shelf};
-use lvm_events::{AskFault, CopyFault, CopyState, Taken, Turned};
 use lvm_history::History;
+use lvm_homes::Homes;
 use lvm_num::{Descriptor, Stamp};
 use lvm_orders::arrange;
 use lvm_path::Ask;
-use lvm_session::{Power, Session};
+use lvm_session::{AskFault, CopyFault, CopyState, Power, Session, Taken, Turned};
 use lvm_session_start::{Parts, begin_session};
 use lvm_session_turn::turn;
 use lvm_stale::StaleTable;
 use lvm_submit::submit_request;
 use lvm_work_left::left;
-use lvm_write::Homes;
 use std::marker::Model;
 
 /// A group that is varied on, over its shelf. Clients submit requests to it and take their answers; what is done
@@ -54,7 +53,7 @@ impl<S: Shelf> Model for Driver<S> {
     ghost use Rattle.lvm_session.specs.Fields.{core_of};
     ghost use Rattle.lvm_session.specs.Rooms.{HasRooms};
     ghost use Rattle.lvm_session.specs.State.{Core, state};
-    ghost use Rattle.lvm_sound.specs.Sound.{IsSound};
+    ghost use Rattle.lvm_session.specs.Sound.{IsSound};
 
     ghost Value = { S × Core };
 

@@ -19,7 +19,7 @@ impl<S: Shelf> Past for Lent<S> {
 }
 
 impl<S: Shelf> Shown for Lent<S> {
-    ghost use Rattle.lvm_sound.specs.Sound.{IsSound};
+    ghost use Rattle.lvm_session.specs.Sound.{IsSound};
     ghost use Rattle.lvm_driver.specs.Answers.{state_of};
     ghost use Rattle.lvm_driver.specs.Showing.{told_by};
 

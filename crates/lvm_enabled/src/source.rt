@@ -6,7 +6,7 @@ ghost use Rattle.lvm_session.specs.Fields.{core_of};
 ghost use Rattle.lvm_session.specs.Judging.{copies_in, is_running};
 ghost use Rattle.lvm_session.specs.Bringing.{is_whole, next_source};
 ghost use Rattle.lvm_session.specs.Enabled.{is_free_step, may_read};
-ghost use Rattle.lvm_sound.specs.Sound.{IsCopy, IsGoing};
+ghost use Rattle.lvm_session.specs.Sound.{IsCopy, IsGoing};
 ghost use Rattle.lvm_enabled.specs.Plain.{is_source, plain_read};
 
 use lvm_copies::{copies_of, is_pp, is_running, is_usable, partition_blocks, volume_of};

@@ -5,7 +5,7 @@ ghost use Rattle.lvm_num.specs.declared.descriptor.PvRow.{PvRow};
 ghost use Rattle.lvm_num.specs.Disks.{has};
 ghost use Rattle.lvm_session.specs.Fields.{core_of};
 ghost use Rattle.lvm_session.specs.Enabled.{is_status_due, same_status};
-ghost use Rattle.lvm_sound.specs.Sound.{IsFitting};
+ghost use Rattle.lvm_session.specs.Sound.{IsFitting};
 ghost use Rattle.lvm_enabled.specs.Plain.{plain_status};
 
 use lvm_num::Status;

@@ -22,12 +22,12 @@ use Rattle.lvm_session.specs.declared.open.Open.{Open}
 use Rattle.lvm_session.specs.State.{Core}
 use Rattle.lvm_session.specs.Judging.{copies_in}
 use Rattle.lvm_session.specs.Bringing.{hand_of}
-use Rattle.lvm_events.specs.Calls.{copy_at}
-use Rattle.lvm_events.specs.Dark.{hand_of_copy}
-use Rattle.lvm_events.specs.Marks.{is_among}
+use Rattle.lvm_session.specs.Calls.{copy_at}
+use Rattle.lvm_session.specs.Dark.{hand_of_copy}
+use Rattle.lvm_session.specs.Marks.{is_among}
 use Rattle.lvm_over.specs.Hands.{IsOutIf}
-use Rattle.lvm_sound.specs.Owners.{flies, same_owner}
-use Rattle.lvm_sound.specs.Sound.{IsCopy, count_if, is_hand}
+use Rattle.lvm_session.specs.Owners.{flies, same_owner}
+use Rattle.lvm_session.specs.Sound.{IsCopy, count_if, is_hand}
 use Rattle.lvm_copies.proofs.Members.{copies_in_are}
 use Rattle.lvm_launch.proofs.Hands.{at_most_one, get_other, is_out as out_of}
 use Rattle.lvm_learn.specs.Learning.{MayReturn}

@@ -18,9 +18,9 @@ use Rattle.lvm_status.specs.Update.{Stored, seen}
 use Rattle.lvm_status.proofs.Disks.{member-below}
 use Rattle.lvm_status.proofs.Sound.{steps_stay_sound}
 use Rattle.lvm_session.specs.State.{Core}
-use Rattle.lvm_events.specs.Ends.{LosesDisk}
+use Rattle.lvm_session.specs.Ends.{LosesDisk}
 use Rattle.lvm_learn.specs.Learning.{NoteEnds}
-use Rattle.lvm_sound.specs.Sound.{IsGoing}
+use Rattle.lvm_session.specs.Sound.{IsGoing}
 
 -- ---- of the update
 

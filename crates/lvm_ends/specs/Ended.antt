@@ -4,7 +4,7 @@ use Rattle.lvm_session.specs.declared.flown.Flown.{Flown}
 use Rattle.lvm_session.specs.declared.flown.Owner.{Owner}
 use Rattle.lvm_session.specs.declared.open.Open.{Open}
 use Rattle.lvm_session.specs.State.{Core}
-use Rattle.lvm_sound.specs.Sound.{IsGoing, count_if, hands_with}
+use Rattle.lvm_session.specs.Sound.{IsGoing, count_if, hands_with}
 
 -- The transfer at this place of the list is this owner's, and its buffer is out, and in nobody's hand.
 pub record HasEnded (core : Core) (at : ℕ) (who : Owner) (number : ℕ) : Type 0 where

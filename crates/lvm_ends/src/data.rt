@@ -8,7 +8,7 @@ ghost use Rattle.lvm_session.specs.declared.flown.Owner.TheVariants as owner;
 ghost use Rattle.lvm_session.specs.declared.open.Open.{Open};
 ghost use Rattle.lvm_session.specs.Fields.{core_of};
 ghost use Rattle.lvm_session.specs.Rooms.{SameRooms};
-ghost use Rattle.lvm_events.specs.Ends.{DataLearns, IsOfData, after_data, given_back, learned};
+ghost use Rattle.lvm_session.specs.Ends.{DataLearns, IsOfData, after_data, given_back, learned};
 ghost use Rattle.lvm_ends.specs.Ended.{HasEnded, HasId};
 
 use lvm_entails::entail;

@@ -2,7 +2,7 @@
 ghost use Rattle.lvm_session.specs.declared.flown.Owner.TheVariants as owner;
 ghost use Rattle.lvm_session.specs.Fields.{core_of};
 ghost use Rattle.lvm_session.specs.Rooms.{SameRooms};
-ghost use Rattle.lvm_events.specs.Ends.{NoteLearns, StatusLearns};
+ghost use Rattle.lvm_session.specs.Ends.{NoteLearns, StatusLearns};
 ghost use Rattle.lvm_ends.specs.Ended.{HasEnded};
 
 use lvm_learn::{learn_note, learn_status};

@@ -13,7 +13,7 @@ use Rattle.lvm_session.specs.declared.open.Open.{Open}
 use Rattle.lvm_session.specs.State.{Core}
 use Rattle.lvm_session.specs.Judging.{all_but_sure, is_kept, is_running, pps_of}
 use Rattle.lvm_session.specs.Bringing.{marked_by_end, with_end}
-use Rattle.lvm_events.specs.Marks.{Entails, WantsStale, due_of, end_by_write, hits_copy, is_among}
+use Rattle.lvm_session.specs.Marks.{Entails, WantsStale, due_of, end_by_write, hits_copy, is_among}
 use Rattle.lvm_copy_end.proofs.Marks.{marks_and_ends}
 use Rattle.lvm_entails.specs.Losing.{fails_with, is_left}
 

@@ -3,7 +3,7 @@ ghost use Rattle.std.specs.Prelude.{◌≡◌, slice_get, Some};
 ghost use Rattle.lvm_session.specs.declared.open.Open.{Open};
 ghost use Rattle.lvm_session.specs.Fields.{core_of};
 ghost use Rattle.lvm_session.specs.Rooms.{SameRooms};
-ghost use Rattle.lvm_events.specs.Marks.{Entails};
+ghost use Rattle.lvm_session.specs.Marks.{Entails};
 ghost use Rattle.lvm_marks.specs.Due.{MayMark};
 ghost use Rattle.lvm_copy_end.specs.Ending.{MayEndCopy};
 

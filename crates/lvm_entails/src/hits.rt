@@ -9,7 +9,7 @@ ghost use Rattle.lvm_session.specs.Bringing.{ends_if};
 ghost use Rattle.lvm_session.specs.Judging.{all_but_sure};
 ghost use Rattle.lvm_session.specs.declared.open.Open.{Open};
 ghost use Rattle.lvm_session.specs.Fields.{core_of};
-ghost use Rattle.lvm_events.specs.Marks.{end_by_write};
+ghost use Rattle.lvm_session.specs.Marks.{end_by_write};
 ghost use Rattle.lvm_entails.specs.Losing.{fails_with, loses};
 
 use lvm_copies::{is_pp, is_running, is_sure};

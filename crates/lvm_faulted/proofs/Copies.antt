@@ -25,19 +25,19 @@ use Rattle.lvm_session.specs.State.{state}
 use Rattle.lvm_session.specs.Judging.{is_missing, is_stale}
 use Rattle.lvm_session.specs.Bringing.{copy_ends}
 use Rattle.lvm_session.specs.Enabled.{first_event}
-use Rattle.lvm_events.specs.Calls.{Closes, closed}
-use Rattle.lvm_events.specs.Marks.{can_replace, is_among, is_entailed}
-use Rattle.lvm_sound.specs.Owners.{AreOwned}
-use Rattle.lvm_sound.specs.Left.{updates_left}
-use Rattle.lvm_sound.specs.Causes.{FailedSince, IsCopyCaused}
-use Rattle.lvm_sound.specs.Sound.{IsCopy, IsFitting, IsGoing, IsSound, IsTold, stays_fresh}
-use Rattle.lvm_sound.specs.Worked.{CopiesAreSound, behind, bringing_up, first_copy, fresh, second_copy, status_of}
+use Rattle.lvm_session.specs.Calls.{Closes, closed}
+use Rattle.lvm_session.specs.Marks.{can_replace, is_among, is_entailed}
+use Rattle.lvm_session.specs.Owners.{AreOwned}
+use Rattle.lvm_session.specs.Left.{updates_left}
+use Rattle.lvm_session.specs.Causes.{FailedSince, IsCopyCaused}
+use Rattle.lvm_session.specs.Sound.{IsCopy, IsFitting, IsGoing, IsSound, IsTold, stays_fresh}
+use Rattle.lvm_session.specs.Worked.{CopiesAreSound, behind, bringing_up, first_copy, fresh, second_copy, status_of}
 use Rattle.lvm_keeps.proofs.Close.{close_keeps}
 use Rattle.lvm_faulted.specs.Faulted.{without_disks}
 use Rattle.lvm_faulted.specs.Copies.{CarriedWritesAreUnsound, FailedCopiesAreSound, WholeCopiesAreSound, failed, whole}
-use Rattle.lvm_sound.proofs.Small.{not_either, not_none, not_so}
-use Rattle.lvm_sound.proofs.Parts.{update_is_sound, both_copies, has_fresh, not_marked, zeros_at, none_missing_at_first as none_missing}
-use Rattle.lvm_sound.proofs.While.{sound_while_on}
+use Rattle.lvm_session.proofs.Small.{not_either, not_none, not_so}
+use Rattle.lvm_session.proofs.Parts.{update_is_sound, both_copies, has_fresh, not_marked, zeros_at, none_missing_at_first as none_missing}
+use Rattle.lvm_session.proofs.While.{sound_while_on}
 use Rattle.lvm_faulted.proofs.Parts.{entailed, is_missing_so, none_stale, rose_once, stale_with_disk, which_missing}
 use Rattle.lvm_faulted.proofs.Failing.{each_is, none_missing_behind, one_or_two, stale_there, untouched}
 use Rattle.lvm_faulted.proofs.Losing.{on_third}

@@ -28,20 +28,20 @@ use Rattle.lvm_session.specs.declared.flown.Owner.TheVariants as owner
 use Rattle.lvm_session.specs.State.{state}
 use Rattle.lvm_session.specs.Judging.{is_missing, is_stale}
 use Rattle.lvm_session.specs.Enabled.{first_event}
-use Rattle.lvm_events.specs.Events.{Lands}
-use Rattle.lvm_events.specs.Marks.{can_replace, is_among, is_entailed}
-use Rattle.lvm_sound.specs.Owners.{AreOwned, target_flies}
-use Rattle.lvm_sound.specs.Left.{updates_left}
-use Rattle.lvm_sound.specs.Requests.{IsOpenOne, is_wanted_due}
-use Rattle.lvm_sound.specs.Causes.{AreCaused, AreCounted, FailedSince, IsTrueToOrigin}
-use Rattle.lvm_sound.specs.Sound.{IsAsked, IsFitting, IsSound, IsTold, count_if, stays_fresh}
-use Rattle.lvm_sound.specs.Worked.{HeldWritesAreSound, Says, begun_write, behind, core_of, first_copy, fresh, second_copy, status_of}
+use Rattle.lvm_session.specs.Events.{Lands}
+use Rattle.lvm_session.specs.Marks.{can_replace, is_among, is_entailed}
+use Rattle.lvm_session.specs.Owners.{AreOwned, target_flies}
+use Rattle.lvm_session.specs.Left.{updates_left}
+use Rattle.lvm_session.specs.Requests.{IsOpenOne, is_wanted_due}
+use Rattle.lvm_session.specs.Causes.{AreCaused, AreCounted, FailedSince, IsTrueToOrigin}
+use Rattle.lvm_session.specs.Sound.{IsAsked, IsFitting, IsSound, IsTold, count_if, stays_fresh}
+use Rattle.lvm_session.specs.Worked.{HeldWritesAreSound, Says, begun_write, behind, core_of, first_copy, fresh, second_copy, status_of}
 use Rattle.lvm_keeps.proofs.Landing.{landing_is_caused}
 use Rattle.lvm_faulted.specs.Failing.{KeptWritesAreSound, LostWritesAreSound, UnsettledWritesAreSound, ended, ended_write, kept, landed, lost_on_both, no_writes, unsettled}
-use Rattle.lvm_sound.proofs.Small.{not_either, not_so}
-use Rattle.lvm_sound.proofs.Requests.{laid_in, shaped, waits_with}
-use Rattle.lvm_sound.proofs.Parts.{update_is_sound, idle_is_sound, none_written, has_fresh, zeros_at, none_missing_at_first as none_missing}
-use Rattle.lvm_sound.proofs.While.{sound_while_on}
+use Rattle.lvm_session.proofs.Small.{not_either, not_so}
+use Rattle.lvm_session.proofs.Requests.{laid_in, shaped, waits_with}
+use Rattle.lvm_session.proofs.Parts.{update_is_sound, idle_is_sound, none_written, has_fresh, zeros_at, none_missing_at_first as none_missing}
+use Rattle.lvm_session.proofs.While.{sound_while_on}
 use Rattle.lvm_faulted.proofs.Parts.{none_stale, rose_once}
 
 or_left : {a : Bool} (b : Bool) → a ≡ true → a || b ≡ true

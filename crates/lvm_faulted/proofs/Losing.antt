@@ -14,18 +14,18 @@ use Rattle.lvm_disk.specs.declared.shelf.Arrange.TheVariants as arrange
 use Rattle.lvm_status.specs.Update.{is_there, seen}
 use Rattle.lvm_status.specs.Runs.{IsSound as IsSoundStatus}
 use Rattle.lvm_session.specs.Enabled.{first_event, is_lost}
-use Rattle.lvm_events.specs.Turns.{Arranges, GoesOff}
-use Rattle.lvm_sound.specs.Left.{updates_left}
-use Rattle.lvm_sound.specs.Causes.{IsTrueToOrigin}
-use Rattle.lvm_sound.specs.Sound.{IsFitting, IsGoing, IsSound, IsTold, stays_fresh}
-use Rattle.lvm_sound.specs.Worked.{HeldWritesAreSound, first_copy, fresh, status_of}
+use Rattle.lvm_session.specs.Turns.{Arranges, GoesOff}
+use Rattle.lvm_session.specs.Left.{updates_left}
+use Rattle.lvm_session.specs.Causes.{IsTrueToOrigin}
+use Rattle.lvm_session.specs.Sound.{IsFitting, IsGoing, IsSound, IsTold, stays_fresh}
+use Rattle.lvm_session.specs.Worked.{HeldWritesAreSound, first_copy, fresh, status_of}
 use Rattle.lvm_keeps.proofs.Off.{off_keeps}
 use Rattle.lvm_keeps.proofs.Orders.{order_keeps}
 use Rattle.lvm_keeps.proofs.Losing.{loss_is_caused}
 use Rattle.lvm_faulted.specs.Faulted.{EndedSessionsAreSound, LostVotesAreSound, lost, off, dark, without_disks}
-use Rattle.lvm_sound.proofs.Small.{not_so, not_either}
-use Rattle.lvm_sound.proofs.Parts.{has_fresh, not_marked, none_missing_at_first as none_missing}
-use Rattle.lvm_sound.proofs.While.{sound_while_on}
+use Rattle.lvm_session.proofs.Small.{not_so, not_either}
+use Rattle.lvm_session.proofs.Parts.{has_fresh, not_marked, none_missing_at_first as none_missing}
+use Rattle.lvm_session.proofs.While.{sound_while_on}
 use Rattle.lvm_faulted.proofs.Parts.{behind, fitting, is_missing_so, none_stale, origin, request, stale_there, told, which_missing}
 
 first_stays : (m : Mode) → stays_fresh (lost m).core first_copy ≡ true

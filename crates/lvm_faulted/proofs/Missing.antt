@@ -10,13 +10,13 @@ use Rattle.lvm_status.specs.Update.{seen}
 use Rattle.lvm_status.specs.Runs.{IsSound as IsSoundStatus}
 use Rattle.lvm_session.specs.declared.event.Event.TheVariants as event
 use Rattle.lvm_session.specs.Enabled.{first_event, is_lost}
-use Rattle.lvm_sound.specs.Left.{updates_left}
-use Rattle.lvm_sound.specs.Sound.{IsGoing, IsSound, stays_fresh}
-use Rattle.lvm_sound.specs.Worked.{HeldWritesAreSound, first_copy, fresh, status_of}
+use Rattle.lvm_session.specs.Left.{updates_left}
+use Rattle.lvm_session.specs.Sound.{IsGoing, IsSound, stays_fresh}
+use Rattle.lvm_session.specs.Worked.{HeldWritesAreSound, first_copy, fresh, status_of}
 use Rattle.lvm_faulted.specs.Faulted.{MissingDisksAreSound, missing_disk, wanting}
-use Rattle.lvm_sound.proofs.Small.{not_so, not_either}
-use Rattle.lvm_sound.proofs.Parts.{idle_is_sound, none_written, has_fresh, none_missing_at_first as none_missing}
-use Rattle.lvm_sound.proofs.While.{sound_while_on}
+use Rattle.lvm_session.proofs.Small.{not_so, not_either}
+use Rattle.lvm_session.proofs.Parts.{idle_is_sound, none_written, has_fresh, none_missing_at_first as none_missing}
+use Rattle.lvm_session.proofs.While.{sound_while_on}
 use Rattle.lvm_faulted.proofs.Parts.{behind, fitting, none_stale, origin, request, told}
 
 first_stays : (m : Mode) → stays_fresh (wanting m false) first_copy ≡ true

@@ -12,13 +12,13 @@ use Rattle.lvm_disk.specs.Counts.{Rose}
 use Rattle.lvm_path.specs.declared.request.Phase.TheVariants as phase
 use Rattle.lvm_session.specs.State.{state}
 use Rattle.lvm_session.specs.Judging.{is_stale}
-use Rattle.lvm_events.specs.Marks.{can_replace, is_among, is_entailed}
-use Rattle.lvm_sound.specs.Requests.{IsOpenOne}
-use Rattle.lvm_sound.specs.Causes.{FailedSince, IsTrueToOrigin}
-use Rattle.lvm_sound.specs.Sound.{IsFitting, IsSound, IsTold}
-use Rattle.lvm_sound.specs.Worked.{HeldWritesAreSound, a_write, asking, core_of, faultless, fresh, second_copy, held_write, status_of}
-use Rattle.lvm_sound.proofs.Small.{not_so, not_either}
-use Rattle.lvm_sound.proofs.Parts.{both_copies, none_missing_at_first as none_missing, zeros_at}
+use Rattle.lvm_session.specs.Marks.{can_replace, is_among, is_entailed}
+use Rattle.lvm_session.specs.Requests.{IsOpenOne}
+use Rattle.lvm_session.specs.Causes.{FailedSince, IsTrueToOrigin}
+use Rattle.lvm_session.specs.Sound.{IsFitting, IsSound, IsTold}
+use Rattle.lvm_session.specs.Worked.{HeldWritesAreSound, a_write, asking, core_of, faultless, fresh, second_copy, held_write, status_of}
+use Rattle.lvm_session.proofs.Small.{not_so, not_either}
+use Rattle.lvm_session.proofs.Parts.{both_copies, none_missing_at_first as none_missing, zeros_at}
 use Rattle.lvm_faulted.specs.Faulted.{faulted, wanting, without_disks}
 
 -- ---- what the status says

@@ -9,10 +9,10 @@ use Rattle.lvm_session.specs.declared.event.Event.TheVariants as event
 use Rattle.lvm_session.specs.declared.open.Open.{Open}
 use Rattle.lvm_session.specs.State.{Core, State, state}
 use Rattle.lvm_session.specs.Enabled.{first_event}
-use Rattle.lvm_events.specs.Calls.{Closes, closed}
-use Rattle.lvm_sound.specs.Requests.{IsRequest}
-use Rattle.lvm_sound.specs.Sound.{IsSound}
-use Rattle.lvm_sound.specs.Worked.{a_write, asking, behind, bringing, bringing_up, core_of, faultless, first_copy, fresh, row_for, second_copy, target_on}
+use Rattle.lvm_session.specs.Calls.{Closes, closed}
+use Rattle.lvm_session.specs.Requests.{IsRequest}
+use Rattle.lvm_session.specs.Sound.{IsSound}
+use Rattle.lvm_session.specs.Worked.{a_write, asking, behind, bringing, bringing_up, core_of, faultless, first_copy, fresh, row_for, second_copy, target_on}
 use Rattle.lvm_faulted.specs.Faulted.{faulted, without_disks}
 
 -- ---- all of it is copied

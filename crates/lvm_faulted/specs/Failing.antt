@@ -12,10 +12,10 @@ use Rattle.lvm_session.specs.declared.event.Event.TheVariants as event
 use Rattle.lvm_session.specs.declared.open.Open.{Open}
 use Rattle.lvm_session.specs.State.{State, state}
 use Rattle.lvm_session.specs.Enabled.{first_event}
-use Rattle.lvm_events.specs.Events.{Lands, after_landing}
-use Rattle.lvm_sound.specs.Causes.{IsLandedFor}
-use Rattle.lvm_sound.specs.Sound.{IsSound}
-use Rattle.lvm_sound.specs.Worked.{Moment, Says, a_write, asking, behind, core_of, faultless, first_copy, fresh, held_write, second_copy, target_on}
+use Rattle.lvm_session.specs.Events.{Lands, after_landing}
+use Rattle.lvm_session.specs.Causes.{IsLandedFor}
+use Rattle.lvm_session.specs.Sound.{IsSound}
+use Rattle.lvm_session.specs.Worked.{Moment, Says, a_write, asking, behind, core_of, faultless, first_copy, fresh, held_write, second_copy, target_on}
 use Rattle.lvm_faulted.specs.Faulted.{faulted}
 
 -- a write that has ended so on the first copy, and has failed on the second

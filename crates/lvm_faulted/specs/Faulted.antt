@@ -11,11 +11,11 @@ use Rattle.lvm_session.specs.declared.event.Event.TheVariants as event
 use Rattle.lvm_session.specs.declared.open.Open.{Open}
 use Rattle.lvm_session.specs.State.{Core, State, state}
 use Rattle.lvm_session.specs.Enabled.{first_event, is_lost}
-use Rattle.lvm_events.specs.Dark.{all_dark, all_off}
-use Rattle.lvm_events.specs.Turns.{Arranges, GoesOff}
-use Rattle.lvm_sound.specs.Causes.{AnyFailedSince}
-use Rattle.lvm_sound.specs.Sound.{IsSound}
-use Rattle.lvm_sound.specs.Worked.{core_of, faultless, held_write}
+use Rattle.lvm_session.specs.Dark.{all_dark, all_off}
+use Rattle.lvm_session.specs.Turns.{Arranges, GoesOff}
+use Rattle.lvm_session.specs.Causes.{AnyFailedSince}
+use Rattle.lvm_session.specs.Sound.{IsSound}
+use Rattle.lvm_session.specs.Worked.{core_of, faultless, held_write}
 
 -- ---- what has failed
 

@@ -11,10 +11,10 @@ use Rattle.lvm_session.specs.declared.event.Event.TheVariants as event
 use Rattle.lvm_session.specs.declared.open.Open.{Open}
 use Rattle.lvm_session.specs.State.{State, state}
 use Rattle.lvm_session.specs.Enabled.{first_event}
-use Rattle.lvm_events.specs.Events.{Lands, after_landing}
-use Rattle.lvm_sound.specs.Causes.{IsLandedFor}
-use Rattle.lvm_sound.specs.Sound.{IsSound}
-use Rattle.lvm_sound.specs.Worked.{a_read, a_write, asking, behind, calm, core_of, faultless, first_copy, held_write, row_for, second_copy, target_on}
+use Rattle.lvm_session.specs.Events.{Lands, after_landing}
+use Rattle.lvm_session.specs.Causes.{IsLandedFor}
+use Rattle.lvm_session.specs.Sound.{IsSound}
+use Rattle.lvm_session.specs.Worked.{a_read, a_write, asking, behind, calm, core_of, faultless, first_copy, held_write, row_for, second_copy, target_on}
 use Rattle.lvm_faulted.specs.Failing.{all_faulted}
 
 -- ---- no copy is left

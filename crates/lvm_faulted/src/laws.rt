@@ -4,7 +4,7 @@ ghost use Rattle.lvm_faulted.specs.Failing.{KeptWritesAreSound, LostWritesAreSou
 ghost use Rattle.lvm_faulted.specs.Faulted.{EndedSessionsAreSound, LostVotesAreSound, MissingDisksAreSound};
 ghost use Rattle.lvm_faulted.specs.Unread.{FailedReadsAreSound, WritesWithoutCopyAreSound};
 
-use lvm_sound::{copies_are_sound, held_writes_are_sound};
+use lvm_session::{copies_are_sound, held_writes_are_sound};
 
 /// A session that misses a disk since a transfer on it failed is sound, in whatever mode its volume is.
 pub fn missing_disks_are_sound()

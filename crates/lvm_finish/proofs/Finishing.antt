@@ -8,13 +8,13 @@ use Rattle.lvm_disk.specs.Steps.{GoesDark}
 use Rattle.lvm_session.specs.declared.flown.Flown.{Flown}
 use Rattle.lvm_session.specs.declared.open.Power.TheVariants as power
 use Rattle.lvm_session.specs.State.{Core, State, state}
-use Rattle.lvm_events.specs.declared.answers.Turned.{Turned}
-use Rattle.lvm_events.specs.declared.answers.Turned.TheVariants as turned
-use Rattle.lvm_events.specs.Dark.{all_dark}
-use Rattle.lvm_events.specs.Ends.{EndsAs, Returns}
-use Rattle.lvm_events.specs.Turns.{Darkens, FinishMakes}
-use Rattle.lvm_sound.specs.Owners.{AreRows}
-use Rattle.lvm_sound.specs.Sound.{IsSound, count_if, has_number}
+use Rattle.lvm_session.specs.declared.answers.Turned.{Turned}
+use Rattle.lvm_session.specs.declared.answers.Turned.TheVariants as turned
+use Rattle.lvm_session.specs.Dark.{all_dark}
+use Rattle.lvm_session.specs.Ends.{EndsAs, Returns}
+use Rattle.lvm_session.specs.Turns.{Darkens, FinishMakes}
+use Rattle.lvm_session.specs.Owners.{AreRows}
+use Rattle.lvm_session.specs.Sound.{IsSound, count_if, has_number}
 use Rattle.lvm_ends.specs.Ended.{HasEnded}
 use Rattle.lvm_finish.specs.Finishing.{Rests}
 

@@ -2,9 +2,9 @@
 use Rattle.std.specs.Prelude.{◌≡◌, true, false}
 use Rattle.lvm_session.specs.State.{Core}
 use Rattle.lvm_session.specs.Enabled.{is_lost}
-use Rattle.lvm_events.specs.declared.answers.Turned.{Turned}
-use Rattle.lvm_events.specs.declared.answers.Turned.TheVariants as turned
-use Rattle.lvm_events.specs.Dark.{all_off}
+use Rattle.lvm_session.specs.declared.answers.Turned.{Turned}
+use Rattle.lvm_session.specs.declared.answers.Turned.TheVariants as turned
+use Rattle.lvm_session.specs.Dark.{all_off}
 
 -- It is over where its votes are lost, and else nothing happens.
 abbrev pub Rests : Core → Core → Turned → Type 0

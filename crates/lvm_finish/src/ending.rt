@@ -4,21 +4,20 @@ ghost use Rattle.lvm_session.specs.declared.open.Power.TheVariants as power;
 ghost use Rattle.lvm_session.specs.Fields.{core_of};
 ghost use Rattle.lvm_session.specs.Rooms.{SameRooms};
 ghost use Rattle.lvm_session.specs.State.{state};
-ghost use Rattle.lvm_events.specs.Ends.{Learns};
-ghost use Rattle.lvm_events.specs.Turns.{FinishMakes};
-ghost use Rattle.lvm_sound.specs.Sound.{IsGoing, IsSound};
+ghost use Rattle.lvm_session.specs.Ends.{Learns};
+ghost use Rattle.lvm_session.specs.Turns.{FinishMakes};
+ghost use Rattle.lvm_session.specs.Sound.{IsGoing, IsSound};
 ghost use Rattle.lvm_ends.specs.Ended.{HasEnded};
 ghost use Rattle.lvm_finish.specs.Finishing.{Rests};
 
 use lvm_copy_learn::end_step;
 use lvm_disk::Shelf;
 use lvm_ends::{end_data, end_note, end_status};
-use lvm_events::Turned;
 use lvm_firsts::is_lost;
 use lvm_num::Pbuf;
 use lvm_over::{darken, go_off};
 use lvm_reap::{Back, reap_row};
-use lvm_session::{Owner, Session};
+use lvm_session::{Owner, Session, Turned};
 
 // The owner of a transfer that has ended learns how.
 fn learn(session: &mut Session, at: usize, owner: Owner, ok: bool, buf: Pbuf)

@@ -11,8 +11,8 @@ use Rattle.lvm_session.specs.declared.open.Open.{Open}
 use Rattle.lvm_session.specs.State.{Core}
 use Rattle.lvm_session.specs.Judging.{facts_of, held_of, is_waiting, next_for, place_of}
 use Rattle.lvm_facts.specs.Queued.{IsQueued}
-use Rattle.lvm_sound.specs.Requests.{IsOpenOne}
-use Rattle.lvm_sound.specs.Sound.{IsCopy, IsGoing}
+use Rattle.lvm_session.specs.Requests.{IsOpenOne}
+use Rattle.lvm_session.specs.Sound.{IsCopy, IsGoing}
 use Rattle.lvm_firsts.proofs.Places.{at_place}
 use Rattle.lvm_firsts.proofs.Queue.{queue_ascends, queue_has}
 

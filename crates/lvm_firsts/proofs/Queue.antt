@@ -11,8 +11,8 @@ use Rattle.lvm_session.specs.declared.open.Open.{Open}
 use Rattle.lvm_session.specs.State.{Core}
 use Rattle.lvm_session.specs.Judging.{held_of, is_waiting, place_of}
 use Rattle.lvm_session.specs.Bringing.{has_row, step_row}
-use Rattle.lvm_events.specs.Dark.{IsAscending as AreAscending}
-use Rattle.lvm_sound.specs.Sound.{rows_of, waiting_rows, with_row, IsCopy}
+use Rattle.lvm_session.specs.Dark.{IsAscending as AreAscending}
+use Rattle.lvm_session.specs.Sound.{rows_of, waiting_rows, with_row, IsCopy}
 
 abbrev row_of : Open → Row
 row_of o = record { id = place_of o.request.id; ask = held_of o.request.ask }

@@ -8,7 +8,7 @@ use Rattle.lvm_num.specs.Votes.{votes_in}
 use Rattle.lvm_pbuf.specs.Out.{out_count}
 use Rattle.lvm_status.specs.Update.{members_there, seen, votes_there as votes_of_update}
 use Rattle.lvm_session.specs.State.{Core, votes_there}
-use Rattle.lvm_sound.specs.Sound.{IsFitting}
+use Rattle.lvm_session.specs.Sound.{IsFitting}
 
 pub votes_are : (core : Core) → IsFitting core → votes_of_update (seen core.status) ≡ votes_there core
 votes_are core fitting = ap (λ (g : Descriptor). votes_in g (members_there g core.status.wanted)) fitting.group

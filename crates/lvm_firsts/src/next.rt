@@ -3,7 +3,7 @@ ghost use Rattle.std.specs.Prelude.{◌≡◌, ◌<◌, length, slice_get, Some}
 ghost use Rattle.lvm_session.specs.declared.open.Open.{Open};
 ghost use Rattle.lvm_session.specs.Fields.{core_of};
 ghost use Rattle.lvm_session.specs.Judging.{next_for};
-ghost use Rattle.lvm_sound.specs.Sound.{IsGoing};
+ghost use Rattle.lvm_session.specs.Sound.{IsGoing};
 
 use lvm_facts::{is_waiting, next_of};
 use lvm_path::Next;

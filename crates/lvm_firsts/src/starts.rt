@@ -4,7 +4,7 @@ ghost use Rattle.std.specs.Option.{option_map_or};
 ghost use Rattle.lvm_session.specs.Fields.{core_of};
 ghost use Rattle.lvm_session.specs.Rooms.{HasRooms};
 ghost use Rattle.lvm_session.specs.Enabled.{copy_write, has_buffer, is_lost};
-ghost use Rattle.lvm_sound.specs.Sound.{IsFitting};
+ghost use Rattle.lvm_session.specs.Sound.{IsFitting};
 
 use lvm_copies::is_running;
 use lvm_session::{Event, Session, Step};

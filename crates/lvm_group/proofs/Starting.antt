@@ -25,7 +25,7 @@ use Rattle.lvm_core.specs.declared.parts.Room.{Room}
 use Rattle.lvm_core.specs.Sound.{HaveAllLanded}
 use Rattle.lvm_core.specs.Settled.{IsSettled, HasSpareNumbers}
 use Rattle.lvm_core.proofs.Settling.{starts_settled, starts_numbered}
-use Rattle.lvm_sound.specs.Placed.{ArePlaced}
+use Rattle.lvm_session.specs.Placed.{ArePlaced}
 use Rattle.lvm_session_start.specs.Beginning.{first_core}
 use Rattle.lvm_session.specs.State.{Core}
 use Rattle.lvm_group.specs.NewGroup.{NewGroup, size_for, new_group, new_status}

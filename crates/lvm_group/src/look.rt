@@ -7,10 +7,11 @@ ghost use Rattle.lvm_group.specs.Steps.{LookGives};
 use crate::judge::judge;
 use lvm_core::Cause;
 use lvm_disk::Shelf;
+use lvm_homes::Homes;
 use lvm_num::Pbuf;
 use lvm_survey::{Surveyed, survey_disks};
 use lvm_transfer::Patience;
-use lvm_write::Homes;
+use lvm_write::homes_of;
 use std::alloc::Global;
 
 // The number of the buffer in which records are read and written.
@@ -43,7 +44,7 @@ pub fn look<S: Shelf>(
         Surveyed::Ended { survey, buf } => {
             judge(&survey, force, moment)?;
             Ok(Free {
-                homes: Homes::of(&survey),
+                homes: homes_of(&survey),
                 buf,
             })
         }

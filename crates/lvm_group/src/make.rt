@@ -22,10 +22,10 @@ use crate::write::write;
 use lvm_core::{Cause, Parts, Room};
 use lvm_disk::Shelf;
 use lvm_history::History;
+use lvm_homes::Homes;
 use lvm_num::{Memory, Name};
 use lvm_transfer::Patience;
 use lvm_vol::{Entry, Vol};
-use lvm_write::Homes;
 use std::alloc::Global;
 
 /// What is asked of a new group beside its disks and its moment.

@@ -15,9 +15,9 @@ use crate::plan::Plan;
 use lvm_begin::{Begun, begin_new};
 use lvm_core::Cause;
 use lvm_disk::Shelf;
+use lvm_homes::Homes;
 use lvm_num::DiskSet;
 use lvm_transfer::Patience;
-use lvm_write::Homes;
 
 /// Writes the records of a planned group to its disks, and answers the slots that come next.
 pub fn write<S: Shelf>(

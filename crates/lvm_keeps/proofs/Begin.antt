@@ -17,11 +17,11 @@ use Rattle.lvm_session.specs.declared.open.Power.TheVariants as power
 use Rattle.lvm_session.specs.State.{Core, State}
 use Rattle.lvm_session.specs.Judging.{copies_in, is_stale, is_wanted_stale}
 use Rattle.lvm_session.specs.Bringing.{end_of, has_row, is_out, step_row}
-use Rattle.lvm_events.specs.Dark.{AreTold, hand_of_copy}
-use Rattle.lvm_sound.specs.Owners.{AreOwned, AreRows, HaveTickets, same_owner, target_flies}
-use Rattle.lvm_sound.specs.Requests.{IsOpenOne}
-use Rattle.lvm_sound.specs.Causes.{AreCaused, AreCounted, IsAnswered, IsChosenSince, IsCopyCaused, is_held_stale, is_over}
-use Rattle.lvm_sound.specs.Sound.{IsAsked, IsCopy, IsGoing, IsOn, IsSound, IsTold, count_if, hands_with, is_dark, is_hand, may_be_fresh, out_with, pins, stays_fresh, waiting_rows, waits, with_row, has_number}
+use Rattle.lvm_session.specs.Dark.{AreTold, hand_of_copy}
+use Rattle.lvm_session.specs.Owners.{AreOwned, AreRows, HaveTickets, same_owner, target_flies}
+use Rattle.lvm_session.specs.Requests.{IsOpenOne}
+use Rattle.lvm_session.specs.Causes.{AreCaused, AreCounted, IsAnswered, IsChosenSince, IsCopyCaused, is_held_stale, is_over}
+use Rattle.lvm_session.specs.Sound.{IsAsked, IsCopy, IsGoing, IsOn, IsSound, IsTold, count_if, hands_with, is_dark, is_hand, may_be_fresh, out_with, pins, stays_fresh, waiting_rows, waits, with_row, has_number}
 use Rattle.lvm_keeps.specs.Begins.{Begins, BeginningIsSound}
 use Rattle.lvm_keeps.proofs.Small.{not_so}
 

@@ -31,9 +31,9 @@ use Rattle.lvm_session.specs.State.{Core, is_there}
 use Rattle.lvm_session.specs.Judging.{copies_for, is_changed, is_missing, is_running, is_settled, is_usable, is_waiting, lp_of}
 use Rattle.lvm_session.specs.Bringing.{groups_of, is_whole}
 use Rattle.lvm_session.specs.Enabled.{is_lost, same_status}
-use Rattle.lvm_sound.specs.Left.{begun_left, copy_left, if_so, is_brought_up, is_held, lacks_dirty, lacks_note, left_by, phase_left, read_left, request_left, status_left, step_left, tried_of, turns_of, unbegun_left, unstarted_writes, update_work, waiting_targets, work_left, write_left}
-use Rattle.lvm_sound.specs.Requests.{IsLaid, IsOpenOne}
-use Rattle.lvm_sound.specs.Sound.{IsGoing, count_if}
+use Rattle.lvm_session.specs.Left.{begun_left, copy_left, if_so, is_brought_up, is_held, lacks_dirty, lacks_note, left_by, phase_left, read_left, request_left, status_left, step_left, tried_of, turns_of, unbegun_left, unstarted_writes, update_work, waiting_targets, work_left, write_left}
+use Rattle.lvm_session.specs.Requests.{IsLaid, IsOpenOne}
+use Rattle.lvm_session.specs.Sound.{IsGoing, count_if}
 use Rattle.lvm_keeps.specs.Falls.{LeftIsBounded, most_left}
 use Rattle.lvm_keeps.proofs.Small.{not_so}
 

@@ -17,17 +17,17 @@ use Rattle.lvm_session.specs.declared.open.Power.TheVariants as power
 use Rattle.lvm_session.specs.State.{Core, State, state}
 use Rattle.lvm_session.specs.Judging.{is_running}
 use Rattle.lvm_session.specs.Bringing.{hand_of, has_row, is_out, is_whole, step_row}
-use Rattle.lvm_events.specs.declared.answers.CopyState.TheVariants as copy
-use Rattle.lvm_events.specs.Calls.{Closes, closed, state_of_copy, state_at_end}
-use Rattle.lvm_sound.specs.Owners.{AreOwned, AreRows, IsStepOf, IsTransferOf}
-use Rattle.lvm_sound.specs.Requests.{IsOpenOne}
-use Rattle.lvm_sound.specs.Causes.{AreCaused, AreCounted, IsAnswered, IsCaused, IsCounted, IsLandedFor, is_over}
-use Rattle.lvm_sound.specs.Sound.{IsCopy, IsFitting, IsGoing, IsOn, IsSound, IsTold, count_if, is_hand, waiting_rows, with_row, out_with}
+use Rattle.lvm_session.specs.declared.answers.CopyState.TheVariants as copy
+use Rattle.lvm_session.specs.Calls.{Closes, closed, state_of_copy, state_at_end}
+use Rattle.lvm_session.specs.Owners.{AreOwned, AreRows, IsStepOf, IsTransferOf}
+use Rattle.lvm_session.specs.Requests.{IsOpenOne}
+use Rattle.lvm_session.specs.Causes.{AreCaused, AreCounted, IsAnswered, IsCaused, IsCounted, IsLandedFor, is_over}
+use Rattle.lvm_session.specs.Sound.{IsCopy, IsFitting, IsGoing, IsOn, IsSound, IsTold, count_if, is_hand, waiting_rows, with_row, out_with}
 use Rattle.lvm_keeps.specs.Keeps.{CloseKeeps}
 use Rattle.lvm_keeps.proofs.Lists.{all_on}
 use Rattle.lvm_keeps.proofs.Small.{not_so}
 use Rattle.lvm_keeps.proofs.Still.{moved, open_on, landed_on, counted_on, origin_on, if_on}
-use Rattle.lvm_events.specs.Dark.{hand_of_copy}
+use Rattle.lvm_session.specs.Dark.{hand_of_copy}
 
 -- it isn't running: no transfer of it is out, and it has ended
 is_still : (c : OpenCopy) → ((cursor : ℕ) → state_of_copy c ≡ copy.Running cursor → ⊥) → (is_out c.step ≡ false) × (is_running c ≡ false)

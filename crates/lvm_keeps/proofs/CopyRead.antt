@@ -22,14 +22,14 @@ use Rattle.lvm_session.specs.State.{Core, State, state}
 use Rattle.lvm_session.specs.Judging.{copies_in, group_in, is_missing, is_running, is_usable}
 use Rattle.lvm_session.specs.Bringing.{copy_ends, end_of, ends_if, has_row, is_cleared, is_idle, is_out, is_whole, next_source, sources_of, step_row}
 use Rattle.lvm_session.specs.Enabled.{is_free_step, may_read}
-use Rattle.lvm_events.specs.Dark.{hand_of_copy}
-use Rattle.lvm_events.specs.Events.{IsCopyTransfer, flown}
-use Rattle.lvm_events.specs.Marks.{is_among}
-use Rattle.lvm_sound.specs.Left.{copy_updates}
-use Rattle.lvm_sound.specs.Owners.{AreOwned, flies, same_owner}
-use Rattle.lvm_sound.specs.Requests.{IsOpenOne}
-use Rattle.lvm_sound.specs.Causes.{AreCaused, IsCaused, IsChosenSince, IsCopyCaused}
-use Rattle.lvm_sound.specs.Sound.{IsCopy, IsFitting, IsGoing, IsOn, IsSound, IsTold, count_if, has_number, is_dark, is_hand, out_with, waiting_rows, with_row}
+use Rattle.lvm_session.specs.Dark.{hand_of_copy}
+use Rattle.lvm_session.specs.Events.{IsCopyTransfer, flown}
+use Rattle.lvm_session.specs.Marks.{is_among}
+use Rattle.lvm_session.specs.Left.{copy_updates}
+use Rattle.lvm_session.specs.Owners.{AreOwned, flies, same_owner}
+use Rattle.lvm_session.specs.Requests.{IsOpenOne}
+use Rattle.lvm_session.specs.Causes.{AreCaused, IsCaused, IsChosenSince, IsCopyCaused}
+use Rattle.lvm_session.specs.Sound.{IsCopy, IsFitting, IsGoing, IsOn, IsSound, IsTold, count_if, has_number, is_dark, is_hand, out_with, waiting_rows, with_row}
 use Rattle.lvm_keeps.specs.Keeps.{CopyReadKeeps}
 use Rattle.lvm_keeps.proofs.Causes.{copy_still, origin_still}
 use Rattle.lvm_keeps.proofs.Fitting.{still_fits}

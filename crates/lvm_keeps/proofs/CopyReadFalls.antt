@@ -26,9 +26,9 @@ use Rattle.lvm_session.specs.State.{Core, State, is_there}
 use Rattle.lvm_session.specs.Judging.{copies_for, copies_in, is_changed, is_running, is_waiting}
 use Rattle.lvm_session.specs.Bringing.{groups_of, is_whole}
 use Rattle.lvm_session.specs.Enabled.{is_lost}
-use Rattle.lvm_events.specs.Events.{flown}
-use Rattle.lvm_sound.specs.Left.{begun_left, copy_left, if_so, is_held, lacks_dirty, left_by, left_of, phase_left, read_left, request_left, status_left, step_left, tried_of, turns_of, unbegun_left, update_work, work_left}
-use Rattle.lvm_sound.specs.Sound.{IsCopy}
+use Rattle.lvm_session.specs.Events.{flown}
+use Rattle.lvm_session.specs.Left.{begun_left, copy_left, if_so, is_held, lacks_dirty, left_by, left_of, phase_left, read_left, request_left, status_left, step_left, tried_of, turns_of, unbegun_left, update_work, work_left}
+use Rattle.lvm_session.specs.Sound.{IsCopy}
 use Rattle.lvm_keeps.specs.Falls.{CopyReadFalls}
 use Rattle.lvm_keeps.proofs.Bounding.{take_few}
 use Rattle.lvm_keeps.proofs.CopyRead.{at_rest, running, short}

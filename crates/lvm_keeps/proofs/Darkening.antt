@@ -26,11 +26,11 @@ use Rattle.lvm_session.specs.declared.open.Power.TheVariants as power
 use Rattle.lvm_session.specs.State.{Core, State, state}
 use Rattle.lvm_session.specs.Bringing.{with_back}
 use Rattle.lvm_session.specs.Judging.{copies_in, is_stale, is_waiting, is_wanted_stale}
-use Rattle.lvm_events.specs.Dark.{all_dark, ended_as, ended_copy, hand_of_copy}
-use Rattle.lvm_events.specs.Turns.{SaysTheSame}
-use Rattle.lvm_sound.specs.Requests.{IsLanded, IsOpenOne}
-use Rattle.lvm_sound.specs.Causes.{AreCounted, HaveSourcesFailed, IsAnswered, IsCopyCaused, IsCounted, IsLandedFor, IsTrueToOrigin, is_held_stale, is_over}
-use Rattle.lvm_sound.specs.Sound.{IsAsked, IsFitting, IsSound, IsTold, count_if, has_number, is_dark, is_hand}
+use Rattle.lvm_session.specs.Dark.{all_dark, ended_as, ended_copy, hand_of_copy}
+use Rattle.lvm_session.specs.Turns.{SaysTheSame}
+use Rattle.lvm_session.specs.Requests.{IsLanded, IsOpenOne}
+use Rattle.lvm_session.specs.Causes.{AreCounted, HaveSourcesFailed, IsAnswered, IsCopyCaused, IsCounted, IsLandedFor, IsTrueToOrigin, is_held_stale, is_over}
+use Rattle.lvm_session.specs.Sound.{IsAsked, IsFitting, IsSound, IsTold, count_if, has_number, is_dark, is_hand}
 use Rattle.lvm_keeps.specs.Keeps.{CutKeeps}
 use Rattle.lvm_keeps.proofs.Fitting.{still_fits}
 use Rattle.lvm_keeps.proofs.Ending.{back_long, copy_over, each_after, failed_before, hands_long, landed_ended, no_copy_hand, none_in_hand, ordered_after, pool_after, requests_after, table_after}

@@ -24,9 +24,9 @@ use Rattle.lvm_session.specs.declared.open.Open.{Open}
 use Rattle.lvm_session.specs.State.{Core}
 use Rattle.lvm_session.specs.Bringing.{with_back}
 use Rattle.lvm_session.specs.Judging.{is_running, is_waiting}
-use Rattle.lvm_events.specs.Dark.{AreOpen, AreTold, IsAscending, ended_as, ended_copy, hand_of_copy, landings, with_hands}
-use Rattle.lvm_sound.specs.Requests.{IsLanded}
-use Rattle.lvm_sound.specs.Sound.{IsAsked, count_if, hands_with, is_hand, outcome_by, outcome_in, place_in, waits}
+use Rattle.lvm_session.specs.Dark.{AreOpen, AreTold, IsAscending, ended_as, ended_copy, hand_of_copy, landings, with_hands}
+use Rattle.lvm_session.specs.Requests.{IsLanded}
+use Rattle.lvm_session.specs.Sound.{IsAsked, count_if, hands_with, is_hand, outcome_by, outcome_in, place_in, waits}
 use Rattle.lvm_keeps.proofs.Lists.{count_cons, length_set}
 use Rattle.lvm_keeps.proofs.Small.{both, is_false, not_so}
 use Rattle.lvm_keeps.proofs.Telling.{asked_still, open_still}

@@ -7,7 +7,7 @@ use Rattle.lvm_mwc.specs.Entries.{AreEntries}
 use Rattle.lvm_mwc.specs.Cache.{has_disk}
 use Rattle.lvm_status.specs.Members.{HasItsRows}
 use Rattle.lvm_session.specs.State.{Core}
-use Rattle.lvm_sound.specs.Sound.{IsFitting}
+use Rattle.lvm_session.specs.Sound.{IsFitting}
 
 -- the parts that stay
 abbrev pub Fixed : Type 0

@@ -24,9 +24,9 @@ use Rattle.lvm_session.specs.declared.open.Open.{Open}
 use Rattle.lvm_session.specs.declared.open.Power.TheVariants as power
 use Rattle.lvm_session.specs.State.{Core, State}
 use Rattle.lvm_session.specs.Judging.{copies_for, facts_of, is_kept, is_missing, is_stale, is_sure, is_usable, is_waiting, is_wanted_stale, next_for}
-use Rattle.lvm_sound.specs.Requests.{IsOpenOne, IsPhase, is_past_held}
-use Rattle.lvm_sound.specs.Causes.{AnyFailedSince, AreCaused, FailedSince, HasFailed, IsCaused, IsLandedFor, fails_on, is_blamed, was_fresh, was_usable}
-use Rattle.lvm_sound.specs.Sound.{IsSound}
+use Rattle.lvm_session.specs.Requests.{IsOpenOne, IsPhase, is_past_held}
+use Rattle.lvm_session.specs.Causes.{AnyFailedSince, AreCaused, FailedSince, HasFailed, IsCaused, IsLandedFor, fails_on, is_blamed, was_fresh, was_usable}
+use Rattle.lvm_session.specs.Sound.{IsSound}
 use Rattle.lvm_keeps.specs.Keeps.{LandingIsCaused}
 use Rattle.lvm_keeps.proofs.Lists.{all_at}
 use Rattle.lvm_keeps.proofs.Small.{both, is_false, not_so}

@@ -19,10 +19,10 @@ use Rattle.lvm_session.specs.declared.open.Power.TheVariants as power
 use Rattle.lvm_session.specs.State.{Core, State, is_there}
 use Rattle.lvm_session.specs.Judging.{facts_of, group_of, is_waiting}
 use Rattle.lvm_session.specs.Enabled.{is_lost}
-use Rattle.lvm_events.specs.Events.{after_landing, landed_as, without_pin}
-use Rattle.lvm_sound.specs.Left.{begun_left, copy_left, if_so, left_by, left_of, read_left, request_left, status_left, unbegun_left, update_work, waiting_targets, work_left, write_left}
-use Rattle.lvm_sound.specs.Requests.{IsOpenOne}
-use Rattle.lvm_sound.specs.Sound.{count_if}
+use Rattle.lvm_session.specs.Events.{after_landing, landed_as, without_pin}
+use Rattle.lvm_session.specs.Left.{begun_left, copy_left, if_so, left_by, left_of, read_left, request_left, status_left, unbegun_left, update_work, waiting_targets, work_left, write_left}
+use Rattle.lvm_session.specs.Requests.{IsOpenOne}
+use Rattle.lvm_session.specs.Sound.{count_if}
 use Rattle.lvm_keeps.specs.Falls.{LandingFalls}
 use Rattle.lvm_keeps.proofs.Lists.{all_at, count_set}
 use Rattle.lvm_keeps.proofs.Leaving.{left_same}

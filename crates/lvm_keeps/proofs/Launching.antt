@@ -9,8 +9,8 @@ use Rattle.lvm_vol.proofs.Order.{any-push}
 use Rattle.lvm_session.specs.declared.flown.Flown.{Flown}
 use Rattle.lvm_session.specs.declared.flown.Owner.{Owner}
 use Rattle.lvm_session.specs.State.{Core}
-use Rattle.lvm_sound.specs.Owners.{AreRows, HaveTickets, IsRowOf, same_owner}
-use Rattle.lvm_sound.specs.Sound.{count_if}
+use Rattle.lvm_session.specs.Owners.{AreRows, HaveTickets, IsRowOf, same_owner}
+use Rattle.lvm_session.specs.Sound.{count_if}
 
 -- ---- its buffer
 

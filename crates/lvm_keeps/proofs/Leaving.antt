@@ -13,7 +13,7 @@ use Rattle.lvm_session.specs.declared.flown.Flown.{Flown}
 use Rattle.lvm_session.specs.declared.open.Open.{Open}
 use Rattle.lvm_session.specs.State.{Core}
 use Rattle.lvm_session.specs.Judging.{copies_for, is_changed, is_waiting}
-use Rattle.lvm_sound.specs.Left.{begun_left, if_so, is_held, lacks_dirty, phase_left, read_left, request_left, turns_of, unbegun_left, update_work}
+use Rattle.lvm_session.specs.Left.{begun_left, if_so, is_held, lacks_dirty, phase_left, read_left, request_left, turns_of, unbegun_left, update_work}
 use Rattle.lvm_keeps.proofs.Still.{changed}
 
 module _ (core : Core) (history : Log) (requests : List Open) (queue : Waiting) (pool : List Bool) (flying : List Flown) (entries : List CacheEntry) (last : List ℕ) where

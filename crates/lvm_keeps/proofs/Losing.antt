@@ -12,8 +12,8 @@ use Rattle.lvm_status.specs.Update.{members_there}
 use Rattle.lvm_session.specs.State.{Core, State, is_there, votes_there}
 use Rattle.lvm_session.specs.Judging.{is_missing}
 use Rattle.lvm_session.specs.Enabled.{is_lost}
-use Rattle.lvm_sound.specs.Causes.{AnyFailedSince, FailedSince}
-use Rattle.lvm_sound.specs.Sound.{IsSound}
+use Rattle.lvm_session.specs.Causes.{AnyFailedSince, FailedSince}
+use Rattle.lvm_session.specs.Sound.{IsSound}
 use Rattle.lvm_keeps.specs.Keeps.{LossIsCaused}
 use Rattle.lvm_keeps.proofs.Landing.{witness}
 use Rattle.lvm_keeps.proofs.Small.{both, is_false, not_so}

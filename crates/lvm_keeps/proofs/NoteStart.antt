@@ -25,10 +25,10 @@ use Rattle.lvm_session.specs.declared.open.Power.TheVariants as power
 use Rattle.lvm_session.specs.State.{Core, State, state}
 use Rattle.lvm_session.specs.Judging.{group_of, has_names, is_missing, is_waiting, lp_of}
 use Rattle.lvm_session.specs.Enabled.{is_unnamed, note_due, wants_record}
-use Rattle.lvm_events.specs.Events.{IsNoteWrite, flown}
-use Rattle.lvm_sound.specs.Owners.{AreOwned, IsTransferOf, flies, same_owner}
-use Rattle.lvm_sound.specs.Requests.{IsOpenOne, IsPinned, IsRecorded, IsShaped, IsTarget, has_record, mode_for}
-use Rattle.lvm_sound.specs.Sound.{IsCopy, IsFitting, IsGoing, IsOn, IsSound, IsTold, count_if, has_number, is_dark, out_with, pins}
+use Rattle.lvm_session.specs.Events.{IsNoteWrite, flown}
+use Rattle.lvm_session.specs.Owners.{AreOwned, IsTransferOf, flies, same_owner}
+use Rattle.lvm_session.specs.Requests.{IsOpenOne, IsPinned, IsRecorded, IsShaped, IsTarget, has_record, mode_for}
+use Rattle.lvm_session.specs.Sound.{IsCopy, IsFitting, IsGoing, IsOn, IsSound, IsTold, count_if, has_number, is_dark, out_with, pins}
 use Rattle.lvm_keeps.specs.Keeps.{NoteStartKeeps}
 use Rattle.lvm_keeps.proofs.Causes.{copies_still, origin_still}
 use Rattle.lvm_keeps.proofs.Fitting.{still_fits}

@@ -25,10 +25,10 @@ use Rattle.lvm_session.specs.declared.open.Power.TheVariants as power
 use Rattle.lvm_session.specs.State.{Core, State, is_there}
 use Rattle.lvm_session.specs.Judging.{copies_for, group_of, is_changed, is_missing, is_waiting}
 use Rattle.lvm_session.specs.Enabled.{is_lost, is_unnamed, note_due, wants_record}
-use Rattle.lvm_events.specs.Events.{flown}
-use Rattle.lvm_sound.specs.Left.{begun_left, copy_left, if_so, is_held, lacks_dirty, lacks_note, left_by, left_of, phase_left, read_left, request_left, status_left, turns_of, unbegun_left, update_work, work_left, write_left}
-use Rattle.lvm_sound.specs.Requests.{IsPhase}
-use Rattle.lvm_sound.specs.Sound.{count_if}
+use Rattle.lvm_session.specs.Events.{flown}
+use Rattle.lvm_session.specs.Left.{begun_left, copy_left, if_so, is_held, lacks_dirty, lacks_note, left_by, left_of, phase_left, read_left, request_left, status_left, turns_of, unbegun_left, update_work, work_left, write_left}
+use Rattle.lvm_session.specs.Requests.{IsPhase}
+use Rattle.lvm_session.specs.Sound.{count_if}
 use Rattle.lvm_keeps.specs.Falls.{NoteStartFalls}
 use Rattle.lvm_keeps.proofs.Lists.{all_at, count_cons}
 use Rattle.lvm_keeps.proofs.Noted.{flight_beside, named_still}

@@ -17,7 +17,7 @@ use Rattle.lvm_mwc.specs.Runs.{StartsNote as Starting}
 use Rattle.lvm_mwc.proofs.FirstsLemmas.{find-with, find-with_other}
 use Rattle.lvm_mwc.proofs.NamedLemmas.{named_after_all}
 use Rattle.lvm_session.specs.Judging.{copies_in}
-use Rattle.lvm_events.specs.Marks.{is_among}
+use Rattle.lvm_session.specs.Marks.{is_among}
 use Rattle.lvm_keeps.proofs.Lists.{all_on}
 use Rattle.lvm_keeps.proofs.Small.{not_so}
 

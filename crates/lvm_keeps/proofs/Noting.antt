@@ -16,8 +16,8 @@ use Rattle.lvm_session.specs.declared.open.Power.TheVariants as power
 use Rattle.lvm_session.specs.State.{Core, State}
 use Rattle.lvm_session.specs.Judging.{facts_of, has_dirty_mark, has_names, is_waiting, mode_of}
 use Rattle.lvm_session.specs.Enabled.{target_due, target_next}
-use Rattle.lvm_sound.specs.Requests.{IsOpenOne, IsReady, has_record, mode_for}
-use Rattle.lvm_sound.specs.Sound.{IsSound}
+use Rattle.lvm_session.specs.Requests.{IsOpenOne, IsReady, has_record, mode_for}
+use Rattle.lvm_session.specs.Sound.{IsSound}
 use Rattle.lvm_keeps.specs.Keeps.{FirstStartIsNoted}
 use Rattle.lvm_keeps.proofs.Lists.{all_at}
 use Rattle.lvm_keeps.proofs.Small.{both, not_so}

@@ -19,11 +19,11 @@ use Rattle.lvm_session.specs.State.{Core, State, state}
 use Rattle.lvm_session.specs.Judging.{copies_in, is_waiting}
 use Rattle.lvm_session.specs.Bringing.{with_back}
 use Rattle.lvm_session.specs.Enabled.{is_lost}
-use Rattle.lvm_events.specs.Dark.{all_off, ended_as, ended_copy, hand_of_copy}
-use Rattle.lvm_sound.specs.Owners.{AreRows}
-use Rattle.lvm_sound.specs.Requests.{IsLanded, IsOpenOne}
-use Rattle.lvm_sound.specs.Causes.{AreCounted, HaveSourcesFailed, IsAnswered, IsCopyCaused, IsCounted, IsLandedFor, IsTrueToOrigin, is_over}
-use Rattle.lvm_sound.specs.Sound.{IsFitting, IsGoing, IsSound, IsTold, count_if, is_dark, is_hand, out_with}
+use Rattle.lvm_session.specs.Dark.{all_off, ended_as, ended_copy, hand_of_copy}
+use Rattle.lvm_session.specs.Owners.{AreRows}
+use Rattle.lvm_session.specs.Requests.{IsLanded, IsOpenOne}
+use Rattle.lvm_session.specs.Causes.{AreCounted, HaveSourcesFailed, IsAnswered, IsCopyCaused, IsCounted, IsLandedFor, IsTrueToOrigin, is_over}
+use Rattle.lvm_session.specs.Sound.{IsFitting, IsGoing, IsSound, IsTold, count_if, is_dark, is_hand, out_with}
 use Rattle.lvm_keeps.specs.Keeps.{OffKeeps}
 use Rattle.lvm_keeps.proofs.Fitting.{still_fits}
 use Rattle.lvm_keeps.proofs.Ending.{back_long, copy_over, each_after, failed_before, hands_long, landed_ended, no_copy_hand, none_in_hand, ordered_after, pool_after, requests_after, table_after}

@@ -5,8 +5,8 @@ use Rattle.lvm_disk.specs.declared.shelf.Arrange.TheVariants as arrange
 use Rattle.lvm_disk.specs.Device.{Device}
 use Rattle.lvm_disk.specs.Steps.{ArrangeGives, with_order}
 use Rattle.lvm_session.specs.State.{Core, State, state}
-use Rattle.lvm_events.specs.Dark.{after_arrange}
-use Rattle.lvm_sound.specs.Sound.{IsSound}
+use Rattle.lvm_session.specs.Dark.{after_arrange}
+use Rattle.lvm_session.specs.Sound.{IsSound}
 use Rattle.lvm_keeps.specs.Keeps.{OrderKeeps}
 use Rattle.lvm_keeps.proofs.Darkening.{darkens}
 use Rattle.lvm_keeps.proofs.Wait.{keeps}

@@ -3,8 +3,8 @@ use Rattle.std.proofs.Common.{◌≡◌, true, refl}
 use Rattle.lvm_session.specs.declared.open.Power.{Power}
 use Rattle.lvm_session.specs.declared.open.Power.TheVariants as power
 use Rattle.lvm_session.specs.State.{Core}
-use Rattle.lvm_sound.specs.Causes.{is_over}
-use Rattle.lvm_sound.specs.Left.{left_by}
+use Rattle.lvm_session.specs.Causes.{is_over}
+use Rattle.lvm_session.specs.Left.{left_by}
 use Rattle.lvm_keeps.specs.Falls.{OverLeavesNothing}
 use Rattle.lvm_keeps.proofs.Small.{not_so}
 

@@ -25,11 +25,11 @@ use Rattle.lvm_session.specs.declared.open.Power.TheVariants as power
 use Rattle.lvm_session.specs.State.{Core, State, state}
 use Rattle.lvm_session.specs.Judging.{group_of, facts_of, is_waiting, is_missing, is_wanted_stale, next_for}
 use Rattle.lvm_session.specs.Enabled.{can_pin, is_pin, may_pin}
-use Rattle.lvm_events.specs.Events.{IsDataTransfer}
-use Rattle.lvm_sound.specs.Owners.{AreOwned, IsDataOf, flies, target_flies}
-use Rattle.lvm_sound.specs.Requests.{IsOpenOne, IsPhase, IsRequest, IsRecorded, mode_for, is_past_held}
-use Rattle.lvm_sound.specs.Causes.{AreCaused, AreCounted, IsAnswered, IsCaused, IsChosenSince, IsLandedFor, fails_on, is_held_stale}
-use Rattle.lvm_sound.specs.Sound.{IsAsked, IsCopy, IsFitting, IsGoing, IsOn, IsSound, IsTold, count_if, is_dark, is_hand, out_with, pins, with_row}
+use Rattle.lvm_session.specs.Events.{IsDataTransfer}
+use Rattle.lvm_session.specs.Owners.{AreOwned, IsDataOf, flies, target_flies}
+use Rattle.lvm_session.specs.Requests.{IsOpenOne, IsPhase, IsRequest, IsRecorded, mode_for, is_past_held}
+use Rattle.lvm_session.specs.Causes.{AreCaused, AreCounted, IsAnswered, IsCaused, IsChosenSince, IsLandedFor, fails_on, is_held_stale}
+use Rattle.lvm_session.specs.Sound.{IsAsked, IsCopy, IsFitting, IsGoing, IsOn, IsSound, IsTold, count_if, is_dark, is_hand, out_with, pins, with_row}
 use Rattle.lvm_keeps.specs.Keeps.{PinKeeps}
 use Rattle.lvm_keeps.proofs.Causes.{answered_still, copies_still, counted_still, origin_still}
 use Rattle.lvm_keeps.proofs.Fitting.{still_fits}
@@ -42,7 +42,7 @@ use Rattle.lvm_keeps.proofs.Small.{both, is_false, not_so}
 use Rattle.lvm_keeps.proofs.Still.{moved, open_on, bring_on, if_on, no_cause}
 use Rattle.lvm_vol.specs.Log.{is_open}
 use Rattle.lvm_session.specs.Bringing.{has_row, step_row}
-use Rattle.lvm_sound.specs.Left.{marks_later}
+use Rattle.lvm_session.specs.Left.{marks_later}
 use Rattle.lvm_keeps.proofs.Whole.{sound_when_on}
 
 module _ (s : State) (sound : IsSound s) (on : s.core.power ≡ power.On) (place : ℕ) (o : Open) (there : slice_get s.core.requests place ≡ Some o) (may : may_pin s.core o ≡ true) where

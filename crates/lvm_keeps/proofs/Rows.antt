@@ -11,7 +11,7 @@ use Rattle.lvm_mwc.specs.declared.entries.CacheEntry.{CacheEntry}
 use Rattle.lvm_mwc.specs.Cache.{Cached}
 use Rattle.lvm_num.specs.declared.status.Status.{Status}
 use Rattle.lvm_num.specs.declared.record.Stamp.{Stamp}
-use Rattle.lvm_write.specs.declared.homes.Homes.{Homes}
+use Rattle.lvm_homes.specs.declared.homes.Homes.{Homes}
 use Rattle.lvm_session.specs.declared.bringing.OpenCopy.{OpenCopy}
 use Rattle.lvm_session.specs.declared.bringing.Step.{Step}
 use Rattle.lvm_session.specs.declared.bringing.Step.TheVariants as step
@@ -20,8 +20,8 @@ use Rattle.lvm_session.specs.declared.flown.Owner.{Owner}
 use Rattle.lvm_session.specs.declared.flown.Owner.TheVariants as owner
 use Rattle.lvm_session.specs.declared.open.Open.{Open}
 use Rattle.lvm_session.specs.State.{Core}
-use Rattle.lvm_sound.specs.Owners.{AreOwned, AreRows, IsDataOf, IsStatusOf, IsStepOf, IsTransferOf, flies, same_owner}
-use Rattle.lvm_sound.specs.Sound.{count_if}
+use Rattle.lvm_session.specs.Owners.{AreOwned, AreRows, IsDataOf, IsStatusOf, IsStepOf, IsTransferOf, flies, same_owner}
+use Rattle.lvm_session.specs.Sound.{count_if}
 use Rattle.lvm_keeps.proofs.Lists.{all_on, count_cons}
 use Rattle.lvm_keeps.proofs.Small.{not_either}
 use Rattle.lvm_keeps.proofs.Still.{changed}

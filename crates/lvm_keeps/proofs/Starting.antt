@@ -30,10 +30,10 @@ use Rattle.lvm_session.specs.State.{Core, State}
 use Rattle.lvm_session.specs.Judging.{aims, copies_for, facts_of, group_in, is_caught, is_missing, is_running, is_settled, is_stale, is_usable, is_wanted_stale, lp_of, pps_of, same_pps}
 use Rattle.lvm_session.specs.Bringing.{groups_of, is_whole}
 use Rattle.lvm_session.specs.Enabled.{target_due, target_next}
-use Rattle.lvm_events.specs.Marks.{can_replace, is_among, is_entailed_in, is_left_behind}
-use Rattle.lvm_sound.specs.Requests.{IsLaid, IsOpenOne, is_left_out}
-use Rattle.lvm_sound.specs.Causes.{is_held_stale}
-use Rattle.lvm_sound.specs.Sound.{IsGoing, IsSound, is_clearing}
+use Rattle.lvm_session.specs.Marks.{can_replace, is_among, is_entailed_in, is_left_behind}
+use Rattle.lvm_session.specs.Requests.{IsLaid, IsOpenOne, is_left_out}
+use Rattle.lvm_session.specs.Causes.{is_held_stale}
+use Rattle.lvm_session.specs.Sound.{IsGoing, IsSound, is_clearing}
 use Rattle.lvm_keeps.specs.Keeps.{FirstStartIsWhole}
 use Rattle.lvm_keeps.proofs.Landing.{or_parts, witness}
 use Rattle.lvm_keeps.proofs.Lists.{all_at}

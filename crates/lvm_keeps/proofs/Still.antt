@@ -16,10 +16,10 @@ use Rattle.lvm_session.specs.declared.open.Open.{Open}
 use Rattle.lvm_session.specs.State.{Core, State, state}
 use Rattle.lvm_session.specs.Judging.{is_caught, is_held_back, is_kept, group_in, is_settled, is_wanted_stale, pps_of}
 use Rattle.lvm_session.specs.Enabled.{is_free_step}
-use Rattle.lvm_events.specs.Marks.{is_among}
-use Rattle.lvm_sound.specs.Requests.{IsTarget, IsShaped, IsReady, IsJudged, IsLaid, IsOpenOne, is_failed_and_sure, may_lack, will_be_kept}
-use Rattle.lvm_sound.specs.Causes.{IsCounted, IsLandedFor, IsCopyCaused, IsTrueToOrigin, HaveSourcesFailed}
-use Rattle.lvm_sound.specs.Sound.{IsCopy}
+use Rattle.lvm_session.specs.Marks.{is_among}
+use Rattle.lvm_session.specs.Requests.{IsTarget, IsShaped, IsReady, IsJudged, IsLaid, IsOpenOne, is_failed_and_sure, may_lack, will_be_kept}
+use Rattle.lvm_session.specs.Causes.{IsCounted, IsLandedFor, IsCopyCaused, IsTrueToOrigin, HaveSourcesFailed}
+use Rattle.lvm_session.specs.Sound.{IsCopy}
 use Rattle.lvm_keeps.proofs.Lists.{all_on}
 use Rattle.lvm_keeps.proofs.Small.{and_on, left_on, most_on, none_on}
 

@@ -4,9 +4,9 @@ use Rattle.std.specs.List.{list_any, remove, AllByRecursion}
 use Rattle.std.proofs.lemmas.Bool.{eqb-true}
 use Rattle.lvm_session.specs.declared.open.Open.{Open}
 use Rattle.lvm_session.specs.Judging.{is_waiting, place_of, held_of}
-use Rattle.lvm_events.specs.Dark.{IsAscending}
+use Rattle.lvm_session.specs.Dark.{IsAscending}
 use Rattle.lvm_hold.specs.declared.queue.Row.{Row}
-use Rattle.lvm_sound.specs.Sound.{waiting_rows}
+use Rattle.lvm_session.specs.Sound.{waiting_rows}
 use Rattle.lvm_keeps.proofs.Lists.{all_at, all_on, all_removed}
 
 -- one that has another's number stands as well among later ones

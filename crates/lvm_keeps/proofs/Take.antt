@@ -18,7 +18,7 @@ use Rattle.lvm_path.specs.declared.target.Target.{Target}
 use Rattle.lvm_path.specs.Asks.{is_write, lv_of}
 use Rattle.lvm_path.specs.Targets.{are_over, is_begun, is_failed}
 use Rattle.lvm_stale.specs.Table.{is_pp}
-use Rattle.lvm_events.specs.declared.answers.Taken.TheVariants as answer
+use Rattle.lvm_session.specs.declared.answers.Taken.TheVariants as answer
 use Rattle.lvm_session.specs.declared.bringing.OpenCopy.{OpenCopy}
 use Rattle.lvm_session.specs.declared.flown.Owner.TheVariants as owner
 use Rattle.lvm_session.specs.declared.open.Open.{Open}
@@ -27,13 +27,13 @@ use Rattle.lvm_session.specs.declared.open.Power.TheVariants as power
 use Rattle.lvm_session.specs.State.{Core, State, state}
 use Rattle.lvm_session.specs.Judging.{copies_in, group_of, is_missing, is_waiting, is_wanted_stale}
 use Rattle.lvm_session.specs.Bringing.{has_row, step_row}
-use Rattle.lvm_events.specs.Calls.{TakeAt, TakesLanded, is_asked}
-use Rattle.lvm_events.specs.declared.answers.Taken.{Taken}
-use Rattle.lvm_sound.specs.Left.{marks_later}
-use Rattle.lvm_sound.specs.Owners.{AreOwned, IsDataOf, flies, target_flies}
-use Rattle.lvm_sound.specs.Requests.{IsLanded, IsOpenOne}
-use Rattle.lvm_sound.specs.Causes.{AreCaused, AreCounted, IsAnswered, IsCaused, IsChosenSince, IsCopyCaused, IsCounted, IsLandedFor, fails_on, is_held_stale, is_over}
-use Rattle.lvm_sound.specs.Sound.{IsAsked, IsCopy, IsFitting, IsGoing, IsOn, IsSound, IsTold, count_if, is_hand, out_with, pins, with_row}
+use Rattle.lvm_session.specs.Calls.{TakeAt, TakesLanded, is_asked}
+use Rattle.lvm_session.specs.declared.answers.Taken.{Taken}
+use Rattle.lvm_session.specs.Left.{marks_later}
+use Rattle.lvm_session.specs.Owners.{AreOwned, IsDataOf, flies, target_flies}
+use Rattle.lvm_session.specs.Requests.{IsLanded, IsOpenOne}
+use Rattle.lvm_session.specs.Causes.{AreCaused, AreCounted, IsAnswered, IsCaused, IsChosenSince, IsCopyCaused, IsCounted, IsLandedFor, fails_on, is_held_stale, is_over}
+use Rattle.lvm_session.specs.Sound.{IsAsked, IsCopy, IsFitting, IsGoing, IsOn, IsSound, IsTold, count_if, is_hand, out_with, pins, with_row}
 use Rattle.lvm_keeps.specs.Keeps.{TakeKeeps}
 use Rattle.lvm_keeps.proofs.Fitting.{still_fits}
 use Rattle.lvm_keeps.proofs.Lists.{all_at, all_on, all_removed, any_removed, count_removed, get_removed, length_removed}

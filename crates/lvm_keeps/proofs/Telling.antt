@@ -8,7 +8,7 @@ use Rattle.lvm_vol.specs.Facts.{Fact, Request, begun, begun_by}
 use Rattle.lvm_vol.specs.Legal.{begins_in}
 use Rattle.lvm_vol.specs.Log.{asked, has_id, is_answered, is_open, lands_id, no_request, takes_id}
 use Rattle.lvm_vol.proofs.Order.{any-push, begun-push}
-use Rattle.lvm_sound.specs.Sound.{count_if, outcome_in, place_in, outcome_by}
+use Rattle.lvm_session.specs.Sound.{count_if, outcome_in, place_in, outcome_by}
 
 module _ (facts : List Fact) (f : Fact) (begins : begun_by f ≡ None) where
   begun_still : begun (facts ++ f ∷ []) ≡ begun facts

@@ -9,9 +9,9 @@ use Rattle.lvm_session.specs.declared.open.Open.{Open}
 use Rattle.lvm_session.specs.declared.open.Power.TheVariants as power
 use Rattle.lvm_session.specs.Judging.{copies_in}
 use Rattle.lvm_session.specs.State.{Core, State}
-use Rattle.lvm_sound.specs.Causes.{AreCounted, IsAnswered, IsCopyCaused, IsTrueToOrigin, is_over}
-use Rattle.lvm_sound.specs.Placed.{ArePlaced}
-use Rattle.lvm_sound.specs.Sound.{IsFitting, IsOn, IsSound, IsTold, is_dark, count_if, out_with}
+use Rattle.lvm_session.specs.Causes.{AreCounted, IsAnswered, IsCopyCaused, IsTrueToOrigin, is_over}
+use Rattle.lvm_session.specs.Placed.{ArePlaced}
+use Rattle.lvm_session.specs.Sound.{IsFitting, IsOn, IsSound, IsTold, is_dark, count_if, out_with}
 use Rattle.lvm_keeps.proofs.Causes.{Grounds, answered_still, counted_still, grounds}
 use Rattle.lvm_keeps.proofs.Lists.{all_on}
 use Rattle.lvm_keeps.proofs.Small.{not_so}

@@ -10,11 +10,11 @@ use Rattle.lvm_status.specs.Update.{members_there, seen}
 use Rattle.lvm_status.specs.Runs.{IsSound as IsSoundStatus}
 use Rattle.lvm_session.specs.declared.open.Power.TheVariants as power
 use Rattle.lvm_session.specs.State.{Core, State}
-use Rattle.lvm_events.specs.Marks.{is_entailed}
-use Rattle.lvm_sound.specs.Causes.{faults_at_first}
-use Rattle.lvm_sound.specs.Left.{updates_left}
-use Rattle.lvm_sound.specs.Placed.{ArePlaced}
-use Rattle.lvm_sound.specs.Sound.{IsFitting, IsLit, IsSound}
+use Rattle.lvm_session.specs.Marks.{is_entailed}
+use Rattle.lvm_session.specs.Causes.{faults_at_first}
+use Rattle.lvm_session.specs.Left.{updates_left}
+use Rattle.lvm_session.specs.Placed.{ArePlaced}
+use Rattle.lvm_session.specs.Sound.{IsFitting, IsLit, IsSound}
 
 -- nothing is under way in it
 pub record IsUnused (core : Core) : Type 0 where

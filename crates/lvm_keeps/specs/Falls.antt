@@ -10,13 +10,13 @@ use Rattle.lvm_session.specs.State.{Core, State, is_there}
 use Rattle.lvm_session.specs.Judging.{is_running, is_waiting}
 use Rattle.lvm_session.specs.Bringing.{groups_of}
 use Rattle.lvm_session.specs.Enabled.{first_event, is_lost}
-use Rattle.lvm_events.specs.Ends.{Ends}
+use Rattle.lvm_session.specs.Ends.{Ends}
 use Rattle.lvm_vol.specs.declared.entry.Outcome.{Outcome}
-use Rattle.lvm_events.specs.Events.{Lands, Pins, ReadsCopy, StartsNote}
-use Rattle.lvm_events.specs.Turns.{Makes}
-use Rattle.lvm_sound.specs.Causes.{is_over}
-use Rattle.lvm_sound.specs.Left.{left_of}
-use Rattle.lvm_sound.specs.Sound.{IsSound}
+use Rattle.lvm_session.specs.Events.{Lands, Pins, ReadsCopy, StartsNote}
+use Rattle.lvm_session.specs.Turns.{Makes}
+use Rattle.lvm_session.specs.Causes.{is_over}
+use Rattle.lvm_session.specs.Left.{left_of}
+use Rattle.lvm_session.specs.Sound.{IsSound}
 
 -- The first event that may be made leaves less work.
 abbrev pub EventsFall : Type 0

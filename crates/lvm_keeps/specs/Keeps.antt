@@ -5,24 +5,24 @@ use Rattle.lvm_disk.specs.declared.shelf.Arrange.{Arrange}
 use Rattle.lvm_vol.specs.declared.entry.Outcome.{Outcome}
 use Rattle.lvm_session.specs.declared.open.Power.TheVariants as power
 use Rattle.lvm_session.specs.State.{Core, State, state}
-use Rattle.lvm_events.specs.declared.answers.Taken.{Taken}
+use Rattle.lvm_session.specs.declared.answers.Taken.{Taken}
 use Rattle.lvm_path.specs.declared.ask.Ask.{Ask}
-use Rattle.lvm_events.specs.declared.answers.AskFault.{AskFault}
-use Rattle.lvm_events.specs.declared.answers.CopyFault.{CopyFault}
-use Rattle.lvm_events.specs.Calls.{Closes, OpenGives, SubmitGives, TakeGives}
-use Rattle.lvm_events.specs.Ends.{Ends}
-use Rattle.lvm_events.specs.Events.{Admits, Lands, Pins, ReadsCopy, StartsData, StartsNote, StartsStatus, WritesCopy}
-use Rattle.lvm_events.specs.Turns.{Arranges, Darkens, Finds, GoesOff}
+use Rattle.lvm_session.specs.declared.answers.AskFault.{AskFault}
+use Rattle.lvm_session.specs.declared.answers.CopyFault.{CopyFault}
+use Rattle.lvm_session.specs.Calls.{Closes, OpenGives, SubmitGives, TakeGives}
+use Rattle.lvm_session.specs.Ends.{Ends}
+use Rattle.lvm_session.specs.Events.{Admits, Lands, Pins, ReadsCopy, StartsData, StartsNote, StartsStatus, WritesCopy}
+use Rattle.lvm_session.specs.Turns.{Arranges, Darkens, Finds, GoesOff}
 use Rattle.lvm_path.specs.Asks.{is_write}
 use Rattle.lvm_path.specs.Targets.{is_begun}
 use Rattle.lvm_session.specs.declared.open.Open.{Open}
 use Rattle.lvm_session.specs.Judging.{copies_for, has_dirty_mark, has_names, mode_of, pps_of}
 use Rattle.lvm_session.specs.Enabled.{is_lost, target_due}
-use Rattle.lvm_events.specs.Marks.{is_among}
-use Rattle.lvm_sound.specs.Requests.{is_left_out}
-use Rattle.lvm_sound.specs.Causes.{AnyFailedSince, IsLandedFor}
-use Rattle.lvm_sound.specs.Sound.{IsSound}
-use Rattle.lvm_sound.specs.Asking.{IsAsking, IsAwake}
+use Rattle.lvm_session.specs.Marks.{is_among}
+use Rattle.lvm_session.specs.Requests.{is_left_out}
+use Rattle.lvm_session.specs.Causes.{AnyFailedSince, IsLandedFor}
+use Rattle.lvm_session.specs.Sound.{IsSound}
+use Rattle.lvm_session.specs.Asking.{IsAsking, IsAwake}
 
 -- an event of a session that is on leaves it sound
 abbrev pub Keeps : (State → State → Type 0) → Type 0

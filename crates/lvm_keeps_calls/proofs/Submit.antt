@@ -36,17 +36,17 @@ use Rattle.lvm_session.specs.State.{Core, State, is_there, state}
 use Rattle.lvm_session.specs.Judging.{held_of, is_missing, is_running, is_waiting, is_wanted_stale, place_of}
 use Rattle.lvm_session.specs.Bringing.{has_row, is_whole, step_of, step_row}
 use Rattle.lvm_session.specs.Enabled.{same_status}
-use Rattle.lvm_events.specs.declared.answers.AskFault.{AskFault}
-use Rattle.lvm_events.specs.declared.answers.AskFault.TheVariants as fault
-use Rattle.lvm_events.specs.Calls.{ask_fault, fault_by, fault_in, fault_on, has_history, has_numbers, new_open, submitted}
-use Rattle.lvm_events.specs.Dark.{IsAscending}
-use Rattle.lvm_events.specs.Events.{is_passive}
-use Rattle.lvm_sound.specs.Asking.{IsAsking}
-use Rattle.lvm_sound.specs.Left.{copy_updates, if_so, marks_later, updates_left}
-use Rattle.lvm_sound.specs.Owners.{AreOwned, IsDataOf, flies, target_flies}
-use Rattle.lvm_sound.specs.Requests.{IsOpenOne, IsRecorded, mode_for}
-use Rattle.lvm_sound.specs.Causes.{AreCaused, AreCounted, IsAnswered, IsCaused, IsChosenSince, fails_on, is_held_stale}
-use Rattle.lvm_sound.specs.Sound.{IsAsked, IsCopy, IsFitting, IsGoing, IsOn, IsSound, IsTold, count_if, is_dark, is_hand, pins, waiting_rows, waits, with_row}
+use Rattle.lvm_session.specs.declared.answers.AskFault.{AskFault}
+use Rattle.lvm_session.specs.declared.answers.AskFault.TheVariants as fault
+use Rattle.lvm_session.specs.Calls.{ask_fault, fault_by, fault_in, fault_on, has_history, has_numbers, new_open, submitted}
+use Rattle.lvm_session.specs.Dark.{IsAscending}
+use Rattle.lvm_session.specs.Events.{is_passive}
+use Rattle.lvm_session.specs.Asking.{IsAsking}
+use Rattle.lvm_session.specs.Left.{copy_updates, if_so, marks_later, updates_left}
+use Rattle.lvm_session.specs.Owners.{AreOwned, IsDataOf, flies, target_flies}
+use Rattle.lvm_session.specs.Requests.{IsOpenOne, IsRecorded, mode_for}
+use Rattle.lvm_session.specs.Causes.{AreCaused, AreCounted, IsAnswered, IsCaused, IsChosenSince, fails_on, is_held_stale}
+use Rattle.lvm_session.specs.Sound.{IsAsked, IsCopy, IsFitting, IsGoing, IsOn, IsSound, IsTold, count_if, is_dark, is_hand, pins, waiting_rows, waits, with_row}
 use Rattle.lvm_submit.proofs.Numbered.{below_next}
 use Rattle.lvm_submit.proofs.Taking.{IsTaken, history_room, taken}
 use Rattle.lvm_keeps.specs.Keeps.{SubmitKeeps}

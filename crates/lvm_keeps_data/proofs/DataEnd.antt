@@ -27,15 +27,15 @@ use Rattle.lvm_session.specs.declared.flown.Flown.{Flown}
 use Rattle.lvm_session.specs.declared.flown.Owner.TheVariants as owner
 use Rattle.lvm_session.specs.declared.open.Open.{Open}
 use Rattle.lvm_session.specs.declared.open.Power.TheVariants as power
-use Rattle.lvm_events.specs.Dark.{IsAscending}
-use Rattle.lvm_events.specs.Ends.{EndsAs, given_back}
-use Rattle.lvm_events.specs.Events.{IsDataTransfer}
-use Rattle.lvm_events.specs.Marks.{due_of, Entails, hits_copy, is_among, WantsStale}
-use Rattle.lvm_sound.specs.Causes.{IsChosenSince, IsCopyCaused}
-use Rattle.lvm_sound.specs.Left.{copy_updates, if_so, marks_later}
-use Rattle.lvm_sound.specs.Owners.{IsDataOf, IsTransferOf}
-use Rattle.lvm_sound.specs.Requests.{IsShaped, IsTarget}
-use Rattle.lvm_sound.specs.Sound.{count_if, IsGoing, IsSound}
+use Rattle.lvm_session.specs.Dark.{IsAscending}
+use Rattle.lvm_session.specs.Ends.{EndsAs, given_back}
+use Rattle.lvm_session.specs.Events.{IsDataTransfer}
+use Rattle.lvm_session.specs.Marks.{due_of, Entails, hits_copy, is_among, WantsStale}
+use Rattle.lvm_session.specs.Causes.{IsChosenSince, IsCopyCaused}
+use Rattle.lvm_session.specs.Left.{copy_updates, if_so, marks_later}
+use Rattle.lvm_session.specs.Owners.{IsDataOf, IsTransferOf}
+use Rattle.lvm_session.specs.Requests.{IsShaped, IsTarget}
+use Rattle.lvm_session.specs.Sound.{count_if, IsGoing, IsSound}
 use Rattle.lvm_keeps.proofs.Lists.{all_at, get_removed}
 use Rattle.lvm_keeps.proofs.Small.{both, not_so}
 use Rattle.lvm_keeps.proofs.Still.{if_on}

@@ -23,10 +23,10 @@ use Rattle.lvm_session.specs.declared.bringing.OpenCopy.{OpenCopy}
 use Rattle.lvm_session.specs.declared.flown.Flown.{Flown}
 use Rattle.lvm_session.specs.declared.flown.Owner.TheVariants as owner
 use Rattle.lvm_session.specs.declared.open.Open.{Open}
-use Rattle.lvm_events.specs.Marks.{due_of, due_targets, hits_copy, is_among}
-use Rattle.lvm_sound.specs.Causes.{is_held_stale, IsChosenSince}
-use Rattle.lvm_sound.specs.Requests.{IsJudged, IsLaid, may_lack, will_be_kept}
-use Rattle.lvm_sound.specs.Sound.{is_clearing, IsCopy, IsGoing}
+use Rattle.lvm_session.specs.Marks.{due_of, due_targets, hits_copy, is_among}
+use Rattle.lvm_session.specs.Causes.{is_held_stale, IsChosenSince}
+use Rattle.lvm_session.specs.Requests.{IsJudged, IsLaid, may_lack, will_be_kept}
+use Rattle.lvm_session.specs.Sound.{is_clearing, IsCopy, IsGoing}
 use Rattle.lvm_keeps.proofs.Lists.{all_at, all_on, set_beside, set_here}
 use Rattle.lvm_keeps.proofs.Small.{both, is_false, not_so}
 use Rattle.lvm_keeps_starts.proofs.Aims.{at_state}

@@ -37,15 +37,15 @@ use Rattle.lvm_session.specs.declared.flown.Owner.{Owner}
 use Rattle.lvm_session.specs.declared.flown.Owner.TheVariants as owner
 use Rattle.lvm_session.specs.declared.open.Open.{Open}
 use Rattle.lvm_session.specs.declared.open.Power.TheVariants as power
-use Rattle.lvm_events.specs.Calls.{copy_at}
-use Rattle.lvm_events.specs.Ends.{given_back}
-use Rattle.lvm_events.specs.Events.{IsDataTransfer}
-use Rattle.lvm_events.specs.Marks.{due_of, due_targets, hits_copy, is_among}
-use Rattle.lvm_sound.specs.Causes.{AreCaused, AreCounted, FailedSince, FailedSinceOpening, fails_on, faults_at_first, faults_at_opening, HasFailed, HaveSourcesFailed, is_blamed, is_held_stale, is_over, IsAnswered, IsCaused, IsChosenSince, IsCopyCaused, IsCounted, IsLandedFor, IsTrueToOrigin}
-use Rattle.lvm_sound.specs.Left.{copy_updates, if_so, marks_later}
-use Rattle.lvm_sound.specs.Owners.{AreOwned, AreRows, flies, IsDataOf, IsStepOf, IsTransferOf, same_owner}
-use Rattle.lvm_sound.specs.Requests.{is_left_out, is_wanted_due, IsJudged, IsOpenOne, IsRequest, IsShaped, IsTarget, may_lack, wants_status, will_be_kept}
-use Rattle.lvm_sound.specs.Sound.{count_if, has_number, is_clearing, is_dark, is_hand, IsAsked, IsCopy, IsFitting, IsGoing, IsOn, IsSound, IsTold, may_be_fresh, out_with, pins, stays_fresh, with_row}
+use Rattle.lvm_session.specs.Calls.{copy_at}
+use Rattle.lvm_session.specs.Ends.{given_back}
+use Rattle.lvm_session.specs.Events.{IsDataTransfer}
+use Rattle.lvm_session.specs.Marks.{due_of, due_targets, hits_copy, is_among}
+use Rattle.lvm_session.specs.Causes.{AreCaused, AreCounted, FailedSince, FailedSinceOpening, fails_on, faults_at_first, faults_at_opening, HasFailed, HaveSourcesFailed, is_blamed, is_held_stale, is_over, IsAnswered, IsCaused, IsChosenSince, IsCopyCaused, IsCounted, IsLandedFor, IsTrueToOrigin}
+use Rattle.lvm_session.specs.Left.{copy_updates, if_so, marks_later}
+use Rattle.lvm_session.specs.Owners.{AreOwned, AreRows, flies, IsDataOf, IsStepOf, IsTransferOf, same_owner}
+use Rattle.lvm_session.specs.Requests.{is_left_out, is_wanted_due, IsJudged, IsOpenOne, IsRequest, IsShaped, IsTarget, may_lack, wants_status, will_be_kept}
+use Rattle.lvm_session.specs.Sound.{count_if, has_number, is_clearing, is_dark, is_hand, IsAsked, IsCopy, IsFitting, IsGoing, IsOn, IsSound, IsTold, may_be_fresh, out_with, pins, stays_fresh, with_row}
 use Rattle.lvm_keeps.proofs.Ending.{back, back_long}
 use Rattle.lvm_keeps.proofs.Lists.{all_at, all_on, all_set, any_set, count_same, count_set, length_set, set_beside, set_here}
 use Rattle.lvm_keeps.proofs.Small.{and_on, both, is_false, left_on, not_so}

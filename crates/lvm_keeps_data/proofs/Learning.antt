@@ -23,11 +23,11 @@ use Rattle.lvm_session.specs.State.{Core}
 use Rattle.lvm_session.specs.declared.flown.Flown.{Flown}
 use Rattle.lvm_session.specs.declared.flown.Owner.TheVariants as owner
 use Rattle.lvm_session.specs.declared.open.Open.{Open}
-use Rattle.lvm_events.specs.Dark.{AreTold}
-use Rattle.lvm_events.specs.Ends.{keeps_buffer, learned}
-use Rattle.lvm_sound.specs.Owners.{flies, target_flies}
-use Rattle.lvm_sound.specs.Requests.{has_record, is_past_held, IsLaid, IsOpenOne, IsPhase, IsReady, IsRecorded, IsRequest, IsShaped, IsTarget, mode_for}
-use Rattle.lvm_sound.specs.Sound.{count_if, IsAsked, IsGoing}
+use Rattle.lvm_session.specs.Dark.{AreTold}
+use Rattle.lvm_session.specs.Ends.{keeps_buffer, learned}
+use Rattle.lvm_session.specs.Owners.{flies, target_flies}
+use Rattle.lvm_session.specs.Requests.{has_record, is_past_held, IsLaid, IsOpenOne, IsPhase, IsReady, IsRecorded, IsRequest, IsShaped, IsTarget, mode_for}
+use Rattle.lvm_session.specs.Sound.{count_if, IsAsked, IsGoing}
 use Rattle.lvm_keeps.proofs.Landing.{or_parts}
 use Rattle.lvm_keeps.proofs.Lists.{all_at, all_set, any_set, count_set, length_set, set_beside, set_here}
 use Rattle.lvm_keeps.proofs.Small.{both, none_on, not_so}

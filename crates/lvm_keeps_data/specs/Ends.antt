@@ -4,7 +4,7 @@ use Rattle.lvm_num.specs.Buffer.{Buffer}
 use Rattle.lvm_session.specs.declared.flown.Flown.{Flown}
 use Rattle.lvm_session.specs.declared.flown.Owner.TheVariants as owner
 use Rattle.lvm_session.specs.State.{State}
-use Rattle.lvm_events.specs.Ends.{DataLearns, Returns}
+use Rattle.lvm_session.specs.Ends.{DataLearns, Returns}
 use Rattle.lvm_keeps.specs.Keeps.{Keeps}
 
 -- the transfer of a target of a request has ended, well or badly

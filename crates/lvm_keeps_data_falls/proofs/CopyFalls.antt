@@ -19,10 +19,10 @@ use Rattle.lvm_session.specs.declared.bringing.OpenCopy.{OpenCopy}
 use Rattle.lvm_session.specs.declared.bringing.Step.{Step}
 use Rattle.lvm_session.specs.declared.bringing.Step.TheVariants as step
 use Rattle.lvm_session.specs.declared.flown.Flown.{Flown}
-use Rattle.lvm_events.specs.Ends.{after_quit}
-use Rattle.lvm_events.specs.Marks.{is_entailed}
-use Rattle.lvm_sound.specs.Left.{copy_left, left_of, request_left, step_left, tried_of, update_work}
-use Rattle.lvm_sound.specs.Sound.{count_if, IsCopy, IsGoing, IsReadFrom}
+use Rattle.lvm_session.specs.Ends.{after_quit}
+use Rattle.lvm_session.specs.Marks.{is_entailed}
+use Rattle.lvm_session.specs.Left.{copy_left, left_of, request_left, step_left, tried_of, update_work}
+use Rattle.lvm_session.specs.Sound.{count_if, IsCopy, IsGoing, IsReadFrom}
 use Rattle.lvm_keeps.proofs.CopyReadFalls.{few_copies}
 use Rattle.lvm_keeps.proofs.Lists.{count_cons}
 use Rattle.lvm_keeps.proofs.PinFalls.{sum_same}

@@ -23,10 +23,10 @@ use Rattle.lvm_session.specs.declared.bringing.Step.TheVariants as step
 use Rattle.lvm_session.specs.declared.flown.Owner.TheVariants as owner
 use Rattle.lvm_session.specs.declared.open.Open.{Open}
 use Rattle.lvm_session.specs.declared.open.Power.TheVariants as power
-use Rattle.lvm_events.specs.Ends.{given_back}
-use Rattle.lvm_events.specs.Marks.{due_of, Entails, hits_copy, is_among, WantsStale}
-use Rattle.lvm_sound.specs.Left.{begun_left, copy_left, if_so, left_of, read_left, request_left, status_left, unbegun_left, update_work, waiting_targets, write_left}
-use Rattle.lvm_sound.specs.Sound.{count_if, IsGoing, IsSound}
+use Rattle.lvm_session.specs.Ends.{given_back}
+use Rattle.lvm_session.specs.Marks.{due_of, Entails, hits_copy, is_among, WantsStale}
+use Rattle.lvm_session.specs.Left.{begun_left, copy_left, if_so, left_of, read_left, request_left, status_left, unbegun_left, update_work, waiting_targets, write_left}
+use Rattle.lvm_session.specs.Sound.{count_if, IsGoing, IsSound}
 use Rattle.lvm_keeps.proofs.Leaving.{left_same}
 use Rattle.lvm_keeps.proofs.Lists.{count_same, count_set}
 use Rattle.lvm_keeps.proofs.Small.{not_so}

@@ -21,7 +21,7 @@ use Rattle.lvm_session.specs.declared.bringing.Step.{Step}
 use Rattle.lvm_session.specs.declared.flown.Flown.{Flown}
 use Rattle.lvm_session.specs.declared.open.Open.{Open}
 use Rattle.lvm_session.specs.declared.open.Power.TheVariants as power
-use Rattle.lvm_sound.specs.Left.{begun_left, copy_left, if_so, is_held, lacks_dirty, left_by, left_of, phase_left, read_left, request_left, status_left, turns_of, unbegun_left, update_work, work_left}
+use Rattle.lvm_session.specs.Left.{begun_left, copy_left, if_so, is_held, lacks_dirty, left_by, left_of, phase_left, read_left, request_left, status_left, turns_of, unbegun_left, update_work, work_left}
 use Rattle.lvm_keeps.proofs.PinFalls.{sum_same}
 
 -- ---- lists

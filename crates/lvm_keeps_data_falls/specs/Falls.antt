@@ -2,8 +2,8 @@
 use Rattle.std.specs.Prelude.{◌≡◌, ◌<◌, ℕ, Bool}
 use Rattle.lvm_session.specs.declared.open.Power.TheVariants as power
 use Rattle.lvm_session.specs.State.{State}
-use Rattle.lvm_sound.specs.Left.{left_of}
-use Rattle.lvm_sound.specs.Sound.{IsSound}
+use Rattle.lvm_session.specs.Left.{left_of}
+use Rattle.lvm_session.specs.Sound.{IsSound}
 use Rattle.lvm_keeps_ends.specs.Ends.{EndsMiss, EndsQuit, EndsRead, EndsWrite}
 use Rattle.lvm_keeps_data.specs.Ends.{EndsData}
 use Rattle.lvm_keeps_group.specs.Ends.{EndsGroup}

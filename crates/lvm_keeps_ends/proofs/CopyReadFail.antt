@@ -28,15 +28,15 @@ use Rattle.lvm_session.specs.State.{Core, State, state}
 use Rattle.lvm_session.specs.Judging.{copies_in, group_in, held_of, is_missing, is_running, is_stale, is_wanted_stale, is_waiting, place_of}
 use Rattle.lvm_session.specs.declared.bringing.CopyEnd.TheVariants as ending
 use Rattle.lvm_status.specs.Update.{Stored}
-use Rattle.lvm_events.specs.Events.{IsCopyTransfer}
+use Rattle.lvm_session.specs.Events.{IsCopyTransfer}
 use Rattle.lvm_session.specs.Bringing.{copy_ends, hand_of, is_done_end, marked_by_end, end_by_sources, end_of, ends_if, is_cleared, has_row, is_idle, is_out, is_whole, step_row}
-use Rattle.lvm_events.specs.Dark.{hand_of_copy}
-use Rattle.lvm_events.specs.Ends.{EndsAs, after_quit}
-use Rattle.lvm_sound.specs.Left.{copy_updates}
-use Rattle.lvm_sound.specs.Owners.{AreOwned, AreRows, IsCopyOf, IsRowOf, IsStepOf, IsTransferOf, flies, same_owner}
-use Rattle.lvm_sound.specs.Requests.{IsOpenOne}
-use Rattle.lvm_sound.specs.Causes.{AreCaused, AreCounted, HaveSourcesFailed, IsAnswered, IsCaused, IsChosenSince, IsCopyCaused, IsCounted, IsLandedFor, IsTrueToOrigin, faults_at_opening, is_over}
-use Rattle.lvm_sound.specs.Sound.{IsCopy, IsFitting, IsGoing, IsOn, IsSound, IsTold, count_if, has_number, is_clearing, is_dark, is_hand, out_with, waiting_rows, with_row}
+use Rattle.lvm_session.specs.Dark.{hand_of_copy}
+use Rattle.lvm_session.specs.Ends.{EndsAs, after_quit}
+use Rattle.lvm_session.specs.Left.{copy_updates}
+use Rattle.lvm_session.specs.Owners.{AreOwned, AreRows, IsCopyOf, IsRowOf, IsStepOf, IsTransferOf, flies, same_owner}
+use Rattle.lvm_session.specs.Requests.{IsOpenOne}
+use Rattle.lvm_session.specs.Causes.{AreCaused, AreCounted, HaveSourcesFailed, IsAnswered, IsCaused, IsChosenSince, IsCopyCaused, IsCounted, IsLandedFor, IsTrueToOrigin, faults_at_opening, is_over}
+use Rattle.lvm_session.specs.Sound.{IsCopy, IsFitting, IsGoing, IsOn, IsSound, IsTold, count_if, has_number, is_clearing, is_dark, is_hand, out_with, waiting_rows, with_row}
 use Rattle.lvm_keeps.proofs.Ending.{back}
 use Rattle.lvm_keeps.proofs.Lists.{all_on, length_set}
 use Rattle.lvm_keeps.proofs.Small.{both, not_so}
@@ -52,11 +52,11 @@ use Rattle.lvm_session.specs.declared.bringing.CopyEnd.{CopyEnd}
 use Rattle.lvm_session.specs.Bringing.{after_copy_end, next_source, sources_of, with_end}
 use Rattle.lvm_session.specs.Judging.{is_sure, is_usable}
 use Rattle.lvm_num.specs.Disks.{has}
-use Rattle.lvm_events.specs.Calls.{copy_at}
-use Rattle.lvm_events.specs.Marks.{is_among, is_entailed}
-use Rattle.lvm_events.specs.Ends.{MissesSource}
-use Rattle.lvm_sound.specs.Causes.{FailedSinceOpening}
-use Rattle.lvm_sound.specs.Sound.{IsReadFrom}
+use Rattle.lvm_session.specs.Calls.{copy_at}
+use Rattle.lvm_session.specs.Marks.{is_among, is_entailed}
+use Rattle.lvm_session.specs.Ends.{MissesSource}
+use Rattle.lvm_session.specs.Causes.{FailedSinceOpening}
+use Rattle.lvm_session.specs.Sound.{IsReadFrom}
 use Rattle.std.specs.Prelude.{find, is_none}
 use Rattle.lvm_keeps_ends.proofs.Removal.{IsOut, taken_out}
 

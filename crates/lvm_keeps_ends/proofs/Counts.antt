@@ -13,8 +13,8 @@ use Rattle.lvm_session.specs.declared.bringing.OpenCopy.{OpenCopy}
 use Rattle.lvm_session.specs.declared.open.Open.{Open}
 use Rattle.lvm_session.specs.State.{Core, State, state}
 use Rattle.lvm_session.specs.Judging.{copies_in}
-use Rattle.lvm_sound.specs.Causes.{AreCaused, AreCounted, FailedSince, FailedSinceOpening, HasFailed, HaveSourcesFailed, IsAnswered, IsCaused, IsCopyCaused, IsCounted, IsLandedFor, IsTrueToOrigin, faults_at_first, faults_at_opening}
-use Rattle.lvm_sound.specs.Sound.{IsOn, IsSound}
+use Rattle.lvm_session.specs.Causes.{AreCaused, AreCounted, FailedSince, FailedSinceOpening, HasFailed, HaveSourcesFailed, IsAnswered, IsCaused, IsCopyCaused, IsCounted, IsLandedFor, IsTrueToOrigin, faults_at_first, faults_at_opening}
+use Rattle.lvm_session.specs.Sound.{IsOn, IsSound}
 use Rattle.lvm_keeps.proofs.Lists.{all_on}
 use Rattle.lvm_keeps.proofs.Still.{if_on}
 use Rattle.lvm_keeps_ends.specs.Ends.{CountsKeep}

@@ -37,10 +37,10 @@ use Rattle.lvm_session.specs.declared.open.Open.{Open}
 use Rattle.lvm_session.specs.declared.open.Power.TheVariants as power
 use Rattle.lvm_session.specs.State.{Core, State, state}
 use Rattle.lvm_session.specs.Judging.{copies_in, group_of, has_names}
-use Rattle.lvm_sound.specs.Owners.{AreOwned, AreRows, IsStepOf, IsTransferOf, flies, same_owner}
-use Rattle.lvm_sound.specs.Requests.{IsOpenOne, IsPinned, IsRecorded, IsShaped, IsTarget, has_record, mode_for}
-use Rattle.lvm_sound.specs.Causes.{AreCaused, AreCounted, HaveSourcesFailed, IsAnswered, IsCaused, IsChosenSince, IsCopyCaused, IsCounted, IsLandedFor, IsTrueToOrigin, is_over}
-use Rattle.lvm_sound.specs.Sound.{IsCopy, IsFitting, IsGoing, IsOn, IsSound, IsTold, count_if, has_number, is_dark, is_hand, out_with, pins}
+use Rattle.lvm_session.specs.Owners.{AreOwned, AreRows, IsStepOf, IsTransferOf, flies, same_owner}
+use Rattle.lvm_session.specs.Requests.{IsOpenOne, IsPinned, IsRecorded, IsShaped, IsTarget, has_record, mode_for}
+use Rattle.lvm_session.specs.Causes.{AreCaused, AreCounted, HaveSourcesFailed, IsAnswered, IsCaused, IsChosenSince, IsCopyCaused, IsCounted, IsLandedFor, IsTrueToOrigin, is_over}
+use Rattle.lvm_session.specs.Sound.{IsCopy, IsFitting, IsGoing, IsOn, IsSound, IsTold, count_if, has_number, is_dark, is_hand, out_with, pins}
 use Rattle.lvm_keeps.proofs.Ending.{back}
 use Rattle.lvm_keeps.proofs.Lists.{all_on, count_cons, length_set}
 use Rattle.lvm_keeps.proofs.NoteStart.{each_counted}

@@ -12,8 +12,8 @@ use Rattle.lvm_session.specs.declared.flown.Owner.{Owner}
 use Rattle.lvm_session.specs.declared.flown.Owner.TheVariants as owner
 use Rattle.lvm_session.specs.State.{Core, State}
 use Rattle.lvm_session.specs.Bringing.{with_back}
-use Rattle.lvm_sound.specs.Owners.{AreOwned, AreRows, HaveTickets, IsRowOf, flies, same_owner}
-use Rattle.lvm_sound.specs.Sound.{count_if, has_number, is_hand}
+use Rattle.lvm_session.specs.Owners.{AreOwned, AreRows, HaveTickets, IsRowOf, flies, same_owner}
+use Rattle.lvm_session.specs.Sound.{count_if, has_number, is_hand}
 use Rattle.lvm_keeps.proofs.Ending.{back}
 use Rattle.lvm_keeps.proofs.Lists.{count_cons}
 use Rattle.lvm_keeps.proofs.Small.{not_so}

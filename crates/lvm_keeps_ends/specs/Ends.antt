@@ -10,9 +10,9 @@ use Rattle.lvm_session.specs.declared.flown.Flown.{Flown}
 use Rattle.lvm_session.specs.declared.flown.Owner.TheVariants as owner
 use Rattle.lvm_session.specs.State.{State, state}
 use Rattle.lvm_session.specs.Judging.{is_running}
-use Rattle.lvm_events.specs.Ends.{FailsCopy, MissesSource, NoteLearns, Returns, after_quit, after_read}
+use Rattle.lvm_session.specs.Ends.{FailsCopy, MissesSource, NoteLearns, Returns, after_quit, after_read}
 use Rattle.lvm_keeps.specs.Keeps.{Keeps}
-use Rattle.lvm_sound.specs.Sound.{IsSound}
+use Rattle.lvm_session.specs.Sound.{IsSound}
 
 -- Whatever stands on the media, and however many transfers have failed since.
 abbrev pub CountsKeep : Type 0

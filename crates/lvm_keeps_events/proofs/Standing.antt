@@ -62,10 +62,10 @@ use Rattle.lvm_session.specs.State.{Core, State, is_there}
 use Rattle.lvm_session.specs.Judging.{aims, all_but_sure, group_in, is_caught, copies_for, counts_failed, facts_of, group_of, has_dirty_mark, has_names, held_of, is_beside, is_failing, is_held_back, is_kept, is_marked, is_missing, is_pending, is_running, is_settled, is_stale, is_sure, is_usable, is_waiting, is_wanted_stale, mode_of, next_for, place_of, pps_of, same_pps}
 use Rattle.lvm_session.specs.Bringing.{end_of, ends_if, hand_of, has_row, is_cleared, is_idle, is_out, is_whole, next_source, sources_of, step_of, step_row}
 use Rattle.lvm_session.specs.Enabled.{Part, admission_at, can_pin, copy_read, copy_write, data_at, data_start, first_event, first_from, first_of, has_buffer, is_admit, is_free_step, is_lost, is_pin, is_status_due, is_unnamed, landing, landing_at, may_be_admitted, may_pin, may_read, may_write, note_at, note_due, note_start, or_next, outcome_next, parts_to_settle, parts_to_start, pinning_at, same_row, same_rows, same_status, target_due, target_next, wants_record}
-use Rattle.lvm_events.specs.Dark.{hand_of_copy}
-use Rattle.lvm_sound.specs.Owners.{AreRows, flies, same_owner, target_flies}
-use Rattle.lvm_sound.specs.Requests.{IsOpenOne, IsPhase, IsRecorded, IsRequest, IsTarget, is_failed_and_sure, is_past_held, is_wanted_due, is_wanted_dirty, mode_for, wants_status, will_be_kept}
-use Rattle.lvm_sound.specs.Sound.{IsCopy, IsGoing, IsSound, count_if, has_number, is_dark, is_hand, pins, rows_of, waiting_rows, with_row}
+use Rattle.lvm_session.specs.Dark.{hand_of_copy}
+use Rattle.lvm_session.specs.Owners.{AreRows, flies, same_owner, target_flies}
+use Rattle.lvm_session.specs.Requests.{IsOpenOne, IsPhase, IsRecorded, IsRequest, IsTarget, is_failed_and_sure, is_past_held, is_wanted_due, is_wanted_dirty, mode_for, wants_status, will_be_kept}
+use Rattle.lvm_session.specs.Sound.{IsCopy, IsGoing, IsSound, count_if, has_number, is_dark, is_hand, pins, rows_of, waiting_rows, with_row}
 use Rattle.std.proofs.lemmas.Slice.Eq.{bytes_eq-Decides}
 use Rattle.lvm_keeps.specs.Falls.{NeverStandsStill}
 use Rattle.lvm_keeps.proofs.Lists.{all_at, count_cons}

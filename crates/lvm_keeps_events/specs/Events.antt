@@ -1,6 +1,6 @@
 -- Each event that a turn makes of a sound session leaves it sound.
 use Rattle.lvm_session.specs.declared.event.Event.{Event}
-use Rattle.lvm_events.specs.Turns.{Makes}
+use Rattle.lvm_session.specs.Turns.{Makes}
 use Rattle.lvm_keeps.specs.Keeps.{Keeps}
 
 abbrev pub EventsKeep : Type 0

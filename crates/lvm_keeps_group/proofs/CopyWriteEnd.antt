@@ -20,9 +20,9 @@ use Rattle.lvm_session.specs.Bringing.{copy_ends, is_whole, marked_by_end, step_
 use Rattle.lvm_session.specs.State.{Core, State, state}
 use Rattle.lvm_session.specs.declared.bringing.OpenCopy.{OpenCopy}
 use Rattle.lvm_session.specs.declared.open.Power.TheVariants as power
-use Rattle.lvm_events.specs.Ends.{GoesOn, with_return, without_step}
-use Rattle.lvm_events.specs.Marks.{is_entailed, Reviews, WantsFresh}
-use Rattle.lvm_sound.specs.Sound.{IsGoing, IsSound}
+use Rattle.lvm_session.specs.Ends.{GoesOn, with_return, without_step}
+use Rattle.lvm_session.specs.Marks.{is_entailed, Reviews, WantsFresh}
+use Rattle.lvm_session.specs.Sound.{IsGoing, IsSound}
 use Rattle.lvm_keeps.proofs.Small.{not_so}
 use Rattle.lvm_keeps_moves.proofs.Marking.{stays_open}
 use Rattle.lvm_keeps_ends.proofs.Removal.{IsOut, taken_out}

@@ -47,14 +47,14 @@ use Rattle.lvm_session.specs.declared.flown.Owner.{Owner}
 use Rattle.lvm_session.specs.declared.flown.Owner.TheVariants as owner
 use Rattle.lvm_session.specs.declared.open.Open.{Open}
 use Rattle.lvm_session.specs.declared.open.Power.TheVariants as power
-use Rattle.lvm_events.specs.Dark.{hand_of_copy}
-use Rattle.lvm_events.specs.Events.{is_passive}
-use Rattle.lvm_events.specs.Marks.{can_replace, is_among, is_entailed, is_entailed_in, is_left_behind}
-use Rattle.lvm_sound.specs.Causes.{AreCaused, AreCounted, fails_on, is_blamed, is_held_stale, is_over, IsAnswered, IsCaused, IsChosenSince, IsCopyCaused, IsCounted, IsLandedFor, IsTrueToOrigin, was_fresh}
-use Rattle.lvm_sound.specs.Left.{copy_updates, if_so, updates_left}
-use Rattle.lvm_sound.specs.Owners.{AreOwned, AreRows, IsTransferOf, same_owner}
-use Rattle.lvm_sound.specs.Requests.{is_failed_and_sure, is_left_out, is_past_held, is_wanted_dirty, is_wanted_due, IsJudged, IsOpenOne, IsPhase, IsRequest, IsTarget, may_lack, mode_for, wants_status, will_be_kept}
-use Rattle.lvm_sound.specs.Sound.{count_if, has_number, is_clearing, is_dark, is_hand, IsCopy, IsFitting, IsGoing, IsOn, IsSound, IsTold, may_be_fresh, out_with, stays_fresh, waiting_rows, with_row}
+use Rattle.lvm_session.specs.Dark.{hand_of_copy}
+use Rattle.lvm_session.specs.Events.{is_passive}
+use Rattle.lvm_session.specs.Marks.{can_replace, is_among, is_entailed, is_entailed_in, is_left_behind}
+use Rattle.lvm_session.specs.Causes.{AreCaused, AreCounted, fails_on, is_blamed, is_held_stale, is_over, IsAnswered, IsCaused, IsChosenSince, IsCopyCaused, IsCounted, IsLandedFor, IsTrueToOrigin, was_fresh}
+use Rattle.lvm_session.specs.Left.{copy_updates, if_so, updates_left}
+use Rattle.lvm_session.specs.Owners.{AreOwned, AreRows, IsTransferOf, same_owner}
+use Rattle.lvm_session.specs.Requests.{is_failed_and_sure, is_left_out, is_past_held, is_wanted_dirty, is_wanted_due, IsJudged, IsOpenOne, IsPhase, IsRequest, IsTarget, may_lack, mode_for, wants_status, will_be_kept}
+use Rattle.lvm_session.specs.Sound.{count_if, has_number, is_clearing, is_dark, is_hand, IsCopy, IsFitting, IsGoing, IsOn, IsSound, IsTold, may_be_fresh, out_with, stays_fresh, waiting_rows, with_row}
 use Rattle.lvm_submit.proofs.Numbered.{below_next}
 use Rattle.lvm_keeps.proofs.Ending.{back}
 use Rattle.lvm_keeps.proofs.Lists.{all_on, length_set}

@@ -7,7 +7,7 @@ use Rattle.lvm_session.specs.declared.flown.Flown.{Flown}
 use Rattle.lvm_session.specs.declared.flown.Owner.TheVariants as owner
 use Rattle.lvm_session.specs.Judging.{is_running}
 use Rattle.lvm_session.specs.State.{State}
-use Rattle.lvm_events.specs.Ends.{PassesGroup, Returns}
+use Rattle.lvm_session.specs.Ends.{PassesGroup, Returns}
 use Rattle.lvm_keeps.specs.Keeps.{Keeps}
 
 -- the write of the copy that is being brought up has ended well: its next track group follows, or its clearing is wanted

@@ -13,9 +13,9 @@ use Rattle.lvm_path.specs.declared.request.Request.{Request}
 use Rattle.lvm_path.specs.declared.target.Target.{Target}
 use Rattle.lvm_session.specs.Judging.{all_but_sure, is_kept, is_sure, pps_of}
 use Rattle.lvm_session.specs.State.{Core}
-use Rattle.lvm_events.specs.Marks.{due_of, due_targets, is_among}
-use Rattle.lvm_sound.specs.Requests.{is_failed_and_sure, is_wanted_due, will_be_kept}
-use Rattle.lvm_sound.specs.Sound.{count_if}
+use Rattle.lvm_session.specs.Marks.{due_of, due_targets, is_among}
+use Rattle.lvm_session.specs.Requests.{is_failed_and_sure, is_wanted_due, will_be_kept}
+use Rattle.lvm_session.specs.Sound.{count_if}
 use Rattle.lvm_keeps.proofs.Lists.{count_cons}
 use Rattle.lvm_keeps.proofs.Small.{both, not_so}
 use Rattle.lvm_keeps_ends.proofs.CopyReadFail.{pp_is}

@@ -22,10 +22,10 @@ use Rattle.lvm_session.specs.declared.flown.Flown.{Flown}
 use Rattle.lvm_session.specs.declared.flown.Owner.{Owner}
 use Rattle.lvm_session.specs.declared.flown.Owner.TheVariants as owner
 use Rattle.lvm_session.specs.declared.open.Open.{Open}
-use Rattle.lvm_events.specs.Dark.{hand_of_copy}
-use Rattle.lvm_sound.specs.Owners.{AreRows, IsCopyOf, IsStepOf, IsTransferOf}
-use Rattle.lvm_sound.specs.Requests.{IsOpenOne}
-use Rattle.lvm_sound.specs.Sound.{count_if, is_hand, IsCopy, IsGoing, IsReadFrom, rows_of, waiting_rows, with_row}
+use Rattle.lvm_session.specs.Dark.{hand_of_copy}
+use Rattle.lvm_session.specs.Owners.{AreRows, IsCopyOf, IsStepOf, IsTransferOf}
+use Rattle.lvm_session.specs.Requests.{IsOpenOne}
+use Rattle.lvm_session.specs.Sound.{count_if, is_hand, IsCopy, IsGoing, IsReadFrom, rows_of, waiting_rows, with_row}
 use Rattle.lvm_keeps.proofs.Ending.{back, back_long}
 use Rattle.lvm_keeps.proofs.Small.{is_false, not_so}
 use Rattle.lvm_keeps.proofs.Still.{changed, open_on}

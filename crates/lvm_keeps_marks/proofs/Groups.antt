@@ -8,7 +8,7 @@ use Rattle.lvm_path.specs.declared.request.Request.{Request}
 use Rattle.lvm_session.specs.Bringing.{groups_of}
 use Rattle.lvm_session.specs.Judging.{group_in}
 use Rattle.lvm_session.specs.State.{Core}
-use Rattle.lvm_sound.specs.Requests.{IsLaid}
+use Rattle.lvm_session.specs.Requests.{IsLaid}
 use Rattle.lvm_keeps.proofs.Small.{is_false}
 
 some_blocks : (mib lps n : ℕ) → n + 1 ≤ partition_blocks mib * lps → 0 < partition_blocks mib

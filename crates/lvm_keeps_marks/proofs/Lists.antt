@@ -2,7 +2,7 @@
 use Rattle.std.proofs.Common.{◌&&◌, [], ap, arith, Bool, false, inl, inr, List, refl, slice_get, slice_set, Some, suc, sym, true, zero, ◌||◌, ℕ, ◌∙◌, ◌∷◌, ◌≡◌, ◌≤◌, ◌⊎◌}
 use Rattle.std.specs.List.{AllByRecursion, list_all, list_any}
 use Rattle.std.specs.Prelude.{count_by}
-use Rattle.lvm_sound.specs.Sound.{count_if}
+use Rattle.lvm_session.specs.Sound.{count_if}
 use Rattle.lvm_keeps.proofs.Lists.{count_cons}
 use Rattle.lvm_keeps.proofs.Small.{both, not_so}
 

@@ -3,7 +3,7 @@ use Rattle.std.proofs.Common.{◌≡◌, Some, sym, ap, subst}
 use Rattle.lvm_status.specs.Update.{Stored}
 use Rattle.lvm_session.specs.Bringing.{with_copy_end}
 use Rattle.lvm_session.specs.State.{Core}
-use Rattle.lvm_sound.specs.Requests.{IsOpenOne}
+use Rattle.lvm_session.specs.Requests.{IsOpenOne}
 use Rattle.lvm_keeps_marks.specs.Marks.{CopyEndsKeepRequests, MarksKeepRequests}
 use Rattle.lvm_keeps_marks.proofs.Failing.{leaves, one_on as one_beside, pool, queue}
 use Rattle.lvm_keeps_marks.proofs.Staling.{IsStaled, one_on, staled}

@@ -36,13 +36,13 @@ use Rattle.lvm_session.specs.declared.flown.Flown.{Flown}
 use Rattle.lvm_session.specs.declared.flown.Owner.{Owner}
 use Rattle.lvm_session.specs.declared.flown.Owner.TheVariants as owner
 use Rattle.lvm_session.specs.declared.open.Open.{Open}
-use Rattle.lvm_events.specs.Events.{is_passive}
-use Rattle.lvm_events.specs.Marks.{can_replace, is_among, is_entailed, is_entailed_in, is_left_behind, WantsStale}
-use Rattle.lvm_sound.specs.Causes.{fails_on, is_blamed, is_held_stale, was_fresh}
-use Rattle.lvm_sound.specs.Left.{clean_volumes}
-use Rattle.lvm_sound.specs.Owners.{AreRows, IsStepOf, IsTransferOf}
-use Rattle.lvm_sound.specs.Requests.{is_failed_and_sure, is_left_out, is_wanted_dirty, is_wanted_due, IsOpenOne, IsReady, IsShaped, IsTarget, mode_for, will_be_kept}
-use Rattle.lvm_sound.specs.Sound.{IsCopy, may_be_fresh, stays_fresh}
+use Rattle.lvm_session.specs.Events.{is_passive}
+use Rattle.lvm_session.specs.Marks.{can_replace, is_among, is_entailed, is_entailed_in, is_left_behind, WantsStale}
+use Rattle.lvm_session.specs.Causes.{fails_on, is_blamed, is_held_stale, was_fresh}
+use Rattle.lvm_session.specs.Left.{clean_volumes}
+use Rattle.lvm_session.specs.Owners.{AreRows, IsStepOf, IsTransferOf}
+use Rattle.lvm_session.specs.Requests.{is_failed_and_sure, is_left_out, is_wanted_dirty, is_wanted_due, IsOpenOne, IsReady, IsShaped, IsTarget, mode_for, will_be_kept}
+use Rattle.lvm_session.specs.Sound.{IsCopy, may_be_fresh, stays_fresh}
 use Rattle.lvm_keeps.proofs.Landing.{or_parts}
 use Rattle.lvm_keeps.proofs.Lists.{all_on}
 use Rattle.lvm_keeps.proofs.Small.{both, is_false, not_so}

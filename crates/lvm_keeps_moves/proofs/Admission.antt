@@ -32,13 +32,13 @@ use Rattle.lvm_session.specs.declared.open.Power.TheVariants as power
 use Rattle.lvm_session.specs.State.{Core, State, state}
 use Rattle.lvm_session.specs.Judging.{copies_in, facts_of, group_in, has_dirty_mark, has_names, is_caught, is_held_back, is_missing, is_waiting, is_wanted_stale, mode_of, next_for, policy_of}
 use Rattle.lvm_session.specs.Bringing.{has_row, step_row}
-use Rattle.lvm_events.specs.Events.{Chooses, admitted_as, after_admission, is_passive, last_after, makes_dirty, without_pin}
-use Rattle.lvm_events.specs.Marks.{WantsDirty, WantsDirtyIf}
-use Rattle.lvm_sound.specs.Left.{marks_later}
-use Rattle.lvm_sound.specs.Owners.{AreOwned, IsDataOf, flies, target_flies}
-use Rattle.lvm_sound.specs.Requests.{IsOpenOne, IsPhase, IsRecorded, IsRequest, IsTarget, has_record, is_past_held, is_wanted_dirty, may_lack, mode_for, wants_status}
-use Rattle.lvm_sound.specs.Causes.{AreCaused, AreCounted, IsAnswered, IsCaused, IsChosenSince, IsCopyCaused, IsCounted, IsLandedFor, fails_on, faults_at_opening, is_held_stale}
-use Rattle.lvm_sound.specs.Sound.{IsAsked, IsCopy, IsFitting, IsGoing, IsOn, IsSound, IsTold, count_if, is_dark, is_hand, out_with, pins, with_row}
+use Rattle.lvm_session.specs.Events.{Chooses, admitted_as, after_admission, is_passive, last_after, makes_dirty, without_pin}
+use Rattle.lvm_session.specs.Marks.{WantsDirty, WantsDirtyIf}
+use Rattle.lvm_session.specs.Left.{marks_later}
+use Rattle.lvm_session.specs.Owners.{AreOwned, IsDataOf, flies, target_flies}
+use Rattle.lvm_session.specs.Requests.{IsOpenOne, IsPhase, IsRecorded, IsRequest, IsTarget, has_record, is_past_held, is_wanted_dirty, may_lack, mode_for, wants_status}
+use Rattle.lvm_session.specs.Causes.{AreCaused, AreCounted, IsAnswered, IsCaused, IsChosenSince, IsCopyCaused, IsCounted, IsLandedFor, fails_on, faults_at_opening, is_held_stale}
+use Rattle.lvm_session.specs.Sound.{IsAsked, IsCopy, IsFitting, IsGoing, IsOn, IsSound, IsTold, count_if, is_dark, is_hand, out_with, pins, with_row}
 use Rattle.lvm_keeps.specs.Keeps.{AdmissionKeeps}
 use Rattle.lvm_keeps.proofs.Causes.{answered_still, copies_still, counted_still, origin_still}
 use Rattle.lvm_keeps.proofs.Lists.{all_at, all_on, all_set, any_set, count_cons, count_same, count_set, length_set, set_beside}

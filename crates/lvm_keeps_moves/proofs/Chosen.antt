@@ -39,12 +39,12 @@ use Rattle.lvm_session.specs.declared.open.Power.TheVariants as power
 use Rattle.lvm_session.specs.State.{Core, State}
 use Rattle.lvm_session.specs.Judging.{aims, counts_failed, copies_for, group_in, is_beside, is_caught, is_failing, is_missing, is_pending, is_running, is_settled, is_stale, is_usable, is_waiting, is_wanted_stale, lp_of, policy_of}
 use Rattle.lvm_session.specs.Bringing.{end_by_sources, end_of, ends_if, is_cleared, is_whole}
-use Rattle.lvm_events.specs.Events.{Chooses, ChoosesBy, copy_of, loads_of, target_at, usable_from}
-use Rattle.lvm_events.specs.Marks.{is_among}
-use Rattle.lvm_sound.specs.Requests.{IsLaid, IsOpenOne, IsTarget}
-use Rattle.lvm_sound.specs.Causes.{HasFailed, IsCaused, fails_on, is_blamed, is_held_stale}
-use Rattle.lvm_sound.specs.Sound.{IsCopy, IsGoing, IsSound, is_clearing}
-use Rattle.lvm_admit.proofs.Numbers.{copies_are, order_holds, usable_holds}
+use Rattle.lvm_session.specs.Events.{Chooses, ChoosesBy, copy_of, loads_of, target_at, usable_from}
+use Rattle.lvm_session.specs.Marks.{is_among}
+use Rattle.lvm_session.specs.Requests.{IsLaid, IsOpenOne, IsTarget}
+use Rattle.lvm_session.specs.Causes.{HasFailed, IsCaused, fails_on, is_blamed, is_held_stale}
+use Rattle.lvm_session.specs.Sound.{IsCopy, IsGoing, IsSound, is_clearing}
+use Rattle.lvm_session.proofs.Numbers.{copies_are, order_holds, usable_holds}
 use Rattle.lvm_keeps.proofs.Bounding.{take_few}
 use Rattle.lvm_keeps.proofs.Lists.{all_on}
 use Rattle.lvm_keeps.proofs.Small.{both, is_false, not_so}

@@ -12,9 +12,9 @@ use Rattle.lvm_vol.proofs.Asking.{IsOpen, open_of}
 use Rattle.lvm_vol.proofs.Order.{any-push, numbered, ordered-push}
 use Rattle.lvm_session.specs.declared.open.Open.{Open}
 use Rattle.lvm_session.specs.Judging.{is_waiting}
-use Rattle.lvm_events.specs.Dark.{AreTold}
-use Rattle.lvm_events.specs.Events.{got_blocks, landed_as}
-use Rattle.lvm_sound.specs.Sound.{IsAsked, outcome_by, outcome_in, waits}
+use Rattle.lvm_session.specs.Dark.{AreTold}
+use Rattle.lvm_session.specs.Events.{got_blocks, landed_as}
+use Rattle.lvm_session.specs.Sound.{IsAsked, outcome_by, outcome_in, waits}
 use Rattle.lvm_keeps.proofs.Lists.{all_at, any_set}
 use Rattle.lvm_keeps.proofs.Small.{not_so}
 use Rattle.lvm_keeps.proofs.Tables.{apart, ascending_set}

@@ -35,12 +35,12 @@ use Rattle.lvm_session.specs.State.{Core, State, state}
 use Rattle.lvm_session.specs.Judging.{facts_of, group_of, held_of, is_missing, is_waiting, is_wanted_stale, next_for, place_of}
 use Rattle.lvm_session.specs.Bringing.{has_row, step_of, step_row, with_back}
 use Rattle.lvm_session.specs.Enabled.{is_free_step}
-use Rattle.lvm_events.specs.Events.{IsDataTransfer, after_landing, got_blocks, landed_as, without_pin}
-use Rattle.lvm_sound.specs.Left.{marks_later}
-use Rattle.lvm_sound.specs.Owners.{AreOwned, IsDataOf, flies, target_flies}
-use Rattle.lvm_sound.specs.Requests.{IsOpenOne, IsRequest}
-use Rattle.lvm_sound.specs.Causes.{AreCaused, AreCounted, IsAnswered, IsCaused, IsChosenSince, fails_on, is_held_stale}
-use Rattle.lvm_sound.specs.Sound.{IsAsked, IsCopy, IsFitting, IsGoing, IsOn, IsSound, IsTold, count_if, is_dark, is_hand, out_with, pins, waiting_rows, with_row}
+use Rattle.lvm_session.specs.Events.{IsDataTransfer, after_landing, got_blocks, landed_as, without_pin}
+use Rattle.lvm_session.specs.Left.{marks_later}
+use Rattle.lvm_session.specs.Owners.{AreOwned, IsDataOf, flies, target_flies}
+use Rattle.lvm_session.specs.Requests.{IsOpenOne, IsRequest}
+use Rattle.lvm_session.specs.Causes.{AreCaused, AreCounted, IsAnswered, IsCaused, IsChosenSince, fails_on, is_held_stale}
+use Rattle.lvm_session.specs.Sound.{IsAsked, IsCopy, IsFitting, IsGoing, IsOn, IsSound, IsTold, count_if, is_dark, is_hand, out_with, pins, waiting_rows, with_row}
 use Rattle.lvm_keeps.specs.Keeps.{LandingKeeps}
 use Rattle.lvm_keeps.proofs.Causes.{answered_still, copies_still, counted_still, landed_still, origin_still}
 use Rattle.lvm_keeps.proofs.Ending.{back, back_long}

@@ -39,13 +39,13 @@ use Rattle.lvm_session.specs.State.{Core, State, is_there, state}
 use Rattle.lvm_session.specs.Judging.{copies_in, group_in, has_dirty_mark, has_names, is_caught, is_kept, is_missing, is_running, is_settled, is_stale, is_sure, is_usable, is_wanted_stale, pps_of}
 use Rattle.lvm_session.specs.Bringing.{copy_ends, end_by_sources, end_of, ends_if, is_cleared, is_idle, is_whole, sources_of}
 use Rattle.lvm_session.specs.Enabled.{same_status}
-use Rattle.lvm_events.specs.Events.{is_passive}
-use Rattle.lvm_events.specs.Marks.{WantsDirty, can_replace, is_among, is_entailed, is_entailed_in, is_left_behind}
-use Rattle.lvm_sound.specs.Left.{clean_volumes, if_so}
-use Rattle.lvm_sound.specs.Owners.{AreOwned}
-use Rattle.lvm_sound.specs.Requests.{IsOpenOne, IsTarget, is_failed_and_sure, is_left_out, is_wanted_dirty, is_wanted_due, mode_for, will_be_kept}
-use Rattle.lvm_sound.specs.Causes.{AreCaused, AreCounted, HaveSourcesFailed, IsAnswered, IsCaused, IsCopyCaused, IsCounted, IsLandedFor, IsTrueToOrigin, fails_on, is_blamed, is_held_stale, is_over, was_fresh}
-use Rattle.lvm_sound.specs.Sound.{IsCopy, IsFitting, IsGoing, IsOn, IsSound, IsTold, count_if, may_be_fresh, stays_fresh}
+use Rattle.lvm_session.specs.Events.{is_passive}
+use Rattle.lvm_session.specs.Marks.{WantsDirty, can_replace, is_among, is_entailed, is_entailed_in, is_left_behind}
+use Rattle.lvm_session.specs.Left.{clean_volumes, if_so}
+use Rattle.lvm_session.specs.Owners.{AreOwned}
+use Rattle.lvm_session.specs.Requests.{IsOpenOne, IsTarget, is_failed_and_sure, is_left_out, is_wanted_dirty, is_wanted_due, mode_for, will_be_kept}
+use Rattle.lvm_session.specs.Causes.{AreCaused, AreCounted, HaveSourcesFailed, IsAnswered, IsCaused, IsCopyCaused, IsCounted, IsLandedFor, IsTrueToOrigin, fails_on, is_blamed, is_held_stale, is_over, was_fresh}
+use Rattle.lvm_session.specs.Sound.{IsCopy, IsFitting, IsGoing, IsOn, IsSound, IsTold, count_if, may_be_fresh, stays_fresh}
 use Rattle.lvm_keeps.proofs.Lists.{all_on, count_cons}
 use Rattle.lvm_keeps.proofs.Rows.{rows_still}
 use Rattle.lvm_keeps.proofs.Small.{not_so}

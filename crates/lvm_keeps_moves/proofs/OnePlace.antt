@@ -14,7 +14,7 @@ use Rattle.lvm_map.proofs.OneToOne.{is_same}
 use Rattle.lvm_map.proofs.Parts.{parts, same_parts}
 use Rattle.lvm_map.proofs.PlaceLemmas.{mib_positive}
 use Rattle.lvm_session.specs.Judging.{copies_in}
-use Rattle.lvm_events.specs.Marks.{is_among}
+use Rattle.lvm_session.specs.Marks.{is_among}
 use Rattle.lvm_keeps.proofs.Small.{not_so}
 
 -- it stands among them at some place

@@ -18,8 +18,8 @@ use Rattle.lvm_path.specs.Asks.{is_write}
 use Rattle.lvm_path.specs.Targets.{are_over, is_begun, is_done, is_over as is_ended, states_of}
 use Rattle.lvm_path.specs.Next.{next_data, next_in, next_read, next_write}
 use Rattle.lvm_session.specs.declared.open.Open.{Open}
-use Rattle.lvm_sound.specs.Requests.{IsPhase}
-use Rattle.lvm_sound.specs.Sound.{count_if}
+use Rattle.lvm_session.specs.Requests.{IsPhase}
+use Rattle.lvm_session.specs.Sound.{count_if}
 use Rattle.lvm_keeps.proofs.Landing.{Gives, by_admit, by_choice, by_landing, by_pin, by_start, by_test, by_wait}
 use Rattle.lvm_keeps.proofs.Lists.{count_cons}
 use Rattle.lvm_keeps.proofs.Small.{not_so}

@@ -6,8 +6,8 @@ use Rattle.lvm_hold.specs.declared.queue.Row.{Row}
 use Rattle.lvm_hold.specs.Waiting.{without}
 use Rattle.lvm_session.specs.declared.open.Open.{Open}
 use Rattle.lvm_session.specs.Judging.{held_of, is_waiting, place_of}
-use Rattle.lvm_events.specs.Dark.{IsAscending}
-use Rattle.lvm_sound.specs.Sound.{waiting_rows, with_row}
+use Rattle.lvm_session.specs.Dark.{IsAscending}
+use Rattle.lvm_session.specs.Sound.{waiting_rows, with_row}
 use Rattle.lvm_keeps.proofs.Lists.{all_on}
 use Rattle.lvm_keeps.proofs.Small.{not_so}
 

@@ -1,6 +1,6 @@
 -- An admission leaves less work.
 use Rattle.std.specs.Prelude.{ℕ}
-use Rattle.lvm_events.specs.Events.{Admits}
+use Rattle.lvm_session.specs.Events.{Admits}
 use Rattle.lvm_keeps_starts.specs.Falls.{Falls}
 
 abbrev pub AdmissionFalls : Type 0

@@ -8,9 +8,9 @@ use Rattle.lvm_vol.specs.Log.{is_open}
 use Rattle.lvm_hold.specs.declared.queue.Row.{Row}
 use Rattle.lvm_session.specs.declared.open.Open.{Open}
 use Rattle.lvm_session.specs.Judging.{held_of, is_waiting, place_of}
-use Rattle.lvm_events.specs.Calls.{aged}
-use Rattle.lvm_events.specs.Dark.{AreTold, IsAscending}
-use Rattle.lvm_sound.specs.Sound.{IsAsked, count_if, waiting_rows, with_row}
+use Rattle.lvm_session.specs.Calls.{aged}
+use Rattle.lvm_session.specs.Dark.{AreTold, IsAscending}
+use Rattle.lvm_session.specs.Sound.{IsAsked, count_if, waiting_rows, with_row}
 use Rattle.lvm_keeps.proofs.Lists.{all_mapped, count_cons}
 
 -- ---- what is told of requests apart from their age

@@ -34,18 +34,18 @@ use Rattle.lvm_session.specs.State.{Core, State, is_there, state}
 use Rattle.lvm_session.specs.Judging.{copies_in, group_in, held_of, is_caught, is_held_back, is_kept, is_missing, is_running, is_settled, is_stale, is_usable, is_waiting, is_wanted_stale, place_of, pps_of}
 use Rattle.lvm_session.specs.Bringing.{copy_ends, ends_if, groups_of, is_cleared, is_out, is_whole, next_source, sources_of, step_place, step_row}
 use Rattle.lvm_session.specs.Enabled.{same_status}
-use Rattle.lvm_events.specs.declared.answers.CopyFault.{CopyFault}
-use Rattle.lvm_events.specs.declared.answers.CopyFault.TheVariants as refusal
-use Rattle.lvm_events.specs.Calls.{OpenGives, Opens, aged, copy_at, copy_fault, faults_of, has_numbers, opened, refusal_at}
-use Rattle.lvm_events.specs.Dark.{hand_of_copy}
-use Rattle.lvm_events.specs.Events.{is_passive}
-use Rattle.lvm_events.specs.Marks.{is_among}
-use Rattle.lvm_sound.specs.Asking.{IsAwake}
-use Rattle.lvm_sound.specs.Causes.{AreCaused, AreCounted, IsAnswered, IsCaused, IsChosenSince, IsCopyCaused, IsLandedFor, fails_on, faults_at_first, faults_at_opening, is_held_stale}
-use Rattle.lvm_sound.specs.Left.{copy_updates, if_so, marks_later, updates_left}
-use Rattle.lvm_sound.specs.Owners.{AreOwned, IsTransferOf, flies, target_flies}
-use Rattle.lvm_sound.specs.Requests.{IsOpenOne, IsPhase, IsRequest, is_failed_and_sure, is_left_out, may_lack, will_be_kept}
-use Rattle.lvm_sound.specs.Sound.{IsAsked, IsCopy, IsFitting, IsGoing, IsOn, IsSound, IsTold, count_if, is_dark, is_hand, out_with, pins, rows_of, waiting_rows, with_row}
+use Rattle.lvm_session.specs.declared.answers.CopyFault.{CopyFault}
+use Rattle.lvm_session.specs.declared.answers.CopyFault.TheVariants as refusal
+use Rattle.lvm_session.specs.Calls.{OpenGives, Opens, aged, copy_at, copy_fault, faults_of, has_numbers, opened, refusal_at}
+use Rattle.lvm_session.specs.Dark.{hand_of_copy}
+use Rattle.lvm_session.specs.Events.{is_passive}
+use Rattle.lvm_session.specs.Marks.{is_among}
+use Rattle.lvm_session.specs.Asking.{IsAwake}
+use Rattle.lvm_session.specs.Causes.{AreCaused, AreCounted, IsAnswered, IsCaused, IsChosenSince, IsCopyCaused, IsLandedFor, fails_on, faults_at_first, faults_at_opening, is_held_stale}
+use Rattle.lvm_session.specs.Left.{copy_updates, if_so, marks_later, updates_left}
+use Rattle.lvm_session.specs.Owners.{AreOwned, IsTransferOf, flies, target_flies}
+use Rattle.lvm_session.specs.Requests.{IsOpenOne, IsPhase, IsRequest, is_failed_and_sure, is_left_out, may_lack, will_be_kept}
+use Rattle.lvm_session.specs.Sound.{IsAsked, IsCopy, IsFitting, IsGoing, IsOn, IsSound, IsTold, count_if, is_dark, is_hand, out_with, pins, rows_of, waiting_rows, with_row}
 use Rattle.lvm_submit.proofs.Numbered.{below_next}
 use Rattle.lvm_copy_open.specs.Opening.{counts_seen, faults_seen}
 use Rattle.lvm_copy_open.proofs.Finding.{IsTaken, copies_are, taken}

@@ -1,10 +1,10 @@
 -- A copy is opened as code opens it.
 use Rattle.std.specs.Prelude.{ℕ, Result}
 use Rattle.lvm_session.specs.State.{Core, State, state}
-use Rattle.lvm_events.specs.declared.answers.CopyFault.{CopyFault}
-use Rattle.lvm_events.specs.Calls.{OpenGives}
-use Rattle.lvm_sound.specs.Asking.{IsAwake}
-use Rattle.lvm_sound.specs.Sound.{IsSound}
+use Rattle.lvm_session.specs.declared.answers.CopyFault.{CopyFault}
+use Rattle.lvm_session.specs.Calls.{OpenGives}
+use Rattle.lvm_session.specs.Asking.{IsAwake}
+use Rattle.lvm_session.specs.Sound.{IsSound}
 use Rattle.lvm_copy_open.specs.Opening.{counts_seen}
 
 -- A copy that is opened with the faults of the disks that are on the shelf, and of the others those when the session began, leaves the session sound.

@@ -18,13 +18,13 @@ use Rattle.lvm_session.specs.State.{Core, State, state}
 use Rattle.lvm_session.specs.Judging.{copies_in, group_in, is_running}
 use Rattle.lvm_session.specs.Bringing.{copy_ends, end_of, has_row, hand_of, is_idle, is_out, is_whole, step_row}
 use Rattle.lvm_session.specs.Enabled.{may_write}
-use Rattle.lvm_events.specs.Dark.{hand_of_copy}
-use Rattle.lvm_events.specs.Events.{IsCopyTransfer, flown}
-use Rattle.lvm_sound.specs.Left.{copy_updates}
-use Rattle.lvm_sound.specs.Owners.{AreOwned, flies, same_owner}
-use Rattle.lvm_sound.specs.Requests.{IsOpenOne}
-use Rattle.lvm_sound.specs.Causes.{AreCaused, IsCaused, IsChosenSince, IsCopyCaused}
-use Rattle.lvm_sound.specs.Sound.{IsCopy, IsGoing, IsOn, IsSound, IsTold, count_if, has_number, is_dark, is_hand, out_with, waiting_rows, with_row}
+use Rattle.lvm_session.specs.Dark.{hand_of_copy}
+use Rattle.lvm_session.specs.Events.{IsCopyTransfer, flown}
+use Rattle.lvm_session.specs.Left.{copy_updates}
+use Rattle.lvm_session.specs.Owners.{AreOwned, flies, same_owner}
+use Rattle.lvm_session.specs.Requests.{IsOpenOne}
+use Rattle.lvm_session.specs.Causes.{AreCaused, IsCaused, IsChosenSince, IsCopyCaused}
+use Rattle.lvm_session.specs.Sound.{IsCopy, IsGoing, IsOn, IsSound, IsTold, count_if, has_number, is_dark, is_hand, out_with, waiting_rows, with_row}
 use Rattle.lvm_keeps.specs.Keeps.{CopyWriteKeeps}
 use Rattle.lvm_keeps.proofs.Causes.{copy_still, origin_still}
 use Rattle.lvm_keeps.proofs.Launching.{flights_push, none_more, owners_push, rows_push, tickets_push}

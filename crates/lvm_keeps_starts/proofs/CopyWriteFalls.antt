@@ -10,9 +10,9 @@ use Rattle.lvm_session.specs.State.{Core, State}
 use Rattle.lvm_session.specs.Judging.{is_running, is_waiting}
 use Rattle.lvm_session.specs.Bringing.{hand_of, is_idle, is_whole}
 use Rattle.lvm_session.specs.Enabled.{is_lost}
-use Rattle.lvm_events.specs.Events.{flown}
-use Rattle.lvm_sound.specs.Left.{left_by, left_of, step_left, tried_of, work_left}
-use Rattle.lvm_sound.specs.Sound.{IsCopy}
+use Rattle.lvm_session.specs.Events.{flown}
+use Rattle.lvm_session.specs.Left.{left_by, left_of, step_left, tried_of, work_left}
+use Rattle.lvm_session.specs.Sound.{IsCopy}
 use Rattle.lvm_keeps.proofs.CopyReadFalls.{falls}
 use Rattle.lvm_keeps.proofs.Small.{both}
 use Rattle.lvm_keeps_starts.specs.Falls.{CopyWriteFalls}

@@ -30,13 +30,13 @@ use Rattle.lvm_session.specs.State.{Core, State, state}
 use Rattle.lvm_session.specs.Judging.{copies_for, facts_of, group_in, group_of, has_dirty_mark, has_names, is_caught, is_missing, is_waiting, is_wanted_stale, mode_of, pps_of}
 use Rattle.lvm_session.specs.Bringing.{has_row, step_row}
 use Rattle.lvm_session.specs.Enabled.{target_due}
-use Rattle.lvm_events.specs.Events.{IsDataTransfer, begun_as, flown}
-use Rattle.lvm_events.specs.Marks.{is_among}
-use Rattle.lvm_sound.specs.Left.{marks_later}
-use Rattle.lvm_sound.specs.Owners.{AreOwned, IsDataOf, flies, same_owner, target_flies}
-use Rattle.lvm_sound.specs.Requests.{IsJudged, IsOpenOne, IsPhase, IsPinned, IsReady, IsRecorded, IsRequest, IsShaped, IsTarget, has_record, is_left_out, is_past_held, may_lack, mode_for}
-use Rattle.lvm_sound.specs.Causes.{AreCaused, AreCounted, IsAnswered, IsCaused, IsChosenSince, IsCounted, IsLandedFor, fails_on, faults_at_opening, is_held_stale}
-use Rattle.lvm_sound.specs.Sound.{IsAsked, IsCopy, IsGoing, IsOn, IsSound, IsTold, count_if, has_number, is_dark, is_hand, out_with, pins, with_row}
+use Rattle.lvm_session.specs.Events.{IsDataTransfer, begun_as, flown}
+use Rattle.lvm_session.specs.Marks.{is_among}
+use Rattle.lvm_session.specs.Left.{marks_later}
+use Rattle.lvm_session.specs.Owners.{AreOwned, IsDataOf, flies, same_owner, target_flies}
+use Rattle.lvm_session.specs.Requests.{IsJudged, IsOpenOne, IsPhase, IsPinned, IsReady, IsRecorded, IsRequest, IsShaped, IsTarget, has_record, is_left_out, is_past_held, may_lack, mode_for}
+use Rattle.lvm_session.specs.Causes.{AreCaused, AreCounted, IsAnswered, IsCaused, IsChosenSince, IsCounted, IsLandedFor, fails_on, faults_at_opening, is_held_stale}
+use Rattle.lvm_session.specs.Sound.{IsAsked, IsCopy, IsGoing, IsOn, IsSound, IsTold, count_if, has_number, is_dark, is_hand, out_with, pins, with_row}
 use Rattle.lvm_keeps.specs.Keeps.{DataStartKeeps}
 use Rattle.lvm_keeps.proofs.Causes.{answered_still, copies_still, counted_still, origin_still}
 use Rattle.lvm_keeps.proofs.Launching.{flights_push, none_more, owners_push, rows_push, taken, tickets_push}

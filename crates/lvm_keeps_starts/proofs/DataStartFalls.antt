@@ -19,10 +19,10 @@ use Rattle.lvm_session.specs.declared.open.Power.TheVariants as power
 use Rattle.lvm_session.specs.State.{Core, State, is_there}
 use Rattle.lvm_session.specs.Judging.{copies_for, facts_of, is_changed, is_waiting}
 use Rattle.lvm_session.specs.Enabled.{is_lost, target_due}
-use Rattle.lvm_events.specs.Events.{begun_as, flown}
-use Rattle.lvm_sound.specs.Left.{begun_left, copy_left, if_so, is_held, lacks_dirty, left_of, phase_left, read_left, request_left, status_left, turns_of, unbegun_left, update_work, waiting_targets, work_left, write_left}
-use Rattle.lvm_sound.specs.Requests.{IsOpenOne, IsPhase, IsRequest}
-use Rattle.lvm_sound.specs.Sound.{IsSound, count_if}
+use Rattle.lvm_session.specs.Events.{begun_as, flown}
+use Rattle.lvm_session.specs.Left.{begun_left, copy_left, if_so, is_held, lacks_dirty, left_of, phase_left, read_left, request_left, status_left, turns_of, unbegun_left, update_work, waiting_targets, work_left, write_left}
+use Rattle.lvm_session.specs.Requests.{IsOpenOne, IsPhase, IsRequest}
+use Rattle.lvm_session.specs.Sound.{IsSound, count_if}
 use Rattle.lvm_keeps.proofs.Leaving.{left_same}
 use Rattle.lvm_keeps.proofs.Lists.{all_at, any_set, count_set}
 use Rattle.lvm_keeps.proofs.PinFalls.{sum_same}

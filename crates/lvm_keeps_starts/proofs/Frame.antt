@@ -5,7 +5,7 @@ use Rattle.lvm_session.specs.declared.bringing.OpenCopy.{OpenCopy}
 use Rattle.lvm_session.specs.declared.flown.Flown.{Flown}
 use Rattle.lvm_session.specs.declared.open.Open.{Open}
 use Rattle.lvm_session.specs.State.{State, state}
-use Rattle.lvm_sound.specs.Sound.{IsFitting}
+use Rattle.lvm_session.specs.Sound.{IsFitting}
 use Rattle.lvm_keeps.proofs.Fitting.{still_fits}
 use Rattle.lvm_keeps.proofs.Still.{changed}
 

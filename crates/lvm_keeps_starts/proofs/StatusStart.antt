@@ -18,7 +18,7 @@ use Rattle.lvm_num.specs.Descriptor.{is_member}
 use Rattle.lvm_num.specs.Disks.{has}
 use Rattle.lvm_num.specs.Note.{note_bytes}
 use Rattle.lvm_num.specs.Record.{frame, slot_start}
-use Rattle.lvm_write.specs.Homes.{next_slot}
+use Rattle.lvm_homes.specs.Homes.{next_slot}
 use Rattle.lvm_num.specs.Status.{calls_dirty, calls_stale}
 use Rattle.lvm_num.specs.StatusBytes.{status_bytes}
 use Rattle.lvm_disk.specs.Device.{Device, Flight, Range}
@@ -46,13 +46,13 @@ use Rattle.lvm_session.specs.State.{Core, State, state}
 use Rattle.lvm_session.specs.Judging.{copies_in, group_in, has_dirty_mark, has_names, is_caught, is_missing, is_running, is_settled, is_stale, is_wanted_stale, pps_of}
 use Rattle.lvm_session.specs.Bringing.{copy_ends, end_by_sources, end_of, ends_if, is_whole}
 use Rattle.lvm_session.specs.Enabled.{is_status_due, same_row, same_rows, same_status}
-use Rattle.lvm_events.specs.Events.{Begins, IsStatusWrite, flown}
-use Rattle.lvm_events.specs.Marks.{is_among}
-use Rattle.lvm_sound.specs.Left.{if_so, updates_left}
-use Rattle.lvm_sound.specs.Owners.{AreOwned, IsStatusOf, IsTransferOf, flies, same_owner}
-use Rattle.lvm_sound.specs.Requests.{IsJudged, IsOpenOne, IsReady, IsShaped, IsTarget, has_record, is_past_held, is_wanted_dirty, mode_for}
-use Rattle.lvm_sound.specs.Causes.{AreCaused, IsCaused, IsTrueToOrigin, fails_on, is_blamed, is_held_stale, was_fresh}
-use Rattle.lvm_sound.specs.Sound.{IsCopy, IsFitting, IsGoing, IsOn, IsSound, IsTold, count_if, has_number, is_dark, may_be_fresh, out_with, stays_fresh}
+use Rattle.lvm_session.specs.Events.{Begins, IsStatusWrite, flown}
+use Rattle.lvm_session.specs.Marks.{is_among}
+use Rattle.lvm_session.specs.Left.{if_so, updates_left}
+use Rattle.lvm_session.specs.Owners.{AreOwned, IsStatusOf, IsTransferOf, flies, same_owner}
+use Rattle.lvm_session.specs.Requests.{IsJudged, IsOpenOne, IsReady, IsShaped, IsTarget, has_record, is_past_held, is_wanted_dirty, mode_for}
+use Rattle.lvm_session.specs.Causes.{AreCaused, IsCaused, IsTrueToOrigin, fails_on, is_blamed, is_held_stale, was_fresh}
+use Rattle.lvm_session.specs.Sound.{IsCopy, IsFitting, IsGoing, IsOn, IsSound, IsTold, count_if, has_number, is_dark, may_be_fresh, out_with, stays_fresh}
 use Rattle.lvm_keeps.specs.Keeps.{StatusStartKeeps}
 use Rattle.lvm_keeps.proofs.Causes.{copies_still}
 use Rattle.lvm_keeps.proofs.Fitting.{still_fits}

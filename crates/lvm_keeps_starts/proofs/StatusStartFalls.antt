@@ -31,10 +31,10 @@ use Rattle.lvm_session.specs.declared.open.Power.TheVariants as power
 use Rattle.lvm_session.specs.State.{Core, State, is_there}
 use Rattle.lvm_session.specs.Judging.{copies_for, is_changed, is_missing, is_running, is_settled, is_stale, is_usable, is_waiting, is_wanted_stale}
 use Rattle.lvm_session.specs.Enabled.{same_status}
-use Rattle.lvm_events.specs.Events.{flown}
-use Rattle.lvm_sound.specs.Causes.{is_held_stale}
-use Rattle.lvm_sound.specs.Left.{begun_left, copy_left, if_so, is_brought_up, is_held, lacks_dirty, left_of, phase_left, read_left, request_left, status_left, turns_of, unbegun_left, update_work, work_left}
-use Rattle.lvm_sound.specs.Sound.{IsGoing, count_if, is_clearing}
+use Rattle.lvm_session.specs.Events.{flown}
+use Rattle.lvm_session.specs.Causes.{is_held_stale}
+use Rattle.lvm_session.specs.Left.{begun_left, copy_left, if_so, is_brought_up, is_held, lacks_dirty, left_of, phase_left, read_left, request_left, status_left, turns_of, unbegun_left, update_work, work_left}
+use Rattle.lvm_session.specs.Sound.{IsGoing, count_if, is_clearing}
 use Rattle.lvm_keeps.proofs.Lists.{count_cons}
 use Rattle.lvm_keeps.proofs.PinFalls.{sum_same}
 use Rattle.lvm_keeps.proofs.Small.{both, not_so}

@@ -3,9 +3,9 @@ use Rattle.std.specs.Prelude.{◌≡◌, ◌<◌, ℕ, false}
 use Rattle.lvm_session.specs.declared.open.Power.TheVariants as power
 use Rattle.lvm_session.specs.State.{State}
 use Rattle.lvm_session.specs.Enabled.{is_lost}
-use Rattle.lvm_events.specs.Events.{StartsData, StartsStatus, WritesCopy}
-use Rattle.lvm_sound.specs.Left.{left_of}
-use Rattle.lvm_sound.specs.Sound.{IsSound}
+use Rattle.lvm_session.specs.Events.{StartsData, StartsStatus, WritesCopy}
+use Rattle.lvm_session.specs.Left.{left_of}
+use Rattle.lvm_session.specs.Sound.{IsSound}
 
 -- while the votes are there, an event of a session that is on leaves less work
 abbrev pub Falls : (State → State → Type 0) → Type 0

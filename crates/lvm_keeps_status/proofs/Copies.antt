@@ -25,12 +25,12 @@ use Rattle.lvm_session.specs.declared.flown.Owner.TheVariants as owner
 use Rattle.lvm_session.specs.State.{Core}
 use Rattle.lvm_session.specs.Judging.{copies_in, is_caught, is_missing, is_running, is_stale, is_usable, is_wanted_stale}
 use Rattle.lvm_session.specs.Bringing.{after_copy_end, copy_ends, end_by_sources, end_of, ends_if, groups_of, hand_of, has_row, is_cleared, is_done_end, is_idle, is_out, is_whole, marked_by_end, sources_of, step_of, step_row, with_back, with_end}
-use Rattle.lvm_events.specs.Dark.{hand_of_copy}
-use Rattle.lvm_events.specs.Marks.{Reviews, WantsStale, is_entailed}
-use Rattle.lvm_sound.specs.Causes.{IsChosenSince, is_held_stale}
-use Rattle.lvm_sound.specs.Left.{copy_left, copy_updates, is_brought_up, step_left, tried_of, update_work}
-use Rattle.lvm_sound.specs.Owners.{IsCopyOf, IsStepOf, flies}
-use Rattle.lvm_sound.specs.Sound.{IsCopy, IsReadFrom, count_if, is_clearing, is_hand, rows_of, waiting_rows, with_row}
+use Rattle.lvm_session.specs.Dark.{hand_of_copy}
+use Rattle.lvm_session.specs.Marks.{Reviews, WantsStale, is_entailed}
+use Rattle.lvm_session.specs.Causes.{IsChosenSince, is_held_stale}
+use Rattle.lvm_session.specs.Left.{copy_left, copy_updates, is_brought_up, step_left, tried_of, update_work}
+use Rattle.lvm_session.specs.Owners.{IsCopyOf, IsStepOf, flies}
+use Rattle.lvm_session.specs.Sound.{IsCopy, IsReadFrom, count_if, is_clearing, is_hand, rows_of, waiting_rows, with_row}
 use Rattle.lvm_keeps.proofs.Ending.{back, back_long}
 use Rattle.lvm_keeps.proofs.Lists.{all_on}
 use Rattle.lvm_keeps.proofs.Small.{both, is_false, not_so}

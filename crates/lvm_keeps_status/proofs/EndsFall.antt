@@ -29,11 +29,11 @@ use Rattle.lvm_session.specs.declared.open.Open.{Open}
 use Rattle.lvm_session.specs.State.{Core, is_there}
 use Rattle.lvm_session.specs.Judging.{copies_for, group_of, is_changed, is_missing, is_waiting}
 use Rattle.lvm_session.specs.Enabled.{is_lost}
-use Rattle.lvm_events.specs.Ends.{LosesDisk}
-use Rattle.lvm_events.specs.Marks.{Reviews}
-use Rattle.lvm_sound.specs.Left.{begun_left, copy_left, if_so, is_held, lacks_dirty, lacks_note, left_of, phase_left, read_left, request_left, status_left, turns_of, unbegun_left, update_work, work_left}
-use Rattle.lvm_sound.specs.Owners.{flies}
-use Rattle.lvm_sound.specs.Sound.{IsGoing, pins}
+use Rattle.lvm_session.specs.Ends.{LosesDisk}
+use Rattle.lvm_session.specs.Marks.{Reviews}
+use Rattle.lvm_session.specs.Left.{begun_left, copy_left, if_so, is_held, lacks_dirty, lacks_note, left_of, phase_left, read_left, request_left, status_left, turns_of, unbegun_left, update_work, work_left}
+use Rattle.lvm_session.specs.Owners.{flies}
+use Rattle.lvm_session.specs.Sound.{IsGoing, pins}
 use Rattle.lvm_keeps.proofs.Lists.{all_on}
 use Rattle.lvm_keeps.proofs.NoteStart.{each_counted}
 use Rattle.lvm_keeps.proofs.Small.{both, is_false, not_so}

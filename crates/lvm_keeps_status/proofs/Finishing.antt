@@ -15,8 +15,8 @@ use Rattle.lvm_disk.specs.Device.{Flight, Media}
 use Rattle.lvm_mwc.specs.Cache.{flight_on, has_disk}
 use Rattle.lvm_mwc.specs.declared.notes.DiskNotes.{DiskNotes}
 use Rattle.lvm_status.specs.Update.{Stored, Updates}
-use Rattle.lvm_write.specs.declared.homes.Homes.{Homes}
-use Rattle.lvm_write.specs.Homes.{next_slot}
+use Rattle.lvm_homes.specs.declared.homes.Homes.{Homes}
+use Rattle.lvm_homes.specs.Homes.{next_slot}
 use Rattle.lvm_session.specs.declared.bringing.OpenCopy.{OpenCopy}
 use Rattle.lvm_session.specs.declared.flown.Flown.{Flown}
 use Rattle.lvm_session.specs.declared.flown.Owner.{Owner}
@@ -25,10 +25,10 @@ use Rattle.lvm_session.specs.declared.open.Power.TheVariants as power
 use Rattle.lvm_session.specs.State.{Core, State, state}
 use Rattle.lvm_session.specs.Judging.{copies_in, is_missing}
 use Rattle.lvm_session.specs.Bringing.{end_of}
-use Rattle.lvm_events.specs.Marks.{Reviews}
-use Rattle.lvm_sound.specs.Causes.{IsCopyCaused}
-use Rattle.lvm_sound.specs.Owners.{AreOwned, AreRows, IsTransferOf, flies, same_owner}
-use Rattle.lvm_sound.specs.Sound.{IsGoing, IsSound, count_if, has_number, is_dark, is_hand}
+use Rattle.lvm_session.specs.Marks.{Reviews}
+use Rattle.lvm_session.specs.Causes.{IsCopyCaused}
+use Rattle.lvm_session.specs.Owners.{AreOwned, AreRows, IsTransferOf, flies, same_owner}
+use Rattle.lvm_session.specs.Sound.{IsGoing, IsSound, count_if, has_number, is_dark, is_hand}
 use Rattle.lvm_keeps.proofs.Ending.{back}
 use Rattle.lvm_keeps.proofs.Lists.{all_removed, length_set}
 use Rattle.lvm_keeps.proofs.Rows.{all_fly}

@@ -21,7 +21,7 @@ use Rattle.lvm_mwc.specs.Cache.{has_disk}
 use Rattle.lvm_mwc.specs.declared.notes.DiskNotes.{DiskNotes}
 use Rattle.lvm_status.specs.Update.{Stored, Updates, seen}
 use Rattle.lvm_status.specs.Runs.{IsSound as IsSoundStatus}
-use Rattle.lvm_write.specs.declared.homes.Homes.{Homes}
+use Rattle.lvm_homes.specs.declared.homes.Homes.{Homes}
 use Rattle.lvm_path.specs.declared.target.Target.{Target}
 use Rattle.lvm_path.specs.Targets.{is_failed}
 use Rattle.lvm_session.specs.declared.bringing.CopyEnd.{CopyEnd}
@@ -35,13 +35,13 @@ use Rattle.lvm_session.specs.State.{Core, State, is_there, state}
 use Rattle.lvm_session.specs.Judging.{copies_in, is_missing, is_running, is_sure, is_usable, is_wanted_stale, is_stale}
 use Rattle.lvm_session.specs.Bringing.{copy_ends, end_by_sources, end_of, ends_if, is_cleared, is_idle, is_whole, marked_by_end, next_source, sources_of}
 use Rattle.lvm_session.specs.Enabled.{same_status}
-use Rattle.lvm_events.specs.Calls.{copy_at}
-use Rattle.lvm_events.specs.Events.{is_passive}
-use Rattle.lvm_events.specs.Marks.{is_entailed}
-use Rattle.lvm_sound.specs.Causes.{AreCaused, AreCounted, FailedSince, FailedSinceOpening, HasFailed, HaveSourcesFailed, IsAnswered, IsCaused, IsCopyCaused, IsCounted, IsLandedFor, IsTrueToOrigin, fails_on, faults_at_first, faults_at_opening, is_blamed, is_held_stale, is_over}
-use Rattle.lvm_sound.specs.Left.{clean_volumes, if_so, updates_left}
-use Rattle.lvm_sound.specs.Owners.{AreOwned, AreRows, HaveTickets}
-use Rattle.lvm_sound.specs.Sound.{IsCopy, IsFitting, IsGoing, IsOn, IsSound, IsTold, count_if, has_number, is_dark, out_with}
+use Rattle.lvm_session.specs.Calls.{copy_at}
+use Rattle.lvm_session.specs.Events.{is_passive}
+use Rattle.lvm_session.specs.Marks.{is_entailed}
+use Rattle.lvm_session.specs.Causes.{AreCaused, AreCounted, FailedSince, FailedSinceOpening, HasFailed, HaveSourcesFailed, IsAnswered, IsCaused, IsCopyCaused, IsCounted, IsLandedFor, IsTrueToOrigin, fails_on, faults_at_first, faults_at_opening, is_blamed, is_held_stale, is_over}
+use Rattle.lvm_session.specs.Left.{clean_volumes, if_so, updates_left}
+use Rattle.lvm_session.specs.Owners.{AreOwned, AreRows, HaveTickets}
+use Rattle.lvm_session.specs.Sound.{IsCopy, IsFitting, IsGoing, IsOn, IsSound, IsTold, count_if, has_number, is_dark, out_with}
 use Rattle.lvm_keeps.proofs.Lists.{all_on}
 use Rattle.lvm_keeps.proofs.Small.{both, is_false, not_so}
 use Rattle.lvm_keeps.proofs.Still.{if_on}

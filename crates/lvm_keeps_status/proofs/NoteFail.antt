@@ -19,15 +19,15 @@ use Rattle.lvm_status.specs.declared.change.Change.TheVariants as change
 use Rattle.lvm_status.specs.Update.{Stored, Updates, seen, without_disk}
 use Rattle.lvm_status.specs.Runs.{Want}
 use Rattle.lvm_status.proofs.Sound.{steps_stay_sound}
-use Rattle.lvm_write.specs.Homes.{next_slot}
+use Rattle.lvm_homes.specs.Homes.{next_slot}
 use Rattle.lvm_session.specs.declared.flown.Flown.{Flown}
 use Rattle.lvm_session.specs.declared.flown.Owner.{Owner}
 use Rattle.lvm_session.specs.declared.flown.Owner.TheVariants as owner
 use Rattle.lvm_session.specs.State.{Core, state}
 use Rattle.lvm_session.specs.Judging.{is_missing}
-use Rattle.lvm_events.specs.Ends.{LosesDisk}
-use Rattle.lvm_sound.specs.Owners.{IsNoteOf, IsTransferOf, flies, same_owner}
-use Rattle.lvm_sound.specs.Sound.{IsGoing, IsSound, count_if}
+use Rattle.lvm_session.specs.Ends.{LosesDisk}
+use Rattle.lvm_session.specs.Owners.{IsNoteOf, IsTransferOf, flies, same_owner}
+use Rattle.lvm_session.specs.Sound.{IsGoing, IsSound, count_if}
 use Rattle.lvm_keeps.proofs.Small.{both, not_so}
 use Rattle.lvm_keeps_ends.proofs.CopyQuit.{IsBack, is_back}
 use Rattle.lvm_keeps_ends.proofs.NoteEnd.{flight_beside, none_here, same_disks}

@@ -27,9 +27,9 @@ use Rattle.lvm_session.specs.declared.open.Open.{Open}
 use Rattle.lvm_session.specs.State.{Core}
 use Rattle.lvm_session.specs.Judging.{group_in, group_of, has_dirty_mark, has_names, held_of, is_caught, is_kept, is_running, is_settled, is_sure, is_wanted_stale, place_of, pps_of}
 use Rattle.lvm_session.specs.Bringing.{groups_of}
-use Rattle.lvm_events.specs.Marks.{is_among}
-use Rattle.lvm_sound.specs.Requests.{IsJudged, IsLaid, IsOpenOne, IsReady, IsRecorded, IsShaped, IsTarget, has_record, is_failed_and_sure, is_wanted_dirty, may_lack, mode_for, will_be_kept}
-use Rattle.lvm_sound.specs.Sound.{pins}
+use Rattle.lvm_session.specs.Marks.{is_among}
+use Rattle.lvm_session.specs.Requests.{IsJudged, IsLaid, IsOpenOne, IsReady, IsRecorded, IsShaped, IsTarget, has_record, is_failed_and_sure, is_wanted_dirty, may_lack, mode_for, will_be_kept}
+use Rattle.lvm_session.specs.Sound.{pins}
 use Rattle.lvm_keeps.proofs.Lists.{all_on}
 use Rattle.lvm_keeps.proofs.NoteStart.{each_counted}
 use Rattle.lvm_keeps.proofs.Small.{and_on, both, is_false, not_so}

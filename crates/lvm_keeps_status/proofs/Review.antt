@@ -13,7 +13,7 @@ use Rattle.lvm_stale.specs.Table.{is_pp}
 use Rattle.lvm_hold.specs.Waiting.{Waiting}
 use Rattle.lvm_mwc.specs.declared.notes.DiskNotes.{DiskNotes}
 use Rattle.lvm_status.specs.Update.{Stored, Updates}
-use Rattle.lvm_write.specs.declared.homes.Homes.{Homes}
+use Rattle.lvm_homes.specs.declared.homes.Homes.{Homes}
 use Rattle.lvm_session.specs.declared.bringing.CopyEnd.{CopyEnd}
 use Rattle.lvm_session.specs.declared.bringing.CopyEnd.TheVariants as ending
 use Rattle.lvm_session.specs.declared.bringing.OpenCopy.{OpenCopy}
@@ -21,9 +21,9 @@ use Rattle.lvm_session.specs.declared.flown.Flown.{Flown}
 use Rattle.lvm_session.specs.State.{Core}
 use Rattle.lvm_session.specs.Judging.{copies_in, is_missing, is_running, is_settled, is_stale, is_sure, is_usable, is_wanted_stale}
 use Rattle.lvm_session.specs.Bringing.{copy_ends, end_by_sources, end_of, ends_if, is_cleared, is_done_end, is_whole, marked_by_end}
-use Rattle.lvm_events.specs.Marks.{WantsStale, can_replace, is_among, is_entailed, is_entailed_in, is_left_behind}
-use Rattle.lvm_sound.specs.Causes.{is_held_stale, was_fresh}
-use Rattle.lvm_sound.specs.Sound.{IsCopy, IsGoing, is_clearing, may_be_fresh, stays_fresh}
+use Rattle.lvm_session.specs.Marks.{WantsStale, can_replace, is_among, is_entailed, is_entailed_in, is_left_behind}
+use Rattle.lvm_session.specs.Causes.{is_held_stale, was_fresh}
+use Rattle.lvm_session.specs.Sound.{IsCopy, IsGoing, is_clearing, may_be_fresh, stays_fresh}
 use Rattle.lvm_keeps.proofs.Landing.{or_parts}
 use Rattle.lvm_keeps.proofs.Small.{both, is_false, not_so}
 use Rattle.lvm_keeps_ends.proofs.CopyReadFail.{is_here, pp_is}

@@ -16,16 +16,16 @@ use Rattle.lvm_status.specs.Update.{Stored, Updates, is_held, seen}
 use Rattle.lvm_status.specs.Calls.{WantsAtEnd, after_end, closed, comes_held, with_commit, with_end}
 use Rattle.lvm_status.specs.Runs.{Ended, IsSound as IsSoundStatus}
 use Rattle.lvm_status.proofs.Sound.{steps_stay_sound}
-use Rattle.lvm_write.specs.declared.homes.Homes.{Homes}
-use Rattle.lvm_write.specs.Homes.{next_slot}
+use Rattle.lvm_homes.specs.declared.homes.Homes.{Homes}
+use Rattle.lvm_homes.specs.Homes.{next_slot}
 use Rattle.lvm_session.specs.declared.flown.Flown.{Flown}
 use Rattle.lvm_session.specs.declared.flown.Owner.{Owner}
 use Rattle.lvm_session.specs.declared.flown.Owner.TheVariants as owner
 use Rattle.lvm_session.specs.State.{Core, state}
 use Rattle.lvm_session.specs.Judging.{is_missing}
-use Rattle.lvm_events.specs.Ends.{EndsAs, FlipsIf}
-use Rattle.lvm_sound.specs.Owners.{IsStatusOf, IsTransferOf, flies, same_owner}
-use Rattle.lvm_sound.specs.Sound.{IsGoing, IsSound, count_if}
+use Rattle.lvm_session.specs.Ends.{EndsAs, FlipsIf}
+use Rattle.lvm_session.specs.Owners.{IsStatusOf, IsTransferOf, flies, same_owner}
+use Rattle.lvm_session.specs.Sound.{IsGoing, IsSound, count_if}
 use Rattle.lvm_keeps.proofs.Small.{both, not_so}
 use Rattle.lvm_keeps_ends.proofs.CopyQuit.{IsBack, is_back}
 use Rattle.lvm_keeps_ends.proofs.Removal.{IsOut, as_many, none_left, taken_out, was_out}

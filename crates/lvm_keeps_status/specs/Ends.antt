@@ -5,9 +5,9 @@ use Rattle.lvm_session.specs.declared.flown.Flown.{Flown}
 use Rattle.lvm_session.specs.declared.flown.Owner.TheVariants as owner
 use Rattle.lvm_session.specs.declared.open.Power.TheVariants as power
 use Rattle.lvm_session.specs.State.{State}
-use Rattle.lvm_events.specs.Ends.{NoteLearns, Returns, StatusLearns}
-use Rattle.lvm_sound.specs.Left.{left_of}
-use Rattle.lvm_sound.specs.Sound.{IsSound}
+use Rattle.lvm_session.specs.Ends.{NoteLearns, Returns, StatusLearns}
+use Rattle.lvm_session.specs.Left.{left_of}
+use Rattle.lvm_session.specs.Sound.{IsSound}
 use Rattle.lvm_keeps.specs.Keeps.{Keeps}
 use Rattle.lvm_keeps_ends.specs.Ends.{EndsNote}
 

@@ -9,7 +9,7 @@ use Rattle.lvm_session.specs.declared.flown.Owner.{Owner}
 use Rattle.lvm_session.specs.declared.flown.Owner.TheVariants as owner
 use Rattle.lvm_session.specs.Judging.{is_running}
 use Rattle.lvm_session.specs.State.{State}
-use Rattle.lvm_events.specs.Ends.{Learns, NoteLearns, Returns, StepLearns, StepLeaves}
+use Rattle.lvm_session.specs.Ends.{Learns, NoteLearns, Returns, StepLearns, StepLeaves}
 use Rattle.lvm_keeps.specs.Falls.{EndsFall}
 use Rattle.lvm_keeps.specs.Keeps.{EndKeeps}
 use Rattle.lvm_keeps_ends.specs.Ends.{EndsMiss, EndsNote, EndsQuit, EndsRead, EndsWrite}

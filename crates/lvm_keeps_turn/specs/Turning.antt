@@ -1,12 +1,12 @@
 -- What a turn of a sound session leaves.
 use Rattle.std.specs.Prelude.{◌≡◌, ◌<◌, Bool, true, false}
 use Rattle.lvm_session.specs.State.{State}
-use Rattle.lvm_events.specs.declared.answers.Turned.{Turned}
-use Rattle.lvm_events.specs.declared.answers.Turned.TheVariants as turned
-use Rattle.lvm_events.specs.Turns.{TurnMakes}
-use Rattle.lvm_sound.specs.Causes.{is_over}
-use Rattle.lvm_sound.specs.Left.{left_of}
-use Rattle.lvm_sound.specs.Sound.{IsSound}
+use Rattle.lvm_session.specs.declared.answers.Turned.{Turned}
+use Rattle.lvm_session.specs.declared.answers.Turned.TheVariants as turned
+use Rattle.lvm_session.specs.Turns.{TurnMakes}
+use Rattle.lvm_session.specs.Causes.{is_over}
+use Rattle.lvm_session.specs.Left.{left_of}
+use Rattle.lvm_session.specs.Sound.{IsSound}
 
 -- Each turn leaves it sound.
 abbrev pub TurnKeeps : Type 0

@@ -19,10 +19,10 @@ use Rattle.lvm_session.specs.declared.open.Open.{Open}
 use Rattle.lvm_session.specs.State.{Core, State, state}
 use Rattle.lvm_session.specs.Judging.{facts_of, group_of, is_waiting, next_for, place_of}
 use Rattle.lvm_session.specs.Bringing.{with_back}
-use Rattle.lvm_events.specs.Events.{after_landing, got_blocks, landed_as}
+use Rattle.lvm_session.specs.Events.{after_landing, got_blocks, landed_as}
 use Rattle.lvm_over.specs.Hands.{IsOutIf}
-use Rattle.lvm_sound.specs.Requests.{IsRequest}
-use Rattle.lvm_sound.specs.Sound.{IsAsked, IsGoing, count_if, is_hand, pins}
+use Rattle.lvm_session.specs.Requests.{IsRequest}
+use Rattle.lvm_session.specs.Sound.{IsAsked, IsGoing, count_if, is_hand, pins}
 use Rattle.lvm_land.specs.Entered.{IsEntered}
 use Rattle.lvm_firsts.proofs.Nexts.{landed_waits, one, queued}
 use Rattle.lvm_firsts.proofs.Places.{at_place}

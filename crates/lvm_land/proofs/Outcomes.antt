@@ -22,7 +22,7 @@ use Rattle.lvm_path.specs.Targets.{is_begun, is_done, states_of}
 use Rattle.lvm_path.specs.Next.{next_chosen, next_data, next_in, next_marked, next_of, next_read, next_write, start_or_wait}
 use Rattle.lvm_session.specs.declared.open.Open.{Open}
 use Rattle.lvm_session.specs.Enabled.{outcome_next}
-use Rattle.lvm_sound.specs.Requests.{IsPhase}
+use Rattle.lvm_session.specs.Requests.{IsPhase}
 
 -- a transfer of one of them has ended well
 abbrev pub has_done : List Target → Bool

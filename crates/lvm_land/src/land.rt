@@ -10,12 +10,12 @@ ghost use Rattle.lvm_session.specs.Fields.{core_of};
 ghost use Rattle.lvm_session.specs.Judging.{next_for};
 ghost use Rattle.lvm_session.specs.Rooms.{SameRooms};
 ghost use Rattle.lvm_session.specs.State.{state};
-ghost use Rattle.lvm_events.specs.Events.{Lands, got_blocks, landed_as};
-ghost use Rattle.lvm_sound.specs.Sound.{IsGoing};
+ghost use Rattle.lvm_session.specs.Events.{Lands, got_blocks, landed_as};
+ghost use Rattle.lvm_session.specs.Sound.{IsGoing};
 ghost use Rattle.lvm_land.specs.Entered.{IsEntered};
 
 use crate::front::copy_front;
-use crate::pinned::unpin;
+use lvm_copies::unpin;
 use lvm_history::History;
 use lvm_num::Pbuf;
 use lvm_over::give_back;

@@ -3,7 +3,5 @@
 
 mod front;
 mod land;
-mod pinned;
 
 pub use land::land_at;
-pub use pinned::unpin;

@@ -12,7 +12,7 @@ use Rattle.lvm_vol.specs.Order.{Ordered}
 use Rattle.lvm_vol.proofs.Asking.{find_stands}
 use Rattle.lvm_vol.proofs.Order.{IdsFrom, IsNumbered, numbered, stands-at}
 use Rattle.lvm_history.proofs.Keeping.{blocks-back}
-use Rattle.lvm_sound.specs.Sound.{place_in}
+use Rattle.lvm_session.specs.Sound.{place_in}
 
 -- the requests below a number are the first ones
 firsts : (n m : ℕ) (rs : List Request) → IdsFrom n rs → filter (λ (s : Request). nat_lt s.id m) rs ≡ take (m - n) rs

@@ -9,10 +9,10 @@ use Rattle.lvm_session.specs.declared.open.Open.{Open}
 use Rattle.lvm_session.specs.State.{Core}
 use Rattle.lvm_session.specs.Judging.{is_waiting}
 use Rattle.lvm_session.specs.Bringing.{with_back}
-use Rattle.lvm_events.specs.Dark.{hand_of_copy}
+use Rattle.lvm_session.specs.Dark.{hand_of_copy}
 use Rattle.lvm_over.specs.Hands.{AreInHand, IsOutIf, MayEnd}
-use Rattle.lvm_sound.specs.Requests.{IsOpenOne}
-use Rattle.lvm_sound.specs.Sound.{IsGoing, count_if, is_hand}
+use Rattle.lvm_session.specs.Requests.{IsOpenOne}
+use Rattle.lvm_session.specs.Sound.{IsGoing, count_if, is_hand}
 
 pub is_out : (pool : List Bool) (n : ℕ) → 1 ≤ count_if (slice_index_or pool n false) → IsOut pool n
 is_out [] n some = absurd (omega (arith, some))

@@ -25,11 +25,11 @@ use Rattle.lvm_session.specs.declared.flown.Owner.TheVariants as owner
 use Rattle.lvm_session.specs.State.{Core, State, state}
 use Rattle.lvm_session.specs.Bringing.{hand_of, next_source, with_back}
 use Rattle.lvm_session.specs.Enabled.{may_read, may_write, note_due}
-use Rattle.lvm_events.specs.Dark.{all_dark, hand_of_copy, with_hands}
-use Rattle.lvm_events.specs.Events.{IsDueAt, ReadsCopy, StartsData, StartsNote, WritesCopy, begun_as, flown, step_sector}
-use Rattle.lvm_events.specs.Turns.{Darkens}
+use Rattle.lvm_session.specs.Dark.{all_dark, hand_of_copy, with_hands}
+use Rattle.lvm_session.specs.Events.{IsDueAt, ReadsCopy, StartsData, StartsNote, WritesCopy, begun_as, flown, step_sector}
+use Rattle.lvm_session.specs.Turns.{Darkens}
 use Rattle.lvm_over.specs.Hands.{AreInHand, IsOutIf, MayEnd}
-use Rattle.lvm_sound.specs.Sound.{IsAsked, IsGoing}
+use Rattle.lvm_session.specs.Sound.{IsAsked, IsGoing}
 use Rattle.lvm_launch.proofs.Blocks.{block_is, within}
 use Rattle.lvm_launch.proofs.Hands.{may_end, pool_same}
 

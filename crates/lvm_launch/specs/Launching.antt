@@ -11,12 +11,12 @@ use Rattle.lvm_session.specs.State.{Core, State}
 use Rattle.lvm_session.specs.Bringing.{next_source}
 use Rattle.lvm_session.specs.Enabled.{has_buffer, may_read, may_write, note_due}
 use Rattle.lvm_session.specs.declared.event.Event.{Event}
-use Rattle.lvm_events.specs.declared.answers.Turned.{Turned}
-use Rattle.lvm_events.specs.declared.answers.Turned.TheVariants as turned
+use Rattle.lvm_session.specs.declared.answers.Turned.{Turned}
+use Rattle.lvm_session.specs.declared.answers.Turned.TheVariants as turned
 use Rattle.lvm_path.specs.Asks.{count_of}
-use Rattle.lvm_events.specs.Events.{IsDueAt, step_sector}
-use Rattle.lvm_events.specs.Turns.{Darkens, Makes}
-use Rattle.lvm_sound.specs.Sound.{IsGoing}
+use Rattle.lvm_session.specs.Events.{IsDueAt, step_sector}
+use Rattle.lvm_session.specs.Turns.{Darkens, Makes}
+use Rattle.lvm_session.specs.Sound.{IsGoing}
 
 -- One transfer more may be out.
 pub record HasFlight (device : Device) (core : Core) : Type 0 where

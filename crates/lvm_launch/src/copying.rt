@@ -11,17 +11,16 @@ ghost use Rattle.lvm_session.specs.Bringing.{hand_of, next_source};
 ghost use Rattle.lvm_session.specs.Fields.{core_of};
 ghost use Rattle.lvm_session.specs.Rooms.{HasRooms, SameRooms};
 ghost use Rattle.lvm_session.specs.State.{state};
-ghost use Rattle.lvm_events.specs.Events.{flown, step_sector};
-ghost use Rattle.lvm_sound.specs.Sound.{IsGoing};
+ghost use Rattle.lvm_session.specs.Events.{flown, step_sector};
+ghost use Rattle.lvm_session.specs.Sound.{IsGoing};
 ghost use Rattle.lvm_launch.specs.Launching.{HasFlight, MayLaunch, MayReadCopy, MayWriteCopy, StartGives};
 
 use crate::launch::{add_flight, end_dark, take_free};
 use lvm_copies::partition_blocks;
 use lvm_disk::{Shelf, Started};
 use lvm_enabled::next_source;
-use lvm_events::Turned;
 use lvm_num::{Pbuf, Pp};
-use lvm_session::{OpenCopy, Owner, Session, Step};
+use lvm_session::{OpenCopy, Owner, Session, Step, Turned};
 
 const GROUP: u32 = 256;
 

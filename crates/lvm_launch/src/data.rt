@@ -9,17 +9,16 @@ ghost use Rattle.lvm_session.specs.declared.open.Open.{Open};
 ghost use Rattle.lvm_session.specs.Fields.{core_of};
 ghost use Rattle.lvm_session.specs.Rooms.{HasRooms, SameRooms};
 ghost use Rattle.lvm_session.specs.State.{state};
-ghost use Rattle.lvm_events.specs.Events.{IsDueAt, begun_as, flown};
+ghost use Rattle.lvm_session.specs.Events.{IsDueAt, begun_as, flown};
 ghost use Rattle.lvm_launch.specs.Launching.{MayLaunch, MayStartData, StartGives};
 
 use crate::launch::{add_flight, end_dark, take_free};
 use crate::loading::load;
 use lvm_disk::{Shelf, Started};
-use lvm_events::Turned;
 use lvm_history::History;
 use lvm_num::Pbuf;
 use lvm_path::{Ask, Target};
-use lvm_session::{Open, Owner, Session};
+use lvm_session::{Open, Owner, Session, Turned};
 
 // The buffer with the blocks of a write, or for a read as it is.
 fn loaded(history: &History, place: u64, ask: &Ask, buf: Pbuf) -> Pbuf

@@ -4,8 +4,8 @@ ghost use Rattle.std.specs.List.{list_any};
 ghost use Rattle.lvm_pbuf.specs.Out.{IsOut, TakesLowest};
 ghost use Rattle.lvm_session.specs.Fields.{core_of};
 ghost use Rattle.lvm_session.specs.Rooms.{SameRooms};
-ghost use Rattle.lvm_events.specs.Dark.{all_dark};
-ghost use Rattle.lvm_events.specs.Events.{flown};
+ghost use Rattle.lvm_session.specs.Dark.{all_dark};
+ghost use Rattle.lvm_session.specs.Events.{flown};
 ghost use Rattle.lvm_over.specs.Hands.{MayEnd};
 
 use lvm_num::Pbuf;

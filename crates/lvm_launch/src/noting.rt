@@ -11,11 +11,10 @@ ghost use Rattle.lvm_launch.specs.Launching.{HasNote, MayLaunch, MayNote, StartG
 
 use crate::launch::{add_flight, end_dark, take_free};
 use lvm_disk::{Shelf, Started};
-use lvm_events::Turned;
 use lvm_mwc::Cache;
 use lvm_num::Pbuf;
 use lvm_rec::write_note;
-use lvm_session::{Owner, Session};
+use lvm_session::{Owner, Session, Turned};
 
 // The sector of a disk at which its note stands.
 const NOTE_SECTOR: u64 = 8;

@@ -6,7 +6,7 @@ use Rattle.lvm_pbuf.specs.Out.{IsOut}
 use Rattle.lvm_status.specs.Update.{seen}
 use Rattle.lvm_status.specs.Calls.{WantsAtEnd, after_end}
 use Rattle.lvm_session.specs.State.{Core}
-use Rattle.lvm_events.specs.Ends.{FlipsIf, LosesDisk, with_return}
+use Rattle.lvm_session.specs.Ends.{FlipsIf, LosesDisk, with_return}
 
 -- the transfer at this place of the list is out, with this buffer
 pub record MayReturn (core : Core) (at number : ℕ) : Type 0 where

@@ -7,14 +7,14 @@ ghost use Rattle.lvm_status.specs.declared.change.Change.TheVariants as change;
 ghost use Rattle.lvm_status.specs.Calls.{MayChange};
 ghost use Rattle.lvm_session.specs.Fields.{core_of};
 ghost use Rattle.lvm_session.specs.Rooms.{SameRooms};
-ghost use Rattle.lvm_events.specs.Ends.{FlipsIf};
+ghost use Rattle.lvm_session.specs.Ends.{FlipsIf};
 ghost use Rattle.lvm_learn.specs.Learning.{MayReturn, NoteEnds, StatusEnds};
 
+use lvm_homes::Homes;
 use lvm_num::{Kind, Pbuf};
 use lvm_reap::return_flight;
 use lvm_session::Session;
 use lvm_status::Change;
-use lvm_write::Homes;
 
 /// The write of the note in flight on a disk, at a place of the list, has ended well or badly: its buffer is in
 /// the pool again, and the disk's notes learn it. A disk whose note failed becomes wanted missing.

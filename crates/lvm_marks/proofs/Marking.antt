@@ -14,7 +14,7 @@ use Rattle.lvm_status.specs.Calls.{IsMarkable, with_wanted}
 use Rattle.lvm_status.specs.Runs.{IsSound}
 use Rattle.lvm_path.specs.declared.target.Target.{Target}
 use Rattle.lvm_session.specs.Judging.{pps_of}
-use Rattle.lvm_events.specs.Marks.{WantsStale, HasSameRows, is_among}
+use Rattle.lvm_session.specs.Marks.{WantsStale, HasSameRows, is_among}
 use Rattle.lvm_marks.specs.Due.{is_meant, without_place}
 use Rattle.std.specs.Prelude.{All}
 use Rattle.std.proofs.lemmas.List.{length-drop, take_all}

@@ -9,7 +9,7 @@ ghost use Rattle.lvm_session.specs.declared.open.Open.{Open};
 ghost use Rattle.lvm_session.specs.Fields.{core_of};
 ghost use Rattle.lvm_session.specs.Judging.{pps_of};
 ghost use Rattle.lvm_session.specs.Rooms.{SameRooms};
-ghost use Rattle.lvm_events.specs.Marks.{WantsStale, is_among, due_of};
+ghost use Rattle.lvm_session.specs.Marks.{WantsStale, is_among, due_of};
 ghost use Rattle.lvm_marks.specs.Due.{IsDue, IsFirstSure, IsWithinDue, MayMark, due_among};
 
 use crate::wanted::{mark_others, mark_targets};

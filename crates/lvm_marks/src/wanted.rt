@@ -7,7 +7,7 @@ ghost use Rattle.lvm_status.specs.Update.{seen};
 ghost use Rattle.lvm_status.specs.Runs.{IsSound as IsSoundStatus};
 ghost use Rattle.lvm_path.specs.declared.target.Target.{Target};
 ghost use Rattle.lvm_session.specs.Judging.{pps_of};
-ghost use Rattle.lvm_events.specs.Marks.{WantsStale, is_among};
+ghost use Rattle.lvm_session.specs.Marks.{WantsStale, is_among};
 ghost use Rattle.lvm_marks.specs.Due.{is_meant, without_place};
 
 use lvm_num::Pp;

@@ -14,7 +14,7 @@ use Rattle.lvm_session.specs.Rooms.{SameRooms}
 use Rattle.lvm_session.specs.State.{Core, state}
 use Rattle.lvm_session.specs.Judging.{next_for}
 use Rattle.lvm_session.specs.Enabled.{Part, admission, admission_at, first_from, first_of, is_admit, landing, landing_at, or_next, outcome_next, parts_to_settle, pinning}
-use Rattle.lvm_events.specs.Turns.{Makes}
+use Rattle.lvm_session.specs.Turns.{Makes}
 use Rattle.lvm_pins.specs.Pinning.{PinGives}
 use Rattle.lvm_moves.specs.Moving.{FirstGives}
 

@@ -4,7 +4,7 @@ use Rattle.lvm_disk.specs.Device.{Device}
 use Rattle.lvm_session.specs.declared.event.Event.{Event}
 use Rattle.lvm_session.specs.State.{Core, state}
 use Rattle.lvm_session.specs.Enabled.{Part}
-use Rattle.lvm_events.specs.Turns.{Makes}
+use Rattle.lvm_session.specs.Turns.{Makes}
 
 -- The first event of the part is made; or there is none, and nothing has changed.
 abbrev pub FirstGives : Part → Device → Core → Core → Bool → Type 0

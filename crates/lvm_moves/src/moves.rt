@@ -6,7 +6,7 @@ ghost use Rattle.lvm_session.specs.declared.event.Event.TheVariants as event;
 ghost use Rattle.lvm_session.specs.Enabled.{admission, first_of, landing, parts_to_settle};
 ghost use Rattle.lvm_session.specs.Fields.{core_of};
 ghost use Rattle.lvm_session.specs.Rooms.{SameRooms};
-ghost use Rattle.lvm_sound.specs.Sound.{IsGoing};
+ghost use Rattle.lvm_session.specs.Sound.{IsGoing};
 ghost use Rattle.lvm_admit.specs.Choosing.{MayChoose};
 ghost use Rattle.lvm_moves.specs.Moving.{FirstGives};
 

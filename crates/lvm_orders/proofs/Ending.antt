@@ -10,12 +10,12 @@ use Rattle.lvm_session.specs.declared.open.Power.TheVariants as power
 use Rattle.lvm_session.specs.State.{State}
 use Rattle.lvm_session.specs.Judging.{is_running}
 use Rattle.lvm_session.specs.Bringing.{hand_of, with_back}
-use Rattle.lvm_events.specs.Dark.{hand_of_copy}
+use Rattle.lvm_session.specs.Dark.{hand_of_copy}
 use Rattle.lvm_launch.proofs.Hands.{may_end}
 use Rattle.lvm_over.specs.Hands.{AreInHand, IsOutIf, MayEnd}
-use Rattle.lvm_sound.specs.Causes.{is_over}
-use Rattle.lvm_sound.specs.Requests.{IsLanded}
-use Rattle.lvm_sound.specs.Sound.{IsOver, IsSound}
+use Rattle.lvm_session.specs.Causes.{is_over}
+use Rattle.lvm_session.specs.Requests.{IsLanded}
+use Rattle.lvm_session.specs.Sound.{IsOver, IsSound}
 
 -- what has landed has nothing in hand
 none_in_hand : (pool : List Bool) (os : List Open) → AllByRecursion IsLanded os → AreInHand pool os

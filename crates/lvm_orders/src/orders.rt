@@ -4,10 +4,10 @@ ghost use Rattle.lvm_disk.specs.Steps.{MayArrange};
 ghost use Rattle.lvm_session.specs.Fields.{core_of};
 ghost use Rattle.lvm_session.specs.Rooms.{SameRooms};
 ghost use Rattle.lvm_session.specs.State.{state};
-ghost use Rattle.lvm_events.specs.Dark.{after_arrange, is_cut};
-ghost use Rattle.lvm_events.specs.Turns.{Arranges};
+ghost use Rattle.lvm_session.specs.Dark.{after_arrange, is_cut};
+ghost use Rattle.lvm_session.specs.Turns.{Arranges};
 ghost use Rattle.lvm_over.specs.Hands.{MayEnd};
-ghost use Rattle.lvm_sound.specs.Sound.{IsSound};
+ghost use Rattle.lvm_session.specs.Sound.{IsSound};
 
 use lvm_disk::{Arrange, Shelf};
 use lvm_over::darken;

@@ -9,7 +9,7 @@ use Rattle.lvm_vol.specs.declared.entry.Outcome.{Outcome}
 use Rattle.lvm_session.specs.declared.open.Open.{Open}
 use Rattle.lvm_session.specs.Bringing.{with_back}
 use Rattle.lvm_session.specs.Judging.{is_waiting}
-use Rattle.lvm_events.specs.Dark.{ended_as, with_hands}
+use Rattle.lvm_session.specs.Dark.{ended_as, with_hands}
 use Rattle.lvm_over.specs.Hands.{AreInHand, IsInHand, IsOutIf, back_if}
 
 -- what is handed out is what was in hand

@@ -12,7 +12,7 @@ use Rattle.lvm_vol.proofs.Asking.{found_of, and_left}
 use Rattle.lvm_path.specs.Targets.{is_begun}
 use Rattle.lvm_session.specs.declared.open.Open.{Open}
 use Rattle.lvm_session.specs.Judging.{is_waiting}
-use Rattle.lvm_events.specs.Dark.{landings, AreOpen, AreTold}
+use Rattle.lvm_session.specs.Dark.{landings, AreOpen, AreTold}
 use Rattle.lvm_over.proofs.Telling.{asked_still, open_still, open_cut}
 
 -- the request of an open number has this number

@@ -6,7 +6,7 @@ use Rattle.lvm_session.specs.declared.open.Open.{Open}
 use Rattle.lvm_session.specs.State.{Core}
 use Rattle.lvm_session.specs.Bringing.{with_back}
 use Rattle.lvm_session.specs.Judging.{is_waiting}
-use Rattle.lvm_events.specs.Dark.{AreTold, hand_of_copy}
+use Rattle.lvm_session.specs.Dark.{AreTold, hand_of_copy}
 
 -- a buffer that comes back is out
 abbrev pub IsOutIf : List Bool → Option Buffer → Type 0

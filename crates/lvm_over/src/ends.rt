@@ -5,7 +5,7 @@ ghost use Rattle.lvm_session.specs.Fields.{core_of};
 ghost use Rattle.lvm_session.specs.Rooms.{SameRooms};
 ghost use Rattle.lvm_session.specs.declared.bringing.Step.TheVariants as stage;
 ghost use Rattle.lvm_session.specs.Bringing.{hand_of};
-ghost use Rattle.lvm_events.specs.Dark.{all_dark, all_ended, all_off, ended_copy, hand_of_copy};
+ghost use Rattle.lvm_session.specs.Dark.{all_dark, all_ended, all_off, ended_copy, hand_of_copy};
 ghost use Rattle.lvm_over.specs.Hands.{MayEnd};
 
 use crate::landings::{end_all, give_back, land_all};

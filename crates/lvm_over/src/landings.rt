@@ -3,7 +3,7 @@ ghost use Rattle.std.specs.Prelude.{◌≡◌, map};
 ghost use Rattle.lvm_pbuf.specs.Out.{IsOut};
 ghost use Rattle.lvm_session.specs.Bringing.{with_back};
 ghost use Rattle.lvm_session.specs.Judging.{is_waiting};
-ghost use Rattle.lvm_events.specs.Dark.{AreTold, ended_as, with_hands, with_landings};
+ghost use Rattle.lvm_session.specs.Dark.{AreTold, ended_as, with_hands, with_landings};
 ghost use Rattle.lvm_over.specs.Hands.{AreInHand, IsOutIf, back_if};
 
 use lvm_history::History;

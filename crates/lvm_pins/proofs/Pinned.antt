@@ -23,9 +23,9 @@ use Rattle.lvm_session.specs.Rooms.{SameRooms}
 use Rattle.lvm_session.specs.State.{Core, state}
 use Rattle.lvm_session.specs.Judging.{group_of, next_for}
 use Rattle.lvm_session.specs.Enabled.{can_pin, first_from, is_pin, may_pin, pinning, pinning_at}
-use Rattle.lvm_events.specs.Events.{Pins}
-use Rattle.lvm_sound.specs.Sound.{IsGoing, pins}
-use Rattle.lvm_sound.specs.Worked.{faultless}
+use Rattle.lvm_session.specs.Events.{Pins}
+use Rattle.lvm_session.specs.Sound.{IsGoing, pins}
+use Rattle.lvm_session.specs.Worked.{faultless}
 use Rattle.lvm_firsts.proofs.Finding.{first_here, first_later, some_there}
 use Rattle.lvm_pins.specs.Pinning.{PinGives, PinsAt}
 

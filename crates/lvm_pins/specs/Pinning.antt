@@ -5,8 +5,8 @@ use Rattle.lvm_session.specs.declared.event.Event.TheVariants as event
 use Rattle.lvm_session.specs.declared.open.Open.{Open}
 use Rattle.lvm_session.specs.State.{Core, state}
 use Rattle.lvm_session.specs.Enabled.{may_pin, pinning}
-use Rattle.lvm_events.specs.Events.{Pins}
-use Rattle.lvm_events.specs.Turns.{Makes}
+use Rattle.lvm_session.specs.Events.{Pins}
+use Rattle.lvm_session.specs.Turns.{Makes}
 
 -- The request at a place has pinned its track group; or it may not, and nothing has changed.
 abbrev pub PinsAt : Core → Core → ℕ → Bool → Type 0

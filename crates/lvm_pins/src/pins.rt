@@ -6,7 +6,7 @@ ghost use Rattle.lvm_session.specs.declared.open.Open.{Open};
 ghost use Rattle.lvm_session.specs.Fields.{core_of};
 ghost use Rattle.lvm_session.specs.Judging.{next_for};
 ghost use Rattle.lvm_session.specs.Rooms.{SameRooms};
-ghost use Rattle.lvm_sound.specs.Sound.{IsGoing};
+ghost use Rattle.lvm_session.specs.Sound.{IsGoing};
 ghost use Rattle.lvm_pins.specs.Pinning.{PinGives, PinsAt};
 
 use lvm_copies::group_of;

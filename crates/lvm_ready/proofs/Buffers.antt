@@ -5,7 +5,7 @@ use Rattle.std.specs.List.{list_any}
 use Rattle.std.proofs.lemmas.Bool.{eq-eqb, eqb-true, eqb-false}
 use Rattle.std.proofs.lemmas.List.Sums.{count_by-le-length, sum_by-cons}
 use Rattle.lvm_num.specs.Buffer.{Buffer}
-use Rattle.lvm_sound.specs.Sound.{count_if, has_number}
+use Rattle.lvm_session.specs.Sound.{count_if, has_number}
 
 -- the buffer is out
 abbrev pub is_out : Bool → Bool

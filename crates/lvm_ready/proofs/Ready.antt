@@ -17,10 +17,10 @@ use Rattle.lvm_session.specs.State.{Core, State}
 use Rattle.lvm_session.specs.Judging.{is_missing, is_running}
 use Rattle.lvm_session.specs.Bringing.{hand_of}
 use Rattle.lvm_session.specs.Enabled.{copy_write, data_at, first_from, first_of, has_buffer, is_lost, is_status_due, may_read, may_write, note_at, or_next, parts_to_start}
-use Rattle.lvm_events.specs.Dark.{hand_of_copy}
-use Rattle.lvm_sound.specs.Owners.{AreRows}
-use Rattle.lvm_sound.specs.Placed.{ArePlaced}
-use Rattle.lvm_sound.specs.Sound.{IsGoing, IsSound, count_if, has_number, is_dark, is_hand}
+use Rattle.lvm_session.specs.Dark.{hand_of_copy}
+use Rattle.lvm_session.specs.Owners.{AreRows}
+use Rattle.lvm_session.specs.Placed.{ArePlaced}
+use Rattle.lvm_session.specs.Sound.{IsGoing, IsSound, count_if, has_number, is_dark, is_hand}
 use Rattle.lvm_launch.specs.Launching.{HasFlight}
 use Rattle.lvm_starts.proofs.Firsts.{first_can}
 use Rattle.lvm_ready.specs.Ready.{FirstStartCan, FirstStartHasFlight, SessionsMayChoose}

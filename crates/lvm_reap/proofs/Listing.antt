@@ -9,7 +9,7 @@ use Rattle.lvm_disk.specs.Device.{Flight}
 use Rattle.lvm_disk.specs.Steps.{Removes}
 use Rattle.lvm_session.specs.declared.flown.Flown.{Flown}
 use Rattle.lvm_session.specs.State.{Core}
-use Rattle.lvm_sound.specs.Owners.{AreRows}
+use Rattle.lvm_session.specs.Owners.{AreRows}
 
 -- ---- a search by a test
 

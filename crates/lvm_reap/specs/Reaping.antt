@@ -5,7 +5,7 @@ use Rattle.lvm_disk.specs.Device.{Device}
 use Rattle.lvm_disk.specs.Steps.{GoesDark, Waits}
 use Rattle.lvm_session.specs.declared.flown.Flown.{Flown}
 use Rattle.lvm_session.specs.State.{Core, state}
-use Rattle.lvm_events.specs.Ends.{Returns}
+use Rattle.lvm_session.specs.Ends.{Returns}
 use Rattle.lvm_reap.specs.declared.rows.Back.{Back}
 use Rattle.lvm_reap.specs.declared.rows.Back.TheVariants as back
 

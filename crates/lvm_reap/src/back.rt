@@ -3,7 +3,7 @@ ghost use Rattle.std.specs.Prelude.{◌≡◌, ◌<◌, length};
 ghost use Rattle.lvm_pbuf.specs.Out.{IsOut};
 ghost use Rattle.lvm_session.specs.Fields.{core_of};
 ghost use Rattle.lvm_session.specs.Rooms.{SameRooms};
-ghost use Rattle.lvm_events.specs.Ends.{with_return, without_flight};
+ghost use Rattle.lvm_session.specs.Ends.{with_return, without_flight};
 
 use lvm_num::Pbuf;
 use lvm_session::Session;

@@ -3,7 +3,7 @@ ghost use Rattle.std.specs.Prelude.{◌≡◌, ◌⊎◌, ◌<◌, ◌==◌, fal
 ghost use Rattle.std.specs.List.{list_any};
 ghost use Rattle.lvm_session.specs.declared.flown.Flown.{Flown};
 ghost use Rattle.lvm_session.specs.Fields.{core_of};
-ghost use Rattle.lvm_sound.specs.Owners.{AreRows};
+ghost use Rattle.lvm_session.specs.Owners.{AreRows};
 ghost use Rattle.lvm_reap.specs.Reaping.{IsEnded, ReapsTo};
 
 use lvm_disk::{Reaped, Shelf};

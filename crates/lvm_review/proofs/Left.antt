@@ -11,7 +11,7 @@ use Rattle.lvm_num.specs.Descriptor.{copies_of}
 use Rattle.lvm_num.specs.Status.{calls_missing, calls_stale}
 use Rattle.lvm_stale.specs.Table.{is_pp}
 use Rattle.lvm_status.specs.Update.{Stored, Updates}
-use Rattle.lvm_events.specs.Marks.{WantsStale, is_among}
+use Rattle.lvm_session.specs.Marks.{WantsStale, is_among}
 use Rattle.lvm_marks.proofs.Marking.{already, same_due, then_marked}
 use Rattle.lvm_review.specs.Left.{can_stand_in, is_gone, is_left_among, is_left_below, is_left_of}
 

@@ -6,7 +6,7 @@ use Rattle.lvm_num.specs.declared.descriptor.LvRow.{LvRow}
 use Rattle.lvm_num.specs.Descriptor.{copies_of}
 use Rattle.lvm_num.specs.Status.{calls_missing, calls_stale}
 use Rattle.lvm_status.specs.Update.{Stored}
-use Rattle.lvm_events.specs.Marks.{is_among}
+use Rattle.lvm_session.specs.Marks.{is_among}
 
 -- it can be read, and isn't wanted stale
 abbrev pub can_stand_in : Stored → Pp → Bool

@@ -2,7 +2,7 @@
 ghost use Rattle.std.specs.Prelude.{◌≡◌};
 ghost use Rattle.lvm_session.specs.Fields.{core_of};
 ghost use Rattle.lvm_session.specs.Rooms.{SameRooms};
-ghost use Rattle.lvm_events.specs.Marks.{Reviews, WantsStale, is_entailed};
+ghost use Rattle.lvm_session.specs.Marks.{Reviews, WantsStale, is_entailed};
 ghost use Rattle.lvm_review.specs.Reviewing.{MayReview};
 
 use crate::behind::mark_left;

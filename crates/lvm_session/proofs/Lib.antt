@@ -1,1 +1,12 @@
 pub mod RoomsLemmas
+pub mod Small
+pub mod Parts
+pub mod Requests
+pub mod While
+mod Whole
+mod Flying
+mod Bringing
+mod Worked
+mod Waiting
+mod Busy
+pub mod Numbers

@@ -1,17 +1,27 @@
 //! A session of a group beside its shelf: what it has, how the copies of its volumes stand, what each
-//! request is told, and which event comes first.
+//! request is told, and which event comes first; what each event makes of it and its shelf; and what holds
+//! of it at every moment, and how much work is left in it.
 #![tactic(auto)]
 
+mod answers;
 mod bringing;
 mod event;
 mod flown;
+mod laws;
 mod open;
 mod origin;
 mod session;
 
+pub use answers::{AskFault, CopyFault, CopyState, Taken, Turned};
 pub use bringing::{CopyEnd, OpenCopy, Step};
 pub use event::Event;
 pub use flown::{Flown, Owner};
+pub use laws::{
+    admission_marks, answers_are_told, beginnings_are_sound, blame_needs_faults, busy_is_sound,
+    commit_lowers_work, copies_are_sound, darkness_keeps_notes, flying_writes_are_sound,
+    held_writes_are_sound, reads_may_lag, standing_still_is_unsound, unpinned_writes_move,
+    unsettled_is_fresh, waiting_writes_pin,
+};
 pub use open::{Open, Power};
 pub use origin::Origin;
 pub use session::Session;

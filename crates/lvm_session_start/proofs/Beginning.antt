@@ -20,11 +20,11 @@ use Rattle.lvm_status.specs.Calls.{first_updates}
 use Rattle.lvm_status.specs.Runs.{SetStamp, IsSound as IsSoundStatus}
 use Rattle.lvm_status.specs.Update.{Updates, seen}
 use Rattle.lvm_status.proofs.Sound.{first_is_sound, steps_stay_sound}
-use Rattle.lvm_write.specs.declared.homes.Homes.{Homes}
+use Rattle.lvm_homes.specs.declared.homes.Homes.{Homes}
 use Rattle.lvm_session.specs.declared.open.Open.{Open}
 use Rattle.lvm_session.specs.State.{Core, state}
-use Rattle.lvm_sound.specs.Causes.{faults_at_first}
-use Rattle.lvm_sound.specs.Sound.{IsFitting, IsSound}
+use Rattle.lvm_session.specs.Causes.{faults_at_first}
+use Rattle.lvm_session.specs.Sound.{IsFitting, IsSound}
 use Rattle.lvm_keeps.specs.Begins.{Begins}
 use Rattle.lvm_keeps.proofs.Begin.{beginning_is_sound}
 use Rattle.lvm_keeps.proofs.Telling.{open_still}

@@ -4,17 +4,17 @@ ghost use Rattle.lvm_vol.specs.Log.{spare_entries};
 ghost use Rattle.lvm_session.specs.Fields.{core_of};
 ghost use Rattle.lvm_session.specs.Rooms.{HasRooms};
 ghost use Rattle.lvm_session.specs.State.{state};
-ghost use Rattle.lvm_sound.specs.Sound.{IsSound};
+ghost use Rattle.lvm_session.specs.Sound.{IsSound};
 ghost use Rattle.lvm_session_start.specs.Beginning.{AreFaults, MayBegin, first_core, with_parts};
 ghost use Rattle.lvm_session_start.specs.Parts.{IsReserved};
 
 use crate::parts::Parts;
 use lvm_disk::Shelf;
 use lvm_history::History;
+use lvm_homes::Homes;
 use lvm_num::Stamp;
 use lvm_session::{Origin, Power, Session};
 use lvm_vol::Entry;
-use lvm_write::Homes;
 
 fn faults_of<S: Shelf>(shelf: &S) -> [u64; 128]
     ensures { AreFaults (S.device shelf.now) result }

@@ -5,9 +5,9 @@ use Rattle.lvm_session.specs.declared.event.Event.{Event}
 use Rattle.lvm_session.specs.declared.event.Event.TheVariants as event
 use Rattle.lvm_session.specs.State.{Core, State, state}
 use Rattle.lvm_session.specs.Enabled.{first_event, first_of, is_lost, landing, or_next, parts_to_settle, parts_to_start}
-use Rattle.lvm_events.specs.declared.answers.Turned.{Turned}
-use Rattle.lvm_events.specs.declared.answers.Turned.TheVariants as turned
-use Rattle.lvm_events.specs.Turns.{Moves, NoStart, OnMakes, is_start}
+use Rattle.lvm_session.specs.declared.answers.Turned.{Turned}
+use Rattle.lvm_session.specs.declared.answers.Turned.TheVariants as turned
+use Rattle.lvm_session.specs.Turns.{Moves, NoStart, OnMakes, is_start}
 use Rattle.lvm_launch.specs.Launching.{StartGives}
 use Rattle.lvm_moves.specs.Moving.{FirstGives}
 use Rattle.lvm_starts.specs.Starts.{CanStart, StartsFirst}

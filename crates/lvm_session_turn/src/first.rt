@@ -6,16 +6,15 @@ ghost use Rattle.lvm_session.specs.Enabled.{is_lost};
 ghost use Rattle.lvm_session.specs.Fields.{core_of};
 ghost use Rattle.lvm_session.specs.Rooms.{HasRooms, SameRooms};
 ghost use Rattle.lvm_session.specs.State.{state};
-ghost use Rattle.lvm_sound.specs.Sound.{IsGoing, IsSound};
+ghost use Rattle.lvm_session.specs.Sound.{IsGoing, IsSound};
 ghost use Rattle.lvm_starts.specs.Starts.{StartsFirst};
 ghost use Rattle.lvm_session_turn.specs.Taking.{FirstMakes};
 
 use lvm_disk::Shelf;
 use lvm_enabled::first_start;
-use lvm_events::Turned;
 use lvm_firsts::is_lost;
 use lvm_moves::{land_first, move_first};
-use lvm_session::Session;
+use lvm_session::{Session, Turned};
 use lvm_starts::make_start;
 
 // The first transfer that may be started is.

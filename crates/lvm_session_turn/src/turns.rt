@@ -4,14 +4,13 @@ ghost use Rattle.lvm_session.specs.declared.open.Power.TheVariants as power;
 ghost use Rattle.lvm_session.specs.Fields.{core_of};
 ghost use Rattle.lvm_session.specs.Rooms.{HasRooms, SameRooms};
 ghost use Rattle.lvm_session.specs.State.{state};
-ghost use Rattle.lvm_events.specs.Turns.{OnMakes, TurnMakes};
-ghost use Rattle.lvm_sound.specs.Sound.{IsSound};
+ghost use Rattle.lvm_session.specs.Turns.{OnMakes, TurnMakes};
+ghost use Rattle.lvm_session.specs.Sound.{IsSound};
 
 use crate::first::make_first;
 use lvm_disk::Shelf;
-use lvm_events::Turned;
 use lvm_finish::finish;
-use lvm_session::{Power, Session};
+use lvm_session::{Power, Session, Turned};
 
 // Of a session that goes on.
 fn turn_on<S: Shelf>(session: &mut Session, shelf: &mut S) -> Turned

@@ -36,7 +36,7 @@ use Rattle.lvm_mwc.specs.declared.notes.DiskNotes.{DiskNotes}
 use Rattle.lvm_session.specs.State.{Core, state, is_there}
 use Rattle.lvm_session.specs.declared.open.Power.TheVariants as power
 use Rattle.lvm_core.specs.Sound.{IsFitting, IsQuiet, IsSound}
-use Rattle.lvm_sound.specs.Placed.{IsPlaced}
+use Rattle.lvm_session.specs.Placed.{IsPlaced}
 use Rattle.lvm_core.proofs.Beginning.{no_entries}
 use Rattle.lvm_core.proofs.Own.{sound_ready}
 use Rattle.lvm_rest.specs.Rest.{IsEven, NoneIsBehind}

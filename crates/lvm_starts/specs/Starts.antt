@@ -7,8 +7,8 @@ use Rattle.lvm_session.specs.declared.event.Event.TheVariants as event
 use Rattle.lvm_session.specs.State.{Core, State}
 use Rattle.lvm_session.specs.Judging.{is_missing}
 use Rattle.lvm_session.specs.Enabled.{first_of, is_lost, parts_to_start}
-use Rattle.lvm_events.specs.declared.answers.Turned.{Turned}
-use Rattle.lvm_sound.specs.Placed.{ArePlaced}
+use Rattle.lvm_session.specs.declared.answers.Turned.{Turned}
+use Rattle.lvm_session.specs.Placed.{ArePlaced}
 use Rattle.lvm_launch.specs.Launching.{HasFlight, MayLaunch, MayNote, MayReadCopy, MayStartData, MayWriteCopy, StartGives}
 use Rattle.lvm_update.specs.Updating.{MayStartStatus}
 

@@ -6,9 +6,8 @@ ghost use Rattle.lvm_launch.specs.Launching.{StartGives};
 ghost use Rattle.lvm_starts.specs.Starts.{CanStart};
 
 use lvm_disk::Shelf;
-use lvm_events::Turned;
 use lvm_launch::{read_copy, start_data, start_note, write_copy};
-use lvm_session::{Event, Session};
+use lvm_session::{Event, Session, Turned};
 use lvm_update::start_status;
 
 /// The transfer of an event that starts one is started. Answers `Moved`, or `Dark` where the power is found off.

@@ -10,7 +10,7 @@ use Rattle.lvm_vol.specs.Order.{Ordered}
 use Rattle.lvm_vol.proofs.Asking.{find_stands}
 use Rattle.lvm_vol.proofs.Order.{numbered, stands-at}
 use Rattle.lvm_session.specs.declared.open.Open.{Open}
-use Rattle.lvm_sound.specs.Sound.{IsAsked}
+use Rattle.lvm_session.specs.Sound.{IsAsked}
 
 pub count_begun : (run : ℕ) (facts : List Fact) → ((r : Request) → Stands r (begun facts) → r.run ≡ run) → count_by (begins_in run) facts ≡ length (begun facts)
 count_begun run [] runs = refl

@@ -14,10 +14,10 @@ use Rattle.lvm_path.specs.Asks.{at_of, count_of, lv_of}
 use Rattle.lvm_session.specs.declared.open.Power.{Power}
 use Rattle.lvm_session.specs.declared.open.Power.TheVariants as power
 use Rattle.lvm_session.specs.State.{Core}
-use Rattle.lvm_events.specs.declared.answers.AskFault.{AskFault}
-use Rattle.lvm_events.specs.declared.answers.AskFault.TheVariants as fault
-use Rattle.lvm_events.specs.Calls.{ask_fault, fault_by, fault_in, fault_on, has_history, has_numbers}
-use Rattle.lvm_sound.specs.Asking.{IsAwake}
+use Rattle.lvm_session.specs.declared.answers.AskFault.{AskFault}
+use Rattle.lvm_session.specs.declared.answers.AskFault.TheVariants as fault
+use Rattle.lvm_session.specs.Calls.{ask_fault, fault_by, fault_in, fault_on, has_history, has_numbers}
+use Rattle.lvm_session.specs.Asking.{IsAwake}
 
 -- an item that is put behind all others
 pub put_last : {X : Type 0} (xs : List X) (x : X) → insert xs (length xs) x ≡ xs ++ x ∷ []

@@ -5,9 +5,9 @@ ghost use Rattle.lvm_vol.specs.Log.{next_id};
 ghost use Rattle.lvm_session.specs.declared.open.Open.{Open};
 ghost use Rattle.lvm_session.specs.Fields.{core_of};
 ghost use Rattle.lvm_session.specs.Rooms.{HasRooms, SameRooms};
-ghost use Rattle.lvm_events.specs.Calls.{has_history, new_open, submitted};
-ghost use Rattle.lvm_sound.specs.Sound.{IsGoing};
-ghost use Rattle.lvm_sound.specs.Asking.{IsAsking};
+ghost use Rattle.lvm_session.specs.Calls.{has_history, new_open, submitted};
+ghost use Rattle.lvm_session.specs.Sound.{IsGoing};
+ghost use Rattle.lvm_session.specs.Asking.{IsAsking};
 
 use lvm_facts::held_of;
 use lvm_path::{Ask, Request};

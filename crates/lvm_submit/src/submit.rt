@@ -2,14 +2,13 @@
 ghost use Rattle.std.specs.Prelude.{option_copied};
 ghost use Rattle.lvm_session.specs.Fields.{core_of};
 ghost use Rattle.lvm_session.specs.Rooms.{HasRooms, SameRooms};
-ghost use Rattle.lvm_events.specs.Calls.{SubmitGives};
-ghost use Rattle.lvm_sound.specs.Asking.{IsAsking, IsAwake};
+ghost use Rattle.lvm_session.specs.Calls.{SubmitGives};
+ghost use Rattle.lvm_session.specs.Asking.{IsAsking, IsAwake};
 
 use crate::begin::begin;
 use lvm_calls::ask_fault;
-use lvm_events::AskFault;
 use lvm_path::Ask;
-use lvm_session::Session;
+use lvm_session::{AskFault, Session};
 
 /// A client submits a request, a write with its bytes, which is taken under the next number of the history.
 ///

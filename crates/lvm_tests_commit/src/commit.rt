@@ -10,13 +10,13 @@ use crate::fixtures::{
 use lvm_commit::{CommitEnd, commit_descriptor, commit_status};
 use lvm_disk::Shelf;
 use lvm_faults::{Act, Planned};
+use lvm_homes::Homes;
 use lvm_memory::MemShelf;
 use lvm_num::{Descriptor, Pbuf, Pp, Rows, Stamp};
 use lvm_stale::StaleTable;
 use lvm_status::{Change, Updater};
 use lvm_survey::Survey;
 use lvm_transfer::{Patience, relight};
-use lvm_write::Homes;
 use std::process::Abort;
 
 const ID: u64 = 50;

@@ -6,6 +6,7 @@ ghost use Rattle.lvm_survey.specs.Surveyed.{IsSurveyValid};
 
 use lvm_disk::Shelf;
 use lvm_faults::{Planned, names_disks};
+use lvm_homes::Homes;
 use lvm_memory::MemShelf;
 use lvm_num::{
     Descriptor, DiskSet, LvRow, Mode, Name, Pbuf, Policy, Pp, PvRow, Rows, Stamp, Status,
@@ -13,7 +14,6 @@ use lvm_num::{
 };
 use lvm_survey::{Survey, SurveyRow, Surveyed, survey_disks};
 use lvm_transfer::{Patience, relight};
-use lvm_write::Homes;
 use std::process::Abort;
 
 /// Ends the test where this isn't so, and says of what.

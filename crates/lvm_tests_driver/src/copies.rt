@@ -5,9 +5,9 @@ use crate::fixtures::{
 };
 use lvm_disk::{Arrange, Shelf};
 use lvm_driver::Driver;
-use lvm_events::{CopyFault, CopyState, Taken};
 use lvm_faults::{Act, Planned};
 use lvm_num::Mode;
+use lvm_session::{CopyFault, CopyState, Taken};
 use std::process::Abort;
 
 const STALE: Setup = Setup {

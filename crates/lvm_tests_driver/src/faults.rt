@@ -7,9 +7,9 @@ use crate::fixtures::{
 };
 use lvm_disk::{Arrange, Shelf};
 use lvm_driver::{DrainFault, Driver};
-use lvm_events::{AskFault, CopyFault, Taken, Turned};
 use lvm_faults::{Act, Planned};
 use lvm_num::{Mode, Policy};
+use lvm_session::{AskFault, CopyFault, Taken, Turned};
 use std::process::Abort;
 
 const WORDS: [u64; 3] = [0, 0x5555_5555_5555_5555, u64::MAX];

@@ -9,26 +9,25 @@ ghost use Rattle.lvm_media.specs.Media.{blank_disks_of, sizes_of};
 ghost use Rattle.lvm_memory.specs.Memory.{device_of};
 ghost use Rattle.lvm_session.specs.declared.open.Power.TheVariants as power;
 ghost use Rattle.lvm_session_start.specs.Parts.{IsRoom};
-ghost use Rattle.lvm_sound.specs.Sound.{IsLit};
-ghost use Rattle.lvm_sound.specs.Worked.{status_of};
+ghost use Rattle.lvm_session.specs.Sound.{IsLit};
+ghost use Rattle.lvm_session.specs.Worked.{status_of};
 ghost use Rattle.lvm_vol.specs.Log.{empty_log};
 
 use lvm_disk::{Arrange, Shelf};
 use lvm_driver::laws::whole_groups_begin;
 use lvm_driver::{Closed, DrainFault, Driver};
-use lvm_events::{AskFault, CopyFault, CopyState, Taken, Turned};
 use lvm_faults::{Planned, names_disks};
 use lvm_history::History;
+use lvm_homes::Homes;
 use lvm_memory::MemShelf;
 use lvm_num::{
     Descriptor, DiskSet, LvRow, Mode, Name, Policy, Pp, PvRow, Rows, Stamp, Status, StatusRow,
     VolumeNumbers, fill, word_of,
 };
 use lvm_path::Ask;
-use lvm_session::Power;
+use lvm_session::{AskFault, CopyFault, CopyState, Power, Taken, Turned};
 use lvm_session_start::{Room, take_parts};
 use lvm_transfer::Patience;
-use lvm_write::Homes;
 use std::process::Abort;
 
 /// Ends the test where this isn't so, and says of what.

@@ -5,8 +5,8 @@ use crate::fixtures::{
 };
 use lvm_disk::Shelf;
 use lvm_driver::Driver;
-use lvm_events::{AskFault, Taken, Turned};
 use lvm_num::Mode;
+use lvm_session::{AskFault, Taken, Turned};
 use std::process::Abort;
 
 fn ends<S: Shelf + Drop>(rt: &impl Abort, driver: Driver<S>) {

@@ -10,6 +10,7 @@ ghost use Rattle.lvm_survey.specs.Surveyed.{IsSurveyValid};
 use lvm_begin::{Begun, begin_again, begin_new};
 use lvm_disk::Shelf;
 use lvm_faults::{Planned, names_disks};
+use lvm_homes::Homes;
 use lvm_memory::MemShelf;
 use lvm_num::{
     Descriptor, DiskSet, LvRow, Mode, Name, Pbuf, Policy, Pp, PvRow, Rows, Stamp, Status,
@@ -17,7 +18,7 @@ use lvm_num::{
 };
 use lvm_survey::{Survey, SurveyRow, Surveyed, survey_disks};
 use lvm_transfer::{Patience, relight};
-use lvm_write::Homes;
+use lvm_write::homes_of;
 use std::process::Abort;
 
 /// Ends the test where this isn't so, and says of what.
@@ -318,7 +319,7 @@ pub fn begin_next<S: Shelf>(
 
 fn homes_of<S: Shelf>(rt: &(impl Abort + AllocGlobal), shelf: &mut S) -> Homes {
     let survey = survey(rt, shelf);
-    Homes::of(&survey)
+    homes_of(&survey)
 }
 
 /// What stands in the records of all disks.

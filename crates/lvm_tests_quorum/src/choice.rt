@@ -9,10 +9,11 @@ use crate::fixtures::{
     DATA, FIRST, LARGE, LATER, NAMESAKE, NONE, OTHER, check, first_two, group, name_of, status,
 };
 use Answer::*;
+use lvm_homes::Homes;
 use lvm_num::{Descriptor, Rows, Stamp, Status};
 use lvm_quorum::{Choice, ChooseFault, choose};
 use lvm_survey::{Survey, SurveyRow};
-use lvm_write::Homes;
+use lvm_write::homes_of;
 use std::process::Abort;
 
 // What a disk shows: the group and the stamp of its records.
@@ -371,7 +372,7 @@ fn survey_with(rt: &(impl Abort + AllocGlobal), homes: &[[u8; 2]; 2]) -> Survey 
 
 fn next_slots(rt: &impl Abort, survey: &Survey) -> [[bool; 2]; 2] {
     assert!(rt; is_survey(survey));
-    let Homes { descriptor, status } = Homes::of(survey);
+    let Homes { descriptor, status } = homes_of(survey);
     [first_two(descriptor), first_two(status)]
 }
 

@@ -7,11 +7,12 @@ use End::*;
 use Step::*;
 use lvm_disk::Shelf;
 use lvm_faults::{Act, Planned, names_disks};
+use lvm_homes::Homes;
 use lvm_memory::MemShelf;
 use lvm_num::{DiskSet, Kind, Pbuf, Stamp};
 use lvm_rec::{read_note, read_slot};
 use lvm_transfer::{Patience, relight};
-use lvm_write::{Homes, Wrote, empty_notes, write_record};
+use lvm_write::{Wrote, empty_notes, write_record};
 use std::process::Abort;
 
 const FIRST: Stamp = Stamp { epoch: 50, seq: 1 };

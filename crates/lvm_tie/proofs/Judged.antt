@@ -40,9 +40,9 @@ use Rattle.lvm_tie_shelf.specs.Copies.{IsCopyOf}
 use Rattle.lvm_tie.proofs.Orderly.{all_at, open_one, valid_of, waiting_one}
 use Rattle.lvm_tie.specs.Seen.{passed_by, SeesOpen, SeesRunning, SeesCopy}
 use Rattle.lvm_tie.specs.Tied.{IsTied}
-use Rattle.lvm_events.specs.Marks.{is_among}
-use Rattle.lvm_sound.specs.Requests.{IsTarget}
-use Rattle.lvm_sound.specs.Sound.{IsCopy}
+use Rattle.lvm_session.specs.Marks.{is_among}
+use Rattle.lvm_session.specs.Requests.{IsTarget}
+use Rattle.lvm_session.specs.Sound.{IsCopy}
 
 pub found_any : (rows : List PvRow) (disk : ℕ) (row : PvRow) → find (λ (r : PvRow). r.disk == disk) rows ≡ Some row → list_any (λ (r : PvRow). r.disk == disk) rows ≡ true
 found_any [] disk row is = absurd cc

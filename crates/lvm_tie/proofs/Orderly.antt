@@ -36,7 +36,7 @@ use Rattle.lvm_path.specs.declared.target.Target.{Target}
 use Rattle.lvm_path.specs.Asks.{at_of, count_of, is_write}
 use Rattle.lvm_path.specs.Targets.{is_begun, is_over}
 use Rattle.lvm_status.specs.Update.{Stored}
-use Rattle.lvm_write.specs.declared.homes.Homes.{Homes}
+use Rattle.lvm_homes.specs.declared.homes.Homes.{Homes}
 use Rattle.lvm_session.specs.declared.open.Open.{Open}
 use Rattle.lvm_session.specs.declared.bringing.OpenCopy.{OpenCopy as Bringing}
 use Rattle.lvm_session.specs.declared.bringing.Step.{Step}
@@ -46,11 +46,11 @@ use Rattle.lvm_session.specs.declared.flown.Owner.{Owner}
 use Rattle.lvm_session.specs.declared.flown.Owner.TheVariants as owner
 use Rattle.lvm_session.specs.State.{Core, State as Session}
 use Rattle.lvm_session.specs.Judging.{is_waiting}
-use Rattle.lvm_events.specs.Dark.{IsAscending}
-use Rattle.lvm_events.specs.Events.{IsDataTransfer, IsCopyTransfer}
-use Rattle.lvm_sound.specs.Owners.{AreRows, HaveTickets as DifferInTickets, IsDataOf, IsNoteOf, IsStatusOf, IsStepOf, IsTransferOf, flies, same_owner, target_flies}
-use Rattle.lvm_sound.specs.Requests.{IsOpenOne, IsPhase, IsRequest, IsTarget}
-use Rattle.lvm_sound.specs.Sound.{IsAsked, IsGoing, IsOn, IsSound}
+use Rattle.lvm_session.specs.Dark.{IsAscending}
+use Rattle.lvm_session.specs.Events.{IsDataTransfer, IsCopyTransfer}
+use Rattle.lvm_session.specs.Owners.{AreRows, HaveTickets as DifferInTickets, IsDataOf, IsNoteOf, IsStatusOf, IsStepOf, IsTransferOf, flies, same_owner, target_flies}
+use Rattle.lvm_session.specs.Requests.{IsOpenOne, IsPhase, IsRequest, IsTarget}
+use Rattle.lvm_session.specs.Sound.{IsAsked, IsGoing, IsOn, IsSound}
 use Rattle.lvm_tie.specs.Out.{AreNotes, IsWriteOf, is_owed_on}
 use Rattle.lvm_tie.specs.Tied.{IsOrderly}
 

@@ -11,7 +11,7 @@ use Rattle.lvm_session.specs.declared.bringing.OpenCopy.{OpenCopy as Bringing}
 use Rattle.lvm_session.specs.State.{Core, State as Session}
 use Rattle.lvm_session.specs.Judging.{held_of, is_waiting, place_of}
 use Rattle.lvm_session.specs.Bringing.{has_row, step_row}
-use Rattle.lvm_sound.specs.Sound.{rows_of, waiting_rows, with_row}
+use Rattle.lvm_session.specs.Sound.{rows_of, waiting_rows, with_row}
 use Rattle.lvm_tie.specs.Tied.{IsOrderly}
 use Rattle.lvm_tie.proofs.Orderly.{open_one}
 

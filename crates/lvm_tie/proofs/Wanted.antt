@@ -16,9 +16,9 @@ use Rattle.lvm_stale.specs.Table.{SameMissing}
 use Rattle.lvm_status.specs.Runs.{IsSound as IsSoundStatus}
 use Rattle.lvm_status.specs.Update.{Stored, Updates, is_held, is_owed, no_disks, seen}
 use Rattle.lvm_commit.specs.Committed.{next_stamp}
-use Rattle.lvm_write.specs.declared.homes.Homes.{Homes}
+use Rattle.lvm_homes.specs.declared.homes.Homes.{Homes}
 use Rattle.lvm_session.specs.State.{Core, is_there}
-use Rattle.lvm_events.specs.Marks.{WantsDirty}
+use Rattle.lvm_session.specs.Marks.{WantsDirty}
 use Rattle.lvm_invariant.specs.State.{State}
 use Rattle.lvm_crash.specs.Session.{as_marks, marks_of}
 use Rattle.lvm_tie.specs.Seen.{IsRequestAt, IsStepAt, Sees, update_of}

@@ -22,7 +22,7 @@ use Rattle.lvm_mwc.specs.Notes.{both_name}
 use Rattle.lvm_session.specs.declared.bringing.OpenCopy.{OpenCopy as Bringing}
 use Rattle.lvm_session.specs.State.{Core, State as Session, is_there}
 use Rattle.lvm_session.specs.Bringing.{groups_of}
-use Rattle.lvm_sound.specs.Sound.{IsOn}
+use Rattle.lvm_session.specs.Sound.{IsOn}
 use Rattle.lvm_invariant.specs.State.{Groups, Marks, Queued, State}
 use Rattle.lvm_invariant.specs.Found.{Found}
 use Rattle.lvm_crash.specs.Session.{as_marks, marks_of, marks_shown, Describes}

@@ -24,7 +24,7 @@ use Rattle.lvm_session.specs.declared.flown.Flown.{Flown}
 use Rattle.lvm_session.specs.declared.open.Power.TheVariants as power
 use Rattle.lvm_session.specs.State.{Core, State as Session, is_there}
 use Rattle.lvm_session.specs.Bringing.{groups_of}
-use Rattle.lvm_sound.specs.Sound.{IsOn, IsSound}
+use Rattle.lvm_session.specs.Sound.{IsOn, IsSound}
 use Rattle.lvm_invariant.specs.State.{Groups, Marks, State}
 use Rattle.lvm_invariant.specs.Found.{Votes}
 use Rattle.lvm_invariant.specs.Good.{Good}

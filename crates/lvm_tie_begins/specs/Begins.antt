@@ -15,10 +15,10 @@ use Rattle.lvm_steps.specs.Moments.{Holds, Keeps}
 use Rattle.lvm_commit.specs.Committed.{HoldsCommitted, ShowsCommitted}
 use Rattle.lvm_commit.specs.LawsOfVolumes.{IsOneByAllOn}
 use Rattle.lvm_mwc.specs.Cache.{flight_on, is_named as is_named_by}
-use Rattle.lvm_write.specs.declared.homes.Homes.{Homes}
+use Rattle.lvm_homes.specs.declared.homes.Homes.{Homes}
 use Rattle.lvm_session.specs.declared.open.Power.TheVariants as power
 use Rattle.lvm_session.specs.State.{Core, State as Session, state, is_there}
-use Rattle.lvm_sound.specs.Sound.{IsSound}
+use Rattle.lvm_session.specs.Sound.{IsSound}
 use Rattle.lvm_session_start.specs.declared.parts.Parts.{Parts}
 use Rattle.lvm_session_start.specs.Beginning.{MayBegin, first_core}
 use Rattle.lvm_crash.specs.Session.{members_there}

@@ -10,12 +10,12 @@ use Rattle.lvm_session.specs.declared.bringing.Step.TheVariants as step
 use Rattle.lvm_session.specs.declared.flown.Flown.{Flown}
 use Rattle.lvm_session.specs.declared.flown.Owner.{Owner}
 use Rattle.lvm_session.specs.declared.flown.Owner.TheVariants as owner
-use Rattle.lvm_events.specs.declared.answers.CopyState.TheVariants as copy
+use Rattle.lvm_session.specs.declared.answers.CopyState.TheVariants as copy
 use Rattle.lvm_session.specs.State.{Core, State as Session, state}
 use Rattle.lvm_session.specs.Judging.{is_running}
 use Rattle.lvm_session.specs.Bringing.{groups_of, has_row, is_out, is_whole}
-use Rattle.lvm_events.specs.Calls.{Closes, closed, copy_state, state_at_end}
-use Rattle.lvm_sound.specs.Sound.{IsSound}
+use Rattle.lvm_session.specs.Calls.{Closes, closed, copy_state, state_at_end}
+use Rattle.lvm_session.specs.Sound.{IsSound}
 use Rattle.lvm_invariant.specs.State.{State}
 use Rattle.lvm_tie.specs.Out.{CarriesStep, CarryTheirs}
 use Rattle.lvm_tie.specs.Seen.{IsRequestAt, IsStepAt, Sees, SeesCopy, SeesRunning, step_write_in, step_write_of}
@@ -37,7 +37,7 @@ has_ended c ended = by (is_out c.step) c.end refl refl ended
     by false (Some how) out is none = record { over = ap (λ (x : Option CopyEnd). Rattle.std.specs.Prelude.is_none x) is; still = out }
 
 ended_of : (core : Core) → ((cursor : ℕ) → copy_state core ≡ copy.Running cursor → ⊥) → (c : Bringing) → core.copy ≡ Some c → IsEnded c
-ended_of core ended c is = has_ended c (λ cursor h. ended cursor (ap (λ (m : Option Bringing). option_map_or Rattle.lvm_events.specs.Calls.state_of_copy m copy.Closed) is ∙ h))
+ended_of core ended c is = has_ended c (λ cursor h. ended cursor (ap (λ (m : Option Bringing). option_map_or Rattle.lvm_session.specs.Calls.state_of_copy m copy.Closed) is ∙ h))
 
 no_row : (core : Core) (c : Bringing) → IsEnded c → has_row core c ≡ false
 no_row core c ended = (λ t. ended.still t || (ended.over t && not (is_whole core c)))

@@ -26,11 +26,11 @@ use Rattle.lvm_session.specs.declared.flown.Owner.TheVariants as owner
 use Rattle.lvm_session.specs.State.{Core, State as Session, state}
 use Rattle.lvm_session.specs.Judging.{is_missing, is_settled, is_stale, is_usable, place_of}
 use Rattle.lvm_session.specs.Bringing.{block_at, groups_of, has_row, step_place}
-use Rattle.lvm_events.specs.declared.answers.CopyFault.{CopyFault}
-use Rattle.lvm_events.specs.declared.answers.CopyFault.TheVariants as refusal
-use Rattle.lvm_events.specs.Calls.{Opens, aged, copy_at, copy_fault, faults_of, has_numbers, opened, refusal_at, refusal_by, refusal_in, refusal_on}
-use Rattle.lvm_events.specs.Ends.{with_step}
-use Rattle.lvm_sound.specs.Sound.{IsSound}
+use Rattle.lvm_session.specs.declared.answers.CopyFault.{CopyFault}
+use Rattle.lvm_session.specs.declared.answers.CopyFault.TheVariants as refusal
+use Rattle.lvm_session.specs.Calls.{Opens, aged, copy_at, copy_fault, faults_of, has_numbers, opened, refusal_at, refusal_by, refusal_in, refusal_on}
+use Rattle.lvm_session.specs.Ends.{with_step}
+use Rattle.lvm_session.specs.Sound.{IsSound}
 use Rattle.lvm_submit.proofs.Numbered.{below_next}
 use Rattle.lvm_invariant.specs.State.{Held, OpenCopy, Queued, State}
 use Rattle.lvm_invariant.specs.EnterStep.{entered}

@@ -2,10 +2,10 @@
 use Rattle.std.specs.Prelude.{ℕ, List, Result}
 use Rattle.lvm_vol.specs.Facts.{Fact}
 use Rattle.lvm_disk.specs.Counts.{Counts}
-use Rattle.lvm_events.specs.declared.answers.CopyFault.{CopyFault}
-use Rattle.lvm_events.specs.Calls.{Closes, OpenGives}
+use Rattle.lvm_session.specs.declared.answers.CopyFault.{CopyFault}
+use Rattle.lvm_session.specs.Calls.{Closes, OpenGives}
 use Rattle.lvm_session.specs.State.{Core, State as Session, state}
-use Rattle.lvm_sound.specs.Sound.{IsSound}
+use Rattle.lvm_session.specs.Sound.{IsSound}
 use Rattle.lvm_tie.specs.Tied.{IsTied}
 
 -- A copy that is opened, by whatever counts of faults, or isn't, leaves a tied session tied.

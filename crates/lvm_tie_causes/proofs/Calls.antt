@@ -15,12 +15,12 @@ use Rattle.lvm_path.specs.declared.ask.Ask.{Ask}
 use Rattle.lvm_path.specs.Asks.{at_of, count_of, lv_of}
 use Rattle.lvm_session.specs.declared.open.Open.{Open}
 use Rattle.lvm_session.specs.State.{Core, State, state}
-use Rattle.lvm_events.specs.declared.answers.AskFault.{AskFault}
-use Rattle.lvm_events.specs.declared.answers.CopyFault.{CopyFault}
-use Rattle.lvm_events.specs.declared.answers.Taken.{Taken as Answer}
-use Rattle.lvm_events.specs.Calls.{OpenGives, Opens, SubmitGives, TakeAt, TakeGives, TakesLanded, after_take, ask_fault, copy_fault, is_asked, submitted}
-use Rattle.lvm_events.specs.Dark.{all_dark, is_cut}
-use Rattle.lvm_events.specs.Turns.{Arranges}
+use Rattle.lvm_session.specs.declared.answers.AskFault.{AskFault}
+use Rattle.lvm_session.specs.declared.answers.CopyFault.{CopyFault}
+use Rattle.lvm_session.specs.declared.answers.Taken.{Taken as Answer}
+use Rattle.lvm_session.specs.Calls.{OpenGives, Opens, SubmitGives, TakeAt, TakeGives, TakesLanded, after_take, ask_fault, copy_fault, is_asked, submitted}
+use Rattle.lvm_session.specs.Dark.{all_dark, is_cut}
+use Rattle.lvm_session.specs.Turns.{Arranges}
 use Rattle.lvm_disk.specs.Counts.{Counts}
 use Rattle.std.specs.Prelude.{Result, Ok, Err}
 use Rattle.lvm_tie_causes.specs.Landings.{CallsKeepCauses, HasCausesSince}
@@ -56,7 +56,7 @@ module _ (first : List Fact) (s : State) (new : Core) (was : HasCausesSince firs
   takes : (client id : ℕ) (answer : Answer) → TakeGives s.core new client id answer → HasCausesSince first (state s.device new)
   takes client id answer = by (position (is_asked client id) s.core.requests)
     where
-      by : (m : Option ℕ) → MatchOption m ((answer ≡ Rattle.lvm_events.specs.declared.answers.Taken.TheVariants.Unknown) × (new ≡ s.core)) (λ (place : ℕ). TakeAt s.core new place answer) → HasCausesSince first (state s.device new)
+      by : (m : Option ℕ) → MatchOption m ((answer ≡ Rattle.lvm_session.specs.declared.answers.Taken.TheVariants.Unknown) × (new ≡ s.core)) (λ (place : ℕ). TakeAt s.core new place answer) → HasCausesSince first (state s.device new)
       by None it = same_caused (ap ground it.1)
       by (Some place) it = takes_landed place it.0 answer it.0.landed it.2
 

@@ -15,8 +15,8 @@ use Rattle.lvm_session.specs.declared.origin.Origin.{Origin}
 use Rattle.lvm_session.specs.Bringing.{after_copy_end, copy_ends, is_whole, with_end}
 use Rattle.lvm_session.specs.Judging.{is_running}
 use Rattle.lvm_session.specs.State.{Core, State}
-use Rattle.lvm_events.specs.Ends.{Ends, GoesOn, Learns, NoteLearns, StepLearns, StepLeaves, with_copy, with_return, without_step}
-use Rattle.lvm_events.specs.Marks.{Reviews}
+use Rattle.lvm_session.specs.Ends.{Ends, GoesOn, Learns, NoteLearns, StepLearns, StepLeaves, with_copy, with_return, without_step}
+use Rattle.lvm_session.specs.Marks.{Reviews}
 
 abbrev pub Ground : Type 0
 Ground = Descriptor × Origin × List Fact

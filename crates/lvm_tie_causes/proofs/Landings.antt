@@ -30,16 +30,16 @@ use Rattle.lvm_session.specs.declared.open.Power.TheVariants as power
 use Rattle.lvm_session.specs.declared.origin.Origin.{Origin}
 use Rattle.lvm_session.specs.Judging.{copies_for, copies_in, is_waiting, lp_of}
 use Rattle.lvm_session.specs.State.{Core, State}
-use Rattle.lvm_events.specs.declared.answers.Turned.{Turned}
-use Rattle.lvm_events.specs.declared.answers.Turned.TheVariants as turned
-use Rattle.lvm_events.specs.Dark.{all_dark, landings}
-use Rattle.lvm_events.specs.Ends.{Ends, EndsAs}
-use Rattle.lvm_events.specs.Events.{Lands, got_blocks}
-use Rattle.lvm_events.specs.Marks.{is_among}
-use Rattle.lvm_events.specs.Turns.{Darkens, FinishMakes, Finishes, GoesOff, Makes, Moves, NoStart, OnMakes, TurnMakes, WasDark, WasOff, WasOn}
-use Rattle.lvm_sound.specs.Causes.{AnyFailedSince, AreCounted, HasFailed, IsCounted, IsLandedFor, faults_at_first, was_usable}
-use Rattle.lvm_sound.specs.Requests.{IsOpenOne}
-use Rattle.lvm_sound.specs.Sound.{IsAsked, IsSound}
+use Rattle.lvm_session.specs.declared.answers.Turned.{Turned}
+use Rattle.lvm_session.specs.declared.answers.Turned.TheVariants as turned
+use Rattle.lvm_session.specs.Dark.{all_dark, landings}
+use Rattle.lvm_session.specs.Ends.{Ends, EndsAs}
+use Rattle.lvm_session.specs.Events.{Lands, got_blocks}
+use Rattle.lvm_session.specs.Marks.{is_among}
+use Rattle.lvm_session.specs.Turns.{Darkens, FinishMakes, Finishes, GoesOff, Makes, Moves, NoStart, OnMakes, TurnMakes, WasDark, WasOff, WasOn}
+use Rattle.lvm_session.specs.Causes.{AnyFailedSince, AreCounted, HasFailed, IsCounted, IsLandedFor, faults_at_first, was_usable}
+use Rattle.lvm_session.specs.Requests.{IsOpenOne}
+use Rattle.lvm_session.specs.Sound.{IsAsked, IsSound}
 use Rattle.lvm_keeps.proofs.Landing.{landing_is_caused}
 use Rattle.lvm_keeps.proofs.Lists.{all_at, all_on}
 use Rattle.lvm_keeps.proofs.Losing.{loss_is_caused}

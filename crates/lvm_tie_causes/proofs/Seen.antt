@@ -27,9 +27,9 @@ use Rattle.lvm_session.specs.declared.open.Open.{Open}
 use Rattle.lvm_session.specs.Bringing.{groups_of, is_whole}
 use Rattle.lvm_session.specs.Judging.{copies_in, is_missing, is_running, is_stale, is_waiting, is_wanted_stale, place_of}
 use Rattle.lvm_session.specs.State.{Core, State as Session}
-use Rattle.lvm_events.specs.Marks.{is_among}
-use Rattle.lvm_sound.specs.Causes.{AreCaused, AreCounted, FailedSince, IsCaused, IsCounted, faults_at_first, is_blamed, is_held_stale, was_usable}
-use Rattle.lvm_sound.specs.Sound.{IsSound}
+use Rattle.lvm_session.specs.Marks.{is_among}
+use Rattle.lvm_session.specs.Causes.{AreCaused, AreCounted, FailedSince, IsCaused, IsCounted, faults_at_first, is_blamed, is_held_stale, was_usable}
+use Rattle.lvm_session.specs.Sound.{IsSound}
 use Rattle.lvm_invariant.specs.Caused.{FactIsCaused, HadNoCopy, LandingIsCaused, Since}
 use Rattle.lvm_invariant.specs.Faults.{Faults, HasCause, HasFailed}
 use Rattle.lvm_invariant.specs.State.{Badly, Marks, OpenCopy, Queued, State, has_landed}

@@ -8,8 +8,8 @@ use Rattle.lvm_path.specs.declared.target.Target.{Target}
 use Rattle.lvm_session.specs.declared.open.Open.{Open}
 use Rattle.lvm_session.specs.Judging.{is_waiting, place_of}
 use Rattle.lvm_session.specs.State.{State as Session}
-use Rattle.lvm_sound.specs.Causes.{faults_at_first}
-use Rattle.lvm_sound.specs.Sound.{IsSound}
+use Rattle.lvm_session.specs.Causes.{faults_at_first}
+use Rattle.lvm_session.specs.Sound.{IsSound}
 use Rattle.lvm_invariant.specs.Caused.{Caused}
 use Rattle.lvm_invariant.specs.Faults.{Faults}
 use Rattle.lvm_invariant.specs.State.{Queued, State, has_landed}

@@ -11,16 +11,16 @@ use Rattle.lvm_vol.specs.Facts.{Request as Asked, Fact, Making, Made, Split, Rem
 use Rattle.lvm_path.specs.declared.ask.Ask.{Ask}
 use Rattle.lvm_session.specs.State.{Core, State, state}
 use Rattle.lvm_session.specs.Judging.{copies_in}
-use Rattle.lvm_events.specs.declared.answers.AskFault.{AskFault}
-use Rattle.lvm_events.specs.declared.answers.CopyFault.{CopyFault}
-use Rattle.lvm_events.specs.declared.answers.Taken.{Taken as Answer}
-use Rattle.lvm_events.specs.declared.answers.Turned.{Turned}
-use Rattle.lvm_events.specs.Calls.{Closes, OpenGives, SubmitGives, TakeGives}
-use Rattle.lvm_events.specs.Marks.{is_among}
-use Rattle.lvm_events.specs.Turns.{Arranges, TurnMakes}
+use Rattle.lvm_session.specs.declared.answers.AskFault.{AskFault}
+use Rattle.lvm_session.specs.declared.answers.CopyFault.{CopyFault}
+use Rattle.lvm_session.specs.declared.answers.Taken.{Taken as Answer}
+use Rattle.lvm_session.specs.declared.answers.Turned.{Turned}
+use Rattle.lvm_session.specs.Calls.{Closes, OpenGives, SubmitGives, TakeGives}
+use Rattle.lvm_session.specs.Marks.{is_among}
+use Rattle.lvm_session.specs.Turns.{Arranges, TurnMakes}
 use Rattle.lvm_disk.specs.Counts.{Counts}
-use Rattle.lvm_sound.specs.Causes.{AnyFailedSince, was_usable}
-use Rattle.lvm_sound.specs.Sound.{IsSound}
+use Rattle.lvm_session.specs.Causes.{AnyFailedSince, was_usable}
+use Rattle.lvm_session.specs.Sound.{IsSound}
 
 -- each copy of what the request goes over was stale, or on a missing disk, when the session began
 abbrev pub HadNone : Core → Asked → Type 0

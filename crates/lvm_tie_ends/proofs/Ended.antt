@@ -16,7 +16,7 @@ use Rattle.lvm_tie_shelf.proofs.Writing.{ends_land}
 use Rattle.lvm_tie_shelf.specs.Writing.{Lands}
 use Rattle.lvm_tie.proofs.Orderly.{IsOut, AreOut, HaveTickets}
 use Rattle.lvm_tie.specs.Out.{CarriesStep, CarryTheirs}
-use Rattle.lvm_events.specs.Ends.{EndsAs}
+use Rattle.lvm_session.specs.Ends.{EndsAs}
 
 some_of : {X : Type 0} (a b : X) → Some a ≡ Some b → a ≡ b
 some_of a b e = cc

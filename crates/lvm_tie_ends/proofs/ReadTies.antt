@@ -33,8 +33,8 @@ use Rattle.lvm_path.specs.declared.request.Phase.TheVariants as phase
 use Rattle.lvm_path.specs.Next.{with_end}
 use Rattle.lvm_session.specs.Judging.{is_running}
 use Rattle.lvm_session.specs.Bringing.{has_row, is_out, is_whole}
-use Rattle.lvm_events.specs.Events.{IsDataTransfer}
-use Rattle.lvm_events.specs.Ends.{keeps_buffer, learned, after_data}
+use Rattle.lvm_session.specs.Events.{IsDataTransfer}
+use Rattle.lvm_session.specs.Ends.{keeps_buffer, learned, after_data}
 use Rattle.lvm_sched.specs.Writes.{is_waiting as target_waits}
 use Rattle.lvm_invariant.specs.State.{Stage, Going, Queued}
 use Rattle.lvm_invariant.specs.Updates.{is_pp}
@@ -56,14 +56,14 @@ use Rattle.lvm_tie.specs.Seen.{stage_seen, stage_at, phase_seen, SeesRequest, up
 use Rattle.lvm_tie.specs.Tied.{IsTied, ShowsRecords}
 use Rattle.lvm_session.specs.Judging.{is_kept, pps_of}
 use Rattle.lvm_session.specs.Bringing.{marked_by_end, with_back, with_end as with_copy_end}
-use Rattle.lvm_events.specs.Marks.{WantsStale, Entails, is_among, due_targets, due_of, end_by_write}
+use Rattle.lvm_session.specs.Marks.{WantsStale, Entails, is_among, due_targets, due_of, end_by_write}
 use Rattle.lvm_invariant.specs.State.{Marks, covers}
 use Rattle.lvm_invariant.specs.Updates.{put}
 use Rattle.std.specs.Prelude.{slice_index_or}
 use Rattle.lvm_invariant.specs.State.{Phase}
 use Rattle.lvm_invariant.specs.Read.{Reads as Reading, reading}
-use Rattle.lvm_events.specs.Ends.{DataLearns, Ends}
-use Rattle.lvm_sound.specs.Sound.{IsSound}
+use Rattle.lvm_session.specs.Ends.{DataLearns, Ends}
+use Rattle.lvm_session.specs.Sound.{IsSound}
 use Rattle.lvm_tie_ends.specs.Ends.{ReadEndTies}
 use Rattle.lvm_tie_ends.proofs.Ended.{HasEnded, IsRow, has_ended, is_row}
 
@@ -278,7 +278,7 @@ module _ (past : List Fact) (old new : Session) (index : ℕ) (ends : Ends old n
   no_end : end_by_write core2 o2 ends.ok t.pp ≡ None
   no_end = by old.core.copy
     where
-      by : (c : Option Bringing) → Rattle.lvm_session.specs.Bringing.ends_if (Rattle.std.specs.Option.option_map_or (Rattle.lvm_events.specs.Marks.hits_copy core2 o2 ends.ok t.pp) c false) Rattle.lvm_session.specs.declared.bringing.CopyEnd.TheVariants.SyncFailed ≡ None
+      by : (c : Option Bringing) → Rattle.lvm_session.specs.Bringing.ends_if (Rattle.std.specs.Option.option_map_or (Rattle.lvm_session.specs.Marks.hits_copy core2 o2 ends.ok t.pp) c false) Rattle.lvm_session.specs.declared.bringing.CopyEnd.TheVariants.SyncFailed ≡ None
       by None = refl
       by (Some c) = ap (λ w2. Rattle.lvm_session.specs.Bringing.ends_if (w2 && is_running c && (not ends.ok && Rattle.lvm_stale.specs.Table.is_pp t.pp c.pp || (are_over ts2 && not (is_kept core2 o2.request) && not o2.older && is_among (due_of core2 o2.request) c.pp))) Rattle.lvm_session.specs.declared.bringing.CopyEnd.TheVariants.SyncFailed) reads
 

@@ -24,7 +24,7 @@ use Rattle.lvm_status.specs.Update.{Updates, members_there, seen}
 use Rattle.lvm_status.proofs.Sound.{first_is_sound, steps_stay_sound}
 use Rattle.lvm_hold.specs.Waiting.{Waiting}
 use Rattle.lvm_session.specs.declared.open.Open.{Open}
-use Rattle.lvm_write.specs.declared.homes.Homes.{Homes}
+use Rattle.lvm_homes.specs.declared.homes.Homes.{Homes}
 use Rattle.lvm_commit.specs.Committed.{HoldsCommitted}
 use Rattle.lvm_commit.specs.LawsOfVolumes.{IsOneByAllOn}
 use Rattle.lvm_commit.specs.Settling.{NoneIsLeft}
@@ -36,9 +36,9 @@ use Rattle.lvm_session_start.specs.Parts.{IsReserved, IsRoom as IsSessionRoom}
 use Rattle.lvm_keeps.specs.Begins.{Begins as Beginning, IsCalm, IsUnused}
 use Rattle.lvm_keeps.proofs.Begin.{beginning_is_sound}
 use Rattle.lvm_keeps.proofs.Telling.{open_still}
-use Rattle.lvm_sound.specs.Placed.{ArePlaced}
-use Rattle.lvm_sound.specs.Causes.{faults_at_first}
-use Rattle.lvm_sound.specs.Sound.{IsFitting as IsFittingTable, IsSound, is_dark}
+use Rattle.lvm_session.specs.Placed.{ArePlaced}
+use Rattle.lvm_session.specs.Causes.{faults_at_first}
+use Rattle.lvm_session.specs.Sound.{IsFitting as IsFittingTable, IsSound, is_dark}
 use Rattle.lvm_core.specs.declared.parts.Room.{Room}
 use Rattle.lvm_core.specs.Held.{NotesAreHome}
 use Rattle.lvm_core.specs.Sound.{HaveAllLanded, IsFitting}

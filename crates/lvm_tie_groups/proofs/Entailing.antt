@@ -23,9 +23,9 @@ use Rattle.lvm_session.specs.declared.open.Open.{Open}
 use Rattle.lvm_session.specs.State.{Core, is_there}
 use Rattle.lvm_session.specs.Judging.{is_missing, is_stale, is_usable, is_wanted_stale}
 use Rattle.lvm_session.specs.Enabled.{same_status}
-use Rattle.lvm_events.specs.Events.{is_passive}
-use Rattle.lvm_events.specs.Marks.{can_replace, is_among, is_entailed, is_entailed_in, is_left_behind}
-use Rattle.lvm_sound.specs.Left.{copy_updates, if_so, marks_later, updates_left}
+use Rattle.lvm_session.specs.Events.{is_passive}
+use Rattle.lvm_session.specs.Marks.{can_replace, is_among, is_entailed, is_entailed_in, is_left_behind}
+use Rattle.lvm_session.specs.Left.{copy_updates, if_so, marks_later, updates_left}
 use Rattle.lvm_tie.proofs.Words.{any_one, clash, not_true, or_true}
 use Rattle.lvm_tie_shelf.proofs.Writing.{and_both, pp_same}
 

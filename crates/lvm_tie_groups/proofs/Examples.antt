@@ -18,10 +18,10 @@ use Rattle.lvm_commit.proofs.Found.{shows_group}
 use Rattle.lvm_status.specs.Runs.{IsSound as IsSoundStatus}
 use Rattle.lvm_status.specs.Update.{seen}
 use Rattle.lvm_session.specs.State.{Core, State as Session, is_there}
-use Rattle.lvm_events.specs.Marks.{is_entailed}
-use Rattle.lvm_sound.specs.Causes.{faults_at_first}
-use Rattle.lvm_sound.specs.Sound.{IsSound}
-use Rattle.lvm_sound.proofs.Parts.{idle_is_sound, none_written, zeros_at}
+use Rattle.lvm_session.specs.Marks.{is_entailed}
+use Rattle.lvm_session.specs.Causes.{faults_at_first}
+use Rattle.lvm_session.specs.Sound.{IsSound}
+use Rattle.lvm_session.proofs.Parts.{idle_is_sound, none_written, zeros_at}
 use Rattle.lvm_keeps.specs.Begins.{Begins}
 use Rattle.lvm_keeps.proofs.Begin.{beginning_is_sound}
 use Rattle.lvm_rest.specs.Rest.{IsEven}

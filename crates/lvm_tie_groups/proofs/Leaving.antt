@@ -22,10 +22,10 @@ use Rattle.lvm_session.specs.declared.open.Open.{Open}
 use Rattle.lvm_session.specs.declared.open.Power.TheVariants as power
 use Rattle.lvm_session.specs.State.{Core, State as Session, is_there}
 use Rattle.lvm_session.specs.Judging.{is_missing}
-use Rattle.lvm_events.specs.Dark.{hand_of_copy}
-use Rattle.lvm_sound.specs.Owners.{AreRows}
-use Rattle.lvm_sound.specs.Placed.{ArePlaced}
-use Rattle.lvm_sound.specs.Sound.{IsOn, IsSound, count_if, has_number, hands_with, is_dark, is_hand, out_with, waits}
+use Rattle.lvm_session.specs.Dark.{hand_of_copy}
+use Rattle.lvm_session.specs.Owners.{AreRows}
+use Rattle.lvm_session.specs.Placed.{ArePlaced}
+use Rattle.lvm_session.specs.Sound.{IsOn, IsSound, count_if, has_number, hands_with, is_dark, is_hand, out_with, waits}
 use Rattle.lvm_core.specs.Sound.{HaveAllLanded, IsFitting, IsQuiet, IsSound as IsSoundBetween}
 use Rattle.lvm_core.specs.Settled.{IsSettled}
 use Rattle.lvm_settled.specs.Settled.{IsKnown}

@@ -6,7 +6,7 @@ use Rattle.lvm_vol.specs.Facts.{Fact}
 use Rattle.lvm_vol.specs.Legal.{begins_in}
 use Rattle.lvm_session.specs.declared.flown.Flown.{Flown}
 use Rattle.lvm_session.specs.State.{Core, State as Session}
-use Rattle.lvm_sound.specs.Owners.{AreRows}
+use Rattle.lvm_session.specs.Owners.{AreRows}
 use Rattle.lvm_tie.specs.Tied.{IsTied}
 use Rattle.lvm_tie_begins.specs.Begins.{FollowsOn, IsResting, StandsAtRest}
 use Rattle.lvm_tie_begins.proofs.Resting.{rest_ties}

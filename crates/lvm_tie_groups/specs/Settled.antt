@@ -10,9 +10,9 @@ use Rattle.lvm_kept.specs.Moments.{Calm, Moment}
 use Rattle.lvm_steps.specs.Moments.{Begins}
 use Rattle.lvm_commit.specs.LawsOfVolumes.{IsOneByAllOn}
 use Rattle.lvm_rec.specs.Slots.{slot_for}
-use Rattle.lvm_write.specs.Homes.{next_slot}
+use Rattle.lvm_homes.specs.Homes.{next_slot}
 use Rattle.lvm_session.specs.State.{State as Session, is_there}
-use Rattle.lvm_sound.specs.Sound.{IsSound}
+use Rattle.lvm_session.specs.Sound.{IsSound}
 use Rattle.lvm_core.specs.Held.{NotesAreHome}
 use Rattle.lvm_settled.specs.Settled.{IsKnown, IsCarried}
 use Rattle.lvm_tie.specs.Tied.{IsGood, IsTied}

@@ -23,7 +23,7 @@ use Rattle.lvm_path.specs.Next.{next_in, next_data, next_read}
 use Rattle.lvm_session.specs.declared.open.Open.{Open}
 use Rattle.lvm_session.specs.State.{Core, State as Session}
 use Rattle.lvm_session.specs.Judging.{is_waiting, place_of, facts_of}
-use Rattle.lvm_events.specs.Events.{Lands, got_blocks}
+use Rattle.lvm_session.specs.Events.{Lands, got_blocks}
 use Rattle.lvm_invariant.specs.State.{Badly, Queued, State, is_past}
 use Rattle.lvm_invariant.specs.Updates.{landed}
 use Rattle.lvm_invariant.specs.LandGot.{LandsGot}

@@ -25,9 +25,9 @@ use Rattle.lvm_path.specs.Next.{next_chosen, next_data, next_in, next_read, next
 use Rattle.lvm_session.specs.declared.open.Open.{Open}
 use Rattle.lvm_session.specs.State.{Core, State as Session}
 use Rattle.lvm_session.specs.Judging.{copies_for, facts_of, group_in, is_caught, is_kept, is_waiting}
-use Rattle.lvm_events.specs.Events.{Lands}
-use Rattle.lvm_sound.specs.Requests.{IsPhase, IsRequest, IsTarget, may_lack, wants_status}
-use Rattle.lvm_sound.specs.Sound.{IsSound}
+use Rattle.lvm_session.specs.Events.{Lands}
+use Rattle.lvm_session.specs.Requests.{IsPhase, IsRequest, IsTarget, may_lack, wants_status}
+use Rattle.lvm_session.specs.Sound.{IsSound}
 use Rattle.lvm_uncaught.proofs.Uncaught.{lost_is_uncaught}
 use Rattle.lvm_kept.specs.Group.{IsOneOf}
 use Rattle.lvm_invariant.specs.State.{HasPassed}
@@ -233,7 +233,7 @@ module _ (past : List Fact) (old new : Session) (place : ℕ) (how : Outcome) (l
   marked : o.request.phase ≡ phase.WantStatus → IsTied past new
   marked at =
       let said : IsPhase phase.WantStatus o = subst (λ (p : Phase). IsPhase p o) at its.shape.phase_is in
-      let some : 1 ≤ length ts = some_long ts (λ (t : Target). t.usable) (its.shape.usable (ap Rattle.lvm_sound.specs.Requests.is_past_held at)) in
+      let some : 1 ≤ length ts = some_long ts (λ (t : Target). t.usable) (its.shape.usable (ap Rattle.lvm_session.specs.Requests.is_past_held at)) in
       let begun : is_begun ts ≡ true = over_begun ts some said.1 in
       let seen = tied.sees.requests place o lands.there in
       tied_after past old new place how lands tied at said.0 begun said.1 (uncaught said.0) seen.0 seen.1 seen.2 (no_hand said.0)

@@ -20,7 +20,7 @@ use Rattle.lvm_path.specs.Next.{next_in}
 use Rattle.lvm_session.specs.declared.open.Open.{Open}
 use Rattle.lvm_session.specs.State.{Core, State as Session}
 use Rattle.lvm_session.specs.Judging.{place_of, is_sure, is_settled, is_kept, is_marked, counts_failed, all_but_sure, facts_of}
-use Rattle.lvm_events.specs.Events.{Lands, got_blocks}
+use Rattle.lvm_session.specs.Events.{Lands, got_blocks}
 use Rattle.lvm_invariant.specs.State.{Stage, Well, Badly, Queued, State, HasPassed, Started}
 use Rattle.lvm_invariant.specs.Updates.{is_pp, landed}
 use Rattle.lvm_invariant.specs.LandDone.{IsDropped, LandsDone}

@@ -22,9 +22,9 @@ use Rattle.lvm_session.specs.declared.flown.Owner.TheVariants as owner
 use Rattle.lvm_session.specs.State.{Core, State as Session, state}
 use Rattle.lvm_session.specs.Judging.{is_running, place_of}
 use Rattle.lvm_session.specs.Bringing.{has_row, is_out, is_whole}
-use Rattle.lvm_events.specs.declared.answers.Taken.TheVariants as answers
-use Rattle.lvm_events.specs.Calls.{TakeAt, TakesLanded, after_take, is_asked}
-use Rattle.lvm_sound.specs.Sound.{IsSound}
+use Rattle.lvm_session.specs.declared.answers.Taken.TheVariants as answers
+use Rattle.lvm_session.specs.Calls.{TakeAt, TakesLanded, after_take, is_asked}
+use Rattle.lvm_session.specs.Sound.{IsSound}
 use Rattle.lvm_invariant.specs.State.{Queued, State, has_landed}
 use Rattle.lvm_invariant.specs.Updates.{without}
 use Rattle.lvm_invariant.specs.Take.{Takes, taken}

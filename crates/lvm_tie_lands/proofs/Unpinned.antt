@@ -6,7 +6,7 @@ use Rattle.lvm_mwc.specs.Cache.{Cached, after_unpin}
 use Rattle.lvm_path.specs.declared.request.Request.{Request}
 use Rattle.lvm_path.specs.Asks.{lv_of}
 use Rattle.lvm_session.specs.Judging.{group_of}
-use Rattle.lvm_events.specs.Events.{without_pin}
+use Rattle.lvm_session.specs.Events.{without_pin}
 
 pub cache_is : (cache : Cached) (r : Request) → without_pin cache r ≡ record cache { entries = (without_pin cache r).entries }
 cache_is cache r = by r.pinned

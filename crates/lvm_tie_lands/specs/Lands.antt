@@ -1,12 +1,12 @@
 -- Requests that land, and are taken.
 use Rattle.std.specs.Prelude.{ℕ, List}
 use Rattle.lvm_vol.specs.Facts.{Fact}
-use Rattle.lvm_events.specs.declared.answers.Taken.{Taken}
+use Rattle.lvm_session.specs.declared.answers.Taken.{Taken}
 use Rattle.lvm_vol.specs.declared.entry.Outcome.{Outcome}
-use Rattle.lvm_events.specs.Calls.{TakeGives}
-use Rattle.lvm_events.specs.Events.{Lands}
+use Rattle.lvm_session.specs.Calls.{TakeGives}
+use Rattle.lvm_session.specs.Events.{Lands}
 use Rattle.lvm_session.specs.State.{Core, State as Session, state}
-use Rattle.lvm_sound.specs.Sound.{IsSound}
+use Rattle.lvm_session.specs.Sound.{IsSound}
 use Rattle.lvm_tie.specs.Tied.{IsTied, Ties}
 
 -- A request that lands leaves a tied session tied.

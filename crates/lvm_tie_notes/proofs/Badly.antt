@@ -24,7 +24,7 @@ use Rattle.lvm_mwc.specs.Notes.{names_group}
 use Rattle.lvm_status.specs.Update.{Stored, is_held, seen}
 use Rattle.lvm_stamps.specs.Behind.{StampsBefore}
 use Rattle.lvm_commit.specs.Committed.{next_stamp}
-use Rattle.lvm_write.specs.declared.homes.Homes.{Homes}
+use Rattle.lvm_homes.specs.declared.homes.Homes.{Homes}
 use Rattle.lvm_session.specs.declared.bringing.OpenCopy.{OpenCopy as Bringing}
 use Rattle.lvm_session.specs.declared.bringing.CopyEnd.{CopyEnd}
 use Rattle.lvm_session.specs.declared.flown.Flown.{Flown}
@@ -33,9 +33,9 @@ use Rattle.lvm_session.specs.declared.flown.Owner.TheVariants as owner
 use Rattle.lvm_session.specs.State.{Core, State as Session, state, is_there}
 use Rattle.lvm_session.specs.Judging.{is_missing, is_running}
 use Rattle.lvm_session.specs.Bringing.{copy_ends, with_end}
-use Rattle.lvm_events.specs.Ends.{LosesDisk, NoteLearns, Returns, with_return}
-use Rattle.lvm_events.specs.Marks.{Reviews}
-use Rattle.lvm_sound.specs.Sound.{IsGoing, IsSound}
+use Rattle.lvm_session.specs.Ends.{LosesDisk, NoteLearns, Returns, with_return}
+use Rattle.lvm_session.specs.Marks.{Reviews}
+use Rattle.lvm_session.specs.Sound.{IsGoing, IsSound}
 use Rattle.lvm_keeps_ends.proofs.NoteEnd.{beside, none_here, flight_beside}
 use Rattle.lvm_invariant.specs.State.{Groups, Marks, State}
 use Rattle.lvm_invariant.specs.EndNote.{after_note}

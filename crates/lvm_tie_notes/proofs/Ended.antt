@@ -23,8 +23,8 @@ use Rattle.lvm_session.specs.declared.flown.Owner.{Owner}
 use Rattle.lvm_session.specs.declared.flown.Owner.TheVariants as owner
 use Rattle.lvm_session.specs.State.{Core, State as Session}
 use Rattle.lvm_session.specs.Judging.{is_missing}
-use Rattle.lvm_sound.specs.Owners.{IsNoteOf, IsTransferOf}
-use Rattle.lvm_sound.specs.Sound.{IsOn}
+use Rattle.lvm_session.specs.Owners.{IsNoteOf, IsTransferOf}
+use Rattle.lvm_session.specs.Sound.{IsOn}
 use Rattle.lvm_keeps_ends.proofs.Removal.{taken_out}
 use Rattle.lvm_invariant.specs.State.{Groups, State}
 use Rattle.lvm_crash.specs.Session.{members_there}
@@ -38,7 +38,7 @@ use Rattle.lvm_tie.specs.Tied.{IsTied}
 use Rattle.lvm_tie_ends.proofs.Ended.{HasEnded, IsRow, has_ended, is_row}
 use Rattle.lvm_tie_notes.proofs.Sectors.{note_is_sector}
 use Rattle.lvm_session.specs.declared.flown.Flown.{Flown}
-use Rattle.lvm_events.specs.Ends.{Returns}
+use Rattle.lvm_session.specs.Ends.{Returns}
 
 pub some_of : {X : Type 0} (a b : X) → Some a ≡ Some b → a ≡ b
 some_of a b e = cc

@@ -14,7 +14,7 @@ use Rattle.lvm_disk.specs.Device.{Device, Media}
 use Rattle.lvm_status.specs.Update.{Stored, Updates, is_held, is_owed, no_disks, seen, without_disk}
 use Rattle.lvm_status.specs.Calls.{BecomesMissing}
 use Rattle.lvm_status.specs.Runs.{IsSound as IsSoundStatus}
-use Rattle.lvm_events.specs.Ends.{LosesDisk}
+use Rattle.lvm_session.specs.Ends.{LosesDisk}
 use Rattle.lvm_invariant.specs.State.{Marks, OpenCopy, State}
 use Rattle.lvm_invariant.specs.Crash.{Brings, CopyBrings}
 use Rattle.lvm_invariant.specs.Want.{after_wants}

@@ -3,8 +3,8 @@ use Rattle.std.proofs.Common.{◌≡◌, ℕ, Bool, true, false, List, refl, sub
 use Rattle.lvm_vol.specs.Facts.{Fact}
 use Rattle.lvm_session.specs.declared.flown.Owner.{Owner}
 use Rattle.lvm_session.specs.State.{State as Session}
-use Rattle.lvm_events.specs.Ends.{Learns, NoteLearns, Returns}
-use Rattle.lvm_sound.specs.Sound.{IsSound}
+use Rattle.lvm_session.specs.Ends.{Learns, NoteLearns, Returns}
+use Rattle.lvm_session.specs.Sound.{IsSound}
 use Rattle.lvm_tie.specs.Tied.{IsTied}
 use Rattle.lvm_tie_notes.specs.Notes.{EndsOfNote, NoteEndTies}
 use Rattle.lvm_tie_notes.proofs.Badly.{loss_tied}

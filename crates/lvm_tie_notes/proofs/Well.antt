@@ -17,8 +17,8 @@ use Rattle.lvm_mwc.specs.Notes.{names_group}
 use Rattle.lvm_session.specs.declared.flown.Owner.{Owner}
 use Rattle.lvm_session.specs.declared.flown.Owner.TheVariants as owner
 use Rattle.lvm_session.specs.State.{Core, State as Session, state, is_there}
-use Rattle.lvm_events.specs.Ends.{with_return}
-use Rattle.lvm_sound.specs.Sound.{IsSound}
+use Rattle.lvm_session.specs.Ends.{with_return}
+use Rattle.lvm_session.specs.Sound.{IsSound}
 use Rattle.lvm_keeps_ends.proofs.NoteEnd.{here, beside, none_here, flight_beside}
 use Rattle.lvm_invariant.specs.State.{Groups, State}
 use Rattle.lvm_invariant.specs.EndNote.{after_note}
@@ -36,7 +36,7 @@ use Rattle.lvm_tie.specs.Tied.{IsTied, ShowsRecords}
 use Rattle.lvm_tie_ends.proofs.Ended.{HasEnded}
 use Rattle.lvm_tie_notes.proofs.Landing.{HasLanded, has_landed, same_descriptors, same_members, same_statuses, update_may}
 use Rattle.lvm_session.specs.declared.flown.Flown.{Flown}
-use Rattle.lvm_events.specs.Ends.{Returns, NoteLearns}
+use Rattle.lvm_session.specs.Ends.{Returns, NoteLearns}
 use Rattle.lvm_tie_notes.proofs.Ended.{apart, ended, has_notes, here_too, its_row, none_is_some, not_here, out, own, own_names, own_sector, room, since_ended, some_of}
 
 module _ (past : List Fact) (old new : Session) (at disk : ℕ) (row : Flown) (buf : Buffer) (its_owner : row.owner ≡ owner.Note disk) (returns : Returns old new at row true buf) (learned : NoteLearns old.core at disk true buf new.core) (tied : IsTied past old) (sound : IsSound new) where

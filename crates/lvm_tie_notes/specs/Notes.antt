@@ -2,7 +2,7 @@
 use Rattle.std.specs.Prelude.{◌≡◌, ℕ}
 use Rattle.lvm_session.specs.declared.flown.Owner.TheVariants as owner
 use Rattle.lvm_session.specs.State.{State as Session}
-use Rattle.lvm_events.specs.Ends.{Ends}
+use Rattle.lvm_session.specs.Ends.{Ends}
 use Rattle.lvm_tie.specs.Tied.{Ties}
 
 -- the write of a note has ended, well or badly

@@ -26,7 +26,7 @@ use Rattle.lvm_session.specs.declared.open.Open.{Open}
 use Rattle.lvm_session.specs.declared.open.Power.TheVariants as power
 use Rattle.lvm_session.specs.State.{Core, State as Session}
 use Rattle.lvm_session.specs.Judging.{is_waiting, place_of}
-use Rattle.lvm_events.specs.Dark.{landings as all_landings}
+use Rattle.lvm_session.specs.Dark.{landings as all_landings}
 use Rattle.lvm_invariant.specs.State.{Queued, State, covers, write_in, told}
 use Rattle.lvm_invariant.specs.Over.{AreOpen, landings}
 use Rattle.lvm_invariant.proofs.Ending.{cut_keeps}

@@ -12,7 +12,7 @@ use Rattle.lvm_steps.specs.Requests.{at}
 use Rattle.lvm_path.specs.Targets.{is_begun}
 use Rattle.lvm_session.specs.declared.open.Open.{Open}
 use Rattle.lvm_session.specs.Judging.{is_waiting}
-use Rattle.lvm_events.specs.Dark.{landings}
+use Rattle.lvm_session.specs.Dark.{landings}
 
 module _ (how : Outcome) (base : List Fact) where
   -- what one adds

@@ -24,8 +24,8 @@ use Rattle.lvm_session.specs.State.{Core, State as Session, is_there}
 use Rattle.lvm_session.specs.Judging.{is_waiting}
 use Rattle.lvm_session.specs.Bringing.{is_out}
 use Rattle.lvm_session.specs.Enabled.{is_lost}
-use Rattle.lvm_events.specs.Dark.{IsAscending, landings as all_landings}
-use Rattle.lvm_sound.specs.Requests.{IsShaped}
+use Rattle.lvm_session.specs.Dark.{IsAscending, landings as all_landings}
+use Rattle.lvm_session.specs.Requests.{IsShaped}
 use Rattle.lvm_invariant.specs.State.{Groups, State}
 use Rattle.lvm_invariant.specs.Over.{landings}
 use Rattle.lvm_invariant.specs.Off.{GoesOff}

@@ -24,9 +24,9 @@ use Rattle.lvm_session.specs.declared.open.Open.{Open}
 use Rattle.lvm_session.specs.declared.open.Power.{Power}
 use Rattle.lvm_session.specs.declared.open.Power.TheVariants as power
 use Rattle.lvm_session.specs.State.{Core, State as Session, state}
-use Rattle.lvm_events.specs.Dark.{landings as all_landings, after_arrange, all_dark}
-use Rattle.lvm_sound.specs.Requests.{IsLanded}
-use Rattle.lvm_sound.specs.Sound.{IsSound}
+use Rattle.lvm_session.specs.Dark.{landings as all_landings, after_arrange, all_dark}
+use Rattle.lvm_session.specs.Requests.{IsLanded}
+use Rattle.lvm_session.specs.Sound.{IsSound}
 use Rattle.lvm_tie_shelf.specs.Owned.{OnlyUpdateSince}
 use Rattle.lvm_tie.specs.Seen.{update_of}
 use Rattle.lvm_tie.specs.Tied.{IsTied, IsGood}
@@ -53,8 +53,8 @@ quiet_cut run first device log os over span =
 
 all_landed : (s : Session) (p : Power) → s.core.power ≡ p → (p ≡ power.On → ⊥) → IsSound s → AllByRecursion IsLanded s.core.requests
 all_landed s power.On is not_on sound = absurd (not_on refl)
-all_landed s power.Off is not_on sound = (sound.over (ap Rattle.lvm_sound.specs.Causes.is_over is)).landed
-all_landed s power.Dark is not_on sound = (sound.over (ap Rattle.lvm_sound.specs.Causes.is_over is)).landed
+all_landed s power.Off is not_on sound = (sound.over (ap Rattle.lvm_session.specs.Causes.is_over is)).landed
+all_landed s power.Dark is not_on sound = (sound.over (ap Rattle.lvm_session.specs.Causes.is_over is)).landed
 all_landed s power.Stuck is not_on sound = subst (λ (os : List Open). AllByRecursion IsLanded os) (sym (sound.stuck is).requests) tt
 
 -- ---- spans

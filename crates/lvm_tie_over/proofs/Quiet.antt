@@ -24,8 +24,8 @@ use Rattle.lvm_session.specs.declared.flown.Owner.TheVariants as owner
 use Rattle.lvm_session.specs.State.{Core, State as Session}
 use Rattle.lvm_session.specs.Judging.{place_of}
 use Rattle.lvm_session.specs.Bringing.{has_row}
-use Rattle.lvm_sound.specs.Owners.{AreRows, flies, same_owner, target_flies}
-use Rattle.lvm_sound.specs.Sound.{IsOn}
+use Rattle.lvm_session.specs.Owners.{AreRows, flies, same_owner, target_flies}
+use Rattle.lvm_session.specs.Sound.{IsOn}
 use Rattle.lvm_invariant.specs.State.{Flying, Queued, State, has_landed}
 use Rattle.lvm_invariant.specs.Updates.{is_pp, put, without, with_req, land}
 use Rattle.lvm_invariant.specs.Take.{taken}

@@ -12,12 +12,12 @@ use Rattle.lvm_kept.specs.Moments.{Moment}
 use Rattle.lvm_steps.specs.Moments.{Keeps}
 use Rattle.lvm_steps.specs.Requests.{at}
 use Rattle.lvm_steps.proofs.Entering.{quiet_goes_on}
-use Rattle.lvm_events.specs.declared.answers.Taken.{Taken as Answer}
-use Rattle.lvm_events.specs.declared.answers.Taken.TheVariants as answer
-use Rattle.lvm_events.specs.Calls.{is_asked, TakeAt, TakesLanded}
+use Rattle.lvm_session.specs.declared.answers.Taken.{Taken as Answer}
+use Rattle.lvm_session.specs.declared.answers.Taken.TheVariants as answer
+use Rattle.lvm_session.specs.Calls.{is_asked, TakeAt, TakesLanded}
 use Rattle.lvm_session.specs.declared.open.Open.{Open}
 use Rattle.lvm_session.specs.State.{Core, State as Session}
-use Rattle.lvm_sound.specs.Sound.{IsAsked, IsSound}
+use Rattle.lvm_session.specs.Sound.{IsAsked, IsSound}
 use Rattle.lvm_tie.proofs.Orderly.{all_at}
 use Rattle.lvm_tie_over.specs.Over.{TakeGoesOn}
 

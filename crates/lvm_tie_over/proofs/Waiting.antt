@@ -16,8 +16,8 @@ use Rattle.lvm_path.specs.Targets.{is_begun, is_over}
 use Rattle.lvm_session.specs.declared.open.Open.{Open}
 use Rattle.lvm_session.specs.State.{Core}
 use Rattle.lvm_session.specs.Judging.{is_waiting, place_of}
-use Rattle.lvm_events.specs.Dark.{IsAscending, landings as all_landings}
-use Rattle.lvm_sound.specs.Requests.{IsPhase, IsShaped}
+use Rattle.lvm_session.specs.Dark.{IsAscending, landings as all_landings}
+use Rattle.lvm_session.specs.Requests.{IsPhase, IsShaped}
 use Rattle.lvm_invariant.specs.State.{Queued, State, has_landed}
 use Rattle.lvm_invariant.specs.Over.{IsDistinct, AreOpen, is_going, landings}
 use Rattle.lvm_tie.specs.Seen.{phase_seen, SeesRequest, IsRequestAt}
@@ -155,7 +155,7 @@ going_seen phase.Data core o is shape its = by (is_begun o.request.targets.items
     by : (b : Bool) → is_going (phase_seen phase.Data b) ≡ b
     by true = refl
     by false = refl
-going_seen phase.WantStatus core o is shape its = sym (some_started o.request.targets.items (λ (t : Target). t.usable) (shape.usable (ap Rattle.lvm_sound.specs.Requests.is_past_held is)) its.1)
+going_seen phase.WantStatus core o is shape its = sym (some_started o.request.targets.items (λ (t : Target). t.usable) (shape.usable (ap Rattle.lvm_session.specs.Requests.is_past_held is)) its.1)
 going_seen phase.Landed core o is shape its = absurd its
 
 -- a state whose requests are those of the table

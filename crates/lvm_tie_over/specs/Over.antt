@@ -4,10 +4,10 @@ use Rattle.lvm_disk.specs.declared.shelf.Arrange.{Arrange}
 use Rattle.lvm_kept.specs.Moments.{Moment}
 use Rattle.lvm_session.specs.declared.open.Power.TheVariants as power
 use Rattle.lvm_session.specs.State.{State as Session}
-use Rattle.lvm_events.specs.declared.answers.Taken.{Taken}
-use Rattle.lvm_events.specs.Calls.{TakeGives}
-use Rattle.lvm_events.specs.Turns.{Darkens, GoesOff, Arranges}
-use Rattle.lvm_sound.specs.Sound.{IsSound}
+use Rattle.lvm_session.specs.declared.answers.Taken.{Taken}
+use Rattle.lvm_session.specs.Calls.{TakeGives}
+use Rattle.lvm_session.specs.Turns.{Darkens, GoesOff, Arranges}
+use Rattle.lvm_session.specs.Sound.{IsSound}
 use Rattle.lvm_tie.specs.Tied.{IsGood, SpanGoesOn}
 
 -- Where the votes of a good session are lost, each landing as Off is a moment, and a span goes on over them all.

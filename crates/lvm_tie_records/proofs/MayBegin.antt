@@ -31,11 +31,11 @@ use Rattle.lvm_stamps.proofs.Records.{later_may_go, shown_is_before}
 use Rattle.lvm_status.specs.Update.{Updates, no_disks, seen}
 use Rattle.lvm_status.specs.Update.{members_there as there_by}
 use Rattle.lvm_status.specs.Calls.{with_start, with_update}
-use Rattle.lvm_write.specs.Homes.{next_slot, second_slots}
+use Rattle.lvm_homes.specs.Homes.{next_slot, second_slots}
 use Rattle.lvm_session.specs.declared.open.Power.TheVariants as power
 use Rattle.lvm_session.specs.State.{Core, State as Session, is_there}
-use Rattle.lvm_events.specs.Events.{StartsStatus}
-use Rattle.lvm_sound.specs.Sound.{IsSound}
+use Rattle.lvm_session.specs.Events.{StartsStatus}
+use Rattle.lvm_session.specs.Sound.{IsSound}
 use Rattle.lvm_invariant.specs.State.{Marks, State}
 use Rattle.lvm_invariant.specs.Found.{Found}
 use Rattle.lvm_crash.specs.Session.{as_marks, marks_shown, members_there}

@@ -36,7 +36,7 @@ use Rattle.lvm_session.specs.declared.flown.Owner.TheVariants as owner
 use Rattle.lvm_session.specs.State.{Core, State as Session, state, is_there}
 use Rattle.lvm_session.specs.Judging.{is_missing, group_of, is_waiting, IsWithin}
 use Rattle.lvm_session.specs.Enabled.{wants_record, is_unnamed, note_due}
-use Rattle.lvm_events.specs.Events.{with_flight, flown, StartsNote}
+use Rattle.lvm_session.specs.Events.{with_flight, flown, StartsNote}
 use Rattle.lvm_invariant.specs.State.{Groups, State}
 use Rattle.lvm_invariant.specs.StartNote.{StartsNote as NoteStarts}
 use Rattle.lvm_invariant.specs.Events.{StartNote}
@@ -46,7 +46,7 @@ use Rattle.lvm_tie_shelf.proofs.Flying.{writes_at}
 use Rattle.lvm_tie_shelf.proofs.Quiet.{quiet_lasts, update_goes_on}
 use Rattle.lvm_tie_shelf.proofs.Writing.{and_both}
 use Rattle.lvm_tie_shelf.specs.Owned.{UpdateSince, OnlyUpdateSince}
-use Rattle.lvm_sound.specs.Sound.{IsSound}
+use Rattle.lvm_session.specs.Sound.{IsSound}
 use Rattle.lvm_tie.proofs.Judged.{aimed_of, copy_is_one, on_member, missing_seen}
 use Rattle.lvm_tie.proofs.Orderly.{open_one, orderly_same, out_of}
 use Rattle.lvm_tie.proofs.Words.{not_true}

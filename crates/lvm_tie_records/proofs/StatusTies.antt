@@ -24,15 +24,15 @@ use Rattle.lvm_kept.proofs.Planned.{plan_begins}
 use Rattle.lvm_stamps.specs.Laws.{IsNoLater}
 use Rattle.lvm_stamps.proofs.Stamps.{later_is_after_too}
 use Rattle.lvm_commit.specs.Committed.{next_stamp}
-use Rattle.lvm_write.specs.declared.homes.Homes.{Homes}
+use Rattle.lvm_homes.specs.declared.homes.Homes.{Homes}
 use Rattle.lvm_status.specs.Update.{Stored, Updates, seen, is_held, MayStart}
 use Rattle.lvm_status.specs.Calls.{with_update, with_start}
 use Rattle.lvm_session.specs.declared.flown.Flown.{Flown}
 use Rattle.lvm_session.specs.declared.flown.Owner.{Owner}
 use Rattle.lvm_session.specs.declared.flown.Owner.TheVariants as owner
 use Rattle.lvm_session.specs.State.{Core, State as Session, state, is_there}
-use Rattle.lvm_events.specs.Events.{StartsStatus, flown}
-use Rattle.lvm_sound.specs.Sound.{IsSound}
+use Rattle.lvm_session.specs.Events.{StartsStatus, flown}
+use Rattle.lvm_session.specs.Sound.{IsSound}
 use Rattle.lvm_invariant.specs.State.{Marks, State}
 use Rattle.lvm_invariant.specs.Found.{Votes}
 use Rattle.lvm_invariant.specs.Good.{Good}

@@ -2,9 +2,9 @@
 use Rattle.std.specs.Prelude.{ℕ, List}
 use Rattle.lvm_num.specs.Status.{IsValidStatus}
 use Rattle.lvm_vol.specs.Facts.{Fact}
-use Rattle.lvm_events.specs.Events.{StartsNote, StartsStatus}
+use Rattle.lvm_session.specs.Events.{StartsNote, StartsStatus}
 use Rattle.lvm_session.specs.State.{State as Session}
-use Rattle.lvm_sound.specs.Sound.{IsSound}
+use Rattle.lvm_session.specs.Sound.{IsSound}
 use Rattle.lvm_tie.specs.Tied.{IsTied, Ties}
 
 -- The write of a note that starts leaves a tied session tied.

@@ -49,10 +49,10 @@ use Rattle.lvm_session.specs.declared.flown.Owner.TheVariants as owner
 use Rattle.lvm_session.specs.State.{Core, State as Session, state}
 use Rattle.lvm_session.specs.Judging.{is_waiting, is_running, is_usable, is_missing, is_caught, is_held_back, copies_for, group_in, mode_of, policy_of, place_of, held_of, facts_of, next_for, aims, IsWithin}
 use Rattle.lvm_session.specs.Bringing.{is_out, is_whole, step_row, groups_of}
-use Rattle.lvm_events.specs.Events.{Admits, Chooses, ChoosesBy, copy_of, last_after, loads_of, makes_dirty, target_at, usable_from, without_pin}
-use Rattle.lvm_events.specs.Marks.{WantsDirty, WantsDirtyIf}
-use Rattle.lvm_sound.specs.Requests.{IsPhase, IsRequest}
-use Rattle.lvm_sound.specs.Sound.{IsSound}
+use Rattle.lvm_session.specs.Events.{Admits, Chooses, ChoosesBy, copy_of, last_after, loads_of, makes_dirty, target_at, usable_from, without_pin}
+use Rattle.lvm_session.specs.Marks.{WantsDirty, WantsDirtyIf}
+use Rattle.lvm_session.specs.Requests.{IsPhase, IsRequest}
+use Rattle.lvm_session.specs.Sound.{IsSound}
 use Rattle.lvm_invariant.specs.State.{Marks, Stage, Phase, Held, WantEntry, Ready, Going, Landed, OpenCopy, Queued, State, covers, is_past, has_landed}
 use Rattle.lvm_invariant.specs.Updates.{is_pp, put}
 use Rattle.lvm_invariant.specs.Sound.{Conflict}

@@ -33,9 +33,9 @@ use Rattle.lvm_session.specs.State.{Core, State as Session, state}
 use Rattle.lvm_session.specs.Judging.{facts_of, group_of, is_running, is_waiting, mode_of, next_for, place_of}
 use Rattle.lvm_session.specs.Bringing.{is_out, is_whole}
 use Rattle.lvm_session.specs.Enabled.{can_pin, is_pin}
-use Rattle.lvm_events.specs.Events.{Pins}
-use Rattle.lvm_sound.specs.Requests.{IsPinned, IsRecorded, IsReady}
-use Rattle.lvm_sound.specs.Sound.{IsSound, pins}
+use Rattle.lvm_session.specs.Events.{Pins}
+use Rattle.lvm_session.specs.Requests.{IsPinned, IsRecorded, IsReady}
+use Rattle.lvm_session.specs.Sound.{IsSound, pins}
 use Rattle.lvm_keeps.proofs.Nexts.{pins_entry}
 use Rattle.lvm_invariant.specs.State.{Queued, Ready, State, is_pinning}
 use Rattle.lvm_invariant.specs.Updates.{put}

@@ -33,10 +33,10 @@ use Rattle.lvm_session.specs.State.{Core, State as Session, state}
 use Rattle.lvm_session.specs.Judging.{is_running, place_of, IsWithin}
 use Rattle.lvm_session.specs.Bringing.{has_row, is_out, is_whole}
 use Rattle.lvm_session.specs.declared.bringing.Step.{Step}
-use Rattle.lvm_events.specs.declared.answers.AskFault.{AskFault}
-use Rattle.lvm_events.specs.Calls.{ask_fault, new_open, submitted}
-use Rattle.lvm_sound.specs.Asking.{IsAsking}
-use Rattle.lvm_sound.specs.Sound.{IsSound}
+use Rattle.lvm_session.specs.declared.answers.AskFault.{AskFault}
+use Rattle.lvm_session.specs.Calls.{ask_fault, new_open, submitted}
+use Rattle.lvm_session.specs.Asking.{IsAsking}
+use Rattle.lvm_session.specs.Sound.{IsSound}
 use Rattle.lvm_submit.proofs.Numbered.{below_next, count_begun}
 use Rattle.lvm_invariant.specs.State.{Held, Queued, State, covers}
 use Rattle.lvm_invariant.specs.Submit.{IsPlaced, Submits, submitted as sees_submitted}

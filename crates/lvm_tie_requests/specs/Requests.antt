@@ -2,12 +2,12 @@
 use Rattle.std.specs.Prelude.{ℕ, List, Option, Result}
 use Rattle.lvm_vol.specs.Facts.{Fact}
 use Rattle.lvm_path.specs.declared.ask.Ask.{Ask}
-use Rattle.lvm_events.specs.declared.answers.AskFault.{AskFault}
-use Rattle.lvm_events.specs.Calls.{SubmitGives}
-use Rattle.lvm_events.specs.Events.{Admits, Pins}
+use Rattle.lvm_session.specs.declared.answers.AskFault.{AskFault}
+use Rattle.lvm_session.specs.Calls.{SubmitGives}
+use Rattle.lvm_session.specs.Events.{Admits, Pins}
 use Rattle.lvm_session.specs.State.{Core, State as Session, state}
-use Rattle.lvm_sound.specs.Asking.{IsAsking}
-use Rattle.lvm_sound.specs.Sound.{IsSound}
+use Rattle.lvm_session.specs.Asking.{IsAsking}
+use Rattle.lvm_session.specs.Sound.{IsSound}
 use Rattle.lvm_tie.specs.Tied.{IsTied, Ties}
 
 -- A request that is submitted, or isn't taken, leaves a tied session tied.

@@ -22,7 +22,7 @@ use Rattle.lvm_session.specs.declared.bringing.CopyEnd.{CopyEnd}
 use Rattle.lvm_session.specs.State.{Core, is_there}
 use Rattle.lvm_session.specs.Judging.{is_usable, is_stale, is_missing, is_wanted_stale}
 use Rattle.lvm_session.specs.Bringing.{marked_by_end}
-use Rattle.lvm_events.specs.Marks.{WantsStale, can_replace, is_among, is_left_behind, is_entailed_in, is_entailed}
+use Rattle.lvm_session.specs.Marks.{WantsStale, can_replace, is_among, is_left_behind, is_entailed_in, is_entailed}
 use Rattle.lvm_invariant.specs.State.{Marks, OpenCopy, State}
 use Rattle.lvm_invariant.specs.Want.{Replaced, Wants}
 use Rattle.lvm_crash.specs.Session.{marks_of, HasVolumes}

@@ -15,7 +15,7 @@ use Rattle.lvm_session.specs.declared.bringing.CopyEnd.TheVariants as ending
 use Rattle.lvm_session.specs.State.{Core, State as Session, is_there}
 use Rattle.lvm_session.specs.Judging.{is_missing, is_running, is_stale, is_wanted_stale}
 use Rattle.lvm_session.specs.Bringing.{copy_ends, end_by_sources, end_of, ends_if, groups_of, is_cleared, is_done_end, is_idle, is_whole, marked_by_end, next_source, sources_of}
-use Rattle.lvm_events.specs.Marks.{Reviews, is_entailed}
+use Rattle.lvm_session.specs.Marks.{Reviews, is_entailed}
 use Rattle.lvm_invariant.specs.State.{OpenCopy, State}
 use Rattle.lvm_invariant.specs.Want.{Wants}
 use Rattle.lvm_crash.specs.Session.{HasVolumes, marks_of}

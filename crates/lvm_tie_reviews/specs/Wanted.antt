@@ -8,7 +8,7 @@ use Rattle.lvm_session.specs.declared.bringing.OpenCopy.{OpenCopy as Bringing}
 use Rattle.lvm_session.specs.State.{Core, is_there}
 use Rattle.lvm_session.specs.Judging.{is_running, is_stale, is_wanted_stale}
 use Rattle.lvm_session.specs.Bringing.{copy_ends, is_whole}
-use Rattle.lvm_events.specs.Marks.{Reviews}
+use Rattle.lvm_session.specs.Marks.{Reviews}
 use Rattle.lvm_invariant.specs.State.{OpenCopy, State}
 use Rattle.lvm_invariant.specs.Want.{Wants}
 use Rattle.lvm_crash.specs.Session.{HasVolumes, marks_of}

@@ -23,8 +23,8 @@ use Rattle.lvm_session.specs.State.{Core, State as Session}
 use Rattle.lvm_session.specs.Judging.{copies_in, held_of, is_missing, is_running, is_stale, is_usable, is_waiting, place_of}
 use Rattle.lvm_session.specs.Bringing.{block_at, groups_of, has_row, is_idle, is_out, is_whole, step_of}
 use Rattle.lvm_session.specs.Enabled.{is_free_step}
-use Rattle.lvm_events.specs.Events.{ReadsCopy, flown}
-use Rattle.lvm_sound.specs.Sound.{IsSound}
+use Rattle.lvm_session.specs.Events.{ReadsCopy, flown}
+use Rattle.lvm_session.specs.Sound.{IsSound}
 use Rattle.lvm_invariant.specs.State.{Flying, Going, Held, Landed, Phase, Queued, Ready, Stage, State, Todo, WantEntry, has_landed, is_past, is_usable as sees_usable}
 use Rattle.lvm_invariant.specs.Updates.{is_pp, put, with_req}
 use Rattle.lvm_invariant.specs.Sound.{Conflict}

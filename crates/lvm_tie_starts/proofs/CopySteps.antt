@@ -18,8 +18,8 @@ use Rattle.lvm_session.specs.declared.flown.Owner.TheVariants as owner
 use Rattle.lvm_session.specs.State.{Core, State as Session, state}
 use Rattle.lvm_session.specs.Judging.{is_running, place_of}
 use Rattle.lvm_session.specs.Bringing.{block_at, groups_of, has_row, is_out}
-use Rattle.lvm_events.specs.Events.{flown}
-use Rattle.lvm_sound.specs.Sound.{IsSound}
+use Rattle.lvm_session.specs.Events.{flown}
+use Rattle.lvm_session.specs.Sound.{IsSound}
 use Rattle.lvm_invariant.specs.State.{Flying, Going, Groups, Held, Landed, Phase, Queued, Ready, Stage, State, StepWrite, Todo, WantEntry, covers, has_landed, is_past, is_usable as sees_usable}
 use Rattle.lvm_invariant.specs.Good.{Good}
 use Rattle.lvm_crash.specs.Session.{Describes, members_there}

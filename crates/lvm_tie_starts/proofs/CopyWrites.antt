@@ -13,8 +13,8 @@ use Rattle.lvm_session.specs.declared.flown.Owner.TheVariants as owner
 use Rattle.lvm_session.specs.State.{Core, State as Session}
 use Rattle.lvm_session.specs.Judging.{is_running}
 use Rattle.lvm_session.specs.Bringing.{block_at, hand_of, has_row, is_idle, is_out, is_whole}
-use Rattle.lvm_events.specs.Events.{WritesCopy, flown}
-use Rattle.lvm_sound.specs.Sound.{IsCopy, IsSound}
+use Rattle.lvm_session.specs.Events.{WritesCopy, flown}
+use Rattle.lvm_session.specs.Sound.{IsCopy, IsSound}
 use Rattle.lvm_invariant.specs.State.{Queued, State, StepWrite, is_past}
 use Rattle.lvm_invariant.specs.CopyWrite.{copied}
 use Rattle.lvm_invariant.specs.Events.{CopyWrite, Step as GoodStep}

@@ -13,9 +13,9 @@ use Rattle.lvm_session.specs.declared.open.Open.{Open}
 use Rattle.lvm_session.specs.State.{Core, State as Session}
 use Rattle.lvm_session.specs.Judging.{facts_of, is_waiting}
 use Rattle.lvm_session.specs.Enabled.{target_next}
-use Rattle.lvm_events.specs.Events.{StartsData}
-use Rattle.lvm_sound.specs.Requests.{IsPhase, IsRequest}
-use Rattle.lvm_sound.specs.Sound.{IsSound}
+use Rattle.lvm_session.specs.Events.{StartsData}
+use Rattle.lvm_session.specs.Requests.{IsPhase, IsRequest}
+use Rattle.lvm_session.specs.Sound.{IsSound}
 use Rattle.lvm_tie.specs.Tied.{IsOrderly, IsTied}
 use Rattle.lvm_tie.proofs.Orderly.{open_one, orderly_same, waiting_one}
 use Rattle.lvm_tie_starts.specs.Starts.{DataStartTies}

@@ -13,7 +13,7 @@ use Rattle.lvm_path.specs.Next.{with_start}
 use Rattle.lvm_session.specs.declared.open.Open.{Open}
 use Rattle.lvm_session.specs.State.{State as Session}
 use Rattle.lvm_session.specs.Judging.{is_waiting as is_open_waiting, place_of}
-use Rattle.lvm_events.specs.Events.{StartsData}
+use Rattle.lvm_session.specs.Events.{StartsData}
 use Rattle.lvm_invariant.specs.State.{Flying, Well, Going, Queued, State, is_past}
 use Rattle.lvm_invariant.specs.Updates.{is_pp, staged}
 use Rattle.lvm_invariant.specs.Transfer.{Restages}

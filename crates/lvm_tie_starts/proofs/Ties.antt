@@ -28,7 +28,7 @@ use Rattle.lvm_session.specs.declared.flown.Owner.TheVariants as owner
 use Rattle.lvm_session.specs.State.{Core, State as Session, state}
 use Rattle.lvm_session.specs.Judging.{is_running, place_of}
 use Rattle.lvm_session.specs.Bringing.{is_out, is_whole}
-use Rattle.lvm_events.specs.Events.{with_open, with_flight, flown}
+use Rattle.lvm_session.specs.Events.{with_open, with_flight, flown}
 use Rattle.lvm_invariant.specs.State.{Queued, State}
 use Rattle.lvm_invariant.specs.Updates.{put}
 use Rattle.lvm_invariant.specs.Events.{Event, Step as GoodStep}

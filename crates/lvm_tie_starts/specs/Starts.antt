@@ -1,6 +1,6 @@
 -- The starts of transfers of data.
 use Rattle.std.specs.Prelude.{ℕ}
-use Rattle.lvm_events.specs.Events.{ReadsCopy, StartsData, WritesCopy}
+use Rattle.lvm_session.specs.Events.{ReadsCopy, StartsData, WritesCopy}
 use Rattle.lvm_tie.specs.Tied.{Ties}
 
 -- A transfer of a request that starts leaves a tied session tied: the first of a write, a further one, and one of a read.

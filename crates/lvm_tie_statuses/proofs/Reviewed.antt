@@ -24,9 +24,9 @@ use Rattle.lvm_session.specs.declared.flown.Owner.TheVariants as owner
 use Rattle.lvm_session.specs.State.{Core, State as Session, is_there}
 use Rattle.lvm_session.specs.Judging.{is_missing, is_running, is_stale, is_wanted_stale}
 use Rattle.lvm_session.specs.Bringing.{copy_ends, end_of, is_cleared, is_done_end, is_whole, marked_by_end}
-use Rattle.lvm_events.specs.Marks.{Reviews, is_entailed}
-use Rattle.lvm_events.specs.Ends.{Returns, StatusLearns, with_return}
-use Rattle.lvm_sound.specs.Sound.{IsGoing}
+use Rattle.lvm_session.specs.Marks.{Reviews, is_entailed}
+use Rattle.lvm_session.specs.Ends.{Returns, StatusLearns, with_return}
+use Rattle.lvm_session.specs.Sound.{IsGoing}
 use Rattle.lvm_invariant.specs.State.{Marks, OpenCopy, State}
 use Rattle.lvm_invariant.specs.Good.{Good}
 use Rattle.lvm_invariant.specs.Want.{Wants}

@@ -17,7 +17,7 @@ use Rattle.lvm_kept.specs.Contents.{Contents, contents_of}
 use Rattle.lvm_kept.specs.Torn.{RecordWrite}
 use Rattle.lvm_status.specs.Update.{Stored, Updates, is_held, is_owed, seen}
 use Rattle.lvm_status.specs.Calls.{comes_held, with_end as with_write_end}
-use Rattle.lvm_write.specs.declared.homes.Homes.{Homes}
+use Rattle.lvm_homes.specs.declared.homes.Homes.{Homes}
 use Rattle.lvm_session.specs.declared.bringing.OpenCopy.{OpenCopy as Bringing}
 use Rattle.lvm_session.specs.declared.bringing.CopyEnd.{CopyEnd}
 use Rattle.lvm_session.specs.declared.flown.Flown.{Flown}
@@ -25,8 +25,8 @@ use Rattle.lvm_session.specs.declared.flown.Owner.{Owner}
 use Rattle.lvm_session.specs.declared.flown.Owner.TheVariants as owner
 use Rattle.lvm_session.specs.State.{Core, State as Session, is_there, state}
 use Rattle.lvm_session.specs.Bringing.{after_copy_end, with_end}
-use Rattle.lvm_events.specs.Ends.{Returns, StatusLearns}
-use Rattle.lvm_sound.specs.Sound.{IsGoing, IsSound}
+use Rattle.lvm_session.specs.Ends.{Returns, StatusLearns}
+use Rattle.lvm_session.specs.Sound.{IsGoing, IsSound}
 use Rattle.lvm_invariant.specs.State.{Marks, State}
 use Rattle.lvm_invariant.specs.Good.{Good}
 use Rattle.lvm_crash.specs.Session.{Describes, as_marks, marks_of, members_there}

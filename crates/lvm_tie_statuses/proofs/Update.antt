@@ -26,12 +26,12 @@ use Rattle.lvm_stamps.proofs.Writes.{record_keeps_before}
 use Rattle.lvm_begin.proofs.Slots.{other_comes_next, slot_for_same}
 use Rattle.lvm_commit.specs.Committed.{next_stamp}
 use Rattle.lvm_status.specs.Update.{Stored, members_there as there_by}
-use Rattle.lvm_write.specs.declared.homes.Homes.{Homes}
-use Rattle.lvm_write.specs.Homes.{next_slot, second_slots}
+use Rattle.lvm_homes.specs.declared.homes.Homes.{Homes}
+use Rattle.lvm_homes.specs.Homes.{next_slot, second_slots}
 use Rattle.lvm_session.specs.declared.flown.Flown.{Flown}
 use Rattle.lvm_session.specs.declared.flown.Owner.TheVariants as owner
 use Rattle.lvm_session.specs.State.{Core, State as Session}
-use Rattle.lvm_events.specs.Ends.{FlipsIf, Returns}
+use Rattle.lvm_session.specs.Ends.{FlipsIf, Returns}
 use Rattle.lvm_invariant.specs.State.{State}
 use Rattle.lvm_invariant.specs.Good.{Good}
 use Rattle.lvm_invariant.specs.MoveStatus.{moved}

@@ -11,8 +11,8 @@ use Rattle.lvm_session.specs.declared.flown.Owner.TheVariants as owner
 use Rattle.lvm_session.specs.State.{State as Session}
 use Rattle.lvm_session.specs.Judging.{is_running}
 use Rattle.lvm_session.specs.Bringing.{is_whole}
-use Rattle.lvm_events.specs.Ends.{Returns, StepLeaves, StepLearns}
-use Rattle.lvm_sound.specs.Sound.{IsSound}
+use Rattle.lvm_session.specs.Ends.{Returns, StepLeaves, StepLearns}
+use Rattle.lvm_session.specs.Sound.{IsSound}
 use Rattle.lvm_tie.specs.Tied.{IsTied}
 use Rattle.lvm_tie_steps.specs.Steps.{CopyEndTies, CopyGroupTies}
 use Rattle.lvm_tie_steps.proofs.Quits.{copy_quit_ties}

@@ -10,8 +10,8 @@ use Rattle.lvm_session.specs.declared.bringing.CopyEnd.TheVariants as ending
 use Rattle.lvm_session.specs.declared.bringing.Step.TheVariants as step
 use Rattle.lvm_session.specs.State.{Core, State as Session, state}
 use Rattle.lvm_session.specs.Bringing.{is_idle, is_whole, marked_by_end, with_end}
-use Rattle.lvm_events.specs.Ends.{with_copy, with_return}
-use Rattle.lvm_sound.specs.Sound.{IsSound}
+use Rattle.lvm_session.specs.Ends.{with_copy, with_return}
+use Rattle.lvm_session.specs.Sound.{IsSound}
 use Rattle.lvm_keeps_ends.specs.Ends.{EndsWrite}
 use Rattle.lvm_invariant.specs.State.{State}
 use Rattle.lvm_tie.specs.Tied.{IsTied}

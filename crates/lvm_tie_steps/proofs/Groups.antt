@@ -15,9 +15,9 @@ use Rattle.lvm_session.specs.declared.bringing.CopyEnd.{CopyEnd}
 use Rattle.lvm_session.specs.State.{Core, State as Session, state}
 use Rattle.lvm_session.specs.Judging.{place_of}
 use Rattle.lvm_session.specs.Bringing.{block_at, copy_ends, groups_of, has_row, is_done_end, is_whole, marked_by_end, step_place, with_copy_end, with_end}
-use Rattle.lvm_events.specs.Ends.{with_step}
-use Rattle.lvm_events.specs.Marks.{Reviews, is_entailed}
-use Rattle.lvm_sound.specs.Sound.{IsSound}
+use Rattle.lvm_session.specs.Ends.{with_step}
+use Rattle.lvm_session.specs.Marks.{Reviews, is_entailed}
+use Rattle.lvm_session.specs.Sound.{IsSound}
 use Rattle.lvm_submit.proofs.Numbered.{below_next}
 use Rattle.lvm_keeps_group.specs.Ends.{EndsGroup}
 use Rattle.lvm_invariant.specs.State.{Held, Queued, State}
@@ -59,7 +59,7 @@ module _ (past : List Fact) (old new : Session) (at : ℕ) (tied : IsTied past o
   on_is : event.passes.on ≡ on
   on_is = by (is_whole core e) short (goes past old new at tied sectors event)
     where
-      by : (b : Bool) → b ≡ false → Rattle.lvm_events.specs.Ends.GoesOn b (mid past old new at tied sectors event) e event.passes.on → event.passes.on ≡ on
+      by : (b : Bool) → b ≡ false → Rattle.lvm_session.specs.Ends.GoesOn b (mid past old new at tied sectors event) e event.passes.on → event.passes.on ≡ on
       by false is its = its
       by true is its = absurd (cc is)
 

@@ -22,7 +22,7 @@ use Rattle.lvm_stamps.proofs.Writes.{data_keeps_before}
 use Rattle.lvm_commit.specs.Committed.{next_stamp}
 use Rattle.lvm_commit.proofs.Slots.{slot_for_same}
 use Rattle.lvm_status.specs.Update.{Stored}
-use Rattle.lvm_write.specs.declared.homes.Homes.{Homes}
+use Rattle.lvm_homes.specs.declared.homes.Homes.{Homes}
 use Rattle.lvm_session.specs.declared.bringing.OpenCopy.{OpenCopy as Bringing}
 use Rattle.lvm_session.specs.declared.bringing.Step.{Step}
 use Rattle.lvm_session.specs.declared.bringing.Step.TheVariants as step
@@ -31,8 +31,8 @@ use Rattle.lvm_session.specs.declared.flown.Owner.TheVariants as owner
 use Rattle.lvm_session.specs.State.{Core, State as Session}
 use Rattle.lvm_session.specs.Judging.{is_running}
 use Rattle.lvm_session.specs.Bringing.{has_row, is_out, is_whole}
-use Rattle.lvm_events.specs.Ends.{Returns}
-use Rattle.lvm_events.specs.Events.{IsCopyTransfer}
+use Rattle.lvm_session.specs.Ends.{Returns}
+use Rattle.lvm_session.specs.Events.{IsCopyTransfer}
 use Rattle.lvm_invariant.specs.State.{OpenCopy, Queued, State, is_past}
 use Rattle.lvm_invariant.specs.CopyWrite.{copied}
 use Rattle.lvm_invariant.specs.Events.{CopyWrite}

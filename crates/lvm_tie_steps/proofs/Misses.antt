@@ -10,9 +10,9 @@ use Rattle.lvm_session.specs.declared.bringing.CopyEnd.{CopyEnd}
 use Rattle.lvm_session.specs.declared.bringing.Step.TheVariants as step
 use Rattle.lvm_session.specs.State.{Core, State as Session, state}
 use Rattle.lvm_session.specs.Bringing.{copy_ends, is_done_end, is_idle, is_whole, marked_by_end, with_copy_end, with_end}
-use Rattle.lvm_events.specs.Ends.{with_copy, with_return}
-use Rattle.lvm_events.specs.Marks.{is_entailed}
-use Rattle.lvm_sound.specs.Sound.{IsSound}
+use Rattle.lvm_session.specs.Ends.{with_copy, with_return}
+use Rattle.lvm_session.specs.Marks.{is_entailed}
+use Rattle.lvm_session.specs.Sound.{IsSound}
 use Rattle.lvm_keeps_ends.specs.Ends.{EndsMiss}
 use Rattle.lvm_invariant.specs.State.{Badly, Flying, Queued, State, is_past}
 use Rattle.lvm_invariant.specs.CopyWrite.{copied}

@@ -12,8 +12,8 @@ use Rattle.lvm_session.specs.declared.bringing.Step.TheVariants as step
 use Rattle.lvm_session.specs.State.{Core, State as Session}
 use Rattle.lvm_session.specs.Judging.{is_missing, is_stale}
 use Rattle.lvm_session.specs.Bringing.{block_at, groups_of, is_idle, is_whole, step_place}
-use Rattle.lvm_events.specs.Ends.{GoesOn, with_return, without_step}
-use Rattle.lvm_sound.specs.Sound.{IsCopy}
+use Rattle.lvm_session.specs.Ends.{GoesOn, with_return, without_step}
+use Rattle.lvm_session.specs.Sound.{IsCopy}
 use Rattle.lvm_keeps_group.specs.Ends.{EndsGroup}
 use Rattle.lvm_invariant.specs.State.{OpenCopy, Queued, State, covers}
 use Rattle.lvm_invariant.specs.CopyWrite.{copied}

@@ -8,8 +8,8 @@ use Rattle.lvm_session.specs.declared.bringing.Step.{Step}
 use Rattle.lvm_session.specs.declared.bringing.Step.TheVariants as step
 use Rattle.lvm_session.specs.State.{Core, State as Session, state}
 use Rattle.lvm_session.specs.Bringing.{groups_of}
-use Rattle.lvm_events.specs.Ends.{after_quit}
-use Rattle.lvm_sound.specs.Sound.{IsSound}
+use Rattle.lvm_session.specs.Ends.{after_quit}
+use Rattle.lvm_session.specs.Sound.{IsSound}
 use Rattle.lvm_keeps_ends.specs.Ends.{EndsQuit}
 use Rattle.lvm_invariant.specs.State.{State}
 use Rattle.lvm_tie.specs.Seen.{SeesCopy, SeesRunning}

@@ -9,8 +9,8 @@ use Rattle.lvm_session.specs.declared.bringing.OpenCopy.{OpenCopy as Bringing}
 use Rattle.lvm_session.specs.declared.bringing.Step.TheVariants as step
 use Rattle.lvm_session.specs.State.{Core, State as Session, state}
 use Rattle.lvm_session.specs.Bringing.{is_idle, is_whole}
-use Rattle.lvm_events.specs.Ends.{after_read}
-use Rattle.lvm_sound.specs.Sound.{IsCopy, IsSound}
+use Rattle.lvm_session.specs.Ends.{after_read}
+use Rattle.lvm_session.specs.Sound.{IsCopy, IsSound}
 use Rattle.lvm_keeps_ends.specs.Ends.{EndsRead}
 use Rattle.lvm_invariant.specs.State.{Flying, Queued, State, Well, covers, is_past}
 use Rattle.lvm_invariant.specs.CopyWrite.{copied}

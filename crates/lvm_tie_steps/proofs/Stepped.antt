@@ -18,8 +18,8 @@ use Rattle.lvm_session.specs.declared.flown.Owner.TheVariants as owner
 use Rattle.lvm_session.specs.State.{Core, State as Session, state}
 use Rattle.lvm_session.specs.Judging.{is_running, place_of}
 use Rattle.lvm_session.specs.Bringing.{block_at, groups_of, has_row, is_out, is_whole}
-use Rattle.lvm_events.specs.Ends.{Returns}
-use Rattle.lvm_sound.specs.Sound.{IsCopy, IsSound}
+use Rattle.lvm_session.specs.Ends.{Returns}
+use Rattle.lvm_session.specs.Sound.{IsCopy, IsSound}
 use Rattle.lvm_invariant.specs.State.{OpenCopy, Queued, State, has_landed}
 use Rattle.lvm_invariant.specs.CopyWrite.{copied}
 use Rattle.lvm_invariant.specs.Updates.{put, with_block}

@@ -27,9 +27,9 @@ use Rattle.lvm_session.specs.declared.bringing.CopyEnd.TheVariants as ending
 use Rattle.lvm_session.specs.State.{Core, State as Session, state}
 use Rattle.lvm_session.specs.Judging.{is_missing, is_running, is_stale, is_wanted_stale, place_of}
 use Rattle.lvm_session.specs.Bringing.{copy_ends, end_by_sources, ends_if, groups_of, has_row, is_cleared, is_whole, marked_by_end, with_end}
-use Rattle.lvm_events.specs.Ends.{GoesOn, with_copy}
-use Rattle.lvm_events.specs.Marks.{Reviews, WantsFresh, can_replace, is_among, is_entailed, is_entailed_in, is_left_behind}
-use Rattle.lvm_sound.specs.Sound.{IsSound}
+use Rattle.lvm_session.specs.Ends.{GoesOn, with_copy}
+use Rattle.lvm_session.specs.Marks.{Reviews, WantsFresh, can_replace, is_among, is_entailed, is_entailed_in, is_left_behind}
+use Rattle.lvm_session.specs.Sound.{IsSound}
 use Rattle.lvm_keeps_group.specs.Ends.{EndsGroup}
 use Rattle.lvm_invariant.specs.State.{Marks, Queued, State}
 use Rattle.lvm_invariant.specs.Clear.{Clears}

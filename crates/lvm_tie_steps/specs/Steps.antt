@@ -3,7 +3,7 @@ use Rattle.std.specs.Prelude.{◌≡◌, ℕ, Bool}
 use Rattle.lvm_disk.specs.Device.{HasSectors}
 use Rattle.lvm_session.specs.declared.flown.Owner.TheVariants as owner
 use Rattle.lvm_session.specs.State.{State as Session}
-use Rattle.lvm_events.specs.Ends.{CopyLearns, Ends}
+use Rattle.lvm_session.specs.Ends.{CopyLearns, Ends}
 use Rattle.lvm_keeps_ends.specs.Ends.{EndsMiss, EndsQuit, EndsRead, EndsWrite}
 use Rattle.lvm_keeps_group.specs.Ends.{EndsGroup}
 use Rattle.lvm_tie.specs.Tied.{Ties}

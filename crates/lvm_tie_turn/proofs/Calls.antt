@@ -11,12 +11,12 @@ use Rattle.lvm_session.specs.declared.open.Open.{Open}
 use Rattle.lvm_session.specs.declared.open.Power.{Power}
 use Rattle.lvm_session.specs.declared.open.Power.TheVariants as power
 use Rattle.lvm_session.specs.State.{Core, state}
-use Rattle.lvm_events.specs.declared.answers.AskFault.{AskFault}
-use Rattle.lvm_events.specs.declared.answers.AskFault.TheVariants as fault
-use Rattle.lvm_events.specs.declared.answers.CopyFault.{CopyFault}
-use Rattle.lvm_events.specs.declared.answers.Taken.{Taken}
-use Rattle.lvm_events.specs.declared.answers.Taken.TheVariants as answered
-use Rattle.lvm_events.specs.Calls.{submitted, Opens, TakeAt, TakesLanded, TakeGives, ask_fault, copy_fault, fault_by, fault_on, is_asked}
+use Rattle.lvm_session.specs.declared.answers.AskFault.{AskFault}
+use Rattle.lvm_session.specs.declared.answers.AskFault.TheVariants as fault
+use Rattle.lvm_session.specs.declared.answers.CopyFault.{CopyFault}
+use Rattle.lvm_session.specs.declared.answers.Taken.{Taken}
+use Rattle.lvm_session.specs.declared.answers.Taken.TheVariants as answered
+use Rattle.lvm_session.specs.Calls.{submitted, Opens, TakeAt, TakesLanded, TakeGives, ask_fault, copy_fault, fault_by, fault_on, is_asked}
 use Rattle.lvm_tie_lands.proofs.TakeTies.{take_ties}
 use Rattle.lvm_tie_requests.proofs.SubmitTies.{submit_ties}
 use Rattle.lvm_tie_calls.proofs.CloseTies.{close_ties}

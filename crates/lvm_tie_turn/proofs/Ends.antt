@@ -5,8 +5,8 @@ use Rattle.lvm_vol.specs.Facts.{Fact}
 use Rattle.lvm_session.specs.declared.flown.Owner.{Owner}
 use Rattle.lvm_session.specs.declared.flown.Owner.TheVariants as owner
 use Rattle.lvm_session.specs.State.{State as Session}
-use Rattle.lvm_events.specs.Ends.{Ends, Learns}
-use Rattle.lvm_sound.specs.Sound.{IsSound}
+use Rattle.lvm_session.specs.Ends.{Ends, Learns}
+use Rattle.lvm_session.specs.Sound.{IsSound}
 use Rattle.lvm_tie.specs.Tied.{IsTied, Ties}
 use Rattle.lvm_tie_notes.proofs.NoteTies.{note_end_ties}
 use Rattle.lvm_tie_statuses.proofs.StatusTies.{status_end_ties}

@@ -14,8 +14,8 @@ use Rattle.lvm_session.specs.declared.flown.Owner.TheVariants as owner
 use Rattle.lvm_session.specs.State.{Core, State as Session}
 use Rattle.lvm_session.specs.Judging.{is_running}
 use Rattle.lvm_session.specs.Bringing.{after_copy_end, copy_ends, is_whole, with_end}
-use Rattle.lvm_events.specs.Marks.{Reviews, end_by_write}
-use Rattle.lvm_events.specs.Ends.{EndsAs, Ends, after_data, learned, with_copy, with_return, NoteLeaves, GoesOn, StepLeaves, StepLearns, Learns}
+use Rattle.lvm_session.specs.Marks.{Reviews, end_by_write}
+use Rattle.lvm_session.specs.Ends.{EndsAs, Ends, after_data, learned, with_copy, with_return, NoteLeaves, GoesOn, StepLeaves, StepLearns, Learns}
 
 end_history : (core : Core) (how : Option CopyEnd) → (with_end core how).history ≡ core.history
 end_history core None = refl

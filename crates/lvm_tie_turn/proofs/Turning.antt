@@ -7,10 +7,10 @@ use Rattle.lvm_session.specs.declared.event.Event.{Event}
 use Rattle.lvm_session.specs.declared.event.Event.TheVariants as event
 use Rattle.lvm_session.specs.declared.open.Power.TheVariants as power
 use Rattle.lvm_session.specs.State.{Core, State as Session, state}
-use Rattle.lvm_events.specs.declared.answers.Turned.{Turned}
-use Rattle.lvm_events.specs.declared.answers.Turned.TheVariants as turned
-use Rattle.lvm_events.specs.Turns.{Makes, Darkens, GoesOff, Finds, FindsNothing, FinishMakes, OnMakes, Moves as Made, NoStart, Finishes, WasDark, WasOff, WasOn}
-use Rattle.lvm_sound.specs.Sound.{IsSound}
+use Rattle.lvm_session.specs.declared.answers.Turned.{Turned}
+use Rattle.lvm_session.specs.declared.answers.Turned.TheVariants as turned
+use Rattle.lvm_session.specs.Turns.{Makes, Darkens, GoesOff, Finds, FindsNothing, FinishMakes, OnMakes, Moves as Made, NoStart, Finishes, WasDark, WasOff, WasOn}
+use Rattle.lvm_session.specs.Sound.{IsSound}
 use Rattle.lvm_tie.specs.Tied.{IsTied}
 use Rattle.lvm_tie_lands.proofs.Landings.{land_ties}
 use Rattle.lvm_tie_records.proofs.NoteTies.{note_start_ties}

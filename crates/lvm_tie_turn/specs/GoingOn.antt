@@ -8,14 +8,14 @@ use Rattle.lvm_kept.specs.Moments.{Moment}
 use Rattle.lvm_path.specs.declared.ask.Ask.{Ask}
 use Rattle.lvm_session.specs.declared.open.Power.TheVariants as power
 use Rattle.lvm_session.specs.State.{Core, State as Session, state}
-use Rattle.lvm_events.specs.declared.answers.AskFault.{AskFault}
-use Rattle.lvm_events.specs.declared.answers.CopyFault.{CopyFault}
-use Rattle.lvm_events.specs.declared.answers.Taken.{Taken}
-use Rattle.lvm_events.specs.declared.answers.Turned.{Turned}
-use Rattle.lvm_events.specs.Calls.{Closes, OpenGives, SubmitGives, TakeGives}
-use Rattle.lvm_events.specs.Turns.{Arranges, TurnMakes}
-use Rattle.lvm_sound.specs.Asking.{IsAsking}
-use Rattle.lvm_sound.specs.Sound.{IsSound}
+use Rattle.lvm_session.specs.declared.answers.AskFault.{AskFault}
+use Rattle.lvm_session.specs.declared.answers.CopyFault.{CopyFault}
+use Rattle.lvm_session.specs.declared.answers.Taken.{Taken}
+use Rattle.lvm_session.specs.declared.answers.Turned.{Turned}
+use Rattle.lvm_session.specs.Calls.{Closes, OpenGives, SubmitGives, TakeGives}
+use Rattle.lvm_session.specs.Turns.{Arranges, TurnMakes}
+use Rattle.lvm_session.specs.Asking.{IsAsking}
+use Rattle.lvm_session.specs.Sound.{IsSound}
 use Rattle.lvm_tie.specs.Tied.{IsGood, SpanGoesOn}
 
 -- From whatever moment its run is told: a good session is good after it, and a span goes on over what happens, so that at each moment of it the history is legal

@@ -9,7 +9,7 @@ use Rattle.lvm_path.specs.declared.target.Target.{Target}
 use Rattle.lvm_path.specs.Targets.{is_done, is_failed}
 use Rattle.lvm_session.specs.State.{Core}
 use Rattle.lvm_session.specs.Judging.{all_but_sure, is_sure, pps_of}
-use Rattle.lvm_events.specs.Marks.{is_among}
+use Rattle.lvm_session.specs.Marks.{is_among}
 use Rattle.lvm_invariant.specs.State.{Stage}
 use Rattle.lvm_invariant.specs.Updates.{is_pp}
 use Rattle.lvm_tie.proofs.Judged.{among_one}

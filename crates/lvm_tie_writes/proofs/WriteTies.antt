@@ -39,10 +39,10 @@ use Rattle.lvm_session.specs.declared.open.Power.TheVariants as power
 use Rattle.lvm_session.specs.State.{Core, State as Session, state}
 use Rattle.lvm_session.specs.Bringing.{after_copy_end, ends_if, is_done_end, is_out, is_whole, marked_by_end, with_back, with_end as with_copy_end}
 use Rattle.lvm_session.specs.Judging.{all_but_sure, is_kept, is_running, is_sure, is_waiting, place_of, pps_of}
-use Rattle.lvm_events.specs.Ends.{DataLearns, Ends, Learns, after_data, keeps_buffer, learned}
-use Rattle.lvm_events.specs.Events.{IsDataTransfer}
-use Rattle.lvm_events.specs.Marks.{Entails, WantsStale, due_of, due_targets, end_by_write, hits_copy, is_among}
-use Rattle.lvm_sound.specs.Sound.{IsSound}
+use Rattle.lvm_session.specs.Ends.{DataLearns, Ends, Learns, after_data, keeps_buffer, learned}
+use Rattle.lvm_session.specs.Events.{IsDataTransfer}
+use Rattle.lvm_session.specs.Marks.{Entails, WantsStale, due_of, due_targets, end_by_write, hits_copy, is_among}
+use Rattle.lvm_session.specs.Sound.{IsSound}
 use Rattle.lvm_invariant.specs.State.{Going, Marks, OpenCopy, Queued, Stage, State, covers}
 use Rattle.lvm_invariant.specs.Good.{Good}
 use Rattle.lvm_invariant.specs.Sound.{StaysFresh}

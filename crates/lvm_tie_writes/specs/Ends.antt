@@ -4,7 +4,7 @@ use Rattle.lvm_disk.specs.Device.{HasSectors}
 use Rattle.lvm_path.specs.Asks.{is_write}
 use Rattle.lvm_session.specs.declared.flown.Owner.TheVariants as owner
 use Rattle.lvm_session.specs.State.{State as Session}
-use Rattle.lvm_events.specs.Ends.{DataLearns, Ends}
+use Rattle.lvm_session.specs.Ends.{DataLearns, Ends}
 use Rattle.lvm_tie.specs.Tied.{Ties}
 
 -- a transfer of a request that writes has ended, well or badly

@@ -17,11 +17,11 @@ use Rattle.lvm_path.specs.declared.facts.Next.TheVariants as next
 use Rattle.lvm_session.specs.Judging.{next_for}
 use Rattle.lvm_session.specs.State.{State}
 use Rattle.lvm_status.specs.Calls.{BecomesDirty}
-use Rattle.lvm_sound.proofs.Small.{not_so, not_either}
-use Rattle.lvm_events.specs.Calls.{new_open}
-use Rattle.lvm_events.specs.Events.{Admits}
+use Rattle.lvm_session.proofs.Small.{not_so, not_either}
+use Rattle.lvm_session.specs.Calls.{new_open}
+use Rattle.lvm_session.specs.Events.{Admits}
 use Rattle.lvm_keeps_moves.proofs.Admission.{admission_keeps}
-use Rattle.lvm_sound.specs.Sound.{IsSound}
+use Rattle.lvm_session.specs.Sound.{IsSound}
 use Rattle.lvm_tie.specs.Tied.{IsTied}
 use Rattle.lvm_tie_requests.proofs.AdmitTies.{admit_ties}
 use Rattle.lvm_tied.specs.Worked.{making, a_write, waiting, table, targets, admitted, marked, AdmittedAreTied}

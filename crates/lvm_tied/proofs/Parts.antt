@@ -24,14 +24,14 @@ use Rattle.lvm_status.specs.Update.{seen}
 use Rattle.lvm_status.specs.Runs.{IsSound as IsSoundStatus}
 use Rattle.lvm_session.specs.State.{Core}
 use Rattle.lvm_session.specs.Judging.{is_missing, is_stale}
-use Rattle.lvm_events.specs.Marks.{is_among, can_replace, is_entailed}
+use Rattle.lvm_session.specs.Marks.{is_among, can_replace, is_entailed}
 use Rattle.lvm_crash.specs.Worked.{sizes}
 use Rattle.lvm_invariant.specs.First.{first_copy, second_copy}
-use Rattle.lvm_sound.specs.Left.{updates_left}
-use Rattle.lvm_sound.specs.Placed.{IsPlaced, ArePlaced}
-use Rattle.lvm_sound.specs.Sound.{IsFitting, IsSound}
-use Rattle.lvm_sound.proofs.Small.{not_either}
-use Rattle.lvm_sound.proofs.Parts.{idle_is_sound, none_written, zeros_at}
+use Rattle.lvm_session.specs.Left.{updates_left}
+use Rattle.lvm_session.specs.Placed.{IsPlaced, ArePlaced}
+use Rattle.lvm_session.specs.Sound.{IsFitting, IsSound}
+use Rattle.lvm_session.proofs.Small.{not_either}
+use Rattle.lvm_session.proofs.Parts.{idle_is_sound, none_written, zeros_at}
 use Rattle.lvm_keeps.specs.Begins.{IsUnused, IsCalm, Begins}
 use Rattle.lvm_keeps.proofs.Begin.{beginning_is_sound}
 use Rattle.lvm_rest.proofs.Examples.{valid}

@@ -25,8 +25,8 @@ use Rattle.lvm_crash.specs.Session.{marks_of, AreVotesOf, Describes}
 use Rattle.lvm_crash.proofs.Lists.{right_of}
 use Rattle.lvm_crash.proofs.Worked.{enough, its_marks, on_either}
 use Rattle.lvm_crash.proofs.WorkedShelf.{image, describes, fits_still}
-use Rattle.lvm_sound.proofs.Small.{not_so}
-use Rattle.lvm_sound.proofs.Parts.{not_marked}
+use Rattle.lvm_session.proofs.Small.{not_so}
+use Rattle.lvm_session.proofs.Parts.{not_marked}
 use Rattle.lvm_tie.specs.Seen.{SeesNote, Sees}
 use Rattle.lvm_tied.specs.Worked.{shown, table, making, core_of}
 use Rattle.lvm_tied.proofs.Parts.{no_note_flies, none_missing}

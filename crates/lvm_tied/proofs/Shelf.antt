@@ -21,13 +21,13 @@ use Rattle.lvm_kept.proofs.Standing.{zeros-sector}
 use Rattle.lvm_stamps.specs.Behind.{StampsBefore}
 use Rattle.lvm_stamps.specs.Laws.{IsWhole}
 use Rattle.lvm_commit.specs.Committed.{next_stamp}
-use Rattle.lvm_write.specs.Homes.{next_slot}
+use Rattle.lvm_homes.specs.Homes.{next_slot}
 use Rattle.lvm_crash.specs.Session.{members_there}
 use Rattle.lvm_crash.specs.Worked.{Shown, framed_group, framed_status, media_of, status_shown}
 use Rattle.lvm_crash.proofs.Worked.{base, behind}
 use Rattle.lvm_crash.proofs.Lists.{left_of, right_of}
 use Rattle.lvm_crash.proofs.WorkedShelf.{image, not-equal, no-magic, second_zero, status_held, status_none, statuses_on, the_status, descriptors}
-use Rattle.lvm_sound.proofs.Small.{not_so, not_either}
+use Rattle.lvm_session.proofs.Small.{not_so, not_either}
 use Rattle.lvm_tie.specs.Out.{MayUpdate}
 use Rattle.lvm_tie.specs.Tied.{ShowsRecords}
 use Rattle.lvm_tied.specs.Worked.{shown, core_of}

@@ -15,7 +15,7 @@ use Rattle.lvm_disk.specs.Steps.{Starts}
 use Rattle.lvm_status.specs.Update.{Stored, seen}
 use Rattle.lvm_status.specs.Calls.{with_update, with_start}
 use Rattle.lvm_crash.proofs.WorkedShelf.{not-equal}
-use Rattle.lvm_events.specs.Events.{Begins, IsStatusWrite, StartsStatus}
+use Rattle.lvm_session.specs.Events.{Begins, IsStatusWrite, StartsStatus}
 use Rattle.lvm_keeps_starts.proofs.StatusStart.{status_start_keeps}
 use Rattle.lvm_tie_records.proofs.StatusTies.{status_start_ties}
 use Rattle.lvm_tied.specs.Worked.{making, marked, record_write, recording, updated, updating, UpdatingIsTied}

@@ -22,8 +22,8 @@ use Rattle.lvm_session.specs.declared.flown.Owner.TheVariants as owner
 use Rattle.lvm_session.specs.declared.open.Power.TheVariants as power
 use Rattle.lvm_session.specs.State.{Core, State, state}
 use Rattle.lvm_session.specs.Judging.{aims}
-use Rattle.lvm_events.specs.Calls.{new_open, submitted}
-use Rattle.lvm_events.specs.Events.{admitted_as, after_admission, begun_as, target_at, with_flight, with_open}
+use Rattle.lvm_session.specs.Calls.{new_open, submitted}
+use Rattle.lvm_session.specs.Events.{admitted_as, after_admission, begun_as, target_at, with_flight, with_open}
 use Rattle.lvm_invariant.specs.First.{at_rest}
 use Rattle.lvm_crash.specs.Worked.{Shown, status_shown, device_of}
 use Rattle.lvm_tie.specs.Tied.{IsTied}

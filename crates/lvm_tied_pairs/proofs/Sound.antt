@@ -14,10 +14,10 @@ use Rattle.lvm_status.specs.Update.{seen}
 use Rattle.lvm_status.specs.Runs.{IsSound as IsSoundStatus}
 use Rattle.lvm_session.specs.State.{Core, State as Session, state}
 use Rattle.lvm_session.specs.Judging.{is_missing, is_stale}
-use Rattle.lvm_events.specs.Marks.{can_replace, is_among}
-use Rattle.lvm_sound.specs.Left.{updates_left}
-use Rattle.lvm_sound.specs.Sound.{IsFitting, IsSound}
-use Rattle.lvm_sound.proofs.Parts.{idle_is_sound, none_written, zeros_at}
+use Rattle.lvm_session.specs.Marks.{can_replace, is_among}
+use Rattle.lvm_session.specs.Left.{updates_left}
+use Rattle.lvm_session.specs.Sound.{IsFitting, IsSound}
+use Rattle.lvm_session.proofs.Parts.{idle_is_sound, none_written, zeros_at}
 use Rattle.lvm_keeps.specs.Begins.{Begins, IsCalm, IsUnused}
 use Rattle.lvm_keeps.proofs.Begin.{beginning_is_sound}
 use Rattle.lvm_rest.specs.Examples.{Pair, device_of, even_pair}

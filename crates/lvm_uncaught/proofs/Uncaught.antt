@@ -21,10 +21,10 @@ use Rattle.lvm_session.specs.declared.open.Open.{Open}
 use Rattle.lvm_session.specs.Bringing.{end_by_sources, end_of, ends_if, is_idle, is_whole, next_source, sources_of}
 use Rattle.lvm_session.specs.Judging.{copies_for, copies_in, group_in, is_caught, is_kept, is_running, is_settled, is_stale, is_sure, is_usable, is_waiting, is_wanted_stale, lp_of, pps_of}
 use Rattle.lvm_session.specs.State.{Core}
-use Rattle.lvm_events.specs.Marks.{is_among}
-use Rattle.lvm_sound.specs.Causes.{was_fresh}
-use Rattle.lvm_sound.specs.Requests.{is_failed_and_sure, is_left_out, IsJudged, IsOpenOne, IsPhase, IsRequest, IsTarget, may_lack, wants_status, will_be_kept}
-use Rattle.lvm_sound.specs.Sound.{IsCopy, IsGoing, may_be_fresh, stays_fresh}
+use Rattle.lvm_session.specs.Marks.{is_among}
+use Rattle.lvm_session.specs.Causes.{was_fresh}
+use Rattle.lvm_session.specs.Requests.{is_failed_and_sure, is_left_out, IsJudged, IsOpenOne, IsPhase, IsRequest, IsTarget, may_lack, wants_status, will_be_kept}
+use Rattle.lvm_session.specs.Sound.{IsCopy, IsGoing, may_be_fresh, stays_fresh}
 use Rattle.lvm_keeps.proofs.Lists.{all_at}
 use Rattle.lvm_keeps.proofs.Small.{both, not_either, not_so}
 use Rattle.lvm_keeps_moves.proofs.OnePlace.{one_lp}

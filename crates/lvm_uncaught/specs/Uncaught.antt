@@ -5,8 +5,8 @@ use Rattle.lvm_session.specs.declared.open.Open.{Open}
 use Rattle.lvm_session.specs.declared.open.Power.TheVariants as power
 use Rattle.lvm_session.specs.Judging.{group_in, is_caught, is_kept}
 use Rattle.lvm_session.specs.State.{State}
-use Rattle.lvm_sound.specs.Requests.{wants_status}
-use Rattle.lvm_sound.specs.Sound.{IsSound}
+use Rattle.lvm_session.specs.Requests.{wants_status}
+use Rattle.lvm_session.specs.Sound.{IsSound}
 
 -- In a sound session the copy that is being brought up hasn't passed the track group of a write whose transfers have all ended and which isn't kept, on any
 -- of its targets.

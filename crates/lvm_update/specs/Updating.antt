@@ -10,8 +10,8 @@ use Rattle.lvm_status.specs.Calls.{with_start}
 use Rattle.lvm_status.specs.Update.{IsLowest, Stored, seen}
 use Rattle.lvm_session.specs.State.{Core}
 use Rattle.lvm_session.specs.Enabled.{is_lost, is_status_due}
-use Rattle.lvm_events.specs.Events.{Begins}
-use Rattle.lvm_sound.specs.Placed.{ArePlaced}
+use Rattle.lvm_session.specs.Events.{Begins}
+use Rattle.lvm_session.specs.Placed.{ArePlaced}
 
 -- An update is begun where none is in flight, and its write to the least disk that is left, if there is one, counts as started.
 pub record NextOn (old new : Stored) (disk : Option ℕ) : Type 0 where

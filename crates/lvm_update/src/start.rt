@@ -6,16 +6,15 @@ ghost use Rattle.lvm_session.specs.declared.event.Event.TheVariants as event;
 ghost use Rattle.lvm_session.specs.Fields.{core_of};
 ghost use Rattle.lvm_session.specs.Rooms.{HasRooms, SameRooms};
 ghost use Rattle.lvm_session.specs.State.{state};
-ghost use Rattle.lvm_events.specs.Events.{Begins};
+ghost use Rattle.lvm_session.specs.Events.{Begins};
 ghost use Rattle.lvm_launch.specs.Launching.{MayLaunch, StartGives};
 ghost use Rattle.lvm_update.specs.Updating.{MayStartStatus, NextOn};
 
 use crate::bytes::put_status;
 use lvm_disk::{Shelf, Started};
-use lvm_events::Turned;
 use lvm_launch::{add_flight, end_dark, take_free};
 use lvm_num::Kind;
-use lvm_session::{Owner, Session};
+use lvm_session::{Owner, Session, Turned};
 use lvm_status::Updater;
 
 // An update is begun where none is in flight.

@@ -23,7 +23,7 @@ use Rattle.lvm_kept.specs.Group.{passes, is_of, has_room, descriptor_among, is_v
 use Rattle.lvm_kept.specs.Torn.{written as as_read}
 use Rattle.lvm_kept.proofs.Finding.{images_within}
 use Rattle.lvm_stamps.specs.Behind.{StampsBefore, beginning_at, IsBehind}
-use Rattle.lvm_write.specs.declared.homes.Homes.{Homes}
+use Rattle.lvm_homes.specs.declared.homes.Homes.{Homes}
 use Rattle.lvm_vol.specs.Log.{Log}
 use Rattle.lvm_kept.specs.Plans.{ChangesBy}
 use Rattle.lvm_status.specs.Update.{Updates}

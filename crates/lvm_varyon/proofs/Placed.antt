@@ -20,7 +20,7 @@ use Rattle.lvm_survey.specs.declared.row.Survey.{Survey}
 use Rattle.lvm_survey.specs.Surveyed.{surveyed}
 use Rattle.lvm_status.specs.Update.{Updates}
 use Rattle.lvm_core.specs.declared.parts.Room.{Room}
-use Rattle.lvm_sound.specs.Placed.{IsPlaced, ArePlaced}
+use Rattle.lvm_session.specs.Placed.{IsPlaced, ArePlaced}
 use Rattle.lvm_varyon.specs.declared.plan.Plan.{Plan}
 use Rattle.lvm_varyon.specs.Parts.{IsSurveyOf, IsPlan}
 use Rattle.lvm_varyon.proofs.Beginning.{target_row, target_room}

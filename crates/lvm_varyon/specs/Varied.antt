@@ -11,7 +11,7 @@ use Rattle.lvm_vol.specs.Log.{Log, spare_entries, cut_log}
 use Rattle.lvm_kept.specs.Contents.{Contents, contents_of}
 use Rattle.lvm_kept.specs.Recovered.{Recovered}
 use Rattle.lvm_stamps.specs.Behind.{IsBehind}
-use Rattle.lvm_write.specs.declared.homes.Homes.{Homes}
+use Rattle.lvm_homes.specs.declared.homes.Homes.{Homes}
 use Rattle.lvm_quorum.specs.Choosing.{HasNoRecord, HasRecord, IsAmbiguous, LacksQuorum}
 use Rattle.lvm_area.specs.Reading.{IsUnwritten, IsRested, IsCutOff}
 use Rattle.lvm_core.specs.declared.parts.Room.{Room}
@@ -20,7 +20,7 @@ use Rattle.lvm_core.specs.declared.refused.Refused.{Refused}
 use Rattle.lvm_core.specs.declared.refused.Cause.TheVariants as cause
 use Rattle.lvm_session_start.specs.declared.parts.Parts.{Parts}
 use Rattle.lvm_core.specs.Starting.{IsReservedFor}
-use Rattle.lvm_sound.specs.Placed.{ArePlaced}
+use Rattle.lvm_session.specs.Placed.{ArePlaced}
 use Rattle.lvm_session_start.specs.Beginning.{first_core}
 use Rattle.lvm_session.specs.State.{Core}
 use Rattle.lvm_begin.specs.Beginning.{Beginning, MayBeginAgain}

@@ -11,11 +11,12 @@ ghost use Rattle.lvm_num.specs.DescriptorBytes.{descriptor_bytes};
 ghost use Rattle.lvm_num.specs.StatusBytes.{status_bytes};
 
 use lvm_core::{Cause, Parts, Room};
+use lvm_homes::Homes;
 use lvm_next::{has_active, next_status};
 use lvm_num::{DiskSet, Memory, Name, Rows, Status};
 use lvm_quorum::{Choice, ChooseFault, choose};
 use lvm_survey::Survey;
-use lvm_write::Homes;
+use lvm_write::homes_of;
 use std::alloc::Global;
 
 // The last moment that a clock may answer. None is later.
@@ -59,7 +60,7 @@ pub fn plan_of(
     if moment <= choice.seen {
         return Err(Cause::ClockBack { seen: choice.seen });
     }
-    match plan_for(alloc, choice, Homes::of(survey), room) {
+    match plan_for(alloc, choice, homes_of(survey), room) {
         Ok(plan) => Ok(plan),
         Err(Memory) => Err(Cause::Memory),
     }

@@ -19,9 +19,9 @@ use crate::writes::{read_disks, write_plan};
 use lvm_core::{Cause, Driver, Parts, Refused, Room};
 use lvm_disk::Shelf;
 use lvm_history::History;
+use lvm_homes::Homes;
 use lvm_num::{Name, Pbuf, Stamp};
 use lvm_transfer::Patience;
-use lvm_write::Homes;
 use std::alloc::Global;
 
 /// Varies the group of a name on: reads the records of all disks of the shelf, chooses the group's newest

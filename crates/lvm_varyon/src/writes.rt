@@ -16,10 +16,10 @@ use crate::plan::Plan;
 use lvm_begin::{Begun, begin_again};
 use lvm_core::Cause;
 use lvm_disk::Shelf;
+use lvm_homes::Homes;
 use lvm_num::{DiskSet, Pbuf};
 use lvm_survey::{Survey, Surveyed, survey_disks};
 use lvm_transfer::Patience;
-use lvm_write::Homes;
 use std::alloc::Global;
 
 /// Reads the records of all disks. The buffer that it read with comes back for the writes.

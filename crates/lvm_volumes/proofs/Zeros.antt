@@ -20,7 +20,7 @@ use Rattle.lvm_commit.specs.LawsOfData.{IsSectorOf}
 use Rattle.lvm_core.specs.declared.fault.CommitFault.{CommitFault}
 use Rattle.lvm_core.specs.declared.fault.CommitFault.TheVariants as commit
 use Rattle.lvm_session.specs.State.{Core, State}
-use Rattle.lvm_events.specs.Dark.{all_dark}
+use Rattle.lvm_session.specs.Dark.{all_dark}
 use Rattle.lvm_core.specs.Committing.{with_one_out}
 use Rattle.lvm_core.specs.Zeros.{IsZeroOf, IsZeroed, IsAsBefore, HasZeroed, ZeroEnds}
 use Rattle.lvm_core.specs.Leaves.{NoDescriptor, Leaves}

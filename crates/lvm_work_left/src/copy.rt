@@ -7,8 +7,8 @@ ghost use Rattle.lvm_num.specs.Disks.{has};
 ghost use Rattle.lvm_session.specs.Bringing.{groups_of, is_whole};
 ghost use Rattle.lvm_session.specs.Fields.{core_of};
 ghost use Rattle.lvm_session.specs.Judging.{copies_in};
-ghost use Rattle.lvm_sound.specs.Left.{copy_left, step_left, tried_of, update_work};
-ghost use Rattle.lvm_sound.specs.Sound.{IsCopy};
+ghost use Rattle.lvm_session.specs.Left.{copy_left, step_left, tried_of, update_work};
+ghost use Rattle.lvm_session.specs.Sound.{IsCopy};
 
 use lvm_copies::{copies_of, is_running, partition_blocks, volume_of};
 use lvm_copy_end::is_whole;

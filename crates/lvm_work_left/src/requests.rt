@@ -6,9 +6,9 @@ ghost use Rattle.lvm_path.specs.declared.target.Target.{Target};
 ghost use Rattle.lvm_path.specs.Targets.{is_done};
 ghost use Rattle.lvm_session.specs.declared.open.Open.{Open};
 ghost use Rattle.lvm_session.specs.Fields.{core_of};
-ghost use Rattle.lvm_sound.specs.Left.{read_left, request_left, waiting_targets};
-ghost use Rattle.lvm_sound.specs.Requests.{IsLaid};
-ghost use Rattle.lvm_sound.specs.Sound.{IsGoing};
+ghost use Rattle.lvm_session.specs.Left.{read_left, request_left, waiting_targets};
+ghost use Rattle.lvm_session.specs.Requests.{IsLaid};
+ghost use Rattle.lvm_session.specs.Sound.{IsGoing};
 
 use crate::writes::{waiting_targets, write_left};
 use lvm_facts::is_waiting;

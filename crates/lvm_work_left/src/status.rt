@@ -6,8 +6,8 @@ ghost use Rattle.lvm_num.specs.Disks.{has};
 ghost use Rattle.lvm_session.specs.Enabled.{same_status};
 ghost use Rattle.lvm_session.specs.Fields.{core_of};
 ghost use Rattle.lvm_session.specs.State.{is_there};
-ghost use Rattle.lvm_sound.specs.Left.{if_so, status_left, unstarted_writes, update_work};
-ghost use Rattle.lvm_sound.specs.Sound.{IsFitting};
+ghost use Rattle.lvm_session.specs.Left.{if_so, status_left, unstarted_writes, update_work};
+ghost use Rattle.lvm_session.specs.Sound.{IsFitting};
 
 use lvm_num::{Descriptor, DiskSet, Status};
 use lvm_session::Session;

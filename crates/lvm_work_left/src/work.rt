@@ -3,8 +3,8 @@ ghost use Rattle.std.specs.Prelude.{◌≡◌, ◌+◌, count_by, length};
 ghost use Rattle.lvm_session.specs.declared.open.Power.TheVariants as power;
 ghost use Rattle.lvm_session.specs.Fields.{core_of};
 ghost use Rattle.lvm_session.specs.Judging.{is_waiting};
-ghost use Rattle.lvm_sound.specs.Left.{left_by, left_of, work_left};
-ghost use Rattle.lvm_sound.specs.Sound.{IsGoing};
+ghost use Rattle.lvm_session.specs.Left.{left_by, left_of, work_left};
+ghost use Rattle.lvm_session.specs.Sound.{IsGoing};
 
 use crate::copy::copy_left;
 use crate::requests::requests_left;

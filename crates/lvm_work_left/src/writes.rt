@@ -5,8 +5,8 @@ ghost use Rattle.lvm_path.specs.Asks.{at_of};
 ghost use Rattle.lvm_path.specs.Targets.{are_over};
 ghost use Rattle.lvm_session.specs.Fields.{core_of};
 ghost use Rattle.lvm_session.specs.Judging.{IsWithin, copies_for, is_changed};
-ghost use Rattle.lvm_sound.specs.Left.{begun_left, if_so, is_brought_up, is_held, lacks_dirty, lacks_note, phase_left, turns_of, unbegun_left, waiting_targets, write_left};
-ghost use Rattle.lvm_sound.specs.Requests.{IsLaid};
+ghost use Rattle.lvm_session.specs.Left.{begun_left, if_so, is_brought_up, is_held, lacks_dirty, lacks_note, phase_left, turns_of, unbegun_left, waiting_targets, write_left};
+ghost use Rattle.lvm_session.specs.Requests.{IsLaid};
 
 use lvm_copies::{
     are_targets, copies_for, group_in, group_of, is_missing, is_pp, is_running, is_settled,

@@ -1,23 +1,19 @@
--- To which slot of each disk its next record goes.
-use Rattle.std.specs.Prelude.{◌≡◌, ℕ, ◌==◌, not, false, true, if◌then◌else◌, Some, slice_get, slice_index}
+-- To which slot of each disk its next record goes after what was found.
+use Rattle.std.specs.Prelude.{◌≡◌, ℕ, ◌==◌, false, Some, slice_get, slice_index}
 use Rattle.std.specs.Option.{option_map_or}
 use Rattle.lvm_num.specs.declared.record.Kind.{Kind}
 use Rattle.lvm_num.specs.declared.record.Kind.TheVariants as kind
-use Rattle.lvm_num.specs.Disks.{Disks, has}
+use Rattle.lvm_num.specs.Disks.{Disks}
 use Rattle.lvm_num.specs.DescriptorBytes.{descriptor_of}
 use Rattle.lvm_num.specs.StatusBytes.{status_of}
 use Rattle.lvm_rec.specs.Slots.{slot_for}
 use Rattle.lvm_disk.specs.Device.{Image}
 use Rattle.lvm_kept.specs.Contents.{has_records}
-use Rattle.lvm_write.specs.declared.homes.Homes.{Homes}
+use Rattle.lvm_homes.specs.declared.homes.Homes.{Homes}
+use Rattle.lvm_homes.specs.Homes.{next_slot}
 use Rattle.lvm_survey.specs.declared.row.SurveyRow.{SurveyRow}
 use Rattle.lvm_survey.specs.declared.row.Survey.{Survey}
 use Rattle.lvm_survey.specs.Surveyed.{IsRead}
-
--- the disks whose next write of the kind goes to slot 1
-abbrev pub second_slots : Kind → Homes → Disks
-second_slots kind.Descriptor homes = has homes.descriptor
-second_slots kind.Status homes = has homes.status
 
 -- the slot with the newest record of a kind by a row, 2 where there is none
 abbrev pub home_by : Kind → SurveyRow → ℕ
@@ -28,10 +24,6 @@ home_by kind.Status row = slice_index row.homes 1
 abbrev pub in_first_slot : Kind → Survey → Disks
 in_first_slot kind survey d = option_map_or (λ row. home_by kind row == 0) (slice_get survey.rows d) false
 
--- the slot that is written next
-abbrev pub next_slot : Kind → Homes → ℕ → ℕ
-next_slot kind homes d = if second_slots kind homes d then 1 else 0
-
 -- where a disk's records were all read, the next write of each kind goes to the slot that doesn't hold the newest
 pub record SparesNewest (homes : Homes) (image : Image) (d : ℕ) : Type 0 where
   pub descriptor : next_slot kind.Descriptor homes d ≡ slot_for descriptor_of kind.Descriptor (image.sector d)
@@ -40,8 +32,3 @@ pub record SparesNewest (homes : Homes) (image : Image) (d : ℕ) : Type 0 where
 abbrev pub SpareNewest : Survey → Homes → Type 0
 SpareNewest survey homes =
     (image : Image) (d : ℕ) (row : SurveyRow) → slice_get survey.rows d ≡ Some row → IsRead image d row → has_records image d ≡ true → SparesNewest homes image d
-
--- the next write of the kind goes to the other slot of these disks; all else is as it was
-pub record Flips (kind : Kind) (disks : Disks) (old new : Homes) : Type 0 where
-  pub own : (d : ℕ) → second_slots kind new d ≡ (if disks d then not (second_slots kind old d) else second_slots kind old d)
-  pub other : (k : Kind) → (k ≡ kind → ⊥) → (d : ℕ) → second_slots k new d ≡ second_slots k old d

@@ -6,7 +6,7 @@ mod laws;
 mod notes;
 mod write;
 
-pub use homes::Homes;
+pub use homes::homes_of;
 pub use laws::{records_are_old_or_new, records_may_be_written, written_is_newest};
 pub use notes::empty_notes;
 pub use write::{Wrote, write_record};

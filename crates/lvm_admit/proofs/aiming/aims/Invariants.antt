@@ -3,7 +3,7 @@ use Rattle.lvm_num.specs.declared.place.Pp.{Pp}
 use Rattle.lvm_session.specs.Fields.{core_of}
 use Rattle.lvm_session.specs.Judging.{is_caught, is_usable}
 use Rattle.lvm_session.specs.State.{state}
-use Rattle.lvm_events.specs.Events.{target_at}
+use Rattle.lvm_session.specs.Events.{target_at}
 use Rattle.lvm_admit.proofs.aiming.aims.Given as goal
 
 abbrev pub invariant-loop-pp : goal.invariant-loop-pp

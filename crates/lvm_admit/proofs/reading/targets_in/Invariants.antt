@@ -1,7 +1,7 @@
 use Rattle.std.proofs.Common.{◌≡◌, map, take}
 use Rattle.lvm_session.specs.Fields.{core_of}
 use Rattle.lvm_session.specs.State.{state}
-use Rattle.lvm_events.specs.Events.{copy_of, target_at}
+use Rattle.lvm_session.specs.Events.{copy_of, target_at}
 use Rattle.lvm_admit.proofs.reading.targets_in.Given as goal
 
 abbrev pub invariant-loop-number : goal.invariant-loop-number

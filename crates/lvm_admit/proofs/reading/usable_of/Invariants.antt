@@ -1,6 +1,6 @@
 use Rattle.std.proofs.Common.{◌≡◌, take}
 use Rattle.lvm_session.specs.Fields.{core_of}
-use Rattle.lvm_events.specs.Events.{usable_from}
+use Rattle.lvm_session.specs.Events.{usable_from}
 use Rattle.lvm_admit.proofs.reading.usable_of.Given as goal
 
 abbrev pub invariant-loop-k : goal.invariant-loop-k

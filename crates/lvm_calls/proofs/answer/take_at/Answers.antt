@@ -1,8 +1,8 @@
 use Rattle.std.proofs.Common.{Option, refl, sym, subst}
 use Rattle.lvm_vol.specs.declared.entry.Outcome.{Outcome}
 use Rattle.lvm_session.specs.Fields.{core_of}
-use Rattle.lvm_events.specs.declared.answers.Taken.TheVariants as answer
-use Rattle.lvm_events.specs.Calls.{TakesLanded}
+use Rattle.lvm_session.specs.declared.answers.Taken.TheVariants as answer
+use Rattle.lvm_session.specs.Calls.{TakesLanded}
 use Rattle.lvm_calls.proofs.Places.{answered, taken, there}
 use Rattle.lvm_calls.proofs.answer.take_at.Goals as goal
 

@@ -7,7 +7,7 @@ use Rattle.lvm_session.specs.declared.bringing.Step.TheVariants as stage
 use Rattle.lvm_session.specs.declared.flown.Owner.TheVariants as owner
 use Rattle.lvm_session.specs.Fields.{core_of}
 use Rattle.lvm_session.specs.State.{Core}
-use Rattle.lvm_events.specs.Marks.{Reviews}
+use Rattle.lvm_session.specs.Marks.{Reviews}
 use Rattle.lvm_ends.proofs.Ended.{is_out, within}
 use Rattle.lvm_copy_learn.proofs.Carried.{may_review, source_within}
 use Rattle.lvm_copy_learn.proofs.cases.miss_source.Goals as goal

@@ -3,7 +3,7 @@ use Rattle.lvm_session.specs.declared.bringing.Step.TheVariants as stage
 use Rattle.lvm_session.specs.declared.flown.Owner.TheVariants as owner
 use Rattle.lvm_session.specs.Fields.{core_of}
 use Rattle.lvm_session.specs.State.{Core}
-use Rattle.lvm_events.specs.Ends.{with_copy, without_step}
+use Rattle.lvm_session.specs.Ends.{with_copy, without_step}
 use Rattle.lvm_ends.proofs.Ended.{is_out, within}
 use Rattle.lvm_copy_learn.proofs.cases.quit.Goals as goal
 

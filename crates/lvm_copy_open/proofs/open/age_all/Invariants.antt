@@ -1,5 +1,5 @@
 use Rattle.std.proofs.Common.{◌≡◌, ◌++◌, drop, map, take}
-use Rattle.lvm_events.specs.Calls.{aged}
+use Rattle.lvm_session.specs.Calls.{aged}
 use Rattle.lvm_copy_open.proofs.open.age_all.Given as goal
 
 abbrev pub invariant-loop-open : goal.invariant-loop-open

@@ -4,8 +4,8 @@ use Rattle.lvm_session.specs.declared.flown.Owner.TheVariants as owner
 use Rattle.lvm_session.specs.declared.open.Open.{Open}
 use Rattle.lvm_session.specs.Fields.{core_of}
 use Rattle.lvm_session.specs.State.{Core}
-use Rattle.lvm_events.specs.Ends.{learned}
-use Rattle.lvm_events.specs.Marks.{Entails}
+use Rattle.lvm_session.specs.Ends.{learned}
+use Rattle.lvm_session.specs.Marks.{Entails}
 use Rattle.lvm_marks.specs.Due.{MayMark}
 use Rattle.lvm_copy_end.specs.Ending.{MayEndCopy}
 use Rattle.lvm_firsts.proofs.Places.{read_same}

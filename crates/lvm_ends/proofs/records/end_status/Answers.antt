@@ -2,7 +2,7 @@ use Rattle.std.proofs.Common.{ap, subst}
 use Rattle.lvm_session.specs.declared.flown.Owner.TheVariants as owner
 use Rattle.lvm_session.specs.Fields.{core_of}
 use Rattle.lvm_session.specs.State.{Core}
-use Rattle.lvm_events.specs.Marks.{Reviews}
+use Rattle.lvm_session.specs.Marks.{Reviews}
 use Rattle.lvm_ends.proofs.Ended.{may_return, may_review, was_out}
 use Rattle.lvm_ends.proofs.Owning.{is_started_member, rows_after_end, sound_after_end}
 use Rattle.lvm_ends.proofs.records.end_status.Goals as goal

@@ -1,6 +1,6 @@
 use Rattle.std.proofs.Common.{sym, subst}
 use Rattle.lvm_session.specs.Fields.{core_of}
-use Rattle.lvm_events.specs.Marks.{due_of, is_among}
+use Rattle.lvm_session.specs.Marks.{due_of, is_among}
 use Rattle.lvm_copy_end.specs.Ending.{MayEndCopy}
 use Rattle.lvm_copy_end.proofs.Marks.{may_still}
 use Rattle.lvm_entails.proofs.Entailing.{entails_are, some_there}

@@ -5,7 +5,7 @@ use Rattle.lvm_session.specs.declared.bringing.OpenCopy.{OpenCopy}
 use Rattle.lvm_session.specs.declared.open.Open.{Open}
 use Rattle.lvm_session.specs.Bringing.{ends_if}
 use Rattle.lvm_session.specs.Fields.{core_of}
-use Rattle.lvm_events.specs.Marks.{hits_copy}
+use Rattle.lvm_session.specs.Marks.{hits_copy}
 use Rattle.lvm_entails.specs.Losing.{fails_with}
 use Rattle.lvm_entails.proofs.Entailing.{hits_is, read_same}
 use Rattle.lvm_entails.proofs.hits.end_by_write.Goals as goal

@@ -29,7 +29,7 @@ returns-in-Ended g c =
     let new = g.S.Shelf.device c.survey_disks.new.shelf in
     let reads : HasOnlyRead old new = record { unwritten = e.only.unwritten; rested = e.ends.0 } in
     record {
-      gives = lets_begin old new c.in-Ended.survey (survey_of old new c.in-Ended.survey e.ends.1 e.small) c.args.force c.args.moment (record { homes = c.of.result; buf = c.in-Ended.buf }) reads c.of.ensures.spare (e.ends.2 ∙ ap (λ (b : Buffer). b.number) c.in-Ok.ensures) (c.in_ok-judge-in-Ended.ensures.lets);
+      gives = lets_begin old new c.in-Ended.survey (survey_of old new c.in-Ended.survey e.ends.1 e.small) c.args.force c.args.moment (record { homes = c.homes_of.result; buf = c.in-Ended.buf }) reads c.homes_of.ensures.spare (e.ends.2 ∙ ap (λ (b : Buffer). b.number) c.in-Ok.ensures) (c.in_ok-judge-in-Ended.ensures.lets);
       only = e.only;
     }
 

@@ -4,7 +4,7 @@ use Rattle.lvm_disk.specs.Steps.{IsRange}
 use Rattle.lvm_pbuf.specs.Out.{IsOut}
 use Rattle.lvm_session.specs.Fields.{core_of}
 use Rattle.lvm_session.specs.State.{state}
-use Rattle.lvm_events.specs.Dark.{all_dark}
+use Rattle.lvm_session.specs.Dark.{all_dark}
 use Rattle.lvm_over.specs.Hands.{MayEnd}
 use Rattle.lvm_launch.proofs.Hands.{is_taken, may_end, pool_same}
 use Rattle.lvm_launch.proofs.Starting.{dark_after, next_is, read_starts}

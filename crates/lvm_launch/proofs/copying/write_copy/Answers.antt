@@ -4,7 +4,7 @@ use Rattle.lvm_pbuf.specs.Out.{IsOut}
 use Rattle.lvm_session.specs.declared.bringing.OpenCopy.{OpenCopy}
 use Rattle.lvm_session.specs.Fields.{core_of}
 use Rattle.lvm_session.specs.State.{state}
-use Rattle.lvm_events.specs.Dark.{all_dark}
+use Rattle.lvm_session.specs.Dark.{all_dark}
 use Rattle.lvm_over.specs.Hands.{MayEnd}
 use Rattle.lvm_launch.proofs.Starting.{dark_is, dark_written, hand_out, may_end_written}
 use Rattle.lvm_launch.proofs.copying.write_copy.Goals as goal

@@ -9,10 +9,10 @@ use Rattle.lvm_session.specs.declared.flown.Owner.TheVariants as owner
 use Rattle.lvm_session.specs.declared.open.Open.{Open}
 use Rattle.lvm_session.specs.Fields.{core_of}
 use Rattle.lvm_session.specs.State.{state}
-use Rattle.lvm_events.specs.Dark.{all_dark}
-use Rattle.lvm_events.specs.Events.{begun_as, flown}
+use Rattle.lvm_session.specs.Dark.{all_dark}
+use Rattle.lvm_session.specs.Events.{begun_as, flown}
 use Rattle.lvm_over.specs.Hands.{MayEnd}
-use Rattle.lvm_sound.specs.Sound.{IsAsked}
+use Rattle.lvm_session.specs.Sound.{IsAsked}
 use Rattle.lvm_firsts.proofs.Places.{at_place, read_same}
 use Rattle.lvm_launch.proofs.Hands.{is_taken, may_end, pool_same}
 use Rattle.lvm_launch.proofs.Starting.{carries_own, dark_after, data_starts, its_within}

@@ -4,7 +4,7 @@ use Rattle.lvm_path.specs.declared.target.Target.{Target}
 use Rattle.lvm_session.specs.declared.open.Open.{Open}
 use Rattle.lvm_session.specs.Fields.{core_of}
 use Rattle.lvm_session.specs.Judging.{pps_of}
-use Rattle.lvm_events.specs.Marks.{WantsStale, is_among}
+use Rattle.lvm_session.specs.Marks.{WantsStale, is_among}
 use Rattle.lvm_marks.specs.Due.{due_among}
 use Rattle.lvm_marks.proofs.Places.{read_same}
 use Rattle.lvm_marks.proofs.Sures.{due_is}

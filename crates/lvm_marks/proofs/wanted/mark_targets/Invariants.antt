@@ -1,6 +1,6 @@
 use Rattle.std.proofs.Common.{filter, take}
 use Rattle.lvm_session.specs.Judging.{pps_of}
-use Rattle.lvm_events.specs.Marks.{WantsStale, is_among}
+use Rattle.lvm_session.specs.Marks.{WantsStale, is_among}
 use Rattle.lvm_marks.specs.Due.{is_meant}
 use Rattle.lvm_marks.proofs.wanted.mark_targets.Given as goal
 

@@ -3,7 +3,7 @@ use Rattle.lvm_session.specs.State.{Core}
 use Rattle.lvm_session.specs.Fields.{core_of}
 use Rattle.lvm_session.specs.Enabled.{admission}
 use Rattle.lvm_pins.specs.Pinning.{PinGives}
-use Rattle.lvm_sound.specs.Sound.{IsGoing}
+use Rattle.lvm_session.specs.Sound.{IsGoing}
 use Rattle.lvm_admit.specs.Choosing.{MayChoose}
 use Rattle.lvm_moves.specs.Moving.{FirstGives}
 use Rattle.lvm_moves.proofs.Found.{admit_gives, land_gives, pin_gives, rooms_on}

@@ -1,7 +1,7 @@
 use Rattle.std.proofs.Common.{take}
 use Rattle.std.specs.Prelude.{◌&&◌}
 use Rattle.lvm_num.specs.declared.place.Pp.{Pp}
-use Rattle.lvm_events.specs.Marks.{WantsStale, is_among}
+use Rattle.lvm_session.specs.Marks.{WantsStale, is_among}
 use Rattle.lvm_review.specs.Left.{is_gone}
 use Rattle.lvm_review.proofs.behind.mark_gone.Given as goal
 

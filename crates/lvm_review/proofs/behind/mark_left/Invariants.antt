@@ -1,5 +1,5 @@
 use Rattle.std.proofs.Common.{take}
-use Rattle.lvm_events.specs.Marks.{WantsStale}
+use Rattle.lvm_session.specs.Marks.{WantsStale}
 use Rattle.lvm_review.specs.Left.{is_left_of}
 use Rattle.lvm_review.proofs.behind.mark_left.Given as goal
 

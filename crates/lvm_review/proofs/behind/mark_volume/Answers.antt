@@ -3,7 +3,7 @@ use Rattle.std.specs.Prelude.{All}
 use Rattle.std.proofs.lemmas.List.Elements.{All-drop, All-take}
 use Rattle.lvm_num.specs.declared.place.Pp.{Pp}
 use Rattle.lvm_status.specs.Calls.{IsMarkable}
-use Rattle.lvm_events.specs.Marks.{WantsStale}
+use Rattle.lvm_session.specs.Marks.{WantsStale}
 use Rattle.lvm_marks.proofs.Marking.{markable_on, sound_after}
 use Rattle.lvm_review.specs.Left.{is_left_among}
 use Rattle.lvm_review.proofs.Left.{below_more}

@@ -1,4 +1,4 @@
-use Rattle.lvm_events.specs.Marks.{WantsStale}
+use Rattle.lvm_session.specs.Marks.{WantsStale}
 use Rattle.lvm_review.specs.Left.{is_left_below}
 use Rattle.lvm_review.proofs.behind.mark_volume.Given as goal
 

@@ -3,7 +3,7 @@ use Rattle.std.specs.Prelude.{All}
 use Rattle.lvm_num.specs.declared.descriptor.LvRow.{LvRow}
 use Rattle.lvm_num.specs.Descriptor.{IsLaidOut, partitions_in}
 use Rattle.lvm_status.specs.Calls.{IsMarkable}
-use Rattle.lvm_events.specs.Marks.{WantsStale}
+use Rattle.lvm_session.specs.Marks.{WantsStale}
 use Rattle.lvm_review.specs.Left.{is_left_of}
 use Rattle.lvm_review.proofs.Reviewing.{markable}
 use Rattle.lvm_review.proofs.steps.mark_entailed.Goals as goal

@@ -4,7 +4,7 @@ use Rattle.lvm_num.specs.declared.place.Pp.{Pp}
 use Rattle.lvm_session.specs.declared.bringing.CopyEnd.{CopyEnd}
 use Rattle.lvm_session.specs.Bringing.{marked_by_end, with_end}
 use Rattle.lvm_session.specs.Fields.{core_of}
-use Rattle.lvm_events.specs.Marks.{WantsStale, is_entailed}
+use Rattle.lvm_session.specs.Marks.{WantsStale, is_entailed}
 use Rattle.lvm_copy_end.specs.Ending.{MayEndCopy}
 use Rattle.lvm_copy_end.proofs.Marks.{marks_and_ends, may_still}
 use Rattle.lvm_review.proofs.steps.review.Goals as goal

@@ -1,4 +1,4 @@
-use Rattle.lvm_events.specs.Turns.{WasOn}
+use Rattle.lvm_session.specs.Turns.{WasOn}
 use Rattle.lvm_session_turn.proofs.turns.turn.Goals as goal
 
 pub returns-in-On-clause-makes : goal.returns-in-On-clause-makes

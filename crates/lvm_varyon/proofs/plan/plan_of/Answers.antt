@@ -20,4 +20,4 @@ returns-in-Ok-plan_for c =
     let fits = c.ranges.moment.fits in
     let not_last = c.if-moment-eq-LAST.false in
     let early : c.args.moment < last_moment = omega (arith, fits, not_last) in
-    planned c.args.survey.now c.args.name c.in-Ok.choice c.in-Ok.ensures c.args.moment c.args.room c.of.result c.in-Ok-plan_for.plan c.requires.valid c.if-moment-choice.false early c.of.ensures.spare c.in-Ok-plan_for.ensures
+    planned c.args.survey.now c.args.name c.in-Ok.choice c.in-Ok.ensures c.args.moment c.args.room c.homes_of.result c.in-Ok-plan_for.plan c.requires.valid c.if-moment-choice.false early c.homes_of.ensures.spare c.in-Ok-plan_for.ensures

@@ -1,6 +1,6 @@
 use Rattle.std.proofs.Common.{◌≡◌, ◌+◌, ap, ◌∙◌, arith}
 use Rattle.lvm_session.specs.Fields.{core_of}
-use Rattle.lvm_sound.specs.Left.{request_left}
+use Rattle.lvm_session.specs.Left.{request_left}
 use Rattle.lvm_work_left.proofs.Sums.{sum_at}
 use Rattle.lvm_work_left.proofs.requests.requests_left.Goals as goal
 

@@ -1,7 +1,7 @@
 use Rattle.std.proofs.Common.{◌≡◌, ◌≤◌, ◌*◌, take}
 use Rattle.std.specs.Prelude.{sum_by}
 use Rattle.lvm_session.specs.Fields.{core_of}
-use Rattle.lvm_sound.specs.Left.{request_left}
+use Rattle.lvm_session.specs.Left.{request_left}
 use Rattle.lvm_work_left.proofs.requests.requests_left.Given as goal
 
 abbrev pub invariant-loop-place : goal.invariant-loop-place

@@ -1,7 +1,7 @@
 use Rattle.std.proofs.Common.{◌≡◌, ◌≤◌, ◌*◌, take}
 use Rattle.std.specs.Prelude.{sum_by}
 use Rattle.lvm_session.specs.Fields.{core_of}
-use Rattle.lvm_sound.specs.Left.{turns_of}
+use Rattle.lvm_session.specs.Left.{turns_of}
 use Rattle.lvm_work_left.proofs.writes.all_turns.Given as goal
 
 abbrev pub invariant-loop-pp : goal.invariant-loop-pp

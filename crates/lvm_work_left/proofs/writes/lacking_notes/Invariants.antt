@@ -1,7 +1,7 @@
 use Rattle.std.proofs.Common.{◌≡◌, ◌≤◌, take}
 use Rattle.std.specs.Prelude.{count_by}
 use Rattle.lvm_session.specs.Fields.{core_of}
-use Rattle.lvm_sound.specs.Left.{lacks_note}
+use Rattle.lvm_session.specs.Left.{lacks_note}
 use Rattle.lvm_work_left.proofs.writes.lacking_notes.Given as goal
 
 abbrev pub invariant-loop-target : goal.invariant-loop-target

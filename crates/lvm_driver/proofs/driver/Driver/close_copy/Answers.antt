@@ -1,6 +1,6 @@
 use Rattle.std.proofs.Common.{◌≡◌, ℕ, sym, subst}
-use Rattle.lvm_events.specs.declared.answers.CopyState.TheVariants as stage
-use Rattle.lvm_events.specs.Calls.{copy_state}
+use Rattle.lvm_session.specs.declared.answers.CopyState.TheVariants as stage
+use Rattle.lvm_session.specs.Calls.{copy_state}
 use Rattle.lvm_session.specs.Fields.{core_of}
 use Rattle.lvm_session.specs.State.{Core, state}
 use Rattle.lvm_driver.proofs.Driven.{close_on}

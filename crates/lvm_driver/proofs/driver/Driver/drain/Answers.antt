@@ -1,5 +1,5 @@
 use Rattle.std.proofs.Common.{arith}
-use Rattle.lvm_events.specs.declared.answers.Turned.TheVariants as turned
+use Rattle.lvm_session.specs.declared.answers.Turned.TheVariants as turned
 use Rattle.lvm_driver.specs.Answers.{state_of}
 use Rattle.lvm_driver.proofs.Draining.{begins, causes_on, good_on, moved, path, waits}
 use Rattle.lvm_driver.proofs.driver.Driver.drain.Goals as goal

@@ -1,0 +1,5 @@
+use Rattle.lvm_session.proofs.Waiting.{waiting_writes_pin}
+use Rattle.lvm_session.proofs.laws.waiting_writes_pin.Goals as goal
+
+pub returns : goal.returns
+returns c = waiting_writes_pin
