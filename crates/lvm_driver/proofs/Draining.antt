@@ -12,9 +12,9 @@ use Rattle.lvm_session.specs.declared.answers.Turned.TheVariants as turned
 use Rattle.lvm_session.specs.Turns.{Finds, FindsNothing, TurnMakes}
 use Rattle.lvm_session.specs.Left.{left_of}
 use Rattle.lvm_vol.specs.Facts.{Fact}
-use Rattle.lvm_tie_causes.specs.Landings.{HasCausesSince}
-use Rattle.lvm_tie_turn.specs.GoingOn.{GoesOn}
-use Rattle.lvm_tie_turn.proofs.Spanning.{goes_same, goes_then}
+use Rattle.lvm_tie.specs.Landings.{HasCausesSince}
+use Rattle.lvm_tie.specs.GoingOn.{GoesOn}
+use Rattle.lvm_tie.proofs.Spanning.{goes_same, goes_then}
 use Rattle.lvm_driver.specs.Answers.{TurnTells}
 use Rattle.lvm_driver.specs.Drains.{IsAny, IsDrained, IsTurn}
 use Rattle.lvm_driver.proofs.Stepping.{turn_counts}

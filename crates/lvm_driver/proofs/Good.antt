@@ -19,11 +19,11 @@ use Rattle.lvm_session.specs.Calls.{Closes, OpenGives, SubmitGives, TakeGives}
 use Rattle.lvm_session.specs.Turns.{Arranges, TurnMakes}
 use Rattle.lvm_session.specs.Asking.{IsAsking}
 use Rattle.lvm_copy_open.specs.Opening.{counts_seen}
-use Rattle.lvm_tie_causes.specs.Landings.{HasCausesSince}
-use Rattle.lvm_tie_causes.proofs.Calls.{calls_keep_causes}
-use Rattle.lvm_tie_turn.specs.GoingOn.{GoesOn}
-use Rattle.lvm_tie_turn.proofs.Calls.{answer_goes_on, arrange_goes_on, close_goes_on, open_goes_on, submit_goes_on}
-use Rattle.lvm_tie_turn.proofs.Turning.{turn_goes_on}
+use Rattle.lvm_tie.specs.Landings.{HasCausesSince}
+use Rattle.lvm_tie.proofs.Calls.{calls_keep_causes}
+use Rattle.lvm_tie.specs.GoingOn.{GoesOn}
+use Rattle.lvm_tie.proofs.CallsTurn.{answer_goes_on, arrange_goes_on, close_goes_on, open_goes_on, submit_goes_on}
+use Rattle.lvm_tie.proofs.Turning.{turn_goes_on}
 use Rattle.lvm_driver.proofs.Driven.{AreSound, close_on, open_on, order_on, submit_on, take_on, turn_on}
 
 pub submit_good : (device : Device) (old new : Session) (client : ℕ) (ask : Ask) (bytes : Option (List ℕ)) (answer : Result ℕ AskFault) → AreSound device old → (old.power ≡ power.Stuck → ⊥) → IsAsking ask bytes

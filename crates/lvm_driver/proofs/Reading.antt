@@ -33,8 +33,8 @@ use Rattle.lvm_session.specs.Sound.{IsGoing, IsSound}
 use Rattle.lvm_keeps.proofs.Lists.{all_at, get_removed, set_beside, set_here}
 use Rattle.lvm_keeps.proofs.Small.{not_so}
 use Rattle.lvm_keeps.proofs.Tables.{apart}
-use Rattle.lvm_keeps_ends.proofs.Removal.{IsOut, taken_out}
-use Rattle.lvm_keeps_moves.proofs.Outcomes.{gives}
+use Rattle.lvm_keeps_events.proofs.Removal.{IsOut, taken_out}
+use Rattle.lvm_keeps_events.proofs.Outcomes.{gives}
 use Rattle.lvm_session.specs.declared.flown.Flown.{Flown}
 use Rattle.lvm_driver.specs.Answers.{GetsItsBlocks, GetsItsBuffer, HasRead, IsItsBuffer}
 use Rattle.lvm_driver.proofs.Frames.{copy_stays, marked_stays, note_stays, status_stays}

@@ -19,8 +19,8 @@ ghost use Rattle.lvm_session.specs.Sound.{IsSound};
 ghost use Rattle.lvm_keeps.specs.Falls.{most_left};
 ghost use Rattle.lvm_copy_open.specs.Opening.{counts_seen};
 ghost use Rattle.lvm_session_start.specs.Beginning.{AreFaults, MayBegin, first_core};
-ghost use Rattle.lvm_tie_causes.specs.Landings.{HasCausesSince};
-ghost use Rattle.lvm_tie_turn.specs.GoingOn.{GoesOn};
+ghost use Rattle.lvm_tie.specs.Landings.{HasCausesSince};
+ghost use Rattle.lvm_tie.specs.GoingOn.{GoesOn};
 ghost use Rattle.lvm_driver.specs.Answers.{GetsItsBlocks, IsCausedFor, IsCopyCaused, IsOffSince, TurnTells, state_of};
 
 use lvm_calls::{close_copy, copy_state, take};

@@ -3,11 +3,11 @@ use Rattle.lvm_session.specs.declared.event.Event.TheVariants as event
 use Rattle.lvm_keeps.proofs.CopyRead.{copy_read_keeps}
 use Rattle.lvm_keeps.proofs.NoteStart.{note_start_keeps}
 use Rattle.lvm_keeps.proofs.Pin.{pin_keeps}
-use Rattle.lvm_keeps_starts.proofs.CopyWrite.{copy_write_keeps}
-use Rattle.lvm_keeps_starts.proofs.DataStart.{data_start_keeps}
-use Rattle.lvm_keeps_starts.proofs.StatusStart.{status_start_keeps}
-use Rattle.lvm_keeps_moves.proofs.Admission.{admission_keeps}
-use Rattle.lvm_keeps_moves.proofs.Landing.{landing_keeps}
+use Rattle.lvm_keeps_events.proofs.CopyWrite.{copy_write_keeps}
+use Rattle.lvm_keeps_events.proofs.DataStart.{data_start_keeps}
+use Rattle.lvm_keeps_events.proofs.StatusStart.{status_start_keeps}
+use Rattle.lvm_keeps_events.proofs.Admission.{admission_keeps}
+use Rattle.lvm_keeps_events.proofs.Landing.{landing_keeps}
 use Rattle.lvm_keeps_events.specs.Events.{EventsKeep}
 
 pub events_keep : EventsKeep

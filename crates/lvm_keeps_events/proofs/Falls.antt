@@ -12,10 +12,10 @@ use Rattle.lvm_keeps.proofs.CopyReadFalls.{copy_read_falls}
 use Rattle.lvm_keeps.proofs.LandingFalls.{landing_falls}
 use Rattle.lvm_keeps.proofs.NoteStartFalls.{note_start_falls}
 use Rattle.lvm_keeps.proofs.PinFalls.{pin_falls}
-use Rattle.lvm_keeps_starts.proofs.CopyWriteFalls.{copy_write_falls}
-use Rattle.lvm_keeps_starts.proofs.DataStartFalls.{data_start_falls}
-use Rattle.lvm_keeps_starts.proofs.StatusStartFalls.{status_start_falls}
-use Rattle.lvm_keeps_moves.proofs.AdmissionFalls.{admission_falls}
+use Rattle.lvm_keeps_events.proofs.CopyWriteFalls.{copy_write_falls}
+use Rattle.lvm_keeps_events.proofs.DataStartFalls.{data_start_falls}
+use Rattle.lvm_keeps_events.proofs.StatusStartFalls.{status_start_falls}
+use Rattle.lvm_keeps_events.proofs.AdmissionFalls.{admission_falls}
 
 -- a request lands by it
 abbrev IsLanding : Event → Type 0

@@ -70,8 +70,8 @@ use Rattle.std.proofs.lemmas.Slice.Eq.{bytes_eq-Decides}
 use Rattle.lvm_keeps.specs.Falls.{NeverStandsStill}
 use Rattle.lvm_keeps.proofs.Lists.{all_at, count_cons}
 use Rattle.lvm_keeps.proofs.Small.{both, is_false, not_so}
-use Rattle.lvm_keeps_starts.proofs.Aims.{count_none}
-use Rattle.lvm_keeps_moves.proofs.Chosen.{there_now}
+use Rattle.lvm_keeps_events.proofs.Aims.{count_none}
+use Rattle.lvm_keeps_events.proofs.Chosen.{there_now}
 
 -- ---- tests and lists
 

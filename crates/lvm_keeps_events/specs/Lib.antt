@@ -1,1 +1,10 @@
 pub mod Events
+pub mod Falls
+pub mod Ends
+pub mod Marks
+pub mod EndsData
+pub mod EndsGroup
+pub mod FallsDataFalls
+pub mod FallsMoves
+pub mod EndsStatus
+pub mod Uncaught

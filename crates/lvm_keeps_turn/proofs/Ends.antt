@@ -12,23 +12,23 @@ use Rattle.lvm_session.specs.State.{State}
 use Rattle.lvm_session.specs.Ends.{Learns, NoteLearns, Returns, StepLearns, StepLeaves}
 use Rattle.lvm_keeps.specs.Falls.{EndsFall}
 use Rattle.lvm_keeps.specs.Keeps.{EndKeeps}
-use Rattle.lvm_keeps_ends.specs.Ends.{EndsMiss, EndsNote, EndsQuit, EndsRead, EndsWrite}
-use Rattle.lvm_keeps_ends.proofs.CopyQuit.{copy_quit_keeps}
-use Rattle.lvm_keeps_ends.proofs.CopyReadEnd.{copy_read_end_keeps}
-use Rattle.lvm_keeps_ends.proofs.CopyReadFail.{copy_read_fail_keeps}
-use Rattle.lvm_keeps_ends.proofs.CopyWriteFail.{copy_write_fail_keeps}
-use Rattle.lvm_keeps_ends.proofs.NoteEnd.{note_end_keeps}
-use Rattle.lvm_keeps_data.specs.Ends.{EndsData}
-use Rattle.lvm_keeps_data.proofs.DataEnd.{data_end_keeps}
-use Rattle.lvm_keeps_group.specs.Ends.{EndsGroup}
-use Rattle.lvm_keeps_group.proofs.CopyWriteEnd.{copy_write_end_keeps}
-use Rattle.lvm_keeps_data_falls.proofs.CopyFalls.{copy_quit_falls, copy_read_end_falls, copy_read_fail_falls, copy_write_fail_falls}
-use Rattle.lvm_keeps_data_falls.proofs.DataFalls.{data_end_falls}
-use Rattle.lvm_keeps_data_falls.proofs.GroupFalls.{copy_write_end_falls}
-use Rattle.lvm_keeps_status.specs.Ends.{EndsStatus, FailsNote}
-use Rattle.lvm_keeps_status.proofs.EndsFall.{note_end_falls, note_fail_falls, status_end_falls}
-use Rattle.lvm_keeps_status.proofs.NoteFail.{note_fail_keeps}
-use Rattle.lvm_keeps_status.proofs.StatusEnd.{status_end_keeps}
+use Rattle.lvm_keeps_events.specs.Ends.{EndsMiss, EndsNote, EndsQuit, EndsRead, EndsWrite}
+use Rattle.lvm_keeps_events.proofs.CopyQuit.{copy_quit_keeps}
+use Rattle.lvm_keeps_events.proofs.CopyReadEnd.{copy_read_end_keeps}
+use Rattle.lvm_keeps_events.proofs.CopyReadFail.{copy_read_fail_keeps}
+use Rattle.lvm_keeps_events.proofs.CopyWriteFail.{copy_write_fail_keeps}
+use Rattle.lvm_keeps_events.proofs.NoteEnd.{note_end_keeps}
+use Rattle.lvm_keeps_events.specs.EndsData.{EndsData}
+use Rattle.lvm_keeps_events.proofs.DataEnd.{data_end_keeps}
+use Rattle.lvm_keeps_events.specs.EndsGroup.{EndsGroup}
+use Rattle.lvm_keeps_events.proofs.CopyWriteEnd.{copy_write_end_keeps}
+use Rattle.lvm_keeps_events.proofs.CopyFalls.{copy_quit_falls, copy_read_end_falls, copy_read_fail_falls, copy_write_fail_falls}
+use Rattle.lvm_keeps_events.proofs.DataFalls.{data_end_falls}
+use Rattle.lvm_keeps_events.proofs.GroupFalls.{copy_write_end_falls}
+use Rattle.lvm_keeps_events.specs.EndsStatus.{EndsStatus, FailsNote}
+use Rattle.lvm_keeps_events.proofs.EndsFall.{note_end_falls, note_fail_falls, status_end_falls}
+use Rattle.lvm_keeps_events.proofs.NoteFail.{note_fail_keeps}
+use Rattle.lvm_keeps_events.proofs.StatusEnd.{status_end_keeps}
 
 -- what follows of each kind of end, by whose transfer it was and how it ended
 record Follows (old new : State) (at : ℕ) (X : Type 0) : Type 0 where

@@ -1,6 +1,7 @@
 -- What a set of disks says of a group: its descriptor, its voters, its status, and which copies are fresh.
 use Rattle.std.specs.Prelude.{◌≡◌, ◌⊎◌, ℕ, ◌<◌, Bool, false, ◌&&◌, not, nat_le, ◌==◌, if◌then◌else◌, List, [], ◌∷◌, Option, Some, None, IsTrue, filter}
 use Rattle.std.specs.List.{list_any, AllByRecursion}
+pub use Rattle.lvm_num.specs.Among.{IsOneOf}
 use Rattle.lvm_num.specs.declared.place.Pp.{Pp}
 use Rattle.lvm_num.specs.declared.descriptor.LvRow.{LvRow}
 use Rattle.lvm_num.specs.declared.descriptor.Descriptor.{Descriptor}
@@ -137,11 +138,6 @@ names_if (Some note) lv group = names note lv group
 -- the disk's does
 abbrev pub is_named : Contents → ℕ → ℕ → ℕ → Bool
 is_named c d lv group = names_if (c.note d) lv group
-
--- x is one of these
-abbrev pub IsOneOf : {X : Type 0} → List X → X → Type 0
-IsOneOf [] x = ⊥
-IsOneOf (y ∷ ys) x = (x ≡ y) ⊎ IsOneOf ys x
 
 -- there is one
 abbrev pub IsSome : {X : Type 0} → List X → Type 0

@@ -14,7 +14,7 @@ use Rattle.std.proofs.lemmas.List.Concat.{get_or-flat_map}
 use Rattle.std.proofs.lemmas.List.Folds.{length-flat_map-take}
 use Rattle.lvm_num.specs.Descriptor.{copies_of, partitions_in}
 use Rattle.lvm_num.specs.Status.{IsValidStatus, calls_stale}
-use Rattle.lvm_kept.specs.Group.{IsOneOf}
+use Rattle.lvm_num.specs.Among.{IsOneOf}
 use Rattle.lvm_stale.specs.Table.{has_row, is_pp, SameMembers, SameMissing}
 use Rattle.lvm_left.specs.Marking.{is_served, IsLeft, IsLeftBelow, IsLeftIn, Marks, IsMarkable}
 

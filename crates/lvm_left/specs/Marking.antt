@@ -7,7 +7,7 @@ use Rattle.lvm_num.specs.declared.status.Status.{Status}
 use Rattle.lvm_num.specs.Disks.{Disks}
 use Rattle.lvm_num.specs.Descriptor.{copies_of}
 use Rattle.lvm_num.specs.Status.{calls_stale}
-use Rattle.lvm_kept.specs.Group.{IsOneOf}
+use Rattle.lvm_num.specs.Among.{IsOneOf}
 use Rattle.lvm_stale.specs.Table.{has_row, SameMembers, SameMissing}
 
 -- one of the copies of a logical partition is fresh on a disk that answers

@@ -20,10 +20,10 @@ use Rattle.lvm_status.specs.Calls.{BecomesDirty}
 use Rattle.lvm_session.proofs.Small.{not_so, not_either}
 use Rattle.lvm_session.specs.Calls.{new_open}
 use Rattle.lvm_session.specs.Events.{Admits}
-use Rattle.lvm_keeps_moves.proofs.Admission.{admission_keeps}
+use Rattle.lvm_keeps_events.proofs.Admission.{admission_keeps}
 use Rattle.lvm_session.specs.Sound.{IsSound}
 use Rattle.lvm_tie.specs.Tied.{IsTied}
-use Rattle.lvm_tie_requests.proofs.AdmitTies.{admit_ties}
+use Rattle.lvm_tie.proofs.AdmitTies.{admit_ties}
 use Rattle.lvm_tied.specs.Worked.{making, a_write, waiting, table, targets, admitted, marked, AdmittedAreTied}
 use Rattle.lvm_tied.proofs.Waiting.{waiting_are_tied, still_sound}
 

@@ -16,8 +16,8 @@ use Rattle.lvm_status.specs.Update.{Stored, seen}
 use Rattle.lvm_status.specs.Calls.{with_update, with_start}
 use Rattle.lvm_crash.proofs.WorkedShelf.{not-equal}
 use Rattle.lvm_session.specs.Events.{Begins, IsStatusWrite, StartsStatus}
-use Rattle.lvm_keeps_starts.proofs.StatusStart.{status_start_keeps}
-use Rattle.lvm_tie_records.proofs.StatusTies.{status_start_ties}
+use Rattle.lvm_keeps_events.proofs.StatusStart.{status_start_keeps}
+use Rattle.lvm_tie.proofs.StatusTies.{status_start_ties}
 use Rattle.lvm_tied.specs.Worked.{making, marked, record_write, recording, updated, updating, UpdatingIsTied}
 use Rattle.lvm_tied.proofs.Admitted.{admitted_are_tied, dirty_table, marked_is_sound, valid}
 use Rattle.lvm_tied.proofs.Seen.{there}

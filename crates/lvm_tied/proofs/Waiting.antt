@@ -7,7 +7,7 @@ use Rattle.lvm_session.specs.Asking.{IsAsking, IsAwake}
 use Rattle.lvm_session.specs.Sound.{IsSound}
 use Rattle.lvm_session.proofs.Small.{not_so}
 use Rattle.lvm_keeps_calls.proofs.Submit.{submit_keeps}
-use Rattle.lvm_tie_requests.proofs.SubmitTies.{submit_ties}
+use Rattle.lvm_tie.proofs.SubmitTies.{submit_ties}
 use Rattle.lvm_tied.specs.Worked.{making, core_of, begun, a_write, its_bytes, waiting, WaitingAreTied}
 use Rattle.lvm_tied.proofs.Parts.{is_sound}
 use Rattle.lvm_tied.proofs.Worked.{beginnings_are_tied}

@@ -14,8 +14,8 @@ use Rattle.lvm_session.specs.declared.open.Open.{Open}
 use Rattle.lvm_crash.proofs.WorkedShelf.{not-equal}
 use Rattle.lvm_session.specs.Calls.{new_open}
 use Rattle.lvm_session.specs.Events.{admitted_as, IsDataTransfer, IsDueAt, StartsData}
-use Rattle.lvm_keeps_starts.proofs.DataStart.{data_start_keeps}
-use Rattle.lvm_tie_starts.proofs.Datas.{data_start_ties}
+use Rattle.lvm_keeps_events.proofs.DataStart.{data_start_keeps}
+use Rattle.lvm_tie.proofs.Datas.{data_start_ties}
 use Rattle.lvm_tied.specs.Worked.{making, a_write, targets, admitted, transfer, launched, writing, WritingIsTied}
 use Rattle.lvm_tied.proofs.Admitted.{admitted_are_tied, off_is_sound}
 

@@ -5,3 +5,15 @@ pub mod Lining
 mod Runs
 pub mod Scripting
 pub mod Stopping
+pub mod Devices
+pub mod Transfers
+pub mod Named
+pub mod Begun
+pub mod Making
+pub mod Varying
+pub mod Volumes
+pub mod Groups
+pub mod Lines
+pub mod Acknowledged
+pub mod Scripts
+pub mod OneGroup

@@ -6,3 +6,6 @@ pub mod Run
 pub mod Runs
 pub mod Sim
 pub mod Turn
+pub mod Standing
+pub mod Laws
+pub mod OneGroup

@@ -16,3 +16,7 @@ pub use lvm_words::{Job, WordsFault, read_words};
 pub use program::run_words;
 pub use run::{Ended, run_script};
 pub use status::ExitStatus;
+
+mod found;
+
+pub use found::{lines_find_no_more, scripts_find_what_stands, unforced_scripts_stay_alone};

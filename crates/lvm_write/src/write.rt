@@ -8,8 +8,8 @@ ghost use Rattle.lvm_write.specs.Written.{write_of, HasRoom, HaveRoom};
 ghost use Rattle.lvm_write.specs.Parts.{write_to, PartsStand, IfMoved, WritesPart};
 ghost use Rattle.lvm_write.specs.Writes.{DiskWritesLeave, RecordWritesEnd};
 
-use crate::homes::Homes;
 use lvm_disk::Shelf;
+use lvm_homes::Homes;
 use lvm_num::{DiskSet, Kind, Pbuf, Stamp};
 use lvm_rec::{frame, slot_sectors};
 use lvm_transfer::{Moved, Patience, transfer};

@@ -2,7 +2,7 @@ use Rattle.std.proofs.Common.{◌≡◌, ◌+◌, get_or, take, sym, subst, ◌�
 use Rattle.std.specs.Prelude.{IsTrue, IsFalse}
 use Rattle.lvm_num.specs.declared.place.Pp.{Pp}
 use Rattle.lvm_num.specs.Disks.{has}
-use Rattle.lvm_kept.specs.Group.{IsOneOf}
+use Rattle.lvm_num.specs.Among.{IsOneOf}
 use Rattle.lvm_left.specs.Marking.{Marks}
 use Rattle.lvm_left.proofs.MarkLemmas.{marks_one, copies_more, copies_same, has_row-same, no_pp, at_place}
 use Rattle.lvm_left.proofs.mark.mark_copies.Goals as goal

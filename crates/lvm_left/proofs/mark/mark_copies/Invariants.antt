@@ -1,7 +1,7 @@
 use Rattle.std.proofs.Common.{take}
 use Rattle.std.specs.Prelude.{IsFalse}
 use Rattle.lvm_num.specs.Disks.{has}
-use Rattle.lvm_kept.specs.Group.{IsOneOf}
+use Rattle.lvm_num.specs.Among.{IsOneOf}
 use Rattle.lvm_left.specs.Marking.{Marks}
 use Rattle.lvm_left.proofs.mark.mark_copies.Given as goal
 

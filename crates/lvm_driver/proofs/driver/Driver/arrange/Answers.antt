@@ -2,7 +2,7 @@ use Rattle.lvm_session.specs.Fields.{core_of}
 use Rattle.lvm_session.specs.State.{state}
 use Rattle.lvm_driver.proofs.Driven.{order_on}
 use Rattle.lvm_driver.proofs.Good.{order_good}
-use Rattle.lvm_tie_causes.proofs.Calls.{calls_keep_causes}
+use Rattle.lvm_tie.proofs.Calls.{calls_keep_causes}
 use Rattle.lvm_driver.proofs.driver.Driver.arrange.Goals as goal
 
 pub invariant_of-self : goal.invariant_of-self

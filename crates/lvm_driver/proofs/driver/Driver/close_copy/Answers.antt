@@ -5,7 +5,7 @@ use Rattle.lvm_session.specs.Fields.{core_of}
 use Rattle.lvm_session.specs.State.{Core, state}
 use Rattle.lvm_driver.proofs.Driven.{close_on}
 use Rattle.lvm_driver.proofs.Good.{close_good}
-use Rattle.lvm_tie_causes.proofs.Calls.{calls_keep_causes}
+use Rattle.lvm_tie.proofs.Calls.{calls_keep_causes}
 use Rattle.lvm_driver.proofs.driver.Driver.close_copy.Goals as goal
 
 pub invariant_of-self : goal.invariant_of-self

@@ -5,7 +5,7 @@ use Rattle.lvm_session.specs.State.{Core, state}
 use Rattle.lvm_driver.proofs.Causes.{is_off}
 use Rattle.lvm_driver.proofs.Driven.{open_on}
 use Rattle.lvm_driver.proofs.Good.{open_good}
-use Rattle.lvm_tie_causes.proofs.Calls.{calls_keep_causes}
+use Rattle.lvm_tie.proofs.Calls.{calls_keep_causes}
 use Rattle.lvm_driver.proofs.driver.Driver.open_copy.Goals as goal
 
 pub invariant_of-self : goal.invariant_of-self

@@ -1,4 +1,4 @@
-use Rattle.lvm_tie_causes.proofs.Landings.{beginning_has_causes}
+use Rattle.lvm_tie.proofs.LandingsCauses.{beginning_has_causes}
 use Rattle.lvm_driver.proofs.driver.Driver.start.Goals as goal
 
 pub returns-clause-causes : goal.returns-clause-causes

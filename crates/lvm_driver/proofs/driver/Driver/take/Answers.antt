@@ -3,7 +3,7 @@ use Rattle.lvm_session.specs.State.{state}
 use Rattle.lvm_driver.proofs.Causes.{is_caused}
 use Rattle.lvm_driver.proofs.Driven.{take_on}
 use Rattle.lvm_driver.proofs.Good.{take_good}
-use Rattle.lvm_tie_causes.proofs.Calls.{calls_keep_causes}
+use Rattle.lvm_tie.proofs.Calls.{calls_keep_causes}
 use Rattle.lvm_driver.proofs.driver.Driver.take.Goals as goal
 
 pub invariant_of-self : goal.invariant_of-self

@@ -4,7 +4,7 @@ use Rattle.lvm_driver.proofs.Driven.{turn_on}
 use Rattle.lvm_driver.proofs.Reading.{turn_gets}
 use Rattle.lvm_driver.proofs.Telling.{turn_tells}
 use Rattle.lvm_driver.proofs.Good.{turn_good}
-use Rattle.lvm_tie_causes.proofs.Landings.{turn_keeps_causes}
+use Rattle.lvm_tie.proofs.LandingsCauses.{turn_keeps_causes}
 use Rattle.lvm_driver.proofs.driver.Driver.turn.Goals as goal
 
 pub invariant_of-self : goal.invariant_of-self

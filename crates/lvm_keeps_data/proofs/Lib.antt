@@ -1,4 +1,0 @@
-pub mod Learning
-pub mod Entailing
-pub mod Learned
-pub mod DataEnd

@@ -1,6 +1,0 @@
-//! Ends of transfers of requests keep a session sound.
-#![tactic(auto)]
-
-mod laws;
-
-pub use laws::data_end_keeps;

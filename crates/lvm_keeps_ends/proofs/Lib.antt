@@ -1,9 +1,0 @@
-pub mod Counts
-pub mod Removal
-pub mod NoteEnd
-pub mod CopyReadEnd
-pub mod Over
-pub mod CopyQuit
-pub mod CopyWriteFail
-pub mod Again
-pub mod CopyReadFail

@@ -1,6 +1,0 @@
-pub mod Lists
-pub mod Groups
-pub mod Staling
-pub mod Failing
-pub mod Dues
-pub mod Marks

@@ -1,9 +1,0 @@
-pub mod Frame
-pub mod Aims
-pub mod Dues
-pub mod CopyWrite
-pub mod DataStart
-pub mod StatusStart
-pub mod CopyWriteFalls
-pub mod DataStartFalls
-pub mod StatusStartFalls

@@ -1,4 +1,0 @@
-pub mod Grounds
-pub mod Landings
-pub mod Calls
-pub mod Seen

@@ -1,2 +1,0 @@
-pub mod Landings
-pub mod Causes

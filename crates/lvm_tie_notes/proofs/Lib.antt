@@ -1,7 +1,0 @@
-pub mod Sectors
-pub mod Landing
-pub mod Ended
-pub mod Well
-pub mod Losing
-pub mod Badly
-pub mod NoteTies

@@ -1,9 +1,0 @@
-pub mod Waiting
-pub mod Landings
-pub mod Uncut
-pub mod ReadLandings
-pub mod Quiet
-pub mod Off
-pub mod Dark
-pub mod Orders
-pub mod Taking

@@ -1,4 +1,0 @@
-pub mod Update
-pub mod Learning
-pub mod Reviewed
-pub mod StatusTies

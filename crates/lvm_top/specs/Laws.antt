@@ -1,0 +1,63 @@
+-- The descriptor that a later `varyonvg` finds is that of the last acknowledged command on its group, or one that was being committed since.
+use Rattle.std.specs.Prelude.{◌≡◌, ◌⊎◌, ◌++◌, ◌∷◌, ℕ, [], List, Some, None, Ok, IsSomeAnd}
+use Rattle.lvm_num.specs.declared.descriptor.Descriptor.{Descriptor}
+use Rattle.lvm_disk.specs.Device.{Device, IsReady}
+use Rattle.lvm_vol.specs.Facts.{Fact, Cut}
+use Rattle.lvm_vol.specs.Log.{Log}
+use Rattle.lvm_parse.specs.declared.command.Command.TheVariants as command
+use Rattle.lvm_parse.specs.Grammar.{line_of}
+use Rattle.lvm_steps.specs.Moments.{Begins, IsEarlier}
+use Rattle.lvm_stamps.specs.Behind.{IsBehind}
+use Rattle.lvm_core.specs.declared.parts.Room.{Room}
+use Rattle.lvm_core.specs.Leaves.{MayBeFound}
+use Rattle.lvm_line.specs.Lines.{IsLine}
+use Rattle.lvm_commands.specs.State.{State, IsTimely, AreHeld}
+use Rattle.lvm_commands.specs.declared.reply.Reply.{Reply}
+use Rattle.lvm_commands.specs.declared.reply.Reply.TheVariants as reply
+use Rattle.lvm_top.specs.declared.status.ExitStatus.TheVariants as ended
+use Rattle.lvm_top.specs.Run.{Run, IsRun, RanAlone}
+use Rattle.lvm_top.specs.Script.{Script, StaysAlone, entry_state}
+use Rattle.lvm_top.specs.Standing.{MayHaveCommitted, MayStand, MayStandAtEnd, HasFewDisks}
+
+-- Whatever may be found after a line might be found before it, or is what the line may have committed; where nothing is under way before it nor after it,
+-- the clock is ahead of the disks, and these hold what a session says.
+abbrev pub LineFindsNoMore : Type 0
+LineFindsNoMore =
+    (log : Log) (room : Room) (line : List ℕ) (answer : Reply) (old new : State) → IsLine log room line answer old new
+    → HasFewDisks old.moment.device → IsReady old.moment.device → IsReady new.moment.device → IsTimely log.run old → AreHeld old
+    → (id : ℕ) (k : Descriptor) → MayBeFound new.moment.device id k → MayBeFound old.moment.device id k ⊎ MayHaveCommitted (line_of line) answer old new id k
+
+-- A state from which a script may begin: no group is on, nothing is under way, the clock is ahead of the disks, of which there are at most 128, and an
+-- earlier history is kept with them.
+pub record MayStart (run : ℕ) (past : List Fact) (first : State) : Type 0 where
+  pub off : first.session ≡ None
+  pub few : HasFewDisks first.moment.device
+  pub ready : IsReady first.moment.device
+  pub timely : IsTimely run first
+  pub begins : Begins run past first.moment
+
+-- Whatever may be found after the lines of a script may stand, where no other group is found at the lines that ask for that.
+abbrev pub ScriptFindsWhatStands : Type 0
+ScriptFindsWhatStands =
+    (log : Log) (room : Room) (past : List Fact) (first : State) (lines : List (List ℕ)) (replies : List Reply) (last : State) (script : Script log room first lines replies last)
+    → MayStart log.run past first → StaysAlone script
+    → (id : ℕ) (k : Descriptor) → MayBeFound last.moment.device id k → MayStand script id k
+
+-- So a group that a `varyonvg` varies on thereafter has a descriptor that may stand.
+abbrev pub VaryonFindsWhatStands : Type 0
+VaryonFindsWhatStands =
+    (log : Log) (room : Room) (past : List Fact) (first : State) (lines : List (List ℕ)) (replies : List Reply) (last : State) (script : Script log room first lines replies last)
+    → MayStart log.run past first → StaysAlone script
+    → (line name : List ℕ) (new : State) → line_of line ≡ Ok (Some (command.Varyon name)) → IsLine log room line reply.Ok last new
+    → IsSomeAnd new.session (λ core. MayStand script core.descriptor.id core.descriptor)
+
+-- A run may start where nothing is under way, its moment is later than what stands on the disks, and they are kept with an earlier history.
+abbrev pub RunMayStart : Type 0
+RunMayStart = (run : ℕ) (entry : Device) (past : List Fact) → HasFewDisks entry → IsReady entry → IsBehind run entry → IsEarlier run entry past → MayStart run (past ++ Cut ∷ []) (entry_state entry run)
+
+-- So it is at the end of each run after which nothing is under way.
+abbrev pub RunFindsWhatStands : Type 0
+RunFindsWhatStands =
+    (r : Run) (ran : IsRun r) (past : List Fact)
+    → HasFewDisks r.entry → IsReady r.entry → IsBehind r.named r.entry → IsEarlier r.named r.entry past → RanAlone ran → (r.status ≡ ended.Stuck → ⊥)
+    → (id : ℕ) (k : Descriptor) → MayBeFound r.exit id k → MayStandAtEnd ran.lines.ends (MayStand ran.lines.script) id k
