@@ -5,49 +5,49 @@ mod laws;
 
 pub use laws::{events_fall, events_keep, never_stands_still};
 
-mod starts;
+mod starts_laws;
 
-pub use starts::{
+pub use starts_laws::{
     copy_write_falls, copy_write_keeps, data_start_falls, data_start_keeps, status_start_falls,
     status_start_keeps,
 };
 
-mod ends;
+mod ends_laws;
 
-pub use ends::{
+pub use ends_laws::{
     copy_quit_keeps, copy_read_end_keeps, copy_read_fail_keeps, copy_write_fail_keeps, counts_keep,
     note_end_keeps,
 };
 
-mod marks;
+mod marks_laws;
 
-pub use marks::{copy_ends_keep_requests, marks_keep_requests};
+pub use marks_laws::{copy_ends_keep_requests, marks_keep_requests};
 
-mod data;
+mod data_laws;
 
-pub use data::data_end_keeps;
+pub use data_laws::data_end_keeps;
 
-mod group;
+mod group_laws;
 
-pub use group::copy_write_end_keeps;
+pub use group_laws::copy_write_end_keeps;
 
-mod data_falls;
+mod data_falls_laws;
 
-pub use data_falls::{
+pub use data_falls_laws::{
     copy_quit_falls, copy_read_end_falls, copy_read_fail_falls, copy_write_end_falls,
     copy_write_fail_falls, data_end_falls,
 };
 
-mod moves;
+mod moves_laws;
 
-pub use moves::{admission_falls, admission_keeps, landing_keeps};
+pub use moves_laws::{admission_falls, admission_keeps, landing_keeps};
 
-mod status;
+mod status_laws;
 
-pub use status::{
+pub use status_laws::{
     note_end_falls, note_fail_falls, note_fail_keeps, status_end_falls, status_end_keeps,
 };
 
-mod uncaught;
+mod uncaught_laws;
 
-pub use uncaught::lost_is_uncaught;
+pub use uncaught_laws::lost_is_uncaught;

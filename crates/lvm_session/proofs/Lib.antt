@@ -5,7 +5,7 @@ pub mod Requests
 pub mod While
 mod Whole
 mod Flying
-mod Bringing
+mod BroughtUp
 mod Worked
 mod Waiting
 mod Busy

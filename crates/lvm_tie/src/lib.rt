@@ -5,63 +5,63 @@ mod laws;
 
 pub use laws::good_sessions;
 
-mod lands;
+mod lands_laws;
 
-pub use lands::{land_ties, take_ties};
+pub use lands_laws::{land_ties, take_ties};
 
-mod requests;
+mod requests_laws;
 
-pub use requests::{admit_ties, pin_ties, submit_ties};
+pub use requests_laws::{admit_ties, pin_ties, submit_ties};
 
-mod calls;
+mod calls_laws;
 
-pub use calls::{close_ties, open_ties};
+pub use calls_laws::{close_ties, open_ties};
 
-mod starts;
+mod starts_laws;
 
-pub use starts::{copy_starts_tie, data_start_ties};
+pub use starts_laws::{copy_starts_tie, data_start_ties};
 
-mod records;
+mod records_laws;
 
-pub use records::{note_start_ties, status_start_ties};
+pub use records_laws::{note_start_ties, status_start_ties};
 
-mod ends;
+mod ends_laws;
 
-pub use ends::read_end_ties;
+pub use ends_laws::read_end_ties;
 
-mod causes;
+mod causes_laws;
 
-pub use causes::{
+pub use causes_laws::{
     beginning_has_causes, calls_keep_causes, causes_are_seen, faults_are_there, turn_keeps_causes,
 };
 
-mod over;
+mod over_laws;
 
-pub use over::{orders_tie, sessions_end, takes_go_on};
+pub use over_laws::{orders_tie, sessions_end, takes_go_on};
 
-mod steps;
+mod steps_laws;
 
-pub use steps::{
+pub use steps_laws::{
     copy_end_ties, copy_group_ties, copy_miss_ties, copy_quit_ties, copy_read_end_ties,
     copy_write_fail_ties,
 };
 
-mod reviews;
+mod reviews_laws;
 
-pub use reviews::{near_ties, review_is_wanted};
+pub use reviews_laws::{near_ties, review_is_wanted};
 
-mod statuses;
+mod statuses_laws;
 
-pub use statuses::status_end_ties;
+pub use statuses_laws::status_end_ties;
 
-mod notes;
+mod notes_laws;
 
-pub use notes::note_end_ties;
+pub use notes_laws::note_end_ties;
 
-mod writes;
+mod writes_laws;
 
-pub use writes::{data_end_ties, write_end_ties};
+pub use writes_laws::{data_end_ties, write_end_ties};
 
-mod turn;
+mod turn_laws;
 
-pub use turn::{calls_go_on, turns_go_on};
+pub use turn_laws::{calls_go_on, turns_go_on};

@@ -17,6 +17,6 @@ pub use program::run_words;
 pub use run::{Ended, run_script};
 pub use status::ExitStatus;
 
-mod found;
+mod found_laws;
 
-pub use found::{lines_find_no_more, scripts_find_what_stands, unforced_scripts_stay_alone};
+pub use found_laws::{lines_find_no_more, scripts_find_what_stands, unforced_scripts_stay_alone};
