@@ -1,5 +1,5 @@
 -- To which slot of each disk its next record goes after what was found.
-use Rattle.std.specs.Prelude.{◌≡◌, ℕ, ◌==◌, false, Some, slice_get, slice_index}
+use Rattle.std.specs.Prelude.{◌≡◌, ℕ, ◌==◌, false, true, Some, slice_get, slice_index}
 use Rattle.std.specs.Option.{option_map_or}
 use Rattle.lvm_num.specs.declared.record.Kind.{Kind}
 use Rattle.lvm_num.specs.declared.record.Kind.TheVariants as kind
