@@ -306,7 +306,7 @@ pub fn begin_next<S: Shelf>(
 ) -> Begin {
     let descriptor = descriptor_bytes(rt, group);
     let status = status_bytes(rt, &status(rt, group.id, shelf.disks()));
-    let mut homes = homes_of(rt, shelf);
+    let mut homes = next_homes(rt, shelf);
     begin_with(
         rt,
         shelf,
@@ -317,7 +317,7 @@ pub fn begin_next<S: Shelf>(
     )
 }
 
-fn homes_of<S: Shelf>(rt: &(impl Abort + AllocGlobal), shelf: &mut S) -> Homes {
+fn next_homes<S: Shelf>(rt: &(impl Abort + AllocGlobal), shelf: &mut S) -> Homes {
     let survey = survey(rt, shelf);
     homes_of(&survey)
 }
