@@ -11,6 +11,8 @@ ghost use Rattle.lvm_commit.specs.LawsOfData.{IsFree};
 ghost use Rattle.lvm_commit.specs.Settling.{MarksLeft};
 ghost use Rattle.lvm_session.specs.declared.open.Open.{Open};
 ghost use Rattle.lvm_session.specs.declared.open.Power.TheVariants as power;
+ghost use Rattle.lvm_session.specs.Fields.{core_of};
+ghost use Rattle.lvm_session.specs.Rooms.{HasRooms};
 ghost use Rattle.lvm_session.specs.State.{state, is_there, votes_there};
 ghost use Rattle.lvm_core.specs.State.{state_of};
 ghost use Rattle.lvm_session.specs.Judging.{is_waiting};
@@ -77,6 +79,26 @@ impl<S: Shelf> Driver<S> {
     {
         let session = parts.into_session(&shelf, history, stamp, homes);
         Driver { shelf, session }
+    }
+
+    /// The session of another driver at which nothing is under way, over its shelf.
+    pub fn from_parts(shelf: S, session: Session) -> Driver<S>
+        requires rooms { HasRooms session }
+        requires sound { IsSound (state (S.device shelf) (core_of session)) }
+        ensures shelf { result.0 ≡ shelf }
+        ensures core { result.1 ≡ core_of session }
+    {
+        Driver { shelf, session }
+    }
+
+    /// Its shelf and its session, for another driver.
+    pub fn into_parts(self) -> (S, Session)
+        ensures shelf { result.0 ≡ self.0 }
+        ensures core { core_of result.1 ≡ self.1 }
+        ensures rooms { HasRooms result.1 }
+        ensures sound { IsSound (state (S.device self.0) self.1) }
+    {
+        (self.shelf, self.session)
     }
 
     /// How many disks its shelf has.

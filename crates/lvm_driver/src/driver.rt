@@ -9,7 +9,9 @@ ghost use Rattle.lvm_vol.specs.Facts.{Fact};
 ghost use Rattle.lvm_vol.specs.Log.{is_open, spare_entries};
 ghost use Rattle.lvm_session.specs.declared.open.Power.TheVariants as power;
 ghost use Rattle.lvm_session.specs.Judging.{is_waiting};
-ghost use Rattle.lvm_session.specs.State.{votes_there};
+ghost use Rattle.lvm_session.specs.Fields.{core_of};
+ghost use Rattle.lvm_session.specs.Rooms.{HasRooms};
+ghost use Rattle.lvm_session.specs.State.{state, votes_there};
 ghost use Rattle.lvm_session.specs.declared.answers.CopyState.TheVariants as stage;
 ghost use Rattle.lvm_session.specs.Calls.{OpenGives, SubmitGives, TakeGives, closed, copy_state};
 ghost use Rattle.lvm_session.specs.Turns.{Arranges, TurnMakes};
@@ -75,6 +77,26 @@ impl<S: Shelf> Driver<S> {
     {
         let session = begin_session(parts, &shelf, history, stamp, homes);
         Driver { shelf, session }
+    }
+
+    /// A session over its shelf, from another driver.
+    pub fn from_parts(shelf: S, session: Session) -> Driver<S>
+        requires rooms { HasRooms session }
+        requires sound { IsSound (state (S.device shelf) (core_of session)) }
+        ensures shelf { result.0 ≡ shelf }
+        ensures core { result.1 ≡ core_of session }
+    {
+        Driver { shelf, session }
+    }
+
+    /// Its shelf and its session, for another driver.
+    pub fn into_parts(self) -> (S, Session)
+        ensures shelf { result.0 ≡ self.0 }
+        ensures core { core_of result.1 ≡ self.1 }
+        ensures rooms { HasRooms result.1 }
+        ensures sound { IsSound (state (S.device self.0) self.1) }
+    {
+        (self.shelf, self.session)
     }
 
     /// Submits a request of a client, a write with its bytes. It is open under the number that is answered, from 1,
