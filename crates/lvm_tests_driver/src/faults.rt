@@ -144,6 +144,48 @@ fn a_write_that_no_copy_took_is_lost(rt: HostRuntime) {
     }
 }
 
+// The transfer of a write to the second copy fails, and then the status that calls that copy stale fails on the disk of
+// the first.
+const BOTH: [Planned; 3] = [
+    Planned {
+        call: 1,
+        act: Act::Fail(1),
+    },
+    Planned {
+        call: 5,
+        act: Act::Heal(1),
+    },
+    Planned {
+        call: 5,
+        act: Act::Fail(0),
+    },
+];
+
+fn has_no_fresh<S: Shelf + Drop>(rt: &impl Abort, driver: Driver<S>) {
+    let mut driver = driver;
+    check(rt, written(rt, &mut driver, 5, 9) == Taken::Done, "done");
+    check(rt, driver.votes() == (2, 3), "the first disk is missing");
+    check(rt, is_stale(&driver, 1), "the second copy is stale");
+    let none = Err(Taken::NoFresh);
+    check(rt, got(rt, &mut driver, 5) == none, "nothing is read");
+    order(rt, &mut driver, Arrange::Heal(0));
+    check(rt, got(rt, &mut driver, 5) == none, "it stays missing");
+    let landed = written(rt, &mut driver, 5, 9);
+    check(rt, landed == Taken::NoFresh, "nothing is written");
+    let opened = open_copy(rt, &mut driver, 1, 0, 2);
+    check(rt, opened == Err(CopyFault::NoFresh), "nor brought up");
+    close(rt, driver);
+}
+
+#[test]
+fn without_a_fresh_copy_nothing_is_done(rt: HostRuntime) {
+    let setup = Setup {
+        mode: Mode::Off,
+        ..MIRROR
+    };
+    has_no_fresh(&rt, begin(&rt, &setup, &BOTH));
+}
+
 fn goes_off<S: Shelf + Drop>(rt: &impl Abort, driver: Driver<S>) {
     let mut driver = driver;
     order(rt, &mut driver, Arrange::Fail(0));

@@ -11,7 +11,7 @@ ghost use Rattle.lvm_session.specs.declared.open.Power.TheVariants as power;
 ghost use Rattle.lvm_session_start.specs.Parts.{IsRoom};
 ghost use Rattle.lvm_session.specs.Sound.{IsLit};
 ghost use Rattle.lvm_session.specs.Worked.{status_of};
-ghost use Rattle.lvm_vol.specs.Log.{empty_log};
+ghost use Rattle.lvm_vol.specs.Log.{empty_log, spare_entries};
 
 use lvm_disk::{Arrange, Shelf};
 use lvm_driver::laws::whole_groups_begin;
@@ -47,6 +47,9 @@ pub struct Setup {
     pub stale: bool,
     pub table: u32,
     pub pool: u32,
+    /// The room of its history, in entries and in bytes.
+    pub entries: u32,
+    pub bytes: u64,
 }
 
 /// An active volume with two copies of eight track groups.
@@ -58,6 +61,8 @@ pub const MIRROR: Setup = Setup {
     stale: false,
     table: 16,
     pool: 16,
+    entries: 1000,
+    bytes: 100_000,
 };
 
 pub const MODES: [Mode; 3] = [Mode::Active, Mode::Passive, Mode::Off];
@@ -214,10 +219,13 @@ fn room(rt: &impl Abort, setup: &Setup) -> Room
     }
 }
 
-fn history(rt: &(impl Abort + AllocGlobal)) -> History
-    ensures { result ≡ empty_log 50 1000 100000 }
+fn history(rt: &(impl Abort + AllocGlobal), setup: &Setup) -> History
+    ensures is { result ≡ empty_log 50 setup.now.entries setup.now.bytes }
+    ensures spare { 1 ≤ spare_entries result }
+    ensures few { setup.now.entries < 2 ^ 32 }
 {
-    History::new(rt.alloc(), 50, 1000, 100_000).expect(rt, "memory")
+    assert!(rt; 4 <= setup.entries);
+    History::new(rt.alloc(), 50, setup.entries, setup.bytes).expect(rt, "memory")
 }
 
 /// The session of a group, on whose disks this happens.
@@ -231,7 +239,13 @@ pub fn begin(rt: &(impl Abort + AllocGlobal), setup: &Setup, plan: &[Planned]) -
         status: DiskSet::empty(),
     };
     let stamp = Stamp { epoch: 50, seq: 3 };
-    Driver::start(parts, shelf(rt, setup.mib, plan), history(rt), stamp, homes)
+    Driver::start(
+        parts,
+        shelf(rt, setup.mib, plan),
+        history(rt, setup),
+        stamp,
+        homes,
+    )
 }
 
 // ---- what is asked of it

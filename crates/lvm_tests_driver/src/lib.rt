@@ -9,3 +9,5 @@ mod faults;
 mod fixtures;
 #[cfg(test)]
 mod requests;
+#[cfg(test)]
+mod waits;

@@ -1,12 +1,11 @@
 //! Requests that nothing disturbs, and how many may be under way.
 use crate::fixtures::{
-    MIRROR, MODES, POLICIES, Setup, answer, begin, check, close, drain, got, read, turn, write,
-    written,
+    MIRROR, MODES, POLICIES, Setup, answer, begin, check, close, drain, got, read, write, written,
 };
 use lvm_disk::Shelf;
 use lvm_driver::Driver;
 use lvm_num::Mode;
-use lvm_session::{AskFault, Taken, Turned};
+use lvm_session::{AskFault, Taken};
 use std::process::Abort;
 
 fn ends<S: Shelf + Drop>(rt: &impl Abort, driver: Driver<S>) {
@@ -110,55 +109,39 @@ fn a_full_table_takes_no_more(rt: HostRuntime) {
     fill_table(&rt, begin(&rt, &setup, &[]));
 }
 
-// How many transfers are out at most before the first request has landed.
-fn most_out<S: Shelf>(rt: &impl Abort, driver: &mut Driver<S>) -> u32 {
-    let entries = driver.history().len();
-    let mut most = 0;
-    for _ in 0..2_000 {
-        let moved = turn(rt, driver) == Turned::Moved;
-        if !moved || driver.history().len() > entries {
-            return most;
+// How many writes are taken before the history is full, each of which is done before the next.
+fn fill_history<S: Shelf + Drop>(rt: &impl Abort, driver: Driver<S>) -> u64 {
+    let mut driver = driver;
+    for done in 0..10 {
+        if write(rt, &mut driver, 0, done) == Err(AskFault::HistoryFull) {
+            let full = read(rt, &mut driver, 0) == Err(AskFault::HistoryFull);
+            check(rt, full, "for a read too");
+            close(rt, driver);
+            return done;
         }
-        if most < driver.flights() {
-            most = driver.flights();
-        }
+        check(rt, drain(rt, &mut driver) == Ok(()), "it has landed");
+        check(rt, driver.take(1, done + 1) == Taken::Done, "done");
     }
-    most
+    10
 }
 
-fn are_done<S: Shelf>(driver: &mut Driver<S>, most: u64) -> bool {
-    let mut done = true;
-    for id in 0..most {
-        done = driver.take(1, id + 1) == Taken::Done && done;
-    }
-    done
-}
-
-// 62 of the track groups are pinned, and named by one note on each disk. Their writes make 124 transfers, and the last
-// one two more, behind two notes more. Each transfer is started by one call of the disks, and ended by another.
+// One entry is that of the beginning, and one is kept for a cut. A request takes three, and the bytes of its blocks.
 #[test]
-fn the_cache_has_62_entries(rt: HostRuntime) {
-    let setup = Setup {
-        mib: 8,
-        table: 64,
-        pool: 256,
-        ..MIRROR
-    };
-    let mut driver = begin(&rt, &setup, &[]);
-    for k in 0..63 {
-        check(
-            &rt,
-            write(&rt, &mut driver, 256 * k, k) == Ok(k + 1),
-            "taken",
-        );
+fn a_full_history_takes_no_more(rt: HostRuntime) {
+    for room in 5..12 {
+        let setup = Setup {
+            entries: room,
+            ..MIRROR
+        };
+        let taken = fill_history(&rt, begin(&rt, &setup, &[]));
+        check(&rt, taken == u64::from(room - 2) / 3, "by its entries");
     }
-    check(
-        &rt,
-        most_out(&rt, &mut driver) == 124,
-        "62 writes are under way",
-    );
-    check(&rt, drain(&rt, &mut driver) == Ok(()), "all have landed");
-    check(&rt, are_done(&mut driver, 63), "and are done");
-    let shelf = close(&rt, driver);
-    check(&rt, shelf.calls() == 2 * (2 + 124 + 2 + 2), "as many calls");
+    for room in [1023, 1024, 1535, 1536] {
+        let setup = Setup {
+            bytes: room,
+            ..MIRROR
+        };
+        let taken = fill_history(&rt, begin(&rt, &setup, &[]));
+        check(&rt, taken == room / 512, "by its bytes");
+    }
 }
