@@ -21,8 +21,7 @@ use Rattle.lvm_write.proofs.Transfers.{keeps_here, keeps_then, spends_none, spen
 use Rattle.lvm_commit.specs.Settling.{there, IsOfSession, StatesGroup, IsOfStatus, IsOfCommit}
 use Rattle.lvm_session.specs.State.{State, is_there}
 use Rattle.lvm_core.specs.Zeros.{IsZeroOf}
-use Rattle.lvm_core.specs.Held.{IsHeld}
-use Rattle.lvm_core.specs.Leaves.{Scope, NoPartition, IsOfCommand, WasLeftBehind, MayBeFound, Leaves}
+use Rattle.lvm_core.specs.Leaves.{Scope, NoPartition, IsHeldSince, IsOfCommand, WasLeftBehind, MayBeFound, Leaves}
 use Rattle.lvm_core.proofs.LeavesLemmas.{outside, keeps_same, same_status}
 use Rattle.lvm_volumes.specs.Endings.{StillHeld, commanding}
 
@@ -68,7 +67,7 @@ there_less a b group stays d is = there_before a.core.status.group a.core.status
 -- ---- wider scopes
 
 module _ (V W : Scope) (next : (d : Descriptor) → V.next d → W.next d) (zeros : (pp : Pp) → V.zeros pp → W.zeros pp) (stale : (pp : Pp) → V.stale pp → W.stale pp) (fresh : (pp : Pp) → V.fresh pp → W.fresh pp)
-    (numbers : V.numbers ≤ W.numbers) (p q : ℕ) (a b : State) (lets : IsHeld a.device a.core → (run : ℕ) (first : Moment) → W.lets a b run first → V.lets a b run first) where
+    (numbers : V.numbers ≤ W.numbers) (p q : ℕ) (a b : State) (lets : (run : ℕ) (first : Moment) → IsHeldSince run first a → W.lets a b run first → V.lets a b run first) where
   behind_wider : (pp : Pp) → WasLeftBehind V.next V.fresh a b pp → WasLeftBehind W.next W.fresh a b pp
   behind_wider pp is = record {
     group = is.group;
@@ -101,7 +100,7 @@ module _ (V W : Scope) (next : (d : Descriptor) → V.next d → W.next d) (zero
     };
     numbers = record { epoch = leaves.numbers.epoch; rises = leaves.numbers.rises; most = let m = leaves.numbers.most in omega (arith, m, numbers) };
     history = leaves.history;
-    spans = λ held run first only. leaves.spans held run first (lets held run first only);
+    spans = λ run first held only. leaves.spans run first held (lets run first held only);
     finds = λ held id k is. ⊎_elim (λ was. inl was) (λ new. inr (new.0, next k new.1)) (leaves.finds held id k is);
     calm = leaves.calm;
     behind = leaves.behind;
@@ -129,7 +128,7 @@ leaves_none W p s = record {
   status = same_status W.next W.stale W.fresh s s refl;
   numbers = record { epoch = refl; rises = omega arith; most = omega arith };
   history = keeps_same s.core.history s.core.history refl;
-  spans = λ held run first only span. span;
+  spans = λ run first held only span. span;
   finds = λ held id k is. inl is;
   calm = λ past calm. calm;
   behind = λ moment lt is. is;
@@ -257,11 +256,11 @@ module _ (N : Descriptor → Type 0) (Z : Pp → Type 0) where
       most = let x = one.numbers.most in let y = two.numbers.most in omega (arith, x, y);
     };
     history = record { room = two.history.room ∙ one.history.room; volumes = omega (arith, one.history.volumes, two.history.volumes); later = λ moment is. two.history.later moment (one.history.later moment is) };
-    spans = λ held run first only span.
+    spans = λ run first held only span.
         let before = one.history.volumes in
         let after = two.history.volumes in
-        two.spans (still.held held) run first (λ enters past begins. still.only held (only (omega (arith, before, enters)) past begins))
-        (one.spans held run first (λ enters. only (omega (arith, after, enters))) span);
+        two.spans run first (λ past begins. still.held (held past begins)) (λ enters past begins. still.only (held past begins) (only (omega (arith, before, enters)) past begins))
+        (one.spans run first held (λ enters. only (omega (arith, after, enters))) span);
     finds = λ held id k is. ⊎_elim (λ (was : MayBeFound b.device id k). one.finds held id k was) (λ (new : (id ≡ k.id) × N k). inr new) (two.finds (still.held held) id k is);
     calm = λ past calm. two.calm past (one.calm past calm);
     behind = λ moment lt is. two.behind moment (subst (λ (n : ℕ). n < moment) (sym one.numbers.epoch) lt) (one.behind moment lt is);
