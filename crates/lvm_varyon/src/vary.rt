@@ -4,6 +4,7 @@ ghost use Rattle.lvm_disk.specs.Device.{IsReady};
 ghost use Rattle.lvm_disk.specs.Paths.{DeviceStep, Path};
 ghost use Rattle.lvm_steps.specs.Moments.{StaysKept};
 ghost use Rattle.lvm_stamps.specs.Behind.{ClockIsAhead, IsBehind};
+ghost use Rattle.lvm_session_start.specs.Beginning.{AreFaults};
 ghost use Rattle.lvm_core.specs.Sound.{HaveAllLanded};
 ghost use Rattle.lvm_core.specs.Starting.{IsRoom};
 ghost use Rattle.lvm_varyon.specs.Restated.{HasNoConsistency};
@@ -52,6 +53,7 @@ pub fn varyon<S: Shelf>(
     ensures gives { VaryonGives S.device (S.device shelf) history name moment room patience.old.left result }
     // the group is on
     ensures starts { IfOk result (λ driver. IsStarted history.run moment (S.device shelf) history (state_of S.device driver)) }
+    ensures faults { IfOk result (λ driver. AreFaults (S.device driver.0) driver.1.origin.faults) }
     ensures restated { IfOk result (λ driver. ClockIsAhead history.run moment (S.device shelf) history.facts → IsRestated (S.device shelf) (S.device driver.0) driver.1.descriptor) }
     ensures recovered { IfOk result (λ driver. ClockIsAhead history.run moment (S.device shelf) history.facts → HasNoConsistency driver.1.descriptor → IsRecovered (S.device shelf) (S.device driver.0) driver.1.descriptor) }
     // whatever the answer
