@@ -10,7 +10,7 @@ ghost use Rattle.lvm_core.specs.Starting.{IsRoom};
 ghost use Rattle.lvm_varyon.specs.Restated.{HasNoConsistency};
 ghost use Rattle.lvm_core.specs.State.{state_of};
 ghost use Rattle.lvm_core.specs.Coming.{BringsOn, IsStarted, shelf_left, history_left};
-ghost use Rattle.lvm_varyon.specs.Varied.{VaryonGives, IsRestated, IsRecovered, BringGives, IsAheadOfDisks, log_after, Stops};
+ghost use Rattle.lvm_varyon.specs.Varied.{VaryonGives, IsRestated, IsRecovered, BringGives, IsAheadOfDisks, brought_of, log_after, Stops};
 ghost use Rattle.lvm_area.specs.Reading.{OnlyReads};
 ghost use Rattle.lvm_write.specs.Parts.{Spends};
 ghost use Rattle.lvm_varyon.specs.Parts.{IsPlannedBy};
@@ -109,7 +109,15 @@ fn bring<S: Shelf>(
     ensures kept { IsAheadOfDisks moment (S.device shelf.old) → Path DeviceStep (StaysKept (S.device shelf.old)) (S.device shelf.old) (S.device shelf.new) }
 {
     let (plan, buf) = read_plan(alloc, shelf, name, moment, room, patience)?;
-    match write_plan(shelf, &plan, moment, buf, patience) {
+    let written = write_plan(shelf, &plan, moment, buf, patience);
+    begin_with(plan, written)
+}
+
+// What the session of a plan begins with, where its records were written.
+fn begin_with(plan: Plan, written: Result<Homes, Cause>) -> Result<(Parts, Homes), Cause>
+    ensures { result ≡ brought_of plan.parts written }
+{
+    match written {
         Ok(homes) => Ok((plan.parts, homes)),
         Err(why) => Err(why),
     }
