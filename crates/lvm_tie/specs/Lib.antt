@@ -17,3 +17,4 @@ pub mod Statuses
 pub mod Notes
 pub mod EndsWrites
 pub mod GoingOn
+pub mod Spares
