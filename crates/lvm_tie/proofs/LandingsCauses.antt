@@ -248,6 +248,17 @@ dark_caused first old new middle more same is was =
 
 -- ---- a turn
 
+-- a request that does something next hasn't landed
+pub waits_unless : (s : State) → IsSound s → s.core.power ≡ power.On → (place : ℕ) (o : Open) → slice_get s.core.requests place ≡ Some o → (next_for s.core o ≡ next.Wait → ⊥) → is_waiting o ≡ true
+waits_unless s sound on place o there does = by (is_waiting o) refl
+  where
+    its : IsOpenOne s.core o
+    its = all_at (IsOpenOne s.core) s.core.requests place o (sound.on on).going.requests there
+
+    by : (b : Bool) → is_waiting o ≡ b → b ≡ true
+    by true is = refl
+    by false is = absurd (does (ap (λ (p : Phase). next_in p (facts_of s.core o.request) o.request) (its.over is).phase_is))
+
 stays : (old new : Device) → new ≡ old → NoneFalls old.counts new.counts
 stays old new same = subst (λ (d : Device). NoneFalls old.counts d.counts) (sym same) (none_falls_at_once old.counts)
 
@@ -267,17 +278,6 @@ module _ (first : List Fact) (old new : State) (sound : IsSound old) (was : HasC
           (λ t caused failed. caused (ap (λ b. b || (t.usable && is_blamed old.core t.pp)) failed)) o.request.targets.items
           (all_at (AreCaused old.device old.core) old.core.requests place o (sound.on on).caused there waits)
       by false over = all_at (FailuresAreCaused old.device) old.core.requests place o (was.failed on) there over
-
-  -- one that does something next hasn't landed
-  waits_unless : old.core.power ≡ power.On → (place : ℕ) (o : Open) → slice_get old.core.requests place ≡ Some o → (next_for old.core o ≡ next.Wait → ⊥) → is_waiting o ≡ true
-  waits_unless on place o there does = by (is_waiting o) refl
-    where
-      its : IsOpenOne old.core o
-      its = all_at (IsOpenOne old.core) old.core.requests place o (sound.on on).going.requests there
-
-      by : (b : Bool) → is_waiting o ≡ b → b ≡ true
-      by true is = refl
-      by false is = absurd (does (ap (λ (p : Phase). next_in p (facts_of old.core o.request) o.request) (its.over is).phase_is))
 
   -- one of them changes, and nothing is entered
   sets_one : NoneFalls old.device.counts new.device.counts → (place : ℕ) (o : Open) → ground new.core ≡ ground_with old.core (slice_set old.core.requests place o) → FailuresAreCaused new.device o → HasCausesSince first new
@@ -313,14 +313,14 @@ module _ (first : List Fact) (old new : State) (sound : IsSound old) (was : HasC
   event_caused : old.core.power ≡ power.On → (it : Event) → Makes it old new → HasCausesSince first new
   event_caused on (event.Land place how) made = lands_caused on place how made
   event_caused on (event.Admit place) made = sets_one (stays old.device new.device (ap (λ (s : State). s.device) made.is)) place _ (ap (λ (s : State). ground s.core) made.is)
-      (unlanded new.device _ (waits_unless on place made.request made.there (λ e. let no : next.Admit ≡ next.Wait = sym made.admits ∙ e in cc)))
+      (unlanded new.device _ (waits_unless old sound on place made.request made.there (λ e. let no : next.Admit ≡ next.Wait = sym made.admits ∙ e in cc)))
   event_caused on (event.Pin place) made = sets_one (stays old.device new.device (ap (λ (s : State). s.device) made.is)) place _ (ap (λ (s : State). ground s.core) made.is)
       (λ over. failures_on old.device new.device (stays old.device new.device (ap (λ (s : State). s.device) made.is)) made.request.request.targets.items (failures_of on place made.request made.there))
   event_caused on event.StartStatus made = started made.flight made.launches.starts (ap (λ (s : State). ground s.core) made.is)
   event_caused on (event.StartNote place disk) made = started made.flight made.launches.starts (ap (λ (s : State). ground s.core) made.is)
   event_caused on (event.StartData place target) made =
       sets_one (step_counts old.device new.device (Started made.flight made.launches.starts)) place (begun_as target made.its.request) (ap (λ (s : State). ground s.core) made.is)
-      (unlanded new.device (begun_as target made.its.request) (waits_unless on place made.its.request made.its.there (λ e. let no : Some target ≡ None = sym made.its.due ∙ ap target_next e in cc)))
+      (unlanded new.device (begun_as target made.its.request) (waits_unless old sound on place made.its.request made.its.there (λ e. let no : Some target ≡ None = sym made.its.due ∙ ap target_next e in cc)))
   event_caused on event.ReadCopy made = started made.flight made.launches.starts (ap (λ (s : State). ground s.core) made.is)
   event_caused on event.WriteCopy made = started made.flight made.starts (ap (λ (s : State). ground s.core) made.is)
 

@@ -79,3 +79,4 @@ pub mod Ends
 pub mod CallsTurn
 pub mod Turning
 pub mod Spares
+pub mod Stamps

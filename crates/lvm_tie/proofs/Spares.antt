@@ -1,18 +1,18 @@
 -- The next descriptors of a session go on to spare the newest ones.
-use Rattle.std.proofs.Common.{◌≡◌, ◌⊎◌, inl, inr, ⊎_elim, ℕ, ◌+◌, ◌<◌, ◌≤◌, Bool, true, false, ◌&&◌, ◌==◌, not, List, [], Option, Some, None, is_some, refl, sym, ap, subst, ◌∙◌, arith}
-use Rattle.std.specs.Prelude.{IfSome, IsSomeAnd, IsTrue, MatchOption, Result, if◌then◌else◌, position}
+use Rattle.std.proofs.Common.{◌≡◌, ◌⊎◌, inl, inr, ⊎_elim, ℕ, ◌+◌, ◌<◌, ◌≤◌, Bool, true, false, ◌&&◌, not, List, Option, Some, None, is_some, refl, sym, ap, subst, ◌∙◌, arith}
+use Rattle.std.specs.Prelude.{Err, IfSome, IsSomeAnd, IsTrue, MatchOption, Ok, Result, if◌then◌else◌, position}
 use Rattle.std.specs.Option.{option_map_or}
 use Rattle.lvm_num.specs.declared.descriptor.Descriptor.{Descriptor}
+use Rattle.lvm_num.specs.declared.place.Pp.{Pp}
 use Rattle.lvm_num.specs.declared.record.Kind.TheVariants as kind
 use Rattle.lvm_num.specs.declared.status.Status.{Status}
-use Rattle.lvm_num.specs.Buffer.{Buffer, Sector}
+use Rattle.lvm_num.specs.Buffer.{Buffer}
 use Rattle.lvm_num.specs.Descriptor.{is_member}
 use Rattle.lvm_num.specs.DescriptorBytes.{descriptor_of}
 use Rattle.lvm_num.specs.Record.{slot_size, slot_start}
 use Rattle.lvm_num.specs.Status.{calls_missing}
 use Rattle.lvm_vol.specs.declared.entry.Outcome.{Outcome}
-use Rattle.lvm_vol.specs.Facts.{Fact}
-use Rattle.lvm_rec.specs.Slots.{slot_for}
+use Rattle.lvm_vol.specs.Log.{next_id}
 use Rattle.lvm_disk.specs.declared.shelf.Arrange.{Arrange}
 use Rattle.lvm_disk.specs.Counts.{Counts}
 use Rattle.lvm_disk.specs.Device.{Device, Flight, IsCrashImage, IsInFlight, MayLeave, Media, image_of}
@@ -20,9 +20,8 @@ use Rattle.lvm_disk.specs.Images.{LeavesNoMore}
 use Rattle.lvm_disk.specs.Paths.{Broke, DeviceStep, Ended, Started, Waited, WasCut}
 use Rattle.lvm_disk.specs.Steps.{BothTold, GoesDark, Starts}
 use Rattle.lvm_disk.proofs.Stepping.{arrange_step, step_leaves, step_same}
-use Rattle.lvm_kept.specs.Torn.{IsOutside}
+use Rattle.lvm_mwc.specs.Cache.{after_end as after_note_end}
 use Rattle.lvm_status.specs.Update.{Stored, Updates}
-use Rattle.lvm_status.specs.Calls.{with_start as with_write_start, with_update}
 use Rattle.lvm_homes.specs.declared.homes.Homes.{Homes}
 use Rattle.lvm_homes.specs.Homes.{next_slot}
 use Rattle.lvm_commit.proofs.Slots.{slot_for_same}
@@ -45,13 +44,13 @@ use Rattle.lvm_session.specs.declared.flown.Owner.TheVariants as owner
 use Rattle.lvm_session.specs.declared.open.Open.{Open}
 use Rattle.lvm_session.specs.State.{Core, State as Session, is_there, state}
 use Rattle.lvm_session.specs.Bringing.{after_copy_end, copy_ends, is_whole, with_end}
-use Rattle.lvm_session.specs.Calls.{OpenGives, Opens, SubmitGives, TakeAt, TakeGives, TakesLanded, after_take, ask_fault, copy_fault, is_asked, submitted}
+use Rattle.lvm_session.specs.Calls.{OpenGives, Opens, SubmitGives, TakeAt, TakeGives, TakesLanded, ask_fault, copy_fault, is_asked, submitted}
 use Rattle.lvm_session.specs.Dark.{all_dark, is_cut}
-use Rattle.lvm_session.specs.Ends.{Ends, EndsAs, FlipsIf, GoesOn, Learns, NoteLearns, StatusLearns, StepLearns, StepLeaves, with_copy, with_return, without_step}
+use Rattle.lvm_session.specs.Ends.{Ends, EndsAs, FlipsIf, GoesOn, Learns, NoteLeaves, StatusLearns, StepLearns, StepLeaves, with_copy, with_return, without_step}
 use Rattle.lvm_session.specs.Events.{Begins, StartsStatus}
 use Rattle.lvm_session.specs.Judging.{is_running}
-use Rattle.lvm_session.specs.Marks.{Reviews, WantsDirty, WantsDirtyIf, WantsStale}
-use Rattle.lvm_session.specs.Turns.{Arranges, Darkens, FinishMakes, Finishes, GoesOff, Makes, Moves, NoStart, OnMakes, TurnMakes, WasDark, WasOff, WasOn}
+use Rattle.lvm_session.specs.Marks.{Reviews, WantsDirtyIf, WantsStale}
+use Rattle.lvm_session.specs.Turns.{Arranges, Darkens, FinishMakes, Finishes, Makes, Moves, NoStart, OnMakes, TurnMakes, WasDark, WasOff, WasOn}
 use Rattle.lvm_tie_shelf.proofs.Writing.{and_both}
 use Rattle.lvm_tie.specs.Spares.{CallsSpareDescriptors, LeavesDescriptors, OverLeavesDescriptors, SparesDescriptors, SparesOn, TiedLeavesDescriptors, TurnSparesDescriptors}
 use Rattle.lvm_tie.proofs.Learning.{missing_then}
@@ -162,7 +161,7 @@ ended_same core (Some how) = by core.copy
     by None = refl
     by (Some c) = refl
 
-marked_stays : (due : Rattle.lvm_num.specs.declared.place.Pp.Pp → Bool) (old new : Core) (how : Option CopyEnd) → WantsStale due old.status new.status → new ≡ record (with_end old how) { status = new.status } → Stays old new
+marked_stays : (due : Pp → Bool) (old new : Core) (how : Option CopyEnd) → WantsStale due old.status new.status → new ≡ record (with_end old how) { status = new.status } → Stays old new
 marked_stays due old new how marks is = of_kept old new (ap kept is ∙ ended_same old how) (λ d gone. sym (marks.missing d) ∙ gone)
 
 reviewed_stays : (old new : Core) → Reviews old new → Stays old new
@@ -184,7 +183,7 @@ status_stays old new at disk ok buf it =
     (by_parts old mid refl (flipped ok disk old.homes it.homes it.flips) (missing_then disk ok old.status.wanted it.status.wanted it.wants))
     (reviewed_stays mid new it.reviews)
 
-note_stays : (old new : Core) (disk : ℕ) (ok : Bool) → Rattle.lvm_session.specs.Ends.NoteLeaves ok disk old new → Stays old new
+note_stays : (old new : Core) (disk : ℕ) (ok : Bool) → NoteLeaves ok disk old new → Stays old new
 note_stays old new disk true is = of_still old new (ap still is)
 note_stays old new disk false it =
     let mid : Core = record old { status = it.0 } in
@@ -216,7 +215,7 @@ learned_stays : (whose : Owner) (ok : Bool) (old new : Core) (at : ℕ) (buf : B
 learned_stays (owner.Data id target) ok old new at buf it = of_kept old new (ap kept it.entails.is ∙ ended_same _ _) (λ d gone. sym (it.entails.marks.missing d) ∙ gone)
 learned_stays (owner.Status disk) ok old new at buf it = status_stays old new at disk ok buf it
 learned_stays (owner.Note disk) ok old new at buf it =
-    let mid : Core = record (with_return old at buf) { cache = Rattle.lvm_mwc.specs.Cache.after_end old.cache disk ok } in
+    let mid : Core = record (with_return old at buf) { cache = after_note_end old.cache disk ok } in
     then_stays old mid new (of_still old mid refl) (note_stays mid new disk ok it)
 learned_stays owner.Copy ok old new at buf it = copy_stays (is_running it.copy) ok old new at it.copy buf it.learns
 
@@ -328,7 +327,7 @@ module _ (s : Session) (new : Core) (spares : SparesDescriptors s) where
   submits : (client : ℕ) (ask : Ask) (bytes : Option (List ℕ)) (answered : Result ℕ AskFault) → SubmitGives s.core new client ask bytes answered → SparesDescriptors (state s.device new)
   submits client ask bytes answered = by (ask_fault s.core ask)
     where
-      by : (m : Option AskFault) → MatchOption m ((answered ≡ Rattle.std.specs.Prelude.Ok (Rattle.lvm_vol.specs.Log.next_id s.core.history)) × (new ≡ submitted s.core client ask bytes)) (λ (why : AskFault). (answered ≡ Rattle.std.specs.Prelude.Err why) × (new ≡ s.core)) → SparesDescriptors (state s.device new)
+      by : (m : Option AskFault) → MatchOption m ((answered ≡ Ok (next_id s.core.history)) × (new ≡ submitted s.core client ask bytes)) (λ (why : AskFault). (answered ≡ Err why) × (new ≡ s.core)) → SparesDescriptors (state s.device new)
       by None it = same_spares (ap still it.1)
       by (Some why) it = same_spares (ap still it.1)
 
@@ -346,7 +345,7 @@ module _ (s : Session) (new : Core) (spares : SparesDescriptors s) where
   opens : (counts : Counts) (lv lp number : ℕ) (answered : Result (Unit {0}) CopyFault) → OpenGives counts s.core new lv lp number answered → SparesDescriptors (state s.device new)
   opens counts lv lp number answered = by (copy_fault s.core lv lp number)
     where
-      by : (m : Option CopyFault) → MatchOption m ((answered ≡ Rattle.std.specs.Prelude.Ok tt) × Opens counts s.core new lv lp number) (λ (why : CopyFault). (answered ≡ Rattle.std.specs.Prelude.Err why) × (new ≡ s.core)) → SparesDescriptors (state s.device new)
+      by : (m : Option CopyFault) → MatchOption m ((answered ≡ Ok tt) × Opens counts s.core new lv lp number) (λ (why : CopyFault). (answered ≡ Err why) × (new ≡ s.core)) → SparesDescriptors (state s.device new)
       by None it = same_spares (ap still it.1.is)
       by (Some why) it = same_spares (ap still it.1)
 

@@ -18,3 +18,4 @@ pub mod Notes
 pub mod EndsWrites
 pub mod GoingOn
 pub mod Spares
+pub mod Stamps
