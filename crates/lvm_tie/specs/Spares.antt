@@ -45,7 +45,8 @@ OverLeavesDescriptors = (s : Session) → IsSound s → is_over s.core.power ≡
 
 -- So the newest descriptors go on to be spared over each turn,
 abbrev pub TurnSparesDescriptors : Type 0
-TurnSparesDescriptors = (old new : Session) (answer : Turned) → LeavesDescriptors old.device → TurnMakes old new answer → SparesDescriptors old → SparesDescriptors new
+TurnSparesDescriptors = (old new : Session) (answer : Turned) → LeavesDescriptors old.device → TurnMakes old new answer
+    → SparesDescriptors old → SparesDescriptors new
 
 -- what a call of a client leaves of a session spares them too
 abbrev pub GoesOnSparing : (Session → Core → Type 0) → Type 0
@@ -55,6 +56,8 @@ GoesOnSparing Call = (s : Session) (new : Core) → Call s new → SparesDescrip
 pub record CallsSpareDescriptors : Type 0 where
   pub submit : (client : ℕ) (ask : Ask) (bytes : Option (List ℕ)) (answer : Result ℕ AskFault) → GoesOnSparing (λ s new. SubmitGives s.core new client ask bytes answer)
   pub take : (client id : ℕ) (answer : Taken) → GoesOnSparing (λ s new. TakeGives s.core new client id answer)
-  pub open_copy : (counts : Counts) (lv lp number : ℕ) (answer : Result (Unit {0}) CopyFault) → GoesOnSparing (λ s new. OpenGives counts s.core new lv lp number answer)
+  pub open_copy : (counts : Counts) (lv lp number : ℕ) (answer : Result (Unit {0}) CopyFault)
+      → GoesOnSparing (λ s new. OpenGives counts s.core new lv lp number answer)
   pub close_copy : GoesOnSparing (λ s new. Closes s.core new)
-  pub arrange : (old new : Session) (what : Arrange) (done : Bool) → LeavesDescriptors old.device → Arranges old new what done → SparesDescriptors old → SparesDescriptors new
+  pub arrange : (old new : Session) (what : Arrange) (done : Bool) → LeavesDescriptors old.device → Arranges old new what done
+      → SparesDescriptors old → SparesDescriptors new

@@ -35,12 +35,13 @@ pub record AreValid (status : Stored) : Type 0 where
 
 -- Where all that a crash may leave is from before a moment after the session's own, it is so after each turn,
 abbrev pub TurnLeavesBefore : Type 0
-TurnLeavesBefore = (moment : ℕ) (old new : Session) (answer : Turned) → IsSound old → IsSound new → IsStamped old.core.status → AreValid old.core.status → old.core.status.stamp.epoch < moment
-    → LeavesBefore (beginning_at moment) old.device → TurnMakes old new answer → LeavesBefore (beginning_at moment) new.device
+TurnLeavesBefore = (moment : ℕ) (old new : Session) (answer : Turned) → IsSound old → IsSound new → IsStamped old.core.status → AreValid old.core.status
+    → old.core.status.stamp.epoch < moment → LeavesBefore (beginning_at moment) old.device → TurnMakes old new answer → LeavesBefore (beginning_at moment) new.device
 
 -- and after an order of a client.
 abbrev pub ArrangeLeavesBefore : Type 0
-ArrangeLeavesBefore = (stamp : Stamp) (old new : Session) (what : Arrange) (done : Bool) → Arranges old new what done → LeavesBefore stamp old.device → LeavesBefore stamp new.device
+ArrangeLeavesBefore = (stamp : Stamp) (old new : Session) (what : Arrange) (done : Bool)
+    → Arranges old new what done → LeavesBefore stamp old.device → LeavesBefore stamp new.device
 
 -- the stamp stays one of the same epoch
 pub record KeepsEpoch (old new : Stored) : Type 0 where
@@ -64,6 +65,7 @@ pub record StaysOf (old new : Core) : Type 0 where
 pub record CallsStay : Type 0 where
   pub submit : (client : ℕ) (ask : Ask) (bytes : Option (List ℕ)) (answer : Result ℕ AskFault) (old new : Core) → SubmitGives old new client ask bytes answer → StaysOf old new
   pub take : (client id : ℕ) (answer : Taken) (old new : Core) → TakeGives old new client id answer → StaysOf old new
-  pub open_copy : (counts : Counts) (lv lp number : ℕ) (answer : Result (Unit {0}) CopyFault) (old new : Core) → OpenGives counts old new lv lp number answer → StaysOf old new
+  pub open_copy : (counts : Counts) (lv lp number : ℕ) (answer : Result (Unit {0}) CopyFault) (old new : Core)
+      → OpenGives counts old new lv lp number answer → StaysOf old new
   pub close_copy : (old new : Core) → Closes old new → StaysOf old new
   pub arrange : (old new : Session) (what : Arrange) (done : Bool) → Arranges old new what done → StaysOf old.core new.core

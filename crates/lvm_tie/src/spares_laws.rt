@@ -1,6 +1,9 @@
 //! Laws of where a session's next descriptors go. Each call does nothing: its contract is the law.
 ghost use Rattle.lvm_tie.specs.Spares.{
-    CallsSpareDescriptors, OverLeavesDescriptors, TiedLeavesDescriptors, TurnSparesDescriptors,
+  CallsSpareDescriptors,
+  OverLeavesDescriptors,
+  TiedLeavesDescriptors,
+  TurnSparesDescriptors,
 };
 
 /// No transfer that is out goes to a slot of descriptors, of a session that is tied or over.

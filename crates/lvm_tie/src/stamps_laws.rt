@@ -1,6 +1,10 @@
 //! Laws of the moment of a session. Each call does nothing: its contract is the law.
 ghost use Rattle.lvm_tie.specs.Stamps.{
-    ArrangeLeavesBefore, CallsStay, TurnIsEarlier, TurnKeepsEpoch, TurnLeavesBefore,
+  ArrangeLeavesBefore,
+  CallsStay,
+  TurnIsEarlier,
+  TurnKeepsEpoch,
+  TurnLeavesBefore,
 };
 
 /// All that a crash may leave stays from before each moment after the session's own, over each turn and each order.
