@@ -24,7 +24,7 @@ use Rattle.lvm_path.specs.declared.facts.Next.TheVariants as next
 use Rattle.lvm_path.specs.declared.request.Phase.{Phase}
 use Rattle.lvm_path.specs.declared.target.Target.{Target}
 use Rattle.lvm_path.specs.Asks.{at_of, count_of, lv_of}
-use Rattle.lvm_path.specs.Next.{next_in}
+use Rattle.lvm_path.specs.Next.{next_in, with_pin}
 use Rattle.lvm_path.specs.Targets.{is_begun, is_failed}
 use Rattle.lvm_session.specs.declared.event.Event.{Event}
 use Rattle.lvm_session.specs.declared.event.Event.TheVariants as event
@@ -33,14 +33,14 @@ use Rattle.lvm_session.specs.declared.flown.Owner.TheVariants as owner
 use Rattle.lvm_session.specs.declared.open.Open.{Open}
 use Rattle.lvm_session.specs.declared.open.Power.TheVariants as power
 use Rattle.lvm_session.specs.declared.origin.Origin.{Origin}
-use Rattle.lvm_session.specs.Judging.{copies_for, copies_in, facts_of, is_waiting, lp_of, next_for}
+use Rattle.lvm_session.specs.Judging.{copies_for, copies_in, facts_of, is_waiting, lp_of, mode_of, next_for, policy_of}
 use Rattle.lvm_session.specs.State.{Core, State}
 use Rattle.lvm_session.specs.declared.answers.Turned.{Turned}
 use Rattle.lvm_session.specs.declared.answers.Turned.TheVariants as turned
 use Rattle.lvm_session.specs.Dark.{all_dark, landings}
 use Rattle.lvm_session.specs.Enabled.{target_next}
 use Rattle.lvm_session.specs.Ends.{DataLearns, Ends, EndsAs, Learns, learned}
-use Rattle.lvm_session.specs.Events.{Lands, begun_as, got_blocks, landed_as}
+use Rattle.lvm_session.specs.Events.{Lands, admitted_as, begun_as, got_blocks, landed_as}
 use Rattle.lvm_session.specs.Marks.{is_among}
 use Rattle.lvm_session.specs.Turns.{Darkens, FinishMakes, Finishes, GoesOff, Makes, Moves, NoStart, OnMakes, TurnMakes, WasDark, WasOff, WasOn}
 use Rattle.lvm_session.specs.Causes.{AnyFailedSince, AreCaused, AreCounted, HasFailed, IsCaused, IsCounted, IsLandedFor, faults_at_first, is_blamed, was_usable}
@@ -312,9 +312,11 @@ module _ (first : List Fact) (old new : State) (sound : IsSound old) (was : HasC
 
   event_caused : old.core.power ≡ power.On → (it : Event) → Makes it old new → HasCausesSince first new
   event_caused on (event.Land place how) made = lands_caused on place how made
-  event_caused on (event.Admit place) made = sets_one (stays old.device new.device (ap (λ (s : State). s.device) made.is)) place _ (ap (λ (s : State). ground s.core) made.is)
-      (unlanded new.device _ (waits_unless old sound on place made.request made.there (λ e. let no : next.Admit ≡ next.Wait = sym made.admits ∙ e in cc)))
-  event_caused on (event.Pin place) made = sets_one (stays old.device new.device (ap (λ (s : State). s.device) made.is)) place _ (ap (λ (s : State). ground s.core) made.is)
+  event_caused on (event.Admit place) made =
+      let o : Open = admitted_as (policy_of old.core made.request.request.ask) (mode_of old.core made.request.request.ask) made.targets made.request in
+      sets_one (stays old.device new.device (ap (λ (s : State). s.device) made.is)) place o (ap (λ (s : State). ground s.core) made.is)
+      (unlanded new.device o (waits_unless old sound on place made.request made.there (λ e. let no : next.Admit ≡ next.Wait = sym made.admits ∙ e in cc)))
+  event_caused on (event.Pin place) made = sets_one (stays old.device new.device (ap (λ (s : State). s.device) made.is)) place (record made.request { request = with_pin made.request.request }) (ap (λ (s : State). ground s.core) made.is)
       (λ over. failures_on old.device new.device (stays old.device new.device (ap (λ (s : State). s.device) made.is)) made.request.request.targets.items (failures_of on place made.request made.there))
   event_caused on event.StartStatus made = started made.flight made.launches.starts (ap (λ (s : State). ground s.core) made.is)
   event_caused on (event.StartNote place disk) made = started made.flight made.launches.starts (ap (λ (s : State). ground s.core) made.is)
