@@ -1,9 +1,10 @@
 -- The state as which a tied session is seen has its causes.
-use Rattle.std.proofs.Common.{◌≡◌, ◌⊎◌, inl, inr, ℕ, suc, Bool, true, false, ◌&&◌, ◌||◌, ◌==◌, not, if◌then◌else◌, List, [], ◌∷◌, ◌++◌, Option, Some, None, refl, sym, ◌∙◌, ap, subst, arith, append_assoc}
+use Rattle.std.proofs.Common.{◌≡◌, ◌⊎◌, inl, inr, ℕ, suc, ◌+◌, ◌-◌, Bool, true, false, ◌&&◌, ◌||◌, ◌==◌, not, if◌then◌else◌, List, [], ◌∷◌, ◌++◌, Option, Some, None, refl, sym, ◌∙◌, ap, subst, arith, append_assoc}
 use Rattle.std.specs.Prelude.{IfSome, IsTrue, slice_get, unwrap_or}
 use Rattle.std.specs.List.{AllByRecursion, list_any}
 use Rattle.std.specs.Option.{option_map, option_map_or}
 use Rattle.std.proofs.lemmas.Bool.{eqb-true}
+use Rattle.std.proofs.lemmas.Bool.Decides.{nat_tests}
 use Rattle.lvm_num.specs.declared.descriptor.LvRow.{LvRow}
 use Rattle.lvm_num.specs.declared.place.Pp.{Pp}
 use Rattle.lvm_num.specs.declared.status.Status.{Status}
@@ -101,7 +102,13 @@ failed_on (t ∷ ts) c e = by (is_pp c t.pp) refl e (failed_on ts c)
 
 -- a copy of the list that is found has a number, from 1
 numbered : (test : Pp → Bool) (ps : List Pp) → list_any test ps ≡ true → (number : ℕ) × (p : Pp) × (copy_at ps number ≡ Some p) × (test p ≡ true)
-numbered test ps is = let at = any_there test ps is in (suc at.0, at.1, at.2, at.3)
+numbered test ps is = let at = any_there test ps is in (at.0 + 1, at.1, place_of_number at.0 ∙ at.2, at.3)
+  where
+    place_of_number : (k : ℕ) → copy_at ps (k + 1) ≡ slice_get ps k
+    place_of_number k =
+        let some : (k + 1 == 0) ≡ false = grind (arith, nat_tests) in
+        let less : k + 1 - 1 ≡ k = omega arith in
+        ap (λ b. if b then None else slice_get ps (k + 1 - 1)) some ∙ ap (slice_get ps) less
 
 module _ (past first : List Fact) (s : Session) (w : Faults) (tied : IsTied past s) (causes : HasCausesSince first s) (faults : AreFaultsOf past first s w) where
   abbrev core : Core
