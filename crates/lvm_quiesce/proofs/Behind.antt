@@ -1,5 +1,5 @@
 -- Stamps on crash images.
-use Rattle.std.proofs.Common.{◌≡◌, ℕ, [], List}
+use Rattle.std.proofs.Common.{ℕ, List}
 use Rattle.lvm_disk.specs.Device.{Device}
 use Rattle.lvm_disk.specs.Images.{LeavesNoMore}
 use Rattle.lvm_vol.specs.Facts.{Fact}
