@@ -1,7 +1,21 @@
--- Where a line may be refused.
-use Rattle.std.specs.Prelude.{◌≡◌, ℕ, ◌+◌, ◌≤◌, List, length}
+-- The bounds of the language: of the fields of commands, and of the columns of refusals.
+use Rattle.std.specs.Prelude.{◌≡◌, ◌≢◌, ℕ, ◌+◌, ◌≤◌, List, length, AllPairs, IsTrue}
+use Rattle.std.specs.Option.{ForSome}
+use Rattle.lvm_num.specs.Descriptor.{is_size}
+use Rattle.lvm_num.specs.Name.{is_name}
+use Rattle.lvm_num.specs.declared.descriptor.Mode.TheVariants as mode
 use Rattle.lvm_operands.specs.Reading.{misfit}
+use Rattle.lvm_parse.specs.declared.command.Command.{Command}
+use Rattle.lvm_parse.specs.declared.command.Command.TheVariants as command
 use Rattle.lvm_parse.specs.Grammar.{line_of}
+
+-- the numbers and the disks of a command
+abbrev pub IsWithin : Command → Type 0
+IsWithin (command.Mkvg force name mib disks) = (1 ≤ length disks) × AllPairs (λ a b. a ≢ b) disks × ForSome mib (λ given. IsTrue (is_size given)) × IsTrue (is_name name)
+IsWithin (command.Mklv name copies mode policy group lps) = (1 ≤ lps) × (mode ≡ mode.Off)
+IsWithin (command.RawRd disk at count) = (1 ≤ count) × (count ≤ 4096)
+IsWithin (command.RawWr disk at count word) = (1 ≤ count) × (count ≤ 4096)
+IsWithin other = Unit {0}
 
 -- at one of its columns, counted from 1, or behind its last byte
 abbrev pub IsRefusedWithin : List ℕ → Type 0
