@@ -231,7 +231,7 @@ RowsAreIn [] = ⊤
 RowsAreIn (r ∷ rs) = ((high : ℕ) (l : Left) → LeftIn high l → In high (r.reads l)) × RowsAreIn rs
 
 rows_in : RowsAreIn rows
-rows_in = (mkvg_in, varyonvg_in, varyoffvg_in, lsvg_in, mklv_in, rmlv_in, lslv_in, rd_in, wr_in, lspv_in, fail_in, heal_in, cut_in, tt)
+rows_in = (mkvg_in, (varyonvg_in, (varyoffvg_in, (lsvg_in, (mklv_in, (rmlv_in, (lslv_in, (rd_in, (wr_in, (lspv_in, (fail_in, (heal_in, (cut_in, tt)))))))))))))
 
 either_in : {T : Type 0} (high : ℕ) (t : Bool) (x y : Result T Misfit) → In high x → In high y → In high (cond t x y)
 either_in high true x y a b = a

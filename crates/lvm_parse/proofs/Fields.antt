@@ -277,7 +277,7 @@ RowsFit [] = Unit {0}
 RowsFit (r ∷ rs) = ((l : Left) → Fits (r.reads l)) × RowsFit rs
 
 rows_fit : RowsFit rows
-rows_fit = (fits_mkvg, fits_varyonvg, fits_varyoffvg, fits_lsvg, fits_mklv, fits_rmlv, fits_lslv, fits_rd, fits_wr, fits_lspv, fits_fail, fits_heal, fits_cut, tt)
+rows_fit = (fits_mkvg, (fits_varyonvg, (fits_varyoffvg, (fits_lsvg, (fits_mklv, (fits_rmlv, (fits_lslv, (fits_rd, (fits_wr, (fits_lspv, (fits_fail, (fits_heal, (fits_cut, tt)))))))))))))
 
 fits_rule : (rs : List Row) (word : List ℕ) (column : ℕ) (l : Left) → RowsFit rs → Fits (rule rs word column l)
 unfolding Fits
