@@ -1,8 +1,8 @@
 //! Options in any order, each at most once.
 ghost use Rattle.std.specs.Prelude.{◌≡◌, ◌<◌, length, MatchResult, MatchOption, Ok, Err};
 ghost use Rattle.lvm_operands.specs.Reading.{is_new, options};
-ghost use Rattle.lvm_parse.specs.Grammar.{mkvg_choice, no_mkvg_options, mklv_choice, no_mklv_options};
-ghost use Rattle.lvm_operands.specs.Rests.{left, ReadsOption, ReadsOptions};
+ghost use Rattle.lvm_options.specs.Options.{mkvg_choice, no_mkvg_options, mklv_choice, no_mklv_options};
+ghost use Rattle.lvm_operands.specs.Rests.{left, Reads, ReadsOption};
 
 use crate::chosen::{MklvOptions, MkvgOptions};
 use lvm_operands::{Misfit, Rest, copies, mode, name, next_word, policy, size};
@@ -47,15 +47,20 @@ fn mkvg_option<'a>(options: &mut MkvgOptions, rest: Rest<'a>) -> Result<Option<R
     Ok(None)
 }
 
-/// Reads the options of a `mkvg`; what follows them.
-pub fn mkvg_options<'a>(options: &mut MkvgOptions, rest: Rest<'a>) -> Result<Rest<'a>, Misfit>
-    ensures { ReadsOptions mkvg_choice options.old options.new (left rest.entry) result }
+/// The options of a `mkvg` that come next, and what follows them.
+pub fn mkvg_options(rest: Rest<'_>) -> Result<(MkvgOptions, Rest<'_>), Misfit>
+    ensures { Reads (options mkvg_choice no_mkvg_options (left rest.entry)) result }
 {
+    let mut options = MkvgOptions {
+        force: false,
+        name: None,
+        mib: None,
+    };
     let mut rest = rest;
-    'options: while let Some(behind) = mkvg_option(options, rest)? {
+    'options: while let Some(behind) = mkvg_option(&mut options, rest)? {
         rest = behind;
     }
-    Ok(rest)
+    Ok((options, rest))
 }
 
 // Reads the next option of a `mklv`, if one is next; what follows it.
@@ -104,13 +109,19 @@ fn mklv_option<'a>(options: &mut MklvOptions, rest: Rest<'a>) -> Result<Option<R
     Ok(None)
 }
 
-/// Reads the options of a `mklv`; what follows them.
-pub fn mklv_options<'a>(options: &mut MklvOptions, rest: Rest<'a>) -> Result<Rest<'a>, Misfit>
-    ensures { ReadsOptions mklv_choice options.old options.new (left rest.entry) result }
+/// The options of a `mklv` that come next, and what follows them.
+pub fn mklv_options(rest: Rest<'_>) -> Result<(MklvOptions, Rest<'_>), Misfit>
+    ensures { Reads (options mklv_choice no_mklv_options (left rest.entry)) result }
 {
+    let mut options = MklvOptions {
+        name: None,
+        copies: None,
+        mode: None,
+        policy: None,
+    };
     let mut rest = rest;
-    'options: while let Some(behind) = mklv_option(options, rest)? {
+    'options: while let Some(behind) = mklv_option(&mut options, rest)? {
         rest = behind;
     }
-    Ok(rest)
+    Ok((options, rest))
 }

@@ -6,19 +6,22 @@ use Rattle.std.specs.List.{list_any}
 use Rattle.std.proofs.lemmas.Bool.{leb-true}
 use Rattle.std.proofs.lemmas.List.Quantifiers.{all_pairs_push}
 use Rattle.lvm_num.specs.Descriptor.{is_size}
+use Rattle.lvm_num.specs.Name.{is_name}
 use Rattle.lvm_num.specs.declared.descriptor.Mode.{Mode}
 use Rattle.lvm_num.specs.declared.descriptor.Mode.TheVariants.{Off}
-use Rattle.lvm_parse.specs.declared.chosen.MkvgOptions.{MkvgOptions}
-use Rattle.lvm_parse.specs.declared.chosen.MklvOptions.{MklvOptions}
+use Rattle.lvm_literals.specs.Words.{only, number_in, number_within, count_in, size_in, name_in, disk_in, word_in, mode_in, partitions_in, copies_in, policy_in}
+use Rattle.lvm_operands.specs.declared.range.BlockRange.{BlockRange}
+use Rattle.lvm_operands.specs.declared.rest.Misfit.{Misfit}
+use Rattle.lvm_operands.specs.Line.{WordAt, Left, left_at, unreadable_at, is_remark}
+use Rattle.lvm_operands.specs.Reading.{then_, or_misfit, operand_of, operand, option, ends_of, ends, last, blocks, last_blocks, is_new, options, required, is_further, further_disk, disks_of, disks, next_column}
+use Rattle.lvm_options.specs.declared.chosen.MkvgOptions.{MkvgOptions}
+use Rattle.lvm_options.specs.declared.chosen.MklvOptions.{MklvOptions}
+use Rattle.lvm_options.specs.Options.{mkvg_choice, no_mkvg_options, mklv_choice, no_mklv_options}
+use Rattle.lvm_options.proofs.Keeping.{mapped, Keeping, keeping_if, options_keep}
 use Rattle.lvm_parse.specs.declared.command.Command.{Command}
 use Rattle.lvm_parse.specs.declared.command.Command.TheVariants as command
-use Rattle.lvm_operands.specs.declared.rest.Misfit.{Misfit}
-use Rattle.lvm_parse.specs.Grammar.{line_of, line_of_words, readable, rule, rd, wr, cut_of, mkvg, mkvg_choice, no_mkvg_options, mklv, mklv_choice, no_mklv_options, lslv}
-use Rattle.lvm_operands.specs.Line.{WordAt, Left, left_at, unreadable_at, is_remark}
-use Rattle.lvm_operands.specs.Reading.{then_, or_misfit, operand_of, operand, option, ends_of, ends, last, is_new, options, required, is_further, further_disk, disks_of, disks, next_column}
-use Rattle.lvm_literals.specs.Words.{only, number_in, number_within, count_in, size_in, name_in, disk_in, word_in, mode_in, partitions_in, copies_in, policy_in}
-use Rattle.lvm_line.specs.Lines.{IsWithin}
-use Rattle.lvm_line.proofs.Options.{mapped, Keeping, keeping_if, options_keep}
+use Rattle.lvm_parse.specs.Grammar.{Row, rows, rule, rd, wr, lspv, fail, heal, cut, cut_of, mkvg, varyonvg, varyoffvg, lsvg, mklv, rmlv, lslv, line_of_words, readable, line_of}
+use Rattle.lvm_parse.specs.Within.{IsWithin}
 
 -- ---- what is read
 
@@ -66,17 +69,46 @@ counted l v is =
     let parts = both (nat_le 1 v.0) (nat_le v.0 4096) passes in
     (leb-true 1 v.0 parts.0, leb-true v.0 4096 parts.1)
 
+-- the line ends behind a value
+at_end : {T : Type 0} (words : List WordAt) (w v : T) → ends_of words w ≡ Ok v → w ≡ v
+at_end [] w v same = cc (same)
+at_end (x ∷ words) w v same = absurd (cc (same))
+
 -- the last word was read, and none follows
 last_means : {T : Type 0} (meaning : List ℕ → Option T) (l : Left) (v : T) → last meaning l ≡ Ok v → (word : List ℕ) × (meaning word ≡ Some v)
 unfolding operand ends
 last_means {T} meaning l v is = go (operand meaning l) refl is
   where
-    at_end : (words : List WordAt) (w : T) → ends_of words w ≡ Ok v → w ≡ v
-    at_end [] w same = cc (same)
-    at_end (x ∷ words) w same = absurd (cc (same))
-
     go : (r : Result (T × Left) Misfit) → operand meaning l ≡ r → then_ r (λ value. ends value.1 value.0) ≡ Ok v → (word : List ℕ) × (meaning word ≡ Some v)
-    go (Ok value) read same = let word = operand_means meaning l.words l.end value read in (word.0, word.1 ∙ ap (λ (x : T). Some x) (at_end value.1.words value.0 same))
+    go (Ok value) read same = let word = operand_means meaning l.words l.end value read in (word.0, word.1 ∙ ap (λ (x : T). Some x) (at_end value.1.words value.0 v same))
+    go (Err e) read same = absurd (cc (same))
+
+IsCounted : BlockRange → Type 0
+IsCounted range = (1 ≤ range.count) × (range.count ≤ 4096)
+
+blocks_counted : (l : Left) (v : BlockRange × Left) → blocks l ≡ Ok v → IsCounted v.0
+unfolding blocks IsCounted
+blocks_counted l v is = of_first (operand number_in l) is
+  where
+    made : ℕ × Left → ℕ × Left → Result (BlockRange × Left) Misfit
+    made at count = Ok (record { at = at.0; count = count.0 }, count.1)
+
+    of_count : (at : ℕ × Left) (r : Result (ℕ × Left) Misfit) → operand count_in at.1 ≡ r → then_ r (made at) ≡ Ok v → IsCounted v.0
+    of_count at (Ok count) read same =
+        let e : ◌≡◌ {A = BlockRange × Left} (record { at = at.0; count = count.0 }, count.1) v = cc (same) in
+        subst (λ (x : BlockRange × Left). IsCounted x.0) e (counted at.1 count read)
+    of_count at (Err e) read same = absurd (cc (same))
+
+    of_first : (r : Result (ℕ × Left) Misfit) → then_ r (λ at. then_ (operand count_in at.1) (made at)) ≡ Ok v → IsCounted v.0
+    of_first (Ok at) same = of_count at (operand count_in at.1) refl same
+    of_first (Err e) same = absurd (cc (same))
+
+last_blocks_counted : (l : Left) (range : BlockRange) → last_blocks l ≡ Ok range → IsCounted range
+unfolding ends
+last_blocks_counted l range is = go (blocks l) refl is
+  where
+    go : (r : Result (BlockRange × Left) Misfit) → blocks l ≡ r → then_ r (λ found. ends found.1 found.0) ≡ Ok range → IsCounted range
+    go (Ok found) read same = subst IsCounted (at_end found.1.words found.0 range same) (blocks_counted l found read)
     go (Err e) read same = absurd (cc (same))
 
 some_partitions : (l : Left) (lps : ℕ) → last partitions_in l ≡ Ok lps → 1 ≤ lps
@@ -90,34 +122,34 @@ found_of : {T : Type 0} (o : Option T) (column : ℕ) (v : T) → or_misfit o co
 found_of (Some w) column v is = cc (is)
 found_of None column v is = absurd (cc (is))
 
-fits_ends : (l : Left) (c : Command) → IsWithin c → Fits (ends l c)
-unfolding Fits ends
-fits_ends l c within = go l.words
-  where
-    go : (words : List WordAt) → Fits (ends_of words c)
-    go [] = within
-    go (w ∷ words) = tt
-
 -- ---- the options of `mkvg`
 
-IsSized : MkvgOptions → Type 0
-IsSized o = ForSome o.mib (λ given. IsTrue (is_size given))
+named_word : (word name : List ℕ) → name_in word ≡ Some name → IsTrue (is_name name)
+named_word word name is = go (is_name word) refl is
+  where
+    go : (b : Bool) → is_name word ≡ b → (if b then Some word else None) ≡ Some name → is_name name ≡ true
+    go true passes same = let e : word ≡ name = cc (same) in ap is_name (sym e) ∙ passes
+    go false fails same = absurd (cc (same))
 
-with_name : (o : MkvgOptions) → IsSized o → (word : List ℕ) (after : MkvgOptions) → option_map (λ name. record o { name = Some name }) (name_in word) ≡ Some after → IsSized after
-unfolding IsSized
-with_name o sized word after is = mapped IsSized (λ name. record o { name = Some name }) (name_in word) after (λ name named. sized) is
+IsFit : MkvgOptions → Type 0
+IsFit o = ForSome o.mib (λ given. IsTrue (is_size given)) × ForSome o.name (λ name. IsTrue (is_name name))
 
-with_size : (o : MkvgOptions) (word : List ℕ) (after : MkvgOptions) → option_map (λ mib. record o { mib = Some mib }) (size_in word) ≡ Some after → IsSized after
-unfolding IsSized
-with_size o word after is = mapped IsSized (λ mib. record o { mib = Some mib }) (size_in word) after
-    (λ mib found given its. (let h : mib ≡ given = cc (its) in ap is_size (sym h) ∙ only_passes is_size (number_within 1 1024 word) mib found)) is
+with_name : (o : MkvgOptions) → IsFit o → (word : List ℕ) (after : MkvgOptions) → option_map (λ name. record o { name = Some name }) (name_in word) ≡ Some after → IsFit after
+unfolding IsFit
+with_name o fit word after is = mapped IsFit (λ name. record o { name = Some name }) (name_in word) after
+    (λ name found. (fit.0, λ given its. (let h : name ≡ given = cc (its) in ap is_name (sym h) ∙ named_word word name found))) is
 
-choice_is_sized : (o : MkvgOptions) (word : List ℕ) → IsSized o → Keeping IsSized (mkvg_choice o word)
-unfolding IsSized
-choice_is_sized o word sized =
-    keeping_if IsSized (is_new word (codes "-f") o.force) _ _ sized
-    (keeping_if IsSized (is_new word (codes "-y") (is_some o.name)) _ _ (with_name o sized)
-    (keeping_if IsSized (is_new word (codes "-s") (is_some o.mib)) _ _ (with_size o) tt))
+with_size : (o : MkvgOptions) → IsFit o → (word : List ℕ) (after : MkvgOptions) → option_map (λ mib. record o { mib = Some mib }) (size_in word) ≡ Some after → IsFit after
+unfolding IsFit
+with_size o fit word after is = mapped IsFit (λ mib. record o { mib = Some mib }) (size_in word) after
+    (λ mib found. (λ given its. (let h : mib ≡ given = cc (its) in ap is_size (sym h) ∙ only_passes is_size (number_within 1 1024 word) mib found), fit.1)) is
+
+choice_is_fit : (o : MkvgOptions) (word : List ℕ) → IsFit o → Keeping IsFit (mkvg_choice o word)
+unfolding IsFit
+choice_is_fit o word fit =
+    keeping_if IsFit (is_new word (codes "-f") o.force) _ _ fit
+    (keeping_if IsFit (is_new word (codes "-y") (is_some o.name)) _ _ (with_name o fit)
+    (keeping_if IsFit (is_new word (codes "-s") (is_some o.mib)) _ _ (with_size o fit) tt))
 
 -- ---- the options of `mklv`
 
@@ -174,25 +206,30 @@ disks_differ before (w ∷ words) end all differ is = go (further_disk before w.
 -- ---- lines
 
 fits_mkvg : (l : Left) → Fits (mkvg l)
-unfolding Fits IsSized options disks
-fits_mkvg l = fits_then (options mkvg_choice no_mkvg_options l) _ (λ o options_are. fits_then (required o.0.name o.1) _ (λ name named. fits_then (disks [] o.1) _ (λ all disks_are. whole o all options_are disks_are)))
+unfolding Fits IsFit options disks
+fits_mkvg l = fits_then (options mkvg_choice no_mkvg_options l) _ (λ o options_are. fits_then (required o.0.name o.1) _ (λ name named. fits_then (disks [] o.1) _ (λ all disks_are. whole o name all options_are named disks_are)))
   where
-    whole : (o : MkvgOptions × Left) (all : List ℕ) → options mkvg_choice no_mkvg_options l ≡ Ok o → disks [] o.1 ≡ Ok all → (1 ≤ length all) × AllPairs (λ a b. a ≢ b) all × ForSome o.0.mib (λ given. IsTrue (is_size given))
-    whole o all options_are disks_are =
+    whole : (o : MkvgOptions × Left) (name all : List ℕ) → options mkvg_choice no_mkvg_options l ≡ Ok o → required o.0.name o.1 ≡ Ok name → disks [] o.1 ≡ Ok all → (1 ≤ length all) × AllPairs (λ a b. a ≢ b) all × ForSome o.0.mib (λ given. IsTrue (is_size given)) × IsTrue (is_name name)
+    whole o name all options_are named disks_are =
         let differ = disks_differ [] o.1.words o.1.end all (λ i j d less within. absurd (omega (arith, within))) disks_are in
-        (differ.0, differ.1, options_keep IsSized mkvg_choice choice_is_sized no_mkvg_options l.words l.end o (λ given its. absurd (cc (its))) options_are)
+        let kept = options_keep IsFit mkvg_choice choice_is_fit no_mkvg_options l.words l.end o (λ given its. absurd (cc (its)), λ given its. absurd (cc (its))) options_are in
+        (differ.0, differ.1, kept.0, kept.1 name (found_of o.0.name (next_column o.1) name named))
 
 fits_rd : (l : Left) → Fits (rd l)
-fits_rd l = fits_then (operand disk_in l) _ (λ disk d. fits_then (operand number_in disk.1) _ (λ at a. fits_then (operand count_in at.1) _ (λ count c. fits_ends count.1 (command.RawRd disk.0 at.0 count.0) (counted at.1 count c))))
+unfolding Fits IsCounted
+fits_rd l = fits_then (operand disk_in l) _ (λ disk d. fits_then (last_blocks disk.1) _ (λ range r. last_blocks_counted disk.1 range r))
 
 fits_wr : (l : Left) → Fits (wr l)
-fits_wr l =
-    fits_then (operand disk_in l) _ (λ disk d. fits_then (operand number_in disk.1) _ (λ at a. fits_then (operand count_in at.1) _ (λ count c. fits_then (operand word_in count.1) _ (λ word w. fits_ends word.1 (command.RawWr disk.0 at.0 count.0 word.0) (counted at.1 count c)))))
+unfolding Fits IsCounted
+fits_wr l = fits_then (operand disk_in l) _ (λ disk d. fits_then (blocks disk.1) _ (λ range r. fits_then (last word_in range.1) _ (λ word w. blocks_counted disk.1 range r)))
 
-fits_cut : (words : List WordAt) (l : Left) → Fits (cut_of words l)
+fits_cut : (l : Left) → Fits (cut l)
 unfolding Fits
-fits_cut [] l = tt
-fits_cut (w ∷ words) l = fits_then (last word_in l) (λ word. Ok (command.Cut word)) (λ word is. tt)
+fits_cut l = go l.words
+  where
+    go : (words : List WordAt) → Fits (cut_of words l)
+    go [] = tt
+    go (w ∷ words) = fits_then (last word_in l) (λ word. Ok (command.Cut word)) (λ word is. tt)
 
 fits_lslv : (l : Left) → Fits (lslv l)
 unfolding Fits
@@ -206,22 +243,46 @@ fits_mklv l = fits_then (options mklv_choice no_mklv_options l) _ (λ o options_
     in_mode : (o : MklvOptions × Left) (mode : Mode) → options mklv_choice no_mklv_options l ≡ Ok o → required o.0.mode o.1 ≡ Ok mode → mode ≡ Off
     in_mode o mode options_are mode_is = options_keep IsOff mklv_choice choice_is_off no_mklv_options l.words l.end o (λ given its. absurd (cc (its))) options_are mode (found_of o.0.mode (next_column o.1) mode mode_is)
 
-fits_rule : (word : List ℕ) (column : ℕ) (l : Left) → Fits (rule word column l)
+fits_varyonvg : (l : Left) → Fits (varyonvg l)
 unfolding Fits
-fits_rule word column l =
-    fits_if (bytes_eq word (codes "mkvg")) _ _ (fits_mkvg l)
-    (fits_if (bytes_eq word (codes "rd")) _ _ (fits_rd l)
-    (fits_if (bytes_eq word (codes "wr")) _ _ (fits_wr l)
-    (fits_if (bytes_eq word (codes "varyonvg")) _ _ (fits_then _ (λ name. Ok (command.Varyon name)) (λ name is. tt))
-    (fits_if (bytes_eq word (codes "varyoffvg")) _ _ (fits_then _ (λ name. Ok (command.Varyoff name)) (λ name is. tt))
-    (fits_if (bytes_eq word (codes "lsvg")) _ _ (fits_then _ (λ name. Ok (command.Lsvg (option (codes "-l") l).0 name)) (λ name is. tt))
-    (fits_if (bytes_eq word (codes "mklv")) _ _ (fits_mklv l)
-    (fits_if (bytes_eq word (codes "rmlv")) _ _ (fits_then _ (λ name. Ok (command.Rmlv name)) (λ name is. tt))
-    (fits_if (bytes_eq word (codes "lslv")) _ _ (fits_lslv l)
-    (fits_if (bytes_eq word (codes "lspv")) _ _ (fits_then _ (λ disk. Ok (command.Lspv disk)) (λ disk is. tt))
-    (fits_if (bytes_eq word (codes "fail")) _ _ (fits_then _ (λ disk. Ok (command.Fail disk)) (λ disk is. tt))
-    (fits_if (bytes_eq word (codes "heal")) _ _ (fits_then _ (λ disk. Ok (command.Heal disk)) (λ disk is. tt))
-    (fits_if (bytes_eq word (codes "cut")) _ _ (fits_cut l.words l) tt))))))))))))
+fits_varyonvg l = fits_then _ (λ x. Ok (command.Varyon x)) (λ x is. tt)
+
+fits_varyoffvg : (l : Left) → Fits (varyoffvg l)
+unfolding Fits
+fits_varyoffvg l = fits_then _ (λ x. Ok (command.Varyoff x)) (λ x is. tt)
+
+fits_lsvg : (l : Left) → Fits (lsvg l)
+unfolding Fits
+fits_lsvg l = fits_then _ (λ name. Ok (command.Lsvg (option (codes "-l") l).0 name)) (λ name is. tt)
+
+fits_rmlv : (l : Left) → Fits (rmlv l)
+unfolding Fits
+fits_rmlv l = fits_then _ (λ x. Ok (command.Rmlv x)) (λ x is. tt)
+
+fits_lspv : (l : Left) → Fits (lspv l)
+unfolding Fits
+fits_lspv l = fits_then _ (λ x. Ok (command.Lspv x)) (λ x is. tt)
+
+fits_fail : (l : Left) → Fits (fail l)
+unfolding Fits
+fits_fail l = fits_then _ (λ x. Ok (command.Fail x)) (λ x is. tt)
+
+fits_heal : (l : Left) → Fits (heal l)
+unfolding Fits
+fits_heal l = fits_then _ (λ x. Ok (command.Heal x)) (λ x is. tt)
+
+-- the commands of each of these rows are within the bounds
+abbrev RowsFit : List Row → Type 0
+RowsFit [] = Unit {0}
+RowsFit (r ∷ rs) = ((l : Left) → Fits (r.reads l)) × RowsFit rs
+
+rows_fit : RowsFit rows
+rows_fit = (fits_mkvg, (fits_varyonvg, (fits_varyoffvg, (fits_lsvg, (fits_mklv, (fits_rmlv, (fits_lslv, (fits_rd, (fits_wr, (fits_lspv, (fits_fail, (fits_heal, (fits_cut, tt)))))))))))))
+
+fits_rule : (rs : List Row) (word : List ℕ) (column : ℕ) (l : Left) → RowsFit rs → Fits (rule rs word column l)
+unfolding Fits
+fits_rule [] word column l fit = tt
+fits_rule (r ∷ rs) word column l fit = fits_if (bytes_eq word r.word) (r.reads l) (rule rs word column l) (fit.0 l) (fits_rule rs word column l fit.1)
 
 -- a command that a line spells is within the grammar's bounds
 pub line_is_within : (line : List ℕ) (c : Command) → line_of line ≡ Ok (Some c) → IsWithin c
@@ -238,7 +299,7 @@ line_is_within line c is = of_line (unreadable_at line) (left_at 1 line) is
 
     of_words : (words : List WordAt) (end : ℕ) → line_of_words words end ≡ Ok (Some c) → IsWithin c
     of_words [] end same = absurd (cc (same))
-    of_words (w ∷ words) end same = of_remark (is_remark w.bytes) (rule w.bytes w.column (record { words = words; end = end })) (fits_rule w.bytes w.column (record { words = words; end = end })) same
+    of_words (w ∷ words) end same = of_remark (is_remark w.bytes) (rule rows w.bytes w.column (record { words = words; end = end })) (fits_rule rows w.bytes w.column (record { words = words; end = end }) rows_fit) same
 
     of_line : (at : Option ℕ) (l : Left) → readable at l ≡ Ok (Some c) → IsWithin c
     of_line (Some column) l same = absurd (cc (same))
