@@ -9,19 +9,19 @@ use Rattle.lvm_parse.specs.declared.command.Command.TheVariants as command
 use Rattle.lvm_operands.specs.declared.rest.Misfit.{Misfit}
 use Rattle.lvm_parse.specs.Grammar.{line_of}
 use Rattle.lvm_core.specs.declared.parts.Room.{Room}
-use Rattle.lvm_commands.specs.Disks.{ReadDoes, WriteDoes}
-use Rattle.lvm_commands.specs.Ends.{CommandEnds}
-use Rattle.lvm_commands.specs.Groups.{MkvgDoes, VaryonDoes, VaryoffDoes}
-use Rattle.lvm_commands.specs.Listings.{GroupShows, VolumeShows, DiskShows}
-use Rattle.lvm_commands.specs.Moments.{GoesOn}
-use Rattle.lvm_commands.specs.Replies.{IsRefused}
-use Rattle.lvm_commands.specs.Shelves.{ArrangeDoes, CutDoes}
-use Rattle.lvm_commands.specs.State.{State}
-use Rattle.lvm_commands.specs.Volumes.{MklvDoes, RmlvDoes, wanted}
-use Rattle.lvm_commands.specs.declared.reply.Refusal.TheVariants as refusal
-use Rattle.lvm_commands.specs.declared.reply.Reply.{Reply}
-use Rattle.lvm_commands.specs.declared.reply.Reply.TheVariants as reply
-use Rattle.lvm_commands.specs.declared.stage.Stage.{Stage}
+use Rattle.lvm_disk_lines.specs.Disks.{ReadDoes, WriteDoes}
+use Rattle.lvm_stage.specs.Ends.{CommandEnds}
+use Rattle.lvm_group_lines.specs.Groups.{MkvgDoes, VaryonDoes, VaryoffDoes}
+use Rattle.lvm_group_lines.specs.Listings.{GroupShows, VolumeShows, DiskShows}
+use Rattle.lvm_stage.specs.Moments.{GoesOn}
+use Rattle.lvm_stage.specs.Replies.{IsRefused}
+use Rattle.lvm_disk_lines.specs.Shelves.{ArrangeDoes, CutDoes}
+use Rattle.lvm_stage.specs.State.{State}
+use Rattle.lvm_volume_lines.specs.Volumes.{MklvDoes, RmlvDoes, wanted}
+use Rattle.lvm_stage.specs.declared.reply.Refusal.TheVariants as refusal
+use Rattle.lvm_stage.specs.declared.reply.Reply.{Reply}
+use Rattle.lvm_stage.specs.declared.reply.Reply.TheVariants as reply
+use Rattle.lvm_stage.specs.declared.stage.Stage.{Stage}
 
 -- a listing leaves the whole state
 abbrev pub IsListed : State → State → Type 0 → Type 0

@@ -14,15 +14,18 @@ use Rattle.lvm_core.specs.declared.refused.Cause.{Cause}
 use Rattle.lvm_core.specs.declared.refused.Cause.TheVariants as cause
 use Rattle.lvm_core.specs.Leaves.{MayBeFound}
 use Rattle.lvm_group.specs.NewGroup.{NewGroup, new_group}
-use Rattle.lvm_commands.specs.Disks.{patience_of_line}
-use Rattle.lvm_commands.specs.Groups.{IsLit, Asks, IsAsked, MkvgDoes, NoMemoryForLine, NoMkvgWhileOn, MakesGroup, MkvgFails, VaryonDoes, NoVaryonWhileOn, VariesOn, VaryonFails, asked_for}
-use Rattle.lvm_commands.specs.Moments.{IsBrokenOff}
-use Rattle.lvm_commands.specs.State.{State, IsTimely, log_with}
-use Rattle.lvm_commands.specs.declared.reply.Reply.{Reply}
-use Rattle.lvm_commands.specs.declared.reply.Reply.TheVariants as reply
-use Rattle.lvm_commands.proofs.Coming.{clock_is_ahead, lit_up}
-use Rattle.lvm_commands.proofs.Making.{leaves as making_leaves}
-use Rattle.lvm_commands.proofs.Varying.{leaves as varying_leaves}
+use Rattle.lvm_stage.specs.Ends.{patience_of_line}
+use Rattle.lvm_stage.specs.Lighting.{IsLit}
+use Rattle.lvm_stage.specs.Asking.{Asks, IsAsked}
+use Rattle.lvm_group_lines.specs.Groups.{MkvgDoes, NoMemoryForLine, NoMkvgWhileOn, MakesGroup, MkvgFails, VaryonDoes, NoVaryonWhileOn, VariesOn, VaryonFails, asked_for}
+use Rattle.lvm_stage.specs.Moments.{IsBrokenOff}
+use Rattle.lvm_stage.specs.State.{State, IsTimely, log_with}
+use Rattle.lvm_stage.specs.declared.reply.Reply.{Reply}
+use Rattle.lvm_stage.specs.declared.reply.Reply.TheVariants as reply
+use Rattle.lvm_group_lines.proofs.Coming.{clock_is_ahead}
+use Rattle.lvm_stage.proofs.Lighting.{lit_up}
+use Rattle.lvm_group_lines.proofs.Making.{leaves as making_leaves}
+use Rattle.lvm_group_lines.proofs.Varying.{leaves as varying_leaves}
 use Rattle.lvm_varyon.specs.Varied.{Refuses}
 use Rattle.lvm_varyon.specs.Writing.{order}
 use Rattle.lvm_top.specs.Standing.{MayHaveCommitted}
