@@ -47,7 +47,7 @@ pub record Promised (old new : Session) : Type 0 where
 
 pub promised_by : (N : Descriptor → Type 0) (Z : Pp → Type 0) (numbers before after : ℕ) (old new : Session) → Leaves (commanding N Z numbers) before after old new → Promised old new
 promised_by N Z numbers before after old new leaves = record {
-  keeps = leaves.spans;
+  keeps = λ held run first. leaves.spans run first (λ past begins. held);
   orders = leaves.writes.orders;
   epoch = leaves.numbers.epoch;
   history = leaves.history;
