@@ -21,6 +21,7 @@ use Rattle.lvm_session.specs.Dark.{hand_of_copy}
 use Rattle.lvm_session.specs.Ends.{DataLearns, Ends, GoesOn, Learns, NoteLearns, StatusLearns, StepLearns, StepLeaves, given_back, with_copy, with_return, without_step}
 use Rattle.lvm_session.specs.Marks.{Reviews}
 use Rattle.lvm_session.specs.Turns.{Darkens, FinishMakes, Finishes, GoesOff, Makes, Moves, NoStart, OnMakes, TurnMakes, WasDark, WasOff, WasOn}
+use Rattle.lvm_turn_answers.specs.Telling.{SameRoom}
 use Rattle.lvm_keeps.proofs.Ending.{back_long, hands_long}
 use Rattle.lvm_keeps.proofs.Lists.{length_set}
 
@@ -139,11 +140,6 @@ event_framed event.WriteCopy old new made =
     record { most = ap (λ (s : State). s.core.most) made.is; long = ap (λ (s : State). length s.core.pool) made.is; power_is = ap (λ (s : State). s.core.power) made.is }
 
 -- ---- a turn
-
--- the room alone
-pub record SameRoom (old new : Core) : Type 0 where
-  pub most : new.most ≡ old.most
-  pub long : length new.pool ≡ length old.pool
 
 room : (old new : Core) → Framed old new → SameRoom old new
 room old new it = record { most = it.most; long = it.long }

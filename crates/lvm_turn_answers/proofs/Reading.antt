@@ -36,8 +36,8 @@ use Rattle.lvm_keeps.proofs.Tables.{apart}
 use Rattle.lvm_keeps_events.proofs.Removal.{IsOut, taken_out}
 use Rattle.lvm_keeps_events.proofs.Outcomes.{gives}
 use Rattle.lvm_session.specs.declared.flown.Flown.{Flown}
-use Rattle.lvm_driver.specs.Answers.{GetsItsBlocks, GetsItsBuffer, HasRead, IsItsBuffer}
-use Rattle.lvm_driver.proofs.Frames.{copy_stays, marked_stays, note_stays, status_stays}
+use Rattle.lvm_turn_answers.specs.Reading.{GetsItsBlocks, GetsItsBuffer, HasRead, IsItsBuffer}
+use Rattle.lvm_turn_answers.proofs.Frames.{copy_stays, marked_stays, note_stays, status_stays}
 
 -- requests of one number are one
 one_named : (os : List Open) (k j : ℕ) (x y : Open) → IsAscending os → slice_get os k ≡ Some x → slice_get os j ≡ Some y → y.request.id ≡ x.request.id → y ≡ x

@@ -9,9 +9,9 @@ use Rattle.lvm_session.specs.Turns.{FinishMakes, Finds, FindsNothing, Finishes, 
 use Rattle.lvm_session.specs.Left.{left_of}
 use Rattle.lvm_session.specs.Sound.{IsOver, IsSound}
 use Rattle.lvm_keeps_turn.specs.Turning.{is_last}
-use Rattle.lvm_keeps_turn.proofs.Turning.{turn_ends, turn_falls, turn_keeps}
-use Rattle.lvm_driver.specs.Answers.{IsStill, TurnTells, power_by}
-use Rattle.lvm_driver.proofs.Frames.{end_framed, event_framed}
+use Rattle.lvm_keeps_turn.proofs.Turning.{turn_ends, turn_falls}
+use Rattle.lvm_turn_answers.specs.Telling.{IsStill, TurnTells, power_by}
+use Rattle.lvm_turn_answers.proofs.Frames.{end_framed, event_framed}
 
 module _ (old new : State) (sound : IsSound old) where
   -- ---- whether it goes on
@@ -75,6 +75,3 @@ module _ (old new : State) (sound : IsSound old) where
     moved = falls answer made;
     over = λ last. let ended = turn_ends old new answer sound made last in ended.0.over ended.1;
   }
-
-  pub turn_sound : (answer : Turned) → TurnMakes old new answer → IsSound new
-  turn_sound answer made = turn_keeps old new answer sound made
