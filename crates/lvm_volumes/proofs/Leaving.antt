@@ -23,7 +23,7 @@ use Rattle.lvm_session.specs.State.{State, is_there}
 use Rattle.lvm_core.specs.Zeros.{IsZeroOf}
 use Rattle.lvm_core.specs.Held.{IsHeld}
 use Rattle.lvm_core.specs.Committing.{SpanGoesOn}
-use Rattle.lvm_core.specs.Leaves.{Scope, NoPartition, IsOfCommand, WasLeftBehind, MayBeFound, Leaves}
+use Rattle.lvm_core.specs.Leaves.{Scope, NoPartition, IsHeldSince, IsOfCommand, WasLeftBehind, MayBeFound, Leaves}
 use Rattle.lvm_core.proofs.LeavesLemmas.{outside, keeps_same, same_status}
 use Rattle.lvm_volumes.specs.Endings.{StillHeld, IfAlone, commanding}
 
@@ -69,7 +69,7 @@ there_less a b group stays d is = there_before a.core.status.group a.core.status
 -- ---- wider scopes
 
 module _ (V W : Scope) (next : (d : Descriptor) → V.next d → W.next d) (zeros : (pp : Pp) → V.zeros pp → W.zeros pp) (stale : (pp : Pp) → V.stale pp → W.stale pp) (fresh : (pp : Pp) → V.fresh pp → W.fresh pp)
-    (numbers : V.numbers ≤ W.numbers) (p q : ℕ) (a b : State) (lets : IsHeld a.device a.core → (run : ℕ) (first : Moment) → W.lets a b run first → V.lets a b run first) where
+    (numbers : V.numbers ≤ W.numbers) (p q : ℕ) (a b : State) (lets : (run : ℕ) (first : Moment) → IsHeldSince run first a → W.lets a b run first → V.lets a b run first) where
   behind_wider : (pp : Pp) → WasLeftBehind V.next V.fresh a b pp → WasLeftBehind W.next W.fresh a b pp
   behind_wider pp is = record {
     group = is.group;
@@ -102,7 +102,7 @@ module _ (V W : Scope) (next : (d : Descriptor) → V.next d → W.next d) (zero
     };
     numbers = record { epoch = leaves.numbers.epoch; rises = leaves.numbers.rises; most = let m = leaves.numbers.most in omega (arith, m, numbers) };
     history = leaves.history;
-    spans = λ held run first only. leaves.spans held run first (lets held run first only);
+    spans = λ run first held only. leaves.spans run first held (lets run first held only);
     finds = λ held id k is. ⊎_elim (λ was. inl was) (λ new. inr (new.0, next k new.1)) (leaves.finds held id k is);
     calm = leaves.calm;
     behind = leaves.behind;
@@ -130,7 +130,7 @@ leaves_none W p s = record {
   status = same_status W.next W.stale W.fresh s s refl;
   numbers = record { epoch = refl; rises = omega arith; most = omega arith };
   history = keeps_same s.core.history s.core.history refl;
-  spans = λ held run first only span. span;
+  spans = λ run first held only span. span;
   finds = λ held id k is. inl is;
   calm = λ past calm. calm;
   behind = λ moment lt is. is;
@@ -237,7 +237,7 @@ module _ (N : Descriptor → Type 0) (Z : Pp → Type 0) where
 
   pub leaves_joined : (S : Pp → Type 0) (J K L : State → State → ℕ → Moment → Type 0) (m n p q r : ℕ) (a b c : State) → (b.core.descriptor ≡ a.core.descriptor) ⊎ N b.core.descriptor → b.core.descriptor.mib ≡ a.core.descriptor.mib
       → ((d : ℕ) → is_member b.core.descriptor d ≡ is_member a.core.descriptor d) → Leaves (scoped S J m) p q a b → (IsHeld a.device a.core → IsHeld b.device b.core) → Leaves (scoped S K n) q r b c
-      → (IsHeld a.device a.core → (run : ℕ) (first : Moment) → L a c run first → SpanGoesOn run first a c) → Leaves (scoped S L (m + n)) p r a c
+      → ((run : ℕ) (first : Moment) → IsHeldSince run first a → L a c run first → SpanGoesOn run first a c) → Leaves (scoped S L (m + n)) p r a c
   leaves_joined S J K L m n p q r a b c from mib members one still two spans = record {
     writes = keeps_then (is_there a.core) (IsOfCommand N Z a c) a.device b.device c.device
         (wider (is_there a.core) (is_there a.core) (IsOfCommand N Z a b) (IsOfCommand N Z a c) a.device b.device (λ d is. is)
@@ -282,8 +282,8 @@ module _ (N : Descriptor → Type 0) (Z : Pp → Type 0) where
 
   pub leaves_then : (m n p q r : ℕ) (a b c : State) → (b.core.descriptor ≡ a.core.descriptor) ⊎ N b.core.descriptor → b.core.descriptor.mib ≡ a.core.descriptor.mib → ((d : ℕ) → is_member b.core.descriptor d ≡ is_member a.core.descriptor d)
       → Leaves (commanding N Z m) p q a b → StillHeld a b → Leaves (commanding N Z n) q r b c → Leaves (commanding N Z (m + n)) p r a c
-  leaves_then m n p q r a b c from mib members one still two = leaves_joined NoPartition IfAlone IfAlone IfAlone m n p q r a b c from mib members one still.held two (λ held run first only span.
+  leaves_then m n p q r a b c from mib members one still two = leaves_joined NoPartition IfAlone IfAlone IfAlone m n p q r a b c from mib members one still.held two (λ run first held only span.
       let before = one.history.volumes in
       let after = two.history.volumes in
-      two.spans (still.held held) run first (λ enters past begins. still.only held (only (omega (arith, before, enters)) past begins))
-      (one.spans held run first (λ enters. only (omega (arith, after, enters))) span))
+      two.spans run first (λ past begins. still.held (held past begins)) (λ enters past begins. still.only (held past begins) (only (omega (arith, before, enters)) past begins))
+      (one.spans run first held (λ enters. only (omega (arith, after, enters))) span))
