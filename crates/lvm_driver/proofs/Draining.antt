@@ -15,9 +15,9 @@ use Rattle.lvm_vol.specs.Facts.{Fact}
 use Rattle.lvm_tie.specs.Landings.{HasCausesSince}
 use Rattle.lvm_tie.specs.GoingOn.{GoesOn}
 use Rattle.lvm_tie.proofs.Spanning.{goes_same, goes_then}
-use Rattle.lvm_driver.specs.Answers.{TurnTells}
+use Rattle.lvm_turn_answers.specs.Telling.{TurnTells}
 use Rattle.lvm_driver.specs.Drains.{IsAny, IsDrained, IsTurn}
-use Rattle.lvm_driver.proofs.Stepping.{turn_counts}
+use Rattle.lvm_turn_answers.proofs.Stepping.{turn_counts}
 
 -- So far turns have been made, and the patience that is gone went with answers that nothing has ended.
 pub record Goes (first now : State) (patience left : ℕ) : Type 0 where

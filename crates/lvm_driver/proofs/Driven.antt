@@ -28,11 +28,12 @@ use Rattle.lvm_keeps.proofs.Ending.{back_long, hands_long}
 use Rattle.lvm_keeps.proofs.Orders.{order_keeps}
 use Rattle.lvm_keeps.proofs.Take.{take_keeps}
 use Rattle.lvm_keeps_calls.proofs.Submit.{submit_keeps}
+use Rattle.lvm_keeps_turn.proofs.Turning.{turn_keeps}
 use Rattle.lvm_keeps_open.proofs.Opening.{seen_open_keeps}
 use Rattle.lvm_copy_open.specs.Opening.{counts_seen}
-use Rattle.lvm_driver.proofs.Frames.{SameRoom, turn_room}
+use Rattle.lvm_turn_answers.specs.Telling.{SameRoom}
+use Rattle.lvm_turn_answers.proofs.Frames.{turn_room}
 use Rattle.lvm_driver.proofs.Rooms.{rooms_stay}
-use Rattle.lvm_driver.proofs.Telling.{turn_sound}
 
 -- ---- a session that isn't stuck may be asked
 
@@ -120,5 +121,5 @@ order_on device now old new what done it order same = (
 pub turn_on : (device now : Device) (old new : Session) (answer : Turned) → AreSound device old → TurnMakes (state device (core_of old)) (state now (core_of new)) answer → SameRooms old new → AreSound now new
 turn_on device now old new answer it made same = (
   rooms_stay old new (turn_room (state device (core_of old)) (state now (core_of new)) answer made) same it.0,
-  turn_sound (state device (core_of old)) (state now (core_of new)) it.1 answer made,
+  turn_keeps (state device (core_of old)) (state now (core_of new)) answer it.1 made,
 )

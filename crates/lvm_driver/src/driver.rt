@@ -23,8 +23,11 @@ ghost use Rattle.lvm_copy_open.specs.Opening.{counts_seen};
 ghost use Rattle.lvm_session_start.specs.Beginning.{AreFaults, MayBegin, first_core};
 ghost use Rattle.lvm_tie.specs.Landings.{HasCausesSince};
 ghost use Rattle.lvm_tie.specs.GoingOn.{GoesOn};
-ghost use Rattle.lvm_driver.specs.Answers.{GetsItsBlocks, IsCausedFor, IsCopyCaused, IsOffSince, TurnTells, state_of};
+ghost use Rattle.lvm_turn_answers.specs.Reading.{GetsItsBlocks};
+ghost use Rattle.lvm_turn_answers.specs.Telling.{TurnTells};
+ghost use Rattle.lvm_driver.specs.Answers.{IsCausedFor, IsCopyCaused, IsOffSince, state_of};
 
+use crate::closed::{Closed, without_freed};
 use lvm_calls::{close_copy, copy_state, take};
 use lvm_copy_open::open_copy;
 use lvm_disk::{Arrange, Shelf};
@@ -298,20 +301,4 @@ fn wanted_is_valid(session: &Session)
     ensures { IsValidStatus session.now.updater.wanted }
 {
     let _ = session.updater.wanted().as_status();
-}
-
-// Takes back the buffers that a power cut made the shelf give up.
-fn without_freed<S: Shelf>(shelf: S) -> S
-    ensures { S.device result ≡ record (S.device shelf) { freed = [] } }
-{
-    let mut shelf = shelf;
-    while let Some(_) = shelf.next_freed() {}
-    shelf
-}
-
-/// What is left of a session.
-#[derive(Drop)]
-pub struct Closed<S> {
-    pub shelf: S,
-    pub history: History,
 }

@@ -1,11 +1,13 @@
 //! A group that is varied on, over its shelf: what clients ask of it, and the turns that do it.
 #![tactic(auto)]
 
+mod closed;
 mod drain;
 mod driver;
 pub mod laws;
 mod shown;
 
+pub use closed::Closed;
 pub use drain::DrainFault;
-pub use driver::{Closed, Driver};
+pub use driver::Driver;
 pub use shown::Lent;

@@ -75,20 +75,20 @@ disk_of (r ∷ rows) disk row all is = by_test (r.disk == disk) refl (disk_of ro
     by_test false test rest is = rest is
 
 module _ (v : NewVolume) (plan : VolumePlan) (a : State) (settled : IsSettled a.core) (planned : IsPlannedVolume v a.core plan) where
-  one : v.copies ≡ 1
-  one = planned.may.places.numbered.single.one
+  some : 1 ≤ v.copies
+  some = planned.may.places.numbered.counted.copies.0
 
-  placed : IsAllocated a.core.descriptor (is_there a.core) (new_volume v.lps 1) plan.map
-  placed = subst (λ (n : ℕ). IsAllocated a.core.descriptor (is_there a.core) (new_volume v.lps n) plan.map) one planned.may.places.placed
+  placed : IsAllocated a.core.descriptor (is_there a.core) (new_volume v.lps v.copies) plan.map
+  placed = planned.may.places.placed
 
   pub plan_unused : AreUnusedOn a.core plan.map
   plan_unused = record {
-    there = usable_of a.core.descriptor (is_there a.core) v.lps plan.map planned.group.valid placed;
-    free = free_of a.core.descriptor (is_there a.core) v.lps plan.map planned.group.valid placed;
-    places = places_of a.core.descriptor (is_there a.core) v.lps plan.map planned.group.valid placed;
-    disks = λ k e lt. let place = places_of a.core.descriptor (is_there a.core) v.lps plan.map planned.group.valid placed k e lt in
+    there = usable_of a.core.descriptor (is_there a.core) v.lps v.copies plan.map planned.group.valid placed;
+    free = free_of a.core.descriptor (is_there a.core) v.lps v.copies plan.map planned.group.valid placed;
+    places = places_of a.core.descriptor (is_there a.core) v.lps v.copies plan.map planned.group.valid placed;
+    disks = λ k e lt. let place = places_of a.core.descriptor (is_there a.core) v.lps v.copies plan.map planned.group.valid placed k e lt in
         disk_of a.core.descriptor.pvs (get_or plan.map k e).disk place.0 planned.group.valid.members.each place.1;
-    once = once_of a.core.descriptor (is_there a.core) v.lps plan.map planned.group.valid placed;
+    once = once_of a.core.descriptor (is_there a.core) v.lps v.copies plan.map planned.group.valid placed;
   }
 
   abbrev N : Descriptor → Type 0
@@ -142,7 +142,7 @@ module _ (v : NewVolume) (plan : VolumePlan) (a : State) (settled : IsSettled a.
       same_f : f ≡ Making plan.number (volume_blocks a.core.descriptor.mib v.lps) v.mode
       same_f = λ t. Making plan.number (planned.blocks t) (planned.mode t)
 
-      whole : length plan.map ≡ v.lps * 1
+      whole : length plan.map ≡ v.lps * v.copies
       whole = placed.whole
 
       lets_make : (run : ℕ) (first : Moment) → IsHeldSince run first b → LetsCommit plan.number plan.next run first begun
@@ -163,7 +163,7 @@ module _ (v : NewVolume) (plan : VolumePlan) (a : State) (settled : IsSettled a.
               let zeros : All (λ (pp : Pp). (disk s : ℕ) → IsSectorOf d.mib pp disk s → m disk s ≡ zero_sector) plan.map = λ k e lt.
               subst (λ (o : Option Media). IfSome o (λ media. (disk s : ℕ) → IsSectorOf d.mib (get_or plan.map k e) disk s → media disk s ≡ zero_sector)) told (cleared.zeros k e lt) in
               let all : VolumeServes (contents_of (image_of b.device.sizes m)) (facts ++ made ∷ []) d plan.number (with_volume d (row_for v plan.number plan.map)) =
-              new_serves v plan.number plan.map d planned.lowest planned.order planned.group.valid (mib_positive d planned.group.valid) one whole
+              new_serves v plan.number plan.map d planned.lowest planned.order planned.group.valid (mib_positive d planned.group.valid) some whole
               m b.device.sizes facts b.core.status.committed (is_there b.core) enough shows kept zeros cleared.there cleared.fresh in
               subst (λ (x : Descriptor). VolumeServes (contents_of (image_of b.device.sizes m)) (past ++ (b.core.history.facts ++ f ∷ [])) x plan.number plan.next) (sym same)
               (subst (λ (x : Descriptor). VolumeServes (contents_of (image_of b.device.sizes m)) (past ++ (b.core.history.facts ++ f ∷ [])) d plan.number x) (sym planned.next)
@@ -251,9 +251,11 @@ module _ (v : NewVolume) (plan : VolumePlan) (a : State) (settled : IsSettled a.
             settled = settled_entered c (Made plan.number) done.settled;
             is = ap (λ (x : Core). record x { history = with_fact x.history (Made plan.number) }) done.is
                 ∙ ap (λ (x : Core). record x { descriptor = plan.next; history = with_fact (with_fact x.history f) (Made plan.number); status = c.core.status; homes = c.core.homes }) cleared.is;
-            fresh = subst (λ (s : Status). All (λ (pp : Pp). IsFalse (calls_stale s pp)) plan.map) (sym done.settled.committed)
-                (fresh_with a.core.descriptor v plan.number plan.map b.core.status c.core.status one plan_unused.free (subst (λ (s : Status). All (λ (pp : Pp). IsFalse (calls_stale s pp)) plan.map) cleared.settled.committed cleared.fresh)
-                (subst (λ (d : Descriptor). MarksLeft d b.core.status c.core.status) planned.next left));
+            fresh = subst (λ (s : Status). All (λ (pp : Pp). IsTrue (is_there c.core pp.disk) → IsFalse (calls_stale s pp)) plan.map) (sym done.settled.committed)
+                (λ k e lt here. fresh_with a.core.descriptor v plan.number plan.map b.core.status c.core.status (subst (λ (s : Status). All (λ (pp : Pp). IsFalse (calls_stale s pp)) plan.map) cleared.settled.committed cleared.fresh)
+                (subst (λ (d : Descriptor). MarksLeft d b.core.status c.core.status) planned.next left) k e lt
+                (subst (λ (g : Descriptor). IsTrue (members_there g c.core.status.wanted (get_or plan.map k e).disk)) (sym (leaves.status.group ∙ clear_leaves.status.group ∙ planned.group.status))
+                (subst (λ (d : Descriptor). IsTrue (members_there d c.core.status.wanted (get_or plan.map k e).disk)) named here)));
             zeros = zeros_then;
             ready = done.ready;
             cuts = done.cuts ∙ cleared.cuts;

@@ -1,8 +1,8 @@
 use Rattle.lvm_session.specs.Fields.{core_of}
 use Rattle.lvm_session.specs.State.{state}
 use Rattle.lvm_driver.proofs.Driven.{turn_on}
-use Rattle.lvm_driver.proofs.Reading.{turn_gets}
-use Rattle.lvm_driver.proofs.Telling.{turn_tells}
+use Rattle.lvm_turn_answers.proofs.Reading.{turn_gets}
+use Rattle.lvm_turn_answers.proofs.Telling.{turn_tells}
 use Rattle.lvm_driver.proofs.Good.{turn_good}
 use Rattle.lvm_tie.proofs.LandingsCauses.{turn_keeps_causes}
 use Rattle.lvm_driver.proofs.driver.Driver.turn.Goals as goal

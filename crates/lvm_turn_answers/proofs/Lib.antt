@@ -1,0 +1,4 @@
+pub mod Frames
+pub mod Telling
+pub mod Stepping
+pub mod Reading
