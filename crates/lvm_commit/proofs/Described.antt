@@ -33,7 +33,7 @@ use Rattle.lvm_commit.specs.Committed.{next_stamp, IsAlike}
 use Rattle.lvm_commit.specs.LawsOfVolumes.{VolumeServes, LeavesOthers}
 use Rattle.lvm_commit.specs.LawsOfFinding.{FindsNoMore, FindsNoMoreOn}
 use Rattle.lvm_commit.proofs.Leaving.{wants_marks, round_left, left_then}
-use Rattle.lvm_commit.specs.Settling.{EndsAtOnce, StaysCommitted, MarksLeft, there, IsOf, SessionIsHeld, WantsMarks, OthersAreLeft, OnlyLoses, HasLostQuorum, SpendsNumbers, IsOfStatus, IsOfCommit, IsOneRecord, StatusStaysKept, DescriptorStaysKept, StatusFindsNothingNew, StaysHeld, CommitLeaves, ComesBack, StatusEnds, DescriptorEnds}
+use Rattle.lvm_commit.specs.Settling.{EndsAtOnce, IsForgotten, StaysCommitted, MarksLeft, there, IsOf, SessionIsHeld, WantsMarks, OthersAreLeft, OnlyLoses, HasLostQuorum, SpendsNumbers, IsOfStatus, IsOfCommit, IsOneRecord, StatusStaysKept, DescriptorStaysKept, StatusFindsNothingNew, StaysHeld, CommitLeaves, ComesBack, StatusEnds, DescriptorEnds}
 use Rattle.lvm_commit.specs.Rounds.{MarksRound, stamped, session_write, WasTried, RecordGives}
 use Rattle.lvm_commit.proofs.Chaining.{Goes, path_counts, keeps_wider, loses_less, loses_then, not_there, record_returns, returns_then, lost_quorum_then, spends_numbers_then}
 use Rattle.lvm_commit.proofs.Round.{none_or_some, failed_is_missing, was_there_on}
@@ -82,6 +82,7 @@ pub record Described (d : Descriptor) (first mid last : Stored) (homes after fin
   pub describes : descriptor_of content ≡ Ok d
   pub round : MarksRound d first mid
   pub left : MarksLeft d mid last
+  pub forgotten : IsForgotten mid → IsForgotten last
   pub unwritten : mid.wanted ≡ mid.committed → EndsAtOnce r ((new ≡ m) × (last ≡ mid))
 
 module _ (d : Descriptor) (first mid last : Stored) (homes after final : Homes) (old m new : Device) (content : List ℕ) (number p q : ℕ) (buf : Buffer) (r : CommitEnd) (k : Described d first mid last homes after final old m new content number p q buf r) where
@@ -228,6 +229,7 @@ module _ (d : Descriptor) (first mid last : Stored) (homes after final : Homes) 
   commit_leaves s spends numbers = record {
     loses = commit_loses;
     left = commit_left;
+    forgotten = λ was. k.forgotten (k.round.forgotten was);
     numbers = commit_numbers numbers;
     keeps = commit_keeps numbers.rises;
     spends = spends_then p q s old m new k.gives.leaves.spends spends;

@@ -28,7 +28,7 @@ use Rattle.lvm_steps.proofs.Booleans.{either, clash, second}
 use Rattle.lvm_homes.specs.declared.homes.Homes.{Homes}
 use Rattle.lvm_write.proofs.Writing.{if_told, told_at}
 use Rattle.lvm_commit.specs.Committed.{MayMark, HoldsCommitted}
-use Rattle.lvm_commit.specs.Settling.{there, IsOf, SessionIsHeld, WantsMarks, IsPassed, MarksLeft}
+use Rattle.lvm_commit.specs.Settling.{there, IsForgotten, IsOf, SessionIsHeld, WantsMarks, IsPassed, MarksLeft}
 use Rattle.lvm_commit.specs.Rounds.{Misses, LosesMembers, HasMarked, MarksRound, CommitsRound, IsByVotes}
 use Rattle.lvm_commit.specs.declared.commit.CommitEnd.{CommitEnd}
 use Rattle.lvm_commit.specs.declared.commit.CommitEnd.TheVariants as commit_end
@@ -102,12 +102,13 @@ leaves_of failed a b c misses is = record {
 }
 
 -- nothing was wanted
-pub round_same : (d : Descriptor) (first last : Stored) → last.group ≡ first.group → last.wanted ≡ first.wanted → MarksRound d first last
-round_same d first last group same =
+pub round_same : (d : Descriptor) (first last : Stored) → last.group ≡ first.group → last.wanted ≡ first.wanted → (IsForgotten first → IsForgotten last) → MarksRound d first last
+round_same d first last group same forgotten =
     let there_same : there last ≡ there first = (λ i. members_there (group i) (same i)) in
     record {
       none = λ was p left. ap (λ (s : Status). calls_stale s p) same ∙ was p (subst (λ (set : Disks). IsLeftIn set first.wanted d.lvs p) there_same (subst (λ (s : Status). IsLeftIn (there last) s d.lvs p) same left));
       only = λ p stale. inl (sym (ap (λ (s : Status). calls_stale s p) same) ∙ stale);
+      forgotten = forgotten;
     }
 
 -- what was wanted first, the group then, what is wanted once members are missing and once it is marked
@@ -130,7 +131,7 @@ module _ (d : Descriptor) (first mid last : Stored) (failed : Disks) (misses : M
   group_same : last.group ≡ mid.group
   group_same = ap (λ (u : Stored). u.group) marked.rest
 
-  module _ (group : mid.group ≡ first.group) (members : (e : ℕ) → failed e ≡ true → is_member d e ≡ true) where
+  module _ (group : mid.group ≡ first.group) (members : (e : ℕ) → failed e ≡ true → is_member d e ≡ true) (forgotten : IsForgotten first → IsForgotten mid) where
     still : any ≡ false → last.wanted ≡ first.wanted
     still none = marked.unmarked none ∙ misses.same (λ e. ⊎_elim (λ fails. absurd (clash any (any_of failed d.pvs e (members e fails) fails) none)) (λ well. well) (either (failed e)))
 
@@ -162,13 +163,17 @@ module _ (d : Descriptor) (first mid last : Stored) (failed : Disks) (misses : M
             };
           }
 
+    last_forgotten : IsForgotten first → IsForgotten last
+    last_forgotten was = subst IsForgotten (sym marked.rest) (forgotten was)
+
     pub marks_round : MarksRound d first last
     marks_round = ⊎_elim
         (λ (some : any ≡ true). let marks = marked.marked some in record {
           none = λ was p left. marks.marked p (on_mid marks p left);
           only = λ p stale. ⊎_elim (λ (before : IsTrue (calls_stale mid.wanted p)). inl (sym (misses.stale p) ∙ before)) (λ left. inr (on_last marks p left)) (marks.only p stale);
+          forgotten = last_forgotten;
         })
-        (λ (none : any ≡ false). round_same d first last (group_same ∙ group) (still none))
+        (λ (none : any ≡ false). round_same d first last (group_same ∙ group) (still none) last_forgotten)
         (either any)
 
 -- what is committed stays so

@@ -22,7 +22,7 @@ use Rattle.lvm_commit.specs.LawsOfFinding.{FindsNothingNew, FindsNothingNewOn}
 use Rattle.lvm_commit.specs.LawsOfVolumes.{LeavesOthers}
 use Rattle.lvm_commit.specs.Settling.{IsOfStatus, StaysCommitted, OthersAreLeft, StatusEnds}
 use Rattle.lvm_commit.specs.Rounds.{MarksRound, CommitsRound, stamped, session_write, HowRecord, RecordGives, StatusGives}
-use Rattle.lvm_commit.proofs.StatusRounds.{AreRounds, more_goes, more_left, more_numbers, more_kept, more_finds, more_committed, more_returns, more_lost, lost_spends}
+use Rattle.lvm_commit.proofs.StatusRounds.{AreRounds, more_goes, more_forgotten, more_left, more_numbers, more_kept, more_finds, more_committed, more_returns, more_lost, lost_spends}
 
 -- where nothing is found that wasn't, other groups are left as they were
 pub nothing_new_leaves : (id : ℕ) (old new : Device) (R : Media → Media → Type 0) → BothTold old.media new.media R → FindsNothingNewOn old new → OthersAreLeft id old new
@@ -34,7 +34,7 @@ nothing_new_leaves id old new R both finds =
 module _ (d : Descriptor) (number before left : ℕ) (first now : Stored) (slots next : Homes) (old mid : Device) (buf : Buffer) (rounds : AreRounds d number before left first now slots next old mid buf) where
   pub rounds_end : now.committed ≡ now.wanted → StatusGives d number before left first now slots next old mid (commit_end.Done buf)
   rounds_end same = record {
-    leaves = record { loses = rounds.goes.loses; left = rounds.leaving; numbers = rounds.numbers; keeps = rounds.goes.keeps; spends = rounds.goes.spends };
+    leaves = record { loses = rounds.goes.loses; left = rounds.leaving; forgotten = rounds.forgotten; numbers = rounds.numbers; keeps = rounds.goes.keeps; spends = rounds.goes.spends };
     finds = rounds.finds;
     kept = rounds.kept;
     ends = record {
@@ -77,6 +77,7 @@ module _ (d : Descriptor) (number before left : ℕ) (first now : Stored) (slots
           leaves = record {
             loses = goes.loses;
             left = more_left d number before left first now slots next old mid buf rounds differs sectors last then new after result gives frames valid round;
+            forgotten = more_forgotten d number before left first now slots next old mid buf rounds differs sectors last then new after result gives frames valid round;
             numbers = more_numbers d number before left first now slots next old mid buf rounds differs sectors last then new after result gives frames valid round;
             keeps = goes.keeps;
             spends = goes.spends;

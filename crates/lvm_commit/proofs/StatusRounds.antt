@@ -27,7 +27,7 @@ use Rattle.lvm_commit.specs.declared.commit.CommitEnd.{CommitEnd}
 use Rattle.lvm_commit.specs.Committed.{next_stamp}
 use Rattle.lvm_commit.specs.LawsOfFinding.{FindsNothingNew, FindsNothingNewOn}
 use Rattle.lvm_commit.proofs.Leaving.{wants_marks, round_left, left_same_as, left_then}
-use Rattle.lvm_commit.specs.Settling.{there, MarksLeft, MaySettle, HasNumbers, IsOf, HasLostQuorum, SpendsNumbers, WasCommitted, StaysCommitted, IsOfStatus, IsOneRecord, IsPlain, WantsMarks, SessionIsHeld, StatusStaysKept, StatusFindsNothingNew, ComesBack}
+use Rattle.lvm_commit.specs.Settling.{there, IsForgotten, MarksLeft, MaySettle, HasNumbers, IsOf, HasLostQuorum, SpendsNumbers, WasCommitted, StaysCommitted, IsOfStatus, IsOneRecord, IsPlain, WantsMarks, SessionIsHeld, StatusStaysKept, StatusFindsNothingNew, ComesBack}
 use Rattle.lvm_commit.specs.Rounds.{MarksRound, stamped, session_write, WasTried, HasFew, RecordGives}
 use Rattle.lvm_commit.proofs.NoMore.{data_finds_nothing_new, then_nothing_new}
 use Rattle.lvm_commit.proofs.Still.{still_image}
@@ -67,6 +67,7 @@ pub record AreRounds (d : Descriptor) (number before left : ℕ) (first now : St
   pub numbers : SpendsNumbers 1 first now
   pub stage : IsFresh first now slots next old mid ⊎ IsOn first now slots old mid
   pub leaving : MarksLeft d first now
+  pub forgotten : IsForgotten first → IsForgotten now
   pub marks : WantsMarks old d first → SessionIsHeld old d first slots → WantsMarks mid d now
   pub held : (group : Descriptor) → IsOf group first → SessionIsHeld old group first slots → SessionIsHeld mid group now next
   pub finds : StatusFindsNothingNew first slots old mid
@@ -83,6 +84,7 @@ no_rounds d patience first slots old buf may ready = record {
   numbers = spends_at 1 first;
   stage = inl (record { same = refl; slots_are = refl; device = refl });
   leaving = left_same_as d first;
+  forgotten = λ was. was;
   marks = λ marks held. marks;
   held = λ group own held. held;
   finds = λ group own held. still_finds old ready.flights;
@@ -155,6 +157,9 @@ module _ (d : Descriptor) (number before left : ℕ) (first now : Stored) (slots
       (λ e goes marks held facts kept.
       goes (rounds.marks marks held) (rounds.held d first_own held) facts (last-path rounds.kept marks held facts kept))
       (round_kept d now last next then mid new sectors rounds.may buf.number left after result gives frames valid))
+
+  pub more_forgotten : IsForgotten first → IsForgotten last
+  more_forgotten was = round.forgotten (rounds.forgotten was)
 
   pub more_left : MarksLeft d first last
   more_left = left_then d first now last rounds.may.valid (loses_less first now old mid rounds.goes.loses) (loses_less now last mid new one.loses) rounds.leaving
@@ -269,6 +274,7 @@ module _ (d : Descriptor) (number before left : ℕ) (first now : Stored) (slots
         numbers = more_numbers;
         stage = inr (record { plain = more_plain; spare = more_spare; came = more_came });
         leaving = more_left;
+        forgotten = more_forgotten;
         marks = λ marks held. wants_marks d now last rounds.may.valid round now.wanted one.loses.stale one.loses.dirty refl same new then
             (round_holds d now last next then mid new sectors rounds.may buf.number left after result gives frames valid back tried same d rounds.may.own (rounds.held d first_own held));
         held = λ group own held. round_holds d now last next then mid new sectors rounds.may buf.number left after result gives frames valid back tried same group (own ∙ sym rounds.goes.loses.group) (rounds.held group own held);

@@ -79,14 +79,14 @@ unnamed_is_not_found c group status there facts lv within enough shows kept only
 pub volume_begins_in_session : VolumeBeginsInSession
 volume_begins_in_session run first device facts group status there lv blocks mode span enough leaves unnamed =
     entry_goes_on run first device facts (Making lv blocks mode) span (λ past begins holds. tt) (λ past begins holds image may. volume_begins (contents_of image) (past ++ facts) lv blocks mode
-    (unnamed_is_not_found (contents_of image) group status there (past ++ facts) lv (images_within image) enough (leaves.shows image may) (holds.kept image may) (leaves.only past begins image may) unnamed) (holds.kept image may))
+    (unnamed_is_not_found (contents_of image) group status there (past ++ facts) lv (images_within image) enough (leaves.shows past begins image may) (holds.kept image may) (leaves.only past begins image may) unnamed) (holds.kept image may))
 
 pub volume_is_made_in_session : VolumeIsMadeInSession
 volume_is_made_in_session run first device facts group status there lv span enough leaves named is_open =
     entry_goes_on run first device facts (Made lv) span (λ past begins holds. tt) (λ past begins holds image may. volume_is_made (contents_of image) (past ++ facts) lv (is_open past)
-    (named_is_found (contents_of image) group status there (past ++ facts) lv (images_within image) enough (leaves.shows image may) (holds.kept image may) (leaves.only past begins image may) named) (holds.kept image may))
+    (named_is_found (contents_of image) group status there (past ++ facts) lv (images_within image) enough (leaves.shows past begins image may) (holds.kept image may) (leaves.only past begins image may) named) (holds.kept image may))
 
 pub volume_is_gone_in_session : VolumeIsGoneInSession
 volume_is_gone_in_session run first device facts group status there lv span enough leaves unnamed =
     entry_goes_on run first device facts (Removed (Lv lv)) span (λ past begins holds. tt) (λ past begins holds image may. volume_is_gone (contents_of image) (past ++ facts) lv
-    (unnamed_is_not_found (contents_of image) group status there (past ++ facts) lv (images_within image) enough (leaves.shows image may) (holds.kept image may) (leaves.only past begins image may) unnamed) (holds.kept image may))
+    (unnamed_is_not_found (contents_of image) group status there (past ++ facts) lv (images_within image) enough (leaves.shows past begins image may) (holds.kept image may) (leaves.only past begins image may) unnamed) (holds.kept image may))

@@ -1,5 +1,5 @@
 -- Members are wanted missing while nothing is in flight.
-use Rattle.std.proofs.Common.{◌≡◌, ℕ, ◌+◌, ◌<◌, Bool, true, false, ◌&&◌, ◌||◌, List, [], ◌∷◌, length, map, take, get_or, None, refl, sym, ◌∙◌, ap, subst}
+use Rattle.std.proofs.Common.{◌≡◌, ℕ, ◌+◌, ◌<◌, Bool, true, false, ◌&&◌, ◌||◌, not, List, [], ◌∷◌, length, map, take, get_or, None, refl, sym, ◌∙◌, ap, subst}
 use Rattle.std.specs.Prelude.{◌==◌, if◌then◌else◌}
 use Rattle.std.specs.List.{list_any}
 use Rattle.std.proofs.lemmas.Bool.{eq-eqb, eqb-true, false≢true}
@@ -10,12 +10,11 @@ use Rattle.lvm_num.specs.declared.status.Status.{Status}
 use Rattle.lvm_num.specs.Disks.{Disks}
 use Rattle.lvm_num.specs.Status.{calls_missing}
 use Rattle.lvm_stale.specs.Table.{has_row}
-use Rattle.lvm_status.specs.declared.change.Change.{Change}
 use Rattle.lvm_status.specs.declared.change.Change.TheVariants as change
 use Rattle.lvm_status.specs.Update.{Stored, Updates, seen}
 use Rattle.lvm_status.specs.Calls.{BecomesMissing, with_wanted, given_up}
 use Rattle.lvm_status.proofs.Disks.{swap}
-use Rattle.lvm_commit.specs.Settling.{HasSameRows}
+use Rattle.lvm_commit.specs.Settling.{HasSameRows, IsForgotten}
 use Rattle.lvm_commit.specs.Rounds.{Misses}
 use Rattle.lvm_status.proofs.Sessions.{closed_cases}
 use Rattle.lvm_commit.proofs.Losing.{misses_none, misses_same, misses_more}
@@ -31,17 +30,22 @@ row_stays old new same disk = any_disk new.rows disk ∙ ap (λ disks. list_any 
 
 -- ---- one want
 
+-- the disk has no write of an update
+abbrev HasNone : Updates → ℕ → Type 0
+HasNone u disk = (u.unstarted disk ≡ false) × (u.started disk ≡ false) × (u.written disk ≡ false) × (u.failed disk ≡ false)
+
 record KeepsRest (u : Updates) (x : Updates) : Type 0 where
   group : x.group ≡ u.group
   stamp : x.stamp ≡ u.stamp
   committed : x.committed ≡ u.committed
   idle : x.in_flight ≡ None
+  none : ((disk : ℕ) → HasNone u disk) → (disk : ℕ) → HasNone x disk
 
-want_keeps : (u : Updates) (c : Change) (w : Status) → u.in_flight ≡ None → KeepsRest u (with_wanted u c w)
-want_keeps u c w idle =
-    closed_cases (KeepsRest u) (record u { wanted = w; unstarted = given_up c u.unstarted })
-    (λ held none. record { group = refl; stamp = refl; committed = refl; idle = refl })
-    (record { group = refl; stamp = refl; committed = refl; idle = idle })
+want_keeps : (u : Updates) (disk : ℕ) (w : Status) → u.in_flight ≡ None → KeepsRest u (with_wanted u (change.Missing disk) w)
+want_keeps u disk w idle =
+    closed_cases (KeepsRest u) (record u { wanted = w; unstarted = given_up (change.Missing disk) u.unstarted })
+    (λ held none. record { group = refl; stamp = refl; committed = refl; idle = refl; none = λ all d. (refl, refl, refl, refl) })
+    (record { group = refl; stamp = refl; committed = refl; idle = idle; none = λ all d. (ap (λ b. b && not (d == disk)) (all d).0, (all d).1, (all d).2, (all d).3) })
 
 -- ---- row by row
 
@@ -55,9 +59,10 @@ pub record IsLosing (failed : Disks) (rows : List PvRow) (first u : Stored) : Ty
   pub committed : u.committed ≡ first.committed
   pub idle : u.in_flight ≡ None
   pub wanted : Misses (λ d. failed d && among rows d) first.wanted u.wanted
+  pub forgotten : IsForgotten first → IsForgotten u
 
 pub losing_none : (failed : Disks) (first : Stored) → first.in_flight ≡ None → IsLosing failed [] first first
-losing_none failed first idle = record { group = refl; stamp = refl; committed = refl; idle = idle; wanted = misses_none (λ d. failed d && false) first.wanted (λ d. never (failed d)) }
+losing_none failed first idle = record { group = refl; stamp = refl; committed = refl; idle = idle; wanted = misses_none (λ d. failed d && false) first.wanted (λ d. never (failed d)); forgotten = λ is. is }
   where
     never : (b : Bool) → b && false ≡ false
     never true = refl
@@ -72,12 +77,13 @@ module _ (failed : Disks) (rows : List PvRow) (i : ℕ) (e : PvRow) (less : i < 
 
   pub losing_more : (x : Stored) → failed disk ≡ true → BecomesMissing disk u.wanted x.wanted → seen x ≡ with_wanted (seen u) (change.Missing disk) x.wanted → IsLosing failed (take (i + 1) rows) first x
   losing_more x is misses rest =
-      let keeps : KeepsRest (seen u) (seen x) = subst (KeepsRest (seen u)) (sym rest) (want_keeps (seen u) (change.Missing disk) x.wanted losing.idle) in
+      let keeps : KeepsRest (seen u) (seen x) = subst (KeepsRest (seen u)) (sym rest) (want_keeps (seen u) disk x.wanted losing.idle) in
       record {
         group = keeps.group ∙ losing.group;
         stamp = keeps.stamp ∙ losing.stamp;
         committed = keeps.committed ∙ losing.committed;
         idle = keeps.idle;
+        forgotten = λ is none. keeps.none (losing.forgotten is losing.idle);
         wanted = misses_more (λ d. failed d && among (take i rows) d) (λ d. failed d && among (take (i + 1) rows) d) disk first.wanted u.wanted x.wanted losing.wanted misses
             (λ d. ap (λ b. calls_missing first.wanted d || (failed d && b)) (more d) ∙ grows (calls_missing first.wanted d) (failed d) (among (take i rows) d) (d == disk) (λ same. ap failed (eqb-true d disk same) ∙ is))
             (ap (λ b. failed disk && b) (more disk) ∙ ap (λ b. b && (among (take i rows) disk || (disk == disk))) is ∙ ap (λ b. among (take i rows) disk || b) (eq-eqb disk disk refl) ∙ always (among (take i rows) disk));
@@ -101,6 +107,7 @@ module _ (failed : Disks) (rows : List PvRow) (i : ℕ) (e : PvRow) (less : i < 
     stamp = losing.stamp;
     committed = losing.committed;
     idle = losing.idle;
+    forgotten = losing.forgotten;
     wanted = misses_same (λ d. failed d && among (take i rows) d) (λ d. failed d && among (take (i + 1) rows) d) first.wanted u.wanted u.wanted losing.wanted refl
         (λ d. ap (λ b. failed d && b) (more d) ∙ stays (failed d) (among (take i rows) d) (d == disk) (λ same. ap failed (eqb-true d disk same) ∙ well));
   }

@@ -124,9 +124,9 @@ abbrev pub UnnamedIsNotFound : Type 0
 UnnamedIsNotFound = (c : Contents) (group : Descriptor) (status : Status) (there : Disks) (facts : List Fact) (lv : ℕ)
     → IsWithinDisks c → CanWrite group there → ShowsCommitted c group status there → Kept c facts → IsOnlyGroup c group.id → volume_of group lv ≡ None → IsFoundByNone c lv
 
--- each crash image shows what is committed, and by whatever was told before the span no other group is found in it
+-- by whatever was told before the span, each crash image shows what is committed, and no other group is found in it
 pub record LeavesCommitted (run : ℕ) (first : Moment) (device : Device) (group : Descriptor) (status : Status) (there : Disks) : Type 0 where
-  pub shows : (image : Image) → MayLeave device image → ShowsCommitted (contents_of image) group status there
+  pub shows : (past : List Fact) → Begins run past first → (image : Image) → MayLeave device image → ShowsCommitted (contents_of image) group status there
   pub only : IsOnlyGroupSince run first device group.id
 
 -- So a volume that isn't named may be in the making,

@@ -23,7 +23,7 @@ use Rattle.lvm_write.specs.Written.{write_of, EndsOn, StandsTold, written_well, 
 use Rattle.lvm_commit.specs.declared.commit.CommitEnd.{CommitEnd}
 use Rattle.lvm_commit.specs.declared.commit.CommitEnd.TheVariants as commit_end
 use Rattle.lvm_commit.specs.Committed.{next_stamp}
-use Rattle.lvm_commit.specs.Settling.{there, NoneIsLeft, HasSameRows, IsOfStatus, StatusFindsNothingNew, StatusStaysKept, CommitLeaves, StatusEnds}
+use Rattle.lvm_commit.specs.Settling.{there, IsForgotten, NoneIsLeft, HasSameRows, IsOfStatus, StatusFindsNothingNew, StatusStaysKept, CommitLeaves, StatusEnds}
 
 -- ---- the session
 
@@ -49,10 +49,11 @@ pub record HasMarked (group : Descriptor) (failed : Disks) (first last : Stored)
   pub unmarked : list_any (λ (row : PvRow). failed row.disk) group.pvs ≡ false → last.wanted ≡ first.wanted
   pub marked : list_any (λ (row : PvRow). failed row.disk) group.pvs ≡ true → Marks (there first) (IsLeftIn (there first) first.wanted group.lvs) first.wanted last.wanted
 
--- One record leaves none behind where none was, and only what is left behind becomes stale.
+-- One record leaves none behind where none was, only what is left behind becomes stale, and its writes are forgotten once none is in flight.
 pub record MarksRound (group : Descriptor) (first last : Stored) : Type 0 where
   pub none : NoneIsLeft group first → NoneIsLeft group last
   pub only : (p : Pp) → IsTrue (calls_stale last.wanted p) → IsTrue (calls_stale first.wanted p) ⊎ IsLeftIn (there last) last.wanted group.lvs p
+  pub forgotten : IsForgotten first → IsForgotten last
 
 -- this status is committed once members with votes enough to write have the record, and else what was still is
 abbrev pub CommitsRound : Status → Stored → Stored → CommitEnd → Type 0
@@ -84,6 +85,7 @@ pub record HasEnded (failed : Disks) (first last : Stored) : Type 0 where
   pub wanted : Misses (λ d. there first d && failed d) first.wanted last.wanted
   pub committed : CanWrite last.group (there last) → (last.in_flight ≡ None) × (last.committed ≡ first.wanted)
   pub short : IsFalse (is_enough_to_write last.group (votes_in last.group (there last))) → last.committed ≡ first.committed
+  pub forgotten : IsForgotten last
 
 -- the disks are wanted missing
 pub record HasLost (failed : Disks) (first last : Stored) : Type 0 where
@@ -92,6 +94,7 @@ pub record HasLost (failed : Disks) (first last : Stored) : Type 0 where
   pub committed : last.committed ≡ first.committed
   pub idle : last.in_flight ≡ None
   pub wanted : Misses failed first.wanted last.wanted
+  pub forgotten : IsForgotten first → IsForgotten last
 
 -- ---- the answers
 

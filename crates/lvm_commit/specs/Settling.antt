@@ -1,5 +1,5 @@
 -- How a session commits its records: what a commit needs, what it writes, and what it leaves.
-use Rattle.std.specs.Prelude.{◌≡◌, ◌⊎◌, ◌≢◌, ℕ, ◌+◌, ◌^◌, ◌<◌, ◌≤◌, not, List, [], map, None, Ok, IsTrue, IsFalse, IfSome, count_by}
+use Rattle.std.specs.Prelude.{◌≡◌, ◌⊎◌, ◌≢◌, ℕ, ◌+◌, ◌^◌, ◌<◌, ◌≤◌, false, not, List, [], map, None, Ok, IsTrue, IsFalse, IfSome, count_by}
 use Rattle.lvm_num.specs.declared.record.Kind.{Kind}
 use Rattle.lvm_num.specs.declared.record.Kind.TheVariants as kind
 use Rattle.lvm_num.specs.declared.place.Pp.{Pp}
@@ -9,7 +9,7 @@ use Rattle.lvm_num.specs.declared.descriptor.Descriptor.{Descriptor}
 use Rattle.lvm_num.specs.declared.status.StatusRow.{StatusRow}
 use Rattle.lvm_num.specs.declared.status.Status.{Status}
 use Rattle.lvm_num.specs.Buffer.{Buffer, Sector}
-use Rattle.lvm_num.specs.Disks.{Disks}
+use Rattle.lvm_num.specs.Disks.{Disks, has}
 use Rattle.lvm_num.specs.Descriptor.{IsValid, copies_of}
 use Rattle.lvm_num.specs.DescriptorBytes.{descriptor_of}
 use Rattle.lvm_num.specs.Record.{Frames}
@@ -117,6 +117,10 @@ pub record OnlyLoses (first last : Stored) (old new : Device) : Type 0 where
   pub dirty : last.wanted.dirty ≡ first.wanted.dirty
   pub stays : (d : ℕ) → IsTrue (calls_missing first.wanted d) → IsTrue (calls_missing last.wanted d)
   pub lost : (d : ℕ) → IsTrue (calls_missing last.wanted d) → IsFalse (calls_missing first.wanted d) → IsTrue (there first d) × Rose (old.counts.faults d) (new.counts.faults d)
+
+-- without an update in flight no write of one is told apart
+abbrev pub IsForgotten : Stored → Type 0
+IsForgotten u = u.in_flight ≡ None → (disk : ℕ) → (has u.writes.unstarted disk ≡ false) × (has u.writes.started disk ≡ false) × (has u.writes.written disk ≡ false) × (has u.writes.failed disk ≡ false)
 
 -- no copy of the group's volumes is left behind: one on a disk that is missing, of whose logical partition another one is usable, is wanted stale
 abbrev pub NoneIsLeft : Descriptor → Stored → Type 0
@@ -271,6 +275,7 @@ StaysCommitted first last old new = (last.committed ≡ first.committed) ⊎ Was
 pub record CommitLeaves (group : Descriptor) (P : Plan) (before after : ℕ) (first last : Stored) (old new : Device) : Type 0 where
   pub loses : OnlyLoses first last old new
   pub left : MarksLeft group first last
+  pub forgotten : IsForgotten first → IsForgotten last
   pub numbers : SpendsNumbers 1 first last
   pub keeps : KeepsShelf (there first) P old new
   pub spends : Spends before after old new

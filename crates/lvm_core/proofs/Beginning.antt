@@ -62,6 +62,7 @@ module _ (device : Device) (p : Parts) (history : Log) (stamp : Stamp) (homes : 
     a_buffer = subst (λ n. 1 ≤ n) (sym buffers) are.room.a_buffer;
     buffers = subst (λ n. n ≤ 1024) (sym buffers) are.room.buffers;
     last = length-replicate {A = ℕ} 512 0;
+    forgotten = λ none disk. (ap (λ (u : Updates). u.unstarted disk) its.status, ap (λ (u : Updates). u.started disk) its.status, ap (λ (u : Updates). u.written disk) its.status, ap (λ (u : Updates). u.failed disk) its.status);
   }
 
   pub sound_first : HaveAllLanded history.facts → IsReady device → ArePlaced device.sizes p.descriptor p.updater.wanted → IsSound (state device core)

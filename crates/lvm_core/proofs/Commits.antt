@@ -141,7 +141,7 @@ module _ (core : Core) (stale fresh : List Pp) (first : Stored) (marked : IsMark
   first_is_of = sym (marked.group ∙ group)
 
   pub begun : IsBegun core first
-  begun = record { group = marked.group; stamp = marked.stamp; committed = marked.committed; rows = marked.rows; missing = marked.missing }
+  begun = record { group = marked.group; stamp = marked.stamp; committed = marked.committed; rows = marked.rows; missing = marked.missing; forgotten = marked.forgotten }
 
   -- the disks hold what was committed, whatever is wanted now
   pub first_held : (device : Device) → IsHeld device core → SessionIsHeld device core.descriptor first core.homes

@@ -27,7 +27,7 @@ use Rattle.lvm_core.specs.Sound.{IsSound}
 use Rattle.lvm_core.specs.Held.{IsHeld}
 use Rattle.lvm_core.specs.Settled.{IsSettled}
 use Rattle.lvm_core.specs.Committing.{CommitEnds, HasCommitted, FailsCommitted, moment_of, SpanGoesOn, LetsCommit, StaysBehind}
-use Rattle.lvm_core.specs.Leaves.{IsOfCommand, NoPartition, Leaves, committing}
+use Rattle.lvm_core.specs.Leaves.{IsOfCommand, NoPartition, IsHeldSince, Leaves, committing}
 use Rattle.lvm_core.specs.Steps.{CommitsDescriptor}
 use Rattle.lvm_core.proofs.Own.{SameSizes}
 use Rattle.lvm_core.proofs.Spanning.{path_falls}
@@ -37,7 +37,7 @@ use Rattle.lvm_core.proofs.Commits.{session_holds, holds_session}
 
 -- nothing else is wanted first than what is
 still_begun : (core : Core) → IsBegun core core.status
-still_begun core = record { group = refl; stamp = refl; committed = refl; rows = record { id = refl; big = refl; disks = refl }; missing = λ d. refl }
+still_begun core = record { group = refl; stamp = refl; committed = refl; rows = record { id = refl; big = refl; disks = refl }; missing = λ d. refl; forgotten = λ was. was }
 
 -- the next descriptor may be committed where the session's group may
 pub may_next : (d next : Descriptor) (u : Stored) (device : Device) → MaySettle d u device → IsValid next → IsAlike next d → MaySettle next u device
@@ -85,13 +85,13 @@ module _ (next : Descriptor) (before after : ℕ) (old new : State) (answer : Re
   descriptor_writes : KeepsShelf (is_there old.core) plan old.device new.device
   descriptor_writes = subst (λ (set : Disks). KeepsShelf set plan old.device new.device) (there_is old.core.descriptor old.core.status sound.fitting.group) w.settles.leaves.keeps
 
-  descriptor_keeps : IsHeld old.device old.core → (lv run : ℕ) (first : Moment) → LetsCommit lv next run first old → SpanGoesOn run first old new
-  descriptor_keeps held lv run first lets span =
+  descriptor_keeps : (lv run : ℕ) (first : Moment) → IsHeldSince run first old → LetsCommit lv next run first old → SpanGoesOn run first old new
+  descriptor_keeps lv run first held lets span =
       settles_keep Held Plain next plan old.core.status before after old new w.how answer w.settles (still_begun old.core) settled_is sound w.valid alike
       (λ d. (group k : Descriptor) (v : ℕ) (facts : List Fact) → descriptor_of (descriptor_bytes next) ≡ Ok k → IsOf group old.core.status → SessionIsHeld old.device group old.core.status old.core.homes
       → IfSome old.device.media (λ media. VolumeServes (contents_of (image_of old.device.sizes media)) facts group v k) → ImagesKept old.device facts → ImagesKept d facts)
       w.kept run first span
-      (λ past begins holds d its. its old.core.descriptor next lv (past ++ old.core.history.facts) read own (held_first held) (lets past begins holds) holds.kept)
+      (λ past begins holds d its. its old.core.descriptor next lv (past ++ old.core.history.facts) read own (held_first (held past begins)) (lets past begins holds) holds.kept)
 
   descriptor_calm : StaysCalm (moment_of old) (moment_of new)
   descriptor_calm = settles_calm Held Plain next plan old.core.status before after old new w.how answer w.settles (still_begun old.core) settled_is sound w.valid alike
@@ -124,7 +124,7 @@ module _ (next : Descriptor) (before after : ℕ) (old new : State) (answer : Re
         };
         numbers = w.settles.leaves.numbers;
         history = settles_history Held Plain next plan old.core.status before after old new w.how answer w.settles (still_begun old.core) settled_is sound w.valid alike;
-        spans = λ held run first lets. descriptor_keeps held lets.0 run first lets.1;
+        spans = λ run first held lets. descriptor_keeps lets.0 run first held lets.1;
         finds = λ held id k is. finds_next (λ d. d ≡ next) old new _ descriptor_writes.media next refl (descriptor_finds held) held id k is;
         calm = descriptor_calm;
         behind = descriptor_behind;

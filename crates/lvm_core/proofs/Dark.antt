@@ -57,6 +57,7 @@ cut_fits core fits = record {
   a_buffer = fits.a_buffer;
   buffers = fits.buffers;
   last = fits.last;
+  forgotten = fits.forgotten;
 }
 
 -- ---- the buffers

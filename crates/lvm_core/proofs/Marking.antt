@@ -17,7 +17,7 @@ use Rattle.lvm_status.specs.declared.change.Change.TheVariants as change
 use Rattle.lvm_status.specs.Update.{Updates, Stored, seen, is_held, is_owed, no_disks}
 use Rattle.lvm_status.specs.Calls.{BecomesStale, BecomesFresh, IsMarkable, closed, with_wanted, given_up}
 use Rattle.lvm_write.specs.Written.{HaveRoom}
-use Rattle.lvm_commit.specs.Settling.{HasSameRows, MaySettle, there}
+use Rattle.lvm_commit.specs.Settling.{HasSameRows, IsForgotten, MaySettle, there}
 use Rattle.lvm_commit.proofs.Wanting.{row_stays}
 use Rattle.lvm_core.specs.Committing.{is_among, Marks}
 use Rattle.lvm_core.specs.Steps.{IsMarked}
@@ -34,6 +34,7 @@ pub record SoFar (to_stale to_fresh : List Pp) (none : Type 0) (old now : Stored
   pub marks : Marks to_stale to_fresh old.wanted now.wanted
   pub missing : SameMissing old.wanted now.wanted
   pub dirty : now.wanted.dirty ≡ old.wanted.dirty
+  pub forgotten : IsForgotten old → IsForgotten now
   pub same : none → now ≡ old
 
 pub none_marked : (none : Type 0) (old : Stored) → old.in_flight ≡ None → SoFar [] [] none old old
@@ -46,6 +47,7 @@ none_marked none old idle = record {
   marks = λ p. all_as_before (calls_stale old.wanted p);
   missing = λ d. refl;
   dirty = refl;
+  forgotten = λ was. was;
   same = λ none. refl;
 }
   where
@@ -75,8 +77,9 @@ record Wanted (old new : Stored) : Type 0 where
   committed : new.committed ≡ old.committed
   idle : new.in_flight ≡ None
   stamp : new.stamp ≡ old.stamp
+  forgotten : IsForgotten old → IsForgotten new
 
-wanted_keeps : (old new : Stored) (u : Updates) → u ≡ record (seen old) { wanted = new.wanted; unstarted = u.unstarted } → old.in_flight ≡ None → seen new ≡ closed u → Wanted old new
+wanted_keeps : (old new : Stored) (u : Updates) → u ≡ record (seen old) { wanted = new.wanted } → old.in_flight ≡ None → seen new ≡ closed u → Wanted old new
 wanted_keeps old new u is idle rest = by_test (is_held u && not (is_owed u)) rest
   where
     by_test : (b : Bool) → seen new ≡ (if b then record u { in_flight = None; unstarted = no_disks; started = no_disks; written = no_disks; failed = no_disks } else u) → Wanted old new
@@ -84,12 +87,19 @@ wanted_keeps old new u is idle rest = by_test (is_held u && not (is_owed u)) res
       group = ap (λ (x : Updates). x.group) e ∙ ap (λ (x : Updates). x.group) is;
       committed = ap (λ (x : Updates). x.committed) e ∙ ap (λ (x : Updates). x.committed) is;
       idle = ap (λ (x : Updates). x.in_flight) e;
+      forgotten = λ was none d. (ap (λ (x : Updates). x.unstarted d) e, ap (λ (x : Updates). x.started d) e, ap (λ (x : Updates). x.written d) e, ap (λ (x : Updates). x.failed d) e);
       stamp = ap (λ (x : Updates). x.stamp) e ∙ ap (λ (x : Updates). x.stamp) is;
     }
     by_test false e = record {
       group = ap (λ (x : Updates). x.group) e ∙ ap (λ (x : Updates). x.group) is;
       committed = ap (λ (x : Updates). x.committed) e ∙ ap (λ (x : Updates). x.committed) is;
       idle = ap (λ (x : Updates). x.in_flight) e ∙ ap (λ (x : Updates). x.in_flight) is ∙ idle;
+      forgotten = λ was none d. let all = was idle d in (
+        ap (λ (x : Updates). x.unstarted d) (e ∙ is) ∙ all.0,
+        ap (λ (x : Updates). x.started d) (e ∙ is) ∙ all.1,
+        ap (λ (x : Updates). x.written d) (e ∙ is) ∙ all.2,
+        ap (λ (x : Updates). x.failed d) (e ∙ is) ∙ all.3,
+      );
       stamp = ap (λ (x : Updates). x.stamp) e ∙ ap (λ (x : Updates). x.stamp) is;
     }
 
@@ -107,6 +117,7 @@ remarked stale fresh more fresher none old now so_far marks = record {
   marks = marks;
   missing = so_far.missing;
   dirty = so_far.dirty;
+  forgotten = so_far.forgotten;
   same = so_far.same;
 }
 
@@ -177,6 +188,7 @@ module _ (pps : List Pp) (none : Type 0) (i : ℕ) (p : Pp) (within : i < length
               ∙ ap (λ (b : Bool). (calls_stale old.wanted q || b) && not false) (sym (more_among pps i p q within its));
           missing = λ d. becomes.missing d ∙ so_far.missing d;
           dirty = becomes.dirty ∙ so_far.dirty;
+          forgotten = λ was. kept.forgotten (so_far.forgotten was);
           same = λ no. absurd (let e = ap (λ (u : Stored). calls_stale u.wanted p) (so_far.same no) in let f = clash no in cc (e, f, isnt));
         }
       where
@@ -204,6 +216,7 @@ module _ (pps : List Pp) (none : Type 0) (i : ℕ) (p : Pp) (within : i < length
               ∙ ap (λ (b : Bool). (calls_stale old.wanted q || false) && not b) (sym (more_among pps i p q within its));
           missing = λ d. becomes.missing d ∙ so_far.missing d;
           dirty = becomes.dirty ∙ so_far.dirty;
+          forgotten = λ was. kept.forgotten (so_far.forgotten was);
           same = λ no. absurd (let e = ap (λ (u : Stored). calls_stale u.wanted p) (so_far.same no) in let f = clash no in cc (e, f, is));
         }
       where
@@ -227,6 +240,7 @@ marked_both to_stale to_fresh old mid new one two = record {
       ∙ both (calls_stale old.wanted p) (is_among to_stale p) (is_among to_fresh p);
   missing = λ d. two.missing d ∙ one.missing d;
   dirty = two.dirty ∙ one.dirty;
+  forgotten = λ was. two.forgotten (one.forgotten was);
   same = λ are.
       let first : mid ≡ old = one.same (record { stale = are.stale; fresh = λ k d lt. absurd (omega (arith, lt)) }) in
       two.same (record { stale = λ k d lt. absurd (omega (arith, lt)); fresh = subst (λ (u : Stored). All (λ (p : Pp). calls_stale u.wanted p ≡ false) to_fresh) (sym first) are.fresh }) ∙ first;

@@ -35,6 +35,7 @@ fits_with core log pool on long fits = record {
   a_buffer = subst (λ n. 1 ≤ n) (sym long) fits.a_buffer;
   buffers = subst (λ n. n ≤ 1024) (sym long) fits.buffers;
   last = fits.last;
+  forgotten = fits.forgotten;
 }
 
 pub fits_pool : (core : Core) (pool : List Bool) → length pool ≡ length core.pool → IsFitting core → IsFitting (record core { pool = pool })

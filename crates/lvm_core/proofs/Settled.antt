@@ -29,7 +29,7 @@ use Rattle.lvm_write.proofs.Writing.{both_map, changes_more}
 use Rattle.lvm_commit.specs.declared.commit.CommitEnd.{CommitEnd}
 use Rattle.lvm_commit.specs.declared.commit.CommitEnd.TheVariants as commit_end
 use Rattle.lvm_commit.specs.Committed.{IsAlike}
-use Rattle.lvm_commit.specs.Settling.{HasSameRows, there, many_there, IsCommitted, HasLostQuorum, AreWell, SpendsNumbers, StaysCommitted, IsOfSession, SettleEnds}
+use Rattle.lvm_commit.specs.Settling.{HasSameRows, IsForgotten, there, many_there, IsCommitted, HasLostQuorum, AreWell, SpendsNumbers, StaysCommitted, IsOfSession, SettleEnds}
 use Rattle.lvm_commit.proofs.Wanting.{row_stays}
 use Rattle.lvm_core.specs.declared.fault.CommitFault.{CommitFault}
 use Rattle.lvm_session.specs.declared.open.Power.TheVariants as power
@@ -58,6 +58,7 @@ pub record IsBegun (old : Core) (first : Stored) : Type 0 where
   pub committed : first.committed ≡ old.status.committed
   pub rows : HasSameRows old.status.wanted first.wanted
   pub missing : SameMissing old.status.wanted first.wanted
+  pub forgotten : IsForgotten old.status → IsForgotten first
 
 module _ (Held Plain : Type 0) (next : Descriptor) (plan : Plan) (first : Stored) (before after : ℕ) (old new : State) (how : CommitEnd) (answer : Result (Unit {0}) CommitFault) (s : Settles Held Plain next plan first before after old new how answer)
     (begins : IsBegun old.core first) (settled_is : IsSettled old.core) (sound : IsSound old) (valid : IsValid next) (alike : IsAlike next old.core.descriptor) where
@@ -90,6 +91,7 @@ module _ (Held Plain : Type 0) (next : Descriptor) (plan : Plan) (first : Stored
     a_buffer = sound.fitting.a_buffer;
     buffers = sound.fitting.buffers;
     last = sound.fitting.last;
+    forgotten = s.leaves.forgotten (begins.forgotten sound.fitting.forgotten);
   }
 
   none : (d : Descriptor) → HasNoneOpen (base d)

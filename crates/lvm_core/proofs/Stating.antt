@@ -26,7 +26,7 @@ use Rattle.lvm_core.specs.Sound.{IsSound}
 use Rattle.lvm_core.specs.Held.{IsHeld}
 use Rattle.lvm_core.specs.Settled.{IsSettled}
 use Rattle.lvm_core.specs.Committing.{MarkEnds, HasStated, FailsCommitted, is_among, AreUnused, AreMarked, Restates, moment_of, SpanGoesOn, StaysBehind}
-use Rattle.lvm_core.specs.Leaves.{IsOfCommand, NoDescriptor, NoPartition, KeepsStatus, Leaves, marking}
+use Rattle.lvm_core.specs.Leaves.{IsOfCommand, NoDescriptor, NoPartition, KeepsStatus, IsHeldSince, Leaves, marking}
 use Rattle.lvm_core.specs.Steps.{CommitsMarks}
 use Rattle.lvm_core.proofs.LeavesLemmas.{finds_nothing, passed_behind}
 use Rattle.lvm_core.proofs.Own.{SameSizes}
@@ -171,12 +171,12 @@ module _ (stale fresh : List Pp) (before after : ℕ) (old new : State) (answer 
       ))
       w.settles.leaves.keeps
 
-  status_keeps : AreUnused old.core.descriptor (stale ++ fresh) → IsHeld old.device old.core → (run : ℕ) (first : Moment) → SpanGoesOn run first old new
-  status_keeps unused held run first span =
+  status_keeps : AreUnused old.core.descriptor (stale ++ fresh) → (run : ℕ) (first : Moment) → IsHeldSince run first old → SpanGoesOn run first old new
+  status_keeps unused run first held span =
       settles_keep Held Plain old.core.descriptor plan w.first before after old new w.how answer w.settles begins settled_is sound sound.fitting.valid same
       (λ d. WantsMarks old.device old.core.descriptor w.first → SessionIsHeld old.device old.core.descriptor w.first old.core.homes → StaysKept old.device d)
       w.kept run first span
-      (λ past begins holds d its. its (wants unused) (held_first held) (past ++ old.core.history.facts) holds.kept)
+      (λ past begins holds d its. its (wants unused) (held_first (held past begins)) (past ++ old.core.history.facts) holds.kept)
 
   status_calm : StaysCalm (moment_of old) (moment_of new)
   status_calm = settles_calm Held Plain old.core.descriptor plan w.first before after old new w.how answer w.settles begins settled_is sound sound.fitting.valid same
@@ -199,7 +199,7 @@ module _ (stale fresh : List Pp) (before after : ℕ) (old new : State) (answer 
     status = marks_kept;
     numbers = status_numbers;
     history = settles_history Held Plain old.core.descriptor plan w.first before after old new w.how answer w.settles begins settled_is sound sound.fitting.valid same;
-    spans = λ held run first always. status_keeps unused held run first;
+    spans = λ run first held always. status_keeps unused run first held;
     finds = λ held id k is. finds_nothing NoDescriptor old new _ status_writes.media (status_finds held) held id k is;
     calm = status_calm;
     behind = status_behind;

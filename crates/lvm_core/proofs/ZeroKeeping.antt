@@ -47,7 +47,7 @@ use Rattle.lvm_core.specs.Zeros.{IsZeroOf, HasSectorsOf, GoesOnAfter, WritesZero
 use Rattle.lvm_core.proofs.Dark.{cut_core, dark_is}
 use Rattle.lvm_core.proofs.Own.{SameSizes, same_sizes, fits_pool, one_out_long, sound_ready, sound_dark, sound_stuck}
 use Rattle.lvm_core.proofs.Spanning.{path_falls, told_media, keeps_cut, calm_cut}
-use Rattle.lvm_core.specs.Leaves.{IsOfCommand, NoDescriptor, NoPartition, KeepsHistory, Leaves, zeroing}
+use Rattle.lvm_core.specs.Leaves.{IsOfCommand, NoDescriptor, NoPartition, KeepsHistory, IsHeldSince, Leaves, zeroing}
 use Rattle.lvm_core.proofs.LeavesLemmas.{keeps_same, keeps_cut as history_keeps_cut, finds_nothing, same_status}
 use Rattle.lvm_core.proofs.ZeroEnding.{zeros_below, zero_core, zero_keeps_records, zero_behind}
 
@@ -115,13 +115,13 @@ module _ (pp : Pp) (before after : ℕ) (old new : State) (answer : Result (Unit
       free_data_keeps old.core.descriptor old.core.status.committed (is_there old.core) pp (contents_of start) (contents_of image) facts (images_within start) settled.votes holds.shows there free
       (zeros_change old.core.descriptor.mib pp start image by) (kept start (media_may old.device m is))
 
-  zero_keeps : IsTrue (is_there old.core pp.disk) → IsFree old.core.descriptor pp → IsHeld old.device old.core → (run : ℕ) (first : Moment) → SpanGoesOn run first old new
-  zero_keeps there free held run first span =
+  zero_keeps : IsTrue (is_there old.core pp.disk) → IsFree old.core.descriptor pp → (run : ℕ) (first : Moment) → IsHeldSince run first old → SpanGoesOn run first old new
+  zero_keeps there free run first held span =
       let facts = old.core.history.facts in
       let goes = keeps_path (IsWriting (IsZeroOf old.core.descriptor.mib pp) old.device) run first old.device new.device facts span
       (λ past begins holds d writing.
       let told = told_media run past first old.device facts span begins in
-      still_kept there free held told.0 told.1 (past ++ facts) holds.kept d writing) w.part.moments in
+      still_kept there free (held past begins) told.0 told.1 (past ++ facts) holds.kept d writing) w.part.moments in
       by_core (λ (c : Core). Keeps run first (at new.device c.history.facts)) (λ is. is) (λ is. keeps_cut new.device old.core.history run first is) goes
 
   zero_calm : StaysCalm (moment_of old) (moment_of new)
@@ -144,7 +144,7 @@ module _ (pp : Pp) (before after : ℕ) (old new : State) (answer : Result (Unit
         status = same_status NoDescriptor NoPartition NoPartition old new same;
         numbers = subst (λ (u : Stored). SpendsNumbers 0 old.core.status u) (sym same) (record { epoch = refl; rises = omega arith; most = omega arith });
         history = by_core (λ (c : Core). KeepsHistory old.core.history c.history) (λ is. is) (λ is. history_keeps_cut old.core.history) (keeps_same old.core.history old.core.history refl);
-        spans = λ held run first always. zero_keeps there free held run first;
+        spans = λ run first held always. zero_keeps there free run first held;
         finds = finds_nothing NoDescriptor old new _ w.part.keeps.media (zero_keeps_records pp before after old new answer w).finds;
         calm = zero_calm;
         behind = zero_behind pp before after old new answer w;

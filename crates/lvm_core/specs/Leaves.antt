@@ -16,6 +16,7 @@ use Rattle.lvm_kept.specs.Contents.{contents_of}
 use Rattle.lvm_kept.specs.Group.{IsFound, IsOneOf}
 use Rattle.lvm_kept.specs.Moments.{Moment, StaysCalm}
 use Rattle.lvm_kept.specs.Plans.{Plan}
+use Rattle.lvm_steps.specs.Moments.{Begins}
 use Rattle.lvm_write.specs.Parts.{Spends}
 use Rattle.lvm_write.specs.Written.{KeepsShelf}
 use Rattle.lvm_commit.specs.Settling.{there, HasSameRows, SpendsNumbers, IsOfStatus, IsOfCommit}
@@ -41,6 +42,10 @@ NoDescriptor next = ⊥
 
 abbrev pub NoPartition : Pp → Type 0
 NoPartition pp = ⊥
+
+-- by whatever was told before a span, the disks hold what the session says
+abbrev pub IsHeldSince : ℕ → Moment → State → Type 0
+IsHeldSince run first s = (past : List Fact) → Begins run past first → IsHeld s.device s.core
 
 -- a span goes on without a premise
 abbrev pub Always : State → State → ℕ → Moment → Type 0
@@ -135,8 +140,8 @@ pub record Leaves (scope : Scope) (before after : ℕ) (old new : State) : Type 
   -- the stamps are of the same session, and rise
   pub numbers : SpendsNumbers scope.numbers old.core.status new.core.status
   pub history : KeepsHistory old.core.history new.core.history
-  -- a span that leads here goes on, where the disks hold what the session says
-  pub spans : IsHeld old.device old.core → (run : ℕ) (first : Moment) → scope.lets old new run first → SpanGoesOn run first old new
+  -- a span that leads here goes on, where the disks hold what the session says by whatever was told before it
+  pub spans : (run : ℕ) (first : Moment) → IsHeldSince run first old → scope.lets old new run first → SpanGoesOn run first old new
   pub finds : FindsOnly scope.next old new
   -- no write is open that wasn't, and the disks stay behind the clock
   pub calm : StaysCalm (moment_of old) (moment_of new)

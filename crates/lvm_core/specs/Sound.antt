@@ -6,6 +6,7 @@ use Rattle.lvm_vol.specs.Log.{is_open}
 use Rattle.lvm_mwc.specs.Entries.{AreEntries}
 use Rattle.lvm_mwc.specs.Cache.{has_disk, flight_on}
 use Rattle.lvm_status.specs.Members.{HasItsRows}
+use Rattle.lvm_commit.specs.Settling.{IsForgotten}
 use Rattle.lvm_session.specs.declared.open.Power.TheVariants as power
 use Rattle.lvm_session.specs.State.{Core, State}
 use Rattle.lvm_session.specs.Enabled.{is_lost}
@@ -30,6 +31,7 @@ pub record IsFitting (core : Core) : Type 0 where
   pub a_buffer : 1 ≤ length core.pool
   pub buffers : length core.pool ≤ 1024
   pub last : length core.last ≡ 512
+  pub forgotten : IsForgotten core.status
 
 -- neither a request nor a copy is open
 pub record HasNoneOpen (core : Core) : Type 0 where

@@ -10,7 +10,7 @@ use Rattle.lvm_stale.specs.Table.{SameMissing}
 use Rattle.lvm_status.specs.Update.{Stored}
 use Rattle.lvm_commit.specs.declared.commit.CommitEnd.{CommitEnd}
 use Rattle.lvm_commit.specs.declared.commit.CommitEnd.TheVariants as commit_end
-use Rattle.lvm_commit.specs.Settling.{HasSameRows, IsOfStatus, IsOfCommit, IsPlain, IsPlainStatus, StatusStaysKept, DescriptorStaysKept, StatusFindsNothingNew, CommitFindsNoMore, StaysHeld, ComesHeld, CommitLeaves, SettleEnds}
+use Rattle.lvm_commit.specs.Settling.{HasSameRows, IsForgotten, IsOfStatus, IsOfCommit, IsPlain, IsPlainStatus, StatusStaysKept, DescriptorStaysKept, StatusFindsNothingNew, CommitFindsNoMore, StaysHeld, ComesHeld, CommitLeaves, SettleEnds}
 use Rattle.lvm_core.specs.declared.fault.CommitFault.{CommitFault}
 use Rattle.lvm_core.specs.declared.fault.CommitFault.TheVariants as fault
 use Rattle.lvm_session.specs.declared.open.Power.TheVariants as power
@@ -30,6 +30,7 @@ pub record IsMarked (to_stale to_fresh : List Pp) (old new : Stored) : Type 0 wh
   pub marks : Marks to_stale to_fresh old.wanted new.wanted
   pub missing : SameMissing old.wanted new.wanted
   pub dirty : new.wanted.dirty ≡ old.wanted.dirty
+  pub forgotten : IsForgotten old → IsForgotten new
   pub same : AreMarked to_stale to_fresh old.wanted → new ≡ old
 
 -- ---- after the records

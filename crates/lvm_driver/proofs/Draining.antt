@@ -1,12 +1,12 @@
 -- Turns until nothing may be made.
-use Rattle.std.proofs.Common.{◌≡◌, ◌≤◌, ◌<◌, ◌+◌, ◌-◌, ◌⊎◌, inl, inr, ℕ, List, [], ◌∷◌, length, refl, sym, ◌∙◌, ap, subst, arith}
+use Rattle.std.proofs.Common.{◌≡◌, ◌≤◌, ◌<◌, ◌+◌, ◌-◌, ◌⊎◌, inl, inr, false, ℕ, List, [], ◌∷◌, length, refl, sym, ◌∙◌, ap, subst, arith}
 use Rattle.lvm_disk.specs.Counts.{RoseBy}
-use Rattle.lvm_disk.specs.Device.{Flight}
+use Rattle.lvm_disk.specs.Device.{Device, Flight}
 use Rattle.lvm_disk.specs.Paths.{Here, Path, Then}
 use Rattle.lvm_disk.proofs.Rising.{rose_by_after, rose_by_more, rose_by_none}
 use Rattle.lvm_session.specs.declared.open.Power.TheVariants as power
 use Rattle.lvm_session.specs.State.{State}
-use Rattle.lvm_session.specs.Enabled.{first_event}
+use Rattle.lvm_session.specs.Enabled.{first_event, is_lost}
 use Rattle.lvm_session.specs.declared.answers.Turned.{Turned}
 use Rattle.lvm_session.specs.declared.answers.Turned.TheVariants as turned
 use Rattle.lvm_session.specs.Turns.{Finds, FindsNothing, TurnMakes}
@@ -89,7 +89,14 @@ module _ (first old new : State) (patience left : ℕ) (so_far : Goes first old 
   pub drained : TurnTells old new turned.Idle → length new.device.flights ≡ 0 → IsDrained new
   drained tells none =
       let still = tells.idle.0 refl in
-      record { on = tells.power_is; none = ap first_event (same_core still.still) ∙ still.none; idle = none_out new.device.flights none }
+      record { on = tells.power_is; votes = votes still.still; none = ap first_event (same_core still.still) ∙ still.none; idle = none_out new.device.flights none }
+    where
+      -- where transfers are out they still are
+      votes : Finds old new ⊎ FindsNothing old new → is_lost new.core ≡ false
+      votes (inl finds) =
+          let still_out : length new.device.flights ≡ length old.device.flights = ap (λ (d : Device). length d.flights) finds.waits.new_is in
+          absurd (omega (arith, finds.waits.out, still_out, none))
+      votes (inr nothing) = ap (λ (s : State). is_lost s.core) nothing.is ∙ nothing.votes
 
 -- ---- how long it takes
 

@@ -1,5 +1,5 @@
 -- Turns until nothing may be made.
-use Rattle.std.specs.Prelude.{◌≡◌, ℕ, [], true, None, Result, Ok, Err}
+use Rattle.std.specs.Prelude.{◌≡◌, ℕ, [], false, None, Result, Ok, Err}
 use Rattle.lvm_num.specs.Votes.{total_votes}
 use Rattle.lvm_session.specs.declared.open.Power.TheVariants as power
 use Rattle.lvm_session.specs.Enabled.{first_event, is_lost}
@@ -17,9 +17,10 @@ IsTurn old new = (answer : Turned) × TurnMakes old new answer
 abbrev pub IsAny : State → Type 0
 IsAny s = Unit {0}
 
--- the session goes on, no event may be made, and no transfer is out
+-- the session goes on with votes enough to write, no event may be made, and no transfer is out
 pub record IsDrained (s : State) : Type 0 where
   pub on : s.core.power ≡ power.On
+  pub votes : is_lost s.core ≡ false
   pub none : first_event s.core ≡ None
   pub idle : s.device.flights ≡ []
 

@@ -9,4 +9,5 @@ mod making;
 mod plan;
 mod write;
 
+pub use checks::size_to_begin;
 pub use making::mkvg;

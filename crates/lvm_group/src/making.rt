@@ -4,6 +4,7 @@ ghost use Rattle.std.specs.Option.{ForSome};
 ghost use Rattle.lvm_num.specs.Descriptor.{is_size};
 ghost use Rattle.lvm_disk.specs.Device.{IsReady};
 ghost use Rattle.lvm_steps.specs.Requests.{at};
+ghost use Rattle.lvm_session_start.specs.Beginning.{AreFaults};
 ghost use Rattle.lvm_core.specs.Sound.{HaveAllLanded};
 ghost use Rattle.lvm_core.specs.Starting.{IsRoom};
 ghost use Rattle.lvm_core.specs.State.{state_of};
@@ -49,6 +50,7 @@ pub fn mkvg<S: Shelf>(
     requires room { IsRoom room }
     ensures gives { MkvgGives S.device (record { name = name; mib = mib; disks = disks.now; force = force; moment = moment }) room patience.old.left history (S.device shelf) result }
     ensures starts { IfOk result (λ driver. IsStarted history.run moment (S.device shelf) history (state_of S.device driver)) }
+    ensures faults { IfOk result (λ driver. AreFaults (S.device driver.0) driver.1.origin.faults) }
     // whatever the answer
     ensures leaves { BringsOn history.run moment patience.old.left patience.new.left (S.device shelf) (S.device (shelf_left result)) history (history_left result) }
 {

@@ -17,19 +17,21 @@ use Rattle.lvm_group.specs.Made.{Refuses as MkvgRefuses}
 use Rattle.lvm_varyon.specs.Varied.{Refuses as VaryonRefuses}
 use Rattle.lvm_line.specs.Causes.{HasCause, HasFailed, RoseOn, disk_of, VaryonLaw}
 use Rattle.lvm_raw.specs.Ends.{FaultHasCause}
-use Rattle.lvm_commands.specs.Disks.{patience_of_line, refusal_by, NoWriteWhileOn, WriteFaults, WriteIsDone, NoReadWhileOn, ReadFaults, ReadGets}
-use Rattle.lvm_commands.specs.Groups.{IsLit, IsBroughtBack, refusal_of, asked_for, NoVaryonWhileOn, VariesOn, VaryonFails, NoMemoryForLine, NoMkvgWhileOn, MakesGroup, MkvgFails, NoVaryoff, VariesOff}
+use Rattle.lvm_stage.specs.Ends.{patience_of_line}
+use Rattle.lvm_disk_lines.specs.Disks.{refusal_by, NoWriteWhileOn, WriteFaults, WriteIsDone, NoReadWhileOn, ReadFaults, ReadGets}
+use Rattle.lvm_stage.specs.Lighting.{IsLit, refusal_of}
+use Rattle.lvm_group_lines.specs.Groups.{IsBroughtBack, asked_for, NoVaryonWhileOn, VariesOn, VaryonFails, NoMemoryForLine, NoMkvgWhileOn, MakesGroup, MkvgFails, NoVaryoff, VariesOff}
 use Rattle.lvm_line.specs.Lines.{LineDoes}
-use Rattle.lvm_commands.specs.Listings.{NoSuchGroup, ListsGroup, NoGroupForVolume, NoSuchVolume, ListsVolume, NoGroupForDisk, NoSuchMember, ListsMember}
-use Rattle.lvm_commands.specs.Replies.{Shows, InFull, WithoutMemory}
-use Rattle.lvm_commands.specs.Shelves.{NotThere, NotPlanned, IsArranged, CutNotPlanned, PowerIsCut}
-use Rattle.lvm_commands.specs.State.{State, log_with}
-use Rattle.lvm_commands.specs.Volumes.{NoGroupForMklv, MakesVolume, MklvFails, NoGroupForRmlv, NoVolumeForRmlv, RemovesVolume, RmlvFails, refusal_for, wanted}
-use Rattle.lvm_commands.specs.declared.reply.Refusal.{Refusal}
-use Rattle.lvm_commands.specs.declared.reply.Refusal.TheVariants as refusal
-use Rattle.lvm_commands.specs.declared.reply.Reply.TheVariants as reply
-use Rattle.lvm_commands.proofs.Coming.{clock_is_ahead}
-use Rattle.lvm_commands.proofs.Ending.{mklv_facts, rmlv_facts}
+use Rattle.lvm_group_lines.specs.Listings.{NoSuchGroup, ListsGroup, NoGroupForVolume, NoSuchVolume, ListsVolume, NoGroupForDisk, NoSuchMember, ListsMember}
+use Rattle.lvm_stage.specs.Replies.{Shows, InFull, WithoutMemory}
+use Rattle.lvm_disk_lines.specs.Shelves.{NotThere, NotPlanned, IsArranged, CutNotPlanned, PowerIsCut}
+use Rattle.lvm_stage.specs.State.{State, log_with}
+use Rattle.lvm_volume_lines.specs.Volumes.{NoGroupForMklv, MakesVolume, MklvFails, NoGroupForRmlv, NoVolumeForRmlv, RemovesVolume, RmlvFails, refusal_for, wanted}
+use Rattle.lvm_stage.specs.declared.reply.Refusal.{Refusal}
+use Rattle.lvm_stage.specs.declared.reply.Refusal.TheVariants as refusal
+use Rattle.lvm_stage.specs.declared.reply.Reply.TheVariants as reply
+use Rattle.lvm_group_lines.proofs.Coming.{clock_is_ahead}
+use Rattle.lvm_volume_lines.proofs.Ending.{mklv_facts, rmlv_facts}
 use Rattle.lvm_line.proofs.Faulting.{known_group}
 use Rattle.lvm_line.proofs.Knowing.{Known, by_reply}
 

@@ -12,10 +12,10 @@ use Rattle.lvm_status.specs.Update.{Stored}
 use Rattle.lvm_commit.specs.Settling.{HasLostQuorum}
 use Rattle.lvm_session.specs.State.{Core, State as Session, state}
 use Rattle.lvm_line.specs.Causes.{HasFailed, HasLost}
-use Rattle.lvm_commands.specs.Disks.{patience_of_line}
-use Rattle.lvm_commands.specs.State.{State}
-use Rattle.lvm_commands.specs.Volumes.{IsLeft, ends_session, refusal_for}
-use Rattle.lvm_commands.proofs.Ending.{FaultFacts}
+use Rattle.lvm_stage.specs.Ends.{patience_of_line}
+use Rattle.lvm_stage.specs.State.{State}
+use Rattle.lvm_volume_lines.specs.Volumes.{IsLeft, ends_session, refusal_for}
+use Rattle.lvm_volume_lines.proofs.Ending.{FaultFacts}
 use Rattle.lvm_line.proofs.Knowing.{Known}
 use Rattle.lvm_volume_plan.specs.declared.fault.GroupFault.{GroupFault}
 use Rattle.lvm_volume_plan.specs.declared.fault.GroupFault.TheVariants as fault

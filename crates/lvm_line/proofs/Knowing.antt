@@ -3,10 +3,10 @@ use Rattle.std.proofs.Common.{◌≡◌, ℕ, Option, None, Result, subst}
 use Rattle.lvm_parse.specs.declared.command.Command.{Command}
 use Rattle.lvm_operands.specs.declared.rest.Misfit.{Misfit}
 use Rattle.lvm_line.specs.Causes.{HasCause}
-use Rattle.lvm_commands.specs.State.{State}
-use Rattle.lvm_commands.specs.declared.reply.Refusal.{Refusal}
-use Rattle.lvm_commands.specs.declared.reply.Refusal.TheVariants as refusal
-use Rattle.lvm_commands.specs.declared.reply.Reply.TheVariants as reply
+use Rattle.lvm_stage.specs.State.{State}
+use Rattle.lvm_stage.specs.declared.reply.Refusal.{Refusal}
+use Rattle.lvm_stage.specs.declared.reply.Refusal.TheVariants as refusal
+use Rattle.lvm_stage.specs.declared.reply.Reply.TheVariants as reply
 
 -- its cause, and that what quorums lack is told before a write
 pub record Known (read : Result (Option Command) Misfit) (why : Refusal) (old new : State) : Type 0 where

@@ -10,18 +10,19 @@ use Rattle.lvm_parse.specs.Grammar.{line_of}
 use Rattle.lvm_parse.specs.Answering.{IsMkvgLine}
 use Rattle.lvm_core.specs.declared.parts.Room.{Room}
 use Rattle.lvm_session.specs.State.{Core}
-use Rattle.lvm_commands.specs.Ends.{CommandEnds}
-use Rattle.lvm_commands.specs.Groups.{IsAsked, MkvgDoes, NoMemoryForLine, NoMkvgWhileOn}
+use Rattle.lvm_stage.specs.Ends.{CommandEnds}
+use Rattle.lvm_stage.specs.Asking.{IsAsked}
+use Rattle.lvm_group_lines.specs.Groups.{MkvgDoes, NoMemoryForLine, NoMkvgWhileOn}
 use Rattle.lvm_line.specs.Lines.{CommandDoes, CommandIsDone, LineDoes, IsLine, IsOrder, asked_after}
-use Rattle.lvm_commands.specs.Moments.{GoesOn}
-use Rattle.lvm_commands.specs.Stages.{history_in, state_in, IsSettledStage}
-use Rattle.lvm_commands.specs.State.{State, IsSettled, without_facts}
-use Rattle.lvm_commands.specs.declared.reply.Refusal.TheVariants as refusal
-use Rattle.lvm_commands.specs.declared.reply.Reply.{Reply}
-use Rattle.lvm_commands.specs.declared.reply.Reply.TheVariants as reply
-use Rattle.lvm_commands.specs.declared.stage.Stage.{Stage}
-use Rattle.lvm_commands.proofs.Ends.{ends_as}
-use Rattle.lvm_commands.proofs.Going.{same_goes, asked_goes}
+use Rattle.lvm_stage.specs.Moments.{GoesOn}
+use Rattle.lvm_stage.specs.Stages.{history_in, state_in, IsSettledStage}
+use Rattle.lvm_stage.specs.State.{State, IsSettled, without_facts}
+use Rattle.lvm_stage.specs.declared.reply.Refusal.TheVariants as refusal
+use Rattle.lvm_stage.specs.declared.reply.Reply.{Reply}
+use Rattle.lvm_stage.specs.declared.reply.Reply.TheVariants as reply
+use Rattle.lvm_stage.specs.declared.stage.Stage.{Stage}
+use Rattle.lvm_stage.proofs.Ends.{ends_as}
+use Rattle.lvm_stage.proofs.Going.{same_goes, asked_goes}
 
 -- a line that is read so
 pub line_read :

@@ -9,13 +9,13 @@ use Rattle.lvm_vol.specs.Log.{Log}
 use Rattle.lvm_commit.specs.Settling.{there}
 use Rattle.lvm_core.specs.declared.parts.Room.{Room}
 use Rattle.lvm_session.specs.State.{Core}
-use Rattle.lvm_commands.specs.Groups.{IsBroughtBack}
-use Rattle.lvm_commands.specs.Disks.{patience_of_line}
+use Rattle.lvm_group_lines.specs.Groups.{IsBroughtBack}
+use Rattle.lvm_stage.specs.Ends.{patience_of_line}
 use Rattle.lvm_line.specs.Lines.{IsLine}
-use Rattle.lvm_commands.specs.State.{State, IsTimely}
-use Rattle.lvm_commands.specs.declared.reply.Refusal.{Refusal}
-use Rattle.lvm_commands.specs.declared.reply.Refusal.TheVariants as refusal
-use Rattle.lvm_commands.specs.declared.reply.Reply.TheVariants as reply
+use Rattle.lvm_stage.specs.State.{State, IsTimely}
+use Rattle.lvm_stage.specs.declared.reply.Refusal.{Refusal}
+use Rattle.lvm_stage.specs.declared.reply.Refusal.TheVariants as refusal
+use Rattle.lvm_stage.specs.declared.reply.Reply.TheVariants as reply
 
 -- the disk that a line reads or writes
 abbrev pub disk_of : Result (Option Command) Misfit → Option ℕ

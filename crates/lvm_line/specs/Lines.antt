@@ -1,8 +1,5 @@
 -- What one line of a script does.
-use Rattle.std.specs.Prelude.{◌≡◌, ◌≢◌, ◌≤◌, ℕ, List, Option, Some, None, Result, Ok, Err, IsTrue, length, AllPairs}
-use Rattle.std.specs.Option.{ForSome}
-use Rattle.lvm_num.specs.Descriptor.{is_size}
-use Rattle.lvm_num.specs.declared.descriptor.Mode.TheVariants.{Off}
+use Rattle.std.specs.Prelude.{◌≡◌, ℕ, List, Option, Some, None, Result, Ok, Err, length}
 use Rattle.lvm_disk.specs.Device.{Device, HasSectors}
 use Rattle.lvm_disk.specs.declared.shelf.Arrange.TheVariants as arrange
 use Rattle.lvm_io.specs.Count.{next_count}
@@ -12,27 +9,19 @@ use Rattle.lvm_parse.specs.declared.command.Command.TheVariants as command
 use Rattle.lvm_operands.specs.declared.rest.Misfit.{Misfit}
 use Rattle.lvm_parse.specs.Grammar.{line_of}
 use Rattle.lvm_core.specs.declared.parts.Room.{Room}
-use Rattle.lvm_commands.specs.Disks.{ReadDoes, WriteDoes}
-use Rattle.lvm_commands.specs.Ends.{CommandEnds}
-use Rattle.lvm_commands.specs.Groups.{MkvgDoes, VaryonDoes, VaryoffDoes}
-use Rattle.lvm_commands.specs.Listings.{GroupShows, VolumeShows, DiskShows}
-use Rattle.lvm_commands.specs.Moments.{GoesOn}
-use Rattle.lvm_commands.specs.Replies.{IsRefused}
-use Rattle.lvm_commands.specs.Shelves.{ArrangeDoes, CutDoes}
-use Rattle.lvm_commands.specs.State.{State}
-use Rattle.lvm_commands.specs.Volumes.{MklvDoes, RmlvDoes, wanted}
-use Rattle.lvm_commands.specs.declared.reply.Refusal.TheVariants as refusal
-use Rattle.lvm_commands.specs.declared.reply.Reply.{Reply}
-use Rattle.lvm_commands.specs.declared.reply.Reply.TheVariants as reply
-use Rattle.lvm_commands.specs.declared.stage.Stage.{Stage}
-
--- what the grammar says of the numbers and disks of a command
-abbrev pub IsWithin : Command → Type 0
-IsWithin (command.Mkvg force name mib disks) = (1 ≤ length disks) × AllPairs (λ a b. a ≢ b) disks × ForSome mib (λ given. IsTrue (is_size given))
-IsWithin (command.Mklv name copies mode policy group lps) = (1 ≤ lps) × (mode ≡ Off)
-IsWithin (command.RawRd disk at count) = (1 ≤ count) × (count ≤ 4096)
-IsWithin (command.RawWr disk at count word) = (1 ≤ count) × (count ≤ 4096)
-IsWithin other = Unit {0}
+use Rattle.lvm_disk_lines.specs.Disks.{ReadDoes, WriteDoes}
+use Rattle.lvm_stage.specs.Ends.{CommandEnds}
+use Rattle.lvm_group_lines.specs.Groups.{MkvgDoes, VaryonDoes, VaryoffDoes}
+use Rattle.lvm_group_lines.specs.Listings.{GroupShows, VolumeShows, DiskShows}
+use Rattle.lvm_stage.specs.Moments.{GoesOn}
+use Rattle.lvm_stage.specs.Replies.{IsRefused}
+use Rattle.lvm_disk_lines.specs.Shelves.{ArrangeDoes, CutDoes}
+use Rattle.lvm_stage.specs.State.{State}
+use Rattle.lvm_volume_lines.specs.Volumes.{MklvDoes, RmlvDoes, wanted}
+use Rattle.lvm_stage.specs.declared.reply.Refusal.TheVariants as refusal
+use Rattle.lvm_stage.specs.declared.reply.Reply.{Reply}
+use Rattle.lvm_stage.specs.declared.reply.Reply.TheVariants as reply
+use Rattle.lvm_stage.specs.declared.stage.Stage.{Stage}
 
 -- a listing leaves the whole state
 abbrev pub IsListed : State → State → Type 0 → Type 0

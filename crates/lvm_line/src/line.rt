@@ -4,19 +4,20 @@ ghost use Rattle.lvm_core.specs.Starting.{IsRoom};
 ghost use Rattle.lvm_core.specs.declared.parts.Room.{Room};
 ghost use Rattle.lvm_vol.specs.Log.{Log};
 ghost use Rattle.lvm_parse.specs.Grammar.{line_of};
-ghost use Rattle.lvm_line.specs.Lines.{IsWithin, CommandDoes, CommandIsDone, IsLine, IsChange, asked_after};
-ghost use Rattle.lvm_commands.specs.Replies.{IsStuck};
-ghost use Rattle.lvm_commands.specs.Stages.{history_in, session_in, state_in, IsSettledStage};
-ghost use Rattle.lvm_commands.specs.State.{without_facts};
+ghost use Rattle.lvm_parse.specs.Within.{IsWithin};
+ghost use Rattle.lvm_line.specs.Lines.{CommandDoes, CommandIsDone, IsLine, IsChange, asked_after};
+ghost use Rattle.lvm_stage.specs.Replies.{IsStuck};
+ghost use Rattle.lvm_stage.specs.Stages.{history_in, session_in, state_in, IsSettledStage};
+ghost use Rattle.lvm_stage.specs.State.{without_facts};
 
-use lvm_commands::{
-    Answered, Refusal, Reply, Stage, do_arrange, do_cut, do_mklv, do_mkvg, do_read, do_rmlv,
-    do_varyoff, do_varyon, do_write, list_disk, list_group, list_volume,
-};
 use lvm_core::Room;
 use lvm_disk::{Arrange, Shelf};
+use lvm_disk_lines::{do_arrange, do_cut, do_read, do_write};
+use lvm_group_lines::{do_mkvg, do_varyoff, do_varyon, list_disk, list_group, list_volume};
 use lvm_io::Clock;
 use lvm_parse::{Command, ParseFault, parse};
+use lvm_stage::{Answered, Refusal, Reply, Stage};
+use lvm_volume_lines::{do_mklv, do_rmlv};
 use std::alloc::Global;
 
 // Does what a command asks for.

@@ -1,9 +1,10 @@
 -- How the words of a line are read from the left.
 use Rattle.std.specs.Prelude.{ℕ, ◌==◌, nat_lt, Bool, true, false, ◌&&◌, not, if◌then◌else◌, List, [], ◌∷◌, ◌++◌, length, Option, Some, None, Result, Ok, Err, bytes_eq}
 use Rattle.std.specs.List.{list_any}
+use Rattle.lvm_operands.specs.declared.range.BlockRange.{BlockRange}
 use Rattle.lvm_operands.specs.declared.rest.Misfit.{Misfit}
 use Rattle.lvm_operands.specs.Line.{WordAt, Left}
-use Rattle.lvm_literals.specs.Words.{only, disk_in}
+use Rattle.lvm_literals.specs.Words.{only, number_in, count_in, disk_in}
 
 -- the words from a column on don't fit
 abbrev pub misfit : {T : Type 0} → ℕ → Result T Misfit
@@ -54,6 +55,16 @@ ends l value = ends_of l.words value
 -- the operand with which the line ends
 abbrev pub last : {T : Type 0} → (List ℕ → Option T) → Left → Result T Misfit
 last meaning l = then_ (operand meaning l) (λ value. ends value.1 value.0)
+
+-- ---- blocks
+
+-- BLOCK COUNT: a range of blocks, and what is left behind it
+unfoldable pub blocks : Left → Result (BlockRange × Left) Misfit
+blocks l = then_ (operand number_in l) (λ at. then_ (operand count_in at.1) (λ count. Ok (record { at = at.0; count = count.0 }, count.1)))
+
+-- the range with which the line ends
+abbrev pub last_blocks : Left → Result BlockRange Misfit
+last_blocks l = then_ (blocks l) (λ range. ends range.1 range.0)
 
 -- ---- options in any order
 

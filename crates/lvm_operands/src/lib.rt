@@ -4,6 +4,7 @@
 
 mod disk_list;
 mod operands;
+mod range;
 mod rest;
 mod scan;
 
@@ -12,5 +13,6 @@ pub use operands::{
     copies, count, disk, ends, last_disk, last_name, last_partitions, last_pattern, misfit, mode,
     name, next_column, number, option, partitions, pattern, policy, size,
 };
+pub use range::{BlockRange, blocks, last_blocks};
 pub use rest::{Misfit, Rest, Word};
 pub use scan::{is_remark, next_word, unreadable_at};

@@ -3,15 +3,17 @@ use Rattle.std.specs.Prelude.{⊤, MatchOption, codes, bytes_eq, position, not, 
 use Rattle.std.proofs.lemmas.Bool.Decides.{nat_tests}
 use Rattle.std.proofs.lemmas.List.{length-take}
 use Rattle.std.proofs.lemmas.List.Quantifiers.{position-Some}
-use Rattle.std.proofs.Common.{◌≡◌, ℕ, ◌+◌, ◌≤◌, ◌<◌, ◌==◌, Bool, true, false, cond, List, [], ◌∷◌, ◌++◌, length, take, Option, Some, None, Result, Ok, Err, refl, subst, arith, length-append}
+use Rattle.std.proofs.Common.{◌≡◌, ℕ, ◌+◌, ◌≤◌, ◌<◌, ◌==◌, Bool, true, false, cond, List, [], ◌∷◌, ◌++◌, length, take, Option, Some, None, Result, Ok, Err, refl, sym, subst, arith, length-append}
 use Rattle.lvm_num.specs.declared.descriptor.Policy.TheVariants as policy
 use Rattle.lvm_parse.specs.declared.command.Command.{Command}
 use Rattle.lvm_parse.specs.declared.command.Command.TheVariants as command
 use Rattle.lvm_operands.specs.declared.rest.Misfit.{Misfit}
 use Rattle.lvm_operands.specs.Line.{WordAt, Left, finished, words_from, left_at, is_plain, is_remark, too_long_or, unreadable_at}
 use Rattle.lvm_literals.specs.Words.{number_in, count_in, partitions_in, word_in, name_in, disk_in}
-use Rattle.lvm_operands.specs.Reading.{misfit, then_, or_misfit, column_of, next_column, operand_of, operand, option_of, option, ends_of, ends, last, Choice, NoOption, Alone, Valued, options_of, options, required, further_disk, one_or_more, disks_of, disks}
-use Rattle.lvm_parse.specs.Grammar.{rd, wr, fail, heal, lspv, cut_of, cut, mkvg_choice, no_mkvg_options, mkvg, varyonvg, varyoffvg, lsvg, mklv_choice, no_mklv_options, mklv, rmlv, lslv, rule, line_of_words, readable, line_of}
+use Rattle.lvm_operands.specs.declared.range.BlockRange.{BlockRange}
+use Rattle.lvm_operands.specs.Reading.{misfit, then_, or_misfit, column_of, next_column, operand_of, operand, option_of, option, ends_of, ends, last, blocks, last_blocks, Choice, NoOption, Alone, Valued, options_of, options, required, further_disk, one_or_more, disks_of, disks}
+use Rattle.lvm_options.specs.Options.{mkvg_choice, no_mkvg_options, mklv_choice, no_mklv_options}
+use Rattle.lvm_parse.specs.Grammar.{rd, wr, fail, heal, lspv, cut_of, cut, mkvg, varyonvg, varyoffvg, lsvg, mklv, rmlv, lslv, Row, rows, rule, line_of_words, readable, line_of}
 
 -- a column from 1 to this one
 abbrev pub IsIn : ℕ → ℕ → Type 0
@@ -68,14 +70,6 @@ operand_then {T} {B} high meaning l within next more = at l.words within.0
     at : (ws : List WordAt) → AreIn high ws → In high (then_ {A = T × Left} (operand_of meaning ws l.end) next)
     at [] words = within.1
     at (w ∷ ws) words = behind ws w.column (meaning w.bytes) words.1 words.0
-
-ends_in : {T : Type 0} (high : ℕ) (l : Left) (value : T) → LeftIn high l → In high (ends l value)
-unfolding ends
-ends_in {T} high l value within = at l.words within.0
-  where
-    at : (ws : List WordAt) → AreIn high ws → In high (ends_of ws value)
-    at [] words = tt
-    at (w ∷ ws) words = words.0
 
 ends_then : {T B : Type 0} (high : ℕ) (l : Left) (value : T) → LeftIn high l → (next : T → Result B Misfit) → ((v : T) → In high (next v)) → In high (then_ (ends l value) next)
 unfolding ends
@@ -160,13 +154,44 @@ disks_then {B} high before l within next more = at before l.words within.0
         further None behind = words.0
         further (Some disk) behind = behind disk
 
--- ---- the rules
+-- ---- blocks
+
+then_then : {A B C : Type 0} (r : Result A Misfit) (f : A → Result B Misfit) (g : B → Result C Misfit) → then_ (then_ r f) g ≡ then_ r (λ v. then_ (f v) g)
+then_then (Ok v) f g = refl
+then_then (Err e) f g = refl
+
+blocks_then : {B : Type 0} (high : ℕ) (l : Left) → LeftIn high l → (next : BlockRange × Left → Result B Misfit) → ((r : BlockRange × Left) → LeftIn high r.1 → In high (next r)) → In high (then_ (blocks l) next)
+unfolding blocks
+blocks_then {B} high l within next more =
+    subst (In high) (sym (then_then (operand number_in l) of_count next)) (operand_then high number_in l within _ (λ at b.
+    subst (In high) (sym (then_then (operand count_in at.1) (made at) next)) (operand_then high count_in at.1 b _ (λ count b. more (record { at = at.0; count = count.0 }, count.1) b))))
+  where
+    made : ℕ × Left → ℕ × Left → Result (BlockRange × Left) Misfit
+    made at count = Ok (record { at = at.0; count = count.0 }, count.1)
+
+    of_count : ℕ × Left → Result (BlockRange × Left) Misfit
+    of_count at = then_ (operand count_in at.1) (made at)
+
+last_blocks_then : {B : Type 0} (high : ℕ) (l : Left) → LeftIn high l → (make : BlockRange → B) → In high (then_ (last_blocks l) (λ range. Ok (make range)))
+last_blocks_then {B} high l within make =
+    subst (In high) (sym (then_then (blocks l) (λ range. ends range.1 range.0) (λ range. Ok (make range)))) (blocks_then high l within _ (λ range b. ends_then high range.1 range.0 b (λ range. Ok (make range)) (λ range. tt)))
+
+-- ---- the rows
 
 rd_in : (high : ℕ) (l : Left) → LeftIn high l → In high (rd l)
-rd_in high l b = operand_then high disk_in l b _ (λ disk b. operand_then high number_in disk.1 b _ (λ at b. operand_then high count_in at.1 b _ (λ count b. ends_in high count.1 _ b)))
+rd_in high l b = operand_then high disk_in l b _ (λ disk b. last_blocks_then high disk.1 b (λ range. command.RawRd disk.0 range.at range.count))
 
 wr_in : (high : ℕ) (l : Left) → LeftIn high l → In high (wr l)
-wr_in high l b = operand_then high disk_in l b _ (λ disk b. operand_then high number_in disk.1 b _ (λ at b. operand_then high count_in at.1 b _ (λ count b. operand_then high word_in count.1 b _ (λ word b. ends_in high word.1 _ b))))
+wr_in high l b = operand_then high disk_in l b _ (λ disk b. blocks_then high disk.1 b _ (λ range b. last_then high word_in range.1 b (command.RawWr disk.0 range.0.at range.0.count)))
+
+lspv_in : (high : ℕ) (l : Left) → LeftIn high l → In high (lspv l)
+lspv_in high l b = last_then high disk_in l b command.Lspv
+
+fail_in : (high : ℕ) (l : Left) → LeftIn high l → In high (fail l)
+fail_in high l b = last_then high disk_in l b command.Fail
+
+heal_in : (high : ℕ) (l : Left) → LeftIn high l → In high (heal l)
+heal_in high l b = last_then high disk_in l b command.Heal
 
 cut_in : (high : ℕ) (l : Left) → LeftIn high l → In high (cut l)
 cut_in high l b = at l.words
@@ -178,8 +203,20 @@ cut_in high l b = at l.words
 mkvg_in : (high : ℕ) (l : Left) → LeftIn high l → In high (mkvg l)
 mkvg_in high l b = options_then high mkvg_choice no_mkvg_options l b _ (λ o b. required_then high o.0.name o.1 b _ (λ name. disks_then high [] o.1 b _ (λ disks. tt)))
 
+varyonvg_in : (high : ℕ) (l : Left) → LeftIn high l → In high (varyonvg l)
+varyonvg_in high l b = last_then high name_in (option (codes "-n") l).1 (option_is_in high (codes "-n") l b) command.Varyon
+
+varyoffvg_in : (high : ℕ) (l : Left) → LeftIn high l → In high (varyoffvg l)
+varyoffvg_in high l b = last_then high name_in l b command.Varyoff
+
+lsvg_in : (high : ℕ) (l : Left) → LeftIn high l → In high (lsvg l)
+lsvg_in high l b = last_then high name_in (option (codes "-l") l).1 (option_is_in high (codes "-l") l b) (command.Lsvg (option (codes "-l") l).0)
+
 mklv_in : (high : ℕ) (l : Left) → LeftIn high l → In high (mklv l)
 mklv_in high l b = options_then high mklv_choice no_mklv_options l b _ (λ o b. required_then high o.0.name o.1 b _ (λ name. required_then high o.0.mode o.1 b _ (λ mode. operand_then high name_in o.1 b _ (λ group b. last_then high partitions_in group.1 b (command.Mklv name (unwrap_or o.0.copies 1) mode (unwrap_or o.0.policy policy.Parallel) group.0)))))
+
+rmlv_in : (high : ℕ) (l : Left) → LeftIn high l → In high (rmlv l)
+rmlv_in high l b = last_then high name_in (option (codes "-f") l).1 (option_is_in high (codes "-f") l b) command.Rmlv
 
 lslv_in : (high : ℕ) (l : Left) → LeftIn high l → In high (lslv l)
 lslv_in high l b = at (option (codes "-m") l) (option_is_in high (codes "-m") l b)
@@ -188,44 +225,26 @@ lslv_in high l b = at (option (codes "-m") l) (option_is_in high (codes "-m") l 
     at (true, k) b = last_then high name_in k b command.Lslv
     at (false, k) b = next_is_in high k.words k.end b.0 b.1
 
+-- each of these rows names columns of the line
+abbrev RowsAreIn : List Row → Type 0
+RowsAreIn [] = ⊤
+RowsAreIn (r ∷ rs) = ((high : ℕ) (l : Left) → LeftIn high l → In high (r.reads l)) × RowsAreIn rs
+
+rows_in : RowsAreIn rows
+rows_in = (mkvg_in, (varyonvg_in, (varyoffvg_in, (lsvg_in, (mklv_in, (rmlv_in, (lslv_in, (rd_in, (wr_in, (lspv_in, (fail_in, (heal_in, (cut_in, tt)))))))))))))
+
 either_in : {T : Type 0} (high : ℕ) (t : Bool) (x y : Result T Misfit) → In high x → In high y → In high (cond t x y)
 either_in high true x y a b = a
 either_in high false x y a b = b
 
-rule_in : (high : ℕ) (word : List ℕ) (column : ℕ) (l : Left) → IsIn high column → LeftIn high l → In high (rule word column l)
-rule_in high word column l own b =
-    let or_cut : Result Command Misfit = cond (bytes_eq word (codes "cut")) (cut l) (misfit column) in
-    let cut_is_in : In high or_cut = either_in high (bytes_eq word (codes "cut")) (cut l) (misfit column) (cut_in high l b) own in
-    let or_heal : Result Command Misfit = cond (bytes_eq word (codes "heal")) (heal l) (or_cut) in
-    let heal_is_in : In high or_heal = either_in high (bytes_eq word (codes "heal")) (heal l) (or_cut) (last_then high disk_in l b command.Heal) cut_is_in in
-    let or_fail : Result Command Misfit = cond (bytes_eq word (codes "fail")) (fail l) (or_heal) in
-    let fail_is_in : In high or_fail = either_in high (bytes_eq word (codes "fail")) (fail l) (or_heal) (last_then high disk_in l b command.Fail) heal_is_in in
-    let or_lspv : Result Command Misfit = cond (bytes_eq word (codes "lspv")) (lspv l) (or_fail) in
-    let lspv_is_in : In high or_lspv = either_in high (bytes_eq word (codes "lspv")) (lspv l) (or_fail) (last_then high disk_in l b command.Lspv) fail_is_in in
-    let or_lslv : Result Command Misfit = cond (bytes_eq word (codes "lslv")) (lslv l) (or_lspv) in
-    let lslv_is_in : In high or_lslv = either_in high (bytes_eq word (codes "lslv")) (lslv l) (or_lspv) (lslv_in high l b) lspv_is_in in
-    let or_rmlv : Result Command Misfit = cond (bytes_eq word (codes "rmlv")) (rmlv l) (or_lslv) in
-    let rmlv_is_in : In high or_rmlv = either_in high (bytes_eq word (codes "rmlv")) (rmlv l) (or_lslv) (last_then high name_in (option (codes "-f") l).1 (option_is_in high (codes "-f") l b) command.Rmlv) lslv_is_in in
-    let or_mklv : Result Command Misfit = cond (bytes_eq word (codes "mklv")) (mklv l) (or_rmlv) in
-    let mklv_is_in : In high or_mklv = either_in high (bytes_eq word (codes "mklv")) (mklv l) (or_rmlv) (mklv_in high l b) rmlv_is_in in
-    let or_lsvg : Result Command Misfit = cond (bytes_eq word (codes "lsvg")) (lsvg l) (or_mklv) in
-    let lsvg_is_in : In high or_lsvg = either_in high (bytes_eq word (codes "lsvg")) (lsvg l) (or_mklv) (last_then high name_in (option (codes "-l") l).1 (option_is_in high (codes "-l") l b) (command.Lsvg (option (codes "-l") l).0)) mklv_is_in in
-    let or_varyoffvg : Result Command Misfit = cond (bytes_eq word (codes "varyoffvg")) (varyoffvg l) (or_lsvg) in
-    let varyoffvg_is_in : In high or_varyoffvg = either_in high (bytes_eq word (codes "varyoffvg")) (varyoffvg l) (or_lsvg) (last_then high name_in l b command.Varyoff) lsvg_is_in in
-    let or_varyonvg : Result Command Misfit = cond (bytes_eq word (codes "varyonvg")) (varyonvg l) (or_varyoffvg) in
-    let varyonvg_is_in : In high or_varyonvg = either_in high (bytes_eq word (codes "varyonvg")) (varyonvg l) (or_varyoffvg) (last_then high name_in (option (codes "-n") l).1 (option_is_in high (codes "-n") l b) command.Varyon) varyoffvg_is_in in
-    let or_wr : Result Command Misfit = cond (bytes_eq word (codes "wr")) (wr l) (or_varyonvg) in
-    let wr_is_in : In high or_wr = either_in high (bytes_eq word (codes "wr")) (wr l) (or_varyonvg) (wr_in high l b) varyonvg_is_in in
-    let or_rd : Result Command Misfit = cond (bytes_eq word (codes "rd")) (rd l) (or_wr) in
-    let rd_is_in : In high or_rd = either_in high (bytes_eq word (codes "rd")) (rd l) (or_wr) (rd_in high l b) wr_is_in in
-    let or_mkvg : Result Command Misfit = cond (bytes_eq word (codes "mkvg")) (mkvg l) (or_rd) in
-    let mkvg_is_in : In high or_mkvg = either_in high (bytes_eq word (codes "mkvg")) (mkvg l) (or_rd) (mkvg_in high l b) rd_is_in in
-    mkvg_is_in
+rule_in : (high : ℕ) (rs : List Row) (word : List ℕ) (column : ℕ) (l : Left) → RowsAreIn rs → IsIn high column → LeftIn high l → In high (rule rs word column l)
+rule_in high [] word column l each own b = own
+rule_in high (r ∷ rs) word column l each own b = either_in high (bytes_eq word r.word) (r.reads l) (rule rs word column l) (each.0 high l b) (rule_in high rs word column l each.1 own b)
 
 words_in : (high : ℕ) (ws : List WordAt) (end : ℕ) → AreIn high ws → IsIn high end → In high (line_of_words ws end)
 words_in high [] end words ends = tt
 words_in high (w ∷ ws) end words ends =
-    either_in high (is_remark w.bytes) _ _ tt (asked (rule w.bytes w.column (record { words = ws; end = end })) (rule_in high w.bytes w.column (record { words = ws; end = end }) words.0 (words.1, ends)))
+    either_in high (is_remark w.bytes) _ _ tt (asked (rule rows w.bytes w.column (record { words = ws; end = end })) (rule_in high rows w.bytes w.column (record { words = ws; end = end }) rows_in words.0 (words.1, ends)))
   where
     asked : (r : Result Command Misfit) → In high r → In high (then_ {B = Option Command} r (λ c. Ok (Some c)))
     asked (Ok c) b = tt

@@ -1,25 +1,25 @@
 -- The lines of the language: each rule says what follows the line's first word.
-use Rattle.std.specs.Prelude.{ℕ, true, false, if◌then◌else◌, List, [], ◌∷◌, Option, Some, None, is_some, unwrap_or, Result, Ok, codes, bytes_eq}
-use Rattle.std.specs.Option.{option_map}
+use Rattle.std.specs.Prelude.{ℕ, if◌then◌else◌, List, [], ◌∷◌, Option, Some, None, unwrap_or, Result, Ok, codes, bytes_eq}
 use Rattle.lvm_num.specs.declared.descriptor.Policy.TheVariants as policy
 use Rattle.lvm_parse.specs.declared.command.Command.{Command}
 use Rattle.lvm_parse.specs.declared.command.Command.TheVariants as command
 use Rattle.lvm_operands.specs.declared.rest.Misfit.{Misfit}
-use Rattle.lvm_parse.specs.declared.chosen.MkvgOptions.{MkvgOptions}
-use Rattle.lvm_parse.specs.declared.chosen.MklvOptions.{MklvOptions}
+use Rattle.lvm_options.specs.declared.chosen.MkvgOptions.{MkvgOptions}
+use Rattle.lvm_options.specs.declared.chosen.MklvOptions.{MklvOptions}
+use Rattle.lvm_options.specs.Options.{mkvg_choice, no_mkvg_options, mklv_choice, no_mklv_options}
 use Rattle.lvm_operands.specs.Line.{WordAt, Left, left_at, unreadable_at, is_remark}
-use Rattle.lvm_literals.specs.Words.{number_in, count_in, partitions_in, copies_in, size_in, word_in, name_in, disk_in, mode_in, policy_in}
-use Rattle.lvm_operands.specs.Reading.{misfit, then_, next_column, operand, option, ends, last, Choice, NoOption, Alone, Valued, is_new, options, required, disks}
+use Rattle.lvm_literals.specs.Words.{partitions_in, word_in, name_in, disk_in}
+use Rattle.lvm_operands.specs.Reading.{misfit, then_, next_column, operand, option, last, blocks, last_blocks, options, required, disks}
 
 -- ---- disks
 
 -- `rd DISK BLOCK COUNT`
 abbrev pub rd : Left → Result Command Misfit
-rd l = then_ (operand disk_in l) (λ disk. then_ (operand number_in disk.1) (λ at. then_ (operand count_in at.1) (λ count. ends count.1 (command.RawRd disk.0 at.0 count.0))))
+rd l = then_ (operand disk_in l) (λ disk. then_ (last_blocks disk.1) (λ range. Ok (command.RawRd disk.0 range.at range.count)))
 
 -- `wr DISK BLOCK COUNT WORD`
 abbrev pub wr : Left → Result Command Misfit
-wr l = then_ (operand disk_in l) (λ disk. then_ (operand number_in disk.1) (λ at. then_ (operand count_in at.1) (λ count. then_ (operand word_in count.1) (λ word. ends word.1 (command.RawWr disk.0 at.0 count.0 word.0)))))
+wr l = then_ (operand disk_in l) (λ disk. then_ (blocks disk.1) (λ range. then_ (last word_in range.1) (λ word. Ok (command.RawWr disk.0 range.0.at range.0.count word))))
 
 -- `fail DISK`
 abbrev pub fail : Left → Result Command Misfit
@@ -43,20 +43,13 @@ cut l = cut_of l.words l
 
 -- ---- groups
 
--- the options of `mkvg`, of which `-y NAME` must stand
-abbrev pub mkvg_choice : MkvgOptions → List ℕ → Choice MkvgOptions
-mkvg_choice o word =
-    if is_new word (codes "-f") o.force then Alone (record o { force = true })
-    else (if is_new word (codes "-y") (is_some o.name) then Valued (λ value. option_map (λ name. record o { name = Some name }) (name_in value))
-    else (if is_new word (codes "-s") (is_some o.mib) then Valued (λ value. option_map (λ mib. record o { mib = Some mib }) (size_in value))
-    else NoOption))
-
-abbrev pub no_mkvg_options : MkvgOptions
-no_mkvg_options = record { force = false; name = None; mib = None }
+-- what follows the options of `mkvg`
+abbrev pub new_group : MkvgOptions → Left → Result Command Misfit
+new_group o l = then_ (required o.name l) (λ name. then_ (disks [] l) (λ disks. Ok (command.Mkvg o.force name o.mib disks)))
 
 -- `mkvg [-f] -y NAME [-s MIB] DISK ..`
 abbrev pub mkvg : Left → Result Command Misfit
-mkvg l = then_ (options mkvg_choice no_mkvg_options l) (λ o. then_ (required o.0.name o.1) (λ name. then_ (disks [] o.1) (λ disks. Ok (command.Mkvg o.0.force name o.0.mib disks))))
+mkvg l = then_ (options mkvg_choice no_mkvg_options l) (λ o. new_group o.0 o.1)
 
 -- `varyonvg [-n] NAME`
 abbrev pub varyonvg : Left → Result Command Misfit
@@ -72,21 +65,13 @@ lsvg l = let volumes = option (codes "-l") l in then_ (last name_in volumes.1) (
 
 -- ---- volumes
 
--- the options of `mklv`, of which `-y NAME` and `-w n` must stand
-abbrev pub mklv_choice : MklvOptions → List ℕ → Choice MklvOptions
-mklv_choice o word =
-    if is_new word (codes "-y") (is_some o.name) then Valued (λ value. option_map (λ name. record o { name = Some name }) (name_in value))
-    else (if is_new word (codes "-c") (is_some o.copies) then Valued (λ value. option_map (λ copies. record o { copies = Some copies }) (copies_in value))
-    else (if is_new word (codes "-w") (is_some o.mode) then Valued (λ value. option_map (λ mode. record o { mode = Some mode }) (mode_in value))
-    else (if is_new word (codes "-d") (is_some o.policy) then Valued (λ value. option_map (λ policy. record o { policy = Some policy }) (policy_in value))
-    else NoOption)))
+-- what follows the options of `mklv`; one copy and `p` where they aren't given
+abbrev pub new_volume : MklvOptions → Left → Result Command Misfit
+new_volume o l = then_ (required o.name l) (λ name. then_ (required o.mode l) (λ mode. then_ (operand name_in l) (λ group. then_ (last partitions_in group.1) (λ lps. Ok (command.Mklv name (unwrap_or o.copies 1) mode (unwrap_or o.policy policy.Parallel) group.0 lps)))))
 
-abbrev pub no_mklv_options : MklvOptions
-no_mklv_options = record { name = None; copies = None; mode = None; policy = None }
-
--- `mklv -y NAME [-c N] -w n [-d p, s, ps or pr] NAME LPS`; one copy and `p` where they aren't given
+-- `mklv -y NAME [-c N] -w n [-d p, s, ps or pr] NAME LPS`
 abbrev pub mklv : Left → Result Command Misfit
-mklv l = then_ (options mklv_choice no_mklv_options l) (λ o. then_ (required o.0.name o.1) (λ name. then_ (required o.0.mode o.1) (λ mode. then_ (operand name_in o.1) (λ group. then_ (last partitions_in group.1) (λ lps. Ok (command.Mklv name (unwrap_or o.0.copies 1) mode (unwrap_or o.0.policy policy.Parallel) group.0 lps))))))
+mklv l = then_ (options mklv_choice no_mklv_options l) (λ o. new_volume o.0 o.1)
 
 -- `rmlv [-f] NAME`
 abbrev pub rmlv : Left → Result Command Misfit
@@ -98,43 +83,36 @@ lslv l = let map = option (codes "-m") l in if map.0 then then_ (last name_in ma
 
 -- ---- lines
 
--- what follows a first word, which begins at this column; any other isn't in the language
-abbrev pub rule_of_disks : List ℕ → ℕ → Left → Result Command Misfit
-rule_of_disks word column l =
-    if bytes_eq word (codes "lspv") then lspv l
-    else (if bytes_eq word (codes "fail") then fail l
-    else (if bytes_eq word (codes "heal") then heal l
-    else (if bytes_eq word (codes "cut") then cut l
-    else misfit column)))
+-- a row of the language: a first word, and what follows it
+pub record Row : Type 0 where
+  pub word : List ℕ
+  pub reads : Left → Result Command Misfit
 
--- so of those that speak of volumes,
-abbrev pub rule_of_volumes : List ℕ → ℕ → Left → Result Command Misfit
-rule_of_volumes word column l =
-    if bytes_eq word (codes "mklv") then mklv l
-    else (if bytes_eq word (codes "rmlv") then rmlv l
-    else (if bytes_eq word (codes "lslv") then lslv l
-    else rule_of_disks word column l))
+abbrev pub row : List ℕ → (Left → Result Command Misfit) → Row
+row word reads = record { word = word; reads = reads }
 
--- of those that speak of groups,
-abbrev pub rule_of_groups : List ℕ → ℕ → Left → Result Command Misfit
-rule_of_groups word column l =
-    if bytes_eq word (codes "varyonvg") then varyonvg l
-    else (if bytes_eq word (codes "varyoffvg") then varyoffvg l
-    else (if bytes_eq word (codes "lsvg") then lsvg l
-    else rule_of_volumes word column l))
+abbrev pub rows_of_disks : List Row
+rows_of_disks = row (codes "rd") rd ∷ row (codes "wr") wr ∷ row (codes "lspv") lspv ∷ row (codes "fail") fail ∷ row (codes "heal") heal ∷ row (codes "cut") cut ∷ []
 
--- and of all
-abbrev pub rule : List ℕ → ℕ → Left → Result Command Misfit
-rule word column l =
-    if bytes_eq word (codes "mkvg") then mkvg l
-    else (if bytes_eq word (codes "rd") then rd l
-    else (if bytes_eq word (codes "wr") then wr l
-    else rule_of_groups word column l))
+abbrev pub rows_of_volumes : List Row
+rows_of_volumes = row (codes "mklv") mklv ∷ row (codes "rmlv") rmlv ∷ row (codes "lslv") lslv ∷ rows_of_disks
+
+abbrev pub rows_of_groups : List Row
+rows_of_groups = row (codes "varyonvg") varyonvg ∷ row (codes "varyoffvg") varyoffvg ∷ row (codes "lsvg") lsvg ∷ rows_of_volumes
+
+-- the whole language
+abbrev pub rows : List Row
+rows = row (codes "mkvg") mkvg ∷ rows_of_groups
+
+-- what follows a first word, which begins at this column, by the row of this word; any other isn't in the language
+abbrev pub rule : List Row → List ℕ → ℕ → Left → Result Command Misfit
+rule [] word column l = misfit column
+rule (r ∷ rows) word column l = if bytes_eq word r.word then r.reads l else rule rows word column l
 
 -- a line without a word, and a remark, ask for nothing
 abbrev pub line_of_words : List WordAt → ℕ → Result (Option Command) Misfit
 line_of_words [] end = Ok None
-line_of_words (w ∷ words) end = if is_remark w.bytes then Ok None else then_ (rule w.bytes w.column (record { words = words; end = end })) (λ c. Ok (Some c))
+line_of_words (w ∷ words) end = if is_remark w.bytes then Ok None else then_ (rule rows w.bytes w.column (record { words = words; end = end })) (λ c. Ok (Some c))
 
 abbrev pub readable : Option ℕ → Left → Result (Option Command) Misfit
 readable (Some column) l = misfit column

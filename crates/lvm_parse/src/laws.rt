@@ -1,9 +1,16 @@
 //! What holds of every line.
-ghost use Rattle.lvm_parse.specs.Within.{IsRefusedWithin};
+ghost use Rattle.lvm_parse.specs.Within.{SpellsWithin, IsRefusedWithin};
 
 /// A line that isn't in the language is refused at a column from 1 to the one behind its last byte.
 pub fn columns_are_within(line: &[u8])
     ensures { IsRefusedWithin line.now }
+{
+    let _line = line;
+}
+
+/// A command that a line spells has its numbers and its disks within the bounds of the language.
+pub fn fields_are_within(line: &[u8])
+    ensures { SpellsWithin line.now }
 {
     let _line = line;
 }

@@ -55,11 +55,9 @@
 //! ```
 #![tactic(auto)]
 
-mod chosen;
 mod command;
 pub mod laws;
 mod line;
-mod options;
 mod rules;
 
 pub use command::{Command, ParseFault};

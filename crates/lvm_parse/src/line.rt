@@ -1,7 +1,7 @@
 //! A line as a whole.
-ghost use Rattle.std.specs.Prelude.{◌≡◌, ◌↔◌, ℕ, false, bytes_eq, codes, IfOk, Ok, Err};
+ghost use Rattle.std.specs.Prelude.{◌≡◌, ◌↔◌, ℕ, IfOk, Ok, Err};
 ghost use Rattle.lvm_operands.specs.Reading.{misfit};
-ghost use Rattle.lvm_parse.specs.Grammar.{rule, rule_of_groups, rule_of_volumes, rule_of_disks, line_of_words, line_of};
+ghost use Rattle.lvm_parse.specs.Grammar.{rows_of_disks, rows_of_volumes, rows_of_groups, rows, rule, line_of_words, line_of};
 ghost use Rattle.lvm_operands.specs.Rests.{left};
 ghost use Rattle.lvm_parse.specs.Answering.{Answers, AnswersLine, IsMkvgLine};
 
@@ -14,10 +14,14 @@ use std::alloc::Global;
 
 // What a line asks for whose first word this is, where it is one of those of disks.
 fn disk_command(word: Word<'_>, rest: Rest<'_>) -> Result<Command, Misfit>
-    ensures { result ≡ rule_of_disks word.entry.bytes.now word.entry.column (left rest.entry) }
+    ensures { result ≡ rule rows_of_disks word.entry.bytes.now word.entry.column (left rest.entry) }
 {
     let name = word.bytes;
-    if name == b"lspv".as_slice() {
+    if name == b"rd".as_slice() {
+        rd(rest)
+    } else if name == b"wr".as_slice() {
+        wr(rest)
+    } else if name == b"lspv".as_slice() {
         lspv(rest)
     } else if name == b"fail".as_slice() {
         fail(rest)
@@ -32,7 +36,7 @@ fn disk_command(word: Word<'_>, rest: Rest<'_>) -> Result<Command, Misfit>
 
 // So of volumes.
 fn volume_command(word: Word<'_>, rest: Rest<'_>) -> Result<Command, Misfit>
-    ensures { result ≡ rule_of_volumes word.entry.bytes.now word.entry.column (left rest.entry) }
+    ensures { result ≡ rule rows_of_volumes word.entry.bytes.now word.entry.column (left rest.entry) }
 {
     let name = word.bytes;
     if name == b"mklv".as_slice() {
@@ -46,9 +50,9 @@ fn volume_command(word: Word<'_>, rest: Rest<'_>) -> Result<Command, Misfit>
     }
 }
 
-// So of groups.
+// So of groups, but for `mkvg`.
 fn group_command(word: Word<'_>, rest: Rest<'_>) -> Result<Command, Misfit>
-    ensures { result ≡ rule_of_groups word.entry.bytes.now word.entry.column (left rest.entry) }
+    ensures { result ≡ rule rows_of_groups word.entry.bytes.now word.entry.column (left rest.entry) }
 {
     let name = word.bytes;
     if name == b"varyonvg".as_slice() {
@@ -62,29 +66,14 @@ fn group_command(word: Word<'_>, rest: Rest<'_>) -> Result<Command, Misfit>
     }
 }
 
-// What a line asks for whose first word this is; it isn't `mkvg`.
-fn plain_command(word: Word<'_>, rest: Rest<'_>) -> Result<Command, Misfit>
-    requires { bytes_eq word.bytes.now (codes "mkvg") ≡ false }
-    ensures { result ≡ rule word.entry.bytes.now word.entry.column (left rest.entry) }
-{
-    let name = word.bytes;
-    if name == b"rd".as_slice() {
-        rd(rest)
-    } else if name == b"wr".as_slice() {
-        wr(rest)
-    } else {
-        group_command(word, rest)
-    }
-}
-
 // What a line asks for whose first word this is.
 fn command(alloc: Global, word: Word<'_>, rest: Rest<'_>) -> Result<Command, ParseFault>
-    ensures { Answers (rule word.entry.bytes.now word.entry.column (left rest.entry)) result }
+    ensures { Answers (rule rows word.entry.bytes.now word.entry.column (left rest.entry)) result }
 {
     if word.bytes == b"mkvg".as_slice() {
         mkvg(alloc, rest)
     } else {
-        Ok(plain_command(word, rest)?)
+        Ok(group_command(word, rest)?)
     }
 }
 

@@ -1,17 +1,16 @@
 //! The lines of the language: each rule reads what follows the line's first word.
 ghost use Rattle.std.specs.Prelude.{◌≡◌};
-ghost use Rattle.lvm_parse.specs.Grammar.{rd, wr, fail, heal, lspv, cut, mkvg, varyonvg, varyoffvg, lsvg, mklv, rmlv, lslv};
+ghost use Rattle.lvm_parse.specs.Grammar.{rd, wr, fail, heal, lspv, cut, new_group, mkvg, varyonvg, varyoffvg, lsvg, new_volume, mklv, rmlv, lslv};
 ghost use Rattle.lvm_operands.specs.Rests.{left};
 ghost use Rattle.lvm_parse.specs.Answering.{Answers};
 
-use crate::chosen::{MklvOptions, MkvgOptions};
 use crate::command::{Command, ParseFault};
-use crate::options::{mklv_options, mkvg_options};
 use lvm_num::{Policy, Rows};
 use lvm_operands::{
-    Misfit, Rest, count, disk, disks, ends, last_disk, last_name, last_partitions, last_pattern,
-    misfit, name, next_column, next_word, number, option, pattern,
+    Misfit, Rest, blocks, disk, disks, last_blocks, last_disk, last_name, last_partitions,
+    last_pattern, misfit, name, next_column, next_word, option,
 };
+use lvm_options::{MklvOptions, MkvgOptions, mklv_options, mkvg_options};
 use std::alloc::Global;
 
 /// `rd DISK BLOCK COUNT`
@@ -19,9 +18,12 @@ pub fn rd(rest: Rest<'_>) -> Result<Command, Misfit>
     ensures { result ≡ rd (left rest.entry) }
 {
     let (disk, rest) = disk(rest)?;
-    let (at, rest) = number(rest)?;
-    let (count, rest) = count(rest)?;
-    ends(rest, Command::RawRd { disk, at, count })
+    let range = last_blocks(rest)?;
+    Ok(Command::RawRd {
+        disk,
+        at: range.at,
+        count: range.count,
+    })
 }
 
 /// `wr DISK BLOCK COUNT WORD`
@@ -29,18 +31,14 @@ pub fn wr(rest: Rest<'_>) -> Result<Command, Misfit>
     ensures { result ≡ wr (left rest.entry) }
 {
     let (disk, rest) = disk(rest)?;
-    let (at, rest) = number(rest)?;
-    let (count, rest) = count(rest)?;
-    let (word, rest) = pattern(rest)?;
-    ends(
-        rest,
-        Command::RawWr {
-            disk,
-            at,
-            count,
-            word,
-        },
-    )
+    let (range, rest) = blocks(rest)?;
+    let word = last_pattern(rest)?;
+    Ok(Command::RawWr {
+        disk,
+        at: range.at,
+        count: range.count,
+        word,
+    })
 }
 
 /// `fail DISK`
@@ -129,13 +127,16 @@ pub fn lslv(rest: Rest<'_>) -> Result<Command, Misfit>
 pub fn mklv(rest: Rest<'_>) -> Result<Command, Misfit>
     ensures { result ≡ mklv (left rest.entry) }
 {
-    let mut options = MklvOptions {
-        name: None,
-        copies: None,
-        mode: None,
-        policy: None,
-    };
-    let rest = mklv_options(&mut options, rest)?;
+    match mklv_options(rest) {
+        Ok((options, rest)) => new_volume(options, rest),
+        Err(misfit) => Err(misfit),
+    }
+}
+
+// What follows the options of a `mklv`.
+fn new_volume(options: MklvOptions, rest: Rest<'_>) -> Result<Command, Misfit>
+    ensures { result ≡ new_volume options (left rest.entry) }
+{
     let (Some(volume), Some(mode)) = (options.name, options.mode) else {
         return Err(misfit(next_column(rest)));
     };
@@ -159,12 +160,16 @@ pub fn mklv(rest: Rest<'_>) -> Result<Command, Misfit>
 pub fn mkvg(alloc: Global, rest: Rest<'_>) -> Result<Command, ParseFault>
     ensures { Answers (mkvg (left rest.entry)) result }
 {
-    let mut options = MkvgOptions {
-        force: false,
-        name: None,
-        mib: None,
-    };
-    let rest = mkvg_options(&mut options, rest)?;
+    match mkvg_options(rest) {
+        Ok((options, rest)) => new_group(alloc, options, rest),
+        Err(misfit) => Err(ParseFault::from(misfit)),
+    }
+}
+
+// What follows the options of a `mkvg`.
+fn new_group(alloc: Global, options: MkvgOptions, rest: Rest<'_>) -> Result<Command, ParseFault>
+    ensures { Answers (new_group options (left rest.entry)) result }
+{
     let Some(name) = options.name else {
         return Err(ParseFault::from(misfit(next_column(rest))));
     };

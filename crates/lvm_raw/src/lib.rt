@@ -7,5 +7,6 @@ mod fault;
 mod look;
 mod pieces;
 
+pub use check::check as check_range;
 pub use disk::{read_disk, write_disk};
 pub use fault::RawFault;

@@ -1,7 +1,11 @@
--- The name of a disk.
+-- The name of a disk, and the line of turns.
 use Rattle.std.specs.Prelude.{ℕ, List, ◌++◌, codes}
 use Rattle.std.specs.Fmt.{decimal}
 
 -- the name of a disk
 abbrev pub disk_name : ℕ → List ℕ
 disk_name disk = codes "hdisk" ++ decimal disk
+
+-- how many turns did something
+abbrev pub stepped_text : ℕ → List ℕ
+stepped_text turns = codes "stepped " ++ decimal turns ++ codes "\n"

@@ -1,9 +1,10 @@
 //! The lines of refusals.
-ghost use Rattle.std.specs.Prelude.{◌≡◌, IsTrue, IfOk};
+ghost use Rattle.std.specs.Prelude.{◌≡◌, ◌++◌, IsTrue, OnOk, IfOk};
+ghost use Rattle.std.specs.String.{string_bytes};
 ghost use Rattle.lvm_replies.specs.Refusals.{is_refusal, name_of, refusal_text};
 
 use lvm_num::{Memory, Text};
-use std::alloc::Global;
+use std::alloc::{AllocError, Global};
 use std::fmt;
 
 // The bytes of the longest lines of refusals, but for large numbers.
@@ -36,12 +37,20 @@ pub fn show_refusal(alloc: Global, r: &Refusal) -> Result<Text, Memory>
     requires { IsTrue (is_refusal r.now) }
     ensures { IfOk result (λ text. text ≡ refusal_text r.now) }
 {
+    let mut text = String::with_capacity(alloc, LINE)?;
+    push_refusal(&mut text, r)?;
+    Ok(Text::new(text))
+}
+
+/// Adds such a line to a text.
+pub fn push_refusal(text: &mut String, r: &Refusal) -> Result<(), AllocError>
+    requires { IsTrue (is_refusal r.now) }
+    ensures { OnOk result (string_bytes text.new ≡ string_bytes text.old ++ refusal_text r.now) }
+{
     let number = r.number;
     let name = name_of(number);
     let carried = r.carried;
-    let mut text = String::with_capacity(alloc, LINE)?;
-    write!(text, "refused {number} {name}{carried}\n")?;
-    Ok(Text::new(text))
+    write!(text, "refused {number} {name}{carried}\n")
 }
 
 // The name of a refusal by its number, and no text for a number that none has.

@@ -35,6 +35,7 @@ use Rattle.lvm_mwc.specs.Cache.{Cached, has_disk, no_notes}
 use Rattle.lvm_mwc.specs.declared.notes.DiskNotes.{DiskNotes}
 use Rattle.lvm_session.specs.State.{Core, state, is_there}
 use Rattle.lvm_session.specs.declared.open.Power.TheVariants as power
+use Rattle.lvm_session.proofs.Parts.{none_written}
 use Rattle.lvm_core.specs.Sound.{IsFitting, IsQuiet, IsSound}
 use Rattle.lvm_session.specs.Placed.{IsPlaced}
 use Rattle.lvm_core.proofs.Beginning.{no_entries}
@@ -148,6 +149,7 @@ fits x = record {
   a_buffer = omega arith;
   buffers = omega arith;
   last = length-replicate {A = ℕ} 512 0;
+  forgotten = λ none. none_written;
 }
   where
     note_at : (s t : Bool) → is_some (if s then Some (no_notes 0) else if t then Some (no_notes 1) else None) ≡ s || (t || false)
@@ -210,6 +212,7 @@ noted_sound x =
         a_buffer = first.fitting.a_buffer;
         buffers = first.fitting.buffers;
         last = first.fitting.last;
+        forgotten = first.fitting.forgotten;
       };
       none = record { requests = first.none.requests; copy = first.none.copy };
       landed = first.landed;

@@ -4,6 +4,8 @@
 #[cfg(test)]
 mod fixtures;
 #[cfg(test)]
+mod posts;
+#[cfg(test)]
 mod turn;
 #[cfg(test)]
 mod vol;

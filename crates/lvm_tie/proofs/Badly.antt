@@ -320,7 +320,7 @@ module _ (past : List Fact) (old new : Session) (at disk : ℕ) (row : Flown) (b
   sees : Sees past core3 (record v3 { open_copy = v.open_copy })
   sees = record {
     requests = tied.sees.requests;
-    a_step = λ c its at_row. let s = tied.sees.a_step c its at_row in (s.0, s.1, record { lv = s.2.lv; first = s.2.first; count = s.2.count; write = s.2.write; step = s.2.step; hand = s.2.hand });
+    a_step = λ c its at_row. let s = tied.sees.a_step c its at_row in (s.0, s.1, record { lv = s.2.lv; first = s.2.first; count = s.2.count; write = s.2.write; step = s.2.step; hand = s.2.hand; failed = s.2.failed });
     only = λ i q its. ⊎_elim
         (λ (r : IsRequestAt core i). inl (record { place = r.place; request = r.request; there = r.there; its = r.its }))
         (λ (r : IsStepAt core i). inr (record { copy = r.copy; is_open = r.is_open; row = r.row; its = r.its }))

@@ -123,7 +123,7 @@ module _ (past : List Fact) (core : Core) (v : State) (place : ℕ) (o o2 : Open
           (q2, put_here (place_of p.request.id) (ap (λ (x : Open). place_of x.request.id) own ∙ ap place_of same_id), subst (λ (x : Open). SeesRequest x q2) (sym own) sees_new)
       | inr ne ↦ let was = sym (set_there core.requests place k o2 ne) ∙ at in let s = sees.requests k p was in (s.0, put_there (place_of p.request.id) (other_place k p ne was) ∙ s.1, s.2)
     ];
-    a_step = λ c is row. let s = sees.a_step c is row in (s.0, put_there c.place (step_apart c is row) ∙ s.1, record { lv = s.2.lv; first = s.2.first; count = s.2.count; write = s.2.write; step = s.2.step; hand = s.2.hand });
+    a_step = λ c is row. let s = sees.a_step c is row in (s.0, put_there c.place (step_apart c is row) ∙ s.1, record { lv = s.2.lv; first = s.2.first; count = s.2.count; write = s.2.write; step = s.2.step; hand = s.2.hand; failed = s.2.failed });
     only = λ j q at. elim (cases_eq j i) [
       | inl e ↦ inl (record { place = place; request = o2; there = set_here core.requests place o2 within; its = ap place_of same_id ∙ sym e })
       | inr ne ↦ ⊎_elim

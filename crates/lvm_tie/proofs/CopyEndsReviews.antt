@@ -131,7 +131,7 @@ module _ (past : List Fact) (device : Device) (core : Core) (how : CopyEnd) (nea
         let same : c_out ≡ d = some_of c_out d is in
         let s = near.sees.a_step c its.is_open (row_out out) in
         subst (λ (x : Bringing). (q : Queued) × (v.queue x.place ≡ Some q) × SeesStep core_out x q) same
-        (s.0, s.1, record { lv = s.2.lv; first = s.2.first; count = s.2.count; write = s.2.write; step = s.2.step; hand = s.2.hand });
+        (s.0, s.1, record { lv = s.2.lv; first = s.2.first; count = s.2.count; write = s.2.write; step = s.2.step; hand = s.2.hand; failed = s.2.failed });
     only = λ j q at. ⊎_elim
         (λ (r : IsRequestAt core j). inl (record { place = r.place; request = r.request; there = r.there; its = r.its }))
         (λ (r : IsStepAt core j). inr (record { copy = c_out; is_open = refl; row = or_true (is_out c.step) (is_running c_out && not (is_whole core c)) (inl out); its = ap (λ (x : Bringing). x.place) (sym (own r.copy r.is_open)) ∙ r.its }))

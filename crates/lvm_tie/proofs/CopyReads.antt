@@ -5,6 +5,7 @@ use Rattle.std.specs.List.{list_any}
 use Rattle.std.proofs.lemmas.Bool.Decides.{nat_tests}
 use Rattle.lvm_num.specs.declared.place.Pp.{Pp}
 use Rattle.lvm_num.specs.Descriptor.{is_member}
+use Rattle.lvm_num.specs.Disks.{has}
 use Rattle.lvm_num.specs.Geometry.{sector_of}
 use Rattle.lvm_vol.specs.Facts.{Fact}
 use Rattle.lvm_disk.specs.Device.{image_of}
@@ -25,7 +26,7 @@ use Rattle.lvm_session.specs.Bringing.{block_at, groups_of, has_row, is_idle, is
 use Rattle.lvm_session.specs.Enabled.{is_free_step}
 use Rattle.lvm_session.specs.Events.{ReadsCopy, flown}
 use Rattle.lvm_session.specs.Sound.{IsSound}
-use Rattle.lvm_invariant.specs.State.{Flying, Going, Held, Landed, Phase, Queued, Ready, Stage, State, Todo, WantEntry, has_landed, is_past, is_usable as sees_usable}
+use Rattle.lvm_invariant.specs.State.{Badly, Flying, Going, Held, Landed, Phase, Queued, Ready, Stage, State, Todo, WantEntry, has_landed, is_past, is_usable as sees_usable}
 use Rattle.lvm_invariant.specs.Updates.{is_pp, put, with_req}
 use Rattle.lvm_invariant.specs.Sound.{Conflict}
 use Rattle.lvm_invariant.specs.Admit.{admitted}
@@ -274,11 +275,19 @@ module _ (past : List Fact) (old new : Session) (tied : IsTied past old) (sound 
   w_is : w ≡ record v { queue = w.queue; step_write = None }
   w_is = λ t. record v { queue = w.queue; step_write = no_step_write t }
 
+  -- it has no target but the source
+  none_failed : (p : Pp) → q2.targets p ≡ Some Badly → has c.tried p.disk ≡ true
+  none_failed p = by (is_pp p source)
+    where
+      by : (b : Bool) → (if b then Some Flying else (if b then Some Todo else None)) ≡ Some Badly → has c.tried p.disk ≡ true
+      by true bad = absurd (cc bad)
+      by false bad = absurd (cc bad)
+
   sees_w : Sees past (record core { pool = new.core.pool; flying = core.flying ++ flown reads.flight.ticket reads.flight.disk owner.Copy ∷ []; copy = Some (record c { step = step.Reading source }) }) w
   sees_w = subst (λ (x : State). Sees past (record core { pool = new.core.pool; flying = core.flying ++ flown reads.flight.ticket reads.flight.disk owner.Copy ∷ []; copy = Some (record c { step = step.Reading source }) }) x) (sym w_is)
       (sees_step_on past core v c (step.Reading source) new.core.pool (core.flying ++ flown reads.flight.ticket reads.flight.disk owner.Copy ∷ []) w.queue q2 tied.sees reads.is_open row refl
       (put_here v1.queue q2) (λ j ne. put_there v1.queue q2 j ne ∙ put_there v.queue q1 j ne)
-      (record { lv = sees.lv; first = sees.first; count = sees.count; write = sees.write; step = sees.step; hand = (refl, ap (λ b. if b then Some Flying else targets source) own_source) }))
+      (record { lv = sees.lv; first = sees.first; count = sees.count; write = sees.write; step = sees.step; hand = (refl, ap (λ b. if b then Some Flying else targets source) own_source); failed = none_failed }))
 
   pub read_started : IsTied past new
   read_started = subst (IsTied past) (sym reads.is)

@@ -58,7 +58,7 @@ module _ (past : List Fact) (core : Core) (v : State) (c : Bringing) (st : Step)
   sees_step_on = record {
     requests = λ k p at. let s = sees.requests k p at in (s.0, elsewhere (place_of p.request.id) (apart k p at) ∙ s.1, s.2);
     a_step = λ d at r. let own : c2 ≡ d = (let e : Some c2 ≡ Some d = at in cc) in
-        (q2, ap (λ (x : Bringing). queue x.place) (sym own) ∙ here, subst (λ (x : Bringing). SeesStep core2 x q2) own (record { lv = its.lv; first = its.first; count = its.count; write = its.write; step = its.step; hand = its.hand }));
+        (q2, ap (λ (x : Bringing). queue x.place) (sym own) ∙ here, subst (λ (x : Bringing). SeesStep core2 x q2) own (record { lv = its.lv; first = its.first; count = its.count; write = its.write; step = its.step; hand = its.hand; failed = its.failed }));
     only = λ j q at. elim (cases_eq j c.place) [
       | inl e ↦ inr (record { copy = c2; is_open = refl; row = row_now; its = sym e })
       | inr ne ↦ ⊎_elim

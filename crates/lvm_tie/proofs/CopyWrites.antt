@@ -103,7 +103,7 @@ module _ (past : List Fact) (old new : Session) (tied : IsTied past old) (sound 
 
   sees_w : Sees past new_core w
   sees_w = sees_step_on past core v c step.Writing core.pool (core.flying ++ flown writes.flight.ticket writes.flight.disk owner.Copy ∷ []) v.queue q tied.sees writes.is_open row refl at (λ j ne. refl)
-      (record { lv = sees.lv; first = sees.first; count = sees.count; write = sees.write; step = sees.step; hand = (hand.0, value, hand.2) })
+      (record { lv = sees.lv; first = sees.first; count = sees.count; write = sees.write; step = sees.step; hand = (hand.0, value, hand.2); failed = sees.failed })
 
   carries : CarriesStep new_core w writes.flight owner.Copy
   carries d p is writing here =

@@ -18,7 +18,7 @@ same_request facts f id aside =
 pub sees_entered : (past : List Fact) (core : Core) (v : State) (f : Fact) → begun_by f ≡ None → Sees past core v → Sees past (record core { history = with_fact core.history f }) (record v { facts = v.facts ++ f ∷ [] })
 sees_entered past core v f aside sees = record {
   requests = sees.requests;
-  a_step = λ c is row. let s = sees.a_step c is row in (s.0, s.1, record { lv = s.2.lv; first = s.2.first; count = s.2.count; write = s.2.write; step = s.2.step; hand = s.2.hand });
+  a_step = λ c is row. let s = sees.a_step c is row in (s.0, s.1, record { lv = s.2.lv; first = s.2.first; count = s.2.count; write = s.2.write; step = s.2.step; hand = s.2.hand; failed = s.2.failed });
   only = λ j q at. ⊎_elim
       (λ (r : IsRequestAt core j). inl (record { place = r.place; request = r.request; there = r.there; its = r.its }))
       (λ (r : IsStepAt core j). inr (record { copy = r.copy; is_open = r.is_open; row = r.row; its = r.its }))

@@ -1,5 +1,6 @@
--- What stays of a session in each event but a landing: its group, what it began with, and its history.
+-- What stays of a session in each event but a landing: its group, what it began with, its history and power, and its requests but for one that learns.
 use Rattle.std.proofs.Common.{◌≡◌, ℕ, Bool, true, false, List, Option, Some, None, refl, ◌∙◌, ap}
+use Rattle.std.specs.Prelude.{slice_set}
 use Rattle.std.specs.Option.{option_map_or}
 use Rattle.lvm_num.specs.Buffer.{Buffer}
 use Rattle.lvm_num.specs.declared.descriptor.Descriptor.{Descriptor}
@@ -11,18 +12,24 @@ use Rattle.lvm_session.specs.declared.bringing.Step.{Step}
 use Rattle.lvm_session.specs.declared.bringing.Step.TheVariants as step
 use Rattle.lvm_session.specs.declared.flown.Owner.{Owner}
 use Rattle.lvm_session.specs.declared.flown.Owner.TheVariants as owner
+use Rattle.lvm_session.specs.declared.open.Open.{Open}
+use Rattle.lvm_session.specs.declared.open.Power.{Power}
 use Rattle.lvm_session.specs.declared.origin.Origin.{Origin}
 use Rattle.lvm_session.specs.Bringing.{after_copy_end, copy_ends, is_whole, with_end}
 use Rattle.lvm_session.specs.Judging.{is_running}
-use Rattle.lvm_session.specs.State.{Core, State}
-use Rattle.lvm_session.specs.Ends.{Ends, GoesOn, Learns, NoteLearns, StepLearns, StepLeaves, with_copy, with_return, without_step}
+use Rattle.lvm_session.specs.State.{Core}
+use Rattle.lvm_session.specs.Ends.{GoesOn, Learns, NoteLearns, learned, StepLearns, StepLeaves, with_copy, with_return, without_step}
 use Rattle.lvm_session.specs.Marks.{Reviews}
 
 abbrev pub Ground : Type 0
-Ground = Descriptor × Origin × List Fact
+Ground = Descriptor × Origin × List Fact × Power × List Open
+
+-- with these requests
+abbrev pub ground_with : Core → List Open → Ground
+ground_with core requests = (core.descriptor, core.origin, core.history.facts, core.power, requests)
 
 abbrev pub ground : Core → Ground
-ground core = (core.descriptor, core.origin, core.history.facts)
+ground core = ground_with core core.requests
 
 -- ---- the end of the copy
 
@@ -63,11 +70,15 @@ copy_same : (runs ok : Bool) (old new : Core) (at : ℕ) (c : OpenCopy) (buf : B
 copy_same true ok old new at c buf it = step_same c.step ok old new at c buf it
 copy_same false ok old new at c buf is = ap ground is
 
-learned_same : (whose : Owner) (ok : Bool) (old new : Core) (at : ℕ) (buf : Buffer) → Learns whose old at ok buf new → ground new ≡ ground old
+-- the requests once the owner has learned it
+abbrev pub requests_then : (whose : Owner) (ok : Bool) (old new : Core) (at : ℕ) (buf : Buffer) → Learns whose old at ok buf new → List Open
+requests_then (owner.Data id target) ok old new at buf it = slice_set old.requests it.place (learned it.its.request target ok buf)
+requests_then (owner.Status disk) ok old new at buf it = old.requests
+requests_then (owner.Note disk) ok old new at buf it = old.requests
+requests_then owner.Copy ok old new at buf it = old.requests
+
+pub learned_same : (whose : Owner) (ok : Bool) (old new : Core) (at : ℕ) (buf : Buffer) (it : Learns whose old at ok buf new) → ground new ≡ ground_with old (requests_then whose ok old new at buf it)
 learned_same (owner.Data id target) ok old new at buf it = marked_same _ new _ it.entails.is
 learned_same (owner.Status disk) ok old new at buf it = reviewed_same _ new it.reviews
 learned_same (owner.Note disk) ok old new at buf it = note_same old new at disk ok buf it
 learned_same owner.Copy ok old new at buf it = copy_same (is_running it.copy) ok old new at it.copy buf it.learns
-
-pub end_same : (old new : State) (at : ℕ) → Ends old new at → ground new.core ≡ ground old.core
-end_same old new at it = learned_same it.row.owner it.ok old.core new.core at it.buf it.learns

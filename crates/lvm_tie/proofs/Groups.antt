@@ -139,7 +139,7 @@ module _ (past : List Fact) (old new : Session) (at : ℕ) (tied : IsTied past o
     queue_still = λ k p at_k. put_there (gone v.queue c.place step_q) i next (place_of p.request.id) (apart_next k p at_k)
         ∙ gone_there v.queue c.place step_q (place_of p.request.id) (apart past old new at event.row true event.buf tied event.returns event.own c event.is_open k p at_k);
     name_still = λ k p at_k. let test : (place_of p.request.id == i) ≡ false = (let ne = apart_next k p at_k in grind (arith, nat_tests)) in ap (λ b. if b then no_request else v.name (place_of p.request.id)) test;
-    a_step = λ r. (next, put_here (gone v.queue c.place step_q) i next, record { lv = refl; first = refl; count = refl; write = refl; step = refl; hand = (refl, refl) });
+    a_step = λ r. (next, put_here (gone v.queue c.place step_q) i next, record { lv = refl; first = refl; count = refl; write = refl; step = refl; hand = (refl, refl); failed = λ p bad. absurd (cc bad) });
     only = λ j x at_j. elim (cases_eq j i) [
       | inl is ↦ inr (row_now, sym is)
       | inr ne ↦ inl (still_there j x (sym (put_there (gone v.queue c.place step_q) i next j ne) ∙ at_j))

@@ -1,6 +1,6 @@
 -- Each landing of a turn has its cause.
-use Rattle.std.proofs.Common.{◌≡◌, ◌≤◌, ◌<◌, ◌+◌, ◌-◌, ◌*◌, ◌/◌, ◌%◌, inl, inr, ℕ, Bool, true, false, ◌&&◌, ◌||◌, ◌==◌, nat_le, nat_lt, if◌then◌else◌, List, [], ◌∷◌, ◌++◌, Option, Some, refl, sym, ◌∙◌, ap, subst, arith, append_assoc, append-nil}
-use Rattle.std.specs.Prelude.{slice_get, slice_index_or, unwrap_or}
+use Rattle.std.proofs.Common.{◌≡◌, ◌≤◌, ◌<◌, ◌+◌, ◌-◌, ◌*◌, ◌/◌, ◌%◌, inl, inr, ℕ, Bool, true, false, ◌&&◌, ◌||◌, ◌==◌, nat_le, nat_lt, if◌then◌else◌, List, [], ◌∷◌, ◌++◌, Option, Some, None, refl, sym, ◌∙◌, ap, subst, arith, append_assoc, append-nil}
+use Rattle.std.specs.Prelude.{slice_get, slice_index_or, slice_set, unwrap_or}
 use Rattle.std.specs.List.{AllByRecursion, list_any}
 use Rattle.std.proofs.lemmas.Bool.{eqb-true, leb-true, ltb-true}
 use Rattle.lvm_num.specs.declared.descriptor.Descriptor.{Descriptor}
@@ -20,34 +20,41 @@ use Rattle.lvm_vol.specs.declared.entry.Vol.TheVariants.{Lv}
 use Rattle.lvm_vol.specs.Facts.{Request as Asked, Fact, Making, Made, Split, Removing, Removed, Begun, Landed, Taken, Cut, On, is_over, same_vol}
 use Rattle.lvm_vol.specs.Log.{cut_log, is_uncut, landed_fact, no_request, request_of, with_fact}
 use Rattle.lvm_path.specs.declared.ask.Ask.{Ask}
+use Rattle.lvm_path.specs.declared.facts.Next.TheVariants as next
+use Rattle.lvm_path.specs.declared.request.Phase.{Phase}
 use Rattle.lvm_path.specs.declared.target.Target.{Target}
 use Rattle.lvm_path.specs.Asks.{at_of, count_of, lv_of}
+use Rattle.lvm_path.specs.Next.{next_in, with_pin}
 use Rattle.lvm_path.specs.Targets.{is_begun, is_failed}
 use Rattle.lvm_session.specs.declared.event.Event.{Event}
 use Rattle.lvm_session.specs.declared.event.Event.TheVariants as event
+use Rattle.lvm_session.specs.declared.flown.Owner.{Owner}
+use Rattle.lvm_session.specs.declared.flown.Owner.TheVariants as owner
 use Rattle.lvm_session.specs.declared.open.Open.{Open}
 use Rattle.lvm_session.specs.declared.open.Power.TheVariants as power
 use Rattle.lvm_session.specs.declared.origin.Origin.{Origin}
-use Rattle.lvm_session.specs.Judging.{copies_for, copies_in, is_waiting, lp_of}
+use Rattle.lvm_session.specs.Judging.{copies_for, copies_in, facts_of, is_waiting, lp_of, mode_of, next_for, policy_of}
 use Rattle.lvm_session.specs.State.{Core, State}
 use Rattle.lvm_session.specs.declared.answers.Turned.{Turned}
 use Rattle.lvm_session.specs.declared.answers.Turned.TheVariants as turned
 use Rattle.lvm_session.specs.Dark.{all_dark, landings}
-use Rattle.lvm_session.specs.Ends.{Ends, EndsAs}
-use Rattle.lvm_session.specs.Events.{Lands, got_blocks}
+use Rattle.lvm_session.specs.Enabled.{target_next}
+use Rattle.lvm_session.specs.Ends.{DataLearns, Ends, EndsAs, Learns, learned}
+use Rattle.lvm_session.specs.Events.{Lands, admitted_as, begun_as, got_blocks, landed_as}
 use Rattle.lvm_session.specs.Marks.{is_among}
 use Rattle.lvm_session.specs.Turns.{Darkens, FinishMakes, Finishes, GoesOff, Makes, Moves, NoStart, OnMakes, TurnMakes, WasDark, WasOff, WasOn}
-use Rattle.lvm_session.specs.Causes.{AnyFailedSince, AreCounted, HasFailed, IsCounted, IsLandedFor, faults_at_first, was_usable}
+use Rattle.lvm_session.specs.Causes.{AnyFailedSince, AreCaused, AreCounted, HasFailed, IsCaused, IsCounted, IsLandedFor, faults_at_first, is_blamed, was_usable}
 use Rattle.lvm_session.specs.Requests.{IsOpenOne}
 use Rattle.lvm_session.specs.Sound.{IsAsked, IsSound}
 use Rattle.lvm_keeps.proofs.Landing.{landing_is_caused}
-use Rattle.lvm_keeps.proofs.Lists.{all_at, all_on}
+use Rattle.lvm_keeps.proofs.Lists.{all_at, all_on, all_set}
 use Rattle.lvm_keeps.proofs.Losing.{loss_is_caused}
 use Rattle.lvm_keeps.proofs.Small.{both, not_so}
 use Rattle.lvm_keeps_events.proofs.CopyReadFail.{at_number, some_at}
 use Rattle.lvm_keeps_events.proofs.Counts.{rose_on, rose_since}
-use Rattle.lvm_tie.specs.Landings.{BeginningHasCauses, HadNone, HasCausesSince, HasLandedFor, IsEntryCaused, TurnKeepsCauses}
-use Rattle.lvm_tie.proofs.Grounds.{end_same, ground}
+use Rattle.lvm_keeps_events.proofs.Learning.{waits}
+use Rattle.lvm_tie.specs.Landings.{BeginningHasCauses, FailuresAreCaused, HadNone, HasCausesSince, HasLandedFor, IsEntryCaused, TurnKeepsCauses}
+use Rattle.lvm_tie.proofs.Grounds.{Ground, ground, ground_with, learned_same}
 
 -- ---- what was a cause goes on to be one
 
@@ -91,18 +98,34 @@ module _ (old new : State) (more : NoneFalls old.device.counts new.device.counts
   entry_on (On moment) why = why
 
   -- with entries that have their causes
-  pub goes_on : (first added : List Fact) → new.core.history.facts ≡ old.core.history.facts ++ added → AllByRecursion (IsEntryCaused old) added → HasCausesSince first old → HasCausesSince first new
-  goes_on first added facts caused was = record {
+  pub goes_on : (first added : List Fact) → new.core.history.facts ≡ old.core.history.facts ++ added → AllByRecursion (IsEntryCaused old) added
+      → (new.core.power ≡ power.On → AllByRecursion (FailuresAreCaused new.device) new.core.requests) → HasCausesSince first old → HasCausesSince first new
+  goes_on first added facts caused failed was = record {
     since = was.since ++ added;
     is = facts ∙ ap (λ (fs : List Fact). fs ++ added) was.is ∙ append_assoc first was.since added;
     caused = all_on (IsEntryCaused old) (IsEntryCaused new) entry_on (was.since ++ added) (all_join (IsEntryCaused old) was.since added was.caused caused);
+    failed = failed;
   }
 
--- where no entry is added
+-- a disk that has failed has failed later too
+failures_on : (old new : Device) → NoneFalls old.counts new.counts → (ts : List Target) → AllByRecursion (λ (t : Target). is_failed t.state ≡ true → HasFailed old t) ts → AllByRecursion (λ (t : Target). is_failed t.state ≡ true → HasFailed new t) ts
+failures_on old new more = all_on (λ (t : Target). is_failed t.state ≡ true → HasFailed old t) (λ (t : Target). is_failed t.state ≡ true → HasFailed new t)
+    (λ t was failed. rose_on t.faults (old.counts.faults t.pp.disk) (new.counts.faults t.pp.disk) (more.faults t.pp.disk) (was failed))
+
+pub request_on : (old new : Device) → NoneFalls old.counts new.counts → (o : Open) → FailuresAreCaused old o → FailuresAreCaused new o
+request_on old new more o was over = failures_on old new more o.request.targets.items (was over)
+
+-- where no entry is added, and these are the requests
+pub stays_with : (first : List Fact) (old new : State) → NoneFalls old.device.counts new.device.counts → (requests : List Open) → ground new.core ≡ ground_with old.core requests
+    → (old.core.power ≡ power.On → AllByRecursion (FailuresAreCaused new.device) requests) → HasCausesSince first old → HasCausesSince first new
+stays_with first old new more requests same failed was =
+    goes_on old new more (ap (λ (g : Ground). g.0) same) (ap (λ (g : Ground). g.1) same) first [] (ap (λ (g : Ground). g.2) same ∙ sym (append-nil old.core.history.facts)) tt
+    (λ on. subst (λ (os : List Open). AllByRecursion (FailuresAreCaused new.device) os) (sym (ap (λ (g : Ground). g.4) same)) (failed (sym (ap (λ (g : Ground). g.3) same) ∙ on))) was
+
+-- where they stay
 pub stays_caused : (first : List Fact) (old new : State) → NoneFalls old.device.counts new.device.counts → ground new.core ≡ ground old.core → HasCausesSince first old → HasCausesSince first new
-stays_caused first old new more same was =
-    goes_on old new more (ap (λ (g : Descriptor × Origin × List Fact). g.0) same) (ap (λ (g : Descriptor × Origin × List Fact). g.1) same) first []
-    (ap (λ (g : Descriptor × Origin × List Fact). g.2) same ∙ sym (append-nil old.core.history.facts)) tt was
+stays_caused first old new more same was = stays_with first old new more old.core.requests same
+    (λ on. all_on (FailuresAreCaused old.device) (FailuresAreCaused new.device) (request_on old.device new.device more) old.core.requests (was.failed on)) was
 
 -- ---- a landing
 
@@ -204,14 +227,15 @@ cut_of false = []
 -- a power cut
 pub dark_caused : (first : List Fact) (old new : State) (middle : Core) → NoneFalls old.device.counts new.device.counts → ground middle ≡ ground old.core → new.core ≡ all_dark middle → HasCausesSince first old → HasCausesSince first new
 dark_caused first old new middle more same is was =
-    goes_on old new more (ap (λ (c : Core). c.descriptor) is ∙ ap (λ (g : Descriptor × Origin × List Fact). g.0) same) (ap (λ (c : Core). c.origin) is ∙ ap (λ (g : Descriptor × Origin × List Fact). g.1) same) first
+    goes_on old new more (ap (λ (c : Core). c.descriptor) is ∙ ap (λ (g : Ground). g.0) same) (ap (λ (c : Core). c.origin) is ∙ ap (λ (g : Ground). g.1) same) first
     (cut_of (is_uncut middle.history.facts) ++ landings outcome.Dark (cut_log middle.history).facts middle.requests)
     (ap (λ (c : Core). c.history.facts) is
     ∙ ap (λ (fs : List Fact). fs ++ landings outcome.Dark (cut_log middle.history).facts middle.requests) (cut_facts (is_uncut middle.history.facts))
     ∙ append_assoc middle.history.facts (cut_of (is_uncut middle.history.facts)) (landings outcome.Dark (cut_log middle.history).facts middle.requests)
-    ∙ ap (λ (fs : List Fact). fs ++ (cut_of (is_uncut middle.history.facts) ++ landings outcome.Dark (cut_log middle.history).facts middle.requests)) (ap (λ (g : Descriptor × Origin × List Fact). g.2) same))
+    ∙ ap (λ (fs : List Fact). fs ++ (cut_of (is_uncut middle.history.facts) ++ landings outcome.Dark (cut_log middle.history).facts middle.requests)) (ap (λ (g : Ground). g.2) same))
     (all_join (IsEntryCaused old) (cut_of (is_uncut middle.history.facts)) (landings outcome.Dark (cut_log middle.history).facts middle.requests) (cut_caused (is_uncut middle.history.facts))
     (landings_caused old outcome.Dark (cut_log middle.history).facts (λ r. tt) middle.requests))
+    (λ on. absurd (let e : power.Dark ≡ power.On = sym (ap (λ (c : Core). c.power) is) ∙ on in cc))
     was
   where
     cut_facts : (b : Bool) → (if b then with_fact middle.history Cut else middle.history).facts ≡ middle.history.facts ++ cut_of b
@@ -224,6 +248,17 @@ dark_caused first old new middle more same is was =
 
 -- ---- a turn
 
+-- a request that does something next hasn't landed
+pub waits_unless : (s : State) → IsSound s → s.core.power ≡ power.On → (place : ℕ) (o : Open) → slice_get s.core.requests place ≡ Some o → (next_for s.core o ≡ next.Wait → ⊥) → is_waiting o ≡ true
+waits_unless s sound on place o there does = by (is_waiting o) refl
+  where
+    its : IsOpenOne s.core o
+    its = all_at (IsOpenOne s.core) s.core.requests place o (sound.on on).going.requests there
+
+    by : (b : Bool) → is_waiting o ≡ b → b ≡ true
+    by true is = refl
+    by false is = absurd (does (ap (λ (p : Phase). next_in p (facts_of s.core o.request) o.request) (its.over is).phase_is))
+
 stays : (old new : Device) → new ≡ old → NoneFalls old.counts new.counts
 stays old new same = subst (λ (d : Device). NoneFalls old.counts d.counts) (sym same) (none_falls_at_once old.counts)
 
@@ -232,12 +267,42 @@ darkens old new (inl off) = stays old new off.1
 darkens old new (inr cuts) = step_counts old new (WasCut cuts)
 
 module _ (first : List Fact) (old new : State) (sound : IsSound old) (was : HasCausesSince first old) where
+  -- ---- the requests
+
+  -- each disk on which a transfer of a request failed has failed, whether it has landed or not
+  failures_of : old.core.power ≡ power.On → (place : ℕ) (o : Open) → slice_get old.core.requests place ≡ Some o → AllByRecursion (λ (t : Target). is_failed t.state ≡ true → HasFailed old.device t) o.request.targets.items
+  failures_of on place o there = by (is_waiting o) refl
+    where
+      by : (b : Bool) → is_waiting o ≡ b → AllByRecursion (λ (t : Target). is_failed t.state ≡ true → HasFailed old.device t) o.request.targets.items
+      by true waits = all_on (IsCaused old.device old.core) (λ (t : Target). is_failed t.state ≡ true → HasFailed old.device t)
+          (λ t caused failed. caused (ap (λ b. b || (t.usable && is_blamed old.core t.pp)) failed)) o.request.targets.items
+          (all_at (AreCaused old.device old.core) old.core.requests place o (sound.on on).caused there waits)
+      by false over = all_at (FailuresAreCaused old.device) old.core.requests place o (was.failed on) there over
+
+  -- one of them changes, and nothing is entered
+  sets_one : NoneFalls old.device.counts new.device.counts → (place : ℕ) (o : Open) → ground new.core ≡ ground_with old.core (slice_set old.core.requests place o) → FailuresAreCaused new.device o → HasCausesSince first new
+  sets_one more place o same its = stays_with first old new more (slice_set old.core.requests place o) same
+      (λ on. all_set (FailuresAreCaused old.device) (FailuresAreCaused new.device) (request_on old.device new.device more) old.core.requests place o its (was.failed on)) was
+
+  -- one that waits has nothing to tell
+  unlanded : (device : Device) (o : Open) → is_waiting o ≡ true → FailuresAreCaused device o
+  unlanded device o waits over = absurd (let e : true ≡ false = sym waits ∙ over in cc)
+
+  -- ---- events
+
   lands_caused : old.core.power ≡ power.On → (place : ℕ) (how : Outcome) → Lands old new place how → HasCausesSince first new
   lands_caused on place how made =
       goes_on old new (stays old.device new.device (ap (λ (s : State). s.device) made.is)) (ap (λ (s : State). s.core.descriptor) made.is) (ap (λ (s : State). s.core.origin) made.is) first
       (Landed (request_of old.core.history.facts made.request.request.id) how (is_begun made.request.request.targets.items) (got_blocks (count_of made.request.request.ask) made.request.got) ∷ [])
       (ap (λ (s : State). s.core.history.facts) made.is)
-      (landed_for old sound on place made.request made.there how (landing_is_caused place how old new sound on made), tt) was
+      (landed_for old sound on place made.request made.there how (landing_is_caused place how old new sound on made), tt)
+      (λ now. subst (λ (os : List Open). AllByRecursion (FailuresAreCaused new.device) os) (sym (ap (λ (s : State). s.core.requests) made.is))
+      (all_set (FailuresAreCaused old.device) (FailuresAreCaused new.device) (request_on old.device new.device more) old.core.requests place (landed_as how made.request)
+      (λ over. failures_on old.device new.device more made.request.request.targets.items (failures_of on place made.request made.there)) (was.failed on)))
+      was
+    where
+      more : NoneFalls old.device.counts new.device.counts
+      more = stays old.device new.device (ap (λ (s : State). s.device) made.is)
 
   started : (f : Flight) → Starts old.device new.device f → ground new.core ≡ ground old.core → HasCausesSince first new
   started f starts same = stays_caused first old new (step_counts old.device new.device (Started f starts)) same was
@@ -247,20 +312,42 @@ module _ (first : List Fact) (old new : State) (sound : IsSound old) (was : HasC
 
   event_caused : old.core.power ≡ power.On → (it : Event) → Makes it old new → HasCausesSince first new
   event_caused on (event.Land place how) made = lands_caused on place how made
-  event_caused on (event.Admit place) made = still (ap (λ (s : State). s.device) made.is) (ap (λ (s : State). ground s.core) made.is)
-  event_caused on (event.Pin place) made = still (ap (λ (s : State). s.device) made.is) (ap (λ (s : State). ground s.core) made.is)
+  event_caused on (event.Admit place) made =
+      let o : Open = admitted_as (policy_of old.core made.request.request.ask) (mode_of old.core made.request.request.ask) made.targets made.request in
+      sets_one (stays old.device new.device (ap (λ (s : State). s.device) made.is)) place o (ap (λ (s : State). ground s.core) made.is)
+      (unlanded new.device o (waits_unless old sound on place made.request made.there (λ e. let no : next.Admit ≡ next.Wait = sym made.admits ∙ e in cc)))
+  event_caused on (event.Pin place) made = sets_one (stays old.device new.device (ap (λ (s : State). s.device) made.is)) place (record made.request { request = with_pin made.request.request }) (ap (λ (s : State). ground s.core) made.is)
+      (λ over. failures_on old.device new.device (stays old.device new.device (ap (λ (s : State). s.device) made.is)) made.request.request.targets.items (failures_of on place made.request made.there))
   event_caused on event.StartStatus made = started made.flight made.launches.starts (ap (λ (s : State). ground s.core) made.is)
   event_caused on (event.StartNote place disk) made = started made.flight made.launches.starts (ap (λ (s : State). ground s.core) made.is)
-  event_caused on (event.StartData place target) made = started made.flight made.launches.starts (ap (λ (s : State). ground s.core) made.is)
+  event_caused on (event.StartData place target) made =
+      sets_one (step_counts old.device new.device (Started made.flight made.launches.starts)) place (begun_as target made.its.request) (ap (λ (s : State). ground s.core) made.is)
+      (unlanded new.device (begun_as target made.its.request) (waits_unless old sound on place made.its.request made.its.there (λ e. let no : Some target ≡ None = sym made.its.due ∙ ap target_next e in cc)))
   event_caused on event.ReadCopy made = started made.flight made.launches.starts (ap (λ (s : State). ground s.core) made.is)
   event_caused on event.WriteCopy made = started made.flight made.starts (ap (λ (s : State). ground s.core) made.is)
 
-  end_caused : (at : ℕ) → Ends old new at → HasCausesSince first new
-  end_caused at it = stays_caused first old new (by it.ok it.returns.ends) (end_same old new at it) was
+  end_caused : old.core.power ≡ power.On → (at : ℕ) → Ends old new at → HasCausesSince first new
+  end_caused on at it = of it.row.owner refl it.learns
     where
       by : (ok : Bool) → EndsAs ok old.device new.device it.row.ticket it.buf → NoneFalls old.device.counts new.device.counts
       by true ended = step_counts old.device new.device (Ended it.row.ticket it.buf ended)
       by false ended = step_counts old.device new.device (Broke it.row.ticket it.buf ended)
+
+      more : NoneFalls old.device.counts new.device.counts
+      more = by it.ok it.returns.ends
+
+      data_waits : (id target : ℕ) → it.row.owner ≡ owner.Data id target → (learns : DataLearns old.core at id target it.ok it.buf new.core) → is_waiting learns.its.request ≡ true
+      data_waits id target own learns =
+          waits old.core (sound.on on).going learns.place target learns.its.request learns.its.there learns.its.aim learns.its.aim_is at it.row it.returns.there
+          (own ∙ ap (λ n. owner.Data n target) (sym learns.own)) false it.buf (λ e. absurd (let no : false ≡ true = e in cc))
+
+      of : (whose : Owner) → it.row.owner ≡ whose → Learns whose old.core at it.ok it.buf new.core → HasCausesSince first new
+      of (owner.Data id target) own learns =
+          sets_one more learns.place (learned learns.its.request target it.ok it.buf) (learned_same (owner.Data id target) it.ok old.core new.core at it.buf learns)
+          (unlanded new.device (learned learns.its.request target it.ok it.buf) (data_waits id target own learns))
+      of (owner.Status disk) own learns = stays_caused first old new more (learned_same (owner.Status disk) it.ok old.core new.core at it.buf learns) was
+      of (owner.Note disk) own learns = stays_caused first old new more (learned_same (owner.Note disk) it.ok old.core new.core at it.buf learns) was
+      of owner.Copy own learns = stays_caused first old new more (learned_same owner.Copy it.ok old.core new.core at it.buf learns) was
 
   cut_caused : Darkens old new → HasCausesSince first new
   cut_caused it = dark_caused first old new (record old.core { status = new.core.status; cache = new.core.cache }) (darkens old.device new.device it.device) refl it.is was
@@ -269,19 +356,20 @@ module _ (first : List Fact) (old new : State) (sound : IsSound old) (was : HasC
   off_caused it =
       goes_on old new (stays old.device new.device (ap (λ (s : State). s.device) it.is)) (ap (λ (s : State). s.core.descriptor) it.is) (ap (λ (s : State). s.core.origin) it.is) first
       (landings outcome.Off old.core.history.facts old.core.requests) (ap (λ (s : State). s.core.history.facts) it.is)
-      (landings_caused old outcome.Off old.core.history.facts (λ r. loss_is_caused old sound it.lost) old.core.requests) was
+      (landings_caused old outcome.Off old.core.history.facts (λ r. loss_is_caused old sound it.lost) old.core.requests)
+      (λ on. absurd (let e : power.Off ≡ power.On = sym (ap (λ (s : State). s.core.power) it.is) ∙ on in cc)) was
 
-  finish_caused : (answer : Turned) → FinishMakes old new answer → HasCausesSince first new
-  finish_caused turned.Moved made = end_caused made.0 made.1
-  finish_caused turned.Idle (inl finds) = stays_caused first old new (step_counts old.device new.device (Waited finds.waits)) (ap ground finds.is) was
-  finish_caused turned.Idle (inr nothing) = still (ap (λ (s : State). s.device) nothing.is) (ap (λ (s : State). ground s.core) nothing.is)
-  finish_caused turned.Dark made = cut_caused made
-  finish_caused turned.Off made = off_caused made
+  finish_caused : old.core.power ≡ power.On → (answer : Turned) → FinishMakes old new answer → HasCausesSince first new
+  finish_caused on turned.Moved made = end_caused on made.0 made.1
+  finish_caused on turned.Idle (inl finds) = stays_caused first old new (step_counts old.device new.device (Waited finds.waits)) (ap ground finds.is) was
+  finish_caused on turned.Idle (inr nothing) = still (ap (λ (s : State). s.device) nothing.is) (ap (λ (s : State). ground s.core) nothing.is)
+  finish_caused on turned.Dark made = cut_caused made
+  finish_caused on turned.Off made = off_caused made
 
   on_caused : old.core.power ≡ power.On → (answer : Turned) → OnMakes old new answer → HasCausesSince first new
   on_caused on answer (Moves it event made is) = event_caused on it made
   on_caused on answer (NoStart it event start dark is) = cut_caused dark
-  on_caused on answer (Finishes none made) = finish_caused answer made
+  on_caused on answer (Finishes none made) = finish_caused on answer made
 
   pub turn_caused : (answer : Turned) → TurnMakes old new answer → HasCausesSince first new
   turn_caused answer (WasDark dark is same) = still (ap (λ (s : State). s.device) same) (ap (λ (s : State). ground s.core) same)
@@ -292,4 +380,9 @@ pub turn_keeps_causes : TurnKeepsCauses
 turn_keeps_causes first old new answer sound made was = turn_caused first old new sound was answer made
 
 pub beginning_has_causes : BeginningHasCauses
-beginning_has_causes s = record { since = []; is = sym (append-nil s.core.history.facts); caused = tt }
+beginning_has_causes s none = record {
+  since = [];
+  is = sym (append-nil s.core.history.facts);
+  caused = tt;
+  failed = λ on. subst (λ (os : List Open). AllByRecursion (FailuresAreCaused s.device) os) (sym none) tt;
+}

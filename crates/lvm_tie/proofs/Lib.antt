@@ -78,3 +78,5 @@ pub mod Histories
 pub mod Ends
 pub mod CallsTurn
 pub mod Turning
+pub mod Spares
+pub mod Stamps

@@ -1,7 +1,9 @@
 -- The read by which a copy is brought up fails: another source follows, or the copy ends.
-use Rattle.std.proofs.Common.{◌≡◌, ⊎_elim, ℕ, Bool, true, false, ◌&&◌, not, List, Option, Some, None, refl, sym, ap, subst, ◌∙◌}
+use Rattle.std.proofs.Common.{◌≡◌, inl, inr, ⊎_elim, ℕ, Bool, true, false, ◌&&◌, ◌||◌, ◌==◌, not, if◌then◌else◌, List, Option, Some, None, refl, sym, ap, subst, ◌∙◌}
 use Rattle.std.specs.Prelude.{slice_set}
+use Rattle.std.proofs.lemmas.Bool.{eq-eqb}
 use Rattle.lvm_num.specs.declared.place.Pp.{Pp}
+use Rattle.lvm_num.specs.Disks.{has}
 use Rattle.lvm_vol.specs.Facts.{Fact}
 use Rattle.lvm_stale.specs.Table.{is_pp as same_pp}
 use Rattle.lvm_status.specs.Update.{Stored}
@@ -18,11 +20,12 @@ use Rattle.lvm_invariant.specs.State.{Badly, Flying, Queued, State, is_past}
 use Rattle.lvm_invariant.specs.CopyWrite.{copied}
 use Rattle.lvm_invariant.specs.Events.{Read}
 use Rattle.lvm_invariant.specs.Read.{reading}
-use Rattle.lvm_invariant.specs.Updates.{put}
+use Rattle.lvm_invariant.specs.Updates.{is_pp, put}
+use Rattle.lvm_tie_shelf.proofs.Writing.{pp_same}
 use Rattle.lvm_tie.specs.Seen.{SeesHand, SeesStep, update_of}
 use Rattle.lvm_tie.specs.Tied.{IsTied}
 use Rattle.lvm_tie.proofs.Judged.{copy_is}
-use Rattle.lvm_tie.proofs.Words.{clash, or_either}
+use Rattle.lvm_tie.proofs.Words.{clash, or_either, or_true}
 use Rattle.lvm_tie.proofs.Leaving.{Stands, quiet}
 use Rattle.lvm_tie.proofs.Landed.{at_q, hand, landed_read, now, q, read_stands, sees}
 use Rattle.lvm_tie.proofs.Stepped.{ended_ties, going_ties, wanted_stale}
@@ -96,13 +99,21 @@ module _ (past : List Fact) (old new : Session) (at : ℕ) (tied : IsTied past o
     refl,
   ) tt refl refl refl (read_stands past old new at event.row false event.buf tied event.returns event.own c event.is_open event.source event.reads)
 
+  -- the source is tried now
+  failed_now : (p : Pp) → next.targets p ≡ Some Badly → has event.misses.tried p.disk ≡ true
+  failed_now p bad = event.misses.tries p.disk ∙ by (is_pp p event.source) refl bad
+    where
+      by : (b : Bool) → is_pp p event.source ≡ b → (if b then Some Badly else step_q.targets p) ≡ Some Badly → (has c.tried p.disk || p.disk == event.source.disk) ≡ true
+      by true same e = or_true (has c.tried p.disk) (p.disk == event.source.disk) (inr (eq-eqb p.disk event.source.disk (ap (λ (x : Pp). x.disk) (pp_same p event.source same))))
+      by false other e = or_true (has c.tried p.disk) (p.disk == event.source.disk) (inl (seen_step.failed p e))
+
   by_end : (e : Option CopyEnd) → copy_ends mid ≡ e → IsTied past new
   by_end None is =
       let whole : new ≡ state new.device mid = λ t. record { device = new.device; core = core_is None is t } in
       subst (IsTied past) (sym whole)
       (going_ties past old new at event.row false event.buf tied event.returns event.own c event.is_open step.Idle event.misses.tried (slice_set core.pool event.buf.number false)
       (landed_read past old new at event.row false event.buf tied event.returns event.own c event.is_open event.source event.reads) next refl (λ t. event.runs t && not (part t))
-      (record { lv = seen_step.lv; first = seen_step.first; count = seen_step.count; write = seen_step.write; step = seen_step.step; hand = (refl, refl) })
+      (record { lv = seen_step.lv; first = seen_step.first; count = seen_step.count; write = seen_step.write; step = seen_step.step; hand = (refl, refl); failed = failed_now })
       stands (subst IsSound whole sound))
   by_end (Some how) is =
       let after : Core = with_end mid (Some how) in

@@ -225,7 +225,7 @@ module _ (past : List Fact) (s : Session) (new : Core) (counts : Counts) (lv lp 
     a_step = λ d is row. let same : c ≡ d = (let e : Some c ≡ Some d = is in cc) in (
       q,
       ap (λ (x : Bringing). w.queue x.place) (sym same) ∙ put_here,
-      subst (λ (x : Bringing). SeesStep core2 x q) same (record { lv = refl; first = refl; count = refl; write = refl; step = refl; hand = (refl, refl) }),
+      subst (λ (x : Bringing). SeesStep core2 x q) same (record { lv = refl; first = refl; count = refl; write = refl; step = refl; hand = (refl, refl); failed = λ p bad. absurd (cc bad) }),
     );
     only = λ j e at. elim (cases_eq j i) [
       | inl is ↦ inr (record { copy = c; is_open = refl; row = row_now; its = sym is })

@@ -72,7 +72,7 @@ either_true false b is = inr is
 false_so : {X : Type 0} → false ≡ true → X
 false_so e = absurd (cc e)
 
-any_there : {A : Type 0} (t : A → Bool) (xs : List A) → list_any t xs ≡ true → (k : ℕ) × (x : A) × (slice_get xs k ≡ Some x) × (t x ≡ true)
+pub any_there : {A : Type 0} (t : A → Bool) (xs : List A) → list_any t xs ≡ true → (k : ℕ) × (x : A) × (slice_get xs k ≡ Some x) × (t x ≡ true)
 any_there t [] is = false_so is
 any_there t (x ∷ xs) is = ⊎_elim (λ here. (0, x, refl, here)) (λ later. let r = any_there t xs later in (suc r.0, r.1, r.2, r.3)) (either_true (t x) (list_any t xs) is)
 

@@ -1,8 +1,9 @@
 -- The read by which a copy is brought up ends well: its blocks are in hand.
-use Rattle.std.proofs.Common.{◌≡◌, inr, ℕ, true, false, ◌&&◌, not, List, Some, None, refl, sym, ap, subst, ◌∙◌}
+use Rattle.std.proofs.Common.{◌≡◌, inr, ℕ, Bool, true, false, ◌&&◌, not, if◌then◌else◌, List, Some, None, refl, sym, ap, subst, ◌∙◌}
 use Rattle.std.specs.Prelude.{IsTrue}
 use Rattle.lvm_num.specs.declared.place.Pp.{Pp}
 use Rattle.lvm_num.specs.Buffer.{Sector}
+use Rattle.lvm_num.specs.Disks.{has}
 use Rattle.lvm_num.specs.Geometry.{sector_of}
 use Rattle.lvm_vol.specs.Facts.{Fact}
 use Rattle.lvm_session.specs.declared.bringing.OpenCopy.{OpenCopy as Bringing}
@@ -12,11 +13,11 @@ use Rattle.lvm_session.specs.Bringing.{is_idle, is_whole}
 use Rattle.lvm_session.specs.Ends.{after_read}
 use Rattle.lvm_session.specs.Sound.{IsCopy, IsSound}
 use Rattle.lvm_keeps_events.specs.Ends.{EndsRead}
-use Rattle.lvm_invariant.specs.State.{Flying, Queued, State, Well, covers, is_past}
+use Rattle.lvm_invariant.specs.State.{Badly, Flying, Queued, State, Well, covers, is_past}
 use Rattle.lvm_invariant.specs.CopyWrite.{copied}
 use Rattle.lvm_invariant.specs.Events.{Read}
 use Rattle.lvm_invariant.specs.Read.{reading}
-use Rattle.lvm_invariant.specs.Updates.{put}
+use Rattle.lvm_invariant.specs.Updates.{is_pp, put}
 use Rattle.lvm_tie_shelf.specs.Bringing.{IsReading, in_buffer}
 use Rattle.lvm_tie_shelf.proofs.Bringing.{read_gets}
 use Rattle.lvm_tie.specs.Seen.{SeesHand, SeesStep, update_of}
@@ -98,13 +99,21 @@ module _ (past : List Fact) (old new : Session) (at : ℕ) (tied : IsTied past o
   abbrev d : Bringing
   d = record c { step = step.Read event.buf }
 
+  -- the source has done well
+  failed_still : (p : Pp) → next.targets p ≡ Some Badly → has c.tried p.disk ≡ true
+  failed_still p = by (is_pp p source)
+    where
+      by : (b : Bool) → (if b then Some Well else step_q.targets p) ≡ Some Badly → has c.tried p.disk ≡ true
+      by true bad = absurd (cc bad)
+      by false bad = seen_step.failed p bad
+
   pub read_tied : IsTied past new
   read_tied =
       let whole : new ≡ state new.device (after_read core at c event.buf) = λ t. record { device = new.device; core = event.is t } in
       subst (IsTied past) (sym whole)
       (going_ties past old new at event.row true event.buf tied event.returns event.own c event.is_open (step.Read event.buf) c.tried core.pool
       (landed_read past old new at event.row true event.buf tied event.returns event.own c event.is_open source event.reads) next refl (λ t. event.runs t && not (part t))
-      (record { lv = seen_step.lv; first = seen_step.first; count = seen_step.count; write = seen_step.write; step = seen_step.step; hand = (refl, value, refl, λ b. refl) })
+      (record { lv = seen_step.lv; first = seen_step.first; count = seen_step.count; write = seen_step.write; step = seen_step.step; hand = (refl, value, refl, λ b. refl); failed = failed_still })
       stands (subst IsSound whole sound))
 
 pub copy_read_end_ties : CopyReadEndTies

@@ -1,12 +1,15 @@
 -- The state as which a tied session is seen has its causes.
-use Rattle.std.proofs.Common.{◌≡◌, ◌⊎◌, inl, inr, ℕ, suc, Bool, true, false, ◌&&◌, ◌||◌, not, if◌then◌else◌, List, [], ◌∷◌, ◌++◌, Option, Some, None, refl, sym, ◌∙◌, ap, subst, arith, append_assoc}
-use Rattle.std.specs.Prelude.{IsTrue, option_and_then, slice_get, unwrap_or}
-use Rattle.std.specs.List.{AllByRecursion}
+use Rattle.std.proofs.Common.{◌≡◌, ◌⊎◌, inl, inr, ℕ, suc, ◌+◌, ◌-◌, Bool, true, false, ◌&&◌, ◌||◌, ◌==◌, not, if◌then◌else◌, List, [], ◌∷◌, ◌++◌, Option, Some, None, refl, sym, ◌∙◌, ap, subst, arith, append_assoc}
+use Rattle.std.specs.Prelude.{IfSome, IsTrue, slice_get, unwrap_or}
+use Rattle.std.specs.List.{AllByRecursion, list_any}
 use Rattle.std.specs.Option.{option_map, option_map_or}
+use Rattle.std.proofs.lemmas.Bool.{eqb-true}
+use Rattle.std.proofs.lemmas.Bool.Decides.{nat_tests}
 use Rattle.lvm_num.specs.declared.descriptor.LvRow.{LvRow}
 use Rattle.lvm_num.specs.declared.place.Pp.{Pp}
 use Rattle.lvm_num.specs.declared.status.Status.{Status}
 use Rattle.lvm_num.specs.Descriptor.{copies_of, is_member, volume_of}
+use Rattle.lvm_num.specs.Disks.{has}
 use Rattle.lvm_num.specs.Geometry.{partition_of}
 use Rattle.lvm_num.specs.Record.{Stamped}
 use Rattle.lvm_num.specs.Status.{calls_missing, calls_stale}
@@ -19,30 +22,30 @@ use Rattle.lvm_stale.specs.Table.{is_pp}
 use Rattle.lvm_status.specs.Update.{members_there}
 use Rattle.lvm_sched.specs.declared.writes.TargetState.{TargetState}
 use Rattle.lvm_sched.specs.declared.writes.TargetState.TheVariants as target
-use Rattle.lvm_path.specs.declared.request.Phase.{Phase as RequestPhase}
 use Rattle.lvm_path.specs.declared.target.Target.{Target}
-use Rattle.lvm_path.specs.Targets.{is_begun, is_failed}
+use Rattle.lvm_path.specs.Targets.{is_failed}
 use Rattle.lvm_session.specs.declared.bringing.OpenCopy.{OpenCopy as Bringing}
 use Rattle.lvm_session.specs.declared.open.Open.{Open}
 use Rattle.lvm_session.specs.Bringing.{groups_of, is_whole}
+use Rattle.lvm_session.specs.Calls.{copy_at}
 use Rattle.lvm_session.specs.Judging.{copies_in, is_missing, is_running, is_stale, is_waiting, is_wanted_stale, place_of}
 use Rattle.lvm_session.specs.State.{Core, State as Session}
 use Rattle.lvm_session.specs.Marks.{is_among}
-use Rattle.lvm_session.specs.Causes.{AreCaused, AreCounted, FailedSince, IsCaused, IsCounted, faults_at_first, is_blamed, is_held_stale, was_usable}
+use Rattle.lvm_session.specs.Causes.{AreCaused, AreCounted, FailedSince, HasFailed as HasFailedSince, IsCaused, IsCopyCaused, IsCounted, faults_at_first, faults_at_opening, is_blamed, is_held_stale, was_usable}
 use Rattle.lvm_session.specs.Sound.{IsSound}
 use Rattle.lvm_invariant.specs.Caused.{FactIsCaused, HadNoCopy, LandingIsCaused, Since}
 use Rattle.lvm_invariant.specs.Faults.{Faults, HasCause, HasFailed}
-use Rattle.lvm_invariant.specs.State.{Badly, Marks, OpenCopy, Queued, State, has_landed}
+use Rattle.lvm_invariant.specs.State.{Badly, Marks, OpenCopy, Queued, State}
 use Rattle.lvm_crash.specs.Session.{as_marks}
 use Rattle.lvm_keeps_events.proofs.Counts.{rose_since}
 use Rattle.lvm_tie_shelf.proofs.Copies.{number_finds}
 use Rattle.lvm_tie_shelf.proofs.Writing.{and_both, pp_same, same_pp}
-use Rattle.lvm_tie.specs.Seen.{IsRequestAt, IsStepAt, SeesCopy, SeesRunning, phase_seen, stage_at, stage_seen}
+use Rattle.lvm_tie.specs.Seen.{IsRequestAt, IsStepAt, SeesCopy, SeesRunning, stage_at, stage_seen}
 use Rattle.lvm_tie.specs.Tied.{IsTied}
 use Rattle.lvm_tie.proofs.Judged.{copy_is, missing_seen, stale_seen, wanted_seen}
-use Rattle.lvm_tie.proofs.Orderly.{all_at, open_one, valid_of}
-use Rattle.lvm_tie.specs.Causes.{AreFaultsOf, CausesAreSeen, FaultsAreThere, still_open, with_open_alone}
-use Rattle.lvm_tie.specs.Landings.{HadNone, HasCausesSince, HasLandedFor, IsEntryCaused}
+use Rattle.lvm_tie.proofs.Orderly.{all_at, any_there, valid_of}
+use Rattle.lvm_tie.specs.Causes.{AreFaultsOf, CausesAreSeen, FaultsAreThere}
+use Rattle.lvm_tie.specs.Landings.{FailuresAreCaused, HadNone, HasCausesSince, HasLandedFor, IsEntryCaused}
 
 -- ---- small
 
@@ -97,20 +100,15 @@ failed_on (t ∷ ts) c e = by (is_pp c t.pp) refl e (failed_on ts c)
     by true same h rest = record { number = 0; aim = t; there = refl; pp_is = sym (pp_same c t.pp same); failed = failed_state t.state (let s : stage_seen t.state ≡ Badly = cc h in s) }
     by false other h rest = let r = rest h in record { number = suc r.number; aim = r.aim; there = r.there; pp_is = r.pp_is; failed = r.failed }
 
--- ---- a request that hasn't landed
-
-pub record IsStillOpen (q r : Queued) : Type 0 where
-  pub step : q.step ≡ false
-  pub landed : has_landed q.phase ≡ false
-  pub its : q ≡ r
-
-open_of : (q r : Queued) → still_open q ≡ Some r → IsStillOpen q r
-open_of q r = by q.step (has_landed q.phase) refl refl
+-- a copy of the list that is found has a number, from 1
+numbered : (test : Pp → Bool) (ps : List Pp) → list_any test ps ≡ true → (number : ℕ) × (p : Pp) × (copy_at ps number ≡ Some p) × (test p ≡ true)
+numbered test ps is = let at = any_there test ps is in (at.0 + 1, at.1, place_of_number at.0 ∙ at.2, at.3)
   where
-    by : (a b : Bool) → q.step ≡ a → has_landed q.phase ≡ b → (if a || b then None else Some q) ≡ Some r → IsStillOpen q r
-    by true b step landed e = absurd (cc e)
-    by false true step landed e = absurd (cc e)
-    by false false step landed e = record { step = step; landed = landed; its = let s : q ≡ r = cc e in s }
+    place_of_number : (k : ℕ) → copy_at ps (k + 1) ≡ slice_get ps k
+    place_of_number k =
+        let some : (k + 1 == 0) ≡ false = grind (arith, nat_tests) in
+        let less : k + 1 - 1 ≡ k = omega arith in
+        ap (λ b. if b then None else slice_get ps (k + 1 - 1)) some ∙ ap (slice_get ps) less
 
 module _ (past first : List Fact) (s : Session) (w : Faults) (tied : IsTied past s) (causes : HasCausesSince first s) (faults : AreFaultsOf past first s w) where
   abbrev core : Core
@@ -205,52 +203,58 @@ module _ (past first : List Fact) (s : Session) (w : Faults) (tied : IsTied past
 
   -- ---- what has failed
 
-  request_failed : (place : ℕ) (o : Open) → slice_get core.requests place ≡ Some o → is_waiting o ≡ true → (c : Pp) → FailedOn o.request.targets.items c → Rose (w.asked (place_of o.request.id) c.disk) (w.now c.disk)
-  request_failed place o there waits c it =
+  -- the disk of a target has failed since it was chosen, also where the request has landed
+  target_failed : (place : ℕ) (o : Open) → slice_get core.requests place ≡ Some o → (c : Pp) (it : FailedOn o.request.targets.items c) → HasFailedSince s.device it.aim
+  target_failed place o there c it = by (is_waiting o) refl
+    where
+      by : (b : Bool) → is_waiting o ≡ b → HasFailedSince s.device it.aim
+      by true waits = all_at (IsCaused s.device core) o.request.targets.items it.number it.aim (all_at (AreCaused s.device core) core.requests place o (sound.on tied.orderly.on).caused there waits) it.there
+          (ap (λ b. b || (it.aim.usable && is_blamed core it.aim.pp)) it.failed)
+      by false over = all_at (λ (t : Target). is_failed t.state ≡ true → HasFailedSince s.device t) o.request.targets.items it.number it.aim
+          (all_at (FailuresAreCaused s.device) core.requests place o (causes.failed tied.orderly.on) there over) it.there it.failed
+
+  request_failed : (place : ℕ) (o : Open) → slice_get core.requests place ≡ Some o → (c : Pp) → FailedOn o.request.targets.items c → Rose (w.asked (place_of o.request.id) c.disk) (w.now c.disk)
+  request_failed place o there c it =
       subst (λ (p : Pp). Rose (w.asked (place_of o.request.id) p.disk) (w.now p.disk)) it.pp_is
       (subst (Rose (w.asked (place_of o.request.id) it.aim.pp.disk)) (sym (faults.now it.aim.pp.disk))
-      (rose_since (w.asked (place_of o.request.id) it.aim.pp.disk) it.aim.faults (s.device.counts.faults it.aim.pp.disk) (faults.asked place o it.number it.aim there waits it.there)
-      (all_at (IsCaused s.device core) o.request.targets.items it.number it.aim (all_at (AreCaused s.device core) core.requests place o (sound.on tied.orderly.on).caused there waits) it.there
-      (ap (λ b. b || (it.aim.usable && is_blamed core it.aim.pp)) it.failed))))
+      (rose_since (w.asked (place_of o.request.id) it.aim.pp.disk) it.aim.faults (s.device.counts.faults it.aim.pp.disk) (faults.asked place o it.number it.aim there it.there)
+      (target_failed place o there c it)))
 
-  queued_failed : (i : ℕ) (q : Queued) (c : Pp) → v.queue i ≡ Some q → q.step ≡ false → has_landed q.phase ≡ false → q.targets c ≡ Some Badly → Rose (w.asked i c.disk) (w.now c.disk)
-  queued_failed i q c at no_step no_landing bad = by (tied.sees.only i q at)
+  -- a source that was tried in vain stands on a disk that has failed since the copy was opened
+  tried_failed : (copy : Bringing) → core.copy ≡ Some copy → (disk : ℕ) → has copy.tried disk ≡ true → Rose (w.asked copy.place disk) (w.now disk)
+  tried_failed copy is_open disk tried =
+      let copies = copies_in core.descriptor copy.lv copy.lp in
+      let one = numbered (λ (p : Pp). not (is_pp p copy.pp) && p.disk == disk) copies ((copy_is past s tied copy is_open).tried disk tried) in
+      let same : one.1.disk ≡ disk = eqb-true one.1.disk disk (and_both (not (is_pp one.1 copy.pp)) (one.1.disk == disk) one.3).1 in
+      let caused : IsCopyCaused s copies copy = subst (λ (m : Option Bringing). IfSome m (λ (x : Bringing). IsCopyCaused s (copies_in core.descriptor x.lv x.lp) x)) is_open sound.copy in
+      subst (λ d. Rose (w.asked copy.place d) (w.now d)) same
+      (subst (Rose (w.asked copy.place one.1.disk)) (sym (faults.now one.1.disk))
+      (rose_since (w.asked copy.place one.1.disk) (faults_at_opening copy one.0) (s.device.counts.faults one.1.disk) (faults.opened copy one.0 one.1 is_open one.2)
+      (caused.tried one.0 one.1 one.2 (ap (has copy.tried) same ∙ tried))))
+
+  failed_is : (i : ℕ) (q : Queued) (c : Pp) → v.queue i ≡ Some q → q.targets c ≡ Some Badly → Rose (w.asked i c.disk) (w.now c.disk)
+  failed_is i q c at bad = by (tied.sees.only i q at)
     where
       of_request : IsRequestAt core i → Rose (w.asked i c.disk) (w.now c.disk)
       of_request it =
           let seen = tied.sees.requests it.place it.request it.there in
           let same : seen.0 ≡ q = (let e : Some seen.0 ≡ Some q = sym seen.1 ∙ ap v.queue it.its ∙ at in cc e) in
           let stage : stage_at it.request.request.targets.items c ≡ Some Badly = sym (seen.2.targets c) ∙ ap (λ (x : Queued). x.targets c) same ∙ bad in
-          let phase : has_landed (phase_seen it.request.request.phase (is_begun it.request.request.targets.items)) ≡ false = ap has_landed (sym seen.2.phase) ∙ ap (λ (x : Queued). has_landed x.phase) same ∙ no_landing in
-          subst (λ (j : ℕ). Rose (w.asked j c.disk) (w.now c.disk)) it.its (request_failed it.place it.request it.there (waits it.place it.request it.there phase) c (failed_on it.request.request.targets.items c stage))
-        where
-          waits : (place : ℕ) (o : Open) → slice_get core.requests place ≡ Some o → has_landed (phase_seen o.request.phase (is_begun o.request.targets.items)) ≡ false → is_waiting o ≡ true
-          waits place o there phase = so (is_waiting o) refl
-            where
-              so : (b : Bool) → is_waiting o ≡ b → b ≡ true
-              so true is = refl
-              so false is = so_false (sym (ap (λ (p : RequestPhase). has_landed (phase_seen p (is_begun o.request.targets.items))) ((open_one s tied.write tied.orderly place o there).over is).phase_is) ∙ phase)
+          subst (λ (j : ℕ). Rose (w.asked j c.disk) (w.now c.disk)) it.its (request_failed it.place it.request it.there c (failed_on it.request.request.targets.items c stage))
 
       of_step : IsStepAt core i → Rose (w.asked i c.disk) (w.now c.disk)
       of_step it =
           let seen = tied.sees.a_step it.copy it.is_open it.row in
           let same : seen.0 ≡ q = (let e : Some seen.0 ≡ Some q = sym seen.1 ∙ ap v.queue it.its ∙ at in cc e) in
-          so_false (sym seen.2.step ∙ ap (λ (x : Queued). x.step) same ∙ no_step)
+          subst (λ (j : ℕ). Rose (w.asked j c.disk) (w.now c.disk)) it.its (tried_failed it.copy it.is_open c.disk (seen.2.failed c (ap (λ (x : Queued). x.targets c) same ∙ bad)))
 
       by : IsRequestAt core i ⊎ IsStepAt core i → Rose (w.asked i c.disk) (w.now c.disk)
       by (inl it) = of_request it
       by (inr it) = of_step it
 
-  failed_is : (i : ℕ) (r : Queued) (c : Pp) → (with_open_alone v).queue i ≡ Some r → r.targets c ≡ Some Badly → Rose (w.asked i c.disk) (w.now c.disk)
-  failed_is i r c there bad = by (v.queue i) refl there
-    where
-      by : (m : Option Queued) → v.queue i ≡ m → option_and_then still_open m ≡ Some r → Rose (w.asked i c.disk) (w.now c.disk)
-      by None none e = absurd (cc e)
-      by (Some q) at e = let it = open_of q r e in queued_failed i q c at it.step it.landed (ap (λ (x : Queued). x.targets c) it.its ∙ bad)
-
   -- ---- what the history tells
 
-  had_none : (r : Asked) → HadNone core r → HadNoCopy w (with_open_alone v) r
+  had_none : (r : Asked) → HadNone core r → HadNoCopy w v r
   had_none r had lv b c over copy =
       let block = tied.describes.volumes.inside lv b c copy in
       let one = ((tied.describes.volumes.copies block.row block.lp b c block.volume block.inside).0 (subst (λ n. IsTrue (v.is_copy n b c)) (sym block.number) copy)).0 in
@@ -267,7 +271,7 @@ module _ (past first : List Fact) (s : Session) (w : Faults) (tied : IsTied past
           by false true stale missing e = inr (gone c.disk missing)
           by false false stale missing e = so_false e
 
-  landing_is : (r : Asked) (how : Outcome) → HasLandedFor s r how → LandingIsCaused w (with_open_alone v) r how
+  landing_is : (r : Asked) (how : Outcome) → HasLandedFor s r how → LandingIsCaused w v r how
   landing_is r outcome.Lost why = (why.0, failed_of why.0 why.1)
   landing_is r outcome.ReadFailed why = (why.0, failed_of why.0 why.1)
   landing_is r outcome.Off why = λ none. none why.0 (failed_of why.0 why.1)
@@ -277,7 +281,7 @@ module _ (past first : List Fact) (s : Session) (w : Faults) (tied : IsTied past
   landing_is r outcome.Got why = tt
   landing_is r outcome.Dark why = tt
 
-  entry_is : (f : Fact) → IsEntryCaused s f → FactIsCaused w (with_open_alone v) f
+  entry_is : (f : Fact) → IsEntryCaused s f → FactIsCaused w v f
   entry_is (Landed r how started got) why = landing_is r how why
   entry_is (Making lv blocks mode) why = tt
   entry_is (Made lv) why = tt
@@ -289,14 +293,14 @@ module _ (past first : List Fact) (s : Session) (w : Faults) (tied : IsTied past
   entry_is Cut why = tt
   entry_is (On moment) why = tt
 
-  landed_is : Since w (with_open_alone v) v.facts
+  landed_is : Since w v v.facts
   landed_is = record {
     since = causes.since;
     is = tied.sees.facts ∙ ap (λ (fs : List Fact). past ++ fs) causes.is ∙ sym (append_assoc past first causes.since) ∙ ap (λ (fs : List Fact). fs ++ causes.since) (sym faults.past_is);
     caused = all_entries causes.since causes.caused;
   }
     where
-      all_entries : (fs : List Fact) → AllByRecursion (IsEntryCaused s) fs → AllByRecursion (FactIsCaused w (with_open_alone v)) fs
+      all_entries : (fs : List Fact) → AllByRecursion (IsEntryCaused s) fs → AllByRecursion (FactIsCaused w v) fs
       all_entries [] all = tt
       all_entries (f ∷ fs) all = (entry_is f all.0, all_entries fs all.1)
 
@@ -315,7 +319,8 @@ faults_are_there past first s sound = (
     began = λ d. refl;
     asked_since = λ i d. omega arith;
     asked_before = λ i d. sound.origin.since d;
-    asked = λ place o number t there waits at. (all_at (IsCounted s) o.request.targets.items number t (all_at (AreCounted s) s.core.requests place o sound.counted there) at).began;
+    asked = λ place o number t there at. (all_at (IsCounted s) o.request.targets.items number t (all_at (AreCounted s) s.core.requests place o sound.counted there) at).began;
+    opened = λ c number p is_open at. (subst (λ (m : Option Bringing). IfSome m (λ (x : Bringing). IsCopyCaused s (copies_in s.core.descriptor x.lv x.lp) x)) is_open sound.copy).began number p at;
     missing = λ d. refl;
     stale = λ p. refl;
     past_is = refl;

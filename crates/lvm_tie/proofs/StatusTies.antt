@@ -223,7 +223,7 @@ module _ (past : List Fact) (old new : Session) (starts : StartsStatus old new) 
   sees : Sees past core2 w
   sees = record {
     requests = tied.sees.requests;
-    a_step = λ c is has. let s = tied.sees.a_step c is has in (s.0, s.1, record { lv = s.2.lv; first = s.2.first; count = s.2.count; write = s.2.write; step = s.2.step; hand = s.2.hand });
+    a_step = λ c is has. let s = tied.sees.a_step c is has in (s.0, s.1, record { lv = s.2.lv; first = s.2.first; count = s.2.count; write = s.2.write; step = s.2.step; hand = s.2.hand; failed = s.2.failed });
     only = λ j q at. ⊎_elim
         (λ (r : IsRequestAt old.core j). inl (record { place = r.place; request = r.request; there = r.there; its = r.its }))
         (λ (r : IsStepAt old.core j). inr (record { copy = r.copy; is_open = r.is_open; row = r.row; its = r.its }))

@@ -187,7 +187,7 @@ module _ (past : List Fact) (old new : Session) (index disk : ℕ) (ok : Bool) (
         → ((y : Stamped Status) → update_of status ≡ Some y → is_held (seen status) ≡ true → reviewed.committed ≡ as_marks y) → Sees past core2 (record (with_update_in x) { open_copy = v.open_copy })
     sees x flies stands held = record {
       requests = tied.sees.requests;
-      a_step = λ c is there. let s = tied.sees.a_step c is there in (s.0, s.1, record { lv = s.2.lv; first = s.2.first; count = s.2.count; write = s.2.write; step = s.2.step; hand = s.2.hand });
+      a_step = λ c is there. let s = tied.sees.a_step c is there in (s.0, s.1, record { lv = s.2.lv; first = s.2.first; count = s.2.count; write = s.2.write; step = s.2.step; hand = s.2.hand; failed = s.2.failed });
       only = λ j q at. ⊎_elim
           (λ (r : IsRequestAt core j). inl (record { place = r.place; request = r.request; there = r.there; its = r.its }))
           (λ (r : IsStepAt core j). inr (record { copy = r.copy; is_open = r.is_open; row = r.row; its = r.its }))

@@ -58,7 +58,7 @@ module _ (past : List Fact) (core : Core) (v : State) (c d : Bringing) (pool : L
   w = record v { queue = queue; name = name; media = with_block v.media block; open_copy = open_copy; step_write = None }
 
   step_of_it : (r : has_row core d ≡ true) → (x : Queued) × (queue d.place ≡ Some x) × SeesStep core2 d x
-  step_of_it r = let s = its.a_step r in (s.0, s.1, record { lv = s.2.lv; first = s.2.first; count = s.2.count; write = s.2.write; step = s.2.step; hand = s.2.hand })
+  step_of_it r = let s = its.a_step r in (s.0, s.1, record { lv = s.2.lv; first = s.2.first; count = s.2.count; write = s.2.write; step = s.2.step; hand = s.2.hand; failed = s.2.failed })
 
   step_here : (e : Bringing) → d ≡ e → has_row core e ≡ true → (x : Queued) × (queue e.place ≡ Some x) × SeesStep core2 e x
   step_here e same r = subst (λ (y : Bringing). (x : Queued) × (queue y.place ≡ Some x) × SeesStep core2 y x) same (step_of_it (subst (λ (y : Bringing). has_row core y ≡ true) (sym same) r))

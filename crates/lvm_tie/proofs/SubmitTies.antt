@@ -250,7 +250,7 @@ module _ (past : List Fact) (old : Session) (client : ℕ) (ask : Ask) (bytes : 
           subst (λ (x : Open). SeesRequest x q) (sym is.1) (record { lv = refl; first = refl; count = refl; write = refl; step = refl; phase = refl; several = refl; targets = λ c. refl; got = λ buf none. absurd cc }),
         ))
         (one_more core.requests o p k at);
-    a_step = λ c is has. let s = tied.sees.a_step c is has in (s.0, put_there c.place (may.step c is has) ∙ s.1, record { lv = s.2.lv; first = s.2.first; count = s.2.count; write = s.2.write; step = s.2.step; hand = s.2.hand });
+    a_step = λ c is has. let s = tied.sees.a_step c is has in (s.0, put_there c.place (may.step c is has) ∙ s.1, record { lv = s.2.lv; first = s.2.first; count = s.2.count; write = s.2.write; step = s.2.step; hand = s.2.hand; failed = s.2.failed });
     only = λ j e at. elim (cases_eq j i) [
       | inl is ↦ inl (record { place = length core.requests; request = o; there = last_there core.requests o; its = sym is })
       | inr ne ↦ let test : (j == i) ≡ false = grind (arith, nat_tests) in ⊎_elim

@@ -115,7 +115,7 @@ module _ (past : List Fact) (old : Session) (place : ℕ) (o : Open) (tied : IsT
   sees1 : Sees past core1 (record v { queue = left })
   sees1 = record {
     requests = λ k p is. let r = was_there core.requests place k p is in let s = tied.sees.requests r.at p r.there in (s.0, elsewhere (place_of p.request.id) (apart r.at p r.there r.other) ∙ s.1, s.2);
-    a_step = λ c is row. let s = tied.sees.a_step c is row in (s.0, elsewhere c.place (step_apart c is row) ∙ s.1, record { lv = s.2.lv; first = s.2.first; count = s.2.count; write = s.2.write; step = s.2.step; hand = s.2.hand });
+    a_step = λ c is row. let s = tied.sees.a_step c is row in (s.0, elsewhere c.place (step_apart c is row) ∙ s.1, record { lv = s.2.lv; first = s.2.first; count = s.2.count; write = s.2.write; step = s.2.step; hand = s.2.hand; failed = s.2.failed });
     only = λ j e is. elim (cases_eq j i) [
       | inl same ↦ absurd (let n : None ≡ Some e = sym (gone j same) ∙ is in cc)
       | inr ne ↦ ⊎_elim

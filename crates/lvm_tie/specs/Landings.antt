@@ -1,16 +1,21 @@
 -- Why each request has landed so that landed since the session began, also one whose answer was taken.
-use Rattle.std.specs.Prelude.{◌≡◌, ◌⊎◌, ◌++◌, ℕ, Bool, true, false, List, Option, Result}
+use Rattle.std.specs.Prelude.{◌≡◌, ◌⊎◌, ◌++◌, ℕ, Bool, true, false, List, [], Option, Result}
 use Rattle.std.specs.List.{AllByRecursion}
 use Rattle.lvm_num.specs.declared.place.Pp.{Pp}
 use Rattle.lvm_num.specs.Geometry.{partition_of}
 use Rattle.lvm_disk.specs.declared.shelf.Arrange.{Arrange}
+use Rattle.lvm_disk.specs.Device.{Device}
 use Rattle.lvm_vol.specs.declared.entry.Outcome.{Outcome}
 use Rattle.lvm_vol.specs.declared.entry.Outcome.TheVariants as outcome
 use Rattle.lvm_vol.specs.declared.entry.Vol.TheVariants.{Lv}
 use Rattle.lvm_vol.specs.Facts.{Request as Asked, Fact, Making, Made, Split, Removing, Removed, Begun, Landed, Taken, Cut, On, is_over}
 use Rattle.lvm_path.specs.declared.ask.Ask.{Ask}
+use Rattle.lvm_path.specs.declared.target.Target.{Target}
+use Rattle.lvm_path.specs.Targets.{is_failed}
+use Rattle.lvm_session.specs.declared.open.Open.{Open}
+use Rattle.lvm_session.specs.declared.open.Power.TheVariants as power
 use Rattle.lvm_session.specs.State.{Core, State, state}
-use Rattle.lvm_session.specs.Judging.{copies_in}
+use Rattle.lvm_session.specs.Judging.{copies_in, is_waiting}
 use Rattle.lvm_session.specs.declared.answers.AskFault.{AskFault}
 use Rattle.lvm_session.specs.declared.answers.CopyFault.{CopyFault}
 use Rattle.lvm_session.specs.declared.answers.Taken.{Taken as Answer}
@@ -19,7 +24,7 @@ use Rattle.lvm_session.specs.Calls.{Closes, OpenGives, SubmitGives, TakeGives}
 use Rattle.lvm_session.specs.Marks.{is_among}
 use Rattle.lvm_session.specs.Turns.{Arranges, TurnMakes}
 use Rattle.lvm_disk.specs.Counts.{Counts}
-use Rattle.lvm_session.specs.Causes.{AnyFailedSince, was_usable}
+use Rattle.lvm_session.specs.Causes.{AnyFailedSince, HasFailed, was_usable}
 use Rattle.lvm_session.specs.Sound.{IsSound}
 
 -- each copy of what the request goes over was stale, or on a missing disk, when the session began
@@ -50,17 +55,22 @@ IsEntryCaused s (Taken r) = Unit {0}
 IsEntryCaused s Cut = Unit {0}
 IsEntryCaused s (On moment) = Unit {0}
 
--- The history goes on from what it was, and each landing since has its cause.
+-- once it has landed, a target on which its transfer failed stands on a disk that has failed since the target was chosen
+abbrev pub FailuresAreCaused : Device → Open → Type 0
+FailuresAreCaused device o = is_waiting o ≡ false → AllByRecursion (λ (t : Target). is_failed t.state ≡ true → HasFailed device t) o.request.targets.items
+
+-- The history goes on from what it was, and each landing since has its cause; so has each transfer that failed of a request that has landed, while the session is on.
 pub record HasCausesSince (first : List Fact) (s : State) : Type 0 where
   pub since : List Fact
   pub is : s.core.history.facts ≡ first ++ since
   pub caused : AllByRecursion (IsEntryCaused s) since
+  pub failed : s.core.power ≡ power.On → AllByRecursion (FailuresAreCaused s.device) s.core.requests
 
 -- ---- laws
 
--- So it is as a session begins,
+-- So it is as a session begins, without requests,
 abbrev pub BeginningHasCauses : Type 0
-BeginningHasCauses = (s : State) → HasCausesSince s.core.history.facts s
+BeginningHasCauses = (s : State) → s.core.requests ≡ [] → HasCausesSince s.core.history.facts s
 
 -- and each turn of a sound session keeps it so,
 abbrev pub TurnKeepsCauses : Type 0

@@ -17,3 +17,5 @@ pub mod Statuses
 pub mod Notes
 pub mod EndsWrites
 pub mod GoingOn
+pub mod Spares
+pub mod Stamps

@@ -110,7 +110,7 @@ SeesHand (step.Reading source) q = (q.phase ≡ Going) × (q.targets source ≡ 
 SeesHand (step.Read buf) q = (q.phase ≡ Going) × (value : ℕ → Sector) × (q.got ≡ Some value) × ((b : ℕ) → value b ≡ slice_index_or buf.sectors (b - q.first) [])
 SeesHand step.Writing q = (q.phase ≡ Going) × (value : ℕ → Sector) × (q.got ≡ Some value)
 
--- Its step stands in the queue as a read of a whole track group.
+-- Its step stands in the queue as a read of a whole track group, whose failed sources are those that were tried in vain.
 pub record SeesStep (core : Core) (c : Bringing) (q : Queued) : Type 0 where
   pub lv : q.lv ≡ c.lv
   pub first : q.first ≡ block_at core c
@@ -118,6 +118,7 @@ pub record SeesStep (core : Core) (c : Bringing) (q : Queued) : Type 0 where
   pub write : q.write ≡ false
   pub step : q.step ≡ true
   pub hand : SeesHand c.step q
+  pub failed : (p : Pp) → q.targets p ≡ Some Badly → has c.tried p.disk ≡ true
 
 -- ---- notes
 

@@ -65,3 +65,11 @@ pub use writes_laws::{data_end_ties, write_end_ties};
 mod turn_laws;
 
 pub use turn_laws::{calls_go_on, turns_go_on};
+
+mod spares_laws;
+
+pub use spares_laws::{descriptors_are_spared, transfers_leave_descriptors};
+
+mod stamps_laws;
+
+pub use stamps_laws::{crashes_leave_before, moments_stay};

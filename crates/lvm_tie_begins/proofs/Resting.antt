@@ -1,6 +1,6 @@
 -- A session at rest is tied.
 use Rattle.std.proofs.Common.{◌≡◌, inl, ℕ, zero, suc, Bool, true, false, ◌&&◌, ◌++◌, List, [], ◌∷◌, Option, Some, None, slice_get, refl, sym, ap, subst, ◌∙◌}
-use Rattle.std.specs.Prelude.{IsTrue, option_and_then, option_map}
+use Rattle.std.specs.Prelude.{IfSome, IsTrue, option_and_then, option_map}
 use Rattle.std.specs.Option.{option_map_or}
 use Rattle.arrayvec.specs.ArrayVec.{ArrayVec}
 use Rattle.lvm_num.specs.declared.record.NoteEntry.{NoteEntry}
@@ -37,8 +37,9 @@ use Rattle.lvm_rest.proofs.Seen.{rest_is_seen}
 use Rattle.lvm_tie_shelf.specs.Owned.{OnlyUpdateSince}
 use Rattle.lvm_tie.specs.Out.{CarryTheirs, IsWriteOf}
 use Rattle.lvm_tie.specs.Seen.{Sees, SeesCopy, SeesNote, step_write_in, update_of}
+use Rattle.lvm_tie.specs.Spares.{SparesOn}
 use Rattle.lvm_tie.specs.Tied.{IsTied}
-use Rattle.lvm_tie_begins.specs.Begins.{FollowsOn, IsResting, MembersShow, RestTies, StandsAtRest}
+use Rattle.lvm_tie_begins.specs.Begins.{FollowsOn, IsResting, MembersShow, RestSpares, RestTies, StandsAtRest}
 
 pub some_is_none : {A X : Type 0} (o : Option A) (x : A) → o ≡ None → o ≡ Some x → X
 some_is_none None x none some = absurd cc
@@ -220,3 +221,6 @@ module _ (past : List Fact) (s : Session) (media : Media) (sound : IsSound s) (p
 
 pub rest_ties : RestTies
 rest_ties past s media sound power_is rests stands members follows = rest_tied past s media sound power_is rests stands follows members
+
+pub rest_spares : RestSpares
+rest_spares s media stands = subst (λ (o : Option Media). IfSome o (SparesOn s.core)) (sym stands.told) (λ d there. (stands.held.homes d there).descriptor)

@@ -23,6 +23,7 @@ use Rattle.lvm_session_start.specs.declared.parts.Parts.{Parts}
 use Rattle.lvm_session_start.specs.Beginning.{MayBegin, first_core}
 use Rattle.lvm_crash.specs.Session.{members_there}
 use Rattle.lvm_rest.specs.Rest.{IsAtRest, IsEven, NoneIsBehind}
+use Rattle.lvm_tie.specs.Spares.{SparesDescriptors}
 use Rattle.lvm_tie.specs.Tied.{IsGood, IsTied, moment_of}
 
 -- ---- at rest
@@ -73,6 +74,10 @@ MembersShow s media = (d : ℕ) → is_member s.core.descriptor d ≡ true → c
 abbrev pub RestTies : Type 0
 RestTies = (past : List Fact) (s : Session) (media : Media) → IsSound s → s.core.power ≡ power.On → IsResting s.core → StandsAtRest s media
     → MembersShow s media → FollowsOn past s → IsTied past s
+
+-- The next descriptor of each member that isn't missing spares the newest one there.
+abbrev pub RestSpares : Type 0
+RestSpares = (s : Session) (media : Media) → StandsAtRest s media → SparesDescriptors s
 
 -- ---- as it begins
 

@@ -1,5 +1,5 @@
 //! Laws of a session at which nothing is under way, by what stands on its disks. Each call does nothing: its contract is the law.
-ghost use Rattle.lvm_tie_begins.specs.Begins.{BeginsGood, BeginsTied, RestTies, TiedRests};
+ghost use Rattle.lvm_tie_begins.specs.Begins.{BeginsGood, BeginsTied, RestSpares, RestTies, TiedRests};
 
 /// A session at rest is tied, where its disks hold what it says is committed, its usable copies are even, its notes
 /// are home, and each crash image is kept with the history, in which no write is open.
@@ -7,7 +7,12 @@ pub fn rest_ties()
     ensures { RestTies }
 {}
 
-/// So is a session as it begins.
+/// And on each member that isn't missing its next descriptor spares the newest one.
+pub fn rest_spares()
+    ensures { RestSpares }
+{}
+
+/// So is a session tied as it begins.
 pub fn begins_tied()
     ensures { BeginsTied }
 {}

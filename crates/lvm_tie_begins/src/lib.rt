@@ -3,4 +3,4 @@
 
 mod laws;
 
-pub use laws::{begins_good, begins_tied, rest_ties, tied_rests};
+pub use laws::{begins_good, begins_tied, rest_spares, rest_ties, tied_rests};

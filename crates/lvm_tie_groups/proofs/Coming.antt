@@ -169,7 +169,7 @@ module _ (was log : Log) (moment : ℕ) (room : Room) (old : Device) (s : Sessio
   }
 
   few_faults : (disk : ℕ) → faults_at_first s.core disk ≤ s.device.counts.faults disk
-  few_faults disk = subst (λ n. n ≤ s.device.counts.faults disk) (sym (driven.faults.each disk)) (by_test (nat_lt disk (length s.device.sizes)))
+  few_faults disk = subst (λ n. n ≤ s.device.counts.faults disk) (sym (it.faults.each disk)) (by_test (nat_lt disk (length s.device.sizes)))
     where
       by_test : (t : Bool) → (if t then s.device.counts.faults disk else 0) ≤ s.device.counts.faults disk
       by_test true = omega arith

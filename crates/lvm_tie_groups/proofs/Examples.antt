@@ -160,8 +160,8 @@ module _ (mode : Mode) (dirty lost cut : Bool) where
       sectors = are_sectors mode dirty lost;
       ordered = (tt, tt);
       few = omega arith;
-      faults = record { long = length-replicate {A = ℕ} 128 0; each = λ disk. zeros_at 128 disk ∙ sym (nothing (nat_lt disk 2)) };
     };
+    faults = record { long = length-replicate {A = ℕ} 128 0; each = λ disk. zeros_at 128 disk ∙ sym (nothing (nat_lt disk 2)) };
     only = known.only;
     even = record { notes = pairs_have_notes_home.first mode dirty lost; even = even };
   }

@@ -1,16 +1,17 @@
 -- A tied session at rest is settled.
 use Rattle.std.proofs.Common.{◌≡◌, ℕ, suc, ◌+◌, Bool, true, false, ◌||◌, if◌then◌else◌, List, [], ◌∷◌, Option, Some, None, length, replicate, refl, sym, ap, subst, ◌∙◌}
-use Rattle.std.specs.Prelude.{count_by, slice_index_or}
+use Rattle.std.specs.Prelude.{IfSome, count_by, slice_index_or}
 use Rattle.lvm_num.specs.declared.descriptor.Descriptor.{Descriptor}
 use Rattle.lvm_num.specs.declared.record.Kind.TheVariants as kind
 use Rattle.lvm_num.specs.Buffer.{Buffer}
 use Rattle.lvm_num.specs.DescriptorBytes.{descriptor_of}
 use Rattle.lvm_num.specs.Record.{Stamped}
 use Rattle.lvm_num.specs.Status.{calls_missing}
+use Rattle.lvm_num.specs.Votes.{CanWrite}
 use Rattle.lvm_vol.specs.Facts.{Fact}
 use Rattle.lvm_vol.specs.Legal.{Legal}
 use Rattle.lvm_rec.specs.Slots.{newest_on}
-use Rattle.lvm_disk.specs.Device.{Flight, Image, image_of}
+use Rattle.lvm_disk.specs.Device.{Flight, Image, Media, image_of}
 use Rattle.lvm_kept.specs.Contents.{contents_of, descriptor_on, has_records}
 use Rattle.lvm_kept.specs.Kept.{Kept}
 use Rattle.lvm_steps.specs.Moments.{Holds}
@@ -30,11 +31,12 @@ use Rattle.lvm_core.specs.Sound.{HaveAllLanded, IsFitting, IsQuiet, IsSound as I
 use Rattle.lvm_core.specs.Settled.{IsSettled}
 use Rattle.lvm_settled.specs.Settled.{IsKnown}
 use Rattle.lvm_tie.specs.Seen.{update_of}
+use Rattle.lvm_tie.specs.Spares.{SparesOn}
 use Rattle.lvm_tie.specs.Tied.{IsTied, moment_of}
 use Rattle.lvm_tie.proofs.Tied.{tied_matches}
-use Rattle.lvm_tie_begins.specs.Begins.{IsRested, ShowsIts}
+use Rattle.lvm_tie_begins.specs.Begins.{IsRested, IsResting, ShowsIts}
 use Rattle.lvm_tie_begins.proofs.Rested.{tied_rests}
-use Rattle.lvm_tie_groups.specs.Settled.{IsSettledAfter, MayBeLeft, MayServe, TiedSettles}
+use Rattle.lvm_tie_groups.specs.Settled.{IsSettledAfter, MayBeLeft, MayServe, TiedHolds, TiedSettles}
 use Rattle.lvm_tie_groups.proofs.Landing.{calm_since}
 
 -- where no transfer is the session's, none is out
@@ -60,6 +62,35 @@ large_enough image d r shown = by (has_records image d) refl shown
     by : (b : Bool) → has_records image d ≡ b → (if b then newest_on descriptor_of kind.Descriptor (image.sector d) else None) ≡ Some r → has_records image d ≡ true
     by true large shown = large
     by false small shown = absurd (cc shown)
+
+-- ---- what its disks hold
+
+module _ (past : List Fact) (s : Session) (tied : IsTied past s) (resting : IsResting s.core) (votes : CanWrite s.core.descriptor (is_there s.core)) (spares : SparesOn s.core tied.media) where
+  left : (shows : ShowsIts s tied.media) × IsRested past s tied.media shows
+  left = tied_rests past s tied resting votes
+
+  pub its_disks_hold : HoldsCommitted (image_of s.device.sizes tied.media) s.core.descriptor s.core.status.committed (is_there s.core) s.core.status.stamp s.core.homes
+  its_disks_hold = record {
+    shows = left.0;
+    stamps = tied.next.before;
+    there = λ d there. large_enough (image_of s.device.sizes tied.media) d left.0.descriptor (left.0.described d there);
+    homes = λ d there. record {
+      descriptor = spares d there;
+      status = tied.next.spare d there (let idle = (tied.orderly.sound.on tied.orderly.on).going.status.idle resting.in_flight d in λ t. idle.0 t || idle.1 t);
+    };
+  }
+
+  pub its_rest : IsRested past s tied.media its_disks_hold.shows
+  unfolding its_disks_hold
+  its_rest = left.1
+
+pub tied_holds : TiedHolds
+tied_holds past s tied resting votes spares =
+    let at : SparesOn s.core tied.media = subst (λ (o : Option Media). IfSome o (SparesOn s.core)) tied.told spares in
+    subst (λ (o : Option Media). IfSome o (λ media. HoldsCommitted (image_of s.device.sizes media) s.core.descriptor s.core.status.committed (is_there s.core) s.core.status.stamp s.core.homes)) (sym tied.told)
+    (its_disks_hold past s tied resting votes at)
+
+-- ---- and what it carries
 
 module _ (past : List Fact) (s : Session) (tied : IsTied past s) (may : MayBeLeft past s tied.media) where
   abbrev core : Core
@@ -120,6 +151,7 @@ module _ (past : List Fact) (s : Session) (tied : IsTied past s) (may : MayBeLef
     a_buffer = sound.fitting.a_buffer;
     buffers = sound.fitting.buffers;
     last = sound.fitting.last;
+    forgotten = on.going.status.idle;
   }
 
   between : IsSoundBetween s
@@ -149,25 +181,11 @@ module _ (past : List Fact) (s : Session) (tied : IsTied past s) (may : MayBeLef
         (images_kept tied.votes tied.view core.descriptor (update_of core.status) s.device tied.media image tied.are_votes tied.good (tied_matches past s tied) left);
   }
 
-  -- ---- what its disks hold
-
-  left : (shows : ShowsIts s tied.media) × IsRested past s tied.media shows
-  left = tied_rests past s tied may.resting may.votes
-
-  held : HoldsCommitted (image_of s.device.sizes tied.media) core.descriptor core.status.committed (is_there core) core.status.stamp core.homes
-  held = record {
-    shows = left.0;
-    stamps = tied.next.before;
-    there = λ d there. large_enough (image_of s.device.sizes tied.media) d left.0.descriptor (left.0.described d there);
-    homes = λ d there. record { descriptor = may.spare d there; status = tied.next.spare d there (let idle = on.going.status.idle may.resting.in_flight d in λ t. idle.0 t || idle.1 t) };
-  }
-
   known : IsKnown past s tied.media
-  known = record { told = tied.told; sound = between; settled = settled; held = held; holds = holds; only = may.only }
+  known = record { told = tied.told; sound = between; settled = settled; held = its_disks_hold past s tied may.resting may.votes may.spare; holds = holds; only = may.only }
 
-  rested : IsRested past s tied.media held.shows
-  unfolding held
-  rested = left.1
+  rested : IsRested past s tied.media (its_disks_hold past s tied may.resting may.votes may.spare).shows
+  rested = its_rest past s tied may.resting may.votes may.spare
 
   pub settles : IsSettledAfter past s tied.media × MayServe s tied.media
   unfolding known

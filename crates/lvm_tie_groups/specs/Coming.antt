@@ -35,6 +35,7 @@ pub record IsBegun (was : Log) (moment : ℕ) (room : Room) (old : Device) (s : 
   pub room_is : IsRoom room
   pub sound : IsSoundBetween s
   pub started : IsStarted was.run moment old was s
+  pub faults : AreFaults s.device s.core.origin.faults
   pub leaves : BringsOn was.run moment before after old s.device was s.core.history
 
 -- The clock was ahead, and a span led to the call, after which no write was open where none had been.
@@ -45,14 +46,12 @@ pub record LeadsTo (first : Moment) (was : Log) (moment : ℕ) (old : Device) : 
 
 -- ---- what they don't say
 
--- What each shelf that tells its media, each history, and each start of a driver give: whole sectors, entries in their order with room for numbers of four
--- bytes, and how many transfers had failed.
+-- What each shelf that tells its media, and each history give: whole sectors, and entries in their order with room for numbers of four bytes.
 pub record IsDriven (s : Session) (media : Media) : Type 0 where
   pub told : s.device.media ≡ Some media
   pub sectors : AreSectors s.device.sizes media
   pub ordered : Ordered s.core.history.run [] s.core.history.facts
   pub few : s.core.history.room < 2 ^ 32
-  pub faults : AreFaults s.device s.core.origin.faults
 
 -- What recovery leaves: the notes are home, and the usable copies are even.
 pub record IsMadeEven (s : Session) (media : Media) : Type 0 where

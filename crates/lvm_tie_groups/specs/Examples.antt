@@ -5,6 +5,7 @@ use Rattle.lvm_num.specs.Buffer.{zero_sector}
 use Rattle.lvm_vol.specs.Legal.{begins_in}
 use Rattle.lvm_commit.specs.LawsOfVolumes.{IsOneByAllOn}
 use Rattle.lvm_session.specs.State.{State as Session, state}
+use Rattle.lvm_session_start.specs.Beginning.{AreFaults}
 use Rattle.lvm_rest.specs.Examples.{Pair, device_of, even_pair, media_of, past_of}
 use Rattle.lvm_settled.specs.Examples.{core_of}
 use Rattle.lvm_tie.specs.Tied.{IsTied}
@@ -23,6 +24,7 @@ pub record IsServingPair (pair : Pair) (mode : Mode) (cut : Bool) : Type 0 where
   pub tied : IsTied (past_of mode cut) (session_of pair)
   pub left : MayBeLeft (past_of mode cut) (session_of pair) (media_of pair)
   pub driven : IsDriven (session_of pair) (media_of pair)
+  pub faults : AreFaults (device_of pair) (core_of pair).origin.faults
   pub only : IsOneByAllOn (device_of pair)
   pub even : IsMadeEven (session_of pair) (media_of pair)
 

@@ -1,7 +1,5 @@
 -- A settled session, between commands on its group: where it is tied, and what a tied session leaves that is settled again.
-use Rattle.std.specs.Prelude.{◌≡◌, ℕ, ◌<◌, ◌^◌, List, IsTrue, count_by}
-use Rattle.lvm_num.specs.declared.record.Kind.TheVariants as kind
-use Rattle.lvm_num.specs.DescriptorBytes.{descriptor_of}
+use Rattle.std.specs.Prelude.{◌≡◌, ◌<◌, ◌^◌, List, count_by}
 use Rattle.lvm_num.specs.Votes.{CanWrite}
 use Rattle.lvm_vol.specs.Facts.{Fact}
 use Rattle.lvm_vol.specs.Legal.{begins_in}
@@ -9,12 +7,11 @@ use Rattle.lvm_disk.specs.Device.{Media, AreSectors, image_of}
 use Rattle.lvm_kept.specs.Moments.{Calm, Moment}
 use Rattle.lvm_steps.specs.Moments.{Begins}
 use Rattle.lvm_commit.specs.LawsOfVolumes.{IsOneByAllOn}
-use Rattle.lvm_rec.specs.Slots.{slot_for}
-use Rattle.lvm_homes.specs.Homes.{next_slot}
 use Rattle.lvm_session.specs.State.{State as Session, is_there}
 use Rattle.lvm_session.specs.Sound.{IsSound}
-use Rattle.lvm_core.specs.Held.{NotesAreHome}
 use Rattle.lvm_settled.specs.Settled.{IsKnown, IsCarried}
+use Rattle.lvm_core.specs.Held.{IsHeld, NotesAreHome}
+use Rattle.lvm_tie.specs.Spares.{SparesDescriptors, SparesOn}
 use Rattle.lvm_tie.specs.Tied.{IsGood, IsTied}
 use Rattle.lvm_tie_begins.specs.Begins.{IsResting, MembersShow}
 
@@ -51,10 +48,14 @@ SettledServes = (first : Moment) (s : Session) (media : Media)
 pub record MayBeLeft (past : List Fact) (s : Session) (media : Media) : Type 0 where
   pub resting : IsResting s.core
   pub votes : CanWrite s.core.descriptor (is_there s.core)
-  pub spare : (d : ℕ) → IsTrue (is_there s.core d) → next_slot kind.Descriptor s.core.homes d ≡ slot_for descriptor_of kind.Descriptor ((image_of s.device.sizes media).sector d)
+  pub spare : SparesOn s.core media
   pub only : IsOneByAllOn s.device
   pub calm : Calm past
 
 -- It is settled again, and requests may follow.
 abbrev pub TiedSettles : Type 0
 TiedSettles = (past : List Fact) (s : Session) (tied : IsTied past s) → MayBeLeft past s tied.media → IsSettledAfter past s tied.media × MayServe s tied.media
+
+-- The disks of a tied session at rest hold what it says is committed, also where other groups stand beside its own.
+abbrev pub TiedHolds : Type 0
+TiedHolds = (past : List Fact) (s : Session) → IsTied past s → IsResting s.core → CanWrite s.core.descriptor (is_there s.core) → SparesDescriptors s → IsHeld s.device s.core

@@ -1,7 +1,7 @@
 //! Laws of sessions before, between and after commands on their groups. Each call does nothing: its contract is the law.
 ghost use Rattle.lvm_tie_groups.specs.Coming.{MadeAlone, MadeServes, OffIsMadeEven, VariedOnServes};
 ghost use Rattle.lvm_tie_groups.specs.Examples.{PairsServe};
-ghost use Rattle.lvm_tie_groups.specs.Settled.{SettledServes, SettledTies, TiedSettles};
+ghost use Rattle.lvm_tie_groups.specs.Settled.{SettledServes, SettledTies, TiedHolds, TiedSettles};
 
 /// A settled session is tied, with an earlier history that has no request of its run: where it is sound with requests
 /// too, its notes are home, and each member that wasn't missing when it began shows the group.
@@ -17,6 +17,12 @@ pub fn settled_serves()
 /// And a tied session at rest is settled again, with votes enough to write: its disks hold what it says.
 pub fn tied_settles()
     ensures { TiedSettles }
+{}
+
+/// Its disks hold what it says, also where other groups stand beside its own, with votes enough to write and descriptors
+/// whose next ones spare the newest.
+pub fn tied_holds()
+    ensures { TiedHolds }
 {}
 
 /// A session that a varyon has begun is good, by the contract of that call, where its notes are home, its usable copies

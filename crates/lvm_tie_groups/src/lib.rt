@@ -5,5 +5,5 @@ mod laws;
 
 pub use laws::{
     made_alone, made_serves, off_is_made_even, pairs_serve, settled_serves, settled_ties,
-    tied_settles, varied_on_serves,
+    tied_holds, tied_settles, varied_on_serves,
 };

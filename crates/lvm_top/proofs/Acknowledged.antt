@@ -23,13 +23,13 @@ use Rattle.lvm_session.specs.State.{Core, is_there}
 use Rattle.lvm_core.specs.Leaves.{MayBeFound}
 use Rattle.lvm_volumes.specs.Volumes.{IsWith}
 use Rattle.lvm_core.specs.Looking.{IsNumberOf}
-use Rattle.lvm_commands.specs.Groups.{VariesOn, NoVaryonWhileOn, VaryonFails, NoMemoryForLine, NoMkvgWhileOn, MakesGroup, MkvgFails}
+use Rattle.lvm_group_lines.specs.Groups.{VariesOn, NoVaryonWhileOn, VaryonFails, NoMemoryForLine, NoMkvgWhileOn, MakesGroup, MkvgFails}
 use Rattle.lvm_line.specs.Lines.{CommandDoes, LineDoes}
-use Rattle.lvm_commands.specs.Replies.{IsStuck}
-use Rattle.lvm_commands.specs.State.{State}
-use Rattle.lvm_commands.specs.Volumes.{NoGroupForMklv, MakesVolume, MklvFails, NoGroupForRmlv, NoVolumeForRmlv, RemovesVolume, RmlvFails, wanted}
-use Rattle.lvm_commands.specs.declared.reply.Reply.{Reply}
-use Rattle.lvm_commands.specs.declared.reply.Reply.TheVariants as reply
+use Rattle.lvm_stage.specs.Replies.{IsStuck}
+use Rattle.lvm_stage.specs.State.{State}
+use Rattle.lvm_volume_lines.specs.Volumes.{NoGroupForMklv, MakesVolume, MklvFails, NoGroupForRmlv, NoVolumeForRmlv, RemovesVolume, RmlvFails, wanted}
+use Rattle.lvm_stage.specs.declared.reply.Reply.{Reply}
+use Rattle.lvm_stage.specs.declared.reply.Reply.TheVariants as reply
 use Rattle.lvm_top.specs.Standing.{IsToCommit, is_group_command, is_acknowledged, StandsOf, IsCommitted, OfAnother}
 use Rattle.lvm_volume_plan.specs.NewVolume.{without_volume}
 

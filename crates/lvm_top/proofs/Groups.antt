@@ -6,6 +6,7 @@ use Rattle.lvm_io.specs.Count.{Rose}
 use Rattle.lvm_vol.specs.Log.{Log}
 use Rattle.lvm_parse.specs.declared.command.Command.TheVariants as command
 use Rattle.lvm_parse.specs.Grammar.{line_of}
+use Rattle.lvm_parse.proofs.Fields.{line_is_within}
 use Rattle.lvm_stamps.specs.Behind.{IsBehind}
 use Rattle.lvm_begin.specs.Beginning.{new_order}
 use Rattle.lvm_core.specs.declared.parts.Room.{Room}
@@ -13,23 +14,24 @@ use Rattle.lvm_core.specs.declared.refused.Cause.{Cause}
 use Rattle.lvm_core.specs.declared.refused.Cause.TheVariants as cause
 use Rattle.lvm_core.specs.Leaves.{MayBeFound}
 use Rattle.lvm_group.specs.NewGroup.{NewGroup, new_group}
-use Rattle.lvm_commands.specs.Disks.{patience_of_line}
-use Rattle.lvm_commands.specs.Groups.{IsLit, Asks, IsAsked, MkvgDoes, NoMemoryForLine, NoMkvgWhileOn, MakesGroup, MkvgFails, VaryonDoes, NoVaryonWhileOn, VariesOn, VaryonFails, asked_for}
-use Rattle.lvm_commands.specs.Moments.{IsBrokenOff}
-use Rattle.lvm_commands.specs.State.{State, IsTimely, log_with}
-use Rattle.lvm_commands.specs.declared.reply.Reply.{Reply}
-use Rattle.lvm_commands.specs.declared.reply.Reply.TheVariants as reply
-use Rattle.lvm_line.proofs.Asking.{line_is_within}
-use Rattle.lvm_commands.proofs.Coming.{clock_is_ahead, lit_up}
-use Rattle.lvm_commands.proofs.Making.{leaves as making_leaves}
-use Rattle.lvm_commands.proofs.Varying.{leaves as varying_leaves}
+use Rattle.lvm_stage.specs.Ends.{patience_of_line}
+use Rattle.lvm_stage.specs.Lighting.{IsLit}
+use Rattle.lvm_stage.specs.Asking.{Asks, IsAsked}
+use Rattle.lvm_group_lines.specs.Groups.{MkvgDoes, NoMemoryForLine, NoMkvgWhileOn, MakesGroup, MkvgFails, VaryonDoes, NoVaryonWhileOn, VariesOn, VaryonFails, asked_for}
+use Rattle.lvm_stage.specs.Moments.{IsBrokenOff}
+use Rattle.lvm_stage.specs.State.{State, IsTimely, log_with}
+use Rattle.lvm_stage.specs.declared.reply.Reply.{Reply}
+use Rattle.lvm_stage.specs.declared.reply.Reply.TheVariants as reply
+use Rattle.lvm_group_lines.proofs.Coming.{clock_is_ahead}
+use Rattle.lvm_stage.proofs.Lighting.{lit_up}
+use Rattle.lvm_group_lines.proofs.Making.{leaves as making_leaves}
+use Rattle.lvm_group_lines.proofs.Varying.{leaves as varying_leaves}
 use Rattle.lvm_varyon.specs.Varied.{Refuses}
 use Rattle.lvm_varyon.specs.Writing.{order}
 use Rattle.lvm_top.specs.Standing.{MayHaveCommitted}
 use Rattle.lvm_top.proofs.Begun.{IsIts}
 use Rattle.lvm_top.proofs.Devices.{IsShelf, NothingNew, then_nothing, same_nothing, fewer_nothing, unwritten_nothing}
 use Rattle.lvm_top.proofs.Making.{IsAskedFor, none_out, parts_find, refused_finds}
-use Rattle.lvm_top.proofs.Named.{line_has_name}
 use Rattle.lvm_top.proofs.Varying.{written_nothing}
 
 -- ---- the clock
@@ -65,7 +67,7 @@ module _ (log : Log) (old new : State) (answer : Reply) (shelf : IsShelf old.mom
           shelf = shelf;
           ready = ready;
           moment = some_moment old.last new.last asks;
-          named = line_has_name line force name mib disks read;
+          named = within.3;
           a_disk = within.0;
           differ = within.1;
           sized = within.2;

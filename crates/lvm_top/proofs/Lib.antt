@@ -7,7 +7,6 @@ pub mod Scripting
 pub mod Stopping
 pub mod Devices
 pub mod Transfers
-pub mod Named
 pub mod Begun
 pub mod Making
 pub mod Varying

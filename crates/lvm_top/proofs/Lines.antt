@@ -13,12 +13,13 @@ use Rattle.lvm_operands.specs.declared.rest.Misfit.{Misfit}
 use Rattle.lvm_parse.specs.Grammar.{line_of}
 use Rattle.lvm_core.specs.declared.parts.Room.{Room}
 use Rattle.lvm_core.specs.Leaves.{MayBeFound}
-use Rattle.lvm_commands.specs.Disks.{patience_of_line, WriteDoes, ReadDoes, NoWriteWhileOn, WriteFaults, WriteIsDone, NoReadWhileOn, ReadFaults, ReadGets}
-use Rattle.lvm_commands.specs.Groups.{VaryoffDoes, NoVaryoff, VariesOff}
+use Rattle.lvm_stage.specs.Ends.{patience_of_line}
+use Rattle.lvm_disk_lines.specs.Disks.{WriteDoes, ReadDoes, NoWriteWhileOn, WriteFaults, WriteIsDone, NoReadWhileOn, ReadFaults, ReadGets}
+use Rattle.lvm_group_lines.specs.Groups.{VaryoffDoes, NoVaryoff, VariesOff}
 use Rattle.lvm_line.specs.Lines.{LineDoes}
-use Rattle.lvm_commands.specs.Shelves.{ArrangeDoes, NotThere, NotPlanned, IsArranged, CutDoes, CutNotPlanned, PowerIsCut}
-use Rattle.lvm_commands.specs.State.{State, IsTimely, AreHeld}
-use Rattle.lvm_commands.specs.declared.reply.Reply.{Reply}
+use Rattle.lvm_disk_lines.specs.Shelves.{ArrangeDoes, NotThere, NotPlanned, IsArranged, CutDoes, CutNotPlanned, PowerIsCut}
+use Rattle.lvm_stage.specs.State.{State, IsTimely, AreHeld}
+use Rattle.lvm_stage.specs.declared.reply.Reply.{Reply}
 use Rattle.lvm_top.specs.Laws.{LineFindsNoMore}
 use Rattle.lvm_top.specs.Standing.{MayHaveCommitted}
 use Rattle.lvm_top.proofs.Devices.{IsShelf, NothingNew, then_nothing, same_nothing, fewer_nothing}

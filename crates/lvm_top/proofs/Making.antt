@@ -20,9 +20,9 @@ use Rattle.lvm_group.specs.Made.{beginning_for, IsAsBefore, Breaks, Refuses}
 use Rattle.lvm_group.specs.Shown.{IsClear, SparesTold}
 use Rattle.lvm_group.proofs.Groups.{is_there, are_members, valid_group, valid_status, size_positive}
 use Rattle.lvm_group.proofs.Keeping.{IsBeginning, may_begin}
-use Rattle.lvm_commands.specs.Groups.{refusal_of}
-use Rattle.lvm_commands.specs.Moments.{IsBrokenOff}
-use Rattle.lvm_commands.specs.declared.reply.Reply.TheVariants as reply
+use Rattle.lvm_stage.specs.Lighting.{refusal_of}
+use Rattle.lvm_stage.specs.Moments.{IsBrokenOff}
+use Rattle.lvm_stage.specs.declared.reply.Reply.TheVariants as reply
 use Rattle.lvm_top.proofs.Begun.{MayDescribe, IsIts, begun_finds}
 use Rattle.lvm_top.proofs.Devices.{IsShelf, same_nothing, unwritten_nothing}
 

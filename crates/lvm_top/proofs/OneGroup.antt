@@ -36,14 +36,14 @@ use Rattle.lvm_group.specs.NewGroup.{NewGroup, new_group}
 use Rattle.lvm_group.specs.Made.{Refuses}
 use Rattle.lvm_group.specs.Shown.{IfShown, HasGroup}
 use Rattle.lvm_volumes.specs.Volumes.{IsWith}
-use Rattle.lvm_commands.specs.Disks.{patience_of_line}
-use Rattle.lvm_commands.specs.Groups.{MkvgDoes, NoMemoryForLine, NoMkvgWhileOn, MakesGroup, MkvgFails, asked_for}
+use Rattle.lvm_stage.specs.Ends.{patience_of_line}
+use Rattle.lvm_group_lines.specs.Groups.{MkvgDoes, NoMemoryForLine, NoMkvgWhileOn, MakesGroup, MkvgFails, asked_for}
 use Rattle.lvm_line.specs.Lines.{LineDoes}
-use Rattle.lvm_commands.specs.State.{State, IsTimely, AreHeld, log_with}
-use Rattle.lvm_commands.specs.declared.reply.Reply.{Reply}
-use Rattle.lvm_commands.specs.Volumes.{wanted}
-use Rattle.lvm_commands.proofs.Coming.{lit_up}
-use Rattle.lvm_commands.proofs.Making.{leaves as making_leaves}
+use Rattle.lvm_stage.specs.State.{State, IsTimely, AreHeld, log_with}
+use Rattle.lvm_stage.specs.declared.reply.Reply.{Reply}
+use Rattle.lvm_volume_lines.specs.Volumes.{wanted}
+use Rattle.lvm_stage.proofs.Lighting.{lit_up}
+use Rattle.lvm_group_lines.proofs.Making.{leaves as making_leaves}
 use Rattle.lvm_top.specs.Script.{Script, NoLine, NextLine, StaysAlone, Ends, AtLine, InLine, EndsAlone, entry_state, empty_log}
 use Rattle.lvm_top.proofs.Scripting.{script_went}
 use Rattle.lvm_top.specs.Laws.{MayStart}

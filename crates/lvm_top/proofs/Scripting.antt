@@ -18,15 +18,15 @@ use Rattle.lvm_stamps.specs.Behind.{IsBehind, IsAhead}
 use Rattle.lvm_stamps.proofs.Stamps.{later_is_ahead_too}
 use Rattle.lvm_core.specs.declared.parts.Room.{Room}
 use Rattle.lvm_line.specs.Lines.{IsLine}
-use Rattle.lvm_commands.specs.Replies.{reply_text, IsStuck}
-use Rattle.lvm_commands.specs.State.{State, IsTimely, AreHeld}
+use Rattle.lvm_stage.specs.Replies.{reply_text, IsStuck}
+use Rattle.lvm_stage.specs.State.{State, IsTimely, AreHeld}
 use Rattle.lvm_top.specs.Run.{Run, WhereAlone}
 use Rattle.lvm_top.specs.Script.{Stream, Passage, Says, Script, NoLine, NextLine, StaysAlone, Ends, AtLine, InLine, EndsAlone, AreDone, AreAllRead, IsLineLeft, texts_of, is_refused, refusals_in, entry_state, empty_log, facts_of}
 use Rattle.lvm_top.specs.Statuses.{GoesUntil}
 use Rattle.lvm_top.specs.declared.script.Stop.{Stop}
 use Rattle.lvm_top.specs.declared.script.Stop.TheVariants as stop
 use Rattle.lvm_top.specs.Turn.{Comes, Wrote, EndsFor, ReadsLine, ReadsNone, Tells}
-use Rattle.lvm_commands.specs.declared.reply.Reply.{Reply}
+use Rattle.lvm_stage.specs.declared.reply.Reply.{Reply}
 
 -- nothing was read yet
 abbrev pub nothing_read : Reading

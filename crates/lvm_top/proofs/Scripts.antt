@@ -27,13 +27,13 @@ use Rattle.lvm_core.specs.Held.{IsHeld}
 use Rattle.lvm_core.specs.Settled.{IsSettled as IsSettledCore}
 use Rattle.lvm_session.specs.State.{Core}
 use Rattle.lvm_core.specs.Leaves.{MayBeFound}
-use Rattle.lvm_commands.specs.Groups.{VaryonDoes, NoVaryonWhileOn, VariesOn, VaryonFails}
+use Rattle.lvm_group_lines.specs.Groups.{VaryonDoes, NoVaryonWhileOn, VariesOn, VaryonFails}
 use Rattle.lvm_line.specs.Lines.{LineDoes, IsLine}
-use Rattle.lvm_commands.specs.Moments.{IsAlone}
-use Rattle.lvm_commands.specs.Replies.{IsStuck}
-use Rattle.lvm_commands.specs.State.{State, AreHeld}
-use Rattle.lvm_commands.specs.declared.reply.Reply.{Reply}
-use Rattle.lvm_commands.specs.declared.reply.Reply.TheVariants as reply
+use Rattle.lvm_stage.specs.Moments.{IsAlone}
+use Rattle.lvm_stage.specs.Replies.{IsStuck}
+use Rattle.lvm_stage.specs.State.{State, AreHeld}
+use Rattle.lvm_stage.specs.declared.reply.Reply.{Reply}
+use Rattle.lvm_stage.specs.declared.reply.Reply.TheVariants as reply
 use Rattle.lvm_top.specs.Script.{Says, Script, NoLine, NextLine, StaysAlone, Ends, AtLine, InLine, EndsAlone, entry_state, empty_log}
 use Rattle.lvm_top.proofs.Scripting.{script_went, begins_timely}
 use Rattle.lvm_top.specs.Laws.{MayStart, ScriptFindsWhatStands, VaryonFindsWhatStands, RunMayStart, RunFindsWhatStands}

@@ -8,10 +8,10 @@ use Rattle.lvm_num.specs.Buffer.{Buffer}
 use Rattle.lvm_stamps.specs.Behind.{IsBehind, IsAhead}
 use Rattle.lvm_stamps.proofs.Stamps.{later_is_ahead_too}
 use Rattle.lvm_core.specs.declared.parts.Room.{Room}
-use Rattle.lvm_commands.specs.Stages.{shelf_in, history_in, session_in, state_in, IsSettledStage, GivesBack}
-use Rattle.lvm_commands.specs.declared.stage.Stage.{Stage}
-use Rattle.lvm_commands.specs.declared.stage.Stage.TheVariants as stage
-use Rattle.lvm_commands.specs.State.{State, without_facts}
+use Rattle.lvm_stage.specs.Stages.{shelf_in, history_in, session_in, state_in, IsSettledStage, GivesBack}
+use Rattle.lvm_stage.specs.declared.stage.Stage.{Stage}
+use Rattle.lvm_stage.specs.declared.stage.Stage.TheVariants as stage
+use Rattle.lvm_stage.specs.State.{State, without_facts}
 use Rattle.lvm_top.specs.Run.{Run, IsClosed, IsRun, Promises, ran}
 use Rattle.lvm_top.specs.Script.{Stream, Passage, StaysAlone, EndsAlone, empty_log, entry_state}
 use Rattle.lvm_top.proofs.Firsts.{first_upheld}

@@ -12,12 +12,12 @@ use Rattle.lvm_core.specs.Looking.{IsNumberOf}
 use Rattle.lvm_session.specs.State.{Core, State as Session, state}
 use Rattle.lvm_core.specs.Leaves.{MayBeFound}
 use Rattle.lvm_volumes.specs.Volumes.{IsWith, IsChosen, MklvGives, RmlvGives}
-use Rattle.lvm_commands.specs.Disks.{patience_of_line}
-use Rattle.lvm_commands.specs.Moments.{IsBrokenOff}
-use Rattle.lvm_commands.specs.State.{State, AreHeld}
-use Rattle.lvm_commands.specs.Volumes.{IsDone, StaysOn, MklvDoes, RmlvDoes, NoGroupForMklv, MakesVolume, MklvFails, NoGroupForRmlv, NoVolumeForRmlv, RemovesVolume, RmlvFails, MklvEnds, RmlvEnds, ends_session, refusal_for, wanted}
-use Rattle.lvm_commands.specs.declared.reply.Reply.{Reply}
-use Rattle.lvm_commands.specs.declared.reply.Reply.TheVariants as reply
+use Rattle.lvm_stage.specs.Ends.{patience_of_line}
+use Rattle.lvm_stage.specs.Moments.{IsBrokenOff}
+use Rattle.lvm_stage.specs.State.{State, AreHeld}
+use Rattle.lvm_volume_lines.specs.Volumes.{IsDone, StaysOn, MklvDoes, RmlvDoes, NoGroupForMklv, MakesVolume, MklvFails, NoGroupForRmlv, NoVolumeForRmlv, RemovesVolume, RmlvFails, MklvEnds, RmlvEnds, ends_session, refusal_for, wanted}
+use Rattle.lvm_stage.specs.declared.reply.Reply.{Reply}
+use Rattle.lvm_stage.specs.declared.reply.Reply.TheVariants as reply
 use Rattle.lvm_top.specs.Standing.{MayHaveCommitted}
 use Rattle.lvm_top.proofs.Devices.{NothingNew, same_nothing}
 use Rattle.lvm_volume_plan.specs.declared.fault.GroupFault.{GroupFault}

@@ -10,8 +10,8 @@ use Rattle.lvm_steps.specs.Moments.{IsEarlier}
 use Rattle.lvm_stamps.specs.Behind.{IsBehind}
 use Rattle.lvm_core.specs.declared.parts.Room.{Room}
 use Rattle.lvm_core.specs.Leaves.{MayBeFound}
-use Rattle.lvm_commands.specs.State.{State}
-use Rattle.lvm_commands.specs.declared.reply.Reply.{Reply}
+use Rattle.lvm_stage.specs.State.{State}
+use Rattle.lvm_stage.specs.declared.reply.Reply.{Reply}
 use Rattle.lvm_top.specs.Run.{Run, IsRun, RanAlone}
 use Rattle.lvm_top.specs.Script.{Script, NoLine, NextLine, StaysAlone, Ends, AtLine, InLine}
 use Rattle.lvm_top.specs.Sim.{IsToldBlank}

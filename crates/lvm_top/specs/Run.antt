@@ -9,7 +9,7 @@ use Rattle.lvm_vol.specs.Legal.{Legal}
 use Rattle.lvm_vol.specs.Log.{Log}
 use Rattle.lvm_stamps.specs.Behind.{IsBehind, IsAhead}
 use Rattle.lvm_core.specs.declared.parts.Room.{Room}
-use Rattle.lvm_commands.specs.State.{State}
+use Rattle.lvm_stage.specs.State.{State}
 use Rattle.lvm_top.specs.Script.{Passage, AreDone, AreAllRead, IsLineLeft, EndsStuck, StaysAlone, EndsAlone, empty_log, entry_state, facts_of, run_of}
 use Rattle.lvm_top.specs.Statuses.{at_end, IsAtEnd}
 use Rattle.lvm_top.specs.declared.status.ExitStatus.{ExitStatus}

@@ -9,12 +9,12 @@ use Rattle.lvm_vol.specs.Facts.{Fact}
 use Rattle.lvm_vol.specs.Log.{Log}
 use Rattle.lvm_core.specs.declared.parts.Room.{Room}
 use Rattle.lvm_line.specs.Lines.{IsLine}
-use Rattle.lvm_commands.specs.Moments.{IsAlone}
-use Rattle.lvm_commands.specs.Replies.{reply_text, IsStuck}
-use Rattle.lvm_commands.specs.State.{State}
-use Rattle.lvm_commands.specs.declared.reply.Refusal.TheVariants as refusal
-use Rattle.lvm_commands.specs.declared.reply.Reply.{Reply}
-use Rattle.lvm_commands.specs.declared.reply.Reply.TheVariants as reply
+use Rattle.lvm_stage.specs.Moments.{IsAlone}
+use Rattle.lvm_stage.specs.Replies.{reply_text, IsStuck}
+use Rattle.lvm_stage.specs.State.{State}
+use Rattle.lvm_stage.specs.declared.reply.Refusal.TheVariants as refusal
+use Rattle.lvm_stage.specs.declared.reply.Reply.{Reply}
+use Rattle.lvm_stage.specs.declared.reply.Reply.TheVariants as reply
 
 abbrev pub is_refused : Reply → Bool
 is_refused (reply.Refused why) = true

@@ -13,12 +13,12 @@ use Rattle.lvm_session.specs.State.{Core}
 use Rattle.lvm_group.specs.NewGroup.{new_group}
 use Rattle.lvm_volumes.specs.Volumes.{IsWith}
 use Rattle.lvm_core.specs.Leaves.{MayBeFound}
-use Rattle.lvm_commands.specs.Groups.{asked_for}
-use Rattle.lvm_commands.specs.Moments.{IsBrokenOff}
-use Rattle.lvm_commands.specs.State.{State}
-use Rattle.lvm_commands.specs.Volumes.{wanted}
-use Rattle.lvm_commands.specs.declared.reply.Reply.{Reply}
-use Rattle.lvm_commands.specs.declared.reply.Reply.TheVariants as reply
+use Rattle.lvm_group_lines.specs.Groups.{asked_for}
+use Rattle.lvm_stage.specs.Moments.{IsBrokenOff}
+use Rattle.lvm_stage.specs.State.{State}
+use Rattle.lvm_volume_lines.specs.Volumes.{wanted}
+use Rattle.lvm_stage.specs.declared.reply.Reply.{Reply}
+use Rattle.lvm_stage.specs.declared.reply.Reply.TheVariants as reply
 use Rattle.lvm_top.specs.Script.{Script, NoLine, NextLine, Ends, AtLine, InLine}
 use Rattle.lvm_volume_plan.specs.NewVolume.{without_volume}
 

@@ -9,12 +9,12 @@ ghost use Rattle.lvm_top.specs.Statuses.{status_of};
 
 use crate::script::{Stop, do_lines};
 use crate::status::ExitStatus;
-use lvm_commands::Stage;
 use lvm_core::{Closed, Room};
 use lvm_disk::Shelf;
 use lvm_history::History;
 use lvm_io::{Clock, Lines, Sink, Source};
 use lvm_memory::MemShelf;
+use lvm_stage::Stage;
 use std::alloc::Global;
 
 /// How a run ended.

@@ -3,19 +3,19 @@ ghost use Rattle.std.specs.Prelude.{◌≡◌, ◌⊎◌, ◌↔◌, ◌+◌, �
 ghost use Rattle.lvm_io.specs.Count.{Rose};
 ghost use Rattle.lvm_io.specs.Stream.{WhereTold, WritesFront};
 ghost use Rattle.lvm_core.specs.Starting.{IsRoom};
-ghost use Rattle.lvm_commands.specs.Replies.{reply_text, IsStuck};
-ghost use Rattle.lvm_commands.specs.Stages.{shelf_in, history_in, session_in, state_in, IsSettledStage};
-ghost use Rattle.lvm_commands.specs.State.{without_facts};
+ghost use Rattle.lvm_stage.specs.Replies.{reply_text, IsStuck};
+ghost use Rattle.lvm_stage.specs.Stages.{shelf_in, history_in, session_in, state_in, IsSettledStage};
+ghost use Rattle.lvm_stage.specs.State.{without_facts};
 ghost use Rattle.lvm_top.specs.Script.{Says, is_refused, passage};
 ghost use Rattle.lvm_top.specs.Statuses.{GoesUntil};
 ghost use Rattle.lvm_top.specs.Turn.{ReadsLine, ReadsNone, Tells};
 
-use lvm_commands::{Refusal, Reply, Stage, memory_text, refusal_line};
 use lvm_core::Room;
 use lvm_disk::Shelf;
 use lvm_io::{Clock, Lines, NextLine, Sink, SinkFault, Source, write_all};
 use lvm_line::{answer_line, do_line};
 use lvm_num::{Memory, Rows};
+use lvm_stage::{Refusal, Reply, Stage, memory_text, refusal_line};
 use std::alloc::Global;
 
 // Why a run ends before the input does.

@@ -1,5 +1,5 @@
 -- The reading, the plan and the writes together.
-use Rattle.std.proofs.Common.{◌≡◌, ◌≢◌, inl, inr, ℕ, ◌+◌, ◌-◌, ◌<◌, ◌≤◌, List, Option, Some, None, refl, sym, ap, subst, ◌∙◌, arith}
+use Rattle.std.proofs.Common.{◌≡◌, ◌≢◌, inl, inr, ℕ, ◌+◌, ◌-◌, ◌<◌, ◌≤◌, List, Option, Some, None, Result, Ok, Err, refl, sym, ap, subst, ◌∙◌, arith}
 use Rattle.std.proofs.lemmas.Bool.{cases_lt}
 use Rattle.std.specs.Prelude.{IsTrue, not, ◌^◌, IfSome}
 use Rattle.lvm_num.specs.declared.descriptor.Descriptor.{Descriptor}
@@ -30,8 +30,8 @@ use Rattle.lvm_next.specs.Next.{IsNextStatus, has_active}
 use Rattle.lvm_varyon.specs.declared.plan.Plan.{Plan}
 use Rattle.lvm_varyon.specs.Chosen.{answering, last_moment}
 use Rattle.lvm_varyon.specs.Writing.{beginning, order, AllWritten, WasBrokenOff, OneWriteFailed, IsStillOut}
-use Rattle.lvm_varyon.specs.Varied.{HasWritten, AtChoice, WasStopped, Stops, IsAheadOfDisks, IsBrought}
-use Rattle.lvm_varyon.specs.Parts.{IsSurveyOf, StopsReading, NotChosen, IsPlan, StopsWriting}
+use Rattle.lvm_varyon.specs.Varied.{HasWritten, AtChoice, WasStopped, Stops, IsAheadOfDisks, IsBrought, BringGives, brought_of}
+use Rattle.lvm_varyon.specs.Parts.{IsSurveyOf, StopsReading, NotChosen, IsPlan, StopsWriting, AgainWritesGive}
 use Rattle.lvm_varyon.proofs.Seeing.{if_told, answered_by, found_at}
 use Rattle.lvm_varyon.proofs.Beginning.{spared, may_begin, target_answers}
 use Rattle.lvm_varyon.proofs.Placed.{placed}
@@ -142,7 +142,7 @@ module _ (old read : Device) (survey : Survey) (is : IsSurveyOf old read survey)
       when = inr (has_written new off.only.misses (λ group b r. WasBrokenOff b (order group) r new) (subst (λ (parts : List Part). WasBrokenOff (again_beginning moment plan.descriptor plan.status (has plan.targets) plan.homes) parts read new) order_is off));
     }
 
-    pub stops_writing : (why : Cause) → StopsWriting between (again_beginning moment plan.descriptor plan.status (has plan.targets) plan.homes) (again_order plan.forget) read new why → Stops old new name moment before why
+    stops_writing : (why : Cause) → StopsWriting between (again_beginning moment plan.descriptor plan.status (has plan.targets) plan.homes) (again_order plan.forget) read new why → Stops old new name moment before why
     stops_writing (cause.DiskFailed disk) bad = has_written new bad.stops.only.misses (λ group b r. OneWriteFailed b (order group) disk r new)
         (subst (λ (parts : List Part). OneWriteFailed (again_beginning moment plan.descriptor plan.status (has plan.targets) plan.homes) parts disk read new) order_is bad)
     stops_writing cause.Dark off = broken (IsCutOff old new) (cut_off off.0) off.1
@@ -163,7 +163,7 @@ module _ (old read : Device) (survey : Survey) (is : IsSurveyOf old read survey)
     all_written homes well = has_written new well.keeps.misses (λ group b r. AllWritten b (order group) homes r new)
         (subst (λ (parts : List Part). AllWritten (again_beginning moment plan.descriptor plan.status (has plan.targets) plan.homes) parts homes read new) order_is well)
 
-    pub brought : HasSectors old → (homes : Homes) → AllWritten (again_beginning moment plan.descriptor plan.status (has plan.targets) plan.homes) (again_order plan.forget) homes read new → IsBrought old new name moment room plan.parts homes
+    brought : HasSectors old → (homes : Homes) → AllWritten (again_beginning moment plan.descriptor plan.status (has plan.targets) plan.homes) (again_order plan.forget) homes read new → IsBrought old new name moment room plan.parts homes
     brought whole homes well = record {
       written = all_written homes well;
       valid = by.valid;
@@ -172,6 +172,12 @@ module _ (old read : Device) (survey : Survey) (is : IsSurveyOf old read survey)
       may = λ ahead media told. subst (λ (t : Disks). MayBeginAgain (beginning moment by.group by.next t plan.homes) (not (has_active by.group)) by.group by.next (answered_by survey) by.was (image_of old.sizes media)) targets_are
           (may_begin old read survey is name moment some room plan by media told whole (ahead by.chosen.early));
     }
+
+    -- whatever they answer
+    pub brings : HasSectors old → (r : Result Homes Cause) → AgainWritesGive between (again_beginning moment plan.descriptor plan.status (has plan.targets) plan.homes) (again_order plan.forget) read new r
+        → BringGives old new name moment before room (brought_of plan.parts r)
+    brings whole (Ok homes) well = brought whole homes well
+    brings whole (Err why) off = stops_writing why off
 
 -- ---- what stands on the disks
 

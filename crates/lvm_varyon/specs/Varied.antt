@@ -148,3 +148,8 @@ pub record IsBrought (old new : Device) (name : List ℕ) (moment : ℕ) (room :
 abbrev pub BringGives : Device → Device → List ℕ → ℕ → ℕ → Room → Result (Parts × Homes) Cause → Type 0
 BringGives old new name moment patience room (Ok got) = IsBrought old new name moment room got.0 got.1
 BringGives old new name moment patience room (Err why) = Stops old new name moment patience why
+
+-- what the session of these parts begins with, where its records were written
+abbrev pub brought_of : Parts → Result Homes Cause → Result (Parts × Homes) Cause
+brought_of parts (Ok homes) = Ok (parts, homes)
+brought_of parts (Err why) = Err why

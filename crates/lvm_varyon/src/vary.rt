@@ -4,12 +4,13 @@ ghost use Rattle.lvm_disk.specs.Device.{IsReady};
 ghost use Rattle.lvm_disk.specs.Paths.{DeviceStep, Path};
 ghost use Rattle.lvm_steps.specs.Moments.{StaysKept};
 ghost use Rattle.lvm_stamps.specs.Behind.{ClockIsAhead, IsBehind};
+ghost use Rattle.lvm_session_start.specs.Beginning.{AreFaults};
 ghost use Rattle.lvm_core.specs.Sound.{HaveAllLanded};
 ghost use Rattle.lvm_core.specs.Starting.{IsRoom};
 ghost use Rattle.lvm_varyon.specs.Restated.{HasNoConsistency};
 ghost use Rattle.lvm_core.specs.State.{state_of};
 ghost use Rattle.lvm_core.specs.Coming.{BringsOn, IsStarted, shelf_left, history_left};
-ghost use Rattle.lvm_varyon.specs.Varied.{VaryonGives, IsRestated, IsRecovered, BringGives, IsAheadOfDisks, log_after, Stops};
+ghost use Rattle.lvm_varyon.specs.Varied.{VaryonGives, IsRestated, IsRecovered, BringGives, IsAheadOfDisks, brought_of, log_after, Stops};
 ghost use Rattle.lvm_area.specs.Reading.{OnlyReads};
 ghost use Rattle.lvm_write.specs.Parts.{Spends};
 ghost use Rattle.lvm_varyon.specs.Parts.{IsPlannedBy};
@@ -52,6 +53,7 @@ pub fn varyon<S: Shelf>(
     ensures gives { VaryonGives S.device (S.device shelf) history name moment room patience.old.left result }
     // the group is on
     ensures starts { IfOk result (λ driver. IsStarted history.run moment (S.device shelf) history (state_of S.device driver)) }
+    ensures faults { IfOk result (λ driver. AreFaults (S.device driver.0) driver.1.origin.faults) }
     ensures restated { IfOk result (λ driver. ClockIsAhead history.run moment (S.device shelf) history.facts → IsRestated (S.device shelf) (S.device driver.0) driver.1.descriptor) }
     ensures recovered { IfOk result (λ driver. ClockIsAhead history.run moment (S.device shelf) history.facts → HasNoConsistency driver.1.descriptor → IsRecovered (S.device shelf) (S.device driver.0) driver.1.descriptor) }
     // whatever the answer
@@ -107,7 +109,15 @@ fn bring<S: Shelf>(
     ensures kept { IsAheadOfDisks moment (S.device shelf.old) → Path DeviceStep (StaysKept (S.device shelf.old)) (S.device shelf.old) (S.device shelf.new) }
 {
     let (plan, buf) = read_plan(alloc, shelf, name, moment, room, patience)?;
-    match write_plan(shelf, &plan, moment, buf, patience) {
+    let written = write_plan(shelf, &plan, moment, buf, patience);
+    begin_with(plan, written)
+}
+
+// What the session of a plan begins with, where its records were written.
+fn begin_with(plan: Plan, written: Result<Homes, Cause>) -> Result<(Parts, Homes), Cause>
+    ensures { result ≡ brought_of plan.parts written }
+{
+    match written {
         Ok(homes) => Ok((plan.parts, homes)),
         Err(why) => Err(why),
     }

@@ -15,6 +15,7 @@ use Rattle.lvm_map.specs.FirstFit.{IsAllocated, new_volume}
 use Rattle.lvm_map.proofs.Validity.{new_is_valid}
 use Rattle.lvm_steps.specs.Committing.{DiffersInVolume}
 use Rattle.lvm_volume_plan.specs.declared.new_volume.NewVolume.{NewVolume}
+use Rattle.lvm_volume_plan.specs.Faults.{MayHaveCopies}
 use Rattle.lvm_volume_plan.specs.NewVolume.{IsLowestFree, IsInOrder, row_for, with_volume}
 use Rattle.lvm_volume_plan.proofs.Sublists.{all_insert, pairs_insert, one_insert}
 
@@ -30,13 +31,13 @@ module _ (d : Descriptor) (v : NewVolume) (number : ℕ) (map : List Pp) (valid 
 
   -- ---- it is valid
 
-  module _ (named : IsTrue (is_name v.name)) (new_name : All (λ (r : LvRow). r.name ≢ v.name) d.lvs) (one : v.copies ≡ 1) (some : 1 ≤ v.lps) (few : v.lps < 2 ^ 32) (fewer : length d.lvs < most_volumes d.big) where
+  module _ (named : IsTrue (is_name v.name)) (new_name : All (λ (r : LvRow). r.name ≢ v.name) d.lvs) (copies : MayHaveCopies v.copies) (some : 1 ≤ v.lps) (few : v.lps < 2 ^ 32) (fewer : length d.lvs < most_volumes d.big) where
     its : IsVolume d.big row
     its = record {
       a_number = lowest.least;
       number = omega (arith, order.within, fewer);
-      a_copy = omega (arith, one);
-      copies = omega (arith, one);
+      a_copy = copies.0;
+      copies = copies.1;
       a_partition = some;
       partitions = few;
       name = named;

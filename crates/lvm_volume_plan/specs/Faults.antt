@@ -42,14 +42,18 @@ pub record HasNewName (v : NewVolume) (core : Core) : Type 0 where
   pub takes : TakesCommands core
   pub new : HasNoVolume core.descriptor.lvs v.name
 
--- one copy is asked for, since volumes of several aren't made yet;
-pub record HasOneCopy (v : NewVolume) (core : Core) : Type 0 where
+-- a volume may have so many copies
+abbrev pub MayHaveCopies : ℕ → Type 0
+MayHaveCopies copies = (1 ≤ copies) × (copies ≤ 3)
+
+-- one to three copies are asked for;
+pub record HasCopies (v : NewVolume) (core : Core) : Type 0 where
   pub named : HasNewName v core
-  pub one : v.copies ≡ 1
+  pub copies : MayHaveCopies v.copies
 
 -- the group may have a volume more;
 pub record HasNumber (v : NewVolume) (core : Core) : Type 0 where
-  pub single : HasOneCopy v core
+  pub counted : HasCopies v core
   pub fewer : length core.descriptor.lvs < most_volumes core.descriptor.big
 
 -- first fit finds these places on the members that aren't missing;
@@ -81,8 +85,8 @@ RefusesAll core fault.Memory = ⊥
 -- why no volume is made, each cause exactly where it holds and those before it don't; want of memory, which is free, only where none holds that comes before places are looked for
 abbrev pub RefusesMklv : NewVolume → Core → GroupFault → Type 0
 RefusesMklv v core fault.VolumeExists = TakesCommands core × ((number : ℕ) × IsNumberOf core.descriptor.lvs v.name number)
-RefusesMklv v core (fault.CopyLimit now) = HasNewName v core × (v.copies ≡ 1 → ⊥) × (now ≡ 0)
-RefusesMklv v core (fault.TooMany limit) = HasOneCopy v core × (limit ≡ most_volumes core.descriptor.big) × (limit ≤ length core.descriptor.lvs)
+RefusesMklv v core (fault.CopyLimit now) = HasNewName v core × (MayHaveCopies v.copies → ⊥) × (now ≡ 0)
+RefusesMklv v core (fault.TooMany limit) = HasCopies v core × (limit ≡ most_volumes core.descriptor.big) × (limit ≤ length core.descriptor.lvs)
 RefusesMklv v core (fault.NoRoom free) = HasNumber v core × HasNoPlace core.descriptor (is_there core) (new_volume v.lps v.copies) × (free ≡ free_count core.descriptor (is_there core))
 RefusesMklv v core fault.HistoryFull = ((map : List Pp) × HasPlaces v core map) × (HasSpareRoom core → ⊥)
 RefusesMklv v core fault.Memory = HasNumber v core

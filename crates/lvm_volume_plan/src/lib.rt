@@ -6,4 +6,5 @@ mod new_volume;
 mod next;
 
 pub use fault::GroupFault;
-pub use new_volume::{NewVolume, VolumePlan, prepare_without};
+pub use new_volume::{NewVolume, VolumePlan, has_room, prepare_without, takes_commands};
+pub use next::with_volumes;

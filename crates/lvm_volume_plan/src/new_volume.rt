@@ -3,7 +3,7 @@ ghost use Rattle.std.specs.Prelude.{◌≡◌, ◌↔◌, ◌≤◌, ◌<◌, �
 ghost use Rattle.lvm_num.specs.Descriptor.{most_volumes};
 ghost use Rattle.lvm_num.specs.Geometry.{partition_blocks, volume_blocks};
 ghost use Rattle.lvm_core.specs.Settled.{IsSettled};
-ghost use Rattle.lvm_volume_plan.specs.Faults.{TakesCommands, HasSpareRoom, HasNumber, HasPlaces, MayBeMade, RefusesAll, RefusesMklv, RefusesRmlv};
+ghost use Rattle.lvm_volume_plan.specs.Faults.{TakesCommands, HasSpareRoom, MayHaveCopies, HasNumber, HasPlaces, MayBeMade, RefusesAll, RefusesMklv, RefusesRmlv};
 ghost use Rattle.lvm_volume_plan.specs.NewVolume.{row_for, with_volume, without_volume};
 ghost use Rattle.lvm_volume_plan.specs.PlannedVolume.{AreOfOneGroup, IsPlannedVolume, IsWithout};
 
@@ -93,8 +93,8 @@ pub fn prepare_without<S: Shelf>(
     }
 }
 
-// Whether the session takes a command.
-fn takes_commands<S: Shelf>(driver: &Driver<S>) -> Result<(), GroupFault>
+/// Whether the session takes a command.
+pub fn takes_commands<S: Shelf>(driver: &Driver<S>) -> Result<(), GroupFault>
     ensures takes { IfOk result (λ done. TakesCommands driver.now.1) }
     ensures group { IfOk result (λ done. AreOfOneGroup driver.now.1) }
     ensures refused { IfErr result (RefusesAll driver.now.1) }
@@ -126,7 +126,7 @@ fn check<S: Shelf>(driver: &Driver<S>, v: &NewVolume) -> Result<(), GroupFault>
     if driver.volume(v.name).is_some() {
         return Err(GroupFault::VolumeExists);
     }
-    if v.copies != 1 {
+    if !may_have(v.copies) {
         return Err(GroupFault::CopyLimit { now: 0 });
     }
     let group = driver.descriptor();
@@ -135,6 +135,13 @@ fn check<S: Shelf>(driver: &Driver<S>, v: &NewVolume) -> Result<(), GroupFault>
         return Err(GroupFault::TooMany { limit });
     }
     Ok(())
+}
+
+// Whether a volume may have so many copies.
+fn may_have(copies: u8) -> bool
+    ensures { IsTrue result ↔ MayHaveCopies copies }
+{
+    1 <= copies && copies <= 3
 }
 
 // The most volumes that the group may have.
@@ -164,8 +171,8 @@ fn places<S: Shelf>(
     }
 }
 
-// Whether enough entries and sequence numbers are left for a command.
-fn has_room<S: Shelf>(driver: &Driver<S>) -> bool
+/// Whether enough entries and sequence numbers are left for a command.
+pub fn has_room<S: Shelf>(driver: &Driver<S>) -> bool
     ensures { IsTrue result ↔ HasSpareRoom driver.now.1 }
 {
     driver.history().spare_entries() >= ENTRIES && driver.numbers_left() >= NUMBERS

@@ -48,8 +48,8 @@ pub fn without_volume(alloc: Global, d: &Descriptor, lv: u16) -> Result<Descript
     with_volumes(alloc, d, Rows::new(lvs))
 }
 
-// The group with these volumes.
-fn with_volumes(alloc: Global, d: &Descriptor, lvs: Rows<LvRow>) -> Result<Descriptor, Memory>
+/// The group with these volumes.
+pub fn with_volumes(alloc: Global, d: &Descriptor, lvs: Rows<LvRow>) -> Result<Descriptor, Memory>
     ensures { IfOk result (λ next. next ≡ record d.now { lvs = lvs }) }
 {
     let pvs = Vec::from_slice(alloc, d.pvs.as_slice())?;

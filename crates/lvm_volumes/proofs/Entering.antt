@@ -26,7 +26,7 @@ use Rattle.lvm_session.specs.State.{Core, State, is_there}
 use Rattle.lvm_core.specs.Held.{IsHeld}
 use Rattle.lvm_core.specs.Settled.{IsSettled, HasSpareNumbers}
 use Rattle.lvm_core.specs.Committing.{moment_of, SpanGoesOn, LetsCommit, HasStated}
-use Rattle.lvm_core.specs.Leaves.{NoPartition, IsOfCommand, Leaves, committing}
+use Rattle.lvm_core.specs.Leaves.{NoPartition, IsHeldSince, IsOfCommand, Leaves, committing}
 use Rattle.lvm_core.specs.Entering.{IsOfVolume}
 use Rattle.lvm_core.proofs.LeavesLemmas.{keeps_fact, same_status}
 use Rattle.lvm_volumes.specs.Endings.{StillHeld, IfAlone, commanding}
@@ -64,7 +64,7 @@ settled_entered s f settled = record {
 module _ (N : Descriptor → Type 0) (Z : Pp → Type 0) where
   -- an entry that is no varyon and opens no write
   pub entry_leaves : (p : ℕ) (s : State) (f : Fact) → ((moment : ℕ) → IsLater (f ∷ []) moment) → OpensNone f
-      → (IsHeld s.device s.core → (run : ℕ) (first : Moment) → IfAlone s (with_entry s f) run first → SpanGoesOn run first s (with_entry s f)) → Leaves (commanding N Z 0) p p s (with_entry s f)
+      → ((run : ℕ) (first : Moment) → IsHeldSince run first s → IfAlone s (with_entry s f) run first → SpanGoesOn run first s (with_entry s f)) → Leaves (commanding N Z 0) p p s (with_entry s f)
   entry_leaves p s f later opens spans = record {
     writes = keeps_here (is_there s.core) (IsOfCommand N Z s (with_entry s f)) s.device;
     status = same_status N NoPartition Z s (with_entry s f) refl;
@@ -91,17 +91,17 @@ shows_committed s ready held image may = by_media s.device.media refl held
     by_media None told held = absurd (subst (λ (o : Option Media). MayLeave (record s.device { media = o }) image) told may)
     by_media (Some m) told held = (still_holds_committed s.core.descriptor s.core.status.committed (is_there s.core) s.core.status.stamp s.core.homes s.device m told ready.flights held image may).shows
 
-pub leaves_committed : (s : State) → IsReady s.device → IsHeld s.device s.core → (run : ℕ) (first : Moment) → IsOnlyGroupSince run first s.device s.core.descriptor.id
+pub leaves_committed : (s : State) → IsReady s.device → (run : ℕ) (first : Moment) → IsHeldSince run first s → IsOnlyGroupSince run first s.device s.core.descriptor.id
     → LeavesCommitted run first s.device s.core.descriptor s.core.status.committed (is_there s.core)
-leaves_committed s ready held run first only = record { shows = shows_committed s ready held; only = only }
+leaves_committed s ready run first held only = record { shows = λ past begins. shows_committed s ready (held past begins); only = only }
 
 -- ---- the commit
 
 module _ (N : Descriptor → Type 0) (Z : Pp → Type 0) (next : Descriptor) (its : N next) (p q : ℕ) (a b : State) (leaves : Leaves (committing next) p q a b) where
   -- it is one of the command, where the history lets it be
-  pub commit_among : (lv : ℕ) → (IsHeld a.device a.core → (run : ℕ) (first : Moment) → LetsCommit lv next run first a) → Leaves (commanding N Z 1) p q a b
+  pub commit_among : (lv : ℕ) → ((run : ℕ) (first : Moment) → IsHeldSince run first a → LetsCommit lv next run first a) → Leaves (commanding N Z 1) p q a b
   commit_among lv lets = leaves_wider (committing next) (commanding N Z 1) (λ d is. subst N (sym is) its) (λ pp none. absurd none) (λ pp none. none) (λ pp none. absurd none) (omega arith) p q a b
-      (λ held run first only. (lv, lets held run first)) leaves
+      (λ run first held only. (lv, lets run first held)) leaves
 
 pub commit_still : (next : Descriptor) (p q : ℕ) (a b : State) → Leaves (committing next) p q a b → MarksLeft next a.core.status b.core.status → HasStated next a b → next.id ≡ a.core.descriptor.id
     → ((d : ℕ) → is_member next d ≡ is_member a.core.descriptor d) → (NoneIsLeft a.core.descriptor a.core.status → NoneIsLeft next a.core.status) → StillHeld a b

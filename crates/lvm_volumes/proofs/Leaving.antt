@@ -22,9 +22,10 @@ use Rattle.lvm_commit.specs.Settling.{there, IsOfSession, StatesGroup, IsOfStatu
 use Rattle.lvm_session.specs.State.{State, is_there}
 use Rattle.lvm_core.specs.Zeros.{IsZeroOf}
 use Rattle.lvm_core.specs.Held.{IsHeld}
-use Rattle.lvm_core.specs.Leaves.{Scope, NoPartition, IsOfCommand, WasLeftBehind, MayBeFound, Leaves}
+use Rattle.lvm_core.specs.Committing.{SpanGoesOn}
+use Rattle.lvm_core.specs.Leaves.{Scope, NoPartition, IsHeldSince, IsOfCommand, WasLeftBehind, MayBeFound, Leaves}
 use Rattle.lvm_core.proofs.LeavesLemmas.{outside, keeps_same, same_status}
-use Rattle.lvm_volumes.specs.Endings.{StillHeld, commanding}
+use Rattle.lvm_volumes.specs.Endings.{StillHeld, IfAlone, commanding}
 
 -- ---- counts
 
@@ -68,7 +69,7 @@ there_less a b group stays d is = there_before a.core.status.group a.core.status
 -- ---- wider scopes
 
 module _ (V W : Scope) (next : (d : Descriptor) → V.next d → W.next d) (zeros : (pp : Pp) → V.zeros pp → W.zeros pp) (stale : (pp : Pp) → V.stale pp → W.stale pp) (fresh : (pp : Pp) → V.fresh pp → W.fresh pp)
-    (numbers : V.numbers ≤ W.numbers) (p q : ℕ) (a b : State) (lets : IsHeld a.device a.core → (run : ℕ) (first : Moment) → W.lets a b run first → V.lets a b run first) where
+    (numbers : V.numbers ≤ W.numbers) (p q : ℕ) (a b : State) (lets : (run : ℕ) (first : Moment) → IsHeldSince run first a → W.lets a b run first → V.lets a b run first) where
   behind_wider : (pp : Pp) → WasLeftBehind V.next V.fresh a b pp → WasLeftBehind W.next W.fresh a b pp
   behind_wider pp is = record {
     group = is.group;
@@ -101,7 +102,7 @@ module _ (V W : Scope) (next : (d : Descriptor) → V.next d → W.next d) (zero
     };
     numbers = record { epoch = leaves.numbers.epoch; rises = leaves.numbers.rises; most = let m = leaves.numbers.most in omega (arith, m, numbers) };
     history = leaves.history;
-    spans = λ held run first only. leaves.spans held run first (lets held run first only);
+    spans = λ run first held only. leaves.spans run first held (lets run first held only);
     finds = λ held id k is. ⊎_elim (λ was. inl was) (λ new. inr (new.0, next k new.1)) (leaves.finds held id k is);
     calm = leaves.calm;
     behind = leaves.behind;
@@ -129,7 +130,7 @@ leaves_none W p s = record {
   status = same_status W.next W.stale W.fresh s s refl;
   numbers = record { epoch = refl; rises = omega arith; most = omega arith };
   history = keeps_same s.core.history s.core.history refl;
-  spans = λ held run first only span. span;
+  spans = λ run first held only span. span;
   finds = λ held id k is. inl is;
   calm = λ past calm. calm;
   behind = λ moment lt is. is;
@@ -230,9 +231,14 @@ module _ (N : Descriptor → Type 0) (Z : Pp → Type 0) where
     was_there = less is.other.disk is.was_there;
   }
 
-  pub leaves_then : (m n p q r : ℕ) (a b c : State) → (b.core.descriptor ≡ a.core.descriptor) ⊎ N b.core.descriptor → b.core.descriptor.mib ≡ a.core.descriptor.mib → ((d : ℕ) → is_member b.core.descriptor d ≡ is_member a.core.descriptor d)
-      → Leaves (commanding N Z m) p q a b → StillHeld a b → Leaves (commanding N Z n) q r b c → Leaves (commanding N Z (m + n)) p r a c
-  leaves_then m n p q r a b c from mib members one still two = record {
+  -- a command that may also make such partitions stale, under such a premise
+  abbrev pub scoped : (Pp → Type 0) → (State → State → ℕ → Moment → Type 0) → ℕ → Scope
+  scoped S L numbers = record { next = N; zeros = Z; stale = S; fresh = Z; numbers = numbers; lets = L }
+
+  pub leaves_joined : (S : Pp → Type 0) (J K L : State → State → ℕ → Moment → Type 0) (m n p q r : ℕ) (a b c : State) → (b.core.descriptor ≡ a.core.descriptor) ⊎ N b.core.descriptor → b.core.descriptor.mib ≡ a.core.descriptor.mib
+      → ((d : ℕ) → is_member b.core.descriptor d ≡ is_member a.core.descriptor d) → Leaves (scoped S J m) p q a b → (IsHeld a.device a.core → IsHeld b.device b.core) → Leaves (scoped S K n) q r b c
+      → ((run : ℕ) (first : Moment) → IsHeldSince run first a → L a c run first → SpanGoesOn run first a c) → Leaves (scoped S L (m + n)) p r a c
+  leaves_joined S J K L m n p q r a b c from mib members one still two spans = record {
     writes = keeps_then (is_there a.core) (IsOfCommand N Z a c) a.device b.device c.device
         (wider (is_there a.core) (is_there a.core) (IsOfCommand N Z a b) (IsOfCommand N Z a c) a.device b.device (λ d is. is)
         (command_first a b c one.status.group one.status.stays one.numbers.epoch one.numbers.rises two.numbers.rises) one.writes)
@@ -244,8 +250,8 @@ module _ (N : Descriptor → Type 0) (Z : Pp → Type 0) where
       stale = λ p off is. two.status.stale p off (one.status.stale p off is);
       further = λ p is. ⊎_elim
           (λ before. ⊎_elim (λ first. inl first)
-          (⊎_elim (λ none. absurd none) (λ gone. inr (inr (behind_first Z a b c (there_less b c two.status.group two.status.stays) p gone)))) (one.status.further p before))
-          (⊎_elim (λ none. absurd none) (λ gone. inr (inr (behind_second Z a b c from one.status.stale (there_less a b one.status.group one.status.stays) p gone))))
+          (⊎_elim (λ its. inr (inl its)) (λ gone. inr (inr (behind_first Z a b c (there_less b c two.status.group two.status.stays) p gone)))) (one.status.further p before))
+          (⊎_elim (λ its. inr (inl its)) (λ gone. inr (inr (behind_second Z a b c from one.status.stale (there_less a b one.status.group one.status.stays) p gone))))
           (two.status.further p is);
       dirty = two.status.dirty ∙ one.status.dirty;
       stays = λ d is. two.status.stays d (one.status.stays d is);
@@ -257,12 +263,8 @@ module _ (N : Descriptor → Type 0) (Z : Pp → Type 0) where
       most = let x = one.numbers.most in let y = two.numbers.most in omega (arith, x, y);
     };
     history = record { room = two.history.room ∙ one.history.room; volumes = omega (arith, one.history.volumes, two.history.volumes); later = λ moment is. two.history.later moment (one.history.later moment is) };
-    spans = λ held run first only span.
-        let before = one.history.volumes in
-        let after = two.history.volumes in
-        two.spans (still.held held) run first (λ enters past begins. still.only held (only (omega (arith, before, enters)) past begins))
-        (one.spans held run first (λ enters. only (omega (arith, after, enters))) span);
-    finds = λ held id k is. ⊎_elim (λ (was : MayBeFound b.device id k). one.finds held id k was) (λ (new : (id ≡ k.id) × N k). inr new) (two.finds (still.held held) id k is);
+    spans = spans;
+    finds = λ held id k is. ⊎_elim (λ (was : MayBeFound b.device id k). one.finds held id k was) (λ (new : (id ≡ k.id) × N k). inr new) (two.finds (still held) id k is);
     calm = λ past calm. two.calm past (one.calm past calm);
     behind = λ moment lt is. two.behind moment (subst (λ (n : ℕ). n < moment) (sym one.numbers.epoch) lt) (one.behind moment lt is);
     falls = falls_then a.device b.device c.device one.falls two.falls;
@@ -277,3 +279,11 @@ module _ (N : Descriptor → Type 0) (Z : Pp → Type 0) where
           → IsTrue (is_there a.core d) × Rose (a.device.counts.faults d) (c.device.counts.faults d)
       lost d true mid is isnt = let first = one.status.lost d mid isnt in (first.0, rose_on (a.device.counts.faults d) (b.device.counts.faults d) (c.device.counts.faults d) first.1 (two.falls.faults d))
       lost d false mid is isnt = let second = two.status.lost d is mid in (before d second.0, rose_from (a.device.counts.faults d) (b.device.counts.faults d) (c.device.counts.faults d) (one.falls.faults d) second.1)
+
+  pub leaves_then : (m n p q r : ℕ) (a b c : State) → (b.core.descriptor ≡ a.core.descriptor) ⊎ N b.core.descriptor → b.core.descriptor.mib ≡ a.core.descriptor.mib → ((d : ℕ) → is_member b.core.descriptor d ≡ is_member a.core.descriptor d)
+      → Leaves (commanding N Z m) p q a b → StillHeld a b → Leaves (commanding N Z n) q r b c → Leaves (commanding N Z (m + n)) p r a c
+  leaves_then m n p q r a b c from mib members one still two = leaves_joined NoPartition IfAlone IfAlone IfAlone m n p q r a b c from mib members one still.held two (λ run first held only span.
+      let before = one.history.volumes in
+      let after = two.history.volumes in
+      two.spans run first (λ past begins. still.held (held past begins)) (λ enters past begins. still.only (held past begins) (only (omega (arith, before, enters)) past begins))
+      (one.spans run first held (λ enters. only (omega (arith, after, enters))) span))

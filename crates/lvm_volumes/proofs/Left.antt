@@ -1,5 +1,5 @@
 -- Which copies are left behind with one volume more, and with one less.
-use Rattle.std.proofs.Common.{◌≡◌, inl, inr, ⊎_elim, ℕ, ◌-◌, ◌*◌, Bool, true, ◌&&◌, List, [], ◌∷◌, get_or, take, drop, refl, sym, ap, subst, ◌∙◌, eq-eqb}
+use Rattle.std.proofs.Common.{◌≡◌, ⊎_elim, ℕ, ◌-◌, Bool, true, ◌&&◌, List, get_or, refl, ap, subst, ◌∙◌, eq-eqb}
 use Rattle.std.specs.Prelude.{◌==◌, not, IsTrue, IsFalse, All, Contains}
 use Rattle.std.proofs.lemmas.List.Elements.{All-contains}
 use Rattle.lvm_num.specs.declared.place.Pp.{Pp}
@@ -11,8 +11,7 @@ use Rattle.lvm_kept.specs.Group.{IsOneOf}
 use Rattle.lvm_stale.specs.Table.{is_pp}
 use Rattle.lvm_status.specs.Update.{Stored}
 use Rattle.lvm_steps.proofs.Booleans.{either, clash}
-use Rattle.lvm_commit.specs.LawsOfData.{IsFree}
-use Rattle.lvm_commit.specs.Settling.{there, NoneIsLeft, IsPassed, MarksLeft}
+use Rattle.lvm_commit.specs.Settling.{there, NoneIsLeft, MarksLeft}
 use Rattle.lvm_commit.proofs.Copies.{contains, of_map, of_rows}
 use Rattle.lvm_volume_plan.specs.declared.new_volume.NewVolume.{NewVolume}
 use Rattle.lvm_volume_plan.specs.NewVolume.{row_for, with_volume, without_volume}
@@ -24,13 +23,6 @@ itself p = ap (λ (t : Bool). t && (p.pp == p.pp)) (eq-eqb p.disk p.disk refl) �
 -- a copy's partition is used
 pub is_used : (d : Descriptor) (row : LvRow) (lp : ℕ) (p : Pp) → IsOneOf d.lvs row → IsOneOf (copies_of row lp) p → Contains (partitions_used d) p
 is_used d row lp p volume one = contains (partitions_used d) p (of_rows d.lvs row p volume (of_map row lp p one))
-
--- the only copy
-only_copy : (xs : List Pp) (p q : Pp) → IsOneOf (take 1 xs) p → IsOneOf (take 1 xs) q → q ≡ p
-only_copy [] p q one other = absurd one
-only_copy (x ∷ xs) p q (inl here) (inl also) = also ∙ sym here
-only_copy (x ∷ xs) p q (inl here) (inr none) = absurd none
-only_copy (x ∷ xs) p q (inr none) other = absurd none
 
 module _ (d : Descriptor) (v : NewVolume) (lv : ℕ) (map : List Pp) where
   abbrev row : LvRow
@@ -45,24 +37,16 @@ module _ (d : Descriptor) (v : NewVolume) (lv : ℕ) (map : List Pp) where
       (λ old. none p (record { row = is.row; volume = old; left = is.left }))
       (one_insert d.lvs (lv - 1) row is.row is.volume)
 
-  -- and the one copy of a logical partition has no other by which it may be left behind
-  pub fresh_with : (first last : Stored) → v.copies ≡ 1 → All (IsFree d) map → All (λ (pp : Pp). IsFalse (calls_stale first.wanted pp)) map → MarksLeft (with_volume d row) first last
-      → All (λ (pp : Pp). IsFalse (calls_stale last.wanted pp)) map
-  fresh_with first last one free fresh left k e lt = ⊎_elim
-      (λ stale. ⊎_elim (λ before. absurd (clash (calls_stale first.wanted (get_or map k e)) before (fresh k e lt))) (λ passed. absurd (none_passed passed stale)) (left.only (get_or map k e) stale))
+  -- and only one on a member that has become missing is left behind
+  pub fresh_with : (first last : Stored) → All (λ (pp : Pp). IsFalse (calls_stale first.wanted pp)) map → MarksLeft (with_volume d row) first last
+      → All (λ (pp : Pp). IsTrue (there last pp.disk) → IsFalse (calls_stale last.wanted pp)) map
+  fresh_with first last fresh left k e lt here = ⊎_elim
+      (λ stale. ⊎_elim
+      (λ before. absurd (clash (calls_stale first.wanted (get_or map k e)) before (fresh k e lt)))
+      (λ passed. absurd (clash (there last (get_or map k e).disk) here passed.absent))
+      (left.only (get_or map k e) stale))
       (λ still. still)
       (either (calls_stale last.wanted (get_or map k e)))
-    where
-      none_passed : IsPassed (with_volume d row) first last (get_or map k e) → IsTrue (calls_stale last.wanted (get_or map k e)) → ⊥
-      none_passed passed stale = ⊎_elim
-          (λ new.
-          let single : passed.row.copies ≡ 1 = ap (λ (r : LvRow). r.copies) new ∙ one in
-          let copy : (q : Pp) → IsOneOf (copies_of passed.row passed.lp) q → IsOneOf (take 1 (drop (passed.lp * 1) passed.row.map)) q =
-          λ q is. subst (λ (n : ℕ). IsOneOf (take n (drop (passed.lp * n) passed.row.map)) q) single is in
-          let same : passed.other ≡ get_or map k e = only_copy (drop (passed.lp * 1) passed.row.map) (get_or map k e) passed.other (copy (get_or map k e) passed.one) (copy passed.other passed.among) in
-          clash (calls_stale last.wanted passed.other) (ap (λ (q : Pp). calls_stale last.wanted q) same ∙ stale) passed.fresh)
-          (λ old. free k e lt (is_used d passed.row passed.lp (get_or map k e) old passed.one))
-          (one_insert d.lvs (lv - 1) row passed.row passed.volume)
 
 -- with fewer volumes there are fewer copies
 pub none_left_without : (d : Descriptor) (lv : ℕ) (u : Stored) → NoneIsLeft d u → NoneIsLeft (without_volume d lv) u

@@ -32,10 +32,9 @@ use Rattle.lvm_commit.proofs.Volumes.{volume_begins_in_session, volume_is_made_i
 use Rattle.lvm_core.specs.declared.fault.CommitFault.{CommitFault}
 use Rattle.lvm_core.specs.declared.fault.CommitFault.TheVariants as commit
 use Rattle.lvm_session.specs.State.{Core, State, is_there}
-use Rattle.lvm_core.specs.Held.{IsHeld}
 use Rattle.lvm_core.specs.Settled.{IsSettled}
 use Rattle.lvm_core.specs.Committing.{LetsCommit, HasStated, HasCommitted, CommitEnds}
-use Rattle.lvm_core.specs.Leaves.{NoDescriptor, NoPartition, IsOfCommand, Leaves, committing}
+use Rattle.lvm_core.specs.Leaves.{NoDescriptor, NoPartition, IsHeldSince, IsOfCommand, Leaves, committing}
 use Rattle.lvm_core.proofs.LeavesLemmas.{enters_one}
 use Rattle.lvm_volumes.specs.Endings.{StillHeld, commanding}
 use Rattle.lvm_volumes.specs.Stages.{IfGoesOn, CommandBroke, with_entry, ClosesBy, CommitsBetween, AreUnusedOn, AreCleared, ClearEnds, making_of, IsNamed, MakeEnds}
@@ -76,20 +75,20 @@ disk_of (r ∷ rows) disk row all is = by_test (r.disk == disk) refl (disk_of ro
     by_test false test rest is = rest is
 
 module _ (v : NewVolume) (plan : VolumePlan) (a : State) (settled : IsSettled a.core) (planned : IsPlannedVolume v a.core plan) where
-  one : v.copies ≡ 1
-  one = planned.may.places.numbered.single.one
+  some : 1 ≤ v.copies
+  some = planned.may.places.numbered.counted.copies.0
 
-  placed : IsAllocated a.core.descriptor (is_there a.core) (new_volume v.lps 1) plan.map
-  placed = subst (λ (n : ℕ). IsAllocated a.core.descriptor (is_there a.core) (new_volume v.lps n) plan.map) one planned.may.places.placed
+  placed : IsAllocated a.core.descriptor (is_there a.core) (new_volume v.lps v.copies) plan.map
+  placed = planned.may.places.placed
 
   pub plan_unused : AreUnusedOn a.core plan.map
   plan_unused = record {
-    there = usable_of a.core.descriptor (is_there a.core) v.lps plan.map planned.group.valid placed;
-    free = free_of a.core.descriptor (is_there a.core) v.lps plan.map planned.group.valid placed;
-    places = places_of a.core.descriptor (is_there a.core) v.lps plan.map planned.group.valid placed;
-    disks = λ k e lt. let place = places_of a.core.descriptor (is_there a.core) v.lps plan.map planned.group.valid placed k e lt in
+    there = usable_of a.core.descriptor (is_there a.core) v.lps v.copies plan.map planned.group.valid placed;
+    free = free_of a.core.descriptor (is_there a.core) v.lps v.copies plan.map planned.group.valid placed;
+    places = places_of a.core.descriptor (is_there a.core) v.lps v.copies plan.map planned.group.valid placed;
+    disks = λ k e lt. let place = places_of a.core.descriptor (is_there a.core) v.lps v.copies plan.map planned.group.valid placed k e lt in
         disk_of a.core.descriptor.pvs (get_or plan.map k e).disk place.0 planned.group.valid.members.each place.1;
-    once = once_of a.core.descriptor (is_there a.core) v.lps plan.map planned.group.valid placed;
+    once = once_of a.core.descriptor (is_there a.core) v.lps v.copies plan.map planned.group.valid placed;
   }
 
   abbrev N : Descriptor → Type 0
@@ -104,7 +103,7 @@ module _ (v : NewVolume) (plan : VolumePlan) (a : State) (settled : IsSettled a.
   module _ (p q : ℕ) (b : State) (clear_leaves : Leaves (commanding NoDescriptor Z 1) p q a b) where
     -- a stage that commits no descriptor
     as_named : (n : ℕ) → 1 ≤ n → Leaves (commanding N Z n) p q a b
-    as_named n le = leaves_wider (commanding NoDescriptor Z 1) (commanding N Z n) (λ d none. absurd none) (λ pp its. its) (λ pp none. none) (λ pp its. its) le p q a b (λ held run first only. only) clear_leaves
+    as_named n le = leaves_wider (commanding NoDescriptor Z 1) (commanding N Z n) (λ d none. absurd none) (λ pp its. its) (λ pp none. none) (λ pp its. its) le p q a b (λ run first held only. only) clear_leaves
 
     pub clear_break_leaves : Leaves (commanding N Z 2) p q a b
     clear_break_leaves = as_named 2 (omega arith)
@@ -135,19 +134,19 @@ module _ (v : NewVolume) (plan : VolumePlan) (a : State) (settled : IsSettled a.
       -- the volume may be in the making
       begun_leaves : Leaves (commanding N Z 1) p q a begun
       begun_leaves = leaves_then N Z 1 0 p q q a b begun (inl same) (ap (λ (d : Descriptor). d.mib) same) (λ d. ap (λ (x : Descriptor). is_member x d) same) (as_named 1 (omega arith)) still
-          (entry_leaves N Z q b f (λ moment. tt) tt (λ held run first only span.
+          (entry_leaves N Z q b f (λ moment. tt) tt (λ run first held only span.
           volume_begins_in_session run first b.device b.core.history.facts b.core.descriptor b.core.status.committed (is_there b.core) plan.number plan.blocks plan.mode span cleared.settled.votes
-          (leaves_committed b cleared.ready held run first (only (enters_one b.core.history.facts f refl))) (subst (λ (d : Descriptor). volume_of d plan.number ≡ None) (sym same) planned.lowest.free)))
+          (leaves_committed b cleared.ready run first held (only (enters_one b.core.history.facts f refl))) (subst (λ (d : Descriptor). volume_of d plan.number ≡ None) (sym same) planned.lowest.free)))
 
       -- and the descriptor with it may be committed
       same_f : f ≡ Making plan.number (volume_blocks a.core.descriptor.mib v.lps) v.mode
       same_f = λ t. Making plan.number (planned.blocks t) (planned.mode t)
 
-      whole : length plan.map ≡ v.lps * 1
+      whole : length plan.map ≡ v.lps * v.copies
       whole = placed.whole
 
-      lets_make : IsHeld b.device b.core → (run : ℕ) (first : Moment) → LetsCommit plan.number plan.next run first begun
-      lets_make held run first past begins holds = by_media b.device.media refl held
+      lets_make : (run : ℕ) (first : Moment) → IsHeldSince run first b → LetsCommit plan.number plan.next run first begun
+      lets_make run first held past begins holds = by_media b.device.media refl (held past begins)
         where
           serves : (m : Media) → b.device.media ≡ Some m → HoldsCommitted (image_of b.device.sizes m) b.core.descriptor b.core.status.committed (is_there b.core) b.core.status.stamp b.core.homes
               → VolumeServes (contents_of (image_of b.device.sizes m)) (past ++ (b.core.history.facts ++ f ∷ [])) b.core.descriptor plan.number plan.next
@@ -164,7 +163,7 @@ module _ (v : NewVolume) (plan : VolumePlan) (a : State) (settled : IsSettled a.
               let zeros : All (λ (pp : Pp). (disk s : ℕ) → IsSectorOf d.mib pp disk s → m disk s ≡ zero_sector) plan.map = λ k e lt.
               subst (λ (o : Option Media). IfSome o (λ media. (disk s : ℕ) → IsSectorOf d.mib (get_or plan.map k e) disk s → media disk s ≡ zero_sector)) told (cleared.zeros k e lt) in
               let all : VolumeServes (contents_of (image_of b.device.sizes m)) (facts ++ made ∷ []) d plan.number (with_volume d (row_for v plan.number plan.map)) =
-              new_serves v plan.number plan.map d planned.lowest planned.order planned.group.valid (mib_positive d planned.group.valid) one whole
+              new_serves v plan.number plan.map d planned.lowest planned.order planned.group.valid (mib_positive d planned.group.valid) some whole
               m b.device.sizes facts b.core.status.committed (is_there b.core) enough shows kept zeros cleared.there cleared.fresh in
               subst (λ (x : Descriptor). VolumeServes (contents_of (image_of b.device.sizes m)) (past ++ (b.core.history.facts ++ f ∷ [])) x plan.number plan.next) (sym same)
               (subst (λ (x : Descriptor). VolumeServes (contents_of (image_of b.device.sizes m)) (past ++ (b.core.history.facts ++ f ∷ [])) d plan.number x) (sym planned.next)
@@ -232,9 +231,9 @@ module _ (v : NewVolume) (plan : VolumePlan) (a : State) (settled : IsSettled a.
               ∙ ap (λ (x : Volume). x.standing) (making_open (past ++ b.core.history.facts) plan.number plan.blocks plan.mode)
 
           ends_leaves : Leaves (commanding N Z 0) r r c made
-          ends_leaves = entry_leaves N Z r c (Made plan.number) (λ moment. tt) tt (λ held run first only span.
+          ends_leaves = entry_leaves N Z r c (Made plan.number) (λ moment. tt) tt (λ run first held only span.
               volume_is_made_in_session run first c.device c.core.history.facts c.core.descriptor c.core.status.committed (is_there c.core) plan.number span done.settled.votes
-              (leaves_committed c done.ready held run first (only (enters_one c.core.history.facts (Made plan.number) refl))) there_now is_open)
+              (leaves_committed c done.ready run first held (only (enters_one c.core.history.facts (Made plan.number) refl))) there_now is_open)
 
           still_all : StillHeld a c
           still_all = still_then a begun c still_begun
@@ -252,9 +251,11 @@ module _ (v : NewVolume) (plan : VolumePlan) (a : State) (settled : IsSettled a.
             settled = settled_entered c (Made plan.number) done.settled;
             is = ap (λ (x : Core). record x { history = with_fact x.history (Made plan.number) }) done.is
                 ∙ ap (λ (x : Core). record x { descriptor = plan.next; history = with_fact (with_fact x.history f) (Made plan.number); status = c.core.status; homes = c.core.homes }) cleared.is;
-            fresh = subst (λ (s : Status). All (λ (pp : Pp). IsFalse (calls_stale s pp)) plan.map) (sym done.settled.committed)
-                (fresh_with a.core.descriptor v plan.number plan.map b.core.status c.core.status one plan_unused.free (subst (λ (s : Status). All (λ (pp : Pp). IsFalse (calls_stale s pp)) plan.map) cleared.settled.committed cleared.fresh)
-                (subst (λ (d : Descriptor). MarksLeft d b.core.status c.core.status) planned.next left));
+            fresh = subst (λ (s : Status). All (λ (pp : Pp). IsTrue (is_there c.core pp.disk) → IsFalse (calls_stale s pp)) plan.map) (sym done.settled.committed)
+                (λ k e lt here. fresh_with a.core.descriptor v plan.number plan.map b.core.status c.core.status (subst (λ (s : Status). All (λ (pp : Pp). IsFalse (calls_stale s pp)) plan.map) cleared.settled.committed cleared.fresh)
+                (subst (λ (d : Descriptor). MarksLeft d b.core.status c.core.status) planned.next left) k e lt
+                (subst (λ (g : Descriptor). IsTrue (members_there g c.core.status.wanted (get_or plan.map k e).disk)) (sym (leaves.status.group ∙ clear_leaves.status.group ∙ planned.group.status))
+                (subst (λ (d : Descriptor). IsTrue (members_there d c.core.status.wanted (get_or plan.map k e).disk)) named here)));
             zeros = zeros_then;
             ready = done.ready;
             cuts = done.cuts ∙ cleared.cuts;

@@ -1,5 +1,5 @@
--- The partitions that first fit gives a volume of one copy.
-use Rattle.std.proofs.Common.{◌≡◌, ◌≢◌, inl, inr, ℕ, ◌+◌, ◌*◌, ◌<◌, true, ◌&&◌, List, [], ◌∷◌, length, get_or, take, drop, refl, sym, subst, ◌∙◌, arith}
+-- The partitions that first fit gives a volume.
+use Rattle.std.proofs.Common.{◌≡◌, ◌≢◌, inl, ℕ, zero, suc, ◌+◌, ◌*◌, ◌<◌, ◌≤◌, true, ◌&&◌, List, [], ◌∷◌, length, get_or, take, drop, refl, sym, subst, ◌∙◌, arith}
 use Rattle.std.specs.Prelude.{◌==◌, All, AllPairs, Contains, IsTrue}
 use Rattle.std.proofs.lemmas.Bool.{false≢true}
 use Rattle.std.proofs.lemmas.List.{length-take-le, length-drop, get_or-take, get_or-drop, get_or_default}
@@ -19,9 +19,9 @@ use Rattle.lvm_kept.specs.Group.{IsOneOf}
 among_is : (xs : List Pp) (pp : Pp) → Contains xs pp → is_among xs pp ≡ true
 among_is xs pp has = list_any_at (λ (p : Pp). p.disk == pp.disk && p.pp == pp.pp) xs has.0 pp has.1 (is_pp-same (get_or xs has.0 pp) pp has.2)
 
-module _ (d : Descriptor) (usable : Disks) (lps : ℕ) (map : List Pp) (valid : IsValid d) (all : IsAllocated d usable (new_volume lps 1) map) where
-  place : (k : ℕ) (e : Pp) → k < length map → IsNewPlace d usable (new_volume lps 1) (take k map) (get_or map k e)
-  place k e lt = new_place d usable (new_volume lps 1) map k (get_or map k e) valid all.fits (get-get_or map k e lt) (omega arith)
+module _ (d : Descriptor) (usable : Disks) (lps copies : ℕ) (map : List Pp) (valid : IsValid d) (all : IsAllocated d usable (new_volume lps copies) map) where
+  place : (k : ℕ) (e : Pp) → k < length map → IsNewPlace d usable (new_volume lps copies) (take k map) (get_or map k e)
+  place k e lt = new_place d usable (new_volume lps copies) map k (get_or map k e) valid all.fits (get-get_or map k e lt) (omega arith)
 
   -- they are partitions of usable members,
   pub places_of : All (IsPartitionOf d) map
@@ -43,22 +43,12 @@ module _ (d : Descriptor) (usable : Disks) (lps : ℕ) (map : List Pp) (valid : 
 
 -- ---- the copies
 
-first_of : (xs : List Pp) (p : Pp) → IsOneOf (take 1 xs) p → (0 < length xs) × (get_or xs 0 p ≡ p)
-first_of [] p is = absurd is
-first_of (x ∷ xs) p (inl here) = (omega arith, sym here)
-first_of (x ∷ xs) p (inr there) = absurd there
+its_first : (n : ℕ) (xs : List Pp) (e : Pp) → 1 ≤ n → 0 < length xs → IsOneOf (take n xs) (get_or xs 0 e)
+its_first zero xs e some lt = absurd (omega (arith, some))
+its_first (suc n) [] e some lt = absurd (omega (arith, lt))
+its_first (suc n) (x ∷ xs) e some lt = inl refl
 
-its_first : (xs : List Pp) (e : Pp) → 0 < length xs → IsOneOf (take 1 xs) (get_or xs 0 e)
-its_first [] e lt = absurd (omega (arith, lt))
-its_first (x ∷ xs) e lt = inl refl
-
--- the one copy of a logical partition
-pub one_copy : (row : LvRow) (lp : ℕ) (p : Pp) → row.copies ≡ 1 → IsOneOf (copies_of row lp) p → Contains row.map p
-one_copy row lp p one is =
-    let at = first_of (drop (lp * 1) row.map) p (subst (λ (n : ℕ). IsOneOf (take n (drop (lp * n) row.map)) p) one is) in
-    (lp * 1 + 0, omega (arith, at.0, length-drop (lp * 1) row.map), sym (get_or-drop (lp * 1) row.map 0 p) ∙ at.1)
-
-pub its_copy : (row : LvRow) (lp : ℕ) (e : Pp) → row.copies ≡ 1 → lp < length row.map → IsOneOf (copies_of row lp) (get_or row.map (lp * 1 + 0) e)
-its_copy row lp e one lt =
-    subst (λ (n : ℕ). IsOneOf (take n (drop (lp * n) row.map)) (get_or row.map (lp * 1 + 0) e)) (sym one)
-    (subst (λ (p : Pp). IsOneOf (take 1 (drop (lp * 1) row.map)) p) (get_or-drop (lp * 1) row.map 0 e) (its_first (drop (lp * 1) row.map) e (omega (arith, lt, length-drop (lp * 1) row.map))))
+-- the first copy of a logical partition
+pub its_copy : (row : LvRow) (lp : ℕ) (e : Pp) → 1 ≤ row.copies → lp * row.copies < length row.map → IsOneOf (copies_of row lp) (get_or row.map (lp * row.copies + 0) e)
+its_copy row lp e some lt =
+    subst (λ (p : Pp). IsOneOf (copies_of row lp) p) (get_or-drop (lp * row.copies) row.map 0 e) (its_first row.copies (drop (lp * row.copies) row.map) e some (omega (arith, lt, length-drop (lp * row.copies) row.map)))

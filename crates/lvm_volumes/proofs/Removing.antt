@@ -42,7 +42,7 @@ module _ (lv : ℕ) (next : Descriptor) (a : State) (settled : IsSettled a.core)
   N d = d ≡ next
 
   begins_leaves : (p : ℕ) → Leaves (commanding N NoPartition 0) p p a begun
-  begins_leaves p = entry_leaves N NoPartition p a (Removing (Lv lv)) (λ moment. tt) tt (λ held run first only span. goes_in_span run first a.device a.core.history.facts lv span)
+  begins_leaves p = entry_leaves N NoPartition p a (Removing (Lv lv)) (λ moment. tt) tt (λ run first held only span. goes_in_span run first a.device a.core.history.facts lv span)
 
   -- the descriptor may be committed
   lets_remove : (run : ℕ) (first : Moment) → LetsCommit lv next run first begun
@@ -64,7 +64,7 @@ module _ (lv : ℕ) (next : Descriptor) (a : State) (settled : IsSettled a.core)
   module _ (p q : ℕ) (b : State) (leaves : Leaves (committing next) p q begun b) (left : MarksLeft next begun.core.status b.core.status) where
     break_leaves : Leaves (commanding N NoPartition 1) p q a b
     break_leaves = leaves_then N NoPartition 0 1 p p q a begun b (inl refl) refl (λ d. refl) (begins_leaves p) (entry_still a (Removing (Lv lv)))
-        (commit_among N NoPartition next refl p q begun b leaves lv (λ held. lets_remove))
+        (commit_among N NoPartition next refl p q begun b leaves lv (λ run first held. lets_remove run first))
 
     -- where it wasn't committed
     since : (why : CommitFault) → CommitEnds next p begun b (Err why) → CommandBroke (removing lv a) p a b why
@@ -94,8 +94,8 @@ module _ (lv : ℕ) (next : Descriptor) (a : State) (settled : IsSettled a.core)
       still_all = still_then a begun b (entry_still a (Removing (Lv lv))) still
 
       ends_leaves : Leaves (commanding N NoPartition 0) q q b gone
-      ends_leaves = entry_leaves N NoPartition q b (Removed (Lv lv)) (λ moment. tt) tt (λ held run first only span.
-          volume_is_gone_in_session run first b.device b.core.history.facts b.core.descriptor b.core.status.committed (is_there b.core) lv span done.settled.votes (leaves_committed b done.ready held run first (only (enters_one b.core.history.facts (Removed (Lv lv)) refl)))
+      ends_leaves = entry_leaves N NoPartition q b (Removed (Lv lv)) (λ moment. tt) tt (λ run first held only span.
+          volume_is_gone_in_session run first b.device b.core.history.facts b.core.descriptor b.core.status.committed (is_there b.core) lv span done.settled.votes (leaves_committed b done.ready run first held (only (enters_one b.core.history.facts (Removed (Lv lv)) refl)))
           (subst (λ (d : Descriptor). Rattle.lvm_num.specs.Descriptor.volume_of d lv ≡ None) (sym (named ∙ without.is)) (unnamed_without a.core.descriptor lv)))
 
       same_members : (d : ℕ) → is_member b.core.descriptor d ≡ is_member a.core.descriptor d

@@ -1,10 +1,10 @@
 -- What a descriptor with a new volume, or without an old one, needs of the history and the disks.
-use Rattle.std.proofs.Common.{◌≡◌, inl, inr, ⊎_elim, ℕ, ◌+◌, ◌-◌, ◌*◌, ◌%◌, ◌<◌, ◌≤◌, Bool, true, false, ◌&&◌, List, [], ◌∷◌, ◌++◌, Option, Some, None, length, get_or, refl, sym, ap, subst, ◌∙◌, eq-eqb, arith}
+use Rattle.std.proofs.Common.{◌≡◌, inl, inr, ⊎_elim, ℕ, suc, ◌+◌, ◌-◌, ◌*◌, ◌%◌, ◌<◌, ◌≤◌, Bool, true, false, ◌&&◌, List, [], ◌∷◌, ◌++◌, Option, Some, None, length, get_or, refl, sym, ap, subst, ◌∙◌, eq-eqb, arith}
 use Rattle.std.specs.Prelude.{◌==◌, find, nat_lt, IsTrue, IsFalse, All, if◌then◌else◌}
 use Rattle.std.proofs.lemmas.Bool.{false≢true}
 use Rattle.std.proofs.lemmas.Bool.Decides.{nat_tests}
 use Rattle.std.proofs.lemmas.List.Elements.{All-contains}
-use Rattle.std.proofs.Math.Nat.{div-lt_iff_lt-mul, mul_comm}
+use Rattle.std.proofs.Math.Nat.{div-lt_iff_lt-mul, mul_comm, mul-le-mul_right}
 use Rattle.lvm_num.specs.declared.place.Pp.{Pp}
 use Rattle.lvm_num.specs.declared.descriptor.Mode.{Mode}
 use Rattle.lvm_num.specs.declared.descriptor.LvRow.{LvRow}
@@ -33,11 +33,12 @@ use Rattle.lvm_steps.proofs.VolumeEntries.{zeros_serve}
 use Rattle.lvm_commit.specs.Committed.{ShowsCommitted}
 use Rattle.lvm_commit.specs.LawsOfData.{IsSectorOf}
 use Rattle.lvm_commit.specs.LawsOfVolumes.{VolumeServes, HasFreshCopies}
+use Rattle.lvm_commit.proofs.Copies.{contains, of_map}
 use Rattle.lvm_commit.proofs.Volumes.{zeros_are_found}
 use Rattle.lvm_volume_plan.specs.declared.new_volume.NewVolume.{NewVolume}
 use Rattle.lvm_volume_plan.specs.NewVolume.{IsLowestFree, IsInOrder, row_for, with_volume, without_volume}
 use Rattle.lvm_volume_plan.proofs.Sublists.{one_insert}
-use Rattle.lvm_volumes.proofs.Places.{one_copy, its_copy}
+use Rattle.lvm_volumes.proofs.Places.{its_copy}
 use Rattle.lvm_volume_plan.proofs.NewDescriptor.{named_with, differs_with}
 use Rattle.lvm_volume_plan.proofs.OldDescriptor.{unnamed_without, differs_without, none_without}
 
@@ -69,7 +70,7 @@ zeros_allowed facts lv blocks n mode lt =
 
 -- ---- with a new volume
 
-module _ (v : NewVolume) (lv : ℕ) (map : List Pp) (d : Descriptor) (lowest : IsLowestFree d lv) (order : IsInOrder d lv) (valid : IsValid d) (size : 1 ≤ d.mib) (one : v.copies ≡ 1) (whole : length map ≡ v.lps * 1) where
+module _ (v : NewVolume) (lv : ℕ) (map : List Pp) (d : Descriptor) (lowest : IsLowestFree d lv) (order : IsInOrder d lv) (valid : IsValid d) (size : 1 ≤ d.mib) (some : 1 ≤ v.copies) (whole : length map ≡ v.lps * v.copies) where
   abbrev row : LvRow
   row = row_for v lv map
 
@@ -100,7 +101,7 @@ module _ (v : NewVolume) (lv : ℕ) (map : List Pp) (d : Descriptor) (lowest : I
     its_zeros lp n p copy inside =
         let below : n % partition_blocks d.mib < partition_blocks d.mib = omega (arith, size) in
         blocks_are_sectors (image_of sizes media) d.mib n p
-        ∙ All-contains (λ (pp : Pp). (disk s : ℕ) → IsSectorOf d.mib pp disk s → media disk s ≡ zero_sector) map p zeros (one_copy row lp p one copy) p.disk (sector_of d.mib p.pp n)
+        ∙ All-contains (λ (pp : Pp). (disk s : ℕ) → IsSectorOf d.mib pp disk s → media disk s ≡ zero_sector) map p zeros (contains map p (of_map row lp p copy)) p.disk (sector_of d.mib p.pp n)
         (record { disk = refl; low = omega arith; high = omega (arith, below) })
 
     its_values : (lp n : ℕ) → IsBlockOf d.mib row lp n → IsValue (known ((facts ++ Making lv (volume_blocks d.mib v.lps) v.mode ∷ []) ++ Cut ∷ []) (Lv lv) n) zero_sector
@@ -112,10 +113,11 @@ module _ (v : NewVolume) (lv : ℕ) (map : List Pp) (d : Descriptor) (lowest : I
     its_fresh : HasFreshCopies status there row
     its_fresh lp lt =
         let e : Pp = record { disk = 0; pp = 0 } in
-        let k = lp * 1 + 0 in
-        let within : lp < length map = omega (arith, lt, whole) in
-        let within_k : k < length map = omega (arith, lt, whole) in
-        (get_or map k e, its_copy row lp e one within, here k e within_k, fresh k e within_k)
+        let k = lp * v.copies + 0 in
+        let next_lp : suc lp * v.copies ≤ v.lps * v.copies = mul-le-mul_right v.copies lt in
+        let within : lp * v.copies < length map = omega (arith, next_lp, some, whole) in
+        let within_k : k < length map = omega (arith, within) in
+        (get_or map k e, its_copy row lp e some within, here k e within_k, fresh k e within_k)
 
     its_served : (r : LvRow) → IsOneOf next.lvs r → r.number ≡ lv → IsServed c (facts ++ Making lv (volume_blocks d.mib v.lps) v.mode ∷ []) d r
     its_served r is its = subst (λ (x : LvRow). IsServed c (facts ++ Making lv (volume_blocks d.mib v.lps) v.mode ∷ []) d x) (sym (own_row r is its))

@@ -136,11 +136,11 @@ pub record MakingBroke (plan : VolumePlan) (old new : State) (Ends : Log → Typ
   pub so_far : (entered ≡ old.core.history) ⊎ ((entered ≡ making_of plan old) × AreZeroed old.core.descriptor.mib plan.map new.device)
   pub ends : Ends entered
 
--- The descriptor with the volume is committed, its partitions are zeros and fresh, and both entries are made.
+-- The descriptor with the volume is committed, its partitions are zeros, and fresh on members that aren't missing, and both entries are made.
 pub record IsNamed (plan : VolumePlan) (old new : State) : Type 0 where
   pub settled : IsSettled new.core
   pub is : new.core ≡ record old.core { descriptor = plan.next; history = with_fact (making_of plan old) (Made plan.number); status = new.core.status; homes = new.core.homes }
-  pub fresh : All (λ (pp : Pp). IsFalse (calls_stale new.core.status.committed pp)) plan.map
+  pub fresh : All (λ (pp : Pp). IsTrue (is_there new.core pp.disk) → IsFalse (calls_stale new.core.status.committed pp)) plan.map
   pub zeros : AreZeroed old.core.descriptor.mib plan.map new.device
   pub ready : IsReady new.device
   pub cuts : new.device.counts.cuts ≡ old.device.counts.cuts

@@ -38,8 +38,8 @@ AreZeroed mib map device = All (λ pp. IsZeroed mib pp device) map
 abbrev pub making : NewVolume → ℕ → State → Log
 making v lv s = with_fact s.core.history (Making lv (volume_blocks s.core.descriptor.mib v.lps) v.mode)
 
--- The volume of the lowest free number is made: the partitions that first fit gives it are zeros and fresh, the descriptor names it, and the history says
--- so; members that became missing aside, and the copies that they left behind, nothing else of the session has changed.
+-- The volume of the lowest free number is made: the partitions that first fit gives it are zeros, and fresh on members that aren't missing, the descriptor
+-- names it, and the history says so; members that became missing aside, and the copies that they left behind, nothing else of the session has changed.
 pub record IsVolumeMade (v : NewVolume) (lv : ℕ) (old new : State) : Type 0 where
   pub map : List Pp
   pub may : MayBeMade v old.core map
@@ -51,7 +51,7 @@ pub record IsVolumeMade (v : NewVolume) (lv : ℕ) (old new : State) : Type 0 wh
     homes = new.core.homes;
   }
   pub zeros : AreZeroed old.core.descriptor.mib map new.device
-  pub fresh : All (λ (pp : Pp). IsFalse (calls_stale new.core.status.committed pp)) map
+  pub fresh : All (λ (pp : Pp). IsTrue (is_there new.core pp.disk) → IsFalse (calls_stale new.core.status.committed pp)) map
   pub ready : IsReady new.device
   pub cuts : new.device.counts.cuts ≡ old.device.counts.cuts
 

@@ -31,11 +31,10 @@ const DISKS: u16 = 128;
 /// Makes a volume of the group that is on, and answers its number, the lowest that is free. Its partitions are
 /// those of first fit on the members that aren't missing. They become fresh, and zeros are written to them; then
 /// the descriptor that names the volume is committed, between the two entries of it. All memory is taken before
-/// the first write. Volumes of several copies, or whose copies are made equal after a crash, aren't made
-/// yet.
+/// the first write. Volumes whose copies are made equal after a crash aren't made yet.
 ///
 /// The causes, in their order: `Dark` and `WentOff`, where the session is over; `Busy`, where a request is open;
-/// `VolumeExists`, where a volume has the name; `CopyLimit`, where not one copy is asked for; `TooMany`, where the
+/// `VolumeExists`, where a volume has the name; `CopyLimit`, where not one to three copies are asked for; `TooMany`, where the
 /// group has as many volumes as it may; `NoRoom`, where first fit finds no place; `HistoryFull`, with fewer than
 /// two entries to spare or than 65,536 sequence numbers; and from the first write on `Dark`, `WentOff`, `Stuck`,
 /// and `DiskFailed`, where a disk failed on which the volume was to have a partition: the volume isn't made then.

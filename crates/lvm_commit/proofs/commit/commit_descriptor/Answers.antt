@@ -71,6 +71,7 @@ returns-in_default g c =
       leaves = record {
         loses = one.loses;
         left = round_left c.args.d.now first mid c.requires.may.valid c.write_descriptor.ensures.marks (loses_less first mid old m one.loses);
+        forgotten = c.write_descriptor.ensures.marks.forgotten;
         numbers = spends_one first mid old m one.loses stamp;
         keeps = keeps_wider (there first) (there first) (IsOfRecord w) (IsOfCommit content first mid) old m (λ d off. off) (is_of_commit first mid homes after old m content number p q r gives sectors frames mid (omega arith)) one.keeps;
         spends = one.spends;
@@ -114,6 +115,7 @@ returns-in-Done g c =
       describes = c.requires.describes;
       round = c.write_descriptor.ensures.marks;
       left = e.leaves.left;
+      forgotten = e.leaves.forgotten;
       unwritten = λ same. ends_map r _ ((new ≡ m) × (last ≡ mid)) (λ is. (ap (λ s. g.S.Shelf.device s) is.0, is.1)) (e.unwritten same);
     } in
     record {

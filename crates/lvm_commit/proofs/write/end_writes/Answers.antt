@@ -76,4 +76,5 @@ returns c =
       wanted = ending_wanted first (has c.args.failed) last ending none;
       committed = ending_committed first (has c.args.failed) last ending none;
       short = ending_short first (has c.args.failed) last ending none;
+      forgotten = ending.sound.idle;
     }

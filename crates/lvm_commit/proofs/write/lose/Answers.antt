@@ -55,6 +55,7 @@ returns c =
       stamp = losing.stamp;
       committed = losing.committed;
       idle = losing.idle;
+      forgotten = losing.forgotten;
       wanted = misses_same (λ d. failed d && is_member c.args.d.now d) failed c.args.updater.now.wanted c.loop-row.updater.wanted c.loop-row.updater.wanted losing.wanted refl
           (λ d. within (failed d) (is_member c.args.d.now d) (c.requires.members d));
     }

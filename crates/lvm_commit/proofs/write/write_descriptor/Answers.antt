@@ -6,6 +6,7 @@ use Rattle.lvm_num.specs.Disks.{has}
 use Rattle.lvm_num.specs.Status.{calls_missing}
 use Rattle.lvm_status.specs.Update.{Stored}
 use Rattle.lvm_status.proofs.Sound.{and_left}
+use Rattle.lvm_commit.specs.Settling.{IsForgotten}
 use Rattle.lvm_commit.specs.Rounds.{HasLost, IsSame, stamped, session_write}
 use Rattle.lvm_commit.proofs.Wanting.{row_stays}
 use Rattle.lvm_commit.proofs.Leaving.{kept_committed, leaves, marks_round, round_same}
@@ -45,7 +46,7 @@ returns-in-Ended-clause-marks g c =
     let mid : Stored = c.lose.new.updater in
     let lost : HasLost (has c.in-Ended.failed) (stamped u) mid = subst (λ (s : Stored). HasLost (has c.in-Ended.failed) s mid) c.send_descriptor.ensures.stamps c.lose.ensures in
     marks_round c.args.d.now u mid c.mark_left.new.updater (has c.in-Ended.failed) lost.wanted c.mark_left.ensures lost.group
-    (λ disk fails. ap (λ (g : Descriptor). is_member g disk) c.requires.may.own ∙ and_left (is_member u.group disk) (not (calls_missing u.wanted disk)) ((c.in-Ended.ensures.sent.ends.each disk).target fails))
+    (λ disk fails. ap (λ (g : Descriptor). is_member g disk) c.requires.may.own ∙ and_left (is_member u.group disk) (not (calls_missing u.wanted disk)) ((c.in-Ended.ensures.sent.ends.each disk).target fails)) lost.forgotten
 
 pub returns-in-Ended-clause-committed : goal.returns-in-Ended-clause-committed
 returns-in-Ended-clause-committed g c =
@@ -63,7 +64,7 @@ returns-in-Dark-clause-gives g c =
 pub returns-in-Dark-clause-marks : goal.returns-in-Dark-clause-marks
 returns-in-Dark-clause-marks g c =
     let is = c.send_descriptor.ensures.stamps in
-    round_same c.args.d.now c.args.updater.now c.send_descriptor.new.updater (ap (λ (s : Stored). s.group) is) (ap (λ (s : Stored). s.wanted) is)
+    round_same c.args.d.now c.args.updater.now c.send_descriptor.new.updater (ap (λ (s : Stored). s.group) is) (ap (λ (s : Stored). s.wanted) is) (λ was. subst IsForgotten (sym is) was)
 
 pub returns-in-Dark-clause-committed : goal.returns-in-Dark-clause-committed
 returns-in-Dark-clause-committed g c = ap (λ (s : Stored). s.committed) c.send_descriptor.ensures.stamps
@@ -78,7 +79,7 @@ returns-in-Stuck-clause-gives g c =
 pub returns-in-Stuck-clause-marks : goal.returns-in-Stuck-clause-marks
 returns-in-Stuck-clause-marks g c =
     let is = c.send_descriptor.ensures.stamps in
-    round_same c.args.d.now c.args.updater.now c.send_descriptor.new.updater (ap (λ (s : Stored). s.group) is) (ap (λ (s : Stored). s.wanted) is)
+    round_same c.args.d.now c.args.updater.now c.send_descriptor.new.updater (ap (λ (s : Stored). s.group) is) (ap (λ (s : Stored). s.wanted) is) (λ was. subst IsForgotten (sym is) was)
 
 pub returns-in-Stuck-clause-committed : goal.returns-in-Stuck-clause-committed
 returns-in-Stuck-clause-committed g c = ap (λ (s : Stored). s.committed) c.send_descriptor.ensures.stamps

@@ -1,4 +1,4 @@
-use Rattle.std.proofs.Common.{◌≡◌, ℕ, true, not, sym, ◌∙◌, ap}
+use Rattle.std.proofs.Common.{◌≡◌, ℕ, true, not, Some, None, sym, ◌∙◌, ap}
 use Rattle.lvm_num.specs.declared.record.Kind.TheVariants as kind
 use Rattle.lvm_num.specs.declared.descriptor.Descriptor.{Descriptor}
 use Rattle.lvm_num.specs.declared.status.Status.{Status}
@@ -9,7 +9,7 @@ use Rattle.lvm_num.specs.StatusBytes.{status_bytes}
 use Rattle.lvm_stale.specs.Table.{has_row}
 use Rattle.lvm_status.specs.Update.{Stored}
 use Rattle.lvm_status.proofs.Sound.{and_left}
-use Rattle.lvm_commit.specs.Settling.{there}
+use Rattle.lvm_commit.specs.Settling.{there, IsForgotten}
 use Rattle.lvm_commit.specs.Rounds.{Misses, HasEnded, IsSame, Starts, stamped, session_write}
 use Rattle.lvm_commit.proofs.Wanting.{row_stays}
 use Rattle.lvm_commit.proofs.Leaving.{round_committed, leaves, marks_round, round_same}
@@ -20,6 +20,10 @@ use Rattle.lvm_commit.proofs.write.write_wanted.Goals as goal
 
 same_as : (u x : Stored) → Starts u x → IsSame (stamped u) x
 same_as u x starts = record { group = starts.group; stamp = starts.stamp; wanted = starts.wanted }
+
+-- an update is in flight
+flies_on : (u x : Stored) → Starts u x → IsForgotten u → IsForgotten x
+flies_on u x starts was none = absurd (let e : Some x.wanted ≡ None = sym starts.started.flies ∙ none in cc e)
 
 -- those on which it failed become missing
 misses : (u x mid : Stored) (failed : Disks) → Starts u x → HasEnded failed x mid → ((d : ℕ) → failed d ≡ true → there u d ≡ true) → Misses failed u.wanted mid.wanted
@@ -63,7 +67,7 @@ returns-in-Ended-clause-marks g c =
     let ends = c.end_writes.ensures in
     let on : (d : ℕ) → failed d ≡ true → there u d ≡ true = λ d is. (c.in-Ended.ensures.sent.ends.each d).target is in
     marks_round c.args.d.now u c.end_writes.new.updater c.mark_left.new.updater failed (misses u x c.end_writes.new.updater failed starts ends on) c.mark_left.ensures (ends.group ∙ starts.group)
-    (λ d is. ap (λ (g : Descriptor). is_member g d) c.requires.may.own ∙ and_left (is_member u.group d) (not (calls_missing u.wanted d)) (on d is))
+    (λ d is. ap (λ (g : Descriptor). is_member g d) c.requires.may.own ∙ and_left (is_member u.group d) (not (calls_missing u.wanted d)) (on d is)) (λ was. ends.forgotten)
 
 pub returns-in-Ended-clause-committed : goal.returns-in-Ended-clause-committed
 returns-in-Ended-clause-committed g c =
@@ -80,7 +84,7 @@ returns-in-Dark-clause-gives g c =
     c.send_wanted.new.homes (g.S.Shelf.device c.args.shelf.now) (g.S.Shelf.device c.send_wanted.new.shelf) sent.leaves (same_as u c.send_wanted.new.updater c.send_wanted.ensures.starts) sent.ends.0
 
 pub returns-in-Dark-clause-marks : goal.returns-in-Dark-clause-marks
-returns-in-Dark-clause-marks g c = round_same c.args.d.now c.args.updater.now c.send_wanted.new.updater c.send_wanted.ensures.starts.group c.send_wanted.ensures.starts.wanted
+returns-in-Dark-clause-marks g c = round_same c.args.d.now c.args.updater.now c.send_wanted.new.updater c.send_wanted.ensures.starts.group c.send_wanted.ensures.starts.wanted (flies_on c.args.updater.now c.send_wanted.new.updater c.send_wanted.ensures.starts)
 
 pub returns-in-Dark-clause-committed : goal.returns-in-Dark-clause-committed
 returns-in-Dark-clause-committed g c = c.send_wanted.ensures.starts.committed
@@ -93,7 +97,7 @@ returns-in-Stuck-clause-gives g c =
     c.send_wanted.new.homes (g.S.Shelf.device c.args.shelf.now) (g.S.Shelf.device c.send_wanted.new.shelf) sent.leaves (same_as u c.send_wanted.new.updater c.send_wanted.ensures.starts) sent.ends.0
 
 pub returns-in-Stuck-clause-marks : goal.returns-in-Stuck-clause-marks
-returns-in-Stuck-clause-marks g c = round_same c.args.d.now c.args.updater.now c.send_wanted.new.updater c.send_wanted.ensures.starts.group c.send_wanted.ensures.starts.wanted
+returns-in-Stuck-clause-marks g c = round_same c.args.d.now c.args.updater.now c.send_wanted.new.updater c.send_wanted.ensures.starts.group c.send_wanted.ensures.starts.wanted (flies_on c.args.updater.now c.send_wanted.new.updater c.send_wanted.ensures.starts)
 
 pub returns-in-Stuck-clause-committed : goal.returns-in-Stuck-clause-committed
 returns-in-Stuck-clause-committed g c = c.send_wanted.ensures.starts.committed

@@ -2,6 +2,7 @@ use Rattle.std.proofs.Common.{sym, subst}
 use Rattle.lvm_vol.specs.Log.{Log}
 use Rattle.lvm_steps.specs.Requests.{at}
 use Rattle.lvm_session.specs.State.{Core}
+use Rattle.lvm_session_start.specs.Beginning.{AreFaults}
 use Rattle.lvm_core.specs.Held.{StartsHeld}
 use Rattle.lvm_core.specs.Coming.{BringsOn}
 use Rattle.lvm_group.specs.NewGroup.{NewGroup}
@@ -38,6 +39,7 @@ returns-in-Ok g c =
             subst (λ (s : g.row.S.Denot). StartsHeld (g.S.Shelf.device s) c.start.result.1) (sym c.start.ensures.shelf)
             (subst (λ (x : Core). StartsHeld new x) (sym c.start.ensures.core) (let held = c.in-Ok.ensures.held clock in record { held = held.held; notes = held.notes }));
       };
+      faults = subst (λ (s : g.row.S.Denot). AreFaults (g.S.Shelf.device s) c.start.result.1.origin.faults) (sym c.start.ensures.shelf) c.start.ensures.faults;
       leaves = subst (λ (s : g.row.S.Denot). BringsOn was.run c.args.moment c.args.patience.now.left c.make.new.patience.left old (g.S.Shelf.device s) was c.start.result.1.history) (sym c.start.ensures.shelf) (record {
         keeps = λ clock. keeps_on w c.args.room was c.make.new.history old new c.in-Ok.standing stands (at old was.facts) c.start.result.1 c.start.ensures.core clock (leaves.keeps clock);
         behind = leaves.behind;

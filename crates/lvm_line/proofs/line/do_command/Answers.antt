@@ -1,6 +1,6 @@
 use Rattle.std.proofs.Common.{refl, subst, ℕ, List}
-use Rattle.lvm_commands.specs.Ends.{CommandEnds}
-use Rattle.lvm_commands.specs.Groups.{MkvgDoes}
+use Rattle.lvm_stage.specs.Ends.{CommandEnds}
+use Rattle.lvm_group_lines.specs.Groups.{MkvgDoes}
 use Rattle.lvm_line.proofs.Lining.{done_by, listed_by}
 use Rattle.lvm_line.proofs.line.do_command.Goals as goal
 

@@ -1,14 +1,14 @@
 use Rattle.std.proofs.Common.{◌≡◌, ◌∙◌, ap, refl, None, Some, Ok, Option}
 use Rattle.lvm_parse.specs.declared.command.Command.{Command}
 use Rattle.lvm_operands.specs.Reading.{misfit}
-use Rattle.lvm_commands.specs.Stages.{shelf_in, history_in, state_in}
-use Rattle.lvm_commands.specs.State.{without_facts}
-use Rattle.lvm_commands.specs.declared.reply.Refusal.TheVariants as refusal
-use Rattle.lvm_commands.specs.declared.reply.Reply.TheVariants as reply
-use Rattle.lvm_commands.specs.declared.stage.Stage.{Stage}
-use Rattle.lvm_line.proofs.Asking.{line_is_within}
+use Rattle.lvm_stage.specs.Stages.{shelf_in, history_in, state_in}
+use Rattle.lvm_stage.specs.State.{without_facts}
+use Rattle.lvm_stage.specs.declared.reply.Refusal.TheVariants as refusal
+use Rattle.lvm_stage.specs.declared.reply.Reply.TheVariants as reply
+use Rattle.lvm_stage.specs.declared.stage.Stage.{Stage}
+use Rattle.lvm_parse.proofs.Fields.{line_is_within}
 use Rattle.lvm_line.proofs.Lining.{line_read, line_still, line_unread, asked_once, asked_so}
-use Rattle.lvm_commands.proofs.Staging.{asked_stays}
+use Rattle.lvm_stage.proofs.Staging.{asked_stays}
 use Rattle.lvm_line.proofs.line.do_line.Goals as goal
 
 pub do_command-requires-clause-within : goal.do_command-requires-clause-within

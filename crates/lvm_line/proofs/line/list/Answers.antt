@@ -2,8 +2,8 @@ use Rattle.std.proofs.Common.{◌≡◌, ℕ, Option, IfSome, refl, sym, subst}
 use Rattle.lvm_core.specs.declared.parts.Room.{Room}
 use Rattle.lvm_vol.specs.Log.{Log}
 use Rattle.lvm_line.specs.Lines.{CommandDoes}
-use Rattle.lvm_commands.specs.Stages.{state_in}
-use Rattle.lvm_commands.specs.declared.reply.Reply.{Reply}
+use Rattle.lvm_stage.specs.Stages.{state_in}
+use Rattle.lvm_stage.specs.declared.reply.Reply.{Reply}
 use Rattle.lvm_line.proofs.Lining.{of_command}
 use Rattle.lvm_line.proofs.line.list.Goals.{in-Lsvg, in-Lslv, in-Lspv, in_default}
 use Rattle.lvm_line.proofs.line.list.Goals as goal

@@ -1,7 +1,7 @@
 use Rattle.std.proofs.Common.{◌≡◌, ◌∙◌, ℕ, Option, sym, refl, subst}
 use Rattle.lvm_io.specs.Reading.{Reading}
-use Rattle.lvm_commands.specs.Stages.{history_in, state_in}
-use Rattle.lvm_commands.specs.State.{without_facts}
+use Rattle.lvm_stage.specs.Stages.{history_in, state_in}
+use Rattle.lvm_stage.specs.State.{without_facts}
 use Rattle.lvm_top.specs.Turn.{ReadsLine, ReadsNone, Tells}
 use Rattle.lvm_top.specs.declared.script.Stop.{Stop}
 use Rattle.lvm_top.specs.declared.script.Stop.TheVariants as stop

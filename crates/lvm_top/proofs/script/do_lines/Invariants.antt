@@ -1,6 +1,6 @@
 use Rattle.std.proofs.Common.{◌≡◌}
-use Rattle.lvm_commands.specs.Stages.{history_in, state_in, IsSettledStage}
-use Rattle.lvm_commands.specs.State.{without_facts}
+use Rattle.lvm_stage.specs.Stages.{history_in, state_in, IsSettledStage}
+use Rattle.lvm_stage.specs.State.{without_facts}
 use Rattle.lvm_top.proofs.Scripting.{RunSoFar}
 use Rattle.lvm_top.proofs.script.do_lines.Given as goal
 

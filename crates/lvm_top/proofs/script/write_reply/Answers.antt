@@ -1,5 +1,5 @@
 use Rattle.std.proofs.Common.{◌≡◌, ◌∙◌, inl, inr, sym, refl}
-use Rattle.lvm_commands.specs.Replies.{reply_text}
+use Rattle.lvm_stage.specs.Replies.{reply_text}
 use Rattle.lvm_top.proofs.Lining.{wrote, took_all, failed}
 use Rattle.lvm_top.proofs.script.write_reply.Goals as goal
 

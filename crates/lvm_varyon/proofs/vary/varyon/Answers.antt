@@ -4,6 +4,7 @@ use Rattle.lvm_disk.specs.Paths.{Here}
 use Rattle.lvm_vol.specs.Log.{Log, spare_entries}
 use Rattle.lvm_stamps.proofs.Clock.{all_is_behind_next}
 use Rattle.lvm_write.proofs.Transfers.{spends_none}
+use Rattle.lvm_session_start.specs.Beginning.{AreFaults}
 use Rattle.lvm_core.specs.Coming.{BringsOn}
 use Rattle.lvm_core.specs.Held.{StartsHeld}
 use Rattle.lvm_core.specs.declared.refused.Cause.TheVariants as cause
@@ -48,6 +49,9 @@ returns-in-Ok-clause-starts g c =
       left = none_left _ _ c.args.history c.args.name c.args.moment c.args.room c.in-Ok.parts c.in-Ok.homes c.start.result.1 c.in-Ok.ensures.gives c.start.ensures.core;
       held = λ clock. subst (λ (d : Device). StartsHeld d c.start.result.1) (sym (ap g.S.Shelf.device c.start.ensures.shelf)) (starts_held _ _ c.args.history c.args.name c.args.moment c.args.room c.in-Ok.parts c.in-Ok.homes c.start.result.1 c.in-Ok.ensures.gives c.start.ensures.core clock);
     }
+
+pub returns-in-Ok-clause-faults : goal.returns-in-Ok-clause-faults
+returns-in-Ok-clause-faults g c = subst (λ (d : Device). AreFaults d c.start.result.1.origin.faults) (sym (ap g.S.Shelf.device c.start.ensures.shelf)) c.start.ensures.faults
 
 pub returns-in-Ok-clause-restated : goal.returns-in-Ok-clause-restated
 returns-in-Ok-clause-restated g c = λ clock.

@@ -1,7 +1,7 @@
 use Rattle.std.proofs.Common.{arith}
 use Rattle.lvm_session.specs.declared.answers.Turned.TheVariants as turned
 use Rattle.lvm_driver.specs.Answers.{state_of}
-use Rattle.lvm_driver.proofs.Draining.{begins, causes_on, good_on, moved, path, waits}
+use Rattle.lvm_driver.proofs.Draining.{begins, causes_on, drained, good_on, moved, path, waits}
 use Rattle.lvm_driver.proofs.driver.Driver.drain.Goals as goal
 
 pub loop-patience-init : goal.loop-patience-init
@@ -63,3 +63,11 @@ pub returns-then-flights-eq0-clause-causes : goal.returns-then-flights-eq0-claus
 returns-then-flights-eq0-clause-causes g c =
     let device = g.S.Shelf.device in
     causes_on (state_of device c.args.self.now) (state_of device c.loop-patience.self) (state_of device c.turn.new.self) c.args.patience.now.left c.loop-patience.patience.left c.loop-patience.invariant c.in-Idle.ensures.causes
+
+pub returns-then-flights-eq0-clause-ends : goal.returns-then-flights-eq0-clause-ends
+returns-then-flights-eq0-clause-ends g c =
+    let device = g.S.Shelf.device in
+    let out = c.flights.ensures in
+    let none = c.if-flights-eq0.true in
+    drained (state_of device c.args.self.now) (state_of device c.loop-patience.self) (state_of device c.turn.new.self) c.args.patience.now.left c.loop-patience.patience.left c.loop-patience.invariant
+    c.in-Idle.ensures.tells (grind (arith, out, none))

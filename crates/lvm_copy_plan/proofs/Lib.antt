@@ -1,0 +1,5 @@
+pub mod Parts
+pub mod Rows
+pub mod More
+pub mod Fewer
+pub mod Finding

@@ -1,0 +1,8 @@
+//! The lines on disks that are in no group, and on the shelf itself.
+#![tactic(auto)]
+
+mod disks;
+mod shelves;
+
+pub use disks::{do_read, do_write};
+pub use shelves::{do_arrange, do_cut};

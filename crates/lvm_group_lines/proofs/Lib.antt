@@ -1,0 +1,5 @@
+pub mod Closing
+pub mod Coming
+pub mod Listing
+pub mod Making
+pub mod Varying

@@ -1,0 +1,4 @@
+pub mod Ending
+pub mod Behind
+pub mod Coming
+pub mod Ranging

@@ -1,0 +1,14 @@
+//! The line of turns that were made.
+ghost use Rattle.std.specs.Prelude.{◌≡◌, IfOk};
+ghost use Rattle.lvm_replies.specs.Texts.{stepped_text};
+
+use lvm_num::{Memory, Text};
+use std::alloc::Global;
+
+/// `stepped`, and how many turns did something.
+pub fn show_stepped(alloc: Global, turns: u32) -> Result<Text, Memory>
+    ensures { IfOk result (λ text. text ≡ stepped_text turns) }
+{
+    let text = format!(in alloc; "stepped {turns}\n")?;
+    Ok(Text::new(text))
+}

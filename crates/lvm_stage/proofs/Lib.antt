@@ -1,0 +1,7 @@
+pub mod Cuts
+pub mod Ends
+pub mod Going
+pub mod Lighting
+pub mod Passive
+pub mod Staging
+pub mod Texts

@@ -1,0 +1,19 @@
+-- A line by which the clock is asked, or the session ends, and nothing else happens.
+use Rattle.std.specs.Prelude.{◌≡◌, None}
+use Rattle.lvm_io.specs.Count.{Rose}
+use Rattle.lvm_stage.specs.State.{State}
+
+-- the clock was asked, and answered a later moment, or the last one that there is again
+abbrev pub Asks : State → State → Type 0
+Asks old new = Rose old.last new.last
+
+-- and nothing else has happened
+pub record IsAsked (old new : State) : Type 0 where
+  pub asks : Asks old new
+  pub same : new ≡ record old { last = new.last }
+
+-- the session ends, and nothing is written
+pub record EndsSession (old new : State) : Type 0 where
+  pub same : new.moment ≡ old.moment
+  pub after : new.session ≡ None
+  pub clock : new.last ≡ old.last

@@ -1,0 +1,29 @@
+-- The texts of replies.
+use Rattle.std.specs.Prelude.{◌≡◌, ℕ, List, [], codes}
+use Rattle.lvm_replies.specs.Refusals.{refusal_text}
+use Rattle.lvm_stage.specs.Refusals.{shown}
+use Rattle.lvm_stage.specs.State.{State}
+use Rattle.lvm_stage.specs.declared.reply.Refusal.{Refusal}
+use Rattle.lvm_stage.specs.declared.reply.Refusal.TheVariants as refusal
+use Rattle.lvm_stage.specs.declared.reply.Reply.{Reply}
+use Rattle.lvm_stage.specs.declared.reply.Reply.TheVariants as reply
+
+-- what answers, with a line feed at the end of each line
+abbrev pub reply_text : Reply → List ℕ
+reply_text reply.Silent = []
+reply_text reply.Ok = codes "ok\n"
+reply_text (reply.Lines text) = text
+reply_text (reply.Refused why) = refusal_text (shown why)
+
+-- nothing was heard of a transfer, and the run ends
+abbrev pub IsStuck : Reply → Type 0
+IsStuck answer = answer ≡ reply.Refused refusal.Stuck
+
+-- it is refused, and nothing changes
+abbrev pub IsRefused : Refusal → Reply → State → State → Type 0
+IsRefused why answer old new = (answer ≡ reply.Refused why) × (new ≡ old)
+
+-- where no memory is found for the lines that answer, the reply says so
+pub data Shows (text : List ℕ) (answer : Reply) : Type 0 where
+  InFull : answer ≡ reply.Lines text → Shows text answer
+  WithoutMemory : answer ≡ reply.Refused refusal.Memory → Shows text answer

@@ -1,0 +1,148 @@
+//! What a line is answered.
+ghost use Rattle.std.specs.Prelude.{◌≡◌, IsTrue, IfOk};
+ghost use Rattle.lvm_replies.specs.Refusals.{is_refusal};
+ghost use Rattle.lvm_stage.specs.Refusals.{shown};
+ghost use Rattle.lvm_stage.specs.Replies.{reply_text};
+
+use lvm_num::{Memory, Text};
+use lvm_replies::{Carried, show_refusal};
+use std::alloc::Global;
+
+/// Why a line was not carried out, or how it failed. Each has a number and a name of this project's own.
+#[derive(Drop)]
+pub enum Refusal {
+    /// 1: the line is not in the language, or isn't done yet; the column counts bytes from 1.
+    BadLine { column: u32 },
+    /// 2: no group is on, or another than the one that is named.
+    NoGroup,
+    /// 3: a group is on.
+    GroupOn,
+    /// 4: a disk is in a group, or with force in one that has a volume.
+    GroupExists,
+    /// 5: the shelf has no such disk, or it isn't a member of the group.
+    NoDisk { disk: u16 },
+    /// 6: no partition fits on the disk.
+    TooSmall { disk: u16 },
+    /// 7: the members that answer have so many votes of so many, too few for the group to come on.
+    NoQuorum { have: u32, total: u32 },
+    /// 8: the moment of the command isn't later than this one.
+    ClockBack { seen: u64 },
+    /// 9: a transfer of records of the disk failed; of several disks this is the lowest.
+    DiskFailed { disk: u16 },
+    /// 10: two groups have the name.
+    Ambiguous,
+    /// 11: no disk that answers shows such a group, or none of its members a status of it.
+    NoRecord,
+    /// 12: the group has no volume of that name.
+    NoVolume,
+    /// 13: the group has a volume of that name.
+    VolumeExists,
+    /// 14: more disks are named than a group may have, or the group has as many volumes as it may.
+    TooMany { limit: u32 },
+    /// 15: the partitions that are free, so many, have no place for the volume.
+    NoRoom { free: u32 },
+    /// 16: so many copies can't be had; the volume has so many now.
+    CopyLimit { now: u8 },
+    /// 17: all fresh copies of this logical partition would go.
+    LastFresh { lp: u32 },
+    /// 18: the blocks are not all within the data of the disk, which has so many sectors.
+    OutOfRange { blocks: u64 },
+    /// 19: a write failed, since its disk did. Each of its blocks is old or new.
+    Lost,
+    /// 20: a read failed, since its disk did.
+    ReadFailed,
+    /// 22: the members that can be written to have so many votes of so many, too few for the group to
+    /// stay on.
+    WentOff { have: u32, total: u32 },
+    /// 23: the power was cut meanwhile.
+    Dark,
+    /// 24: the shelf had nothing to tell a million times.
+    Stuck,
+    /// 25: the history has no room for the command.
+    HistoryFull,
+    /// 26: the disk is in a group.
+    InGroup { disk: u16 },
+    /// 27: the shelf takes no orders.
+    NoPlan,
+    /// 29: memory ran out.
+    Memory,
+    /// 30: a request of the session hasn't been answered.
+    Busy,
+}
+
+/// The answer to a line.
+#[derive(Drop)]
+pub enum Reply {
+    /// Nothing: the line has no word, or is a remark.
+    Silent,
+    /// `ok`.
+    Ok,
+    /// The lines of a listing, or of the blocks that were read.
+    Lines(Text),
+    /// `refused`, with the refusal's number, its name and what it carries.
+    Refused(Refusal),
+}
+
+// A refusal by its number and what it carries.
+fn shown(refusal: &Refusal) -> lvm_replies::Refusal
+    ensures same { result ≡ shown refusal.now }
+    ensures refusal { IsTrue (is_refusal result) }
+{
+    let (number, carried) = match refusal {
+        Refusal::BadLine { column } => (1, Carried::Number(u64::from(*column))),
+        Refusal::NoGroup => (2, Carried::Nothing),
+        Refusal::GroupOn => (3, Carried::Nothing),
+        Refusal::GroupExists => (4, Carried::Nothing),
+        Refusal::NoDisk { disk } => (5, Carried::Disk(*disk)),
+        Refusal::TooSmall { disk } => (6, Carried::Disk(*disk)),
+        Refusal::NoQuorum { have, total } => (
+            7,
+            Carried::Votes {
+                have: *have,
+                total: *total,
+            },
+        ),
+        Refusal::ClockBack { seen } => (8, Carried::Number(*seen)),
+        Refusal::DiskFailed { disk } => (9, Carried::Disk(*disk)),
+        Refusal::Ambiguous => (10, Carried::Nothing),
+        Refusal::NoRecord => (11, Carried::Nothing),
+        Refusal::NoVolume => (12, Carried::Nothing),
+        Refusal::VolumeExists => (13, Carried::Nothing),
+        Refusal::TooMany { limit } => (14, Carried::Number(u64::from(*limit))),
+        Refusal::NoRoom { free } => (15, Carried::Number(u64::from(*free))),
+        Refusal::CopyLimit { now } => (16, Carried::Number(u64::from(*now))),
+        Refusal::LastFresh { lp } => (17, Carried::Lp(*lp)),
+        Refusal::OutOfRange { blocks } => (18, Carried::Number(*blocks)),
+        Refusal::Lost => (19, Carried::Nothing),
+        Refusal::ReadFailed => (20, Carried::Nothing),
+        Refusal::WentOff { have, total } => (
+            22,
+            Carried::Votes {
+                have: *have,
+                total: *total,
+            },
+        ),
+        Refusal::Dark => (23, Carried::Nothing),
+        Refusal::Stuck => (24, Carried::Nothing),
+        Refusal::HistoryFull => (25, Carried::Nothing),
+        Refusal::InGroup { disk } => (26, Carried::Disk(*disk)),
+        Refusal::NoPlan => (27, Carried::Nothing),
+        Refusal::Memory => (29, Carried::Nothing),
+        Refusal::Busy => (30, Carried::Nothing),
+    };
+    lvm_replies::Refusal { number, carried }
+}
+
+/// The line of a refusal.
+pub fn refusal_line(alloc: Global, why: &Refusal) -> Result<Text, Memory>
+    ensures { IfOk result (λ text. text ≡ reply_text (Reply.Refused why.now)) }
+{
+    show_refusal(alloc, &shown(why))
+}
+
+/// The line that is written where that of a refusal finds no memory.
+pub fn memory_text() -> &'static [u8]
+    ensures { result.now ≡ reply_text (Reply.Refused Refusal.Memory) }
+{
+    b"refused 29 Memory\n"
+}

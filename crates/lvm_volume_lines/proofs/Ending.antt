@@ -1,0 +1,119 @@
+-- How `mklv` and `rmlv` end.
+use Rattle.std.proofs.Common.{◌≡◌, inl, inr, [], ℕ, true, false, Err, refl, sym, subst, Result, Ok}
+use Rattle.lvm_disk.specs.Counts.{Rose}
+use Rattle.lvm_disk.specs.Device.{Device, IsReady}
+use Rattle.lvm_transfer.specs.Transfer.{Relights}
+use Rattle.lvm_write.specs.Written.{IsGivenUp}
+use Rattle.lvm_commit.specs.Settling.{HasLostQuorum}
+use Rattle.lvm_session.specs.declared.open.Power.TheVariants as power
+use Rattle.lvm_session.specs.State.{State as Session}
+use Rattle.lvm_volumes.specs.Volumes.{MklvGives, RmlvGives}
+use Rattle.lvm_stage.specs.declared.reply.Refusal.TheVariants as refusal
+use Rattle.lvm_stage.specs.declared.reply.Reply.TheVariants as reply
+use Rattle.lvm_stage.proofs.Lighting.{LitUp}
+use Rattle.lvm_volume_lines.proofs.Commanding.{lit_rest, lit_dark, lit_stuck}
+use Rattle.lvm_volume_lines.specs.Volumes.{is_over, volume_reply}
+use Rattle.lvm_volume_plan.specs.declared.fault.GroupFault.{GroupFault}
+use Rattle.lvm_volume_plan.specs.declared.fault.GroupFault.TheVariants as fault
+use Rattle.lvm_volume_plan.specs.declared.new_volume.NewVolume.{NewVolume}
+
+-- ---- what is known by the answer
+
+-- what has happened to the shelf where a fault comes from it; else nothing has
+abbrev pub FaultFacts : GroupFault → ℕ → Session → Session → Type 0
+FaultFacts fault.Dark patience old new = (new.device.flights ≡ []) × Rose old.device.counts.cuts new.device.counts.cuts
+FaultFacts (fault.WentOff have total) patience old new = HasLostQuorum old.core.status new.core.status old.device new.device have total × IsReady new.device
+FaultFacts fault.Stuck patience old new = IsGivenUp 0 patience old.device new.device
+FaultFacts (fault.DiskFailed disk) patience old new = Rose (old.device.counts.faults disk) (new.device.counts.faults disk) × IsReady new.device
+FaultFacts fault.Busy patience old new = new ≡ old
+FaultFacts fault.NoVolume patience old new = new ≡ old
+FaultFacts fault.VolumeExists patience old new = new ≡ old
+FaultFacts (fault.CopyLimit now) patience old new = new ≡ old
+FaultFacts (fault.LastFresh lp) patience old new = new ≡ old
+FaultFacts (fault.TooMany limit) patience old new = new ≡ old
+FaultFacts (fault.NoRoom free) patience old new = new ≡ old
+FaultFacts fault.HistoryFull patience old new = new ≡ old
+FaultFacts fault.Memory patience old new = new ≡ old
+
+abbrev pub Facts : {X : Type 0} → Result X GroupFault → ℕ → Session → Session → Type 0
+Facts (Ok done) patience old new = IsReady new.device
+Facts (Err why) patience old new = FaultFacts why patience old new
+
+module _ (v : NewVolume) (patience : ℕ) (old new : Session) (on : old.core.power ≡ power.On) where
+  pub mklv_facts : (given : Result ℕ GroupFault) → MklvGives v patience old new given → Facts given patience old new
+  mklv_facts (Ok lv) made = made.ready
+  mklv_facts (Err fault.Dark) (inl refused) = absurd (let dark = refused.1 in cc (on, dark))
+  mklv_facts (Err fault.Dark) (inr making) = (making.ends.cut.flights, making.ends.cut.cuts)
+  mklv_facts (Err (fault.WentOff have total)) (inl refused) = absurd (let off = refused.1.0 in cc (on, off))
+  mklv_facts (Err (fault.WentOff have total)) (inr making) = (making.ends.lost, making.ends.ready)
+  mklv_facts (Err fault.Stuck) making = making.ends.out
+  mklv_facts (Err (fault.DiskFailed disk)) fails = (fails.ends.fault, fails.ends.ready)
+  mklv_facts (Err fault.Busy) refused = refused.0
+  mklv_facts (Err fault.NoVolume) none = absurd none
+  mklv_facts (Err fault.VolumeExists) refused = refused.0
+  mklv_facts (Err (fault.CopyLimit now)) refused = refused.0
+  mklv_facts (Err (fault.LastFresh lp)) none = absurd none
+  mklv_facts (Err (fault.TooMany limit)) refused = refused.0
+  mklv_facts (Err (fault.NoRoom free)) refused = refused.0
+  mklv_facts (Err fault.HistoryFull) refused = refused.0
+  mklv_facts (Err fault.Memory) refused = refused.0
+
+module _ (lv patience : ℕ) (old new : Session) (on : old.core.power ≡ power.On) where
+  pub rmlv_facts : (given : Result (Unit {0}) GroupFault) → RmlvGives lv patience old new given → Facts given patience old new
+  rmlv_facts (Ok done) removed = removed.ready
+  rmlv_facts (Err fault.Dark) (inl refused) = absurd (let dark = refused.1 in cc (on, dark))
+  rmlv_facts (Err fault.Dark) (inr removing) = (removing.ends.cut.flights, removing.ends.cut.cuts)
+  rmlv_facts (Err (fault.WentOff have total)) (inl refused) = absurd (let off = refused.1.0 in cc (on, off))
+  rmlv_facts (Err (fault.WentOff have total)) (inr removing) = (removing.ends.lost, removing.ends.ready)
+  rmlv_facts (Err fault.Stuck) removing = removing.ends.out
+  rmlv_facts (Err (fault.DiskFailed disk)) none = absurd none
+  rmlv_facts (Err fault.Busy) refused = refused.0
+  rmlv_facts (Err fault.NoVolume) refused = refused.0
+  rmlv_facts (Err fault.VolumeExists) none = absurd none
+  rmlv_facts (Err (fault.CopyLimit now)) none = absurd none
+  rmlv_facts (Err (fault.LastFresh lp)) none = absurd none
+  rmlv_facts (Err (fault.TooMany limit)) none = absurd none
+  rmlv_facts (Err (fault.NoRoom free)) none = absurd none
+  rmlv_facts (Err fault.HistoryFull) refused = refused.0
+  rmlv_facts (Err fault.Memory) refused = refused.0
+
+-- ---- what follows for the shelf
+
+as_is : (old new : Session) → IsReady old.device → new ≡ old → IsReady new.device
+as_is old new ready same = subst (λ (s : Session). IsReady s.device) (sym same) ready
+
+module _ {X : Type 0} (patience : ℕ) (old new : Session) where
+  -- where the power was cut nothing is out,
+  pub dark_still : (given : Result X GroupFault) → Facts given patience old new → given ≡ Err fault.Dark → new.device.flights ≡ []
+  dark_still given facts dark = (subst (λ (r : Result X GroupFault). Facts r patience old new) dark facts).0
+
+  -- and where the session ended otherwise it is on;
+  pub lit_still : (given : Result X GroupFault) → Facts given patience old new → is_over given ≡ true → (given ≡ Err fault.Dark → ⊥) → new.device.power ≡ true
+  lit_still (Err fault.Dark) facts ends other = absurd (other refl)
+  lit_still (Err (fault.WentOff have total)) facts ends other = facts.1.power
+  lit_still (Err fault.Stuck) facts ends other = facts.power
+  lit_still given facts ends other = absurd (cc (ends))
+
+  -- it is ready where the session goes on,
+  pub ready_still : (given : Result X GroupFault) → IsReady old.device → Facts given patience old new → is_over given ≡ false → IsReady new.device
+  ready_still (Ok done) ready facts ends = facts
+  ready_still (Err fault.Dark) ready facts ends = absurd (cc (ends))
+  ready_still (Err (fault.WentOff have total)) ready facts ends = absurd (cc (ends))
+  ready_still (Err fault.Stuck) ready facts ends = absurd (cc (ends))
+  ready_still (Err (fault.DiskFailed disk)) ready facts ends = facts.1
+  ready_still (Err fault.Busy) ready facts ends = as_is old new ready facts
+  ready_still (Err fault.NoVolume) ready facts ends = as_is old new ready facts
+  ready_still (Err fault.VolumeExists) ready facts ends = as_is old new ready facts
+  ready_still (Err (fault.CopyLimit now)) ready facts ends = as_is old new ready facts
+  ready_still (Err (fault.LastFresh lp)) ready facts ends = as_is old new ready facts
+  ready_still (Err (fault.TooMany limit)) ready facts ends = as_is old new ready facts
+  ready_still (Err (fault.NoRoom free)) ready facts ends = as_is old new ready facts
+  ready_still (Err fault.HistoryFull) ready facts ends = as_is old new ready facts
+  ready_still (Err fault.Memory) ready facts ends = as_is old new ready facts
+
+  -- and once it was closed and lit again.
+  pub lit_after : (given : Result X GroupFault) (shelf : Device) → Facts given patience old new → is_over given ≡ true → Relights new.device shelf → LitUp (volume_reply given) new.device shelf
+  lit_after (Err fault.Dark) shelf facts ends lit = lit_dark new.device shelf facts.0 lit
+  lit_after (Err (fault.WentOff have total)) shelf facts ends lit = lit_rest (reply.Refused (refusal.WentOff have total)) new.device shelf facts.1 lit
+  lit_after (Err fault.Stuck) shelf facts ends lit = lit_stuck new.device shelf facts.power facts.freed lit
+  lit_after given shelf facts ends lit = absurd (cc (ends))

@@ -1,0 +1,4 @@
+pub mod Commanding
+pub mod Ending
+pub mod Landing
+pub mod OfVolumes
