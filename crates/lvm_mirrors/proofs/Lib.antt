@@ -1,0 +1,6 @@
+pub mod Serving
+pub mod Left
+pub mod Adding
+pub mod Taking
+pub mod Answering
+pub mod Even
