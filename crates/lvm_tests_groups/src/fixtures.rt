@@ -8,6 +8,7 @@ ghost use Rattle.lvm_survey.specs.Rows.{AreRows};
 ghost use Rattle.lvm_survey.specs.Surveyed.{IsSurveyValid};
 
 use lvm_begin::{Begun, begin_again, begin_new};
+use lvm_core::Room;
 use lvm_disk::Shelf;
 use lvm_faults::{Planned, names_disks};
 use lvm_homes::Homes;
@@ -276,6 +277,29 @@ fn begin_with<S: Shelf>(
             &mut patience,
         )
     })
+}
+
+/// The copies of the volume of `mirrored_shelf`.
+pub const FIRST: Pp = Pp { disk: 0, pp: 0 };
+
+pub const SECOND: Pp = Pp { disk: 1, pp: 0 };
+
+/// Room for a session without requests.
+pub const ROOM: Room = Room {
+    table: 4,
+    pool: 4,
+    entries: 8,
+    bytes: 0,
+};
+
+/// Two disks on which a group was made, by twelve calls, that has a volume of one logical partition with a copy on each.
+pub fn mirrored_shelf(rt: &(impl Abort + AllocGlobal), plan: &[Planned]) -> MemShelf {
+    let mut shelf = blank_shelf(rt, &[6144, 6144], plan);
+    let mut group = group(rt, 50, 2);
+    group.lvs = volume(rt, [FIRST, SECOND]);
+    let begin = begin_first(rt, &mut shelf, &group);
+    check(rt, begin == Begin::Ended, "the making");
+    shelf
 }
 
 /// Makes this group of all disks.

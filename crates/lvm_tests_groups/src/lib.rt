@@ -6,4 +6,8 @@ mod begin;
 #[cfg(test)]
 mod fixtures;
 #[cfg(test)]
+mod quiesce;
+#[cfg(test)]
 mod varyon;
+#[cfg(test)]
+mod volumes;

@@ -1,27 +1,12 @@
 //! Groups of two disks that come on, and that don't.
-use crate::fixtures::{Begin, begin_first, blank_shelf, check, group, images_of, name_of, volume};
-use lvm_core::{Cause, Driver, Room};
+use crate::fixtures::{FIRST, ROOM, SECOND, check, images_of, mirrored_shelf, name_of};
+use lvm_core::{Cause, Driver};
 use lvm_disk::{Arrange, Shelf};
 use lvm_faults::{Act, Planned};
 use lvm_history::History;
-use lvm_memory::MemShelf;
-use lvm_num::Pp;
 use lvm_transfer::{Patience, relight};
 use lvm_varyon::varyon;
 use std::process::Abort;
-
-const GROUP: u64 = 50;
-
-const FIRST: Pp = Pp { disk: 0, pp: 0 };
-
-const SECOND: Pp = Pp { disk: 1, pp: 0 };
-
-const ROOM: Room = Room {
-    table: 4,
-    pool: 4,
-    entries: 8,
-    bytes: 0,
-};
 
 #[derive(Clone, Copy, PartialEq, Eq)]
 enum Answer {
@@ -52,7 +37,6 @@ const WHOLE: Answer = Answer::On(Session {
     stale: [false, false],
 });
 
-// The group is made by twelve calls.
 static CASES: [Case; 6] = [
     Case {
         name: "all disks are there",
@@ -112,16 +96,6 @@ static CASES: [Case; 6] = [
     },
 ];
 
-// Two disks on which a group was made that has a volume of one logical partition with a copy on each.
-fn made(rt: &(impl Abort + AllocGlobal), plan: &[Planned]) -> MemShelf {
-    let mut shelf = blank_shelf(rt, &[6144, 6144], plan);
-    let mut group = group(rt, GROUP, 2);
-    group.lvs = volume(rt, [FIRST, SECOND]);
-    let begin = begin_first(rt, &mut shelf, &group);
-    check(rt, begin == Begin::Ended, "the making");
-    shelf
-}
-
 fn told<S: Shelf>(driver: &Driver<S>) -> Session {
     let table = driver.table();
     Session {
@@ -165,7 +139,7 @@ fn heal<S: Shelf>(rt: &impl Abort, shelf: &mut S, disk: u16) {
 #[test]
 fn a_group_comes_on_by_its_votes_at_a_later_moment(rt: HostRuntime) {
     for case in &CASES {
-        let shelf = made(&rt, case.plan);
+        let shelf = mirrored_shelf(&rt, case.plan);
         let (left, answer) = vary(&rt, shelf, case.moment);
         let later = vary_later(&rt, left, case.moment.saturating_add(10));
         check(&rt, answer == case.answer && later == case.later, case.name);
@@ -186,7 +160,7 @@ fn nothing_is_written_where_a_group_does_not_come_on(rt: HostRuntime) {
         call: 13,
         act: Act::Fail(0),
     }];
-    let shelf = made(&rt, &plan);
+    let shelf = mirrored_shelf(&rt, &plan);
     let before = images_of(&rt, &shelf);
     let (unlit, _) = vary(&rt, shelf, 60);
     check(&rt, images_of(&rt, &unlit) == before, "without a disk");
