@@ -104,7 +104,7 @@ fn a_write_that_is_not_heard_of_stays_out(rt: HostRuntime) {
     check(&rt, end_of(&rt, &shelf, told) == wanted, "stuck");
 }
 
-// Makes a group of a disk that is there and one that isn't.
+// Makes a group of a disk that isn't there.
 fn make<S: Shelf + Drop>(
     rt: &(impl Abort + AllocGlobal),
     shelf: S,
@@ -121,7 +121,7 @@ fn make<S: Shelf + Drop>(
         history,
         name,
         None,
-        &[0, 2],
+        &[2],
         true,
         60,
         ROOM,

@@ -1,14 +1,15 @@
 //! Volumes of one to three copies.
 ghost use Rattle.lvm_core.specs.Settled.{IsSettled};
 
-use crate::fixtures::{ROOM, blank_shelf, check, first_three, name_of};
+use crate::fixtures::{Begin, ROOM, begin_first, blank_shelf, check, first_three, group, name_of};
 use lvm_core::Driver;
 use lvm_disk::Shelf;
-use lvm_group::mkvg;
 use lvm_history::History;
+use lvm_memory::MemShelf;
 use lvm_num::{DiskSet, Mode, Policy, Pp};
 use lvm_stale::StaleTable;
 use lvm_transfer::{Patience, relight};
+use lvm_varyon::varyon;
 use lvm_volumes::{GroupFault, mklv};
 use std::process::Abort;
 
@@ -29,8 +30,15 @@ static CASES: [(u8, Made); 5] = [
     (4, Made::CopyLimit(0)),
 ];
 
-// Makes a group of the first three disks.
-fn new_group<S: Shelf + Drop>(rt: &(impl Abort + AllocGlobal), shelf: S) -> Driver<S>
+// Three disks on which a group without volumes was made.
+fn new_shelf(rt: &(impl Abort + AllocGlobal)) -> MemShelf {
+    let mut shelf = blank_shelf(rt, &[6144, 6144, 6144], &[]);
+    let begin = begin_first(rt, &mut shelf, &group(rt, 50, 3));
+    check(rt, begin == Begin::Ended, "the making");
+    shelf
+}
+
+fn vary<S: Shelf + Drop>(rt: &(impl Abort + AllocGlobal), shelf: S) -> Driver<S>
     ensures { IsSettled result.1 }
 {
     let mut shelf = shelf;
@@ -39,20 +47,9 @@ fn new_group<S: Shelf + Drop>(rt: &(impl Abort + AllocGlobal), shelf: S) -> Driv
     let name = name_of(rt, b"datavg");
     let history = History::new(rt.alloc(), 7, 8, 0).expect(rt, "memory");
     let mut patience = Patience::whole();
-    match mkvg(
-        rt.alloc(),
-        shelf,
-        history,
-        name,
-        None,
-        &[0, 1, 2],
-        false,
-        50,
-        ROOM,
-        &mut patience,
-    ) {
+    match varyon(rt.alloc(), shelf, history, name, 60, ROOM, &mut patience) {
         Ok(driver) => driver,
-        Err(_) => panic!(rt; "not made"),
+        Err(_) => panic!(rt; "not on"),
     }
 }
 
@@ -76,7 +73,7 @@ fn newest<S: Shelf>(driver: &Driver<S>) -> Made {
 }
 
 fn make<S: Shelf + Drop>(rt: &(impl Abort + AllocGlobal), shelf: S, copies: u8) -> Made {
-    let mut driver = new_group(rt, shelf);
+    let mut driver = vary(rt, shelf);
     let name = name_of(rt, b"lv00");
     let mut patience = Patience::whole();
     match mklv(
@@ -98,7 +95,6 @@ fn make<S: Shelf + Drop>(rt: &(impl Abort + AllocGlobal), shelf: S, copies: u8) 
 #[test]
 fn copies_are_fresh_and_lie_on_different_disks(rt: HostRuntime) {
     for (copies, wanted) in &CASES {
-        let shelf = blank_shelf(&rt, &[6144, 6144, 6144], &[]);
-        check(&rt, make(&rt, shelf, *copies) == *wanted, "copies");
+        check(&rt, make(&rt, new_shelf(&rt), *copies) == *wanted, "copies");
     }
 }
