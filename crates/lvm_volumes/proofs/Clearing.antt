@@ -71,7 +71,7 @@ module _ (map : List Pp) (p q : ℕ) (a b : State) (settled : IsSettled a.core) 
   -- none becomes stale by it
   pub fresh_keeps : AreOfOneGroup a.core → HasStated a.core.descriptor a b → Restates [] map a b → KeepsFresh a b
   fresh_keeps group done marks = keeps_all a.core.descriptor a b (ap (λ (c : Core). c.descriptor) done.is) (λ row other lp at x. one_place a.core.descriptor row other lp at x group.valid)
-      (λ x stale. ⊎_elim (λ marked. inl (was_marked (calls_stale a.core.status.wanted x) (not (is_among map x)) marked)) (λ passed. inr passed) (marks.only x stale)) refl
+      (λ row lp x volume copy stale. ⊎_elim (λ marked. inl (was_marked (calls_stale a.core.status.wanted x) (not (is_among map x)) marked)) (λ passed. inr passed) (marks.only x stale)) refl
 
   -- where it wasn't committed
   pub fresh_break : (why : CommitFault) → MarkEnds p a b (Err why) → ClearEnds map p a b (Err why)

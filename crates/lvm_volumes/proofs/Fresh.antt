@@ -27,7 +27,8 @@ use Rattle.lvm_volume_plan.proofs.Sublists.{one_insert}
 
 -- ---- copies
 
-any_one : (test : Pp → Bool) (ps : List Pp) → IsTrue (list_any test ps) → (p : Pp) × IsOneOf ps p × IsTrue (test p)
+-- one of a list for which a test holds
+pub any_one : (test : Pp → Bool) (ps : List Pp) → IsTrue (list_any test ps) → (p : Pp) × IsOneOf ps p × IsTrue (test p)
 any_one test [] is = absurd (false≢true is)
 any_one test (x ∷ xs) is = by_test (test x) refl (any_one test xs) is
   where
@@ -35,7 +36,7 @@ any_one test (x ∷ xs) is = by_test (test x) refl (any_one test xs) is
     by_test true here rest is = (x, inl refl, here)
     by_test false here rest is = let at = rest is in (at.0, inr at.1, at.2)
 
-one_any : (test : Pp → Bool) (ps : List Pp) (p : Pp) → IsOneOf ps p → IsTrue (test p) → IsTrue (list_any test ps)
+pub one_any : (test : Pp → Bool) (ps : List Pp) (p : Pp) → IsOneOf ps p → IsTrue (test p) → IsTrue (list_any test ps)
 one_any test [] p one is = absurd one
 one_any test (x ∷ xs) p (inl here) is = ap (λ (t : Bool). t || list_any test xs) (ap test (sym here) ∙ is)
 one_any test (x ∷ xs) p (inr there) is = by_test (test x) (one_any test xs p there is)
@@ -44,7 +45,7 @@ one_any test (x ∷ xs) p (inr there) is = by_test (test x) (one_any test xs p t
     by_test true rest = refl
     by_test false rest = rest
 
-not_stale : (b : Bool) → IsTrue (not b) → IsFalse b
+pub not_stale : (b : Bool) → IsTrue (not b) → IsFalse b
 not_stale true is = absurd (false≢true is)
 not_stale false is = refl
 
@@ -98,9 +99,9 @@ one_place_with d v lv map valid free once row other lp at p one two a b = ⊎_el
 
 -- ---- after a record
 
--- The descriptor is the group's now, and further copies are stale only where they were passed.
+-- The descriptor is the group's now, and further ones of its copies are stale only where they were passed.
 module _ (d : Descriptor) (a b : State) (is : b.core.descriptor ≡ d) (places : HasOnePlaceEach d)
-    (only : (p : Pp) → IsTrue (calls_stale b.core.status.wanted p) → IsTrue (calls_stale a.core.status.wanted p) ⊎ IsPassed d a.core.status b.core.status p) where
+    (only : (row : LvRow) (lp : ℕ) (p : Pp) → IsOneOf d.lvs row → IsOneOf (copies_of row lp) p → IsTrue (calls_stale b.core.status.wanted p) → IsTrue (calls_stale a.core.status.wanted p) ⊎ IsPassed d a.core.status b.core.status p) where
   abbrev fresh_now : Pp → Bool
   fresh_now p = not (is_wanted_stale b.core p)
 
@@ -111,9 +112,12 @@ module _ (d : Descriptor) (a b : State) (is : b.core.descriptor ≡ d) (places :
       its : IsCopyOf d lv lp p
       its = copy_of d lv lp p one
 
+      volume : IsOneOf d.lvs its.row
+      volume = volume_is_row d lv its.row its.volume
+
       other_is : (passed : IsPassed d a.core.status b.core.status p) → IsOneOf (copies_in d lv lp) passed.other
       other_is passed =
-          let place = places its.row passed.row lp passed.lp p (volume_is_row d lv its.row its.volume) passed.volume its.one passed.one in
+          let place = places its.row passed.row lp passed.lp p volume passed.volume its.one passed.one in
           let same : copies_in d lv lp ≡ copies_of passed.row passed.lp = copies_by lp (volume_of d lv) (Some its.row) its.volume ∙ (λ t. copies_of (place.row_is t) (place.lp_is t)) in
           subst (λ (ps : List Pp). IsOneOf ps passed.other) (sym same) passed.among
 
@@ -122,7 +126,7 @@ module _ (d : Descriptor) (a b : State) (is : b.core.descriptor ≡ d) (places :
       by_mark true stale = ⊎_elim
           (λ before. absurd (false≢true (sym was ∙ before)))
           (λ passed. one_any fresh_now (copies_in d lv lp) passed.other (other_is passed) (ap not passed.fresh))
-          (only p stale)
+          (only its.row lp p volume its.one stale)
 
   -- so it is of a volume that is as it was
   pub volume_stays : (lv lp : ℕ) → volume_of d lv ≡ volume_of a.core.descriptor lv → HasFresh a.core lv lp → HasFresh b.core lv lp

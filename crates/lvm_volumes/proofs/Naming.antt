@@ -289,8 +289,8 @@ module _ (v : NewVolume) (plan : VolumePlan) (a : State) (settled : IsSettled a.
           places_now = subst HasOnePlaceEach (sym planned.next) (one_place_with a.core.descriptor v plan.number plan.map planned.group.valid plan_unused.free plan_unused.once)
 
           commit_keeps : KeepsFresh begun c
-          commit_keeps = keeps_others plan.next begun c (ap (λ (x : Core). x.descriptor) done.is) places_now left.only plan.number differs_now
-              (λ lp x one how. one_stays plan.next begun c (ap (λ (x : Core). x.descriptor) done.is) places_now left.only plan.number lp x one
+          commit_keeps = keeps_others plan.next begun c (ap (λ (x : Core). x.descriptor) done.is) places_now (λ row at y volume copy. left.only y) plan.number differs_now
+              (λ lp x one how. one_stays plan.next begun c (ap (λ (x : Core). x.descriptor) done.is) places_now (λ row at y volume copy. left.only y) plan.number lp x one
               (All-contains (λ (pp : Pp). IsFalse (calls_stale b.core.status.wanted pp)) plan.map x fresh_begun (its_copy_of lp x one)))
 
         -- ---- both

@@ -115,7 +115,7 @@ module _ (lv : ℕ) (next : Descriptor) (a : State) (settled : IsSettled a.core)
       places_now row other lp at x = one_place next row other lp at x (subst IsValid (sym without.is) (valid_without a.core.descriptor lv without.group.valid))
 
       gone_keeps : KeepsFresh a gone
-      gone_keeps = keeps_others next a gone named places_now left.only lv (subst (DiffersInVolume lv a.core.descriptor) (sym without.is) (differs_without a.core.descriptor lv))
+      gone_keeps = keeps_others next a gone named places_now (λ row at x volume copy. left.only x) lv (subst (DiffersInVolume lv a.core.descriptor) (sym without.is) (differs_without a.core.descriptor lv))
           (λ lp x one how. absurd (no_copy next lv lp x (ap (λ (d : Descriptor). volume_of d lv) without.is ∙ unnamed_without a.core.descriptor lv) one))
 
       gone_unnamed : IsUnnamed lv next a gone
