@@ -1,7 +1,7 @@
 mod Rooms
 mod Driven
 mod Draining
-mod Causes
+pub mod Causes
 pub mod Beginnings
 mod Closing
 pub mod Good

@@ -17,7 +17,7 @@ ghost use Rattle.lvm_session.specs.Calls.{OpenGives, SubmitGives, TakeGives, clo
 ghost use Rattle.lvm_session.specs.Turns.{Arranges, TurnMakes};
 ghost use Rattle.lvm_session.specs.Asking.{IsAsking};
 ghost use Rattle.lvm_session.specs.Left.{left_of};
-ghost use Rattle.lvm_session.specs.Sound.{IsSound};
+ghost use Rattle.lvm_session.specs.Sound.{IsSound, waits};
 ghost use Rattle.lvm_keeps.specs.Falls.{most_left};
 ghost use Rattle.lvm_copy_open.specs.Opening.{counts_seen};
 ghost use Rattle.lvm_session_start.specs.Beginning.{AreFaults, MayBegin, first_core};
@@ -36,7 +36,7 @@ use lvm_homes::Homes;
 use lvm_num::{Descriptor, Stamp};
 use lvm_orders::arrange;
 use lvm_path::Ask;
-use lvm_session::{AskFault, CopyFault, CopyState, Power, Session, Taken, Turned};
+use lvm_session::{AskFault, CopyFault, CopyState, Open, Power, Session, Taken, Turned};
 use lvm_session_start::{Parts, begin_session};
 use lvm_session_turn::turn;
 use lvm_stale::StaleTable;
@@ -264,6 +264,20 @@ impl<S: Shelf> Driver<S> {
         self.session.requests.len() as u32
     }
 
+    /// How many requests may be open.
+    pub fn most_open(&self) -> u32
+        ensures { result ≡ self.now.1.most }
+    {
+        self.session.most
+    }
+
+    /// Whether the request of this number has begun and not landed. Looks through the requests that are open.
+    pub fn is_open(&self, id: u64) -> bool
+        ensures { result ≡ is_open self.now.1.history.facts id }
+    {
+        waits(&self.session.requests, id)
+    }
+
     /// The votes of the members that aren't missing, and those of all. A disk is missing from the moment on at which
     /// a write of a record to it has failed.
     pub fn votes(&self) -> (u32, u32)
@@ -294,6 +308,15 @@ impl<S: Shelf> Driver<S> {
             history: session.history,
         }
     }
+}
+
+// Whether the request of this number is among these, and hasn't landed.
+fn waits(requests: &[Open], id: u64) -> bool
+    ensures { result ≡ waits requests.now id }
+{
+    requests
+        .iter()
+        .any(|open| open.landed.is_none() && open.request.id == id)
 }
 
 // What is wanted is a status that a record can have.
