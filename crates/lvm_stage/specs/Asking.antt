@@ -16,4 +16,5 @@ pub record IsAsked (old new : State) : Type 0 where
 pub record EndsSession (old new : State) : Type 0 where
   pub same : new.moment ≡ old.moment
   pub after : new.session ≡ None
+  pub posts : new.posts ≡ old.posts
   pub clock : new.last ≡ old.last

@@ -5,4 +5,5 @@ pub mod Moments
 pub mod Refusals
 pub mod Replies
 pub mod Stages
+pub mod Standing
 pub mod State
