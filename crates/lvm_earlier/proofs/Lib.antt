@@ -1,0 +1,3 @@
+pub mod Sound
+pub mod Tying
+pub mod Running
