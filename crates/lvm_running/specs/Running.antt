@@ -1,5 +1,5 @@
 -- What turns and calls leave of a session, from one moment of it to a later one.
-use Rattle.std.specs.Prelude.{◌≡◌, ◌⊎◌, ◌<◌, ℕ, true, [], List, None}
+use Rattle.std.specs.Prelude.{◌≡◌, ◌⊎◌, ◌<◌, ℕ, [], List, None}
 use Rattle.lvm_num.specs.declared.descriptor.Descriptor.{Descriptor}
 use Rattle.lvm_disk.specs.Counts.{NoneFalls}
 use Rattle.lvm_disk.specs.Device.{Device, Image, MayLeave}
@@ -10,7 +10,6 @@ use Rattle.lvm_kept.specs.Group.{IsFound}
 use Rattle.lvm_stamps.specs.Behind.{beginning_at}
 use Rattle.lvm_stamps.specs.Laws.{LeavesBefore}
 use Rattle.lvm_session.specs.declared.open.Power.TheVariants as power
-use Rattle.lvm_session.specs.Causes.{is_over}
 use Rattle.lvm_session.specs.State.{Core, State}
 use Rattle.lvm_turn_answers.specs.Telling.{SameRoom}
 use Rattle.lvm_tie.specs.GoingOn.{GoesOn}
@@ -39,9 +38,9 @@ pub record IsBefore (moment : ℕ) (s : State) : Type 0 where
 
 -- ---- what it was given
 
--- the power is as it was, or the session is over that was on
+-- it goes on as it did, or is over: dark, or off where it was on
 abbrev pub GoesOnOrEnds : Core → Core → Type 0
-GoesOnOrEnds old new = (new.power ≡ old.power) ⊎ ((old.power ≡ power.On) × (is_over new.power ≡ true))
+GoesOnOrEnds old new = (new.power ≡ old.power) ⊎ (new.power ≡ power.Dark) ⊎ ((old.power ≡ power.On) × (new.power ≡ power.Off))
 
 -- It is of the group, the run and the rooms that it was given, on disks as large, whose counts never fall.
 pub record KeepsShape (old new : State) : Type 0 where
