@@ -2,7 +2,6 @@
 #![tactic(auto)]
 
 mod answers;
-mod over;
 mod refusal;
 mod requests;
 mod stepping;

@@ -1,36 +1,25 @@
 //! The lines that read or write a range of a volume.
-use crate::over::{closed, left, serving};
 use crate::refusal::{ask_refusal, range_refusal};
 use lvm_disk::Shelf;
 use lvm_driver::Driver;
-use lvm_num::{LvRow, Memory, Name, Text};
+use lvm_num::{Memory, Name, Text};
 use lvm_posts::{Asked, Post, RangeFault};
 use lvm_ranges::{ask_range, finish_range, read_blocks};
 use lvm_replies::show_block;
-use lvm_stage::{Answered, Holder, Refusal, Reply, Stage};
+use lvm_stage::{Answered, Holder, Refusal, Reply, Stage, number_of};
 use lvm_transfer::Patience;
 use std::alloc::Global;
-
-// The number of the volume of this name.
-fn number_of(volumes: &[LvRow], name: &Name) -> Option<u16> {
-    for row in volumes {
-        if row.name == *name {
-            return Some(row.number);
-        }
-    }
-    None
-}
 
 // Asks for a range of the volume of this name, a write where a word is given.
 fn ask<S: Shelf>(
     driver: &mut Driver<S>,
-    name: &Name,
+    name: Name,
     at: u64,
     count: u32,
     write: Option<u64>,
     bytes: &mut Vec<u8>,
 ) -> Result<Asked, Refusal> {
-    match number_of(driver.descriptor().lvs.as_slice(), name) {
+    match number_of(driver.descriptor(), name) {
         None => Err(Refusal::NoVolume),
         Some(lv) => match ask_range(driver, lv, at, count, write, bytes) {
             Ok(asked) => Ok(asked),
@@ -62,12 +51,12 @@ pub fn do_post<S: Shelf>(
     } = stage;
     match holder {
         Holder::Serving { mut driver } => {
-            match ask(&mut driver, &name, at, count, Some(word), &mut bytes) {
+            match ask(&mut driver, name, at, count, Some(word), &mut bytes) {
                 Ok(asked) => {
                     add(&mut posts, Post { asked, ended: None });
-                    serving(driver, posts, bytes).answered(Reply::Posted)
+                    Stage::carried(driver, posts, bytes).answered(Reply::Posted)
                 }
-                Err(why) => serving(driver, posts, bytes).refused(why),
+                Err(why) => Stage::carried(driver, posts, bytes).refused(why),
             }
         }
         other => without_volumes(other, posts, bytes),
@@ -100,9 +89,9 @@ fn finished<S: Shelf>(
     done: Result<Reply, RangeFault>,
 ) -> Answered<S> {
     match done {
-        Ok(reply) => left(driver, posts, bytes).answered(reply),
-        Err(RangeFault::Stuck) => closed(driver, posts, bytes).refused(Refusal::Stuck),
-        Err(why) => left(driver, posts, bytes).refused(range_refusal(why)),
+        Ok(reply) => Stage::carried(driver, posts, bytes).answered(reply),
+        Err(RangeFault::Stuck) => Stage::ended(driver, posts, bytes).refused(Refusal::Stuck),
+        Err(why) => Stage::carried(driver, posts, bytes).refused(range_refusal(why)),
     }
 }
 
@@ -130,12 +119,12 @@ pub fn do_wr<S: Shelf>(
     } = stage;
     match holder {
         Holder::Serving { mut driver } => {
-            match ask(&mut driver, &name, at, count, Some(word), &mut bytes) {
+            match ask(&mut driver, name, at, count, Some(word), &mut bytes) {
                 Ok(asked) => {
                     let done = write_reply(&mut driver, &asked);
                     finished(driver, posts, bytes, done)
                 }
-                Err(why) => serving(driver, posts, bytes).refused(why),
+                Err(why) => Stage::carried(driver, posts, bytes).refused(why),
             }
         }
         other => without_volumes(other, posts, bytes),
@@ -194,12 +183,12 @@ pub fn do_rd<S: Shelf>(
     } = stage;
     match holder {
         Holder::Serving { mut driver } => {
-            match ask(&mut driver, &name, at, count, None, &mut bytes) {
+            match ask(&mut driver, name, at, count, None, &mut bytes) {
                 Ok(asked) => {
                     let done = read_reply(alloc, &mut driver, &asked, count);
                     finished(driver, posts, bytes, done)
                 }
-                Err(why) => serving(driver, posts, bytes).refused(why),
+                Err(why) => Stage::carried(driver, posts, bytes).refused(why),
             }
         }
         other => without_volumes(other, posts, bytes),

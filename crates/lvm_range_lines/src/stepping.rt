@@ -1,5 +1,4 @@
 //! The line that makes turns.
-use crate::over::{left, serving};
 use lvm_disk::Shelf;
 use lvm_ranges::step;
 use lvm_session::Turned;
@@ -17,12 +16,12 @@ pub fn do_step<S: Shelf>(stage: Stage<S>, turns: u32) -> Answered<S> {
             let (moved, how) = step(&mut driver, turns);
             match how {
                 Turned::Moved | Turned::Idle => {
-                    serving(driver, posts, bytes).answered(Reply::Stepped(moved))
+                    Stage::carried(driver, posts, bytes).answered(Reply::Stepped(moved))
                 }
-                Turned::Dark => left(driver, posts, bytes).refused(Refusal::Dark),
+                Turned::Dark => Stage::carried(driver, posts, bytes).refused(Refusal::Dark),
                 Turned::Off => {
                     let (have, total) = driver.votes();
-                    left(driver, posts, bytes).refused(Refusal::WentOff { have, total })
+                    Stage::carried(driver, posts, bytes).refused(Refusal::WentOff { have, total })
                 }
             }
         }

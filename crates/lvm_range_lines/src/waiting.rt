@@ -1,6 +1,5 @@
 //! The line that waits for all posts, and answers them.
 use crate::answers::Answers;
-use crate::over::{closed, left, serving};
 use lvm_disk::Shelf;
 use lvm_driver::Driver;
 use lvm_earlier::{take_earlier, take_earlier_at_rest};
@@ -117,9 +116,9 @@ fn wait_landed<S: Shelf>(
             let (driver, answers) = take_on(alloc, driver, &posts);
             let mut posts = posts;
             posts.clear();
-            serving(driver, posts, bytes).answered(answers.reply())
+            Stage::carried(driver, posts, bytes).answered(answers.reply())
         }
-        Power::Off | Power::Dark | Power::Stuck => wait_off(alloc, left(driver, posts, bytes)),
+        Power::Off | Power::Dark | Power::Stuck => wait_off(alloc, Stage::ended(driver, posts, bytes)),
     }
 }
 
@@ -150,7 +149,7 @@ pub fn do_wait<S: Shelf>(alloc: Global, stage: Stage<S>) -> Answered<S> {
             let mut patience = Patience::whole();
             match await_posts(&mut driver, &posts, &mut patience) {
                 Ok(()) => wait_landed(alloc, driver, posts, bytes),
-                Err(Stuck) => closed(driver, posts, bytes).refused(Refusal::Stuck),
+                Err(Stuck) => Stage::ended(driver, posts, bytes).refused(Refusal::Stuck),
             }
         }
     }
