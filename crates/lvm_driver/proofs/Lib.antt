@@ -4,4 +4,3 @@ mod Draining
 pub mod Causes
 pub mod Beginnings
 mod Closing
-pub mod Good

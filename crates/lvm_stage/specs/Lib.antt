@@ -5,5 +5,4 @@ pub mod Moments
 pub mod Refusals
 pub mod Replies
 pub mod Stages
-pub mod Standing
 pub mod State

@@ -1,12 +1,11 @@
 -- What holds of the moments of each line.
-use Rattle.std.specs.Prelude.{◌≡◌, ◌≢◌, ◌≤◌, ◌+◌, ℕ, true, [], IfSome, IfNone, length}
+use Rattle.std.specs.Prelude.{◌≡◌, ◌≤◌, ◌+◌, ℕ, true, IfSome, length}
 use Rattle.lvm_kept.specs.Moments.{Moment}
 use Rattle.lvm_steps.specs.Moments.{Keeps}
 use Rattle.lvm_stamps.specs.Behind.{IsAhead}
 use Rattle.lvm_commit.specs.LawsOfVolumes.{IsOneByAllOn}
 use Rattle.lvm_core.specs.Leaves.{EntersVolumes}
-use Rattle.lvm_tie_groups.specs.Coming.{AreOff}
-use Rattle.lvm_stage.specs.State.{State, IsBetween, IsTimely, StandsBy}
+use Rattle.lvm_stage.specs.State.{State, IsAtRest, IsBetween, IsTimely, StandsAlone, StandsBy}
 use Rattle.lvm_stage.specs.Replies.{IsStuck, most_refusals}
 use Rattle.lvm_stage.specs.declared.reply.Refusal.TheVariants as refusal
 use Rattle.lvm_stage.specs.declared.reply.Reply.{Reply}
@@ -20,28 +19,43 @@ IsBrokenOff (reply.Refused refusal.Stuck) = Unit {0}
 IsBrokenOff (reply.Refused (refusal.DiskFailed disk)) = Unit {0}
 IsBrokenOff other = ⊥
 
--- a group with volumes has come on
-abbrev pub ComesOnWithVolumes : State → State → Type 0
-ComesOnWithVolumes old new = IfNone old.session (IfSome new.session (λ core. core.descriptor.lvs ≢ []))
+-- what a line does with the session that is on: nothing, a command on its group, or requests
+pub data Role : Type 0 where
+  Aside : Role
+  OfGroup : Role
+  OfRequests : Role
 
--- At most one group has a quorum among all disks where a volume's making or removal is entered meanwhile, and where a group comes on that has volumes, which
--- are all in mode off.
-pub record IsAlone (old new : State) : Type 0 where
+-- it acts on the session
+abbrev pub IsActing : Role → Type 0
+IsActing Aside = ⊥
+IsActing OfGroup = Unit {0}
+IsActing OfRequests = Unit {0}
+
+-- it makes requests of it, or turns, and leaves them under way
+abbrev pub IsRequesting : Role → Type 0
+IsRequesting Aside = ⊥
+IsRequesting OfGroup = ⊥
+IsRequesting OfRequests = Unit {0}
+
+-- At most one group has a quorum among all disks where a volume's making or removal is entered meanwhile, and where a session is acted on whose group has
+-- volumes, which are all in mode off.
+pub record IsAlone (role : Role) (old new : State) : Type 0 where
   pub enters : EntersVolumes old.moment.facts new.moment.facts → IsOneByAllOn old.moment.device
-  pub comes : ComesOnWithVolumes old new → IsOneByAllOn new.moment.device
-  pub off : ComesOnWithVolumes old new → IfSome new.session (λ core. AreOff core.descriptor)
+  pub acts : IsActing role → IfSome old.session (StandsAlone old.moment.device)
 
 -- A span goes on from the one state to the other, and the disks go on standing by the session, unless nothing was heard of a transfer.
 abbrev pub KeepsStanding : ℕ → Reply → State → State → Type 0
 KeepsStanding run answer old new = (first : Moment) → Keeps run first old.moment → StandsBy run first old → Keeps run first new.moment × ((IsStuck answer → ⊥) → StandsBy run first new)
 
 -- From one state to the next, where this is answered. While the clock is ahead of each crash image, and no other group has a quorum where that is asked, what
--- stood goes on to stand. The clock stays ahead of the disks, and of each crash image unless nothing was heard of a transfer: else the next line may begin.
-pub record GoesOn (run : ℕ) (answer : Reply) (old new : State) : Type 0 where
-  pub keeps : IsTimely run old → IsAlone old new → KeepsStanding run answer old new
+-- stood goes on to stand. The clock stays ahead of the disks, and of each crash image unless nothing was heard of a transfer: else the next line may begin, and
+-- at rest too, if none of requests was between.
+pub record GoesOn (run : ℕ) (role : Role) (answer : Reply) (old new : State) : Type 0 where
+  pub keeps : IsTimely run old → IsAlone role old new → KeepsStanding run answer old new
   pub timely : (IsStuck answer → ⊥) → IsTimely run old → IsTimely run new
   pub left : IsTimely run old → IsAhead run (new.last + 1) new.moment.device new.moment.facts
   pub between : (IsStuck answer → ⊥) → IsBetween new.moment new.session new.posts
+  pub rests : (IsRequesting role → ⊥) → (IsStuck answer → ⊥) → IsAtRest old → IsAtRest new
   pub power : new.moment.device.power ≡ true
   pub waits : old.moment.device.counts.waits ≤ new.moment.device.counts.waits
   pub clock : old.last ≤ new.last

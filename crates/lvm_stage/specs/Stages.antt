@@ -1,5 +1,5 @@
 -- A stage, as the state between two lines.
-use Rattle.std.specs.Prelude.{◌≡◌, ◌≢◌, ◌⊎◌, ◌^◌, ◌/◌, ◌<◌, ◌≤◌, ℕ, Bool, List, [], map, Option, Some, None, Vec, vec_capacity}
+use Rattle.std.specs.Prelude.{◌≡◌, ◌≢◌, ◌⊎◌, ◌^◌, ◌/◌, ◌<◌, ◌≤◌, ℕ, Bool, List, [], length, map, Option, Some, None, Vec, vec_capacity}
 use Rattle.lvm_num.specs.Votes.{total_votes}
 use Rattle.lvm_disk.specs.Device.{Device}
 use Rattle.lvm_disk.specs.declared.shelf.Arrange.{Arrange}
@@ -36,6 +36,11 @@ abbrev pub session_of : {S : Type 0} → Holder S → Option Core
 session_of (holder.Off shelf history) = None
 session_of (holder.Empty driver) = Some driver.1
 session_of (holder.Serving driver) = Some driver.1
+
+-- how many requests of the session are open
+abbrev pub open_in : Option Core → ℕ
+open_in None = 0
+open_in (Some core) = length core.requests
 
 -- a session takes commands where its group has no volume, and requests where it has one
 abbrev pub IsOfKind : {S : Type 0} → Holder S → Type 0

@@ -1,13 +1,12 @@
 -- What stands between two lines of a script.
-use Rattle.std.specs.Prelude.{◌≡◌, ◌≢◌, ◌+◌, ◌<◌, ◌≤◌, ℕ, false, [], List, Option, None, IfSome, IfNone, IsSomeAnd, All, AllPairs}
-use Rattle.std.specs.List.{list_any}
-use Rattle.lvm_disk.specs.Device.{Device}
+use Rattle.std.specs.Prelude.{◌≡◌, ◌≢◌, ◌+◌, ◌≤◌, ℕ, [], List, Option, None, IfSome, IfNone, IsSomeAnd, All, AllPairs}
+use Rattle.lvm_disk.specs.Device.{Device, IsReady}
 use Rattle.lvm_vol.specs.Facts.{Fact}
 use Rattle.lvm_vol.specs.Log.{Log}
 use Rattle.lvm_kept.specs.Moments.{Moment}
 use Rattle.lvm_steps.specs.Moments.{Begins}
+use Rattle.lvm_commit.specs.LawsOfVolumes.{IsOneByAllOn}
 use Rattle.lvm_session.specs.declared.open.Power.TheVariants as power
-use Rattle.lvm_session.specs.Calls.{is_asked}
 use Rattle.lvm_session.specs.State.{Core, state}
 use Rattle.lvm_session.specs.Sound.{IsLit, IsSound}
 use Rattle.lvm_tie.specs.Spares.{LeavesDescriptors}
@@ -19,7 +18,9 @@ use Rattle.lvm_posts.specs.declared.posts.Post.{Post}
 use Rattle.lvm_posts.specs.Pieces.{IsLaidOut}
 use Rattle.lvm_posts.specs.Posts.{AreAnswered, AreHeld}
 use Rattle.lvm_quiesce.specs.Behind.{IsAheadEach}
-use Rattle.lvm_stage.specs.Standing.{StandsAfter}
+use Rattle.lvm_earlier.specs.Earlier.{AreGone}
+use Rattle.lvm_tie_commands.specs.Standing.{StandsAfter}
+use Rattle.lvm_tie_groups.specs.Coming.{AreOff}
 
 -- The shelf and what the history has so far, the session of the group that is on, if one is, the posts whose answers aren't taken, and the clock's last moment.
 pub record State : Type 0 where
@@ -37,10 +38,6 @@ abbrev pub without_facts : Log → Log
 without_facts log = log_with log []
 
 -- ---- the posts
-
--- no request of the table is one of its pieces
-abbrev pub AreGone : Core → Asked → Type 0
-AreGone core asked = (k : ℕ) → k < asked.pieces → list_any (is_asked 1 (asked.first + k)) core.requests ≡ false
 
 -- A post asks for something. While its session is on the table has its requests; once that is gone the history has its answers, which aren't taken, and the
 -- table of a later session none of its requests.
@@ -75,6 +72,13 @@ pub record IsBetween (moment : Moment) (on : Option Core) (posts : List Post) : 
   pub session : IfSome on (IsOnBetween moment.device)
   pub posts : ArePosted moment.facts on posts
 
+-- nothing is out, or under way in a session, and no post is left
+pub record IsAtRest (s : State) : Type 0 where
+  pub ready : IsReady s.moment.device
+  pub landed : HaveAllLanded s.moment.facts
+  pub session : IfSome s.session IsSettledCore
+  pub posts : s.posts ≡ []
+
 -- ---- the clock
 
 -- What stands on the disks, or may after a loss of power, is of sessions up to the clock's last moment, and so is the run and each group that was varied on
@@ -85,6 +89,10 @@ pub record IsTimely (run : ℕ) (s : State) : Type 0 where
 
 -- ---- what stands on the disks
 
--- After each earlier history with which the run may have begun, the disks stand by the session.
+-- where the group has a volume, at most one has a quorum among all disks, and all its volumes are in mode off
+abbrev pub StandsAlone : Device → Core → Type 0
+StandsAlone device core = core.descriptor.lvs ≢ [] → IsOneByAllOn device × AreOff core.descriptor
+
+-- After each earlier history with which the run may have begun, the disks stand by the session, where its group stands alone.
 abbrev pub StandsBy : ℕ → Moment → State → Type 0
-StandsBy run first s = (past : List Fact) → Begins run past first → IfSome s.session (StandsAfter past s.moment.device)
+StandsBy run first s = (past : List Fact) → Begins run past first → IfSome s.session (λ core. StandsAlone s.moment.device core → StandsAfter past s.moment.device core)

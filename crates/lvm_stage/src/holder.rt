@@ -3,7 +3,7 @@ ghost use Rattle.std.specs.Prelude.{◌≡◌, None, length};
 ghost use Rattle.std.specs.Option.{option_map};
 ghost use Rattle.lvm_disk.specs.Steps.{MayArrange, ArrangeGives};
 ghost use Rattle.lvm_session.specs.Dark.{after_arrange};
-ghost use Rattle.lvm_stage.specs.Stages.{GivesBack, IsOfKind, history_after, history_of, session_of, shelf_of};
+ghost use Rattle.lvm_stage.specs.Stages.{GivesBack, IsOfKind, history_after, history_of, open_in, session_of, shelf_of};
 
 use lvm_core::Closed;
 use lvm_disk::{Arrange, Shelf};
@@ -29,6 +29,20 @@ impl<S: Shelf> Holder<S> {
             Holder::Off { shelf, history: _ } => shelf.disks(),
             Holder::Empty { driver } => driver.disks(),
             Holder::Serving { driver } => driver.disks(),
+        }
+    }
+
+    /// How many requests of its session are open: submitted, and their answers not taken.
+    pub fn open(&self) -> u32
+        ensures { result ≡ open_in (session_of self.now) }
+    {
+        match self {
+            Holder::Off {
+                shelf: _,
+                history: _,
+            } => 0,
+            Holder::Empty { driver } => driver.open(),
+            Holder::Serving { driver } => driver.open(),
         }
     }
 

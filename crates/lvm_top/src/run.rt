@@ -11,10 +11,13 @@ use crate::script::{Stop, do_lines};
 use crate::status::ExitStatus;
 use lvm_core::{Closed, Room};
 use lvm_disk::Shelf;
+use lvm_driver::Driver;
 use lvm_history::History;
 use lvm_io::{Clock, Lines, Sink, Source};
 use lvm_memory::MemShelf;
-use lvm_stage::Stage;
+use lvm_session::{Power, Turned};
+use lvm_stage::{Holder, Stage};
+use lvm_transfer::relight;
 use std::alloc::Global;
 
 /// How a run ended.
@@ -60,6 +63,29 @@ fn unbegun<S>(shelf: S) -> Ended<S>
     }
 }
 
+// Makes turns until one doesn't move, and ends the session without a write. After a power cut the power is on again.
+fn run_out<S: Shelf>(driver: Driver<S>) -> Closed<S>
+    requires unstuck { driver.1.power ≡ power.Stuck → ⊥ }
+{
+    let mut driver = driver;
+    while let Turned::Moved = driver.turn() {}
+    let dark = driver.power() == Power::Dark;
+    let lvm_driver::Closed { mut shelf, history } = driver.close();
+    if dark {
+        relight(&mut shelf);
+    }
+    Closed { shelf, history }
+}
+
+// Ends what stands after the last line.
+fn conclude<S: Shelf>(stage: Stage<S>) -> Closed<S> {
+    match stage.holder {
+        Holder::Off { shelf, history } => Closed { shelf, history },
+        Holder::Empty { driver } => driver.close(),
+        Holder::Serving { driver } => run_out(driver),
+    }
+}
+
 /// Runs a script: reads a line, does it, writes its reply, and goes on. The moment at which the run begins
 /// names it in its history. The clock is asked for it, and once in each line that varies a group on. A group
 /// that is on at the end is varied off without a write.
@@ -85,9 +111,11 @@ pub fn run_script<S: Shelf, I: Source, O: Sink, C: Clock>(
     let Ok(history) = History::new(alloc, run, room.entries, room.bytes) else {
         return unbegun(shelf);
     };
-    let stage = Stage::Off { shelf, history };
+    let Ok(stage) = Stage::new(alloc, shelf, history) else {
+        return unbegun(shelf);
+    };
     let done = do_lines(alloc, &mut lines, input, out, stage, clock, room);
-    let Closed { shelf, history } = done.stage.close();
+    let Closed { shelf, history } = conclude(done.stage);
     Ended {
         status: status_of(done.stop, done.refused),
         refused: done.refused,

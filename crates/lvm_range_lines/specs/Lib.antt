@@ -1,0 +1,5 @@
+pub mod Refusals
+pub mod Leaving
+pub mod Ranges
+pub mod Waits
+pub mod Steps
