@@ -1,4 +1,5 @@
 pub mod Refusals
+pub mod Answers
 pub mod Leaving
 pub mod Ranges
 pub mod Waits

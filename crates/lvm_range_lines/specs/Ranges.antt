@@ -39,16 +39,16 @@ abbrev pub post_of : Asked → Post
 post_of asked = record { asked = asked; ended = None }
 
 -- it is asked for, and stands behind the posts
-pub record IsPosted (lv at count word : ℕ) (core : Core) (old new : State) (answer : Reply) : Type 0 where
+pub record PostsRange (lv at count word : ℕ) (core : Core) (old new : State) (answer : Reply) : Type 0 where
   pub asked : Asked
-  pub then : Core
-  pub gives : AskRangeGives (Some word) lv at count core then (Ok asked)
-  pub goes : GoesOnWith (session_over old then) (old.posts ++ post_of asked ∷ []) old.last new
+  pub begun : Core
+  pub gives : AskRangeGives (Some word) lv at count core begun (Ok asked)
+  pub goes : GoesOnWith (session_over old begun) (old.posts ++ post_of asked ∷ []) old.last new
   pub says : answer ≡ reply.Posted
 
 pub data Posts (lv at count word : ℕ) (core : Core) (old new : State) (answer : Reply) : Type 0 where
   NotPosted : IsNotAsked (Some word) lv at count core old new answer → Posts lv at count word core old new answer
-  Posted : IsPosted lv at count word core old new answer → Posts lv at count word core old new answer
+  Posted : PostsRange lv at count word core old new answer → Posts lv at count word core old new answer
 
 abbrev pub PostDoes : List ℕ → ℕ → ℕ → ℕ → State → State → Reply → Type 0
 PostDoes name at count word old new answer = OnVolume name (λ core lv. Posts lv at count word core old new answer) old new answer
@@ -62,11 +62,11 @@ EndsBy other end posts last new = Leaves end posts last new
 
 -- It is asked for and waited for, and its answers are taken; so much patience is left.
 pub record IsFinished (write : Option ℕ) (lv at count : ℕ) (core : Core) (old new : State) (end : Session) (asked : Asked) (done : Result (Unit {0}) RangeFault) : Type 0 where
-  pub then : Core
-  pub gives : AskRangeGives write lv at count core then (Ok asked)
+  pub begun : Core
+  pub gives : AskRangeGives write lv at count core begun (Ok asked)
   pub left : ℕ
-  pub finishes : FinishGives asked left (session_over old then) end done
-  pub waited : Waited left (session_over old then) end
+  pub finishes : FinishGives asked left (session_over old begun) end done
+  pub waited : Waited left (session_over old begun) end
   pub ends : EndsBy done end old.posts old.last new
 
 -- so it is, and this answers

@@ -1,5 +1,5 @@
 -- What `wait` does.
-use Rattle.std.specs.Prelude.{◌≡◌, ◌≢◌, ◌∷◌, ◌++◌, ℕ, true, [], List, Option, Some, None, Contains, codes}
+use Rattle.std.specs.Prelude.{◌≡◌, ◌≢◌, ◌∷◌, ◌++◌, ℕ, true, [], List, Option, Some, None, Contains}
 use Rattle.lvm_disk.specs.Paths.{Path}
 use Rattle.lvm_vol.specs.Facts.{Fact}
 use Rattle.lvm_session.specs.declared.open.Power.TheVariants as power
@@ -17,8 +17,9 @@ use Rattle.lvm_stage.specs.State.{State}
 use Rattle.lvm_stage.specs.declared.reply.Refusal.TheVariants as refusal
 use Rattle.lvm_stage.specs.declared.reply.Reply.{Reply}
 use Rattle.lvm_stage.specs.declared.reply.Reply.TheVariants as reply
+use Rattle.lvm_range_lines.specs.Answers.{Tells}
 use Rattle.lvm_range_lines.specs.Leaving.{GoesOnWith, IsOverWith, Waited, session_over}
-use Rattle.lvm_range_lines.specs.Refusals.{Ending, answers_text, refusals_in}
+use Rattle.lvm_range_lines.specs.Refusals.{Ending}
 
 -- ---- the answers
 
@@ -40,11 +41,6 @@ pub data TakesPosts (first : Session) : List Post → Session → List Ending �
   NoPost : TakesPosts first [] first []
   OnePost : {posts : List Post} {mid : Session} {answers : List Ending} → TakesPosts first posts mid answers → (post : Post) (new : Session) (answer : Ending) → TakesPost post mid new answer
       → TakesPosts first (posts ++ post ∷ []) new (answers ++ answer ∷ [])
-
--- a line for each answer, and `ok`; where no memory is found for them, the reply says so
-pub data Tells (answers : List Ending) (answer : Reply) : Type 0 where
-  TellsAll : answer ≡ reply.Answers (answers_text answers ++ codes "ok\n") (refusals_in answers) → Tells answers answer
-  TellsNone : answer ≡ reply.Refused refusal.Memory → Tells answers answer
 
 -- ---- the turns
 
