@@ -14,9 +14,9 @@ use Rattle.lvm_stage.specs.Ends.{CommandEnds}
 use Rattle.lvm_group_lines.specs.Groups.{MkvgDoes, VaryonDoes, VaryoffDoes}
 use Rattle.lvm_group_lines.specs.Listings.{GroupShows, VolumeShows, DiskShows}
 use Rattle.lvm_stage.specs.Moments.{GoesOn, Role, Aside, OfGroup, OfRequests}
-use Rattle.lvm_range_lines.specs.Requests.{RdDoes, WrDoes, PostDoes}
-use Rattle.lvm_range_lines.specs.Waiting.{WaitDoes}
-use Rattle.lvm_range_lines.specs.Stepping.{StepDoes}
+use Rattle.lvm_range_lines.specs.Ranges.{RdDoes, WrDoes, PostDoes}
+use Rattle.lvm_range_lines.specs.Steps.{StepDoes}
+use Rattle.lvm_range_lines.specs.Waits.{WaitDoes}
 use Rattle.lvm_stage.specs.Replies.{IsRefused}
 use Rattle.lvm_disk_lines.specs.Shelves.{ArrangeDoes, CutDoes}
 use Rattle.lvm_stage.specs.State.{State}
@@ -40,11 +40,11 @@ CommandDoes log room (command.Mklv name copies mode policy group lps) old new an
 CommandDoes log room (command.Rmlv name) old new answer = RmlvDoes name old new answer
 CommandDoes log room (command.Mklvcopy name copies) old new answer = IsRefused (refusal.BadLine 1) answer old new
 CommandDoes log room (command.Rmlvcopy name copies) old new answer = IsRefused (refusal.BadLine 1) answer old new
-CommandDoes log room (command.Rd name at count) old new answer = RdDoes log name at count old new answer
-CommandDoes log room (command.Wr name at count word) old new answer = WrDoes log name at count word old new answer
-CommandDoes log room (command.Post name at count word) old new answer = PostDoes log name at count word old new answer
-CommandDoes log room command.Wait old new answer = WaitDoes log old new answer
-CommandDoes log room (command.Step turns) old new answer = StepDoes log turns old new answer
+CommandDoes log room (command.Rd name at count) old new answer = RdDoes name at count old new answer
+CommandDoes log room (command.Wr name at count word) old new answer = WrDoes name at count word old new answer
+CommandDoes log room (command.Post name at count word) old new answer = PostDoes name at count word old new answer
+CommandDoes log room command.Wait old new answer = WaitDoes old new answer
+CommandDoes log room (command.Step turns) old new answer = StepDoes turns old new answer
 CommandDoes log room (command.Lslv name) old new answer = IsListed old new (VolumeShows name old.session answer)
 CommandDoes log room (command.Lspv disk) old new answer = IsListed old new (DiskShows disk (length old.moment.device.sizes) old.session answer)
 CommandDoes log room (command.RawRd disk at count) old new answer = ReadDoes log disk at count old new answer
@@ -97,7 +97,7 @@ pub record CommandIsDone {S : Type 0} (device : S → Device) (room : Room) (c :
   pub ends : CommandEnds device (λ log. CommandDoes log room c) (IsOrder (Ok (Some c))) (role_of (Ok (Some c))) old new answer before after
   pub asked : now ≡ asked_after (Ok (Some c)) asks
 
--- A line joins two states, of a shelf whose sectors are 512 bytes each.
+-- A line joins two states, of a shelf whose sectors are 512 bytes each before and after it.
 pub record IsLine (log : Log) (room : Room) (line : List ℕ) (answer : Reply) (old new : State) : Type 0 where
   pub does : LineDoes log room (line_of line) old new answer
   pub goes : GoesOn log.run (role_of (line_of line)) answer old new

@@ -7,7 +7,7 @@ ghost use Rattle.lvm_parse.specs.Grammar.{line_of};
 ghost use Rattle.lvm_parse.specs.Within.{IsWithin};
 ghost use Rattle.lvm_line.specs.Lines.{CommandDoes, CommandIsDone, IsLine, IsChange, asked_after};
 ghost use Rattle.lvm_stage.specs.Replies.{IsStuck};
-ghost use Rattle.lvm_stage.specs.Stages.{history_in, session_in, state_in, IsBetweenStage};
+ghost use Rattle.lvm_stage.specs.Stages.{history_in, session_in, state_in, IsBetweenStage, IsFitting};
 ghost use Rattle.lvm_stage.specs.State.{without_facts};
 
 use lvm_core::Room;
@@ -30,6 +30,7 @@ fn do_command<S: Shelf, C: Clock>(
     command: Command,
 ) -> Answered<S>
     requires between { IsBetweenStage S.device stage }
+    requires fits { IsFitting stage }
     requires room { IsRoom room }
     requires within { IsWithin command }
     ensures { CommandIsDone S.device room command stage result.stage result.reply (C.last clock.old) (C.last clock.new) (C.asked clock.old) (C.asked clock.new) }
@@ -158,9 +159,11 @@ pub fn do_line<S: Shelf, C: Clock>(
     line: &[u8],
 ) -> Answered<S>
     requires between { IsBetweenStage S.device stage }
+    requires fits { IsFitting stage }
     requires room { IsRoom room }
     ensures line { IsLine (without_facts (history_in stage)) room line.now result.reply (state_in S.device stage (C.last clock.old)) (state_in S.device result.stage (C.last clock.new)) }
     ensures rooms { without_facts (history_in result.stage) ≡ without_facts (history_in stage) }
+    ensures fits { IsFitting result.stage }
     ensures asked { C.asked clock.new ≡ asked_after (line_of line.now) (C.asked clock.old) }
 {
     match parse(alloc, line) {

@@ -15,7 +15,7 @@ use Rattle.lvm_volumes.specs.Volumes.{IsWith}
 use Rattle.lvm_core.specs.Leaves.{MayBeFound}
 use Rattle.lvm_group_lines.specs.Groups.{asked_for}
 use Rattle.lvm_stage.specs.Moments.{IsBrokenOff}
-use Rattle.lvm_stage.specs.State.{State}
+use Rattle.lvm_stage.specs.State.{IsAtRest, State}
 use Rattle.lvm_volume_lines.specs.Volumes.{wanted}
 use Rattle.lvm_stage.specs.declared.reply.Reply.{Reply}
 use Rattle.lvm_stage.specs.declared.reply.Reply.TheVariants as reply
@@ -24,10 +24,16 @@ use Rattle.lvm_volume_plan.specs.NewVolume.{without_volume}
 
 -- ---- one line
 
+-- The session on whose group a command was made: that which was on, after the turns by which what was under way in it was ended; none where nothing was.
+pub record IsDrained (old : State) (core mid : Core) : Type 0 where
+  pub on : old.session ≡ Some core
+  pub descriptor : mid.descriptor ≡ core.descriptor
+  pub still : IsAtRest old → mid ≡ core
+
 -- the descriptor that a line was to commit: of the group that is made, or of that which is on with a volume more or without one
 abbrev pub IsToCommit : Result (Option Command) Misfit → State → State → Descriptor → Type 0
 IsToCommit (Ok (Some (command.Mkvg force name mib disks))) old new k = k ≡ new_group old.moment.device.sizes (asked_for name mib disks force new.last)
-IsToCommit (Ok (Some (command.Mklv name copies mode policy group lps))) old new k = IsSomeAnd old.session (λ core. IsWith (wanted name copies mode policy lps) core k)
+IsToCommit (Ok (Some (command.Mklv name copies mode policy group lps))) old new k = (core : Core) × (mid : Core) × IsDrained old core mid × IsWith (wanted name copies mode policy lps) mid k
 IsToCommit (Ok (Some (command.Rmlv name))) old new k = IsSomeAnd old.session (λ core. (lv : ℕ) × IsNumberOf core.descriptor.lvs name lv × (k ≡ without_volume core.descriptor lv))
 IsToCommit other old new k = ⊥
 
@@ -43,6 +49,13 @@ is_group_command (command.Mkvg force name mib disks) = true
 is_group_command (command.Varyon name) = true
 is_group_command (command.Mklv name copies mode policy group lps) = true
 is_group_command (command.Rmlv name) = true
+is_group_command (command.Mklvcopy name copies) = false
+is_group_command (command.Rmlvcopy name copies) = false
+is_group_command (command.Rd name at count) = false
+is_group_command (command.Wr name at count word) = false
+is_group_command (command.Post name at count word) = false
+is_group_command command.Wait = false
+is_group_command (command.Step turns) = false
 is_group_command (command.Varyoff name) = false
 is_group_command (command.Lsvg volumes name) = false
 is_group_command (command.Lslv name) = false

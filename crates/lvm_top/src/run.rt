@@ -15,9 +15,8 @@ use lvm_driver::Driver;
 use lvm_history::History;
 use lvm_io::{Clock, Lines, Sink, Source};
 use lvm_memory::MemShelf;
-use lvm_session::{Power, Turned};
-use lvm_stage::{Holder, Stage};
-use lvm_transfer::relight;
+use lvm_session::Turned;
+use lvm_stage::{Holder, Stage, take_rooms};
 use std::alloc::Global;
 
 /// How a run ended.
@@ -63,32 +62,40 @@ fn unbegun<S>(shelf: S) -> Ended<S>
     }
 }
 
-// Makes turns until one doesn't move, and ends the session without a write. After a power cut the power is on again.
-fn run_out<S: Shelf>(driver: Driver<S>) -> Closed<S>
-    requires unstuck { driver.1.power ≡ power.Stuck → ⊥ }
+// Makes turns until one doesn't move.
+fn run_on<S: Shelf>(driver: &mut Driver<S>)
+    requires unstuck { driver.old.1.power ≡ power.Stuck → ⊥ }
+    ensures turns { MakesTurns (state_of S.device driver.old) (state_of S.device driver.new) }
+    ensures runs { RunsOn (state_of S.device driver.old) (state_of S.device driver.new) }
 {
-    let mut driver = driver;
     while let Turned::Moved = driver.turn() {}
-    let dark = driver.power() == Power::Dark;
-    let lvm_driver::Closed { mut shelf, history } = driver.close();
-    if dark {
-        relight(&mut shelf);
-    }
-    Closed { shelf, history }
 }
 
-// Ends what stands after the last line.
-fn conclude<S: Shelf>(stage: Stage<S>) -> Closed<S> {
-    match stage.holder {
+// Ends what stands after the last line: a session that is on makes turns until one doesn't move, and is closed.
+fn conclude<S: Shelf>(stage: Stage<S>) -> Closed<S>
+    requires between { session_in stage ≡ None ⊎ IsBetweenStage S.device stage }
+    requires fits { IsFitting stage }
+    ensures concludes { Concludes (moment_in S.device stage) (session_in stage) (record { device = S.device result.shelf; facts = result.history.facts }) }
+    ensures rooms { without_facts result.history ≡ without_facts (history_in stage) }
+{
+    let Stage {
+        holder,
+        posts,
+        bytes,
+    } = stage;
+    match holder {
         Holder::Off { shelf, history } => Closed { shelf, history },
         Holder::Empty { driver } => driver.close(),
-        Holder::Serving { driver } => run_out(driver),
+        Holder::Serving { mut driver } => {
+            run_on(&mut driver);
+            Stage::ended(driver, posts, bytes).holder.close()
+        }
     }
 }
 
 /// Runs a script: reads a line, does it, writes its reply, and goes on. The moment at which the run begins
-/// names it in its history. The clock is asked for it, and once in each line that varies a group on. A group
-/// that is on at the end is varied off without a write.
+/// names it in its history. The clock is asked for it, and once in each line that varies a group on. At the end a
+/// session that is on makes turns until one doesn't move, and is closed without a write.
 pub fn run_script<S: Shelf, I: Source, O: Sink, C: Clock>(
     alloc: Global,
     input: &mut I,
@@ -111,8 +118,13 @@ pub fn run_script<S: Shelf, I: Source, O: Sink, C: Clock>(
     let Ok(history) = History::new(alloc, run, room.entries, room.bytes) else {
         return unbegun(shelf);
     };
-    let Ok(stage) = Stage::new(alloc, shelf, history) else {
+    let Ok((posts, bytes)) = take_rooms(alloc, room.entries) else {
         return unbegun(shelf);
+    };
+    let stage = Stage {
+        holder: Holder::Off { shelf, history },
+        posts,
+        bytes,
     };
     let done = do_lines(alloc, &mut lines, input, out, stage, clock, room);
     let Closed { shelf, history } = conclude(done.stage);
