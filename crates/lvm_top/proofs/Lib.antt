@@ -4,6 +4,7 @@ mod Firsts
 pub mod Lining
 mod Runs
 pub mod Scripting
+pub mod Concluding
 pub mod Stopping
 pub mod Devices
 pub mod Transfers

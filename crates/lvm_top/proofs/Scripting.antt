@@ -393,7 +393,7 @@ pub record Ended (run : ℕ) (Alone Requests Heard : Type 0) (first last : State
   pub clock : first.last ≤ last.last
 
 -- what is ahead of each crash image is ahead of the disks
-timely_ahead : (run : ℕ) (s : State) → IsTimely run s → IsAhead run (s.last + 1) s.moment.device s.moment.facts
+pub timely_ahead : (run : ℕ) (s : State) → IsTimely run s → IsAhead run (s.last + 1) s.moment.device s.moment.facts
 timely_ahead run s timely = record { run_is = timely.ahead.run_is; later = timely.ahead.later; behind = each_is_behind (s.last + 1) s.moment.device timely.ahead.behind }
 
 ends_went : (log : Log) (room : Room) (Alone : Type 0) (lines : List (List ℕ)) (first mid last : State) {done : List (List ℕ)} {said : List Reply} {front : List ℕ} → Went log.run Alone (MakeRequests lines) first mid → (ends : Ends log room mid last done said front)
@@ -434,6 +434,11 @@ nothing_done log room first input output none =
 pub nothing_broken : (log : Log) (room : Room) (first : State) (input output : Stream) (none : first.posts ≡ []) → (nothing_done log room first input output none).done ≡ []
 unfolding nothing_done lines_so_far
 nothing_broken log room first input output none = refl
+
+-- nor was anything not heard of
+pub nothing_heard : (log : Log) (room : Room) (first : State) (input output : Stream) (none : first.posts ≡ []) → EndsHeard (nothing_done log room first input output none).ends
+unfolding nothing_done lines_so_far
+nothing_heard log room first input output none = tt
 
 -- ---- runs
 

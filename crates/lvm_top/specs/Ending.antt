@@ -1,18 +1,15 @@
 -- How a run ends behind its last line.
-use Rattle.std.specs.Prelude.{◌≡◌, ◌≢◌, ◌+◌, ℕ, true, [], Option, Some, None}
+use Rattle.std.specs.Prelude.{◌≡◌, ◌≢◌, ℕ, [], Option, Some, None}
 use Rattle.lvm_kept.specs.Moments.{Moment}
-use Rattle.lvm_steps.specs.Moments.{Keeps}
-use Rattle.lvm_stamps.specs.Behind.{IsAhead}
 use Rattle.lvm_session.specs.declared.answers.Turned.{Turned}
 use Rattle.lvm_session.specs.declared.answers.Turned.TheVariants as turned
 use Rattle.lvm_session.specs.State.{Core, State as Session, state}
+use Rattle.lvm_session.specs.Sound.{IsSound}
 use Rattle.lvm_session.specs.Turns.{TurnMakes}
 use Rattle.lvm_turn_answers.specs.Telling.{TurnTells}
 use Rattle.lvm_running.specs.Running.{RunsOn}
 use Rattle.lvm_ranges.specs.Stepping.{Moves}
-use Rattle.lvm_stage.specs.Moments.{IsAlone, OfRequests}
 use Rattle.lvm_stage.specs.Stages.{IsClosed}
-use Rattle.lvm_stage.specs.State.{State, IsTimely, StandsBy}
 
 -- turns are made until one doesn't move, and no turn more
 pub record MakesTurns (old new : Session) : Type 0 where
@@ -24,16 +21,20 @@ pub record MakesTurns (old new : Session) : Type 0 where
   pub tells : TurnTells mid new answer
   pub unmoved : answer ≡ turned.Moved → ⊥
 
--- Where no group is on, or one without volumes, nothing is left to be done. Else turns of its session are made, and it is closed without a write; after a power
--- cut the power is put on again.
-pub data Concludes (end exit : Moment) (on : Option Core) : Type 0 where
-  NoneIsOn : on ≡ None → exit ≡ end → Concludes end exit on
-  NoneIsServed : (core : Core) → on ≡ Some core → core.descriptor.lvs ≡ [] → exit ≡ end → Concludes end exit on
-  TurnsAreMade : (core : Core) (last : Session) → on ≡ Some core → core.descriptor.lvs ≢ [] → MakesTurns (state end.device core) last → RunsOn (state end.device core) last
-      → IsClosed last.core.power last.device exit.device → exit.facts ≡ last.core.history.facts → Concludes end exit on
+-- nothing is under way: no request is open, no update is in flight, what is wanted is committed, and no transfer is out
+pub record RestsNow (s : Session) : Type 0 where
+  pub requests : s.core.requests ≡ []
+  pub in_flight : s.core.status.in_flight ≡ None
+  pub committed : s.core.status.committed ≡ s.core.status.wanted
+  pub flights : s.device.flights ≡ []
 
--- While the clock is ahead of each crash image, and no other group has a quorum where turns are made, a span goes on with it; and the clock stays ahead of the
--- disks.
-pub record EndsWell (run : ℕ) (old new : State) : Type 0 where
-  pub keeps : IsTimely run old → IsAlone OfRequests old new → (first : Moment) → Keeps run first old.moment → StandsBy run first old → Keeps run first new.moment
-  pub left : IsTimely run old → IsAhead run (new.last + 1) new.moment.device new.moment.facts
+-- Nothing is left to be made of a session; or turns of it are made, and it is closed without a write; after a power cut the power is put on again.
+pub data RunsOut (old : Session) (exit : Moment) : Type 0 where
+  NothingIsLeft : RestsNow old → exit.device ≡ record old.device { freed = [] } → exit.facts ≡ old.core.history.facts → RunsOut old exit
+  TurnsAreMade : (last : Session) → (RestsNow old → ⊥) → MakesTurns old last → RunsOn old last → IsSound last → IsClosed last.core.power last.device exit.device → exit.facts ≡ last.core.history.facts → RunsOut old exit
+
+-- Where no group is on, or one without volumes, nothing happens. Else the session, which is of this run, runs out.
+pub data Concludes (run : ℕ) (end exit : Moment) (on : Option Core) : Type 0 where
+  NoneIsOn : on ≡ None → exit ≡ end → Concludes run end exit on
+  NoneIsServed : (core : Core) → on ≡ Some core → core.descriptor.lvs ≡ [] → exit ≡ end → Concludes run end exit on
+  IsServed : (core : Core) → on ≡ Some core → core.descriptor.lvs ≢ [] → core.history.run ≡ run → end.facts ≡ core.history.facts → RunsOut (state end.device core) exit → Concludes run end exit on

@@ -11,7 +11,7 @@ use Rattle.lvm_stamps.specs.Behind.{IsBehind, IsAhead}
 use Rattle.lvm_core.specs.declared.parts.Room.{Room}
 use Rattle.lvm_stage.specs.Moments.{IsAlone, OfRequests}
 use Rattle.lvm_stage.specs.State.{State}
-use Rattle.lvm_top.specs.Ending.{Concludes, EndsWell}
+use Rattle.lvm_top.specs.Ending.{Concludes}
 use Rattle.lvm_top.specs.Script.{Passage, AreDone, AreAllRead, IsLineLeft, EndsHeard, EndsStuck, StaysAlone, EndsAlone, MakeRequests, empty_log, entry_state, facts_of, run_of}
 use Rattle.lvm_top.specs.Statuses.{at_end, IsAtEnd}
 use Rattle.lvm_top.specs.declared.status.ExitStatus.{ExitStatus}
@@ -40,11 +40,10 @@ ran room entry exit input output last history status refused =
 abbrev pub exit_state : Device → Option Log → State → State
 exit_state exit history end = record { moment = record { device = exit; facts = facts_of history }; session = None; posts = []; last = end.last }
 
--- What the run does behind its last line: turns, where a session is on that has any to make. Where nothing was posted, read, written or stepped on volumes, nothing
--- happens. The clock was last asked by a line, or at the beginning.
+-- What the run does behind its last line: turns, where a session is on that has any to make. Where no line made requests of volumes nothing happens, and nothing is
+-- under way then unless nothing was heard of a transfer. The clock was last asked by a line, or at the beginning.
 pub record IsConcluded (run : ℕ) (exit : Device) (history : Option Log) (last : ℕ) (end : State) (Requests Stuck : Type 0) : Type 0 where
-  pub concludes : Concludes end.moment (record { device = exit; facts = facts_of history }) end.session
-  pub ends : EndsWell run end (exit_state exit history end)
+  pub concludes : Concludes run end.moment (record { device = exit; facts = facts_of history }) end.session
   pub still : (Requests → ⊥) → record { device = exit; facts = facts_of history } ≡ end.moment
   pub rests : (Requests → ⊥) → (Stuck → ⊥) → IsReady exit
   pub clock : IfSome history (λ log. end.last ≡ last)
