@@ -89,9 +89,9 @@ pub record IsTimely (run : ℕ) (s : State) : Type 0 where
 
 -- ---- what stands on the disks
 
--- where the group has a volume, at most one has a quorum among all disks, and all its volumes are in mode off
+-- Where its group has a volume and no request is open, at most one group has a quorum among all disks, and all its volumes are in mode off.
 abbrev pub StandsAlone : Device → Core → Type 0
-StandsAlone device core = core.descriptor.lvs ≢ [] → IsOneByAllOn device × AreOff core.descriptor
+StandsAlone device core = core.requests ≡ [] → core.descriptor.lvs ≢ [] → IsOneByAllOn device × AreOff core.descriptor
 
 -- After each earlier history with which the run may have begun, the disks stand by the session, where its group stands alone.
 abbrev pub StandsBy : ℕ → Moment → State → Type 0
