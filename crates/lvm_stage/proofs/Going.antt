@@ -99,7 +99,7 @@ ended_goes run role answer old new core was facts none between one ends = subst 
   power = between.lit.power;
   waits = omega arith;
   clock = omega arith;
-  few = let same = length-map (ended_with have total) old.posts in omega (arith, one, same);
+  few = let same = length-map old.posts (ended_with have total) in omega (arith, one, same);
 })
   where
     have : ℕ
