@@ -1,20 +1,18 @@
 -- Partitions that are marked one after another in the status with which a session began.
-use Rattle.std.proofs.Common.{◌≡◌, ◌==◌, inr, ℕ, zero, suc, ◌+◌, ◌<◌, Bool, true, false, ◌||◌, ◌&&◌, if◌then◌else◌, List, [], ◌∷◌, length, take, get_or, refl, sym, ◌∙◌, ap, arith}
+use Rattle.std.proofs.Common.{◌≡◌, ◌==◌, ℕ, ◌+◌, ◌<◌, Bool, true, false, ◌||◌, ◌&&◌, if◌then◌else◌, List, [], length, take, get_or, refl, sym, ◌∙◌, ap, subst}
 use Rattle.std.specs.List.{list_any}
 use Rattle.std.proofs.lemmas.Bool.{eq-eqb, eqb-true}
 use Rattle.std.proofs.lemmas.List.Folds.{list_any_more}
-use Rattle.lvm_num.specs.declared.descriptor.Descriptor.{Descriptor}
 use Rattle.lvm_num.specs.declared.descriptor.PvRow.{PvRow}
 use Rattle.lvm_num.specs.declared.place.Pp.{Pp}
 use Rattle.lvm_num.specs.declared.status.Status.{Status}
 use Rattle.lvm_num.specs.Status.{calls_missing, calls_stale}
 use Rattle.lvm_stale.specs.Table.{SameMembers, SameMissing, SameStale, has_row, is_pp}
 use Rattle.lvm_status.specs.Calls.{IsMarkable}
-use Rattle.lvm_status.specs.Members.{HasItsRows}
 use Rattle.lvm_commit.proofs.Wanting.{row_stays}
 use Rattle.lvm_session.specs.Marks.{is_among}
-use Rattle.lvm_tie.proofs.Words.{or_true}
-use Rattle.lvm_handover.specs.Serving.{MarksAdded, MarksMissing, MarksMore}
+use Rattle.lvm_session.specs.State.{Core}
+use Rattle.lvm_handover.specs.Serving.{IsServed, MarksAdded, MarksMissing, MarksMore}
 
 pub markable_still : (old now : Status) (p : Pp) → ((disk : ℕ) → has_row now disk ≡ has_row old disk) → IsMarkable old p → IsMarkable now p
 markable_still old now p rows may = record { row = rows p.disk ∙ may.row; partition = may.partition }
@@ -48,15 +46,6 @@ none_missing now old = record { stale = λ p. refl; missing = λ disk. or_none (
     or_none : (b : Bool) → b ≡ (b || false)
     or_none true = refl
     or_none false = refl
-
--- a row of a member that is at some place has one in each status that has its rows
-pub member_has_row : (d : Descriptor) (old mid : Status) (i : ℕ) (row : PvRow) → i < length d.pvs → HasItsRows d old → ((disk : ℕ) → has_row mid disk ≡ has_row old disk) → has_row mid (get_or d.pvs i row).disk ≡ true
-member_has_row d old mid i row within rows same = same (get_or d.pvs i row).disk ∙ rows (get_or d.pvs i row).disk ∙ at d.pvs i within
-  where
-    at : (members : List PvRow) (k : ℕ) → k < length members → list_any (λ (r : PvRow). r.disk == (get_or members k row).disk) members ≡ true
-    at [] k lt = absurd (omega (arith, lt))
-    at (r ∷ members) zero lt = ap (λ (b : Bool). b || list_any (λ (q : PvRow). q.disk == r.disk) members) (eq-eqb r.disk r.disk refl)
-    at (r ∷ members) (suc k) lt = or_true (r.disk == (get_or members k row).disk) (list_any (λ (q : PvRow). q.disk == (get_or members k row).disk) members) (inr (at members k (omega (arith, lt))))
 
 module _ (members : List PvRow) (i : ℕ) (row : PvRow) (within : i < length members) (its : row ≡ get_or members i row) (now old mid : Status) (so_far : MarksMissing (take i members) now old mid) where
   abbrev before : ℕ → Bool
@@ -126,4 +115,11 @@ both_marked added members now old mid new first second = record {
   stale = λ p. second.stale p ∙ first.stale p;
   missing = λ disk. second.missing disk ∙ ap (λ (b : Bool). b || (list_any (λ (row : PvRow). row.disk == disk) members && calls_missing now disk)) (first.missing disk);
   rows = λ disk. second.rows disk ∙ first.rows disk;
+}
+
+pub served_with : (added : List Pp) (core : Core) (wanted mid new : Status) → wanted ≡ core.status.wanted → MarksAdded added core.origin.table mid → MarksMissing core.descriptor.pvs wanted mid new
+    → IsServed added core (record core { origin = record core.origin { table = new } })
+served_with added core wanted mid new is first second = record {
+  marks = both_marked added core.descriptor.pvs core.status.wanted core.origin.table mid new first (subst (λ (t : Status). MarksMissing core.descriptor.pvs t mid new) is second);
+  is = refl;
 }
