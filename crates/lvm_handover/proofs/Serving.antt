@@ -45,7 +45,7 @@ use Rattle.lvm_core.specs.Sound.{IsSound as IsSoundBetween}
 use Rattle.lvm_keeps.proofs.Lists.{count_cons}
 use Rattle.lvm_tie.proofs.Words.{any_one, clash, or_true, not_true}
 use Rattle.lvm_volumes.specs.Endings.{HasFresh}
-use Rattle.lvm_handover.specs.Serving.{CommandsServe, GoesOnWith, IsServed, MarksMore, MayServe, is_gone}
+use Rattle.lvm_handover.specs.Serving.{CommandsServe, GoesOnWith, IsServed, is_gone}
 use Rattle.lvm_handover.proofs.Entailing.{not_entailed, passes}
 use Rattle.lvm_handover.proofs.Votes.{each_row, enough_more, more_votes, no_votes, not_enough}
 
@@ -158,7 +158,9 @@ module _ (added : List Pp) (old new : State) (sound : IsSound old) (began : IsSe
 
   -- ---- the served session, of which only the table of its beginning differs
 
-  module _ (t : Status) (marks : MarksMore added (is_gone new.core) new.core.origin.table t) where
+  module _ (t : Status) (stale : (p : Pp) → calls_stale t p ≡ (calls_stale new.core.origin.table p || is_among added p))
+      (was : (disk : ℕ) → calls_missing new.core.origin.table disk ≡ true → calls_missing t disk ≡ true)
+      (so : (disk : ℕ) → calls_missing t disk ≡ true → (calls_missing new.core.origin.table disk ≡ true) ⊎ (is_missing new.core disk ≡ true)) where
     abbrev core : Core
     core = record new.core { origin = record new.core.origin { table = t } }
 
@@ -166,28 +168,23 @@ module _ (added : List Pp) (old new : State) (sound : IsSound old) (began : IsSe
     s = state new.device core
 
     stale_as : (p : Pp) → calls_stale t p ≡ (calls_stale old.core.origin.table p || is_among added p)
-    stale_as p = marks.stale p ∙ ap (λ (o : Origin). calls_stale o.table p || is_among added p) origin
+    stale_as p = stale p ∙ ap (λ (o : Origin). calls_stale o.table p || is_among added p) origin
 
-    missing_as : (disk : ℕ) → calls_missing t disk ≡ (calls_missing old.core.origin.table disk || is_gone new.core disk)
-    missing_as disk = marks.missing disk ∙ ap (λ (o : Origin). calls_missing o.table disk || is_gone new.core disk) origin
+    same_first : (disk : ℕ) → calls_missing new.core.origin.table disk ≡ calls_missing old.core.origin.table disk
+    same_first disk = ap (λ (o : Origin). calls_missing o.table disk) origin
 
     missing_first : (disk : ℕ) → calls_missing old.core.origin.table disk ≡ true → calls_missing t disk ≡ true
-    missing_first disk was = missing_as disk ∙ or_true (calls_missing old.core.origin.table disk) (is_gone new.core disk) (inl was)
+    missing_first disk gone = was disk (same_first disk ∙ gone)
 
     was_there : (disk : ℕ) → calls_missing t disk ≡ false → calls_missing old.core.origin.table disk ≡ false
     was_there disk there = by (calls_missing old.core.origin.table disk) refl
       where
         by : (b : Bool) → calls_missing old.core.origin.table disk ≡ b → b ≡ false
-        by true was = absurd (let no : true ≡ false = sym (missing_first disk was) ∙ there in cc no)
-        by false was = refl
+        by true gone = absurd (let no : true ≡ false = sym (missing_first disk gone) ∙ there in cc no)
+        by false here = refl
 
     missing_now : (disk : ℕ) → calls_missing t disk ≡ true → is_missing core disk ≡ true
-    missing_now disk gone = by (calls_missing old.core.origin.table disk) (is_member new.core.descriptor disk) refl (sym (missing_as disk) ∙ gone)
-      where
-        by : (a m : Bool) → calls_missing old.core.origin.table disk ≡ a → a || (m && is_missing new.core disk) ≡ true → is_missing new.core disk ≡ true
-        by true m was either = goes.stays disk (sound.origin.still_missing disk was)
-        by false true was either = either
-        by false false was either = absurd (cc either)
+    missing_now disk gone = ⊎_elim (λ (at : calls_missing new.core.origin.table disk ≡ true). goes.stays disk (sound.origin.still_missing disk (sym (same_first disk) ∙ at))) (λ (now : is_missing new.core disk ≡ true). now) (so disk gone)
 
     at_first : (disk : ℕ) → faults_at_first core disk ≡ faults_at_first old.core disk
     at_first disk = ap (λ (o : Origin). slice_index_or o.faults disk 0) origin
@@ -363,7 +360,25 @@ module _ (added : List Pp) (old new : State) (sound : IsSound old) (began : IsSe
     }
 
   pub served_is_sound : (core : Core) → IsServed added new.core core → IsSound (state new.device core)
-  served_is_sound core served = subst (λ (c : Core). IsSound (state new.device c)) (sym served.is) (is_sound core.origin.table served.marks)
+  served_is_sound core served = subst (λ (c : Core). IsSound (state new.device c)) (sym served.is)
+      (is_sound core.origin.table served.marks.stale
+          (λ disk gone. served.marks.missing disk ∙ or_true (calls_missing new.core.origin.table disk) (is_gone new.core disk) (inl gone))
+          (λ disk gone. by (calls_missing new.core.origin.table disk) (is_member new.core.descriptor disk) (is_missing new.core disk) (sym (served.marks.missing disk) ∙ gone)))
+    where
+      by : (a m n : Bool) → a || (m && n) ≡ true → (a ≡ true) ⊎ (n ≡ true)
+      by true m n either = inl refl
+      by false true n either = inr either
+      by false false n either = absurd (cc either)
+
+  pub stays_sound : added ≡ [] → IsSound new
+  stays_sound nothing = is_sound new.core.origin.table (λ p. or_none (calls_stale new.core.origin.table p) ∙ ap (λ (ps : List Pp). calls_stale new.core.origin.table p || is_among ps p) (sym nothing)) (λ disk gone. gone) (λ disk gone. inl gone)
+    where
+      or_none : (b : Bool) → b ≡ (b || false)
+      or_none true = refl
+      or_none false = refl
 
 pub commands_serve : CommandsServe
-commands_serve added old new sound began settled goes between = served_is_sound added old new sound began (record { sound = between; settled = settled }) goes
+commands_serve added old new sound began settled goes = (
+    (λ between. served_is_sound added old new sound began (record { sound = between; settled = settled }) goes),
+    (λ nothing between. stays_sound added old new sound began (record { sound = between; settled = settled }) goes nothing),
+  )

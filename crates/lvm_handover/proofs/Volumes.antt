@@ -44,7 +44,7 @@ use Rattle.lvm_volumes.specs.Endings.{CommandFailed, HasFresh, IfOn, KeepsFresh,
 use Rattle.lvm_volumes.specs.Volumes.{IsChosen, IsVolumeMade, IsVolumeRemoved, IsWith, MakingFails, MklvGives, RmlvGives, making, removing, to_make, to_remove}
 use Rattle.lvm_volumes.proofs.Entering.{many_bound}
 use Rattle.lvm_volumes.proofs.Places.{places_of}
-use Rattle.lvm_handover.specs.Serving.{GoesOnWith, IsCommanded, IsServed, MayServe, MklvServes, RmlvServes}
+use Rattle.lvm_handover.specs.Serving.{GoesOnWith, IsCommanded, MayServe, MklvServes, RmlvServes, StaysSound}
 use Rattle.lvm_handover.proofs.Entailing.{few_updates, none_left, passes}
 use Rattle.lvm_handover.proofs.Serving.{commands_serve}
 
@@ -151,12 +151,14 @@ module _ (old : State) (sound : IsSound old) (began : IsSettled old.core) where
       fresh = λ lv lp p one was apart. fresh lv lp p (subst (λ (g : Descriptor). IsOneOf (copies_in g lv lp) p) descriptor_is one) was;
     }
 
-    pub may_serve : MayServe [] new
-    may_serve between = commands_serve [] old new sound began after (goes_on between.fitting.valid) between
+    pub may_serve : MayServe [] new × StaysSound new
+    may_serve = (λ between. (commands_serve [] old new sound began after (goes_on between.fitting.valid)).0 between, λ between. (commands_serve [] old new sound began after (goes_on between.fitting.valid)).1 refl between)
 
 -- where nothing has happened
-pub refused_serves : (old new : State) → IsSound old → IsSettled old.core → new ≡ old → MayServe [] new
-refused_serves old new sound began same = subst (MayServe []) (sym same) (commands_serve [] old old sound began began nothing)
+pub refused_serves : (old new : State) → IsSound old → IsSettled old.core → new ≡ old → MayServe [] new × StaysSound new
+refused_serves old new sound began same =
+    let both = commands_serve [] old old sound began began nothing in
+    subst (λ (s : State). MayServe [] s × StaysSound s) (sym same) (both.0, both.1 refl)
   where
     nothing : GoesOnWith [] old old
     nothing = record {
@@ -192,7 +194,7 @@ module _ (v : NewVolume) (before after : ℕ) (old new : State) (sound : IsSound
       (one_insert old.core.descriptor.lvs (number - 1) (row_for v number map) row rows)
 
   module _ (began : IsSettled old.core) (leaves : Leaves (to_make v old.core) before after old new) (is_after : IsSettled new.core) (still : StillHeld old new) (keeps : KeepsFresh old new) where
-    made : (lv : ℕ) → IsVolumeMade v lv old new → MayServe [] new
+    made : (lv : ℕ) → IsVolumeMade v lv old new → MayServe [] new × StaysSound new
     made lv it = may_serve old sound began new is_after still (with_volume old.core.descriptor (row_for v lv it.map)) (with_fact (making v lv old) (Made lv)) (IsWith v old.core) (IsChosen v old.core) 2 it.is refl
         (ordered-push old.core.history.run [] (making v lv old).facts (Made lv) (ordered-push old.core.history.run [] old.core.history.facts (Making lv (volume_blocks old.core.descriptor.mib v.lps) v.mode) sound.told.ordered tt) tt)
         refl leaves.status leaves.falls leaves.writes.sizes leaves.numbers (omega arith) it.may.room of_members fresh
@@ -218,7 +220,7 @@ module _ (v : NewVolume) (before after : ℕ) (old new : State) (sound : IsSound
             keeps n lp p here (inr (had_fresh old sound began n lp p (subst (λ (ps : List Pp). IsOneOf ps p) (sym (copies_at old.core.descriptor n lp its.row volume)) its.one) was)))
             (one_insert old.core.descriptor.lvs (lv - 1) (row_for v lv it.map) its.row at.0)
 
-    failed : (disk : ℕ) → MakingFails v disk old new → MayServe [] new
+    failed : (disk : ℕ) → MakingFails v disk old new → MayServe [] new × StaysSound new
     failed disk it = may_serve old sound began new is_after still old.core.descriptor old.core.history (IsWith v old.core) (IsChosen v old.core) 2 it.ends.is refl sound.told.ordered refl leaves.status leaves.falls leaves.writes.sizes
         leaves.numbers (omega arith) it.may.room of_members
         (λ n lp p one was. keeps n lp p (subst (λ (g : Descriptor). IsOneOf (copies_in g n lp) p) (sym (ap (λ (c : Core). c.descriptor) it.ends.is)) one) (inr (had_fresh old sound began n lp p one was)))
@@ -242,7 +244,7 @@ mklv_serves v before after old new (Err fault.Memory) sound c gives = refused_se
 -- ---- by that of rmlv
 
 module _ (lv before after : ℕ) (old new : State) (sound : IsSound old) (began : IsSettled old.core) (leaves : Leaves (to_remove lv old.core) before after old new) (is_after : IsSettled new.core) (still : StillHeld old new) (keeps : KeepsFresh old new) where
-  removed : IsVolumeRemoved lv old new → MayServe [] new
+  removed : IsVolumeRemoved lv old new → MayServe [] new × StaysSound new
   removed it = may_serve old sound began new is_after still (without_volume old.core.descriptor lv) (with_fact (removing lv old) (Removed (Lv lv))) (λ (next : Descriptor). next ≡ without_volume old.core.descriptor lv) NoPartition 1 it.is refl
       (ordered-push old.core.history.run [] (removing lv old).facts (Removed (Lv lv)) (ordered-push old.core.history.run [] old.core.history.facts (Removing (Lv lv)) sound.told.ordered tt) tt)
       refl leaves.status leaves.falls leaves.writes.sizes leaves.numbers (omega arith) it.may.room

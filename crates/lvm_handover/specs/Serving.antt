@@ -58,6 +58,10 @@ pub record IsServed (added : List Pp) (old new : Core) : Type 0 where
 abbrev pub MayServe : List Pp → State → Type 0
 MayServe added s = IsSoundBetween s → (core : Core) → IsServed added s.core core → IsSound (state s.device core)
 
+-- so is one that isn't handed over, of which nothing was added
+abbrev pub StaysSound : State → Type 0
+StaysSound s = IsSoundBetween s → IsSound s
+
 -- ---- what a command leaves
 
 -- The session goes on with its members. Further ones are missing, each after a transfer to it has failed, and copies are stale which were added or stand on a
@@ -78,7 +82,8 @@ pub record GoesOnWith (added : List Pp) (old new : State) : Type 0 where
 
 -- A session that was sound is so again, where the command leaves it settled.
 abbrev pub CommandsServe : Type 0
-CommandsServe = (added : List Pp) (old new : State) → IsSound old → IsSettled old.core → IsSettled new.core → GoesOnWith added old new → MayServe added new
+CommandsServe = (added : List Pp) (old new : State) → IsSound old → IsSettled old.core → IsSettled new.core → GoesOnWith added old new
+    → MayServe added new × (added ≡ [] → StaysSound new)
 
 -- ---- by their contracts
 
@@ -93,8 +98,8 @@ pub record IsCommanded {A : Type 0} (scope : Scope) (before after : ℕ) (old ne
 -- So it is after the making of a volume, and after the removal of one.
 abbrev pub MklvServes : Type 0
 MklvServes = (v : NewVolume) (before after : ℕ) (old new : State) (answer : Result ℕ GroupFault)
-    → IsSound old → IsCommanded (to_make v old.core) before after old new answer → MklvGives v before old new answer → IfOn answer (MayServe [] new)
+    → IsSound old → IsCommanded (to_make v old.core) before after old new answer → MklvGives v before old new answer → IfOn answer (MayServe [] new × StaysSound new)
 
 abbrev pub RmlvServes : Type 0
 RmlvServes = (lv before after : ℕ) (old new : State) (answer : Result (Unit {0}) GroupFault)
-    → IsSound old → IsCommanded (to_remove lv old.core) before after old new answer → RmlvGives lv before old new answer → IfOn answer (MayServe [] new)
+    → IsSound old → IsCommanded (to_remove lv old.core) before after old new answer → RmlvGives lv before old new answer → IfOn answer (MayServe [] new × StaysSound new)
