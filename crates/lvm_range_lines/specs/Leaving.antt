@@ -1,0 +1,40 @@
+-- What turns and calls of a session leave between two lines.
+use Rattle.std.specs.Prelude.{◌≡◌, ◌-◌, ℕ, List, Option, Some, None}
+use Rattle.lvm_disk.specs.Counts.{RoseBy}
+use Rattle.lvm_session.specs.declared.open.Power.{Power}
+use Rattle.lvm_session.specs.declared.open.Power.TheVariants as power
+use Rattle.lvm_session.specs.State.{Core, State as Session, state}
+use Rattle.lvm_posts.specs.declared.posts.Post.{Post}
+use Rattle.lvm_stage.specs.Ends.{patience_of_line}
+use Rattle.lvm_stage.specs.Stages.{IsClosed, posts_ended}
+use Rattle.lvm_stage.specs.State.{State}
+
+-- the session over the shelf of a state
+abbrev pub session_over : State → Core → Session
+session_over s core = state s.moment.device core
+
+-- it goes on with these posts
+pub record GoesOnWith (end : Session) (posts : List Post) (last : ℕ) (new : State) : Type 0 where
+  pub is : new ≡ record { moment = record { device = end.device; facts = end.core.history.facts }; session = Some end.core; posts = posts; last = last }
+
+-- it is closed, and its posts have ended; after a power cut the power is on again
+pub record IsOverWith (end : Session) (posts : List Post) (last : ℕ) (new : State) : Type 0 where
+  pub shelf : IsClosed end.core.power end.device new.moment.device
+  pub facts : new.moment.facts ≡ end.core.history.facts
+  pub session : new.session ≡ None
+  pub posts : new.posts ≡ posts_ended (Some end.core) posts
+  pub clock : new.last ≡ last
+
+-- It goes on where it is on, and is closed where it is over.
+abbrev pub LeavesBy : Power → Session → List Post → ℕ → State → Type 0
+LeavesBy power.On end posts last new = GoesOnWith end posts last new
+LeavesBy power.Off end posts last new = IsOverWith end posts last new
+LeavesBy power.Dark end posts last new = IsOverWith end posts last new
+LeavesBy power.Stuck end posts last new = IsOverWith end posts last new
+
+abbrev pub Leaves : Session → List Post → ℕ → State → Type 0
+Leaves end posts last new = LeavesBy end.core.power end posts last new
+
+-- the patience of a line went with answers that nothing had ended, and so much of it is left
+abbrev pub Waited : ℕ → Session → Session → Type 0
+Waited left old new = RoseBy (patience_of_line - left) old.device.counts.waits new.device.counts.waits

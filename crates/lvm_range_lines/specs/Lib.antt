@@ -1,0 +1,6 @@
+pub mod Refusals
+pub mod Answers
+pub mod Leaving
+pub mod Ranges
+pub mod Waits
+pub mod Steps
