@@ -31,7 +31,7 @@ use Rattle.lvm_tie.specs.Tied.{IsGood, moment_of}
 use Rattle.lvm_running.specs.Running.{IsBefore, LeavesSession}
 use Rattle.lvm_quiesce.specs.Behind.{IsAheadEach}
 use Rattle.lvm_tie_commands.specs.Standing.{StandsAfter}
-use Rattle.lvm_stage.specs.Moments.{GoesOn, IsActing, IsAlone, IsRequesting, KeepsStanding, Role}
+use Rattle.lvm_stage.specs.Moments.{GoesOn, IsAlone, IsRequesting, Role}
 use Rattle.lvm_stage.specs.Replies.{IsStuck, most_refusals}
 use Rattle.lvm_stage.specs.Stages.{IsClosed}
 use Rattle.lvm_stage.specs.State.{ArePosted, IsAtRest, IsBetween, IsOnBetween, IsTimely, StandsAlone, StandsBy, State}
@@ -86,7 +86,7 @@ closes s new sound = by s.core.power refl
 
 -- What leads from a session of a group with volumes to this one.
 pub record IsRun (role : Role) (old : State) (core : Core) (end : Session) : Type 0 where
-  pub acting : IsActing role
+  pub alone : (new : State) → IsAlone role old new → IfSome old.session (StandsAlone old.moment.device)
   pub session : old.session ≡ Some core
   pub facts : old.moment.facts ≡ core.history.facts
   pub volumes : core.descriptor.lvs ≢ []
@@ -108,7 +108,7 @@ module _ (role : Role) (old : State) (core : Core) (end : Session) (its : IsRun 
     stands_first : (past : List Fact) → Begins core.history.run past first → StandsAfter past old.moment.device core
     stands_first past begins =
         subst (λ (o : Option Core). IfSome o (λ (c : Core). StandsAlone old.moment.device c → StandsAfter past old.moment.device c)) its.session (stands past begins)
-        (subst (λ (o : Option Core). IfSome o (StandsAlone old.moment.device)) its.session (alone.acts its.acting))
+        (subst (λ (o : Option Core). IfSome o (StandsAlone old.moment.device)) its.session (its.alone new alone))
 
     good_first : IsGood core.history.run first first_session
     good_first on past begins = (stands_first past begins).tied its.volumes
