@@ -22,7 +22,7 @@ use Rattle.lvm_quiesce.specs.Behind.{IsAheadEach}
 use Rattle.lvm_quiesce.proofs.Behind.{each_is_behind, later_is_behind_each}
 use Rattle.lvm_transfer.specs.Transfer.{Relights}
 use Rattle.lvm_stage.specs.Asking.{IsAsked, EndsSession}
-use Rattle.lvm_stage.specs.Moments.{GoesOn, Role}
+use Rattle.lvm_stage.specs.Moments.{GoesOn, HasBegunHeld, Role}
 use Rattle.lvm_stage.specs.Replies.{IsStuck, most_refusals}
 use Rattle.lvm_stage.specs.Stages.{posts_ended}
 use Rattle.lvm_stage.specs.State.{State, ArePosted, IsBetween, IsOnBetween}
@@ -48,6 +48,22 @@ pub session_later : (session : Option Core) (moment later : ℕ) → moment ≤ 
 session_later None moment later le up_to = tt
 session_later (Some core) moment later le up_to = omega (arith, le, up_to)
 
+-- ---- no session begins
+
+-- that goes on,
+pub same_session : (o : Option Core) (P : Core → Type 0) → IfNone o (IfSome o P)
+same_session None P = tt
+same_session (Some core) P = tt
+
+-- that is on already,
+pub was_session : (o : Option Core) (core : Core) (P : Type 0) → o ≡ Some core → IfNone o P
+was_session o core P is = subst (λ (x : Option Core). IfNone x P) (sym is) tt
+
+-- or where none is on afterwards
+pub none_begins : (o : Option Core) → IfNone o (Unit {0})
+none_begins None = tt
+none_begins (Some core) = tt
+
 -- ---- where nothing changes
 
 pub still_goes : (run : ℕ) (role : Role) (answer : Reply) (s : State) → IsBetween s.moment s.session s.posts → most_refusals answer ≤ 1 → GoesOn run role answer s s
@@ -57,6 +73,7 @@ still_goes run role answer s between one = record {
   left = λ timely. each_is_ahead run (s.last + 1) s.moment.device s.moment.facts timely.ahead;
   between = λ goes. between;
   rests = λ others goes rests. rests;
+  begins = λ timely. same_session s.session (HasBegunHeld s.moment.device);
   power = between.lit.power;
   waits = omega arith;
   clock = omega arith;
@@ -74,6 +91,7 @@ asked_goes run role answer old new between one asked = subst (λ (s : State). Go
   left = λ timely. each_is_ahead run (new.last + 1) old.moment.device old.moment.facts (ahead timely.ahead);
   between = λ goes. between;
   rests = λ others goes rests. record { ready = rests.ready; landed = rests.landed; session = rests.session; posts = rests.posts };
+  begins = λ timely. same_session old.session (HasBegunHeld old.moment.device);
   power = between.lit.power;
   waits = omega arith;
   clock = later;
@@ -96,6 +114,7 @@ ended_goes run role answer old new core was facts none between one ends = subst 
   left = λ timely. each_is_ahead run (old.last + 1) old.moment.device old.moment.facts timely.ahead;
   between = λ goes. record { lit = between.lit; descriptors = between.descriptors; landed = landed; session = tt; posts = posted };
   rests = λ others goes rests. record { ready = rests.ready; landed = landed; session = tt; posts = ap (map (ended_with have total)) rests.posts };
+  begins = λ timely. none_begins old.session;
   power = between.lit.power;
   waits = omega arith;
   clock = omega arith;
