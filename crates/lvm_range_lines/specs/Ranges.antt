@@ -3,10 +3,9 @@ use Rattle.std.specs.Prelude.{◌≡◌, ◌∷◌, ◌++◌, ℕ, [], List, Opt
 use Rattle.lvm_num.specs.Buffer.{Sector}
 use Rattle.lvm_vol.specs.Log.{Log}
 use Rattle.lvm_core.specs.Looking.{IsNumberOf, HasNoVolume}
-use Rattle.lvm_session.specs.State.{Core, State as Session, state}
+use Rattle.lvm_session.specs.State.{Core, State as Session}
 use Rattle.lvm_posts.specs.declared.asked.Asked.{Asked}
 use Rattle.lvm_posts.specs.declared.fault.RangeFault.{RangeFault}
-use Rattle.lvm_posts.specs.declared.fault.RangeFault.TheVariants as fault
 use Rattle.lvm_posts.specs.declared.posts.Post.{Post}
 use Rattle.lvm_ranges.specs.declared.refusal.AskRangeFault.{AskRangeFault}
 use Rattle.lvm_ranges.specs.Asking.{AskRangeGives}
@@ -14,10 +13,11 @@ use Rattle.lvm_ranges.specs.Finishing.{FinishGives}
 use Rattle.lvm_ranges.specs.Reading.{AreGot}
 use Rattle.lvm_stage.specs.State.{State}
 use Rattle.lvm_stage.specs.Replies.{IsRefused, Shows}
+use Rattle.lvm_stage.specs.declared.reply.Refusal.{Refusal}
 use Rattle.lvm_stage.specs.declared.reply.Refusal.TheVariants as refusal
 use Rattle.lvm_stage.specs.declared.reply.Reply.{Reply}
 use Rattle.lvm_stage.specs.declared.reply.Reply.TheVariants as reply
-use Rattle.lvm_range_lines.specs.Leaving.{GoesOnWith, IsOverWith, Leaves, Waited, session_over}
+use Rattle.lvm_range_lines.specs.Leaving.{EndsBy, GoesOnWith, Waited, session_over}
 use Rattle.lvm_range_lines.specs.Refusals.{ask_refusal, blocks_text, range_refusal}
 
 -- The line is refused where no group is on, or has no volume of this name; else this happens to the session and the volume of that number.
@@ -25,6 +25,13 @@ pub data OnVolume (name : List ℕ) (Happens : Core → ℕ → Type 0) (old new
   WhileOff : old.session ≡ None → IsRefused refusal.NoGroup answer old new → OnVolume name Happens old new answer
   NotThere : (core : Core) → old.session ≡ Some core → HasNoVolume core.descriptor.lvs name → IsRefused refusal.NoVolume answer old new → OnVolume name Happens old new answer
   There : (core : Core) (lv : ℕ) → old.session ≡ Some core → IsNumberOf core.descriptor.lvs name lv → Happens core lv → OnVolume name Happens old new answer
+
+-- A range of the volume of this name is asked for; or there is none, or something is against it, and nothing changes.
+pub data AsksByName (name : List ℕ) (write : Option ℕ) (at count : ℕ) (old new : Core) (answer : Result Asked Refusal) : Type 0 where
+  HasNone : HasNoVolume old.descriptor.lvs name → new ≡ old → answer ≡ Err refusal.NoVolume → AsksByName name write at count old new answer
+  Refuses : (lv : ℕ) (why : AskRangeFault) → IsNumberOf old.descriptor.lvs name lv → AskRangeGives write lv at count old new (Err why) → new ≡ old → answer ≡ Err (ask_refusal why)
+      → AsksByName name write at count old new answer
+  Takes : (lv : ℕ) (asked : Asked) → IsNumberOf old.descriptor.lvs name lv → AskRangeGives write lv at count old new (Ok asked) → answer ≡ Ok asked → AsksByName name write at count old new answer
 
 -- it is refused since the range isn't asked for
 pub record IsNotAsked (write : Option ℕ) (lv at count : ℕ) (core : Core) (old new : State) (answer : Reply) : Type 0 where
@@ -54,11 +61,6 @@ abbrev pub PostDoes : List ℕ → ℕ → ℕ → ℕ → State → State → R
 PostDoes name at count word old new answer = OnVolume name (λ core lv. Posts lv at count word core old new answer) old new answer
 
 -- ---- wr and rd
-
--- the session is closed where it is stuck; else it goes on, or is over
-abbrev pub EndsBy : Result (Unit {0}) RangeFault → Session → List Post → ℕ → State → Type 0
-EndsBy (Err fault.Stuck) end posts last new = IsOverWith end posts last new
-EndsBy other end posts last new = Leaves end posts last new
 
 -- It is asked for and waited for, and its answers are taken; so much patience is left.
 pub record IsFinished (write : Option ℕ) (lv at count : ℕ) (core : Core) (old new : State) (end : Session) (asked : Asked) (done : Result (Unit {0}) RangeFault) : Type 0 where

@@ -8,6 +8,7 @@ use Rattle.lvm_ranges.specs.declared.refusal.AskRangeFault.{AskRangeFault}
 use Rattle.lvm_ranges.specs.declared.refusal.AskRangeFault.TheVariants as ask
 use Rattle.lvm_stage.specs.declared.reply.Refusal.{Refusal}
 use Rattle.lvm_stage.specs.declared.reply.Refusal.TheVariants as refusal
+use Rattle.lvm_stage.specs.declared.reply.Reply.{Reply}
 use Rattle.lvm_stage.specs.declared.reply.Reply.TheVariants as reply
 use Rattle.lvm_stage.specs.Replies.{reply_text}
 
@@ -37,6 +38,16 @@ blocks_text at (block ∷ blocks) = block_text at block ++ blocks_text (at + 1) 
 -- how a range ended: whether all is well, or the fault that decides
 abbrev pub Ending : Type 0
 Ending = Result (Unit {0}) RangeFault
+
+-- what one that answers this has ended as
+abbrev pub ending_of : {A : Type 0} → Result A RangeFault → Ending
+ending_of (Ok reply) = Ok tt
+ending_of (Err why) = Err why
+
+-- its reply, or its refusal
+abbrev pub reply_of : Result Reply RangeFault → Reply
+reply_of (Ok answer) = answer
+reply_of (Err why) = reply.Refused (range_refusal why)
 
 -- the line of a post that ended so
 abbrev pub answer_text : Ending → List ℕ

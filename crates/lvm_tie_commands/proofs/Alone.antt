@@ -2,13 +2,11 @@
 use Rattle.std.proofs.Common.{◌≡◌, ⊎_elim, ℕ, [], Option, None, Some, refl, sym, ◌∙◌}
 use Rattle.std.specs.Prelude.{◌≢◌, IsTrue}
 use Rattle.lvm_num.specs.declared.descriptor.Descriptor.{Descriptor}
-use Rattle.lvm_num.specs.declared.status.Status.{Status}
-use Rattle.lvm_num.specs.Disks.{Disks}
 use Rattle.lvm_num.specs.Record.{Stamped}
 use Rattle.lvm_num.specs.Votes.{all_disks, is_enough_to_read, votes_in}
-use Rattle.lvm_disk.specs.Device.{Device, Image, Media, image_of}
+use Rattle.lvm_disk.specs.Device.{Device, Media, image_of}
 use Rattle.lvm_kept.specs.Contents.{Contents, contents_of}
-use Rattle.lvm_kept.specs.Group.{Finds, IsFound, IsOneByAll, IsOnlyGroup, descriptor_among, has_quorum, is_voter, passes}
+use Rattle.lvm_kept.specs.Group.{IsFound, IsOneByAll, IsOnlyGroup, descriptor_among, has_quorum, is_voter, passes}
 use Rattle.lvm_commit.specs.LawsOfVolumes.{IsOneByAllOn, IsOnlyGroupOn}
 use Rattle.lvm_commit.proofs.NoMore.{data_finds_nothing_new}
 use Rattle.lvm_commit.proofs.Still.{still_image}

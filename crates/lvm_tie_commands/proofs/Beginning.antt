@@ -1,38 +1,33 @@
 -- What stands on the disks of a session as it begins.
-use Rattle.std.proofs.Common.{◌≡◌, ⊎_elim, ℕ, ◌++◌, false, true, List, [], Some, count_by, refl, sym, ap, subst, ◌∙◌}
+use Rattle.std.proofs.Common.{◌≡◌, ℕ, List, [], Some, count_by, sym, ap, subst, ◌∙◌}
 use Rattle.std.specs.Prelude.{◌≢◌}
 use Rattle.lvm_num.specs.declared.descriptor.Descriptor.{Descriptor}
 use Rattle.lvm_num.specs.declared.descriptor.LvRow.{LvRow}
-use Rattle.lvm_num.specs.declared.descriptor.Mode.TheVariants.{Active}
 use Rattle.lvm_num.specs.declared.status.Status.{Status}
 use Rattle.lvm_num.specs.Status.{calls_missing}
 use Rattle.lvm_disk.specs.Device.{Device, HasSectors, Media, image_of}
 use Rattle.lvm_disk.proofs.Paths.{last-path}
 use Rattle.lvm_vol.specs.Facts.{Fact}
 use Rattle.lvm_vol.specs.Legal.{begins_in}
-use Rattle.lvm_vol.specs.Log.{Log}
 use Rattle.lvm_vol.specs.Order.{Ordered}
 use Rattle.lvm_kept.specs.Group.{IsOneOf}
 use Rattle.lvm_kept.specs.Moments.{Moment}
 use Rattle.lvm_kept.proofs.Chaining.{span_told}
 use Rattle.lvm_steps.specs.Moments.{Begins, Holds, Upholds}
-use Rattle.lvm_steps.specs.VaryingOn.{HasNoActive}
 use Rattle.lvm_status.specs.Update.{Updates}
 use Rattle.lvm_commit.specs.LawsOfVolumes.{IsOneByAllOn}
 use Rattle.lvm_session.specs.State.{Core, State as Session, is_there}
-use Rattle.lvm_core.specs.declared.parts.Room.{Room}
 use Rattle.lvm_core.specs.Committing.{moment_of}
 use Rattle.lvm_core.specs.Held.{NotesAreHome, StartsHeld}
-use Rattle.lvm_varyon.specs.Varied.{ComesOn}
 use Rattle.lvm_even.proofs.OffLemmas.{off_is_even}
 use Rattle.lvm_tie.specs.Spares.{SparesDescriptors}
 use Rattle.lvm_tie.specs.Tied.{IsTied}
 use Rattle.lvm_tie_begins.specs.Begins.{shown_to}
 use Rattle.lvm_tie_groups.specs.Coming.{AreOff}
 use Rattle.lvm_tie_commands.specs.Beginning.{HasBegun, MadeStands, VariedOnStands}
-use Rattle.lvm_tie_commands.specs.Standing.{HoldsEmpty, StandsAfter}
+use Rattle.lvm_tie_commands.specs.Standing.{HoldsEmpty}
 use Rattle.lvm_tie_commands.proofs.Landed.{calm_at}
-use Rattle.lvm_tie_commands.proofs.Leaving.{none_or_some, some_told}
+use Rattle.lvm_tie_commands.proofs.Leaving.{some_told}
 use Rattle.lvm_tie_commands.proofs.Resting.{landed}
 use Rattle.lvm_tie_commands.proofs.Standing.{Held, members_show, of_told, ties}
 

@@ -1,5 +1,5 @@
 -- What stands on the disks of a session goes on to stand over a command, by what each of them leaves.
-use Rattle.std.proofs.Common.{◌≡◌, ⊎_elim, ℕ, ◌<◌, ◌^◌, ◌++◌, Bool, true, false, ◌&&◌, ◌||◌, not, List, [], Option, None, Some, Result, Ok, Err, count_by, refl, sym, ap, subst, ◌∙◌}
+use Rattle.std.proofs.Common.{◌≡◌, ℕ, ◌<◌, ◌^◌, ◌++◌, Bool, true, false, ◌&&◌, ◌||◌, not, List, [], Option, None, Some, Result, Ok, Err, count_by, refl, sym, ap, subst, ◌∙◌}
 use Rattle.std.specs.Prelude.{◌≢◌, IsTrue}
 use Rattle.lvm_num.specs.declared.descriptor.Descriptor.{Descriptor}
 use Rattle.lvm_num.specs.declared.place.Pp.{Pp}
@@ -17,13 +17,13 @@ use Rattle.lvm_vol.specs.Order.{Ordered}
 use Rattle.lvm_kept.specs.Moments.{Calm, Moment}
 use Rattle.lvm_kept.specs.Plans.{ChangesBy}
 use Rattle.lvm_steps.specs.Moments.{Begins, Holds, Keeps, Upholds}
-use Rattle.lvm_steps.proofs.Booleans.{clash, join, split}
+use Rattle.lvm_steps.proofs.Booleans.{join, split}
 use Rattle.lvm_commit.specs.LawsOfVolumes.{IsOneByAllOn}
 use Rattle.lvm_session.specs.State.{Core, State as Session, is_there, state}
 use Rattle.lvm_session.specs.Judging.{is_missing}
 use Rattle.lvm_session.specs.Sound.{IsSound}
 use Rattle.lvm_core.specs.Committing.{moment_of}
-use Rattle.lvm_core.specs.Held.{AreNotesHome, IsHeld, NotesAreHome}
+use Rattle.lvm_core.specs.Held.{IsHeld, NotesAreHome}
 use Rattle.lvm_core.specs.Leaves.{EntersVolumes, IsOfCommand, Leaves}
 use Rattle.lvm_core.specs.Settled.{IsSettled}
 use Rattle.lvm_volume_plan.specs.declared.fault.GroupFault.{GroupFault}
@@ -38,28 +38,28 @@ use Rattle.lvm_tie_commands.specs.Commands.{IsLeftStanding, MayBeCommanded}
 use Rattle.lvm_tie_commands.specs.Standing.{HoldsEmpty, StandsAfter}
 use Rattle.lvm_tie_commands.proofs.Alone.{only_is_one_on}
 use Rattle.lvm_tie_commands.proofs.Landed.{calm_at}
-use Rattle.lvm_tie_commands.proofs.Leaving.{Carries, are_home, carries, holds_before, is_held, none_or_some}
+use Rattle.lvm_tie_commands.proofs.Leaving.{Carries, are_home, carries, holds_before, is_held}
 use Rattle.lvm_tie_commands.proofs.Resting.{landed}
 use Rattle.lvm_tie_commands.proofs.Standing.{Held, members_show, of_told, ties}
 
 -- where all three hold of a command whose session goes on, so does what follows from them
 pub on_all : {A : Type 0} (answer : Result A GroupFault) (P Q R S : Type 0) → IfOn answer P → IfOn answer Q → IfOn answer R → (P → Q → R → S) → IfOn answer S
-on_all (Ok done) P Q R S p q r then = then p q r
-on_all (Err fault.Dark) P Q R S p q r then = tt
-on_all (Err (fault.WentOff have total)) P Q R S p q r then = tt
-on_all (Err fault.Stuck) P Q R S p q r then = tt
-on_all (Err fault.Busy) P Q R S p q r then = then p q r
-on_all (Err fault.NoVolume) P Q R S p q r then = then p q r
-on_all (Err fault.VolumeExists) P Q R S p q r then = then p q r
-on_all (Err (fault.CopyLimit now)) P Q R S p q r then = then p q r
-on_all (Err (fault.LastFresh lp)) P Q R S p q r then = then p q r
-on_all (Err (fault.TooMany limit)) P Q R S p q r then = then p q r
-on_all (Err (fault.NoRoom free)) P Q R S p q r then = then p q r
-on_all (Err fault.HistoryFull) P Q R S p q r then = then p q r
-on_all (Err (fault.DiskFailed disk)) P Q R S p q r then = then p q r
-on_all (Err fault.Memory) P Q R S p q r then = then p q r
+on_all (Ok done) P Q R S p q r all = all p q r
+on_all (Err fault.Dark) P Q R S p q r all = tt
+on_all (Err (fault.WentOff have total)) P Q R S p q r all = tt
+on_all (Err fault.Stuck) P Q R S p q r all = tt
+on_all (Err fault.Busy) P Q R S p q r all = all p q r
+on_all (Err fault.NoVolume) P Q R S p q r all = all p q r
+on_all (Err fault.VolumeExists) P Q R S p q r all = all p q r
+on_all (Err (fault.CopyLimit now)) P Q R S p q r all = all p q r
+on_all (Err (fault.LastFresh lp)) P Q R S p q r all = all p q r
+on_all (Err (fault.TooMany limit)) P Q R S p q r all = all p q r
+on_all (Err (fault.NoRoom free)) P Q R S p q r all = all p q r
+on_all (Err fault.HistoryFull) P Q R S p q r all = all p q r
+on_all (Err (fault.DiskFailed disk)) P Q R S p q r all = all p q r
+on_all (Err fault.Memory) P Q R S p q r all = all p q r
 
-told_next : {X : Type 0} (a b : Option X) (R : X → X → Type 0) (x : X) → a ≡ Some x → BothTold a b R → (y : X) × (b ≡ Some y)
+told_next : (a b : Option Media) (R : Media → Media → Type 0) (x : Media) → a ≡ Some x → BothTold a b R → (y : Media) × (b ≡ Some y)
 told_next None b R x told both = absurd (cc told)
 told_next (Some w) None R x told both = absurd both
 told_next (Some w) (Some y) R x told both = (y, refl)

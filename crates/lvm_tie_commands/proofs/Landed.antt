@@ -1,5 +1,5 @@
 -- Where each request has landed of which the history tells, no write is open at the end of a span that was none at its beginning.
-use Rattle.std.proofs.Common.{◌≡◌, ◌⊎◌, inl, inr, ℕ, ◌+◌, ◌<◌, Bool, true, false, ◌&&◌, ◌||◌, not, List, [], ◌∷◌, ◌++◌, Option, Some, is_some, count_by, append_assoc, refl, sym, ap, subst, ◌∙◌, arith}
+use Rattle.std.proofs.Common.{◌≡◌, inl, inr, ℕ, ◌+◌, Bool, true, false, ◌&&◌, ◌||◌, not, List, [], ◌∷◌, ◌++◌, Some, is_some, count_by, append_assoc, refl, sym, ap, subst, ◌∙◌, arith}
 use Rattle.std.specs.Prelude.{if◌then◌else◌, ◌==◌}
 use Rattle.std.specs.List.{find, list_any}
 use Rattle.std.proofs.lemmas.Bool.{eq-eqb, eqb-true}
@@ -8,7 +8,7 @@ use Rattle.std.proofs.lemmas.List.Folds.{list_any-append}
 use Rattle.lvm_disk.specs.Paths.{Path, Here, Then}
 use Rattle.lvm_disk.proofs.Paths.{append-path, last-path, map-path}
 use Rattle.lvm_vol.specs.declared.entry.Outcome.{Outcome}
-use Rattle.lvm_vol.specs.Facts.{Fact, Request, Making, Made, Split, Removing, Removed, Begun, Landed, Taken, Cut, On, Stands, begun, same_request}
+use Rattle.lvm_vol.specs.Facts.{Fact, Request, Making, Made, Split, Removing, Removed, Begun, Landed, Taken, Cut, On, Stands, begun}
 use Rattle.lvm_vol.specs.Legal.{Fits, Legal, begins_in, lands}
 use Rattle.lvm_vol.specs.Log.{asked, has_id, lands_id}
 use Rattle.lvm_vol.specs.Order.{Ordered}

@@ -1,10 +1,9 @@
 -- Over the removal of a volume.
-use Rattle.std.proofs.Common.{◌≡◌, ◌⊎◌, inl, inr, ⊎_elim, ℕ, ◌<◌, ◌==◌, [], List, Option, None, Some, Result, Ok, Err, not, refl, sym, ap, subst, ◌∙◌, arith}
+use Rattle.std.proofs.Common.{◌≡◌, ◌⊎◌, inl, inr, ⊎_elim, ℕ, ◌==◌, [], List, Some, Result, Ok, Err, not, sym, ap, subst, ◌∙◌, arith}
 use Rattle.std.specs.Prelude.{◌≢◌, IsSome, filter, find}
 use Rattle.lvm_num.specs.declared.descriptor.Descriptor.{Descriptor}
 use Rattle.lvm_num.specs.declared.descriptor.LvRow.{LvRow}
 use Rattle.lvm_num.specs.Descriptor.{is_member, volume_of}
-use Rattle.lvm_vol.specs.Facts.{Fact}
 use Rattle.lvm_kept.specs.Moments.{Moment}
 use Rattle.lvm_steps.specs.Moments.{Keeps}
 use Rattle.lvm_commit.specs.LawsOfVolumes.{IsOneByAllOn}
@@ -14,7 +13,6 @@ use Rattle.lvm_core.specs.Leaves.{EntersVolumes, NoPartition}
 use Rattle.lvm_core.specs.Settled.{IsSettled}
 use Rattle.lvm_volume_plan.specs.declared.fault.GroupFault.{GroupFault}
 use Rattle.lvm_volume_plan.specs.declared.fault.GroupFault.TheVariants as fault
-use Rattle.lvm_volume_plan.specs.Faults.{MayBeRemoved}
 use Rattle.lvm_volume_plan.specs.NewVolume.{without_volume}
 use Rattle.lvm_volumes.specs.Endings.{IfOn, StillHeld}
 use Rattle.lvm_volumes.specs.Volumes.{RmlvGives, to_remove}
@@ -76,11 +74,8 @@ not_entered lv old new (inr had) none enters = absurd (let no = subst (λ (rows 
 
 module _ (run : ℕ) (first : Moment) (lv before after : ℕ) (old new : Session) (answer : Result (Unit {0}) GroupFault)
     (may : MayBeCommanded run first old) (c : IsCommanded (to_remove lv old.core) before after old new answer) where
-  abbrev N : Descriptor → Type 0
-  N next = next ≡ without_volume old.core.descriptor lv
-
   keeps : HadOrNot lv old new → Keeps run first (moment_of new)
-  keeps had = keeps_on run first old new may c.began N NoPartition 1 before after c.leaves (λ none enters. absurd (not_entered lv old new had none enters))
+  keeps had = keeps_on run first old new may c.began (λ next. next ≡ without_volume old.core.descriptor lv) NoPartition 1 before after c.leaves (λ none enters. absurd (not_entered lv old new had none enters))
 
   module _ (removed : IsRemovedOrNot lv old new) where
     members : (d : ℕ) → is_member new.core.descriptor d ≡ is_member old.core.descriptor d
@@ -105,7 +100,7 @@ module _ (run : ℕ) (first : Moment) (lv before after : ℕ) (old new : Session
 
     left_so : Keeps run first (moment_of new) → IsSettled new.core → StillHeld old new → IsLeftStandingSince run first new
     left_so span on still whole past begins =
-        left_standing run first old new may c.began N NoPartition 1 before after c.leaves on still members keeps_even had_some span whole past begins
+        left_standing run first old new may c.began (λ next. next ≡ without_volume old.core.descriptor lv) NoPartition 1 before after c.leaves on still members keeps_even had_some span whole past begins
 
 pub rmlv_goes_on : RmlvGoesOn
 rmlv_goes_on run first lv before after old new answer may c gives =
