@@ -1,37 +1,44 @@
 -- The answers of a range, taken one after the other.
 use Rattle.std.proofs.Common.{◌≡◌, ◌≢◌, inl, inr, ◌≤◌, ◌<◌, ◌+◌, ◌==◌, ◌&&◌, ◌||◌, ℕ, zero, suc, Bool, true, false, not, List, [], ◌∷◌, ◌++◌, Option, Some, None, length, position, slice_get, slice_index_or, refl, sym, ◌∙◌, ap, subst, arith, if◌then◌else◌}
-use Rattle.std.specs.Prelude.{MatchOption, cond, is_none, nat_lt}
-use Rattle.std.specs.List.{list_any, position_or_len, remove}
+use Rattle.std.specs.Prelude.{IfSome, MatchOption, Result, cond, find, is_none, nat_lt, unwrap_or}
+use Rattle.std.specs.List.{AllByRecursion, list_any, position_or_len, remove}
 use Rattle.std.specs.Option.{option_or}
 use Rattle.std.proofs.lemmas.Bool.{eq-eqb, eqb-true, lt-ltb, ne_eqb}
+use Rattle.std.proofs.lemmas.List.Edits.{length-remove}
 use Rattle.std.proofs.lemmas.List.Quantifiers.{position-Some}
+use Rattle.std.proofs.lemmas.Option.{slice_get_within}
+use Rattle.lvm_num.specs.Votes.{total_votes}
 use Rattle.lvm_vol.specs.declared.entry.Outcome.{Outcome}
 use Rattle.lvm_vol.specs.declared.entry.Outcome.TheVariants as outcome
-use Rattle.lvm_vol.specs.Facts.{Fact}
-use Rattle.lvm_vol.specs.Log.{is_open, taken_fact}
+use Rattle.lvm_vol.specs.Facts.{Fact, Request, begun}
+use Rattle.lvm_vol.specs.Log.{is_answered, is_open, no_request, request_of, taken_fact, takes_id}
+use Rattle.lvm_vol.proofs.Asking.{find_stands}
 use Rattle.lvm_path.specs.Asks.{count_of}
 use Rattle.lvm_session.specs.declared.answers.Taken.{Taken}
 use Rattle.lvm_session.specs.declared.answers.Taken.TheVariants as answered
 use Rattle.lvm_session.specs.declared.open.Open.{Open}
 use Rattle.lvm_session.specs.Calls.{TakeAt, TakeGives, TakesLanded, after_take, is_asked, taken_as}
+use Rattle.lvm_session.specs.Causes.{IsAnswered}
 use Rattle.lvm_session.specs.Judging.{is_waiting}
 use Rattle.lvm_session.specs.Sound.{IsAsked, IsSound, outcome_in, waits}
-use Rattle.lvm_session.specs.State.{Core, State}
+use Rattle.lvm_session.specs.State.{Core, State, votes_there}
 use Rattle.lvm_keeps.proofs.Lists.{all_at, any_removed}
 use Rattle.lvm_keeps.proofs.Small.{both, not_so}
-use Rattle.lvm_keeps.proofs.Telling.{open_still, outcome_still}
-use Rattle.lvm_tie.specs.Landings.{HasCausesSince}
-use Rattle.lvm_tie.specs.GoingOn.{GoesOn}
-use Rattle.lvm_tie.proofs.Spanning.{goes_same, goes_then}
+use Rattle.lvm_keeps.proofs.Telling.{answered_still, open_still, outcome_still}
+use Rattle.lvm_running.specs.Running.{RunsOn}
+use Rattle.lvm_running.proofs.Running.{runs_both, runs_none}
+use Rattle.lvm_driver.specs.Answers.{IsCausedFor}
 use Rattle.lvm_posts.specs.declared.asked.Asked.{Asked}
 use Rattle.lvm_posts.specs.declared.fault.RangeFault.{RangeFault}
 use Rattle.lvm_posts.specs.Posts.{AreHeld}
-use Rattle.lvm_ranges.specs.Keeping.{AreApart}
+use Rattle.lvm_ranges.specs.Keeping.{AreApart, KeepsOthers}
+use Rattle.lvm_ranges.specs.Finishing.{TakesRange}
 use Rattle.lvm_ranges.specs.Landing.{HaveLanded}
 use Rattle.lvm_posts.specs.Pieces.{piece_lp}
-use Rattle.lvm_posts.specs.Deciding.{EndsWith, fault_by}
+use Rattle.lvm_posts.specs.Deciding.{EndsWith, RangeEnds, fault_by}
 use Rattle.lvm_posts.proofs.Deciding.{DecidesSoFar, decides_more, none_yet}
 use Rattle.lvm_ranges.specs.Taking.{NoTake, OneTake, Takes, fault_taken, is_landed}
+use Rattle.lvm_ranges.proofs.Growing.{Grows, grows_quiet, keeps_both, keeps_none, keeps_requests}
 
 -- ---- one that is asked for stands somewhere
 
@@ -152,11 +159,10 @@ pub record TakingSoFar (first now : State) (asked : Asked) (have total n : ℕ) 
   pub decides : DecidesSoFar now.core.history.facts asked have total n fault
   pub held : (k : ℕ) → n ≤ k → k < asked.pieces → list_any (is_asked 1 (asked.first + k)) now.core.requests ≡ true
   pub landed : HaveLanded asked now
-  pub others : (other : Asked) → AreApart asked other → AreHeld first.core other → AreHeld now.core other
+  pub fewer : length now.core.requests + n ≡ length first.core.requests
+  pub others : KeepsOthers asked first.core now.core
   pub power_is : now.core.power ≡ first.core.power
-  pub run : now.core.history.run ≡ first.core.history.run
-  pub good : GoesOn first.core.history.run first now
-  pub causes : (began : List Fact) → HasCausesSince began first → HasCausesSince began now
+  pub runs : RunsOn first now
 
 pub takes_none : (first : State) (asked : Asked) (have total : ℕ) → AreHeld first.core asked → HaveLanded asked first → TakingSoFar first first asked have total 0 None
 takes_none first asked have total held landed = record {
@@ -165,11 +171,10 @@ takes_none first asked have total held landed = record {
   decides = none_yet first.core.history.facts asked have total;
   held = λ k low less. held k less;
   landed = landed;
-  others = λ other apart has. has;
+  fewer = omega arith;
+  others = record { held = λ other apart has. has; answered = λ other apart are. are; none = λ client id is. is; requests = keeps_none first.core };
   power_is = refl;
-  run = refl;
-  good = goes_same first.core.history.run first first refl;
-  causes = λ began has. has;
+  runs = runs_none first;
 }
 
 module _ (first old new : State) (asked : Asked) (have total n lp : ℕ) (fault : Option RangeFault) (answer : Taken) (within : n < asked.pieces) (sound : IsSound old) (so_far : TakingSoFar first old asked have total n fault)
@@ -205,21 +210,91 @@ module _ (first old new : State) (asked : Asked) (have total n lp : ℕ) (fault 
     fault = sym (ap (fault_taken lp have total) one.answer_is ∙ fault_so lp have total one.how one.row.place (count_of one.row.request.ask) ∙ ap (λ l. fault_by l have total one.how) lp_is);
   }
 
-  pub takes_one : GoesOn old.core.history.run old new → ((began : List Fact) → HasCausesSince began old → HasCausesSince began new) → TakingSoFar first new asked have total (n + 1) (option_or fault (fault_taken lp have total answer))
-  takes_one good causes = record {
+  -- the answer of a request of another number isn't taken
+  answered_stays : (id : ℕ) → asked.first + n ≢ id → is_answered old.core.history.facts 1 id ≡ true → is_answered new.core.history.facts 1 id ≡ true
+  answered_stays id other is =
+      let facts : List Fact = old.core.history.facts in
+      let its : IsAsked facts one.row = all_at (IsAsked facts) old.core.requests one.place one.row sound.told.requests one.there in
+      let own : (request_of facts one.row.request.id).id ≡ one.row.request.id = ap (λ (m : Option Request). (unwrap_or m no_request).id) its.told ∙ (find_stands one.row.request.id (begun facts) its.request its.told).1 in
+      let untaken : takes_id id entry ≡ false = ne_eqb (request_of facts one.row.request.id).id id (λ e. other (sym (own ∙ one.own) ∙ e)) in
+      ap (λ (l : List Fact). is_answered l 1 id) facts_are ∙ answered_still facts entry refl 1 id refl untaken ∙ is
+
+  -- and no request comes into the table
+  none_left : (client id : ℕ) → list_any (is_asked client id) old.core.requests ≡ false → list_any (is_asked client id) new.core.requests ≡ false
+  none_left client id is =
+      ap (list_any (is_asked client id)) requests_are ∙ any_removed (is_asked client id) old.core.requests one.place one.row one.there (none_at (is_asked client id) old.core.requests one.place one.row is one.there) ∙ is
+    where
+      none_at : (t : Open → Bool) (os : List Open) (k : ℕ) (o : Open) → list_any t os ≡ false → slice_get os k ≡ Some o → t o ≡ false
+      none_at t [] k o none there = absurd (no_one k there)
+        where
+          no_one : (j : ℕ) → slice_get [] j ≡ Some o → ⊥
+          no_one zero e = absurd (cc e)
+          no_one (suc j) e = absurd (cc e)
+      none_at t (x ∷ os) zero o none there = let same : x ≡ o = cc there in ap t (sym same) ∙ left (t x) (list_any t os) none
+        where
+          left : (a b : Bool) → a || b ≡ false → a ≡ false
+          left true b e = e
+          left false b e = refl
+      none_at t (x ∷ os) (suc k) o none there = none_at t os k o (right (t x) (list_any t os) none) there
+        where
+          right : (a b : Bool) → a || b ≡ false → b ≡ false
+          right true b e = not_so (sym e)
+          right false b e = e
+
+  grows : Grows old.core.history.facts new.core.history.facts
+  grows = subst (λ (l : List Fact). Grows old.core.history.facts l) (sym facts_are) (grows_quiet old.core.history.facts entry refl (λ id. refl))
+
+  pub takes_one : RunsOn old new → TakingSoFar first new asked have total (n + 1) (option_or fault (fault_taken lp have total answer))
+  takes_one runs = record {
     shelf = shelf ∙ so_far.shelf;
     takes = OneTake so_far.takes answer gives (ap is_landed one.answer_is ∙ landed_so one.how one.row.place (count_of one.row.request.ask));
     decides = subst (λ (l : List Fact). DecidesSoFar l asked have total (n + 1) (option_or fault (fault_taken lp have total answer))) (sym facts_are)
         (decides_more old.core.history.facts entry asked have total n fault (fault_taken lp have total answer) (λ id. refl) so_far.decides ends);
     held = λ k low less. stays (asked.first + k) (omega (arith, low)) (so_far.held k (omega (arith, low)) less);
     landed = λ k less. ap (λ (l : List Fact). is_open l (asked.first + k)) facts_are ∙ open_still old.core.history.facts entry refl (asked.first + k) refl ∙ so_far.landed k less;
-    others = λ other apart has k less. stays (other.first + k) (beside other apart k less) (so_far.others other apart has k less);
+    fewer =
+        let was = so_far.fewer in
+        let long = ap length requests_are in
+        let less = length-remove old.core.requests one.place (slice_get_within old.core.requests one.place one.row one.there) in
+        omega (arith, was, long, less);
+    others = record {
+      held = λ other apart has k less. stays (other.first + k) (beside other apart k less) (so_far.others.held other apart has k less);
+      answered = λ other apart are k less. answered_stays (other.first + k) (beside other apart k less) (so_far.others.answered other apart are k less);
+      none = λ client id is. none_left client id (so_far.others.none client id is);
+      requests = keeps_both first.core old.core new.core so_far.others.requests (keeps_requests old.core new.core sound.told.ordered grows);
+    };
     power_is = ap (λ (c : Core). c.power) one.is ∙ so_far.power_is;
-    run = ap (λ (c : Core). c.history.run) one.is ∙ so_far.run;
-    good = goes_then first.core.history.run first old new so_far.good (subst (λ r. GoesOn r old new) so_far.run good);
-    causes = λ began has. causes began (so_far.causes began has);
+    runs = runs_both first old new so_far.runs runs;
   }
     where
       beside : (other : Asked) → AreApart asked other → (k : ℕ) → k < other.pieces → asked.first + n ≢ other.first + k
       beside other (inl before) k less = omega (arith, before, within)
       beside other (inr behind) k less = omega (arith, behind, less)
+
+-- ---- why they landed so
+
+-- what holds of each in the table holds of the one that is found
+found_holds : (P : Open → Type 0) (t : Open → Bool) (os : List Open) → AllByRecursion P os → IfSome (find t os) P
+found_holds P t [] all = tt
+found_holds P t (o ∷ os) all = by (t o) (found_holds P t os all.1)
+  where
+    by : (b : Bool) → IfSome (find t os) P → IfSome (if b then Some o else find t os) P
+    by true rest = all.0
+    by false rest = rest
+
+pub answered_for : (s : State) (client id : ℕ) → IsSound s → IsCausedFor s client id
+answered_for s client id sound = found_holds (IsAnswered s) (is_asked client id) s.core.requests sound.answered
+
+-- ---- all of them
+
+pub takes_all : (first now : State) (asked : Asked) (have total n : ℕ) (fault : Option RangeFault) (answer : Result (Unit {0}) RangeFault) → IsSound first → HaveLanded asked first → have ≡ votes_there first.core → total ≡ total_votes first.core.descriptor
+    → n ≡ asked.pieces → TakingSoFar first now asked have total n fault → RangeEnds now.core.history.facts asked have total answer → TakesRange asked first now answer
+takes_all first now asked have total n fault answer sound landed have_is total_is last so_far ends = record {
+  landed = landed;
+  shelf = so_far.shelf;
+  takes = subst (λ m. Takes asked.first first.core m now.core) last so_far.takes;
+  fewer = subst (λ m. length now.core.requests + m ≡ length first.core.requests) last so_far.fewer;
+  power_is = so_far.power_is;
+  ends = subst (λ t. RangeEnds now.core.history.facts asked (votes_there first.core) t answer) total_is (subst (λ h. RangeEnds now.core.history.facts asked h total answer) have_is ends);
+  caused = λ k less. answered_for first 1 (asked.first + k) sound;
+}

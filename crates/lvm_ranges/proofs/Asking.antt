@@ -116,7 +116,7 @@ piece_may core (Some word) lv from rest pieces count room some fits = ask_may co
 
 -- ---- what it leaves
 
-count_so : (write : Option ℕ) (lv from count : ℕ) → count_of (piece_ask write lv from count) ≡ count
+pub count_so : (write : Option ℕ) (lv from count : ℕ) → count_of (piece_ask write lv from count) ≡ count
 count_so None lv from count = refl
 count_so (Some word) lv from count = refl
 
@@ -184,7 +184,7 @@ asks_first write lv at count end core is on some none = subst (λ e. AskedSoFar 
 last_piece : (from end : ℕ) → from < end → end ≤ piece_end from end → piece_count from (end - from) ≡ 1
 last_piece from end less over = omega arith
 
-next_ids : {write : Option ℕ} {lv at end : ℕ} {first : Core} {from n : ℕ} {core : Core} → Submits write lv at end first from n core → next_id core.history ≡ next_id first.history + n
+pub next_ids : {write : Option ℕ} {lv at end : ℕ} {first : Core} {from n : ℕ} {core : Core} → Submits write lv at end first from n core → next_id core.history ≡ next_id first.history + n
 next_ids NoPiece = omega arith
 next_ids {write} {lv} {at} {end} {first} (OnePiece {from = from} {n = n} {core = core} before less) =
     let was = next_ids before in

@@ -4,7 +4,6 @@ use Rattle.std.specs.List.{list_any, AllByRecursion}
 use Rattle.lvm_disk.specs.Counts.{RoseBy}
 use Rattle.lvm_disk.specs.Paths.{Here, Path, Then}
 use Rattle.lvm_disk.proofs.Rising.{rose_by_after, rose_by_more, rose_by_none}
-use Rattle.lvm_vol.specs.Facts.{Fact}
 use Rattle.lvm_vol.specs.Log.{is_open}
 use Rattle.lvm_session.specs.declared.open.Open.{Open}
 use Rattle.lvm_session.specs.declared.open.Power.TheVariants as power
@@ -20,9 +19,8 @@ use Rattle.lvm_keeps.proofs.Small.{not_so}
 use Rattle.lvm_keeps_turn.specs.Turning.{is_last}
 use Rattle.lvm_keeps_turn.proofs.Turning.{turn_ends}
 use Rattle.lvm_keeps_events.proofs.Standing.{never_stands_still}
-use Rattle.lvm_tie.specs.Landings.{HasCausesSince}
-use Rattle.lvm_tie.specs.GoingOn.{GoesOn}
-use Rattle.lvm_tie.proofs.Spanning.{goes_same, goes_then}
+use Rattle.lvm_running.specs.Running.{RunsOn}
+use Rattle.lvm_running.proofs.Running.{runs_both, runs_none}
 use Rattle.lvm_turn_answers.specs.Telling.{TurnTells, power_by}
 use Rattle.lvm_driver.specs.Drains.{IsAny}
 use Rattle.lvm_turn_answers.proofs.Stepping.{turn_counts}
@@ -35,11 +33,10 @@ use Rattle.lvm_ranges.proofs.Tables.{table_same, table_then, turn_table}
 pub record GoesWith (first now : State) : Type 0 where
   pub table : KeepsTable first.core now.core
   pub unstuck : now.core.power ≡ power.Stuck → ⊥
-  pub good : (run : ℕ) → GoesOn run first now
-  pub causes : (began : List Fact) → HasCausesSince began first → HasCausesSince began now
+  pub runs : RunsOn first now
 
 pub at_first : (first : State) → (first.core.power ≡ power.Stuck → ⊥) → GoesWith first first
-at_first first unstuck = record { table = table_same first.core; unstuck = unstuck; good = λ run. goes_same run first first refl; causes = λ began has. has }
+at_first first unstuck = record { table = table_same first.core; unstuck = unstuck; runs = runs_none first }
 
 -- no turn leaves a session stuck
 not_stuck : (answer : Turned) → power_by answer ≡ power.Stuck → ⊥
@@ -48,13 +45,11 @@ not_stuck turned.Idle e = absurd (cc e)
 not_stuck turned.Dark e = absurd (cc e)
 not_stuck turned.Off e = absurd (cc e)
 
-pub with_turn : (first old new : State) (answer : Turned) → GoesWith first old → TurnMakes old new answer → TurnTells old new answer → ((run : ℕ) → GoesOn run old new)
-    → ((began : List Fact) → HasCausesSince began old → HasCausesSince began new) → GoesWith first new
-with_turn first old new answer so_far made tells good causes = record {
-  table = table_then first.core old.core new.core so_far.table (turn_table old new answer made);
+pub with_turn : (first old new : State) (answer : Turned) → GoesWith first old → IsSound old → TurnMakes old new answer → TurnTells old new answer → RunsOn old new → GoesWith first new
+with_turn first old new answer so_far sound made tells runs = record {
+  table = table_then first.core old.core new.core so_far.table (turn_table old new answer sound made);
   unstuck = λ stuck. not_stuck answer (sym tells.power_is ∙ stuck);
-  good = λ run. goes_then run first old new (so_far.good run) (good run);
-  causes = λ began has. causes began (so_far.causes began has);
+  runs = runs_both first old new so_far.runs runs;
 }
 
 -- So far turns were made while some piece hadn't landed, and the patience that is gone went with answers that nothing has ended.
@@ -107,18 +102,16 @@ module _ (asked : Asked) (first old new : State) (patience left : ℕ) (so_far :
   waited_on : (answer : Turned) → TurnMakes old new answer → RoseBy (patience - left) first.device.counts.waits new.device.counts.waits
   waited_on answer made = rose_by_after so_far.waited (turn_counts old new answer made).waits
 
-  pub goes : (answer : Turned) → TurnMakes old new answer → TurnTells old new answer → ((run : ℕ) → GoesOn run old new) → ((began : List Fact) → HasCausesSince began old → HasCausesSince began new)
-      → Goes asked first new patience left
-  goes answer made tells good causes = record { turns = path answer made; on = with_turn first old new answer so_far.on made tells good causes; fewer = so_far.fewer; waited = waited_on answer made }
+  pub goes : IsSound old → (answer : Turned) → TurnMakes old new answer → TurnTells old new answer → RunsOn old new → Goes asked first new patience left
+  goes sound answer made tells runs = record { turns = path answer made; on = with_turn first old new answer so_far.on sound made tells runs; fewer = so_far.fewer; waited = waited_on answer made }
 
   pub landed_at_end : IsSound old → (answer : Turned) → TurnMakes old new answer → TurnTells old new answer → (answer ≡ turned.Dark) ⊎ (answer ≡ turned.Off) → HaveLanded asked new
   landed_at_end sound answer made tells ended = let last = ends_so answer ended in over_landed asked new (turn_ends old new answer sound made last).0 (tells.over last)
 
-  pub idles : IsSound old → TurnMakes old new turned.Idle → TurnTells old new turned.Idle → 1 ≤ left → ((run : ℕ) → GoesOn run old new) → ((began : List Fact) → HasCausesSince began old → HasCausesSince began new)
-      → Goes asked first new patience (left - 1)
-  idles sound made tells some good causes = record {
+  pub idles : IsSound old → TurnMakes old new turned.Idle → TurnTells old new turned.Idle → 1 ≤ left → RunsOn old new → Goes asked first new patience (left - 1)
+  idles sound made tells some runs = record {
     turns = path turned.Idle made;
-    on = with_turn first old new turned.Idle so_far.on made tells good causes;
+    on = with_turn first old new turned.Idle so_far.on sound made tells runs;
     fewer = let few = so_far.fewer in omega (arith, few);
     waited = by (tells.idle.0 refl).still;
   }

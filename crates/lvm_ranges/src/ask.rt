@@ -1,21 +1,18 @@
 //! A range of a volume is asked for.
 ghost use Rattle.std.specs.Prelude.{◌≡◌, ◌≤◌, ◌<◌, ◌+◌, ◌-◌, ◌%◌, ◌^◌, ℕ, List, Option, Some, None, IfOk, option_copied, vec_capacity};
-ghost use Rattle.lvm_vol.specs.Facts.{Fact};
 ghost use Rattle.lvm_vol.specs.Log.{next_id};
 ghost use Rattle.lvm_session.specs.declared.open.Power.TheVariants as power;
 ghost use Rattle.lvm_session.specs.Asking.{IsAsking};
 ghost use Rattle.lvm_session.specs.Calls.{ask_fault, has_numbers, submitted};
-ghost use Rattle.lvm_tie.specs.Landings.{HasCausesSince};
-ghost use Rattle.lvm_tie.specs.GoingOn.{GoesOn};
+ghost use Rattle.lvm_running.specs.Running.{RunsOn};
 ghost use Rattle.lvm_driver.specs.Answers.{state_of};
-ghost use Rattle.lvm_posts.specs.declared.asked.Asked.{Asked};
-ghost use Rattle.lvm_posts.specs.Posts.{AreHeld};
-ghost use Rattle.lvm_ranges.specs.Asking.{AskRangeGives, Asks, fault_in, has_room, range_fault};
-ghost use Rattle.lvm_posts.specs.Pieces.{IsLaidOut};
+ghost use Rattle.lvm_ranges.specs.Asking.{AskRangeGives, Asks, IsAskedFor, fault_in, has_room, range_fault};
+ghost use Rattle.lvm_ranges.specs.Keeping.{KeepsEarlier};
 ghost use Rattle.lvm_raw.specs.Pieces.{piece_count};
 ghost use Rattle.lvm_ranges.specs.Pieces.{Submits, piece_ask, with_piece};
 
 use crate::refusal::AskRangeFault;
+use crate::sound::is_sound;
 use lvm_copies::{partition_blocks, volume_of};
 use lvm_disk::Shelf;
 use lvm_driver::Driver;
@@ -90,8 +87,7 @@ fn submit<S: Shelf>(driver: &mut Driver<S>, ask: Ask, bytes: Option<&[u8]>) -> u
     ensures shelf { driver.new.0 ≡ driver.old.0 }
     ensures id { result ≡ next_id driver.old.1.history }
     ensures is { driver.new.1 ≡ submitted driver.old.1 1 ask (option_copied bytes.entry) }
-    ensures goes_on { (run : ℕ) → GoesOn run (state_of S.device driver.old) (state_of S.device driver.new) }
-    ensures causes { (first : List Fact) → HasCausesSince first (state_of S.device driver.old) → HasCausesSince first (state_of S.device driver.new) }
+    ensures runs { RunsOn (state_of S.device driver.old) (state_of S.device driver.new) }
 {
     match driver.submit(CLIENT, ask, bytes) {
         Ok(id) => id,
@@ -113,14 +109,14 @@ fn submit_piece<S: Shelf>(
     requires may { ask_fault driver.old.1 (piece_ask write lv from count) ≡ None }
     requires some { 1 ≤ count }
     requires group { from % 256 + count ≤ 256 }
+    requires last { from + count < 2 ^ 64 }
     requires behind { at ≤ from }
     requires near { from < at + 2 ^ 32 }
     requires room { 131072 ≤ vec_capacity bytes.old }
     ensures shelf { driver.new.0 ≡ driver.old.0 }
     ensures id { result ≡ next_id driver.old.1.history }
     ensures is { driver.new.1 ≡ with_piece write lv at from count driver.old.1 }
-    ensures goes_on { (run : ℕ) → GoesOn run (state_of S.device driver.old) (state_of S.device driver.new) }
-    ensures causes { (first : List Fact) → HasCausesSince first (state_of S.device driver.old) → HasCausesSince first (state_of S.device driver.new) }
+    ensures runs { RunsOn (state_of S.device driver.old) (state_of S.device driver.new) }
     ensures room { 131072 ≤ vec_capacity bytes.new }
 {
     match write {
@@ -163,8 +159,7 @@ fn submit_pieces<S: Shelf>(
     ensures id { result + 1 ≡ next_id driver.old.1.history + piece_count at count }
     ensures submits { Submits write lv at (at + count) driver.old.1 (at + count) (piece_count at count) driver.new.1 }
     ensures on { driver.new.1.power ≡ power.On }
-    ensures goes_on { (run : ℕ) → GoesOn run (state_of S.device driver.old) (state_of S.device driver.new) }
-    ensures causes { (first : List Fact) → HasCausesSince first (state_of S.device driver.old) → HasCausesSince first (state_of S.device driver.new) }
+    ensures runs { RunsOn (state_of S.device driver.old) (state_of S.device driver.new) }
     ensures room { 131072 ≤ vec_capacity bytes.new }
 {
     let end = at + u64::from(count);
@@ -195,12 +190,13 @@ fn ask_whole<S: Shelf>(
     requires room { 131072 ≤ vec_capacity bytes.old }
     ensures shelf { driver.new.0 ≡ driver.old.0 }
     ensures asks { Asks write lv at count driver.old.1 driver.new.1 result }
-    ensures laid { IsLaidOut result }
+    ensures asked { IsAskedFor write count driver.old.1 driver.new.1 result }
+    ensures others { KeepsEarlier driver.old.1 driver.new.1 }
     ensures on { driver.new.1.power ≡ power.On }
-    ensures goes_on { (run : ℕ) → GoesOn run (state_of S.device driver.old) (state_of S.device driver.new) }
-    ensures causes { (first : List Fact) → HasCausesSince first (state_of S.device driver.old) → HasCausesSince first (state_of S.device driver.new) }
+    ensures runs { RunsOn (state_of S.device driver.old) (state_of S.device driver.new) }
     ensures room { 131072 ≤ vec_capacity bytes.new }
 {
+    is_sound(driver);
     let mib = driver.descriptor().mib;
     let place = driver.history().block_count();
     let pieces = piece_count(at, count);
@@ -244,11 +240,10 @@ pub fn ask_range<S: Shelf>(
     requires room { 131072 ≤ vec_capacity bytes.old }
     ensures shelf { driver.new.0 ≡ driver.old.0 }
     ensures gives { AskRangeGives write lv at count driver.old.1 driver.new.1 result }
-    ensures held { IfOk result (λ asked. AreHeld driver.new.1 asked × IsLaidOut asked) }
-    ensures others { (other : Asked) → AreHeld driver.old.1 other → AreHeld driver.new.1 other }
+    ensures asked { IfOk result (IsAskedFor write count driver.old.1 driver.new.1) }
+    ensures others { KeepsEarlier driver.old.1 driver.new.1 }
     ensures on { driver.new.1.power ≡ power.On }
-    ensures goes_on { (run : ℕ) → GoesOn run (state_of S.device driver.old) (state_of S.device driver.new) }
-    ensures causes { (first : List Fact) → HasCausesSince first (state_of S.device driver.old) → HasCausesSince first (state_of S.device driver.new) }
+    ensures runs { RunsOn (state_of S.device driver.old) (state_of S.device driver.new) }
     ensures room { 131072 ≤ vec_capacity bytes.new }
 {
     match range_fault(driver, lv, at, count) {

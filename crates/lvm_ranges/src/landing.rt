@@ -2,10 +2,8 @@
 ghost use Rattle.std.specs.Prelude.{◌≡◌, ◌≤◌, ◌<◌, ◌+◌, ◌-◌, ◌^◌, ℕ, List, true, false, MatchOption};
 ghost use Rattle.lvm_disk.specs.Counts.{RoseBy};
 ghost use Rattle.lvm_disk.specs.Paths.{Path};
-ghost use Rattle.lvm_vol.specs.Facts.{Fact};
 ghost use Rattle.lvm_session.specs.declared.open.Power.TheVariants as power;
-ghost use Rattle.lvm_tie.specs.Landings.{HasCausesSince};
-ghost use Rattle.lvm_tie.specs.GoingOn.{GoesOn};
+ghost use Rattle.lvm_running.specs.Running.{RunsOn};
 ghost use Rattle.lvm_driver.specs.Answers.{state_of};
 ghost use Rattle.lvm_driver.specs.Drains.{IsAny};
 ghost use Rattle.lvm_posts.specs.Pieces.{IsLaidOut};
@@ -52,9 +50,7 @@ pub fn await_range<S: Shelf>(
     ensures turns { Path (TurnsFor asked.now) IsAny (state_of S.device driver.old) (state_of S.device driver.new) }
     ensures ends { AwaitEnds asked.now patience.new.left (state_of S.device driver.new) result }
     ensures table { KeepsTable driver.old.1 driver.new.1 }
-    ensures unstuck { driver.new.1.power ≡ power.Stuck → ⊥ }
-    ensures goes_on { (run : ℕ) → GoesOn run (state_of S.device driver.old) (state_of S.device driver.new) }
-    ensures causes { (first : List Fact) → HasCausesSince first (state_of S.device driver.old) → HasCausesSince first (state_of S.device driver.new) }
+    ensures runs { RunsOn (state_of S.device driver.old) (state_of S.device driver.new) }
     ensures patience { patience.new.left ≤ patience.old.left }
     ensures waited { RoseBy (patience.old.left - patience.new.left) (S.device driver.old.0).counts.waits (S.device driver.new.0).counts.waits }
 {

@@ -4,6 +4,7 @@
 mod ask;
 mod landing;
 pub mod laws;
+mod reading;
 mod refusal;
 mod sound;
 mod taking;
@@ -11,6 +12,7 @@ mod turns;
 
 pub use ask::ask_range;
 pub use landing::{Stuck, await_range};
+pub use reading::read_blocks;
 pub use refusal::AskRangeFault;
 pub use taking::{finish_range, take_range};
 pub use turns::step;

@@ -1,21 +1,15 @@
 //! The answers of a range that has landed.
 ghost use Rattle.std.specs.Prelude.{◌≡◌, ◌≤◌, ◌<◌, ◌+◌, ◌-◌, ℕ, List, Option};
 ghost use Rattle.lvm_disk.specs.Counts.{RoseBy};
-ghost use Rattle.lvm_num.specs.Votes.{total_votes};
-ghost use Rattle.lvm_vol.specs.Facts.{Fact};
 ghost use Rattle.lvm_session.specs.declared.open.Power.TheVariants as power;
-ghost use Rattle.lvm_session.specs.State.{votes_there};
-ghost use Rattle.lvm_tie.specs.Landings.{HasCausesSince};
-ghost use Rattle.lvm_tie.specs.GoingOn.{GoesOn};
-ghost use Rattle.lvm_driver.specs.Answers.{IsCausedFor, state_of};
-ghost use Rattle.lvm_posts.specs.declared.asked.Asked.{Asked};
+ghost use Rattle.lvm_running.specs.Running.{RunsOn};
+ghost use Rattle.lvm_driver.specs.Answers.{state_of};
 ghost use Rattle.lvm_posts.specs.Posts.{AreHeld};
 ghost use Rattle.lvm_posts.specs.Pieces.{IsLaidOut};
-ghost use Rattle.lvm_ranges.specs.Finishing.{FinishGives};
-ghost use Rattle.lvm_ranges.specs.Keeping.{AreApart};
+ghost use Rattle.lvm_ranges.specs.Finishing.{FinishGives, TakesRange};
+ghost use Rattle.lvm_ranges.specs.Keeping.{KeepsOthers};
 ghost use Rattle.lvm_ranges.specs.Landing.{HaveLanded};
-ghost use Rattle.lvm_posts.specs.Deciding.{RangeEnds};
-ghost use Rattle.lvm_ranges.specs.Taking.{Takes, fault_taken};
+ghost use Rattle.lvm_ranges.specs.Taking.{fault_taken};
 
 use crate::landing::await_range;
 use crate::sound::is_sound;
@@ -51,15 +45,9 @@ pub fn take_range<S: Shelf>(driver: &mut Driver<S>, asked: &Asked) -> Result<(),
     requires held { AreHeld driver.old.1 asked.now }
     requires landed { HaveLanded asked.now (state_of S.device driver.old) }
     requires laid { IsLaidOut asked.now }
-    ensures shelf { driver.new.0 ≡ driver.old.0 }
-    ensures takes { Takes asked.now.first driver.old.1 asked.now.pieces driver.new.1 }
-    ensures ends { RangeEnds driver.new.1.history.facts asked.now (votes_there driver.old.1) (total_votes driver.old.1.descriptor) result }
-    // Why each piece landed as it did.
-    ensures caused { (k : ℕ) → k < asked.now.pieces → IsCausedFor (state_of S.device driver.old) 1 (asked.now.first + k) }
-    ensures others { (other : Asked) → AreApart asked.now other → AreHeld driver.old.1 other → AreHeld driver.new.1 other }
-    ensures power { driver.new.1.power ≡ driver.old.1.power }
-    ensures goes_on { GoesOn driver.old.1.history.run (state_of S.device driver.old) (state_of S.device driver.new) }
-    ensures causes { (first : List Fact) → HasCausesSince first (state_of S.device driver.old) → HasCausesSince first (state_of S.device driver.new) }
+    ensures gives { TakesRange asked.now (state_of S.device driver.old) (state_of S.device driver.new) result }
+    ensures others { KeepsOthers asked.now driver.old.1 driver.new.1 }
+    ensures runs { RunsOn (state_of S.device driver.old) (state_of S.device driver.new) }
 {
     is_sound(driver);
     let (have, total) = driver.votes();
@@ -92,10 +80,8 @@ pub fn finish_range<S: Shelf>(
     requires held { AreHeld driver.old.1 asked.now }
     requires laid { IsLaidOut asked.now }
     ensures gives { FinishGives asked.now patience.new.left (state_of S.device driver.old) (state_of S.device driver.new) result }
-    ensures others { (other : Asked) → AreApart asked.now other → AreHeld driver.old.1 other → AreHeld driver.new.1 other }
-    ensures unstuck { driver.new.1.power ≡ power.Stuck → ⊥ }
-    ensures goes_on { GoesOn driver.old.1.history.run (state_of S.device driver.old) (state_of S.device driver.new) }
-    ensures causes { (first : List Fact) → HasCausesSince first (state_of S.device driver.old) → HasCausesSince first (state_of S.device driver.new) }
+    ensures others { KeepsOthers asked.now driver.old.1 driver.new.1 }
+    ensures runs { RunsOn (state_of S.device driver.old) (state_of S.device driver.new) }
     ensures patience { patience.new.left ≤ patience.old.left }
     ensures waited { RoseBy (patience.old.left - patience.new.left) (S.device driver.old.0).counts.waits (S.device driver.new.0).counts.waits }
 {

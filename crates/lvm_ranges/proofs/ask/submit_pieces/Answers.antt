@@ -1,5 +1,5 @@
 use Rattle.std.proofs.Common.{◌+◌, refl, ◌∙◌, ap, arith}
-use Rattle.lvm_tie.proofs.Spanning.{goes_same, goes_then}
+use Rattle.lvm_running.proofs.Running.{runs_both, runs_none}
 use Rattle.lvm_driver.specs.Answers.{state_of}
 use Rattle.lvm_ranges.proofs.Asking.{all_asked, asks_first, asks_next, may_next}
 use Rattle.lvm_ranges.proofs.ask.submit_pieces.Goals as goal
@@ -10,8 +10,7 @@ loop-from-init g c =
     record {
       so_far = asks_first c.args.write c.args.lv c.args.at c.args.count (c.args.at + c.from.result) c.args.driver.now.1 (ap (λ n. c.args.at + n) c.from.ensures) c.requires.on c.requires.some c.requires.may;
       shelf = refl;
-      goes_on = λ run. goes_same run first first refl;
-      causes = λ began has. has;
+      runs = runs_none first;
       room = c.requires.room;
     }
 
@@ -34,8 +33,7 @@ loop-from-preserved g c =
       so_far = asks_next c.args.write c.args.lv c.args.at (c.args.at + c.from.result) c.args.driver.now.1 c.loop-from.driver.1 c.submit_piece-last.new.driver.1 c.loop-from.from c.loop-from.last c.submit_piece-last.result c.piece_end-to.result
           so_far.so_far c.loop-from-test.true took.id c.piece_end-to.ensures.is took.is;
       shelf = took.shelf ∙ so_far.shelf;
-      goes_on = λ run. goes_then run (state_of device c.args.driver.now) (state_of device c.loop-from.driver) (state_of device c.submit_piece-last.new.driver) (so_far.goes_on run) (took.goes_on run);
-      causes = λ began has. took.causes began (so_far.causes began has);
+      runs = runs_both (state_of device c.args.driver.now) (state_of device c.loop-from.driver) (state_of device c.submit_piece-last.new.driver) so_far.runs took.runs;
       room = took.room;
     }
 
@@ -43,4 +41,4 @@ pub returns : goal.returns
 returns g c =
     let so_far = c.loop-from.invariant in
     let all = all_asked c.args.write c.args.lv c.args.at c.args.count (c.args.at + c.from.result) c.args.driver.now.1 c.loop-from.driver.1 c.loop-from.from c.loop-from.last (ap (λ n. c.args.at + n) c.from.ensures) so_far.so_far c.loop-from-test.false in
-    record { shelf = so_far.shelf; id = all.id; submits = all.submits; on = so_far.so_far.on; goes_on = so_far.goes_on; causes = so_far.causes; room = so_far.room }
+    record { shelf = so_far.shelf; id = all.id; submits = all.submits; on = so_far.so_far.on; runs = so_far.runs; room = so_far.room }

@@ -11,31 +11,29 @@ pub loop-driver-preserved-in-Moved : goal.loop-driver-preserved-in-Moved
 loop-driver-preserved-in-Moved g c =
     let device = g.S.Shelf.device in
     goes c.args.asked.now (state_of device c.args.driver.now) (state_of device c.loop-driver.driver) (state_of device c.turn.new.self) c.args.patience.now.left c.loop-driver.patience.left c.loop-driver.invariant (c.is_unfinished.ensures.open c.loop-driver-test.true)
-    turned.Moved c.in-Moved.ensures.makes c.in-Moved.ensures.tells c.in-Moved.ensures.goes_on c.in-Moved.ensures.causes
+    c.is_sound.ensures turned.Moved c.in-Moved.ensures.makes c.in-Moved.ensures.tells c.in-Moved.ensures.runs
 
 pub loop-driver-preserved : goal.loop-driver-preserved
 loop-driver-preserved g c =
     let device = g.S.Shelf.device in
-    let some = c.if-left-eq0.false in
+    let some = c.if-patience-eq0.false in
     idles c.args.asked.now (state_of device c.args.driver.now) (state_of device c.loop-driver.driver) (state_of device c.turn.new.self) c.args.patience.now.left c.loop-driver.patience.left c.loop-driver.invariant (c.is_unfinished.ensures.open c.loop-driver-test.true)
-    c.is_sound.ensures c.in-Idle.ensures.makes c.in-Idle.ensures.tells (omega (arith, some)) c.in-Idle.ensures.goes_on c.in-Idle.ensures.causes
+    c.is_sound.ensures c.in-Idle.ensures.makes c.in-Idle.ensures.tells (omega (arith, some)) c.in-Idle.ensures.runs
 
 pub loop-driver-smaller-in-Moved : goal.loop-driver-smaller-in-Moved
 loop-driver-smaller-in-Moved g c = less_by_move (state_of g.S.Shelf.device c.loop-driver.driver) (state_of g.S.Shelf.device c.turn.new.self) c.loop-driver.patience.left c.in-Moved.ensures.tells
 
 pub loop-driver-smaller : goal.loop-driver-smaller
-loop-driver-smaller g c = let some = c.if-left-eq0.false in less_by_wait (state_of g.S.Shelf.device c.loop-driver.driver) (state_of g.S.Shelf.device c.turn.new.self) c.loop-driver.patience.left c.in-Idle.ensures.tells (omega (arith, some))
+loop-driver-smaller g c = let some = c.if-patience-eq0.false in less_by_wait (state_of g.S.Shelf.device c.loop-driver.driver) (state_of g.S.Shelf.device c.turn.new.self) c.loop-driver.patience.left c.in-Idle.ensures.tells (omega (arith, some))
 
-pub returns-then-left-eq0 : goal.returns-then-left-eq0
-returns-then-left-eq0 g c =
+pub returns-then-patience-eq0 : goal.returns-then-patience-eq0
+returns-then-patience-eq0 g c =
     let so_far = c.loop-driver.invariant in
     record {
       turns = so_far.turns;
-      ends = (c.is_unfinished.ensures.open c.loop-driver-test.true, c.if-left-eq0.true);
+      ends = (c.is_unfinished.ensures.open c.loop-driver-test.true, c.if-patience-eq0.true);
       table = so_far.on.table;
-      unstuck = so_far.on.unstuck;
-      goes_on = so_far.on.good;
-      causes = so_far.on.causes;
+      runs = so_far.on.runs;
       patience = so_far.fewer;
       waited = so_far.waited;
     }
@@ -49,14 +47,12 @@ returns-in-Dark g c =
     let first = state_of device c.args.driver.now in
     let so_far = c.loop-driver.invariant in
     let unfinished = c.is_unfinished.ensures.open c.loop-driver-test.true in
-    let ended = goes c.args.asked.now first old new c.args.patience.now.left c.loop-driver.patience.left so_far unfinished c.turn.result made.makes made.tells made.goes_on made.causes in
+    let ended = goes c.args.asked.now first old new c.args.patience.now.left c.loop-driver.patience.left so_far unfinished c.is_sound.ensures c.turn.result made.makes made.tells made.runs in
     record {
       turns = ended.turns;
       ends = landed_at_end c.args.asked.now first old new c.args.patience.now.left c.loop-driver.patience.left so_far unfinished c.is_sound.ensures c.turn.result made.makes made.tells c.in-Dark.is;
       table = ended.on.table;
-      unstuck = ended.on.unstuck;
-      goes_on = ended.on.good;
-      causes = ended.on.causes;
+      runs = ended.on.runs;
       patience = ended.fewer;
       waited = ended.waited;
     }
@@ -68,9 +64,7 @@ returns g c =
       turns = so_far.turns;
       ends = c.is_unfinished.ensures.landed c.loop-driver-test.false;
       table = so_far.on.table;
-      unstuck = so_far.on.unstuck;
-      goes_on = so_far.on.good;
-      causes = so_far.on.causes;
+      runs = so_far.on.runs;
       patience = so_far.fewer;
       waited = so_far.waited;
     }

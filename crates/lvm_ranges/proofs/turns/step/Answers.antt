@@ -1,4 +1,8 @@
 use Rattle.std.proofs.Common.{◌≡◌, refl, subst, arith}
+use Rattle.lvm_session.specs.declared.answers.Turned.{Turned}
+use Rattle.lvm_session.specs.declared.answers.Turned.TheVariants as turned
+use Rattle.lvm_session.specs.Turns.{TurnMakes}
+use Rattle.lvm_turn_answers.specs.Telling.{TurnTells}
 use Rattle.lvm_driver.specs.Answers.{state_of}
 use Rattle.lvm_ranges.specs.Stepping.{AllMoved, Moves}
 use Rattle.lvm_ranges.proofs.Turning.{with_turn}
@@ -12,7 +16,7 @@ pub loop-moved-preserved : goal.loop-moved-preserved
 loop-moved-preserved g c =
     let device = g.S.Shelf.device in
     let made = c.in-Moved.ensures in
-    one_step (state_of device c.args.driver.now) (state_of device c.loop-moved.driver) (state_of device c.turn.new.self) c.loop-moved.moved c.loop-moved.invariant made.makes made.tells made.goes_on made.causes
+    one_step (state_of device c.args.driver.now) (state_of device c.loop-moved.driver) (state_of device c.turn.new.self) c.loop-moved.moved c.loop-moved.invariant c.is_sound.ensures made.makes made.tells made.runs
 
 pub returns-in_default : goal.returns-in_default
 returns-in_default g c =
@@ -20,14 +24,14 @@ returns-in_default g c =
     let first = state_of device c.args.driver.now in
     let old = state_of device c.loop-moved.driver in
     let new = state_of device c.turn.new.self in
-    let made = c.in_default.ensures in
-    let on = with_turn first old new c.in_default.how c.loop-moved.invariant.on made.makes made.tells made.goes_on made.causes in
+    let made = c.turn.ensures in
+    let makes : TurnMakes old new c.in_default.how = subst (TurnMakes old new) c.in_default.how-is made.makes in
+    let tells : TurnTells old new c.in_default.how = subst (TurnTells old new) c.in_default.how-is made.tells in
+    let on = with_turn first old new c.in_default.how c.loop-moved.invariant.on c.is_sound.ensures makes tells made.runs in
     record {
-      ends = last_step first old new c.loop-moved.moved c.loop-moved.invariant c.in_default.how c.args.turns c.loop-moved-test.true made.makes made.tells c.in_default.not-Moved;
+      ends = last_step first old new c.loop-moved.moved c.loop-moved.invariant c.in_default.how c.args.turns c.loop-moved-test.true makes tells (subst (λ (h : Turned). h ≡ turned.Moved → ⊥) c.in_default.how-is c.in_default.not-Moved);
       table = on.table;
-      unstuck = on.unstuck;
-      goes_on = on.good;
-      causes = on.causes;
+      runs = on.runs;
     }
 
 pub returns : goal.returns
@@ -38,7 +42,5 @@ returns g c =
     record {
       ends = AllMoved refl refl (subst (λ n. Moves (state_of device c.args.driver.now) n (state_of device c.loop-moved.driver)) last so_far.moves);
       table = so_far.on.table;
-      unstuck = so_far.on.unstuck;
-      goes_on = so_far.on.good;
-      causes = so_far.on.causes;
+      runs = so_far.on.runs;
     }
