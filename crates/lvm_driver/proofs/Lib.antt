@@ -1,6 +1,6 @@
 mod Rooms
 mod Driven
 mod Draining
-pub mod Causes
+mod Causes
 pub mod Beginnings
 mod Closing

@@ -12,7 +12,7 @@ use Rattle.lvm_group.specs.NewGroup.{NewGroup}
 use Rattle.lvm_quiesce.specs.Groups.{CauseRose, MkvgOnceQuiet, VaryonOnceQuiet}
 use Rattle.lvm_stage.specs.Asking.{Asks, IsAsked, EndsSession}
 use Rattle.lvm_stage.specs.Ends.{patience_of_line}
-use Rattle.lvm_stage.specs.Lighting.{IsLit, refusal_of}
+use Rattle.lvm_stage.specs.Lighting.{IsRelit, refusal_of}
 use Rattle.lvm_stage.specs.Replies.{IsRefused}
 use Rattle.lvm_stage.specs.Stages.{IsNotOn, IsOfKind, IsOn, history_of, open_in, session_of, shelf_of}
 use Rattle.lvm_stage.specs.State.{State, log_with}
@@ -38,13 +38,13 @@ pub record IsLeftBy {S : Type 0} (device : S → Device) (by : Holder S) (answer
   pub history : history_of by ≡ refused.history
   pub kind : IsOfKind by
   pub answered : answer ≡ reply.Refused (refusal_of refused.cause)
-  pub lit : IsLit refused.cause (device refused.shelf) (device (shelf_of by))
+  pub lit : IsRelit refused.cause (device refused.shelf) (device (shelf_of by))
 
 -- ---- what the line does
 
 -- the line was refused for this, and no group is on
 pub record IsLeftOff (why : Cause) (left : Device) (is : Log) (old new : State) (answer : Reply) : Type 0 where
-  pub lit : IsLit why left new.moment.device
+  pub lit : IsRelit why left new.moment.device
   pub facts : new.moment.facts ≡ is.facts
   pub after : new.session ≡ None
   pub posts : new.posts ≡ old.posts

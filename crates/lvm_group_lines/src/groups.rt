@@ -8,7 +8,7 @@ ghost use Rattle.lvm_core.specs.Sound.{IsSound as IsSoundBetween};
 ghost use Rattle.lvm_core.specs.Starting.{IsRoom};
 ghost use Rattle.lvm_core.specs.State.{state_of};
 ghost use Rattle.lvm_group_lines.specs.Groups.{IsHeldBy, IsLeftBy, MkvgDoes, VaryonDoes, VaryoffDoes};
-ghost use Rattle.lvm_stage.specs.Lighting.{IsLit, refusal_of};
+ghost use Rattle.lvm_stage.specs.Lighting.{IsRelit, refusal_of};
 ghost use Rattle.lvm_stage.specs.Ends.{CommandEnds, EndsUnasked};
 ghost use Rattle.lvm_stage.specs.Moments.{Aside};
 ghost use Rattle.lvm_stage.specs.Stages.{IsBetweenStage, IsFitting, IsOfKind, history_of, session_of, shelf_of};
@@ -46,7 +46,7 @@ fn refusal_of(cause: Cause) -> Refusal
 // Puts the power on again where it was cut.
 fn relight_after<S: Shelf>(shelf: &mut S, cause: Cause)
     requires { cause ≡ Cause.Dark → (S.device shelf.old).flights ≡ [] }
-    ensures { IsLit cause (S.device shelf.old) (S.device shelf.new) }
+    ensures { IsRelit cause (S.device shelf.old) (S.device shelf.new) }
 {
     match cause {
         Cause::Dark => relight(shelf),

@@ -6,3 +6,4 @@ pub mod Resting
 pub mod Entailing
 pub mod Serving
 pub mod Volumes
+pub mod Beginning

@@ -23,11 +23,11 @@ use Rattle.lvm_session.specs.Enabled.{first_of, has_buffer, is_lost, is_status_d
 use Rattle.lvm_session.specs.Owners.{flies, same_owner}
 use Rattle.lvm_session.specs.Sound.{IsGoing, IsOn, IsSound, count_if}
 use Rattle.lvm_core.specs.Settled.{IsSettled}
-use Rattle.lvm_core.specs.Sound.{HasNoneOpen}
+use Rattle.lvm_core.specs.Sound.{HasNoneOpen, IsSound as IsSoundBetween}
 use Rattle.lvm_driver.specs.Drains.{IsDrained}
 use Rattle.lvm_tie_begins.specs.Begins.{IsResting}
 use Rattle.lvm_handover.specs.Settling.{DrainedRests, MaySettle}
-use Rattle.lvm_handover.proofs.Between.{buffers_back, none_flown, rest_is_quiet}
+use Rattle.lvm_handover.proofs.Between.{buffers_back, none_flown, rest_is_quiet, rest_is_sound}
 use Rattle.lvm_handover.proofs.Statuses.{status_is}
 use Rattle.lvm_handover.proofs.Votes.{enough_more, more_votes}
 
@@ -147,6 +147,10 @@ module _ (s : State) (sound : IsSound s) (drained : IsDrained s) (closed : HasNo
 
   pub is_settled : MaySettle s → IsSettled core
   is_settled may = record { power = drained.on; quiet = rest_is_quiet s sound drained.on rests; committed = settled_status.1; epoch = may.epoch; votes = can_write }
+
+-- so it is sound between commands
+pub is_between : (s : State) → IsSound s → MaySettle s → IsSoundBetween s
+is_between s sound may = rest_is_sound s sound may.drained.on (rests s sound may.drained may.none)
 
 pub drained_rests : DrainedRests
 drained_rests s sound drained closed = rests s sound drained closed

@@ -28,7 +28,7 @@ use Rattle.lvm_session.specs.declared.flown.Owner.TheVariants as owner
 use Rattle.lvm_session.specs.declared.open.Open.{Open}
 use Rattle.lvm_session.specs.declared.open.Power.TheVariants as power
 use Rattle.lvm_session.specs.declared.origin.Origin.{Origin}
-use Rattle.lvm_session.specs.State.{Core, State, state}
+use Rattle.lvm_session.specs.State.{Core, State, is_there, state}
 use Rattle.lvm_session.specs.Judging.{copies_in, is_missing, is_settled, is_stale, is_wanted_stale}
 use Rattle.lvm_session.specs.Bringing.{end_of, has_row, is_out, step_row}
 use Rattle.lvm_session.specs.Causes.{AreCaused, AreCounted, FailedSince, IsAnswered, IsChosenSince, IsCopyCaused, IsTrueToOrigin, faults_at_first, is_held_stale, is_over, was_fresh}
@@ -41,10 +41,12 @@ use Rattle.lvm_session.specs.Requests.{IsOpenOne}
 use Rattle.lvm_session.specs.Sound.{IsAsked, IsCopy, IsFitting, IsGoing, IsOn, IsSound, IsTold, count_if, hands_with, is_dark, is_hand, may_be_fresh, pins, stays_fresh, waiting_rows, waits, with_row}
 use Rattle.lvm_session.proofs.Parts.{idle_is_sound}
 use Rattle.lvm_core.specs.Settled.{IsSettled}
+use Rattle.lvm_core.specs.Sound.{IsSound as IsSoundBetween}
 use Rattle.lvm_keeps.proofs.Lists.{count_cons}
 use Rattle.lvm_tie.proofs.Words.{any_one, clash, or_true, not_true}
-use Rattle.lvm_handover.specs.Serving.{CommandsServe, GoesOnWith, HasFresh, IsLeftSettled, IsServed, MayServe}
-use Rattle.lvm_handover.proofs.Entailing.{few_updates, not_entailed}
+use Rattle.lvm_volumes.specs.Endings.{HasFresh}
+use Rattle.lvm_handover.specs.Serving.{CommandsServe, GoesOnWith, IsServed, is_gone}
+use Rattle.lvm_handover.proofs.Entailing.{not_entailed, passes}
 use Rattle.lvm_handover.proofs.Votes.{each_row, enough_more, more_votes, no_votes, not_enough}
 
 -- ---- what holds of nothing
@@ -58,11 +60,6 @@ nobody {A = A} P m none = subst (λ (n : Option A). IfSome n P) (sym none) tt
 any_as : {A : Type 0} (f g : A → Bool) → ((x : A) → f x ≡ g x) → (xs : List A) → list_any f xs ≡ list_any g xs
 any_as f g same [] = refl
 any_as f g same (x ∷ xs) = ap (λ (b : Bool). b || list_any f xs) (same x) ∙ ap (λ (b : Bool). g x || b) (any_as f g same xs)
-
-pub passes : {A : Type 0} (test : A → Bool) (xs : List A) (x : A) → IsOneOf xs x → test x ≡ true → list_any test xs ≡ true
-passes test [] x one is = absurd one
-passes test (y ∷ ys) x (inl same) is = or_true (test y) (list_any test ys) (inl (sym (ap test same) ∙ is))
-passes test (y ∷ ys) x (inr later) is = or_true (test y) (list_any test ys) (inr (passes test ys x later is))
 
 its_own : (who : Owner) → same_owner who who ≡ true
 its_own (owner.Data id target) = ap (λ (b : Bool). b && target == target) (eq-eqb id id refl) ∙ eq-eqb target target refl
@@ -87,6 +84,11 @@ nobody_flies core requests copy started notes (owner.Data id target) = ap (λ (o
 nobody_flies core requests copy started notes (owner.Status disk) = started disk
 nobody_flies core requests copy started notes (owner.Note disk) = ap is_some (notes disk)
 nobody_flies core requests copy started notes owner.Copy = ap (λ (m : Option OpenCopy). option_map_or (λ (c : OpenCopy). is_out c.step) m false) copy
+
+-- a command has left it sound between commands, and settled
+pub record IsLeftSettled (new : State) : Type 0 where
+  pub sound : IsSoundBetween new
+  pub settled : IsSettled new.core
 
 module _ (added : List Pp) (old new : State) (sound : IsSound old) (began : IsSettled old.core) (is : IsLeftSettled new) (goes : GoesOnWith added old new) where
   -- ---- what is as it was
@@ -156,7 +158,9 @@ module _ (added : List Pp) (old new : State) (sound : IsSound old) (began : IsSe
 
   -- ---- the served session, of which only the table of its beginning differs
 
-  module _ (t : Status) (stale : (p : Pp) → calls_stale t p ≡ (calls_stale new.core.origin.table p || is_among added p)) (missing : (disk : ℕ) → calls_missing t disk ≡ calls_missing new.core.origin.table disk) where
+  module _ (t : Status) (stale : (p : Pp) → calls_stale t p ≡ (calls_stale new.core.origin.table p || is_among added p))
+      (was : (disk : ℕ) → calls_missing new.core.origin.table disk ≡ true → calls_missing t disk ≡ true)
+      (so : (disk : ℕ) → calls_missing t disk ≡ true → (calls_missing new.core.origin.table disk ≡ true) ⊎ (is_missing new.core disk ≡ true)) where
     abbrev core : Core
     core = record new.core { origin = record new.core.origin { table = t } }
 
@@ -166,8 +170,21 @@ module _ (added : List Pp) (old new : State) (sound : IsSound old) (began : IsSe
     stale_as : (p : Pp) → calls_stale t p ≡ (calls_stale old.core.origin.table p || is_among added p)
     stale_as p = stale p ∙ ap (λ (o : Origin). calls_stale o.table p || is_among added p) origin
 
-    missing_as : (disk : ℕ) → calls_missing t disk ≡ calls_missing old.core.origin.table disk
-    missing_as disk = missing disk ∙ ap (λ (o : Origin). calls_missing o.table disk) origin
+    same_first : (disk : ℕ) → calls_missing new.core.origin.table disk ≡ calls_missing old.core.origin.table disk
+    same_first disk = ap (λ (o : Origin). calls_missing o.table disk) origin
+
+    missing_first : (disk : ℕ) → calls_missing old.core.origin.table disk ≡ true → calls_missing t disk ≡ true
+    missing_first disk gone = was disk (same_first disk ∙ gone)
+
+    was_there : (disk : ℕ) → calls_missing t disk ≡ false → calls_missing old.core.origin.table disk ≡ false
+    was_there disk there = by (calls_missing old.core.origin.table disk) refl
+      where
+        by : (b : Bool) → calls_missing old.core.origin.table disk ≡ b → b ≡ false
+        by true gone = absurd (let no : true ≡ false = sym (missing_first disk gone) ∙ there in cc no)
+        by false here = refl
+
+    missing_now : (disk : ℕ) → calls_missing t disk ≡ true → is_missing core disk ≡ true
+    missing_now disk gone = ⊎_elim (λ (at : calls_missing new.core.origin.table disk ≡ true). goes.stays disk (sound.origin.still_missing disk (sym (same_first disk) ∙ at))) (λ (now : is_missing new.core disk ≡ true). now) (so disk gone)
 
     at_first : (disk : ℕ) → faults_at_first core disk ≡ faults_at_first old.core disk
     at_first disk = ap (λ (o : Origin). slice_index_or o.faults disk 0) origin
@@ -246,10 +263,7 @@ module _ (added : List Pp) (old new : State) (sound : IsSound old) (began : IsSe
       reviewed = of_copy (end_of core) None;
       fresh = fresh;
       clearings = λ p held clear. clash (is_wanted_stale new.core p) (sym (held_as p) ∙ held) clear;
-      numbers =
-          let few : updates_left core ≤ 640 = few_updates core fitting.valid requests copy in
-          let spare : core.status.stamp.seq + 640 < 2 ^ 32 = goes.numbers in
-          omega (arith, few, spare);
+      numbers = goes.numbers;
     }
 
     on : IsOn s
@@ -267,14 +281,25 @@ module _ (added : List Pp) (old new : State) (sound : IsSound old) (began : IsSe
         let mib : core.descriptor.mib ≡ old.core.descriptor.mib = ap (λ (d : Descriptor). d.mib) goes.alike in
         let pvs : core.descriptor.pvs ≡ old.core.descriptor.pvs = ap (λ (d : Descriptor). d.pvs) goes.alike in
         subst (λ (sizes : List ℕ). IsPlaced sizes core.descriptor.mib row) (sym goes.sizes) (subst (λ (n : ℕ). IsPlaced old.device.sizes n row) (sym mib)
-            (sound.placed row (subst (λ (rs : List PvRow). Contains rs row) pvs among) (sym (missing_as row.disk) ∙ there)))
+            (sound.placed row (subst (λ (rs : List PvRow). Contains rs row) pvs among) (was_there row.disk there)))
 
     votes : is_enough_to_write core.descriptor (votes_in core.descriptor (members_there core.descriptor t)) ≡ true
-    votes = enough_more core.descriptor (votes_in core.descriptor (members_there core.descriptor old.core.origin.table)) (votes_in core.descriptor (members_there core.descriptor t))
-        (more_votes core.descriptor (members_there core.descriptor old.core.origin.table) (members_there core.descriptor t) core.descriptor.pvs
-            (each_row (λ (r : PvRow). members_there core.descriptor old.core.origin.table r.disk ≡ true → members_there core.descriptor t r.disk ≡ true)
-            (λ r there. ap (λ (b : Bool). is_member core.descriptor r.disk && not b) (missing_as r.disk) ∙ there) core.descriptor.pvs))
-        (subst (λ (d : Descriptor). is_enough_to_write d (votes_in d (members_there d old.core.origin.table)) ≡ true) (sym goes.alike) sound.origin.votes)
+    votes = enough_more core.descriptor (votes_in core.descriptor (is_there new.core)) (votes_in core.descriptor (members_there core.descriptor t))
+        (more_votes core.descriptor (is_there new.core) (members_there core.descriptor t) core.descriptor.pvs
+            (each_row (λ (r : PvRow). is_there new.core r.disk ≡ true → members_there core.descriptor t r.disk ≡ true) (λ r there. there_by r.disk there) core.descriptor.pvs))
+        is.settled.votes
+      where
+        there_by : (disk : ℕ) → is_there new.core disk ≡ true → members_there core.descriptor t disk ≡ true
+        there_by disk there = by (calls_missing t disk) (is_member core.descriptor disk) (is_missing core disk) refl refl refl there
+          where
+            by : (a m b : Bool) → calls_missing t disk ≡ a → is_member core.descriptor disk ≡ m → is_missing core disk ≡ b → m && not b ≡ true → m && not a ≡ true
+            by true m b gone member now is = absurd (let no : m && not true ≡ true = ap (λ (x : Bool). m && not x) (sym (missing_now disk gone) ∙ now) ∙ is in none m no)
+              where
+                none : (m : Bool) → m && false ≡ true → ⊥
+                none true e = cc e
+                none false e = cc e
+            by false true b gone member now is = refl
+            by false false b gone member now is = absurd (cc is)
 
     -- ---- why they are missing, and copies stale
 
@@ -285,7 +310,7 @@ module _ (added : List Pp) (old new : State) (sound : IsSound old) (began : IsSe
     lost disk gone = by (is_missing old.core disk) refl
       where
         by : (b : Bool) → is_missing old.core disk ≡ b → (calls_missing t disk ≡ true) ⊎ FailedSince s disk
-        by true was = ⊎_elim (λ (at : calls_missing old.core.origin.table disk ≡ true). inl (missing_as disk ∙ at)) (λ (failed : FailedSince old disk). inr (since disk failed)) (sound.origin.missing disk was)
+        by true was = ⊎_elim (λ (at : calls_missing old.core.origin.table disk ≡ true). inl (missing_first disk at)) (λ (failed : FailedSince old disk). inr (since disk failed)) (sound.origin.missing disk was)
         by false was = inr (subst (λ (n : ℕ). Rose n (new.device.counts.faults disk)) (sym (at_first disk)) (rose_before (sound.origin.since disk) (goes.lost disk gone was)))
 
     why_stale : (p : Pp) → is_wanted_stale new.core p ≡ true → (calls_stale t p ≡ true) ⊎ (is_missing core p.disk ≡ true) ⊎ FailedSince s p.disk
@@ -306,7 +331,7 @@ module _ (added : List Pp) (old new : State) (sound : IsSound old) (began : IsSe
           let later : old.device.counts.faults disk ≤ new.device.counts.faults disk = goes.falls.faults disk in
           subst (λ (n : ℕ). n ≤ new.device.counts.faults disk) (sym (at_first disk)) (omega (arith, was, later));
       votes = votes;
-      still_missing = λ disk gone. goes.stays disk (sound.origin.still_missing disk (sym (missing_as disk) ∙ gone));
+      still_missing = missing_now;
       missing = lost;
       stale = λ p held. why_stale p (by (is_held_stale new.core p) (is_wanted_stale new.core p) (held_as p) held);
     }
@@ -334,8 +359,26 @@ module _ (added : List Pp) (old new : State) (sound : IsSound old) (began : IsSe
       origin = true_to_origin;
     }
 
-  pub may_serve : MayServe added new
-  may_serve core served = subst (λ (c : Core). IsSound (state new.device c)) (sym served.is) (is_sound core.origin.table served.marks.stale served.marks.missing)
+  pub served_is_sound : (core : Core) → IsServed added new.core core → IsSound (state new.device core)
+  served_is_sound core served = subst (λ (c : Core). IsSound (state new.device c)) (sym served.is)
+      (is_sound core.origin.table served.marks.stale
+          (λ disk gone. served.marks.missing disk ∙ or_true (calls_missing new.core.origin.table disk) (is_gone new.core disk) (inl gone))
+          (λ disk gone. by (calls_missing new.core.origin.table disk) (is_member new.core.descriptor disk) (is_missing new.core disk) (sym (served.marks.missing disk) ∙ gone)))
+    where
+      by : (a m n : Bool) → a || (m && n) ≡ true → (a ≡ true) ⊎ (n ≡ true)
+      by true m n either = inl refl
+      by false true n either = inr either
+      by false false n either = absurd (cc either)
+
+  pub stays_sound : added ≡ [] → IsSound new
+  stays_sound nothing = is_sound new.core.origin.table (λ p. or_none (calls_stale new.core.origin.table p) ∙ ap (λ (ps : List Pp). calls_stale new.core.origin.table p || is_among ps p) (sym nothing)) (λ disk gone. gone) (λ disk gone. inl gone)
+    where
+      or_none : (b : Bool) → b ≡ (b || false)
+      or_none true = refl
+      or_none false = refl
 
 pub commands_serve : CommandsServe
-commands_serve added old new sound began is goes = may_serve added old new sound began is goes
+commands_serve added old new sound began settled goes = (
+    (λ between. served_is_sound added old new sound began (record { sound = between; settled = settled }) goes),
+    (λ nothing between. stays_sound added old new sound began (record { sound = between; settled = settled }) goes nothing),
+  )

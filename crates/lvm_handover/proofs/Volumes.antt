@@ -9,10 +9,11 @@ use Rattle.lvm_num.specs.declared.descriptor.Descriptor.{Descriptor}
 use Rattle.lvm_num.specs.declared.descriptor.LvRow.{LvRow}
 use Rattle.lvm_num.specs.declared.place.Pp.{Pp}
 use Rattle.lvm_num.specs.declared.status.Status.{Status}
-use Rattle.lvm_num.specs.Descriptor.{IsPartitionOf, copies_of, is_member, volume_of}
+use Rattle.lvm_num.specs.Descriptor.{IsPartitionOf, IsValid, copies_of, is_member, volume_of}
 use Rattle.lvm_num.specs.Geometry.{volume_blocks}
 use Rattle.lvm_num.specs.Status.{calls_missing, calls_stale}
 use Rattle.lvm_disk.specs.Counts.{NoneFalls}
+use Rattle.lvm_disk.proofs.Rising.{none_falls_at_once}
 use Rattle.lvm_vol.specs.declared.entry.Vol.TheVariants.{Lv}
 use Rattle.lvm_vol.specs.Facts.{Fact, Made, Making, Removed, Removing}
 use Rattle.lvm_vol.specs.Log.{Log, with_fact}
@@ -28,7 +29,7 @@ use Rattle.lvm_next.proofs.Building.{copy_is_placed, is_member_of}
 use Rattle.lvm_session.specs.State.{Core, State, is_there, state}
 use Rattle.lvm_session.specs.Judging.{copies_in, is_missing, is_settled, is_stale, is_wanted_stale}
 use Rattle.lvm_session.specs.Causes.{is_held_stale}
-use Rattle.lvm_session.specs.Marks.{is_among}
+use Rattle.lvm_session.specs.Left.{updates_left}
 use Rattle.lvm_session.specs.Sound.{IsGoing, IsSound, may_be_fresh, stays_fresh}
 use Rattle.lvm_core.specs.Leaves.{KeepsStatus, Leaves, NoPartition, WasLeftBehind}
 use Rattle.lvm_core.specs.Settled.{IsSettled}
@@ -39,13 +40,13 @@ use Rattle.lvm_volume_plan.specs.declared.new_volume.NewVolume.{NewVolume}
 use Rattle.lvm_volume_plan.specs.Faults.{HasPlaces, HasSpareRoom, IsRefused, RefusesMklv, RefusesRmlv}
 use Rattle.lvm_volume_plan.specs.NewVolume.{IsLowestFree, row_for, with_volume, without_volume}
 use Rattle.lvm_volume_plan.proofs.Sublists.{one_filter, one_insert}
-use Rattle.lvm_volumes.specs.Endings.{CommandFailed, IfOn, StillHeld}
+use Rattle.lvm_volumes.specs.Endings.{CommandFailed, HasFresh, IfOn, KeepsFresh, StillHeld}
 use Rattle.lvm_volumes.specs.Volumes.{IsChosen, IsVolumeMade, IsVolumeRemoved, IsWith, MakingFails, MklvGives, RmlvGives, making, removing, to_make, to_remove}
 use Rattle.lvm_volumes.proofs.Entering.{many_bound}
 use Rattle.lvm_volumes.proofs.Places.{places_of}
-use Rattle.lvm_handover.specs.Serving.{GoesOnWith, HasFresh, IsCommanded, IsLeftSettled, IsServed, KeepsFresh, MayServe, MklvServes, RmlvServes}
-use Rattle.lvm_handover.proofs.Entailing.{none_left}
-use Rattle.lvm_handover.proofs.Serving.{commands_serve, passes}
+use Rattle.lvm_handover.specs.Serving.{GoesOnWith, IsCommanded, MayServe, MklvServes, RmlvServes, StaysSound}
+use Rattle.lvm_handover.proofs.Entailing.{few_updates, none_left, passes}
+use Rattle.lvm_handover.proofs.Serving.{commands_serve}
 
 -- ---- rows
 
@@ -107,7 +108,7 @@ module _ (old : State) (sound : IsSound old) (began : IsSettled old.core) where
           by true here is rest = or_true (not (is_wanted_stale old.core q)) (list_any (λ (r : Pp). not (is_wanted_stale old.core r)) ps) (inl (second (is_held_stale old.core q) (is_wanted_stale old.core q) here))
           by false here is rest = or_true (not (is_wanted_stale old.core q)) (list_any (λ (r : Pp). not (is_wanted_stale old.core r)) ps) (inr (rest is))
 
-  module _ (new : State) (after : IsLeftSettled new) (still : StillHeld old new) (d : Descriptor) (log : Log) (N : Descriptor → Type 0) (F : Pp → Type 0) (more : ℕ)
+  module _ (new : State) (after : IsSettled new.core) (still : StillHeld old new) (d : Descriptor) (log : Log) (N : Descriptor → Type 0) (F : Pp → Type 0) (more : ℕ)
       (is : new.core ≡ record old.core { descriptor = d; history = log; status = new.core.status; homes = new.core.homes }) (alike : IsAlike d old.core.descriptor)
       (ordered : Ordered log.run [] log.facts) (room : log.room ≡ old.core.history.room) (status : KeepsStatus N NoPartition F old new) (falls : NoneFalls old.device.counts new.device.counts)
       (sizes : new.device.sizes ≡ old.device.sizes) (numbers : SpendsNumbers more old.core.status new.core.status) (few : more ≤ 2) (spare : HasSpareRoom old.core)
@@ -128,8 +129,8 @@ module _ (old : State) (sound : IsSound old) (began : IsSettled old.core) where
         not_there (is_member old.core.descriptor p.disk) (is_missing new.core p.disk) member
         (subst (λ (g : Descriptor). IsFalse (members_there g new.core.status.wanted p.disk)) (status.group ∙ sound.fitting.group) left.absent)
 
-    pub goes_on : GoesOnWith [] old new
-    goes_on = record {
+    pub goes_on : IsValid new.core.descriptor → GoesOnWith [] old new
+    goes_on valid = record {
       is = is ∙ ap (λ (c : Core). record old.core { descriptor = c.descriptor; history = c.history; status = new.core.status; homes = new.core.homes }) (sym is);
       alike = subst (λ (g : Descriptor). IsAlike g old.core.descriptor) (sym descriptor_is) alike;
       sizes = sizes;
@@ -140,7 +141,8 @@ module _ (old : State) (sound : IsSound old) (began : IsSettled old.core) where
           let many = many_bound old.core sound.fitting.valid sound.fitting.group in
           let most = numbers.most in
           let left : 65536 ≤ 2 ^ 32 - 1 - old.core.status.stamp.seq = spare.numbers in
-          omega (arith, many, most, left, few);
+          let updates : updates_left new.core ≤ 640 = few_updates new.core valid after.quiet.requests after.quiet.copy in
+          omega (arith, many, most, left, few, updates);
       left = still.left none_before;
       stays = status.stays;
       lost = λ disk gone was. (status.lost disk gone was).1;
@@ -149,14 +151,30 @@ module _ (old : State) (sound : IsSound old) (began : IsSettled old.core) where
       fresh = λ lv lp p one was apart. fresh lv lp p (subst (λ (g : Descriptor). IsOneOf (copies_in g lv lp) p) descriptor_is one) was;
     }
 
-    pub may_serve : MayServe [] new
-    may_serve = commands_serve [] old new sound began after goes_on
+    pub may_serve : MayServe [] new × StaysSound new
+    may_serve = (λ between. (commands_serve [] old new sound began after (goes_on between.fitting.valid)).0 between, λ between. (commands_serve [] old new sound began after (goes_on between.fitting.valid)).1 refl between)
 
 -- where nothing has happened
-pub refused_serves : (old new : State) → IsSound old → new ≡ old → MayServe [] new
-refused_serves old new sound same core served =
-    let is : core ≡ new.core = served.is ∙ ap (λ (t : Status). record new.core { origin = record new.core.origin { table = t } }) (served.marks.same refl) in
-    subst (λ (c : Core). IsSound (state new.device c)) (sym is) (subst IsSound (sym same) sound)
+pub refused_serves : (old new : State) → IsSound old → IsSettled old.core → new ≡ old → MayServe [] new × StaysSound new
+refused_serves old new sound began same =
+    let both = commands_serve [] old old sound began began nothing in
+    subst (λ (s : State). MayServe [] s × StaysSound s) (sym same) (both.0, both.1 refl)
+  where
+    nothing : GoesOnWith [] old old
+    nothing = record {
+      is = refl;
+      alike = refl;
+      sizes = refl;
+      falls = none_falls_at_once old.device.counts;
+      ordered = sound.told.ordered;
+      room = refl;
+      numbers = (going old sound began).numbers;
+      left = none_before old sound began;
+      stays = λ disk gone. gone;
+      lost = λ disk gone there. absurd (let no : true ≡ false = sym gone ∙ there in cc no);
+      further = λ p now. inl now;
+      fresh = λ lv lp p one was apart. had_fresh old sound began lv lp p one was;
+    }
 
 -- ---- by the contract of mklv
 
@@ -175,8 +193,8 @@ module _ (v : NewVolume) (before after : ℕ) (old new : State) (sound : IsSound
       (λ (was : IsOneOf old.core.descriptor.lvs row). is_member_of old.core.descriptor p (copy_is_placed old.core.descriptor sound.fitting.valid row lp p was one))
       (one_insert old.core.descriptor.lvs (number - 1) (row_for v number map) row rows)
 
-  module _ (began : IsSettled old.core) (leaves : Leaves (to_make v old.core) before after old new) (is_after : IsLeftSettled new) (still : StillHeld old new) (keeps : KeepsFresh old new) where
-    made : (lv : ℕ) → IsVolumeMade v lv old new → MayServe [] new
+  module _ (began : IsSettled old.core) (leaves : Leaves (to_make v old.core) before after old new) (is_after : IsSettled new.core) (still : StillHeld old new) (keeps : KeepsFresh old new) where
+    made : (lv : ℕ) → IsVolumeMade v lv old new → MayServe [] new × StaysSound new
     made lv it = may_serve old sound began new is_after still (with_volume old.core.descriptor (row_for v lv it.map)) (with_fact (making v lv old) (Made lv)) (IsWith v old.core) (IsChosen v old.core) 2 it.is refl
         (ordered-push old.core.history.run [] (making v lv old).facts (Made lv) (ordered-push old.core.history.run [] old.core.history.facts (Making lv (volume_blocks old.core.descriptor.mib v.lps) v.mode) sound.told.ordered tt) tt)
         refl leaves.status leaves.falls leaves.writes.sizes leaves.numbers (omega arith) it.may.room of_members fresh
@@ -202,7 +220,7 @@ module _ (v : NewVolume) (before after : ℕ) (old new : State) (sound : IsSound
             keeps n lp p here (inr (had_fresh old sound began n lp p (subst (λ (ps : List Pp). IsOneOf ps p) (sym (copies_at old.core.descriptor n lp its.row volume)) its.one) was)))
             (one_insert old.core.descriptor.lvs (lv - 1) (row_for v lv it.map) its.row at.0)
 
-    failed : (disk : ℕ) → MakingFails v disk old new → MayServe [] new
+    failed : (disk : ℕ) → MakingFails v disk old new → MayServe [] new × StaysSound new
     failed disk it = may_serve old sound began new is_after still old.core.descriptor old.core.history (IsWith v old.core) (IsChosen v old.core) 2 it.ends.is refl sound.told.ordered refl leaves.status leaves.falls leaves.writes.sizes
         leaves.numbers (omega arith) it.may.room of_members
         (λ n lp p one was. keeps n lp p (subst (λ (g : Descriptor). IsOneOf (copies_in g n lp) p) (sym (ap (λ (c : Core). c.descriptor) it.ends.is)) one) (inr (had_fresh old sound began n lp p one was)))
@@ -213,20 +231,20 @@ mklv_serves v before after old new (Err fault.Dark) sound c gives = tt
 mklv_serves v before after old new (Err (fault.WentOff have total)) sound c gives = tt
 mklv_serves v before after old new (Err fault.Stuck) sound c gives = tt
 mklv_serves v before after old new (Err (fault.DiskFailed disk)) sound c gives = failed v before after old new sound c.began c.leaves c.on c.still c.fresh disk gives
-mklv_serves v before after old new (Err fault.Busy) sound c gives = refused_serves old new sound gives.0
+mklv_serves v before after old new (Err fault.Busy) sound c gives = refused_serves old new sound c.began gives.0
 mklv_serves v before after old new (Err fault.NoVolume) sound c gives = absurd gives
-mklv_serves v before after old new (Err fault.VolumeExists) sound c gives = refused_serves old new sound gives.0
-mklv_serves v before after old new (Err (fault.CopyLimit now)) sound c gives = refused_serves old new sound gives.0
+mklv_serves v before after old new (Err fault.VolumeExists) sound c gives = refused_serves old new sound c.began gives.0
+mklv_serves v before after old new (Err (fault.CopyLimit now)) sound c gives = refused_serves old new sound c.began gives.0
 mklv_serves v before after old new (Err (fault.LastFresh lp)) sound c gives = absurd gives
-mklv_serves v before after old new (Err (fault.TooMany limit)) sound c gives = refused_serves old new sound gives.0
-mklv_serves v before after old new (Err (fault.NoRoom free)) sound c gives = refused_serves old new sound gives.0
-mklv_serves v before after old new (Err fault.HistoryFull) sound c gives = refused_serves old new sound gives.0
-mklv_serves v before after old new (Err fault.Memory) sound c gives = refused_serves old new sound gives.0
+mklv_serves v before after old new (Err (fault.TooMany limit)) sound c gives = refused_serves old new sound c.began gives.0
+mklv_serves v before after old new (Err (fault.NoRoom free)) sound c gives = refused_serves old new sound c.began gives.0
+mklv_serves v before after old new (Err fault.HistoryFull) sound c gives = refused_serves old new sound c.began gives.0
+mklv_serves v before after old new (Err fault.Memory) sound c gives = refused_serves old new sound c.began gives.0
 
 -- ---- by that of rmlv
 
-module _ (lv before after : ℕ) (old new : State) (sound : IsSound old) (began : IsSettled old.core) (leaves : Leaves (to_remove lv old.core) before after old new) (is_after : IsLeftSettled new) (still : StillHeld old new) (keeps : KeepsFresh old new) where
-  removed : IsVolumeRemoved lv old new → MayServe [] new
+module _ (lv before after : ℕ) (old new : State) (sound : IsSound old) (began : IsSettled old.core) (leaves : Leaves (to_remove lv old.core) before after old new) (is_after : IsSettled new.core) (still : StillHeld old new) (keeps : KeepsFresh old new) where
+  removed : IsVolumeRemoved lv old new → MayServe [] new × StaysSound new
   removed it = may_serve old sound began new is_after still (without_volume old.core.descriptor lv) (with_fact (removing lv old) (Removed (Lv lv))) (λ (next : Descriptor). next ≡ without_volume old.core.descriptor lv) NoPartition 1 it.is refl
       (ordered-push old.core.history.run [] (removing lv old).facts (Removed (Lv lv)) (ordered-push old.core.history.run [] old.core.history.facts (Removing (Lv lv)) sound.told.ordered tt) tt)
       refl leaves.status leaves.falls leaves.writes.sizes leaves.numbers (omega arith) it.may.room
@@ -250,12 +268,12 @@ rmlv_serves lv before after old new (Err fault.Dark) sound c gives = tt
 rmlv_serves lv before after old new (Err (fault.WentOff have total)) sound c gives = tt
 rmlv_serves lv before after old new (Err fault.Stuck) sound c gives = tt
 rmlv_serves lv before after old new (Err (fault.DiskFailed disk)) sound c gives = absurd gives
-rmlv_serves lv before after old new (Err fault.Busy) sound c gives = refused_serves old new sound gives.0
-rmlv_serves lv before after old new (Err fault.NoVolume) sound c gives = refused_serves old new sound gives.0
+rmlv_serves lv before after old new (Err fault.Busy) sound c gives = refused_serves old new sound c.began gives.0
+rmlv_serves lv before after old new (Err fault.NoVolume) sound c gives = refused_serves old new sound c.began gives.0
 rmlv_serves lv before after old new (Err fault.VolumeExists) sound c gives = absurd gives
 rmlv_serves lv before after old new (Err (fault.CopyLimit now)) sound c gives = absurd gives
 rmlv_serves lv before after old new (Err (fault.LastFresh lp)) sound c gives = absurd gives
 rmlv_serves lv before after old new (Err (fault.TooMany limit)) sound c gives = absurd gives
 rmlv_serves lv before after old new (Err (fault.NoRoom free)) sound c gives = absurd gives
-rmlv_serves lv before after old new (Err fault.HistoryFull) sound c gives = refused_serves old new sound gives.0
-rmlv_serves lv before after old new (Err fault.Memory) sound c gives = refused_serves old new sound gives.0
+rmlv_serves lv before after old new (Err fault.HistoryFull) sound c gives = refused_serves old new sound c.began gives.0
+rmlv_serves lv before after old new (Err fault.Memory) sound c gives = refused_serves old new sound c.began gives.0

@@ -1,4 +1,5 @@
 //! Laws of the handing over. Each call does nothing: its contract is the law.
+ghost use Rattle.lvm_handover.specs.Beginning.{MadeBegins, VariedOnBegins};
 ghost use Rattle.lvm_handover.specs.Serving.{CommandsServe, MklvServes, RmlvServes};
 ghost use Rattle.lvm_handover.specs.Settling.{DrainedRests};
 
@@ -21,4 +22,11 @@ pub fn mklv_serves()
 /// And by that of `rmlv`.
 pub fn rmlv_serves()
     ensures { RmlvServes }
+{}
+
+/// A session that a varyon or a mkvg has begun is sound with requests at once, by the contracts of these calls, whatever
+/// stands on the disks.
+pub fn begun_serves()
+    ensures varied_on { VariedOnBegins }
+    ensures made { MadeBegins }
 {}

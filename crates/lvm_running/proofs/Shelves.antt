@@ -102,9 +102,9 @@ start_steps old new f starts outside = record {
   leaves = λ leaves. (
     λ d at value flies. ⊎_elim (leaves d at value) (outside d at value) (in_old_or_new old.flights f d at value (subst (λ (x : Device). IsInFlight x.flights d at value) starts.new_is flies)),
     λ id k image may found.
-    let from = start_leaves old new f starts image may in
-    let by : ChangesBy (IsOutside kind.Descriptor) from.0 image = record { same = from.2.same; each = λ d s. ⊎_elim (λ same. inl same) (λ put. inr (outside d s (image.sector d s) put)) (from.2.each d s) } in
-    (from.0, from.1, found_before from.0 image by id k found),
+        let from = start_leaves old new f starts image may in
+        let by : ChangesBy (IsOutside kind.Descriptor) from.0 image = record { same = from.2.same; each = λ d s. ⊎_elim (λ same. inl same) (λ put. inr (outside d s (image.sector d s) put)) (from.2.each d s) } in
+        (from.0, from.1, found_before from.0 image by id k found),
   );
 }
 

@@ -25,18 +25,19 @@ use Rattle.lvm_session.specs.Judging.{is_waiting}
 use Rattle.lvm_session.specs.Requests.{IsLanded}
 use Rattle.lvm_session.specs.Sound.{IsLit, IsSound, is_dark, waits}
 use Rattle.lvm_session.specs.State.{Core, State as Session, state}
+use Rattle.lvm_status.specs.Members.{HasItsRows}
 use Rattle.lvm_core.specs.Sound.{HaveAllLanded}
 use Rattle.lvm_tie.specs.Spares.{LeavesDescriptors}
 use Rattle.lvm_tie.specs.Tied.{IsGood, moment_of}
 use Rattle.lvm_running.specs.Running.{IsBefore, LeavesSession}
 use Rattle.lvm_quiesce.specs.Behind.{IsAheadEach}
 use Rattle.lvm_tie_commands.specs.Standing.{StandsAfter}
-use Rattle.lvm_stage.specs.Moments.{GoesOn, IsActing, IsAlone, IsRequesting, KeepsStanding, Role}
+use Rattle.lvm_stage.specs.Moments.{GoesOn, HasBegunHeld, IsAlone, IsRequesting, Role}
 use Rattle.lvm_stage.specs.Replies.{IsStuck, most_refusals}
 use Rattle.lvm_stage.specs.Stages.{IsClosed}
 use Rattle.lvm_stage.specs.State.{ArePosted, IsAtRest, IsBetween, IsOnBetween, IsTimely, StandsAlone, StandsBy, State}
 use Rattle.lvm_stage.specs.declared.reply.Reply.{Reply}
-use Rattle.lvm_stage.proofs.Going.{relit_path}
+use Rattle.lvm_stage.proofs.Going.{relit_path, was_session}
 
 -- ---- a session that is over
 
@@ -86,7 +87,7 @@ closes s new sound = by s.core.power refl
 
 -- What leads from a session of a group with volumes to this one.
 pub record IsRun (role : Role) (old : State) (core : Core) (end : Session) : Type 0 where
-  pub acting : IsActing role
+  pub alone : (new : State) → IsAlone role old new → IfSome old.session (StandsAlone old.moment.device)
   pub session : old.session ≡ Some core
   pub facts : old.moment.facts ≡ core.history.facts
   pub volumes : core.descriptor.lvs ≢ []
@@ -108,7 +109,7 @@ module _ (role : Role) (old : State) (core : Core) (end : Session) (its : IsRun 
     stands_first : (past : List Fact) → Begins core.history.run past first → StandsAfter past old.moment.device core
     stands_first past begins =
         subst (λ (o : Option Core). IfSome o (λ (c : Core). StandsAlone old.moment.device c → StandsAfter past old.moment.device c)) its.session (stands past begins)
-        (subst (λ (o : Option Core). IfSome o (StandsAlone old.moment.device)) its.session (alone.acts its.acting))
+        (subst (λ (o : Option Core). IfSome o (StandsAlone old.moment.device)) its.session (its.alone new alone))
 
     good_first : IsGood core.history.run first first_session
     good_first on past begins = (stands_first past begins).tied its.volumes
@@ -172,12 +173,14 @@ module _ (role : Role) (old : State) (core : Core) (end : Session) (its : IsRun 
           power = on;
           sound = its.sound;
           stamped = (its.leaves.epoch not_dark).stamped on_first.stamped;
+          rows = subst (λ (d : Descriptor). HasItsRows d end.core.origin.table) (sym its.leaves.keeps.descriptor) (subst (λ (o : Origin). HasItsRows core.descriptor o.table) (sym its.leaves.keeps.origin) on_first.rows);
           copy = copy;
           empty = λ none. absurd (its.volumes (sym (ap (λ (d : Descriptor). d.lvs) its.leaves.keeps.descriptor) ∙ none));
         };
         posts = posted;
       };
       rests = λ not_asking heard rest. subst IsAtRest is (rests not_asking rest);
+      begins = λ timely. was_session old.session core (IfSome (Some end.core) (HasBegunHeld end.device)) its.session;
       power = lit.power;
       waits = its.leaves.keeps.counts.waits;
       clock = omega arith;
@@ -227,6 +230,7 @@ module _ (role : Role) (old : State) (core : Core) (end : Session) (its : IsRun 
         posts = subst (λ (o : Option Core). ArePosted new.moment.facts o new.posts) (sym none) posted;
       };
       rests = λ not_asking heard rest. rests not_asking rest;
+      begins = λ timely. was_session old.session core (IfSome new.session (HasBegunHeld new.moment.device)) its.session;
       power = it.lit.power;
       waits = let w = its.leaves.keeps.counts.waits in let same = it.waited in omega (arith, w, same);
       clock = let same = clock in omega (arith, same);

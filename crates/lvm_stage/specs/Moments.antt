@@ -1,10 +1,14 @@
 -- What holds of the moments of each line.
-use Rattle.std.specs.Prelude.{◌≡◌, ◌≤◌, ◌+◌, ℕ, true, IfSome, length}
+use Rattle.std.specs.Prelude.{◌≡◌, ◌≤◌, ◌+◌, ℕ, true, IfSome, IfNone, length}
+use Rattle.lvm_disk.specs.Device.{Device, IsReady}
 use Rattle.lvm_kept.specs.Moments.{Moment}
 use Rattle.lvm_steps.specs.Moments.{Keeps}
 use Rattle.lvm_stamps.specs.Behind.{IsAhead}
 use Rattle.lvm_commit.specs.LawsOfVolumes.{IsOneByAllOn}
+use Rattle.lvm_core.specs.Held.{IsHeld}
 use Rattle.lvm_core.specs.Leaves.{EntersVolumes}
+use Rattle.lvm_core.specs.Settled.{IsSettled as IsSettledCore}
+use Rattle.lvm_session.specs.State.{Core}
 use Rattle.lvm_stage.specs.State.{State, IsAtRest, IsBetween, IsTimely, StandsAlone, StandsBy}
 use Rattle.lvm_stage.specs.Replies.{IsStuck, most_refusals}
 use Rattle.lvm_stage.specs.declared.reply.Refusal.TheVariants as refusal
@@ -47,6 +51,12 @@ pub record IsAlone (role : Role) (old new : State) : Type 0 where
 abbrev pub KeepsStanding : ℕ → Reply → State → State → Type 0
 KeepsStanding run answer old new = (first : Moment) → Keeps run first old.moment → StandsBy run first old → Keeps run first new.moment × ((IsStuck answer → ⊥) → StandsBy run first new)
 
+-- A session begins settled, nothing is out, and its disks hold what it says is committed.
+pub record HasBegunHeld (device : Device) (core : Core) : Type 0 where
+  pub ready : IsReady device
+  pub settled : IsSettledCore core
+  pub held : IsHeld device core
+
 -- From one state to the next, where this is answered. While the clock is ahead of each crash image, and no other group has a quorum where that is asked, what
 -- stood goes on to stand. The clock stays ahead of the disks, and of each crash image unless nothing was heard of a transfer: else the next line may begin, and
 -- at rest too, if none of requests was between.
@@ -56,6 +66,7 @@ pub record GoesOn (run : ℕ) (role : Role) (answer : Reply) (old new : State) :
   pub left : IsTimely run old → IsAhead run (new.last + 1) new.moment.device new.moment.facts
   pub between : (IsStuck answer → ⊥) → IsBetween new.moment new.session new.posts
   pub rests : (IsRequesting role → ⊥) → (IsStuck answer → ⊥) → IsAtRest old → IsAtRest new
+  pub begins : IsTimely run old → IfNone old.session (IfSome new.session (HasBegunHeld new.moment.device))
   pub power : new.moment.device.power ≡ true
   pub waits : old.moment.device.counts.waits ≤ new.moment.device.counts.waits
   pub clock : old.last ≤ new.last

@@ -6,6 +6,7 @@ use Rattle.lvm_vol.specs.Log.{Log}
 use Rattle.lvm_kept.specs.Moments.{Moment}
 use Rattle.lvm_steps.specs.Moments.{Begins}
 use Rattle.lvm_commit.specs.LawsOfVolumes.{IsOneByAllOn}
+use Rattle.lvm_status.specs.Members.{HasItsRows}
 use Rattle.lvm_session.specs.declared.open.Power.TheVariants as power
 use Rattle.lvm_session.specs.State.{Core, state}
 use Rattle.lvm_session.specs.Sound.{IsLit, IsSound}
@@ -55,11 +56,13 @@ pub record ArePosted (facts : List Fact) (on : Option Core) (posts : List Post) 
 
 -- ---- what is under way
 
--- A session that is on is sound, and has begun; no copy is brought up; and where its group has no volume nothing is under way in it.
+-- A session that is on is sound, and has begun, with a row of its first status for each member; no copy is brought up; and where its group has no volume
+-- nothing is under way in it.
 pub record IsOnBetween (device : Device) (core : Core) : Type 0 where
   pub power : core.power ≡ power.On
   pub sound : IsSound (state device core)
   pub stamped : IsStamped core.status
+  pub rows : HasItsRows core.descriptor core.origin.table
   pub copy : core.copy ≡ None
   pub empty : core.descriptor.lvs ≡ [] → IsSettledCore core
 
@@ -89,9 +92,9 @@ pub record IsTimely (run : ℕ) (s : State) : Type 0 where
 
 -- ---- what stands on the disks
 
--- where the group has a volume, at most one has a quorum among all disks, and all its volumes are in mode off
+-- Where its group has a volume and no request is open, at most one group has a quorum among all disks, and all its volumes are in mode off.
 abbrev pub StandsAlone : Device → Core → Type 0
-StandsAlone device core = core.descriptor.lvs ≢ [] → IsOneByAllOn device × AreOff core.descriptor
+StandsAlone device core = core.requests ≡ [] → core.descriptor.lvs ≢ [] → IsOneByAllOn device × AreOff core.descriptor
 
 -- After each earlier history with which the run may have begun, the disks stand by the session, where its group stands alone.
 abbrev pub StandsBy : ℕ → Moment → State → Type 0

@@ -1,5 +1,5 @@
 -- Partitions become fresh, and then zeros.
-use Rattle.std.proofs.Common.{◌≡◌, inl, ⊎_elim, ℕ, suc, Bool, true, false, ◌&&◌, ◌||◌, List, [], ◌∷◌, Result, Ok, Err, get_or, refl, sym, ap, subst, ◌∙◌, arith}
+use Rattle.std.proofs.Common.{◌≡◌, inl, inr, ⊎_elim, ℕ, suc, Bool, true, false, ◌&&◌, ◌||◌, List, [], ◌∷◌, Result, Ok, Err, get_or, refl, sym, ap, subst, ◌∙◌, arith}
 use Rattle.std.specs.Prelude.{◌==◌, not, IsTrue, IsFalse, All, Contains}
 use Rattle.std.proofs.lemmas.Bool.{eqb-true, false≢true}
 use Rattle.std.proofs.lemmas.List.Folds.{list_any_at}
@@ -15,6 +15,7 @@ use Rattle.lvm_steps.proofs.Booleans.{either}
 use Rattle.lvm_stale.specs.Table.{is_pp}
 use Rattle.lvm_status.specs.Update.{members_there}
 use Rattle.lvm_commit.specs.LawsOfData.{IsFree}
+use Rattle.lvm_commit.proofs.Copies.{one_place}
 use Rattle.lvm_commit.specs.Settling.{NoneIsLeft}
 use Rattle.lvm_core.specs.declared.fault.CommitFault.{CommitFault}
 use Rattle.lvm_core.specs.declared.fault.CommitFault.TheVariants as commit
@@ -22,10 +23,11 @@ use Rattle.lvm_session.specs.State.{Core, State, is_there}
 use Rattle.lvm_core.specs.Settled.{IsSettled}
 use Rattle.lvm_core.specs.Committing.{is_among, Restates, HasStated, RecordsEnd, MarkEnds}
 use Rattle.lvm_core.specs.Leaves.{NoDescriptor, Leaves, marking}
-use Rattle.lvm_volumes.specs.Endings.{StillHeld, commanding}
+use Rattle.lvm_volumes.specs.Endings.{StillHeld, KeepsFresh, commanding}
 use Rattle.lvm_volumes.specs.Stages.{IfGoesOn, AreUnusedOn, IsLowestMissing, CommandBroke, DiskFailsFirst, ZerosEnd, ClearEnds}
 use Rattle.lvm_volumes.specs.Volumes.{AreZeroed}
 use Rattle.lvm_volumes.proofs.Breaking.{broken, broken_since}
+use Rattle.lvm_volumes.proofs.Fresh.{keeps_all, keeps_same}
 use Rattle.lvm_volumes.proofs.Holding.{still_by, still_then}
 use Rattle.lvm_volumes.proofs.Leaving.{leaves_wider, leaves_then}
 use Rattle.lvm_volumes.proofs.Left.{itself, is_used}
@@ -37,6 +39,11 @@ use Rattle.lvm_volume_plan.specs.PlannedVolume.{AreOfOneGroup}
 not_marked : (a b : Bool) → b ≡ true → IsTrue ((a || false) && not b) → ⊥
 not_marked true b is marked = false≢true (sym (ap not is) ∙ marked)
 not_marked false b is marked = false≢true marked
+
+-- what is stale with fresh marks alone was so before
+was_marked : (a b : Bool) → IsTrue ((a || false) && b) → IsTrue a
+was_marked true b marked = refl
+was_marked false b marked = marked
 
 -- since no copy of a volume is among it
 pub fresh_of : (map : List Pp) (a b : State) → All (IsFree a.core.descriptor) map → Restates [] map a b → All (λ (pp : Pp). IsFalse (calls_stale b.core.status.wanted pp)) map
@@ -60,6 +67,11 @@ module _ (map : List Pp) (p q : ℕ) (a b : State) (settled : IsSettled a.core) 
       let same : b.core.descriptor ≡ a.core.descriptor = ap (λ (c : Core). c.descriptor) done.is in
       still_by (marking [] map) p q a b leaves (λ k none. absurd none) (ap (λ (d : Descriptor). d.id) same) (λ d. ap (λ (g : Descriptor). is_member g d) same) (ap (λ (c : Core). c.cache) done.is)
       done.held (λ none. subst (λ (d : Descriptor). NoneIsLeft d b.core.status) (sym same) (marks.none none))
+
+  -- none becomes stale by it
+  pub fresh_keeps : AreOfOneGroup a.core → HasStated a.core.descriptor a b → Restates [] map a b → KeepsFresh a b
+  fresh_keeps group done marks = keeps_all a.core.descriptor a b (ap (λ (c : Core). c.descriptor) done.is) (λ row other lp at x. one_place a.core.descriptor row other lp at x group.valid)
+      (λ row lp x volume copy stale. ⊎_elim (λ marked. inl (was_marked (calls_stale a.core.status.wanted x) (not (is_among map x)) marked)) (λ passed. inr passed) (marks.only x stale)) refl
 
   -- where it wasn't committed
   pub fresh_break : (why : CommitFault) → MarkEnds p a b (Err why) → ClearEnds map p a b (Err why)
@@ -176,3 +188,10 @@ module _ (map : List Pp) (p q : ℕ) (a b : State) (settled : IsSettled a.core) 
       clear_still still (Err commit.Dark) two = tt
       clear_still still (Err commit.Stuck) two = tt
       clear_still still (Err (commit.WentOff have total)) two = tt
+
+      pub clear_keeps : (r : Result (Unit {0}) CommitFault) → ZerosEnd map q b c r → IfGoesOn r (KeepsFresh a c)
+      clear_keeps (Ok ok) ends = keeps_same a b c ends.same.core (fresh_keeps map p q a b settled leaves group done marks)
+      clear_keeps (Err (commit.DiskFailed disk)) ends = keeps_same a b c ends.same.core (fresh_keeps map p q a b settled leaves group done marks)
+      clear_keeps (Err commit.Dark) ends = tt
+      clear_keeps (Err commit.Stuck) ends = tt
+      clear_keeps (Err (commit.WentOff have total)) ends = tt

@@ -1,5 +1,6 @@
 pub mod Left
 pub mod Places
+pub mod Fresh
 pub mod Leaving
 pub mod Breaking
 pub mod Holding

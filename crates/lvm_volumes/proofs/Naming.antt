@@ -1,17 +1,20 @@
 -- A volume is made: its entries, and the descriptor with it, once its partitions are fresh zeros.
-use Rattle.std.proofs.Common.{◌≡◌, inl, inr, ⊎_elim, ℕ, zero, suc, ◌+◌, ◌*◌, ◌<◌, ◌≤◌, Bool, true, false, List, [], ◌∷◌, ◌++◌, append_assoc, Option, Some, None, Result, Ok, Err, length, get_or, refl, sym, ap, subst, ◌∙◌, arith}
-use Rattle.std.specs.Prelude.{not, IsTrue, IsFalse, IfSome, All, AllPairs, Contains, is_some, find, ◌==◌, if◌then◌else◌}
+use Rattle.std.proofs.Common.{◌≡◌, inl, inr, ℕ, zero, suc, ◌+◌, ◌*◌, ◌<◌, ◌≤◌, Bool, true, false, List, [], ◌∷◌, ◌++◌, append_assoc, Option, Some, None, Result, Ok, Err, length, get_or, refl, sym, ap, subst, ◌∙◌, arith}
+use Rattle.std.specs.Prelude.{IsTrue, IsFalse, IfSome, All, Contains, is_some, find, ◌==◌, if◌then◌else◌}
+use Rattle.std.specs.Option.{option_map_or}
 use Rattle.std.proofs.lemmas.Bool.{eqb-true}
+use Rattle.std.proofs.lemmas.List.Elements.{All-contains}
 use Rattle.lvm_num.specs.declared.place.Pp.{Pp}
 use Rattle.lvm_num.specs.declared.record.Kind.{Kind}
 use Rattle.lvm_num.specs.declared.record.Kind.TheVariants as kind
+use Rattle.lvm_num.specs.declared.descriptor.LvRow.{LvRow}
 use Rattle.lvm_num.specs.declared.descriptor.PvRow.{PvRow}
 use Rattle.lvm_num.specs.declared.descriptor.Descriptor.{Descriptor}
 use Rattle.lvm_num.specs.declared.status.Status.{Status}
 use Rattle.lvm_num.specs.Buffer.{Sector, zero_sector}
 use Rattle.lvm_num.specs.Geometry.{data_start, volume_blocks}
 use Rattle.lvm_num.specs.Record.{record_sectors, slot_start, longest_content}
-use Rattle.lvm_num.specs.Descriptor.{IsMember, is_member, volume_of}
+use Rattle.lvm_num.specs.Descriptor.{IsMember, copies_of, is_member, volume_of}
 use Rattle.lvm_num.specs.Status.{calls_stale}
 use Rattle.lvm_num.specs.Votes.{CanWrite}
 use Rattle.lvm_disk.specs.Device.{Media, image_of}
@@ -19,30 +22,35 @@ use Rattle.lvm_vol.specs.Facts.{Fact, Making, Made}
 use Rattle.lvm_vol.specs.Log.{Log, with_fact}
 use Rattle.lvm_vol.specs.Standing.{Open, Volume, volumes_in}
 use Rattle.lvm_kept.specs.Contents.{contents_of}
+use Rattle.lvm_kept.specs.Group.{IsOneOf}
 use Rattle.lvm_kept.specs.Kept.{Kept}
 use Rattle.lvm_kept.specs.Moments.{Moment}
 use Rattle.lvm_map.specs.FirstFit.{IsAllocated, new_volume}
+use Rattle.lvm_steps.specs.Committing.{DiffersInVolume}
 use Rattle.lvm_steps.proofs.Making.{media_may}
 use Rattle.lvm_status.specs.Update.{members_there}
 use Rattle.lvm_commit.specs.Committed.{ShowsCommitted, HoldsCommitted}
 use Rattle.lvm_commit.specs.LawsOfData.{IsSectorOf}
 use Rattle.lvm_commit.specs.LawsOfVolumes.{VolumeServes}
 use Rattle.lvm_commit.specs.Settling.{NoneIsLeft, MarksLeft}
+use Rattle.lvm_commit.proofs.Copies.{contains, of_map}
 use Rattle.lvm_commit.proofs.Volumes.{volume_begins_in_session, volume_is_made_in_session}
 use Rattle.lvm_core.specs.declared.fault.CommitFault.{CommitFault}
 use Rattle.lvm_core.specs.declared.fault.CommitFault.TheVariants as commit
+use Rattle.lvm_session.specs.Judging.{copies_in}
 use Rattle.lvm_session.specs.State.{Core, State, is_there}
 use Rattle.lvm_core.specs.Settled.{IsSettled}
 use Rattle.lvm_core.specs.Committing.{LetsCommit, HasStated, HasCommitted, CommitEnds}
 use Rattle.lvm_core.specs.Leaves.{NoDescriptor, NoPartition, IsHeldSince, IsOfCommand, Leaves, committing}
 use Rattle.lvm_core.proofs.LeavesLemmas.{enters_one}
-use Rattle.lvm_volumes.specs.Endings.{StillHeld, commanding}
+use Rattle.lvm_volumes.specs.Endings.{StillHeld, KeepsFresh, commanding}
 use Rattle.lvm_volumes.specs.Stages.{IfGoesOn, CommandBroke, with_entry, ClosesBy, CommitsBetween, AreUnusedOn, AreCleared, ClearEnds, making_of, IsNamed, MakeEnds}
 use Rattle.lvm_volumes.specs.Volumes.{AreZeroed}
 use Rattle.lvm_map.proofs.PlaceLemmas.{mib_positive}
 use Rattle.lvm_volumes.proofs.Leaving.{leaves_wider, leaves_then}
 use Rattle.lvm_volumes.proofs.Left.{none_with, fresh_with}
 use Rattle.lvm_volumes.proofs.Breaking.{broken, broken_since, stopped}
+use Rattle.lvm_volumes.proofs.Fresh.{HasOnePlaceEach, one_place_with, one_stays, keeps_others, keeps_then}
 use Rattle.lvm_volumes.proofs.Holding.{still_then}
 use Rattle.lvm_volumes.proofs.Zeros.{zeros_stay}
 use Rattle.lvm_volumes.proofs.Places.{places_of, usable_of, free_of, once_of}
@@ -52,7 +60,7 @@ use Rattle.lvm_volume_plan.specs.declared.new_volume.NewVolume.{NewVolume}
 use Rattle.lvm_volume_plan.specs.declared.new_volume.VolumePlan.{VolumePlan}
 use Rattle.lvm_volume_plan.specs.NewVolume.{row_for, with_volume}
 use Rattle.lvm_volume_plan.specs.PlannedVolume.{IsPlannedVolume}
-use Rattle.lvm_volume_plan.proofs.NewDescriptor.{named_with}
+use Rattle.lvm_volume_plan.proofs.NewDescriptor.{named_with, differs_with}
 
 -- ---- records stand below the data
 
@@ -261,6 +269,30 @@ module _ (v : NewVolume) (plan : VolumePlan) (a : State) (settled : IsSettled a.
             cuts = done.cuts ∙ cleared.cuts;
           }
 
+        -- its partitions are fresh, and each other volume is as it was
+        module _ (done : HasStated plan.next begun c) where
+          named_now : volume_of plan.next plan.number ≡ Some (row_for v plan.number plan.map)
+          named_now = ap (λ (d : Descriptor). volume_of d plan.number) planned.next ∙ named_with a.core.descriptor v plan.number plan.map planned.group.valid planned.lowest planned.order
+
+          fresh_begun : All (λ (pp : Pp). IsFalse (calls_stale b.core.status.wanted pp)) plan.map
+          fresh_begun = subst (λ (s : Status). All (λ (pp : Pp). IsFalse (calls_stale s pp)) plan.map) cleared.settled.committed cleared.fresh
+
+          its_copy_of : (lp : ℕ) (x : Pp) → IsOneOf (copies_in plan.next plan.number lp) x → Contains plan.map x
+          its_copy_of lp x one = contains plan.map x (of_map (row_for v plan.number plan.map) lp x
+              (subst (λ (o : Option LvRow). IsOneOf (option_map_or (λ (row : LvRow). copies_of row lp) o []) x) named_now one))
+
+          differs_now : DiffersInVolume plan.number b.core.descriptor plan.next
+          differs_now = subst (λ (d : Descriptor). DiffersInVolume plan.number d plan.next) (sym same)
+              (subst (DiffersInVolume plan.number a.core.descriptor) (sym planned.next) (differs_with a.core.descriptor v plan.number plan.map planned.group.valid planned.lowest planned.order))
+
+          places_now : HasOnePlaceEach plan.next
+          places_now = subst HasOnePlaceEach (sym planned.next) (one_place_with a.core.descriptor v plan.number plan.map planned.group.valid plan_unused.free plan_unused.once)
+
+          commit_keeps : KeepsFresh begun c
+          commit_keeps = keeps_others plan.next begun c (ap (λ (x : Core). x.descriptor) done.is) places_now (λ row at y volume copy. left.only y) plan.number differs_now
+              (λ lp x one how. one_stays plan.next begun c (ap (λ (x : Core). x.descriptor) done.is) places_now (λ row at y volume copy. left.only y) plan.number lp x one
+              (All-contains (λ (pp : Pp). IsFalse (calls_stale b.core.status.wanted pp)) plan.map x fresh_begun (its_copy_of lp x one)))
+
         -- ---- both
 
         module _ (e : State) where
@@ -271,6 +303,10 @@ module _ (v : NewVolume) (plan : VolumePlan) (a : State) (settled : IsSettled a.
           leaves_so : (x : Result (Unit {0}) CommitFault) → CommitEnds plan.next q begun c x → ClosesBy (Made plan.number) c e x → Leaves (commanding N Z 2) p r a e
           leaves_so (Ok _) ends closes = subst (λ (y : State). Leaves (commanding N Z 2) p r a y) (sym closes) (made_leaves ends)
           leaves_so (Err why) ends closes = subst (λ (y : State). Leaves (commanding N Z 2) p r a y) (sym closes) break_leaves
+
+          keeps_so : KeepsFresh a b → (x : Result (Unit {0}) CommitFault) → CommitEnds plan.next q begun c x → ClosesBy (Made plan.number) c e x → IfGoesOn x (KeepsFresh a e)
+          keeps_so keeps (Ok _) ends closes = subst (λ (y : State). KeepsFresh a y) (sym closes) (keeps_then a b c same keeps (commit_keeps ends.stated))
+          keeps_so keeps (Err why) ends closes = stopped (HasCommitted plan.next begun c) (KeepsFresh a e) q begun c why ends
 
           still_so : (x : Result (Unit {0}) CommitFault) → CommitEnds plan.next q begun c x → ClosesBy (Made plan.number) c e x → IfGoesOn x (StillHeld a e)
           still_so (Ok _) ends closes = subst (λ (y : State). StillHeld a y) (sym closes) (made_still ends)
@@ -285,3 +321,6 @@ module _ (v : NewVolume) (plan : VolumePlan) (a : State) (settled : IsSettled a.
 
         pub make_still : IfGoesOn x (StillHeld a e)
         make_still = still_so r between.mid between.leaves between.left e x between.ends between.closes
+
+        pub make_keeps : KeepsFresh a b → IfGoesOn x (KeepsFresh a e)
+        make_keeps keeps = keeps_so r between.mid between.leaves between.left e keeps x between.ends between.closes

@@ -1,9 +1,10 @@
 -- The partitions that first fit gives a volume.
-use Rattle.std.proofs.Common.{◌≡◌, ◌≢◌, inl, ℕ, zero, suc, ◌+◌, ◌*◌, ◌<◌, ◌≤◌, true, ◌&&◌, List, [], ◌∷◌, length, get_or, take, drop, refl, sym, subst, ◌∙◌, arith}
+use Rattle.std.proofs.Common.{◌≡◌, ◌≢◌, inl, inr, ℕ, zero, suc, ◌+◌, ◌*◌, ◌<◌, ◌≤◌, true, ◌&&◌, List, [], ◌∷◌, length, get_or, take, drop, refl, sym, subst, ◌∙◌, arith}
 use Rattle.std.specs.Prelude.{◌==◌, All, AllPairs, Contains, IsTrue}
-use Rattle.std.proofs.lemmas.Bool.{false≢true}
+use Rattle.std.proofs.lemmas.Bool.{cases_lt, false≢true}
 use Rattle.std.proofs.lemmas.List.{length-take-le, length-drop, get_or-take, get_or-drop, get_or_default}
 use Rattle.std.proofs.lemmas.List.Folds.{list_any_at}
+use Rattle.std.proofs.Math.Nat.{mul-le-mul_right}
 use Rattle.lvm_num.specs.declared.place.Pp.{Pp}
 use Rattle.lvm_num.specs.declared.descriptor.LvRow.{LvRow}
 use Rattle.lvm_num.specs.declared.descriptor.Descriptor.{Descriptor}
@@ -52,3 +53,29 @@ its_first (suc n) (x ∷ xs) e some lt = inl refl
 pub its_copy : (row : LvRow) (lp : ℕ) (e : Pp) → 1 ≤ row.copies → lp * row.copies < length row.map → IsOneOf (copies_of row lp) (get_or row.map (lp * row.copies + 0) e)
 its_copy row lp e some lt =
     subst (λ (p : Pp). IsOneOf (copies_of row lp) p) (get_or-drop (lp * row.copies) row.map 0 e) (its_first row.copies (drop (lp * row.copies) row.map) e some (omega (arith, lt, length-drop (lp * row.copies) row.map)))
+
+in_front : (n : ℕ) (xs : List Pp) (p : Pp) → IsOneOf (take n xs) p → (k : ℕ) × (k < n) × (k < length xs) × (get_or xs k p ≡ p)
+in_front zero xs p one = absurd one
+in_front (suc n) [] p one = absurd one
+in_front (suc n) (x ∷ xs) p (inl here) = (0, omega arith, omega arith, sym here)
+in_front (suc n) (x ∷ xs) p (inr there) = let at = in_front n xs p there in (suc at.0, omega (arith, at.1), omega (arith, at.2), at.3)
+
+lower : (row : LvRow) (a b : ℕ) (p : Pp) → AllPairs (λ (x y : Pp). x ≢ y) row.map → a < b → IsOneOf (copies_of row a) p → IsOneOf (copies_of row b) p → ⊥
+lower row a b p apart less one other =
+    let le : suc a * row.copies ≤ b * row.copies = mul-le-mul_right row.copies less in
+    let first = in_front row.copies (drop (a * row.copies) row.map) p one in
+    let last = in_front row.copies (drop (b * row.copies) row.map) p other in
+    let long = length-drop (b * row.copies) row.map in
+    let at_first : get_or row.map (a * row.copies + first.0) p ≡ p = sym (get_or-drop (a * row.copies) row.map first.0 p) ∙ first.3 in
+    let at_last : get_or row.map (b * row.copies + last.0) p ≡ p = sym (get_or-drop (b * row.copies) row.map last.0 p) ∙ last.3 in
+    apart (a * row.copies + first.0) (b * row.copies + last.0) p (omega (arith, le, first.1)) (omega (arith, long, last.2)) (at_first ∙ sym at_last)
+
+-- two logical partitions share no copy
+pub one_partition : (row : LvRow) (a b : ℕ) (p : Pp) → AllPairs (λ (x y : Pp). x ≢ y) row.map → IsOneOf (copies_of row a) p → IsOneOf (copies_of row b) p → a ≡ b
+one_partition row a b p apart one other = elim (cases_lt a b) [
+  | inl less ↦ absurd (lower row a b p apart less one other)
+  | inr more ↦ elim (cases_lt b a) [
+    | inl greater ↦ absurd (lower row b a p apart greater other one)
+    | inr equal ↦ omega (arith, more, equal)
+  ]
+]

@@ -1,6 +1,6 @@
 -- A volume is removed: its entries, and the descriptor without it.
 use Rattle.std.proofs.Common.{◌≡◌, inl, inr, ℕ, List, [], ◌∷◌, ◌++◌, append_assoc, Option, Some, None, Result, Ok, Err, refl, sym, ap, subst, ◌∙◌}
-use Rattle.std.specs.Prelude.{IsTrue, IfSome}
+use Rattle.std.specs.Prelude.{IfSome}
 use Rattle.lvm_num.specs.declared.descriptor.Descriptor.{Descriptor}
 use Rattle.lvm_disk.specs.Device.{Media, image_of}
 use Rattle.lvm_vol.specs.declared.entry.Vol.TheVariants.{Lv}
@@ -8,9 +8,11 @@ use Rattle.lvm_vol.specs.Facts.{Fact, Removing, Removed}
 use Rattle.lvm_vol.specs.Log.{with_fact}
 use Rattle.lvm_kept.specs.Contents.{contents_of}
 use Rattle.lvm_kept.specs.Moments.{Moment}
+use Rattle.lvm_steps.specs.Committing.{DiffersInVolume}
 use Rattle.lvm_steps.proofs.Entering.{goes_in_span}
 use Rattle.lvm_commit.specs.LawsOfVolumes.{VolumeServes}
 use Rattle.lvm_commit.specs.Settling.{NoneIsLeft, MarksLeft}
+use Rattle.lvm_commit.proofs.Copies.{one_place}
 use Rattle.lvm_commit.proofs.Volumes.{volume_is_gone_in_session}
 use Rattle.lvm_core.specs.declared.fault.CommitFault.{CommitFault}
 use Rattle.lvm_core.specs.declared.fault.CommitFault.TheVariants as commit
@@ -19,11 +21,12 @@ use Rattle.lvm_core.specs.Settled.{IsSettled}
 use Rattle.lvm_core.specs.Committing.{LetsCommit, HasStated, HasCommitted, CommitEnds}
 use Rattle.lvm_core.specs.Leaves.{NoPartition, Leaves, committing}
 use Rattle.lvm_core.proofs.LeavesLemmas.{enters_one}
-use Rattle.lvm_num.specs.Descriptor.{is_member}
-use Rattle.lvm_volumes.specs.Endings.{StillHeld, commanding}
+use Rattle.lvm_num.specs.Descriptor.{IsValid, is_member, volume_of}
+use Rattle.lvm_volumes.specs.Endings.{StillHeld, KeepsFresh, commanding}
 use Rattle.lvm_volumes.specs.Stages.{IfGoesOn, CommandBroke, with_entry, ClosesBy, CommitsBetween, IsUnnamed, RemoveEnds}
 use Rattle.lvm_volumes.specs.Volumes.{removing}
 use Rattle.lvm_volumes.proofs.Breaking.{broken, broken_since, stopped}
+use Rattle.lvm_volumes.proofs.Fresh.{HasOnePlaceEach, no_copy, keeps_others}
 use Rattle.lvm_volumes.proofs.Holding.{still_then}
 use Rattle.lvm_volumes.proofs.Leaving.{leaves_then}
 use Rattle.lvm_volumes.proofs.Serving.{old_serves}
@@ -31,7 +34,7 @@ use Rattle.lvm_volumes.proofs.Left.{none_left_without}
 use Rattle.lvm_volumes.proofs.Entering.{settled_entered, entry_leaves, entry_still, commit_among, commit_still, leaves_committed}
 use Rattle.lvm_volume_plan.specs.NewVolume.{without_volume}
 use Rattle.lvm_volume_plan.specs.PlannedVolume.{IsWithout}
-use Rattle.lvm_volume_plan.proofs.OldDescriptor.{unnamed_without}
+use Rattle.lvm_volume_plan.proofs.OldDescriptor.{valid_without, unnamed_without, differs_without}
 
 module _ (lv : ℕ) (next : Descriptor) (a : State) (settled : IsSettled a.core) (without : IsWithout lv a.core next) where
   -- the session once the removal is entered
@@ -96,7 +99,7 @@ module _ (lv : ℕ) (next : Descriptor) (a : State) (settled : IsSettled a.core)
       ends_leaves : Leaves (commanding N NoPartition 0) q q b gone
       ends_leaves = entry_leaves N NoPartition q b (Removed (Lv lv)) (λ moment. tt) tt (λ run first held only span.
           volume_is_gone_in_session run first b.device b.core.history.facts b.core.descriptor b.core.status.committed (is_there b.core) lv span done.settled.votes (leaves_committed b done.ready run first held (only (enters_one b.core.history.facts (Removed (Lv lv)) refl)))
-          (subst (λ (d : Descriptor). Rattle.lvm_num.specs.Descriptor.volume_of d lv ≡ None) (sym (named ∙ without.is)) (unnamed_without a.core.descriptor lv)))
+          (subst (λ (d : Descriptor). volume_of d lv ≡ None) (sym (named ∙ without.is)) (unnamed_without a.core.descriptor lv)))
 
       same_members : (d : ℕ) → is_member b.core.descriptor d ≡ is_member a.core.descriptor d
       same_members d = ap (λ (x : Descriptor). is_member x d) (named ∙ without.is)
@@ -106,6 +109,14 @@ module _ (lv : ℕ) (next : Descriptor) (a : State) (settled : IsSettled a.core)
 
       gone_still : StillHeld a gone
       gone_still = still_then a b gone still_all (entry_still b (Removed (Lv lv)))
+
+      -- each other volume is as it was
+      places_now : HasOnePlaceEach next
+      places_now row other lp at x = one_place next row other lp at x (subst IsValid (sym without.is) (valid_without a.core.descriptor lv without.group.valid))
+
+      gone_keeps : KeepsFresh a gone
+      gone_keeps = keeps_others next a gone named places_now (λ row at x volume copy. left.only x) lv (subst (DiffersInVolume lv a.core.descriptor) (sym without.is) (differs_without a.core.descriptor lv))
+          (λ lp x one how. absurd (no_copy next lv lp x (ap (λ (d : Descriptor). volume_of d lv) without.is ∙ unnamed_without a.core.descriptor lv) one))
 
       gone_unnamed : IsUnnamed lv next a gone
       gone_unnamed = record {
@@ -125,6 +136,10 @@ module _ (lv : ℕ) (next : Descriptor) (a : State) (settled : IsSettled a.core)
       leaves_so (Ok _) ends closes = subst (λ (y : State). Leaves (commanding N NoPartition 1) p q a y) (sym closes) (gone_leaves ends)
       leaves_so (Err why) ends closes = subst (λ (y : State). Leaves (commanding N NoPartition 1) p q a y) (sym closes) break_leaves
 
+      keeps_so : (x : Result (Unit {0}) CommitFault) → CommitEnds next p begun b x → ClosesBy (Removed (Lv lv)) b e x → IfGoesOn x (KeepsFresh a e)
+      keeps_so (Ok _) ends closes = subst (λ (y : State). KeepsFresh a y) (sym closes) (gone_keeps ends)
+      keeps_so (Err why) ends closes = stopped (HasCommitted next begun b) (KeepsFresh a e) p begun b why ends
+
       still_so : (x : Result (Unit {0}) CommitFault) → CommitEnds next p begun b x → ClosesBy (Removed (Lv lv)) b e x → IfGoesOn x (StillHeld a e)
       still_so (Ok _) ends closes = subst (λ (y : State). StillHeld a y) (sym closes) (gone_still ends)
       still_so (Err why) ends closes = stopped (HasCommitted next begun b) (StillHeld a e) p begun b why ends
@@ -138,3 +153,6 @@ module _ (lv : ℕ) (next : Descriptor) (a : State) (settled : IsSettled a.core)
 
     pub remove_still : IfGoesOn x (StillHeld a e)
     remove_still = still_so p q between.mid between.leaves between.left e x between.ends between.closes
+
+    pub remove_keeps : IfGoesOn x (KeepsFresh a e)
+    remove_keeps = keeps_so p q between.mid between.leaves between.left e x between.ends between.closes

@@ -1,16 +1,20 @@
 -- How a command on the volumes of a session ends, and what it may do.
-use Rattle.std.specs.Prelude.{◌≡◌, ℕ, [], Result, Ok, Err}
+use Rattle.std.specs.Prelude.{◌≡◌, ◌⊎◌, ℕ, true, not, [], None, Result, Ok, Err}
+use Rattle.std.specs.List.{list_any}
 use Rattle.lvm_num.specs.declared.place.Pp.{Pp}
 use Rattle.lvm_num.specs.declared.descriptor.Descriptor.{Descriptor}
+use Rattle.lvm_num.specs.Descriptor.{volume_of}
 use Rattle.lvm_disk.specs.Counts.{Rose}
 use Rattle.lvm_disk.specs.Device.{IsReady}
 use Rattle.lvm_vol.specs.Log.{Log, cut_log}
+use Rattle.lvm_kept.specs.Group.{IsOneOf}
 use Rattle.lvm_kept.specs.Moments.{Moment}
 use Rattle.lvm_write.specs.Written.{IsDarkened, IsGivenUp}
 use Rattle.lvm_commit.specs.LawsOfVolumes.{IsOnlyGroupOn, IsOnlyGroupSince}
 use Rattle.lvm_commit.specs.Settling.{NoneIsLeft, HasLostQuorum}
 use Rattle.lvm_session.specs.declared.open.Power.TheVariants as power
 use Rattle.lvm_session.specs.State.{Core, State}
+use Rattle.lvm_session.specs.Judging.{copies_in, is_wanted_stale}
 use Rattle.lvm_core.specs.Held.{IsHeld, AreNotesHome}
 use Rattle.lvm_core.specs.Leaves.{Scope, NoPartition, EntersVolumes}
 use Rattle.lvm_volume_plan.specs.declared.fault.GroupFault.{GroupFault}
@@ -76,6 +80,14 @@ pub record StillHeld (old new : State) : Type 0 where
   pub notes : AreNotesHome old.device old.core → AreNotesHome new.device new.core
   pub only : IsHeld old.device old.core → IsOnlyGroupOn old.device old.core.descriptor.id → IsOnlyGroupOn new.device new.core.descriptor.id
   pub left : NoneIsLeft old.core.descriptor old.core.status → NoneIsLeft new.core.descriptor new.core.status
+
+-- some copy of the logical partition isn't wanted stale
+abbrev pub HasFresh : Core → ℕ → ℕ → Type 0
+HasFresh core lv lp = list_any (λ (p : Pp). not (is_wanted_stale core p)) (copies_in core.descriptor lv lp) ≡ true
+
+-- each logical partition of a volume that is new, or that had a fresh copy, has one
+abbrev pub KeepsFresh : State → State → Type 0
+KeepsFresh old new = (lv lp : ℕ) (p : Pp) → IsOneOf (copies_in new.core.descriptor lv lp) p → (volume_of old.core.descriptor lv ≡ None) ⊎ HasFresh old.core lv lp → HasFresh new.core lv lp
 
 -- ---- whatever the answer
 

@@ -1,5 +1,5 @@
 -- What the making and the removal of a volume answer.
-use Rattle.std.specs.Prelude.{◌≡◌, ◌⊎◌, ℕ, ◌-◌, ◌<◌, List, Result, Ok, Err, IsTrue, IsFalse, All, Contains}
+use Rattle.std.specs.Prelude.{◌≡◌, ◌⊎◌, ℕ, ◌<◌, List, Result, Ok, Err, IsTrue, IsFalse, All, Contains}
 use Rattle.lvm_num.specs.declared.place.Pp.{Pp}
 use Rattle.lvm_num.specs.declared.descriptor.Descriptor.{Descriptor}
 use Rattle.lvm_num.specs.Geometry.{volume_blocks}
@@ -9,8 +9,7 @@ use Rattle.lvm_vol.specs.declared.entry.Vol.TheVariants.{Lv}
 use Rattle.lvm_vol.specs.Facts.{Making, Made, Removing, Removed}
 use Rattle.lvm_vol.specs.Log.{Log, with_fact}
 use Rattle.lvm_map.specs.FirstFit.{is_on}
-use Rattle.lvm_session.specs.State.{Core, State, is_there, votes_there}
-use Rattle.lvm_session.specs.declared.open.Power.TheVariants as power
+use Rattle.lvm_session.specs.State.{Core, State, is_there}
 use Rattle.lvm_core.specs.Zeros.{IsZeroed}
 use Rattle.lvm_core.specs.Leaves.{Scope, NoPartition}
 use Rattle.lvm_volumes.specs.Endings.{CommandDarkened, CommandWentOff, CommandStuck, CommandFailed, commanding}

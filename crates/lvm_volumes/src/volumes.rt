@@ -12,7 +12,7 @@ ghost use Rattle.lvm_core.specs.Settled.{IsSettled, HasSpareNumbers};
 ghost use Rattle.lvm_core.specs.Entering.{IsOfVolume};
 ghost use Rattle.lvm_volume_plan.specs.Faults.{TakesCommands};
 ghost use Rattle.lvm_volume_plan.specs.PlannedVolume.{AreOfOneGroup, IsWithout};
-ghost use Rattle.lvm_volumes.specs.Endings.{IfOn, StillHeld, commanding};
+ghost use Rattle.lvm_volumes.specs.Endings.{IfOn, StillHeld, KeepsFresh, commanding};
 ghost use Rattle.lvm_volumes.specs.Stages.{IfGoesOn, AreUnusedOn, IsLowestMissing, ZerosEnd, ClearEnds, MakeEnds, MayMake, RemoveEnds, CommitsBetween};
 ghost use Rattle.lvm_volumes.specs.Volumes.{MklvGives, RmlvGives, to_make, to_remove};
 
@@ -59,6 +59,7 @@ pub fn mklv<S: Shelf>(
     ensures gives { MklvGives (record { name = name; copies = copies; mode = mode; policy = policy; lps = lps }) patience.old.left (state_of S.device driver.old) (state_of S.device driver.new) result }
     ensures settled { TakesCommands driver.old.1 → IfOn result (IsSettled driver.new.1) }
     ensures held { IfOn result (StillHeld (state_of S.device driver.old) (state_of S.device driver.new)) }
+    ensures fresh { IfOn result (KeepsFresh (state_of S.device driver.old) (state_of S.device driver.new)) }
     // whatever the answer
     ensures leaves { Leaves (to_make (record { name = name; copies = copies; mode = mode; policy = policy; lps = lps }) driver.old.1) patience.old.left patience.new.left (state_of S.device driver.old) (state_of S.device driver.new) }
 {
@@ -93,6 +94,7 @@ pub fn rmlv<S: Shelf>(
     ensures gives { RmlvGives lv patience.old.left (state_of S.device driver.old) (state_of S.device driver.new) result }
     ensures settled { TakesCommands driver.old.1 → IfOn result (IsSettled driver.new.1) }
     ensures held { IfOn result (StillHeld (state_of S.device driver.old) (state_of S.device driver.new)) }
+    ensures fresh { IfOn result (KeepsFresh (state_of S.device driver.old) (state_of S.device driver.new)) }
     // whatever the answer
     ensures leaves { Leaves (to_remove lv driver.old.1) patience.old.left patience.new.left (state_of S.device driver.old) (state_of S.device driver.new) }
 {
@@ -111,6 +113,7 @@ fn make<S: Shelf>(
     requires may { MayMake driver.old.1 plan }
     ensures ends { MakeEnds plan patience.old.left (state_of S.device driver.old) (state_of S.device driver.new) result }
     ensures held { IfGoesOn result (StillHeld (state_of S.device driver.old) (state_of S.device driver.new)) }
+    ensures fresh { IfGoesOn result (KeepsFresh (state_of S.device driver.old) (state_of S.device driver.new)) }
     ensures leaves { Leaves (commanding (λ next. next ≡ plan.next) (Contains plan.map) 2) patience.old.left patience.new.left (state_of S.device driver.old) (state_of S.device driver.new) }
 {
     clear(driver, plan.map.as_slice(), patience)?;
@@ -134,6 +137,7 @@ fn remove<S: Shelf>(
     requires without { IsWithout lv driver.old.1 next }
     ensures ends { RemoveEnds lv next patience.old.left (state_of S.device driver.old) (state_of S.device driver.new) result }
     ensures held { IfGoesOn result (StillHeld (state_of S.device driver.old) (state_of S.device driver.new)) }
+    ensures fresh { IfGoesOn result (KeepsFresh (state_of S.device driver.old) (state_of S.device driver.new)) }
     ensures leaves { Leaves (commanding (λ d. d ≡ next) NoPartition 1) patience.old.left patience.new.left (state_of S.device driver.old) (state_of S.device driver.new) }
 {
     let vol = Vol::Lv(lv);
@@ -174,6 +178,7 @@ fn clear<S: Shelf>(
     requires unused { AreUnusedOn driver.old.1 map.now }
     ensures ends { ClearEnds map.now patience.old.left (state_of S.device driver.old) (state_of S.device driver.new) result }
     ensures held { IfGoesOn result (StillHeld (state_of S.device driver.old) (state_of S.device driver.new)) }
+    ensures fresh { IfGoesOn result (KeepsFresh (state_of S.device driver.old) (state_of S.device driver.new)) }
     ensures leaves { Leaves (commanding NoDescriptor (Contains map.now) 1) patience.old.left patience.new.left (state_of S.device driver.old) (state_of S.device driver.new) }
 {
     driver.set_status(&[], map, patience)?;

@@ -1,4 +1,4 @@
-use Rattle.std.proofs.Common.{◌≡◌, false, Err, subst}
+use Rattle.std.proofs.Common.{◌≡◌, false, subst}
 use Rattle.std.specs.Prelude.{All}
 use Rattle.std.proofs.lemmas.Result.{err_from_is_err_and}
 use Rattle.lvm_num.specs.declared.place.Pp.{Pp}
@@ -8,10 +8,10 @@ use Rattle.lvm_core.specs.declared.fault.CommitFault.{CommitFault}
 use Rattle.lvm_session.specs.State.{State}
 use Rattle.lvm_core.specs.State.{state_of}
 use Rattle.lvm_core.specs.Committing.{HasStated}
-use Rattle.lvm_volumes.specs.Endings.{StillHeld}
+use Rattle.lvm_volumes.specs.Endings.{StillHeld, KeepsFresh}
 use Rattle.lvm_volumes.specs.Stages.{IsLowestMissing}
 use Rattle.lvm_volumes.proofs.Breaking.{stopped}
-use Rattle.lvm_volumes.proofs.Clearing.{fresh_among, fresh_still, fresh_break, missing_fails, still_unused, clear_end, clear_leaves, clear_still}
+use Rattle.lvm_volumes.proofs.Clearing.{fresh_among, fresh_still, fresh_keeps, fresh_break, missing_fails, still_unused, clear_end, clear_leaves, clear_still, clear_keeps}
 use Rattle.lvm_volumes.proofs.volumes.clear.Goals as goal
 
 pub set_status-requires-clause-unused : goal.set_status-requires-clause-unused
@@ -29,6 +29,7 @@ returns-in_err-set_status g c =
     rw (e.1, e.2) (record {
       ends = fresh_break map p q a b c.requires.settled c.set_status.ensures.leaves why c.in_err-set_status.ensures.ends;
       held = stopped (HasStated a.core.descriptor a b) (StillHeld a b) p a b why c.in_err-set_status.ensures.ends;
+      fresh = stopped (HasStated a.core.descriptor a b) (KeepsFresh a b) p a b why c.in_err-set_status.ensures.ends;
       leaves = fresh_among map p q a b c.requires.settled c.set_status.ensures.leaves;
     })
 
@@ -45,6 +46,7 @@ returns-in-Some g c =
     record {
       ends = missing_fails map p q a b c.requires.settled c.requires.unused c.requires.group done s.marks s.leaves c.in-Some.disk low;
       held = fresh_still map p q a b c.requires.settled s.leaves done s.marks;
+      fresh = fresh_keeps map p q a b c.requires.settled s.leaves c.requires.group done s.marks;
       leaves = fresh_among map p q a b c.requires.settled s.leaves;
     }
 
@@ -73,5 +75,6 @@ returns g c =
     record {
       ends = clear_end map p q a b c.requires.settled c.requires.unused c.requires.group done s.marks s.leaves none n c.zero_all.result z.ends;
       held = clear_still map p q a b c.requires.settled c.requires.unused c.requires.group done s.marks s.leaves none n still c.zero_all.result z.held;
+      fresh = clear_keeps map p q a b c.requires.settled c.requires.unused c.requires.group done s.marks s.leaves none n c.zero_all.result z.ends;
       leaves = clear_leaves map p q a b c.requires.settled c.requires.unused c.requires.group done s.marks s.leaves none n c.zero_all.new.patience.left still z.leaves;
     }

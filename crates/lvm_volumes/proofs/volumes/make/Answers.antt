@@ -1,4 +1,4 @@
-use Rattle.std.proofs.Common.{◌≡◌, ◌≤◌, ℕ, List, [], Err, sym, ap, subst, ◌∙◌, arith}
+use Rattle.std.proofs.Common.{◌≤◌, List, [], Err, sym, ap, subst, ◌∙◌, arith}
 use Rattle.std.specs.Prelude.{Contains}
 use Rattle.std.proofs.lemmas.Result.{err_from_is_err_and}
 use Rattle.lvm_num.specs.declared.place.Pp.{Pp}
@@ -12,7 +12,7 @@ use Rattle.lvm_core.specs.Leaves.{NoDescriptor, Leaves}
 use Rattle.lvm_volumes.specs.Endings.{commanding}
 use Rattle.lvm_volumes.specs.Stages.{AreUnusedOn, AreCleared, ClearEnds}
 use Rattle.lvm_volumes.proofs.Entering.{many_bound, has_numbers}
-use Rattle.lvm_volumes.proofs.Naming.{plan_unused, clear_break_leaves, clear_break, make_ends, make_leaves, make_still}
+use Rattle.lvm_volumes.proofs.Naming.{plan_unused, clear_break_leaves, clear_break, make_ends, make_leaves, make_still, make_keeps}
 use Rattle.lvm_volumes.proofs.volumes.make.Goals as goal
 use Rattle.lvm_volume_plan.specs.declared.new_volume.NewVolume.{NewVolume}
 use Rattle.lvm_volume_plan.specs.declared.new_volume.VolumePlan.{VolumePlan}
@@ -39,6 +39,7 @@ returns-in_err-clear g c =
     rw (e.1, e.2) (record {
       ends = clear_break c.requires.may.0 plan a c.requires.settled c.requires.may.1 p q b cleared why (subst (λ (m : List Pp). ClearEnds m p a b (Err why)) c.as_slice.ensures c.in_err-clear.ensures.ends);
       held = c.in_err-clear.ensures.held;
+      fresh = c.in_err-clear.ensures.fresh;
       leaves = clear_break_leaves c.requires.may.0 plan a c.requires.settled c.requires.may.1 p q b cleared;
     })
 
@@ -80,5 +81,6 @@ returns g c =
     record {
       ends = make_ends v plan a c.requires.settled planned p q b leaves cleared still r e c.commit_between.result c.commit_between.ensures;
       held = make_still v plan a c.requires.settled planned p q b leaves cleared still r e c.commit_between.result c.commit_between.ensures;
+      fresh = make_keeps v plan a c.requires.settled planned p q b leaves cleared still r e c.commit_between.result c.commit_between.ensures c.in_ok-clear.ensures.fresh;
       leaves = make_leaves v plan a c.requires.settled planned p q b leaves cleared still r e c.commit_between.result c.commit_between.ensures;
     }

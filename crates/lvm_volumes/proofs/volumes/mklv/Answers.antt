@@ -4,9 +4,10 @@ use Rattle.lvm_core.specs.declared.fault.CommitFault.{CommitFault}
 use Rattle.lvm_session.specs.State.{State}
 use Rattle.lvm_core.specs.State.{state_of}
 use Rattle.lvm_core.specs.Settled.{IsSettled}
-use Rattle.lvm_volumes.specs.Endings.{StillHeld}
+use Rattle.lvm_volumes.specs.Endings.{StillHeld, KeepsFresh}
 use Rattle.lvm_volumes.specs.Volumes.{to_make}
 use Rattle.lvm_volumes.proofs.Answering.{refused_mklv, always_on, on_fault, made_leaves, make_settled, make_given, make_fails}
+use Rattle.lvm_volumes.proofs.Fresh.{keeps_none}
 use Rattle.lvm_volumes.proofs.Holding.{still_none}
 use Rattle.lvm_volumes.proofs.Leaving.{leaves_none}
 use Rattle.lvm_volumes.proofs.volumes.mklv.Goals as goal
@@ -26,6 +27,7 @@ returns-in_err-plan g c =
       gives = refused_mklv v p s why c.in_err-plan.ensures.refused;
       settled = λ takes. always_on {A = ℕ} (Err why) (IsSettled s.core) (c.requires.settled takes);
       held = always_on {A = ℕ} (Err why) (StillHeld s s) (still_none s);
+      fresh = always_on {A = ℕ} (Err why) (KeepsFresh s s) (keeps_none s);
       leaves = leaves_none (to_make v s.core) p s;
     })
 
@@ -44,6 +46,7 @@ returns-in_err-make g c =
       gives = make_fails v plan a planned p b why ends;
       settled = λ takes. on_fault ℕ why (IsSettled b.core) (make_settled v plan a planned p b why ends);
       held = on_fault ℕ why (StillHeld a b) c.in_err-make.ensures.held;
+      fresh = on_fault ℕ why (KeepsFresh a b) c.in_err-make.ensures.fresh;
       leaves = made_leaves v plan a planned p c.make.new.patience.left b c.make.ensures.leaves;
     })
 
@@ -58,5 +61,6 @@ returns g c =
       gives = make_given v plan a planned b c.in_ok-make.ensures.ends;
       settled = λ takes. c.in_ok-make.ensures.ends.settled;
       held = c.in_ok-make.ensures.held;
+      fresh = c.in_ok-make.ensures.fresh;
       leaves = made_leaves v plan a planned c.args.patience.now.left c.make.new.patience.left b c.make.ensures.leaves;
     }

@@ -3,7 +3,7 @@ use Rattle.lvm_num.specs.declared.descriptor.Descriptor.{Descriptor}
 use Rattle.lvm_session.specs.State.{State}
 use Rattle.lvm_core.specs.State.{state_of}
 use Rattle.lvm_volumes.proofs.Entering.{has_numbers}
-use Rattle.lvm_volumes.proofs.Removing.{remove_ends, remove_leaves, remove_still}
+use Rattle.lvm_volumes.proofs.Removing.{remove_ends, remove_leaves, remove_still, remove_keeps}
 use Rattle.lvm_volumes.proofs.volumes.remove.Goals as goal
 use Rattle.lvm_volume_plan.specs.PlannedVolume.{IsWithout}
 
@@ -23,5 +23,6 @@ returns g c =
     record {
       ends = remove_ends c.args.lv c.args.next a c.requires.settled without p q e c.commit_between.result c.commit_between.ensures;
       held = remove_still c.args.lv c.args.next a c.requires.settled without p q e c.commit_between.result c.commit_between.ensures;
+      fresh = remove_keeps c.args.lv c.args.next a c.requires.settled without p q e c.commit_between.result c.commit_between.ensures;
       leaves = remove_leaves c.args.lv c.args.next a c.requires.settled without p q e c.commit_between.result c.commit_between.ensures;
     }

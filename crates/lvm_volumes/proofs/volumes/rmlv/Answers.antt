@@ -4,9 +4,10 @@ use Rattle.lvm_core.specs.declared.fault.CommitFault.{CommitFault}
 use Rattle.lvm_session.specs.State.{State}
 use Rattle.lvm_core.specs.State.{state_of}
 use Rattle.lvm_core.specs.Settled.{IsSettled}
-use Rattle.lvm_volumes.specs.Endings.{StillHeld}
+use Rattle.lvm_volumes.specs.Endings.{StillHeld, KeepsFresh}
 use Rattle.lvm_volumes.specs.Volumes.{to_remove}
 use Rattle.lvm_volumes.proofs.Answering.{refused_rmlv, always_on, on_fault, removed_leaves, remove_settled, remove_given, remove_fails}
+use Rattle.lvm_volumes.proofs.Fresh.{keeps_none}
 use Rattle.lvm_volumes.proofs.Holding.{still_none}
 use Rattle.lvm_volumes.proofs.Leaving.{leaves_none}
 use Rattle.lvm_volumes.proofs.volumes.rmlv.Goals as goal
@@ -23,6 +24,7 @@ returns-in_err-next g c =
       gives = refused_rmlv c.args.lv p s why c.in_err-next.ensures.refused;
       settled = λ takes. always_on {A = Unit {0}} (Err why) (IsSettled s.core) (c.requires.settled takes);
       held = always_on {A = Unit {0}} (Err why) (StillHeld s s) (still_none s);
+      fresh = always_on {A = Unit {0}} (Err why) (KeepsFresh s s) (keeps_none s);
       leaves = leaves_none (to_remove c.args.lv s.core) p s;
     })
 
@@ -39,6 +41,7 @@ returns-in_err-remove g c =
       gives = remove_fails c.args.lv c.in_ok-next.next a without p b why ends;
       settled = λ takes. on_fault (Unit {0}) why (IsSettled b.core) (remove_settled c.args.lv c.in_ok-next.next a without p b why ends);
       held = on_fault (Unit {0}) why (StillHeld a b) c.in_err-remove.ensures.held;
+      fresh = on_fault (Unit {0}) why (KeepsFresh a b) c.in_err-remove.ensures.fresh;
       leaves = removed_leaves c.args.lv c.in_ok-next.next a without p c.remove.new.patience.left b c.remove.ensures.leaves;
     })
 
@@ -51,5 +54,6 @@ returns g c =
       gives = remove_given c.args.lv c.in_ok-next.next a without b c.in_ok-remove.ensures.ends;
       settled = λ takes. c.in_ok-remove.ensures.ends.settled;
       held = c.in_ok-remove.ensures.held;
+      fresh = c.in_ok-remove.ensures.fresh;
       leaves = removed_leaves c.args.lv c.in_ok-next.next a without c.args.patience.now.left c.remove.new.patience.left b c.remove.ensures.leaves;
     }
