@@ -1,8 +1,4 @@
 use Rattle.std.proofs.Common.{◌≡◌, refl, subst, arith}
-use Rattle.lvm_session.specs.declared.answers.Turned.{Turned}
-use Rattle.lvm_session.specs.declared.answers.Turned.TheVariants as turned
-use Rattle.lvm_session.specs.Turns.{TurnMakes}
-use Rattle.lvm_turn_answers.specs.Telling.{TurnTells}
 use Rattle.lvm_driver.specs.Answers.{state_of}
 use Rattle.lvm_ranges.specs.Stepping.{AllMoved, Moves}
 use Rattle.lvm_ranges.proofs.Turning.{with_turn}
@@ -25,11 +21,9 @@ returns-in_default g c =
     let old = state_of device c.loop-moved.driver in
     let new = state_of device c.turn.new.self in
     let made = c.turn.ensures in
-    let makes : TurnMakes old new c.in_default.how = subst (TurnMakes old new) c.in_default.how-is made.makes in
-    let tells : TurnTells old new c.in_default.how = subst (TurnTells old new) c.in_default.how-is made.tells in
-    let on = with_turn first old new c.in_default.how c.loop-moved.invariant.on c.is_sound.ensures makes tells made.runs in
+    let on = with_turn first old new c.turn.result c.loop-moved.invariant.on c.is_sound.ensures made.makes made.tells made.runs in
     record {
-      ends = last_step first old new c.loop-moved.moved c.loop-moved.invariant c.in_default.how c.args.turns c.loop-moved-test.true makes tells (subst (λ (h : Turned). h ≡ turned.Moved → ⊥) c.in_default.how-is c.in_default.not-Moved);
+      ends = last_step first old new c.loop-moved.moved c.loop-moved.invariant c.turn.result c.args.turns c.loop-moved-test.true made.makes made.tells c.in_default.not-Moved;
       table = on.table;
       runs = on.runs;
     }
