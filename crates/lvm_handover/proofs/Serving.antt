@@ -68,7 +68,7 @@ its_own (owner.Note disk) = eq-eqb disk disk refl
 its_own owner.Copy = refl
 
 -- where nobody has a transfer out, none is the session's
-none_flying : (core : Core) → AreOwned core → ((who : Owner) → flies core who ≡ false) → core.flying ≡ []
+pub none_flying : (core : Core) → AreOwned core → ((who : Owner) → flies core who ≡ false) → core.flying ≡ []
 none_flying core owned none = by core.flying (λ who. owned who ∙ ap count_if (none who))
   where
     by : (rows : List Flown) → ((who : Owner) → count_by (λ (f : Flown). same_owner who f.owner) rows ≡ 0) → rows ≡ []
@@ -79,7 +79,7 @@ none_flying core owned none = by core.flying (λ who. owned who ∙ ap count_if 
         let its : count_if (same_owner row.owner row.owner) ≡ 1 = ap count_if (its_own row.owner) in
         absurd (omega (arith, one, more, its))
 
-nobody_flies : (core : Core) → core.requests ≡ [] → core.copy ≡ None → ((disk : ℕ) → has core.status.writes.started disk ≡ false) → ((disk : ℕ) → flight_on core.cache disk ≡ None) → (who : Owner) → flies core who ≡ false
+pub nobody_flies : (core : Core) → core.requests ≡ [] → core.copy ≡ None → ((disk : ℕ) → has core.status.writes.started disk ≡ false) → ((disk : ℕ) → flight_on core.cache disk ≡ None) → (who : Owner) → flies core who ≡ false
 nobody_flies core requests copy started notes (owner.Data id target) = ap (λ (os : List Open). list_any (λ (o : Open). o.request.id == id && target_flies target o) os) requests
 nobody_flies core requests copy started notes (owner.Status disk) = started disk
 nobody_flies core requests copy started notes (owner.Note disk) = ap is_some (notes disk)

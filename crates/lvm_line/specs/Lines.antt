@@ -1,5 +1,5 @@
 -- What one line of a script does.
-use Rattle.std.specs.Prelude.{◌≡◌, ℕ, List, Option, Some, None, Result, Ok, Err, length}
+use Rattle.std.specs.Prelude.{◌≡◌, ℕ, List, Option, Some, None, Result, Ok, Err, IfSome, length}
 use Rattle.lvm_disk.specs.Device.{Device, HasSectors}
 use Rattle.lvm_disk.specs.declared.shelf.Arrange.TheVariants as arrange
 use Rattle.lvm_io.specs.Count.{next_count}
@@ -14,12 +14,12 @@ use Rattle.lvm_stage.specs.Ends.{CommandEnds}
 use Rattle.lvm_group_lines.specs.Groups.{MkvgDoes, VaryonDoes, VaryoffDoes}
 use Rattle.lvm_group_lines.specs.Listings.{GroupShows, VolumeShows, DiskShows}
 use Rattle.lvm_stage.specs.Moments.{GoesOn, Role, Aside, OfGroup, OfRequests}
-use Rattle.lvm_range_lines.specs.Ranges.{RdDoes, WrDoes, PostDoes}
-use Rattle.lvm_range_lines.specs.Steps.{StepDoes}
-use Rattle.lvm_range_lines.specs.Waits.{WaitDoes}
+use Rattle.lvm_range_lines.specs.Requests.{RdDoes, WrDoes, PostDoes}
+use Rattle.lvm_range_lines.specs.Stepping.{StepDoes}
+use Rattle.lvm_range_lines.specs.Waiting.{WaitDoes}
 use Rattle.lvm_stage.specs.Replies.{IsRefused}
 use Rattle.lvm_disk_lines.specs.Shelves.{ArrangeDoes, CutDoes}
-use Rattle.lvm_stage.specs.State.{State}
+use Rattle.lvm_stage.specs.State.{IsBetween, State}
 use Rattle.lvm_volume_lines.specs.Volumes.{MklvDoes, RmlvDoes, wanted}
 use Rattle.lvm_stage.specs.declared.reply.Refusal.TheVariants as refusal
 use Rattle.lvm_stage.specs.declared.reply.Reply.{Reply}
@@ -97,9 +97,11 @@ pub record CommandIsDone {S : Type 0} (device : S → Device) (room : Room) (c :
   pub ends : CommandEnds device (λ log. CommandDoes log room c) (IsOrder (Ok (Some c))) (role_of (Ok (Some c))) old new answer before after
   pub asked : now ≡ asked_after (Ok (Some c)) asks
 
--- A line joins two states, of a shelf whose sectors are 512 bytes each before and after it.
+-- A line joins two states, of a session of this run, and of a shelf whose sectors are 512 bytes each. Before it nothing stands against it.
 pub record IsLine (log : Log) (room : Room) (line : List ℕ) (answer : Reply) (old new : State) : Type 0 where
   pub does : LineDoes log room (line_of line) old new answer
   pub goes : GoesOn log.run (role_of (line_of line)) answer old new
   pub orders : (IsOrder (line_of line) → ⊥) → new.moment.device.orders ≡ old.moment.device.orders
   pub whole : HasSectors old.moment.device
+  pub between : IsBetween old.moment old.session old.posts
+  pub named : IfSome old.session (λ core. core.history.run ≡ log.run)

@@ -8,6 +8,7 @@ pub mod Concluding
 pub mod Stopping
 pub mod Devices
 pub mod Transfers
+pub mod Quiet
 pub mod Begun
 pub mod Making
 pub mod Varying

@@ -6,30 +6,27 @@ use Rattle.lvm_vol.specs.Facts.{Fact, Cut}
 use Rattle.lvm_vol.specs.Log.{Log}
 use Rattle.lvm_parse.specs.declared.command.Command.TheVariants as command
 use Rattle.lvm_parse.specs.Grammar.{line_of}
-use Rattle.lvm_kept.specs.Moments.{Moment}
-use Rattle.lvm_steps.specs.Moments.{Begins, IsEarlier, Keeps}
+use Rattle.lvm_steps.specs.Moments.{Begins, IsEarlier}
 use Rattle.lvm_stamps.specs.Behind.{IsBehind}
 use Rattle.lvm_core.specs.declared.parts.Room.{Room}
 use Rattle.lvm_core.specs.Leaves.{MayBeFound}
 use Rattle.lvm_line.specs.Lines.{IsLine, role_of}
-use Rattle.lvm_stage.specs.Moments.{IsAlone}
 use Rattle.lvm_stage.specs.Replies.{IsStuck}
-use Rattle.lvm_stage.specs.State.{State, IsTimely, StandsBy}
+use Rattle.lvm_stage.specs.State.{State, IsTimely}
 use Rattle.lvm_tie.specs.Spares.{LeavesDescriptors}
 use Rattle.lvm_stage.specs.declared.reply.Reply.{Reply}
 use Rattle.lvm_stage.specs.declared.reply.Reply.TheVariants as reply
 use Rattle.lvm_top.specs.declared.status.ExitStatus.TheVariants as ended
 use Rattle.lvm_top.specs.Run.{Run, IsRun, RanAlone}
 use Rattle.lvm_top.specs.Script.{Script, StaysAlone, entry_state}
-use Rattle.lvm_top.specs.Standing.{MayHaveCommitted, MayStand, MayStandAtEnd, HasFewDisks}
+use Rattle.lvm_top.specs.Standing.{MayHaveCommitted, MayStand, MayStandAtEnd, HasFewDisks, StoodBefore}
 
 -- Whatever may be found after a line might be found before it, or is what the line may have committed; where no transfer that is out goes to a slot of descriptors
--- and something was heard of all, the clock is ahead of each crash image, and the disks stand by a session after some earlier history.
+-- and something was heard of all, the clock is ahead of each crash image, and the disks stand by a session.
 abbrev pub LineFindsNoMore : Type 0
 LineFindsNoMore =
     (log : Log) (room : Room) (line : List ℕ) (answer : Reply) (old new : State) → IsLine log room line answer old new
-    → HasFewDisks old.moment.device → LeavesDescriptors old.moment.device → (IsStuck answer → ⊥) → IsTimely log.run old
-    → (past : List Fact) (first : Moment) → Keeps log.run first old.moment → StandsBy log.run first old → Begins log.run past first → IsAlone (role_of (line_of line)) old new
+    → HasFewDisks old.moment.device → LeavesDescriptors old.moment.device → (IsStuck answer → ⊥) → IsTimely log.run old → StoodBefore log.run (role_of (line_of line)) old new
     → (id : ℕ) (k : Descriptor) → MayBeFound new.moment.device id k → MayBeFound old.moment.device id k ⊎ MayHaveCommitted (line_of line) answer old new id k
 
 -- A state from which a script may begin: no group is on, no transfer that is out goes to a slot of descriptors, the clock is ahead of each crash image of the

@@ -1,21 +1,25 @@
 -- Which descriptors may be found after a line, and after the lines of a script.
-use Rattle.std.specs.Prelude.{◌≡◌, ◌⊎◌, ◌≤◌, ℕ, Bool, true, false, List, Option, Some, Result, Ok, IsSomeAnd, length}
+use Rattle.std.specs.Prelude.{◌≡◌, ◌⊎◌, ◌≤◌, ℕ, Bool, true, false, List, Option, Some, Result, Ok, IfSome, IsSomeAnd, length}
 use Rattle.lvm_num.specs.declared.descriptor.Descriptor.{Descriptor}
 use Rattle.lvm_disk.specs.Device.{Device}
+use Rattle.lvm_vol.specs.Facts.{Fact}
 use Rattle.lvm_vol.specs.Log.{Log}
+use Rattle.lvm_kept.specs.Moments.{Moment}
+use Rattle.lvm_steps.specs.Moments.{Begins}
 use Rattle.lvm_parse.specs.declared.command.Command.{Command}
 use Rattle.lvm_parse.specs.declared.command.Command.TheVariants as command
 use Rattle.lvm_operands.specs.declared.rest.Misfit.{Misfit}
 use Rattle.lvm_parse.specs.Grammar.{line_of}
 use Rattle.lvm_core.specs.declared.parts.Room.{Room}
+use Rattle.lvm_core.specs.Held.{IsHeld}
 use Rattle.lvm_core.specs.Looking.{IsNumberOf}
 use Rattle.lvm_session.specs.State.{Core}
 use Rattle.lvm_group.specs.NewGroup.{new_group}
 use Rattle.lvm_volumes.specs.Volumes.{IsWith}
 use Rattle.lvm_core.specs.Leaves.{MayBeFound}
 use Rattle.lvm_group_lines.specs.Groups.{asked_for}
-use Rattle.lvm_stage.specs.Moments.{IsBrokenOff}
-use Rattle.lvm_stage.specs.State.{IsAtRest, State}
+use Rattle.lvm_stage.specs.Moments.{IsAlone, IsBrokenOff, Role}
+use Rattle.lvm_stage.specs.State.{IsAtRest, StandsBy, State}
 use Rattle.lvm_volume_lines.specs.Volumes.{wanted}
 use Rattle.lvm_stage.specs.declared.reply.Reply.{Reply}
 use Rattle.lvm_stage.specs.declared.reply.Reply.TheVariants as reply
@@ -42,6 +46,16 @@ pub record MayHaveCommitted (read : Result (Option Command) Misfit) (answer : Re
   pub tried : (answer ≡ reply.Ok) ⊎ IsBrokenOff answer
   pub own : id ≡ k.id
   pub is : IsToCommit read old new k
+
+-- the disks of a session hold what it says is committed
+abbrev pub AreHeld : State → Type 0
+AreHeld s = IfSome s.session (λ core. IsHeld s.moment.device core)
+
+-- What stands before a line that acts on the session so: nothing is under way, and the disks hold what the session says; or they stand by it after some earlier
+-- history, and no other group has a quorum where that is asked.
+pub data StoodBefore (run : ℕ) (role : Role) (old new : State) : Type 0 where
+  HeldAtRest : IsAtRest old → AreHeld old → StoodBefore run role old new
+  StandsSince : (past : List Fact) (first : Moment) → StandsBy run first old → Begins run past first → IsAlone role old new → StoodBefore run role old new
 
 -- the commands after which a group is on: it was made, varied on, or given a volume more or less
 abbrev pub is_group_command : Command → Bool
