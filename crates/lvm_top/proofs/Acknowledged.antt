@@ -37,7 +37,8 @@ use Rattle.lvm_stage.specs.State.{State, log_with}
 use Rattle.lvm_volume_lines.specs.Volumes.{StaysOn, NoGroupForMklv, BusyMklv, UndrainedMklv, MakesVolume, MklvFails, NoGroupForRmlv, BusyRmlv, UndrainedRmlv, NoVolumeForRmlv, RemovesVolume, RmlvFails, wanted}
 use Rattle.lvm_stage.specs.declared.reply.Reply.{Reply}
 use Rattle.lvm_stage.specs.declared.reply.Reply.TheVariants as reply
-use Rattle.lvm_top.specs.Standing.{IsToCommit, StoodBefore, is_group_command, is_acknowledged, StandsOf, IsCommitted, OfAnother}
+use Rattle.lvm_volume_plan.specs.declared.new_volume.NewVolume.{NewVolume}
+use Rattle.lvm_top.specs.Standing.{IsDrained, IsToCommit, StoodBefore, is_group_command, is_acknowledged, StandsOf, IsCommitted, OfAnother}
 use Rattle.lvm_top.proofs.Volumes.{held_mid}
 use Rattle.lvm_volume_plan.specs.NewVolume.{without_volume}
 
@@ -66,7 +67,7 @@ pub record LeavesOn (read : Result (Option Command) Misfit) (old new : State) : 
   pub own : (k : Descriptor) → IsToCommit read old new k → k.id ≡ core.descriptor.id
 
 -- a line by which a group comes on
-begun_by : (old new : State) (core : Core) → old.session ≡ None → new.session ≡ Some core → IfNone old.session (IfSome new.session (HasBegunHeld new.moment.device)) → HasBegunHeld new.moment.device core
+pub begun_by : (old new : State) (core : Core) → old.session ≡ None → new.session ≡ Some core → IfNone old.session (IfSome new.session (HasBegunHeld new.moment.device)) → HasBegunHeld new.moment.device core
 begun_by old new core off on begins =
     subst (λ (o : Option Core). IfSome o (HasBegunHeld new.moment.device)) on (subst (λ (o : Option Core). IfNone o (IfSome new.session (HasBegunHeld new.moment.device))) off begins)
 
@@ -76,6 +77,12 @@ made_is w room patience was old left core (RefusedAtOnce refused is first shelf 
 made_is w room patience was old left core (StayedOut refused is may out) = absurd (cc (is))
 made_is w room patience was old left core (WentQuiet may once) =
     ap (λ (c : Core). c.descriptor) once.goes.core_is ∙ once.goes.parts.descriptor ∙ ap (λ (sizes : List ℕ). new_group sizes w) (ends_only once.quiesces.ends).sizes
+
+-- a descriptor with a volume more is of the group that is on
+with_id : (old : State) (core : Core) → old.session ≡ Some core → (w : NewVolume) (k : Descriptor) → (c : Core) × (mid : Core) × IsDrained old c mid × IsWith w mid k → k.id ≡ core.descriptor.id
+with_id old core some w k (c, mid, drained, is) =
+    let same : c ≡ core = let e = sym drained.on ∙ some in cc e in
+    ap (λ (d : Descriptor). d.id) is.2.2 ∙ ap (λ (d : Descriptor). d.id) drained.descriptor ∙ ap (λ (c : Core). c.descriptor.id) same
 
 -- the session once its line has handed it on
 handed_on : (left : Session) (old new : State) (stays : StaysOn left old new) → IsSettled left.core → IsReady left.device → IsHeld left.device left.core → HasBegunHeld new.moment.device stays.core
@@ -114,8 +121,7 @@ module _ (log : Log) (room : Room) (old new : State) (leaves : LeavesDescriptors
     on = done.leaves.session;
     begun = handed_on done.left old new done.leaves (done.rests refl).0 (done.rests refl).1 (done.held refl (held_mid log.run old new leaves named stood core left mid some drains));
     own = λ k is.
-        ap (λ (d : Descriptor). d.id) is.3.2.2 ∙ (ap (λ (d : Descriptor). d.id) is.2.descriptor ∙ ap (λ (c : Core). c.descriptor.id) (cc (sym is.2.on ∙ some)) ∙ sym (ap (λ (d : Descriptor). d.id) drains.runs.leaves.keeps.descriptor))
-        ∙ sym (ap (λ (c : Core). c.descriptor.id) (done.leaves.is) ∙ ap (λ (c : Core). c.descriptor.id) done.gives.is);
+        with_id old core some (wanted name copies mode policy lps) k is ∙ sym (ap (λ (d : Descriptor). d.id) drains.runs.leaves.keeps.descriptor) ∙ sym (ap (λ (c : Core). c.descriptor.id) (done.leaves.is) ∙ ap (λ (c : Core). c.descriptor.id) done.gives.is);
   }
   by_command (command.Mklv name copies mode policy group lps) acked stood (MklvFails core left mid why some on drains done says) = absurd (cc (says))
   by_command (command.Rmlv name) acked stood (NoGroupForRmlv none is) = absurd (let e = is.0 in cc (e))

@@ -47,7 +47,7 @@ off_still run end exit on (NoneIsServed core some empty same) off = same
 off_still run end exit on (IsServed core some vols named facts out) off = absurd (let e = sym some ∙ off in cc e)
 
 -- where nothing was heard of a transfer no group is on
-stuck_ends : {log : Log} {room : Room} {mid last : State} {done : List (List ℕ)} {said : List Reply} {front : List ℕ} (ends : Ends log room mid last done said front) → EndsStuck ends → last.session ≡ None
+pub stuck_ends : {log : Log} {room : Room} {mid last : State} {done : List (List ℕ)} {said : List Reply} {front : List ℕ} (ends : Ends log room mid last done said front) → EndsStuck ends → last.session ≡ None
 stuck_ends (AtLine same) stuck = absurd stuck
 stuck_ends {log = log} {room = room} {mid = mid} {last = last} (InLine line answer said front rest says split it) stuck = stuck_is_off log room line mid last answer it stuck
 
@@ -121,7 +121,7 @@ concluded run end exit (IsServed core some vols named facts (TurnsAreMade last m
 -- ---- a run
 
 -- whether nothing was heard of a transfer
-how_ended : (s : ExitStatus) → (s ≡ ended.Stuck) ⊎ (s ≡ ended.Stuck → ⊥)
+pub how_ended : (s : ExitStatus) → (s ≡ ended.Stuck) ⊎ (s ≡ ended.Stuck → ⊥)
 how_ended ended.Stuck = inl refl
 how_ended ended.Well = inr (λ e. cc (e))
 how_ended ended.Refusals = inr (λ e. cc (e))
@@ -141,7 +141,7 @@ ends_between (AtLine same) heard between = subst (λ (s : State). IsBetween s.mo
 ends_between (InLine line answer said front rest says split it) heard between = it.goes.between heard
 
 -- no transfer is out, so none goes to a slot of descriptors
-none_flies : (device : Device) → device.flights ≡ [] → LeavesDescriptors device
+pub none_flies : (device : Device) → device.flights ≡ [] → LeavesDescriptors device
 none_flies device none d at value flies = absurd (subst (λ (l : List Flight). IsInFlight l d at value) none flies)
 
 pub entry_between : (device : Device) (run : ℕ) → IsReady device → IsBetween (record { device = device; facts = [] }) None []
@@ -169,7 +169,7 @@ module _ (r : Run) (ran : IsRun r) where
   its : (r.status ≡ ended.Stuck → ⊥) → Concluded r.named ran.end (record { device = r.exit; facts = facts_of r.history })
   its heard = concluded r.named ran.end (record { device = r.exit; facts = facts_of r.history }) ran.concluded.concludes (between heard)
 
-  stuck_still : r.status ≡ ended.Stuck → record { device = r.exit; facts = facts_of r.history } ≡ ran.end.moment
+  pub stuck_still : r.status ≡ ended.Stuck → record { device = r.exit; facts = facts_of r.history } ≡ ran.end.moment
   stuck_still stuck = off_still r.named ran.end.moment (record { device = r.exit; facts = facts_of r.history }) ran.end.session ran.concluded.concludes (stuck_ends ran.lines.ends (ran.stuck stuck))
 
   timely : IsBehind r.named r.entry → IsTimely r.named (entry_state r.entry r.named)

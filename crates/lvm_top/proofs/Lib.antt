@@ -16,5 +16,6 @@ pub mod Volumes
 pub mod Groups
 pub mod Lines
 pub mod Acknowledged
+pub mod Modes
 pub mod Scripts
 pub mod OneGroup

@@ -1,6 +1,11 @@
 -- What is found after a volume was to be made or removed: what was found before, or what was to be committed.
-use Rattle.std.proofs.Common.{◌≡◌, ◌⊎◌, inl, inr, ⊎_elim, ℕ, [], ◌∷◌, List, Bool, false, Option, Some, IfSome, Result, Ok, Err, refl, sym, ap, subst, ◌∙◌}
-use Rattle.std.specs.Prelude.{IsSomeAnd}
+use Rattle.std.proofs.Common.{◌≡◌, ◌⊎◌, inl, inr, ⊎_elim, ℕ, [], ◌∷◌, List, Bool, false, Option, Some, None, IfSome, Result, Ok, Err, refl, sym, ap, subst, ◌∙◌}
+use Rattle.std.specs.Prelude.{IsSome, IsSomeAnd}
+use Rattle.lvm_num.specs.Votes.{all_disks}
+use Rattle.lvm_disk.specs.Device.{Media, image_of}
+use Rattle.lvm_steps.proofs.Making.{media_may}
+use Rattle.lvm_write.proofs.Writing.{told_at}
+use Rattle.lvm_commit.specs.Committed.{HoldsCommitted}
 use Rattle.lvm_num.specs.declared.descriptor.Descriptor.{Descriptor}
 use Rattle.lvm_num.specs.declared.descriptor.LvRow.{LvRow}
 use Rattle.lvm_num.specs.declared.descriptor.Mode.{Mode}
@@ -13,7 +18,7 @@ use Rattle.lvm_steps.specs.Moments.{Begins}
 use Rattle.lvm_core.specs.Held.{IsHeld}
 use Rattle.lvm_core.specs.Looking.{IsNumberOf}
 use Rattle.lvm_core.specs.Leaves.{MayBeFound}
-use Rattle.lvm_session.specs.State.{Core, State as Session, state}
+use Rattle.lvm_session.specs.State.{Core, State as Session, is_there, state}
 use Rattle.lvm_driver.specs.declared.drain.DrainFault.{DrainFault}
 use Rattle.lvm_driver.specs.declared.drain.DrainFault.TheVariants as drain_fault
 use Rattle.lvm_tie.specs.Spares.{LeavesDescriptors}
@@ -35,6 +40,10 @@ use Rattle.lvm_volume_plan.specs.declared.fault.GroupFault.{GroupFault}
 use Rattle.lvm_volume_plan.specs.declared.fault.GroupFault.TheVariants as fault
 use Rattle.lvm_volume_plan.specs.NewVolume.{without_volume}
 
+pub some_of : {X : Type 0} (o : Option X) → IsSome o → (x : X) × (o ≡ Some x)
+some_of (Some x) some = (x, refl)
+some_of None some = absurd (cc (some))
+
 module _ (run : ℕ) (old new : State) (leaves : LeavesDescriptors old.moment.device) (named : IfSome old.session (λ core. core.history.run ≡ run)) (stood : StoodBefore run OfGroup old new) where
   -- ---- before the command
 
@@ -45,12 +54,15 @@ module _ (run : ℕ) (old new : State) (leaves : LeavesDescriptors old.moment.de
   of_session : {P : Core → Type 0} (core : Core) → old.session ≡ Some core → IfSome old.session P → P core
   of_session {P} core some holds = subst (λ (o : Option Core). IfSome o P) some holds
 
-  -- after them the disks hold what the session says
-  pub held_mid : (core : Core) (left : ℕ) (mid : Session) → old.session ≡ Some core → Drains core old left mid → IsHeld mid.device mid.core
-  held_mid core left mid some drains = by_stood stood
+  -- after them the disks hold what the session says, and are told where they were
+  pub held_so : (core : Core) (left : ℕ) (mid : Session) → old.session ≡ Some core → Drains core old left mid → IsHeld mid.device mid.core × (IsSome old.moment.device.media → IsSome mid.device.media)
+  held_so core left mid some drains = by_stood stood
     where
-      by_stood : StoodBefore run OfGroup old new → IsHeld mid.device mid.core
-      by_stood (HeldAtRest rest held) = subst (λ (s : Session). IsHeld s.device s.core) (sym (drains.still rest)) (of_session core some held)
+      same_told : mid ≡ state old.moment.device core → IsSome old.moment.device.media → IsSome mid.device.media
+      same_told same told = subst (λ (s : Session). IsSome s.device.media) (sym same) told
+
+      by_stood : StoodBefore run OfGroup old new → IsHeld mid.device mid.core × (IsSome old.moment.device.media → IsSome mid.device.media)
+      by_stood (HeldAtRest rest held) = (subst (λ (s : Session). IsHeld s.device s.core) (sym (drains.still rest)) (of_session core some held), same_told (drains.still rest))
       by_stood (StandsSince past first stands begins alone) = by_volumes core.descriptor.lvs refl
         where
           after : (before : List Fact) → Begins run before first → StandsAfter before old.moment.device core
@@ -59,26 +71,39 @@ module _ (run : ℕ) (old new : State) (leaves : LeavesDescriptors old.moment.de
           good : IsGood core.history.run first (state old.moment.device core) → IsTied past mid
           good tied = (drains.runs.leaves.good first tied).0 drains.settled.power past (subst (λ (n : ℕ). Begins n past first) (sym (of_session core some named)) begins)
 
-          by_volumes : (lvs : List LvRow) → core.descriptor.lvs ≡ lvs → IsHeld mid.device mid.core
-          by_volumes [] none = subst (λ (s : Session). IsHeld s.device s.core) (sym (drains.empty none)) ((after past begins).empty none).held
+          by_volumes : (lvs : List LvRow) → core.descriptor.lvs ≡ lvs → IsHeld mid.device mid.core × (IsSome old.moment.device.media → IsSome mid.device.media)
+          by_volumes [] none = (subst (λ (s : Session). IsHeld s.device s.core) (sym (drains.empty none)) ((after past begins).empty none).held, same_told (drains.empty none))
           by_volumes (row ∷ rows) has =
               let some_volume : core.descriptor.lvs ≡ [] → ⊥ = λ none. let e = sym has ∙ none in cc e in
               let tied : IsTied past mid = good (λ on before begun. (after before (subst (λ (n : ℕ). Begins n before first) (of_session core some named) begun)).tied some_volume) in
-              tied_holds past mid tied (rests mid tied.orderly.sound drains.settled) drains.settled.votes ((drains.runs.leaves.descriptors leaves).spares ((after past begins).spares some_volume))
+              (tied_holds past mid tied (rests mid tied.orderly.sound drains.settled) drains.settled.votes ((drains.runs.leaves.descriptors leaves).spares ((after past begins).spares some_volume)),
+              λ told. subst IsSome (sym tied.told) refl)
+
+  pub held_mid : (core : Core) (left : ℕ) (mid : Session) → old.session ≡ Some core → Drains core old left mid → IsHeld mid.device mid.core
+  held_mid core left mid some drains = (held_so core left mid some drains).0
+
+  -- so the group of the session was found before
+  pub found_before : IsSome old.moment.device.media → (core : Core) (left : ℕ) (mid : Session) → old.session ≡ Some core → Drains core old left mid → MayBeFound old.moment.device core.descriptor.id core.descriptor
+  found_before told core left mid some drains =
+      let so = held_so core left mid some drains in
+      let m = some_of mid.device.media (so.1 told) in
+      let shown = told_at mid.device.media (λ (x : Media). HoldsCommitted (image_of mid.device.sizes x) mid.core.descriptor mid.core.status.committed (is_there mid.core) mid.core.status.stamp mid.core.homes) m.0 m.1 so.0 in
+      let found : MayBeFound mid.device mid.core.descriptor.id mid.core.descriptor = (image_of mid.device.sizes m.0, media_may mid.device m.0 m.1, (all_disks, shown.shows.found)) in
+      drained_nothing core left mid drains core.descriptor.id core.descriptor (subst (λ (d : Descriptor). MayBeFound mid.device d.id d) drains.runs.leaves.keeps.descriptor found)
 
   -- what is told of the session of the command
   pub drained : (core : Core) (left : ℕ) (mid : Session) → old.session ≡ Some core → Drains core old left mid → IsDrained old core mid.core
   drained core left mid some drains = record { on = some; descriptor = drains.runs.leaves.keeps.descriptor; still = λ rest. ap (λ (s : Session). s.core) (drains.still rest) }
 
   -- where the turns end otherwise
-  undrained_nothing : (core : Core) (why : DrainFault) (answer : Reply) → IsUndrained core old new why answer → NothingNew old.moment.device new.moment.device
+  pub undrained_nothing : (core : Core) (why : DrainFault) (answer : Reply) → IsUndrained core old new why answer → NothingNew old.moment.device new.moment.device
   undrained_nothing core why answer un =
       then_nothing old.moment.device un.end.device new.moment.device (runs_nothing (state old.moment.device core) un.end leaves un.runs) (relit_nothing un.end.device new.moment.device un.over.lit)
 
   -- ---- the command
 
   -- what it finds, whatever became of it
-  done_finds : {Gives : Session → Session → Type 0} {IsNext : Core → Descriptor → Type 0} {IsPlace : Core → Pp → Type 0} {over : Bool} (core : Core) (left : ℕ) (mid : Session) → old.session ≡ Some core → Drains core old left mid → IsDone Gives IsNext IsPlace over mid old new
+  pub done_finds : {Gives : Session → Session → Type 0} {IsNext : Core → Descriptor → Type 0} {IsPlace : Core → Pp → Type 0} {over : Bool} (core : Core) (left : ℕ) (mid : Session) → old.session ≡ Some core → Drains core old left mid → IsDone Gives IsNext IsPlace over mid old new
       → (id : ℕ) (k : Descriptor) → MayBeFound new.moment.device id k → MayBeFound old.moment.device id k ⊎ ((id ≡ k.id) × IsNext mid.core k)
   done_finds core left mid some drains done id k it = ⊎_elim
       (λ before. inl (drained_nothing core left mid drains id k before))
@@ -86,7 +111,7 @@ module _ (run : ℕ) (old new : State) (leaves : LeavesDescriptors old.moment.de
       (done.finds (held_mid core left mid some drains) id k it)
 
   -- where a session goes on at which nothing has happened
-  idle_nothing : (core : Core) (left : ℕ) (mid end : Session) → Drains core old left mid → end ≡ mid → StaysOn end old new → NothingNew old.moment.device new.moment.device
+  pub idle_nothing : (core : Core) (left : ℕ) (mid end : Session) → Drains core old left mid → end ≡ mid → StaysOn end old new → NothingNew old.moment.device new.moment.device
   idle_nothing core left mid end drains same stays =
       then_nothing old.moment.device mid.device new.moment.device (drained_nothing core left mid drains) (same_nothing mid.device new.moment.device (stays.device ∙ ap (λ (s : Session). s.device) same))
 
