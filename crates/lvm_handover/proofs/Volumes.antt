@@ -1,51 +1,48 @@
 -- A session is sound with requests after a volume was made or removed.
-use Rattle.std.proofs.Common.{◌≡◌, ◌==◌, ◌⊎◌, inl, inr, ⊎_elim, ℕ, ◌+◌, ◌-◌, ◌≤◌, ◌<◌, ◌^◌, Bool, true, false, ◌&&◌, ◌||◌, not, List, [], ◌∷◌, Option, Some, None, if◌then◌else◌, refl, sym, ◌∙◌, ap, subst, arith}
-use Rattle.std.specs.Prelude.{All, Contains, IsTrue, IsFalse, Result, Ok, Err, find, unwrap_or}
+use Rattle.std.proofs.Common.{◌≡◌, ◌==◌, ◌⊎◌, inl, inr, ⊎_elim, ℕ, ◌-◌, ◌≤◌, ◌^◌, Bool, true, false, ◌&&◌, ◌||◌, not, List, [], ◌∷◌, Option, Some, None, if◌then◌else◌, refl, sym, ◌∙◌, ap, subst, arith}
+use Rattle.std.specs.Prelude.{IsTrue, IsFalse, Ok, Err, find}
 use Rattle.std.specs.List.{list_any}
 use Rattle.std.specs.Option.{option_map_or}
 use Rattle.std.proofs.lemmas.List.Elements.{All-contains}
-use Rattle.std.proofs.lemmas.Bool.{eq-eqb, eqb-true}
+use Rattle.std.proofs.lemmas.Bool.{eqb-true}
 use Rattle.lvm_num.specs.declared.descriptor.Descriptor.{Descriptor}
 use Rattle.lvm_num.specs.declared.descriptor.LvRow.{LvRow}
 use Rattle.lvm_num.specs.declared.place.Pp.{Pp}
-use Rattle.lvm_num.specs.declared.status.Status.{Status}
 use Rattle.lvm_num.specs.Descriptor.{IsPartitionOf, IsValid, copies_of, is_member, volume_of}
 use Rattle.lvm_num.specs.Geometry.{volume_blocks}
-use Rattle.lvm_num.specs.Status.{calls_missing, calls_stale}
+use Rattle.lvm_num.specs.Status.{calls_stale}
 use Rattle.lvm_disk.specs.Counts.{NoneFalls}
 use Rattle.lvm_disk.proofs.Rising.{none_falls_at_once}
 use Rattle.lvm_vol.specs.declared.entry.Vol.TheVariants.{Lv}
-use Rattle.lvm_vol.specs.Facts.{Fact, Made, Making, Removed, Removing}
+use Rattle.lvm_vol.specs.Facts.{Made, Making, Removed, Removing}
 use Rattle.lvm_vol.specs.Log.{Log, with_fact}
 use Rattle.lvm_vol.specs.Order.{Ordered}
 use Rattle.lvm_vol.proofs.Order.{ordered-push}
 use Rattle.lvm_kept.specs.Group.{IsAlike, IsOneOf}
-use Rattle.lvm_map.specs.FirstFit.{IsAllocated, new_volume}
 use Rattle.lvm_status.specs.Update.{members_there}
-use Rattle.lvm_commit.specs.Settling.{NoneIsLeft, SpendsNumbers, many_there}
+use Rattle.lvm_commit.specs.Settling.{NoneIsLeft, SpendsNumbers}
 use Rattle.lvm_commit.proofs.Copies.{contains, of_map}
 use Rattle.lvm_rest.proofs.Rows.{row_is_volume}
 use Rattle.lvm_next.proofs.Building.{copy_is_placed, is_member_of}
-use Rattle.lvm_session.specs.State.{Core, State, is_there, state}
-use Rattle.lvm_session.specs.Judging.{copies_in, is_missing, is_settled, is_stale, is_wanted_stale}
+use Rattle.lvm_session.specs.State.{Core, State, is_there}
+use Rattle.lvm_session.specs.Judging.{copies_in, is_missing, is_settled, is_wanted_stale}
 use Rattle.lvm_session.specs.Causes.{is_held_stale}
 use Rattle.lvm_session.specs.Left.{updates_left}
 use Rattle.lvm_session.specs.Marks.{is_among}
 use Rattle.lvm_session.specs.Sound.{IsGoing, IsSound, may_be_fresh, stays_fresh}
 use Rattle.lvm_core.specs.Leaves.{KeepsStatus, Leaves, NoPartition, WasLeftBehind}
 use Rattle.lvm_core.specs.Settled.{IsSettled}
-use Rattle.lvm_tie.proofs.Words.{clash, or_true}
-use Rattle.lvm_volume_plan.specs.declared.fault.GroupFault.{GroupFault}
+use Rattle.lvm_tie.proofs.Words.{or_true}
 use Rattle.lvm_volume_plan.specs.declared.fault.GroupFault.TheVariants as fault
 use Rattle.lvm_volume_plan.specs.declared.new_volume.NewVolume.{NewVolume}
-use Rattle.lvm_volume_plan.specs.Faults.{HasPlaces, HasSpareRoom, IsRefused, RefusesMklv, RefusesRmlv}
-use Rattle.lvm_volume_plan.specs.NewVolume.{IsLowestFree, row_for, with_volume, without_volume}
+use Rattle.lvm_volume_plan.specs.Faults.{HasSpareRoom}
+use Rattle.lvm_volume_plan.specs.NewVolume.{row_for, with_volume, without_volume}
 use Rattle.lvm_volume_plan.proofs.Sublists.{one_filter, one_insert}
-use Rattle.lvm_volumes.specs.Endings.{CommandFailed, HasFresh, IfOn, KeepsFresh, StillHeld}
-use Rattle.lvm_volumes.specs.Volumes.{IsChosen, IsVolumeMade, IsVolumeRemoved, IsWith, MakingFails, MklvGives, RmlvGives, making, removing, to_make, to_remove}
+use Rattle.lvm_volumes.specs.Endings.{HasFresh, KeepsFresh, StillHeld}
+use Rattle.lvm_volumes.specs.Volumes.{IsChosen, IsVolumeMade, IsVolumeRemoved, IsWith, MakingFails, making, removing, to_make, to_remove}
 use Rattle.lvm_volumes.proofs.Entering.{many_bound}
 use Rattle.lvm_volumes.proofs.Places.{places_of}
-use Rattle.lvm_handover.specs.Serving.{GoesOnWith, IsCommanded, MayServe, MklvServes, RmlvServes, StaysSound}
+use Rattle.lvm_handover.specs.Serving.{GoesOnWith, MayServe, MklvServes, RmlvServes, StaysSound}
 use Rattle.lvm_handover.proofs.Entailing.{few_updates, none_left, passes}
 use Rattle.lvm_handover.proofs.Serving.{commands_serve}
 

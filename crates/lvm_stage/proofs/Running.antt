@@ -1,6 +1,6 @@
 -- Where turns and calls of a session lead from one state to the next: it goes on, or is closed.
-use Rattle.std.proofs.Common.{◌≡◌, ◌≢◌, ◌==◌, ◌&&◌, ◌||◌, ◌≤◌, ◌<◌, ◌+◌, ℕ, Bool, true, false, List, [], ◌∷◌, Option, Some, None, IfSome, IfNone, length, refl, sym, ◌∙◌, ap, subst, arith}
-use Rattle.std.specs.List.{list_any, AllByRecursion}
+use Rattle.std.proofs.Common.{◌≡◌, ◌≢◌, ◌==◌, ◌&&◌, ◌||◌, ◌≤◌, ◌+◌, ℕ, Bool, true, false, List, [], ◌∷◌, Option, Some, None, IfSome, IfNone, length, refl, sym, ◌∙◌, ap, subst, arith}
+use Rattle.std.specs.List.{AllByRecursion}
 use Rattle.lvm_num.specs.Buffer.{Buffer}
 use Rattle.lvm_num.specs.declared.descriptor.Descriptor.{Descriptor}
 use Rattle.lvm_disk.specs.Device.{Device, Flight, IsInFlight}
@@ -9,15 +9,15 @@ use Rattle.lvm_disk.specs.Paths.{DeviceStep, Path, Here}
 use Rattle.lvm_disk.proofs.Paths.{last-path}
 use Rattle.lvm_vol.specs.Facts.{Fact}
 use Rattle.lvm_vol.specs.Legal.{IsLater}
-use Rattle.lvm_vol.specs.Log.{is_open}
 use Rattle.lvm_kept.specs.Moments.{Moment}
 use Rattle.lvm_steps.specs.Moments.{Begins, Keeps}
 use Rattle.lvm_steps.specs.Requests.{at}
 use Rattle.lvm_steps.proofs.Spans.{keeps_steps}
-use Rattle.lvm_stamps.specs.Behind.{IsAhead, beginning_at}
+use Rattle.lvm_stamps.specs.Behind.{beginning_at}
 use Rattle.lvm_stamps.specs.Laws.{LeavesBefore}
 use Rattle.lvm_stamps.proofs.Shelves.{left_is_before}
 use Rattle.lvm_session.specs.declared.open.Open.{Open}
+use Rattle.lvm_session.specs.declared.origin.Origin.{Origin}
 use Rattle.lvm_session.specs.declared.open.Power.{Power}
 use Rattle.lvm_session.specs.declared.open.Power.TheVariants as power
 use Rattle.lvm_session.specs.Causes.{is_over}
@@ -27,7 +27,6 @@ use Rattle.lvm_session.specs.Sound.{IsLit, IsSound, is_dark, waits}
 use Rattle.lvm_session.specs.State.{Core, State as Session, state}
 use Rattle.lvm_status.specs.Members.{HasItsRows}
 use Rattle.lvm_core.specs.Sound.{HaveAllLanded}
-use Rattle.lvm_tie.specs.Spares.{LeavesDescriptors}
 use Rattle.lvm_tie.specs.Tied.{IsGood, moment_of}
 use Rattle.lvm_running.specs.Running.{IsBefore, LeavesSession}
 use Rattle.lvm_quiesce.specs.Behind.{IsAheadEach}
@@ -177,7 +176,7 @@ module _ (role : Role) (old : State) (core : Core) (end : Session) (its : IsRun 
           copy = copy;
           empty = λ none. absurd (its.volumes (sym (ap (λ (d : Descriptor). d.lvs) its.leaves.keeps.descriptor) ∙ none));
         };
-        posts = posted;
+        posted = posted;
       };
       rests = λ not_asking heard rest. subst IsAtRest is (rests not_asking rest);
       begins = λ timely. was_session old.session core (IfSome (Some end.core) (HasBegunHeld end.device)) its.session;
@@ -227,7 +226,7 @@ module _ (role : Role) (old : State) (core : Core) (end : Session) (its : IsRun 
         descriptors = λ d at value flies. (its.leaves.descriptors its.between.descriptors).leaves d at value (subst (λ (fs : List Flight). IsInFlight fs d at value) it.flights flies);
         landed = subst (λ (o : Option Core). IfNone o (HaveAllLanded new.moment.facts)) (sym none) (subst HaveAllLanded (sym facts) (over_landed end its.sound (over heard)));
         session = subst (λ (o : Option Core). IfSome o (IsOnBetween new.moment.device)) (sym none) tt;
-        posts = subst (λ (o : Option Core). ArePosted new.moment.facts o new.posts) (sym none) posted;
+        posted = subst (λ (o : Option Core). ArePosted new.moment.facts o new.posts) (sym none) posted;
       };
       rests = λ not_asking heard rest. rests not_asking rest;
       begins = λ timely. was_session old.session core (IfSome new.session (HasBegunHeld new.moment.device)) its.session;

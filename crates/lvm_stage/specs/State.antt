@@ -14,7 +14,6 @@ use Rattle.lvm_tie.specs.Spares.{LeavesDescriptors}
 use Rattle.lvm_tie.specs.Stamps.{IsStamped}
 use Rattle.lvm_core.specs.Sound.{HaveAllLanded}
 use Rattle.lvm_core.specs.Settled.{IsSettled as IsSettledCore}
-use Rattle.lvm_posts.specs.declared.asked.Asked.{Asked}
 use Rattle.lvm_posts.specs.declared.posts.Post.{Post}
 use Rattle.lvm_posts.specs.Pieces.{IsLaidOut}
 use Rattle.lvm_posts.specs.Posts.{AreAnswered, AreHeld}
@@ -73,7 +72,7 @@ pub record IsBetween (moment : Moment) (on : Option Core) (posts : List Post) : 
   pub descriptors : LeavesDescriptors moment.device
   pub landed : IfNone on (HaveAllLanded moment.facts)
   pub session : IfSome on (IsOnBetween moment.device)
-  pub posts : ArePosted moment.facts on posts
+  pub posted : ArePosted moment.facts on posts
 
 -- nothing is out, or under way in a session, and no post is left
 pub record IsAtRest (s : State) : Type 0 where

@@ -36,7 +36,7 @@ use Rattle.lvm_tie_copies.specs.Copies.{MklvcopyGoesOn}
 -- ---- the plan
 
 -- first fit gives the volume no other partitions for its further copies
-same_further : (lv copies : ℕ) (core : Core) (row : LvRow) (pps : List Pp) (p : Pp) → HasFurtherPlaces lv copies core row pps → IsFurther lv copies core p → Contains (further_copies (with_map row copies pps) row.copies) p
+pub same_further : (lv copies : ℕ) (core : Core) (row : LvRow) (pps : List Pp) (p : Pp) → HasFurtherPlaces lv copies core row pps → IsFurther lv copies core p → Contains (further_copies (with_map row copies pps) row.copies) p
 same_further lv copies core row pps p places further =
     let both : Some further.0 ≡ Some row = sym further.1.1.grows.found.volume ∙ places.grows.found.volume in
     let same : further.0 ≡ row = cc both in
