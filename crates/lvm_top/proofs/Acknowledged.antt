@@ -38,7 +38,8 @@ use Rattle.lvm_volume_lines.specs.Volumes.{StaysOn, NoGroupForMklv, BusyMklv, Un
 use Rattle.lvm_stage.specs.declared.reply.Reply.{Reply}
 use Rattle.lvm_stage.specs.declared.reply.Reply.TheVariants as reply
 use Rattle.lvm_volume_plan.specs.declared.new_volume.NewVolume.{NewVolume}
-use Rattle.lvm_top.specs.Standing.{IsDrained, IsToCommit, StoodBefore, is_group_command, is_acknowledged, StandsOf, IsCommitted, OfAnother}
+use Rattle.lvm_line.specs.Causes.{IsDrained}
+use Rattle.lvm_top.specs.Standing.{IsToCommit, StoodBefore, is_group_command, is_acknowledged, StandsOf, IsCommitted, OfAnother}
 use Rattle.lvm_top.proofs.Volumes.{held_mid}
 use Rattle.lvm_volume_plan.specs.NewVolume.{without_volume}
 

@@ -49,7 +49,8 @@ use Rattle.lvm_stage.specs.State.{State}
 use Rattle.lvm_stage.specs.declared.reply.Reply.{Reply}
 use Rattle.lvm_volume_lines.specs.Volumes.{Drains, IsDone, IsLeft as IsLeftBy, StaysOn, MklvDoes, RmlvDoes, NoGroupForMklv, BusyMklv, UndrainedMklv, MakesVolume, MklvFails, NoGroupForRmlv, BusyRmlv, UndrainedRmlv, NoVolumeForRmlv, RemovesVolume, RmlvFails, ends_session, wanted}
 use Rattle.lvm_top.specs.OneGroup.{FindsOff}
-use Rattle.lvm_top.specs.Standing.{IsDrained, MayHaveCommitted, StoodBefore}
+use Rattle.lvm_line.specs.Causes.{IsDrained}
+use Rattle.lvm_top.specs.Standing.{MayHaveCommitted, StoodBefore}
 use Rattle.lvm_top.proofs.Acknowledged.{begun_by}
 use Rattle.lvm_top.proofs.Volumes.{held_mid, some_of}
 

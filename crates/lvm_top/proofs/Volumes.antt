@@ -32,7 +32,8 @@ use Rattle.lvm_stage.specs.State.{State, StandsAlone, StandsBy}
 use Rattle.lvm_volume_lines.specs.Volumes.{Drains, IsDone, IsOver, IsUndrained, StaysOn, MklvDoes, RmlvDoes, NoGroupForMklv, BusyMklv, UndrainedMklv, MakesVolume, MklvFails, NoGroupForRmlv, BusyRmlv, UndrainedRmlv, NoVolumeForRmlv, RemovesVolume, RmlvFails, MklvEnds, RmlvEnds, ends_session, refusal_for, wanted}
 use Rattle.lvm_stage.specs.declared.reply.Reply.{Reply}
 use Rattle.lvm_stage.specs.declared.reply.Reply.TheVariants as reply
-use Rattle.lvm_top.specs.Standing.{AreHeld, IsDrained, MayHaveCommitted, StoodBefore, HeldAtRest, StandsSince}
+use Rattle.lvm_line.specs.Causes.{IsDrained}
+use Rattle.lvm_top.specs.Standing.{AreHeld, MayHaveCommitted, StoodBefore, HeldAtRest, StandsSince}
 use Rattle.lvm_top.proofs.Devices.{NothingNew, then_nothing, same_nothing}
 use Rattle.lvm_top.proofs.Quiet.{runs_nothing}
 use Rattle.lvm_top.proofs.Transfers.{relit_nothing}

@@ -18,6 +18,7 @@ use Rattle.lvm_group.specs.NewGroup.{new_group}
 use Rattle.lvm_volumes.specs.Volumes.{IsWith}
 use Rattle.lvm_core.specs.Leaves.{MayBeFound}
 use Rattle.lvm_group_lines.specs.Groups.{asked_for}
+use Rattle.lvm_line.specs.Causes.{IsDrained}
 use Rattle.lvm_stage.specs.Moments.{IsAlone, IsBrokenOff, Role}
 use Rattle.lvm_stage.specs.State.{IsAtRest, StandsBy, State}
 use Rattle.lvm_volume_lines.specs.Volumes.{wanted}
@@ -27,12 +28,6 @@ use Rattle.lvm_top.specs.Script.{Script, NoLine, NextLine, Ends, AtLine, InLine}
 use Rattle.lvm_volume_plan.specs.NewVolume.{without_volume}
 
 -- ---- one line
-
--- The session on whose group a command was made: that which was on, after the turns by which what was under way in it was ended; none where nothing was.
-pub record IsDrained (old : State) (core mid : Core) : Type 0 where
-  pub on : old.session ≡ Some core
-  pub descriptor : mid.descriptor ≡ core.descriptor
-  pub still : IsAtRest old → mid ≡ core
 
 -- the descriptor that a line was to commit: of the group that is made, or of that which is on with a volume more or without one
 abbrev pub IsToCommit : Result (Option Command) Misfit → State → State → Descriptor → Type 0
