@@ -15,7 +15,6 @@ use Rattle.lvm_disk.proofs.Stepping.{arrange_leaves}
 use Rattle.lvm_vol.specs.Facts.{Fact}
 use Rattle.lvm_vol.specs.Log.{Log, is_open, cut_log}
 use Rattle.lvm_vol.specs.Legal.{IsLater}
-use Rattle.lvm_kept.specs.Moments.{Moment}
 use Rattle.lvm_steps.specs.Moments.{Keeps}
 use Rattle.lvm_steps.specs.Requests.{at}
 use Rattle.lvm_steps.proofs.Spans.{keeps_steps}
@@ -33,7 +32,7 @@ use Rattle.lvm_running.proofs.Calls.{calls_run_on}
 use Rattle.lvm_posts.specs.declared.posts.Post.{Post}
 use Rattle.lvm_posts.specs.Posts.{AreAnswered, ended_with}
 use Rattle.lvm_posts.proofs.Closed.{over_answered}
-use Rattle.lvm_quiesce.specs.Behind.{IsAheadEach, IsBehindEach}
+use Rattle.lvm_quiesce.specs.Behind.{IsAheadEach}
 use Rattle.lvm_quiesce.proofs.Behind.{fewer_stay_behind}
 use Rattle.lvm_tie_commands.specs.Standing.{StandsAfter}
 use Rattle.lvm_stage.specs.Ends.{EndsUnasked}
@@ -204,8 +203,8 @@ ended_after word None posts = refl
 ended_after word (Some core) posts = refl
 
 rooms_after : (word : ℕ) (log : Log) (session : Option Core) → ((core : Core) → session ≡ Some core → core.history ≡ log) → without_facts (history_after (arrange.Cut word) true (cut_log log) session) ≡ without_facts log
-rooms_after word log None its = cut_rooms log
-rooms_after word log (Some core) its = cut_rooms core.history ∙ ap without_facts (its core refl)
+rooms_after word log None history = cut_rooms log
+rooms_after word log (Some core) history = cut_rooms core.history ∙ ap without_facts (history core refl)
 
 -- the power is on again, whether the buffers were taken back before or not
 lit_again : (dark closed new : Device) → GivesBack dark closed → Relights closed new → Relights dark new

@@ -1,5 +1,5 @@
 -- What the lines do that make or remove a volume of the group that is on.
-use Rattle.std.specs.Prelude.{◌≡◌, ◌≤◌, ◌-◌, ℕ, Bool, true, false, [], List, Some, None, Result, Ok, Err, IfSome, length}
+use Rattle.std.specs.Prelude.{◌≡◌, ◌≤◌, ◌-◌, ℕ, Bool, true, false, [], List, Some, None, Result, Ok, Err, IfSome}
 use Rattle.lvm_num.specs.declared.descriptor.Descriptor.{Descriptor}
 use Rattle.lvm_num.specs.declared.descriptor.Mode.{Mode}
 use Rattle.lvm_num.specs.declared.descriptor.Policy.{Policy}
@@ -104,11 +104,12 @@ IsLeft false left old new = StaysOn left old new
 
 -- ---- before a command
 
--- No request is open. Where the group has a volume turns were made until nothing was left, and so much patience is; at rest they change nothing.
+-- No request is open. Where the group has a volume turns were made until nothing was left, and so much patience is; else, and at rest, nothing has changed.
 pub record Drains (core : Core) (old : State) (left : ℕ) (mid : Session) : Type 0 where
   pub none : core.requests ≡ []
   pub runs : RunsOn (state old.moment.device core) mid
   pub still : IsAtRest old → mid ≡ state old.moment.device core
+  pub empty : core.descriptor.lvs ≡ [] → mid ≡ state old.moment.device core
   pub settled : IsSettled mid.core
   pub few : left ≤ patience_of_line
   pub waited : RoseBy (patience_of_line - left) old.moment.device.counts.waits mid.device.counts.waits
