@@ -115,7 +115,7 @@ module _ (log : Log) (room : Room) (old new : State) (leaves : LeavesDescriptors
       by_given (Ok core) left = record { core = core; on = left.2.after; begun = begun_by old new core brings.off left.2.after begins; own = λ k is. absurd is }
       by_given (Err why) left = absurd (let e = left.answered in cc (e))
   by_command (command.Mklv name copies mode policy group lps) acked stood (NoGroupForMklv none is) = absurd (let e = is.0 in cc (e))
-  by_command (command.Mklv name copies mode policy group lps) acked stood (BusyMklv on open is) = absurd (let e = is.0 in cc (e))
+  by_command (command.Mklv name copies mode policy group lps) acked stood (BusyMklv on busy is) = absurd (let e = is.0 in cc (e))
   by_command (command.Mklv name copies mode policy group lps) acked stood (UndrainedMklv core why some on un) = absurd (let e = un.says in cc (e))
   by_command (command.Mklv name copies mode policy group lps) acked stood (MakesVolume core left mid number some on drains done says) = record {
     core = done.leaves.core;
@@ -126,7 +126,7 @@ module _ (log : Log) (room : Room) (old new : State) (leaves : LeavesDescriptors
   }
   by_command (command.Mklv name copies mode policy group lps) acked stood (MklvFails core left mid why some on drains done says) = absurd (cc (says))
   by_command (command.Rmlv name) acked stood (NoGroupForRmlv none is) = absurd (let e = is.0 in cc (e))
-  by_command (command.Rmlv name) acked stood (BusyRmlv open is) = absurd (let e = is.0 in cc (e))
+  by_command (command.Rmlv name) acked stood (BusyRmlv busy is) = absurd (let e = is.0 in cc (e))
   by_command (command.Rmlv name) acked stood (UndrainedRmlv core why some un) = absurd (let e = un.says in cc (e))
   by_command (command.Rmlv name) acked stood (NoVolumeForRmlv core left mid some drains none stays last says) = absurd (cc (says))
   by_command (command.Rmlv name) acked stood (RemovesVolume core left mid lv some drains its done says) = record {

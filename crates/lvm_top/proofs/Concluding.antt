@@ -26,7 +26,7 @@ use Rattle.lvm_line.specs.Lines.{role_of}
 use Rattle.lvm_stage.specs.Moments.{GoesOn, IsAlone, OfRequests}
 use Rattle.lvm_stage.specs.Replies.{IsStuck}
 use Rattle.lvm_stage.specs.Stages.{IsClosed}
-use Rattle.lvm_stage.specs.State.{State, IsAtRest, IsBetween, IsTimely, StandsBy}
+use Rattle.lvm_stage.specs.State.{ArePosted, State, IsAtRest, IsBetween, IsTimely, StandsBy}
 use Rattle.lvm_stage.specs.declared.reply.Refusal.TheVariants as refusal
 use Rattle.lvm_stage.specs.declared.reply.Reply.{Reply}
 use Rattle.lvm_stage.specs.declared.reply.Reply.TheVariants as reply
@@ -38,6 +38,10 @@ use Rattle.lvm_top.specs.Run.{Run, IsRun, RanAlone, WhereAlone, exit_state}
 use Rattle.lvm_top.specs.Script.{Script, NoLine, NextLine, Ends, AtLine, InLine, StaysAlone, EndsAlone, EndsHeard, EndsStuck, MakeRequests, is_requesting, empty_log, entry_state, facts_of}
 use Rattle.lvm_top.proofs.Lining.{stuck_is_off}
 use Rattle.lvm_top.proofs.Scripting.{Ended, begins_timely, lines_ended, timely_ahead}
+
+-- no post is left
+none_posted : (facts : List Fact) (on : Option Core) → ArePosted facts on []
+none_posted facts on = record { each = λ k d less. absurd (omega (arith, less)); rise = λ i j d before less. absurd (omega (arith, less)) }
 
 -- ---- where no session is on, or nothing is under way in it
 
@@ -87,7 +91,7 @@ module _ (end : State) (exit : Moment) (between : IsBetween end.moment end.sessi
   turned_goes last turns runs sound closed entries =
       over_goes OfRequests end core last
       (record { alone = λ new alone. alone.acts tt; session = some; facts = facts; volumes = vols; between = between; leaves = runs.leaves; sound = sound })
-      (reply.Refused refusal.Stuck) behind closed entries refl refl (unstuck turns.answer last.core.power turns.tells.power_is) (λ heard. absurd (heard refl)) (record { each = tt; rise = tt })
+      (reply.Refused refusal.Stuck) behind closed entries refl refl (unstuck turns.answer last.core.power turns.tells.power_is) (λ heard. absurd (heard refl)) (none_posted _ _)
       (λ not_asking. absurd (not_asking tt)) (omega arith)
 
 -- the span, and the clock
@@ -150,7 +154,7 @@ entry_between device run ready = record {
   descriptors = none_flies device ready.flights;
   landed = λ id. refl;
   session = tt;
-  posts = record { each = tt; rise = tt };
+  posted = none_posted [] None;
 }
 
 module _ (r : Run) (ran : IsRun r) where

@@ -54,7 +54,7 @@ module _ (log : Log) (old new : State) (answer : Reply) where
 
   varyoff_nothing : (name : List ℕ) → VaryoffDoes name old new answer → FindsNothing
   varyoff_nothing name (NoVaryoff none is) = same_state is.1
-  varyoff_nothing name (BusyVaryoff on open is) = same_state is.1
+  varyoff_nothing name (BusyVaryoff on busy is) = same_state is.1
   varyoff_nothing name (VariesOff core some on none ends is) = same_nothing old.moment.device new.moment.device (ap (λ (m : Moment). m.device) ends.same)
 
   rd_nothing : (disk at count : ℕ) → ReadDoes log disk at count old new answer → FindsNothing

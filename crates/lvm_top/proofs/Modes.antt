@@ -204,7 +204,7 @@ module _ (old new : State) (off : IsOffOn old) where
 
   varyoff_off : {answer : Reply} (name : List ℕ) → VaryoffDoes name old new answer → IsOffOn new
   varyoff_off name (NoVaryoff none is) = same_off is.1
-  varyoff_off name (BusyVaryoff on open is) = same_off is.1
+  varyoff_off name (BusyVaryoff on busy is) = same_off is.1
   varyoff_off name (VariesOff core some on none ends is) = none_off ends.after
 
   module _ (begins : IfNone old.session (IfSome new.session (HasBegunHeld new.moment.device))) (told : IsSome new.moment.device.media) (finds : FindsOff new.moment.device) where
@@ -244,14 +244,14 @@ module _ (old new : State) (off : IsOffOn old) where
 
       mklv_off : {answer : Reply} (w : NewVolume) (group : List ℕ) → MklvDoes w group old new answer → IsOffOn new
       mklv_off w group (NoGroupForMklv none is) = same_off is.1
-      mklv_off w group (BusyMklv on open is) = same_off is.1
+      mklv_off w group (BusyMklv on busy is) = same_off is.1
       mklv_off w group (UndrainedMklv core why some on un) = none_off un.over.session
       mklv_off w group (MakesVolume core left mid number some on drains done is) = done_off false core left mid some drains done
       mklv_off w group (MklvFails core left mid why some on drains done is) = done_off (ends_session why) core left mid some drains done
 
       rmlv_off : {answer : Reply} (name : List ℕ) → RmlvDoes name old new answer → IsOffOn new
       rmlv_off name (NoGroupForRmlv none is) = same_off is.1
-      rmlv_off name (BusyRmlv open is) = same_off is.1
+      rmlv_off name (BusyRmlv busy is) = same_off is.1
       rmlv_off name (UndrainedRmlv core why some un) = none_off un.over.session
       rmlv_off name (NoVolumeForRmlv core left mid some drains none stays last says) = stays_off mid stays (held_mid run old new leaves named stood core left mid some drains)
       rmlv_off name (RemovesVolume core left mid lv some drains its done is) = done_off false core left mid some drains done

@@ -197,14 +197,14 @@ module _ (log : Log) (old new : State) (answer : Reply) (shelf : IsShelf old.mom
 
     mklv_one : (w : NewVolume) (group : List ℕ) → MklvDoes w group old new answer → FindsOneGroup now
     mklv_one w group (NoGroupForMklv none is) = same_one is.1
-    mklv_one w group (BusyMklv on open is) = same_one is.1
+    mklv_one w group (BusyMklv on busy is) = same_one is.1
     mklv_one w group (UndrainedMklv core why some on un) = nothing_one was now (undrained_nothing log.run old new leaves named stood core why answer un) one
     mklv_one w group (MakesVolume core left mid number some on drains done is) = commanded_one core left mid some drains (λ k its. ap (λ (d : Descriptor). d.id) its.2.2) done
     mklv_one w group (MklvFails core left mid why some on drains done is) = commanded_one core left mid some drains (λ k its. ap (λ (d : Descriptor). d.id) its.2.2) done
 
     rmlv_one : (name : List ℕ) → RmlvDoes name old new answer → FindsOneGroup now
     rmlv_one name (NoGroupForRmlv none is) = same_one is.1
-    rmlv_one name (BusyRmlv open is) = same_one is.1
+    rmlv_one name (BusyRmlv busy is) = same_one is.1
     rmlv_one name (UndrainedRmlv core why some un) = nothing_one was now (undrained_nothing log.run old new leaves named stood core why answer un) one
     rmlv_one name (NoVolumeForRmlv core left mid some drains none stays last says) = nothing_one was now (idle_nothing log.run old new leaves named stood core left mid mid drains refl stays) one
     rmlv_one name (RemovesVolume core left mid lv some drains its done is) = commanded_one core left mid some drains (λ k same. ap (λ (d : Descriptor). d.id) same) done

@@ -18,7 +18,7 @@ use Rattle.lvm_quiesce.specs.Ranges.{RangeStaysOut}
 use Rattle.lvm_quiesce.proofs.Ending.{ends_leave, ends_leave_no_more}
 use Rattle.lvm_tie.specs.Spares.{LeavesDescriptors}
 use Rattle.lvm_running.specs.Running.{RunsOn}
-use Rattle.lvm_stage.specs.Lighting.{IsLit}
+use Rattle.lvm_stage.specs.Lighting.{IsRelit}
 use Rattle.lvm_stage.specs.Stages.{IsClosed}
 use Rattle.lvm_top.proofs.Devices.{NothingNew, then_nothing, same_nothing, fewer_nothing}
 use Rattle.lvm_top.proofs.Transfers.{relit_nothing}
@@ -41,7 +41,7 @@ range_stays_nothing patience old new was is other out = absurd out
 
 -- ---- the power
 
-pub lit_nothing : (why : Cause) (left new : Device) → IsLit why left new → NothingNew left new
+pub lit_nothing : (why : Cause) (left new : Device) → IsRelit why left new → NothingNew left new
 lit_nothing cause.Dark left new lit = relit_nothing left new lit
 lit_nothing other left new lit = same_nothing left new lit
 

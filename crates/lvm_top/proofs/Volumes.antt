@@ -147,7 +147,7 @@ module _ (run : ℕ) (old new : State) (leaves : LeavesDescriptors old.moment.de
 
       pub mklv_finds : MklvDoes (wanted name copies mode policy lps) group old new answer → FoundByMklv
       mklv_finds (NoGroupForMklv none is) id k it = inl (same_nothing old.moment.device new.moment.device (ap (λ (s : State). s.moment.device) is.1) id k it)
-      mklv_finds (BusyMklv on open is) id k it = inl (same_nothing old.moment.device new.moment.device (ap (λ (s : State). s.moment.device) is.1) id k it)
+      mklv_finds (BusyMklv on busy is) id k it = inl (same_nothing old.moment.device new.moment.device (ap (λ (s : State). s.moment.device) is.1) id k it)
       mklv_finds (UndrainedMklv core why some on un) id k it = inl (undrained_nothing core why answer un id k it)
       mklv_finds (MakesVolume core left mid number some on drains done is) id k it = tried_mklv core left mid some drains (Ok number) false (inl is) done id k it
       mklv_finds (MklvFails core left mid why some on drains done is) id k it = failed_mklv core left mid some drains why is done id k it
@@ -187,7 +187,7 @@ module _ (run : ℕ) (old new : State) (leaves : LeavesDescriptors old.moment.de
 
       pub rmlv_finds : RmlvDoes name old new answer → FoundByRmlv
       rmlv_finds (NoGroupForRmlv none is) id k it = inl (same_nothing old.moment.device new.moment.device (ap (λ (s : State). s.moment.device) is.1) id k it)
-      rmlv_finds (BusyRmlv open is) id k it = inl (same_nothing old.moment.device new.moment.device (ap (λ (s : State). s.moment.device) is.1) id k it)
+      rmlv_finds (BusyRmlv busy is) id k it = inl (same_nothing old.moment.device new.moment.device (ap (λ (s : State). s.moment.device) is.1) id k it)
       rmlv_finds (UndrainedRmlv core why some un) id k it = inl (undrained_nothing core why answer un id k it)
       rmlv_finds (NoVolumeForRmlv core left mid some drains none stays last says) id k it = inl (idle_nothing core left mid mid drains refl stays id k it)
       rmlv_finds (RemovesVolume core left mid lv some drains its done is) id k it = tried_rmlv core left mid some drains lv its (Ok tt) false (inl is) done id k it
