@@ -1,12 +1,12 @@
 //! One line of a script.
-ghost use Rattle.std.specs.Prelude.{◌≡◌, ℕ, None, IsSome, IfSome, IfNone};
+ghost use Rattle.std.specs.Prelude.{◌≡◌, ◌≤◌, ℕ, None, IsSome, IfSome, IfNone};
 ghost use Rattle.lvm_core.specs.Starting.{IsRoom};
 ghost use Rattle.lvm_core.specs.declared.parts.Room.{Room};
 ghost use Rattle.lvm_vol.specs.Log.{Log};
 ghost use Rattle.lvm_parse.specs.Grammar.{line_of};
 ghost use Rattle.lvm_parse.specs.Within.{IsWithin};
 ghost use Rattle.lvm_line.specs.Lines.{CommandDoes, CommandIsDone, IsLine, IsChange, asked_after};
-ghost use Rattle.lvm_stage.specs.Replies.{IsStuck};
+ghost use Rattle.lvm_stage.specs.Replies.{IsStuck, most_refusals};
 ghost use Rattle.lvm_stage.specs.Stages.{history_in, session_in, state_in, IsBetweenStage, IsFitting};
 ghost use Rattle.lvm_stage.specs.State.{without_facts};
 
@@ -122,6 +122,7 @@ fn refuse_unread<S: Shelf>(stage: Stage<S>) -> Answered<S>
 fn list<S: Shelf>(alloc: Global, stage: &Stage<S>, command: Command) -> Option<Reply>
     ensures does { IfSome result (λ reply. (log : Log) (room : Room) (last : ℕ) → CommandDoes log room command (state_in S.device stage.now last) (state_in S.device stage.now last) reply) }
     ensures heard { IfSome result (λ reply. IsStuck reply → ⊥) }
+    ensures few { IfSome result (λ reply. most_refusals reply ≤ 1) }
     ensures change { IfNone result (IsChange (Ok (Some command))) }
 {
     match command {

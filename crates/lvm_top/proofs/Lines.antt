@@ -43,6 +43,7 @@ use Rattle.lvm_top.proofs.Groups.{mkvg_finds, varyon_nothing}
 use Rattle.lvm_top.proofs.Quiet.{closed_nothing, quiet_nothing, range_stays_nothing, runs_nothing}
 use Rattle.lvm_top.proofs.Transfers.{relit_nothing, write_nothing, read_nothing}
 use Rattle.lvm_top.proofs.Volumes.{mklv_finds, rmlv_finds}
+use Rattle.lvm_raw.specs.Raw.{log_with as log_of}
 
 module _ (log : Log) (old new : State) (answer : Reply) where
   -- nothing was found that wasn't before
@@ -60,7 +61,7 @@ module _ (log : Log) (old new : State) (answer : Reply) where
   rd_nothing : (disk at count : ℕ) → ReadDoes log disk at count old new answer → FindsNothing
   rd_nothing disk at count (NoReadWhileOn on is) = same_state is.1
   rd_nothing disk at count (ReadGoes given off (RejectedAtOnce why is rejected same) risen shows) = same_nothing old.moment.device new.moment.device (ap (λ (m : Moment). m.device) same)
-  rd_nothing disk at count (ReadGoes given off (KeptFrom why is may out) risen shows) = range_stays_nothing patience_of_line old.moment.device new.moment.device _ _ why out
+  rd_nothing disk at count (ReadGoes given off (KeptFrom why is may out) risen shows) = range_stays_nothing patience_of_line old.moment.device new.moment.device (log_of log old.moment.facts) (log_of log new.moment.facts) why out
   rd_nothing disk at count (ReadGoes given off (AskedAtRest may once) risen shows) =
       then_nothing old.moment.device once.mid new.moment.device (quiet_nothing old.moment.device once.mid once.quiesces)
       (read_nothing log disk at count once.left (moment_of once.mid old.moment.facts) new.moment given once.goes.gives)
@@ -68,7 +69,7 @@ module _ (log : Log) (old new : State) (answer : Reply) where
   wr_nothing : (disk at count word : ℕ) → WriteDoes log disk at count word old new answer → FindsNothing
   wr_nothing disk at count word (NoWriteWhileOn on is) = same_state is.1
   wr_nothing disk at count word (WriteGoes given off (RejectedAtOnce why is rejected same) risen says) = same_nothing old.moment.device new.moment.device (ap (λ (m : Moment). m.device) same)
-  wr_nothing disk at count word (WriteGoes given off (KeptFrom why is may out) risen says) = range_stays_nothing patience_of_line old.moment.device new.moment.device _ _ why out
+  wr_nothing disk at count word (WriteGoes given off (KeptFrom why is may out) risen says) = range_stays_nothing patience_of_line old.moment.device new.moment.device (log_of log old.moment.facts) (log_of log new.moment.facts) why out
   wr_nothing disk at count word (WriteGoes given off (AskedAtRest may once) risen says) =
       then_nothing old.moment.device once.mid new.moment.device (quiet_nothing old.moment.device once.mid once.quiesces)
       (write_nothing log disk at count word once.left (moment_of once.mid old.moment.facts) new.moment given once.goes.gives)
@@ -88,7 +89,7 @@ module _ (log : Log) (old new : State) (answer : Reply) where
 module _ (old new : State) (answer : Reply) (leaves : LeavesDescriptors old.moment.device) where
   -- what a session leaves that goes on, or is closed
   goes_on_nothing : (end : Session) (posts : List Post) (last : ℕ) → GoesOnWith end posts last new → NothingNew end.device new.moment.device
-  goes_on_nothing end posts last goes = same_nothing end.device new.moment.device (ap (λ (s : State). s.moment.device) goes.is)
+  goes_on_nothing end posts last goes = same_nothing end.device new.moment.device (ap (λ (s : State). s.moment.device) goes)
 
   over_nothing : (end : Session) (posts : List Post) (last : ℕ) (closed : State) → IsOverWith end posts last closed → NothingNew end.device closed.moment.device
   over_nothing end posts last closed over = closed_nothing end.core.power end.device closed.moment.device over.shelf

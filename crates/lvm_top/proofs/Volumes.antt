@@ -52,8 +52,8 @@ module _ (run : ℕ) (old new : State) (leaves : LeavesDescriptors old.moment.de
   drained_nothing : (core : Core) (left : ℕ) (mid : Session) → Drains core old left mid → NothingNew old.moment.device mid.device
   drained_nothing core left mid drains = runs_nothing (state old.moment.device core) mid leaves drains.runs
 
-  of_session : {P : Core → Type 0} (core : Core) → old.session ≡ Some core → IfSome old.session P → P core
-  of_session {P} core some holds = subst (λ (o : Option Core). IfSome o P) some holds
+  of_session : (P : Core → Type 0) (core : Core) → old.session ≡ Some core → IfSome old.session P → P core
+  of_session P core some holds = subst (λ (o : Option Core). IfSome o P) some holds
 
   -- after them the disks hold what the session says, and are told where they were
   pub held_so : (core : Core) (left : ℕ) (mid : Session) → old.session ≡ Some core → Drains core old left mid → IsHeld mid.device mid.core × (IsSome old.moment.device.media → IsSome mid.device.media)
@@ -63,20 +63,20 @@ module _ (run : ℕ) (old new : State) (leaves : LeavesDescriptors old.moment.de
       same_told same told = subst (λ (s : Session). IsSome s.device.media) (sym same) told
 
       by_stood : StoodBefore run OfGroup old new → IsHeld mid.device mid.core × (IsSome old.moment.device.media → IsSome mid.device.media)
-      by_stood (HeldAtRest rest held) = (subst (λ (s : Session). IsHeld s.device s.core) (sym (drains.still rest)) (of_session core some held), same_told (drains.still rest))
+      by_stood (HeldAtRest rest held) = (subst (λ (s : Session). IsHeld s.device s.core) (sym (drains.still rest)) (of_session (IsHeld old.moment.device) core some held), same_told (drains.still rest))
       by_stood (StandsSince past first stands begins alone) = by_volumes core.descriptor.lvs refl
         where
           after : (before : List Fact) → Begins run before first → StandsAfter before old.moment.device core
-          after before begun = of_session core some (stands before begun) (of_session core some (alone.acts tt))
+          after before begun = of_session (λ (c : Core). StandsAlone old.moment.device c → StandsAfter before old.moment.device c) core some (stands before begun) (of_session (StandsAlone old.moment.device) core some (alone.acts tt))
 
           good : IsGood core.history.run first (state old.moment.device core) → IsTied past mid
-          good tied = (drains.runs.leaves.good first tied).0 drains.settled.power past (subst (λ (n : ℕ). Begins n past first) (sym (of_session core some named)) begins)
+          good tied = (drains.runs.leaves.good first tied).0 drains.settled.power past (subst (λ (n : ℕ). Begins n past first) (sym (of_session (λ (c : Core). c.history.run ≡ run) core some named)) begins)
 
           by_volumes : (lvs : List LvRow) → core.descriptor.lvs ≡ lvs → IsHeld mid.device mid.core × (IsSome old.moment.device.media → IsSome mid.device.media)
           by_volumes [] none = (subst (λ (s : Session). IsHeld s.device s.core) (sym (drains.empty none)) ((after past begins).empty none).held, same_told (drains.empty none))
           by_volumes (row ∷ rows) has =
               let some_volume : core.descriptor.lvs ≡ [] → ⊥ = λ none. let e = sym has ∙ none in cc e in
-              let tied : IsTied past mid = good (λ on before begun. (after before (subst (λ (n : ℕ). Begins n before first) (of_session core some named) begun)).tied some_volume) in
+              let tied : IsTied past mid = good (λ on before begun. (after before (subst (λ (n : ℕ). Begins n before first) (of_session (λ (c : Core). c.history.run ≡ run) core some named) begun)).tied some_volume) in
               (tied_holds past mid tied (rests mid tied.orderly.sound drains.settled) drains.settled.votes ((drains.runs.leaves.descriptors leaves).spares ((after past begins).spares some_volume)),
               λ told. subst IsSome (sym tied.told) refl)
 
