@@ -19,3 +19,4 @@ pub mod Acknowledged
 pub mod Modes
 pub mod Scripts
 pub mod OneGroup
+pub mod Turning

@@ -73,7 +73,7 @@ with_off line name copies mode policy group lps is old off k (core, mid, drained
 
 without_off : (name : List ℕ) (o : Option Core) (k : Descriptor) → IfSome o (λ c. AreOff c.descriptor) → IsSomeAnd o (λ c. (lv : ℕ) × IsNumberOf c.descriptor.lvs name lv × (k ≡ without_volume c.descriptor lv)) → AreOff k
 without_off name None k off is = absurd is
-without_off name (Some core) k off (lv, its, same) row volume = off row (one_filter _ core.descriptor.lvs row (subst (λ (d : Descriptor). IsOneOf d.lvs row) same volume))
+without_off name (Some core) k off (lv, its, same) = λ row volume. off row (one_filter _ core.descriptor.lvs row (subst (λ (d : Descriptor). IsOneOf d.lvs row) same volume))
 
 pub committed_off : (line : List ℕ) (read : Result (Option Command) Misfit) → line_of line ≡ read → (answer : Reply) (old new : State) → IsOffOn old → (id : ℕ) (k : Descriptor) → MayHaveCommitted read answer old new id k → AreOff k
 committed_off line (Ok (Some (command.Mkvg force name mib disks))) is answer old new off id k it = subst AreOff (sym it.is) (λ row none. absurd none)
@@ -124,7 +124,7 @@ module _ (old new : State) (off : IsOffOn old) where
   -- ---- turns and calls
 
   goes_off : (end : Session) (posts : List Post) (last : ℕ) → AreOff end.core.descriptor → GoesOnWith end posts last new → IsOffOn new
-  goes_off end posts last its goes = some_off end.core (ap (λ (s : State). s.session) goes.is) its
+  goes_off end posts last its goes = some_off end.core (ap (λ (s : State). s.session) goes) its
 
   leaves_off : (p : Power) (end : Session) (posts : List Post) (last : ℕ) → AreOff end.core.descriptor → LeavesBy p end posts last new → IsOffOn new
   leaves_off power.On end posts last its left = goes_off end posts last its left

@@ -63,6 +63,7 @@ use Rattle.lvm_top.proofs.Lines.{by_reading}
 use Rattle.lvm_top.proofs.Making.{parts_find, refused_finds}
 use Rattle.lvm_top.proofs.Scripts.{last_told, run_may_start, stood, went_so}
 use Rattle.lvm_tie_groups.specs.Coming.{AreOff}
+use Rattle.lvm_num.specs.declared.place.Pp.{Pp}
 
 -- ---- what is found is shown, and what has a quorum is found
 

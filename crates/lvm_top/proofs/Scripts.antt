@@ -1,5 +1,5 @@
 -- What is found after the lines of a script.
-use Rattle.std.proofs.Common.{◌≡◌, ◌⊎◌, inl, inr, ⊎_elim, ℕ, ◌+◌, List, [], ◌∷◌, ◌++◌, Bool, true, false, Option, Some, None, Result, count_by, cond, refl, sym, ap, subst, ◌∙◌, arith, ◌≤◌, length}
+use Rattle.std.proofs.Common.{◌≡◌, ◌⊎◌, inl, inr, ⊎_elim, ℕ, ◌+◌, List, [], ◌∷◌, ◌++◌, Bool, true, false, Option, Some, None, Result, Ok, Err, count_by, cond, refl, sym, ap, subst, ◌∙◌, arith, ◌≤◌, length}
 use Rattle.std.specs.Prelude.{IsSome, IsSomeAnd, IfSome}
 use Rattle.std.proofs.lemmas.List.{append-nil}
 use Rattle.std.proofs.lemmas.List.Sums.{sum_by-append}

@@ -9,13 +9,16 @@ use Rattle.lvm_stamps.proofs.Stamps.{later_is_ahead_too}
 use Rattle.lvm_core.specs.declared.parts.Room.{Room}
 use Rattle.lvm_stage.specs.Stages.{shelf_in, history_in, moment_in, session_in, state_in, IsBetweenStage}
 use Rattle.lvm_stage.specs.declared.stage.Stage.{Stage}
-use Rattle.lvm_stage.specs.State.{IsAtRest, State, without_facts}
+use Rattle.std.specs.Global.{Vec}
+use Rattle.lvm_posts.specs.declared.posts.Post.{Post}
+use Rattle.lvm_stage.specs.declared.holder.Holder.TheVariants as holder
+use Rattle.lvm_stage.specs.State.{IsAtRest, IsBetween, State, without_facts}
 use Rattle.lvm_kept.specs.Moments.{Moment}
 use Rattle.lvm_top.specs.Ending.{Concludes, NoneIsOn}
 use Rattle.lvm_top.specs.Run.{Run, IsConcluded, IsRun, Promises, ran}
 use Rattle.lvm_top.specs.Script.{Stream, Passage, StaysAlone, EndsAlone, EndsHeard, MakeRequests, empty_log, entry_state}
 use Rattle.lvm_top.proofs.Firsts.{first_upheld}
-use Rattle.lvm_top.proofs.Concluding.{at_rest_still, concluded, off_still, ran_ahead, run_upheld}
+use Rattle.lvm_top.proofs.Concluding.{at_rest_still, concluded, entry_between, off_still, ran_ahead, run_upheld}
 use Rattle.lvm_top.proofs.Scripting.{Ended, told_same, nothing_done, nothing_broken, nothing_heard, lines_ended}
 use Rattle.lvm_top.specs.Statuses.{status_of, at_end, IsAtEnd, GoesUntil}
 use Rattle.lvm_top.specs.declared.status.ExitStatus.{ExitStatus}
@@ -148,7 +151,7 @@ first_is log run room is = subst (λ (l : Log). l ≡ record (empty_log l.run ro
 -- ---- the end
 
 -- whether a run stops since nothing was heard of a transfer
-how_stopped : (why : Option Stop) → (why ≡ Some stop.Stuck) ⊎ (why ≡ Some stop.Stuck → ⊥)
+pub how_stopped : (why : Option Stop) → (why ≡ Some stop.Stuck) ⊎ (why ≡ Some stop.Stuck → ⊥)
 how_stopped None = inr (λ e. cc (e))
 how_stopped (Some stop.Stuck) = inl refl
 how_stopped (Some stop.SourceFault) = inr (λ e. cc (e))
@@ -159,6 +162,20 @@ how_stopped (Some stop.TooLong) = inr (λ e. cc (e))
 -- no line was done
 first_rests : (device : Device) (run : ℕ) → IsReady device → IsAtRest (entry_state device run)
 first_rests device run ready = record { ready = ready; landed = λ id. refl; session = tt; posts = refl }
+
+-- the state of a run at its beginning
+pub first_state : {S : Type 0} (device : S → Device) (shelf : S) (history : Log) (posts : Vec Post) (bytes : Vec ℕ) (begun run : ℕ) (room : Room) → history ≡ empty_log run room → posts.items ≡ [] → begun ≡ run
+    → state_in device (record { holder = holder.Off shelf history; posts = posts; bytes = bytes }) begun ≡ entry_state (device shelf) run
+first_state device shelf history posts bytes begun run room is none last =
+    ap (λ (fs : List Fact). record { moment = record { device = device shelf; facts = fs }; session = None; posts = posts.items; last = begun }) (ap (λ (l : Log). l.facts) is)
+    ∙ ap (λ (ps : List Post). record { moment = record { device = device shelf; facts = [] }; session = None; posts = ps; last = begun }) none
+    ∙ ap (λ (n : ℕ). record { moment = record { device = device shelf; facts = [] }; session = None; posts = []; last = n }) last
+
+-- the next line may begin then
+pub first_between : {S : Type 0} (device : S → Device) (shelf : S) (history : Log) (posts : Vec Post) (bytes : Vec ℕ) (run : ℕ) (room : Room) → history ≡ empty_log run room → posts.items ≡ [] → IsReady (device shelf)
+    → IsBetweenStage device (record { holder = holder.Off shelf history; posts = posts; bytes = bytes })
+first_between device shelf history posts bytes run room is none ready =
+    subst (λ (s : State). IsBetween s.moment s.session s.posts) (sym (first_state device shelf history posts bytes run run room is none refl)) (entry_between (device shelf) run ready)
 
 module _ {S : Type 0} (device : S → Device) (entry : Device) (run begun last : ℕ) (room : Room) (start : Stage S) (first_is : state_in device start begun ≡ entry_state entry run) (made : without_facts (history_in start) ≡ empty_log run room)
     (it : Stage S) (closed : S) (kept : Log) (concludes : Concludes (history_in it).run (moment_in device it) (record { device = device closed; facts = kept.facts }) (session_in it)) (kept_is : without_facts kept ≡ without_facts (history_in it))

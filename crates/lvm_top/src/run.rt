@@ -76,7 +76,6 @@ fn unbegun<S>(shelf: S) -> Ended<S>
 fn at_rest<S: Shelf>(driver: Driver<S>) -> (Driver<S>, bool)
     ensures driver { result.0 ≡ driver }
     ensures rests { IsTrue result.1 ↔ RestsNow (state_of S.device driver) }
-    ensures sound { IsSound (state_of S.device driver) }
 {
     let (shelf, session) = driver.into_parts();
     let rests = session.requests.is_empty()
@@ -86,13 +85,29 @@ fn at_rest<S: Shelf>(driver: Driver<S>) -> (Driver<S>, bool)
     (Driver::from_parts(shelf, session), rests)
 }
 
+// The session of a driver is sound.
+fn is_sound<S: Shelf>(driver: &Driver<S>)
+    ensures { IsSound (state_of S.device driver.now) }
+{
+    let _ = driver.power();
+}
+
 // Makes turns until one doesn't move.
 fn run_on<S: Shelf>(driver: &mut Driver<S>)
     requires unstuck { driver.old.1.power ≡ power.Stuck → ⊥ }
     ensures turns { MakesTurns (state_of S.device driver.old) (state_of S.device driver.new) }
     ensures runs { RunsOn (state_of S.device driver.old) (state_of S.device driver.new) }
+    ensures sound { IsSound (state_of S.device driver.new) }
 {
-    while let Turned::Moved = driver.turn() {}
+    loop {
+        match driver.turn() {
+            Turned::Moved => {}
+            Turned::Idle | Turned::Dark | Turned::Off => {
+                is_sound(driver);
+                return;
+            }
+        }
+    }
 }
 
 // Makes what turns are left of a session, and closes it. Answers the shelf and the history.
