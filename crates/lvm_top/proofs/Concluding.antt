@@ -57,7 +57,7 @@ stuck_ends {log = log} {room = room} {mid = mid} {last = last} (InLine line answ
 
 -- a settled session rests
 settled_rests : (device : Device) (core : Core) → IsReady device → IsSettledCore core → RestsNow (state device core)
-settled_rests device core ready settled = record { requests = settled.quiet.requests; in_flight = settled.quiet.status; committed = settled.committed; flights = ready.flights }
+settled_rests device core ready settled = record { quiet = record { requests = settled.quiet.requests; in_flight = settled.quiet.status; committed = settled.committed }; flights = ready.flights }
 
 same_device : (device exit : Device) → IsReady device → exit ≡ record device { freed = [] } → exit ≡ device
 same_device device exit ready is = is ∙ ap (λ (l : List Buffer). record device { freed = l }) (sym ready.freed)

@@ -192,7 +192,7 @@ module _ {S : Type 0} (device : S → Device) (entry : Device) (run begun last :
   concludes_run : Concludes run (moment_in device it) (record { device = device closed; facts = kept.facts }) (session_in it)
   concludes_run = subst (λ (n : ℕ). Concludes n (moment_in device it) (record { device = device closed; facts = kept.facts }) (session_in it)) of_run concludes
 
-  kept_made : kept ≡ record (empty_log run room) { facts = kept.facts }
+  pub kept_made : kept ≡ record (empty_log run room) { facts = kept.facts }
   kept_made = ap (λ (l : Log). record l { facts = kept.facts }) (kept_is ∙ rooms ∙ made)
 
   -- the power is on
@@ -238,6 +238,7 @@ module _ {S : Type 0} (device : S → Device) (entry : Device) (run begun last :
     pub the_promises :
         (clock : ℕ) (status : ExitStatus) → status ≡ status_of why refused → Rose clock run
         → Promises clock (ran room entry (device closed) input output last (Some kept) status refused)
+    unfolding the_run lines_ran
     the_promises clock status says rose = subst (λ (n : ℕ). Promises clock (record (ran room entry (device closed) input output last (Some kept) status refused) { named = n })) (sym named) (record {
       clock = (subst (λ (n : ℕ). Rose clock n) (sym named) rose, (let is = named in let le = later in omega (arith, is, le)));
       does = the_run status says;

@@ -1,15 +1,29 @@
 -- Turns behind the last line.
-use Rattle.std.proofs.Common.{◌≡◌, ◌+◌, ℕ, refl, sym, ◌∙◌}
+use Rattle.std.proofs.Common.{◌≡◌, ◌≢◌, ◌⊎◌, ⊎_elim, ◌↔◌, ◌+◌, ◌==◌, ℕ, Bool, true, false, List, [], ◌∷◌, length, Some, None, refl, sym, ap, subst, ◌∙◌}
+use Rattle.std.specs.Prelude.{IsTrue}
+use Rattle.lvm_num.specs.Buffer.{Buffer}
+use Rattle.lvm_disk.specs.Device.{Device, Flight}
+use Rattle.lvm_vol.specs.Facts.{Fact}
+use Rattle.lvm_vol.specs.Log.{Log}
+use Rattle.lvm_kept.specs.Moments.{Moment}
+use Rattle.lvm_session.specs.declared.open.Power.{Power}
+use Rattle.lvm_session.specs.Sound.{IsSound}
+use Rattle.lvm_posts.specs.declared.posts.Post.{Post}
+use Rattle.lvm_stage.specs.declared.holder.Holder.{Holder}
+use Rattle.lvm_stage.specs.declared.holder.Holder.TheVariants as holder
+use Rattle.lvm_stage.specs.declared.stage.Stage.{Stage}
+use Rattle.lvm_stage.specs.Stages.{IsBetweenStage, IsClosed, IsFitting, IsOfKind, history_in, history_of, moment_in, session_in, session_of, shelf_of}
+use Rattle.lvm_stage.specs.State.{IsBetween}
 use Rattle.lvm_session.specs.declared.answers.Turned.{Turned}
 use Rattle.lvm_session.specs.declared.answers.Turned.TheVariants as turned
 use Rattle.lvm_session.specs.declared.open.Power.TheVariants as power
-use Rattle.lvm_session.specs.State.{State as Session}
+use Rattle.lvm_session.specs.State.{Core, State as Session, state}
 use Rattle.lvm_session.specs.Turns.{TurnMakes}
 use Rattle.lvm_running.specs.Running.{RunsOn}
 use Rattle.lvm_running.proofs.Running.{runs_both, runs_none}
 use Rattle.lvm_turn_answers.specs.Telling.{TurnTells}
 use Rattle.lvm_ranges.specs.Stepping.{Moves, NoMove, OneMove}
-use Rattle.lvm_top.specs.Ending.{MakesTurns}
+use Rattle.lvm_top.specs.Ending.{Concludes, IsQuietNow, IsServed, MakesTurns, NoneIsServed, NothingIsLeft, RestsNow, RunsOut, TurnsAreMade}
 
 -- so far each turn has moved
 pub record MovesSoFar (first now : Session) : Type 0 where
@@ -35,3 +49,53 @@ module _ (first old new : Session) (so_far : MovesSoFar first old) where
 
   pub turns_run : RunsOn old new → RunsOn first new
   turns_run runs = runs_both first old new so_far.runs runs
+
+-- ---- whether nothing is under way
+
+by_length : (fs : List Flight) (b : Bool) → b ≡ (length fs == 0) → (b ≡ true → fs ≡ []) × (fs ≡ [] → b ≡ true)
+by_length [] b is = (λ yes. refl, λ none. is)
+by_length (f ∷ fs) b is = (λ yes. absurd (let e : false ≡ true = sym is ∙ yes in cc e), λ none. absurd (cc (none)))
+
+pub rests_now : (device : Device) (core read : Core) (quiet rests : Bool) (out : ℕ) → IsTrue quiet ↔ IsQuietNow read → read ≡ core → out ≡ length device.flights → quiet ≡ true → rests ≡ (out == 0) → IsTrue rests ↔ RestsNow (state device core)
+rests_now device core read quiet rests out quiets same counted is says =
+    let by = by_length device.flights rests (says ∙ ap (λ (n : ℕ). n == 0) counted) in
+    (λ yes. record { quiet = subst IsQuietNow same (quiets.0 is); flights = by.0 yes }, λ rest. by.1 rest.flights)
+
+pub rests_not : (device : Device) (core read : Core) (quiet rests : Bool) → IsTrue quiet ↔ IsQuietNow read → read ≡ core → quiet ≡ false → rests ≡ false → IsTrue rests ↔ RestsNow (state device core)
+rests_not device core read quiet rests quiets same is says =
+    (λ yes. absurd (let e : false ≡ true = sym says ∙ yes in cc e), λ rest. absurd (let e : false ≡ true = sym is ∙ quiets.1 (subst IsQuietNow (sym same) rest.quiet) in cc e))
+
+-- ---- the end of a session
+
+-- its shelf, once it is closed by its holder
+pub closed_by : {S : Type 0} (device : S → Device) (p : Power) (old : Device) (h : Holder S) (closed : S) → IsClosed p old (device (shelf_of h)) → session_of h ≡ None → (session_of h ≡ None → device closed ≡ device (shelf_of h)) → IsClosed p old (device closed)
+closed_by device p old h closed is none same = subst (λ (d : Device). IsClosed p old d) (sym (same none)) is
+
+-- it rests
+pub out_still : (s : Session) (exit : Device) (facts : List Fact) → RestsNow s → s.core.power ≡ power.On → IsClosed s.core.power s.device exit → facts ≡ s.core.history.facts → RunsOut s (record { device = exit; facts = facts })
+out_still s exit facts rest on closed entries = NothingIsLeft rest (subst (λ (p : Power). IsClosed p s.device exit) on closed) entries
+
+-- or turns were made
+pub out_turned : (s last : Session) (exit : Device) (facts : List Fact) → (RestsNow s → ⊥) → MakesTurns s last → RunsOn s last → IsSound last → IsClosed last.core.power last.device exit → facts ≡ last.core.history.facts
+    → RunsOut s (record { device = exit; facts = facts })
+out_turned s last exit facts moving turns runs sound closed entries = TurnsAreMade last moving turns runs sound closed entries
+
+module _ {S : Type 0} (device : S → Device) (posts : List Post) (driver : S × Core) (exit : Moment) where
+  -- before it
+  abbrev Stands : Holder S → Type 0
+  Stands h = (session_of h ≡ None) ⊎ IsBetween (record { device = device (shelf_of h); facts = (history_of h).facts }) (session_of h) posts
+
+  abbrev Ends : Holder S → Type 0
+  Ends h = Concludes (history_of h).run (record { device = device (shelf_of h); facts = (history_of h).facts }) exit (session_of h)
+
+  pub empty_concludes : (h : Holder S) → h ≡ holder.Empty driver → Stands h → IsOfKind h → exit.device ≡ record (device driver.0) { freed = [] } → exit.facts ≡ driver.1.history.facts → Ends h
+  empty_concludes h is stands kind shelf entries = subst (λ (k : Holder S). Stands k → IsOfKind k → Ends k) (sym is) its stands kind
+    where
+      its : Stands (holder.Empty driver) → IsOfKind (holder.Empty driver) → Ends (holder.Empty driver)
+      its stands kind =
+          let freed : (device driver.0).freed ≡ [] = ⊎_elim (λ none. absurd (cc (none))) (λ between. between.lit.freed) stands in
+          NoneIsServed driver.1 refl kind
+          (ap (λ (d : Device). record { device = d; facts = exit.facts }) (shelf ∙ ap (λ (l : List Buffer). record (device driver.0) { freed = l }) (sym freed)) ∙ ap (λ (fs : List Fact). record { device = device driver.0; facts = fs }) entries)
+
+  pub serving_concludes : (h : Holder S) → h ≡ holder.Serving driver → IsOfKind h → RunsOut (state (device driver.0) driver.1) exit → Ends h
+  serving_concludes h is kind out = subst (λ (k : Holder S). IsOfKind k → Ends k) (sym is) (λ kind. IsServed driver.1 refl kind refl refl out) kind

@@ -21,11 +21,15 @@ pub record MakesTurns (old new : Session) : Type 0 where
   pub tells : TurnTells mid new answer
   pub unmoved : answer ≡ turned.Moved → ⊥
 
--- nothing is under way: no request is open, no update is in flight, what is wanted is committed, and no transfer is out
+-- no request is open, no update is in flight, and what is wanted is committed
+pub record IsQuietNow (core : Core) : Type 0 where
+  pub requests : core.requests ≡ []
+  pub in_flight : core.status.in_flight ≡ None
+  pub committed : core.status.committed ≡ core.status.wanted
+
+-- nothing is under way, and no transfer is out
 pub record RestsNow (s : Session) : Type 0 where
-  pub requests : s.core.requests ≡ []
-  pub in_flight : s.core.status.in_flight ≡ None
-  pub committed : s.core.status.committed ≡ s.core.status.wanted
+  pub quiet : IsQuietNow s.core
   pub flights : s.device.flights ≡ []
 
 -- Nothing is left to be made of a session; or turns of it are made, and it is closed without a write; after a power cut the power is put on again.

@@ -4,19 +4,19 @@ ghost use Rattle.lvm_disk.specs.Device.{IsReady};
 ghost use Rattle.lvm_io.specs.Count.{Rose};
 ghost use Rattle.lvm_core.specs.Starting.{IsRoom};
 ghost use Rattle.lvm_session.specs.declared.open.Power.TheVariants as power;
+ghost use Rattle.lvm_session.specs.Fields.{core_of};
 ghost use Rattle.lvm_session.specs.Sound.{IsSound};
 ghost use Rattle.lvm_driver.specs.Answers.{state_of};
 ghost use Rattle.lvm_running.specs.Running.{RunsOn};
-ghost use Rattle.lvm_stage.specs.Stages.{history_in, moment_in, session_in, IsBetweenStage, IsFitting};
+ghost use Rattle.lvm_stage.specs.Stages.{history_in, moment_in, session_in, IsBetweenStage, IsClosed, IsFitting};
 ghost use Rattle.lvm_stage.specs.State.{without_facts};
-ghost use Rattle.lvm_top.specs.Ending.{Concludes, MakesTurns, RestsNow, RunsOut};
+ghost use Rattle.lvm_top.specs.Ending.{Concludes, IsQuietNow, MakesTurns, RestsNow, RunsOut};
 ghost use Rattle.lvm_top.specs.Run.{Promises, ran};
 ghost use Rattle.lvm_top.specs.Script.{passage};
 ghost use Rattle.lvm_top.specs.Statuses.{status_of};
 
 use crate::script::{Stop, do_lines};
 use crate::status::ExitStatus;
-use lvm_commit::is_committed;
 use lvm_core::{Closed, Room};
 use lvm_disk::Shelf;
 use lvm_driver::Driver;
@@ -24,8 +24,9 @@ use lvm_history::History;
 use lvm_io::{Clock, Lines, Sink, Source};
 use lvm_memory::MemShelf;
 use lvm_posts::Post;
-use lvm_session::Turned;
+use lvm_session::{Session, Turned};
 use lvm_stage::{Holder, Stage, take_rooms};
+use lvm_status::Updater;
 use std::alloc::Global;
 
 /// How a run ended.
@@ -71,17 +72,37 @@ fn unbegun<S>(shelf: S) -> Ended<S>
     }
 }
 
-// A session, and whether nothing is under way in it: no request is open, no update is in flight, what is wanted is
-// committed, and no transfer is out.
+// Whether what is wanted is committed.
+fn is_committed(updater: &Updater) -> bool
+    ensures { IsTrue result ↔ (updater.now.committed ≡ updater.now.wanted) }
+{
+    updater.committed().as_status() == updater.wanted().as_status()
+}
+
+// Whether a session has no request open, no update in flight, and nothing wanted that isn't committed.
+fn is_quiet(session: &Session) -> bool
+    ensures { IsTrue result ↔ IsQuietNow (core_of session.now) }
+{
+    if !session.requests.is_empty() {
+        return false;
+    }
+    if session.updater.in_flight().is_some() {
+        return false;
+    }
+    is_committed(&session.updater)
+}
+
+// A session, and whether nothing is under way in it, with no transfer out.
 fn at_rest<S: Shelf>(driver: Driver<S>) -> (Driver<S>, bool)
     ensures driver { result.0 ≡ driver }
     ensures rests { IsTrue result.1 ↔ RestsNow (state_of S.device driver) }
 {
     let (shelf, session) = driver.into_parts();
-    let rests = session.requests.is_empty()
-        && session.updater.in_flight().is_none()
-        && is_committed(&session.updater)
-        && shelf.flights() == 0;
+    let rests = if is_quiet(&session) {
+        shelf.flights() == 0
+    } else {
+        false
+    };
     (Driver::from_parts(shelf, session), rests)
 }
 
@@ -102,12 +123,20 @@ fn run_on<S: Shelf>(driver: &mut Driver<S>)
     loop {
         match driver.turn() {
             Turned::Moved => {}
-            Turned::Idle | Turned::Dark | Turned::Off => {
+            _ => {
                 is_sound(driver);
                 return;
             }
         }
     }
+}
+
+// Closes a session that is over or has nothing left to do. After a power cut the power is put on again.
+fn close_ended<S: Shelf>(driver: Driver<S>, posts: Vec<Post>, bytes: Vec<u8>) -> Closed<S>
+    ensures shelf { IsClosed driver.1.power (S.device driver.0) (S.device result.shelf) }
+    ensures history { result.history ≡ driver.1.history }
+{
+    Stage::ended(driver, posts, bytes).holder.close()
 }
 
 // Makes what turns are left of a session, and closes it. Answers the shelf and the history.
@@ -117,10 +146,11 @@ fn run_out<S: Shelf>(driver: Driver<S>, posts: Vec<Post>, bytes: Vec<u8>) -> Clo
     ensures rooms { without_facts result.history ≡ without_facts driver.1.history }
 {
     let (mut driver, rests) = at_rest(driver);
-    if !rests {
-        run_on(&mut driver);
+    if rests {
+        return close_ended(driver, posts, bytes);
     }
-    Stage::ended(driver, posts, bytes).holder.close()
+    run_on(&mut driver);
+    close_ended(driver, posts, bytes)
 }
 
 // Ends what stands after the last line: a session that is on makes turns until one doesn't move, and is closed.

@@ -1,5 +1,6 @@
 use Rattle.std.proofs.Common.{◌≤◌, ⊎_elim, inl, inr, ap, arith}
 use Rattle.lvm_stage.specs.State.{without_facts}
+use Rattle.lvm_stage.specs.declared.holder.Holder.TheVariants as holder
 use Rattle.lvm_top.proofs.Stopping.{first_between, first_state, how_stopped, later, nothing_promised, the_promises}
 use Rattle.lvm_top.proofs.run.run_script.Goals as goal
 
@@ -17,7 +18,7 @@ returns-in_default-take_rooms-clause-run g c =
 
 pub returns-clause-run : goal.returns-clause-run
 returns-clause-run g c =
-    the_promises g.S.Shelf.device (g.S.Shelf.device c.args.shelf) c.now-run.result (g.C.Clock.last c.now-run.new.self) (g.C.Clock.last c.do_lines-done.new.clock) c.args.room c.stage
+    the_promises g.S.Shelf.device (g.S.Shelf.device c.args.shelf) c.now-run.result (g.C.Clock.last c.now-run.new.self) (g.C.Clock.last c.do_lines-done.new.clock) c.args.room (record { holder = holder.Off c.args.shelf c.in-Ok-new.history; posts = c.in-Ok-take_rooms.posts; bytes = c.in-Ok-take_rooms.bytes })
     (first_state g.S.Shelf.device c.args.shelf c.in-Ok-new.history c.in-Ok-take_rooms.posts c.in-Ok-take_rooms.bytes (g.C.Clock.last c.now-run.new.self) c.now-run.result c.args.room c.in-Ok-new.ensures c.in-Ok-take_rooms.ensures.0 c.now-run.ensures.last)
     (ap without_facts c.in-Ok-new.ensures) c.do_lines-done.result.stage c.conclude-shelf.result.shelf c.conclude-shelf.result.history c.conclude-shelf.ensures.concludes c.conclude-shelf.ensures.rooms c.do_lines-done.ensures.rooms c.do_lines-done.result.stop c.do_lines-done.ensures.between c.do_lines-done.ensures.off
     (record { before = record { content = g.I.Source.left c.args.input.now; faults = g.I.Source.faults c.args.input.now }; after = record { content = g.I.Source.left c.do_lines-done.new.input; faults = g.I.Source.faults c.do_lines-done.new.input } }) (record { before = record { content = g.O.Sink.held c.args.out.now; faults = g.O.Sink.faults c.args.out.now }; after = record { content = g.O.Sink.held c.do_lines-done.new.out; faults = g.O.Sink.faults c.do_lines-done.new.out } }) c.do_lines-done.result.refused c.do_lines-done.ensures.goes c.requires.ready
@@ -26,7 +27,7 @@ returns-clause-run g c =
 pub returns-clause-clock : goal.returns-clause-clock
 returns-clause-clock g c =
     let first = c.now-run.ensures.later in
-    let later : c.now-run.result ≤ g.C.Clock.last c.do_lines-done.new.clock = later g.S.Shelf.device (g.S.Shelf.device c.args.shelf) c.now-run.result (g.C.Clock.last c.now-run.new.self) (g.C.Clock.last c.do_lines-done.new.clock) c.args.room c.stage
+    let later : c.now-run.result ≤ g.C.Clock.last c.do_lines-done.new.clock = later g.S.Shelf.device (g.S.Shelf.device c.args.shelf) c.now-run.result (g.C.Clock.last c.now-run.new.self) (g.C.Clock.last c.do_lines-done.new.clock) c.args.room (record { holder = holder.Off c.args.shelf c.in-Ok-new.history; posts = c.in-Ok-take_rooms.posts; bytes = c.in-Ok-take_rooms.bytes })
     (first_state g.S.Shelf.device c.args.shelf c.in-Ok-new.history c.in-Ok-take_rooms.posts c.in-Ok-take_rooms.bytes (g.C.Clock.last c.now-run.new.self) c.now-run.result c.args.room c.in-Ok-new.ensures c.in-Ok-take_rooms.ensures.0 c.now-run.ensures.last)
     (ap without_facts c.in-Ok-new.ensures) c.do_lines-done.result.stage c.conclude-shelf.result.shelf c.conclude-shelf.result.history c.conclude-shelf.ensures.concludes c.conclude-shelf.ensures.rooms c.do_lines-done.ensures.rooms c.do_lines-done.result.stop c.do_lines-done.ensures.between c.do_lines-done.ensures.off
     (record { before = record { content = g.I.Source.left c.args.input.now; faults = g.I.Source.faults c.args.input.now }; after = record { content = g.I.Source.left c.do_lines-done.new.input; faults = g.I.Source.faults c.do_lines-done.new.input } }) (record { before = record { content = g.O.Sink.held c.args.out.now; faults = g.O.Sink.faults c.args.out.now }; after = record { content = g.O.Sink.held c.do_lines-done.new.out; faults = g.O.Sink.faults c.do_lines-done.new.out } }) c.do_lines-done.result.refused c.do_lines-done.ensures.goes c.requires.ready in

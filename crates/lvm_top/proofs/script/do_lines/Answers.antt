@@ -1,4 +1,4 @@
-use Rattle.std.proofs.Common.{◌≡◌, ◌∙◌, ℕ, Option, sym, refl, subst}
+use Rattle.std.proofs.Common.{◌≡◌, ◌∙◌, ℕ, Option, sym, refl, subst, arith}
 use Rattle.lvm_io.specs.Reading.{Reading}
 use Rattle.lvm_stage.specs.Stages.{history_in, state_in}
 use Rattle.lvm_stage.specs.State.{without_facts}
@@ -82,3 +82,11 @@ returns-then-is_some-2-clause-off g c is =
 
 pub returns-then-is_some-2-clause-between : goal.returns-then-is_some-2-clause-between
 returns-then-is_some-2-clause-between g c goes = c.do_line-answered.ensures.line.goes.between (λ is. goes (c.write_reply-count-in-loop.ensures.stuck.1 is))
+
+pub write_reply-count-requires : goal.write_reply-count-requires
+write_reply-count-requires g c =
+    let line = c.in-Some.ensures.line c.args.room (g.C.Clock.last c.loop.clock) in
+    let one = line.goes.few in
+    let few = c.loop.invariant.done.few in
+    let bounded = c.loop.invariant.done.bounded in
+    omega (arith, one, few, bounded)
