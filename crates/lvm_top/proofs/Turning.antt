@@ -1,5 +1,5 @@
 -- Turns behind the last line.
-use Rattle.std.proofs.Common.{◌≡◌, ◌≢◌, ◌⊎◌, ⊎_elim, ◌↔◌, ◌+◌, ◌==◌, ℕ, Bool, true, false, List, [], ◌∷◌, length, Some, None, refl, sym, ap, subst, ◌∙◌}
+use Rattle.std.proofs.Common.{◌≡◌, ◌≢◌, ◌⊎◌, ⊎_elim, ◌↔◌, ◌+◌, ◌==◌, ℕ, Bool, true, false, List, [], ◌∷◌, length, Some, None, refl, sym, ap, subst, ◌∙◌, arith}
 use Rattle.std.specs.Prelude.{IsTrue}
 use Rattle.lvm_num.specs.Buffer.{Buffer}
 use Rattle.lvm_disk.specs.Device.{Device, Flight}
@@ -52,9 +52,15 @@ module _ (first old new : Session) (so_far : MovesSoFar first old) where
 
 -- ---- whether nothing is under way
 
+none_out : (fs : List Flight) → length fs ≡ 0 → fs ≡ []
+none_out [] none = refl
+none_out (f ∷ fs) none = absurd (omega (arith, none))
+
+none_count : (n : ℕ) → (n == 0) ≡ true → n ≡ 0
+none_count n is = grind (arith, is)
+
 by_length : (fs : List Flight) (b : Bool) → b ≡ (length fs == 0) → (b ≡ true → fs ≡ []) × (fs ≡ [] → b ≡ true)
-by_length [] b is = (λ yes. refl, λ none. is)
-by_length (f ∷ fs) b is = (λ yes. absurd (let e : false ≡ true = sym is ∙ yes in cc e), λ none. absurd (cc (none)))
+by_length fs b is = (λ yes. none_out fs (none_count (length fs) (sym is ∙ yes)), λ none. is ∙ subst (λ (l : List Flight). (length l == 0) ≡ true) (sym none) refl)
 
 pub rests_now : (device : Device) (core read : Core) (quiet rests : Bool) (out : ℕ) → IsTrue quiet ↔ IsQuietNow read → read ≡ core → out ≡ length device.flights → quiet ≡ true → rests ≡ (out == 0) → IsTrue rests ↔ RestsNow (state device core)
 rests_now device core read quiet rests out quiets same counted is says =
