@@ -3,3 +3,4 @@ pub mod Lining
 pub mod Knowing
 pub mod Faulting
 pub mod Causing
+pub mod Requesting

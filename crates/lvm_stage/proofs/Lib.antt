@@ -3,5 +3,7 @@ pub mod Ends
 pub mod Going
 pub mod Lighting
 pub mod Passive
+pub mod Posting
+pub mod Running
 pub mod Staging
 pub mod Texts
