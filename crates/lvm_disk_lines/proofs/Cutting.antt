@@ -204,8 +204,8 @@ ended_after word None posts = refl
 ended_after word (Some core) posts = refl
 
 rooms_after : (word : ℕ) (log : Log) (session : Option Core) → ((core : Core) → session ≡ Some core → core.history ≡ log) → without_facts (history_after (arrange.Cut word) true (cut_log log) session) ≡ without_facts log
-rooms_after word log None its = cut_rooms log
-rooms_after word log (Some core) its = cut_rooms core.history ∙ ap without_facts (its core refl)
+rooms_after word log None history = cut_rooms log
+rooms_after word log (Some core) history = cut_rooms core.history ∙ ap without_facts (history core refl)
 
 -- the power is on again, whether the buffers were taken back before or not
 lit_again : (dark closed new : Device) → GivesBack dark closed → Relights closed new → Relights dark new

@@ -102,7 +102,7 @@ module _ (s : State) (disk : ℕ) (what : Arrange) (of_disk : IsOfDisk disk what
       → ((past : List Fact) → Begins run past first → IfSome session (λ core. StandsAlone device core → StandsAfter past device core))
       → (past : List Fact) → Begins run past first → IfSome session (λ core. StandsAlone ordered core → StandsAfter past ordered core)
   stands_then run first None runs on between stands past begins = tt
-  stands_then run first (Some core) runs on between stands past begins alone = record {
+  stands_then run first (Some core) runs on between stands past begins = λ alone. record {
     empty = λ none. let e = (stands past begins alone).empty none in record { held = e.held; notes = e.notes };
     tied = λ some. ((leaves core on.sound).good first (λ power earlier began. (stands earlier (subst (λ (n : ℕ). Begins n earlier first) runs began) alone).tied some)).0 on.power past (subst (λ (n : ℕ). Begins n past first) (sym runs) begins);
     spares = λ some. ((leaves core on.sound).descriptors between.descriptors).spares ((stands past begins alone).spares some);
