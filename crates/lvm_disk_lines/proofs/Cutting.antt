@@ -15,7 +15,6 @@ use Rattle.lvm_disk.proofs.Stepping.{arrange_leaves}
 use Rattle.lvm_vol.specs.Facts.{Fact}
 use Rattle.lvm_vol.specs.Log.{Log, is_open, cut_log}
 use Rattle.lvm_vol.specs.Legal.{IsLater}
-use Rattle.lvm_kept.specs.Moments.{Moment}
 use Rattle.lvm_steps.specs.Moments.{Keeps}
 use Rattle.lvm_steps.specs.Requests.{at}
 use Rattle.lvm_steps.proofs.Spans.{keeps_steps}
@@ -33,7 +32,7 @@ use Rattle.lvm_running.proofs.Calls.{calls_run_on}
 use Rattle.lvm_posts.specs.declared.posts.Post.{Post}
 use Rattle.lvm_posts.specs.Posts.{AreAnswered, ended_with}
 use Rattle.lvm_posts.proofs.Closed.{over_answered}
-use Rattle.lvm_quiesce.specs.Behind.{IsAheadEach, IsBehindEach}
+use Rattle.lvm_quiesce.specs.Behind.{IsAheadEach}
 use Rattle.lvm_quiesce.proofs.Behind.{fewer_stay_behind}
 use Rattle.lvm_tie_commands.specs.Standing.{StandsAfter}
 use Rattle.lvm_stage.specs.Ends.{EndsUnasked}

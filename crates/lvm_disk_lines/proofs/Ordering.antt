@@ -1,5 +1,5 @@
 -- Orders to the shelf of a stage.
-use Rattle.std.proofs.Common.{◌≡◌, ◌≢◌, ◌≤◌, ◌<◌, ◌+◌, ◌⊎◌, length, inl, inr, ℕ, List, true, false, Option, Some, None, IfSome, refl, sym, ◌∙◌, ap, subst, arith}
+use Rattle.std.proofs.Common.{◌≡◌, ◌≤◌, ◌<◌, ◌+◌, ◌⊎◌, length, inl, inr, ℕ, List, true, false, Option, Some, None, IfSome, refl, sym, ◌∙◌, ap, subst, arith}
 use Rattle.std.specs.Prelude.{◌^◌}
 use Rattle.std.specs.Option.{option_map}
 use Rattle.lvm_disk.specs.Device.{Device}
@@ -13,24 +13,22 @@ use Rattle.lvm_vol.specs.Facts.{Fact}
 use Rattle.lvm_vol.specs.Log.{Log}
 use Rattle.lvm_kept.specs.Moments.{Moment}
 use Rattle.lvm_steps.specs.Moments.{Begins}
-use Rattle.lvm_steps.specs.Requests.{at}
 use Rattle.lvm_steps.proofs.Spans.{keeps_steps}
 use Rattle.lvm_session.specs.Dark.{after_arrange}
-use Rattle.lvm_session.specs.Sound.{IsLit, IsSound}
+use Rattle.lvm_session.specs.Sound.{IsSound}
 use Rattle.lvm_session.specs.State.{Core, state}
 use Rattle.lvm_session.specs.Turns.{Arranges as ArrangesSession}
 use Rattle.lvm_keeps.proofs.Orders.{order_keeps}
 use Rattle.lvm_running.specs.Running.{LeavesSession}
 use Rattle.lvm_running.proofs.Calls.{calls_run_on}
 use Rattle.lvm_tie_commands.specs.Standing.{StandsAfter}
-use Rattle.lvm_posts.specs.declared.posts.Post.{Post}
 use Rattle.lvm_quiesce.specs.Behind.{IsAheadEach}
 use Rattle.lvm_stage.specs.Ends.{EndsUnasked}
 use Rattle.lvm_stage.specs.Moments.{Aside, GoesOn}
 use Rattle.lvm_disk_lines.specs.Shelves.{ArrangeDoes, IsArranged, over}
 use Rattle.lvm_stage.specs.Replies.{most_refusals}
 use Rattle.lvm_stage.specs.Stages.{HaveRooms, IsBetweenStage, IsFitting, IsOfKind, history_after, history_in, history_of, session_in, session_of, shelf_in, shelf_of, state_in}
-use Rattle.lvm_stage.specs.State.{IsBetween, IsOnBetween, State, StandsAlone, StandsBy, without_facts}
+use Rattle.lvm_stage.specs.State.{IsBetween, IsOnBetween, State, StandsAlone, without_facts}
 use Rattle.lvm_stage.specs.declared.holder.Holder.{Holder}
 use Rattle.lvm_stage.specs.declared.holder.Holder.TheVariants as holder
 use Rattle.lvm_stage.specs.declared.reply.Reply.{Reply}

@@ -1,16 +1,13 @@
 -- Lines that read or write ranges of disks.
-use Rattle.std.proofs.Common.{◌≡◌, ◌⊎◌, inl, inr, ◌+◌, ◌≤◌, [], ℕ, List, Option, None, Result, Ok, Err, IfOk, IfErr, refl, ◌∙◌, sym, ap, subst, arith}
+use Rattle.std.proofs.Common.{◌≡◌, ◌⊎◌, inl, inr, ◌+◌, ◌≤◌, [], ℕ, List, Result, Ok, Err, IfOk, IfErr, refl, ◌∙◌, sym, ap, subst, arith}
 use Rattle.std.specs.Prelude.{◌^◌, ◌<◌, IsSome}
 use Rattle.std.specs.Global.{Vec}
 use Rattle.lvm_num.specs.Buffer.{Sector}
 use Rattle.lvm_disk.specs.Device.{Device, IsReady}
 use Rattle.lvm_kept.specs.Moments.{Moment}
 use Rattle.lvm_steps.specs.Requests.{at}
-use Rattle.lvm_stamps.specs.Behind.{IsBehind}
 use Rattle.lvm_vol.specs.Log.{Log}
 use Rattle.lvm_vol.specs.Order.{Ordered}
-use Rattle.lvm_session.specs.Sound.{IsLit}
-use Rattle.lvm_tie.specs.Spares.{LeavesDescriptors}
 use Rattle.lvm_tie_commands.proofs.Landed.{spans_follow}
 use Rattle.lvm_raw.specs.Keeping.{IsUnstuck}
 use Rattle.lvm_raw.specs.declared.fault.RawFault.{RawFault}
@@ -24,7 +21,7 @@ use Rattle.lvm_stage.specs.Ends.{EndsUnasked}
 use Rattle.lvm_stage.specs.Moments.{Aside, GoesOn}
 use Rattle.lvm_stage.specs.Replies.{IsStuck, Shows, InFull, WithoutMemory, most_refusals}
 use Rattle.lvm_stage.specs.Stages.{Between, HaveRooms, IsBetweenStage, IsFitting, session_of}
-use Rattle.lvm_stage.specs.State.{State, IsBetween, without_facts}
+use Rattle.lvm_stage.specs.State.{State, without_facts}
 use Rattle.lvm_stage.specs.declared.holder.Holder.{Holder}
 use Rattle.lvm_stage.specs.declared.holder.Holder.TheVariants as holder
 use Rattle.lvm_stage.specs.declared.reply.Reply.{Reply}
@@ -64,10 +61,6 @@ read_once from (Err why) answer says = one_of answer (reply.Refused (refusal_by 
 -- the stage at which no group is on
 abbrev pub off : {S : Type 0} → S → Log → Vec Post → Vec ℕ → Stage S
 off shelf log posts bytes = record { holder = holder.Off shelf log; posts = posts; bytes = bytes }
-
--- the stage again, by its parts
-pub same_stage : {S : Type 0} (old new : Stage S) (by : Holder S) → by ≡ old.holder → new ≡ record { holder = by; posts = old.posts; bytes = old.bytes } → new ≡ old
-same_stage {S} old new by same is = is ∙ ap (λ (h : Holder S). record { holder = h; posts = old.posts; bytes = old.bytes }) same
 
 -- a group is on unless none is
 pub on_unless : {S : Type 0} (it : Holder S) → ((shelf : S) (log : Log) → it ≡ holder.Off shelf log → ⊥) → IsSome (session_of it)

@@ -1,13 +1,11 @@
 -- A range of a disk that is read or written takes none of the answers of posts.
-use Rattle.std.proofs.Common.{◌≡◌, ◌+◌, ◌-◌, ◌<◌, ◌≤◌, ◌∷◌, ◌++◌, [], ℕ, List, Bool, false, cond, count_by, Result, Ok, Err, refl, sym, ◌∙◌, ap, subst, arith}
-use Rattle.std.specs.Prelude.{◌==◌}
+use Rattle.std.proofs.Common.{◌≡◌, ◌+◌, ◌-◌, ◌<◌, ◌≤◌, ◌∷◌, ◌++◌, [], ℕ, List, false, cond, count_by, Result, refl, sym, ap, subst, arith}
 use Rattle.std.proofs.lemmas.Bool.{ne_eqb}
-use Rattle.std.proofs.lemmas.List.Sums.{sum_by-cons, sum_by_push}
-use Rattle.lvm_vol.specs.Facts.{Fact, Request, Making, Made, Split, Removing, Removed, Begun, Landed, Taken, Cut, On, Stands, begun}
+use Rattle.std.proofs.lemmas.List.Sums.{sum_by_push}
+use Rattle.lvm_vol.specs.Facts.{Fact, Request, Begun, Taken, Cut}
 use Rattle.lvm_vol.specs.Legal.{begins_in}
-use Rattle.lvm_vol.specs.Log.{Log, is_answered, takes_id}
+use Rattle.lvm_vol.specs.Log.{Log, takes_id}
 use Rattle.lvm_vol.specs.Order.{Ordered}
-use Rattle.lvm_vol.proofs.Order.{numbered}
 use Rattle.lvm_history.proofs.Staying.{answered_stays}
 use Rattle.lvm_kept.specs.Moments.{Moment}
 use Rattle.lvm_steps.specs.Requests.{at}
@@ -21,7 +19,7 @@ use Rattle.lvm_raw.specs.declared.fault.RawFault.{RawFault}
 use Rattle.lvm_raw.specs.declared.fault.RawFault.TheVariants as fault
 use Rattle.lvm_raw.specs.Looking.{look_ends}
 use Rattle.lvm_raw.specs.Pieces.{PiecesGo, NoPiece, OnePiece, RangeGoes, WentThrough, WasBroken, WritesGo, ReadsGo}
-use Rattle.lvm_raw.specs.Raw.{RawGives, Rejected, Unasked, Asked as WasAsked, WriteGives, ReadGives, log_with}
+use Rattle.lvm_raw.specs.Raw.{RawGives, Rejected, Unasked, Asked as WasAsked, log_with}
 use Rattle.lvm_quiesce.specs.Ranges.{RangeOnceQuiet, RejectedAtOnce, KeptFrom, AskedAtRest, RangeStaysOut, WriteOnceQuiet, ReadOnceQuiet}
 use Rattle.lvm_stage.proofs.Passive.{Bears, bears_cut}
 use Rattle.lvm_stage.proofs.Posting.{LeavesAnswers, answered_numbers}

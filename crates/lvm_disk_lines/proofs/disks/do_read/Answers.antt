@@ -1,4 +1,4 @@
-use Rattle.std.proofs.Common.{◌∙◌, ap, sym, subst, refl, ℕ}
+use Rattle.std.proofs.Common.{ap, subst, refl, ℕ}
 use Rattle.lvm_steps.specs.Requests.{at}
 use Rattle.lvm_quiesce.specs.Ranges.{ReadOnceQuiet}
 use Rattle.lvm_raw.specs.Keeping.{AnswerHasCause}
@@ -9,14 +9,14 @@ use Rattle.lvm_stage.specs.declared.holder.Holder.{Holder}
 use Rattle.lvm_stage.specs.declared.reply.Refusal.TheVariants as refusal
 use Rattle.lvm_stage.proofs.Ends.{unasked_as, refused_ends}
 use Rattle.lvm_stage.proofs.Staging.{between_as, fits_as}
-use Rattle.lvm_disk_lines.proofs.Ranging.{off, on_unless, range_ends, read_once, read_stuck, same_stage, shows_read}
+use Rattle.lvm_disk_lines.proofs.Ranging.{off, on_unless, range_ends, read_once, read_stuck, shows_read}
 use Rattle.lvm_disk_lines.proofs.Untaken.{read_leaves}
 use Rattle.lvm_disk_lines.proofs.disks.do_read.Goals as goal
 
 pub returns-in_default : goal.returns-in_default
 returns-in_default g c =
     refused_ends g.S.Shelf.device (λ log. ReadDoes log c.args.disk c.args.at c.args.count) ⊥ Aside c.args.stage c.refused.result.stage c.refused.result.reply c.requires.fits c.requires.between
-    (same_stage c.args.stage c.refused.result.stage c.in_default.holder (sym c.in_default.holder-is) c.refused.ensures.stage) refusal.GroupOn c.refused.ensures.reply
+    c.refused.ensures.stage refusal.GroupOn c.refused.ensures.reply
     (λ last is. NoReadWhileOn (on_unless c.args.stage.holder c.in_default.not-Off) is)
 
 pub returns-in-Off : goal.returns-in-Off
