@@ -1,6 +1,6 @@
 -- How a group comes on, or doesn't.
 use Rattle.std.proofs.Common.{◌≡◌, ◌+◌, ◌-◌, ◌<◌, ◌≤◌, [], ◌∷◌, ◌++◌, ℕ, List, Option, Some, None, Result, Ok, Err, IfOk, IfErr, false, refl, sym, ◌∙◌, ap, subst, arith}
-use Rattle.std.specs.Prelude.{◌^◌, IfNone}
+use Rattle.std.specs.Prelude.{◌^◌, IfNone, IsSome}
 use Rattle.std.specs.Global.{Vec}
 use Rattle.lvm_disk.specs.Device.{Device, IsReady}
 use Rattle.lvm_io.specs.Count.{Rose}
@@ -54,11 +54,25 @@ clock_is_ahead run last moment device facts rose ahead = λ early. ahead_later r
 
 -- ---- what the call leaves
 
+-- entries follow that are later than nothing else, open no request, and take none of the answers of posts
+pub record Stays (old new : List Fact) : Type 0 where
+  pub later : (m : ℕ) → IsLater old m → IsLater new m
+  pub landed : HaveAllLanded old → HaveAllLanded new
+  pub answers : LeavesAnswers old new
+
+-- as where they leave true what cuts and contents that are given up do
+pub stays : (old new : List Fact) → ((P : List Fact → Type 0) → Bears P → P old → P new) → Stays old new
+stays old new bears = record {
+  later = λ m. bears (λ facts. IsLater facts m) (later_bears m);
+  landed = bears HaveAllLanded landed_bears;
+  answers = λ range. bears (λ facts. AreAnswered facts range) (answered_bears range);
+}
+
 -- a group has come on: what its session and its shelf have
 pub record CameOn (moment : ℕ) (old new : Device) (log : Log) (core : Core) : Type 0 where
   pub entered : List Fact
   pub facts : core.history.facts ≡ entered ++ On moment ∷ []
-  pub bears : (P : List Fact → Type 0) → Bears P → P log.facts → P entered
+  pub stays : Stays log.facts entered
   pub ready : IsReady new
   pub epoch : core.status.stamp.epoch ≡ moment
   pub orders : new.orders ≡ old.orders
@@ -67,7 +81,7 @@ pub record CameOn (moment : ℕ) (old new : Device) (log : Log) (core : Core) : 
 -- none has, for this
 pub record StayedOff (why : Cause) (old left : Device) (log is : Log) : Type 0 where
   pub leaves : Leaves why old left
-  pub bears : (P : List Fact → Type 0) → Bears P → P log.facts → P is.facts
+  pub stays : Stays log.facts is.facts
   pub rooms : without_facts is ≡ without_facts log
 
 -- where the power was cut nothing is out
@@ -102,32 +116,32 @@ module _ (run : ℕ) (old : State) (off : old.session ≡ None) (between : IsBet
 
   -- it was refused
   pub left_off : (why : Cause) (left : Moment) (new : Device) → Promises run moment old.moment left → Leaves why old.moment.device left.device → IsRelit why left.device new
-      → ((P : List Fact → Type 0) → Bears P → P old.moment.facts → P left.facts) → GoesOn run Aside (reply.Refused (refusal_of why)) old (record { moment = at new left.facts; session = None; posts = old.posts; last = moment })
-  left_off why left new promises leaves lit bears =
+      → Stays old.moment.facts left.facts → GoesOn run Aside (reply.Refused (refusal_of why)) old (record { moment = at new left.facts; session = None; posts = old.posts; last = moment })
+  left_off why left new promises leaves lit more =
       let up = lit_up why old.moment.device left.device new (record { lit = between.lit; descriptors = between.descriptors }) leaves.rests lit in
       record {
         keeps = λ timely alone first span stands. (up.keeps run first left.facts (spans_follow run first old.moment left span ordered landed (promises.keeps (clock timely.ahead))), λ goes past begins. tt);
         timely = λ goes timely. record {
           ahead = record {
             run_is = (next timely.ahead).run_is;
-            later = bears (λ facts. IsLater facts (moment + 1)) (later_bears (moment + 1)) (next timely.ahead).later;
+            later = more.later (moment + 1) (next timely.ahead).later;
             behind = up.each goes (moment + 1) (next timely.ahead).behind (promises.behind (clock timely.ahead));
           };
           session = tt;
         };
         left = λ timely. record {
           run_is = (next timely.ahead).run_is;
-          later = bears (λ facts. IsLater facts (moment + 1)) (later_bears (moment + 1)) (next timely.ahead).later;
+          later = more.later (moment + 1) (next timely.ahead).later;
           behind = up.behind (moment + 1) (promises.behind (clock timely.ahead));
         };
         between = λ goes. record {
           lit = (up.opens goes).lit;
           descriptors = (up.opens goes).descriptors;
-          landed = bears HaveAllLanded landed_bears landed;
+          landed = more.landed landed;
           session = tt;
-          posted = off_posts old.moment.facts left.facts (λ range. bears (λ facts. AreAnswered facts range) (answered_bears range)) old.posts posted;
+          posted = off_posts old.moment.facts left.facts more.answers old.posts posted;
         };
-        rests = λ others goes rests. record { ready = up.ready goes rests.ready; landed = bears HaveAllLanded landed_bears landed; session = tt; posts = rests.posts };
+        rests = λ others goes rests. record { ready = up.ready goes rests.ready; landed = more.landed landed; session = tt; posts = rests.posts };
         begins = λ timely. subst (λ (s : Option Core). IfNone s (Unit {0})) (sym off) tt;
         power = up.power;
         waits = let e = up.waits in let w = promises.waits in omega (arith, e, w);
@@ -137,19 +151,19 @@ module _ (run : ℕ) (old : State) (off : old.session ≡ None) (between : IsBet
 
   -- the group is on
   module _ (core : Core) (new : Device) (promises : Promises run moment old.moment (at new core.history.facts)) (serves : Serves (state new core))
-      (entered : List Fact) (facts : core.history.facts ≡ entered ++ On moment ∷ []) (bears : (P : List Fact → Type 0) → Bears P → P old.moment.facts → P entered)
+      (entered : List Fact) (facts : core.history.facts ≡ entered ++ On moment ∷ []) (more : Stays old.moment.facts entered)
       (ready : IsReady new) (epoch : core.status.stamp.epoch ≡ moment) (settled : IsSettledCore core) (starts : ClockIsAheadEach run moment old.moment.device old.moment.facts → StartsHeld new core)
       (stands : (first : Moment) → Keeps run first (at new core.history.facts) → StartsHeld new core → (past : List Fact) → Begins run past first → StandsAlone new core → StandsAfter past new core) where
     later_then : IsAheadEach run (old.last + 1) old.moment.device old.moment.facts → IsLater core.history.facts (moment + 1)
     later_then ahead = subst (λ (l : List Fact). IsLater l (moment + 1)) (sym facts)
-        (later_joins (moment + 1) entered (On moment ∷ []) (bears (λ facts. IsLater facts (moment + 1)) (later_bears (moment + 1)) (next ahead).later) (omega arith, tt))
+        (later_joins (moment + 1) entered (On moment ∷ []) (more.later (moment + 1) (next ahead).later) (omega arith, tt))
 
     landed_then : HaveAllLanded core.history.facts
-    landed_then id = subst (λ (l : List Fact). is_open l id ≡ false) (sym facts) (open_more entered (On moment) id refl refl ∙ bears HaveAllLanded landed_bears landed id)
+    landed_then id = subst (λ (l : List Fact). is_open l id ≡ false) (sym facts) (open_more entered (On moment) id refl refl ∙ more.landed landed id)
 
     leaves_answers : LeavesAnswers old.moment.facts core.history.facts
     leaves_answers range answered = subst (λ (l : List Fact). AreAnswered l range) (sym facts)
-        (answered_on entered (On moment) range (λ id. refl) (bears (λ facts. AreAnswered facts range) (answered_bears range) answered))
+        (answered_on entered (On moment) range (λ id. refl) (more.answers range answered))
 
     pub left_on : GoesOn run Aside reply.Ok old (record { moment = at new core.history.facts; session = Some core; posts = old.posts; last = moment })
     left_on = record {
@@ -180,6 +194,12 @@ module _ (run : ℕ) (old : State) (off : old.session ≡ None) (between : IsBet
 -- the stage with this holder
 abbrev pub held : {S : Type 0} → Holder S → Vec Post → Vec ℕ → Stage S
 held by posts bytes = record { holder = by; posts = posts; bytes = bytes }
+
+-- a group is on unless none is
+pub on_unless : {S : Type 0} (it : Holder S) → ((shelf : S) (log : Log) → it ≡ holder.Off shelf log → ⊥) → IsSome (session_of it)
+on_unless (holder.Off shelf log) other = absurd (other shelf log refl)
+on_unless (holder.Empty driver) other = refl
+on_unless (holder.Serving driver) other = refl
 
 -- who holds the shelf and the history then, and the answer
 pub record Left {S : Type 0} (device : S → Device) (outcome : Result (S × Core) (Refused S)) (by : Holder S) (answer : Reply) : Type 0 where
@@ -228,12 +248,12 @@ module _ {S : Type 0} (device : S → Device) (shelf : S) (log : Log) (posts : V
       subst (λ (s : State). GoesOn log.run Aside answer first_state s) (sym (on_is driver on.shelf on.history on.session))
       (subst (λ (a : Reply). GoesOn log.run Aside a first_state _) (sym on.answered)
       (left_on log.run first_state refl between ordered moment rose driver.1 (device driver.0) (promises (Ok driver) ended.brings) ended.serves
-      ended.came.entered ended.came.facts ended.came.bears ended.came.ready ended.came.epoch ended.starts.settled ended.starts.held ended.stands))
+      ended.came.entered ended.came.facts ended.came.stays ended.came.ready ended.came.epoch ended.starts.settled ended.starts.held ended.stands))
   goes (Err refused) ended =
       let off = ended.left.off in
       subst (λ (s : State). GoesOn log.run Aside answer first_state s) (sym (off_is refused.history off.history off.session))
       (subst (λ (a : Reply). GoesOn log.run Aside a first_state _) (sym off.answered)
-      (left_off log.run first_state refl between ordered moment rose refused.cause (at (device refused.shelf) refused.history.facts) (device (shelf_of by)) (promises (Err refused) ended.brings) ended.stayed.leaves off.lit ended.stayed.bears))
+      (left_off log.run first_state refl between ordered moment rose refused.cause (at (device refused.shelf) refused.history.facts) (device (shelf_of by)) (promises (Err refused) ended.brings) ended.stayed.leaves off.lit ended.stayed.stays))
 
   orders : (outcome : Result (S × Core) (Refused S)) → Ended outcome → (device (shelf_of by)).orders ≡ (device shelf).orders
   orders (Ok driver) ended = ap (λ (x : S). (device x).orders) ended.left.on.shelf ∙ ended.came.orders

@@ -1,5 +1,7 @@
 pub mod Closing
 pub mod Coming
+pub mod Lines
 pub mod Listing
 pub mod Making
+pub mod Quieting
 pub mod Varying

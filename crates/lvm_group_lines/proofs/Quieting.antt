@@ -14,22 +14,22 @@ use Rattle.lvm_stage.specs.State.{without_facts}
 use Rattle.lvm_stage.proofs.Cuts.{cut_rooms}
 use Rattle.lvm_stage.proofs.Lighting.{Leaves, Rests}
 use Rattle.lvm_stage.proofs.Passive.{Bears, bears_cut}
-use Rattle.lvm_group_lines.proofs.Coming.{CameOn, StayedOff}
+use Rattle.lvm_group_lines.proofs.Coming.{StayedOff, stays}
 
 -- no order is given while transfers end
-quiet_orders : (old mid : Device) → Quiesces old mid → mid.orders ≡ old.orders
+pub quiet_orders : (old mid : Device) → Quiesces old mid → mid.orders ≡ old.orders
 quiet_orders old mid quiet = (ends_only quiet.ends).orders
 
 -- they haven't all ended
 out_stays : (patience : ℕ) (old left : Device) (was is : Log) (why : Cause) → StaysOut patience old left was is why → StayedOff why old left was is
 out_stays patience old left was is cause.Dark out = record {
   leaves = record { rests = ap (λ (d : Device). d.flights) out.0.cuts.new_is; orders = ap (λ (d : Device). d.orders) out.0.cuts.new_is ∙ (ends_only out.0.ends).orders };
-  bears = λ P bears holds. subst (λ (l : Log). P l.facts) (sym out.1) (bears_cut P bears was holds);
+  stays = stays was.facts is.facts (λ P bears holds. subst (λ (l : Log). P l.facts) (sym out.1) (bears_cut P bears was holds));
   rooms = ap without_facts out.1 ∙ cut_rooms was;
 }
 out_stays patience old left was is cause.Stuck out = record {
   leaves = record { rests = out.0.lit.power; orders = (ends_only out.0.ends).orders };
-  bears = λ P bears holds. subst (λ (l : Log). P l.facts) (sym out.1) holds;
+  stays = stays was.facts is.facts (λ P bears holds. subst (λ (l : Log). P l.facts) (sym out.1) holds);
   rooms = ap without_facts out.1;
 }
 out_stays patience old left was is (cause.NoDisk disk) out = absurd out
@@ -58,23 +58,18 @@ if_ok P o y is = subst (λ (r : Result _ _). IfOk r P) (sym is) tt
 
 module _ {S : Type 0} (device : S → Device) (First : Cause → Type 0) (May : Type 0) (Goes : ℕ → Device → Result (S × Core) (Refused S) → Type 0) (patience : ℕ) (was : Log) (old : Device) where
   -- this holds where the group is on, once all have ended
-  pub on_once : (P : Device → S × Core → Type 0) → ((left : ℕ) (mid : Device) (outcome : Result (S × Core) (Refused S)) → Quiesces old mid → Goes left mid outcome → IfOk outcome (P mid))
-      → ((mid : Device) (driver : S × Core) → Quiesces old mid → P mid driver → P old driver)
-      → (outcome : Result (S × Core) (Refused S)) → GivesOnceQuiet device First May Goes patience was old outcome → IfOk outcome (P old)
-  on_once P at_mid back outcome (RefusedAtOnce refused is first same history) = if_ok (P old) outcome refused is
-  on_once P at_mid back outcome (StayedOut refused is may out) = if_ok (P old) outcome refused is
-  on_once P at_mid back outcome (WentQuiet may quiet) = by outcome (at_mid quiet.left quiet.mid outcome quiet.quiesces quiet.goes)
-    where
-      by : (o : Result (S × Core) (Refused S)) → IfOk o (P quiet.mid) → IfOk o (P old)
-      by (Ok driver) holds = back quiet.mid driver quiet.quiesces holds
-      by (Err refused) holds = tt
+  pub on_once : (P : S × Core → Type 0) → ((left : ℕ) (mid : Device) (outcome : Result (S × Core) (Refused S)) → Quiesces old mid → Goes left mid outcome → IfOk outcome P)
+      → (outcome : Result (S × Core) (Refused S)) → GivesOnceQuiet device First May Goes patience was old outcome → IfOk outcome P
+  on_once P at_mid outcome (RefusedAtOnce refused is first same history) = if_ok P outcome refused is
+  on_once P at_mid outcome (StayedOut refused is may out) = if_ok P outcome refused is
+  on_once P at_mid outcome (WentQuiet may quiet) = at_mid quiet.left quiet.mid outcome quiet.quiesces quiet.goes
 
   pub stayed_once : ((why : Cause) (left : Device) → First why → left ≡ old → Rests why old left)
       → ((left : ℕ) (mid : Device) (outcome : Result (S × Core) (Refused S)) → IsReady mid → Goes left mid outcome → IfErr outcome (λ refused. (before : Device) → mid.orders ≡ before.orders → StayedOff refused.cause before (device refused.shelf) was refused.history))
       → (outcome : Result (S × Core) (Refused S)) → GivesOnceQuiet device First May Goes patience was old outcome → IfErr outcome (λ refused. StayedOff refused.cause old (device refused.shelf) was refused.history)
   stayed_once first_rests at_mid outcome (RefusedAtOnce refused is first same history) = if_err (λ r. StayedOff r.cause old (device r.shelf) was r.history) outcome refused is (record {
     leaves = record { rests = first_rests refused.cause (device refused.shelf) first same; orders = ap (λ (d : Device). d.orders) same };
-    bears = λ P bears holds. subst (λ (l : Log). P l.facts) (sym history) holds;
+    stays = stays was.facts refused.history.facts (λ P bears holds. subst (λ (l : Log). P l.facts) (sym history) holds);
     rooms = ap without_facts history;
   })
   stayed_once first_rests at_mid outcome (StayedOut refused is may out) = if_err (λ r. StayedOff r.cause old (device r.shelf) was r.history) outcome refused is (out_stays patience old (device refused.shelf) was refused.history refused.cause out)

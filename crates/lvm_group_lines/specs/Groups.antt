@@ -5,6 +5,7 @@ use Rattle.lvm_vol.specs.Log.{Log}
 use Rattle.lvm_core.specs.declared.parts.Room.{Room}
 use Rattle.lvm_core.specs.declared.refused.Cause.{Cause}
 use Rattle.lvm_core.specs.declared.refused.Refused.{Refused}
+use Rattle.lvm_core.specs.Sound.{IsSound as IsSoundBetween}
 use Rattle.lvm_core.specs.State.{state_of}
 use Rattle.lvm_session.specs.Sound.{IsSound}
 use Rattle.lvm_session.specs.State.{Core}
@@ -23,12 +24,13 @@ use Rattle.lvm_stage.specs.declared.reply.Reply.TheVariants as reply
 
 -- ---- what the call has left
 
--- the group is held by this session, which is sound with requests too
+-- the group is held by this session, which is sound between commands and with requests
 pub record IsHeldBy {S : Type 0} (device : S → Device) (by : Holder S) (answer : Reply) (driver : S × Core) : Type 0 where
   pub shelf : shelf_of by ≡ driver.0
   pub history : history_of by ≡ driver.1.history
   pub session : session_of by ≡ Some driver.1
   pub kind : IsOfKind by
+  pub between : IsSoundBetween (state_of device driver)
   pub sound : IsSound (state_of device driver)
   pub answered : answer ≡ reply.Ok
 

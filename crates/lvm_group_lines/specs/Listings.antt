@@ -12,7 +12,6 @@ use Rattle.lvm_stage.specs.declared.reply.Refusal.{Refusal}
 use Rattle.lvm_stage.specs.declared.reply.Refusal.TheVariants as refusal
 use Rattle.lvm_stage.specs.declared.reply.Reply.{Reply}
 use Rattle.lvm_stage.specs.declared.reply.Reply.TheVariants as reply
-use Rattle.lvm_stage.specs.Stages.{IsOn, IsNotOn}
 
 -- the answer is this refusal
 abbrev pub IsAnswered : Reply → Refusal → Type 0
@@ -22,10 +21,15 @@ IsAnswered answer why = answer ≡ reply.Refused why
 abbrev pub listing_of : Bool → Descriptor → Status → List ℕ
 listing_of volumes group status = if volumes then volumes_text group status else group_text group status
 
--- `lsvg`
+-- `lsvg` of a group with this status, if it has the name
+pub data NamedShows (volumes : Bool) (name : List ℕ) (group : Descriptor) (status : Status) (answer : Reply) : Type 0 where
+  OtherGroup : (group.name ≡ name → ⊥) → IsAnswered answer refusal.NoGroup → NamedShows volumes name group status answer
+  ListsGroup : group.name ≡ name → Shows (listing_of volumes group status) answer → NamedShows volumes name group status answer
+
+-- and where none may be on
 pub data GroupShows (volumes : Bool) (name : List ℕ) (session : Option Core) (answer : Reply) : Type 0 where
-  NoSuchGroup : IsNotOn name session → IsAnswered answer refusal.NoGroup → GroupShows volumes name session answer
-  ListsGroup : (core : Core) → session ≡ Some core → IsOn name core → Shows (listing_of volumes core.descriptor core.status.committed) answer → GroupShows volumes name session answer
+  NoGroupToList : session ≡ None → IsAnswered answer refusal.NoGroup → GroupShows volumes name session answer
+  GroupThatIsOn : (core : Core) → session ≡ Some core → NamedShows volumes name core.descriptor core.status.committed answer → GroupShows volumes name session answer
 
 -- `lslv -m` of a group with this status
 pub data CopiesShow (name : List ℕ) (group : Descriptor) (status : Status) (answer : Reply) : Type 0 where

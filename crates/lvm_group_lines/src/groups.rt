@@ -61,6 +61,7 @@ fn hold<S: Shelf>(driver: Driver<S>) -> Holder<S>
     ensures history { history_of result ≡ driver.1.history }
     ensures session { session_of result ≡ Some driver.1 }
     ensures kind { IsOfKind result }
+    ensures between { IsSoundBetween (state_of S.device driver) }
     ensures sound { IsSound (state_of S.device driver) }
 {
     let _ = driver.open();

@@ -1,7 +1,7 @@
 //! The lines that list the group that is on.
 ghost use Rattle.std.specs.Prelude.{◌≡◌, ℕ, List, length, IfOk};
-ghost use Rattle.lvm_num.specs.Descriptor.{is_member};
-ghost use Rattle.lvm_group_lines.specs.Listings.{CopiesShow, DiskShows, GroupShows, MemberShows, VolumeShows, listing_of};
+ghost use Rattle.lvm_num.specs.Descriptor.{IsValid, is_member};
+ghost use Rattle.lvm_group_lines.specs.Listings.{CopiesShow, DiskShows, GroupShows, MemberShows, NamedShows, VolumeShows};
 ghost use Rattle.lvm_stage.specs.Replies.{Shows};
 ghost use Rattle.lvm_stage.specs.Stages.{shelf_in, session_in};
 
@@ -30,8 +30,8 @@ fn list_named(
     volumes: bool,
     name: Name,
 ) -> Reply
-    ensures off { (group.now.name ≡ name → ⊥) → result ≡ Reply.Refused Refusal.NoGroup }
-    ensures on { group.now.name ≡ name → Shows (listing_of volumes group.now table.now) result }
+    requires { IsValid group.now }
+    ensures { NamedShows volumes name group.now table.now result }
 {
     if group.name != name {
         return Reply::Refused(Refusal::NoGroup);
@@ -63,6 +63,7 @@ pub fn list_group<S: Shelf>(alloc: Global, stage: &Stage<S>, volumes: bool, name
 
 // Lists where the copies of the volume of a name lie.
 fn list_copies(alloc: Global, group: &Descriptor, table: &StaleTable, name: Name) -> Reply
+    requires { IsValid group.now }
     ensures { CopiesShow name group.now table.now result }
 {
     match number_of(group, name) {
@@ -102,9 +103,13 @@ fn list_member(
     disk: u16,
     disks: u16,
 ) -> Reply
+    requires { IsValid group.now }
     ensures { MemberShows disk disks group.now table.now result }
 {
-    if disk < disks && is_member(group, disk) {
+    if disk >= disks {
+        return Reply::Refused(Refusal::NoDisk { disk });
+    }
+    if is_member(group, disk) {
         shows(show_disk(alloc, group, table, disk))
     } else {
         Reply::Refused(Refusal::NoDisk { disk })
