@@ -1,13 +1,10 @@
 -- A session that is closed.
-use Rattle.std.proofs.Common.{◌≡◌, ⊎_elim, inl, inr, ◌<◌, ◌≤◌, ℕ, List, [], ◌∷◌, Option, Some, None, length, refl, sym, ◌∙◌, ap, subst, arith}
-use Rattle.std.specs.Prelude.{◌^◌, IfSome}
+use Rattle.std.proofs.Common.{◌≡◌, ⊎_elim, ◌<◌, ◌≤◌, ℕ, List, [], Some, refl, sym, ◌∙◌, ap, subst, arith}
+use Rattle.std.specs.Prelude.{◌^◌}
 use Rattle.std.specs.Global.{Vec}
 use Rattle.lvm_num.specs.Buffer.{Buffer}
 use Rattle.lvm_disk.specs.Device.{Device}
-use Rattle.lvm_vol.specs.Facts.{Fact}
 use Rattle.lvm_vol.specs.Log.{Log}
-use Rattle.lvm_kept.specs.Moments.{Moment}
-use Rattle.lvm_session.specs.declared.open.Open.{Open}
 use Rattle.lvm_session.specs.State.{Core}
 use Rattle.lvm_posts.specs.declared.posts.Post.{Post}
 use Rattle.lvm_group_lines.specs.Groups.{VaryoffDoes, VariesOff}
@@ -15,7 +12,7 @@ use Rattle.lvm_stage.specs.Asking.{EndsSession}
 use Rattle.lvm_stage.specs.Ends.{EndsUnasked}
 use Rattle.lvm_stage.specs.Moments.{Aside}
 use Rattle.lvm_stage.specs.Replies.{most_refusals}
-use Rattle.lvm_stage.specs.Stages.{GivesBack, HaveRooms, IsBetweenStage, IsFitting, IsOn, history_in, history_of, open_in, posts_ended, session_in, session_of, shelf_in, state_in}
+use Rattle.lvm_stage.specs.Stages.{GivesBack, HaveRooms, IsBetweenStage, IsFitting, IsOn, history_in, history_of, posts_ended, session_in, session_of, shelf_in, state_in}
 use Rattle.lvm_stage.specs.State.{without_facts}
 use Rattle.lvm_stage.specs.declared.holder.Holder.{Holder}
 use Rattle.lvm_stage.specs.declared.holder.Holder.TheVariants as holder
@@ -24,7 +21,6 @@ use Rattle.lvm_stage.specs.declared.reply.Reply.TheVariants as reply
 use Rattle.lvm_stage.specs.declared.stage.Stage.{Stage}
 use Rattle.lvm_stage.proofs.Ends.{unasked_as}
 use Rattle.lvm_stage.proofs.Going.{ended_goes}
-use Rattle.lvm_stage.proofs.Staging.{on_with}
 use Rattle.lvm_group_lines.proofs.Coming.{held}
 
 -- a session's history is its holder's

@@ -1,5 +1,5 @@
 -- How a group comes on, or doesn't.
-use Rattle.std.proofs.Common.{◌≡◌, ◌+◌, ◌-◌, ◌<◌, ◌≤◌, [], ◌∷◌, ◌++◌, ℕ, List, Option, Some, None, Result, Ok, Err, IfOk, IfErr, false, refl, sym, ◌∙◌, ap, subst, arith}
+use Rattle.std.proofs.Common.{◌≡◌, ◌+◌, ◌<◌, ◌≤◌, [], ◌∷◌, ◌++◌, ℕ, List, Option, Some, None, Result, Ok, Err, IfOk, IfErr, false, refl, sym, ◌∙◌, ap, subst, arith}
 use Rattle.std.specs.Prelude.{◌^◌, IfNone, IsSome}
 use Rattle.std.specs.Global.{Vec}
 use Rattle.lvm_disk.specs.Device.{Device, IsReady}
@@ -29,19 +29,19 @@ use Rattle.lvm_posts.specs.declared.posts.Post.{Post}
 use Rattle.lvm_posts.specs.Posts.{AreAnswered}
 use Rattle.lvm_quiesce.specs.Behind.{ClockIsAheadEach, IsAheadEach}
 use Rattle.lvm_quiesce.specs.Groups.{BringsOnEach, IsStartedEach}
-use Rattle.lvm_quiesce.proofs.Behind.{later_is_behind_each, still_is_behind_each}
+use Rattle.lvm_quiesce.proofs.Behind.{still_is_behind_each}
 use Rattle.lvm_group_lines.specs.Groups.{IsHeldBy, IsLeftBy}
 use Rattle.lvm_stage.specs.Ends.{CommandEnds}
 use Rattle.lvm_stage.specs.Lighting.{IsRelit, refusal_of}
 use Rattle.lvm_stage.specs.Moments.{Aside, GoesOn, HasBegunHeld}
 use Rattle.lvm_stage.specs.Stages.{HaveRooms, IsBetweenStage, IsFitting, IsOfKind, history_of, session_of, shelf_of, state_in}
-use Rattle.lvm_stage.specs.State.{ArePosted, IsBetween, IsOnBetween, StandsAlone, State, without_facts}
+use Rattle.lvm_stage.specs.State.{ArePosted, IsBetween, StandsAlone, State, without_facts}
 use Rattle.lvm_stage.specs.declared.holder.Holder.{Holder}
 use Rattle.lvm_stage.specs.declared.holder.Holder.TheVariants as holder
 use Rattle.lvm_stage.specs.declared.reply.Reply.{Reply}
 use Rattle.lvm_stage.specs.declared.reply.Reply.TheVariants as reply
 use Rattle.lvm_stage.specs.declared.stage.Stage.{Stage}
-use Rattle.lvm_stage.proofs.Going.{ahead_later, each_is_ahead}
+use Rattle.lvm_stage.proofs.Going.{ahead_later}
 use Rattle.lvm_stage.proofs.Lighting.{Leaves, Rests, lit_up, ready_is_lit, still_leaves_descriptors}
 use Rattle.lvm_stage.proofs.Passive.{Bears, landed_bears, later_bears, open_more}
 use Rattle.lvm_stage.proofs.Posting.{LeavesAnswers, answered_bears, answered_on, off_posts, on_posts}
@@ -246,13 +246,13 @@ module _ {S : Type 0} (device : S → Device) (shelf : S) (log : Log) (posts : V
   goes (Ok driver) ended =
       let on = ended.left.on in
       subst (λ (s : State). GoesOn log.run Aside answer first_state s) (sym (on_is driver on.shelf on.history on.session))
-      (subst (λ (a : Reply). GoesOn log.run Aside a first_state _) (sym on.answered)
+      (subst (λ (a : Reply). GoesOn log.run Aside a first_state (record { moment = at (device driver.0) driver.1.history.facts; session = Some driver.1; posts = posts.items; last = moment })) (sym on.answered)
       (left_on log.run first_state refl between ordered moment rose driver.1 (device driver.0) (promises (Ok driver) ended.brings) ended.serves
       ended.came.entered ended.came.facts ended.came.stays ended.came.ready ended.came.epoch ended.starts.settled ended.starts.held ended.stands))
   goes (Err refused) ended =
       let off = ended.left.off in
       subst (λ (s : State). GoesOn log.run Aside answer first_state s) (sym (off_is refused.history off.history off.session))
-      (subst (λ (a : Reply). GoesOn log.run Aside a first_state _) (sym off.answered)
+      (subst (λ (a : Reply). GoesOn log.run Aside a first_state (record { moment = at (device (shelf_of by)) refused.history.facts; session = None; posts = posts.items; last = moment })) (sym off.answered)
       (left_off log.run first_state refl between ordered moment rose refused.cause (at (device refused.shelf) refused.history.facts) (device (shelf_of by)) (promises (Err refused) ended.brings) ended.stayed.leaves off.lit ended.stayed.stays))
 
   orders : (outcome : Result (S × Core) (Refused S)) → Ended outcome → (device (shelf_of by)).orders ≡ (device shelf).orders

@@ -1,19 +1,18 @@
 -- The call that is to bring a group on, where transfers of before may be out, by what it does at rest.
-use Rattle.std.proofs.Common.{◌≡◌, inl, ℕ, List, Result, Ok, Err, IfOk, IfErr, refl, sym, ◌∙◌, ap, subst}
+use Rattle.std.proofs.Common.{◌≡◌, ℕ, Result, Ok, Err, IfOk, IfErr, sym, ◌∙◌, ap, subst}
 use Rattle.lvm_disk.specs.Device.{Device, IsReady}
-use Rattle.lvm_vol.specs.Facts.{Fact}
 use Rattle.lvm_vol.specs.Log.{Log}
 use Rattle.lvm_core.specs.declared.refused.Cause.{Cause}
 use Rattle.lvm_core.specs.declared.refused.Cause.TheVariants as cause
 use Rattle.lvm_core.specs.declared.refused.Refused.{Refused}
 use Rattle.lvm_session.specs.State.{Core}
-use Rattle.lvm_quiesce.specs.Ends.{Quiesces, IsCutEnding, IsStuckEnding}
+use Rattle.lvm_quiesce.specs.Ends.{Quiesces}
 use Rattle.lvm_quiesce.specs.Groups.{GivesOnceQuiet, RefusedAtOnce, StayedOut, WentQuiet, StaysOut}
 use Rattle.lvm_quiesce.proofs.Ending.{ends_only}
 use Rattle.lvm_stage.specs.State.{without_facts}
 use Rattle.lvm_stage.proofs.Cuts.{cut_rooms}
-use Rattle.lvm_stage.proofs.Lighting.{Leaves, Rests}
-use Rattle.lvm_stage.proofs.Passive.{Bears, bears_cut}
+use Rattle.lvm_stage.proofs.Lighting.{Rests}
+use Rattle.lvm_stage.proofs.Passive.{bears_cut}
 use Rattle.lvm_group_lines.proofs.Coming.{StayedOff, stays}
 
 -- no order is given while transfers end

@@ -1,5 +1,5 @@
 -- `varyonvg`, by how its call ends.
-use Rattle.std.proofs.Common.{◌≡◌, inl, inr, ⊎_elim, ℕ, List, [], Result, Ok, Err, IfOk, IfErr, refl, sym, ◌∙◌, ap, subst}
+use Rattle.std.proofs.Common.{◌≡◌, inl, inr, ⊎_elim, ℕ, List, Result, Ok, Err, IfOk, IfErr, refl, sym, ◌∙◌, ap, subst}
 use Rattle.std.specs.Prelude.{◌≤◌}
 use Rattle.lvm_disk.specs.Device.{Device, IsReady, HasSectors}
 use Rattle.lvm_vol.specs.Facts.{Fact}

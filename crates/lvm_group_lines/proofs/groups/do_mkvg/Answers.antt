@@ -1,4 +1,4 @@
-use Rattle.std.proofs.Common.{◌∙◌, ℕ, IfErr, ap, sym, subst, refl}
+use Rattle.std.proofs.Common.{ℕ, IfErr, ap, sym, subst}
 use Rattle.lvm_quiesce.specs.Groups.{CauseRose, MkvgOnceQuiet}
 use Rattle.lvm_group_lines.specs.Groups.{MkvgDoes, NoMkvgWhileOn, Makes, asked_for, itself}
 use Rattle.lvm_stage.specs.Ends.{CommandEnds}
@@ -11,6 +11,7 @@ use Rattle.lvm_stage.proofs.Staging.{asked_stays, between_as, fits_as}
 use Rattle.lvm_group_lines.proofs.Coming.{Left, dark_still, held, on_unless, outcome_ends}
 use Rattle.lvm_group_lines.proofs.Lines.{all_serve, brings, may_hold}
 use Rattle.lvm_group_lines.proofs.Making.{came, itself_gives, serves, stands, stayed}
+use Rattle.lvm_group_lines.proofs.Quieting.{device_outcome}
 use Rattle.lvm_group_lines.proofs.groups.do_mkvg.Goals as goal
 
 pub returns-in_default-clause-ends : goal.returns-in_default-clause-ends
@@ -50,7 +51,7 @@ returns-in-Off-clause-ends g c =
     let fits = fits_as c.args.stage (held (holder.Off shelf log) posts bytes) was c.requires.fits in
     let left : Left device outcome by answer = record { on = c.left-holder.ensures.on; off = c.left-holder.ensures.off } in
     let may = serves device shelf log w c.args.room _ outcome c.mkvg.ensures.gives (record { ordered = c.run.ensures.ordered; few = fits.few }) in
-    let gives = subst (λ (n : ℕ). MkvgOnceQuiet itself w c.args.room n log (device shelf) _) c.whole-patience.ensures (itself_gives device shelf log w c.args.room _ outcome c.mkvg.ensures.gives) in
+    let gives = subst (λ (n : ℕ). MkvgOnceQuiet itself w c.args.room n log (device shelf) (device_outcome device outcome)) c.whole-patience.ensures (itself_gives device shelf log w c.args.room _ outcome c.mkvg.ensures.gives) in
     let causes = subst (λ (n : ℕ). IfErr outcome (λ refused. CauseRose n (device shelf).counts (device refused.shelf).counts refused.cause)) c.whole-patience.ensures c.mkvg.ensures.causes in
     ends_as device (λ log. MkvgDoes log c.args.room c.args.force c.args.name c.args.mib c.args.disks.now) ⊥ Aside c.args.stage (held (holder.Off shelf log) posts bytes) c.answered.result.stage (held by posts bytes) c.answered.result.reply answer _ _
     was c.answered.ensures.stage c.answered.ensures.reply

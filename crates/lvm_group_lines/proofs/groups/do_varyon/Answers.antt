@@ -1,4 +1,4 @@
-use Rattle.std.proofs.Common.{◌∙◌, ℕ, IfErr, ap, sym, subst, refl}
+use Rattle.std.proofs.Common.{ℕ, IfErr, ap, sym, subst}
 use Rattle.lvm_quiesce.specs.Groups.{CauseRose, VaryonOnceQuiet}
 use Rattle.lvm_group_lines.specs.Groups.{VaryonDoes, NoVaryonWhileOn, Varies, itself}
 use Rattle.lvm_stage.specs.Ends.{CommandEnds}
@@ -11,6 +11,7 @@ use Rattle.lvm_stage.proofs.Staging.{asked_stays, between_as, fits_as}
 use Rattle.lvm_group_lines.proofs.Coming.{Left, dark_still, held, on_unless, outcome_ends}
 use Rattle.lvm_group_lines.proofs.Lines.{all_serve, all_stand, brings, may_hold}
 use Rattle.lvm_group_lines.proofs.Varying.{came, itself_gives, serves, stands, stayed}
+use Rattle.lvm_group_lines.proofs.Quieting.{device_outcome}
 use Rattle.lvm_group_lines.proofs.groups.do_varyon.Goals as goal
 
 pub returns-in_default-clause-ends : goal.returns-in_default-clause-ends
@@ -48,7 +49,7 @@ returns-in-Off-clause-ends g c =
     let left : Left device outcome by answer = record { on = c.left-holder.ensures.on; off = c.left-holder.ensures.off } in
     let may = serves device shelf log c.args.name c.now-moment.result _ c.args.room outcome c.varyon.ensures.gives (record { ordered = c.run.ensures.ordered; few = fits.few }) in
     let serving = all_serve device log.run moment (device shelf) log outcome by answer may c.varyon.ensures.starts c.varyon.ensures.faults left in
-    let gives = subst (λ (n : ℕ). VaryonOnceQuiet itself log c.args.name moment c.args.room n (device shelf) _) c.whole-patience.ensures (itself_gives device shelf log c.args.name c.now-moment.result _ c.args.room outcome c.varyon.ensures.gives) in
+    let gives = subst (λ (n : ℕ). VaryonOnceQuiet itself log c.args.name moment c.args.room n (device shelf) (device_outcome device outcome)) c.whole-patience.ensures (itself_gives device shelf log c.args.name c.now-moment.result _ c.args.room outcome c.varyon.ensures.gives) in
     let causes = subst (λ (n : ℕ). IfErr outcome (λ refused. CauseRose n (device shelf).counts (device refused.shelf).counts refused.cause)) c.whole-patience.ensures c.varyon.ensures.causes in
     ends_as device (λ log. VaryonDoes log c.args.room c.args.name) ⊥ Aside c.args.stage (held (holder.Off shelf log) posts bytes) c.answered.result.stage (held by posts bytes) c.answered.result.reply answer _ _
     was c.answered.ensures.stage c.answered.ensures.reply
@@ -60,7 +61,7 @@ returns-in-Off-clause-ends g c =
       brings = c.varyon.ensures.leaves;
       came = came device shelf log c.args.name c.now-moment.result _ c.args.room outcome c.varyon.ensures.gives;
       serves = serving;
-      stands = all_stand device log.run moment (device shelf) log outcome _ (stands device shelf log c.args.name c.now-moment.result _ c.args.room outcome c.varyon.ensures.gives) g.S.Shelf.sectors_are_whole c.varyon.ensures.starts serving;
+      stands = all_stand device log.run moment (device shelf) log outcome _ (stands device shelf log c.args.name c.now-moment.result _ c.args.room outcome c.varyon.ensures.gives) g.met.S.Shelf.sectors_are_whole c.varyon.ensures.starts serving;
       stayed = stayed device shelf log c.args.name c.now-moment.result _ c.args.room outcome c.varyon.ensures.gives;
       left = left;
     })
