@@ -159,13 +159,13 @@ none_left core valid group committed behind p left = by (is_wanted_stale core p)
         let both = and_both (there core.status other.0.disk) (not (calls_stale core.status.wanted other.0)) other.2 in
         let here = and_both (is_member core.descriptor other.0.disk) (not (is_missing core other.0.disk)) (sym (same_there other.0.disk) ∙ both.0) in
         let can : can_replace core other.0 ≡ true =
-            ap (λ (s : Status). (not (calls_stale s other.0) && not (is_missing core other.0.disk)) && not (is_wanted_stale core other.0)) committed
-            ∙ ap (λ (b : Bool). (b && not (is_missing core other.0.disk)) && b) both.1 ∙ ap (λ (b : Bool). (true && b) && true) here.1 in
+        ap (λ (s : Status). (not (calls_stale s other.0) && not (is_missing core other.0.disk)) && not (is_wanted_stale core other.0)) committed
+        ∙ ap (λ (b : Bool). (b && not (is_missing core other.0.disk)) && b) both.1 ∙ ap (λ (b : Bool). (true && b) && true) here.1 in
         let replaced : list_any (can_replace core) (copies_of left.row left.left.lp) ≡ true = passes (can_replace core) (copies_of left.row left.left.lp) other.0 other.1 can in
         let behind_it : is_left_behind core (copies_of left.row left.left.lp) p ≡ true =
-            ap (λ (b : Bool). b && not (is_stale core p) && is_missing core p.disk && list_any (can_replace core) (copies_of left.row left.left.lp)) among
-            ∙ ap (λ (b : Bool). true && not b && is_missing core p.disk && list_any (can_replace core) (copies_of left.row left.left.lp)) stale_is
-            ∙ ap (λ (b : Bool). true && not false && b && list_any (can_replace core) (copies_of left.row left.left.lp)) gone ∙ replaced in
+        ap (λ (b : Bool). b && not (is_stale core p) && is_missing core p.disk && list_any (can_replace core) (copies_of left.row left.left.lp)) among
+        ∙ ap (λ (b : Bool). true && not b && is_missing core p.disk && list_any (can_replace core) (copies_of left.row left.left.lp)) stale_is
+        ∙ ap (λ (b : Bool). true && not false && b && list_any (can_replace core) (copies_of left.row left.left.lp)) gone ∙ replaced in
         let at : is_entailed_in core left.row p ≡ true = passes (λ (lp : ℕ). is_left_behind core (copies_of left.row lp) p) (range_with_len 0 left.row.lps) left.left.lp (inside 0 left.row.lps left.left.lp (omega arith) (let low = left.left.below in omega (arith, low))) behind_it in
         behind p (passes (λ (r : LvRow). is_entailed_in core r p) core.descriptor.lvs left.row left.volume at)
       where

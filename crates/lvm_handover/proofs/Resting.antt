@@ -19,7 +19,7 @@ use Rattle.lvm_session.specs.declared.flown.Flown.{Flown}
 use Rattle.lvm_session.specs.declared.flown.Owner.{Owner}
 use Rattle.lvm_session.specs.declared.flown.Owner.TheVariants as owner
 use Rattle.lvm_session.specs.State.{Core, State, is_there, votes_there}
-use Rattle.lvm_session.specs.Enabled.{first_of, has_buffer, is_lost, is_status_due, landing, or_next, parts_to_settle, parts_to_start, same_status}
+use Rattle.lvm_session.specs.Enabled.{first_of, has_buffer, is_status_due, landing, or_next, parts_to_settle, parts_to_start, same_status}
 use Rattle.lvm_session.specs.Owners.{flies, same_owner}
 use Rattle.lvm_session.specs.Sound.{IsGoing, IsOn, IsSound, count_if}
 use Rattle.lvm_core.specs.Settled.{IsSettled}

@@ -1,6 +1,6 @@
 -- A session that a command on its group leaves settled is sound with requests too.
-use Rattle.std.proofs.Common.{◌≡◌, ◌==◌, ◌⊎◌, inl, inr, ⊎_elim, ℕ, zero, suc, ◌+◌, ◌≤◌, ◌<◌, ◌^◌, Bool, true, false, ◌&&◌, ◌||◌, not, List, [], ◌∷◌, replicate, Option, Some, None, length, if◌then◌else◌, refl, sym, ◌∙◌, ap, subst, arith}
-use Rattle.std.specs.Prelude.{Contains, IfSome, IsTrue, IsFalse, count_by, is_some, slice_index_or, unwrap_or}
+use Rattle.std.proofs.Common.{◌≡◌, ◌==◌, ◌⊎◌, inl, inr, ⊎_elim, ℕ, ◌+◌, ◌≤◌, ◌<◌, ◌^◌, Bool, true, false, ◌&&◌, ◌||◌, not, List, [], ◌∷◌, Option, None, length, if◌then◌else◌, refl, sym, ◌∙◌, ap, subst, arith}
+use Rattle.std.specs.Prelude.{Contains, IfSome, IsTrue, count_by, is_some, slice_index_or, unwrap_or}
 use Rattle.std.specs.List.{list_any, AllByRecursion}
 use Rattle.std.specs.Option.{option_map_or}
 use Rattle.std.proofs.lemmas.Bool.{eq-eqb}
@@ -9,18 +9,16 @@ use Rattle.lvm_num.specs.declared.descriptor.PvRow.{PvRow}
 use Rattle.lvm_num.specs.declared.place.Pp.{Pp}
 use Rattle.lvm_num.specs.declared.status.Status.{Status}
 use Rattle.lvm_num.specs.Descriptor.{is_member}
-use Rattle.lvm_num.specs.Disks.{Disks, has}
+use Rattle.lvm_num.specs.Disks.{has}
 use Rattle.lvm_num.specs.Status.{calls_stale, calls_missing}
 use Rattle.lvm_num.specs.Votes.{is_enough_to_write, votes_in}
 use Rattle.lvm_disk.specs.Counts.{Rose}
-use Rattle.lvm_disk.specs.Device.{Flight}
 use Rattle.lvm_disk.proofs.Rising.{rose_after, rose_before}
-use Rattle.lvm_hold.specs.Waiting.{Waiting}
 use Rattle.lvm_kept.specs.Group.{IsOneOf}
 use Rattle.lvm_mwc.specs.Cache.{Cached, flight_on}
 use Rattle.lvm_mwc.specs.Entries.{pins_of}
 use Rattle.lvm_status.specs.Runs.{IsSound as IsSoundStatus}
-use Rattle.lvm_status.specs.Update.{Stored, is_held, members_there, seen}
+use Rattle.lvm_status.specs.Update.{is_held, members_there, seen}
 use Rattle.lvm_session.specs.declared.bringing.OpenCopy.{OpenCopy}
 use Rattle.lvm_session.specs.declared.flown.Flown.{Flown}
 use Rattle.lvm_session.specs.declared.flown.Owner.{Owner}
@@ -31,19 +29,18 @@ use Rattle.lvm_session.specs.declared.origin.Origin.{Origin}
 use Rattle.lvm_session.specs.State.{Core, State, is_there, state}
 use Rattle.lvm_session.specs.Judging.{copies_in, is_missing, is_settled, is_stale, is_wanted_stale}
 use Rattle.lvm_session.specs.Bringing.{end_of, has_row, is_out, step_row}
-use Rattle.lvm_session.specs.Causes.{AreCaused, AreCounted, FailedSince, IsAnswered, IsChosenSince, IsCopyCaused, IsTrueToOrigin, faults_at_first, is_held_stale, is_over, was_fresh}
+use Rattle.lvm_session.specs.Causes.{AreCaused, AreCounted, FailedSince, IsAnswered, IsChosenSince, IsCopyCaused, IsTrueToOrigin, faults_at_first, is_held_stale, is_over}
 use Rattle.lvm_session.specs.Dark.{AreTold, hand_of_copy}
-use Rattle.lvm_session.specs.Left.{updates_left}
 use Rattle.lvm_session.specs.Marks.{is_among, is_entailed}
 use Rattle.lvm_session.specs.Owners.{AreOwned, AreRows, HaveTickets, flies, same_owner, target_flies}
 use Rattle.lvm_session.specs.Placed.{ArePlaced, IsPlaced}
 use Rattle.lvm_session.specs.Requests.{IsOpenOne}
-use Rattle.lvm_session.specs.Sound.{IsAsked, IsCopy, IsFitting, IsGoing, IsOn, IsSound, IsTold, count_if, hands_with, is_dark, is_hand, may_be_fresh, pins, stays_fresh, waiting_rows, waits, with_row}
+use Rattle.lvm_session.specs.Sound.{IsAsked, IsCopy, IsFitting, IsGoing, IsOn, IsSound, IsTold, count_if, hands_with, is_hand, may_be_fresh, pins, stays_fresh, waiting_rows, waits, with_row}
 use Rattle.lvm_session.proofs.Parts.{idle_is_sound}
 use Rattle.lvm_core.specs.Settled.{IsSettled}
 use Rattle.lvm_core.specs.Sound.{IsSound as IsSoundBetween}
 use Rattle.lvm_keeps.proofs.Lists.{count_cons}
-use Rattle.lvm_tie.proofs.Words.{any_one, clash, or_true, not_true}
+use Rattle.lvm_tie.proofs.Words.{any_one, clash, or_true}
 use Rattle.lvm_volumes.specs.Endings.{HasFresh}
 use Rattle.lvm_handover.specs.Serving.{CommandsServe, GoesOnWith, IsServed, is_gone}
 use Rattle.lvm_handover.proofs.Entailing.{not_entailed, passes}
@@ -68,7 +65,7 @@ its_own (owner.Note disk) = eq-eqb disk disk refl
 its_own owner.Copy = refl
 
 -- where nobody has a transfer out, none is the session's
-none_flying : (core : Core) → AreOwned core → ((who : Owner) → flies core who ≡ false) → core.flying ≡ []
+pub none_flying : (core : Core) → AreOwned core → ((who : Owner) → flies core who ≡ false) → core.flying ≡ []
 none_flying core owned none = by core.flying (λ who. owned who ∙ ap count_if (none who))
   where
     by : (rows : List Flown) → ((who : Owner) → count_by (λ (f : Flown). same_owner who f.owner) rows ≡ 0) → rows ≡ []
@@ -79,7 +76,7 @@ none_flying core owned none = by core.flying (λ who. owned who ∙ ap count_if 
         let its : count_if (same_owner row.owner row.owner) ≡ 1 = ap count_if (its_own row.owner) in
         absurd (omega (arith, one, more, its))
 
-nobody_flies : (core : Core) → core.requests ≡ [] → core.copy ≡ None → ((disk : ℕ) → has core.status.writes.started disk ≡ false) → ((disk : ℕ) → flight_on core.cache disk ≡ None) → (who : Owner) → flies core who ≡ false
+pub nobody_flies : (core : Core) → core.requests ≡ [] → core.copy ≡ None → ((disk : ℕ) → has core.status.writes.started disk ≡ false) → ((disk : ℕ) → flight_on core.cache disk ≡ None) → (who : Owner) → flies core who ≡ false
 nobody_flies core requests copy started notes (owner.Data id target) = ap (λ (os : List Open). list_any (λ (o : Open). o.request.id == id && target_flies target o) os) requests
 nobody_flies core requests copy started notes (owner.Status disk) = started disk
 nobody_flies core requests copy started notes (owner.Note disk) = ap is_some (notes disk)
@@ -281,12 +278,12 @@ module _ (added : List Pp) (old new : State) (sound : IsSound old) (began : IsSe
         let mib : core.descriptor.mib ≡ old.core.descriptor.mib = ap (λ (d : Descriptor). d.mib) goes.alike in
         let pvs : core.descriptor.pvs ≡ old.core.descriptor.pvs = ap (λ (d : Descriptor). d.pvs) goes.alike in
         subst (λ (sizes : List ℕ). IsPlaced sizes core.descriptor.mib row) (sym goes.sizes) (subst (λ (n : ℕ). IsPlaced old.device.sizes n row) (sym mib)
-            (sound.placed row (subst (λ (rs : List PvRow). Contains rs row) pvs among) (was_there row.disk there)))
+        (sound.placed row (subst (λ (rs : List PvRow). Contains rs row) pvs among) (was_there row.disk there)))
 
     votes : is_enough_to_write core.descriptor (votes_in core.descriptor (members_there core.descriptor t)) ≡ true
     votes = enough_more core.descriptor (votes_in core.descriptor (is_there new.core)) (votes_in core.descriptor (members_there core.descriptor t))
         (more_votes core.descriptor (is_there new.core) (members_there core.descriptor t) core.descriptor.pvs
-            (each_row (λ (r : PvRow). is_there new.core r.disk ≡ true → members_there core.descriptor t r.disk ≡ true) (λ r there. there_by r.disk there) core.descriptor.pvs))
+        (each_row (λ (r : PvRow). is_there new.core r.disk ≡ true → members_there core.descriptor t r.disk ≡ true) (λ r there. there_by r.disk there) core.descriptor.pvs))
         is.settled.votes
       where
         there_by : (disk : ℕ) → is_there new.core disk ≡ true → members_there core.descriptor t disk ≡ true
@@ -362,8 +359,8 @@ module _ (added : List Pp) (old new : State) (sound : IsSound old) (began : IsSe
   pub served_is_sound : (core : Core) → IsServed added new.core core → IsSound (state new.device core)
   served_is_sound core served = subst (λ (c : Core). IsSound (state new.device c)) (sym served.is)
       (is_sound core.origin.table served.marks.stale
-          (λ disk gone. served.marks.missing disk ∙ or_true (calls_missing new.core.origin.table disk) (is_gone new.core disk) (inl gone))
-          (λ disk gone. by (calls_missing new.core.origin.table disk) (is_member new.core.descriptor disk) (is_missing new.core disk) (sym (served.marks.missing disk) ∙ gone)))
+      (λ disk gone. served.marks.missing disk ∙ or_true (calls_missing new.core.origin.table disk) (is_gone new.core disk) (inl gone))
+      (λ disk gone. by (calls_missing new.core.origin.table disk) (is_member new.core.descriptor disk) (is_missing new.core disk) (sym (served.marks.missing disk) ∙ gone)))
     where
       by : (a m n : Bool) → a || (m && n) ≡ true → (a ≡ true) ⊎ (n ≡ true)
       by true m n either = inl refl
@@ -379,6 +376,6 @@ module _ (added : List Pp) (old new : State) (sound : IsSound old) (began : IsSe
 
 pub commands_serve : CommandsServe
 commands_serve added old new sound began settled goes = (
-    (λ between. served_is_sound added old new sound began (record { sound = between; settled = settled }) goes),
-    (λ nothing between. stays_sound added old new sound began (record { sound = between; settled = settled }) goes nothing),
-  )
+  (λ between. served_is_sound added old new sound began (record { sound = between; settled = settled }) goes),
+  (λ nothing between. stays_sound added old new sound began (record { sound = between; settled = settled }) goes nothing),
+)

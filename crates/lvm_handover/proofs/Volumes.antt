@@ -1,57 +1,55 @@
 -- A session is sound with requests after a volume was made or removed.
-use Rattle.std.proofs.Common.{◌≡◌, ◌==◌, ◌⊎◌, inl, inr, ⊎_elim, ℕ, ◌+◌, ◌-◌, ◌≤◌, ◌<◌, ◌^◌, Bool, true, false, ◌&&◌, ◌||◌, not, List, [], ◌∷◌, Option, Some, None, if◌then◌else◌, refl, sym, ◌∙◌, ap, subst, arith}
-use Rattle.std.specs.Prelude.{All, Contains, IsTrue, IsFalse, Result, Ok, Err, find, unwrap_or}
+use Rattle.std.proofs.Common.{◌≡◌, ◌==◌, ◌⊎◌, inl, inr, ⊎_elim, ℕ, ◌-◌, ◌≤◌, ◌^◌, Bool, true, false, ◌&&◌, ◌||◌, not, List, [], ◌∷◌, Option, Some, None, if◌then◌else◌, refl, sym, ◌∙◌, ap, subst, arith}
+use Rattle.std.specs.Prelude.{IsTrue, IsFalse, Ok, Err, find}
 use Rattle.std.specs.List.{list_any}
 use Rattle.std.specs.Option.{option_map_or}
 use Rattle.std.proofs.lemmas.List.Elements.{All-contains}
-use Rattle.std.proofs.lemmas.Bool.{eq-eqb, eqb-true}
+use Rattle.std.proofs.lemmas.Bool.{eqb-true}
 use Rattle.lvm_num.specs.declared.descriptor.Descriptor.{Descriptor}
 use Rattle.lvm_num.specs.declared.descriptor.LvRow.{LvRow}
 use Rattle.lvm_num.specs.declared.place.Pp.{Pp}
-use Rattle.lvm_num.specs.declared.status.Status.{Status}
 use Rattle.lvm_num.specs.Descriptor.{IsPartitionOf, IsValid, copies_of, is_member, volume_of}
 use Rattle.lvm_num.specs.Geometry.{volume_blocks}
-use Rattle.lvm_num.specs.Status.{calls_missing, calls_stale}
+use Rattle.lvm_num.specs.Status.{calls_stale}
 use Rattle.lvm_disk.specs.Counts.{NoneFalls}
 use Rattle.lvm_disk.proofs.Rising.{none_falls_at_once}
 use Rattle.lvm_vol.specs.declared.entry.Vol.TheVariants.{Lv}
-use Rattle.lvm_vol.specs.Facts.{Fact, Made, Making, Removed, Removing}
+use Rattle.lvm_vol.specs.Facts.{Made, Making, Removed, Removing}
 use Rattle.lvm_vol.specs.Log.{Log, with_fact}
 use Rattle.lvm_vol.specs.Order.{Ordered}
 use Rattle.lvm_vol.proofs.Order.{ordered-push}
 use Rattle.lvm_kept.specs.Group.{IsAlike, IsOneOf}
-use Rattle.lvm_map.specs.FirstFit.{IsAllocated, new_volume}
 use Rattle.lvm_status.specs.Update.{members_there}
-use Rattle.lvm_commit.specs.Settling.{NoneIsLeft, SpendsNumbers, many_there}
+use Rattle.lvm_commit.specs.Settling.{NoneIsLeft, SpendsNumbers}
 use Rattle.lvm_commit.proofs.Copies.{contains, of_map}
 use Rattle.lvm_rest.proofs.Rows.{row_is_volume}
 use Rattle.lvm_next.proofs.Building.{copy_is_placed, is_member_of}
-use Rattle.lvm_session.specs.State.{Core, State, is_there, state}
-use Rattle.lvm_session.specs.Judging.{copies_in, is_missing, is_settled, is_stale, is_wanted_stale}
+use Rattle.lvm_session.specs.State.{Core, State, is_there}
+use Rattle.lvm_session.specs.Judging.{copies_in, is_missing, is_settled, is_wanted_stale}
 use Rattle.lvm_session.specs.Causes.{is_held_stale}
 use Rattle.lvm_session.specs.Left.{updates_left}
+use Rattle.lvm_session.specs.Marks.{is_among}
 use Rattle.lvm_session.specs.Sound.{IsGoing, IsSound, may_be_fresh, stays_fresh}
 use Rattle.lvm_core.specs.Leaves.{KeepsStatus, Leaves, NoPartition, WasLeftBehind}
 use Rattle.lvm_core.specs.Settled.{IsSettled}
-use Rattle.lvm_tie.proofs.Words.{clash, or_true}
-use Rattle.lvm_volume_plan.specs.declared.fault.GroupFault.{GroupFault}
+use Rattle.lvm_tie.proofs.Words.{or_true}
 use Rattle.lvm_volume_plan.specs.declared.fault.GroupFault.TheVariants as fault
 use Rattle.lvm_volume_plan.specs.declared.new_volume.NewVolume.{NewVolume}
-use Rattle.lvm_volume_plan.specs.Faults.{HasPlaces, HasSpareRoom, IsRefused, RefusesMklv, RefusesRmlv}
-use Rattle.lvm_volume_plan.specs.NewVolume.{IsLowestFree, row_for, with_volume, without_volume}
+use Rattle.lvm_volume_plan.specs.Faults.{HasSpareRoom}
+use Rattle.lvm_volume_plan.specs.NewVolume.{row_for, with_volume, without_volume}
 use Rattle.lvm_volume_plan.proofs.Sublists.{one_filter, one_insert}
-use Rattle.lvm_volumes.specs.Endings.{CommandFailed, HasFresh, IfOn, KeepsFresh, StillHeld}
-use Rattle.lvm_volumes.specs.Volumes.{IsChosen, IsVolumeMade, IsVolumeRemoved, IsWith, MakingFails, MklvGives, RmlvGives, making, removing, to_make, to_remove}
+use Rattle.lvm_volumes.specs.Endings.{HasFresh, KeepsFresh, StillHeld}
+use Rattle.lvm_volumes.specs.Volumes.{IsChosen, IsVolumeMade, IsVolumeRemoved, IsWith, MakingFails, making, removing, to_make, to_remove}
 use Rattle.lvm_volumes.proofs.Entering.{many_bound}
 use Rattle.lvm_volumes.proofs.Places.{places_of}
-use Rattle.lvm_handover.specs.Serving.{GoesOnWith, IsCommanded, MayServe, MklvServes, RmlvServes, StaysSound}
+use Rattle.lvm_handover.specs.Serving.{GoesOnWith, MayServe, MklvServes, RmlvServes, StaysSound}
 use Rattle.lvm_handover.proofs.Entailing.{few_updates, none_left, passes}
 use Rattle.lvm_handover.proofs.Serving.{commands_serve}
 
 -- ---- rows
 
 -- what is found is there, and is what was looked for
-found : (test : LvRow → Bool) (rows : List LvRow) (row : LvRow) → find test rows ≡ Some row → IsOneOf rows row × (test row ≡ true)
+pub found : (test : LvRow → Bool) (rows : List LvRow) (row : LvRow) → find test rows ≡ Some row → IsOneOf rows row × (test row ≡ true)
 found test [] row is = absurd (cc is)
 found test (r ∷ rows) row is = by (test r) refl is (found test rows row)
   where
@@ -65,14 +63,14 @@ pub record IsCopyOf (d : Descriptor) (lv lp : ℕ) (p : Pp) : Type 0 where
   pub volume : volume_of d lv ≡ Some row
   pub one : IsOneOf (copies_of row lp) p
 
-its_row : (d : Descriptor) (lv lp : ℕ) (p : Pp) → IsOneOf (copies_in d lv lp) p → IsCopyOf d lv lp p
+pub its_row : (d : Descriptor) (lv lp : ℕ) (p : Pp) → IsOneOf (copies_in d lv lp) p → IsCopyOf d lv lp p
 its_row d lv lp p is = by (volume_of d lv) refl is
   where
     by : (o : Option LvRow) → volume_of d lv ≡ o → IsOneOf (option_map_or (λ (row : LvRow). copies_of row lp) o []) p → IsCopyOf d lv lp p
     by None at one = absurd one
     by (Some row) at one = record { row = row; volume = at; one = one }
 
-copies_at : (d : Descriptor) (lv lp : ℕ) (row : LvRow) → volume_of d lv ≡ Some row → copies_in d lv lp ≡ copies_of row lp
+pub copies_at : (d : Descriptor) (lv lp : ℕ) (row : LvRow) → volume_of d lv ≡ Some row → copies_in d lv lp ≡ copies_of row lp
 copies_at d lv lp row at = ap (λ (o : Option LvRow). option_map_or (λ (row : LvRow). copies_of row lp) o []) at
 
 -- ---- what a command leaves, by its contract
@@ -90,7 +88,7 @@ module _ (old : State) (sound : IsSound old) (began : IsSettled old.core) where
   none_before = none_left old.core sound.fitting.valid sound.fitting.group began.committed going.behind
 
   -- a copy that was fresh when it began has a fresh one beside it
-  had_fresh : (lv lp : ℕ) (p : Pp) → IsOneOf (copies_in old.core.descriptor lv lp) p → IsFalse (calls_stale old.core.origin.table p) → HasFresh old.core lv lp
+  pub had_fresh : (lv lp : ℕ) (p : Pp) → IsOneOf (copies_in old.core.descriptor lv lp) p → IsFalse (calls_stale old.core.origin.table p) → HasFresh old.core lv lp
   had_fresh lv lp p one fresh =
       let some = going.fresh lv lp (passes (may_be_fresh old.core) (copies_in old.core.descriptor lv lp) p one (ap (λ (b : Bool). not b || not (is_settled old.core p && is_wanted_stale old.core p)) fresh)) in
       weaker (copies_in old.core.descriptor lv lp) some
@@ -108,12 +106,12 @@ module _ (old : State) (sound : IsSound old) (began : IsSettled old.core) where
           by true here is rest = or_true (not (is_wanted_stale old.core q)) (list_any (λ (r : Pp). not (is_wanted_stale old.core r)) ps) (inl (second (is_held_stale old.core q) (is_wanted_stale old.core q) here))
           by false here is rest = or_true (not (is_wanted_stale old.core q)) (list_any (λ (r : Pp). not (is_wanted_stale old.core r)) ps) (inr (rest is))
 
-  module _ (new : State) (after : IsSettled new.core) (still : StillHeld old new) (d : Descriptor) (log : Log) (N : Descriptor → Type 0) (F : Pp → Type 0) (more : ℕ)
+  module _ (new : State) (after : IsSettled new.core) (still : StillHeld old new) (added : List Pp) (d : Descriptor) (log : Log) (N : Descriptor → Type 0) (S F : Pp → Type 0) (more : ℕ)
       (is : new.core ≡ record old.core { descriptor = d; history = log; status = new.core.status; homes = new.core.homes }) (alike : IsAlike d old.core.descriptor)
-      (ordered : Ordered log.run [] log.facts) (room : log.room ≡ old.core.history.room) (status : KeepsStatus N NoPartition F old new) (falls : NoneFalls old.device.counts new.device.counts)
+      (ordered : Ordered log.run [] log.facts) (room : log.room ≡ old.core.history.room) (status : KeepsStatus N S F old new) (are : (p : Pp) → S p → IsTrue (is_among added p)) (falls : NoneFalls old.device.counts new.device.counts)
       (sizes : new.device.sizes ≡ old.device.sizes) (numbers : SpendsNumbers more old.core.status new.core.status) (few : more ≤ 2) (spare : HasSpareRoom old.core)
       (members : (g : Descriptor) → N g → (row : LvRow) (lp : ℕ) (p : Pp) → IsOneOf g.lvs row → IsOneOf (copies_of row lp) p → IsTrue (is_member old.core.descriptor p.disk))
-      (fresh : (lv lp : ℕ) (p : Pp) → IsOneOf (copies_in d lv lp) p → IsFalse (calls_stale old.core.origin.table p) → HasFresh new.core lv lp) where
+      (fresh : (lv lp : ℕ) (p : Pp) → IsOneOf (copies_in d lv lp) p → IsFalse (calls_stale old.core.origin.table p) → IsFalse (is_among added p) → HasFresh new.core lv lp) where
     descriptor_is : new.core.descriptor ≡ d
     descriptor_is = ap (λ (c : Core). c.descriptor) is
 
@@ -123,13 +121,13 @@ module _ (old : State) (sound : IsSound old) (began : IsSettled old.core) where
     behind_is_missing : (p : Pp) → WasLeftBehind N F old new p → IsTrue (is_missing new.core p.disk)
     behind_is_missing p left =
         let member : is_member old.core.descriptor p.disk ≡ true = ⊎_elim
-            (λ (same : left.group ≡ old.core.descriptor). is_member_of old.core.descriptor p (copy_is_placed old.core.descriptor sound.fitting.valid left.row left.lp p (subst (λ (g : Descriptor). IsOneOf g.lvs left.row) same left.volume) left.one))
-            (λ (next : N left.group). members left.group next left.row left.lp p left.volume left.one)
-            left.known in
+        (λ (same : left.group ≡ old.core.descriptor). is_member_of old.core.descriptor p (copy_is_placed old.core.descriptor sound.fitting.valid left.row left.lp p (subst (λ (g : Descriptor). IsOneOf g.lvs left.row) same left.volume) left.one))
+        (λ (next : N left.group). members left.group next left.row left.lp p left.volume left.one)
+        left.known in
         not_there (is_member old.core.descriptor p.disk) (is_missing new.core p.disk) member
         (subst (λ (g : Descriptor). IsFalse (members_there g new.core.status.wanted p.disk)) (status.group ∙ sound.fitting.group) left.absent)
 
-    pub goes_on : IsValid new.core.descriptor → GoesOnWith [] old new
+    pub goes_on : IsValid new.core.descriptor → GoesOnWith added old new
     goes_on valid = record {
       is = is ∙ ap (λ (c : Core). record old.core { descriptor = c.descriptor; history = c.history; status = new.core.status; homes = new.core.homes }) (sym is);
       alike = subst (λ (g : Descriptor). IsAlike g old.core.descriptor) (sym descriptor_is) alike;
@@ -147,12 +145,16 @@ module _ (old : State) (sound : IsSound old) (began : IsSettled old.core) where
       stays = status.stays;
       lost = λ disk gone was. (status.lost disk gone was).1;
       further = λ p now. ⊎_elim (λ (was : IsTrue (calls_stale old.core.status.wanted p)). inl was)
-          (λ (rest : NoPartition p ⊎ WasLeftBehind N F old new p). ⊎_elim (λ (none : NoPartition p). absurd none) (λ (left : WasLeftBehind N F old new p). inr (inr (behind_is_missing p left))) rest) (status.further p now);
-      fresh = λ lv lp p one was apart. fresh lv lp p (subst (λ (g : Descriptor). IsOneOf (copies_in g lv lp) p) descriptor_is one) was;
+          (λ (rest : S p ⊎ WasLeftBehind N F old new p). ⊎_elim (λ (one : S p). inr (inl (are p one))) (λ (left : WasLeftBehind N F old new p). inr (inr (behind_is_missing p left))) rest) (status.further p now);
+      fresh = λ lv lp p one was apart. fresh lv lp p (subst (λ (g : Descriptor). IsOneOf (copies_in g lv lp) p) descriptor_is one) was apart;
     }
 
-    pub may_serve : MayServe [] new × StaysSound new
-    may_serve = (λ between. (commands_serve [] old new sound began after (goes_on between.fitting.valid)).0 between, λ between. (commands_serve [] old new sound began after (goes_on between.fitting.valid)).1 refl between)
+    pub may_serve : MayServe added new × (added ≡ [] → StaysSound new)
+    may_serve = (λ between. (commands_serve added old new sound began after (goes_on between.fitting.valid)).0 between, λ none between. (commands_serve added old new sound began after (goes_on between.fitting.valid)).1 none between)
+
+-- where nothing was added
+nothing_added : (new : State) → MayServe [] new × (◌≡◌ {A = List Pp} [] [] → StaysSound new) → MayServe [] new × StaysSound new
+nothing_added new both = (both.0, both.1 refl)
 
 -- where nothing has happened
 pub refused_serves : (old new : State) → IsSound old → IsSettled old.core → new ≡ old → MayServe [] new × StaysSound new
@@ -195,9 +197,9 @@ module _ (v : NewVolume) (before after : ℕ) (old new : State) (sound : IsSound
 
   module _ (began : IsSettled old.core) (leaves : Leaves (to_make v old.core) before after old new) (is_after : IsSettled new.core) (still : StillHeld old new) (keeps : KeepsFresh old new) where
     made : (lv : ℕ) → IsVolumeMade v lv old new → MayServe [] new × StaysSound new
-    made lv it = may_serve old sound began new is_after still (with_volume old.core.descriptor (row_for v lv it.map)) (with_fact (making v lv old) (Made lv)) (IsWith v old.core) (IsChosen v old.core) 2 it.is refl
+    made lv it = nothing_added new (may_serve old sound began new is_after still [] (with_volume old.core.descriptor (row_for v lv it.map)) (with_fact (making v lv old) (Made lv)) (IsWith v old.core) NoPartition (IsChosen v old.core) 2 it.is refl
         (ordered-push old.core.history.run [] (making v lv old).facts (Made lv) (ordered-push old.core.history.run [] old.core.history.facts (Making lv (volume_blocks old.core.descriptor.mib v.lps) v.mode) sound.told.ordered tt) tt)
-        refl leaves.status leaves.falls leaves.writes.sizes leaves.numbers (omega arith) it.may.room of_members fresh
+        refl leaves.status (λ p none. absurd none) leaves.falls leaves.writes.sizes leaves.numbers (omega arith) it.may.room of_members (λ n lp p one was apart. fresh n lp p one was))
       where
         next : Descriptor
         next = with_volume old.core.descriptor (row_for v lv it.map)
@@ -221,9 +223,9 @@ module _ (v : NewVolume) (before after : ℕ) (old new : State) (sound : IsSound
             (one_insert old.core.descriptor.lvs (lv - 1) (row_for v lv it.map) its.row at.0)
 
     failed : (disk : ℕ) → MakingFails v disk old new → MayServe [] new × StaysSound new
-    failed disk it = may_serve old sound began new is_after still old.core.descriptor old.core.history (IsWith v old.core) (IsChosen v old.core) 2 it.ends.is refl sound.told.ordered refl leaves.status leaves.falls leaves.writes.sizes
+    failed disk it = nothing_added new (may_serve old sound began new is_after still [] old.core.descriptor old.core.history (IsWith v old.core) NoPartition (IsChosen v old.core) 2 it.ends.is refl sound.told.ordered refl leaves.status (λ p none. absurd none) leaves.falls leaves.writes.sizes
         leaves.numbers (omega arith) it.may.room of_members
-        (λ n lp p one was. keeps n lp p (subst (λ (g : Descriptor). IsOneOf (copies_in g n lp) p) (sym (ap (λ (c : Core). c.descriptor) it.ends.is)) one) (inr (had_fresh old sound began n lp p one was)))
+        (λ n lp p one was apart. keeps n lp p (subst (λ (g : Descriptor). IsOneOf (copies_in g n lp) p) (sym (ap (λ (c : Core). c.descriptor) it.ends.is)) one) (inr (had_fresh old sound began n lp p one was))))
 
 pub mklv_serves : MklvServes
 mklv_serves v before after old new (Ok lv) sound c gives = made v before after old new sound c.began c.leaves c.on c.still c.fresh lv gives
@@ -245,10 +247,10 @@ mklv_serves v before after old new (Err fault.Memory) sound c gives = refused_se
 
 module _ (lv before after : ℕ) (old new : State) (sound : IsSound old) (began : IsSettled old.core) (leaves : Leaves (to_remove lv old.core) before after old new) (is_after : IsSettled new.core) (still : StillHeld old new) (keeps : KeepsFresh old new) where
   removed : IsVolumeRemoved lv old new → MayServe [] new × StaysSound new
-  removed it = may_serve old sound began new is_after still (without_volume old.core.descriptor lv) (with_fact (removing lv old) (Removed (Lv lv))) (λ (next : Descriptor). next ≡ without_volume old.core.descriptor lv) NoPartition 1 it.is refl
+  removed it = nothing_added new (may_serve old sound began new is_after still [] (without_volume old.core.descriptor lv) (with_fact (removing lv old) (Removed (Lv lv))) (λ (next : Descriptor). next ≡ without_volume old.core.descriptor lv) NoPartition NoPartition 1 it.is refl
       (ordered-push old.core.history.run [] (removing lv old).facts (Removed (Lv lv)) (ordered-push old.core.history.run [] old.core.history.facts (Removing (Lv lv)) sound.told.ordered tt) tt)
-      refl leaves.status leaves.falls leaves.writes.sizes leaves.numbers (omega arith) it.may.room
-      (λ g next row lp p volume one. is_member_of old.core.descriptor p (copy_is_placed old.core.descriptor sound.fitting.valid row lp p (was_volume row (subst (λ (x : Descriptor). IsOneOf x.lvs row) next volume)) one)) fresh
+      refl leaves.status (λ p none. absurd none) leaves.falls leaves.writes.sizes leaves.numbers (omega arith) it.may.room
+      (λ g next row lp p volume one. is_member_of old.core.descriptor p (copy_is_placed old.core.descriptor sound.fitting.valid row lp p (was_volume row (subst (λ (x : Descriptor). IsOneOf x.lvs row) next volume)) one)) (λ n lp p one was apart. fresh n lp p one was))
     where
       was_volume : (row : LvRow) → IsOneOf (without_volume old.core.descriptor lv).lvs row → IsOneOf old.core.descriptor.lvs row
       was_volume row one = one_filter (λ (r : LvRow). not (r.number == lv)) old.core.descriptor.lvs row one

@@ -1,5 +1,5 @@
 -- A session of requests at which nothing is under way: commands on its group may follow.
-use Rattle.std.specs.Prelude.{◌≡◌, ◌≢◌}
+use Rattle.std.specs.Prelude.{◌≢◌}
 use Rattle.lvm_session.specs.State.{State}
 use Rattle.lvm_session.specs.Sound.{IsSound}
 use Rattle.lvm_core.specs.Sound.{HasNoneOpen}

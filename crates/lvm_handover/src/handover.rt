@@ -20,7 +20,9 @@ pub fn settle<S: Shelf>(driver: lvm_driver::Driver<S>) -> lvm_core::Driver<S>
     ensures shelf { result.0 ≡ driver.0 }
     ensures core { result.1 ≡ driver.1 }
     ensures settled { IsSettled driver.1 }
-    ensures sound { IsSoundBetween (state (S.device driver.0) driver.1) }
+    ensures between { IsSoundBetween (state (S.device driver.0) driver.1) }
+    // What held of it all the time.
+    ensures sound { IsSound (state (S.device driver.0) driver.1) }
 {
     let (shelf, session) = driver.into_parts();
     lvm_core::Driver::from_parts(shelf, session)

@@ -27,7 +27,7 @@ use Rattle.lvm_posts.specs.declared.asked.Asked.{Asked}
 use Rattle.lvm_posts.specs.Pieces.{IsLaidOut}
 use Rattle.lvm_ranges.specs.Asking.{Asks, IsAskedFor}
 use Rattle.lvm_ranges.specs.Keeping.{KeepsEarlier}
-use Rattle.lvm_ranges.specs.Pieces.{NoPiece, OnePiece, Submits, piece_ask, piece_bytes}
+use Rattle.lvm_ranges.specs.Pieces.{NoPiece, OnePiece, Submits, piece_ask, piece_bytes, with_piece}
 use Rattle.lvm_ranges.specs.Reading.{AreReads, IsRead, IsReadAt, NoRead, OneRead}
 use Rattle.lvm_ranges.proofs.Asking.{all_held, count_so, next_ids, table_keeps}
 
@@ -133,7 +133,8 @@ are_reads {lv} {at} {end} {first} ordered (OnePiece {from = from} {n = n} {core 
     let grows : from < piece_end from end = omega (arith, less) in
     let long : from - at + size ≡ piece_end from end - at = omega (arith, low, grows) in
     let begins : place + (from - at) ≡ blocks_begun facts = omega (arith, low, was) in
-    let none : list_any (lands_id (id + n)) (facts ++ Begun r ∷ []) ≡ false = unlanded (OnePiece {write = None} before less) (id + n) (none_above first.history ordered (id + n) (omega arith)) in
+    let more : Submits None lv at end first (piece_end from end) (n + 1) (with_piece None lv at from size core) = OnePiece before less in
+    let none : list_any (lands_id (id + n)) (facts ++ Begun r ∷ []) ≡ false = unlanded more (id + n) (none_above first.history ordered (id + n) (omega arith)) in
     subst (λ l. AreReads (facts ++ Begun r ∷ []) id place (n + 1) l) long (OneRead (reads_push facts r id place (are_reads ordered before)) (record {
       past = facts;
       rest = [];

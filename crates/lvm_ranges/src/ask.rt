@@ -109,6 +109,7 @@ fn submit_piece<S: Shelf>(
     requires may { ask_fault driver.old.1 (piece_ask write lv from count) ≡ None }
     requires some { 1 ≤ count }
     requires group { from % 256 + count ≤ 256 }
+    requires last { from + count < 2 ^ 64 }
     requires behind { at ≤ from }
     requires near { from < at + 2 ^ 32 }
     requires room { 131072 ≤ vec_capacity bytes.old }

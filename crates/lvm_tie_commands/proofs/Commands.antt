@@ -1,8 +1,6 @@
 -- What stands on the disks of a session goes on to stand over a command, by what each of them leaves.
 use Rattle.std.proofs.Common.{◌≡◌, ℕ, ◌<◌, ◌^◌, ◌++◌, Bool, true, false, ◌&&◌, ◌||◌, not, List, [], Option, None, Some, Result, Ok, Err, count_by, refl, sym, ap, subst, ◌∙◌}
 use Rattle.std.specs.Prelude.{◌≢◌, IsTrue}
-use Rattle.lvm_num.specs.declared.descriptor.Descriptor.{Descriptor}
-use Rattle.lvm_num.specs.declared.place.Pp.{Pp}
 use Rattle.lvm_num.specs.declared.status.Status.{Status}
 use Rattle.lvm_num.specs.Descriptor.{is_member}
 use Rattle.lvm_num.specs.Record.{Stamped}
@@ -24,11 +22,11 @@ use Rattle.lvm_session.specs.Judging.{is_missing}
 use Rattle.lvm_session.specs.Sound.{IsSound}
 use Rattle.lvm_core.specs.Committing.{moment_of}
 use Rattle.lvm_core.specs.Held.{IsHeld, NotesAreHome}
-use Rattle.lvm_core.specs.Leaves.{EntersVolumes, IsOfCommand, Leaves}
+use Rattle.lvm_core.specs.Leaves.{EntersVolumes, IsOfCommand, Leaves, Scope}
 use Rattle.lvm_core.specs.Settled.{IsSettled}
 use Rattle.lvm_volume_plan.specs.declared.fault.GroupFault.{GroupFault}
 use Rattle.lvm_volume_plan.specs.declared.fault.GroupFault.TheVariants as fault
-use Rattle.lvm_volumes.specs.Endings.{IfOn, StillHeld, commanding}
+use Rattle.lvm_volumes.specs.Endings.{IfAlone, IfOn, StillHeld}
 use Rattle.lvm_rest.specs.Rest.{IsEven}
 use Rattle.lvm_even.specs.Even.{AreWanted}
 use Rattle.lvm_tie.specs.Spares.{SparesDescriptors}
@@ -69,15 +67,17 @@ abbrev pub KeepsEven : Session → Session → Type 0
 KeepsEven old new = (was is : Media) (stood stands : Stamped Status) → old.device.media ≡ Some was → new.device.media ≡ Some is → AreWanted old new stood stands
     → IsEven (shown_to old was) old.core.descriptor (Some stood) (is_there old.core) → IsEven (shown_to new is) new.core.descriptor (Some stands) (is_there new.core)
 
+module _ (run : ℕ) (first : Moment) (old new : Session) (may : MayBeCommanded run first old) (began : IsSettled old.core) where
+  -- where a volume's making or removal is entered, no other group is found, if at most one has a quorum where it is the group's first
+  pub is_alone : (old.core.descriptor.lvs ≡ [] → EntersVolumes old.core.history.facts new.core.history.facts → IsOneByAllOn old.device) → IfAlone old new run first
+  is_alone one enters past begins = (carries run first old may began past begins (λ none. one none enters)).1.only
+
 module _ (run : ℕ) (first : Moment) (old new : Session) (may : MayBeCommanded run first old) (began : IsSettled old.core)
-    (N : Descriptor → Type 0) (Z : Pp → Type 0) (numbers before after : ℕ) (leaves : Leaves (commanding N Z numbers) before after old new) where
+    (scope : Scope) (before after : ℕ) (leaves : Leaves scope before after old new) where
   -- ---- whatever its answer
 
-  pub keeps_on : (old.core.descriptor.lvs ≡ [] → EntersVolumes old.core.history.facts new.core.history.facts → IsOneByAllOn old.device) → Keeps run first (moment_of new)
-  keeps_on one = leaves.spans run first
-      (λ past begins. (holds_before run first old may began past begins).0)
-      (λ enters past begins. (carries run first old may began past begins (λ none. one none enters)).1.only)
-      may.keeps
+  pub keeps_on : scope.lets old new run first → Keeps run first (moment_of new)
+  keeps_on lets = leaves.spans run first (λ past begins. (holds_before run first old may began past begins).0) lets may.keeps
 
   -- ---- where the session goes on
 
@@ -108,7 +108,7 @@ module _ (run : ℕ) (first : Moment) (old new : Session) (may : MayBeCommanded 
 
     module _ (was : Media) (it : Carries old was) where
       told : (is : Media) × (new.device.media ≡ Some is)
-      told = told_next old.device.media new.device.media (λ (w i : Media). ChangesBy (IsOfCommand N Z old new) (image_of old.device.sizes w) (image_of new.device.sizes i)) was it.told leaves.writes.media
+      told = told_next old.device.media new.device.media (λ (w i : Media). ChangesBy (IsOfCommand scope.next scope.zeros old new) (image_of old.device.sizes w) (image_of new.device.sizes i)) was it.told leaves.writes.media
 
       held_before : IsHeld old.device old.core
       held_before = is_held old was it.told it.held
@@ -166,7 +166,7 @@ module _ (run : ℕ) (first : Moment) (old new : Session) (may : MayBeCommanded 
     pub left_standing : IsLeftStanding past new
     left_standing = record {
       empty = λ none. holds_after;
-      served = λ core served sound. subst (λ (c : Core). StandsAfter past new.device c) (sym served.is)
+      served = λ added core served sound. subst (λ (c : Core). StandsAfter past new.device c) (sym served.is)
           (stands_again core.origin.table
           (λ d member present. not_gone (calls_missing new.core.origin.table d) (is_member new.core.descriptor d) (is_missing new.core d) member (sym (served.marks.missing d) ∙ present))
           (subst (λ (c : Core). IsSound (state new.device c)) served.is sound));

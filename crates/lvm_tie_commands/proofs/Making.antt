@@ -22,7 +22,7 @@ use Rattle.lvm_volume_plan.specs.declared.fault.GroupFault.TheVariants as fault
 use Rattle.lvm_volume_plan.specs.declared.new_volume.NewVolume.{NewVolume}
 use Rattle.lvm_volume_plan.specs.NewVolume.{row_for, with_volume}
 use Rattle.lvm_volumes.specs.Endings.{IfOn, StillHeld}
-use Rattle.lvm_volumes.specs.Volumes.{IsChosen, IsVolumeMade, IsWith, MklvGives, making, to_make}
+use Rattle.lvm_volumes.specs.Volumes.{IsChosen, IsVolumeMade, MklvGives, making, to_make}
 use Rattle.lvm_volumes.proofs.Places.{free_of}
 use Rattle.lvm_handover.specs.Serving.{IsCommanded}
 use Rattle.lvm_even.proofs.Even.{mklv_keeps_even}
@@ -30,7 +30,7 @@ use Rattle.lvm_even.proofs.OffLemmas.{off_volume_is_even}
 use Rattle.lvm_rest.specs.Rest.{IsEven}
 use Rattle.lvm_tie_begins.specs.Begins.{shown_to}
 use Rattle.lvm_tie_commands.specs.Commands.{IsAloneAtFirst, IsLeftStandingSince, MayBeCommanded, MklvGoesOn}
-use Rattle.lvm_tie_commands.proofs.Commands.{KeepsEven, keeps_on, left_standing, on_all}
+use Rattle.lvm_tie_commands.proofs.Commands.{KeepsEven, is_alone, keeps_on, left_standing, on_all}
 
 -- the descriptor has the volume, and its making was entered
 record IsMade (v : NewVolume) (old new : Session) : Type 0 where
@@ -74,7 +74,7 @@ made_or_not v before old new (Err fault.Memory) gives = refused v old new gives.
 module _ (run : ℕ) (first : Moment) (v : NewVolume) (before after : ℕ) (old new : Session) (answer : Result ℕ GroupFault)
     (may : MayBeCommanded run first old) (one : IsAloneAtFirst old new) (off : v.mode ≡ Off) (c : IsCommanded (to_make v old.core) before after old new answer) where
   keeps : Keeps run first (moment_of new)
-  keeps = keeps_on run first old new may c.began (IsWith v old.core) (IsChosen v old.core) 2 before after c.leaves one
+  keeps = keeps_on run first old new may c.began (to_make v old.core) before after c.leaves (is_alone run first old new may c.began one)
 
   free : (pp : Pp) → IsChosen v old.core pp → IsFree old.core.descriptor pp
   free pp chosen = All-contains (IsFree old.core.descriptor) chosen.0 pp (free_of old.core.descriptor (is_there old.core) v.lps v.copies chosen.0 may.sound.fitting.valid chosen.1.placed) chosen.2
@@ -97,7 +97,7 @@ module _ (run : ℕ) (first : Moment) (v : NewVolume) (before after : ℕ) (old 
 
     left_so : IsSettled new.core → StillHeld old new → IsLeftStandingSince run first new
     left_so on still whole past begins =
-        left_standing run first old new may c.began (IsWith v old.core) (IsChosen v old.core) 2 before after c.leaves on still members keeps_even enters keeps whole past begins
+        left_standing run first old new may c.began (to_make v old.core) before after c.leaves on still members keeps_even enters keeps whole past begins
 
 pub mklv_goes_on : MklvGoesOn
 mklv_goes_on run first v before after old new answer may one off c gives = (

@@ -9,7 +9,7 @@ use Rattle.lvm_steps.specs.Moments.{Keeps}
 use Rattle.lvm_commit.specs.LawsOfVolumes.{IsOneByAllOn}
 use Rattle.lvm_session.specs.State.{Core, State as Session, is_there}
 use Rattle.lvm_core.specs.Committing.{moment_of}
-use Rattle.lvm_core.specs.Leaves.{EntersVolumes, NoPartition}
+use Rattle.lvm_core.specs.Leaves.{EntersVolumes}
 use Rattle.lvm_core.specs.Settled.{IsSettled}
 use Rattle.lvm_volume_plan.specs.declared.fault.GroupFault.{GroupFault}
 use Rattle.lvm_volume_plan.specs.declared.fault.GroupFault.TheVariants as fault
@@ -22,7 +22,7 @@ use Rattle.lvm_even.proofs.OffLemmas.{fewer_are_even}
 use Rattle.lvm_rest.specs.Rest.{IsEven}
 use Rattle.lvm_tie_begins.specs.Begins.{shown_to}
 use Rattle.lvm_tie_commands.specs.Commands.{IsLeftStandingSince, MayBeCommanded, RmlvGoesOn}
-use Rattle.lvm_tie_commands.proofs.Commands.{KeepsEven, keeps_on, left_standing, on_all}
+use Rattle.lvm_tie_commands.proofs.Commands.{KeepsEven, is_alone, keeps_on, left_standing, on_all}
 
 -- nothing has happened, or the group had the volume
 abbrev HadOrNot : ℕ → Session → Session → Type 0
@@ -75,7 +75,7 @@ not_entered lv old new (inr had) none enters = absurd (let no = subst (λ (rows 
 module _ (run : ℕ) (first : Moment) (lv before after : ℕ) (old new : Session) (answer : Result (Unit {0}) GroupFault)
     (may : MayBeCommanded run first old) (c : IsCommanded (to_remove lv old.core) before after old new answer) where
   keeps : HadOrNot lv old new → Keeps run first (moment_of new)
-  keeps had = keeps_on run first old new may c.began (λ next. next ≡ without_volume old.core.descriptor lv) NoPartition 1 before after c.leaves (λ none enters. absurd (not_entered lv old new had none enters))
+  keeps had = keeps_on run first old new may c.began (to_remove lv old.core) before after c.leaves (is_alone run first old new may c.began (λ none enters. absurd (not_entered lv old new had none enters)))
 
   module _ (removed : IsRemovedOrNot lv old new) where
     members : (d : ℕ) → is_member new.core.descriptor d ≡ is_member old.core.descriptor d
@@ -100,7 +100,7 @@ module _ (run : ℕ) (first : Moment) (lv before after : ℕ) (old new : Session
 
     left_so : Keeps run first (moment_of new) → IsSettled new.core → StillHeld old new → IsLeftStandingSince run first new
     left_so span on still whole past begins =
-        left_standing run first old new may c.began (λ next. next ≡ without_volume old.core.descriptor lv) NoPartition 1 before after c.leaves on still members keeps_even had_some span whole past begins
+        left_standing run first old new may c.began (to_remove lv old.core) before after c.leaves on still members keeps_even had_some span whole past begins
 
 pub rmlv_goes_on : RmlvGoesOn
 rmlv_goes_on run first lv before after old new answer may c gives =

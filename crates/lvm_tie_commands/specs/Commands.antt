@@ -1,6 +1,7 @@
 -- Over a command on the volumes of a session, by the contract of its call: what stands on the disks goes on to stand.
 use Rattle.std.specs.Prelude.{◌≡◌, ℕ, List, [], Result}
 use Rattle.lvm_num.specs.declared.descriptor.Mode.TheVariants.{Off}
+use Rattle.lvm_num.specs.declared.place.Pp.{Pp}
 use Rattle.lvm_disk.specs.Device.{HasSectors}
 use Rattle.lvm_vol.specs.Facts.{Fact}
 use Rattle.lvm_kept.specs.Moments.{Moment}
@@ -30,10 +31,10 @@ pub record MayBeCommanded (run : ℕ) (first : Moment) (s : Session) : Type 0 wh
 abbrev pub IsAloneAtFirst : Session → Session → Type 0
 IsAloneAtFirst old new = old.core.descriptor.lvs ≡ [] → EntersVolumes old.core.history.facts new.core.history.facts → IsOneByAllOn old.device
 
--- After it that stands as it is where the group has no volume, and in any case once the session takes requests again.
+-- After it that stands as it is where the group has no volume, and in any case once the session takes requests again, whatever copies were added.
 pub record IsLeftStanding (past : List Fact) (new : Session) : Type 0 where
   pub empty : new.core.descriptor.lvs ≡ [] → HoldsEmpty new.device new.core
-  pub served : (core : Core) → IsServed [] new.core core → IsSound (state new.device core) → StandsAfter past new.device core
+  pub served : (added : List Pp) (core : Core) → IsServed added new.core core → IsSound (state new.device core) → StandsAfter past new.device core
 
 -- after each earlier history, where the shelf has whole sectors
 abbrev pub IsLeftStandingSince : ℕ → Moment → Session → Type 0

@@ -4,7 +4,7 @@ use Rattle.std.proofs.lemmas.List.{get_or_default}
 use Rattle.lvm_num.specs.declared.descriptor.PvRow.{PvRow}
 use Rattle.lvm_num.specs.declared.status.Status.{Status}
 use Rattle.lvm_handover.specs.Serving.{MarksMissing}
-use Rattle.lvm_handover.proofs.Marking.{none_missing, none_more, one_missing}
+use Rattle.lvm_handover.proofs.Marking.{none_more, one_missing}
 use Rattle.lvm_handover.proofs.handover.mark_missing.Goals as goal
 use Rattle.lvm_handover.proofs.handover.mark_missing.Goals.{then-is_missing, else-is_missing}
 
@@ -27,7 +27,7 @@ loop-member-preserved c =
     let mid : Status = c.loop-member.table in
     let so_far : MarksMissing (take i members) now old mid = subst (λ (rows : List PvRow). MarksMissing (take i rows) now old mid) (sym same) c.loop-member.invariant in
     elim c.if-is_missing.branch [
-      then-is_missing w ↦ as_table c.if-is_missing.table w.table-is same i now old
+      | then-is_missing w ↦ as_table c.if-is_missing.table w.table-is same i now old
           (one_missing members i row c.loop-member-test.true its now old mid so_far w.set_missing.new.self (sym c.is_missing.ensures ∙ w.if-is_missing.true) w.set_missing.ensures.members w.set_missing.ensures.stale w.set_missing.ensures.missing)
-    | else-is_missing w ↦ as_table c.if-is_missing.table w.table-is same i now old (none_more members i row c.loop-member-test.true its now old mid so_far (sym c.is_missing.ensures ∙ w.if-is_missing.false))
+      | else-is_missing w ↦ as_table c.if-is_missing.table w.table-is same i now old (none_more members i row c.loop-member-test.true its now old mid so_far (sym c.is_missing.ensures ∙ w.if-is_missing.false))
     ]

@@ -22,7 +22,7 @@ from_parts-requires-clause-sound g c =
     let core : Core = core_of c.into_parts-shelf.result.1 in
     subst (λ shelf. IsSound (state (g.S.Shelf.device shelf) (with_table core c.mark_missing.new.table))) (sym c.into_parts-shelf.ensures.shelf)
     (c.requires.may c.into_parts-shelf.ensures.sound (with_table core c.mark_missing.new.table)
-        (served c.args.added.now c.args.driver.1 core c.wanted.result.now c.mark_added.new.table c.mark_missing.new.table c.into_parts-shelf.ensures.core c.wanted.ensures c.mark_added.ensures c.mark_missing.ensures))
+    (served c.args.added.now c.args.driver.1 core c.wanted.result.now c.mark_added.new.table c.mark_missing.new.table c.into_parts-shelf.ensures.core c.wanted.ensures c.mark_added.ensures c.mark_missing.ensures))
 
 pub returns-clause-served : goal.returns-clause-served
 returns-clause-served g c =
@@ -34,6 +34,6 @@ returns-clause-sound g c =
     let core : Core = core_of c.into_parts-shelf.result.1 in
     let left : Core = with_table core c.mark_missing.new.table in
     let at = c.requires.may c.into_parts-shelf.ensures.sound left
-        (served c.args.added.now c.args.driver.1 core c.wanted.result.now c.mark_added.new.table c.mark_missing.new.table c.into_parts-shelf.ensures.core c.wanted.ensures c.mark_added.ensures c.mark_missing.ensures) in
+    (served c.args.added.now c.args.driver.1 core c.wanted.result.now c.mark_added.new.table c.mark_missing.new.table c.into_parts-shelf.ensures.core c.wanted.ensures c.mark_added.ensures c.mark_missing.ensures) in
     subst (λ (new : Core). IsSound (state (g.S.Shelf.device c.from_parts.result.0) new)) (sym c.from_parts.ensures.core)
     (subst (λ shelf. IsSound (state (g.S.Shelf.device shelf) left)) (sym (c.from_parts.ensures.shelf ∙ c.into_parts-shelf.ensures.shelf)) at)

@@ -1,4 +1,4 @@
-use Rattle.std.proofs.Common.{sym}
+use Rattle.std.proofs.Common.{refl, sym}
 use Rattle.lvm_running.proofs.Running.{runs_none}
 use Rattle.lvm_driver.specs.Answers.{state_of}
 use Rattle.lvm_ranges.proofs.Asking.{gives_asked, gives_fault}

@@ -16,7 +16,7 @@ loop-driver-preserved-in-Moved g c =
 pub loop-driver-preserved : goal.loop-driver-preserved
 loop-driver-preserved g c =
     let device = g.S.Shelf.device in
-    let some = c.if-left-eq0.false in
+    let some = c.if-patience-eq0.false in
     idles c.args.asked.now (state_of device c.args.driver.now) (state_of device c.loop-driver.driver) (state_of device c.turn.new.self) c.args.patience.now.left c.loop-driver.patience.left c.loop-driver.invariant (c.is_unfinished.ensures.open c.loop-driver-test.true)
     c.is_sound.ensures c.in-Idle.ensures.makes c.in-Idle.ensures.tells (omega (arith, some)) c.in-Idle.ensures.runs
 
@@ -24,14 +24,14 @@ pub loop-driver-smaller-in-Moved : goal.loop-driver-smaller-in-Moved
 loop-driver-smaller-in-Moved g c = less_by_move (state_of g.S.Shelf.device c.loop-driver.driver) (state_of g.S.Shelf.device c.turn.new.self) c.loop-driver.patience.left c.in-Moved.ensures.tells
 
 pub loop-driver-smaller : goal.loop-driver-smaller
-loop-driver-smaller g c = let some = c.if-left-eq0.false in less_by_wait (state_of g.S.Shelf.device c.loop-driver.driver) (state_of g.S.Shelf.device c.turn.new.self) c.loop-driver.patience.left c.in-Idle.ensures.tells (omega (arith, some))
+loop-driver-smaller g c = let some = c.if-patience-eq0.false in less_by_wait (state_of g.S.Shelf.device c.loop-driver.driver) (state_of g.S.Shelf.device c.turn.new.self) c.loop-driver.patience.left c.in-Idle.ensures.tells (omega (arith, some))
 
-pub returns-then-left-eq0 : goal.returns-then-left-eq0
-returns-then-left-eq0 g c =
+pub returns-then-patience-eq0 : goal.returns-then-patience-eq0
+returns-then-patience-eq0 g c =
     let so_far = c.loop-driver.invariant in
     record {
       turns = so_far.turns;
-      ends = (c.is_unfinished.ensures.open c.loop-driver-test.true, c.if-left-eq0.true);
+      ends = (c.is_unfinished.ensures.open c.loop-driver-test.true, c.if-patience-eq0.true);
       table = so_far.on.table;
       runs = so_far.on.runs;
       patience = so_far.fewer;

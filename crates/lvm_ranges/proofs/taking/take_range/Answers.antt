@@ -9,7 +9,7 @@ use Rattle.lvm_ranges.proofs.taking.take_range.Goals as goal
 
 pub loop-piece-init : goal.loop-piece-init
 loop-piece-init g c = record {
-  so_far = takes_none (state_of g.S.Shelf.device c.args.driver.now) c.args.asked.now c.votes.result.0 c.votes.result.1 c.requires.held c.requires.landed;
+  so_far = takes_none (state_of g.S.Shelf.device c.args.driver.now) c.args.asked.now c.votes-have.result.0 c.votes-have.result.1 c.requires.held c.requires.landed;
   shelf = refl;
 }
 
@@ -17,8 +17,8 @@ pub loop-piece-preserved : goal.loop-piece-preserved
 loop-piece-preserved g c =
     let device = g.S.Shelf.device in
     let range = c.args.asked.now in
-    let have = c.votes.result.0 in
-    let total = c.votes.result.1 in
+    let have = c.votes-have.result.0 in
+    let total = c.votes-have.result.1 in
     let first = state_of device c.args.driver.now in
     let old = state_of device c.loop-piece.driver in
     let new = state_of device c.take-taken.new.self in
@@ -37,8 +37,8 @@ returns-in-None g c =
     let last : c.loop-piece.piece ≡ c.args.asked.now.pieces = omega arith in
     let so_far = c.loop-piece.invariant.so_far in
     record {
-      gives = takes_all (state_of device c.args.driver.now) (state_of device c.loop-piece.driver) c.args.asked.now c.votes.result.0 c.votes.result.1 c.loop-piece.piece c.loop-piece.fault (Ok tt) c.is_sound.ensures c.requires.landed c.votes.ensures.have c.votes.ensures.total last so_far
-          (ends_well c.loop-piece.driver.1.history.facts c.args.asked.now c.votes.result.0 c.votes.result.1 c.loop-piece.piece c.loop-piece.fault last c.in-None.is so_far.decides);
+      gives = takes_all (state_of device c.args.driver.now) (state_of device c.loop-piece.driver) c.args.asked.now c.votes-have.result.0 c.votes-have.result.1 c.loop-piece.piece c.loop-piece.fault (Ok tt) c.is_sound.ensures c.requires.landed c.votes-have.ensures.have c.votes-have.ensures.total last so_far
+          (ends_well c.loop-piece.driver.1.history.facts c.args.asked.now c.votes-have.result.0 c.votes-have.result.1 c.loop-piece.piece c.loop-piece.fault last c.in-None.is so_far.decides);
       others = so_far.others;
       runs = so_far.runs;
     }
@@ -49,8 +49,8 @@ returns-in-Some g c =
     let last : c.loop-piece.piece ≡ c.args.asked.now.pieces = omega arith in
     let so_far = c.loop-piece.invariant.so_far in
     record {
-      gives = takes_all (state_of device c.args.driver.now) (state_of device c.loop-piece.driver) c.args.asked.now c.votes.result.0 c.votes.result.1 c.loop-piece.piece c.loop-piece.fault (Err c.in-Some.why) c.is_sound.ensures c.requires.landed c.votes.ensures.have c.votes.ensures.total last so_far
-          (ends_failed c.loop-piece.driver.1.history.facts c.args.asked.now c.votes.result.0 c.votes.result.1 c.loop-piece.piece c.loop-piece.fault c.in-Some.why last c.in-Some.is so_far.decides);
+      gives = takes_all (state_of device c.args.driver.now) (state_of device c.loop-piece.driver) c.args.asked.now c.votes-have.result.0 c.votes-have.result.1 c.loop-piece.piece c.loop-piece.fault (Err c.in-Some.why) c.is_sound.ensures c.requires.landed c.votes-have.ensures.have c.votes-have.ensures.total last so_far
+          (ends_failed c.loop-piece.driver.1.history.facts c.args.asked.now c.votes-have.result.0 c.votes-have.result.1 c.loop-piece.piece c.loop-piece.fault c.in-Some.why last c.in-Some.is so_far.decides);
       others = so_far.others;
       runs = so_far.runs;
     }

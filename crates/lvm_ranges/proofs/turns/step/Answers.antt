@@ -20,10 +20,10 @@ returns-in_default g c =
     let first = state_of device c.args.driver.now in
     let old = state_of device c.loop-moved.driver in
     let new = state_of device c.turn.new.self in
-    let made = c.in_default.ensures in
-    let on = with_turn first old new c.in_default.how c.loop-moved.invariant.on c.is_sound.ensures made.makes made.tells made.runs in
+    let made = c.turn.ensures in
+    let on = with_turn first old new c.turn.result c.loop-moved.invariant.on c.is_sound.ensures made.makes made.tells made.runs in
     record {
-      ends = last_step first old new c.loop-moved.moved c.loop-moved.invariant c.in_default.how c.args.turns c.loop-moved-test.true made.makes made.tells c.in_default.not-Moved;
+      ends = last_step first old new c.loop-moved.moved c.loop-moved.invariant c.turn.result c.args.turns c.loop-moved-test.true made.makes made.tells c.in_default.not-Moved;
       table = on.table;
       runs = on.runs;
     }
