@@ -1,4 +1,5 @@
 pub mod Commanding
 pub mod Ending
 pub mod Landing
+pub mod Resting
 pub mod OfVolumes
