@@ -1,6 +1,7 @@
 -- What a power cut that is arranged does to a state between two lines.
 use Rattle.std.proofs.Common.{◌≡◌, inl, inr, ◌+◌, ◌≤◌, ◌∷◌, [], ℕ, List, true, Option, Some, None, IfSome, IfNone, length, map, refl, sym, ◌∙◌, ap, subst, arith}
-use Rattle.std.specs.Prelude.{◌^◌, ◌<◌, Vec}
+use Rattle.std.specs.Prelude.{◌^◌, ◌<◌}
+use Rattle.std.specs.Global.{Vec}
 use Rattle.std.specs.Option.{option_map}
 use Rattle.std.proofs.lemmas.List.{length-map}
 use Rattle.lvm_num.specs.Votes.{total_votes}
@@ -107,7 +108,7 @@ module _ (log : Log) (word : ℕ) (old new : State) (between : IsBetween old.mom
         descriptors = still_leaves_descriptors new.moment.device ready.flights;
         landed = subst (λ (s : Option Core). IfNone s (HaveAllLanded new.moment.facts)) (sym cut.session) landed_then;
         session = subst (λ (s : Option Core). IfSome s (IsOnBetween new.moment.device)) (sym cut.session) tt;
-        posts = subst (λ (s : Option Core). ArePosted new.moment.facts s new.posts) (sym cut.session) posted;
+        posted = subst (λ (s : Option Core). ArePosted new.moment.facts s new.posts) (sym cut.session) posted;
       };
       rests = λ others goes rests. record { ready = ready; landed = landed_then; session = subst (λ (s : Option Core). IfSome s IsSettledCore) (sym cut.session) tt; posts = none rests.posts };
       begins = λ timely. subst (λ (s : Option Core). IfNone old.session (IfSome s (HasBegunHeld new.moment.device))) (sym cut.session) (none_begins old.session);
@@ -157,7 +158,7 @@ module _ (log : Log) (word : ℕ) (old new : State) (between : IsBetween old.mom
         (subst (λ (posts : List Post). ArePosted (all_dark core).history.facts None posts) (sym posts_are)
         (end_posts old.moment.facts (all_dark core).history.facts (λ range answered. dark_leaves core range (subst (λ (l : Log). AreAnswered l.facts range) (sym history) answered))
         core (votes_there core) (total_votes core.descriptor) (λ range some held. over_answered end range sound refl (dark_held core range held)) old.posts
-        (subst (λ (s : Option Core). ArePosted old.moment.facts s old.posts) is between.posts)))
+        (subst (λ (s : Option Core). ArePosted old.moment.facts s old.posts) is between.posted)))
 
     open_goes : GoesOn log.run Aside answer old new
     open_goes = subst (λ (l : Log). GoesOn l.run Aside answer old new) history
@@ -177,7 +178,7 @@ module _ (log : Log) (word : ℕ) (old new : State) (between : IsBetween old.mom
           quiet_goes facts (λ id. ap (λ (l : Log). is_open l.facts id) (sym (its core is)) ∙ on.sound.told.each id ∙ ap (λ (rs : List Open). waits rs id) none)
           (subst (λ (fs : List Fact). ArePosted fs None new.posts) (sym facts) (subst (λ (ps : List Post). ArePosted (cut_log (log_with log old.moment.facts)).facts None ps) (sym posts)
           (end_posts old.moment.facts (cut_log (log_with log old.moment.facts)).facts (λ range. bears_cut (λ fs. AreAnswered fs range) (answered_bears range) (log_with log old.moment.facts)) core (votes_there core) (total_votes core.descriptor)
-          (none_held core (cut_log (log_with log old.moment.facts)).facts none) old.posts (subst (λ (s : Option Core). ArePosted old.moment.facts s old.posts) is between.posts))))
+          (none_held core (cut_log (log_with log old.moment.facts)).facts none) old.posts (subst (λ (s : Option Core). ArePosted old.moment.facts s old.posts) is between.posted))))
           (ap (λ (ps : List Post). length ps) posts ∙ length-map old.posts (ended_with (votes_there core) (total_votes core.descriptor))) (λ empty. posts ∙ ap (map (ended_with (votes_there core) (total_votes core.descriptor))) empty) answer one
 
       by_session : (session : Option Core) → old.session ≡ session → GoesOn log.run Aside answer old new
@@ -188,7 +189,7 @@ module _ (log : Log) (word : ℕ) (old new : State) (between : IsBetween old.mom
           quiet_goes facts (subst (λ (s : Option Core). IfNone s (HaveAllLanded old.moment.facts)) is between.landed)
           (subst (λ (fs : List Fact). ArePosted fs None new.posts) (sym facts) (subst (λ (ps : List Post). ArePosted (cut_log (log_with log old.moment.facts)).facts None ps) (sym posts)
           (off_posts old.moment.facts (cut_log (log_with log old.moment.facts)).facts (λ range. bears_cut (λ fs. AreAnswered fs range) (answered_bears range) (log_with log old.moment.facts)) old.posts
-          (subst (λ (s : Option Core). ArePosted old.moment.facts s old.posts) is between.posts))))
+          (subst (λ (s : Option Core). ArePosted old.moment.facts s old.posts) is between.posted))))
           (ap (λ (ps : List Post). length ps) posts) (λ empty. posts ∙ empty) answer one
 
 -- ---- a stage whose power is cut

@@ -118,7 +118,7 @@ module _ (s : State) (disk : ℕ) (what : Arrange) (of_disk : IsOfDisk disk what
       descriptors = between.descriptors;
       landed = between.landed;
       session = if_on s.session between.session;
-      posts = between.posts;
+      posted = between.posted;
     };
     rests = λ others goes rests. record { ready = record { flights = rests.ready.flights; freed = rests.ready.freed; power = rests.ready.power }; landed = rests.landed; session = rests.session; posts = rests.posts };
     begins = λ timely. same_session s.session _;

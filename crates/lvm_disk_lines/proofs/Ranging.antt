@@ -1,6 +1,7 @@
 -- Lines that read or write ranges of disks.
 use Rattle.std.proofs.Common.{◌≡◌, ◌⊎◌, inl, inr, ◌+◌, ◌≤◌, ℕ, List, Option, None, Result, Ok, Err, IfOk, IfErr, ◌∙◌, sym, ap, subst, arith}
-use Rattle.std.specs.Prelude.{◌^◌, ◌<◌, Vec}
+use Rattle.std.specs.Prelude.{◌^◌, ◌<◌}
+use Rattle.std.specs.Global.{Vec}
 use Rattle.lvm_num.specs.Buffer.{Sector}
 use Rattle.lvm_disk.specs.Device.{Device, IsReady}
 use Rattle.lvm_kept.specs.Moments.{Moment}
@@ -95,7 +96,7 @@ module _ {S X : Type 0} (device : S → Device) (old new : S) (log is : Log) (po
       descriptors = (opens goes).descriptors;
       landed = keeps.landed (heard goes) between.landed;
       session = tt;
-      posts = off_posts log.facts is.facts leaves posts.items between.posts;
+      posted = off_posts log.facts is.facts leaves posts.items between.posted;
     };
     rests = λ others goes rests. record {
       ready = moment_is (λ m. IsReady m.device) (keeps.rests (heard goes)) rests.ready (λ ready. ready);

@@ -112,7 +112,7 @@ ended_goes run role answer old new core was facts none between one ends = subst 
   keeps = λ timely alone first span stands. (span, λ goes past begins. tt);
   timely = λ goes timely. record { ahead = timely.ahead; session = tt };
   left = λ timely. each_is_ahead run (old.last + 1) old.moment.device old.moment.facts timely.ahead;
-  between = λ goes. record { lit = between.lit; descriptors = between.descriptors; landed = landed; session = tt; posts = posted };
+  between = λ goes. record { lit = between.lit; descriptors = between.descriptors; landed = landed; session = tt; posted = posted };
   rests = λ others goes rests. record { ready = rests.ready; landed = landed; session = tt; posts = ap (map (ended_with have total)) rests.posts };
   begins = λ timely. none_begins old.session;
   power = between.lit.power;
@@ -141,7 +141,7 @@ ended_goes run role answer old new core was facts none between one ends = subst 
     landed id = ap (λ (l : List Fact). is_open l id) (sym facts) ∙ on.sound.told.each id ∙ ap (λ (os : List Open). waits os id) none
 
     posted : ArePosted old.moment.facts None (map (ended_with have total) old.posts)
-    posted = end_posts old.moment.facts old.moment.facts (λ range answered. answered) core have total (none_held core old.moment.facts none) old.posts (subst (λ (s : Option Core). ArePosted old.moment.facts s old.posts) was between.posts)
+    posted = end_posts old.moment.facts old.moment.facts (λ range answered. answered) core have total (none_held core old.moment.facts none) old.posts (subst (λ (s : Option Core). ArePosted old.moment.facts s old.posts) was between.posted)
 
 -- ---- the power is put on again
 

@@ -178,7 +178,7 @@ module _ (role : Role) (old : State) (core : Core) (end : Session) (its : IsRun 
           copy = copy;
           empty = λ none. absurd (its.volumes (sym (ap (λ (d : Descriptor). d.lvs) its.leaves.keeps.descriptor) ∙ none));
         };
-        posts = posted;
+        posted = posted;
       };
       rests = λ not_asking heard rest. subst IsAtRest is (rests not_asking rest);
       begins = λ timely. was_session old.session core (IfSome (Some end.core) (HasBegunHeld end.device)) its.session;
@@ -228,7 +228,7 @@ module _ (role : Role) (old : State) (core : Core) (end : Session) (its : IsRun 
         descriptors = λ d at value flies. (its.leaves.descriptors its.between.descriptors).leaves d at value (subst (λ (fs : List Flight). IsInFlight fs d at value) it.flights flies);
         landed = subst (λ (o : Option Core). IfNone o (HaveAllLanded new.moment.facts)) (sym none) (subst HaveAllLanded (sym facts) (over_landed end its.sound (over heard)));
         session = subst (λ (o : Option Core). IfSome o (IsOnBetween new.moment.device)) (sym none) tt;
-        posts = subst (λ (o : Option Core). ArePosted new.moment.facts o new.posts) (sym none) posted;
+        posted = subst (λ (o : Option Core). ArePosted new.moment.facts o new.posts) (sym none) posted;
       };
       rests = λ not_asking heard rest. rests not_asking rest;
       begins = λ timely. was_session old.session core (IfSome new.session (HasBegunHeld new.moment.device)) its.session;

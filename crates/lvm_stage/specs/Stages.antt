@@ -1,5 +1,6 @@
 -- A stage, as the state between two lines.
-use Rattle.std.specs.Prelude.{◌≡◌, ◌≢◌, ◌⊎◌, ◌^◌, ◌/◌, ◌<◌, ◌≤◌, ℕ, Bool, List, [], length, map, Option, Some, None, Vec, vec_capacity}
+use Rattle.std.specs.Prelude.{◌≡◌, ◌≢◌, ◌⊎◌, ◌^◌, ◌/◌, ◌<◌, ◌≤◌, ℕ, Bool, List, [], length, map, Option, Some, None, vec_capacity}
+use Rattle.std.specs.Global.{Vec}
 use Rattle.lvm_num.specs.Votes.{total_votes}
 use Rattle.lvm_disk.specs.Device.{Device}
 use Rattle.lvm_disk.specs.declared.shelf.Arrange.{Arrange}
@@ -76,8 +77,8 @@ IsBetweenStage device stage = IsBetween (moment_in device stage) (session_in sta
 
 -- there is room for this many entries' posts, and for the bytes of a piece
 pub record HaveRooms (entries : ℕ) (posts : Vec Post) (bytes : Vec ℕ) : Type 0 where
-  pub posts : entries / 3 ≤ vec_capacity posts
-  pub bytes : 131072 ≤ vec_capacity bytes
+  pub for_posts : entries / 3 ≤ vec_capacity posts
+  pub for_bytes : 131072 ≤ vec_capacity bytes
 
 -- Its session is of the kind that it says, its history has room for fewer entries than numbers of four bytes, and there is room for the posts and for a piece.
 pub record IsFitting {S : Type 0} (stage : Stage S) : Type 0 where
@@ -115,7 +116,7 @@ pub record IsEnded {S : Type 0} (device : S → Device) (driver : S × Core) (po
   pub session : session_in stage ≡ None
   pub shelf : IsClosed driver.1.power (device driver.0) (device (shelf_in stage))
   pub history : history_in stage ≡ driver.1.history
-  pub posts : stage.posts.items ≡ posts_ended (Some driver.1) posts
+  pub posted : stage.posts.items ≡ posts_ended (Some driver.1) posts
 
 -- the stage of a session that goes on, or has ended if it is over
 abbrev pub IsCarried : {S : Type 0} → (S → Device) → S × Core → Vec Post → Vec ℕ → Power → Stage S → Type 0

@@ -73,7 +73,7 @@ pub record IsBetween (moment : Moment) (on : Option Core) (posts : List Post) : 
   pub descriptors : LeavesDescriptors moment.device
   pub landed : IfNone on (HaveAllLanded moment.facts)
   pub session : IfSome on (IsOnBetween moment.device)
-  pub posts : ArePosted moment.facts on posts
+  pub posted : ArePosted moment.facts on posts
 
 -- nothing is out, or under way in a session, and no post is left
 pub record IsAtRest (s : State) : Type 0 where
