@@ -1,5 +1,5 @@
 -- How states go on: where nothing changes, and steps of the shelf.
-use Rattle.std.proofs.Common.{◌≡◌, ◌+◌, ◌≤◌, ◌∷◌, [], ℕ, List, Option, Some, None, IfSome, IfNone, length, map, refl, sym, ◌∙◌, ap, subst, arith}
+use Rattle.std.proofs.Common.{◌≡◌, ◌+◌, ◌≤◌, ◌∷◌, [], ℕ, List, Option, Some, None, IfSome, IfNone, map, refl, sym, ◌∙◌, ap, subst, arith}
 use Rattle.std.proofs.lemmas.List.{length-map}
 use Rattle.lvm_num.specs.Buffer.{Buffer}
 use Rattle.lvm_num.specs.Votes.{total_votes}
@@ -23,7 +23,7 @@ use Rattle.lvm_quiesce.proofs.Behind.{each_is_behind, later_is_behind_each}
 use Rattle.lvm_transfer.specs.Transfer.{Relights}
 use Rattle.lvm_stage.specs.Asking.{IsAsked, EndsSession}
 use Rattle.lvm_stage.specs.Moments.{GoesOn, HasBegunHeld, Role}
-use Rattle.lvm_stage.specs.Replies.{IsStuck, most_refusals}
+use Rattle.lvm_stage.specs.Replies.{most_refusals}
 use Rattle.lvm_stage.specs.Stages.{posts_ended}
 use Rattle.lvm_stage.specs.State.{State, ArePosted, IsBetween, IsOnBetween}
 use Rattle.lvm_stage.specs.declared.reply.Reply.{Reply}

@@ -1,8 +1,6 @@
 -- The power is put on again after a refusal.
 use Rattle.std.proofs.Common.{◌≡◌, ◌⊎◌, inl, inr, [], ℕ, List, true, refl, sym, ◌∙◌, ap, subst}
-use Rattle.lvm_num.specs.Buffer.{Sector}
 use Rattle.lvm_disk.specs.Device.{Device, Flight, IsInFlight, IsReady}
-use Rattle.lvm_disk.specs.Images.{LeavesNoMore}
 use Rattle.lvm_disk.proofs.Paths.{last-path}
 use Rattle.lvm_vol.specs.Facts.{Fact}
 use Rattle.lvm_kept.specs.Moments.{Moment}

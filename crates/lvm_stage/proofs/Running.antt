@@ -1,6 +1,6 @@
 -- Where turns and calls of a session lead from one state to the next: it goes on, or is closed.
-use Rattle.std.proofs.Common.{◌≡◌, ◌≢◌, ◌==◌, ◌&&◌, ◌||◌, ◌≤◌, ◌<◌, ◌+◌, ℕ, Bool, true, false, List, [], ◌∷◌, Option, Some, None, IfSome, IfNone, length, refl, sym, ◌∙◌, ap, subst, arith}
-use Rattle.std.specs.List.{list_any, AllByRecursion}
+use Rattle.std.proofs.Common.{◌≡◌, ◌≢◌, ◌==◌, ◌&&◌, ◌||◌, ◌≤◌, ◌+◌, ℕ, Bool, true, false, List, [], ◌∷◌, Option, Some, None, IfSome, IfNone, length, refl, sym, ◌∙◌, ap, subst, arith}
+use Rattle.std.specs.List.{AllByRecursion}
 use Rattle.lvm_num.specs.Buffer.{Buffer}
 use Rattle.lvm_num.specs.declared.descriptor.Descriptor.{Descriptor}
 use Rattle.lvm_disk.specs.Device.{Device, Flight, IsInFlight}
@@ -9,12 +9,11 @@ use Rattle.lvm_disk.specs.Paths.{DeviceStep, Path, Here}
 use Rattle.lvm_disk.proofs.Paths.{last-path}
 use Rattle.lvm_vol.specs.Facts.{Fact}
 use Rattle.lvm_vol.specs.Legal.{IsLater}
-use Rattle.lvm_vol.specs.Log.{is_open}
 use Rattle.lvm_kept.specs.Moments.{Moment}
 use Rattle.lvm_steps.specs.Moments.{Begins, Keeps}
 use Rattle.lvm_steps.specs.Requests.{at}
 use Rattle.lvm_steps.proofs.Spans.{keeps_steps}
-use Rattle.lvm_stamps.specs.Behind.{IsAhead, beginning_at}
+use Rattle.lvm_stamps.specs.Behind.{beginning_at}
 use Rattle.lvm_stamps.specs.Laws.{LeavesBefore}
 use Rattle.lvm_stamps.proofs.Shelves.{left_is_before}
 use Rattle.lvm_session.specs.declared.open.Open.{Open}
@@ -28,7 +27,6 @@ use Rattle.lvm_session.specs.Sound.{IsLit, IsSound, is_dark, waits}
 use Rattle.lvm_session.specs.State.{Core, State as Session, state}
 use Rattle.lvm_status.specs.Members.{HasItsRows}
 use Rattle.lvm_core.specs.Sound.{HaveAllLanded}
-use Rattle.lvm_tie.specs.Spares.{LeavesDescriptors}
 use Rattle.lvm_tie.specs.Tied.{IsGood, moment_of}
 use Rattle.lvm_running.specs.Running.{IsBefore, LeavesSession}
 use Rattle.lvm_quiesce.specs.Behind.{IsAheadEach}

@@ -14,7 +14,6 @@ use Rattle.lvm_tie.specs.Spares.{LeavesDescriptors}
 use Rattle.lvm_tie.specs.Stamps.{IsStamped}
 use Rattle.lvm_core.specs.Sound.{HaveAllLanded}
 use Rattle.lvm_core.specs.Settled.{IsSettled as IsSettledCore}
-use Rattle.lvm_posts.specs.declared.asked.Asked.{Asked}
 use Rattle.lvm_posts.specs.declared.posts.Post.{Post}
 use Rattle.lvm_posts.specs.Pieces.{IsLaidOut}
 use Rattle.lvm_posts.specs.Posts.{AreAnswered, AreHeld}

@@ -258,7 +258,7 @@ module _ (old : State) (core : Core) (mid left : Session) (its : AtMid old core 
   answers_left range was = answers range (its.answers range (subst (λ (fs : List Fact). AreAnswered fs range) its.facts was))
 
   posts_first : ArePosted old.moment.facts None old.posts
-  posts_first = none_posted old.moment.facts core old.posts its.none (subst (λ (o : Option Core). ArePosted old.moment.facts o old.posts) its.session its.between.posts)
+  posts_first = none_posted old.moment.facts core old.posts its.none (subst (λ (o : Option Core). ArePosted old.moment.facts o old.posts) its.session its.between.posted)
 
   spanned : IsAlone OfGroup old new → (first : Moment) → Keeps core.history.run first old.moment → StandsBy core.history.run first old → Keeps core.history.run first (moment_of left)
   spanned alone first span stands = spans first (may_mid old core mid its new alone first span stands) (alone_mid old core mid its new alone first span stands left facts)
@@ -274,7 +274,7 @@ module _ (old : State) (core : Core) (mid left : Session) (its : AtMid old core 
     ended : ArePosted new.moment.facts None new.posts
     ended = subst (λ (ps : List Post). ArePosted new.moment.facts None ps) (sym posts) (subst (λ (fs : List Fact). ArePosted fs None (posts_ended (Some left.core) old.posts)) (sym facts)
         (end_posts old.moment.facts left.core.history.facts answers_left core (votes_there left.core) (total_votes left.core.descriptor) (none_held core left.core.history.facts its.none) old.posts
-            (subst (λ (o : Option Core). ArePosted old.moment.facts o old.posts) its.session its.between.posts)))
+            (subst (λ (o : Option Core). ArePosted old.moment.facts o old.posts) its.session its.between.posted)))
 
     behind_new : IsTimely core.history.run old → IsBehind (new.last + 1) new.moment.device
     behind_new timely = subst (λ (n : ℕ). IsBehind (n + 1) new.moment.device) (sym clock) (closed.behind (old.last + 1) (behind_left old core mid its timely left promised))
@@ -301,7 +301,7 @@ module _ (old : State) (core : Core) (mid left : Session) (its : AtMid old core 
         descriptors = still_leaves_descriptors new.moment.device (closed.ready heard).flights;
         landed = subst (λ (o : Option Core). IfNone o (HaveAllLanded new.moment.facts)) (sym none) (subst HaveAllLanded (sym facts) landed);
         session = subst (λ (o : Option Core). IfSome o (IsOnBetween new.moment.device)) (sym none) tt;
-        posts = subst (λ (o : Option Core). ArePosted new.moment.facts o new.posts) (sym none) ended;
+        posted = subst (λ (o : Option Core). ArePosted new.moment.facts o new.posts) (sym none) ended;
       };
       rests = λ others heard rest. record {
         ready = closed.ready heard;
@@ -371,7 +371,7 @@ module _ (old : State) (core : Core) (mid left : Session) (its : AtMid old core 
         descriptors = still_leaves_descriptors left.device ready.flights;
         landed = tt;
         session = record { power = settled_now.power; sound = sound; rows = rows; stamped = stamped_now; copy = settled_now.quiet.copy; empty = λ none. settled_now };
-        posts = on_posts old.moment.facts left.core.history.facts answers_left now settled_now.quiet.requests old.posts posts_first;
+        posted = on_posts old.moment.facts left.core.history.facts answers_left now settled_now.quiet.requests old.posts posts_first;
       };
       rests = λ others heard rest. record { ready = ready; landed = landed; session = settled_now; posts = rest.posts };
       begins = λ timely. was_session old.session core (HasBegunHeld left.device now) its.session;

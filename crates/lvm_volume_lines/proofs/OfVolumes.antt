@@ -3,7 +3,6 @@ use Rattle.std.proofs.Common.{◌≡◌, ◌≢◌, ◌⊎◌, inl, inr, ◌<◌
 use Rattle.std.specs.Prelude.{IfSome}
 use Rattle.lvm_num.specs.declared.place.Pp.{Pp}
 use Rattle.lvm_num.specs.declared.descriptor.Descriptor.{Descriptor}
-use Rattle.lvm_num.specs.declared.descriptor.LvRow.{LvRow}
 use Rattle.lvm_disk.specs.Device.{Device, HasSectors, IsReady}
 use Rattle.lvm_vol.specs.Facts.{Fact}
 use Rattle.lvm_vol.specs.Log.{Log}
@@ -19,7 +18,7 @@ use Rattle.lvm_core.specs.Sound.{HaveAllLanded}
 use Rattle.lvm_core.specs.State.{state_of}
 use Rattle.lvm_disk.proofs.Paths.{last-path}
 use Rattle.lvm_running.specs.Running.{LeavesSession}
-use Rattle.lvm_tie_commands.specs.Commands.{IsAloneAtFirst, IsLeftStandingSince, MayBeCommanded}
+use Rattle.lvm_tie_commands.specs.Commands.{IsAloneAtFirst, IsLeftStanding, IsLeftStandingSince, MayBeCommanded}
 use Rattle.lvm_tie_commands.specs.Standing.{HoldsEmpty, StandsAfter}
 use Rattle.lvm_volumes.specs.Endings.{IfOn, StillHeld, commanding}
 use Rattle.lvm_volume_plan.specs.declared.fault.GroupFault.{GroupFault}
@@ -51,6 +50,39 @@ if_on given P on goes = on
 no_open : {X : Type 0} (xs : List X) → length xs ≡ 0 → xs ≡ []
 no_open [] none = refl
 no_open (x ∷ xs) none = absurd (cc (none))
+
+-- ---- a session that is held again
+
+module _ {S : Type 0} (device : S → Device) (driver : S × Core) (by : Holder S) (held : IsHeldAgain device driver by) where
+  same_group : held.core.descriptor ≡ driver.1.descriptor
+  same_group = ap (λ (c : Core). c.descriptor) held.is
+
+  -- the status with which it began has the rows of the members
+  pub rows_again : HasItsRows driver.1.descriptor driver.1.origin.table → HasItsRows held.core.descriptor held.core.origin.table
+  rows_again rows = either (empty_or driver.1.descriptor.lvs)
+    where
+      either : (driver.1.descriptor.lvs ≡ []) ⊎ (driver.1.descriptor.lvs ≢ []) → HasItsRows held.core.descriptor held.core.origin.table
+      either (inl none) = subst (λ (c : Core). HasItsRows c.descriptor c.origin.table) (sym (held.empty none)) rows
+      either (inr some) = subst (λ (d : Descriptor). HasItsRows d held.core.origin.table) (sym same_group) (λ disk. (held.served some).marks.rows disk ∙ rows disk)
+
+  -- and what stood on its disks stands
+  pub stands_again : (past : List Fact) → IsLeftStanding past (state_of device driver) → StandsAfter past (device driver.0) held.core
+  stands_again past stands =
+      let empty : held.core.descriptor.lvs ≡ [] → driver.1.descriptor.lvs ≡ [] = λ none. sym (ap (λ (d : Descriptor). d.lvs) same_group) ∙ none in
+      let some : held.core.descriptor.lvs ≢ [] → driver.1.descriptor.lvs ≢ [] = λ more none. more (ap (λ (d : Descriptor). d.lvs) same_group ∙ none) in
+      record {
+        empty = λ none. subst (HoldsEmpty (device driver.0)) (sym (held.empty (empty none))) (stands.empty (empty none));
+        tied = λ more. (stands.served [] held.core (held.served (some more)) held.sound).tied more;
+        spares = λ more. (stands.served [] held.core (held.served (some more)) held.sound).spares more;
+      }
+
+-- what is known of the command by what it gives
+pub record IsKnown {X : Type 0} (run patience : ℕ) (mid left : Session) (given : Result X GroupFault) : Type 0 where
+  pub facts : Facts given patience mid left
+  pub landed : HaveAllLanded left.core.history.facts
+  pub answers : LeavesAnswers mid.core.history.facts left.core.history.facts
+  pub shape : is_over given ≡ false → SameShape mid left
+  pub goes : (first : Moment) → MayBeCommanded run first mid → IsAloneAtFirst mid left → Keeps run first (moment_of left) × IfOn given (IsLeftStandingSince run first left)
 
 -- ---- the session that has come to rest
 
@@ -142,15 +174,7 @@ module _ {S : Type 0} (device : S → Device) (stage : Stage S) (fits : IsFittin
       abbrev given : Result X GroupFault
       given = done.given
 
-      -- what is known of the command by what it gives
-      pub record IsKnown : Type 0 where
-        pub facts : Facts given patience mid left
-        pub landed : HaveAllLanded left.core.history.facts
-        pub answers : LeavesAnswers mid.core.history.facts left.core.history.facts
-        pub shape : is_over given ≡ false → SameShape mid left
-        pub goes : (first : Moment) → MayBeCommanded run first mid → IsAloneAtFirst mid left → Keeps run first (moment_of left) × IfOn given (IsLeftStandingSince run first left)
-
-      module _ (known : IsKnown) where
+      module _ (known : IsKnown run patience mid left given) where
         promised : Promised mid left
         promised = promised_by (commanding (IsNext driver.1) (IsPlace driver.1) numbers) patience done.after mid left done.commanded.leaves
 
@@ -222,7 +246,7 @@ module _ {S : Type 0} (device : S → Device) (stage : Stage S) (fits : IsFittin
                 record {
                   left = left;
                   gives = done.gives;
-                  leaves = record { lit = off.lit; facts = ap (λ (l : Log). l.facts) off.history; session = off.session; posts = off.posts };
+                  leaves = record { lit = off.lit; facts = ap (λ (l : Log). l.facts) off.history; session = off.session; posts = off.posted };
                   finds = λ was id k may. done.commanded.leaves.finds was id k (may.0, last-path (closed over).path may.0 may.1, may.2);
                   status = done.commanded.leaves.status;
                   writes = done.commanded.leaves.writes;
@@ -248,39 +272,14 @@ module _ {S : Type 0} (device : S → Device) (stage : Stage S) (fits : IsFittin
         goes true over last =
             let off = left_off over in
             goes_off (state_in device stage last) core mid left (at_mid last) promised known.answers (volume_reply given) (state_in device it last) (ap (λ (l : Log). l.facts) off.history) refl (one_answer patience mid left given)
-            (λ m may alone. (known.goes m may alone).0) (closed over) off.session known.landed off.posts
+            (λ m may alone. (known.goes m may alone).0) (closed over) off.session known.landed off.posted
         goes false lasts last =
             let on = left_on lasts in
             let stays = stays_on lasts last in
             goes_on (state_in device stage last) core mid left (at_mid last) promised known.answers (volume_reply given) (state_in device it last) stays.facts refl (one_answer patience mid left given)
-            (λ m may alone. (known.goes m may alone).0) on.held.core on.held.is stays.session stays.device stays.posts (ready lasts) (settled lasts) known.landed on.held.sound rows_now standing
-          where
-            abbrev held : IsHeldAgain device done.left (left_on lasts).by
-            held = (left_on lasts).held
-
-            same_group : held.core.descriptor ≡ left.core.descriptor
-            same_group = ap (λ (c : Core). c.descriptor) held.is
-
-            rows_left : HasItsRows left.core.descriptor left.core.origin.table
-            rows_left = rows_stay mid left (known.shape lasts) (rows_mid (state_in device stage last) core mid (at_mid last))
-
-            rows_now : HasItsRows held.core.descriptor held.core.origin.table
-            rows_now = by (empty_or left.core.descriptor.lvs)
-              where
-                by : (left.core.descriptor.lvs ≡ []) ⊎ (left.core.descriptor.lvs ≢ []) → HasItsRows held.core.descriptor held.core.origin.table
-                by (inl empty) = subst (λ (c : Core). HasItsRows c.descriptor c.origin.table) (sym (held.empty empty)) rows_left
-                by (inr some) = subst (λ (d : Descriptor). HasItsRows d held.core.origin.table) (sym same_group) (λ disk. (held.served some).marks.rows disk ∙ rows_left disk)
-
-            standing : (m : Moment) → MayBeCommanded run m mid → IsAloneAtFirst mid left → (past : List Fact) → Begins run past m → StandsAfter past left.device held.core
-            standing m may alone past begins =
-                let stands = if_on given (IsLeftStandingSince run m left) (known.goes m may alone).1 lasts (sectors done.left.0) past begins in
-                let so : (lvs : List LvRow) → held.core.descriptor.lvs ≡ lvs → left.core.descriptor.lvs ≡ lvs = λ lvs is. sym (ap (λ (d : Descriptor). d.lvs) same_group) ∙ is in
-                let some : held.core.descriptor.lvs ≢ [] → left.core.descriptor.lvs ≢ [] = λ more none. more (ap (λ (d : Descriptor). d.lvs) same_group ∙ none) in
-                record {
-                  empty = λ none. subst (HoldsEmpty left.device) (sym (held.empty (so [] none))) (stands.empty (so [] none));
-                  tied = λ more. (stands.served [] held.core (held.served (some more)) held.sound).tied more;
-                  spares = λ more. (stands.served [] held.core (held.served (some more)) held.sound).spares more;
-                }
+            (λ m may alone. (known.goes m may alone).0) on.held.core on.held.is stays.session stays.device stays.posts (ready lasts) (settled lasts) known.landed on.held.sound
+            (rows_again device done.left on.by on.held (rows_stay mid left (known.shape lasts) (rows_mid (state_in device stage last) core mid (at_mid last))))
+            (λ m may alone past begins. stands_again device done.left on.by on.held past (if_on given (IsLeftStandingSince run m left) (known.goes m may alone).1 lasts (sectors done.left.0) past begins))
 
         -- the line ends so, by what it does
         pub ends_so : (Does : Log → State → State → Reply → Type 0)

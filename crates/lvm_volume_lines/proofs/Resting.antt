@@ -4,8 +4,11 @@ use Rattle.std.specs.Prelude.{bytes_eq, is_none, slice_get}
 use Rattle.std.specs.Option.{option_map_or}
 use Rattle.std.proofs.lemmas.Bool.{eq-eqb}
 use Rattle.std.proofs.lemmas.Slice.Eq.{bytes_eq-Decides}
+use Rattle.std.specs.List.{list_any}
+use Rattle.lvm_num.specs.declared.descriptor.PvRow.{PvRow}
 use Rattle.lvm_num.specs.declared.status.Status.{Status}
 use Rattle.lvm_num.specs.declared.status.StatusRow.{StatusRow}
+use Rattle.lvm_num.specs.Disks.{has}
 use Rattle.lvm_disk.specs.Device.{Flight}
 use Rattle.lvm_disk.specs.Paths.{Path, Here, Then}
 use Rattle.lvm_session.specs.declared.answers.Turned.{Turned}
@@ -86,9 +89,11 @@ module _ (s : Session) (still : IsStill s) where
   core = s.core
 
   no_status : is_status_due core ≡ false
-  no_status =
-      ap (λ (o : Option Status). if is_none o then not (same_status core.status.wanted core.status.committed) else _) still.in_flight
-      ∙ ap (λ (t : Status). not (same_status core.status.wanted t)) still.committed ∙ ap not (status_same core.status.wanted)
+  no_status = by core.status.in_flight still.in_flight
+    where
+      by : (o : Option Status) → o ≡ None → (if is_none o then not (same_status core.status.wanted core.status.committed) else list_any (λ (row : PvRow). has core.status.writes.unstarted row.disk) core.status.group.pvs) ≡ false
+      by None none = ap (λ (t : Status). not (same_status core.status.wanted t)) still.committed ∙ ap not (status_same core.status.wanted)
+      by (Some t) none = absurd (cc (none))
 
   settles : first_of parts_to_settle core ≡ None
   settles = ap (λ (os : List Open). or_next (first_from (landing_at core) 0 os) (or_next (first_from (admission_at core) 0 os) (or_next (first_from (pinning_at core) 0 os) None))) still.requests
@@ -162,3 +167,17 @@ still_turns old new still (Then {m = mid} path turn any) on =
     by : mid ≡ old → (new ≡ old) ⊎ (new.core.power ≡ power.Dark) → new ≡ old
     by same (inl is) = is
     by same (inr dark) = absurd (let e : power.On ≡ power.Dark = sym on ∙ dark in cc e)
+
+-- and else the power was cut
+pub dark_or_still : (old new : Session) → IsStill old → Path IsTurn IsAny old new → (new ≡ old) ⊎ (new.core.power ≡ power.Dark)
+dark_or_still old _ still (Here any) = inl refl
+dark_or_still old new still (Then {m = mid} path turn any) = by (dark_or_still old mid still path)
+  where
+    by : (mid ≡ old) ⊎ (mid.core.power ≡ power.Dark) → (new ≡ old) ⊎ (new.core.power ≡ power.Dark)
+    by (inl same) = still_turn old still new turn.0 (subst (λ (s : Session). TurnMakes s new turn.0) same turn.1)
+    by (inr dark) = inr (stays turn.1)
+      where
+        stays : TurnMakes mid new turn.0 → new.core.power ≡ power.Dark
+        stays (WasDark was is same) = ap (λ (s : Session). s.core.power) same ∙ dark
+        stays (WasOff off is same) = ap (λ (s : Session). s.core.power) same ∙ dark
+        stays (WasOn on made) = absurd (let e : power.On ≡ power.Dark = sym on ∙ dark in cc e)

@@ -1,5 +1,6 @@
 -- How a session comes to rest before a command, and what is left of it.
 use Rattle.std.specs.Prelude.{◌≡◌, ◌≢◌, ◌≤◌, ◌-◌, ℕ, Bool, true, false, [], List, Option, Some, None, Result, Vec}
+use Rattle.std.specs.declared.alloc.Global.{Global}
 use Rattle.lvm_disk.specs.Counts.{RoseBy}
 use Rattle.lvm_disk.specs.Device.{Device}
 use Rattle.lvm_disk.specs.Paths.{Path}
@@ -66,26 +67,26 @@ pub record IsHeldAgain {S : Type 0} (device : S → Device) (driver : S × Core)
   pub kind : IsOfKind by
 
 -- so a stage holds it
-pub record IsLeftOn {S : Type 0} (device : S → Device) (driver : S × Core) (posts : Vec Post) (bytes : Vec ℕ) (stage : Stage S) : Type 0 where
+pub record IsLeftOn {S : Type 0} (device : S → Device) (driver : S × Core) (posts : Vec Post Global) (bytes : Vec ℕ Global) (stage : Stage S) : Type 0 where
   pub by : Holder S
   pub held : IsHeldAgain device driver by
   pub is : stage ≡ record { holder = by; posts = posts; bytes = bytes }
 
 -- or it is closed, its posts have ended, and the power is on
-pub record IsLeftOff {S : Type 0} (device : S → Device) (driver : S × Core) (posts : Vec Post) (bytes : Vec ℕ) (stage : Stage S) : Type 0 where
+pub record IsLeftOff {S : Type 0} (device : S → Device) (driver : S × Core) (posts : Vec Post Global) (bytes : Vec ℕ Global) (stage : Stage S) : Type 0 where
   pub session : session_in stage ≡ None
   pub lit : Relights (device driver.0) (device (shelf_in stage))
   pub history : history_in stage ≡ driver.1.history
-  pub posts : stage.posts.items ≡ posts_ended (Some driver.1) posts.items
+  pub posted : stage.posts.items ≡ posts_ended (Some driver.1) posts.items
   pub rooms : (entries : ℕ) → HaveRooms entries posts bytes → HaveRooms entries stage.posts stage.bytes
   pub kind : IsOfKind stage.holder
 
-abbrev pub IsLeftAs : {S : Type 0} → (S → Device) → Bool → S × Core → Vec Post → Vec ℕ → Stage S → Type 0
+abbrev pub IsLeftAs : {S : Type 0} → (S → Device) → Bool → S × Core → Vec Post Global → Vec ℕ Global → Stage S → Type 0
 IsLeftAs device true driver posts bytes stage = IsLeftOff device driver posts bytes stage
 IsLeftAs device false driver posts bytes stage = IsLeftOn device driver posts bytes stage
 
 -- The command was answered so, and left this of the session.
-pub record IsCarriedOut {S X : Type 0} (device : S → Device) (Gives : Session → Session → Result X GroupFault → Type 0) (scope : Scope) (before : ℕ) (driver : S × Core) (posts : Vec Post) (bytes : Vec ℕ) (stage : Stage S) (answer : Reply) : Type 0 where
+pub record IsCarriedOut {S X : Type 0} (device : S → Device) (Gives : Session → Session → Result X GroupFault → Type 0) (scope : Scope) (before : ℕ) (driver : S × Core) (posts : Vec Post Global) (bytes : Vec ℕ Global) (stage : Stage S) (answer : Reply) : Type 0 where
   pub given : Result X GroupFault
   pub left : S × Core
   pub after : ℕ
