@@ -1,12 +1,11 @@
 -- Commands on the session that is on: how states go on over them.
-use Rattle.std.proofs.Common.{◌≡◌, ◌≢◌, ◌⊎◌, inl, inr, ◌+◌, ◌≤◌, ◌<◌, [], ◌∷◌, ℕ, List, Bool, true, false, Option, Some, None, IfSome, IfNone, length, map, get_or, refl, sym, ◌∙◌, ap, subst, arith}
+use Rattle.std.proofs.Common.{◌≡◌, ◌≢◌, ◌⊎◌, inl, inr, ◌+◌, ◌≤◌, [], ◌∷◌, ℕ, List, Bool, true, false, Option, Some, None, IfSome, IfNone, length, get_or, refl, sym, ◌∙◌, ap, subst, arith}
 use Rattle.std.specs.List.{list_any}
 use Rattle.std.proofs.lemmas.List.{length-map}
 use Rattle.lvm_num.specs.Buffer.{Buffer}
 use Rattle.lvm_num.specs.Votes.{total_votes}
 use Rattle.lvm_num.specs.declared.descriptor.Descriptor.{Descriptor}
-use Rattle.lvm_num.specs.declared.descriptor.LvRow.{LvRow}
-use Rattle.lvm_disk.specs.Device.{Device, IsReady, MayLeave}
+use Rattle.lvm_disk.specs.Device.{Device, IsReady}
 use Rattle.lvm_disk.specs.Images.{LeavesNoMore}
 use Rattle.lvm_disk.specs.Paths.{DeviceStep, Path, Here}
 use Rattle.lvm_disk.proofs.Paths.{last-path}
@@ -17,7 +16,7 @@ use Rattle.lvm_kept.specs.Moments.{Moment}
 use Rattle.lvm_steps.specs.Moments.{Begins, Keeps}
 use Rattle.lvm_steps.specs.Requests.{at}
 use Rattle.lvm_steps.proofs.Spans.{keeps_steps}
-use Rattle.lvm_stamps.specs.Behind.{IsAhead, IsBehind}
+use Rattle.lvm_stamps.specs.Behind.{IsBehind}
 use Rattle.lvm_stamps.proofs.Shelves.{no_more_stays_behind}
 use Rattle.lvm_transfer.specs.Transfer.{Relights}
 use Rattle.lvm_status.specs.Members.{HasItsRows}
@@ -31,21 +30,18 @@ use Rattle.lvm_core.specs.Leaves.{EntersVolumes, KeepsHistory, Leaves, Scope}
 use Rattle.lvm_core.specs.Settled.{IsSettled as IsSettledCore}
 use Rattle.lvm_core.specs.Sound.{HaveAllLanded, IsSound as IsSoundBetween}
 use Rattle.lvm_commit.specs.LawsOfVolumes.{IsOneByAllOn}
-use Rattle.lvm_quiesce.specs.Behind.{IsAheadEach}
 use Rattle.lvm_quiesce.proofs.Behind.{each_is_behind, still_is_behind_each}
 use Rattle.lvm_posts.specs.declared.posts.Post.{Post}
 use Rattle.lvm_posts.specs.Posts.{AreAnswered, AreHeld, ended_with}
 use Rattle.lvm_running.specs.Running.{IsBefore, LeavesSession}
 use Rattle.lvm_tie.specs.Stamps.{IsStamped}
 use Rattle.lvm_tie.specs.Tied.{IsGood}
-use Rattle.lvm_handover.specs.Serving.{IsServed}
-use Rattle.lvm_tie_commands.specs.Commands.{IsAloneAtFirst, IsLeftStanding, IsLeftStandingSince, MayBeCommanded}
+use Rattle.lvm_tie_commands.specs.Commands.{IsAloneAtFirst, MayBeCommanded}
 use Rattle.lvm_tie_commands.specs.Standing.{StandsAfter, StandsSince}
-use Rattle.lvm_volumes.specs.Endings.{IfOn}
 use Rattle.lvm_stage.specs.Moments.{GoesOn, HasBegunHeld, IsAlone, OfGroup}
 use Rattle.lvm_stage.specs.Replies.{IsStuck, most_refusals}
 use Rattle.lvm_stage.specs.Stages.{posts_ended}
-use Rattle.lvm_stage.specs.State.{ArePosted, IsAtRest, IsBetween, IsOnBetween, IsTimely, StandsAlone, StandsBy, State}
+use Rattle.lvm_stage.specs.State.{ArePosted, IsBetween, IsOnBetween, IsTimely, StandsAlone, StandsBy, State}
 use Rattle.lvm_stage.specs.declared.reply.Reply.{Reply}
 use Rattle.lvm_stage.proofs.Going.{relit_path, was_session}
 use Rattle.lvm_stage.proofs.Lighting.{ready_is_lit, still_leaves_descriptors}
@@ -165,7 +161,7 @@ module _ (old : State) (core : Core) (mid : Session) (its : AtMid old core mid) 
         let same = its.empty (sym (ap (λ (d : Descriptor). d.lvs) its.leaves.keeps.descriptor) ∙ none) in
         subst (λ (s : Session). IsOneByAllOn s.device) (sym same)
         (alone.enters (subst (λ (fs : List Fact). EntersVolumes old.moment.facts fs) (sym facts)
-            (subst (λ (fs : List Fact). EntersVolumes fs left.core.history.facts) (ap (λ (s : Session). s.core.history.facts) same ∙ sym its.facts) enters)))
+        (subst (λ (fs : List Fact). EntersVolumes fs left.core.history.facts) (ap (λ (s : Session). s.core.history.facts) same ∙ sym its.facts) enters)))
 
   -- ---- its moment
 
@@ -274,7 +270,7 @@ module _ (old : State) (core : Core) (mid left : Session) (its : AtMid old core 
     ended : ArePosted new.moment.facts None new.posts
     ended = subst (λ (ps : List Post). ArePosted new.moment.facts None ps) (sym posts) (subst (λ (fs : List Fact). ArePosted fs None (posts_ended (Some left.core) old.posts)) (sym facts)
         (end_posts old.moment.facts left.core.history.facts answers_left core (votes_there left.core) (total_votes left.core.descriptor) (none_held core left.core.history.facts its.none) old.posts
-            (subst (λ (o : Option Core). ArePosted old.moment.facts o old.posts) its.session its.between.posted)))
+        (subst (λ (o : Option Core). ArePosted old.moment.facts o old.posts) its.session its.between.posted)))
 
     behind_new : IsTimely core.history.run old → IsBehind (new.last + 1) new.moment.device
     behind_new timely = subst (λ (n : ℕ). IsBehind (n + 1) new.moment.device) (sym clock) (closed.behind (old.last + 1) (behind_left old core mid its timely left promised))
@@ -354,9 +350,9 @@ module _ (old : State) (core : Core) (mid left : Session) (its : AtMid old core 
     goes_on = subst (GoesOn core.history.run OfGroup answer old) (sym next_is) (record {
       keeps = λ timely alone first span stands.
           let alone_new = subst (IsAlone OfGroup old) (sym next_is) alone in (
-          spanned alone_new first span stands,
-          λ heard past begins only. standing first (may_mid old core mid its new alone_new first span stands) (alone_mid old core mid its new alone_new first span stands left facts) past begins,
-      );
+            spanned alone_new first span stands,
+            λ heard past begins only. standing first (may_mid old core mid its new alone_new first span stands) (alone_mid old core mid its new alone_new first span stands left facts) past begins,
+          );
       timely = λ heard timely. record {
         ahead = record {
           run_is = timely.ahead.run_is;

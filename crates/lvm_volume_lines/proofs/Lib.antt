@@ -5,3 +5,5 @@ pub mod Resting
 pub mod Rested
 pub mod OfVolumes
 pub mod Undrained
+pub mod Unnamed
+pub mod Lines

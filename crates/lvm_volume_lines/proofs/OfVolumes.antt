@@ -1,5 +1,5 @@
 -- `mklv` and `rmlv` on the session of the group that is on, from the session that has come to rest.
-use Rattle.std.proofs.Common.{◌≡◌, ◌≢◌, ◌⊎◌, inl, inr, ◌<◌, ◌^◌, ◌+◌, ℕ, Bool, true, false, not, Err, [], ◌∷◌, List, Option, Some, None, refl, sym, ◌∙◌, ap, subst, Result, Ok, length}
+use Rattle.std.proofs.Common.{◌≡◌, ◌≢◌, ◌⊎◌, inl, inr, ◌<◌, ◌^◌, ◌+◌, ℕ, Bool, true, false, not, Err, [], ◌∷◌, List, Option, Some, refl, sym, ◌∙◌, ap, subst, Result, length}
 use Rattle.std.specs.Prelude.{IfSome}
 use Rattle.lvm_num.specs.declared.place.Pp.{Pp}
 use Rattle.lvm_num.specs.declared.descriptor.Descriptor.{Descriptor}
@@ -7,7 +7,7 @@ use Rattle.lvm_disk.specs.Device.{Device, HasSectors, IsReady}
 use Rattle.lvm_vol.specs.Facts.{Fact}
 use Rattle.lvm_vol.specs.Log.{Log}
 use Rattle.lvm_kept.specs.Moments.{Moment}
-use Rattle.lvm_steps.specs.Moments.{Begins, Keeps}
+use Rattle.lvm_steps.specs.Moments.{Keeps}
 use Rattle.lvm_status.specs.Members.{HasItsRows}
 use Rattle.lvm_session.specs.State.{Core, State as Session, state}
 use Rattle.lvm_core.specs.Committing.{moment_of}
@@ -36,7 +36,7 @@ use Rattle.lvm_volume_lines.specs.Commands.{HasRested, IsCarriedOut, IsHeldAgain
 use Rattle.lvm_volume_lines.specs.Volumes.{Drains, IsDone, StaysOn, is_over, volume_reply}
 use Rattle.lvm_volume_lines.proofs.Commanding.{AtMid, ClosesWell, Promised, empty_or, goes_off, goes_on, promised_by, ready_mid, rows_mid}
 use Rattle.lvm_volume_lines.proofs.Ending.{Facts, SameShape, closes_after, one_answer, ready_still, rows_stay}
-use Rattle.lvm_volume_lines.proofs.Resting.{IsStill, none_stay, still_turns, turns_keep}
+use Rattle.lvm_volume_lines.proofs.Resting.{IsStill, still_turns, turns_keep}
 
 -- ---- by the answer
 
@@ -222,7 +222,7 @@ module _ {S : Type 0} (device : S → Device) (stage : Stage S) (fits : IsFittin
 
         -- ---- what is done
 
-        stays_on : (goes : is_over given ≡ false) (last : ℕ) → StaysOn left (state_in device stage last) (state_in device it last)
+        abbrev stays_on : (goes : is_over given ≡ false) (last : ℕ) → StaysOn left (state_in device stage last) (state_in device it last)
         stays_on goes last =
             let on = left_on goes in
             record {

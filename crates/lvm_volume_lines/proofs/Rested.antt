@@ -1,12 +1,11 @@
 -- How a session comes to rest, by the turns that were made.
-use Rattle.std.proofs.Common.{◌≡◌, ◌≢◌, ◌≤◌, ◌-◌, ℕ, [], ◌∷◌, None, Some, Option, IfSome, length, List, refl, sym, ◌∙◌, ap, subst, arith}
+use Rattle.std.proofs.Common.{◌≡◌, ◌≤◌, ◌-◌, ℕ, [], ◌∷◌, IfSome, length, List, refl, sym, ◌∙◌, ap, subst, arith}
 use Rattle.lvm_disk.specs.Counts.{RoseBy}
 use Rattle.lvm_disk.specs.Device.{Device}
 use Rattle.lvm_disk.specs.Paths.{Path, Here}
 use Rattle.lvm_disk.proofs.Rising.{rose_by_none}
 use Rattle.lvm_session.specs.declared.open.Power.TheVariants as power
-use Rattle.lvm_session.specs.State.{Core, State as Session, state}
-use Rattle.lvm_session.specs.Sound.{IsSound}
+use Rattle.lvm_session.specs.State.{Core, State as Session}
 use Rattle.lvm_core.specs.Settled.{IsSettled}
 use Rattle.lvm_core.specs.Sound.{IsSound as IsSoundBetween}
 use Rattle.lvm_core.specs.State.{state_of}

@@ -1,5 +1,5 @@
 -- Turns before a command: they keep the table, and at rest they change nothing.
-use Rattle.std.proofs.Common.{◌≡◌, ◌==◌, ◌⊎◌, inl, inr, ◌<◌, ℕ, Bool, true, false, ◌&&◌, not, if◌then◌else◌, List, [], ◌∷◌, Option, Some, None, length, refl, sym, ◌∙◌, ap, subst, arith}
+use Rattle.std.proofs.Common.{◌≡◌, ◌⊎◌, inl, inr, ℕ, Bool, true, false, ◌&&◌, not, if◌then◌else◌, List, [], ◌∷◌, Option, Some, None, length, refl, sym, ◌∙◌, ap, subst, arith}
 use Rattle.std.specs.Prelude.{bytes_eq, is_none, slice_get}
 use Rattle.std.specs.Option.{option_map_or}
 use Rattle.std.proofs.lemmas.Bool.{eq-eqb}
@@ -20,7 +20,7 @@ use Rattle.lvm_session.specs.declared.flown.Flown.{Flown}
 use Rattle.lvm_session.specs.declared.open.Open.{Open}
 use Rattle.lvm_session.specs.declared.open.Power.TheVariants as power
 use Rattle.lvm_session.specs.State.{Core, State as Session}
-use Rattle.lvm_session.specs.Enabled.{admission_at, copy_read, copy_write, data_at, data_start, first_event, first_from, first_of, has_buffer, is_lost, is_status_due, landing, landing_at, may_read, may_write, note_at, note_start, or_next, parts_to_settle, parts_to_start, pinning_at, same_row, same_rows, same_status, status_start}
+use Rattle.lvm_session.specs.Enabled.{admission_at, data_at, first_event, first_from, first_of, has_buffer, is_lost, is_status_due, landing, landing_at, may_read, may_write, note_at, or_next, parts_to_settle, parts_to_start, pinning_at, same_rows, same_status}
 use Rattle.lvm_session.specs.Sound.{IsSound}
 use Rattle.lvm_session.specs.Turns.{FinishMakes, OnMakes, TurnMakes, WasDark, WasOff, WasOn, Moves, NoStart, Finishes}
 use Rattle.lvm_driver.specs.Drains.{IsAny, IsTurn}

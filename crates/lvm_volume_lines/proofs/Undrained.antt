@@ -1,9 +1,8 @@
 -- A line whose session ends, or isn't heard of, before its command.
-use Rattle.std.proofs.Common.{◌≡◌, ◌≢◌, ◌⊎◌, inl, inr, ◌<◌, ◌≤◌, ◌^◌, ◌+◌, ◌-◌, ℕ, Bool, true, false, [], List, Option, Some, None, IfSome, length, map, not, refl, sym, ◌∙◌, ap, subst, arith}
+use Rattle.std.proofs.Common.{◌≡◌, ◌⊎◌, inl, inr, ◌<◌, ◌≤◌, ◌^◌, ◌+◌, ℕ, Bool, true, false, [], List, Option, Some, None, IfSome, length, not, refl, sym, ◌∙◌, ap, subst, arith}
 use Rattle.std.proofs.lemmas.List.{length-map}
 use Rattle.lvm_num.specs.Votes.{total_votes}
-use Rattle.lvm_num.specs.declared.descriptor.Descriptor.{Descriptor}
-use Rattle.lvm_disk.specs.Device.{Device, IsReady}
+use Rattle.lvm_disk.specs.Device.{Device}
 use Rattle.lvm_vol.specs.Facts.{Fact}
 use Rattle.lvm_vol.specs.Log.{Log}
 use Rattle.lvm_transfer.specs.Transfer.{Relights}
@@ -30,7 +29,6 @@ use Rattle.lvm_stage.specs.declared.holder.Holder.{Holder}
 use Rattle.lvm_stage.specs.declared.holder.Holder.TheVariants as holder
 use Rattle.lvm_stage.specs.declared.reply.Reply.{Reply}
 use Rattle.lvm_stage.specs.declared.reply.Reply.TheVariants as reply
-use Rattle.lvm_stage.specs.declared.reply.Refusal.TheVariants as refusal
 use Rattle.lvm_stage.specs.declared.stage.Stage.{Stage}
 use Rattle.lvm_stage.proofs.Ends.{one_refused}
 use Rattle.lvm_stage.proofs.Posting.{LeavesAnswers, end_posts, none_held}
@@ -84,7 +82,7 @@ module _ {S : Type 0} (device : S → Device) (stage : Stage S) (fits : IsFittin
   posted : ArePosted (history_in it).facts None it.posts.items
   posted = subst (λ ps. ArePosted (history_in it).facts None ps) (sym ended.posted) (subst (λ (fs : List Fact). ArePosted fs None (posts_ended (Some driver.1) stage.posts.items)) (sym facts)
       (end_posts (history_in stage).facts driver.1.history.facts answers core (votes_there driver.1) (total_votes driver.1.descriptor) (none_held core driver.1.history.facts (no_requests device stage fits between none core its)) stage.posts.items
-          (subst (λ (o : Option Core). ArePosted (history_in stage).facts o stage.posts.items) its between.posted)))
+      (subst (λ (o : Option Core). ArePosted (history_in stage).facts o stage.posts.items) its between.posted)))
 
   unstuck : end.core.power ≡ power.Stuck → ⊥
   unstuck = stays_unstuck core end.core leaves.keeps.power (λ stuck. let e : power.On ≡ power.Stuck = sym (was_on device stage fits between none core its).power ∙ stuck in cc e)
@@ -136,30 +134,22 @@ module _ {S : Type 0} (device : S → Device) (stage : Stage S) (fits : IsFittin
   rests : (last : ℕ) → IsAtRest (state_in device stage last) → IsAtRest (state_in device it last)
   rests last rest = by (dark_or_still first end (still last rest) broken.turned.turns)
     where
-      dark_rests : end.core.power ≡ power.Dark → IsAtRest (state_in device it last)
-      dark_rests dark = record {
+      closed_rests : end.device.flights ≡ [] → HaveAllLanded end.core.history.facts → IsAtRest (state_in device it last)
+      closed_rests idle landed = record {
         ready = record {
           power = ap (λ (d : Device). d.power) lit;
-          flights = ap (λ (d : Device). d.flights) lit ∙ (broken.turned.sound.dark (ap is_dark dark)).flights;
+          flights = ap (λ (d : Device). d.flights) lit ∙ idle;
           freed = ap (λ (d : Device). d.freed) lit;
         };
-        landed = subst HaveAllLanded (sym facts) (over_landed end broken.turned.sound (ap is_over dark));
+        landed = subst HaveAllLanded (sym facts) landed;
         session = subst (λ (o : Option Core). IfSome o IsSettledCore) (sym ended.session) tt;
         posts = ended.posted ∙ ap (posts_ended (Some driver.1)) rest.posts;
       }
 
-      -- where nothing has happened it is on, and nothing was waited for
-      unchanged : (w : DrainFault) → end ≡ first → FailsSo patience end w → ⊥
-      unchanged drain_fault.Dark same dark = let e : power.On ≡ power.Dark = sym (still last rest).on ∙ ap (λ (s : Session). s.core.power) (sym same) ∙ dark in cc e
-      unchanged (drain_fault.WentOff have total) same off = let e : power.On ≡ power.Off = sym (still last rest).on ∙ ap (λ (s : Session). s.core.power) (sym same) ∙ off.power_is in cc e
-      unchanged drain_fault.Stuck same stuck =
-          let waited = broken.turned.waited.risen in
-          let was = ap (λ (s : Session). s.device.counts.waits) same in
-          omega (arith, waited, was, stuck)
-
       by : (end ≡ first) ⊎ (end.core.power ≡ power.Dark) → IsAtRest (state_in device it last)
-      by (inl same) = absurd (unchanged why same broken.fails)
-      by (inr dark) = dark_rests dark
+      by (inl same) = closed_rests (ap (λ (s : Session). s.device.flights) same ∙ rest.ready.flights)
+          (subst (λ (s : Session). HaveAllLanded s.core.history.facts) (sym same) (subst (λ (l : Log). HaveAllLanded l.facts) (its_history device stage fits between none core its) rest.landed))
+      by (inr dark) = closed_rests (broken.turned.sound.dark (ap is_dark dark)).flights (over_landed end broken.turned.sound (ap is_over dark))
 
   -- ---- so the line ends
 
