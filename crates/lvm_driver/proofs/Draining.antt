@@ -11,10 +11,8 @@ use Rattle.lvm_session.specs.declared.answers.Turned.{Turned}
 use Rattle.lvm_session.specs.declared.answers.Turned.TheVariants as turned
 use Rattle.lvm_session.specs.Turns.{Finds, FindsNothing, TurnMakes}
 use Rattle.lvm_session.specs.Left.{left_of}
-use Rattle.lvm_vol.specs.Facts.{Fact}
-use Rattle.lvm_tie.specs.Landings.{HasCausesSince}
-use Rattle.lvm_tie.specs.GoingOn.{GoesOn}
-use Rattle.lvm_tie.proofs.Spanning.{goes_same, goes_then}
+use Rattle.lvm_running.specs.Running.{RunsOn}
+use Rattle.lvm_running.proofs.Running.{runs_both, runs_none}
 use Rattle.lvm_turn_answers.specs.Telling.{TurnTells}
 use Rattle.lvm_driver.specs.Drains.{IsAny, IsDrained, IsTurn}
 use Rattle.lvm_turn_answers.proofs.Stepping.{turn_counts}
@@ -25,8 +23,7 @@ pub record Goes (first now : State) (patience left : ℕ) : Type 0 where
   pub unstuck : now.core.power ≡ power.Stuck → ⊥
   pub fewer : left ≤ patience
   pub waited : RoseBy (patience - left) first.device.counts.waits now.device.counts.waits
-  pub good : (run : ℕ) → GoesOn run first now
-  pub causes : (began : List Fact) → HasCausesSince began first → HasCausesSince began now
+  pub runs : RunsOn first now
 
 pub begins : (first : State) (patience : ℕ) → (first.core.power ≡ power.Stuck → ⊥) → Goes first first patience patience
 begins first patience unstuck = record {
@@ -34,8 +31,7 @@ begins first patience unstuck = record {
   unstuck = unstuck;
   fewer = omega arith;
   waited = let none : 0 ≡ patience - patience = omega arith in subst (λ n. RoseBy n first.device.counts.waits first.device.counts.waits) none (rose_by_none first.device.counts.waits);
-  good = λ run. goes_same run first first refl;
-  causes = λ began has. has;
+  runs = runs_none first;
 }
 
 none_out : (fs : List Flight) → length fs ≡ 0 → fs ≡ []
@@ -58,19 +54,15 @@ module _ (first old new : State) (patience left : ℕ) (so_far : Goes first old 
   not_stuck : power.On ≡ power.Stuck → ⊥
   not_stuck e = absurd (cc e)
 
-  pub good_on : ((run : ℕ) → GoesOn run old new) → (run : ℕ) → GoesOn run first new
-  good_on good run = goes_then run first old new (so_far.good run) (good run)
+  pub runs_then : RunsOn old new → RunsOn first new
+  runs_then runs = runs_both first old new so_far.runs runs
 
-  pub causes_on : ((began : List Fact) → HasCausesSince began old → HasCausesSince began new) → (began : List Fact) → HasCausesSince began first → HasCausesSince began new
-  causes_on causes began has = causes began (so_far.causes began has)
+  pub moved : TurnMakes old new turned.Moved → TurnTells old new turned.Moved → RunsOn old new → Goes first new patience left
+  moved made tells runs = record { runs = runs_then runs; turns = path turned.Moved made; unstuck = λ stuck. not_stuck (sym tells.power_is ∙ stuck); fewer = so_far.fewer; waited = waited_on turned.Moved made }
 
-  pub moved : TurnMakes old new turned.Moved → TurnTells old new turned.Moved → ((run : ℕ) → GoesOn run old new) → ((began : List Fact) → HasCausesSince began old → HasCausesSince began new) → Goes first new patience left
-  moved made tells good causes = record { good = good_on good; causes = causes_on causes; turns = path turned.Moved made; unstuck = λ stuck. not_stuck (sym tells.power_is ∙ stuck); fewer = so_far.fewer; waited = waited_on turned.Moved made }
-
-  pub waits : TurnMakes old new turned.Idle → TurnTells old new turned.Idle → (length new.device.flights ≡ 0 → ⊥) → 1 ≤ left → ((run : ℕ) → GoesOn run old new) → ((began : List Fact) → HasCausesSince began old → HasCausesSince began new) → Goes first new patience (left - 1)
-  waits made tells out some good causes = record {
-    good = good_on good;
-    causes = causes_on causes;
+  pub waits : TurnMakes old new turned.Idle → TurnTells old new turned.Idle → (length new.device.flights ≡ 0 → ⊥) → 1 ≤ left → RunsOn old new → Goes first new patience (left - 1)
+  waits made tells out some runs = record {
+    runs = runs_then runs;
     turns = path turned.Idle made;
     unstuck = λ stuck. not_stuck (sym tells.power_is ∙ stuck);
     fewer = let few = so_far.fewer in omega (arith, few);

@@ -4,4 +4,3 @@ mod Draining
 mod Causes
 pub mod Beginnings
 mod Closing
-pub mod Good

@@ -1,13 +1,11 @@
 //! Turns until nothing may be made.
-ghost use Rattle.std.specs.Prelude.{◌≡◌, ◌≤◌, ◌-◌, ℕ, List};
+ghost use Rattle.std.specs.Prelude.{◌≡◌, ◌≤◌, ◌-◌};
 ghost use Rattle.lvm_disk.specs.Counts.{RoseBy};
 ghost use Rattle.lvm_disk.specs.Paths.{Path};
 ghost use Rattle.lvm_num.specs.Votes.{total_votes};
-ghost use Rattle.lvm_vol.specs.Facts.{Fact};
 ghost use Rattle.lvm_session.specs.declared.open.Power.TheVariants as power;
 ghost use Rattle.lvm_session.specs.State.{votes_there};
-ghost use Rattle.lvm_tie.specs.Landings.{HasCausesSince};
-ghost use Rattle.lvm_tie.specs.GoingOn.{GoesOn};
+ghost use Rattle.lvm_running.specs.Running.{RunsOn};
 ghost use Rattle.lvm_driver.specs.declared.drain.DrainFault.TheVariants as fault;
 ghost use Rattle.lvm_driver.specs.Answers.{state_of};
 ghost use Rattle.lvm_driver.specs.Drains.{DrainEnds, IsAny, IsTurn};
@@ -38,8 +36,7 @@ impl<S: Shelf> Driver<S> {
         requires unstuck { self.old.1.power ≡ power.Stuck → ⊥ }
         ensures turns { Path IsTurn IsAny (state_of S.device self.old) (state_of S.device self.new) }
         ensures ends { DrainEnds patience.new.left (state_of S.device self.new) result }
-        ensures goes_on { (run : ℕ) → GoesOn run (state_of S.device self.old) (state_of S.device self.new) }
-        ensures causes { (first : List Fact) → HasCausesSince first (state_of S.device self.old) → HasCausesSince first (state_of S.device self.new) }
+        ensures runs { RunsOn (state_of S.device self.old) (state_of S.device self.new) }
         ensures patience { patience.new.left ≤ patience.old.left }
         ensures waited { RoseBy (patience.old.left - patience.new.left) (S.device self.old.0).counts.waits (S.device self.new.0).counts.waits }
     {

@@ -1,11 +1,9 @@
 //! A session over its shelf.
-ghost use Rattle.std.specs.Prelude.{◌≡◌, ◌≤◌, ◌<◌, ◌+◌, ◌^◌, ℕ, List, false, Some, [], length, option_copied, slice_get};
+ghost use Rattle.std.specs.Prelude.{◌≡◌, ◌≤◌, ◌<◌, ◌+◌, ◌^◌, ℕ, false, Some, [], length, option_copied, slice_get};
 ghost use Rattle.std.specs.List.{list_any};
 ghost use Rattle.lvm_num.specs.Descriptor.{IsValid};
-ghost use Rattle.lvm_num.specs.Status.{IsValidStatus};
 ghost use Rattle.lvm_num.specs.Votes.{total_votes};
 ghost use Rattle.lvm_disk.specs.Steps.{MayArrange};
-ghost use Rattle.lvm_vol.specs.Facts.{Fact};
 ghost use Rattle.lvm_vol.specs.Log.{is_open, spare_entries};
 ghost use Rattle.lvm_session.specs.declared.open.Power.TheVariants as power;
 ghost use Rattle.lvm_session.specs.Judging.{is_waiting};
@@ -17,12 +15,13 @@ ghost use Rattle.lvm_session.specs.Calls.{OpenGives, SubmitGives, TakeGives, clo
 ghost use Rattle.lvm_session.specs.Turns.{Arranges, TurnMakes};
 ghost use Rattle.lvm_session.specs.Asking.{IsAsking};
 ghost use Rattle.lvm_session.specs.Left.{left_of};
-ghost use Rattle.lvm_session.specs.Sound.{IsSound};
+ghost use Rattle.lvm_session.specs.Sound.{IsSound, waits};
 ghost use Rattle.lvm_keeps.specs.Falls.{most_left};
 ghost use Rattle.lvm_copy_open.specs.Opening.{counts_seen};
 ghost use Rattle.lvm_session_start.specs.Beginning.{AreFaults, MayBegin, first_core};
 ghost use Rattle.lvm_tie.specs.Landings.{HasCausesSince};
-ghost use Rattle.lvm_tie.specs.GoingOn.{GoesOn};
+ghost use Rattle.lvm_tie.specs.Stamps.{AreValid};
+ghost use Rattle.lvm_running.specs.Running.{LeavesSession, RunsOn};
 ghost use Rattle.lvm_turn_answers.specs.Reading.{GetsItsBlocks};
 ghost use Rattle.lvm_turn_answers.specs.Telling.{TurnTells};
 ghost use Rattle.lvm_driver.specs.Answers.{IsCausedFor, IsCopyCaused, IsOffSince, state_of};
@@ -36,7 +35,7 @@ use lvm_homes::Homes;
 use lvm_num::{Descriptor, Stamp};
 use lvm_orders::arrange;
 use lvm_path::Ask;
-use lvm_session::{AskFault, CopyFault, CopyState, Power, Session, Taken, Turned};
+use lvm_session::{AskFault, CopyFault, CopyState, Open, Power, Session, Taken, Turned};
 use lvm_session_start::{Parts, begin_session};
 use lvm_session_turn::turn;
 use lvm_stale::StaleTable;
@@ -46,8 +45,8 @@ use std::marker::Model;
 
 /// A group that is varied on, over its shelf. Clients submit requests to it and take their answers; what is done
 /// about them is done by turns, one event at a time. No call of it takes memory. Each call leaves a good session good, and
-/// at each moment of it the history is legal and each crash image kept with it; and each landing since the session began
-/// has its cause.
+/// at each moment of it the history is legal and each crash image kept with it; no call makes a descriptor found or
+/// leaves a record of a later moment; and each landing since the session began has its cause.
 #[derive(Drop)]
 pub struct Driver<S: Shelf> {
     shelf: S,
@@ -114,8 +113,7 @@ impl<S: Shelf> Driver<S> {
         ensures shelf { self.new.0 ≡ self.old.0 }
         ensures gives { SubmitGives self.old.1 self.new.1 client ask (option_copied bytes.entry) result }
         ensures off { IsOffSince (state_of S.device self.old) }
-        ensures goes_on { (run : ℕ) → GoesOn run (state_of S.device self.old) (state_of S.device self.new) }
-        ensures causes { (first : List Fact) → HasCausesSince first (state_of S.device self.old) → HasCausesSince first (state_of S.device self.new) }
+        ensures runs { RunsOn (state_of S.device self.old) (state_of S.device self.new) }
     {
         submit_request(&mut self.session, client, ask, bytes)
     }
@@ -126,12 +124,11 @@ impl<S: Shelf> Driver<S> {
         requires unstuck { self.old.1.power ≡ power.Stuck → ⊥ }
         ensures makes { TurnMakes (state_of S.device self.old) (state_of S.device self.new) result }
         ensures tells { TurnTells (state_of S.device self.old) (state_of S.device self.new) result }
-        ensures goes_on { (run : ℕ) → GoesOn run (state_of S.device self.old) (state_of S.device self.new) }
-        ensures causes { (first : List Fact) → HasCausesSince first (state_of S.device self.old) → HasCausesSince first (state_of S.device self.new) }
+        ensures runs { RunsOn (state_of S.device self.old) (state_of S.device self.new) }
         // Where the blocks come from that a read gets.
         ensures got { GetsItsBlocks (state_of S.device self.old) (state_of S.device self.new) }
     {
-        wanted_is_valid(&self.session);
+        statuses_are_valid(&self.session);
         turn(&mut self.session, &mut self.shelf)
     }
 
@@ -142,8 +139,7 @@ impl<S: Shelf> Driver<S> {
         ensures gives { TakeGives self.old.1 self.new.1 client id result }
         // Why it landed so, where it has.
         ensures caused { IsCausedFor (state_of S.device self.old) client id }
-        ensures goes_on { GoesOn self.old.1.history.run (state_of S.device self.old) (state_of S.device self.new) }
-        ensures causes { (first : List Fact) → HasCausesSince first (state_of S.device self.old) → HasCausesSince first (state_of S.device self.new) }
+        ensures runs { RunsOn (state_of S.device self.old) (state_of S.device self.new) }
     {
         take(&mut self.session, client, id)
     }
@@ -166,8 +162,7 @@ impl<S: Shelf> Driver<S> {
         ensures shelf { self.new.0 ≡ self.old.0 }
         ensures gives { OpenGives (counts_seen (S.device self.old.0) self.old.1) self.old.1 self.new.1 lv lp number result }
         ensures off { IsOffSince (state_of S.device self.old) }
-        ensures goes_on { (run : ℕ) → GoesOn run (state_of S.device self.old) (state_of S.device self.new) }
-        ensures causes { (first : List Fact) → HasCausesSince first (state_of S.device self.old) → HasCausesSince first (state_of S.device self.new) }
+        ensures leaves { LeavesSession (state_of S.device self.old) (state_of S.device self.new) }
     {
         open_copy(&mut self.session, &self.shelf, lv, lp, number)
     }
@@ -186,8 +181,7 @@ impl<S: Shelf> Driver<S> {
         requires ended { (cursor : ℕ) → copy_state self.old.1 ≡ stage.Running cursor → ⊥ }
         ensures shelf { self.new.0 ≡ self.old.0 }
         ensures closed { self.new.1 ≡ closed self.old.1 }
-        ensures goes_on { (run : ℕ) → GoesOn run (state_of S.device self.old) (state_of S.device self.new) }
-        ensures causes { (first : List Fact) → HasCausesSince first (state_of S.device self.old) → HasCausesSince first (state_of S.device self.new) }
+        ensures runs { RunsOn (state_of S.device self.old) (state_of S.device self.new) }
     {
         close_copy(&mut self.session)
     }
@@ -197,8 +191,7 @@ impl<S: Shelf> Driver<S> {
     pub fn arrange(&mut self, what: Arrange) -> bool
         requires { MayArrange (S.device self.old.0) what }
         ensures gives { Arranges (state_of S.device self.old) (state_of S.device self.new) what result }
-        ensures goes_on { (run : ℕ) → GoesOn run (state_of S.device self.old) (state_of S.device self.new) }
-        ensures causes { (first : List Fact) → HasCausesSince first (state_of S.device self.old) → HasCausesSince first (state_of S.device self.new) }
+        ensures leaves { LeavesSession (state_of S.device self.old) (state_of S.device self.new) }
     {
         arrange(&mut self.session, &mut self.shelf, what)
     }
@@ -264,6 +257,20 @@ impl<S: Shelf> Driver<S> {
         self.session.requests.len() as u32
     }
 
+    /// How many requests may be open.
+    pub fn most_open(&self) -> u32
+        ensures { result ≡ self.now.1.most }
+    {
+        self.session.most
+    }
+
+    /// Whether the request of this number has begun and not landed. Looks through the requests that are open.
+    pub fn is_open(&self, id: u64) -> bool
+        ensures { result ≡ is_open self.now.1.history.facts id }
+    {
+        waits(&self.session.requests, id)
+    }
+
     /// The votes of the members that aren't missing, and those of all. A disk is missing from the moment on at which
     /// a write of a record to it has failed.
     pub fn votes(&self) -> (u32, u32)
@@ -296,9 +303,21 @@ impl<S: Shelf> Driver<S> {
     }
 }
 
-// What is wanted is a status that a record can have.
-fn wanted_is_valid(session: &Session)
-    ensures { IsValidStatus session.now.updater.wanted }
+// Whether the request of this number is among these, and hasn't landed.
+fn waits(requests: &[Open], id: u64) -> bool
+    ensures { result ≡ waits requests.now id }
+{
+    requests
+        .iter()
+        .any(|open| open.landed.is_none() && open.request.id == id)
+}
+
+// What is wanted, and what is in flight, is a status that a record can have.
+fn statuses_are_valid(session: &Session)
+    ensures { AreValid session.now.updater }
 {
     let _ = session.updater.wanted().as_status();
+    if let Some(table) = session.updater.in_flight() {
+        let _ = table.as_status();
+    }
 }

@@ -1,2 +1,2 @@
 pub mod Even
-mod OffLemmas
+pub mod OffLemmas

@@ -1,7 +1,7 @@
 use Rattle.std.proofs.Common.{arith}
 use Rattle.lvm_session.specs.declared.answers.Turned.TheVariants as turned
 use Rattle.lvm_driver.specs.Answers.{state_of}
-use Rattle.lvm_driver.proofs.Draining.{begins, causes_on, drained, good_on, moved, path, waits}
+use Rattle.lvm_driver.proofs.Draining.{begins, drained, moved, path, runs_then, waits}
 use Rattle.lvm_driver.proofs.driver.Driver.drain.Goals as goal
 
 pub loop-patience-init : goal.loop-patience-init
@@ -11,7 +11,7 @@ pub loop-patience-preserved-in-Moved : goal.loop-patience-preserved-in-Moved
 loop-patience-preserved-in-Moved g c =
     let device = g.S.Shelf.device in
     moved (state_of device c.args.self.now) (state_of device c.loop-patience.self) (state_of device c.turn.new.self) c.args.patience.now.left c.loop-patience.patience.left c.loop-patience.invariant
-    c.in-Moved.ensures.makes c.in-Moved.ensures.tells c.in-Moved.ensures.goes_on c.in-Moved.ensures.causes
+    c.in-Moved.ensures.makes c.in-Moved.ensures.tells c.in-Moved.ensures.runs
 
 pub loop-patience-preserved : goal.loop-patience-preserved
 loop-patience-preserved g c =
@@ -20,7 +20,7 @@ loop-patience-preserved g c =
     let some = c.if-flights-eq0.false in
     let test = c.loop-patience-test.true in
     waits (state_of device c.args.self.now) (state_of device c.loop-patience.self) (state_of device c.turn.new.self) c.args.patience.now.left c.loop-patience.patience.left c.loop-patience.invariant
-    c.in-Idle.ensures.makes c.in-Idle.ensures.tells (λ none. grind (arith, out, some, none)) (omega (arith, test)) c.in-Idle.ensures.goes_on c.in-Idle.ensures.causes
+    c.in-Idle.ensures.makes c.in-Idle.ensures.tells (λ none. grind (arith, out, some, none)) (omega (arith, test)) c.in-Idle.ensures.runs
 
 pub returns-in-Dark-clause-turns : goal.returns-in-Dark-clause-turns
 returns-in-Dark-clause-turns g c =
@@ -34,35 +34,20 @@ returns-in-Off-clause-turns g c =
     path (state_of device c.args.self.now) (state_of device c.loop-patience.self) (state_of device c.turn.new.self) c.args.patience.now.left c.loop-patience.patience.left c.loop-patience.invariant
     turned.Off c.in-Off.ensures.makes
 
-pub returns-in-Dark-clause-goes_on : goal.returns-in-Dark-clause-goes_on
-returns-in-Dark-clause-goes_on g c =
+pub returns-in-Dark-clause-runs : goal.returns-in-Dark-clause-runs
+returns-in-Dark-clause-runs g c =
     let device = g.S.Shelf.device in
-    good_on (state_of device c.args.self.now) (state_of device c.loop-patience.self) (state_of device c.turn.new.self) c.args.patience.now.left c.loop-patience.patience.left c.loop-patience.invariant c.in-Dark.ensures.goes_on
+    runs_then (state_of device c.args.self.now) (state_of device c.loop-patience.self) (state_of device c.turn.new.self) c.args.patience.now.left c.loop-patience.patience.left c.loop-patience.invariant c.in-Dark.ensures.runs
 
-pub returns-in-Off-clause-goes_on : goal.returns-in-Off-clause-goes_on
-returns-in-Off-clause-goes_on g c =
+pub returns-in-Off-clause-runs : goal.returns-in-Off-clause-runs
+returns-in-Off-clause-runs g c =
     let device = g.S.Shelf.device in
-    good_on (state_of device c.args.self.now) (state_of device c.loop-patience.self) (state_of device c.turn.new.self) c.args.patience.now.left c.loop-patience.patience.left c.loop-patience.invariant c.in-Off.ensures.goes_on
+    runs_then (state_of device c.args.self.now) (state_of device c.loop-patience.self) (state_of device c.turn.new.self) c.args.patience.now.left c.loop-patience.patience.left c.loop-patience.invariant c.in-Off.ensures.runs
 
-pub returns-in-Dark-clause-causes : goal.returns-in-Dark-clause-causes
-returns-in-Dark-clause-causes g c =
+pub returns-then-flights-eq0-clause-runs : goal.returns-then-flights-eq0-clause-runs
+returns-then-flights-eq0-clause-runs g c =
     let device = g.S.Shelf.device in
-    causes_on (state_of device c.args.self.now) (state_of device c.loop-patience.self) (state_of device c.turn.new.self) c.args.patience.now.left c.loop-patience.patience.left c.loop-patience.invariant c.in-Dark.ensures.causes
-
-pub returns-in-Off-clause-causes : goal.returns-in-Off-clause-causes
-returns-in-Off-clause-causes g c =
-    let device = g.S.Shelf.device in
-    causes_on (state_of device c.args.self.now) (state_of device c.loop-patience.self) (state_of device c.turn.new.self) c.args.patience.now.left c.loop-patience.patience.left c.loop-patience.invariant c.in-Off.ensures.causes
-
-pub returns-then-flights-eq0-clause-goes_on : goal.returns-then-flights-eq0-clause-goes_on
-returns-then-flights-eq0-clause-goes_on g c =
-    let device = g.S.Shelf.device in
-    good_on (state_of device c.args.self.now) (state_of device c.loop-patience.self) (state_of device c.turn.new.self) c.args.patience.now.left c.loop-patience.patience.left c.loop-patience.invariant c.in-Idle.ensures.goes_on
-
-pub returns-then-flights-eq0-clause-causes : goal.returns-then-flights-eq0-clause-causes
-returns-then-flights-eq0-clause-causes g c =
-    let device = g.S.Shelf.device in
-    causes_on (state_of device c.args.self.now) (state_of device c.loop-patience.self) (state_of device c.turn.new.self) c.args.patience.now.left c.loop-patience.patience.left c.loop-patience.invariant c.in-Idle.ensures.causes
+    runs_then (state_of device c.args.self.now) (state_of device c.loop-patience.self) (state_of device c.turn.new.self) c.args.patience.now.left c.loop-patience.patience.left c.loop-patience.invariant c.in-Idle.ensures.runs
 
 pub returns-then-flights-eq0-clause-ends : goal.returns-then-flights-eq0-clause-ends
 returns-then-flights-eq0-clause-ends g c =

@@ -4,18 +4,17 @@ use Rattle.lvm_session.specs.Fields.{core_of}
 use Rattle.lvm_session.specs.State.{Core, state}
 use Rattle.lvm_driver.proofs.Causes.{is_off}
 use Rattle.lvm_driver.proofs.Driven.{open_on}
-use Rattle.lvm_driver.proofs.Good.{open_good}
-use Rattle.lvm_tie.proofs.Calls.{calls_keep_causes}
 use Rattle.lvm_driver.proofs.driver.Driver.open_copy.Goals as goal
 
 pub invariant_of-self : goal.invariant_of-self
-invariant_of-self g c = open_on (g.S.Shelf.device c.self.inside.shelf) c.self.inside.session c.open_copy.new.session c.args.lv c.args.lp c.args.number c.open_copy.result c.self.invariant (subst (λ (v : g.row.S.Denot × Core). v.1.power ≡ power.Stuck → ⊥) (sym c.self.view_is) c.requires.unstuck) c.open_copy.ensures.gives c.open_copy.ensures.rooms
+invariant_of-self g c =
+    (open_on (g.S.Shelf.device c.self.inside.shelf) c.self.inside.session c.open_copy.new.session c.self.invariant c.open_copy.ensures.rooms c.args.lv c.args.lp c.args.number c.open_copy.result
+    (subst (λ (v : g.row.S.Denot × Core). v.1.power ≡ power.Stuck → ⊥) (sym c.self.view_is) c.requires.unstuck) c.open_copy.ensures.gives).sound
 
 pub returns-clause-off : goal.returns-clause-off
 returns-clause-off g c = rw (← c.self.view_is) (is_off (state (g.S.Shelf.device c.self.inside.shelf) (core_of c.self.inside.session)) c.self.invariant.1)
 
-pub returns-clause-goes_on : goal.returns-clause-goes_on
-returns-clause-goes_on g c = rw (← c.self.view_is) (open_good (g.S.Shelf.device c.self.inside.shelf) c.self.inside.session c.open_copy.new.session c.args.lv c.args.lp c.args.number c.open_copy.result c.self.invariant (subst (λ (v : g.row.S.Denot × Core). v.1.power ≡ power.Stuck → ⊥) (sym c.self.view_is) c.requires.unstuck) c.open_copy.ensures.gives c.open_copy.ensures.rooms)
-
-pub returns-clause-causes : goal.returns-clause-causes
-returns-clause-causes g c = rw (← c.self.view_is) (λ first. calls_keep_causes.open_copy _ c.args.lv c.args.lp c.args.number c.open_copy.result first (state (g.S.Shelf.device c.self.inside.shelf) (core_of c.self.inside.session)) (core_of c.open_copy.new.session) c.open_copy.ensures.gives)
+pub returns-clause-leaves : goal.returns-clause-leaves
+returns-clause-leaves g c = rw (← c.self.view_is)
+    (open_on (g.S.Shelf.device c.self.inside.shelf) c.self.inside.session c.open_copy.new.session c.self.invariant c.open_copy.ensures.rooms c.args.lv c.args.lp c.args.number c.open_copy.result
+    (subst (λ (v : g.row.S.Denot × Core). v.1.power ≡ power.Stuck → ⊥) (sym c.self.view_is) c.requires.unstuck) c.open_copy.ensures.gives).left

@@ -4,11 +4,12 @@ use Rattle.lvm_session.specs.Fields.{core_of}
 use Rattle.lvm_session.specs.State.{Core, state}
 use Rattle.lvm_driver.proofs.Causes.{is_off}
 use Rattle.lvm_driver.proofs.Driven.{submit_on}
-use Rattle.lvm_driver.proofs.Good.{submit_causes, submit_good}
 use Rattle.lvm_driver.proofs.driver.Driver.submit.Goals as goal
 
 pub invariant_of-self : goal.invariant_of-self
-invariant_of-self g c = submit_on (g.S.Shelf.device c.self.inside.shelf) c.self.inside.session c.submit_request.new.session _ _ _ _ c.self.invariant (subst (λ (v : g.row.S.Denot × Core). v.1.power ≡ power.Stuck → ⊥) (sym c.self.view_is) c.requires.unstuck) c.requires.asks c.submit_request.ensures.gives c.submit_request.ensures.rooms
+invariant_of-self g c =
+    (submit_on (g.S.Shelf.device c.self.inside.shelf) c.self.inside.session c.submit_request.new.session c.self.invariant c.submit_request.ensures.rooms _ _ _ _
+    (subst (λ (v : g.row.S.Denot × Core). v.1.power ≡ power.Stuck → ⊥) (sym c.self.view_is) c.requires.unstuck) c.requires.asks c.submit_request.ensures.gives).sound
 
 pub returns-clause-off : goal.returns-clause-off
 returns-clause-off g c = rw (← c.self.view_is) (is_off (state (g.S.Shelf.device c.self.inside.shelf) (core_of c.self.inside.session)) c.self.invariant.1)
@@ -16,8 +17,7 @@ returns-clause-off g c = rw (← c.self.view_is) (is_off (state (g.S.Shelf.devic
 pub returns-clause-gives : goal.returns-clause-gives
 returns-clause-gives g c = rw (← c.self.view_is) c.submit_request.ensures.gives
 
-pub returns-clause-goes_on : goal.returns-clause-goes_on
-returns-clause-goes_on g c = rw (← c.self.view_is) (submit_good (g.S.Shelf.device c.self.inside.shelf) c.self.inside.session c.submit_request.new.session _ _ _ _ c.self.invariant (subst (λ (v : g.row.S.Denot × Core). v.1.power ≡ power.Stuck → ⊥) (sym c.self.view_is) c.requires.unstuck) c.requires.asks c.submit_request.ensures.gives c.submit_request.ensures.rooms)
-
-pub returns-clause-causes : goal.returns-clause-causes
-returns-clause-causes g c = rw (← c.self.view_is) (submit_causes (g.S.Shelf.device c.self.inside.shelf) c.self.inside.session c.submit_request.new.session _ _ _ _ c.requires.asks c.submit_request.ensures.gives)
+pub returns-clause-runs : goal.returns-clause-runs
+returns-clause-runs g c = rw (← c.self.view_is)
+    (submit_on (g.S.Shelf.device c.self.inside.shelf) c.self.inside.session c.submit_request.new.session c.self.invariant c.submit_request.ensures.rooms _ _ _ _
+    (subst (λ (v : g.row.S.Denot × Core). v.1.power ≡ power.Stuck → ⊥) (sym c.self.view_is) c.requires.unstuck) c.requires.asks c.submit_request.ensures.gives).left

@@ -1,14 +1,14 @@
 use Rattle.lvm_session.specs.Fields.{core_of}
 use Rattle.lvm_session.specs.State.{state}
-use Rattle.lvm_driver.proofs.Driven.{turn_on}
 use Rattle.lvm_turn_answers.proofs.Reading.{turn_gets}
 use Rattle.lvm_turn_answers.proofs.Telling.{turn_tells}
-use Rattle.lvm_driver.proofs.Good.{turn_good}
-use Rattle.lvm_tie.proofs.LandingsCauses.{turn_keeps_causes}
+use Rattle.lvm_driver.proofs.Driven.{turn_on}
 use Rattle.lvm_driver.proofs.driver.Driver.turn.Goals as goal
 
 pub invariant_of-self : goal.invariant_of-self
-invariant_of-self g c = turn_on (g.S.Shelf.device c.self.inside.shelf) (g.S.Shelf.device c.turn.new.shelf) c.self.inside.session c.turn.new.session c.turn.result c.self.invariant c.turn.ensures.makes c.turn.ensures.rooms
+invariant_of-self g c =
+    (turn_on (g.S.Shelf.device c.self.inside.shelf) (g.S.Shelf.device c.turn.new.shelf) c.self.inside.session c.turn.new.session c.self.invariant c.turn.ensures.rooms c.turn.result
+    (g.met.S.Shelf.sectors_are_whole c.turn.new.shelf) c.statuses_are_valid.ensures c.turn.ensures.makes).sound
 
 pub returns-clause-tells : goal.returns-clause-tells
 returns-clause-tells g c = rw (← c.self.view_is) (turn_tells (state (g.S.Shelf.device c.self.inside.shelf) (core_of c.self.inside.session)) (state (g.S.Shelf.device c.turn.new.shelf) (core_of c.turn.new.session)) c.self.invariant.1 c.turn.result c.turn.ensures.makes)
@@ -16,11 +16,10 @@ returns-clause-tells g c = rw (← c.self.view_is) (turn_tells (state (g.S.Shelf
 pub returns-clause-makes : goal.returns-clause-makes
 returns-clause-makes g c = rw (← c.self.view_is) c.turn.ensures.makes
 
-pub returns-clause-goes_on : goal.returns-clause-goes_on
-returns-clause-goes_on g c = rw (← c.self.view_is) (turn_good (g.S.Shelf.device c.self.inside.shelf) (g.S.Shelf.device c.turn.new.shelf) c.self.inside.session c.turn.new.session c.turn.result c.self.invariant (g.met.S.Shelf.sectors_are_whole c.turn.new.shelf) c.wanted_is_valid.ensures c.turn.ensures.makes c.turn.ensures.rooms)
-
-pub returns-clause-causes : goal.returns-clause-causes
-returns-clause-causes g c = rw (← c.self.view_is) (λ first. turn_keeps_causes first (state (g.S.Shelf.device c.self.inside.shelf) (core_of c.self.inside.session)) (state (g.S.Shelf.device c.turn.new.shelf) (core_of c.turn.new.session)) c.turn.result c.self.invariant.1 c.turn.ensures.makes)
+pub returns-clause-runs : goal.returns-clause-runs
+returns-clause-runs g c = rw (← c.self.view_is)
+    (turn_on (g.S.Shelf.device c.self.inside.shelf) (g.S.Shelf.device c.turn.new.shelf) c.self.inside.session c.turn.new.session c.self.invariant c.turn.ensures.rooms c.turn.result
+    (g.met.S.Shelf.sectors_are_whole c.turn.new.shelf) c.statuses_are_valid.ensures c.turn.ensures.makes).left
 
 pub returns-clause-got : goal.returns-clause-got
 returns-clause-got g c = rw (← c.self.view_is) (turn_gets (state (g.S.Shelf.device c.self.inside.shelf) (core_of c.self.inside.session)) (state (g.S.Shelf.device c.turn.new.shelf) (core_of c.turn.new.session)) c.self.invariant.1 c.turn.result c.turn.ensures.makes)

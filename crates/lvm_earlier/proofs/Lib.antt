@@ -1,0 +1,4 @@
+pub mod Sound
+pub mod Tying
+pub mod Running
+pub mod Resting

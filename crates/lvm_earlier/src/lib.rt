@@ -1,0 +1,7 @@
+//! Answers of a session that is gone, taken while another one is on.
+#![tactic(auto)]
+
+mod earlier;
+pub mod laws;
+
+pub use earlier::{take_earlier, take_earlier_at_rest};

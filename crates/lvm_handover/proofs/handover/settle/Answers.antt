@@ -1,0 +1,21 @@
+use Rattle.std.proofs.Common.{sym, subst}
+use Rattle.lvm_session.specs.Fields.{core_of}
+use Rattle.lvm_session.specs.State.{Core, state}
+use Rattle.lvm_core.specs.Sound.{IsSound as IsSoundBetween}
+use Rattle.lvm_handover.proofs.Resting.{is_between, is_settled}
+use Rattle.lvm_handover.proofs.handover.settle.Goals as goal
+
+pub returns-clause-settled : goal.returns-clause-settled
+returns-clause-settled g c = is_settled (state (g.S.Shelf.device c.args.driver.0) c.args.driver.1) c.into_parts-shelf.ensures.sound c.requires.may.drained c.requires.may.none c.requires.may
+
+pub returns-clause-between : goal.returns-clause-between
+returns-clause-between g c = is_between (state (g.S.Shelf.device c.args.driver.0) c.args.driver.1) c.into_parts-shelf.ensures.sound c.requires.may
+
+pub from_parts-requires-clause-sound : goal.from_parts-requires-clause-sound
+from_parts-requires-clause-sound g c =
+    subst (λ shelf. IsSoundBetween (state (g.S.Shelf.device shelf) (core_of c.into_parts-shelf.result.1))) (sym c.into_parts-shelf.ensures.shelf)
+    (subst (λ (core : Core). IsSoundBetween (state (g.S.Shelf.device c.args.driver.0) core)) (sym c.into_parts-shelf.ensures.core)
+    (is_between (state (g.S.Shelf.device c.args.driver.0) c.args.driver.1) c.into_parts-shelf.ensures.sound c.requires.may))
+
+pub returns-clause-sound : goal.returns-clause-sound
+returns-clause-sound g c = c.into_parts-shelf.ensures.sound

@@ -1,0 +1,5 @@
+use Rattle.lvm_handover.proofs.Serving.{commands_serve}
+use Rattle.lvm_handover.proofs.laws.commands_serve.Goals as goal
+
+pub returns : goal.returns
+returns c = commands_serve

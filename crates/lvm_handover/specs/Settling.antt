@@ -1,0 +1,17 @@
+-- A session of requests at which nothing is under way: commands on its group may follow.
+use Rattle.std.specs.Prelude.{◌≢◌}
+use Rattle.lvm_session.specs.State.{State}
+use Rattle.lvm_session.specs.Sound.{IsSound}
+use Rattle.lvm_core.specs.Sound.{HasNoneOpen}
+use Rattle.lvm_tie_begins.specs.Begins.{IsResting}
+use Rattle.lvm_driver.specs.Drains.{IsDrained}
+
+-- Nothing is left to be made of it, neither a request nor a copy is open, and the epoch of its stamps is some moment.
+pub record MaySettle (s : State) : Type 0 where
+  pub drained : IsDrained s
+  pub none : HasNoneOpen s.core
+  pub epoch : s.core.status.stamp.epoch ≢ 0
+
+-- Then nothing is under way, and what is wanted is committed.
+abbrev pub DrainedRests : Type 0
+DrainedRests = (s : State) → IsSound s → IsDrained s → HasNoneOpen s.core → IsResting s.core

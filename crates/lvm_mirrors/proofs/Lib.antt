@@ -1,0 +1,7 @@
+pub mod Serving
+pub mod Fresh
+pub mod Left
+pub mod Adding
+pub mod Taking
+pub mod Answering
+pub mod Even

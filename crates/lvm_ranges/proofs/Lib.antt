@@ -1,0 +1,10 @@
+pub mod Growing
+pub mod Done
+pub mod Tables
+pub mod Turning
+pub mod Answering
+pub mod Asking
+pub mod Beginning
+pub mod Blocks
+pub mod Stepping
+pub mod Finishing

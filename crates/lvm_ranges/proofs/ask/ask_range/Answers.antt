@@ -1,0 +1,17 @@
+use Rattle.std.proofs.Common.{refl, sym}
+use Rattle.lvm_running.proofs.Running.{runs_none}
+use Rattle.lvm_driver.specs.Answers.{state_of}
+use Rattle.lvm_ranges.proofs.Asking.{gives_asked, gives_fault}
+use Rattle.lvm_ranges.proofs.ask.ask_range.Goals as goal
+
+pub returns-in-None-clause-gives : goal.returns-in-None-clause-gives
+returns-in-None-clause-gives g c = gives_asked c.args.write c.args.lv c.args.at c.args.count c.args.driver.now.1 c.ask_whole.new.driver.1 c.ask_whole.result (sym c.in-None.ensures) c.ask_whole.ensures.asks
+
+pub returns-in-Some-clause-gives : goal.returns-in-Some-clause-gives
+returns-in-Some-clause-gives g c = gives_fault c.args.write c.args.lv c.args.at c.args.count c.args.driver.now.1 c.in-Some.why (sym c.in-Some.ensures)
+
+pub returns-in-Some-clause-runs : goal.returns-in-Some-clause-runs
+returns-in-Some-clause-runs g c = runs_none (state_of g.S.Shelf.device c.args.driver.now)
+
+pub returns-in-Some-clause-others : goal.returns-in-Some-clause-others
+returns-in-Some-clause-others g c = record { held = λ other held. held; asked = λ client id told. refl; answered = λ client id is. is }

@@ -1,0 +1,70 @@
+use Rattle.std.proofs.Common.{arith}
+use Rattle.lvm_session.specs.declared.answers.Turned.TheVariants as turned
+use Rattle.lvm_driver.specs.Answers.{state_of}
+use Rattle.lvm_ranges.proofs.Turning.{begins, goes, idles, landed_at_end, less_by_move, less_by_wait}
+use Rattle.lvm_ranges.proofs.landing.await_range.Goals as goal
+
+pub loop-driver-init : goal.loop-driver-init
+loop-driver-init g c = begins c.args.asked.now (state_of g.S.Shelf.device c.args.driver.now) c.args.patience.now.left c.requires.unstuck
+
+pub loop-driver-preserved-in-Moved : goal.loop-driver-preserved-in-Moved
+loop-driver-preserved-in-Moved g c =
+    let device = g.S.Shelf.device in
+    goes c.args.asked.now (state_of device c.args.driver.now) (state_of device c.loop-driver.driver) (state_of device c.turn.new.self) c.args.patience.now.left c.loop-driver.patience.left c.loop-driver.invariant (c.is_unfinished.ensures.open c.loop-driver-test.true)
+    c.is_sound.ensures turned.Moved c.in-Moved.ensures.makes c.in-Moved.ensures.tells c.in-Moved.ensures.runs
+
+pub loop-driver-preserved : goal.loop-driver-preserved
+loop-driver-preserved g c =
+    let device = g.S.Shelf.device in
+    let some = c.if-patience-eq0.false in
+    idles c.args.asked.now (state_of device c.args.driver.now) (state_of device c.loop-driver.driver) (state_of device c.turn.new.self) c.args.patience.now.left c.loop-driver.patience.left c.loop-driver.invariant (c.is_unfinished.ensures.open c.loop-driver-test.true)
+    c.is_sound.ensures c.in-Idle.ensures.makes c.in-Idle.ensures.tells (omega (arith, some)) c.in-Idle.ensures.runs
+
+pub loop-driver-smaller-in-Moved : goal.loop-driver-smaller-in-Moved
+loop-driver-smaller-in-Moved g c = less_by_move (state_of g.S.Shelf.device c.loop-driver.driver) (state_of g.S.Shelf.device c.turn.new.self) c.loop-driver.patience.left c.in-Moved.ensures.tells
+
+pub loop-driver-smaller : goal.loop-driver-smaller
+loop-driver-smaller g c = let some = c.if-patience-eq0.false in less_by_wait (state_of g.S.Shelf.device c.loop-driver.driver) (state_of g.S.Shelf.device c.turn.new.self) c.loop-driver.patience.left c.in-Idle.ensures.tells (omega (arith, some))
+
+pub returns-then-patience-eq0 : goal.returns-then-patience-eq0
+returns-then-patience-eq0 g c =
+    let so_far = c.loop-driver.invariant in
+    record {
+      turns = so_far.turns;
+      ends = (c.is_unfinished.ensures.open c.loop-driver-test.true, c.if-patience-eq0.true);
+      table = so_far.on.table;
+      runs = so_far.on.runs;
+      patience = so_far.fewer;
+      waited = so_far.waited;
+    }
+
+pub returns-in-Dark : goal.returns-in-Dark
+returns-in-Dark g c =
+    let device = g.S.Shelf.device in
+    let old = state_of device c.loop-driver.driver in
+    let new = state_of device c.turn.new.self in
+    let made = c.turn.ensures in
+    let first = state_of device c.args.driver.now in
+    let so_far = c.loop-driver.invariant in
+    let unfinished = c.is_unfinished.ensures.open c.loop-driver-test.true in
+    let ended = goes c.args.asked.now first old new c.args.patience.now.left c.loop-driver.patience.left so_far unfinished c.is_sound.ensures c.turn.result made.makes made.tells made.runs in
+    record {
+      turns = ended.turns;
+      ends = landed_at_end c.args.asked.now first old new c.args.patience.now.left c.loop-driver.patience.left so_far unfinished c.is_sound.ensures c.turn.result made.makes made.tells c.in-Dark.is;
+      table = ended.on.table;
+      runs = ended.on.runs;
+      patience = ended.fewer;
+      waited = ended.waited;
+    }
+
+pub returns : goal.returns
+returns g c =
+    let so_far = c.loop-driver.invariant in
+    record {
+      turns = so_far.turns;
+      ends = c.is_unfinished.ensures.landed c.loop-driver-test.false;
+      table = so_far.on.table;
+      runs = so_far.on.runs;
+      patience = so_far.fewer;
+      waited = so_far.waited;
+    }

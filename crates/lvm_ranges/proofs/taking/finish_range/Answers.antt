@@ -1,0 +1,39 @@
+use Rattle.std.proofs.Common.{◌-◌, refl, sym, subst}
+use Rattle.lvm_disk.specs.Counts.{RoseBy}
+use Rattle.lvm_disk.specs.Device.{Device}
+use Rattle.lvm_driver.specs.Answers.{state_of}
+use Rattle.lvm_running.proofs.Running.{runs_both}
+use Rattle.lvm_ranges.specs.Finishing.{Finished, WasStuck}
+use Rattle.lvm_ranges.proofs.Finishing.{others_stay, others_then, still_held}
+use Rattle.lvm_ranges.proofs.taking.finish_range.Goals as goal
+
+pub take_range-requires-clause-held : goal.take_range-requires-clause-held
+take_range-requires-clause-held g c = still_held c.args.driver.now.1 c.await_range.new.driver.1 c.in-Ok.ensures.table c.args.asked.now c.requires.held
+
+pub take_range-requires-clause-landed : goal.take_range-requires-clause-landed
+take_range-requires-clause-landed g c = c.in-Ok.ensures.ends
+
+pub returns-in-Ok : goal.returns-in-Ok
+returns-in-Ok g c =
+    let device = g.S.Shelf.device in
+    let old = state_of device c.args.driver.now in
+    let mid = state_of device c.await_range.new.driver in
+    let new = state_of device c.take_range.new.driver in
+    let waited = c.in-Ok.ensures in
+    let took = c.take_range.ensures in
+    record {
+      gives = Finished mid waited.turns waited.table took.gives;
+      others = others_then c.args.asked.now old.core mid.core new.core waited.table took.others;
+      runs = runs_both old mid new waited.runs took.runs;
+      patience = waited.patience;
+      waited = subst (λ (d : Device). RoseBy (c.args.patience.now.left - c.await_range.new.patience.left) old.device.counts.waits d.counts.waits) (sym took.gives.shelf) waited.waited;
+    }
+
+pub returns-in-Err : goal.returns-in-Err
+returns-in-Err g c = record {
+  gives = WasStuck c.in-Err.ensures.turns c.in-Err.ensures.table c.in-Err.ensures.ends.0 c.in-Err.ensures.ends.1 refl;
+  others = others_stay c.args.asked.now c.args.driver.now.1 c.await_range.new.driver.1 c.in-Err.ensures.table;
+  runs = c.in-Err.ensures.runs;
+  patience = c.in-Err.ensures.patience;
+  waited = c.in-Err.ensures.waited;
+}

@@ -1,0 +1,30 @@
+-- A range is waited for, and its answers are taken.
+use Rattle.std.specs.Prelude.{◌≡◌, ◌<◌, ◌+◌, ℕ, Result, Err, length}
+use Rattle.lvm_disk.specs.Paths.{Path}
+use Rattle.lvm_num.specs.Votes.{total_votes}
+use Rattle.lvm_session.specs.State.{State, votes_there}
+use Rattle.lvm_driver.specs.Answers.{IsCausedFor}
+use Rattle.lvm_driver.specs.Drains.{IsAny}
+use Rattle.lvm_posts.specs.declared.asked.Asked.{Asked}
+use Rattle.lvm_posts.specs.declared.fault.RangeFault.{RangeFault}
+use Rattle.lvm_posts.specs.declared.fault.RangeFault.TheVariants as fault
+use Rattle.lvm_ranges.specs.Keeping.{KeepsTable}
+use Rattle.lvm_ranges.specs.Landing.{HaveLanded, IsUnfinished, TurnsFor}
+use Rattle.lvm_posts.specs.Deciding.{RangeEnds}
+use Rattle.lvm_ranges.specs.Taking.{Takes}
+
+-- The answers of a range that has landed are taken, and the first that isn't well decides its own; each has its cause.
+pub record TakesRange (asked : Asked) (old new : State) (answer : Result (Unit {0}) RangeFault) : Type 0 where
+  pub landed : HaveLanded asked old
+  pub shelf : new.device ≡ old.device
+  pub takes : Takes asked.first old.core asked.pieces new.core
+  pub fewer : length new.core.requests + asked.pieces ≡ length old.core.requests
+  pub power_is : new.core.power ≡ old.core.power
+  pub ends : RangeEnds new.core.history.facts asked (votes_there old.core) (total_votes old.core.descriptor) answer
+  -- why each piece landed as it did
+  pub caused : (k : ℕ) → k < asked.pieces → IsCausedFor old 1 (asked.first + k)
+
+-- Turns are made until the first moment at which each piece has landed, and its answers are taken; or the patience has run out before.
+pub data FinishGives (asked : Asked) (left : ℕ) (old new : State) (answer : Result (Unit {0}) RangeFault) : Type 0 where
+  Finished : (mid : State) → Path (TurnsFor asked) IsAny old mid → KeepsTable old.core mid.core → TakesRange asked mid new answer → FinishGives asked left old new answer
+  WasStuck : Path (TurnsFor asked) IsAny old new → KeepsTable old.core new.core → IsUnfinished asked new → left ≡ 0 → answer ≡ Err fault.Stuck → FinishGives asked left old new answer

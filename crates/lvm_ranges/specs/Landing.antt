@@ -1,0 +1,26 @@
+-- Turns until all pieces of a range have landed.
+use Rattle.std.specs.Prelude.{◌≡◌, ◌<◌, ◌+◌, ℕ, true, false, Result, Ok, Err}
+use Rattle.lvm_vol.specs.Log.{is_open}
+use Rattle.lvm_session.specs.State.{State}
+use Rattle.lvm_driver.specs.Drains.{IsTurn}
+use Rattle.lvm_posts.specs.declared.asked.Asked.{Asked}
+use Rattle.lvm_ranges.specs.declared.landing.Stuck.{Stuck}
+
+-- each of its pieces has landed
+abbrev pub HaveLanded : Asked → State → Type 0
+HaveLanded asked s = (k : ℕ) → k < asked.pieces → is_open s.core.history.facts (asked.first + k) ≡ false
+
+-- some piece hasn't
+pub record IsUnfinished (asked : Asked) (s : State) : Type 0 where
+  pub piece : ℕ
+  pub within : piece < asked.pieces
+  pub waits : is_open s.core.history.facts (asked.first + piece) ≡ true
+
+-- A turn that is made while some piece hasn't landed: a path of these makes no turn more once all have.
+abbrev pub TurnsFor : Asked → State → State → Type 0
+TurnsFor asked old new = IsUnfinished asked old × IsTurn old new
+
+-- All pieces have landed; or some hasn't, and the patience has run out.
+abbrev pub AwaitEnds : Asked → ℕ → State → Result (Unit {0}) Stuck → Type 0
+AwaitEnds asked left new (Ok done) = HaveLanded asked new
+AwaitEnds asked left new (Err stuck) = IsUnfinished asked new × (left ≡ 0)

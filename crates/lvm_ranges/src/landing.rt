@@ -1,0 +1,69 @@
+//! Turns until a range has landed.
+ghost use Rattle.std.specs.Prelude.{◌≡◌, ◌≤◌, ◌<◌, ◌+◌, ◌-◌, ◌^◌, ℕ, List, true, false, MatchOption};
+ghost use Rattle.lvm_disk.specs.Counts.{RoseBy};
+ghost use Rattle.lvm_disk.specs.Paths.{Path};
+ghost use Rattle.lvm_session.specs.declared.open.Power.TheVariants as power;
+ghost use Rattle.lvm_running.specs.Running.{RunsOn};
+ghost use Rattle.lvm_driver.specs.Answers.{state_of};
+ghost use Rattle.lvm_driver.specs.Drains.{IsAny};
+ghost use Rattle.lvm_posts.specs.Pieces.{IsLaidOut};
+ghost use Rattle.lvm_ranges.specs.Keeping.{KeepsTable};
+ghost use Rattle.lvm_ranges.specs.Landing.{AwaitEnds, HaveLanded, IsUnfinished, TurnsFor};
+
+use crate::sound::is_sound;
+use lvm_disk::Shelf;
+use lvm_driver::Driver;
+use lvm_posts::Asked;
+use lvm_session::Turned;
+use lvm_transfer::Patience;
+
+/// Nothing was heard of the transfers that are out until the patience had run out.
+#[derive(Clone, Copy, Debug, PartialEq, Eq)]
+pub struct Stuck;
+
+// Whether some piece of the range hasn't landed.
+fn is_unfinished<S: Shelf>(driver: &Driver<S>, asked: &Asked) -> bool
+    requires laid { IsLaidOut asked.now }
+    ensures open { result ≡ true → IsUnfinished asked.now (state_of S.device driver.now) }
+    ensures landed { result ≡ false → HaveLanded asked.now (state_of S.device driver.now) }
+{
+    for piece in 0..asked.pieces {
+        if driver.is_open(asked.first + u64::from(piece)) {
+            return true;
+        }
+    }
+    false
+}
+
+/// Makes turns until each piece of the range has landed, and no turn more. Where the session is over, each has.
+///
+/// # Errors
+///
+/// Where the patience has run out before.
+pub fn await_range<S: Shelf>(
+    driver: &mut Driver<S>,
+    asked: &Asked,
+    patience: &mut Patience,
+) -> Result<(), Stuck>
+    requires unstuck { driver.old.1.power ≡ power.Stuck → ⊥ }
+    requires laid { IsLaidOut asked.now }
+    ensures turns { Path (TurnsFor asked.now) IsAny (state_of S.device driver.old) (state_of S.device driver.new) }
+    ensures ends { AwaitEnds asked.now patience.new.left (state_of S.device driver.new) result }
+    ensures table { KeepsTable driver.old.1 driver.new.1 }
+    ensures runs { RunsOn (state_of S.device driver.old) (state_of S.device driver.new) }
+    ensures patience { patience.new.left ≤ patience.old.left }
+    ensures waited { RoseBy (patience.old.left - patience.new.left) (S.device driver.old.0).counts.waits (S.device driver.new.0).counts.waits }
+{
+    while is_unfinished(driver, asked) {
+        if patience.left == 0 {
+            return Err(Stuck);
+        }
+        is_sound(driver);
+        match driver.turn() {
+            Turned::Moved => {}
+            Turned::Idle => patience.left -= 1,
+            Turned::Dark | Turned::Off => return Ok(()),
+        }
+    }
+    Ok(())
+}

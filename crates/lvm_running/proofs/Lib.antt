@@ -1,0 +1,5 @@
+pub mod Shapes
+pub mod Shelves
+pub mod Running
+pub mod Turning
+pub mod Calls

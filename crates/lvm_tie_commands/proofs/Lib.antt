@@ -1,0 +1,9 @@
+pub mod Landed
+pub mod Resting
+pub mod Alone
+pub mod Standing
+pub mod Leaving
+pub mod Commands
+pub mod Making
+pub mod Removing
+pub mod Beginning

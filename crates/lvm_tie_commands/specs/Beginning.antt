@@ -1,0 +1,40 @@
+-- What stands on the disks of a session that varyon or mkvg has begun, by the contracts of these calls.
+use Rattle.std.specs.Prelude.{◌≡◌, ◌≢◌, ℕ, List, []}
+use Rattle.lvm_disk.specs.Device.{Device, HasSectors}
+use Rattle.lvm_vol.specs.Facts.{Fact}
+use Rattle.lvm_vol.specs.Log.{Log}
+use Rattle.lvm_kept.specs.Moments.{Moment}
+use Rattle.lvm_steps.specs.Moments.{Keeps}
+use Rattle.lvm_commit.specs.LawsOfVolumes.{IsOneByAllOn}
+use Rattle.lvm_session.specs.State.{State as Session}
+use Rattle.lvm_session.specs.Sound.{IsSound}
+use Rattle.lvm_core.specs.declared.parts.Room.{Room}
+use Rattle.lvm_core.specs.Committing.{moment_of}
+use Rattle.lvm_core.specs.Held.{StartsHeld}
+use Rattle.lvm_core.specs.Settled.{IsSettled}
+use Rattle.lvm_varyon.specs.Varied.{ComesOn}
+use Rattle.lvm_group.specs.Made.{IsMade}
+use Rattle.lvm_group.specs.NewGroup.{NewGroup}
+use Rattle.lvm_tie.specs.Stamps.{IsStamped}
+use Rattle.lvm_tie_groups.specs.Coming.{AreOff}
+use Rattle.lvm_tie_commands.specs.Standing.{StandsAfter, StandsSince}
+
+-- The session of this run has begun, settled and sound, a span leads to it, and its disks hold what it says.
+pub record HasBegun (run : ℕ) (first : Moment) (s : Session) : Type 0 where
+  pub sound : IsSound s
+  pub settled : IsSettled s.core
+  pub stamped : IsStamped s.core.status
+  pub run_is : s.core.history.run ≡ run
+  pub keeps : Keeps run first (moment_of s)
+  pub held : StartsHeld s.device s.core
+
+-- Where a varyon has begun it: with a volume, where on each crash image at most one group has a quorum among all disks, and no copies have to be made even.
+abbrev pub VariedOnStands : Type 0
+VariedOnStands = (run : ℕ) (first : Moment) (was : Log) (name : List ℕ) (moment : ℕ) (room : Room) (old : Device) (s : Session)
+    → ComesOn old s.device was name moment room s.core → HasBegun run first s → HasSectors s.device
+    → (s.core.descriptor.lvs ≢ [] → IsOneByAllOn s.device × AreOff s.core.descriptor) → StandsSince run first s
+
+-- Where a mkvg has: the group has no volume.
+abbrev pub MadeStands : Type 0
+MadeStands = (past : List Fact) (was : Log) (w : NewGroup) (room : Room) (old : Device) (s : Session)
+    → IsMade w room was old s.device s.core → StartsHeld s.device s.core → StandsAfter past s.device s.core

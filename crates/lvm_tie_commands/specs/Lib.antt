@@ -1,0 +1,3 @@
+pub mod Standing
+pub mod Commands
+pub mod Beginning

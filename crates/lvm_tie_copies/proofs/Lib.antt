@@ -1,0 +1,5 @@
+pub mod Rows
+pub mod Adding
+pub mod Taking
+pub mod ServingMore
+pub mod ServingFewer
