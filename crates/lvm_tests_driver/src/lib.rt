@@ -8,6 +8,8 @@ mod faults;
 #[cfg(test)]
 mod fixtures;
 #[cfg(test)]
+mod ranges;
+#[cfg(test)]
 mod requests;
 #[cfg(test)]
 mod waits;
