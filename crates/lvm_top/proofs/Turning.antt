@@ -1,6 +1,7 @@
 -- Turns behind the last line.
 use Rattle.std.proofs.Common.{◌≡◌, ◌≢◌, ◌⊎◌, ⊎_elim, ◌↔◌, ◌+◌, ◌==◌, ℕ, Bool, true, false, List, [], ◌∷◌, length, Some, None, refl, sym, ap, subst, ◌∙◌, arith}
 use Rattle.std.specs.Prelude.{IsTrue}
+use Rattle.std.proofs.lemmas.Bool.{eqb-true}
 use Rattle.lvm_num.specs.Buffer.{Buffer}
 use Rattle.lvm_disk.specs.Device.{Device, Flight}
 use Rattle.lvm_vol.specs.Facts.{Fact}
@@ -57,7 +58,7 @@ none_out [] none = refl
 none_out (f ∷ fs) none = absurd (omega (arith, none))
 
 none_count : (n : ℕ) → (n == 0) ≡ true → n ≡ 0
-none_count n is = grind (arith, is)
+none_count n is = eqb-true n 0 is
 
 by_length : (fs : List Flight) (b : Bool) → b ≡ (length fs == 0) → (b ≡ true → fs ≡ []) × (fs ≡ [] → b ≡ true)
 by_length fs b is = (λ yes. none_out fs (none_count (length fs) (sym is ∙ yes)), λ none. is ∙ subst (λ (l : List Flight). (length l == 0) ≡ true) (sym none) refl)
