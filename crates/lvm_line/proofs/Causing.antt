@@ -1,5 +1,5 @@
 -- Why lines are refused.
-use Rattle.std.proofs.Common.{◌≡◌, ◌≤◌, ℕ, List, Bool, Option, Some, None, Result, Ok, Err, inl, inr, ⊎_elim, refl, sym, ◌∙◌, ap, subst, arith}
+use Rattle.std.proofs.Common.{◌≡◌, ◌≤◌, ℕ, List, Bool, Option, Some, None, Result, Ok, Err, inr, ⊎_elim, refl, sym, ◌∙◌, ap, subst, arith}
 use Rattle.std.specs.Prelude.{IfErr}
 use Rattle.lvm_disk.specs.Counts.{Rose, RoseBy, Counts}
 use Rattle.lvm_io.specs.Count.{Rose as Later}
@@ -22,7 +22,7 @@ use Rattle.lvm_core.specs.declared.parts.Room.{Room}
 use Rattle.lvm_core.specs.declared.refused.Cause.{Cause}
 use Rattle.lvm_core.specs.declared.refused.Cause.TheVariants as cause
 use Rattle.lvm_core.specs.declared.refused.Refused.{Refused}
-use Rattle.lvm_session.specs.State.{Core, State as Session, state}
+use Rattle.lvm_session.specs.State.{Core}
 use Rattle.lvm_group.specs.NewGroup.{NewGroup, RefusesFirst}
 use Rattle.lvm_group.specs.Made.{Refuses as MkvgRefuses}
 use Rattle.lvm_varyon.specs.Varied.{Refuses as VaryonRefuses}
@@ -30,7 +30,7 @@ use Rattle.lvm_quiesce.specs.Ends.{Quiesces}
 use Rattle.lvm_quiesce.specs.Groups.{CauseRose, IsFullFor, MkvgOnceQuiet, RefusedAtOnce, StayedOut, StaysOut, VaryonOnceQuiet, WentQuiet}
 use Rattle.lvm_quiesce.proofs.Behind.{quiet_is_ahead}
 use Rattle.lvm_quiesce.proofs.Ending.{ends_only}
-use Rattle.lvm_line.specs.Causes.{CauseOf, HasCause, HasFailed, IsBroughtBack, RoseOn, VaryonLaw, disk_of}
+use Rattle.lvm_line.specs.Causes.{HasCause, HasFailed, IsBroughtBack, RoseOn, VaryonLaw, disk_of}
 use Rattle.lvm_stage.specs.Ends.{patience_of_line}
 use Rattle.lvm_disk_lines.specs.Disks.{refusal_by, NoWriteWhileOn, WriteGoes, NoReadWhileOn, ReadGoes}
 use Rattle.lvm_stage.specs.Lighting.{IsRelit, refusal_of}
@@ -43,7 +43,6 @@ use Rattle.lvm_stage.specs.State.{State, log_with}
 use Rattle.lvm_volume_lines.specs.Volumes.{NoGroupForMklv, BusyMklv, UndrainedMklv, MakesVolume, MklvFails, NoGroupForRmlv, BusyRmlv, UndrainedRmlv, NoVolumeForRmlv, RemovesVolume, RmlvFails, refusal_for, wanted}
 use Rattle.lvm_stage.specs.declared.reply.Refusal.{Refusal}
 use Rattle.lvm_stage.specs.declared.reply.Refusal.TheVariants as refusal
-use Rattle.lvm_stage.specs.declared.reply.Reply.{Reply}
 use Rattle.lvm_stage.specs.declared.reply.Reply.TheVariants as reply
 use Rattle.lvm_group_lines.proofs.Coming.{clock_is_ahead}
 use Rattle.lvm_volume_lines.proofs.Ending.{mklv_facts, rmlv_facts}

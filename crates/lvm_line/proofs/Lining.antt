@@ -15,7 +15,7 @@ use Rattle.lvm_stage.specs.Asking.{IsAsked}
 use Rattle.lvm_group_lines.specs.Groups.{MkvgDoes, NoMemoryForLine, NoMkvgWhileOn}
 use Rattle.lvm_line.specs.Lines.{CommandDoes, CommandIsDone, LineDoes, IsLine, IsOrder, asked_after, role_of}
 use Rattle.lvm_group_lines.specs.Listings.{DiskShows, DiskOfGroup, GroupShows, GroupThatIsOn, ListsGroup, ListsMember, ListsVolume, NoGroupForDisk, NoGroupForVolume, NoGroupToList, NoSuchMember, NoSuchVolume, OtherGroup, VolumeOfGroup, VolumeShows}
-use Rattle.lvm_stage.specs.Moments.{GoesOn, Role}
+use Rattle.lvm_stage.specs.Moments.{GoesOn}
 use Rattle.lvm_stage.specs.Replies.{InFull, Shows, WithoutMemory, most_refusals}
 use Rattle.lvm_stage.specs.Stages.{IsBetweenStage, IsFitting, history_in, history_of, session_in, shelf_in, session_of, state_in}
 use Rattle.lvm_stage.specs.State.{IsBetween, State, without_facts}

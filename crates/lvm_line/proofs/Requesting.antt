@@ -14,7 +14,7 @@ use Rattle.lvm_range_lines.specs.Leaving.{EndsBy}
 use Rattle.lvm_range_lines.specs.Refusals.{Ending, ask_refusal, range_refusal}
 use Rattle.lvm_range_lines.specs.Requests.{EndsWell, Fails, Finishes, NoMemory, NotBegun, NotPosted, NotThere, OnVolume, Posted, Posts, PostDoes, RdDoes, ShowsBlocks, ShowsThem, There, WhileOff, WrDoes}
 use Rattle.lvm_range_lines.specs.Stepping.{NoStepWhileOff, NothingMoves, StepDoes, Steps, step_reply}
-use Rattle.lvm_range_lines.specs.Waiting.{AtRest, Awaits, Goes, InVain, Over, WaitDoes, WaitEnds, WaitsOff}
+use Rattle.lvm_range_lines.specs.Waiting.{AtRest, Awaits, Goes, InVain, Over, WaitDoes, WaitEnds}
 use Rattle.lvm_range_lines.specs.Waiting.{WhileOff as WaitsWhileOff}
 use Rattle.lvm_stage.specs.Replies.{InFull, Shows, WithoutMemory}
 use Rattle.lvm_stage.specs.State.{State}

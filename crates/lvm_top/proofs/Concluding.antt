@@ -1,6 +1,5 @@
 -- What a run does behind its last line, and what it upholds to its end.
-use Rattle.std.proofs.Common.{◌≡◌, ◌≢◌, ◌⊎◌, inl, inr, ⊎_elim, ◌≤◌, ◌+◌, ◌++◌, ℕ, Bool, true, false, List, [], Option, Some, None, IfSome, length, refl, sym, ◌∙◌, ap, subst, arith}
-use Rattle.std.specs.Prelude.{IsTrue}
+use Rattle.std.proofs.Common.{◌≡◌, ◌≢◌, ◌⊎◌, inl, inr, ⊎_elim, ◌+◌, ◌++◌, ℕ, Bool, true, false, List, [], Option, Some, None, IfSome, refl, sym, ◌∙◌, ap, subst, arith}
 use Rattle.std.specs.List.{list_any}
 use Rattle.lvm_num.specs.Buffer.{Buffer}
 use Rattle.lvm_disk.specs.Device.{Device, Flight, IsInFlight, IsReady}
@@ -24,7 +23,6 @@ use Rattle.lvm_tie.specs.Spares.{LeavesDescriptors}
 use Rattle.lvm_running.specs.Running.{RunsOn}
 use Rattle.lvm_line.specs.Lines.{role_of}
 use Rattle.lvm_stage.specs.Moments.{GoesOn, IsAlone, OfRequests}
-use Rattle.lvm_stage.specs.Replies.{IsStuck}
 use Rattle.lvm_stage.specs.Stages.{IsClosed}
 use Rattle.lvm_stage.specs.State.{ArePosted, State, IsAtRest, IsBetween, IsTimely, StandsBy}
 use Rattle.lvm_stage.specs.declared.reply.Refusal.TheVariants as refusal
@@ -33,8 +31,8 @@ use Rattle.lvm_stage.specs.declared.reply.Reply.TheVariants as reply
 use Rattle.lvm_stage.proofs.Running.{over_goes}
 use Rattle.lvm_top.specs.declared.status.ExitStatus.{ExitStatus}
 use Rattle.lvm_top.specs.declared.status.ExitStatus.TheVariants as ended
-use Rattle.lvm_top.specs.Ending.{Concludes, NoneIsOn, NoneIsServed, IsServed, RunsOut, NothingIsLeft, TurnsAreMade, MakesTurns, RestsNow}
-use Rattle.lvm_top.specs.Run.{Run, IsRun, RanAlone, WhereAlone, exit_state}
+use Rattle.lvm_top.specs.Ending.{Concludes, NoneIsOn, NoneIsServed, IsServed, NothingIsLeft, TurnsAreMade, MakesTurns, RestsNow}
+use Rattle.lvm_top.specs.Run.{Run, IsRun, RanAlone, WhereAlone}
 use Rattle.lvm_top.specs.Script.{Script, NoLine, NextLine, Ends, AtLine, InLine, StaysAlone, EndsAlone, EndsHeard, EndsStuck, MakeRequests, is_requesting, empty_log, entry_state, facts_of}
 use Rattle.lvm_top.proofs.Lining.{stuck_is_off}
 use Rattle.lvm_top.proofs.Scripting.{Ended, begins_timely, lines_ended, timely_ahead}

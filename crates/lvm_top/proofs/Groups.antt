@@ -13,7 +13,7 @@ use Rattle.lvm_core.specs.declared.parts.Room.{Room}
 use Rattle.lvm_core.specs.declared.refused.Cause.{Cause}
 use Rattle.lvm_core.specs.declared.refused.Cause.TheVariants as cause
 use Rattle.lvm_core.specs.Leaves.{MayBeFound}
-use Rattle.lvm_group.specs.NewGroup.{NewGroup, new_group}
+use Rattle.lvm_group.specs.NewGroup.{new_group}
 use Rattle.lvm_stage.specs.Ends.{patience_of_line}
 use Rattle.lvm_stage.specs.Lighting.{refusal_of}
 use Rattle.lvm_stage.specs.Replies.{IsStuck}

@@ -31,7 +31,6 @@ use Rattle.lvm_posts.specs.declared.posts.Post.{Post}
 use Rattle.lvm_posts.specs.declared.fault.RangeFault.{RangeFault}
 use Rattle.lvm_posts.specs.declared.fault.RangeFault.TheVariants as range_fault
 use Rattle.lvm_volumes.specs.Volumes.{IsWith}
-use Rattle.lvm_volume_plan.specs.declared.fault.GroupFault.{GroupFault}
 use Rattle.lvm_volume_plan.specs.declared.new_volume.NewVolume.{NewVolume}
 use Rattle.lvm_volume_plan.specs.NewVolume.{row_for, without_volume}
 use Rattle.lvm_volume_plan.proofs.Sublists.{one_filter, one_insert}
@@ -39,15 +38,15 @@ use Rattle.lvm_group_lines.specs.Groups.{IsLeft, MkvgDoes, VaryonDoes, VaryoffDo
 use Rattle.lvm_disk_lines.specs.Disks.{ReadDoes, WriteDoes, NoWriteWhileOn, WriteGoes, NoReadWhileOn, ReadGoes}
 use Rattle.lvm_disk_lines.specs.Shelves.{ArrangeDoes, CutDoes, NotThere, NotPlanned, IsArranged, CutNotPlanned, PowerIsCut}
 use Rattle.lvm_disk.specs.declared.shelf.Arrange.{Arrange}
-use Rattle.lvm_range_lines.specs.Leaving.{EndsBy, GoesOnWith, IsOverWith, LeavesBy}
-use Rattle.lvm_range_lines.specs.Requests.{OnVolume, WhileOff, NotThere as VolumeNotThere, There, Posts, NotPosted, Posted, IsFinished, Finishes, NotBegun, EndsWell, Fails}
+use Rattle.lvm_range_lines.specs.Leaving.{EndsBy, GoesOnWith, LeavesBy}
+use Rattle.lvm_range_lines.specs.Requests.{OnVolume, WhileOff, NotThere as VolumeNotThere, There, Posts, NotPosted, Posted, Finishes, NotBegun, EndsWell, Fails}
 use Rattle.lvm_range_lines.specs.Stepping.{StepDoes, NoStepWhileOff, NothingMoves, Steps}
 use Rattle.lvm_range_lines.specs.Waiting.{WaitDoes, WhileOff as WaitsWhileOff, AtRest, Awaits, WaitsOff, WaitsOn, WaitEnds, Goes, Over, InVain}
 use Rattle.lvm_line.specs.Lines.{LineDoes, role_of}
 use Rattle.lvm_stage.specs.Moments.{HasBegunHeld, OfGroup}
 use Rattle.lvm_stage.specs.State.{State}
 use Rattle.lvm_stage.specs.declared.reply.Reply.{Reply}
-use Rattle.lvm_volume_lines.specs.Volumes.{Drains, IsDone, IsLeft as IsLeftBy, StaysOn, MklvDoes, RmlvDoes, NoGroupForMklv, BusyMklv, UndrainedMklv, MakesVolume, MklvFails, NoGroupForRmlv, BusyRmlv, UndrainedRmlv, NoVolumeForRmlv, RemovesVolume, RmlvFails, ends_session, wanted}
+use Rattle.lvm_volume_lines.specs.Volumes.{Drains, IsDone, StaysOn, MklvDoes, RmlvDoes, NoGroupForMklv, BusyMklv, UndrainedMklv, MakesVolume, MklvFails, NoGroupForRmlv, BusyRmlv, UndrainedRmlv, NoVolumeForRmlv, RemovesVolume, RmlvFails, ends_session, wanted}
 use Rattle.lvm_top.specs.OneGroup.{FindsOff}
 use Rattle.lvm_line.specs.Causes.{IsDrained}
 use Rattle.lvm_top.specs.Standing.{MayHaveCommitted, StoodBefore}

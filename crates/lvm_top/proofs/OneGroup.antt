@@ -1,12 +1,12 @@
 -- Lines without a `mkvg -f` leave one group, where there was one.
 use Rattle.std.proofs.Common.{◌≡◌, ◌⊎◌, inl, inr, ⊎_elim, ℕ, ◌∷◌, ◌++◌, [], List, Bool, true, false, Option, Some, None, Result, Ok, Err, count_by, refl, sym, ap, subst, ◌∙◌, ◌≤◌, length, arith}
-use Rattle.std.specs.Prelude.{IsSome, IsSomeAnd, IsTrue, IfSome}
+use Rattle.std.specs.Prelude.{IsSome, IsTrue, IfSome}
 use Rattle.lvm_num.specs.declared.descriptor.Descriptor.{Descriptor}
 use Rattle.lvm_num.specs.Disks.{Disks}
 use Rattle.lvm_num.specs.Record.{Stamped}
 use Rattle.lvm_num.specs.Votes.{all_disks, votes_in, is_enough_to_read}
 use Rattle.lvm_num.proofs.Newest.{is_one}
-use Rattle.lvm_disk.specs.Device.{Media, Device, IsReady, image_of, MayLeave}
+use Rattle.lvm_disk.specs.Device.{Media, Device, image_of, MayLeave}
 use Rattle.lvm_vol.specs.Facts.{Fact, Cut}
 use Rattle.lvm_vol.specs.Log.{Log}
 use Rattle.lvm_parse.specs.declared.command.Command.{Command}
@@ -18,7 +18,6 @@ use Rattle.lvm_kept.specs.Group.{passes, is_of, descriptor_among, is_voter, has_
 use Rattle.lvm_kept.proofs.Blank.{no_descriptor}
 use Rattle.lvm_kept.proofs.Chaining.{span_sizes}
 use Rattle.lvm_kept.proofs.Finding.{offered, is_offered}
-use Rattle.lvm_steps.proofs.Making.{media_may}
 use Rattle.lvm_begin.specs.Beginning.{new_order}
 use Rattle.lvm_commit.specs.LawsOfVolumes.{IsOneByAllOn}
 use Rattle.lvm_commit.proofs.NoMore.{data_finds_nothing_new}

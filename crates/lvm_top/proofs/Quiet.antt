@@ -1,9 +1,7 @@
 -- What is found once transfers have ended, turns were made, or a session was closed: nothing new.
 use Rattle.std.proofs.Common.{◌≡◌, ℕ, [], subst}
 use Rattle.lvm_disk.specs.Device.{Device, MayLeave}
-use Rattle.lvm_disk.specs.Images.{LeavesNoMore}
 use Rattle.lvm_vol.specs.Log.{Log}
-use Rattle.lvm_transfer.specs.Transfer.{Relights}
 use Rattle.lvm_raw.specs.declared.fault.RawFault.{RawFault}
 use Rattle.lvm_raw.specs.declared.fault.RawFault.TheVariants as fault
 use Rattle.lvm_core.specs.declared.refused.Cause.{Cause}

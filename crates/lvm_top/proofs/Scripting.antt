@@ -5,37 +5,30 @@ use Rattle.std.proofs.Common.{◌≡◌, ◌||◌, inl, inr, ⊎_elim, ◌↔◌
 use Rattle.std.proofs.lemmas.Bool.{cases_lt}
 use Rattle.std.proofs.lemmas.List.{append-nil}
 use Rattle.std.proofs.lemmas.List.Sums.{sum_by-append}
-use Rattle.lvm_disk.specs.Device.{Device, IsReady}
+use Rattle.lvm_disk.specs.Device.{Device}
 use Rattle.lvm_io.specs.Count.{Rose}
 use Rattle.lvm_io.specs.Stream.{WhereTold}
 use Rattle.lvm_io.specs.Lines.{is_feed, lines_from, lines_of}
 use Rattle.lvm_io.specs.Reading.{Reading, to_come, lines_left, CountsGiven}
-use Rattle.lvm_vol.specs.Facts.{Fact}
 use Rattle.lvm_vol.specs.Log.{Log}
 use Rattle.lvm_kept.specs.Moments.{Moment}
-use Rattle.lvm_steps.specs.Moments.{Keeps, IsUpheld}
-use Rattle.lvm_steps.specs.Requests.{at as moment_of}
-use Rattle.lvm_steps.proofs.Spans.{keeps_still, span_upholds}
+use Rattle.lvm_steps.specs.Moments.{Keeps}
 use Rattle.lvm_stamps.specs.Behind.{IsBehind, IsAhead}
 use Rattle.lvm_stamps.proofs.Stamps.{later_is_ahead_too}
 use Rattle.lvm_core.specs.declared.parts.Room.{Room}
 use Rattle.lvm_parse.specs.Grammar.{line_of}
-use Rattle.lvm_session.specs.State.{Core}
-use Rattle.lvm_quiesce.specs.Behind.{IsAheadEach}
 use Rattle.lvm_quiesce.proofs.Behind.{still_is_behind_each, each_is_behind}
 use Rattle.lvm_tie.specs.Spares.{LeavesDescriptors}
 use Rattle.lvm_posts.specs.declared.posts.Post.{Post}
 use Rattle.lvm_line.specs.Lines.{IsLine, role_of}
-use Rattle.lvm_stage.specs.Moments.{IsAlone, IsRequesting, Role, Aside, OfGroup, OfRequests}
+use Rattle.lvm_stage.specs.Moments.{IsRequesting, Role, Aside, OfGroup, OfRequests}
 use Rattle.lvm_stage.specs.Replies.{reply_text, refusals_of, most_refusals, IsStuck}
 use Rattle.lvm_stage.specs.State.{State, IsAtRest, IsTimely, StandsBy}
-use Rattle.lvm_top.specs.Run.{Run, WhereAlone}
-use Rattle.lvm_top.specs.Script.{Stream, Passage, Says, Script, NoLine, NextLine, StaysAlone, Ends, AtLine, InLine, EndsAlone, EndsHeard, EndsStuck, AreDone, AreAllRead, IsLineLeft, MakeRequests, is_made_late, is_requesting, texts_of, refusals_in, entry_state, empty_log, facts_of}
+use Rattle.lvm_top.specs.Script.{Stream, Passage, Says, Script, NoLine, NextLine, StaysAlone, Ends, AtLine, InLine, EndsAlone, EndsHeard, AreDone, AreAllRead, IsLineLeft, MakeRequests, is_made_late, is_requesting, texts_of, refusals_in, entry_state}
 use Rattle.lvm_top.specs.Statuses.{GoesUntil}
 use Rattle.lvm_top.specs.declared.script.Stop.{Stop}
 use Rattle.lvm_top.specs.declared.script.Stop.TheVariants as stop
-use Rattle.lvm_top.specs.Turn.{Comes, Wrote, EndsFor, ReadsLine, ReadsNone, Tells}
-use Rattle.lvm_stage.specs.declared.reply.Refusal.TheVariants as refusal
+use Rattle.lvm_top.specs.Turn.{Wrote, EndsFor, ReadsLine, ReadsNone, Tells}
 use Rattle.lvm_stage.specs.declared.reply.Reply.{Reply}
 use Rattle.lvm_stage.specs.declared.reply.Reply.TheVariants as reply
 

@@ -1,19 +1,17 @@
 -- Turns behind the last line.
-use Rattle.std.proofs.Common.{◌≡◌, ◌≢◌, ◌⊎◌, ⊎_elim, ◌↔◌, ◌+◌, ◌==◌, ℕ, Bool, true, false, List, [], ◌∷◌, length, Some, None, refl, sym, ap, subst, ◌∙◌, arith}
+use Rattle.std.proofs.Common.{◌≡◌, ◌⊎◌, ⊎_elim, ◌↔◌, ◌+◌, ◌==◌, ℕ, Bool, true, false, List, [], ◌∷◌, length, None, refl, sym, ap, subst, ◌∙◌, arith}
 use Rattle.std.specs.Prelude.{IsTrue}
 use Rattle.std.proofs.lemmas.Bool.{eqb-true}
 use Rattle.lvm_num.specs.Buffer.{Buffer}
 use Rattle.lvm_disk.specs.Device.{Device, Flight}
 use Rattle.lvm_vol.specs.Facts.{Fact}
-use Rattle.lvm_vol.specs.Log.{Log}
 use Rattle.lvm_kept.specs.Moments.{Moment}
 use Rattle.lvm_session.specs.declared.open.Power.{Power}
 use Rattle.lvm_session.specs.Sound.{IsSound}
 use Rattle.lvm_posts.specs.declared.posts.Post.{Post}
 use Rattle.lvm_stage.specs.declared.holder.Holder.{Holder}
 use Rattle.lvm_stage.specs.declared.holder.Holder.TheVariants as holder
-use Rattle.lvm_stage.specs.declared.stage.Stage.{Stage}
-use Rattle.lvm_stage.specs.Stages.{IsBetweenStage, IsClosed, IsFitting, IsOfKind, history_in, history_of, moment_in, session_in, session_of, shelf_of}
+use Rattle.lvm_stage.specs.Stages.{IsClosed, IsOfKind, history_of, session_of, shelf_of}
 use Rattle.lvm_stage.specs.State.{IsBetween}
 use Rattle.lvm_session.specs.declared.answers.Turned.{Turned}
 use Rattle.lvm_session.specs.declared.answers.Turned.TheVariants as turned

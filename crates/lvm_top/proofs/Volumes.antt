@@ -13,27 +13,24 @@ use Rattle.lvm_num.specs.declared.descriptor.Policy.{Policy}
 use Rattle.lvm_num.specs.declared.place.Pp.{Pp}
 use Rattle.lvm_parse.specs.declared.command.Command.TheVariants as command
 use Rattle.lvm_vol.specs.Facts.{Fact}
-use Rattle.lvm_kept.specs.Moments.{Moment}
 use Rattle.lvm_steps.specs.Moments.{Begins}
 use Rattle.lvm_core.specs.Held.{IsHeld}
 use Rattle.lvm_core.specs.Looking.{IsNumberOf}
 use Rattle.lvm_core.specs.Leaves.{MayBeFound}
 use Rattle.lvm_session.specs.State.{Core, State as Session, is_there, state}
 use Rattle.lvm_driver.specs.declared.drain.DrainFault.{DrainFault}
-use Rattle.lvm_driver.specs.declared.drain.DrainFault.TheVariants as drain_fault
 use Rattle.lvm_tie.specs.Spares.{LeavesDescriptors}
 use Rattle.lvm_tie.specs.Tied.{IsGood, IsTied}
 use Rattle.lvm_tie_groups.proofs.Leaving.{tied_holds}
 use Rattle.lvm_tie_commands.specs.Standing.{StandsAfter}
 use Rattle.lvm_tie_commands.proofs.Resting.{rests}
-use Rattle.lvm_volumes.specs.Volumes.{IsWith, IsChosen, MklvGives, RmlvGives}
-use Rattle.lvm_stage.specs.Moments.{IsAlone, IsBrokenOff, OfGroup}
-use Rattle.lvm_stage.specs.State.{State, StandsAlone, StandsBy}
-use Rattle.lvm_volume_lines.specs.Volumes.{Drains, IsDone, IsOver, IsUndrained, StaysOn, MklvDoes, RmlvDoes, NoGroupForMklv, BusyMklv, UndrainedMklv, MakesVolume, MklvFails, NoGroupForRmlv, BusyRmlv, UndrainedRmlv, NoVolumeForRmlv, RemovesVolume, RmlvFails, MklvEnds, RmlvEnds, ends_session, refusal_for, wanted}
+use Rattle.lvm_stage.specs.Moments.{IsBrokenOff, OfGroup}
+use Rattle.lvm_stage.specs.State.{State, StandsAlone}
+use Rattle.lvm_volume_lines.specs.Volumes.{Drains, IsDone, IsUndrained, StaysOn, MklvDoes, RmlvDoes, NoGroupForMklv, BusyMklv, UndrainedMklv, MakesVolume, MklvFails, NoGroupForRmlv, BusyRmlv, UndrainedRmlv, NoVolumeForRmlv, RemovesVolume, RmlvFails, MklvEnds, RmlvEnds, ends_session, refusal_for, wanted}
 use Rattle.lvm_stage.specs.declared.reply.Reply.{Reply}
 use Rattle.lvm_stage.specs.declared.reply.Reply.TheVariants as reply
 use Rattle.lvm_line.specs.Causes.{IsDrained}
-use Rattle.lvm_top.specs.Standing.{AreHeld, MayHaveCommitted, StoodBefore, HeldAtRest, StandsSince}
+use Rattle.lvm_top.specs.Standing.{MayHaveCommitted, StoodBefore, HeldAtRest, StandsSince}
 use Rattle.lvm_top.proofs.Devices.{NothingNew, then_nothing, same_nothing}
 use Rattle.lvm_top.proofs.Quiet.{runs_nothing}
 use Rattle.lvm_top.proofs.Transfers.{relit_nothing}

@@ -6,7 +6,7 @@ use Rattle.lvm_io.specs.Reading.{Reading, to_come, lines_left, CountsGiven}
 use Rattle.lvm_io.specs.Stream.{WhereTold}
 use Rattle.lvm_stage.specs.Replies.{reply_text, refusals_of, IsStuck}
 use Rattle.lvm_stage.specs.declared.reply.Reply.{Reply}
-use Rattle.lvm_top.specs.Script.{Stream, Passage, Says}
+use Rattle.lvm_top.specs.Script.{Passage, Says}
 use Rattle.lvm_top.specs.declared.script.Stop.{Stop}
 use Rattle.lvm_top.specs.declared.script.Stop.TheVariants as stop
 

@@ -1,4 +1,4 @@
-use Rattle.std.proofs.Common.{◌≡◌, ◌≤◌, ◌∙◌, arith, ap, subst, sym, refl, None, Some, Ok, Option, Result, IfNone, ℕ}
+use Rattle.std.proofs.Common.{◌≤◌, ◌∙◌, arith, ap, subst, sym, refl, None, Some, Ok, Option, Result, IfNone, ℕ}
 use Rattle.lvm_core.specs.declared.parts.Room.{Room}
 use Rattle.lvm_vol.specs.Log.{Log}
 use Rattle.lvm_parse.specs.declared.command.Command.{Command}
@@ -9,7 +9,6 @@ use Rattle.lvm_line.specs.Lines.{CommandDoes, IsLine, IsChange}
 use Rattle.lvm_stage.specs.Replies.{most_refusals}
 use Rattle.lvm_stage.specs.Stages.{shelf_in, history_in, state_in}
 use Rattle.lvm_stage.specs.State.{without_facts}
-use Rattle.lvm_stage.specs.declared.reply.Refusal.TheVariants as refusal
 use Rattle.lvm_stage.specs.declared.reply.Reply.{Reply}
 use Rattle.lvm_stage.specs.declared.reply.Reply.TheVariants as reply
 use Rattle.lvm_line.proofs.Answering.{answered_both, answered_more, mkvg_changes}

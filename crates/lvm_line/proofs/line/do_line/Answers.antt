@@ -1,4 +1,4 @@
-use Rattle.std.proofs.Common.{◌≡◌, ◌≤◌, ◌∙◌, ap, refl, sym, subst, arith, None, Some, Ok, Option, ℕ}
+use Rattle.std.proofs.Common.{◌≡◌, ◌≤◌, ◌∙◌, ap, refl, sym, subst, arith, None, Some, Ok, Option}
 use Rattle.lvm_parse.specs.declared.command.Command.{Command}
 use Rattle.lvm_operands.specs.Reading.{misfit}
 use Rattle.lvm_stage.specs.Replies.{most_refusals}

@@ -1,4 +1,4 @@
-use Rattle.std.proofs.Common.{◌≡◌, ◌≤◌, ℕ, Option, IfSome, refl, sym, subst}
+use Rattle.std.proofs.Common.{◌≤◌, ℕ, Option, IfSome, refl, sym, subst}
 use Rattle.lvm_core.specs.declared.parts.Room.{Room}
 use Rattle.lvm_vol.specs.Log.{Log}
 use Rattle.lvm_line.specs.Lines.{CommandDoes}

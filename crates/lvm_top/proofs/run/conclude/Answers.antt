@@ -1,4 +1,4 @@
-use Rattle.std.proofs.Common.{ap, subst}
+use Rattle.std.proofs.Common.{ap}
 use Rattle.lvm_vol.specs.Log.{Log}
 use Rattle.lvm_top.proofs.Turning.{empty_concludes, serving_concludes}
 use Rattle.lvm_top.proofs.run.conclude.Goals as goal

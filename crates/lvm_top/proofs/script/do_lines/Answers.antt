@@ -1,10 +1,8 @@
-use Rattle.std.proofs.Common.{◌≡◌, ◌∙◌, ℕ, Option, sym, refl, subst, arith}
+use Rattle.std.proofs.Common.{◌∙◌, ℕ, sym, refl, subst, arith}
 use Rattle.lvm_io.specs.Reading.{Reading}
 use Rattle.lvm_stage.specs.Stages.{history_in, state_in}
 use Rattle.lvm_stage.specs.State.{without_facts}
 use Rattle.lvm_top.specs.Turn.{ReadsLine, ReadsNone, Tells}
-use Rattle.lvm_top.specs.declared.script.Stop.{Stop}
-use Rattle.lvm_top.specs.declared.script.Stop.TheVariants as stop
 use Rattle.lvm_top.proofs.Scripting.{RunSoFar, at_start, through, none_read, line_told, line_ends}
 use Rattle.lvm_top.proofs.Lining.{renamed, stuck_is_off, no_end, ended_not}
 use Rattle.lvm_top.proofs.script.do_lines.Goals as goal

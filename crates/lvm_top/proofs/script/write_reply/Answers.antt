@@ -1,4 +1,4 @@
-use Rattle.std.proofs.Common.{◌≡◌, ◌∙◌, inl, inr, sym, refl, arith}
+use Rattle.std.proofs.Common.{◌∙◌, inl, inr, sym, refl, arith}
 use Rattle.lvm_stage.specs.Replies.{reply_text}
 use Rattle.lvm_top.proofs.Lining.{wrote, took_all, failed}
 use Rattle.lvm_top.proofs.Scripting.{said_few}
