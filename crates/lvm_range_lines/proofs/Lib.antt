@@ -7,3 +7,9 @@ pub mod Naming
 pub mod Lines
 pub mod Refusing
 pub mod Adding
+pub mod Takings
+pub mod Awaiting
+pub mod Behind
+pub mod Landed
+pub mod Waits
+pub mod Resting
