@@ -1,7 +1,7 @@
 pub mod Refusals
 pub mod Answers
 pub mod Leaving
-pub mod Ranges
-pub mod Waits
+pub mod Requests
+pub mod Waiting
 pub mod Taking
-pub mod Steps
+pub mod Stepping

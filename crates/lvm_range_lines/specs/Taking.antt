@@ -28,7 +28,7 @@ use Rattle.lvm_range_lines.specs.declared.answers.Answers.{Answers}
 use Rattle.lvm_range_lines.specs.Answers.{Gathers, Tells}
 use Rattle.lvm_range_lines.specs.Leaving.{serving}
 use Rattle.lvm_range_lines.specs.Refusals.{Ending}
-use Rattle.lvm_range_lines.specs.Waits.{AllHaveLanded, IsAwaited, TakesGone, TakesPosts, TurnsForPosts}
+use Rattle.lvm_range_lines.specs.Waiting.{AllHaveLanded, IsAwaited, TakesGone, TakesPosts, TurnsForPosts}
 
 -- ---- turns
 

@@ -14,7 +14,7 @@ ghost use Rattle.lvm_stage.specs.Ends.{EndsUnasked};
 ghost use Rattle.lvm_stage.specs.Moments.{OfRequests};
 ghost use Rattle.lvm_stage.specs.Stages.{HaveRooms, IsBetweenStage, IsFitting};
 ghost use Rattle.lvm_range_lines.specs.Leaving.{KeepsPosts, StageEndsBy, Waited, serving};
-ghost use Rattle.lvm_range_lines.specs.Ranges.{AsksByName, PostDoes, RdDoes, ShowsBlocks, WrDoes};
+ghost use Rattle.lvm_range_lines.specs.Requests.{AsksByName, PostDoes, RdDoes, ShowsBlocks, WrDoes};
 ghost use Rattle.lvm_range_lines.specs.Refusals.{blocks_text, ending_of, reply_of};
 
 use crate::refusal::{ask_refusal, range_refusal};

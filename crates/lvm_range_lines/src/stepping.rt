@@ -6,7 +6,7 @@ ghost use Rattle.lvm_stage.specs.Ends.{EndsUnasked};
 ghost use Rattle.lvm_stage.specs.Moments.{OfRequests};
 ghost use Rattle.lvm_stage.specs.Stages.{HaveRooms, IsBetweenStage, IsCarried, IsFitting};
 ghost use Rattle.lvm_range_lines.specs.Leaving.{serving};
-ghost use Rattle.lvm_range_lines.specs.Steps.{StepDoes, step_reply};
+ghost use Rattle.lvm_range_lines.specs.Stepping.{StepDoes, step_reply};
 
 use lvm_disk::Shelf;
 use lvm_driver::Driver;

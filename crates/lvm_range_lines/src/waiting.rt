@@ -18,7 +18,7 @@ ghost use Rattle.lvm_stage.specs.Stages.{IsBetweenStage, IsFitting, history_in, 
 ghost use Rattle.lvm_stage.specs.State.{ArePosted, IsPosted};
 ghost use Rattle.lvm_vol.specs.Order.{Ordered};
 ghost use Rattle.lvm_range_lines.specs.Leaving.{resting, serving};
-ghost use Rattle.lvm_range_lines.specs.Waits.{AllHaveLanded, TakesPost, WaitDoes};
+ghost use Rattle.lvm_range_lines.specs.Waiting.{AllHaveLanded, TakesPost, WaitDoes};
 ghost use Rattle.lvm_range_lines.specs.Taking.{AwaitsPost, AwaitsPosts, GathersGone, GathersPosts, KeepsLater, LandedEnds, LeavesOthers, WaitsBehind};
 
 use crate::answers::Answers;

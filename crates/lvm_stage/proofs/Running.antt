@@ -193,7 +193,7 @@ module _ (role : Role) (old : State) (core : Core) (end : Session) (its : IsRun 
   -- ---- it is closed
 
   module _ (answer : Reply) (new : State) (closed : IsClosed end.core.power end.device new.moment.device) (facts : new.moment.facts ≡ end.core.history.facts) (none : new.session ≡ None)
-      (clock : new.last ≡ old.last) (heard_of : end.core.power ≡ power.Stuck → ⊥) (over : (IsStuck answer → ⊥) → is_over end.core.power ≡ true) (posted : ArePosted new.moment.facts None new.posts)
+      (clock : new.last ≡ old.last) (heard_of : end.core.power ≡ power.Stuck → ⊥) (over : (IsStuck answer → ⊥) → is_over end.core.power ≡ true) (posted : (IsStuck answer → ⊥) → ArePosted new.moment.facts None new.posts)
       (rests : (IsRequesting role → ⊥) → IsAtRest old → IsAtRest new) (few : most_refusals answer + length new.posts ≤ length old.posts + 1) where
     it : Closes end.device new.moment.device
     it = closes end new.moment.device its.sound closed heard_of
@@ -227,7 +227,7 @@ module _ (role : Role) (old : State) (core : Core) (end : Session) (its : IsRun 
         descriptors = λ d at value flies. (its.leaves.descriptors its.between.descriptors).leaves d at value (subst (λ (fs : List Flight). IsInFlight fs d at value) it.flights flies);
         landed = subst (λ (o : Option Core). IfNone o (HaveAllLanded new.moment.facts)) (sym none) (subst HaveAllLanded (sym facts) (over_landed end its.sound (over heard)));
         session = subst (λ (o : Option Core). IfSome o (IsOnBetween new.moment.device)) (sym none) tt;
-        posts = subst (λ (o : Option Core). ArePosted new.moment.facts o new.posts) (sym none) posted;
+        posts = subst (λ (o : Option Core). ArePosted new.moment.facts o new.posts) (sym none) (posted heard);
       };
       rests = λ not_asking heard rest. rests not_asking rest;
       begins = λ timely. was_session old.session core (IfSome new.session (HasBegunHeld new.moment.device)) its.session;

@@ -19,3 +19,6 @@ from_parts-requires-clause-sound g c =
     subst (λ (core : Core). IsSound (state (device c.into_parts-shelf.result.0) core)) (sym c.take_in-session.ensures.core)
     (stays (state (device c.into_parts-shelf.result.0) (core_of c.into_parts-shelf.result.1)) c.args.asked.now sound
     (subst (λ (core : Core). AreAnswered core.history.facts c.args.asked.now) (sym parts.core) c.requires.answered) (subst (λ (core : Core). AreGone core c.args.asked.now) (sym parts.core) c.requires.gone)).sound
+
+pub from_parts-requires-clause-rooms : goal.from_parts-requires-clause-rooms
+from_parts-requires-clause-rooms g c = c.take_in-session.ensures.rooms c.into_parts-shelf.ensures.rooms

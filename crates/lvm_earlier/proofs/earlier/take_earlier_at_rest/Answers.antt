@@ -17,3 +17,6 @@ from_parts-requires-clause-sound g c =
     subst (λ (s : g.row.S.Denot). IsSound (state (device s) (core_of c.into_parts-shelf.result.1))) (sym parts.shelf) (subst (λ (core : Core). IsSound (state (device c.args.driver.0) core)) (sym parts.core) parts.sound) in
     subst (λ (core : Core). IsSound (state (device c.into_parts-shelf.result.0) core)) (sym c.take_in-session.ensures.core)
     (resting_with (state (device c.into_parts-shelf.result.0) (core_of c.into_parts-shelf.result.1)) c.args.asked.now sound)
+
+pub from_parts-requires-clause-rooms : goal.from_parts-requires-clause-rooms
+from_parts-requires-clause-rooms g c = c.take_in-session.ensures.rooms c.into_parts-shelf.ensures.rooms

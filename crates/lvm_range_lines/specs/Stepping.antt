@@ -3,7 +3,9 @@ use Rattle.std.specs.Prelude.{◌≡◌, ◌≢◌, ℕ, [], Some, None}
 use Rattle.lvm_num.specs.Votes.{total_votes}
 use Rattle.lvm_session.specs.declared.answers.Turned.{Turned}
 use Rattle.lvm_session.specs.declared.answers.Turned.TheVariants as turned
+use Rattle.lvm_session.specs.Sound.{IsSound}
 use Rattle.lvm_session.specs.State.{Core, State as Session, votes_there}
+use Rattle.lvm_running.specs.Running.{RunsOn}
 use Rattle.lvm_ranges.specs.Stepping.{StepEnds}
 use Rattle.lvm_stage.specs.State.{State}
 use Rattle.lvm_stage.specs.Replies.{IsRefused}
@@ -25,6 +27,8 @@ pub record IsStepped (turns : ℕ) (core : Core) (old new : State) (answer : Rep
   pub moved : ℕ
   pub how : Turned
   pub ends : StepEnds turns (session_over old core) end moved how
+  pub runs : RunsOn (session_over old core) end
+  pub sound : IsSound end
   pub leaves : Leaves end old.posts old.last new
   pub says : answer ≡ step_reply moved end how
 

@@ -4,7 +4,9 @@ use Rattle.lvm_disk.specs.Paths.{Path}
 use Rattle.lvm_vol.specs.Facts.{Fact}
 use Rattle.lvm_session.specs.declared.open.Power.TheVariants as power
 use Rattle.lvm_session.specs.Causes.{is_over}
+use Rattle.lvm_session.specs.Sound.{IsSound}
 use Rattle.lvm_session.specs.State.{Core, State as Session, state}
+use Rattle.lvm_running.specs.Running.{RunsOn}
 use Rattle.lvm_driver.specs.Answers.{IsCausedFor}
 use Rattle.lvm_driver.specs.Drains.{IsAny, IsTurn}
 use Rattle.lvm_posts.specs.declared.posts.Post.{Post}
@@ -74,6 +76,8 @@ pub record WaitsOn (first : Session) (old new : State) (answer : Reply) : Type 0
   pub answers : List Ending
   pub end : Session
   pub takes : TakesPosts first old.posts end answers
+  pub runs : RunsOn first end
+  pub sound : IsSound end
   pub goes : GoesOnWith end [] old.last new
   pub tells : Tells answers answer
 
@@ -102,6 +106,8 @@ pub data WaitEnds (mid : Session) (left : ℕ) (old new : State) (answer : Reply
 pub record WaitsFor (core : Core) (old new : State) (answer : Reply) : Type 0 where
   pub mid : Session
   pub turns : Path (TurnsForPosts old.posts) IsAny (session_over old core) mid
+  pub runs : RunsOn (session_over old core) mid
+  pub sound : IsSound mid
   pub left : ℕ
   pub waited : Waited left (session_over old core) mid
   pub ends : WaitEnds mid left old new answer

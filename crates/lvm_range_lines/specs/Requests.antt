@@ -3,7 +3,9 @@ use Rattle.std.specs.Prelude.{◌≡◌, ◌∷◌, ◌++◌, ℕ, [], List, Opt
 use Rattle.lvm_num.specs.Buffer.{Sector}
 use Rattle.lvm_vol.specs.Log.{Log}
 use Rattle.lvm_core.specs.Looking.{IsNumberOf, HasNoVolume}
+use Rattle.lvm_session.specs.Sound.{IsSound}
 use Rattle.lvm_session.specs.State.{Core, State as Session}
+use Rattle.lvm_running.specs.Running.{RunsOn}
 use Rattle.lvm_posts.specs.declared.asked.Asked.{Asked}
 use Rattle.lvm_posts.specs.declared.fault.RangeFault.{RangeFault}
 use Rattle.lvm_posts.specs.declared.posts.Post.{Post}
@@ -50,6 +52,7 @@ pub record PostsRange (lv at count word : ℕ) (core : Core) (old new : State) (
   pub asked : Asked
   pub begun : Core
   pub gives : AskRangeGives (Some word) lv at count core begun (Ok asked)
+  pub runs : RunsOn (session_over old core) (session_over old begun)
   pub goes : GoesOnWith (session_over old begun) (old.posts ++ post_of asked ∷ []) old.last new
   pub says : answer ≡ reply.Posted
 
@@ -69,6 +72,8 @@ pub record IsFinished (write : Option ℕ) (lv at count : ℕ) (core : Core) (ol
   pub left : ℕ
   pub finishes : FinishGives asked left (session_over old begun) end done
   pub waited : Waited left (session_over old begun) end
+  pub runs : RunsOn (session_over old core) end
+  pub sound : IsSound end
   pub ends : EndsBy done end old.posts old.last new
 
 -- so it is, and this answers
