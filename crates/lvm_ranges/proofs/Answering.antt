@@ -24,7 +24,7 @@ use Rattle.lvm_session.specs.Sound.{IsAsked, IsSound, outcome_in, waits}
 use Rattle.lvm_session.specs.State.{Core, State, votes_there}
 use Rattle.lvm_keeps.proofs.Lists.{all_at, any_removed}
 use Rattle.lvm_keeps.proofs.Small.{both, not_so}
-use Rattle.lvm_keeps.proofs.Telling.{answered_still, open_still, outcome_still}
+use Rattle.lvm_keeps.proofs.Telling.{answered_still, open_still}
 use Rattle.lvm_running.specs.Running.{RunsOn}
 use Rattle.lvm_running.proofs.Running.{runs_both, runs_none}
 use Rattle.lvm_driver.specs.Answers.{IsCausedFor}

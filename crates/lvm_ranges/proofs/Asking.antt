@@ -1,5 +1,5 @@
 -- The pieces of a range are submitted one after the other.
-use Rattle.std.proofs.Common.{◌≡◌, ◌≤◌, ◌<◌, ◌+◌, ◌-◌, ◌*◌, ◌/◌, ◌%◌, ◌^◌, ◌==◌, ◌&&◌, ◌||◌, ℕ, Bool, true, false, List, [], ◌∷◌, ◌++◌, Option, Some, None, length, refl, sym, ◌∙◌, ap, subst, arith, below_more, if◌then◌else◌}
+use Rattle.std.proofs.Common.{◌≡◌, ◌≤◌, ◌<◌, ◌+◌, ◌-◌, ◌*◌, ◌^◌, ◌==◌, ◌&&◌, ◌||◌, ℕ, Bool, true, false, List, [], ◌∷◌, ◌++◌, Option, Some, None, length, refl, sym, ◌∙◌, ap, subst, arith, below_more, if◌then◌else◌}
 use Rattle.std.specs.Prelude.{MatchOption, Result, Ok, Err, count_by, nat_le, nat_lt}
 use Rattle.std.specs.List.{list_any, AllByRecursion}
 use Rattle.std.specs.Option.{option_map_or}
@@ -37,7 +37,7 @@ use Rattle.lvm_ranges.specs.declared.refusal.AskRangeFault.{AskRangeFault}
 use Rattle.lvm_ranges.specs.declared.refusal.AskRangeFault.TheVariants as fault
 use Rattle.lvm_posts.specs.Pieces.{IsLaidOut}
 use Rattle.lvm_posts.specs.Posts.{AreHeld}
-use Rattle.lvm_ranges.specs.Asking.{AskRangeGives, Asks, fault_in, has_room, range_fault}
+use Rattle.lvm_ranges.specs.Asking.{AskRangeGives, Asks, fault_in, range_fault}
 use Rattle.lvm_ranges.specs.Pieces.{NoPiece, OnePiece, Submits, piece_ask, piece_bytes, with_piece}
 
 -- ---- what is left to be submitted has room

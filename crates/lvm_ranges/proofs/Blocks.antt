@@ -1,6 +1,6 @@
 -- The blocks of a range stand in the history, from its place on.
-use Rattle.std.proofs.Common.{◌≡◌, ◌==◌, ◌≤◌, ◌<◌, ◌+◌, ℕ, zero, suc, Bool, true, false, ◌&&◌, List, [], ◌∷◌, ◌++◌, Option, Some, None, length, take, drop, slice_get, inl, inr, refl, sym, ◌∙◌, ap, subst, arith, below_more, if◌then◌else◌}
-use Rattle.std.specs.Prelude.{replicate, slice_index_or, Result, Ok, Err}
+use Rattle.std.proofs.Common.{◌≡◌, ◌==◌, ◌≤◌, ◌<◌, ◌+◌, ℕ, zero, suc, Bool, true, false, ◌&&◌, List, [], ◌∷◌, ◌++◌, Some, None, take, drop, slice_get, inl, inr, refl, sym, ◌∙◌, ap, subst, arith, below_more, if◌then◌else◌}
+use Rattle.std.specs.Prelude.{replicate, slice_index_or, Ok}
 use Rattle.std.specs.List.{filter_map, cons_option, sum_by}
 use Rattle.std.proofs.lemmas.Bool.{eqb-true}
 use Rattle.std.proofs.lemmas.List.Elements.{filter_map-append}
@@ -10,12 +10,11 @@ use Rattle.lvm_num.specs.Buffer.{Sector, zero_sector}
 use Rattle.lvm_vol.specs.declared.entry.Outcome.{Outcome}
 use Rattle.lvm_vol.specs.declared.entry.Outcome.TheVariants as outcome
 use Rattle.lvm_vol.specs.Facts.{Begun, Cut, Fact, Landed, Made, Making, On, Removed, Removing, Request, Split, Stands, Taken, begun, begun_by}
-use Rattle.lvm_vol.specs.Log.{blocks_begun, blocks_of, got_by, held, is_got, lands_id}
+use Rattle.lvm_vol.specs.Log.{blocks_begun, blocks_of, got_by, held, is_got}
 use Rattle.lvm_vol.specs.Order.{Ordered}
 use Rattle.lvm_history.proofs.Staying.{blocks_at_place}
-use Rattle.lvm_session.specs.Sound.{outcome_by, outcome_in}
+use Rattle.lvm_session.specs.Sound.{outcome_in}
 use Rattle.lvm_posts.specs.declared.asked.Asked.{Asked}
-use Rattle.lvm_posts.specs.declared.fault.RangeFault.{RangeFault}
 use Rattle.lvm_posts.specs.Deciding.{AllWell, EndsWith, FirstFails, RangeEnds, fault_by}
 use Rattle.lvm_posts.specs.Pieces.{piece_lp}
 use Rattle.lvm_ranges.specs.Reading.{AreGot, AreReads, HasEndedWell, IsRead, IsReadAt, NoneGot, NoRead, OneGot, OneRead}

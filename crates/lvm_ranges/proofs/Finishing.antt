@@ -1,5 +1,5 @@
 -- A range is waited for, and its answers are taken.
-use Rattle.std.proofs.Common.{◌≡◌, ◌+◌, ℕ, ◌∙◌}
+use Rattle.std.proofs.Common.{◌+◌, ℕ, ◌∙◌}
 use Rattle.std.specs.Prelude.{Ok}
 use Rattle.lvm_num.specs.Votes.{total_votes}
 use Rattle.lvm_session.specs.State.{Core, State, votes_there}

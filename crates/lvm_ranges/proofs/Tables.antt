@@ -1,22 +1,17 @@
 -- A turn keeps the requests of the table.
-use Rattle.std.proofs.Common.{◌≡◌, ◌==◌, ◌||◌, ⊎_elim, inl, inr, ℕ, Bool, true, false, List, [], ◌∷◌, ◌++◌, map, length, Option, Some, None, slice_get, slice_set, refl, sym, ◌∙◌, ap, subst, if◌then◌else◌}
+use Rattle.std.proofs.Common.{◌≡◌, ◌==◌, ◌||◌, ⊎_elim, inl, inr, ℕ, Bool, true, false, List, [], ◌∷◌, ◌++◌, map, length, Option, Some, slice_get, slice_set, refl, sym, ◌∙◌, ap, subst, if◌then◌else◌}
 use Rattle.std.specs.Prelude.{unwrap_or}
 use Rattle.std.specs.List.{list_any}
 use Rattle.std.proofs.lemmas.Bool.{eqb-true}
 use Rattle.std.proofs.lemmas.List.{length-map}
-use Rattle.lvm_num.specs.Buffer.{Sector}
 use Rattle.lvm_vol.specs.declared.entry.Outcome.{Outcome}
 use Rattle.lvm_vol.specs.declared.entry.Outcome.TheVariants as outcome
 use Rattle.lvm_vol.specs.Facts.{Cut, Fact, Landed, Request, begun}
 use Rattle.lvm_vol.specs.Log.{Log, asked, cut_log, is_uncut, no_request, request_of, takes_id, with_fact}
 use Rattle.lvm_vol.proofs.Asking.{find_stands}
-use Rattle.lvm_path.specs.declared.facts.Facts.{Facts}
 use Rattle.lvm_path.specs.declared.facts.Next.TheVariants as next
-use Rattle.lvm_path.specs.declared.request.Phase.{Phase}
-use Rattle.lvm_path.specs.declared.request.Phase.TheVariants as phase
 use Rattle.lvm_path.specs.Asks.{count_of, is_write}
 use Rattle.lvm_path.specs.Targets.{is_begun}
-use Rattle.lvm_path.specs.Next.{next_in}
 use Rattle.lvm_session.specs.declared.event.Event.{Event}
 use Rattle.lvm_session.specs.declared.event.Event.TheVariants as event
 use Rattle.lvm_session.specs.declared.flown.Owner.{Owner}
@@ -29,12 +24,11 @@ use Rattle.lvm_session.specs.Calls.{is_asked}
 use Rattle.lvm_session.specs.Dark.{ended_as}
 use Rattle.lvm_session.specs.Ends.{Ends, Learns}
 use Rattle.lvm_session.specs.Events.{Lands, got_blocks, landed_as}
-use Rattle.lvm_session.specs.Judging.{facts_of, is_running, is_waiting, next_for}
-use Rattle.lvm_session.specs.Requests.{IsOpenOne, IsPhase}
+use Rattle.lvm_session.specs.Judging.{is_running, is_waiting, next_for}
+use Rattle.lvm_session.specs.Requests.{IsOpenOne}
 use Rattle.lvm_session.specs.Sound.{IsAsked, IsSound, outcome_in}
 use Rattle.lvm_session.specs.State.{Core, State}
 use Rattle.lvm_session.specs.Turns.{Darkens, FinishMakes, Finishes, GoesOff, Makes, Moves, NoStart, OnMakes, TurnMakes, WasDark, WasOff, WasOn}
-use Rattle.lvm_keeps.proofs.Landing.{Gives, by_admit, by_choice, by_landing, by_pin, by_start, by_test, by_wait}
 use Rattle.lvm_keeps.proofs.Lists.{all_at, any_set, length_set}
 use Rattle.lvm_keeps.proofs.Small.{not_so}
 use Rattle.lvm_keeps.proofs.Telling.{asked_still}

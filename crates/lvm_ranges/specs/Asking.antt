@@ -1,5 +1,5 @@
 -- A range of a volume is asked for, all of its pieces or none.
-use Rattle.std.specs.Prelude.{◌≡◌, ◌≤◌, ◌<◌, ℕ, ◌+◌, ◌*◌, ◌^◌, Bool, true, ◌&&◌, nat_lt, nat_le, is_some, if◌then◌else◌, Option, Some, None, MatchOption, Result, Ok, Err, length}
+use Rattle.std.specs.Prelude.{◌≡◌, ◌≤◌, ◌<◌, ℕ, ◌+◌, ◌*◌, Bool, true, ◌&&◌, nat_lt, nat_le, is_some, if◌then◌else◌, Option, Some, None, MatchOption, Result, Ok, Err, length}
 use Rattle.std.specs.Option.{option_map_or}
 use Rattle.lvm_num.specs.declared.descriptor.LvRow.{LvRow}
 use Rattle.lvm_num.specs.Descriptor.{volume_of}

@@ -1,12 +1,12 @@
 -- Each call of a client runs a session on, and an order to the shelf leaves the rest of it.
-use Rattle.std.proofs.Common.{◌≡◌, inl, inr, ℕ, Bool, true, false, ◌&&◌, List, [], length, Option, Some, None, refl, sym, ap, subst, ◌∙◌}
+use Rattle.std.proofs.Common.{◌≡◌, inl, inr, ℕ, Bool, true, false, ◌&&◌, List, length, Option, Some, None, refl, sym, ap, subst, ◌∙◌}
 use Rattle.std.specs.Prelude.{◌<◌, Err, MatchOption, Ok, Result, if◌then◌else◌, position}
 use Rattle.lvm_disk.specs.declared.shelf.Arrange.{Arrange}
 use Rattle.lvm_disk.specs.declared.shelf.Arrange.TheVariants as arrange
 use Rattle.lvm_disk.specs.Counts.{Counts, NoneFalls}
 use Rattle.lvm_disk.specs.Device.{Device, IsInFlight, MayLeave}
 use Rattle.lvm_disk.specs.Paths.{Arranged}
-use Rattle.lvm_disk.specs.Steps.{ArrangeGives, Arranges as OrderMakes, with_order}
+use Rattle.lvm_disk.specs.Steps.{ArrangeGives, Arranges as OrderMakes}
 use Rattle.lvm_disk.proofs.Rising.{none_falls_at_once}
 use Rattle.lvm_disk.proofs.Stepping.{arrange_leaves, step_counts, step_same}
 use Rattle.lvm_vol.specs.declared.entry.Outcome.{Outcome}

@@ -1,5 +1,5 @@
 -- One run behind another.
-use Rattle.std.proofs.Common.{◌≡◌, inl, inr, ℕ, List, [], refl, sym, ap, subst, ◌∙◌}
+use Rattle.std.proofs.Common.{◌≡◌, inl, inr, refl, sym, ap, subst, ◌∙◌}
 use Rattle.lvm_disk.proofs.Rising.{none_falls_at_once, none_falls_on}
 use Rattle.lvm_vol.specs.Log.{Log}
 use Rattle.lvm_session.specs.declared.open.Power.TheVariants as power

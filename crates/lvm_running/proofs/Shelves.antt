@@ -1,5 +1,5 @@
 -- What a turn starts goes to no slot of descriptors, so none becomes found.
-use Rattle.std.proofs.Common.{◌≡◌, ◌⊎◌, inl, inr, ⊎_elim, ℕ, ◌+◌, ◌<◌, ◌≤◌, Bool, true, false, List, [], ◌∷◌, ◌++◌, length, Option, Some, None, refl, sym, ap, subst, ◌∙◌, arith}
+use Rattle.std.proofs.Common.{◌≡◌, ◌⊎◌, inl, inr, ⊎_elim, ℕ, ◌+◌, ◌<◌, ◌≤◌, Bool, true, false, List, [], ◌∷◌, ◌++◌, length, Option, Some, None, sym, ap, subst, ◌∙◌, arith}
 use Rattle.std.specs.Prelude.{IfSome, if◌then◌else◌, slice_get}
 use Rattle.lvm_num.specs.declared.descriptor.Descriptor.{Descriptor}
 use Rattle.lvm_num.specs.declared.record.Kind.TheVariants as kind
@@ -15,8 +15,7 @@ use Rattle.lvm_disk.specs.Device.{Device, Flight, Image, IsInFlight, MayLeave, w
 use Rattle.lvm_disk.specs.Images.{LeavesNoMore}
 use Rattle.lvm_disk.specs.Steps.{Cuts, GoesDark, Removes, Starts, Waits}
 use Rattle.lvm_disk.proofs.CrashImages.{cut_leaves, done_leaves, failed_leaves, in_old_or_new, start_leaves}
-use Rattle.lvm_kept.specs.Contents.{Contents, contents_of, data_at, descriptor_on, note_on, note_sector, status_on}
-use Rattle.lvm_kept.specs.Group.{IsFound}
+use Rattle.lvm_kept.specs.Contents.{contents_of, data_at, descriptor_on, note_on, note_sector, status_on}
 use Rattle.lvm_kept.specs.Plans.{ChangesBy}
 use Rattle.lvm_kept.specs.Torn.{IsOutside}
 use Rattle.lvm_kept.proofs.Records.{newest_stays}
@@ -35,7 +34,7 @@ use Rattle.lvm_session.specs.declared.event.Event.TheVariants as event
 use Rattle.lvm_session.specs.declared.open.Open.{Open}
 use Rattle.lvm_session.specs.declared.open.Power.TheVariants as power
 use Rattle.lvm_session.specs.Enabled.{target_next}
-use Rattle.lvm_session.specs.Ends.{Ends, EndsAs}
+use Rattle.lvm_session.specs.Ends.{EndsAs}
 use Rattle.lvm_session.specs.Events.{Begins, StartsStatus}
 use Rattle.lvm_session.specs.Judging.{is_waiting}
 use Rattle.lvm_session.specs.Requests.{IsOpenOne, IsTarget}

@@ -1,5 +1,5 @@
 -- Each turn runs a session on.
-use Rattle.std.proofs.Common.{◌≡◌, ℕ, [], sym, ap, subst, ◌∙◌}
+use Rattle.std.proofs.Common.{◌≡◌, ℕ, sym, ap, subst, ◌∙◌}
 use Rattle.std.specs.Prelude.{◌<◌}
 use Rattle.lvm_disk.specs.Device.{HasSectors}
 use Rattle.lvm_stamps.specs.Behind.{beginning_at}

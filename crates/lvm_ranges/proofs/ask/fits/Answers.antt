@@ -1,4 +1,4 @@
-use Rattle.std.proofs.Common.{◌<◌, ◌+◌, ◌^◌, subst, arith}
+use Rattle.std.proofs.Common.{subst}
 use Rattle.lvm_num.specs.Descriptor.{IsValid}
 use Rattle.lvm_ranges.proofs.Asking.{range_fits}
 use Rattle.lvm_ranges.proofs.ask.fits.Goals as goal

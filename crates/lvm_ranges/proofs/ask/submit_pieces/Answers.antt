@@ -1,4 +1,4 @@
-use Rattle.std.proofs.Common.{◌+◌, refl, ◌∙◌, ap, arith}
+use Rattle.std.proofs.Common.{◌+◌, refl, ◌∙◌, ap}
 use Rattle.lvm_running.proofs.Running.{runs_both, runs_none}
 use Rattle.lvm_driver.specs.Answers.{state_of}
 use Rattle.lvm_ranges.proofs.Asking.{all_asked, asks_first, asks_next, may_next}

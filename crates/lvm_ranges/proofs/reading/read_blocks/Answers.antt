@@ -1,7 +1,7 @@
-use Rattle.std.proofs.Common.{◌≡◌, ◌≤◌, ◌<◌, ◌+◌, ◌++◌, [], ◌∷◌, List, Some, length, take, drop, slice_get, refl, sym, ◌∙◌, ap, subst, arith}
+use Rattle.std.proofs.Common.{◌≡◌, ◌+◌, ◌++◌, [], ◌∷◌, List, Some, length, take, drop, slice_get, refl, sym, ◌∙◌, ap, subst, arith}
 use Rattle.std.proofs.lemmas.List.{length-append}
 use Rattle.lvm_num.specs.Buffer.{Sector}
-use Rattle.lvm_vol.specs.Log.{blocks_begun, blocks_of}
+use Rattle.lvm_vol.specs.Log.{blocks_of}
 use Rattle.lvm_ranges.specs.Reading.{AreGot}
 use Rattle.lvm_ranges.proofs.Blocks.{read_well, reads_within, take_next}
 use Rattle.lvm_ranges.proofs.reading.read_blocks.Goals as goal
