@@ -1,3 +1,5 @@
 pub mod Cutting
+pub mod Darkness
 pub mod Ordering
 pub mod Ranging
+pub mod Untaken

@@ -2,7 +2,7 @@
 use Rattle.std.specs.Prelude.{◌≡◌, ◌+◌, ◌<◌, ℕ, Bool, true, false, length}
 use Rattle.lvm_num.specs.Buffer.{Buffer}
 use Rattle.lvm_disk.specs.Counts.{RoseBy, NoneFalls}
-use Rattle.lvm_disk.specs.Device.{Device, IsReady}
+use Rattle.lvm_disk.specs.Device.{Device, HasSectors, IsReady}
 use Rattle.lvm_disk.specs.Paths.{Path}
 use Rattle.lvm_disk.specs.Steps.{BothTold, Cuts, EndsDone, EndsFailed, Waits}
 use Rattle.lvm_session.specs.Sound.{IsLit}
@@ -20,10 +20,11 @@ pub data EndStep (old new : Device) : Type 0 where
 abbrev pub TransfersEnd : Device → Device → Type 0
 TransfersEnd old new = Path EndStep (λ device. Unit {0}) old new
 
--- all of them have, and the shelf is at rest
+-- all of them have, and the shelf is at rest, with whole sectors
 pub record Quiesces (old new : Device) : Type 0 where
   pub ends : TransfersEnd old new
   pub ready : IsReady new
+  pub whole : HasSectors new
 
 -- the power was cut while one was out
 pub record IsCutEnding (old new : Device) : Type 0 where

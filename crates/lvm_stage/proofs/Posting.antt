@@ -1,11 +1,12 @@
 -- Posts over what happens between two lines.
-use Rattle.std.proofs.Common.{◌≡◌, ◌≤◌, ◌<◌, ◌+◌, ◌-◌, ◌*◌, ◌∷◌, ◌++◌, [], ℕ, zero, suc, List, Bool, true, false, not, ◌&&◌, ◌||◌, ◌==◌, Option, Some, None, IfSome, is_some, length, map, get_or, refl, sym, ◌∙◌, ap, subst, arith}
+use Rattle.std.proofs.Common.{◌≡◌, ◌≤◌, ◌<◌, ◌+◌, ◌-◌, ◌*◌, ◌∷◌, ◌++◌, [], ℕ, zero, suc, List, Bool, true, false, not, ◌&&◌, ◌||◌, ◌==◌, Option, Some, None, IfSome, is_some, inl, inr, cond, count_by, length, map, get_or, refl, sym, ◌∙◌, ap, subst, arith}
 use Rattle.std.specs.Prelude.{All, AllPairs, IsSomeAnd}
 use Rattle.std.specs.List.{list_any, AllByRecursion}
-use Rattle.std.proofs.lemmas.Bool.{eqb-true}
+use Rattle.std.proofs.lemmas.Bool.{eq-eqb, eqb-true}
 use Rattle.std.proofs.lemmas.List.{get_or-map, length-map}
 use Rattle.std.proofs.lemmas.List.Sums.{sum_by-cons}
-use Rattle.lvm_vol.specs.Facts.{Fact, Request, Making, Made, Split, Removing, Removed, Begun, Landed, Taken, Cut, On, begun}
+use Rattle.lvm_vol.specs.Facts.{Fact, Request, Making, Made, Split, Removing, Removed, Begun, Landed, Taken, Cut, On, Stands, begun}
+use Rattle.lvm_vol.specs.Legal.{begins_in}
 use Rattle.lvm_vol.specs.Log.{asked, is_answered, lands_id, need, needed, request_of, takes_id}
 use Rattle.lvm_vol.specs.Order.{Ordered}
 use Rattle.lvm_vol.proofs.Asking.{and_left, and_right, found_of}
@@ -111,6 +112,51 @@ table_began facts (o ∷ os) id all some = by (is_asked 1 id o) refl (table_bega
     by true is rest some = subst (λ (n : ℕ). is_some (asked facts n) ≡ true) (eqb-true o.request.id id (and_right (o.request.client == 1) (o.request.id == id) is)) (ap (λ (r : Option Request). is_some r) all.0.told)
     by false is rest some = rest some
 
+-- a request that began has a number up to how many have
+module _ (run : ℕ) (facts : List Fact) (ordered : Ordered run [] facts) where
+  numbers : (id : ℕ) → is_some (asked facts id) ≡ true → (1 ≤ id) × (id ≤ length (begun facts))
+  numbers id some =
+      let its = found_of facts id some in
+      let at = stands-at 1 (begun facts) (request_of facts id) (numbered run facts ordered).ids (stands_begun facts (request_of facts id) its.began) in
+      let low = at.low in let high = at.high in let own = its.own in
+      (omega (arith, low, own), omega (arith, high, own))
+
+  -- what is answered began
+  pub answered_began : (id : ℕ) → is_answered facts 1 id ≡ true → is_some (asked facts id) ≡ true
+  answered_began id answered =
+      let front = and_left (is_some (asked facts id) && (request_of facts id).client == 1 && list_any (lands_id id) facts) (not (list_any (takes_id id) facts)) answered in
+      let front2 = and_left (is_some (asked facts id) && (request_of facts id).client == 1) (list_any (lands_id id) facts) front in
+      and_left (is_some (asked facts id)) ((request_of facts id).client == 1) front2
+
+  counted : (fs : List Fact) → ((r : Request) → Stands r (begun fs) → r.run ≡ run) → length (begun fs) ≤ count_by (begins_in run) fs
+  counted [] runs = omega arith
+  counted (f ∷ fs) runs = by (counted fs) f runs
+    where
+      more : (g : Fact) (n : ℕ) → count_by (begins_in run) (g ∷ fs) ≡ cond (begins_in run g) 1 0 + count_by (begins_in run) fs → length (begun fs) ≤ count_by (begins_in run) fs → length (begun fs) ≤ count_by (begins_in run) (g ∷ fs)
+      more g n all rest = omega (arith, all, rest)
+
+      all : (g : Fact) → count_by (begins_in run) (g ∷ fs) ≡ cond (begins_in run g) 1 0 + count_by (begins_in run) fs
+      all g = sum_by-cons (λ (x : Fact). cond (begins_in run x) 1 0) g fs
+
+      by : (((r : Request) → Stands r (begun fs) → r.run ≡ run) → length (begun fs) ≤ count_by (begins_in run) fs) → (g : Fact) → ((r : Request) → Stands r (begun (g ∷ fs)) → r.run ≡ run) → length (begun (g ∷ fs)) ≤ count_by (begins_in run) (g ∷ fs)
+      by rest_is (Begun r) runs =
+          let one : ◌≡◌ {A = ℕ} (cond (r.run == run) 1 0) 1 = ap (λ (b : Bool). cond b 1 0) (eq-eqb r.run run (runs r (inl refl))) in
+          let rest = rest_is (λ s there. runs s (inr there)) in
+          let sum = all (Begun r) in
+          omega (arith, one, rest, sum)
+      by rest_is (Landed r how started got) runs = more (Landed r how started got) 0 (all (Landed r how started got)) (rest_is runs)
+      by rest_is (Taken r) runs = more (Taken r) 0 (all (Taken r)) (rest_is runs)
+      by rest_is (Making lv blocks m) runs = more (Making lv blocks m) 0 (all (Making lv blocks m)) (rest_is runs)
+      by rest_is (Made lv) runs = more (Made lv) 0 (all (Made lv)) (rest_is runs)
+      by rest_is (Split from lv) runs = more (Split from lv) 0 (all (Split from lv)) (rest_is runs)
+      by rest_is (Removing vol) runs = more (Removing vol) 0 (all (Removing vol)) (rest_is runs)
+      by rest_is (Removed vol) runs = more (Removed vol) 0 (all (Removed vol)) (rest_is runs)
+      by rest_is Cut runs = more Cut 0 (all Cut) (rest_is runs)
+      by rest_is (On moment) runs = more (On moment) 0 (all (On moment)) (rest_is runs)
+
+  pub answered_numbers : (id : ℕ) → is_answered facts 1 id ≡ true → id ≤ count_by (begins_in run) facts
+  answered_numbers id answered = let low = (numbers id (answered_began id answered)).1 in let all = counted facts (numbered run facts ordered).runs in omega (arith, low, all)
+
 -- what the history tells of the requests of the session that is on
 abbrev pub IsToldOf : List Fact → Option Core → Type 0
 IsToldOf facts on = IfSome on (λ core. AllByRecursion (IsAsked facts) core.requests)
@@ -126,25 +172,13 @@ module _ (run : ℕ) (facts : List Fact) (on : Option Core) (ordered : Ordered r
       by : (o : Option (ℕ × ℕ)) → p.ended ≡ o → is_some (asked facts (p.asked.first + k)) ≡ true
       by None is = in_table on told (its.held is)
       by (Some votes) is =
-          let id = p.asked.first + k in
-          let answered = subst (λ (o : Option (ℕ × ℕ)). IfSome o (λ votes. AreAnswered facts p.asked)) is its.answered k less in
-          let front = and_left (is_some (asked facts id) && (request_of facts id).client == 1 && list_any (lands_id id) facts) (not (list_any (takes_id id) facts)) answered in
-          let front2 = and_left (is_some (asked facts id) && (request_of facts id).client == 1) (list_any (lands_id id) facts) front in
-          and_left (is_some (asked facts id)) ((request_of facts id).client == 1) front2
-
-  -- its number is that of a request that began
-  numbers : (id : ℕ) → is_some (asked facts id) ≡ true → (1 ≤ id) × (id ≤ length (begun facts))
-  numbers id some =
-      let its = found_of facts id some in
-      let at = stands-at 1 (begun facts) (request_of facts id) (numbered run facts ordered).ids (stands_begun facts (request_of facts id) its.began) in
-      let low = at.low in let high = at.high in let own = its.own in
-      (omega (arith, low, own), omega (arith, high, own))
+          answered_began run facts ordered (p.asked.first + k) (subst (λ (o : Option (ℕ × ℕ)). IfSome o (λ votes. AreAnswered facts p.asked)) is its.answered k less)
 
   starts : (p : Post) → IsPosted facts on p → 1 ≤ p.asked.first
-  starts p its = let some = its.some in let e = (numbers (p.asked.first + 0) (began p its 0 (omega (arith, some)))).0 in omega (arith, e)
+  starts p its = let some = its.some in let e = (numbers run facts ordered (p.asked.first + 0) (began p its 0 (omega (arith, some)))).0 in omega (arith, e)
 
   ends : (p : Post) → IsPosted facts on p → p.asked.first + p.asked.pieces ≤ 1 + length (begun facts)
-  ends p its = let some = its.some in let e = (numbers (p.asked.first + (p.asked.pieces - 1)) (began p its (p.asked.pieces - 1) (omega (arith, some)))).1 in omega (arith, e, some)
+  ends p its = let some = its.some in let e = (numbers run facts ordered (p.asked.first + (p.asked.pieces - 1)) (began p its (p.asked.pieces - 1) (omega (arith, some)))).1 in omega (arith, e, some)
 
   pub posts_few : (posts : List Post) → ArePosted facts on posts → length posts ≤ length (begun facts)
   posts_few posts its = let e = count 1 (1 + length (begun facts)) posts (λ k d less. starts _ (its.each k d less)) (λ k d less. (its.each k d less).some) (λ k d less. ends _ (its.each k d less)) its.rise (omega arith) in omega (arith, e)

@@ -18,6 +18,7 @@ use Rattle.lvm_stamps.specs.Behind.{IsAhead, beginning_at}
 use Rattle.lvm_stamps.specs.Laws.{LeavesBefore}
 use Rattle.lvm_stamps.proofs.Shelves.{left_is_before}
 use Rattle.lvm_session.specs.declared.open.Open.{Open}
+use Rattle.lvm_session.specs.declared.origin.Origin.{Origin}
 use Rattle.lvm_session.specs.declared.open.Power.{Power}
 use Rattle.lvm_session.specs.declared.open.Power.TheVariants as power
 use Rattle.lvm_session.specs.Causes.{is_over}
