@@ -1,6 +1,6 @@
 -- What a line leaves that has run the session of a group with volumes.
 use Rattle.std.proofs.Common.{◌≡◌, ◌≢◌, ◌<◌, ◌≤◌, ◌+◌, ◌^◌, ℕ, true, List, [], Option, Some, None, length, map, refl, sym, ◌∙◌, ap, subst, arith}
-use Rattle.std.specs.Prelude.{Vec}
+use Rattle.std.specs.Global.{Vec}
 use Rattle.std.proofs.lemmas.List.{length-map}
 use Rattle.lvm_num.specs.declared.descriptor.Descriptor.{Descriptor}
 use Rattle.lvm_num.specs.Votes.{total_votes}
@@ -37,7 +37,7 @@ use Rattle.lvm_range_lines.specs.Leaving.{GoesOnWith, IsOverWith, Leaves, Leaves
 carried_leaves_by : {S : Type 0} (device : S → Device) (end : S × Core) (posts : Vec Post) (bytes : Vec ℕ) (p : Power) (stage : Stage S) (last : ℕ) → end.1.power ≡ p → IsCarried device end posts bytes p stage
     → LeavesBy p (state_of device end) posts.items last (state_in device stage last)
 ended_is_over : {S : Type 0} (device : S → Device) (end : S × Core) (posts : List Post) (stage : Stage S) (last : ℕ) → IsEnded device end posts stage → IsOverWith (state_of device end) posts last (state_in device stage last)
-ended_is_over device end posts stage last ended = record { shelf = ended.shelf; facts = ap (λ (log : Log). log.facts) ended.history; session = ended.session; posts = ended.posts; clock = refl }
+ended_is_over device end posts stage last ended = record { shelf = ended.shelf; facts = ap (λ (log : Log). log.facts) ended.history; session = ended.session; posted = ended.posted; clock = refl }
 
 carried_leaves_by device end posts bytes power.On stage last is carried = ap (λ (s : Stage _). state_in device s last) carried
 carried_leaves_by device end posts bytes power.Off stage last is carried = ended_is_over device end posts.items stage last carried
@@ -118,13 +118,13 @@ module _ {S : Type 0} (device : S → Device) (first : S × Core) (posts : Vec P
 
         posted_then : (IsStuck answer → ⊥) → ArePosted (history_in stage).facts None stage.posts.items
         posted_then heard =
-            subst (λ ps. ArePosted (history_in stage).facts None ps) (sym ended.posts) (subst (λ fs. ArePosted fs None (posts_ended (Some end.1) posts1.items)) (sym facts_are)
+            subst (λ ps. ArePosted (history_in stage).facts None ps) (sym ended.posted) (subst (λ fs. ArePosted fs None (posts_ended (Some end.1) posts1.items)) (sym facts_are)
             (end_posts end.1.history.facts end.1.history.facts (λ range answered. answered) end.1 (votes_there end.1) (total_votes end.1.descriptor)
             (λ range some held. over_answered (state_of device end) range to.sound (over heard) held) posts1.items (posted heard)))
 
         few_then : most_refusals answer + length stage.posts.items ≤ length posts.items + 1
         few_then =
-            let same = ap (λ (ps : List Post). length ps) ended.posts in
+            let same = ap (λ (ps : List Post). length ps) ended.posted in
             let long = length-map posts1.items (ended_with (votes_there end.1) (total_votes end.1.descriptor)) in
             omega (arith, few, same, long)
 

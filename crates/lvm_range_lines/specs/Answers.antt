@@ -1,5 +1,6 @@
 -- The lines of posts, while they are gathered.
-use Rattle.std.specs.Prelude.{◌≡◌, ◌++◌, ℕ, List, Option, IfSome, codes}
+use Rattle.std.specs.Prelude.{◌≡◌, ◌++◌, ℕ, List, Option, IfSome, String, codes}
+use Rattle.std.specs.Global.{Global}
 use Rattle.std.specs.String.{string_bytes}
 use Rattle.lvm_stage.specs.declared.reply.Refusal.TheVariants as refusal
 use Rattle.lvm_stage.specs.declared.reply.Reply.{Reply}
@@ -8,7 +9,7 @@ use Rattle.lvm_range_lines.specs.declared.answers.Answers.{Answers}
 use Rattle.lvm_range_lines.specs.Refusals.{Ending, answers_text, refusals_in}
 
 -- these lines, unless no memory was found
-abbrev pub IsOf : List Ending → Option String → Type 0
+abbrev pub IsOf : List Ending → Option (String Global) → Type 0
 IsOf endings text = IfSome text (λ t. string_bytes t ≡ answers_text endings)
 
 -- and as many refusals

@@ -1,5 +1,6 @@
 -- What turns and calls of a session leave between two lines.
-use Rattle.std.specs.Prelude.{◌≡◌, ◌-◌, ℕ, List, Option, Some, None, Result, Ok, Err, Vec}
+use Rattle.std.specs.Prelude.{◌≡◌, ◌-◌, ℕ, List, Option, Some, None, Result, Ok, Err}
+use Rattle.std.specs.Global.{Vec}
 use Rattle.lvm_disk.specs.Counts.{RoseBy}
 use Rattle.lvm_disk.specs.Device.{Device}
 use Rattle.lvm_session.specs.declared.open.Power.{Power}
@@ -29,7 +30,7 @@ pub record IsOverWith (end : Session) (posts : List Post) (last : ℕ) (new : St
   pub shelf : IsClosed end.core.power end.device new.moment.device
   pub facts : new.moment.facts ≡ end.core.history.facts
   pub session : new.session ≡ None
-  pub posts : new.posts ≡ posts_ended (Some end.core) posts
+  pub posted : new.posts ≡ posts_ended (Some end.core) posts
   pub clock : new.last ≡ last
 
 -- It goes on where it is on, and is closed where it is over.

@@ -1,5 +1,6 @@
 -- The answers of posts, while they are taken.
-use Rattle.std.specs.Prelude.{◌≡◌, ◌≤◌, ◌<◌, ℕ, false, [], List, Option, Some, None, Result, Ok, Err, Vec, length}
+use Rattle.std.specs.Prelude.{◌≡◌, ◌≤◌, ◌<◌, ℕ, false, [], List, Option, Some, None, Result, Ok, Err, length}
+use Rattle.std.specs.Global.{Vec}
 use Rattle.lvm_disk.specs.Device.{Device}
 use Rattle.lvm_disk.specs.Paths.{Path}
 use Rattle.lvm_vol.specs.Facts.{Fact}
