@@ -1,12 +1,14 @@
 -- Posts over what turns and calls of a session do.
-use Rattle.std.proofs.Common.{◌≡◌, inl, inr, ◌<◌, ◌≤◌, ◌+◌, ◌-◌, ◌++◌, ◌==◌, ◌&&◌, ℕ, zero, suc, true, false, not, List, [], ◌∷◌, Option, Some, None, IfSome, is_some, length, get_or, refl, sym, ◌∙◌, ap, subst, arith}
+use Rattle.std.proofs.Common.{◌≡◌, inl, inr, ◌<◌, ◌≤◌, ◌+◌, ◌-◌, ◌++◌, ◌==◌, ◌&&◌, ◌||◌, ℕ, Bool, zero, suc, true, false, not, List, [], ◌∷◌, Option, Some, None, IfSome, is_some, length, get_or, refl, sym, ◌∙◌, ap, subst, arith}
 use Rattle.std.specs.Prelude.{All, AllPairs, IsSomeAnd}
-use Rattle.std.specs.List.{list_any}
-use Rattle.lvm_vol.specs.Facts.{Fact}
+use Rattle.std.specs.List.{list_any, AllByRecursion}
+use Rattle.std.proofs.lemmas.Bool.{eqb-true}
+use Rattle.lvm_vol.specs.Facts.{Fact, Request}
 use Rattle.lvm_vol.specs.Log.{asked as told, is_answered, lands_id, request_of, takes_id}
-use Rattle.lvm_vol.specs.Order.{Ordered}
-use Rattle.lvm_vol.proofs.Asking.{and_left}
+use Rattle.lvm_vol.proofs.Asking.{and_left, and_right}
 use Rattle.lvm_session.specs.Calls.{is_asked}
+use Rattle.lvm_session.specs.declared.open.Open.{Open}
+use Rattle.lvm_session.specs.Sound.{IsAsked}
 use Rattle.lvm_session.specs.State.{Core}
 use Rattle.lvm_earlier.specs.Earlier.{AreGone}
 use Rattle.lvm_posts.specs.declared.asked.Asked.{Asked}
@@ -15,7 +17,6 @@ use Rattle.lvm_posts.specs.Posts.{AreAnswered, AreHeld}
 use Rattle.lvm_ranges.specs.Asking.{IsAskedFor}
 use Rattle.lvm_ranges.specs.Keeping.{AreApart, KeepsEarlier, KeepsOthers, KeepsTable}
 use Rattle.lvm_stage.specs.State.{ArePosted, IsPosted}
-use Rattle.lvm_stage.proofs.Posting.{IsToldOf, began}
 use Rattle.lvm_range_lines.specs.Leaving.{KeepsPosts}
 use Rattle.lvm_range_lines.specs.Requests.{post_of}
 use Rattle.lvm_range_lines.specs.Taking.{LeavesOthers}
@@ -51,7 +52,7 @@ told_of facts id answered =
 
 pub earlier_posts : (old new : Core) → KeepsEarlier old new → KeepsPosts old new
 earlier_posts old new keeps posts its = record {
-  each = λ k d less. post_on old new _ (λ held. keeps.held _ held) (λ answered j low. keeps.answered 1 _ (answered j low)) (λ answered gone j low. keeps.asked 1 _ (told_of old.history.facts _ (answered j low)) ∙ gone j low) (its.each k d less);
+  each = λ k d less. post_on old new (get_or posts k d) (λ held. keeps.held (get_or posts k d).asked held) (λ answered j low. keeps.answered 1 _ (answered j low)) (λ answered gone j low. keeps.asked 1 _ (told_of old.history.facts _ (answered j low)) ∙ gone j low) (its.each k d less);
   rise = its.rise;
 }
 
@@ -64,12 +65,29 @@ same_posts old new same posts its = subst (λ (core : Core). ArePosted core.hist
 abbrev pub BehindAll : Asked → List Post → Type 0
 BehindAll asked posts = All (λ p. p.asked.first + p.asked.pieces ≤ asked.first) posts
 
-pub asked_behind : (run : ℕ) (old : Core) (write : Option ℕ) (count : ℕ) (new : Core) (asked : Asked) (posts : List Post) → Ordered run [] old.history.facts → IsToldOf old.history.facts (Some old)
+-- a request of the table was asked for
+table_told : (facts : List Fact) (os : List Open) (id : ℕ) → AllByRecursion (IsAsked facts) os → list_any (is_asked 1 id) os ≡ true → is_some (told facts id) ≡ true
+table_told facts [] id all some = absurd (cc some)
+table_told facts (o ∷ os) id all some = by (is_asked 1 id o) refl (table_told facts os id all.1) some
+  where
+    by : (b : Bool) → is_asked 1 id o ≡ b → (list_any (is_asked 1 id) os ≡ true → is_some (told facts id) ≡ true) → b || list_any (is_asked 1 id) os ≡ true → is_some (told facts id) ≡ true
+    by true is rest some = subst (λ n. is_some (told facts n) ≡ true) (eqb-true o.request.id id (and_right (o.request.client == 1) (o.request.id == id) is)) (ap (λ (r : Option Request). is_some r) all.0.told)
+    by false is rest some = rest some
+
+-- so was each piece of a post
+post_told : (core : Core) (p : Post) → AllByRecursion (IsAsked core.history.facts) core.requests → IsPosted core.history.facts (Some core) p → (k : ℕ) → k < p.asked.pieces → is_some (told core.history.facts (p.asked.first + k)) ≡ true
+post_told core p tells its k less = by p.ended refl
+  where
+    by : (o : Option (ℕ × ℕ)) → p.ended ≡ o → is_some (told core.history.facts (p.asked.first + k)) ≡ true
+    by None is = table_told core.history.facts core.requests (p.asked.first + k) tells (its.held is k less)
+    by (Some votes) is = told_of core.history.facts (p.asked.first + k) (subst (λ (o : Option (ℕ × ℕ)). IfSome o (λ v. AreAnswered core.history.facts p.asked)) is its.answered k less)
+
+pub asked_behind : (old : Core) (write : Option ℕ) (count : ℕ) (new : Core) (asked : Asked) (posts : List Post) → AllByRecursion (IsAsked old.history.facts) old.requests
     → ArePosted old.history.facts (Some old) posts → IsAskedFor write count old new asked → BehindAll asked posts
-asked_behind run old write count new asked posts ordered tells its asks k d less =
-    let p = its.each k d less in
-    let some = p.some in
-    let last = asks.behind _ (began run old.history.facts (Some old) ordered tells (get_or posts k d) p ((get_or posts k d).asked.pieces - 1) (omega (arith, some))) in
+asked_behind old write count new asked posts tells its asks k d less =
+    let p = get_or posts k d in
+    let some = (its.each k d less).some in
+    let last = asks.behind (p.asked.first + (p.asked.pieces - 1)) (post_told old p tells (its.each k d less) (p.asked.pieces - 1) (omega (arith, some))) in
     omega (arith, some, last)
 
 module _ (core : Core) (posts : List Post) (asked : Asked) (its : ArePosted core.history.facts (Some core) posts) (behind : BehindAll asked posts) where
@@ -104,7 +122,7 @@ module _ (core : Core) (posts : List Post) (asked : Asked) (its : ArePosted core
   -- they stay what they are while its answers are taken
   pub others_posted : (new : Core) → KeepsOthers asked core new → ArePosted new.history.facts (Some new) posts
   others_posted new keeps = record {
-    each = λ k d less. post_on core new (get_or posts k d) (λ held. keeps.held _ (inr (behind k d less)) held) (λ answered. keeps.answered _ (inr (behind k d less)) answered) (λ answered gone j low. keeps.none 1 _ (gone j low)) (its.each k d less);
+    each = λ k d less. post_on core new (get_or posts k d) (λ held. keeps.held (get_or posts k d).asked (inr (behind k d less)) held) (λ answered. keeps.answered (get_or posts k d).asked (inr (behind k d less)) answered) (λ answered gone j low. keeps.none 1 _ (gone j low)) (its.each k d less);
     rise = its.rise;
   }
 
@@ -115,7 +133,7 @@ pub rest_posted : (old new : Core) (p : Post) (posts : List Post) → LeavesOthe
 rest_posted old new p posts leaves its = record {
   each = λ k d less.
       let before = its.rise 0 (suc k) d (omega arith) (omega (arith, less)) in
-      post_on old new (get_or posts k d) (leaves.held _ (inl before)) (leaves.answered _ (inl before)) (λ answered. leaves.gone _) (its.each (suc k) d (omega (arith, less)));
+      post_on old new (get_or posts k d) (leaves.held (get_or posts k d).asked (inl before)) (leaves.answered (get_or posts k d).asked (inl before)) (λ answered. leaves.gone (get_or posts k d).asked) (its.each (suc k) d (omega (arith, less)));
   rise = λ i j d before less. its.rise (suc i) (suc j) d (omega (arith, before)) (omega (arith, less));
 }
 

@@ -1,5 +1,5 @@
 -- What turns and calls of a session leave between two lines.
-use Rattle.std.specs.Prelude.{◌≡◌, ◌-◌, ℕ, List, Option, Some, None, Result, Ok, Err}
+use Rattle.std.specs.Prelude.{◌≡◌, ◌-◌, ℕ, Bool, true, false, List, Option, Some, None, Result, Ok, Err}
 use Rattle.std.specs.Global.{Vec}
 use Rattle.lvm_disk.specs.Counts.{RoseBy}
 use Rattle.lvm_disk.specs.Device.{Device}
@@ -7,13 +7,13 @@ use Rattle.lvm_session.specs.declared.open.Power.{Power}
 use Rattle.lvm_session.specs.declared.open.Power.TheVariants as power
 use Rattle.lvm_session.specs.State.{Core, State as Session, state}
 use Rattle.lvm_posts.specs.declared.fault.RangeFault.{RangeFault}
-use Rattle.lvm_posts.specs.declared.fault.RangeFault.TheVariants as fault
 use Rattle.lvm_posts.specs.declared.posts.Post.{Post}
 use Rattle.lvm_stage.specs.declared.holder.Holder.TheVariants as holder
 use Rattle.lvm_stage.specs.declared.stage.Stage.{Stage}
 use Rattle.lvm_stage.specs.Ends.{patience_of_line}
 use Rattle.lvm_stage.specs.Stages.{IsCarried, IsClosed, IsEnded, posts_ended}
 use Rattle.lvm_stage.specs.State.{ArePosted, State}
+use Rattle.lvm_range_lines.specs.Refusals.{is_stuck}
 
 -- ---- states
 
@@ -43,10 +43,18 @@ LeavesBy power.Stuck end posts last new = IsOverWith end posts last new
 abbrev pub Leaves : Session → List Post → ℕ → State → Type 0
 Leaves end posts last new = LeavesBy end.core.power end posts last new
 
--- so it does behind a range that was waited for; one that is stuck is closed
+-- so it does behind a range that failed; one that is stuck is closed
+abbrev pub FailsIf : Bool → Session → List Post → ℕ → State → Type 0
+FailsIf true end posts last new = IsOverWith end posts last new
+FailsIf false end posts last new = Leaves end posts last new
+
+abbrev pub FailsBy : RangeFault → Session → List Post → ℕ → State → Type 0
+FailsBy why end posts last new = FailsIf (is_stuck why) end posts last new
+
+-- and behind one that was waited for
 abbrev pub EndsBy : {A : Type 0} → Result A RangeFault → Session → List Post → ℕ → State → Type 0
-EndsBy (Err fault.Stuck) end posts last new = IsOverWith end posts last new
-EndsBy other end posts last new = Leaves end posts last new
+EndsBy (Ok done) end posts last new = Leaves end posts last new
+EndsBy (Err why) end posts last new = FailsBy why end posts last new
 
 -- the patience of a line went with answers that nothing had ended, and so much of it is left
 abbrev pub Waited : ℕ → Session → Session → Type 0
@@ -62,10 +70,18 @@ serving driver posts bytes = record { holder = holder.Serving driver; posts = po
 abbrev pub resting : {S : Type 0} → S × Core → Vec Post → Vec ℕ → Stage S
 resting driver posts bytes = record { holder = holder.Empty driver; posts = posts; bytes = bytes }
 
--- what stands behind a range that was waited for
+-- what stands behind a range that failed
+abbrev pub StageFailsIf : {S : Type 0} → Bool → (S → Device) → S × Core → Vec Post → Vec ℕ → Stage S → Type 0
+StageFailsIf true device driver posts bytes stage = IsEnded device driver posts.items stage
+StageFailsIf false device driver posts bytes stage = IsCarried device driver posts bytes driver.1.power stage
+
+abbrev pub StageFails : {S : Type 0} → RangeFault → (S → Device) → S × Core → Vec Post → Vec ℕ → Stage S → Type 0
+StageFails why device driver posts bytes stage = StageFailsIf (is_stuck why) device driver posts bytes stage
+
+-- and behind one that was waited for
 abbrev pub StageEndsBy : {S A : Type 0} → Result A RangeFault → (S → Device) → S × Core → Vec Post → Vec ℕ → Stage S → Type 0
-StageEndsBy (Err fault.Stuck) device driver posts bytes stage = IsEnded device driver posts.items stage
-StageEndsBy other device driver posts bytes stage = IsCarried device driver posts bytes driver.1.power stage
+StageEndsBy (Ok done) device driver posts bytes stage = IsCarried device driver posts bytes driver.1.power stage
+StageEndsBy (Err why) device driver posts bytes stage = StageFails why device driver posts bytes stage
 
 -- posts stay what they are
 abbrev pub KeepsPosts : Core → Core → Type 0

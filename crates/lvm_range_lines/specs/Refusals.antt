@@ -1,5 +1,5 @@
 -- Faults of ranges, as refusals and replies.
-use Rattle.std.specs.Prelude.{ℕ, ◌+◌, List, [], ◌∷◌, ◌++◌, codes, Result, Ok, Err}
+use Rattle.std.specs.Prelude.{ℕ, ◌+◌, Bool, true, false, List, [], ◌∷◌, ◌++◌, codes, Result, Ok, Err}
 use Rattle.lvm_num.specs.Buffer.{Sector}
 use Rattle.lvm_replies.specs.Blocks.{block_text}
 use Rattle.lvm_posts.specs.declared.fault.RangeFault.{RangeFault}
@@ -27,6 +27,15 @@ range_refusal (fault.WentOff have total) = refusal.WentOff have total
 range_refusal fault.Lost = refusal.Lost
 range_refusal fault.ReadFailed = refusal.ReadFailed
 range_refusal (fault.NoFresh lp) = refusal.NoFresh lp
+
+-- nothing was heard of its transfers
+abbrev pub is_stuck : RangeFault → Bool
+is_stuck fault.Dark = false
+is_stuck fault.Stuck = true
+is_stuck (fault.WentOff have total) = false
+is_stuck fault.Lost = false
+is_stuck fault.ReadFailed = false
+is_stuck (fault.NoFresh lp) = false
 
 -- ---- texts
 

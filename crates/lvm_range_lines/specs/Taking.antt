@@ -52,7 +52,7 @@ pub record AwaitsPosts (posts : List Post) (left : ℕ) (old new : Session) (ans
 
 -- what has landed has, and what is later stays so
 pub record KeepsLater (old new : List Fact) : Type 0 where
-  pub open : (id : ℕ) → is_open new id ≡ is_open old id
+  pub opens : (id : ℕ) → is_open new id ≡ is_open old id
   pub later : (moment : ℕ) → IsLater old moment → IsLater new moment
 
 -- the answers of the posts were taken by the history, and their lines gathered

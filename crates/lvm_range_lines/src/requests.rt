@@ -12,12 +12,13 @@ ghost use Rattle.lvm_ranges.specs.Reading.{HasEndedWell, IsRead};
 ghost use Rattle.lvm_running.specs.Running.{RunsOn};
 ghost use Rattle.lvm_stage.specs.Ends.{EndsUnasked};
 ghost use Rattle.lvm_stage.specs.Moments.{OfRequests};
+ghost use Rattle.lvm_stage.specs.Replies.{Shows};
 ghost use Rattle.lvm_stage.specs.Stages.{HaveRooms, IsBetweenStage, IsFitting};
-ghost use Rattle.lvm_range_lines.specs.Leaving.{KeepsPosts, StageEndsBy, Waited, serving};
+ghost use Rattle.lvm_range_lines.specs.Leaving.{KeepsPosts, StageEndsBy, StageFails, Waited, serving};
 ghost use Rattle.lvm_range_lines.specs.Requests.{AsksByName, PostDoes, RdDoes, ShowsBlocks, WrDoes};
-ghost use Rattle.lvm_range_lines.specs.Refusals.{blocks_text, ending_of, reply_of};
+ghost use Rattle.lvm_range_lines.specs.Refusals.{blocks_text, ending_of, range_refusal, reply_of};
 
-use crate::refusal::{ask_refusal, range_refusal};
+use crate::refusal::{ask_refusal, is_stuck, range_refusal};
 use lvm_disk::Shelf;
 use lvm_driver::Driver;
 use lvm_num::{Memory, Name, Text};
@@ -145,6 +146,24 @@ fn is_sound<S: Shelf>(driver: &Driver<S>)
     let _ = driver.power();
 }
 
+// The stage and the reply after a range failed.
+fn failed<S: Shelf>(
+    driver: Driver<S>,
+    posts: Vec<Post>,
+    bytes: Vec<u8>,
+    why: RangeFault,
+) -> Answered<S>
+    ensures stage { StageFails why S.device driver posts bytes result.stage }
+    ensures reply { result.reply ≡ Reply.Refused (range_refusal why) }
+    ensures rooms { (entries : ℕ) → HaveRooms entries posts bytes → HaveRooms entries result.stage.posts result.stage.bytes }
+{
+    if is_stuck(why) {
+        Stage::ended(driver, posts, bytes).refused(range_refusal(why))
+    } else {
+        Stage::carried(driver, posts, bytes).refused(range_refusal(why))
+    }
+}
+
 // The stage and the reply after a range was waited for.
 fn finished<S: Shelf>(
     driver: Driver<S>,
@@ -160,8 +179,7 @@ fn finished<S: Shelf>(
     is_sound(&driver);
     match done {
         Ok(reply) => Stage::carried(driver, posts, bytes).answered(reply),
-        Err(RangeFault::Stuck) => Stage::ended(driver, posts, bytes).refused(Refusal::Stuck),
-        Err(why) => Stage::carried(driver, posts, bytes).refused(range_refusal(why)),
+        Err(why) => failed(driver, posts, bytes, why),
     }
 }
 
@@ -259,6 +277,17 @@ fn blocks_text(alloc: Global, at: u64, blocks: &[[u8; 512]]) -> Result<Text, Mem
     Ok(Text::new(text))
 }
 
+// The lines of blocks, if there is memory for them.
+fn lines_reply(alloc: Global, at: u64, blocks: &[[u8; 512]]) -> Reply
+    requires { at + length blocks.now < 2 ^ 64 }
+    ensures { Shows (blocks_text at blocks.now) result }
+{
+    match blocks_text(alloc, at, blocks) {
+        Ok(text) => Reply::Lines(text),
+        Err(Memory) => Reply::Refused(Refusal::Memory),
+    }
+}
+
 // The blocks that were read, if there is memory for them and their lines.
 fn blocks_reply<S: Shelf>(alloc: Global, driver: &Driver<S>, asked: &Asked, count: u32) -> Reply
     requires read { IsRead driver.now.1.history.facts asked.now count }
@@ -266,12 +295,8 @@ fn blocks_reply<S: Shelf>(alloc: Global, driver: &Driver<S>, asked: &Asked, coun
     requires laid { IsLaidOut asked.now }
     ensures { ShowsBlocks asked.now.at (state_of S.device driver.now) asked.now result }
 {
-    let lines = match read_blocks(alloc, driver.history(), asked, count) {
-        Ok(blocks) => blocks_text(alloc, asked.at, blocks.as_slice()),
-        Err(Memory) => Err(Memory),
-    };
-    match lines {
-        Ok(text) => Reply::Lines(text),
+    match read_blocks(alloc, driver.history(), asked, count) {
+        Ok(blocks) => lines_reply(alloc, asked.at, blocks.as_slice()),
         Err(Memory) => Reply::Refused(Refusal::Memory),
     }
 }
