@@ -6,3 +6,4 @@ pub mod Holding
 pub mod Naming
 pub mod Lines
 pub mod Refusing
+pub mod Adding

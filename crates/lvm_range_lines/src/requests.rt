@@ -94,6 +94,7 @@ fn post_on<S: Shelf>(
     let mut bytes = bytes;
     match ask(&mut driver, name, at, count, Some(word), &mut bytes) {
         Ok(asked) => {
+            is_sound(&driver);
             add(&mut posts, Post { asked, ended: None });
             Stage::carried(driver, posts, bytes).answered(Reply::Posted)
         }

@@ -14,8 +14,8 @@ returns-in-Off g c =
 
 pub returns-in-Empty : goal.returns-in-Empty
 returns-in-Empty g c =
-    refused_as g.S.Shelf.device (λ log. WrDoes c.args.name c.args.at c.args.count c.args.word) c.args.stage c.requires.fits c.requires.between (holder.Empty c.in-Empty.driver) c.in-Empty.is c.refused.result.stage c.refused.result.reply c.refused.ensures.stage
-    refusal.NoVolume c.refused.ensures.reply (λ last refused. NotThere c.in-Empty.driver.1 (ap session_of c.in-Empty.is) (none_named c.in-Empty.driver.1.descriptor.lvs c.args.name (subst IsOfKind c.in-Empty.is c.requires.fits.kind)) refused)
+    refused_as g.S.Shelf.device (λ log. WrDoes c.args.name c.args.at c.args.count c.args.word) c.args.stage c.requires.fits c.requires.between (holder.Empty c.in-Empty.driver) c.in-Empty.is c.refused-in-Empty.result.stage c.refused-in-Empty.result.reply c.refused-in-Empty.ensures.stage
+    refusal.NoVolume c.refused-in-Empty.ensures.reply (λ last refused. NotThere c.in-Empty.driver.1 (ap session_of c.in-Empty.is) (none_named c.in-Empty.driver.1.descriptor.lvs c.args.name (subst IsOfKind c.in-Empty.is c.requires.fits.kind)) refused)
 
 pub wr_on-requires-clause-fits : goal.wr_on-requires-clause-fits
 wr_on-requires-clause-fits g c = fits_now g.S.Shelf.device (λ log. WrDoes c.args.name c.args.at c.args.count c.args.word) c.args.stage c.requires.fits c.requires.between (holder.Serving c.in-Serving.driver) c.in-Serving.is
