@@ -7,3 +7,5 @@ pub mod Naming
 pub mod Lines
 pub mod Refusing
 pub mod Adding
+pub mod Takings
+pub mod Awaiting

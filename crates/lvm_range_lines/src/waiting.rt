@@ -70,7 +70,10 @@ fn await_posts<S: Shelf>(
     ensures waited { RoseBy (patience.old.left - patience.new.left) (S.device driver.old.0).counts.waits (S.device driver.new.0).counts.waits }
 {
     for post in posts {
-        await_post(driver, post, patience)?;
+        match await_post(driver, post, patience) {
+            Ok(()) => {}
+            Err(why) => return Err(why),
+        }
     }
     Ok(())
 }
@@ -108,6 +111,8 @@ fn take_one_at_rest<S: Shelf>(
     ensures left { LeavesOthers post.now.asked driver.1 result.0.1 }
     ensures runs { RunsOn (state_of S.device driver) (state_of S.device result.0) }
     ensures sound { IsSound (state_of S.device result.0) }
+    ensures on { result.0.1.power ≡ power.On }
+    ensures none { result.0.1.requests ≡ [] }
 {
     let (have, total) = post.ended.unwrap_or((0, 0));
     take_earlier_at_rest(driver, &post.asked, have, total)
@@ -126,6 +131,7 @@ fn take_at_rest<S: Shelf>(
     requires few { length posts.now < 2 ^ 32 }
     ensures takes { GathersPosts (state_of S.device driver) posts.now (state_of S.device result.0) result.1 }
     ensures runs { RunsOn (state_of S.device driver) (state_of S.device result.0) }
+    ensures on { result.0.1.power ≡ power.On }
     ensures sound { IsSound (state_of S.device result.0) }
 {
     let mut driver = driver;
