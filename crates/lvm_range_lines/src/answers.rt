@@ -2,7 +2,7 @@
 ghost use Rattle.std.specs.Prelude.{◌≡◌, ◌+◌, ◌-◌, ◌++◌, ◌∷◌, ◌<◌, ◌^◌, [], List, OnOk};
 ghost use Rattle.std.specs.String.{string_bytes};
 ghost use Rattle.lvm_range_lines.specs.Answers.{Gathers, IsOf, Tells};
-ghost use Rattle.lvm_range_lines.specs.Refusals.{Ending, answer_text, refusal_in};
+ghost use Rattle.lvm_range_lines.specs.Refusals.{Ending, answer_text, refusal_in, refusals_in};
 
 use crate::refusal::range_refusal;
 use lvm_num::Text;
@@ -51,6 +51,22 @@ fn with_line(text: Option<String>, answer: Result<(), RangeFault>) -> Option<Str
     }
 }
 
+// The lines and `ok`, if there is memory for them.
+fn finish(text: Option<String>, refused: u32) -> Reply
+    ensures { (endings : List Ending) → IsOf endings text → refused ≡ refusals_in endings → Tells endings result }
+{
+    match text {
+        None => Reply::Refused(Refusal::Memory),
+        Some(mut text) => match push_answer(&mut text, Ok(())) {
+            Ok(()) => Reply::Answers {
+                text: Text::new(text),
+                refused,
+            },
+            Err(_) => Reply::Refused(Refusal::Memory),
+        },
+    }
+}
+
 impl Answers {
     /// No line yet.
     pub fn new(alloc: Global) -> Answers
@@ -77,16 +93,6 @@ impl Answers {
     pub fn reply(self) -> Reply
         ensures { (endings : List Ending) → Gathers endings self → Tells endings result }
     {
-        let refused = self.refused;
-        match self.text {
-            None => Reply::Refused(Refusal::Memory),
-            Some(mut text) => match text.push_str("ok\n") {
-                Ok(()) => Reply::Answers {
-                    text: Text::new(text),
-                    refused,
-                },
-                Err(_) => Reply::Refused(Refusal::Memory),
-            },
-        }
+        finish(self.text, self.refused)
     }
 }
