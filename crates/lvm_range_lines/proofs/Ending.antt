@@ -59,12 +59,12 @@ carried_leaves device end posts bytes stage last carried = carried_leaves_by dev
 -- ---- what fits
 
 -- where no session is on nothing is asked of its kind
-off_kind : {S : Type 0} (h : Holder S) → session_of h ≡ None → IsOfKind h
+pub off_kind : {S : Type 0} (h : Holder S) → session_of h ≡ None → IsOfKind h
 off_kind (holder.Off shelf history) none = tt
 off_kind (holder.Empty driver) none = absurd (cc none)
 off_kind (holder.Serving driver) none = absurd (cc none)
 
-closed_orders : (p : Power) (old new : Device) → IsClosed p old new → new.orders ≡ old.orders
+pub closed_orders : (p : Power) (old new : Device) → IsClosed p old new → new.orders ≡ old.orders
 closed_orders power.On old new is = ap (λ (d : Device). d.orders) is
 closed_orders power.Off old new is = ap (λ (d : Device). d.orders) is
 closed_orders power.Dark old new is = ap (λ (d : Device). d.orders) is
@@ -85,7 +85,7 @@ module _ {S : Type 0} (device : S → Device) (first : S × Core) (posts : Vec P
   on_first = between.session
 
   module _ (end : S × Core) (to : RunsTo device first end) where
-    its : (last : ℕ) → IsRun OfRequests (state_in device old last) first.1 (state_of device end)
+    pub its : (last : ℕ) → IsRun OfRequests (state_in device old last) first.1 (state_of device end)
     its last = record { alone = λ new alone. alone.acts tt; session = refl; facts = refl; volumes = fits.kind; between = between; leaves = to.runs.leaves; sound = to.sound }
 
     pub unstuck : end.1.power ≡ power.Stuck → ⊥

@@ -9,3 +9,7 @@ pub mod Refusing
 pub mod Adding
 pub mod Takings
 pub mod Awaiting
+pub mod Behind
+pub mod Landed
+pub mod Waits
+pub mod Resting

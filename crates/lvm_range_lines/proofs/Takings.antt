@@ -9,7 +9,7 @@ use Rattle.lvm_vol.specs.Log.{Log, is_answered, request_of, taken_fact}
 use Rattle.lvm_vol.proofs.Asking.{follows_taken}
 use Rattle.lvm_history.proofs.Staying.{answered_stays}
 use Rattle.lvm_stamps.proofs.Clock.{later_joins}
-use Rattle.lvm_session.specs.State.{Core, State as Session}
+use Rattle.lvm_session.specs.State.{Core, State as Session, state}
 use Rattle.lvm_posts.specs.declared.asked.Asked.{Asked}
 use Rattle.lvm_posts.specs.declared.posts.Post.{Post}
 use Rattle.lvm_posts.specs.Posts.{AreAnswered, takings}
@@ -32,7 +32,7 @@ use Rattle.std.proofs.lemmas.List.{length-append}
 use Rattle.lvm_range_lines.specs.declared.answers.Answers.{Answers}
 use Rattle.lvm_range_lines.specs.Answers.{Gathers}
 use Rattle.lvm_range_lines.specs.Refusals.{Ending}
-use Rattle.lvm_range_lines.specs.Taking.{GathersGone, GathersPosts, KeepsLater, LeavesOthers}
+use Rattle.lvm_range_lines.specs.Taking.{Enters, GathersGone, GathersPosts, KeepsLater, LeavesOthers, StaysKept, with_entries}
 use Rattle.lvm_range_lines.specs.Waiting.{AllHaveLanded, NoGone, NoPost, OneGone, OnePost, TakesGone, TakesPost, TakesPosts}
 use Rattle.lvm_range_lines.proofs.Posting.{rest_off, rest_posted}
 use Rattle.lvm_range_lines.proofs.Texts.{refusals_most}
@@ -99,6 +99,31 @@ module _ (facts : List Fact) (range other : Asked) (its : AreAnswered facts rang
 
   pub beside_answered : AreAnswered (facts ++ takings facts range.first range.pieces) other
   beside_answered = so_far range.pieces (omega arith)
+
+-- ---- what is entered
+
+pub enters_none : (s : Session) → Enters s s
+enters_none s = record { is = refl; keeps = λ began device span. span; later = record { opens = λ id. refl; later = λ moment later. later } }
+
+pub enters_then : (a b c : Session) → Enters a b → Enters b c → Enters a c
+enters_then a b c one two = record {
+  is = two.is ∙ ap (λ (s : Session). state s.device (with_entries s.core c.core.history.facts)) one.is;
+  keeps = λ began device span. subst (λ n. Keeps n began (at device c.core.history.facts)) run_is (two.keeps began device (subst (λ n. Keeps n began (at device b.core.history.facts)) (sym run_is) (one.keeps began device span)));
+  later = later_then a.core.history.facts b.core.history.facts c.core.history.facts one.later two.later;
+}
+  where
+    run_is : b.core.history.run ≡ a.core.history.run
+    run_is = ap (λ (s : Session). s.core.history.run) one.is
+
+pub enters_taken : (old new : Session) (range : Asked) → new ≡ state old.device (with_taken range old.core) → StaysKept old.core.history new.core.history → Enters old new
+enters_taken old new range is kept = record {
+  is = is ∙ ap (λ (fs : List Fact). state old.device (with_entries old.core fs)) (sym facts_are);
+  keeps = kept;
+  later = subst (KeepsLater old.core.history.facts) (sym facts_are) (taken_later old.core.history.facts range);
+}
+  where
+    facts_are : new.core.history.facts ≡ old.core.history.facts ++ takings old.core.history.facts range.first range.pieces
+    facts_are = ap (λ (s : Session). s.core.history.facts) is
 
 -- ---- what a post's answers leave of others
 

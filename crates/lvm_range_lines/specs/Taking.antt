@@ -5,13 +5,14 @@ use Rattle.lvm_disk.specs.Device.{Device}
 use Rattle.lvm_disk.specs.Paths.{Path}
 use Rattle.lvm_vol.specs.Facts.{Fact}
 use Rattle.lvm_vol.specs.Legal.{IsLater}
-use Rattle.lvm_vol.specs.Log.{is_open}
+use Rattle.lvm_vol.specs.Log.{Log, is_open}
 use Rattle.lvm_kept.specs.Moments.{Moment}
 use Rattle.lvm_steps.specs.Moments.{Keeps}
 use Rattle.lvm_steps.specs.Requests.{at}
 use Rattle.lvm_session.specs.declared.open.Power.{Power}
 use Rattle.lvm_session.specs.declared.open.Power.TheVariants as power
-use Rattle.lvm_session.specs.State.{Core, State as Session}
+use Rattle.lvm_session.specs.Sound.{IsSound}
+use Rattle.lvm_session.specs.State.{Core, State as Session, state}
 use Rattle.lvm_driver.specs.Answers.{state_of}
 use Rattle.lvm_driver.specs.Drains.{IsAny}
 use Rattle.lvm_posts.specs.declared.asked.Asked.{Asked}
@@ -67,6 +68,20 @@ pub record GathersPosts (old : Session) (posts : List Post) (new : Session) (ans
   pub takes : TakesPosts old posts new endings
   pub gathers : Gathers endings answers
 
+-- what was kept goes on being kept as this history becomes that
+abbrev pub StaysKept : Log → Log → Type 0
+StaysKept old new = (began : Moment) (device : Device) → Keeps old.run began (at device old.facts) → Keeps old.run began (at device new.facts)
+
+-- a session with these entries of its history
+abbrev pub with_entries : Core → List Fact → Core
+with_entries core facts = record core { history = record core.history { facts = facts } }
+
+-- something is entered in it by which all stays kept, and nothing else changes
+pub record Enters (old new : Session) : Type 0 where
+  pub is : new ≡ state old.device (with_entries old.core new.core.history.facts)
+  pub keeps : StaysKept old.core.history new.core.history
+  pub later : KeepsLater old.core.history.facts new.core.history.facts
+
 -- other posts stay what they are
 pub record LeavesOthers (asked : Asked) (old new : Core) : Type 0 where
   pub held : (other : Asked) → AreApart asked other → AreHeld old other → AreHeld new other
@@ -96,6 +111,7 @@ pub record GoesBehind {S : Type 0} (device : S → Device) (driver : S × Core) 
   pub tells : Tells endings answer
   pub runs : RunsOn (state_of device driver) (state_of device end)
   pub on : end.1.power ≡ power.On
+  pub sound : IsSound (state_of device end)
   pub none : Vec Post
   pub empty : none.items ≡ []
   pub bytes : Vec ℕ

@@ -6,9 +6,14 @@ ghost use Rattle.lvm_kept.specs.Moments.{Moment};
 ghost use Rattle.lvm_steps.specs.Moments.{Keeps};
 ghost use Rattle.lvm_steps.specs.Requests.{at};
 ghost use Rattle.lvm_session.specs.declared.open.Power.TheVariants as power;
+ghost use Rattle.lvm_session.specs.Fields.{core_of};
+ghost use Rattle.lvm_session.specs.Rooms.{HasRooms};
 ghost use Rattle.lvm_session.specs.Sound.{IsSound};
 ghost use Rattle.lvm_driver.specs.Answers.{state_of};
+ghost use Rattle.lvm_posts.specs.Deciding.{RangeEnds};
 ghost use Rattle.lvm_posts.specs.Pieces.{IsLaidOut};
+ghost use Rattle.lvm_posts.specs.Posts.{AreAnswered};
+ghost use Rattle.lvm_earlier.specs.Earlier.{with_taken};
 ghost use Rattle.lvm_ranges.specs.Keeping.{KeepsTable};
 ghost use Rattle.lvm_ranges.specs.Landing.{HaveLanded};
 ghost use Rattle.lvm_running.specs.Running.{RunsOn};
@@ -19,17 +24,17 @@ ghost use Rattle.lvm_stage.specs.State.{ArePosted, IsPosted};
 ghost use Rattle.lvm_vol.specs.Order.{Ordered};
 ghost use Rattle.lvm_range_lines.specs.Leaving.{resting, serving};
 ghost use Rattle.lvm_range_lines.specs.Waiting.{AllHaveLanded, TakesPost, WaitDoes};
-ghost use Rattle.lvm_range_lines.specs.Taking.{AwaitsPost, AwaitsPosts, GathersGone, GathersPosts, KeepsLater, LandedEnds, LeavesOthers, WaitsBehind};
+ghost use Rattle.lvm_range_lines.specs.Taking.{AwaitsPost, AwaitsPosts, Enters, GathersGone, GathersPosts, KeepsLater, LandedEnds, LeavesOthers, StaysKept, WaitsBehind};
 
 use crate::answers::Answers;
 use lvm_core::Closed;
 use lvm_disk::Shelf;
 use lvm_driver::Driver;
-use lvm_earlier::{take_earlier, take_earlier_at_rest};
+use lvm_earlier::take_earlier;
 use lvm_history::History;
-use lvm_posts::{Post, RangeFault, take_closed};
+use lvm_posts::{Asked, Post, RangeFault, take_closed};
 use lvm_ranges::{Stuck, await_range, take_range};
-use lvm_session::Power;
+use lvm_session::{Power, Session};
 use lvm_stage::{Answered, Holder, Refusal, Stage};
 use lvm_transfer::Patience;
 use std::alloc::Global;
@@ -98,6 +103,25 @@ fn take_off(alloc: Global, history: &mut History, posts: &[Post]) -> Answers
     answers
 }
 
+// Takes the answers of a range from the history of the session that is on.
+fn take_in(
+    session: Session,
+    asked: &Asked,
+    have: u32,
+    total: u32,
+) -> (Session, Result<(), RangeFault>)
+    requires answered { AreAnswered (core_of session).history.facts asked.now }
+    requires laid { IsLaidOut asked.now }
+    ensures core { core_of result.0 ≡ with_taken asked.now (core_of session) }
+    ensures rooms { HasRooms session → HasRooms result.0 }
+    ensures ends { RangeEnds (core_of result.0).history.facts asked.now have total result.1 }
+    ensures keeps { StaysKept (core_of session).history (core_of result.0).history }
+{
+    let mut session = session;
+    let answer = take_closed(&mut session.history, asked, have, total);
+    (session, answer)
+}
+
 // Takes the answer of a post while a session is on at which nothing is under way.
 fn take_one_at_rest<S: Shelf>(
     driver: lvm_core::Driver<S>,
@@ -113,9 +137,12 @@ fn take_one_at_rest<S: Shelf>(
     ensures sound { IsSound (state_of S.device result.0) }
     ensures on { result.0.1.power ≡ power.On }
     ensures none { result.0.1.requests ≡ [] }
+    ensures enters { Enters (state_of S.device driver) (state_of S.device result.0) }
 {
     let (have, total) = post.ended.unwrap_or((0, 0));
-    take_earlier_at_rest(driver, &post.asked, have, total)
+    let (shelf, session) = driver.into_parts();
+    let (session, answer) = take_in(session, &post.asked, have, total);
+    (lvm_core::Driver::from_parts(shelf, session), answer)
 }
 
 // Takes them all.
@@ -133,6 +160,7 @@ fn take_at_rest<S: Shelf>(
     ensures runs { RunsOn (state_of S.device driver) (state_of S.device result.0) }
     ensures on { result.0.1.power ≡ power.On }
     ensures sound { IsSound (state_of S.device result.0) }
+    ensures enters { Enters (state_of S.device driver) (state_of S.device result.0) }
 {
     let mut driver = driver;
     let mut answers = Answers::new(alloc);

@@ -1,7 +1,7 @@
 use Rattle.std.proofs.Common.{None, arith}
 use Rattle.lvm_posts.specs.declared.posts.Post.{Post}
 use Rattle.lvm_driver.specs.Answers.{state_of}
-use Rattle.lvm_range_lines.proofs.Takings.{few_refused, none_own, on_all, on_first, on_more, posted_next}
+use Rattle.lvm_range_lines.proofs.Takings.{enters_none, enters_then, few_refused, none_own, on_all, on_first, on_more, posted_next}
 use Rattle.lvm_range_lines.proofs.waiting.take_at_rest.Goals as goal
 
 abbrev first_post : Post
@@ -12,6 +12,7 @@ loop-post-init g c = record {
   so_far = on_first (state_of g.S.Shelf.device c.args.driver) c.args.posts.now c.new-answers.result c.new-answers.ensures c.requires.posted (none_own c.args.driver.1 c.args.posts.now (state_of g.S.Shelf.device c.args.driver) c.requires.none c.requires.posted) c.requires.on;
   none = c.requires.none;
   sound = c.requires.sound;
+  enters = enters_none (state_of g.S.Shelf.device c.args.driver);
 }
 
 pub take_one_at_rest-next-requires-clause-on : goal.take_one_at_rest-next-requires-clause-on
@@ -38,6 +39,7 @@ loop-post-preserved g c =
           (state_of device c.take_one_at_rest-next.result.0) c.take_one_at_rest-next.result.1 c.with-answers.result made.takes made.left made.runs made.on c.with-answers.ensures;
       none = made.none;
       sound = made.sound;
+      enters = enters_then (state_of device c.args.driver) (state_of device c.loop-post.driver) (state_of device c.take_one_at_rest-next.result.0) c.loop-post.invariant.enters made.enters;
     }
 
 pub returns : goal.returns
@@ -49,4 +51,5 @@ returns g c =
       runs = c.loop-post.invariant.so_far.runs;
       on = c.loop-post.invariant.so_far.on;
       sound = c.loop-post.invariant.sound;
+      enters = c.loop-post.invariant.enters;
     }
